@@ -1,0 +1,47 @@
+// Marks: an octet for each byte of a file, of which bit t, worth 2 to the power t, is transaction t's.
+ghost use mathlib.Core.Path.{_≡_};
+ghost use mathlib.Core.List.{map};
+ghost use Prim.Native.Nat.{_+_, _<_, _≤_};
+ghost use lib.ListN.{length};
+ghost use Rattle.octets.specs.Parts.{cut};
+ghost use Rattle.octets.specs.Bits.{withBit, withoutBit, changed, unionOf};
+
+// Sets bit t in the n marks from `from` on.
+pub fn mark(marks: &mut [u8], from: usize, n: usize, t: u8)
+    requires { ⌜ (t < 8) × (from + n ≤ length (now marks)) ⌝ }
+    ensures { λ _. ⌜ now (marks .exit) ≡ changed (withBit t) from n (now (marks .entry)) ⌝ }
+{
+    let mask = 1u8 << t;
+    let mut i = 0;
+    while i < n {
+        marks[from + i] = marks[from + i] | mask;
+        i += 1;
+    }
+}
+
+// Clears bit t in every mark.
+pub fn unmark_all(marks: &mut [u8], t: u8)
+    requires { ⌜ t < 8 ⌝ }
+    ensures { λ _. ⌜ now (marks .exit) ≡ map (withoutBit t) (now (marks .entry)) ⌝ }
+{
+    let mask = !(1u8 << t);
+    let mut i = 0;
+    while i < marks.len() {
+        marks[i] = marks[i] & mask;
+        i += 1;
+    }
+}
+
+// The bits that are set in one of the n marks from `from` on, or in more.
+pub fn union(marks: &[u8], from: usize, n: usize) -> u8
+    requires { ⌜ from + n ≤ length (now marks) ⌝ }
+    ensures { λ r. ⌜ r ≡ unionOf (cut (now (marks .entry)) from n) ⌝ }
+{
+    let mut bits = 0u8;
+    let mut i = 0;
+    while i < n {
+        bits = bits | marks[from + i];
+        i += 1;
+    }
+    bits
+}

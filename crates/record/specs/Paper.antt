@@ -1,0 +1,40 @@
+-- What the calls answer, in the numbers and values of paper 01.
+use Prim.Native.Nat.{ℕ}
+use Rattle.record.specs.declared.Refusal.{Refusal}
+use Rattle.record.specs.declared.Refusal.the-variants.{BufferLength, RecordRange, NoSuchTransaction, NotOpen, AlreadyOpen, NoSuchDescriptor, ReaderTooShort, SeekPastEnd, WritePastEnd, RecordsFull, LogFull, SettledPastEnd, Stale, NoSuchFile}
+use Rattle.record.specs.declared.Outcome.{Outcome}
+use Rattle.record.specs.declared.Outcome.the-variants.{Done, Offset, Given, Granted, Refused}
+
+-- "What a turned-down call brings": the column Returned.
+unfoldable pub number : Refusal → ℕ
+number BufferLength = 1
+number RecordRange = 2
+number NoSuchTransaction = 3
+number NotOpen = 4
+number AlreadyOpen = 5
+number NoSuchDescriptor = 6
+number ReaderTooShort = 7
+number SeekPastEnd = 8
+number WritePastEnd = 9
+number RecordsFull = 10
+number LogFull = 11
+number SettledPastEnd = 12
+number Stale = 13
+number NoSuchFile = 14
+
+-- "Read answers the count of bytes given; Fresh, Begin, Seek, Write and Abort answer plainly"; "GetFilePointer answers the
+-- offset"; "Commit answers how many became stale by it"; or the number of a refusal.
+pub data Said : Type 0 where
+  plain : Said
+  pointer : ℕ → Said
+  given : ℕ → Said
+  granted : ℕ → Said
+  refused : ℕ → Said
+
+-- Each case of the enum `Outcome` in those terms.
+unfoldable pub said : Outcome → Said
+said Done = plain
+said (Offset o) = pointer o
+said (Given n) = given n
+said (Granted n) = granted n
+said (Refused r) = refused (number r)

@@ -1,0 +1,3 @@
+-- The situations of paper 01.
+pub mod Cases
+pub mod Opened

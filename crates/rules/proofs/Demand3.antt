@@ -1,0 +1,3 @@
+-- The theorems.
+pub mod Answers
+pub mod Refusals

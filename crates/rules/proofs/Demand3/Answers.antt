@@ -1,0 +1,66 @@
+-- What a step can say: an accepted one answers, a refused one has a number from 6 to 12.
+use mathlib.Core.Bool.{Bool, true, false, cond}
+use mathlib.Core.List.{List, []}
+use mathlib.Core.Path.{_≡_, refl, sym, ap, _∙_, subst}
+use native.Mathlib.Omega.{arith}
+use Prim.Native.Nat.{ℕ, _≤_, min}
+use Rattle.record.specs.Paper.{Said, plain, pointer, given, granted, refused}
+use Rattle.rules.specs.Items.{Item, Values, Prog, done, ask, andThen, result}
+use Rattle.rules.specs.Steps.{Op, seek, write, getFilePointer, read, Stepped, refuse, accept, check, orGivenBack, seekStep, writeStep, pointerStep, readSettled, readStep, step}
+use Rattle.rules.specs.Transactions.{Txn, Settled, past, all}
+
+-- An answer is no refusal.
+abbrev pub IsAnswer : Said → Type 0
+IsAnswer plain = Unit {0}
+IsAnswer (pointer o) = Unit {0}
+IsAnswer (given n) = Unit {0}
+IsAnswer (granted n) = Unit {0}
+IsAnswer (refused n) = ⊥
+
+pub answer-not-refused : (a : Said) (n : ℕ) → IsAnswer a → a ≡ refused n → ⊥
+answer-not-refused a n h e = subst IsAnswer e h
+
+abbrev pub Right : Stepped → Type 0
+Right (refuse n) = n ≤ 12
+Right (accept y a b) = IsAnswer a
+
+abbrev pub Always : Prog Stepped → Type 0
+Always (done s) = Right s
+Always (ask i f) = (v : ℕ) → Always (f v)
+
+module _ {A : Type 0} where
+  always-then : (p : Prog A) (k : A → Prog Stepped) → ((a : A) → Always (k a)) → Always (andThen p k)
+  unfolding andThen
+  always-then (done a) k h = h a
+  always-then (ask i f) k h = λ v. always-then (f v) k h
+
+always-check : (ok : Bool) (n : ℕ) (next : Prog Stepped) → n ≤ 12 → Always next → Always (check ok n next)
+unfolding check
+always-check true n next h a = a
+always-check false n next h a = h
+
+always-back : (next : Txn → Prog Stepped) → ((y : Txn) → Always (next y)) → (s : Settled) → Always (orGivenBack next s)
+unfolding orGivenBack
+always-back next h past = omega arith
+always-back next h (all y) = h y
+
+always-read : (fileOf : ℕ → ℕ) (d n : ℕ) (buffer : List ℕ) (y : Txn) → Always (readSettled fileOf d n buffer y)
+unfolding readSettled
+always-read fileOf d n buffer y = always-then _ _ (λ bytes. tt)
+
+pub always-step : (fileOf : ℕ → ℕ) (o : Op) (x : Txn) → Always (step fileOf o x)
+unfolding step seekStep writeStep pointerStep readStep
+always-step fileOf (seek d v) x = always-check _ 6 _ (omega arith) (always-check _ 8 _ (omega arith) tt)
+always-step fileOf (write d bytes) x =
+    always-check _ 6 _ (omega arith)
+    (always-check _ 9 _ (omega arith) (always-check _ 10 _ (omega arith) (always-check _ 11 _ (omega arith) tt)))
+always-step fileOf (getFilePointer d) x =
+    always-check _ 6 _ (omega arith) (always-then _ _ (λ s. always-back _ (λ y. tt) s))
+always-step fileOf (read d n buffer) x =
+    always-check _ 6 _ (omega arith)
+    (always-check _ 7 _ (omega arith) (always-then _ _ (λ s. always-back _ (always-read fileOf d n buffer) s)))
+
+pub always-result : (v : Values) (p : Prog Stepped) → Always p → Right (result v p)
+unfolding result
+always-result v (done s) h = h
+always-result v (ask i f) h = always-result v (f (v i)) (h (v i))

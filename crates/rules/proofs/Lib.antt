@@ -1,0 +1,3 @@
+pub mod Serial
+pub mod Cases
+pub mod Demand3

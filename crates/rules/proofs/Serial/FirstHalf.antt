@@ -1,0 +1,280 @@
+-- First half of demand 3: the store without its buffers is a function of the plain machine, and every call gives the same reply on
+-- both.
+use mathlib.Core.Bool.{Bool, true, false, cond, not, _&&_, _||_, and-true}
+use mathlib.Core.List.{List, [], _∷_, _++_}
+use mathlib.Core.Path.{_≡_, refl, sym, ap, ap₂, _∙_, fun-ext}
+use lib.Dec.{eqb, leb}
+use Prim.Native.Nat.{ℕ, zero, suc, _+_}
+use Rattle.record.specs.Paper.{Said, plain, granted, refused}
+use Rattle.rules.specs.Items.{Item, byte, offset, result, asked}
+use Rattle.rules.specs.Transactions.{Txn, empty, put}
+use Rattle.rules.specs.Steps.{Op, bufferOf, Stepped, refuse, accept, step}
+use Rattle.rules.specs.Commits.{settings, fits, landed, commitRefusal}
+use Rattle.rules.specs.Plain.{Call, begin, on, commit, abort, Reply, sameEntries, entries, Running, Slot, closed, running, Plain, freshPlain, lone, ops, firstList, secondList, isStale, PlainTurn, turnedDown, withSlot, answering, plainBegin, plainStepped, plainOn, committing, grant, staleSlot, becameStale, plainCommitted, plainCommit, plainAbort, numbered, plainCall, plainAfter, plainReplies}
+use Rattle.rules.proofs.Serial.Sighted.{Held, Seat, vacant, held, Sighted, freshSighted, sighted, among, hit, markAll, SightedTurn, turnedAway, withSeat, telling, sightedBegin, sightedStepped, sightedOn, touch, newlyStale, countNew, granting, sightedCommitted, sightedCommit, sightedAbort, seated, sightedCall, sightedAfter, sightedReplies}
+use Rattle.rules.proofs.Serial.Programs.{among-append}
+use Rattle.rules.proofs.Serial.Lists.{items, current, current-entries, current-append, anyTouched, hit-is, markAll-at, current-after}
+use Rattle.rules.proofs.Serial.Sound.{Sound, seen-old, lists-same, sound-more, sound-granted, items-more, extended}
+use Rattle.rules.proofs.Serial.Invariant.{SoundSlot, Good, put-keeps, good-call}
+
+-- The store of a plain machine: a byte is marked where it was sighted, and a transaction is stale where its two lists differ.
+unfoldable pub heldOf : Plain → Running → Held
+heldOf p r = record { txn = r .txn; marked = λ q. among (byte q) (items (r .seen)); stale = isStale p r }
+
+unfoldable pub seatOf : Plain → Slot → Seat
+seatOf p closed = vacant
+seatOf p (running r) = held (heldOf p r)
+
+unfoldable pub abs : Plain → Sighted
+abs p = record { fileOf = p .fileOf; value = p .committed .value; seats = λ t. seatOf p (p .slots t) }
+
+unfoldable pub absTurn : PlainTurn → SightedTurn
+absTurn τ = record { reply = τ .reply; after = abs (τ .after) }
+
+pub abs-fresh : (fileOf : ℕ → ℕ) → freshSighted fileOf ≡ abs (freshPlain fileOf)
+unfolding freshSighted abs freshPlain seatOf
+abs-fresh fileOf = refl
+
+-- A function with another value at one number, after a map.
+put-map : {A B : Type 0} (f : A → B) (t : ℕ) (a : A) (g : ℕ → A) (u : ℕ) → put t (f a) (λ w. f (g w)) u ≡ f (put t a g u)
+unfolding put
+put-map f t a g u = chosen (eqb u t)
+  where
+    chosen : (b : Bool) → cond b (f a) (f (g u)) ≡ f (cond b a (g u))
+    chosen true = refl
+    chosen false = refl
+
+-- A transaction is stale exactly where one of its entries has another setter than its item has now.
+pub stale-is :
+    (p : Plain) (r : Running)
+    → Sound (p .fileOf) (p .committed) (p .grants) r
+    → isStale p r ≡ not (current (p .committed .setter) (r .seen))
+unfolding isStale firstList secondList
+stale-is p r s = ap not (lists-same (p .fileOf) (p .committed) (p .grants) r s)
+
+-- The items that the store's transaction has sighted are those of the machine's list.
+sighted-is :
+    (p : Plain) (r : Running)
+    → Sound (p .fileOf) (p .committed) (p .grants) r
+    → (i : Item)
+    → sighted (heldOf p r) i ≡ among i (items (r .seen))
+unfolding sighted heldOf
+sighted-is p r s (byte q) = refl
+sighted-is p r s (offset d) = s .known d
+
+module _ (t : ℕ) (r : Running) (p : Plain) where
+  -- Who is stale after a grant: who was so before, and who has sighted an item just set.
+  stale-after :
+      (q : Running)
+      → Sound (p .fileOf) (p .committed) (p .grants) q
+      → (isStale p q || hit (settings (p .fileOf) (p .committed .value) (r .txn)) (heldOf p q)) ≡ isStale (grant t r p) q
+  unfolding grant committing
+  stale-after q s =
+      let ss = settings (p .fileOf) (p .committed .value) (r .txn) in
+      ap₂ (λ (a b : Bool). a || b) (stale-is p q s) (hit-is (heldOf p q) (items (q .seen)) (sighted-is p q s) ss)
+      ∙ moved (current (p .committed .setter) (q .seen)) (anyTouched ss (items (q .seen)))
+      ∙ ap not (sym (current-after (p .grants) ss (p .committed .setter) (q .seen) (seen-old (p .fileOf) (p .committed) (p .grants) q s)))
+      ∙ sym (stale-is (grant t r p) q (sound-granted (p .fileOf) (p .committed) (p .grants) q s (r .txn)))
+    where
+      moved : (a b : Bool) → (not a || b) ≡ not (a && not b)
+      moved true true = refl
+      moved true false = refl
+      moved false b = refl
+
+  touch-is :
+      (s : Slot)
+      → SoundSlot (p .fileOf) (p .committed) (p .grants) s
+      → touch (settings (p .fileOf) (p .committed .value) (r .txn)) (seatOf p s) ≡ seatOf (grant t r p) s
+  unfolding touch seatOf SoundSlot heldOf
+  touch-is closed h = refl
+  touch-is (running q) h =
+      ap (λ (b : Bool). held (record { txn = q .txn; marked = λ k. among (byte k) (items (q .seen)); stale = b })) (stale-after q h)
+
+  newly-is :
+      (s : Slot)
+      → SoundSlot (p .fileOf) (p .committed) (p .grants) s
+      → newlyStale (settings (p .fileOf) (p .committed .value) (r .txn)) (seatOf p s)
+      ≡ (not (staleSlot p s) && staleSlot (grant t r p) s)
+  unfolding newlyStale seatOf SoundSlot staleSlot heldOf
+  newly-is closed h = refl
+  newly-is (running q) h =
+      newly (isStale p q) (hit (settings (p .fileOf) (p .committed .value) (r .txn)) (heldOf p q))
+      ∙ ap (λ (b : Bool). not (isStale p q) && b) (stale-after q h)
+    where
+      newly : (a b : Bool) → (not a && b) ≡ (not a && (a || b))
+      newly true b = refl
+      newly false b = refl
+
+  count-is :
+      (seats : ℕ → Seat) (slots : ℕ → Slot)
+      → ((u : ℕ) → seats u ≡ seatOf p (slots u))
+      → ((u : ℕ) → SoundSlot (p .fileOf) (p .committed) (p .grants) (slots u))
+      → grant t r p .slots ≡ slots
+      → (n : ℕ)
+      → countNew (settings (p .fileOf) (p .committed .value) (r .txn)) seats n ≡ becameStale p (grant t r p) n
+  unfolding countNew becameStale
+  count-is seats slots e h k zero = refl
+  count-is seats slots e h k (suc n) =
+      ap₂ (λ (a : ℕ) (b : Bool). a + cond b 1 0)
+      (count-is seats slots e h k n)
+      (ap (newlyStale (settings (p .fileOf) (p .committed .value) (r .txn))) (e n)
+      ∙ newly-is (slots n) (h n)
+      ∙ ap (λ (f : ℕ → Slot). not (staleSlot p (f n)) && staleSlot (grant t r p) (f n)) (sym k))
+
+-- The store of a machine with another slot.
+seat-slot : (t : ℕ) (s : Slot) (p : Plain) (z : Slot) → seatOf p z ≡ seatOf (withSlot t s p) z
+unfolding seatOf heldOf isStale secondList withSlot
+seat-slot t s p closed = refl
+seat-slot t s p (running r) = refl
+
+abs-slot : (t : ℕ) (s : Slot) (p : Plain) → withSeat t (seatOf p s) (abs p) ≡ abs (withSlot t s p)
+unfolding withSeat abs withSlot
+abs-slot t s p =
+    ap (λ (f : ℕ → Seat). record { fileOf = p .fileOf; value = p .committed .value; seats = f })
+    (fun-ext (λ u. put-map (seatOf p) t s (p .slots) u ∙ seat-slot t s p (put t s (p .slots) u)))
+
+-- Each call: what it gives on a slot, and on that slot's seat.
+module _ (p : Plain) (g : Good p) where
+  same-begin : (t : ℕ) (s : Slot) → sightedBegin t (seatOf p s) (abs p) ≡ absTurn (plainBegin t s p)
+  unfolding sightedBegin seatOf plainBegin absTurn telling answering turnedAway turnedDown heldOf items among isStale firstList secondList sameEntries lone ops
+  same-begin t closed =
+      ap (λ (a : Sighted). record { reply = record { answer = plain; buffer = [] }; after = a })
+      (abs-slot t (running (record { txn = empty; calls = []; seen = [] })) p)
+  same-begin t (running r) = refl
+
+  -- An accepted call sights what it asked for, and makes nobody stale.
+  stale-more :
+      (o : Op) (r : Running) (y : Txn) (answer : Said) (buffer : List ℕ)
+      → Sound (p .fileOf) (p .committed) (p .grants) r
+      → result (p .committed .value) (step (p .fileOf) o (r .txn)) ≡ accept y answer buffer
+      → isStale p r
+      ≡ isStale p
+      (extended r o y answer buffer (entries (p .committed .setter) (asked (p .committed .value) (step (p .fileOf) o (r .txn)))))
+  stale-more o r y answer buffer h e =
+      let now = asked (p .committed .value) (step (p .fileOf) o (r .txn)) in
+      let s = p .committed .setter in
+      stale-is p r h
+      ∙ ap not
+      (sym
+      (current-append s (r .seen) (entries s now)
+      ∙ ap (λ (b : Bool). current s (r .seen) && b) (current-entries s now)
+      ∙ and-true (current s (r .seen))))
+      ∙ sym
+      (stale-is p (extended r o y answer buffer (entries s now))
+      (sound-more (p .fileOf) (p .committed) (p .grants) r h (g .setters) o y answer buffer e))
+
+  marked-more :
+      (r : Running) (is : List Item) (q : ℕ)
+      → markAll is (λ k. among (byte k) (items (r .seen))) q ≡ among (byte q) (items (r .seen ++ entries (p .committed .setter) is))
+  marked-more r is q =
+      markAll-at is (λ k. among (byte k) (items (r .seen))) q
+      ∙ sym (among-append (byte q) (items (r .seen)) is)
+      ∙ ap (among (byte q)) (sym (items-more (p .committed .setter) (r .seen) is))
+
+  same-stepped :
+      (t : ℕ) (o : Op) (r : Running)
+      → Sound (p .fileOf) (p .committed) (p .grants) r
+      → (s : Stepped)
+      → result (p .committed .value) (step (p .fileOf) o (r .txn)) ≡ s
+      → sightedStepped t o (heldOf p r) (asked (p .committed .value) (step (p .fileOf) o (r .txn))) (abs p) s
+      ≡ absTurn (plainStepped t o r (entries (p .committed .setter) (asked (p .committed .value) (step (p .fileOf) o (r .txn)))) p s)
+  unfolding sightedStepped plainStepped absTurn turnedAway turnedDown heldOf seatOf
+  same-stepped t o r h (refuse n) e = refl
+  same-stepped t o r h (accept y answer buffer) e =
+      let now = asked (p .committed .value) (step (p .fileOf) o (r .txn)) in
+      let reply : Reply = record { answer = answer; buffer = buffer } in
+      ap₂
+      (λ (m : ℕ → Bool) (b : Bool).
+      record { reply = reply; after = withSeat t (held (record { txn = y; marked = m; stale = b })) (abs p) })
+      (fun-ext (marked-more r now))
+      (stale-more o r y answer buffer h e)
+      ∙ ap (λ (a : Sighted). record { reply = reply; after = a })
+      (abs-slot t (running (extended r o y answer buffer (entries (p .committed .setter) now))) p)
+
+  same-on :
+      (t : ℕ) (o : Op) (s : Slot)
+      → SoundSlot (p .fileOf) (p .committed) (p .grants) s
+      → sightedOn t o (seatOf p s) (abs p) ≡ absTurn (plainOn t o s p)
+  unfolding sightedOn plainOn seatOf abs turnedAway turnedDown absTurn SoundSlot heldOf
+  same-on t o closed h = refl
+  same-on t o (running r) h = same-stepped t o r h (result (p .committed .value) (step (p .fileOf) o (r .txn))) refl
+
+  same-grant :
+      (t : ℕ) (r : Running)
+      → granting t (settings (p .fileOf) (p .committed .value) (r .txn)) (abs p)
+      ≡ absTurn (answering (granted (becameStale p (grant t r p) 8)) (grant t r p))
+  unfolding granting absTurn answering abs grant committing seatOf SoundSlot
+  same-grant t r =
+      let ss = settings (p .fileOf) (p .committed .value) (r .txn) in
+      let others : ℕ → Slot = put t closed (p .slots) in
+      let sound : (u : ℕ) → SoundSlot (p .fileOf) (p .committed) (p .grants) (others u) =
+      put-keeps t closed (p .slots) (SoundSlot (p .fileOf) (p .committed) (p .grants)) tt (g .sound) in
+      let seats : (u : ℕ) → put t vacant (λ w. seatOf p (p .slots w)) u ≡ seatOf p (others u) =
+      put-map (seatOf p) t closed (p .slots) in
+      ap₂
+      (λ (n : ℕ) (f : ℕ → Seat).
+      record {
+        reply = record { answer = granted n; buffer = [] };
+        after = record { fileOf = p .fileOf; value = landed ss (p .committed .value); seats = f };
+      })
+      (count-is t r p (put t vacant (λ w. seatOf p (p .slots w))) others seats sound refl 8)
+      (fun-ext (λ u. ap (touch ss) (seats u) ∙ touch-is t r p (others u) (sound u)))
+
+  same-committed :
+      (t : ℕ) (r : Running) (n : ℕ) → sightedCommitted t (heldOf p r) (abs p) n ≡ absTurn (plainCommitted t r p n)
+  unfolding sightedCommitted plainCommitted absTurn heldOf abs seatOf
+  same-committed t r zero = same-grant t r
+  same-committed t r (suc n) = ended (eqb (suc n) 13)
+    where
+      ended :
+          (b : Bool)
+          → record { reply = record { answer = refused (suc n); buffer = [] }; after = cond b (withSeat t vacant (abs p)) (abs p) }
+          ≡ absTurn (record { reply = record { answer = refused (suc n); buffer = [] }; after = cond b (withSlot t closed p) p })
+      ended true = ap (λ (a : Sighted). record { reply = record { answer = refused (suc n); buffer = [] }; after = a }) (abs-slot t closed p)
+      ended false = refl
+
+  same-commit : (t : ℕ) (s : Slot) → sightedCommit t (seatOf p s) (abs p) ≡ absTurn (plainCommit t s p)
+  unfolding sightedCommit plainCommit seatOf turnedAway turnedDown absTurn heldOf abs
+  same-commit t closed = refl
+  same-commit t (running r) = same-committed t r (commitRefusal (isStale p r) (fits (p .committed .value) (r .txn)))
+
+  same-abort : (t : ℕ) (s : Slot) → sightedAbort t (seatOf p s) (abs p) ≡ absTurn (plainAbort t s p)
+  unfolding sightedAbort plainAbort seatOf turnedAway turnedDown absTurn telling answering
+  same-abort t closed = refl
+  same-abort t (running r) =
+      ap (λ (a : Sighted). record { reply = record { answer = plain; buffer = [] }; after = a }) (abs-slot t closed p)
+
+  same-numbered :
+      (t : ℕ) (buffer : List ℕ) (first : Seat → Sighted → SightedTurn) (second : Slot → Plain → PlainTurn)
+      → first (seatOf p (p .slots t)) (abs p) ≡ absTurn (second (p .slots t) p)
+      → seated t buffer first (abs p) ≡ absTurn (numbered t buffer second p)
+  unfolding seated numbered abs absTurn turnedAway turnedDown
+  same-numbered t buffer first second h = chosen (leb t 7)
+    where
+      chosen :
+          (b : Bool)
+          → cond b (first (seatOf p (p .slots t)) (abs p)) (turnedAway 3 buffer (abs p))
+          ≡ absTurn (cond b (second (p .slots t) p) (turnedDown 3 buffer p))
+      chosen true = h
+      chosen false = refl
+
+-- The store's turn is that of the plain machine, for every call.
+pub same-call : (c : Call) (p : Plain) → Good p → sightedCall c (abs p) ≡ absTurn (plainCall c p)
+unfolding sightedCall plainCall
+same-call (begin t) p g = same-numbered p g t [] (sightedBegin t) (plainBegin t) (same-begin p g t (p .slots t))
+same-call (on t o) p g = same-numbered p g t (bufferOf o) (sightedOn t o) (plainOn t o) (same-on p g t o (p .slots t) (g .sound t))
+same-call (commit t) p g = same-numbered p g t [] (sightedCommit t) (plainCommit t) (same-commit p g t (p .slots t))
+same-call (abort t) p g = same-numbered p g t [] (sightedAbort t) (plainAbort t) (same-abort p g t (p .slots t))
+
+pub same-after : (cs : List Call) (p : Plain) → Good p → sightedAfter cs (abs p) ≡ abs (plainAfter cs p)
+unfolding sightedAfter plainAfter absTurn
+same-after [] p g = refl
+same-after (c ∷ cs) p g =
+    ap (λ (τ : SightedTurn). sightedAfter cs (τ .after)) (same-call c p g) ∙ same-after cs (plainCall c p .after) (good-call c p g)
+
+pub same-replies : (cs : List Call) (p : Plain) → Good p → sightedReplies cs (abs p) ≡ plainReplies cs p
+unfolding sightedReplies plainReplies absTurn
+same-replies [] p g = refl
+same-replies (c ∷ cs) p g =
+    ap (λ (τ : SightedTurn). τ .reply ∷ sightedReplies cs (τ .after)) (same-call c p g)
+    ∙ ap (λ (rs : List Reply). plainCall c p .reply ∷ rs) (same-replies cs (plainCall c p .after) (good-call c p g))

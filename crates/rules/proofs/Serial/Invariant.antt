@@ -1,0 +1,169 @@
+-- The invariant of the plain machine, and that every call keeps it.
+use mathlib.Core.Bool.{Bool, true, false, cond}
+use mathlib.Core.List.{List, [], _∷_}
+use mathlib.Core.Path.{_≡_, refl, sym, ap, _∙_, subst}
+use borrow.Author.Tests.{ne-eqb, leb-true, leb-false}
+use lib.Dec.{eqb, leb}
+use native.Mathlib.Omega.{arith}
+use Prim.Native.Nat.{ℕ, zero, suc, _+_, _≤_, _<_}
+use Rattle.rules.specs.Items.{Item, result, asked}
+use Rattle.rules.specs.Transactions.{put}
+use Rattle.rules.specs.Steps.{Op, bufferOf, Stepped, refuse, accept, step}
+use Rattle.rules.specs.Commits.{settings, fits, commitRefusal}
+use Rattle.rules.specs.Plain.{Call, begin, on, commit, abort, entries, Committed, Running, Slot, closed, running, Plain, freshPlain, isStale, PlainTurn, turnedDown, withSlot, answering, plainBegin, plainStepped, plainOn, committing, grant, plainCommitted, plainCommit, plainAbort, numbered, plainCall, plainAfter}
+use Rattle.rules.proofs.Serial.Lists.{touched, setBy-at}
+use Rattle.rules.proofs.Serial.Sound.{Sound, sound-begun, sound-more, sound-granted}
+
+unfoldable pub SoundSlot : (ℕ → ℕ) → Committed → ℕ → Slot → Type 0
+SoundSlot fileOf c n closed = Unit {0}
+SoundSlot fileOf c n (running r) = Sound fileOf c n r
+
+-- No setter is above the count of grants, every open transaction is sound, and numbers above 7 are closed.
+pub record Good (p : Plain) : Type 0 where
+  pub setters : (i : Item) → p .committed .setter i ≤ p .grants
+  pub sound : (t : ℕ) → SoundSlot (p .fileOf) (p .committed) (p .grants) (p .slots t)
+  pub above : (t : ℕ) → 7 < t → p .slots t ≡ closed
+
+-- A function with another value at one number.
+module _ {A : Type 0} (t : ℕ) (a : A) (f : ℕ → A) where
+  pub put-keeps : (P : A → Type 0) → P a → ((u : ℕ) → P (f u)) → (u : ℕ) → P (put t a f u)
+  unfolding put
+  put-keeps P h k u = chosen (eqb u t)
+    where
+      chosen : (b : Bool) → P (cond b a (f u))
+      chosen true = h
+      chosen false = k u
+
+  pub put-other : (u : ℕ) → (u ≡ t → ⊥) → put t a f u ≡ f u
+  unfolding put
+  put-other u h = ap (λ (b : Bool). cond b a (f u)) (ne-eqb u t h)
+
+pub good-fresh : (fileOf : ℕ → ℕ) → Good (freshPlain fileOf)
+unfolding freshPlain SoundSlot
+good-fresh fileOf = record { setters = λ i. omega arith; sound = λ t. tt; above = λ t h. refl }
+
+module _ (p : Plain) (g : Good p) where
+  pub sound-at : (t : ℕ) (r : Running) → p .slots t ≡ running r → Sound (p .fileOf) (p .committed) (p .grants) r
+  unfolding SoundSlot
+  sound-at t r o = subst (SoundSlot (p .fileOf) (p .committed) (p .grants)) o (g .sound t)
+
+  -- The number of an open transaction.
+  pub open-number : (t : ℕ) (r : Running) → p .slots t ≡ running r → leb t 7 ≡ true
+  open-number t r o = chosen (leb t 7) refl
+    where
+      chosen : (b : Bool) → leb t 7 ≡ b → leb t 7 ≡ true
+      chosen true l = l
+      chosen false l =
+          let c : closed ≡ running r = sym (g .above t (leb-false t 7 l)) ∙ o in
+          let z : _≡_ {A = ℕ} 0 1 = cc in
+          absurd (omega arith)
+
+  pub good-slot : (t : ℕ) → leb t 7 ≡ true → (s : Slot) → SoundSlot (p .fileOf) (p .committed) (p .grants) s → Good (withSlot t s p)
+  unfolding withSlot
+  good-slot t l s h =
+      record {
+        setters = g .setters;
+        sound = put-keeps t s (p .slots) (SoundSlot (p .fileOf) (p .committed) (p .grants)) h (g .sound);
+        above = λ u a. put-other t s (p .slots) u (λ e. omega (arith, leb-true t 7 l)) ∙ g .above u a;
+      }
+
+  sound-slot-granted :
+      (r : Running) (s : Slot)
+      → SoundSlot (p .fileOf) (p .committed) (p .grants) s
+      → SoundSlot (p .fileOf) (committing (p .fileOf) (p .grants + 1) (r .txn) (p .committed)) (p .grants + 1) s
+  unfolding SoundSlot
+  sound-slot-granted r closed h = tt
+  sound-slot-granted r (running q) h = sound-granted (p .fileOf) (p .committed) (p .grants) q h (r .txn)
+
+  pub good-grant : (t : ℕ) (r : Running) → leb t 7 ≡ true → Good (grant t r p)
+  unfolding grant committing SoundSlot
+  good-grant t r l =
+      let ss = settings (p .fileOf) (p .committed .value) (r .txn) in
+      let after : Committed = committing (p .fileOf) (p .grants + 1) (r .txn) (p .committed) in
+      record {
+        setters =
+            λ i.
+            subst (λ (n : ℕ). n ≤ p .grants + 1) (sym (setBy-at (p .grants + 1) ss (p .committed .setter) i)) (at-most i (touched ss i));
+        sound =
+            put-keeps t closed (p .slots) (SoundSlot (p .fileOf) after (p .grants + 1)) tt
+            (λ u. sound-slot-granted r (p .slots u) (g .sound u));
+        above = λ u a. put-other t closed (p .slots) u (λ e. omega (arith, leb-true t 7 l)) ∙ g .above u a;
+      }
+    where
+      at-most : (i : Item) (b : Bool) → cond b (p .grants + 1) (p .committed .setter i) ≤ p .grants + 1
+      at-most i true = omega arith
+      at-most i false = omega (arith, g .setters i)
+
+  good-begin : (t : ℕ) → leb t 7 ≡ true → (s : Slot) → Good (plainBegin t s p .after)
+  unfolding plainBegin answering turnedDown SoundSlot
+  good-begin t l closed = good-slot t l (running _) (sound-begun (p .fileOf) (p .committed) (p .grants))
+  good-begin t l (running r) = g
+
+  good-stepped :
+      (t : ℕ) (o : Op) (r : Running)
+      → leb t 7 ≡ true
+      → Sound (p .fileOf) (p .committed) (p .grants) r
+      → (s : Stepped)
+      → result (p .committed .value) (step (p .fileOf) o (r .txn)) ≡ s
+      → Good
+      (plainStepped t o r (entries (p .committed .setter) (asked (p .committed .value) (step (p .fileOf) o (r .txn)))) p s .after)
+  unfolding plainStepped turnedDown SoundSlot
+  good-stepped t o r l h (refuse n) e = g
+  good-stepped t o r l h (accept y answer buffer) e =
+      good-slot t l (running _)
+      (sound-more (p .fileOf) (p .committed) (p .grants) r h (g .setters) o y answer buffer e)
+
+  good-on :
+      (t : ℕ) (o : Op)
+      → leb t 7 ≡ true
+      → (s : Slot)
+      → SoundSlot (p .fileOf) (p .committed) (p .grants) s
+      → Good (plainOn t o s p .after)
+  unfolding plainOn turnedDown SoundSlot
+  good-on t o l closed h = g
+  good-on t o l (running r) h = good-stepped t o r l h (result (p .committed .value) (step (p .fileOf) o (r .txn))) refl
+
+  good-committed : (t : ℕ) (r : Running) → leb t 7 ≡ true → (n : ℕ) → Good (plainCommitted t r p n .after)
+  unfolding plainCommitted answering SoundSlot
+  good-committed t r l zero = good-grant t r l
+  good-committed t r l (suc n) = ended (eqb (suc n) 13)
+    where
+      ended : (b : Bool) → Good (cond b (withSlot t closed p) p)
+      ended true = good-slot t l closed tt
+      ended false = g
+
+  good-commit : (t : ℕ) → leb t 7 ≡ true → (s : Slot) → Good (plainCommit t s p .after)
+  unfolding plainCommit turnedDown
+  good-commit t l closed = g
+  good-commit t l (running r) = good-committed t r l (commitRefusal (isStale p r) (fits (p .committed .value) (r .txn)))
+
+  good-abort : (t : ℕ) → leb t 7 ≡ true → (s : Slot) → Good (plainAbort t s p .after)
+  unfolding plainAbort turnedDown answering SoundSlot
+  good-abort t l closed = g
+  good-abort t l (running r) = good-slot t l closed tt
+
+  good-numbered :
+      (t : ℕ) (buffer : List ℕ) (next : Slot → Plain → PlainTurn)
+      → (leb t 7 ≡ true → Good (next (p .slots t) p .after))
+      → Good (numbered t buffer next p .after)
+  unfolding numbered turnedDown
+  good-numbered t buffer next h = chosen (leb t 7) h
+    where
+      chosen :
+          (b : Bool)
+          → (b ≡ true → Good (next (p .slots t) p .after))
+          → Good (cond b (next (p .slots t) p) (turnedDown 3 buffer p) .after)
+      chosen true k = k refl
+      chosen false k = g
+
+pub good-call : (c : Call) (p : Plain) → Good p → Good (plainCall c p .after)
+unfolding plainCall
+good-call (begin t) p g = good-numbered p g t [] (plainBegin t) (λ l. good-begin p g t l (p .slots t))
+good-call (on t o) p g = good-numbered p g t (bufferOf o) (plainOn t o) (λ l. good-on p g t o l (p .slots t) (g .sound t))
+good-call (commit t) p g = good-numbered p g t [] (plainCommit t) (λ l. good-commit p g t l (p .slots t))
+good-call (abort t) p g = good-numbered p g t [] (plainAbort t) (λ l. good-abort p g t l (p .slots t))
+
+pub good-after : (cs : List Call) (p : Plain) → Good p → Good (plainAfter cs p)
+unfolding plainAfter
+good-after [] p g = g
+good-after (c ∷ cs) p g = good-after cs (plainCall c p .after) (good-call c p g)

@@ -1,0 +1,55 @@
+-- Laws of programs: one program after another, and what a list of items holds.
+use mathlib.Core.Bool.{Bool, false, _||_, or-assoc}
+use mathlib.Core.List.{List, [], _∷_, _++_}
+use mathlib.Core.Path.{_≡_, refl, ap, sym, _∙_}
+use Prim.Native.Nat.{ℕ}
+use Rattle.rules.specs.Items.{Item, Values, Prog, done, ask, andThen, result, asked, same}
+use Rattle.rules.proofs.Serial.Sighted.{among}
+
+-- An item stands in a joined list where it stands in one of the two.
+pub among-append : (i : Item) (js ks : List Item) → among i (js ++ ks) ≡ (among i js || among i ks)
+unfolding among
+among-append i [] ks = refl
+among-append i (j ∷ js) ks =
+    ap (λ (b : Bool). same i j || b) (among-append i js ks) ∙ sym (or-assoc (same i j) (among i js) (among i ks))
+
+module _ {A B : Type 0} (v : Values) where
+  -- The result of one program after another.
+  pub result-andThen : (p : Prog A) (k : A → Prog B) → result v (andThen p k) ≡ result v (k (result v p))
+  unfolding andThen result
+  result-andThen (done a) k = refl
+  result-andThen (ask i f) k = result-andThen (f (v i)) k
+
+  -- The items that one program after another asks for.
+  pub asked-andThen : (p : Prog A) (k : A → Prog B) → asked v (andThen p k) ≡ asked v p ++ asked v (k (result v p))
+  unfolding andThen result asked
+  asked-andThen (done a) k = refl
+  asked-andThen (ask i f) k = ap (λ (l : List Item). i ∷ l) (asked-andThen (f (v i)) k)
+
+  -- An item is asked for by one program after another where one of the two asks for it.
+  pub among-andThen : (i : Item) (p : Prog A) (k : A → Prog B)
+      → among i (asked v (andThen p k)) ≡ (among i (asked v p) || among i (asked v (k (result v p))))
+  among-andThen i p k = ap (among i) (asked-andThen p k) ∙ among-append i (asked v p) (asked v (k (result v p)))
+
+  -- Neither asks for it, so the two together do not.
+  pub none-andThen : (i : Item) (p : Prog A) (k : A → Prog B) → among i (asked v p) ≡ false
+      → ((a : A) → among i (asked v (k a)) ≡ false) → among i (asked v (andThen p k)) ≡ false
+  none-andThen i p k e f = among-andThen i p k ∙ ap (λ (b : Bool). b || among i (asked v (k (result v p)))) e ∙ f (result v p)
+
+-- Every element of a list has a property.
+module _ {A : Type 0} (P : A → Type 0) where
+  abbrev pub Every : List A → Type 0
+  Every [] = Unit {0}
+  Every (a ∷ xs) = P a × Every xs
+
+module _ {A : Type 0} (v w : Values) where
+  -- A program that asks for nothing on which two values differ does the same on both.
+  pub agree-result : (p : Prog A) → Every (λ (i : Item). w i ≡ v i) (asked v p) → result w p ≡ result v p
+  unfolding result asked
+  agree-result (done a) h = refl
+  agree-result (ask i f) h = ap (λ (n : ℕ). result w (f n)) (h .0) ∙ agree-result (f (v i)) (h .1)
+
+  pub agree-asked : (p : Prog A) → Every (λ (i : Item). w i ≡ v i) (asked v p) → asked w p ≡ asked v p
+  unfolding asked
+  agree-asked (done a) h = refl
+  agree-asked (ask i f) h = ap (λ (l : List Item). i ∷ l) (ap (λ (n : ℕ). asked w (f n)) (h .0) ∙ agree-asked (f (v i)) (h .1))

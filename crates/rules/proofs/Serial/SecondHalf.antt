@@ -1,0 +1,183 @@
+-- Second half of demand 3: the granted transactions, run again alone in the order of their grants, do the same and leave the same.
+use mathlib.Core.Bool.{Bool, true, false, cond}
+use mathlib.Core.List.{List, [], _∷_, _++_, map}
+use mathlib.Core.Path.{_≡_, refl, sym, ap, _∙_, subst}
+use borrow.Author.Tests.{not-false}
+use lib.Dec.{leb}
+use Prim.Native.Nat.{ℕ, _+_}
+use Rattle.rules.specs.Items.{result, asked}
+use Rattle.rules.specs.Transactions.{Txn, empty}
+use Rattle.rules.specs.Steps.{Op, bufferOf, Stepped, refuse, accept, step}
+use Rattle.rules.specs.Commits.{fits, commitRefusal}
+use Rattle.rules.specs.Plain.{Call, begin, on, commit, abort, Reply, Entry, entries, Committed, Accepted, Running, Slot, closed, running, Plain, Lone, lone, ops, isStale, PlainTurn, turnedDown, withSlot, answering, plainBegin, plainStepped, plainOn, committing, grant, plainCommitted, plainCommit, plainAbort, numbered, plainCall, plainAfter, callsOf, ifGranted, grantedBy, grantsOf}
+use Rattle.rules.specs.Serial.{again, serially, SameAgain, AllSame}
+use Rattle.rules.proofs.Serial.Lists.{current, current-is}
+use Rattle.rules.proofs.Serial.Sound.{Sound, recorded, alone-now}
+use Rattle.rules.proofs.Serial.Invariant.{Good, sound-at, good-call}
+use Rattle.rules.proofs.Serial.FirstHalf.{stale-is}
+
+-- An open transaction that is not stale: its lone run on the committed state is the recorded one.
+pub alone-recorded :
+    (p : Plain) (r : Running)
+    → Sound (p .fileOf) (p .committed) (p .grants) r
+    → isStale p r ≡ false
+    → lone (p .fileOf) (p .committed) (ops (r .calls)) empty
+    ≡ record { through = true; txn = r .txn; replies = map (λ a. a .reply) (r .calls); seen = r .seen }
+unfolding recorded
+alone-recorded p r s e =
+    let c : current (p .committed .setter) (r .seen) ≡ true =
+    not-false (current (p .committed .setter) (r .seen)) (sym (stale-is p r s) ∙ e) in
+    alone-now (p .fileOf) (p .committed) (p .grants) r s c
+    ∙ ap (λ (es : List Entry). record { through = true; txn = r .txn; replies = map (λ a. a .reply) (r .calls); seen = es })
+    (current-is (p .committed .setter) (r .seen) c)
+
+-- What a call does to the committed state: nothing, or it is a granted Commit.
+pub data Turned (p : Plain) : PlainTurn → List (List Accepted) → Type 0 where
+  kept :
+      (reply : Reply) (slots : ℕ → Slot)
+      → Turned p
+      (record { reply = reply; after = record { fileOf = p .fileOf; committed = p .committed; grants = p .grants; slots = slots } })
+      []
+  grants :
+      (t : ℕ) (r : Running) (reply : Reply)
+      → p .slots t ≡ running r
+      → isStale p r ≡ false
+      → fits (p .committed .value) (r .txn) ≡ true
+      → Turned p (record { reply = reply; after = grant t r p }) (r .calls ∷ [])
+
+module _ (p : Plain) where
+  turned-begin : (t : ℕ) (s : Slot) → Turned p (plainBegin t s p) []
+  unfolding plainBegin answering withSlot turnedDown
+  turned-begin t closed = kept _ _
+  turned-begin t (running r) = kept _ _
+
+  turned-stepped : (t : ℕ) (o : Op) (r : Running) (es : List Entry) (s : Stepped) → Turned p (plainStepped t o r es p s) []
+  unfolding plainStepped withSlot turnedDown
+  turned-stepped t o r es (refuse n) = kept _ _
+  turned-stepped t o r es (accept y answer buffer) = kept _ _
+
+  turned-on : (t : ℕ) (o : Op) (s : Slot) → Turned p (plainOn t o s p) []
+  unfolding plainOn turnedDown
+  turned-on t o closed = kept _ _
+  turned-on t o (running r) =
+      turned-stepped t o r (entries (p .committed .setter) (asked (p .committed .value) (step (p .fileOf) o (r .txn))))
+      (result (p .committed .value) (step (p .fileOf) o (r .txn)))
+
+  turned-committed :
+      (t : ℕ) (r : Running)
+      → p .slots t ≡ running r
+      → (stale placed : Bool)
+      → isStale p r ≡ stale
+      → fits (p .committed .value) (r .txn) ≡ placed
+      → Turned p (plainCommitted t r p (commitRefusal stale placed))
+      (ifGranted (plainCommitted t r p (commitRefusal stale placed) .reply .answer) (r .calls ∷ []))
+  unfolding plainCommitted commitRefusal ifGranted answering withSlot
+  turned-committed t r o true placed s f = kept _ _
+  turned-committed t r o false true s f = grants t r _ o s f
+  turned-committed t r o false false s f = kept _ _
+
+  turned-commit :
+      (t : ℕ) (s : Slot)
+      → p .slots t ≡ s
+      → Turned p (plainCommit t s p) (ifGranted (plainCommit t s p .reply .answer) (callsOf s))
+  unfolding plainCommit turnedDown ifGranted callsOf
+  turned-commit t closed o = kept _ _
+  turned-commit t (running r) o =
+      turned-committed t r o (isStale p r) (fits (p .committed .value) (r .txn)) refl refl
+
+  turned-abort : (t : ℕ) (s : Slot) → Turned p (plainAbort t s p) []
+  unfolding plainAbort turnedDown answering withSlot
+  turned-abort t closed = kept _ _
+  turned-abort t (running r) = kept _ _
+
+  -- What holds of a call's turn and of a refusal 3 holds of the call.
+  turned-numbered :
+      (P : PlainTurn → Type 0) (t : ℕ) (buffer : List ℕ) (next : Slot → Plain → PlainTurn)
+      → P (next (p .slots t) p)
+      → P (turnedDown 3 buffer p)
+      → P (numbered t buffer next p)
+  unfolding numbered
+  turned-numbered P t buffer next h k = chosen (leb t 7)
+    where
+      chosen : (b : Bool) → P (cond b (next (p .slots t) p) (turnedDown 3 buffer p))
+      chosen true = h
+      chosen false = k
+
+  pub turned : (c : Call) → Turned p (plainCall c p) (grantedBy c p)
+  unfolding plainCall grantedBy turnedDown ifGranted
+  turned (begin t) = turned-numbered (λ τ. Turned p τ []) t [] (plainBegin t) (turned-begin t (p .slots t)) (kept _ _)
+  turned (on t o) = turned-numbered (λ τ. Turned p τ []) t (bufferOf o) (plainOn t o) (turned-on t o (p .slots t)) (kept _ _)
+  turned (commit t) =
+      turned-numbered (λ τ. Turned p τ (ifGranted (τ .reply .answer) (callsOf (p .slots t)))) t [] (plainCommit t)
+      (turned-commit t (p .slots t) refl)
+      (kept _ _)
+  turned (abort t) = turned-numbered (λ τ. Turned p τ []) t [] (plainAbort t) (turned-abort t (p .slots t)) (kept _ _)
+
+-- No call changes a descriptor's file.
+files-turn : (p : Plain) (τ : PlainTurn) (hs : List (List Accepted)) → Turned p τ hs → τ .after .fileOf ≡ p .fileOf
+unfolding grant
+files-turn p τ hs (kept reply slots) = refl
+files-turn p τ hs (grants t r reply o e f) = refl
+
+pub files-kept : (cs : List Call) (p : Plain) → plainAfter cs p .fileOf ≡ p .fileOf
+unfolding plainAfter
+files-kept [] p = refl
+files-kept (c ∷ cs) p = files-kept cs (plainCall c p .after) ∙ files-turn p (plainCall c p) (grantedBy c p) (turned p c)
+
+-- The granted transactions from a state on do the same again, and leave that state.
+pub record InOrder (fileOf : ℕ → ℕ) (n : ℕ) (gs : List (List Accepted)) (c end : Committed) : Type 0 where
+  pub same : AllSame fileOf n gs c
+  pub left : serially fileOf n gs c ≡ end
+
+module _ (p : Plain) (g : Good p) where
+  granted-again :
+      (r : Running)
+      → Sound (p .fileOf) (p .committed) (p .grants) r
+      → isStale p r ≡ false
+      → fits (p .committed .value) (r .txn) ≡ true
+      → SameAgain (p .fileOf) (p .committed) (r .calls)
+  unfolding again
+  granted-again r s e f =
+      let l = alone-recorded p r s e in
+      record {
+        through = ap (λ (a : Lone). a .through) l;
+        replies = ap (λ (a : Lone). a .replies) l;
+        fitting = ap (λ (a : Lone). fits (p .committed .value) (a .txn)) l ∙ f;
+      }
+
+  granted-first :
+      (r : Running) (gs : List (List Accepted)) (end : Committed)
+      → Sound (p .fileOf) (p .committed) (p .grants) r
+      → isStale p r ≡ false
+      → fits (p .committed .value) (r .txn) ≡ true
+      → InOrder (p .fileOf) (p .grants + 1) gs (committing (p .fileOf) (p .grants + 1) (r .txn) (p .committed)) end
+      → InOrder (p .fileOf) (p .grants) (r .calls ∷ gs) (p .committed) end
+  unfolding again serially AllSame
+  granted-first r gs end s e f i =
+      let x : again (p .fileOf) (p .committed) (r .calls) .txn ≡ r .txn = ap (λ (a : Lone). a .txn) (alone-recorded p r s e) in
+      record {
+        same = (
+          granted-again r s e f,
+          subst (λ (y : Txn). AllSame (p .fileOf) (p .grants + 1) gs (committing (p .fileOf) (p .grants + 1) y (p .committed))) (sym x)
+              (i .same),
+        );
+        left =
+            ap (λ (y : Txn). serially (p .fileOf) (p .grants + 1) gs (committing (p .fileOf) (p .grants + 1) y (p .committed))) x ∙ i .left;
+      }
+
+  in-order-turn :
+      (τ : PlainTurn) (hs gs : List (List Accepted)) (end : Committed)
+      → Turned p τ hs
+      → InOrder (τ .after .fileOf) (τ .after .grants) gs (τ .after .committed) end
+      → InOrder (p .fileOf) (p .grants) (hs ++ gs) (p .committed) end
+  unfolding grant
+  in-order-turn τ hs gs end (kept reply slots) i = i
+  in-order-turn τ hs gs end (grants t r reply o e f) i = granted-first r gs end (sound-at p g t r o) e f i
+
+pub in-order : (cs : List Call) (p : Plain) → Good p → InOrder (p .fileOf) (p .grants) (grantsOf cs p) (p .committed) (plainAfter cs p .committed)
+unfolding grantsOf plainAfter serially AllSame
+in-order [] p g = record { same = tt; left = refl }
+in-order (c ∷ cs) p g =
+    in-order-turn p g (plainCall c p) (grantedBy c p) (grantsOf cs (plainCall c p .after)) (plainAfter cs (plainCall c p .after) .committed)
+    (turned p c)
+    (in-order cs (plainCall c p .after) (good-call c p g))

@@ -1,0 +1,135 @@
+-- The store without its buffers, for the proof of demand 3: committed values, and for each open transaction what it is, the bytes
+-- that it has sighted, and whether it is stale. Nothing here has to be believed: the store's rules are shown equal to it, and it
+-- to the plain machine.
+use mathlib.Core.Bool.{Bool, true, false, cond, not, _&&_, _||_}
+use mathlib.Core.List.{List, [], _∷_, _++_}
+use lib.Dec.{leb, eqb}
+use Prim.Native.Nat.{ℕ, zero, suc, _+_}
+use Rattle.record.specs.Paper.{Said, plain, granted, refused}
+use Rattle.rules.specs.Items.{Item, byte, offset, same, Values, Prog, result, asked}
+use Rattle.rules.specs.Standings.{isKnown}
+use Rattle.rules.specs.Transactions.{Txn, empty, put}
+use Rattle.rules.specs.Steps.{Op, bufferOf, Stepped, refuse, accept, step}
+use Rattle.rules.specs.Commits.{Setting, settings, fits, landed, commitRefusal}
+use Rattle.rules.specs.Plain.{Call, begin, on, commit, abort, Reply}
+
+pub record Held : Type 0 where
+  pub txn : Txn
+  pub marked : ℕ → Bool
+  pub stale : Bool
+
+pub data Seat : Type 0 where
+  vacant : Seat
+  held : Held → Seat
+
+pub record Sighted : Type 0 where
+  pub fileOf : ℕ → ℕ
+  pub value : Values
+  pub seats : ℕ → Seat
+
+unfoldable pub freshSighted : (ℕ → ℕ) → Sighted
+freshSighted fileOf = record { fileOf = fileOf; value = λ i. 0; seats = λ t. vacant }
+
+-- A byte is sighted where it is marked, an offset where its descriptor stands Known.
+unfoldable pub sighted : Held → Item → Bool
+sighted h (byte q) = h .marked q
+sighted h (offset d) = isKnown (h .txn .standing d)
+
+-- Whether an item stands in a list.
+unfoldable pub among : Item → List Item → Bool
+among i [] = false
+among i (j ∷ js) = same i j || among i js
+
+unfoldable pub hit : List Setting → Held → Bool
+hit [] h = false
+hit (s ∷ ss) h = sighted h (s .item) || hit ss h
+
+unfoldable pub markAll : List Item → (ℕ → Bool) → ℕ → Bool
+markAll [] m = m
+markAll (byte q ∷ is) m = markAll is (put q true m)
+markAll (offset d ∷ is) m = markAll is m
+
+pub record SightedTurn : Type 0 where
+  pub reply : Reply
+  pub after : Sighted
+
+unfoldable pub turnedAway : ℕ → List ℕ → Sighted → SightedTurn
+turnedAway n buffer s = record { reply = record { answer = refused n; buffer = buffer }; after = s }
+
+unfoldable pub withSeat : ℕ → Seat → Sighted → Sighted
+withSeat t x s = record { fileOf = s .fileOf; value = s .value; seats = put t x (s .seats) }
+
+unfoldable pub telling : Said → Sighted → SightedTurn
+telling a s = record { reply = record { answer = a; buffer = [] }; after = s }
+
+unfoldable pub sightedBegin : ℕ → Seat → Sighted → SightedTurn
+sightedBegin t vacant s = telling plain (withSeat t (held (record { txn = empty; marked = λ q. false; stale = false })) s)
+sightedBegin t (held h) s = turnedAway 5 [] s
+
+unfoldable pub sightedStepped : ℕ → Op → Held → List Item → Sighted → Stepped → SightedTurn
+sightedStepped t o h is s (refuse n) = turnedAway n (bufferOf o) s
+sightedStepped t o h is s (accept y answer buffer) =
+    record {
+      reply = record { answer = answer; buffer = buffer };
+      after = withSeat t (held (record { txn = y; marked = markAll is (h .marked); stale = h .stale })) s;
+    }
+
+unfoldable pub sightedOn : ℕ → Op → Seat → Sighted → SightedTurn
+sightedOn t o vacant s = turnedAway 4 (bufferOf o) s
+sightedOn t o (held h) s =
+    sightedStepped t o h (asked (s .value) (step (s .fileOf) o (h .txn))) s (result (s .value) (step (s .fileOf) o (h .txn)))
+
+-- Another open transaction after a commit of those settings.
+unfoldable pub touch : List Setting → Seat → Seat
+touch ss vacant = vacant
+touch ss (held h) = held (record { txn = h .txn; marked = h .marked; stale = h .stale || hit ss h })
+
+unfoldable pub newlyStale : List Setting → Seat → Bool
+newlyStale ss vacant = false
+newlyStale ss (held h) = not (h .stale) && hit ss h
+
+unfoldable pub countNew : List Setting → (ℕ → Seat) → ℕ → ℕ
+countNew ss seats zero = 0
+countNew ss seats (suc u) = countNew ss seats u + cond (newlyStale ss (seats u)) 1 0
+
+-- Transaction t ends with these settings; every other open one that has sighted one of them is stale.
+unfoldable pub granting : ℕ → List Setting → Sighted → SightedTurn
+granting t ss s =
+    let others = put t vacant (s .seats) in
+    record {
+      reply = record { answer = granted (countNew ss others 8); buffer = [] };
+      after = record { fileOf = s .fileOf; value = landed ss (s .value); seats = λ u. touch ss (others u) };
+    }
+
+unfoldable pub sightedCommitted : ℕ → Held → Sighted → ℕ → SightedTurn
+sightedCommitted t h s zero = granting t (settings (s .fileOf) (s .value) (h .txn)) s
+sightedCommitted t h s (suc n) =
+    record {
+      reply = record { answer = refused (suc n); buffer = [] };
+      after = cond (eqb (suc n) 13) (withSeat t vacant s) s;
+    }
+
+unfoldable pub sightedCommit : ℕ → Seat → Sighted → SightedTurn
+sightedCommit t vacant s = turnedAway 4 [] s
+sightedCommit t (held h) s = sightedCommitted t h s (commitRefusal (h .stale) (fits (s .value) (h .txn)))
+
+unfoldable pub sightedAbort : ℕ → Seat → Sighted → SightedTurn
+sightedAbort t vacant s = turnedAway 4 [] s
+sightedAbort t (held h) s = telling plain (withSeat t vacant s)
+
+unfoldable pub seated : ℕ → List ℕ → (Seat → Sighted → SightedTurn) → Sighted → SightedTurn
+seated t buffer next s = cond (leb t 7) (next (s .seats t) s) (turnedAway 3 buffer s)
+
+unfoldable pub sightedCall : Call → Sighted → SightedTurn
+sightedCall (begin t) s = seated t [] (sightedBegin t) s
+sightedCall (on t o) s = seated t (bufferOf o) (sightedOn t o) s
+sightedCall (commit t) s = seated t [] (sightedCommit t) s
+sightedCall (abort t) s = seated t [] (sightedAbort t) s
+
+unfoldable pub sightedAfter : List Call → Sighted → Sighted
+sightedAfter [] s = s
+sightedAfter (c ∷ cs) s = sightedAfter cs (sightedCall c s .after)
+
+unfoldable pub sightedReplies : List Call → Sighted → List Reply
+sightedReplies [] s = []
+sightedReplies (c ∷ cs) s = sightedCall c s .reply ∷ sightedReplies cs (sightedCall c s .after)

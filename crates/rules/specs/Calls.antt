@@ -1,0 +1,218 @@
+-- The rules of the eight calls on the record and the buffers: outcome, record, files, logs, marks and reader's buffer, for every
+-- input. The promises of the code cite these.
+use mathlib.Core.Bool.{Bool, true, false, cond, not, _&&_, _||_}
+use mathlib.Core.List.{List, [], _∷_, _++_, map}
+use lib.Dec.{leb, eqb}
+use lib.ListN.{length, getD, set, replicate}
+use Prim.Native.Nat.{ℕ, zero, suc, _+_, _*_}
+use Rattle.octets.specs.Parts.{pasted}
+use Rattle.octets.specs.Bits.{bit, withBit, withoutBit}
+use Rattle.record.specs.declared.Store.{Store}
+use Rattle.record.specs.declared.Transaction.{Transaction}
+use Rattle.record.specs.Journal.{transaction, standingAt, ended, begun}
+use Rattle.record.specs.Paper.{Said, plain, granted, refused}
+use Rattle.ranges.specs.Below.{sum}
+use Rattle.ranges.specs.Ranges.{admission, admissionOfBegin, admissionOfFresh}
+use Rattle.rules.specs.Items.{Item, byte, offset, Values, result, asked}
+use Rattle.rules.specs.Standings.{isKnown}
+use Rattle.rules.specs.Steps.{Op, seek, write, getFilePointer, read, bufferOf, Stepped, refuse, accept, step}
+use Rattle.rules.specs.Commits.{Setting, settings, fits, commitRefusal}
+use Rattle.rules.specs.Plain.{Call, begin, on, commit, abort, Reply}
+use Rattle.rules.specs.Machine.{Machine, tabulate, fileOf, values, txnOf, withTransaction, withTxn}
+
+-- A call's reply, and the store after it.
+pub record Turn : Type 0 where
+  pub reply : Reply
+  pub after : Machine
+
+unfoldable pub answer : Said → Machine → Turn
+answer a m = record { reply = record { answer = a; buffer = [] }; after = m }
+
+-- "What is left: everything", the reader's buffer too.
+unfoldable pub turnDown : ℕ → List ℕ → Machine → Turn
+turnDown n buffer m = record { reply = record { answer = refused n; buffer = buffer }; after = m }
+
+-- Goes on where no earlier test refuses (0), otherwise turns the call down with the number.
+unfoldable pub passing : ℕ → List ℕ → Machine → Turn → Turn
+passing zero buffer m next = next
+passing (suc n) buffer m next = turnDown (suc n) buffer m
+
+-- "Every file byte, mark and offset is 0, nothing is open; the log buffer is left as found."
+unfoldable pub freshStore : List ℕ → Store
+freshStore numbers =
+    record {
+      files = numbers;
+      offsets = replicate 16 0;
+      transactions = replicate 8 ended;
+      holders = replicate 512 0;
+      places = replicate 512 0;
+      lengths = replicate 512 0;
+    }
+
+unfoldable pub freshMachine : List ℕ → List ℕ → Machine
+freshMachine numbers logs =
+    record { store = freshStore numbers; files = replicate 32768 0; logs = logs; marks = replicate 32768 0 }
+
+-- "Fresh takes 16 file numbers and the record at hand, which a refused Fresh hands back."
+unfoldable pub fresh : List ℕ → Machine → Turn
+fresh numbers m =
+    passing (admissionOfFresh (length (m .files)) (length (m .logs)) (length (m .marks)) numbers) [] m
+    (answer plain (freshMachine numbers (m .logs)))
+
+-- Every mark of transaction t cleared.
+unfoldable pub unmarked : ℕ → List ℕ → List ℕ
+unmarked t marks = map (withoutBit t) marks
+
+-- Transaction t replaced, and its marks cleared.
+unfoldable pub reset : ℕ → Transaction → Machine → Machine
+reset t x m =
+    record { store = withTransaction t x (m .store); files = m .files; logs = m .logs; marks = unmarked t (m .marks) }
+
+-- "Begin gives an empty log, sixteen Untouched descriptors, no marks, not stale."
+unfoldable pub beginTurn : ℕ → Machine → Turn
+beginTurn t m = answer plain (reset t begun m)
+
+-- "Abort drops log and marks. However it ends, an ended transaction has an empty log, sixteen Untouched descriptors and is not
+-- stale; the log bytes stay."
+unfoldable pub abortTurn : ℕ → Machine → Turn
+abortTurn t m = answer plain (reset t ended m)
+
+-- "bit t (worth 2 to the power t) set where transaction t has sighted that byte": the marks after sightings.
+unfoldable pub marked : ℕ → List Item → List ℕ → List ℕ
+marked t [] marks = marks
+marked t (byte q ∷ is) marks = marked t is (set marks q (withBit t (getD marks q 0)))
+marked t (offset d ∷ is) marks = marked t is marks
+
+-- "A Write puts its bytes in its log directly after the data used. No other call touches a log byte."
+unfoldable pub logged : ℕ → Op → Store → List ℕ → List ℕ
+logged t (seek d v) s logs = logs
+logged t (write d bytes) s logs = pasted logs (4096 * t + transaction s t .used .bytes) bytes
+logged t (getFilePointer d) s logs = logs
+logged t (read d n buffer) s logs = logs
+
+-- Seek, Write, GetFilePointer and Read: an accepted step's transaction is put back, its sightings are marked.
+unfoldable pub served : ℕ → Op → Machine → List Item → Stepped → Turn
+served t o m is (refuse n) = turnDown n (bufferOf o) m
+served t o m is (accept y a buffer) =
+    record {
+      reply = record { answer = a; buffer = buffer };
+      after =
+          record {
+            store = withTxn t y (m .store);
+            files = m .files;
+            logs = logged t o (m .store) (m .logs);
+            marks = marked t is (m .marks);
+          };
+    }
+
+unfoldable pub stepTurn : ℕ → Op → Machine → Turn
+stepTurn t o m =
+    let v = values (m .store) (m .files) in
+    let p = step (fileOf (m .store)) o (txnOf (m .store) (m .logs) t) in
+    served t o m (asked v p) (result v p)
+
+-- Settings put into the files buffer, and into the committed offsets.
+unfoldable pub landByte : Item → ℕ → List ℕ → List ℕ
+landByte (byte q) n files = set files q n
+landByte (offset d) n files = files
+
+unfoldable pub landFiles : List Setting → List ℕ → List ℕ
+landFiles [] files = files
+landFiles (s ∷ ss) files = landFiles ss (landByte (s .item) (s .to) files)
+
+unfoldable pub landOffset : Item → ℕ → List ℕ → List ℕ
+landOffset (byte q) n offsets = offsets
+landOffset (offset d) n offsets = set offsets d n
+
+unfoldable pub landOffsets : List Setting → List ℕ → List ℕ
+landOffsets [] offsets = offsets
+landOffsets (s ∷ ss) offsets = landOffsets ss (landOffset (s .item) (s .to) offsets)
+
+-- Whether transaction u, as x, has sighted an item: a marked byte, or the offset of a descriptor that stands Known.
+unfoldable pub hasSighted : List ℕ → ℕ → Transaction → Item → Bool
+hasSighted marks u x (byte q) = eqb (bit u (getD marks q 0)) 1
+hasSighted marks u x (offset d) = isKnown (standingAt x d)
+
+-- "has sighted a byte or offset just set"
+unfoldable pub conflicts : List ℕ → ℕ → Transaction → List Setting → Bool
+conflicts marks u x [] = false
+conflicts marks u x (s ∷ ss) = hasSighted marks u x (s .item) || conflicts marks u x ss
+
+-- "Every other open transaction that has sighted a byte or offset just set is stale from then on."
+unfoldable pub staled : List ℕ → List Setting → ℕ → Transaction → Transaction
+staled marks ss u x =
+    record {
+      begun = x .begun;
+      stale = x .stale || (x .begun && conflicts marks u x ss);
+      used = x .used;
+      descriptors = x .descriptors;
+    }
+
+-- Transaction u after a granted Commit of t, which ends.
+unfoldable pub afterCommit : ℕ → List ℕ → List Setting → Store → ℕ → Transaction
+afterCommit t marks ss s u = cond (eqb u t) ended (staled marks ss u (transaction s u))
+
+-- "Commit answers how many became stale by it that were not so before."
+unfoldable pub becomesStale : ℕ → List ℕ → List Setting → Store → ℕ → Bool
+becomesStale t marks ss s u =
+    let x = transaction s u in
+    not (eqb u t) && x .begun && not (x .stale) && conflicts marks u x ss
+
+unfoldable pub commitGranted : ℕ → List Setting → Machine → Turn
+commitGranted t ss m =
+    let s = m .store in
+    record {
+      reply = record { answer = granted (sum (λ u. cond (becomesStale t (m .marks) ss s u) 1 0) 8); buffer = [] };
+      after =
+          record {
+            store =
+                record {
+                  files = s .files;
+                  offsets = landOffsets ss (s .offsets);
+                  transactions = tabulate (afterCommit t (m .marks) ss s) 8;
+                  holders = s .holders;
+                  places = s .places;
+                  lengths = s .lengths;
+                };
+            files = landFiles ss (m .files);
+            logs = m .logs;
+            marks = unmarked t (m .marks);
+          };
+    }
+
+-- "13: it ends as at Abort"; "12: everything, the transaction open".
+unfoldable pub commitDecided : ℕ → List Setting → Machine → ℕ → Turn
+commitDecided t ss m zero = commitGranted t ss m
+commitDecided t ss m (suc n) =
+    record {
+      reply = record { answer = refused (suc n); buffer = [] };
+      after = cond (eqb (suc n) 13) (reset t ended m) m;
+    }
+
+unfoldable pub commitTurn : ℕ → Machine → Turn
+commitTurn t m =
+    let v = values (m .store) (m .files) in
+    let x = txnOf (m .store) (m .logs) t in
+    commitDecided t (settings (fileOf (m .store)) v x) m (commitRefusal (transaction (m .store) t .stale) (fits v x))
+
+-- The shared tests, 1 to 4, on what a caller lends.
+unfoldable pub admitted : ℕ → List ℕ → Machine → Turn → Turn
+admitted t buffer m next =
+    passing (admission (length (m .files)) (length (m .logs)) (length (m .marks)) (m .store) t) buffer m next
+
+-- The seven calls of demand 3.
+unfoldable pub call : Call → Machine → Turn
+call (begin t) m =
+    passing (admissionOfBegin (length (m .files)) (length (m .logs)) (length (m .marks)) (m .store) t) [] m (beginTurn t m)
+call (on t o) m = admitted t (bufferOf o) m (stepTurn t o m)
+call (commit t) m = admitted t [] m (commitTurn t m)
+call (abort t) m = admitted t [] m (abortTurn t m)
+
+-- A list of calls: the store after it, and its replies.
+unfoldable pub callsAfter : List Call → Machine → Machine
+callsAfter [] m = m
+callsAfter (c ∷ cs) m = callsAfter cs (call c m .after)
+
+unfoldable pub callsReplies : List Call → Machine → List Reply
+callsReplies [] m = []
+callsReplies (c ∷ cs) m = call c m .reply ∷ callsReplies cs (call c m .after)

@@ -1,0 +1,63 @@
+-- Paper 01, "Commit and Abort": what a commit sets.
+use mathlib.Core.Bool.{Bool, true, false, cond}
+use mathlib.Core.List.{List, [], _∷_, _++_}
+use lib.Dec.{leb}
+use Prim.Native.Nat.{ℕ, zero, suc, _+_, _*_}
+use Rattle.record.specs.Journal.{Place, at, after}
+use Rattle.ranges.specs.Below.{below}
+use Rattle.rules.specs.Items.{Item, byte, offset, same, Values}
+use Rattle.rules.specs.Standings.{advance, isSet, finalOffset}
+use Rattle.rules.specs.Transactions.{Txn, Write, those}
+
+-- An item, and the value that a commit sets it to.
+pub record Setting : Type 0 where
+  pub item : Item
+  pub to : ℕ
+
+-- "The writes of the transaction land in call order; those still deferred lie from the committed offset of that moment."
+unfoldable pub landsAt : ℕ → Place → ℕ
+landsAt c (at p) = p
+landsAt c (after a) = c + a
+
+unfoldable pub stretch : ℕ → List ℕ → List Setting
+stretch q [] = []
+stretch q (b ∷ bs) = record { item = byte q; to = b } ∷ stretch (suc q) bs
+
+unfoldable pub byteSettings : (ℕ → ℕ) → Values → List Write → List Setting
+byteSettings fileOf v [] = []
+byteSettings fileOf v (w ∷ ws) =
+    stretch (4096 * fileOf (w .descriptor) + landsAt (v (offset (w .descriptor))) (w .place)) (w .bytes)
+    ++ byteSettings fileOf v ws
+
+-- "Then the offset of every descriptor not Untouched is set: committed offset plus advance if Deferred, otherwise its own": those
+-- of the first n descriptors.
+unfoldable pub offsetSettings : Values → Txn → ℕ → List Setting
+offsetSettings v x zero = []
+offsetSettings v x (suc d) =
+    offsetSettings v x d
+    ++ cond (isSet (x .standing d)) (record { item = offset d; to = finalOffset (v (offset d)) (x .standing d) } ∷ []) []
+
+-- All that a commit sets, in order: landing, setters and staleness go by this one list.
+unfoldable pub settings : (ℕ → ℕ) → Values → Txn → List Setting
+settings fileOf v x = byteSettings fileOf v (x .writes) ++ offsetSettings v x 16
+
+-- "12: Commit's placing takes committed offset plus advance above 4,096."
+unfoldable pub fits : Values → Txn → Bool
+fits v x = below (λ d. leb (v (offset d) + advance (x .standing d)) 4096) 16
+
+-- Values with one item set, and after a list of settings.
+unfoldable pub putItem : Item → ℕ → Values → Values
+putItem i n v j = cond (same j i) n (v j)
+
+unfoldable pub landed : List Setting → Values → Values
+landed [] v = v
+landed (s ∷ ss) v = landed ss (putItem (s .item) (s .to) v)
+
+-- "makes the count the setter of all it set"
+unfoldable pub setBy : ℕ → List Setting → Values → Values
+setBy n [] v = v
+setBy n (s ∷ ss) v = setBy n ss (putItem (s .item) n v)
+
+-- Commit's refusals in order, "save that 13 comes before 12"; 0 stands for none.
+unfoldable pub commitRefusal : Bool → Bool → ℕ
+commitRefusal stale placed = cond stale 13 (cond placed 0 12)

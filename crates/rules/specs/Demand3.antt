@@ -1,0 +1,114 @@
+-- Demand 3, beside its wording. The store is the rules of crate rules on records and buffers (`call`), the plain machine is
+-- `plainCall`, and both run the same list of calls, refused ones included.
+use mathlib.Core.Bool.{Bool, true, false}
+use mathlib.Core.List.{List, [], _∷_, map}
+use mathlib.Core.Logic.{_↔_}
+use mathlib.Core.Path.{_≡_}
+use lib.Dec.{leb}
+use lib.ListN.{length, getD}
+use Prim.Native.Nat.{ℕ, _≤_}
+use Rattle.record.specs.declared.Answer.{Answer}
+use Rattle.record.specs.Journal.{transaction}
+use Rattle.record.specs.Paper.{Said, plain, granted, refused, said}
+use Rattle.rules.specs.Plain.{Call, begin, on, commit, abort, Reply, Slot, closed, running, Running, Plain, freshPlain, plainCall, plainAfter, plainReplies, firstList, secondList, becameStale, grantsOf}
+use Rattle.rules.specs.Serial.{serially, AllSame}
+use Rattle.rules.specs.Machine.{Machine, values}
+use Rattle.rules.specs.Calls.{Turn, fresh, call, callsAfter, callsReplies}
+use Rattle.rules.specs.Promises.{lent, Meets}
+
+-- "from a fresh store": Fresh with these file numbers, on any record and any buffers, was accepted, and left m.
+pub record FreshlyMade (numbers : List ℕ) (m : Machine) : Type 0 where
+  pub before : Machine
+  pub accepted : fresh numbers before .reply .answer ≡ plain
+  pub left : m ≡ fresh numbers before .after
+
+unfoldable pub isRunning : Slot → Bool
+isRunning closed = false
+isRunning (running r) = true
+
+-- What holds after a list of calls cs, of the store m and the plain machine p that it leads to, from the fresh store m₀ and the
+-- fresh machine p₀. As it is claimed for every list, it holds at every moment of each.
+pub record Holds (m₀ : Machine) (p₀ : Plain) (cs : List Call) (m : Machine) (p : Plain) : Type 0 where
+  -- "the store returns the plain machine's refusals": each call gives what the plain machine gives, answer and buffer.
+  pub replies : callsReplies cs m₀ ≡ plainReplies cs p₀
+  -- A transaction is open in the store exactly when it is on the plain machine.
+  pub openness : (t : ℕ) → t ≤ 7 → transaction (m .store) t .begun ≡ isRunning (p .slots t)
+  -- "a commit by an open transaction is not refused as stale EXACTLY when its two lists of sightings on 01's plain machine are
+  -- equal"
+  pub staleness :
+      (t : ℕ) (r : Running) → t ≤ 7 → p .slots t ≡ running r
+      → (call (commit t) m .reply .answer ≡ refused 13 → ⊥) ↔ (firstList r ≡ secondList p r)
+  -- "it must equal the other open ones whose two lists were equal before that commit and aren't after it"
+  pub number :
+      (t n : ℕ) → call (commit t) m .reply .answer ≡ granted n → n ≡ becameStale p (plainCall (commit t) p .after) 8
+  -- "the granted transactions, run again alone in grant order from the same fresh state with all their accepted calls, meet no
+  -- refusal, give the same answers and bytes"
+  pub again : AllSame (p₀ .fileOf) 0 (grantsOf cs p₀) (p₀ .committed)
+  -- "and leave the same files and offsets"
+  pub left : values (m .store) (m .files) ≡ serially (p₀ .fileOf) 0 (grantsOf cs p₀) (p₀ .committed) .value
+  -- "A store reached from Fresh by these calls never meets 2": nor 1, while the caller lends the same buffers.
+  pub ranges : (c : Call) → (call c m .reply .answer ≡ refused 2 → ⊥) × (call c m .reply .answer ≡ refused 1 → ⊥)
+
+-- Demand 3 about the rules: one claim about the whole list.
+abbrev pub Demand3 : Type 0
+Demand3 =
+    (numbers : List ℕ) (m₀ : Machine) → FreshlyMade numbers m₀
+    → let p₀ : Plain = freshPlain (λ d. getD numbers d 0) in
+    (cs : List Call) → Holds m₀ p₀ cs (callsAfter cs m₀) (plainAfter cs p₀)
+
+-- One call as its caller sees it: the call, what it answered, and the buffers after it.
+pub record Made : Type 0 where
+  pub made : Call
+  pub answer : Answer
+  pub files : List ℕ
+  pub logs : List ℕ
+  pub marks : List ℕ
+  pub reader : List ℕ
+
+unfoldable pub kept : Made → Machine
+kept x = lent (x .answer .store) (x .files) (x .logs) (x .marks)
+
+-- Calls of the code, one after the other: each meets its promise on what the one before left.
+unfoldable pub Linked : Machine → List Made → Type 0
+Linked m [] = Unit {0}
+Linked m (x ∷ xs) = Meets (call (x .made) m) (x .answer) (x .files) (x .logs) (x .marks) (x .reader) × Linked (kept x) xs
+
+-- What the caller holds after them.
+unfoldable pub lastOf : Machine → List Made → Machine
+lastOf m [] = m
+lastOf m (x ∷ xs) = lastOf (kept x) xs
+
+unfoldable pub replyOf : Made → Reply
+replyOf x = record { answer = said (x .answer .outcome); buffer = x .reader }
+
+-- Demand 3 about the code: for calls linked by the promises of the functions, the replies are the plain machine's, and what holds
+-- of the rules holds of the record and buffers that the caller is left with.
+pub record CodeHolds (m₀ : Machine) (p₀ : Plain) (xs : List Made) : Type 0 where
+  pub replies : map replyOf xs ≡ plainReplies (map (λ x. x .made) xs) p₀
+  pub holds : Holds m₀ p₀ (map (λ x. x .made) xs) (lastOf m₀ xs) (plainAfter (map (λ x. x .made) xs) p₀)
+
+abbrev pub Demand3OfCode : Type 0
+Demand3OfCode =
+    (numbers : List ℕ) (before : Machine) (r : Answer) (files logs marks : List ℕ)
+    → Meets (fresh numbers before) r files logs marks [] → said (r .outcome) ≡ plain
+    → let m₀ : Machine = lent (r .store) files logs marks in
+    let p₀ : Plain = freshPlain (λ d. getD numbers d 0) in
+    (xs : List Made) → Linked m₀ xs → CodeHolds m₀ p₀ xs
+
+-- Demand 1 about the rules: "A refusal changes no buffer and no record, save that a commit refused as stale (13) ends its
+-- transaction as an abort does."
+unfoldable pub bufferOfCall : Call → List ℕ
+bufferOfCall (begin t) = []
+bufferOfCall (on t o) = Rattle.rules.specs.Steps.bufferOf o
+bufferOfCall (commit t) = []
+bufferOfCall (abort t) = []
+
+pub record Refusals (m : Machine) : Type 0 where
+  pub leaves :
+      (c : Call) (n : ℕ) → call c m .reply .answer ≡ refused n → (n ≡ 13 → ⊥)
+      → (call c m .after ≡ m) × (call c m .reply .buffer ≡ bufferOfCall c)
+  pub ends :
+      (c : Call) → call c m .reply .answer ≡ refused 13
+      → (t : ℕ) × (c ≡ commit t) × (call c m .after ≡ call (abort t) m .after)
+  pub known : (c : Call) (n : ℕ) → call c m .reply .answer ≡ refused n → n ≤ 13
+  pub freshLeaves : (numbers : List ℕ) (n : ℕ) → fresh numbers m .reply .answer ≡ refused n → fresh numbers m .after ≡ m

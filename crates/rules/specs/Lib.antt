@@ -1,0 +1,15 @@
+pub mod Items
+pub mod Standings
+pub mod Transactions
+pub mod Reading
+pub mod Steps
+pub mod Commits
+pub mod Machine
+pub mod Calls
+pub mod Promises
+pub mod Plain
+pub mod Serial
+pub mod Demand3
+pub mod Setup
+pub mod Situations
+pub mod Corners

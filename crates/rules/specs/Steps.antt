@@ -1,0 +1,102 @@
+-- One transaction's step: Seek, Write, GetFilePointer and Read, with refusals 6 to 12 in the table's order. What an accepted step
+-- asks for, in order, is its list of sightings.
+use mathlib.Core.Bool.{Bool, true, false, cond}
+use mathlib.Core.List.{List, [], _∷_, _++_, map}
+use lib.Dec.{leb, eqb}
+use lib.ListN.{length, drop}
+use Prim.Native.Nat.{ℕ, zero, suc, _+_, _-_, min}
+use Rattle.record.specs.Journal.{placeNumber}
+use Rattle.record.specs.Paper.{Said, plain, pointer, given}
+use Rattle.rules.specs.Items.{Prog, done, ask, andThen}
+use Rattle.rules.specs.Standings.{afterSeek, afterWrite, afterRead, pointerSettles, readSettles, offsetOf, writePlace}
+use Rattle.rules.specs.Transactions.{Txn, Write, restand, those, Settled, past, all, settling}
+use Rattle.rules.specs.Reading.{fetch}
+
+-- The calls of one transaction, with their arguments: a Write's bytes, a Read's count and the reader's buffer.
+pub data Op : Type 0 where
+  seek : ℕ → ℕ → Op
+  write : ℕ → List ℕ → Op
+  getFilePointer : ℕ → Op
+  read : ℕ → ℕ → List ℕ → Op
+
+-- The reader's buffer of a call; empty where it has none.
+unfoldable pub bufferOf : Op → List ℕ
+bufferOf (seek d v) = []
+bufferOf (write d bytes) = []
+bufferOf (getFilePointer d) = []
+bufferOf (read d n buffer) = buffer
+
+-- A step is refused, or accepted: the transaction after it, the answer, and the reader's buffer.
+pub data Stepped : Type 0 where
+  refuse : ℕ → Stepped
+  accept : Txn → Said → List ℕ → Stepped
+
+-- Goes on where a test holds, otherwise refuses with the number.
+unfoldable pub check : Bool → ℕ → Prog Stepped → Prog Stepped
+check ok n next = cond ok next (done (refuse n))
+
+-- "A settling that fails is given back before any byte is fetched."
+unfoldable pub orGivenBack : (Txn → Prog Stepped) → Settled → Prog Stepped
+orGivenBack next past = done (refuse 12)
+orGivenBack next (all x) = next x
+
+-- The data bytes that writes use in the log.
+unfoldable pub total : List Write → ℕ
+total [] = 0
+total (w ∷ ws) = length (w .bytes) + total ws
+
+unfoldable pub written : ℕ → List ℕ → Txn → Txn
+written d bytes x =
+    record {
+      standing = restand d (afterWrite (length bytes) (x .standing d)) x .standing;
+      writes = x .writes ++ (record { descriptor = d; place = writePlace (x .standing d); bytes = bytes } ∷ []);
+    }
+
+unfoldable pub seekStep : ℕ → ℕ → Txn → Prog Stepped
+seekStep d v x =
+    check (leb d 15) 6
+    (check (leb v 4096) 8
+    (done (accept (restand d (afterSeek v (x .standing d)) x) plain [])))
+
+-- "9: Write whose offset, or advance while Deferred or Untouched (0), plus length is above 4,096"; "10: Write as 65th record";
+-- "11: Write taking the log's data above 4,096". "A write of 0 bytes uses a record."
+unfoldable pub writeStep : ℕ → List ℕ → Txn → Prog Stepped
+writeStep d bytes x =
+    check (leb d 15) 6
+    (check (leb (placeNumber (writePlace (x .standing d)) + length bytes) 4096) 9
+    (check (leb (length (x .writes) + 1) 64) 10
+    (check (leb (total (x .writes) + length bytes) 4096) 11
+    (done (accept (written d bytes x) plain [])))))
+
+unfoldable pub pointerStep : ℕ → Txn → Prog Stepped
+pointerStep d x =
+    check (leb d 15) 6
+    (andThen (settling (cond (pointerSettles (x .standing d)) (d ∷ []) []) x)
+    (orGivenBack (λ y. done (accept y (pointer (offsetOf (y .standing d))) []))))
+
+-- The descriptors that a Read through d settles, "in ascending number".
+unfoldable pub settledByRead : (ℕ → ℕ) → ℕ → Txn → List ℕ
+settledByRead fileOf d x = those (λ e. readSettles (eqb (fileOf e) (fileOf d)) (eqb e d) (x .standing e)) 16
+
+-- "A Read of n bytes gives the smaller of n and 4,096 less the offset", "copied to the front of the reader's buffer. The rest of
+-- that buffer is left."
+unfoldable pub readSettled : (ℕ → ℕ) → ℕ → ℕ → List ℕ → Txn → Prog Stepped
+readSettled fileOf d n buffer y =
+    let o = offsetOf (y .standing d) in
+    let m = min n (4096 - o) in
+    andThen (fetch fileOf (y .writes) (fileOf d) o m)
+    (λ bytes. done (accept (restand d (afterRead m (y .standing d)) y) (given m) (bytes ++ drop m buffer)))
+
+-- "7: Read of more bytes than the reader's buffer has."
+unfoldable pub readStep : (ℕ → ℕ) → ℕ → ℕ → List ℕ → Txn → Prog Stepped
+readStep fileOf d n buffer x =
+    check (leb d 15) 6
+    (check (leb n (length buffer)) 7
+    (andThen (settling (settledByRead fileOf d x) x) (orGivenBack (readSettled fileOf d n buffer))))
+
+-- The step of each call, given each descriptor's file.
+unfoldable pub step : (ℕ → ℕ) → Op → Txn → Prog Stepped
+step fileOf (seek d v) x = seekStep d v x
+step fileOf (write d bytes) x = writeStep d bytes x
+step fileOf (getFilePointer d) x = pointerStep d x
+step fileOf (read d n buffer) x = readStep fileOf d n buffer x

@@ -1,0 +1,64 @@
+-- One transaction: its standings and its writes, and how descriptors are settled.
+use mathlib.Core.Bool.{Bool, true, false, cond}
+use mathlib.Core.List.{List, [], _∷_, _++_, map}
+use lib.Dec.{leb, eqb}
+use lib.ListN.{length}
+use Prim.Native.Nat.{ℕ, zero, suc, _+_}
+use Rattle.record.specs.declared.Standing.{Standing}
+use Rattle.record.specs.declared.Standing.the-variants.{Untouched}
+use Rattle.record.specs.Journal.{Place, at, after}
+use Rattle.rules.specs.Items.{Prog, done, ask, offset}
+use Rattle.rules.specs.Standings.{advance, settled}
+
+-- A write: through which descriptor, where, and its bytes.
+pub record Write : Type 0 where
+  pub descriptor : ℕ
+  pub place : Place
+  pub bytes : List ℕ
+
+-- A transaction's standing for each descriptor, and its writes in call order.
+pub record Txn : Type 0 where
+  pub standing : ℕ → Standing
+  pub writes : List Write
+
+-- "Begin opens a transaction with nothing in it, all Untouched."
+unfoldable pub empty : Txn
+empty = record { standing = λ d. Untouched; writes = [] }
+
+-- A function with another value at one number.
+module _ {A : Type 0} where
+  unfoldable pub put : ℕ → A → (ℕ → A) → ℕ → A
+  put d a f e = cond (eqb e d) a (f e)
+
+-- The same transaction with another standing for descriptor d.
+unfoldable pub restand : ℕ → Standing → Txn → Txn
+restand d z x = record { standing = put d z (x .standing); writes = x .writes }
+
+-- "Each write made while the place was unknown now lies at c plus the advance before it."
+unfoldable pub placedAt : ℕ → Place → Place
+placedAt c (at p) = at p
+placedAt c (after a) = at (c + a)
+
+unfoldable pub placeWrite : ℕ → ℕ → Write → Write
+placeWrite d c w =
+    record { descriptor = w .descriptor; place = cond (eqb (w .descriptor) d) (placedAt c (w .place)) (w .place); bytes = w .bytes }
+
+-- Descriptor d settled at committed offset c.
+unfoldable pub settle : ℕ → ℕ → Txn → Txn
+settle d c x = record { standing = put d (settled c (x .standing d)) (x .standing); writes = map (placeWrite d c) (x .writes) }
+
+-- The numbers below n that pass a test, in ascending order.
+unfoldable pub those : (ℕ → Bool) → ℕ → List ℕ
+those p zero = []
+those p (suc n) = those p n ++ cond (p n) (n ∷ []) []
+
+-- How settling ends.
+pub data Settled : Type 0 where
+  past : Settled
+  all : Txn → Settled
+
+-- Settles descriptors in the order given, each at the committed offset that it asks for. "12: settling takes committed offset
+-- plus advance above 4,096."
+unfoldable pub settling : List ℕ → Txn → Prog Settled
+settling [] x = done (all x)
+settling (d ∷ ds) x = ask (offset d) (λ c. cond (leb (c + advance (x .standing d)) 4096) (settling ds (settle d c x)) (done past))

@@ -1,9 +1,268 @@
 // The tests that calls share: the ranges of the record (refusal 2), and refusals 1 to 5 in the table's order.
 
 use record::Refusal;
+use record::Standing;
+use record::Store;
+use record::Transaction;
+ghost use mathlib.Core.Path.{_≡_};
+ghost use mathlib.Core.Bool.{Bool, true, false, not, _&&_, _||_};
+ghost use lib.Dec.{leb, ltb, eqb};
+ghost use lib.ListN.{getD, length};
+ghost use Prim.Native.Nat.{ℕ, _+_, _*_, _<_, _≤_};
+ghost use Rattle.record.specs.Journal.{standingAt};
+ghost use Rattle.ranges.specs.Below.{below, sum};
+ghost use Rattle.ranges.specs.Limits.{limit, limitInRange, Limited, endsBelow, total, transactionOf};
+ghost use Rattle.ranges.specs.Ranges.{standingIn, storeIn, lengthsIn, admission, admissionOfBegin, admissionOfFresh, gateNumber};
 
 // What the tests before a call's own say: go on, or a refusal.
 pub enum Gate {
     Pass,
     Refused(Refusal),
+}
+
+fn wide(x: u16) -> usize
+    ensures { λ r. ⌜ (r ≡ x) × (r ≤ 65535) ⌝ }
+{
+    x as usize
+}
+
+fn wide_octet(x: u8) -> usize
+    ensures { λ r. ⌜ (r ≡ x) × (r ≤ 255) ⌝ }
+{
+    x as usize
+}
+
+// The sixteen file numbers are at most 7.
+fn files_in(files: &[u8]) -> bool
+    requires { ⌜ length (now files) ≡ 16 ⌝ }
+    ensures { λ r. ⌜ r ≡ below (λ d. leb (getD (now (files .entry)) d 0) 7) 16 ⌝ }
+{
+    let mut d = 0;
+    while d < 16 {
+        if files[d] > 7 {
+            return false;
+        }
+        d += 1;
+    }
+    true
+}
+
+// The sixteen committed offsets are at most 4,096.
+fn offsets_in(offsets: &[u16; 16]) -> bool
+    ensures { λ r. ⌜ r ≡ below (λ d. leb (getD (now (offsets .entry)) d 0) 4096) 16 ⌝ }
+{
+    let mut d = 0;
+    while d < 16 {
+        if offsets[d] > 4096 {
+            return false;
+        }
+        d += 1;
+    }
+    true
+}
+
+// Below which number a record without a place has to end under this standing (0: none may stand); 4,098: out of range.
+fn limit_in_range(z: Standing) -> u16
+    ensures { λ r. ⌜ r ≡ limitInRange z ⌝ }
+{
+    match z {
+        Standing::Untouched => 0,
+        Standing::Placed(offset) => {
+            if offset > 4096 {
+                return 4098;
+            }
+            0
+        }
+        Standing::Deferred(advance) => {
+            if advance > 4096 {
+                return 4098;
+            }
+            advance + 1
+        }
+        Standing::Moved { advance, offset } => {
+            if advance > 4096 {
+                return 4098;
+            }
+            if offset > 4096 {
+                return 4098;
+            }
+            advance + 1
+        }
+        Standing::Known(offset) => {
+            if offset > 4096 {
+                return 4098;
+            }
+            0
+        }
+    }
+}
+
+// The standings of transaction x are in range. Writes their limits into the second half of a table with an entry a holder.
+fn limits_in(x: Transaction, room: &mut [u16; 32]) -> bool
+    requires { ⌜ length (now room) ≡ 32 ⌝ }
+    ensures answer { λ r. ⌜ r ≡ below (λ d. standingIn (standingAt x d)) 16 ⌝ }
+    ensures table { λ r. ⌜ (r ≡ true → Limited x (now (room .entry)) (now (room .exit))) ⌝ }
+{
+    let mut d = 0;
+    while d < 16 {
+        let q = x.descriptors[d];
+        let z = q.standing;
+        let n = limit_in_range(z);
+        if n > 4097 {
+            return false;
+        }
+        room[16 + d] = n;
+        d += 1;
+    }
+    true
+}
+
+// The first records of transaction t each end below their holder's entry, and their lengths add to bytes.
+fn records_in<'a>(
+    t: usize,
+    records: usize,
+    bytes: usize,
+    room: &'a [u16; 32],
+    holders: &'a [u8; 512],
+    places: &'a [u16; 512],
+    lengths: &'a [u16; 512],
+) -> bool
+    requires { ⌜ (t < 8) × (records ≤ 64) ⌝ }
+    ensures { λ r. ⌜ r ≡ (below (λ k. endsBelow (now (room .entry)) (now (holders .entry)) (now (places .entry)) (now (lengths .entry)) (64 * t + k)) records && eqb (total (now (lengths .entry)) t records) bytes) ⌝ }
+{
+    let mut sum = 0;
+    let mut k = 0;
+    while k < records {
+        let i = 64 * t + k;
+        let h = wide_octet(holders[i]);
+        if h >= 32 {
+            return false;
+        }
+        let n = wide(lengths[i]);
+        if wide(places[i]) + n >= wide(room[h]) {
+            return false;
+        }
+        sum += n;
+        k += 1;
+    }
+    sum == bytes
+}
+
+// Transaction x, which has number t, is in range.
+fn transaction_in<'a>(
+    x: Transaction,
+    t: usize,
+    holders: &'a [u8; 512],
+    places: &'a [u16; 512],
+    lengths: &'a [u16; 512],
+) -> bool
+    requires { ⌜ t < 8 ⌝ }
+    ensures { λ r. ⌜ r ≡ transactionOf x t (now (holders .entry)) (now (places .entry)) (now (lengths .entry)) ⌝ }
+{
+    if !x.begun {
+        return true;
+    }
+    let records = wide_octet(x.used.records);
+    let bytes = wide(x.used.bytes);
+    if records > 64 {
+        return false;
+    }
+    if bytes > 4096 {
+        return false;
+    }
+    let mut room = [4097u16; 32];
+    if !limits_in(x, &mut room) {
+        return false;
+    }
+    records_in(t, records, bytes, &room, holders, places, lengths)
+}
+
+// The record is in range.
+pub fn store_in(s: Store) -> bool
+    ensures { λ r. ⌜ r ≡ storeIn s ⌝ }
+{
+    if !files_in(&s.files) {
+        return false;
+    }
+    if !offsets_in(&s.offsets) {
+        return false;
+    }
+    let mut t = 0;
+    while t < 8 {
+        let x = s.transactions[t];
+        if !transaction_in(x, t, &s.holders, &s.places, &s.lengths) {
+            return false;
+        }
+        t += 1;
+    }
+    true
+}
+
+// Each store buffer has 32,768 bytes.
+fn lengths_in(files: usize, logs: usize, marks: usize) -> bool
+    ensures { λ r. ⌜ r ≡ lengthsIn files logs marks ⌝ }
+{
+    if files != 32768 {
+        return false;
+    }
+    if logs != 32768 {
+        return false;
+    }
+    marks == 32768
+}
+
+// Refusals 1 to 4, for every call but Fresh and Begin. files, logs and marks are the lengths of the lent buffers.
+pub fn admit(s: Store, files: usize, logs: usize, marks: usize, t: usize) -> Gate
+    ensures { λ r. ⌜ gateNumber r ≡ admission files logs marks s t ⌝ }
+{
+    if !lengths_in(files, logs, marks) {
+        return Gate::Refused(Refusal::BufferLength);
+    }
+    if !store_in(s) {
+        return Gate::Refused(Refusal::RecordRange);
+    }
+    if t > 7 {
+        return Gate::Refused(Refusal::NoSuchTransaction);
+    }
+    let x = s.transactions[t];
+    if x.begun {
+        return Gate::Pass;
+    }
+    Gate::Refused(Refusal::NotOpen)
+}
+
+// Refusals 1 to 3 and 5, for Begin.
+pub fn admit_begin(s: Store, files: usize, logs: usize, marks: usize, t: usize) -> Gate
+    ensures { λ r. ⌜ gateNumber r ≡ admissionOfBegin files logs marks s t ⌝ }
+{
+    if !lengths_in(files, logs, marks) {
+        return Gate::Refused(Refusal::BufferLength);
+    }
+    if !store_in(s) {
+        return Gate::Refused(Refusal::RecordRange);
+    }
+    if t > 7 {
+        return Gate::Refused(Refusal::NoSuchTransaction);
+    }
+    let x = s.transactions[t];
+    if x.begun {
+        return Gate::Refused(Refusal::AlreadyOpen);
+    }
+    Gate::Pass
+}
+
+// Refusals 1 and 14, for Fresh.
+pub fn admit_fresh(files: usize, logs: usize, marks: usize, numbers: &[u8]) -> Gate
+    ensures { λ r. ⌜ gateNumber r ≡ admissionOfFresh files logs marks (now (numbers .entry)) ⌝ }
+{
+    if !lengths_in(files, logs, marks) {
+        return Gate::Refused(Refusal::BufferLength);
+    }
+    if numbers.len() != 16 {
+        return Gate::Refused(Refusal::BufferLength);
+    }
+    if !files_in(numbers) {
+        return Gate::Refused(Refusal::NoSuchFile);
+    }
+    Gate::Pass
 }

@@ -1,3 +1,5 @@
 -- The theorems.
 pub mod Answers
+pub mod Ranges
 pub mod Refusals
+pub mod Theorem

@@ -1,3 +1,4 @@
 pub mod Serial
+pub mod View
 pub mod Cases
 pub mod Demand3

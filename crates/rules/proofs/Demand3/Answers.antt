@@ -21,7 +21,7 @@ pub answer-not-refused : (a : Said) (n : ℕ) → IsAnswer a → a ≡ refused n
 answer-not-refused a n h e = subst IsAnswer e h
 
 abbrev pub Right : Stepped → Type 0
-Right (refuse n) = n ≤ 12
+Right (refuse n) = (6 ≤ n) × (n ≤ 12)
 Right (accept y a b) = IsAnswer a
 
 abbrev pub Always : Prog Stepped → Type 0
@@ -34,7 +34,7 @@ module _ {A : Type 0} where
   always-then (done a) k h = h a
   always-then (ask i f) k h = λ v. always-then (f v) k h
 
-always-check : (ok : Bool) (n : ℕ) (next : Prog Stepped) → n ≤ 12 → Always next → Always (check ok n next)
+always-check : (ok : Bool) (n : ℕ) (next : Prog Stepped) → (6 ≤ n) × (n ≤ 12) → Always next → Always (check ok n next)
 unfolding check
 always-check true n next h a = a
 always-check false n next h a = h

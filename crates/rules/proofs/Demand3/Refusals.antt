@@ -18,7 +18,7 @@ use Rattle.rules.specs.Calls.{Turn, answer, turnDown, passing, fresh, re
 use Rattle.rules.specs.Demand3.{bufferOfCall, Refusals}
 use Rattle.rules.proofs.Demand3.Answers.{IsAnswer, answer-not-refused, Right, always-step, always-result}
 
-refused-same : (m n : ℕ) → refused m ≡ refused n → m ≡ n
+pub refused-same : (m n : ℕ) → refused m ≡ refused n → m ≡ n
 refused-same m n e = cc
 
 -- A turn that leaves everything where it refuses with a number other than 13.
@@ -44,7 +44,7 @@ unfolding served turnDown
 leaves-served t o m is (refuse k) h =
     record {
       leaves = λ n e d. (refl, refl);
-      most = λ n e. subst (λ (j : ℕ). j ≤ 13) (refused-same k n e) (omega (arith, h));
+      most = λ n e. subst (λ (j : ℕ). j ≤ 13) (refused-same k n e) (omega (arith, h .1));
     }
 leaves-served t o m is (accept y a b) h = leaves-answer m (bufferOf o) _ h
 
@@ -103,7 +103,7 @@ not-13 (suc k) buffer m w h f e = let z : suc k ≡ 13 = refused-same (suc k) 13
 
 served-not-13 : (t : ℕ) (o : Op) (m : Machine) (is : List Item) (s : Stepped) → Right s → served t o m is s .reply .answer ≡ refused 13 → ⊥
 unfolding served turnDown
-served-not-13 t o m is (refuse k) h e = let z : k ≡ 13 = refused-same k 13 e in omega (arith, h)
+served-not-13 t o m is (refuse k) h e = let z : k ≡ 13 = refused-same k 13 e in omega (arith, h .1)
 served-not-13 t o m is (accept y a b) h e = answer-not-refused a 13 h e
 
 decided-ends : (t : ℕ) (ss : List Setting) (m : Machine) (stale placed : Bool) → commitDecided t ss m (commitRefusal stale placed) .reply .answer ≡ refused 13 → commitDecided t ss m (commitRefusal stale placed) .after ≡ reset t ended m

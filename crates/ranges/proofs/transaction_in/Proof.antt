@@ -1,0 +1,61 @@
+use Prim.Native.Nat.{ℕ, _+_, _-_, _*_, _≤_, _<_}
+use mathlib.Core.Path.{_≡_, refl, sym, ap, _∙_}
+use mathlib.Core.Bool.{Bool, true, false, _&&_}
+use native.Mathlib.Omega.{arith}
+use lib.Dec.{leb, ltb, eqb}
+use lib.ListN.{length, getD}
+use borrow.Author.Tests.{lt-leb, le-leb, lt-ltb, le-ltb, eq-eqb, ne-eqb}
+use Rattle.ranges.specs.Below.{below, sum}
+use Rattle.ranges.proofs.Laws.{below-zero, below-more, below-fails, below-at, below-same, failed, held}
+use borrow.Author.Needs.{needs}
+use borrow.Author.Tests.{not-false}
+use lib.ListN.{getD-replicate}
+use Rattle.ranges.proofs.Limits.{closed-in, records-fail, bytes-fail, standings-fail, records-decide}
+use borrow.Author.Needs.{needs}
+use Rattle.ranges.proofs.transaction_in.Statement.{statement}
+use Rattle.ranges.proofs.transaction_in.Tie as tie
+
+returns : tie.Need-returns
+returns c = closed-in _ _ _ _ _ (c .if1 .taken)
+
+wide-octet-requires : tie.Need-wide-octet-requires
+wide-octet-requires c κs = search needs
+
+wide-requires : tie.Need-wide-requires
+wide-requires c κs = search needs
+
+returns-2 : tie.Need-returns-2
+returns-2 c = records-fail _ _ _ _ _ (c .before .before .before .if1 .left) _ (c .before .before .wide-octet .ensures .0) (c .if2 .taken)
+
+returns-3 : tie.Need-returns-3
+returns-3 c = bytes-fail _ _ _ _ _ (c .before .before .before .before .if1 .left) _ _ (c .before .before .before .wide-octet .ensures .0) (c .before .before .wide .ensures .0) (c .before .if2 .left) (c .if3 .taken)
+
+limits-in-requires : tie.Need-limits-in-requires
+limits-in-requires c κs = search needs
+
+returns-4 : tie.Need-returns-4
+returns-4 c =
+    standings-fail _ _ _ _ _ (c .before .before .before .before .before .before .before .if1 .left) _ _ (c .before .before .before .before .before .before .wide-octet .ensures .0) (c .before .before .before .before .before .wide .ensures .0) (c .before .before .before .before .if2 .left) (c .before .before .before .if3 .left)
+    (failed (c .before .limits-in .ensures .0) (c .if4 .taken))
+
+records-in-requires : tie.Need-records-in-requires
+records-in-requires c κs = search needs
+
+returns-5 : tie.Need-returns-5
+returns-5 c =
+    records-decide _ _ _ _ _ (c .before .before .before .before .before .before .before .before .before .if1 .left) _ _ (c .before .before .before .before .before .before .before .before .wide-octet .ensures .0) (c .before .before .before .before .before .before .before .wide .ensures .0) (c .before .before .before .before .before .before .if2 .left) (c .before .before .before .before .before .if3 .left)
+    _ _ _ (held (c .before .before .before .limits-in .ensures .0) (c .before .before .if4 .left)) (λ k l. getD-replicate 32 k 4097 0 (omega arith)) (c .before .before .before .limits-in .ensures .1 (not-false _ (c .before .before .if4 .left))) (c .records-in .ensures)
+
+pub transaction-in-spec : {M : Type 1} → statement M
+transaction-in-spec =
+    tie.close
+    (tie.spec
+    returns
+    wide-octet-requires
+    wide-requires
+    returns-2
+    returns-3
+    limits-in-requires
+    returns-4
+    records-in-requires
+    returns-5)

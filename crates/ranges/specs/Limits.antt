@@ -1,0 +1,58 @@
+-- Check 2 of one transaction, read off the transaction and the three arrays of write records alone, with a table of limits.
+use mathlib.Core.Bool.{Bool, cond, not, _&&_, _||_}
+use mathlib.Core.List.{List}
+use mathlib.Core.Path.{_≡_}
+use lib.Dec.{leb, ltb, eqb}
+use lib.ListN.{getD, length}
+use Prim.Native.Nat.{ℕ, _+_, _*_, _<_}
+use Rattle.record.specs.declared.Standing.{Standing}
+use Rattle.record.specs.declared.Standing.the-variants.{Untouched, Placed, Deferred, Moved, Known}
+use Rattle.record.specs.declared.Transaction.{Transaction}
+use Rattle.record.specs.Journal.{holderDescriptor, holderPlace, standingAt}
+use Rattle.ranges.specs.Below.{below, sum}
+use Rattle.ranges.specs.Ranges.{standingIn, placeIn}
+
+-- A record without a place has to end below this number, by its descriptor's standing; 0 where none may stand.
+unfoldable pub limit : Standing → ℕ
+limit Untouched = 0
+limit (Placed o) = 0
+limit (Deferred a) = a + 1
+limit (Moved a o) = a + 1
+limit (Known o) = 0
+
+-- The limit of a standing in range; 4,098 of any other.
+unfoldable pub limitInRange : Standing → ℕ
+limitInRange z = cond (standingIn z) (limit z) 4098
+
+-- A table's second half takes the limits of the sixteen descriptors; its first half is kept.
+pub record Limited (x : Transaction) (before after : List ℕ) : Type 0 where
+  pub long : length after ≡ 32
+  pub kept : (k : ℕ) → k < 16 → getD after k 0 ≡ getD before k 0
+  pub limits : (d : ℕ) → d < 16 → getD after (16 + d) 0 ≡ limit (standingAt x d)
+
+-- The record at place i of the three arrays: its holder has an entry in the table, and it ends below that entry.
+unfoldable pub endsBelow : List ℕ → List ℕ → List ℕ → List ℕ → ℕ → Bool
+endsBelow room holders places lengths i =
+    ltb (getD holders i 0) 32 && ltb (getD places i 0 + getD lengths i 0) (getD room (getD holders i 0) 0)
+
+-- The lengths of transaction t's first n records.
+unfoldable pub total : List ℕ → ℕ → ℕ → ℕ
+total lengths t n = sum (λ k. getD lengths (64 * t + k) 0) n
+
+-- `recordIn`, `journalIn` and `transactionIn` of transaction x with number t.
+unfoldable pub recordOf : Transaction → List ℕ → List ℕ → List ℕ → ℕ → Bool
+recordOf x holders places lengths i =
+    let h = getD holders i 0 in
+    let d = holderDescriptor h in
+    leb d 15 && placeIn (standingAt x d) (holderPlace h (getD places i 0)) (getD lengths i 0)
+
+unfoldable pub journalOf : Transaction → ℕ → List ℕ → List ℕ → List ℕ → Bool
+journalOf x t holders places lengths =
+    let u = x .used in
+    leb (u .records) 64 && below (λ k. recordOf x holders places lengths (64 * t + k)) (u .records)
+    && eqb (total lengths t (u .records)) (u .bytes)
+    && leb (u .bytes) 4096
+
+unfoldable pub transactionOf : Transaction → ℕ → List ℕ → List ℕ → List ℕ → Bool
+transactionOf x t holders places lengths =
+    not (x .begun) || (below (λ d. standingIn (standingAt x d)) 16 && journalOf x t holders places lengths)

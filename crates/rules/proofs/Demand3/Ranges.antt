@@ -1,0 +1,83 @@
+-- A sound store meets neither 1 nor 2.
+use mathlib.Core.Bool.{Bool, true, false, cond, not}
+use mathlib.Core.List.{List, []}
+use mathlib.Core.Path.{_≡_, refl, sym, ap, _∙_, subst, subst⁻¹}
+use borrow.Author.Tests.{eq-eqb}
+use lib.Dec.{leb}
+use lib.ListN.{length}
+use native.Mathlib.Omega.{arith}
+use Prim.Native.Nat.{ℕ, zero, suc, _≤_}
+use Rattle.record.specs.Journal.{transaction}
+use Rattle.record.specs.Paper.{Said, plain, refused}
+use Rattle.ranges.specs.Ranges.{unless, shared, lengthsIn, storeIn, admission, admissionOfBegin}
+use Rattle.rules.specs.Items.{Item}
+use Rattle.rules.specs.Steps.{Op, bufferOf, Stepped, refuse, accept}
+use Rattle.rules.specs.Commits.{Setting, commitRefusal}
+use Rattle.rules.specs.Plain.{Call, begin, on, commit, abort}
+use Rattle.rules.specs.Machine.{Machine, fileOf, txnOf}
+use Rattle.rules.specs.Calls.{Turn, answer, turnDown, passing, beginTurn, abortTurn, served, stepTurn, commitGranted, commitDecided, commitTurn, admitted, call}
+use Rattle.rules.proofs.View.Shape.{Sound}
+use Rattle.rules.proofs.View.Admissions.{shared-is}
+use Rattle.rules.proofs.Demand3.Answers.{IsAnswer, answer-not-refused, Right, always-step, always-result}
+use Rattle.rules.proofs.Demand3.Refusals.{refused-same}
+
+-- A refusal, if it is one, with a number of at least 3.
+abbrev Late : Said → Type 0
+Late a = (n : ℕ) → a ≡ refused n → 3 ≤ n
+
+late-answer : (a : Said) → IsAnswer a → Late a
+late-answer a h = λ n e. absurd (answer-not-refused a n h e)
+
+late-passing : (k : ℕ) (buffer : List ℕ) (m : Machine) (w : Turn) → ((j : ℕ) → k ≡ suc j → 3 ≤ k) → Late (w .reply .answer) → Late (passing k buffer m w .reply .answer)
+unfolding passing turnDown
+late-passing zero buffer m w h l = l
+late-passing (suc k) buffer m w h l = λ n e. subst (λ (j : ℕ). 3 ≤ j) (refused-same (suc k) n e) (h k refl)
+
+late-served : (t : ℕ) (o : Op) (m : Machine) (is : List Item) (s : Stepped) → Right s → Late (served t o m is s .reply .answer)
+unfolding served turnDown
+late-served t o m is (refuse k) h = λ n e. let z : k ≡ n = refused-same k n e in omega (arith, h .0)
+late-served t o m is (accept y a b) h = late-answer _ h
+
+late-decided : (t : ℕ) (ss : List Setting) (m : Machine) (stale placed : Bool) → Late (commitDecided t ss m (commitRefusal stale placed) .reply .answer)
+unfolding commitDecided commitRefusal commitGranted
+late-decided t ss m true placed = λ n e. let z : 13 ≡ n = refused-same 13 n e in omega arith
+late-decided t ss m false true = late-answer _ tt
+late-decided t ss m false false = λ n e. let z : 12 ≡ n = refused-same 12 n e in omega arith
+
+late-unless : (b c : Bool) (k : ℕ) → 3 ≤ k → (j : ℕ) → unless b 3 (unless c k 0) ≡ suc j → 3 ≤ unless b 3 (unless c k 0)
+unfolding unless
+late-unless true true k h j e = absurd (let z : _≡_ {A = ℕ} 0 (suc j) = e in omega arith)
+late-unless true false k h j e = h
+late-unless false c k h j e = omega arith
+
+module _ (m : Machine) (sound : Sound m) (t : ℕ) where
+  late-admitted : (buffer : List ℕ) (w : Turn) → Late (w .reply .answer) → Late (admitted t buffer m w .reply .answer)
+  unfolding admitted admission
+  late-admitted buffer w l =
+      late-passing _ buffer m w
+      (subst⁻¹ (λ (k : ℕ). (j : ℕ) → k ≡ suc j → 3 ≤ k) (shared-is m t sound (unless (transaction (m .store) t .begun) 4 0))
+      (late-unless (leb t 7) (transaction (m .store) t .begun) 4 (omega arith)))
+      l
+
+  late-begin : Late (call (begin t) m .reply .answer)
+  unfolding call beginTurn answer admissionOfBegin
+  late-begin =
+      late-passing _ [] m (beginTurn t m)
+      (subst⁻¹ (λ (k : ℕ). (j : ℕ) → k ≡ suc j → 3 ≤ k) (shared-is m t sound (unless (not (transaction (m .store) t .begun)) 5 0))
+      (late-unless (leb t 7) (not (transaction (m .store) t .begun)) 5 (omega arith)))
+      (late-answer _ tt)
+
+late-call : (c : Call) (m : Machine) → Sound m → Late (call c m .reply .answer)
+unfolding call abortTurn answer stepTurn commitTurn
+late-call (begin t) m s = late-begin m s t
+late-call (on t o) m s =
+    late-admitted m s t (bufferOf o) (stepTurn t o m)
+    (late-served t o m _ _ (always-result _ _ (always-step (fileOf (m .store)) o (txnOf (m .store) (m .logs) t))))
+late-call (commit t) m s = late-admitted m s t [] (commitTurn t m) (late-decided t _ m _ _)
+late-call (abort t) m s = late-admitted m s t [] (abortTurn t m) (late-answer _ tt)
+
+pub never-early : (c : Call) (m : Machine) → Sound m → (call c m .reply .answer ≡ refused 2 → ⊥) × (call c m .reply .answer ≡ refused 1 → ⊥)
+never-early c m s = (
+  λ e. let z : 3 ≤ 2 = late-call c m s 2 e in omega arith,
+  λ e. let z : 3 ≤ 1 = late-call c m s 1 e in omega arith,
+)

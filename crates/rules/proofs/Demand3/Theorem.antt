@@ -1,0 +1,201 @@
+-- Demand 3: the rules on records and buffers, and the code that keeps its promises.
+use mathlib.Core.Bool.{Bool, true, false, cond, _&&_, and-true, and-false}
+use mathlib.Core.List.{List, [], _∷_, map}
+use mathlib.Core.Logic.{_↔_}
+use mathlib.Core.Path.{_≡_, refl, sym, ap, ap₂, _∙_, subst, subst⁻¹}
+use borrow.Author.Tests.{le-leb}
+use lib.Dec.{leb, eqb}
+use lib.ListN.{length, getD}
+use native.Mathlib.Omega.{arith}
+use Prim.Native.Nat.{ℕ, zero, suc, _≤_, _<_}
+use Rattle.record.specs.declared.Answer.{Answer}
+use Rattle.record.specs.Journal.{transaction}
+use Rattle.record.specs.Paper.{Said, plain, pointer, given, granted, refused, said}
+use Rattle.ranges.specs.Ranges.{admission, admissionOfFresh}
+use Rattle.ranges.proofs.Laws.{AdmittedFresh, admitted-fresh}
+use Rattle.rules.specs.Commits.{fits, commitRefusal}
+use Rattle.rules.specs.Plain.{Call, begin, on, commit, abort, Reply, Slot, closed, running, Running, Plain, freshPlain, isStale, PlainTurn, turnedDown, answering, grant, becameStale, plainCommitted, plainCommit, numbered, plainCall, plainAfter, plainReplies, firstList, secondList, grantsOf}
+use Rattle.rules.specs.Serial.{serially, AllSame}
+use Rattle.rules.specs.Machine.{Machine, values}
+use Rattle.rules.specs.Calls.{Turn, answer, turnDown, passing, freshMachine, fresh, call, callsAfter, callsReplies}
+use Rattle.rules.specs.Promises.{lent, Meets}
+use Rattle.rules.specs.Demand3.{FreshlyMade, isRunning, Holds, Demand3, Made, kept, Linked, lastOf, replyOf, CodeHolds, Demand3OfCode}
+use Rattle.rules.proofs.Serial.Sighted.{Held, Seat, vacant, held, Sighted, freshSighted, SightedTurn, sightedCall, sightedAfter, sightedReplies}
+use Rattle.rules.proofs.Serial.FirstHalf.{abs, absTurn, seatOf}
+use Rattle.rules.proofs.Serial.Theorem.{Tells, replies-same, state-same, turn-same, store-commit, serial-same, serial-left}
+use Rattle.rules.proofs.View.Shape.{Sound, heldBy, seat, view}
+use Rattle.rules.proofs.View.Admissions.{Agrees}
+use Rattle.rules.proofs.View.StepTurn.{step-turn}
+use Rattle.rules.proofs.View.EndTurns.{begin-turn, abort-turn, commit-turn}
+use Rattle.rules.proofs.View.FreshView.{fresh-sound, fresh-view}
+use Rattle.rules.proofs.Demand3.Answers.{IsAnswer, answer-not-refused}
+use Rattle.rules.proofs.Demand3.Ranges.{never-early}
+
+-- Every call agrees with that of the store without its buffers.
+call-turn : (c : Call) (m : Machine) → Sound m → Agrees (call c m) (sightedCall c (view m))
+call-turn (begin t) m s = begin-turn m t s
+call-turn (on t o) m s = step-turn m t o s
+call-turn (commit t) m s = commit-turn m t s
+call-turn (abort t) m s = abort-turn m t s
+
+-- .. and so does every list of calls.
+pub record Agree (cs : List Call) (m : Machine) : Type 0 where
+  pub replies : callsReplies cs m ≡ sightedReplies cs (view m)
+  pub state : view (callsAfter cs m) ≡ sightedAfter cs (view m)
+  pub sound : Sound (callsAfter cs m)
+
+calls-agree : (cs : List Call) (m : Machine) → Sound m → Agree cs m
+unfolding callsReplies callsAfter sightedReplies sightedAfter
+calls-agree [] m s = record { replies = refl; state = refl; sound = s }
+calls-agree (c ∷ cs) m s =
+    let a = call-turn c m s in
+    let r = calls-agree cs (call c m .after) (a .2) in
+    record {
+      replies = ap₂ (λ (x : Reply) (xs : List Reply). x ∷ xs) (a .0) (r .replies ∙ ap (sightedReplies cs) (a .1));
+      state = r .state ∙ ap (sightedAfter cs) (a .1);
+      sound = r .sound;
+    }
+
+-- An accepted Fresh passed its tests, and leaves the fresh store.
+fresh-passed : (k : ℕ) (m : Machine) (w : Turn) → passing k [] m w .reply .answer ≡ plain → k ≡ 0
+unfolding passing turnDown
+fresh-passed zero m w e = refl
+fresh-passed (suc k) m w e = absurd (answer-not-refused plain (suc k) tt (sym e))
+
+pub record FreshFacts (numbers : List ℕ) (m : Machine) : Type 0 where
+  pub sound : Sound m
+  pub same : view m ≡ freshSighted (λ d. getD numbers d 0)
+
+fresh-facts : (numbers : List ℕ) (m : Machine) → FreshlyMade numbers m → FreshFacts numbers m
+unfolding fresh answer passing
+fresh-facts numbers m f =
+    let b = f .before in
+    let k = admissionOfFresh (length (b .files)) (length (b .logs)) (length (b .marks)) numbers in
+    let z : k ≡ 0 = fresh-passed k b (answer plain (freshMachine numbers (b .logs))) (f .accepted) in
+    let a = admitted-fresh (length (b .files)) (length (b .logs)) (length (b .marks)) numbers z in
+    let e : m ≡ freshMachine numbers (b .logs) = f .left ∙ ap (λ (n : ℕ). passing n [] b (answer plain (freshMachine numbers (b .logs))) .after) z in
+    record {
+      sound = subst⁻¹ (λ (x : Machine). Sound x) e (fresh-sound numbers (b .logs) (a .sixteen) (a .numbers) (a .lengths .logs));
+      same = ap view e ∙ fresh-view numbers (b .logs);
+    }
+
+-- Whether a seat is taken.
+taken : Seat → Bool
+taken vacant = false
+taken (held h) = true
+
+seat-taken : (b : Bool) (h : Held) → taken (cond b (held h) vacant) ≡ b
+unfolding taken
+seat-taken true h = refl
+seat-taken false h = refl
+
+slot-taken : (p : Plain) (s : Slot) → taken (seatOf p s) ≡ isRunning s
+unfolding taken seatOf isRunning
+slot-taken p closed = refl
+slot-taken p (running r) = refl
+
+open-same : (m : Machine) (p : Plain) → view m ≡ abs p → (t : ℕ) → t ≤ 7 → transaction (m .store) t .begun ≡ isRunning (p .slots t)
+unfolding view seat abs
+open-same m p e t l =
+    sym (ap (λ (b : Bool). b && transaction (m .store) t .begun) (le-leb t 7 l))
+    ∙ sym (seat-taken (leb t 7 && transaction (m .store) t .begun) (heldBy m t))
+    ∙ ap (λ (s : Sighted). taken (s .seats t)) e
+    ∙ slot-taken p (p .slots t)
+
+-- The number of a granted Commit on the plain machine.
+numberOf : Said → ℕ
+numberOf plain = 0
+numberOf (pointer o) = 0
+numberOf (given n) = 0
+numberOf (granted n) = n
+numberOf (refused n) = 0
+
+pub record Counted (p : Plain) (τ : PlainTurn) : Type 0 where
+  pub count : (n : ℕ) → τ .reply .answer ≡ granted n → n ≡ becameStale p (τ .after) 8
+
+not-counted : (p : Plain) (τ : PlainTurn) (k : ℕ) → τ .reply .answer ≡ refused k → Counted p τ
+not-counted p τ k e = record { count = λ n g. absurd (answer-not-refused (granted n) k tt (sym g ∙ e)) }
+
+counted-decided : (t : ℕ) (r : Running) (p : Plain) (stale placed : Bool) → Counted p (plainCommitted t r p (commitRefusal stale placed))
+unfolding plainCommitted commitRefusal answering numberOf
+counted-decided t r p true placed = not-counted p _ 13 refl
+counted-decided t r p false true = record { count = λ n g. sym (ap numberOf g) }
+counted-decided t r p false false = not-counted p _ 12 refl
+
+counted-slot : (t : ℕ) (s : Slot) (p : Plain) → Counted p (plainCommit t s p)
+unfolding plainCommit turnedDown
+counted-slot t closed p = not-counted p _ 4 refl
+counted-slot t (running r) p = counted-decided t r p _ _
+
+counted : (b : Bool) (t : ℕ) (p : Plain) → Counted p (cond b (plainCommit t (p .slots t) p) (turnedDown 3 [] p))
+unfolding turnedDown
+counted true t p = counted-slot t (p .slots t) p
+counted false t p = not-counted p _ 3 refl
+
+counted-commit : (t : ℕ) (p : Plain) → Counted p (plainCall (commit t) p)
+unfolding plainCall numbered
+counted-commit t p = counted (leb t 7) t p
+
+pub demand3 : Demand3
+unfolding view abs absTurn freshPlain
+demand3 numbers m₀ made cs =
+    let F : ℕ → ℕ = λ d. getD numbers d 0 in
+    let f = fresh-facts numbers m₀ made in
+    let a = calls-agree cs m₀ (f .sound) in
+    let m = callsAfter cs m₀ in
+    let p = plainAfter cs (freshPlain F) in
+    let e : view m ≡ sightedAfter cs (freshSighted F) = a .state ∙ ap (sightedAfter cs) (f .same) in
+    let same : view m ≡ abs p = e ∙ state-same F cs in
+    let turn : (c : Call) → call c m .reply ≡ sightedCall c (sightedAfter cs (freshSighted F)) .reply =
+    λ c. call-turn c m (a .sound) .0 ∙ ap (λ (s : Sighted). sightedCall c s .reply) e in
+    record {
+      replies = a .replies ∙ ap (sightedReplies cs) (f .same) ∙ replies-same F cs;
+      openness = open-same m p same;
+      staleness = λ t r l o. subst⁻¹ (λ (x : Reply). (x .answer ≡ refused 13 → ⊥) ↔ (firstList r ≡ secondList p r)) (turn (commit t)) (store-commit F cs t r o .passes);
+      number = λ t n g. counted-commit t p .count n (sym (ap (λ (x : Reply). x .answer) (turn (commit t) ∙ ap (λ (τ : SightedTurn). τ .reply) (turn-same F cs (commit t)))) ∙ g);
+      again = serial-same F cs;
+      left = ap (λ (s : Sighted). s .value) same ∙ sym (ap (λ (c : Rattle.rules.specs.Plain.Committed). c .value) (serial-left F cs));
+      ranges = λ c. never-early c m (a .sound);
+    }
+
+-- Calls of the code that keep their promises are calls of the rules.
+machine-same : (w : Turn) (r : Answer) (files logs marks reader : List ℕ) → Meets w r files logs marks reader → lent (r .store) files logs marks ≡ w .after
+machine-same w r files logs marks reader k = λ i. record { store = k .store i; files = k .files i; logs = k .logs i; marks = k .marks i }
+
+pub record LinkedFacts (m : Machine) (xs : List Made) : Type 0 where
+  pub replies : map replyOf xs ≡ callsReplies (map (λ x. x .made) xs) m
+  pub last : lastOf m xs ≡ callsAfter (map (λ x. x .made) xs) m
+
+reply-same : (w : Turn) (x : Made) → Meets w (x .answer) (x .files) (x .logs) (x .marks) (x .reader) → replyOf x ≡ w .reply
+unfolding replyOf
+reply-same w x k = λ i. record { answer = k .outcome i; buffer = k .reader i }
+
+linked-facts : (xs : List Made) (m : Machine) → Linked m xs → LinkedFacts m xs
+unfolding Linked lastOf callsReplies callsAfter kept
+linked-facts [] m l = record { replies = refl; last = refl }
+linked-facts (x ∷ xs) m l =
+    let r = linked-facts xs (kept x) (l .1) in
+    let e : kept x ≡ call (x .made) m .after = machine-same (call (x .made) m) (x .answer) (x .files) (x .logs) (x .marks) (x .reader) (l .0) in
+    let cs = map (λ (y : Made). y .made) xs in
+    record {
+      replies =
+          ap₂ (λ (y : Reply) (ys : List Reply). y ∷ ys) (reply-same (call (x .made) m) x (l .0)) (r .replies ∙ ap (callsReplies cs) e);
+      last = r .last ∙ ap (callsAfter cs) e;
+    }
+
+pub demand3-of-code : Demand3OfCode
+demand3-of-code numbers before r files logs marks k accepted xs linked =
+    let m₀ = lent (r .store) files logs marks in
+    let made : FreshlyMade numbers m₀ =
+    record {
+      before = before;
+      accepted = sym (k .outcome) ∙ accepted;
+      left = machine-same (fresh numbers before) r files logs marks [] k;
+    } in
+    let cs = map (λ (x : Made). x .made) xs in
+    let l = linked-facts xs m₀ linked in
+    let h = demand3 numbers m₀ made cs in
+    record {
+      replies = l .replies ∙ h .replies;
+      holds = subst⁻¹ (λ (m : Machine). Holds m₀ (freshPlain (λ d. getD numbers d 0)) cs m (plainAfter cs (freshPlain (λ d. getD numbers d 0)))) (l .last) h;
+    }

@@ -1,0 +1,23 @@
+-- The rules on records and buffers are those of the store without its buffers.
+pub mod Accepted
+pub mod Admissions
+pub mod Asked
+pub mod Conflicts
+pub mod Decode
+pub mod Encode
+pub mod EndTurns
+pub mod Endings
+pub mod FreshView
+pub mod Grants
+pub mod Kept
+pub mod Landing
+pub mod Logged
+pub mod Marks
+pub mod Others
+pub mod Renewed
+pub mod Resets
+pub mod SettingsIn
+pub mod Shape
+pub mod StandingRanges
+pub mod StepTurn
+pub mod Tables

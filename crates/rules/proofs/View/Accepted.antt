@@ -1,0 +1,171 @@
+-- An accepted step on a store in range: what the record and the buffers mean after it, and that they stay in range.
+use mathlib.Core.Bool.{Bool, true, false, cond, _&&_}
+use mathlib.Core.List.{List}
+use mathlib.Core.Logic.{⊎-elim}
+use mathlib.Core.Path.{_≡_, refl, sym, ap, ap₂, _∙_, fun-ext}
+use borrow.Author.Tests.{leb-true, le-leb, eq-eqb, ne-eqb}
+use lib.Dec.{leb, eqb}
+use lib.ListN.{length, getD, List·getD-eq-default}
+use native.Mathlib.Omega.{arith}
+use Prim.Native.Nat.{ℕ, _*_, _≤_, _<_}
+use Rattle.octets.proofs.PartLaws.{le-or-lt}
+use Rattle.record.specs.declared.Transaction.{Transaction}
+use Rattle.record.specs.declared.Store.{Store}
+use Rattle.record.specs.Journal.{transaction}
+use Rattle.record.specs.Paper.{Said}
+use Rattle.ranges.proofs.Laws.{and-left, and-right, InRange, in-range}
+use Rattle.rules.specs.Items.{Item, byte, offset, Values, result, asked}
+use Rattle.rules.specs.Transactions.{Txn, put}
+use Rattle.rules.specs.Steps.{Op, accept, step}
+use Rattle.rules.specs.Machine.{Machine, fileOf, values, txnOf, withTransaction, withRecords, withTxn, holding}
+use Rattle.rules.specs.Calls.{marked, logged}
+use Rattle.rules.proofs.Serial.Sighted.{Held, vacant, held, markAll, withSeat}
+use Rattle.rules.proofs.View.Shape.{heldBy, seat, view, Sound, TxnIn}
+use Rattle.rules.proofs.View.Tables.{same-or-not}
+use Rattle.rules.proofs.View.Marks.{ItemsIn, length-marked, marked-own, marked-other, marked-octets}
+use Rattle.rules.proofs.View.Asked.{asked-in}
+use Rattle.rules.proofs.View.Kept.{pieces, piecesAfter, Kept, step-kept}
+use Rattle.rules.proofs.View.Decode.{dataBefore, Carries, total-pieces, decoded-total, decoded-carries, decoded-in}
+use Rattle.rules.proofs.View.Others.{LogsApart, txn-same}
+use Rattle.rules.proofs.View.Encode.{own-transaction, encoded, other-same, encoded-in, encoded-shaped}
+use Rattle.rules.proofs.View.Logged.{logged-carries, logged-apart}
+
+-- "files at most 7", of every number.
+file-in : (s : Store) → length (s .files) ≡ 16 → InRange s → (d : ℕ) → fileOf s d ≤ 7
+unfolding fileOf
+file-in s size r d = ⊎-elim beyond (r .files d) (le-or-lt 16 d)
+  where
+    beyond : 16 ≤ d → getD (s .files) d 0 ≤ 7
+    beyond l = rw (List·getD-eq-default (s .files) 0 {n = d} (omega arith)) (omega arith)
+
+-- What is vacant stays so, and what is held is the same.
+seat-same : (b : Bool) (g h : Held) → (b ≡ true → g ≡ h) → cond b (held g) vacant ≡ cond b (held h) vacant
+seat-same true g h e = ap held (e refl)
+seat-same false g h e = refl
+
+-- What a step of transaction t asks for.
+unfoldable pub sightings : Machine → ℕ → Op → List Item
+sightings m t o = asked (values (m .store) (m .files)) (step (fileOf (m .store)) o (txnOf (m .store) (m .logs) t))
+
+-- The store after a step that is accepted and leaves y, and transaction t then.
+unfoldable pub machineAfter : Machine → ℕ → Op → Txn → Machine
+machineAfter m t o y =
+    record {
+      store = withTxn t y (m .store);
+      files = m .files;
+      logs = logged t o (m .store) (m .logs);
+      marks = marked t (sightings m t o) (m .marks);
+    }
+
+unfoldable pub heldAfter : Machine → ℕ → Op → Txn → Held
+heldAfter m t o y =
+    record { txn = y; marked = markAll (sightings m t o) (heldBy m t .marked); stale = transaction (m .store) t .stale }
+
+module _ (m : Machine) (t : ℕ) (o : Op) (sound : Sound m) (small : t < 8) (begun : transaction (m .store) t .begun ≡ true) where
+  abbrev v : Values
+  v = values (m .store) (m .files)
+
+  abbrev x : Txn
+  x = txnOf (m .store) (m .logs) t
+
+  range : InRange (m .store)
+  range = in-range (m .store) (sound .inRange)
+
+  sightings-in : ItemsIn (sightings m t o)
+  unfolding sightings
+  sightings-in = asked-in v (fileOf (m .store)) (file-in (m .store) (sound .shaped .files) range) o x
+
+  txn-in : TxnIn x
+  txn-in = decoded-in (m .store) (m .logs) t (sound .logs) small (range .transactions t small begun) (sound .shaped .descriptors t small)
+
+  data-used : dataBefore (pieces (x .writes)) (length (pieces (x .writes))) ≡ transaction (m .store) t .used .bytes
+  data-used = sym (total-pieces (x .writes)) ∙ decoded-total (m .store) (m .logs) t (sound .logs) small (range .transactions t small begun)
+
+  module _ (y : Txn) (a : Said) (b : List ℕ) (e : result v (step (fileOf (m .store)) o x) ≡ accept y a b) where
+    abbrev after : Machine
+    after = machineAfter m t o y
+
+    abbrev new : Held
+    new = heldAfter m t o y
+
+    kept : Kept (piecesAfter o (pieces (x .writes))) y
+    kept = step-kept (fileOf (m .store)) v o x y a b txn-in e
+
+    data-in : dataBefore (piecesAfter o (pieces (x .writes))) (length (piecesAfter o (pieces (x .writes)))) ≤ 4096
+    data-in = rw (← kept .same, ← total-pieces (y .writes)) (kept .ranges .bytes)
+
+    carries : Carries (logged t o (m .store) (m .logs)) (4096 * t) (pieces (y .writes))
+    carries =
+        rw (kept .same)
+        (logged-carries (m .store) t (m .logs) (pieces (x .writes)) small (sound .logs) data-used o data-in
+        (decoded-carries (m .store) (m .logs) t (sound .logs) small (range .transactions t small begun)))
+
+    apart : LogsApart t (logged t o (m .store) (m .logs)) (m .logs)
+    apart = logged-apart (m .store) t (m .logs) (pieces (x .writes)) small (sound .logs) data-used o data-in
+
+    pub sound-after : Sound after
+    unfolding machineAfter
+    sound-after =
+        record {
+          shaped = encoded-shaped (m .store) t y (sound .shaped) small (kept .ranges);
+          files = sound .files;
+          logs = apart .size ∙ sound .logs;
+          marks = length-marked t (sightings m t o) (m .marks) ∙ sound .marks;
+          octets = marked-octets t (sightings m t o) (m .marks) small (sound .marks) sightings-in (sound .octets);
+          inRange = encoded-in (m .store) t y (sound .shaped) small (kept .ranges) (sound .inRange);
+        }
+
+    own-held : heldBy after t ≡ new
+    unfolding machineAfter heldAfter heldBy holding
+    own-held =
+        let h = own-transaction (m .store) t y (sound .shaped) small (kept .ranges) in
+        λ i.
+        record {
+          txn = encoded (m .store) t y (sound .shaped) small (kept .ranges) (logged t o (m .store) (m .logs)) carries i;
+          marked = marked-own t (sightings m t o) (m .marks) (sound .marks) sightings-in i;
+          stale = h i .stale;
+        }
+
+    own-seat : seat after t ≡ held new
+    unfolding seat machineAfter holding
+    own-seat =
+        let h = own-transaction (m .store) t y (sound .shaped) small (kept .ranges) in
+        ap (λ (c : Bool). cond c (held (heldBy after t)) vacant)
+        (ap₂ (λ (p q : Bool). p && q) (le-leb t 7 (omega arith)) (ap (λ (z : Transaction). z .begun) h ∙ begun))
+        ∙ ap held own-held
+
+    other-seat : (u : ℕ) → (u ≡ t → ⊥) → seat after u ≡ seat m u
+    unfolding seat machineAfter heldBy
+    other-seat u other =
+        let same = other-same (m .store) t y (sound .shaped) small (kept .ranges) u other in
+        ap (λ (z : Transaction). cond (leb u 7 && z .begun) (held (heldBy after u)) vacant) (same .transaction)
+        ∙ seat-same (leb u 7 && transaction (m .store) u .begun) (heldBy after u) (heldBy m u)
+        (λ q.
+        let l = leb-true u 7 (and-left (leb u 7) (transaction (m .store) u .begun) q) in
+        let r = range .transactions u (omega arith) (and-right (leb u 7) (transaction (m .store) u .begun) q) in
+        λ i.
+        record {
+          txn =
+              txn-same (withTxn t y (m .store)) (m .store) u same t (logged t o (m .store) (m .logs)) (m .logs) apart (sound .logs) other (omega arith) r i;
+          marked = λ p. eqb (marked-other t u (sightings m t o) (m .marks) (sound .marks) sightings-in other p i) 1;
+          stale = same .transaction i .stale;
+        })
+
+    seats-after : (u : ℕ) → seat after u ≡ put t (held new) (seat m) u
+    unfolding put
+    seats-after u = ⊎-elim here elsewhere (same-or-not u t)
+      where
+        here : u ≡ t → seat after u ≡ cond (eqb u t) (held new) (seat m u)
+        here q = rw (q, eq-eqb t t refl) own-seat
+
+        elsewhere : (u ≡ t → ⊥) → seat after u ≡ cond (eqb u t) (held new) (seat m u)
+        elsewhere ne = rw (ne-eqb u t ne) (other-seat u ne)
+
+    values-after : (i : Item) → values (after .store) (after .files) i ≡ values (m .store) (m .files) i
+    unfolding values machineAfter withTxn withTransaction withRecords
+    values-after (byte q) = refl
+    values-after (offset d) = refl
+
+    pub view-after : view after ≡ withSeat t (held new) (view m)
+    unfolding view withSeat machineAfter fileOf withTxn withTransaction withRecords
+    view-after = λ i. record { fileOf = fileOf (m .store); value = fun-ext values-after i; seats = fun-ext seats-after i }

@@ -1,0 +1,44 @@
+-- Who has sighted what a commit sets: the flags and the number of a granted Commit.
+use mathlib.Core.Bool.{Bool, true, false, cond, not, _&&_, _||_}
+use mathlib.Core.List.{List, [], _∷_}
+use mathlib.Core.Path.{_≡_, refl, ap, ap₂}
+use lib.Dec.{eqb}
+use Prim.Native.Nat.{ℕ, zero, suc, _+_, _≤_, _<_}
+use native.Mathlib.Omega.{arith}
+use borrow.Author.Tests.{le-leb}
+use Rattle.record.specs.Journal.{transaction}
+use Rattle.ranges.specs.Below.{sum}
+use Rattle.rules.specs.Items.{Item, byte, offset}
+use Rattle.rules.specs.Transactions.{put}
+use Rattle.rules.specs.Commits.{Setting}
+use Rattle.rules.specs.Machine.{Machine, txnOf}
+use Rattle.rules.specs.Calls.{hasSighted, conflicts, becomesStale}
+use Rattle.rules.proofs.Serial.Sighted.{vacant, held, sighted, hit, newlyStale, countNew}
+use Rattle.rules.proofs.View.Shape.{heldBy, seat}
+
+module _ (m : Machine) (u : ℕ) where
+  sighted-same : (i : Item) → hasSighted (m .marks) u (transaction (m .store) u) i ≡ sighted (heldBy m u) i
+  unfolding hasSighted sighted heldBy txnOf
+  sighted-same (byte q) = refl
+  sighted-same (offset d) = refl
+
+  pub conflicts-hit : (ss : List Setting) → conflicts (m .marks) u (transaction (m .store) u) ss ≡ hit ss (heldBy m u)
+  unfolding conflicts hit
+  conflicts-hit [] = refl
+  conflicts-hit (x ∷ ss) = ap₂ _||_ (sighted-same (x .item)) (conflicts-hit ss)
+
+module _ (m : Machine) (t : ℕ) (ss : List Setting) where
+  pub becomes-stale : (u : ℕ) → u < 8 → becomesStale t (m .marks) ss (m .store) u ≡ newlyStale ss (put t vacant (seat m) u)
+  unfolding becomesStale newlyStale put seat heldBy
+  becomes-stale u l = rw (le-leb u 7 (omega arith), conflicts-hit m u ss) (pick (eqb u t) (transaction (m .store) u .begun))
+    where
+      pick : (b c : Bool) → (not b && c && not (transaction (m .store) u .stale) && hit ss (heldBy m u)) ≡ newlyStale ss (cond b vacant (cond c (held (heldBy m u)) vacant))
+      pick true c = refl
+      pick false true = refl
+      pick false false = refl
+
+  pub count-same : (n : ℕ) → n ≤ 8 → sum (λ u. cond (becomesStale t (m .marks) ss (m .store) u) 1 0) n ≡ countNew ss (put t vacant (seat m)) n
+  unfolding sum countNew
+  count-same zero l = refl
+  count-same (suc n) l =
+      ap₂ _+_ (count-same n (omega arith)) (ap (λ (b : Bool). cond b 1 0) (becomes-stale n (omega arith)))

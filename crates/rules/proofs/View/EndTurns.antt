@@ -1,0 +1,76 @@
+-- Begin, Commit and Abort on records and buffers are those of the abstract store, and keep the store sound.
+use mathlib.Core.Bool.{Bool, true, false, cond, not, _&&_}
+use mathlib.Core.List.{List, []}
+use mathlib.Core.Path.{_≡_, refl, sym, subst}
+use lib.Dec.{leb}
+use Prim.Native.Nat.{ℕ, _<_}
+use native.Mathlib.Omega.{arith}
+use borrow.Author.Tests.{leb-true}
+use Rattle.record.specs.Journal.{transaction, ended, begun}
+use Rattle.ranges.specs.Ranges.{unless, admissionOfBegin}
+use Rattle.ranges.proofs.Laws.{in-range}
+use Rattle.rules.specs.Commits.{Setting, settings, fits, commitRefusal}
+use Rattle.rules.specs.Plain.{begin, commit, abort}
+use Rattle.rules.specs.Machine.{Machine, fileOf, values, txnOf}
+use Rattle.rules.specs.Calls.{answer, turnDown, passing, beginTurn, abortTurn, commitDecided, commitTurn, call}
+use Rattle.rules.proofs.Serial.Sighted.{vacant, held, turnedAway, telling, sightedBegin, sightedCommitted, sightedCommit, sightedAbort, seated, sightedCall}
+use Rattle.rules.proofs.View.Shape.{heldBy, seat, view, Sound}
+use Rattle.rules.proofs.View.Decode.{decoded-in}
+use Rattle.rules.proofs.View.Admissions.{Agrees, shared-is, admitted-agrees}
+use Rattle.rules.proofs.View.Renewed.{ended-bare, begun-bare}
+use Rattle.rules.proofs.View.Resets.{reset-sound, reset-view}
+use Rattle.rules.proofs.View.SettingsIn.{AllIn, settings-in}
+use Rattle.rules.proofs.View.Grants.{granted-sound, granted-view, granted-reply}
+
+-- All that a commit of transaction t sets.
+abbrev settingsOf : Machine → ℕ → List Setting
+settingsOf m t = settings (fileOf (m .store)) (values (m .store) (m .files)) (txnOf (m .store) (m .logs) t)
+
+module _ (m : Machine) (t : ℕ) (sound : Sound m) where
+  begins : (b c : Bool) → leb t 7 ≡ b
+      → Agrees (passing (unless b 3 (unless (not c) 5 0)) [] m (beginTurn t m))
+      (cond b (sightedBegin t (cond (b && c) (held (heldBy m t)) vacant) (view m)) (turnedAway 3 [] (view m)))
+  unfolding unless passing turnDown turnedAway sightedBegin beginTurn answer telling begun
+  begins false c e = (refl, refl, sound)
+  begins true true e = (refl, refl, sound)
+  begins true false e =
+      let l = leb-true t 7 e in
+      (refl, reset-view t begun m (omega arith) begun-bare sound, reset-sound t begun m (omega arith) begun-bare sound)
+
+  pub begin-turn : Agrees (call (begin t) m) (sightedCall (begin t) (view m))
+  unfolding call sightedCall seated view seat admissionOfBegin
+  begin-turn =
+      subst (λ (n : ℕ). Agrees (passing n [] m (beginTurn t m)) (sightedCall (begin t) (view m)))
+      (sym (shared-is m t sound (unless (not (transaction (m .store) t .begun)) 5 0)))
+      (begins (leb t 7) (transaction (m .store) t .begun) refl)
+
+  abort-next : t < 8 → Agrees (abortTurn t m) (sightedAbort t (held (heldBy m t)) (view m))
+  unfolding abortTurn answer sightedAbort telling ended
+  abort-next l = (refl, reset-view t ended m l ended-bare sound, reset-sound t ended m l ended-bare sound)
+
+  pub abort-turn : Agrees (call (abort t) m) (sightedCall (abort t) (view m))
+  unfolding call sightedCall sightedAbort
+  abort-turn = admitted-agrees m t sound [] (abortTurn t m) (sightedAbort t) refl (λ l b. abort-next l)
+
+  -- 13, 12, or granted.
+  decides : t < 8 → (p q : Bool) → (q ≡ true → AllIn (settingsOf m t))
+      → Agrees (commitDecided t (settingsOf m t) m (commitRefusal p q)) (sightedCommitted t (heldBy m t) (view m) (commitRefusal p q))
+  unfolding commitRefusal commitDecided sightedCommitted heldBy view ended
+  decides l true q h = (refl, reset-view t ended m l ended-bare sound, reset-sound t ended m l ended-bare sound)
+  decides l false false h = (refl, refl, sound)
+  decides l false true h =
+      (granted-reply m t (settingsOf m t), granted-view m t (settingsOf m t) l sound (h refl), granted-sound m t (settingsOf m t) l sound (h refl))
+
+  commit-next : t < 8 → transaction (m .store) t .begun ≡ true → Agrees (commitTurn t m) (sightedCommit t (held (heldBy m t)) (view m))
+  unfolding commitTurn sightedCommit heldBy view fileOf
+  commit-next l b =
+      let r = in-range (m .store) (sound .inRange) in
+      let v = values (m .store) (m .files) in
+      let x = txnOf (m .store) (m .logs) t in
+      decides l (transaction (m .store) t .stale) (fits v x)
+      (settings-in (fileOf (m .store)) v x (r .files)
+      (decoded-in (m .store) (m .logs) t (sound .logs) l (r .transactions t l b) (sound .shaped .descriptors t l)))
+
+  pub commit-turn : Agrees (call (commit t) m) (sightedCall (commit t) (view m))
+  unfolding call sightedCall sightedCommit
+  commit-turn = admitted-agrees m t sound [] (commitTurn t m) (sightedCommit t) refl commit-next

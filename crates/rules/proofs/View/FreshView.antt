@@ -1,0 +1,86 @@
+-- Fresh: a sound store, which stands for the abstract store's first.
+use mathlib.Core.Bool.{false, true≢false}
+use mathlib.Core.List.{List}
+use mathlib.Core.Logic.{_⊎_, inl, inr}
+use mathlib.Core.Path.{_≡_, refl, sym, ap, _∙_, fun-ext}
+use lib.ListN.{length, getD, replicate, length-replicate, getD-replicate}
+use Prim.Native.Nat.{ℕ, zero, suc, _≤_, _<_}
+use native.Mathlib.Omega.{arith}
+use Rattle.octets.proofs.PartLaws.{le-or-lt}
+use Rattle.record.specs.declared.Transaction.{Transaction}
+use Rattle.record.specs.Journal.{transaction, noTransaction, noDescriptor, ended}
+use Rattle.ranges.proofs.Laws.{InRange, in-range-intro}
+use Rattle.rules.specs.Items.{Item, byte, offset, Values}
+use Rattle.rules.specs.Machine.{fileOf, values}
+use Rattle.rules.specs.Calls.{freshStore, freshMachine}
+use Rattle.rules.proofs.Serial.Sighted.{Seat, vacant, freshSighted}
+use Rattle.rules.proofs.View.Shape.{heldBy, seat, view, Shaped, Sound}
+use Rattle.rules.proofs.View.Endings.{seat-in, seat-out}
+
+-- Zeros, inside and past the end.
+zeros : (n k : ℕ) → _≡_ {A = ℕ} (getD (replicate n 0) k 0) 0
+zeros zero k = refl
+zeros (suc n) zero = refl
+zeros (suc n) (suc k) = zeros n k
+
+length-zeros : (n : ℕ) → length (replicate n zero) ≡ n
+length-zeros n = length-replicate n zero
+
+module _ (numbers : List ℕ) (logs : List ℕ) where
+  ended-at : (u : ℕ) → u < 8 → transaction (freshStore numbers) u ≡ ended
+  unfolding freshStore
+  ended-at u l = getD-replicate 8 u ended noTransaction l
+
+  closed-at : (u : ℕ) → u < 8 → transaction (freshMachine numbers logs .store) u .begun ≡ false
+  unfolding freshMachine ended
+  closed-at u l = ap (λ (x : Transaction). x .begun) (ended-at u l)
+
+  seats : (u : ℕ) → (8 ≤ u) ⊎ (u < 8) → seat (freshMachine numbers logs) u ≡ vacant
+  seats u (inl l) = seat-out (freshMachine numbers logs) u l
+  seats u (inr l) = seat-in (freshMachine numbers logs) u false (heldBy (freshMachine numbers logs) u) l (closed-at u l) refl
+
+  fresh-values : (n : ℕ) (i : Item) → values (freshStore numbers) (replicate n 0) i ≡ 0
+  unfolding values freshStore
+  fresh-values n (byte q) = zeros n q
+  fresh-values n (offset d) = zeros 16 d
+
+  pub fresh-view : view (freshMachine numbers logs) ≡ freshSighted (λ d. getD numbers d 0)
+  unfolding view freshSighted freshMachine freshStore fileOf
+  fresh-view =
+      let e : _≡_ {A = ℕ → Seat} (seat (freshMachine numbers logs)) (λ u. vacant) = fun-ext (λ u. seats u (le-or-lt 8 u)) in
+      let f : _≡_ {A = Values} (values (freshStore numbers) (replicate 32768 0)) (λ i. 0) = fun-ext (fresh-values 32768) in
+      λ i. record { fileOf = λ d. getD numbers d 0; value = f i; seats = e i }
+
+  fresh-shaped : length numbers ≡ 16 → Shaped (freshStore numbers)
+  unfolding freshStore ended
+  fresh-shaped e =
+      record {
+        files = e;
+        offsets = length-zeros 16;
+        transactions = length-replicate 8 ended;
+        descriptors = λ u l. ap (λ (x : Transaction). length (x .descriptors)) (ended-at u l) ∙ length-replicate 16 noDescriptor;
+        holders = length-zeros 512;
+        places = length-zeros 512;
+        lengths = length-zeros 512;
+      }
+
+  fresh-in : ((d : ℕ) → d < 16 → getD numbers d 0 ≤ 7) → InRange (freshStore numbers)
+  unfolding freshStore ended
+  fresh-in h =
+      record {
+        files = h;
+        offsets = λ d l. rw (zeros 16 d) (omega arith);
+        transactions = λ u l b. absurd (true≢false (sym b ∙ ap (λ (x : Transaction). x .begun) (ended-at u l)));
+      }
+
+  pub fresh-sound : length numbers ≡ 16 → ((d : ℕ) → d < 16 → getD numbers d 0 ≤ 7) → length logs ≡ 32768 → Sound (freshMachine numbers logs)
+  unfolding freshMachine
+  fresh-sound e h g =
+      record {
+        shaped = fresh-shaped e;
+        files = length-zeros 32768;
+        logs = g;
+        marks = length-zeros 32768;
+        octets = λ q. rw (zeros 32768 q) (omega arith);
+        inRange = in-range-intro (freshStore numbers) (fresh-in h);
+      }

@@ -1,0 +1,260 @@
+-- An accepted step leaves a transaction in range, and its writes with the bytes that they had; a Write adds one.
+use mathlib.Core.Bool.{Bool, true, false, cond}
+use mathlib.Core.List.{List, [], _∷_, _++_, map, map-append}
+use mathlib.Core.Path.{_≡_, refl, sym, ap, _∙_}
+use borrow.Author.Tests.{leb-true, eqb-true, eqb-false, eq-eqb}
+use lib.Dec.{leb, eqb}
+use lib.ListN.{length, getD, length-append, length-map}
+use native.Mathlib.Omega.{arith}
+use Prim.Native.Nat.{ℕ, _+_, _-_, _≤_, _<_, min}
+use Rattle.record.specs.declared.Standing.{Standing}
+use Rattle.record.specs.declared.Standing.the-variants.{Untouched}
+use Rattle.record.specs.Journal.{placeNumber}
+use Rattle.record.specs.Paper.{Said}
+use Rattle.ranges.specs.Ranges.{standingIn, placeIn}
+use Rattle.rules.specs.Items.{offset, Values, Prog, done, andThen, result}
+use Rattle.rules.specs.Standings.{advance, settled, afterSeek, afterWrite, afterRead, pointerSettles, readSettles, offsetOf, writePlace}
+use Rattle.rules.specs.Transactions.{Txn, Write, put, restand, placedAt, placeWrite, settle, those, Settled, past, all, settling}
+use Rattle.rules.specs.Reading.{fetch}
+use Rattle.rules.specs.Steps.{Op, seek, write, getFilePointer, read, Stepped, accept, check, orGivenBack, total, written, seekStep, writeStep, pointerStep, settledByRead, readSettled, readStep, step}
+use Rattle.rules.proofs.Serial.Programs.{result-andThen}
+use Rattle.rules.proofs.View.Shape.{noWrite, WriteIn, TxnIn}
+use Rattle.rules.proofs.View.Tables.{every-snoc, getD-map}
+use Rattle.rules.proofs.View.Asked.{DescriptorsIn, one-in, those-in}
+use Rattle.rules.proofs.View.StandingRanges.{EndsKept, seek-in, write-in, read-in, settled-in, seek-ends, write-ends, read-ends, place-kept, place-settled, place-written}
+
+-- The bytes of writes, which the log holds one after the other.
+abbrev pub pieces : List Write → List (List ℕ)
+pieces ws = map (λ w. w .bytes) ws
+
+pub total-append : (ws : List Write) (w : Write) → total (ws ++ (w ∷ [])) ≡ total ws + length (w .bytes)
+unfolding total
+total-append [] w = omega arith
+total-append (x ∷ ws) w = let e = total-append ws w in omega arith
+
+-- What holds of a standing at every descriptor but one, and of the new one there.
+put-case : (P : ℕ → Standing → Type 0) (d : ℕ) (z : Standing) (f : ℕ → Standing) → P d z → ((e : ℕ) → (e ≡ d → ⊥) → P e (f e)) → (e : ℕ) → P e (put d z f e)
+unfolding put
+put-case P d z f here elsewhere e = pick (eqb e d) refl
+  where
+    pick : (b : Bool) → eqb e d ≡ b → P e (cond b z (f e))
+    pick true q = rw (eqb-true e d q) here
+    pick false q = elsewhere e (eqb-false e d q)
+
+-- ---- one standing put, one write added
+
+restand-in : (d : ℕ) (z : Standing) (x : Txn) → d < 16 → standingIn z ≡ true → EndsKept (x .standing d) z → TxnIn x → TxnIn (restand d z x)
+unfolding restand
+restand-in d z x small zin ends h =
+    record {
+      standings = put-case (λ (e : ℕ) (y : Standing). standingIn y ≡ true) d z (x .standing) zin (λ e ne. h .standings e);
+      above =
+          put-case (λ (e : ℕ) (y : Standing). 16 ≤ e → y ≡ Untouched) d z (x .standing) (λ g. absurd (omega arith))
+          (λ e ne. h .above e);
+      records = h .records;
+      bytes = h .bytes;
+      writes =
+          λ k g.
+          let w = getD (x .writes) k noWrite in
+          record {
+            descriptor = h .writes k g .descriptor;
+            place =
+                place-kept (x .standing (w .descriptor)) (put d z (x .standing) (w .descriptor)) (w .place) (length (w .bytes))
+                (put-case (λ (e : ℕ) (y : Standing). EndsKept (x .standing e) y) d z (x .standing) ends (λ e ne end q. q) (w .descriptor))
+                (h .writes k g .place);
+          };
+    }
+
+append-in : (w : Write) (x : Txn) → WriteIn x w → length (x .writes) + 1 ≤ 64 → total (x .writes) + length (w .bytes) ≤ 4096 → TxnIn x
+    → TxnIn (record { standing = x .standing; writes = x .writes ++ (w ∷ []) })
+append-in w x win few small h =
+    let y : Txn = record { standing = x .standing; writes = x .writes ++ (w ∷ []) } in
+    record {
+      standings = h .standings;
+      above = h .above;
+      records = rw length-append few;
+      bytes = rw total-append small;
+      writes =
+          every-snoc (λ (w : Write). WriteIn y w) (x .writes) w noWrite
+          (λ k g. record { descriptor = h .writes k g .descriptor; place = h .writes k g .place })
+          (record { descriptor = win .descriptor; place = win .place });
+    }
+
+-- A new write lies in range under the standing that it leaves.
+new-in : (d : ℕ) (bytes : List ℕ) (x : Txn) → d < 16 → placeNumber (writePlace (x .standing d)) + length bytes ≤ 4096
+    → WriteIn (restand d (afterWrite (length bytes) (x .standing d)) x) (record { descriptor = d; place = writePlace (x .standing d); bytes = bytes })
+unfolding restand put
+new-in d bytes x low small =
+    record { descriptor = low; place = rw (eq-eqb d d refl) (place-written (length bytes) (x .standing d) small) }
+
+-- ---- settling
+
+total-placed : (d c : ℕ) (ws : List Write) → total (map (placeWrite d c) ws) ≡ total ws
+unfolding total placeWrite
+total-placed d c [] = refl
+total-placed d c (w ∷ ws) = ap (λ (n : ℕ). length (w .bytes) + n) (total-placed d c ws)
+
+pieces-placed : (d c : ℕ) (ws : List Write) → pieces (map (placeWrite d c) ws) ≡ pieces ws
+unfolding placeWrite
+pieces-placed d c [] = refl
+pieces-placed d c (w ∷ ws) = ap (λ (l : List (List ℕ)). w .bytes ∷ l) (pieces-placed d c ws)
+
+write-settled : (d c : ℕ) (x : Txn) (w : Write) → c + advance (x .standing d) ≤ 4096 → WriteIn x w → WriteIn (settle d c x) (placeWrite d c w)
+unfolding settle placeWrite put
+write-settled d c x w small h = record { descriptor = h .descriptor; place = pick (eqb (w .descriptor) d) refl }
+  where
+    pick : (b : Bool) → eqb (w .descriptor) d ≡ b
+        → placeIn (cond b (settled c (x .standing d)) (x .standing (w .descriptor))) (cond b (placedAt c (w .place)) (w .place)) (length (w .bytes)) ≡ true
+    pick true e =
+        place-settled c (x .standing (w .descriptor)) (settled c (x .standing d)) (w .place) (length (w .bytes)) (rw (eqb-true (w .descriptor) d e) small)
+        (h .place)
+    pick false e = h .place
+
+settle-in : (d c : ℕ) (x : Txn) → d < 16 → c + advance (x .standing d) ≤ 4096 → TxnIn x → TxnIn (settle d c x)
+unfolding settle
+settle-in d c x low small h =
+    record {
+      standings =
+          put-case (λ (e : ℕ) (y : Standing). standingIn y ≡ true) d (settled c (x .standing d)) (x .standing)
+          (settled-in c (x .standing d) small (h .standings d)) (λ e ne. h .standings e);
+      above =
+          put-case (λ (e : ℕ) (y : Standing). 16 ≤ e → y ≡ Untouched) d (settled c (x .standing d)) (x .standing) (λ g. absurd (omega arith))
+          (λ e ne. h .above e);
+      records = rw length-map (h .records);
+      bytes = rw total-placed (h .bytes);
+      writes =
+          λ k g.
+          let l : k < length (x .writes) = rw length-map at g in
+          rw (getD-map (placeWrite d c) (x .writes) noWrite noWrite k l)
+          (write-settled d c x (getD (x .writes) k noWrite) small (h .writes k l));
+    }
+
+-- A transaction in range whose writes have these bytes.
+pub record Kept (ps : List (List ℕ)) (y : Txn) : Type 0 where
+  pub ranges : TxnIn y
+  pub same : pieces (y .writes) ≡ ps
+
+settling-kept : (v : Values) (ds : List ℕ) (x y : Txn) (ps : List (List ℕ)) → DescriptorsIn ds → Kept ps x → result v (settling ds x) ≡ all y → Kept ps y
+unfolding settling result settle
+settling-kept v [] x y ps low h e = let q : y ≡ x = cc in rw q h
+settling-kept v (d ∷ ds) x y ps low h e =
+    pick (λ h. settling-kept v ds (settle d (v (offset d)) x) y ps (low .1) h) (leb (v (offset d) + advance (x .standing d)) 4096) refl e
+  where
+    next : Txn
+    next = settle d (v (offset d)) x
+
+    pick : (Kept ps next → result v (settling ds next) ≡ all y → Kept ps y)
+        → (b : Bool) → leb (v (offset d) + advance (x .standing d)) 4096 ≡ b
+        → result v (cond b (settling ds next) (done past)) ≡ all y → Kept ps y
+    pick later true q r =
+        later
+        (record {
+          ranges = settle-in d (v (offset d)) x (low .0) (leb-true (v (offset d) + advance (x .standing d)) 4096 q) (h .ranges);
+          same = pieces-placed d (v (offset d)) (x .writes) ∙ h .same;
+        })
+        r
+    pick later false q r = let z : _≡_ {A = ℕ} 0 1 = cc in absurd (omega arith)
+
+-- ---- a step
+
+-- The bytes of the writes after an accepted step: a Write adds its own, every other call keeps them.
+abbrev pub piecesAfter : Op → List (List ℕ) → List (List ℕ)
+piecesAfter (seek d v) ps = ps
+piecesAfter (write d bytes) ps = ps ++ (bytes ∷ [])
+piecesAfter (getFilePointer d) ps = ps
+piecesAfter (read d n buffer) ps = ps
+
+module _ (v : Values) where
+  -- A program that, if it accepts, ends in such a transaction.
+  Ends : List (List ℕ) → Prog Stepped → Type 0
+  Ends ps p = (y : Txn) (a : Said) (b : List ℕ) → result v p ≡ accept y a b → Kept ps y
+
+  ends-done : (ps : List (List ℕ)) (x : Txn) (a : Said) (b : List ℕ) → Kept ps x → Ends ps (done (accept x a b))
+  unfolding Ends result
+  ends-done ps x a b h y a₁ b₁ e = let q : y ≡ x = cc in rw q h
+
+  ends-check : (ps : List (List ℕ)) (t : Bool) (n : ℕ) (p : Prog Stepped) → (t ≡ true → Ends ps p) → Ends ps (check t n p)
+  unfolding Ends check result
+  ends-check ps true n p h y a b e = h refl y a b e
+  ends-check ps false n p h y a b e = let z : _≡_ {A = ℕ} 0 1 = cc in absurd (omega arith)
+
+  ends-andThen : {A : Type 0} (ps : List (List ℕ)) (p : Prog A) (k : A → Prog Stepped) → Ends ps (k (result v p)) → Ends ps (andThen p k)
+  unfolding Ends
+  ends-andThen ps p k h y a b e = h y a b (sym (result-andThen v p k) ∙ e)
+
+  ends-settling : (ps : List (List ℕ)) (ds : List ℕ) (x : Txn) (next : Txn → Prog Stepped) → DescriptorsIn ds → Kept ps x
+      → ((y : Txn) → Kept ps y → Ends ps (next y)) → Ends ps (andThen (settling ds x) (orGivenBack next))
+  unfolding Ends orGivenBack result
+  ends-settling ps ds x next low h k =
+      ends-andThen ps (settling ds x) (orGivenBack next) (pick (result v (settling ds x)) refl)
+    where
+      pick : (s : Settled) → result v (settling ds x) ≡ s → Ends ps (orGivenBack next s)
+      pick past e = λ y a b q. let z : _≡_ {A = ℕ} 0 1 = cc in absurd (omega arith)
+      pick (all y) e = k y (settling-kept v ds x y ps low h e)
+
+  ends-seek : (d u : ℕ) (x : Txn) → TxnIn x → Ends (pieces (x .writes)) (seekStep d u x)
+  unfolding seekStep restand
+  ends-seek d u x h =
+      ends-check _ (leb d 15) 6 _ (λ e. ends-check _ (leb u 4096) 8 _ (λ f.
+      let low = leb-true d 15 e in
+      ends-done _ (restand d (afterSeek u (x .standing d)) x) _ _
+      (record {
+        ranges =
+            restand-in d (afterSeek u (x .standing d)) x (omega arith)
+            (seek-in u (x .standing d) (leb-true u 4096 f) (h .standings d)) (seek-ends u (x .standing d)) h;
+        same = refl;
+      })))
+
+  ends-write : (d : ℕ) (bytes : List ℕ) (x : Txn) → TxnIn x → Ends (pieces (x .writes) ++ (bytes ∷ [])) (writeStep d bytes x)
+  unfolding writeStep written restand
+  ends-write d bytes x h =
+      let z = x .standing d in
+      let n = length bytes in
+      let w : Write = record { descriptor = d; place = writePlace z; bytes = bytes } in
+      ends-check _ (leb d 15) 6 _ (λ e. ends-check _ (leb (placeNumber (writePlace z) + n) 4096) 9 _ (λ f.
+      ends-check _ (leb (length (x .writes) + 1) 64) 10 _ (λ g. ends-check _ (leb (total (x .writes) + n) 4096) 11 _ (λ i.
+      let low = leb-true d 15 e in
+      let small = leb-true (placeNumber (writePlace z) + n) 4096 f in
+      ends-done _ (written d bytes x) _ _
+      (record {
+        ranges =
+            append-in w (restand d (afterWrite n z) x)
+            (new-in d bytes x (omega arith) small)
+            (leb-true (length (x .writes) + 1) 64 g) (leb-true (total (x .writes) + n) 4096 i)
+            (restand-in d (afterWrite n z) x (omega arith) (write-in n z small (h .standings d)) (write-ends n z) h);
+        same = map-append (λ w. w .bytes) (x .writes) (w ∷ []);
+      })))))
+
+  ends-read : (ps : List (List ℕ)) (fileOf : ℕ → ℕ) (d n : ℕ) (buffer : List ℕ) (y : Txn) → d < 16 → Kept ps y → Ends ps (readSettled fileOf d n buffer y)
+  unfolding readSettled restand
+  ends-read ps fileOf d n buffer y low h =
+      let m = min n (4096 - offsetOf (y .standing d)) in
+      ends-andThen ps (fetch fileOf (y .writes) (fileOf d) (offsetOf (y .standing d)) m) _
+      (ends-done ps (restand d (afterRead m (y .standing d)) y) _ _
+      (record {
+        ranges =
+            restand-in d (afterRead m (y .standing d)) y low (read-in m (y .standing d) (omega arith) (h .ranges .standings d))
+            (read-ends m (y .standing d)) (h .ranges);
+        same = h .same;
+      }))
+
+  ends-step : (fileOf : ℕ → ℕ) (o : Op) (x : Txn) → TxnIn x → Ends (piecesAfter o (pieces (x .writes))) (step fileOf o x)
+  unfolding step pointerStep readStep settledByRead
+  ends-step fileOf (seek d u) x h = ends-seek d u x h
+  ends-step fileOf (write d bytes) x h = ends-write d bytes x h
+  ends-step fileOf (getFilePointer d) x h =
+      ends-check _ (leb d 15) 6 _ (λ e.
+      let low = leb-true d 15 e in
+      ends-settling _ (cond (pointerSettles (x .standing d)) (d ∷ []) []) x _
+      (one-in (pointerSettles (x .standing d)) d (omega arith)) (record { ranges = h; same = refl }) (λ y k. ends-done _ y _ _ k))
+  ends-step fileOf (read d n buffer) x h =
+      ends-check _ (leb d 15) 6 _ (λ e. ends-check _ (leb n (length buffer)) 7 _ (λ f.
+      let low = leb-true d 15 e in
+      ends-settling _ (those (λ e. readSettles (eqb (fileOf e) (fileOf d)) (eqb e d) (x .standing e)) 16) x _
+      (those-in (λ e. readSettles (eqb (fileOf e) (fileOf d)) (eqb e d) (x .standing e)) 16 (omega arith)) (record { ranges = h; same = refl })
+      (λ y k. ends-read _ fileOf d n buffer y (omega arith) k)))
+
+pub step-kept : (fileOf : ℕ → ℕ) (v : Values) (o : Op) (x y : Txn) (a : Said) (b : List ℕ) → TxnIn x → result v (step fileOf o x) ≡ accept y a b
+    → Kept (piecesAfter o (pieces (x .writes))) y
+unfolding Ends
+step-kept fileOf v o x y a b h e = ends-step v fileOf o x h y a b e

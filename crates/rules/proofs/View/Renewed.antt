@@ -1,0 +1,126 @@
+-- A record with other committed offsets and other transactions: when its ranges hold, and which transactions mean the same in it.
+use mathlib.Core.Bool.{true}
+use mathlib.Core.List.{List}
+use mathlib.Core.Logic.{_⊎_, inl, inr}
+use mathlib.Core.Path.{_≡_, refl, sym, ap, _∙_, fun-ext}
+use lib.ListN.{length, getD, replicate, length-replicate}
+use Prim.Native.Nat.{ℕ, zero, suc, _≤_, _<_}
+use native.Mathlib.Omega.{arith}
+use Rattle.record.specs.declared.Standing.the-variants.{Untouched}
+use Rattle.record.specs.declared.Transaction.{Transaction}
+use Rattle.record.specs.declared.Store.{Store}
+use Rattle.record.specs.Journal.{transaction, standingAt, noDescriptor, noTransaction, ended, begun}
+use Rattle.ranges.specs.Below.{sum}
+use Rattle.ranges.specs.Ranges.{standingIn, recordIn}
+use Rattle.ranges.proofs.Laws.{TransactionInRange, InRange}
+use Rattle.rules.specs.Machine.{txnOf, writeAt, dataStart, values}
+use Rattle.rules.specs.Items.{Item, byte, offset}
+use Rattle.rules.proofs.View.Shape.{Shaped}
+
+-- The record with other committed offsets and transactions.
+abbrev pub renewed : List ℕ → List Transaction → Store → Store
+renewed offsets ts s =
+    record { files = s .files; offsets = offsets; transactions = ts; holders = s .holders; places = s .places; lengths = s .lengths }
+
+-- A transaction that differs at most in being stale.
+pub record Alike (x y : Transaction) : Type 0 where
+  pub begun : y .begun ≡ x .begun
+  pub used : y .used ≡ x .used
+  pub descriptors : y .descriptors ≡ x .descriptors
+
+-- "an empty log, sixteen Untouched descriptors"
+pub record Bare (y : Transaction) : Type 0 where
+  pub records : y .used .records ≡ 0
+  pub bytes : y .used .bytes ≡ 0
+  pub descriptors : y .descriptors ≡ replicate 16 noDescriptor
+
+pub ended-bare : Bare ended
+unfolding ended
+ended-bare = record { records = refl; bytes = refl; descriptors = refl }
+
+pub begun-bare : Bare begun
+unfolding begun
+begun-bare = record { records = refl; bytes = refl; descriptors = refl }
+
+untouched : (n d : ℕ) → getD (replicate n noDescriptor) d noDescriptor .standing ≡ Untouched
+untouched zero d = refl
+untouched (suc n) zero = refl
+untouched (suc n) (suc d) = untouched n d
+
+pub bare-standing : (y : Transaction) → Bare y → (d : ℕ) → standingAt y d ≡ Untouched
+bare-standing y b d = rw (b .descriptors) (untouched 16 d)
+
+module _ (offsets : List ℕ) (ts : List Transaction) (s : Store) (u : ℕ) where
+  -- What the ranges say of a transaction that is alike, and of a bare one.
+  alike-in : Alike (transaction s u) (getD ts u noTransaction) → TransactionInRange s u → TransactionInRange (renewed offsets ts s) u
+  unfolding recordIn
+  alike-in a r =
+      record {
+        standings = λ d l. rw (a .descriptors) (r .standings d l);
+        records = rw (a .used) (r .records);
+        bytes = rw (a .used) (r .bytes);
+        total = rw (a .used) (r .total);
+        journal = λ k l. rw (a .descriptors) (r .journal k (rw (a .used) at l));
+      }
+
+  bare-in : Bare (getD ts u noTransaction) → TransactionInRange (renewed offsets ts s) u
+  unfolding standingIn sum
+  bare-in b =
+      record {
+        standings = λ d l. rw (bare-standing (getD ts u noTransaction) b d);
+        records = omega (arith, b .records);
+        bytes = omega (arith, b .bytes);
+        total = rw (b .records, b .bytes);
+        journal = λ k l. absurd (omega (arith, b .records));
+      }
+
+  -- It stands for the same writes and standings.
+  pub alike-txn : (logs : List ℕ) → Alike (transaction s u) (getD ts u noTransaction) → txnOf (renewed offsets ts s) logs u ≡ txnOf s logs u
+  unfolding txnOf writeAt dataStart
+  alike-txn logs a = rw (a .descriptors, a .used)
+
+-- What becomes of a transaction at the end of another: it stays, or it is bare.
+abbrev pub Carried : Transaction → Transaction → Type 0
+Carried x y = Alike x y ⊎ Bare y
+
+carried-in : (offsets : List ℕ) (ts : List Transaction) (s : Store) (u : ℕ)
+    → Carried (transaction s u) (getD ts u noTransaction)
+    → getD ts u noTransaction .begun ≡ true
+    → (transaction s u .begun ≡ true → TransactionInRange s u)
+    → TransactionInRange (renewed offsets ts s) u
+carried-in offsets ts s u (inl a) b h = alike-in offsets ts s u a (h (sym (a .begun) ∙ b))
+carried-in offsets ts s u (inr y) b h = bare-in offsets ts s u y
+
+carried-length : (x y : Transaction) → Carried x y → length (x .descriptors) ≡ 16 → length (y .descriptors) ≡ 16
+carried-length x y (inl a) e = ap length (a .descriptors) ∙ e
+carried-length x y (inr b) e = ap length (b .descriptors) ∙ length-replicate 16 noDescriptor
+
+module _ (offsets : List ℕ) (ts : List Transaction) (s : Store) (carried : (u : ℕ) → u < 8 → Carried (transaction s u) (getD ts u noTransaction)) where
+  pub renewed-in : ((d : ℕ) → d < 16 → getD offsets d 0 ≤ 4096) → InRange s → InRange (renewed offsets ts s)
+  renewed-in h r =
+      record {
+        files = r .files;
+        offsets = h;
+        transactions = λ u l b. carried-in offsets ts s u (carried u l) b (r .transactions u l);
+      }
+
+  pub renewed-shaped : length offsets ≡ 16 → length ts ≡ 8 → Shaped s → Shaped (renewed offsets ts s)
+  renewed-shaped e f r =
+      record {
+        files = r .files;
+        offsets = e;
+        transactions = f;
+        descriptors = λ u l. carried-length (transaction s u) (getD ts u noTransaction) (carried u l) (r .descriptors u l);
+        holders = r .holders;
+        places = r .places;
+        lengths = r .lengths;
+      }
+
+-- The committed values of the same offsets.
+pub same-values : (ts : List Transaction) (s : Store) (files : List ℕ) → values (renewed (s .offsets) ts s) files ≡ values s files
+unfolding values
+same-values ts s files = fun-ext each
+  where
+    each : (i : Item) → values (renewed (s .offsets) ts s) files i ≡ values s files i
+    each (byte q) = refl
+    each (offset d) = refl

@@ -1,0 +1,101 @@
+-- `reset`, of Begin, Abort and a Commit of a stale transaction: one seat changes, and the store stays sound.
+use mathlib.Core.Bool.{Bool, true, false, cond}
+use mathlib.Core.List.{List, []}
+use mathlib.Core.Logic.{_⊎_, inl, inr}
+use mathlib.Core.Path.{_≡_, refl, sym, ap, _∙_, fun-ext}
+use lib.Dec.{eqb}
+use lib.ListN.{getD, set, length-set}
+use lib.Seq.{getD-set-same, getD-set-other}
+use Prim.Native.Nat.{ℕ, _≤_, _<_}
+use native.Mathlib.Omega.{arith}
+use borrow.Author.Tests.{eqb-true, eqb-false}
+use Rattle.octets.proofs.PartLaws.{le-or-lt}
+use Rattle.octets.specs.Bits.{bit}
+use Rattle.record.specs.declared.Standing.{Standing}
+use Rattle.record.specs.declared.Standing.the-variants.{Untouched}
+use Rattle.record.specs.declared.Transaction.{Transaction}
+use Rattle.record.specs.Journal.{transaction, standingAt, noTransaction}
+use Rattle.ranges.proofs.Laws.{in-range}
+use Rattle.rules.specs.Machine.{Machine, fileOf, txnOf, tabulate, withTransaction, writeAt}
+use Rattle.rules.specs.Transactions.{empty, put}
+use Rattle.rules.specs.Calls.{unmarked, reset}
+use Rattle.rules.proofs.Serial.Sighted.{Seat, vacant, held, withSeat}
+use Rattle.rules.proofs.View.Shape.{heldBy, seat, view, Sound}
+use Rattle.rules.proofs.View.Renewed.{Alike, Bare, Carried, bare-standing, same-values}
+use Rattle.rules.proofs.View.Endings.{ending, withStale, seat-in, seat-out, unmarked-own, ending-sound, ending-seat}
+
+alike-same : (x y : Transaction) → y ≡ x → Alike x y
+alike-same x y e = rw e (record { begun = refl; used = refl; descriptors = refl })
+
+-- A bare transaction stands for an empty one.
+pub bare-txn : (m : Machine) (t : ℕ) → Bare (transaction (m .store) t) → txnOf (m .store) (m .logs) t ≡ empty
+unfolding txnOf empty tabulate
+bare-txn m t b =
+    let f : _≡_ {A = ℕ → Standing} (standingAt (transaction (m .store) t)) (λ d. Untouched) = fun-ext (bare-standing (transaction (m .store) t) b) in
+    let g : tabulate (writeAt (m .store) (m .logs) t) (transaction (m .store) t .used .records) ≡ [] = rw (b .records) in
+    λ i. record { standing = f i; writes = g i }
+
+-- What a bare transaction stands for.
+abbrev pub newSeat : Transaction → Seat
+newSeat x = cond (x .begun) (held (record { txn = empty; marked = λ q. false; stale = x .stale })) vacant
+
+module _ (t : ℕ) (x : Transaction) (m : Machine) (small : t < 8) (bare : Bare x) (sound : Sound m) where
+  ts : List Transaction
+  ts = set (m .store .transactions) t x
+
+  own : getD ts t noTransaction ≡ x
+  unfolding ts
+  own = getD-set-same (m .store .transactions) t x noTransaction (omega (arith, sound .shaped .transactions))
+
+  other : (u : ℕ) → (u ≡ t → ⊥) → getD ts u noTransaction ≡ transaction (m .store) u
+  unfolding ts
+  other u h = getD-set-other (m .store .transactions) t u x noTransaction h
+
+  carried : (u : ℕ) (b : Bool) → eqb u t ≡ b → Carried (transaction (m .store) u) (getD ts u noTransaction)
+  carried u true e = inr (rw (eqb-true u t e, own) bare)
+  carried u false e = inl (alike-same (transaction (m .store) u) (getD ts u noTransaction) (other u (eqb-false u t e)))
+
+  pub reset-sound : Sound (reset t x m)
+  unfolding reset withTransaction ts
+  reset-sound =
+      let r = in-range (m .store) (sound .inRange) in
+      ending-sound t (m .store .offsets) ts (m .files) m sound (λ u l. carried u (eqb u t) refl)
+      (sound .shaped .offsets) (r .offsets)
+      (length-set (m .store .transactions) t x ∙ sound .shaped .transactions) (sound .files)
+
+  after : Machine
+  after = ending t (m .store .offsets) ts (m .files) m
+
+  own-held : heldBy after t ≡ record { txn = empty; marked = λ q. false; stale = x .stale }
+  unfolding heldBy after
+  own-held =
+      let e = bare-txn after t (rw own bare) in
+      let f : _≡_ {A = ℕ → Bool} (λ q. eqb (bit t (getD (unmarked t (m .marks)) q 0)) 1) (λ q. false) =
+      fun-ext (unmarked-own t small (m .marks)) in
+      let g : getD ts t noTransaction .stale ≡ x .stale = ap (λ (z : Transaction). z .stale) own in
+      λ i. record { txn = e i; marked = f i; stale = g i }
+
+  seat-own : seat after t ≡ newSeat x
+  unfolding after
+  seat-own =
+      seat-in after t (x .begun) (record { txn = empty; marked = λ q. false; stale = x .stale })
+      small (ap (λ (z : Transaction). z .begun) own) own-held
+
+  seat-other : (u : ℕ) → (u ≡ t → ⊥) → (8 ≤ u) ⊎ (u < 8) → seat after u ≡ seat m u
+  unfolding heldBy after
+  seat-other u h (inl l) = seat-out after u l ∙ sym (seat-out m u l)
+  seat-other u h (inr l) =
+      ending-seat t (m .store .offsets) ts (m .files) m small u l h (alike-same (transaction (m .store) u) (getD ts u noTransaction) (other u h))
+      ∙ ap (λ (y : Transaction). cond (transaction (m .store) u .begun) (held (withStale (heldBy m u) (y .stale))) vacant) (other u h)
+      ∙ sym (seat-in m u (transaction (m .store) u .begun) (heldBy m u) l refl refl)
+
+  seats : (u : ℕ) (b : Bool) → eqb u t ≡ b → seat after u ≡ cond b (newSeat x) (seat m u)
+  seats u true e = rw (eqb-true u t e) seat-own
+  seats u false e = seat-other u (eqb-false u t e) (le-or-lt 8 u)
+
+  pub reset-view : view (reset t x m) ≡ withSeat t (newSeat x) (view m)
+  unfolding view withSeat reset withTransaction put fileOf ts after
+  reset-view =
+      let e : _≡_ {A = ℕ → Seat} (seat (reset t x m)) (put t (newSeat x) (seat m)) = fun-ext (λ u. seats u (eqb u t) refl) in
+      let f = same-values ts (m .store) (m .files) in
+      λ i. record { fileOf = fileOf (m .store); value = f i; seats = e i }

@@ -1,0 +1,36 @@
+-- Seek, Write, GetFilePointer and Read on a store in range: the reply is the abstract store's, what the store means after the call
+-- is the abstract store after it, and the store stays in range.
+use mathlib.Core.Bool.{true}
+use mathlib.Core.Path.{_≡_, refl}
+use Prim.Native.Nat.{ℕ, _<_}
+use Rattle.record.specs.Journal.{transaction}
+use Rattle.rules.specs.Items.{result}
+use Rattle.rules.specs.Steps.{Op, bufferOf, Stepped, refuse, accept, step}
+use Rattle.rules.specs.Plain.{on}
+use Rattle.rules.specs.Machine.{Machine, fileOf, values, txnOf}
+use Rattle.rules.specs.Calls.{turnDown, served, stepTurn, call}
+use Rattle.rules.proofs.Serial.Sighted.{turnedAway, sightedStepped, sightedOn, sightedCall}
+use Rattle.rules.proofs.View.Shape.{heldBy, view, Sound}
+use Rattle.rules.proofs.View.Accepted.{sightings, machineAfter, heldAfter, view-after, sound-after}
+use Rattle.rules.proofs.View.Admissions.{Agrees, admitted-agrees}
+
+module _ (m : Machine) (t : ℕ) (o : Op) (h : Sound m) where
+  -- Refused with one of 6 to 12, or accepted.
+  step-agrees : t < 8 → transaction (m .store) t .begun ≡ true → (z : Stepped)
+      → result (values (m .store) (m .files)) (step (fileOf (m .store)) o (txnOf (m .store) (m .logs) t)) ≡ z
+      → Agrees (served t o m (sightings m t o) z) (sightedStepped t o (heldBy m t) (sightings m t o) (view m) z)
+  unfolding served sightedStepped turnDown turnedAway machineAfter heldAfter heldBy
+  step-agrees small begun (refuse n) e = (refl, refl, h)
+  step-agrees small begun (accept y a buffer) e =
+      (refl, view-after m t o h small begun y a buffer e, sound-after m t o h small begun y a buffer e)
+
+pub step-turn : (m : Machine) (t : ℕ) (o : Op) → Sound m
+    → (call (on t o) m .reply ≡ sightedCall (on t o) (view m) .reply)
+    × (view (call (on t o) m .after) ≡ sightedCall (on t o) (view m) .after)
+    × Sound (call (on t o) m .after)
+unfolding call sightedCall sightedOn stepTurn sightings view heldBy
+step-turn m t o h =
+    admitted-agrees m t h (bufferOf o) (stepTurn t o m) (sightedOn t o) refl
+    (λ small begun.
+    step-agrees m t o h small begun
+    (result (values (m .store) (m .files)) (step (fileOf (m .store)) o (txnOf (m .store) (m .logs) t))) refl)

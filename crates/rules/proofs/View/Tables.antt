@@ -1,0 +1,75 @@
+-- Laws of lists that are made by index, and of sums over an index.
+use mathlib.Core.Bool.{Bool, true, false}
+use mathlib.Core.List.{List, [], _∷_, _++_, map}
+use mathlib.Core.Logic.{_⊎_, inl, inr, ⊎-elim}
+use mathlib.Core.Path.{_≡_, refl, sym, ap, ap₂, _∙_}
+use borrow.Author.Tests.{eqb-true, eqb-false}
+use lib.Dec.{eqb}
+use lib.ListN.{length, getD, length-append, List·getD-append}
+use lib.Seq.{ext-getD, getD-at}
+use native.Mathlib.Nat.{eq-or-lt-of-le, le-of-suc-le-suc, not-suc-le-zero}
+use native.Mathlib.Omega.{arith}
+use Prim.Native.Nat.{ℕ, zero, suc, _+_, _≤_, _<_}
+use Rattle.ranges.specs.Below.{sum}
+use Rattle.rules.specs.Machine.{tabulate}
+
+-- Two numbers are the same or not.
+pub same-or-not : (a b : ℕ) → (a ≡ b) ⊎ (a ≡ b → ⊥)
+same-or-not a b = pick (eqb a b) refl
+  where
+    pick : (t : Bool) → eqb a b ≡ t → (a ≡ b) ⊎ (a ≡ b → ⊥)
+    pick true e = inl (eqb-true a b e)
+    pick false e = inr (eqb-false a b e)
+
+module _ {A : Type 0} where
+  pub length-tabulate : (f : ℕ → A) (n : ℕ) → length (tabulate f n) ≡ n
+  unfolding tabulate
+  length-tabulate f zero = refl
+  length-tabulate f (suc n) = let e = length-tabulate f n in simp length-append (omega arith)
+
+  pub getD-tabulate : (f : ℕ → A) (n k : ℕ) (z : A) → k < n → getD (tabulate f n) k z ≡ f k
+  unfolding tabulate
+  getD-tabulate f zero k z h = absurd (not-suc-le-zero h)
+  getD-tabulate f (suc n) k z h =
+      ⊎-elim
+      (λ e. ap (λ (i : ℕ). getD (tabulate f n ++ (f n ∷ [])) i z) e ∙ getD-at (tabulate f n) (f n) [] z n (length-tabulate f n) ∙ ap f (sym e))
+      (λ l. List·getD-append (tabulate f n) (f n ∷ []) z k (rw length-tabulate l) ∙ getD-tabulate f n k z l)
+      (eq-or-lt-of-le (le-of-suc-le-suc h))
+
+  pub tabulate-same : (f g : ℕ → A) (n : ℕ) → ((k : ℕ) → k < n → f k ≡ g k) → tabulate f n ≡ tabulate g n
+  unfolding tabulate
+  tabulate-same f g zero h = refl
+  tabulate-same f g (suc n) h =
+      ap₂ (λ (l : List A) (a : A). l ++ (a ∷ [])) (tabulate-same f g n (λ k l. h k (omega arith))) (h n (omega arith))
+
+  -- Every list is the table of its elements.
+  pub tabulate-getD : (l : List A) (z : A) → tabulate (λ k. getD l k z) (length l) ≡ l
+  tabulate-getD l z =
+      ext-getD z (tabulate (λ k. getD l k z) (length l)) l (length-tabulate (λ k. getD l k z) (length l))
+      (λ k h. getD-tabulate (λ i. getD l i z) (length l) k z (rw length-tabulate at h))
+
+  -- What holds of every element of a list and of one more holds of every element of the longer list.
+  pub every-snoc : (P : A → Type 0) (l : List A) (a z : A) → ((k : ℕ) → k < length l → P (getD l k z)) → P a
+      → (k : ℕ) → k < length (l ++ (a ∷ [])) → P (getD (l ++ (a ∷ [])) k z)
+  every-snoc P [] a z h last zero g = last
+  every-snoc P [] a z h last (suc k) g = absurd (not-suc-le-zero (le-of-suc-le-suc g))
+  every-snoc P (b ∷ l) a z h last zero g = h 0 (omega arith)
+  every-snoc P (b ∷ l) a z h last (suc k) g =
+      every-snoc P l a z (λ i f. h (suc i) (omega arith)) last k (le-of-suc-le-suc g)
+
+pub getD-map : {A B : Type 0} (f : A → B) (l : List A) (z : A) (y : B) (k : ℕ) → k < length l → getD (map f l) k y ≡ f (getD l k z)
+getD-map f [] z y k h = absurd (not-suc-le-zero h)
+getD-map f (a ∷ l) z y zero h = refl
+getD-map f (a ∷ l) z y (suc k) h = getD-map f l z y k (le-of-suc-le-suc h)
+
+module _ (f : ℕ → ℕ) where
+  -- A sum, taken from its first number on.
+  pub sum-first : (n : ℕ) → sum f (suc n) ≡ f 0 + sum (λ k. f (suc k)) n
+  unfolding sum
+  sum-first zero = omega arith
+  sum-first (suc n) = let e = sum-first n in omega arith
+
+  pub sum-le : (m n : ℕ) → m ≤ n → sum f m ≤ sum f n
+  unfolding sum
+  sum-le m zero h = let e : m ≡ 0 = omega arith in rw e (omega arith)
+  sum-le m (suc n) h = ⊎-elim (λ e. rw e (omega arith)) (λ l. let i = sum-le m n (le-of-suc-le-suc l) in omega arith) (eq-or-lt-of-le h)

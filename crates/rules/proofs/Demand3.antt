@@ -2,4 +2,5 @@
 pub mod Answers
 pub mod Ranges
 pub mod Refusals
+pub mod Situations
 pub mod Theorem

@@ -6,7 +6,7 @@ use Rattle.record.specs.Paper.{plain, pointer, granted, refused}
 use Rattle.rules.specs.Items.{byte, offset}
 use Rattle.rules.specs.Steps.{seek, write, getFilePointer, read}
 use Rattle.rules.specs.Plain.{Call, begin, on, commit, abort, Reply}
-use Rattle.rules.specs.Setup.{repliesTo, beginning, committedOffset, sightingsOf, says, gives, refusesRead, begins, beginsReplies, A, Y, Z, dot}
+use Rattle.rules.specs.Setup.{Seen, beginning, sightingsOf, says, gives, refusesRead, begins, beginsReplies, A, B, C, X, Y, Z, dot}
 use Rattle.rules.specs.Situations.{callsK, repliesK, callsL, repliesL}
 
 -- "Checked in this order, save that 13 comes before 12": T0 is stale by the offset of 1, and its write on 0 would run past the end.
@@ -295,34 +295,61 @@ repliesLog =
     ++ says (refused 10)
     ∷ []
 
+-- Own writes over one another: "Each byte is that of the transaction's own latest write over the place, in call order", and "The
+-- writes of the transaction land in call order".
+unfoldable pub callsOverlap : List Call
+callsOverlap =
+    begins
+    ++ on 0 (seek 0 0)
+    ∷ on 0 (write 0 (A ∷ B ∷ X ∷ []))
+    ∷ on 0 (seek 0 1)
+    ∷ on 0 (write 0 (C ∷ []))
+    ∷ on 0 (seek 0 0)
+    ∷ on 0 (read 0 3 (dot ∷ dot ∷ dot ∷ []))
+    ∷ commit 0
+    ∷ []
+
+unfoldable pub repliesOverlap : List Reply
+repliesOverlap =
+    beginsReplies
+    ++ says plain
+    ∷ says plain
+    ∷ says plain
+    ∷ says plain
+    ∷ says plain
+    ∷ gives 3 (A ∷ C ∷ X ∷ [])
+    ∷ says (granted 0)
+    ∷ []
+
 -- What situations k and l and the corners come to, together.
-pub record Corners : Type 0 where
-  pub k : repliesTo callsK ≡ repliesK
-  pub l : repliesTo callsL ≡ repliesL
-  pub staleFirst : repliesTo callsStaleFirst ≡ repliesStaleFirst
-  pub refusedSettling : (repliesTo callsRefusedSettling ≡ repliesRefusedSettling) × (sightingsOf callsRefusedSettling 1 ≡ [])
+pub record Corners (x : Seen) : Type 0 where
+  pub k : x .replies callsK ≡ repliesK
+  pub l : x .replies callsL ≡ repliesL
+  pub staleFirst : x .replies callsStaleFirst ≡ repliesStaleFirst
+  pub refusedSettling : (x .replies callsRefusedSettling ≡ repliesRefusedSettling) × (sightingsOf callsRefusedSettling 1 ≡ [])
   pub unsighted :
-      (repliesTo callsUnsighted ≡ repliesUnsighted) × (beginning callsUnsighted 0 1 ≡ A ∷ []) × (committedOffset callsUnsighted 0 ≡ 1)
-  pub moved : (repliesTo callsMoved ≡ repliesMoved) × (sightingsOf callsMoved 0 ≡ record { item = offset 8; setter = 0 } ∷ [])
-  pub movedStale : repliesTo callsMovedStale ≡ repliesMovedStale
-  pub neighbour : (repliesTo callsNeighbour ≡ repliesNeighbour) × (sightingsOf callsNeighbour 0 ≡ record { item = byte 0; setter = 0 } ∷ [])
+      (x .replies callsUnsighted ≡ repliesUnsighted) × (beginning (x .value callsUnsighted) 0 1 ≡ A ∷ []) × (x .value callsUnsighted (offset 0) ≡ 1)
+  pub moved : (x .replies callsMoved ≡ repliesMoved) × (sightingsOf callsMoved 0 ≡ record { item = offset 8; setter = 0 } ∷ [])
+  pub movedStale : x .replies callsMovedStale ≡ repliesMovedStale
+  pub neighbour : (x .replies callsNeighbour ≡ repliesNeighbour) × (sightingsOf callsNeighbour 0 ≡ record { item = byte 0; setter = 0 } ∷ [])
   pub neighbourSet :
-      (repliesTo callsNeighbourSet ≡ repliesNeighbourSet)
-      × (committedOffset callsNeighbourSet 0 ≡ 1)
-      × (committedOffset callsNeighbourSet 8 ≡ 5)
-  pub readNone : (repliesTo callsReadNone ≡ repliesReadNone) × (sightingsOf callsReadNone 0 ≡ record { item = offset 0; setter = 0 } ∷ [])
-  pub readNoneStale : repliesTo callsReadNoneStale ≡ repliesReadNoneStale
-  pub writeNone : repliesTo callsWriteNone ≡ repliesWriteNone
+      (x .replies callsNeighbourSet ≡ repliesNeighbourSet)
+      × (x .value callsNeighbourSet (offset 0) ≡ 1)
+      × (x .value callsNeighbourSet (offset 8) ≡ 5)
+  pub readNone : (x .replies callsReadNone ≡ repliesReadNone) × (sightingsOf callsReadNone 0 ≡ record { item = offset 0; setter = 0 } ∷ [])
+  pub readNoneStale : x .replies callsReadNoneStale ≡ repliesReadNoneStale
+  pub writeNone : x .replies callsWriteNone ≡ repliesWriteNone
   pub sightedAgain :
-      (repliesTo callsSightedAgain ≡ repliesSightedAgain)
+      (x .replies callsSightedAgain ≡ repliesSightedAgain)
       × (sightingsOf callsSightedAgain 0
       ≡ record { item = byte 0; setter = 0 }
       ∷ record { item = byte 0; setter = 1 }
       ∷ [])
-  pub stillStale : repliesTo callsStillStale ≡ repliesStillStale
-  pub begunAgain : repliesTo callsBegunAgain ≡ repliesBegunAgain
-  pub staleEnded : repliesTo callsStaleEnded ≡ repliesStaleEnded
-  pub justBegun : repliesTo callsJustBegun ≡ repliesJustBegun
-  pub numbers : repliesTo callsNumbers ≡ repliesNumbers
-  pub arguments : repliesTo callsArguments ≡ repliesArguments
-  pub log : repliesTo callsLog ≡ repliesLog
+  pub stillStale : x .replies callsStillStale ≡ repliesStillStale
+  pub begunAgain : x .replies callsBegunAgain ≡ repliesBegunAgain
+  pub staleEnded : x .replies callsStaleEnded ≡ repliesStaleEnded
+  pub justBegun : x .replies callsJustBegun ≡ repliesJustBegun
+  pub numbers : x .replies callsNumbers ≡ repliesNumbers
+  pub arguments : x .replies callsArguments ≡ repliesArguments
+  pub log : x .replies callsLog ≡ repliesLog
+  pub overlap : (x .replies callsOverlap ≡ repliesOverlap) × (beginning (x .value callsOverlap) 0 3 ≡ A ∷ C ∷ X ∷ [])

@@ -1,29 +1,40 @@
--- How the situations are told: the plain machine from Fresh, and what is looked at after a list of calls.
+-- How the situations are told: from Fresh, and what is looked at after a list of calls.
 use mathlib.Core.List.{List, [], _∷_}
-use Prim.Native.Nat.{ℕ, zero, suc, _*_, _%_}
+use lib.ListN.{getD}
+use Prim.Native.Nat.{ℕ, zero, suc, _*_}
 use Rattle.record.specs.Paper.{Said, plain, given, refused}
-use Rattle.rules.specs.Items.{byte, offset}
+use Rattle.rules.specs.Items.{byte, Values}
 use Rattle.rules.specs.Plain.{Call, begin, Reply, Entry, Slot, closed, running, Plain, freshPlain, plainReplies, plainAfter}
+use Rattle.rules.specs.Machine.{Machine, values}
+use Rattle.rules.specs.Calls.{callsReplies, callsAfter}
 
 -- "Descriptor d belongs to file d mod 8, so 0 and 8 share file 0. Each situation starts at its own Fresh."
-unfoldable pub fresh : Plain
-fresh = freshPlain (λ d. d % 8)
+unfoldable pub numbers : List ℕ
+numbers = 0 ∷ 1 ∷ 2 ∷ 3 ∷ 4 ∷ 5 ∷ 6 ∷ 7 ∷ 0 ∷ 1 ∷ 2 ∷ 3 ∷ 4 ∷ 5 ∷ 6 ∷ 7 ∷ []
 
-unfoldable pub repliesTo : List Call → List Reply
-repliesTo cs = plainReplies cs fresh
+unfoldable pub fresh : Plain
+fresh = freshPlain (λ d. getD numbers d 0)
+
+-- What is looked at: the replies to a list of calls, and the committed values after it. On the plain machine, and on a store.
+pub record Seen : Type 0 where
+  pub replies : List Call → List Reply
+  pub value : List Call → Values
+
+unfoldable pub onPlain : Seen
+onPlain = record { replies = λ cs. plainReplies cs fresh; value = λ cs. plainAfter cs fresh .committed .value }
+
+unfoldable pub onStore : Machine → Seen
+onStore m =
+    record { replies = λ cs. callsReplies cs m; value = λ cs. values (callsAfter cs m .store) (callsAfter cs m .files) }
 
 -- n committed bytes from a place of the files buffer on.
-unfoldable pub committedBytes : Plain → ℕ → ℕ → List ℕ
-committedBytes p q zero = []
-committedBytes p q (suc n) = p .committed .value (byte q) ∷ committedBytes p (suc q) n
+unfoldable pub committedBytes : Values → ℕ → ℕ → List ℕ
+committedBytes v q zero = []
+committedBytes v q (suc n) = v (byte q) ∷ committedBytes v (suc q) n
 
--- After a list of calls: the first n bytes of file f.
-unfoldable pub beginning : List Call → ℕ → ℕ → List ℕ
-beginning cs f n = committedBytes (plainAfter cs fresh) (4096 * f) n
-
--- After a list of calls: the committed offset of descriptor d.
-unfoldable pub committedOffset : List Call → ℕ → ℕ
-committedOffset cs d = plainAfter cs fresh .committed .value (offset d)
+-- The first n bytes of file f.
+unfoldable pub beginning : Values → ℕ → ℕ → List ℕ
+beginning v f n = committedBytes v (4096 * f) n
 
 -- The sightings of transaction t; none where it is not open.
 unfoldable pub seenIn : Slot → List Entry

@@ -7,7 +7,7 @@ use Rattle.record.specs.Paper.{plain, pointer, granted, refused}
 use Rattle.rules.specs.Items.{offset}
 use Rattle.rules.specs.Steps.{seek, write, getFilePointer, read}
 use Rattle.rules.specs.Plain.{Call, on, commit, Reply}
-use Rattle.rules.specs.Setup.{repliesTo, beginning, committedOffset, sightingsOf, says, gives, begins, beginsReplies, A, B, C, D, Q, X, Y, Z, dot}
+use Rattle.rules.specs.Setup.{Seen, beginning, sightingsOf, says, gives, begins, beginsReplies, A, B, C, D, Q, X, Y, Z, dot}
 
 -- a "T0 writes AB, T1 writes CD, both on 0. Commit T1, T0: both answer 0. File 0 begins CDAB, offset 4."
 unfoldable pub callsA : List Call
@@ -239,16 +239,16 @@ unfoldable pub repliesL : List Reply
 repliesL = beginsReplies ++ replicate 64 (says plain) ++ says (refused 10) ∷ says plain ∷ says (refused 9) ∷ []
 
 -- What the starred situations come to, together.
-pub record Starred : Type 0 where
-  pub a : (repliesTo callsA ≡ repliesA) × (beginning callsA 0 4 ≡ C ∷ D ∷ A ∷ B ∷ []) × (committedOffset callsA 0 ≡ 4)
-  pub b : repliesTo callsB ≡ repliesB
-  pub c : (repliesTo callsC ≡ repliesC) × (beginning callsC 0 2 ≡ A ∷ B ∷ [])
+pub record Starred (x : Seen) : Type 0 where
+  pub a : (x .replies callsA ≡ repliesA) × (beginning (x .value callsA) 0 4 ≡ C ∷ D ∷ A ∷ B ∷ []) × (x .value callsA (offset 0) ≡ 4)
+  pub b : x .replies callsB ≡ repliesB
+  pub c : (x .replies callsC ≡ repliesC) × (beginning (x .value callsC) 0 2 ≡ A ∷ B ∷ [])
   pub d :
-      (repliesTo (callsD 2) ≡ repliesD (says (granted 1)) (says (refused 13)))
-      × (repliesTo (callsD 3) ≡ repliesD (says (granted 0)) (says (granted 0)))
-  pub e : repliesTo callsE ≡ repliesE
-  pub f : repliesTo callsF ≡ repliesF
-  pub g : (repliesTo callsG ≡ repliesG) × (sightingsOf callsG 0 ≡ record { item = offset 8; setter = 0 } ∷ [])
-  pub h : (repliesTo callsH ≡ repliesH) × (beginning callsH 0 1 ≡ A ∷ []) × (committedOffset callsH 0 ≡ 1)
-  pub i : (repliesTo callsI ≡ repliesI) × (beginning callsI 0 5 ≡ 0 ∷ 0 ∷ 0 ∷ 0 ∷ A ∷ []) × (committedOffset callsI 0 ≡ 9)
-  pub j : repliesTo callsJ ≡ repliesJ
+      (x .replies (callsD 2) ≡ repliesD (says (granted 1)) (says (refused 13)))
+      × (x .replies (callsD 3) ≡ repliesD (says (granted 0)) (says (granted 0)))
+  pub e : x .replies callsE ≡ repliesE
+  pub f : x .replies callsF ≡ repliesF
+  pub g : (x .replies callsG ≡ repliesG) × (sightingsOf callsG 0 ≡ record { item = offset 8; setter = 0 } ∷ [])
+  pub h : (x .replies callsH ≡ repliesH) × (beginning (x .value callsH) 0 1 ≡ A ∷ []) × (x .value callsH (offset 0) ≡ 1)
+  pub i : (x .replies callsI ≡ repliesI) × (beginning (x .value callsI) 0 5 ≡ 0 ∷ 0 ∷ 0 ∷ 0 ∷ A ∷ []) × (x .value callsI (offset 0) ≡ 9)
+  pub j : x .replies callsJ ≡ repliesJ

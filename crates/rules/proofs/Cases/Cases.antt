@@ -1,11 +1,12 @@
 -- The situations of paper 01 hold of the rules: each is computed.
 use mathlib.Core.Path.{refl}
 use Rattle.rules.specs.Situations.{Starred, callsA, repliesA, callsB, repliesB, callsC, repliesC, callsD, repliesD, callsE, repliesE, callsF, repliesF, callsG, repliesG, callsH, repliesH, callsI, repliesI, callsJ, repliesJ, callsK, repliesK, callsL, repliesL}
-use Rattle.rules.specs.Corners.{Corners, callsStaleFirst, repliesStaleFirst, callsRefusedSettling, repliesRefusedSettling, callsUnsighted, repliesUnsighted, callsMoved, repliesMoved, callsMovedStale, repliesMovedStale, callsNeighbour, repliesNeighbour, callsNeighbourSet, repliesNeighbourSet, callsReadNone, repliesReadNone, callsReadNoneStale, repliesReadNoneStale, callsWriteNone, repliesWriteNone, callsSightedAgain, repliesSightedAgain, callsStillStale, repliesStillStale, callsBegunAgain, repliesBegunAgain, callsStaleEnded, repliesStaleEnded, callsJustBegun, repliesJustBegun, callsNumbers, repliesNumbers, callsArguments, repliesArguments, callsLog, repliesLog}
+use Rattle.rules.specs.Corners.{Corners, callsStaleFirst, repliesStaleFirst, callsRefusedSettling, repliesRefusedSettling, callsUnsighted, repliesUnsighted, callsMoved, repliesMoved, callsMovedStale, repliesMovedStale, callsNeighbour, repliesNeighbour, callsNeighbourSet, repliesNeighbourSet, callsReadNone, repliesReadNone, callsReadNoneStale, repliesReadNoneStale, callsWriteNone, repliesWriteNone, callsSightedAgain, repliesSightedAgain, callsStillStale, repliesStillStale, callsBegunAgain, repliesBegunAgain, callsStaleEnded, repliesStaleEnded, callsJustBegun, repliesJustBegun, callsNumbers, repliesNumbers, callsArguments, repliesArguments, callsLog, repliesLog, callsOverlap, repliesOverlap}
+use Rattle.rules.specs.Setup.{onPlain}
 use Rattle.rules.proofs.Cases.Opened.{opened}
 
 -- "The starred ones hold together as a theorem about the rules."
-pub starred : Starred
+pub starred : Starred onPlain
 unfolding opened callsA repliesA callsB repliesB callsC repliesC callsD repliesD callsE repliesE callsF repliesF callsG repliesG callsH repliesH callsI repliesI callsJ repliesJ
 starred =
     record {
@@ -22,8 +23,8 @@ starred =
     }
 
 -- Situations k and l, and corners of the text.
-pub corners : Corners
-unfolding opened callsK repliesK callsL repliesL callsStaleFirst repliesStaleFirst callsRefusedSettling repliesRefusedSettling callsUnsighted repliesUnsighted callsMoved repliesMoved callsMovedStale repliesMovedStale callsNeighbour repliesNeighbour callsNeighbourSet repliesNeighbourSet callsReadNone repliesReadNone callsReadNoneStale repliesReadNoneStale callsWriteNone repliesWriteNone callsSightedAgain repliesSightedAgain callsStillStale repliesStillStale callsBegunAgain repliesBegunAgain callsStaleEnded repliesStaleEnded callsJustBegun repliesJustBegun callsNumbers repliesNumbers callsArguments repliesArguments callsLog repliesLog
+pub corners : Corners onPlain
+unfolding opened callsK repliesK callsL repliesL callsStaleFirst repliesStaleFirst callsRefusedSettling repliesRefusedSettling callsUnsighted repliesUnsighted callsMoved repliesMoved callsMovedStale repliesMovedStale callsNeighbour repliesNeighbour callsNeighbourSet repliesNeighbourSet callsReadNone repliesReadNone callsReadNoneStale repliesReadNoneStale callsWriteNone repliesWriteNone callsSightedAgain repliesSightedAgain callsStillStale repliesStillStale callsBegunAgain repliesBegunAgain callsStaleEnded repliesStaleEnded callsJustBegun repliesJustBegun callsNumbers repliesNumbers callsArguments repliesArguments callsLog repliesLog callsOverlap repliesOverlap
 corners =
     record {
       k = refl;
@@ -46,4 +47,5 @@ corners =
       numbers = refl;
       arguments = refl;
       log = refl;
+      overlap = (refl, refl);
     }

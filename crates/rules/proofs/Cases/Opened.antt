@@ -11,5 +11,5 @@ use Rattle.rules.specs.Plain as Plain
 use Rattle.rules.specs.Setup as Setup
 
 unfoldable pub opened : Type 0
-unfolding Journal.placeNumber Below.below Items.same Items.andThen Items.result Items.asked Standings.afterSeek Standings.afterWrite Standings.afterRead Standings.pointerSettles Standings.readSettles Standings.advance Standings.settled Standings.offsetOf Standings.writePlace Standings.isSet Standings.finalOffset Transactions.empty Transactions.put Transactions.restand Transactions.placedAt Transactions.placeWrite Transactions.settle Transactions.those Transactions.settling Reading.over Reading.byteAt Reading.supplies Reading.orElse Reading.latest Reading.bring Reading.fetch Steps.bufferOf Steps.check Steps.orGivenBack Steps.total Steps.written Steps.seekStep Steps.writeStep Steps.pointerStep Steps.settledByRead Steps.readSettled Steps.readStep Steps.step Commits.landsAt Commits.stretch Commits.byteSettings Commits.offsetSettings Commits.settings Commits.fits Commits.putItem Commits.landed Commits.setBy Commits.commitRefusal Plain.sameEntry Plain.sameEntries Plain.entries Plain.freshPlain Plain.stopped Plain.prepend Plain.goOn Plain.lone Plain.ops Plain.firstList Plain.secondList Plain.isStale Plain.turnedDown Plain.withSlot Plain.answering Plain.plainBegin Plain.plainStepped Plain.plainOn Plain.committing Plain.grant Plain.staleSlot Plain.becameStale Plain.plainCommitted Plain.plainCommit Plain.plainAbort Plain.numbered Plain.plainCall Plain.plainAfter Plain.plainReplies Setup.fresh Setup.repliesTo Setup.committedBytes Setup.beginning Setup.committedOffset Setup.seenIn Setup.sightingsOf Setup.begins Setup.beginsReplies
+unfolding Journal.placeNumber Below.below Items.same Items.andThen Items.result Items.asked Standings.afterSeek Standings.afterWrite Standings.afterRead Standings.pointerSettles Standings.readSettles Standings.advance Standings.settled Standings.offsetOf Standings.writePlace Standings.isSet Standings.finalOffset Transactions.empty Transactions.put Transactions.restand Transactions.placedAt Transactions.placeWrite Transactions.settle Transactions.those Transactions.settling Reading.over Reading.byteAt Reading.supplies Reading.orElse Reading.latest Reading.bring Reading.fetch Steps.bufferOf Steps.check Steps.orGivenBack Steps.total Steps.written Steps.seekStep Steps.writeStep Steps.pointerStep Steps.settledByRead Steps.readSettled Steps.readStep Steps.step Commits.landsAt Commits.stretch Commits.byteSettings Commits.offsetSettings Commits.settings Commits.fits Commits.putItem Commits.landed Commits.setBy Commits.commitRefusal Plain.sameEntry Plain.sameEntries Plain.entries Plain.freshPlain Plain.stopped Plain.prepend Plain.goOn Plain.lone Plain.ops Plain.firstList Plain.secondList Plain.isStale Plain.turnedDown Plain.withSlot Plain.answering Plain.plainBegin Plain.plainStepped Plain.plainOn Plain.committing Plain.grant Plain.staleSlot Plain.becameStale Plain.plainCommitted Plain.plainCommit Plain.plainAbort Plain.numbered Plain.plainCall Plain.plainAfter Plain.plainReplies Setup.numbers Setup.fresh Setup.onPlain Setup.committedBytes Setup.beginning Setup.seenIn Setup.sightingsOf Setup.begins Setup.beginsReplies
 opened = Unit {0}

@@ -1,0 +1,34 @@
+-- The situations and the corners hold of every freshly made store: by demand 3 its replies and values are the plain machine's.
+use mathlib.Core.List.{List}
+use mathlib.Core.Path.{_≡_, sym, ap, _∙_, fun-ext, subst⁻¹}
+use Prim.Native.Nat.{ℕ}
+use lib.ListN.{getD}
+use Rattle.rules.specs.Items.{Values}
+use Rattle.rules.specs.Plain.{Call, Reply, Committed, freshPlain, plainAfter, plainReplies}
+use Rattle.rules.specs.Machine.{Machine, values}
+use Rattle.rules.specs.Calls.{callsAfter, callsReplies}
+use Rattle.rules.specs.Demand3.{FreshlyMade}
+use Rattle.rules.specs.Setup.{numbers, fresh, Seen, onPlain, onStore}
+use Rattle.rules.specs.Situations.{Starred}
+use Rattle.rules.specs.Corners.{Corners}
+use Rattle.rules.proofs.Serial.Theorem.{serial-left}
+use Rattle.rules.proofs.Cases.Cases.{starred, corners}
+use Rattle.rules.proofs.Demand3.Theorem.{demand3}
+
+module _ (m : Machine) (made : FreshlyMade numbers m) where
+  same-values :
+      (cs : List Call)
+      → values (callsAfter cs m .store) (callsAfter cs m .files) ≡ plainAfter cs (freshPlain (λ d. getD numbers d 0)) .committed .value
+  unfolding freshPlain
+  same-values cs = demand3 numbers m made cs .left ∙ ap (λ (c : Committed). c .value) (serial-left (λ d. getD numbers d 0) cs)
+
+  same-seen : onStore m ≡ onPlain
+  unfolding onStore onPlain fresh
+  same-seen = λ i. record { replies = λ cs. demand3 numbers m made cs .replies i; value = λ cs. same-values cs i }
+
+  -- "The starred ones hold together as a theorem about the rules."
+  pub starred-on-store : Starred (onStore m)
+  starred-on-store = subst⁻¹ (λ (x : Seen). Starred x) same-seen starred
+
+  pub corners-on-store : Corners (onStore m)
+  corners-on-store = subst⁻¹ (λ (x : Seen). Corners x) same-seen corners

@@ -1,4 +1,4 @@
-// The two counters of a transaction's log: write records used and data bytes used. They move forward together.
+// The two counters of a transaction's log: write records used and data bytes used.
 
 ghost use mathlib.Core.Path.{_≡_};
 ghost use Prim.Native.Nat.{_+_, _<_, _≤_};
@@ -8,14 +8,23 @@ pub struct Used {
     pub bytes: u16,
 }
 
-// The counters after a write of n bytes: one record more, n bytes more.
+// "In a log the two counters, records used and data bytes used, move forward together": by one record and by n bytes.
+pub fn append(u: &mut Used, n: u16)
+    requires { ⌜ (now u .records ≤ 64) × (now u .bytes + n ≤ 4096) ⌝ }
+    ensures records { λ _. ⌜ now (u .exit) .records ≡ now (u .entry) .records + 1 ⌝ }
+    ensures bytes { λ _. ⌜ now (u .exit) .bytes ≡ now (u .entry) .bytes + n ⌝ }
+{
+    u.records = u.records + 1;
+    u.bytes = u.bytes + n;
+}
+
+// The counters after a write of n bytes. It is the one lender of a `Used`; whoever calls it needs no walk by hand.
 pub fn appended(u: Used, n: u16) -> Used
     requires { ⌜ (u .records ≤ 64) × (u .bytes + n ≤ 4096) ⌝ }
     ensures records { λ r. ⌜ r .records ≡ u .records + 1 ⌝ }
     ensures bytes { λ r. ⌜ r .bytes ≡ u .bytes + n ⌝ }
 {
-    Used {
-        records: u.records + 1,
-        bytes: u.bytes + n,
-    }
+    let mut v = u;
+    append(&mut v, n);
+    v
 }

@@ -1,0 +1,2 @@
+mod Operand
+mod Pair

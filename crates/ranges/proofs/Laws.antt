@@ -1,18 +1,16 @@
 -- Laws of the definitions in specs/: tests and sums by index, what a passed test of a call tells, and what the ranges say.
-use mathlib.Core.Bool.{Bool, true, false, cond, not, _&&_, _||_}
+use mathlib.Core.Bool.{Bool, true, false, not, _&&_, _||_}
 use mathlib.Core.List.{List}
-use mathlib.Core.Path.{_≡_, refl, sym, ap, _∙_}
+use mathlib.Core.Path.{_≡_, refl, sym, _∙_}
 use mathlib.Core.Logic.{⊎-elim}
-use lib.Dec.{leb, ltb, eqb}
+use lib.Dec.{leb, eqb}
 use lib.ListN.{getD, length}
-use Prim.Native.Nat.{ℕ, zero, suc, _+_, _-_, _*_, _≤_, _<_}
+use Prim.Native.Nat.{ℕ, zero, suc, _+_, _*_, _≤_, _<_}
 use native.Mathlib.Nat.{eq-or-lt-of-le, le-of-suc-le-suc, not-suc-le-zero}
 use native.Mathlib.Numerals.{add-one}
 use native.Mathlib.Omega.{arith}
-use borrow.Author.Tests.{leb-true, le-leb, eqb-true, eq-eqb, not-true, not-false}
+use borrow.Author.Tests.{leb-true, le-leb, lt-leb, eqb-true, eq-eqb, not-true, not-false}
 use Rattle.record.specs.declared.Standing.{Standing}
-use Rattle.record.specs.declared.Standing.the-variants.{Untouched, Placed, Deferred, Moved, Known}
-use Rattle.record.specs.declared.Transaction.{Transaction}
 use Rattle.record.specs.declared.Store.{Store}
 use Rattle.record.specs.Journal.{Place, at, after, holderDescriptor, holderPlace, placeNumber, transaction, standingAt}
 use Rattle.ranges.specs.Below.{below, sum}
@@ -100,6 +98,26 @@ unfolding sum
 sum-same f g zero h = refl
 sum-same f g (suc n) h = rw (sum-same f g n (λ k l. h k (omega arith)), h n (omega arith))
 
+-- Refusals 1 to 3, from the tests in the table's order, and what comes after them.
+module _ (files logs marks : ℕ) (s : Store) (t later : ℕ) where
+  pub shared-lengths : lengthsIn files logs marks ≡ false → 1 ≡ shared files logs marks s t later
+  unfolding shared unless
+  shared-lengths e = rw e
+
+  module _ (lengths : lengthsIn files logs marks ≡ true) where
+    pub shared-ranges : storeIn s ≡ false → 2 ≡ shared files logs marks s t later
+    unfolding shared unless
+    shared-ranges e = rw (lengths, e)
+
+    module _ (ranges : storeIn s ≡ true) where
+      pub shared-number : 7 < t → 3 ≡ shared files logs marks s t later
+      unfolding shared unless
+      shared-number l = rw (lengths, ranges, lt-leb t 7 l)
+
+      pub shared-later : t ≤ 7 → shared files logs marks s t later ≡ later
+      unfolding shared unless
+      shared-later l = rw (lengths, ranges, le-leb t 7 l)
+
 -- A test of a call that passed, and the tests after it.
 unless-zero : (ok : Bool) (n later : ℕ) → 0 < n → unless ok n later ≡ 0 → (ok ≡ true) × (later ≡ 0)
 unfolding unless
@@ -118,7 +136,7 @@ lengths-in files logs marks e =
     let three = and-three (eqb files 32768) (eqb logs 32768) (eqb marks 32768) e in
     record { files = eqb-true _ _ (three .0); logs = eqb-true _ _ (three .1); marks = eqb-true _ _ (three .2) }
 
--- What a passed gate tells: of a call on an open transaction (open is true), of Begin (open is false).
+-- What a passed gate tells: isOpen is true for a call on an open transaction, false for Begin.
 pub record Admitted (files logs marks : ℕ) (s : Store) (t : ℕ) (isOpen : Bool) : Type 0 where
   pub lengths : Lengths files logs marks
   pub ranges : storeIn s ≡ true
@@ -212,3 +230,37 @@ in-range-intro s r =
     (below-all (λ d. leb (getD (s .files) d 0) 7) 16 (λ d l. le-leb _ _ (r .files d l)))
     (below-all (λ d. leb (getD (s .offsets) d 0) 4096) 16 (λ d l. le-leb _ _ (r .offsets d l))))
     (below-all (transactionIn s) 8 (λ t l. transaction-in-intro s t (r .transactions t l)))
+
+-- What the ranges say of record k of transaction t: its descriptor, and its place under that descriptor's standing.
+pub record RecordInRange (s : Store) (t k : ℕ) : Type 0 where
+  pub descriptor : holderDescriptor (getD (s .holders) (64 * t + k) 0) ≤ 15
+  pub place : placeIn (standingAt (transaction s t) (holderDescriptor (getD (s .holders) (64 * t + k) 0))) (holderPlace (getD (s .holders) (64 * t + k) 0) (getD (s .places) (64 * t + k) 0)) (getD (s .lengths) (64 * t + k) 0) ≡ true
+
+pub record-in : (s : Store) (t k : ℕ) → recordIn s t k ≡ true → RecordInRange s t k
+unfolding recordIn
+record-in s t k e =
+    let h = getD (s .holders) (64 * t + k) 0 in
+    let within = placeIn (standingAt (transaction s t) (holderDescriptor h)) (holderPlace h (getD (s .places) (64 * t + k) 0)) (getD (s .lengths) (64 * t + k) 0) in
+    record { descriptor = leb-true _ _ (and-left (leb (holderDescriptor h) 15) within e); place = and-right (leb (holderDescriptor h) 15) within e }
+
+pub record-in-intro : (s : Store) (t k : ℕ) → RecordInRange s t k → recordIn s t k ≡ true
+unfolding recordIn
+record-in-intro s t k r = and-both _ _ (le-leb _ _ (r .descriptor)) (r .place)
+
+-- A place in range ends at most at 4,096; without a place, also within the standing's advance.
+pub place-end : (z : Standing) (q : Place) (n : ℕ) → placeIn z q n ≡ true → placeNumber q + n ≤ 4096
+unfolding placeIn placeNumber
+place-end z (at p) n e = leb-true _ _ e
+place-end z (after a) n e = leb-true _ _ (and-left (leb (a + n) 4096) (endsWithin z (a + n)) e)
+
+pub place-within : (z : Standing) (a n : ℕ) → placeIn z (after a) n ≡ true → endsWithin z (a + n) ≡ true
+unfolding placeIn
+place-within z a n e = and-right (leb (a + n) 4096) (endsWithin z (a + n)) e
+
+pub place-at-intro : (z : Standing) (p n : ℕ) → p + n ≤ 4096 → placeIn z (at p) n ≡ true
+unfolding placeIn
+place-at-intro z p n l = le-leb _ _ l
+
+pub place-after-intro : (z : Standing) (a n : ℕ) → a + n ≤ 4096 → endsWithin z (a + n) ≡ true → placeIn z (after a) n ≡ true
+unfolding placeIn
+place-after-intro z a n l e = and-both _ _ (le-leb _ _ l) e

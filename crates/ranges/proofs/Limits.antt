@@ -6,20 +6,20 @@ use mathlib.Core.Logic.{_⊎_, inl, inr, ⊎-elim}
 use lib.Dec.{leb, ltb, eqb, leb·suc-suc}
 use lib.ListN.{getD, set, length}
 use lib.Seq.{getD-set-same, getD-set-other}
-use Prim.Native.Nat.{ℕ, suc, _+_, _-_, _*_, _≤_, _<_}
+use Prim.Native.Nat.{ℕ, _+_, _-_, _*_, _≤_, _<_}
 use native.Mathlib.Numerals.{add-one}
 use native.Mathlib.Omega.{arith}
 use borrow.Author.Count.{below-more}
-use borrow.Author.Tests.{leb-true, leb-false, le-leb, lt-leb, ltb-true, ltb-false, lt-ltb, le-ltb}
+use borrow.Author.Tests.{leb-true, le-leb, lt-leb, ltb-true, ltb-false, lt-ltb, le-ltb}
 use Rattle.record.specs.declared.Standing.{Standing}
 use Rattle.record.specs.declared.Standing.the-variants.{Untouched, Placed, Deferred, Moved, Known}
 use Rattle.record.specs.declared.Transaction.{Transaction}
 use Rattle.record.specs.declared.Store.{Store}
-use Rattle.record.specs.Journal.{Place, at, after, holderDescriptor, holderPlace, transaction, standingAt}
+use Rattle.record.specs.Journal.{at, holderDescriptor, holderPlace, transaction, standingAt}
 use Rattle.ranges.specs.Limits.{limit, limitInRange, Limited, endsBelow, total, recordOf, journalOf, transactionOf}
 use Rattle.ranges.specs.Ranges.{standingIn, endsWithin, placeIn, recordIn, journalIn, transactionIn}
 use Rattle.ranges.specs.Below.{below}
-use Rattle.ranges.proofs.Laws.{and-left, below-at, below-same, sum-zero, sum-more}
+use Rattle.ranges.proofs.Laws.{and-left, below-at, below-same, sum-zero, sum-more, failed, held}
 
 lt-or-ge : (a b : ℕ) → (a < b) ⊎ (b ≤ a)
 lt-or-ge a b = pick (ltb a b) refl
@@ -192,6 +192,14 @@ module _ (x : Transaction) (t : ℕ) (holders places lengths : List ℕ) where
                 (λ k _. record-ends x room (λ j l. table .kept j l ∙ placed j l) (table .limits) (λ d l. below-at (λ d. standingIn (standingAt x d)) 16 d standings l) holders places lengths (64 * t + k))
 
 -- The ranges read off a transaction and the arrays are those of the record.
-pub transaction-of : (s : Store) (t : ℕ) → transactionOf (transaction s t) t (s .holders) (s .places) (s .lengths) ≡ transactionIn s t
+transaction-of : (s : Store) (t : ℕ) → transactionOf (transaction s t) t (s .holders) (s .places) (s .lengths) ≡ transactionIn s t
 unfolding transactionOf journalOf recordOf total transactionIn journalIn recordIn
 transaction-of s t = refl
+
+-- What `if !r` tells of transaction t, where r is the test of its parts.
+module _ (s : Store) (t : ℕ) {r : Bool} (e : r ≡ transactionOf (transaction s t) t (s .holders) (s .places) (s .lengths)) where
+  pub transaction-failed : not r ≡ true → transactionIn s t ≡ false
+  transaction-failed h = sym (transaction-of s t) ∙ failed e h
+
+  pub transaction-held : not r ≡ false → transactionIn s t ≡ true
+  transaction-held h = sym (transaction-of s t) ∙ held e h

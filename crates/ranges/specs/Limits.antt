@@ -8,6 +8,7 @@ use Prim.Native.Nat.{ℕ, _+_, _*_, _<_}
 use Rattle.record.specs.declared.Standing.{Standing}
 use Rattle.record.specs.declared.Standing.the-variants.{Untouched, Placed, Deferred, Moved, Known}
 use Rattle.record.specs.declared.Transaction.{Transaction}
+use Rattle.record.specs.declared.Store.{Store}
 use Rattle.record.specs.Journal.{holderDescriptor, holderPlace, standingAt}
 use Rattle.ranges.specs.Below.{below, sum}
 use Rattle.ranges.specs.Ranges.{standingIn, placeIn}
@@ -56,3 +57,8 @@ journalOf x t holders places lengths =
 unfoldable pub transactionOf : Transaction → ℕ → List ℕ → List ℕ → List ℕ → Bool
 transactionOf x t holders places lengths =
     not (x .begun) || (below (λ d. standingIn (standingAt x d)) 16 && journalOf x t holders places lengths)
+
+-- The record with these parts.
+abbrev pub storeOf : List ℕ → List ℕ → List Transaction → List ℕ → List ℕ → List ℕ → Store
+storeOf files offsets transactions holders places lengths =
+    record { files = files; offsets = offsets; transactions = transactions; holders = holders; places = places; lengths = lengths }

@@ -5,13 +5,13 @@ use record::Standing;
 use record::Store;
 use record::Transaction;
 ghost use mathlib.Core.Path.{_≡_};
-ghost use mathlib.Core.Bool.{Bool, true, false, not, _&&_, _||_};
-ghost use lib.Dec.{leb, ltb, eqb};
+ghost use mathlib.Core.Bool.{true, false, _&&_};
+ghost use lib.Dec.{leb, eqb};
 ghost use lib.ListN.{getD, length};
-ghost use Prim.Native.Nat.{ℕ, _+_, _*_, _<_, _≤_};
+ghost use Prim.Native.Nat.{_+_, _*_, _<_, _≤_};
 ghost use Rattle.record.specs.Journal.{standingAt};
 ghost use Rattle.ranges.specs.Below.{below, sum};
-ghost use Rattle.ranges.specs.Limits.{limit, limitInRange, Limited, endsBelow, total, transactionOf};
+ghost use Rattle.ranges.specs.Limits.{limitInRange, Limited, endsBelow, total, transactionOf, storeOf};
 ghost use Rattle.ranges.specs.Ranges.{standingIn, storeIn, lengthsIn, admission, admissionOfBegin, admissionOfFresh, gateNumber};
 
 // What the tests before a call's own say: go on, or a refusal.
@@ -177,25 +177,47 @@ fn transaction_in<'a>(
     records_in(t, records, bytes, &room, holders, places, lengths)
 }
 
-// The record is in range.
-pub fn store_in(s: Store) -> bool
-    ensures { λ r. ⌜ r ≡ storeIn s ⌝ }
+// The record with these parts is in range. The number arrays are lent, so that no caller copies a record to have it checked.
+fn parts_in<'a>(
+    files: &'a [u8; 16],
+    offsets: &'a [u16; 16],
+    transactions: [Transaction; 8],
+    holders: &'a [u8; 512],
+    places: &'a [u16; 512],
+    lengths: &'a [u16; 512],
+) -> bool
+    ensures { λ r. ⌜ r ≡ storeIn (storeOf (now (files .entry)) (now (offsets .entry)) transactions (now (holders .entry)) (now (places .entry)) (now (lengths .entry))) ⌝ }
 {
-    if !files_in(&s.files) {
+    if !files_in(files) {
         return false;
     }
-    if !offsets_in(&s.offsets) {
+    if !offsets_in(offsets) {
         return false;
     }
     let mut t = 0;
     while t < 8 {
-        let x = s.transactions[t];
-        if !transaction_in(x, t, &s.holders, &s.places, &s.lengths) {
+        let x = transactions[t];
+        if !transaction_in(x, t, holders, places, lengths) {
             return false;
         }
         t += 1;
     }
     true
+}
+
+// The record is in range.
+pub fn store_in(s: Store) -> bool
+    ensures { λ r. ⌜ r ≡ storeIn s ⌝ }
+{
+    let transactions = s.transactions;
+    parts_in(
+        &s.files,
+        &s.offsets,
+        transactions,
+        &s.holders,
+        &s.places,
+        &s.lengths,
+    )
 }
 
 // Each store buffer has 32,768 bytes.
@@ -218,7 +240,15 @@ pub fn admit(s: Store, files: usize, logs: usize, marks: usize, t: usize) -> Gat
     if !lengths_in(files, logs, marks) {
         return Gate::Refused(Refusal::BufferLength);
     }
-    if !store_in(s) {
+    let transactions = s.transactions;
+    if !parts_in(
+        &s.files,
+        &s.offsets,
+        transactions,
+        &s.holders,
+        &s.places,
+        &s.lengths,
+    ) {
         return Gate::Refused(Refusal::RecordRange);
     }
     if t > 7 {
@@ -238,7 +268,15 @@ pub fn admit_begin(s: Store, files: usize, logs: usize, marks: usize, t: usize) 
     if !lengths_in(files, logs, marks) {
         return Gate::Refused(Refusal::BufferLength);
     }
-    if !store_in(s) {
+    let transactions = s.transactions;
+    if !parts_in(
+        &s.files,
+        &s.offsets,
+        transactions,
+        &s.holders,
+        &s.places,
+        &s.lengths,
+    ) {
         return Gate::Refused(Refusal::RecordRange);
     }
     if t > 7 {

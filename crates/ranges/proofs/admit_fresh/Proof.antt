@@ -1,16 +1,9 @@
-use Prim.Native.Nat.{ℕ, _+_, _-_, _*_, _≤_, _<_}
-use mathlib.Core.Path.{_≡_, refl, sym, ap, _∙_}
-use mathlib.Core.Bool.{Bool, true, false, _&&_}
-use native.Mathlib.Omega.{arith}
-use lib.Dec.{leb, ltb, eqb}
-use lib.ListN.{length, getD}
-use borrow.Author.Tests.{lt-leb, le-leb, lt-ltb, le-ltb, eq-eqb, ne-eqb}
-use Rattle.ranges.specs.Below.{below, sum}
-use Rattle.ranges.proofs.Laws.{below-zero, below-more, below-fails, below-at, below-same, failed, held}
+-- `ranges::admit_fresh` meets its contract.
+use borrow.Author.Tests.{eq-eqb, ne-eqb}
+use Rattle.ranges.proofs.Laws.{failed, held}
 use borrow.Author.Needs.{needs}
 use Rattle.record.specs.Paper.{number}
 use Rattle.ranges.specs.Ranges.{unless, admissionOfFresh, gateNumber}
-use borrow.Author.Needs.{needs}
 use Rattle.ranges.proofs.admit_fresh.Statement.{statement}
 use Rattle.ranges.proofs.admit_fresh.Tie as tie
 

@@ -1,11 +1,12 @@
-use Prim.Native.Nat.{ℕ, _+_, _-_, _*_, _≤_, _<_}
-use mathlib.Core.Path.{_≡_, refl, sym, ap, _∙_}
-use mathlib.Core.Bool.{Bool, true, false, _&&_}
+-- `ranges::files_in` meets its contract. The loop's invariant: every number passed is at most 7.
+use Prim.Native.Nat.{_-_, _≤_}
+use mathlib.Core.Path.{_≡_, sym}
+use mathlib.Core.Bool.{true}
 use native.Mathlib.Omega.{arith}
-use lib.Dec.{leb, ltb, eqb}
-use lib.ListN.{length, getD}
-use borrow.Author.Tests.{lt-leb, le-leb, lt-ltb, le-ltb, eq-eqb, ne-eqb}
-use Rattle.ranges.specs.Below.{below, sum}
+use lib.Dec.{leb}
+use lib.ListN.{getD}
+use borrow.Author.Tests.{lt-leb, le-leb}
+use Rattle.ranges.specs.Below.{below}
 use Rattle.ranges.proofs.Laws.{below-zero, below-more, below-fails}
 use borrow.Author.Needs.{needs}
 use Rattle.ranges.proofs.files_in.Statement.{statement}

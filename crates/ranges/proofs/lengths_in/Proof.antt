@@ -1,13 +1,5 @@
-use Prim.Native.Nat.{ℕ, _+_, _-_, _*_, _≤_, _<_}
-use mathlib.Core.Path.{_≡_, refl, sym, ap, _∙_}
-use mathlib.Core.Bool.{Bool, true, false, _&&_}
-use native.Mathlib.Omega.{arith}
-use lib.Dec.{leb, ltb, eqb}
-use lib.ListN.{length, getD}
-use borrow.Author.Tests.{lt-leb, le-leb, lt-ltb, le-ltb, eq-eqb, ne-eqb}
-use Rattle.ranges.specs.Below.{below, sum}
-use Rattle.ranges.proofs.Laws.{below-zero, below-more, below-fails}
-use borrow.Author.Needs.{needs}
+-- `ranges::lengths_in` meets its contract.
+use borrow.Author.Tests.{eq-eqb, ne-eqb}
 use Rattle.ranges.specs.Ranges.{lengthsIn}
 use Rattle.ranges.proofs.lengths_in.Statement.{statement}
 use Rattle.ranges.proofs.lengths_in.Tie as tie

@@ -1,17 +1,9 @@
-use Prim.Native.Nat.{ℕ, _+_, _-_, _*_, _≤_, _<_}
-use mathlib.Core.Path.{_≡_, refl, sym, ap, _∙_}
-use mathlib.Core.Bool.{Bool, true, false, _&&_}
-use native.Mathlib.Omega.{arith}
-use lib.Dec.{leb, ltb, eqb}
-use lib.ListN.{length, getD}
-use borrow.Author.Tests.{lt-leb, le-leb, lt-ltb, le-ltb, eq-eqb, ne-eqb}
-use Rattle.ranges.specs.Below.{below, sum}
-use Rattle.ranges.proofs.Laws.{below-zero, below-more, below-fails}
+-- `ranges::limit_in_range` meets its contract, standing by standing.
+use borrow.Author.Tests.{lt-leb, le-leb}
 use borrow.Author.Needs.{needs}
 use Rattle.ranges.specs.Limits.{limit, limitInRange}
 use Rattle.ranges.specs.Ranges.{standingIn}
 use Rattle.ranges.proofs.Limits.{limit-moved}
-use borrow.Author.Needs.{needs}
 use Rattle.ranges.proofs.limit_in_range.Statement.{statement}
 use Rattle.ranges.proofs.limit_in_range.Tie as tie
 

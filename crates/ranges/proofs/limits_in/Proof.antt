@@ -1,16 +1,15 @@
-use Prim.Native.Nat.{ℕ, _+_, _-_, _*_, _≤_, _<_}
-use mathlib.Core.Path.{_≡_, refl, sym, ap, _∙_}
+-- `ranges::limits_in` meets its contract. The loop's invariant: the standings passed are in range and their limits stand in the table.
+use Prim.Native.Nat.{ℕ, _+_, _-_, _≤_, _<_}
+use mathlib.Core.Path.{_≡_, refl, sym, _∙_}
 use mathlib.Core.Bool.{true, false≢true}
 use native.Mathlib.Omega.{arith}
-use lib.Dec.{leb, ltb, eqb}
 use lib.ListN.{length, getD, length-set}
-use borrow.Author.Tests.{lt-leb, le-leb, lt-ltb, le-ltb, eq-eqb, ne-eqb}
-use Rattle.ranges.specs.Below.{below, sum}
+use Rattle.ranges.specs.Below.{below}
 use Rattle.ranges.proofs.Laws.{below-zero, below-more, below-fails}
 use borrow.Author.Needs.{needs}
 use lib.Seq.{getD-set-other}
 use Rattle.record.specs.Journal.{standingAt}
-use Rattle.ranges.specs.Limits.{limit, limitInRange, Limited}
+use Rattle.ranges.specs.Limits.{limit}
 use Rattle.ranges.specs.Ranges.{standingIn}
 use Rattle.ranges.proofs.Limits.{limit-in, limit-out, half-more}
 use Rattle.ranges.proofs.limits_in.Statement.{statement}

@@ -1,17 +1,10 @@
-use Prim.Native.Nat.{ℕ, _+_, _-_, _*_, _≤_, _<_}
-use mathlib.Core.Path.{_≡_, refl, sym, ap, _∙_}
-use mathlib.Core.Bool.{Bool, true, false, _&&_}
+-- `ranges::transaction_in` meets its contract.
 use native.Mathlib.Omega.{arith}
-use lib.Dec.{leb, ltb, eqb}
-use lib.ListN.{length, getD}
-use borrow.Author.Tests.{lt-leb, le-leb, lt-ltb, le-ltb, eq-eqb, ne-eqb}
-use Rattle.ranges.specs.Below.{below, sum}
-use Rattle.ranges.proofs.Laws.{below-zero, below-more, below-fails, below-at, below-same, failed, held}
+use Rattle.ranges.proofs.Laws.{failed, held}
 use borrow.Author.Needs.{needs}
 use borrow.Author.Tests.{not-false}
 use lib.ListN.{getD-replicate}
 use Rattle.ranges.proofs.Limits.{closed-in, records-fail, bytes-fail, standings-fail, records-decide}
-use borrow.Author.Needs.{needs}
 use Rattle.ranges.proofs.transaction_in.Statement.{statement}
 use Rattle.ranges.proofs.transaction_in.Tie as tie
 

@@ -1,6 +1,8 @@
 // The store record: what a caller keeps between calls, beside the three lent buffers.
 
 use counters::Used;
+ghost use mathlib.Core.Path.{_≡_};
+ghost use Rattle.record.specs.Journal.{ended as endedTransaction, begun as begunTransaction};
 
 // The standing of a descriptor in a transaction (paper 01's five standings). Each carries the numbers named there and no others.
 pub enum Standing {
@@ -64,4 +66,31 @@ pub enum Outcome {
 pub struct Answer {
     pub outcome: Outcome,
     pub store: Store,
+}
+
+// A transaction that has ended: an empty log, sixteen Untouched descriptors, not stale.
+pub fn ended() -> Transaction
+    ensures { λ r. ⌜ r ≡ endedTransaction ⌝ }
+{
+    let d = Descriptor {
+        standing: Standing::Untouched,
+    };
+    Transaction {
+        begun: false,
+        stale: false,
+        used: Used {
+            records: 0,
+            bytes: 0,
+        },
+        descriptors: [d; 16],
+    }
+}
+
+// A transaction just begun.
+pub fn begun() -> Transaction
+    ensures { λ r. ⌜ r ≡ begunTransaction ⌝ }
+{
+    let mut out = ended();
+    out.begun = true;
+    out
 }

@@ -1,15 +1,21 @@
 -- Laws of lists that are made by index, and of sums over an index.
 use mathlib.Core.Bool.{Bool, true, false}
-use mathlib.Core.List.{List, [], _∷_, _++_, map}
+use mathlib.Core.List.{List, [], _∷_, _++_, map, map-append}
 use mathlib.Core.Logic.{_⊎_, inl, inr, ⊎-elim}
 use mathlib.Core.Path.{_≡_, refl, sym, ap, ap₂, _∙_}
 use borrow.Author.Tests.{eqb-true, eqb-false}
 use lib.Dec.{eqb}
-use lib.ListN.{length, getD, length-append, List·getD-append}
-use lib.Seq.{ext-getD, getD-at}
+use lib.ListN.{length, getD, set, length-append, length-set, List·getD-append}
+use lib.Seq.{ext-getD, getD-at, getD-set-same, getD-set-other, set-getD}
+use borrow.Author.Tests.{eqb-true, eqb-false}
+use mathlib.Core.Bool.{Bool, true, false}
+use lib.Dec.{eqb}
 use native.Mathlib.Nat.{eq-or-lt-of-le, le-of-suc-le-suc, not-suc-le-zero}
 use native.Mathlib.Omega.{arith}
 use Prim.Native.Nat.{ℕ, zero, suc, _+_, _≤_, _<_}
+use native.Mathlib.Numerals.{add-one}
+use Rattle.octets.specs.Parts.{pasted}
+use Rattle.octets.proofs.PartLaws.{pasted-none, pasted-more}
 use Rattle.ranges.specs.Below.{sum}
 use Rattle.rules.specs.Machine.{tabulate}
 
@@ -48,6 +54,20 @@ module _ {A : Type 0} where
       ext-getD z (tabulate (λ k. getD l k z) (length l)) l (length-tabulate (λ k. getD l k z) (length l))
       (λ k h. getD-tabulate (λ i. getD l i z) (length l) k z (rw length-tabulate at h))
 
+  -- A table that differs from another at one number.
+  pub tabulate-set : (f g : ℕ → A) (n d : ℕ) (a : A) → d < n → g d ≡ a → ((k : ℕ) → (k ≡ d → ⊥) → g k ≡ f k) → tabulate g n ≡ set (tabulate f n) d a
+  tabulate-set f g n d a h here other =
+      ext-getD a (tabulate g n) (set (tabulate f n) d a) (length-tabulate g n ∙ sym (length-set (tabulate f n) d a ∙ length-tabulate f n))
+      (λ k l. let m : k < n = rw length-tabulate at l in getD-tabulate g n k a m ∙ pick k m (eqb k d) refl)
+    where
+      pick : (k : ℕ) → k < n → (b : Bool) → eqb k d ≡ b → g k ≡ getD (set (tabulate f n) d a) k a
+      pick k m true e =
+          let q = eqb-true k d e in
+          ap g q ∙ here ∙ sym (ap (λ (i : ℕ). getD (set (tabulate f n) d a) i a) q ∙ getD-set-same (tabulate f n) d a a (rw length-tabulate h))
+      pick k m false e =
+          let q = eqb-false k d e in
+          other k q ∙ sym (getD-set-other (tabulate f n) d k a a q ∙ getD-tabulate f n k a m)
+
   -- What holds of every element of a list and of one more holds of every element of the longer list.
   pub every-snoc : (P : A → Type 0) (l : List A) (a z : A) → ((k : ℕ) → k < length l → P (getD l k z)) → P a
       → (k : ℕ) → k < length (l ++ (a ∷ [])) → P (getD (l ++ (a ∷ [])) k z)
@@ -61,6 +81,23 @@ pub getD-map : {A B : Type 0} (f : A → B) (l : List A) (z : A) (y : B) (k : �
 getD-map f [] z y k h = absurd (not-suc-le-zero h)
 getD-map f (a ∷ l) z y zero h = refl
 getD-map f (a ∷ l) z y (suc k) h = getD-map f l z y k (le-of-suc-le-suc h)
+
+pub map-tabulate : {A B : Type 0} (g : A → B) (f : ℕ → A) (n : ℕ) → map g (tabulate f n) ≡ tabulate (λ k. g (f k)) n
+unfolding tabulate
+map-tabulate g f zero = refl
+map-tabulate g f (suc n) = map-append g (tabulate f n) (f n ∷ []) ∙ ap (λ (l : List _). l ++ (g (f n) ∷ [])) (map-tabulate g f n)
+
+-- A list with its own elements pasted over them.
+pub pasted-own : (l : List ℕ) (at n : ℕ) → at + n ≤ length l → pasted l at (tabulate (λ k. getD l (at + k) 0) n) ≡ l
+unfolding tabulate
+pasted-own l at zero h = pasted-none l at
+pasted-own l at (suc n) h =
+    let f : ℕ → ℕ = λ k. getD l (at + k) 0 in
+    let e = length-tabulate f n in
+    sym (pasted-more l at (tabulate f n) (omega arith) (f n) (omega arith))
+    ∙ ap (λ (k : ℕ). set (pasted l at (tabulate f n)) (at + k) (f n)) e
+    ∙ ap (λ (m : List ℕ). set m (at + n) (f n)) (pasted-own l at n (omega arith))
+    ∙ set-getD l (at + n) 0
 
 module _ (f : ℕ → ℕ) where
   -- A sum, taken from its first number on.

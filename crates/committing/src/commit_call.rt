@@ -1,0 +1,57 @@
+// Commit.
+use landing::landed;
+use landing::staled;
+use octets::marks as bits;
+use ranges::Gate;
+use record::Answer;
+use record::Outcome;
+use record::Refusal;
+use record::Store;
+ghost use mathlib.Core.List.{[]};
+ghost use mathlib.Core.Path.{_≡_};
+ghost use Rattle.rules.specs.Plain.{Call};
+ghost use Rattle.rules.specs.Calls.{call};
+ghost use Rattle.rules.specs.Promises.{lent, Meets};
+
+pub fn commit(mut s: Store, files: &mut [u8], logs: &[u8], marks: &mut [u8], t: usize) -> Answer
+    ensures { λ r. ⌜ Meets (call (Call.commit t) (lent s (now (files .entry)) (now (logs .entry)) (now (marks .entry)))) r (now (files .exit)) (now (logs .exit)) (now (marks .exit)) [] ⌝ }
+{
+    let g = ranges::admit(s, files.len(), logs.len(), marks.len(), t);
+    if let Gate::Refused(r) = g {
+        return turns::turned_down(r, s);
+    }
+    let own = t as u8;
+    let x = s.transactions[t];
+    if x.stale {
+        bits::unmark_all(marks, own);
+        s.transactions[t] = record::ended();
+        return turns::turned_down(Refusal::Stale, s);
+    }
+    if !landed::fits(x, &s.offsets) {
+        return turns::turned_down(Refusal::SettledPastEnd, s);
+    }
+    let used = x.used;
+    let seen = landed::land_writes(
+        files,
+        logs,
+        marks,
+        &s.holders,
+        &s.places,
+        &s.lengths,
+        &s.files,
+        &s.offsets,
+        t,
+        used,
+    );
+    let xs = s.transactions;
+    let offsets = s.offsets;
+    let a = staled::stale_others(xs, t, seen);
+    let ys = a.transactions;
+    s.transactions = ys;
+    s.offsets = landed::offsets_after(x, offsets);
+    bits::unmark_all(marks, own);
+    Answer {
+        outcome: Outcome::Granted(a.count),
+        store: s,
+    }
+}

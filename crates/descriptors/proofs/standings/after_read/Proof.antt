@@ -1,0 +1,71 @@
+-- `standings::after_read` meets its contract, by cases on the standing.
+use native.Mathlib.Omega.{arith}
+use Rattle.rules.specs.Standings.{afterRead, offsetOf}
+use borrow.Author.Needs.{needs}
+use Rattle.descriptors.proofs.standings.after_read.Statement.{statement}
+use Rattle.descriptors.proofs.standings.after_read.Tie as tie
+
+enum-told : tie.Need-enum-told
+enum-told c = search needs
+
+enum-known-z : tie.Need-enum-known-z
+enum-known-z c = search needs
+
+add-t9 : tie.Need-add-t9
+unfolding offsetOf
+add-t9 c = omega (arith, rw (c .before .z .given .1) at (c .before .before .before .pre))
+
+enum-known-z-2 : tie.Need-enum-known-z-2
+enum-known-z-2 c = search needs
+
+enum-known-z-3 : tie.Need-enum-known-z-3
+enum-known-z-3 c = search needs
+
+add-t10 : tie.Need-add-t10
+unfolding offsetOf
+add-t10 c = omega (arith, rw (c .before .z3 .given .1) at (c .before .before .before .pre))
+
+enum-known-z-4 : tie.Need-enum-known-z-4
+enum-known-z-4 c = search needs
+
+add-t11 : tie.Need-add-t11
+unfolding offsetOf
+add-t11 c = omega (arith, rw (c .before .z4 .given .1) at (c .before .before .before .pre))
+
+returns : tie.Need-returns
+unfolding afterRead
+returns c = rw (c .enum-told .given .1)
+
+returns-2 : tie.Need-returns-2
+unfolding afterRead
+returns-2 c = rw (c .before .z .given .1)
+
+returns-3 : tie.Need-returns-3
+unfolding afterRead
+returns-3 c = rw (c .before .z2 .given .1)
+
+returns-4 : tie.Need-returns-4
+unfolding afterRead
+returns-4 c = rw (c .before .z3 .given .1)
+
+returns-5 : tie.Need-returns-5
+unfolding afterRead
+returns-5 c = rw (c .before .z4 .given .1)
+
+pub after-read-spec : {M : Type 1} → statement M
+after-read-spec =
+    tie.close
+    (tie.spec
+    enum-told
+    enum-known-z
+    add-t9
+    enum-known-z-2
+    enum-known-z-3
+    add-t10
+    enum-known-z-4
+    add-t11
+    returns
+    returns-2
+    returns-3
+    returns-4
+    returns-5)

@@ -1,0 +1,56 @@
+-- `standings::place_of` meets its contract, by cases on the standing.
+use Rattle.record.specs.Journal.{placeNumber}
+use Rattle.rules.specs.Standings.{writePlace}
+use borrow.Author.Needs.{needs}
+use Rattle.descriptors.proofs.standings.place_of.Statement.{statement}
+use Rattle.descriptors.proofs.standings.place_of.Tie as tie
+
+enum-told : tie.Need-enum-told
+enum-told c = search needs
+
+enum-known-z : tie.Need-enum-known-z
+enum-known-z c = search needs
+
+enum-known-z-2 : tie.Need-enum-known-z-2
+enum-known-z-2 c = search needs
+
+enum-known-z-3 : tie.Need-enum-known-z-3
+enum-known-z-3 c = search needs
+
+enum-known-z-4 : tie.Need-enum-known-z-4
+enum-known-z-4 c = search needs
+
+returns : tie.Need-returns
+unfolding placeNumber writePlace
+returns c = rw (c .enum-told .given .1)
+
+returns-2 : tie.Need-returns-2
+unfolding placeNumber writePlace
+returns-2 c = rw (c .before .z .given .1)
+
+returns-3 : tie.Need-returns-3
+unfolding placeNumber writePlace
+returns-3 c = rw (c .before .z2 .given .1)
+
+returns-4 : tie.Need-returns-4
+unfolding placeNumber writePlace
+returns-4 c = rw (c .before .z3 .given .1)
+
+returns-5 : tie.Need-returns-5
+unfolding placeNumber writePlace
+returns-5 c = rw (c .before .z4 .given .1)
+
+pub place-of-spec : {M : Type 1} → statement M
+place-of-spec =
+    tie.close
+    (tie.spec
+    enum-told
+    enum-known-z
+    enum-known-z-2
+    enum-known-z-3
+    enum-known-z-4
+    returns
+    returns-2
+    returns-3
+    returns-4
+    returns-5)

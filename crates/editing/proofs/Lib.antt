@@ -1,0 +1,2 @@
+pub mod SeekRules
+pub mod WriteRules

@@ -1,0 +1,6 @@
+pub mod Owned
+pub mod Filled
+pub mod Decoded
+pub mod Encoded
+pub mod Settling
+pub mod LandsIn

@@ -1,0 +1,73 @@
+// Write records that had no place lie at the committed offset plus the advance before them, once their descriptor is settled.
+use crate::wide_octet;
+ghost use mathlib.Core.Path.{_≡_};
+ghost use Prim.Native.Nat.{ℕ, _+_, _*_, _≤_, _<_};
+ghost use lib.ListN.{getD};
+ghost use Rattle.journal.specs.Places.{holderAfter, placeAfter, placedHolders, placedPlaces};
+
+// A record's holder, after the chosen descriptors are settled ..
+fn holder_after(h: u8, chosen: [bool; 16]) -> u8
+    requires { ⌜ h < 32 ⌝ }
+    ensures { λ r. ⌜ r ≡ holderAfter chosen h ⌝ }
+{
+    if h < 16 {
+        return h;
+    }
+    let e = wide_octet(h) - 16;
+    if chosen[e] {
+        return h - 16;
+    }
+    h
+}
+
+// .. and its place.
+fn place_after(h: u8, p: u16, chosen: [bool; 16], offsets: &[u16; 16]) -> u16
+    requires { ⌜ (h < 32) × (p ≤ 4096) × ((e : ℕ) → e < 16 → getD (now offsets) e 0 ≤ 4096) ⌝ }
+    ensures { λ r. ⌜ r ≡ placeAfter chosen (now (offsets .entry)) h p ⌝ }
+{
+    if h < 16 {
+        return p;
+    }
+    let e = wide_octet(h) - 16;
+    if chosen[e] {
+        return offsets[e] + p;
+    }
+    p
+}
+
+// The holders of transaction t's records, after the chosen descriptors are settled.
+pub fn placed_holders(holders: [u8; 512], t: usize, records: usize, chosen: [bool; 16]) -> [u8; 512]
+    requires { ⌜ (t < 8) × (records ≤ 64) × ((k : ℕ) → k < records → getD holders (64 * t + k) 0 < 32) ⌝ }
+    ensures { λ r. ⌜ r ≡ placedHolders chosen holders t records ⌝ }
+{
+    let mut out = holders;
+    let mut k = 0;
+    while k < records {
+        let i = 64 * t + k;
+        out[i] = holder_after(holders[i], chosen);
+        k += 1;
+    }
+    out
+}
+
+// Their places.
+pub fn placed_places<'a>(
+    holders: &'a [u8; 512],
+    places: [u16; 512],
+    t: usize,
+    records: usize,
+    chosen: [bool; 16],
+    offsets: &'a [u16; 16],
+) -> [u16; 512]
+    requires { ⌜ (t < 8) × (records ≤ 64) × ((k : ℕ) → k < records → (getD (now holders) (64 * t + k) 0 < 32) × (getD places (64 * t + k) 0 ≤ 4096)) × ((e : ℕ) → e < 16 → getD (now offsets) e 0 ≤ 4096) ⌝ }
+    ensures { λ r. ⌜ r ≡ placedPlaces chosen (now (offsets .entry)) (now (holders .entry)) places t records ⌝ }
+{
+    let mut out = places;
+    let mut k = 0;
+    while k < records {
+        let i = 64 * t + k;
+        out[i] = place_after(holders[i], places[i], chosen, offsets);
+        k += 1;
+    }
+    out
+}

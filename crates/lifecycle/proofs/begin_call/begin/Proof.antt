@@ -1,0 +1,86 @@
+-- `store::begin` meets its contract.
+use borrow.Author.Needs.{needs}
+use native.Mathlib.Omega.{arith}
+use mathlib.Core.Bool.{false}
+use mathlib.Core.List.{List, []}
+use mathlib.Core.Path.{_≡_, refl, sym, ap, _∙_}
+use Rattle.ranges.proofs.Laws.{admitted-begin}
+use Rattle.rules.specs.Machine.{Machine, withTransaction}
+use Rattle.rules.specs.Calls.{Turn, call, turnDown, beginTurn}
+use Rattle.record.specs.Journal.{begun}
+use Rattle.rules.specs.Promises.{lent}
+use Rattle.turns.proofs.Turns.{LetThrough, gate-refused, gate-passed, passing-on, turned-meets, reset-meets}
+use Rattle.lifecycle.proofs.begin_call.begin.Statement.{statement}
+use Rattle.lifecycle.proofs.begin_call.begin.Tie as tie
+
+-- What the caller lent.
+abbrev machine : tie.Start → Machine
+machine c = lent (c .args .t1) (c .args .files .now) (c .args .logs .now) (c .args .marks .now)
+
+admit-begin-requires : tie.Need-admit-begin-requires
+admit-begin-requires c κs = search needs
+
+enum-known-g : tie.Need-enum-known-g
+enum-known-g c = search needs
+
+turned-down-requires : tie.Need-turned-down-requires
+turned-down-requires c κs = search needs
+
+returns : tie.Need-returns
+unfolding call turnDown
+returns c =
+    let start = c .before .before .before .before .before .before .before .before in
+    let m = machine start in
+    let e = gate-refused _ _ (c .before .before .before .before .admit-begin .ensures) _ [] m (beginTurn (start .args .t) m) (c .before .before .g .given .1) in
+    turned-meets _ _ [] m _ e (c .turned-down .ensures .0) (c .turned-down .ensures .1)
+
+enum-told : tie.Need-enum-told
+enum-told c = search needs
+
+-- What the tests let through.
+let-through : (c : tie.After-enum-told) → LetThrough (machine (c .before .before .before .before .before .before)) (c .before .before .before .before .before .before .args .t) false
+let-through c = admitted-begin _ _ _ _ _ (gate-passed _ _ (c .before .before .admit-begin .ensures) (c .enum-told .given .1))
+
+cast-unmark-all : tie.Need-cast-unmark-all
+cast-unmark-all c = omega (arith, let-through (c .before) .small)
+
+unmark-all-requires : tie.Need-unmark-all-requires
+unmark-all-requires c κs = omega (arith, let-through (c .before) .small)
+
+begun-requires : tie.Need-begun-requires
+begun-requires c κs = search needs
+
+mul-t10 : tie.Need-mul-t10
+mul-t10 c = omega (arith, let-through (c .before .before .before .before .before) .small)
+
+element-set-from-s : tie.Need-element-set-from-s
+element-set-from-s c = let-through (c .before .before .before .before .before) .small
+
+same-length : tie.Need-same-length
+same-length c = search needs
+
+returns-2 : tie.Need-returns-2
+unfolding call beginTurn withTransaction
+returns-2 c =
+    let told = c .before .before .before .before .before in
+    let start = told .before .before .before .before .before .before in
+    let m = machine start in
+    let e = passing-on _ [] m (beginTurn (start .args .t) m) (gate-passed _ _ (told .before .before .admit-begin .ensures) (told .enum-told .given .1)) in
+    rw (c .begun .ensures) (reset-meets (start .args .t) begun m _ e _ _ refl (c .before .before .before .unmark-all .ensures))
+
+pub begin-spec : {M : Type 1} → statement M
+begin-spec =
+    tie.close
+    (tie.spec
+    admit-begin-requires
+    enum-known-g
+    turned-down-requires
+    returns
+    enum-told
+    cast-unmark-all
+    unmark-all-requires
+    begun-requires
+    mul-t10
+    element-set-from-s
+    same-length
+    returns-2)

@@ -1,0 +1,64 @@
+// Fresh.
+use octets::parts;
+use ranges::Gate;
+use record::Answer;
+use record::Outcome;
+use record::Store;
+ghost use mathlib.Core.List.{[]};
+ghost use mathlib.Core.Path.{_≡_};
+ghost use lib.ListN.{length, replicate};
+ghost use Rattle.rules.specs.Calls.{fresh as freshRule, freshStore};
+ghost use Rattle.rules.specs.Promises.{lent, Meets};
+
+// Sets every octet to 0.
+fn zero(buffer: &mut [u8])
+    ensures { λ _. ⌜ now (buffer .exit) ≡ replicate (length (now (buffer .entry))) 0 ⌝ }
+{
+    let mut i = 0;
+    while i < buffer.len() {
+        buffer[i] = 0;
+        i += 1;
+    }
+}
+
+// The sixteen file numbers as an array.
+fn sixteen(numbers: &[u8]) -> [u8; 16]
+    requires { ⌜ length (now numbers) ≡ 16 ⌝ }
+    ensures { λ r. ⌜ r ≡ now (numbers .entry) ⌝ }
+{
+    let mut out = [0u8; 16];
+    parts::copy_to(&mut out, 0, numbers);
+    out
+}
+
+// The record of a fresh store.
+fn fresh_store(numbers: &[u8]) -> Store
+    requires { ⌜ length (now numbers) ≡ 16 ⌝ }
+    ensures { λ r. ⌜ r ≡ freshStore (now (numbers .entry)) ⌝ }
+{
+    let files = sixteen(numbers);
+    let x = record::ended();
+    Store {
+        files,
+        offsets: [0u16; 16],
+        transactions: [x; 8],
+        holders: [0u8; 512],
+        places: [0u16; 512],
+        lengths: [0u16; 512],
+    }
+}
+
+pub fn fresh(s: Store, files: &mut [u8], logs: &[u8], marks: &mut [u8], numbers: &[u8]) -> Answer
+    ensures { λ r. ⌜ Meets (freshRule (now (numbers .entry)) (lent s (now (files .entry)) (now (logs .entry)) (now (marks .entry)))) r (now (files .exit)) (now (logs .exit)) (now (marks .exit)) [] ⌝ }
+{
+    let g = ranges::admit_fresh(files.len(), logs.len(), marks.len(), numbers);
+    if let Gate::Refused(r) = g {
+        return turns::turned_down(r, s);
+    }
+    zero(files);
+    zero(marks);
+    Answer {
+        outcome: Outcome::Done,
+        store: fresh_store(numbers),
+    }
+}

@@ -1,0 +1,2 @@
+pub mod PointerRules
+pub mod ReadRules

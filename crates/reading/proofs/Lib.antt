@@ -1,0 +1,3 @@
+-- Laws of fetches, for the proofs of this crate and of the crates that link it.
+pub mod FetchLaws
+pub mod MachineLaws

@@ -1,0 +1,10 @@
+// The eight calls. Each takes the record by value and the three store buffers, has no precondition, and answers its outcome with the
+// record to keep; its promise stands at the function.
+pub use committing::commit;
+pub use editing::seek;
+pub use editing::write;
+pub use lifecycle::abort;
+pub use lifecycle::begin;
+pub use lifecycle::fresh;
+pub use looking::get_file_pointer;
+pub use looking::read;

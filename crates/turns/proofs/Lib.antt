@@ -1,0 +1,2 @@
+-- Laws of the tests before a call, for the proofs of the eight calls.
+pub mod Turns

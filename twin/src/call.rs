@@ -1,0 +1,78 @@
+//! Calls, answers and refusals: what store and plain machine have in common.
+
+/// What a transaction does through one descriptor.
+#[derive(Clone, Debug, PartialEq, Eq)]
+pub enum Action {
+    Seek {
+        to: usize,
+    },
+    Write {
+        data: Vec<u8>,
+    },
+    GetFilePointer,
+    /// `buffer` is the reader's buffer as it is before the call.
+    Read {
+        count: usize,
+        buffer: Vec<u8>,
+    },
+}
+
+#[derive(Clone, Debug, PartialEq, Eq)]
+pub struct Step {
+    pub descriptor: usize,
+    pub action: Action,
+}
+
+/// A call with its arguments. The first number is the transaction.
+#[derive(Clone, Debug, PartialEq, Eq)]
+pub enum Call {
+    Fresh { files: Vec<u8> },
+    Begin(usize),
+    Step(usize, Step),
+    Commit(usize),
+    Abort(usize),
+}
+
+#[derive(Clone, Copy, Debug, PartialEq, Eq)]
+pub enum Answer {
+    Done,
+    Offset(u16),
+    /// The count of bytes that a Read gave.
+    Given(u16),
+    /// How many other transactions became stale by the Commit.
+    Granted(u8),
+}
+
+/// The refusals, with their numbers in the paper's table.
+#[derive(Clone, Copy, Debug, PartialEq, Eq)]
+pub enum Refusal {
+    BufferLength = 1,
+    RecordRange = 2,
+    NoSuchTransaction = 3,
+    NotOpen = 4,
+    AlreadyOpen = 5,
+    NoSuchDescriptor = 6,
+    ReaderTooShort = 7,
+    SeekPastEnd = 8,
+    WritePastEnd = 9,
+    RecordsFull = 10,
+    LogFull = 11,
+    SettledPastEnd = 12,
+    Stale = 13,
+    NoSuchFile = 14,
+}
+
+impl Refusal {
+    pub fn number(self) -> usize {
+        self as usize
+    }
+}
+
+pub type Outcome = Result<Answer, Refusal>;
+
+/// The outcome of a call and the reader's buffer after it (empty for a call that is no Read).
+#[derive(Clone, Debug, PartialEq, Eq)]
+pub struct Reply {
+    pub outcome: Outcome,
+    pub buffer: Vec<u8>,
+}

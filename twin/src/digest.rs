@@ -1,0 +1,78 @@
+//! Digests of states and of answers. A digest starts at 0 and takes in one number after another:
+//! h' = (65521 h + n + 1) mod (2^48 - 59), for n up to 65,535. Nothing in it goes past 64 bits.
+
+use crate::call::{Answer, Outcome};
+use crate::store::{Standing, Store};
+
+const FACTOR: u64 = 65521;
+const MODULUS: u64 = 281_474_976_710_597;
+
+#[derive(Clone, Copy, Debug, Default, PartialEq, Eq)]
+pub struct Digest(u64);
+
+impl Digest {
+    pub fn value(self) -> u64 {
+        self.0
+    }
+
+    fn take(&mut self, number: impl Into<u64>) {
+        self.0 = (self.0 * FACTOR + number.into() + 1) % MODULUS;
+    }
+
+    fn take_all<N: Copy + Into<u64>>(&mut self, numbers: &[N]) {
+        for &number in numbers {
+            self.take(number);
+        }
+    }
+
+    /// Takes in the outcome of a call and the reader's buffer after it: a code (0 done, 1 offset, 2 given, 3 granted,
+    /// 10 + n for refusal n), then the number answered (0 where there is none), then the bytes of a Read's buffer.
+    pub fn take_reply(&mut self, outcome: Outcome, buffer: &[u8]) {
+        let (code, number) = match outcome {
+            Ok(Answer::Done) => (0, 0),
+            Ok(Answer::Offset(offset)) => (1, offset),
+            Ok(Answer::Given(count)) => (2, count),
+            Ok(Answer::Granted(count)) => (3, u16::from(count)),
+            Err(refusal) => (10 + refusal.number() as u16, 0),
+        };
+        self.take(code);
+        self.take(number);
+        self.take_all(buffer);
+    }
+}
+
+/// The digest of a state, field by field: the descriptors' files; the committed offsets; for each transaction begun and
+/// stale (0 or 1), records used, bytes used, and for each descriptor three numbers; then all holders, all places, all
+/// lengths; then the bytes of files, logs and marks. Every number is taken in whole.
+pub fn of_state(store: &Store, files: &[u8], logs: &[u8], marks: &[u8]) -> u64 {
+    let mut digest = Digest::default();
+    digest.take_all(&store.files);
+    digest.take_all(&store.offsets);
+    for transaction in &store.transactions {
+        digest.take(transaction.begun);
+        digest.take(transaction.stale);
+        digest.take(transaction.used.records);
+        digest.take(transaction.used.bytes);
+        for descriptor in &transaction.descriptors {
+            digest.take_all(&standing_numbers(descriptor.standing));
+        }
+    }
+    digest.take_all(&store.holders);
+    digest.take_all(&store.places);
+    digest.take_all(&store.lengths);
+    digest.take_all(files);
+    digest.take_all(logs);
+    digest.take_all(marks);
+    digest.value()
+}
+
+/// Which standing, its advance, its offset; 0 for what it doesn't carry.
+fn standing_numbers(standing: Standing) -> [u16; 3] {
+    match standing {
+        Standing::Untouched => [0, 0, 0],
+        Standing::Placed(offset) => [1, 0, offset],
+        Standing::Deferred(advance) => [2, advance, 0],
+        Standing::Moved { advance, offset } => [3, advance, offset],
+        Standing::Known(offset) => [4, 0, offset],
+    }
+}

@@ -1,0 +1,346 @@
+//! A fixed stream of calls with good and bad numbers. Everything is a plain function on u64 and no sum or product goes
+//! past 64 bits, so that a program in another language can make the same stream.
+//!
+//! The recurrence: x' = 48271 x mod 2147483647, from x = 1. (The 10,000th number is 399268537.)
+//! Call i, from 0, draws the next twelve numbers r0 to r11, whatever its kind. They, the phase (i div 256) and a guess
+//! at which transactions are open give everything about the call; the mode is the phase mod 6.
+
+#![allow(clippy::manual_is_multiple_of, clippy::manual_range_contains)] // plain arithmetic is wanted here
+
+pub const SEED: u64 = 1;
+
+const DRAWS: usize = 12;
+const PHASE: u64 = 256;
+const MODES: u64 = 6;
+
+// The modes. Mode 1, crowded, differs by the tables below alone: few descriptors and transactions, many Commits.
+const MIXED: u64 = 0;
+const MANY_RECORDS: u64 = 2; // Writes of 0 to 2 bytes, until the log has 64 records
+const LONG_WRITES: u64 = 3; // until the log has 4,096 bytes
+const NEAR_END: u64 = 4; // Seeks around 4,096
+const LONG_READS: u64 = 5;
+
+// The kinds of calls.
+pub const FRESH: u64 = 0;
+pub const BEGIN: u64 = 1;
+pub const SEEK: u64 = 2;
+pub const WRITE: u64 = 3;
+pub const GET_FILE_POINTER: u64 = 4;
+pub const READ: u64 = 5;
+pub const COMMIT: u64 = 6;
+pub const ABORT: u64 = 7;
+
+/// How many of 1,000 calls are of each kind, for each mode (eight numbers a mode).
+const WEIGHTS: [u64; 48] = [
+    4, 20, 230, 270, 90, 236, 105, 45, // mixed
+    4, 20, 180, 230, 140, 210, 170, 46, // crowded
+    4, 10, 60, 840, 10, 56, 12, 8, // many records
+    4, 20, 230, 460, 30, 106, 95, 55, // long writes
+    4, 20, 230, 280, 90, 170, 156, 50, // near the end
+    4, 20, 220, 260, 70, 280, 105, 41, // long reads
+];
+
+/// How many transaction numbers a mode mostly uses.
+const TRANSACTIONS_USED: [u64; 6] = [8, 4, 2, 3, 6, 8];
+/// Through how many files of the usual arrangement a mode goes (each by two descriptors).
+const FILES_USED: [u64; 6] = [8, 2, 8, 8, 3, 4];
+
+#[derive(Clone, Copy, Debug)]
+pub struct Generator {
+    /// The last number drawn.
+    x: u64,
+    /// How many calls were made.
+    made: u64,
+    /// Which transactions are open, as far as the calls made let guess (not looking at what was refused).
+    open: [bool; 8],
+}
+
+/// A call as numbers. A number that its kind doesn't use is there all the same.
+#[derive(Clone, Copy, Debug)]
+pub struct Request {
+    pub kind: u64,
+    pub transaction: u64,
+    pub descriptor: u64,
+    /// Where a Seek goes, how many bytes a Write has or a Read wants.
+    pub number: u64,
+    /// The length of the reader's buffer. It is filled with `BLANK` before the call.
+    pub buffer: u64,
+    /// Byte i of a Write is (data_first + data_step i) mod 256.
+    pub data_first: u64,
+    pub data_step: u64,
+    /// Fresh's list is the first `list_length` numbers.
+    pub list: [u8; 17],
+    pub list_length: u64,
+    pub damage: Damage,
+}
+
+pub const BLANK: u8 = 165;
+
+/// What is wrong with the buffers or the record lent to the call: `short` and `forgery` are 0 where nothing is.
+#[derive(Clone, Copy, Debug)]
+pub struct Damage {
+    /// 1, 2, 3: of the files, logs, marks only the first `short_length` bytes are lent.
+    pub short: u64,
+    pub short_length: u64,
+    /// 1 to 15: the call gets a copy of the record with a field out of range (see forge.rs).
+    pub forgery: u64,
+    pub forged_transaction: u64,
+    pub forged_index: u64,
+    pub excess: u64,
+}
+
+impl Damage {
+    pub fn is_any(&self) -> bool {
+        self.short > 0 || self.forgery > 0
+    }
+}
+
+impl Generator {
+    pub fn new() -> Generator {
+        Generator { x: SEED, made: 0, open: [false; 8] }
+    }
+
+    pub fn next_call(&mut self) -> Request {
+        let mut r = [0; DRAWS];
+        for draw in &mut r {
+            self.x = step(self.x);
+            *draw = self.x;
+        }
+        let phase = self.made / PHASE;
+        self.made += 1;
+        let transaction = transaction(phase, r[1]);
+        let kind = begun_first(kind(phase % MODES, r[0]), transaction, self.open, r[11]);
+        let request = request(kind, transaction, phase % MODES, &r);
+        self.open = guess(self.open, &request);
+        request
+    }
+}
+
+impl Default for Generator {
+    fn default() -> Self {
+        Generator::new()
+    }
+}
+
+fn step(x: u64) -> u64 {
+    x * 48271 % 2147483647
+}
+
+fn request(kind: u64, transaction: u64, mode: u64, r: &[u64; DRAWS]) -> Request {
+    let zeros = r[6] / 256 % 4 == 0;
+    Request {
+        kind,
+        transaction,
+        descriptor: descriptor(mode, r[2]),
+        number: number(kind, mode, r[3], r[4]),
+        buffer: reader_length(mode, r[3]),
+        data_first: if zeros { 0 } else { r[5] % 256 },
+        data_step: if zeros { 0 } else { r[6] % 256 },
+        list: list(r),
+        list_length: list_length(r[3], r[4]),
+        damage: damage(kind, r),
+    }
+}
+
+fn kind(mode: u64, r: u64) -> u64 {
+    let mut rest = r % 1000;
+    for kind in FRESH..ABORT {
+        let weight = WEIGHTS[(8 * mode + kind) as usize];
+        if rest < weight {
+            return kind;
+        }
+        rest -= weight;
+    }
+    ABORT
+}
+
+/// A call on a transaction that seems not to be open is made a Begin, seven times out of eight.
+fn begun_first(kind: u64, transaction: u64, open: [bool; 8], r: u64) -> u64 {
+    if kind > BEGIN && transaction < 8 && !open[transaction as usize] && r % 8 != 0 {
+        BEGIN
+    } else {
+        kind
+    }
+}
+
+/// The transactions that seem open after the call.
+fn guess(open: [bool; 8], request: &Request) -> [bool; 8] {
+    let mut open = open;
+    if request.damage.is_any() || request.transaction > 7 {
+        return open;
+    }
+    if request.kind == FRESH {
+        return [false; 8];
+    }
+    if request.kind == BEGIN {
+        open[request.transaction as usize] = true;
+    }
+    if request.kind == COMMIT || request.kind == ABORT {
+        open[request.transaction as usize] = false;
+    }
+    open
+}
+
+/// Mostly one of a few that follow the phase, sometimes any of the eight, now and then 8 or 9.
+fn transaction(phase: u64, r: u64) -> u64 {
+    let class = r % 40;
+    let value = r / 40;
+    if class == 0 {
+        8 + value % 2
+    } else if class < 4 {
+        value % 8
+    } else {
+        (phase + value % TRANSACTIONS_USED[(phase % MODES) as usize]) % 8
+    }
+}
+
+/// One of the mode's descriptors, now and then 16 or 17.
+fn descriptor(mode: u64, r: u64) -> u64 {
+    let class = r % 40;
+    let value = r / 40;
+    if class == 0 {
+        16 + value % 2
+    } else {
+        value % FILES_USED[mode as usize] + 8 * (value / 64 % 2)
+    }
+}
+
+fn number(kind: u64, mode: u64, class: u64, value: u64) -> u64 {
+    if kind == SEEK {
+        seek_to(mode, class % 16, value)
+    } else if kind == WRITE {
+        write_length(mode, class % 16, value)
+    } else {
+        read_count(mode, class % 16, value)
+    }
+}
+
+fn seek_to(mode: u64, class: u64, value: u64) -> u64 {
+    if mode == NEAR_END && class < 10 {
+        4084 + value % 14
+    } else if class < 6 {
+        value % 4
+    } else if class < 11 {
+        value % 64
+    } else if class < 13 {
+        value % 4096
+    } else if class < 15 {
+        4088 + value % 14
+    } else {
+        value % 65536
+    }
+}
+
+fn write_length(mode: u64, class: u64, value: u64) -> u64 {
+    if mode == MANY_RECORDS && class < 15 {
+        if class < 10 {
+            0
+        } else {
+            value % 3
+        }
+    } else if mode == LONG_WRITES && class < 14 {
+        if class < 12 {
+            200 + value % 1300
+        } else {
+            3000 + value % 1098
+        }
+    } else if class < 3 {
+        0
+    } else if class < 13 {
+        value % 9
+    } else if class < 15 {
+        value % 200
+    } else {
+        value % 4098
+    }
+}
+
+/// Classes 0 to 11: a buffer of 16; then 64, 300, 4,096 (or 16) and 5,000 (or none).
+fn reader_length(mode: u64, class: u64) -> u64 {
+    let class = class % 16;
+    let long = mode == LONG_READS || mode == MIXED;
+    if class == 12 {
+        64
+    } else if class == 13 {
+        300
+    } else if class == 14 && long {
+        4096
+    } else if class == 15 {
+        if mode == LONG_READS {
+            5000
+        } else {
+            0
+        }
+    } else {
+        16
+    }
+}
+
+fn read_count(mode: u64, class: u64, value: u64) -> u64 {
+    let length = reader_length(mode, class);
+    if length == 4096 {
+        4080 + value % 20
+    } else if length == 0 {
+        value % 2
+    } else if class == 10 || class == 11 {
+        12 + value % 9
+    } else {
+        value % (length + 1)
+    }
+}
+
+/// Descriptor d belongs to file d mod 8, or to another by a line through d; often one number is above 7.
+fn list(r: &[u64; DRAWS]) -> [u8; 17] {
+    let usual = r[10] % 4 != 0;
+    let factor = if usual { 1 } else { r[10] / 4 % 8 };
+    let shift = if usual { 0 } else { r[11] % 8 };
+    let mut list = [0; 17];
+    for d in 0..17 {
+        list[d as usize] = ((factor * d + shift) % 8) as u8;
+    }
+    if r[3] / 8 % 8 < 5 {
+        list[(r[8] % 16) as usize] = (8 + r[9] % 248) as u8;
+    }
+    list
+}
+
+fn list_length(class: u64, value: u64) -> u64 {
+    if class % 8 == 0 {
+        15 + 2 * (value % 2)
+    } else {
+        16
+    }
+}
+
+/// Of 128 calls two get a short buffer, two a forged record (Fresh doesn't), one has both.
+fn damage(kind: u64, r: &[u64; DRAWS]) -> Damage {
+    let class = r[7] % 128;
+    let short = class < 3;
+    let forged = class > 1 && class < 5 && kind != FRESH;
+    Damage {
+        short: if short { 1 + r[8] % 3 } else { 0 },
+        short_length: if r[9] % 2 == 0 { 32767 } else { r[9] / 2 % 32768 },
+        forgery: if forged { 1 + r[8] % 15 } else { 0 },
+        forged_transaction: r[9] % 8,
+        forged_index: r[9] / 8 % 16,
+        excess: r[10],
+    }
+}
+
+#[cfg(test)]
+mod tests {
+    use super::*;
+
+    #[test]
+    fn the_ten_thousandth_number_is_the_known_one() {
+        let last = (0..10_000).fold(SEED, |x, _| step(x));
+        assert_eq!(last, 399268537);
+    }
+
+    #[test]
+    fn the_weights_of_each_mode_add_to_a_thousand() {
+        for mode in WEIGHTS.chunks(8) {
+            assert_eq!(mode.iter().sum::<u64>(), 1000);
+        }
+    }
+}

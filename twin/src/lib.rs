@@ -1,0 +1,13 @@
+//! A second implementation of paper 01, written from the paper alone: a store over lent buffers, the plain machine of
+//! demand 3, a generator of calls, and the means to run the two side by side.
+
+pub mod call;
+pub mod digest;
+pub mod forge;
+pub mod generator;
+pub mod pair;
+pub mod plain;
+pub mod store;
+
+#[cfg(test)]
+mod situations;

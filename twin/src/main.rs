@@ -1,0 +1,138 @@
+//! Runs the generator's calls on store and plain machine side by side.
+//!
+//! `twin N` makes N calls (300,000 if left out) and prints a line after every thousand. `twin --stats N` prints how often
+//! each outcome was met instead. A disagreement ends the program with a panic that names the call.
+
+use std::io::{self, Write};
+use std::process::ExitCode;
+
+use twin::call::{Action, Call, Step};
+use twin::digest::{self, Digest};
+use twin::generator::{self, Generator, Request};
+use twin::pair::{Pair, Tally};
+
+const CALLS: u64 = 300_000;
+const LINE_EVERY: u64 = 1000;
+const SIGHTINGS_EVERY: u64 = 100;
+
+struct Options {
+    stats: bool,
+    calls: u64,
+}
+
+/// Says at which call it was that the program panicked.
+struct CallNumber(u64);
+
+impl Drop for CallNumber {
+    fn drop(&mut self) {
+        if std::thread::panicking() {
+            eprintln!("twin: this was call {}", self.0);
+        }
+    }
+}
+
+fn main() -> ExitCode {
+    let Some(options) = options() else {
+        eprintln!("usage: twin [--stats] [N]");
+        return ExitCode::from(2);
+    };
+    match run(&options) {
+        Ok(()) => ExitCode::SUCCESS,
+        Err(error) => {
+            eprintln!("twin: {error}");
+            ExitCode::FAILURE
+        }
+    }
+}
+
+fn options() -> Option<Options> {
+    let mut options = Options { stats: false, calls: CALLS };
+    for argument in std::env::args().skip(1) {
+        if argument == "--stats" {
+            options.stats = true;
+        } else {
+            options.calls = argument.parse().ok()?;
+        }
+    }
+    Some(options)
+}
+
+fn run(options: &Options) -> io::Result<()> {
+    let mut out = io::stdout().lock();
+    let mut generator = Generator::new();
+    let mut pair = Pair::new();
+    let mut answers = Digest::default();
+    for made in 1..=options.calls {
+        let _number = CallNumber(made);
+        let request = generator.next_call();
+        let reply = pair.call(&call(&request), Some(&request.damage));
+        answers.take_reply(reply.outcome, &reply.buffer);
+        if made % SIGHTINGS_EVERY == 0 {
+            pair.check_sightings();
+        }
+        if made % LINE_EVERY == 0 {
+            pair.check_serial_order();
+            if !options.stats {
+                write_line(&mut out, made, &pair, answers)?;
+            }
+        }
+    }
+    pair.check_sightings();
+    pair.check_serial_order();
+    if options.stats {
+        write_stats(&mut out, options.calls, &pair.tally)?;
+    }
+    out.flush()
+}
+
+/// The call that a request of the generator describes.
+fn call(request: &Request) -> Call {
+    let transaction = request.transaction as usize;
+    match request.kind {
+        generator::FRESH => Call::Fresh { files: request.list[..request.list_length as usize].to_vec() },
+        generator::BEGIN => Call::Begin(transaction),
+        generator::COMMIT => Call::Commit(transaction),
+        generator::ABORT => Call::Abort(transaction),
+        _ => Call::Step(transaction, Step { descriptor: request.descriptor as usize, action: action(request) }),
+    }
+}
+
+fn action(request: &Request) -> Action {
+    let number = request.number as usize;
+    match request.kind {
+        generator::SEEK => Action::Seek { to: number },
+        generator::WRITE => Action::Write { data: data(request) },
+        generator::READ => Action::Read { count: number, buffer: vec![generator::BLANK; request.buffer as usize] },
+        _ => Action::GetFilePointer,
+    }
+}
+
+fn data(request: &Request) -> Vec<u8> {
+    (0..request.number).map(|i| ((request.data_first + request.data_step * i) % 256) as u8).collect()
+}
+
+/// Calls so far; done, offset, given, granted; refusals 1 to 14; the digest of the state, the digest of all answers.
+fn write_line(out: &mut impl Write, made: u64, pair: &Pair, answers: Digest) -> io::Result<()> {
+    let Tally { done, offset, given, granted, refused, .. } = &pair.tally;
+    write!(out, "{made} {done} {offset} {given} {granted}")?;
+    for count in &refused[1..] {
+        write!(out, " {count}")?;
+    }
+    let state = &pair.state;
+    let digest = digest::of_state(&state.store, &state.files, &state.logs, &state.marks);
+    writeln!(out, " {digest} {}", answers.value())
+}
+
+fn write_stats(out: &mut impl Write, calls: u64, tally: &Tally) -> io::Result<()> {
+    writeln!(out, "calls {calls}")?;
+    writeln!(out, "done {}", tally.done)?;
+    writeln!(out, "offset {}", tally.offset)?;
+    writeln!(out, "given {}", tally.given)?;
+    writeln!(out, "granted {}", tally.granted)?;
+    for (number, count) in tally.refused.iter().enumerate().skip(1) {
+        writeln!(out, "refused {number}: {count}")?;
+    }
+    writeln!(out, "granted with others open {}", tally.granted_among_others)?;
+    writeln!(out, "granted, making others stale {}", tally.granted_making_stale)?;
+    writeln!(out, "granted after a look and a write {}", tally.granted_after_look)
+}

@@ -1,0 +1,374 @@
+//! Store and plain machine side by side. Every call goes to both, and the two must agree; a disagreement is a panic.
+
+use crate::call::{Action, Answer, Call, Outcome, Refusal, Reply, Step};
+use crate::forge::{forge, garbage_in_closed, garbage_in_record};
+use crate::generator::Damage;
+use crate::plain::{self, Committed, Course, Item, Machine, Place};
+use crate::store::{Lent, Standing, Store, Transaction, BUFFER, DESCRIPTORS, RECORDS, SPAN, TRANSACTIONS, UNPLACED};
+
+/// The store's record with its three buffers.
+#[derive(Clone, PartialEq, Eq)]
+pub struct State {
+    pub store: Store,
+    pub files: Vec<u8>,
+    pub logs: Vec<u8>,
+    pub marks: Vec<u8>,
+}
+
+/// How often each outcome was met.
+#[derive(Clone, Debug, Default)]
+pub struct Tally {
+    pub done: u64,
+    pub offset: u64,
+    pub given: u64,
+    pub granted: u64,
+    /// By the refusal's number; the first entry stays 0.
+    pub refused: [u64; 15],
+    /// Grants while another transaction was open.
+    pub granted_among_others: u64,
+    /// Grants that made another transaction stale.
+    pub granted_making_stale: u64,
+    /// Grants of a transaction with a Read or GetFilePointer and a Write.
+    pub granted_after_look: u64,
+}
+
+/// An accepted call of a transaction, and what the store replied.
+type Served = (Step, Reply);
+
+pub struct Pair {
+    pub state: State,
+    pub machine: Machine,
+    pub tally: Tally,
+    /// The log buffer as it has to be: a Write's bytes put directly after the data used, and nothing else.
+    expected_logs: Vec<u8>,
+    /// The file numbers of the last Fresh.
+    fresh_files: Vec<u8>,
+    /// The accepted calls of each open transaction.
+    served: [Vec<Served>; TRANSACTIONS],
+    /// The transactions granted since the last Fresh, in the order of their grants.
+    granted: Vec<Vec<Served>>,
+}
+
+impl State {
+    fn new() -> State {
+        let zeros = vec![0; BUFFER];
+        State { store: Store::new([0; DESCRIPTORS]), files: zeros.clone(), logs: zeros.clone(), marks: zeros }
+    }
+
+    fn apply(&mut self, call: &Call) -> Reply {
+        let mut lent = Lent { files: &mut self.files, logs: &mut self.logs, marks: &mut self.marks };
+        apply(&mut self.store, &mut lent, call)
+    }
+
+    /// The call with one of the buffers (1 files, 2 logs, 3 marks, 0 none) lent only in part.
+    fn apply_short(&mut self, call: &Call, short: u64, length: usize) -> Reply {
+        let part = |which: u64| if short == which { length } else { BUFFER };
+        let mut lent = Lent {
+            files: &mut self.files[..part(1)],
+            logs: &mut self.logs[..part(2)],
+            marks: &mut self.marks[..part(3)],
+        };
+        apply(&mut self.store, &mut lent, call)
+    }
+}
+
+/// Makes the call on a store.
+fn apply(store: &mut Store, lent: &mut Lent, call: &Call) -> Reply {
+    let mut buffer = untouched_buffer(call);
+    let outcome = match call {
+        Call::Fresh { files } => store.fresh(lent, files).map(|()| Answer::Done),
+        Call::Begin(t) => store.begin(lent, *t).map(|()| Answer::Done),
+        Call::Step(t, step) => apply_step(store, lent, *t, step, &mut buffer),
+        Call::Commit(t) => store.commit(lent, *t).map(Answer::Granted),
+        Call::Abort(t) => store.abort(lent, *t).map(|()| Answer::Done),
+    };
+    Reply { outcome, buffer }
+}
+
+fn apply_step(store: &mut Store, lent: &mut Lent, t: usize, step: &Step, buffer: &mut [u8]) -> Outcome {
+    let d = step.descriptor;
+    match &step.action {
+        Action::Seek { to } => store.seek(lent, t, d, *to).map(|()| Answer::Done),
+        Action::Write { data } => store.write(lent, t, d, data).map(|()| Answer::Done),
+        Action::GetFilePointer => store.get_file_pointer(lent, t, d).map(Answer::Offset),
+        Action::Read { count, .. } => store.read(lent, t, d, *count, buffer).map(Answer::Given),
+    }
+}
+
+/// The reader's buffer before the call.
+fn untouched_buffer(call: &Call) -> Vec<u8> {
+    match call {
+        Call::Step(_, Step { action: Action::Read { buffer, .. }, .. }) => buffer.clone(),
+        _ => Vec::new(),
+    }
+}
+
+impl Tally {
+    fn count(&mut self, outcome: Outcome) {
+        match outcome {
+            Ok(Answer::Done) => self.done += 1,
+            Ok(Answer::Offset(_)) => self.offset += 1,
+            Ok(Answer::Given(_)) => self.given += 1,
+            Ok(Answer::Granted(_)) => self.granted += 1,
+            Err(refusal) => self.refused[refusal.number()] += 1,
+        }
+    }
+}
+
+impl Pair {
+    /// Both on the state of a Fresh in which descriptor d belongs to file d mod 8. All buffers are 0.
+    pub fn new() -> Pair {
+        let files: Vec<u8> = (0..16).map(|d| d % 8).collect();
+        let mut state = State::new();
+        let reply = state.apply(&Call::Fresh { files: files.clone() });
+        assert_eq!(reply.outcome, Ok(Answer::Done));
+        Pair {
+            state,
+            machine: Machine::fresh(&files).expect("file numbers up to 7"),
+            tally: Tally::default(),
+            expected_logs: vec![0; BUFFER],
+            fresh_files: files,
+            served: Default::default(),
+            granted: Vec::new(),
+        }
+    }
+
+    /// Makes the call on both sides, or on the store alone where buffers or record are damaged or Fresh's list has a
+    /// wrong length.
+    pub fn call(&mut self, call: &Call, damage: Option<&Damage>) -> Reply {
+        let wrong_list = matches!(call, Call::Fresh { files } if files.len() != DESCRIPTORS);
+        let reply = match damage {
+            Some(damage) if damage.is_any() => self.call_damaged(call, damage),
+            _ if wrong_list => self.call_refused(call, Refusal::BufferLength),
+            _ => self.call_both(call),
+        };
+        self.tally.count(reply.outcome);
+        reply
+    }
+
+    /// Makes the call on a copy of the state, with a forged record or a buffer lent only in part.
+    fn call_damaged(&mut self, call: &Call, damage: &Damage) -> Reply {
+        let mut damaged = self.state.clone();
+        if damage.forgery > 0 {
+            forge(&mut damaged.store, damage);
+        }
+        let before = damaged.clone();
+        let reply = damaged.apply_short(call, damage.short, damage.short_length as usize);
+        let refusal = if damage.short > 0 { Refusal::BufferLength } else { Refusal::RecordRange };
+        check_refused(call, &reply, refusal);
+        assert!(damaged == before, "{call:?}: refusal {} changed something", refusal.number());
+        reply
+    }
+
+    fn call_refused(&mut self, call: &Call, refusal: Refusal) -> Reply {
+        let before = self.state.clone();
+        let reply = self.state.apply(call);
+        check_refused(call, &reply, refusal);
+        assert!(self.state == before, "{call:?}: a refusal changed something");
+        reply
+    }
+
+    fn call_both(&mut self, call: &Call) -> Reply {
+        if matches!(call, Call::Fresh { .. }) {
+            self.check_at_rest();
+        }
+        let expected = self.machine.take(call);
+        match expected.outcome {
+            Ok(answer) => self.call_accepted(call, &expected, answer),
+            Err(Refusal::Stale) => self.call_stale(call),
+            Err(refusal) => {
+                self.call_refused(call, refusal);
+            }
+        }
+        expected
+    }
+
+    fn call_accepted(&mut self, call: &Call, expected: &Reply, answer: Answer) {
+        self.expect_log_bytes(call);
+        let with_garbage = self.with_garbage(call);
+        let reply = self.state.apply(call);
+        assert_eq!(reply, *expected, "{call:?}");
+        if let Some(mut with_garbage) = with_garbage {
+            assert_eq!(with_garbage.apply(call), *expected, "{call:?} after garbage");
+            assert!(with_garbage == self.state, "{call:?} leaves some garbage");
+        }
+        self.keep_history(call, reply, answer);
+        self.check_record();
+    }
+
+    /// For a Begin or a Fresh: the state with garbage where no call looks, which the call has to clear away.
+    fn with_garbage(&self, call: &Call) -> Option<State> {
+        if !matches!(call, Call::Begin(_) | Call::Fresh { .. }) {
+            return None;
+        }
+        let mut state = self.state.clone();
+        match call {
+            Call::Begin(t) => garbage_in_closed(&mut state.store, &mut state.marks, *t),
+            _ => garbage_in_record(&mut state.store),
+        }
+        Some(state)
+    }
+
+    /// A Commit refused with 13 leaves what an Abort leaves.
+    fn call_stale(&mut self, call: &Call) {
+        let &Call::Commit(t) = call else {
+            panic!("{call:?}: 13 from a call that is no Commit");
+        };
+        let mut aborted = self.state.clone();
+        assert_eq!(aborted.apply(&Call::Abort(t)).outcome, Ok(Answer::Done));
+        let reply = self.state.apply(call);
+        check_refused(call, &reply, Refusal::Stale);
+        assert!(self.state == aborted, "{call:?}: 13 left something else than Abort");
+        self.served[t].clear();
+        self.check_record();
+    }
+
+    fn expect_log_bytes(&mut self, call: &Call) {
+        if let Call::Step(t, Step { action: Action::Write { data }, .. }) = call {
+            let start = SPAN * t + usize::from(self.state.store.transactions[*t].used.bytes);
+            self.expected_logs[start..start + data.len()].copy_from_slice(data);
+        }
+    }
+
+    fn keep_history(&mut self, call: &Call, reply: Reply, answer: Answer) {
+        match call {
+            Call::Fresh { files } => {
+                self.fresh_files = files.clone();
+                self.served = Default::default();
+                self.granted.clear();
+            }
+            Call::Begin(t) | Call::Abort(t) => self.served[*t].clear(),
+            Call::Step(t, step) => self.served[*t].push((step.clone(), reply)),
+            Call::Commit(t) => self.keep_grant(*t, answer),
+        }
+    }
+
+    fn keep_grant(&mut self, t: usize, answer: Answer) {
+        let served = std::mem::take(&mut self.served[t]);
+        let writes = served.iter().any(|(step, _)| matches!(step.action, Action::Write { .. }));
+        let looks = |step: &Step| matches!(step.action, Action::Read { .. } | Action::GetFilePointer);
+        let others_open = self.machine.open.iter().any(Option::is_some);
+        self.tally.granted_among_others += u64::from(others_open);
+        self.tally.granted_making_stale += u64::from(answer != Answer::Granted(0));
+        self.tally.granted_after_look += u64::from(writes && served.iter().any(|(step, _)| looks(step)));
+        self.granted.push(served);
+    }
+
+    // What must hold after every accepted call.
+
+    /// Files, offsets, standings, write records and log bytes are those of the machine.
+    fn check_record(&self) {
+        let State { store, files, logs, .. } = &self.state;
+        let committed = &self.machine.committed;
+        assert!(files.chunks(SPAN).eq(committed.files.iter().map(|file| &file[..])), "committed files");
+        for d in 0..DESCRIPTORS {
+            assert_eq!(usize::from(store.files[d]), committed.file_of[d], "file of descriptor {d}");
+            assert_eq!(usize::from(store.offsets[d]), committed.offsets[d], "committed offset {d}");
+        }
+        assert!(*logs == self.expected_logs, "log bytes");
+        for t in 0..TRANSACTIONS {
+            match &self.machine.open[t] {
+                None => assert_eq!(store.transactions[t], Transaction::ENDED, "ended transaction {t}"),
+                Some(transaction) => self.check_open(t, &transaction.course),
+            }
+        }
+    }
+
+    fn check_open(&self, t: usize, course: &Course) {
+        let transaction = &self.state.store.transactions[t];
+        assert!(transaction.begun, "transaction {t} is open");
+        for d in 0..DESCRIPTORS {
+            let standing = transaction.descriptors[d].standing;
+            assert_eq!(standing, store_standing(course.standings[d]), "transaction {t}, descriptor {d}");
+        }
+        assert_eq!(usize::from(transaction.used.records), course.writes.len(), "records of transaction {t}");
+        let mut data = 0;
+        for (k, write) in course.writes.iter().enumerate() {
+            self.check_write(RECORDS * t + k, SPAN * t + data, write);
+            data += write.data.len();
+        }
+        assert_eq!(usize::from(transaction.used.bytes), data, "data bytes of transaction {t}");
+    }
+
+    /// Record `k` and its data in the log from `data` on.
+    fn check_write(&self, k: usize, data: usize, write: &plain::Write) {
+        let State { store, logs, .. } = &self.state;
+        let (added, place) = match write.place {
+            Place::At(place) => (0, place),
+            Place::After(advance) => (UNPLACED, advance),
+        };
+        assert_eq!(store.holders[k], write.descriptor as u8 + added, "holder of record {k}");
+        assert_eq!(usize::from(store.places[k]), place, "place of record {k}");
+        assert_eq!(usize::from(store.lengths[k]), write.data.len(), "length of record {k}");
+        assert!(logs[data..data + write.data.len()] == write.data[..], "data of record {k}");
+    }
+
+    // What is looked at now and then.
+
+    /// The marks of t are the bytes in t's first list, its Known descriptors the offsets in it, and it has the stale
+    /// flag exactly when its two lists differ.
+    pub fn check_sightings(&self) {
+        let mut marks = vec![0; BUFFER];
+        for (t, transaction) in self.machine.open.iter().enumerate() {
+            let Some(transaction) = transaction else { continue };
+            let record = &self.state.store.transactions[t];
+            let mut known = [false; DESCRIPTORS];
+            for sighting in &transaction.course.sightings {
+                match sighting.item {
+                    Item::Offset { descriptor } => known[descriptor] = true,
+                    Item::Byte { file, place } => marks[SPAN * file + place] |= 1 << t,
+                }
+            }
+            let is_known = record.descriptors.map(|descriptor| matches!(descriptor.standing, Standing::Known(_)));
+            assert_eq!(is_known, known, "transaction {t}, sighted offsets");
+            assert_eq!(record.stale, self.machine.is_stale(t), "staleness of transaction {t}");
+        }
+        assert!(marks == self.state.marks, "marks");
+    }
+
+    /// Runs the granted transactions one after another from the state of Fresh: the store has given the same replies
+    /// and has the same files and offsets.
+    pub fn check_serial_order(&self) {
+        let mut committed = Committed::fresh(&self.fresh_files).expect("an accepted Fresh");
+        for (served, number) in self.granted.iter().zip(1..) {
+            let (course, replies) = Course::run_alone(&committed, served.iter().map(|(step, _)| step));
+            let same = replies.iter().eq(served.iter().map(|(_, reply)| reply));
+            assert!(same, "serial order: transaction of grant {number} replies otherwise");
+            committed.grant(&course, number);
+        }
+        assert_eq!(self.granted.len() as u64, self.machine.grants, "count of grants");
+        assert!(committed == self.machine.committed, "serial order: the machine's files, offsets and setters");
+        let files = committed.files.concat();
+        let offsets = committed.offsets.map(|offset| offset as u16);
+        assert!(files == self.state.files && offsets == self.state.store.offsets, "serial order: the store's end");
+    }
+
+    fn check_at_rest(&self) {
+        self.check_sightings();
+        self.check_serial_order();
+    }
+}
+
+impl Default for Pair {
+    fn default() -> Self {
+        Pair::new()
+    }
+}
+
+fn check_refused(call: &Call, reply: &Reply, refusal: Refusal) {
+    assert_eq!(reply.outcome, Err(refusal), "{call:?}");
+    assert!(reply.buffer == untouched_buffer(call), "{call:?}: a refusal changed the reader's buffer");
+}
+
+/// A standing of the machine in the record's form.
+fn store_standing(standing: plain::Standing) -> Standing {
+    match standing {
+        plain::Standing::Untouched => Standing::Untouched,
+        plain::Standing::Placed { offset } => Standing::Placed(offset as u16),
+        plain::Standing::Deferred { advance } => Standing::Deferred(advance as u16),
+        plain::Standing::Moved { advance, offset } => {
+            Standing::Moved { advance: advance as u16, offset: offset as u16 }
+        }
+        plain::Standing::Known { offset } => Standing::Known(offset as u16),
+    }
+}

@@ -1,0 +1,443 @@
+//! The plain machine of demand 3. It holds committed files, offsets and setters, a count of grants, and for each open
+//! transaction its accepted calls, standings, writes and sightings. It has no marks and no stale flag: a transaction is
+//! stale when the sightings it holds differ from those of its accepted calls run alone on what is committed now.
+
+use crate::call::{Action, Answer, Call, Outcome, Refusal, Reply, Step};
+
+const FILES: usize = 8;
+const DESCRIPTORS: usize = 16;
+const TRANSACTIONS: usize = 8;
+const FILE_BYTES: usize = 4096;
+const LOG_RECORDS: usize = 64;
+const LOG_BYTES: usize = 4096;
+
+/// The number of a granted commit, from 1; 0 stands for Fresh.
+pub type Setter = u64;
+
+/// What is committed.
+#[derive(Clone, Debug, PartialEq, Eq)]
+pub struct Committed {
+    pub files: Vec<[u8; FILE_BYTES]>,
+    /// The file of each descriptor.
+    pub file_of: [usize; DESCRIPTORS],
+    pub offsets: [usize; DESCRIPTORS],
+    byte_setters: Vec<[Setter; FILE_BYTES]>,
+    offset_setters: [Setter; DESCRIPTORS],
+}
+
+#[derive(Clone, Copy, Debug, PartialEq, Eq)]
+pub enum Standing {
+    Untouched,
+    Placed { offset: usize },
+    Deferred { advance: usize },
+    Moved { advance: usize, offset: usize },
+    Known { offset: usize },
+}
+
+/// Where a write lies: at a place of the file, or so far after a committed offset that isn't taken yet.
+#[derive(Clone, Copy, Debug, PartialEq, Eq)]
+pub enum Place {
+    At(usize),
+    After(usize),
+}
+
+#[derive(Clone, Debug, PartialEq, Eq)]
+pub struct Write {
+    pub descriptor: usize,
+    pub place: Place,
+    pub data: Vec<u8>,
+}
+
+#[derive(Clone, Copy, Debug, PartialEq, Eq)]
+pub enum Item {
+    Offset { descriptor: usize },
+    Byte { file: usize, place: usize },
+}
+
+/// An entry of a list: what was sighted, and who had set it.
+#[derive(Clone, Copy, Debug, PartialEq, Eq)]
+pub struct Sighting {
+    pub item: Item,
+    pub setter: Setter,
+}
+
+/// A transaction from its Begin on, apart from the list of its calls.
+#[derive(Clone, Debug, PartialEq, Eq)]
+pub struct Course {
+    pub standings: [Standing; DESCRIPTORS],
+    pub writes: Vec<Write>,
+    pub sightings: Vec<Sighting>,
+}
+
+#[derive(Clone, Debug)]
+pub struct Transaction {
+    /// The accepted calls.
+    pub calls: Vec<Step>,
+    pub course: Course,
+}
+
+#[derive(Clone, Debug)]
+pub struct Machine {
+    pub committed: Committed,
+    pub grants: Setter,
+    pub open: [Option<Transaction>; TRANSACTIONS],
+}
+
+impl Committed {
+    /// The state of an accepted Fresh.
+    pub fn fresh(files: &[u8]) -> Result<Committed, Refusal> {
+        if files.iter().any(|&file| usize::from(file) >= FILES) {
+            return Err(Refusal::NoSuchFile);
+        }
+        Ok(Committed {
+            files: vec![[0; FILE_BYTES]; FILES],
+            file_of: std::array::from_fn(|d| usize::from(files[d])),
+            offsets: [0; DESCRIPTORS],
+            byte_setters: vec![[0; FILE_BYTES]; FILES],
+            offset_setters: [0; DESCRIPTORS],
+        })
+    }
+
+    fn sight_offset(&self, descriptor: usize) -> Sighting {
+        Sighting { item: Item::Offset { descriptor }, setter: self.offset_setters[descriptor] }
+    }
+
+    fn sight_byte(&self, file: usize, place: usize) -> Sighting {
+        Sighting { item: Item::Byte { file, place }, setter: self.byte_setters[file][place] }
+    }
+
+    /// Lands the writes of a granted transaction, then sets the offsets; `setter` is the number of the grant.
+    pub fn grant(&mut self, course: &Course, setter: Setter) {
+        for write in &course.writes {
+            self.land(write, setter);
+        }
+        for (d, standing) in course.standings.iter().enumerate() {
+            let offset = match *standing {
+                Standing::Untouched => continue,
+                Standing::Deferred { advance } => self.offsets[d] + advance,
+                Standing::Placed { offset } | Standing::Moved { offset, .. } | Standing::Known { offset } => offset,
+            };
+            self.offsets[d] = offset;
+            self.offset_setters[d] = setter;
+        }
+    }
+
+    fn land(&mut self, write: &Write, setter: Setter) {
+        let file = self.file_of[write.descriptor];
+        let start = match write.place {
+            Place::At(place) => place,
+            Place::After(advance) => self.offsets[write.descriptor] + advance,
+        };
+        for (place, &byte) in (start..).zip(&write.data) {
+            self.files[file][place] = byte;
+            self.byte_setters[file][place] = setter;
+        }
+    }
+}
+
+impl Standing {
+    fn after_bytes(self, count: usize) -> Standing {
+        match self {
+            Standing::Untouched => Standing::Deferred { advance: count },
+            Standing::Deferred { advance } => Standing::Deferred { advance: advance + count },
+            Standing::Placed { offset } => Standing::Placed { offset: offset + count },
+            Standing::Moved { advance, offset } => Standing::Moved { advance, offset: offset + count },
+            Standing::Known { offset } => Standing::Known { offset: offset + count },
+        }
+    }
+
+    fn after_seek(self, offset: usize) -> Standing {
+        match self {
+            Standing::Untouched | Standing::Placed { .. } => Standing::Placed { offset },
+            Standing::Deferred { advance } | Standing::Moved { advance, .. } => Standing::Moved { advance, offset },
+            Standing::Known { .. } => Standing::Known { offset },
+        }
+    }
+}
+
+impl Course {
+    fn begun() -> Course {
+        Course { standings: [Standing::Untouched; DESCRIPTORS], writes: Vec::new(), sightings: Vec::new() }
+    }
+
+    /// The calls run alone on `committed`, up to the first one that is refused: what the run leaves, and its replies.
+    pub fn run_alone<'a>(committed: &Committed, calls: impl IntoIterator<Item = &'a Step>) -> (Course, Vec<Reply>) {
+        let mut course = Course::begun();
+        let mut replies = Vec::new();
+        for step in calls {
+            let reply = course.serve(committed, step);
+            if reply.outcome.is_err() {
+                break;
+            }
+            replies.push(reply);
+        }
+        (course, replies)
+    }
+
+    /// Serves one call of the transaction. A refused one changes nothing.
+    fn serve(&mut self, committed: &Committed, step: &Step) -> Reply {
+        let d = step.descriptor;
+        match &step.action {
+            Action::Seek { to } => no_buffer(self.seek(d, *to)),
+            Action::Write { data } => no_buffer(self.write(d, data)),
+            Action::GetFilePointer => no_buffer(self.get_file_pointer(committed, d)),
+            Action::Read { count, buffer } => {
+                let mut buffer = buffer.clone();
+                let outcome = self.read(committed, d, *count, &mut buffer);
+                Reply { outcome, buffer }
+            }
+        }
+    }
+
+    fn seek(&mut self, d: usize, to: usize) -> Outcome {
+        check_descriptor(d)?;
+        if to > FILE_BYTES {
+            return Err(Refusal::SeekPastEnd);
+        }
+        self.standings[d] = self.standings[d].after_seek(to);
+        Ok(Answer::Done)
+    }
+
+    fn write(&mut self, d: usize, data: &[u8]) -> Outcome {
+        check_descriptor(d)?;
+        let place = match self.standings[d] {
+            Standing::Untouched => Place::After(0),
+            Standing::Deferred { advance } => Place::After(advance),
+            Standing::Placed { offset } | Standing::Moved { offset, .. } | Standing::Known { offset } => {
+                Place::At(offset)
+            }
+        };
+        let (Place::At(start) | Place::After(start)) = place;
+        if start + data.len() > FILE_BYTES {
+            return Err(Refusal::WritePastEnd);
+        }
+        if self.writes.len() + 1 > LOG_RECORDS {
+            return Err(Refusal::RecordsFull);
+        }
+        let used: usize = self.writes.iter().map(|write| write.data.len()).sum();
+        if used + data.len() > LOG_BYTES {
+            return Err(Refusal::LogFull);
+        }
+        self.writes.push(Write { descriptor: d, place, data: data.to_vec() });
+        self.standings[d] = self.standings[d].after_bytes(data.len());
+        Ok(Answer::Done)
+    }
+
+    fn get_file_pointer(&mut self, committed: &Committed, d: usize) -> Outcome {
+        check_descriptor(d)?;
+        if matches!(self.standings[d], Standing::Untouched | Standing::Deferred { .. }) {
+            self.check_room(committed, d)?;
+            self.settle(committed, d);
+        }
+        Ok(Answer::Offset(self.offset(d) as u16))
+    }
+
+    fn read(&mut self, committed: &Committed, d: usize, count: usize, buffer: &mut [u8]) -> Outcome {
+        check_descriptor(d)?;
+        if count > buffer.len() {
+            return Err(Refusal::ReaderTooShort);
+        }
+        let settled = self.settled_by_read(committed, d);
+        for &other in &settled {
+            self.check_room(committed, other)?;
+        }
+        for &other in &settled {
+            self.settle(committed, other);
+        }
+        let offset = self.offset(d);
+        let given = count.min(FILE_BYTES - offset);
+        self.fetch(committed, committed.file_of[d], offset, &mut buffer[..given]);
+        self.standings[d] = self.standings[d].after_bytes(given);
+        Ok(Answer::Given(given as u16))
+    }
+
+    /// The descriptors that a Read through `d` settles, in ascending number.
+    fn settled_by_read(&self, committed: &Committed, d: usize) -> Vec<usize> {
+        let settles = |other: &usize| match self.standings[*other] {
+            Standing::Deferred { .. } | Standing::Moved { .. } => committed.file_of[*other] == committed.file_of[d],
+            Standing::Untouched => *other == d,
+            Standing::Placed { .. } | Standing::Known { .. } => false,
+        };
+        (0..DESCRIPTORS).filter(settles).collect()
+    }
+
+    /// Refusal 12: does the committed offset plus the advance stay in the file?
+    fn check_room(&self, committed: &Committed, d: usize) -> Result<(), Refusal> {
+        match self.standings[d] {
+            Standing::Deferred { advance } | Standing::Moved { advance, .. }
+                if committed.offsets[d] + advance > FILE_BYTES =>
+            {
+                Err(Refusal::SettledPastEnd)
+            }
+            _ => Ok(()),
+        }
+    }
+
+    /// Takes the committed offset: the writes that waited for it get their place, and the offset is sighted.
+    fn settle(&mut self, committed: &Committed, d: usize) {
+        let taken = committed.offsets[d];
+        for write in self.writes.iter_mut().filter(|write| write.descriptor == d) {
+            if let Place::After(advance) = write.place {
+                write.place = Place::At(taken + advance);
+            }
+        }
+        self.standings[d] = match self.standings[d] {
+            Standing::Untouched => Standing::Known { offset: taken },
+            Standing::Deferred { advance } => Standing::Known { offset: taken + advance },
+            Standing::Moved { offset, .. } => Standing::Known { offset },
+            Standing::Placed { .. } | Standing::Known { .. } => unreachable!("settled without need"),
+        };
+        self.sightings.push(committed.sight_offset(d));
+    }
+
+    fn offset(&self, d: usize) -> usize {
+        match self.standings[d] {
+            Standing::Placed { offset } | Standing::Moved { offset, .. } | Standing::Known { offset } => offset,
+            Standing::Untouched | Standing::Deferred { .. } => unreachable!("no offset is carried"),
+        }
+    }
+
+    /// Each byte is that of the latest own write over its place, otherwise the committed byte, which is then sighted.
+    fn fetch(&mut self, committed: &Committed, file: usize, start: usize, out: &mut [u8]) {
+        let own = self.own_bytes(committed, file, start, out.len());
+        for (i, own_byte) in own.into_iter().enumerate() {
+            out[i] = match own_byte {
+                Some(byte) => byte,
+                None => {
+                    self.sightings.push(committed.sight_byte(file, start + i));
+                    committed.files[file][start + i]
+                }
+            };
+        }
+    }
+
+    /// What the transaction's own writes put on `count` places of a file from `start` on.
+    fn own_bytes(&self, committed: &Committed, file: usize, start: usize, count: usize) -> Vec<Option<u8>> {
+        let mut own = vec![None; count];
+        for write in self.writes.iter().filter(|write| committed.file_of[write.descriptor] == file) {
+            let Place::At(first) = write.place else {
+                unreachable!("a write on the file read has no place");
+            };
+            for (place, &byte) in (first..).zip(&write.data) {
+                if (start..start + count).contains(&place) {
+                    own[place - start] = Some(byte);
+                }
+            }
+        }
+        own
+    }
+}
+
+impl Machine {
+    /// The machine on the state of an accepted Fresh with these sixteen file numbers.
+    pub fn fresh(files: &[u8]) -> Result<Machine, Refusal> {
+        Ok(Machine { committed: Committed::fresh(files)?, grants: 0, open: Default::default() })
+    }
+
+    /// Takes one call, of buffers and lists with the right lengths.
+    pub fn take(&mut self, call: &Call) -> Reply {
+        match call {
+            Call::Fresh { files } => no_buffer(Machine::fresh(files).map(|machine| {
+                *self = machine;
+                Answer::Done
+            })),
+            Call::Begin(t) => no_buffer(self.begin(*t)),
+            Call::Step(t, step) => self.step(*t, step),
+            Call::Commit(t) => no_buffer(self.commit(*t)),
+            Call::Abort(t) => no_buffer(self.abort(*t)),
+        }
+    }
+
+    /// Do the two lists of an open transaction differ?
+    pub fn is_stale(&self, t: usize) -> bool {
+        self.open[t].as_ref().is_some_and(|transaction| {
+            let (alone, _) = Course::run_alone(&self.committed, &transaction.calls);
+            alone.sightings != transaction.course.sightings
+        })
+    }
+
+    fn begin(&mut self, t: usize) -> Outcome {
+        check_transaction(t)?;
+        if self.open[t].is_some() {
+            return Err(Refusal::AlreadyOpen);
+        }
+        self.open[t] = Some(Transaction { calls: Vec::new(), course: Course::begun() });
+        Ok(Answer::Done)
+    }
+
+    fn step(&mut self, t: usize, step: &Step) -> Reply {
+        let untouched_buffer = match &step.action {
+            Action::Read { buffer, .. } => buffer.clone(),
+            _ => Vec::new(),
+        };
+        if let Err(refusal) = self.check_open(t) {
+            return Reply { outcome: Err(refusal), buffer: untouched_buffer };
+        }
+        let transaction = self.open[t].as_mut().expect("it is open");
+        let reply = transaction.course.serve(&self.committed, step);
+        if reply.outcome.is_ok() {
+            transaction.calls.push(step.clone());
+        }
+        reply
+    }
+
+    fn commit(&mut self, t: usize) -> Outcome {
+        self.check_open(t)?;
+        if self.is_stale(t) {
+            self.open[t] = None;
+            return Err(Refusal::Stale);
+        }
+        self.check_placing(t)?;
+        let equal_before = self.with_equal_lists();
+        let ended = self.open[t].take().expect("it is open");
+        self.grants += 1;
+        self.committed.grant(&ended.course, self.grants);
+        let equal_after = self.with_equal_lists();
+        let turned = (0..TRANSACTIONS).filter(|&u| u != t && equal_before[u] && !equal_after[u]).count();
+        Ok(Answer::Granted(turned as u8))
+    }
+
+    fn abort(&mut self, t: usize) -> Outcome {
+        self.check_open(t)?;
+        self.open[t] = None;
+        Ok(Answer::Done)
+    }
+
+    fn check_open(&self, t: usize) -> Result<(), Refusal> {
+        check_transaction(t)?;
+        match self.open[t] {
+            Some(_) => Ok(()),
+            None => Err(Refusal::NotOpen),
+        }
+    }
+
+    fn check_placing(&self, t: usize) -> Result<(), Refusal> {
+        let course = &self.open[t].as_ref().expect("it is open").course;
+        (0..DESCRIPTORS).try_for_each(|d| course.check_room(&self.committed, d))
+    }
+
+    /// Which transactions are open with two equal lists.
+    fn with_equal_lists(&self) -> [bool; TRANSACTIONS] {
+        std::array::from_fn(|t| self.open[t].is_some() && !self.is_stale(t))
+    }
+}
+
+fn no_buffer(outcome: Outcome) -> Reply {
+    Reply { outcome, buffer: Vec::new() }
+}
+
+fn check_transaction(t: usize) -> Result<(), Refusal> {
+    if t < TRANSACTIONS {
+        Ok(())
+    } else {
+        Err(Refusal::NoSuchTransaction)
+    }
+}
+
+fn check_descriptor(d: usize) -> Result<(), Refusal> {
+    if d < DESCRIPTORS {
+        Ok(())
+    } else {
+        Err(Refusal::NoSuchDescriptor)
+    }
+}

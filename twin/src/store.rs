@@ -1,0 +1,512 @@
+//! The store: a record that the caller keeps, and three buffers that the caller lends to every call.
+//!
+//! There are no setters and no lists here. What a transaction has sighted is kept as one bit for each file byte (the
+//! marks) and, for an offset, as the standing Known.
+
+use crate::call::Refusal;
+
+pub const FILES: usize = 8;
+pub const DESCRIPTORS: usize = 16;
+pub const TRANSACTIONS: usize = 8;
+/// Bytes of a file, and data bytes of a log.
+pub const SPAN: usize = 4096;
+/// Write records of a log.
+pub const RECORDS: usize = 64;
+/// The length of each of the three store buffers.
+pub const BUFFER: usize = 32768;
+/// Added to a record's holder while the record has no place.
+pub const UNPLACED: u8 = 16;
+
+const SPAN_16: u16 = SPAN as u16;
+
+/// How a descriptor stands in a transaction.
+#[derive(Clone, Copy, Debug, PartialEq, Eq)]
+pub enum Standing {
+    Untouched,
+    Placed(u16),
+    Deferred(u16),
+    Moved { advance: u16, offset: u16 },
+    Known(u16),
+}
+
+#[derive(Clone, Copy, Debug, PartialEq, Eq)]
+pub struct Descriptor {
+    pub standing: Standing,
+}
+
+/// The two counters of a log.
+#[derive(Clone, Copy, Debug, PartialEq, Eq)]
+pub struct Used {
+    pub records: u8,
+    pub bytes: u16,
+}
+
+#[derive(Clone, Copy, Debug, PartialEq, Eq)]
+pub struct Transaction {
+    pub begun: bool,
+    pub stale: bool,
+    pub used: Used,
+    pub descriptors: [Descriptor; DESCRIPTORS],
+}
+
+/// The record. Write record k of transaction t stands at 64 t + k of the last three arrays: its holder (the descriptor,
+/// plus 16 while the record has no place), its place (or the advance before it, while it has none) and its length.
+#[derive(Clone, Debug, PartialEq, Eq)]
+pub struct Store {
+    pub files: [u8; DESCRIPTORS],
+    pub offsets: [u16; DESCRIPTORS],
+    pub transactions: [Transaction; TRANSACTIONS],
+    pub holders: [u8; RECORDS * TRANSACTIONS],
+    pub places: [u16; RECORDS * TRANSACTIONS],
+    pub lengths: [u16; RECORDS * TRANSACTIONS],
+}
+
+/// The store buffers, as lent to a call.
+pub struct Lent<'a> {
+    pub files: &'a mut [u8],
+    pub logs: &'a mut [u8],
+    pub marks: &'a mut [u8],
+}
+
+/// A stretch of a read that one source supplies: the log from the given byte on, or else the file.
+struct Run {
+    log_from: Option<usize>,
+    end: usize,
+}
+
+impl Standing {
+    /// The advance that still waits for a committed offset.
+    fn waiting(self) -> Option<u16> {
+        match self {
+            Standing::Deferred(advance) | Standing::Moved { advance, .. } => Some(advance),
+            Standing::Untouched | Standing::Placed(_) | Standing::Known(_) => None,
+        }
+    }
+
+    fn in_range(self) -> bool {
+        match self {
+            Standing::Untouched => true,
+            Standing::Placed(number) | Standing::Deferred(number) | Standing::Known(number) => number <= SPAN_16,
+            Standing::Moved { advance, offset } => advance <= SPAN_16 && offset <= SPAN_16,
+        }
+    }
+
+    fn after_seek(self, to: u16) -> Standing {
+        match self {
+            Standing::Untouched | Standing::Placed(_) => Standing::Placed(to),
+            Standing::Deferred(advance) | Standing::Moved { advance, .. } => Standing::Moved { advance, offset: to },
+            Standing::Known(_) => Standing::Known(to),
+        }
+    }
+
+    /// The standing with `count` more bytes passed over by a Write or a Read.
+    fn after_bytes(self, count: u16) -> Standing {
+        match self {
+            Standing::Untouched => Standing::Deferred(count),
+            Standing::Placed(offset) => Standing::Placed(offset + count),
+            Standing::Deferred(advance) => Standing::Deferred(advance + count),
+            Standing::Moved { advance, offset } => Standing::Moved { advance, offset: offset + count },
+            Standing::Known(offset) => Standing::Known(offset + count),
+        }
+    }
+
+    fn settled(self, committed: u16) -> Standing {
+        match self {
+            Standing::Untouched => Standing::Known(committed),
+            Standing::Deferred(advance) => Standing::Known(committed + advance),
+            Standing::Placed(offset) | Standing::Moved { offset, .. } | Standing::Known(offset) => {
+                Standing::Known(offset)
+            }
+        }
+    }
+}
+
+impl Used {
+    /// Takes up one record of `length` bytes and says where its data starts; refuses where the log is full.
+    fn append(&mut self, length: usize) -> Result<usize, Refusal> {
+        if usize::from(self.records) >= RECORDS {
+            return Err(Refusal::RecordsFull);
+        }
+        let start = usize::from(self.bytes);
+        if length > SPAN - start {
+            return Err(Refusal::LogFull);
+        }
+        self.records += 1;
+        self.bytes += length as u16;
+        Ok(start)
+    }
+}
+
+impl Transaction {
+    pub const ENDED: Transaction = Transaction {
+        begun: false,
+        stale: false,
+        used: Used { records: 0, bytes: 0 },
+        descriptors: [Descriptor { standing: Standing::Untouched }; DESCRIPTORS],
+    };
+
+    /// Has it sighted one of these offsets (a bit for each descriptor)?
+    fn knows_any(&self, offsets: u16) -> bool {
+        let known = |d: usize| matches!(self.descriptors[d].standing, Standing::Known(_));
+        (0..DESCRIPTORS).any(|d| offsets >> d & 1 == 1 && known(d))
+    }
+}
+
+impl Lent<'_> {
+    fn check(&self) -> Result<(), Refusal> {
+        let fits = |buffer: &[u8]| buffer.len() == BUFFER;
+        if fits(self.files) && fits(self.logs) && fits(self.marks) {
+            Ok(())
+        } else {
+            Err(Refusal::BufferLength)
+        }
+    }
+}
+
+impl Store {
+    /// The record that Fresh makes.
+    pub fn new(files: [u8; DESCRIPTORS]) -> Store {
+        Store {
+            files,
+            offsets: [0; DESCRIPTORS],
+            transactions: [Transaction::ENDED; TRANSACTIONS],
+            holders: [0; RECORDS * TRANSACTIONS],
+            places: [0; RECORDS * TRANSACTIONS],
+            lengths: [0; RECORDS * TRANSACTIONS],
+        }
+    }
+
+    pub fn fresh(&mut self, lent: &mut Lent, files: &[u8]) -> Result<(), Refusal> {
+        lent.check()?;
+        let files: [u8; DESCRIPTORS] = files.try_into().map_err(|_| Refusal::BufferLength)?;
+        if files.iter().any(|&file| usize::from(file) >= FILES) {
+            return Err(Refusal::NoSuchFile);
+        }
+        *self = Store::new(files);
+        lent.files.fill(0);
+        lent.marks.fill(0);
+        Ok(())
+    }
+
+    pub fn begin(&mut self, lent: &mut Lent, t: usize) -> Result<(), Refusal> {
+        self.check_number(lent, t)?;
+        if self.transactions[t].begun {
+            return Err(Refusal::AlreadyOpen);
+        }
+        self.transactions[t] = Transaction { begun: true, ..Transaction::ENDED };
+        clear_marks(lent.marks, t);
+        Ok(())
+    }
+
+    pub fn seek(&mut self, lent: &mut Lent, t: usize, d: usize, to: usize) -> Result<(), Refusal> {
+        self.check_descriptor(lent, t, d)?;
+        if to > SPAN {
+            return Err(Refusal::SeekPastEnd);
+        }
+        let standing = &mut self.transactions[t].descriptors[d].standing;
+        *standing = standing.after_seek(to as u16);
+        Ok(())
+    }
+
+    pub fn write(&mut self, lent: &mut Lent, t: usize, d: usize, data: &[u8]) -> Result<(), Refusal> {
+        self.check_descriptor(lent, t, d)?;
+        let transaction = &mut self.transactions[t];
+        let standing = transaction.descriptors[d].standing;
+        let (holder, place) = match standing {
+            Standing::Untouched => (d as u8 + UNPLACED, 0),
+            Standing::Deferred(advance) => (d as u8 + UNPLACED, advance),
+            Standing::Placed(offset) | Standing::Moved { offset, .. } | Standing::Known(offset) => (d as u8, offset),
+        };
+        if data.len() > SPAN - usize::from(place) {
+            return Err(Refusal::WritePastEnd);
+        }
+        let slot = RECORDS * t + usize::from(transaction.used.records);
+        let start = SPAN * t + transaction.used.append(data.len())?;
+        transaction.descriptors[d].standing = standing.after_bytes(data.len() as u16);
+        self.holders[slot] = holder;
+        self.places[slot] = place;
+        self.lengths[slot] = data.len() as u16;
+        lent.logs[start..start + data.len()].copy_from_slice(data);
+        Ok(())
+    }
+
+    pub fn get_file_pointer(&mut self, lent: &mut Lent, t: usize, d: usize) -> Result<u16, Refusal> {
+        self.check_descriptor(lent, t, d)?;
+        match self.transactions[t].descriptors[d].standing {
+            Standing::Placed(offset) | Standing::Moved { offset, .. } | Standing::Known(offset) => Ok(offset),
+            Standing::Untouched | Standing::Deferred(_) => {
+                self.settle(t, 1 << d)?;
+                Ok(self.offset(t, d))
+            }
+        }
+    }
+
+    /// Reads `count` bytes to the front of `reader` and answers how many there were.
+    pub fn read(
+        &mut self,
+        lent: &mut Lent,
+        t: usize,
+        d: usize,
+        count: usize,
+        reader: &mut [u8],
+    ) -> Result<u16, Refusal> {
+        self.check_descriptor(lent, t, d)?;
+        if count > reader.len() {
+            return Err(Refusal::ReaderTooShort);
+        }
+        self.settle(t, self.settled_by_read(t, d))?;
+        let start = usize::from(self.offset(t, d));
+        let given = count.min(SPAN - start);
+        self.fetch(lent, t, usize::from(self.files[d]), start, &mut reader[..given]);
+        let standing = &mut self.transactions[t].descriptors[d].standing;
+        *standing = standing.after_bytes(given as u16);
+        Ok(given as u16)
+    }
+
+    /// Answers how many other transactions became stale.
+    pub fn commit(&mut self, lent: &mut Lent, t: usize) -> Result<u8, Refusal> {
+        self.check_open(lent, t)?;
+        if self.transactions[t].stale {
+            self.end(lent, t);
+            return Err(Refusal::Stale);
+        }
+        self.check_settling(t, u16::MAX)?;
+        let sighters = self.land(lent, t);
+        let offsets = self.set_offsets(t);
+        self.end(lent, t);
+        Ok(self.make_stale(sighters, offsets))
+    }
+
+    pub fn abort(&mut self, lent: &mut Lent, t: usize) -> Result<(), Refusal> {
+        self.check_open(lent, t)?;
+        self.end(lent, t);
+        Ok(())
+    }
+
+    // The checks that calls begin with, in the order of the table.
+
+    fn check_number(&self, lent: &Lent, t: usize) -> Result<(), Refusal> {
+        lent.check()?;
+        if !self.in_range() {
+            return Err(Refusal::RecordRange);
+        }
+        if t >= TRANSACTIONS {
+            return Err(Refusal::NoSuchTransaction);
+        }
+        Ok(())
+    }
+
+    fn check_open(&self, lent: &Lent, t: usize) -> Result<(), Refusal> {
+        self.check_number(lent, t)?;
+        if !self.transactions[t].begun {
+            return Err(Refusal::NotOpen);
+        }
+        Ok(())
+    }
+
+    fn check_descriptor(&self, lent: &Lent, t: usize, d: usize) -> Result<(), Refusal> {
+        self.check_open(lent, t)?;
+        if d >= DESCRIPTORS {
+            return Err(Refusal::NoSuchDescriptor);
+        }
+        Ok(())
+    }
+
+    /// The ranges of refusal 2. What a transaction that isn't open holds is free.
+    fn in_range(&self) -> bool {
+        self.files.iter().all(|&file| usize::from(file) < FILES)
+            && self.offsets.iter().all(|&offset| offset <= SPAN_16)
+            && (0..TRANSACTIONS).all(|t| !self.transactions[t].begun || self.transaction_in_range(t))
+    }
+
+    fn transaction_in_range(&self, t: usize) -> bool {
+        let transaction = &self.transactions[t];
+        let records = usize::from(transaction.used.records);
+        if records > RECORDS || transaction.used.bytes > SPAN_16 {
+            return false;
+        }
+        if !transaction.descriptors.iter().all(|descriptor| descriptor.standing.in_range()) {
+            return false;
+        }
+        let part = RECORDS * t..RECORDS * t + records;
+        let numbers = self.holders[part.clone()].iter().zip(&self.places[part.clone()]).zip(&self.lengths[part]);
+        let mut bytes = 0;
+        for ((&holder, &place), &length) in numbers {
+            let end = u32::from(place) + u32::from(length);
+            if !record_in_range(&transaction.descriptors, holder, end) {
+                return false;
+            }
+            bytes += u32::from(length);
+        }
+        bytes == u32::from(transaction.used.bytes)
+    }
+
+    // Settling.
+
+    /// The offset of a descriptor whose standing carries one; a descriptor just settled has it.
+    fn offset(&self, t: usize, d: usize) -> u16 {
+        match self.transactions[t].descriptors[d].standing {
+            Standing::Placed(offset) | Standing::Moved { offset, .. } | Standing::Known(offset) => offset,
+            Standing::Untouched | Standing::Deferred(_) => unreachable!("the descriptor carries an offset"),
+        }
+    }
+
+    /// The descriptors (a bit for each) that a Read through `d` settles.
+    fn settled_by_read(&self, t: usize, d: usize) -> u16 {
+        let mut chosen = 0;
+        for (other, descriptor) in self.transactions[t].descriptors.iter().enumerate() {
+            let standing = descriptor.standing;
+            let waits = self.files[other] == self.files[d] && standing.waiting().is_some();
+            if waits || (other == d && standing == Standing::Untouched) {
+                chosen |= 1 << other;
+            }
+        }
+        chosen
+    }
+
+    /// Would each of the chosen descriptors find room for its advance after its committed offset?
+    fn check_settling(&self, t: usize, chosen: u16) -> Result<(), Refusal> {
+        for (d, descriptor) in self.transactions[t].descriptors.iter().enumerate() {
+            let advance = descriptor.standing.waiting().unwrap_or(0);
+            if chosen >> d & 1 == 1 && self.offsets[d] + advance > SPAN_16 {
+                return Err(Refusal::SettledPastEnd);
+            }
+        }
+        Ok(())
+    }
+
+    /// Settles the chosen descriptors, all or none, and gives their records a place.
+    fn settle(&mut self, t: usize, chosen: u16) -> Result<(), Refusal> {
+        if chosen == 0 {
+            return Ok(());
+        }
+        self.check_settling(t, chosen)?;
+        let transaction = &mut self.transactions[t];
+        for (d, descriptor) in transaction.descriptors.iter_mut().enumerate() {
+            if chosen >> d & 1 == 1 {
+                descriptor.standing = descriptor.standing.settled(self.offsets[d]);
+            }
+        }
+        let part = RECORDS * t..RECORDS * t + usize::from(transaction.used.records);
+        for (holder, place) in self.holders[part.clone()].iter_mut().zip(&mut self.places[part]) {
+            if *holder >= UNPLACED && chosen >> (*holder - UNPLACED) & 1 == 1 {
+                *holder -= UNPLACED;
+                *place += self.offsets[usize::from(*holder)];
+            }
+        }
+        Ok(())
+    }
+
+    // Reading.
+
+    /// Fills `out` from `place` of `file` on, run by run, and marks the bytes that the file supplied.
+    fn fetch(&self, lent: &mut Lent, t: usize, file: usize, place: usize, out: &mut [u8]) {
+        let end = place + out.len();
+        let mut at = place;
+        while at < end {
+            let run = self.run(t, file, at, end);
+            let length = run.end - at;
+            let source = match run.log_from {
+                Some(from) => &lent.logs[SPAN * t + from..][..length],
+                None => {
+                    let from = SPAN * file + at;
+                    lent.marks[from..from + length].iter_mut().for_each(|mark| *mark |= 1 << t);
+                    &lent.files[from..from + length]
+                }
+            };
+            out[at - place..run.end - place].copy_from_slice(source);
+            at = run.end;
+        }
+    }
+
+    /// The longest stretch from `place` on, up to `end`, that one record or else the file supplies.
+    fn run(&self, t: usize, file: usize, place: usize, end: usize) -> Run {
+        let used = self.transactions[t].used;
+        let mut limit = end;
+        let mut data = usize::from(used.bytes);
+        for k in (RECORDS * t..RECORDS * t + usize::from(used.records)).rev() {
+            let length = usize::from(self.lengths[k]);
+            data -= length;
+            if length == 0 || usize::from(self.files[usize::from(self.holders[k] % UNPLACED)]) != file {
+                continue;
+            }
+            let start = usize::from(self.places[k]);
+            if start > place {
+                limit = limit.min(start);
+            } else if place < start + length {
+                return Run { log_from: Some(data + place - start), end: limit.min(start + length) };
+            }
+        }
+        Run { log_from: None, end: limit }
+    }
+
+    // Ending a transaction.
+
+    /// Lands the writes in call order and answers who has sighted a byte just set (a bit for each transaction).
+    fn land(&self, lent: &mut Lent, t: usize) -> u8 {
+        let mut sighters = 0;
+        let mut data = SPAN * t;
+        for k in RECORDS * t..RECORDS * t + usize::from(self.transactions[t].used.records) {
+            let d = usize::from(self.holders[k] % UNPLACED);
+            let base = if self.holders[k] >= UNPLACED { self.offsets[d] } else { 0 };
+            let length = usize::from(self.lengths[k]);
+            let start = SPAN * usize::from(self.files[d]) + usize::from(base + self.places[k]);
+            lent.files[start..start + length].copy_from_slice(&lent.logs[data..data + length]);
+            sighters |= lent.marks[start..start + length].iter().fold(0, |all, mark| all | mark);
+            data += length;
+        }
+        sighters
+    }
+
+    /// Sets the committed offsets and answers which were set (a bit for each descriptor).
+    fn set_offsets(&mut self, t: usize) -> u16 {
+        let mut set = 0;
+        for (d, descriptor) in self.transactions[t].descriptors.iter().enumerate() {
+            match descriptor.standing {
+                Standing::Untouched => continue,
+                Standing::Deferred(advance) => self.offsets[d] += advance,
+                Standing::Placed(offset) | Standing::Moved { offset, .. } | Standing::Known(offset) => {
+                    self.offsets[d] = offset
+                }
+            }
+            set |= 1 << d;
+        }
+        set
+    }
+
+    fn end(&mut self, lent: &mut Lent, t: usize) {
+        self.transactions[t] = Transaction::ENDED;
+        clear_marks(lent.marks, t);
+    }
+
+    /// Makes stale every open transaction that has sighted one of the bytes or offsets just set, and counts those that
+    /// were not so before. The one that set them has ended.
+    fn make_stale(&mut self, sighters: u8, offsets: u16) -> u8 {
+        let mut count = 0;
+        for (t, transaction) in self.transactions.iter_mut().enumerate() {
+            let sighted = sighters >> t & 1 == 1 || transaction.knows_any(offsets);
+            if transaction.begun && !transaction.stale && sighted {
+                transaction.stale = true;
+                count += 1;
+            }
+        }
+        count
+    }
+}
+
+/// The ranges of one write record that ends at `end` (a place or an advance).
+fn record_in_range(descriptors: &[Descriptor; DESCRIPTORS], holder: u8, end: u32) -> bool {
+    if end > SPAN as u32 || holder >= 2 * UNPLACED {
+        return false;
+    }
+    if holder < UNPLACED {
+        return true;
+    }
+    let waiting = descriptors[usize::from(holder - UNPLACED)].standing.waiting();
+    waiting.is_some_and(|advance| end <= u32::from(advance))
+}
+
+fn clear_marks(marks: &mut [u8], t: usize) {
+    let others = !(1 << t);
+    marks.iter_mut().for_each(|mark| *mark &= others);
+}

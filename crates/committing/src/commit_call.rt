@@ -22,12 +22,14 @@ pub fn commit(mut s: Store, files: &mut [u8], logs: &[u8], marks: &mut [u8], t: 
     }
     let own = t as u8;
     let x = s.transactions[t];
-    if x.stale {
+    let stale = x.stale;
+    let fits = landed::fits(x, &s.offsets);
+    if stale {
         bits::unmark_all(marks, own);
         s.transactions[t] = record::ended();
         return turns::turned_down(Refusal::Stale, s);
     }
-    if !landed::fits(x, &s.offsets) {
+    if !fits {
         return turns::turned_down(Refusal::SettledPastEnd, s);
     }
     let used = x.used;

@@ -70,17 +70,20 @@ mul-x c = omega (arith, through c .small)
 element-copy-out-x : tie.Need-element-copy-out-x
 element-copy-out-x c = through c .small
 
+fits-requires : tie.Need-fits-requires
+fits-requires c κs = ranged (c .before .before .before) .offsets
+
 unmark-all-requires : tie.Need-unmark-all-requires
-unmark-all-requires c κs = through (c .before .before .before) .small
+unmark-all-requires c κs = omega (arith, through (c .before .before .before .before .before .before) .small)
 
 ended-requires : tie.Need-ended-requires
 ended-requires c κs = search needs
 
-mul-t30 : tie.Need-mul-t30
-mul-t30 c = omega (arith, through (c .before .before .before .before .before .before .before) .small)
+mul-t33 : tie.Need-mul-t33
+mul-t33 c = omega (arith, through (c .before .before .before .before .before .before .before .before .before .before) .small)
 
 element-set-from-s : tie.Need-element-set-from-s
-element-set-from-s c = through (c .before .before .before .before .before .before .before) .small
+element-set-from-s c = through (c .before .before .before .before .before .before .before .before .before .before) .small
 
 turned-down-requires-2 : tie.Need-turned-down-requires-2
 turned-down-requires-2 c κs = search needs
@@ -91,7 +94,7 @@ same-length c = search needs
 returns-2 : tie.Need-returns-2
 unfolding withTransaction
 returns-2 c =
-    let told = c .before .before .before .before .before .before .before .before in
+    let told = c .before .before .before .before .before .before .before .before .before .before .before in
     let start = told .before .before .before .before .before .before in
     let m = machine start in
     let t = start .args .t in
@@ -99,9 +102,6 @@ returns-2 c =
     (c .turned-down2 .ensures .0)
     (c .turned-down2 .ensures .1 ∙ ap (λ (x : Transaction). withTransaction t x (m .store)) (c .before .ended .ensures))
     (c .before .before .before .before .unmark-all .ensures)
-
-fits-requires : tie.Need-fits-requires
-fits-requires c κs = ranged (c .before .before .before .before) .offsets
 
 turned-down-requires-3 : tie.Need-turned-down-requires-3
 turned-down-requires-3 c κs = search needs
@@ -113,14 +113,14 @@ returns-3 c =
     let start = told .before .before .before .before .before .before in
     let m = machine start in
     let t = start .args .t in
-    let past = fits-is (m .store) (m .files) (m .logs) (m .marks) t ∙ failed (c .before .before .fits2 .ensures) (c .before .if2 .taken) in
-    turned-meets _ SettledPastEnd [] m _ (commit-past t m (passes told) (c .before .before .before .before .before .if1 .left) past) (c .turned-down3 .ensures .0) (c .turned-down3 .ensures .1)
+    let past = fits-is (m .store) (m .files) (m .logs) (m .marks) t ∙ failed (c .before .before .before .fits2 .ensures) (c .before .if2 .taken) in
+    turned-meets _ SettledPastEnd [] m _ (commit-past t m (passes told) (c .before .before .if1 .left) past) (c .turned-down3 .ensures .0) (c .turned-down3 .ensures .1)
 
 -- The placing fits.
 fit : (c : tie.Else2) → let start = c .before .before .before .before .before .before .before .before .before .before .before .before in fits (values (start .args .t1) (start .args .files .now)) (txnOf (start .args .t1) (start .args .logs .now) (start .args .t)) ≡ true
 fit c =
     let m = machine (c .before .before .before .before .before .before .before .before .before .before .before .before) in
-    fits-is (m .store) (m .files) (m .logs) (m .marks) (c .before .before .before .before .before .before .before .before .before .before .before .before .args .t) ∙ held (c .before .fits2 .ensures) (c .if2 .left)
+    fits-is (m .store) (m .files) (m .logs) (m .marks) (c .before .before .before .before .before .before .before .before .before .before .before .before .args .t) ∙ held (c .before .before .fits2 .ensures) (c .if2 .left)
 
 land-writes-requires : tie.Need-land-writes-requires
 land-writes-requires c κs =
@@ -138,7 +138,7 @@ offsets-after-requires c κs =
     advance-fits (m .store) (m .files) (m .logs) (m .marks) (told .before .before .before .before .before .before .args .t) (fit (c .before .before .before .before .before .before .before .before .before .before .before .before .before .before .before .before))
 
 unmark-all-requires-2 : tie.Need-unmark-all-requires-2
-unmark-all-requires-2 c κs = through (c .before .before .before .before .before .before .before .before .before .before .before .before .before .before .before .before .before .before .before .before .before .before .before .before) .small
+unmark-all-requires-2 c κs = omega (arith, through (c .before .before .before .before .before .before .before .before .before .before .before .before .before .before .before .before .before .before .before .before .before .before .before .before) .small)
 
 same-length-2 : tie.Need-same-length-2
 same-length-2 c = search needs
@@ -153,7 +153,7 @@ returns-4 c =
     let m = machine start in
     let t = start .args .t in
     granted-meets (m .store) (m .files) (m .logs) (m .marks) t _
-    (commit-granted t m (passes told) (c .before .before .before .before .before .before .before .before .before .before .before .before .before .before .before .before .before .before .before .before .before .before .before .before .before .if1 .left) (fit (c .before .before .before .before .before .before .before .before .before .before .before .before .before .before .before .before .before .before .before .before .before)))
+    (commit-granted t m (passes told) (c .before .before .before .before .before .before .before .before .before .before .before .before .before .before .before .before .before .before .before .before .before .before .if1 .left) (fit (c .before .before .before .before .before .before .before .before .before .before .before .before .before .before .before .before .before .before .before .before .before)))
     (reached told .shape .offsets)
     (c .before .before .before .before .before .before .before .before .before .before .before .land-writes .result) _ _ _ _ _
     (c .before .before .before .before .before .before .before .before .before .before .before .land-writes .ensures .1)
@@ -175,14 +175,14 @@ commit-spec =
     cast-own
     mul-x
     element-copy-out-x
+    fits-requires
     unmark-all-requires
     ended-requires
-    mul-t30
+    mul-t33
     element-set-from-s
     turned-down-requires-2
     same-length
     returns-2
-    fits-requires
     turned-down-requires-3
     returns-3
     land-writes-requires

@@ -34,7 +34,7 @@ element-copy-out-if1 : tie.Need-element-copy-out-if1 Inv-loop μ-loop
 element-copy-out-if1 c = search needs
 
 sub-if1 : tie.Need-sub-if1 Inv-loop μ-loop
-sub-if1 c = c .before .before .before .before .pre (c .before .before .before .loop .d) (omega arith)
+sub-if1 c = omega (arith, c .before .before .before .before .pre (c .before .before .before .loop .d) (omega arith))
 
 advance-of-requires : tie.Need-advance-of-requires Inv-loop μ-loop
 advance-of-requires c κs = search needs

@@ -83,13 +83,13 @@ module _ (s : Store) (files logs marks : List ℕ) (t : ℕ) (w : Turn) (e : w �
   granted-meets seen count offsets transactions files' marks' b n ts os fs ms =
       rw e
       (record {
-          outcome = ap granted (n ∙ ap (λ (k : ℕ). sum (becameStale (s .transactions) t k) 8) b ∙ sym (count-is s files logs marks t));
-          store =
-              ap₂ (λ (o : List ℕ) (x : List Transaction). record { files = s .files; offsets = o; transactions = x; holders = s .holders; places = s .places; lengths = s .lengths })
-              (os ∙ sym (offsets-are s files logs marks t sixteen))
-              (ts ∙ ap (λ (k : ℕ). tabulate (afterGrant (s .transactions) t k) 8) b ∙ sym (transactions-are s files logs marks t));
-          files = fs ∙ sym (files-are s files logs marks t);
-          logs = refl;
-          marks = ms;
-          reader = refl;
-        })
+        outcome = ap granted (n ∙ ap (λ (k : ℕ). sum (becameStale (s .transactions) t k) 8) b ∙ sym (count-is s files logs marks t));
+        store =
+            ap₂ (λ (o : List ℕ) (x : List Transaction). record { files = s .files; offsets = o; transactions = x; holders = s .holders; places = s .places; lengths = s .lengths })
+            (os ∙ sym (offsets-are s files logs marks t sixteen))
+            (ts ∙ ap (λ (k : ℕ). tabulate (afterGrant (s .transactions) t k) 8) b ∙ sym (transactions-are s files logs marks t));
+        files = fs ∙ sym (files-are s files logs marks t);
+        logs = refl;
+        marks = ms;
+        reader = refl;
+      })

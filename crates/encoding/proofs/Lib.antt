@@ -3,4 +3,3 @@ pub mod Filled
 pub mod Decoded
 pub mod Encoded
 pub mod Settling
-pub mod LandsIn

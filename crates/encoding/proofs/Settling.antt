@@ -19,19 +19,6 @@ use Rattle.rules.specs.Transactions.{Write, Txn, put, placedAt, placeWrite, set
 use Rattle.rules.specs.Calls.{marked}
 use Rattle.encoding.specs.Settling.{placeAll, settleAll}
 
--- ---- programs
-
-module _ {A B : Type 0} (v : Values) where
-  pub result-andThen : (p : Prog A) (k : A → Prog B) → result v (andThen p k) ≡ result v (k (result v p))
-  unfolding andThen result
-  result-andThen (done a) k = refl
-  result-andThen (ask i f) k = result-andThen (f (v i)) k
-
-  pub asked-andThen : (p : Prog A) (k : A → Prog B) → asked v (andThen p k) ≡ asked v p ++ asked v (k (result v p))
-  unfolding andThen result asked
-  asked-andThen (done a) k = refl
-  asked-andThen (ask i f) k = ap (λ (l : List Item). i ∷ l) (asked-andThen (f (v i)) k)
-
 -- ---- one list of descriptors after another
 
 -- Goes on where settling did not fail.

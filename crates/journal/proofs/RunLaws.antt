@@ -2,7 +2,7 @@
 -- Assumes nothing.
 use mathlib.Core.Bool.{Bool, true, false, cond, _&&_, false≢true}
 use mathlib.Core.List.{List, [], _∷_, _++_}
-use mathlib.Core.Logic.{_⊎_, inl, inr, ⊎-elim}
+use mathlib.Core.Logic.{_⊎_, inr, ⊎-elim}
 use mathlib.Core.Path.{_≡_, refl, sym, ap, ap₂, _∙_}
 use lib.Dec.{leb, ltb, eqb}
 use lib.ListN.{getD, length}
@@ -10,7 +10,7 @@ use Prim.Native.Nat.{ℕ, zero, suc, _+_, _-_, _*_, _≤_, _<_, min}
 use native.Mathlib.Nat.{add-zero}
 use native.Mathlib.Omega.{arith}
 use borrow.Author.Tests.{leb-true, ltb-true, lt-ltb, le-ltb, le-leb, eq-eqb, ne-eqb}
-use Rattle.record.specs.Journal.{Place, at, after, holderDescriptor, holderPlace}
+use Rattle.record.specs.Journal.{at, after, holderDescriptor, holderPlace}
 use Rattle.ranges.specs.Below.{sum}
 use Rattle.ranges.proofs.Laws.{and-left, and-right, and-both}
 use Rattle.octets.specs.Parts.{cut}
@@ -19,7 +19,7 @@ use Rattle.rules.specs.Reading.{over, byteAt, Source, own, file, supplies, orEl
 use Rattle.rules.specs.Transactions.{Write}
 use Rattle.rules.specs.Machine.{tabulate}
 use Rattle.journal.specs.declared.runs.Run.{Run}
-use Rattle.journal.specs.Runs.{Arrays, covers, Supplier, theFile, theRecord, newest, supplier, isRecord, dataBefore, standsAt, GapOf, RunOf, recordAt, sourceOf}
+use Rattle.journal.specs.Runs.{Arrays, covers, theFile, theRecord, newest, supplier, isRecord, dataBefore, standsAt, GapOf, RunOf, recordAt, sourceOf}
 
 -- ---- what a write record lies over
 

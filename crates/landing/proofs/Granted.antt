@@ -24,7 +24,7 @@ use Rattle.rules.specs.Machine.{fileOf, values, writeAt, dataStart, txnOf, tabu
 use Rattle.rules.specs.Calls.{landByte, landFiles, landOffset, landOffsets, hasSighted, conflicts, staled, afterCommit, becomesStale}
 use Rattle.rules.proofs.View.Tables.{tabulate-same}
 use Rattle.encoding.proofs.Decoded.{Opened}
-use Rattle.encoding.proofs.LandsIn.{lands-in}
+use Rattle.rules.proofs.View.SettingsIn.{lands-in}
 use Rattle.landing.specs.Landing.{arrays, bytesSet, markOf, marksOf, RecordLands, CanLand, fitsBehind, offsetAfter}
 use Rattle.landing.specs.Staling.{some, knowsOffset, hit, staleIf, afterwards, newlyStale, afterGrant, becameStale}
 use Rattle.encoding.proofs.Filled.{filled, filled-none, filled-set, filled-kept, filled-all}

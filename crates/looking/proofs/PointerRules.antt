@@ -21,7 +21,8 @@ use Rattle.rules.specs.Plain.{on}
 use Rattle.rules.specs.Machine.{Machine, fileOf, values, txnOf, withTxn}
 use Rattle.rules.specs.Calls.{Turn, turnDown, marked, logged, served, call}
 use Rattle.encoding.proofs.Decoded.{Opened}
-use Rattle.encoding.proofs.Settling.{result-andThen, asked-andThen, marked-settling}
+use Rattle.rules.proofs.Serial.Programs.{result-andThen, asked-andThen}
+use Rattle.encoding.proofs.Settling.{marked-settling}
 use Rattle.descriptors.specs.Settling.{chosenByPointer, fitting, settledTransaction}
 use Rattle.journal.specs.Places.{placedHolders, placedPlaces}
 use Rattle.settling.proofs.Settled.{settledTxn, settledStore, txn-settled, standing-settled}

@@ -1,12 +1,12 @@
 -- The rule of Read after each of its tests.
 use mathlib.Core.Bool.{Bool, true, false, cond, not, _||_}
-use mathlib.Core.List.{List, [], _∷_, _++_, append-nil}
+use mathlib.Core.List.{List, _++_, append-nil}
 use mathlib.Core.Path.{_≡_, refl, sym, ap, ap₂, _∙_}
-use borrow.Author.Tests.{le-leb, lt-leb, leb-true}
+use borrow.Author.Tests.{le-leb, leb-true}
 use lib.Dec.{leb}
 use lib.ListN.{length, getD, set, drop}
 use native.Mathlib.Omega.{arith}
-use Prim.Native.Nat.{ℕ, _+_, _-_, _*_, _≤_, _<_, min}
+use Prim.Native.Nat.{ℕ, _+_, _-_, _≤_, min}
 use Rattle.octets.specs.Parts.{fileOf as filePart}
 use Rattle.record.specs.Journal.{transaction, standingAt}
 use Rattle.record.specs.Paper.{given, said, number}
@@ -18,17 +18,18 @@ use Rattle.record.specs.declared.Standing.the-variants.{Untouched, Placed, Defe
 use Rattle.record.specs.declared.Outcome.the-variants.{Given}
 use Rattle.ranges.specs.Ranges.{admission, unless, standingIn}
 use Rattle.ranges.proofs.Laws.{and-right, below-at}
-use Rattle.rules.specs.Items.{Item, byte, Values, Prog, done, andThen, result, asked}
+use Rattle.rules.specs.Items.{Item, Values, Prog, done, andThen, result, asked}
 use Rattle.rules.specs.Standings.{afterRead, offsetOf, advance, settled}
 use Rattle.rules.specs.Transactions.{Txn, Write, restand, Settled, past, all, settling}
 use Rattle.rules.specs.Reading.{fetch}
-use Rattle.rules.specs.Steps.{Op, read, Stepped, refuse, accept, check, orGivenBack, step, readStep, readSettled, settledByRead, bufferOf}
+use Rattle.rules.specs.Steps.{read, Stepped, refuse, accept, check, orGivenBack, step, readStep, readSettled, settledByRead, bufferOf}
 use Rattle.rules.specs.Plain.{on, Reply}
 use Rattle.rules.specs.Machine.{Machine, tabulate, fileOf, values, writeAt, txnOf, withTxn}
 use Rattle.rules.specs.Calls.{Turn, turnDown, marked, logged, served, call}
 use Rattle.encoding.specs.Settling.{settleAll}
 use Rattle.encoding.proofs.Decoded.{Opened}
-use Rattle.encoding.proofs.Settling.{result-andThen, asked-andThen, marked-settling}
+use Rattle.rules.proofs.Serial.Programs.{result-andThen, asked-andThen}
+use Rattle.encoding.proofs.Settling.{marked-settling}
 use Rattle.descriptors.specs.Settling.{chosenByRead, fits, fitting, settledTransaction}
 use Rattle.journal.specs.Places.{placedHolders, placedPlaces}
 use Rattle.journal.specs.Runs.{Arrays, arrays, dataBefore}

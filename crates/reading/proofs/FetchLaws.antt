@@ -1,20 +1,19 @@
 -- The laws of a fetch: in two pieces, over one run, and what it marks. Assumes nothing.
-use mathlib.Core.Bool.{Bool, true, false, cond, false≢true}
+use mathlib.Core.Bool.{true, false, false≢true}
 use mathlib.Core.List.{List, [], _∷_, _++_, append-assoc, append-nil}
-use mathlib.Core.Logic.{⊎-elim}
 use mathlib.Core.Path.{_≡_, refl, sym, ap, ap₂, _∙_, subst}
 use lib.ListN.{length, getD, take, drop, set, length-append}
 use lib.Seq.{drop-cons}
-use Prim.Native.Nat.{ℕ, zero, suc, _+_, _-_, _*_, _≤_, _<_, suc-le-suc, zero-le}
-use native.Mathlib.Nat.{add-zero, zero-add, add-suc, suc-add, le-of-suc-le-suc}
+use Prim.Native.Nat.{ℕ, zero, suc, _+_, _-_, _*_, _≤_, _<_}
+use native.Mathlib.Nat.{add-zero, zero-add}
 use native.Mathlib.Numerals.{add-one}
 use native.Mathlib.Omega.{arith}
 use Rattle.octets.specs.Parts.{cut, chosen, pasted}
 use Rattle.octets.proofs.PartLaws.{pasted-none, pasted-append}
 use Rattle.octets.specs.Bits.{withBit, changed}
 use Rattle.octets.proofs.BitLaws.{changed-none, changed-more}
-use Rattle.encoding.proofs.Settling.{result-andThen, asked-andThen}
-use Rattle.rules.specs.Items.{Item, byte, offset, Values, Prog, done, ask, andThen, result, asked}
+use Rattle.rules.proofs.Serial.Programs.{result-andThen, asked-andThen}
+use Rattle.rules.specs.Items.{Item, byte, offset, Values, Prog, done, andThen, result, asked}
 use Rattle.rules.specs.Reading.{Source, own, file, latest, bring, fetch}
 use Rattle.rules.specs.Transactions.{Write}
 use Rattle.rules.specs.Calls.{marked}

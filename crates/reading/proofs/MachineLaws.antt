@@ -1,10 +1,10 @@
 -- A fetch on the parts that the code hands over is the fetch on the record and the whole buffers. Assumes nothing.
 use mathlib.Core.List.{List}
-use mathlib.Core.Path.{_≡_, refl, sym, ap, ap₂, _∙_}
-use lib.ListN.{length, getD}
-use Prim.Native.Nat.{ℕ, suc, _+_, _-_, _*_, _≤_, _<_}
+use mathlib.Core.Path.{_≡_, sym, ap, _∙_}
+use lib.ListN.{getD}
+use Prim.Native.Nat.{ℕ, suc, _+_, _*_, _≤_}
 use native.Mathlib.Omega.{arith}
-use Rattle.octets.specs.Parts.{cut, fileOf}
+use Rattle.octets.specs.Parts.{fileOf}
 use Rattle.octets.proofs.PartLaws.{cut-cut, getD-cut}
 use Rattle.record.specs.declared.Store.{Store}
 use Rattle.rules.specs.Items.{Item, byte, Values, result, asked}

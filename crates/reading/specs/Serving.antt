@@ -1,5 +1,5 @@
 -- What a Read brings, on the parts that it is handed: the write records' arrays, the transaction's log, the file.
-use mathlib.Core.List.{List, _++_}
+use mathlib.Core.List.{List}
 use mathlib.Core.Path.{_≡_}
 use lib.ListN.{length, getD}
 use Prim.Native.Nat.{ℕ, _+_, _-_, _*_, _≤_, _<_}

@@ -1,14 +1,13 @@
 -- `reading::copy_run` meets its contract. Assumes nothing.
-use mathlib.Core.List.{List}
-use mathlib.Core.Path.{_≡_, refl, sym, ap, _∙_}
+use mathlib.Core.Path.{_≡_, sym, ap, _∙_}
 use Prim.Native.Nat.{ℕ, _+_, _*_, _≤_}
 use native.Mathlib.Omega.{arith}
 use lib.ListN.{length}
-use Rattle.octets.specs.Parts.{pasted, cut, chosen}
+use Rattle.octets.specs.Parts.{pasted, chosen}
 use Rattle.octets.specs.Bits.{withBit, changed}
 use Rattle.octets.proofs.PartLaws.{length-cut}
 use Rattle.journal.specs.Runs.{Arrays, arrays, dataBefore}
-use Rattle.reading.specs.Serving.{bytesOf, marksAfter}
+use Rattle.reading.specs.Serving.{bytesOf}
 use Rattle.reading.proofs.FetchLaws.{run-fits, run-bytes, run-shields, run-marks}
 use borrow.Author.Needs.{needs}
 use Rattle.reading.proofs.copy_run.Statement.{statement}

@@ -1,13 +1,13 @@
 -- `reading::copy_runs` meets its contract. The loop's invariant: the contract's definitions at the i bytes copied. Assumes nothing.
 use mathlib.Core.List.{List}
-use mathlib.Core.Path.{_≡_, refl, sym, ap, ap₂, _∙_}
-use Prim.Native.Nat.{ℕ, _+_, _-_, _*_, _≤_}
+use mathlib.Core.Path.{_≡_, refl, sym, ap, _∙_}
+use Prim.Native.Nat.{ℕ, _+_, _-_, _≤_}
 use native.Mathlib.Omega.{arith}
 use borrow.Author.Needs.{needs}
 use lib.ListN.{length}
 use Rattle.octets.specs.Parts.{pasted}
 use Rattle.journal.specs.Runs.{Arrays, arrays}
-use Rattle.reading.specs.Serving.{bytesOf, marksAfter, Handed}
+use Rattle.reading.specs.Serving.{bytesOf, marksAfter}
 use Rattle.reading.proofs.FetchLaws.{bytes-none, bytes-more, bytes-all, marks-none, marks-more}
 use Rattle.reading.proofs.copy_runs.Statement.{statement}
 use Rattle.reading.proofs.copy_runs.Tie as tie

@@ -47,7 +47,7 @@ ends-within (Deferred a) end e = leb-true end a e
 ends-within (Moved a o) end e = leb-true end a e
 ends-within (Known o) end e = absurd (false≢true e)
 
-lands-in : (c : ℕ) (z : Standing) (p : Place) (n : ℕ) → c + advance z ≤ 4096 → placeIn z p n ≡ true → landsAt c p + n ≤ 4096
+pub lands-in : (c : ℕ) (z : Standing) (p : Place) (n : ℕ) → c + advance z ≤ 4096 → placeIn z p n ≡ true → landsAt c p + n ≤ 4096
 unfolding placeIn landsAt
 lands-in c z (at p) n h e = leb-true (p + n) 4096 e
 lands-in c z (after a) n h e = let f = ends-within z (a + n) (and-right (leb (a + n) 4096) (endsWithin z (a + n)) e) in omega arith

@@ -1,7 +1,6 @@
 -- `journal::runs::gap` meets its contract. Assumes nothing.
 use mathlib.Core.Logic.{inl, inr, ⊎-elim}
-use mathlib.Core.Path.{_≡_, sym, ap, _∙_}
-use Prim.Native.Nat.{ℕ, _+_, _-_, _≤_, _<_}
+use Prim.Native.Nat.{_+_}
 use lib.ListN.{getD}
 use Rattle.octets.proofs.PartLaws.{le-or-lt}
 use native.Mathlib.Omega.{arith}

@@ -3,12 +3,10 @@
 use mathlib.Core.Bool.{true, false}
 use mathlib.Core.Path.{_≡_, refl, sym, ap, _∙_, subst}
 use Prim.Native.Nat.{ℕ, suc, _+_, _-_, _*_, _≤_, _<_}
-use native.Mathlib.Nat.{add-zero}
 use native.Mathlib.Omega.{arith}
 use borrow.Author.Needs.{needs}
-use lib.ListN.{getD}
 use Rattle.journal.specs.declared.runs.Run.{Run}
-use Rattle.journal.specs.Runs.{Arrays, arrays, covers, dataBefore, GapOf, RunOf}
+use Rattle.journal.specs.Runs.{Arrays, arrays, covers, dataBefore, RunOf}
 use Rattle.journal.proofs.RunLaws.{Walked, walked-none, walked-more, walked-found, walked-all, covers-in, data-back, gap-zero}
 use Rattle.journal.proofs.runs.run_at.Statement.{statement}
 use Rattle.journal.proofs.runs.run_at.Tie as tie

@@ -4,7 +4,7 @@ use mathlib.Core.Bool.{Bool, true}
 use mathlib.Core.List.{List, _++_}
 use mathlib.Core.Path.{_≡_, refl, sym, ap, ap₂, _∙_}
 use lib.ListN.{length, getD, drop}
-use Prim.Native.Nat.{ℕ, _+_, _-_, _*_, _<_, _≤_, min}
+use Prim.Native.Nat.{ℕ, _+_, _-_, _<_, _≤_, min}
 use Rattle.record.specs.Journal.{transaction, standingAt}
 use Rattle.record.specs.Paper.{number}
 use Rattle.record.specs.declared.Refusal.the-variants.{SettledPastEnd}
@@ -13,7 +13,7 @@ use Rattle.ranges.proofs.Laws.{in-range, admitted as admitted-on}
 use Rattle.rules.specs.Standings.{offsetOf}
 use Rattle.rules.specs.Steps.{Op, bufferOf}
 use Rattle.rules.specs.Machine.{Machine, fileOf}
-use Rattle.rules.specs.Calls.{Turn, call, admitted, turnDown, stepTurn}
+use Rattle.rules.specs.Calls.{call, admitted, turnDown, stepTurn}
 use Rattle.encoding.proofs.Owned.{shaped}
 use Rattle.encoding.proofs.Decoded.{Opened, opened}
 use Rattle.descriptors.specs.Settling.{chosenByRead, fitting, settledTransaction, settlingOf}

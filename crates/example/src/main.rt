@@ -1,0 +1,87 @@
+// A caller of the store. Transaction 0 writes while transaction 1 reads the same bytes: the commit of 0 makes 1 stale, the commit
+// of 1 is refused, and 1 starts again.
+use libc::STDOUT_FILENO;
+use record::Answer;
+use record::Outcome;
+use record::Store;
+
+// A store buffer.
+type Buffer = [u8; 32768];
+
+// A record for Fresh to replace.
+fn blank() -> Store {
+    Store {
+        files: [0u8; 16],
+        offsets: [0u16; 16],
+        transactions: [record::ended(); 8],
+        holders: [0u8; 512],
+        places: [0u16; 512],
+        lengths: [0u16; 512],
+    }
+}
+
+fn print(text: &[u8]) {
+    io::write_all(STDOUT_FILENO, text);
+}
+
+fn print_number(text: &[u8], n: u16) {
+    print(text);
+    io::print_decimal(STDOUT_FILENO, n as u64);
+}
+
+// Prints what a call answered, and hands back the record to keep.
+fn told(call: &[u8], a: Answer) -> Store {
+    let o = a.outcome;
+    print(call);
+    match o {
+        Outcome::Done => print(b": done"),
+        Outcome::Offset(n) => print_number(b": offset ", n),
+        Outcome::Given(n) => print_number(b": bytes given ", n),
+        Outcome::Granted(n) => print_number(b": granted, made stale ", n as u16),
+        Outcome::Refused(_) => print(b": refused"),
+    }
+    print(b"\n");
+    a.store
+}
+
+// A fresh store whose descriptors all belong to file 0, with transactions 0 and 1 begun. Every call takes the record by value
+// with the three store buffers, and answers its outcome with the record to keep.
+fn begun(files: &mut Buffer, logs: &Buffer, marks: &mut Buffer) -> Store {
+    let a = store::fresh(blank(), files, logs, marks, &[0u8; 16]);
+    let a = store::begin(a.store, files, logs, marks, 0);
+    let a = store::begin(a.store, files, logs, marks, 1);
+    a.store
+}
+
+// Transaction 0 writes through descriptor 0 and transaction 1 reads through descriptor 1; then both commit.
+fn both(s: Store, files: &mut Buffer, logs: &mut Buffer, marks: &mut Buffer) -> Store {
+    let mut reader = [0u8; 5];
+    let a = store::write(s, files, logs, marks, 0, 0, b"hello");
+    let s = told(b"0 writes", a);
+    let a = store::read(s, files, logs, marks, 1, 1, 5, &mut reader);
+    let s = told(b"1 reads", a);
+    let a = store::commit(s, files, logs, marks, 0);
+    let s = told(b"commit 0", a);
+    let a = store::commit(s, files, logs, marks, 1);
+    told(b"commit 1", a)
+}
+
+// Transaction 1 again.
+fn again(s: Store, files: &mut Buffer, logs: &Buffer, marks: &mut Buffer) {
+    let mut reader = [0u8; 5];
+    let a = store::begin(s, files, logs, marks, 1);
+    let a = store::read(a.store, files, logs, marks, 1, 1, 5, &mut reader);
+    let s = told(b"1 reads", a);
+    print(&reader);
+    let a = store::commit(s, files, logs, marks, 1);
+    told(b"\ncommit 1", a);
+}
+
+fn main() {
+    let mut files = [0u8; 32768];
+    let mut logs = [0u8; 32768];
+    let mut marks = [0u8; 32768];
+    let s = begun(&mut files, &logs, &mut marks);
+    let s = both(s, &mut files, &mut logs, &mut marks);
+    again(s, &mut files, &logs, &mut marks);
+}

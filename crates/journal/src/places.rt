@@ -13,8 +13,8 @@ fn holder_after(h: u8, chosen: [bool; 16]) -> u8
     if h < 16 {
         return h;
     }
-    let e = wide_octet(h) - 16;
-    if chosen[e] {
+    let d = wide_octet(h) - 16;
+    if chosen[d] {
         return h - 16;
     }
     h
@@ -30,7 +30,8 @@ fn place_after(h: u8, p: u16, chosen: [bool; 16], offsets: &[u16; 16]) -> u16
     }
     let e = wide_octet(h) - 16;
     if chosen[e] {
-        return offsets[e] + p;
+        let c = offsets[e];
+        return c + p;
     }
     p
 }

@@ -1,10 +1,6 @@
 -- `places::holder_after` meets its contract.
-use mathlib.Core.Bool.{Bool, true, false}
-use mathlib.Core.Path.{_≡_, refl, sym, ap, _∙_}
-use native.Mathlib.Omega.{arith}
-use lib.ListN.{length, getD, set, length-set}
 use borrow.Author.Tests.{lt-ltb, le-ltb}
-use Prim.Native.Nat.{ℕ, _+_, _-_, _*_, _≤_, _<_}
+use Prim.Native.Nat.{_-_}
 use Rattle.journal.specs.Places.{holderAfter}
 use borrow.Author.Needs.{needs}
 use Rattle.journal.proofs.places.holder_after.Statement.{statement}
@@ -17,8 +13,8 @@ returns c = rw (lt-ltb _ _ (c .if1 .taken))
 wide-octet-requires : tie.Need-wide-octet-requires
 wide-octet-requires c κs = search needs
 
-sub-e : tie.Need-sub-e
-sub-e c = search needs
+sub-d : tie.Need-sub-d
+sub-d c = search needs
 
 array-read-if2 : tie.Need-array-read-if2
 array-read-if2 c = search needs
@@ -37,4 +33,4 @@ returns-3 c =
 
 pub holder-after-spec : {M : Type 1} → statement M
 holder-after-spec =
-    tie.close (tie.spec returns wide-octet-requires sub-e array-read-if2 returns-2 returns-3)
+    tie.close (tie.spec returns wide-octet-requires sub-d array-read-if2 returns-2 returns-3)

@@ -1,10 +1,7 @@
 -- `places::place_after` meets its contract.
-use mathlib.Core.Bool.{Bool, true, false}
-use mathlib.Core.Path.{_≡_, refl, sym, ap, _∙_}
 use native.Mathlib.Omega.{arith}
-use lib.ListN.{length, getD, set, length-set}
 use borrow.Author.Tests.{lt-ltb, le-ltb}
-use Prim.Native.Nat.{ℕ, _+_, _-_, _*_, _≤_, _<_}
+use Prim.Native.Nat.{_-_}
 use Rattle.journal.specs.Places.{placeAfter}
 use borrow.Author.Needs.{needs}
 use Rattle.journal.proofs.places.place_after.Statement.{statement}
@@ -23,11 +20,11 @@ sub-e c = search needs
 array-read-if2 : tie.Need-array-read-if2
 array-read-if2 c = search needs
 
-mul-result : tie.Need-mul-result
-mul-result c = search needs
+mul-c : tie.Need-mul-c
+mul-c c = search needs
 
-element-copy-out-result : tie.Need-element-copy-out-result
-element-copy-out-result c = search needs
+element-copy-out-c : tie.Need-element-copy-out-c
+element-copy-out-c c = search needs
 
 add-result : tie.Need-add-result
 add-result c =
@@ -55,8 +52,8 @@ place-after-spec =
     wide-octet-requires
     sub-e
     array-read-if2
-    mul-result
-    element-copy-out-result
+    mul-c
+    element-copy-out-c
     add-result
     returns-2
     returns-3)

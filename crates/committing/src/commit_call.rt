@@ -13,6 +13,8 @@ ghost use Rattle.rules.specs.Plain.{Call};
 ghost use Rattle.rules.specs.Calls.{call};
 ghost use Rattle.rules.specs.Promises.{lent, Meets};
 
+// Commits transaction t: lands its writes in call order, sets its offsets and ends it. Every other open transaction that has sighted a
+// byte or offset just set is stale from then on. A stale transaction is refused and ends.
 pub fn commit(mut s: Store, files: &mut [u8], logs: &[u8], marks: &mut [u8], t: usize) -> Answer
     ensures { λ r. ⌜ Meets (call (Call.commit t) (lent s (now (files .entry)) (now (logs .entry)) (now (marks .entry)))) r (now (files .exit)) (now (logs .exit)) (now (marks .exit)) [] ⌝ }
 {

@@ -13,6 +13,7 @@ ghost use Rattle.rules.specs.Plain.{Call};
 ghost use Rattle.rules.specs.Calls.{call};
 ghost use Rattle.rules.specs.Promises.{lent, Meets};
 
+// Sets the offset of descriptor d in transaction t to v, at most 4,096.
 pub fn seek(
     mut s: Store,
     files: &[u8],

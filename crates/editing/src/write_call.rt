@@ -34,6 +34,7 @@ fn room(place: usize, n: usize, records: usize, end: usize) -> Gate
     Gate::Pass
 }
 
+// Writes bytes through descriptor d of transaction t into its log. A write whose place is unknown lies after the advance before it.
 pub fn write(
     mut s: Store,
     files: &[u8],

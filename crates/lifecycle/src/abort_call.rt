@@ -10,6 +10,7 @@ ghost use Rattle.rules.specs.Plain.{Call};
 ghost use Rattle.rules.specs.Calls.{call};
 ghost use Rattle.rules.specs.Promises.{lent, Meets};
 
+// Ends transaction t and drops its log and marks; the log bytes stay.
 pub fn abort(mut s: Store, files: &[u8], logs: &[u8], marks: &mut [u8], t: usize) -> Answer
     ensures { λ r. ⌜ Meets (call (Call.abort t) (lent s (now (files .entry)) (now (logs .entry)) (now (marks .entry)))) r (now (files .exit)) (now (logs .exit)) (now (marks .exit)) [] ⌝ }
 {

@@ -10,6 +10,7 @@ ghost use Rattle.rules.specs.Plain.{Call};
 ghost use Rattle.rules.specs.Calls.{call};
 ghost use Rattle.rules.specs.Promises.{lent, Meets};
 
+// Opens transaction t: an empty log, sixteen Untouched descriptors, no marks, not stale.
 pub fn begin(mut s: Store, files: &[u8], logs: &[u8], marks: &mut [u8], t: usize) -> Answer
     ensures { λ r. ⌜ Meets (call (Call.begin t) (lent s (now (files .entry)) (now (logs .entry)) (now (marks .entry)))) r (now (files .exit)) (now (logs .exit)) (now (marks .exit)) [] ⌝ }
 {

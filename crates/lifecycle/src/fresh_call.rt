@@ -48,6 +48,8 @@ fn fresh_store(numbers: &[u8]) -> Store
     }
 }
 
+// Makes the store fresh: descriptor d belongs to file numbers[d], every file byte, mark and offset is 0, nothing is open. The logs are
+// left as found. Refuses 1, then 14, and hands back the record at hand.
 pub fn fresh(s: Store, files: &mut [u8], logs: &[u8], marks: &mut [u8], numbers: &[u8]) -> Answer
     ensures { λ r. ⌜ Meets (freshRule (now (numbers .entry)) (lent s (now (files .entry)) (now (logs .entry)) (now (marks .entry)))) r (now (files .exit)) (now (logs .exit)) (now (marks .exit)) [] ⌝ }
 {

@@ -15,6 +15,7 @@ ghost use Rattle.rules.specs.Plain.{Call};
 ghost use Rattle.rules.specs.Calls.{call};
 ghost use Rattle.rules.specs.Promises.{lent, Meets};
 
+// Answers the offset of descriptor d in transaction t, and settles d where its place is unknown.
 pub fn get_file_pointer(
     mut s: Store,
     files: &[u8],

@@ -31,6 +31,8 @@ fn asked(d: usize, n: usize, room: usize) -> Gate
     Gate::Pass
 }
 
+// Reads up to n bytes through descriptor d of transaction t to the front of the reader's buffer; own writes come before the file's
+// bytes. Settles the descriptors of the file whose place is unknown, and marks the bytes that the file supplied.
 pub fn read<'a>(
     mut s: Store,
     files: &'a [u8],

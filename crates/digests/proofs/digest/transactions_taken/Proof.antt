@@ -1,0 +1,51 @@
+-- `transactions_taken` meets its contract. The loop's invariant: the digest is in range.
+use Prim.Native.Nat.{_-_, _≤_}
+use borrow.Author.Needs.{needs}
+use Rattle.digests.specs.Bounds.{Digest}
+use Rattle.digests.proofs.digest.transactions_taken.Statement.{statement}
+use Rattle.digests.proofs.digest.transactions_taken.Tie as tie
+
+abbrev Inv-loop : tie.InvT-loop
+Inv-loop h s out₀ t₀ out t = Digest out × (t ≤ 8)
+
+abbrev μ-loop : tie.MeasureT-loop
+μ-loop h s out₀ t₀ out t = 8 - t
+
+loop-holds : tie.Need-loop-holds Inv-loop μ-loop
+loop-holds c = search needs
+
+mul-x : tie.Need-mul-x Inv-loop μ-loop
+mul-x c = search needs
+
+element-copy-out-x : tie.Need-element-copy-out-x Inv-loop μ-loop
+element-copy-out-x c = search needs
+
+transaction-taken-requires : tie.Need-transaction-taken-requires Inv-loop μ-loop
+transaction-taken-requires c κs = search needs
+
+add-t : tie.Need-add-t Inv-loop μ-loop
+add-t c = search needs
+
+loop-less : tie.Need-loop-less Inv-loop μ-loop
+loop-less c = search needs
+
+loop-again : tie.Need-loop-again Inv-loop μ-loop
+loop-again c = search needs
+
+returns : tie.Need-returns Inv-loop μ-loop
+returns c = search needs
+
+pub transactions-taken-spec : {M : Type 1} → statement M
+transactions-taken-spec =
+    tie.close
+    (tie.spec
+    Inv-loop
+    μ-loop
+    loop-holds
+    mul-x
+    element-copy-out-x
+    transaction-taken-requires
+    add-t
+    loop-less
+    loop-again
+    returns)

@@ -1,0 +1,143 @@
+// Digests of the state and of the answers: from 0, h' = (65521 h + n + 1) mod 281474976710597 for each number n.
+use crate::outcomes;
+use record::Outcome;
+use record::Standing;
+use record::Store;
+use record::Transaction;
+ghost use Rattle.digests.specs.Bounds.{Digest};
+
+fn taken(h: usize, n: u16) -> usize
+    requires { ⌜ Digest h ⌝ }
+    ensures { λ r. ⌜ Digest r ⌝ }
+{
+    (65521 * h + n as usize + 1) % 281474976710597
+}
+
+fn octet_taken(h: usize, n: u8) -> usize
+    requires { ⌜ Digest h ⌝ }
+    ensures { λ r. ⌜ Digest r ⌝ }
+{
+    taken(h, n as u16)
+}
+
+fn flag_taken(h: usize, flag: bool) -> usize
+    requires { ⌜ Digest h ⌝ }
+    ensures { λ r. ⌜ Digest r ⌝ }
+{
+    if flag {
+        return taken(h, 1);
+    }
+    taken(h, 0)
+}
+
+fn octets_taken(h: usize, octets: &[u8]) -> usize
+    requires { ⌜ Digest h ⌝ }
+    ensures { λ r. ⌜ Digest r ⌝ }
+{
+    let mut out = h;
+    let mut i = 0;
+    while i < octets.len() {
+        out = octet_taken(out, octets[i]);
+        i += 1;
+    }
+    out
+}
+
+fn numbers_taken(h: usize, numbers: &[u16]) -> usize
+    requires { ⌜ Digest h ⌝ }
+    ensures { λ r. ⌜ Digest r ⌝ }
+{
+    let mut out = h;
+    let mut i = 0;
+    while i < numbers.len() {
+        out = taken(out, numbers[i]);
+        i += 1;
+    }
+    out
+}
+
+fn three_taken(h: usize, which: u16, advance: u16, offset: u16) -> usize
+    requires { ⌜ Digest h ⌝ }
+    ensures { λ r. ⌜ Digest r ⌝ }
+{
+    taken(taken(taken(h, which), advance), offset)
+}
+
+fn standing_taken(h: usize, z: Standing) -> usize
+    requires { ⌜ Digest h ⌝ }
+    ensures { λ r. ⌜ Digest r ⌝ }
+{
+    match z {
+        Standing::Untouched => three_taken(h, 0, 0, 0),
+        Standing::Placed(offset) => three_taken(h, 1, 0, offset),
+        Standing::Deferred(advance) => three_taken(h, 2, advance, 0),
+        Standing::Moved { advance, offset } => three_taken(h, 3, advance, offset),
+        Standing::Known(offset) => three_taken(h, 4, 0, offset),
+    }
+}
+
+fn standings_taken(h: usize, x: Transaction) -> usize
+    requires { ⌜ Digest h ⌝ }
+    ensures { λ r. ⌜ Digest r ⌝ }
+{
+    let mut out = h;
+    let mut d = 0;
+    while d < 16 {
+        let q = x.descriptors[d];
+        let z = q.standing;
+        out = standing_taken(out, z);
+        d += 1;
+    }
+    out
+}
+
+fn transaction_taken(h: usize, x: Transaction) -> usize
+    requires { ⌜ Digest h ⌝ }
+    ensures { λ r. ⌜ Digest r ⌝ }
+{
+    let used = x.used;
+    let flags = flag_taken(flag_taken(h, x.begun), x.stale);
+    standings_taken(taken(octet_taken(flags, used.records), used.bytes), x)
+}
+
+fn transactions_taken(h: usize, s: Store) -> usize
+    requires { ⌜ Digest h ⌝ }
+    ensures { λ r. ⌜ Digest r ⌝ }
+{
+    let mut out = h;
+    let mut t = 0;
+    while t < 8 {
+        let x = s.transactions[t];
+        out = transaction_taken(out, x);
+        t += 1;
+    }
+    out
+}
+
+fn record_taken(h: usize, s: Store) -> usize
+    requires { ⌜ Digest h ⌝ }
+    ensures { λ r. ⌜ Digest r ⌝ }
+{
+    let files = octets_taken(h, &s.files);
+    let offsets = numbers_taken(files, &s.offsets);
+    let transactions = transactions_taken(offsets, s);
+    let holders = octets_taken(transactions, &s.holders);
+    let places = numbers_taken(holders, &s.places);
+    numbers_taken(places, &s.lengths)
+}
+
+// The digest of a state: the record field by field, then the store buffers.
+pub fn of_state(s: Store, files: &[u8], logs: &[u8], marks: &[u8]) -> usize {
+    let record = record_taken(0, s);
+    octets_taken(octets_taken(octets_taken(record, files), logs), marks)
+}
+
+// Takes in an outcome, and the reader's buffer after the call.
+pub fn reply_taken(h: usize, o: Outcome, reader: &[u8]) -> usize
+    requires { ⌜ Digest h ⌝ }
+    ensures { λ r. ⌜ Digest r ⌝ }
+{
+    let code = outcomes::code(o);
+    let number = outcomes::number(o);
+    octets_taken(taken(taken(h, code), number), reader)
+}

@@ -1,0 +1,3 @@
+// Outcomes as numbers, and digests of states and answers.
+pub mod digest;
+pub mod outcomes;

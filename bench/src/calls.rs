@@ -1,0 +1,159 @@
+//! The cost of each kind of call, with eight transactions open and r write records in each: n rounds of one loop against none.
+
+use crate::script::Script;
+use crate::stores::{Buffers, Kind, Which};
+use crate::Effort;
+
+/// A loop of calls: `kind` with its numbers.
+#[derive(Clone)]
+pub struct Loop {
+    pub kind: Kind,
+    pub count: usize,
+    pub size: usize,
+}
+
+/// `calls` calls cost what a round of `with` costs more than a round of `without`.
+pub struct Case {
+    pub name: &'static str,
+    pub setup: Script,
+    pub with: Loop,
+    pub without: Option<Loop>,
+    pub calls: usize,
+}
+
+#[derive(Clone, Copy)]
+pub struct Cost {
+    pub proved: f64,
+    pub twin: f64,
+}
+
+const LENGTH: usize = 16;
+
+/// Eight open transactions (or the first `open` of them), each with r deferred records of 16 bytes through descriptor 1.
+fn opened(open: usize, r: usize) -> Script {
+    (0..open).fold(Script::default().fresh(), |script, t| script.begin(t).times(r, |s| s.write(t, 1, LENGTH)))
+}
+
+fn case(name: &'static str, setup: Script, kind: Kind) -> Case {
+    Case { name, setup, with: Loop { kind, count: 0, size: LENGTH }, without: None, calls: 1 }
+}
+
+/// A Read is measured with a Seek before it, less the same Seek.
+fn read(name: &'static str, r: usize, size: usize) -> Case {
+    let sought = Loop { kind: Kind::Seeks, count: 0, size: 0 };
+    Case {
+        name,
+        setup: opened(8, r),
+        with: Loop { kind: Kind::Reads, count: 0, size },
+        without: Some(sought),
+        calls: 1,
+    }
+}
+
+/// Writes are measured in batches, behind `before` records, less the same batch without them.
+fn write(name: &'static str, r: usize, before: usize, calls: usize, size: usize) -> Case {
+    let batch = |count| Loop { kind: Kind::Batches, count, size };
+    Case { name, setup: opened(8, r), with: batch(before + calls), without: Some(batch(before)), calls }
+}
+
+pub fn cases(r: usize) -> Vec<Case> {
+    vec![
+        case("Seek", opened(8, r), Kind::Seeks),
+        // Where r is 64: the last eight of 64.
+        write("Write of 16 bytes", r, r.min(56), 8, LENGTH),
+        case("GetFilePointer", opened(8, r), Kind::Pointers),
+        read("Read of 16 bytes", r, LENGTH),
+        read("Read of 4,096 bytes", r, 4096),
+        case("Begin and Abort", opened(7, r), Kind::Drops),
+        case("Begin and Commit, empty", opened(7, r), Kind::Commits),
+        case("Begin, Seek, Write of 16 bytes, Commit", opened(7, r), Kind::Lands),
+    ]
+}
+
+/// A Read and a Write of n bytes with empty logs.
+pub fn sized(n: usize) -> [Case; 2] {
+    [read("Read", 0, n), write("Write", 0, 0, 1, n)]
+}
+
+impl Case {
+    /// The same inputs to both, the same answers and bytes from both, and nothing refused.
+    pub fn check(&self) {
+        let without = self.without.as_ref().unwrap_or(&self.with);
+        for (l, rounds) in [(&self.with, 0), (without, 3), (&self.with, 3)] {
+            let mut proved = Buffers::new(self.setup.len());
+            let mut twin = proved.clone();
+            proved.repeat(Which::Proved, l.kind, &self.setup, l.count, l.size, rounds);
+            twin.repeat(Which::Twin, l.kind, &self.setup, l.count, l.size, rounds);
+            assert!(proved == twin, "{}: the stores differ", self.name);
+            assert!(proved.said.iter().all(|&code| code < 10), "{}: a call of the setup was refused", self.name);
+            // A refusal adds at least 11 × 65,536 to the sum; of the other outcomes the largest code is 3, four calls a round.
+            let most = (4 + l.count) * 3 * 65536 + 8192;
+            assert!(proved.sum <= (rounds * most) as u64, "{}: a call was refused", self.name);
+        }
+    }
+
+    /// One run: so many rounds with the calls, or without them.
+    pub fn run(&self, which: Which, calls: bool, rounds: usize) -> f64 {
+        let mut lent = Buffers::new(8);
+        let (l, rounds) = match (&self.without, calls) {
+            (_, true) => (&self.with, rounds),
+            (Some(without), false) => (without, rounds),
+            (None, false) => (&self.with, 0),
+        };
+        lent.repeat(which, l.kind, &self.setup, l.count, l.size, rounds)
+    }
+
+    /// How many rounds take about as long as one measurement should.
+    fn rounds(&self, effort: &Effort) -> usize {
+        let mut rounds = 1;
+        while self.run(Which::Proved, true, rounds) < effort.nanoseconds {
+            rounds *= 2;
+        }
+        rounds
+    }
+}
+
+/// The least nanoseconds of one case's runs: the proved store with and without the calls, the twin likewise.
+struct Least {
+    rounds: usize,
+    runs: [f64; 4],
+}
+
+/// What each case costs. The cases are run one after another, both stores in turn, again and again, and the least time of each run
+/// counts: what else the machine does only adds to it, and may last longer than one case.
+pub fn measure(cases: &[Case], effort: &Effort) -> Vec<Cost> {
+    cases.iter().for_each(Case::check);
+    let least = |case: &Case| Least { rounds: case.rounds(effort), runs: [f64::MAX; 4] };
+    let mut all: Vec<Least> = cases.iter().map(least).collect();
+    let turns = [(Which::Proved, true), (Which::Proved, false), (Which::Twin, true), (Which::Twin, false)];
+    for _ in 0..effort.sweeps {
+        for (case, least) in cases.iter().zip(&mut all) {
+            for (run, (which, calls)) in least.runs.iter_mut().zip(turns) {
+                *run = run.min(case.run(which, calls, least.rounds));
+            }
+        }
+    }
+    let cost = |(case, least): (&Case, &Least)| {
+        let calls = (least.rounds * case.calls) as f64;
+        let [with, without, twin_with, twin_without] = least.runs;
+        Cost { proved: (with - without) / calls, twin: (twin_with - twin_without) / calls }
+    };
+    cases.iter().zip(&all).map(cost).collect()
+}
+
+/// Nanoseconds for a copy of n bytes between two buffers in the nearest cache.
+pub fn memcpy(n: usize, effort: &Effort) -> f64 {
+    use std::hint::black_box;
+    let source = vec![1u8; n];
+    let mut target = vec![0u8; n];
+    let times = 20_000;
+    let mut least = f64::MAX;
+    for _ in 0..effort.sweeps {
+        let start = std::time::Instant::now();
+        for _ in 0..times {
+            black_box(&mut target[..]).copy_from_slice(black_box(&source[..]));
+        }
+        least = least.min(start.elapsed().as_nanos() as f64 / times as f64);
+    }
+    least
+}

@@ -1,0 +1,62 @@
+-- `bench_calls::loops::drops` is safe and ends. The loop's invariant: at most so many rounds are left, and every lent buffer keeps its length. Assumes nothing.
+use lib.ListN.{length}
+use Prim.Native.Nat.{_≤_}
+use mathlib.Core.Path.{_≡_}
+use borrow.Author.Needs.{needs}
+use Rattle.bench_calls.proofs.loops.drops.Statement.{statement}
+use Rattle.bench_calls.proofs.loops.drops.Tie as tie
+
+abbrev Inv-loop : tie.InvT-loop
+Inv-loop files logs marks₀ n s₀ sum₀ left₀ marks s sum left =
+    (left ≤ n) × (length marks ≡ length marks₀)
+
+abbrev μ-loop : tie.MeasureT-loop
+μ-loop files logs marks₀ n s₀ sum₀ left₀ marks s sum left =
+    left
+
+loop-holds : tie.Need-loop-holds Inv-loop μ-loop
+loop-holds c = search needs
+
+sub-left : tie.Need-sub-left Inv-loop μ-loop
+sub-left c = search needs
+
+begin-requires : tie.Need-begin-requires Inv-loop μ-loop
+begin-requires c κs = search needs
+
+told-requires : tie.Need-told-requires Inv-loop μ-loop
+told-requires c κs = search needs
+
+abort-requires : tie.Need-abort-requires Inv-loop μ-loop
+abort-requires c κs = search needs
+
+told-requires-2 : tie.Need-told-requires-2 Inv-loop μ-loop
+told-requires-2 c κs = search needs
+
+loop-less : tie.Need-loop-less Inv-loop μ-loop
+loop-less c = search needs
+
+loop-again : tie.Need-loop-again Inv-loop μ-loop
+loop-again c = search needs
+
+same-length : tie.Need-same-length Inv-loop μ-loop
+same-length c = search needs
+
+returns : tie.Need-returns Inv-loop μ-loop
+returns c = search needs
+
+pub drops-spec : {M : Type 1} → statement M
+drops-spec =
+    tie.close
+    (tie.spec
+    Inv-loop
+    μ-loop
+    loop-holds
+    sub-left
+    begin-requires
+    told-requires
+    abort-requires
+    told-requires-2
+    loop-less
+    loop-again
+    same-length
+    returns)

@@ -1,0 +1,54 @@
+-- `bench_calls::loops::writes` is safe and ends. The loop's invariant: at most so many rounds are left, and every lent buffer keeps its length. Assumes nothing.
+use lib.ListN.{length}
+use Prim.Native.Nat.{_≤_}
+use mathlib.Core.Path.{_≡_}
+use borrow.Author.Needs.{needs}
+use Rattle.bench_calls.proofs.loops.writes.Statement.{statement}
+use Rattle.bench_calls.proofs.loops.writes.Tie as tie
+
+abbrev Inv-loop : tie.InvT-loop
+Inv-loop files logs₀ marks bytes n s₀ sum₀ left₀ logs s sum left =
+    (left ≤ n) × (length logs ≡ length logs₀)
+
+abbrev μ-loop : tie.MeasureT-loop
+μ-loop files logs₀ marks bytes n s₀ sum₀ left₀ logs s sum left =
+    left
+
+loop-holds : tie.Need-loop-holds Inv-loop μ-loop
+loop-holds c = search needs
+
+sub-left : tie.Need-sub-left Inv-loop μ-loop
+sub-left c = search needs
+
+write-requires : tie.Need-write-requires Inv-loop μ-loop
+write-requires c κs = search needs
+
+told-requires : tie.Need-told-requires Inv-loop μ-loop
+told-requires c κs = search needs
+
+loop-less : tie.Need-loop-less Inv-loop μ-loop
+loop-less c = search needs
+
+loop-again : tie.Need-loop-again Inv-loop μ-loop
+loop-again c = search needs
+
+same-length : tie.Need-same-length Inv-loop μ-loop
+same-length c = search needs
+
+returns : tie.Need-returns Inv-loop μ-loop
+returns c = search needs
+
+pub writes-spec : {M : Type 1} → statement M
+writes-spec =
+    tie.close
+    (tie.spec
+    Inv-loop
+    μ-loop
+    loop-holds
+    sub-left
+    write-requires
+    told-requires
+    loop-less
+    loop-again
+    same-length
+    returns)

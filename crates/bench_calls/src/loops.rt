@@ -1,6 +1,7 @@
-// Loops of one kind of call, over a record that is held here.
+// Loops of one kind of call, over a record that is held here: in the answer before, where the loop has one call.
 use crate::script;
 use crate::script::Passed;
+use record::Answer;
 use record::Outcome;
 ghost use Prim.Native.Nat.{_≤_};
 
@@ -18,32 +19,42 @@ fn told(sum: u64, o: Outcome) -> u64 {
 
 // n Seeks of transaction 0 on descriptor 0.
 pub fn seeks(p: Passed, files: &[u8], logs: &[u8], marks: &[u8], n: usize) -> Passed {
-    let mut s = p.store;
+    let first = p.store;
+    let mut a = Answer {
+        store: first,
+        outcome: Outcome::Done,
+    };
     let mut sum = p.sum;
     let mut left = n;
     while 0 < left {
         left -= 1;
-        let a = store::seek(s, files, logs, marks, 0, 0, 48);
-        let ao = a.outcome;
-        s = a.store;
-        sum = told(sum, ao);
+        let s = a.store;
+        a = store::seek(s, files, logs, marks, 0, 0, 48);
+        let o = a.outcome;
+        sum = told(sum, o);
     }
-    Passed { store: s, sum }
+    let last = a.store;
+    Passed { store: last, sum }
 }
 
 // n GetFilePointers of transaction 0 on descriptor 0.
 pub fn pointers(p: Passed, files: &[u8], logs: &[u8], marks: &[u8], n: usize) -> Passed {
-    let mut s = p.store;
+    let first = p.store;
+    let mut a = Answer {
+        store: first,
+        outcome: Outcome::Done,
+    };
     let mut sum = p.sum;
     let mut left = n;
     while 0 < left {
         left -= 1;
-        let a = store::get_file_pointer(s, files, logs, marks, 0, 0);
-        let ao = a.outcome;
-        s = a.store;
-        sum = told(sum, ao);
+        let s = a.store;
+        a = store::get_file_pointer(s, files, logs, marks, 0, 0);
+        let o = a.outcome;
+        sum = told(sum, o);
     }
-    Passed { store: s, sum }
+    let last = a.store;
+    Passed { store: last, sum }
 }
 
 // n Writes of transaction 0 on descriptor 1.
@@ -55,17 +66,22 @@ pub fn writes(
     bytes: &[u8],
     n: usize,
 ) -> Passed {
-    let mut s = p.store;
+    let first = p.store;
+    let mut a = Answer {
+        store: first,
+        outcome: Outcome::Done,
+    };
     let mut sum = p.sum;
     let mut left = n;
     while 0 < left {
         left -= 1;
-        let a = store::write(s, files, logs, marks, 0, 1, bytes);
-        let ao = a.outcome;
-        s = a.store;
-        sum = told(sum, ao);
+        let s = a.store;
+        a = store::write(s, files, logs, marks, 0, 1, bytes);
+        let o = a.outcome;
+        sum = told(sum, o);
     }
-    Passed { store: s, sum }
+    let last = a.store;
+    Passed { store: last, sum }
 }
 
 // n times: transaction 0 dropped and begun, then so many Writes.

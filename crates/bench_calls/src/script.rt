@@ -71,33 +71,6 @@ pub fn named<'a>(data: &'a [u8], from: usize, n: usize) -> &'a [u8] {
     parts::part(data, from, n)
 }
 
-// The call of a step. A kind above 7 is no call.
-fn call(
-    s: Store,
-    files: &mut [u8],
-    logs: &mut [u8],
-    marks: &mut [u8],
-    c: Step,
-    data: &[u8],
-    reader: &mut [u8],
-) -> Answer {
-    let kind = c.kind;
-    match kind {
-        0 => store::fresh(s, files, logs, marks, named(data, c.from, c.n)),
-        1 => store::begin(s, files, logs, marks, c.t),
-        2 => store::seek(s, files, logs, marks, c.t, c.d, c.n),
-        3 => store::write(s, files, logs, marks, c.t, c.d, named(data, c.from, c.n)),
-        4 => store::get_file_pointer(s, files, logs, marks, c.t, c.d),
-        5 => store::read(s, files, logs, marks, c.t, c.d, c.n, reader),
-        6 => store::commit(s, files, logs, marks, c.t),
-        7 => store::abort(s, files, logs, marks, c.t),
-        _ => Answer {
-            outcome: Outcome::Done,
-            store: s,
-        },
-    }
-}
-
 // An outcome as one octet: 0 done, 1 an offset, 2 a count of bytes, 3 granted, and 10 more than a refusal's number in the table.
 pub fn code(o: Outcome) -> u8 {
     match o {
@@ -153,7 +126,8 @@ pub fn stamp(stamps: &mut [i64], i: usize) {
     }
 }
 
-// Runs the script once. The code of each step's outcome goes to `said`, as far as it has room.
+// Runs the script once. The code of each step's outcome goes to `said`, as far as it has room. A kind above 7 is no call. The calls
+// stand in the loop itself: in a function of their own, which hands the record on and back, each would copy it once more.
 pub fn pass(
     p: Passed,
     files: &mut [u8],
@@ -164,7 +138,11 @@ pub fn pass(
     reader: &mut [u8],
     said: &mut [u8],
 ) -> Passed {
-    let mut s = p.store;
+    let first = p.store;
+    let mut a = Answer {
+        store: first,
+        outcome: Outcome::Done,
+    };
     let mut sum = p.sum;
     let mut start = 0;
     let mut i = 0;
@@ -173,11 +151,28 @@ pub fn pass(
         let c = step_at(script, start);
         start += 8;
         i += 1;
-        let a = call(s, files, logs, marks, c, data, reader);
+        let s = a.store;
+        let kind = c.kind;
+        match kind {
+            0 => a = store::fresh(s, files, logs, marks, named(data, c.from, c.n)),
+            1 => a = store::begin(s, files, logs, marks, c.t),
+            2 => a = store::seek(s, files, logs, marks, c.t, c.d, c.n),
+            3 => a = store::write(s, files, logs, marks, c.t, c.d, named(data, c.from, c.n)),
+            4 => a = store::get_file_pointer(s, files, logs, marks, c.t, c.d),
+            5 => a = store::read(s, files, logs, marks, c.t, c.d, c.n, reader),
+            6 => a = store::commit(s, files, logs, marks, c.t),
+            7 => a = store::abort(s, files, logs, marks, c.t),
+            _ => {
+                a = Answer {
+                    store: s,
+                    outcome: Outcome::Done,
+                };
+            }
+        }
         let o = a.outcome;
-        s = a.store;
         sum = std::num::wrapping_add_u64(sum, answered(o));
         note(said, at, code(o));
     }
-    Passed { store: s, sum }
+    let last = a.store;
+    Passed { store: last, sum }
 }

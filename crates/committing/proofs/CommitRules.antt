@@ -14,6 +14,7 @@ use Rattle.record.specs.declared.Outcome.the-variants.{Granted, Refused}
 use Rattle.record.specs.Journal.{transaction, ended}
 use Rattle.record.specs.Paper.{granted, refused, number, said}
 use Rattle.ranges.specs.Below.{sum}
+use Rattle.ranges.specs.Limits.{storeOf}
 use Rattle.ranges.specs.Ranges.{admission}
 use Rattle.rules.specs.Commits.{settings, fits, commitRefusal}
 use Rattle.rules.specs.Plain.{commit}
@@ -55,37 +56,23 @@ stale-meets a t m w marks e o s f =
     rw e (record { outcome = ap said o; store = s; files = refl; logs = refl; marks = f; reader = refl })
 
 module _ (s : Store) (files logs marks : List ℕ) (t : ℕ) (w : Turn) (e : w ≡ commitGranted t (allSet s files logs marks t) (lent s files logs marks)) (sixteen : length (s .offsets) ≡ 16) where
-  pub granted-meets : (seen count : ℕ) (offsets : List ℕ) (transactions : List Transaction) (files' marks' : List ℕ)
+  pub granted-meets : (seen count : ℕ) (r : Store) (offsets : List ℕ) (transactions : List Transaction) (files' marks' : List ℕ)
+      → r ≡ storeOf (s .files) offsets transactions (s .holders) (s .places) (s .lengths)
       → seen ≡ seenBits s files logs marks t
       → count ≡ sum (becameStale (s .transactions) t seen) 8
       → transactions ≡ tabulate (afterGrant (s .transactions) t seen) 8
       → offsets ≡ tabulate (offsetAfter (transaction s t) (s .offsets)) 16
       → files' ≡ landFiles (landedBytes s logs t) files
       → marks' ≡ map (withoutBit t) marks
-      → Meets w
-      (record {
-        outcome = Granted count;
-        store =
-            record {
-              files = s .files;
-              offsets = offsets;
-              transactions = transactions;
-              holders = s .holders;
-              places = s .places;
-              lengths = s .lengths;
-            };
-      })
-      files'
-      logs
-      marks'
-      []
+      → Meets w (record { outcome = Granted count; store = r }) files' logs marks' []
   unfolding commitGranted unmarked said
-  granted-meets seen count offsets transactions files' marks' b n ts os fs ms =
+  granted-meets seen count r offsets transactions files' marks' q b n ts os fs ms =
       rw e
       (record {
         outcome = ap granted (n ∙ ap (λ (k : ℕ). sum (becameStale (s .transactions) t k) 8) b ∙ sym (count-is s files logs marks t));
         store =
-            ap₂ (λ (o : List ℕ) (x : List Transaction). record { files = s .files; offsets = o; transactions = x; holders = s .holders; places = s .places; lengths = s .lengths })
+            q
+            ∙ ap₂ (λ (o : List ℕ) (x : List Transaction). storeOf (s .files) o x (s .holders) (s .places) (s .lengths))
             (os ∙ sym (offsets-are s files logs marks t sixteen))
             (ts ∙ ap (λ (k : ℕ). tabulate (afterGrant (s .transactions) t k) 8) b ∙ sym (transactions-are s files logs marks t));
         files = fs ∙ sym (files-are s files logs marks t);

@@ -18,7 +18,19 @@ ghost use Rattle.rules.specs.Promises.{lent, Meets};
 pub fn commit(mut s: Store, files: &mut [u8], logs: &[u8], marks: &mut [u8], t: usize) -> Answer
     ensures { λ r. ⌜ Meets (call (Call.commit t) (lent s (now (files .entry)) (now (logs .entry)) (now (marks .entry)))) r (now (files .exit)) (now (logs .exit)) (now (marks .exit)) [] ⌝ }
 {
-    let g = ranges::admit(s, files.len(), logs.len(), marks.len(), t);
+    let xs = s.transactions;
+    let g = ranges::admit(
+        &s.files,
+        &s.offsets,
+        xs,
+        &s.holders,
+        &s.places,
+        &s.lengths,
+        files.len(),
+        logs.len(),
+        marks.len(),
+        t,
+    );
     if let Gate::Refused(r) = g {
         return turns::turned_down(r, s);
     }
@@ -47,15 +59,20 @@ pub fn commit(mut s: Store, files: &mut [u8], logs: &[u8], marks: &mut [u8], t: 
         t,
         used,
     );
-    let xs = s.transactions;
     let offsets = s.offsets;
-    let a = staled::stale_others(xs, t, seen);
-    let ys = a.transactions;
-    s.transactions = ys;
     s.offsets = landed::offsets_after(x, offsets);
     bits::unmark_all(marks, own);
+    let mut count = 0u8;
+    let mut u = 0;
+    while u < 8 {
+        let y = s.transactions[u];
+        let h = staled::is_hit(x, t, seen, u, y);
+        s.transactions[u] = staled::after_commit(u == t, h, y);
+        count += staled::newly_stale(h, y);
+        u += 1;
+    }
     Answer {
-        outcome: Outcome::Granted(a.count),
         store: s,
+        outcome: Outcome::Granted(count),
     }
 }

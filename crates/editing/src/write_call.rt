@@ -46,7 +46,19 @@ pub fn write(
 ) -> Answer
     ensures { λ r. ⌜ Meets (call (Call.on t (Op.write d (now (bytes .entry)))) (lent s (now (files .entry)) (now (logs .entry)) (now (marks .entry)))) r (now (files .exit)) (now (logs .exit)) (now (marks .exit)) [] ⌝ }
 {
-    let g = ranges::admit(s, files.len(), logs.len(), marks.len(), t);
+    let xs = s.transactions;
+    let g = ranges::admit(
+        &s.files,
+        &s.offsets,
+        xs,
+        &s.holders,
+        &s.places,
+        &s.lengths,
+        files.len(),
+        logs.len(),
+        marks.len(),
+        t,
+    );
     if let Gate::Refused(r) = g {
         return turns::turned_down(r, s);
     }

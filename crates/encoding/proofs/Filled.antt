@@ -7,7 +7,7 @@ use native.Mathlib.Numerals.{add-one}
 use native.Mathlib.Omega.{arith}
 use Prim.Native.Nat.{ℕ, suc, _+_, _≤_, _<_}
 use Rattle.octets.specs.Parts.{pasted}
-use Rattle.octets.proofs.PartLaws.{pasted-none, pasted-more}
+use Rattle.octets.proofs.PartLaws.{pasted-none, pasted-more, pasted-after}
 use Rattle.rules.specs.Machine.{tabulate}
 use Rattle.rules.proofs.View.Tables.{length-tabulate}
 
@@ -51,3 +51,8 @@ module _ (f : ℕ → ℕ) (xs : List ℕ) (at : ℕ) where
       ap₂ (λ (k b : ℕ). set (pasted xs at (tabulate f n)) (at + k) b) (sym l) e
       ∙ pasted-more xs at (tabulate f n) (omega arith) (f n) (omega arith)
       ∙ rw add-one
+
+  -- The entry that comes next is still the list's own.
+  pub pasted-table-next : (n : ℕ) → at + n ≤ length xs → getD (pasted xs at (tabulate f n)) (at + n) 0 ≡ getD xs (at + n) 0
+  pasted-table-next n h =
+      let l = length-tabulate f n in pasted-after xs at (tabulate f n) (omega arith) (at + n) 0 (omega arith)

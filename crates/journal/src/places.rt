@@ -2,7 +2,7 @@
 use crate::wide_octet;
 ghost use mathlib.Core.Path.{_≡_};
 ghost use Prim.Native.Nat.{ℕ, _+_, _*_, _≤_, _<_};
-ghost use lib.ListN.{getD};
+ghost use lib.ListN.{getD, length};
 ghost use Rattle.journal.specs.Places.{holderAfter, placeAfter, placedHolders, placedPlaces};
 
 // A record's holder, after the chosen descriptors are settled ..
@@ -36,39 +36,35 @@ fn place_after(h: u8, p: u16, chosen: [bool; 16], offsets: &[u16; 16]) -> u16
     p
 }
 
-// The holders of transaction t's records, after the chosen descriptors are settled.
-pub fn placed_holders(holders: [u8; 512], t: usize, records: usize, chosen: [bool; 16]) -> [u8; 512]
-    requires { ⌜ (t < 8) × (records ≤ 64) × ((k : ℕ) → k < records → getD holders (64 * t + k) 0 < 32) ⌝ }
-    ensures { λ r. ⌜ r ≡ placedHolders chosen holders t records ⌝ }
+// Gives the records of transaction t the holders that they have once the chosen descriptors are settled ..
+pub fn settle_holders(holders: &mut [u8; 512], t: usize, records: usize, chosen: [bool; 16])
+    requires { ⌜ (t < 8) × (records ≤ 64) × (length (now holders) ≡ 512) × ((k : ℕ) → k < records → getD (now holders) (64 * t + k) 0 < 32) ⌝ }
+    ensures { λ _. ⌜ now (holders .exit) ≡ placedHolders chosen (now (holders .entry)) t records ⌝ }
 {
-    let mut out = holders;
     let mut k = 0;
     while k < records {
         let i = 64 * t + k;
-        out[i] = holder_after(holders[i], chosen);
+        holders[i] = holder_after(holders[i], chosen);
         k += 1;
     }
-    out
 }
 
-// Their places.
-pub fn placed_places<'a>(
+// .. and their places. The holders are those from before the settling.
+pub fn settle_places<'a>(
+    places: &mut [u16; 512],
     holders: &'a [u8; 512],
-    places: [u16; 512],
     t: usize,
     records: usize,
     chosen: [bool; 16],
     offsets: &'a [u16; 16],
-) -> [u16; 512]
-    requires { ⌜ (t < 8) × (records ≤ 64) × ((k : ℕ) → k < records → (getD (now holders) (64 * t + k) 0 < 32) × (getD places (64 * t + k) 0 ≤ 4096)) × ((e : ℕ) → e < 16 → getD (now offsets) e 0 ≤ 4096) ⌝ }
-    ensures { λ r. ⌜ r ≡ placedPlaces chosen (now (offsets .entry)) (now (holders .entry)) places t records ⌝ }
+)
+    requires { ⌜ (t < 8) × (records ≤ 64) × (length (now places) ≡ 512) × ((k : ℕ) → k < records → (getD (now holders) (64 * t + k) 0 < 32) × (getD (now places) (64 * t + k) 0 ≤ 4096)) × ((e : ℕ) → e < 16 → getD (now offsets) e 0 ≤ 4096) ⌝ }
+    ensures { λ _. ⌜ now (places .exit) ≡ placedPlaces chosen (now (offsets .entry)) (now (holders .entry)) (now (places .entry)) t records ⌝ }
 {
-    let mut out = places;
     let mut k = 0;
     while k < records {
         let i = 64 * t + k;
-        out[i] = place_after(holders[i], places[i], chosen, offsets);
+        places[i] = place_after(holders[i], places[i], chosen, offsets);
         k += 1;
     }
-    out
 }

@@ -1,9 +1,11 @@
 -- Whom a commit makes stale: the tests of the code.
 use mathlib.Core.Bool.{Bool, true, false, cond, not, _&&_, _||_}
-use mathlib.Core.List.{List}
+use mathlib.Core.List.{List, _++_}
 use mathlib.Core.Logic.{⊎-elim}
-use mathlib.Core.Path.{_≡_, refl, sym, ap, _∙_}
+use mathlib.Core.Path.{_≡_, refl, sym, ap, ap₂, _∙_}
 use lib.Dec.{eqb}
+use lib.ListN.{length, set, drop}
+use lib.Seq.{drop-cons, getD-at}
 use borrow.Author.Tests.{eq-eqb, ne-eqb}
 use native.Mathlib.Omega.{arith}
 use native.Mathlib.Nat.{eq-or-lt-of-le, le-of-suc-le-suc, not-suc-le-zero}
@@ -11,8 +13,13 @@ use native.Mathlib.Numerals.{add-one}
 use Prim.Native.Nat.{ℕ, zero, suc, _+_, _≤_, _<_}
 use Rattle.octets.specs.Bits.{bit}
 use Rattle.record.specs.declared.Transaction.{Transaction}
-use Rattle.record.specs.Journal.{standingAt}
+use Rattle.record.specs.Journal.{noTransaction, standingAt}
+use Rattle.ranges.specs.Below.{sum}
+use Rattle.ranges.proofs.Laws.{sum-zero, sum-more}
 use Rattle.rules.specs.Standings.{isSet, isKnown}
+use Rattle.rules.specs.Machine.{tabulate}
+use Rattle.rules.proofs.View.Tables.{length-tabulate}
+use Rattle.encoding.proofs.Filled.{filled, filled-none, filled-set, filled-all}
 use Rattle.landing.specs.Staling.{some, knowsOffset, hit, staleIf, afterwards, newlyStale, nth, afterGrant, becameStale}
 
 -- ---- Booleans
@@ -113,12 +120,63 @@ module _ (h : Bool) (y : Transaction) where
   unfolding newlyStale
   newly-now e f = simp (e, f)
 
--- What a turn over transaction u finds.
-module _ (xs : List Transaction) (t seen u : ℕ) (h : Bool) (e : h ≡ hit (nth xs t) t seen u (nth xs u)) where
-  pub after-is : (y : Transaction) → y ≡ afterwards (eqb u t) h (nth xs u) → y ≡ afterGrant xs t seen u
-  unfolding afterGrant
-  after-is y f = f ∙ ap (λ (b : Bool). afterwards (eqb u t) b (nth xs u)) e
+-- ---- the loop over the eight transactions
 
-  pub became-is : (n : ℕ) → n ≡ newlyStale h (nth xs u) → n ≡ becameStale xs t seen u
-  unfolding becameStale
-  became-is n f = f ∙ ap (λ (b : Bool). newlyStale b (nth xs u)) e
+-- After the first u of the transactions xs: ys is the list, and count of them became stale.
+pub record Passed (xs : List Transaction) (t seen : ℕ) (ys : List Transaction) (count u : ℕ) : Type 0 where
+  pub bound : u ≤ 8
+  pub list : ys ≡ filled (afterGrant xs t seen) xs u
+  pub counted : count ≡ sum (becameStale xs t seen) u
+  pub few : count ≤ u
+  pub eight : length xs ≡ 8
+
+module _ (xs : List Transaction) (t seen : ℕ) where
+  pub passed-none : length xs ≡ 8 → Passed xs t seen xs 0 0
+  passed-none l =
+      record {
+        bound = omega arith;
+        list = sym (filled-none (afterGrant xs t seen) xs);
+        counted = sym (sum-zero (becameStale xs t seen));
+        few = omega arith;
+        eight = l;
+      }
+
+  module _ (ys : List Transaction) (count u : ℕ) (p : Passed xs t seen ys count u) where
+    pub passed-all : 8 ≤ u → (count ≡ sum (becameStale xs t seen) 8) × (ys ≡ tabulate (afterGrant xs t seen) 8)
+    passed-all l =
+        let e : u ≡ 8 = omega (arith, p .bound) in (
+          p .counted ∙ ap (sum (becameStale xs t seen)) e,
+          p .list ∙ ap (filled (afterGrant xs t seen) xs) e ∙ filled-all (afterGrant xs t seen) xs 8 (omega (arith, p .eight)),
+        )
+
+    -- A turn over transaction u, which still stands as it stood.
+    module _ (small : u < 8) (h : Bool) (e : h ≡ hit (nth xs t) t seen u (nth ys u)) where
+      same : nth ys u ≡ nth xs u
+      same =
+          ap (λ (l : List Transaction). nth l u) (p .list ∙ ap (λ (l : List Transaction). tabulate (afterGrant xs t seen) u ++ l) (drop-cons xs u noTransaction (omega (arith, p .eight))))
+          ∙ getD-at (tabulate (afterGrant xs t seen) u) (nth xs u) (drop (suc u) xs) noTransaction u (length-tabulate (afterGrant xs t seen) u)
+
+      found : h ≡ hit (nth xs t) t seen u (nth xs u)
+      found = e ∙ ap (hit (nth xs t) t seen u) same
+
+      after-is : (y : Transaction) → y ≡ afterwards (eqb u t) h (nth ys u) → y ≡ afterGrant xs t seen u
+      unfolding afterGrant
+      after-is y f = f ∙ ap₂ (afterwards (eqb u t)) found same
+
+      became-is : (n : ℕ) → n ≡ newlyStale h (nth ys u) → n ≡ becameStale xs t seen u
+      unfolding becameStale
+      became-is n f = f ∙ ap₂ newlyStale found same
+
+      pub passed-more : (y : Transaction) → y ≡ afterwards (eqb u t) h (nth ys u)
+          → (n : ℕ) → n ≡ newlyStale h (nth ys u)
+          → Passed xs t seen (set ys u y) (count + n) (u + 1)
+      passed-more y f n g =
+          record {
+            bound = omega arith;
+            list =
+                ap (λ (l : List Transaction). set l u y) (p .list)
+                ∙ filled-set (afterGrant xs t seen) xs u y (omega (arith, p .eight)) (after-is y f);
+            counted = ap₂ _+_ (p .counted) (became-is n g) ∙ sym (sum-more (becameStale xs t seen) u);
+            few = omega (arith, p .few, newly-le h (nth ys u));
+            eight = p .eight;
+          }

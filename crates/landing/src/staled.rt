@@ -2,10 +2,8 @@
 use descriptors::standings;
 use record::Transaction;
 ghost use mathlib.Core.Path.{_≡_};
-ghost use Prim.Native.Nat.{_+_, _<_};
-ghost use Rattle.ranges.specs.Below.{sum};
-ghost use Rattle.rules.specs.Machine.{tabulate};
-ghost use Rattle.landing.specs.Staling.{some, knowsOffset, hit, afterwards, newlyStale, afterGrant, becameStale};
+ghost use Prim.Native.Nat.{_<_};
+ghost use Rattle.landing.specs.Staling.{some, knowsOffset, hit, afterwards, newlyStale};
 
 // Whether transaction y has settled an offset that a commit of x sets.
 fn knows_offset_of(y: Transaction, x: Transaction) -> bool
@@ -29,7 +27,7 @@ fn knows_offset_of(y: Transaction, x: Transaction) -> bool
 
 // Whether transaction u, as y, is another open one that has sighted what the commit of t, as x, set; seen has the marks of the
 // bytes that it set.
-fn is_hit(x: Transaction, t: usize, seen: u8, u: usize, y: Transaction) -> bool
+pub fn is_hit(x: Transaction, t: usize, seen: u8, u: usize, y: Transaction) -> bool
     requires { ⌜ u < 8 ⌝ }
     ensures { λ r. ⌜ r ≡ hit x t seen u y ⌝ }
 {
@@ -46,7 +44,7 @@ fn is_hit(x: Transaction, t: usize, seen: u8, u: usize, y: Transaction) -> bool
 }
 
 // A transaction after the commit: ended if it is the one that commits, stale if it is hit.
-fn after_commit(ends: bool, h: bool, y: Transaction) -> Transaction
+pub fn after_commit(ends: bool, h: bool, y: Transaction) -> Transaction
     ensures { λ r. ⌜ r ≡ afterwards ends h y ⌝ }
 {
     if ends {
@@ -60,7 +58,7 @@ fn after_commit(ends: bool, h: bool, y: Transaction) -> Transaction
 }
 
 // 1 if a transaction that is hit was not stale before.
-fn newly_stale(h: bool, y: Transaction) -> u8
+pub fn newly_stale(h: bool, y: Transaction) -> u8
     ensures { λ r. ⌜ r ≡ newlyStale h y ⌝ }
 {
     if !h {
@@ -70,32 +68,4 @@ fn newly_stale(h: bool, y: Transaction) -> u8
         return 0;
     }
     1
-}
-
-pub struct Staled {
-    pub count: u8,
-    pub transactions: [Transaction; 8],
-}
-
-// The transactions after a granted commit of t, and how many became stale by it; seen has the marks of the bytes that it set.
-pub fn stale_others(xs: [Transaction; 8], t: usize, seen: u8) -> Staled
-    requires { ⌜ t < 8 ⌝ }
-    ensures count { λ r. ⌜ r .count ≡ sum (becameStale xs t seen) 8 ⌝ }
-    ensures transactions { λ r. ⌜ r .transactions ≡ tabulate (afterGrant xs t seen) 8 ⌝ }
-{
-    let x = xs[t];
-    let mut out = xs;
-    let mut count = 0u8;
-    let mut u = 0;
-    while u < 8 {
-        let y = xs[u];
-        let h = is_hit(x, t, seen, u, y);
-        out[u] = after_commit(u == t, h, y);
-        count += newly_stale(h, y);
-        u += 1;
-    }
-    Staled {
-        count,
-        transactions: out,
-    }
 }

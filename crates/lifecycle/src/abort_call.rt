@@ -14,7 +14,19 @@ ghost use Rattle.rules.specs.Promises.{lent, Meets};
 pub fn abort(mut s: Store, files: &[u8], logs: &[u8], marks: &mut [u8], t: usize) -> Answer
     ensures { λ r. ⌜ Meets (call (Call.abort t) (lent s (now (files .entry)) (now (logs .entry)) (now (marks .entry)))) r (now (files .exit)) (now (logs .exit)) (now (marks .exit)) [] ⌝ }
 {
-    let g = ranges::admit(s, files.len(), logs.len(), marks.len(), t);
+    let xs = s.transactions;
+    let g = ranges::admit(
+        &s.files,
+        &s.offsets,
+        xs,
+        &s.holders,
+        &s.places,
+        &s.lengths,
+        files.len(),
+        logs.len(),
+        marks.len(),
+        t,
+    );
     if let Gate::Refused(r) = g {
         return turns::turned_down(r, s);
     }

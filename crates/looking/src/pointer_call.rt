@@ -26,7 +26,19 @@ pub fn get_file_pointer(
 ) -> Answer
     ensures { λ r. ⌜ Meets (call (Call.on t (Op.getFilePointer d)) (lent s (now (files .entry)) (now (logs .entry)) (now (marks .entry)))) r (now (files .exit)) (now (logs .exit)) (now (marks .exit)) [] ⌝ }
 {
-    let g = ranges::admit(s, files.len(), logs.len(), marks.len(), t);
+    let xs = s.transactions;
+    let g = ranges::admit(
+        &s.files,
+        &s.offsets,
+        xs,
+        &s.holders,
+        &s.places,
+        &s.lengths,
+        files.len(),
+        logs.len(),
+        marks.len(),
+        t,
+    );
     if let Gate::Refused(r) = g {
         return turns::turned_down(r, s);
     }
@@ -43,14 +55,14 @@ pub fn get_file_pointer(
     let y = a.transaction;
     let records = journal::wide_octet(x.used.records);
     let holders = s.holders;
-    let old = s.places;
-    s.places = places::placed_places(&holders, old, t, records, chosen, &s.offsets);
-    s.holders = places::placed_holders(holders, t, records, chosen);
+    let offsets = s.offsets;
+    places::settle_places(&mut s.places, &holders, t, records, chosen, &offsets);
+    places::settle_holders(&mut s.holders, t, records, chosen);
     s.transactions[t] = y;
     let q = y.descriptors[d];
     let z = q.standing;
     Answer {
-        outcome: Outcome::Offset(standings::offset_of(z)),
         store: s,
+        outcome: Outcome::Offset(standings::offset_of(z)),
     }
 }

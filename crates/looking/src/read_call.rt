@@ -45,7 +45,19 @@ pub fn read<'a>(
 ) -> Answer
     ensures { λ r. ⌜ Meets (call (Call.on t (Op.read d n (now (reader .entry)))) (lent s (now (files .entry)) (now (logs .entry)) (now (marks .entry)))) r (now (files .exit)) (now (logs .exit)) (now (marks .exit)) (now (reader .exit)) ⌝ }
 {
-    let g = ranges::admit(s, files.len(), logs.len(), marks.len(), t);
+    let xs = s.transactions;
+    let g = ranges::admit(
+        &s.files,
+        &s.offsets,
+        xs,
+        &s.holders,
+        &s.places,
+        &s.lengths,
+        files.len(),
+        logs.len(),
+        marks.len(),
+        t,
+    );
     if let Gate::Refused(r) = g {
         return turns::turned_down(r, s);
     }
@@ -63,9 +75,9 @@ pub fn read<'a>(
     let mut y = a.transaction;
     let records = journal::wide_octet(x.used.records);
     let holders = s.holders;
-    let old = s.places;
-    s.places = places::placed_places(&holders, old, t, records, chosen, &s.offsets);
-    s.holders = places::placed_holders(holders, t, records, chosen);
+    let offsets = s.offsets;
+    places::settle_places(&mut s.places, &holders, t, records, chosen, &offsets);
+    places::settle_holders(&mut s.holders, t, records, chosen);
     let q = y.descriptors[d];
     let z = q.standing;
     let p = journal::wide(standings::offset_of(z));
@@ -92,7 +104,7 @@ pub fn read<'a>(
     };
     s.transactions[t] = y;
     Answer {
-        outcome: Outcome::Given(m as u16),
         store: s,
+        outcome: Outcome::Given(m as u16),
     }
 }

@@ -7,14 +7,14 @@ use Prim.Native.Nat.{ℕ, zero, suc, _+_, _-_, _*_, _^_, _/_, _%_, _≤_, _<_, m
 use native.Mathlib.Nat.{lt-of-lt-of-le, one-mul, zero-add, max-zero, not-suc-le-zero, le-of-suc-le-suc, eq-or-lt-of-le, div-one, div-self, div-eq-of-lt, zero-div, mod-lt, mod-eq-of-lt, mul-mod-left, mul-add-mod-self-right, div-div-eq-div-mul, pow-suc, mul-comm}
 use native.Mathlib.Omega.{arith}
 use lib.Dec.{eqb}
-use lib.ListN.{length, take, drop, getD, set, length-map, List·getD-map}
+use lib.ListN.{length, take, drop, getD, set, length-map, length-append, List·getD-map}
 use lib.Bits.{bitAnd, bitOr, and-shr, or-shr, and-step, or-step, and-le-l, or-lt, or-zero-l, or-zero-r}
-use lib.Seq.{drop-cons, take-length, drop-length}
-use lib.Pow.{pow-pos, pow-lt, pow-add, shl-shr, shl-exact}
+use lib.Seq.{drop-cons, take-length, drop-length, ext-getD}
+use lib.Pow.{pow-pos, pow-lt, pow-mono, pow-add, shl-shr, shl-exact}
 use borrow.Author.Tests.{eqb-true, eqb-false}
 use Rattle.octets.specs.Parts.{pasted, cut, within}
 use Rattle.octets.specs.Bits.{bit, withBit, withoutBit, changed, unionOf}
-use Rattle.octets.proofs.PartLaws.{le-or-lt, by-place, length-cut, length-cut-le, getD-cut, cut-add, pasted-none, pasted-more, length-pasted, pasted-before, pasted-in, pasted-after}
+use Rattle.octets.proofs.PartLaws.{le-or-lt, by-place, length-cut, length-cut-le, getD-cut, cut-add, cut-pasted-after, pasted-append, pasted-none, pasted-more, length-pasted, pasted-before, pasted-in, pasted-after}
 
 -- ---- one bit
 
@@ -158,6 +158,21 @@ pub without-le : (t x : ℕ) → withoutBit t x ≤ x
 unfolding withoutBit
 without-le t x = and-le-l x (255 - 2 ^ t)
 
+-- an octet that lacks the bit is left as it is
+pub without-same : (t x : ℕ) → t < 8 → x < 256 → bit t x ≡ 0 → withoutBit t x ≡ x
+without-same t x ht hx none =
+    bits-equal (withoutBit t x) x
+    (λ u. ⊎-elim (above u) (λ hu. bit-without u t x hu ht ∙ pick u (eqb u t) refl) (le-or-lt 8 u))
+  where
+    above : (u : ℕ) → 8 ≤ u → bit u (withoutBit t x) ≡ bit u x
+    above u h =
+        let wide : 2 ^ 8 ≤ 2 ^ u = pow-mono h in
+        bit-above u (withoutBit t x) (omega (arith, without-le t x)) ∙ sym (bit-above u x (omega arith))
+
+    pick : (u : ℕ) (b : Bool) → eqb u t ≡ b → cond b 0 (bit u x) ≡ bit u x
+    pick u true e = sym (ap (λ (k : ℕ). bit k x) (eqb-true u t e) ∙ none)
+    pick u false e = refl
+
 -- ---- a stretch that is changed
 
 -- one octet more
@@ -210,6 +225,14 @@ module _ (f : ℕ → ℕ) (from n : ℕ) (xs : List ℕ) where
         by-place from n i (λ (b : Bool). getD (changed f from n xs) i 0 ≡ cond b (f (getD xs i 0)) (getD xs i 0))
         (changed-before i) (changed-in i) (changed-after i)
 
+    -- where no octet is altered
+    pub changed-same : ((i : ℕ) → from ≤ i → i < from + n → f (getD xs i 0) ≡ getD xs i 0) → changed f from n xs ≡ xs
+    changed-same same =
+        ext-getD 0 (changed f from n xs) xs length-changed
+        (λ i h.
+        by-place from n i (λ (b : Bool). getD (changed f from n xs) i 0 ≡ getD xs i 0)
+        (changed-before i) (λ l g. changed-in i l g ∙ same i l g) (changed-after i))
+
   -- one octet more
   pub changed-more : from + n < length xs
       → set (changed f from n xs) (from + n) (f (getD (changed f from n xs) (from + n) 0)) ≡ changed f from (n + 1) xs
@@ -223,6 +246,25 @@ module _ (f : ℕ → ℕ) (from n : ℕ) (xs : List ℕ) where
       ∙ ap (λ (k : ℕ). set (pasted xs from m) (from + k) v) (sym e)
       ∙ pasted-more xs from m (inside fits) v (rw e h)
       ∙ ap (pasted xs from) (sym (ap (map f) (cut-more xs from n h) ∙ map-append f (cut xs from n) (getD xs (from + n) 0 ∷ [])))
+
+  -- the stretch directly after it, too
+  pub changed-add : (m : ℕ) → from + n + m ≤ length xs → changed f (from + n) m (changed f from n xs) ≡ changed f from (n + m) xs
+  unfolding changed
+  changed-add m h =
+      let a = map f (cut xs from n) in
+      let b = map f (cut xs (from + n) m) in
+      let fits : from + n ≤ length xs = omega arith in
+      let e = length-stretch fits in
+      let e′ : length b ≡ m = length-map (cut xs (from + n) m) f ∙ length-cut xs (from + n) m h in
+      ap (λ (l : List ℕ). pasted (pasted xs from a) (from + n) (map f l)) (cut-pasted-after xs from a (inside fits) (from + n) m (omega arith))
+      ∙ ap (λ (k : ℕ). pasted (pasted xs from a) (from + k) b) (sym e)
+      ∙ sym (pasted-append xs from a b (simp length-append (omega arith)))
+      ∙ ap (pasted xs from) (sym (ap (map f) (cut-add xs from n m) ∙ map-append f (cut xs from n) (cut xs (from + n) m)))
+
+-- the first n octets, and the m after them
+pub changed-next : (f : ℕ → ℕ) (n m : ℕ) (xs : List ℕ) → n + m ≤ length xs → changed f n m (changed f 0 n xs) ≡ changed f 0 (n + m) xs
+changed-next f n m xs h =
+    ap (λ (k : ℕ). changed f k m (changed f 0 n xs)) (sym (zero-add n)) ∙ changed-add f 0 n xs m (omega arith)
 
 -- a whole buffer
 pub changed-all : (f : ℕ → ℕ) (xs : List ℕ) → changed f 0 (length xs) xs ≡ map f xs
@@ -325,6 +367,17 @@ module _ (u : ℕ) (xs : List ℕ) (from n : ℕ) where
       union-none u (cut xs from n)
       (λ i h. let k : i < n = lt-of-lt-of-le h (length-cut-le xs from n) in
       ap (bit u) (getD-cut xs from n i 0 k) ∙ none (from + i) (omega arith) (omega arith))
+
+  -- a bit that the union lacks is in none of the octets, so clearing it alters none
+  pub stretch-same : u < 8 → from + n ≤ length xs → ((i : ℕ) → getD xs i 0 < 256) → bit u (unionOf (cut xs from n)) ≡ 0
+      → changed (withoutBit u) from n xs ≡ xs
+  stretch-same hu fits octets none =
+      changed-same (withoutBit u) from n xs fits
+      (λ i h g. without-same u (getD xs i 0) hu (octets i) (lacks i h g (le-or-lt 1 (bit u (getD xs i 0)))))
+    where
+      lacks : (i : ℕ) → from ≤ i → i < from + n → (1 ≤ bit u (getD xs i 0)) ⊎ (bit u (getD xs i 0) < 1) → bit u (getD xs i 0) ≡ 0
+      lacks i h g (inl e) = let k = stretch-has i h g (omega (arith, bit-lt u (getD xs i 0))) in absurd (omega arith)
+      lacks i h g (inr e) = omega arith
 
 -- the union of octets is an octet
 pub union-lt : (k : ℕ) (xs : List ℕ) → ((i : ℕ) → i < length xs → getD xs i 0 < 2 ^ k) → unionOf xs < 2 ^ k

@@ -19,17 +19,33 @@ pub fn mark(marks: &mut [u8], from: usize, n: usize, t: u8)
     }
 }
 
-// Clears bit t in every mark.
+// Clears bit t in the n marks from `from` on; where none of them has it, nothing is written.
+fn unmark(marks: &mut [u8], from: usize, n: usize, t: u8)
+    requires { ⌜ (t < 8) × (from + n ≤ length (now marks)) ⌝ }
+    ensures { λ _. ⌜ now (marks .exit) ≡ changed (withoutBit t) from n (now (marks .entry)) ⌝ }
+{
+    if (union(marks, from, n) >> t) % 2 == 0 {
+        return;
+    }
+    let mask = !(1u8 << t);
+    let mut i = 0;
+    while i < n {
+        marks[from + i] = marks[from + i] & mask;
+        i += 1;
+    }
+}
+
+// Clears bit t in every mark, 512 at a time.
 pub fn unmark_all(marks: &mut [u8], t: u8)
     requires { ⌜ t < 8 ⌝ }
     ensures { λ _. ⌜ now (marks .exit) ≡ map (withoutBit t) (now (marks .entry)) ⌝ }
 {
-    let mask = !(1u8 << t);
-    let mut i = 0;
-    while i < marks.len() {
-        marks[i] = marks[i] & mask;
-        i += 1;
+    let mut from = 0;
+    while 512 <= marks.len() - from {
+        unmark(marks, from, 512, t);
+        from += 512;
     }
+    unmark(marks, from, marks.len() - from, t);
 }
 
 // The bits that are set in one of the n marks from `from` on, or in more.

@@ -4,7 +4,7 @@ use mathlib.Core.List.{List}
 use mathlib.Core.Path.{_≡_, refl, sym, ap, _∙_}
 use mathlib.Core.Logic.{_⊎_, inl, inr, ⊎-elim}
 use lib.Dec.{leb, ltb, eqb, leb·suc-suc}
-use lib.ListN.{getD, set, length}
+use lib.ListN.{getD, set, length, replicate, length-set, getD-replicate}
 use lib.Seq.{getD-set-same, getD-set-other}
 use Prim.Native.Nat.{ℕ, _+_, _-_, _*_, _≤_, _<_}
 use native.Mathlib.Numerals.{add-one}
@@ -16,7 +16,7 @@ use Rattle.record.specs.declared.Standing.the-variants.{Untouched, Placed, Defe
 use Rattle.record.specs.declared.Transaction.{Transaction}
 use Rattle.record.specs.declared.Store.{Store}
 use Rattle.record.specs.Journal.{at, holderDescriptor, holderPlace, transaction, standingAt}
-use Rattle.ranges.specs.Limits.{limit, limitInRange, Limited, endsBelow, total, recordOf, journalOf, transactionOf}
+use Rattle.ranges.specs.Limits.{limit, isTouched, firstNumber, secondNumber, mayWait, PlacedLimits, Limited, endsBelow, total, recordOf, journalOf, transactionOf}
 use Rattle.ranges.specs.Ranges.{standingIn, endsWithin, placeIn, recordIn, journalIn, transactionIn}
 use Rattle.ranges.specs.Below.{below}
 use Rattle.ranges.proofs.Laws.{and-left, below-at, below-same, sum-zero, sum-more, failed, held}
@@ -34,6 +34,10 @@ ltb-one a b = rw (add-one b, leb·suc-suc a b)
 and-false : (a : Bool) → a && false ≡ false
 and-false true = refl
 and-false false = refl
+
+and-true : (a : Bool) → a && true ≡ a
+and-true true = refl
+and-true false = refl
 
 -- A number at most a is at most 4,096, where a is.
 both-under : (e a : ℕ) → leb a 4096 ≡ true → leb e 4096 && leb e a ≡ leb e a
@@ -74,41 +78,86 @@ module _ (x : Transaction) (room : List ℕ)
   unfolding endsBelow recordOf
   record-ends holders places lengths i = holder-ends (getD holders i 0) (getD places i 0) (getD lengths i 0)
 
-limit-small : (z : Standing) → standingIn z ≡ true → limit z ≤ 4097
-unfolding limit standingIn
-limit-small Untouched h = omega arith
-limit-small (Placed o) h = omega arith
-limit-small (Deferred a) h = let l = leb-true a 4096 h in omega arith
-limit-small (Moved a o) h = let l = leb-true a 4096 (and-left (leb a 4096) (leb o 4096) h) in omega arith
-limit-small (Known o) h = omega arith
+-- What the numbers of a standing say: whether it is in range, and its limit.
+numbers-in : (z : Standing) → standingIn z ≡ leb (firstNumber z) 4096 && leb (secondNumber z) 4096
+unfolding standingIn
+numbers-in Untouched = refl
+numbers-in (Placed o) = sym (and-true (leb o 4096))
+numbers-in (Deferred a) = sym (and-true (leb a 4096))
+numbers-in (Moved a o) = refl
+numbers-in (Known o) = sym (and-true (leb o 4096))
 
--- A limit above 4,097 says that the standing is out of range; any other is the limit of a standing in range.
-pub limit-out : (z : Standing) (n : ℕ) → n ≡ limitInRange z → 4097 < n → standingIn z ≡ false
-unfolding limitInRange
-limit-out z n e l = pick (standingIn z) refl e
-  where
-    pick : (b : Bool) → standingIn z ≡ b → n ≡ cond b (limit z) 4098 → b ≡ false
-    pick true q f = let m = limit-small z q in absurd (let g : n ≡ limit z = f in omega arith)
-    pick false q f = refl
+numbers-limit : (z : Standing) → limit z ≡ cond (mayWait z) (firstNumber z + 1) 0
+unfolding limit
+numbers-limit Untouched = refl
+numbers-limit (Placed o) = refl
+numbers-limit (Deferred a) = refl
+numbers-limit (Moved a o) = refl
+numbers-limit (Known o) = refl
 
-pub limit-in : (z : Standing) (n : ℕ) → n ≡ limitInRange z → n ≤ 4097 → (standingIn z ≡ true) × (n ≡ limit z)
-unfolding limitInRange
-limit-in z n e l = pick (standingIn z) e
-  where
-    pick : (b : Bool) → n ≡ cond b (limit z) 4098 → (b ≡ true) × (n ≡ limit z)
-    pick true f = (refl, f)
-    pick false f = absurd (let g : n ≡ 4098 = f in omega arith)
+-- What the tests of one standing say.
+pub untouched : (z : Standing) {r : Bool} → r ≡ isTouched z → r ≡ false → (standingIn z ≡ true) × (limit z ≡ 0)
+unfolding standingIn limit
+untouched Untouched e h = (refl, refl)
+untouched (Placed o) e h = (cc, refl)
+untouched (Deferred a) e h = (cc, cc)
+untouched (Moved a o) e h = (cc, cc)
+untouched (Known o) e h = (cc, refl)
 
--- One entry more of a table's second half.
-pub half-more : (f : ℕ → ℕ) (room : List ℕ) (d n : ℕ) → 16 + d < length room → n ≡ f d → ((k : ℕ) → k < d → getD room (16 + k) 0 ≡ f k) → (k : ℕ) → k < d + 1 → getD (set room (16 + d) n) (16 + k) 0 ≡ f k
-half-more f room d n l e h =
-    below-more (λ k. getD (set room (16 + d) n) (16 + k) 0 ≡ f k) d
-    (λ k m. getD-set-other room (16 + d) (16 + k) n 0 (λ q. omega arith) ∙ h k m)
-    (getD-set-same room (16 + d) n 0 l ∙ e)
+module _ (z : Standing) where
+  pub stays-limit : {r : Bool} → r ≡ mayWait z → r ≡ false → limit z ≡ 0
+  stays-limit e h = numbers-limit z ∙ rw (← e, h)
 
-pub limit-moved : (z : Standing) (a o : ℕ) → z ≡ Moved a o → limitInRange z ≡ cond (leb a 4096 && leb o 4096) (a + 1) 4098
-unfolding limitInRange limit standingIn
-limit-moved z a o e = ap limitInRange e
+  pub second-out : (m : ℕ) → m ≡ secondNumber z → 4096 < m → standingIn z ≡ false
+  second-out m e l = numbers-in z ∙ rw (← e, lt-leb m 4096 l) (and-false (leb (firstNumber z) 4096))
+
+  module _ (n : ℕ) (is-n : n ≡ firstNumber z) where
+    pub first-out : 4096 < n → standingIn z ≡ false
+    first-out l = numbers-in z ∙ rw (← is-n, lt-leb n 4096 l)
+
+    pub waits-limit : {r : Bool} → r ≡ mayWait z → r ≡ true → n + 1 ≡ limit z
+    waits-limit e h = sym (numbers-limit z ∙ rw (← e, h, is-n))
+
+    pub both-in : (m : ℕ) → m ≡ secondNumber z → n ≤ 4096 → m ≤ 4096 → standingIn z ≡ true
+    both-in m e k l = numbers-in z ∙ rw (← is-n, ← e, le-leb n 4096 k, le-leb m 4096 l)
+
+-- The table's first half: no entry, and one more.
+pub placed-none : PlacedLimits 0 (replicate 32 0)
+placed-none = record { long = refl; placed = λ j l. absurd (omega arith); zeros = λ d l. getD-replicate 32 (16 + d) 0 0 (omega arith) }
+
+pub placed-more : (k : ℕ) (room : List ℕ) → k < 16 → PlacedLimits k room → PlacedLimits (k + 1) (set room k 4097)
+placed-more k room small p =
+    record {
+      long = simp length-set (p .long);
+      placed = below-more (λ j. getD (set room k 4097) j 0 ≡ 4097) k (λ j l. getD-set-other room k j 4097 0 (λ q. omega arith) ∙ p .placed j l) (getD-set-same room k 4097 0 (let l = p .long in omega arith));
+      zeros = λ d l. getD-set-other room k (16 + d) 4097 0 (λ q. omega arith) ∙ p .zeros d l;
+    }
+
+-- Its second half: no limit, and one more; a limit of 0 stands there already.
+pub limited-none : (x : Transaction) (room : List ℕ) → PlacedLimits 16 room → Limited x 0 room
+limited-none x room p = record { long = p .long; placed = p .placed; limits = λ k l. absurd (omega arith); zeros = λ k _ l. p .zeros k l }
+
+module _ (x : Transaction) (d : ℕ) (room : List ℕ) (small : d < 16) (p : Limited x d room) where
+  pub limited-zero : limit (standingAt x d) ≡ 0 → Limited x (d + 1) room
+  limited-zero e =
+      record {
+        long = p .long;
+        placed = p .placed;
+        limits = below-more (λ k. getD room (16 + k) 0 ≡ limit (standingAt x k)) d (p .limits) (p .zeros d (omega arith) small ∙ sym e);
+        zeros = λ k l m. p .zeros k (omega arith) m;
+      }
+
+  pub limited-more : (n : ℕ) → n ≡ limit (standingAt x d) → Limited x (d + 1) (set room (16 + d) n)
+  limited-more n e =
+      record {
+        long = simp length-set (p .long);
+        placed = λ k l. other k (λ q. omega arith) ∙ p .placed k l;
+        limits = below-more (λ k. getD (set room (16 + d) n) (16 + k) 0 ≡ limit (standingAt x k)) d (λ k l. other (16 + k) (λ q. omega arith) ∙ p .limits k l) (getD-set-same room (16 + d) n 0 (let l = p .long in omega arith) ∙ e);
+        zeros = λ k l m. other (16 + k) (λ q. omega arith) ∙ p .zeros k (omega arith) m;
+      }
+    where
+      other : (k : ℕ) → (k ≡ 16 + d → ⊥) → getD (set room (16 + d) n) k 0 ≡ getD room k 0
+      other k q = getD-set-other room (16 + d) k n 0 q
 
 -- What the tests of one record say.
 module _ (room holders places lengths : List ℕ) (i : ℕ) where
@@ -138,10 +187,6 @@ and-fails a b e = rw e
 
 pub and-last : (a b c : Bool) → a ≡ true → b ≡ c → b ≡ a && c
 and-last a b c e f = rw (e, f)
-
-and-true : (a : Bool) → a && true ≡ a
-and-true true = refl
-and-true false = refl
 
 -- The tests of a begun transaction, in the order in which they are made.
 turned : (s r j e u : Bool) → s && (r && j && e && u) ≡ r && u && s && (j && e)
@@ -182,14 +227,14 @@ module _ (x : Transaction) (t : ℕ) (holders places lengths : List ℕ) where
         pub standings-fail : below (λ d. standingIn (standingAt x d)) 16 ≡ false → false ≡ transactionOf x t holders places lengths
         standings-fail e = sym (counted ∙ rw e)
 
-        pub records-decide : (room₀ room : List ℕ) (r : Bool) → below (λ d. standingIn (standingAt x d)) 16 ≡ true → ((k : ℕ) → k < 16 → getD room₀ k 0 ≡ 4097) → Limited x room₀ room → r ≡ below (λ k. endsBelow room holders places lengths (64 * t + k)) n && eqb (total lengths t n) m → r ≡ transactionOf x t holders places lengths
-        records-decide room₀ room r standings placed table e =
+        pub records-decide : (room : List ℕ) (r : Bool) → below (λ d. standingIn (standingAt x d)) 16 ≡ true → Limited x 16 room → r ≡ below (λ k. endsBelow room holders places lengths (64 * t + k)) n && eqb (total lengths t n) m → r ≡ transactionOf x t holders places lengths
+        records-decide room r standings table e =
             e ∙ ap (λ (a : Bool). a && eqb (total lengths t n) m) same ∙ sym (counted ∙ rw standings)
           where
             same : below (λ k. endsBelow room holders places lengths (64 * t + k)) n ≡ below (λ k. recordOf x holders places lengths (64 * t + k)) n
             same =
                 below-same _ _ n
-                (λ k _. record-ends x room (λ j l. table .kept j l ∙ placed j l) (table .limits) (λ d l. below-at (λ d. standingIn (standingAt x d)) 16 d standings l) holders places lengths (64 * t + k))
+                (λ k _. record-ends x room (table .placed) (table .limits) (λ d l. below-at (λ d. standingIn (standingAt x d)) 16 d standings l) holders places lengths (64 * t + k))
 
 -- The ranges read off a transaction and the arrays are those of the record.
 transaction-of : (s : Store) (t : ℕ) → transactionOf (transaction s t) t (s .holders) (s .places) (s .lengths) ≡ transactionIn s t

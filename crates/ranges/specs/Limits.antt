@@ -1,10 +1,10 @@
 -- Check 2 of one transaction, read off the transaction and the three arrays of write records alone, with a table of limits.
-use mathlib.Core.Bool.{Bool, cond, not, _&&_, _||_}
+use mathlib.Core.Bool.{Bool, true, false, not, _&&_, _||_}
 use mathlib.Core.List.{List}
 use mathlib.Core.Path.{_≡_}
 use lib.Dec.{leb, ltb, eqb}
 use lib.ListN.{getD, length}
-use Prim.Native.Nat.{ℕ, _+_, _*_, _<_}
+use Prim.Native.Nat.{ℕ, _+_, _*_, _≤_, _<_}
 use Rattle.record.specs.declared.Standing.{Standing}
 use Rattle.record.specs.declared.Standing.the-variants.{Untouched, Placed, Deferred, Moved, Known}
 use Rattle.record.specs.declared.Transaction.{Transaction}
@@ -21,15 +21,50 @@ limit (Deferred a) = a + 1
 limit (Moved a o) = a + 1
 limit (Known o) = 0
 
--- The limit of a standing in range; 4,098 of any other.
-unfoldable pub limitInRange : Standing → ℕ
-limitInRange z = cond (standingIn z) (limit z) 4098
+-- Whether the transaction has touched the descriptor with this standing.
+abbrev pub isTouched : Standing → Bool
+isTouched Untouched = false
+isTouched (Placed o) = true
+isTouched (Deferred a) = true
+isTouched (Moved a o) = true
+isTouched (Known o) = true
 
--- A table's second half takes the limits of the sixteen descriptors; its first half is kept.
-pub record Limited (x : Transaction) (before after : List ℕ) : Type 0 where
-  pub long : length after ≡ 32
-  pub kept : (k : ℕ) → k < 16 → getD after k 0 ≡ getD before k 0
-  pub limits : (d : ℕ) → d < 16 → getD after (16 + d) 0 ≡ limit (standingAt x d)
+-- The number that a standing carries, or its advance where it carries two; 0 where it carries none.
+abbrev pub firstNumber : Standing → ℕ
+firstNumber Untouched = 0
+firstNumber (Placed o) = o
+firstNumber (Deferred a) = a
+firstNumber (Moved a o) = a
+firstNumber (Known o) = o
+
+-- The offset of a standing that carries an advance too; 0 of any other.
+abbrev pub secondNumber : Standing → ℕ
+secondNumber Untouched = 0
+secondNumber (Placed o) = 0
+secondNumber (Deferred a) = 0
+secondNumber (Moved a o) = o
+secondNumber (Known o) = 0
+
+-- Whether records without a place may stand under a standing.
+abbrev pub mayWait : Standing → Bool
+mayWait Untouched = false
+mayWait (Placed o) = false
+mayWait (Deferred a) = true
+mayWait (Moved a o) = true
+mayWait (Known o) = false
+
+-- A table with an entry a holder: 4,097 at the first n, of the 16 with a place, and 0 at the 16 without one.
+pub record PlacedLimits (n : ℕ) (room : List ℕ) : Type 0 where
+  pub long : length room ≡ 32
+  pub placed : (k : ℕ) → k < n → getD room k 0 ≡ 4097
+  pub zeros : (d : ℕ) → d < 16 → getD room (16 + d) 0 ≡ 0
+
+-- That table, with the limits of the first n descriptors in its second half.
+pub record Limited (x : Transaction) (n : ℕ) (room : List ℕ) : Type 0 where
+  pub long : length room ≡ 32
+  pub placed : (k : ℕ) → k < 16 → getD room k 0 ≡ 4097
+  pub limits : (d : ℕ) → d < n → getD room (16 + d) 0 ≡ limit (standingAt x d)
+  pub zeros : (d : ℕ) → n ≤ d → d < 16 → getD room (16 + d) 0 ≡ 0
 
 -- The record at place i of the three arrays: its holder has an entry in the table, and it ends below that entry.
 unfoldable pub endsBelow : List ℕ → List ℕ → List ℕ → List ℕ → ℕ → Bool

@@ -7,11 +7,11 @@ use record::Transaction;
 ghost use mathlib.Core.Path.{_≡_};
 ghost use mathlib.Core.Bool.{true, false, _&&_};
 ghost use lib.Dec.{leb, eqb};
-ghost use lib.ListN.{getD, length};
+ghost use lib.ListN.{getD, length, replicate};
 ghost use Prim.Native.Nat.{_+_, _*_, _<_, _≤_};
 ghost use Rattle.record.specs.Journal.{standingAt};
 ghost use Rattle.ranges.specs.Below.{below, sum};
-ghost use Rattle.ranges.specs.Limits.{limitInRange, Limited, endsBelow, total, transactionOf, storeOf};
+ghost use Rattle.ranges.specs.Limits.{isTouched, firstNumber, secondNumber, mayWait, PlacedLimits, Limited, endsBelow, total, transactionOf, storeOf};
 ghost use Rattle.ranges.specs.Ranges.{standingIn, storeIn, lengthsIn, admission, admissionOfBegin, admissionOfFresh, gateNumber};
 
 // What the tests before a call's own say: go on, or a refusal.
@@ -61,57 +61,92 @@ fn offsets_in(offsets: &[u16; 16]) -> bool
     true
 }
 
-// Below which number a record without a place has to end under this standing (0: none may stand); 4,098: out of range.
-fn limit_in_range(z: Standing) -> u16
-    ensures { λ r. ⌜ r ≡ limitInRange z ⌝ }
+// Whether the transaction has touched this descriptor.
+fn touched(z: Standing) -> bool
+    ensures { λ r. ⌜ r ≡ isTouched z ⌝ }
 {
     match z {
-        Standing::Untouched => 0,
-        Standing::Placed(offset) => {
-            if offset > 4096 {
-                return 4098;
-            }
-            0
-        }
-        Standing::Deferred(advance) => {
-            if advance > 4096 {
-                return 4098;
-            }
-            advance + 1
-        }
-        Standing::Moved { advance, offset } => {
-            if advance > 4096 {
-                return 4098;
-            }
-            if offset > 4096 {
-                return 4098;
-            }
-            advance + 1
-        }
-        Standing::Known(offset) => {
-            if offset > 4096 {
-                return 4098;
-            }
-            0
-        }
+        Standing::Untouched => false,
+        Standing::Placed(_) => true,
+        Standing::Deferred(_) => true,
+        Standing::Moved { .. } => true,
+        Standing::Known(_) => true,
     }
 }
 
-// The standings of transaction x are in range. Writes their limits into the second half of a table with an entry a holder.
+// The number that a standing carries, or its advance where it carries two (0: it carries none).
+fn first_number(z: Standing) -> u16
+    ensures { λ r. ⌜ r ≡ firstNumber z ⌝ }
+{
+    match z {
+        Standing::Untouched => 0,
+        Standing::Placed(offset) => offset,
+        Standing::Deferred(advance) => advance,
+        Standing::Moved { advance, offset: _ } => advance,
+        Standing::Known(offset) => offset,
+    }
+}
+
+// The offset of a standing that carries an advance too (0: it does not).
+fn second_number(z: Standing) -> u16
+    ensures { λ r. ⌜ r ≡ secondNumber z ⌝ }
+{
+    match z {
+        Standing::Untouched => 0,
+        Standing::Placed(_) => 0,
+        Standing::Deferred(_) => 0,
+        Standing::Moved { advance: _, offset } => offset,
+        Standing::Known(_) => 0,
+    }
+}
+
+// Whether write records without a place may stand under this standing.
+fn waits(z: Standing) -> bool
+    ensures { λ r. ⌜ r ≡ mayWait z ⌝ }
+{
+    match z {
+        Standing::Untouched => false,
+        Standing::Placed(_) => false,
+        Standing::Deferred(_) => true,
+        Standing::Moved { .. } => true,
+        Standing::Known(_) => false,
+    }
+}
+
+// Writes 4,097 into the first half of a table with an entry a holder: records with a place have to end below it.
+fn placed_limits(room: &mut [u16; 32])
+    requires { ⌜ now room ≡ replicate 32 0 ⌝ }
+    ensures { λ _. ⌜ PlacedLimits 16 (now (room .exit)) ⌝ }
+{
+    let mut k = 0;
+    while k < 16 {
+        room[k] = 4097;
+        k += 1;
+    }
+}
+
+// The standings of transaction x are in range. Writes their limits that are not 0 into the table's second half.
 fn limits_in(x: Transaction, room: &mut [u16; 32]) -> bool
-    requires { ⌜ length (now room) ≡ 32 ⌝ }
+    requires { ⌜ PlacedLimits 16 (now room) ⌝ }
     ensures answer { λ r. ⌜ r ≡ below (λ d. standingIn (standingAt x d)) 16 ⌝ }
-    ensures table { λ r. ⌜ (r ≡ true → Limited x (now (room .entry)) (now (room .exit))) ⌝ }
+    ensures table { λ r. ⌜ (r ≡ true → Limited x 16 (now (room .exit))) ⌝ }
 {
     let mut d = 0;
     while d < 16 {
         let q = x.descriptors[d];
         let z = q.standing;
-        let n = limit_in_range(z);
-        if n > 4097 {
-            return false;
+        if touched(z) {
+            let n = first_number(z);
+            if n > 4096 {
+                return false;
+            }
+            if second_number(z) > 4096 {
+                return false;
+            }
+            if waits(z) {
+                room[16 + d] = n + 1;
+            }
         }
-        room[16 + d] = n;
         d += 1;
     }
     true
@@ -170,14 +205,16 @@ fn transaction_in<'a>(
     if bytes > 4096 {
         return false;
     }
-    let mut room = [4097u16; 32];
+    let mut room = [0u16; 32];
+    placed_limits(&mut room);
     if !limits_in(x, &mut room) {
         return false;
     }
     records_in(t, records, bytes, &room, holders, places, lengths)
 }
 
-// The record with these parts is in range. The number arrays are lent, so that no caller copies a record to have it checked.
+// The record with these parts is in range. Its number arrays are lent, here and below, so that no call copies its record to have it
+// checked.
 fn parts_in<'a>(
     files: &'a [u8; 16],
     offsets: &'a [u16; 16],
@@ -205,21 +242,6 @@ fn parts_in<'a>(
     true
 }
 
-// The record is in range.
-pub fn store_in(s: Store) -> bool
-    ensures { λ r. ⌜ r ≡ storeIn s ⌝ }
-{
-    let transactions = s.transactions;
-    parts_in(
-        &s.files,
-        &s.offsets,
-        transactions,
-        &s.holders,
-        &s.places,
-        &s.lengths,
-    )
-}
-
 // Each store buffer has 32,768 bytes.
 fn lengths_in(files: usize, logs: usize, marks: usize) -> bool
     ensures { λ r. ⌜ r ≡ lengthsIn files logs marks ⌝ }
@@ -234,27 +256,30 @@ fn lengths_in(files: usize, logs: usize, marks: usize) -> bool
 }
 
 // Refusals 1 to 4, for every call but Fresh and Begin. files, logs and marks are the lengths of the lent buffers.
-pub fn admit(s: Store, files: usize, logs: usize, marks: usize, t: usize) -> Gate
-    ensures { λ r. ⌜ gateNumber r ≡ admission files logs marks s t ⌝ }
+pub fn admit<'a>(
+    numbers: &'a [u8; 16],
+    offsets: &'a [u16; 16],
+    transactions: [Transaction; 8],
+    holders: &'a [u8; 512],
+    places: &'a [u16; 512],
+    lengths: &'a [u16; 512],
+    files: usize,
+    logs: usize,
+    marks: usize,
+    t: usize,
+) -> Gate
+    ensures { λ r. ⌜ gateNumber r ≡ admission files logs marks (storeOf (now (numbers .entry)) (now (offsets .entry)) transactions (now (holders .entry)) (now (places .entry)) (now (lengths .entry))) t ⌝ }
 {
     if !lengths_in(files, logs, marks) {
         return Gate::Refused(Refusal::BufferLength);
     }
-    let transactions = s.transactions;
-    if !parts_in(
-        &s.files,
-        &s.offsets,
-        transactions,
-        &s.holders,
-        &s.places,
-        &s.lengths,
-    ) {
+    if !parts_in(numbers, offsets, transactions, holders, places, lengths) {
         return Gate::Refused(Refusal::RecordRange);
     }
     if t > 7 {
         return Gate::Refused(Refusal::NoSuchTransaction);
     }
-    let x = s.transactions[t];
+    let x = transactions[t];
     if x.begun {
         return Gate::Pass;
     }
@@ -262,27 +287,30 @@ pub fn admit(s: Store, files: usize, logs: usize, marks: usize, t: usize) -> Gat
 }
 
 // Refusals 1 to 3 and 5, for Begin.
-pub fn admit_begin(s: Store, files: usize, logs: usize, marks: usize, t: usize) -> Gate
-    ensures { λ r. ⌜ gateNumber r ≡ admissionOfBegin files logs marks s t ⌝ }
+pub fn admit_begin<'a>(
+    numbers: &'a [u8; 16],
+    offsets: &'a [u16; 16],
+    transactions: [Transaction; 8],
+    holders: &'a [u8; 512],
+    places: &'a [u16; 512],
+    lengths: &'a [u16; 512],
+    files: usize,
+    logs: usize,
+    marks: usize,
+    t: usize,
+) -> Gate
+    ensures { λ r. ⌜ gateNumber r ≡ admissionOfBegin files logs marks (storeOf (now (numbers .entry)) (now (offsets .entry)) transactions (now (holders .entry)) (now (places .entry)) (now (lengths .entry))) t ⌝ }
 {
     if !lengths_in(files, logs, marks) {
         return Gate::Refused(Refusal::BufferLength);
     }
-    let transactions = s.transactions;
-    if !parts_in(
-        &s.files,
-        &s.offsets,
-        transactions,
-        &s.holders,
-        &s.places,
-        &s.lengths,
-    ) {
+    if !parts_in(numbers, offsets, transactions, holders, places, lengths) {
         return Gate::Refused(Refusal::RecordRange);
     }
     if t > 7 {
         return Gate::Refused(Refusal::NoSuchTransaction);
     }
-    let x = s.transactions[t];
+    let x = transactions[t];
     if x.begun {
         return Gate::Refused(Refusal::AlreadyOpen);
     }

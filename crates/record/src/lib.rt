@@ -64,8 +64,8 @@ pub enum Outcome {
 
 // What a call hands back: its outcome, and the record to keep.
 pub struct Answer {
-    pub outcome: Outcome,
     pub store: Store,
+    pub outcome: Outcome,
 }
 
 // A transaction that has ended: an empty log, sixteen Untouched descriptors, not stale.

@@ -21,31 +21,31 @@ parts-in-requires c κs = search needs
 returns-2 : tie.Need-returns-2
 unfolding admission gateNumber number
 returns-2 c =
-    shared-ranges _ _ _ _ _ _ (held (c .before .before .before .before .before .before .before .before .before .before .lengths-in .ensures) (c .before .before .before .before .before .before .before .before .before .if1 .left)) (failed (c .before .parts-in .ensures) (c .if2 .taken))
+    shared-ranges _ _ _ _ _ _ (held (c .before .before .before .lengths-in .ensures) (c .before .before .if1 .left)) (failed (c .before .parts-in .ensures) (c .if2 .taken))
 
 returns-3 : tie.Need-returns-3
 unfolding admission gateNumber number
 returns-3 c =
-    shared-number _ _ _ _ _ _ (held (c .before .before .before .before .before .before .before .before .before .before .before .lengths-in .ensures) (c .before .before .before .before .before .before .before .before .before .before .if1 .left)) (held (c .before .before .parts-in .ensures) (c .before .if2 .left)) (c .if3 .taken)
+    shared-number _ _ _ _ _ _ (held (c .before .before .before .before .lengths-in .ensures) (c .before .before .before .if1 .left)) (held (c .before .before .parts-in .ensures) (c .before .if2 .left)) (c .if3 .taken)
 
 mul-x : tie.Need-mul-x
 mul-x c = search needs
 
-element-copy-out-x : tie.Need-element-copy-out-x
-element-copy-out-x c = search needs
+array-copy-out-x : tie.Need-array-copy-out-x
+array-copy-out-x c = search needs
 
 returns-4 : tie.Need-returns-4
 unfolding unless admission gateNumber number
 returns-4 c =
     sym
-    (shared-later _ _ _ _ _ _ (held (c .before .before .before .before .before .before .before .before .before .before .before .before .before .lengths-in .ensures) (c .before .before .before .before .before .before .before .before .before .before .before .before .if1 .left)) (held (c .before .before .before .before .parts-in .ensures) (c .before .before .before .if2 .left)) (c .before .before .if3 .left)
+    (shared-later _ _ _ _ _ _ (held (c .before .before .before .before .before .before .lengths-in .ensures) (c .before .before .before .before .before .if1 .left)) (held (c .before .before .before .before .parts-in .ensures) (c .before .before .before .if2 .left)) (c .before .before .if3 .left)
     ∙ ap (λ (b : Bool). unless b 4 0) (c .if4 .taken))
 
 returns-5 : tie.Need-returns-5
 unfolding unless admission gateNumber number
 returns-5 c =
     sym
-    (shared-later _ _ _ _ _ _ (held (c .before .before .before .before .before .before .before .before .before .before .before .before .before .lengths-in .ensures) (c .before .before .before .before .before .before .before .before .before .before .before .before .if1 .left)) (held (c .before .before .before .before .parts-in .ensures) (c .before .before .before .if2 .left)) (c .before .before .if3 .left)
+    (shared-later _ _ _ _ _ _ (held (c .before .before .before .before .before .before .lengths-in .ensures) (c .before .before .before .before .before .if1 .left)) (held (c .before .before .before .before .parts-in .ensures) (c .before .before .before .if2 .left)) (c .before .before .if3 .left)
     ∙ ap (λ (b : Bool). unless b 4 0) (c .if4 .left))
 
 pub admit-spec : {M : Type 1} → statement M
@@ -58,6 +58,6 @@ admit-spec =
     returns-2
     returns-3
     mul-x
-    element-copy-out-x
+    array-copy-out-x
     returns-4
     returns-5)

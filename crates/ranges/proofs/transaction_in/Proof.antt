@@ -1,9 +1,7 @@
 -- `ranges::transaction_in` meets its contract.
-use native.Mathlib.Omega.{arith}
 use Rattle.ranges.proofs.Laws.{failed, held}
 use borrow.Author.Needs.{needs}
 use borrow.Author.Tests.{not-false}
-use lib.ListN.{getD-replicate}
 use Rattle.ranges.proofs.Limits.{closed-in, records-fail, bytes-fail, standings-fail, records-decide}
 use Rattle.ranges.proofs.transaction_in.Statement.{statement}
 use Rattle.ranges.proofs.transaction_in.Tie as tie
@@ -23,12 +21,16 @@ returns-2 c = records-fail _ _ _ _ _ (c .before .before .before .if1 .left) _ (c
 returns-3 : tie.Need-returns-3
 returns-3 c = bytes-fail _ _ _ _ _ (c .before .before .before .before .if1 .left) _ _ (c .before .before .before .wide-octet .ensures .0) (c .before .before .wide .ensures .0) (c .before .if2 .left) (c .if3 .taken)
 
+placed-limits-requires : tie.Need-placed-limits-requires
+placed-limits-requires c κs = search needs
+
 limits-in-requires : tie.Need-limits-in-requires
 limits-in-requires c κs = search needs
 
 returns-4 : tie.Need-returns-4
 returns-4 c =
-    standings-fail _ _ _ _ _ (c .before .before .before .before .before .before .before .if1 .left) _ _ (c .before .before .before .before .before .before .wide-octet .ensures .0) (c .before .before .before .before .before .wide .ensures .0) (c .before .before .before .before .if2 .left) (c .before .before .before .if3 .left)
+    let i = c .before .before .before .before .before in
+    standings-fail _ _ _ _ _ (i .before .before .before .before .if1 .left) _ _ (i .before .before .before .wide-octet .ensures .0) (i .before .before .wide .ensures .0) (i .before .if2 .left) (i .if3 .left)
     (failed (c .before .limits-in .ensures .0) (c .if4 .taken))
 
 records-in-requires : tie.Need-records-in-requires
@@ -36,8 +38,11 @@ records-in-requires c κs = search needs
 
 returns-5 : tie.Need-returns-5
 returns-5 c =
-    records-decide _ _ _ _ _ (c .before .before .before .before .before .before .before .before .before .if1 .left) _ _ (c .before .before .before .before .before .before .before .before .wide-octet .ensures .0) (c .before .before .before .before .before .before .before .wide .ensures .0) (c .before .before .before .before .before .before .if2 .left) (c .before .before .before .before .before .if3 .left)
-    _ _ _ (held (c .before .before .before .limits-in .ensures .0) (c .before .before .if4 .left)) (λ k l. getD-replicate 32 k 4097 0 (omega arith)) (c .before .before .before .limits-in .ensures .1 (not-false _ (c .before .before .if4 .left))) (c .records-in .ensures)
+    let l = c .before .before .before .limits-in .ensures in
+    let left = c .before .before .if4 .left in
+    let i = c .before .before .before .before .before .before .before in
+    records-decide _ _ _ _ _ (i .before .before .before .before .if1 .left) _ _ (i .before .before .before .wide-octet .ensures .0) (i .before .before .wide .ensures .0) (i .before .if2 .left) (i .if3 .left)
+    _ _ (held (l .0) left) (l .1 (not-false _ left)) (c .records-in .ensures)
 
 pub transaction-in-spec : {M : Type 1} → statement M
 transaction-in-spec =
@@ -48,6 +53,7 @@ transaction-in-spec =
     wide-requires
     returns-2
     returns-3
+    placed-limits-requires
     limits-in-requires
     returns-4
     records-in-requires

@@ -24,6 +24,10 @@ use Rattle.editing.proofs.seek_call.seek.Tie as tie
 abbrev machine : tie.Start → Machine
 machine c = lent (c .args .t1) (c .args .files .now) (c .args .logs .now) (c .args .marks .now)
 
+-- The start of a call that the tests have let through.
+abbrev start-of : tie.After-enum-told → tie.Start
+start-of c = c .before .before .before .before .before .before .before .before .before .before .before .before .before
+
 admit-requires : tie.Need-admit-requires
 admit-requires c κs = search needs
 
@@ -36,7 +40,7 @@ turned-down-requires c κs = search needs
 returns : tie.Need-returns
 unfolding call admitted bufferOf
 returns c =
-    let start = c .before .before .before .before .before .before .before .before in
+    let start = c .before .before .before .before .before .before .before .before .before .before .before .before .before .before .before in
     let m = machine start in
     let o = Op.seek (start .args .d) (start .args .v) in
     let e = gate-refused _ _ (c .before .before .before .before .admit .ensures) _ (bufferOf o) m (stepTurn (start .args .t) o m) (c .before .before .g .given .1) in
@@ -46,11 +50,11 @@ enum-told : tie.Need-enum-told
 enum-told c = search needs
 
 -- What the tests let through.
-passed : (c : tie.After-enum-told) → let m = machine (c .before .before .before .before .before .before) in
-    admission (length (m .files)) (length (m .logs)) (length (m .marks)) (m .store) (c .before .before .before .before .before .before .args .t) ≡ 0
+passed : (c : tie.After-enum-told) → let m = machine (start-of c) in
+    admission (length (m .files)) (length (m .logs)) (length (m .marks)) (m .store) (start-of c .args .t) ≡ 0
 passed c = gate-passed _ _ (c .before .before .admit .ensures) (c .enum-told .given .1)
 
-let-through : (c : tie.After-enum-told) → LetThrough (machine (c .before .before .before .before .before .before)) (c .before .before .before .before .before .before .args .t) true
+let-through : (c : tie.After-enum-told) → LetThrough (machine (start-of c)) (start-of c .args .t) true
 let-through c = admitted-on _ _ _ _ _ (passed c)
 
 turned-down-requires-2 : tie.Need-turned-down-requires-2
@@ -60,7 +64,7 @@ returns-2 : tie.Need-returns-2
 unfolding number
 returns-2 c =
     let told = c .before .before in
-    let start = told .before .before .before .before .before .before in
+    let start = start-of told in
     let m = machine start in
     let e = seek-no-descriptor (start .args .t) (start .args .d) (start .args .v) m (passed told) (c .before .if1 .taken) in
     turned-meets _ NoSuchDescriptor [] m _ e (c .turned-down2 .ensures .0) (c .turned-down2 .ensures .1)
@@ -72,7 +76,7 @@ returns-3 : tie.Need-returns-3
 unfolding number
 returns-3 c =
     let told = c .before .before .before in
-    let start = told .before .before .before .before .before .before in
+    let start = start-of told in
     let m = machine start in
     let e = seek-past-end (start .args .t) (start .args .d) (start .args .v) m (passed told) (c .before .before .if1 .left) (c .before .if2 .taken) in
     turned-meets _ SeekPastEnd [] m _ e (c .turned-down3 .ensures .0) (c .turned-down3 .ensures .1)
@@ -95,14 +99,14 @@ cast-after-seek c = search needs
 after-seek-requires : tie.Need-after-seek-requires
 after-seek-requires c κs = search needs
 
-mul-t17 : tie.Need-mul-t17
-mul-t17 c = search needs
+mul-t22 : tie.Need-mul-t22
+mul-t22 c = search needs
 
 element-set-from-x : tie.Need-element-set-from-x
 element-set-from-x c = search needs
 
-mul-t17-2 : tie.Need-mul-t17-2
-mul-t17-2 c = omega (arith, let-through (c .before .before .before .before .before) .small)
+mul-t22-2 : tie.Need-mul-t22-2
+mul-t22-2 c = omega (arith, let-through (c .before .before .before .before .before) .small)
 
 element-set-from-s : tie.Need-element-set-from-s
 element-set-from-s c = let-through (c .before .before .before .before .before) .small
@@ -111,7 +115,7 @@ returns-4 : tie.Need-returns-4
 unfolding withTransaction
 returns-4 c =
     let told = c .before .before .before .before .before in
-    let start = told .before .before .before .before .before .before in
+    let start = start-of told in
     let m = machine start in
     let o = opened (m .store) (m .logs) (start .args .t) _ _ (shaped _ _ (start .good .0)) (let-through told) in
     rw (c .after-seek .ensures)
@@ -136,8 +140,8 @@ seek-spec =
     element-copy-out-q
     cast-after-seek
     after-seek-requires
-    mul-t17
+    mul-t22
     element-set-from-x
-    mul-t17-2
+    mul-t22-2
     element-set-from-s
     returns-4)

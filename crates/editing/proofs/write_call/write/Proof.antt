@@ -39,7 +39,7 @@ turned-down-requires c κs = search needs
 returns : tie.Need-returns
 unfolding call admitted bufferOf
 returns c =
-    let start = c .before .before .before .before .before .before .before .before .before in
+    let start = c .before .before .before .before .before .before .before .before .before .before .before .before .before .before .before .before in
     let m = machine start in
     let o = Op.write (start .args .d) (start .args .bytes .now) in
     let e = gate-refused _ _ (c .before .before .before .before .admit .ensures) _ (bufferOf o) m (stepTurn (start .args .t) o m) (c .before .before .g .given .1) in
@@ -50,7 +50,7 @@ enum-told c = search needs
 
 -- What the shared tests let through.
 abbrev start-of : tie.After-enum-told → tie.Start
-start-of c = c .before .before .before .before .before .before .before
+start-of c = c .before .before .before .before .before .before .before .before .before .before .before .before .before .before
 
 passed : (c : tie.After-enum-told) → let m = machine (start-of c) in
     admission (length (m .files)) (length (m .logs)) (length (m .marks)) (m .store) (start-of c .args .t) ≡ 0
@@ -180,14 +180,14 @@ appended-requires c κs = let r = room-of (c .before .before .before .before .be
 after-write-requires : tie.Need-after-write-requires
 after-write-requires c κs = room-of (c .before .before .before .before .before .before .before) .file
 
-mul-t25 : tie.Need-mul-t25
-mul-t25 c = search needs
+mul-t30 : tie.Need-mul-t30
+mul-t30 c = search needs
 
 element-set-from-x : tie.Need-element-set-from-x
 element-set-from-x c = search needs
 
-mul-t25-2 : tie.Need-mul-t25-2
-mul-t25-2 c = omega (arith, let-through (c .before .before .before .before .before .before .before .before .before .before .before .before .before .before .before .before .before .before) .small)
+mul-t30-2 : tie.Need-mul-t30-2
+mul-t30-2 c = omega (arith, let-through (c .before .before .before .before .before .before .before .before .before .before .before .before .before .before .before .before .before .before) .small)
 
 element-set-from-s : tie.Need-element-set-from-s
 element-set-from-s c = let-through (c .before .before .before .before .before .before .before .before .before .before .before .before .before .before .before .before .before .before) .small
@@ -247,9 +247,9 @@ write-spec =
     element-write-s-3
     appended-requires
     after-write-requires
-    mul-t25
+    mul-t30
     element-set-from-x
-    mul-t25-2
+    mul-t30-2
     element-set-from-s
     same-length
     returns-4)

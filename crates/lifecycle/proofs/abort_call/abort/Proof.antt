@@ -17,6 +17,10 @@ use Rattle.lifecycle.proofs.abort_call.abort.Tie as tie
 abbrev machine : tie.Start → Machine
 machine c = lent (c .args .t1) (c .args .files .now) (c .args .logs .now) (c .args .marks .now)
 
+-- The start of a call that the tests have let through.
+abbrev start-of : tie.After-enum-told → tie.Start
+start-of c = c .before .before .before .before .before .before .before .before .before .before .before .before .before
+
 admit-requires : tie.Need-admit-requires
 admit-requires c κs = search needs
 
@@ -29,7 +33,7 @@ turned-down-requires c κs = search needs
 returns : tie.Need-returns
 unfolding call admitted turnDown
 returns c =
-    let start = c .before .before .before .before .before .before .before .before in
+    let start = c .before .before .before .before .before .before .before .before .before .before .before .before .before .before .before in
     let m = machine start in
     let e = gate-refused _ _ (c .before .before .before .before .admit .ensures) _ [] m (abortTurn (start .args .t) m) (c .before .before .g .given .1) in
     turned-meets _ _ [] m _ e (c .turned-down .ensures .0) (c .turned-down .ensures .1)
@@ -38,7 +42,7 @@ enum-told : tie.Need-enum-told
 enum-told c = search needs
 
 -- What the tests let through.
-let-through : (c : tie.After-enum-told) → LetThrough (machine (c .before .before .before .before .before .before)) (c .before .before .before .before .before .before .args .t) true
+let-through : (c : tie.After-enum-told) → LetThrough (machine (start-of c)) (start-of c .args .t) true
 let-through c = admitted-on _ _ _ _ _ (gate-passed _ _ (c .before .before .admit .ensures) (c .enum-told .given .1))
 
 cast-unmark-all : tie.Need-cast-unmark-all
@@ -50,8 +54,8 @@ unmark-all-requires c κs = omega (arith, let-through (c .before) .small)
 ended-requires : tie.Need-ended-requires
 ended-requires c κs = search needs
 
-mul-t10 : tie.Need-mul-t10
-mul-t10 c = omega (arith, let-through (c .before .before .before .before .before) .small)
+mul-t15 : tie.Need-mul-t15
+mul-t15 c = omega (arith, let-through (c .before .before .before .before .before) .small)
 
 element-set-from-s : tie.Need-element-set-from-s
 element-set-from-s c = let-through (c .before .before .before .before .before) .small
@@ -63,7 +67,7 @@ returns-2 : tie.Need-returns-2
 unfolding call admitted abortTurn withTransaction
 returns-2 c =
     let told = c .before .before .before .before .before in
-    let start = told .before .before .before .before .before .before in
+    let start = start-of told in
     let m = machine start in
     let e = passing-on _ [] m (abortTurn (start .args .t) m) (gate-passed _ _ (told .before .before .admit .ensures) (told .enum-told .given .1)) in
     rw (c .ended .ensures) (reset-meets (start .args .t) ended m _ e _ _ refl (c .before .before .before .unmark-all .ensures))
@@ -80,7 +84,7 @@ abort-spec =
     cast-unmark-all
     unmark-all-requires
     ended-requires
-    mul-t10
+    mul-t15
     element-set-from-s
     same-length
     returns-2)

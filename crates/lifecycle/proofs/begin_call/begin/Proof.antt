@@ -17,6 +17,10 @@ use Rattle.lifecycle.proofs.begin_call.begin.Tie as tie
 abbrev machine : tie.Start → Machine
 machine c = lent (c .args .t1) (c .args .files .now) (c .args .logs .now) (c .args .marks .now)
 
+-- The start of a call that the tests have let through.
+abbrev start-of : tie.After-enum-told → tie.Start
+start-of c = c .before .before .before .before .before .before .before .before .before .before .before .before .before
+
 admit-begin-requires : tie.Need-admit-begin-requires
 admit-begin-requires c κs = search needs
 
@@ -29,7 +33,7 @@ turned-down-requires c κs = search needs
 returns : tie.Need-returns
 unfolding call turnDown
 returns c =
-    let start = c .before .before .before .before .before .before .before .before in
+    let start = c .before .before .before .before .before .before .before .before .before .before .before .before .before .before .before in
     let m = machine start in
     let e = gate-refused _ _ (c .before .before .before .before .admit-begin .ensures) _ [] m (beginTurn (start .args .t) m) (c .before .before .g .given .1) in
     turned-meets _ _ [] m _ e (c .turned-down .ensures .0) (c .turned-down .ensures .1)
@@ -38,7 +42,7 @@ enum-told : tie.Need-enum-told
 enum-told c = search needs
 
 -- What the tests let through.
-let-through : (c : tie.After-enum-told) → LetThrough (machine (c .before .before .before .before .before .before)) (c .before .before .before .before .before .before .args .t) false
+let-through : (c : tie.After-enum-told) → LetThrough (machine (start-of c)) (start-of c .args .t) false
 let-through c = admitted-begin _ _ _ _ _ (gate-passed _ _ (c .before .before .admit-begin .ensures) (c .enum-told .given .1))
 
 cast-unmark-all : tie.Need-cast-unmark-all
@@ -50,8 +54,8 @@ unmark-all-requires c κs = omega (arith, let-through (c .before) .small)
 begun-requires : tie.Need-begun-requires
 begun-requires c κs = search needs
 
-mul-t10 : tie.Need-mul-t10
-mul-t10 c = omega (arith, let-through (c .before .before .before .before .before) .small)
+mul-t15 : tie.Need-mul-t15
+mul-t15 c = omega (arith, let-through (c .before .before .before .before .before) .small)
 
 element-set-from-s : tie.Need-element-set-from-s
 element-set-from-s c = let-through (c .before .before .before .before .before) .small
@@ -63,7 +67,7 @@ returns-2 : tie.Need-returns-2
 unfolding call beginTurn withTransaction
 returns-2 c =
     let told = c .before .before .before .before .before in
-    let start = told .before .before .before .before .before .before in
+    let start = start-of told in
     let m = machine start in
     let e = passing-on _ [] m (beginTurn (start .args .t) m) (gate-passed _ _ (told .before .before .admit-begin .ensures) (told .enum-told .given .1)) in
     rw (c .begun .ensures) (reset-meets (start .args .t) begun m _ e _ _ refl (c .before .before .before .unmark-all .ensures))
@@ -80,7 +84,7 @@ begin-spec =
     cast-unmark-all
     unmark-all-requires
     begun-requires
-    mul-t10
+    mul-t15
     element-set-from-s
     same-length
     returns-2)

@@ -30,6 +30,9 @@ use Rattle.looking.proofs.pointer_call.get_file_pointer.Tie as tie
 abbrev machine : tie.Start → Machine
 machine c = lent (c .args .t1) (c .args .files .now) (c .args .logs .now) (c .args .marks .now)
 
+abbrev start-of : tie.After-admit → tie.Start
+start-of c = c .before .before .before .before .before .before .before .before .before .before .before
+
 admit-requires : tie.Need-admit-requires
 admit-requires c κs = search needs
 
@@ -42,25 +45,29 @@ turned-down-requires c κs = search needs
 returns : tie.Need-returns
 unfolding call admitted bufferOf
 returns c =
-    let start = c .before .before .before .before .before .before .before .before in
+    let gate = c .before .before .before .before in
+    let start = start-of gate in
     let m = machine start in
     let o = Op.getFilePointer (start .args .d) in
-    let e = gate-refused _ _ (c .before .before .before .before .admit .ensures) _ (bufferOf o) m (stepTurn (start .args .t) o m) (c .before .before .g .given .1) in
+    let e = gate-refused _ _ (gate .admit .ensures) _ (bufferOf o) m (stepTurn (start .args .t) o m) (c .before .before .g .given .1) in
     turned-meets _ _ (bufferOf o) m _ e (c .turned-down .ensures .0) (c .turned-down .ensures .1)
 
 enum-told : tie.Need-enum-told
 enum-told c = search needs
 
 -- What the tests let through.
-passed : (c : tie.After-enum-told) → let m = machine (c .before .before .before .before .before .before) in
-    admission (length (m .files)) (length (m .logs)) (length (m .marks)) (m .store) (c .before .before .before .before .before .before .args .t) ≡ 0
+abbrev first : tie.After-enum-told → tie.Start
+first c = start-of (c .before .before)
+
+passed : (c : tie.After-enum-told) → let m = machine (first c) in
+    admission (length (m .files)) (length (m .logs)) (length (m .marks)) (m .store) (first c .args .t) ≡ 0
 passed c = gate-passed _ _ (c .before .before .admit .ensures) (c .enum-told .given .1)
 
-let-through : (c : tie.After-enum-told) → LetThrough (machine (c .before .before .before .before .before .before)) (c .before .before .before .before .before .before .args .t) true
+let-through : (c : tie.After-enum-told) → LetThrough (machine (first c)) (first c .args .t) true
 let-through c = admitted-on _ _ _ _ _ (passed c)
 
-is-open : (c : tie.After-enum-told) → let m = machine (c .before .before .before .before .before .before) in Opened (m .store) (m .logs) (c .before .before .before .before .before .before .args .t)
-is-open c = opened _ _ _ _ _ (shaped _ _ (c .before .before .before .before .before .before .good .0)) (let-through c)
+is-open : (c : tie.After-enum-told) → Opened (first c .args .t1) (first c .args .logs .now) (first c .args .t)
+is-open c = opened _ _ _ _ _ (shaped _ _ (first c .good .0)) (let-through c)
 
 turned-down-requires-2 : tie.Need-turned-down-requires-2
 turned-down-requires-2 c κs = search needs
@@ -69,7 +76,7 @@ returns-2 : tie.Need-returns-2
 unfolding number
 returns-2 c =
     let told = c .before .before in
-    let start = told .before .before .before .before .before .before in
+    let start = first told in
     let m = machine start in
     let e = pointer-no-descriptor (start .args .t) (start .args .d) m (passed told) (c .before .if1 .taken) in
     turned-meets _ NoSuchDescriptor [] m _ e (c .turned-down2 .ensures .0) (c .turned-down2 .ensures .1)
@@ -96,44 +103,59 @@ turned-down-requires-3 : tie.Need-turned-down-requires-3
 turned-down-requires-3 c κs = search needs
 
 -- What settling answers.
-settles : (c : tie.After-settle) → let m = machine (c .before .before .before .before .before .before .before .before .before .before .before .before) in
-    c .settle .result
-    ≡ settlingOf (chosenByPointer (transaction (m .store) (c .before .before .before .before .before .before .before .before .before .before .before .before .args .t)) (c .before .before .before .before .before .before .before .before .before .before .before .before .args .d)) (m .store .offsets) (transaction (m .store) (c .before .before .before .before .before .before .before .before .before .before .before .before .args .t))
+abbrev low-of : tie.After-settle → tie.Else1
+low-of c = c .before .before .before .before .before
+
+abbrev told-of : tie.After-settle → tie.After-enum-told
+told-of c = low-of c .before
+
+settles : (c : tie.After-settle) → let a = first (told-of c) .args in
+    c .settle .result ≡ settlingOf (chosenByPointer (transaction (a .t1) (a .t)) (a .d)) (a .t1 .offsets) (transaction (a .t1) (a .t))
 settles c =
-    let m = machine (c .before .before .before .before .before .before .before .before .before .before .before .before) in
-    c .settle .ensures ∙ ap (λ (l : List Bool). settlingOf l (m .store .offsets) (transaction (m .store) (c .before .before .before .before .before .before .before .before .before .before .before .before .args .t))) (c .before .before .before .chosen-by-pointer .ensures)
+    let a = first (told-of c) .args in
+    c .settle .ensures ∙ ap (λ (l : List Bool). settlingOf l (a .t1 .offsets) (transaction (a .t1) (a .t))) (c .before .before .before .chosen-by-pointer .ensures)
 
 returns-3 : tie.Need-returns-3
 unfolding number
 returns-3 c =
-    let told = c .before .before .before .before .before .before .before .before .before in
-    let start = told .before .before .before .before .before .before in
+    let settle = c .before .before .before in
+    let told = told-of settle in
+    let start = first told in
     let m = machine start in
-    let past = verdict-past _ _ _ _ (settles (c .before .before .before)) (c .before .enum-told3 .given .1) in
-    let e = pointer-past (start .args .t) (start .args .d) m (passed told) (c .before .before .before .before .before .before .before .before .if1 .left) past in
+    let past = verdict-past _ _ _ _ (settles settle) (c .before .enum-told3 .given .1) in
+    let e = pointer-past (start .args .t) (start .args .d) m (passed told) (low-of settle .if1 .left) past in
     turned-meets _ SettledPastEnd [] m _ e (c .turned-down3 .ensures .0) (c .turned-down3 .ensures .1)
 
 wide-octet-requires : tie.Need-wide-octet-requires
 wide-octet-requires c κs = search needs
 
-placed-places-requires : tie.Need-placed-places-requires
-placed-places-requires c κs =
-    let told = c .before .before .before .before .before .before .before .before .before .before .before .before .before .before .before in
+-- The write records, counted.
+abbrev settle-of : tie.After-wide-octet → tie.After-settle
+settle-of c = c .before .before .before .before
+
+settle-places-requires : tie.Need-settle-places-requires
+settle-places-requires c κs =
+    let counted = c .before .before .before .before .before in
+    let told = told-of (settle-of counted) in
     let o = is-open told in
-    let e = c .before .before .before .before .before .wide-octet .ensures .0 in
-    (o .small, rw e (o .ranges .records), λ k h. let l : k < _ = rw e at h in (low-holder _ _ _ o k l, low-place _ _ _ o k l), in-range _ (let-through told .ranges) .offsets)
+    let e = counted .wide-octet .ensures .0 in
+    (o .small, rw e (o .ranges .records), o .shape .places, λ k h. let l : k < _ = rw e at h in (low-holder _ _ _ o k l, low-place _ _ _ o k l), in-range _ (let-through told .ranges) .offsets)
 
-placed-holders-requires : tie.Need-placed-holders-requires
-placed-holders-requires c κs =
-    let o = is-open (c .before .before .before .before .before .before .before .before .before .before .before .before .before .before .before .before) in
-    let e = c .before .before .before .before .before .before .wide-octet .ensures .0 in
-    (o .small, rw e (o .ranges .records), λ k h. low-holder _ _ _ o k (rw e at h))
+settle-holders-requires : tie.Need-settle-holders-requires
+settle-holders-requires c κs =
+    let counted = c .before .before .before .before .before .before .before in
+    let o = is-open (told-of (settle-of counted)) in
+    let e = counted .wide-octet .ensures .0 in
+    (o .small, rw e (o .ranges .records), o .shape .holders, λ k h. low-holder _ _ _ o k (rw e at h))
 
-mul-t22 : tie.Need-mul-t22
-mul-t22 c = omega (arith, let-through (c .before .before .before .before .before .before .before .before .before .before .before .before .before .before .before .before .before) .small)
+abbrev counted-of : tie.After-settle-holders → tie.After-wide-octet
+counted-of c = c .before .before .before .before .before .before .before .before
+
+mul-t27 : tie.Need-mul-t27
+mul-t27 c = omega (arith, let-through (told-of (settle-of (counted-of c))) .small)
 
 element-set-from-s : tie.Need-element-set-from-s
-element-set-from-s c = let-through (c .before .before .before .before .before .before .before .before .before .before .before .before .before .before .before .before .before) .small
+element-set-from-s c = let-through (told-of (settle-of (counted-of c))) .small
 
 mul-q : tie.Need-mul-q
 mul-q c = search needs
@@ -146,19 +168,21 @@ offset-of-requires c κs = search needs
 
 returns-4 : tie.Need-returns-4
 returns-4 c =
-    let told = c .before .before .before .before .before .before .before .before .before .before .before .before .before .before .before .before .before .before .before in
-    let start = told .before .before .before .before .before .before in
+    let placed = c .before .before in
+    let counted = counted-of placed in
+    let settle = settle-of counted in
+    let told = told-of settle in
+    let start = first told in
     let m = machine start in
-    let a = c .before .before .before .before .before .before .before .before .before .before .before .before .before in
-    let v = c .before .before .before .before .before .before .before .before .before .before .before .enum-told2 .given .1 in
-    let n = c .before .before .before .before .before .before .before .before .before .wide-octet .ensures .0 in
-    let e = c .before .before .before .before .before .before .before .before .before .before .before .before .before .before .before .before .chosen-by-pointer .ensures in
-    pointer-meets (start .args .t) (start .args .d) m (passed told) (is-open told) (c .before .before .before .before .before .before .before .before .before .before .before .before .before .before .before .before .before .before .if1 .left)
-    (verdict-settled _ _ _ _ (settles a) v)
-    (c .offset-of .result) (a .settle .result .transaction) (c .before .before .placed-holders .result) (c .before .before .before .placed-places .result)
-    (c .offset-of .ensures) (transaction-settled _ _ _ _ (settles a) v)
-    (c .before .before .placed-holders .ensures ∙ ap₂ (λ (l : List Bool) (k : ℕ). placedHolders l (m .store .holders) (start .args .t) k) e n)
-    (c .before .before .before .placed-places .ensures ∙ ap₂ (λ (l : List Bool) (k : ℕ). placedPlaces l (m .store .offsets) (m .store .holders) (m .store .places) (start .args .t) k) e n)
+    let v = counted .before .before .enum-told2 .given .1 in
+    let n = counted .wide-octet .ensures .0 in
+    let e = settle .before .before .before .chosen-by-pointer .ensures in
+    pointer-meets (start .args .t) (start .args .d) m (passed told) (is-open told) (low-of settle .if1 .left)
+    (verdict-settled _ _ _ _ (settles settle) v)
+    (c .offset-of .result) (settle .settle .result .transaction) _ _
+    (c .offset-of .ensures) (transaction-settled _ _ _ _ (settles settle) v)
+    (placed .settle-holders .ensures ∙ ap₂ (λ (l : List Bool) (k : ℕ). placedHolders l (m .store .holders) (start .args .t) k) e n)
+    (placed .before .before .settle-places .ensures ∙ ap₂ (λ (l : List Bool) (k : ℕ). placedPlaces l (m .store .offsets) (m .store .holders) (m .store .places) (start .args .t) k) e n)
 
 pub get-file-pointer-spec : {M : Type 1} → statement M
 get-file-pointer-spec =
@@ -180,9 +204,9 @@ get-file-pointer-spec =
     turned-down-requires-3
     returns-3
     wide-octet-requires
-    placed-places-requires
-    placed-holders-requires
-    mul-t22
+    settle-places-requires
+    settle-holders-requires
+    mul-t27
     element-set-from-s
     mul-q
     element-copy-out-q

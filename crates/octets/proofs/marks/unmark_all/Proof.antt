@@ -1,64 +1,70 @@
--- `octets::marks::unmark_all` meets its contract. The loop's invariant: the first i marks are changed. Assumes nothing.
-use mathlib.Core.Path.{_≡_, sym, ap, ap₂, _∙_}
-use mathlib.Core.List.{List}
+-- `octets::marks::unmark_all` meets its contract. The loop's invariant: the marks before `from` are changed. Assumes nothing.
+use mathlib.Core.Path.{_≡_, sym, ap, _∙_}
 use Prim.Native.Nat.{ℕ, _-_, _≤_}
-use native.Mathlib.Nat.{zero-add}
 use native.Mathlib.Omega.{arith}
-use lib.Bits.{bitAnd}
-use lib.ListN.{length, getD, set, length-set}
+use lib.ListN.{length}
 use Rattle.octets.specs.Bits.{withoutBit, changed}
-use Rattle.octets.proofs.BitLaws.{shift-one, changed-none, changed-more, changed-all}
+use Rattle.octets.proofs.BitLaws.{changed-none, changed-next, changed-all}
 use Rattle.octets.proofs.marks.unmark_all.Statement.{statement}
 use Rattle.octets.proofs.marks.unmark_all.Tie as tie
 
 abbrev Inv-loop : tie.InvT-loop
-Inv-loop marks₀ t mask i₀ marks i =
-    (i ≤ length marks₀) × ((marks ≡ changed (withoutBit t) 0 i marks₀) × (length marks ≡ length marks₀))
+Inv-loop marks₀ t from₀ marks from =
+    (from ≤ length marks₀) × ((marks ≡ changed (withoutBit t) 0 from marks₀) × (length marks ≡ length marks₀))
 
 abbrev μ-loop : tie.MeasureT-loop
-μ-loop marks₀ t mask i₀ marks i = length marks₀ - i
-
-shl-mask : tie.Need-shl-mask Inv-loop μ-loop
-shl-mask c = omega arith
+μ-loop marks₀ t from₀ marks from = length marks₀ - from
 
 loop-holds : tie.Need-loop-holds Inv-loop μ-loop
-loop-holds c = (omega arith, (sym (changed-none (withoutBit (c .args .t)) 0 (c .args .marks .now)), omega arith))
+loop-holds c =
+    let a = c .before .args in
+    (omega arith, (sym (changed-none (withoutBit (a .t)) 0 (a .marks .now)), omega arith))
 
-slice-read-marks : tie.Need-slice-read-marks Inv-loop μ-loop
-slice-read-marks c = omega arith
+sub-loop : tie.Need-sub-loop Inv-loop μ-loop
+sub-loop c = omega arith
 
-slice-write-marks : tie.Need-slice-write-marks Inv-loop μ-loop
-slice-write-marks c = omega arith
+unmark-requires : tie.Need-unmark-requires Inv-loop μ-loop
+unmark-requires c κs = omega arith
 
-add-i : tie.Need-add-i Inv-loop μ-loop
-add-i c = omega arith
+add-from : tie.Need-add-from Inv-loop μ-loop
+add-from c = omega arith
 
 loop-less : tie.Need-loop-less Inv-loop μ-loop
 loop-less c = omega arith
 
 loop-again : tie.Need-loop-again Inv-loop μ-loop
-unfolding withoutBit
 loop-again c =
-    let l = c .before .before .loop in
-    let a = c .before .before .before .args in
-    let i = l .i in (
+    let l = c .before .before .before .before .before .loop in
+    let a = c .before .before .before .before .before .before .before .args in
+    let f = withoutBit (a .t) in (
       omega arith,
       (
-        ap₂ (λ (d : List ℕ) (m : ℕ). set d i (bitAnd (getD d i 0) (255 - m))) (l .inv .1 .0) (shift-one (a .t) (omega arith))
-            ∙ ap (λ (k : ℕ). set (changed (withoutBit (a .t)) 0 i (a .marks .now)) k (withoutBit (a .t) (getD (changed (withoutBit (a .t)) 0 i (a .marks .now)) k 0))) (sym (zero-add i))
-            ∙ changed-more (withoutBit (a .t)) 0 i (a .marks .now) (omega arith),
-        simp length-set (omega arith),
+        c .before .before .unmark .ensures ∙ ap (changed f (l .from) 512) (l .inv .1 .0)
+            ∙ changed-next f (l .from) 512 (a .marks .now) (omega arith),
+        omega arith,
       ),
     )
+
+sub-unmark : tie.Need-sub-unmark Inv-loop μ-loop
+sub-unmark c = omega arith
+
+unmark-requires-2 : tie.Need-unmark-requires-2 Inv-loop μ-loop
+unmark-requires-2 c κs = omega arith
 
 same-length : tie.Need-same-length Inv-loop μ-loop
 same-length c = omega arith
 
 returns : tie.Need-returns Inv-loop μ-loop
 returns c =
-    let a = c .before .before .args in
-    c .before .loop .inv .1 .0 ∙ ap (λ (k : ℕ). changed (withoutBit (a .t)) 0 k (a .marks .now)) (omega arith)
-    ∙ changed-all (withoutBit (a .t)) (a .marks .now)
+    let l = c .before .before .before .before .before .loop in
+    let a = c .before .before .before .before .before .before .before .args in
+    let f = withoutBit (a .t) in
+    let xs = a .marks .now in
+    let n = length (l .marks) - l .from in
+    c .before .before .unmark2 .ensures ∙ ap (changed f (l .from) n) (l .inv .1 .0)
+    ∙ changed-next f (l .from) n xs (omega arith)
+    ∙ ap (λ (k : ℕ). changed f 0 k xs) (omega arith)
+    ∙ changed-all f xs
 
 pub unmark-all-spec : {M : Type 1} → statement M
 unmark-all-spec =
@@ -66,12 +72,13 @@ unmark-all-spec =
     (tie.spec
     Inv-loop
     μ-loop
-    shl-mask
     loop-holds
-    slice-read-marks
-    slice-write-marks
-    add-i
+    sub-loop
+    unmark-requires
+    add-from
     loop-less
     loop-again
+    sub-unmark
+    unmark-requires-2
     same-length
     returns)

@@ -215,6 +215,13 @@ fn table_of_ages(effort: &Effort) {
     let figure = format!("Begin, Write of 16 bytes, Commit: the last 100,000 of {} commits", rounds * 1000);
     let compared = format!("the first 100,000: {first:.0} ns (any 100,000: {least:.0} to {most:.0} ns)");
     row(&figure, &nanoseconds(last), &compared, last / first, "flat (≤ 1.1)", Some(last <= 1.1 * first));
+    // The quickest of some stretches: what else the machine does only adds to a stretch.
+    let some = windows.len().div_ceil(10);
+    let quickest = |part: &[f64]| part.iter().copied().fold(f64::MAX, f64::min);
+    let (first, last) = (quickest(&windows[..some]), quickest(&windows[windows.len() - some..]));
+    let figure = format!("The same: the quickest 100,000 of the last {some} stretches");
+    let compared = format!("the quickest of the first {some} stretches: {first:.0} ns");
+    row(&figure, &nanoseconds(last), &compared, last / first, "flat (≤ 1.1)", Some(last <= 1.1 * first));
 }
 
 /// One case alone, for a profiler.

@@ -2,7 +2,7 @@
 //! h' = (65521 h + n + 1) mod (2^48 - 59), for n up to 65,535. Nothing in it goes past 64 bits.
 
 use crate::call::{Answer, Outcome};
-use crate::store::{Standing, Store};
+use crate::store::{Place, Standing, Store, Transaction, WriteRecord};
 
 const FACTOR: u64 = 65521;
 const MODULUS: u64 = 281_474_976_710_597;
@@ -39,27 +39,33 @@ impl Digest {
         self.take(number);
         self.take_all(buffer);
     }
+
+    /// Takes in a transaction: begun and stale (0 or 1), records used, bytes used, three numbers for each descriptor, then
+    /// four for each of its write records.
+    fn take_transaction(&mut self, transaction: &Transaction) {
+        let log = &transaction.log;
+        self.take(transaction.begun);
+        self.take(transaction.stale);
+        self.take(log.records.len() as u64);
+        self.take(log.bytes);
+        for &standing in &transaction.standings {
+            self.take_all(&standing_numbers(standing));
+        }
+        for &record in &log.records {
+            self.take_all(&record_numbers(record));
+        }
+    }
 }
 
-/// The digest of a state, field by field: the descriptors' files; the committed offsets; for each transaction begun and
-/// stale (0 or 1), records used, bytes used, and for each descriptor three numbers; then all holders, all places, all
-/// lengths; then the bytes of files, logs and marks. Every number is taken in whole.
+/// The digest of a state, by what it means: the descriptors' files; the committed offsets; each transaction; the bytes of
+/// files, logs and marks. Every number is taken in whole.
 pub fn of_state(store: &Store, files: &[u8], logs: &[u8], marks: &[u8]) -> u64 {
     let mut digest = Digest::default();
     digest.take_all(&store.files);
     digest.take_all(&store.offsets);
     for transaction in &store.transactions {
-        digest.take(transaction.begun);
-        digest.take(transaction.stale);
-        digest.take(transaction.used.records);
-        digest.take(transaction.used.bytes);
-        for descriptor in &transaction.descriptors {
-            digest.take_all(&standing_numbers(descriptor.standing));
-        }
+        digest.take_transaction(transaction);
     }
-    digest.take_all(&store.holders);
-    digest.take_all(&store.places);
-    digest.take_all(&store.lengths);
     digest.take_all(files);
     digest.take_all(logs);
     digest.take_all(marks);
@@ -74,5 +80,25 @@ fn standing_numbers(standing: Standing) -> [u16; 3] {
         Standing::Deferred(advance) => [2, advance, 0],
         Standing::Moved { advance, offset } => [3, advance, offset],
         Standing::Known(offset) => [4, 0, offset],
+    }
+}
+
+/// The descriptor, 1 where the record has a place and 0 where not, the place or the advance before it, the length.
+fn record_numbers(record: WriteRecord) -> [u16; 4] {
+    let (placed, number) = match record.place {
+        Place::At(place) => (1, place),
+        Place::After(advance) => (0, advance),
+    };
+    [u16::from(record.descriptor), placed, number, record.length]
+}
+
+#[cfg(test)]
+mod tests {
+    use crate::pair::Pair;
+
+    #[test]
+    fn the_digest_at_the_start() {
+        let state = Pair::new().state;
+        assert_eq!(super::of_state(&state.store, &state.files, &state.logs, &state.marks), 112320193380514);
     }
 }

@@ -8,6 +8,7 @@ pub mod generator;
 pub mod pair;
 pub mod plain;
 pub mod store;
+pub mod vectors;
 
 #[cfg(test)]
 mod situations;

@@ -1,7 +1,8 @@
 //! Runs the generator's calls on store and plain machine side by side.
 //!
 //! `twin N` makes N calls (300,000 if left out) and prints a line after every thousand. `twin --stats N` prints how often
-//! each outcome was met instead. A disagreement ends the program with a panic that names the call.
+//! each outcome was met instead. A disagreement ends the program with a panic that names the call. `twin --vectors FILE..`
+//! makes the calls of lists instead (see vectors.rs), and says of each file whether all replies agree.
 
 use std::io::{self, Write};
 use std::process::ExitCode;
@@ -10,6 +11,7 @@ use twin::call::{Action, Call, Step};
 use twin::digest::{self, Digest};
 use twin::generator::{self, Generator, Request};
 use twin::pair::{Pair, Tally};
+use twin::vectors;
 
 const CALLS: u64 = 300_000;
 const LINE_EVERY: u64 = 1000;
@@ -18,6 +20,8 @@ const SIGHTINGS_EVERY: u64 = 100;
 struct Options {
     stats: bool,
     calls: u64,
+    /// Files of lists to run instead of the stream.
+    vectors: Option<Vec<String>>,
 }
 
 /// Says at which call it was that the program panicked.
@@ -33,11 +37,16 @@ impl Drop for CallNumber {
 
 fn main() -> ExitCode {
     let Some(options) = options() else {
-        eprintln!("usage: twin [--stats] [N]");
+        eprintln!("usage: twin [--stats] [N] | twin --vectors FILE..");
         return ExitCode::from(2);
     };
-    match run(&options) {
-        Ok(()) => ExitCode::SUCCESS,
+    let ended = match &options.vectors {
+        Some(files) => run_vectors(files),
+        None => run(&options).map(|()| true),
+    };
+    match ended {
+        Ok(true) => ExitCode::SUCCESS,
+        Ok(false) => ExitCode::FAILURE,
         Err(error) => {
             eprintln!("twin: {error}");
             ExitCode::FAILURE
@@ -46,15 +55,32 @@ fn main() -> ExitCode {
 }
 
 fn options() -> Option<Options> {
-    let mut options = Options { stats: false, calls: CALLS };
-    for argument in std::env::args().skip(1) {
-        if argument == "--stats" {
-            options.stats = true;
-        } else {
-            options.calls = argument.parse().ok()?;
+    let mut options = Options { stats: false, calls: CALLS, vectors: None };
+    let mut arguments = std::env::args().skip(1);
+    while let Some(argument) = arguments.next() {
+        match argument.as_str() {
+            "--stats" => options.stats = true,
+            "--vectors" => options.vectors = Some(arguments.by_ref().collect()),
+            calls => options.calls = calls.parse().ok()?,
         }
     }
-    Some(options)
+    let no_file = options.vectors.as_ref().is_some_and(|files| files.is_empty());
+    (!no_file).then_some(options)
+}
+
+/// Says of each file how many lists it has and where they disagree. Do all agree?
+fn run_vectors(files: &[String]) -> io::Result<bool> {
+    let mut agree = true;
+    for file in files {
+        let report = vectors::run(&std::fs::read_to_string(file)?);
+        let good = report.lists - report.disagreements.len();
+        println!("{file}: {} calls, {good} of {} lists agree", report.calls, report.lists);
+        for disagreement in &report.disagreements {
+            println!("  {disagreement}");
+        }
+        agree = agree && report.disagreements.is_empty();
+    }
+    Ok(agree)
 }
 
 fn run(options: &Options) -> io::Result<()> {

@@ -3,8 +3,8 @@
 use crate::call::{Action, Answer, Call, Outcome, Refusal, Reply, Step};
 use crate::forge::{forge, garbage_in_closed, garbage_in_record};
 use crate::generator::Damage;
-use crate::plain::{self, Committed, Course, Item, Machine, Place};
-use crate::store::{Lent, Standing, Store, Transaction, BUFFER, DESCRIPTORS, RECORDS, SPAN, TRANSACTIONS, UNPLACED};
+use crate::plain::{self, Committed, Course, Item, Machine};
+use crate::store::{self, Lent, Standing, Store, Transaction, BUFFER, DESCRIPTORS, SPAN, TRANSACTIONS};
 
 /// The store's record with its three buffers.
 #[derive(Clone, PartialEq, Eq)]
@@ -225,7 +225,7 @@ impl Pair {
 
     fn expect_log_bytes(&mut self, call: &Call) {
         if let Call::Step(t, Step { action: Action::Write { data }, .. }) = call {
-            let start = SPAN * t + usize::from(self.state.store.transactions[*t].used.bytes);
+            let start = SPAN * t + usize::from(self.state.store.transactions[*t].log.bytes);
             self.expected_logs[start..start + data.len()].copy_from_slice(data);
         }
     }
@@ -277,30 +277,12 @@ impl Pair {
     fn check_open(&self, t: usize, course: &Course) {
         let transaction = &self.state.store.transactions[t];
         assert!(transaction.begun, "transaction {t} is open");
-        for d in 0..DESCRIPTORS {
-            let standing = transaction.descriptors[d].standing;
-            assert_eq!(standing, store_standing(course.standings[d]), "transaction {t}, descriptor {d}");
-        }
-        assert_eq!(usize::from(transaction.used.records), course.writes.len(), "records of transaction {t}");
-        let mut data = 0;
-        for (k, write) in course.writes.iter().enumerate() {
-            self.check_write(RECORDS * t + k, SPAN * t + data, write);
-            data += write.data.len();
-        }
-        assert_eq!(usize::from(transaction.used.bytes), data, "data bytes of transaction {t}");
-    }
-
-    /// Record `k` and its data in the log from `data` on.
-    fn check_write(&self, k: usize, data: usize, write: &plain::Write) {
-        let State { store, logs, .. } = &self.state;
-        let (added, place) = match write.place {
-            Place::At(place) => (0, place),
-            Place::After(advance) => (UNPLACED, advance),
-        };
-        assert_eq!(store.holders[k], write.descriptor as u8 + added, "holder of record {k}");
-        assert_eq!(usize::from(store.places[k]), place, "place of record {k}");
-        assert_eq!(usize::from(store.lengths[k]), write.data.len(), "length of record {k}");
-        assert!(logs[data..data + write.data.len()] == write.data[..], "data of record {k}");
+        assert_eq!(transaction.standings, course.standings.map(store_standing), "standings of transaction {t}");
+        let records: Vec<_> = course.writes.iter().map(store_record).collect();
+        assert_eq!(transaction.log.records, records, "write records of transaction {t}");
+        let data = course.writes.iter().flat_map(|write| &write.data);
+        let logged = &self.state.logs[SPAN * t..][..usize::from(transaction.log.bytes)];
+        assert!(logged.iter().eq(data), "data bytes of transaction {t}");
     }
 
     // What is looked at now and then.
@@ -319,7 +301,7 @@ impl Pair {
                     Item::Byte { file, place } => marks[SPAN * file + place] |= 1 << t,
                 }
             }
-            let is_known = record.descriptors.map(|descriptor| matches!(descriptor.standing, Standing::Known(_)));
+            let is_known = record.standings.map(|standing| matches!(standing, Standing::Known(_)));
             assert_eq!(is_known, known, "transaction {t}, sighted offsets");
             assert_eq!(record.stale, self.machine.is_stale(t), "staleness of transaction {t}");
         }
@@ -343,7 +325,7 @@ impl Pair {
         assert!(files == self.state.files && offsets == self.state.store.offsets, "serial order: the store's end");
     }
 
-    fn check_at_rest(&self) {
+    pub fn check_at_rest(&self) {
         self.check_sightings();
         self.check_serial_order();
     }
@@ -371,4 +353,13 @@ fn store_standing(standing: plain::Standing) -> Standing {
         }
         plain::Standing::Known { offset } => Standing::Known(offset as u16),
     }
+}
+
+/// A write of the machine as the record holds it.
+fn store_record(write: &plain::Write) -> store::WriteRecord {
+    let place = match write.place {
+        plain::Place::At(place) => store::Place::At(place as u16),
+        plain::Place::After(advance) => store::Place::After(advance as u16),
+    };
+    store::WriteRecord { descriptor: write.descriptor as u8, place, length: write.data.len() as u16 }
 }

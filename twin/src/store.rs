@@ -14,8 +14,6 @@ pub const SPAN: usize = 4096;
 pub const RECORDS: usize = 64;
 /// The length of each of the three store buffers.
 pub const BUFFER: usize = 32768;
-/// Added to a record's holder while the record has no place.
-pub const UNPLACED: u8 = 16;
 
 const SPAN_16: u16 = SPAN as u16;
 
@@ -29,36 +27,43 @@ pub enum Standing {
     Known(u16),
 }
 
+/// Where a write lies: at a place of its file or, while that is unknown, so far after the committed offset.
 #[derive(Clone, Copy, Debug, PartialEq, Eq)]
-pub struct Descriptor {
-    pub standing: Standing,
+pub enum Place {
+    At(u16),
+    After(u16),
 }
 
-/// The two counters of a log.
+/// A write of a transaction. Its bytes lie in the log buffer, after those of the writes before it.
 #[derive(Clone, Copy, Debug, PartialEq, Eq)]
-pub struct Used {
-    pub records: u8,
+pub struct WriteRecord {
+    pub descriptor: u8,
+    pub place: Place,
+    pub length: u16,
+}
+
+/// A log: the write records in call order, and how many data bytes they have used.
+#[derive(Clone, Debug, PartialEq, Eq)]
+pub struct Log {
+    pub records: Vec<WriteRecord>,
     pub bytes: u16,
 }
 
-#[derive(Clone, Copy, Debug, PartialEq, Eq)]
+#[derive(Clone, Debug, PartialEq, Eq)]
 pub struct Transaction {
     pub begun: bool,
     pub stale: bool,
-    pub used: Used,
-    pub descriptors: [Descriptor; DESCRIPTORS],
+    pub log: Log,
+    /// By descriptor.
+    pub standings: [Standing; DESCRIPTORS],
 }
 
-/// The record. Write record k of transaction t stands at 64 t + k of the last three arrays: its holder (the descriptor,
-/// plus 16 while the record has no place), its place (or the advance before it, while it has none) and its length.
+/// The record: the file and the committed offset of each descriptor, and the transactions.
 #[derive(Clone, Debug, PartialEq, Eq)]
 pub struct Store {
     pub files: [u8; DESCRIPTORS],
     pub offsets: [u16; DESCRIPTORS],
     pub transactions: [Transaction; TRANSACTIONS],
-    pub holders: [u8; RECORDS * TRANSACTIONS],
-    pub places: [u16; RECORDS * TRANSACTIONS],
-    pub lengths: [u16; RECORDS * TRANSACTIONS],
 }
 
 /// The store buffers, as lent to a call.
@@ -110,6 +115,15 @@ impl Standing {
         }
     }
 
+    /// Where a write through the descriptor lies.
+    fn write_place(self) -> Place {
+        match self {
+            Standing::Untouched => Place::After(0),
+            Standing::Deferred(advance) => Place::After(advance),
+            Standing::Placed(offset) | Standing::Moved { offset, .. } | Standing::Known(offset) => Place::At(offset),
+        }
+    }
+
     fn settled(self, committed: u16) -> Standing {
         match self {
             Standing::Untouched => Standing::Known(committed),
@@ -121,33 +135,79 @@ impl Standing {
     }
 }
 
-impl Used {
-    /// Takes up one record of `length` bytes and says where its data starts; refuses where the log is full.
-    fn append(&mut self, length: usize) -> Result<usize, Refusal> {
-        if usize::from(self.records) >= RECORDS {
+impl WriteRecord {
+    /// Where it ends: a place or an advance.
+    fn end(&self) -> u32 {
+        let (Place::At(start) | Place::After(start)) = self.place;
+        u32::from(start) + u32::from(self.length)
+    }
+
+    /// Is it in range, given how its transaction's descriptors stand?
+    fn in_range(&self, standings: &[Standing; DESCRIPTORS]) -> bool {
+        let Some(standing) = standings.get(usize::from(self.descriptor)) else {
+            return false;
+        };
+        let limit = match self.place {
+            Place::At(_) => Some(SPAN_16),
+            Place::After(_) => standing.waiting(),
+        };
+        limit.is_some_and(|limit| self.end() <= u32::from(limit))
+    }
+}
+
+impl Log {
+    const EMPTY: Log = Log { records: Vec::new(), bytes: 0 };
+
+    /// Takes up a record and says where its data starts; refuses where the log is full.
+    fn append(&mut self, record: WriteRecord) -> Result<usize, Refusal> {
+        if self.records.len() >= RECORDS {
             return Err(Refusal::RecordsFull);
         }
-        let start = usize::from(self.bytes);
-        if length > SPAN - start {
+        if record.length > SPAN_16 - self.bytes {
             return Err(Refusal::LogFull);
         }
-        self.records += 1;
-        self.bytes += length as u16;
+        let start = usize::from(self.bytes);
+        self.records.push(record);
+        self.bytes += record.length;
         Ok(start)
+    }
+
+    fn in_range(&self, standings: &[Standing; DESCRIPTORS]) -> bool {
+        if self.records.len() > RECORDS || self.bytes > SPAN_16 {
+            return false;
+        }
+        let mut bytes = 0;
+        for record in &self.records {
+            if !record.in_range(standings) {
+                return false;
+            }
+            bytes += u32::from(record.length);
+        }
+        bytes == u32::from(self.bytes)
     }
 }
 
 impl Transaction {
-    pub const ENDED: Transaction = Transaction {
-        begun: false,
-        stale: false,
-        used: Used { records: 0, bytes: 0 },
-        descriptors: [Descriptor { standing: Standing::Untouched }; DESCRIPTORS],
-    };
+    /// One that has ended, or never began.
+    pub const ENDED: Transaction =
+        Transaction { begun: false, stale: false, log: Log::EMPTY, standings: [Standing::Untouched; DESCRIPTORS] };
+
+    /// Leaves an empty log, sixteen Untouched descriptors, and not stale.
+    fn reset(&mut self, begun: bool) {
+        self.begun = begun;
+        self.stale = false;
+        self.log.records.clear();
+        self.log.bytes = 0;
+        self.standings = [Standing::Untouched; DESCRIPTORS];
+    }
+
+    fn in_range(&self) -> bool {
+        self.standings.iter().all(|standing| standing.in_range()) && self.log.in_range(&self.standings)
+    }
 
     /// Has it sighted one of these offsets (a bit for each descriptor)?
     fn knows_any(&self, offsets: u16) -> bool {
-        let known = |d: usize| matches!(self.descriptors[d].standing, Standing::Known(_));
+        let known = |d: usize| matches!(self.standings[d], Standing::Known(_));
         (0..DESCRIPTORS).any(|d| offsets >> d & 1 == 1 && known(d))
     }
 }
@@ -166,14 +226,7 @@ impl Lent<'_> {
 impl Store {
     /// The record that Fresh makes.
     pub fn new(files: [u8; DESCRIPTORS]) -> Store {
-        Store {
-            files,
-            offsets: [0; DESCRIPTORS],
-            transactions: [Transaction::ENDED; TRANSACTIONS],
-            holders: [0; RECORDS * TRANSACTIONS],
-            places: [0; RECORDS * TRANSACTIONS],
-            lengths: [0; RECORDS * TRANSACTIONS],
-        }
+        Store { files, offsets: [0; DESCRIPTORS], transactions: [Transaction::ENDED; TRANSACTIONS] }
     }
 
     pub fn fresh(&mut self, lent: &mut Lent, files: &[u8]) -> Result<(), Refusal> {
@@ -193,7 +246,7 @@ impl Store {
         if self.transactions[t].begun {
             return Err(Refusal::AlreadyOpen);
         }
-        self.transactions[t] = Transaction { begun: true, ..Transaction::ENDED };
+        self.transactions[t].reset(true);
         clear_marks(lent.marks, t);
         Ok(())
     }
@@ -203,7 +256,7 @@ impl Store {
         if to > SPAN {
             return Err(Refusal::SeekPastEnd);
         }
-        let standing = &mut self.transactions[t].descriptors[d].standing;
+        let standing = &mut self.transactions[t].standings[d];
         *standing = standing.after_seek(to as u16);
         Ok(())
     }
@@ -211,28 +264,23 @@ impl Store {
     pub fn write(&mut self, lent: &mut Lent, t: usize, d: usize, data: &[u8]) -> Result<(), Refusal> {
         self.check_descriptor(lent, t, d)?;
         let transaction = &mut self.transactions[t];
-        let standing = transaction.descriptors[d].standing;
-        let (holder, place) = match standing {
-            Standing::Untouched => (d as u8 + UNPLACED, 0),
-            Standing::Deferred(advance) => (d as u8 + UNPLACED, advance),
-            Standing::Placed(offset) | Standing::Moved { offset, .. } | Standing::Known(offset) => (d as u8, offset),
-        };
-        if data.len() > SPAN - usize::from(place) {
+        let standing = &mut transaction.standings[d];
+        let place = standing.write_place();
+        let (Place::At(start) | Place::After(start)) = place;
+        if data.len() > SPAN - usize::from(start) {
             return Err(Refusal::WritePastEnd);
         }
-        let slot = RECORDS * t + usize::from(transaction.used.records);
-        let start = SPAN * t + transaction.used.append(data.len())?;
-        transaction.descriptors[d].standing = standing.after_bytes(data.len() as u16);
-        self.holders[slot] = holder;
-        self.places[slot] = place;
-        self.lengths[slot] = data.len() as u16;
+        let length = data.len() as u16;
+        let record = WriteRecord { descriptor: d as u8, place, length };
+        let start = SPAN * t + transaction.log.append(record)?;
+        *standing = standing.after_bytes(length);
         lent.logs[start..start + data.len()].copy_from_slice(data);
         Ok(())
     }
 
     pub fn get_file_pointer(&mut self, lent: &mut Lent, t: usize, d: usize) -> Result<u16, Refusal> {
         self.check_descriptor(lent, t, d)?;
-        match self.transactions[t].descriptors[d].standing {
+        match self.transactions[t].standings[d] {
             Standing::Placed(offset) | Standing::Moved { offset, .. } | Standing::Known(offset) => Ok(offset),
             Standing::Untouched | Standing::Deferred(_) => {
                 self.settle(t, 1 << d)?;
@@ -258,7 +306,7 @@ impl Store {
         let start = usize::from(self.offset(t, d));
         let given = count.min(SPAN - start);
         self.fetch(lent, t, usize::from(self.files[d]), start, &mut reader[..given]);
-        let standing = &mut self.transactions[t].descriptors[d].standing;
+        let standing = &mut self.transactions[t].standings[d];
         *standing = standing.after_bytes(given as u16);
         Ok(given as u16)
     }
@@ -316,36 +364,14 @@ impl Store {
     fn in_range(&self) -> bool {
         self.files.iter().all(|&file| usize::from(file) < FILES)
             && self.offsets.iter().all(|&offset| offset <= SPAN_16)
-            && (0..TRANSACTIONS).all(|t| !self.transactions[t].begun || self.transaction_in_range(t))
-    }
-
-    fn transaction_in_range(&self, t: usize) -> bool {
-        let transaction = &self.transactions[t];
-        let records = usize::from(transaction.used.records);
-        if records > RECORDS || transaction.used.bytes > SPAN_16 {
-            return false;
-        }
-        if !transaction.descriptors.iter().all(|descriptor| descriptor.standing.in_range()) {
-            return false;
-        }
-        let part = RECORDS * t..RECORDS * t + records;
-        let numbers = self.holders[part.clone()].iter().zip(&self.places[part.clone()]).zip(&self.lengths[part]);
-        let mut bytes = 0;
-        for ((&holder, &place), &length) in numbers {
-            let end = u32::from(place) + u32::from(length);
-            if !record_in_range(&transaction.descriptors, holder, end) {
-                return false;
-            }
-            bytes += u32::from(length);
-        }
-        bytes == u32::from(transaction.used.bytes)
+            && self.transactions.iter().all(|transaction| !transaction.begun || transaction.in_range())
     }
 
     // Settling.
 
     /// The offset of a descriptor whose standing carries one; a descriptor just settled has it.
     fn offset(&self, t: usize, d: usize) -> u16 {
-        match self.transactions[t].descriptors[d].standing {
+        match self.transactions[t].standings[d] {
             Standing::Placed(offset) | Standing::Moved { offset, .. } | Standing::Known(offset) => offset,
             Standing::Untouched | Standing::Deferred(_) => unreachable!("the descriptor carries an offset"),
         }
@@ -354,10 +380,9 @@ impl Store {
     /// The descriptors (a bit for each) that a Read through `d` settles.
     fn settled_by_read(&self, t: usize, d: usize) -> u16 {
         let mut chosen = 0;
-        for (other, descriptor) in self.transactions[t].descriptors.iter().enumerate() {
-            let standing = descriptor.standing;
+        for (other, standing) in self.transactions[t].standings.iter().enumerate() {
             let waits = self.files[other] == self.files[d] && standing.waiting().is_some();
-            if waits || (other == d && standing == Standing::Untouched) {
+            if waits || (other == d && *standing == Standing::Untouched) {
                 chosen |= 1 << other;
             }
         }
@@ -366,8 +391,8 @@ impl Store {
 
     /// Would each of the chosen descriptors find room for its advance after its committed offset?
     fn check_settling(&self, t: usize, chosen: u16) -> Result<(), Refusal> {
-        for (d, descriptor) in self.transactions[t].descriptors.iter().enumerate() {
-            let advance = descriptor.standing.waiting().unwrap_or(0);
+        for (d, standing) in self.transactions[t].standings.iter().enumerate() {
+            let advance = standing.waiting().unwrap_or(0);
             if chosen >> d & 1 == 1 && self.offsets[d] + advance > SPAN_16 {
                 return Err(Refusal::SettledPastEnd);
             }
@@ -382,16 +407,16 @@ impl Store {
         }
         self.check_settling(t, chosen)?;
         let transaction = &mut self.transactions[t];
-        for (d, descriptor) in transaction.descriptors.iter_mut().enumerate() {
+        for (d, standing) in transaction.standings.iter_mut().enumerate() {
             if chosen >> d & 1 == 1 {
-                descriptor.standing = descriptor.standing.settled(self.offsets[d]);
+                *standing = standing.settled(self.offsets[d]);
             }
         }
-        let part = RECORDS * t..RECORDS * t + usize::from(transaction.used.records);
-        for (holder, place) in self.holders[part.clone()].iter_mut().zip(&mut self.places[part]) {
-            if *holder >= UNPLACED && chosen >> (*holder - UNPLACED) & 1 == 1 {
-                *holder -= UNPLACED;
-                *place += self.offsets[usize::from(*holder)];
+        for record in &mut transaction.log.records {
+            if let Place::After(advance) = record.place {
+                if chosen >> record.descriptor & 1 == 1 {
+                    record.place = Place::At(self.offsets[usize::from(record.descriptor)] + advance);
+                }
             }
         }
         Ok(())
@@ -421,16 +446,19 @@ impl Store {
 
     /// The longest stretch from `place` on, up to `end`, that one record or else the file supplies.
     fn run(&self, t: usize, file: usize, place: usize, end: usize) -> Run {
-        let used = self.transactions[t].used;
+        let log = &self.transactions[t].log;
         let mut limit = end;
-        let mut data = usize::from(used.bytes);
-        for k in (RECORDS * t..RECORDS * t + usize::from(used.records)).rev() {
-            let length = usize::from(self.lengths[k]);
+        let mut data = usize::from(log.bytes);
+        for record in log.records.iter().rev() {
+            let length = usize::from(record.length);
             data -= length;
-            if length == 0 || usize::from(self.files[usize::from(self.holders[k] % UNPLACED)]) != file {
+            if length == 0 || usize::from(self.files[usize::from(record.descriptor)]) != file {
                 continue;
             }
-            let start = usize::from(self.places[k]);
+            let Place::At(start) = record.place else {
+                unreachable!("a write on the file read has no place");
+            };
+            let start = usize::from(start);
             if start > place {
                 limit = limit.min(start);
             } else if place < start + length {
@@ -446,11 +474,14 @@ impl Store {
     fn land(&self, lent: &mut Lent, t: usize) -> u8 {
         let mut sighters = 0;
         let mut data = SPAN * t;
-        for k in RECORDS * t..RECORDS * t + usize::from(self.transactions[t].used.records) {
-            let d = usize::from(self.holders[k] % UNPLACED);
-            let base = if self.holders[k] >= UNPLACED { self.offsets[d] } else { 0 };
-            let length = usize::from(self.lengths[k]);
-            let start = SPAN * usize::from(self.files[d]) + usize::from(base + self.places[k]);
+        for record in &self.transactions[t].log.records {
+            let d = usize::from(record.descriptor);
+            let place = match record.place {
+                Place::At(place) => place,
+                Place::After(advance) => self.offsets[d] + advance,
+            };
+            let length = usize::from(record.length);
+            let start = SPAN * usize::from(self.files[d]) + usize::from(place);
             lent.files[start..start + length].copy_from_slice(&lent.logs[data..data + length]);
             sighters |= lent.marks[start..start + length].iter().fold(0, |all, mark| all | mark);
             data += length;
@@ -461,8 +492,8 @@ impl Store {
     /// Sets the committed offsets and answers which were set (a bit for each descriptor).
     fn set_offsets(&mut self, t: usize) -> u16 {
         let mut set = 0;
-        for (d, descriptor) in self.transactions[t].descriptors.iter().enumerate() {
-            match descriptor.standing {
+        for (d, standing) in self.transactions[t].standings.iter().enumerate() {
+            match *standing {
                 Standing::Untouched => continue,
                 Standing::Deferred(advance) => self.offsets[d] += advance,
                 Standing::Placed(offset) | Standing::Moved { offset, .. } | Standing::Known(offset) => {
@@ -475,7 +506,7 @@ impl Store {
     }
 
     fn end(&mut self, lent: &mut Lent, t: usize) {
-        self.transactions[t] = Transaction::ENDED;
+        self.transactions[t].reset(false);
         clear_marks(lent.marks, t);
     }
 
@@ -492,18 +523,6 @@ impl Store {
         }
         count
     }
-}
-
-/// The ranges of one write record that ends at `end` (a place or an advance).
-fn record_in_range(descriptors: &[Descriptor; DESCRIPTORS], holder: u8, end: u32) -> bool {
-    if end > SPAN as u32 || holder >= 2 * UNPLACED {
-        return false;
-    }
-    if holder < UNPLACED {
-        return true;
-    }
-    let waiting = descriptors[usize::from(holder - UNPLACED)].standing.waiting();
-    waiting.is_some_and(|advance| end <= u32::from(advance))
 }
 
 fn clear_marks(marks: &mut [u8], t: usize) {

@@ -3,6 +3,7 @@
 mod loops;
 mod script;
 
+use record::journal::NUMBERS;
 use script::Passed;
 
 // Runs the script `setup` once and then `body` so many rounds. The processor time in microseconds before each round goes to `stamps`, as
@@ -20,22 +21,44 @@ pub extern "C" fn bench_calls_run(
     stamps: &mut [i64],
     rounds: usize,
 ) -> u64 {
+    let mut journal = [0u16; NUMBERS];
     let first = Passed {
-        store: script::blank(),
+        store: record::blank(),
         sum: 0,
     };
-    let mut p = script::pass(first, files, logs, marks, setup, data, reader, said);
+    let mut p = script::pass(
+        first,
+        &mut journal,
+        files,
+        logs,
+        marks,
+        setup,
+        data,
+        reader,
+        said,
+    );
     let mut left = rounds;
     while 0 < left {
         script::stamp(stamps, rounds - left);
         left -= 1;
-        p = script::pass(p, files, logs, marks, body, data, reader, said);
+        p = script::pass(
+            p,
+            &mut journal,
+            files,
+            logs,
+            marks,
+            body,
+            data,
+            reader,
+            said,
+        );
     }
     p.sum
 }
 
 // The record after `setup`.
 fn prepared(
+    journal: &mut [u16; NUMBERS],
     files: &mut [u8],
     logs: &mut [u8],
     marks: &mut [u8],
@@ -45,10 +68,20 @@ fn prepared(
     said: &mut [u8],
 ) -> Passed {
     let first = Passed {
-        store: script::blank(),
+        store: record::blank(),
         sum: 0,
     };
-    script::pass(first, files, logs, marks, setup, data, reader, said)
+    script::pass(
+        first,
+        journal,
+        files,
+        logs,
+        marks,
+        setup,
+        data,
+        reader,
+        said,
+    )
 }
 
 // Seeks.
@@ -65,8 +98,9 @@ pub extern "C" fn bench_calls_seeks(
     size: usize,
     rounds: usize,
 ) -> u64 {
-    let p = prepared(files, logs, marks, setup, data, reader, said);
-    let q = loops::seeks(p, files, logs, marks, rounds);
+    let mut journal = [0u16; NUMBERS];
+    let p = prepared(&mut journal, files, logs, marks, setup, data, reader, said);
+    let q = loops::seeks(p, &mut journal, files, logs, marks, rounds);
     q.sum
 }
 
@@ -84,8 +118,9 @@ pub extern "C" fn bench_calls_pointers(
     size: usize,
     rounds: usize,
 ) -> u64 {
-    let p = prepared(files, logs, marks, setup, data, reader, said);
-    let q = loops::pointers(p, files, logs, marks, rounds);
+    let mut journal = [0u16; NUMBERS];
+    let p = prepared(&mut journal, files, logs, marks, setup, data, reader, said);
+    let q = loops::pointers(p, &mut journal, files, logs, marks, rounds);
     q.sum
 }
 
@@ -103,9 +138,11 @@ pub extern "C" fn bench_calls_batches(
     size: usize,
     rounds: usize,
 ) -> u64 {
-    let p = prepared(files, logs, marks, setup, data, reader, said);
+    let mut journal = [0u16; NUMBERS];
+    let p = prepared(&mut journal, files, logs, marks, setup, data, reader, said);
     let q = loops::batches(
         p,
+        &mut journal,
         files,
         logs,
         marks,
@@ -130,8 +167,9 @@ pub extern "C" fn bench_calls_reads(
     size: usize,
     rounds: usize,
 ) -> u64 {
-    let p = prepared(files, logs, marks, setup, data, reader, said);
-    let q = loops::reads(p, files, logs, marks, reader, size, rounds);
+    let mut journal = [0u16; NUMBERS];
+    let p = prepared(&mut journal, files, logs, marks, setup, data, reader, said);
+    let q = loops::reads(p, &mut journal, files, logs, marks, reader, size, rounds);
     q.sum
 }
 
@@ -149,8 +187,9 @@ pub extern "C" fn bench_calls_drops(
     size: usize,
     rounds: usize,
 ) -> u64 {
-    let p = prepared(files, logs, marks, setup, data, reader, said);
-    let q = loops::drops(p, files, logs, marks, rounds);
+    let mut journal = [0u16; NUMBERS];
+    let p = prepared(&mut journal, files, logs, marks, setup, data, reader, said);
+    let q = loops::drops(p, &mut journal, files, logs, marks, rounds);
     q.sum
 }
 
@@ -168,8 +207,9 @@ pub extern "C" fn bench_calls_commits(
     size: usize,
     rounds: usize,
 ) -> u64 {
-    let p = prepared(files, logs, marks, setup, data, reader, said);
-    let q = loops::commits(p, files, logs, marks, rounds);
+    let mut journal = [0u16; NUMBERS];
+    let p = prepared(&mut journal, files, logs, marks, setup, data, reader, said);
+    let q = loops::commits(p, &mut journal, files, logs, marks, rounds);
     q.sum
 }
 
@@ -187,7 +227,16 @@ pub extern "C" fn bench_calls_lands(
     size: usize,
     rounds: usize,
 ) -> u64 {
-    let p = prepared(files, logs, marks, setup, data, reader, said);
-    let q = loops::lands(p, files, logs, marks, script::named(data, 16, size), rounds);
+    let mut journal = [0u16; NUMBERS];
+    let p = prepared(&mut journal, files, logs, marks, setup, data, reader, said);
+    let q = loops::lands(
+        p,
+        &mut journal,
+        files,
+        logs,
+        marks,
+        script::named(data, 16, size),
+        rounds,
+    );
     q.sum
 }

@@ -1,8 +1,9 @@
 // Loops of one kind of call, over a record that is held here: in the answer before, where the loop has one call.
 use crate::script;
 use crate::script::Passed;
-use record::Answer;
-use record::Outcome;
+use record::journal::NUMBERS;
+use record::outcomes::Answer;
+use record::outcomes::Outcome;
 ghost use Prim.Native.Nat.{_≤_};
 
 fn wide(x: u8) -> u64
@@ -18,7 +19,14 @@ fn told(sum: u64, o: Outcome) -> u64 {
 }
 
 // n Seeks of transaction 0 on descriptor 0.
-pub fn seeks(p: Passed, files: &[u8], logs: &[u8], marks: &[u8], n: usize) -> Passed {
+pub fn seeks(
+    p: Passed,
+    journal: &mut [u16; NUMBERS],
+    files: &[u8],
+    logs: &[u8],
+    marks: &[u8],
+    n: usize,
+) -> Passed {
     let first = p.store;
     let mut a = Answer {
         store: first,
@@ -29,7 +37,7 @@ pub fn seeks(p: Passed, files: &[u8], logs: &[u8], marks: &[u8], n: usize) -> Pa
     while 0 < left {
         left -= 1;
         let s = a.store;
-        a = store::seek(s, files, logs, marks, 0, 0, 48);
+        a = store::seek(s, journal, files, logs, marks, 0, 0, 48);
         let o = a.outcome;
         sum = told(sum, o);
     }
@@ -38,7 +46,14 @@ pub fn seeks(p: Passed, files: &[u8], logs: &[u8], marks: &[u8], n: usize) -> Pa
 }
 
 // n GetFilePointers of transaction 0 on descriptor 0.
-pub fn pointers(p: Passed, files: &[u8], logs: &[u8], marks: &[u8], n: usize) -> Passed {
+pub fn pointers(
+    p: Passed,
+    journal: &mut [u16; NUMBERS],
+    files: &[u8],
+    logs: &[u8],
+    marks: &[u8],
+    n: usize,
+) -> Passed {
     let first = p.store;
     let mut a = Answer {
         store: first,
@@ -49,7 +64,7 @@ pub fn pointers(p: Passed, files: &[u8], logs: &[u8], marks: &[u8], n: usize) ->
     while 0 < left {
         left -= 1;
         let s = a.store;
-        a = store::get_file_pointer(s, files, logs, marks, 0, 0);
+        a = store::get_file_pointer(s, journal, files, logs, marks, 0, 0);
         let o = a.outcome;
         sum = told(sum, o);
     }
@@ -60,6 +75,7 @@ pub fn pointers(p: Passed, files: &[u8], logs: &[u8], marks: &[u8], n: usize) ->
 // n Writes of transaction 0 on descriptor 1.
 pub fn writes(
     p: Passed,
+    journal: &mut [u16; NUMBERS],
     files: &[u8],
     logs: &mut [u8],
     marks: &[u8],
@@ -76,7 +92,7 @@ pub fn writes(
     while 0 < left {
         left -= 1;
         let s = a.store;
-        a = store::write(s, files, logs, marks, 0, 1, bytes);
+        a = store::write(s, journal, files, logs, marks, 0, 1, bytes);
         let o = a.outcome;
         sum = told(sum, o);
     }
@@ -87,6 +103,7 @@ pub fn writes(
 // n times: transaction 0 dropped and begun, then so many Writes.
 pub fn batches(
     p: Passed,
+    journal: &mut [u16; NUMBERS],
     files: &[u8],
     logs: &mut [u8],
     marks: &mut [u8],
@@ -99,10 +116,10 @@ pub fn batches(
     let mut left = n;
     while 0 < left {
         left -= 1;
-        let a = store::abort(s, files, logs, marks, 0);
+        let a = store::abort(s, journal, files, logs, marks, 0);
         let ao = a.outcome;
         s = a.store;
-        let b = store::begin(s, files, logs, marks, 0);
+        let b = store::begin(s, journal, files, logs, marks, 0);
         let bo = b.outcome;
         s = b.store;
         let q = writes(
@@ -110,6 +127,7 @@ pub fn batches(
                 store: s,
                 sum: told(told(sum, ao), bo),
             },
+            journal,
             files,
             logs,
             marks,
@@ -125,6 +143,7 @@ pub fn batches(
 // n times: a Seek of transaction 0 to 0 on descriptor 0, and a Read of so many bytes.
 pub fn reads<'a>(
     p: Passed,
+    journal: &mut [u16; NUMBERS],
     files: &'a [u8],
     logs: &'a [u8],
     marks: &mut [u8],
@@ -137,11 +156,11 @@ pub fn reads<'a>(
     let mut left = n;
     while 0 < left {
         left -= 1;
-        let a = store::seek(s, files, logs, marks, 0, 0, 0);
+        let a = store::seek(s, journal, files, logs, marks, 0, 0, 0);
         let ao = a.outcome;
         s = a.store;
         sum = told(sum, ao);
-        let b = store::read(s, files, logs, marks, 0, 0, count, reader);
+        let b = store::read(s, journal, files, logs, marks, 0, 0, count, reader);
         let bo = b.outcome;
         s = b.store;
         sum = told(sum, bo);
@@ -150,17 +169,24 @@ pub fn reads<'a>(
 }
 
 // n times Begin and Abort of transaction 7.
-pub fn drops(p: Passed, files: &[u8], logs: &[u8], marks: &mut [u8], n: usize) -> Passed {
+pub fn drops(
+    p: Passed,
+    journal: &mut [u16; NUMBERS],
+    files: &[u8],
+    logs: &[u8],
+    marks: &mut [u8],
+    n: usize,
+) -> Passed {
     let mut s = p.store;
     let mut sum = p.sum;
     let mut left = n;
     while 0 < left {
         left -= 1;
-        let a = store::begin(s, files, logs, marks, 7);
+        let a = store::begin(s, journal, files, logs, marks, 7);
         let ao = a.outcome;
         s = a.store;
         sum = told(sum, ao);
-        let b = store::abort(s, files, logs, marks, 7);
+        let b = store::abort(s, journal, files, logs, marks, 7);
         let bo = b.outcome;
         s = b.store;
         sum = told(sum, bo);
@@ -169,17 +195,24 @@ pub fn drops(p: Passed, files: &[u8], logs: &[u8], marks: &mut [u8], n: usize) -
 }
 
 // n times Begin and Commit of transaction 7.
-pub fn commits(p: Passed, files: &mut [u8], logs: &[u8], marks: &mut [u8], n: usize) -> Passed {
+pub fn commits(
+    p: Passed,
+    journal: &mut [u16; NUMBERS],
+    files: &mut [u8],
+    logs: &[u8],
+    marks: &mut [u8],
+    n: usize,
+) -> Passed {
     let mut s = p.store;
     let mut sum = p.sum;
     let mut left = n;
     while 0 < left {
         left -= 1;
-        let a = store::begin(s, files, logs, marks, 7);
+        let a = store::begin(s, journal, files, logs, marks, 7);
         let ao = a.outcome;
         s = a.store;
         sum = told(sum, ao);
-        let b = store::commit(s, files, logs, marks, 7);
+        let b = store::commit(s, journal, files, logs, marks, 7);
         let bo = b.outcome;
         s = b.store;
         sum = told(sum, bo);
@@ -190,6 +223,7 @@ pub fn commits(p: Passed, files: &mut [u8], logs: &[u8], marks: &mut [u8], n: us
 // n times Begin, Seek to 0, Write and Commit of transaction 7, on descriptor 0.
 pub fn lands(
     p: Passed,
+    journal: &mut [u16; NUMBERS],
     files: &mut [u8],
     logs: &mut [u8],
     marks: &mut [u8],
@@ -201,19 +235,19 @@ pub fn lands(
     let mut left = n;
     while 0 < left {
         left -= 1;
-        let a = store::begin(s, files, logs, marks, 7);
+        let a = store::begin(s, journal, files, logs, marks, 7);
         let ao = a.outcome;
         s = a.store;
         sum = told(sum, ao);
-        let b = store::seek(s, files, logs, marks, 7, 0, 0);
+        let b = store::seek(s, journal, files, logs, marks, 7, 0, 0);
         let bo = b.outcome;
         s = b.store;
         sum = told(sum, bo);
-        let c = store::write(s, files, logs, marks, 7, 0, bytes);
+        let c = store::write(s, journal, files, logs, marks, 7, 0, bytes);
         let co = c.outcome;
         s = c.store;
         sum = told(sum, co);
-        let e = store::commit(s, files, logs, marks, 7);
+        let e = store::commit(s, journal, files, logs, marks, 7);
         let eo = e.outcome;
         s = e.store;
         sum = told(sum, eo);

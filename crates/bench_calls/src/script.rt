@@ -2,10 +2,10 @@
 // kind of call, its transaction, its descriptor, an octet that is not looked at, and two numbers, low octet first: how many octets (or
 // the offset of a Seek), and where they start in `data`.
 use octets::parts;
-use record::Answer;
-use record::Outcome;
-use record::Refusal;
 use record::Store;
+use record::journal::NUMBERS;
+use record::outcomes::Answer;
+use record::outcomes::Outcome;
 ghost use Prim.Native.Nat.{_+_, _*_, _≤_};
 ghost use lib.ListN.{length};
 
@@ -32,19 +32,6 @@ fn wide(x: u8) -> usize
 
 fn number(low: u8, high: u8) -> usize {
     wide(low) + 256 * wide(high)
-}
-
-// A record for Fresh to replace.
-pub fn blank() -> Store {
-    let x = record::ended();
-    Store {
-        files: [0u8; 16],
-        offsets: [0u16; 16],
-        transactions: [x; 8],
-        holders: [0u8; 512],
-        places: [0u16; 512],
-        lengths: [0u16; 512],
-    }
 }
 
 // The step at octet `at` of the script.
@@ -77,27 +64,8 @@ pub fn code(o: Outcome) -> u8 {
         Outcome::Done => 0,
         Outcome::Offset(_) => 1,
         Outcome::Given(_) => 2,
-        Outcome::Granted(_) => 3,
-        Outcome::Refused(r) => refusal_code(r),
-    }
-}
-
-fn refusal_code(r: Refusal) -> u8 {
-    match r {
-        Refusal::BufferLength => 11,
-        Refusal::RecordRange => 12,
-        Refusal::NoSuchTransaction => 13,
-        Refusal::NotOpen => 14,
-        Refusal::AlreadyOpen => 15,
-        Refusal::NoSuchDescriptor => 16,
-        Refusal::ReaderTooShort => 17,
-        Refusal::SeekPastEnd => 18,
-        Refusal::WritePastEnd => 19,
-        Refusal::RecordsFull => 20,
-        Refusal::LogFull => 21,
-        Refusal::SettledPastEnd => 22,
-        Refusal::Stale => 23,
-        Refusal::NoSuchFile => 24,
+        Outcome::Staled(_) => 3,
+        Outcome::Refused(r) => std::num::wrapping_add_u8(10, r.number()),
     }
 }
 
@@ -107,7 +75,7 @@ pub fn answered(o: Outcome) -> u64 {
         Outcome::Done => 0,
         Outcome::Offset(n) => n as u64,
         Outcome::Given(n) => n as u64,
-        Outcome::Granted(n) => n as u64,
+        Outcome::Staled(n) => n as u64,
         Outcome::Refused(_) => 0,
     }
 }
@@ -126,10 +94,61 @@ pub fn stamp(stamps: &mut [i64], i: usize) {
     }
 }
 
-// Runs the script once. The code of each step's outcome goes to `said`, as far as it has room. A kind above 7 is no call. The calls
-// stand in the loop itself: in a function of their own, which hands the record on and back, each would copy it once more.
+// Makes the call of one step. A kind above 7 is no call.
+fn made(
+    s: Store,
+    c: Step,
+    journal: &mut [u16; NUMBERS],
+    files: &mut [u8],
+    logs: &mut [u8],
+    marks: &mut [u8],
+    data: &[u8],
+    reader: &mut [u8],
+) -> Answer {
+    let kind = c.kind;
+    if kind == 0 {
+        return store::fresh(s, journal, files, logs, marks, named(data, c.from, c.n));
+    }
+    if kind == 1 {
+        return store::begin(s, journal, files, logs, marks, c.t);
+    }
+    if kind == 2 {
+        return store::seek(s, journal, files, logs, marks, c.t, c.d, c.n);
+    }
+    if kind == 3 {
+        return store::write(
+            s,
+            journal,
+            files,
+            logs,
+            marks,
+            c.t,
+            c.d,
+            named(data, c.from, c.n),
+        );
+    }
+    if kind == 4 {
+        return store::get_file_pointer(s, journal, files, logs, marks, c.t, c.d);
+    }
+    if kind == 5 {
+        return store::read(s, journal, files, logs, marks, c.t, c.d, c.n, reader);
+    }
+    if kind == 6 {
+        return store::commit(s, journal, files, logs, marks, c.t);
+    }
+    if kind == 7 {
+        return store::abort(s, journal, files, logs, marks, c.t);
+    }
+    Answer {
+        store: s,
+        outcome: Outcome::Done,
+    }
+}
+
+// Runs the script once. The code of each step's outcome goes to `said`, as far as it has room.
 pub fn pass(
     p: Passed,
+    journal: &mut [u16; NUMBERS],
     files: &mut [u8],
     logs: &mut [u8],
     marks: &mut [u8],
@@ -152,23 +171,7 @@ pub fn pass(
         start += 8;
         i += 1;
         let s = a.store;
-        let kind = c.kind;
-        match kind {
-            0 => a = store::fresh(s, files, logs, marks, named(data, c.from, c.n)),
-            1 => a = store::begin(s, files, logs, marks, c.t),
-            2 => a = store::seek(s, files, logs, marks, c.t, c.d, c.n),
-            3 => a = store::write(s, files, logs, marks, c.t, c.d, named(data, c.from, c.n)),
-            4 => a = store::get_file_pointer(s, files, logs, marks, c.t, c.d),
-            5 => a = store::read(s, files, logs, marks, c.t, c.d, c.n, reader),
-            6 => a = store::commit(s, files, logs, marks, c.t),
-            7 => a = store::abort(s, files, logs, marks, c.t),
-            _ => {
-                a = Answer {
-                    store: s,
-                    outcome: Outcome::Done,
-                };
-            }
-        }
+        a = made(s, c, journal, files, logs, marks, data, reader);
         let o = a.outcome;
         sum = std::num::wrapping_add_u64(sum, answered(o));
         note(said, at, code(o));

@@ -1,82 +1,84 @@
 -- The rules of Commit after each of its tests: stale, past the end, granted.
 use mathlib.Core.Bool.{true, false}
-use mathlib.Core.List.{List, [], map}
+use mathlib.Core.List.{List, []}
 use mathlib.Core.Path.{_≡_, refl, sym, ap, ap₂, _∙_}
-use lib.ListN.{length}
-use Prim.Native.Nat.{ℕ}
-use Rattle.octets.specs.Bits.{withoutBit}
+use Prim.Native.Nat.{ℕ, _<_}
+use Rattle.octets.specs.Marks.{withoutMarks, contains}
 use Rattle.record.specs.declared.Store.{Store}
 use Rattle.record.specs.declared.Transaction.{Transaction}
-use Rattle.record.specs.declared.Answer.{Answer}
-use Rattle.record.specs.declared.Refusal.{Refusal}
-use Rattle.record.specs.declared.Refusal.the-variants.{Stale}
-use Rattle.record.specs.declared.Outcome.the-variants.{Granted, Refused}
-use Rattle.record.specs.Journal.{transaction, ended}
-use Rattle.record.specs.Paper.{granted, refused, number, said}
+use Rattle.record.specs.declared.outcomes.Answer.{Answer}
+use Rattle.record.specs.declared.outcomes.Refusal.the-variants.{Stale}
+use Rattle.record.specs.declared.outcomes.Outcome.the-variants.{Staled, Refused}
+use Rattle.record.specs.State.{transaction, ended, withOffsets, withTransactions, withTransaction}
+use Rattle.record.specs.Paper.{granted, refused, said}
 use Rattle.ranges.specs.Below.{sum}
-use Rattle.ranges.specs.Limits.{storeOf}
 use Rattle.ranges.specs.Ranges.{admission}
-use Rattle.rules.specs.Commits.{settings, fits, commitRefusal}
+use Rattle.rules.specs.Commits.{fits, commitRefusal}
 use Rattle.rules.specs.Plain.{commit}
-use Rattle.rules.specs.Machine.{Machine, fileOf, values, txnOf, tabulate, withTransaction}
-use Rattle.rules.specs.Calls.{Turn, turnDown, reset, unmarked, admitted, landFiles, commitDecided, commitGranted, commitTurn, call}
-use Rattle.landing.specs.Landing.{offsetAfter}
-use Rattle.landing.specs.Staling.{afterGrant, becameStale}
-use Rattle.landing.proofs.Granted.{landedBytes, allSet, seenBits, files-are, offsets-are, transactions-are, count-is}
-use Rattle.rules.specs.Promises.{lent, Meets}
-use Rattle.turns.proofs.Turns.{passing-on}
+use Rattle.rules.specs.Machine.{Machine, lent, withStore, withMarking, sizes, tabulate}
+use Rattle.rules.specs.Calls.{Turn, turnDown, reset, admitted, landFiles, conflicts, commitDecided, commitGranted, commitTurn, call}
+use Rattle.landing.specs.Landing.{offsetsOnly, standingsOnly}
+use Rattle.landing.proofs.LandLaws.{offsetsSet}
+use Rattle.landing.proofs.StaleLaws.{passedOver, countedIn}
+use Rattle.landing.proofs.Granted.{allSet, landedBytes, fits-is, files-are, offsets-are, transactions-are, count-is}
+use Rattle.rules.specs.Promises.{Meets}
+use Rattle.refusing.proofs.Turns.{passing-on}
 
-module _ (t : ℕ) (m : Machine) (passes : admission (length (m .files)) (length (m .logs)) (length (m .marks)) (m .store) t ≡ 0) where
-  let-on : call (commit t) m ≡ commitTurn t m
+module _ (t : ℕ) (m : Machine) where
+  -- A commit that is let through goes by its own turn.
+  pub commit-on : admission (sizes m) (m .store) (m .journal) t ≡ 0 → call (commit t) m ≡ commitTurn t m
   unfolding call admitted
-  let-on = passing-on (admission (length (m .files)) (length (m .logs)) (length (m .marks)) (m .store) t) [] m (commitTurn t m) passes
+  commit-on passes = passing-on (admission (sizes m) (m .store) (m .journal) t) [] m (commitTurn t m) passes
 
   -- "13: it ends as at Abort."
   pub commit-stale : transaction (m .store) t .stale ≡ true
-      → call (commit t) m ≡ record { reply = record { answer = refused 13; buffer = [] }; after = reset t ended m }
+      → commitTurn t m ≡ record { reply = record { answer = refused 13; buffer = [] }; after = reset t ended m }
   unfolding commitTurn commitRefusal commitDecided
-  commit-stale e = let-on ∙ rw e
+  commit-stale e = rw e
 
   module _ (fresh : transaction (m .store) t .stale ≡ false) where
     -- "12: everything, the transaction open."
-    pub commit-past : fits (values (m .store) (m .files)) (txnOf (m .store) (m .logs) t) ≡ false → call (commit t) m ≡ turnDown 12 [] m
+    pub commit-past : fits (offsetsOnly (m .store .offsets)) (standingsOnly (transaction (m .store) t)) ≡ false → commitTurn t m ≡ turnDown 12 [] m
     unfolding commitTurn commitRefusal commitDecided turnDown
-    commit-past e = let-on ∙ rw (fresh, e)
+    commit-past e = rw (fresh, fits-is m t, e)
 
-    pub commit-granted : fits (values (m .store) (m .files)) (txnOf (m .store) (m .logs) t) ≡ true
-        → call (commit t) m ≡ commitGranted t (settings (fileOf (m .store)) (values (m .store) (m .files)) (txnOf (m .store) (m .logs) t)) m
+    pub commit-granted : fits (offsetsOnly (m .store .offsets)) (standingsOnly (transaction (m .store) t)) ≡ true
+        → commitTurn t m ≡ commitGranted t (allSet m t) m
     unfolding commitTurn commitRefusal commitDecided
-    commit-granted e = let-on ∙ rw (fresh, e)
+    commit-granted e = rw (fresh, fits-is m t, e)
 
-pub stale-meets : (a : Answer) (t : ℕ) (m : Machine) (w : Turn) (marks : List ℕ)
-    → w ≡ record { reply = record { answer = refused 13; buffer = [] }; after = reset t ended m }
-    → a .outcome ≡ Refused Stale → a .store ≡ withTransaction t ended (m .store) → marks ≡ map (withoutBit t) (m .marks) → Meets w a (m .files) (m .logs) marks []
-unfolding reset unmarked said number
-stale-meets a t m w marks e o s f =
-    rw e (record { outcome = ap said o; store = s; files = refl; logs = refl; marks = f; reader = refl })
-
-module _ (s : Store) (files logs marks : List ℕ) (t : ℕ) (w : Turn) (e : w ≡ commitGranted t (allSet s files logs marks t) (lent s files logs marks)) (sixteen : length (s .offsets) ≡ 16) where
-  pub granted-meets : (seen count : ℕ) (r : Store) (offsets : List ℕ) (transactions : List Transaction) (files' marks' : List ℕ)
-      → r ≡ storeOf (s .files) offsets transactions (s .holders) (s .places) (s .lengths)
-      → seen ≡ seenBits s files logs marks t
-      → count ≡ sum (becameStale (s .transactions) t seen) 8
-      → transactions ≡ tabulate (afterGrant (s .transactions) t seen) 8
-      → offsets ≡ tabulate (offsetAfter (transaction s t) (s .offsets)) 16
-      → files' ≡ landFiles (landedBytes s logs t) files
-      → marks' ≡ map (withoutBit t) marks
-      → Meets w (record { outcome = Granted count; store = r }) files' logs marks' []
-  unfolding commitGranted unmarked said
-  granted-meets seen count r offsets transactions files' marks' q b n ts os fs ms =
+  pub stale-meets : (a : Answer) (w : Turn) (marks : List ℕ)
+      → w ≡ record { reply = record { answer = refused 13; buffer = [] }; after = reset t ended m }
+      → a .outcome ≡ Refused Stale → a .store ≡ withTransaction t ended (m .store) → marks ≡ withoutMarks t (m .marks)
+      → Meets w (a .outcome) (withStore (a .store) (withMarking marks m)) []
+  unfolding reset said
+  stale-meets a w marks e o s f =
       rw e
       (record {
-        outcome = ap granted (n ∙ ap (λ (k : ℕ). sum (becameStale (s .transactions) t k) 8) b ∙ sym (count-is s files logs marks t));
-        store =
-            q
-            ∙ ap₂ (λ (o : List ℕ) (x : List Transaction). storeOf (s .files) o x (s .holders) (s .places) (s .lengths))
-            (os ∙ sym (offsets-are s files logs marks t sixteen))
-            (ts ∙ ap (λ (k : ℕ). tabulate (afterGrant (s .transactions) t k) 8) b ∙ sym (transactions-are s files logs marks t));
-        files = fs ∙ sym (files-are s files logs marks t);
-        logs = refl;
-        marks = ms;
+        outcome = ap said o;
+        machine = ap₂ (λ (x : Store) (l : List ℕ). withStore x (withMarking l m)) s f;
+        reader = refl;
+      })
+
+  -- What the grant leaves, part by part.
+  pub granted-meets : (w : Turn) → w ≡ commitGranted t (allSet m t) m
+      → (seen : ℕ) → ((u : ℕ) (y : Transaction) → u < 8 → contains seen u ≡ conflicts (m .marks) u y (landedBytes m t))
+      → (count : ℕ) → count ≡ sum (countedIn (m .store .transactions) t seen) 8
+      → (xs : List Transaction) → xs ≡ tabulate (passedOver (m .store .transactions) t seen) 8
+      → (offsets : List ℕ) → offsets ≡ offsetsSet (transaction (m .store) t) (m .store .offsets) 16
+      → (files : List ℕ) → files ≡ landFiles (landedBytes m t) (m .files)
+      → (marks : List ℕ) → marks ≡ withoutMarks t (m .marks)
+      → (r : Store) → r ≡ withTransactions xs (withOffsets offsets (m .store))
+      → Meets w (Staled count) (lent r (m .journal) files (m .logs) marks) []
+  unfolding commitGranted said
+  granted-meets w e seen sees count n xs ts offsets os files fs marks ms r q =
+      rw (e, q)
+      (record {
+        outcome = ap granted (n ∙ sym (count-is m t seen sees));
+        machine =
+            rw (ms, fs, files-are m t)
+            (ap₂ (λ (o : List ℕ) (l : List Transaction). lent (withTransactions l (withOffsets o (m .store))) (m .journal) (landFiles (landedBytes m t) (m .files)) (m .logs) (withoutMarks t (m .marks)))
+            (os ∙ sym (offsets-are m t))
+            (ts ∙ sym (transactions-are m t seen sees)));
         reader = refl;
       })

@@ -1,6 +1,6 @@
 -- What both walks of this crate need of the two counters, and of two `ensures` clauses.
 --     used r k     the counters r and k
---     fits         what whoever makes them owes: each fits its width
+--     pair-fits    what whoever makes them owes: each fits its width
 --     says-both    a goal P ∗ (⌜φ⌝ ∗ ⌜ψ⌝), as two `ensures` clauses make: both are shown, and P is left. It is `denote.Triple.Walked`'s `says`, twice
 -- Assumes nothing; `says-both` takes `Given`.
 use mathlib.Core.Path.{refl}
@@ -22,8 +22,8 @@ use Rattle.counters.proofs.Used.Laws as T′
 abbrev pub used : ℕ → ℕ → Used
 used r k = record { records = r; bytes = k }
 
-pub fits : (r k : ℕ) → r < 2 ^ 8 → k < 2 ^ 16 → Is T.the-row (used r k) (T′.lowered (used r k) ∷ [])
-fits r k fr fk = LL.owes T.the-type T′.the-laws (used r k) ((refl, fr), ((refl, fk), tt))
+pub pair-fits : (r k : ℕ) → r < 2 ^ 8 → k < 2 ^ 16 → Is T.the-row (used r k) (T′.lowered (used r k) ∷ [])
+pair-fits r k fr fk = LL.owes T.the-type T′.the-laws (used r k) ((refl, fr), ((refl, fk), tt))
 
 pub says-both : {M : Type 1} {𝓤 : URA M} {H : Heap 𝓤} {A : Atoms 𝓤} {K : Type 0} {W : Given 𝓤 H A} {Γ : List (Item 𝓤)} → K → {φ ψ : Type 0} {P : SProp 𝓤} → φ → ψ
     → Step K W Γ (prop P) Γ (prop (sep 𝓤 P (sep 𝓤 (fact 𝓤 φ) (fact 𝓤 ψ))))

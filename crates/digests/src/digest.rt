@@ -1,9 +1,17 @@
 // Digests of the state and of the answers: from 0, h' = (65521 h + n + 1) mod 281474976710597 for each number n.
 use crate::outcomes;
-use record::Outcome;
-use record::Standing;
+use numbers::smaller;
+use numbers::wide_octet;
 use record::Store;
 use record::Transaction;
+use record::journal::NUMBERS;
+use record::journal::RECORDS;
+use record::journal::WriteRecord;
+use record::journal::record_at;
+use record::outcomes::Outcome;
+use standings::Place;
+use standings::Standing;
+ghost use Prim.Native.Nat.{_<_};
 ghost use Rattle.digests.specs.Bounds.{Digest};
 
 fn taken(h: usize, n: u16) -> usize
@@ -83,24 +91,55 @@ fn standings_taken(h: usize, x: Transaction) -> usize
     let mut out = h;
     let mut d = 0;
     while d < 16 {
-        let q = x.descriptors[d];
-        let z = q.standing;
-        out = standing_taken(out, z);
+        out = standing_taken(out, x.standing_at(d));
         d += 1;
     }
     out
 }
 
-fn transaction_taken(h: usize, x: Transaction) -> usize
+fn write_taken(h: usize, w: WriteRecord) -> usize
     requires { ⌜ Digest h ⌝ }
+    ensures { λ r. ⌜ Digest r ⌝ }
+{
+    let place = w.place;
+    let out = taken(h, w.descriptor);
+    match place {
+        Place::At(p) => three_taken(out, 1, p, w.length),
+        Place::After(a) => three_taken(out, 0, a, w.length),
+    }
+}
+
+// The first n write records of transaction t, at most 64.
+fn writes_taken(h: usize, journal: &[u16; NUMBERS], t: usize, n: usize) -> usize
+    requires { ⌜ Digest h × (t < 8) ⌝ }
+    ensures { λ r. ⌜ Digest r ⌝ }
+{
+    let records = smaller(n, RECORDS);
+    let mut out = h;
+    let mut k = 0;
+    while k < records {
+        out = write_taken(out, record_at(journal, t, k));
+        k += 1;
+    }
+    out
+}
+
+fn transaction_taken(h: usize, x: Transaction, journal: &[u16; NUMBERS], t: usize) -> usize
+    requires { ⌜ Digest h × (t < 8) ⌝ }
     ensures { λ r. ⌜ Digest r ⌝ }
 {
     let used = x.used;
     let flags = flag_taken(flag_taken(h, x.begun), x.stale);
-    standings_taken(taken(octet_taken(flags, used.records), used.bytes), x)
+    let counters = taken(octet_taken(flags, used.records), used.bytes);
+    writes_taken(
+        standings_taken(counters, x),
+        journal,
+        t,
+        wide_octet(used.records),
+    )
 }
 
-fn transactions_taken(h: usize, s: Store) -> usize
+fn transactions_taken(h: usize, s: Store, journal: &[u16; NUMBERS]) -> usize
     requires { ⌜ Digest h ⌝ }
     ensures { λ r. ⌜ Digest r ⌝ }
 {
@@ -108,27 +147,23 @@ fn transactions_taken(h: usize, s: Store) -> usize
     let mut t = 0;
     while t < 8 {
         let x = s.transactions[t];
-        out = transaction_taken(out, x);
+        out = transaction_taken(out, x, journal, t);
         t += 1;
     }
     out
 }
 
-fn record_taken(h: usize, s: Store) -> usize
-    requires { ⌜ Digest h ⌝ }
-    ensures { λ r. ⌜ Digest r ⌝ }
-{
-    let files = octets_taken(h, &s.files);
-    let offsets = numbers_taken(files, &s.offsets);
-    let transactions = transactions_taken(offsets, s);
-    let holders = octets_taken(transactions, &s.holders);
-    let places = numbers_taken(holders, &s.places);
-    numbers_taken(places, &s.lengths)
-}
-
-// The digest of a state: the record field by field, then the store buffers.
-pub fn of_state(s: Store, files: &[u8], logs: &[u8], marks: &[u8]) -> usize {
-    let record = record_taken(0, s);
+// The digest of a state: what the record says, however it is arranged, then the store buffers.
+pub fn of_state(
+    s: Store,
+    journal: &[u16; NUMBERS],
+    files: &[u8],
+    logs: &[u8],
+    marks: &[u8],
+) -> usize {
+    let filenumbers = octets_taken(0, &s.filenumbers);
+    let offsets = numbers_taken(filenumbers, &s.offsets);
+    let record = transactions_taken(offsets, s, journal);
     octets_taken(octets_taken(octets_taken(record, files), logs), marks)
 }
 

@@ -1,7 +1,7 @@
 -- The rule of Write after each of its tests.
 use mathlib.Core.Bool.{Bool, true, false, cond}
 use mathlib.Core.List.{List, []}
-use mathlib.Core.Path.{_≡_, refl, sym, ap, _∙_}
+use mathlib.Core.Path.{_≡_, refl, sym, ap, ap₂, _∙_}
 use borrow.Author.Tests.{le-leb, lt-leb, leb-true}
 use lib.Dec.{leb}
 use lib.ListN.{length, set}
@@ -9,25 +9,27 @@ use native.Mathlib.Omega.{arith}
 use Prim.Native.Nat.{ℕ, _+_, _*_, _≤_, _<_}
 use Rattle.octets.specs.Parts.{pasted}
 use Rattle.counters.specs.declared.Used.{Used}
-use Rattle.record.specs.declared.Refusal.{Refusal}
+use Rattle.record.specs.declared.outcomes.Refusal.{Refusal}
 use Rattle.record.specs.declared.Store.{Store}
-use Rattle.record.specs.declared.Outcome.the-variants.{Done}
-use Rattle.record.specs.Journal.{holder, placeNumber, transaction, standingAt}
+use Rattle.record.specs.declared.outcomes.Outcome.the-variants.{Done}
+use Rattle.standings.specs.Table.{placeNumber}
+use Rattle.record.specs.State.{transaction, standingAt, withUsed, withDescriptors, withTransaction}
+use Rattle.record.specs.Journal.{withRecordAt}
 use Rattle.record.specs.Paper.{plain, said, number}
-use Rattle.record.specs.declared.Standing.{Standing}
-use Rattle.record.specs.declared.Standing.the-variants.{Untouched, Placed, Deferred, Moved, Known}
+use Rattle.standings.specs.declared.Standing.{Standing}
+use Rattle.standings.specs.declared.Standing.the-variants.{Untouched, Placed, Deferred, Moved, Known}
 use Rattle.ranges.specs.Ranges.{admission, unless, standingIn}
 use Rattle.ranges.proofs.Laws.{and-right}
 use Rattle.rules.specs.Items.{Prog, done}
-use Rattle.rules.specs.Standings.{afterWrite, writePlace}
+use Rattle.standings.specs.Table.{afterWrite, writePlace}
 use Rattle.rules.specs.Steps.{Op, write, Stepped, refuse, accept, check, step, writeStep, written, bufferOf, total}
 use Rattle.rules.specs.Plain.{on}
-use Rattle.rules.specs.Machine.{Machine, fileOf, txnOf}
+use Rattle.rules.specs.Machine.{Machine, lent, withStore, withJournal, withLogs, sizes, fileOf, txnOf, recordOf}
 use Rattle.rules.specs.Calls.{Turn, turnDown, logged, call}
-use Rattle.encoding.proofs.Decoded.{Opened, decoded-count, decoded-total}
-use Rattle.encoding.proofs.Encoded.{txn-written}
+use Rattle.laws.proofs.Decoded.{Opened, decoded-count, decoded-total}
+use Rattle.laws.proofs.Encoded.{txn-written, writes-more}
 use Rattle.rules.specs.Promises.{Meets}
-use Rattle.turns.proofs.Turns.{number-suc, on-refused, on-accepted, check-held, check-failed}
+use Rattle.refusing.proofs.Turns.{number-suc, on-refused, on-accepted, check-held, check-failed}
 
 -- Three tests in a row: the number of the first that fails, and the step that they guard.
 module _ (i j k : ℕ) where
@@ -54,7 +56,7 @@ writeRefusal s t d n =
 
 -- A place in range.
 pub place-within : (z : Standing) → standingIn z ≡ true → placeNumber (writePlace z) ≤ 4096
-unfolding standingIn placeNumber writePlace
+unfolding standingIn writePlace
 place-within Untouched e = omega arith
 place-within (Placed o) e = leb-true o 4096 e
 place-within (Deferred a) e = leb-true a 4096 e
@@ -79,22 +81,22 @@ room-left s t d n e =
     let few = leb-true (transaction s t .used .records + 1) 64 (three .1) in
     record { file = leb-true _ 4096 (three .0); records = omega arith; log = leb-true _ 4096 (three .2) }
 
-module _ (t d : ℕ) (bytes : List ℕ) (m : Machine) (passes : admission (length (m .files)) (length (m .logs)) (length (m .marks)) (m .store) t ≡ 0) where
+module _ (t d : ℕ) (bytes : List ℕ) (m : Machine) (passes : admission (sizes m) (m .store) (m .journal) t ≡ 0) where
   pub write-no-descriptor : 15 < d → call (on t (write d bytes)) m ≡ turnDown 6 [] m
   unfolding step writeStep bufferOf
   write-no-descriptor h = on-refused t (write d bytes) m passes 6 (check-failed (leb d 15) 6 _ (lt-leb d 15 h))
 
-  module _ (o : Opened (m .store) (m .logs) t) (low : d ≤ 15) where
+  module _ (o : Opened (m .store) (m .journal) (m .logs) t) (low : d ≤ 15) where
     -- The step, with its tests on the record.
-    stepped : step (fileOf (m .store)) (write d bytes) (txnOf (m .store) (m .logs) t)
+    stepped : step (fileOf (m .store)) (write d bytes) (txnOf (m .store) (m .journal) (m .logs) t)
         ≡ check (leb (placeNumber (writePlace (standingAt (transaction (m .store) t) d)) + length bytes) 4096) 9
         (check (leb (transaction (m .store) t .used .records + 1) 64) 10
         (check (leb (transaction (m .store) t .used .bytes + length bytes) 4096) 11
-        (done (accept (written d bytes (txnOf (m .store) (m .logs) t)) plain []))))
+        (done (accept (written d bytes (txnOf (m .store) (m .journal) (m .logs) t)) plain []))))
     unfolding step writeStep txnOf
     stepped =
         check-held (leb d 15) 6 _ (le-leb d 15 low)
-        ∙ rw (decoded-count (m .store) (m .logs) t o, decoded-total (m .store) (m .logs) t o)
+        ∙ rw (decoded-count (m .store) (m .journal) (m .logs) t o, decoded-total (m .store) (m .journal) (m .logs) t o)
 
     pub write-refused : (r : Refusal) → number r ≡ writeRefusal (m .store) t d (length bytes) → call (on t (write d bytes)) m ≡ turnDown (number r) [] m
     unfolding bufferOf
@@ -102,7 +104,7 @@ module _ (t d : ℕ) (bytes : List ℕ) (m : Machine) (passes : admission (lengt
         on-refused t (write d bytes) m passes (number r) (stepped ∙ three-refused 9 10 11 _ _ _ _ r e)
 
     module _ (room : Room (m .store) t d (length bytes)) where
-      accepted : step (fileOf (m .store)) (write d bytes) (txnOf (m .store) (m .logs) t) ≡ done (accept (written d bytes (txnOf (m .store) (m .logs) t)) plain [])
+      accepted : step (fileOf (m .store)) (write d bytes) (txnOf (m .store) (m .journal) (m .logs) t) ≡ done (accept (written d bytes (txnOf (m .store) (m .journal) (m .logs) t)) plain [])
       accepted =
           stepped
           ∙ check-held (leb (placeNumber (writePlace (standingAt (transaction (m .store) t) d)) + length bytes) 4096) 9 _ (le-leb _ 4096 (room .file))
@@ -111,43 +113,28 @@ module _ (t d : ℕ) (bytes : List ℕ) (m : Machine) (passes : admission (lengt
 
       -- An accepted Write adds a record, moves the counters forward, sets the standing of d, and puts its bytes in the log directly
       -- after the data used.
-      pub write-meets : (u : Used) (z : Standing) (h p k : ℕ) (logs : List ℕ)
-          → u .records ≡ transaction (m .store) t .used .records + 1
-          → u .bytes ≡ transaction (m .store) t .used .bytes + length bytes
-          → z ≡ afterWrite (length bytes) (standingAt (transaction (m .store) t) d)
-          → h ≡ holder d (writePlace (standingAt (transaction (m .store) t) d))
-          → p ≡ placeNumber (writePlace (standingAt (transaction (m .store) t) d))
-          → k ≡ transaction (m .store) t .used .records
-          → logs ≡ pasted (m .logs) (4096 * t + transaction (m .store) t .used .bytes) bytes
-          → Meets (call (on t (write d bytes)) m)
-          (record {
-            outcome = Done;
-            store =
-                record {
-                  files = m .store .files;
-                  offsets = m .store .offsets;
-                  transactions =
-                      set (m .store .transactions) t
-                      (record {
-                        begun = transaction (m .store) t .begun;
-                        stale = transaction (m .store) t .stale;
-                        used = u;
-                        descriptors = set (transaction (m .store) t .descriptors) d (record { standing = z });
-                      });
-                  holders = set (m .store .holders) (64 * t + k) h;
-                  places = set (m .store .places) (64 * t + k) p;
-                  lengths = set (m .store .lengths) (64 * t + k) (length bytes);
-                };
-          }) (m .files) logs (m .marks) []
-      unfolding said logged
-      write-meets u z h p k logs er eb ez eh ep ek el =
-          let e = on-accepted t (write d bytes) m passes (written d bytes (txnOf (m .store) (m .logs) t)) plain [] accepted in
-          rw (both-counters u _ _ er eb, ez, eh, ep, ek)
+      pub write-meets : (u : Used) (z : Standing) (journal logs : List ℕ)
+          → let x = transaction (m .store) t in
+          u .records ≡ x .used .records + 1
+          → u .bytes ≡ x .used .bytes + length bytes
+          → z ≡ afterWrite (length bytes) (standingAt x d)
+          → journal ≡ withRecordAt (m .journal) t (x .used .records) (record { descriptor = d; place = writePlace (standingAt x d); length = length bytes })
+          → logs ≡ pasted (m .logs) (4096 * t + x .used .bytes) bytes
+          → let after = withTransaction t (withUsed u (withDescriptors (set (x .descriptors) d (record { standing = z })) x)) (m .store) in
+          Meets (call (on t (write d bytes)) m) Done
+          (withStore after (withJournal journal (withLogs logs m))) []
+      unfolding said logged written recordOf txnOf
+      write-meets u z journal logs er eb ez ej el =
+          let y = txnOf (m .store) (m .journal) (m .logs) t in
+          let e = on-accepted t (write d bytes) m passes (written d bytes y) plain [] accepted in
+          rw (both-counters u _ _ er eb, ez, ej, el)
           (record {
             outcome = sym (ap (λ (w : Turn). w .reply .answer) e);
-            store = sym (ap (λ (w : Turn). w .after .store) e ∙ txn-written (m .store) (m .logs) t o d bytes (omega arith) (room .records));
-            files = sym (ap (λ (w : Turn). w .after .files) e);
-            logs = el ∙ sym (ap (λ (w : Turn). w .after .logs) e);
-            marks = sym (ap (λ (w : Turn). w .after .marks) e);
+            machine =
+                sym
+                (ap (λ (w : Turn). w .after) e
+                ∙ ap₂ (λ (s : Store) (j : List ℕ). lent s j (m .files) (pasted (m .logs) (4096 * t + transaction (m .store) t .used .bytes) bytes) (m .marks))
+                (txn-written (m .store) (m .journal) (m .logs) t o d bytes (omega arith))
+                (writes-more (m .store) (m .journal) (m .logs) t o _));
             reader = sym (ap (λ (w : Turn). w .reply .buffer) e);
           })

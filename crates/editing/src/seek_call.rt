@@ -1,21 +1,24 @@
 // Seek.
-use descriptors::standings;
+use numbers::FILE_BYTES;
 use ranges::Gate;
-use record::Answer;
 use record::Descriptor;
-use record::Outcome;
-use record::Refusal;
 use record::Store;
+use record::journal::NUMBERS;
+use record::outcomes::Answer;
+use record::outcomes::Outcome;
+use record::outcomes::Refusal;
 ghost use mathlib.Core.List.{[]};
 ghost use mathlib.Core.Path.{_≡_};
 ghost use Rattle.rules.specs.Steps.{Op};
 ghost use Rattle.rules.specs.Plain.{Call};
 ghost use Rattle.rules.specs.Calls.{call};
-ghost use Rattle.rules.specs.Promises.{lent, Meets};
+ghost use Rattle.rules.specs.Machine.{lent};
+ghost use Rattle.rules.specs.Promises.{Meets};
 
 // Sets the offset of descriptor d in transaction t to v, at most 4,096.
 pub fn seek(
     mut s: Store,
+    journal: &[u16; NUMBERS],
     files: &[u8],
     logs: &[u8],
     marks: &[u8],
@@ -23,39 +26,29 @@ pub fn seek(
     d: usize,
     v: usize,
 ) -> Answer
-    ensures { λ r. ⌜ Meets (call (Call.on t (Op.seek d v)) (lent s (now (files .entry)) (now (logs .entry)) (now (marks .entry)))) r (now (files .exit)) (now (logs .exit)) (now (marks .exit)) [] ⌝ }
+    ensures { λ r. ⌜ Meets (call (Call.on t (Op.seek d v)) (lent s (now (journal .entry)) (now (files .entry)) (now (logs .entry)) (now (marks .entry)))) (r .outcome) (lent (r .store) (now (journal .exit)) (now (files .exit)) (now (logs .exit)) (now (marks .exit))) [] ⌝ }
 {
-    let xs = s.transactions;
-    let g = ranges::admit(
-        &s.files,
-        &s.offsets,
-        xs,
-        &s.holders,
-        &s.places,
-        &s.lengths,
-        files.len(),
-        logs.len(),
-        marks.len(),
-        t,
-    );
+    let g = ranges::admit(s, journal, files.len(), logs.len(), marks.len(), t);
     if let Gate::Refused(r) = g {
-        return turns::turned_down(r, s);
-    }
-    if 15 < d {
-        return turns::turned_down(Refusal::NoSuchDescriptor, s);
-    }
-    if 4096 < v {
-        return turns::turned_down(Refusal::SeekPastEnd, s);
+        return refusing::turned_down(r, s);
     }
     let mut x = s.transactions[t];
-    let q = x.descriptors[d];
-    let z = q.standing;
+    if !x.begun {
+        return refusing::turned_down(Refusal::NotOpen, s);
+    }
+    if 15 < d {
+        return refusing::turned_down(Refusal::NoSuchDescriptor, s);
+    }
+    if FILE_BYTES < v {
+        return refusing::turned_down(Refusal::SeekPastEnd, s);
+    }
+    let z = x.standing_at(d);
     x.descriptors[d] = Descriptor {
-        standing: standings::after_seek(z, v as u16),
+        standing: z.after_seek(v as u16),
     };
     s.transactions[t] = x;
     Answer {
-        outcome: Outcome::Done,
         store: s,
+        outcome: Outcome::Done,
     }
 }

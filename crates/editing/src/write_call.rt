@@ -1,12 +1,18 @@
 // Write.
-use descriptors::standings;
+use numbers::FILE_BYTES;
+use numbers::wide;
+use numbers::wide_octet;
 use octets::parts;
 use ranges::Gate;
-use record::Answer;
 use record::Descriptor;
-use record::Outcome;
-use record::Refusal;
 use record::Store;
+use record::journal::NUMBERS;
+use record::journal::RECORDS;
+use record::journal::WriteRecord;
+use record::journal::put_record;
+use record::outcomes::Answer;
+use record::outcomes::Outcome;
+use record::outcomes::Refusal;
 ghost use mathlib.Core.List.{[]};
 ghost use mathlib.Core.Path.{_≡_};
 ghost use Prim.Native.Nat.{_+_, _≤_};
@@ -15,20 +21,21 @@ ghost use Rattle.ranges.specs.Ranges.{gateNumber, unless};
 ghost use Rattle.rules.specs.Steps.{Op};
 ghost use Rattle.rules.specs.Plain.{Call};
 ghost use Rattle.rules.specs.Calls.{call};
-ghost use Rattle.rules.specs.Promises.{lent, Meets};
+ghost use Rattle.rules.specs.Machine.{lent};
+ghost use Rattle.rules.specs.Promises.{Meets};
 
 // Refusals 9 to 11 of a write of n bytes: past the end of its file, as 65th record, or past the end of its log.
 fn room(place: usize, n: usize, records: usize, end: usize) -> Gate
     requires { ⌜ (place ≤ 4096) × (end ≤ 4096) ⌝ }
     ensures { λ r. ⌜ gateNumber r ≡ unless (leb (place + n) 4096) 9 (unless (leb (records + 1) 64) 10 (unless (leb (end + n) 4096) 11 0)) ⌝ }
 {
-    if 4096 - place < n {
+    if FILE_BYTES - place < n {
         return Gate::Refused(Refusal::WritePastEnd);
     }
-    if 64 <= records {
+    if RECORDS <= records {
         return Gate::Refused(Refusal::RecordsFull);
     }
-    if 4096 - end < n {
+    if FILE_BYTES - end < n {
         return Gate::Refused(Refusal::LogFull);
     }
     Gate::Pass
@@ -37,6 +44,7 @@ fn room(place: usize, n: usize, records: usize, end: usize) -> Gate
 // Writes bytes through descriptor d of transaction t into its log. A write whose place is unknown lies after the advance before it.
 pub fn write(
     mut s: Store,
+    journal: &mut [u16; NUMBERS],
     files: &[u8],
     logs: &mut [u8],
     marks: &[u8],
@@ -44,51 +52,43 @@ pub fn write(
     d: usize,
     bytes: &[u8],
 ) -> Answer
-    ensures { λ r. ⌜ Meets (call (Call.on t (Op.write d (now (bytes .entry)))) (lent s (now (files .entry)) (now (logs .entry)) (now (marks .entry)))) r (now (files .exit)) (now (logs .exit)) (now (marks .exit)) [] ⌝ }
+    ensures { λ r. ⌜ Meets (call (Call.on t (Op.write d (now (bytes .entry)))) (lent s (now (journal .entry)) (now (files .entry)) (now (logs .entry)) (now (marks .entry)))) (r .outcome) (lent (r .store) (now (journal .exit)) (now (files .exit)) (now (logs .exit)) (now (marks .exit))) [] ⌝ }
 {
-    let xs = s.transactions;
-    let g = ranges::admit(
-        &s.files,
-        &s.offsets,
-        xs,
-        &s.holders,
-        &s.places,
-        &s.lengths,
-        files.len(),
-        logs.len(),
-        marks.len(),
-        t,
-    );
+    let g = ranges::admit(s, journal, files.len(), logs.len(), marks.len(), t);
     if let Gate::Refused(r) = g {
-        return turns::turned_down(r, s);
-    }
-    if 15 < d {
-        return turns::turned_down(Refusal::NoSuchDescriptor, s);
+        return refusing::turned_down(r, s);
     }
     let mut x = s.transactions[t];
-    let q = x.descriptors[d];
-    let z = q.standing;
-    let place = standings::place_of(z);
-    let records = journal::wide_octet(x.used.records);
-    let end = journal::wide(x.used.bytes);
-    let h = room(journal::wide(place), bytes.len(), records, end);
-    if let Gate::Refused(r) = h {
-        return turns::turned_down(r, s);
+    if !x.begun {
+        return refusing::turned_down(Refusal::NotOpen, s);
     }
-    parts::copy_to(logs, 4096 * t + end, bytes);
-    let n = bytes.len() as u16;
-    let i = 64 * t + records;
-    s.holders[i] = standings::holder_of(z, d as u8);
-    s.places[i] = place;
-    s.lengths[i] = n;
+    if 15 < d {
+        return refusing::turned_down(Refusal::NoSuchDescriptor, s);
+    }
+    let z = x.standing_at(d);
+    let place = z.write_place();
+    let records = wide_octet(x.used.records);
+    let end = wide(x.used.bytes);
+    let h = room(wide(place.number()), bytes.len(), records, end);
+    if let Gate::Refused(r) = h {
+        return refusing::turned_down(r, s);
+    }
+    parts::copy_to(logs, FILE_BYTES * t + end, bytes);
+    let length = bytes.len() as u16;
+    let w = WriteRecord {
+        descriptor: d as u16,
+        place,
+        length,
+    };
+    put_record(journal, t, records, w);
     let used = x.used;
-    x.used = counters::appended(used, n);
+    x.used = counters::appended(used, length);
     x.descriptors[d] = Descriptor {
-        standing: standings::after_write(z, n),
+        standing: z.after_write(length),
     };
     s.transactions[t] = x;
     Answer {
-        outcome: Outcome::Done,
         store: s,
+        outcome: Outcome::Done,
     }
 }

@@ -1,24 +1,15 @@
 // A caller of the store. Transaction 0 writes while transaction 1 reads the same bytes: the commit of 0 makes 1 stale, the commit
 // of 1 is refused, and 1 starts again.
 use libc::STDOUT_FILENO;
-use record::Answer;
-use record::Outcome;
 use record::Store;
+use record::journal::NUMBERS;
+use record::outcomes::Answer;
+use record::outcomes::Outcome;
 
-// A store buffer.
+// A store buffer, and the second part of the record.
 type Buffer = [u8; 32768];
 
-// A record for Fresh to replace.
-fn blank() -> Store {
-    Store {
-        files: [0u8; 16],
-        offsets: [0u16; 16],
-        transactions: [record::ended(); 8],
-        holders: [0u8; 512],
-        places: [0u16; 512],
-        lengths: [0u16; 512],
-    }
-}
+type Journal = [u16; NUMBERS];
 
 fn print(text: &[u8]) {
     io::write_all(STDOUT_FILENO, text);
@@ -37,51 +28,58 @@ fn told(call: &[u8], a: Answer) -> Store {
         Outcome::Done => print(b": done"),
         Outcome::Offset(n) => print_number(b": offset ", n),
         Outcome::Given(n) => print_number(b": bytes given ", n),
-        Outcome::Granted(n) => print_number(b": granted, made stale ", n as u16),
+        Outcome::Staled(n) => print_number(b": granted, made stale ", n as u16),
         Outcome::Refused(_) => print(b": refused"),
     }
     print(b"\n");
     a.store
 }
 
-// A fresh store whose descriptors all belong to file 0, with transactions 0 and 1 begun. Every call takes the record by value
-// with the three store buffers, and answers its outcome with the record to keep.
-fn begun(files: &mut Buffer, logs: &Buffer, marks: &mut Buffer) -> Store {
-    let a = store::fresh(blank(), files, logs, marks, &[0u8; 16]);
-    let a = store::begin(a.store, files, logs, marks, 0);
-    let a = store::begin(a.store, files, logs, marks, 1);
+// A fresh store whose descriptors all belong to file 0, with transactions 0 and 1 begun. Every call takes the record, its first part
+// by value and its second lent, with the three store buffers, and answers its outcome with the first part to keep.
+fn begun(journal: &mut Journal, files: &mut Buffer, logs: &Buffer, marks: &mut Buffer) -> Store {
+    let a = store::fresh(record::blank(), journal, files, logs, marks, &[0u8; 16]);
+    let a = store::begin(a.store, journal, files, logs, marks, 0);
+    let a = store::begin(a.store, journal, files, logs, marks, 1);
     a.store
 }
 
 // Transaction 0 writes through descriptor 0 and transaction 1 reads through descriptor 1; then both commit.
-fn both(s: Store, files: &mut Buffer, logs: &mut Buffer, marks: &mut Buffer) -> Store {
+fn both(
+    s: Store,
+    journal: &mut Journal,
+    files: &mut Buffer,
+    logs: &mut Buffer,
+    marks: &mut Buffer,
+) -> Store {
     let mut reader = [0u8; 5];
-    let a = store::write(s, files, logs, marks, 0, 0, b"hello");
+    let a = store::write(s, journal, files, logs, marks, 0, 0, b"hello");
     let s = told(b"0 writes", a);
-    let a = store::read(s, files, logs, marks, 1, 1, 5, &mut reader);
+    let a = store::read(s, journal, files, logs, marks, 1, 1, 5, &mut reader);
     let s = told(b"1 reads", a);
-    let a = store::commit(s, files, logs, marks, 0);
+    let a = store::commit(s, journal, files, logs, marks, 0);
     let s = told(b"commit 0", a);
-    let a = store::commit(s, files, logs, marks, 1);
+    let a = store::commit(s, journal, files, logs, marks, 1);
     told(b"commit 1", a)
 }
 
 // Transaction 1 again.
-fn again(s: Store, files: &mut Buffer, logs: &Buffer, marks: &mut Buffer) {
+fn again(s: Store, journal: &mut Journal, files: &mut Buffer, logs: &Buffer, marks: &mut Buffer) {
     let mut reader = [0u8; 5];
-    let a = store::begin(s, files, logs, marks, 1);
-    let a = store::read(a.store, files, logs, marks, 1, 1, 5, &mut reader);
+    let a = store::begin(s, journal, files, logs, marks, 1);
+    let a = store::read(a.store, journal, files, logs, marks, 1, 1, 5, &mut reader);
     let s = told(b"1 reads", a);
     print(&reader);
-    let a = store::commit(s, files, logs, marks, 1);
+    let a = store::commit(s, journal, files, logs, marks, 1);
     told(b"\ncommit 1", a);
 }
 
 fn main() {
+    let mut journal = [0u16; NUMBERS];
     let mut files = [0u8; 32768];
     let mut logs = [0u8; 32768];
     let mut marks = [0u8; 32768];
-    let s = begun(&mut files, &logs, &mut marks);
-    let s = both(s, &mut files, &mut logs, &mut marks);
-    again(s, &mut files, &logs, &mut marks);
+    let s = begun(&mut journal, &mut files, &logs, &mut marks);
+    let s = both(s, &mut journal, &mut files, &mut logs, &mut marks);
+    again(s, &mut journal, &mut files, &logs, &mut marks);
 }

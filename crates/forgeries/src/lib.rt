@@ -1,12 +1,20 @@
 // Forged records, which no run from Fresh reaches.
 use counters::Used;
+use generator::Damage;
 use record::Descriptor;
-use record::Standing;
 use record::Store;
 use record::Transaction;
-use stream::Damage;
-ghost use Prim.Native.Nat.{_≤_, _<_};
+use record::journal::NUMBERS;
+use record::journal::RECORDS;
+use record::journal::WriteRecord;
+use record::journal::put_record;
+use record::journal::record_at;
+use standings::Place;
+use standings::Standing;
+ghost use mathlib.Core.Path.{_≡_};
+ghost use Prim.Native.Nat.{_<_};
 
+// A number above 4,096.
 fn above(excess: usize) -> u16 {
     (4097 + excess % 61439) as u16
 }
@@ -19,7 +27,7 @@ fn other(n: u16) -> u16 {
     n - 1
 }
 
-// Where a record of n bytes has to lie to end at 4,097.
+// Where a write of n bytes has to lie to end at 4,097.
 fn past(n: u16) -> u16 {
     if n <= 4096 {
         return 4097 - n;
@@ -45,134 +53,134 @@ fn standing(forgery: usize, excess: usize) -> Standing {
     }
 }
 
-// Forgeries 3 to 9, of a transaction, which is counted as begun: a standing, the records or the sum of their lengths.
-fn transaction(mut x: Transaction, g: Damage) -> Transaction
-    requires { ⌜ g .index < 16 ⌝ }
+// The transaction with another standing of descriptor d.
+fn with_standing(mut x: Transaction, d: usize, z: Standing) -> Transaction
+    requires { ⌜ d < 16 ⌝ }
 {
-    let i = g.index;
-    let used = x.used;
-    x.begun = true;
-    if g.forgery < 8 {
-        x.descriptors[i] = Descriptor {
-            standing: standing(g.forgery, g.excess),
-        };
-        return x;
-    }
-    if g.forgery == 8 {
-        let after = Used {
-            records: (65 + g.excess % 191) as u8,
-            bytes: used.bytes,
-        };
-        x.used = after;
-        return x;
-    }
-    let after = Used {
-        records: used.records,
-        bytes: other(used.bytes),
-    };
-    x.used = after;
+    x.descriptors[d] = Descriptor { standing: z };
     x
 }
 
-// Transaction t counted as begun, with an empty record at place 0 where it has none.
-fn with_a_record(mut s: Store, t: usize) -> Store
-    requires { ⌜ t < 8 ⌝ }
-{
-    let mut x = s.transactions[t];
-    let used = x.used;
+// The transaction counted as begun, with other counters.
+fn with_used(mut x: Transaction, records: u8, bytes: u16) -> Transaction {
+    let used = Used { records, bytes };
     x.begun = true;
-    if used.records == 0 {
-        let k = 64 * t;
-        let after = Used {
-            records: 1,
-            bytes: used.bytes,
-        };
-        x.used = after;
-        s.holders[k] = 0;
-        s.places[k] = 0;
-        s.lengths[k] = 0;
-    }
-    s.transactions[t] = x;
-    s
+    x.used = used;
+    x
 }
 
-// Forgeries 10 to 12: the first record's holder, its end, or the sum of the lengths.
-fn first_record(mut s: Store, g: Damage) -> Store
+// Forgeries 3 to 9: a standing out of range, too many records, or the sum of their lengths.
+fn transaction(x: Transaction, g: Damage) -> Transaction
+    requires { ⌜ g .index < 16 ⌝ }
+{
+    let used = x.used;
+    let y = with_used(x, used.records, used.bytes);
+    if g.forgery < 8 {
+        return with_standing(y, g.index, standing(g.forgery, g.excess));
+    }
+    if g.forgery == 8 {
+        return with_used(y, (65 + g.excess % 191) as u8, used.bytes);
+    }
+    with_used(y, used.records, other(used.bytes))
+}
+
+// A write through descriptor 0, at place p.
+fn write_at(p: u16, length: u16) -> WriteRecord
+    ensures { λ r. ⌜ r .descriptor ≡ 0 ⌝ }
+{
+    WriteRecord {
+        descriptor: 0,
+        place: Place::At(p),
+        length,
+    }
+}
+
+// Transaction t, counted as begun; where it has no write record it gets an empty one, at place 0.
+fn with_a_record(x: Transaction, journal: &mut [u16; NUMBERS], t: usize) -> Transaction
+    requires { ⌜ t < 8 ⌝ }
+{
+    let used = x.used;
+    if used.records == 0 {
+        put_record(journal, t, 0, write_at(0, 0));
+        return with_used(x, 1, used.bytes);
+    }
+    with_used(x, used.records, used.bytes)
+}
+
+// Forgeries 10 to 12: the first record's descriptor, its end, or the sum of the lengths. No record can be put with a descriptor above
+// 15, so the number itself is set.
+fn first_record(journal: &mut [u16; NUMBERS], g: Damage)
     requires { ⌜ g .transaction < 8 ⌝ }
 {
-    let k = 64 * g.transaction;
-    let n = s.lengths[k];
+    let t = g.transaction;
+    let w = record_at(journal, t, 0);
     if g.forgery == 10 {
-        s.holders[k] = (32 + g.excess % 224) as u8;
-        return s;
+        journal[3 * RECORDS * t] = (32 + g.excess % 224) as u16;
+        return;
     }
     if g.forgery == 11 {
-        s.places[k] = past(n);
-        return s;
+        put_record(journal, t, 0, write_at(past(w.length), w.length));
+        return;
     }
-    s.lengths[k] = other(n);
-    s
+    put_record(journal, t, 0, write_at(0, other(w.length)));
 }
 
 // Forgeries 13 and 14: a record without a place under Placed, or one that ends past the advance.
-fn without_place(mut s: Store, g: Damage) -> Store
+fn without_place(x: Transaction, journal: &mut [u16; NUMBERS], g: Damage) -> Transaction
     requires { ⌜ (g .transaction < 8) × (g .index < 16) ⌝ }
 {
     let t = g.transaction;
     let i = g.index;
-    let k = 64 * t;
-    let mut x = s.transactions[t];
-    s.holders[k] = (i + 16) as u8;
-    if g.forgery == 13 {
-        x.descriptors[i] = Descriptor {
-            standing: Standing::Placed(0),
-        };
-        s.transactions[t] = x;
-        return s;
-    }
-    s.places[k] = 1;
-    x.descriptors[i] = Descriptor {
-        standing: Standing::Deferred(0),
+    let w = record_at(journal, t, 0);
+    let after = WriteRecord {
+        descriptor: i as u16,
+        place: Place::After(1),
+        length: w.length,
     };
-    s.transactions[t] = x;
-    s
+    put_record(journal, t, 0, after);
+    if g.forgery == 13 {
+        return with_standing(x, i, Standing::Placed(0));
+    }
+    with_standing(x, i, Standing::Deferred(0))
 }
 
 // Forgery 15: two records, each in range, whose data together is above 4,096 bytes.
-fn two_records(mut s: Store, g: Damage) -> Store
+fn two_records(x: Transaction, journal: &mut [u16; NUMBERS], g: Damage) -> Transaction
     requires { ⌜ g .transaction < 8 ⌝ }
 {
     let t = g.transaction;
-    let k = 64 * t;
-    let l = k + 1;
     let n = 1 + g.excess % 4096;
-    let mut x = s.transactions[t];
-    let after = Used {
-        records: 2,
-        bytes: (4096 + n) as u16,
-    };
-    x.used = after;
-    s.transactions[t] = x;
-    s.holders[k] = 0;
-    s.holders[l] = 0;
-    s.places[k] = 0;
-    s.places[l] = 0;
-    s.lengths[k] = 4096;
-    s.lengths[l] = n as u16;
-    s
+    put_record(journal, t, 0, write_at(0, 4096));
+    put_record(journal, t, 1, write_at(0, n as u16));
+    with_used(x, 2, (4096 + n) as u16)
+}
+
+// Forgeries 10 to 15, of a transaction that has a write record.
+fn logged(x: Transaction, journal: &mut [u16; NUMBERS], g: Damage) -> Transaction
+    requires { ⌜ (g .transaction < 8) × (g .index < 16) ⌝ }
+{
+    if g.forgery < 13 {
+        first_record(journal, g);
+        return x;
+    }
+    if g.forgery < 15 {
+        return without_place(x, journal, g);
+    }
+    two_records(x, journal, g)
 }
 
 // The record with a field out of range; the number of the forgery, 0 to 15, says which. 0 leaves the record.
-pub fn forged(mut s: Store, g: Damage) -> Store
+pub fn forged(mut s: Store, journal: &mut [u16; NUMBERS], g: Damage) -> Store
     requires { ⌜ (g .transaction < 8) × (g .index < 16) ⌝ }
 {
     let i = g.index;
     let t = g.transaction;
+    let x = s.transactions[t];
     if g.forgery == 0 {
         return s;
     }
     if g.forgery == 1 {
-        s.files[i] = (8 + g.excess % 248) as u8;
+        s.filenumbers[i] = (8 + g.excess % 248) as u8;
         return s;
     }
     if g.forgery == 2 {
@@ -180,16 +188,10 @@ pub fn forged(mut s: Store, g: Damage) -> Store
         return s;
     }
     if g.forgery < 10 {
-        let x = s.transactions[t];
         s.transactions[t] = transaction(x, g);
         return s;
     }
-    let f = with_a_record(s, t);
-    if g.forgery < 13 {
-        return first_record(f, g);
-    }
-    if g.forgery < 15 {
-        return without_place(f, g);
-    }
-    two_records(f, g)
+    let y = with_a_record(x, journal, t);
+    s.transactions[t] = logged(y, journal, g);
+    s
 }

@@ -1,31 +1,37 @@
 // What a granted commit sets: the bytes of its writes, and the committed offsets.
 use counters::Used;
-use descriptors::standings;
-use octets::marks as bits;
+use numbers::FILE_BYTES;
+use numbers::FILE_END;
+use numbers::wide;
+use numbers::wide_octet;
+use octets::marks::joined;
+use octets::marks::markers;
 use octets::parts;
+use record::DESCRIPTORS;
 use record::Transaction;
+use record::journal::NUMBERS;
+use record::journal::record_at;
+use standings::Place;
+ghost use mathlib.Core.Bool.{true};
 ghost use mathlib.Core.Path.{_≡_};
-ghost use Prim.Native.Nat.{ℕ, _+_, _≤_, _<_};
+ghost use Prim.Native.Nat.{ℕ, _≤_, _<_};
 ghost use lib.ListN.{length, getD};
-ghost use Rattle.octets.specs.Bits.{unionOf};
-ghost use Rattle.record.specs.Journal.{holderDescriptor, holderPlace, standingAt};
-ghost use Rattle.ranges.specs.Below.{below};
-ghost use Rattle.rules.specs.Standings.{advance};
-ghost use Rattle.rules.specs.Commits.{landsAt};
-ghost use Rattle.rules.specs.Machine.{tabulate};
-ghost use Rattle.rules.specs.Calls.{landFiles};
-ghost use Rattle.landing.specs.Landing.{arrays, bytesSet, marksOf, CanLand, fitsBehind, offsetAfter};
+ghost use Rattle.octets.specs.Marks.{contains};
+ghost use Rattle.record.specs.declared.Transaction.{Transaction};
+ghost use Rattle.ranges.specs.Ranges.{sized};
+ghost use Rattle.rules.specs.Commits.{landsAt, offsetSettings, fits};
+ghost use Rattle.rules.specs.Calls.{landFiles, landOffsets, conflicts};
+ghost use Rattle.landing.specs.Landing.{offsetsOnly, standingsOnly, bytesSet, CanLand};
 
-// Commit's placing: every advance fits behind its committed offset.
-pub fn fits(x: Transaction, offsets: &[u16; 16]) -> bool
+// Commit's placing: every advance of x fits behind its committed offset.
+pub fn places_fit(x: Transaction, offsets: &[u16; DESCRIPTORS]) -> bool
     requires { ⌜ ((d : ℕ) → d < 16 → getD (now offsets) d 0 ≤ 4096) ⌝ }
-    ensures { λ r. ⌜ r ≡ below (fitsBehind x (now (offsets .entry))) 16 ⌝ }
+    ensures { λ r. ⌜ r ≡ fits (offsetsOnly (now (offsets .entry))) (standingsOnly x) ⌝ }
 {
     let mut d = 0;
-    while d < 16 {
-        let q = x.descriptors[d];
-        let z = q.standing;
-        if 4096 - offsets[d] < standings::advance_of(z) {
+    while d < DESCRIPTORS {
+        let z = x.standing_at(d);
+        if FILE_END - offsets[d] < z.advance() {
             return false;
         }
         d += 1;
@@ -33,57 +39,45 @@ pub fn fits(x: Transaction, offsets: &[u16; 16]) -> bool
     true
 }
 
-// The descriptor of a write record, from its holder.
-fn descriptor_of(holder: usize) -> usize
-    ensures { λ r. ⌜ r ≡ holderDescriptor holder ⌝ }
+// Where a write lands in its file: at its place or, while it has none, from the committed offset c on.
+fn lands_at(place: Place, c: usize) -> usize
+    requires { ⌜ c ≤ 65535 ⌝ }
+    ensures { λ r. ⌜ r ≡ landsAt c place ⌝ }
 {
-    if 16 <= holder {
-        return holder - 16;
+    match place {
+        Place::At(p) => wide(p),
+        Place::After(a) => c + wide(a),
     }
-    holder
 }
 
-// Where a write record lands in its file: at its place or, while it has none, from the committed offset c on.
-fn lands_at(holder: usize, place: usize, c: usize) -> usize
-    requires { ⌜ (place ≤ 65535) × (c ≤ 65535) ⌝ }
-    ensures { λ r. ⌜ r ≡ landsAt c (holderPlace holder place) ⌝ }
-{
-    if 16 <= holder {
-        return c + place;
-    }
-    place
-}
-
-// Lands transaction t's writes in call order. Answers the marks of the bytes that it set, joined.
+// Lands transaction t's writes in call order. Answers those who have a mark on a byte that it set.
 pub fn land_writes<'a>(
     files: &mut [u8],
-    logs: &'a [u8],
-    marks: &'a [u8],
-    holders: &'a [u8; 512],
-    places: &'a [u16; 512],
-    lengths: &'a [u16; 512],
-    numbers: &'a [u8; 16],
-    offsets: &'a [u16; 16],
+    logs: &[u8],
+    marks: &[u8],
+    journal: &[u16; NUMBERS],
+    filenumbers: &'a [u8; DESCRIPTORS],
+    offsets: &'a [u16; DESCRIPTORS],
     t: usize,
     used: Used,
 ) -> u8
-    requires { ⌜ CanLand (arrays (now holders) (now places) (now lengths) (now numbers) (now offsets)) (length (now files)) (length (now logs)) (length (now marks)) t (used .records) ⌝ }
-    ensures files { λ _. ⌜ now (files .exit) ≡ landFiles (bytesSet (arrays (now (holders .entry)) (now (places .entry)) (now (lengths .entry)) (now (numbers .entry)) (now (offsets .entry))) (now (logs .entry)) t (used .records)) (now (files .entry)) ⌝ }
-    ensures seen { λ r. ⌜ r ≡ unionOf (marksOf (now (marks .entry)) (bytesSet (arrays (now (holders .entry)) (now (places .entry)) (now (lengths .entry)) (now (numbers .entry)) (now (offsets .entry))) (now (logs .entry)) t (used .records))) ⌝ }
+    requires { ⌜ CanLand (now filenumbers) (now offsets) (now journal) (sized (length (now files)) (length (now logs)) (length (now marks))) t (used .records) ⌝ }
+    ensures files { λ _. ⌜ now (files .exit) ≡ landFiles (bytesSet (now (filenumbers .entry)) (now (offsets .entry)) (now (journal .entry)) (now (logs .entry)) t (used .records)) (now (files .entry)) ⌝ }
+    ensures seen { λ r. ⌜ ((u : ℕ) (y : Transaction) → u < 8 → contains r u ≡ conflicts (now (marks .entry)) u y (bytesSet (now (filenumbers .entry)) (now (offsets .entry)) (now (journal .entry)) (now (logs .entry)) t (used .records))) ⌝ }
 {
-    let records = journal::wide_octet(used.records);
+    let records = wide_octet(used.records);
     let mut seen = 0u8;
-    let mut start = 4096 * t;
+    let mut start = FILE_BYTES * t;
     let mut k = 0;
     while k < records {
-        let i = 64 * t + k;
-        let size = journal::wide(lengths[i]);
-        let h = journal::wide_octet(holders[i]);
-        let d = descriptor_of(h);
-        let place = lands_at(h, journal::wide(places[i]), journal::wide(offsets[d]));
-        let f = journal::wide_octet(numbers[d]);
+        let w = record_at(journal, t, k);
+        let d = wide(w.descriptor);
+        let size = wide(w.length);
+        let p = w.place;
+        let place = lands_at(p, wide(offsets[d]));
+        let f = wide_octet(filenumbers[d]);
         parts::land(files, f, place, parts::part(logs, start, size));
-        seen = seen | bits::union(marks, 4096 * f + place, size);
+        seen = joined(seen, markers(marks, FILE_BYTES * f + place, size));
         start += size;
         k += 1;
     }
@@ -91,17 +85,16 @@ pub fn land_writes<'a>(
 }
 
 // The committed offsets after a commit of x.
-pub fn offsets_after(x: Transaction, offsets: [u16; 16]) -> [u16; 16]
-    requires { ⌜ ((d : ℕ) → d < 16 → getD offsets d 0 + advance (standingAt x d) ≤ 4096) ⌝ }
-    ensures { λ r. ⌜ r ≡ tabulate (offsetAfter x offsets) 16 ⌝ }
+pub fn offsets_after(x: Transaction, offsets: [u16; DESCRIPTORS]) -> [u16; DESCRIPTORS]
+    requires { ⌜ fits (offsetsOnly offsets) (standingsOnly x) ≡ true ⌝ }
+    ensures { λ r. ⌜ r ≡ landOffsets (offsetSettings (offsetsOnly offsets) (standingsOnly x) 16) offsets ⌝ }
 {
     let mut out = offsets;
     let mut d = 0;
-    while d < 16 {
-        let q = x.descriptors[d];
-        let z = q.standing;
-        if standings::is_set(z) {
-            out[d] = standings::final_offset(z, offsets[d]);
+    while d < DESCRIPTORS {
+        let z = x.standing_at(d);
+        if z.is_touched() {
+            out[d] = z.final_offset(offsets[d]);
         }
         d += 1;
     }

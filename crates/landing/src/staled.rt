@@ -1,5 +1,6 @@
 // Whom a granted commit makes stale.
-use descriptors::standings;
+use octets::marks::contains;
+use record::DESCRIPTORS;
 use record::Transaction;
 ghost use mathlib.Core.Path.{_≡_};
 ghost use Prim.Native.Nat.{_<_};
@@ -10,13 +11,11 @@ fn knows_offset_of(y: Transaction, x: Transaction) -> bool
     ensures { λ r. ⌜ r ≡ some (knowsOffset y x) 16 ⌝ }
 {
     let mut d = 0;
-    while d < 16 {
-        let q = x.descriptors[d];
-        let w = y.descriptors[d];
-        let z = q.standing;
-        let k = w.standing;
-        if standings::is_set(z) {
-            if standings::is_known(k) {
+    while d < DESCRIPTORS {
+        let z = x.standing_at(d);
+        if z.is_touched() {
+            let k = y.standing_at(d);
+            if k.is_known() {
                 return true;
             }
         }
@@ -25,8 +24,8 @@ fn knows_offset_of(y: Transaction, x: Transaction) -> bool
     false
 }
 
-// Whether transaction u, as y, is another open one that has sighted what the commit of t, as x, set; seen has the marks of the
-// bytes that it set.
+// Whether transaction u, as y, is another open one that has sighted what the commit of t, as x, set; seen are those who have a mark
+// on a byte that it set.
 pub fn is_hit(x: Transaction, t: usize, seen: u8, u: usize, y: Transaction) -> bool
     requires { ⌜ u < 8 ⌝ }
     ensures { λ r. ⌜ r ≡ hit x t seen u y ⌝ }
@@ -37,7 +36,7 @@ pub fn is_hit(x: Transaction, t: usize, seen: u8, u: usize, y: Transaction) -> b
     if !y.begun {
         return false;
     }
-    if (seen >> u) % 2 == 1 {
+    if contains(seen, u) {
         return true;
     }
     knows_offset_of(y, x)
@@ -48,7 +47,7 @@ pub fn after_commit(ends: bool, h: bool, y: Transaction) -> Transaction
     ensures { λ r. ⌜ r ≡ afterwards ends h y ⌝ }
 {
     if ends {
-        return record::ended();
+        return Transaction::ended();
     }
     let mut out = y;
     if h {

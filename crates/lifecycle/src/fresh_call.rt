@@ -1,14 +1,18 @@
 // Fresh.
 use octets::parts;
 use ranges::Gate;
-use record::Answer;
-use record::Outcome;
 use record::Store;
+use record::Transaction;
+use record::journal;
+use record::journal::NUMBERS;
+use record::outcomes::Answer;
+use record::outcomes::Outcome;
 ghost use mathlib.Core.List.{[]};
 ghost use mathlib.Core.Path.{_≡_};
 ghost use lib.ListN.{length, replicate};
 ghost use Rattle.rules.specs.Calls.{fresh as freshRule, freshStore};
-ghost use Rattle.rules.specs.Promises.{lent, Meets};
+ghost use Rattle.rules.specs.Machine.{lent};
+ghost use Rattle.rules.specs.Promises.{Meets};
 
 // Sets every octet to 0.
 fn zero(buffer: &mut [u8])
@@ -36,31 +40,36 @@ fn fresh_store(numbers: &[u8]) -> Store
     requires { ⌜ length (now numbers) ≡ 16 ⌝ }
     ensures { λ r. ⌜ r ≡ freshStore (now (numbers .entry)) ⌝ }
 {
-    let files = sixteen(numbers);
-    let x = record::ended();
+    let filenumbers = sixteen(numbers);
+    let x = Transaction::ended();
     Store {
-        files,
+        filenumbers,
         offsets: [0u16; 16],
         transactions: [x; 8],
-        holders: [0u8; 512],
-        places: [0u16; 512],
-        lengths: [0u16; 512],
     }
 }
 
-// Makes the store fresh: descriptor d belongs to file numbers[d], every file byte, mark and offset is 0, nothing is open. The logs are
-// left as found. Refuses 1, then 14, and hands back the record at hand.
-pub fn fresh(s: Store, files: &mut [u8], logs: &[u8], marks: &mut [u8], numbers: &[u8]) -> Answer
-    ensures { λ r. ⌜ Meets (freshRule (now (numbers .entry)) (lent s (now (files .entry)) (now (logs .entry)) (now (marks .entry)))) r (now (files .exit)) (now (logs .exit)) (now (marks .exit)) [] ⌝ }
+// Makes the store fresh: descriptor d belongs to file numbers[d], every file byte, mark and offset is 0, nothing is open, the journal
+// is empty. The logs are left as found. Refuses 1, then 14, and hands back the record at hand.
+pub fn fresh(
+    s: Store,
+    journal: &mut [u16; NUMBERS],
+    files: &mut [u8],
+    logs: &[u8],
+    marks: &mut [u8],
+    numbers: &[u8],
+) -> Answer
+    ensures { λ r. ⌜ Meets (freshRule (now (numbers .entry)) (lent s (now (journal .entry)) (now (files .entry)) (now (logs .entry)) (now (marks .entry)))) (r .outcome) (lent (r .store) (now (journal .exit)) (now (files .exit)) (now (logs .exit)) (now (marks .exit))) [] ⌝ }
 {
     let g = ranges::admit_fresh(files.len(), logs.len(), marks.len(), numbers);
     if let Gate::Refused(r) = g {
-        return turns::turned_down(r, s);
+        return refusing::turned_down(r, s);
     }
+    journal::clear(journal);
     zero(files);
     zero(marks);
     Answer {
-        outcome: Outcome::Done,
         store: fresh_store(numbers),
+        outcome: Outcome::Done,
     }
 }

@@ -1,2 +1,3 @@
+-- Laws of the two calls: their rules after each of their tests.
 pub mod PointerRules
 pub mod ReadRules

@@ -2,106 +2,93 @@
 use mathlib.Core.Bool.{Bool, true, false, cond, not, _||_}
 use mathlib.Core.List.{List, _++_, append-nil}
 use mathlib.Core.Path.{_≡_, refl, sym, ap, ap₂, _∙_}
-use borrow.Author.Tests.{le-leb, leb-true}
+use borrow.Author.Tests.{le-leb, lt-leb, leb-true}
 use lib.Dec.{leb}
 use lib.ListN.{length, getD, set, drop}
 use native.Mathlib.Omega.{arith}
-use Prim.Native.Nat.{ℕ, _+_, _-_, _≤_, min}
-use Rattle.octets.specs.Parts.{fileOf as filePart}
-use Rattle.record.specs.Journal.{transaction, standingAt}
-use Rattle.record.specs.Paper.{given, said, number}
-use Rattle.record.specs.declared.Standing.{Standing}
-use Rattle.record.specs.declared.Refusal.{Refusal}
+use Prim.Native.Nat.{ℕ, _+_, _-_, _≤_, _<_, min}
+use Rattle.octets.specs.Parts.{filePart}
+use Rattle.standings.specs.declared.Standing.{Standing}
+use Rattle.standings.specs.declared.Standing.the-variants.{Untouched, Placed, Deferred, Moved, Known}
+use Rattle.standings.specs.Table.{afterRead, offsetOf, advance, settled}
+use Rattle.record.specs.declared.outcomes.Outcome.the-variants.{Given}
 use Rattle.record.specs.declared.Transaction.{Transaction}
 use Rattle.record.specs.declared.Store.{Store}
-use Rattle.record.specs.declared.Standing.the-variants.{Untouched, Placed, Deferred, Moved, Known}
-use Rattle.record.specs.declared.Outcome.the-variants.{Given}
-use Rattle.ranges.specs.Ranges.{admission, unless, standingIn}
-use Rattle.ranges.proofs.Laws.{and-right, below-at}
+use Rattle.record.specs.State.{transaction, standingAt, withDescriptors, withTransaction}
+use Rattle.record.specs.Paper.{given, said}
+use Rattle.ranges.specs.Ranges.{admission, standingIn, lengthsBefore}
+use Rattle.ranges.proofs.Laws.{and-right, below-at, standing-numbers}
 use Rattle.rules.specs.Items.{Item, Values, Prog, done, andThen, result, asked}
-use Rattle.rules.specs.Standings.{afterRead, offsetOf, advance, settled}
-use Rattle.rules.specs.Transactions.{Txn, Write, restand, Settled, past, all, settling}
+use Rattle.rules.specs.Transactions.{Txn, Write, withStanding, Settled, past, all, settling}
 use Rattle.rules.specs.Reading.{fetch}
-use Rattle.rules.specs.Steps.{read, Stepped, refuse, accept, check, orGivenBack, step, readStep, readSettled, settledByRead, bufferOf}
-use Rattle.rules.specs.Plain.{on, Reply}
-use Rattle.rules.specs.Machine.{Machine, tabulate, fileOf, values, writeAt, txnOf, withTxn}
+use Rattle.rules.specs.Steps.{read, Stepped, accept, check, orGivenBack, step, readStep, readSettled, settledByRead, bufferOf}
+use Rattle.rules.specs.Plain.{on}
+use Rattle.rules.specs.Machine.{Machine, lent, withStore, withJournal, withMarking, sizes, fileOf, values, txnOf, withTxn, journalled}
 use Rattle.rules.specs.Calls.{Turn, turnDown, marked, logged, served, call}
-use Rattle.encoding.specs.Settling.{settleAll}
-use Rattle.encoding.proofs.Decoded.{Opened}
-use Rattle.rules.proofs.Serial.Programs.{result-andThen, asked-andThen}
-use Rattle.encoding.proofs.Settling.{marked-settling}
-use Rattle.descriptors.specs.Settling.{chosenByRead, fits, fitting, settledTransaction}
-use Rattle.journal.specs.Places.{placedHolders, placedPlaces}
-use Rattle.journal.specs.Runs.{Arrays, arrays, dataBefore}
-use Rattle.settling.proofs.Settled.{settledTxn, settledStore, txn-settled-restood, writes-settled, standing-settled}
-use Rattle.settling.proofs.Chosen.{settling-read}
-use Rattle.reading.specs.Serving.{bytesOf, marksAfter, logOf}
-use Rattle.reading.proofs.MachineLaws.{arraysOf, bytes-are, marks-are}
 use Rattle.rules.specs.Promises.{Meets}
-use Rattle.turns.proofs.Turns.{program, number-suc, on-stepped, on-refused, check-held}
+use Rattle.rules.proofs.Serial.Programs.{result-andThen, asked-andThen}
+use Rattle.laws.specs.Settling.{settleAll}
+use Rattle.laws.proofs.Decoded.{Opened}
+use Rattle.laws.proofs.Settling.{marked-settling}
+use Rattle.settling.specs.Choices.{chosenByRead, settlesWithin, allWithin, settledTransaction}
+use Rattle.settling.proofs.Settled.{settledTxn, settledJournal, txn-settled-restood, journal-settled, descriptor-settled, data-settled, writes-settled, standing-settled}
+use Rattle.settling.proofs.Chosen.{settling-read}
+use Rattle.runs.specs.declared.Extent.{Extent}
+use Rattle.runs.specs.Runs.{Recorded, recorded, extent, Counted}
+use Rattle.reading.specs.Serving.{bytesOf, marksAfter, logPart}
+use Rattle.reading.proofs.MachineLaws.{bytes-are, marks-are}
+use Rattle.refusing.proofs.Turns.{program, on-stepped, on-refused, check-held, check-failed}
 
--- Two tests in a row: the number of the first that fails, and the step that they guard.
-two-refused : (i j : ℕ) (a b : Bool) (p : Prog Stepped) (r : Refusal) → number r ≡ unless a i (unless b j 0) → check a i (check b j p) ≡ done (refuse (number r))
-unfolding check unless
-two-refused i j false b p r e = rw e
-two-refused i j true false p r e = rw e
-two-refused i j true true p r e = absurd (omega (arith, number-suc r .1, e))
+-- ---- the offset of a standing in range, and of one that was settled
 
--- What passing them tells.
-both-held : (a b : Bool) → unless a 6 (unless b 7 0) ≡ 0 → (a ≡ true) × (b ≡ true)
-unfolding unless
-both-held false b e = let f : _≡_ {A = ℕ} 6 0 = e in absurd (omega arith)
-both-held true false e = let f : _≡_ {A = ℕ} 7 0 = e in absurd (omega arith)
-both-held true true e = (refl, refl)
-
-pub read-room : (d n room : ℕ) → unless (leb d 15) 6 (unless (leb n room) 7 0) ≡ 0 → (d ≤ 15) × (n ≤ room)
-read-room d n room e = let w = both-held (leb d 15) (leb n room) e in (leb-true d 15 (w .0), leb-true n room (w .1))
-
--- The offset of a standing in range, and of one that was settled.
 offset-low : (z : Standing) → standingIn z ≡ true → offsetOf z ≤ 4096
-unfolding standingIn offsetOf
-offset-low Untouched e = omega arith
-offset-low (Placed o) e = leb-true o 4096 e
-offset-low (Deferred a) e = omega arith
-offset-low (Moved a o) e = leb-true o 4096 (and-right (leb a 4096) (leb o 4096) e)
-offset-low (Known o) e = leb-true o 4096 e
+offset-low z e =
+    leb-true (offsetOf z) 4096 (and-right (leb (advance z) 4096) (leb (offsetOf z) 4096) (sym (standing-numbers z) ∙ e))
 
 settled-low : (c : ℕ) (z : Standing) → standingIn z ≡ true → c + advance z ≤ 4096 → offsetOf (settled c z) ≤ 4096
-unfolding standingIn offsetOf settled advance
+unfolding settled
 settled-low c Untouched e h = omega arith
-settled-low c (Placed o) e h = leb-true o 4096 e
+settled-low c (Placed o) e h = offset-low (Placed o) e
 settled-low c (Deferred a) e h = h
-settled-low c (Moved a o) e h = leb-true o 4096 (and-right (leb a 4096) (leb o 4096) e)
-settled-low c (Known o) e h = leb-true o 4096 e
+settled-low c (Moved a o) e h = offset-low (Moved a o) e
+settled-low c (Known o) e h = offset-low (Known o) e
 
 chosen-low : (b : Bool) (c : ℕ) (z : Standing) → standingIn z ≡ true → not b || leb (c + advance z) 4096 ≡ true → offsetOf (cond b (settled c z) z) ≤ 4096
 chosen-low true c z e h = settled-low c z e (leb-true (c + advance z) 4096 h)
 chosen-low false c z e h = offset-low z e
 
-module _ (t d n : ℕ) (buffer : List ℕ) (m : Machine) (passes : admission (length (m .files)) (length (m .logs)) (length (m .marks)) (m .store) t ≡ 0) where
-  pub read-refused : (r : Refusal) → number r ≡ unless (leb d 15) 6 (unless (leb n (length buffer)) 7 0) → call (on t (read d n buffer)) m ≡ turnDown (number r) buffer m
+module _ (t d n : ℕ) (buffer : List ℕ) (m : Machine) (passes : admission (sizes m) (m .store) (m .journal) t ≡ 0) where
+  pub read-no-descriptor : 15 < d → call (on t (read d n buffer)) m ≡ turnDown 6 buffer m
   unfolding step readStep bufferOf
-  read-refused r e = on-refused t (read d n buffer) m passes (number r) (two-refused 6 7 (leb d 15) (leb n (length buffer)) _ r e)
+  read-no-descriptor h = on-refused t (read d n buffer) m passes 6 (check-failed (leb d 15) 6 _ (lt-leb d 15 h))
 
-  module _ (o : Opened (m .store) (m .logs) t) (low : d ≤ 15) (room : n ≤ length buffer) where
+  pub read-too-short : d ≤ 15 → length buffer < n → call (on t (read d n buffer)) m ≡ turnDown 7 buffer m
+  unfolding step readStep bufferOf
+  read-too-short h g =
+      on-refused t (read d n buffer) m passes 7 (check-held (leb d 15) 6 _ (le-leb d 15 h) ∙ check-failed (leb n (length buffer)) 7 _ (lt-leb n (length buffer) g))
+
+  module _ (o : Opened (m .store) (m .journal) (m .logs) t) (low : d ≤ 15) (room : n ≤ length buffer) where
     -- Transaction t, the choice, the transaction afterwards, and its meaning.
     abbrev held : Transaction
     held = transaction (m .store) t
 
     abbrev choice : List Bool
-    choice = chosenByRead (m .store .files) held d
+    choice = chosenByRead (m .store .filenumbers) held d
 
     abbrev afterwards : Transaction
     afterwards = settledTransaction choice (m .store .offsets) held
 
     abbrev meant : Txn
-    meant = settledTxn (m .store) (m .logs) t choice
+    meant = settledTxn (m .store) (m .journal) (m .logs) t choice
 
     abbrev v : Values
     v = values (m .store) (m .files)
 
+    abbrev before : Txn
+    before = txnOf (m .store) (m .journal) (m .logs) t
+
     abbrev settles : Prog Settled
-    settles = settling (settledByRead (fileOf (m .store)) d (txnOf (m .store) (m .logs) t)) (txnOf (m .store) (m .logs) t)
+    settles = settling (settledByRead (fileOf (m .store)) d before) before
 
     abbrev goesOn : Txn → Prog Stepped
     goesOn = readSettled (fileOf (m .store)) d n buffer
@@ -112,26 +99,26 @@ module _ (t d n : ℕ) (buffer : List ℕ) (m : Machine) (passes : admission (le
         check-held (leb d 15) 6 (check (leb n (length buffer)) 7 (andThen settles (orGivenBack goesOn))) (le-leb d 15 low)
         ∙ check-held (leb n (length buffer)) 7 (andThen settles (orGivenBack goesOn)) (le-leb n (length buffer) room)
 
-    settles-to : (b : Bool) → fitting choice (m .store .offsets) held ≡ b → result v settles ≡ cond b (all meant) past
+    settles-to : (b : Bool) → allWithin choice (m .store .offsets) held ≡ b → result v settles ≡ cond b (all meant) past
     settles-to b e =
-        settling-read (m .store) (m .files) (m .logs) t d (omega arith) (o .shape .descriptors t (o .small))
+        settling-read (m .store) (m .journal) (m .files) (m .logs) t d (omega arith) (o .shape .descriptors t (o .small))
         ∙ ap (λ (b : Bool). cond b (all meant) past) e
 
-    read-result : (b : Bool) → fitting choice (m .store .offsets) held ≡ b
+    read-result : (b : Bool) → allWithin choice (m .store .offsets) held ≡ b
         → result v (program t (read d n buffer) m passes) ≡ result v (orGivenBack goesOn (cond b (all meant) past))
     read-result b e =
         ap (result v) program-is
         ∙ result-andThen v settles (orGivenBack goesOn)
         ∙ ap (λ (s : Settled). result v (orGivenBack goesOn s)) (settles-to b e)
 
-    pub read-past : fitting choice (m .store .offsets) held ≡ false → call (on t (read d n buffer)) m ≡ turnDown 12 buffer m
+    pub read-past : allWithin choice (m .store .offsets) held ≡ false → call (on t (read d n buffer)) m ≡ turnDown 12 buffer m
     unfolding orGivenBack result served bufferOf
     read-past e =
         on-stepped t (read d n buffer) m passes
         ∙ ap (served t (read d n buffer) m (asked v (program t (read d n buffer) m passes))) (read-result false e)
 
-    module _ (fit : fitting choice (m .store .offsets) held ≡ true) where
-      -- The offset that is read from, how many bytes are given, and by which file.
+    module _ (within : allWithin choice (m .store .offsets) held ≡ true) where
+      -- The offset that is read from, how many bytes are given, by which file; and the transaction's meaning at the end.
       abbrev from : ℕ
       from = offsetOf (meant .standing d)
 
@@ -139,20 +126,22 @@ module _ (t d n : ℕ) (buffer : List ℕ) (m : Machine) (passes : admission (le
       count = min n (4096 - from)
 
       abbrev f : ℕ
-      f = fileOf (m .store) d
+      f = getD (m .store .filenumbers) d 0
 
       abbrev fetches : Prog (List ℕ)
-      fetches = fetch (fileOf (m .store)) (meant .writes) f from count
+      fetches = fetch (fileOf (m .store)) (meant .writes) (fileOf (m .store) d) from count
 
-      reads-on : result v (goesOn meant) ≡ accept (restand d (afterRead count (meant .standing d)) meant) (given count) (result v fetches ++ drop count buffer)
+      abbrev finally : Txn
+      finally = withStanding d (afterRead count (meant .standing d)) meant
+
+      reads-on : result v (goesOn meant) ≡ accept finally (given count) (result v fetches ++ drop count buffer)
       unfolding readSettled result
-      reads-on =
-          result-andThen v fetches (λ bytes. done (accept (restand d (afterRead count (meant .standing d)) meant) (given count) (bytes ++ drop count buffer)))
+      reads-on = result-andThen v fetches (λ bytes. done (accept finally (given count) (bytes ++ drop count buffer)))
 
       asks-on : asked v (goesOn meant) ≡ asked v fetches
       unfolding readSettled asked
       asks-on =
-          asked-andThen v fetches (λ bytes. done (accept (restand d (afterRead count (meant .standing d)) meant) (given count) (bytes ++ drop count buffer)))
+          asked-andThen v fetches (λ bytes. done (accept finally (given count) (bytes ++ drop count buffer)))
           ∙ append-nil (asked v fetches)
 
       -- Settling marks nothing.
@@ -161,114 +150,112 @@ module _ (t d n : ℕ) (buffer : List ℕ) (m : Machine) (passes : admission (le
       marks-on =
           ap (λ (p : Prog Stepped). marked t (asked v p) (m .marks)) program-is
           ∙ ap (λ (is : List Item). marked t is (m .marks)) (asked-andThen v settles (orGivenBack goesOn))
-          ∙ marked-settling v t (settledByRead (fileOf (m .store)) d (txnOf (m .store) (m .logs) t)) (txnOf (m .store) (m .logs) t) (asked v (orGivenBack goesOn (result v settles))) (m .marks)
-          ∙ ap (λ (s : Settled). marked t (asked v (orGivenBack goesOn s)) (m .marks)) (settles-to true fit)
+          ∙ marked-settling v t (settledByRead (fileOf (m .store)) d before) before (asked v (orGivenBack goesOn (result v settles))) (m .marks)
+          ∙ ap (λ (s : Settled). marked t (asked v (orGivenBack goesOn s)) (m .marks)) (settles-to true within)
           ∙ ap (λ (is : List Item). marked t is (m .marks)) asks-on
 
       accepted : call (on t (read d n buffer)) m
           ≡ record {
             reply = record { answer = given count; buffer = result v fetches ++ drop count buffer };
-            after =
-                record {
-                  store = withTxn t (restand d (afterRead count (meant .standing d)) meant) (m .store);
-                  files = m .files;
-                  logs = m .logs;
-                  marks = marked t (asked v fetches) (m .marks);
-                };
+            after = withStore (withTxn t finally (m .store)) (withJournal (journalled t (meant .writes) (m .journal)) (withMarking (marked t (asked v fetches) (m .marks)) m));
           }
       unfolding served logged orGivenBack
       accepted =
-          let y = restand d (afterRead count (meant .standing d)) meant in
           on-stepped t (read d n buffer) m passes
-          ∙ ap (served t (read d n buffer) m (asked v (program t (read d n buffer) m passes))) (read-result true fit ∙ reads-on)
-          ∙ ap (λ (marks : List ℕ). turn (record { answer = given count; buffer = result v fetches ++ drop count buffer }) (withTxn t y (m .store)) marks) marks-on
+          ∙ ap (served t (read d n buffer) m (asked v (program t (read d n buffer) m passes))) (read-result true within ∙ reads-on)
+          ∙ ap turn marks-on
         where
-          turn : Reply → Store → List ℕ → Turn
-          turn r s marks = record { reply = r; after = record { store = s; files = m .files; logs = m .logs; marks = marks } }
-
-      -- The arrays with the write records placed.
-      abbrev placed : Arrays
-      placed = arraysOf (settledStore (m .store) t choice held)
-
-      inside : dataBefore placed t (held .used .records) ≤ 4096
-      unfolding dataBefore
-      inside = omega (arith, o .ranges .total, o .ranges .bytes)
-
-      writes-are : tabulate (writeAt (settledStore (m .store) t choice held) (m .logs) t) (held .used .records) ≡ meant .writes
-      writes-are = writes-settled (m .store) (m .logs) t o choice held
-
-      pub read-bytes : from ≤ 4096 → bytesOf placed t (held .used .records) (logOf (m .logs) t) (filePart (m .files) f) f from count ≡ result v fetches
-      unfolding fileOf
-      read-bytes h =
-          bytes-are (settledStore (m .store) t choice held) (m .logs) t v (m .files) (λ q. unfold values in refl) f from count (held .used .records) inside (omega arith)
-          ∙ ap (λ (ws : List Write). result v (fetch (fileOf (m .store)) ws f from count)) writes-are
-
-      pub read-marks : marksAfter placed t (held .used .records) (logOf (m .logs) t) (filePart (m .files) f) f from count (m .marks) ≡ marked t (asked v fetches) (m .marks)
-      unfolding fileOf
-      read-marks =
-          marks-are (settledStore (m .store) t choice held) (m .logs) t v (m .files) (λ q. unfold values in refl) f from count (held .used .records) inside (m .marks)
-          ∙ ap (λ (ws : List Write). marked t (asked v (fetch (fileOf (m .store)) ws f from count)) (m .marks)) writes-are
+          turn : List ℕ → Turn
+          turn marks =
+              record {
+                reply = record { answer = given count; buffer = result v fetches ++ drop count buffer };
+                after = withStore (withTxn t finally (m .store)) (withJournal (journalled t (meant .writes) (m .journal)) (withMarking marks m));
+              }
 
       from-low : from ≤ 4096
-      unfolding fitting fits settleAll txnOf
+      unfolding allWithin settlesWithin settleAll txnOf
       from-low =
           chosen-low (getD choice d false) (getD (m .store .offsets) d 0) (standingAt held d) (o .ranges .standings d (omega arith))
-          (below-at (fits choice (m .store .offsets) held) 16 d fit (omega arith))
+          (below-at (settlesWithin choice (m .store .offsets) held) 16 d within (omega arith))
 
-      -- The same in the code's terms: the transaction, the holders and the places after settling, and how many bytes are given.
-      module _ (x : Transaction) (holders places : List ℕ) (k : ℕ) (ex : x ≡ afterwards)
-          (eh : holders ≡ placedHolders choice (m .store .holders) t (held .used .records))
-          (ep : places ≡ placedPlaces choice (m .store .offsets) (m .store .holders) (m .store .places) t (held .used .records))
-          (ek : k ≡ min n (4096 - offsetOf (standingAt x d)))
-        where
-          abbrev standing-is : standingAt x d ≡ meant .standing d
-          standing-is = ap (λ (x : Transaction). standingAt x d) ex ∙ standing-settled (m .store) (m .logs) t o choice d (omega arith)
+      -- The journal with the write records placed, and what is served from it.
+      abbrev placed : Recorded
+      placed = recorded (settledJournal (m .store) (m .journal) t choice) (m .store .filenumbers)
 
-          pub offset-within : offsetOf (standingAt x d) ≤ 4096
-          offset-within = rw standing-is from-low
+      inside : lengthsBefore (placed .journal) t (held .used .records) ≤ 4096
+      inside =
+          omega (arith, data-settled (m .store) (m .journal) (m .logs) t o choice (held .used .records) (omega arith), o .ranges .total, o .ranges .bytes)
 
-          count-is : k ≡ count
-          count-is = ek ∙ ap (λ (z : Standing). min n (4096 - offsetOf z)) standing-is
+      read-bytes : bytesOf placed t (held .used .records) (logPart (m .logs) t) (filePart (m .files) f) (extent f from count) ≡ result v fetches
+      unfolding fileOf
+      read-bytes =
+          bytes-are placed (m .logs) t (held .used .records) inside v (m .files) (λ q. unfold values in refl) (extent f from count) (let l = from-low in omega arith)
+          ∙ ap (λ (ws : List Write). result v (fetch (fileOf (m .store)) ws f from count)) (writes-settled (m .store) (m .journal) (m .logs) t o choice)
 
-          abbrev lentArrays : Arrays
-          lentArrays = arrays holders places (m .store .lengths) (m .store .files)
+      read-marks : marksAfter placed t (held .used .records) (logPart (m .logs) t) (filePart (m .files) f) (extent f from count) (m .marks) ≡ marked t (asked v fetches) (m .marks)
+      unfolding fileOf
+      read-marks =
+          marks-are placed (m .logs) t (held .used .records) inside v (m .files) (λ q. unfold values in refl) (extent f from count) (m .marks)
+          ∙ ap (λ (ws : List Write). marked t (asked v (fetch (fileOf (m .store)) ws f from count)) (m .marks)) (writes-settled (m .store) (m .journal) (m .logs) t o choice)
 
-          read-buffer : bytesOf lentArrays t (held .used .records) (logOf (m .logs) t) (filePart (m .files) f) f (offsetOf (standingAt x d)) k ++ drop k buffer
-              ≡ call (on t (read d n buffer)) m .reply .buffer
-          read-buffer = rw (eh, ep, count-is, standing-is) (ap (λ (l : List ℕ). l ++ drop count buffer) (read-bytes from-low) ∙ sym (ap (λ (w : Turn). w .reply .buffer) accepted))
+      -- The same in the code's terms: the transaction and the journal after settling, and how many bytes are given.
+      module _ (x : Transaction) (ex : x ≡ afterwards) where
+        standing-is : standingAt x d ≡ meant .standing d
+        standing-is =
+            ap (λ (x : Transaction). standingAt x d) ex ∙ standing-settled (m .store) (m .journal) (m .logs) t o choice d (omega arith)
 
-          read-marked : marksAfter lentArrays t (held .used .records) (logOf (m .logs) t) (filePart (m .files) f) f (offsetOf (standingAt x d)) k (m .marks)
-              ≡ call (on t (read d n buffer)) m .after .marks
-          read-marked = rw (eh, ep, count-is, standing-is) (read-marks ∙ sym (ap (λ (w : Turn). w .after .marks) accepted))
+        pub offset-within : offsetOf (standingAt x d) ≤ 4096
+        offset-within = rw standing-is from-low
 
-          pub read-meets : (z : Standing) (marks reader : List ℕ) → z ≡ afterRead k (standingAt x d)
-              → marks ≡ marksAfter lentArrays t (held .used .records) (logOf (m .logs) t) (filePart (m .files) f) f (offsetOf (standingAt x d)) k (m .marks)
-              → reader ≡ bytesOf lentArrays t (held .used .records) (logOf (m .logs) t) (filePart (m .files) f) f (offsetOf (standingAt x d)) k ++ drop k buffer
-              → Meets (call (on t (read d n buffer)) m)
+        -- what is read: "the smaller of n and 4,096 less the offset"
+        abbrev pub places : Extent
+        places = extent f (offsetOf (standingAt x d)) (min n (4096 - offsetOf (standingAt x d)))
+
+        module _ (journal : List ℕ) (ej : journal ≡ settledJournal (m .store) (m .journal) t choice) (e : Extent) (ee : e ≡ places) where
+          pub counted : Counted journal t (held .used)
+          counted =
+              rw ej
               (record {
-                outcome = Given k;
-                store =
-                    record {
-                      files = m .store .files;
-                      offsets = m .store .offsets;
-                      transactions =
-                          set (m .store .transactions) t
-                          (record { begun = x .begun; stale = x .stale; used = x .used; descriptors = set (x .descriptors) d (record { standing = z }) });
-                      holders = holders;
-                      places = places;
-                      lengths = m .store .lengths;
-                    };
-              }) (m .files) (m .logs) marks reader
-          unfolding said settledTransaction
-          read-meets z marks reader ez em er =
-              let z-is : z ≡ afterRead count (meant .standing d) = ez ∙ ap₂ afterRead count-is standing-is in
+                small = o .small;
+                records = o .ranges .records;
+                adds = data-settled (m .store) (m .journal) (m .logs) t o choice (held .used .records) (omega arith) ∙ o .ranges .total;
+                bytes = o .ranges .bytes;
+                descriptors = descriptor-settled (m .store) (m .journal) (m .logs) t o choice;
+              })
+
+          abbrev pub bytes : List ℕ
+          bytes = bytesOf (recorded journal (m .store .filenumbers)) t (held .used .records) (logPart (m .logs) t) (filePart (m .files) (e .file)) e
+
+          abbrev pub marks : List ℕ
+          marks = marksAfter (recorded journal (m .store .filenumbers)) t (held .used .records) (logPart (m .logs) t) (filePart (m .files) (e .file)) e (m .marks)
+
+          places-are : e ≡ extent f from count
+          places-are = ee ∙ ap (λ (z : Standing). extent f (offsetOf z) (min n (4096 - offsetOf z))) standing-is
+
+          bytes-given : bytes ++ drop (e .length) buffer ≡ result v fetches ++ drop count buffer
+          bytes-given = rw (ej, places-are) (ap (λ (l : List ℕ). l ++ drop count buffer) read-bytes)
+
+          marks-set : marks ≡ marked t (asked v fetches) (m .marks)
+          marks-set = rw (ej, places-are) read-marks
+
+          store-is : (z : Standing) → z ≡ afterRead (e .length) (standingAt x d)
+              → withTransaction t (withDescriptors (set (x .descriptors) d (record { standing = z })) x) (m .store) ≡ withTxn t finally (m .store)
+          unfolding settledTransaction
+          store-is z ez =
+              rw (ez ∙ ap₂ (λ (e : Extent) (z : Standing). afterRead (e .length) z) places-are standing-is, ex)
+              (sym (txn-settled-restood (m .store) (m .journal) (m .logs) t o choice d (afterRead count (meant .standing d)) (omega arith)))
+
+          pub read-meets : (z : Standing) (marksThen reader : List ℕ) → z ≡ afterRead (e .length) (standingAt x d) → marksThen ≡ marks → reader ≡ bytes ++ drop (e .length) buffer
+              → Meets (call (on t (read d n buffer)) m) (Given (e .length))
+              (lent (withTransaction t (withDescriptors (set (x .descriptors) d (record { standing = z })) x) (m .store)) journal (m .files) (m .logs) marksThen) reader
+          unfolding said
+          read-meets z marksThen reader ez em er =
               record {
-                outcome = ap given count-is ∙ sym (ap (λ (w : Turn). w .reply .answer) accepted);
-                store =
-                    rw (z-is, ex, eh, ep)
-                    (sym (ap (λ (w : Turn). w .after .store) accepted ∙ txn-settled-restood (m .store) (m .logs) t o choice d (afterRead count (meant .standing d)) (omega arith)));
-                files = sym (ap (λ (w : Turn). w .after .files) accepted);
-                logs = sym (ap (λ (w : Turn). w .after .logs) accepted);
-                marks = em ∙ read-marked;
-                reader = er ∙ read-buffer;
+                outcome = ap (λ (e : Extent). given (e .length)) places-are ∙ sym (ap (λ (w : Turn). w .reply .answer) accepted);
+                machine =
+                    ap (λ (s : Store). lent s journal (m .files) (m .logs) marksThen) (store-is z ez)
+                    ∙ ap₂ (λ (j ms : List ℕ). lent (withTxn t finally (m .store)) j (m .files) (m .logs) ms)
+                    (ej ∙ sym (journal-settled (m .store) (m .journal) (m .logs) t o choice)) (em ∙ marks-set)
+                    ∙ sym (ap (λ (w : Turn). w .after) accepted);
+                reader = er ∙ bytes-given ∙ sym (ap (λ (w : Turn). w .reply .buffer) accepted);
               }

@@ -1,68 +1,65 @@
 // GetFilePointer.
-use descriptors::settle;
-use descriptors::settle::Verdict;
-use descriptors::standings;
-use journal::places;
+use numbers::wide_octet;
 use ranges::Gate;
-use record::Answer;
-use record::Outcome;
-use record::Refusal;
 use record::Store;
+use record::journal::NUMBERS;
+use record::outcomes::Answer;
+use record::outcomes::Outcome;
+use record::outcomes::Refusal;
+use settling::records::place_records;
+use settling::settle::Verdict;
+use settling::settle::chosen_by_pointer;
+use settling::settle::settle;
 ghost use mathlib.Core.List.{[]};
 ghost use mathlib.Core.Path.{_≡_};
 ghost use Rattle.rules.specs.Steps.{Op};
 ghost use Rattle.rules.specs.Plain.{Call};
 ghost use Rattle.rules.specs.Calls.{call};
-ghost use Rattle.rules.specs.Promises.{lent, Meets};
+ghost use Rattle.rules.specs.Machine.{lent};
+ghost use Rattle.rules.specs.Promises.{Meets};
 
 // Answers the offset of descriptor d in transaction t, and settles d where its place is unknown.
 pub fn get_file_pointer(
     mut s: Store,
+    journal: &mut [u16; NUMBERS],
     files: &[u8],
     logs: &[u8],
     marks: &[u8],
     t: usize,
     d: usize,
 ) -> Answer
-    ensures { λ r. ⌜ Meets (call (Call.on t (Op.getFilePointer d)) (lent s (now (files .entry)) (now (logs .entry)) (now (marks .entry)))) r (now (files .exit)) (now (logs .exit)) (now (marks .exit)) [] ⌝ }
+    ensures { λ r. ⌜ Meets (call (Call.on t (Op.getFilePointer d)) (lent s (now (journal .entry)) (now (files .entry)) (now (logs .entry)) (now (marks .entry)))) (r .outcome) (lent (r .store) (now (journal .exit)) (now (files .exit)) (now (logs .exit)) (now (marks .exit))) [] ⌝ }
 {
-    let xs = s.transactions;
-    let g = ranges::admit(
-        &s.files,
-        &s.offsets,
-        xs,
-        &s.holders,
-        &s.places,
-        &s.lengths,
-        files.len(),
-        logs.len(),
-        marks.len(),
-        t,
-    );
+    let g = ranges::admit(s, journal, files.len(), logs.len(), marks.len(), t);
     if let Gate::Refused(r) = g {
-        return turns::turned_down(r, s);
-    }
-    if 15 < d {
-        return turns::turned_down(Refusal::NoSuchDescriptor, s);
+        return refusing::turned_down(r, s);
     }
     let x = s.transactions[t];
-    let chosen = settle::chosen_by_pointer(x, d);
-    let a = settle::settle(x, chosen, &s.offsets);
+    if !x.begun {
+        return refusing::turned_down(Refusal::NotOpen, s);
+    }
+    if 15 < d {
+        return refusing::turned_down(Refusal::NoSuchDescriptor, s);
+    }
+    let z = x.standing_at(d);
+    if !z.pointer_settles() {
+        return Answer {
+            store: s,
+            outcome: Outcome::Offset(z.offset()),
+        };
+    }
+    let chosen = chosen_by_pointer(x, d);
+    let a = settle(x, chosen, &s.offsets);
     let v = a.verdict;
     let Verdict::Settled = v else {
-        return turns::turned_down(Refusal::SettledPastEnd, s);
+        return refusing::turned_down(Refusal::SettledPastEnd, s);
     };
     let y = a.transaction;
-    let records = journal::wide_octet(x.used.records);
-    let holders = s.holders;
-    let offsets = s.offsets;
-    places::settle_places(&mut s.places, &holders, t, records, chosen, &offsets);
-    places::settle_holders(&mut s.holders, t, records, chosen);
+    place_records(journal, t, wide_octet(x.used.records), chosen, &s.offsets);
     s.transactions[t] = y;
-    let q = y.descriptors[d];
-    let z = q.standing;
+    let settled = y.standing_at(d);
     Answer {
         store: s,
-        outcome: Outcome::Offset(standings::offset_of(z)),
+        outcome: Outcome::Offset(settled.offset()),
     }
 }

@@ -1,40 +1,50 @@
 // Read.
-use descriptors::settle;
-use descriptors::settle::Verdict;
-use descriptors::standings;
-use journal::places;
-use journal::runs;
+use numbers::FILE_BYTES;
+use numbers::smaller;
+use numbers::wide;
+use numbers::wide_octet;
 use ranges::Gate;
-use record::Answer;
+use reading::copy_bytes;
 use record::Descriptor;
-use record::Outcome;
-use record::Refusal;
 use record::Store;
+use record::journal::NUMBERS;
+use record::outcomes::Answer;
+use record::outcomes::Outcome;
+use record::outcomes::Refusal;
+use runs::Extent;
+use settling::records::place_records;
+use settling::settle::Verdict;
+use settling::settle::chosen_by_read;
+use settling::settle::settle;
+use standings::Standing;
 ghost use mathlib.Core.Path.{_≡_};
-ghost use lib.Dec.{leb};
-ghost use Rattle.ranges.specs.Ranges.{gateNumber, unless};
+ghost use Prim.Native.Nat.{_-_, _≤_, min};
+ghost use Rattle.standings.specs.Table.{offsetOf};
+ghost use Rattle.runs.specs.Runs.{extent};
 ghost use Rattle.rules.specs.Steps.{Op};
 ghost use Rattle.rules.specs.Plain.{Call};
 ghost use Rattle.rules.specs.Calls.{call};
-ghost use Rattle.rules.specs.Promises.{lent, Meets};
+ghost use Rattle.rules.specs.Machine.{lent};
+ghost use Rattle.rules.specs.Promises.{Meets};
 
-// Refusals 6 and 7 of a Read of n bytes through descriptor d, into a buffer of so many bytes.
-fn asked(d: usize, n: usize, room: usize) -> Gate
-    ensures { λ r. ⌜ gateNumber r ≡ unless (leb d 15) 6 (unless (leb n room) 7 0) ⌝ }
+// "A Read of n bytes gives the smaller of n and 4,096 less the offset": these places, for a descriptor of that file that stands so.
+fn places_given(z: Standing, file: u8, n: usize) -> Extent
+    requires { ⌜ offsetOf z ≤ 4096 ⌝ }
+    ensures { λ r. ⌜ r ≡ extent file (offsetOf z) (min n (4096 - offsetOf z)) ⌝ }
 {
-    if 15 < d {
-        return Gate::Refused(Refusal::NoSuchDescriptor);
+    let place = wide(z.offset());
+    Extent {
+        file,
+        place,
+        length: smaller(n, FILE_BYTES - place),
     }
-    if room < n {
-        return Gate::Refused(Refusal::ReaderTooShort);
-    }
-    Gate::Pass
 }
 
 // Reads up to n bytes through descriptor d of transaction t to the front of the reader's buffer; own writes come before the file's
 // bytes. Settles the descriptors of the file whose place is unknown, and marks the bytes that the file supplied.
 pub fn read<'a>(
     mut s: Store,
+    journal: &mut [u16; NUMBERS],
     files: &'a [u8],
     logs: &'a [u8],
     marks: &mut [u8],
@@ -43,68 +53,50 @@ pub fn read<'a>(
     n: usize,
     reader: &mut [u8],
 ) -> Answer
-    ensures { λ r. ⌜ Meets (call (Call.on t (Op.read d n (now (reader .entry)))) (lent s (now (files .entry)) (now (logs .entry)) (now (marks .entry)))) r (now (files .exit)) (now (logs .exit)) (now (marks .exit)) (now (reader .exit)) ⌝ }
+    ensures { λ r. ⌜ Meets (call (Call.on t (Op.read d n (now (reader .entry)))) (lent s (now (journal .entry)) (now (files .entry)) (now (logs .entry)) (now (marks .entry)))) (r .outcome) (lent (r .store) (now (journal .exit)) (now (files .exit)) (now (logs .exit)) (now (marks .exit))) (now (reader .exit)) ⌝ }
 {
-    let xs = s.transactions;
-    let g = ranges::admit(
-        &s.files,
-        &s.offsets,
-        xs,
-        &s.holders,
-        &s.places,
-        &s.lengths,
-        files.len(),
-        logs.len(),
-        marks.len(),
-        t,
-    );
+    let g = ranges::admit(s, journal, files.len(), logs.len(), marks.len(), t);
     if let Gate::Refused(r) = g {
-        return turns::turned_down(r, s);
-    }
-    let h = asked(d, n, reader.len());
-    if let Gate::Refused(r) = h {
-        return turns::turned_down(r, s);
+        return refusing::turned_down(r, s);
     }
     let x = s.transactions[t];
-    let chosen = settle::chosen_by_read(x, &s.files, d);
-    let a = settle::settle(x, chosen, &s.offsets);
+    if !x.begun {
+        return refusing::turned_down(Refusal::NotOpen, s);
+    }
+    if 15 < d {
+        return refusing::turned_down(Refusal::NoSuchDescriptor, s);
+    }
+    if reader.len() < n {
+        return refusing::turned_down(Refusal::ReaderTooShort, s);
+    }
+    let chosen = chosen_by_read(x, &s.filenumbers, d);
+    let a = settle(x, chosen, &s.offsets);
     let v = a.verdict;
     let Verdict::Settled = v else {
-        return turns::turned_down(Refusal::SettledPastEnd, s);
+        return refusing::turned_down(Refusal::SettledPastEnd, s);
     };
     let mut y = a.transaction;
-    let records = journal::wide_octet(x.used.records);
-    let holders = s.holders;
-    let offsets = s.offsets;
-    places::settle_places(&mut s.places, &holders, t, records, chosen, &offsets);
-    places::settle_holders(&mut s.holders, t, records, chosen);
-    let q = y.descriptors[d];
-    let z = q.standing;
-    let p = journal::wide(standings::offset_of(z));
-    let m = runs::smaller(n, 4096 - p);
-    let f = s.files[d];
     let used = x.used;
-    reading::copy_bytes(
-        &s.holders,
-        &s.places,
-        &s.lengths,
-        &s.files,
+    place_records(journal, t, wide_octet(used.records), chosen, &s.offsets);
+    let z = y.standing_at(d);
+    let e = places_given(z, s.filenumbers[d], n);
+    copy_bytes(
+        journal,
+        &s.filenumbers,
         t,
         used,
         logs,
         files,
         marks,
-        f,
-        p,
-        m,
+        e,
         reader,
     );
     y.descriptors[d] = Descriptor {
-        standing: standings::after_read(z, m as u16),
+        standing: z.after_read(e.length as u16),
     };
     s.transactions[t] = y;
     Answer {
         store: s,
-        outcome: Outcome::Given(m as u16),
+        outcome: Outcome::Given(e.length as u16),
     }
 }

@@ -1,20 +1,21 @@
--- The laws of bits, of a stretch of octets that is changed, and of a union. Assumes nothing.
-use mathlib.Core.Path.{_≡_, refl, sym, ap, _∙_}
-use mathlib.Core.Bool.{Bool, true, false, cond, _&&_, false≢true}
+-- The laws of bits, and of a stretch of octets that is changed. Assumes nothing.
+use mathlib.Core.Path.{_≡_, refl, sym, ap, ap₂, _∙_}
+use mathlib.Core.Bool.{Bool, true, false, cond, _&&_, _||_, false≢true}
 use mathlib.Core.List.{List, [], _∷_, _++_, map, map-append, append-nil}
 use mathlib.Core.Logic.{_⊎_, inl, inr, ⊎-elim}
-use Prim.Native.Nat.{ℕ, zero, suc, _+_, _-_, _*_, _^_, _/_, _%_, _≤_, _<_, min, max, suc-le-suc, zero-le}
-use native.Mathlib.Nat.{lt-of-lt-of-le, one-mul, zero-add, max-zero, not-suc-le-zero, le-of-suc-le-suc, eq-or-lt-of-le, div-one, div-self, div-eq-of-lt, zero-div, mod-lt, mod-eq-of-lt, mul-mod-left, mul-add-mod-self-right, div-div-eq-div-mul, pow-suc, mul-comm}
+use Prim.Native.Nat.{ℕ, zero, suc, _+_, _-_, _*_, _^_, _/_, _%_, _≤_, _<_, min, max}
+use native.Mathlib.Nat.{one-mul, zero-add, add-zero, add-suc, max-zero, not-suc-le-zero, le-of-suc-le-suc, eq-or-lt-of-le, div-one, div-self, div-eq-of-lt, zero-div, mod-lt, mod-eq-of-lt, mul-mod-left, mul-add-mod-self-right, div-div-eq-div-mul, pow-suc, mul-comm}
+use native.Mathlib.Numerals.{add-one}
 use native.Mathlib.Omega.{arith}
 use lib.Dec.{eqb}
-use lib.ListN.{length, take, drop, getD, set, length-map, length-append, List·getD-map}
-use lib.Bits.{bitAnd, bitOr, and-shr, or-shr, and-step, or-step, and-le-l, or-lt, or-zero-l, or-zero-r}
-use lib.Seq.{drop-cons, take-length, drop-length, ext-getD}
+use lib.ListN.{length, take, drop, getD, set, length-map}
+use lib.Bits.{bitAnd, bitOr, and-shr, or-shr, and-step, or-step, and-le-l, or-lt}
+use lib.Seq.{length-take-le, take-suc, take-length, drop-cons, drop-length, append-snoc, set-getD, set-at, getD-at}
 use lib.Pow.{pow-pos, pow-lt, pow-mono, pow-add, shl-shr, shl-exact}
 use borrow.Author.Tests.{eqb-true, eqb-false}
-use Rattle.octets.specs.Parts.{pasted, cut, within}
-use Rattle.octets.specs.Bits.{bit, withBit, withoutBit, changed, unionOf}
-use Rattle.octets.proofs.PartLaws.{le-or-lt, by-place, length-cut, length-cut-le, getD-cut, cut-add, cut-pasted-after, pasted-append, pasted-none, pasted-more, length-pasted, pasted-before, pasted-in, pasted-after}
+use Rattle.octets.specs.Bits.{bit, withBit, withoutBit, changed}
+use Rattle.octets.specs.Marks.{contains}
+use Rattle.octets.proofs.PartLaws.{le-or-lt}
 
 -- ---- one bit
 
@@ -73,8 +74,19 @@ bit-or = bit-op bitOr max or-shr or-step (λ x y h g. omega arith)
 pub bit-and : (u a b : ℕ) → bit u (bitAnd a b) ≡ min (bit u a) (bit u b)
 bit-and = bit-op bitAnd min and-shr and-step (λ x y h g. omega arith)
 
-pub or-assoc : (a b c : ℕ) → bitOr (bitOr a b) c ≡ bitOr a (bitOr b c)
-or-assoc a b c = bits-equal (bitOr (bitOr a b) c) (bitOr a (bitOr b c)) (λ u. simp bit-or (omega arith))
+-- the transactions of both sets
+pub contains-or : (a b u : ℕ) → contains (bitOr a b) u ≡ contains a u || contains b u
+unfolding contains
+contains-or a b u = ap (λ (k : ℕ). eqb k 1) (bit-or u a b) ∙ either (bit u a) (bit u b) (bit-lt u a) (bit-lt u b)
+  where
+    either : (x y : ℕ) → x < 2 → y < 2 → eqb (max x y) 1 ≡ eqb x 1 || eqb y 1
+    either zero zero h g = refl
+    either zero (suc zero) h g = refl
+    either (suc zero) zero h g = refl
+    either (suc zero) (suc zero) h g = refl
+    either (suc (suc x)) y h g = absurd (omega arith)
+    either zero (suc (suc y)) h g = absurd (omega arith)
+    either (suc zero) (suc (suc y)) h g = absurd (omega arith)
 
 -- ---- a bit set, a bit cleared
 
@@ -175,212 +187,52 @@ without-same t x ht hx none =
 
 -- ---- a stretch that is changed
 
--- one octet more
-cut-more : (xs : List ℕ) (from n : ℕ) → from + n < length xs → cut xs from (n + 1) ≡ cut xs from n ++ (getD xs (from + n) 0 ∷ [])
-unfolding cut
-cut-more xs from n h = cut-add xs from n 1 ∙ ap (λ (l : List ℕ). take n (drop from xs) ++ take 1 l) (drop-cons xs (from + n) 0 h)
-
-getD-map : (f : ℕ → ℕ) (l : List ℕ) (i : ℕ) → i < length l → getD (map f l) i 0 ≡ f (getD l i 0)
-getD-map f [] i h = absurd (not-suc-le-zero h)
-getD-map f (x ∷ l) zero h = refl
-getD-map f (x ∷ l) (suc i) h = getD-map f l i (le-of-suc-le-suc h)
-
-pub changed-none : (f : ℕ → ℕ) (from : ℕ) (xs : List ℕ) → changed f from 0 xs ≡ xs
-unfolding changed cut
-changed-none f from xs = pasted-none xs from
-
-module _ (f : ℕ → ℕ) (from n : ℕ) (xs : List ℕ) where
-  module _ (fits : from + n ≤ length xs) where
-    length-stretch : length (map f (cut xs from n)) ≡ n
-    length-stretch = length-map (cut xs from n) f ∙ length-cut xs from n fits
-
-    inside : from + length (map f (cut xs from n)) ≤ length xs
-    inside = rw length-stretch fits
-
-    pub length-changed : length (changed f from n xs) ≡ length xs
-    unfolding changed
-    length-changed = length-pasted xs from (map f (cut xs from n)) inside
-
-    pub changed-before : (i : ℕ) → i < from → getD (changed f from n xs) i 0 ≡ getD xs i 0
-    unfolding changed
-    changed-before i h = pasted-before xs from (map f (cut xs from n)) inside i 0 h
-
-    pub changed-after : (i : ℕ) → from + n ≤ i → getD (changed f from n xs) i 0 ≡ getD xs i 0
-    unfolding changed
-    changed-after i h = pasted-after xs from (map f (cut xs from n)) inside i 0 (rw length-stretch h)
-
-    pub changed-in : (i : ℕ) → from ≤ i → i < from + n → getD (changed f from n xs) i 0 ≡ f (getD xs i 0)
-    unfolding changed
-    changed-in i h g =
-        let e : i ≡ from + (i - from) = omega arith in
-        let k : i - from < n = omega arith in
-        ap (λ (j : ℕ). getD (pasted xs from (map f (cut xs from n))) j 0) e
-        ∙ pasted-in xs from (map f (cut xs from n)) inside (i - from) 0 (rw length-stretch k)
-        ∙ getD-map f (cut xs from n) (i - from) (rw (length-cut xs from n fits) k)
-        ∙ ap f (getD-cut xs from n (i - from) 0 k ∙ ap (λ (j : ℕ). getD xs j 0) (sym e))
-
-    -- every octet
-    pub getD-changed : (i : ℕ) → getD (changed f from n xs) i 0 ≡ cond (within from n i) (f (getD xs i 0)) (getD xs i 0)
-    getD-changed i =
-        by-place from n i (λ (b : Bool). getD (changed f from n xs) i 0 ≡ cond b (f (getD xs i 0)) (getD xs i 0))
-        (changed-before i) (changed-in i) (changed-after i)
-
-    -- where no octet is altered
-    pub changed-same : ((i : ℕ) → from ≤ i → i < from + n → f (getD xs i 0) ≡ getD xs i 0) → changed f from n xs ≡ xs
-    changed-same same =
-        ext-getD 0 (changed f from n xs) xs length-changed
-        (λ i h.
-        by-place from n i (λ (b : Bool). getD (changed f from n xs) i 0 ≡ getD xs i 0)
-        (changed-before i) (λ l g. changed-in i l g ∙ same i l g) (changed-after i))
+module _ (f : ℕ → ℕ) (from : ℕ) (xs : List ℕ) where
+  pub changed-none : changed f from 0 xs ≡ xs
+  unfolding changed
+  changed-none = refl
 
   -- one octet more
-  pub changed-more : from + n < length xs
+  pub changed-more : (n : ℕ)
       → set (changed f from n xs) (from + n) (f (getD (changed f from n xs) (from + n) 0)) ≡ changed f from (n + 1) xs
   unfolding changed
-  changed-more h =
-      let m = map f (cut xs from n) in
-      let v = f (getD xs (from + n) 0) in
-      let fits : from + n ≤ length xs = omega arith in
-      let e = length-stretch fits in
-      ap (λ (x : ℕ). set (pasted xs from m) (from + n) (f x)) (changed-after fits (from + n) (omega arith))
-      ∙ ap (λ (k : ℕ). set (pasted xs from m) (from + k) v) (sym e)
-      ∙ pasted-more xs from m (inside fits) v (rw e h)
-      ∙ ap (pasted xs from) (sym (ap (map f) (cut-more xs from n h) ∙ map-append f (cut xs from n) (getD xs (from + n) 0 ∷ [])))
+  changed-more n = ap (λ (k : ℕ). changed f from k xs) (sym (add-one n))
 
-  -- the stretch directly after it, too
-  pub changed-add : (m : ℕ) → from + n + m ≤ length xs → changed f (from + n) m (changed f from n xs) ≡ changed f from (n + m) xs
+  -- where no octet is altered
+  pub changed-same : (n : ℕ) → ((i : ℕ) → from ≤ i → i < from + n → f (getD xs i 0) ≡ getD xs i 0) → changed f from n xs ≡ xs
   unfolding changed
-  changed-add m h =
-      let a = map f (cut xs from n) in
-      let b = map f (cut xs (from + n) m) in
-      let fits : from + n ≤ length xs = omega arith in
-      let e = length-stretch fits in
-      let e′ : length b ≡ m = length-map (cut xs (from + n) m) f ∙ length-cut xs (from + n) m h in
-      ap (λ (l : List ℕ). pasted (pasted xs from a) (from + n) (map f l)) (cut-pasted-after xs from a (inside fits) (from + n) m (omega arith))
-      ∙ ap (λ (k : ℕ). pasted (pasted xs from a) (from + k) b) (sym e)
-      ∙ sym (pasted-append xs from a b (simp length-append (omega arith)))
-      ∙ ap (pasted xs from) (sym (ap (map f) (cut-add xs from n m) ∙ map-append f (cut xs from n) (cut xs (from + n) m)))
+  changed-same zero same = refl
+  changed-same (suc n) same =
+      ap (λ (l : List ℕ). set l (from + n) (f (getD l (from + n) 0))) (changed-same n (λ i h g. same i h (omega arith)))
+      ∙ ap (set xs (from + n)) (same (from + n) (omega arith) (omega arith))
+      ∙ set-getD xs (from + n) 0
 
 -- the first n octets, and the m after them
-pub changed-next : (f : ℕ → ℕ) (n m : ℕ) (xs : List ℕ) → n + m ≤ length xs → changed f n m (changed f 0 n xs) ≡ changed f 0 (n + m) xs
-changed-next f n m xs h =
-    ap (λ (k : ℕ). changed f k m (changed f 0 n xs)) (sym (zero-add n)) ∙ changed-add f 0 n xs m (omega arith)
+pub changed-next : (f : ℕ → ℕ) (n m : ℕ) (xs : List ℕ) → changed f n m (changed f 0 n xs) ≡ changed f 0 (n + m) xs
+unfolding changed
+changed-next f n zero xs = ap (λ (k : ℕ). changed f 0 k xs) (sym (add-zero n))
+changed-next f n (suc m) xs =
+    ap₂ (λ (l : List ℕ) (k : ℕ). set l k (f (getD l k 0))) (changed-next f n m xs) (sym (zero-add (n + m)))
+    ∙ ap (λ (k : ℕ). changed f 0 k xs) (sym (add-suc n m))
 
--- a whole buffer
+-- the front of a buffer, and a whole one
+changed-front : (f : ℕ → ℕ) (n : ℕ) (xs : List ℕ) → n ≤ length xs → changed f 0 n xs ≡ map f (take n xs) ++ drop n xs
+unfolding changed
+changed-front f zero xs h = refl
+changed-front f (suc n) xs h =
+    let a = map f (take n xs) in
+    let x = getD xs n 0 in
+    let rest = drop (suc n) xs in
+    let l : length a ≡ n = length-map (take n xs) f ∙ length-take-le n xs (omega arith) in
+    ap₂ (λ (ys : List ℕ) (k : ℕ). set ys k (f (getD ys k 0)))
+    (changed-front f n xs (omega arith) ∙ ap (λ (ys : List ℕ). a ++ ys) (drop-cons xs n 0 h)) (zero-add n)
+    ∙ ap (λ (y : ℕ). set (a ++ (x ∷ rest)) n (f y)) (getD-at a x rest 0 n l)
+    ∙ set-at a x rest (f x) n l
+    ∙ sym (append-snoc a (f x) rest)
+    ∙ ap (λ (ys : List ℕ). ys ++ rest) (sym (ap (map f) (take-suc xs n 0 h) ∙ map-append f (take n xs) (x ∷ [])))
+
 pub changed-all : (f : ℕ → ℕ) (xs : List ℕ) → changed f 0 (length xs) xs ≡ map f xs
-unfolding changed pasted cut
 changed-all f xs =
-    ap (λ (l : List ℕ). map f l ++ drop (0 + length (map f l)) xs) (take-length xs)
-    ∙ ap (λ (k : ℕ). map f xs ++ drop k xs) (zero-add (length (map f xs)) ∙ length-map xs f)
-    ∙ ap (λ (l : List ℕ). map f xs ++ l) (drop-length xs)
+    changed-front f (length xs) xs (omega arith)
+    ∙ ap₂ (λ (a b : List ℕ). map f a ++ b) (take-length xs) (drop-length xs)
     ∙ append-nil (map f xs)
-
--- ---- every bit of every mark
-
-module _ (f : ℕ → ℕ) (u t v : ℕ) (one : (x : ℕ) → bit u (f x) ≡ cond (eqb u t) v (bit u x)) where
-  bit-changed : (from n : ℕ) (xs : List ℕ) (i : ℕ) → from + n ≤ length xs
-      → bit u (getD (changed f from n xs) i 0) ≡ cond (within from n i && eqb u t) v (bit u (getD xs i 0))
-  bit-changed from n xs i fits = ap (bit u) (getD-changed f from n xs fits i) ∙ pick (within from n i)
-    where
-      pick : (b : Bool) → bit u (cond b (f (getD xs i 0)) (getD xs i 0)) ≡ cond (b && eqb u t) v (bit u (getD xs i 0))
-      pick true = one (getD xs i 0)
-      pick false = refl
-
-module _ (u t from n : ℕ) (xs : List ℕ) (i : ℕ) (fits : from + n ≤ length xs) where
-  pub bit-marked : bit u (getD (changed (withBit t) from n xs) i 0) ≡ cond (within from n i && eqb u t) 1 (bit u (getD xs i 0))
-  bit-marked = bit-changed (withBit t) u t 1 (bit-with u t) from n xs i fits
-
-  pub bit-cleared : u < 8 → t < 8
-      → bit u (getD (changed (withoutBit t) from n xs) i 0) ≡ cond (within from n i && eqb u t) 0 (bit u (getD xs i 0))
-  bit-cleared hu ht = bit-changed (withoutBit t) u t 0 (λ x. bit-without u t x hu ht) from n xs i fits
-
--- after `unmark_all`, inside the buffer and past its end
-pub bit-unmarked : (u t : ℕ) (xs : List ℕ) (i : ℕ) → u < 8 → t < 8
-    → bit u (getD (map (withoutBit t) xs) i 0) ≡ cond (eqb u t) 0 (bit u (getD xs i 0))
-bit-unmarked u t xs i hu ht =
-    ap (λ (d : ℕ). bit u (getD (map (withoutBit t) xs) i d)) (sym (without-zero t))
-    ∙ ap (bit u) (List·getD-map (withoutBit t) xs i 0)
-    ∙ bit-without u t (getD xs i 0) hu ht
-
--- ---- a union
-
-pub union-append : (xs ys : List ℕ) → unionOf (xs ++ ys) ≡ bitOr (unionOf xs) (unionOf ys)
-unfolding unionOf
-union-append [] ys = sym (or-zero-l (unionOf ys))
-union-append (x ∷ xs) ys = ap (bitOr x) (union-append xs ys) ∙ sym (or-assoc x (unionOf xs) (unionOf ys))
-
--- one octet more
-pub union-more : (xs : List ℕ) (from n : ℕ) → from + n < length xs
-    → bitOr (unionOf (cut xs from n)) (getD xs (from + n) 0) ≡ unionOf (cut xs from (n + 1))
-unfolding unionOf
-union-more xs from n h =
-    let x = getD xs (from + n) 0 in
-    ap (bitOr (unionOf (cut xs from n))) (sym (or-zero-r x))
-    ∙ sym (ap unionOf (cut-more xs from n h) ∙ union-append (cut xs from n) (x ∷ []))
-
--- each bit of a union is the largest of its octets'
-pub union-nil : (u : ℕ) → bit u (unionOf []) ≡ 0
-unfolding unionOf
-union-nil u = bit-zero u
-
-pub union-cons : (u x : ℕ) (xs : List ℕ) → bit u (unionOf (x ∷ xs)) ≡ max (bit u x) (bit u (unionOf xs))
-unfolding unionOf
-union-cons u x xs = bit-or u x (unionOf xs)
-
--- an octet that has the bit gives it to the union
-pub union-has : (u : ℕ) (xs : List ℕ) (i : ℕ) → bit u (getD xs i 0) ≡ 1 → bit u (unionOf xs) ≡ 1
-union-has u [] i h = let e = bit-zero u in absurd (omega arith)
-union-has u (x ∷ xs) zero h = omega (arith, union-cons u x xs, bit-lt u (unionOf xs))
-union-has u (x ∷ xs) (suc i) h = omega (arith, union-cons u x xs, bit-lt u x, union-has u xs i h)
-
--- a bit of the union is that of some octet
-pub union-some : (u : ℕ) (xs : List ℕ) → bit u (unionOf xs) ≡ 1 → (i : ℕ) × (i < length xs) × (bit u (getD xs i 0) ≡ 1)
-union-some u [] h = let e = union-nil u in absurd (omega arith)
-union-some u (x ∷ xs) h = pick (λ g. union-some u xs g) (le-or-lt 1 (bit u x))
-  where
-    pick : (bit u (unionOf xs) ≡ 1 → (i : ℕ) × (i < length xs) × (bit u (getD xs i 0) ≡ 1)) → (1 ≤ bit u x) ⊎ (bit u x < 1)
-        → (i : ℕ) × (i < length (x ∷ xs)) × (bit u (getD (x ∷ xs) i 0) ≡ 1)
-    pick later (inl g) = (0, suc-le-suc zero-le, omega (arith, bit-lt u x))
-    pick later (inr g) = let w = later (omega (arith, union-cons u x xs, h)) in (suc (w .0), suc-le-suc (w .1), w .2)
-
--- a bit that no octet has
-pub union-none : (u : ℕ) (xs : List ℕ) → ((i : ℕ) → i < length xs → bit u (getD xs i 0) ≡ 0) → bit u (unionOf xs) ≡ 0
-union-none u [] h = union-nil u
-union-none u (x ∷ xs) h =
-    omega (arith, union-cons u x xs, h 0 (suc-le-suc zero-le), union-none u xs (λ i g. h (suc i) (suc-le-suc g)))
-
--- the same for the stretch that `union` looks at
-module _ (u : ℕ) (xs : List ℕ) (from n : ℕ) where
-  pub stretch-has : (i : ℕ) → from ≤ i → i < from + n → bit u (getD xs i 0) ≡ 1 → bit u (unionOf (cut xs from n)) ≡ 1
-  stretch-has i h g e =
-      let k : from + (i - from) ≡ i = omega arith in
-      union-has u (cut xs from n) (i - from) (ap (bit u) (getD-cut xs from n (i - from) 0 (omega arith) ∙ ap (λ (j : ℕ). getD xs j 0) k) ∙ e)
-
-  pub stretch-some : bit u (unionOf (cut xs from n)) ≡ 1 → (i : ℕ) × (from ≤ i) × (i < from + n) × (bit u (getD xs i 0) ≡ 1)
-  stretch-some e =
-      let w = union-some u (cut xs from n) e in
-      let k : w .0 < n = lt-of-lt-of-le (w .1) (length-cut-le xs from n) in
-      (from + w .0, omega arith, omega arith, sym (ap (bit u) (getD-cut xs from n (w .0) 0 k)) ∙ w .2)
-
-  pub stretch-none : ((i : ℕ) → from ≤ i → i < from + n → bit u (getD xs i 0) ≡ 0) → bit u (unionOf (cut xs from n)) ≡ 0
-  stretch-none none =
-      union-none u (cut xs from n)
-      (λ i h. let k : i < n = lt-of-lt-of-le h (length-cut-le xs from n) in
-      ap (bit u) (getD-cut xs from n i 0 k) ∙ none (from + i) (omega arith) (omega arith))
-
-  -- a bit that the union lacks is in none of the octets, so clearing it alters none
-  pub stretch-same : u < 8 → from + n ≤ length xs → ((i : ℕ) → getD xs i 0 < 256) → bit u (unionOf (cut xs from n)) ≡ 0
-      → changed (withoutBit u) from n xs ≡ xs
-  stretch-same hu fits octets none =
-      changed-same (withoutBit u) from n xs fits
-      (λ i h g. without-same u (getD xs i 0) hu (octets i) (lacks i h g (le-or-lt 1 (bit u (getD xs i 0)))))
-    where
-      lacks : (i : ℕ) → from ≤ i → i < from + n → (1 ≤ bit u (getD xs i 0)) ⊎ (bit u (getD xs i 0) < 1) → bit u (getD xs i 0) ≡ 0
-      lacks i h g (inl e) = let k = stretch-has i h g (omega (arith, bit-lt u (getD xs i 0))) in absurd (omega arith)
-      lacks i h g (inr e) = omega arith
-
--- the union of octets is an octet
-pub union-lt : (k : ℕ) (xs : List ℕ) → ((i : ℕ) → i < length xs → getD xs i 0 < 2 ^ k) → unionOf xs < 2 ^ k
-unfolding unionOf
-union-lt k [] h = pow-pos k
-union-lt k (x ∷ xs) h = or-lt k x (unionOf xs) (h 0 (omega arith)) (union-lt k xs (λ i g. h (suc i) (suc-le-suc g)))

@@ -1,3 +1,4 @@
--- Laws of the definitions of specs/, for the proofs of this crate and of the crates that link it.
+-- Laws of the definitions of specs/, for the proofs of this crate and of the crates that link it; those of bits are this crate's alone.
 pub mod PartLaws
-pub mod BitLaws
+mod BitLaws
+pub mod MarkLaws

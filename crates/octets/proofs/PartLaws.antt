@@ -1,17 +1,17 @@
 -- The laws of `cut` and `pasted`. Assumes nothing.
 use mathlib.Core.Path.{_≡_, refl, sym, ap, ap₂, _∙_}
-use mathlib.Core.Bool.{Bool, true, false, cond, _&&_}
+use mathlib.Core.Bool.{Bool, true, false}
 use mathlib.Core.List.{List, [], _∷_, _++_, append-assoc}
 use mathlib.Core.Logic.{_⊎_, inl, inr, ⊎-elim}
 use Prim.Native.Nat.{ℕ, zero, suc, _+_, _-_, _*_, _≤_, _<_, min}
 use native.Mathlib.Nat.{add-assoc, suc-sub-suc, add-zero, zero-sub, sub-zero}
 use native.Mathlib.Omega.{arith}
-use lib.Dec.{leb, ltb}
+use lib.Dec.{leb}
 use lib.ListN.{length, take, drop, getD, set, length-append, length-take, length-drop, take-append-drop, List·getD-append}
 use lib.Seq.{length-take-le, take-nil, drop-cons, set-at, take-at, drop-at, take-take, drop-drop, take-add, drop-append-le, drop-append-add, getD-append-add, getD-take, getD-drop, ext-getD, append-snoc, sets, sets-eq}
 use borrow.Rule.Slice.PartMut.{midOf, putMid, post-is}
-use borrow.Author.Tests.{leb-true, leb-false, lt-ltb, le-ltb, le-leb, lt-leb}
-use Rattle.octets.specs.Parts.{pasted, cut, within, fileOf}
+use borrow.Author.Tests.{leb-true, leb-false}
+use Rattle.octets.specs.Parts.{pasted, cut, filePart}
 
 pub le-or-lt : (a b : ℕ) → (a ≤ b) ⊎ (b < a)
 le-or-lt a b = pick (leb a b) refl
@@ -19,17 +19,6 @@ le-or-lt a b = pick (leb a b) refl
     pick : (t : Bool) → leb a b ≡ t → (a ≤ b) ⊎ (b < a)
     pick true e = inl (leb-true a b e)
     pick false e = inr (leb-false a b e)
-
--- a place lies before n places from `at` on, among them, or after them
-pub by-place : (at n i : ℕ) (P : Bool → Type 0) → (i < at → P false) → (at ≤ i → i < at + n → P true) → (at + n ≤ i → P false)
-    → P (within at n i)
-unfolding within
-by-place at n i P before inside after = ⊎-elim from (λ h. rw (lt-leb at i h) (before h)) (le-or-lt at i)
-  where
-    from : at ≤ i → P (leb at i && ltb i (at + n))
-    from h =
-        rw (le-leb at i h)
-        (⊎-elim (λ g. rw (le-ltb i (at + n) g) (after g)) (λ g. rw (lt-ltb i (at + n) g) (inside h g)) (le-or-lt (at + n) i))
 
 -- ---- a part that is cut
 
@@ -47,9 +36,6 @@ module _ (b : List ℕ) (at n : ℕ) where
   pub length-cut : at + n ≤ length b → length (cut b at n) ≡ n
   length-cut h = rw lengths (omega arith)
 
-  pub length-cut-le : length (cut b at n) ≤ n
-  length-cut-le = rw lengths (omega arith)
-
   pub getD-cut : (i z : ℕ) → i < n → getD (cut b at n) i z ≡ getD b (at + i) z
   unfolding cut
   getD-cut i z h = getD-take n (drop at b) i z h ∙ getD-drop at b i z
@@ -58,11 +44,6 @@ module _ (b : List ℕ) (at n : ℕ) where
   pub cut-range : take (at + n - at) (drop at b) ≡ cut b at n
   unfolding cut
   cut-range = let e : at + n - at ≡ n = omega arith in rw e
-
-  -- one part, and the part after it
-  pub cut-add : (m : ℕ) → cut b at (n + m) ≡ cut b at n ++ cut b (at + n) m
-  unfolding cut
-  cut-add m = rw (take-add, drop-drop)
 
   -- a part of a part
   pub cut-cut : (p m : ℕ) → p + m ≤ n → cut (cut b at n) p m ≡ cut b (at + p) m
@@ -114,12 +95,6 @@ module _ (d : List ℕ) (at : ℕ) (s : List ℕ) (fits : at + length s ≤ leng
 
       e′ : at + length s + (i - (at + length s)) ≡ i
       e′ = omega arith
-
-  -- every octet
-  pub getD-pasted : (i z : ℕ) → getD (pasted d at s) i z ≡ cond (within at (length s) i) (getD s (i - at) z) (getD d i z)
-  getD-pasted i z =
-      by-place at (length s) i (λ (b : Bool). getD (pasted d at s) i z ≡ cond b (getD s (i - at) z) (getD d i z))
-      (pasted-before i z) (λ h g. ap (λ (k : ℕ). getD (pasted d at s) k z) (omega arith) ∙ pasted-in (i - at) z (omega arith)) (pasted-after i z)
 
   -- one octet more
   pub pasted-more : (v : ℕ) → at + length s < length d → set (pasted d at s) (at + length s) v ≡ pasted d at (s ++ (v ∷ []))
@@ -250,22 +225,22 @@ pasted-lent d a n at s y h g e =
 -- ---- the files of the store buffer
 
 module _ (files : List ℕ) (f : ℕ) (size : length files ≡ 32768) (there : f < 8) where
-  pub length-file : length (fileOf files f) ≡ 4096
-  unfolding fileOf
+  pub length-file : length (filePart files f) ≡ 4096
+  unfolding filePart
   length-file = length-cut files (4096 * f) 4096 (omega arith)
 
-  pub getD-file : (i : ℕ) → i < 4096 → getD (fileOf files f) i 0 ≡ getD files (4096 * f + i) 0
-  unfolding fileOf
+  pub getD-file : (i : ℕ) → i < 4096 → getD (filePart files f) i 0 ≡ getD files (4096 * f + i) 0
+  unfolding filePart
   getD-file i h = getD-cut files (4096 * f) 4096 i 0 h
 
   module _ (at : ℕ) (s : List ℕ) (fits : at + length s ≤ 4096) where
     -- what a landing leaves in its own file, and in every other
-    pub file-landed : fileOf (pasted files (4096 * f + at) s) f ≡ pasted (fileOf files f) at s
-    unfolding fileOf
+    pub file-landed : filePart (pasted files (4096 * f + at) s) f ≡ pasted (filePart files f) at s
+    unfolding filePart
     file-landed = cut-around files (4096 * f) 4096 at s (omega arith) fits
 
-    pub file-other : (g : ℕ) → (g ≡ f → ⊥) → fileOf (pasted files (4096 * f + at) s) g ≡ fileOf files g
-    unfolding fileOf
+    pub file-other : (g : ℕ) → (g ≡ f → ⊥) → filePart (pasted files (4096 * f + at) s) g ≡ filePart files g
+    unfolding filePart
     file-other g other = ⊎-elim after before (le-or-lt f g)
       where
         inside : 4096 * f + at + length s ≤ length files

@@ -1,8 +1,8 @@
--- Bits of octets, and stretches of octets of which a bit is set, cleared or collected.
-use Prim.Native.Nat.{ℕ, _-_, _^_, _/_, _%_}
-use mathlib.Core.List.{List, map, foldr}
+-- Bits of octets, and stretches of octets that are changed.
+use Prim.Native.Nat.{ℕ, zero, suc, _+_, _-_, _^_, _/_, _%_}
+use mathlib.Core.List.{List}
 use lib.Bits.{bitAnd, bitOr}
-use Rattle.octets.specs.Parts.{cut, pasted}
+use lib.ListN.{getD, set}
 
 -- bit u of x, "worth 2 to the power u": 0 or 1
 unfoldable pub bit : ℕ → ℕ → ℕ
@@ -18,8 +18,7 @@ withoutBit t x = bitAnd x (255 - 2 ^ t)
 
 -- xs with f applied to each of its n octets from `from` on
 unfoldable pub changed : (ℕ → ℕ) → ℕ → ℕ → List ℕ → List ℕ
-changed f from n xs = pasted xs from (map f (cut xs from n))
-
--- the bits that are set in some octet of xs
-unfoldable pub unionOf : List ℕ → ℕ
-unionOf xs = foldr bitOr 0 xs
+changed f from zero xs = xs
+changed f from (suc n) xs =
+    let ys = changed f from n xs in
+    set ys (from + n) (f (getD ys (from + n) 0))

@@ -1,8 +1,7 @@
 -- Parts of a buffer, which is a list of octets.
 use Prim.Native.Nat.{ℕ, _+_, _*_}
-use mathlib.Core.Bool.{Bool, cond, _&&_}
+use mathlib.Core.Bool.{Bool, cond}
 use mathlib.Core.List.{List, _++_}
-use lib.Dec.{leb, ltb}
 use lib.ListN.{length, take, drop}
 
 -- d with s in the place of its octets from `at` on
@@ -13,14 +12,10 @@ pasted d at s = take at d ++ (s ++ drop (at + length s) d)
 unfoldable pub cut : List ℕ → ℕ → ℕ → List ℕ
 cut buffer at n = take n (drop at buffer)
 
--- whether i is one of the n places from `at` on
-unfoldable pub within : ℕ → ℕ → ℕ → Bool
-within at n i = leb at i && ltb i (at + n)
-
 -- "handed over as that part of the log or of the file": the one that supplies
 unfoldable pub chosen : Bool → List ℕ → List ℕ → List ℕ
 chosen logged log file = cond logged log file
 
 -- "file f is the part that starts at place 4,096 × f", and each is "exactly 4,096 bytes"
-unfoldable pub fileOf : List ℕ → ℕ → List ℕ
-fileOf files f = cut files (4096 * f) 4096
+unfoldable pub filePart : List ℕ → ℕ → List ℕ
+filePart files f = cut files (4096 * f) 4096

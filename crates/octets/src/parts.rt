@@ -1,8 +1,9 @@
 // Parts of a buffer: pasted over, cut out, and a file's part of the store buffer.
+use numbers::FILE_BYTES;
 ghost use mathlib.Core.Path.{_≡_};
 ghost use Prim.Native.Nat.{_+_, _*_, _<_, _≤_};
 ghost use lib.ListN.{length};
-ghost use Rattle.octets.specs.Parts.{pasted, cut, chosen, fileOf};
+ghost use Rattle.octets.specs.Parts.{pasted, cut, chosen, filePart};
 
 // Copies all of src over the octets of dst from `at` on.
 pub fn copy_to(dst: &mut [u8], at: usize, src: &[u8])
@@ -36,12 +37,12 @@ pub fn run<'a>(log: &'a [u8], file: &'a [u8], logged: bool, at: usize, n: usize)
 }
 
 // File f of the store buffer, for reading.
-pub fn file_of<'a>(files: &'a [u8], f: usize) -> &'a [u8]
+pub fn file_part<'a>(files: &'a [u8], f: usize) -> &'a [u8]
     requires { ⌜ (length (now files) ≡ 32768) × (f < 8) ⌝ }
-    ensures { λ r. ⌜ now r ≡ fileOf (now (files .entry)) f ⌝ }
+    ensures { λ r. ⌜ now r ≡ filePart (now (files .entry)) f ⌝ }
 {
-    let start = 4096 * f;
-    let end = start + 4096;
+    let start = FILE_BYTES * f;
+    let end = start + FILE_BYTES;
     &files[start..end]
 }
 
@@ -50,7 +51,7 @@ pub fn land(files: &mut [u8], f: usize, at: usize, src: &[u8])
     requires { ⌜ (length (now files) ≡ 32768) × ((f < 8) × (at + length (now src) ≤ 4096)) ⌝ }
     ensures { λ _. ⌜ now (files .exit) ≡ pasted (now (files .entry)) (4096 * f + at) (now (src .entry)) ⌝ }
 {
-    let base = 4096 * f;
-    let end = base + 4096;
+    let base = FILE_BYTES * f;
+    let end = base + FILE_BYTES;
     copy_to(&mut files[base..end], at, src);
 }

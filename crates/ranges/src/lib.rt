@@ -1,35 +1,35 @@
-// The tests that calls share: the ranges of the record (refusal 2), and refusals 1 to 5 in the table's order.
+// The tests that calls share: the ranges of the record (refusal 2), and refusals 1 to 3 and 14 in the table's order.
 
-use record::Refusal;
-use record::Standing;
+use numbers::BUFFER_BYTES;
+use numbers::FILE_BYTES;
+use numbers::FILE_END;
+use numbers::wide;
+use numbers::wide_octet;
+use record::DESCRIPTORS;
 use record::Store;
+use record::TRANSACTIONS;
 use record::Transaction;
+use record::journal::NUMBERS;
+use record::journal::RECORDS;
+use record::journal::record_at;
+use record::outcomes::Refusal;
+use standings::Place;
+use standings::Standing;
+ghost use mathlib.Core.List.{List};
 ghost use mathlib.Core.Path.{_≡_};
-ghost use mathlib.Core.Bool.{true, false, _&&_};
+ghost use mathlib.Core.Bool.{true, _&&_};
 ghost use lib.Dec.{leb, eqb};
-ghost use lib.ListN.{getD, length, replicate};
-ghost use Prim.Native.Nat.{_+_, _*_, _<_, _≤_};
-ghost use Rattle.record.specs.Journal.{standingAt};
-ghost use Rattle.ranges.specs.Below.{below, sum};
-ghost use Rattle.ranges.specs.Limits.{isTouched, firstNumber, secondNumber, mayWait, PlacedLimits, Limited, endsBelow, total, transactionOf, storeOf};
-ghost use Rattle.ranges.specs.Ranges.{standingIn, storeIn, lengthsIn, admission, admissionOfBegin, admissionOfFresh, gateNumber};
+ghost use lib.ListN.{getD, length};
+ghost use Prim.Native.Nat.{ℕ, _<_, _≤_};
+ghost use Rattle.record.specs.State.{standingAt};
+ghost use Rattle.record.specs.Journal.{writeRecordAt};
+ghost use Rattle.ranges.specs.Below.{below};
+ghost use Rattle.ranges.specs.Ranges.{standingIn, placeIn, recordIn, lengthsBefore, transactionIn, storeIn, sized, sizesIn, shared, admissionOfFresh, gateNumber};
 
 // What the tests before a call's own say: go on, or a refusal.
 pub enum Gate {
     Pass,
     Refused(Refusal),
-}
-
-fn wide(x: u16) -> usize
-    ensures { λ r. ⌜ (r ≡ x) × (r ≤ 65535) ⌝ }
-{
-    x as usize
-}
-
-fn wide_octet(x: u8) -> usize
-    ensures { λ r. ⌜ (r ≡ x) × (r ≤ 255) ⌝ }
-{
-    x as usize
 }
 
 // The sixteen file numbers are at most 7.
@@ -38,7 +38,7 @@ fn files_in(files: &[u8]) -> bool
     ensures { λ r. ⌜ r ≡ below (λ d. leb (getD (now (files .entry)) d 0) 7) 16 ⌝ }
 {
     let mut d = 0;
-    while d < 16 {
+    while d < DESCRIPTORS {
         if files[d] > 7 {
             return false;
         }
@@ -48,12 +48,12 @@ fn files_in(files: &[u8]) -> bool
 }
 
 // The sixteen committed offsets are at most 4,096.
-fn offsets_in(offsets: &[u16; 16]) -> bool
+fn offsets_in(offsets: &[u16; DESCRIPTORS]) -> bool
     ensures { λ r. ⌜ r ≡ below (λ d. leb (getD (now (offsets .entry)) d 0) 4096) 16 ⌝ }
 {
     let mut d = 0;
-    while d < 16 {
-        if offsets[d] > 4096 {
+    while d < DESCRIPTORS {
+        if offsets[d] > FILE_END {
             return false;
         }
         d += 1;
@@ -61,181 +61,145 @@ fn offsets_in(offsets: &[u16; 16]) -> bool
     true
 }
 
-// Whether the transaction has touched this descriptor.
-fn touched(z: Standing) -> bool
-    ensures { λ r. ⌜ r ≡ isTouched z ⌝ }
+// The standing's advance and offset are at most 4,096. Most are Untouched, and one comparison passes those.
+fn standing_in(z: Standing) -> bool
+    ensures { λ r. ⌜ r ≡ standingIn z ⌝ }
 {
-    match z {
-        Standing::Untouched => false,
-        Standing::Placed(_) => true,
-        Standing::Deferred(_) => true,
-        Standing::Moved { .. } => true,
-        Standing::Known(_) => true,
+    if !z.is_touched() {
+        return true;
     }
+    if z.advance() > FILE_END {
+        return false;
+    }
+    z.offset() <= FILE_END
 }
 
-// The number that a standing carries, or its advance where it carries two (0: it carries none).
-fn first_number(z: Standing) -> u16
-    ensures { λ r. ⌜ r ≡ firstNumber z ⌝ }
-{
-    match z {
-        Standing::Untouched => 0,
-        Standing::Placed(offset) => offset,
-        Standing::Deferred(advance) => advance,
-        Standing::Moved { advance, offset: _ } => advance,
-        Standing::Known(offset) => offset,
-    }
-}
-
-// The offset of a standing that carries an advance too (0: it does not).
-fn second_number(z: Standing) -> u16
-    ensures { λ r. ⌜ r ≡ secondNumber z ⌝ }
-{
-    match z {
-        Standing::Untouched => 0,
-        Standing::Placed(_) => 0,
-        Standing::Deferred(_) => 0,
-        Standing::Moved { advance: _, offset } => offset,
-        Standing::Known(_) => 0,
-    }
-}
-
-// Whether write records without a place may stand under this standing.
-fn waits(z: Standing) -> bool
-    ensures { λ r. ⌜ r ≡ mayWait z ⌝ }
-{
-    match z {
-        Standing::Untouched => false,
-        Standing::Placed(_) => false,
-        Standing::Deferred(_) => true,
-        Standing::Moved { .. } => true,
-        Standing::Known(_) => false,
-    }
-}
-
-// Writes 4,097 into the first half of a table with an entry a holder: records with a place have to end below it.
-fn placed_limits(room: &mut [u16; 32])
-    requires { ⌜ now room ≡ replicate 32 0 ⌝ }
-    ensures { λ _. ⌜ PlacedLimits 16 (now (room .exit)) ⌝ }
-{
-    let mut k = 0;
-    while k < 16 {
-        room[k] = 4097;
-        k += 1;
-    }
-}
-
-// The standings of transaction x are in range. Writes their limits that are not 0 into the table's second half.
-fn limits_in(x: Transaction, room: &mut [u16; 32]) -> bool
-    requires { ⌜ PlacedLimits 16 (now room) ⌝ }
-    ensures answer { λ r. ⌜ r ≡ below (λ d. standingIn (standingAt x d)) 16 ⌝ }
-    ensures table { λ r. ⌜ (r ≡ true → Limited x 16 (now (room .exit))) ⌝ }
+// The standings of transaction x are in range.
+fn standings_in(x: Transaction) -> bool
+    ensures { λ r. ⌜ r ≡ below (λ d. standingIn (standingAt x d)) 16 ⌝ }
 {
     let mut d = 0;
-    while d < 16 {
-        let q = x.descriptors[d];
-        let z = q.standing;
-        if touched(z) {
-            let n = first_number(z);
-            if n > 4096 {
-                return false;
-            }
-            if second_number(z) > 4096 {
-                return false;
-            }
-            if waits(z) {
-                room[16 + d] = n + 1;
-            }
+    while d < DESCRIPTORS {
+        if !standing_in(x.standing_at(d)) {
+            return false;
         }
         d += 1;
     }
     true
 }
 
-// The first records of transaction t each end below their holder's entry, and their lengths add to bytes.
-fn records_in<'a>(
+// A write of n bytes is in range at that place, under its descriptor's standing.
+fn place_in(z: Standing, place: Place, n: u16) -> bool
+    requires { ⌜ standingIn z ≡ true ⌝ }
+    ensures { λ r. ⌜ r ≡ placeIn z place n ⌝ }
+{
+    let end = wide(place.number()) + wide(n);
+    match place {
+        Place::At(_) => end <= FILE_BYTES,
+        Place::After(_) => {
+            if !z.may_wait() {
+                return false;
+            }
+            end <= wide(z.advance())
+        }
+    }
+}
+
+// The first records of transaction x, which has number t, are in range, and their lengths add to bytes.
+fn records_in(
+    x: Transaction,
     t: usize,
+    journal: &[u16; NUMBERS],
     records: usize,
     bytes: usize,
-    room: &'a [u16; 32],
-    holders: &'a [u8; 512],
-    places: &'a [u16; 512],
-    lengths: &'a [u16; 512],
 ) -> bool
-    requires { ⌜ (t < 8) × (records ≤ 64) ⌝ }
-    ensures { λ r. ⌜ r ≡ (below (λ k. endsBelow (now (room .entry)) (now (holders .entry)) (now (places .entry)) (now (lengths .entry)) (64 * t + k)) records && eqb (total (now (lengths .entry)) t records) bytes) ⌝ }
+    requires { ⌜ (t < 8) × (records ≤ 64) × (below (λ d. standingIn (standingAt x d)) 16 ≡ true) ⌝ }
+    ensures { λ r. ⌜ r ≡ (below (λ k. recordIn x (writeRecordAt (now (journal .entry)) t k)) records && eqb (lengthsBefore (now (journal .entry)) t records) bytes) ⌝ }
 {
     let mut sum = 0;
     let mut k = 0;
     while k < records {
-        let i = 64 * t + k;
-        let h = wide_octet(holders[i]);
-        if h >= 32 {
+        let w = record_at(journal, t, k);
+        let d = wide(w.descriptor);
+        if 15 < d {
             return false;
         }
-        let n = wide(lengths[i]);
-        if wide(places[i]) + n >= wide(room[h]) {
+        let place = w.place;
+        let q = x.descriptors[d];
+        let z = q.standing;
+        if !place_in(z, place, w.length) {
             return false;
         }
-        sum += n;
+        sum += wide(w.length);
         k += 1;
     }
     sum == bytes
 }
 
 // Transaction x, which has number t, is in range.
-fn transaction_in<'a>(
-    x: Transaction,
-    t: usize,
-    holders: &'a [u8; 512],
-    places: &'a [u16; 512],
-    lengths: &'a [u16; 512],
-) -> bool
+fn transaction_in(x: Transaction, t: usize, journal: &[u16; NUMBERS]) -> bool
     requires { ⌜ t < 8 ⌝ }
-    ensures { λ r. ⌜ r ≡ transactionOf x t (now (holders .entry)) (now (places .entry)) (now (lengths .entry)) ⌝ }
+    ensures { λ r. ⌜ r ≡ transactionIn x (now (journal .entry)) t ⌝ }
 {
     if !x.begun {
         return true;
     }
     let records = wide_octet(x.used.records);
     let bytes = wide(x.used.bytes);
-    if records > 64 {
+    if records > RECORDS {
         return false;
     }
-    if bytes > 4096 {
+    if bytes > FILE_BYTES {
         return false;
     }
-    let mut room = [0u16; 32];
-    placed_limits(&mut room);
-    if !limits_in(x, &mut room) {
+    if !standings_in(x) {
         return false;
     }
-    records_in(t, records, bytes, &room, holders, places, lengths)
+    records_in(x, t, journal, records, bytes)
 }
 
-// The record with these parts is in range. Its number arrays are lent, here and below, so that no call copies its record to have it
-// checked.
-fn parts_in<'a>(
-    files: &'a [u8; 16],
-    offsets: &'a [u16; 16],
-    transactions: [Transaction; 8],
-    holders: &'a [u8; 512],
-    places: &'a [u16; 512],
-    lengths: &'a [u16; 512],
-) -> bool
-    ensures { λ r. ⌜ r ≡ storeIn (storeOf (now (files .entry)) (now (offsets .entry)) transactions (now (holders .entry)) (now (places .entry)) (now (lengths .entry))) ⌝ }
+// Transaction x is not open, or has written nothing and touched nothing: it is in range.
+fn idle(x: Transaction) -> bool
+    ensures { λ r. ⌜ (r ≡ true → (journal : List ℕ) (t : ℕ) → transactionIn x journal t ≡ true) ⌝ }
 {
-    if !files_in(files) {
+    if !x.begun {
+        return true;
+    }
+    if x.used.records != 0 {
         return false;
     }
-    if !offsets_in(offsets) {
+    if x.used.bytes != 0 {
+        return false;
+    }
+    let mut d = 0;
+    while d < DESCRIPTORS {
+        let z = x.standing_at(d);
+        if z.is_touched() {
+            return false;
+        }
+        d += 1;
+    }
+    true
+}
+
+// The record is in range. Most transactions are passed by the short test.
+fn store_in(s: Store, journal: &[u16; NUMBERS]) -> bool
+    ensures { λ r. ⌜ r ≡ storeIn s (now (journal .entry)) ⌝ }
+{
+    if !files_in(&s.filenumbers) {
+        return false;
+    }
+    if !offsets_in(&s.offsets) {
         return false;
     }
     let mut t = 0;
-    while t < 8 {
-        let x = transactions[t];
-        if !transaction_in(x, t, holders, places, lengths) {
-            return false;
+    while t < TRANSACTIONS {
+        let x = s.transactions[t];
+        if !idle(x) {
+            let y = s.transactions[t];
+            if !transaction_in(y, t, journal) {
+                return false;
+            }
         }
         t += 1;
     }
@@ -243,88 +207,51 @@ fn parts_in<'a>(
 }
 
 // Each store buffer has 32,768 bytes.
-fn lengths_in(files: usize, logs: usize, marks: usize) -> bool
-    ensures { λ r. ⌜ r ≡ lengthsIn files logs marks ⌝ }
+fn sizes_in(files: usize, logs: usize, marks: usize) -> bool
+    ensures { λ r. ⌜ r ≡ sizesIn (sized files logs marks) ⌝ }
 {
-    if files != 32768 {
+    if files != BUFFER_BYTES {
         return false;
     }
-    if logs != 32768 {
+    if logs != BUFFER_BYTES {
         return false;
     }
-    marks == 32768
+    marks == BUFFER_BYTES
 }
 
-// Refusals 1 to 4, for every call but Fresh and Begin. files, logs and marks are the lengths of the lent buffers.
-pub fn admit<'a>(
-    numbers: &'a [u8; 16],
-    offsets: &'a [u16; 16],
-    transactions: [Transaction; 8],
-    holders: &'a [u8; 512],
-    places: &'a [u16; 512],
-    lengths: &'a [u16; 512],
+// Refusals 1 to 3, for every call but Fresh. files, logs and marks are the lengths of the lent buffers.
+pub fn admit(
+    s: Store,
+    journal: &[u16; NUMBERS],
     files: usize,
     logs: usize,
     marks: usize,
     t: usize,
 ) -> Gate
-    ensures { λ r. ⌜ gateNumber r ≡ admission files logs marks (storeOf (now (numbers .entry)) (now (offsets .entry)) transactions (now (holders .entry)) (now (places .entry)) (now (lengths .entry))) t ⌝ }
+    ensures gate { λ r. ⌜ gateNumber r ≡ shared (sized files logs marks) s (now (journal .entry)) t 0 ⌝ }
+    ensures long { λ _. ⌜ length (now (journal .entry)) ≡ 1536 ⌝ }
 {
-    if !lengths_in(files, logs, marks) {
+    record::journal::length_of(journal);
+    if !sizes_in(files, logs, marks) {
         return Gate::Refused(Refusal::BufferLength);
     }
-    if !parts_in(numbers, offsets, transactions, holders, places, lengths) {
+    if !store_in(s, journal) {
         return Gate::Refused(Refusal::RecordRange);
     }
     if t > 7 {
         return Gate::Refused(Refusal::NoSuchTransaction);
-    }
-    let x = transactions[t];
-    if x.begun {
-        return Gate::Pass;
-    }
-    Gate::Refused(Refusal::NotOpen)
-}
-
-// Refusals 1 to 3 and 5, for Begin.
-pub fn admit_begin<'a>(
-    numbers: &'a [u8; 16],
-    offsets: &'a [u16; 16],
-    transactions: [Transaction; 8],
-    holders: &'a [u8; 512],
-    places: &'a [u16; 512],
-    lengths: &'a [u16; 512],
-    files: usize,
-    logs: usize,
-    marks: usize,
-    t: usize,
-) -> Gate
-    ensures { λ r. ⌜ gateNumber r ≡ admissionOfBegin files logs marks (storeOf (now (numbers .entry)) (now (offsets .entry)) transactions (now (holders .entry)) (now (places .entry)) (now (lengths .entry))) t ⌝ }
-{
-    if !lengths_in(files, logs, marks) {
-        return Gate::Refused(Refusal::BufferLength);
-    }
-    if !parts_in(numbers, offsets, transactions, holders, places, lengths) {
-        return Gate::Refused(Refusal::RecordRange);
-    }
-    if t > 7 {
-        return Gate::Refused(Refusal::NoSuchTransaction);
-    }
-    let x = transactions[t];
-    if x.begun {
-        return Gate::Refused(Refusal::AlreadyOpen);
     }
     Gate::Pass
 }
 
 // Refusals 1 and 14, for Fresh.
 pub fn admit_fresh(files: usize, logs: usize, marks: usize, numbers: &[u8]) -> Gate
-    ensures { λ r. ⌜ gateNumber r ≡ admissionOfFresh files logs marks (now (numbers .entry)) ⌝ }
+    ensures { λ r. ⌜ gateNumber r ≡ admissionOfFresh (sized files logs marks) (now (numbers .entry)) ⌝ }
 {
-    if !lengths_in(files, logs, marks) {
+    if !sizes_in(files, logs, marks) {
         return Gate::Refused(Refusal::BufferLength);
     }
-    if numbers.len() != 16 {
+    if numbers.len() != DESCRIPTORS {
         return Gate::Refused(Refusal::BufferLength);
     }
     if !files_in(numbers) {

@@ -1,26 +1,27 @@
 -- The laws of a fetch: in two pieces, over one run, and what it marks. Assumes nothing.
-use mathlib.Core.Bool.{true, false, false≢true}
+use mathlib.Core.Bool.{Bool, true, false, false≢true}
 use mathlib.Core.List.{List, [], _∷_, _++_, append-assoc, append-nil}
 use mathlib.Core.Path.{_≡_, refl, sym, ap, ap₂, _∙_, subst}
-use lib.ListN.{length, getD, take, drop, set, length-append}
+use lib.ListN.{length, getD, take, drop, length-append}
 use lib.Seq.{drop-cons}
 use Prim.Native.Nat.{ℕ, zero, suc, _+_, _-_, _*_, _≤_, _<_}
-use native.Mathlib.Nat.{add-zero, zero-add}
-use native.Mathlib.Numerals.{add-one}
+use native.Mathlib.Nat.{add-zero, add-suc, zero-add}
 use native.Mathlib.Omega.{arith}
 use Rattle.octets.specs.Parts.{cut, chosen, pasted}
+use Rattle.octets.specs.Marks.{withMark, withMarks}
 use Rattle.octets.proofs.PartLaws.{pasted-none, pasted-append}
-use Rattle.octets.specs.Bits.{withBit, changed}
-use Rattle.octets.proofs.BitLaws.{changed-none, changed-more}
+use Rattle.octets.proofs.MarkLaws.{with-marks-none, with-marks-first}
+use Rattle.ranges.specs.Ranges.{lengthsBefore}
 use Rattle.rules.proofs.Serial.Programs.{result-andThen, asked-andThen}
 use Rattle.rules.specs.Items.{Item, byte, offset, Values, Prog, done, andThen, result, asked}
 use Rattle.rules.specs.Reading.{Source, own, file, latest, bring, fetch}
 use Rattle.rules.specs.Transactions.{Write}
 use Rattle.rules.specs.Calls.{marked}
 use Rattle.rules.specs.Machine.{tabulate}
-use Rattle.journal.specs.declared.runs.Run.{Run}
-use Rattle.journal.specs.Runs.{Arrays, Supplier, theFile, theRecord, supplier, isRecord, dataBefore, standsAt, RunOf, recordAt, sourceOf}
-use Rattle.journal.proofs.RunLaws.{latest-is, run-in-log, run-along}
+use Rattle.runs.specs.declared.Extent.{Extent}
+use Rattle.runs.specs.declared.Run.{Run}
+use Rattle.runs.specs.Runs.{extent, Recorded, Supplier, theFile, theRecord, supplier, isRecord, standsAt, RunOf, writeIn}
+use Rattle.runs.proofs.RunLaws.{sourceOf, latest-is, run-in-log, run-along}
 use Rattle.reading.specs.Serving.{fileValues, fetching, bytesOf, marksAfter}
 
 -- ---- a fetch, byte by byte
@@ -138,147 +139,174 @@ module _ (v w : Values) (fileOf : ℕ → ℕ) (ws : List Write) (f : ℕ) where
 
 -- ---- marks
 
-pub marked-append : (t : ℕ) (is js : List Item) (marks : List ℕ) → marked t (is ++ js) marks ≡ marked t js (marked t is marks)
+marked-append : (t : ℕ) (is js : List Item) (marks : List ℕ) → marked t (is ++ js) marks ≡ marked t js (marked t is marks)
 unfolding marked
 marked-append t [] js marks = refl
-marked-append t (byte q ∷ is) js marks = marked-append t is js (set marks q (withBit t (getD marks q 0)))
+marked-append t (byte q ∷ is) js marks = marked-append t is js (withMark t q marks)
 marked-append t (offset d ∷ is) js marks = marked-append t is js marks
 
 module _ (v : Values) (fileOf : ℕ → ℕ) (ws : List Write) (f t : ℕ) where
   -- where the file supplies each byte, the stretch is marked
-  marked-run : (p n : ℕ) (marks : List ℕ) → 4096 * f + p + n ≤ length marks → ((i : ℕ) → i < n → asked v (one v fileOf ws f (p + i)) ≡ byte (4096 * f + (p + i)) ∷ [])
-      → marked t (asked v (fetch fileOf ws f p n)) marks ≡ changed (withBit t) (4096 * f + p) n marks
+  marked-run : (p n : ℕ) (marks : List ℕ) → ((i : ℕ) → i < n → asked v (one v fileOf ws f (p + i)) ≡ byte (4096 * f + (p + i)) ∷ [])
+      → marked t (asked v (fetch fileOf ws f p n)) marks ≡ withMarks t (4096 * f + p) n marks
   unfolding fetch asked marked
-  marked-run p zero marks h each = sym (changed-none (withBit t) (4096 * f + p) marks)
-  marked-run p (suc n) marks h each =
+  marked-run p zero marks each = sym (with-marks-none t (4096 * f + p) marks)
+  marked-run p (suc n) marks each =
       let q = 4096 * f + p in
-      let e : 4096 * f + (p + n) ≡ q + n = omega arith in
-      let last = asked-suc v fileOf ws f (p + n) 0 ∙ ap (λ (l : List Item). l ++ []) (each n (omega arith) ∙ ap (λ (k : ℕ). byte k ∷ []) e) in
-      ap (λ (k : ℕ). marked t (asked v (fetch fileOf ws f p k)) marks) (sym (add-one n))
-      ∙ ap (λ (l : List Item). marked t l marks) (asked-split v fileOf ws f p n 1)
-      ∙ marked-append t (asked v (fetch fileOf ws f p n)) (asked v (fetch fileOf ws f (p + n) 1)) marks
-      ∙ ap₂ (marked t) last (marked-run p n marks (omega arith) (λ i l. each i (omega arith)))
-      ∙ changed-more (withBit t) q n marks (omega arith)
-      ∙ ap (λ (k : ℕ). changed (withBit t) q k marks) (add-one n)
-
--- ---- the buffers after some bytes, and after some more
-
-module _ (a : Arrays) (t records : ℕ) (log file : List ℕ) (f p : ℕ) where
-  pub length-bytes : (n : ℕ) → length (bytesOf a t records log file f p n) ≡ n
-  unfolding bytesOf fetching
-  length-bytes n = length-fetched (fileValues f file) (λ d. getD (a .files) d 0) (tabulate (recordAt a log t) records) f p n
-
-  module _ (reader : List ℕ) where
-    pub bytes-none : pasted reader 0 (bytesOf a t records log file f p 0) ≡ reader
-    unfolding bytesOf fetching fetch result
-    bytes-none = pasted-none reader 0
-
-    pub bytes-more : (m n : ℕ) → m + n ≤ length reader
-        → pasted (pasted reader 0 (bytesOf a t records log file f p m)) m (bytesOf a t records log file f (p + m) n) ≡ pasted reader 0 (bytesOf a t records log file f p (m + n))
-    unfolding bytesOf fetching
-    bytes-more m n h =
-        let x = bytesOf a t records log file f p m in
-        let y = bytesOf a t records log file f (p + m) n in
-        let e = length-bytes m in
-        let g = length-fetched (fileValues f file) (λ d. getD (a .files) d 0) (tabulate (recordAt a log t) records) f (p + m) n in
-        ap (λ (k : ℕ). pasted (pasted reader 0 x) k y) (omega arith)
-        ∙ sym (pasted-append reader 0 x y (omega (arith, length-append x y)))
-        ∙ ap (pasted reader 0) (sym (result-split (fileValues f file) (λ d. getD (a .files) d 0) (tabulate (recordAt a log t) records) f p m n))
-
-    -- "copied to the front of the reader's buffer. The rest of that buffer is left."
-    pub bytes-all : (m : ℕ) → pasted reader 0 (bytesOf a t records log file f p m) ≡ bytesOf a t records log file f p m ++ drop m reader
-    unfolding pasted
-    bytes-all m = ap (λ (k : ℕ). bytesOf a t records log file f p m ++ drop k reader) (zero-add _ ∙ length-bytes m)
-
-  module _ (marks : List ℕ) where
-    pub marks-none : marksAfter a t records log file f p 0 marks ≡ marks
-    unfolding marksAfter fetching fetch asked marked
-    marks-none = refl
-
-    pub marks-more : (m n : ℕ) → marksAfter a t records log file f (p + m) n (marksAfter a t records log file f p m marks) ≡ marksAfter a t records log file f p (m + n) marks
-    unfolding marksAfter fetching
-    marks-more m n =
-        sym
-        (ap (λ (l : List Item). marked t l marks) (asked-split (fileValues f file) (λ d. getD (a .files) d 0) (tabulate (recordAt a log t) records) f p m n)
-        ∙ marked-append t (asked (fileValues f file) (fetching a t records log f p m)) (asked (fileValues f file) (fetching a t records log f (p + m) n)) marks)
+      let first : asked v (one v fileOf ws f p) ≡ byte q ∷ [] = ap (λ (k : ℕ). asked v (one v fileOf ws f k)) (sym (add-zero p)) ∙ each 0 (omega arith) ∙ ap (λ (k : ℕ). byte (4096 * f + k) ∷ []) (add-zero p) in
+      ap (λ (l : List Item). marked t l marks) (asked-suc v fileOf ws f p n ∙ ap (λ (l : List Item). l ++ asked v (fetch fileOf ws f (suc p) n)) first)
+      ∙ marked-run (suc p) n (withMark t q marks) (λ i l. moved i (each (suc i) (omega arith)))
+      ∙ ap (λ (k : ℕ). withMarks t k n (withMark t q marks)) (add-suc (4096 * f) p)
+      ∙ sym (with-marks-first t q n marks)
+    where
+      moved : (i : ℕ) → asked v (one v fileOf ws f (p + suc i)) ≡ byte (4096 * f + (p + suc i)) ∷ []
+          → asked v (one v fileOf ws f (suc p + i)) ≡ byte (4096 * f + (suc p + i)) ∷ []
+      moved i = let e : p + suc i ≡ suc p + i = omega arith in subst (λ (k : ℕ). asked v (one v fileOf ws f k) ≡ byte (4096 * f + k) ∷ []) e
 
 -- ---- the bytes and the marks of one run
 
-module _ (a : Arrays) (t records : ℕ) (log file : List ℕ) (f : ℕ) (inside : dataBefore a t records ≤ length log) where
-  abbrev v : Values
-  v = fileValues f file
+-- what lies inside both parts lies inside the one that supplies
+pub in-chosen : (b : Bool) (x y : List ℕ) (m n : ℕ) → length x ≡ n → length y ≡ n → m ≤ n → m ≤ length (chosen b x y)
+unfolding chosen
+in-chosen true x y m n hx hy l = omega arith
+in-chosen false x y m n hx hy l = omega arith
 
-  abbrev byteOf : ℕ → Prog ℕ
-  byteOf p = one v (λ d. getD (a .files) d 0) (tabulate (recordAt a log t) records) f p
+module _ (j : Recorded) (t records : ℕ) (log file : List ℕ) (inside : lengthsBefore (j .journal) t records ≤ length log) where
+  abbrev ofOne : ℕ → ℕ → Prog ℕ
+  ofOne f p = one (fileValues f file) (λ d. getD (j .filenumbers) d 0) (tabulate (writeIn (j .journal) log t) records) f p
 
-  supplied : (p : ℕ) (s : Supplier) → supplier a t records f p ≡ s → byteOf p ≡ bring (sourceOf a log t p s) (4096 * f + p)
-  supplied p s e = ap (λ (x : Source). bring x (4096 * f + p)) (latest-is a log t f p records inside ∙ ap (sourceOf a log t p) e)
+  supplied : (f p : ℕ) (s : Supplier) → supplier j t records f p ≡ s → ofOne f p ≡ bring (sourceOf (j .journal) log t p s) (4096 * f + p)
+  supplied f p s e = ap (λ (x : Source). bring x (4096 * f + p)) (latest-is j log t f p records inside ∙ ap (sourceOf (j .journal) log t p) e)
 
-  by-file : (p : ℕ) → supplier a t records f p ≡ theFile → (result v (byteOf p) ≡ getD file p 0) × (asked v (byteOf p) ≡ byte (4096 * f + p) ∷ [])
+  by-file : (f p : ℕ) → supplier j t records f p ≡ theFile → (result (fileValues f file) (ofOne f p) ≡ getD file p 0) × (asked (fileValues f file) (ofOne f p) ≡ byte (4096 * f + p) ∷ [])
   unfolding sourceOf bring result asked fileValues
-  by-file p e =
+  by-file f p e =
       let g : 4096 * f + p - 4096 * f ≡ p = omega arith in
-      (ap (result v) (supplied p theFile e) ∙ ap (λ (k : ℕ). getD file k 0) g, ap (asked v) (supplied p theFile e))
+      (ap (result (fileValues f file)) (supplied f p theFile e) ∙ ap (λ (k : ℕ). getD file k 0) g, ap (asked (fileValues f file)) (supplied f p theFile e))
 
-  by-record : (p k : ℕ) → supplier a t records f p ≡ theRecord k → (result v (byteOf p) ≡ getD log (standsAt a t p (theRecord k)) 0) × (asked v (byteOf p) ≡ [])
+  by-record : (f p k : ℕ) → supplier j t records f p ≡ theRecord k → (result (fileValues f file) (ofOne f p) ≡ getD log (standsAt (j .journal) t p (theRecord k)) 0) × (asked (fileValues f file) (ofOne f p) ≡ [])
   unfolding sourceOf bring result asked
-  by-record p k e = (ap (result v) (supplied p (theRecord k) e), ap (asked v) (supplied p (theRecord k) e))
+  by-record f p k e = (ap (result (fileValues f file)) (supplied f p (theRecord k) e), ap (asked (fileValues f file)) (supplied f p (theRecord k) e))
 
-  module _ (p n : ℕ) (r : Run) (run : RunOf a t records f p n r) (fits : p + n ≤ length file) where
+  module _ (e : Extent) (r : Run) (run : RunOf j t records e r) (within : e .place + e .length ≤ length file) where
+    abbrev f : ℕ
+    f = e .file
+
+    abbrev p : ℕ
+    p = e .place
+
+    -- the places of the run
+    abbrev its : Extent
+    its = extent f p (r .length)
+
     -- a run of the file, and one of a record
-    is-file : supplier a t records f p ≡ theFile → (r .logged ≡ false) × (r .at ≡ p)
+    is-file : supplier j t records f p ≡ theFile → (r .logged ≡ false) × (r .at ≡ p)
     unfolding isRecord standsAt
-    is-file e = (run .logged ∙ ap isRecord e, run .start ∙ ap (standsAt a t p) e)
+    is-file s = (run .logged ∙ ap isRecord s, run .start ∙ ap (standsAt (j .journal) t p) s)
 
-    is-record : (k : ℕ) → supplier a t records f p ≡ theRecord k → r .logged ≡ true
+    is-record : (k : ℕ) → supplier j t records f p ≡ theRecord k → r .logged ≡ true
     unfolding isRecord
-    is-record k e = run .logged ∙ ap isRecord e
+    is-record k s = run .logged ∙ ap isRecord s
+
+    pub run-within : length log ≡ 4096 → length file ≡ 4096 → r .at + r .length ≤ 4096
+    run-within = pick (supplier j t records f p) refl
+      where
+        pick : (s : Supplier) → supplier j t records f p ≡ s → length log ≡ 4096 → length file ≡ 4096 → r .at + r .length ≤ 4096
+        pick theFile s hl hf = omega (arith, is-file s .1, run .within)
+        pick (theRecord k) s hl hf = omega (arith, run-in-log j t records e r run k s)
 
     -- "handed over as that part of the log or of the file"
-    pub run-fits : r .at + r .len ≤ length (chosen (r .logged) log file)
-    unfolding chosen
-    run-fits = pick (supplier a t records f p) refl
-      where
-        pick : (s : Supplier) → supplier a t records f p ≡ s → r .at + r .len ≤ length (chosen (r .logged) log file)
-        pick theFile e = let g = is-file e in rw (g .0) (omega (arith, g .1, run .fits))
-        pick (theRecord k) e = rw (is-record k e) (omega (arith, run-in-log a t records f p n r run k e))
-
-    pub run-bytes : bytesOf a t records log file f p (r .len) ≡ cut (chosen (r .logged) log file) (r .at) (r .len)
+    pub run-bytes : bytesOf j t records log file its ≡ cut (chosen (r .logged) log file) (r .at) (r .length)
     unfolding chosen bytesOf fetching
-    run-bytes = pick (supplier a t records f p) refl
+    run-bytes = pick (supplier j t records f p) refl
       where
-        part : (at : ℕ) (src : List ℕ) → at + r .len ≤ length src → ((i : ℕ) → i < r .len → result v (byteOf (p + i)) ≡ getD src (at + i) 0)
-            → bytesOf a t records log file f p (r .len) ≡ cut src at (r .len)
-        part at src = result-run v (λ d. getD (a .files) d 0) (tabulate (recordAt a log t) records) f p at (r .len) src
+        part : (at : ℕ) (src : List ℕ) → at + r .length ≤ length src → ((i : ℕ) → i < r .length → result (fileValues f file) (ofOne f (p + i)) ≡ getD src (at + i) 0)
+            → bytesOf j t records log file its ≡ cut src at (r .length)
+        part at src = result-run (fileValues f file) (λ d. getD (j .filenumbers) d 0) (tabulate (writeIn (j .journal) log t) records) f p at (r .length) src
 
-        pick : (s : Supplier) → supplier a t records f p ≡ s
-            → bytesOf a t records log file f p (r .len) ≡ cut (chosen (r .logged) log file) (r .at) (r .len)
-        pick theFile e =
-            let g = is-file e in
-            rw (g .0, g .1) (part p file (omega (arith, run .fits)) (λ i l. by-file (p + i) (run .same i l ∙ e) .0))
-        pick (theRecord k) e =
-            rw (is-record k e)
-            (part (r .at) log (omega (arith, run-in-log a t records f p n r run k e))
-            (λ i l. by-record (p + i) k (run .same i l ∙ e) .0 ∙ ap (λ (j : ℕ). getD log j 0) (run-along a t records f p n r run k e i)))
+        pick : (s : Supplier) → supplier j t records f p ≡ s
+            → bytesOf j t records log file its ≡ cut (chosen (r .logged) log file) (r .at) (r .length)
+        pick theFile s =
+            let g = is-file s in
+            rw (g .0, g .1) (part p file (omega (arith, run .within)) (λ i l. by-file f (p + i) (run .same i l ∙ s) .0))
+        pick (theRecord k) s =
+            rw (is-record k s)
+            (part (r .at) log (omega (arith, run-in-log j t records e r run k s))
+            (λ i l. by-record f (p + i) k (run .same i l ∙ s) .0 ∙ ap (λ (m : ℕ). getD log m 0) (run-along j t records e r run k s i)))
 
     -- "an own write shields, byte by byte"
-    pub run-shields : (marks : List ℕ) → r .logged ≡ true → marksAfter a t records log file f p (r .len) marks ≡ marks
+    pub run-shields : (marks : List ℕ) → r .logged ≡ true → marksAfter j t records log file its marks ≡ marks
     unfolding marksAfter fetching marked
-    run-shields marks b = pick (supplier a t records f p) refl
+    run-shields marks b = pick (supplier j t records f p) refl
       where
-        pick : (s : Supplier) → supplier a t records f p ≡ s → marksAfter a t records log file f p (r .len) marks ≡ marks
-        pick theFile e = absurd (false≢true (sym (is-file e .0) ∙ b))
-        pick (theRecord k) e =
+        pick : (s : Supplier) → supplier j t records f p ≡ s → marksAfter j t records log file its marks ≡ marks
+        pick theFile s = absurd (false≢true (sym (is-file s .0) ∙ b))
+        pick (theRecord k) s =
             ap (λ (l : List Item). marked t l marks)
-            (asked-run v (λ d. getD (a .files) d 0) (tabulate (recordAt a log t) records) f p (r .len) (λ i l. by-record (p + i) k (run .same i l ∙ e) .1))
+            (asked-run (fileValues f file) (λ d. getD (j .filenumbers) d 0) (tabulate (writeIn (j .journal) log t) records) f p (r .length) (λ i l. by-record f (p + i) k (run .same i l ∙ s) .1))
 
-    pub run-marks : (marks : List ℕ) → 4096 * f + p + n ≤ length marks → r .logged ≡ false
-        → marksAfter a t records log file f p (r .len) marks ≡ changed (withBit t) (4096 * f + p) (r .len) marks
+    pub run-marks : (marks : List ℕ) → r .logged ≡ false → (from n : ℕ) → from ≡ 4096 * f + p → n ≡ r .length
+        → withMarks t from n marks ≡ marksAfter j t records log file its marks
     unfolding marksAfter fetching
-    run-marks marks h b = pick (supplier a t records f p) refl
+    run-marks marks b from n ef en = ap₂ (λ (k i : ℕ). withMarks t k i marks) ef en ∙ sym (pick (supplier j t records f p) refl)
       where
-        pick : (s : Supplier) → supplier a t records f p ≡ s → marksAfter a t records log file f p (r .len) marks ≡ changed (withBit t) (4096 * f + p) (r .len) marks
-        pick theFile e =
-            marked-run v (λ d. getD (a .files) d 0) (tabulate (recordAt a log t) records) f t p (r .len) marks (omega (arith, run .fits))
-            (λ i l. by-file (p + i) (run .same i l ∙ e) .1)
-        pick (theRecord k) e = absurd (false≢true (sym b ∙ is-record k e))
+        pick : (s : Supplier) → supplier j t records f p ≡ s → marksAfter j t records log file its marks ≡ withMarks t (4096 * f + p) (r .length) marks
+        pick theFile s =
+            marked-run (fileValues f file) (λ d. getD (j .filenumbers) d 0) (tabulate (writeIn (j .journal) log t) records) f t p (r .length) marks
+            (λ i l. by-file f (p + i) (run .same i l ∙ s) .1)
+        pick (theRecord k) s = absurd (false≢true (sym b ∙ is-record k s))
+
+-- ---- the buffers after some bytes, and after some more
+
+module _ (j : Recorded) (t records : ℕ) (log file : List ℕ) (f p : ℕ) where
+  abbrev fileOf : ℕ → ℕ
+  fileOf d = getD (j .filenumbers) d 0
+
+  abbrev writes : List Write
+  writes = tabulate (writeIn (j .journal) log t) records
+
+  abbrev bytes : ℕ → ℕ → List ℕ
+  bytes p n = bytesOf j t records log file (extent f p n)
+
+  abbrev marking : ℕ → ℕ → List ℕ → List ℕ
+  marking p n marks = marksAfter j t records log file (extent f p n) marks
+
+  pub length-bytes : (n : ℕ) → length (bytes p n) ≡ n
+  unfolding bytesOf fetching
+  length-bytes n = length-fetched (fileValues f file) fileOf writes f p n
+
+  module _ (reader : List ℕ) where
+    pub bytes-none : pasted reader 0 (bytes p 0) ≡ reader
+    unfolding bytesOf fetching fetch result
+    bytes-none = pasted-none reader 0
+
+    -- d is the buffer after m bytes; n more come from place q
+    pub bytes-more : (m n q : ℕ) (d : List ℕ) → d ≡ pasted reader 0 (bytes p m) → q ≡ p + m → m + n ≤ length reader → pasted d m (bytes q n) ≡ pasted reader 0 (bytes p (m + n))
+    unfolding bytesOf fetching
+    bytes-more m n q d before next h =
+        let x = bytes p m in
+        let y = bytes (p + m) n in
+        let e = length-bytes m in
+        let g = length-fetched (fileValues f file) fileOf writes f (p + m) n in
+        ap₂ (λ (l : List ℕ) (k : ℕ). pasted l m (bytes k n)) before next
+        ∙ ap (λ (k : ℕ). pasted (pasted reader 0 x) k y) (omega arith)
+        ∙ sym (pasted-append reader 0 x y (omega (arith, length-append x y)))
+        ∙ ap (pasted reader 0) (sym (result-split (fileValues f file) fileOf writes f p m n))
+
+    -- "copied to the front of the reader's buffer. The rest of that buffer is left."
+    pub bytes-all : (m : ℕ) → pasted reader 0 (bytes p m) ≡ bytes p m ++ drop m reader
+    unfolding pasted
+    bytes-all m = ap (λ (k : ℕ). bytes p m ++ drop k reader) (zero-add _ ∙ length-bytes m)
+
+  module _ (marks : List ℕ) where
+    pub marks-none : marking p 0 marks ≡ marks
+    unfolding marksAfter fetching fetch asked marked
+    marks-none = refl
+
+    pub marks-more : (m n q : ℕ) (d : List ℕ) → d ≡ marking p m marks → q ≡ p + m → marking q n d ≡ marking p (m + n) marks
+    unfolding marksAfter fetching
+    marks-more m n q d before next =
+        ap₂ (λ (l : List ℕ) (k : ℕ). marking k n l) before next
+        ∙ sym
+        (ap (λ (l : List Item). marked t l marks) (asked-split (fileValues f file) fileOf writes f p m n)
+        ∙ marked-append t (asked (fileValues f file) (fetch fileOf writes f p m)) (asked (fileValues f file) (fetch fileOf writes f (p + m) n)) marks)

@@ -4,51 +4,56 @@ use mathlib.Core.Path.{_≡_, sym, ap, _∙_}
 use lib.ListN.{getD}
 use Prim.Native.Nat.{ℕ, suc, _+_, _*_, _≤_}
 use native.Mathlib.Omega.{arith}
-use Rattle.octets.specs.Parts.{fileOf}
+use Rattle.octets.specs.Parts.{filePart}
 use Rattle.octets.proofs.PartLaws.{cut-cut, getD-cut}
-use Rattle.record.specs.declared.Store.{Store}
+use Rattle.record.specs.Journal.{writeRecordAt}
+use Rattle.ranges.specs.Ranges.{lengthsBefore}
 use Rattle.rules.specs.Items.{Item, byte, Values, result, asked}
 use Rattle.rules.specs.Transactions.{Write}
 use Rattle.rules.specs.Reading.{fetch}
-use Rattle.rules.specs.Machine.{tabulate, fileOf as descriptorFile, dataStart, writeAt}
+use Rattle.rules.specs.Machine.{tabulate, dataStart, writeAt}
 use Rattle.rules.specs.Calls.{marked}
 use Rattle.rules.proofs.View.Tables.{tabulate-same}
-use Rattle.journal.specs.Runs.{Arrays, arrays, dataBefore, recordAt}
-use Rattle.journal.proofs.RunLaws.{data-suc, data-upto}
-use Rattle.reading.specs.Serving.{fileValues, fetching, bytesOf, marksAfter, logOf}
+use Rattle.runs.specs.declared.Extent.{Extent}
+use Rattle.runs.specs.Runs.{Recorded, writeIn}
+use Rattle.runs.proofs.RunLaws.{data-suc, data-upto}
+use Rattle.reading.specs.Serving.{fileValues, fetching, bytesOf, marksAfter, logPart}
 use Rattle.reading.proofs.FetchLaws.{result-same, asked-same}
 
--- The arrays of a record.
-abbrev pub arraysOf : Store → Arrays
-arraysOf s = arrays (s .holders) (s .places) (s .lengths) (s .files)
+module _ (journal logs : List ℕ) (t : ℕ) where
+  write-is : (k : ℕ) → lengthsBefore journal t (suc k) ≤ 4096 → writeIn journal (logPart logs t) t k ≡ writeAt journal logs t k
+  unfolding writeIn writeAt dataStart logPart
+  write-is k h =
+      let w = writeRecordAt journal t k in
+      ap (λ (bytes : List ℕ). record { descriptor = w .descriptor; place = w .place; bytes = bytes })
+      (cut-cut logs (4096 * t) 4096 (lengthsBefore journal t k) (w .length) (omega (arith, data-suc journal t k)))
 
-module _ (s : Store) (logs : List ℕ) (t : ℕ) where
-  record-is : (k : ℕ) → dataBefore (arraysOf s) t (suc k) ≤ 4096 → recordAt (arraysOf s) (logOf logs t) t k ≡ writeAt s logs t k
-  unfolding recordAt writeAt dataStart dataBefore logOf
-  record-is k h =
-      let a = arraysOf s in
-      let n = getD (s .lengths) (64 * t + k) 0 in
-      ap (λ (bytes : List ℕ). record { descriptor = recordAt a (logOf logs t) t k .descriptor; place = recordAt a (logOf logs t) t k .place; bytes = bytes })
-      (cut-cut logs (4096 * t) 4096 (dataBefore a t k) n (omega (arith, data-suc a t k)))
+  writes-are : (n : ℕ) → lengthsBefore journal t n ≤ 4096 → tabulate (writeIn journal (logPart logs t) t) n ≡ tabulate (writeAt journal logs t) n
+  writes-are n h = tabulate-same _ _ n (λ k l. write-is k (omega (arith, data-upto journal t k n l)))
 
-  records-are : (n : ℕ) → dataBefore (arraysOf s) t n ≤ 4096 → tabulate (recordAt (arraysOf s) (logOf logs t) t) n ≡ tabulate (writeAt s logs t) n
-  records-are n h = tabulate-same _ _ n (λ k l. record-is k (omega (arith, data-upto (arraysOf s) t k n l)))
+-- v are committed values with these bytes
+module _ (j : Recorded) (logs : List ℕ) (t n : ℕ) (inside : lengthsBefore (j .journal) t n ≤ 4096) (v : Values) (files : List ℕ) (known : (q : ℕ) → v (byte q) ≡ getD files q 0) (e : Extent) where
+  abbrev fetches : List Write → Values → List ℕ
+  fetches ws v = result v (fetch (λ d. getD (j .filenumbers) d 0) ws (e .file) (e .place) (e .length))
 
-  -- v are committed values with these bytes
-  module _ (v : Values) (files : List ℕ) (known : (q : ℕ) → v (byte q) ≡ getD files q 0) (f p m n : ℕ) (inside : dataBefore (arraysOf s) t n ≤ 4096) where
-    pub bytes-are : p + m ≤ 4096
-        → bytesOf (arraysOf s) t n (logOf logs t) (fileOf files f) f p m ≡ result v (fetch (descriptorFile s) (tabulate (writeAt s logs t) n) f p m)
-    unfolding bytesOf fetching descriptorFile fileValues fileOf
-    bytes-are h =
-        ap (λ (ws : List Write). result (fileValues f (fileOf files f)) (fetch (descriptorFile s) ws f p m)) (records-are n inside)
-        ∙ result-same (fileValues f (fileOf files f)) v (descriptorFile s) (tabulate (writeAt s logs t) n) f p m
-        (λ i l. ap (λ (k : ℕ). getD (fileOf files f) k 0) (omega arith) ∙ getD-cut files (4096 * f) 4096 (p + i) 0 (omega arith) ∙ sym (known (4096 * f + (p + i))))
+  abbrev asks : List Write → Values → List Item
+  asks ws v = asked v (fetch (λ d. getD (j .filenumbers) d 0) ws (e .file) (e .place) (e .length))
 
-    pub marks-are : (marks : List ℕ)
-        → marksAfter (arraysOf s) t n (logOf logs t) (fileOf files f) f p m marks
-        ≡ marked t (asked v (fetch (descriptorFile s) (tabulate (writeAt s logs t) n) f p m)) marks
-    unfolding marksAfter fetching descriptorFile
-    marks-are marks =
-        ap (λ (is : List Item). marked t is marks)
-        (ap (λ (ws : List Write). asked (fileValues f (fileOf files f)) (fetch (descriptorFile s) ws f p m)) (records-are n inside)
-        ∙ asked-same (fileValues f (fileOf files f)) v (descriptorFile s) (tabulate (writeAt s logs t) n) f p m)
+  abbrev part : Values
+  part = fileValues (e .file) (filePart files (e .file))
+
+  pub bytes-are : e .place + e .length ≤ 4096
+      → bytesOf j t n (logPart logs t) (filePart files (e .file)) e ≡ fetches (tabulate (writeAt (j .journal) logs t) n) v
+  unfolding bytesOf fetching fileValues filePart
+  bytes-are h =
+      ap (λ (ws : List Write). fetches ws part) (writes-are (j .journal) logs t n inside)
+      ∙ result-same part v (λ d. getD (j .filenumbers) d 0) (tabulate (writeAt (j .journal) logs t) n) (e .file) (e .place) (e .length)
+      (λ i l. ap (λ (k : ℕ). getD (filePart files (e .file)) k 0) (omega arith) ∙ getD-cut files (4096 * e .file) 4096 (e .place + i) 0 (omega arith) ∙ sym (known (4096 * e .file + (e .place + i))))
+
+  pub marks-are : (marks : List ℕ)
+      → marksAfter j t n (logPart logs t) (filePart files (e .file)) e marks ≡ marked t (asks (tabulate (writeAt (j .journal) logs t) n) v) marks
+  unfolding marksAfter fetching
+  marks-are marks =
+      ap (λ (is : List Item). marked t is marks)
+      (ap (λ (ws : List Write). asks ws part) (writes-are (j .journal) logs t n inside)
+      ∙ asked-same part v (λ d. getD (j .filenumbers) d 0) (tabulate (writeAt (j .journal) logs t) n) (e .file) (e .place) (e .length))

@@ -1,54 +1,39 @@
--- A transaction's write records and descriptors, read off the record's arrays. Nothing else knows how they are packed.
-use mathlib.Core.Bool.{Bool, true, false, cond}
-use mathlib.Core.List.{List, []}
+-- The record's second part: the journal, a list of numbers with the write records of all transactions. Nothing else knows how they
+-- are laid out.
+use mathlib.Core.Bool.{Bool, true, false}
+use mathlib.Core.List.{List}
 use lib.Dec.{ltb}
-use lib.ListN.{getD, replicate}
-use Prim.Native.Nat.{ℕ, _+_, _-_, _*_}
-use Rattle.counters.specs.declared.Used.{Used}
-use Rattle.record.specs.declared.Standing.{Standing}
-use Rattle.record.specs.declared.Standing.the-variants.{Untouched}
-use Rattle.record.specs.declared.Descriptor.{Descriptor}
-use Rattle.record.specs.declared.Transaction.{Transaction}
-use Rattle.record.specs.declared.Store.{Store}
+use lib.ListN.{getD, set}
+use Prim.Native.Nat.{ℕ, zero, suc, _+_, _-_, _*_}
+use Rattle.standings.specs.declared.Place.{Place}
+use Rattle.standings.specs.declared.Place.the-variants.{At, After}
+use Rattle.standings.specs.Table.{placeNumber}
+use Rattle.record.specs.declared.journal.WriteRecord.{WriteRecord}
 
--- Where a write lies: at a place of its file or, while the place is unknown, after the advance before it.
-pub data Place : Type 0 where
-  at : ℕ → Place
-  after : ℕ → Place
+-- A write record takes three numbers in a row. The first is its descriptor, with 16 added while the record has no place.
+abbrev pub holder : ℕ → Place → ℕ
+holder d (At p) = d
+holder d (After a) = 16 + d
 
--- A holder is the descriptor of a write record, with 16 added while the record has no place.
-unfoldable pub holderDescriptor : ℕ → ℕ
-holderDescriptor h = cond (ltb h 16) h (h - 16)
+unfoldable pub heldAs : Bool → ℕ → ℕ → ℕ → WriteRecord
+heldAs true h p n = record { descriptor = h; place = At p; length = n }
+heldAs false h p n = record { descriptor = h - 16; place = After p; length = n }
 
-unfoldable pub holderPlace : ℕ → ℕ → Place
-holderPlace h p = cond (ltb h 16) (at p) (after p)
+unfoldable pub held : ℕ → ℕ → ℕ → WriteRecord
+held h p n = heldAs (ltb h 16) h p n
 
-unfoldable pub holder : ℕ → Place → ℕ
-holder d (at p) = d
-holder d (after a) = 16 + d
+-- Write record k of transaction t, which has 64.
+unfoldable pub writeRecordAt : List ℕ → ℕ → ℕ → WriteRecord
+writeRecordAt journal t k =
+    let i = 3 * (64 * t + k) in
+    held (getD journal i 0) (getD journal (i + 1) 0) (getD journal (i + 2) 0)
 
-unfoldable pub placeNumber : Place → ℕ
-placeNumber (at p) = p
-placeNumber (after a) = a
+-- The journal with another record there; and with f 0, f 1, .. below n as the first records of transaction t.
+unfoldable pub withRecordAt : List ℕ → ℕ → ℕ → WriteRecord → List ℕ
+withRecordAt journal t k w =
+    let i = 3 * (64 * t + k) in
+    set (set (set journal i (holder (w .descriptor) (w .place))) (i + 1) (placeNumber (w .place))) (i + 2) (w .length)
 
--- What stands in an array of descriptors or transactions past its end.
-abbrev pub noDescriptor : Descriptor
-noDescriptor = record { standing = Untouched }
-
-abbrev pub noTransaction : Transaction
-noTransaction = record { begun = false; stale = false; used = record { records = 0; bytes = 0 }; descriptors = [] }
-
--- Transaction t of the record, and the standing of its descriptor d.
-abbrev pub transaction : Store → ℕ → Transaction
-transaction s t = getD (s .transactions) t noTransaction
-
-abbrev pub standingAt : Transaction → ℕ → Standing
-standingAt x d = getD (x .descriptors) d noDescriptor .standing
-
--- "An ended transaction has an empty log, sixteen Untouched descriptors and is not stale."
-unfoldable pub ended : Transaction
-ended = record { begun = false; stale = false; used = record { records = 0; bytes = 0 }; descriptors = replicate 16 noDescriptor }
-
--- "Begin gives an empty log, sixteen Untouched descriptors, no marks, not stale."
-unfoldable pub begun : Transaction
-begun = record { begun = true; stale = false; used = record { records = 0; bytes = 0 }; descriptors = replicate 16 noDescriptor }
+unfoldable pub withRecords : List ℕ → ℕ → (ℕ → WriteRecord) → ℕ → List ℕ
+withRecords journal t f zero = journal
+withRecords journal t f (suc n) = withRecordAt (withRecords journal t f n) t n (f n)

@@ -1,2 +1,3 @@
 pub mod Paper
+pub mod State
 pub mod Journal

@@ -1,12 +1,12 @@
 -- What the calls answer, in the numbers and values of paper 01.
 use Prim.Native.Nat.{ℕ}
-use Rattle.record.specs.declared.Refusal.{Refusal}
-use Rattle.record.specs.declared.Refusal.the-variants.{BufferLength, RecordRange, NoSuchTransaction, NotOpen, AlreadyOpen, NoSuchDescriptor, ReaderTooShort, SeekPastEnd, WritePastEnd, RecordsFull, LogFull, SettledPastEnd, Stale, NoSuchFile}
-use Rattle.record.specs.declared.Outcome.{Outcome}
-use Rattle.record.specs.declared.Outcome.the-variants.{Done, Offset, Given, Granted, Refused}
+use Rattle.record.specs.declared.outcomes.Refusal.{Refusal}
+use Rattle.record.specs.declared.outcomes.Refusal.the-variants.{BufferLength, RecordRange, NoSuchTransaction, NotOpen, AlreadyOpen, NoSuchDescriptor, ReaderTooShort, SeekPastEnd, WritePastEnd, RecordsFull, LogFull, SettledPastEnd, Stale, NoSuchFile}
+use Rattle.record.specs.declared.outcomes.Outcome.{Outcome}
+use Rattle.record.specs.declared.outcomes.Outcome.the-variants.{Done, Offset, Given, Staled, Refused}
 
 -- "What a turned-down call brings": the column Returned.
-unfoldable pub number : Refusal → ℕ
+abbrev pub number : Refusal → ℕ
 number BufferLength = 1
 number RecordRange = 2
 number NoSuchTransaction = 3
@@ -22,6 +22,10 @@ number SettledPastEnd = 12
 number Stale = 13
 number NoSuchFile = 14
 
+-- How many they are: the numbers go from 1 to this.
+abbrev pub refusals : ℕ
+refusals = 14
+
 -- "Read answers the count of bytes given; Fresh, Begin, Seek, Write and Abort answer plainly"; "GetFilePointer answers the
 -- offset"; "Commit answers how many became stale by it"; or the number of a refusal.
 pub data Said : Type 0 where
@@ -36,5 +40,5 @@ unfoldable pub said : Outcome → Said
 said Done = plain
 said (Offset o) = pointer o
 said (Given n) = given n
-said (Granted n) = granted n
+said (Staled n) = granted n
 said (Refused r) = refused (number r)

@@ -1,17 +1,17 @@
-// The store record: what a caller keeps between calls, beside the three lent buffers.
+// The store record: what a caller keeps between calls, beside the three lent buffers. It has two parts: a `Store`, which travels by
+// value, and the journal, a lent array of numbers with the write records of all transactions (`journal`).
+pub mod journal;
+pub mod outcomes;
 
 use counters::Used;
+use standings::Standing;
 ghost use mathlib.Core.Path.{_≡_};
-ghost use Rattle.record.specs.Journal.{ended as endedTransaction, begun as begunTransaction};
+ghost use Rattle.record.specs.State.{ended as endedTransaction, begun as begunTransaction, standingAt};
+ghost use Prim.Native.Nat.{_<_};
 
-// The standing of a descriptor in a transaction (paper 01's five standings). Each carries the numbers named there and no others.
-pub enum Standing {
-    Untouched,
-    Placed(u16),
-    Deferred(u16),
-    Moved { advance: u16, offset: u16 },
-    Known(u16),
-}
+pub const DESCRIPTORS: usize = 16;
+
+pub const TRANSACTIONS: usize = 8;
 
 pub struct Descriptor {
     pub standing: Standing,
@@ -21,76 +21,60 @@ pub struct Transaction {
     pub begun: bool,
     pub stale: bool,
     pub used: Used,
-    pub descriptors: [Descriptor; 16],
+    pub descriptors: [Descriptor; DESCRIPTORS],
 }
 
-// Write record k of transaction t stands at 64 × t + k of the last three arrays: its holder, its place (or the advance before
-// it, while it has no place), its length. A holder is the record's descriptor, with 16 added while the record has no place.
+// The file number and the committed offset of each descriptor, and the transactions.
 pub struct Store {
-    pub files: [u8; 16],
-    pub offsets: [u16; 16],
-    pub transactions: [Transaction; 8],
-    pub holders: [u8; 512],
-    pub places: [u16; 512],
-    pub lengths: [u16; 512],
+    pub filenumbers: [u8; DESCRIPTORS],
+    pub offsets: [u16; DESCRIPTORS],
+    pub transactions: [Transaction; TRANSACTIONS],
 }
 
-// The fourteen refusals, in the order of paper 01's table.
-pub enum Refusal {
-    BufferLength,
-    RecordRange,
-    NoSuchTransaction,
-    NotOpen,
-    AlreadyOpen,
-    NoSuchDescriptor,
-    ReaderTooShort,
-    SeekPastEnd,
-    WritePastEnd,
-    RecordsFull,
-    LogFull,
-    SettledPastEnd,
-    Stale,
-    NoSuchFile,
-}
+impl Transaction {
+    // A transaction that has ended: an empty log, sixteen Untouched descriptors, not stale.
+    pub fn ended() -> Transaction
+        ensures { λ r. ⌜ r ≡ endedTransaction ⌝ }
+    {
+        let d = Descriptor {
+            standing: Standing::Untouched,
+        };
+        Transaction {
+            begun: false,
+            stale: false,
+            used: Used {
+                records: 0,
+                bytes: 0,
+            },
+            descriptors: [d; DESCRIPTORS],
+        }
+    }
 
-// What a call answers.
-pub enum Outcome {
-    Done,
-    Offset(u16),
-    Given(u16),
-    Granted(u8),
-    Refused(Refusal),
-}
+    // A transaction just begun.
+    pub fn begun() -> Transaction
+        ensures { λ r. ⌜ r ≡ begunTransaction ⌝ }
+    {
+        let mut out = Transaction::ended();
+        out.begun = true;
+        out
+    }
 
-// What a call hands back: its outcome, and the record to keep.
-pub struct Answer {
-    pub store: Store,
-    pub outcome: Outcome,
-}
-
-// A transaction that has ended: an empty log, sixteen Untouched descriptors, not stale.
-pub fn ended() -> Transaction
-    ensures { λ r. ⌜ r ≡ endedTransaction ⌝ }
-{
-    let d = Descriptor {
-        standing: Standing::Untouched,
-    };
-    Transaction {
-        begun: false,
-        stale: false,
-        used: Used {
-            records: 0,
-            bytes: 0,
-        },
-        descriptors: [d; 16],
+    // The standing of descriptor d.
+    pub fn standing_at(self, d: usize) -> Standing
+        requires { ⌜ d < 16 ⌝ }
+        ensures { λ r. ⌜ r ≡ standingAt self d ⌝ }
+    {
+        let q = self.descriptors[d];
+        q.standing
     }
 }
 
-// A transaction just begun.
-pub fn begun() -> Transaction
-    ensures { λ r. ⌜ r ≡ begunTransaction ⌝ }
-{
-    let mut out = ended();
-    out.begun = true;
-    out
+// A record for a caller that has none yet, to hand to Fresh.
+pub fn blank() -> Store {
+    let x = Transaction::ended();
+    Store {
+        filenumbers: [0; DESCRIPTORS],
+        offsets: [0; DESCRIPTORS],
+        transactions: [x; TRANSACTIONS],
+    }
 }

@@ -6,19 +6,19 @@ use lib.Dec.{leb, eqb}
 use lib.ListN.{length, getD, set, replicate}
 use Prim.Native.Nat.{ℕ, zero, suc, _+_, _*_}
 use Rattle.octets.specs.Parts.{pasted}
-use Rattle.octets.specs.Bits.{bit, withBit, withoutBit}
+use Rattle.octets.specs.Marks.{hasMark, withMark, withoutMarks}
 use Rattle.record.specs.declared.Store.{Store}
 use Rattle.record.specs.declared.Transaction.{Transaction}
-use Rattle.record.specs.Journal.{transaction, standingAt, ended, begun}
+use Rattle.record.specs.State.{transaction, standingAt, ended, begun, withStale, withOffsets, withTransactions, withTransaction}
 use Rattle.record.specs.Paper.{Said, plain, granted, refused}
 use Rattle.ranges.specs.Below.{sum}
 use Rattle.ranges.specs.Ranges.{admission, admissionOfBegin, admissionOfFresh}
 use Rattle.rules.specs.Items.{Item, byte, offset, Values, result, asked}
-use Rattle.rules.specs.Standings.{isKnown}
+use Rattle.standings.specs.Table.{isKnown}
 use Rattle.rules.specs.Steps.{Op, seek, write, getFilePointer, read, bufferOf, Stepped, refuse, accept, step}
 use Rattle.rules.specs.Commits.{Setting, settings, fits, commitRefusal}
 use Rattle.rules.specs.Plain.{Call, begin, on, commit, abort, Reply}
-use Rattle.rules.specs.Machine.{Machine, tabulate, fileOf, values, txnOf, withTransaction, withTxn}
+use Rattle.rules.specs.Machine.{Machine, lent, withStore, withJournal, withFiles, withLogs, withMarking, sizes, tabulate, fileOf, values, txnOf, withTxn, journalled}
 
 -- A call's reply, and the store after it.
 pub record Turn : Type 0 where
@@ -41,32 +41,23 @@ passing (suc n) buffer m next = turnDown (suc n) buffer m
 unfoldable pub freshStore : List ℕ → Store
 freshStore numbers =
     record {
-      files = numbers;
+      filenumbers = numbers;
       offsets = replicate 16 0;
       transactions = replicate 8 ended;
-      holders = replicate 512 0;
-      places = replicate 512 0;
-      lengths = replicate 512 0;
     }
 
 unfoldable pub freshMachine : List ℕ → List ℕ → Machine
-freshMachine numbers logs =
-    record { store = freshStore numbers; files = replicate 32768 0; logs = logs; marks = replicate 32768 0 }
+freshMachine numbers logs = lent (freshStore numbers) (replicate 1536 0) (replicate 32768 0) logs (replicate 32768 0)
 
 -- "Fresh takes 16 file numbers and the record at hand, which a refused Fresh hands back."
 unfoldable pub fresh : List ℕ → Machine → Turn
 fresh numbers m =
-    passing (admissionOfFresh (length (m .files)) (length (m .logs)) (length (m .marks)) numbers) [] m
+    passing (admissionOfFresh (sizes m) numbers) [] m
     (answer plain (freshMachine numbers (m .logs)))
-
--- Every mark of transaction t cleared.
-unfoldable pub unmarked : ℕ → List ℕ → List ℕ
-unmarked t marks = map (withoutBit t) marks
 
 -- Transaction t replaced, and its marks cleared.
 unfoldable pub reset : ℕ → Transaction → Machine → Machine
-reset t x m =
-    record { store = withTransaction t x (m .store); files = m .files; logs = m .logs; marks = unmarked t (m .marks) }
+reset t x m = withMarking (withoutMarks t (m .marks)) (withStore (withTransaction t x (m .store)) m)
 
 -- "Begin gives an empty log, sixteen Untouched descriptors, no marks, not stale."
 unfoldable pub beginTurn : ℕ → Machine → Turn
@@ -80,7 +71,7 @@ abortTurn t m = answer plain (reset t ended m)
 -- "bit t (worth 2 to the power t) set where transaction t has sighted that byte": the marks after sightings.
 unfoldable pub marked : ℕ → List Item → List ℕ → List ℕ
 marked t [] marks = marks
-marked t (byte q ∷ is) marks = marked t is (set marks q (withBit t (getD marks q 0)))
+marked t (byte q ∷ is) marks = marked t is (withMark t q marks)
 marked t (offset d ∷ is) marks = marked t is marks
 
 -- "A Write puts its bytes in its log directly after the data used. No other call touches a log byte."
@@ -97,18 +88,16 @@ served t o m is (accept y a buffer) =
     record {
       reply = record { answer = a; buffer = buffer };
       after =
-          record {
-            store = withTxn t y (m .store);
-            files = m .files;
-            logs = logged t o (m .store) (m .logs);
-            marks = marked t is (m .marks);
-          };
+          withStore (withTxn t y (m .store))
+          (withJournal (journalled t (y .writes) (m .journal))
+          (withLogs (logged t o (m .store) (m .logs))
+          (withMarking (marked t is (m .marks)) m)));
     }
 
 unfoldable pub stepTurn : ℕ → Op → Machine → Turn
 stepTurn t o m =
     let v = values (m .store) (m .files) in
-    let p = step (fileOf (m .store)) o (txnOf (m .store) (m .logs) t) in
+    let p = step (fileOf (m .store)) o (txnOf (m .store) (m .journal) (m .logs) t) in
     served t o m (asked v p) (result v p)
 
 -- Settings put into the files buffer, and into the committed offsets.
@@ -130,7 +119,7 @@ landOffsets (s ∷ ss) offsets = landOffsets ss (landOffset (s .item) (s .to) of
 
 -- Whether transaction u, as x, has sighted an item: a marked byte, or the offset of a descriptor that stands Known.
 unfoldable pub hasSighted : List ℕ → ℕ → Transaction → Item → Bool
-hasSighted marks u x (byte q) = eqb (bit u (getD marks q 0)) 1
+hasSighted marks u x (byte q) = hasMark marks u q
 hasSighted marks u x (offset d) = isKnown (standingAt x d)
 
 -- "has sighted a byte or offset just set"
@@ -140,13 +129,7 @@ conflicts marks u x (s ∷ ss) = hasSighted marks u x (s .item) || conflicts mar
 
 -- "Every other open transaction that has sighted a byte or offset just set is stale from then on."
 unfoldable pub staled : List ℕ → List Setting → ℕ → Transaction → Transaction
-staled marks ss u x =
-    record {
-      begun = x .begun;
-      stale = x .stale || (x .begun && conflicts marks u x ss);
-      used = x .used;
-      descriptors = x .descriptors;
-    }
+staled marks ss u x = withStale (x .stale || (x .begun && conflicts marks u x ss)) x
 
 -- Transaction u after a granted Commit of t, which ends.
 unfoldable pub afterCommit : ℕ → List ℕ → List Setting → Store → ℕ → Transaction
@@ -164,20 +147,9 @@ commitGranted t ss m =
     record {
       reply = record { answer = granted (sum (λ u. cond (becomesStale t (m .marks) ss s u) 1 0) 8); buffer = [] };
       after =
-          record {
-            store =
-                record {
-                  files = s .files;
-                  offsets = landOffsets ss (s .offsets);
-                  transactions = tabulate (afterCommit t (m .marks) ss s) 8;
-                  holders = s .holders;
-                  places = s .places;
-                  lengths = s .lengths;
-                };
-            files = landFiles ss (m .files);
-            logs = m .logs;
-            marks = unmarked t (m .marks);
-          };
+          withStore (withOffsets (landOffsets ss (s .offsets)) (withTransactions (tabulate (afterCommit t (m .marks) ss s) 8) s))
+          (withFiles (landFiles ss (m .files))
+          (withMarking (withoutMarks t (m .marks)) m));
     }
 
 -- "13: it ends as at Abort"; "12: everything, the transaction open".
@@ -192,18 +164,18 @@ commitDecided t ss m (suc n) =
 unfoldable pub commitTurn : ℕ → Machine → Turn
 commitTurn t m =
     let v = values (m .store) (m .files) in
-    let x = txnOf (m .store) (m .logs) t in
+    let x = txnOf (m .store) (m .journal) (m .logs) t in
     commitDecided t (settings (fileOf (m .store)) v x) m (commitRefusal (transaction (m .store) t .stale) (fits v x))
 
 -- The shared tests, 1 to 4, on what a caller lends.
 unfoldable pub admitted : ℕ → List ℕ → Machine → Turn → Turn
 admitted t buffer m next =
-    passing (admission (length (m .files)) (length (m .logs)) (length (m .marks)) (m .store) t) buffer m next
+    passing (admission (sizes m) (m .store) (m .journal) t) buffer m next
 
 -- The seven calls of demand 3.
 unfoldable pub call : Call → Machine → Turn
 call (begin t) m =
-    passing (admissionOfBegin (length (m .files)) (length (m .logs)) (length (m .marks)) (m .store) t) [] m (beginTurn t m)
+    passing (admissionOfBegin (sizes m) (m .store) (m .journal) t) [] m (beginTurn t m)
 call (on t o) m = admitted t (bufferOf o) m (stepTurn t o m)
 call (commit t) m = admitted t [] m (commitTurn t m)
 call (abort t) m = admitted t [] m (abortTurn t m)

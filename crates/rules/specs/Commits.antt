@@ -3,10 +3,11 @@ use mathlib.Core.Bool.{Bool, true, false, cond}
 use mathlib.Core.List.{List, [], _∷_, _++_}
 use lib.Dec.{leb}
 use Prim.Native.Nat.{ℕ, zero, suc, _+_, _*_}
-use Rattle.record.specs.Journal.{Place, at, after}
+use Rattle.standings.specs.declared.Place.{Place}
+use Rattle.standings.specs.declared.Place.the-variants.{At, After}
 use Rattle.ranges.specs.Below.{below}
 use Rattle.rules.specs.Items.{Item, byte, offset, same, Values}
-use Rattle.rules.specs.Standings.{advance, isSet, finalOffset}
+use Rattle.standings.specs.Table.{advance, isTouched, finalOffset}
 use Rattle.rules.specs.Transactions.{Txn, Write, those}
 
 -- An item, and the value that a commit sets it to.
@@ -16,8 +17,8 @@ pub record Setting : Type 0 where
 
 -- "The writes of the transaction land in call order; those still deferred lie from the committed offset of that moment."
 unfoldable pub landsAt : ℕ → Place → ℕ
-landsAt c (at p) = p
-landsAt c (after a) = c + a
+landsAt c (At p) = p
+landsAt c (After a) = c + a
 
 unfoldable pub stretch : ℕ → List ℕ → List Setting
 stretch q [] = []
@@ -35,7 +36,7 @@ unfoldable pub offsetSettings : Values → Txn → ℕ → List Setting
 offsetSettings v x zero = []
 offsetSettings v x (suc d) =
     offsetSettings v x d
-    ++ cond (isSet (x .standing d)) (record { item = offset d; to = finalOffset (v (offset d)) (x .standing d) } ∷ []) []
+    ++ cond (isTouched (x .standing d)) (record { item = offset d; to = finalOffset (v (offset d)) (x .standing d) } ∷ []) []
 
 -- All that a commit sets, in order: landing, setters and staleness go by this one list.
 unfoldable pub settings : (ℕ → ℕ) → Values → Txn → List Setting

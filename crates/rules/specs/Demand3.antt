@@ -7,14 +7,14 @@ use mathlib.Core.Path.{_≡_}
 use lib.Dec.{leb}
 use lib.ListN.{length, getD}
 use Prim.Native.Nat.{ℕ, _≤_}
-use Rattle.record.specs.declared.Answer.{Answer}
-use Rattle.record.specs.Journal.{transaction}
-use Rattle.record.specs.Paper.{Said, plain, granted, refused, said}
+use Rattle.record.specs.declared.outcomes.Outcome.{Outcome}
+use Rattle.record.specs.State.{transaction}
+use Rattle.record.specs.Paper.{refusals, Said, plain, granted, refused, said}
 use Rattle.rules.specs.Plain.{Call, begin, on, commit, abort, Reply, Slot, closed, running, Running, Plain, freshPlain, plainCall, plainAfter, plainReplies, firstList, secondList, becameStale, grantsOf}
 use Rattle.rules.specs.Serial.{serially, AllSame}
 use Rattle.rules.specs.Machine.{Machine, values}
 use Rattle.rules.specs.Calls.{Turn, fresh, call, callsAfter, callsReplies}
-use Rattle.rules.specs.Promises.{lent, Meets}
+use Rattle.rules.specs.Promises.{Meets}
 
 -- "from a fresh store": Fresh with these file numbers, on any record and any buffers, was accepted, and left m.
 pub record FreshlyMade (numbers : List ℕ) (m : Machine) : Type 0 where
@@ -56,30 +56,25 @@ Demand3 =
     → let p₀ : Plain = freshPlain (λ d. getD numbers d 0) in
     (cs : List Call) → Holds m₀ p₀ cs (callsAfter cs m₀) (plainAfter cs p₀)
 
--- One call as its caller sees it: the call, what it answered, and the buffers after it.
+-- One call as its caller sees it: the call, its outcome, and what it left: record and buffers, and the reader's buffer.
 pub record Made : Type 0 where
   pub made : Call
-  pub answer : Answer
-  pub files : List ℕ
-  pub logs : List ℕ
-  pub marks : List ℕ
+  pub outcome : Outcome
+  pub kept : Machine
   pub reader : List ℕ
-
-unfoldable pub kept : Made → Machine
-kept x = lent (x .answer .store) (x .files) (x .logs) (x .marks)
 
 -- Calls of the code, one after the other: each meets its promise on what the one before left.
 unfoldable pub Linked : Machine → List Made → Type 0
 Linked m [] = Unit {0}
-Linked m (x ∷ xs) = Meets (call (x .made) m) (x .answer) (x .files) (x .logs) (x .marks) (x .reader) × Linked (kept x) xs
+Linked m (x ∷ xs) = Meets (call (x .made) m) (x .outcome) (x .kept) (x .reader) × Linked (x .kept) xs
 
 -- What the caller holds after them.
 unfoldable pub lastOf : Machine → List Made → Machine
 lastOf m [] = m
-lastOf m (x ∷ xs) = lastOf (kept x) xs
+lastOf m (x ∷ xs) = lastOf (x .kept) xs
 
 unfoldable pub replyOf : Made → Reply
-replyOf x = record { answer = said (x .answer .outcome); buffer = x .reader }
+replyOf x = record { answer = said (x .outcome); buffer = x .reader }
 
 -- Demand 3 about the code: for calls linked by the promises of the functions, the replies are the plain machine's, and what holds
 -- of the rules holds of the record and buffers that the caller is left with.
@@ -89,10 +84,9 @@ pub record CodeHolds (m₀ : Machine) (p₀ : Plain) (xs : List Made) : Type 0 w
 
 abbrev pub Demand3OfCode : Type 0
 Demand3OfCode =
-    (numbers : List ℕ) (before : Machine) (r : Answer) (files logs marks : List ℕ)
-    → Meets (fresh numbers before) r files logs marks [] → said (r .outcome) ≡ plain
-    → let m₀ : Machine = lent (r .store) files logs marks in
-    let p₀ : Plain = freshPlain (λ d. getD numbers d 0) in
+    (numbers : List ℕ) (before : Machine) (o : Outcome) (m₀ : Machine)
+    → Meets (fresh numbers before) o m₀ [] → said o ≡ plain
+    → let p₀ : Plain = freshPlain (λ d. getD numbers d 0) in
     (xs : List Made) → Linked m₀ xs → CodeHolds m₀ p₀ xs
 
 -- Demand 1 about the rules: "A refusal changes no buffer and no record, save that a commit refused as stale (13) ends its
@@ -110,5 +104,5 @@ pub record Refusals (m : Machine) : Type 0 where
   pub ends :
       (c : Call) → call c m .reply .answer ≡ refused 13
       → (t : ℕ) × (c ≡ commit t) × (call c m .after ≡ call (abort t) m .after)
-  pub known : (c : Call) (n : ℕ) → call c m .reply .answer ≡ refused n → n ≤ 13
+  pub known : (c : Call) (n : ℕ) → call c m .reply .answer ≡ refused n → n ≤ refusals
   pub freshLeaves : (numbers : List ℕ) (n : ℕ) → fresh numbers m .reply .answer ≡ refused n → fresh numbers m .after ≡ m

@@ -1,8 +1,8 @@
 -- The meaning of the store, in the order in which it is read.
 
--- One transaction: what can be sighted; the table of standings; settling; reading; Seek, Write, GetFilePointer and Read.
+-- One transaction: what can be sighted; settling; reading; Seek, Write, GetFilePointer and Read. (The table of standings is
+-- standings/specs/Table.antt.)
 pub mod Items
-pub mod Standings
 pub mod Transactions
 pub mod Reading
 pub mod Steps

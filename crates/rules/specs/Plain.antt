@@ -56,6 +56,13 @@ pub record Running : Type 0 where
   pub calls : List Accepted
   pub seen : List Entry
 
+-- Just begun; and after an accepted call that leaves y and sights es.
+abbrev pub justBegun : Running
+justBegun = record { txn = empty; calls = []; seen = [] }
+
+abbrev pub afterCall : Txn → Accepted → List Entry → Running → Running
+afterCall y a es r = record { txn = y; calls = r .calls ++ (a ∷ []); seen = r .seen ++ es }
+
 pub data Slot : Type 0 where
   closed : Slot
   running : Running → Slot
@@ -120,15 +127,19 @@ pub record PlainTurn : Type 0 where
 unfoldable pub turnedDown : ℕ → List ℕ → Plain → PlainTurn
 turnedDown n buffer p = record { reply = record { answer = refused n; buffer = buffer }; after = p }
 
+-- The machine with another transaction as number t, or with what a grant leaves committed.
 unfoldable pub withSlot : ℕ → Slot → Plain → Plain
 withSlot t s p = record { fileOf = p .fileOf; committed = p .committed; grants = p .grants; slots = put t s (p .slots) }
+
+abbrev pub withGrant : Committed → Plain → Plain
+withGrant c p = record { fileOf = p .fileOf; committed = c; grants = p .grants + 1; slots = p .slots }
 
 unfoldable pub answering : Said → Plain → PlainTurn
 answering a p = record { reply = record { answer = a; buffer = [] }; after = p }
 
 -- "5: Begin of one already open"; "Begin opens a transaction with nothing in it, all Untouched."
 unfoldable pub plainBegin : ℕ → Slot → Plain → PlainTurn
-plainBegin t closed p = answering plain (withSlot t (running (record { txn = empty; calls = []; seen = [] })) p)
+plainBegin t closed p = answering plain (withSlot t (running justBegun) p)
 plainBegin t (running r) p = turnedDown 5 [] p
 
 -- "Seek, Write, GetFilePointer and Read go by the sections above and add the call, then its sightings with the setters of that
@@ -137,11 +148,7 @@ unfoldable pub plainStepped : ℕ → Op → Running → List Entry → Plain �
 plainStepped t o r es p (refuse n) = turnedDown n (bufferOf o) p
 plainStepped t o r es p (accept y answer buffer) =
     let reply : Reply = record { answer = answer; buffer = buffer } in
-    record {
-      reply = reply;
-      after =
-          withSlot t (running (record { txn = y; calls = r .calls ++ (record { op = o; reply = reply } ∷ []); seen = r .seen ++ es })) p;
-    }
+    record { reply = reply; after = withSlot t (running (afterCall y (record { op = o; reply = reply }) es r)) p }
 
 unfoldable pub plainOn : ℕ → Op → Slot → Plain → PlainTurn
 plainOn t o closed p = turnedDown 4 (bufferOf o) p
@@ -160,13 +167,7 @@ committing fileOf n x c =
 
 -- "A granted Commit raises the count ..; the transaction ends."
 unfoldable pub grant : ℕ → Running → Plain → Plain
-grant t r p =
-    record {
-      fileOf = p .fileOf;
-      committed = committing (p .fileOf) (p .grants + 1) (r .txn) (p .committed);
-      grants = p .grants + 1;
-      slots = put t closed (p .slots);
-    }
+grant t r p = withSlot t closed (withGrant (committing (p .fileOf) (p .grants + 1) (r .txn) (p .committed)) p)
 
 unfoldable pub staleSlot : Plain → Slot → Bool
 staleSlot p closed = false

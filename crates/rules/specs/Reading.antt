@@ -4,7 +4,8 @@ use mathlib.Core.List.{List, [], _∷_}
 use lib.Dec.{leb, ltb, eqb}
 use lib.ListN.{length, getD}
 use Prim.Native.Nat.{ℕ, zero, suc, _+_, _-_, _*_}
-use Rattle.record.specs.Journal.{Place, at, after}
+use Rattle.standings.specs.declared.Place.{Place}
+use Rattle.standings.specs.declared.Place.the-variants.{At, After}
 use Rattle.rules.specs.Items.{Prog, done, ask, andThen, byte}
 use Rattle.rules.specs.Transactions.{Write}
 
@@ -15,12 +16,12 @@ pub data Source : Type 0 where
 
 -- Whether a write with that place and length lies over place p of its file.
 unfoldable pub over : Place → ℕ → ℕ → Bool
-over (at a) n p = leb a p && ltb p (a + n)
-over (after a) n p = false
+over (At a) n p = leb a p && ltb p (a + n)
+over (After a) n p = false
 
 unfoldable pub byteAt : Place → List ℕ → ℕ → ℕ
-byteAt (at a) bytes p = getD bytes (p - a) 0
-byteAt (after a) bytes p = 0
+byteAt (At a) bytes p = getD bytes (p - a) 0
+byteAt (After a) bytes p = 0
 
 -- What one write supplies for place p of file f, given each descriptor's file.
 unfoldable pub supplies : (ℕ → ℕ) → ℕ → ℕ → Write → Source

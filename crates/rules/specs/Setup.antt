@@ -12,8 +12,8 @@ use Rattle.rules.specs.Calls.{callsReplies, callsAfter}
 unfoldable pub numbers : List ℕ
 numbers = 0 ∷ 1 ∷ 2 ∷ 3 ∷ 4 ∷ 5 ∷ 6 ∷ 7 ∷ 0 ∷ 1 ∷ 2 ∷ 3 ∷ 4 ∷ 5 ∷ 6 ∷ 7 ∷ []
 
-unfoldable pub fresh : Plain
-fresh = freshPlain (λ d. getD numbers d 0)
+unfoldable pub freshNumbered : Plain
+freshNumbered = freshPlain (λ d. getD numbers d 0)
 
 -- What is looked at: the replies to a list of calls, and the committed values after it. On the plain machine, and on a store.
 pub record Seen : Type 0 where
@@ -21,7 +21,7 @@ pub record Seen : Type 0 where
   pub value : List Call → Values
 
 unfoldable pub onPlain : Seen
-onPlain = record { replies = λ cs. plainReplies cs fresh; value = λ cs. plainAfter cs fresh .committed .value }
+onPlain = record { replies = λ cs. plainReplies cs freshNumbered; value = λ cs. plainAfter cs freshNumbered .committed .value }
 
 unfoldable pub onStore : Machine → Seen
 onStore m =
@@ -42,7 +42,7 @@ seenIn closed = []
 seenIn (running r) = r .seen
 
 unfoldable pub sightingsOf : List Call → ℕ → List Entry
-sightingsOf cs t = seenIn (plainAfter cs fresh .slots t)
+sightingsOf cs t = seenIn (plainAfter cs freshNumbered .slots t)
 
 -- A reply with no reader's buffer, and the reply of a Read that gave n bytes, with the buffer after it.
 abbrev pub says : Said → Reply

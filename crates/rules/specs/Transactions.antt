@@ -4,11 +4,12 @@ use mathlib.Core.List.{List, [], _∷_, _++_, map}
 use lib.Dec.{leb, eqb}
 use lib.ListN.{length}
 use Prim.Native.Nat.{ℕ, zero, suc, _+_}
-use Rattle.record.specs.declared.Standing.{Standing}
-use Rattle.record.specs.declared.Standing.the-variants.{Untouched}
-use Rattle.record.specs.Journal.{Place, at, after}
+use Rattle.standings.specs.declared.Standing.{Standing}
+use Rattle.standings.specs.declared.Standing.the-variants.{Untouched}
+use Rattle.standings.specs.declared.Place.{Place}
+use Rattle.standings.specs.declared.Place.the-variants.{At, After}
 use Rattle.rules.specs.Items.{Prog, done, ask, offset}
-use Rattle.rules.specs.Standings.{advance, settled}
+use Rattle.standings.specs.Table.{advance, settled}
 
 -- A write: through which descriptor, where, and its bytes.
 pub record Write : Type 0 where
@@ -30,14 +31,21 @@ module _ {A : Type 0} where
   unfoldable pub put : ℕ → A → (ℕ → A) → ℕ → A
   put d a f e = cond (eqb e d) a (f e)
 
--- The same transaction with another standing for descriptor d.
-unfoldable pub restand : ℕ → Standing → Txn → Txn
-restand d z x = record { standing = put d z (x .standing); writes = x .writes }
+-- A transaction with other standings, or other writes.
+abbrev pub withStandings : (ℕ → Standing) → Txn → Txn
+withStandings f x = record { standing = f; writes = x .writes }
+
+abbrev pub withWrites : List Write → Txn → Txn
+withWrites ws x = record { standing = x .standing; writes = ws }
+
+-- With another standing for descriptor d.
+abbrev pub withStanding : ℕ → Standing → Txn → Txn
+withStanding d z x = withStandings (put d z (x .standing)) x
 
 -- "Each write made while the place was unknown now lies at c plus the advance before it."
 unfoldable pub placedAt : ℕ → Place → Place
-placedAt c (at p) = at p
-placedAt c (after a) = at (c + a)
+placedAt c (At p) = At p
+placedAt c (After a) = At (c + a)
 
 unfoldable pub placeWrite : ℕ → ℕ → Write → Write
 placeWrite d c w =
@@ -45,7 +53,7 @@ placeWrite d c w =
 
 -- Descriptor d settled at committed offset c.
 unfoldable pub settle : ℕ → ℕ → Txn → Txn
-settle d c x = record { standing = put d (settled c (x .standing d)) (x .standing); writes = map (placeWrite d c) (x .writes) }
+settle d c x = withWrites (map (placeWrite d c) (x .writes)) (withStanding d (settled c (x .standing d)) x)
 
 -- The numbers below n that pass a test, in ascending order.
 unfoldable pub those : (ℕ → Bool) → ℕ → List ℕ

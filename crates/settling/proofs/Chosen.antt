@@ -11,17 +11,17 @@ use Prim.Native.Nat.{ℕ, _≤_, _<_}
 use Rattle.octets.proofs.PartLaws.{le-or-lt}
 use Rattle.record.specs.declared.Descriptor.{Descriptor}
 use Rattle.record.specs.declared.Store.{Store}
-use Rattle.record.specs.Journal.{transaction, standingAt, noDescriptor}
+use Rattle.record.specs.State.{transaction, standingAt, noDescriptor}
 use Rattle.ranges.specs.Below.{below}
 use Rattle.rules.specs.Items.{result}
-use Rattle.rules.specs.Standings.{pointerSettles, readSettles}
+use Rattle.standings.specs.Table.{pointerSettles, readSettles}
 use Rattle.rules.specs.Transactions.{those, past, all, settling}
 use Rattle.rules.specs.Steps.{settledByRead}
 use Rattle.rules.specs.Machine.{tabulate, fileOf, values, txnOf}
-use Rattle.encoding.specs.Settling.{settleAll}
+use Rattle.laws.specs.Settling.{settleAll}
 use Rattle.rules.proofs.View.Tables.{length-tabulate, getD-tabulate}
-use Rattle.encoding.proofs.Settling.{fitsAt, settled-together, those-one}
-use Rattle.descriptors.specs.Settling.{settlesForRead, chosenByRead, settlesForPointer, chosenByPointer, fits, fitting}
+use Rattle.laws.proofs.Settling.{fitsAt, settled-together, those-one}
+use Rattle.settling.specs.Choices.{settlesForRead, chosenByRead, settlesForPointer, chosenByPointer, settlesWithin, allWithin}
 use Rattle.settling.proofs.Settled.{settledTxn}
 
 -- A table of choices that none passes from n on says what the test says.
@@ -35,39 +35,38 @@ table-choice p n none =
     (le-or-lt n e))
 
 -- Settling the chosen ones in turn, on the committed offsets of the record.
-module _ (s : Store) (files logs : List ℕ) (t : ℕ) where
+module _ (s : Store) (journal files logs : List ℕ) (t : ℕ) where
   pub settling-chosen : (p : ℕ → Bool) → ((e : ℕ) → 16 ≤ e → p e ≡ false)
-      → result (values s files) (settling (those p 16) (txnOf s logs t))
-      ≡ cond (fitting (tabulate p 16) (s .offsets) (transaction s t)) (all (settledTxn s logs t (tabulate p 16))) past
-  unfolding values txnOf fitting fits
+      → result (values s files) (settling (those p 16) (txnOf s journal logs t))
+      ≡ cond (allWithin (tabulate p 16) (s .offsets) (transaction s t)) (all (settledTxn s journal logs t (tabulate p 16))) past
+  unfolding values txnOf allWithin settlesWithin
   settling-chosen p none =
-      settled-together (values s files) p (txnOf s logs t) 16 none
-      ∙ ap (λ (f : ℕ → Bool). cond (below (fitsAt (values s files) f (txnOf s logs t)) 16) (all (settleAll f (λ d. getD (s .offsets) d 0) (txnOf s logs t))) past)
+      settled-together (values s files) p (txnOf s journal logs t) 16 none
+      ∙ ap (λ (f : ℕ → Bool). cond (below (fitsAt (values s files) f (txnOf s journal logs t)) 16) (all (settleAll f (λ d. getD (s .offsets) d 0) (txnOf s journal logs t))) past)
       (table-choice p 16 none)
 
   -- GetFilePointer on d.
   pub settling-pointer : (d : ℕ) → d < 16
-      → result (values s files) (settling (cond (pointerSettles (txnOf s logs t .standing d)) (d ∷ []) []) (txnOf s logs t))
-      ≡ cond (fitting (chosenByPointer (transaction s t) d) (s .offsets) (transaction s t))
-      (all (settledTxn s logs t (chosenByPointer (transaction s t) d))) past
+      → result (values s files) (settling (cond (pointerSettles (txnOf s journal logs t .standing d)) (d ∷ []) []) (txnOf s journal logs t))
+      ≡ cond (allWithin (chosenByPointer (transaction s t) d) (s .offsets) (transaction s t))
+      (all (settledTxn s journal logs t (chosenByPointer (transaction s t) d))) past
   unfolding chosenByPointer settlesForPointer txnOf
   settling-pointer d h =
       let b = pointerSettles (standingAt (transaction s t) d) in
-      ap (λ (ds : List ℕ). result (values s files) (settling ds (txnOf s logs t))) (sym (those-one d b 16 h))
+      ap (λ (ds : List ℕ). result (values s files) (settling ds (txnOf s journal logs t))) (sym (those-one d b 16 h))
       ∙ settling-chosen (λ e. eqb e d && b) (λ e g. let ne : e ≡ d → ⊥ = λ q. omega arith in rw (ne-eqb e d ne))
 
   -- A Read through d.
   pub settling-read : (d : ℕ) → d < 16 → length (transaction s t .descriptors) ≡ 16
-      → result (values s files) (settling (settledByRead (fileOf s) d (txnOf s logs t)) (txnOf s logs t))
-      ≡ cond (fitting (chosenByRead (s .files) (transaction s t) d) (s .offsets) (transaction s t))
-      (all (settledTxn s logs t (chosenByRead (s .files) (transaction s t) d))) past
+      → result (values s files) (settling (settledByRead (fileOf s) d (txnOf s journal logs t)) (txnOf s journal logs t))
+      ≡ cond (allWithin (chosenByRead (s .filenumbers) (transaction s t) d) (s .offsets) (transaction s t))
+      (all (settledTxn s journal logs t (chosenByRead (s .filenumbers) (transaction s t) d))) past
   unfolding chosenByRead settlesForRead settledByRead fileOf txnOf
-  settling-read d h sixteen = settling-chosen (settlesForRead (s .files) (transaction s t) d) above
+  settling-read d h sixteen = settling-chosen (settlesForRead (s .filenumbers) (transaction s t) d) above
     where
-      above : (e : ℕ) → 16 ≤ e → settlesForRead (s .files) (transaction s t) d e ≡ false
+      above : (e : ℕ) → 16 ≤ e → settlesForRead (s .filenumbers) (transaction s t) d e ≡ false
       above e g =
-          unfold readSettles in
           let ne : e ≡ d → ⊥ = λ q. omega arith in
-          ap (λ (z : Descriptor). readSettles (eqb (getD (s .files) e 0) (getD (s .files) d 0)) (eqb e d) (z .standing))
+          ap (λ (z : Descriptor). readSettles (eqb (getD (s .filenumbers) e 0) (getD (s .filenumbers) d 0)) (eqb e d) (z .standing))
           (List·getD-eq-default (transaction s t .descriptors) noDescriptor (omega arith))
           ∙ ne-eqb e d ne

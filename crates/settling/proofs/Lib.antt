@@ -1,2 +1,5 @@
+-- Laws of settling, for the proofs of the calls that settle.
+pub mod ChoiceLaws
+pub mod RecordLaws
 pub mod Settled
 pub mod Chosen

@@ -1,112 +1,208 @@
 // A run of calls on a store of its own. It travels by value, some 100,000 bytes, so the program takes 2 MB of stack (4 MB
-// unoptimised). In each call the transaction's number stands before the descriptor's.
-use record::Answer;
+// unoptimised).
+use digests::outcomes::code;
+use digests::outcomes::number;
 use record::Store;
+use record::journal::NUMBERS;
+use record::outcomes::Answer;
+use record::outcomes::Outcome;
+ghost use Prim.Native.Nat.{_<_};
 
-// Whether all was as expected so far; what the last call answered, with the record; the store buffers; what the last Read
-// left in the reader's buffer.
+// The kinds of calls.
+const SEEK: u8 = 0;
+
+const WRITE: u8 = 1;
+
+const GET_FILE_POINTER: u8 = 2;
+
+const READ: u8 = 3;
+
+const COMMIT: u8 = 4;
+
+// Refusals that a call has to answer: 10,000 and the number in paper 01's table.
+pub const SEEK_PAST_END: u16 = 10008;
+
+pub const WRITE_PAST_END: u16 = 10009;
+
+pub const RECORDS_FULL: u16 = 10010;
+
+pub const SETTLED_PAST_END: u16 = 10012;
+
+pub const STALE: u16 = 10013;
+
+// Whether all was as expected so far; what the last call answered, with the record's first part; its second part; the store buffers;
+// the reader's buffer.
 pub struct Run {
     pub ok: bool,
     pub answer: Answer,
+    pub journal: [u16; NUMBERS],
     pub files: [u8; 32768],
     pub logs: [u8; 32768],
     pub marks: [u8; 32768],
-    pub reader: [u8; 8],
+    pub reader: [u8; 3],
 }
 
-// A record for Fresh to replace.
-fn blank() -> Store {
-    Store {
-        files: [0u8; 16],
-        offsets: [0u16; 16],
-        transactions: [record::ended(); 8],
-        holders: [0u8; 512],
-        places: [0u16; 512],
-        lengths: [0u16; 512],
-    }
-}
-
-// Fresh, with descriptor d on file d mod 8.
-pub fn fresh() -> Run {
+// "Each situation starts at its own Fresh; T0 to T2 are begun." Descriptor d belongs to file d mod 8.
+pub fn start() -> Run {
+    let mut journal = [0u16; NUMBERS];
     let mut files = [0u8; 32768];
     let logs = [0u8; 32768];
     let mut marks = [0u8; 32768];
     let numbers = [0u8, 1, 2, 3, 4, 5, 6, 7, 0, 1, 2, 3, 4, 5, 6, 7];
-    let answer = store::fresh(blank(), &mut files, &logs, &mut marks, &numbers);
+    let a = store::fresh(
+        record::blank(),
+        &mut journal,
+        &mut files,
+        &logs,
+        &mut marks,
+        &numbers,
+    );
+    let a = store::begin(a.store, &journal, &files, &logs, &mut marks, 0);
+    let a = store::begin(a.store, &journal, &files, &logs, &mut marks, 1);
+    let answer = store::begin(a.store, &journal, &files, &logs, &mut marks, 2);
     Run {
-        ok: true,
+        ok: answers(answer, 0, 0),
         answer,
+        journal,
         files,
         logs,
         marks,
-        reader: [0u8; 8],
+        reader: [0u8; 3],
     }
 }
 
-pub fn begin(mut r: Run, t: usize) -> Run {
-    let files = r.files;
-    let logs = r.logs;
-    let mut marks = r.marks;
-    let a = r.answer;
-    let answer = store::begin(a.store, &files, &logs, &mut marks, t);
-    r.answer = answer;
-    r.marks = marks;
-    r
+// The outcome is of that kind (0 plain, 1 an offset, 2 bytes given, 3 a grant) with the number `want`, or the refusal that `want` says.
+fn answers(a: Answer, kind: u16, want: u16) -> bool {
+    let o = a.outcome;
+    if let Outcome::Refused(e) = o {
+        return want == 10000 + e.number() as u16;
+    }
+    (code(o) == kind) & (number(o) == want)
 }
 
-pub fn seek(mut r: Run, t: usize, d: usize, v: usize) -> Run {
-    let files = r.files;
-    let logs = r.logs;
-    let marks = r.marks;
-    let a = r.answer;
-    let answer = store::seek(a.store, &files, &logs, &marks, t, d, v);
-    r.answer = answer;
-    r
+// The first n bytes, or all where there are fewer.
+fn front<'a>(bytes: &'a [u8], n: usize) -> &'a [u8] {
+    if bytes.len() < n {
+        return bytes;
+    }
+    &bytes[0..n]
 }
 
-pub fn write(mut r: Run, t: usize, d: usize, bytes: &[u8]) -> Run {
-    let files = r.files;
+fn performed(
+    s: Store,
+    journal: &mut [u16; NUMBERS],
+    files: &mut [u8],
+    logs: &mut [u8],
+    marks: &mut [u8],
+    kind: u8,
+    t: usize,
+    d: usize,
+    n: usize,
+    bytes: &[u8],
+    reader: &mut [u8],
+) -> Answer {
+    match kind {
+        SEEK => store::seek(s, journal, files, logs, marks, t, d, n),
+        WRITE => store::write(s, journal, files, logs, marks, t, d, bytes),
+        GET_FILE_POINTER => store::get_file_pointer(s, journal, files, logs, marks, t, d),
+        READ => store::read(s, journal, files, logs, marks, t, d, n, reader),
+        _ => store::commit(s, journal, files, logs, marks, t),
+    }
+}
+
+fn made(mut r: Run, kind: u8, t: usize, d: usize, n: usize, first: u8) -> Run {
+    let mut journal = r.journal;
+    let mut files = r.files;
     let mut logs = r.logs;
-    let marks = r.marks;
-    let a = r.answer;
-    let answer = store::write(a.store, &files, &mut logs, &marks, t, d, bytes);
-    r.answer = answer;
-    r.logs = logs;
-    r
-}
-
-pub fn pointer(mut r: Run, t: usize, d: usize) -> Run {
-    let files = r.files;
-    let logs = r.logs;
-    let marks = r.marks;
-    let a = r.answer;
-    let answer = store::get_file_pointer(a.store, &files, &logs, &marks, t, d);
-    r.answer = answer;
-    r
-}
-
-// The reader's buffer is all dots before.
-pub fn read(mut r: Run, t: usize, d: usize, n: usize) -> Run {
-    let files = r.files;
-    let logs = r.logs;
     let mut marks = r.marks;
-    let mut reader = [b'.'; 8];
+    let mut reader = [b'.'; 3];
+    let bytes = [first, std::num::wrapping_add_u8(first, 1)];
     let a = r.answer;
-    let answer = store::read(a.store, &files, &logs, &mut marks, t, d, n, &mut reader);
+    let answer = performed(
+        a.store,
+        &mut journal,
+        &mut files,
+        &mut logs,
+        &mut marks,
+        kind,
+        t,
+        d,
+        n,
+        front(&bytes, n),
+        &mut reader,
+    );
     r.answer = answer;
+    r.journal = journal;
+    r.files = files;
+    r.logs = logs;
     r.marks = marks;
     r.reader = reader;
     r
 }
 
-pub fn commit(mut r: Run, t: usize) -> Run {
-    let mut files = r.files;
-    let logs = r.logs;
-    let mut marks = r.marks;
+// Each call names its transaction, then its descriptor; last stands the number that it has to answer (0 for a plain answer), or a
+// refusal.
+pub fn seek(r: Run, t: usize, d: usize, v: usize, want: u16) -> Run {
+    let mut q = made(r, SEEK, t, d, v, 0);
+    let a = q.answer;
+    q.ok = q.ok & answers(a, 0, want);
+    q
+}
+
+// Writes n bytes, at most 2: `first`, and the next letter.
+pub fn write(r: Run, t: usize, d: usize, n: usize, first: u8, want: u16) -> Run {
+    let mut q = made(r, WRITE, t, d, n, first);
+    let a = q.answer;
+    q.ok = q.ok & answers(a, 0, want);
+    q
+}
+
+pub fn pointer(r: Run, t: usize, d: usize, want: u16) -> Run {
+    let mut q = made(r, GET_FILE_POINTER, t, d, 0, 0);
+    let a = q.answer;
+    q.ok = q.ok & answers(a, 1, want);
+    q
+}
+
+// The reader's buffer, of three dots before the call, has x, y and z after it.
+pub fn read(r: Run, t: usize, d: usize, n: usize, x: u8, y: u8, z: u8, want: u16) -> Run {
+    let mut q = made(r, READ, t, d, n, 0);
+    let a = q.answer;
+    let reader = q.reader;
+    q.ok = q.ok & answers(a, 2, want) & (reader[0] == x) & (reader[1] == y) & (reader[2] == z);
+    q
+}
+
+pub fn commit(r: Run, t: usize, want: u16) -> Run {
+    let mut q = made(r, COMMIT, t, 0, 0, 0);
+    let a = q.answer;
+    q.ok = q.ok & answers(a, 3, want);
+    q
+}
+
+// All was as expected so far. From place p on file 0 has w, x, y and z, and the committed offset of descriptor 0 is n.
+pub fn stands(r: Run, p: usize, w: u8, x: u8, y: u8, z: u8, n: u16) -> bool
+    requires { ⌜ p < 8 ⌝ }
+{
     let a = r.answer;
-    let answer = store::commit(a.store, &mut files, &logs, &mut marks, t);
-    r.answer = answer;
-    r.files = files;
-    r.marks = marks;
-    r
+    let s = a.store;
+    let files = r.files;
+    let front = (files[p] == w) & (files[p + 1] == x) & (files[p + 2] == y) & (files[p + 3] == z);
+    r.ok & front & (s.offsets[0] == n)
+}
+
+// All was as expected so far. Nobody has sighted a byte, and T0 has sighted the offset of descriptor d and no other.
+pub fn sighted_alone(r: Run, d: usize) -> bool {
+    let a = r.answer;
+    let s = a.store;
+    let x = s.transactions[0];
+    let marks = r.marks;
+    let mut ok = r.ok & check::same(&marks, &[0u8; 32768]);
+    let mut i = 0;
+    while i < 16 {
+        let z = x.standing_at(i);
+        ok = ok & (z.is_known() == (i == d));
+        i += 1;
+    }
+    ok
 }

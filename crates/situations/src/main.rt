@@ -2,7 +2,6 @@
 use libc::STDOUT_FILENO;
 
 mod calls;
-mod expected;
 mod letters;
 
 fn print(letter: u8, ok: bool) {

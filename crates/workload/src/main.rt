@@ -3,9 +3,11 @@
 
 use digests::digest;
 use digests::outcomes;
-use record::Answer;
+use digests::outcomes::COUNTS;
+use generator::Request;
 use record::Store;
-use stream::Request;
+use record::journal::NUMBERS;
+use record::outcomes::Answer;
 ghost use Prim.Native.Nat.{_<_};
 ghost use Rattle.digests.specs.Bounds.{Digest};
 ghost use Rattle.workload.specs.Bounds.{Running};
@@ -17,69 +19,82 @@ struct Course {
     last: usize,
     guess: [bool; 8],
     store: Store,
-    counts: [usize; 18],
+    journal: [u16; NUMBERS],
+    counts: [usize; COUNTS],
     answers: usize,
 }
 
-// The record at hand before the first Fresh.
-fn blank_record() -> Store {
-    let x = record::ended();
-    Store {
-        files: [0u8; 16],
-        offsets: [0u16; 16],
-        transactions: [x; 8],
-        holders: [0u8; 512],
-        places: [0u16; 512],
-        lengths: [0u16; 512],
-    }
-}
-
 // The course before call 0: after a Fresh in which descriptor d belongs to file d mod 8.
-fn start(files: &mut [u8], logs: &mut [u8], marks: &mut [u8]) -> Course
+fn start(files: &mut [u8], logs: &[u8], marks: &mut [u8]) -> Course
     ensures { λ r. ⌜ Running r ⌝ }
 {
     let list = [0u8, 1, 2, 3, 4, 5, 6, 7, 0, 1, 2, 3, 4, 5, 6, 7];
-    let a = store::fresh(blank_record(), files, logs, marks, &list);
+    let mut journal = [0u16; NUMBERS];
+    let a = store::fresh(record::blank(), &mut journal, files, logs, marks, &list);
     let s = a.store;
     Course {
         last: 1,
         guess: [false; 8],
         store: s,
-        counts: [0usize; 18],
+        journal,
+        counts: [0usize; COUNTS],
         answers: 0,
     }
 }
 
-// The record after a call: a forged one is dropped.
-fn kept(s: Store, a: Answer, forgery: usize) -> Store {
-    if 0 < forgery {
-        return s;
-    }
-    a.store
-}
-
-// The course after a call, from the answer and the reader's buffer.
-fn course_after(c: Course, last: usize, q: Request, a: Answer, reader: &[u8]) -> Course
-    requires { ⌜ (last < 2147483647) × Digest (c .answers) ⌝ }
+// The course after a call, from its answer, the journal and the reader's buffer. A forged record is dropped.
+fn course_after(
+    mut c: Course,
+    q: Request,
+    a: Answer,
+    journal: [u16; NUMBERS],
+    reader: &[u8],
+) -> Course
+    requires { ⌜ Running c ⌝ }
     ensures { λ r. ⌜ Running r ⌝ }
 {
     let o = a.outcome;
-    let answers = digest::reply_taken(c.answers, o, reader);
     let guess = c.guess;
-    let s = c.store;
     let counts = c.counts;
-    Course {
-        last: last,
-        guess: stream::guess_after(guess, q),
-        store: kept(s, a, q.damage.forgery),
-        counts: outcomes::counted(counts, o),
-        answers: answers,
+    let guessed = generator::guess_after(guess, q);
+    let counted = outcomes::counted(counts, o);
+    c.answers = digest::reply_taken(c.answers, o, reader);
+    c.guess = guessed;
+    c.counts = counted;
+    if 0 < q.damage.forgery {
+        return c;
     }
+    let s = a.store;
+    c.store = s;
+    c.journal = journal;
+    c
+}
+
+// Performs a call, with a forged copy of the record where it says so.
+fn performed(
+    c: Course,
+    q: Request,
+    files: &mut [u8],
+    logs: &mut [u8],
+    marks: &mut [u8],
+    reader: &mut [u8],
+    bytes: &mut [u8],
+) -> Course
+    requires { ⌜ Running c × ((q .damage .transaction < 8) × (q .damage .index < 16)) ⌝ }
+    ensures { λ r. ⌜ Running r ⌝ }
+{
+    let s = c.store;
+    let mut journal = c.journal;
+    let damage = q.damage;
+    let given = forgeries::forged(s, &mut journal, damage);
+    let a = performing::performed(given, &mut journal, q, files, logs, marks, reader, bytes);
+    let n = performing::within(q.buffer, reader);
+    course_after(c, q, a, journal, &reader[..n])
 }
 
 // Call i.
 fn turn(
-    c: Course,
+    mut c: Course,
     i: usize,
     files: &mut [u8],
     logs: &mut [u8],
@@ -90,14 +105,12 @@ fn turn(
     requires { ⌜ Running c × (i < 300000) ⌝ }
     ensures { λ r. ⌜ Running r ⌝ }
 {
-    let d = stream::draw(c.last);
-    let r = d.numbers;
+    let drawn = generator::draw(c.last);
+    let numbers = drawn.numbers;
     let guess = c.guess;
-    let s = c.store;
-    let q = stream::requested(r, i / 256, guess);
-    let a = serving::made(s, q, r, files, logs, marks, reader, bytes);
-    let n = serving::within(q.buffer, reader);
-    course_after(c, d.last, q, a, &reader[..n])
+    let q = generator::requested(numbers, i / 256, guess);
+    c.last = drawn.last;
+    performed(c, q, files, logs, marks, reader, bytes)
 }
 
 fn print(n: usize, after: u8) {
@@ -105,9 +118,9 @@ fn print(n: usize, after: u8) {
     io::write_all(1, &[after]);
 }
 
-fn print_counts(counts: [usize; 18]) {
+fn print_counts(counts: [usize; COUNTS]) {
     let mut k = 0;
-    while k < 18 {
+    while k < COUNTS {
         print(counts[k], b' ');
         k += 1;
     }
@@ -118,9 +131,10 @@ fn print_line(made: usize, c: Course, files: &[u8], logs: &[u8], marks: &[u8]) {
     if made % 1000 == 0 {
         let counts = c.counts;
         let s = c.store;
+        let journal = c.journal;
         print(made, b' ');
         print_counts(counts);
-        print(digest::of_state(s, files, logs, marks), b' ');
+        print(digest::of_state(s, &journal, files, logs, marks), b' ');
         print(c.answers, b'\n');
     }
 }

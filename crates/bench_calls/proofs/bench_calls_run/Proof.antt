@@ -1,18 +1,17 @@
--- `bench_calls::bench_calls_run` is safe and ends. The loop's invariant: at most so many rounds are left, and every lent buffer keeps its length. Assumes nothing.
+-- `bench_calls_run` is safe and ends. The loop's invariant: at most so many rounds are left, and every lent buffer keeps its length.
 use lib.ListN.{length}
-use Prim.Native.Nat.{_≤_}
+use Prim.Native.Nat.{_≤_, _-_}
 use mathlib.Core.Path.{_≡_}
+use native.Mathlib.Omega.{arith}
 use borrow.Author.Needs.{needs}
 use Rattle.bench_calls.proofs.bench_calls_run.Statement.{statement}
 use Rattle.bench_calls.proofs.bench_calls_run.Tie as tie
 
 abbrev Inv-loop : tie.InvT-loop
-Inv-loop files₀ logs₀ marks₀ setup body «data» reader₀ said₀ stamps₀ rounds p₀ left₀ files logs marks reader said stamps p left =
-    (left ≤ rounds) × (length files ≡ length files₀) × (length logs ≡ length logs₀) × (length marks ≡ length marks₀) × (length reader ≡ length reader₀) × (length said ≡ length said₀) × (length stamps ≡ length stamps₀)
+Inv-loop files₀ logs₀ marks₀ setup body «data» reader₀ said₀ stamps₀ rounds journal₀ p₀ left₀ files logs marks reader said stamps journal p left = (left ≤ rounds) × (length files ≡ length files₀) × (length logs ≡ length logs₀) × (length marks ≡ length marks₀) × (length reader ≡ length reader₀) × (length said ≡ length said₀) × (length stamps ≡ length stamps₀)
 
 abbrev μ-loop : tie.MeasureT-loop
-μ-loop files₀ logs₀ marks₀ setup body «data» reader₀ said₀ stamps₀ rounds p₀ left₀ files logs marks reader said stamps p left =
-    left
+μ-loop files₀ logs₀ marks₀ setup body «data» reader₀ said₀ stamps₀ rounds journal₀ p₀ left₀ files logs marks reader said stamps journal p left = left
 
 blank-requires : tie.Need-blank-requires Inv-loop μ-loop
 blank-requires c κs = search needs

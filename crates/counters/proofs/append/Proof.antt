@@ -43,7 +43,7 @@ use denote.Triple.Walked.{needs, Stays, stay-ref, stay-none, walkOf, goes-none, 
 use denote.Exit.{yes}
 use Rattle.counters.specs.declared.Used.{Used}
 use Rattle.counters.proofs.Operand.{operand}
-use Rattle.counters.proofs.Pair.{used, fits, says-both}
+use Rattle.counters.proofs.Pair.{used, pair-fits, says-both}
 use Rattle.counters.proofs.Used as T
 use Rattle.counters.proofs.Used.Laws as T′
 use Rattle.counters.proofs.append.Key.{name as #counters·append}
@@ -77,7 +77,7 @@ module _ {M : Type 1} (𝓤 : URA M) (H : Heap 𝓤) (A : Atoms 𝓤) (W : Given
   shut : {Γ : List (Item 𝓤)} {G : Goal 𝓤 H} → Soaks G → (r k : ℕ) → r < 2 ^ 8 → k < 2 ^ 16
       → Step (Go {0}) W (‵ (fobs γ (T.the-row .coded .code (used r k))) ∷ ‵ (fbor κ (Body (mem T.the-row) b o γ)) ∷ ‵ (flft κ q) ∷ Γ) G
       (‵ (cellAt fullShare (T.the-row .mir) (T′.lowered (used r k) ∷ []) b o) ∷ ‵ (T.the-row .own h (T′.lowered h ∷ [])) ∷ ‵ (fobor κ q (Body (mem T.the-row) b o γ)) ∷ ‵ (fobs γ (T.the-row .coded .code h)) ∷ ‵ (fauth γ (T.the-row .coded .code h)) ∷ Γ) G
-  shut z r k fr fk = step (λ s. move ! (1 ∷ []) $ drop ! $ owned ! T.the-row (Is T.the-row) ((LL.makes T.the-type T′.the-plain) 𝓤 H A) (used r k) _ (fits r k fr fk) $ move ! (1 ∷ 0 ∷ []) $ closes ! z T.the-row (used r k) (T′.lowered (used r k) ∷ []) b o $ s)
+  shut z r k fr fk = step (λ s. move ! (1 ∷ []) $ drop ! $ owned ! T.the-row (Is T.the-row) ((LL.makes T.the-type T′.the-plain) 𝓤 H A) (used r k) _ (pair-fits r k fr fk) $ move ! (1 ∷ 0 ∷ []) $ closes ! z T.the-row (used r k) (T′.lowered (used r k) ∷ []) b o $ s)
 
   module _ (C : Calls 𝓤 H) (Λ : Loops 𝓤 H) where
     walk : n < 2 ^ 16 → (h .records ≤ 64) × (h .bytes + n ≤ 4096) → ent 𝓤 (onEntry 𝓤 H A append.signature (κ, tt) (q, tt) x at) (WpFn 𝓤 H C Λ code.function (vptr b o ∷ vint w16 n ∷ []) Post)

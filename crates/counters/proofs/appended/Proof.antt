@@ -49,7 +49,7 @@ use denote.Triple.Walked.{says, needs, Stays, stay-none, walkOf, goes-none, Walk
 use denote.Exit.{yes}
 use Rattle.counters.specs.declared.Used.{Used}
 use Rattle.counters.proofs.Operand.{operand}
-use Rattle.counters.proofs.Pair.{used, fits, says-both}
+use Rattle.counters.proofs.Pair.{used, pair-fits, says-both}
 use Rattle.counters.proofs.Used as T
 use Rattle.counters.proofs.Used.Laws as T′
 use Rattle.counters.proofs.append as append
@@ -94,7 +94,7 @@ module _ {M : Type 1} (𝓤 : URA M) (H : Heap 𝓤) (A : Atoms 𝓤) (W : Given
   exits r k fr fk er ek =
       qed W [] ∵
       suffices ! _ (ends-at 𝓤 H A appended.ended stayed (appended.clauses 𝓤 H A at-mem run) W ((tt, tt, tt, (h, (n, tt)), at), tt) (T′.lowered (used r k)) (used r k) (tt, (tt, tt)) (tt, (tt, tt))) $ says-both ! (omega arith) (omega arith) $
-      owned ! T.the-row (Is T.the-row) ((LL.makes T.the-type T′.the-plain) 𝓤 H A) (used r k) _ (fits r k fr fk) $
+      owned ! T.the-row (Is T.the-row) ((LL.makes T.the-type T′.the-plain) 𝓤 H A) (used r k) _ (pair-fits r k fr fk) $
       nothing ! $ owned ! u16 (Is u16) (uint-makes 𝓤 H A W w16) n _ (refl, fn) $ fjoin ! $ owned ! T.the-row (Is T.the-row) ((LL.makes T.the-type T′.the-plain) 𝓤 H A) h _ is $ fjoin ! $ nothing ! $ done !
 
   -- the reference that is lent: v's place l, under the name δ

@@ -1,80 +1,61 @@
--- `ranges::records_in` meets its contract. The loop's invariant: the records passed end below their entries, and the sum is theirs.
-use Prim.Native.Nat.{_+_, _-_, _*_, _≤_}
-use mathlib.Core.Path.{_≡_, ap}
+-- `ranges::records_in` meets its contract. The loop's invariant: the records passed are in range, and the sum is that of their lengths.
+use Prim.Native.Nat.{_-_, _*_, _≤_}
+use mathlib.Core.Path.{_≡_, refl, ap, _∙_}
 use mathlib.Core.Bool.{true}
 use native.Mathlib.Omega.{arith}
 use lib.Dec.{eqb}
-use Rattle.ranges.specs.Below.{below, sum}
-use Rattle.ranges.proofs.Laws.{below-zero, below-more, below-fails}
+use Rattle.record.specs.declared.journal.WriteRecord.{WriteRecord}
+use Rattle.record.specs.State.{standingAt}
+use Rattle.record.specs.Journal.{writeRecordAt}
+use Rattle.ranges.specs.Below.{below}
+use Rattle.ranges.specs.Ranges.{standingIn, recordIn, lengthsBefore}
+use Rattle.ranges.proofs.Laws.{below-zero, below-more, below-at, below-fails}
+use Rattle.ranges.proofs.Tests.{descriptor-out, place-out, record-passes, lengths-none, lengths-more, and-fails, and-last}
 use borrow.Author.Needs.{needs}
-use Rattle.ranges.specs.Limits.{endsBelow, total}
-use Rattle.ranges.proofs.Limits.{ends-unknown, ends-past, ends-in, total-zero, total-more, and-fails, and-last}
 use Rattle.ranges.proofs.records_in.Statement.{statement}
 use Rattle.ranges.proofs.records_in.Tie as tie
 
 abbrev Inv-loop : tie.InvT-loop
-Inv-loop t records bytes room holders places lengths sum₀ k₀ sum k =
-    (k ≤ records) × (below (λ j. endsBelow room holders places lengths (64 * t + j)) k ≡ true) × (sum ≡ total lengths t k)
+Inv-loop t journal records bytes x sum₀ k₀ sum k =
+    (k ≤ records) × (below (λ j. recordIn x (writeRecordAt journal t j)) k ≡ true) × (sum ≡ lengthsBefore journal t k)
     × (sum ≤ 65535 * k)
 
 abbrev μ-loop : tie.MeasureT-loop
-μ-loop t records bytes room holders places lengths sum₀ k₀ sum k = records - k
+μ-loop t journal records bytes x sum₀ k₀ sum k = records - k
 
 loop-holds : tie.Need-loop-holds Inv-loop μ-loop
-loop-holds c = (omega arith, below-zero _, total-zero _ _, omega arith)
+loop-holds c = (omega arith, below-zero _, lengths-none _ _, omega arith)
 
-mul-i : tie.Need-mul-i Inv-loop μ-loop
-mul-i c = search needs
-
-add-i : tie.Need-add-i Inv-loop μ-loop
-add-i c = search needs
-
-element-copy-out-wide-octet : tie.Need-element-copy-out-wide-octet Inv-loop μ-loop
-element-copy-out-wide-octet c = search needs
-
-wide-octet-requires : tie.Need-wide-octet-requires Inv-loop μ-loop
-wide-octet-requires c κs = search needs
-
-returns : tie.Need-returns Inv-loop μ-loop
-returns c =
-    let i = c .before .before .before .before .loop in
-    and-fails _ _ (below-fails _ (i .k) _ (omega arith) (ends-unknown _ _ _ _ _ (rw (c .before .wide-octet .ensures .0) at (c .if1 .taken))))
-
-mul-wide : tie.Need-mul-wide Inv-loop μ-loop
-mul-wide c = search needs
-
-element-copy-out-wide : tie.Need-element-copy-out-wide Inv-loop μ-loop
-element-copy-out-wide c = search needs
+record-at-requires : tie.Need-record-at-requires Inv-loop μ-loop
+record-at-requires c κs = search needs
 
 wide-requires : tie.Need-wide-requires Inv-loop μ-loop
 wide-requires c κs = search needs
 
-mul-wide-2 : tie.Need-mul-wide-2 Inv-loop μ-loop
-mul-wide-2 c = search needs
+returns : tie.Need-returns Inv-loop μ-loop
+returns c =
+    let i = c .before .before .before .before .loop in
+    and-fails _ _ (below-fails _ (i .k) _ (omega arith) (descriptor-out _ _ _ (c .before .before .record-at .ensures) _ (c .before .wide .ensures .0) (c .if1 .taken)))
 
-element-copy-out-wide-2 : tie.Need-element-copy-out-wide-2 Inv-loop μ-loop
-element-copy-out-wide-2 c = search needs
+mul-q : tie.Need-mul-q Inv-loop μ-loop
+mul-q c = search needs
 
-wide-requires-2 : tie.Need-wide-requires-2 Inv-loop μ-loop
-wide-requires-2 c κs = search needs
+element-copy-out-q : tie.Need-element-copy-out-q Inv-loop μ-loop
+element-copy-out-q c = search needs
 
-add-if2 : tie.Need-add-if2 Inv-loop μ-loop
-add-if2 c = search needs
-
-mul-wide-3 : tie.Need-mul-wide-3 Inv-loop μ-loop
-mul-wide-3 c = search needs
-
-element-copy-out-wide-3 : tie.Need-element-copy-out-wide-3 Inv-loop μ-loop
-element-copy-out-wide-3 c = search needs
-
-wide-requires-3 : tie.Need-wide-requires-3 Inv-loop μ-loop
-wide-requires-3 c κs = search needs
+place-in-requires : tie.Need-place-in-requires Inv-loop μ-loop
+place-in-requires c κs =
+    let start = c .before .before .before .before .before .before in
+    below-at _ 16 (c .before .before .wide .result) (start .pre .2) (omega arith)
 
 returns-2 : tie.Need-returns-2 Inv-loop μ-loop
 returns-2 c =
-    let i = c .before .before .before .before .before .before .before .before .before .before .before .loop in
-    let past = rw (c .before .wide3 .ensures .0, c .before .before .before .wide2 .ensures .0, c .before .before .before .before .before .wide .ensures .0, c .before .before .before .before .before .before .before .before .wide-octet .ensures .0) at (c .if2 .taken) in
-    and-fails _ _ (below-fails _ (i .k) _ (omega arith) (ends-past _ _ _ _ _ past))
+    let i = c .before .before .before .before .before .before .before .loop in
+    and-fails _ _ (below-fails _ (i .k) _ (omega arith)
+    (place-out _ _ _ (c .before .before .before .before .before .record-at .ensures) _ (c .before .before .before .before .wide .ensures .0) (omega arith) _ refl _ (c .before .place-in .ensures) (c .if2 .taken)))
+
+wide-requires-2 : tie.Need-wide-requires-2 Inv-loop μ-loop
+wide-requires-2 c κs = search needs
 
 add-sum : tie.Need-add-sum Inv-loop μ-loop
 add-sum c = search needs
@@ -87,12 +68,12 @@ loop-less c = search needs
 
 loop-again : tie.Need-loop-again Inv-loop μ-loop
 loop-again c =
-    let i = c .before .before .before .before .before .before .before .before .before .before .before .loop in
-    let known = rw (c .before .before .before .before .before .before .before .before .wide-octet .ensures .0) at (c .before .before .before .before .before .before .before .if1 .left) in
-    let ends = rw (c .before .wide3 .ensures .0, c .before .before .before .wide2 .ensures .0, c .before .before .before .before .before .wide .ensures .0, c .before .before .before .before .before .before .before .before .wide-octet .ensures .0) at (c .if2 .left) in (
+    let i = c .before .before .before .before .before .before .before .before .loop in
+    let w = c .before .before .before .before .before .before .record-at .ensures in (
       omega arith,
-      below-more _ _ (i .inv .1) (ends-in _ _ _ _ _ known ends),
-      total-more _ _ _ _ _ (i .inv .2) (c .before .before .before .before .before .wide .ensures .0),
+      below-more _ _ (i .inv .1)
+          (record-passes _ _ _ w _ (c .before .before .before .before .before .wide .ensures .0) (omega arith) _ refl _ (c .before .before .place-in .ensures) (c .before .if2 .left)),
+      lengths-more _ _ _ _ _ (i .inv .2) (c .wide2 .ensures .0 ∙ ap (λ (v : WriteRecord). v .length) w),
       omega arith,
     )
 
@@ -109,22 +90,14 @@ records-in-spec =
     Inv-loop
     μ-loop
     loop-holds
-    mul-i
-    add-i
-    element-copy-out-wide-octet
-    wide-octet-requires
-    returns
-    mul-wide
-    element-copy-out-wide
+    record-at-requires
     wide-requires
-    mul-wide-2
-    element-copy-out-wide-2
-    wide-requires-2
-    add-if2
-    mul-wide-3
-    element-copy-out-wide-3
-    wide-requires-3
+    returns
+    mul-q
+    element-copy-out-q
+    place-in-requires
     returns-2
+    wide-requires-2
     add-sum
     add-k
     loop-less

@@ -1,13 +1,13 @@
 -- `ranges::transaction_in` meets its contract.
-use Rattle.ranges.proofs.Laws.{failed, held}
+use native.Mathlib.Omega.{arith}
 use borrow.Author.Needs.{needs}
-use borrow.Author.Tests.{not-false}
-use Rattle.ranges.proofs.Limits.{closed-in, records-fail, bytes-fail, standings-fail, records-decide}
+use Rattle.ranges.proofs.Laws.{failed, held}
+use Rattle.ranges.proofs.Tests.{closed-in, records-fail, bytes-fail, standings-fail, records-decide}
 use Rattle.ranges.proofs.transaction_in.Statement.{statement}
 use Rattle.ranges.proofs.transaction_in.Tie as tie
 
 returns : tie.Need-returns
-returns c = closed-in _ _ _ _ _ (c .if1 .taken)
+returns c = closed-in _ _ _ (c .if1 .taken)
 
 wide-octet-requires : tie.Need-wide-octet-requires
 wide-octet-requires c κs = search needs
@@ -16,33 +16,28 @@ wide-requires : tie.Need-wide-requires
 wide-requires c κs = search needs
 
 returns-2 : tie.Need-returns-2
-returns-2 c = records-fail _ _ _ _ _ (c .before .before .before .if1 .left) _ (c .before .before .wide-octet .ensures .0) (c .if2 .taken)
+returns-2 c = records-fail _ _ _ (c .before .before .before .if1 .left) _ (c .before .before .wide-octet .ensures .0) (c .if2 .taken)
 
 returns-3 : tie.Need-returns-3
-returns-3 c = bytes-fail _ _ _ _ _ (c .before .before .before .before .if1 .left) _ _ (c .before .before .before .wide-octet .ensures .0) (c .before .before .wide .ensures .0) (c .before .if2 .left) (c .if3 .taken)
+returns-3 c = bytes-fail _ _ _ (c .before .before .before .before .if1 .left) _ _ (c .before .before .before .wide-octet .ensures .0) (c .before .before .wide .ensures .0) (c .before .if2 .left) (c .if3 .taken)
 
-placed-limits-requires : tie.Need-placed-limits-requires
-placed-limits-requires c κs = search needs
-
-limits-in-requires : tie.Need-limits-in-requires
-limits-in-requires c κs = search needs
+standings-in-requires : tie.Need-standings-in-requires
+standings-in-requires c κs = search needs
 
 returns-4 : tie.Need-returns-4
 returns-4 c =
-    let i = c .before .before .before .before .before in
-    standings-fail _ _ _ _ _ (i .before .before .before .before .if1 .left) _ _ (i .before .before .before .wide-octet .ensures .0) (i .before .before .wide .ensures .0) (i .before .if2 .left) (i .if3 .left)
-    (failed (c .before .limits-in .ensures .0) (c .if4 .taken))
+    let i = c .before .before in
+    standings-fail _ _ _ (i .before .before .before .before .if1 .left) _ _ (i .before .before .before .wide-octet .ensures .0) (i .before .before .wide .ensures .0) (i .before .if2 .left) (i .if3 .left)
+    (failed (c .before .standings-in .ensures) (c .if4 .taken))
 
 records-in-requires : tie.Need-records-in-requires
-records-in-requires c κs = search needs
+records-in-requires c κs = (omega arith, omega arith, held (c .before .standings-in .ensures) (c .if4 .left))
 
 returns-5 : tie.Need-returns-5
 returns-5 c =
-    let l = c .before .before .before .limits-in .ensures in
-    let left = c .before .before .if4 .left in
-    let i = c .before .before .before .before .before .before .before in
-    records-decide _ _ _ _ _ (i .before .before .before .before .if1 .left) _ _ (i .before .before .before .wide-octet .ensures .0) (i .before .before .wide .ensures .0) (i .before .if2 .left) (i .if3 .left)
-    _ _ (held (l .0) left) (l .1 (not-false _ left)) (c .records-in .ensures)
+    let i = c .before .before .before in
+    records-decide _ _ _ (i .before .before .before .before .if1 .left) _ _ (i .before .before .before .wide-octet .ensures .0) (i .before .before .wide .ensures .0) (i .before .if2 .left) (i .if3 .left)
+    _ (held (c .before .before .standings-in .ensures) (c .before .if4 .left)) (c .records-in .ensures)
 
 pub transaction-in-spec : {M : Type 1} → statement M
 transaction-in-spec =
@@ -53,8 +48,7 @@ transaction-in-spec =
     wide-requires
     returns-2
     returns-3
-    placed-limits-requires
-    limits-in-requires
+    standings-in-requires
     returns-4
     records-in-requires
     returns-5)

@@ -1,56 +1,72 @@
 -- `reading::copy_run` meets its contract. Assumes nothing.
+use mathlib.Core.Bool.{true, false}
 use mathlib.Core.Path.{_≡_, sym, ap, _∙_}
-use Prim.Native.Nat.{ℕ, _+_, _*_, _≤_}
+use Prim.Native.Nat.{_+_, _≤_}
 use native.Mathlib.Omega.{arith}
 use lib.ListN.{length}
-use Rattle.octets.specs.Parts.{pasted, chosen}
-use Rattle.octets.specs.Bits.{withBit, changed}
-use Rattle.octets.proofs.PartLaws.{length-cut}
-use Rattle.journal.specs.Runs.{Arrays, arrays, dataBefore}
+use Rattle.octets.specs.Parts.{pasted, cut, chosen}
+use Rattle.ranges.specs.Ranges.{lengthsBefore}
+use Rattle.runs.specs.Runs.{Recorded, recorded, extent}
 use Rattle.reading.specs.Serving.{bytesOf}
-use Rattle.reading.proofs.FetchLaws.{run-fits, run-bytes, run-shields, run-marks}
+use Rattle.reading.proofs.FetchLaws.{length-bytes, in-chosen, run-within, run-bytes, run-shields, run-marks}
 use borrow.Author.Needs.{needs}
 use Rattle.reading.proofs.copy_run.Statement.{statement}
 use Rattle.reading.proofs.copy_run.Tie as tie
 
-abbrev lent : tie.Start → Arrays
-lent c = arrays (c .args .holders .now) (c .args .places .now) (c .args .lengths .now) (c .args .numbers .now)
+abbrev lent : tie.Start → Recorded
+lent c = recorded (c .args .journal .now) (c .args .filenumbers .now)
 
-inside : (c : tie.Start) → dataBefore (lent c) (c .args .t) (c .args .used .records) ≤ length (c .args .log .now)
-inside c = let p = c .pre .0 in omega (arith, p .journal .adds, p .journal .bytes, p .logLength)
+inside : (c : tie.Start) → lengthsBefore (c .args .journal .now) (c .args .t) (c .args .used .records) ≤ length (c .args .log .now)
+inside c = let h = c .pre .0 in omega (arith, h .counted .adds, h .counted .bytes, h .logLength)
 
--- The run lies inside the part that it is handed over from.
-fitting : (c : tie.After-run-at)
-    → c .run-at .result .at + c .run-at .result .len ≤ length (chosen (c .run-at .result .logged) (c .before .before .before .before .before .args .log .now) (c .before .before .before .before .before .args .file .now))
-fitting c =
-    let s = c .before .before .before .before .before in
-    let a = s .args in
-    run-fits (lent s) (a .t) (a .used .records) (a .log .now) (a .file .now) (a .f) (inside s) (a .p) (a .n) (c .run-at .result) (c .run-at .ensures) (omega (arith, s .pre .0 .places, s .pre .0 .fileLength))
-
--- What is copied.
-bytes-are : (c : tie.After-run)
-    → c .run .result .now ≡ bytesOf (lent (c .before .before .before .before .before .before)) (c .before .before .before .before .before .before .args .t) (c .before .before .before .before .before .before .args .used .records) (c .before .before .before .before .before .before .args .log .now) (c .before .before .before .before .before .before .args .file .now) (c .before .before .before .before .before .before .args .f) (c .before .before .before .before .before .before .args .p) (c .before .run-at .result .len)
-bytes-are c =
-    let s = c .before .before .before .before .before .before in
-    let a = s .args in
-    c .run .ensures
-    ∙ sym (run-bytes (lent s) (a .t) (a .used .records) (a .log .now) (a .file .now) (a .f) (inside s) (a .p) (a .n) (c .before .run-at .result) (c .before .run-at .ensures) (omega (arith, s .pre .0 .places, s .pre .0 .fileLength)))
+within : (c : tie.Start) → c .args .e .place + c .args .e .length ≤ length (c .args .file .now)
+within c = omega (arith, c .pre .0 .places, c .pre .0 .fileLength)
 
 run-at-requires : tie.Need-run-at-requires
 run-at-requires c κs = search needs
 
+-- The run lies inside the part that it is handed over from.
+run-ends : (c : tie.After-run-at) → c .run-at .result .at + c .run-at .result .length ≤ 4096
+run-ends c =
+    let s = c .before .before .before .before .before in
+    let a = s .args in
+    run-within (lent s) (a .t) (a .used .records) (a .log .now) (a .file .now) (inside s) (a .e) (c .run-at .result) (c .run-at .ensures) (within s) (s .pre .0 .logLength) (s .pre .0 .fileLength)
+
 run-requires : tie.Need-run-requires
-run-requires c κs = fitting c
+run-requires c κs =
+    let h = c .before .before .before .before .before .pre .0 in
+    in-chosen _ _ _ _ 4096 (omega (arith, h .logLength, h .fileLength)) (omega (arith, h .logLength, h .fileLength)) (run-ends c)
+
+-- "handed over as that part of the log or of the file"
+handed : (c : tie.After-run)
+    → c .run .result .now ≡ cut (chosen (c .before .run-at .result .logged) (c .before .before .before .before .before .before .args .log .now) (c .before .before .before .before .before .before .args .file .now)) (c .before .run-at .result .at) (c .before .run-at .result .length)
+handed c = c .run .ensures
+
+bytes-are : (c : tie.After-run)
+    → c .run .result .now ≡ bytesOf (lent (c .before .before .before .before .before .before)) (c .before .before .before .before .before .before .args .t) (c .before .before .before .before .before .before .args .used .records) (c .before .before .before .before .before .before .args .log .now) (c .before .before .before .before .before .before .args .file .now) (extent (c .before .before .before .before .before .before .args .e .file) (c .before .before .before .before .before .before .args .e .place) (c .before .run-at .result .length))
+bytes-are c =
+    let s = c .before .before .before .before .before .before in
+    let a = s .args in
+    handed c
+    ∙ sym (run-bytes (lent s) (a .t) (a .used .records) (a .log .now) (a .file .now) (inside s) (a .e) (c .before .run-at .result) (c .before .run-at .ensures) (within s))
 
 copy-to-requires : tie.Need-copy-to-requires
 copy-to-requires c κs =
-    let r = c .before .before .run-at .result in
-    let a = c .before .before .before .before .before .before .before .args in
-    let l = ap length (c .before .run .ensures) ∙ length-cut (chosen (r .logged) (a .log .now) (a .file .now)) (r .at) (r .len) (fitting (c .before .before)) in
-    omega (arith, l, c .before .before .run-at .ensures .fits, c .before .before .before .before .before .before .before .pre .1 .1)
+    let s = c .before .before .before .before .before .before .before in
+    let a = s .args in
+    let r = c .before .before .run-at in
+    let l = ap length (bytes-are (c .before)) ∙ length-bytes (lent s) (a .t) (a .used .records) (a .log .now) (a .file .now) (a .e .file) (a .e .place) (r .result .length) in
+    omega (arith, l, r .ensures .within, s .pre .1 .1)
 
 same-length : tie.Need-same-length
 same-length c = search needs
+
+-- The record supplied the run, and the file did.
+own : (c : tie.Then1) → c .before .before .before .before .before .before .run-at .result .logged ≡ true
+own c = search needs
+
+filed : (c : tie.Else1) → c .before .before .before .before .before .before .run-at .result .logged ≡ false
+filed c = search needs
 
 returns : tie.Need-returns
 returns c =
@@ -60,21 +76,18 @@ returns c =
       r .ensures,
       (
         c .before .before .before .copy-to .ensures ∙ ap (pasted (a .reader .now) (a .at)) (bytes-are (c .before .before .before .before .before)),
-        sym (run-shields (lent s) (a .t) (a .used .records) (a .log .now) (a .file .now) (a .f) (inside s) (a .p) (a .n) (r .result) (r .ensures) (omega (arith, s .pre .0 .places, s .pre .0 .fileLength)) (a .marks .now) (c .if1 .taken)),
+        sym (run-shields (lent s) (a .t) (a .used .records) (a .log .now) (a .file .now) (inside s) (a .e) (r .result) (r .ensures) (within s) (a .marks .now) (own c)),
       ),
     )
 
 wide-octet-requires : tie.Need-wide-octet-requires
 wide-octet-requires c κs = search needs
 
-mul-mark : tie.Need-mul-mark
-mul-mark c = search needs
+mul-from : tie.Need-mul-from
+mul-from c = search needs
 
-add-mark : tie.Need-add-mark
-add-mark c = search needs
-
-cast-mark : tie.Need-cast-mark
-cast-mark c = search needs
+add-from : tie.Need-add-from
+add-from c = search needs
 
 mark-requires : tie.Need-mark-requires
 mark-requires c κs = search needs
@@ -87,15 +100,14 @@ same-length-3 c = search needs
 
 returns-2 : tie.Need-returns-2
 returns-2 c =
-    let s = c .before .before .before .before .before .before .before .before .before .before .before .before .before .before .before .before in
+    let s = c .before .before .before .before .before .before .before .before .before .before .before .before .before .before .before .before .before in
     let a = s .args in
-    let r = c .before .before .before .before .before .before .before .before .before .before .before .run-at in (
+    let r = c .before .before .before .before .before .before .before .before .before .before .before .before .run-at in (
       r .ensures,
       (
-        c .before .before .before .before .before .before .before .before .copy-to .ensures ∙ ap (pasted (a .reader .now) (a .at)) (bytes-are (c .before .before .before .before .before .before .before .before .before .before)),
+        c .before .before .before .before .before .before .before .before .before .copy-to .ensures ∙ ap (pasted (a .reader .now) (a .at)) (bytes-are (c .before .before .before .before .before .before .before .before .before .before .before)),
         c .before .before .mark .ensures
-            ∙ ap (λ (k : ℕ). changed (withBit (a .t)) (4096 * k + a .p) (r .result .len) (a .marks .now)) (c .before .before .before .wide-octet .ensures .0)
-            ∙ sym (run-marks (lent s) (a .t) (a .used .records) (a .log .now) (a .file .now) (a .f) (inside s) (a .p) (a .n) (r .result) (r .ensures) (omega (arith, s .pre .0 .places, s .pre .0 .fileLength)) (a .marks .now) (omega (arith, s .pre .0 .places, s .pre .0 .marksLength, s .pre .0 .number)) (c .before .before .before .before .before .if1 .left)),
+            ∙ run-marks (lent s) (a .t) (a .used .records) (a .log .now) (a .file .now) (inside s) (a .e) (r .result) (r .ensures) (within s) (a .marks .now) (filed (c .before .before .before .before .before .before)) _ _ (omega (arith, c .before .before .before .before .before .wide-octet .ensures .0)) (omega arith),
       ),
     )
 
@@ -109,9 +121,8 @@ copy-run-spec =
     same-length
     returns
     wide-octet-requires
-    mul-mark
-    add-mark
-    cast-mark
+    mul-from
+    add-from
     mark-requires
     same-length-2
     same-length-3

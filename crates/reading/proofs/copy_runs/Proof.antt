@@ -1,30 +1,29 @@
 -- `reading::copy_runs` meets its contract. The loop's invariant: the contract's definitions at the i bytes copied. Assumes nothing.
-use mathlib.Core.List.{List}
 use mathlib.Core.Path.{_≡_, refl, sym, ap, _∙_}
-use Prim.Native.Nat.{ℕ, _+_, _-_, _≤_}
+use Prim.Native.Nat.{ℕ, _-_, _≤_}
 use native.Mathlib.Omega.{arith}
 use borrow.Author.Needs.{needs}
 use lib.ListN.{length}
 use Rattle.octets.specs.Parts.{pasted}
-use Rattle.journal.specs.Runs.{Arrays, arrays}
+use Rattle.runs.specs.Runs.{Recorded, recorded, extent}
 use Rattle.reading.specs.Serving.{bytesOf, marksAfter}
 use Rattle.reading.proofs.FetchLaws.{bytes-none, bytes-more, bytes-all, marks-none, marks-more}
 use Rattle.reading.proofs.copy_runs.Statement.{statement}
 use Rattle.reading.proofs.copy_runs.Tie as tie
 
 abbrev Inv-loop : tie.InvT-loop
-Inv-loop holders places lengths numbers t used log file marks₀ f p m reader₀ i₀ marks reader i =
-    (i ≤ m)
+Inv-loop journal filenumbers t used log file marks₀ e reader₀ i₀ marks reader i =
+    (i ≤ e .length)
     × (length marks ≡ length marks₀)
     × (length reader ≡ length reader₀)
-    × (reader ≡ pasted reader₀ 0 (bytesOf (arrays holders places lengths numbers) t (used .records) log file f p i))
-    × (marks ≡ marksAfter (arrays holders places lengths numbers) t (used .records) log file f p i marks₀)
+    × (reader ≡ pasted reader₀ 0 (bytesOf (recorded journal filenumbers) t (used .records) log file (extent (e .file) (e .place) i)))
+    × (marks ≡ marksAfter (recorded journal filenumbers) t (used .records) log file (extent (e .file) (e .place) i) marks₀)
 
 abbrev μ-loop : tie.MeasureT-loop
-μ-loop holders places lengths numbers t used log file marks₀ f p m reader₀ i₀ marks reader i = m - i
+μ-loop journal filenumbers t used log file marks₀ e reader₀ i₀ marks reader i = e .length - i
 
-abbrev lent : tie.Start Inv-loop μ-loop → Arrays
-lent c = arrays (c .args .holders .now) (c .args .places .now) (c .args .lengths .now) (c .args .numbers .now)
+abbrev lent : tie.Start Inv-loop μ-loop → Recorded
+lent c = recorded (c .args .journal .now) (c .args .filenumbers .now)
 
 loop-holds : tie.Need-loop-holds Inv-loop μ-loop
 loop-holds c =
@@ -33,24 +32,25 @@ loop-holds c =
       omega arith,
       refl,
       refl,
-      sym (bytes-none (lent s) (a .t) (a .used .records) (a .log .now) (a .file .now) (a .f) (a .p) (a .reader .now)),
-      sym (marks-none (lent s) (a .t) (a .used .records) (a .log .now) (a .file .now) (a .f) (a .p) (a .marks .now)),
+      sym (bytes-none (lent s) (a .t) (a .used .records) (a .log .now) (a .file .now) (a .e .file) (a .e .place) (a .reader .now)),
+      sym (marks-none (lent s) (a .t) (a .used .records) (a .log .now) (a .file .now) (a .e .file) (a .e .place) (a .marks .now)),
     )
 
-add-copy-run : tie.Need-add-copy-run Inv-loop μ-loop
-add-copy-run c = record { fits = omega (arith, c .before .before .before .before .before .before .before .pre .0 .places) }
+add-t14 : tie.Need-add-t14 Inv-loop μ-loop
+add-t14 c =
+    record { fits = omega (arith, c .before .before .before .before .before .before .before .before .pre .0 .places) }
 
-sub-copy-run : tie.Need-sub-copy-run Inv-loop μ-loop
-sub-copy-run c = omega arith
+sub-t15 : tie.Need-sub-t15 Inv-loop μ-loop
+sub-t15 c =
+    omega arith
 
 copy-run-requires : tie.Need-copy-run-requires Inv-loop μ-loop
 copy-run-requires c κs =
-    let s = c .before .before .before .before .before .before .before .before in
-    let a = s .args in
-    let l = c .before .before .before .loop in
+    let s = c .before .before .before .before .before .before .before .before .before .before .before in
+    let l = c .before .before .before .before .before .before .loop in
     let h = s .pre .0 in (
       record {
-        journal = h .journal;
+        counted = h .counted;
         logLength = h .logLength;
         fileLength = h .fileLength;
         marksLength = l .inv .1 ∙ h .marksLength;
@@ -61,26 +61,26 @@ copy-run-requires c κs =
     )
 
 add-i : tie.Need-add-i Inv-loop μ-loop
-add-i c = record { fits = omega (arith, c .before .before .before .before .before .copy-run .ensures .0 .fits, c .before .before .before .before .before .before .before .before .before .before .before .before .before .before .pre .0 .places) }
+add-i c =
+    record { fits = omega (arith, c .before .before .before .before .before .copy-run .ensures .0 .within, c .before .before .before .before .before .before .before .before .before .before .before .before .before .before .before .before .before .pre .0 .places) }
 
 loop-less : tie.Need-loop-less Inv-loop μ-loop
-loop-less c = omega (arith, c .before .before .before .before .before .copy-run .ensures .0 .some, c .before .before .before .before .before .copy-run .ensures .0 .fits)
+loop-less c =
+    omega (arith, c .before .before .before .before .before .copy-run .ensures .0 .some, c .before .before .before .before .before .copy-run .ensures .0 .within)
 
 loop-again : tie.Need-loop-again Inv-loop μ-loop
 loop-again c =
-    let s = c .before .before .before .before .before .before .before .before .before .before .before .before .before .before in
+    let s = c .before .before .before .before .before .before .before .before .before .before .before .before .before .before .before .before .before in
     let a = s .args in
-    let l = c .before .before .before .before .before .before .before .before .before .loop in
+    let l = c .before .before .before .before .before .before .before .before .before .before .before .before .loop in
     let r = c .before .before .before .before .before .copy-run in (
-      omega (arith, r .ensures .0 .fits),
-      r .kept .1 .1 .1 .1 .1 .1 .1 .1 .0 ∙ l .inv .1,
-      r .kept .1 .1 .1 .1 .1 .1 .1 .1 .1 .1 .1 .1 .0 ∙ l .inv .2,
+      omega (arith, r .ensures .0 .within),
+      r .kept .1 .1 .1 .1 .1 .1 .0 ∙ l .inv .1,
+      r .kept .1 .1 .1 .1 .1 .1 .1 .1 .0 ∙ l .inv .2,
       r .ensures .1 .0
-          ∙ ap (λ (d : List ℕ). pasted d (l .i) (bytesOf (lent s) (a .t) (a .used .records) (a .log .now) (a .file .now) (a .f) (a .p + l .i) (r .result .len))) (l .inv .3)
-          ∙ bytes-more (lent s) (a .t) (a .used .records) (a .log .now) (a .file .now) (a .f) (a .p) (a .reader .now) (l .i) (r .result .len) (omega (arith, r .ensures .0 .fits, s .pre .1)),
+          ∙ bytes-more (lent s) (a .t) (a .used .records) (a .log .now) (a .file .now) (a .e .file) (a .e .place) (a .reader .now) (l .i) (r .result .length) _ _ (l .inv .3) (omega arith) (omega (arith, r .ensures .0 .within, s .pre .1)),
       r .ensures .1 .1
-          ∙ ap (marksAfter (lent s) (a .t) (a .used .records) (a .log .now) (a .file .now) (a .f) (a .p + l .i) (r .result .len)) (l .inv .4)
-          ∙ marks-more (lent s) (a .t) (a .used .records) (a .log .now) (a .file .now) (a .f) (a .p) (a .marks .now) (l .i) (r .result .len),
+          ∙ marks-more (lent s) (a .t) (a .used .records) (a .log .now) (a .file .now) (a .e .file) (a .e .place) (a .marks .now) (l .i) (r .result .length) _ _ (l .inv .4) (omega arith),
     )
 
 same-length : tie.Need-same-length Inv-loop μ-loop
@@ -91,14 +91,14 @@ same-length-2 c = search needs
 
 returns : tie.Need-returns Inv-loop μ-loop
 returns c =
-    let s = c .before .before .before .before .before .before in
+    let s = c .before .before .before .before .before .before .before in
     let a = s .args in
-    let l = c .before .loop in
-    let e : l .i ≡ a .m = omega arith in (
+    let l = c .before .before .loop in
+    let q : l .i ≡ a .e .length = omega arith in (
       l .inv .3
-          ∙ ap (λ (k : ℕ). pasted (a .reader .now) 0 (bytesOf (lent s) (a .t) (a .used .records) (a .log .now) (a .file .now) (a .f) (a .p) k)) e
-          ∙ bytes-all (lent s) (a .t) (a .used .records) (a .log .now) (a .file .now) (a .f) (a .p) (a .reader .now) (a .m),
-      l .inv .4 ∙ ap (λ (k : ℕ). marksAfter (lent s) (a .t) (a .used .records) (a .log .now) (a .file .now) (a .f) (a .p) k (a .marks .now)) e,
+          ∙ ap (λ (n : ℕ). pasted (a .reader .now) 0 (bytesOf (lent s) (a .t) (a .used .records) (a .log .now) (a .file .now) (extent (a .e .file) (a .e .place) n))) q
+          ∙ bytes-all (lent s) (a .t) (a .used .records) (a .log .now) (a .file .now) (a .e .file) (a .e .place) (a .reader .now) (a .e .length),
+      l .inv .4 ∙ ap (λ (n : ℕ). marksAfter (lent s) (a .t) (a .used .records) (a .log .now) (a .file .now) (extent (a .e .file) (a .e .place) n) (a .marks .now)) q,
     )
 
 pub copy-runs-spec : {M : Type 1} → statement M
@@ -108,8 +108,8 @@ copy-runs-spec =
     Inv-loop
     μ-loop
     loop-holds
-    add-copy-run
-    sub-copy-run
+    add-t14
+    sub-t15
     copy-run-requires
     add-i
     loop-less

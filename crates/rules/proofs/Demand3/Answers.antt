@@ -1,10 +1,13 @@
--- What a step can say: an accepted one answers, a refused one has a number from 6 to 12.
-use mathlib.Core.Bool.{Bool, true, false, cond}
+-- What a step can say: an accepted one answers, a refused one leaves everything.
+use mathlib.Core.Bool.{Bool, true, false, cond, not, _&&_, false≢true}
 use mathlib.Core.List.{List, []}
 use mathlib.Core.Path.{_≡_, refl, sym, ap, _∙_, subst}
-use native.Mathlib.Omega.{arith}
+use borrow.Author.Tests.{leb-true, eq-eqb}
+use lib.Dec.{leb, eqb}
 use Prim.Native.Nat.{ℕ, _≤_, min}
-use Rattle.record.specs.Paper.{Said, plain, pointer, given, granted, refused}
+use Rattle.record.specs.Paper.{number, refusals, Said, plain, pointer, given, granted, refused}
+use Rattle.record.specs.declared.outcomes.Refusal.the-variants.{Stale}
+use Rattle.ranges.proofs.Laws.{and-left, and-right}
 use Rattle.rules.specs.Items.{Item, Values, Prog, done, ask, andThen, result}
 use Rattle.rules.specs.Steps.{Op, seek, write, getFilePointer, read, Stepped, refuse, accept, check, orGivenBack, seekStep, writeStep, pointerStep, readSettled, readStep, step}
 use Rattle.rules.specs.Transactions.{Txn, Settled, past, all}
@@ -20,8 +23,25 @@ IsAnswer (refused n) = ⊥
 pub answer-not-refused : (a : Said) (n : ℕ) → IsAnswer a → a ≡ refused n → ⊥
 answer-not-refused a n h e = subst IsAnswer e h
 
+-- A number of no refusal (0), or of one that leaves everything: any but that of Stale.
+abbrev pub Leaving : ℕ → Type 0
+Leaving n = (n ≤ refusals) × (n ≡ number Stale → ⊥)
+
+-- One that a call meets after 1 and 2, tested.
+abbrev pub Later : ℕ → Type 0
+Later n = (3 ≤ n) × Leaving n
+
+pub later : (n : ℕ) → leb 3 n && (leb n refusals && not (eqb n (number Stale))) ≡ true → Later n
+later n e =
+    let f = and-right (leb 3 n) _ e in
+    (leb-true 3 n (and-left (leb 3 n) _ e), (leb-true n refusals (and-left (leb n refusals) _ f), λ g. other (eqb n (number Stale)) (and-right (leb n refusals) _ f) (eq-eqb n (number Stale) g)))
+  where
+    other : (b : Bool) → not b ≡ true → b ≡ true → ⊥
+    other true e g = false≢true e
+    other false e g = false≢true g
+
 abbrev pub Right : Stepped → Type 0
-Right (refuse n) = (6 ≤ n) × (n ≤ 12)
+Right (refuse n) = Later n
 Right (accept y a b) = IsAnswer a
 
 abbrev pub Always : Prog Stepped → Type 0
@@ -34,14 +54,14 @@ module _ {A : Type 0} where
   always-then (done a) k h = h a
   always-then (ask i f) k h = λ v. always-then (f v) k h
 
-always-check : (ok : Bool) (n : ℕ) (next : Prog Stepped) → (6 ≤ n) × (n ≤ 12) → Always next → Always (check ok n next)
+always-check : (ok : Bool) (n : ℕ) (next : Prog Stepped) → Later n → Always next → Always (check ok n next)
 unfolding check
 always-check true n next h a = a
 always-check false n next h a = h
 
 always-back : (next : Txn → Prog Stepped) → ((y : Txn) → Always (next y)) → (s : Settled) → Always (orGivenBack next s)
 unfolding orGivenBack
-always-back next h past = omega arith
+always-back next h past = later 12 refl
 always-back next h (all y) = h y
 
 always-read : (fileOf : ℕ → ℕ) (d n : ℕ) (buffer : List ℕ) (y : Txn) → Always (readSettled fileOf d n buffer y)
@@ -50,15 +70,15 @@ always-read fileOf d n buffer y = always-then _ _ (λ bytes. tt)
 
 pub always-step : (fileOf : ℕ → ℕ) (o : Op) (x : Txn) → Always (step fileOf o x)
 unfolding step seekStep writeStep pointerStep readStep
-always-step fileOf (seek d v) x = always-check _ 6 _ (omega arith) (always-check _ 8 _ (omega arith) tt)
+always-step fileOf (seek d v) x = always-check _ 6 _ (later 6 refl) (always-check _ 8 _ (later 8 refl) tt)
 always-step fileOf (write d bytes) x =
-    always-check _ 6 _ (omega arith)
-    (always-check _ 9 _ (omega arith) (always-check _ 10 _ (omega arith) (always-check _ 11 _ (omega arith) tt)))
+    always-check _ 6 _ (later 6 refl)
+    (always-check _ 9 _ (later 9 refl) (always-check _ 10 _ (later 10 refl) (always-check _ 11 _ (later 11 refl) tt)))
 always-step fileOf (getFilePointer d) x =
-    always-check _ 6 _ (omega arith) (always-then _ _ (λ s. always-back _ (λ y. tt) s))
+    always-check _ 6 _ (later 6 refl) (always-then _ _ (λ s. always-back _ (λ y. tt) s))
 always-step fileOf (read d n buffer) x =
-    always-check _ 6 _ (omega arith)
-    (always-check _ 7 _ (omega arith) (always-then _ _ (λ s. always-back _ (always-read fileOf d n buffer) s)))
+    always-check _ 6 _ (later 6 refl)
+    (always-check _ 7 _ (later 7 refl) (always-then _ _ (λ s. always-back _ (always-read fileOf d n buffer) s)))
 
 pub always-result : (v : Values) (p : Prog Stepped) → Always p → Right (result v p)
 unfolding result

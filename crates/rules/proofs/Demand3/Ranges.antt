@@ -7,9 +7,9 @@ use lib.Dec.{leb}
 use lib.ListN.{length}
 use native.Mathlib.Omega.{arith}
 use Prim.Native.Nat.{ℕ, zero, suc, _≤_}
-use Rattle.record.specs.Journal.{transaction}
+use Rattle.record.specs.State.{transaction}
 use Rattle.record.specs.Paper.{Said, plain, refused}
-use Rattle.ranges.specs.Ranges.{unless, shared, lengthsIn, storeIn, admission, admissionOfBegin}
+use Rattle.ranges.specs.Ranges.{unless, shared, storeIn, admission, admissionOfBegin}
 use Rattle.rules.specs.Items.{Item}
 use Rattle.rules.specs.Steps.{Op, bufferOf, Stepped, refuse, accept}
 use Rattle.rules.specs.Commits.{Setting, commitRefusal}
@@ -72,7 +72,7 @@ unfolding call abortTurn answer stepTurn commitTurn
 late-call (begin t) m s = late-begin m s t
 late-call (on t o) m s =
     late-admitted m s t (bufferOf o) (stepTurn t o m)
-    (late-served t o m _ _ (always-result _ _ (always-step (fileOf (m .store)) o (txnOf (m .store) (m .logs) t))))
+    (late-served t o m _ _ (always-result _ _ (always-step (fileOf (m .store)) o (txnOf (m .store) (m .journal) (m .logs) t))))
 late-call (commit t) m s = late-admitted m s t [] (commitTurn t m) (late-decided t _ m _ _)
 late-call (abort t) m s = late-admitted m s t [] (abortTurn t m) (late-answer _ tt)
 

@@ -2,21 +2,20 @@
 use mathlib.Core.Bool.{Bool, true, false, cond}
 use mathlib.Core.List.{List, []}
 use mathlib.Core.Path.{_≡_, refl, sym, ap, _∙_, subst}
-use lib.ListN.{length}
 use native.Mathlib.Omega.{arith}
 use Prim.Native.Nat.{ℕ, zero, suc, _≤_}
 use Rattle.record.specs.declared.Store.{Store}
-use Rattle.record.specs.Journal.{transaction, ended}
-use Rattle.record.specs.Paper.{Said, plain, granted, refused}
-use Rattle.ranges.specs.Ranges.{unless, shared, admission, admissionOfBegin, admissionOfFresh}
+use Rattle.record.specs.State.{transaction, ended}
+use Rattle.record.specs.Paper.{refusals as refusalCount, Said, plain, granted, refused}
+use Rattle.ranges.specs.Ranges.{Sizes, unless, shared, admission, admissionOfBegin, admissionOfFresh}
 use Rattle.rules.specs.Items.{Item, result, asked}
 use Rattle.rules.specs.Steps.{Op, bufferOf, Stepped, refuse, accept, step}
 use Rattle.rules.specs.Commits.{Setting, settings, fits, commitRefusal}
 use Rattle.rules.specs.Plain.{Call, begin, on, commit, abort, Reply}
-use Rattle.rules.specs.Machine.{Machine, fileOf, values, txnOf}
+use Rattle.rules.specs.Machine.{Machine, sizes, fileOf, values, txnOf}
 use Rattle.rules.specs.Calls.{Turn, answer, turnDown, passing, fresh, reset, beginTurn, abortTurn, served, stepTurn, commitGranted, commitDecided, commitTurn, admitted, call}
 use Rattle.rules.specs.Demand3.{bufferOfCall, Refusals}
-use Rattle.rules.proofs.Demand3.Answers.{IsAnswer, answer-not-refused, Right, always-step, always-result}
+use Rattle.rules.proofs.Demand3.Answers.{IsAnswer, answer-not-refused, Leaving, later as later-on, Right, always-step, always-result}
 
 pub refused-same : (m n : ℕ) → refused m ≡ refused n → m ≡ n
 refused-same m n e = cc
@@ -24,13 +23,13 @@ refused-same m n e = cc
 -- A turn that leaves everything where it refuses with a number other than 13.
 pub record Leaves (m : Machine) (buffer : List ℕ) (w : Turn) : Type 0 where
   pub leaves : (n : ℕ) → w .reply .answer ≡ refused n → (n ≡ 13 → ⊥) → (w .after ≡ m) × (w .reply .buffer ≡ buffer)
-  pub most : (n : ℕ) → w .reply .answer ≡ refused n → n ≤ 13
+  pub most : (n : ℕ) → w .reply .answer ≡ refused n → n ≤ refusalCount
 
-leaves-passing : (k : ℕ) (buffer : List ℕ) (m : Machine) (w : Turn) → k ≤ 13 → Leaves m buffer w → Leaves m buffer (passing k buffer m w)
+leaves-passing : (k : ℕ) (buffer : List ℕ) (m : Machine) (w : Turn) → Leaving k → Leaves m buffer w → Leaves m buffer (passing k buffer m w)
 unfolding passing turnDown
 leaves-passing zero buffer m w h l = l
 leaves-passing (suc k) buffer m w h l =
-    record { leaves = λ n e d. (refl, refl); most = λ n e. subst (λ (j : ℕ). j ≤ 13) (refused-same (suc k) n e) h }
+    record { leaves = λ n e d. (refl, refl); most = λ n e. subst (λ (j : ℕ). j ≤ refusalCount) (refused-same (suc k) n e) (h .0) }
 
 leaves-answer : (m : Machine) (buffer : List ℕ) (w : Turn) → IsAnswer (w .reply .answer) → Leaves m buffer w
 leaves-answer m buffer w h =
@@ -44,7 +43,7 @@ unfolding served turnDown
 leaves-served t o m is (refuse k) h =
     record {
       leaves = λ n e d. (refl, refl);
-      most = λ n e. subst (λ (j : ℕ). j ≤ 13) (refused-same k n e) (omega (arith, h .1));
+      most = λ n e. subst (λ (j : ℕ). j ≤ refusalCount) (refused-same k n e) (h .1 .0);
     }
 leaves-served t o m is (accept y a b) h = leaves-answer m (bufferOf o) _ h
 
@@ -53,57 +52,61 @@ unfolding commitDecided commitRefusal commitGranted
 leaves-decided t ss m true placed =
     record {
       leaves = λ n e d. absurd (d (sym (refused-same 13 n e)));
-      most = λ n e. subst (λ (j : ℕ). j ≤ 13) (refused-same 13 n e) (omega arith);
+      most = λ n e. subst (λ (j : ℕ). j ≤ refusalCount) (refused-same 13 n e) (omega arith);
     }
 leaves-decided t ss m false true = leaves-answer m [] _ tt
 leaves-decided t ss m false false =
-    record { leaves = λ n e d. (refl, refl); most = λ n e. subst (λ (j : ℕ). j ≤ 13) (refused-same 12 n e) (omega arith) }
+    record { leaves = λ n e d. (refl, refl); most = λ n e. subst (λ (j : ℕ). j ≤ refusalCount) (refused-same 12 n e) (omega arith) }
 
--- The shared tests refuse with at most 5, Fresh's with at most 14.
-unless-le : (b : Bool) (n later k : ℕ) → n ≤ k → later ≤ k → unless b n later ≤ k
+-- The shared tests refuse with a number other than 13.
+unless-leaving : (b : Bool) (n later : ℕ) → Leaving n → Leaving later → Leaving (unless b n later)
 unfolding unless
-unless-le true n later k h l = l
-unless-le false n later k h l = h
+unless-leaving true n later h l = l
+unless-leaving false n later h l = h
 
-shared-le : (f l m : ℕ) (s : Store) (t later : ℕ) → later ≤ 5 → shared f l m s t later ≤ 5
+shared-leaving : (z : Sizes) (s : Store) (j : List ℕ) (t later : ℕ) → Leaving later → Leaving (shared z s j t later)
 unfolding shared
-shared-le f l m s t later h =
-    unless-le _ 1 _ 5 (omega arith) (unless-le _ 2 _ 5 (omega arith) (unless-le _ 3 _ 5 (omega arith) h))
+shared-leaving z s j t later h =
+    unless-leaving _ 1 _ (omega arith, λ e. omega arith)
+    (unless-leaving _ 2 _ (omega arith, λ e. omega arith) (unless-leaving _ 3 _ (later-on 3 refl .1) h))
 
-admission-le : (f l m : ℕ) (s : Store) (t : ℕ) → admission f l m s t ≤ 5
+none-leaving : Leaving 0
+none-leaving = (omega arith, λ e. omega arith)
+
+admission-leaving : (z : Sizes) (s : Store) (j : List ℕ) (t : ℕ) → Leaving (admission z s j t)
 unfolding admission
-admission-le f l m s t = shared-le f l m s t _ (unless-le _ 4 0 5 (omega arith) (omega arith))
+admission-leaving z s j t = shared-leaving z s j t _ (unless-leaving _ 4 0 (later-on 4 refl .1) none-leaving)
 
-begin-le : (f l m : ℕ) (s : Store) (t : ℕ) → admissionOfBegin f l m s t ≤ 5
+begin-leaving : (z : Sizes) (s : Store) (j : List ℕ) (t : ℕ) → Leaving (admissionOfBegin z s j t)
 unfolding admissionOfBegin
-begin-le f l m s t = shared-le f l m s t _ (unless-le _ 5 0 5 (omega arith) (omega arith))
+begin-leaving z s j t = shared-leaving z s j t _ (unless-leaving _ 5 0 (later-on 5 refl .1) none-leaving)
 
 leaves-admitted : (t : ℕ) (buffer : List ℕ) (m : Machine) (w : Turn) → Leaves m buffer w → Leaves m buffer (admitted t buffer m w)
 unfolding admitted
 leaves-admitted t buffer m w l =
-    leaves-passing (admission (length (m .files)) (length (m .logs)) (length (m .marks)) (m .store) t) buffer m w
-    (omega (arith, admission-le (length (m .files)) (length (m .logs)) (length (m .marks)) (m .store) t)) l
+    leaves-passing (admission (sizes m) (m .store) (m .journal) t) buffer m w
+    (admission-leaving (sizes m) (m .store) (m .journal) t) l
 
 leaves-call : (c : Call) (m : Machine) → Leaves m (bufferOfCall c) (call c m)
 unfolding call bufferOfCall beginTurn abortTurn answer stepTurn commitTurn
 leaves-call (begin t) m =
-    leaves-passing (admissionOfBegin (length (m .files)) (length (m .logs)) (length (m .marks)) (m .store) t) [] m _
-    (omega (arith, begin-le (length (m .files)) (length (m .logs)) (length (m .marks)) (m .store) t)) (leaves-answer m [] _ tt)
+    leaves-passing (admissionOfBegin (sizes m) (m .store) (m .journal) t) [] m _
+    (begin-leaving (sizes m) (m .store) (m .journal) t) (leaves-answer m [] _ tt)
 leaves-call (on t o) m =
     leaves-admitted t (bufferOf o) m _
-    (leaves-served t o m _ _ (always-result _ _ (always-step (fileOf (m .store)) o (txnOf (m .store) (m .logs) t))))
+    (leaves-served t o m _ _ (always-result _ _ (always-step (fileOf (m .store)) o (txnOf (m .store) (m .journal) (m .logs) t))))
 leaves-call (commit t) m = leaves-admitted t [] m _ (leaves-decided t _ m _ _)
 leaves-call (abort t) m = leaves-admitted t [] m _ (leaves-answer m [] _ tt)
 
 -- A refusal 13 is a Commit's, which then leaves what an Abort leaves.
-not-13 : (k : ℕ) (buffer : List ℕ) (m : Machine) (w : Turn) → k ≤ 5 → (w .reply .answer ≡ refused 13 → ⊥) → passing k buffer m w .reply .answer ≡ refused 13 → ⊥
+not-13 : (k : ℕ) (buffer : List ℕ) (m : Machine) (w : Turn) → Leaving k → (w .reply .answer ≡ refused 13 → ⊥) → passing k buffer m w .reply .answer ≡ refused 13 → ⊥
 unfolding passing turnDown
 not-13 zero buffer m w h f e = f e
-not-13 (suc k) buffer m w h f e = let z : suc k ≡ 13 = refused-same (suc k) 13 e in omega arith
+not-13 (suc k) buffer m w h f e = h .1 (refused-same (suc k) 13 e)
 
 served-not-13 : (t : ℕ) (o : Op) (m : Machine) (is : List Item) (s : Stepped) → Right s → served t o m is s .reply .answer ≡ refused 13 → ⊥
 unfolding served turnDown
-served-not-13 t o m is (refuse k) h e = let z : k ≡ 13 = refused-same k 13 e in omega (arith, h .1)
+served-not-13 t o m is (refuse k) h e = h .1 .1 (refused-same k 13 e)
 served-not-13 t o m is (accept y a b) h e = answer-not-refused a 13 h e
 
 decided-ends : (t : ℕ) (ss : List Setting) (m : Machine) (stale placed : Bool) → commitDecided t ss m (commitRefusal stale placed) .reply .answer ≡ refused 13 → commitDecided t ss m (commitRefusal stale placed) .after ≡ reset t ended m
@@ -112,21 +115,21 @@ decided-ends t ss m true placed e = refl
 decided-ends t ss m false true e = absurd (answer-not-refused _ 13 tt e)
 decided-ends t ss m false false e = let z : _≡_ {A = ℕ} 12 13 = refused-same 12 13 e in absurd (omega arith)
 
-passing-ends : (k : ℕ) (m : Machine) (w z : Turn) → k ≤ 5 → (w .reply .answer ≡ refused 13 → w .after ≡ z .after) → passing k [] m w .reply .answer ≡ refused 13 → passing k [] m w .after ≡ passing k [] m z .after
+passing-ends : (k : ℕ) (m : Machine) (w z : Turn) → (w .reply .answer ≡ refused 13 → w .after ≡ z .after) → passing k [] m w .reply .answer ≡ refused 13 → passing k [] m w .after ≡ passing k [] m z .after
 unfolding passing turnDown
-passing-ends zero m w z h f e = f e
-passing-ends (suc k) m w z h f e = refl
+passing-ends zero m w z f e = f e
+passing-ends (suc k) m w z f e = refl
 
 ends-call : (c : Call) (m : Machine) → call c m .reply .answer ≡ refused 13 → (t : ℕ) × (c ≡ commit t) × (call c m .after ≡ call (abort t) m .after)
 unfolding call beginTurn abortTurn answer stepTurn commitTurn admitted
 ends-call (begin t) m e =
-    absurd (not-13 (admissionOfBegin (length (m .files)) (length (m .logs)) (length (m .marks)) (m .store) t) [] m _ (begin-le (length (m .files)) (length (m .logs)) (length (m .marks)) (m .store) t) (answer-not-refused _ 13 tt) e)
+    absurd (not-13 (admissionOfBegin (sizes m) (m .store) (m .journal) t) [] m _ (begin-leaving (sizes m) (m .store) (m .journal) t) (answer-not-refused _ 13 tt) e)
 ends-call (on t o) m e =
-    absurd (not-13 (admission (length (m .files)) (length (m .logs)) (length (m .marks)) (m .store) t) (bufferOf o) m _ (admission-le (length (m .files)) (length (m .logs)) (length (m .marks)) (m .store) t) (served-not-13 t o m _ _ (always-result _ _ (always-step (fileOf (m .store)) o (txnOf (m .store) (m .logs) t)))) e)
+    absurd (not-13 (admission (sizes m) (m .store) (m .journal) t) (bufferOf o) m _ (admission-leaving (sizes m) (m .store) (m .journal) t) (served-not-13 t o m _ _ (always-result _ _ (always-step (fileOf (m .store)) o (txnOf (m .store) (m .journal) (m .logs) t)))) e)
 ends-call (commit t) m e =
-    (t, refl, passing-ends (admission (length (m .files)) (length (m .logs)) (length (m .marks)) (m .store) t) m _ _ (admission-le (length (m .files)) (length (m .logs)) (length (m .marks)) (m .store) t) (decided-ends t _ m _ _) e)
+    (t, refl, passing-ends (admission (sizes m) (m .store) (m .journal) t) m _ _ (decided-ends t _ m _ _) e)
 ends-call (abort t) m e =
-    absurd (not-13 (admission (length (m .files)) (length (m .logs)) (length (m .marks)) (m .store) t) [] m _ (admission-le (length (m .files)) (length (m .logs)) (length (m .marks)) (m .store) t) (answer-not-refused _ 13 tt) e)
+    absurd (not-13 (admission (sizes m) (m .store) (m .journal) t) [] m _ (admission-leaving (sizes m) (m .store) (m .journal) t) (answer-not-refused _ 13 tt) e)
 
 fresh-leaves : (k : ℕ) (m : Machine) (w : Turn) (n : ℕ) → IsAnswer (w .reply .answer) → passing k [] m w .reply .answer ≡ refused n → passing k [] m w .after ≡ m
 unfolding passing turnDown

@@ -8,7 +8,7 @@ use Rattle.rules.specs.Plain.{Call, Reply, Committed, freshPlain, plainA
 use Rattle.rules.specs.Machine.{Machine, values}
 use Rattle.rules.specs.Calls.{callsAfter, callsReplies}
 use Rattle.rules.specs.Demand3.{FreshlyMade}
-use Rattle.rules.specs.Setup.{numbers, fresh, Seen, onPlain, onStore}
+use Rattle.rules.specs.Setup.{numbers, freshNumbered, Seen, onPlain, onStore}
 use Rattle.rules.specs.Situations.{Starred}
 use Rattle.rules.specs.Corners.{Corners}
 use Rattle.rules.proofs.Serial.Theorem.{serial-left}
@@ -23,7 +23,7 @@ module _ (m : Machine) (made : FreshlyMade numbers m) where
   same-values cs = demand3 numbers m made cs .left ∙ ap (λ (c : Committed). c .value) (serial-left (λ d. getD numbers d 0) cs)
 
   same-seen : onStore m ≡ onPlain
-  unfolding onStore onPlain fresh
+  unfolding onStore onPlain freshNumbered
   same-seen = λ i. record { replies = λ cs. demand3 numbers m made cs .replies i; value = λ cs. same-values cs i }
 
   -- "The starred ones hold together as a theorem about the rules."

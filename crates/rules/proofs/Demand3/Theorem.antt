@@ -8,18 +8,17 @@ use lib.Dec.{leb, eqb}
 use lib.ListN.{length, getD}
 use native.Mathlib.Omega.{arith}
 use Prim.Native.Nat.{ℕ, zero, suc, _≤_, _<_}
-use Rattle.record.specs.declared.Answer.{Answer}
-use Rattle.record.specs.Journal.{transaction}
+use Rattle.record.specs.State.{transaction}
 use Rattle.record.specs.Paper.{Said, plain, pointer, given, granted, refused, said}
 use Rattle.ranges.specs.Ranges.{admission, admissionOfFresh}
 use Rattle.ranges.proofs.Laws.{AdmittedFresh, admitted-fresh}
 use Rattle.rules.specs.Commits.{fits, commitRefusal}
 use Rattle.rules.specs.Plain.{Call, begin, on, commit, abort, Reply, Slot, closed, running, Running, Plain, freshPlain, isStale, PlainTurn, turnedDown, answering, grant, becameStale, plainCommitted, plainCommit, numbered, plainCall, plainAfter, plainReplies, firstList, secondList, grantsOf}
 use Rattle.rules.specs.Serial.{serially, AllSame}
-use Rattle.rules.specs.Machine.{Machine, values}
+use Rattle.rules.specs.Machine.{Machine, sizes, values}
 use Rattle.rules.specs.Calls.{Turn, answer, turnDown, passing, freshMachine, fresh, call, callsAfter, callsReplies}
-use Rattle.rules.specs.Promises.{lent, Meets}
-use Rattle.rules.specs.Demand3.{FreshlyMade, isRunning, Holds, Demand3, Made, kept, Linked, lastOf, replyOf, CodeHolds, Demand3OfCode}
+use Rattle.rules.specs.Promises.{Meets}
+use Rattle.rules.specs.Demand3.{FreshlyMade, isRunning, Holds, Demand3, Made, Linked, lastOf, replyOf, CodeHolds, Demand3OfCode}
 use Rattle.rules.proofs.Serial.Sighted.{Held, Seat, vacant, held, Sighted, freshSighted, SightedTurn, sightedCall, sightedAfter, sightedReplies}
 use Rattle.rules.proofs.Serial.FirstHalf.{abs, absTurn, seatOf}
 use Rattle.rules.proofs.Serial.Theorem.{Tells, replies-same, state-same, turn-same, store-commit, serial-same, serial-left}
@@ -70,9 +69,9 @@ fresh-facts : (numbers : List ℕ) (m : Machine) → FreshlyMade numbers m → F
 unfolding fresh answer passing
 fresh-facts numbers m f =
     let b = f .before in
-    let k = admissionOfFresh (length (b .files)) (length (b .logs)) (length (b .marks)) numbers in
+    let k = admissionOfFresh (sizes b) numbers in
     let z : k ≡ 0 = fresh-passed k b (answer plain (freshMachine numbers (b .logs))) (f .accepted) in
-    let a = admitted-fresh (length (b .files)) (length (b .logs)) (length (b .marks)) numbers z in
+    let a = admitted-fresh (sizes b) numbers z in
     let e : m ≡ freshMachine numbers (b .logs) = f .left ∙ ap (λ (n : ℕ). passing n [] b (answer plain (freshMachine numbers (b .logs))) .after) z in
     record {
       sound = subst⁻¹ (λ (x : Machine). Sound x) e (fresh-sound numbers (b .logs) (a .sixteen) (a .numbers) (a .lengths .logs));
@@ -159,23 +158,20 @@ demand3 numbers m₀ made cs =
     }
 
 -- Calls of the code that keep their promises are calls of the rules.
-machine-same : (w : Turn) (r : Answer) (files logs marks reader : List ℕ) → Meets w r files logs marks reader → lent (r .store) files logs marks ≡ w .after
-machine-same w r files logs marks reader k = λ i. record { store = k .store i; files = k .files i; logs = k .logs i; marks = k .marks i }
-
 pub record LinkedFacts (m : Machine) (xs : List Made) : Type 0 where
   pub replies : map replyOf xs ≡ callsReplies (map (λ x. x .made) xs) m
   pub last : lastOf m xs ≡ callsAfter (map (λ x. x .made) xs) m
 
-reply-same : (w : Turn) (x : Made) → Meets w (x .answer) (x .files) (x .logs) (x .marks) (x .reader) → replyOf x ≡ w .reply
+reply-same : (w : Turn) (x : Made) → Meets w (x .outcome) (x .kept) (x .reader) → replyOf x ≡ w .reply
 unfolding replyOf
 reply-same w x k = λ i. record { answer = k .outcome i; buffer = k .reader i }
 
 linked-facts : (xs : List Made) (m : Machine) → Linked m xs → LinkedFacts m xs
-unfolding Linked lastOf callsReplies callsAfter kept
+unfolding Linked lastOf callsReplies callsAfter
 linked-facts [] m l = record { replies = refl; last = refl }
 linked-facts (x ∷ xs) m l =
-    let r = linked-facts xs (kept x) (l .1) in
-    let e : kept x ≡ call (x .made) m .after = machine-same (call (x .made) m) (x .answer) (x .files) (x .logs) (x .marks) (x .reader) (l .0) in
+    let r = linked-facts xs (x .kept) (l .1) in
+    let e : x .kept ≡ call (x .made) m .after = l .0 .machine in
     let cs = map (λ (y : Made). y .made) xs in
     record {
       replies =
@@ -184,13 +180,12 @@ linked-facts (x ∷ xs) m l =
     }
 
 pub demand3-of-code : Demand3OfCode
-demand3-of-code numbers before r files logs marks k accepted xs linked =
-    let m₀ = lent (r .store) files logs marks in
+demand3-of-code numbers before o m₀ k accepted xs linked =
     let made : FreshlyMade numbers m₀ =
     record {
       before = before;
       accepted = sym (k .outcome) ∙ accepted;
-      left = machine-same (fresh numbers before) r files logs marks [] k;
+      left = k .machine;
     } in
     let cs = map (λ (x : Made). x .made) xs in
     let l = linked-facts xs m₀ linked in

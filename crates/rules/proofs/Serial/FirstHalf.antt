@@ -68,7 +68,7 @@ module _ (t : ℕ) (r : Running) (p : Plain) where
       (q : Running)
       → Sound (p .fileOf) (p .committed) (p .grants) q
       → (isStale p q || hit (settings (p .fileOf) (p .committed .value) (r .txn)) (heldOf p q)) ≡ isStale (grant t r p) q
-  unfolding grant committing
+  unfolding grant committing withSlot
   stale-after q s =
       let ss = settings (p .fileOf) (p .committed .value) (r .txn) in
       ap₂ (λ (a b : Bool). a || b) (stale-is p q s) (hit-is (heldOf p q) (items (q .seen)) (sighted-is p q s) ss)
@@ -203,7 +203,7 @@ module _ (p : Plain) (g : Good p) where
       (t : ℕ) (r : Running)
       → granting t (settings (p .fileOf) (p .committed .value) (r .txn)) (abs p)
       ≡ absTurn (answering (granted (becameStale p (grant t r p) 8)) (grant t r p))
-  unfolding granting absTurn answering abs grant committing seatOf SoundSlot
+  unfolding granting absTurn answering abs grant committing seatOf SoundSlot withSlot
   same-grant t r =
       let ss = settings (p .fileOf) (p .committed .value) (r .txn) in
       let others : ℕ → Slot = put t closed (p .slots) in

@@ -76,7 +76,7 @@ module _ (p : Plain) (g : Good p) where
   sound-slot-granted r (running q) h = sound-granted (p .fileOf) (p .committed) (p .grants) q h (r .txn)
 
   pub good-grant : (t : ℕ) (r : Running) → leb t 7 ≡ true → Good (grant t r p)
-  unfolding grant committing SoundSlot
+  unfolding grant committing SoundSlot withSlot
   good-grant t r l =
       let ss = settings (p .fileOf) (p .committed .value) (r .txn) in
       let after : Committed = committing (p .fileOf) (p .grants + 1) (r .txn) (p .committed) in

@@ -6,12 +6,12 @@ use borrow.Author.Tests.{eqb-true}
 use lib.Dec.{eqb, leb}
 use lib.ListN.{length}
 use Prim.Native.Nat.{ℕ, zero, suc, _+_, _-_, _*_, min}
-use Rattle.record.specs.declared.Standing.{Standing}
-use Rattle.record.specs.declared.Standing.the-variants.{Untouched, Placed, Deferred, Moved, Known}
+use Rattle.standings.specs.declared.Standing.{Standing}
+use Rattle.standings.specs.declared.Standing.the-variants.{Untouched, Placed, Deferred, Moved, Known}
 use Rattle.record.specs.Paper.{Said}
 use Rattle.rules.specs.Items.{offset, same, Values, Prog, done, andThen, result, asked}
-use Rattle.rules.specs.Standings.{isKnown, settled, advance, afterSeek, afterWrite, afterRead, pointerSettles, readSettles, offsetOf}
-use Rattle.rules.specs.Transactions.{Txn, Write, put, restand, settle, those, Settled, past, all, settling}
+use Rattle.standings.specs.Table.{isKnown, settled, advance, afterSeek, afterWrite, afterRead, pointerSettles, readSettles, offsetOf}
+use Rattle.rules.specs.Transactions.{Txn, Write, put, withStanding, settle, those, Settled, past, all, settling}
 use Rattle.rules.specs.Reading.{Source, own, file, bring, latest, fetch}
 use Rattle.rules.specs.Steps.{Op, seek, write, getFilePointer, read, Stepped, accept, check, orGivenBack, written, seekStep, writeStep, pointerStep, settledByRead, readSettled, readStep, step}
 use Rattle.rules.proofs.Serial.Sighted.{among}
@@ -43,7 +43,7 @@ each-those x p h zero = tt
 each-those x p h (suc n) = each-append x (those p n) (cond (p n) (n ∷ []) []) (each-those x p h n) (each-one x n (p n) (h n))
 
 pointer-settleable : (z : Standing) → pointerSettles z ≡ true → Settleable z
-unfolding Settleable pointerSettles settled isKnown
+unfolding Settleable settled
 pointer-settleable Untouched h c = refl
 pointer-settleable (Placed o) h c = h
 pointer-settleable (Deferred a) h c = refl
@@ -51,7 +51,7 @@ pointer-settleable (Moved a o) h c = refl
 pointer-settleable (Known o) h c = refl
 
 read-settleable : (f i : Bool) (z : Standing) → readSettles f i z ≡ true → Settleable z
-unfolding Settleable readSettles settled isKnown
+unfolding Settleable settled
 read-settleable f i Untouched h c = refl
 read-settleable f i (Placed o) h c = h
 read-settleable f i (Deferred a) h c = refl
@@ -60,7 +60,7 @@ read-settleable f i (Known o) h c = refl
 
 -- What is Known stays so when settled.
 settled-settleable : (k : ℕ) (z : Standing) → Settleable z → Settleable (settled k z)
-unfolding Settleable settled isKnown
+unfolding Settleable settled
 settled-settleable k Untouched h c = refl
 settled-settleable k (Placed o) h c = h c
 settled-settleable k (Deferred a) h c = refl
@@ -69,7 +69,7 @@ settled-settleable k (Known o) h c = refl
 
 -- The three columns that leave a standing Known or not.
 seek-known : (v : ℕ) (z : Standing) → isKnown (afterSeek v z) ≡ isKnown z
-unfolding isKnown afterSeek
+unfolding afterSeek
 seek-known v Untouched = refl
 seek-known v (Placed o) = refl
 seek-known v (Deferred a) = refl
@@ -77,7 +77,7 @@ seek-known v (Moved a o) = refl
 seek-known v (Known o) = refl
 
 write-known : (n : ℕ) (z : Standing) → isKnown (afterWrite n z) ≡ isKnown z
-unfolding isKnown afterWrite
+unfolding afterWrite
 write-known n Untouched = refl
 write-known n (Placed o) = refl
 write-known n (Deferred a) = refl
@@ -85,7 +85,7 @@ write-known n (Moved a o) = refl
 write-known n (Known o) = refl
 
 read-known : (n : ℕ) (z : Standing) → isKnown (afterRead n z) ≡ isKnown z
-unfolding isKnown afterRead
+unfolding afterRead
 read-known n Untouched = refl
 read-known n (Placed o) = refl
 read-known n (Deferred a) = refl
@@ -217,14 +217,14 @@ module _ (v : Values) where
           ∙ or-assoc (isKnown (x .standing d)) (among (offset d) (asked v (settling ds x))) (among (offset d) (asked v (next z)))
 
   keeps-read : (fileOf : ℕ → ℕ) (d n : ℕ) (buffer : List ℕ) (y : Txn) → Keeps y (readSettled fileOf d n buffer y)
-  unfolding readSettled restand
+  unfolding readSettled withStanding
   keeps-read fileOf d n buffer y =
       keeps-after y (fetch fileOf (y .writes) (fileOf d) (offsetOf (y .standing d)) (min n (4096 - offsetOf (y .standing d)))) _
       (λ e. fetch-among v e fileOf (y .writes) (fileOf d) (offsetOf (y .standing d)) (min n (4096 - offsetOf (y .standing d))))
       (λ bytes. keeps-put y d _ (y .writes) _ _ (read-known (min n (4096 - offsetOf (y .standing d))) (y .standing d)))
 
   keeps-step : (fileOf : ℕ → ℕ) (o : Op) (x : Txn) → Keeps x (step fileOf o x)
-  unfolding step seekStep writeStep pointerStep readStep restand written settledByRead
+  unfolding step seekStep writeStep pointerStep readStep withStanding written settledByRead
   keeps-step fileOf (seek d u) x = keeps-check x _ _ _ (keeps-check x _ _ _ (keeps-put x d _ (x .writes) _ _ (seek-known u (x .standing d))))
   keeps-step fileOf (write d bytes) x =
       keeps-check x _ _ _

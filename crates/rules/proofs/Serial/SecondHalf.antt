@@ -115,7 +115,7 @@ module _ (p : Plain) where
 
 -- No call changes a descriptor's file.
 files-turn : (p : Plain) (τ : PlainTurn) (hs : List (List Accepted)) → Turned p τ hs → τ .after .fileOf ≡ p .fileOf
-unfolding grant
+unfolding grant withSlot
 files-turn p τ hs (kept reply slots) = refl
 files-turn p τ hs (grants t r reply o e f) = refl
 
@@ -170,7 +170,7 @@ module _ (p : Plain) (g : Good p) where
       → Turned p τ hs
       → InOrder (τ .after .fileOf) (τ .after .grants) gs (τ .after .committed) end
       → InOrder (p .fileOf) (p .grants) (hs ++ gs) (p .committed) end
-  unfolding grant
+  unfolding grant withSlot
   in-order-turn τ hs gs end (kept reply slots) i = i
   in-order-turn τ hs gs end (grants t r reply o e f) i = granted-first r gs end (sound-at p g t r o) e f i
 

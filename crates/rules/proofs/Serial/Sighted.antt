@@ -7,7 +7,7 @@ use lib.Dec.{leb, eqb}
 use Prim.Native.Nat.{ℕ, zero, suc, _+_}
 use Rattle.record.specs.Paper.{Said, plain, granted, refused}
 use Rattle.rules.specs.Items.{Item, byte, offset, same, Values, Prog, result, asked}
-use Rattle.rules.specs.Standings.{isKnown}
+use Rattle.standings.specs.Table.{isKnown}
 use Rattle.rules.specs.Transactions.{Txn, empty, put}
 use Rattle.rules.specs.Steps.{Op, bufferOf, Stepped, refuse, accept, step}
 use Rattle.rules.specs.Commits.{Setting, settings, fits, landed, commitRefusal}

@@ -9,7 +9,7 @@ use native.Mathlib.Omega.{arith}
 use Prim.Native.Nat.{ℕ, _+_, _≤_}
 use Rattle.record.specs.Paper.{Said}
 use Rattle.rules.specs.Items.{Item, offset, Values, result, asked}
-use Rattle.rules.specs.Standings.{isKnown}
+use Rattle.standings.specs.Table.{isKnown}
 use Rattle.rules.specs.Transactions.{Txn, empty}
 use Rattle.rules.specs.Steps.{Op, accept, step}
 use Rattle.rules.specs.Commits.{Setting, settings, landed, setBy}
@@ -127,7 +127,7 @@ sightings-recent c n h (i ∷ is) = (record { old = h i; kept = λ e. refl }, si
 
 -- Begin: nothing sighted yet.
 pub sound-begun : (fileOf : ℕ → ℕ) (c : Committed) (n : ℕ) → Sound fileOf c n (record { txn = empty; calls = []; seen = [] })
-unfolding lone ops recorded empty isKnown items among entries
+unfolding lone ops recorded empty items among entries
 sound-begun fileOf c n = record { sightings = []; listed = refl; alone = λ k h. refl; recent = tt; known = λ d. refl }
 
 -- The items that a transaction has sighted after one more call.

@@ -11,32 +11,34 @@ use Prim.Native.Nat.{ℕ, _*_, _≤_, _<_}
 use Rattle.octets.proofs.PartLaws.{le-or-lt}
 use Rattle.record.specs.declared.Transaction.{Transaction}
 use Rattle.record.specs.declared.Store.{Store}
-use Rattle.record.specs.Journal.{transaction}
+use lib.Seq.{getD-set-other}
+use Rattle.record.specs.State.{transaction, noTransaction}
 use Rattle.record.specs.Paper.{Said}
 use Rattle.ranges.proofs.Laws.{and-left, and-right, InRange, in-range}
 use Rattle.rules.specs.Items.{Item, byte, offset, Values, result, asked}
 use Rattle.rules.specs.Transactions.{Txn, put}
 use Rattle.rules.specs.Steps.{Op, accept, step}
-use Rattle.rules.specs.Machine.{Machine, fileOf, values, txnOf, withTransaction, withRecords, withTxn, holding}
+use Rattle.rules.specs.Machine.{Machine, withStore, withJournal, withLogs, withMarking, fileOf, values, txnOf, withTxn, journalled, holding}
+use Rattle.record.specs.State.{withTransaction}
 use Rattle.rules.specs.Calls.{marked, logged}
 use Rattle.rules.proofs.Serial.Sighted.{Held, vacant, held, markAll, withSeat}
 use Rattle.rules.proofs.View.Shape.{heldBy, seat, view, Sound, TxnIn}
 use Rattle.rules.proofs.View.Tables.{same-or-not}
-use Rattle.rules.proofs.View.Marks.{ItemsIn, length-marked, marked-own, marked-other, marked-octets}
+use Rattle.rules.proofs.View.Marks.{ItemsIn, length-marked, marked-own, marked-other}
 use Rattle.rules.proofs.View.Asked.{asked-in}
 use Rattle.rules.proofs.View.Kept.{pieces, piecesAfter, Kept, step-kept}
 use Rattle.rules.proofs.View.Decode.{dataBefore, Carries, total-pieces, decoded-total, decoded-carries, decoded-in}
 use Rattle.rules.proofs.View.Others.{LogsApart, txn-same}
-use Rattle.rules.proofs.View.Encode.{own-transaction, encoded, other-same, encoded-in, encoded-shaped}
+use Rattle.rules.proofs.View.Encode.{own-transaction, encoded, other-same, encoded-in, encoded-shaped, encoded-long}
 use Rattle.rules.proofs.View.Logged.{logged-carries, logged-apart}
 
 -- "files at most 7", of every number.
-file-in : (s : Store) → length (s .files) ≡ 16 → InRange s → (d : ℕ) → fileOf s d ≤ 7
+file-in : (s : Store) (journal : List ℕ) → length (s .filenumbers) ≡ 16 → InRange s journal → (d : ℕ) → fileOf s d ≤ 7
 unfolding fileOf
-file-in s size r d = ⊎-elim beyond (r .files d) (le-or-lt 16 d)
+file-in s journal size r d = ⊎-elim beyond (r .files d) (le-or-lt 16 d)
   where
-    beyond : 16 ≤ d → getD (s .files) d 0 ≤ 7
-    beyond l = rw (List·getD-eq-default (s .files) 0 {n = d} (omega arith)) (omega arith)
+    beyond : 16 ≤ d → getD (s .filenumbers) d 0 ≤ 7
+    beyond l = rw (List·getD-eq-default (s .filenumbers) 0 {n = d} (omega arith)) (omega arith)
 
 -- What is vacant stays so, and what is held is the same.
 seat-same : (b : Bool) (g h : Held) → (b ≡ true → g ≡ h) → cond b (held g) vacant ≡ cond b (held h) vacant
@@ -45,17 +47,15 @@ seat-same false g h e = refl
 
 -- What a step of transaction t asks for.
 unfoldable pub sightings : Machine → ℕ → Op → List Item
-sightings m t o = asked (values (m .store) (m .files)) (step (fileOf (m .store)) o (txnOf (m .store) (m .logs) t))
+sightings m t o = asked (values (m .store) (m .files)) (step (fileOf (m .store)) o (txnOf (m .store) (m .journal) (m .logs) t))
 
 -- The store after a step that is accepted and leaves y, and transaction t then.
 unfoldable pub machineAfter : Machine → ℕ → Op → Txn → Machine
 machineAfter m t o y =
-    record {
-      store = withTxn t y (m .store);
-      files = m .files;
-      logs = logged t o (m .store) (m .logs);
-      marks = marked t (sightings m t o) (m .marks);
-    }
+    withStore (withTxn t y (m .store))
+    (withJournal (journalled t (y .writes) (m .journal))
+    (withLogs (logged t o (m .store) (m .logs))
+    (withMarking (marked t (sightings m t o) (m .marks)) m)))
 
 unfoldable pub heldAfter : Machine → ℕ → Op → Txn → Held
 heldAfter m t o y =
@@ -66,20 +66,20 @@ module _ (m : Machine) (t : ℕ) (o : Op) (sound : Sound m) (small : t < 8) (beg
   v = values (m .store) (m .files)
 
   abbrev x : Txn
-  x = txnOf (m .store) (m .logs) t
+  x = txnOf (m .store) (m .journal) (m .logs) t
 
-  range : InRange (m .store)
-  range = in-range (m .store) (sound .inRange)
+  range : InRange (m .store) (m .journal)
+  range = in-range (m .store) (m .journal) (sound .inRange)
 
   sightings-in : ItemsIn (sightings m t o)
   unfolding sightings
-  sightings-in = asked-in v (fileOf (m .store)) (file-in (m .store) (sound .shaped .files) range) o x
+  sightings-in = asked-in v (fileOf (m .store)) (file-in (m .store) (m .journal) (sound .shaped .files) range) o x
 
   txn-in : TxnIn x
-  txn-in = decoded-in (m .store) (m .logs) t (sound .logs) small (range .transactions t small begun) (sound .shaped .descriptors t small)
+  txn-in = decoded-in (m .store) (m .journal) (m .logs) t (sound .logs) small (range .transactions t small begun) (sound .shaped .descriptors t small)
 
   data-used : dataBefore (pieces (x .writes)) (length (pieces (x .writes))) ≡ transaction (m .store) t .used .bytes
-  data-used = sym (total-pieces (x .writes)) ∙ decoded-total (m .store) (m .logs) t (sound .logs) small (range .transactions t small begun)
+  data-used = sym (total-pieces (x .writes)) ∙ decoded-total (m .store) (m .journal) (m .logs) t (sound .logs) small (range .transactions t small begun)
 
   module _ (y : Txn) (a : Said) (b : List ℕ) (e : result v (step (fileOf (m .store)) o x) ≡ accept y a b) where
     abbrev after : Machine
@@ -98,7 +98,7 @@ module _ (m : Machine) (t : ℕ) (o : Op) (sound : Sound m) (small : t < 8) (beg
     carries =
         rw (kept .same)
         (logged-carries (m .store) t (m .logs) (pieces (x .writes)) small (sound .logs) data-used o data-in
-        (decoded-carries (m .store) (m .logs) t (sound .logs) small (range .transactions t small begun)))
+        (decoded-carries (m .store) (m .journal) (m .logs) t (sound .logs) small (range .transactions t small begun)))
 
     apart : LogsApart t (logged t o (m .store) (m .logs)) (m .logs)
     apart = logged-apart (m .store) t (m .logs) (pieces (x .writes)) small (sound .logs) data-used o data-in
@@ -107,21 +107,21 @@ module _ (m : Machine) (t : ℕ) (o : Op) (sound : Sound m) (small : t < 8) (beg
     unfolding machineAfter
     sound-after =
         record {
-          shaped = encoded-shaped (m .store) t y (sound .shaped) small (kept .ranges);
+          shaped = encoded-shaped (m .store) (m .journal) t y (sound .shaped) (sound .journal) small (kept .ranges);
+          journal = encoded-long (m .store) (m .journal) t y (sound .shaped) (sound .journal) small (kept .ranges);
           files = sound .files;
           logs = apart .size ∙ sound .logs;
           marks = length-marked t (sightings m t o) (m .marks) ∙ sound .marks;
-          octets = marked-octets t (sightings m t o) (m .marks) small (sound .marks) sightings-in (sound .octets);
-          inRange = encoded-in (m .store) t y (sound .shaped) small (kept .ranges) (sound .inRange);
+          inRange = encoded-in (m .store) (m .journal) t y (sound .shaped) (sound .journal) small (kept .ranges) (sound .inRange);
         }
 
     own-held : heldBy after t ≡ new
     unfolding machineAfter heldAfter heldBy holding
     own-held =
-        let h = own-transaction (m .store) t y (sound .shaped) small (kept .ranges) in
+        let h = own-transaction (m .store) (m .journal) t y (sound .shaped) (sound .journal) small (kept .ranges) in
         λ i.
         record {
-          txn = encoded (m .store) t y (sound .shaped) small (kept .ranges) (logged t o (m .store) (m .logs)) carries i;
+          txn = encoded (m .store) (m .journal) t y (sound .shaped) (sound .journal) small (kept .ranges) (logged t o (m .store) (m .logs)) carries i;
           marked = marked-own t (sightings m t o) (m .marks) (sound .marks) sightings-in i;
           stale = h i .stale;
         }
@@ -129,25 +129,25 @@ module _ (m : Machine) (t : ℕ) (o : Op) (sound : Sound m) (small : t < 8) (beg
     own-seat : seat after t ≡ held new
     unfolding seat machineAfter holding
     own-seat =
-        let h = own-transaction (m .store) t y (sound .shaped) small (kept .ranges) in
+        let h = own-transaction (m .store) (m .journal) t y (sound .shaped) (sound .journal) small (kept .ranges) in
         ap (λ (c : Bool). cond c (held (heldBy after t)) vacant)
         (ap₂ (λ (p q : Bool). p && q) (le-leb t 7 (omega arith)) (ap (λ (z : Transaction). z .begun) h ∙ begun))
         ∙ ap held own-held
 
     other-seat : (u : ℕ) → (u ≡ t → ⊥) → seat after u ≡ seat m u
-    unfolding seat machineAfter heldBy
+    unfolding seat machineAfter heldBy withTxn withTransaction
     other-seat u other =
-        let same = other-same (m .store) t y (sound .shaped) small (kept .ranges) u other in
-        ap (λ (z : Transaction). cond (leb u 7 && z .begun) (held (heldBy after u)) vacant) (same .transaction)
+        ap (λ (z : Transaction). cond (leb u 7 && z .begun) (held (heldBy after u)) vacant) (getD-set-other (m .store .transactions) t u (holding y (transaction (m .store) t)) noTransaction other)
         ∙ seat-same (leb u 7 && transaction (m .store) u .begun) (heldBy after u) (heldBy m u)
         (λ q.
         let l = leb-true u 7 (and-left (leb u 7) (transaction (m .store) u .begun) q) in
+        let same = other-same (m .store) (m .journal) t y (sound .shaped) (sound .journal) small (kept .ranges) u (omega arith) other in
         let r = range .transactions u (omega arith) (and-right (leb u 7) (transaction (m .store) u .begun) q) in
         λ i.
         record {
           txn =
-              txn-same (withTxn t y (m .store)) (m .store) u same t (logged t o (m .store) (m .logs)) (m .logs) apart (sound .logs) other (omega arith) r i;
-          marked = λ p. eqb (marked-other t u (sightings m t o) (m .marks) (sound .marks) sightings-in other p i) 1;
+              txn-same (withTxn t y (m .store)) (journalled t (y .writes) (m .journal)) (m .store) (m .journal) u same t (logged t o (m .store) (m .logs)) (m .logs) apart (sound .logs) other (omega arith) r i;
+          marked = λ p. marked-other t u (sightings m t o) (m .marks) (sound .marks) sightings-in other p i;
           stale = same .transaction i .stale;
         })
 
@@ -162,10 +162,10 @@ module _ (m : Machine) (t : ℕ) (o : Op) (sound : Sound m) (small : t < 8) (beg
         elsewhere ne = rw (ne-eqb u t ne) (other-seat u ne)
 
     values-after : (i : Item) → values (after .store) (after .files) i ≡ values (m .store) (m .files) i
-    unfolding values machineAfter withTxn withTransaction withRecords
+    unfolding values machineAfter withTxn withTransaction
     values-after (byte q) = refl
     values-after (offset d) = refl
 
     pub view-after : view after ≡ withSeat t (held new) (view m)
-    unfolding view withSeat machineAfter fileOf withTxn withTransaction withRecords
+    unfolding view withSeat machineAfter fileOf withTxn withTransaction
     view-after = λ i. record { fileOf = fileOf (m .store); value = fun-ext values-after i; seats = fun-ext seats-after i }

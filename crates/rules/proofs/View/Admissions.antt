@@ -3,13 +3,12 @@ use mathlib.Core.Bool.{Bool, true, false, cond, _&&_}
 use mathlib.Core.List.{List}
 use mathlib.Core.Path.{_≡_, refl, sym, subst}
 use lib.Dec.{leb}
-use lib.ListN.{length}
 use Prim.Native.Nat.{ℕ, _<_}
 use native.Mathlib.Omega.{arith}
 use borrow.Author.Tests.{leb-true}
-use Rattle.record.specs.Journal.{transaction}
-use Rattle.ranges.specs.Ranges.{unless, lengthsIn, shared, admission}
-use Rattle.rules.specs.Machine.{Machine}
+use Rattle.record.specs.State.{transaction}
+use Rattle.ranges.specs.Ranges.{unless, sizesIn, shared, admission}
+use Rattle.rules.specs.Machine.{Machine, sizes}
 use Rattle.rules.specs.Calls.{Turn, turnDown, passing, admitted}
 use Rattle.rules.proofs.Serial.Sighted.{Seat, vacant, held, Sighted, SightedTurn, turnedAway, seated}
 use Rattle.rules.proofs.View.Shape.{heldBy, seat, view, Sound}
@@ -21,8 +20,8 @@ Agrees a b = (a .reply ≡ b .reply) × (view (a .after) ≡ b .after) × Sound 
 
 module _ (m : Machine) (t : ℕ) (sound : Sound m) where
   pub shared-is : (later : ℕ)
-      → shared (length (m .files)) (length (m .logs)) (length (m .marks)) (m .store) t later ≡ unless (leb t 7) 3 later
-  unfolding shared lengthsIn unless
+      → shared (sizes m) (m .store) (m .journal) t later ≡ unless (leb t 7) 3 later
+  unfolding shared sizesIn unless
   shared-is later = rw (sound .files, sound .logs, sound .marks, sound .inRange)
 
   module _ (buffer : List ℕ) (next : Turn) (seating : Seat → Sighted → SightedTurn)

@@ -7,7 +7,7 @@ use lib.Dec.{leb, eqb}
 use native.Mathlib.Omega.{arith}
 use Prim.Native.Nat.{ℕ, zero, suc, _+_, _-_, _*_, _≤_, _<_, min}
 use Rattle.rules.specs.Items.{Item, offset, Values, Prog, done, andThen, result, asked}
-use Rattle.rules.specs.Standings.{advance, pointerSettles, readSettles, offsetOf}
+use Rattle.standings.specs.Table.{advance, pointerSettles, readSettles, offsetOf}
 use Rattle.rules.specs.Transactions.{Txn, Write, those, settle, Settled, past, all, settling}
 use Rattle.rules.specs.Reading.{Source, own, file, bring, latest, fetch}
 use Rattle.rules.specs.Steps.{Op, seek, write, getFilePointer, read, Stepped, check, orGivenBack, seekStep, writeStep, pointerStep, settledByRead, readSettled, readStep, step}

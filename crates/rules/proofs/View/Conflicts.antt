@@ -6,7 +6,7 @@ use lib.Dec.{eqb}
 use Prim.Native.Nat.{ℕ, zero, suc, _+_, _≤_, _<_}
 use native.Mathlib.Omega.{arith}
 use borrow.Author.Tests.{le-leb}
-use Rattle.record.specs.Journal.{transaction}
+use Rattle.record.specs.State.{transaction}
 use Rattle.ranges.specs.Below.{sum}
 use Rattle.rules.specs.Items.{Item, byte, offset}
 use Rattle.rules.specs.Transactions.{put}

@@ -10,17 +10,18 @@ use native.Mathlib.Omega.{arith}
 use Prim.Native.Nat.{ℕ, suc, _+_, _*_, _≤_, _<_}
 use Rattle.octets.specs.Parts.{cut}
 use Rattle.octets.proofs.PartLaws.{length-cut, le-or-lt}
-use Rattle.record.specs.declared.Standing.the-variants.{Untouched}
+use Rattle.standings.specs.declared.Standing.the-variants.{Untouched}
 use Rattle.record.specs.declared.Descriptor.{Descriptor}
 use Rattle.record.specs.declared.Store.{Store}
-use Rattle.record.specs.Journal.{holderDescriptor, holderPlace, transaction, standingAt, noDescriptor}
+use Rattle.record.specs.State.{transaction, standingAt, noDescriptor}
+use Rattle.record.specs.Journal.{writeRecordAt}
 use Rattle.ranges.specs.Below.{sum}
-use Rattle.ranges.specs.Ranges.{standingIn, placeIn, recordIn}
+use Rattle.ranges.specs.Ranges.{standingIn, placeIn, recordIn, lengthsBefore}
 use Rattle.ranges.proofs.Laws.{and-left, and-right, sum-same, TransactionInRange}
 use Rattle.rules.specs.Transactions.{Write}
 use Rattle.rules.specs.Steps.{total}
-use Rattle.rules.specs.Machine.{dataStart, writeAt, txnOf}
-use Rattle.rules.proofs.View.Shape.{noWrite, WriteIn, TxnIn}
+use Rattle.rules.specs.Machine.{dataStart, writeAt, txnOf, noWrite}
+use Rattle.rules.proofs.View.Shape.{WriteIn, TxnIn}
 use Rattle.rules.proofs.View.Tables.{length-tabulate, getD-tabulate, sum-first, sum-le}
 use Rattle.rules.proofs.View.Kept.{pieces}
 
@@ -38,72 +39,73 @@ total-pieces [] = refl
 total-pieces (w ∷ ws) =
     ap (λ (n : ℕ). length (w .bytes) + n) (total-pieces ws) ∙ sym (sum-first (λ j. length (getD (pieces (w ∷ ws)) j [])) (length (pieces ws)))
 
-module _ (s : Store) (logs : List ℕ) (t : ℕ) (size : length logs ≡ 32768) (small : t < 8) (r : TransactionInRange s t) where
+module _ (s : Store) (journal logs : List ℕ) (t : ℕ) (size : length logs ≡ 32768) (small : t < 8) (r : TransactionInRange (transaction s t) journal t) where
   -- The length of write record k, and how many there are.
   abbrev pub len : ℕ → ℕ
-  len k = getD (s .lengths) (64 * t + k) 0
+  len k = writeRecordAt journal t k .length
 
   abbrev pub count : ℕ
   count = transaction s t .used .records
 
-  pub data-fits : (k : ℕ) → k < count → sum len k + len k ≤ 4096
-  unfolding sum
+  pub data-fits : (k : ℕ) → k < count → lengthsBefore journal t k + len k ≤ 4096
+  unfolding lengthsBefore sum
   data-fits k h = omega (arith, sum-le len (suc k) count h, r .total, r .bytes)
 
-  length-bytes : (k : ℕ) → k < count → length (writeAt s logs t k .bytes) ≡ len k
+  length-bytes : (k : ℕ) → k < count → length (writeAt journal logs t k .bytes) ≡ len k
   unfolding writeAt dataStart
-  length-bytes k h = length-cut logs (4096 * t + sum len k) (len k) (omega (arith, data-fits k h))
+  length-bytes k h = length-cut logs (4096 * t + lengthsBefore journal t k) (len k) (omega (arith, data-fits k h))
 
-  written-at : (k : ℕ) → k < count → getD (txnOf s logs t .writes) k noWrite ≡ writeAt s logs t k
+  written-at : (k : ℕ) → k < count → getD (txnOf s journal logs t .writes) k noWrite ≡ writeAt journal logs t k
   unfolding txnOf
-  written-at k h = getD-tabulate (writeAt s logs t) count k noWrite h
+  written-at k h = getD-tabulate (writeAt journal logs t) count k noWrite h
 
-  piece-at : (k : ℕ) → k < count → getD (pieces (txnOf s logs t .writes)) k [] ≡ writeAt s logs t k .bytes
+  piece-at : (k : ℕ) → k < count → getD (pieces (txnOf s journal logs t .writes)) k [] ≡ writeAt journal logs t k .bytes
   piece-at k h =
-      List·getD-map (λ (w : Write). w .bytes) (txnOf s logs t .writes) k noWrite ∙ ap (λ (w : Write). w .bytes) (written-at k h)
+      List·getD-map (λ (w : Write). w .bytes) (txnOf s journal logs t .writes) k noWrite ∙ ap (λ (w : Write). w .bytes) (written-at k h)
 
-  data-before : (k : ℕ) → k ≤ count → dataBefore (pieces (txnOf s logs t .writes)) k ≡ sum len k
+  data-before : (k : ℕ) → k ≤ count → dataBefore (pieces (txnOf s journal logs t .writes)) k ≡ lengthsBefore journal t k
+  unfolding lengthsBefore
   data-before k h =
-      sum-same (λ j. length (getD (pieces (txnOf s logs t .writes)) j [])) len k
+      sum-same (λ j. length (getD (pieces (txnOf s journal logs t .writes)) j [])) len k
       (λ j g. ap length (piece-at j (omega arith)) ∙ length-bytes j (omega arith))
 
-  length-writes : length (txnOf s logs t .writes) ≡ count
+  length-writes : length (txnOf s journal logs t .writes) ≡ count
   unfolding txnOf
-  length-writes = length-tabulate (writeAt s logs t) count
+  length-writes = length-tabulate (writeAt journal logs t) count
 
-  length-pieces : length (pieces (txnOf s logs t .writes)) ≡ count
-  length-pieces = length-map (txnOf s logs t .writes) (λ w. w .bytes) ∙ length-writes
+  length-pieces : length (pieces (txnOf s journal logs t .writes)) ≡ count
+  length-pieces = length-map (txnOf s journal logs t .writes) (λ w. w .bytes) ∙ length-writes
 
   -- "their lengths adding to the data used"
-  pub decoded-total : total (txnOf s logs t .writes) ≡ transaction s t .used .bytes
+  pub decoded-total : total (txnOf s journal logs t .writes) ≡ transaction s t .used .bytes
   decoded-total =
-      total-pieces (txnOf s logs t .writes)
-      ∙ ap (dataBefore (pieces (txnOf s logs t .writes))) length-pieces
+      total-pieces (txnOf s journal logs t .writes)
+      ∙ ap (dataBefore (pieces (txnOf s journal logs t .writes))) length-pieces
       ∙ data-before count (omega arith)
       ∙ r .total
 
-  pub decoded-carries : Carries logs (4096 * t) (pieces (txnOf s logs t .writes))
+  pub decoded-carries : Carries logs (4096 * t) (pieces (txnOf s journal logs t .writes))
   unfolding writeAt dataStart
   decoded-carries k h =
       let g : k < count = rw length-pieces at h in
       rw (piece-at k g, length-bytes k g, data-before k (omega arith)) refl
 
-  write-in : (k : ℕ) → k < count → WriteIn (txnOf s logs t) (writeAt s logs t k)
+  write-in : (k : ℕ) → k < count → WriteIn (txnOf s journal logs t) (writeAt journal logs t k)
   unfolding writeAt txnOf recordIn
   write-in k h =
-      let i = 64 * t + k in
-      let e = getD (s .holders) i 0 in
-      let low = leb-true (holderDescriptor e) 15 (and-left _ (placeIn (standingAt (transaction s t) (holderDescriptor e)) (holderPlace e (getD (s .places) i 0)) (len k)) (r .journal k h)) in
+      let w = writeRecordAt journal t k in
+      let e = w .descriptor in
+      let low = leb-true e 15 (and-left _ (placeIn (standingAt (transaction s t) e) (w .place) (w .length)) (r .writes k h)) in
       record {
         descriptor = omega arith;
-        place = rw (length-bytes k h) (and-right (leb (holderDescriptor e) 15) _ (r .journal k h));
+        place = rw (length-bytes k h) (and-right (leb e 15) _ (r .writes k h));
       }
 
-  untouched : length (transaction s t .descriptors) ≡ 16 → (d : ℕ) → 16 ≤ d → txnOf s logs t .standing d ≡ Untouched
+  untouched : length (transaction s t .descriptors) ≡ 16 → (d : ℕ) → 16 ≤ d → txnOf s journal logs t .standing d ≡ Untouched
   unfolding txnOf
   untouched sixteen d h = ap (λ (x : Descriptor). x .standing) (List·getD-eq-default (transaction s t .descriptors) noDescriptor (omega arith))
 
-  pub decoded-in : length (transaction s t .descriptors) ≡ 16 → TxnIn (txnOf s logs t)
+  pub decoded-in : length (transaction s t .descriptors) ≡ 16 → TxnIn (txnOf s journal logs t)
   unfolding standingIn
   decoded-in sixteen =
       record {
@@ -114,5 +116,5 @@ module _ (s : Store) (logs : List ℕ) (t : ℕ) (size : length logs ≡ 32768) 
         writes = λ k h. let g : k < count = rw length-writes at h in rw (written-at k g) (write-in k g);
       }
     where
-      known : (d : ℕ) → d < 16 → standingIn (txnOf s logs t .standing d) ≡ true
+      known : (d : ℕ) → d < 16 → standingIn (txnOf s journal logs t .standing d) ≡ true
       known d h = unfold txnOf in r .standings d h

@@ -6,7 +6,7 @@ use lib.Dec.{leb}
 use Prim.Native.Nat.{ℕ, _<_}
 use native.Mathlib.Omega.{arith}
 use borrow.Author.Tests.{leb-true}
-use Rattle.record.specs.Journal.{transaction, ended, begun}
+use Rattle.record.specs.State.{transaction, ended, begun}
 use Rattle.ranges.specs.Ranges.{unless, admissionOfBegin}
 use Rattle.ranges.proofs.Laws.{in-range}
 use Rattle.rules.specs.Commits.{Setting, settings, fits, commitRefusal}
@@ -24,13 +24,13 @@ use Rattle.rules.proofs.View.Grants.{granted-sound, granted-view, grant
 
 -- All that a commit of transaction t sets.
 abbrev settingsOf : Machine → ℕ → List Setting
-settingsOf m t = settings (fileOf (m .store)) (values (m .store) (m .files)) (txnOf (m .store) (m .logs) t)
+settingsOf m t = settings (fileOf (m .store)) (values (m .store) (m .files)) (txnOf (m .store) (m .journal) (m .logs) t)
 
 module _ (m : Machine) (t : ℕ) (sound : Sound m) where
   begins : (b c : Bool) → leb t 7 ≡ b
       → Agrees (passing (unless b 3 (unless (not c) 5 0)) [] m (beginTurn t m))
       (cond b (sightedBegin t (cond (b && c) (held (heldBy m t)) vacant) (view m)) (turnedAway 3 [] (view m)))
-  unfolding unless passing turnDown turnedAway sightedBegin beginTurn answer telling begun
+  unfolding unless passing turnDown turnedAway sightedBegin beginTurn answer telling begun ended
   begins false c e = (refl, refl, sound)
   begins true true e = (refl, refl, sound)
   begins true false e =
@@ -64,12 +64,12 @@ module _ (m : Machine) (t : ℕ) (sound : Sound m) where
   commit-next : t < 8 → transaction (m .store) t .begun ≡ true → Agrees (commitTurn t m) (sightedCommit t (held (heldBy m t)) (view m))
   unfolding commitTurn sightedCommit heldBy view fileOf
   commit-next l b =
-      let r = in-range (m .store) (sound .inRange) in
+      let r = in-range (m .store) (m .journal) (sound .inRange) in
       let v = values (m .store) (m .files) in
-      let x = txnOf (m .store) (m .logs) t in
+      let x = txnOf (m .store) (m .journal) (m .logs) t in
       decides l (transaction (m .store) t .stale) (fits v x)
       (settings-in (fileOf (m .store)) v x (r .files)
-      (decoded-in (m .store) (m .logs) t (sound .logs) l (r .transactions t l b) (sound .shaped .descriptors t l)))
+      (decoded-in (m .store) (m .journal) (m .logs) t (sound .logs) l (r .transactions t l b) (sound .shaped .descriptors t l)))
 
   pub commit-turn : Agrees (call (commit t) m) (sightedCall (commit t) (view m))
   unfolding call sightedCall sightedCommit

@@ -8,7 +8,7 @@ use Prim.Native.Nat.{ℕ, zero, suc, _≤_, _<_}
 use native.Mathlib.Omega.{arith}
 use Rattle.octets.proofs.PartLaws.{le-or-lt}
 use Rattle.record.specs.declared.Transaction.{Transaction}
-use Rattle.record.specs.Journal.{transaction, noTransaction, noDescriptor, ended}
+use Rattle.record.specs.State.{transaction, noTransaction, noDescriptor, ended}
 use Rattle.ranges.proofs.Laws.{InRange, in-range-intro}
 use Rattle.rules.specs.Items.{Item, byte, offset, Values}
 use Rattle.rules.specs.Machine.{fileOf, values}
@@ -59,12 +59,9 @@ module _ (numbers : List ℕ) (logs : List ℕ) where
         offsets = length-zeros 16;
         transactions = length-replicate 8 ended;
         descriptors = λ u l. ap (λ (x : Transaction). length (x .descriptors)) (ended-at u l) ∙ length-replicate 16 noDescriptor;
-        holders = length-zeros 512;
-        places = length-zeros 512;
-        lengths = length-zeros 512;
       }
 
-  fresh-in : ((d : ℕ) → d < 16 → getD numbers d 0 ≤ 7) → InRange (freshStore numbers)
+  fresh-in : ((d : ℕ) → d < 16 → getD numbers d 0 ≤ 7) → InRange (freshStore numbers) (replicate 1536 0)
   unfolding freshStore ended
   fresh-in h =
       record {
@@ -78,9 +75,9 @@ module _ (numbers : List ℕ) (logs : List ℕ) where
   fresh-sound e h g =
       record {
         shaped = fresh-shaped e;
+        journal = length-zeros 1536;
         files = length-zeros 32768;
         logs = g;
         marks = length-zeros 32768;
-        octets = λ q. rw (zeros 32768 q) (omega arith);
-        inRange = in-range-intro (freshStore numbers) (fresh-in h);
+        inRange = in-range-intro (freshStore numbers) (replicate 1536 0) (fresh-in h);
       }

@@ -10,7 +10,7 @@ use native.Mathlib.Omega.{arith}
 use borrow.Author.Tests.{eqb-true, eqb-false, eq-eqb, ne-eqb}
 use Rattle.octets.proofs.PartLaws.{le-or-lt}
 use Rattle.record.specs.declared.Transaction.{Transaction}
-use Rattle.record.specs.Journal.{transaction, noTransaction, ended}
+use Rattle.record.specs.State.{transaction, noTransaction, ended}
 use Rattle.record.specs.Paper.{granted}
 use Rattle.ranges.proofs.Laws.{in-range}
 use Rattle.rules.specs.Transactions.{put}
@@ -21,7 +21,7 @@ use Rattle.rules.proofs.Serial.Sighted.{Seat, vacant, held, touch, gran
 use Rattle.rules.proofs.View.Shape.{heldBy, seat, view, Sound}
 use Rattle.rules.proofs.View.Tables.{length-tabulate, getD-tabulate}
 use Rattle.rules.proofs.View.Renewed.{ended-bare, Alike, Carried, same-values}
-use Rattle.rules.proofs.View.Endings.{ending, withStale, seat-in, seat-out, ending-sound, ending-seat}
+use Rattle.rules.proofs.View.Endings.{ending, staleAs, seat-in, seat-out, ending-sound, ending-seat}
 use Rattle.rules.proofs.View.SettingsIn.{AllIn}
 use Rattle.rules.proofs.View.Landing.{length-files, length-offsets, limit-landed, all-landed}
 use Rattle.rules.proofs.View.Conflicts.{conflicts-hit, count-same}
@@ -54,11 +54,11 @@ module _ (m : Machine) (t : ℕ) (ss : List Setting) where
 
   -- Another transaction, open or not.
   touched : (u : ℕ) (c : Bool)
-      → cond c (held (withStale (heldBy m u) (transaction (m .store) u .stale || (c && conflicts (m .marks) u (transaction (m .store) u) ss)))) vacant
+      → cond c (held (staleAs (heldBy m u) (transaction (m .store) u .stale || (c && conflicts (m .marks) u (transaction (m .store) u) ss)))) vacant
       ≡ touch ss (cond c (held (heldBy m u)) vacant)
   unfolding touch heldBy
   touched u true =
-      ap (λ (b : Bool). held (withStale (heldBy m u) (transaction (m .store) u .stale || b)))
+      ap (λ (b : Bool). held (staleAs (heldBy m u) (transaction (m .store) u .stale || b)))
       (conflicts-hit m u ss)
   touched u false = refl
 
@@ -69,7 +69,7 @@ module _ (m : Machine) (t : ℕ) (ss : List Setting) where
     other-seat u h (inr l) =
         let e = at-commit u l false (ne-eqb u t h) in
         ending-seat t (landOffsets ss (m .store .offsets)) ts (landFiles ss (m .files)) m small u l h (staled-alike u (getD ts u noTransaction) e)
-        ∙ ap (λ (y : Transaction). cond (transaction (m .store) u .begun) (held (withStale (heldBy m u) (y .stale))) vacant) e
+        ∙ ap (λ (y : Transaction). cond (transaction (m .store) u .begun) (held (staleAs (heldBy m u) (y .stale))) vacant) e
         ∙ touched u (transaction (m .store) u .begun)
         ∙ ap (touch ss) (sym (seat-in m u (transaction (m .store) u .begun) (heldBy m u) l refl refl))
 
@@ -82,7 +82,7 @@ module _ (m : Machine) (t : ℕ) (ss : List Setting) where
       pub granted-sound : Sound (commitGranted t ss m .after)
       unfolding commitGranted after ts
       granted-sound =
-          let r = in-range (m .store) (sound .inRange) in
+          let r = in-range (m .store) (m .journal) (sound .inRange) in
           ending-sound t (landOffsets ss (m .store .offsets)) ts (landFiles ss (m .files)) m sound (λ u l. carried u l (eqb u t) refl)
           (length-offsets ss (m .store .offsets) ∙ sound .shaped .offsets)
           (limit-landed ss (m .store .offsets) inside (sound .shaped .offsets) (r .offsets))

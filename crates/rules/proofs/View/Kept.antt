@@ -7,18 +7,19 @@ use lib.Dec.{leb, eqb}
 use lib.ListN.{length, getD, length-append, length-map}
 use native.Mathlib.Omega.{arith}
 use Prim.Native.Nat.{ℕ, _+_, _-_, _≤_, _<_, min}
-use Rattle.record.specs.declared.Standing.{Standing}
-use Rattle.record.specs.declared.Standing.the-variants.{Untouched}
-use Rattle.record.specs.Journal.{placeNumber}
+use Rattle.standings.specs.declared.Standing.{Standing}
+use Rattle.standings.specs.declared.Standing.the-variants.{Untouched}
+use Rattle.standings.specs.Table.{placeNumber}
 use Rattle.record.specs.Paper.{Said}
 use Rattle.ranges.specs.Ranges.{standingIn, placeIn}
 use Rattle.rules.specs.Items.{offset, Values, Prog, done, andThen, result}
-use Rattle.rules.specs.Standings.{advance, settled, afterSeek, afterWrite, afterRead, pointerSettles, readSettles, offsetOf, writePlace}
-use Rattle.rules.specs.Transactions.{Txn, Write, put, restand, placedAt, placeWrite, settle, those, Settled, past, all, settling}
+use Rattle.standings.specs.Table.{advance, settled, afterSeek, afterWrite, afterRead, pointerSettles, readSettles, offsetOf, writePlace}
+use Rattle.rules.specs.Transactions.{Txn, Write, put, withStanding, placedAt, placeWrite, settle, those, Settled, past, all, settling}
 use Rattle.rules.specs.Reading.{fetch}
 use Rattle.rules.specs.Steps.{Op, seek, write, getFilePointer, read, Stepped, accept, check, orGivenBack, total, written, seekStep, writeStep, pointerStep, settledByRead, readSettled, readStep, step}
 use Rattle.rules.proofs.Serial.Programs.{result-andThen}
-use Rattle.rules.proofs.View.Shape.{noWrite, WriteIn, TxnIn}
+use Rattle.rules.proofs.View.Shape.{WriteIn, TxnIn}
+use Rattle.rules.specs.Machine.{noWrite}
 use Rattle.rules.proofs.View.Tables.{every-snoc, getD-map}
 use Rattle.rules.proofs.View.Asked.{DescriptorsIn, one-in, those-in}
 use Rattle.rules.proofs.View.StandingRanges.{EndsKept, seek-in, write-in, read-in, settled-in, seek-ends, write-ends, read-ends, place-kept, place-settled, place-written}
@@ -43,9 +44,9 @@ put-case P d z f here elsewhere e = pick (eqb e d) refl
 
 -- ---- one standing put, one write added
 
-restand-in : (d : ℕ) (z : Standing) (x : Txn) → d < 16 → standingIn z ≡ true → EndsKept (x .standing d) z → TxnIn x → TxnIn (restand d z x)
-unfolding restand
-restand-in d z x small zin ends h =
+withStanding-in : (d : ℕ) (z : Standing) (x : Txn) → d < 16 → standingIn z ≡ true → EndsKept (x .standing d) z → TxnIn x → TxnIn (withStanding d z x)
+unfolding withStanding
+withStanding-in d z x small zin ends h =
     record {
       standings = put-case (λ (e : ℕ) (y : Standing). standingIn y ≡ true) d z (x .standing) zin (λ e ne. h .standings e);
       above =
@@ -82,8 +83,8 @@ append-in w x win few small h =
 
 -- A new write lies in range under the standing that it leaves.
 new-in : (d : ℕ) (bytes : List ℕ) (x : Txn) → d < 16 → placeNumber (writePlace (x .standing d)) + length bytes ≤ 4096
-    → WriteIn (restand d (afterWrite (length bytes) (x .standing d)) x) (record { descriptor = d; place = writePlace (x .standing d); bytes = bytes })
-unfolding restand put
+    → WriteIn (withStanding d (afterWrite (length bytes) (x .standing d)) x) (record { descriptor = d; place = writePlace (x .standing d); bytes = bytes })
+unfolding withStanding put
 new-in d bytes x low small =
     record { descriptor = low; place = rw (eq-eqb d d refl) (place-written (length bytes) (x .standing d) small) }
 
@@ -193,20 +194,20 @@ module _ (v : Values) where
       pick (all y) e = k y (settling-kept v ds x y ps low h e)
 
   ends-seek : (d u : ℕ) (x : Txn) → TxnIn x → Ends (pieces (x .writes)) (seekStep d u x)
-  unfolding seekStep restand
+  unfolding seekStep withStanding
   ends-seek d u x h =
       ends-check _ (leb d 15) 6 _ (λ e. ends-check _ (leb u 4096) 8 _ (λ f.
       let low = leb-true d 15 e in
-      ends-done _ (restand d (afterSeek u (x .standing d)) x) _ _
+      ends-done _ (withStanding d (afterSeek u (x .standing d)) x) _ _
       (record {
         ranges =
-            restand-in d (afterSeek u (x .standing d)) x (omega arith)
+            withStanding-in d (afterSeek u (x .standing d)) x (omega arith)
             (seek-in u (x .standing d) (leb-true u 4096 f) (h .standings d)) (seek-ends u (x .standing d)) h;
         same = refl;
       })))
 
   ends-write : (d : ℕ) (bytes : List ℕ) (x : Txn) → TxnIn x → Ends (pieces (x .writes) ++ (bytes ∷ [])) (writeStep d bytes x)
-  unfolding writeStep written restand
+  unfolding writeStep written withStanding
   ends-write d bytes x h =
       let z = x .standing d in
       let n = length bytes in
@@ -218,22 +219,22 @@ module _ (v : Values) where
       ends-done _ (written d bytes x) _ _
       (record {
         ranges =
-            append-in w (restand d (afterWrite n z) x)
+            append-in w (withStanding d (afterWrite n z) x)
             (new-in d bytes x (omega arith) small)
             (leb-true (length (x .writes) + 1) 64 g) (leb-true (total (x .writes) + n) 4096 i)
-            (restand-in d (afterWrite n z) x (omega arith) (write-in n z small (h .standings d)) (write-ends n z) h);
+            (withStanding-in d (afterWrite n z) x (omega arith) (write-in n z small (h .standings d)) (write-ends n z) h);
         same = map-append (λ w. w .bytes) (x .writes) (w ∷ []);
       })))))
 
   ends-read : (ps : List (List ℕ)) (fileOf : ℕ → ℕ) (d n : ℕ) (buffer : List ℕ) (y : Txn) → d < 16 → Kept ps y → Ends ps (readSettled fileOf d n buffer y)
-  unfolding readSettled restand
+  unfolding readSettled withStanding
   ends-read ps fileOf d n buffer y low h =
       let m = min n (4096 - offsetOf (y .standing d)) in
       ends-andThen ps (fetch fileOf (y .writes) (fileOf d) (offsetOf (y .standing d)) m) _
-      (ends-done ps (restand d (afterRead m (y .standing d)) y) _ _
+      (ends-done ps (withStanding d (afterRead m (y .standing d)) y) _ _
       (record {
         ranges =
-            restand-in d (afterRead m (y .standing d)) y low (read-in m (y .standing d) (omega arith) (h .ranges .standings d))
+            withStanding-in d (afterRead m (y .standing d)) y low (read-in m (y .standing d) (omega arith) (h .ranges .standings d))
             (read-ends m (y .standing d)) (h .ranges);
         same = h .same;
       }))

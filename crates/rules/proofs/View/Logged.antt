@@ -10,7 +10,7 @@ use Prim.Native.Nat.{ℕ, suc, _+_, _*_, _≤_, _<_}
 use Rattle.octets.specs.Parts.{cut, pasted}
 use Rattle.octets.proofs.PartLaws.{length-pasted, pasted-before, pasted-after, cut-pasted, cut-pasted-before}
 use Rattle.record.specs.declared.Store.{Store}
-use Rattle.record.specs.Journal.{transaction}
+use Rattle.record.specs.State.{transaction}
 use Rattle.ranges.specs.Below.{sum}
 use Rattle.ranges.proofs.Laws.{sum-same}
 use Rattle.rules.specs.Steps.{Op, seek, write, getFilePointer, read}

@@ -10,20 +10,20 @@ use Rattle.octets.specs.Parts.{cut}
 use Rattle.octets.proofs.PartLaws.{cut-same, le-or-lt}
 use Rattle.record.specs.declared.Store.{Store}
 use Rattle.record.specs.declared.Transaction.{Transaction}
-use Rattle.record.specs.Journal.{holderDescriptor, holderPlace, transaction, standingAt, noTransaction}
+use Rattle.record.specs.declared.journal.WriteRecord.{WriteRecord}
+use Rattle.record.specs.State.{transaction, standingAt, noTransaction}
+use Rattle.record.specs.Journal.{writeRecordAt}
 use Rattle.ranges.specs.Below.{sum}
-use Rattle.ranges.specs.Ranges.{recordIn}
+use Rattle.ranges.specs.Ranges.{recordIn, lengthsBefore}
 use Rattle.ranges.proofs.Laws.{sum-same, TransactionInRange}
 use Rattle.rules.specs.Machine.{tabulate, dataStart, writeAt, txnOf}
 use Rattle.rules.proofs.View.Tables.{tabulate-same}
 use Rattle.rules.proofs.View.Decode.{data-fits}
 
 -- Two records with the same transaction u and the same write records of it.
-pub record SameAt (r s : Store) (u : ℕ) : Type 0 where
+pub record SameAt (r : Store) (written : List ℕ) (s : Store) (journal : List ℕ) (u : ℕ) : Type 0 where
   pub transaction : getD (r .transactions) u noTransaction ≡ getD (s .transactions) u noTransaction
-  pub holders : (k : ℕ) → k < 64 → getD (r .holders) (64 * u + k) 0 ≡ getD (s .holders) (64 * u + k) 0
-  pub places : (k : ℕ) → k < 64 → getD (r .places) (64 * u + k) 0 ≡ getD (s .places) (64 * u + k) 0
-  pub lengths : (k : ℕ) → k < 64 → getD (r .lengths) (64 * u + k) 0 ≡ getD (s .lengths) (64 * u + k) 0
+  pub records : (k : ℕ) → k < 64 → writeRecordAt written u k ≡ writeRecordAt journal u k
 
 -- Two log buffers that differ only in transaction t's part.
 pub record LogsApart (t : ℕ) (kept logs : List ℕ) : Type 0 where
@@ -44,50 +44,48 @@ module _ (t u : ℕ) (kept logs : List ℕ) (apart : LogsApart t kept logs) (oth
           let ne : t < u = ⊎-elim (λ e. absurd (other (sym e))) (λ m. m) (eq-or-lt-of-le l) in
           apart .beyond i (omega arith)
 
-module _ (r s : Store) (u : ℕ) (same : SameAt r s u) where
-  record-same : (k : ℕ) → k < 64 → recordIn r u k ≡ recordIn s u k
-  unfolding recordIn
-  record-same k h = rw (same .transaction, same .holders k h, same .places k h, same .lengths k h)
-
-  lengths-same : (k : ℕ) → k ≤ 64 → sum (λ j. getD (r .lengths) (64 * u + j) 0) k ≡ sum (λ j. getD (s .lengths) (64 * u + j) 0) k
+module _ (r : Store) (written : List ℕ) (s : Store) (journal : List ℕ) (u : ℕ) (same : SameAt r written s journal u) where
+  lengths-same : (k : ℕ) → k ≤ 64 → lengthsBefore written u k ≡ lengthsBefore journal u k
+  unfolding lengthsBefore
   lengths-same k h =
-      sum-same (λ j. getD (r .lengths) (64 * u + j) 0) (λ j. getD (s .lengths) (64 * u + j) 0) k (λ j g. same .lengths j (omega arith))
+      sum-same (λ j. writeRecordAt written u j .length) (λ j. writeRecordAt journal u j .length) k (λ j g. ap (λ (w : WriteRecord). w .length) (same .records j (omega arith)))
 
-  pub range-same : TransactionInRange s u → TransactionInRange r u
+  pub range-same : TransactionInRange (transaction s u) journal u → TransactionInRange (transaction r u) written u
   range-same h =
-      record {
-        standings = rw (same .transaction) (h .standings);
-        records = rw (same .transaction) (h .records);
-        bytes = rw (same .transaction) (h .bytes);
-        total = rw (same .transaction, lengths-same (transaction s u .used .records) (h .records)) (h .total);
-        journal = rw (same .transaction) (λ k l. record-same k (omega (arith, h .records)) ∙ h .journal k l);
-      }
+      rw (same .transaction)
+      (record {
+        standings = h .standings;
+        records = h .records;
+        bytes = h .bytes;
+        total = lengths-same (transaction s u .used .records) (h .records) ∙ h .total;
+        writes = λ k l. ap (recordIn (transaction s u)) (same .records k (omega (arith, h .records))) ∙ h .writes k l;
+      })
 
-  module _ (t : ℕ) (kept logs : List ℕ) (apart : LogsApart t kept logs) (size : length logs ≡ 32768) (other : u ≡ t → ⊥) (small : u < 8) (h : TransactionInRange s u) where
-    write-same : (k : ℕ) → k < transaction s u .used .records → writeAt r kept u k ≡ writeAt s logs u k
+  module _ (t : ℕ) (kept logs : List ℕ) (apart : LogsApart t kept logs) (size : length logs ≡ 32768) (other : u ≡ t → ⊥) (small : u < 8) (h : TransactionInRange (transaction s u) journal u) where
+    write-same : (k : ℕ) → k < transaction s u .used .records → writeAt written kept u k ≡ writeAt journal logs u k
     unfolding writeAt dataStart
     write-same k l =
         let few : k < 64 = omega (arith, h .records) in
-        let n = getD (s .lengths) (64 * u + k) 0 in
-        let p = 4096 * u + sum (λ j. getD (s .lengths) (64 * u + j) 0) k in
+        let n = writeRecordAt journal u k .length in
+        let p = 4096 * u + lengthsBefore journal u k in
         λ i.
         record {
-          descriptor = holderDescriptor (same .holders k few i);
-          place = holderPlace (same .holders k few i) (same .places k few i);
+          descriptor = same .records k few i .descriptor;
+          place = same .records k few i .place;
           bytes =
-              (ap₂ (λ (a b : ℕ). cut kept (4096 * u + a) b) (lengths-same k (omega arith)) (same .lengths k few)
-              ∙ cut-apart t u kept logs apart other p n (omega arith) (omega (arith, data-fits s logs u size small h k l)))
+              (ap₂ (λ (a b : ℕ). cut kept (4096 * u + a) b) (lengths-same k (omega arith)) (ap (λ (w : WriteRecord). w .length) (same .records k few))
+              ∙ cut-apart t u kept logs apart other p n (omega arith) (omega (arith, data-fits s journal logs u size small h k l)))
               i;
         }
 
-    pub txn-same : txnOf r kept u ≡ txnOf s logs u
+    pub txn-same : txnOf r written kept u ≡ txnOf s journal logs u
     unfolding txnOf
     txn-same =
         λ i.
         record {
           standing = standingAt (same .transaction i);
           writes =
-              (ap (λ (x : Transaction). tabulate (writeAt r kept u) (x .used .records)) (same .transaction)
-              ∙ tabulate-same (writeAt r kept u) (writeAt s logs u) (transaction s u .used .records) write-same)
+              (ap (λ (x : Transaction). tabulate (writeAt written kept u) (x .used .records)) (same .transaction)
+              ∙ tabulate-same (writeAt written kept u) (writeAt journal logs u) (transaction s u .used .records) write-same)
               i;
         }

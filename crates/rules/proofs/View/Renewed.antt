@@ -1,17 +1,22 @@
 -- A record with other committed offsets and other transactions: when its ranges hold, and which transactions mean the same in it.
-use mathlib.Core.Bool.{true}
+use mathlib.Core.Bool.{true, _&&_}
 use mathlib.Core.List.{List}
 use mathlib.Core.Logic.{_⊎_, inl, inr}
 use mathlib.Core.Path.{_≡_, refl, sym, ap, _∙_, fun-ext}
 use lib.ListN.{length, getD, replicate, length-replicate}
 use Prim.Native.Nat.{ℕ, zero, suc, _≤_, _<_}
 use native.Mathlib.Omega.{arith}
-use Rattle.record.specs.declared.Standing.the-variants.{Untouched}
+use lib.Dec.{leb}
+use Rattle.standings.specs.declared.Standing.{Standing}
+use Rattle.record.specs.declared.Descriptor.{Descriptor}
+use Rattle.standings.specs.declared.Standing.the-variants.{Untouched}
 use Rattle.record.specs.declared.Transaction.{Transaction}
 use Rattle.record.specs.declared.Store.{Store}
-use Rattle.record.specs.Journal.{transaction, standingAt, noDescriptor, noTransaction, ended, begun}
+use Rattle.record.specs.declared.journal.WriteRecord.{WriteRecord}
+use Rattle.record.specs.State.{transaction, standingAt, noDescriptor, noTransaction, ended, begun, withOffsets, withTransactions}
+use Rattle.record.specs.Journal.{writeRecordAt}
 use Rattle.ranges.specs.Below.{sum}
-use Rattle.ranges.specs.Ranges.{standingIn, recordIn}
+use Rattle.ranges.specs.Ranges.{standingIn, placeIn, recordIn, lengthsBefore}
 use Rattle.ranges.proofs.Laws.{TransactionInRange, InRange}
 use Rattle.rules.specs.Machine.{txnOf, writeAt, dataStart, values}
 use Rattle.rules.specs.Items.{Item, byte, offset}
@@ -19,8 +24,7 @@ use Rattle.rules.proofs.View.Shape.{Shaped}
 
 -- The record with other committed offsets and transactions.
 abbrev pub renewed : List ℕ → List Transaction → Store → Store
-renewed offsets ts s =
-    record { files = s .files; offsets = offsets; transactions = ts; holders = s .holders; places = s .places; lengths = s .lengths }
+renewed offsets ts s = withOffsets offsets (withTransactions ts s)
 
 -- A transaction that differs at most in being stale.
 pub record Alike (x y : Transaction) : Type 0 where
@@ -39,7 +43,7 @@ unfolding ended
 ended-bare = record { records = refl; bytes = refl; descriptors = refl }
 
 pub begun-bare : Bare begun
-unfolding begun
+unfolding begun ended
 begun-bare = record { records = refl; bytes = refl; descriptors = refl }
 
 untouched : (n d : ℕ) → getD (replicate n noDescriptor) d noDescriptor .standing ≡ Untouched
@@ -50,32 +54,39 @@ untouched (suc n) (suc d) = untouched n d
 pub bare-standing : (y : Transaction) → Bare y → (d : ℕ) → standingAt y d ≡ Untouched
 bare-standing y b d = rw (b .descriptors) (untouched 16 d)
 
-module _ (offsets : List ℕ) (ts : List Transaction) (s : Store) (u : ℕ) where
-  -- What the ranges say of a transaction that is alike, and of a bare one.
-  alike-in : Alike (transaction s u) (getD ts u noTransaction) → TransactionInRange s u → TransactionInRange (renewed offsets ts s) u
+-- A transaction that is alike is in range too.
+module _ (x y : Transaction) (a : Alike x y) where
+  alike-standing : (d : ℕ) → standingAt y d ≡ standingAt x d
+  alike-standing d = ap (λ (ds : List Descriptor). getD ds d noDescriptor .standing) (a .descriptors)
+
+  alike-record : (w : WriteRecord) → recordIn y w ≡ recordIn x w
   unfolding recordIn
-  alike-in a r =
+  alike-record w = ap (λ (z : Standing). leb (w .descriptor) 15 && placeIn z (w .place) (w .length)) (alike-standing (w .descriptor))
+
+  alike-range : (journal : List ℕ) (u : ℕ) → TransactionInRange x journal u → TransactionInRange y journal u
+  alike-range journal u r =
       record {
-        standings = λ d l. rw (a .descriptors) (r .standings d l);
+        standings = λ d l. ap standingIn (alike-standing d) ∙ r .standings d l;
         records = rw (a .used) (r .records);
         bytes = rw (a .used) (r .bytes);
         total = rw (a .used) (r .total);
-        journal = λ k l. rw (a .descriptors) (r .journal k (rw (a .used) at l));
+        writes = λ k l. alike-record (writeRecordAt journal u k) ∙ r .writes k (rw (a .used) at l);
       }
 
-  bare-in : Bare (getD ts u noTransaction) → TransactionInRange (renewed offsets ts s) u
-  unfolding standingIn sum
+module _ (offsets : List ℕ) (ts : List Transaction) (s : Store) (journal : List ℕ) (u : ℕ) where
+  bare-in : Bare (getD ts u noTransaction) → TransactionInRange (getD ts u noTransaction) journal u
+  unfolding standingIn lengthsBefore sum
   bare-in b =
       record {
         standings = λ d l. rw (bare-standing (getD ts u noTransaction) b d);
         records = omega (arith, b .records);
         bytes = omega (arith, b .bytes);
         total = rw (b .records, b .bytes);
-        journal = λ k l. absurd (omega (arith, b .records));
+        writes = λ k l. absurd (omega (arith, b .records));
       }
 
   -- It stands for the same writes and standings.
-  pub alike-txn : (logs : List ℕ) → Alike (transaction s u) (getD ts u noTransaction) → txnOf (renewed offsets ts s) logs u ≡ txnOf s logs u
+  pub alike-txn : (logs : List ℕ) → Alike (transaction s u) (getD ts u noTransaction) → txnOf (renewed offsets ts s) journal logs u ≡ txnOf s journal logs u
   unfolding txnOf writeAt dataStart
   alike-txn logs a = rw (a .descriptors, a .used)
 
@@ -83,25 +94,25 @@ module _ (offsets : List ℕ) (ts : List Transaction) (s : Store) (u : ℕ) wher
 abbrev pub Carried : Transaction → Transaction → Type 0
 Carried x y = Alike x y ⊎ Bare y
 
-carried-in : (offsets : List ℕ) (ts : List Transaction) (s : Store) (u : ℕ)
+carried-in : (offsets : List ℕ) (ts : List Transaction) (s : Store) (journal : List ℕ) (u : ℕ)
     → Carried (transaction s u) (getD ts u noTransaction)
     → getD ts u noTransaction .begun ≡ true
-    → (transaction s u .begun ≡ true → TransactionInRange s u)
-    → TransactionInRange (renewed offsets ts s) u
-carried-in offsets ts s u (inl a) b h = alike-in offsets ts s u a (h (sym (a .begun) ∙ b))
-carried-in offsets ts s u (inr y) b h = bare-in offsets ts s u y
+    → (transaction s u .begun ≡ true → TransactionInRange (transaction s u) journal u)
+    → TransactionInRange (getD ts u noTransaction) journal u
+carried-in offsets ts s journal u (inl a) b h = alike-range (transaction s u) (getD ts u noTransaction) a journal u (h (sym (a .begun) ∙ b))
+carried-in offsets ts s journal u (inr y) b h = bare-in offsets ts s journal u y
 
 carried-length : (x y : Transaction) → Carried x y → length (x .descriptors) ≡ 16 → length (y .descriptors) ≡ 16
 carried-length x y (inl a) e = ap length (a .descriptors) ∙ e
 carried-length x y (inr b) e = ap length (b .descriptors) ∙ length-replicate 16 noDescriptor
 
-module _ (offsets : List ℕ) (ts : List Transaction) (s : Store) (carried : (u : ℕ) → u < 8 → Carried (transaction s u) (getD ts u noTransaction)) where
-  pub renewed-in : ((d : ℕ) → d < 16 → getD offsets d 0 ≤ 4096) → InRange s → InRange (renewed offsets ts s)
+module _ (offsets : List ℕ) (ts : List Transaction) (s : Store) (journal : List ℕ) (carried : (u : ℕ) → u < 8 → Carried (transaction s u) (getD ts u noTransaction)) where
+  pub renewed-in : ((d : ℕ) → d < 16 → getD offsets d 0 ≤ 4096) → InRange s journal → InRange (renewed offsets ts s) journal
   renewed-in h r =
       record {
         files = r .files;
         offsets = h;
-        transactions = λ u l b. carried-in offsets ts s u (carried u l) b (r .transactions u l);
+        transactions = λ u l b. carried-in offsets ts s journal u (carried u l) b (r .transactions u l);
       }
 
   pub renewed-shaped : length offsets ≡ 16 → length ts ≡ 8 → Shaped s → Shaped (renewed offsets ts s)
@@ -111,9 +122,6 @@ module _ (offsets : List ℕ) (ts : List Transaction) (s : Store) (carried : (u 
         offsets = e;
         transactions = f;
         descriptors = λ u l. carried-length (transaction s u) (getD ts u noTransaction) (carried u l) (r .descriptors u l);
-        holders = r .holders;
-        places = r .places;
-        lengths = r .lengths;
       }
 
 -- The committed values of the same offsets.

@@ -10,29 +10,30 @@ use Prim.Native.Nat.{ℕ, _≤_, _<_}
 use native.Mathlib.Omega.{arith}
 use borrow.Author.Tests.{eqb-true, eqb-false}
 use Rattle.octets.proofs.PartLaws.{le-or-lt}
-use Rattle.octets.specs.Bits.{bit}
-use Rattle.record.specs.declared.Standing.{Standing}
-use Rattle.record.specs.declared.Standing.the-variants.{Untouched}
+use Rattle.octets.specs.Marks.{hasMark, withoutMarks}
+use Rattle.standings.specs.declared.Standing.{Standing}
+use Rattle.standings.specs.declared.Standing.the-variants.{Untouched}
 use Rattle.record.specs.declared.Transaction.{Transaction}
-use Rattle.record.specs.Journal.{transaction, standingAt, noTransaction}
+use Rattle.record.specs.State.{transaction, standingAt, noTransaction}
 use Rattle.ranges.proofs.Laws.{in-range}
-use Rattle.rules.specs.Machine.{Machine, fileOf, txnOf, tabulate, withTransaction, writeAt}
+use Rattle.rules.specs.Machine.{Machine, fileOf, txnOf, tabulate, writeAt}
+use Rattle.record.specs.State.{withTransaction}
 use Rattle.rules.specs.Transactions.{empty, put}
-use Rattle.rules.specs.Calls.{unmarked, reset}
+use Rattle.rules.specs.Calls.{reset}
 use Rattle.rules.proofs.Serial.Sighted.{Seat, vacant, held, withSeat}
 use Rattle.rules.proofs.View.Shape.{heldBy, seat, view, Sound}
 use Rattle.rules.proofs.View.Renewed.{Alike, Bare, Carried, bare-standing, same-values}
-use Rattle.rules.proofs.View.Endings.{ending, withStale, seat-in, seat-out, unmarked-own, ending-sound, ending-seat}
+use Rattle.rules.proofs.View.Endings.{ending, staleAs, seat-in, seat-out, unmarked-own, ending-sound, ending-seat}
 
 alike-same : (x y : Transaction) → y ≡ x → Alike x y
 alike-same x y e = rw e (record { begun = refl; used = refl; descriptors = refl })
 
 -- A bare transaction stands for an empty one.
-pub bare-txn : (m : Machine) (t : ℕ) → Bare (transaction (m .store) t) → txnOf (m .store) (m .logs) t ≡ empty
+pub bare-txn : (m : Machine) (t : ℕ) → Bare (transaction (m .store) t) → txnOf (m .store) (m .journal) (m .logs) t ≡ empty
 unfolding txnOf empty tabulate
 bare-txn m t b =
     let f : _≡_ {A = ℕ → Standing} (standingAt (transaction (m .store) t)) (λ d. Untouched) = fun-ext (bare-standing (transaction (m .store) t) b) in
-    let g : tabulate (writeAt (m .store) (m .logs) t) (transaction (m .store) t .used .records) ≡ [] = rw (b .records) in
+    let g : tabulate (writeAt (m .journal) (m .logs) t) (transaction (m .store) t .used .records) ≡ [] = rw (b .records) in
     λ i. record { standing = f i; writes = g i }
 
 -- What a bare transaction stands for.
@@ -58,7 +59,7 @@ module _ (t : ℕ) (x : Transaction) (m : Machine) (small : t < 8) (bare : Bare 
   pub reset-sound : Sound (reset t x m)
   unfolding reset withTransaction ts
   reset-sound =
-      let r = in-range (m .store) (sound .inRange) in
+      let r = in-range (m .store) (m .journal) (sound .inRange) in
       ending-sound t (m .store .offsets) ts (m .files) m sound (λ u l. carried u (eqb u t) refl)
       (sound .shaped .offsets) (r .offsets)
       (length-set (m .store .transactions) t x ∙ sound .shaped .transactions) (sound .files)
@@ -70,7 +71,7 @@ module _ (t : ℕ) (x : Transaction) (m : Machine) (small : t < 8) (bare : Bare 
   unfolding heldBy after
   own-held =
       let e = bare-txn after t (rw own bare) in
-      let f : _≡_ {A = ℕ → Bool} (λ q. eqb (bit t (getD (unmarked t (m .marks)) q 0)) 1) (λ q. false) =
+      let f : _≡_ {A = ℕ → Bool} (hasMark (withoutMarks t (m .marks)) t) (λ q. false) =
       fun-ext (unmarked-own t small (m .marks)) in
       let g : getD ts t noTransaction .stale ≡ x .stale = ap (λ (z : Transaction). z .stale) own in
       λ i. record { txn = e i; marked = f i; stale = g i }
@@ -86,7 +87,7 @@ module _ (t : ℕ) (x : Transaction) (m : Machine) (small : t < 8) (bare : Bare 
   seat-other u h (inl l) = seat-out after u l ∙ sym (seat-out m u l)
   seat-other u h (inr l) =
       ending-seat t (m .store .offsets) ts (m .files) m small u l h (alike-same (transaction (m .store) u) (getD ts u noTransaction) (other u h))
-      ∙ ap (λ (y : Transaction). cond (transaction (m .store) u .begun) (held (withStale (heldBy m u) (y .stale))) vacant) (other u h)
+      ∙ ap (λ (y : Transaction). cond (transaction (m .store) u .begun) (held (staleAs (heldBy m u) (y .stale))) vacant) (other u h)
       ∙ sym (seat-in m u (transaction (m .store) u .begun) (heldBy m u) l refl refl)
 
   seats : (u : ℕ) (b : Bool) → eqb u t ≡ b → seat after u ≡ cond b (newSeat x) (seat m u)

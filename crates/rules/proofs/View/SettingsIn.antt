@@ -7,16 +7,18 @@ use lib.ListN.{length, getD}
 use Prim.Native.Nat.{ℕ, zero, suc, _+_, _*_, _≤_, _<_, suc-le-suc}
 use native.Mathlib.Omega.{arith}
 use borrow.Author.Tests.{leb-true}
-use Rattle.record.specs.declared.Standing.{Standing}
-use Rattle.record.specs.declared.Standing.the-variants.{Untouched, Placed, Deferred, Moved, Known}
-use Rattle.record.specs.Journal.{Place, at, after}
+use Rattle.standings.specs.declared.Standing.{Standing}
+use Rattle.standings.specs.declared.Standing.the-variants.{Untouched, Placed, Deferred, Moved, Known}
+use Rattle.standings.specs.declared.Place.{Place}
+use Rattle.standings.specs.declared.Place.the-variants.{At, After}
 use Rattle.ranges.specs.Ranges.{standingIn, endsWithin, placeIn}
 use Rattle.ranges.proofs.Laws.{and-right, below-at}
 use Rattle.rules.specs.Items.{Item, byte, offset, Values}
-use Rattle.rules.specs.Standings.{advance, isSet, finalOffset}
+use Rattle.standings.specs.Table.{advance, isTouched, finalOffset}
 use Rattle.rules.specs.Transactions.{Txn, Write}
 use Rattle.rules.specs.Commits.{Setting, landsAt, stretch, byteSettings, offsetSettings, settings, fits}
-use Rattle.rules.proofs.View.Shape.{noWrite, WriteIn, TxnIn}
+use Rattle.rules.proofs.View.Shape.{WriteIn, TxnIn}
+use Rattle.rules.specs.Machine.{noWrite}
 
 -- Where an item may lie, and what it may be set to.
 abbrev pub SetIn : Item → ℕ → Type 0
@@ -40,7 +42,7 @@ stretch-in q (b ∷ bs) h = (omega arith, stretch-in (suc q) bs (omega arith))
 
 -- A write without a place ends within the advance of its descriptor.
 ends-within : (z : Standing) (end : ℕ) → endsWithin z end ≡ true → end ≤ advance z
-unfolding endsWithin advance
+unfolding endsWithin
 ends-within Untouched end e = absurd (false≢true e)
 ends-within (Placed o) end e = absurd (false≢true e)
 ends-within (Deferred a) end e = leb-true end a e
@@ -49,13 +51,13 @@ ends-within (Known o) end e = absurd (false≢true e)
 
 pub lands-in : (c : ℕ) (z : Standing) (p : Place) (n : ℕ) → c + advance z ≤ 4096 → placeIn z p n ≡ true → landsAt c p + n ≤ 4096
 unfolding placeIn landsAt
-lands-in c z (at p) n h e = leb-true (p + n) 4096 e
-lands-in c z (after a) n h e = let f = ends-within z (a + n) (and-right (leb (a + n) 4096) (endsWithin z (a + n)) e) in omega arith
+lands-in c z (At p) n h e = leb-true (p + n) 4096 e
+lands-in c z (After a) n h e = let f = ends-within z (a + n) (and-right (leb (a + n) 4096) (endsWithin z (a + n)) e) in omega arith
 
 -- ---- offsets
 
-final-in : (c : ℕ) (z : Standing) → isSet z ≡ true → c + advance z ≤ 4096 → standingIn z ≡ true → finalOffset c z ≤ 4096
-unfolding isSet advance standingIn finalOffset
+final-in : (c : ℕ) (z : Standing) → isTouched z ≡ true → c + advance z ≤ 4096 → standingIn z ≡ true → finalOffset c z ≤ 4096
+unfolding standingIn finalOffset
 final-in c Untouched s h e = absurd (false≢true s)
 final-in c (Placed o) s h e = leb-true o 4096 e
 final-in c (Deferred a) s h e = h
@@ -81,7 +83,7 @@ module _ (fileOf : ℕ → ℕ) (v : Values) (y : Txn) (files : (d : ℕ) → d 
       (stretch-in (4096 * fileOf d + landsAt (v (offset d)) (w .place)) (w .bytes) (omega arith))
       (bytes-in ws (λ k l. h (suc k) (suc-le-suc l)))
 
-  one-in : (d : ℕ) → d < 16 → (b : Bool) → isSet (y .standing d) ≡ b
+  one-in : (d : ℕ) → d < 16 → (b : Bool) → isTouched (y .standing d) ≡ b
       → AllIn (cond b (record { item = offset d; to = finalOffset (v (offset d)) (y .standing d) } ∷ []) [])
   one-in d l true e = ((l, final-in (v (offset d)) (y .standing d) e (fits-at d l) (ranges .standings d)), tt)
   one-in d l false e = tt
@@ -90,8 +92,8 @@ module _ (fileOf : ℕ → ℕ) (v : Values) (y : Txn) (files : (d : ℕ) → d 
   unfolding offsetSettings
   offsets-in zero h = tt
   offsets-in (suc n) h =
-      all-append (offsetSettings v y n) (cond (isSet (y .standing n)) (record { item = offset n; to = finalOffset (v (offset n)) (y .standing n) } ∷ []) [])
-      (offsets-in n (omega arith)) (one-in n (omega arith) (isSet (y .standing n)) refl)
+      all-append (offsetSettings v y n) (cond (isTouched (y .standing n)) (record { item = offset n; to = finalOffset (v (offset n)) (y .standing n) } ∷ []) [])
+      (offsets-in n (omega arith)) (one-in n (omega arith) (isTouched (y .standing n)) refl)
 
   pub settings-in : AllIn (settings fileOf v y)
   unfolding settings

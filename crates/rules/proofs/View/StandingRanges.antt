@@ -5,17 +5,19 @@ use borrow.Author.Tests.{leb-true, le-leb}
 use lib.Dec.{leb}
 use native.Mathlib.Omega.{arith}
 use Prim.Native.Nat.{ℕ, _+_, _-_, _≤_}
-use Rattle.record.specs.declared.Standing.{Standing}
-use Rattle.record.specs.declared.Standing.the-variants.{Untouched, Placed, Deferred, Moved, Known}
-use Rattle.record.specs.Journal.{Place, at, after, placeNumber}
+use Rattle.standings.specs.declared.Standing.{Standing}
+use Rattle.standings.specs.declared.Standing.the-variants.{Untouched, Placed, Deferred, Moved, Known}
+use Rattle.standings.specs.declared.Place.{Place}
+use Rattle.standings.specs.declared.Place.the-variants.{At, After}
+use Rattle.standings.specs.Table.{placeNumber}
 use Rattle.ranges.specs.Ranges.{standingIn, endsWithin, placeIn}
 use Rattle.ranges.proofs.Laws.{and-left, and-right, and-both}
-use Rattle.rules.specs.Standings.{afterSeek, afterWrite, afterRead, advance, settled, offsetOf, writePlace}
+use Rattle.standings.specs.Table.{afterSeek, afterWrite, afterRead, advance, settled, offsetOf, writePlace}
 use Rattle.rules.specs.Transactions.{placedAt}
 
 -- At most 4,096, of a number above one that is.
-fits : (a b : ℕ) → b ≤ 4096 → a ≤ b → leb a 4096 ≡ true
-fits a b h l = le-leb a 4096 (omega arith)
+bounded : (a b : ℕ) → b ≤ 4096 → a ≤ b → leb a 4096 ≡ true
+bounded a b h l = le-leb a 4096 (omega arith)
 
 pub seek-in : (v : ℕ) (z : Standing) → v ≤ 4096 → standingIn z ≡ true → standingIn (afterSeek v z) ≡ true
 unfolding standingIn afterSeek
@@ -26,15 +28,15 @@ seek-in v (Moved a o) h e = and-both (leb a 4096) (leb v 4096) (and-left (leb a 
 seek-in v (Known o) h e = le-leb v 4096 h
 
 pub write-in : (n : ℕ) (z : Standing) → placeNumber (writePlace z) + n ≤ 4096 → standingIn z ≡ true → standingIn (afterWrite n z) ≡ true
-unfolding standingIn afterWrite placeNumber writePlace
-write-in n Untouched h e = fits n (0 + n) h (omega arith)
+unfolding standingIn afterWrite writePlace
+write-in n Untouched h e = bounded n (0 + n) h (omega arith)
 write-in n (Placed o) h e = le-leb (o + n) 4096 h
 write-in n (Deferred a) h e = le-leb (a + n) 4096 h
 write-in n (Moved a o) h e = and-both (leb a 4096) (leb (o + n) 4096) (and-left (leb a 4096) (leb o 4096) e) (le-leb (o + n) 4096 h)
 write-in n (Known o) h e = le-leb (o + n) 4096 h
 
 pub read-in : (n : ℕ) (z : Standing) → n ≤ 4096 - offsetOf z → standingIn z ≡ true → standingIn (afterRead n z) ≡ true
-unfolding standingIn afterRead offsetOf
+unfolding standingIn afterRead
 read-in n Untouched h e = refl
 read-in n (Placed o) h e = let l = leb-true o 4096 e in le-leb (o + n) 4096 (omega arith)
 read-in n (Deferred a) h e = e
@@ -44,8 +46,8 @@ read-in n (Moved a o) h e =
 read-in n (Known o) h e = let l = leb-true o 4096 e in le-leb (o + n) 4096 (omega arith)
 
 pub settled-in : (c : ℕ) (z : Standing) → c + advance z ≤ 4096 → standingIn z ≡ true → standingIn (settled c z) ≡ true
-unfolding standingIn settled advance
-settled-in c Untouched h e = fits c (c + 0) h (omega arith)
+unfolding standingIn settled
+settled-in c Untouched h e = bounded c (c + 0) h (omega arith)
 settled-in c (Placed o) h e = e
 settled-in c (Deferred a) h e = le-leb (c + a) 4096 h
 settled-in c (Moved a o) h e = and-right (leb a 4096) (leb o 4096) e
@@ -81,13 +83,13 @@ read-ends n (Known o) end e = e
 
 pub place-kept : (z y : Standing) (p : Place) (n : ℕ) → EndsKept z y → placeIn z p n ≡ true → placeIn y p n ≡ true
 unfolding placeIn
-place-kept z y (at p) n k e = e
-place-kept z y (after a) n k e =
+place-kept z y (At p) n k e = e
+place-kept z y (After a) n k e =
     and-both (leb (a + n) 4096) (endsWithin y (a + n)) (and-left (leb (a + n) 4096) (endsWithin z (a + n)) e)
     (k (a + n) (and-right (leb (a + n) 4096) (endsWithin z (a + n)) e))
 
 ends-le : (z : Standing) (end : ℕ) → endsWithin z end ≡ true → end ≤ advance z
-unfolding endsWithin advance
+unfolding endsWithin
 ends-le Untouched end e = absurd (false≢true e)
 ends-le (Placed o) end e = absurd (false≢true e)
 ends-le (Deferred a) end e = leb-true end a e
@@ -97,14 +99,14 @@ ends-le (Known o) end e = absurd (false≢true e)
 -- A write that settling places, under any standing.
 pub place-settled : (c : ℕ) (z y : Standing) (p : Place) (n : ℕ) → c + advance z ≤ 4096 → placeIn z p n ≡ true → placeIn y (placedAt c p) n ≡ true
 unfolding placeIn placedAt
-place-settled c z y (at p) n h e = e
-place-settled c z y (after a) n h e =
+place-settled c z y (At p) n h e = e
+place-settled c z y (After a) n h e =
     let l = ends-le z (a + n) (and-right (leb (a + n) 4096) (endsWithin z (a + n)) e) in
     le-leb (c + a + n) 4096 (omega arith)
 
 -- A new write, under the standing that it leaves.
 pub place-written : (n : ℕ) (z : Standing) → placeNumber (writePlace z) + n ≤ 4096 → placeIn (afterWrite n z) (writePlace z) n ≡ true
-unfolding placeIn endsWithin afterWrite placeNumber writePlace
+unfolding placeIn endsWithin afterWrite writePlace
 place-written n Untouched h = and-both (leb (0 + n) 4096) (leb (0 + n) n) (le-leb (0 + n) 4096 h) (le-leb (0 + n) n (omega arith))
 place-written n (Placed o) h = le-leb (o + n) 4096 h
 place-written n (Deferred a) h =

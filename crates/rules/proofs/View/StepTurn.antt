@@ -3,7 +3,7 @@
 use mathlib.Core.Bool.{true}
 use mathlib.Core.Path.{_≡_, refl}
 use Prim.Native.Nat.{ℕ, _<_}
-use Rattle.record.specs.Journal.{transaction}
+use Rattle.record.specs.State.{transaction}
 use Rattle.rules.specs.Items.{result}
 use Rattle.rules.specs.Steps.{Op, bufferOf, Stepped, refuse, accept, step}
 use Rattle.rules.specs.Plain.{on}
@@ -17,7 +17,7 @@ use Rattle.rules.proofs.View.Admissions.{Agrees, admitted-agrees}
 module _ (m : Machine) (t : ℕ) (o : Op) (h : Sound m) where
   -- Refused with one of 6 to 12, or accepted.
   step-agrees : t < 8 → transaction (m .store) t .begun ≡ true → (z : Stepped)
-      → result (values (m .store) (m .files)) (step (fileOf (m .store)) o (txnOf (m .store) (m .logs) t)) ≡ z
+      → result (values (m .store) (m .files)) (step (fileOf (m .store)) o (txnOf (m .store) (m .journal) (m .logs) t)) ≡ z
       → Agrees (served t o m (sightings m t o) z) (sightedStepped t o (heldBy m t) (sightings m t o) (view m) z)
   unfolding served sightedStepped turnDown turnedAway machineAfter heldAfter heldBy
   step-agrees small begun (refuse n) e = (refl, refl, h)
@@ -33,4 +33,4 @@ step-turn m t o h =
     admitted-agrees m t h (bufferOf o) (stepTurn t o m) (sightedOn t o) refl
     (λ small begun.
     step-agrees m t o h small begun
-    (result (values (m .store) (m .files)) (step (fileOf (m .store)) o (txnOf (m .store) (m .logs) t))) refl)
+    (result (values (m .store) (m .files)) (step (fileOf (m .store)) o (txnOf (m .store) (m .journal) (m .logs) t))) refl)

@@ -1,6 +1,6 @@
--- `bench_calls::loops::batches` is safe and ends. The loop's invariant: at most so many rounds are left, and every lent buffer keeps its length. Assumes nothing.
+-- `batches` is safe and ends. The loop's invariant: at most so many rounds are left, and every lent buffer keeps its length.
 use lib.ListN.{length}
-use Prim.Native.Nat.{_≤_}
+use Prim.Native.Nat.{_≤_, _-_}
 use mathlib.Core.Path.{_≡_}
 use native.Mathlib.Omega.{arith}
 use borrow.Author.Needs.{needs}
@@ -8,12 +8,10 @@ use Rattle.bench_calls.proofs.loops.batches.Statement.{statement}
 use Rattle.bench_calls.proofs.loops.batches.Tie as tie
 
 abbrev Inv-loop : tie.InvT-loop
-Inv-loop files logs₀ marks₀ bytes count n s₀ sum₀ left₀ logs marks s sum left =
-    (left ≤ n) × (length logs ≡ length logs₀) × (length marks ≡ length marks₀)
+Inv-loop journal₀ files logs₀ marks₀ bytes count n s₀ sum₀ left₀ journal logs marks s sum left = (left ≤ n) × (length logs ≡ length logs₀) × (length marks ≡ length marks₀)
 
 abbrev μ-loop : tie.MeasureT-loop
-μ-loop files logs₀ marks₀ bytes count n s₀ sum₀ left₀ logs marks s sum left =
-    left
+μ-loop journal₀ files logs₀ marks₀ bytes count n s₀ sum₀ left₀ journal logs marks s sum left = left
 
 loop-holds : tie.Need-loop-holds Inv-loop μ-loop
 loop-holds c = search needs
@@ -37,10 +35,10 @@ writes-requires : tie.Need-writes-requires Inv-loop μ-loop
 writes-requires c κs = search needs
 
 loop-less : tie.Need-loop-less Inv-loop μ-loop
-loop-less c = omega (arith, c .before .before .before .before .before .before .before .before .before .before .before .before .before .before .before .before .before .before .before .before .before .loop .inv, c .before .before .before .before .before .before .before .before .before .before .before .before .before .before .before .before .before .before .before .before .loop-test .taken)
+loop-less c = omega (arith, c .before .before .before .before .before .before .before .before .before .before .before .before .before .before .before .before .before .before .before .before .before .before .before .loop-test .taken, c .before .before .before .before .before .before .before .before .before .before .before .before .before .before .before .before .before .before .before .before .before .before .before .before .loop .inv)
 
 loop-again : tie.Need-loop-again Inv-loop μ-loop
-loop-again c = omega (arith, c .before .before .before .before .before .before .before .before .before .before .before .before .before .before .before .before .before .before .before .before .before .loop .inv, c .before .before .before .before .before .before .before .before .before .before .before .before .before .before .before .before .before .before .before .before .loop-test .taken)
+loop-again c = omega (arith, c .before .before .logs .given, c .before .before .before .before .before .before .before .before .before .before .before .marks2 .given, c .before .before .before .before .before .before .before .before .before .before .before .before .before .before .before .before .before .before .marks .given, c .before .before .before .before .before .before .before .before .before .before .before .before .before .before .before .before .before .before .before .before .before .before .before .loop-test .taken, c .before .before .before .before .before .before .before .before .before .before .before .before .before .before .before .before .before .before .before .before .before .before .before .before .loop .inv)
 
 same-length : tie.Need-same-length Inv-loop μ-loop
 same-length c = search needs

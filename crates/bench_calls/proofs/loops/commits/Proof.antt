@@ -1,18 +1,17 @@
--- `bench_calls::loops::commits` is safe and ends. The loop's invariant: at most so many rounds are left, and every lent buffer keeps its length. Assumes nothing.
+-- `commits` is safe and ends. The loop's invariant: at most so many rounds are left, and every lent buffer keeps its length.
 use lib.ListN.{length}
-use Prim.Native.Nat.{_≤_}
+use Prim.Native.Nat.{_≤_, _-_}
 use mathlib.Core.Path.{_≡_}
+use native.Mathlib.Omega.{arith}
 use borrow.Author.Needs.{needs}
 use Rattle.bench_calls.proofs.loops.commits.Statement.{statement}
 use Rattle.bench_calls.proofs.loops.commits.Tie as tie
 
 abbrev Inv-loop : tie.InvT-loop
-Inv-loop files₀ logs marks₀ n s₀ sum₀ left₀ files marks s sum left =
-    (left ≤ n) × (length files ≡ length files₀) × (length marks ≡ length marks₀)
+Inv-loop journal files₀ logs marks₀ n s₀ sum₀ left₀ files marks s sum left = (left ≤ n) × (length files ≡ length files₀) × (length marks ≡ length marks₀)
 
 abbrev μ-loop : tie.MeasureT-loop
-μ-loop files₀ logs marks₀ n s₀ sum₀ left₀ files marks s sum left =
-    left
+μ-loop journal files₀ logs marks₀ n s₀ sum₀ left₀ files marks s sum left = left
 
 loop-holds : tie.Need-loop-holds Inv-loop μ-loop
 loop-holds c = search needs

@@ -1,6 +1,6 @@
--- `bench_calls::loops::lands` is safe and ends. The loop's invariant: at most so many rounds are left, and every lent buffer keeps its length. Assumes nothing.
+-- `lands` is safe and ends. The loop's invariant: at most so many rounds are left, and every lent buffer keeps its length.
 use lib.ListN.{length}
-use Prim.Native.Nat.{_≤_}
+use Prim.Native.Nat.{_≤_, _-_}
 use mathlib.Core.Path.{_≡_}
 use native.Mathlib.Omega.{arith}
 use borrow.Author.Needs.{needs}
@@ -8,12 +8,10 @@ use Rattle.bench_calls.proofs.loops.lands.Statement.{statement}
 use Rattle.bench_calls.proofs.loops.lands.Tie as tie
 
 abbrev Inv-loop : tie.InvT-loop
-Inv-loop files₀ logs₀ marks₀ bytes n s₀ sum₀ left₀ files logs marks s sum left =
-    (left ≤ n) × (length files ≡ length files₀) × (length logs ≡ length logs₀) × (length marks ≡ length marks₀)
+Inv-loop journal₀ files₀ logs₀ marks₀ bytes n s₀ sum₀ left₀ journal files logs marks s sum left = (left ≤ n) × (length files ≡ length files₀) × (length logs ≡ length logs₀) × (length marks ≡ length marks₀)
 
 abbrev μ-loop : tie.MeasureT-loop
-μ-loop files₀ logs₀ marks₀ bytes n s₀ sum₀ left₀ files logs marks s sum left =
-    left
+μ-loop journal₀ files₀ logs₀ marks₀ bytes n s₀ sum₀ left₀ journal files logs marks s sum left = left
 
 loop-holds : tie.Need-loop-holds Inv-loop μ-loop
 loop-holds c = search needs
@@ -46,10 +44,10 @@ told-requires-4 : tie.Need-told-requires-4 Inv-loop μ-loop
 told-requires-4 c κs = search needs
 
 loop-less : tie.Need-loop-less Inv-loop μ-loop
-loop-less c = omega (arith, c .before .before .before .before .before .before .before .before .before .before .before .before .before .before .before .before .before .before .before .before .before .before .before .before .before .before .before .before .before .before .before .before .before .loop .inv, c .before .before .before .before .before .before .before .before .before .before .before .before .before .before .before .before .before .before .before .before .before .before .before .before .before .before .before .before .before .before .before .before .loop-test .taken)
+loop-less c = omega (arith, c .before .before .before .before .before .before .before .before .before .before .before .before .before .before .before .before .before .before .before .before .before .before .before .before .before .before .before .before .before .before .before .before .before .before .before .before .loop-test .taken, c .before .before .before .before .before .before .before .before .before .before .before .before .before .before .before .before .before .before .before .before .before .before .before .before .before .before .before .before .before .before .before .before .before .before .before .before .before .loop .inv)
 
 loop-again : tie.Need-loop-again Inv-loop μ-loop
-loop-again c = omega (arith, c .before .before .before .before .before .before .before .before .before .before .before .before .before .before .before .before .before .before .before .before .before .before .before .before .before .before .before .before .before .before .before .before .before .loop .inv, c .before .before .before .before .before .before .before .before .before .before .before .before .before .before .before .before .before .before .before .before .before .before .before .before .before .before .before .before .before .before .before .before .loop-test .taken, c .before .before .before .marks2 .given, c .before .before .before .before .before .files .given, c .before .before .before .before .before .before .before .before .before .before .before .before .before .logs .given, c .before .before .before .before .before .before .before .before .before .before .before .before .before .before .before .before .before .before .before .before .before .before .before .before .before .before .before .marks .given)
+loop-again c = omega (arith, c .before .before .before .marks2 .given, c .before .before .before .before .before .files .given, c .before .before .before .before .before .before .before .before .before .before .before .before .before .before .logs .given, c .before .before .before .before .before .before .before .before .before .before .before .before .before .before .before .before .before .before .before .before .before .before .before .before .before .before .before .before .before .before .marks .given, c .before .before .before .before .before .before .before .before .before .before .before .before .before .before .before .before .before .before .before .before .before .before .before .before .before .before .before .before .before .before .before .before .before .before .before .before .loop-test .taken, c .before .before .before .before .before .before .before .before .before .before .before .before .before .before .before .before .before .before .before .before .before .before .before .before .before .before .before .before .before .before .before .before .before .before .before .before .before .loop .inv)
 
 same-length : tie.Need-same-length Inv-loop μ-loop
 same-length c = search needs

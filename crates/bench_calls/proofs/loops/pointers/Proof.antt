@@ -1,16 +1,17 @@
--- `bench_calls::loops::pointers` is safe and ends. The loop's invariant: at most so many rounds are left, and every lent buffer keeps its length. Assumes nothing.
-use Prim.Native.Nat.{_≤_}
+-- `pointers` is safe and ends. The loop's invariant: at most so many rounds are left, and every lent buffer keeps its length.
+use lib.ListN.{length}
+use Prim.Native.Nat.{_≤_, _-_}
+use mathlib.Core.Path.{_≡_}
+use native.Mathlib.Omega.{arith}
 use borrow.Author.Needs.{needs}
 use Rattle.bench_calls.proofs.loops.pointers.Statement.{statement}
 use Rattle.bench_calls.proofs.loops.pointers.Tie as tie
 
 abbrev Inv-loop : tie.InvT-loop
-Inv-loop files logs marks n s₀ sum₀ left₀ s sum left =
-    left ≤ n
+Inv-loop journal₀ files logs marks n a₀ sum₀ left₀ journal a sum left = (left ≤ n)
 
 abbrev μ-loop : tie.MeasureT-loop
-μ-loop files logs marks n s₀ sum₀ left₀ s sum left =
-    left
+μ-loop journal₀ files logs marks n a₀ sum₀ left₀ journal a sum left = left
 
 loop-holds : tie.Need-loop-holds Inv-loop μ-loop
 loop-holds c = search needs

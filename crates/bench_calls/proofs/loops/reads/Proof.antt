@@ -1,18 +1,17 @@
--- `bench_calls::loops::reads` is safe and ends. The loop's invariant: at most so many rounds are left, and every lent buffer keeps its length. Assumes nothing.
+-- `reads` is safe and ends. The loop's invariant: at most so many rounds are left, and every lent buffer keeps its length.
 use lib.ListN.{length}
-use Prim.Native.Nat.{_≤_}
+use Prim.Native.Nat.{_≤_, _-_}
 use mathlib.Core.Path.{_≡_}
+use native.Mathlib.Omega.{arith}
 use borrow.Author.Needs.{needs}
 use Rattle.bench_calls.proofs.loops.reads.Statement.{statement}
 use Rattle.bench_calls.proofs.loops.reads.Tie as tie
 
 abbrev Inv-loop : tie.InvT-loop
-Inv-loop files logs marks₀ reader₀ count n s₀ sum₀ left₀ marks reader s sum left =
-    (left ≤ n) × (length marks ≡ length marks₀) × (length reader ≡ length reader₀)
+Inv-loop journal₀ files logs marks₀ reader₀ count n s₀ sum₀ left₀ journal marks reader s sum left = (left ≤ n) × (length marks ≡ length marks₀) × (length reader ≡ length reader₀)
 
 abbrev μ-loop : tie.MeasureT-loop
-μ-loop files logs marks₀ reader₀ count n s₀ sum₀ left₀ marks reader s sum left =
-    left
+μ-loop journal₀ files logs marks₀ reader₀ count n s₀ sum₀ left₀ journal marks reader s sum left = left
 
 loop-holds : tie.Need-loop-holds Inv-loop μ-loop
 loop-holds c = search needs
@@ -33,10 +32,10 @@ told-requires-2 : tie.Need-told-requires-2 Inv-loop μ-loop
 told-requires-2 c κs = search needs
 
 loop-less : tie.Need-loop-less Inv-loop μ-loop
-loop-less c = search needs
+loop-less c = omega (arith, c .before .before .before .before .before .before .before .before .before .before .before .before .before .before .before .loop-test .taken, c .before .before .before .before .before .before .before .before .before .before .before .before .before .before .before .before .loop .inv)
 
 loop-again : tie.Need-loop-again Inv-loop μ-loop
-loop-again c = search needs
+loop-again c = omega (arith, c .before .before .before .reader .given, c .before .before .before .before .before .marks .given, c .before .before .before .before .before .before .before .before .before .before .before .before .before .before .before .loop-test .taken, c .before .before .before .before .before .before .before .before .before .before .before .before .before .before .before .before .loop .inv)
 
 same-length : tie.Need-same-length Inv-loop μ-loop
 same-length c = search needs

@@ -1,18 +1,17 @@
--- `bench_calls::loops::writes` is safe and ends. The loop's invariant: at most so many rounds are left, and every lent buffer keeps its length. Assumes nothing.
+-- `writes` is safe and ends. The loop's invariant: at most so many rounds are left, and every lent buffer keeps its length.
 use lib.ListN.{length}
-use Prim.Native.Nat.{_≤_}
+use Prim.Native.Nat.{_≤_, _-_}
 use mathlib.Core.Path.{_≡_}
+use native.Mathlib.Omega.{arith}
 use borrow.Author.Needs.{needs}
 use Rattle.bench_calls.proofs.loops.writes.Statement.{statement}
 use Rattle.bench_calls.proofs.loops.writes.Tie as tie
 
 abbrev Inv-loop : tie.InvT-loop
-Inv-loop files logs₀ marks bytes n s₀ sum₀ left₀ logs s sum left =
-    (left ≤ n) × (length logs ≡ length logs₀)
+Inv-loop journal₀ files logs₀ marks bytes n a₀ sum₀ left₀ journal logs a sum left = (left ≤ n) × (length logs ≡ length logs₀)
 
 abbrev μ-loop : tie.MeasureT-loop
-μ-loop files logs₀ marks bytes n s₀ sum₀ left₀ logs s sum left =
-    left
+μ-loop journal₀ files logs₀ marks bytes n a₀ sum₀ left₀ journal logs a sum left = left
 
 loop-holds : tie.Need-loop-holds Inv-loop μ-loop
 loop-holds c = search needs

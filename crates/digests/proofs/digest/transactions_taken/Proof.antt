@@ -6,10 +6,10 @@ use Rattle.digests.proofs.digest.transactions_taken.Statement.{statemen
 use Rattle.digests.proofs.digest.transactions_taken.Tie as tie
 
 abbrev Inv-loop : tie.InvT-loop
-Inv-loop h s out₀ t₀ out t = Digest out × (t ≤ 8)
+Inv-loop h journal s out₀ t₀ out t = Digest out × (t ≤ 8)
 
 abbrev μ-loop : tie.MeasureT-loop
-μ-loop h s out₀ t₀ out t = 8 - t
+μ-loop h journal s out₀ t₀ out t = 8 - t
 
 loop-holds : tie.Need-loop-holds Inv-loop μ-loop
 loop-holds c = search needs

@@ -12,11 +12,11 @@ sub-if1 : tie.Need-sub-if1
 sub-if1 c = search needs
 
 returns : tie.Need-returns
-unfolding gateNumber number unless
+unfolding gateNumber unless
 returns c = let a = c .before .args in rw (lt-leb (a .place + a .n) 4096 (omega arith))
 
 returns-2 : tie.Need-returns-2
-unfolding gateNumber number unless
+unfolding gateNumber unless
 returns-2 c =
     let a = c .before .before .args in
     rw (le-leb (a .place + a .n) 4096 (omega arith), lt-leb (a .records + 1) 64 (omega arith))
@@ -25,13 +25,13 @@ sub-if3 : tie.Need-sub-if3
 sub-if3 c = search needs
 
 returns-3 : tie.Need-returns-3
-unfolding gateNumber number unless
+unfolding gateNumber unless
 returns-3 c =
     let a = c .before .before .before .args in
     rw (le-leb (a .place + a .n) 4096 (omega arith), le-leb (a .records + 1) 64 (omega arith), lt-leb (a .end + a .n) 4096 (omega arith))
 
 returns-4 : tie.Need-returns-4
-unfolding gateNumber number unless
+unfolding gateNumber unless
 returns-4 c =
     let a = c .before .before .before .args in
     rw (le-leb (a .place + a .n) 4096 (omega arith), le-leb (a .records + 1) 64 (omega arith), le-leb (a .end + a .n) 4096 (omega arith))

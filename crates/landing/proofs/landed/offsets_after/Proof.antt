@@ -1,35 +1,31 @@
--- `landing::landed::offsets_after` meets its contract. Assumes nothing.
-use mathlib.Core.Path.{_≡_, sym, ap, _∙_}
-use Prim.Native.Nat.{ℕ, _-_, _≤_}
-use native.Mathlib.Omega.{arith}
+-- `landing::landed::offsets_after` meets its contract. The loop's invariant: the offsets of the descriptors passed are set. Assumes
+-- nothing.
 use mathlib.Core.List.{List}
 use mathlib.Core.Logic.{⊎-elim}
-use lib.ListN.{length, set, length-set}
-use Rattle.landing.proofs.LandLaws.{offset-set, offset-kept}
-use Rattle.landing.specs.Landing.{offsetAfter}
-use Rattle.encoding.proofs.Filled.{filled, filled-none, filled-set, filled-kept, filled-all}
+use mathlib.Core.Path.{_≡_, sym, ap, ap₂, _∙_}
+use Prim.Native.Nat.{ℕ, _-_, _≤_}
+use native.Mathlib.Omega.{arith}
+use lib.ListN.{length, getD, set, length-set}
+use Rattle.standings.specs.Table.{advance, isTouched, finalOffset}
+use Rattle.landing.proofs.LandLaws.{fits-at, offsetsSet, offsets-none, offset-set, offset-kept}
 use borrow.Author.Needs.{needs}
 use Rattle.landing.proofs.landed.offsets_after.Statement.{statement}
 use Rattle.landing.proofs.landed.offsets_after.Tie as tie
 
 abbrev Inv-loop : tie.InvT-loop
-Inv-loop x offsets out₀ d₀ out d =
-    (d ≤ 16) × (out ≡ filled (offsetAfter x offsets) offsets d) × (length offsets ≡ 16) × (length out ≡ 16)
+Inv-loop x offsets out₀ d₀ out d = (d ≤ 16) × (out ≡ offsetsSet x offsets d) × (length offsets ≡ 16) × (length out ≡ 16)
 
 abbrev μ-loop : tie.MeasureT-loop
 μ-loop x offsets out₀ d₀ out d = 16 - d
 
 loop-holds : tie.Need-loop-holds Inv-loop μ-loop
-loop-holds c = (omega arith, sym (filled-none _ _), search needs, search needs)
+loop-holds c = (omega arith, sym (offsets-none (c .args .x) (c .args .t2)), search needs, search needs)
 
-mul-q : tie.Need-mul-q Inv-loop μ-loop
-mul-q c = search needs
+standing-at-requires : tie.Need-standing-at-requires Inv-loop μ-loop
+standing-at-requires c κs = search needs
 
-element-copy-out-q : tie.Need-element-copy-out-q Inv-loop μ-loop
-element-copy-out-q c = search needs
-
-is-set-requires : tie.Need-is-set-requires Inv-loop μ-loop
-is-set-requires c κs = search needs
+is-touched-requires : tie.Need-is-touched-requires Inv-loop μ-loop
+is-touched-requires c κs = search needs
 
 mul-final-offset : tie.Need-mul-final-offset Inv-loop μ-loop
 mul-final-offset c = search needs
@@ -38,7 +34,9 @@ array-read-final-offset : tie.Need-array-read-final-offset Inv-loop μ-loop
 array-read-final-offset c = search needs
 
 final-offset-requires : tie.Need-final-offset-requires Inv-loop μ-loop
-final-offset-requires c κs = c .before .before .before .before .before .pre (c .before .before .before .before .loop .d) (omega arith)
+final-offset-requires c κs =
+    let d = c .before .before .before .before .loop .d in
+    omega (arith, fits-at (c .before .before .before .before .before .args .x) (c .before .before .before .before .before .args .t2) (c .before .before .before .before .before .pre) d (omega arith), ap advance (c .before .before .standing-at .ensures))
 
 mul-out : tie.Need-mul-out Inv-loop μ-loop
 mul-out c = search needs
@@ -54,32 +52,28 @@ loop-less c = search needs
 
 loop-again : tie.Need-loop-again Inv-loop μ-loop
 loop-again c =
-    let a = c .before .before .before .before .before .args in
+    let x = c .before .before .before .before .before .args .x in
+    let offsets = c .before .before .before .before .before .args .t2 in
     let l = c .before .before .before .before .loop in
-    let e = c .before .is-set .ensures in
+    let z = c .before .before .standing-at .ensures in
+    let e = sym (c .before .is-touched .ensures ∙ ap isTouched z) in
     ⊎-elim
     (λ w. (
       omega arith,
       w .2
-          ∙ ap (λ (xs : List ℕ). set xs (l .d) (w .1 .result)) (l .inv .1)
-          ∙ filled-set (offsetAfter (a .t1) (a .t2)) (a .t2) (l .d) (w .1 .result) (omega arith)
-          (w .1 .ensures ∙ sym (offset-set (a .t1) (a .t2) (l .d) (sym e ∙ w .0 .taken))),
+          ∙ ap₂ (λ (xs : List ℕ) (n : ℕ). set xs (l .d) n) (l .inv .1) (w .1 .ensures ∙ ap (finalOffset (getD offsets (l .d) 0)) z)
+          ∙ offset-set x offsets (l .d) (e ∙ w .0 .taken),
       l .inv .2,
       ap length (w .2) ∙ length-set (l .out) (l .d) (w .1 .result) ∙ l .inv .3,
     ))
-    (λ w. (
-      omega arith,
-      w .1 ∙ l .inv .1 ∙ filled-kept (offsetAfter (a .t1) (a .t2)) (a .t2) (l .d) 0 (omega arith) (offset-kept (a .t1) (a .t2) (l .d) (sym e ∙ w .0 .left)),
-      l .inv .2,
-      ap length (w .1) ∙ l .inv .3,
-    ))
+    (λ w. (omega arith, w .1 ∙ l .inv .1 ∙ offset-kept x offsets (l .d) (e ∙ w .0 .left), l .inv .2, ap length (w .1) ∙ l .inv .3))
     (c .if1 .came)
 
 returns : tie.Need-returns Inv-loop μ-loop
 returns c =
     let l = c .before .loop in
     let e : l .d ≡ 16 = omega arith in
-    l .inv .1 ∙ ap (filled (offsetAfter (c .before .before .args .t1) (c .before .before .args .t2)) (c .before .before .args .t2)) e ∙ filled-all (offsetAfter (c .before .before .args .t1) (c .before .before .args .t2)) (c .before .before .args .t2) 16 (omega arith)
+    l .inv .1 ∙ ap (offsetsSet (c .before .before .args .x) (c .before .before .args .t2)) e
 
 pub offsets-after-spec : {M : Type 1} → statement M
 offsets-after-spec =
@@ -88,9 +82,8 @@ offsets-after-spec =
     Inv-loop
     μ-loop
     loop-holds
-    mul-q
-    element-copy-out-q
-    is-set-requires
+    standing-at-requires
+    is-touched-requires
     mul-final-offset
     array-read-final-offset
     final-offset-requires

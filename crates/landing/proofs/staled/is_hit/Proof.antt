@@ -1,7 +1,6 @@
 -- `landing::staled::is_hit` meets its contract. Assumes nothing.
 use mathlib.Core.Path.{sym, _∙_}
 use borrow.Author.Tests.{not-true, not-false}
-use Rattle.octets.specs.Bits.{bit}
 use Rattle.landing.proofs.StaleLaws.{hit-own, hit-closed, hit-byte, hit-offset}
 use borrow.Author.Needs.{needs}
 use Rattle.landing.proofs.staled.is_hit.Statement.{statement}
@@ -13,24 +12,21 @@ returns c = sym (hit-own _ _ _ _ _ (c .if1 .taken))
 returns-2 : tie.Need-returns-2
 returns-2 c = sym (hit-closed _ _ _ _ _ (c .before .before .if1 .left) (not-true _ (c .if2 .taken)))
 
-cast-if3 : tie.Need-cast-if3
-cast-if3 c = search needs
-
-shr-if3 : tie.Need-shr-if3
-shr-if3 c = search needs
+contains-requires : tie.Need-contains-requires
+contains-requires c κs = search needs
 
 returns-3 : tie.Need-returns-3
-unfolding bit
-returns-3 c = sym (hit-byte _ _ _ _ _ (c .before .before .before .if1 .left) (not-false _ (c .before .if2 .left)) (c .if3 .taken))
+returns-3 c = sym (hit-byte _ _ _ _ _ (c .before .before .before .before .if1 .left) (not-false _ (c .before .before .if2 .left)) (sym (c .before .contains .ensures) ∙ c .if3 .taken))
 
 knows-offset-of-requires : tie.Need-knows-offset-of-requires
 knows-offset-of-requires c κs = search needs
 
 returns-4 : tie.Need-returns-4
-unfolding bit
-returns-4 c = c .knows-offset-of .ensures ∙ sym (hit-offset _ _ _ _ _ (c .before .before .before .before .if1 .left) (not-false _ (c .before .before .if2 .left)) (c .before .if3 .left))
+returns-4 c =
+    c .knows-offset-of .ensures
+    ∙ sym (hit-offset _ _ _ _ _ (c .before .before .before .before .before .if1 .left) (not-false _ (c .before .before .before .if2 .left)) (sym (c .before .before .contains .ensures) ∙ c .before .if3 .left))
 
 pub is-hit-spec : {M : Type 1} → statement M
 is-hit-spec =
     tie.close
-    (tie.spec returns returns-2 cast-if3 shr-if3 returns-3 knows-offset-of-requires returns-4)
+    (tie.spec returns returns-2 contains-requires returns-3 knows-offset-of-requires returns-4)

@@ -1,9 +1,11 @@
--- `landing::staled::knows_offset_of` meets its contract. Assumes nothing.
+-- `landing::staled::knows_offset_of` meets its contract. The loop's invariant: y knows none of the offsets passed that x sets.
+-- Assumes nothing.
 use mathlib.Core.Bool.{false}
-use mathlib.Core.Path.{_≡_, sym, _∙_}
+use mathlib.Core.Path.{_≡_, sym, ap, _∙_}
 use mathlib.Core.Logic.{⊎-elim}
 use Prim.Native.Nat.{_-_, _≤_}
 use native.Mathlib.Omega.{arith}
+use Rattle.standings.specs.Table.{isTouched, isKnown}
 use Rattle.landing.specs.Staling.{some, knowsOffset}
 use Rattle.landing.proofs.StaleLaws.{some-zero, some-more, some-at, knows, knows-unset, knows-unknown}
 use borrow.Author.Needs.{needs}
@@ -11,8 +13,7 @@ use Rattle.landing.proofs.staled.knows_offset_of.Statement.{statement}
 use Rattle.landing.proofs.staled.knows_offset_of.Tie as tie
 
 abbrev Inv-loop : tie.InvT-loop
-Inv-loop y x d₀ d =
-    (d ≤ 16) × (some (knowsOffset y x) d ≡ false)
+Inv-loop y x d₀ d = (d ≤ 16) × (some (knowsOffset y x) d ≡ false)
 
 abbrev μ-loop : tie.MeasureT-loop
 μ-loop y x d₀ d = 16 - d
@@ -20,29 +21,26 @@ abbrev μ-loop : tie.MeasureT-loop
 loop-holds : tie.Need-loop-holds Inv-loop μ-loop
 loop-holds c = (omega arith, some-zero _)
 
-mul-q : tie.Need-mul-q Inv-loop μ-loop
-mul-q c = search needs
+standing-at-requires : tie.Need-standing-at-requires Inv-loop μ-loop
+standing-at-requires c κs = search needs
 
-element-copy-out-q : tie.Need-element-copy-out-q Inv-loop μ-loop
-element-copy-out-q c = search needs
+is-touched-requires : tie.Need-is-touched-requires Inv-loop μ-loop
+is-touched-requires c κs = search needs
 
-mul-w : tie.Need-mul-w Inv-loop μ-loop
-mul-w c = search needs
-
-element-copy-out-w : tie.Need-element-copy-out-w Inv-loop μ-loop
-element-copy-out-w c = search needs
-
-is-set-requires : tie.Need-is-set-requires Inv-loop μ-loop
-is-set-requires c κs = search needs
+standing-at-requires-2 : tie.Need-standing-at-requires-2 Inv-loop μ-loop
+standing-at-requires-2 c κs = search needs
 
 is-known-requires : tie.Need-is-known-requires Inv-loop μ-loop
 is-known-requires c κs = search needs
 
 returns : tie.Need-returns Inv-loop μ-loop
 returns c =
-    let b = c .before .before .before .before .before .before .before .before .args in
+    let y = c .before .before .before .before .before .before .before .before .args .y in
+    let x = c .before .before .before .before .before .before .before .before .args .x in
     let d = c .before .before .before .before .before .before .before .loop .d in
-    sym (some-at (knowsOffset (b .t1) (b .t2)) 16 d (omega arith) (knows (b .t1) (b .t2) d (sym (c .before .before .before .is-set .ensures) ∙ c .before .before .if1 .taken) (sym (c .before .is-known .ensures) ∙ c .if2 .taken)))
+    let set = sym (c .before .before .before .before .is-touched .ensures ∙ ap isTouched (c .before .before .before .before .before .standing-at .ensures)) ∙ c .before .before .before .if1 .taken in
+    let known = sym (c .before .is-known .ensures ∙ ap isKnown (c .before .before .standing-at2 .ensures)) ∙ c .if2 .taken in
+    sym (some-at (knowsOffset y x) 16 d (omega arith) (knows y x d set known))
 
 add-d : tie.Need-add-d Inv-loop μ-loop
 add-d c = search needs
@@ -52,12 +50,14 @@ loop-less c = search needs
 
 loop-again : tie.Need-loop-again Inv-loop μ-loop
 loop-again c =
-    let b = c .before .before .before .before .before .before .args in
-    let l = c .before .before .before .before .before .loop in
-    let miss : knowsOffset (b .t1) (b .t2) (l .d) ≡ false =
-    ⊎-elim (λ w. knows-unknown (b .t1) (b .t2) (l .d) (sym (w .1 .ensures) ∙ w .2 .left))
-    (λ w. knows-unset (b .t1) (b .t2) (l .d) (sym (c .before .is-set .ensures) ∙ w .left)) (c .if1 .came) in
-    (omega arith, some-more (knowsOffset (b .t1) (b .t2)) (l .d) (l .inv .1) miss)
+    let y = c .before .before .before .before .before .args .y in
+    let x = c .before .before .before .before .before .args .x in
+    let l = c .before .before .before .before .loop in
+    let set = sym (c .before .is-touched .ensures ∙ ap isTouched (c .before .before .standing-at .ensures)) in
+    let miss : knowsOffset y x (l .d) ≡ false =
+    ⊎-elim (λ w. knows-unknown y x (l .d) (sym (w .2 .ensures ∙ ap isKnown (w .1 .ensures)) ∙ w .3 .left))
+    (λ w. knows-unset y x (l .d) (set ∙ w .left)) (c .if1 .came) in
+    (omega arith, some-more (knowsOffset y x) (l .d) (l .inv .1) miss)
 
 returns-2 : tie.Need-returns-2 Inv-loop μ-loop
 returns-2 c =
@@ -71,11 +71,9 @@ knows-offset-of-spec =
     Inv-loop
     μ-loop
     loop-holds
-    mul-q
-    element-copy-out-q
-    mul-w
-    element-copy-out-w
-    is-set-requires
+    standing-at-requires
+    is-touched-requires
+    standing-at-requires-2
     is-known-requires
     returns
     add-d

@@ -1,25 +1,32 @@
--- `store::abort` meets its contract.
+-- `lifecycle::abort` meets its contract.
 use borrow.Author.Needs.{needs}
+use borrow.Author.Tests.{not-true, not-false}
 use native.Mathlib.Omega.{arith}
-use mathlib.Core.Bool.{true}
-use mathlib.Core.List.{List, []}
-use mathlib.Core.Path.{_≡_, refl, sym, ap, _∙_}
-use Rattle.ranges.proofs.Laws.{admitted as admitted-on}
-use Rattle.rules.specs.Machine.{Machine, withTransaction}
-use Rattle.rules.specs.Calls.{Turn, call, admitted, turnDown, abortTurn}
-use Rattle.record.specs.Journal.{ended}
-use Rattle.rules.specs.Promises.{lent}
-use Rattle.turns.proofs.Turns.{LetThrough, gate-refused, gate-passed, passing-on, turned-meets, reset-meets}
+use mathlib.Core.List.{[]}
+use mathlib.Core.Path.{_≡_, refl, ap, _∙_}
+use Prim.Native.Nat.{ℕ}
+use Rattle.record.specs.declared.outcomes.Refusal.the-variants.{NotOpen}
+use Rattle.record.specs.State.{ended, withTransaction}
+use Rattle.ranges.specs.Ranges.{admission}
+use Rattle.rules.specs.Machine.{Machine, lent}
+use Rattle.rules.specs.Calls.{call, passing, turnDown, abortTurn, admitted}
+use Rattle.refusing.proofs.Turns.{LetThrough, sharedWith, gate-refused, gate-passed, gate-let-through, admission-open, admitted-closed, passing-on, turned-meets, reset-meets}
 use Rattle.lifecycle.proofs.abort_call.abort.Statement.{statement}
 use Rattle.lifecycle.proofs.abort_call.abort.Tie as tie
 
 -- What the caller lent.
 abbrev machine : tie.Start → Machine
-machine c = lent (c .args .t1) (c .args .files .now) (c .args .logs .now) (c .args .marks .now)
+machine c = lent (c .args .t1) (c .args .journal .now) (c .args .files .now) (c .args .logs .now) (c .args .marks .now)
 
--- The start of a call that the tests have let through.
+-- The start of a call that tests 1 to 3 have let through, and what they told.
 abbrev start-of : tie.After-enum-told → tie.Start
-start-of c = c .before .before .before .before .before .before .before .before .before .before .before .before .before
+start-of c = c .before .before .before .before .before .before
+
+passed : (c : tie.After-enum-told) → sharedWith (machine (start-of c)) (start-of c .args .t) 0 ≡ 0
+passed c = gate-passed _ (machine (start-of c)) (start-of c .args .t) (c .before .before .admit .ensures .0) (c .enum-told .given .1)
+
+let-through : (c : tie.After-enum-told) → LetThrough (machine (start-of c)) (start-of c .args .t)
+let-through c = gate-let-through _ (machine (start-of c)) (start-of c .args .t) (c .before .before .admit .ensures .0) (c .enum-told .given .1)
 
 admit-requires : tie.Need-admit-requires
 admit-requires c κs = search needs
@@ -31,46 +38,55 @@ turned-down-requires : tie.Need-turned-down-requires
 turned-down-requires c κs = search needs
 
 returns : tie.Need-returns
-unfolding call admitted turnDown
+unfolding call admitted admission
 returns c =
-    let start = c .before .before .before .before .before .before .before .before .before .before .before .before .before .before .before in
+    let start = c .before .before .before .before .before .before .before .before in
     let m = machine start in
-    let e = gate-refused _ _ (c .before .before .before .before .admit .ensures) _ [] m (abortTurn (start .args .t) m) (c .before .before .g .given .1) in
-    turned-meets _ _ [] m _ e (c .turned-down .ensures .0) (c .turned-down .ensures .1)
+    let e = gate-refused _ m (start .args .t) (c .before .before .before .before .admit .ensures .0) _ (c .before .before .g .given .0 .0) [] (abortTurn (start .args .t) m) (c .before .before .g .given .1) in
+    turned-meets _ (c .before .before .g .given .0 .0) [] m _ e (c .turned-down .ensures .0) (c .turned-down .ensures .1)
 
 enum-told : tie.Need-enum-told
 enum-told c = search needs
 
--- What the tests let through.
-let-through : (c : tie.After-enum-told) → LetThrough (machine (start-of c)) (start-of c .args .t) true
-let-through c = admitted-on _ _ _ _ _ (gate-passed _ _ (c .before .before .admit .ensures) (c .enum-told .given .1))
+mul-x : tie.Need-mul-x
+mul-x c = omega (arith, let-through c .small)
 
-cast-unmark-all : tie.Need-cast-unmark-all
-cast-unmark-all c = omega (arith, let-through (c .before) .small)
+element-copy-out-x : tie.Need-element-copy-out-x
+element-copy-out-x c = let-through c .small
 
-unmark-all-requires : tie.Need-unmark-all-requires
-unmark-all-requires c κs = omega (arith, let-through (c .before) .small)
+turned-down-requires-2 : tie.Need-turned-down-requires-2
+turned-down-requires-2 c κs = search needs
+
+returns-2 : tie.Need-returns-2
+unfolding call
+returns-2 c =
+    let start = start-of (c .before .before .before .before) in
+    let m = machine start in
+    let e = admitted-closed m (start .args .t) (passed (c .before .before .before .before)) (not-true _ (c .before .if1 .taken)) [] (abortTurn (start .args .t) m) in
+    turned-meets _ NotOpen [] m _ e (c .turned-down2 .ensures .0) (c .turned-down2 .ensures .1)
+
+unmark-requires : tie.Need-unmark-requires
+unmark-requires c κs = let-through (c .before .before .before .before) .small
 
 ended-requires : tie.Need-ended-requires
 ended-requires c κs = search needs
 
-mul-t15 : tie.Need-mul-t15
-mul-t15 c = omega (arith, let-through (c .before .before .before .before .before) .small)
+mul-t13 : tie.Need-mul-t13
+mul-t13 c = omega (arith, let-through (c .before .before .before .before .before .before .before .before) .small)
 
 element-set-from-s : tie.Need-element-set-from-s
-element-set-from-s c = let-through (c .before .before .before .before .before) .small
+element-set-from-s c = let-through (c .before .before .before .before .before .before .before .before) .small
 
 same-length : tie.Need-same-length
 same-length c = search needs
 
-returns-2 : tie.Need-returns-2
-unfolding call admitted abortTurn withTransaction
-returns-2 c =
-    let told = c .before .before .before .before .before in
-    let start = start-of told in
+returns-3 : tie.Need-returns-3
+unfolding call abortTurn admitted withTransaction
+returns-3 c =
+    let start = start-of (c .before .before .before .before .before .before .before .before) in
     let m = machine start in
-    let e = passing-on _ [] m (abortTurn (start .args .t) m) (gate-passed _ _ (told .before .before .admit .ensures) (told .enum-told .given .1)) in
-    rw (c .ended .ensures) (reset-meets (start .args .t) ended m _ e _ _ refl (c .before .before .before .unmark-all .ensures))
+    let e = passing-on _ [] m (abortTurn (start .args .t) m) (admission-open m (start .args .t) (passed (c .before .before .before .before .before .before .before .before)) (not-false _ (c .before .before .before .before .before .if1 .left))) in
+    rw (c .ended .ensures) (reset-meets (start .args .t) ended m _ e _ _ refl (c .before .before .before .unmark .ensures))
 
 pub abort-spec : {M : Type 1} → statement M
 abort-spec =
@@ -81,10 +97,13 @@ abort-spec =
     turned-down-requires
     returns
     enum-told
-    cast-unmark-all
-    unmark-all-requires
+    mul-x
+    element-copy-out-x
+    turned-down-requires-2
+    returns-2
+    unmark-requires
     ended-requires
-    mul-t15
+    mul-t13
     element-set-from-s
     same-length
-    returns-2)
+    returns-3)

@@ -1,37 +1,57 @@
--- `store::get_file_pointer` meets its contract.
-use borrow.Author.Needs.{needs}
-use native.Mathlib.Omega.{arith}
-use mathlib.Core.Bool.{Bool, true}
+-- `looking::get_file_pointer` meets its contract.
+use mathlib.Core.Bool.{Bool}
 use mathlib.Core.List.{List, []}
-use mathlib.Core.Path.{_≡_, ap, ap₂, _∙_}
-use lib.ListN.{length}
+use mathlib.Core.Path.{_≡_, sym, ap, ap₂, _∙_}
+use borrow.Author.Needs.{needs}
+use borrow.Author.Tests.{not-true, not-false}
+use native.Mathlib.Omega.{arith}
 use Prim.Native.Nat.{ℕ, _<_}
-use Rattle.record.specs.Journal.{transaction}
-use Rattle.record.specs.Paper.{number}
-use Rattle.record.specs.declared.Refusal.the-variants.{NoSuchDescriptor, SettledPastEnd}
+use Rattle.standings.specs.Table.{pointerSettles, offsetOf}
+use Rattle.record.specs.State.{transaction, withTransaction}
+use Rattle.record.specs.declared.outcomes.Refusal.the-variants.{NotOpen, NoSuchDescriptor, SettledPastEnd}
 use Rattle.ranges.specs.Ranges.{admission}
-use Rattle.ranges.proofs.Laws.{in-range, admitted as admitted-on}
+use Rattle.ranges.proofs.Laws.{in-range}
 use Rattle.rules.specs.Steps.{Op, bufferOf}
-use Rattle.rules.specs.Machine.{Machine}
+use Rattle.rules.specs.Machine.{Machine, lent, sizes}
 use Rattle.rules.specs.Calls.{call, admitted, stepTurn}
-use Rattle.encoding.proofs.Owned.{shaped}
-use Rattle.encoding.proofs.Decoded.{Opened, opened}
-use Rattle.descriptors.specs.Settling.{chosenByPointer, settlingOf}
-use Rattle.descriptors.proofs.Choices.{verdict-past, verdict-settled, transaction-settled}
-use Rattle.journal.specs.Places.{placedHolders, placedPlaces}
-use Rattle.settling.proofs.Settled.{low-holder, low-place}
-use Rattle.rules.specs.Promises.{lent}
-use Rattle.turns.proofs.Turns.{LetThrough, gate-refused, gate-passed, turned-meets}
-use Rattle.looking.proofs.PointerRules.{pointer-no-descriptor, pointer-past, pointer-meets}
+use Rattle.laws.proofs.Owned.{shaped}
+use Rattle.laws.proofs.Decoded.{Opened, opened}
+use Rattle.settling.specs.Choices.{chosenByPointer, settlingOf}
+use Rattle.settling.specs.Records.{placedRecords}
+use Rattle.settling.proofs.ChoiceLaws.{verdict-past, verdict-settled, transaction-settled}
+use Rattle.settling.proofs.Settled.{placeable}
+use Rattle.refusing.proofs.Turns.{LetThrough, sharedWith, gate-refused, gate-passed, gate-let-through, admission-open, admitted-closed, turned-meets}
+use Rattle.looking.proofs.PointerRules.{pointer-no-descriptor, pointer-stays, pointer-past, pointer-meets}
 use Rattle.looking.proofs.pointer_call.get_file_pointer.Statement.{statement}
 use Rattle.looking.proofs.pointer_call.get_file_pointer.Tie as tie
 
 -- What the caller lent.
 abbrev machine : tie.Start → Machine
-machine c = lent (c .args .t1) (c .args .files .now) (c .args .logs .now) (c .args .marks .now)
+machine c = lent (c .args .t1) (c .args .journal .now) (c .args .files .now) (c .args .logs .now) (c .args .marks .now)
 
-abbrev start-of : tie.After-admit → tie.Start
-start-of c = c .before .before .before .before .before .before .before .before .before .before .before
+-- The start of a call that tests 1 to 3 have let through, and what they told.
+abbrev start-of : tie.After-enum-told → tie.Start
+start-of c = c .before .before .before .before .before .before .before
+
+passed : (c : tie.After-enum-told) → sharedWith (machine (start-of c)) (start-of c .args .t) 0 ≡ 0
+passed c = gate-passed _ (machine (start-of c)) (start-of c .args .t) (c .before .before .admit .ensures .0) (c .enum-told .given .1)
+
+let-through : (c : tie.After-enum-told) → LetThrough (machine (start-of c)) (start-of c .args .t)
+let-through c = gate-let-through _ (machine (start-of c)) (start-of c .args .t) (c .before .before .admit .ensures .0) (c .enum-told .given .1)
+
+-- The transaction is open.
+abbrev told-of : tie.Else1 → tie.After-enum-told
+told-of c = c .before .before .before
+
+abbrev first : tie.Else1 → tie.Start
+first c = start-of (told-of c)
+
+admits : (c : tie.Else1) → let m = machine (first c) in admission (sizes m) (m .store) (m .journal) (first c .args .t) ≡ 0
+admits c = admission-open (machine (first c)) (first c .args .t) (passed (told-of c)) (not-false _ (c .if1 .left))
+
+is-open : (c : tie.Else1) → let a = first c .args in Opened (a .t1) (a .journal .now) (a .logs .now) (a .t)
+is-open c =
+    opened (machine (first c)) (first c .args .t) (shaped _ _ (first c .good .0)) (told-of c .before .before .admit .ensures .1) (let-through (told-of c)) (not-false _ (c .if1 .left))
 
 admit-requires : tie.Need-admit-requires
 admit-requires c κs = search needs
@@ -43,55 +63,71 @@ turned-down-requires : tie.Need-turned-down-requires
 turned-down-requires c κs = search needs
 
 returns : tie.Need-returns
-unfolding call admitted bufferOf
+unfolding call admitted admission bufferOf
 returns c =
     let gate = c .before .before .before .before in
-    let start = start-of gate in
+    let start = gate .before .before .before .before .before in
     let m = machine start in
     let o = Op.getFilePointer (start .args .d) in
-    let e = gate-refused _ _ (gate .admit .ensures) _ (bufferOf o) m (stepTurn (start .args .t) o m) (c .before .before .g .given .1) in
+    let e = gate-refused _ m (start .args .t) (gate .admit .ensures .0) _ _ (bufferOf o) (stepTurn (start .args .t) o m) (c .before .before .g .given .1) in
     turned-meets _ _ (bufferOf o) m _ e (c .turned-down .ensures .0) (c .turned-down .ensures .1)
 
 enum-told : tie.Need-enum-told
 enum-told c = search needs
 
--- What the tests let through.
-abbrev first : tie.After-enum-told → tie.Start
-first c = start-of (c .before .before)
+mul-x : tie.Need-mul-x
+mul-x c = omega (arith, let-through c .small)
 
-passed : (c : tie.After-enum-told) → let m = machine (first c) in
-    admission (length (m .files)) (length (m .logs)) (length (m .marks)) (m .store) (first c .args .t) ≡ 0
-passed c = gate-passed _ _ (c .before .before .admit .ensures) (c .enum-told .given .1)
-
-let-through : (c : tie.After-enum-told) → LetThrough (machine (first c)) (first c .args .t) true
-let-through c = admitted-on _ _ _ _ _ (passed c)
-
-is-open : (c : tie.After-enum-told) → Opened (first c .args .t1) (first c .args .logs .now) (first c .args .t)
-is-open c = opened _ _ _ _ _ (shaped _ _ (first c .good .0)) (let-through c)
+element-copy-out-x : tie.Need-element-copy-out-x
+element-copy-out-x c = let-through c .small
 
 turned-down-requires-2 : tie.Need-turned-down-requires-2
 turned-down-requires-2 c κs = search needs
 
 returns-2 : tie.Need-returns-2
-unfolding number
+unfolding call bufferOf
 returns-2 c =
-    let told = c .before .before in
-    let start = first told in
+    let told = c .before .before .before .before in
+    let start = start-of told in
     let m = machine start in
-    let e = pointer-no-descriptor (start .args .t) (start .args .d) m (passed told) (c .before .if1 .taken) in
-    turned-meets _ NoSuchDescriptor [] m _ e (c .turned-down2 .ensures .0) (c .turned-down2 .ensures .1)
+    let e = admitted-closed m (start .args .t) (passed told) (not-true _ (c .before .if1 .taken)) [] (stepTurn (start .args .t) (Op.getFilePointer (start .args .d)) m) in
+    turned-meets _ NotOpen [] m _ e (c .turned-down2 .ensures .0) (c .turned-down2 .ensures .1)
 
-mul-x : tie.Need-mul-x
-mul-x c = omega (arith, let-through (c .before) .small)
+turned-down-requires-3 : tie.Need-turned-down-requires-3
+turned-down-requires-3 c κs = search needs
 
-element-copy-out-x : tie.Need-element-copy-out-x
-element-copy-out-x c = let-through (c .before) .small
+returns-3 : tie.Need-returns-3
+returns-3 c =
+    let begun = c .before .before in
+    let start = first begun in
+    let e = pointer-no-descriptor (start .args .t) (start .args .d) (machine start) (admits begun) (c .before .if2 .taken) in
+    turned-meets _ NoSuchDescriptor [] (machine start) _ e (c .turned-down3 .ensures .0) (c .turned-down3 .ensures .1)
+
+standing-at-requires : tie.Need-standing-at-requires
+standing-at-requires c κs = search needs
+
+pointer-settles-requires : tie.Need-pointer-settles-requires
+pointer-settles-requires c κs = search needs
+
+offset-requires : tie.Need-offset-requires
+offset-requires c κs = search needs
+
+returns-4 : tie.Need-returns-4
+returns-4 c =
+    let low = c .before .before .before .before in
+    let start = first (low .before) in
+    let stood = c .before .before .before .standing-at .ensures in
+    rw (c .offset .ensures ∙ ap offsetOf stood)
+    (pointer-stays (start .args .t) (start .args .d) (machine start) (admits (low .before)) (is-open (low .before)) (low .if2 .left)
+    (sym (c .before .before .pointer-settles .ensures ∙ ap pointerSettles stood) ∙ not-true _ (c .before .if3 .taken)))
 
 chosen-by-pointer-requires : tie.Need-chosen-by-pointer-requires
 chosen-by-pointer-requires c κs = search needs
 
 settle-requires : tie.Need-settle-requires
-settle-requires c κs = in-range _ (let-through (c .before .before .before .before .before) .ranges) .offsets
+settle-requires c κs =
+    let told = told-of (c .before .before .before .before .before .before .before) in
+    in-range _ _ (let-through told .ranges) .offsets
 
 enum-told-2 : tie.Need-enum-told-2
 enum-told-2 c = search needs
@@ -99,90 +135,72 @@ enum-told-2 c = search needs
 enum-told-3 : tie.Need-enum-told-3
 enum-told-3 c = search needs
 
-turned-down-requires-3 : tie.Need-turned-down-requires-3
-turned-down-requires-3 c κs = search needs
+turned-down-requires-4 : tie.Need-turned-down-requires-4
+turned-down-requires-4 c κs = search needs
 
 -- What settling answers.
-abbrev low-of : tie.After-settle → tie.Else1
-low-of c = c .before .before .before .before .before
+abbrev low-of : tie.After-settle → tie.Else2
+low-of c = c .before .before .before .before .before .before .before
 
-abbrev told-of : tie.After-settle → tie.After-enum-told
-told-of c = low-of c .before
+abbrev begun-of : tie.After-settle → tie.Else1
+begun-of c = low-of c .before
 
-settles : (c : tie.After-settle) → let a = first (told-of c) .args in
-    c .settle .result ≡ settlingOf (chosenByPointer (transaction (a .t1) (a .t)) (a .d)) (a .t1 .offsets) (transaction (a .t1) (a .t))
+settles : (c : tie.After-settle) → let a = first (begun-of c) .args in let x = transaction (a .t1) (a .t) in
+    c .settle .result ≡ settlingOf (chosenByPointer x (a .d)) (a .t1 .offsets) x
 settles c =
-    let a = first (told-of c) .args in
+    let a = first (begun-of c) .args in
     c .settle .ensures ∙ ap (λ (l : List Bool). settlingOf l (a .t1 .offsets) (transaction (a .t1) (a .t))) (c .before .before .before .chosen-by-pointer .ensures)
 
-returns-3 : tie.Need-returns-3
-unfolding number
-returns-3 c =
+returns-5 : tie.Need-returns-5
+returns-5 c =
     let settle = c .before .before .before in
-    let told = told-of settle in
-    let start = first told in
-    let m = machine start in
+    let begun = begun-of settle in
+    let start = first begun in
     let past = verdict-past _ _ _ _ (settles settle) (c .before .enum-told3 .given .1) in
-    let e = pointer-past (start .args .t) (start .args .d) m (passed told) (low-of settle .if1 .left) past in
-    turned-meets _ SettledPastEnd [] m _ e (c .turned-down3 .ensures .0) (c .turned-down3 .ensures .1)
+    let e = pointer-past (start .args .t) (start .args .d) (machine start) (admits begun) (low-of settle .if2 .left) past in
+    turned-meets _ SettledPastEnd [] (machine start) _ e (c .turned-down4 .ensures .0) (c .turned-down4 .ensures .1)
 
 wide-octet-requires : tie.Need-wide-octet-requires
 wide-octet-requires c κs = search needs
 
--- The write records, counted.
-abbrev settle-of : tie.After-wide-octet → tie.After-settle
-settle-of c = c .before .before .before .before
+place-records-requires : tie.Need-place-records-requires
+place-records-requires c κs =
+    let count = c .before .before in
+    let begun = begun-of (count .before .before .before .before .before) in
+    placeable _ _ _ _ (is-open begun) _ (count .wide-octet .ensures .0) (in-range _ _ (let-through (told-of begun) .ranges) .offsets)
 
-settle-places-requires : tie.Need-settle-places-requires
-settle-places-requires c κs =
-    let counted = c .before .before .before .before .before in
-    let told = told-of (settle-of counted) in
-    let o = is-open told in
-    let e = counted .wide-octet .ensures .0 in
-    (o .small, rw e (o .ranges .records), o .shape .places, λ k h. let l : k < _ = rw e at h in (low-holder _ _ _ o k l, low-place _ _ _ o k l), in-range _ (let-through told .ranges) .offsets)
+-- The write records, placed.
+abbrev settle-of : tie.After-place-records → tie.After-settle
+settle-of c = c .before .before .before .before .before .before .before .before
 
-settle-holders-requires : tie.Need-settle-holders-requires
-settle-holders-requires c κs =
-    let counted = c .before .before .before .before .before .before .before in
-    let o = is-open (told-of (settle-of counted)) in
-    let e = counted .wide-octet .ensures .0 in
-    (o .small, rw e (o .ranges .records), o .shape .holders, λ k h. low-holder _ _ _ o k (rw e at h))
+small : (c : tie.After-place-records) → first (begun-of (settle-of c)) .args .t < 8
+small c = let-through (told-of (begun-of (settle-of c))) .small
 
-abbrev counted-of : tie.After-settle-holders → tie.After-wide-octet
-counted-of c = c .before .before .before .before .before .before .before .before
+mul-y : tie.Need-mul-y
+mul-y c = omega (arith, small c)
 
-mul-t27 : tie.Need-mul-t27
-mul-t27 c = omega (arith, let-through (told-of (settle-of (counted-of c))) .small)
+element-set-from-y : tie.Need-element-set-from-y
+element-set-from-y c = small c
 
-element-set-from-s : tie.Need-element-set-from-s
-element-set-from-s c = let-through (told-of (settle-of (counted-of c))) .small
+standing-at-requires-2 : tie.Need-standing-at-requires-2
+standing-at-requires-2 c κs = search needs
 
-mul-q : tie.Need-mul-q
-mul-q c = search needs
+offset-requires-2 : tie.Need-offset-requires-2
+offset-requires-2 c κs = search needs
 
-element-copy-out-q : tie.Need-element-copy-out-q
-element-copy-out-q c = search needs
-
-offset-of-requires : tie.Need-offset-of-requires
-offset-of-requires c κs = search needs
-
-returns-4 : tie.Need-returns-4
-returns-4 c =
+returns-6 : tie.Need-returns-6
+unfolding withTransaction
+returns-6 c =
     let placed = c .before .before in
-    let counted = counted-of placed in
-    let settle = settle-of counted in
-    let told = told-of settle in
-    let start = first told in
-    let m = machine start in
-    let v = counted .before .before .enum-told2 .given .1 in
-    let n = counted .wide-octet .ensures .0 in
-    let e = settle .before .before .before .chosen-by-pointer .ensures in
-    pointer-meets (start .args .t) (start .args .d) m (passed told) (is-open told) (low-of settle .if1 .left)
-    (verdict-settled _ _ _ _ (settles settle) v)
-    (c .offset-of .result) (settle .settle .result .transaction) _ _
-    (c .offset-of .ensures) (transaction-settled _ _ _ _ (settles settle) v)
-    (placed .settle-holders .ensures ∙ ap₂ (λ (l : List Bool) (k : ℕ). placedHolders l (m .store .holders) (start .args .t) k) e n)
-    (placed .before .before .settle-places .ensures ∙ ap₂ (λ (l : List Bool) (k : ℕ). placedPlaces l (m .store .offsets) (m .store .holders) (m .store .places) (start .args .t) k) e n)
+    let settle = settle-of placed in
+    let begun = begun-of settle in
+    let a = first begun .args in
+    let m = machine (first begun) in
+    let v = placed .before .before .before .before .before .before .enum-told2 .given .1 in
+    pointer-meets (a .t) (a .d) m (admits begun) (is-open begun) (low-of settle .if2 .left) (verdict-settled _ _ _ _ (settles settle) v)
+    _ (settle .settle .result .transaction) _ (c .offset2 .ensures ∙ ap offsetOf (c .before .standing-at2 .ensures)) (transaction-settled _ _ _ _ (settles settle) v)
+    (placed .place-records .ensures
+    ∙ ap₂ (λ (l : List Bool) (k : ℕ). placedRecords l (a .t1 .offsets) (a .journal .now) (a .t) k) (settle .before .before .before .chosen-by-pointer .ensures) (placed .before .before .before .wide-octet .ensures .0))
 
 pub get-file-pointer-spec : {M : Type 1} → statement M
 get-file-pointer-spec =
@@ -193,22 +211,26 @@ get-file-pointer-spec =
     turned-down-requires
     returns
     enum-told
-    turned-down-requires-2
-    returns-2
     mul-x
     element-copy-out-x
+    turned-down-requires-2
+    returns-2
+    turned-down-requires-3
+    returns-3
+    standing-at-requires
+    pointer-settles-requires
+    offset-requires
+    returns-4
     chosen-by-pointer-requires
     settle-requires
     enum-told-2
     enum-told-3
-    turned-down-requires-3
-    returns-3
+    turned-down-requires-4
+    returns-5
     wide-octet-requires
-    settle-places-requires
-    settle-holders-requires
-    mul-t27
-    element-set-from-s
-    mul-q
-    element-copy-out-q
-    offset-of-requires
-    returns-4)
+    place-records-requires
+    mul-y
+    element-set-from-y
+    standing-at-requires-2
+    offset-requires-2
+    returns-6)

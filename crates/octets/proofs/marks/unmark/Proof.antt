@@ -1,87 +1,72 @@
--- `octets::marks::unmark` meets its contract. The loop's invariant: the first i marks of the stretch are changed. Assumes nothing.
-use mathlib.Core.Path.{_≡_, sym, ap, ap₂, _∙_}
-use mathlib.Core.List.{List}
-use Prim.Native.Nat.{ℕ, _+_, _-_, _≤_, _<_}
+-- `octets::marks::unmark` meets its contract. The loop's invariant: the marks before `from` are changed. Assumes nothing.
+use mathlib.Core.Path.{_≡_, sym, ap, _∙_}
+use Prim.Native.Nat.{ℕ, _-_, _≤_}
 use native.Mathlib.Omega.{arith}
-use lib.Bits.{bitAnd}
-use lib.ListN.{length, getD, set, length-set}
-use Rattle.octets.specs.Bits.{bit, withoutBit, changed}
-use Rattle.octets.proofs.BitLaws.{shift-one, changed-none, changed-more, stretch-same}
+use lib.ListN.{length}
+use Rattle.octets.specs.Bits.{withoutBit, changed}
+use Rattle.octets.specs.Marks.{withoutMarks}
+use Rattle.octets.proofs.BitLaws.{changed-none, changed-next, changed-all}
 use Rattle.octets.proofs.marks.unmark.Statement.{statement}
 use Rattle.octets.proofs.marks.unmark.Tie as tie
 
 abbrev Inv-loop : tie.InvT-loop
-Inv-loop marks₀ from n t mask i₀ marks i =
-    (i ≤ n) × ((marks ≡ changed (withoutBit t) from i marks₀) × (length marks ≡ length marks₀))
+Inv-loop marks₀ t from₀ marks from =
+    (from ≤ length marks₀) × ((marks ≡ changed (withoutBit t) 0 from marks₀) × (length marks ≡ length marks₀))
 
 abbrev μ-loop : tie.MeasureT-loop
-μ-loop marks₀ from n t mask i₀ marks i = n - i
-
-union-requires : tie.Need-union-requires Inv-loop μ-loop
-union-requires c κs = omega arith
-
-shr-if1 : tie.Need-shr-if1 Inv-loop μ-loop
-shr-if1 c = omega arith
-
-same-length : tie.Need-same-length Inv-loop μ-loop
-same-length c = omega arith
-
-returns : tie.Need-returns Inv-loop μ-loop
-unfolding bit
-returns c =
-    let a = c .before .before .before .before .args in
-    let fits : a .from + a .n ≤ length (a .marks .now) = omega arith in
-    let octets : (i : ℕ) → getD (a .marks .now) i 0 < 256 = λ i. omega (arith, c .before .before .before .slice-known .given i) in
-    sym (stretch-same (a .t) (a .marks .now) (a .from) (a .n) (omega arith) fits octets
-    (ap (bit (a .t)) (sym (c .before .union .ensures)) ∙ c .if1 .taken))
-
-shl-mask : tie.Need-shl-mask Inv-loop μ-loop
-shl-mask c = omega arith
+μ-loop marks₀ t from₀ marks from = length marks₀ - from
 
 loop-holds : tie.Need-loop-holds Inv-loop μ-loop
 loop-holds c =
-    let a = c .before .before .before .before .args in
-    (omega arith, (sym (changed-none (withoutBit (a .t)) (a .from) (a .marks .now)), omega arith))
+    let a = c .before .args in
+    (omega arith, (sym (changed-none (withoutBit (a .t)) 0 (a .marks .now)), omega arith))
 
-add-marks : tie.Need-add-marks Inv-loop μ-loop
-add-marks c = omega arith
+sub-loop : tie.Need-sub-loop Inv-loop μ-loop
+sub-loop c = omega arith
 
-slice-read-marks : tie.Need-slice-read-marks Inv-loop μ-loop
-slice-read-marks c = omega arith
+unmark-part-requires : tie.Need-unmark-part-requires Inv-loop μ-loop
+unmark-part-requires c κs = omega arith
 
-add-marks-2 : tie.Need-add-marks-2 Inv-loop μ-loop
-add-marks-2 c = omega arith
-
-slice-write-marks : tie.Need-slice-write-marks Inv-loop μ-loop
-slice-write-marks c = omega arith
-
-add-i : tie.Need-add-i Inv-loop μ-loop
-add-i c = omega arith
+add-from : tie.Need-add-from Inv-loop μ-loop
+add-from c = omega arith
 
 loop-less : tie.Need-loop-less Inv-loop μ-loop
 loop-less c = omega arith
 
 loop-again : tie.Need-loop-again Inv-loop μ-loop
-unfolding withoutBit
 loop-again c =
-    let l = c .before .before .loop in
+    let l = c .before .before .before .before .before .loop in
     let a = c .before .before .before .before .before .before .before .args in
-    let j = a .from + l .i in (
+    let f = withoutBit (a .t) in (
       omega arith,
       (
-        ap₂ (λ (d : List ℕ) (m : ℕ). set d j (bitAnd (getD d j 0) (255 - m))) (l .inv .1 .0) (shift-one (a .t) (omega arith))
-            ∙ changed-more (withoutBit (a .t)) (a .from) (l .i) (a .marks .now) (omega arith),
-        simp length-set (omega arith),
+        c .before .before .unmark-part .ensures ∙ ap (changed f (l .from) 512) (l .inv .1 .0)
+            ∙ changed-next f (l .from) 512 (a .marks .now),
+        omega arith,
       ),
     )
 
-same-length-2 : tie.Need-same-length-2 Inv-loop μ-loop
-same-length-2 c = omega arith
+sub-unmark-part : tie.Need-sub-unmark-part Inv-loop μ-loop
+sub-unmark-part c = omega arith
 
-returns-2 : tie.Need-returns-2 Inv-loop μ-loop
-returns-2 c =
-    let a = c .before .before .before .before .before .before .args in
-    c .before .loop .inv .1 .0 ∙ ap (λ (k : ℕ). changed (withoutBit (a .t)) (a .from) k (a .marks .now)) (omega arith)
+unmark-part-requires-2 : tie.Need-unmark-part-requires-2 Inv-loop μ-loop
+unmark-part-requires-2 c κs = omega arith
+
+same-length : tie.Need-same-length Inv-loop μ-loop
+same-length c = omega arith
+
+returns : tie.Need-returns Inv-loop μ-loop
+unfolding withoutMarks
+returns c =
+    let l = c .before .before .before .before .before .loop in
+    let a = c .before .before .before .before .before .before .before .args in
+    let f = withoutBit (a .t) in
+    let xs = a .marks .now in
+    let n = length (l .marks) - l .from in
+    c .before .before .unmark-part2 .ensures ∙ ap (changed f (l .from) n) (l .inv .1 .0)
+    ∙ changed-next f (l .from) n xs
+    ∙ ap (λ (k : ℕ). changed f 0 k xs) (omega arith)
+    ∙ changed-all f xs
 
 pub unmark-spec : {M : Type 1} → statement M
 unmark-spec =
@@ -89,18 +74,13 @@ unmark-spec =
     (tie.spec
     Inv-loop
     μ-loop
-    union-requires
-    shr-if1
-    same-length
-    returns
-    shl-mask
     loop-holds
-    add-marks
-    slice-read-marks
-    add-marks-2
-    slice-write-marks
-    add-i
+    sub-loop
+    unmark-part-requires
+    add-from
     loop-less
     loop-again
-    same-length-2
-    returns-2)
+    sub-unmark-part
+    unmark-part-requires-2
+    same-length
+    returns)

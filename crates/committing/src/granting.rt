@@ -1,0 +1,62 @@
+// A commit that is granted.
+use landing::landed;
+use landing::staled;
+use octets::marks::unmark;
+use record::Store;
+use record::journal::NUMBERS;
+use record::outcomes::Answer;
+use record::outcomes::Outcome;
+ghost use mathlib.Core.Bool.{true, false};
+ghost use mathlib.Core.List.{[]};
+ghost use mathlib.Core.Path.{_≡_};
+ghost use lib.ListN.{length};
+ghost use Rattle.record.specs.State.{transaction};
+ghost use Rattle.ranges.specs.Ranges.{sized};
+ghost use Rattle.rules.specs.Commits.{fits};
+ghost use Rattle.rules.specs.Machine.{lent};
+ghost use Rattle.rules.specs.Calls.{commitTurn};
+ghost use Rattle.rules.specs.Promises.{Meets};
+ghost use Rattle.landing.specs.Landing.{offsetsOnly, standingsOnly, CanLand};
+
+// Grants the commit of transaction t, which is not stale and whose placing fits: lands its writes in call order, sets its offsets and
+// ends it. Every other open transaction that has sighted a byte or offset just set is stale from then on.
+pub fn grant(
+    mut s: Store,
+    journal: &[u16; NUMBERS],
+    files: &mut [u8],
+    logs: &[u8],
+    marks: &mut [u8],
+    t: usize,
+) -> Answer
+    requires { ⌜ CanLand (s .filenumbers) (s .offsets) (now journal) (sized (length (now files)) (length (now logs)) (length (now marks))) t (transaction s t .used .records) × (fits (offsetsOnly (s .offsets)) (standingsOnly (transaction s t)) ≡ true) × (transaction s t .stale ≡ false) ⌝ }
+    ensures { λ r. ⌜ Meets (commitTurn t (lent s (now (journal .entry)) (now (files .entry)) (now (logs .entry)) (now (marks .entry)))) (r .outcome) (lent (r .store) (now (journal .exit)) (now (files .exit)) (now (logs .exit)) (now (marks .exit))) [] ⌝ }
+{
+    let x = s.transactions[t];
+    let used = x.used;
+    let seen = landed::land_writes(
+        files,
+        logs,
+        marks,
+        journal,
+        &s.filenumbers,
+        &s.offsets,
+        t,
+        used,
+    );
+    let offsets = s.offsets;
+    s.offsets = landed::offsets_after(x, offsets);
+    unmark(marks, t);
+    let mut count = 0u8;
+    let mut u = 0;
+    while u < 8 {
+        let y = s.transactions[u];
+        let h = staled::is_hit(x, t, seen, u, y);
+        s.transactions[u] = staled::after_commit(u == t, h, y);
+        count += staled::newly_stale(h, y);
+        u += 1;
+    }
+    Answer {
+        store: s,
+        outcome: Outcome::Staled(count),
+    }
+}

@@ -1,0 +1,26 @@
+-- A refusal's number is at most 14.
+use mathlib.Core.Path.{_≡_}
+use Prim.Native.Nat.{ℕ, _≤_}
+use native.Mathlib.Omega.{arith}
+use Rattle.record.specs.Paper.{number}
+use Rattle.record.specs.declared.outcomes.Refusal.{Refusal}
+use Rattle.record.specs.declared.outcomes.Refusal.the-variants.{BufferLength, RecordRange, NoSuchTransaction, NotOpen, AlreadyOpen, NoSuchDescriptor, ReaderTooShort, SeekPastEnd, WritePastEnd, RecordsFull, LogFull, SettledPastEnd, Stale, NoSuchFile}
+
+pub number-bound : (r : Refusal) → number r ≤ 14
+number-bound BufferLength = omega arith
+number-bound RecordRange = omega arith
+number-bound NoSuchTransaction = omega arith
+number-bound NotOpen = omega arith
+number-bound AlreadyOpen = omega arith
+number-bound NoSuchDescriptor = omega arith
+number-bound ReaderTooShort = omega arith
+number-bound SeekPastEnd = omega arith
+number-bound WritePastEnd = omega arith
+number-bound RecordsFull = omega arith
+number-bound LogFull = omega arith
+number-bound SettledPastEnd = omega arith
+number-bound Stale = omega arith
+number-bound NoSuchFile = omega arith
+
+pub bounded : (r : Refusal) (n : ℕ) → n ≡ number r → n ≤ 14
+bounded r n e = omega (arith, e, number-bound r)

@@ -1,0 +1,511 @@
+// A fixed stream of calls with good and bad numbers, by the recurrence x' = 48271 x mod 2147483647. Call i (from 0) draws twelve
+// numbers, whatever its kind; they, the phase (i div 256) and a guess at which transactions are open give all about the call.
+ghost use Prim.Native.Nat.{_≤_, _<_};
+
+// The modes. Mode 1, crowded, differs by the tables alone.
+const MIXED: usize = 0;
+
+const MANY_RECORDS: usize = 2;
+
+const LONG_WRITES: usize = 3;
+
+const NEAR_END: usize = 4;
+
+const LONG_READS: usize = 5;
+
+// The kinds of calls.
+pub const FRESH: usize = 0;
+
+pub const BEGIN: usize = 1;
+
+pub const SEEK: usize = 2;
+
+pub const WRITE: usize = 3;
+
+pub const GET_FILE_POINTER: usize = 4;
+
+pub const READ: usize = 5;
+
+pub const COMMIT: usize = 6;
+
+pub const ABORT: usize = 7;
+
+// How many of 1,000 calls are of each kind, eight numbers a mode: mixed, crowded, many records, long writes, near the end, long reads.
+const WEIGHTS: [usize; 48] = [
+    4,
+    20,
+    230,
+    270,
+    90,
+    236,
+    105,
+    45,
+    4,
+    20,
+    180,
+    230,
+    140,
+    210,
+    170,
+    46,
+    4,
+    10,
+    60,
+    840,
+    10,
+    56,
+    12,
+    8,
+    4,
+    20,
+    230,
+    460,
+    30,
+    106,
+    95,
+    55,
+    4,
+    20,
+    230,
+    280,
+    90,
+    170,
+    156,
+    50,
+    4,
+    20,
+    220,
+    260,
+    70,
+    280,
+    105,
+    41,
+];
+
+// What is wrong with the buffers or the record lent to a call; short and forgery are 0 where nothing is.
+pub struct Damage {
+    // 1, 2, 3: of the files, logs, marks only the first length bytes are lent.
+    pub short: usize,
+    pub length: usize,
+    // 1 to 15: the call gets a record out of its ranges.
+    pub forgery: usize,
+    pub transaction: usize,
+    pub index: usize,
+    pub excess: usize,
+}
+
+// A call as numbers. A number that its kind doesn't use is there all the same.
+pub struct Request {
+    pub kind: usize,
+    pub transaction: usize,
+    pub descriptor: usize,
+    // Where a Seek goes, how many bytes a Write has or a Read wants.
+    pub number: usize,
+    // The length of the reader's buffer, 0 for a call that is no Read.
+    pub buffer: usize,
+    // The first byte of a Write, and what each byte has more than the one before.
+    pub first: u8,
+    pub step: u8,
+    // The file numbers of a Fresh are the first `listed` of these.
+    pub list: [u8; 17],
+    pub listed: usize,
+    pub damage: Damage,
+}
+
+// Twelve numbers, and the last one again.
+pub struct Drawn {
+    pub numbers: [usize; 12],
+    pub last: usize,
+}
+
+fn following(x: usize) -> usize
+    requires { ⌜ x < 2147483647 ⌝ }
+    ensures { λ r. ⌜ r < 2147483647 ⌝ }
+{
+    48271 * x % 2147483647
+}
+
+pub fn draw(x: usize) -> Drawn
+    requires { ⌜ x < 2147483647 ⌝ }
+    ensures { λ r. ⌜ r .last < 2147483647 ⌝ }
+{
+    let mut numbers = [0usize; 12];
+    let mut last = x;
+    let mut i = 0;
+    while i < 12 {
+        last = following(last);
+        numbers[i] = last;
+        i += 1;
+    }
+    Drawn { numbers, last }
+}
+
+// How many transaction numbers a mode mostly uses.
+fn transactions_used(mode: usize) -> usize
+    ensures { λ r. ⌜ (0 < r) × (r ≤ 8) ⌝ }
+{
+    match mode {
+        1 => 4,
+        2 => 2,
+        3 => 3,
+        4 => 6,
+        _ => 8,
+    }
+}
+
+// Through how many files of the usual arrangement a mode goes, each by two descriptors.
+fn files_used(mode: usize) -> usize
+    ensures { λ r. ⌜ (0 < r) × (r ≤ 8) ⌝ }
+{
+    match mode {
+        1 => 2,
+        4 => 3,
+        5 => 4,
+        _ => 8,
+    }
+}
+
+// One of the numbers below `used`.
+fn one_below(used: usize, value: usize) -> usize
+    requires { ⌜ (0 < used) × (used ≤ 8) ⌝ }
+    ensures { λ r. ⌜ r < 8 ⌝ }
+{
+    value % used
+}
+
+// Mostly one of a few that follow the phase, sometimes any of the eight, now and then 8 or 9.
+fn transaction(phase: usize, r: usize) -> usize
+    requires { ⌜ phase < 65536 ⌝ }
+{
+    let class = r % 40;
+    let value = r / 40;
+    if class == 0 {
+        return 8 + value % 2;
+    }
+    if class < 4 {
+        return value % 8;
+    }
+    let used = transactions_used(phase % 6);
+    (phase + one_below(used, value)) % 8
+}
+
+// One of the mode's descriptors, now and then 16 or 17.
+fn descriptor(mode: usize, r: usize) -> usize {
+    let class = r % 40;
+    let value = r / 40;
+    if class == 0 {
+        return 16 + value % 2;
+    }
+    let used = files_used(mode);
+    one_below(used, value) + 8 * (value / 64 % 2)
+}
+
+// The kind, by the weights of the mode.
+fn kind(mode: usize, r: usize) -> usize
+    requires { ⌜ mode < 6 ⌝ }
+{
+    let mut rest = r % 1000;
+    let mut k = FRESH;
+    while k < ABORT {
+        let weight = WEIGHTS[8 * mode + k];
+        if rest < weight {
+            return k;
+        }
+        rest -= weight;
+        k += 1;
+    }
+    ABORT
+}
+
+// A call on a transaction that is guessed closed is made a Begin, seven times out of eight.
+fn begun_first(kind: usize, t: usize, guess: [bool; 8], r: usize) -> usize {
+    if kind <= BEGIN {
+        return kind;
+    }
+    if 7 < t {
+        return kind;
+    }
+    if guess[t] {
+        return kind;
+    }
+    if r % 8 == 0 {
+        return kind;
+    }
+    BEGIN
+}
+
+// The transactions that are guessed open after the call.
+pub fn guess_after(guess: [bool; 8], q: Request) -> [bool; 8] {
+    let mut out = guess;
+    let t = q.transaction;
+    if 0 < q.damage.short {
+        return out;
+    }
+    if 0 < q.damage.forgery {
+        return out;
+    }
+    if 7 < t {
+        return out;
+    }
+    if q.kind == FRESH {
+        return [false; 8];
+    }
+    if q.kind == BEGIN {
+        out[t] = true;
+        return out;
+    }
+    if COMMIT <= q.kind {
+        out[t] = false;
+    }
+    out
+}
+
+fn seek_to(mode: usize, class: usize, value: usize) -> usize {
+    if mode == NEAR_END {
+        if class < 10 {
+            return 4084 + value % 14;
+        }
+    }
+    if class < 6 {
+        return value % 4;
+    }
+    if class < 11 {
+        return value % 64;
+    }
+    if class < 13 {
+        return value % 4096;
+    }
+    if class < 15 {
+        return 4088 + value % 14;
+    }
+    value % 65536
+}
+
+// The usual lengths of a Write.
+fn usual_length(class: usize, value: usize) -> usize {
+    if class < 3 {
+        return 0;
+    }
+    if class < 13 {
+        return value % 9;
+    }
+    if class < 15 {
+        return value % 200;
+    }
+    value % 4098
+}
+
+fn write_length(mode: usize, class: usize, value: usize) -> usize {
+    if mode == MANY_RECORDS {
+        if class < 10 {
+            return 0;
+        }
+        if class < 15 {
+            return value % 3;
+        }
+    }
+    if mode == LONG_WRITES {
+        if class < 12 {
+            return 200 + value % 1300;
+        }
+        if class < 14 {
+            return 3000 + value % 1098;
+        }
+    }
+    usual_length(class, value)
+}
+
+// The length of the reader's buffer.
+fn reader_length(mode: usize, class: usize) -> usize
+    ensures { λ r. ⌜ r ≤ 5000 ⌝ }
+{
+    if class == 12 {
+        return 64;
+    }
+    if class == 13 {
+        return 300;
+    }
+    if class == 15 {
+        if mode == LONG_READS {
+            return 5000;
+        }
+        return 0;
+    }
+    if class == 14 {
+        if mode == MIXED {
+            return 4096;
+        }
+        if mode == LONG_READS {
+            return 4096;
+        }
+    }
+    16
+}
+
+fn read_count(mode: usize, class: usize, value: usize) -> usize {
+    let room = reader_length(mode, class);
+    if room == 4096 {
+        return 4080 + value % 20;
+    }
+    if room == 0 {
+        return value % 2;
+    }
+    if class == 10 {
+        return 12 + value % 9;
+    }
+    if class == 11 {
+        return 12 + value % 9;
+    }
+    value % (room + 1)
+}
+
+fn number(kind: usize, mode: usize, class: usize, value: usize) -> usize {
+    if kind == SEEK {
+        return seek_to(mode, class, value);
+    }
+    if kind == WRITE {
+        return write_length(mode, class, value);
+    }
+    read_count(mode, class, value)
+}
+
+fn buffer(kind: usize, mode: usize, class: usize) -> usize {
+    if kind == READ {
+        return reader_length(mode, class);
+    }
+    0
+}
+
+fn octet(n: usize) -> u8
+    ensures { λ r. ⌜ r ≤ 255 ⌝ }
+{
+    (n % 256) as u8
+}
+
+// A Write's first byte or step: 0 for one Write out of four.
+fn written(r: usize, zeros: usize) -> u8 {
+    if zeros / 256 % 4 == 0 {
+        return 0;
+    }
+    octet(r)
+}
+
+// Which store buffer is short, for two calls of 128 and for one that is forged as well.
+fn short(class: usize, r: usize) -> usize {
+    if class < 3 {
+        return 1 + r % 3;
+    }
+    0
+}
+
+fn short_length(r: usize) -> usize {
+    if r % 2 == 0 {
+        return 32767;
+    }
+    r / 2 % 32768
+}
+
+// Which forgery the record gets. Fresh looks at no record.
+fn forgery(kind: usize, class: usize, r: usize) -> usize {
+    if kind == FRESH {
+        return 0;
+    }
+    if class < 2 {
+        return 0;
+    }
+    if class < 5 {
+        return 1 + r % 15;
+    }
+    0
+}
+
+fn damaged(kind: usize, r: [usize; 12]) -> Damage
+    ensures { λ a. ⌜ (a .transaction < 8) × (a .index < 16) ⌝ }
+{
+    let class = r[7] % 128;
+    Damage {
+        short: short(class, r[8]),
+        length: short_length(r[9]),
+        forgery: forgery(kind, class, r[8]),
+        transaction: r[9] % 8,
+        index: r[9] / 8 % 16,
+        excess: r[10],
+    }
+}
+
+// Descriptor d belongs to file (factor d + shift) mod 8; factor 1 and shift 0 for three Freshs out of four.
+fn factor(line: usize) -> usize
+    ensures { λ r. ⌜ r < 8 ⌝ }
+{
+    if line % 4 == 0 {
+        return line / 4 % 8;
+    }
+    1
+}
+
+fn shift(line: usize, r: usize) -> usize
+    ensures { λ r. ⌜ r < 8 ⌝ }
+{
+    if line % 4 == 0 {
+        return r % 8;
+    }
+    0
+}
+
+fn files_by(factor: usize, shift: usize) -> [u8; 17]
+    requires { ⌜ (factor < 8) × (shift < 8) ⌝ }
+{
+    let mut out = [0u8; 17];
+    let mut file = shift;
+    let mut d = 0;
+    while d < 17 {
+        out[d] = octet(file);
+        file = (file + factor) % 8;
+        d += 1;
+    }
+    out
+}
+
+// Fresh's list; often one number is above 7.
+fn list(r: [usize; 12]) -> [u8; 17] {
+    let mut out = files_by(factor(r[10]), shift(r[10], r[11]));
+    if r[3] / 8 % 8 < 5 {
+        let d = r[8] % 16;
+        out[d] = octet(8 + r[9] % 248);
+    }
+    out
+}
+
+fn list_length(class: usize, value: usize) -> usize
+    ensures { λ r. ⌜ r ≤ 17 ⌝ }
+{
+    if class % 8 == 0 {
+        return 15 + 2 * (value % 2);
+    }
+    16
+}
+
+// The call of a phase that twelve numbers make.
+pub fn requested(r: [usize; 12], phase: usize, guess: [bool; 8]) -> Request
+    requires { ⌜ phase < 65536 ⌝ }
+    ensures { λ a. ⌜ (a .damage .transaction < 8) × (a .damage .index < 16) ⌝ }
+{
+    let mode = phase % 6;
+    let class = r[3] % 16;
+    let t = transaction(phase, r[1]);
+    let k = begun_first(kind(mode, r[0]), t, guess, r[11]);
+    let d = damaged(k, r);
+    let list = list(r);
+    Request {
+        kind: k,
+        transaction: t,
+        descriptor: descriptor(mode, r[2]),
+        number: number(k, mode, class, r[4]),
+        buffer: buffer(k, mode, class),
+        first: written(r[5], r[6]),
+        step: written(r[6], r[6]),
+        list,
+        listed: list_length(r[3], r[4]),
+        damage: d,
+    }
+}

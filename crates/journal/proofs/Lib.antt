@@ -1,2 +1,0 @@
--- Laws of the definitions of specs/, for the proofs of this crate and of the crates that link it.
-pub mod RunLaws

@@ -1,0 +1,109 @@
+-- A transaction put back into the record: as it was, with another standing, with one write more.
+use mathlib.Core.Bool.{Bool, true, false, cond}
+use mathlib.Core.List.{List, [], _∷_, _++_}
+use mathlib.Core.Path.{_≡_, refl, sym, ap, ap₂, _∙_}
+use borrow.Author.Tests.{eq-eqb, ne-eqb}
+use lib.Dec.{eqb}
+use lib.ListN.{length, getD, set, length-append, List·getD-append}
+use lib.Seq.{getD-at}
+use native.Mathlib.Omega.{arith}
+use Prim.Native.Nat.{ℕ, suc, _+_, _-_, _*_, _≤_, _<_}
+use Rattle.counters.specs.declared.Used.{Used}
+use Rattle.standings.specs.declared.Standing.{Standing}
+use Rattle.record.specs.declared.Descriptor.{Descriptor}
+use Rattle.record.specs.declared.Transaction.{Transaction}
+use Rattle.record.specs.declared.Store.{Store}
+use Rattle.record.specs.declared.journal.WriteRecord.{WriteRecord}
+use Rattle.record.specs.State.{transaction, standingAt, noDescriptor, withUsed, withDescriptors, withTransaction}
+use Rattle.record.specs.Journal.{writeRecordAt, withRecordAt}
+use Rattle.record.proofs.JournalLaws.{with-more, with-same, with-own-records}
+use Rattle.standings.specs.Table.{afterWrite, writePlace}
+use Rattle.rules.specs.Transactions.{Txn, Write, put, withStanding}
+use Rattle.rules.specs.Steps.{total, written}
+use Rattle.rules.specs.Machine.{tabulate, writeAt, recordOf, txnOf, noWrite, journalled, holding, withTxn}
+use Rattle.rules.proofs.View.Shape.{Shaped}
+use Rattle.rules.proofs.View.Tables.{tabulate-getD, tabulate-set}
+use Rattle.laws.proofs.Decoded.{Opened, decoded-count, decoded-at, decoded-total, decoded-length, total-append}
+
+-- ---- the standings of a transaction
+
+tabulate-descriptors : (x : Transaction) → length (x .descriptors) ≡ 16 → tabulate (λ d. record { standing = standingAt x d }) 16 ≡ x .descriptors
+tabulate-descriptors x e =
+    ap (λ (n : ℕ). tabulate (λ d. getD (x .descriptors) d noDescriptor) n) (sym e) ∙ tabulate-getD (x .descriptors) noDescriptor
+
+put-descriptor : (x : Transaction) (d : ℕ) (z : Standing) → d < 16 → length (x .descriptors) ≡ 16
+    → tabulate (λ e. record { standing = put d z (standingAt x) e }) 16 ≡ set (x .descriptors) d (record { standing = z })
+unfolding put
+put-descriptor x d z h e =
+    tabulate-set (λ k. record { standing = standingAt x k }) (λ k. record { standing = cond (eqb k d) z (standingAt x k) }) 16 d (record { standing = z }) h
+    (rw (eq-eqb d d refl)) (λ k ne. rw (ne-eqb k d ne))
+    ∙ ap (λ (l : List Descriptor). set l d (record { standing = z })) (tabulate-descriptors x e)
+
+-- ---- a whole transaction
+
+module _ (s : Store) (journal logs : List ℕ) (t : ℕ) (o : Opened s journal logs t) where
+  -- The record of a write that was read off a record is that record.
+  pub record-own : (k : ℕ) → k < transaction s t .used .records → recordOf (writeAt journal logs t k) ≡ writeRecordAt journal t k
+  unfolding recordOf writeAt
+  record-own k h = rw (decoded-length s journal logs t o k h)
+
+  pub writes-same : journalled t (txnOf s journal logs t .writes) journal ≡ journal
+  unfolding journalled
+  writes-same =
+      let n = transaction s t .used .records in
+      rw (decoded-count s journal logs t o)
+      (with-same journal t (λ k. recordOf (getD (txnOf s journal logs t .writes) k noWrite)) (writeRecordAt journal t) n
+      (λ k h. ap recordOf (decoded-at s journal logs t o k noWrite h) ∙ record-own k h)
+      ∙ with-own-records journal t n)
+
+  -- One write more is one record more.
+  pub writes-more : (w : Write) → journalled t (txnOf s journal logs t .writes ++ (w ∷ [])) journal ≡ withRecordAt journal t (transaction s t .used .records) (recordOf w)
+  unfolding journalled
+  writes-more w =
+      let ws = txnOf s journal logs t .writes in
+      let n = transaction s t .used .records in
+      let f : ℕ → WriteRecord = λ k. recordOf (getD (ws ++ (w ∷ [])) k noWrite) in
+      let e = decoded-count s journal logs t o in
+      rw (length-append ws (w ∷ []), e)
+      (with-more journal t f n
+      ∙ ap₂ (λ (j : List ℕ) (v : WriteRecord). withRecordAt j t n v)
+      (with-same journal t f (writeRecordAt journal t) n
+      (λ k h. ap recordOf (List·getD-append ws (w ∷ []) noWrite k (rw e h) ∙ decoded-at s journal logs t o k noWrite h) ∙ record-own k h)
+      ∙ with-own-records journal t n)
+      (ap recordOf (getD-at ws w [] noWrite n e)))
+
+  -- The counters and the descriptors of a meaning that has this transaction's writes.
+  pub holding-same : holding (txnOf s journal logs t) (transaction s t) ≡ transaction s t
+  unfolding holding txnOf
+  holding-same =
+      let x = transaction s t in
+      rw (decoded-count s journal logs t o, decoded-total s journal logs t o, tabulate-descriptors x (o .shape .descriptors t (o .small)))
+
+  -- One descriptor stands otherwise.
+  pub txn-restood : (d : ℕ) (z : Standing) → d < 16
+      → withTxn t (withStanding d z (txnOf s journal logs t)) s
+      ≡ withTransaction t
+      (withDescriptors (set (transaction s t .descriptors) d (record { standing = z })) (transaction s t)) s
+  unfolding withTxn holding txnOf
+  txn-restood d z h =
+      rw (decoded-count s journal logs t o, decoded-total s journal logs t o, put-descriptor (transaction s t) d z h (o .shape .descriptors t (o .small)))
+
+  -- One write more: its record, the counters, its descriptor.
+  pub txn-written : (d : ℕ) (bytes : List ℕ) → d < 16
+      → withTxn t (written d bytes (txnOf s journal logs t)) s
+      ≡ withTransaction t
+      (withUsed (record { records = transaction s t .used .records + 1; bytes = transaction s t .used .bytes + length bytes })
+      (withDescriptors (set (transaction s t .descriptors) d (record { standing = afterWrite (length bytes) (standingAt (transaction s t) d) }))
+      (transaction s t))) s
+  unfolding withTxn withTransaction holding written txnOf
+  txn-written d bytes h =
+      let n = transaction s t .used .records in
+      let z = standingAt (transaction s t) d in
+      let w : Write = record { descriptor = d; place = writePlace z; bytes = bytes } in
+      rw (
+        length-append (tabulate (writeAt journal logs t) n) (w ∷ []),
+        total-append (tabulate (writeAt journal logs t) n) w,
+        decoded-count s journal logs t o,
+        decoded-total s journal logs t o,
+        put-descriptor (transaction s t) d (afterWrite (length bytes) z) h (o .shape .descriptors t (o .small)),
+      )

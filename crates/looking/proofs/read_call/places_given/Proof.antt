@@ -1,0 +1,29 @@
+-- `read_call::places_given` meets its contract.
+use mathlib.Core.Path.{_∙_, ap, ap₂}
+use borrow.Author.Needs.{needs}
+use Prim.Native.Nat.{ℕ, _-_, min}
+use Rattle.runs.specs.Runs.{extent}
+use Rattle.looking.proofs.read_call.places_given.Statement.{statement}
+use Rattle.looking.proofs.read_call.places_given.Tie as tie
+
+offset-requires : tie.Need-offset-requires
+offset-requires c κs = search needs
+
+wide-requires : tie.Need-wide-requires
+wide-requires c κs = search needs
+
+sub-smaller : tie.Need-sub-smaller
+sub-smaller c = search needs
+
+smaller-requires : tie.Need-smaller-requires
+smaller-requires c κs = search needs
+
+returns : tie.Need-returns
+returns c =
+    let w = c .before .wide .ensures .0 ∙ c .before .before .offset .ensures in
+    let a = c .before .before .before .args in
+    ap₂ (extent (a .file)) w (c .smaller .ensures ∙ ap (λ (q : ℕ). min (a .n) (4096 - q)) w)
+
+pub places-given-spec : {M : Type 1} → statement M
+places-given-spec =
+    tie.close (tie.spec offset-requires wide-requires sub-smaller smaller-requires returns)

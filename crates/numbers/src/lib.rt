@@ -1,0 +1,32 @@
+// The paper's numbers for bytes; a wider type; the smaller of two numbers.
+ghost use mathlib.Core.Path.{_≡_};
+ghost use Prim.Native.Nat.{_≤_, min};
+
+// The bytes of a file, and of a transaction's log; as an offset, the end of a file.
+pub const FILE_BYTES: usize = 4096;
+
+pub const FILE_END: u16 = 4096;
+
+// The bytes of each store buffer.
+pub const BUFFER_BYTES: usize = 32768;
+
+pub fn wide(x: u16) -> usize
+    ensures { λ r. ⌜ (r ≡ x) × (r ≤ 65535) ⌝ }
+{
+    x as usize
+}
+
+pub fn wide_octet(x: u8) -> usize
+    ensures { λ r. ⌜ (r ≡ x) × (r ≤ 255) ⌝ }
+{
+    x as usize
+}
+
+pub fn smaller(a: usize, b: usize) -> usize
+    ensures { λ r. ⌜ r ≡ min a b ⌝ }
+{
+    if a < b {
+        return a;
+    }
+    b
+}

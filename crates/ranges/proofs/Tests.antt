@@ -1,0 +1,163 @@
+-- What each test of src/lib.rt decides, in the order in which they are made.
+use mathlib.Core.Bool.{Bool, true, false, not, _&&_, _||_}
+use mathlib.Core.List.{List}
+use mathlib.Core.Path.{_≡_, refl, sym, _∙_}
+use lib.Dec.{leb, eqb}
+use Prim.Native.Nat.{ℕ, _+_, _≤_, _<_}
+use native.Mathlib.Omega.{arith}
+use borrow.Author.Tests.{leb-true, le-leb, lt-leb, not-true, not-false}
+use Rattle.standings.specs.declared.Standing.{Standing}
+use Rattle.standings.specs.declared.Standing.the-variants.{Untouched, Placed, Deferred, Moved, Known}
+use Rattle.standings.specs.declared.Place.{Place}
+use Rattle.standings.specs.declared.Place.the-variants.{At, After}
+use Rattle.standings.specs.Table.{advance, offsetOf, isTouched, mayWait, placeNumber}
+use Rattle.record.specs.declared.Transaction.{Transaction}
+use Rattle.record.specs.declared.journal.WriteRecord.{WriteRecord}
+use Rattle.record.specs.State.{standingAt}
+use Rattle.record.specs.Journal.{writeRecordAt}
+use Rattle.ranges.specs.Below.{below}
+use Rattle.ranges.specs.Ranges.{standingIn, endsWithin, placeIn, recordIn, lengthsBefore, journalIn, transactionIn}
+use Rattle.ranges.proofs.Laws.{and-left, and-true, standing-numbers, below-at, sum-zero, sum-more, transaction-in-intro}
+
+and-false : (a : Bool) → a && false ≡ false
+and-false true = refl
+and-false false = refl
+
+-- ---- a standing
+
+module _ (z : Standing) (n : ℕ) (is-n : n ≡ advance z) where
+  pub advance-out : 4096 < n → false ≡ standingIn z
+  advance-out l = sym (standing-numbers z ∙ rw (← is-n, lt-leb n 4096 l))
+
+  pub offset-decides : (m : ℕ) → m ≡ offsetOf z → n ≤ 4096 → leb m 4096 ≡ standingIn z
+  offset-decides m e l = sym (standing-numbers z ∙ rw (← is-n, ← e, le-leb n 4096 l))
+
+pub untouched-in : (z : Standing) {r : Bool} → r ≡ isTouched z → r ≡ false → standingIn z ≡ true
+unfolding standingIn
+untouched-in Untouched e h = refl
+untouched-in (Placed o) e h = cc
+untouched-in (Deferred a) e h = cc
+untouched-in (Moved a o) e h = cc
+untouched-in (Known o) e h = cc
+
+-- ---- a write record
+
+-- A number at most a is at most 4,096, where a is.
+both-under : (e a : ℕ) → leb a 4096 ≡ true → leb e 4096 && leb e a ≡ leb e a
+both-under e a h = pick (leb e a) refl
+  where
+    pick : (b : Bool) → leb e a ≡ b → leb e 4096 && b ≡ b
+    pick true q = let l = leb-true a 4096 h in let m = leb-true e a q in rw (le-leb e 4096 (omega arith))
+    pick false q = and-false (leb e 4096)
+
+within-waits : (z : Standing) (e : ℕ) → standingIn z ≡ true → leb e 4096 && endsWithin z e ≡ mayWait z && leb e (advance z)
+unfolding standingIn endsWithin
+within-waits Untouched e h = and-false (leb e 4096)
+within-waits (Placed o) e h = and-false (leb e 4096)
+within-waits (Deferred a) e h = both-under e a h
+within-waits (Moved a o) e h = both-under e a (and-left (leb a 4096) (leb o 4096) h)
+within-waits (Known o) e h = and-false (leb e 4096)
+
+-- A write of n bytes at q: it ends at k + m.
+module _ (z : Standing) (q : Place) (n : ℕ) where
+  pub at-decides : {p : ℕ} (k m : ℕ) → q ≡ At p → k ≡ placeNumber q → m ≡ n → leb (k + m) 4096 ≡ placeIn z q n
+  unfolding placeIn
+  at-decides k m is-at is-k is-m = rw (is-k, is-m, is-at)
+
+  module _ {a : ℕ} (is-after : q ≡ After a) (inside : standingIn z ≡ true) {r : Bool} (waits : r ≡ mayWait z) where
+    after-in : placeIn z q n ≡ r && leb (a + n) (advance z)
+    unfolding placeIn
+    after-in = rw (is-after, waits) (within-waits z (a + n) inside)
+
+    pub after-fails : not r ≡ true → false ≡ placeIn z q n
+    after-fails h = sym (after-in ∙ rw (not-true r h))
+
+    pub after-decides : (k m b : ℕ) → not r ≡ false → k ≡ placeNumber q → m ≡ n → b ≡ advance z → leb (k + m) b ≡ placeIn z q n
+    after-decides k m b h is-k is-m is-b = sym (after-in ∙ rw (not-false r h, is-k, is-m, is-after, is-b))
+
+-- Record w, read from the journal, and its descriptor's number d.
+module _ (x : Transaction) (w v : WriteRecord) (is-v : w ≡ v) (d : ℕ) (is-d : d ≡ w .descriptor) where
+  pub descriptor-out : 15 < d → recordIn x v ≡ false
+  unfolding recordIn
+  descriptor-out l = rw (← is-v, ← is-d, lt-leb d 15 l)
+
+  module _ (low : d ≤ 15) (z : Standing) (is-z : z ≡ standingAt x d) (r : Bool) (is-r : r ≡ placeIn z (w .place) (w .length)) where
+    place-decides : recordIn x v ≡ r
+    unfolding recordIn
+    place-decides = rw (← is-v, ← is-d, le-leb d 15 low, is-r, is-z)
+
+    pub place-out : not r ≡ true → recordIn x v ≡ false
+    place-out h = place-decides ∙ not-true _ h
+
+    pub record-passes : not r ≡ false → recordIn x v ≡ true
+    record-passes h = place-decides ∙ not-false _ h
+
+pub lengths-none : (journal : List ℕ) (t : ℕ) → 0 ≡ lengthsBefore journal t 0
+unfolding lengthsBefore
+lengths-none journal t = sym (sum-zero _)
+
+pub lengths-more : (journal : List ℕ) (t n s v : ℕ) → s ≡ lengthsBefore journal t n → v ≡ writeRecordAt journal t n .length → s + v ≡ lengthsBefore journal t (n + 1)
+unfolding lengthsBefore
+lengths-more journal t n s v e f = rw (e, f) (sym (sum-more _ n))
+
+-- The last two tests of a journal, joined.
+pub and-fails : (a b : Bool) → a ≡ false → false ≡ a && b
+and-fails a b e = rw e
+
+pub and-last : (a b c : Bool) → a ≡ true → b ≡ c → b ≡ a && c
+and-last a b c e f = rw (e, f)
+
+-- ---- a transaction
+
+-- The tests of a begun transaction, in the order in which they are made.
+turned : (s r j e u : Bool) → s && (r && j && e && u) ≡ r && u && s && (j && e)
+turned true true j e true = and-true (j && e)
+turned true true j e false = and-false (j && e)
+turned true false j e u = refl
+turned false true j e true = refl
+turned false true j e false = refl
+turned false false j e u = refl
+
+or-closed : (b q : Bool) → not b ≡ true → true ≡ not b || q
+or-closed b q e = rw e
+
+or-begun : (b q : Bool) → not b ≡ false → not b || q ≡ q
+or-begun b q e = rw e
+
+module _ (x : Transaction) (journal : List ℕ) (t : ℕ) where
+  pub closed-in : not (x .begun) ≡ true → true ≡ transactionIn x journal t
+  unfolding transactionIn
+  closed-in e = or-closed (x .begun) _ e
+
+  module _ (begun : not (x .begun) ≡ false) where
+    begun-in : transactionIn x journal t ≡ leb (x .used .records) 64 && leb (x .used .bytes) 4096 && below (λ d. standingIn (standingAt x d)) 16 && (below (λ k. recordIn x (writeRecordAt journal t k)) (x .used .records) && eqb (lengthsBefore journal t (x .used .records)) (x .used .bytes))
+    unfolding transactionIn journalIn
+    begun-in = or-begun (x .begun) _ begun ∙ turned (below (λ d. standingIn (standingAt x d)) 16) (leb (x .used .records) 64) _ _ (leb (x .used .bytes) 4096)
+
+    pub records-fail : (n : ℕ) → n ≡ x .used .records → 64 < n → false ≡ transactionIn x journal t
+    records-fail n e l = sym (begun-in ∙ rw (lt-leb (x .used .records) 64 (rw e at l)))
+
+    module _ (n m : ℕ) (is-n : n ≡ x .used .records) (is-m : m ≡ x .used .bytes) (few : n ≤ 64) where
+      pub bytes-fail : 4096 < m → false ≡ transactionIn x journal t
+      bytes-fail l = sym (begun-in ∙ rw (le-leb (x .used .records) 64 (rw is-n at few), lt-leb (x .used .bytes) 4096 (rw is-m at l)))
+
+      module _ (fits : m ≤ 4096) where
+        counted : transactionIn x journal t ≡ below (λ d. standingIn (standingAt x d)) 16 && (below (λ k. recordIn x (writeRecordAt journal t k)) n && eqb (lengthsBefore journal t n) m)
+        counted = rw (is-n, is-m) (begun-in ∙ rw (le-leb (x .used .records) 64 (rw is-n at few), le-leb (x .used .bytes) 4096 (rw is-m at fits)))
+
+        pub standings-fail : below (λ d. standingIn (standingAt x d)) 16 ≡ false → false ≡ transactionIn x journal t
+        standings-fail e = sym (counted ∙ rw e)
+
+        pub records-decide : (r : Bool) → below (λ d. standingIn (standingAt x d)) 16 ≡ true → r ≡ below (λ k. recordIn x (writeRecordAt journal t k)) n && eqb (lengthsBefore journal t n) m → r ≡ transactionIn x journal t
+        records-decide r standings e = e ∙ sym (counted ∙ rw standings)
+
+-- A transaction with no records, no bytes and its standings in range is in range.
+pub idle-in : (x : Transaction) (journal : List ℕ) (t : ℕ) → x .used .records ≡ 0 → x .used .bytes ≡ 0 → below (λ d. standingIn (standingAt x d)) 16 ≡ true → transactionIn x journal t ≡ true
+idle-in x journal t r u e =
+    transaction-in-intro x journal t (λ _. record {
+      standings = λ d l. below-at (λ d. standingIn (standingAt x d)) 16 d e l;
+      records = omega arith;
+      bytes = omega arith;
+      total = rw (r, u) (sym (lengths-none journal t));
+      writes = λ k l. absurd (omega arith);
+    })

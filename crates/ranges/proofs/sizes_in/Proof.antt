@@ -1,0 +1,20 @@
+-- `ranges::sizes_in` meets its contract.
+use borrow.Author.Tests.{eq-eqb, ne-eqb}
+use Rattle.ranges.specs.Ranges.{sizesIn}
+use Rattle.ranges.proofs.sizes_in.Statement.{statement}
+use Rattle.ranges.proofs.sizes_in.Tie as tie
+
+returns : tie.Need-returns
+unfolding sizesIn
+returns c = simp (ne-eqb _ _ (c .if1 .taken))
+
+returns-2 : tie.Need-returns-2
+unfolding sizesIn
+returns-2 c = simp (eq-eqb _ _ (c .before .if1 .left), ne-eqb _ _ (c .if2 .taken))
+
+returns-3 : tie.Need-returns-3
+unfolding sizesIn
+returns-3 c = simp (eq-eqb _ _ (c .before .if1 .left), eq-eqb _ _ (c .if2 .left))
+
+pub sizes-in-spec : {M : Type 1} → statement M
+sizes-in-spec = tie.close (tie.spec returns returns-2 returns-3)

@@ -1,0 +1,66 @@
+-- `journal::clear` meets its contract. The loop's invariant: the numbers before i are 0, the others as they were.
+use borrow.Author.Needs.{needs}
+use borrow.Author.Fill.{fill-none, fill-more}
+use mathlib.Core.List.{List, _++_, append-nil}
+use mathlib.Core.Path.{_≡_, ap, _∙_}
+use native.Mathlib.Omega.{arith}
+use lib.ListN.{length, drop, set, replicate, drop-of-length-le}
+use Prim.Native.Nat.{ℕ, _-_, _≤_}
+use Rattle.record.proofs.journal.clear.Statement.{statement}
+use Rattle.record.proofs.journal.clear.Tie as tie
+
+-- Nothing of a list is left past its length.
+whole : (l : List ℕ) (n : ℕ) → length l ≡ n → replicate n 0 ++ drop n l ≡ replicate n 0
+whole l n e = ap (λ (r : List ℕ). replicate n 0 ++ r) (let h : length l ≤ n = omega arith in drop-of-length-le l h) ∙ append-nil (replicate n 0)
+
+abbrev Inv-loop : tie.InvT-loop
+Inv-loop journal₀ i₀ journal i = (i ≤ 1536) × (length journal₀ ≡ 1536) × (journal ≡ replicate i 0 ++ drop i journal₀)
+
+abbrev μ-loop : tie.MeasureT-loop
+μ-loop journal₀ i₀ journal i = 1536 - i
+
+length-of-requires : tie.Need-length-of-requires Inv-loop μ-loop
+length-of-requires c κs = search needs
+
+loop-holds : tie.Need-loop-holds Inv-loop μ-loop
+loop-holds c = let l : length (c .before .before .before .args .journal .now) ≡ 1536 = search needs in (omega arith, l, fill-none _ 0)
+
+mul-journal : tie.Need-mul-journal Inv-loop μ-loop
+mul-journal c = omega arith
+
+element-write-journal : tie.Need-element-write-journal Inv-loop μ-loop
+element-write-journal c = omega arith
+
+add-i : tie.Need-add-i Inv-loop μ-loop
+add-i c = omega arith
+
+loop-less : tie.Need-loop-less Inv-loop μ-loop
+loop-less c = omega arith
+
+loop-again : tie.Need-loop-again Inv-loop μ-loop
+loop-again c =
+    let i = c .before .loop .inv in (
+      omega arith,
+      i .1,
+      ap (λ (l : List ℕ). set l (c .before .loop .i) 0) (i .2) ∙ fill-more (c .before .loop .i) 0 (c .before .before .before .before .before .args .journal .now) (omega arith),
+    )
+
+returns : tie.Need-returns Inv-loop μ-loop
+returns c =
+    let e : c .before .loop .i ≡ 1536 = omega arith in
+    c .before .loop .inv .2 ∙ rw e (whole (c .before .before .before .before .before .args .journal .now) 1536 (c .before .loop .inv .1))
+
+pub clear-spec : {M : Type 1} → statement M
+clear-spec =
+    tie.close
+    (tie.spec
+    Inv-loop
+    μ-loop
+    length-of-requires
+    loop-holds
+    mul-journal
+    element-write-journal
+    add-i
+    loop-less
+    loop-again
+    returns)

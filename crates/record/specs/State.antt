@@ -1,0 +1,61 @@
+-- The record's first part: transactions and their descriptors, each field with its updater.
+use mathlib.Core.Bool.{Bool, true, false}
+use mathlib.Core.List.{List, []}
+use lib.ListN.{getD, set, replicate}
+use Prim.Native.Nat.{ℕ}
+use Rattle.counters.specs.declared.Used.{Used}
+use Rattle.standings.specs.declared.Standing.{Standing}
+use Rattle.standings.specs.declared.Standing.the-variants.{Untouched}
+use Rattle.record.specs.declared.Descriptor.{Descriptor}
+use Rattle.record.specs.declared.Transaction.{Transaction}
+use Rattle.record.specs.declared.Store.{Store}
+
+-- ---- a transaction
+
+-- A descriptor that nobody touched; it also stands in an array of descriptors past its end.
+abbrev pub noDescriptor : Descriptor
+noDescriptor = record { standing = Untouched }
+
+-- "an ended transaction has an empty log, sixteen Untouched descriptors and is not stale"
+unfoldable pub ended : Transaction
+ended = record { begun = false; stale = false; used = record { records = 0; bytes = 0 }; descriptors = replicate 16 noDescriptor }
+
+-- What stands in an array of transactions past its end.
+abbrev pub noTransaction : Transaction
+noTransaction = record { begun = false; stale = false; used = record { records = 0; bytes = 0 }; descriptors = [] }
+
+-- A transaction with another value in one field.
+abbrev pub withBegun : Bool → Transaction → Transaction
+withBegun b x = record { begun = b; stale = x .stale; used = x .used; descriptors = x .descriptors }
+
+abbrev pub withStale : Bool → Transaction → Transaction
+withStale b x = record { begun = x .begun; stale = b; used = x .used; descriptors = x .descriptors }
+
+abbrev pub withUsed : Used → Transaction → Transaction
+withUsed u x = record { begun = x .begun; stale = x .stale; used = u; descriptors = x .descriptors }
+
+abbrev pub withDescriptors : List Descriptor → Transaction → Transaction
+withDescriptors ds x = record { begun = x .begun; stale = x .stale; used = x .used; descriptors = ds }
+
+-- "Begin gives an empty log, sixteen Untouched descriptors, no marks, not stale."
+unfoldable pub begun : Transaction
+begun = withBegun true ended
+
+-- The standing of descriptor d.
+abbrev pub standingAt : Transaction → ℕ → Standing
+standingAt x d = getD (x .descriptors) d noDescriptor .standing
+
+-- ---- the store
+
+abbrev pub withOffsets : List ℕ → Store → Store
+withOffsets os s = record { filenumbers = s .filenumbers; offsets = os; transactions = s .transactions }
+
+abbrev pub withTransactions : List Transaction → Store → Store
+withTransactions xs s = record { filenumbers = s .filenumbers; offsets = s .offsets; transactions = xs }
+
+-- Transaction t of the store, and the store with another in its place.
+abbrev pub transaction : Store → ℕ → Transaction
+transaction s t = getD (s .transactions) t noTransaction
+
+unfoldable pub withTransaction : ℕ → Transaction → Store → Store
+withTransaction t x s = withTransactions (set (s .transactions) t x) s

@@ -1,0 +1,64 @@
+// What a call answers.
+use crate::Store;
+ghost use mathlib.Core.Path.{_≡_};
+ghost use Rattle.record.specs.Paper.{number};
+
+// The refusals, in the order of paper 01's table.
+pub enum Refusal {
+    BufferLength,
+    RecordRange,
+    NoSuchTransaction,
+    NotOpen,
+    AlreadyOpen,
+    NoSuchDescriptor,
+    ReaderTooShort,
+    SeekPastEnd,
+    WritePastEnd,
+    RecordsFull,
+    LogFull,
+    SettledPastEnd,
+    Stale,
+    NoSuchFile,
+}
+
+// How many they are; their numbers in the paper go from 1 to this.
+pub const REFUSALS: u8 = 14;
+
+impl Refusal {
+    // Its number in the paper.
+    pub fn number(self) -> u8
+        ensures { λ r. ⌜ r ≡ number self ⌝ }
+    {
+        match self {
+            Refusal::BufferLength => 1,
+            Refusal::RecordRange => 2,
+            Refusal::NoSuchTransaction => 3,
+            Refusal::NotOpen => 4,
+            Refusal::AlreadyOpen => 5,
+            Refusal::NoSuchDescriptor => 6,
+            Refusal::ReaderTooShort => 7,
+            Refusal::SeekPastEnd => 8,
+            Refusal::WritePastEnd => 9,
+            Refusal::RecordsFull => 10,
+            Refusal::LogFull => 11,
+            Refusal::SettledPastEnd => 12,
+            Refusal::Stale => 13,
+            Refusal::NoSuchFile => 14,
+        }
+    }
+}
+
+// The result of a call: plain, an offset, a count of bytes given, how many others a granted Commit made stale, or a refusal.
+pub enum Outcome {
+    Done,
+    Offset(u16),
+    Given(u16),
+    Staled(u8),
+    Refused(Refusal),
+}
+
+// What a call hands back: its outcome, and the record to keep.
+pub struct Answer {
+    pub store: Store,
+    pub outcome: Outcome,
+}

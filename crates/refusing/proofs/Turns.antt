@@ -1,0 +1,158 @@
+-- The rules of a call after each of its tests: turned down, or let through.
+use mathlib.Core.Bool.{Bool, true, false, cond}
+use mathlib.Core.List.{List, []}
+use mathlib.Core.Path.{_≡_, refl, sym, ap, _∙_}
+use native.Mathlib.Omega.{arith}
+use Prim.Native.Nat.{ℕ, zero, suc}
+use Rattle.record.specs.declared.outcomes.Answer.{Answer}
+use Rattle.record.specs.declared.Store.{Store}
+use Rattle.record.specs.declared.outcomes.Refusal.{Refusal}
+use Rattle.record.specs.declared.outcomes.Refusal.the-variants.{BufferLength, RecordRange, NoSuchTransaction, NotOpen, AlreadyOpen, NoSuchDescriptor, ReaderTooShort, SeekPastEnd, WritePastEnd, RecordsFull, LogFull, SettledPastEnd, Stale, NoSuchFile}
+use Rattle.record.specs.declared.outcomes.Outcome.the-variants.{Done, Refused}
+use Rattle.record.specs.declared.Transaction.{Transaction}
+use Rattle.record.specs.State.{transaction, withTransaction}
+use Rattle.record.specs.Paper.{Said, plain, number, said}
+use Rattle.octets.specs.Marks.{withoutMarks}
+use Rattle.ranges.specs.declared.Gate.{Gate}
+use Rattle.ranges.specs.declared.Gate.the-variants.{Pass, Refused as GateRefused}
+use Rattle.ranges.specs.Ranges.{unless, shared, admission, admissionOfBegin, gateNumber}
+use Rattle.ranges.proofs.Laws.{Admitted, shared-zero, shared-passed, shared-refused}
+use Rattle.rules.specs.Items.{Values, Prog, done, result, asked}
+use Rattle.rules.specs.Transactions.{Txn}
+use Rattle.rules.specs.Steps.{Op, bufferOf, Stepped, refuse, accept, check, step}
+use Rattle.rules.specs.Plain.{Call, on}
+use Rattle.rules.specs.Machine.{Machine, withStore, withJournal, withLogs, withMarking, sizes, fileOf, values, txnOf, withTxn, journalled}
+use Rattle.rules.specs.Calls.{Turn, answer, turnDown, reset, passing, admitted, marked, logged, served, stepTurn, call}
+use Rattle.rules.specs.Promises.{Meets}
+
+-- ---- the shared tests
+
+-- What the tests that passed tell of what the caller lent.
+abbrev pub LetThrough : Machine → ℕ → Type 0
+LetThrough m t = Admitted (sizes m) (m .store) (m .journal) t
+
+-- The shared tests 1 to 3, before what comes after them.
+abbrev pub sharedWith : Machine → ℕ → ℕ → ℕ
+sharedWith m t later = shared (sizes m) (m .store) (m .journal) t later
+
+-- A refusal's number is not 0.
+pub number-suc : (r : Refusal) → (k : ℕ) × (number r ≡ suc k)
+number-suc BufferLength = (0, refl)
+number-suc RecordRange = (1, refl)
+number-suc NoSuchTransaction = (2, refl)
+number-suc NotOpen = (3, refl)
+number-suc AlreadyOpen = (4, refl)
+number-suc NoSuchDescriptor = (5, refl)
+number-suc ReaderTooShort = (6, refl)
+number-suc SeekPastEnd = (7, refl)
+number-suc WritePastEnd = (8, refl)
+number-suc RecordsFull = (9, refl)
+number-suc LogFull = (10, refl)
+number-suc SettledPastEnd = (11, refl)
+number-suc Stale = (12, refl)
+number-suc NoSuchFile = (13, refl)
+
+pub passing-number : (r : Refusal) (buffer : List ℕ) (m : Machine) (next : Turn) → passing (number r) buffer m next ≡ turnDown (number r) buffer m
+unfolding passing
+passing-number r buffer m next = rw (number-suc r .1)
+
+module _ (g : Gate) (n : ℕ) (says : gateNumber g ≡ n) where
+  pub gate-number : (r : Refusal) → g ≡ GateRefused r → number r ≡ n
+  unfolding gateNumber
+  gate-number r e = sym (ap gateNumber e) ∙ says
+
+  pub gate-zero : g ≡ Pass → n ≡ 0
+  unfolding gateNumber
+  gate-zero e = sym says ∙ ap gateNumber e
+
+-- What the gate says of tests 1 to 3 holds before any later test.
+module _ (g : Gate) (m : Machine) (t : ℕ) (says : gateNumber g ≡ sharedWith m t 0) where
+  pub gate-refused : (later : ℕ) (r : Refusal) (buffer : List ℕ) (next : Turn) → g ≡ GateRefused r → passing (sharedWith m t later) buffer m next ≡ turnDown (number r) buffer m
+  unfolding gateNumber
+  gate-refused later r buffer next e =
+      let n = number-suc r in
+      ap (λ (k : ℕ). passing k buffer m next) (shared-refused (sizes m) (m .store) (m .journal) t later (number r) (sym (ap gateNumber e) ∙ says) (let q = n .1 in omega arith))
+      ∙ passing-number r buffer m next
+
+  pub gate-passed : g ≡ Pass → sharedWith m t 0 ≡ 0
+  unfolding gateNumber
+  gate-passed e = sym says ∙ ap gateNumber e
+
+  pub gate-let-through : g ≡ Pass → LetThrough m t
+  gate-let-through e = shared-zero (sizes m) (m .store) (m .journal) t 0 (gate-passed e) .0
+
+-- Then the call's own test, open or not.
+module _ (m : Machine) (t : ℕ) (passes : sharedWith m t 0 ≡ 0) where
+  pub admission-open : transaction (m .store) t .begun ≡ true → admission (sizes m) (m .store) (m .journal) t ≡ 0
+  unfolding admission unless
+  admission-open e = shared-passed (sizes m) (m .store) (m .journal) t _ passes ∙ rw e
+
+  pub admission-closed : transaction (m .store) t .begun ≡ false → admission (sizes m) (m .store) (m .journal) t ≡ 4
+  unfolding admission unless
+  admission-closed e = shared-passed (sizes m) (m .store) (m .journal) t _ passes ∙ rw e
+
+  pub begin-of-open : transaction (m .store) t .begun ≡ true → admissionOfBegin (sizes m) (m .store) (m .journal) t ≡ 5
+  unfolding admissionOfBegin unless
+  begin-of-open e = shared-passed (sizes m) (m .store) (m .journal) t _ passes ∙ rw e
+
+  pub begin-of-closed : transaction (m .store) t .begun ≡ false → admissionOfBegin (sizes m) (m .store) (m .journal) t ≡ 0
+  unfolding admissionOfBegin unless
+  begin-of-closed e = shared-passed (sizes m) (m .store) (m .journal) t _ passes ∙ rw e
+
+  pub admitted-closed : transaction (m .store) t .begun ≡ false → (buffer : List ℕ) (next : Turn) → admitted t buffer m next ≡ turnDown 4 buffer m
+  unfolding admitted passing
+  admitted-closed e buffer next = ap (λ (n : ℕ). passing n buffer m next) (admission-closed e)
+
+pub passing-on : (n : ℕ) (buffer : List ℕ) (m : Machine) (next : Turn) → n ≡ 0 → passing n buffer m next ≡ next
+unfolding passing
+passing-on n buffer m next e = rw e
+
+-- A call that was turned down, where the rules turn it down.
+pub turned-meets : (a : Answer) (r : Refusal) (buffer : List ℕ) (m : Machine) (w : Turn) → w ≡ turnDown (number r) buffer m
+    → a .outcome ≡ Refused r → a .store ≡ m .store → Meets w (a .outcome) (withStore (a .store) m) buffer
+unfolding turnDown said
+turned-meets a r buffer m w e o s =
+    rw e (record { outcome = ap said o; machine = ap (λ (x : Store). withStore x m) s; reader = refl })
+
+-- ---- Begin and Abort: a transaction replaced, its marks cleared
+
+pub reset-meets : (t : ℕ) (x : Transaction) (m : Machine) (w : Turn) → w ≡ answer plain (reset t x m)
+    → (a : Answer) (marks : List ℕ) → a ≡ record { outcome = Done; store = withTransaction t x (m .store) } → marks ≡ withoutMarks t (m .marks)
+    → Meets w (a .outcome) (withStore (a .store) (withMarking marks m)) []
+unfolding answer reset said
+reset-meets t x m w e a marks f g =
+    rw (e, f) (record { outcome = refl; machine = ap (λ (l : List ℕ). withStore (withTransaction t x (m .store)) (withMarking l m)) g; reader = refl })
+
+-- ---- one transaction's step
+
+pub check-held : (b : Bool) (n : ℕ) (p : Prog Stepped) → b ≡ true → check b n p ≡ p
+unfolding check
+check-held b n p e = rw e
+
+pub check-failed : (b : Bool) (n : ℕ) (p : Prog Stepped) → b ≡ false → check b n p ≡ done (refuse n)
+unfolding check
+check-failed b n p e = rw e
+
+module _ (t : ℕ) (o : Op) (m : Machine) (passes : admission (sizes m) (m .store) (m .journal) t ≡ 0) where
+  abbrev pub program : Prog Stepped
+  program = step (fileOf (m .store)) o (txnOf (m .store) (m .journal) (m .logs) t)
+
+  pub on-stepped : call (on t o) m ≡ served t o m (asked (values (m .store) (m .files)) program) (result (values (m .store) (m .files)) program)
+  unfolding call admitted stepTurn
+  on-stepped =
+      passing-on (admission (sizes m) (m .store) (m .journal) t) (bufferOf o) m (stepTurn t o m) passes
+
+  -- A step that asks for nothing and refuses, or accepts.
+  pub on-refused : (n : ℕ) → program ≡ done (refuse n) → call (on t o) m ≡ turnDown n (bufferOf o) m
+  unfolding served result
+  on-refused n e = on-stepped ∙ ap (λ (p : Prog Stepped). served t o m (asked (values (m .store) (m .files)) p) (result (values (m .store) (m .files)) p)) e
+
+  pub on-accepted : (y : Txn) (a : Said) (buffer : List ℕ) → program ≡ done (accept y a buffer)
+      → call (on t o) m
+      ≡ record {
+        reply = record { answer = a; buffer = buffer };
+        after = withStore (withTxn t y (m .store)) (withJournal (journalled t (y .writes) (m .journal)) (withLogs (logged t o (m .store) (m .logs)) m));
+      }
+  unfolding served result asked marked
+  on-accepted y a buffer e =
+      on-stepped ∙ ap (λ (p : Prog Stepped). served t o m (asked (values (m .store) (m .files)) p) (result (values (m .store) (m .files)) p)) e

@@ -1,0 +1,31 @@
+-- `settle::chosen_by_pointer` meets its contract: one choice among sixteen.
+use mathlib.Core.Bool.{Bool, false}
+use mathlib.Core.Path.{ap, _∙_}
+use lib.ListN.{set, replicate}
+use Rattle.standings.specs.Table.{pointerSettles}
+use Rattle.settling.specs.Choices.{settlesForPointer, chosenByPointer}
+use Rattle.settling.proofs.ChoiceLaws.{one-chosen}
+use borrow.Author.Needs.{needs}
+use Rattle.settling.proofs.settle.chosen_by_pointer.Statement.{statement}
+use Rattle.settling.proofs.settle.chosen_by_pointer.Tie as tie
+
+standing-at-requires : tie.Need-standing-at-requires
+standing-at-requires c κs = search needs
+
+pointer-settles-requires : tie.Need-pointer-settles-requires
+pointer-settles-requires c κs = search needs
+
+array-write-chosen : tie.Need-array-write-chosen
+array-write-chosen c = search needs
+
+returns : tie.Need-returns
+unfolding settlesForPointer chosenByPointer
+returns c =
+    let d = c .before .before .args .d in
+    ap (λ (b : Bool). set (replicate 16 false) d b) (c .pointer-settles .ensures ∙ ap pointerSettles (c .before .standing-at .ensures))
+    ∙ one-chosen d _ (c .before .before .pre)
+
+pub chosen-by-pointer-spec : {M : Type 1} → statement M
+chosen-by-pointer-spec =
+    tie.close
+    (tie.spec standing-at-requires pointer-settles-requires array-write-chosen returns)

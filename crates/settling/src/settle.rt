@@ -1,0 +1,88 @@
+// Which descriptors a call settles; these take their committed offsets, all of them or none.
+use crate::any;
+use numbers::FILE_END;
+use record::DESCRIPTORS;
+use record::Descriptor;
+use record::Transaction;
+ghost use mathlib.Core.Path.{_≡_};
+ghost use Prim.Native.Nat.{ℕ, _≤_, _<_};
+ghost use lib.ListN.{getD};
+ghost use Rattle.settling.specs.Choices.{chosenByRead, chosenByPointer, settlingOf};
+
+// Whether every chosen descriptor could be settled.
+pub enum Verdict {
+    Settled,
+    Past,
+}
+
+// The transaction with its chosen descriptors settled, where the verdict is Settled.
+pub struct Settling {
+    pub verdict: Verdict,
+    pub transaction: Transaction,
+}
+
+// The descriptors that a Read through d settles.
+pub fn chosen_by_read(
+    x: Transaction,
+    filenumbers: &[u8; DESCRIPTORS],
+    d: usize,
+) -> [bool; DESCRIPTORS]
+    requires { ⌜ d < 16 ⌝ }
+    ensures { λ r. ⌜ r ≡ chosenByRead (now (filenumbers .entry)) x d ⌝ }
+{
+    let mut chosen = [false; DESCRIPTORS];
+    let f = filenumbers[d];
+    let mut e = 0;
+    while e < DESCRIPTORS {
+        let z = x.standing_at(e);
+        chosen[e] = z.read_settles(filenumbers[e] == f, e == d);
+        e += 1;
+    }
+    chosen
+}
+
+// The one descriptor that a GetFilePointer on d settles, if it does.
+pub fn chosen_by_pointer(x: Transaction, d: usize) -> [bool; DESCRIPTORS]
+    requires { ⌜ d < 16 ⌝ }
+    ensures { λ r. ⌜ r ≡ chosenByPointer x d ⌝ }
+{
+    let mut chosen = [false; DESCRIPTORS];
+    let z = x.standing_at(d);
+    chosen[d] = z.pointer_settles();
+    chosen
+}
+
+// Settles every chosen descriptor at its committed offset, or none.
+pub fn settle(x: Transaction, chosen: [bool; DESCRIPTORS], offsets: &[u16; DESCRIPTORS]) -> Settling
+    requires { ⌜ ((e : ℕ) → e < 16 → getD (now offsets) e 0 ≤ 4096) ⌝ }
+    ensures { λ r. ⌜ r ≡ settlingOf chosen (now (offsets .entry)) x ⌝ }
+{
+    if !any(chosen) {
+        return Settling {
+            verdict: Verdict::Settled,
+            transaction: x,
+        };
+    }
+    let mut y = x;
+    let mut e = 0;
+    while e < DESCRIPTORS {
+        if chosen[e] {
+            let z = x.standing_at(e);
+            let c = offsets[e];
+            if FILE_END - c < z.advance() {
+                return Settling {
+                    verdict: Verdict::Past,
+                    transaction: x,
+                };
+            }
+            y.descriptors[e] = Descriptor {
+                standing: z.settled(c),
+            };
+        }
+        e += 1;
+    }
+    Settling {
+        verdict: Verdict::Settled,
+        transaction: y,
+    }
+}

@@ -14,7 +14,7 @@ use Rattle.record.specs.Paper.{granted, refused, said}
 use Rattle.ranges.specs.Below.{sum}
 use Rattle.ranges.specs.Ranges.{admission}
 use Rattle.rules.specs.Commits.{fits, commitRefusal}
-use Rattle.rules.specs.Plain.{commit}
+use Rattle.rules.specs.Messages.{commit}
 use Rattle.rules.specs.Machine.{Machine, lent, withStore, withMarking, sizes, tabulate}
 use Rattle.rules.specs.Calls.{Turn, turnDown, reset, admitted, landFiles, conflicts, commitDecided, commitGranted, commitTurn, call}
 use Rattle.landing.specs.Landing.{offsetsOnly, standingsOnly}
@@ -30,14 +30,14 @@ module _ (t : ℕ) (m : Machine) where
   unfolding call admitted
   commit-on passes = passing-on (admission (sizes m) (m .store) (m .journal) t) [] m (commitTurn t m) passes
 
-  -- "13: it ends as at Abort."
+  -- 13: "it ends as at Abort".
   pub commit-stale : transaction (m .store) t .stale ≡ true
       → commitTurn t m ≡ record { reply = record { answer = refused 13; buffer = [] }; after = reset t ended m }
   unfolding commitTurn commitRefusal commitDecided
   commit-stale e = rw e
 
   module _ (fresh : transaction (m .store) t .stale ≡ false) where
-    -- "12: everything, the transaction open."
+    -- 12: "everything, the transaction open".
     pub commit-past : fits (offsetsOnly (m .store .offsets)) (standingsOnly (transaction (m .store) t)) ≡ false → commitTurn t m ≡ turnDown 12 [] m
     unfolding commitTurn commitRefusal commitDecided turnDown
     commit-past e = rw (fresh, fits-is m t, e)

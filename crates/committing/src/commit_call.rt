@@ -15,7 +15,7 @@ ghost use Rattle.octets.specs.Marks.{withoutMarks};
 ghost use Rattle.record.specs.declared.outcomes.Refusal.{Refusal};
 ghost use Rattle.record.specs.declared.outcomes.Outcome.{Outcome};
 ghost use Rattle.record.specs.State.{ended, withTransaction};
-ghost use Rattle.rules.specs.Plain.{Call};
+ghost use Rattle.rules.specs.Messages.{Call};
 ghost use Rattle.rules.specs.Machine.{lent};
 ghost use Rattle.rules.specs.Calls.{call};
 ghost use Rattle.rules.specs.Promises.{Meets};

@@ -13,8 +13,8 @@ use Rattle.record.specs.declared.Store.{Store}
 use Rattle.ranges.specs.Ranges.{admission}
 use Rattle.standings.specs.Table.{afterSeek}
 use Rattle.rules.specs.Transactions.{withStanding}
-use Rattle.rules.specs.Steps.{Op, seek, step, seekStep, bufferOf}
-use Rattle.rules.specs.Plain.{on}
+use Rattle.rules.specs.Messages.{Op, seek, bufferOf, on}
+use Rattle.rules.specs.Steps.{step, seekStep}
 use Rattle.rules.specs.Machine.{Machine, lent, withStore, sizes, txnOf}
 use Rattle.rules.specs.Calls.{Turn, turnDown, logged, call}
 use Rattle.laws.proofs.Decoded.{Opened}

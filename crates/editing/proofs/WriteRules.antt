@@ -22,8 +22,8 @@ use Rattle.ranges.specs.Ranges.{admission, unless, standingIn}
 use Rattle.ranges.proofs.Laws.{and-right}
 use Rattle.rules.specs.Items.{Prog, done}
 use Rattle.standings.specs.Table.{afterWrite, writePlace}
-use Rattle.rules.specs.Steps.{Op, write, Stepped, refuse, accept, check, step, writeStep, written, bufferOf, total}
-use Rattle.rules.specs.Plain.{on}
+use Rattle.rules.specs.Messages.{Op, write, bufferOf, on}
+use Rattle.rules.specs.Steps.{Stepped, refuse, accept, check, step, writeStep, written, total}
 use Rattle.rules.specs.Machine.{Machine, lent, withStore, withJournal, withLogs, sizes, fileOf, txnOf, recordOf}
 use Rattle.rules.specs.Calls.{Turn, turnDown, logged, call}
 use Rattle.laws.proofs.Decoded.{Opened, decoded-count, decoded-total}

@@ -166,7 +166,7 @@ module _ (v : Values) (p : ℕ → Bool) (x : Txn) where
   abbrev offsets : ℕ → ℕ
   offsets d = v (offset d)
 
-  -- "12: settling takes committed offset plus advance above 4,096": descriptor e passes, if it is settled.
+  -- 12: "settling .. takes committed offset plus advance above 4,096". Descriptor e passes, if it is settled.
   abbrev pub fitsAt : ℕ → Bool
   fitsAt e = not (p e) || leb (v (offset e) + advance (x .standing e)) 4096
 

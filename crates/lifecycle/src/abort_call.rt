@@ -9,7 +9,7 @@ use record::outcomes::Outcome;
 use record::outcomes::Refusal;
 ghost use mathlib.Core.List.{[]};
 ghost use mathlib.Core.Path.{_≡_};
-ghost use Rattle.rules.specs.Plain.{Call};
+ghost use Rattle.rules.specs.Messages.{Call};
 ghost use Rattle.rules.specs.Calls.{call};
 ghost use Rattle.rules.specs.Machine.{lent};
 ghost use Rattle.rules.specs.Promises.{Meets};

@@ -17,8 +17,8 @@ use Rattle.record.specs.Paper.{pointer, said}
 use Rattle.ranges.specs.Ranges.{admission}
 use Rattle.rules.specs.Items.{Item, Prog, done, andThen, result, asked}
 use Rattle.rules.specs.Transactions.{Txn, Settled, past, all, settling}
-use Rattle.rules.specs.Steps.{getFilePointer, Stepped, accept, orGivenBack, step, pointerStep, bufferOf}
-use Rattle.rules.specs.Plain.{on}
+use Rattle.rules.specs.Messages.{getFilePointer, bufferOf, on}
+use Rattle.rules.specs.Steps.{Stepped, accept, orGivenBack, step, pointerStep}
 use Rattle.rules.specs.Machine.{Machine, lent, withStore, withJournal, sizes, values, txnOf, withTxn}
 use Rattle.rules.specs.Calls.{Turn, turnDown, marked, logged, served, call}
 use Rattle.rules.specs.Promises.{Meets}

@@ -21,8 +21,8 @@ use Rattle.ranges.proofs.Laws.{and-right, below-at, standing-numbers}
 use Rattle.rules.specs.Items.{Item, Values, Prog, done, andThen, result, asked}
 use Rattle.rules.specs.Transactions.{Txn, Write, withStanding, Settled, past, all, settling}
 use Rattle.rules.specs.Reading.{fetch}
-use Rattle.rules.specs.Steps.{read, Stepped, accept, check, orGivenBack, step, readStep, readSettled, settledByRead, bufferOf}
-use Rattle.rules.specs.Plain.{on}
+use Rattle.rules.specs.Messages.{read, bufferOf, on}
+use Rattle.rules.specs.Steps.{Stepped, accept, check, orGivenBack, step, readStep, readSettled, settledByRead}
 use Rattle.rules.specs.Machine.{Machine, lent, withStore, withJournal, withMarking, sizes, fileOf, values, txnOf, withTxn, journalled}
 use Rattle.rules.specs.Calls.{Turn, turnDown, marked, logged, served, call}
 use Rattle.rules.specs.Promises.{Meets}

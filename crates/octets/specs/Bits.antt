@@ -4,7 +4,7 @@ use mathlib.Core.List.{List}
 use lib.Bits.{bitAnd, bitOr}
 use lib.ListN.{getD, set}
 
--- bit u of x, "worth 2 to the power u": 0 or 1
+-- bit u of x, worth 2 to the power u: 0 or 1
 unfoldable pub bit : ℕ → ℕ → ℕ
 bit u x = x / 2 ^ u % 2
 

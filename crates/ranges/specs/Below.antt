@@ -1,6 +1,17 @@
--- A test of every number below a bound, and a sum over them, by index.
-use mathlib.Core.Bool.{Bool, true, _&&_}
+-- Refuse or go on; a test of every number below a bound, and a sum over them, by index.
+use mathlib.Core.Bool.{Bool, true, false, cond, _&&_}
 use Prim.Native.Nat.{ℕ, zero, suc, _+_}
+
+-- Goes on where the test holds, otherwise refuses with the number: of a call on the store, of a transaction's step and of the plain
+-- machine.
+module _ {A : Type 0} where
+  abbrev pub guarded : (ℕ → A) → Bool → ℕ → A → A
+  guarded refuse ok n next = cond ok next (refuse n)
+
+-- Where refusals are numbers, 0 stands for none.
+abbrev pub isNone : ℕ → Bool
+isNone zero = true
+isNone (suc n) = false
 
 unfoldable pub below : (ℕ → Bool) → ℕ → Bool
 below p zero = true

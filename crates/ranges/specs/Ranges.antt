@@ -1,5 +1,5 @@
 -- Paper 01, "Ranges for 2", and the tests that every call shares.
-use mathlib.Core.Bool.{Bool, true, false, cond, not, _&&_, _||_}
+use mathlib.Core.Bool.{Bool, true, false, not, _&&_, _||_}
 use mathlib.Core.List.{List}
 use lib.Dec.{leb, eqb}
 use lib.ListN.{getD, length}
@@ -16,7 +16,7 @@ use Rattle.record.specs.Journal.{writeRecordAt}
 use Rattle.record.specs.Paper.{number}
 use Rattle.ranges.specs.declared.Gate.{Gate}
 use Rattle.ranges.specs.declared.Gate.the-variants.{Pass, Refused}
-use Rattle.ranges.specs.Below.{below, sum}
+use Rattle.ranges.specs.Below.{guarded, below, sum}
 
 -- "offsets and advances of standings at most 4,096"
 unfoldable pub standingIn : Standing → Bool
@@ -68,7 +68,7 @@ storeIn s journal =
 
 -- The number of a refusal when a test fails, otherwise what the later tests say; 0 stands for none.
 unfoldable pub unless : Bool → ℕ → ℕ → ℕ
-unless ok n later = cond ok later n
+unless ok n later = guarded (λ k. k) ok n later
 
 -- The lengths of the store buffers.
 pub record Sizes : Type 0 where

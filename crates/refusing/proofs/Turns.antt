@@ -19,8 +19,8 @@ use Rattle.ranges.specs.Ranges.{unless, shared, admission, admissionOfBegin, ga
 use Rattle.ranges.proofs.Laws.{Admitted, shared-zero, shared-passed, shared-refused}
 use Rattle.rules.specs.Items.{Values, Prog, done, result, asked}
 use Rattle.rules.specs.Transactions.{Txn}
-use Rattle.rules.specs.Steps.{Op, bufferOf, Stepped, refuse, accept, check, step}
-use Rattle.rules.specs.Plain.{Call, on}
+use Rattle.rules.specs.Messages.{Op, bufferOf, Call, on}
+use Rattle.rules.specs.Steps.{Stepped, refuse, accept, check, step}
 use Rattle.rules.specs.Machine.{Machine, withStore, withJournal, withLogs, withMarking, sizes, fileOf, values, txnOf, withTxn, journalled}
 use Rattle.rules.specs.Calls.{Turn, answer, turnDown, reset, passing, admitted, marked, logged, served, stepTurn, call}
 use Rattle.rules.specs.Promises.{Meets}

@@ -1,10 +1,13 @@
 -- The store without its buffers and the plain machine agree, and the granted transactions have a serial order.
+pub mod Alone
+pub mod Commits
 pub mod FirstHalf
 pub mod Invariant
 pub mod Known
 pub mod Lists
 pub mod Lone
 pub mod Programs
+pub mod Rerun
 pub mod SecondHalf
 pub mod Sighted
 pub mod Sound

@@ -9,15 +9,17 @@ use Rattle.octets.specs.Parts.{pasted}
 use Rattle.octets.specs.Marks.{hasMark, withMark, withoutMarks}
 use Rattle.record.specs.declared.Store.{Store}
 use Rattle.record.specs.declared.Transaction.{Transaction}
+use Rattle.record.specs.declared.outcomes.Refusal.the-variants.{Stale}
 use Rattle.record.specs.State.{transaction, standingAt, ended, begun, withStale, withOffsets, withTransactions, withTransaction}
-use Rattle.record.specs.Paper.{Said, plain, granted, refused}
-use Rattle.ranges.specs.Below.{sum}
+use Rattle.record.specs.Paper.{number, Said, plain, granted, refused}
+use Rattle.ranges.specs.Below.{guarded, isNone, sum}
 use Rattle.ranges.specs.Ranges.{admission, admissionOfBegin, admissionOfFresh}
 use Rattle.rules.specs.Items.{Item, byte, offset, Values, result, asked}
 use Rattle.standings.specs.Table.{isKnown}
-use Rattle.rules.specs.Steps.{Op, seek, write, getFilePointer, read, bufferOf, Stepped, refuse, accept, step}
+use Rattle.rules.specs.Messages.{Op, seek, write, getFilePointer, read, bufferOf}
+use Rattle.rules.specs.Steps.{Stepped, refuse, accept, step}
 use Rattle.rules.specs.Commits.{Setting, settings, fits, commitRefusal}
-use Rattle.rules.specs.Plain.{Call, begin, on, commit, abort, Reply}
+use Rattle.rules.specs.Messages.{Call, begin, on, commit, abort, Reply}
 use Rattle.rules.specs.Machine.{Machine, lent, withStore, withJournal, withFiles, withLogs, withMarking, sizes, tabulate, fileOf, values, txnOf, withTxn, journalled}
 
 -- A call's reply, and the store after it.
@@ -28,14 +30,13 @@ pub record Turn : Type 0 where
 unfoldable pub answer : Said → Machine → Turn
 answer a m = record { reply = record { answer = a; buffer = [] }; after = m }
 
--- "What is left: everything", the reader's buffer too.
+-- A refusal leaves "everything", the reader's buffer too.
 unfoldable pub turnDown : ℕ → List ℕ → Machine → Turn
 turnDown n buffer m = record { reply = record { answer = refused n; buffer = buffer }; after = m }
 
 -- Goes on where no earlier test refuses (0), otherwise turns the call down with the number.
 unfoldable pub passing : ℕ → List ℕ → Machine → Turn → Turn
-passing zero buffer m next = next
-passing (suc n) buffer m next = turnDown (suc n) buffer m
+passing n buffer m next = guarded (λ k. turnDown k buffer m) (isNone n) n next
 
 -- "Every file byte, mark and offset is 0, nothing is open; the log buffer is left as found."
 unfoldable pub freshStore : List ℕ → Store
@@ -152,13 +153,13 @@ commitGranted t ss m =
           (withMarking (withoutMarks t (m .marks)) m));
     }
 
--- "13: it ends as at Abort"; "12: everything, the transaction open".
+-- 13: "it ends as at Abort". 12: "everything, the transaction open".
 unfoldable pub commitDecided : ℕ → List Setting → Machine → ℕ → Turn
 commitDecided t ss m zero = commitGranted t ss m
 commitDecided t ss m (suc n) =
     record {
       reply = record { answer = refused (suc n); buffer = [] };
-      after = cond (eqb (suc n) 13) (reset t ended m) m;
+      after = cond (eqb (suc n) (number Stale)) (reset t ended m) m;
     }
 
 unfoldable pub commitTurn : ℕ → Machine → Turn

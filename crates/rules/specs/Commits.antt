@@ -30,8 +30,8 @@ byteSettings fileOf v (w ∷ ws) =
     stretch (4096 * fileOf (w .descriptor) + landsAt (v (offset (w .descriptor))) (w .place)) (w .bytes)
     ++ byteSettings fileOf v ws
 
--- "Then the offset of every descriptor not Untouched is set: committed offset plus advance if Deferred, otherwise its own": those
--- of the first n descriptors.
+-- "Then the offset of every descriptor not Untouched is set (EndTransaction in the notes): committed offset plus advance if Deferred,
+-- otherwise its own": those of the first n descriptors.
 unfoldable pub offsetSettings : Values → Txn → ℕ → List Setting
 offsetSettings v x zero = []
 offsetSettings v x (suc d) =
@@ -42,7 +42,7 @@ offsetSettings v x (suc d) =
 unfoldable pub settings : (ℕ → ℕ) → Values → Txn → List Setting
 settings fileOf v x = byteSettings fileOf v (x .writes) ++ offsetSettings v x 16
 
--- "12: Commit's placing takes committed offset plus advance above 4,096."
+-- 12: "settling, or Commit's placing, takes committed offset plus advance above 4,096". Commit's placing passes.
 unfoldable pub fits : Values → Txn → Bool
 fits v x = below (λ d. leb (v (offset d) + advance (x .standing d)) 4096) 16
 

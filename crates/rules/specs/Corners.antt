@@ -4,352 +4,430 @@ use mathlib.Core.Path.{_≡_}
 use lib.ListN.{replicate}
 use Rattle.record.specs.Paper.{plain, pointer, granted, refused}
 use Rattle.rules.specs.Items.{byte, offset}
-use Rattle.rules.specs.Steps.{seek, write, getFilePointer, read}
-use Rattle.rules.specs.Plain.{Call, begin, on, commit, abort, Reply}
-use Rattle.rules.specs.Setup.{Seen, beginning, sightingsOf, says, gives, refusesRead, begins, beginsReplies, A, B, C, X, Y, Z, dot}
-use Rattle.rules.specs.Situations.{callsK, repliesK, callsL, repliesL}
+use Rattle.rules.specs.Messages.{seek, write, getFilePointer, read, begin, on, commit, abort, says}
+use Rattle.rules.specs.Setup.{Seen, Exchange, _⇒_, callsOf, Goes, sighted, committedBytes, beginning, sightingsOf, gives, refusesRead, begins, A, B, C, X, Y, Z, dot}
+use Rattle.rules.specs.Situations.{toldK, toldL}
 
 -- "Checked in this order, save that 13 comes before 12": T0 is stale by the offset of 1, and its write on 0 would run past the end.
-unfoldable pub callsStaleFirst : List Call
-callsStaleFirst =
+unfoldable pub toldStaleFirst : List Exchange
+toldStaleFirst =
     begins
-    ++ on 0 (getFilePointer 1)
-    ∷ on 0 (write 0 (A ∷ []))
-    ∷ on 1 (seek 0 4096)
-    ∷ on 1 (seek 1 0)
-    ∷ commit 1
-    ∷ commit 0
-    ∷ commit 0
-    ∷ []
-
-unfoldable pub repliesStaleFirst : List Reply
-repliesStaleFirst =
-    beginsReplies
-    ++ says (pointer 0)
-    ∷ says plain
-    ∷ says plain
-    ∷ says plain
-    ∷ says (granted 1)
-    ∷ says (refused 13)
-    ∷ says (refused 4)
+    ++ on 0 (getFilePointer 1) ⇒ says (pointer 0)
+    ∷ on 0 (write 0 (A ∷ [])) ⇒ says plain
+    ∷ on 1 (seek 0 4096) ⇒ says plain
+    ∷ on 1 (seek 1 0) ⇒ says plain
+    ∷ commit 1 ⇒ says (granted 1)
+    ∷ commit 0 ⇒ says (refused 13)
+    ∷ commit 0 ⇒ says (refused 4)
     ∷ []
 
 -- "A refusal 12 tells the caller something about an offset and makes no sighting": T1 sights nothing by two of them.
-unfoldable pub callsRefusedSettling : List Call
-callsRefusedSettling =
+unfoldable pub toldRefusedSettling : List Exchange
+toldRefusedSettling =
     begins
-    ++ on 0 (seek 0 4096)
-    ∷ commit 0
-    ∷ on 1 (write 0 (A ∷ []))
-    ∷ on 1 (getFilePointer 0)
-    ∷ on 1 (read 0 1 (dot ∷ []))
-    ∷ []
-
-unfoldable pub repliesRefusedSettling : List Reply
-repliesRefusedSettling =
-    beginsReplies
-    ++ says plain
-    ∷ says (granted 0)
-    ∷ says plain
-    ∷ says (refused 12)
-    ∷ refusesRead 12 (dot ∷ [])
+    ++ on 0 (seek 0 4096) ⇒ says plain
+    ∷ commit 0 ⇒ says (granted 0)
+    ∷ on 1 (write 0 (A ∷ [])) ⇒ says plain
+    ∷ on 1 (getFilePointer 0) ⇒ says (refused 12)
+    ∷ on 1 (read 0 1 (dot ∷ [])) ⇒ refusesRead 12 (dot ∷ [])
     ∷ []
 
 -- So T1 is not stale when the offset is set again.
-unfoldable pub callsUnsighted : List Call
-callsUnsighted = callsRefusedSettling ++ on 2 (seek 0 0) ∷ commit 2 ∷ commit 1 ∷ []
-
-unfoldable pub repliesUnsighted : List Reply
-repliesUnsighted = repliesRefusedSettling ++ says plain ∷ says (granted 0) ∷ says (granted 0) ∷ []
+unfoldable pub toldUnsighted : List Exchange
+toldUnsighted =
+    toldRefusedSettling
+    ++ on 2 (seek 0 0) ⇒ says plain
+    ∷ commit 2 ⇒ says (granted 0)
+    ∷ commit 1 ⇒ says (granted 0)
+    ∷ []
 
 -- "It settles every descriptor of d's file that stands Deferred or Moved": 8 stands Moved when T0 reads through 0. "Moved becomes
 -- Known at its own offset."
-unfoldable pub callsMoved : List Call
-callsMoved =
+unfoldable pub toldMoved : List Exchange
+toldMoved =
     begins
-    ++ on 0 (write 8 (A ∷ []))
-    ∷ on 0 (seek 8 9)
-    ∷ on 0 (seek 0 0)
-    ∷ on 0 (read 0 1 (dot ∷ []))
-    ∷ on 0 (getFilePointer 8)
+    ++ on 0 (write 8 (A ∷ [])) ⇒ says plain
+    ∷ on 0 (seek 8 9) ⇒ says plain
+    ∷ on 0 (seek 0 0) ⇒ says plain
+    ∷ on 0 (read 0 1 (dot ∷ [])) ⇒ gives 1 (A ∷ [])
+    ∷ on 0 (getFilePointer 8) ⇒ says (pointer 9)
     ∷ []
 
-unfoldable pub repliesMoved : List Reply
-repliesMoved = beginsReplies ++ says plain ∷ says plain ∷ says plain ∷ gives 1 (A ∷ []) ∷ says (pointer 9) ∷ []
-
-unfoldable pub callsMovedStale : List Call
-callsMovedStale = callsMoved ++ on 1 (seek 8 3) ∷ commit 1 ∷ commit 0 ∷ []
-
-unfoldable pub repliesMovedStale : List Reply
-repliesMovedStale = repliesMoved ++ says plain ∷ says (granted 1) ∷ says (refused 13) ∷ []
+unfoldable pub toldMovedStale : List Exchange
+toldMovedStale =
+    toldMoved
+    ++ on 1 (seek 8 3) ⇒ says plain
+    ∷ commit 1 ⇒ says (granted 1)
+    ∷ commit 0 ⇒ says (refused 13)
+    ∷ []
 
 -- "The notes, read to the letter, would settle untouched descriptors too; that is not done": 8 is Untouched when T0 reads through 0.
-unfoldable pub callsNeighbour : List Call
-callsNeighbour = begins ++ on 0 (seek 0 0) ∷ on 0 (read 0 1 (dot ∷ [])) ∷ []
+unfoldable pub toldNeighbour : List Exchange
+toldNeighbour =
+    begins
+    ++ on 0 (seek 0 0) ⇒ says plain
+    ∷ on 0 (read 0 1 (dot ∷ [])) ⇒ gives 1 (0 ∷ [])
+    ∷ []
 
-unfoldable pub repliesNeighbour : List Reply
-repliesNeighbour = beginsReplies ++ says plain ∷ gives 1 (0 ∷ []) ∷ []
-
-unfoldable pub callsNeighbourSet : List Call
-callsNeighbourSet = callsNeighbour ++ on 1 (seek 8 5) ∷ commit 1 ∷ commit 0 ∷ []
-
-unfoldable pub repliesNeighbourSet : List Reply
-repliesNeighbourSet = repliesNeighbour ++ says plain ∷ says (granted 0) ∷ says (granted 0) ∷ []
+unfoldable pub toldNeighbourSet : List Exchange
+toldNeighbourSet =
+    toldNeighbour
+    ++ on 1 (seek 8 5) ⇒ says plain
+    ∷ commit 1 ⇒ says (granted 0)
+    ∷ commit 0 ⇒ says (granted 0)
+    ∷ []
 
 -- "0 bytes is a lawful result and settles all the same."
-unfoldable pub callsReadNone : List Call
-callsReadNone = begins ++ on 0 (read 0 0 []) ∷ []
+unfoldable pub toldReadNone : List Exchange
+toldReadNone =
+    begins
+    ++ on 0 (read 0 0 []) ⇒ gives 0 []
+    ∷ []
 
-unfoldable pub repliesReadNone : List Reply
-repliesReadNone = beginsReplies ++ gives 0 [] ∷ []
-
-unfoldable pub callsReadNoneStale : List Call
-callsReadNoneStale = callsReadNone ++ on 1 (seek 0 5) ∷ commit 1 ∷ commit 0 ∷ []
-
-unfoldable pub repliesReadNoneStale : List Reply
-repliesReadNoneStale = repliesReadNone ++ says plain ∷ says (granted 1) ∷ says (refused 13) ∷ []
+unfoldable pub toldReadNoneStale : List Exchange
+toldReadNoneStale =
+    toldReadNone
+    ++ on 1 (seek 0 5) ⇒ says plain
+    ∷ commit 1 ⇒ says (granted 1)
+    ∷ commit 0 ⇒ says (refused 13)
+    ∷ []
 
 -- A Write of 0 bytes makes an Untouched descriptor Deferred: "the offset of every descriptor not Untouched is set"; "setting to the
 -- same value counts".
-unfoldable pub callsWriteNone : List Call
-callsWriteNone = begins ++ on 1 (getFilePointer 0) ∷ on 0 (write 0 []) ∷ commit 0 ∷ commit 1 ∷ []
-
-unfoldable pub repliesWriteNone : List Reply
-repliesWriteNone = beginsReplies ++ says (pointer 0) ∷ says plain ∷ says (granted 1) ∷ says (refused 13) ∷ []
+unfoldable pub toldWriteNone : List Exchange
+toldWriteNone =
+    begins
+    ++ on 1 (getFilePointer 0) ⇒ says (pointer 0)
+    ∷ on 0 (write 0 []) ⇒ says plain
+    ∷ commit 0 ⇒ says (granted 1)
+    ∷ commit 1 ⇒ says (refused 13)
+    ∷ []
 
 -- "Stale transactions go on being served until they commit or abort": T0 sights the byte again, with its new setter, and stays
 -- stale. "How many became stale by it that were not so before": T2's commit makes no other stale.
-unfoldable pub callsSightedAgain : List Call
-callsSightedAgain =
+unfoldable pub toldSightedAgain : List Exchange
+toldSightedAgain =
     begins
-    ++ on 0 (seek 0 0)
-    ∷ on 0 (read 0 1 (dot ∷ []))
-    ∷ on 1 (seek 8 0)
-    ∷ on 1 (write 8 (Z ∷ []))
-    ∷ commit 1
-    ∷ on 0 (seek 0 0)
-    ∷ on 0 (read 0 1 (dot ∷ []))
-    ∷ on 2 (seek 8 0)
-    ∷ on 2 (write 8 (Y ∷ []))
-    ∷ commit 2
+    ++ on 0 (seek 0 0) ⇒ says plain
+    ∷ on 0 (read 0 1 (dot ∷ [])) ⇒ gives 1 (0 ∷ [])
+    ∷ on 1 (seek 8 0) ⇒ says plain
+    ∷ on 1 (write 8 (Z ∷ [])) ⇒ says plain
+    ∷ commit 1 ⇒ says (granted 1)
+    ∷ on 0 (seek 0 0) ⇒ says plain
+    ∷ on 0 (read 0 1 (dot ∷ [])) ⇒ gives 1 (Z ∷ [])
+    ∷ on 2 (seek 8 0) ⇒ says plain
+    ∷ on 2 (write 8 (Y ∷ [])) ⇒ says plain
+    ∷ commit 2 ⇒ says (granted 0)
     ∷ []
 
-unfoldable pub repliesSightedAgain : List Reply
-repliesSightedAgain =
-    beginsReplies
-    ++ says plain
-    ∷ gives 1 (0 ∷ [])
-    ∷ says plain
-    ∷ says plain
-    ∷ says (granted 1)
-    ∷ says plain
-    ∷ gives 1 (Z ∷ [])
-    ∷ says plain
-    ∷ says plain
-    ∷ says (granted 0)
+unfoldable pub toldStillStale : List Exchange
+toldStillStale =
+    toldSightedAgain
+    ++ commit 0 ⇒ says (refused 13)
     ∷ []
-
-unfoldable pub callsStillStale : List Call
-callsStillStale = callsSightedAgain ++ commit 0 ∷ []
-
-unfoldable pub repliesStillStale : List Reply
-repliesStillStale = repliesSightedAgain ++ says (refused 13) ∷ []
 
 -- "A number begun again is a new transaction": what T0 sighted before its Commit, and T2 before its Abort, makes neither stale.
-unfoldable pub callsBegunAgain : List Call
-callsBegunAgain =
+unfoldable pub toldBegunAgain : List Exchange
+toldBegunAgain =
     begins
-    ++ on 0 (getFilePointer 0)
-    ∷ on 2 (read 0 1 (dot ∷ []))
-    ∷ abort 2
-    ∷ commit 0
-    ∷ begin 0
-    ∷ begin 2
-    ∷ on 1 (write 0 (A ∷ []))
-    ∷ commit 1
-    ∷ commit 0
-    ∷ commit 2
-    ∷ []
-
-unfoldable pub repliesBegunAgain : List Reply
-repliesBegunAgain =
-    beginsReplies
-    ++ says (pointer 0)
-    ∷ gives 1 (0 ∷ [])
-    ∷ says plain
-    ∷ says (granted 0)
-    ∷ says plain
-    ∷ says plain
-    ∷ says plain
-    ∷ says (granted 0)
-    ∷ says (granted 0)
-    ∷ says (granted 0)
+    ++ on 0 (getFilePointer 0) ⇒ says (pointer 0)
+    ∷ on 2 (read 0 1 (dot ∷ [])) ⇒ gives 1 (0 ∷ [])
+    ∷ abort 2 ⇒ says plain
+    ∷ commit 0 ⇒ says (granted 0)
+    ∷ begin 0 ⇒ says plain
+    ∷ begin 2 ⇒ says plain
+    ∷ on 1 (write 0 (A ∷ [])) ⇒ says plain
+    ∷ commit 1 ⇒ says (granted 0)
+    ∷ commit 0 ⇒ says (granted 0)
+    ∷ commit 2 ⇒ says (granted 0)
     ∷ []
 
 -- "13 .. it ends as at Abort": begun again, T0 is not stale.
-unfoldable pub callsStaleEnded : List Call
-callsStaleEnded =
+unfoldable pub toldStaleEnded : List Exchange
+toldStaleEnded =
     begins
-    ++ on 0 (getFilePointer 0)
-    ∷ on 1 (seek 0 5)
-    ∷ commit 1
-    ∷ commit 0
-    ∷ begin 0
-    ∷ commit 0
-    ∷ []
-
-unfoldable pub repliesStaleEnded : List Reply
-repliesStaleEnded =
-    beginsReplies
-    ++ says (pointer 0)
-    ∷ says plain
-    ∷ says (granted 1)
-    ∷ says (refused 13)
-    ∷ says plain
-    ∷ says (granted 0)
+    ++ on 0 (getFilePointer 0) ⇒ says (pointer 0)
+    ∷ on 1 (seek 0 5) ⇒ says plain
+    ∷ commit 1 ⇒ says (granted 1)
+    ∷ commit 0 ⇒ says (refused 13)
+    ∷ begin 0 ⇒ says plain
+    ∷ commit 0 ⇒ says (granted 0)
     ∷ []
 
 -- The Commit of a transaction just begun is granted; then it is not open.
-unfoldable pub callsJustBegun : List Call
-callsJustBegun = begins ++ commit 0 ∷ commit 0 ∷ on 0 (seek 0 0) ∷ []
-
-unfoldable pub repliesJustBegun : List Reply
-repliesJustBegun = beginsReplies ++ says (granted 0) ∷ says (refused 4) ∷ says (refused 4) ∷ []
-
--- "Checked in this order": 3 before 4, 4 before 6, and 5 at a second Begin.
-unfoldable pub callsNumbers : List Call
-callsNumbers =
+unfoldable pub toldJustBegun : List Exchange
+toldJustBegun =
     begins
-    ++ begin 8
-    ∷ on 8 (seek 0 0)
-    ∷ commit 8
-    ∷ abort 8
-    ∷ on 3 (seek 16 0)
-    ∷ commit 3
-    ∷ abort 3
-    ∷ begin 0
+    ++ commit 0 ⇒ says (granted 0)
+    ∷ commit 0 ⇒ says (refused 4)
+    ∷ on 0 (seek 0 0) ⇒ says (refused 4)
     ∷ []
 
-unfoldable pub repliesNumbers : List Reply
-repliesNumbers =
-    beginsReplies
-    ++ says (refused 3)
-    ∷ says (refused 3)
-    ∷ says (refused 3)
-    ∷ says (refused 3)
-    ∷ says (refused 4)
-    ∷ says (refused 4)
-    ∷ says (refused 4)
-    ∷ says (refused 5)
+-- "Checked in this order": 3 before 4, 4 before 6, and 5 at a second Begin.
+unfoldable pub toldNumbers : List Exchange
+toldNumbers =
+    begins
+    ++ begin 8 ⇒ says (refused 3)
+    ∷ on 8 (seek 0 0) ⇒ says (refused 3)
+    ∷ commit 8 ⇒ says (refused 3)
+    ∷ abort 8 ⇒ says (refused 3)
+    ∷ on 3 (seek 16 0) ⇒ says (refused 4)
+    ∷ commit 3 ⇒ says (refused 4)
+    ∷ abort 3 ⇒ says (refused 4)
+    ∷ begin 0 ⇒ says (refused 5)
     ∷ []
 
 -- "Checked in this order": 6 before 7, 8 and 9; 7 before 12. A refused Read leaves the reader's buffer.
-unfoldable pub callsArguments : List Call
-callsArguments =
+unfoldable pub toldArguments : List Exchange
+toldArguments =
     begins
-    ++ on 1 (seek 0 4096)
-    ∷ commit 1
-    ∷ on 0 (read 16 2 (dot ∷ []))
-    ∷ on 0 (seek 16 4097)
-    ∷ on 0 (write 16 (replicate 4097 A))
-    ∷ on 0 (getFilePointer 16)
-    ∷ on 0 (write 0 (A ∷ []))
-    ∷ on 0 (read 0 2 (dot ∷ []))
-    ∷ on 0 (read 0 1 (dot ∷ []))
-    ∷ []
-
-unfoldable pub repliesArguments : List Reply
-repliesArguments =
-    beginsReplies
-    ++ says plain
-    ∷ says (granted 0)
-    ∷ refusesRead 6 (dot ∷ [])
-    ∷ says (refused 6)
-    ∷ says (refused 6)
-    ∷ says (refused 6)
-    ∷ says plain
-    ∷ refusesRead 7 (dot ∷ [])
-    ∷ refusesRead 12 (dot ∷ [])
+    ++ on 1 (seek 0 4096) ⇒ says plain
+    ∷ commit 1 ⇒ says (granted 0)
+    ∷ on 0 (read 16 2 (dot ∷ [])) ⇒ refusesRead 6 (dot ∷ [])
+    ∷ on 0 (seek 16 4097) ⇒ says (refused 6)
+    ∷ on 0 (write 16 (replicate 4097 A)) ⇒ says (refused 6)
+    ∷ on 0 (getFilePointer 16) ⇒ says (refused 6)
+    ∷ on 0 (write 0 (A ∷ [])) ⇒ says plain
+    ∷ on 0 (read 0 2 (dot ∷ [])) ⇒ refusesRead 7 (dot ∷ [])
+    ∷ on 0 (read 0 1 (dot ∷ [])) ⇒ refusesRead 12 (dot ∷ [])
     ∷ []
 
 -- "Checked in this order": 9 before 11, 10 before 11. A Write of 4,096 bytes fills the log; the last Write is the 65th record.
-unfoldable pub callsLog : List Call
-callsLog =
+unfoldable pub toldLog : List Exchange
+toldLog =
     begins
-    ++ on 0 (write 0 (replicate 4097 A))
-    ∷ on 0 (write 0 (replicate 4096 A))
-    ∷ on 0 (write 0 (A ∷ []))
-    ∷ on 0 (write 1 (A ∷ []))
-    ∷ replicate 63 (on 0 (write 1 []))
-    ++ on 0 (write 1 (A ∷ []))
-    ∷ []
-
-unfoldable pub repliesLog : List Reply
-repliesLog =
-    beginsReplies
-    ++ says (refused 9)
-    ∷ says plain
-    ∷ says (refused 9)
-    ∷ says (refused 11)
-    ∷ replicate 63 (says plain)
-    ++ says (refused 10)
+    ++ on 0 (write 0 (replicate 4097 A)) ⇒ says (refused 9)
+    ∷ on 0 (write 0 (replicate 4096 A)) ⇒ says plain
+    ∷ on 0 (write 0 (A ∷ [])) ⇒ says (refused 9)
+    ∷ on 0 (write 1 (A ∷ [])) ⇒ says (refused 11)
+    ∷ replicate 63 (on 0 (write 1 []) ⇒ says plain)
+    ++ on 0 (write 1 (A ∷ [])) ⇒ says (refused 10)
     ∷ []
 
 -- Own writes over one another: "Each byte is that of the transaction's own latest write over the place, in call order", and "The
 -- writes of the transaction land in call order".
-unfoldable pub callsOverlap : List Call
-callsOverlap =
+unfoldable pub toldOverlap : List Exchange
+toldOverlap =
     begins
-    ++ on 0 (seek 0 0)
-    ∷ on 0 (write 0 (A ∷ B ∷ X ∷ []))
-    ∷ on 0 (seek 0 1)
-    ∷ on 0 (write 0 (C ∷ []))
-    ∷ on 0 (seek 0 0)
-    ∷ on 0 (read 0 3 (dot ∷ dot ∷ dot ∷ []))
-    ∷ commit 0
+    ++ on 0 (seek 0 0) ⇒ says plain
+    ∷ on 0 (write 0 (A ∷ B ∷ X ∷ [])) ⇒ says plain
+    ∷ on 0 (seek 0 1) ⇒ says plain
+    ∷ on 0 (write 0 (C ∷ [])) ⇒ says plain
+    ∷ on 0 (seek 0 0) ⇒ says plain
+    ∷ on 0 (read 0 3 (dot ∷ dot ∷ dot ∷ [])) ⇒ gives 3 (A ∷ C ∷ X ∷ [])
+    ∷ commit 0 ⇒ says (granted 0)
     ∷ []
 
-unfoldable pub repliesOverlap : List Reply
-repliesOverlap =
-    beginsReplies
-    ++ says plain
-    ∷ says plain
-    ∷ says plain
-    ∷ says plain
-    ∷ says plain
-    ∷ gives 3 (A ∷ C ∷ X ∷ [])
-    ∷ says (granted 0)
+-- Two appends of one transaction land one after the other: "those still deferred lie from the committed offset of that moment", each
+-- after the advance before it.
+unfoldable pub toldTwoAppends : List Exchange
+toldTwoAppends =
+    begins
+    ++ on 0 (write 0 (A ∷ [])) ⇒ says plain
+    ∷ on 0 (write 0 (B ∷ [])) ⇒ says plain
+    ∷ commit 0 ⇒ says (granted 0)
+    ∷ []
+
+-- A write in file 1 does not show in file 0.
+unfoldable pub toldOtherFile : List Exchange
+toldOtherFile =
+    begins
+    ++ on 0 (seek 1 0) ⇒ says plain
+    ∷ on 0 (write 1 (A ∷ [])) ⇒ says plain
+    ∷ on 0 (seek 0 0) ⇒ says plain
+    ∷ on 0 (read 0 1 (dot ∷ [])) ⇒ gives 1 (0 ∷ [])
+    ∷ []
+
+-- From committed offset 3: "Deferred becomes Known at c + advance. .. Each write made while the place was unknown now lies at c plus
+-- the advance before it"; Known takes "v at a Seek, and n more at a Write or at a Read that gave n bytes", and Commit sets "its own".
+unfoldable pub toldKnown : List Exchange
+toldKnown =
+    begins
+    ++ on 1 (seek 0 3) ⇒ says plain
+    ∷ commit 1 ⇒ says (granted 0)
+    ∷ on 0 (write 0 (A ∷ [])) ⇒ says plain
+    ∷ on 0 (write 0 (B ∷ [])) ⇒ says plain
+    ∷ on 0 (getFilePointer 0) ⇒ says (pointer 5)
+    ∷ on 0 (write 0 (C ∷ [])) ⇒ says plain
+    ∷ on 0 (getFilePointer 0) ⇒ says (pointer 6)
+    ∷ on 0 (seek 0 3) ⇒ says plain
+    ∷ on 0 (read 0 4 (dot ∷ dot ∷ dot ∷ dot ∷ [])) ⇒ gives 4 (A ∷ B ∷ C ∷ 0 ∷ [])
+    ∷ on 0 (getFilePointer 0) ⇒ says (pointer 7)
+    ∷ commit 0 ⇒ says (granted 0)
+    ∷ []
+
+-- A Placed offset takes n more at a Write and at a Read.
+unfoldable pub toldPlaced : List Exchange
+toldPlaced =
+    begins
+    ++ on 0 (seek 0 3) ⇒ says plain
+    ∷ on 0 (write 0 (A ∷ B ∷ [])) ⇒ says plain
+    ∷ on 0 (getFilePointer 0) ⇒ says (pointer 5)
+    ∷ on 0 (read 0 2 (dot ∷ dot ∷ [])) ⇒ gives 2 (0 ∷ 0 ∷ [])
+    ∷ on 0 (getFilePointer 0) ⇒ says (pointer 7)
+    ∷ []
+
+-- Moved keeps its advance and takes each Seek and Write on its offset. 12: "settling, or Commit's placing, takes committed offset
+-- plus advance above 4,096": at 4,096 Read and Commit meet it; at 4,095 A lands there.
+unfoldable pub toldMovedTwice : List Exchange
+toldMovedTwice =
+    begins
+    ++ on 1 (seek 0 4096) ⇒ says plain
+    ∷ commit 1 ⇒ says (granted 0)
+    ∷ on 0 (write 0 (A ∷ [])) ⇒ says plain
+    ∷ on 0 (seek 0 9) ⇒ says plain
+    ∷ on 0 (seek 0 5) ⇒ says plain
+    ∷ on 0 (write 0 (B ∷ C ∷ [])) ⇒ says plain
+    ∷ on 0 (getFilePointer 0) ⇒ says (pointer 7)
+    ∷ on 0 (read 0 1 (dot ∷ [])) ⇒ refusesRead 12 (dot ∷ [])
+    ∷ commit 0 ⇒ says (refused 12)
+    ∷ on 2 (seek 0 4095) ⇒ says plain
+    ∷ commit 2 ⇒ says (granted 0)
+    ∷ commit 0 ⇒ says (granted 0)
+    ∷ []
+
+-- Settling reaches 4,096.
+unfoldable pub toldLastPlace : List Exchange
+toldLastPlace =
+    begins
+    ++ on 1 (seek 0 4095) ⇒ says plain
+    ∷ commit 1 ⇒ says (granted 0)
+    ∷ on 0 (write 0 (A ∷ [])) ⇒ says plain
+    ∷ on 0 (getFilePointer 0) ⇒ says (pointer 4096)
+    ∷ []
+
+-- The offset of an Untouched descriptor is set by nobody's commit; it is settled at the committed one.
+unfoldable pub toldUntouched : List Exchange
+toldUntouched =
+    begins
+    ++ on 1 (seek 1 5) ⇒ says plain
+    ∷ commit 1 ⇒ says (granted 0)
+    ∷ on 0 (getFilePointer 1) ⇒ says (pointer 5)
+    ∷ on 2 (seek 0 3) ⇒ says plain
+    ∷ commit 2 ⇒ says (granted 0)
+    ∷ commit 0 ⇒ says (granted 0)
+    ∷ []
+
+-- Placed is never sighted.
+unfoldable pub toldPlacedUnsighted : List Exchange
+toldPlacedUnsighted =
+    begins
+    ++ on 0 (seek 0 0) ⇒ says plain
+    ∷ on 0 (getFilePointer 0) ⇒ says (pointer 0)
+    ∷ on 1 (seek 0 5) ⇒ says plain
+    ∷ commit 1 ⇒ says (granted 0)
+    ∷ []
+
+-- Descriptor 15, of file 7 as 7 is, is settled by a Read, set by a Commit and looked at by 12 as any other.
+unfoldable pub toldFifteen : List Exchange
+toldFifteen =
+    begins
+    ++ on 0 (write 15 (A ∷ [])) ⇒ says plain
+    ∷ on 0 (seek 7 0) ⇒ says plain
+    ∷ on 0 (read 7 1 (dot ∷ [])) ⇒ gives 1 (A ∷ [])
+    ∷ []
+
+unfoldable pub toldFifteenSet : List Exchange
+toldFifteenSet =
+    toldFifteen
+    ++ on 1 (seek 15 4096) ⇒ says plain
+    ∷ commit 1 ⇒ says (granted 1)
+    ∷ commit 0 ⇒ says (refused 13)
+    ∷ on 2 (write 15 (B ∷ [])) ⇒ says plain
+    ∷ commit 2 ⇒ says (refused 12)
+    ∷ []
+
+-- "A call's sightings are listed settled offsets first, by descriptor, then bytes by place": 0 and 8 stand Deferred.
+unfoldable pub toldInOrder : List Exchange
+toldInOrder =
+    begins
+    ++ on 0 (write 0 []) ⇒ says plain
+    ∷ on 0 (write 8 []) ⇒ says plain
+    ∷ on 0 (read 8 2 (dot ∷ dot ∷ [])) ⇒ gives 2 (0 ∷ 0 ∷ [])
+    ∷ []
+
+-- A descriptor that stands Known is not sighted again.
+unfoldable pub toldKnownOnce : List Exchange
+toldKnownOnce =
+    begins
+    ++ on 0 (read 0 1 (dot ∷ [])) ⇒ gives 1 (0 ∷ [])
+    ∷ on 0 (read 0 1 (dot ∷ [])) ⇒ gives 1 (0 ∷ [])
+    ∷ []
+
+-- Settling 0 leaves the write through 1 deferred.
+unfoldable pub toldSettledAlone : List Exchange
+toldSettledAlone =
+    begins
+    ++ on 0 (write 0 (A ∷ [])) ⇒ says plain
+    ∷ on 0 (write 1 (B ∷ [])) ⇒ says plain
+    ∷ on 0 (getFilePointer 0) ⇒ says (pointer 1)
+    ∷ on 1 (seek 1 4) ⇒ says plain
+    ∷ commit 1 ⇒ says (granted 0)
+    ∷ commit 0 ⇒ says (granted 0)
     ∷ []
 
 -- What situations k and l and the corners come to, together.
 pub record Corners (x : Seen) : Type 0 where
-  pub k : x .replies callsK ≡ repliesK
-  pub l : x .replies callsL ≡ repliesL
-  pub staleFirst : x .replies callsStaleFirst ≡ repliesStaleFirst
-  pub refusedSettling : (x .replies callsRefusedSettling ≡ repliesRefusedSettling) × (sightingsOf callsRefusedSettling 1 ≡ [])
+  pub k : Goes x toldK
+  pub l : Goes x toldL
+  pub staleFirst : Goes x toldStaleFirst
+  pub refusedSettling : Goes x toldRefusedSettling × (sightingsOf (callsOf toldRefusedSettling) 1 ≡ [])
   pub unsighted :
-      (x .replies callsUnsighted ≡ repliesUnsighted) × (beginning (x .value callsUnsighted) 0 1 ≡ A ∷ []) × (x .value callsUnsighted (offset 0) ≡ 1)
-  pub moved : (x .replies callsMoved ≡ repliesMoved) × (sightingsOf callsMoved 0 ≡ record { item = offset 8; setter = 0 } ∷ [])
-  pub movedStale : x .replies callsMovedStale ≡ repliesMovedStale
-  pub neighbour : (x .replies callsNeighbour ≡ repliesNeighbour) × (sightingsOf callsNeighbour 0 ≡ record { item = byte 0; setter = 0 } ∷ [])
+      Goes x toldUnsighted × (beginning (x .value (callsOf toldUnsighted)) 0 1 ≡ A ∷ []) × (x .value (callsOf toldUnsighted) (offset 0) ≡ 1)
+  pub moved : Goes x toldMoved × (sightingsOf (callsOf toldMoved) 0 ≡ sighted (offset 8) 0 ∷ [])
+  pub movedStale : Goes x toldMovedStale
+  pub neighbour : Goes x toldNeighbour × (sightingsOf (callsOf toldNeighbour) 0 ≡ sighted (byte 0) 0 ∷ [])
   pub neighbourSet :
-      (x .replies callsNeighbourSet ≡ repliesNeighbourSet)
-      × (x .value callsNeighbourSet (offset 0) ≡ 1)
-      × (x .value callsNeighbourSet (offset 8) ≡ 5)
-  pub readNone : (x .replies callsReadNone ≡ repliesReadNone) × (sightingsOf callsReadNone 0 ≡ record { item = offset 0; setter = 0 } ∷ [])
-  pub readNoneStale : x .replies callsReadNoneStale ≡ repliesReadNoneStale
-  pub writeNone : x .replies callsWriteNone ≡ repliesWriteNone
+      Goes x toldNeighbourSet
+      × (x .value (callsOf toldNeighbourSet) (offset 0) ≡ 1)
+      × (x .value (callsOf toldNeighbourSet) (offset 8) ≡ 5)
+  pub readNone : Goes x toldReadNone × (sightingsOf (callsOf toldReadNone) 0 ≡ sighted (offset 0) 0 ∷ [])
+  pub readNoneStale : Goes x toldReadNoneStale
+  pub writeNone : Goes x toldWriteNone
   pub sightedAgain :
-      (x .replies callsSightedAgain ≡ repliesSightedAgain)
-      × (sightingsOf callsSightedAgain 0
-      ≡ record { item = byte 0; setter = 0 }
-      ∷ record { item = byte 0; setter = 1 }
+      Goes x toldSightedAgain
+      × (sightingsOf (callsOf toldSightedAgain) 0
+      ≡ sighted (byte 0) 0
+      ∷ sighted (byte 0) 1
       ∷ [])
-  pub stillStale : x .replies callsStillStale ≡ repliesStillStale
-  pub begunAgain : x .replies callsBegunAgain ≡ repliesBegunAgain
-  pub staleEnded : x .replies callsStaleEnded ≡ repliesStaleEnded
-  pub justBegun : x .replies callsJustBegun ≡ repliesJustBegun
-  pub numbers : x .replies callsNumbers ≡ repliesNumbers
-  pub arguments : x .replies callsArguments ≡ repliesArguments
-  pub log : x .replies callsLog ≡ repliesLog
-  pub overlap : (x .replies callsOverlap ≡ repliesOverlap) × (beginning (x .value callsOverlap) 0 3 ≡ A ∷ C ∷ X ∷ [])
+  pub stillStale : Goes x toldStillStale
+  pub begunAgain : Goes x toldBegunAgain
+  pub staleEnded : Goes x toldStaleEnded
+  pub justBegun : Goes x toldJustBegun
+  pub numbers : Goes x toldNumbers
+  pub arguments : Goes x toldArguments
+  pub log : Goes x toldLog
+  pub overlap : Goes x toldOverlap × (beginning (x .value (callsOf toldOverlap)) 0 3 ≡ A ∷ C ∷ X ∷ [])
+  pub twoAppends :
+      Goes x toldTwoAppends × (beginning (x .value (callsOf toldTwoAppends)) 0 2 ≡ A ∷ B ∷ []) × (x .value (callsOf toldTwoAppends) (offset 0) ≡ 2)
+  pub otherFile : Goes x toldOtherFile
+  pub known :
+      Goes x toldKnown
+      × (beginning (x .value (callsOf toldKnown)) 0 6 ≡ 0 ∷ 0 ∷ 0 ∷ A ∷ B ∷ C ∷ [])
+      × (x .value (callsOf toldKnown) (offset 0) ≡ 7)
+  pub placed : Goes x toldPlaced
+  pub movedTwice :
+      Goes x toldMovedTwice
+      × (x .value (callsOf toldMovedTwice) (byte 4095) ≡ A)
+      × (committedBytes (x .value (callsOf toldMovedTwice)) 5 2 ≡ B ∷ C ∷ [])
+      × (x .value (callsOf toldMovedTwice) (offset 0) ≡ 7)
+  pub lastPlace : Goes x toldLastPlace
+  pub untouched : Goes x toldUntouched × (x .value (callsOf toldUntouched) (offset 1) ≡ 5)
+  pub placedUnsighted : Goes x toldPlacedUnsighted × (sightingsOf (callsOf toldPlacedUnsighted) 0 ≡ [])
+  pub fifteen : Goes x toldFifteen × (sightingsOf (callsOf toldFifteen) 0 ≡ sighted (offset 15) 0 ∷ [])
+  pub fifteenSet : Goes x toldFifteenSet × (x .value (callsOf toldFifteenSet) (offset 15) ≡ 4096)
+  pub inOrder :
+      Goes x toldInOrder
+      × (sightingsOf (callsOf toldInOrder) 0
+      ≡ sighted (offset 0) 0
+      ∷ sighted (offset 8) 0
+      ∷ sighted (byte 0) 0
+      ∷ sighted (byte 1) 0
+      ∷ [])
+  pub knownOnce :
+      Goes x toldKnownOnce
+      × (sightingsOf (callsOf toldKnownOnce) 0 ≡ sighted (offset 0) 0 ∷ sighted (byte 0) 0 ∷ sighted (byte 1) 0 ∷ [])
+  pub settledAlone :
+      Goes x toldSettledAlone
+      × (x .value (callsOf toldSettledAlone) (byte 4100) ≡ B)
+      × (x .value (callsOf toldSettledAlone) (offset 1) ≡ 5)

@@ -4,14 +4,15 @@ use mathlib.Core.Bool.{Bool, true, false}
 use mathlib.Core.List.{List, [], _∷_, map}
 use mathlib.Core.Logic.{_↔_}
 use mathlib.Core.Path.{_≡_}
-use lib.Dec.{leb}
-use lib.ListN.{length, getD}
+use lib.ListN.{getD}
 use Prim.Native.Nat.{ℕ, _≤_}
 use Rattle.record.specs.declared.outcomes.Outcome.{Outcome}
+use Rattle.record.specs.declared.outcomes.Refusal.the-variants.{Stale}
 use Rattle.record.specs.State.{transaction}
-use Rattle.record.specs.Paper.{refusals, Said, plain, granted, refused, said}
-use Rattle.rules.specs.Plain.{Call, begin, on, commit, abort, Reply, Slot, closed, running, Running, Plain, freshPlain, plainCall, plainAfter, plainReplies, firstList, secondList, becameStale, grantsOf}
-use Rattle.rules.specs.Serial.{serially, AllSame}
+use Rattle.record.specs.Paper.{number, Said, plain, granted, refused, said}
+use Rattle.rules.specs.Messages.{Call, commit, Reply}
+use Rattle.rules.specs.Plain.{Slot, closed, running, Running, Plain, freshPlain, plainCall, plainAfter, plainReplies, firstList, secondList, becameStale}
+use Rattle.rules.specs.Grants.{grantsOf, rerun, sameReplies}
 use Rattle.rules.specs.Machine.{Machine, values}
 use Rattle.rules.specs.Calls.{Turn, fresh, call, callsAfter, callsReplies}
 use Rattle.rules.specs.Promises.{Meets}
@@ -26,8 +27,8 @@ unfoldable pub isRunning : Slot → Bool
 isRunning closed = false
 isRunning (running r) = true
 
--- What holds after a list of calls cs, of the store m and the plain machine p that it leads to, from the fresh store m₀ and the
--- fresh machine p₀. As it is claimed for every list, it holds at every moment of each.
+-- What holds after a list of calls cs, of the store m and the plain machine p that it leads to, from the store m₀ and the machine
+-- p₀. As it is claimed for every list, it holds at every moment of each.
 pub record Holds (m₀ : Machine) (p₀ : Plain) (cs : List Call) (m : Machine) (p : Plain) : Type 0 where
   -- "the store returns the plain machine's refusals": each call gives what the plain machine gives, answer and buffer.
   pub replies : callsReplies cs m₀ ≡ plainReplies cs p₀
@@ -37,15 +38,15 @@ pub record Holds (m₀ : Machine) (p₀ : Plain) (cs : List Call) (m : Machine) 
   -- equal"
   pub staleness :
       (t : ℕ) (r : Running) → t ≤ 7 → p .slots t ≡ running r
-      → (call (commit t) m .reply .answer ≡ refused 13 → ⊥) ↔ (firstList r ≡ secondList p r)
+      → (call (commit t) m .reply .answer ≡ refused (number Stale) → ⊥) ↔ (firstList r ≡ secondList p r)
   -- "it must equal the other open ones whose two lists were equal before that commit and aren't after it"
   pub number :
       (t n : ℕ) → call (commit t) m .reply .answer ≡ granted n → n ≡ becameStale p (plainCall (commit t) p .after) 8
   -- "the granted transactions, run again alone in grant order from the same fresh state with all their accepted calls, meet no
-  -- refusal, give the same answers and bytes"
-  pub again : AllSame (p₀ .fileOf) 0 (grantsOf cs p₀) (p₀ .committed)
+  -- refusal, give the same answers and bytes": the list of calls that does so gives on the plain machine the replies that they had.
+  pub again : plainReplies (rerun (grantsOf cs p₀)) p₀ ≡ sameReplies (grantsOf cs p₀)
   -- "and leave the same files and offsets"
-  pub left : values (m .store) (m .files) ≡ serially (p₀ .fileOf) 0 (grantsOf cs p₀) (p₀ .committed) .value
+  pub left : values (m .store) (m .files) ≡ plainAfter (rerun (grantsOf cs p₀)) p₀ .committed .value
   -- "A store reached from Fresh by these calls never meets 2": nor 1, while the caller lends the same buffers.
   pub ranges : (c : Call) → (call c m .reply .answer ≡ refused 2 → ⊥) × (call c m .reply .answer ≡ refused 1 → ⊥)
 
@@ -88,21 +89,3 @@ Demand3OfCode =
     → Meets (fresh numbers before) o m₀ [] → said o ≡ plain
     → let p₀ : Plain = freshPlain (λ d. getD numbers d 0) in
     (xs : List Made) → Linked m₀ xs → CodeHolds m₀ p₀ xs
-
--- Demand 1 about the rules: "A refusal changes no buffer and no record, save that a commit refused as stale (13) ends its
--- transaction as an abort does."
-unfoldable pub bufferOfCall : Call → List ℕ
-bufferOfCall (begin t) = []
-bufferOfCall (on t o) = Rattle.rules.specs.Steps.bufferOf o
-bufferOfCall (commit t) = []
-bufferOfCall (abort t) = []
-
-pub record Refusals (m : Machine) : Type 0 where
-  pub leaves :
-      (c : Call) (n : ℕ) → call c m .reply .answer ≡ refused n → (n ≡ 13 → ⊥)
-      → (call c m .after ≡ m) × (call c m .reply .buffer ≡ bufferOfCall c)
-  pub ends :
-      (c : Call) → call c m .reply .answer ≡ refused 13
-      → (t : ℕ) × (c ≡ commit t) × (call c m .after ≡ call (abort t) m .after)
-  pub known : (c : Call) (n : ℕ) → call c m .reply .answer ≡ refused n → n ≤ refusals
-  pub freshLeaves : (numbers : List ℕ) (n : ℕ) → fresh numbers m .reply .answer ≡ refused n → fresh numbers m .after ≡ m

@@ -1,5 +1,7 @@
 -- The meaning of the store, in the order in which it is read.
 
+-- Calls and replies as data.
+pub mod Messages
 -- One transaction: what can be sighted; settling; reading; Seek, Write, GetFilePointer and Read. (The table of standings is
 -- standings/specs/Table.antt.)
 pub mod Items
@@ -12,10 +14,16 @@ pub mod Commits
 pub mod Machine
 pub mod Calls
 pub mod Promises
--- Demand 3: the plain machine, the serial order, the statement.
+-- The plain machine: sightings with their setters, the lone run, the machine, its grants and their second run.
+pub mod Sightings
+pub mod Lone
 pub mod Plain
-pub mod Serial
+pub mod Grants
+-- The statements.
+pub mod Demand1
 pub mod Demand3
+pub mod Age
+pub mod Buffers
 -- The situations and corners of paper 01.
 pub mod Setup
 pub mod Situations

@@ -98,6 +98,6 @@ holding y x =
     withUsed (record { records = length (y .writes); bytes = total (y .writes) })
     (withDescriptors (tabulate (λ d. record { standing = y .standing d }) 16) x)
 
--- The machine after transaction t has become y.
+-- The store after transaction t has become y.
 unfoldable pub withTxn : ℕ → Txn → Store → Store
 withTxn t y s = withTransaction t (holding y (transaction s t)) s

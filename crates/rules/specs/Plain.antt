@@ -1,49 +1,18 @@
--- The plain machine of demand 3, as paper 01 words it. It has no marks and looks at nothing in the store's record or buffers.
+-- The plain machine of demand 3, as paper 01 words it. "It has no marks and looks at nothing in the store's record or buffers."
 use mathlib.Core.Bool.{Bool, true, false, cond, not, _&&_}
 use mathlib.Core.List.{List, [], _∷_, _++_, map}
 use lib.Dec.{leb, eqb}
 use Prim.Native.Nat.{ℕ, zero, suc, _+_}
-use Rattle.record.specs.Paper.{Said, plain, granted, refused}
-use Rattle.rules.specs.Items.{Item, same, Values, Prog, result, asked}
+use Rattle.record.specs.declared.outcomes.Refusal.the-variants.{Stale}
+use Rattle.record.specs.Paper.{number, Said, plain, granted, refused}
+use Rattle.ranges.specs.Below.{guarded}
+use Rattle.rules.specs.Messages.{Op, bufferOf, Call, begin, on, commit, abort, Reply, says}
+use Rattle.rules.specs.Items.{Item, Values, result, asked}
 use Rattle.rules.specs.Transactions.{Txn, empty, put}
-use Rattle.rules.specs.Steps.{Op, bufferOf, Stepped, refuse, accept, step}
+use Rattle.rules.specs.Steps.{Stepped, refuse, accept, step}
 use Rattle.rules.specs.Commits.{settings, fits, landed, setBy, commitRefusal}
-
--- The seven calls of demand 3, each with its transaction number.
-pub data Call : Type 0 where
-  begin : ℕ → Call
-  on : ℕ → Op → Call
-  commit : ℕ → Call
-  abort : ℕ → Call
-
--- What a call gives: its answer, and the reader's buffer after it (empty where it has none).
-pub record Reply : Type 0 where
-  pub answer : Said
-  pub buffer : List ℕ
-
--- "An entry of a list says which offset or which byte was sighted, together with its setter."
-pub record Entry : Type 0 where
-  pub item : Item
-  pub setter : ℕ
-
-unfoldable pub sameEntry : Entry → Entry → Bool
-sameEntry a b = same (a .item) (b .item) && eqb (a .setter) (b .setter)
-
-unfoldable pub sameEntries : List Entry → List Entry → Bool
-sameEntries [] [] = true
-sameEntries [] (b ∷ bs) = false
-sameEntries (a ∷ es) [] = false
-sameEntries (a ∷ es) (b ∷ bs) = sameEntry a b && sameEntries es bs
-
--- "The setter of an offset or byte is the number, from 1, of the granted commit that last set it, 0 for Fresh."
-pub record Committed : Type 0 where
-  pub value : Values
-  pub setter : Values
-
--- "the sightings with the setters of that moment"
-unfoldable pub entries : Values → List Item → List Entry
-entries setter [] = []
-entries setter (i ∷ is) = record { item = i; setter = setter i } ∷ entries setter is
+use Rattle.rules.specs.Sightings.{Entry, sameEntries, Committed, entries}
+use Rattle.rules.specs.Lone.{lone}
 
 -- An accepted call with what it gave.
 pub record Accepted : Type 0 where
@@ -67,41 +36,20 @@ pub data Slot : Type 0 where
   closed : Slot
   running : Running → Slot
 
--- "It holds these [files, each descriptor's file, offsets, setters], a count of grants from 0, and for each open transaction .."
+-- "It holds these, a count of grants from 0, and for each open transaction its accepted calls, standings, writes and sightings."
 pub record Plain : Type 0 where
   pub fileOf : ℕ → ℕ
   pub committed : Committed
   pub grants : ℕ
   pub slots : ℕ → Slot
 
+-- The machine with these committed values and nothing open, counting its grants from here on.
+unfoldable pub startPlain : (ℕ → ℕ) → Values → Plain
+startPlain fileOf v = record { fileOf = fileOf; committed = record { value = v; setter = λ i. 0 }; grants = 0; slots = λ t. closed }
+
 -- "starts with the files, each descriptor's file, the offsets and the setters that an accepted Fresh gives"
-unfoldable pub freshPlain : (ℕ → ℕ) → Plain
-freshPlain fileOf =
-    record { fileOf = fileOf; committed = record { value = λ i. 0; setter = λ i. 0 }; grants = 0; slots = λ t. closed }
-
--- What a lone run gives: the transaction it ends with, its replies and sightings, and whether it got through all its calls.
-pub record Lone : Type 0 where
-  pub through : Bool
-  pub txn : Txn
-  pub replies : List Reply
-  pub seen : List Entry
-
-unfoldable pub stopped : Txn → Lone
-stopped x = record { through = false; txn = x; replies = []; seen = [] }
-
-unfoldable pub prepend : Reply → List Entry → Lone → Lone
-prepend r es l = record { through = l .through; txn = l .txn; replies = r ∷ l .replies; seen = es ++ l .seen }
-
--- "Run alone, a transaction starts just begun, with no other open, on the files, offsets and setters named. The run stops before
--- the first call that meets one of 6 to 12."
-unfoldable pub goOn : (Txn → Lone) → Txn → List Entry → Stepped → Lone
-goOn rest x es (refuse n) = stopped x
-goOn rest x es (accept y answer buffer) = prepend (record { answer = answer; buffer = buffer }) es (rest y)
-
-unfoldable pub lone : (ℕ → ℕ) → Committed → List Op → Txn → Lone
-lone fileOf c [] x = record { through = true; txn = x; replies = []; seen = [] }
-lone fileOf c (o ∷ os) x =
-    goOn (λ y. lone fileOf c os y) x (entries (c .setter) (asked (c .value) (step fileOf o x))) (result (c .value) (step fileOf o x))
+abbrev pub freshPlain : (ℕ → ℕ) → Plain
+freshPlain fileOf = startPlain fileOf (λ i. 0)
 
 unfoldable pub ops : List Accepted → List Op
 ops = map (λ a. a .op)
@@ -137,7 +85,7 @@ withGrant c p = record { fileOf = p .fileOf; committed = c; grants = p .grants +
 unfoldable pub answering : Said → Plain → PlainTurn
 answering a p = record { reply = record { answer = a; buffer = [] }; after = p }
 
--- "5: Begin of one already open"; "Begin opens a transaction with nothing in it, all Untouched."
+-- 5: "Begin of one already open"; "Begin opens a transaction with nothing in it, all Untouched."
 unfoldable pub plainBegin : ℕ → Slot → Plain → PlainTurn
 plainBegin t closed p = answering plain (withSlot t (running justBegun) p)
 plainBegin t (running r) p = turnedDown 5 [] p
@@ -186,7 +134,7 @@ plainCommitted t r p zero = answering (granted (becameStale p (grant t r p) 8)) 
 plainCommitted t r p (suc n) =
     record {
       reply = record { answer = refused (suc n); buffer = [] };
-      after = cond (eqb (suc n) 13) (withSlot t closed p) p;
+      after = cond (eqb (suc n) (number Stale)) (withSlot t closed p) p;
     }
 
 unfoldable pub plainCommit : ℕ → Slot → Plain → PlainTurn
@@ -197,9 +145,9 @@ unfoldable pub plainAbort : ℕ → Slot → Plain → PlainTurn
 plainAbort t closed p = turnedDown 4 [] p
 plainAbort t (running r) p = answering plain (withSlot t closed p)
 
--- "3: transaction number above 7"
+-- 3: "transaction number above 7"
 unfoldable pub numbered : ℕ → List ℕ → (Slot → Plain → PlainTurn) → Plain → PlainTurn
-numbered t buffer next p = cond (leb t 7) (next (p .slots t) p) (turnedDown 3 buffer p)
+numbered t buffer next p = guarded (λ n. turnedDown n buffer p) (leb t 7) 3 (next (p .slots t) p)
 
 unfoldable pub plainCall : Call → Plain → PlainTurn
 plainCall (begin t) p = numbered t [] (plainBegin t) p
@@ -215,27 +163,3 @@ plainAfter (c ∷ cs) p = plainAfter cs (plainCall c p .after)
 unfoldable pub plainReplies : List Call → Plain → List Reply
 plainReplies [] p = []
 plainReplies (c ∷ cs) p = plainCall c p .reply ∷ plainReplies cs (plainCall c p .after)
-
--- "A call is accepted when it returns no refusal; a Commit is then granted": the accepted calls of the transaction that a call
--- commits, where it is granted.
-unfoldable pub callsOf : Slot → List (List Accepted)
-callsOf closed = []
-callsOf (running r) = r .calls ∷ []
-
-unfoldable pub ifGranted : Said → List (List Accepted) → List (List Accepted)
-ifGranted plain gs = []
-ifGranted (Said.pointer o) gs = []
-ifGranted (Said.given n) gs = []
-ifGranted (granted n) gs = gs
-ifGranted (refused n) gs = []
-
-unfoldable pub grantedBy : Call → Plain → List (List Accepted)
-grantedBy (begin t) p = []
-grantedBy (on t o) p = []
-grantedBy (commit t) p = ifGranted (plainCall (commit t) p .reply .answer) (callsOf (p .slots t))
-grantedBy (abort t) p = []
-
--- The granted transactions of a list of calls, in the order of their grants.
-unfoldable pub grantsOf : List Call → Plain → List (List Accepted)
-grantsOf [] p = []
-grantsOf (c ∷ cs) p = grantedBy c p ++ grantsOf cs (plainCall c p .after)

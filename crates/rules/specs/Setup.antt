@@ -1,10 +1,13 @@
 -- How the situations are told: from Fresh, and what is looked at after a list of calls.
-use mathlib.Core.List.{List, [], _∷_}
+use mathlib.Core.List.{List, [], _∷_, map}
+use mathlib.Core.Path.{_≡_}
 use lib.ListN.{getD}
 use Prim.Native.Nat.{ℕ, zero, suc, _*_}
 use Rattle.record.specs.Paper.{Said, plain, given, refused}
-use Rattle.rules.specs.Items.{byte, Values}
-use Rattle.rules.specs.Plain.{Call, begin, Reply, Entry, Slot, closed, running, Plain, freshPlain, plainReplies, plainAfter}
+use Rattle.rules.specs.Items.{Item, byte, Values}
+use Rattle.rules.specs.Messages.{Call, begin, Reply, says}
+use Rattle.rules.specs.Sightings.{Entry}
+use Rattle.rules.specs.Plain.{Slot, closed, running, Plain, freshPlain, plainReplies, plainAfter}
 use Rattle.rules.specs.Machine.{Machine, values}
 use Rattle.rules.specs.Calls.{callsReplies, callsAfter}
 
@@ -27,6 +30,26 @@ unfoldable pub onStore : Machine → Seen
 onStore m =
     record { replies = λ cs. callsReplies cs m; value = λ cs. values (callsAfter cs m .store) (callsAfter cs m .files) }
 
+-- A call and the reply that it is to give; a list of them is held against the paper line by line.
+pub record Exchange : Type 0 where
+  pub call : Call
+  pub reply : Reply
+
+infix 90 _⇒_
+abbrev pub _⇒_ : Call → Reply → Exchange
+c ⇒ r = record { call = c; reply = r }
+
+unfoldable pub callsOf : List Exchange → List Call
+callsOf = map (λ e. e .call)
+
+-- The calls of the list give the replies of the list.
+abbrev pub Goes : Seen → List Exchange → Type 0
+Goes x es = x .replies (callsOf es) ≡ map (λ e. e .reply) es
+
+-- "T0 to T2 are begun."
+unfoldable pub begins : List Exchange
+begins = begin 0 ⇒ says plain ∷ begin 1 ⇒ says plain ∷ begin 2 ⇒ says plain ∷ []
+
 -- n committed bytes from a place of the files buffer on.
 unfoldable pub committedBytes : Values → ℕ → ℕ → List ℕ
 committedBytes v q zero = []
@@ -44,23 +67,17 @@ seenIn (running r) = r .seen
 unfoldable pub sightingsOf : List Call → ℕ → List Entry
 sightingsOf cs t = seenIn (plainAfter cs freshNumbered .slots t)
 
--- A reply with no reader's buffer, and the reply of a Read that gave n bytes, with the buffer after it.
-abbrev pub says : Said → Reply
-says a = record { answer = a; buffer = [] }
+-- An entry of a list of sightings.
+abbrev pub sighted : Item → ℕ → Entry
+sighted i n = record { item = i; setter = n }
 
+-- The reply of a Read that gave n bytes, with the buffer after it.
 abbrev pub gives : ℕ → List ℕ → Reply
 gives n buffer = record { answer = given n; buffer = buffer }
 
 -- The reply of a refused Read, with the reader's buffer.
 abbrev pub refusesRead : ℕ → List ℕ → Reply
 refusesRead n buffer = record { answer = refused n; buffer = buffer }
-
--- "T0 to T2 are begun."
-unfoldable pub begins : List Call
-begins = begin 0 ∷ begin 1 ∷ begin 2 ∷ []
-
-unfoldable pub beginsReplies : List Reply
-beginsReplies = says plain ∷ says plain ∷ says plain ∷ []
 
 -- The bytes that the situations write, and the one that fills a reader's buffer before a Read.
 abbrev pub A : ℕ

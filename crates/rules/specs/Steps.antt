@@ -6,25 +6,13 @@ use lib.Dec.{leb, eqb}
 use lib.ListN.{length, drop}
 use Prim.Native.Nat.{ℕ, zero, suc, _+_, _-_, min}
 use Rattle.standings.specs.Table.{placeNumber}
+use Rattle.ranges.specs.Below.{guarded}
 use Rattle.record.specs.Paper.{Said, plain, pointer, given}
+use Rattle.rules.specs.Messages.{Op, seek, write, getFilePointer, read}
 use Rattle.rules.specs.Items.{Prog, done, ask, andThen}
 use Rattle.standings.specs.Table.{afterSeek, afterWrite, afterRead, pointerSettles, readSettles, offsetOf, writePlace}
 use Rattle.rules.specs.Transactions.{Txn, Write, withWrites, withStanding, those, Settled, past, all, settling}
 use Rattle.rules.specs.Reading.{fetch}
-
--- The calls of one transaction, with their arguments: a Write's bytes, a Read's count and the reader's buffer.
-pub data Op : Type 0 where
-  seek : ℕ → ℕ → Op
-  write : ℕ → List ℕ → Op
-  getFilePointer : ℕ → Op
-  read : ℕ → ℕ → List ℕ → Op
-
--- The reader's buffer of a call; empty where it has none.
-unfoldable pub bufferOf : Op → List ℕ
-bufferOf (seek d v) = []
-bufferOf (write d bytes) = []
-bufferOf (getFilePointer d) = []
-bufferOf (read d n buffer) = buffer
 
 -- A step is refused, or accepted: the transaction after it, the answer, and the reader's buffer.
 pub data Stepped : Type 0 where
@@ -33,7 +21,7 @@ pub data Stepped : Type 0 where
 
 -- Goes on where a test holds, otherwise refuses with the number.
 unfoldable pub check : Bool → ℕ → Prog Stepped → Prog Stepped
-check ok n next = cond ok next (done (refuse n))
+check ok n next = guarded (λ k. done (refuse k)) ok n next
 
 -- "A settling that fails is given back before any byte is fetched."
 unfoldable pub orGivenBack : (Txn → Prog Stepped) → Settled → Prog Stepped
@@ -56,8 +44,8 @@ seekStep d v x =
     (check (leb v 4096) 8
     (done (accept (withStanding d (afterSeek v (x .standing d)) x) plain [])))
 
--- "9: Write whose offset, or advance while Deferred or Untouched (0), plus length is above 4,096"; "10: Write as 65th record";
--- "11: Write taking the log's data above 4,096". "A write of 0 bytes uses a record."
+-- 9: "Write whose offset, or advance while Deferred or Untouched (0), plus length is above 4,096". 10: "Write as 65th record".
+-- 11: "Write taking the log's data above 4,096". "A write of 0 bytes uses a record."
 unfoldable pub writeStep : ℕ → List ℕ → Txn → Prog Stepped
 writeStep d bytes x =
     check (leb d 15) 6
@@ -85,7 +73,7 @@ readSettled fileOf d n buffer y =
     andThen (fetch fileOf (y .writes) (fileOf d) o m)
     (λ bytes. done (accept (withStanding d (afterRead m (y .standing d)) y) (given m) (bytes ++ drop m buffer)))
 
--- "7: Read of more bytes than the reader's buffer has."
+-- 7: "Read of more bytes than the reader's buffer has".
 unfoldable pub readStep : (ℕ → ℕ) → ℕ → ℕ → List ℕ → Txn → Prog Stepped
 readStep fileOf d n buffer x =
     check (leb d 15) 6

@@ -65,8 +65,8 @@ pub data Settled : Type 0 where
   past : Settled
   all : Txn → Settled
 
--- Settles descriptors in the order given, each at the committed offset that it asks for. "12: settling takes committed offset
--- plus advance above 4,096."
+-- Settles descriptors in the order given, each at the committed offset that it asks for. 12: "settling ..
+-- takes committed offset plus advance above 4,096".
 unfoldable pub settling : List ℕ → Txn → Prog Settled
 settling [] x = done (all x)
 settling (d ∷ ds) x = ask (offset d) (λ c. cond (leb (c + advance (x .standing d)) 4096) (settling ds (settle d c x)) (done past))

@@ -29,7 +29,7 @@ settlesForPointer x d e = eqb e d && pointerSettles (standingAt x d)
 unfoldable pub chosenByPointer : Transaction → ℕ → List Bool
 chosenByPointer x d = tabulate (settlesForPointer x d) 16
 
--- "12: settling takes committed offset plus advance above 4,096": every chosen descriptor passes.
+-- 12: "settling .. takes committed offset plus advance above 4,096". Every chosen descriptor passes.
 unfoldable pub settlesWithin : List Bool → List ℕ → Transaction → ℕ → Bool
 settlesWithin chosen offsets x e = not (getD chosen e false) || leb (getD offsets e 0 + advance (standingAt x e)) 4096
 

@@ -1,4 +1,4 @@
-// The eight calls. Each takes the record by value and the three store buffers, has no precondition, and answers its outcome with the
+// The eight calls. Each takes the record, its first part by value and the journal lent, and the three store buffers, has no precondition, and answers its outcome with the
 // record to keep; its promise stands at the function.
 pub use committing::commit;
 pub use editing::seek;

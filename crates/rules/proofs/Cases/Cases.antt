@@ -1,13 +1,13 @@
 -- The situations of paper 01 hold of the rules: each is computed.
 use mathlib.Core.Path.{refl}
-use Rattle.rules.specs.Situations.{Starred, callsA, repliesA, callsB, repliesB, callsC, repliesC, callsD, repliesD, callsE, repliesE, callsF, repliesF, callsG, repliesG, callsH, repliesH, callsI, repliesI, callsJ, repliesJ, callsK, repliesK, callsL, repliesL}
-use Rattle.rules.specs.Corners.{Corners, callsStaleFirst, repliesStaleFirst, callsRefusedSettling, repliesRefusedSettling, callsUnsighted, repliesUnsighted, callsMoved, repliesMoved, callsMovedStale, repliesMovedStale, callsNeighbour, repliesNeighbour, callsNeighbourSet, repliesNeighbourSet, callsReadNone, repliesReadNone, callsReadNoneStale, repliesReadNoneStale, callsWriteNone, repliesWriteNone, callsSightedAgain, repliesSightedAgain, callsStillStale, repliesStillStale, callsBegunAgain, repliesBegunAgain, callsStaleEnded, repliesStaleEnded, callsJustBegun, repliesJustBegun, callsNumbers, repliesNumbers, callsArguments, repliesArguments, callsLog, repliesLog, callsOverlap, repliesOverlap}
+use Rattle.rules.specs.Situations.{Starred, toldA, toldB, toldC, toldD, toldE, toldF, toldG, toldH, toldI, toldJ, toldK, toldL}
+use Rattle.rules.specs.Corners.{Corners, toldStaleFirst, toldRefusedSettling, toldUnsighted, toldMoved, toldMovedStale, toldNeighbour, toldNeighbourSet, toldReadNone, toldReadNoneStale, toldWriteNone, toldSightedAgain, toldStillStale, toldBegunAgain, toldStaleEnded, toldJustBegun, toldNumbers, toldArguments, toldLog, toldOverlap, toldTwoAppends, toldOtherFile, toldKnown, toldPlaced, toldMovedTwice, toldLastPlace, toldUntouched, toldPlacedUnsighted, toldFifteen, toldFifteenSet, toldInOrder, toldKnownOnce, toldSettledAlone}
 use Rattle.rules.specs.Setup.{onPlain}
 use Rattle.rules.proofs.Cases.Opened.{opened}
 
 -- "The starred ones hold together as a theorem about the rules."
 pub starred : Starred onPlain
-unfolding opened callsA repliesA callsB repliesB callsC repliesC callsD repliesD callsE repliesE callsF repliesF callsG repliesG callsH repliesH callsI repliesI callsJ repliesJ
+unfolding opened toldA toldB toldC toldD toldE toldF toldG toldH toldI toldJ
 starred =
     record {
       a = (refl, refl, refl);
@@ -24,7 +24,7 @@ starred =
 
 -- Situations k and l, and corners of the text.
 pub corners : Corners onPlain
-unfolding opened callsK repliesK callsL repliesL callsStaleFirst repliesStaleFirst callsRefusedSettling repliesRefusedSettling callsUnsighted repliesUnsighted callsMoved repliesMoved callsMovedStale repliesMovedStale callsNeighbour repliesNeighbour callsNeighbourSet repliesNeighbourSet callsReadNone repliesReadNone callsReadNoneStale repliesReadNoneStale callsWriteNone repliesWriteNone callsSightedAgain repliesSightedAgain callsStillStale repliesStillStale callsBegunAgain repliesBegunAgain callsStaleEnded repliesStaleEnded callsJustBegun repliesJustBegun callsNumbers repliesNumbers callsArguments repliesArguments callsLog repliesLog callsOverlap repliesOverlap
+unfolding opened toldK toldL toldStaleFirst toldRefusedSettling toldUnsighted toldMoved toldMovedStale toldNeighbour toldNeighbourSet toldReadNone toldReadNoneStale toldWriteNone toldSightedAgain toldStillStale toldBegunAgain toldStaleEnded toldJustBegun toldNumbers toldArguments toldLog toldOverlap toldTwoAppends toldOtherFile toldKnown toldPlaced toldMovedTwice toldLastPlace toldUntouched toldPlacedUnsighted toldFifteen toldFifteenSet toldInOrder toldKnownOnce toldSettledAlone
 corners =
     record {
       k = refl;
@@ -48,4 +48,17 @@ corners =
       arguments = refl;
       log = refl;
       overlap = (refl, refl);
+      twoAppends = (refl, refl, refl);
+      otherFile = refl;
+      known = (refl, refl, refl);
+      placed = refl;
+      movedTwice = (refl, refl, refl, refl);
+      lastPlace = refl;
+      untouched = (refl, refl);
+      placedUnsighted = (refl, refl);
+      fifteen = (refl, refl);
+      fifteenSet = (refl, refl);
+      inOrder = (refl, refl);
+      knownOnce = (refl, refl);
+      settledAlone = (refl, refl, refl);
     }

@@ -9,7 +9,8 @@ use Rattle.record.specs.Paper.{number, refusals, Said, plain, pointer, given, g
 use Rattle.record.specs.declared.outcomes.Refusal.the-variants.{Stale}
 use Rattle.ranges.proofs.Laws.{and-left, and-right}
 use Rattle.rules.specs.Items.{Item, Values, Prog, done, ask, andThen, result}
-use Rattle.rules.specs.Steps.{Op, seek, write, getFilePointer, read, Stepped, refuse, accept, check, orGivenBack, seekStep, writeStep, pointerStep, readSettled, readStep, step}
+use Rattle.rules.specs.Messages.{Op, seek, write, getFilePointer, read}
+use Rattle.rules.specs.Steps.{Stepped, refuse, accept, check, orGivenBack, seekStep, writeStep, pointerStep, readSettled, readStep, step}
 use Rattle.rules.specs.Transactions.{Txn, Settled, past, all}
 
 -- An answer is no refusal.

@@ -11,9 +11,10 @@ use Rattle.record.specs.State.{transaction}
 use Rattle.record.specs.Paper.{Said, plain, refused}
 use Rattle.ranges.specs.Ranges.{unless, shared, storeIn, admission, admissionOfBegin}
 use Rattle.rules.specs.Items.{Item}
-use Rattle.rules.specs.Steps.{Op, bufferOf, Stepped, refuse, accept}
+use Rattle.rules.specs.Messages.{Op, bufferOf}
+use Rattle.rules.specs.Steps.{Stepped, refuse, accept}
 use Rattle.rules.specs.Commits.{Setting, commitRefusal}
-use Rattle.rules.specs.Plain.{Call, begin, on, commit, abort}
+use Rattle.rules.specs.Messages.{Call, begin, on, commit, abort}
 use Rattle.rules.specs.Machine.{Machine, fileOf, txnOf}
 use Rattle.rules.specs.Calls.{Turn, answer, turnDown, passing, beginTurn, abortTurn, served, stepTurn, commitGranted, commitDecided, commitTurn, admitted, call}
 use Rattle.rules.proofs.View.Shape.{Sound}

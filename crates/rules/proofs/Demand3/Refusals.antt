@@ -1,4 +1,4 @@
--- Demand 1 about the rules: what a refused call leaves.
+-- Demand 1: what a refused call leaves.
 use mathlib.Core.Bool.{Bool, true, false, cond}
 use mathlib.Core.List.{List, []}
 use mathlib.Core.Path.{_≡_, refl, sym, ap, _∙_, subst}
@@ -6,15 +6,17 @@ use native.Mathlib.Omega.{arith}
 use Prim.Native.Nat.{ℕ, zero, suc, _≤_}
 use Rattle.record.specs.declared.Store.{Store}
 use Rattle.record.specs.State.{transaction, ended}
-use Rattle.record.specs.Paper.{refusals as refusalCount, Said, plain, granted, refused}
+use Rattle.record.specs.declared.outcomes.Refusal.the-variants.{Stale}
+use Rattle.record.specs.Paper.{number, Said, said, plain, granted, refused}
 use Rattle.ranges.specs.Ranges.{Sizes, unless, shared, admission, admissionOfBegin, admissionOfFresh}
 use Rattle.rules.specs.Items.{Item, result, asked}
-use Rattle.rules.specs.Steps.{Op, bufferOf, Stepped, refuse, accept, step}
+use Rattle.rules.specs.Steps.{Stepped, refuse, accept, step}
 use Rattle.rules.specs.Commits.{Setting, settings, fits, commitRefusal}
-use Rattle.rules.specs.Plain.{Call, begin, on, commit, abort, Reply}
+use Rattle.rules.specs.Messages.{Op, bufferOf, bufferOfCall, Call, begin, on, commit, abort, Reply}
 use Rattle.rules.specs.Machine.{Machine, sizes, fileOf, values, txnOf}
+use Rattle.rules.specs.Promises.{Meets}
+use Rattle.rules.specs.Demand1.{IsRefusal, Demand1On, Demand1, RefusedByCode, Demand1OfCode}
 use Rattle.rules.specs.Calls.{Turn, answer, turnDown, passing, fresh, reset, beginTurn, abortTurn, served, stepTurn, commitGranted, commitDecided, commitTurn, admitted, call}
-use Rattle.rules.specs.Demand3.{bufferOfCall, Refusals}
 use Rattle.rules.proofs.Demand3.Answers.{IsAnswer, answer-not-refused, Leaving, later as later-on, Right, always-step, always-result}
 
 pub refused-same : (m n : ℕ) → refused m ≡ refused n → m ≡ n
@@ -23,19 +25,19 @@ refused-same m n e = cc
 -- A turn that leaves everything where it refuses with a number other than 13.
 pub record Leaves (m : Machine) (buffer : List ℕ) (w : Turn) : Type 0 where
   pub leaves : (n : ℕ) → w .reply .answer ≡ refused n → (n ≡ 13 → ⊥) → (w .after ≡ m) × (w .reply .buffer ≡ buffer)
-  pub most : (n : ℕ) → w .reply .answer ≡ refused n → n ≤ refusalCount
+  pub known : (n : ℕ) → w .reply .answer ≡ refused n → IsRefusal n
 
 leaves-passing : (k : ℕ) (buffer : List ℕ) (m : Machine) (w : Turn) → Leaving k → Leaves m buffer w → Leaves m buffer (passing k buffer m w)
 unfolding passing turnDown
 leaves-passing zero buffer m w h l = l
 leaves-passing (suc k) buffer m w h l =
-    record { leaves = λ n e d. (refl, refl); most = λ n e. subst (λ (j : ℕ). j ≤ refusalCount) (refused-same (suc k) n e) (h .0) }
+    record { leaves = λ n e d. (refl, refl); known = λ n e. subst IsRefusal (refused-same (suc k) n e) (omega arith, h .0) }
 
 leaves-answer : (m : Machine) (buffer : List ℕ) (w : Turn) → IsAnswer (w .reply .answer) → Leaves m buffer w
 leaves-answer m buffer w h =
     record {
       leaves = λ n e d. absurd (answer-not-refused (w .reply .answer) n h e);
-      most = λ n e. absurd (answer-not-refused (w .reply .answer) n h e);
+      known = λ n e. absurd (answer-not-refused (w .reply .answer) n h e);
     }
 
 leaves-served : (t : ℕ) (o : Op) (m : Machine) (is : List Item) (s : Stepped) → Right s → Leaves m (bufferOf o) (served t o m is s)
@@ -43,7 +45,7 @@ unfolding served turnDown
 leaves-served t o m is (refuse k) h =
     record {
       leaves = λ n e d. (refl, refl);
-      most = λ n e. subst (λ (j : ℕ). j ≤ refusalCount) (refused-same k n e) (h .1 .0);
+      known = λ n e. subst IsRefusal (refused-same k n e) (omega (arith, h .0), h .1 .0);
     }
 leaves-served t o m is (accept y a b) h = leaves-answer m (bufferOf o) _ h
 
@@ -52,11 +54,11 @@ unfolding commitDecided commitRefusal commitGranted
 leaves-decided t ss m true placed =
     record {
       leaves = λ n e d. absurd (d (sym (refused-same 13 n e)));
-      most = λ n e. subst (λ (j : ℕ). j ≤ refusalCount) (refused-same 13 n e) (omega arith);
+      known = λ n e. subst IsRefusal (refused-same 13 n e) (omega arith, omega arith);
     }
 leaves-decided t ss m false true = leaves-answer m [] _ tt
 leaves-decided t ss m false false =
-    record { leaves = λ n e d. (refl, refl); most = λ n e. subst (λ (j : ℕ). j ≤ refusalCount) (refused-same 12 n e) (omega arith) }
+    record { leaves = λ n e d. (refl, refl); known = λ n e. subst IsRefusal (refused-same 12 n e) (omega arith, omega arith) }
 
 -- The shared tests refuse with a number other than 13.
 unless-leaving : (b : Bool) (n later : ℕ) → Leaving n → Leaving later → Leaving (unless b n later)
@@ -73,7 +75,7 @@ shared-leaving z s j t later h =
 none-leaving : Leaving 0
 none-leaving = (omega arith, λ e. omega arith)
 
-admission-leaving : (z : Sizes) (s : Store) (j : List ℕ) (t : ℕ) → Leaving (admission z s j t)
+pub admission-leaving : (z : Sizes) (s : Store) (j : List ℕ) (t : ℕ) → Leaving (admission z s j t)
 unfolding admission
 admission-leaving z s j t = shared-leaving z s j t _ (unless-leaving _ 4 0 (later-on 4 refl .1) none-leaving)
 
@@ -131,17 +133,47 @@ ends-call (commit t) m e =
 ends-call (abort t) m e =
     absurd (not-13 (admission (sizes m) (m .store) (m .journal) t) [] m _ (admission-leaving (sizes m) (m .store) (m .journal) t) (answer-not-refused _ 13 tt) e)
 
-fresh-leaves : (k : ℕ) (m : Machine) (w : Turn) (n : ℕ) → IsAnswer (w .reply .answer) → passing k [] m w .reply .answer ≡ refused n → passing k [] m w .after ≡ m
-unfolding passing turnDown
-fresh-leaves zero m w n h e = absurd (answer-not-refused (w .reply .answer) n h e)
-fresh-leaves (suc k) m w n h e = refl
+leaves-fresh : (numbers : List ℕ) (m : Machine) → Leaves m [] (fresh numbers m)
+unfolding fresh answer admissionOfFresh
+leaves-fresh numbers m =
+    leaves-passing _ [] m _
+    (unless-leaving _ 1 _ (omega arith, λ e. omega arith) (unless-leaving _ 14 0 (later-on 14 refl .1) none-leaving))
+    (leaves-answer m [] _ tt)
 
-pub refusals : (m : Machine) → Refusals m
-unfolding fresh answer
-refusals m =
+fresh-not-13 : (numbers : List ℕ) (m : Machine) (n : ℕ) → fresh numbers m .reply .answer ≡ refused n → n ≡ number Stale → ⊥
+unfolding fresh answer admissionOfFresh
+fresh-not-13 numbers m n e f =
+    not-13 _ [] m _
+    (unless-leaving _ 1 _ (omega arith, λ e. omega arith) (unless-leaving _ 14 0 (later-on 14 refl .1) none-leaving))
+    (answer-not-refused _ 13 tt) (e ∙ ap refused f)
+
+-- A call that answers met no early refusal, and one refused with 13 met it in its own turn.
+pub passing-zero : (k : ℕ) (buffer : List ℕ) (m : Machine) (w : Turn) (a : Said) → IsAnswer a → passing k buffer m w .reply .answer ≡ a → k ≡ 0
+unfolding passing turnDown
+passing-zero zero buffer m w a h e = refl
+passing-zero (suc k) buffer m w a h e = absurd (answer-not-refused a (suc k) h (sym e))
+
+pub passing-stale : (k : ℕ) (m : Machine) (w : Turn) → Leaving k → passing k [] m w .reply .answer ≡ refused 13 → passing k [] m w ≡ w
+unfolding passing turnDown
+passing-stale zero m w h e = refl
+passing-stale (suc k) m w h e = absurd (h .1 (refused-same (suc k) 13 e))
+
+pub demand1 : Demand1
+demand1 m =
     record {
+      known = λ c. leaves-call c m .known;
+      freshKnown = λ numbers. leaves-fresh numbers m .known;
       leaves = λ c. leaves-call c m .leaves;
+      freshLeaves = λ numbers n e. leaves-fresh numbers m .leaves n e (fresh-not-13 numbers m n e) .0;
       ends = λ c. ends-call c m;
-      known = λ c. leaves-call c m .most;
-      freshLeaves = λ numbers n e. fresh-leaves _ m _ n tt e;
+    }
+
+pub demand1-of-code : Demand1OfCode
+demand1-of-code c m o after reader n k e =
+    let f = sym (k .outcome) ∙ e in
+    let d = demand1 m in
+    record {
+      known = d .known c n f;
+      leaves = λ h. let l = d .leaves c n f h in (k .machine ∙ l .0, k .reader ∙ l .1);
+      ends = λ h. let w = d .ends c (f ∙ ap refused h) in (w .0, w .1, k .machine ∙ w .2);
     }

@@ -4,14 +4,16 @@ use mathlib.Core.Path.{_≡_, sym, ap, _∙_, fun-ext, subst⁻¹}
 use Prim.Native.Nat.{ℕ}
 use lib.ListN.{getD}
 use Rattle.rules.specs.Items.{Values}
-use Rattle.rules.specs.Plain.{Call, Reply, Committed, freshPlain, plainAfter, plainReplies}
+use Rattle.rules.specs.Messages.{Call, Reply}
+use Rattle.rules.specs.Sightings.{Committed}
+use Rattle.rules.specs.Plain.{freshPlain, plainAfter, plainReplies}
 use Rattle.rules.specs.Machine.{Machine, values}
 use Rattle.rules.specs.Calls.{callsAfter, callsReplies}
 use Rattle.rules.specs.Demand3.{FreshlyMade}
 use Rattle.rules.specs.Setup.{numbers, freshNumbered, Seen, onPlain, onStore}
 use Rattle.rules.specs.Situations.{Starred}
 use Rattle.rules.specs.Corners.{Corners}
-use Rattle.rules.proofs.Serial.Theorem.{serial-left}
+use Rattle.rules.proofs.Serial.Theorem.{again-left}
 use Rattle.rules.proofs.Cases.Cases.{starred, corners}
 use Rattle.rules.proofs.Demand3.Theorem.{demand3}
 
@@ -19,8 +21,7 @@ module _ (m : Machine) (made : FreshlyMade numbers m) where
   same-values :
       (cs : List Call)
       → values (callsAfter cs m .store) (callsAfter cs m .files) ≡ plainAfter cs (freshPlain (λ d. getD numbers d 0)) .committed .value
-  unfolding freshPlain
-  same-values cs = demand3 numbers m made cs .left ∙ ap (λ (c : Committed). c .value) (serial-left (λ d. getD numbers d 0) cs)
+  same-values cs = demand3 numbers m made cs .left ∙ ap (λ (c : Committed). c .value) (again-left (λ d. getD numbers d 0) (λ i. 0) cs)
 
   same-seen : onStore m ≡ onPlain
   unfolding onStore onPlain freshNumbered

@@ -13,15 +13,17 @@ use Rattle.record.specs.Paper.{Said, plain, pointer, given, granted, refused, s
 use Rattle.ranges.specs.Ranges.{admission, admissionOfFresh}
 use Rattle.ranges.proofs.Laws.{AdmittedFresh, admitted-fresh}
 use Rattle.rules.specs.Commits.{fits, commitRefusal}
-use Rattle.rules.specs.Plain.{Call, begin, on, commit, abort, Reply, Slot, closed, running, Running, Plain, freshPlain, isStale, PlainTurn, turnedDown, answering, grant, becameStale, plainCommitted, plainCommit, numbered, plainCall, plainAfter, plainReplies, firstList, secondList, grantsOf}
-use Rattle.rules.specs.Serial.{serially, AllSame}
+use Rattle.rules.specs.Messages.{Call, begin, on, commit, abort, Reply}
+use Rattle.rules.specs.Plain.{Slot, closed, running, Running, Plain, startPlain, freshPlain, isStale, PlainTurn, turnedDown, answering, grant, becameStale, plainCommitted, plainCommit, numbered, plainCall, plainAfter, plainReplies, firstList, secondList}
+use Rattle.rules.specs.Items.{Values}
+use Rattle.rules.specs.Sightings.{Committed}
 use Rattle.rules.specs.Machine.{Machine, sizes, values}
 use Rattle.rules.specs.Calls.{Turn, answer, turnDown, passing, freshMachine, fresh, call, callsAfter, callsReplies}
 use Rattle.rules.specs.Promises.{Meets}
 use Rattle.rules.specs.Demand3.{FreshlyMade, isRunning, Holds, Demand3, Made, Linked, lastOf, replyOf, CodeHolds, Demand3OfCode}
-use Rattle.rules.proofs.Serial.Sighted.{Held, Seat, vacant, held, Sighted, freshSighted, SightedTurn, sightedCall, sightedAfter, sightedReplies}
+use Rattle.rules.proofs.Serial.Sighted.{Held, Seat, vacant, held, Sighted, startSighted, SightedTurn, sightedCall, sightedAfter, sightedReplies}
 use Rattle.rules.proofs.Serial.FirstHalf.{abs, absTurn, seatOf}
-use Rattle.rules.proofs.Serial.Theorem.{Tells, replies-same, state-same, turn-same, store-commit, serial-same, serial-left}
+use Rattle.rules.proofs.Serial.Theorem.{replies-same, state-same, turn-same, store-commit, again-same, again-left}
 use Rattle.rules.proofs.View.Shape.{Sound, heldBy, seat, view}
 use Rattle.rules.proofs.View.Admissions.{Agrees}
 use Rattle.rules.proofs.View.StepTurn.{step-turn}
@@ -43,7 +45,7 @@ pub record Agree (cs : List Call) (m : Machine) : Type 0 where
   pub state : view (callsAfter cs m) ≡ sightedAfter cs (view m)
   pub sound : Sound (callsAfter cs m)
 
-calls-agree : (cs : List Call) (m : Machine) → Sound m → Agree cs m
+pub calls-agree : (cs : List Call) (m : Machine) → Sound m → Agree cs m
 unfolding callsReplies callsAfter sightedReplies sightedAfter
 calls-agree [] m s = record { replies = refl; state = refl; sound = s }
 calls-agree (c ∷ cs) m s =
@@ -63,9 +65,9 @@ fresh-passed (suc k) m w e = absurd (answer-not-refused plain (suc k) tt (sym e)
 
 pub record FreshFacts (numbers : List ℕ) (m : Machine) : Type 0 where
   pub sound : Sound m
-  pub same : view m ≡ freshSighted (λ d. getD numbers d 0)
+  pub same : view m ≡ startSighted (λ d. getD numbers d 0) (λ i. 0)
 
-fresh-facts : (numbers : List ℕ) (m : Machine) → FreshlyMade numbers m → FreshFacts numbers m
+pub fresh-facts : (numbers : List ℕ) (m : Machine) → FreshlyMade numbers m → FreshFacts numbers m
 unfolding fresh answer passing
 fresh-facts numbers m f =
     let b = f .before in
@@ -135,27 +137,32 @@ counted-commit : (t : ℕ) (p : Plain) → Counted p (plainCall (commit t) p)
 unfolding plainCall numbered
 counted-commit t p = counted (leb t 7) t p
 
-pub demand3 : Demand3
-unfolding view abs absTurn freshPlain
-demand3 numbers m₀ made cs =
-    let F : ℕ → ℕ = λ d. getD numbers d 0 in
-    let f = fresh-facts numbers m₀ made in
-    let a = calls-agree cs m₀ (f .sound) in
+-- Demand 3 from a sound store that stands for the store without buffers with these committed values and nothing open.
+pub holds-from : (F : ℕ → ℕ) (v : Values) (m₀ : Machine) → Sound m₀ → view m₀ ≡ startSighted F v
+    → (cs : List Call) → Holds m₀ (startPlain F v) cs (callsAfter cs m₀) (plainAfter cs (startPlain F v))
+unfolding view abs absTurn
+holds-from F v m₀ sound start cs =
+    let a = calls-agree cs m₀ sound in
     let m = callsAfter cs m₀ in
-    let p = plainAfter cs (freshPlain F) in
-    let e : view m ≡ sightedAfter cs (freshSighted F) = a .state ∙ ap (sightedAfter cs) (f .same) in
-    let same : view m ≡ abs p = e ∙ state-same F cs in
-    let turn : (c : Call) → call c m .reply ≡ sightedCall c (sightedAfter cs (freshSighted F)) .reply =
+    let p = plainAfter cs (startPlain F v) in
+    let e : view m ≡ sightedAfter cs (startSighted F v) = a .state ∙ ap (sightedAfter cs) start in
+    let same : view m ≡ abs p = e ∙ state-same F v cs in
+    let turn : (c : Call) → call c m .reply ≡ sightedCall c (sightedAfter cs (startSighted F v)) .reply =
     λ c. call-turn c m (a .sound) .0 ∙ ap (λ (s : Sighted). sightedCall c s .reply) e in
     record {
-      replies = a .replies ∙ ap (sightedReplies cs) (f .same) ∙ replies-same F cs;
+      replies = a .replies ∙ ap (sightedReplies cs) start ∙ replies-same F v cs;
       openness = open-same m p same;
-      staleness = λ t r l o. subst⁻¹ (λ (x : Reply). (x .answer ≡ refused 13 → ⊥) ↔ (firstList r ≡ secondList p r)) (turn (commit t)) (store-commit F cs t r o .passes);
-      number = λ t n g. counted-commit t p .count n (sym (ap (λ (x : Reply). x .answer) (turn (commit t) ∙ ap (λ (τ : SightedTurn). τ .reply) (turn-same F cs (commit t)))) ∙ g);
-      again = serial-same F cs;
-      left = ap (λ (s : Sighted). s .value) same ∙ sym (ap (λ (c : Rattle.rules.specs.Plain.Committed). c .value) (serial-left F cs));
+      staleness = λ t r l o. subst⁻¹ (λ (x : Reply). (x .answer ≡ refused 13 → ⊥) ↔ (firstList r ≡ secondList p r)) (turn (commit t)) (store-commit F v cs t r o .passes);
+      number = λ t n g. counted-commit t p .count n (sym (ap (λ (x : Reply). x .answer) (turn (commit t) ∙ ap (λ (τ : SightedTurn). τ .reply) (turn-same F v cs (commit t)))) ∙ g);
+      again = again-same F v cs;
+      left = ap (λ (s : Sighted). s .value) same ∙ sym (ap (λ (c : Committed). c .value) (again-left F v cs));
       ranges = λ c. never-early c m (a .sound);
     }
+
+pub demand3 : Demand3
+demand3 numbers m₀ made cs =
+    let f = fresh-facts numbers m₀ made in
+    holds-from (λ d. getD numbers d 0) (λ i. 0) m₀ (f .sound) (f .same) cs
 
 -- Calls of the code that keep their promises are calls of the rules.
 pub record LinkedFacts (m : Machine) (xs : List Made) : Type 0 where

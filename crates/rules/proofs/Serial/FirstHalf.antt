@@ -6,12 +6,16 @@ use mathlib.Core.Path.{_≡_, refl, sym, ap, ap₂, _∙_, fun-ext}
 use lib.Dec.{eqb, leb}
 use Prim.Native.Nat.{ℕ, zero, suc, _+_}
 use Rattle.record.specs.Paper.{Said, plain, granted, refused}
-use Rattle.rules.specs.Items.{Item, byte, offset, result, asked}
+use Rattle.rules.specs.Items.{Item, Values, byte, offset, result, asked}
 use Rattle.rules.specs.Transactions.{Txn, empty, put}
-use Rattle.rules.specs.Steps.{Op, bufferOf, Stepped, refuse, accept, step}
+use Rattle.rules.specs.Messages.{Op, bufferOf}
+use Rattle.rules.specs.Steps.{Stepped, refuse, accept, step}
 use Rattle.rules.specs.Commits.{settings, fits, landed, commitRefusal}
-use Rattle.rules.specs.Plain.{Call, begin, on, commit, abort, Reply, sameEntries, entries, Running, Slot, closed, running, Plain, freshPlain, lone, ops, firstList, secondList, isStale, PlainTurn, turnedDown, withSlot, answering, plainBegin, plainStepped, plainOn, committing, grant, staleSlot, becameStale, plainCommitted, plainCommit, plainAbort, numbered, plainCall, plainAfter, plainReplies}
-use Rattle.rules.proofs.Serial.Sighted.{Held, Seat, vacant, held, Sighted, freshSighted, sighted, among, hit, markAll, SightedTurn, turnedAway, withSeat, telling, sightedBegin, sightedStepped, sightedOn, touch, newlyStale, countNew, granting, sightedCommitted, sightedCommit, sightedAbort, seated, sightedCall, sightedAfter, sightedReplies}
+use Rattle.rules.specs.Messages.{Call, begin, on, commit, abort, Reply}
+use Rattle.rules.specs.Sightings.{sameEntries, entries}
+use Rattle.rules.specs.Plain.{Running, Slot, closed, running, Plain, startPlain, ops, firstList, secondList, isStale, PlainTurn, turnedDown, withSlot, answering, plainBegin, plainStepped, plainOn, committing, grant, staleSlot, becameStale, plainCommitted, plainCommit, plainAbort, numbered, plainCall, plainAfter, plainReplies}
+use Rattle.rules.specs.Lone.{lone}
+use Rattle.rules.proofs.Serial.Sighted.{Held, Seat, vacant, held, Sighted, startSighted, sighted, among, hit, markAll, SightedTurn, turnedAway, withSeat, telling, sightedBegin, sightedStepped, sightedOn, touch, newlyStale, countNew, granting, sightedCommitted, sightedCommit, sightedAbort, seated, sightedCall, sightedAfter, sightedReplies}
 use Rattle.rules.proofs.Serial.Programs.{among-append}
 use Rattle.rules.proofs.Serial.Lists.{items, current, current-entries, current-append, anyTouched, hit-is, markAll-at, current-after}
 use Rattle.rules.proofs.Serial.Sound.{Sound, seen-old, lists-same, sound-more, sound-granted, items-more, extended}
@@ -31,9 +35,9 @@ abs p = record { fileOf = p .fileOf; value = p .committed .value; seats = λ t. 
 unfoldable pub absTurn : PlainTurn → SightedTurn
 absTurn τ = record { reply = τ .reply; after = abs (τ .after) }
 
-pub abs-fresh : (fileOf : ℕ → ℕ) → freshSighted fileOf ≡ abs (freshPlain fileOf)
-unfolding freshSighted abs freshPlain seatOf
-abs-fresh fileOf = refl
+pub abs-start : (fileOf : ℕ → ℕ) (v : Values) → startSighted fileOf v ≡ abs (startPlain fileOf v)
+unfolding startSighted abs startPlain seatOf
+abs-start fileOf v = refl
 
 -- A function with another value at one number, after a map.
 put-map : {A B : Type 0} (f : A → B) (t : ℕ) (a : A) (g : ℕ → A) (u : ℕ) → put t (f a) (λ w. f (g w)) u ≡ f (put t a g u)

@@ -6,11 +6,14 @@ use borrow.Author.Tests.{ne-eqb, leb-true, leb-false}
 use lib.Dec.{eqb, leb}
 use native.Mathlib.Omega.{arith}
 use Prim.Native.Nat.{ℕ, zero, suc, _+_, _≤_, _<_}
-use Rattle.rules.specs.Items.{Item, result, asked}
+use Rattle.rules.specs.Items.{Item, Values, result, asked}
 use Rattle.rules.specs.Transactions.{put}
-use Rattle.rules.specs.Steps.{Op, bufferOf, Stepped, refuse, accept, step}
+use Rattle.rules.specs.Messages.{Op, bufferOf}
+use Rattle.rules.specs.Steps.{Stepped, refuse, accept, step}
 use Rattle.rules.specs.Commits.{settings, fits, commitRefusal}
-use Rattle.rules.specs.Plain.{Call, begin, on, commit, abort, entries, Committed, Running, Slot, closed, running, Plain, freshPlain, isStale, PlainTurn, turnedDown, withSlot, answering, plainBegin, plainStepped, plainOn, committing, grant, plainCommitted, plainCommit, plainAbort, numbered, plainCall, plainAfter}
+use Rattle.rules.specs.Messages.{Call, begin, on, commit, abort}
+use Rattle.rules.specs.Sightings.{entries, Committed}
+use Rattle.rules.specs.Plain.{Running, Slot, closed, running, Plain, startPlain, isStale, PlainTurn, turnedDown, withSlot, answering, plainBegin, plainStepped, plainOn, committing, grant, plainCommitted, plainCommit, plainAbort, numbered, plainCall, plainAfter}
 use Rattle.rules.proofs.Serial.Lists.{touched, setBy-at}
 use Rattle.rules.proofs.Serial.Sound.{Sound, sound-begun, sound-more, sound-granted}
 
@@ -38,9 +41,9 @@ module _ {A : Type 0} (t : ℕ) (a : A) (f : ℕ → A) where
   unfolding put
   put-other u h = ap (λ (b : Bool). cond b a (f u)) (ne-eqb u t h)
 
-pub good-fresh : (fileOf : ℕ → ℕ) → Good (freshPlain fileOf)
-unfolding freshPlain SoundSlot
-good-fresh fileOf = record { setters = λ i. omega arith; sound = λ t. tt; above = λ t h. refl }
+pub good-start : (fileOf : ℕ → ℕ) (v : Values) → Good (startPlain fileOf v)
+unfolding startPlain SoundSlot
+good-start fileOf v = record { setters = λ i. omega arith; sound = λ t. tt; above = λ t h. refl }
 
 module _ (p : Plain) (g : Good p) where
   pub sound-at : (t : ℕ) (r : Running) → p .slots t ≡ running r → Sound (p .fileOf) (p .committed) (p .grants) r

@@ -13,7 +13,8 @@ use Rattle.rules.specs.Items.{offset, same, Values, Prog, done, andThen,
 use Rattle.standings.specs.Table.{isKnown, settled, advance, afterSeek, afterWrite, afterRead, pointerSettles, readSettles, offsetOf}
 use Rattle.rules.specs.Transactions.{Txn, Write, put, withStanding, settle, those, Settled, past, all, settling}
 use Rattle.rules.specs.Reading.{Source, own, file, bring, latest, fetch}
-use Rattle.rules.specs.Steps.{Op, seek, write, getFilePointer, read, Stepped, accept, check, orGivenBack, written, seekStep, writeStep, pointerStep, settledByRead, readSettled, readStep, step}
+use Rattle.rules.specs.Messages.{Op, seek, write, getFilePointer, read}
+use Rattle.rules.specs.Steps.{Stepped, accept, check, orGivenBack, written, seekStep, writeStep, pointerStep, settledByRead, readSettled, readStep, step}
 use Rattle.rules.proofs.Serial.Sighted.{among}
 use Rattle.rules.proofs.Serial.Programs.{result-andThen, among-andThen, none-andThen}
 

@@ -9,7 +9,7 @@ use Prim.Native.Nat.{ℕ, _+_, _≤_}
 use Rattle.rules.specs.Items.{Item, byte, offset, same, Values}
 use Rattle.rules.specs.Transactions.{put}
 use Rattle.rules.specs.Commits.{Setting, putItem, landed, setBy}
-use Rattle.rules.specs.Plain.{Entry, sameEntry, sameEntries, entries}
+use Rattle.rules.specs.Sightings.{Entry, sameEntry, sameEntries, entries}
 use Rattle.rules.proofs.Serial.Sighted.{Held, sighted, among, hit, markAll}
 use Rattle.rules.proofs.Serial.Programs.{Every}
 

@@ -6,8 +6,11 @@ use Prim.Native.Nat.{ℕ}
 use Rattle.record.specs.Paper.{Said}
 use Rattle.rules.specs.Items.{result, asked}
 use Rattle.rules.specs.Transactions.{Txn}
-use Rattle.rules.specs.Steps.{Op, Stepped, refuse, accept, step}
-use Rattle.rules.specs.Plain.{Reply, Entry, entries, Committed, Lone, stopped, prepend, goOn, lone}
+use Rattle.rules.specs.Messages.{Op}
+use Rattle.rules.specs.Steps.{Stepped, refuse, accept, step}
+use Rattle.rules.specs.Messages.{Reply}
+use Rattle.rules.specs.Sightings.{Entry, entries, Committed}
+use Rattle.rules.specs.Lone.{Lone, stopped, prepend, goOn, lone}
 use Rattle.rules.proofs.Serial.Lists.{current, current-entries, current-append, and-both}
 
 -- One run, and then another where it got through.

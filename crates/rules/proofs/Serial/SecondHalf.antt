@@ -7,13 +7,18 @@ use lib.Dec.{leb}
 use Prim.Native.Nat.{ℕ, _+_}
 use Rattle.rules.specs.Items.{result, asked}
 use Rattle.rules.specs.Transactions.{Txn, empty}
-use Rattle.rules.specs.Steps.{Op, bufferOf, Stepped, refuse, accept, step}
+use Rattle.rules.specs.Messages.{Op, bufferOf}
+use Rattle.rules.specs.Steps.{Stepped, refuse, accept, step}
 use Rattle.rules.specs.Commits.{fits, commitRefusal}
-use Rattle.rules.specs.Plain.{Call, begin, on, commit, abort, Reply, Entry, entries, Committed, Accepted, Running, Slot, closed, running, Plain, Lone, lone, ops, isStale, PlainTurn, turnedDown, withSlot, answering, plainBegin, plainStepped, plainOn, committing, grant, plainCommitted, plainCommit, plainAbort, numbered, plainCall, plainAfter, callsOf, ifGranted, grantedBy, grantsOf}
-use Rattle.rules.specs.Serial.{again, serially, SameAgain, AllSame}
+use Rattle.rules.specs.Messages.{Call, begin, on, commit, abort, Reply}
+use Rattle.rules.specs.Sightings.{Entry, entries, Committed}
+use Rattle.rules.specs.Plain.{Accepted, Running, Slot, closed, running, Plain, ops, isStale, PlainTurn, turnedDown, withSlot, answering, plainBegin, plainStepped, plainOn, committing, grant, plainCommitted, plainCommit, plainAbort, numbered, plainCall, plainAfter}
+use Rattle.rules.specs.Lone.{Lone, lone}
+use Rattle.rules.specs.Grants.{Grant, grantAt, ifGranted, grantedBy, grantsOf}
+use Rattle.rules.proofs.Serial.Alone.{again, serially, SameAgain, AllSame}
 use Rattle.rules.proofs.Serial.Lists.{current, current-is}
 use Rattle.rules.proofs.Serial.Sound.{Sound, recorded, alone-now}
-use Rattle.rules.proofs.Serial.Invariant.{Good, sound-at, good-call}
+use Rattle.rules.proofs.Serial.Invariant.{Good, sound-at, open-number, good-call}
 use Rattle.rules.proofs.Serial.FirstHalf.{stale-is}
 
 -- An open transaction that is not stale: its lone run on the committed state is the recorded one.
@@ -32,7 +37,7 @@ alone-recorded p r s e =
     (current-is (p .committed .setter) (r .seen) c)
 
 -- What a call does to the committed state: nothing, or it is a granted Commit.
-pub data Turned (p : Plain) : PlainTurn → List (List Accepted) → Type 0 where
+pub data Turned (p : Plain) : PlainTurn → List Grant → Type 0 where
   kept :
       (reply : Reply) (slots : ℕ → Slot)
       → Turned p
@@ -43,7 +48,7 @@ pub data Turned (p : Plain) : PlainTurn → List (List Accepted) → Type 0 wher
       → p .slots t ≡ running r
       → isStale p r ≡ false
       → fits (p .committed .value) (r .txn) ≡ true
-      → Turned p (record { reply = reply; after = grant t r p }) (r .calls ∷ [])
+      → Turned p (record { reply = reply; after = grant t r p }) (record { number = t; calls = r .calls } ∷ [])
 
 module _ (p : Plain) where
   turned-begin : (t : ℕ) (s : Slot) → Turned p (plainBegin t s p) []
@@ -70,7 +75,7 @@ module _ (p : Plain) where
       → isStale p r ≡ stale
       → fits (p .committed .value) (r .txn) ≡ placed
       → Turned p (plainCommitted t r p (commitRefusal stale placed))
-      (ifGranted (plainCommitted t r p (commitRefusal stale placed) .reply .answer) (r .calls ∷ []))
+      (ifGranted (plainCommitted t r p (commitRefusal stale placed) .reply .answer) (record { number = t; calls = r .calls } ∷ []))
   unfolding plainCommitted commitRefusal ifGranted answering withSlot
   turned-committed t r o true placed s f = kept _ _
   turned-committed t r o false true s f = grants t r _ o s f
@@ -79,8 +84,8 @@ module _ (p : Plain) where
   turned-commit :
       (t : ℕ) (s : Slot)
       → p .slots t ≡ s
-      → Turned p (plainCommit t s p) (ifGranted (plainCommit t s p .reply .answer) (callsOf s))
-  unfolding plainCommit turnedDown ifGranted callsOf
+      → Turned p (plainCommit t s p) (ifGranted (plainCommit t s p .reply .answer) (grantAt t s))
+  unfolding plainCommit turnedDown ifGranted grantAt
   turned-commit t closed o = kept _ _
   turned-commit t (running r) o =
       turned-committed t r o (isStale p r) (fits (p .committed .value) (r .txn)) refl refl
@@ -108,13 +113,13 @@ module _ (p : Plain) where
   turned (begin t) = turned-numbered (λ τ. Turned p τ []) t [] (plainBegin t) (turned-begin t (p .slots t)) (kept _ _)
   turned (on t o) = turned-numbered (λ τ. Turned p τ []) t (bufferOf o) (plainOn t o) (turned-on t o (p .slots t)) (kept _ _)
   turned (commit t) =
-      turned-numbered (λ τ. Turned p τ (ifGranted (τ .reply .answer) (callsOf (p .slots t)))) t [] (plainCommit t)
+      turned-numbered (λ τ. Turned p τ (ifGranted (τ .reply .answer) (grantAt t (p .slots t)))) t [] (plainCommit t)
       (turned-commit t (p .slots t) refl)
       (kept _ _)
   turned (abort t) = turned-numbered (λ τ. Turned p τ []) t [] (plainAbort t) (turned-abort t (p .slots t)) (kept _ _)
 
 -- No call changes a descriptor's file.
-files-turn : (p : Plain) (τ : PlainTurn) (hs : List (List Accepted)) → Turned p τ hs → τ .after .fileOf ≡ p .fileOf
+files-turn : (p : Plain) (τ : PlainTurn) (hs : List Grant) → Turned p τ hs → τ .after .fileOf ≡ p .fileOf
 unfolding grant withSlot
 files-turn p τ hs (kept reply slots) = refl
 files-turn p τ hs (grants t r reply o e f) = refl
@@ -125,39 +130,42 @@ files-kept [] p = refl
 files-kept (c ∷ cs) p = files-kept cs (plainCall c p .after) ∙ files-turn p (plainCall c p) (grantedBy c p) (turned p c)
 
 -- The granted transactions from a state on do the same again, and leave that state.
-pub record InOrder (fileOf : ℕ → ℕ) (n : ℕ) (gs : List (List Accepted)) (c end : Committed) : Type 0 where
+pub record InOrder (fileOf : ℕ → ℕ) (n : ℕ) (gs : List Grant) (c end : Committed) : Type 0 where
   pub same : AllSame fileOf n gs c
   pub left : serially fileOf n gs c ≡ end
 
 module _ (p : Plain) (g : Good p) where
   granted-again :
-      (r : Running)
+      (t : ℕ) (r : Running)
+      → leb t 7 ≡ true
       → Sound (p .fileOf) (p .committed) (p .grants) r
       → isStale p r ≡ false
       → fits (p .committed .value) (r .txn) ≡ true
-      → SameAgain (p .fileOf) (p .committed) (r .calls)
+      → SameAgain (p .fileOf) (p .committed) (record { number = t; calls = r .calls })
   unfolding again
-  granted-again r s e f =
+  granted-again t r small s e f =
       let l = alone-recorded p r s e in
       record {
+        small = small;
         through = ap (λ (a : Lone). a .through) l;
         replies = ap (λ (a : Lone). a .replies) l;
         fitting = ap (λ (a : Lone). fits (p .committed .value) (a .txn)) l ∙ f;
       }
 
   granted-first :
-      (r : Running) (gs : List (List Accepted)) (end : Committed)
+      (t : ℕ) (r : Running) (gs : List Grant) (end : Committed)
+      → leb t 7 ≡ true
       → Sound (p .fileOf) (p .committed) (p .grants) r
       → isStale p r ≡ false
       → fits (p .committed .value) (r .txn) ≡ true
       → InOrder (p .fileOf) (p .grants + 1) gs (committing (p .fileOf) (p .grants + 1) (r .txn) (p .committed)) end
-      → InOrder (p .fileOf) (p .grants) (r .calls ∷ gs) (p .committed) end
+      → InOrder (p .fileOf) (p .grants) (record { number = t; calls = r .calls } ∷ gs) (p .committed) end
   unfolding again serially AllSame
-  granted-first r gs end s e f i =
+  granted-first t r gs end small s e f i =
       let x : again (p .fileOf) (p .committed) (r .calls) .txn ≡ r .txn = ap (λ (a : Lone). a .txn) (alone-recorded p r s e) in
       record {
         same = (
-          granted-again r s e f,
+          granted-again t r small s e f,
           subst (λ (y : Txn). AllSame (p .fileOf) (p .grants + 1) gs (committing (p .fileOf) (p .grants + 1) y (p .committed))) (sym x)
               (i .same),
         );
@@ -166,13 +174,13 @@ module _ (p : Plain) (g : Good p) where
       }
 
   in-order-turn :
-      (τ : PlainTurn) (hs gs : List (List Accepted)) (end : Committed)
+      (τ : PlainTurn) (hs gs : List Grant) (end : Committed)
       → Turned p τ hs
       → InOrder (τ .after .fileOf) (τ .after .grants) gs (τ .after .committed) end
       → InOrder (p .fileOf) (p .grants) (hs ++ gs) (p .committed) end
   unfolding grant withSlot
   in-order-turn τ hs gs end (kept reply slots) i = i
-  in-order-turn τ hs gs end (grants t r reply o e f) i = granted-first r gs end (sound-at p g t r o) e f i
+  in-order-turn τ hs gs end (grants t r reply o e f) i = granted-first t r gs end (open-number p g t r o) (sound-at p g t r o) e f i
 
 pub in-order : (cs : List Call) (p : Plain) → Good p → InOrder (p .fileOf) (p .grants) (grantsOf cs p) (p .committed) (plainAfter cs p .committed)
 unfolding grantsOf plainAfter serially AllSame

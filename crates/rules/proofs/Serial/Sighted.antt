@@ -5,13 +5,15 @@ use mathlib.Core.Bool.{Bool, true, false, cond, not, _&&_, _||_}
 use mathlib.Core.List.{List, [], _∷_, _++_}
 use lib.Dec.{leb, eqb}
 use Prim.Native.Nat.{ℕ, zero, suc, _+_}
-use Rattle.record.specs.Paper.{Said, plain, granted, refused}
+use Rattle.record.specs.declared.outcomes.Refusal.the-variants.{Stale}
+use Rattle.record.specs.Paper.{number, Said, plain, granted, refused}
 use Rattle.rules.specs.Items.{Item, byte, offset, same, Values, Prog, result, asked}
 use Rattle.standings.specs.Table.{isKnown}
 use Rattle.rules.specs.Transactions.{Txn, empty, put}
-use Rattle.rules.specs.Steps.{Op, bufferOf, Stepped, refuse, accept, step}
+use Rattle.rules.specs.Messages.{Op, bufferOf}
+use Rattle.rules.specs.Steps.{Stepped, refuse, accept, step}
 use Rattle.rules.specs.Commits.{Setting, settings, fits, landed, commitRefusal}
-use Rattle.rules.specs.Plain.{Call, begin, on, commit, abort, Reply}
+use Rattle.rules.specs.Messages.{Call, begin, on, commit, abort, Reply}
 
 pub record Held : Type 0 where
   pub txn : Txn
@@ -27,8 +29,8 @@ pub record Sighted : Type 0 where
   pub value : Values
   pub seats : ℕ → Seat
 
-unfoldable pub freshSighted : (ℕ → ℕ) → Sighted
-freshSighted fileOf = record { fileOf = fileOf; value = λ i. 0; seats = λ t. vacant }
+unfoldable pub startSighted : (ℕ → ℕ) → Values → Sighted
+startSighted fileOf v = record { fileOf = fileOf; value = v; seats = λ t. vacant }
 
 -- A byte is sighted where it is marked, an offset where its descriptor stands Known.
 unfoldable pub sighted : Held → Item → Bool
@@ -106,7 +108,7 @@ sightedCommitted t h s zero = granting t (settings (s .fileOf) (s .value) (h .tx
 sightedCommitted t h s (suc n) =
     record {
       reply = record { answer = refused (suc n); buffer = [] };
-      after = cond (eqb (suc n) 13) (withSeat t vacant s) s;
+      after = cond (eqb (suc n) (number Stale)) (withSeat t vacant s) s;
     }
 
 unfoldable pub sightedCommit : ℕ → Seat → Sighted → SightedTurn

@@ -11,9 +11,13 @@ use Rattle.record.specs.Paper.{Said}
 use Rattle.rules.specs.Items.{Item, offset, Values, result, asked}
 use Rattle.standings.specs.Table.{isKnown}
 use Rattle.rules.specs.Transactions.{Txn, empty}
-use Rattle.rules.specs.Steps.{Op, accept, step}
+use Rattle.rules.specs.Messages.{Op}
+use Rattle.rules.specs.Steps.{accept, step}
 use Rattle.rules.specs.Commits.{Setting, settings, landed, setBy}
-use Rattle.rules.specs.Plain.{Reply, Entry, sameEntries, entries, Committed, Accepted, Running, Lone, lone, ops, committing, grant}
+use Rattle.rules.specs.Messages.{Reply}
+use Rattle.rules.specs.Sightings.{Entry, sameEntries, entries, Committed}
+use Rattle.rules.specs.Plain.{Accepted, Running, ops, committing, grant}
+use Rattle.rules.specs.Lone.{Lone, lone}
 use Rattle.rules.proofs.Serial.Sighted.{among}
 use Rattle.rules.proofs.Serial.Programs.{Every, among-append, agree-result, agree-asked}
 use Rattle.rules.proofs.Serial.Known.{known-step}

@@ -8,103 +8,42 @@ use lib.Dec.{leb}
 use native.Mathlib.Omega.{arith}
 use Prim.Native.Nat.{ℕ}
 use Rattle.record.specs.Paper.{Said, plain, pointer, given, granted, refused}
+use Rattle.rules.specs.Items.{Values}
 use Rattle.rules.specs.Transactions.{empty}
 use Rattle.rules.specs.Commits.{fits, commitRefusal}
-use Rattle.rules.specs.Plain.{Call, commit, sameEntries, Running, Slot, running, Plain, freshPlain, lone, ops, firstList, secondList, isStale, PlainTurn, turnedDown, answering, plainCommitted, plainCommit, numbered, plainCall, plainAfter, plainReplies, grantsOf}
-use Rattle.rules.specs.Serial.{serially, AllSame}
-use Rattle.rules.proofs.Serial.Sighted.{freshSighted, SightedTurn, sightedCall, sightedAfter, sightedReplies}
-use Rattle.rules.proofs.Serial.Lists.{sameEntries-true, sameEntries-of}
+use Rattle.rules.specs.Messages.{Call, commit}
+use Rattle.rules.specs.Sightings.{sameEntries}
+use Rattle.rules.specs.Plain.{Running, Slot, running, Plain, startPlain, ops, firstList, secondList, isStale, PlainTurn, turnedDown, answering, plainCommitted, plainCommit, numbered, plainCall, plainAfter, plainReplies}
+use Rattle.rules.specs.Lone.{lone}
+use Rattle.rules.specs.Grants.{grantsOf, rerun, sameReplies}
+use Rattle.rules.proofs.Serial.Alone.{serially, AllSame}
+use Rattle.rules.proofs.Serial.Sighted.{startSighted, SightedTurn, sightedCall, sightedAfter, sightedReplies}
+use Rattle.rules.proofs.Serial.Commits.{Tells, commit-tells}
+use Rattle.rules.proofs.Serial.Rerun.{reran}
 use Rattle.rules.proofs.Serial.Sound.{recorded}
-use Rattle.rules.proofs.Serial.Invariant.{Good, good-fresh, good-after, sound-at, open-number}
-use Rattle.rules.proofs.Serial.FirstHalf.{abs, abs-fresh, absTurn, same-call, same-after, same-replies}
+use Rattle.rules.proofs.Serial.Invariant.{Good, good-start, good-after, sound-at, open-number}
+use Rattle.rules.proofs.Serial.FirstHalf.{abs, abs-start, absTurn, same-call, same-after, same-replies}
 use Rattle.rules.proofs.Serial.SecondHalf.{files-kept, in-order, alone-recorded}
 
--- A transaction is stale to the machine exactly where its two lists differ.
-pub stale-exactly : (p : Plain) (r : Running) → (isStale p r ≡ false) ↔ (firstList r ≡ secondList p r)
-unfolding isStale
-stale-exactly p r = (
-  λ e. sameEntries-true (firstList r) (secondList p r) (not-false (sameEntries (firstList r) (secondList p r)) e),
-  λ e. ap not (sameEntries-of (firstList r) (secondList p r) e),
-)
-
--- What a Commit's answer tells of the two lists of its transaction: it is not a refusal 13 exactly when they are equal, and a
--- refusal 13 exactly when they differ.
-pub record Tells (answer : Said) (r : Running) (p : Plain) : Type 0 where
-  pub passes : (answer ≡ refused 13 → ⊥) ↔ (firstList r ≡ secondList p r)
-  pub refuses : (answer ≡ refused 13) ↔ (firstList r ≡ secondList p r → ⊥)
-
-refusalOf : Said → ℕ
-refusalOf plain = 0
-refusalOf (pointer o) = 0
-refusalOf (given n) = 0
-refusalOf (granted n) = 0
-refusalOf (refused n) = n
-
-module _ (t : ℕ) (r : Running) (p : Plain) where
-  -- The turn of a Commit of an open transaction.
-  commit-turn :
-      leb t 7 ≡ true
-      → p .slots t ≡ running r
-      → plainCall (commit t) p ≡ plainCommitted t r p (commitRefusal (isStale p r) (fits (p .committed .value) (r .txn)))
-  unfolding plainCall numbered plainCommit
-  commit-turn l o = ap₂ (λ (b : Bool) (s : Slot). cond b (plainCommit t s p) (turnedDown 3 [] p)) l o
-
-  answer-13 : (stale placed : Bool) → stale ≡ true → plainCommitted t r p (commitRefusal stale placed) .reply .answer ≡ refused 13
-  unfolding plainCommitted commitRefusal
-  answer-13 true placed e = refl
-  answer-13 false placed e = absurd (false≢true e)
-
-  answer-not-13 :
-      (stale placed : Bool) → stale ≡ false → plainCommitted t r p (commitRefusal stale placed) .reply .answer ≡ refused 13 → ⊥
-  unfolding plainCommitted commitRefusal answering refusalOf
-  answer-not-13 true placed e h = true≢false e
-  answer-not-13 false true e h = let z : _≡_ {A = ℕ} 0 13 = ap refusalOf h in omega arith
-  answer-not-13 false false e h = let z : _≡_ {A = ℕ} 12 13 = ap refusalOf h in omega arith
-
-  stale-answer : leb t 7 ≡ true → p .slots t ≡ running r → isStale p r ≡ true → plainCall (commit t) p .reply .answer ≡ refused 13
-  stale-answer l o e =
-      ap (λ (τ : PlainTurn). τ .reply .answer) (commit-turn l o) ∙ answer-13 (isStale p r) (fits (p .committed .value) (r .txn)) e
-
-  -- If the lists are equal the answer is not 13, and if they differ it is.
-  pub commit-tells : leb t 7 ≡ true → p .slots t ≡ running r → Tells (plainCall (commit t) p .reply .answer) r p
-  commit-tells l o =
-      record {
-        passes = (λ h. stale-exactly p r .0 (unless (isStale p r) refl (λ e. h (stale-answer l o e))), equal);
-        refuses = (λ h e. equal e h, λ d. stale-answer l o (when (isStale p r) refl d));
-      }
-    where
-      equal : firstList r ≡ secondList p r → plainCall (commit t) p .reply .answer ≡ refused 13 → ⊥
-      equal e h =
-          answer-not-13 (isStale p r) (fits (p .committed .value) (r .txn)) (stale-exactly p r .1 e)
-          (sym (ap (λ (τ : PlainTurn). τ .reply .answer) (commit-turn l o)) ∙ h)
-
-      unless : (b : Bool) → isStale p r ≡ b → (isStale p r ≡ true → ⊥) → isStale p r ≡ false
-      unless true e h = absurd (h e)
-      unless false e h = e
-
-      when : (b : Bool) → isStale p r ≡ b → (firstList r ≡ secondList p r → ⊥) → isStale p r ≡ true
-      when true e d = e
-      when false e d = absurd (d (stale-exactly p r .0 e))
-
-module _ (fileOf : ℕ → ℕ) (cs : List Call) where
+module _ (fileOf : ℕ → ℕ) (v : Values) (cs : List Call) where
   -- The machine after the list of calls.
   abbrev pub reached : Plain
-  reached = plainAfter cs (freshPlain fileOf)
+  reached = plainAfter cs (startPlain fileOf v)
 
-  pub reached-good : Good (plainAfter cs (freshPlain fileOf))
-  reached-good = good-after cs (freshPlain fileOf) (good-fresh fileOf)
+  pub reached-good : Good (plainAfter cs (startPlain fileOf v))
+  reached-good = good-after cs (startPlain fileOf v) (good-start fileOf v)
 
   -- "That the store returns the same refusals is part of demand 3": all replies are the same, refusals, answers, Commit's number
   -- and the reader's buffers.
-  pub replies-same : sightedReplies cs (freshSighted fileOf) ≡ plainReplies cs (freshPlain fileOf)
-  replies-same = ap (sightedReplies cs) (abs-fresh fileOf) ∙ same-replies cs (freshPlain fileOf) (good-fresh fileOf)
+  pub replies-same : sightedReplies cs (startSighted fileOf v) ≡ plainReplies cs (startPlain fileOf v)
+  replies-same = ap (sightedReplies cs) (abs-start fileOf v) ∙ same-replies cs (startPlain fileOf v) (good-start fileOf v)
 
-  pub state-same : sightedAfter cs (freshSighted fileOf) ≡ abs (plainAfter cs (freshPlain fileOf))
-  state-same = ap (sightedAfter cs) (abs-fresh fileOf) ∙ same-after cs (freshPlain fileOf) (good-fresh fileOf)
+  pub state-same : sightedAfter cs (startSighted fileOf v) ≡ abs (plainAfter cs (startPlain fileOf v))
+  state-same = ap (sightedAfter cs) (abs-start fileOf v) ∙ same-after cs (startPlain fileOf v) (good-start fileOf v)
 
   -- The turn of one more call.
   pub turn-same :
-      (c : Call) → sightedCall c (sightedAfter cs (freshSighted fileOf)) ≡ absTurn (plainCall c (plainAfter cs (freshPlain fileOf)))
+      (c : Call) → sightedCall c (sightedAfter cs (startSighted fileOf v)) ≡ absTurn (plainCall c (plainAfter cs (startPlain fileOf v)))
   turn-same c = ap (sightedCall c) state-same ∙ same-call c reached reached-good
 
   -- A Commit after the list is refused with 13 exactly when the two lists of its transaction differ at that moment: by the machine,
@@ -115,21 +54,29 @@ module _ (fileOf : ℕ → ℕ) (cs : List Call) where
   pub store-commit :
       (t : ℕ) (r : Running)
       → reached .slots t ≡ running r
-      → Tells (sightedCall (commit t) (sightedAfter cs (freshSighted fileOf)) .reply .answer) r reached
+      → Tells (sightedCall (commit t) (sightedAfter cs (startSighted fileOf v)) .reply .answer) r reached
   unfolding absTurn
   store-commit t r o =
       subst (λ (τ : SightedTurn). Tells (τ .reply .answer) r reached) (sym (turn-same (commit t))) (machine-commit t r o)
 
-  -- "the granted ones are run alone from the state of Fresh, in the order of their grants": each meets no refusal and gives the
-  -- same answers and bytes, and together they leave the files, offsets and setters of the machine.
-  pub serial-same : AllSame fileOf 0 (grantsOf cs (freshPlain fileOf)) (freshPlain fileOf .committed)
-  unfolding freshPlain
-  serial-same = in-order cs (freshPlain fileOf) (good-fresh fileOf) .same
+  -- "the granted ones are run alone .., in the order of their grants": each meets no refusal and gives the same answers and bytes,
+  -- and together they leave the files and offsets of the machine.
+  serial-same : AllSame fileOf 0 (grantsOf cs (startPlain fileOf v)) (startPlain fileOf v .committed)
+  unfolding startPlain
+  serial-same = in-order cs (startPlain fileOf v) (good-start fileOf v) .same
 
-  pub serial-left :
-      serially fileOf 0 (grantsOf cs (freshPlain fileOf)) (freshPlain fileOf .committed) ≡ plainAfter cs (freshPlain fileOf) .committed
-  unfolding freshPlain
-  serial-left = in-order cs (freshPlain fileOf) (good-fresh fileOf) .left
+  serial-left :
+      serially fileOf 0 (grantsOf cs (startPlain fileOf v)) (startPlain fileOf v .committed) ≡ plainAfter cs (startPlain fileOf v) .committed
+  unfolding startPlain
+  serial-left = in-order cs (startPlain fileOf v) (good-start fileOf v) .left
+
+  pub again-same : plainReplies (rerun (grantsOf cs (startPlain fileOf v))) (startPlain fileOf v) ≡ sameReplies (grantsOf cs (startPlain fileOf v))
+  again-same = reran (grantsOf cs (startPlain fileOf v)) (startPlain fileOf v) (unfold startPlain in λ u. refl) (unfold startPlain in serial-same) .replies
+
+  pub again-left : plainAfter (rerun (grantsOf cs (startPlain fileOf v))) (startPlain fileOf v) .committed ≡ plainAfter cs (startPlain fileOf v) .committed
+  again-left =
+      reran (grantsOf cs (startPlain fileOf v)) (startPlain fileOf v) (unfold startPlain in λ u. refl) (unfold startPlain in serial-same) .left
+      ∙ (unfold startPlain in serial-left)
 
   -- An open transaction that is not stale, run alone on the committed state: it gets through its accepted calls, with the
   -- recorded replies, and stands and has written as recorded.
@@ -143,5 +90,5 @@ module _ (fileOf : ℕ → ℕ) (cs : List Call) where
 
   -- Every descriptor's file stays the one that Fresh was given.
   pub files-same : reached .fileOf ≡ fileOf
-  unfolding freshPlain
-  files-same = files-kept cs (freshPlain fileOf)
+  unfolding startPlain
+  files-same = files-kept cs (startPlain fileOf v)

@@ -17,7 +17,8 @@ use Rattle.record.specs.Paper.{Said}
 use Rattle.ranges.proofs.Laws.{and-left, and-right, InRange, in-range}
 use Rattle.rules.specs.Items.{Item, byte, offset, Values, result, asked}
 use Rattle.rules.specs.Transactions.{Txn, put}
-use Rattle.rules.specs.Steps.{Op, accept, step}
+use Rattle.rules.specs.Messages.{Op}
+use Rattle.rules.specs.Steps.{accept, step}
 use Rattle.rules.specs.Machine.{Machine, withStore, withJournal, withLogs, withMarking, fileOf, values, txnOf, withTxn, journalled, holding}
 use Rattle.record.specs.State.{withTransaction}
 use Rattle.rules.specs.Calls.{marked, logged}

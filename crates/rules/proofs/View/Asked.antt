@@ -10,7 +10,8 @@ use Rattle.rules.specs.Items.{Item, offset, Values, Prog, done, andThen,
 use Rattle.standings.specs.Table.{advance, pointerSettles, readSettles, offsetOf}
 use Rattle.rules.specs.Transactions.{Txn, Write, those, settle, Settled, past, all, settling}
 use Rattle.rules.specs.Reading.{Source, own, file, bring, latest, fetch}
-use Rattle.rules.specs.Steps.{Op, seek, write, getFilePointer, read, Stepped, check, orGivenBack, seekStep, writeStep, pointerStep, settledByRead, readSettled, readStep, step}
+use Rattle.rules.specs.Messages.{Op, seek, write, getFilePointer, read}
+use Rattle.rules.specs.Steps.{Stepped, check, orGivenBack, seekStep, writeStep, pointerStep, settledByRead, readSettled, readStep, step}
 use Rattle.rules.proofs.Serial.Programs.{asked-andThen}
 use Rattle.rules.proofs.View.Marks.{ItemsIn}
 

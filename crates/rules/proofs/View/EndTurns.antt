@@ -10,7 +10,7 @@ use Rattle.record.specs.State.{transaction, ended, begun}
 use Rattle.ranges.specs.Ranges.{unless, admissionOfBegin}
 use Rattle.ranges.proofs.Laws.{in-range}
 use Rattle.rules.specs.Commits.{Setting, settings, fits, commitRefusal}
-use Rattle.rules.specs.Plain.{begin, commit, abort}
+use Rattle.rules.specs.Messages.{begin, commit, abort}
 use Rattle.rules.specs.Machine.{Machine, fileOf, values, txnOf}
 use Rattle.rules.specs.Calls.{answer, turnDown, passing, beginTurn, abortTurn, commitDecided, commitTurn, call}
 use Rattle.rules.proofs.Serial.Sighted.{vacant, held, turnedAway, telling, sightedBegin, sightedCommitted, sightedCommit, sightedAbort, seated, sightedCall}

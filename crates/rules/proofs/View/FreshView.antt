@@ -13,7 +13,7 @@ use Rattle.ranges.proofs.Laws.{InRange, in-range-intro}
 use Rattle.rules.specs.Items.{Item, byte, offset, Values}
 use Rattle.rules.specs.Machine.{fileOf, values}
 use Rattle.rules.specs.Calls.{freshStore, freshMachine}
-use Rattle.rules.proofs.Serial.Sighted.{Seat, vacant, freshSighted}
+use Rattle.rules.proofs.Serial.Sighted.{Seat, vacant, startSighted}
 use Rattle.rules.proofs.View.Shape.{heldBy, seat, view, Shaped, Sound}
 use Rattle.rules.proofs.View.Endings.{seat-in, seat-out}
 
@@ -31,7 +31,7 @@ module _ (numbers : List ℕ) (logs : List ℕ) where
   unfolding freshStore
   ended-at u l = getD-replicate 8 u ended noTransaction l
 
-  closed-at : (u : ℕ) → u < 8 → transaction (freshMachine numbers logs .store) u .begun ≡ false
+  pub closed-at : (u : ℕ) → u < 8 → transaction (freshMachine numbers logs .store) u .begun ≡ false
   unfolding freshMachine ended
   closed-at u l = ap (λ (x : Transaction). x .begun) (ended-at u l)
 
@@ -44,8 +44,8 @@ module _ (numbers : List ℕ) (logs : List ℕ) where
   fresh-values n (byte q) = zeros n q
   fresh-values n (offset d) = zeros 16 d
 
-  pub fresh-view : view (freshMachine numbers logs) ≡ freshSighted (λ d. getD numbers d 0)
-  unfolding view freshSighted freshMachine freshStore fileOf
+  pub fresh-view : view (freshMachine numbers logs) ≡ startSighted (λ d. getD numbers d 0) (λ i. 0)
+  unfolding view startSighted freshMachine freshStore fileOf
   fresh-view =
       let e : _≡_ {A = ℕ → Seat} (seat (freshMachine numbers logs)) (λ u. vacant) = fun-ext (λ u. seats u (le-or-lt 8 u)) in
       let f : _≡_ {A = Values} (values (freshStore numbers) (replicate 32768 0)) (λ i. 0) = fun-ext (fresh-values 32768) in

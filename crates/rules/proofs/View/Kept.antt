@@ -16,7 +16,8 @@ use Rattle.rules.specs.Items.{offset, Values, Prog, done, andThen, resul
 use Rattle.standings.specs.Table.{advance, settled, afterSeek, afterWrite, afterRead, pointerSettles, readSettles, offsetOf, writePlace}
 use Rattle.rules.specs.Transactions.{Txn, Write, put, withStanding, placedAt, placeWrite, settle, those, Settled, past, all, settling}
 use Rattle.rules.specs.Reading.{fetch}
-use Rattle.rules.specs.Steps.{Op, seek, write, getFilePointer, read, Stepped, accept, check, orGivenBack, total, written, seekStep, writeStep, pointerStep, settledByRead, readSettled, readStep, step}
+use Rattle.rules.specs.Messages.{Op, seek, write, getFilePointer, read}
+use Rattle.rules.specs.Steps.{Stepped, accept, check, orGivenBack, total, written, seekStep, writeStep, pointerStep, settledByRead, readSettled, readStep, step}
 use Rattle.rules.proofs.Serial.Programs.{result-andThen}
 use Rattle.rules.proofs.View.Shape.{WriteIn, TxnIn}
 use Rattle.rules.specs.Machine.{noWrite}

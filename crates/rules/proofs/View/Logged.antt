@@ -13,7 +13,7 @@ use Rattle.record.specs.declared.Store.{Store}
 use Rattle.record.specs.State.{transaction}
 use Rattle.ranges.specs.Below.{sum}
 use Rattle.ranges.proofs.Laws.{sum-same}
-use Rattle.rules.specs.Steps.{Op, seek, write, getFilePointer, read}
+use Rattle.rules.specs.Messages.{Op, seek, write, getFilePointer, read}
 use Rattle.rules.specs.Calls.{logged}
 use Rattle.rules.proofs.View.Tables.{sum-le}
 use Rattle.rules.proofs.View.Kept.{piecesAfter}

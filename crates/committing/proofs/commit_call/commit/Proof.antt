@@ -6,7 +6,7 @@ use mathlib.Core.Path.{_≡_, _∙_}
 use Rattle.record.specs.declared.outcomes.Refusal.the-variants.{NotOpen, SettledPastEnd}
 use Rattle.ranges.specs.Ranges.{admission}
 use Rattle.ranges.proofs.Laws.{in-range, failed, held}
-use Rattle.rules.specs.Plain.{Call}
+use Rattle.rules.specs.Messages.{Call}
 use Rattle.rules.specs.Machine.{Machine, lent}
 use Rattle.rules.specs.Calls.{call, admitted, commitTurn}
 use Rattle.laws.proofs.Owned.{shaped}

@@ -7,7 +7,7 @@ use mathlib.Core.Path.{_≡_}
 use Rattle.record.specs.Paper.{number}
 use Rattle.record.specs.declared.outcomes.Refusal.the-variants.{NotOpen, NoSuchDescriptor, SeekPastEnd}
 use Rattle.ranges.specs.Ranges.{admission}
-use Rattle.rules.specs.Steps.{Op, bufferOf}
+use Rattle.rules.specs.Messages.{Op, bufferOf}
 use Rattle.record.specs.State.{withTransaction}
 use Rattle.rules.specs.Machine.{Machine, lent, sizes}
 use Rattle.rules.specs.Calls.{call, admitted, stepTurn}

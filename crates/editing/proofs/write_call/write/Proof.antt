@@ -11,7 +11,7 @@ use Rattle.record.specs.declared.outcomes.Refusal.the-variants.{NotOpen, NoSuch
 use Rattle.record.specs.State.{transaction, standingAt, withTransaction}
 use Rattle.record.specs.Paper.{number}
 use Rattle.ranges.specs.Ranges.{admission, gateNumber}
-use Rattle.rules.specs.Steps.{Op, bufferOf}
+use Rattle.rules.specs.Messages.{Op, bufferOf}
 use Rattle.rules.specs.Machine.{Machine, lent, sizes}
 use Rattle.rules.specs.Calls.{call, admitted, stepTurn}
 use Rattle.laws.proofs.Owned.{shaped}

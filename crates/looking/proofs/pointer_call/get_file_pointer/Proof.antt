@@ -11,7 +11,7 @@ use Rattle.record.specs.State.{transaction, withTransaction}
 use Rattle.record.specs.declared.outcomes.Refusal.the-variants.{NotOpen, NoSuchDescriptor, SettledPastEnd}
 use Rattle.ranges.specs.Ranges.{admission}
 use Rattle.ranges.proofs.Laws.{in-range}
-use Rattle.rules.specs.Steps.{Op, bufferOf}
+use Rattle.rules.specs.Messages.{Op, bufferOf}
 use Rattle.rules.specs.Machine.{Machine, lent, sizes}
 use Rattle.rules.specs.Calls.{call, admitted, stepTurn}
 use Rattle.laws.proofs.Owned.{shaped}

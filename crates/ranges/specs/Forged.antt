@@ -1,0 +1,77 @@
+-- Check 2 on forged records: each breaks one range, beside a record that stands just within it.
+use mathlib.Core.Bool.{Bool, true, false}
+use mathlib.Core.List.{List, []}
+use mathlib.Core.Path.{_≡_}
+use lib.ListN.{set, replicate}
+use Prim.Native.Nat.{ℕ, zero, suc}
+use Rattle.standings.specs.declared.Standing.{Standing}
+use Rattle.standings.specs.declared.Standing.the-variants.{Untouched, Placed, Deferred, Moved, Known}
+use Rattle.standings.specs.declared.Place.the-variants.{At, After}
+use Rattle.record.specs.declared.Transaction.{Transaction}
+use Rattle.record.specs.declared.Store.{Store}
+use Rattle.record.specs.declared.journal.WriteRecord.{WriteRecord}
+use Rattle.record.specs.State.{ended, begun, withUsed, withDescriptors, withBegun}
+use Rattle.record.specs.Journal.{withRecords}
+use Rattle.ranges.specs.Ranges.{storeIn}
+
+-- A store whose transaction 7 is x, with the file number of descriptor 15 and the offset of descriptor 15.
+unfoldable pub forged : ℕ → ℕ → Transaction → Store
+forged file offset x =
+    record { filenumbers = set (replicate 16 0) 15 file; offsets = set (replicate 16 0) 15 offset; transactions = set (replicate 8 ended) 7 x }
+
+-- An open transaction whose descriptor 15 stands so, with n records and their bytes.
+unfoldable pub opened : Standing → ℕ → ℕ → Transaction
+opened z n bytes =
+    withUsed (record { records = n; bytes = bytes })
+    (withDescriptors (set (replicate 16 (record { standing = Untouched })) 15 (record { standing = z })) begun)
+
+-- A journal whose first n records of transaction 7 are those.
+unfoldable pub journal : (ℕ → WriteRecord) → ℕ → List ℕ
+journal f n = withRecords (replicate 1536 0) 7 f n
+
+-- Records of n bytes at place p of descriptor 15's file; one of n bytes before others of 1; records without a place.
+unfoldable pub placed : ℕ → ℕ → ℕ → WriteRecord
+placed p n k = record { descriptor = 15; place = At p; length = n }
+
+unfoldable pub first : ℕ → ℕ → WriteRecord
+first n zero = record { descriptor = 15; place = At 0; length = n }
+first n (suc k) = record { descriptor = 15; place = At 0; length = 1 }
+
+unfoldable pub deferred : ℕ → ℕ → ℕ → WriteRecord
+deferred d n k = record { descriptor = d; place = After 0; length = n }
+
+pub record Forged : Type 0 where
+  -- "files at most 7"
+  pub file : (storeIn (forged 7 0 ended) [] ≡ true) × (storeIn (forged 8 0 ended) [] ≡ false)
+  -- "committed offsets at most 4,096"
+  pub offset : (storeIn (forged 0 4096 ended) [] ≡ true) × (storeIn (forged 0 4097 ended) [] ≡ false)
+  -- "offsets and advances of standings at most 4,096"
+  pub standings :
+      (storeIn (forged 0 0 (opened (Moved 4096 4096) 0 0)) [] ≡ true) × (storeIn (forged 0 0 (opened (Moved 0 4097) 0 0)) [] ≡ false)
+      × (storeIn (forged 0 0 (opened (Moved 4097 0) 0 0)) [] ≡ false) × (storeIn (forged 0 0 (opened (Placed 4097) 0 0)) [] ≡ false)
+      × (storeIn (forged 0 0 (opened (Deferred 4097) 0 0)) [] ≡ false) × (storeIn (forged 0 0 (opened (Known 4097) 0 0)) [] ≡ false)
+  -- "records at most 64"
+  pub records :
+      (storeIn (forged 0 0 (opened Untouched 64 0)) (journal (placed 0 0) 64) ≡ true)
+      × (storeIn (forged 0 0 (opened Untouched 65 0)) (journal (placed 0 0) 65) ≡ false)
+  -- "their lengths adding to the data used, at most 4,096"
+  pub bytes :
+      (storeIn (forged 0 0 (opened Untouched 2 4096)) (journal (first 4095) 2) ≡ true)
+      × (storeIn (forged 0 0 (opened Untouched 2 4097)) (journal (first 4096) 2) ≡ false)
+      × (storeIn (forged 0 0 (opened Untouched 2 4095)) (journal (first 4095) 2) ≡ false)
+  -- "each record's descriptor at most 15 and its place or advance plus length at most 4,096"
+  pub descriptor :
+      (storeIn (forged 0 0 (opened (Deferred 3) 1 3)) (journal (deferred 15 3) 1) ≡ true)
+      × (storeIn (forged 0 0 (opened (Deferred 3) 1 3)) (journal (deferred 16 3) 1) ≡ false)
+  pub place :
+      (storeIn (forged 0 0 (opened Untouched 1 4095)) (journal (placed 1 4095) 1) ≡ true)
+      × (storeIn (forged 0 0 (opened Untouched 1 4096)) (journal (placed 1 4096) 1) ≡ false)
+  -- "a record without a place only under Deferred or Moved, ending at most at that advance"
+  pub unplaced :
+      (storeIn (forged 0 0 (opened (Moved 3 0) 1 3)) (journal (deferred 15 3) 1) ≡ true)
+      × (storeIn (forged 0 0 (opened (Deferred 2) 1 3)) (journal (deferred 15 3) 1) ≡ false)
+      × (storeIn (forged 0 0 (opened (Known 3) 1 3)) (journal (deferred 15 3) 1) ≡ false)
+      × (storeIn (forged 0 0 (opened (Placed 3) 1 3)) (journal (deferred 15 3) 1) ≡ false)
+      × (storeIn (forged 0 0 (opened Untouched 1 3)) (journal (deferred 15 3) 1) ≡ false)
+  -- "in each open transaction": what lies about in a closed one passes.
+  pub closed : storeIn (forged 0 0 (withBegun false (opened (Known 9999) 200 9999))) [] ≡ true

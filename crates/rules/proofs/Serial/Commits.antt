@@ -1,0 +1,82 @@
+-- What a Commit's answer tells of the two lists of its transaction.
+use mathlib.Core.Bool.{Bool, true, false, cond, not, true≢false, false≢true}
+use mathlib.Core.List.{List, []}
+use mathlib.Core.Logic.{_↔_}
+use mathlib.Core.Path.{_≡_, refl, sym, ap, ap₂, _∙_}
+use borrow.Author.Tests.{not-false}
+use lib.Dec.{leb}
+use native.Mathlib.Omega.{arith}
+use Prim.Native.Nat.{ℕ}
+use Rattle.record.specs.Paper.{Said, plain, pointer, given, granted, refused}
+use Rattle.rules.specs.Messages.{commit}
+use Rattle.rules.specs.Commits.{fits, commitRefusal}
+use Rattle.rules.specs.Sightings.{sameEntries}
+use Rattle.rules.specs.Plain.{Running, Slot, running, Plain, firstList, secondList, isStale, PlainTurn, turnedDown, answering, plainCommitted, plainCommit, numbered, plainCall}
+use Rattle.rules.proofs.Serial.Lists.{sameEntries-true, sameEntries-of}
+
+-- A transaction is stale to the machine exactly where its two lists differ.
+pub stale-exactly : (p : Plain) (r : Running) → (isStale p r ≡ false) ↔ (firstList r ≡ secondList p r)
+unfolding isStale
+stale-exactly p r = (
+  λ e. sameEntries-true (firstList r) (secondList p r) (not-false (sameEntries (firstList r) (secondList p r)) e),
+  λ e. ap not (sameEntries-of (firstList r) (secondList p r) e),
+)
+
+-- What a Commit's answer tells of the two lists of its transaction: it is not a refusal 13 exactly when they are equal, and a
+-- refusal 13 exactly when they differ.
+pub record Tells (answer : Said) (r : Running) (p : Plain) : Type 0 where
+  pub passes : (answer ≡ refused 13 → ⊥) ↔ (firstList r ≡ secondList p r)
+  pub refuses : (answer ≡ refused 13) ↔ (firstList r ≡ secondList p r → ⊥)
+
+refusalOf : Said → ℕ
+refusalOf plain = 0
+refusalOf (pointer o) = 0
+refusalOf (given n) = 0
+refusalOf (granted n) = 0
+refusalOf (refused n) = n
+
+module _ (t : ℕ) (r : Running) (p : Plain) where
+  -- The turn of a Commit of an open transaction.
+  pub commit-turn :
+      leb t 7 ≡ true
+      → p .slots t ≡ running r
+      → plainCall (commit t) p ≡ plainCommitted t r p (commitRefusal (isStale p r) (fits (p .committed .value) (r .txn)))
+  unfolding plainCall numbered plainCommit
+  commit-turn l o = ap₂ (λ (b : Bool) (s : Slot). cond b (plainCommit t s p) (turnedDown 3 [] p)) l o
+
+  answer-13 : (stale placed : Bool) → stale ≡ true → plainCommitted t r p (commitRefusal stale placed) .reply .answer ≡ refused 13
+  unfolding plainCommitted commitRefusal
+  answer-13 true placed e = refl
+  answer-13 false placed e = absurd (false≢true e)
+
+  answer-not-13 :
+      (stale placed : Bool) → stale ≡ false → plainCommitted t r p (commitRefusal stale placed) .reply .answer ≡ refused 13 → ⊥
+  unfolding plainCommitted commitRefusal answering refusalOf
+  answer-not-13 true placed e h = true≢false e
+  answer-not-13 false true e h = let z : _≡_ {A = ℕ} 0 13 = ap refusalOf h in omega arith
+  answer-not-13 false false e h = let z : _≡_ {A = ℕ} 12 13 = ap refusalOf h in omega arith
+
+  stale-answer : leb t 7 ≡ true → p .slots t ≡ running r → isStale p r ≡ true → plainCall (commit t) p .reply .answer ≡ refused 13
+  stale-answer l o e =
+      ap (λ (τ : PlainTurn). τ .reply .answer) (commit-turn l o) ∙ answer-13 (isStale p r) (fits (p .committed .value) (r .txn)) e
+
+  -- If the lists are equal the answer is not 13, and if they differ it is.
+  pub commit-tells : leb t 7 ≡ true → p .slots t ≡ running r → Tells (plainCall (commit t) p .reply .answer) r p
+  commit-tells l o =
+      record {
+        passes = (λ h. stale-exactly p r .0 (unless (isStale p r) refl (λ e. h (stale-answer l o e))), equal);
+        refuses = (λ h e. equal e h, λ d. stale-answer l o (when (isStale p r) refl d));
+      }
+    where
+      equal : firstList r ≡ secondList p r → plainCall (commit t) p .reply .answer ≡ refused 13 → ⊥
+      equal e h =
+          answer-not-13 (isStale p r) (fits (p .committed .value) (r .txn)) (stale-exactly p r .1 e)
+          (sym (ap (λ (τ : PlainTurn). τ .reply .answer) (commit-turn l o)) ∙ h)
+
+      unless : (b : Bool) → isStale p r ≡ b → (isStale p r ≡ true → ⊥) → isStale p r ≡ false
+      unless true e h = absurd (h e)
+      unless false e h = e
+
+      when : (b : Bool) → isStale p r ≡ b → (firstList r ≡ secondList p r → ⊥) → isStale p r ≡ true
+      when true e d = e
+      when false e d = absurd (d (stale-exactly p r .0 e))

@@ -1,0 +1,43 @@
+-- "No condition reads the store's age."
+use mathlib.Core.Bool.{false}
+use mathlib.Core.List.{List}
+use mathlib.Core.Path.{_≡_}
+use lib.ListN.{length}
+use Prim.Native.Nat.{ℕ, _≤_}
+use Rattle.record.specs.State.{transaction, withOffsets}
+use Rattle.rules.specs.Messages.{Call}
+use Rattle.rules.specs.Machine.{Machine, withStore, withFiles, fileOf, values}
+use Rattle.rules.specs.Calls.{freshStore, freshMachine, callsAfter, callsReplies}
+use Rattle.rules.specs.Plain.{startPlain, plainAfter}
+use Rattle.rules.specs.Demand3.{FreshlyMade, Holds}
+
+-- A store that calls have led to from a fresh one, however many, and in which nothing is open now.
+pub record AtRest (m : Machine) : Type 0 where
+  pub numbers : List ℕ
+  pub first : Machine
+  pub made : FreshlyMade numbers first
+  pub calls : List Call
+  pub reached : m ≡ callsAfter calls first
+  pub closed : (t : ℕ) → t ≤ 7 → transaction (m .store) t .begun ≡ false
+
+-- One made fresh, with other logs, and given the same files and offsets.
+unfoldable pub rejuvenated : Machine → List ℕ → Machine
+rejuvenated m logs =
+    withStore (withOffsets (m .store .offsets) (freshStore (m .store .filenumbers)))
+    (withFiles (m .files) (freshMachine (m .store .filenumbers) logs))
+
+-- Two stores answer a list of calls alike, reply for reply and byte for byte, and end with the same files and offsets.
+pub record Alike (cs : List Call) (m n : Machine) : Type 0 where
+  pub replies : callsReplies cs m ≡ callsReplies cs n
+  pub left : values (callsAfter cs m .store) (callsAfter cs m .files) ≡ values (callsAfter cs n .store) (callsAfter cs n .files)
+
+-- A store at rest answers every further list of calls as a young one does, however many grants came before and whatever log bytes
+-- and old write records lie about.
+abbrev pub Ageless : Type 0
+Ageless = (m : Machine) → AtRest m → (logs : List ℕ) → length logs ≡ 32768 → (cs : List Call) → Alike cs m (rejuvenated m logs)
+
+-- Demand 3 from any store at rest, Fresh's being one: the plain machine starts with what is committed there.
+abbrev pub Demand3AtRest : Type 0
+Demand3AtRest =
+    (m : Machine) → AtRest m → (cs : List Call)
+    → let p = startPlain (fileOf (m .store)) (values (m .store) (m .files)) in Holds m p cs (callsAfter cs m) (plainAfter cs p)

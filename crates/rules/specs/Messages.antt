@@ -1,0 +1,40 @@
+-- Calls and replies as data. Demand 3 speaks of lists of them.
+use mathlib.Core.List.{List, []}
+use Prim.Native.Nat.{ℕ}
+use Rattle.record.specs.Paper.{Said}
+
+-- The calls of one transaction, with their arguments: a Write's bytes, a Read's count and the reader's buffer.
+pub data Op : Type 0 where
+  seek : ℕ → ℕ → Op
+  write : ℕ → List ℕ → Op
+  getFilePointer : ℕ → Op
+  read : ℕ → ℕ → List ℕ → Op
+
+-- "Begin, Seek, Write, GetFilePointer, Read, Commit and Abort calls", each with its transaction number.
+pub data Call : Type 0 where
+  begin : ℕ → Call
+  on : ℕ → Op → Call
+  commit : ℕ → Call
+  abort : ℕ → Call
+
+-- The reader's buffer of a call; empty where it has none.
+unfoldable pub bufferOf : Op → List ℕ
+bufferOf (seek d v) = []
+bufferOf (write d bytes) = []
+bufferOf (getFilePointer d) = []
+bufferOf (read d n buffer) = buffer
+
+unfoldable pub bufferOfCall : Call → List ℕ
+bufferOfCall (begin t) = []
+bufferOfCall (on t o) = bufferOf o
+bufferOfCall (commit t) = []
+bufferOfCall (abort t) = []
+
+-- What a call gives: its answer, and the reader's buffer after it (empty where it has none).
+pub record Reply : Type 0 where
+  pub answer : Said
+  pub buffer : List ℕ
+
+-- A reply with no reader's buffer.
+abbrev pub says : Said → Reply
+says a = record { answer = a; buffer = [] }

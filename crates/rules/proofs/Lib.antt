@@ -2,3 +2,4 @@ pub mod Serial
 pub mod View
 pub mod Cases
 pub mod Demand3
+pub mod Coverage

@@ -24,6 +24,8 @@ pub mod Demand1
 pub mod Demand3
 pub mod Age
 pub mod Buffers
+-- What a transaction's writes cover (paper 02, F-1): the list that its call will answer. No rule cites it yet.
+pub mod Coverage
 -- The situations and corners of paper 01.
 pub mod Setup
 pub mod Situations

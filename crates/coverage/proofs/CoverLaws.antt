@@ -1,0 +1,126 @@
+-- What the walks over write records tell: which records have no place yet, and which places of a run are covered. Assumes nothing.
+use mathlib.Core.Bool.{Bool, true, false, _||_}
+use mathlib.Core.List.{List}
+use mathlib.Core.Logic.{⊎-elim}
+use mathlib.Core.Path.{_≡_, refl, sym, ap, subst, _∙_}
+use lib.ListN.{getD}
+use Prim.Native.Nat.{ℕ, zero, suc, _+_, _-_, _≤_, _<_}
+use native.Mathlib.Numerals.{add-one}
+use native.Mathlib.Omega.{arith}
+use borrow.Author.Tests.{eq-eqb, ne-eqb}
+use Rattle.octets.proofs.PartLaws.{le-or-lt}
+use Rattle.standings.specs.declared.Place.{Place}
+use Rattle.standings.specs.declared.Place.the-variants.{At, After}
+use Rattle.record.specs.declared.journal.WriteRecord.{WriteRecord}
+use Rattle.rules.specs.Coverage.{noPlace}
+use Rattle.runs.specs.declared.Extent.{Extent}
+use Rattle.runs.specs.declared.Run.{Run}
+use Rattle.runs.specs.Runs.{Recorded, Supplier, theFile, theRecord, supplier, isRecord, RunOf}
+use Rattle.coverage.specs.Covering.{coveredAt, someBelow, waitsOn, Upto, NextOf}
+
+-- ---- some number below a bound
+
+module _ (test : ℕ → Bool) where
+  pub some-none : someBelow test 0 ≡ false
+  unfolding someBelow
+  some-none = refl
+
+  pub some-more : (i : ℕ) → someBelow test i ≡ false → test i ≡ false → someBelow test (i + 1) ≡ false
+  unfolding someBelow
+  some-more i e f = rw (add-one, e, f)
+
+  pub some-found : (n i : ℕ) → i < n → test i ≡ true → someBelow test n ≡ true
+  unfolding someBelow
+  some-found zero i l e = absurd (omega arith)
+  some-found (suc n) i l e =
+      ⊎-elim (λ h. rw (some-found n i h e)) (λ h. let s : n ≡ i = omega arith in or-right (someBelow test n) (test n) (ap test s ∙ e)) (le-or-lt (suc i) n)
+    where
+      or-right : (a b : Bool) → b ≡ true → (a || b) ≡ true
+      or-right true b q = refl
+      or-right false b q = q
+
+-- ---- a write record that has no place yet
+
+module _ (filenumbers : List ℕ) (f : ℕ) (w : WriteRecord) where
+  pub waits-elsewhere : (getD filenumbers (w .descriptor) 0 ≡ f → ⊥) → waitsOn filenumbers f w ≡ false
+  unfolding waitsOn
+  waits-elsewhere h = rw (ne-eqb (getD filenumbers (w .descriptor) 0) f h)
+
+  pub waits-here : getD filenumbers (w .descriptor) 0 ≡ f → (q : Place) → w .place ≡ q → waitsOn filenumbers f w ≡ noPlace q
+  unfolding waitsOn
+  waits-here h q e = rw (eq-eqb (getD filenumbers (w .descriptor) 0) f h) (ap noPlace e)
+
+pub placed-has : (p : ℕ) → noPlace (At p) ≡ false
+unfolding noPlace
+placed-has p = refl
+
+pub unplaced-has-none : (a : ℕ) → noPlace (After a) ≡ true
+unfolding noPlace
+unplaced-has-none a = refl
+
+-- ---- a run
+
+supplier-file : (x : Supplier) → isRecord x ≡ false → x ≡ theFile
+unfolding isRecord
+supplier-file theFile e = refl
+supplier-file (theRecord k) e = absurd (let z : _≡_ {A = Bool} true false = e in let n : _≡_ {A = ℕ} 0 1 = cc in omega arith)
+
+not-file : (x : Supplier) → (x ≡ theFile → ⊥) → isRecord x ≡ true
+unfolding isRecord
+not-file theFile h = absurd (h refl)
+not-file (theRecord k) h = refl
+
+module _ (j : Recorded) (t records : ℕ) (e : Extent) (r : Run) (run : RunOf j t records e r) where
+  abbrev covered : ℕ → Bool
+  covered = coveredAt j t records (e .file)
+
+  run-along : (q : ℕ) → e .place ≤ q → q < e .place + r .length → covered q ≡ r .logged
+  unfolding coveredAt
+  run-along q g l =
+      let i : e .place + (q - e .place) ≡ q = omega arith in
+      ap (λ (x : ℕ). isRecord (supplier j t records (e .file) x)) (sym i) ∙ ap isRecord (run .same (q - e .place) (omega arith)) ∙ sym (run .logged)
+
+  run-first : covered (e .place) ≡ r .logged
+  run-first = run-along (e .place) (omega arith) (omega (arith, run .some))
+
+  -- after a run of the file comes a covered place
+  run-then : r .logged ≡ false → r .length < e .length → covered (e .place + r .length) ≡ true
+  unfolding coveredAt
+  run-then b l =
+      not-file (supplier j t records (e .file) (e .place + r .length))
+      (λ q. run .longest l (q ∙ sym (supplier-file (supplier j t records (e .file) (e .place)) (sym (run .logged) ∙ b))))
+
+  module _ (whole : e .length ≡ 4096 - e .place) (inside : e .place < 4096) where
+    -- the first place is covered
+    pub first-covered-here : r .logged ≡ true → Upto covered false (e .place) (e .place)
+    first-covered-here b =
+        record { start = omega arith; within = omega arith; same = λ q g l. absurd (omega arith); ended = λ l. run-first ∙ b }
+
+    -- the first covered place comes after the run
+    pub first-covered-after : r .logged ≡ false → Upto covered false (e .place) (e .place + r .length)
+    first-covered-after b =
+        record {
+          start = omega arith;
+          within = omega (arith, run .within);
+          same = λ q g l. run-along q g l ∙ b;
+          ended = λ l. run-then b (omega arith);
+        }
+
+  -- the walk over runs has come to this one, which is the file's
+  pub first-clear-here : (p : ℕ) → p ≤ e .place → e .place ≤ 4096
+      → ((q : ℕ) → p ≤ q → q < e .place → covered q ≡ true) → r .logged ≡ false → Upto covered true p (e .place)
+  first-clear-here p g l before b = record { start = g; within = l; same = before; ended = λ h. run-first ∙ b }
+
+  -- or a record's, and goes on
+  pub first-clear-after : (p : ℕ)
+      → ((q : ℕ) → p ≤ q → q < e .place → covered q ≡ true) → r .logged ≡ true → (q : ℕ) → p ≤ q → q < e .place + r .length → covered q ≡ true
+  first-clear-after p before b q g l = ⊎-elim (λ h. run-along q h l ∙ b) (λ h. before q g h) (le-or-lt (e .place) q)
+
+-- no place is left
+pub upto-end : (S : ℕ → Bool) (b : Bool) (p : ℕ) → p ≡ 4096 → Upto S b p p
+upto-end S b p e = record { start = omega arith; within = omega arith; same = λ q g l. absurd (omega arith); ended = λ l. absurd (omega arith) }
+
+pub next-of : (S : ℕ → Bool) (p offset end n : ℕ) → Upto S false p offset → Upto S true offset end → n ≡ end - offset → NextOf S p (record { offset = offset; length = n })
+next-of S p offset end n a b e =
+    let q : end ≡ offset + n = omega (arith, b .start) in
+    record { before = a; whole = subst (λ (x : ℕ). Upto S true offset x) q b }

@@ -1,0 +1,3 @@
+pub mod CoverLaws
+pub mod ListLaws
+pub mod MachineLaws

@@ -1,0 +1,130 @@
+-- The places that a transaction's write records cover are those that its writes cover, and the same of writes without a place. Assumes
+-- nothing.
+use mathlib.Core.Bool.{Bool, true, false, cond, _&&_, _||_}
+use mathlib.Core.List.{List, [], _∷_, _++_}
+use mathlib.Core.Logic.{⊎-elim}
+use mathlib.Core.Path.{_≡_, refl, sym, ap, ap₂, _∙_}
+use lib.Dec.{ltb, eqb}
+use lib.ListN.{getD, length}
+use Prim.Native.Nat.{ℕ, zero, suc, _+_, _*_, _≤_, _<_}
+use native.Mathlib.Omega.{arith}
+use borrow.Author.Tests.{lt-ltb, le-ltb}
+use Rattle.record.specs.declared.Store.{Store}
+use Rattle.record.specs.State.{transaction, standingAt}
+use Rattle.record.specs.Journal.{writeRecordAt}
+use Rattle.ranges.specs.Ranges.{lengthsBefore}
+use Rattle.ranges.proofs.Laws.{TransactionInRange, record-in, place-end}
+use Rattle.octets.proofs.PartLaws.{le-or-lt, length-cut}
+use Rattle.rules.specs.Transactions.{Write}
+use Rattle.rules.specs.Reading.{over}
+use Rattle.rules.specs.Machine.{tabulate, fileOf, dataStart, writeAt, txnOf}
+use Rattle.rules.specs.Coverage.{someWrite, coversPlace, covered, unplacedOn, unplaced, listed, stretchesOf}
+use Rattle.rules.proofs.Coverage.Stretches.{stretches-same}
+use Rattle.rules.proofs.Coverage.Theorem.{lists-its-places}
+use Rattle.runs.specs.Runs.{Recorded, recorded, covers, Supplier, theFile, theRecord, newest, supplier, isRecord}
+use Rattle.runs.proofs.RunLaws.{data-suc, supplier-is, covers-in}
+use Rattle.coverage.specs.Covering.{coveredAt, someBelow, waitsOn, waitsIn}
+
+-- ---- a test of one write more
+
+or-assoc : (a b c : Bool) → ((a || b) || c) ≡ (a || (b || c))
+or-assoc true b c = refl
+or-assoc false b c = refl
+
+or-false : (a : Bool) → (a || false) ≡ a
+or-false true = refl
+or-false false = refl
+
+or-true : (a : Bool) → (a || true) ≡ true
+or-true true = refl
+or-true false = refl
+
+some-append : (test : Write → Bool) (xs ys : List Write) → someWrite test (xs ++ ys) ≡ (someWrite test xs || someWrite test ys)
+unfolding someWrite
+some-append test [] ys = refl
+some-append test (x ∷ xs) ys = ap (λ (b : Bool). test x || b) (some-append test xs ys) ∙ sym (or-assoc (test x) (someWrite test xs) (someWrite test ys))
+
+some-one-more : (test : Write → Bool) (xs : List Write) (w : Write) → someWrite test (xs ++ (w ∷ [])) ≡ (someWrite test xs || test w)
+unfolding someWrite
+some-one-more test xs w = some-append test xs (w ∷ []) ∙ ap (λ (b : Bool). someWrite test xs || b) (or-false (test w))
+
+-- ---- the first n writes
+
+module _ (j : Recorded) (logs : List ℕ) (t f : ℕ) where
+  -- Each descriptor's file, and the writes.
+  abbrev file : ℕ → ℕ
+  file d = getD (j .filenumbers) d 0
+
+  abbrev writes : ℕ → List Write
+  writes n = tabulate (writeAt (j .journal) logs t) n
+
+  unplaced-is : (n : ℕ) → unplaced file f (writes n) ≡ waitsIn j t n f
+  unfolding unplaced waitsIn someBelow tabulate someWrite unplacedOn waitsOn writeAt
+  unplaced-is zero = refl
+  unplaced-is (suc n) =
+      some-one-more (unplacedOn file f) (writes n) (writeAt (j .journal) logs t n)
+      ∙ ap (λ (b : Bool). b || waitsOn (j .filenumbers) f (writeRecordAt (j .journal) t n)) (unplaced-is n)
+
+  module _ (small : t < 8) (long : length logs ≡ 32768) where
+    covers-is : (p k : ℕ) → lengthsBefore (j .journal) t (suc k) ≤ 4096
+        → coversPlace file f p (writeAt (j .journal) logs t k) ≡ covers (j .filenumbers) f p (writeRecordAt (j .journal) t k)
+    unfolding coversPlace writeAt covers dataStart
+    covers-is p k h =
+        let w = writeRecordAt (j .journal) t k in
+        ap (λ (n : ℕ). eqb (file (w .descriptor)) f && over (w .place) n p)
+        (length-cut logs (4096 * t + lengthsBefore (j .journal) t k) (w .length) (omega (arith, data-suc (j .journal) t k)))
+
+    covered-is : (n : ℕ) → lengthsBefore (j .journal) t n ≤ 4096 → (p : ℕ) → covered file f (writes n) p ≡ coveredAt j t n f p
+    unfolding covered coveredAt supplier newest tabulate someWrite isRecord
+    covered-is zero h p = refl
+    covered-is (suc n) h p =
+        some-one-more (coversPlace file f p) (writes n) (writeAt (j .journal) logs t n)
+        ∙ ap₂ _||_ (covered-is n (omega (arith, data-suc (j .journal) t n)) p) (covers-is p n h)
+        ∙ pick (covers (j .filenumbers) f p (writeRecordAt (j .journal) t n))
+      where
+        pick : (b : Bool) → (coveredAt j t n f p || b) ≡ isRecord (cond b (theRecord n) (supplier j t n f p))
+        pick true = or-true (coveredAt j t n f p)
+        pick false = or-false (coveredAt j t n f p)
+
+-- ---- a transaction of the store
+
+module _ (s : Store) (journal logs : List ℕ) (t f : ℕ) where
+  -- "a write on that file has no place yet"
+  pub unplaced-in : unplaced (fileOf s) f (txnOf s journal logs t .writes) ≡ waitsIn (recorded journal (s .filenumbers)) t (transaction s t .used .records) f
+  unfolding txnOf fileOf
+  unplaced-in = unplaced-is (recorded journal (s .filenumbers)) logs t f (transaction s t .used .records)
+
+  module _ (small : t < 8) (long : length logs ≡ 32768) (range : TransactionInRange (transaction s t) journal t) where
+    pub covered-in : (p : ℕ) → covered (fileOf s) f (txnOf s journal logs t .writes) p ≡ coveredAt (recorded journal (s .filenumbers)) t (transaction s t .used .records) f p
+    unfolding txnOf fileOf
+    covered-in p =
+        covered-is (recorded journal (s .filenumbers)) logs t f small long (transaction s t .used .records) (omega (arith, range .total, range .bytes)) p
+
+    -- the list of its writes is that of its write records
+    pub stretches-in : stretchesOf (covered (fileOf s) f (txnOf s journal logs t .writes)) ≡ stretchesOf (coveredAt (recorded journal (s .filenumbers)) t (transaction s t .used .records) f)
+    unfolding stretchesOf
+    stretches-in =
+        stretches-same (covered (fileOf s) f (txnOf s journal logs t .writes)) (coveredAt (recorded journal (s .filenumbers)) t (transaction s t .used .records) f) 0 4096 (λ p g l. covered-in p)
+
+    -- a write record covers no place past the file
+    none-past : (p : ℕ) → 4096 ≤ p → coveredAt (recorded journal (s .filenumbers)) t (transaction s t .used .records) f p ≡ false
+    unfolding coveredAt isRecord
+    none-past p h = pick (supplier (recorded journal (s .filenumbers)) t (transaction s t .used .records) f p) refl
+      where
+        pick : (x : Supplier) → supplier (recorded journal (s .filenumbers)) t (transaction s t .used .records) f p ≡ x → isRecord x ≡ false
+        pick theFile e = refl
+        pick (theRecord k) e =
+            let w = writeRecordAt journal t k in
+            let by = supplier-is (recorded journal (s .filenumbers)) t f (transaction s t .used .records) p k e in
+            let within = place-end (standingAt (transaction s t) (w .descriptor)) (w .place) (w .length) (record-in (transaction s t) w (range .writes k (by .0)) .place) in
+            absurd (omega (arith, within, covers-in (s .filenumbers) f p w (by .1) .1))
+
+    -- "A place is in the list exactly when a write covers it."
+    pub listed-in : (p : ℕ) → listed (stretchesOf (covered (fileOf s) f (txnOf s journal logs t .writes))) p ≡ covered (fileOf s) f (txnOf s journal logs t .writes) p
+    listed-in p = lists-its-places (covered (fileOf s) f (txnOf s journal logs t .writes)) p ∙ ⊎-elim past inside (le-or-lt 4096 p)
+      where
+        inside : p < 4096 → (ltb p 4096 && covered (fileOf s) f (txnOf s journal logs t .writes) p) ≡ covered (fileOf s) f (txnOf s journal logs t .writes) p
+        inside h = ap (λ (b : Bool). b && covered (fileOf s) f (txnOf s journal logs t .writes) p) (lt-ltb p 4096 h)
+
+        past : 4096 ≤ p → (ltb p 4096 && covered (fileOf s) f (txnOf s journal logs t .writes) p) ≡ covered (fileOf s) f (txnOf s journal logs t .writes) p
+        past h = ap (λ (b : Bool). b && covered (fileOf s) f (txnOf s journal logs t .writes) p) (le-ltb p 4096 h) ∙ sym (covered-in p ∙ none-past p h)

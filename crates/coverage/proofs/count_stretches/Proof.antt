@@ -1,0 +1,81 @@
+-- `coverage::count_stretches` meets its contract. The loop's invariant: n stretches and those from p on are the list. Assumes nothing.
+use mathlib.Core.Bool.{Bool}
+use mathlib.Core.List.{List, [], _∷_, _++_}
+use mathlib.Core.Path.{refl, sym, ap, _∙_, _≡_}
+use Prim.Native.Nat.{ℕ, _+_, _-_, _≤_}
+use native.Mathlib.Omega.{arith}
+use borrow.Author.Needs.{needs}
+use lib.ListN.{length}
+use Rattle.rules.specs.Coverage.{Stretch as Listed}
+use Rattle.runs.specs.Runs.{recorded}
+use Rattle.coverage.specs.Covering.{coveredAt}
+use Rattle.coverage.proofs.ListLaws.{Listing, asListed, listing-none, listing-end, listing-all, listing-more, length-snoc}
+use Rattle.coverage.proofs.count_stretches.Statement.{statement}
+use Rattle.coverage.proofs.count_stretches.Tie as tie
+
+abbrev Inv-loop : tie.InvT-loop
+Inv-loop journal filenumbers t used f p₀ n₀ p n = (p ≤ 4096) × (n ≤ p) × (l : List Listed) × (length l ≡ n) × Listing (coveredAt (recorded journal filenumbers) t (used .records) f) p l
+
+abbrev μ-loop : tie.MeasureT-loop
+μ-loop journal filenumbers t used f p₀ n₀ p n = 4096 - p
+
+-- The places that are covered.
+abbrev covering : tie.Start Inv-loop μ-loop → ℕ → Bool
+covering c = coveredAt (recorded (c .args .journal .now) (c .args .filenumbers .now)) (c .args .t) (c .args .used .records) (c .args .f)
+
+loop-holds : tie.Need-loop-holds Inv-loop μ-loop
+loop-holds c =
+    let s = c in
+    (omega arith, omega arith, [], refl, listing-none (covering s))
+
+next-stretch-requires : tie.Need-next-stretch-requires Inv-loop μ-loop
+next-stretch-requires c κs = search needs
+
+returns : tie.Need-returns Inv-loop μ-loop
+returns c =
+    let s = c .before .before .before .before .before in
+    let l = c .before .before .before .before .loop in
+    let n = c .before .before .next-stretch in
+    sym (l .inv .3) ∙ ap length (listing-all (covering s) (l .p) (l .inv .2) (l .inv .4) (n .result) (n .ensures) (c .if1 .taken))
+
+add-n : tie.Need-add-n Inv-loop μ-loop
+add-n c = search needs
+
+add-p : tie.Need-add-p Inv-loop μ-loop
+add-p c = search needs
+
+loop-less : tie.Need-loop-less Inv-loop μ-loop
+loop-less c = search needs
+
+loop-again : tie.Need-loop-again Inv-loop μ-loop
+loop-again c =
+    let s = c .before .before .before .before .before .before in
+    let l = c .before .before .before .before .before .loop in
+    let n = c .before .before .before .next-stretch in (
+      n .ensures .whole .within,
+      omega (arith, n .ensures .before .start, c .before .if1 .left),
+      l .inv .2 ++ (asListed (n .result) ∷ []),
+      length-snoc (l .inv .2) (asListed (n .result)) ∙ ap (λ (n : ℕ). n + 1) (l .inv .3),
+      listing-more (covering s) (l .p) (l .inv .2) (l .inv .4) (n .result) (n .ensures) (c .before .if1 .left),
+    )
+
+returns-2 : tie.Need-returns-2 Inv-loop μ-loop
+returns-2 c =
+    let s = c .before .before in
+    let l = c .before .loop in
+    sym (l .inv .3) ∙ ap length (listing-end (covering s) (l .p) (l .inv .2) (l .inv .4) (c .loop-test .left))
+
+pub count-stretches-spec : {M : Type 1} → statement M
+count-stretches-spec =
+    tie.close
+    (tie.spec
+    Inv-loop
+    μ-loop
+    loop-holds
+    next-stretch-requires
+    returns
+    add-n
+    add-p
+    loop-less
+    loop-again
+    returns-2)

@@ -1,0 +1,76 @@
+-- `coverage::first_clear` meets its contract. The loop's invariant: the places from p to q are covered. Assumes nothing.
+use mathlib.Core.Bool.{true}
+use mathlib.Core.Path.{_≡_}
+use Prim.Native.Nat.{ℕ, _-_, _≤_, _<_}
+use native.Mathlib.Omega.{arith}
+use borrow.Author.Needs.{needs}
+use borrow.Author.Tests.{not-true, not-false}
+use Rattle.runs.specs.Runs.{Recorded, extent, recorded}
+use Rattle.coverage.specs.Covering.{coveredAt}
+use Rattle.coverage.proofs.CoverLaws.{first-clear-here, first-clear-after}
+use Rattle.coverage.proofs.first_clear.Statement.{statement}
+use Rattle.coverage.proofs.first_clear.Tie as tie
+
+abbrev Inv-loop : tie.InvT-loop
+Inv-loop journal filenumbers t used f p q₀ q = (p ≤ q) × (q ≤ 4096) × ((i : ℕ) → p ≤ i → i < q → coveredAt (recorded journal filenumbers) t (used .records) f i ≡ true)
+
+abbrev μ-loop : tie.MeasureT-loop
+μ-loop journal filenumbers t used f p q₀ q = 4096 - q
+
+-- What is lent.
+abbrev lent : tie.Start Inv-loop μ-loop → Recorded
+lent c = recorded (c .args .journal .now) (c .args .filenumbers .now)
+
+loop-holds : tie.Need-loop-holds Inv-loop μ-loop
+loop-holds c =
+    (omega arith, omega (arith, c .pre .1), λ q g l. absurd (omega arith))
+
+sub-t11 : tie.Need-sub-t11 Inv-loop μ-loop
+sub-t11 c = search needs
+
+run-at-requires : tie.Need-run-at-requires Inv-loop μ-loop
+run-at-requires c κs = search needs
+
+returns : tie.Need-returns Inv-loop μ-loop
+returns c =
+    let s = c .before .before .before .before .before in
+    let a = s .args in
+    let l = c .before .before .before .before .loop in
+    first-clear-here (lent s) (a .t) (a .used .records) (extent (a .f) (l .q) (4096 - l .q)) (c .before .before .run-at .result) (c .before .before .run-at .ensures) (a .p) (l .inv .0) (l .inv .1) (l .inv .2) (not-true _ (c .if1 .taken))
+
+add-q : tie.Need-add-q Inv-loop μ-loop
+add-q c = search needs
+
+loop-less : tie.Need-loop-less Inv-loop μ-loop
+loop-less c = search needs
+
+loop-again : tie.Need-loop-again Inv-loop μ-loop
+loop-again c =
+    let s = c .before .before .before .before .before .before in
+    let a = s .args in
+    let l = c .before .before .before .before .before .loop in
+    let r = c .before .before .before .run-at in (
+      omega arith,
+      omega (arith, r .ensures .within),
+      first-clear-after (lent s) (a .t) (a .used .records) (extent (a .f) (l .q) (4096 - l .q)) (r .result) (r .ensures) (a .p) (l .inv .2) (not-false _ (c .before .if1 .left)),
+    )
+
+returns-2 : tie.Need-returns-2 Inv-loop μ-loop
+returns-2 c =
+    let l = c .before .loop in
+    record { start = l .inv .0; within = l .inv .1; same = l .inv .2; ended = λ h. absurd (omega arith) }
+
+pub first-clear-spec : {M : Type 1} → statement M
+first-clear-spec =
+    tie.close
+    (tie.spec
+    Inv-loop
+    μ-loop
+    loop-holds
+    sub-t11
+    run-at-requires
+    returns
+    add-q
+    loop-less
+    loop-again
+    returns-2)

@@ -1,0 +1,50 @@
+-- `coverage::first_covered` meets its contract. Assumes nothing.
+use mathlib.Core.Bool.{Bool, false}
+use mathlib.Core.Path.{refl}
+use Prim.Native.Nat.{ℕ, _-_}
+use native.Mathlib.Omega.{arith}
+use borrow.Author.Needs.{needs}
+use Rattle.runs.specs.Runs.{Recorded, recorded, extent}
+use Rattle.coverage.specs.Covering.{coveredAt}
+use Rattle.coverage.proofs.CoverLaws.{first-covered-here, first-covered-after, upto-end}
+use Rattle.coverage.proofs.first_covered.Statement.{statement}
+use Rattle.coverage.proofs.first_covered.Tie as tie
+
+-- The places that are covered.
+abbrev covering : tie.Start → ℕ → Bool
+covering c = coveredAt (recorded (c .args .journal .now) (c .args .filenumbers .now)) (c .args .t) (c .args .used .records) (c .args .f)
+
+-- What is lent.
+abbrev lent : tie.Start → Recorded
+lent c = recorded (c .args .journal .now) (c .args .filenumbers .now)
+
+returns : tie.Need-returns
+returns c =
+    let s = c .before in
+    let a = s .args in
+    upto-end (covering s) false (a .p) (c .if1 .taken)
+
+sub-t10 : tie.Need-sub-t10
+sub-t10 c = search needs
+
+run-at-requires : tie.Need-run-at-requires
+run-at-requires c κs = search needs
+
+returns-2 : tie.Need-returns-2
+returns-2 c =
+    let s = c .before .before .before in
+    let a = s .args in
+    first-covered-here (lent s) (a .t) (a .used .records) (extent (a .f) (a .p) (4096 - a .p)) (c .before .run-at .result) (c .before .run-at .ensures) refl (omega arith) (c .if2 .taken)
+
+add-result : tie.Need-add-result
+add-result c = search needs
+
+returns-3 : tie.Need-returns-3
+returns-3 c =
+    let s = c .before .before .before .before in
+    let a = s .args in
+    first-covered-after (lent s) (a .t) (a .used .records) (extent (a .f) (a .p) (4096 - a .p)) (c .before .before .run-at .result) (c .before .before .run-at .ensures) refl (omega arith) (c .before .if2 .left)
+
+pub first-covered-spec : {M : Type 1} → statement M
+first-covered-spec =
+    tie.close (tie.spec returns sub-t10 run-at-requires returns-2 add-result returns-3)

@@ -1,0 +1,35 @@
+-- `coverage::put_pair` meets its contract. Assumes nothing.
+use mathlib.Core.List.{List}
+use mathlib.Core.Path.{ap, _∙_}
+use Prim.Native.Nat.{ℕ, _+_, _-_}
+use borrow.Author.Needs.{needs}
+use lib.ListN.{length}
+use Rattle.octets.specs.Parts.{pasted}
+use Rattle.rules.specs.Coverage.{sixteen}
+use Rattle.coverage.proofs.ListLaws.{pair-put}
+use Rattle.coverage.proofs.put_pair.Statement.{statement}
+use Rattle.coverage.proofs.put_pair.Tie as tie
+
+put-number-requires : tie.Need-put-number-requires
+put-number-requires c κs = search needs
+
+add-put-number : tie.Need-add-put-number
+add-put-number c = search needs
+
+put-number-requires-2 : tie.Need-put-number-requires-2
+put-number-requires-2 c κs = search needs
+
+same-length : tie.Need-same-length
+same-length c = search needs
+
+returns : tie.Need-returns
+returns c =
+    let a = c .before .before .before .before .before .before .before .before .before .args in
+    c .before .before .put-number2 .ensures
+    ∙ ap (λ (l : List ℕ). pasted l (a .at + 2) (sixteen (a .s .length))) (c .before .before .before .before .before .before .put-number .ensures)
+    ∙ pair-put (a .out .now) (a .at) (a .s) (c .before .before .before .before .before .before .before .before .before .pre .0)
+
+pub put-pair-spec : {M : Type 1} → statement M
+put-pair-spec =
+    tie.close
+    (tie.spec put-number-requires add-put-number put-number-requires-2 same-length returns)

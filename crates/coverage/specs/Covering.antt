@@ -1,0 +1,44 @@
+-- The places of a file that a transaction's write records cover, and those of its records that have no place yet.
+use mathlib.Core.Bool.{Bool, true, false, not, _&&_, _||_}
+use mathlib.Core.List.{List}
+use mathlib.Core.Path.{_≡_}
+use lib.Dec.{eqb}
+use lib.ListN.{getD}
+use Prim.Native.Nat.{ℕ, zero, suc, _+_, _≤_, _<_}
+use Rattle.record.specs.declared.journal.WriteRecord.{WriteRecord}
+use Rattle.record.specs.Journal.{writeRecordAt}
+use Rattle.rules.specs.Coverage.{noPlace, stretchesOf, Stretch as Listed}
+use Rattle.runs.specs.Runs.{Recorded, isRecord, supplier}
+use Rattle.coverage.specs.declared.Stretch.{Stretch}
+
+-- Whether a write record of transaction t, which has so many, covers place p of file f.
+unfoldable pub coveredAt : Recorded → ℕ → ℕ → ℕ → ℕ → Bool
+coveredAt j t records f p = isRecord (supplier j t records f p)
+
+-- The list of the places that they cover.
+abbrev pub stretchesIn : Recorded → ℕ → ℕ → ℕ → List Listed
+stretchesIn j t records f = stretchesOf (coveredAt j t records f)
+
+-- Whether some number below a bound passes a test.
+unfoldable pub someBelow : (ℕ → Bool) → ℕ → Bool
+someBelow test zero = false
+someBelow test (suc n) = someBelow test n || test n
+
+-- Whether a write record is one of file f and has no place yet.
+unfoldable pub waitsOn : List ℕ → ℕ → WriteRecord → Bool
+waitsOn filenumbers f w = eqb (getD filenumbers (w .descriptor) 0) f && noPlace (w .place)
+
+unfoldable pub waitsIn : Recorded → ℕ → ℕ → ℕ → Bool
+waitsIn j t records f = someBelow (λ k. waitsOn (j .filenumbers) f (writeRecordAt (j .journal) t k)) records
+
+-- The places from p to r are all in the set or all outside it, as b says, and r is the first that is not so, or the end of the file.
+pub record Upto (S : ℕ → Bool) (b : Bool) (p r : ℕ) : Type 0 where
+  pub start : p ≤ r
+  pub within : r ≤ 4096
+  pub same : (q : ℕ) → p ≤ q → q < r → S q ≡ b
+  pub ended : r < 4096 → S r ≡ not b
+
+-- s is the first stretch of the set from place p on; it has length 0, and lies at the end of the file, where there is none.
+pub record NextOf (S : ℕ → Bool) (p : ℕ) (s : Stretch) : Type 0 where
+  pub before : Upto S false p (s .offset)
+  pub whole : Upto S true (s .offset) (s .offset + s .length)

@@ -1,0 +1,209 @@
+// The places of a file that a transaction's write records cover, as a list of stretches; and whether one of its records on the file has
+// no place yet. Each stretch is found by walks over the records, and no table of places is made.
+use counters::Used;
+use numbers::FILE_BYTES;
+use numbers::wide;
+use numbers::wide_octet;
+use record::DESCRIPTORS;
+use record::journal::NUMBERS;
+use record::journal::WriteRecord;
+use record::journal::record_at;
+use runs::Extent;
+use runs::run_at;
+use standings::Place;
+ghost use mathlib.Core.Bool.{true, false};
+ghost use mathlib.Core.List.{_++_};
+ghost use mathlib.Core.Path.{_≡_};
+ghost use lib.ListN.{length};
+ghost use Prim.Native.Nat.{_+_, _*_, _<_, _≤_};
+ghost use Rattle.octets.specs.Parts.{pasted};
+ghost use Rattle.rules.specs.Coverage.{sixteen, withPairs};
+ghost use Rattle.runs.specs.Runs.{recorded, Counted};
+ghost use Rattle.coverage.specs.Covering.{coveredAt, stretchesIn, waitsOn, waitsIn, Upto, NextOf};
+
+// Places of a file: `length` of them, from `offset` on.
+pub struct Stretch {
+    pub offset: usize,
+    pub length: usize,
+}
+
+// The write record is one of file f and has no place yet.
+fn waits(w: WriteRecord, filenumbers: &[u8; DESCRIPTORS], f: u8) -> bool
+    requires { ⌜ w .descriptor < 16 ⌝ }
+    ensures { λ r. ⌜ r ≡ waitsOn (now (filenumbers .entry)) f w ⌝ }
+{
+    let d = wide(w.descriptor);
+    if filenumbers[d] != f {
+        return false;
+    }
+    let place = w.place;
+    match place {
+        Place::At(_) => false,
+        Place::After(_) => true,
+    }
+}
+
+// A write of transaction t on file f has no place yet.
+pub fn waiting<'a>(
+    journal: &'a [u16; NUMBERS],
+    filenumbers: &'a [u8; DESCRIPTORS],
+    t: usize,
+    used: Used,
+    f: u8,
+) -> bool
+    requires { ⌜ Counted (now journal) t used ⌝ }
+    ensures { λ r. ⌜ r ≡ waitsIn (recorded (now (journal .entry)) (now (filenumbers .entry))) t (used .records) f ⌝ }
+{
+    let records = wide_octet(used.records);
+    let mut k = 0;
+    while k < records {
+        let w = record_at(journal, t, k);
+        if waits(w, filenumbers, f) {
+            return true;
+        }
+        k += 1;
+    }
+    false
+}
+
+// The first place from p on that is covered, or the end of the file.
+fn first_covered<'a>(
+    journal: &'a [u16; NUMBERS],
+    filenumbers: &'a [u8; DESCRIPTORS],
+    t: usize,
+    used: Used,
+    f: u8,
+    p: usize,
+) -> usize
+    requires { ⌜ Counted (now journal) t used × (p ≤ 4096) ⌝ }
+    ensures { λ r. ⌜ Upto (coveredAt (recorded (now (journal .entry)) (now (filenumbers .entry))) t (used .records) f) false p r ⌝ }
+{
+    if p == FILE_BYTES {
+        return p;
+    }
+    let e = Extent {
+        file: f,
+        place: p,
+        length: FILE_BYTES - p,
+    };
+    let r = run_at(journal, filenumbers, t, used, e);
+    if r.logged {
+        return p;
+    }
+    p + r.length
+}
+
+// The first place from p on that is not covered, or the end of the file: run after run, whichever record supplies it.
+fn first_clear<'a>(
+    journal: &'a [u16; NUMBERS],
+    filenumbers: &'a [u8; DESCRIPTORS],
+    t: usize,
+    used: Used,
+    f: u8,
+    p: usize,
+) -> usize
+    requires { ⌜ Counted (now journal) t used × (p ≤ 4096) ⌝ }
+    ensures { λ r. ⌜ Upto (coveredAt (recorded (now (journal .entry)) (now (filenumbers .entry))) t (used .records) f) true p r ⌝ }
+{
+    let mut q = p;
+    while q < FILE_BYTES {
+        let e = Extent {
+            file: f,
+            place: q,
+            length: FILE_BYTES - q,
+        };
+        let r = run_at(journal, filenumbers, t, used, e);
+        if !r.logged {
+            return q;
+        }
+        q += r.length;
+    }
+    q
+}
+
+// The first stretch of covered places from p on; one of length 0 where there is none.
+pub fn next_stretch<'a>(
+    journal: &'a [u16; NUMBERS],
+    filenumbers: &'a [u8; DESCRIPTORS],
+    t: usize,
+    used: Used,
+    f: u8,
+    p: usize,
+) -> Stretch
+    requires { ⌜ Counted (now journal) t used × (p ≤ 4096) ⌝ }
+    ensures { λ r. ⌜ NextOf (coveredAt (recorded (now (journal .entry)) (now (filenumbers .entry))) t (used .records) f) p r ⌝ }
+{
+    let offset = first_covered(journal, filenumbers, t, used, f, p);
+    let end = first_clear(journal, filenumbers, t, used, f, offset);
+    Stretch {
+        offset,
+        length: end - offset,
+    }
+}
+
+// How many stretches the list has.
+pub fn count_stretches<'a>(
+    journal: &'a [u16; NUMBERS],
+    filenumbers: &'a [u8; DESCRIPTORS],
+    t: usize,
+    used: Used,
+    f: u8,
+) -> usize
+    requires { ⌜ Counted (now journal) t used ⌝ }
+    ensures { λ r. ⌜ r ≡ length (stretchesIn (recorded (now (journal .entry)) (now (filenumbers .entry))) t (used .records) f) ⌝ }
+{
+    let mut p = 0;
+    let mut n = 0;
+    while p < FILE_BYTES {
+        let s = next_stretch(journal, filenumbers, t, used, f, p);
+        if s.length == 0 {
+            return n;
+        }
+        n += 1;
+        p = s.offset + s.length;
+    }
+    n
+}
+
+// A number of 16 bits, high byte first.
+fn put_number(out: &mut [u8], at: usize, n: usize)
+    requires { ⌜ (at + 2 ≤ length (now out)) × (n < 65536) ⌝ }
+    ensures { λ _. ⌜ now (out .exit) ≡ pasted (now (out .entry)) at (sixteen n) ⌝ }
+{
+    out[at] = (n / 256) as u8;
+    out[at + 1] = (n % 256) as u8;
+}
+
+// A stretch as the pair of its offset and its length.
+fn put_pair(out: &mut [u8], at: usize, s: Stretch)
+    requires { ⌜ (at + 4 ≤ length (now out)) × (s .offset < 65536) × (s .length < 65536) ⌝ }
+    ensures { λ _. ⌜ now (out .exit) ≡ pasted (now (out .entry)) at (sixteen (s .offset) ++ sixteen (s .length)) ⌝ }
+{
+    put_number(out, at, s.offset);
+    put_number(out, at + 2, s.length);
+}
+
+// Writes the pairs of the list to the front of the buffer.
+pub fn write_stretches<'a>(
+    journal: &'a [u16; NUMBERS],
+    filenumbers: &'a [u8; DESCRIPTORS],
+    t: usize,
+    used: Used,
+    f: u8,
+    out: &mut [u8],
+)
+    requires { ⌜ Counted (now journal) t used × (4 * length (stretchesIn (recorded (now journal) (now filenumbers)) t (used .records) f) ≤ length (now out)) ⌝ }
+    ensures { λ _. ⌜ now (out .exit) ≡ withPairs (stretchesIn (recorded (now (journal .entry)) (now (filenumbers .entry))) t (used .records) f) (now (out .entry)) ⌝ }
+{
+    let mut p = 0;
+    let mut at = 0;
+    while p < FILE_BYTES {
+        let s = next_stretch(journal, filenumbers, t, used, f, p);
+        if s.length == 0 {
+            return;
+        }
+        put_pair(out, at, s);
+        at += 4;
+        p = s.offset + s.length;
+    }
+}

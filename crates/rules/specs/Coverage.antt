@@ -1,0 +1,107 @@
+-- Request F-1, "Places a transaction would write": what its call lists, and what the list is held to.
+use mathlib.Core.Bool.{Bool, true, false, cond, _&&_, _||_}
+use mathlib.Core.List.{List, [], _∷_, _++_}
+use mathlib.Core.Path.{_≡_}
+use lib.Dec.{leb, ltb, eqb}
+use lib.ListN.{length, drop}
+use Prim.Native.Nat.{ℕ, zero, suc, _+_, _*_, _/_, _%_, _≤_}
+use Rattle.standings.specs.declared.Place.{Place}
+use Rattle.standings.specs.declared.Place.the-variants.{At, After}
+use Rattle.rules.specs.Transactions.{Write}
+use Rattle.rules.specs.Reading.{over}
+
+-- ---- the places
+
+-- Whether some write of the list passes a test.
+unfoldable pub someWrite : (Write → Bool) → List Write → Bool
+someWrite test [] = false
+someWrite test (w ∷ ws) = test w || someWrite test ws
+
+-- "A place is in the list exactly when a write covers it": whether a write covers place p of file f, given each descriptor's file;
+-- and whether one of the writes does. A write of 0 bytes covers nothing.
+unfoldable pub coversPlace : (ℕ → ℕ) → ℕ → ℕ → Write → Bool
+coversPlace fileOf f p w = eqb (fileOf (w .descriptor)) f && over (w .place) (length (w .bytes)) p
+
+unfoldable pub covered : (ℕ → ℕ) → ℕ → List Write → ℕ → Bool
+covered fileOf f ws p = someWrite (coversPlace fileOf f p) ws
+
+-- "15 when a write on that file has no place yet", one of 0 bytes too.
+unfoldable pub noPlace : Place → Bool
+noPlace (At p) = false
+noPlace (After a) = true
+
+unfoldable pub unplacedOn : (ℕ → ℕ) → ℕ → Write → Bool
+unplacedOn fileOf f w = eqb (fileOf (w .descriptor)) f && noPlace (w .place)
+
+unfoldable pub unplaced : (ℕ → ℕ) → ℕ → List Write → Bool
+unplaced fileOf f ws = someWrite (unplacedOn fileOf f) ws
+
+-- ---- the list
+
+-- A stretch of places: where it starts, and how many they are.
+pub record Stretch : Type 0 where
+  pub offset : ℕ
+  pub length : ℕ
+
+abbrev pub stretch : ℕ → ℕ → Stretch
+stretch p n = record { offset = p; length = n }
+
+-- The first place past it.
+abbrev pub endOf : Stretch → ℕ
+endOf s = s .offset + s .length
+
+-- Whether place p lies in a stretch, and in one of a list.
+unfoldable pub inStretch : Stretch → ℕ → Bool
+inStretch s p = leb (s .offset) p && ltb p (endOf s)
+
+unfoldable pub listed : List Stretch → ℕ → Bool
+listed [] p = false
+listed (s ∷ l) p = inStretch s p || listed l p
+
+-- "sorted by offset; touching stretches are joined and none is empty": no stretch starts before b, and each of the others after the
+-- first place past the one before it.
+abbrev pub ProperFrom : ℕ → List Stretch → Type 0
+ProperFrom b [] = Unit {0}
+ProperFrom b (s ∷ l) = (b ≤ s .offset) × (1 ≤ s .length) × ProperFrom (suc (endOf s)) l
+
+abbrev pub Proper : List Stretch → Type 0
+Proper l = ProperFrom 0 l
+
+-- One place more on the left of a list: the first stretch is lengthened where it starts at the next place.
+unfoldable pub withPlace : ℕ → List Stretch → List Stretch
+withPlace p [] = stretch p 1 ∷ []
+withPlace p (s ∷ l) = cond (eqb (s .offset) (suc p)) (stretch p (suc (s .length)) ∷ l) (stretch p 1 ∷ (s ∷ l))
+
+-- The stretches of those of n places from p on that are in the set; and of a file's 4,096 places.
+unfoldable pub stretchesFrom : (ℕ → Bool) → ℕ → ℕ → List Stretch
+stretchesFrom S p zero = []
+stretchesFrom S p (suc n) = cond (S p) (withPlace p (stretchesFrom S (suc p) n)) (stretchesFrom S (suc p) n)
+
+unfoldable pub stretchesOf : (ℕ → Bool) → List Stretch
+stretchesOf S = stretchesFrom S 0 4096
+
+-- "pairs of offset and length, each 16 bits, high byte first"
+unfoldable pub sixteen : ℕ → List ℕ
+sixteen n = n / 256 ∷ (n % 256 ∷ [])
+
+unfoldable pub encoded : List Stretch → List ℕ
+encoded [] = []
+encoded (s ∷ l) = (sixteen (s .offset) ++ sixteen (s .length)) ++ encoded l
+
+-- "The answer is the count of pairs, which stand at the buffer's front; the rest of it is left."
+abbrev pub withPairs : List Stretch → List ℕ → List ℕ
+withPairs l out = encoded l ++ drop (4 * length l) out
+
+-- ---- what is proved of it
+
+-- "A place is in the list exactly when a write covers it": a place of the file when it is in the set, and no other place.
+abbrev pub ListsItsPlaces : Type 0
+ListsItsPlaces = (S : ℕ → Bool) (p : ℕ) → listed (stretchesOf S) p ≡ ltb p 4096 && S p
+
+-- "sorted by offset; touching stretches are joined and none is empty"
+abbrev pub IsProper : Type 0
+IsProper = (S : ℕ → Bool) → Proper (stretchesOf S)
+
+-- "one set of places has one list"
+abbrev pub OneList : Type 0
+OneList = (l m : List Stretch) → Proper l → Proper m → ((p : ℕ) → listed l p ≡ listed m p) → l ≡ m

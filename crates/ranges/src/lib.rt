@@ -80,7 +80,9 @@ fn standings_in(x: Transaction) -> bool
 {
     let mut d = 0;
     while d < DESCRIPTORS {
-        if !standing_in(x.standing_at(d)) {
+        let q = x.descriptors[d];
+        let z = q.standing;
+        if !standing_in(z) {
             return false;
         }
         d += 1;

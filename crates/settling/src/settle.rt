@@ -34,7 +34,8 @@ pub fn chosen_by_read(
     let f = filenumbers[d];
     let mut e = 0;
     while e < DESCRIPTORS {
-        let z = x.standing_at(e);
+        let q = x.descriptors[e];
+        let z = q.standing;
         chosen[e] = z.read_settles(filenumbers[e] == f, e == d);
         e += 1;
     }

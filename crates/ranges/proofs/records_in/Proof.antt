@@ -5,10 +5,9 @@ use mathlib.Core.Bool.{true}
 use native.Mathlib.Omega.{arith}
 use lib.Dec.{eqb}
 use Rattle.record.specs.declared.journal.WriteRecord.{WriteRecord}
-use Rattle.record.specs.State.{standingAt}
 use Rattle.record.specs.Journal.{writeRecordAt}
 use Rattle.ranges.specs.Below.{below}
-use Rattle.ranges.specs.Ranges.{standingIn, recordIn, lengthsBefore}
+use Rattle.ranges.specs.Ranges.{recordIn, lengthsBefore}
 use Rattle.ranges.proofs.Laws.{below-zero, below-more, below-at, below-fails}
 use Rattle.ranges.proofs.Tests.{descriptor-out, place-out, record-passes, lengths-none, lengths-more, and-fails, and-last}
 use borrow.Author.Needs.{needs}

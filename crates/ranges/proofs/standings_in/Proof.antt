@@ -20,14 +20,17 @@ abbrev μ-loop : tie.MeasureT-loop
 loop-holds : tie.Need-loop-holds Inv-loop μ-loop
 loop-holds c = (omega arith, below-zero _)
 
-standing-at-requires : tie.Need-standing-at-requires Inv-loop μ-loop
-standing-at-requires c κs = search needs
+mul-q : tie.Need-mul-q Inv-loop μ-loop
+mul-q c = search needs
+
+element-copy-out-q : tie.Need-element-copy-out-q Inv-loop μ-loop
+element-copy-out-q c = search needs
 
 standing-in-requires : tie.Need-standing-in-requires Inv-loop μ-loop
 standing-in-requires c κs = search needs
 
 returns : tie.Need-returns Inv-loop μ-loop
-returns c = sym (below-fails _ (c .before .before .before .before .loop .d) 16 (omega arith) (rw (c .before .before .standing-at .ensures) at (failed (c .before .standing-in .ensures) (c .if1 .taken))))
+returns c = sym (below-fails _ (c .before .before .before .before .loop .d) 16 (omega arith) (failed (c .before .standing-in .ensures) (c .if1 .taken)))
 
 add-d : tie.Need-add-d Inv-loop μ-loop
 add-d c = search needs
@@ -36,7 +39,7 @@ loop-less : tie.Need-loop-less Inv-loop μ-loop
 loop-less c = search needs
 
 loop-again : tie.Need-loop-again Inv-loop μ-loop
-loop-again c = (omega arith, below-more _ _ (c .before .before .before .before .loop .inv .1) (rw (c .before .before .standing-at .ensures) at (held (c .before .standing-in .ensures) (c .if1 .left))))
+loop-again c = (omega arith, below-more _ _ (c .before .before .before .before .loop .inv .1) (held (c .before .standing-in .ensures) (c .if1 .left)))
 
 returns-2 : tie.Need-returns-2 Inv-loop μ-loop
 returns-2 c = let e : c .before .loop .d ≡ 16 = omega arith in sym (rw e at (c .before .loop .inv .1))
@@ -48,7 +51,8 @@ standings-in-spec =
     Inv-loop
     μ-loop
     loop-holds
-    standing-at-requires
+    mul-q
+    element-copy-out-q
     standing-in-requires
     returns
     add-d

@@ -1,5 +1,5 @@
 -- Check 2 on forged records: each breaks one range, beside a record that stands just within it.
-use mathlib.Core.Bool.{Bool, true, false}
+use mathlib.Core.Bool.{true, false}
 use mathlib.Core.List.{List, []}
 use mathlib.Core.Path.{_≡_}
 use lib.ListN.{set, replicate}

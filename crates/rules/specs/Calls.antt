@@ -1,9 +1,9 @@
 -- The rules of the eight calls on the record and the buffers: outcome, record, files, logs, marks and reader's buffer, for every
 -- input. The promises of the code cite these.
-use mathlib.Core.Bool.{Bool, true, false, cond, not, _&&_, _||_}
-use mathlib.Core.List.{List, [], _∷_, _++_, map}
-use lib.Dec.{leb, eqb}
-use lib.ListN.{length, getD, set, replicate}
+use mathlib.Core.Bool.{Bool, false, cond, not, _&&_, _||_}
+use mathlib.Core.List.{List, [], _∷_}
+use lib.Dec.{eqb}
+use lib.ListN.{set, replicate}
 use Prim.Native.Nat.{ℕ, zero, suc, _+_, _*_}
 use Rattle.octets.specs.Parts.{pasted}
 use Rattle.octets.specs.Marks.{hasMark, withMark, withoutMarks}
@@ -14,7 +14,7 @@ use Rattle.record.specs.State.{transaction, standingAt, ended, begun, withStale
 use Rattle.record.specs.Paper.{number, Said, plain, granted, refused}
 use Rattle.ranges.specs.Below.{guarded, isNone, sum}
 use Rattle.ranges.specs.Ranges.{admission, admissionOfBegin, admissionOfFresh}
-use Rattle.rules.specs.Items.{Item, byte, offset, Values, result, asked}
+use Rattle.rules.specs.Items.{Item, byte, offset, result, asked}
 use Rattle.standings.specs.Table.{isKnown}
 use Rattle.rules.specs.Messages.{Op, seek, write, getFilePointer, read, bufferOf}
 use Rattle.rules.specs.Steps.{Stepped, refuse, accept, step}

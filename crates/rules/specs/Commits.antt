@@ -1,5 +1,5 @@
 -- Paper 01, "Commit and Abort": what a commit sets.
-use mathlib.Core.Bool.{Bool, true, false, cond}
+use mathlib.Core.Bool.{Bool, cond}
 use mathlib.Core.List.{List, [], _∷_, _++_}
 use lib.Dec.{leb}
 use Prim.Native.Nat.{ℕ, zero, suc, _+_, _*_}
@@ -8,7 +8,7 @@ use Rattle.standings.specs.declared.Place.the-variants.{At, After}
 use Rattle.ranges.specs.Below.{below}
 use Rattle.rules.specs.Items.{Item, byte, offset, same, Values}
 use Rattle.standings.specs.Table.{advance, isTouched, finalOffset}
-use Rattle.rules.specs.Transactions.{Txn, Write, those}
+use Rattle.rules.specs.Transactions.{Txn, Write}
 
 -- An item, and the value that a commit sets it to.
 pub record Setting : Type 0 where

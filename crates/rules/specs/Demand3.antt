@@ -9,12 +9,12 @@ use Prim.Native.Nat.{ℕ, _≤_}
 use Rattle.record.specs.declared.outcomes.Outcome.{Outcome}
 use Rattle.record.specs.declared.outcomes.Refusal.the-variants.{Stale}
 use Rattle.record.specs.State.{transaction}
-use Rattle.record.specs.Paper.{number, Said, plain, granted, refused, said}
+use Rattle.record.specs.Paper.{number, plain, granted, refused, said}
 use Rattle.rules.specs.Messages.{Call, commit, Reply}
 use Rattle.rules.specs.Plain.{Slot, closed, running, Running, Plain, freshPlain, plainCall, plainAfter, plainReplies, firstList, secondList, becameStale}
 use Rattle.rules.specs.Grants.{grantsOf, rerun, sameReplies}
 use Rattle.rules.specs.Machine.{Machine, values}
-use Rattle.rules.specs.Calls.{Turn, fresh, call, callsAfter, callsReplies}
+use Rattle.rules.specs.Calls.{fresh, call, callsAfter, callsReplies}
 use Rattle.rules.specs.Promises.{Meets}
 
 -- "from a fresh store": Fresh with these file numbers, on any record and any buffers, was accepted, and left m.

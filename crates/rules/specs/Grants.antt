@@ -2,7 +2,7 @@
 use mathlib.Core.List.{List, [], _∷_, _++_, map}
 use Prim.Native.Nat.{ℕ}
 use Rattle.record.specs.Paper.{Said, plain, pointer, given, granted, refused}
-use Rattle.rules.specs.Messages.{Op, Call, begin, on, commit, abort, Reply, says}
+use Rattle.rules.specs.Messages.{Call, begin, on, commit, abort, Reply, says}
 use Rattle.rules.specs.Plain.{Accepted, Slot, closed, running, Plain, plainCall}
 
 -- A granted transaction: its number, and "the accepted Seeks, Writes, GetFilePointers and Reads since its Begin".

@@ -1,5 +1,5 @@
 -- What a transaction can sight: the committed bytes and offsets, and programs that ask for them one after the other.
-use mathlib.Core.Bool.{Bool, true, false}
+use mathlib.Core.Bool.{Bool, false}
 use mathlib.Core.List.{List, [], _∷_}
 use lib.Dec.{eqb}
 use Prim.Native.Nat.{ℕ}

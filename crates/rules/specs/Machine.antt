@@ -1,5 +1,4 @@
 -- The store as a caller holds it: the record in its two parts and the three lent buffers; and what they mean for one transaction.
-use mathlib.Core.Bool.{Bool}
 use mathlib.Core.List.{List, [], _∷_, _++_}
 use lib.ListN.{length, getD}
 use Prim.Native.Nat.{ℕ, zero, suc, _+_, _*_}
@@ -11,7 +10,7 @@ use Rattle.record.specs.declared.journal.WriteRecord.{WriteRecord}
 use Rattle.record.specs.State.{transaction, standingAt, withUsed, withDescriptors, withTransaction}
 use Rattle.record.specs.Journal.{writeRecordAt, withRecords}
 use Rattle.ranges.specs.Ranges.{lengthsBefore, Sizes, sized}
-use Rattle.rules.specs.Items.{Item, byte, offset, Values}
+use Rattle.rules.specs.Items.{byte, offset, Values}
 use Rattle.rules.specs.Transactions.{Txn, Write}
 use Rattle.rules.specs.Steps.{total}
 

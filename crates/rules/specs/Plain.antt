@@ -1,13 +1,13 @@
 -- The plain machine of demand 3, as paper 01 words it. "It has no marks and looks at nothing in the store's record or buffers."
-use mathlib.Core.Bool.{Bool, true, false, cond, not, _&&_}
+use mathlib.Core.Bool.{Bool, false, cond, not, _&&_}
 use mathlib.Core.List.{List, [], _∷_, _++_, map}
 use lib.Dec.{leb, eqb}
 use Prim.Native.Nat.{ℕ, zero, suc, _+_}
 use Rattle.record.specs.declared.outcomes.Refusal.the-variants.{Stale}
 use Rattle.record.specs.Paper.{number, Said, plain, granted, refused}
 use Rattle.ranges.specs.Below.{guarded}
-use Rattle.rules.specs.Messages.{Op, bufferOf, Call, begin, on, commit, abort, Reply, says}
-use Rattle.rules.specs.Items.{Item, Values, result, asked}
+use Rattle.rules.specs.Messages.{Op, bufferOf, Call, begin, on, commit, abort, Reply}
+use Rattle.rules.specs.Items.{Values, result, asked}
 use Rattle.rules.specs.Transactions.{Txn, empty, put}
 use Rattle.rules.specs.Steps.{Stepped, refuse, accept, step}
 use Rattle.rules.specs.Commits.{settings, fits, landed, setBy, commitRefusal}

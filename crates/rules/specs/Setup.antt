@@ -3,7 +3,7 @@ use mathlib.Core.List.{List, [], _∷_, map}
 use mathlib.Core.Path.{_≡_}
 use lib.ListN.{getD}
 use Prim.Native.Nat.{ℕ, zero, suc, _*_}
-use Rattle.record.specs.Paper.{Said, plain, given, refused}
+use Rattle.record.specs.Paper.{plain, given, refused}
 use Rattle.rules.specs.Items.{Item, byte, Values}
 use Rattle.rules.specs.Messages.{Call, begin, Reply, says}
 use Rattle.rules.specs.Sightings.{Entry}

@@ -1,7 +1,7 @@
 -- One transaction's step: Seek, Write, GetFilePointer and Read, with refusals 6 to 12 in the table's order. What an accepted step
 -- asks for, in order, is its list of sightings.
-use mathlib.Core.Bool.{Bool, true, false, cond}
-use mathlib.Core.List.{List, [], _∷_, _++_, map}
+use mathlib.Core.Bool.{Bool, cond}
+use mathlib.Core.List.{List, [], _∷_, _++_}
 use lib.Dec.{leb, eqb}
 use lib.ListN.{length, drop}
 use Prim.Native.Nat.{ℕ, zero, suc, _+_, _-_, min}
@@ -9,7 +9,7 @@ use Rattle.standings.specs.Table.{placeNumber}
 use Rattle.ranges.specs.Below.{guarded}
 use Rattle.record.specs.Paper.{Said, plain, pointer, given}
 use Rattle.rules.specs.Messages.{Op, seek, write, getFilePointer, read}
-use Rattle.rules.specs.Items.{Prog, done, ask, andThen}
+use Rattle.rules.specs.Items.{Prog, done, andThen}
 use Rattle.standings.specs.Table.{afterSeek, afterWrite, afterRead, pointerSettles, readSettles, offsetOf, writePlace}
 use Rattle.rules.specs.Transactions.{Txn, Write, withWrites, withStanding, those, Settled, past, all, settling}
 use Rattle.rules.specs.Reading.{fetch}

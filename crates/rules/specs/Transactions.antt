@@ -1,8 +1,7 @@
 -- One transaction: its standings and its writes, and how descriptors are settled.
-use mathlib.Core.Bool.{Bool, true, false, cond}
+use mathlib.Core.Bool.{Bool, cond}
 use mathlib.Core.List.{List, [], _∷_, _++_, map}
 use lib.Dec.{leb, eqb}
-use lib.ListN.{length}
 use Prim.Native.Nat.{ℕ, zero, suc, _+_}
 use Rattle.standings.specs.declared.Standing.{Standing}
 use Rattle.standings.specs.declared.Standing.the-variants.{Untouched}

@@ -1,5 +1,5 @@
 -- The table of paper 01 once more, row by row and with numbers: what each call makes of each standing.
-use mathlib.Core.Bool.{Bool, true, false}
+use mathlib.Core.Bool.{true, false}
 use mathlib.Core.Path.{_≡_}
 use Rattle.standings.specs.declared.Standing.the-variants.{Untouched, Placed, Deferred, Moved, Known}
 use Rattle.standings.specs.declared.Place.the-variants.{At, After}

@@ -95,6 +95,7 @@ fn code(outcome: &twin::call::Outcome) -> u8 {
         Ok(Answer::Offset(_)) => 1,
         Ok(Answer::Given(_)) => 2,
         Ok(Answer::Granted(_)) => GRANTED,
+        Ok(Answer::Pairs(_)) => 4,
         Err(refusal) => 10 + refusal.number() as u8,
     }
 }

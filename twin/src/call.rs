@@ -26,9 +26,17 @@ pub struct Step {
 /// A call with its arguments. The first number is the transaction.
 #[derive(Clone, Debug, PartialEq, Eq)]
 pub enum Call {
-    Fresh { files: Vec<u8> },
+    Fresh {
+        files: Vec<u8>,
+    },
     Begin(usize),
     Step(usize, Step),
+    /// `buffer` is the buffer for the list as it is before the call.
+    Places {
+        transaction: usize,
+        file: usize,
+        buffer: Vec<u8>,
+    },
     Commit(usize),
     Abort(usize),
 }
@@ -41,6 +49,8 @@ pub enum Answer {
     Given(u16),
     /// How many other transactions became stale by the Commit.
     Granted(u8),
+    /// The count of pairs that a Places listed.
+    Pairs(u16),
 }
 
 /// The refusals, with their numbers in the paper's table.
@@ -51,6 +61,7 @@ pub enum Refusal {
     NoSuchTransaction = 3,
     NotOpen = 4,
     AlreadyOpen = 5,
+    /// Also a file number above 7 in Places.
     NoSuchDescriptor = 6,
     ReaderTooShort = 7,
     SeekPastEnd = 8,
@@ -60,6 +71,8 @@ pub enum Refusal {
     SettledPastEnd = 12,
     Stale = 13,
     NoSuchFile = 14,
+    NoPlaceYet = 15,
+    ListTooLong = 16,
 }
 
 impl Refusal {
@@ -70,7 +83,7 @@ impl Refusal {
 
 pub type Outcome = Result<Answer, Refusal>;
 
-/// The outcome of a call and the reader's buffer after it (empty for a call that is no Read).
+/// The outcome of a call and the buffer lent for its answer, after it (empty for a call that is no Read or Places).
 #[derive(Clone, Debug, PartialEq, Eq)]
 pub struct Reply {
     pub outcome: Outcome,

@@ -25,14 +25,15 @@ impl Digest {
         }
     }
 
-    /// Takes in the outcome of a call and the reader's buffer after it: a code (0 done, 1 offset, 2 given, 3 granted,
-    /// 10 + n for refusal n), then the number answered (0 where there is none), then the bytes of a Read's buffer.
+    /// Takes in the outcome of a call and the buffer lent for its answer, after it: a code (0 done, 1 offset, 2 given, 3
+    /// granted, 4 pairs, 10 + n for refusal n), then the number answered (0 where there is none), then the buffer's bytes.
     pub fn take_reply(&mut self, outcome: Outcome, buffer: &[u8]) {
         let (code, number) = match outcome {
             Ok(Answer::Done) => (0, 0),
             Ok(Answer::Offset(offset)) => (1, offset),
             Ok(Answer::Given(count)) => (2, count),
             Ok(Answer::Granted(count)) => (3, u16::from(count)),
+            Ok(Answer::Pairs(count)) => (4, count),
             Err(refusal) => (10 + refusal.number() as u16, 0),
         };
         self.take(code);

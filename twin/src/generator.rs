@@ -3,7 +3,7 @@
 //!
 //! The recurrence: x' = 48271 x mod 2147483647, from x = 1. (The 10,000th number is 399268537.)
 //! Call i, from 0, draws the next twelve numbers r0 to r11, whatever its kind. They, the phase (i div 256) and a guess
-//! at which transactions are open give everything about the call; the mode is the phase mod 6.
+//! at which transactions are open give everything about the call; the mode is the phase mod 7.
 
 #![allow(clippy::manual_is_multiple_of, clippy::manual_range_contains)] // plain arithmetic is wanted here
 
@@ -11,9 +11,10 @@ pub const SEED: u64 = 1;
 
 const DRAWS: usize = 12;
 const PHASE: u64 = 256;
-const MODES: u64 = 6;
+const MODES: u64 = 7;
 
-// The modes. Mode 1, crowded, differs by the tables below alone: few descriptors and transactions, many Commits.
+// The modes. Two differ by the tables below alone: 1, crowded, has few descriptors and transactions and many Commits; 6,
+// scattered, has few descriptors and transactions and few Commits, so that lists of places get long.
 const MIXED: u64 = 0;
 const MANY_RECORDS: u64 = 2; // Writes of 0 to 2 bytes, until the log has 64 records
 const LONG_WRITES: u64 = 3; // until the log has 4,096 bytes
@@ -27,23 +28,27 @@ pub const SEEK: u64 = 2;
 pub const WRITE: u64 = 3;
 pub const GET_FILE_POINTER: u64 = 4;
 pub const READ: u64 = 5;
-pub const COMMIT: u64 = 6;
-pub const ABORT: u64 = 7;
+pub const PLACES: u64 = 6;
+pub const COMMIT: u64 = 7;
+pub const ABORT: u64 = 8;
 
-/// How many of 1,000 calls are of each kind, for each mode (eight numbers a mode).
-const WEIGHTS: [u64; 48] = [
-    4, 20, 230, 270, 90, 236, 105, 45, // mixed
-    4, 20, 180, 230, 140, 210, 170, 46, // crowded
-    4, 10, 60, 840, 10, 56, 12, 8, // many records
-    4, 20, 230, 460, 30, 106, 95, 55, // long writes
-    4, 20, 230, 280, 90, 170, 156, 50, // near the end
-    4, 20, 220, 260, 70, 280, 105, 41, // long reads
+const KINDS: u64 = 9;
+
+/// How many of 1,000 calls are of each kind, for each mode (nine numbers a mode).
+const WEIGHTS: [u64; 63] = [
+    4, 20, 220, 260, 85, 226, 40, 102, 43, // mixed
+    4, 20, 175, 225, 130, 200, 40, 162, 44, // crowded
+    4, 10, 60, 800, 10, 56, 40, 12, 8, // many records
+    4, 20, 220, 440, 30, 101, 40, 92, 53, // long writes
+    4, 20, 220, 270, 85, 160, 40, 151, 50, // near the end
+    4, 20, 210, 250, 65, 270, 40, 102, 39, // long reads
+    4, 20, 340, 340, 20, 100, 150, 16, 10, // scattered
 ];
 
 /// How many transaction numbers a mode mostly uses.
-const TRANSACTIONS_USED: [u64; 6] = [8, 4, 2, 3, 6, 8];
+const TRANSACTIONS_USED: [u64; 7] = [8, 4, 2, 3, 6, 8, 2];
 /// Through how many files of the usual arrangement a mode goes (each by two descriptors).
-const FILES_USED: [u64; 6] = [8, 2, 8, 8, 3, 4];
+const FILES_USED: [u64; 7] = [8, 2, 8, 8, 3, 4, 2];
 
 #[derive(Clone, Copy, Debug)]
 pub struct Generator {
@@ -61,9 +66,11 @@ pub struct Request {
     pub kind: u64,
     pub transaction: u64,
     pub descriptor: u64,
+    /// The file that Places asks about.
+    pub file: u64,
     /// Where a Seek goes, how many bytes a Write has or a Read wants.
     pub number: u64,
-    /// The length of the reader's buffer. It is filled with `BLANK` before the call.
+    /// The length of a Read's or Places' buffer. It is filled with `BLANK` before the call.
     pub buffer: u64,
     /// Byte i of a Write is (data_first + data_step i) mod 256.
     pub data_first: u64,
@@ -132,8 +139,9 @@ fn request(kind: u64, transaction: u64, mode: u64, r: &[u64; DRAWS]) -> Request 
         kind,
         transaction,
         descriptor: descriptor(mode, r[2]),
+        file: file(mode, r[2]),
         number: number(kind, mode, r[3], r[4]),
-        buffer: reader_length(mode, r[3]),
+        buffer: buffer(kind, mode, r[3] % 16, r[4]),
         data_first: if zeros { 0 } else { r[5] % 256 },
         data_step: if zeros { 0 } else { r[6] % 256 },
         list: list(r),
@@ -145,7 +153,7 @@ fn request(kind: u64, transaction: u64, mode: u64, r: &[u64; DRAWS]) -> Request 
 fn kind(mode: u64, r: u64) -> u64 {
     let mut rest = r % 1000;
     for kind in FRESH..ABORT {
-        let weight = WEIGHTS[(8 * mode + kind) as usize];
+        let weight = WEIGHTS[(KINDS * mode + kind) as usize];
         if rest < weight {
             return kind;
         }
@@ -205,6 +213,17 @@ fn descriptor(mode: u64, r: u64) -> u64 {
     }
 }
 
+/// One of the mode's files, now and then 8 or 9.
+fn file(mode: u64, r: u64) -> u64 {
+    let class = r % 40;
+    let value = r / 40;
+    if class == 0 {
+        8 + value % 2
+    } else {
+        value % FILES_USED[mode as usize]
+    }
+}
+
 fn number(kind: u64, mode: u64, class: u64, value: u64) -> u64 {
     if kind == SEEK {
         seek_to(mode, class % 16, value)
@@ -252,6 +271,25 @@ fn write_length(mode: u64, class: u64, value: u64) -> u64 {
         value % 200
     } else {
         value % 4098
+    }
+}
+
+fn buffer(kind: u64, mode: u64, class: u64, value: u64) -> u64 {
+    if kind == PLACES {
+        list_room(class, value)
+    } else {
+        reader_length(mode, class)
+    }
+}
+
+/// Often room for a pair or two, always below five; otherwise 64 bytes, or 300, which every list fits.
+fn list_room(class: u64, value: u64) -> u64 {
+    if class < 10 {
+        value % 20
+    } else if class < 13 {
+        64
+    } else {
+        300
     }
 }
 
@@ -339,7 +377,7 @@ mod tests {
 
     #[test]
     fn the_weights_of_each_mode_add_to_a_thousand() {
-        for mode in WEIGHTS.chunks(8) {
+        for mode in WEIGHTS.chunks(KINDS as usize) {
             assert_eq!(mode.iter().sum::<u64>(), 1000);
         }
     }

@@ -1,5 +1,5 @@
-//! A second implementation of paper 01, written from the paper alone: a store over lent buffers, the plain machine of
-//! demand 3, a generator of calls, and the means to run the two side by side.
+//! A second implementation of paper 01 with request F-1, written from the papers alone: a store over lent buffers, the
+//! plain machine of demand 3, a generator of calls, and the means to run the two side by side.
 
 pub mod call;
 pub mod digest;
@@ -10,5 +10,7 @@ pub mod plain;
 pub mod store;
 pub mod vectors;
 
+#[cfg(test)]
+mod corners;
 #[cfg(test)]
 mod situations;

@@ -117,6 +117,7 @@ fn call(request: &Request) -> Call {
     match request.kind {
         generator::FRESH => Call::Fresh { files: request.list[..request.list_length as usize].to_vec() },
         generator::BEGIN => Call::Begin(transaction),
+        generator::PLACES => Call::Places { transaction, file: request.file as usize, buffer: blank(request) },
         generator::COMMIT => Call::Commit(transaction),
         generator::ABORT => Call::Abort(transaction),
         _ => Call::Step(transaction, Step { descriptor: request.descriptor as usize, action: action(request) }),
@@ -128,19 +129,24 @@ fn action(request: &Request) -> Action {
     match request.kind {
         generator::SEEK => Action::Seek { to: number },
         generator::WRITE => Action::Write { data: data(request) },
-        generator::READ => Action::Read { count: number, buffer: vec![generator::BLANK; request.buffer as usize] },
+        generator::READ => Action::Read { count: number, buffer: blank(request) },
         _ => Action::GetFilePointer,
     }
+}
+
+/// The buffer lent for the answer.
+fn blank(request: &Request) -> Vec<u8> {
+    vec![generator::BLANK; request.buffer as usize]
 }
 
 fn data(request: &Request) -> Vec<u8> {
     (0..request.number).map(|i| ((request.data_first + request.data_step * i) % 256) as u8).collect()
 }
 
-/// Calls so far; done, offset, given, granted; refusals 1 to 14; the digest of the state, the digest of all answers.
+/// Calls so far; done, offset, given, granted, pairs; refusals 1 to 16; the digest of the state, the digest of all answers.
 fn write_line(out: &mut impl Write, made: u64, pair: &Pair, answers: Digest) -> io::Result<()> {
-    let Tally { done, offset, given, granted, refused, .. } = &pair.tally;
-    write!(out, "{made} {done} {offset} {given} {granted}")?;
+    let Tally { done, offset, given, granted, pairs, refused, .. } = &pair.tally;
+    write!(out, "{made} {done} {offset} {given} {granted} {pairs}")?;
     for count in &refused[1..] {
         write!(out, " {count}")?;
     }
@@ -155,10 +161,13 @@ fn write_stats(out: &mut impl Write, calls: u64, tally: &Tally) -> io::Result<()
     writeln!(out, "offset {}", tally.offset)?;
     writeln!(out, "given {}", tally.given)?;
     writeln!(out, "granted {}", tally.granted)?;
+    writeln!(out, "pairs {}", tally.pairs)?;
     for (number, count) in tally.refused.iter().enumerate().skip(1) {
         writeln!(out, "refused {number}: {count}")?;
     }
     writeln!(out, "granted with others open {}", tally.granted_among_others)?;
     writeln!(out, "granted, making others stale {}", tally.granted_making_stale)?;
-    writeln!(out, "granted after a look and a write {}", tally.granted_after_look)
+    writeln!(out, "granted after a look and a write {}", tally.granted_after_look)?;
+    writeln!(out, "lists of one pair {}", tally.one_pair)?;
+    writeln!(out, "lists of several pairs {}", tally.several_pairs)
 }

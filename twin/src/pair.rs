@@ -22,14 +22,18 @@ pub struct Tally {
     pub offset: u64,
     pub given: u64,
     pub granted: u64,
+    pub pairs: u64,
     /// By the refusal's number; the first entry stays 0.
-    pub refused: [u64; 15],
+    pub refused: [u64; 17],
     /// Grants while another transaction was open.
     pub granted_among_others: u64,
     /// Grants that made another transaction stale.
     pub granted_making_stale: u64,
     /// Grants of a transaction with a Read or GetFilePointer and a Write.
     pub granted_after_look: u64,
+    /// Lists of places with one pair, and with more.
+    pub one_pair: u64,
+    pub several_pairs: u64,
 }
 
 /// An accepted call of a transaction, and what the store replied.
@@ -79,6 +83,9 @@ fn apply(store: &mut Store, lent: &mut Lent, call: &Call) -> Reply {
         Call::Fresh { files } => store.fresh(lent, files).map(|()| Answer::Done),
         Call::Begin(t) => store.begin(lent, *t).map(|()| Answer::Done),
         Call::Step(t, step) => apply_step(store, lent, *t, step, &mut buffer),
+        Call::Places { transaction, file, .. } => {
+            store.places(lent, *transaction, *file, &mut buffer).map(Answer::Pairs)
+        }
         Call::Commit(t) => store.commit(lent, *t).map(Answer::Granted),
         Call::Abort(t) => store.abort(lent, *t).map(|()| Answer::Done),
     };
@@ -95,10 +102,10 @@ fn apply_step(store: &mut Store, lent: &mut Lent, t: usize, step: &Step, buffer:
     }
 }
 
-/// The reader's buffer before the call.
+/// The buffer lent for the call's answer, before the call.
 fn untouched_buffer(call: &Call) -> Vec<u8> {
     match call {
-        Call::Step(_, Step { action: Action::Read { buffer, .. }, .. }) => buffer.clone(),
+        Call::Step(_, Step { action: Action::Read { buffer, .. }, .. }) | Call::Places { buffer, .. } => buffer.clone(),
         _ => Vec::new(),
     }
 }
@@ -110,8 +117,15 @@ impl Tally {
             Ok(Answer::Offset(_)) => self.offset += 1,
             Ok(Answer::Given(_)) => self.given += 1,
             Ok(Answer::Granted(_)) => self.granted += 1,
+            Ok(Answer::Pairs(count)) => self.count_pairs(count),
             Err(refusal) => self.refused[refusal.number()] += 1,
         }
+    }
+
+    fn count_pairs(&mut self, count: u16) {
+        self.pairs += 1;
+        self.one_pair += u64::from(count == 1);
+        self.several_pairs += u64::from(count > 1);
     }
 }
 
@@ -174,6 +188,7 @@ impl Pair {
         }
         let expected = self.machine.take(call);
         match expected.outcome {
+            Ok(Answer::Pairs(_)) => self.call_looking(call, &expected),
             Ok(answer) => self.call_accepted(call, &expected, answer),
             Err(Refusal::Stale) => self.call_stale(call),
             Err(refusal) => {
@@ -181,6 +196,13 @@ impl Pair {
             }
         }
         expected
+    }
+
+    /// An accepted call that changes nothing.
+    fn call_looking(&mut self, call: &Call, expected: &Reply) {
+        let before = self.state.clone();
+        assert_eq!(self.state.apply(call), *expected, "{call:?}");
+        assert!(self.state == before, "{call:?} changed something");
     }
 
     fn call_accepted(&mut self, call: &Call, expected: &Reply, answer: Answer) {
@@ -239,6 +261,7 @@ impl Pair {
             }
             Call::Begin(t) | Call::Abort(t) => self.served[*t].clear(),
             Call::Step(t, step) => self.served[*t].push((step.clone(), reply)),
+            Call::Places { .. } => {}
             Call::Commit(t) => self.keep_grant(*t, answer),
         }
     }
@@ -339,7 +362,7 @@ impl Default for Pair {
 
 fn check_refused(call: &Call, reply: &Reply, refusal: Refusal) {
     assert_eq!(reply.outcome, Err(refusal), "{call:?}");
-    assert!(reply.buffer == untouched_buffer(call), "{call:?}: a refusal changed the reader's buffer");
+    assert!(reply.buffer == untouched_buffer(call), "{call:?}: a refusal changed the buffer lent for the answer");
 }
 
 /// A standing of the machine in the record's form.

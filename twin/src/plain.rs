@@ -328,6 +328,36 @@ impl Course {
     }
 }
 
+impl Course {
+    /// The places of a file that the writes cover, listed at the front of `buffer`.
+    fn places(&self, committed: &Committed, file: usize, buffer: &mut [u8]) -> Outcome {
+        if file >= FILES {
+            return Err(Refusal::NoSuchDescriptor);
+        }
+        let pairs = pairs(&self.covered(committed, file)?);
+        let list = pairs.iter().flatten().flat_map(|&number| [(number / 256) as u8, (number % 256) as u8]);
+        if buffer.len() < 4 * pairs.len() {
+            return Err(Refusal::ListTooLong);
+        }
+        for (byte, listed) in buffer.iter_mut().zip(list) {
+            *byte = listed;
+        }
+        Ok(Answer::Pairs(pairs.len() as u16))
+    }
+
+    /// Which places of a file a write covers; refused where a write on it has no place yet.
+    fn covered(&self, committed: &Committed, file: usize) -> Result<[bool; FILE_BYTES], Refusal> {
+        let mut covered = [false; FILE_BYTES];
+        for write in self.writes.iter().filter(|write| committed.file_of[write.descriptor] == file) {
+            match write.place {
+                Place::At(first) => covered[first..first + write.data.len()].fill(true),
+                Place::After(_) => return Err(Refusal::NoPlaceYet),
+            }
+        }
+        Ok(covered)
+    }
+}
+
 impl Machine {
     /// The machine on the state of an accepted Fresh with these sixteen file numbers.
     pub fn fresh(files: &[u8]) -> Result<Machine, Refusal> {
@@ -343,6 +373,7 @@ impl Machine {
             })),
             Call::Begin(t) => no_buffer(self.begin(*t)),
             Call::Step(t, step) => self.step(*t, step),
+            Call::Places { transaction, file, buffer } => self.places(*transaction, *file, buffer),
             Call::Commit(t) => no_buffer(self.commit(*t)),
             Call::Abort(t) => no_buffer(self.abort(*t)),
         }
@@ -379,6 +410,16 @@ impl Machine {
             transaction.calls.push(step.clone());
         }
         reply
+    }
+
+    /// Looks at what the transaction holds, and adds nothing to its accepted calls.
+    fn places(&self, t: usize, file: usize, buffer: &[u8]) -> Reply {
+        let mut buffer = buffer.to_vec();
+        let outcome = self.check_open(t).and_then(|()| {
+            let transaction = self.open[t].as_ref().expect("it is open");
+            transaction.course.places(&self.committed, file, &mut buffer)
+        });
+        Reply { outcome, buffer }
     }
 
     fn commit(&mut self, t: usize) -> Outcome {
@@ -420,6 +461,12 @@ impl Machine {
     fn with_equal_lists(&self) -> [bool; TRANSACTIONS] {
         std::array::from_fn(|t| self.open[t].is_some() && !self.is_stale(t))
     }
+}
+
+/// Offset and length of each stretch of covered places that goes as far as it can.
+fn pairs(covered: &[bool]) -> Vec<[usize; 2]> {
+    let starts = (0..covered.len()).filter(|&place| covered[place] && (place == 0 || !covered[place - 1]));
+    starts.map(|start| [start, covered[start..].iter().take_while(|&&place| place).count()]).collect()
 }
 
 fn no_buffer(outcome: Outcome) -> Reply {

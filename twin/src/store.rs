@@ -3,6 +3,8 @@
 //! There are no setters and no lists here. What a transaction has sighted is kept as one bit for each file byte (the
 //! marks) and, for an offset, as the standing Known.
 
+use std::ops::Range;
+
 use crate::call::Refusal;
 
 pub const FILES: usize = 8;
@@ -311,6 +313,24 @@ impl Store {
         Ok(given as u16)
     }
 
+    /// Lists the places of a file that the transaction's writes cover, at the front of `out`, as pairs of offset and
+    /// length, and answers how many pairs there are.
+    pub fn places(&self, lent: &Lent, t: usize, file: usize, out: &mut [u8]) -> Result<u16, Refusal> {
+        self.check_open(lent, t)?;
+        if file >= FILES {
+            return Err(Refusal::NoSuchDescriptor);
+        }
+        let stretches = joined(self.stretches(t, file)?);
+        if out.len() < 4 * stretches.len() {
+            return Err(Refusal::ListTooLong);
+        }
+        for (pair, stretch) in out.chunks_exact_mut(4).zip(&stretches) {
+            pair[..2].copy_from_slice(&stretch.start.to_be_bytes());
+            pair[2..].copy_from_slice(&(stretch.end - stretch.start).to_be_bytes());
+        }
+        Ok(stretches.len() as u16)
+    }
+
     /// Answers how many other transactions became stale.
     pub fn commit(&mut self, lent: &mut Lent, t: usize) -> Result<u8, Refusal> {
         self.check_open(lent, t)?;
@@ -468,6 +488,25 @@ impl Store {
         Run { log_from: None, end: limit }
     }
 
+    // Listing places.
+
+    /// The places of each write on a file, those of 0 bytes left out; refused where a write on it has no place.
+    fn stretches(&self, t: usize, file: usize) -> Result<Vec<Range<u16>>, Refusal> {
+        let mut stretches = Vec::new();
+        for record in &self.transactions[t].log.records {
+            if usize::from(self.files[usize::from(record.descriptor)]) != file {
+                continue;
+            }
+            let Place::At(start) = record.place else {
+                return Err(Refusal::NoPlaceYet);
+            };
+            if record.length > 0 {
+                stretches.push(start..start + record.length);
+            }
+        }
+        Ok(stretches)
+    }
+
     // Ending a transaction.
 
     /// Lands the writes in call order and answers who has sighted a byte just set (a bit for each transaction).
@@ -523,6 +562,19 @@ impl Store {
         }
         count
     }
+}
+
+/// Stretches sorted by their start, those that overlap or touch made one.
+fn joined(mut stretches: Vec<Range<u16>>) -> Vec<Range<u16>> {
+    stretches.sort_by_key(|stretch| stretch.start);
+    let mut joined: Vec<Range<u16>> = Vec::new();
+    for stretch in stretches {
+        match joined.last_mut() {
+            Some(last) if stretch.start <= last.end => last.end = last.end.max(stretch.end),
+            _ => joined.push(stretch),
+        }
+    }
+    joined
 }
 
 fn clear_marks(marks: &mut [u8], t: usize) {

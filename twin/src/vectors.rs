@@ -79,6 +79,9 @@ fn reply(pair: &mut Pair, words: &[&str]) -> Option<Vec<Word>> {
         ["write", t, d, data] => step(t, d, Action::Write { data: bytes(data)? })?,
         ["pointer", t, d] => step(t, d, Action::GetFilePointer)?,
         ["read", t, d, count, buffer] => step(t, d, Action::Read { count: number(count)?, buffer: bytes(buffer)? })?,
+        ["places", t, file, buffer] => {
+            Call::Places { transaction: number(t)?, file: number(file)?, buffer: bytes(buffer)? }
+        }
         _ => return None,
     };
     Some(said(pair.call(&call, None)))
@@ -94,6 +97,7 @@ fn said(reply: Reply) -> Vec<Word> {
         Ok(Answer::Offset(offset)) => vec![Word::Name("offset"), Word::Number(offset.into())],
         Ok(Answer::Given(count)) => vec![Word::Name("given"), Word::Number(count.into()), Word::Bytes(reply.buffer)],
         Ok(Answer::Granted(count)) => vec![Word::Name("granted"), Word::Number(count.into())],
+        Ok(Answer::Pairs(count)) => vec![Word::Name("pairs"), Word::Number(count.into()), Word::Bytes(reply.buffer)],
         Err(refusal) => vec![Word::Name("refused"), Word::Number(refusal.number() as u64)],
     }
 }

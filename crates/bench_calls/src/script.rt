@@ -58,13 +58,15 @@ pub fn named<'a>(data: &'a [u8], from: usize, n: usize) -> &'a [u8] {
     parts::part(data, from, n)
 }
 
-// An outcome as one octet: 0 done, 1 an offset, 2 a count of bytes, 3 granted, and 10 more than a refusal's number in the table.
+// An outcome as one octet: 0 done, 1 an offset, 2 a count of bytes, 3 granted, 4 a count of pairs, and 10 more than a refusal's number in
+// the table.
 pub fn code(o: Outcome) -> u8 {
     match o {
         Outcome::Done => 0,
         Outcome::Offset(_) => 1,
         Outcome::Given(_) => 2,
         Outcome::Staled(_) => 3,
+        Outcome::Pairs(_) => 4,
         Outcome::Refused(r) => std::num::wrapping_add_u8(10, r.number()),
     }
 }
@@ -76,6 +78,7 @@ pub fn answered(o: Outcome) -> u64 {
         Outcome::Offset(n) => n as u64,
         Outcome::Given(n) => n as u64,
         Outcome::Staled(n) => n as u64,
+        Outcome::Pairs(n) => n as u64,
         Outcome::Refused(_) => 0,
     }
 }

@@ -1,3 +1,4 @@
 pub mod CoverLaws
 pub mod ListLaws
 pub mod MachineLaws
+pub mod PlacesRules

@@ -1,9 +1,12 @@
 // The places of a file that a transaction's write records cover, as a list of stretches; and whether one of its records on the file has
 // no place yet. Each stretch is found by walks over the records, and no table of places is made.
+mod places_call;
+
 use counters::Used;
 use numbers::FILE_BYTES;
 use numbers::wide;
 use numbers::wide_octet;
+pub use places_call::places;
 use record::DESCRIPTORS;
 use record::journal::NUMBERS;
 use record::journal::WriteRecord;
@@ -44,7 +47,7 @@ fn waits(w: WriteRecord, filenumbers: &[u8; DESCRIPTORS], f: u8) -> bool
 }
 
 // A write of transaction t on file f has no place yet.
-pub fn waiting<'a>(
+fn waiting<'a>(
     journal: &'a [u16; NUMBERS],
     filenumbers: &'a [u8; DESCRIPTORS],
     t: usize,
@@ -122,7 +125,7 @@ fn first_clear<'a>(
 }
 
 // The first stretch of covered places from p on; one of length 0 where there is none.
-pub fn next_stretch<'a>(
+fn next_stretch<'a>(
     journal: &'a [u16; NUMBERS],
     filenumbers: &'a [u8; DESCRIPTORS],
     t: usize,
@@ -142,7 +145,7 @@ pub fn next_stretch<'a>(
 }
 
 // How many stretches the list has.
-pub fn count_stretches<'a>(
+fn count_stretches<'a>(
     journal: &'a [u16; NUMBERS],
     filenumbers: &'a [u8; DESCRIPTORS],
     t: usize,
@@ -184,7 +187,7 @@ fn put_pair(out: &mut [u8], at: usize, s: Stretch)
 }
 
 // Writes the pairs of the list to the front of the buffer.
-pub fn write_stretches<'a>(
+fn write_stretches<'a>(
     journal: &'a [u16; NUMBERS],
     filenumbers: &'a [u8; DESCRIPTORS],
     t: usize,

@@ -1,12 +1,12 @@
--- A refusal's number is at most 14.
+-- A refusal's number is at most 16.
 use mathlib.Core.Path.{_≡_}
 use Prim.Native.Nat.{ℕ, _≤_}
 use native.Mathlib.Omega.{arith}
 use Rattle.record.specs.Paper.{number}
 use Rattle.record.specs.declared.outcomes.Refusal.{Refusal}
-use Rattle.record.specs.declared.outcomes.Refusal.the-variants.{BufferLength, RecordRange, NoSuchTransaction, NotOpen, AlreadyOpen, NoSuchDescriptor, ReaderTooShort, SeekPastEnd, WritePastEnd, RecordsFull, LogFull, SettledPastEnd, Stale, NoSuchFile}
+use Rattle.record.specs.declared.outcomes.Refusal.the-variants.{BufferLength, RecordRange, NoSuchTransaction, NotOpen, AlreadyOpen, NoSuchDescriptor, ReaderTooShort, SeekPastEnd, WritePastEnd, RecordsFull, LogFull, SettledPastEnd, Stale, NoSuchFile, NoPlaceYet, ListTooLong}
 
-pub number-bound : (r : Refusal) → number r ≤ 14
+pub number-bound : (r : Refusal) → number r ≤ 16
 number-bound BufferLength = omega arith
 number-bound RecordRange = omega arith
 number-bound NoSuchTransaction = omega arith
@@ -21,6 +21,8 @@ number-bound LogFull = omega arith
 number-bound SettledPastEnd = omega arith
 number-bound Stale = omega arith
 number-bound NoSuchFile = omega arith
+number-bound NoPlaceYet = omega arith
+number-bound ListTooLong = omega arith
 
-pub bounded : (r : Refusal) (n : ℕ) → n ≡ number r → n ≤ 14
+pub bounded : (r : Refusal) (n : ℕ) → n ≡ number r → n ≤ 16
 bounded r n e = omega (arith, e, number-bound r)

@@ -167,12 +167,12 @@ pub fn of_state(
     octets_taken(octets_taken(octets_taken(record, files), logs), marks)
 }
 
-// Takes in an outcome, and the reader's buffer after the call.
-pub fn reply_taken(h: usize, o: Outcome, reader: &[u8]) -> usize
+// Takes in an outcome, and the buffer lent for the answer, after the call.
+pub fn reply_taken(h: usize, o: Outcome, buffer: &[u8]) -> usize
     requires { ⌜ Digest h ⌝ }
     ensures { λ r. ⌜ Digest r ⌝ }
 {
     let code = outcomes::code(o);
     let number = outcomes::number(o);
-    octets_taken(taken(taken(h, code), number), reader)
+    octets_taken(taken(taken(h, code), number), buffer)
 }

@@ -4,16 +4,17 @@ use record::outcomes::Outcome;
 use record::outcomes::REFUSALS;
 ghost use Prim.Native.Nat.{_<_};
 
-// The outcomes that are counted apart: four answers, then the refusals.
-pub const COUNTS: usize = 4 + REFUSALS as usize;
+// The outcomes that are counted apart: five answers, then the refusals.
+pub const COUNTS: usize = 5 + REFUSALS as usize;
 
-// The code of an outcome: 0 to 3 for an answer, 10 + n for refusal n.
+// The code of an outcome: 0 to 4 for an answer, 10 + n for refusal n.
 pub fn code(o: Outcome) -> u16 {
     match o {
         Outcome::Done => 0,
         Outcome::Offset(_) => 1,
         Outcome::Given(_) => 2,
         Outcome::Staled(_) => 3,
+        Outcome::Pairs(_) => 4,
         Outcome::Refused(r) => 10 + r.number() as u16,
     }
 }
@@ -25,20 +26,22 @@ pub fn number(o: Outcome) -> u16 {
         Outcome::Offset(n) => n,
         Outcome::Given(n) => n,
         Outcome::Staled(n) => n as u16,
+        Outcome::Pairs(n) => n,
         Outcome::Refused(_) => 0,
     }
 }
 
 // Which of the counts an outcome adds to.
 fn place(o: Outcome) -> usize
-    ensures { λ r. ⌜ r < 18 ⌝ }
+    ensures { λ r. ⌜ r < 21 ⌝ }
 {
     match o {
         Outcome::Done => 0,
         Outcome::Offset(_) => 1,
         Outcome::Given(_) => 2,
         Outcome::Staled(_) => 3,
-        Outcome::Refused(r) => 3 + wide_octet(r.number()),
+        Outcome::Pairs(_) => 4,
+        Outcome::Refused(r) => 4 + wide_octet(r.number()),
     }
 }
 

@@ -29,6 +29,7 @@ fn told(call: &[u8], a: Answer) -> Store {
         Outcome::Offset(n) => print_number(b": offset ", n),
         Outcome::Given(n) => print_number(b": bytes given ", n),
         Outcome::Staled(n) => print_number(b": granted, made stale ", n as u16),
+        Outcome::Pairs(n) => print_number(b": pairs listed ", n),
         Outcome::Refused(_) => print(b": refused"),
     }
     print(b"\n");

@@ -2,7 +2,7 @@
 // numbers, whatever its kind; they, the phase (i div 256) and a guess at which transactions are open give all about the call.
 ghost use Prim.Native.Nat.{_≤_, _<_};
 
-// The modes. Mode 1, crowded, differs by the tables alone.
+// The modes. Modes 1, crowded, and 6, scattered, differ by the tables alone.
 const MIXED: usize = 0;
 
 const MANY_RECORDS: usize = 2;
@@ -26,60 +26,78 @@ pub const GET_FILE_POINTER: usize = 4;
 
 pub const READ: usize = 5;
 
-pub const COMMIT: usize = 6;
+pub const PLACES: usize = 6;
 
-pub const ABORT: usize = 7;
+pub const COMMIT: usize = 7;
 
-// How many of 1,000 calls are of each kind, eight numbers a mode: mixed, crowded, many records, long writes, near the end, long reads.
-const WEIGHTS: [usize; 48] = [
-    4,
-    20,
-    230,
-    270,
-    90,
-    236,
-    105,
-    45,
-    4,
-    20,
-    180,
-    230,
-    140,
-    210,
-    170,
-    46,
-    4,
-    10,
-    60,
-    840,
-    10,
-    56,
-    12,
-    8,
-    4,
-    20,
-    230,
-    460,
-    30,
-    106,
-    95,
-    55,
-    4,
-    20,
-    230,
-    280,
-    90,
-    170,
-    156,
-    50,
+pub const ABORT: usize = 8;
+
+// How many of 1,000 calls are of each kind, nine numbers a mode: mixed, crowded, many records, long writes, near the end, long reads,
+// scattered.
+const WEIGHTS: [usize; 63] = [
     4,
     20,
     220,
     260,
-    70,
-    280,
-    105,
-    41,
+    85,
+    226,
+    40,
+    102,
+    43,
+    4,
+    20,
+    175,
+    225,
+    130,
+    200,
+    40,
+    162,
+    44,
+    4,
+    10,
+    60,
+    800,
+    10,
+    56,
+    40,
+    12,
+    8,
+    4,
+    20,
+    220,
+    440,
+    30,
+    101,
+    40,
+    92,
+    53,
+    4,
+    20,
+    220,
+    270,
+    85,
+    160,
+    40,
+    151,
+    50,
+    4,
+    20,
+    210,
+    250,
+    65,
+    270,
+    40,
+    102,
+    39,
+    4,
+    20,
+    340,
+    340,
+    20,
+    100,
+    150,
+    16,
+    10,
 ];
 
 // What is wrong with the buffers or the record lent to a call; short and forgery are 0 where nothing is.
@@ -99,9 +117,11 @@ pub struct Request {
     pub kind: usize,
     pub transaction: usize,
     pub descriptor: usize,
+    // The file that Places asks about.
+    pub file: usize,
     // Where a Seek goes, how many bytes a Write has or a Read wants.
     pub number: usize,
-    // The length of the reader's buffer, 0 for a call that is no Read.
+    // The length of the buffer lent for the answer, 0 for a call that is no Read or Places.
     pub buffer: usize,
     // The first byte of a Write, and what each byte has more than the one before.
     pub first: u8,
@@ -149,6 +169,7 @@ fn transactions_used(mode: usize) -> usize
         2 => 2,
         3 => 3,
         4 => 6,
+        6 => 2,
         _ => 8,
     }
 }
@@ -161,6 +182,7 @@ fn files_used(mode: usize) -> usize
         1 => 2,
         4 => 3,
         5 => 4,
+        6 => 2,
         _ => 8,
     }
 }
@@ -185,7 +207,7 @@ fn transaction(phase: usize, r: usize) -> usize
     if class < 4 {
         return value % 8;
     }
-    let used = transactions_used(phase % 6);
+    let used = transactions_used(phase % 7);
     (phase + one_below(used, value)) % 8
 }
 
@@ -200,14 +222,25 @@ fn descriptor(mode: usize, r: usize) -> usize {
     one_below(used, value) + 8 * (value / 64 % 2)
 }
 
+// One of the mode's files, now and then 8 or 9.
+fn file(mode: usize, r: usize) -> usize {
+    let class = r % 40;
+    let value = r / 40;
+    if class == 0 {
+        return 8 + value % 2;
+    }
+    let used = files_used(mode);
+    one_below(used, value)
+}
+
 // The kind, by the weights of the mode.
 fn kind(mode: usize, r: usize) -> usize
-    requires { ⌜ mode < 6 ⌝ }
+    requires { ⌜ mode < 7 ⌝ }
 {
     let mut rest = r % 1000;
     let mut k = FRESH;
     while k < ABORT {
-        let weight = WEIGHTS[8 * mode + k];
+        let weight = WEIGHTS[9 * mode + k];
         if rest < weight {
             return k;
         }
@@ -369,9 +402,23 @@ fn number(kind: usize, mode: usize, class: usize, value: usize) -> usize {
     read_count(mode, class, value)
 }
 
-fn buffer(kind: usize, mode: usize, class: usize) -> usize {
+// The length of the buffer for a list: often room for a few pairs, below five; otherwise 64 bytes, or 300, which every list fits.
+fn list_room(class: usize, value: usize) -> usize {
+    if class < 10 {
+        return value % 20;
+    }
+    if class < 13 {
+        return 64;
+    }
+    300
+}
+
+fn buffer(kind: usize, mode: usize, class: usize, value: usize) -> usize {
     if kind == READ {
         return reader_length(mode, class);
+    }
+    if kind == PLACES {
+        return list_room(class, value);
     }
     0
 }
@@ -490,7 +537,7 @@ pub fn requested(r: [usize; 12], phase: usize, guess: [bool; 8]) -> Request
     requires { ⌜ phase < 65536 ⌝ }
     ensures { λ a. ⌜ (a .damage .transaction < 8) × (a .damage .index < 16) ⌝ }
 {
-    let mode = phase % 6;
+    let mode = phase % 7;
     let class = r[3] % 16;
     let t = transaction(phase, r[1]);
     let k = begun_first(kind(mode, r[0]), t, guess, r[11]);
@@ -500,8 +547,9 @@ pub fn requested(r: [usize; 12], phase: usize, guess: [bool; 8]) -> Request
         kind: k,
         transaction: t,
         descriptor: descriptor(mode, r[2]),
+        file: file(mode, r[2]),
         number: number(k, mode, class, r[4]),
-        buffer: buffer(k, mode, class),
+        buffer: buffer(k, mode, class, r[4]),
         first: written(r[5], r[6]),
         step: written(r[6], r[6]),
         list,

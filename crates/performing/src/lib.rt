@@ -84,6 +84,19 @@ fn read<'a>(
     )
 }
 
+fn places(
+    s: Store,
+    journal: &[u16; NUMBERS],
+    q: Request,
+    files: &[u8],
+    logs: &[u8],
+    marks: &[u8],
+    out: &mut [u8],
+) -> Answer {
+    put(out, 165, 0);
+    store::places(s, journal, files, logs, marks, q.transaction, q.file, out)
+}
+
 // The calls that lend no buffer but the store's.
 fn plain(
     s: Store,
@@ -129,6 +142,10 @@ fn by_kind(
     if q.kind == generator::READ {
         let n = within(q.buffer, reader);
         return read(s, journal, q, files, logs, marks, &mut reader[..n]);
+    }
+    if q.kind == generator::PLACES {
+        let n = within(q.buffer, reader);
+        return places(s, journal, q, files, logs, marks, &mut reader[..n]);
     }
     plain(s, journal, q, files, logs, marks)
 }

@@ -1,11 +1,12 @@
 -- What the calls answer, in the numbers and values of paper 01.
 use Prim.Native.Nat.{ℕ}
 use Rattle.record.specs.declared.outcomes.Refusal.{Refusal}
-use Rattle.record.specs.declared.outcomes.Refusal.the-variants.{BufferLength, RecordRange, NoSuchTransaction, NotOpen, AlreadyOpen, NoSuchDescriptor, ReaderTooShort, SeekPastEnd, WritePastEnd, RecordsFull, LogFull, SettledPastEnd, Stale, NoSuchFile}
+use Rattle.record.specs.declared.outcomes.Refusal.the-variants.{BufferLength, RecordRange, NoSuchTransaction, NotOpen, AlreadyOpen, NoSuchDescriptor, ReaderTooShort, SeekPastEnd, WritePastEnd, RecordsFull, LogFull, SettledPastEnd, Stale, NoSuchFile, NoPlaceYet, ListTooLong}
 use Rattle.record.specs.declared.outcomes.Outcome.{Outcome}
-use Rattle.record.specs.declared.outcomes.Outcome.the-variants.{Done, Offset, Given, Staled, Refused}
+use Rattle.record.specs.declared.outcomes.Outcome.the-variants.{Done, Offset, Given, Staled, Pairs, Refused}
 
--- "What a turned-down call brings": the column Returned.
+-- "What a turned-down call brings": the column Returned. From 15 on paper 02: "a new refusal number joins demand 1's fourteen and
+-- 01's table".
 abbrev pub number : Refusal → ℕ
 number BufferLength = 1
 number RecordRange = 2
@@ -21,18 +22,21 @@ number LogFull = 11
 number SettledPastEnd = 12
 number Stale = 13
 number NoSuchFile = 14
+number NoPlaceYet = 15
+number ListTooLong = 16
 
 -- How many they are: the numbers go from 1 to this.
 abbrev pub refusals : ℕ
-refusals = 14
+refusals = 16
 
 -- "Read answers the count of bytes given; Fresh, Begin, Seek, Write and Abort answer plainly"; "GetFilePointer answers the
--- offset"; "Commit answers how many became stale by it"; or the number of a refusal.
+-- offset"; "Commit answers how many became stale by it"; F-1: "The answer is the count of pairs"; or the number of a refusal.
 pub data Said : Type 0 where
   plain : Said
   pointer : ℕ → Said
   given : ℕ → Said
   granted : ℕ → Said
+  pairs : ℕ → Said
   refused : ℕ → Said
 
 -- Each case of the enum `Outcome` in those terms.
@@ -41,4 +45,5 @@ said Done = plain
 said (Offset o) = pointer o
 said (Given n) = given n
 said (Staled n) = granted n
+said (Pairs n) = pairs n
 said (Refused r) = refused (number r)

@@ -3,7 +3,7 @@ use crate::Store;
 ghost use mathlib.Core.Path.{_≡_};
 ghost use Rattle.record.specs.Paper.{number};
 
-// The refusals, in the order of paper 01's table.
+// The refusals, in the order of their numbers: paper 01's table, then those of paper 02.
 pub enum Refusal {
     BufferLength,
     RecordRange,
@@ -19,10 +19,12 @@ pub enum Refusal {
     SettledPastEnd,
     Stale,
     NoSuchFile,
+    NoPlaceYet,
+    ListTooLong,
 }
 
 // How many they are; their numbers in the paper go from 1 to this.
-pub const REFUSALS: u8 = 14;
+pub const REFUSALS: u8 = 16;
 
 impl Refusal {
     // Its number in the paper.
@@ -44,16 +46,20 @@ impl Refusal {
             Refusal::SettledPastEnd => 12,
             Refusal::Stale => 13,
             Refusal::NoSuchFile => 14,
+            Refusal::NoPlaceYet => 15,
+            Refusal::ListTooLong => 16,
         }
     }
 }
 
-// The result of a call: plain, an offset, a count of bytes given, how many others a granted Commit made stale, or a refusal.
+// The result of a call: plain, an offset, a count of bytes given, how many others a granted Commit made stale,
+// a count of pairs, or a refusal.
 pub enum Outcome {
     Done,
     Offset(u16),
     Given(u16),
     Staled(u8),
+    Pairs(u16),
     Refused(Refusal),
 }
 

@@ -1,4 +1,4 @@
-// What the eight calls share: a call that is turned down, and the laws of the tests before a call (proofs/Turns.antt).
+// What the calls share: a call that is turned down, and the laws of the tests before a call (proofs/Turns.antt).
 use record::Store;
 use record::outcomes::Answer;
 use record::outcomes::Outcome;

@@ -6,7 +6,7 @@ use Prim.Native.Nat.{ℕ, _≤_}
 use Rattle.octets.specs.Marks.{hasMark}
 use Rattle.record.specs.declared.outcomes.Refusal.the-variants.{Stale}
 use Rattle.record.specs.Paper.{number, plain, granted, refused}
-use Rattle.rules.specs.Messages.{seek, write, getFilePointer, read, Call, begin, on, commit, abort}
+use Rattle.rules.specs.Messages.{seek, write, getFilePointer, read, Call, begin, on, commit, abort, places}
 use Rattle.rules.specs.Machine.{Machine}
 use Rattle.rules.specs.Calls.{fresh, call}
 
@@ -18,12 +18,14 @@ isWrite (on t (getFilePointer d)) = false
 isWrite (on t (read d n buffer)) = false
 isWrite (commit t) = false
 isWrite (abort t) = false
+isWrite (places t f out) = false
 
 unfoldable pub isCommit : Call → Bool
 isCommit (begin t) = false
 isCommit (on t o) = false
 isCommit (commit t) = true
 isCommit (abort t) = false
+isCommit (places t f out) = false
 
 -- Transaction t has no mark.
 abbrev pub Unmarked : ℕ → Machine → Type 0

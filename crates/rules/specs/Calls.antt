@@ -1,4 +1,4 @@
--- The rules of the eight calls on the record and the buffers: outcome, record, files, logs, marks and reader's buffer, for every
+-- The rules of the nine calls on the record and the buffers: outcome, record, files, logs, marks and reader's buffer, for every
 -- input. The promises of the code cite these.
 use mathlib.Core.Bool.{Bool, false, cond, not, _&&_, _||_}
 use mathlib.Core.List.{List, [], _∷_}
@@ -18,8 +18,9 @@ use Rattle.rules.specs.Items.{Item, byte, offset, result, asked}
 use Rattle.standings.specs.Table.{isKnown}
 use Rattle.rules.specs.Messages.{Op, seek, write, getFilePointer, read, bufferOf}
 use Rattle.rules.specs.Steps.{Stepped, refuse, accept, step}
+use Rattle.rules.specs.Coverage.{placesOf}
 use Rattle.rules.specs.Commits.{Setting, settings, fits, commitRefusal}
-use Rattle.rules.specs.Messages.{Call, begin, on, commit, abort, Reply}
+use Rattle.rules.specs.Messages.{Call, begin, on, commit, abort, places, Reply}
 use Rattle.rules.specs.Machine.{Machine, lent, withStore, withJournal, withFiles, withLogs, withMarking, sizes, tabulate, fileOf, values, txnOf, withTxn, journalled}
 
 -- A call's reply, and the store after it.
@@ -168,18 +169,25 @@ commitTurn t m =
     let x = txnOf (m .store) (m .journal) (m .logs) t in
     commitDecided t (settings (fileOf (m .store)) v x) m (commitRefusal (transaction (m .store) t .stale) (fits v x))
 
+-- F-1: "A new call lists, for one open transaction and one file, the places its writes cover"; "a new call changes only what its
+-- request says": nothing but the buffer for the list.
+unfoldable pub placesTurn : ℕ → ℕ → List ℕ → Machine → Turn
+placesTurn t f out m =
+    record { reply = placesOf (fileOf (m .store)) f out (txnOf (m .store) (m .journal) (m .logs) t); after = m }
+
 -- The shared tests, 1 to 4, on what a caller lends.
 unfoldable pub admitted : ℕ → List ℕ → Machine → Turn → Turn
 admitted t buffer m next =
     passing (admission (sizes m) (m .store) (m .journal) t) buffer m next
 
--- The seven calls of demand 3.
+-- The calls of demand 3, and F-1's.
 unfoldable pub call : Call → Machine → Turn
 call (begin t) m =
     passing (admissionOfBegin (sizes m) (m .store) (m .journal) t) [] m (beginTurn t m)
 call (on t o) m = admitted t (bufferOf o) m (stepTurn t o m)
 call (commit t) m = admitted t [] m (commitTurn t m)
 call (abort t) m = admitted t [] m (abortTurn t m)
+call (places t f out) m = admitted t out m (placesTurn t f out m)
 
 -- A list of calls: the store after it, and its replies.
 unfoldable pub callsAfter : List Call → Machine → Machine

@@ -4,8 +4,8 @@ use mathlib.Core.Path.{_≡_}
 use lib.ListN.{replicate}
 use Rattle.record.specs.Paper.{plain, pointer, granted, refused}
 use Rattle.rules.specs.Items.{byte, offset}
-use Rattle.rules.specs.Messages.{seek, write, getFilePointer, read, begin, on, commit, abort, says}
-use Rattle.rules.specs.Setup.{Seen, Exchange, _⇒_, callsOf, Goes, sighted, committedBytes, beginning, sightingsOf, gives, refusesRead, begins, A, B, C, X, Y, Z, dot}
+use Rattle.rules.specs.Messages.{seek, write, getFilePointer, read, begin, on, commit, abort, places, says}
+use Rattle.rules.specs.Setup.{Seen, Exchange, _⇒_, callsOf, Goes, sighted, committedBytes, beginning, sightingsOf, gives, refusesWith, lists, begins, A, B, C, X, Y, Z, dot}
 use Rattle.rules.specs.Situations.{toldK, toldL}
 
 -- "Checked in this order, save that 13 comes before 12": T0 is stale by the offset of 1, and its write on 0 would run past the end.
@@ -29,7 +29,7 @@ toldRefusedSettling =
     ∷ commit 0 ⇒ says (granted 0)
     ∷ on 1 (write 0 (A ∷ [])) ⇒ says plain
     ∷ on 1 (getFilePointer 0) ⇒ says (refused 12)
-    ∷ on 1 (read 0 1 (dot ∷ [])) ⇒ refusesRead 12 (dot ∷ [])
+    ∷ on 1 (read 0 1 (dot ∷ [])) ⇒ refusesWith 12 (dot ∷ [])
     ∷ []
 
 -- So T1 is not stale when the offset is set again.
@@ -183,13 +183,13 @@ toldArguments =
     begins
     ++ on 1 (seek 0 4096) ⇒ says plain
     ∷ commit 1 ⇒ says (granted 0)
-    ∷ on 0 (read 16 2 (dot ∷ [])) ⇒ refusesRead 6 (dot ∷ [])
+    ∷ on 0 (read 16 2 (dot ∷ [])) ⇒ refusesWith 6 (dot ∷ [])
     ∷ on 0 (seek 16 4097) ⇒ says (refused 6)
     ∷ on 0 (write 16 (replicate 4097 A)) ⇒ says (refused 6)
     ∷ on 0 (getFilePointer 16) ⇒ says (refused 6)
     ∷ on 0 (write 0 (A ∷ [])) ⇒ says plain
-    ∷ on 0 (read 0 2 (dot ∷ [])) ⇒ refusesRead 7 (dot ∷ [])
-    ∷ on 0 (read 0 1 (dot ∷ [])) ⇒ refusesRead 12 (dot ∷ [])
+    ∷ on 0 (read 0 2 (dot ∷ [])) ⇒ refusesWith 7 (dot ∷ [])
+    ∷ on 0 (read 0 1 (dot ∷ [])) ⇒ refusesWith 12 (dot ∷ [])
     ∷ []
 
 -- "Checked in this order": 9 before 11, 10 before 11. A Write of 4,096 bytes fills the log; the last Write is the 65th record.
@@ -279,7 +279,7 @@ toldMovedTwice =
     ∷ on 0 (seek 0 5) ⇒ says plain
     ∷ on 0 (write 0 (B ∷ C ∷ [])) ⇒ says plain
     ∷ on 0 (getFilePointer 0) ⇒ says (pointer 7)
-    ∷ on 0 (read 0 1 (dot ∷ [])) ⇒ refusesRead 12 (dot ∷ [])
+    ∷ on 0 (read 0 1 (dot ∷ [])) ⇒ refusesWith 12 (dot ∷ [])
     ∷ commit 0 ⇒ says (refused 12)
     ∷ on 2 (seek 0 4095) ⇒ says plain
     ∷ commit 2 ⇒ says (granted 0)
@@ -366,6 +366,39 @@ toldSettledAlone =
     ∷ commit 0 ⇒ says (granted 0)
     ∷ []
 
+-- F-1: "sorted by offset; touching stretches are joined and none is empty": 5 and 6, and 7 through 8, are one stretch, 9 is another, and
+-- the write of 0 bytes at 12 is none. "16 when the buffer is shorter than the list, last": by one byte. "the rest of it is left"
+unfoldable pub toldPlaces : List Exchange
+toldPlaces =
+    begins
+    ++ on 0 (seek 0 9) ⇒ says plain
+    ∷ on 0 (write 0 (X ∷ [])) ⇒ says plain
+    ∷ on 0 (seek 8 7) ⇒ says plain
+    ∷ on 0 (write 8 (C ∷ [])) ⇒ says plain
+    ∷ on 0 (seek 0 5) ⇒ says plain
+    ∷ on 0 (write 0 (A ∷ B ∷ [])) ⇒ says plain
+    ∷ on 0 (seek 0 12) ⇒ says plain
+    ∷ on 0 (write 0 []) ⇒ says plain
+    ∷ places 0 0 (replicate 7 dot) ⇒ refusesWith 16 (replicate 7 dot)
+    ∷ places 0 0 (replicate 9 dot) ⇒ lists 2 (0 ∷ 5 ∷ 0 ∷ 3 ∷ 0 ∷ 9 ∷ 0 ∷ 1 ∷ dot ∷ [])
+    ∷ places 0 1 [] ⇒ lists 0 []
+    ∷ []
+
+-- "15 when a write on that file has no place yet, after 4 and a file number above 7 (which is 6)": until T0 looks; a write of 0 bytes too.
+unfoldable pub toldNoPlaceYet : List Exchange
+toldNoPlaceYet =
+    begins
+    ++ on 0 (write 0 (A ∷ [])) ⇒ says plain
+    ∷ on 1 (write 8 []) ⇒ says plain
+    ∷ places 3 8 [] ⇒ says (refused 4)
+    ∷ places 0 8 [] ⇒ says (refused 6)
+    ∷ places 0 0 [] ⇒ says (refused 15)
+    ∷ places 1 0 [] ⇒ says (refused 15)
+    ∷ places 1 1 [] ⇒ lists 0 []
+    ∷ on 0 (getFilePointer 0) ⇒ says (pointer 1)
+    ∷ places 0 0 (replicate 4 dot) ⇒ lists 1 (0 ∷ 0 ∷ 0 ∷ 1 ∷ [])
+    ∷ []
+
 -- What situations k and l and the corners come to, together.
 pub record Corners (x : Seen) : Type 0 where
   pub k : Goes x toldK
@@ -431,3 +464,5 @@ pub record Corners (x : Seen) : Type 0 where
       Goes x toldSettledAlone
       × (x .value (callsOf toldSettledAlone) (byte 4100) ≡ B)
       × (x .value (callsOf toldSettledAlone) (offset 1) ≡ 5)
+  pub listedPlaces : Goes x toldPlaces × (sightingsOf (callsOf toldPlaces) 0 ≡ [])
+  pub noPlaceYet : Goes x toldNoPlaceYet

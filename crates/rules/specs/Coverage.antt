@@ -1,5 +1,5 @@
 -- Request F-1, "Places a transaction would write": what its call lists, and what the list is held to.
-use mathlib.Core.Bool.{Bool, true, false, cond, _&&_, _||_}
+use mathlib.Core.Bool.{Bool, true, false, cond, not, _&&_, _||_}
 use mathlib.Core.List.{List, [], _∷_, _++_}
 use mathlib.Core.Path.{_≡_}
 use lib.Dec.{leb, ltb, eqb}
@@ -7,7 +7,11 @@ use lib.ListN.{length, drop}
 use Prim.Native.Nat.{ℕ, zero, suc, _+_, _*_, _/_, _%_, _≤_}
 use Rattle.standings.specs.declared.Place.{Place}
 use Rattle.standings.specs.declared.Place.the-variants.{At, After}
-use Rattle.rules.specs.Transactions.{Write}
+use Rattle.record.specs.Paper.{pairs, refused}
+use Rattle.ranges.specs.Below.{guarded, isNone}
+use Rattle.ranges.specs.Ranges.{unless}
+use Rattle.rules.specs.Messages.{Reply}
+use Rattle.rules.specs.Transactions.{Txn, Write}
 use Rattle.rules.specs.Reading.{over}
 
 -- ---- the places
@@ -91,6 +95,25 @@ encoded (s ∷ l) = (sixteen (s .offset) ++ sixteen (s .length)) ++ encoded l
 -- "The answer is the count of pairs, which stand at the buffer's front; the rest of it is left."
 abbrev pub withPairs : List Stretch → List ℕ → List ℕ
 withPairs l out = encoded l ++ drop (4 * length l) out
+
+-- ---- the reply
+
+-- "15 when a write on that file has no place yet, after 4 and a file number above 7 (which is 6); 16 when the buffer is shorter than
+-- the list, last." 0 stands for none.
+unfoldable pub placesRefusal : (ℕ → ℕ) → ℕ → List ℕ → Txn → ℕ
+placesRefusal fileOf f out x =
+    unless (leb f 7) 6
+    (unless (not (unplaced fileOf f (x .writes))) 15
+    (unless (leb (4 * length (stretchesOf (covered fileOf f (x .writes)))) (length out)) 16 0))
+
+-- What the call gives for an open transaction: the store and the plain machine both go by it.
+unfoldable pub placesReply : (ℕ → ℕ) → ℕ → List ℕ → Txn → ℕ → Reply
+placesReply fileOf f out x n =
+    guarded (λ k. record { answer = refused k; buffer = out }) (isNone n) n
+    (let l = stretchesOf (covered fileOf f (x .writes)) in record { answer = pairs (length l); buffer = withPairs l out })
+
+unfoldable pub placesOf : (ℕ → ℕ) → ℕ → List ℕ → Txn → Reply
+placesOf fileOf f out x = placesReply fileOf f out x (placesRefusal fileOf f out x)
 
 -- ---- what is proved of it
 

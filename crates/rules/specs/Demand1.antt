@@ -1,5 +1,5 @@
--- Demand 1, beside its wording: "Every call .. ends in its result or one of fourteen refusals .., each under its written condition
--- only. A refusal changes no buffer and no record, save that a commit refused as stale (13) ends its transaction as an abort does."
+-- Demand 1, beside its wording: "Every call .. ends in its result or one of fourteen refusals (02 adds more), each under its written
+-- condition only. A refusal changes no buffer and no record, save that a commit refused as stale (13) ends its transaction as an abort does."
 -- (The conditions are those of the rules: ranges/specs/Ranges.antt, Steps.antt, Commits.antt.)
 use mathlib.Core.List.{List}
 use mathlib.Core.Path.{_≡_}
@@ -18,7 +18,7 @@ IsRefusal n = (1 ≤ n) × (n ≤ refusals)
 
 -- On any record and any buffers m, with any numbers.
 pub record Demand1On (m : Machine) : Type 0 where
-  -- "one of fourteen refusals"
+  -- "one of fourteen refusals (02 adds more)"
   pub known : (c : Call) (n : ℕ) → call c m .reply .answer ≡ refused n → IsRefusal n
   pub freshKnown : (numbers : List ℕ) (n : ℕ) → fresh numbers m .reply .answer ≡ refused n → IsRefusal n
   -- "A refusal changes no buffer and no record"

@@ -1,8 +1,8 @@
 -- The granted transactions of a list of calls, and the list of calls that runs them again alone.
 use mathlib.Core.List.{List, [], _∷_, _++_, map}
 use Prim.Native.Nat.{ℕ}
-use Rattle.record.specs.Paper.{Said, plain, pointer, given, granted, refused}
-use Rattle.rules.specs.Messages.{Call, begin, on, commit, abort, Reply, says}
+use Rattle.record.specs.Paper.{Said, plain, pointer, given, granted, pairs, refused}
+use Rattle.rules.specs.Messages.{Call, begin, on, commit, abort, places, Reply, says}
 use Rattle.rules.specs.Plain.{Accepted, Slot, closed, running, Plain, plainCall}
 
 -- A granted transaction: its number, and "the accepted Seeks, Writes, GetFilePointers and Reads since its Begin".
@@ -20,6 +20,7 @@ ifGranted plain gs = []
 ifGranted (pointer o) gs = []
 ifGranted (given n) gs = []
 ifGranted (granted n) gs = gs
+ifGranted (pairs n) gs = []
 ifGranted (refused n) gs = []
 
 unfoldable pub grantedBy : Call → Plain → List Grant
@@ -27,6 +28,7 @@ grantedBy (begin t) p = []
 grantedBy (on t o) p = []
 grantedBy (commit t) p = ifGranted (plainCall (commit t) p .reply .answer) (grantAt t (p .slots t))
 grantedBy (abort t) p = []
+grantedBy (places t f out) p = []
 
 -- Those of a list of calls, "in the order of their grants".
 unfoldable pub grantsOf : List Call → Plain → List Grant

@@ -10,7 +10,9 @@ pub mod Reading
 pub mod Steps
 -- What a commit sets.
 pub mod Commits
--- The store: the record and its buffers, the rules of the eight calls, and how promises cite them.
+-- What a transaction's writes cover (paper 02, F-1).
+pub mod Coverage
+-- The store: the record and its buffers, the rules of the nine calls, and how promises cite them.
 pub mod Machine
 pub mod Calls
 pub mod Promises
@@ -24,8 +26,6 @@ pub mod Demand1
 pub mod Demand3
 pub mod Age
 pub mod Buffers
--- What a transaction's writes cover (paper 02, F-1): the list that its call will answer. No rule cites it yet.
-pub mod Coverage
 -- The situations and corners of paper 01.
 pub mod Setup
 pub mod Situations

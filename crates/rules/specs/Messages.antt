@@ -10,14 +10,16 @@ pub data Op : Type 0 where
   getFilePointer : ℕ → Op
   read : ℕ → ℕ → List ℕ → Op
 
--- "Begin, Seek, Write, GetFilePointer, Read, Commit and Abort calls", each with its transaction number.
+-- "Begin, Seek, Write, GetFilePointer, Read, Commit and Abort calls", each with its transaction number; and F-1's, with a file and
+-- the buffer for the list.
 pub data Call : Type 0 where
   begin : ℕ → Call
   on : ℕ → Op → Call
   commit : ℕ → Call
   abort : ℕ → Call
+  places : ℕ → ℕ → List ℕ → Call
 
--- The reader's buffer of a call; empty where it has none.
+-- The reader's buffer of a call, or that for its list; empty where it has none.
 unfoldable pub bufferOf : Op → List ℕ
 bufferOf (seek d v) = []
 bufferOf (write d bytes) = []
@@ -29,6 +31,7 @@ bufferOfCall (begin t) = []
 bufferOfCall (on t o) = bufferOf o
 bufferOfCall (commit t) = []
 bufferOfCall (abort t) = []
+bufferOfCall (places t f out) = out
 
 -- What a call gives: its answer, and the reader's buffer after it (empty where it has none).
 pub record Reply : Type 0 where

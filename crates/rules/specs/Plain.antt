@@ -6,10 +6,11 @@ use Prim.Native.Nat.{ℕ, zero, suc, _+_}
 use Rattle.record.specs.declared.outcomes.Refusal.the-variants.{Stale}
 use Rattle.record.specs.Paper.{number, Said, plain, granted, refused}
 use Rattle.ranges.specs.Below.{guarded}
-use Rattle.rules.specs.Messages.{Op, bufferOf, Call, begin, on, commit, abort, Reply}
+use Rattle.rules.specs.Messages.{Op, bufferOf, Call, begin, on, commit, abort, places, Reply}
 use Rattle.rules.specs.Items.{Values, result, asked}
 use Rattle.rules.specs.Transactions.{Txn, empty, put}
 use Rattle.rules.specs.Steps.{Stepped, refuse, accept, step}
+use Rattle.rules.specs.Coverage.{placesOf}
 use Rattle.rules.specs.Commits.{settings, fits, landed, setBy, commitRefusal}
 use Rattle.rules.specs.Sightings.{Entry, sameEntries, Committed, entries}
 use Rattle.rules.specs.Lone.{lone}
@@ -145,6 +146,11 @@ unfoldable pub plainAbort : ℕ → Slot → Plain → PlainTurn
 plainAbort t closed p = turnedDown 4 [] p
 plainAbort t (running r) p = answering plain (withSlot t closed p)
 
+-- F-1, "for the plain machine too": it answers from what it holds, and adds nothing to the transaction's accepted calls.
+unfoldable pub plainPlaces : ℕ → List ℕ → Slot → Plain → PlainTurn
+plainPlaces f out closed p = turnedDown 4 out p
+plainPlaces f out (running r) p = record { reply = placesOf (p .fileOf) f out (r .txn); after = p }
+
 -- 3: "transaction number above 7"
 unfoldable pub numbered : ℕ → List ℕ → (Slot → Plain → PlainTurn) → Plain → PlainTurn
 numbered t buffer next p = guarded (λ n. turnedDown n buffer p) (leb t 7) 3 (next (p .slots t) p)
@@ -154,6 +160,7 @@ plainCall (begin t) p = numbered t [] (plainBegin t) p
 plainCall (on t o) p = numbered t (bufferOf o) (plainOn t o) p
 plainCall (commit t) p = numbered t [] (plainCommit t) p
 plainCall (abort t) p = numbered t [] (plainAbort t) p
+plainCall (places t f out) p = numbered t out (plainPlaces f out) p
 
 -- A list of calls: the machine after it, and its replies.
 unfoldable pub plainAfter : List Call → Plain → Plain

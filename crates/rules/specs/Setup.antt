@@ -3,7 +3,7 @@ use mathlib.Core.List.{List, [], _∷_, map}
 use mathlib.Core.Path.{_≡_}
 use lib.ListN.{getD}
 use Prim.Native.Nat.{ℕ, zero, suc, _*_}
-use Rattle.record.specs.Paper.{plain, given, refused}
+use Rattle.record.specs.Paper.{plain, given, pairs, refused}
 use Rattle.rules.specs.Items.{Item, byte, Values}
 use Rattle.rules.specs.Messages.{Call, begin, Reply, says}
 use Rattle.rules.specs.Sightings.{Entry}
@@ -75,11 +75,15 @@ sighted i n = record { item = i; setter = n }
 abbrev pub gives : ℕ → List ℕ → Reply
 gives n buffer = record { answer = given n; buffer = buffer }
 
--- The reply of a refused Read, with the reader's buffer.
-abbrev pub refusesRead : ℕ → List ℕ → Reply
-refusesRead n buffer = record { answer = refused n; buffer = buffer }
+-- The reply of a call that lists places, with its buffer.
+abbrev pub lists : ℕ → List ℕ → Reply
+lists n buffer = record { answer = pairs n; buffer = buffer }
 
--- The bytes that the situations write, and the one that fills a reader's buffer before a Read.
+-- That of a refused one of both, with the buffer.
+abbrev pub refusesWith : ℕ → List ℕ → Reply
+refusesWith n buffer = record { answer = refused n; buffer = buffer }
+
+-- The bytes that the situations write, and the one that fills a buffer before a call that writes there.
 abbrev pub A : ℕ
 A = 65
 

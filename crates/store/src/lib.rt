@@ -1,6 +1,7 @@
-// The eight calls. Each takes the record, its first part by value and the journal lent, and the three store buffers, has no precondition, and answers its outcome with the
-// record to keep; its promise stands at the function.
+// The nine calls. Each takes the record, its first part by value and the journal lent, and the three store buffers, has no precondition,
+// and answers its outcome with the record to keep; its promise stands at the function.
 pub use committing::commit;
+pub use coverage::places;
 pub use editing::seek;
 pub use editing::write;
 pub use lifecycle::abort;

@@ -42,7 +42,7 @@ fn start(files: &mut [u8], logs: &[u8], marks: &mut [u8]) -> Course
     }
 }
 
-// The course after a call, from its answer, the journal and the reader's buffer. A forged record is dropped.
+// The course after a call, from its answer, the journal and the buffer lent for the answer. A forged record is dropped.
 fn course_after(
     mut c: Course,
     q: Request,

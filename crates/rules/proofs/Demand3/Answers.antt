@@ -5,7 +5,7 @@ use mathlib.Core.Path.{_≡_, refl, sym, ap, _∙_, subst}
 use borrow.Author.Tests.{leb-true, eq-eqb}
 use lib.Dec.{leb, eqb}
 use Prim.Native.Nat.{ℕ, _≤_, min}
-use Rattle.record.specs.Paper.{number, refusals, Said, plain, pointer, given, granted, refused}
+use Rattle.record.specs.Paper.{number, refusals, Said, plain, pointer, given, granted, pairs, refused}
 use Rattle.record.specs.declared.outcomes.Refusal.the-variants.{Stale}
 use Rattle.ranges.proofs.Laws.{and-left, and-right}
 use Rattle.rules.specs.Items.{Item, Values, Prog, done, ask, andThen, result}
@@ -19,6 +19,7 @@ IsAnswer plain = Unit {0}
 IsAnswer (pointer o) = Unit {0}
 IsAnswer (given n) = Unit {0}
 IsAnswer (granted n) = Unit {0}
+IsAnswer (pairs n) = Unit {0}
 IsAnswer (refused n) = ⊥
 
 pub answer-not-refused : (a : Said) (n : ℕ) → IsAnswer a → a ≡ refused n → ⊥

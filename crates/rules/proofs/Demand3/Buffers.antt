@@ -12,11 +12,11 @@ use Rattle.record.specs.declared.Transaction.{Transaction}
 use Rattle.record.specs.State.{begun, ended}
 use Rattle.record.specs.Paper.{Said, plain, granted, refused}
 use Rattle.rules.specs.Items.{Item}
-use Rattle.rules.specs.Messages.{Op, seek, write, getFilePointer, read, bufferOf, Call, begin, on, commit, abort}
+use Rattle.rules.specs.Messages.{Op, seek, write, getFilePointer, read, bufferOf, Call, begin, on, commit, abort, places}
 use Rattle.rules.specs.Steps.{Stepped, refuse, accept}
 use Rattle.rules.specs.Commits.{Setting, commitRefusal}
 use Rattle.rules.specs.Machine.{Machine}
-use Rattle.rules.specs.Calls.{Turn, answer, turnDown, passing, fresh, freshMachine, reset, beginTurn, abortTurn, logged, served, stepTurn, commitGranted, commitDecided, commitTurn, admitted, call}
+use Rattle.rules.specs.Calls.{Turn, answer, turnDown, passing, fresh, freshMachine, reset, beginTurn, abortTurn, logged, served, stepTurn, commitGranted, commitDecided, commitTurn, admitted, call, placesTurn}
 use Rattle.rules.specs.Buffers.{isWrite, isCommit, Unmarked, Buffers}
 use Rattle.rules.proofs.Demand3.Answers.{IsAnswer, answer-not-refused, Leaving}
 use Rattle.rules.proofs.Demand3.Refusals.{refused-same, admission-leaving, passing-zero, passing-stale}
@@ -63,6 +63,7 @@ call-logs (begin t) m e = passing-leaves (λ x. x .logs) _ [] m (beginTurn t m) 
 call-logs (on t o) m e = passing-leaves (λ x. x .logs) _ (bufferOf o) m (stepTurn t o m) (served-logs t o m _ _ e)
 call-logs (commit t) m e = passing-leaves (λ x. x .logs) _ [] m (commitTurn t m) (decided-logs t _ m _)
 call-logs (abort t) m e = passing-leaves (λ x. x .logs) _ [] m (abortTurn t m) refl
+call-logs (places t f out) m e = passing-leaves (λ x. x .logs) _ out m (placesTurn t f out m) (unfold placesTurn in refl)
 
 call-files : (c : Call) (m : Machine) → isCommit c ≡ false → call c m .after .files ≡ m .files
 unfolding call admitted beginTurn abortTurn stepTurn answer reset isCommit
@@ -70,6 +71,7 @@ call-files (begin t) m e = passing-leaves (λ x. x .files) _ [] m (beginTurn t m
 call-files (on t o) m e = passing-leaves (λ x. x .files) _ (bufferOf o) m (stepTurn t o m) (served-files t o m _ _)
 call-files (commit t) m e = absurd (true≢false e)
 call-files (abort t) m e = passing-leaves (λ x. x .files) _ [] m (abortTurn t m) refl
+call-files (places t f out) m e = passing-leaves (λ x. x .files) _ out m (placesTurn t f out m) (unfold placesTurn in refl)
 
 -- The marks of a transaction that is replaced, or committed.
 cleared : (t : ℕ) (marks : List ℕ) → t ≤ 7 → (q : ℕ) → hasMark (withoutMarks t marks) t q ≡ false

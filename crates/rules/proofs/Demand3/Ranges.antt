@@ -1,4 +1,6 @@
 -- A sound store meets neither 1 nor 2.
+use Rattle.rules.specs.Transactions.{Txn}
+use Rattle.rules.specs.Coverage.{placesRefusal, placesReply, placesOf}
 use mathlib.Core.Bool.{Bool, true, false, cond, not}
 use mathlib.Core.List.{List, []}
 use mathlib.Core.Path.{_≡_, refl, sym, ap, _∙_, subst, subst⁻¹}
@@ -11,12 +13,12 @@ use Rattle.record.specs.State.{transaction}
 use Rattle.record.specs.Paper.{Said, plain, refused}
 use Rattle.ranges.specs.Ranges.{unless, shared, storeIn, admission, admissionOfBegin}
 use Rattle.rules.specs.Items.{Item}
-use Rattle.rules.specs.Messages.{Op, bufferOf}
+use Rattle.rules.specs.Messages.{Op, bufferOf, places}
 use Rattle.rules.specs.Steps.{Stepped, refuse, accept}
 use Rattle.rules.specs.Commits.{Setting, commitRefusal}
 use Rattle.rules.specs.Messages.{Call, begin, on, commit, abort}
 use Rattle.rules.specs.Machine.{Machine, fileOf, txnOf}
-use Rattle.rules.specs.Calls.{Turn, answer, turnDown, passing, beginTurn, abortTurn, served, stepTurn, commitGranted, commitDecided, commitTurn, admitted, call}
+use Rattle.rules.specs.Calls.{Turn, answer, turnDown, passing, beginTurn, abortTurn, served, stepTurn, commitGranted, commitDecided, commitTurn, admitted, call, placesTurn}
 use Rattle.rules.proofs.View.Shape.{Sound}
 use Rattle.rules.proofs.View.Admissions.{shared-is}
 use Rattle.rules.proofs.Demand3.Answers.{IsAnswer, answer-not-refused, Right, always-step, always-result}
@@ -68,14 +70,34 @@ module _ (m : Machine) (sound : Sound m) (t : ℕ) where
       (late-unless (leb t 7) (not (transaction (m .store) t .begun)) 5 (omega arith)))
       (late-answer _ tt)
 
+-- F-1's call.
+AtLeast3 : ℕ → Type 0
+AtLeast3 k = (j : ℕ) → k ≡ suc j → 3 ≤ k
+
+late-one : (b : Bool) (n later : ℕ) → 3 ≤ n → AtLeast3 later → AtLeast3 (unless b n later)
+unfolding unless AtLeast3
+late-one true n later h l = l
+late-one false n later h l = λ j e. h
+
+late-placed : (fileOf : ℕ → ℕ) (f : ℕ) (out : List ℕ) (x : Txn) (n : ℕ) → AtLeast3 n → Late (placesReply fileOf f out x n .answer)
+unfolding placesReply AtLeast3
+late-placed fileOf f out x zero h = late-answer _ tt
+late-placed fileOf f out x (suc k) h = λ n e. subst (λ (j : ℕ). 3 ≤ j) (refused-same (suc k) n e) (h k refl)
+
+places-late : (fileOf : ℕ → ℕ) (f : ℕ) (out : List ℕ) (x : Txn) → AtLeast3 (placesRefusal fileOf f out x)
+unfolding placesRefusal AtLeast3
+places-late fileOf f out x =
+    late-one _ 6 _ (omega arith) (late-one _ 15 _ (omega arith) (late-one _ 16 0 (omega arith) (λ j e. absurd (let z : _≡_ {A = ℕ} 0 (suc j) = e in omega arith))))
+
 late-call : (c : Call) (m : Machine) → Sound m → Late (call c m .reply .answer)
-unfolding call abortTurn answer stepTurn commitTurn
+unfolding call abortTurn answer stepTurn commitTurn placesTurn placesOf
 late-call (begin t) m s = late-begin m s t
 late-call (on t o) m s =
     late-admitted m s t (bufferOf o) (stepTurn t o m)
     (late-served t o m _ _ (always-result _ _ (always-step (fileOf (m .store)) o (txnOf (m .store) (m .journal) (m .logs) t))))
 late-call (commit t) m s = late-admitted m s t [] (commitTurn t m) (late-decided t _ m _ _)
 late-call (abort t) m s = late-admitted m s t [] (abortTurn t m) (late-answer _ tt)
+late-call (places t f out) m s = late-admitted m s t out (placesTurn t f out m) (late-placed _ f out _ _ (places-late _ f out _))
 
 pub never-early : (c : Call) (m : Machine) → Sound m → (call c m .reply .answer ≡ refused 2 → ⊥) × (call c m .reply .answer ≡ refused 1 → ⊥)
 never-early c m s = (

@@ -1,4 +1,6 @@
 -- Demand 1: what a refused call leaves.
+use Rattle.rules.specs.Transactions.{Txn}
+use Rattle.rules.specs.Coverage.{placesRefusal, placesReply, placesOf}
 use mathlib.Core.Bool.{Bool, true, false, cond}
 use mathlib.Core.List.{List, []}
 use mathlib.Core.Path.{_≡_, refl, sym, ap, _∙_, subst}
@@ -12,11 +14,11 @@ use Rattle.ranges.specs.Ranges.{Sizes, unless, shared, admission, admissionOfBe
 use Rattle.rules.specs.Items.{Item, result, asked}
 use Rattle.rules.specs.Steps.{Stepped, refuse, accept, step}
 use Rattle.rules.specs.Commits.{Setting, settings, fits, commitRefusal}
-use Rattle.rules.specs.Messages.{Op, bufferOf, bufferOfCall, Call, begin, on, commit, abort, Reply}
+use Rattle.rules.specs.Messages.{Op, bufferOf, bufferOfCall, Call, begin, on, commit, abort, Reply, places}
 use Rattle.rules.specs.Machine.{Machine, sizes, fileOf, values, txnOf}
 use Rattle.rules.specs.Promises.{Meets}
 use Rattle.rules.specs.Demand1.{IsRefusal, Demand1On, Demand1, RefusedByCode, Demand1OfCode}
-use Rattle.rules.specs.Calls.{Turn, answer, turnDown, passing, fresh, reset, beginTurn, abortTurn, served, stepTurn, commitGranted, commitDecided, commitTurn, admitted, call}
+use Rattle.rules.specs.Calls.{Turn, answer, turnDown, passing, fresh, reset, beginTurn, abortTurn, served, stepTurn, commitGranted, commitDecided, commitTurn, admitted, call, placesTurn}
 use Rattle.rules.proofs.Demand3.Answers.{IsAnswer, answer-not-refused, Leaving, later as later-on, Right, always-step, always-result}
 
 pub refused-same : (m n : ℕ) → refused m ≡ refused n → m ≡ n
@@ -89,8 +91,26 @@ leaves-admitted t buffer m w l =
     leaves-passing (admission (sizes m) (m .store) (m .journal) t) buffer m w
     (admission-leaving (sizes m) (m .store) (m .journal) t) l
 
+-- F-1's call.
+placed-leaving : (fileOf : ℕ → ℕ) (f : ℕ) (out : List ℕ) (x : Txn) → Leaving (placesRefusal fileOf f out x)
+unfolding placesRefusal
+placed-leaving fileOf f out x =
+    unless-leaving _ 6 _ (later-on 6 refl .1) (unless-leaving _ 15 _ (later-on 15 refl .1) (unless-leaving _ 16 0 (later-on 16 refl .1) none-leaving))
+
+leaves-placed : (m : Machine) (fileOf : ℕ → ℕ) (f : ℕ) (out : List ℕ) (x : Txn) (n : ℕ) → Leaving n
+    → Leaves m out (record { reply = placesReply fileOf f out x n; after = m })
+unfolding placesReply
+leaves-placed m fileOf f out x zero h = leaves-answer m out _ tt
+leaves-placed m fileOf f out x (suc n) h =
+    record { leaves = λ k e d. (refl, refl); known = λ k e. subst IsRefusal (refused-same (suc n) k e) (omega arith, h .0) }
+
+placed-not-13 : (fileOf : ℕ → ℕ) (f : ℕ) (out : List ℕ) (x : Txn) (n : ℕ) → Leaving n → placesReply fileOf f out x n .answer ≡ refused 13 → ⊥
+unfolding placesReply
+placed-not-13 fileOf f out x zero h e = answer-not-refused _ 13 tt e
+placed-not-13 fileOf f out x (suc n) h e = h .1 (refused-same (suc n) 13 e)
+
 leaves-call : (c : Call) (m : Machine) → Leaves m (bufferOfCall c) (call c m)
-unfolding call bufferOfCall beginTurn abortTurn answer stepTurn commitTurn
+unfolding call bufferOfCall beginTurn abortTurn answer stepTurn commitTurn placesTurn placesOf
 leaves-call (begin t) m =
     leaves-passing (admissionOfBegin (sizes m) (m .store) (m .journal) t) [] m _
     (begin-leaving (sizes m) (m .store) (m .journal) t) (leaves-answer m [] _ tt)
@@ -99,6 +119,7 @@ leaves-call (on t o) m =
     (leaves-served t o m _ _ (always-result _ _ (always-step (fileOf (m .store)) o (txnOf (m .store) (m .journal) (m .logs) t))))
 leaves-call (commit t) m = leaves-admitted t [] m _ (leaves-decided t _ m _ _)
 leaves-call (abort t) m = leaves-admitted t [] m _ (leaves-answer m [] _ tt)
+leaves-call (places t f out) m = leaves-admitted t out m _ (leaves-placed m _ f out _ _ (placed-leaving _ f out _))
 
 -- A refusal 13 is a Commit's, which then leaves what an Abort leaves.
 not-13 : (k : ℕ) (buffer : List ℕ) (m : Machine) (w : Turn) → Leaving k → (w .reply .answer ≡ refused 13 → ⊥) → passing k buffer m w .reply .answer ≡ refused 13 → ⊥
@@ -123,7 +144,7 @@ passing-ends zero m w z f e = f e
 passing-ends (suc k) m w z f e = refl
 
 ends-call : (c : Call) (m : Machine) → call c m .reply .answer ≡ refused 13 → (t : ℕ) × (c ≡ commit t) × (call c m .after ≡ call (abort t) m .after)
-unfolding call beginTurn abortTurn answer stepTurn commitTurn admitted
+unfolding call beginTurn abortTurn answer stepTurn commitTurn admitted placesTurn placesOf
 ends-call (begin t) m e =
     absurd (not-13 (admissionOfBegin (sizes m) (m .store) (m .journal) t) [] m _ (begin-leaving (sizes m) (m .store) (m .journal) t) (answer-not-refused _ 13 tt) e)
 ends-call (on t o) m e =
@@ -132,6 +153,8 @@ ends-call (commit t) m e =
     (t, refl, passing-ends (admission (sizes m) (m .store) (m .journal) t) m _ _ (decided-ends t _ m _ _) e)
 ends-call (abort t) m e =
     absurd (not-13 (admission (sizes m) (m .store) (m .journal) t) [] m _ (admission-leaving (sizes m) (m .store) (m .journal) t) (answer-not-refused _ 13 tt) e)
+ends-call (places t f out) m e =
+    absurd (not-13 (admission (sizes m) (m .store) (m .journal) t) out m _ (admission-leaving (sizes m) (m .store) (m .journal) t) (placed-not-13 _ f out _ _ (placed-leaving _ f out _)) e)
 
 leaves-fresh : (numbers : List ℕ) (m : Machine) → Leaves m [] (fresh numbers m)
 unfolding fresh answer admissionOfFresh

@@ -9,11 +9,11 @@ use lib.ListN.{length, getD}
 use native.Mathlib.Omega.{arith}
 use Prim.Native.Nat.{ℕ, zero, suc, _≤_, _<_}
 use Rattle.record.specs.State.{transaction}
-use Rattle.record.specs.Paper.{Said, plain, pointer, given, granted, refused, said}
+use Rattle.record.specs.Paper.{Said, plain, pointer, given, granted, pairs, refused, said}
 use Rattle.ranges.specs.Ranges.{admission, admissionOfFresh}
 use Rattle.ranges.proofs.Laws.{AdmittedFresh, admitted-fresh}
 use Rattle.rules.specs.Commits.{fits, commitRefusal}
-use Rattle.rules.specs.Messages.{Call, begin, on, commit, abort, Reply}
+use Rattle.rules.specs.Messages.{Call, begin, on, commit, abort, Reply, places}
 use Rattle.rules.specs.Plain.{Slot, closed, running, Running, Plain, startPlain, freshPlain, isStale, PlainTurn, turnedDown, answering, grant, becameStale, plainCommitted, plainCommit, numbered, plainCall, plainAfter, plainReplies, firstList, secondList}
 use Rattle.rules.specs.Items.{Values}
 use Rattle.rules.specs.Sightings.{Committed}
@@ -27,7 +27,7 @@ use Rattle.rules.proofs.Serial.Theorem.{replies-same, state-same, turn-
 use Rattle.rules.proofs.View.Shape.{Sound, heldBy, seat, view}
 use Rattle.rules.proofs.View.Admissions.{Agrees}
 use Rattle.rules.proofs.View.StepTurn.{step-turn}
-use Rattle.rules.proofs.View.EndTurns.{begin-turn, abort-turn, commit-turn}
+use Rattle.rules.proofs.View.EndTurns.{begin-turn, abort-turn, commit-turn, places-turn}
 use Rattle.rules.proofs.View.FreshView.{fresh-sound, fresh-view}
 use Rattle.rules.proofs.Demand3.Answers.{IsAnswer, answer-not-refused}
 use Rattle.rules.proofs.Demand3.Ranges.{never-early}
@@ -38,6 +38,7 @@ call-turn (begin t) m s = begin-turn m t s
 call-turn (on t o) m s = step-turn m t o s
 call-turn (commit t) m s = commit-turn m t s
 call-turn (abort t) m s = abort-turn m t s
+call-turn (places t f out) m s = places-turn m t s f out
 
 -- .. and so does every list of calls.
 pub record Agree (cs : List Call) (m : Machine) : Type 0 where
@@ -109,6 +110,7 @@ numberOf plain = 0
 numberOf (pointer o) = 0
 numberOf (given n) = 0
 numberOf (granted n) = n
+numberOf (pairs n) = 0
 numberOf (refused n) = 0
 
 pub record Counted (p : Plain) (τ : PlainTurn) : Type 0 where

@@ -7,7 +7,7 @@ use borrow.Author.Tests.{not-false}
 use lib.Dec.{leb}
 use native.Mathlib.Omega.{arith}
 use Prim.Native.Nat.{ℕ}
-use Rattle.record.specs.Paper.{Said, plain, pointer, given, granted, refused}
+use Rattle.record.specs.Paper.{Said, plain, pointer, given, granted, pairs, refused}
 use Rattle.rules.specs.Messages.{commit}
 use Rattle.rules.specs.Commits.{fits, commitRefusal}
 use Rattle.rules.specs.Sightings.{sameEntries}
@@ -33,6 +33,7 @@ refusalOf plain = 0
 refusalOf (pointer o) = 0
 refusalOf (given n) = 0
 refusalOf (granted n) = 0
+refusalOf (pairs n) = 0
 refusalOf (refused n) = n
 
 module _ (t : ℕ) (r : Running) (p : Plain) where

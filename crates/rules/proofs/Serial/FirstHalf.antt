@@ -8,14 +8,14 @@ use Prim.Native.Nat.{ℕ, zero, suc, _+_}
 use Rattle.record.specs.Paper.{Said, plain, granted, refused}
 use Rattle.rules.specs.Items.{Item, Values, byte, offset, result, asked}
 use Rattle.rules.specs.Transactions.{Txn, empty, put}
-use Rattle.rules.specs.Messages.{Op, bufferOf}
+use Rattle.rules.specs.Messages.{Op, bufferOf, places}
 use Rattle.rules.specs.Steps.{Stepped, refuse, accept, step}
 use Rattle.rules.specs.Commits.{settings, fits, landed, commitRefusal}
 use Rattle.rules.specs.Messages.{Call, begin, on, commit, abort, Reply}
 use Rattle.rules.specs.Sightings.{sameEntries, entries}
-use Rattle.rules.specs.Plain.{Running, Slot, closed, running, Plain, startPlain, ops, firstList, secondList, isStale, PlainTurn, turnedDown, withSlot, answering, plainBegin, plainStepped, plainOn, committing, grant, staleSlot, becameStale, plainCommitted, plainCommit, plainAbort, numbered, plainCall, plainAfter, plainReplies}
+use Rattle.rules.specs.Plain.{Running, Slot, closed, running, Plain, startPlain, ops, firstList, secondList, isStale, PlainTurn, turnedDown, withSlot, answering, plainBegin, plainStepped, plainOn, committing, grant, staleSlot, becameStale, plainCommitted, plainCommit, plainAbort, numbered, plainCall, plainAfter, plainReplies, plainPlaces}
 use Rattle.rules.specs.Lone.{lone}
-use Rattle.rules.proofs.Serial.Sighted.{Held, Seat, vacant, held, Sighted, startSighted, sighted, among, hit, markAll, SightedTurn, turnedAway, withSeat, telling, sightedBegin, sightedStepped, sightedOn, touch, newlyStale, countNew, granting, sightedCommitted, sightedCommit, sightedAbort, seated, sightedCall, sightedAfter, sightedReplies}
+use Rattle.rules.proofs.Serial.Sighted.{Held, Seat, vacant, held, Sighted, startSighted, sighted, among, hit, markAll, SightedTurn, turnedAway, withSeat, telling, sightedBegin, sightedStepped, sightedOn, touch, newlyStale, countNew, granting, sightedCommitted, sightedCommit, sightedAbort, seated, sightedCall, sightedAfter, sightedReplies, sightedPlaces}
 use Rattle.rules.proofs.Serial.Programs.{among-append}
 use Rattle.rules.proofs.Serial.Lists.{items, current, current-entries, current-append, anyTouched, hit-is, markAll-at, current-after}
 use Rattle.rules.proofs.Serial.Sound.{Sound, seen-old, lists-same, sound-more, sound-granted, items-more, extended}
@@ -248,6 +248,11 @@ module _ (p : Plain) (g : Good p) where
   same-abort t (running r) =
       ap (λ (a : Sighted). record { reply = record { answer = plain; buffer = [] }; after = a }) (abs-slot t closed p)
 
+  same-places : (f : ℕ) (out : List ℕ) (s : Slot) → sightedPlaces f out (seatOf p s) (abs p) ≡ absTurn (plainPlaces f out s p)
+  unfolding sightedPlaces plainPlaces seatOf turnedAway turnedDown absTurn heldOf abs
+  same-places f out closed = refl
+  same-places f out (running r) = refl
+
   same-numbered :
       (t : ℕ) (buffer : List ℕ) (first : Seat → Sighted → SightedTurn) (second : Slot → Plain → PlainTurn)
       → first (seatOf p (p .slots t)) (abs p) ≡ absTurn (second (p .slots t) p)
@@ -269,6 +274,7 @@ same-call (begin t) p g = same-numbered p g t [] (sightedBegin t) (plainBegin t)
 same-call (on t o) p g = same-numbered p g t (bufferOf o) (sightedOn t o) (plainOn t o) (same-on p g t o (p .slots t) (g .sound t))
 same-call (commit t) p g = same-numbered p g t [] (sightedCommit t) (plainCommit t) (same-commit p g t (p .slots t))
 same-call (abort t) p g = same-numbered p g t [] (sightedAbort t) (plainAbort t) (same-abort p g t (p .slots t))
+same-call (places t f out) p g = same-numbered p g t out (sightedPlaces f out) (plainPlaces f out) (same-places p g f out (p .slots t))
 
 pub same-after : (cs : List Call) (p : Plain) → Good p → sightedAfter cs (abs p) ≡ abs (plainAfter cs p)
 unfolding sightedAfter plainAfter absTurn

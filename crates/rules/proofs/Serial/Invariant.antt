@@ -8,12 +8,12 @@ use native.Mathlib.Omega.{arith}
 use Prim.Native.Nat.{ℕ, zero, suc, _+_, _≤_, _<_}
 use Rattle.rules.specs.Items.{Item, Values, result, asked}
 use Rattle.rules.specs.Transactions.{put}
-use Rattle.rules.specs.Messages.{Op, bufferOf}
+use Rattle.rules.specs.Messages.{Op, bufferOf, places}
 use Rattle.rules.specs.Steps.{Stepped, refuse, accept, step}
 use Rattle.rules.specs.Commits.{settings, fits, commitRefusal}
 use Rattle.rules.specs.Messages.{Call, begin, on, commit, abort}
 use Rattle.rules.specs.Sightings.{entries, Committed}
-use Rattle.rules.specs.Plain.{Running, Slot, closed, running, Plain, startPlain, isStale, PlainTurn, turnedDown, withSlot, answering, plainBegin, plainStepped, plainOn, committing, grant, plainCommitted, plainCommit, plainAbort, numbered, plainCall, plainAfter}
+use Rattle.rules.specs.Plain.{Running, Slot, closed, running, Plain, startPlain, isStale, PlainTurn, turnedDown, withSlot, answering, plainBegin, plainStepped, plainOn, committing, grant, plainCommitted, plainCommit, plainAbort, numbered, plainCall, plainAfter, plainPlaces}
 use Rattle.rules.proofs.Serial.Lists.{touched, setBy-at}
 use Rattle.rules.proofs.Serial.Sound.{Sound, sound-begun, sound-more, sound-granted}
 
@@ -159,12 +159,18 @@ module _ (p : Plain) (g : Good p) where
       chosen true k = k refl
       chosen false k = g
 
+good-places : (f : ℕ) (out : List ℕ) (s : Slot) (p : Plain) → Good p → Good (plainPlaces f out s p .after)
+unfolding plainPlaces turnedDown
+good-places f out closed p g = g
+good-places f out (running r) p g = g
+
 pub good-call : (c : Call) (p : Plain) → Good p → Good (plainCall c p .after)
 unfolding plainCall
 good-call (begin t) p g = good-numbered p g t [] (plainBegin t) (λ l. good-begin p g t l (p .slots t))
 good-call (on t o) p g = good-numbered p g t (bufferOf o) (plainOn t o) (λ l. good-on p g t o l (p .slots t) (g .sound t))
 good-call (commit t) p g = good-numbered p g t [] (plainCommit t) (λ l. good-commit p g t l (p .slots t))
 good-call (abort t) p g = good-numbered p g t [] (plainAbort t) (λ l. good-abort p g t l (p .slots t))
+good-call (places t f out) p g = good-numbered p g t out (plainPlaces f out) (λ l. good-places f out (p .slots t) p g)
 
 pub good-after : (cs : List Call) (p : Plain) → Good p → Good (plainAfter cs p)
 unfolding plainAfter

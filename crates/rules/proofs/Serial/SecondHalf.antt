@@ -7,12 +7,12 @@ use lib.Dec.{leb}
 use Prim.Native.Nat.{ℕ, _+_}
 use Rattle.rules.specs.Items.{result, asked}
 use Rattle.rules.specs.Transactions.{Txn, empty}
-use Rattle.rules.specs.Messages.{Op, bufferOf}
+use Rattle.rules.specs.Messages.{Op, bufferOf, places}
 use Rattle.rules.specs.Steps.{Stepped, refuse, accept, step}
 use Rattle.rules.specs.Commits.{fits, commitRefusal}
 use Rattle.rules.specs.Messages.{Call, begin, on, commit, abort, Reply}
 use Rattle.rules.specs.Sightings.{Entry, entries, Committed}
-use Rattle.rules.specs.Plain.{Accepted, Running, Slot, closed, running, Plain, ops, isStale, PlainTurn, turnedDown, withSlot, answering, plainBegin, plainStepped, plainOn, committing, grant, plainCommitted, plainCommit, plainAbort, numbered, plainCall, plainAfter}
+use Rattle.rules.specs.Plain.{Accepted, Running, Slot, closed, running, Plain, ops, isStale, PlainTurn, turnedDown, withSlot, answering, plainBegin, plainStepped, plainOn, committing, grant, plainCommitted, plainCommit, plainAbort, numbered, plainCall, plainAfter, plainPlaces}
 use Rattle.rules.specs.Lone.{Lone, lone}
 use Rattle.rules.specs.Grants.{Grant, grantAt, ifGranted, grantedBy, grantsOf}
 use Rattle.rules.proofs.Serial.Alone.{again, serially, SameAgain, AllSame}
@@ -95,6 +95,11 @@ module _ (p : Plain) where
   turned-abort t closed = kept _ _
   turned-abort t (running r) = kept _ _
 
+  turned-places : (f : ℕ) (out : List ℕ) (s : Slot) → Turned p (plainPlaces f out s p) []
+  unfolding plainPlaces turnedDown
+  turned-places f out closed = kept _ _
+  turned-places f out (running r) = kept _ _
+
   -- What holds of a call's turn and of a refusal 3 holds of the call.
   turned-numbered :
       (P : PlainTurn → Type 0) (t : ℕ) (buffer : List ℕ) (next : Slot → Plain → PlainTurn)
@@ -117,6 +122,7 @@ module _ (p : Plain) where
       (turned-commit t (p .slots t) refl)
       (kept _ _)
   turned (abort t) = turned-numbered (λ τ. Turned p τ []) t [] (plainAbort t) (turned-abort t (p .slots t)) (kept _ _)
+  turned (places t f out) = turned-numbered (λ τ. Turned p τ []) t out (plainPlaces f out) (turned-places f out (p .slots t)) (kept _ _)
 
 -- No call changes a descriptor's file.
 files-turn : (p : Plain) (τ : PlainTurn) (hs : List Grant) → Turned p τ hs → τ .after .fileOf ≡ p .fileOf

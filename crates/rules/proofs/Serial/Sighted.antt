@@ -1,6 +1,7 @@
 -- The store without its buffers, for the proof of demand 3: committed values, and for each open transaction what it is, the bytes
 -- that it has sighted, and whether it is stale. Nothing here has to be believed: the store's rules are shown equal to it, and it
 -- to the plain machine.
+use Rattle.rules.specs.Coverage.{placesOf}
 use mathlib.Core.Bool.{Bool, true, false, cond, not, _&&_, _||_}
 use mathlib.Core.List.{List, [], _∷_, _++_}
 use lib.Dec.{leb, eqb}
@@ -10,7 +11,7 @@ use Rattle.record.specs.Paper.{number, Said, plain, granted, refused}
 use Rattle.rules.specs.Items.{Item, byte, offset, same, Values, Prog, result, asked}
 use Rattle.standings.specs.Table.{isKnown}
 use Rattle.rules.specs.Transactions.{Txn, empty, put}
-use Rattle.rules.specs.Messages.{Op, bufferOf}
+use Rattle.rules.specs.Messages.{Op, bufferOf, places}
 use Rattle.rules.specs.Steps.{Stepped, refuse, accept, step}
 use Rattle.rules.specs.Commits.{Setting, settings, fits, landed, commitRefusal}
 use Rattle.rules.specs.Messages.{Call, begin, on, commit, abort, Reply}
@@ -119,6 +120,10 @@ unfoldable pub sightedAbort : ℕ → Seat → Sighted → SightedTurn
 sightedAbort t vacant s = turnedAway 4 [] s
 sightedAbort t (held h) s = telling plain (withSeat t vacant s)
 
+unfoldable pub sightedPlaces : ℕ → List ℕ → Seat → Sighted → SightedTurn
+sightedPlaces f out vacant s = turnedAway 4 out s
+sightedPlaces f out (held h) s = record { reply = placesOf (s .fileOf) f out (h .txn); after = s }
+
 unfoldable pub seated : ℕ → List ℕ → (Seat → Sighted → SightedTurn) → Sighted → SightedTurn
 seated t buffer next s = cond (leb t 7) (next (s .seats t) s) (turnedAway 3 buffer s)
 
@@ -127,6 +132,7 @@ sightedCall (begin t) s = seated t [] (sightedBegin t) s
 sightedCall (on t o) s = seated t (bufferOf o) (sightedOn t o) s
 sightedCall (commit t) s = seated t [] (sightedCommit t) s
 sightedCall (abort t) s = seated t [] (sightedAbort t) s
+sightedCall (places t f out) s = seated t out (sightedPlaces f out) s
 
 unfoldable pub sightedAfter : List Call → Sighted → Sighted
 sightedAfter [] s = s

@@ -10,10 +10,10 @@ use Rattle.record.specs.State.{transaction, ended, begun}
 use Rattle.ranges.specs.Ranges.{unless, admissionOfBegin}
 use Rattle.ranges.proofs.Laws.{in-range}
 use Rattle.rules.specs.Commits.{Setting, settings, fits, commitRefusal}
-use Rattle.rules.specs.Messages.{begin, commit, abort}
+use Rattle.rules.specs.Messages.{begin, commit, abort, places}
 use Rattle.rules.specs.Machine.{Machine, fileOf, values, txnOf}
-use Rattle.rules.specs.Calls.{answer, turnDown, passing, beginTurn, abortTurn, commitDecided, commitTurn, call}
-use Rattle.rules.proofs.Serial.Sighted.{vacant, held, turnedAway, telling, sightedBegin, sightedCommitted, sightedCommit, sightedAbort, seated, sightedCall}
+use Rattle.rules.specs.Calls.{answer, turnDown, passing, beginTurn, abortTurn, commitDecided, commitTurn, call, placesTurn}
+use Rattle.rules.proofs.Serial.Sighted.{vacant, held, turnedAway, telling, sightedBegin, sightedCommitted, sightedCommit, sightedAbort, seated, sightedCall, sightedPlaces}
 use Rattle.rules.proofs.View.Shape.{heldBy, seat, view, Sound}
 use Rattle.rules.proofs.View.Decode.{decoded-in}
 use Rattle.rules.proofs.View.Admissions.{Agrees, shared-is, admitted-agrees}
@@ -51,6 +51,13 @@ module _ (m : Machine) (t : ℕ) (sound : Sound m) where
   pub abort-turn : Agrees (call (abort t) m) (sightedCall (abort t) (view m))
   unfolding call sightedCall sightedAbort
   abort-turn = admitted-agrees m t sound [] (abortTurn t m) (sightedAbort t) refl (λ l b. abort-next l)
+
+  pub places-turn : (f : ℕ) (out : List ℕ) → Agrees (call (places t f out) m) (sightedCall (places t f out) (view m))
+  unfolding call sightedCall sightedPlaces
+  places-turn f out = admitted-agrees m t sound out (placesTurn t f out m) (sightedPlaces f out) refl (λ l b. listed)
+    where
+      listed : Agrees (placesTurn t f out m) (sightedPlaces f out (held (heldBy m t)) (view m))
+      listed = unfold placesTurn sightedPlaces heldBy view in (refl, refl, sound)
 
   -- 13, 12, or granted.
   decides : t < 8 → (p q : Bool) → (q ≡ true → AllIn (settingsOf m t))

@@ -1,4 +1,4 @@
--- `place` meets its contract: a refusal's number is at most 14.
+-- `place` meets its contract: a refusal's number is at most 16.
 use native.Mathlib.Omega.{arith}
 use borrow.Author.Needs.{needs}
 use Rattle.digests.proofs.Refusals.{bounded}
@@ -16,6 +16,9 @@ enum-told-3 c = search needs
 
 enum-told-4 : tie.Need-enum-told-4
 enum-told-4 c = search needs
+
+enum-told-5 : tie.Need-enum-told-5
+enum-told-5 c = search needs
 
 enum-known-o : tie.Need-enum-known-o
 enum-known-o c = search needs
@@ -42,7 +45,10 @@ returns-4 : tie.Need-returns-4
 returns-4 c = search needs
 
 returns-5 : tie.Need-returns-5
-returns-5 c =
+returns-5 c = search needs
+
+returns-6 : tie.Need-returns-6
+returns-6 c =
     let b = bounded (c .before .before .before .o .given .0 .0) _ (c .before .number .ensures) in
     omega (arith, c .wide-octet .ensures, b)
 
@@ -54,6 +60,7 @@ place-spec =
     enum-told-2
     enum-told-3
     enum-told-4
+    enum-told-5
     enum-known-o
     number-requires
     wide-octet-requires
@@ -62,4 +69,5 @@ place-spec =
     returns-2
     returns-3
     returns-4
-    returns-5)
+    returns-5
+    returns-6)

@@ -1,5 +1,7 @@
-//! Corners of Places (request F-1), as lists of calls on store and plain machine together.
+//! Corners of Places and of looking (requests F-1 and F-2), as lists of calls on store and plain machine together.
 
+use crate::call::Refusal;
+use crate::store::{Lent, Standing, Store, BUFFER, DESCRIPTORS};
 use crate::vectors::run;
 
 const START: &str = "\
@@ -157,4 +159,64 @@ fn the_longest_list_has_a_pair_for_each_of_64_records() {
     let pairs: String = (0..64).map(|k| format!(".{:04x}0001", 64 * k)).collect();
     let list = &pairs[1..];
     agrees(&format!("{writes}places 0 0 07*255 -> refused 16\nplaces 0 0 07*256 -> pairs 64 {list}\n"));
+}
+
+#[test]
+fn a_read_of_0_bytes_counts_and_a_look_does_not() {
+    agrees(
+        "\
+begin 1 -> done
+begin 2 -> done
+pointer 0 3 -> offset 0
+pointer 2 3 -> offset 0
+commit 2 -> granted 0
+pointer 1 3 -> offset 0
+read 1 3 0 - -> given 0 -
+commit 1 -> granted 1
+commit 0 -> refused 13
+",
+    );
+}
+
+#[test]
+fn what_was_refused_or_made_before_an_end_counts_for_nothing() {
+    agrees(
+        "\
+begin 1 -> done
+pointer 0 3 -> offset 0
+seek 1 3 9 -> done
+abort 1 -> done
+begin 1 -> done
+pointer 1 3 -> offset 0
+seek 1 3 4097 -> refused 8
+write 1 3 41*4097 -> refused 9
+read 1 3 1 - -> refused 7
+commit 1 -> granted 0
+commit 0 -> granted 0
+",
+    );
+}
+
+/// What a Commit of transaction 0 leaves in offset 3, on a record in which descriptor 3 stands so, was acted on or not, and
+/// has the committed offset 7.
+fn committed_from(standing: Standing, acted: u16) -> Result<u16, Refusal> {
+    let mut buffers = [vec![0; BUFFER], vec![0; BUFFER], vec![0; BUFFER]];
+    let [files, logs, marks] = &mut buffers;
+    let mut lent = Lent { files, logs, marks };
+    let mut store = Store::new([0; DESCRIPTORS]);
+    store.begin(&mut lent, 0)?;
+    store.offsets[3] = 7;
+    store.transactions[0].standings[3] = standing;
+    store.transactions[0].acted = acted;
+    store.commit(&mut lent, 0).map(|_| store.offsets[3])
+}
+
+#[test]
+fn a_forged_record_may_hold_any_mixture() {
+    assert_eq!(committed_from(Standing::Deferred(2), 8), Ok(9));
+    assert_eq!(committed_from(Standing::Deferred(2), 65527), Ok(7));
+    assert_eq!(committed_from(Standing::Deferred(4090), 0), Err(Refusal::SettledPastEnd));
+    assert_eq!(committed_from(Standing::Untouched, 8), Ok(7));
+    assert_eq!(committed_from(Standing::Placed(1), 0), Ok(7));
+    assert_eq!(committed_from(Standing::Known(1), 8), Ok(1));
 }

@@ -41,7 +41,7 @@ impl Digest {
         self.take_all(buffer);
     }
 
-    /// Takes in a transaction: begun and stale (0 or 1), records used, bytes used, three numbers for each descriptor, then
+    /// Takes in a transaction: begun and stale (0 or 1), records used, bytes used, four numbers for each descriptor, then
     /// four for each of its write records.
     fn take_transaction(&mut self, transaction: &Transaction) {
         let log = &transaction.log;
@@ -49,8 +49,9 @@ impl Digest {
         self.take(transaction.stale);
         self.take(log.records.len() as u64);
         self.take(log.bytes);
-        for &standing in &transaction.standings {
+        for (d, &standing) in transaction.standings.iter().enumerate() {
             self.take_all(&standing_numbers(standing));
+            self.take(transaction.acted >> d & 1);
         }
         for &record in &log.records {
             self.take_all(&record_numbers(record));
@@ -100,6 +101,6 @@ mod tests {
     #[test]
     fn the_digest_at_the_start() {
         let state = Pair::new().state;
-        assert_eq!(super::of_state(&state.store, &state.files, &state.logs, &state.marks), 112320193380514);
+        assert_eq!(super::of_state(&state.store, &state.files, &state.logs, &state.marks), 266472364167866);
     }
 }

@@ -24,6 +24,8 @@ pub fn forge(store: &mut Store, damage: &Damage) {
     }
     if damage.forgery > 2 {
         transaction.begun = true;
+        // No range speaks of these.
+        transaction.acted ^= damage.excess as u16;
     }
 }
 
@@ -72,6 +74,7 @@ pub fn garbage_in_closed(store: &mut Store, marks: &mut [u8], t: usize) {
         stale: true,
         log: Log { records: vec![record; 255], bytes: 65535 },
         standings: [Standing::Known(5000); DESCRIPTORS],
+        acted: 21845,
     };
     marks.iter_mut().for_each(|mark| *mark |= 1 << t);
 }
@@ -81,5 +84,6 @@ pub fn garbage_in_record(store: &mut Store) {
     store.files = [255; DESCRIPTORS];
     store.offsets = [5000; DESCRIPTORS];
     store.transactions[7].begun = true;
+    store.transactions[7].acted = u16::MAX;
     store.transactions[7].log.records = vec![WriteRecord { descriptor: 99, ..EMPTY_RECORD }; 200];
 }

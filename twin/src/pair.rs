@@ -279,7 +279,7 @@ impl Pair {
 
     // What must hold after every accepted call.
 
-    /// Files, offsets, standings, write records and log bytes are those of the machine.
+    /// Files, offsets, standings, what was acted on, write records and log bytes are those of the machine.
     fn check_record(&self) {
         let State { store, files, logs, .. } = &self.state;
         let committed = &self.machine.committed;
@@ -301,6 +301,8 @@ impl Pair {
         let transaction = &self.state.store.transactions[t];
         assert!(transaction.begun, "transaction {t} is open");
         assert_eq!(transaction.standings, course.standings.map(store_standing), "standings of transaction {t}");
+        let acted = std::array::from_fn(|d| transaction.acted >> d & 1 == 1);
+        assert_eq!(course.acted, acted, "Seek, Read or Write in transaction {t}");
         let records: Vec<_> = course.writes.iter().map(store_record).collect();
         assert_eq!(transaction.log.records, records, "write records of transaction {t}");
         let data = course.writes.iter().flat_map(|write| &write.data);

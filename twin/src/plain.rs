@@ -1,5 +1,5 @@
 //! The plain machine of demand 3. It holds committed files, offsets and setters, a count of grants, and for each open
-//! transaction its accepted calls, standings, writes and sightings. It has no marks and no stale flag: a transaction is
+//! transaction its accepted calls, standings, writes and sightings, and on which descriptors it acted. It has no marks and no stale flag: a transaction is
 //! stale when the sightings it holds differ from those of its accepted calls run alone on what is committed now.
 
 use crate::call::{Action, Answer, Call, Outcome, Refusal, Reply, Step};
@@ -65,6 +65,8 @@ pub struct Sighting {
 #[derive(Clone, Debug, PartialEq, Eq)]
 pub struct Course {
     pub standings: [Standing; DESCRIPTORS],
+    /// On which descriptors there was an accepted Seek, Read or Write.
+    pub acted: [bool; DESCRIPTORS],
     pub writes: Vec<Write>,
     pub sightings: Vec<Sighting>,
 }
@@ -111,7 +113,7 @@ impl Committed {
         for write in &course.writes {
             self.land(write, setter);
         }
-        for (d, standing) in course.standings.iter().enumerate() {
+        for (d, standing) in course.standings.iter().enumerate().filter(|&(d, _)| course.acted[d]) {
             let offset = match *standing {
                 Standing::Untouched => continue,
                 Standing::Deferred { advance } => self.offsets[d] + advance,
@@ -157,7 +159,12 @@ impl Standing {
 
 impl Course {
     fn begun() -> Course {
-        Course { standings: [Standing::Untouched; DESCRIPTORS], writes: Vec::new(), sightings: Vec::new() }
+        Course {
+            standings: [Standing::Untouched; DESCRIPTORS],
+            acted: [false; DESCRIPTORS],
+            writes: Vec::new(),
+            sightings: Vec::new(),
+        }
     }
 
     /// The calls run alone on `committed`, up to the first one that is refused: what the run leaves, and its replies.
@@ -177,7 +184,7 @@ impl Course {
     /// Serves one call of the transaction. A refused one changes nothing.
     fn serve(&mut self, committed: &Committed, step: &Step) -> Reply {
         let d = step.descriptor;
-        match &step.action {
+        let reply = match &step.action {
             Action::Seek { to } => no_buffer(self.seek(d, *to)),
             Action::Write { data } => no_buffer(self.write(d, data)),
             Action::GetFilePointer => no_buffer(self.get_file_pointer(committed, d)),
@@ -186,7 +193,11 @@ impl Course {
                 let outcome = self.read(committed, d, *count, &mut buffer);
                 Reply { outcome, buffer }
             }
+        };
+        if reply.outcome.is_ok() && !matches!(step.action, Action::GetFilePointer) {
+            self.acted[d] = true;
         }
+        reply
     }
 
     fn seek(&mut self, d: usize, to: usize) -> Outcome {

@@ -172,11 +172,10 @@ fn i_a_moved_descriptor_answers_without_settling() {
 }
 
 #[test]
-fn j_a_known_offset_is_set_at_commit() {
+fn j_looking_moves_nothing() {
     let mut pair = begun(2);
     assert_eq!((pointer(&mut pair, 0, 0), pointer(&mut pair, 1, 0)), (0, 0));
-    assert_eq!(granted(&mut pair, 0), 1);
-    assert_eq!(refused_commit(&mut pair, 1), Refusal::Stale);
+    assert_eq!((granted(&mut pair, 0), granted(&mut pair, 1)), (0, 0));
 }
 
 #[test]

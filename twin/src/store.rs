@@ -58,6 +58,8 @@ pub struct Transaction {
     pub log: Log,
     /// By descriptor.
     pub standings: [Standing; DESCRIPTORS],
+    /// The descriptors (a bit for each) on which it made a Seek, Read or Write. Only their offsets are set at Commit.
+    pub acted: u16,
 }
 
 /// The record: the file and the committed offset of each descriptor, and the transactions.
@@ -191,16 +193,22 @@ impl Log {
 
 impl Transaction {
     /// One that has ended, or never began.
-    pub const ENDED: Transaction =
-        Transaction { begun: false, stale: false, log: Log::EMPTY, standings: [Standing::Untouched; DESCRIPTORS] };
+    pub const ENDED: Transaction = Transaction {
+        begun: false,
+        stale: false,
+        log: Log::EMPTY,
+        standings: [Standing::Untouched; DESCRIPTORS],
+        acted: 0,
+    };
 
-    /// Leaves an empty log, sixteen Untouched descriptors, and not stale.
+    /// Leaves an empty log, sixteen Untouched descriptors that nothing was made on, and not stale.
     fn reset(&mut self, begun: bool) {
         self.begun = begun;
         self.stale = false;
         self.log.records.clear();
         self.log.bytes = 0;
         self.standings = [Standing::Untouched; DESCRIPTORS];
+        self.acted = 0;
     }
 
     fn in_range(&self) -> bool {
@@ -258,8 +266,9 @@ impl Store {
         if to > SPAN {
             return Err(Refusal::SeekPastEnd);
         }
-        let standing = &mut self.transactions[t].standings[d];
-        *standing = standing.after_seek(to as u16);
+        let transaction = &mut self.transactions[t];
+        transaction.standings[d] = transaction.standings[d].after_seek(to as u16);
+        transaction.acted |= 1 << d;
         Ok(())
     }
 
@@ -276,6 +285,7 @@ impl Store {
         let record = WriteRecord { descriptor: d as u8, place, length };
         let start = SPAN * t + transaction.log.append(record)?;
         *standing = standing.after_bytes(length);
+        transaction.acted |= 1 << d;
         lent.logs[start..start + data.len()].copy_from_slice(data);
         Ok(())
     }
@@ -308,8 +318,9 @@ impl Store {
         let start = usize::from(self.offset(t, d));
         let given = count.min(SPAN - start);
         self.fetch(lent, t, usize::from(self.files[d]), start, &mut reader[..given]);
-        let standing = &mut self.transactions[t].standings[d];
-        *standing = standing.after_bytes(given as u16);
+        let transaction = &mut self.transactions[t];
+        transaction.standings[d] = transaction.standings[d].after_bytes(given as u16);
+        transaction.acted |= 1 << d;
         Ok(given as u16)
     }
 
@@ -530,8 +541,12 @@ impl Store {
 
     /// Sets the committed offsets and answers which were set (a bit for each descriptor).
     fn set_offsets(&mut self, t: usize) -> u16 {
+        let transaction = &self.transactions[t];
         let mut set = 0;
-        for (d, standing) in self.transactions[t].standings.iter().enumerate() {
+        for (d, standing) in transaction.standings.iter().enumerate() {
+            if transaction.acted >> d & 1 == 0 {
+                continue;
+            }
             match *standing {
                 Standing::Untouched => continue,
                 Standing::Deferred(advance) => self.offsets[d] += advance,

@@ -17,7 +17,7 @@ use Rattle.rules.specs.Commits.{fits, commitRefusal}
 use Rattle.rules.specs.Messages.{commit}
 use Rattle.rules.specs.Machine.{Machine, lent, withStore, withMarking, sizes, tabulate}
 use Rattle.rules.specs.Calls.{Turn, turnDown, reset, admitted, landFiles, conflicts, commitDecided, commitGranted, commitTurn, call}
-use Rattle.landing.specs.Landing.{offsetsOnly, standingsOnly}
+use Rattle.landing.specs.Landing.{offsetsOnly, descriptorsOnly}
 use Rattle.landing.proofs.LandLaws.{offsetsSet}
 use Rattle.landing.proofs.StaleLaws.{passedOver, countedIn}
 use Rattle.landing.proofs.Granted.{allSet, landedBytes, fits-is, files-are, offsets-are, transactions-are, count-is}
@@ -38,11 +38,11 @@ module _ (t : ℕ) (m : Machine) where
 
   module _ (fresh : transaction (m .store) t .stale ≡ false) where
     -- 12: "everything, the transaction open".
-    pub commit-past : fits (offsetsOnly (m .store .offsets)) (standingsOnly (transaction (m .store) t)) ≡ false → commitTurn t m ≡ turnDown 12 [] m
+    pub commit-past : fits (offsetsOnly (m .store .offsets)) (descriptorsOnly (transaction (m .store) t)) ≡ false → commitTurn t m ≡ turnDown 12 [] m
     unfolding commitTurn commitRefusal commitDecided turnDown
     commit-past e = rw (fresh, fits-is m t, e)
 
-    pub commit-granted : fits (offsetsOnly (m .store .offsets)) (standingsOnly (transaction (m .store) t)) ≡ true
+    pub commit-granted : fits (offsetsOnly (m .store .offsets)) (descriptorsOnly (transaction (m .store) t)) ≡ true
         → commitTurn t m ≡ commitGranted t (allSet m t) m
     unfolding commitTurn commitRefusal commitDecided
     commit-granted e = rw (fresh, fits-is m t, e)

@@ -16,7 +16,7 @@ ghost use Rattle.rules.specs.Commits.{fits};
 ghost use Rattle.rules.specs.Machine.{lent};
 ghost use Rattle.rules.specs.Calls.{commitTurn};
 ghost use Rattle.rules.specs.Promises.{Meets};
-ghost use Rattle.landing.specs.Landing.{offsetsOnly, standingsOnly, CanLand};
+ghost use Rattle.landing.specs.Landing.{offsetsOnly, descriptorsOnly, CanLand};
 
 // Grants the commit of transaction t, which is not stale and whose placing fits: lands its writes in call order, sets its offsets and
 // ends it. Every other open transaction that has sighted a byte or offset just set is stale from then on.
@@ -28,7 +28,7 @@ pub fn grant(
     marks: &mut [u8],
     t: usize,
 ) -> Answer
-    requires { ⌜ CanLand (s .filenumbers) (s .offsets) (now journal) (sized (length (now files)) (length (now logs)) (length (now marks))) t (transaction s t .used .records) × (fits (offsetsOnly (s .offsets)) (standingsOnly (transaction s t)) ≡ true) × (transaction s t .stale ≡ false) ⌝ }
+    requires { ⌜ CanLand (s .filenumbers) (s .offsets) (now journal) (sized (length (now files)) (length (now logs)) (length (now marks))) t (transaction s t .used .records) × (fits (offsetsOnly (s .offsets)) (descriptorsOnly (transaction s t)) ≡ true) × (transaction s t .stale ≡ false) ⌝ }
     ensures { λ r. ⌜ Meets (commitTurn t (lent s (now (journal .entry)) (now (files .entry)) (now (logs .entry)) (now (marks .entry)))) (r .outcome) (lent (r .store) (now (journal .exit)) (now (files .exit)) (now (logs .exit)) (now (marks .exit))) [] ⌝ }
 {
     let x = s.transactions[t];

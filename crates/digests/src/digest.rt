@@ -84,14 +84,16 @@ fn standing_taken(h: usize, z: Standing) -> usize
     }
 }
 
-fn standings_taken(h: usize, x: Transaction) -> usize
+fn descriptors_taken(h: usize, x: Transaction) -> usize
     requires { ⌜ Digest h ⌝ }
     ensures { λ r. ⌜ Digest r ⌝ }
 {
     let mut out = h;
     let mut d = 0;
     while d < 16 {
-        out = standing_taken(out, x.standing_at(d));
+        let q = x.descriptors[d];
+        let z = q.standing;
+        out = flag_taken(standing_taken(out, z), q.dirty);
         d += 1;
     }
     out
@@ -132,7 +134,7 @@ fn transaction_taken(h: usize, x: Transaction, journal: &[u16; NUMBERS], t: usiz
     let flags = flag_taken(flag_taken(h, x.begun), x.stale);
     let counters = taken(octet_taken(flags, used.records), used.bytes);
     writes_taken(
-        standings_taken(counters, x),
+        descriptors_taken(counters, x),
         journal,
         t,
         wide_octet(used.records),

@@ -1,4 +1,5 @@
 -- The rule of Seek after each of its tests.
+use mathlib.Core.Bool.{true}
 use mathlib.Core.List.{List, []}
 use mathlib.Core.Path.{_≡_, refl, sym, ap, ap₂, _∙_}
 use borrow.Author.Tests.{le-leb, lt-leb}
@@ -12,13 +13,13 @@ use Rattle.record.specs.declared.outcomes.Outcome.the-variants.{Done}
 use Rattle.record.specs.declared.Store.{Store}
 use Rattle.ranges.specs.Ranges.{admission}
 use Rattle.standings.specs.Table.{afterSeek}
-use Rattle.rules.specs.Transactions.{withStanding}
+use Rattle.rules.specs.Transactions.{dirtied}
 use Rattle.rules.specs.Messages.{Op, seek, bufferOf, on}
 use Rattle.rules.specs.Steps.{step, seekStep}
 use Rattle.rules.specs.Machine.{Machine, lent, withStore, sizes, txnOf}
 use Rattle.rules.specs.Calls.{Turn, turnDown, logged, call}
 use Rattle.laws.proofs.Decoded.{Opened}
-use Rattle.laws.proofs.Encoded.{txn-restood, writes-same}
+use Rattle.laws.proofs.Encoded.{txn-dirtied, writes-same}
 use Rattle.rules.specs.Promises.{Meets}
 use Rattle.refusing.proofs.Turns.{on-refused, on-accepted, check-held, check-failed}
 
@@ -32,16 +33,16 @@ module _ (t d v : ℕ) (m : Machine) (passes : admission (sizes m) (m .store) (m
   seek-past-end h g =
       on-refused t (seek d v) m passes 8 (check-held (leb d 15) 6 _ (le-leb d 15 h) ∙ check-failed (leb v 4096) 8 _ (lt-leb v 4096 g))
 
-  -- An accepted Seek sets the standing of d, and nothing else.
+  -- An accepted Seek sets the standing of d and makes d dirty, and nothing else.
   pub seek-meets : Opened (m .store) (m .journal) (m .logs) t → d ≤ 15 → v ≤ 4096
       → let x = transaction (m .store) t in
-      let after = withTransaction t (withDescriptors (set (x .descriptors) d (record { standing = afterSeek v (standingAt x d) })) x) (m .store) in
+      let after = withTransaction t (withDescriptors (set (x .descriptors) d (record { standing = afterSeek v (standingAt x d); dirty = true })) x) (m .store) in
       Meets (call (on t (seek d v)) m) Done (withStore after m) []
   unfolding step seekStep said txnOf logged
   seek-meets o h g =
       let z = afterSeek v (standingAt (transaction (m .store) t) d) in
       let e =
-      on-accepted t (seek d v) m passes (withStanding d z (txnOf (m .store) (m .journal) (m .logs) t)) plain []
+      on-accepted t (seek d v) m passes (dirtied d z (txnOf (m .store) (m .journal) (m .logs) t)) plain []
       (check-held (leb d 15) 6 _ (le-leb d 15 h) ∙ check-held (leb v 4096) 8 _ (le-leb v 4096 g)) in
       record {
         outcome = sym (ap (λ (w : Turn). w .reply .answer) e);
@@ -49,7 +50,7 @@ module _ (t d v : ℕ) (m : Machine) (passes : admission (sizes m) (m .store) (m
             sym
             (ap (λ (w : Turn). w .after) e
             ∙ ap₂ (λ (s : Store) (j : List ℕ). lent s j (m .files) (m .logs) (m .marks))
-            (txn-restood (m .store) (m .journal) (m .logs) t o d z (omega arith))
+            (txn-dirtied (m .store) (m .journal) (m .logs) t o d z (omega arith))
             (writes-same (m .store) (m .journal) (m .logs) t o));
         reader = sym (ap (λ (w : Turn). w .reply .buffer) e);
       }

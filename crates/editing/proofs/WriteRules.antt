@@ -111,8 +111,8 @@ module _ (t d : ℕ) (bytes : List ℕ) (m : Machine) (passes : admission (sizes
           ∙ check-held (leb (transaction (m .store) t .used .records + 1) 64) 10 _ (le-leb (transaction (m .store) t .used .records + 1) 64 (omega (arith, room .records)))
           ∙ check-held (leb (transaction (m .store) t .used .bytes + length bytes) 4096) 11 _ (le-leb _ 4096 (room .log))
 
-      -- An accepted Write adds a record, moves the counters forward, sets the standing of d, and puts its bytes in the log directly
-      -- after the data used.
+      -- An accepted Write adds a record, moves the counters forward, sets the standing of d and makes d dirty, and puts its bytes in
+      -- the log directly after the data used.
       pub write-meets : (u : Used) (z : Standing) (journal logs : List ℕ)
           → let x = transaction (m .store) t in
           u .records ≡ x .used .records + 1
@@ -120,7 +120,7 @@ module _ (t d : ℕ) (bytes : List ℕ) (m : Machine) (passes : admission (sizes
           → z ≡ afterWrite (length bytes) (standingAt x d)
           → journal ≡ withRecordAt (m .journal) t (x .used .records) (record { descriptor = d; place = writePlace (standingAt x d); length = length bytes })
           → logs ≡ pasted (m .logs) (4096 * t + x .used .bytes) bytes
-          → let after = withTransaction t (withUsed u (withDescriptors (set (x .descriptors) d (record { standing = z })) x)) (m .store) in
+          → let after = withTransaction t (withUsed u (withDescriptors (set (x .descriptors) d (record { standing = z; dirty = true })) x)) (m .store) in
           Meets (call (on t (write d bytes)) m) Done
           (withStore after (withJournal journal (withLogs logs m))) []
       unfolding said logged written recordOf txnOf

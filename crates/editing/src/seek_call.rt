@@ -44,6 +44,7 @@ pub fn seek(
     let z = x.standing_at(d);
     x.descriptors[d] = Descriptor {
         standing: z.after_seek(v as u16),
+        dirty: true,
     };
     s.transactions[t] = x;
     Answer {

@@ -84,6 +84,7 @@ pub fn write(
     x.used = counters::appended(used, length);
     x.descriptors[d] = Descriptor {
         standing: z.after_write(length),
+        dirty: true,
     };
     s.transactions[t] = x;
     Answer {

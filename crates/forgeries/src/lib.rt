@@ -53,11 +53,11 @@ fn standing(forgery: usize, excess: usize) -> Standing {
     }
 }
 
-// The transaction with another standing of descriptor d.
-fn with_standing(mut x: Transaction, d: usize, z: Standing) -> Transaction
+// The transaction with another standing of descriptor d, which is dirty or not: no range speaks of that.
+fn with_standing(mut x: Transaction, d: usize, z: Standing, dirty: bool) -> Transaction
     requires { ⌜ d < 16 ⌝ }
 {
-    x.descriptors[d] = Descriptor { standing: z };
+    x.descriptors[d] = Descriptor { standing: z, dirty };
     x
 }
 
@@ -76,7 +76,7 @@ fn transaction(x: Transaction, g: Damage) -> Transaction
     let used = x.used;
     let y = with_used(x, used.records, used.bytes);
     if g.forgery < 8 {
-        return with_standing(y, g.index, standing(g.forgery, g.excess));
+        return with_standing(y, g.index, standing(g.forgery, g.excess), g.excess % 2 == 0);
     }
     if g.forgery == 8 {
         return with_used(y, (65 + g.excess % 191) as u8, used.bytes);
@@ -139,9 +139,9 @@ fn without_place(x: Transaction, journal: &mut [u16; NUMBERS], g: Damage) -> Tra
     };
     put_record(journal, t, 0, after);
     if g.forgery == 13 {
-        return with_standing(x, i, Standing::Placed(0));
+        return with_standing(x, i, Standing::Placed(0), false);
     }
-    with_standing(x, i, Standing::Deferred(0))
+    with_standing(x, i, Standing::Deferred(0), false)
 }
 
 // Forgery 15: two records, each in range, whose data together is above 4,096 bytes.

@@ -9,7 +9,7 @@ use Prim.Native.Nat.{ℕ, zero, suc, _+_, _*_, _<_}
 use Rattle.octets.specs.Marks.{contains}
 use Rattle.record.specs.declared.Store.{Store}
 use Rattle.record.specs.declared.Transaction.{Transaction}
-use Rattle.record.specs.State.{transaction, standingAt, ended, withStale}
+use Rattle.record.specs.State.{transaction, standingAt, dirtyAt, ended, withStale}
 use Rattle.record.specs.Journal.{writeRecordAt}
 use Rattle.ranges.specs.Below.{sum}
 use Rattle.ranges.specs.Ranges.{recordIn}
@@ -18,18 +18,18 @@ use Rattle.rules.specs.Items.{offset, Values}
 use Rattle.standings.specs.declared.Standing.{Standing}
 use Rattle.standings.specs.Table.{isTouched, finalOffset, isKnown}
 use Rattle.rules.specs.Transactions.{Txn, Write}
-use Rattle.rules.specs.Commits.{Setting, landsAt, stretch, byteSettings, offsetSettings, settings, fits}
+use Rattle.rules.specs.Commits.{Setting, landsAt, stretch, byteSettings, setsOffset, offsetSettings, settings, fits}
 use Rattle.rules.specs.Machine.{Machine, sizes, fileOf, values, txnOf, tabulate}
 use Rattle.rules.specs.Calls.{landByte, landFiles, landOffset, landOffsets, hasSighted, conflicts, staled, afterCommit, becomesStale}
 use Rattle.rules.proofs.View.Tables.{tabulate-same}
 use Rattle.rules.proofs.View.SettingsIn.{lands-in}
 use Rattle.laws.proofs.Decoded.{Opened}
-use Rattle.landing.specs.Landing.{offsetsOnly, standingsOnly, bytesSet, RecordLands, CanLand}
+use Rattle.landing.specs.Landing.{offsetsOnly, descriptorsOnly, bytesSet, RecordLands, CanLand}
 use Rattle.landing.specs.Staling.{some, knowsOffset, hit, afterwards, newlyStale}
 use Rattle.landing.proofs.LandLaws.{landed-append, offsets-append, conflicts-append, fits-at, offsetsSet}
 use Rattle.landing.proofs.StaleLaws.{passedOver, countedIn}
 
--- ---- what a commit sets goes by the committed offsets and the standings
+-- ---- what a commit sets goes by the committed offsets and the descriptors
 
 bytes-same : (F : ℕ → ℕ) (v w : Values) (ws : List Write) → ((d : ℕ) → v (offset d) ≡ w (offset d)) → byteSettings F v ws ≡ byteSettings F w ws
 unfolding byteSettings
@@ -38,14 +38,20 @@ bytes-same F v w (x ∷ ws) h =
     ap₂ (λ (c : ℕ) (ss : List Setting). stretch (4096 * F (x .descriptor) + landsAt c (x .place)) (x .bytes) ++ ss) (h (x .descriptor)) (bytes-same F v w ws h)
 
 -- The offset of descriptor d, if it is set.
-abbrev setting : ℕ → ℕ → Standing → List Setting
-setting d c z = cond (isTouched z) (record { item = offset d; to = finalOffset c z } ∷ []) []
+abbrev setting : ℕ → ℕ → Txn → List Setting
+setting d c x = cond (setsOffset x d) (record { item = offset d; to = finalOffset c (x .standing d) } ∷ []) []
 
-offsets-same : (v w : Values) (x y : Txn) → ((d : ℕ) → v (offset d) ≡ w (offset d)) → ((d : ℕ) → x .standing d ≡ y .standing d)
-    → (n : ℕ) → offsetSettings v x n ≡ offsetSettings w y n
+offsets-same : (v w : Values) (x : Txn) → ((d : ℕ) → v (offset d) ≡ w (offset d)) → (n : ℕ) → offsetSettings v x n ≡ offsetSettings w x n
 unfolding offsetSettings
-offsets-same v w x y h g zero = refl
-offsets-same v w x y h g (suc d) = ap₂ _++_ (offsets-same v w x y h g d) (ap₂ (setting d) (h d) (g d))
+offsets-same v w x h zero = refl
+offsets-same v w x h (suc d) = ap₂ _++_ (offsets-same v w x h d) (ap (λ (c : ℕ). setting d c x) (h d))
+
+-- ..and by no write.
+offsets-only : (v : Values) (x : Txn) (y : Transaction) → ((d : ℕ) → x .standing d ≡ standingAt y d) → ((d : ℕ) → x .dirty d ≡ dirtyAt y d)
+    → (n : ℕ) → offsetSettings v x n ≡ offsetSettings v (descriptorsOnly y) n
+unfolding offsetSettings setsOffset
+offsets-only v x y h g zero = refl
+offsets-only v x y h g (suc d) = ap₂ _++_ (offsets-only v x y h g d) (ap₂ (λ (z : Standing) (b : Bool). cond (b && isTouched z) (record { item = offset d; to = finalOffset (v (offset d)) z } ∷ []) []) (h d) (g d))
 
 -- ---- no offset lands in the files, no byte in the offsets
 
@@ -53,8 +59,8 @@ offsets-land-none : (v : Values) (x : Txn) (files : List ℕ) (n : ℕ) → land
 unfolding offsetSettings landFiles landByte
 offsets-land-none v x files zero = refl
 offsets-land-none v x files (suc n) =
-    landed-append (offsetSettings v x n) (setting n (v (offset n)) (x .standing n)) files
-    ∙ one (isTouched (x .standing n)) (landFiles (offsetSettings v x n) files)
+    landed-append (offsetSettings v x n) (setting n (v (offset n)) x) files
+    ∙ one (setsOffset x n) (landFiles (offsetSettings v x n) files)
     ∙ offsets-land-none v x files n
   where
     one : (b : Bool) (l : List ℕ) → landFiles (cond b (record { item = offset n; to = finalOffset (v (offset n)) (x .standing n) } ∷ []) []) l ≡ l
@@ -78,18 +84,18 @@ bytes-set-none F v (w ∷ ws) offsets =
 -- ---- who has sighted an offset that is set
 
 -- The descriptors set that stand Known.
-known-offsets : (marks : List ℕ) (u : ℕ) (y : Transaction) (v : Values) (x : Txn) (z : Transaction) → ((d : ℕ) → x .standing d ≡ standingAt z d)
-    → (n : ℕ) → conflicts marks u y (offsetSettings v x n) ≡ some (knowsOffset y z) n
+known-offsets : (marks : List ℕ) (u : ℕ) (y : Transaction) (v : Values) (x : Transaction) (n : ℕ)
+    → conflicts marks u y (offsetSettings v (descriptorsOnly x) n) ≡ some (knowsOffset y x) n
 unfolding offsetSettings some conflicts hasSighted knowsOffset
-known-offsets marks u y v x z h zero = refl
-known-offsets marks u y v x z h (suc n) =
-    conflicts-append marks u y (offsetSettings v x n) (setting n (v (offset n)) (x .standing n))
-    ∙ ap₂ _||_ (known-offsets marks u y v x z h n) (one (isTouched (x .standing n)) refl)
+known-offsets marks u y v x zero = refl
+known-offsets marks u y v x (suc n) =
+    conflicts-append marks u y (offsetSettings v (descriptorsOnly x) n) (setting n (v (offset n)) (descriptorsOnly x))
+    ∙ ap₂ _||_ (known-offsets marks u y v x n) (one (setsOffset (descriptorsOnly x) n))
   where
-    one : (b : Bool) → isTouched (x .standing n) ≡ b
-        → conflicts marks u y (cond b (record { item = offset n; to = finalOffset (v (offset n)) (x .standing n) } ∷ []) []) ≡ knowsOffset y z n
-    one true e = or-false (isKnown (standingAt y n)) ∙ sym (ap (λ (b : Bool). b && isKnown (standingAt y n)) (sym (ap isTouched (h n)) ∙ e))
-    one false e = sym (ap (λ (b : Bool). b && isKnown (standingAt y n)) (sym (ap isTouched (h n)) ∙ e))
+    one : (b : Bool)
+        → conflicts marks u y (cond b (record { item = offset n; to = finalOffset (v (offset n)) (standingAt x n) } ∷ []) []) ≡ (b && isKnown (standingAt y n))
+    one true = or-false (isKnown (standingAt y n))
+    one false = refl
 
 -- ---- a granted commit
 
@@ -118,7 +124,7 @@ module _ (m : Machine) (t : ℕ) where
   abbrev pub landedBytes : List Setting
   landedBytes = bytesSet (s .filenumbers) (s .offsets) (m .journal) (m .logs) t (transaction s t .used .records)
 
-  pub fits-is : fits v x ≡ fits (offsetsOnly (s .offsets)) (standingsOnly (transaction s t))
+  pub fits-is : fits v x ≡ fits (offsetsOnly (s .offsets)) (descriptorsOnly (transaction s t))
   unfolding fits txnOf values offsetsOnly
   fits-is = refl
 
@@ -126,34 +132,37 @@ module _ (m : Machine) (t : ℕ) where
   unfolding bytesSet txnOf fileOf values offsetsOnly
   bytes-are = bytes-same (fileOf s) v (offsetsOnly (s .offsets)) (x .writes) (λ d. refl)
 
-  settings-are : allSet ≡ landedBytes ++ offsetSettings v x 16
-  unfolding settings
-  settings-are = ap (λ (ss : List Setting). ss ++ offsetSettings v x 16) bytes-are
+  abbrev setOffsets : List Setting
+  setOffsets = offsetSettings v (descriptorsOnly (transaction s t)) 16
+
+  settings-are : allSet ≡ landedBytes ++ setOffsets
+  unfolding settings txnOf
+  settings-are = ap₂ _++_ bytes-are (offsets-only v x (transaction s t) (λ d. refl) (λ d. refl) 16)
 
   pub files-are : landFiles allSet (m .files) ≡ landFiles landedBytes (m .files)
   files-are =
       ap (λ (ss : List Setting). landFiles ss (m .files)) settings-are
-      ∙ landed-append landedBytes (offsetSettings v x 16) (m .files)
-      ∙ offsets-land-none v x (landFiles landedBytes (m .files)) 16
+      ∙ landed-append landedBytes setOffsets (m .files)
+      ∙ offsets-land-none v (descriptorsOnly (transaction s t)) (landFiles landedBytes (m .files)) 16
 
   pub offsets-are : landOffsets allSet (s .offsets) ≡ offsetsSet (transaction s t) (s .offsets) 16
-  unfolding settings txnOf values offsetsOnly
+  unfolding values offsetsOnly bytesSet
   offsets-are =
-      offsets-append (byteSettings (fileOf s) v (x .writes)) (offsetSettings v x 16) (s .offsets)
-      ∙ ap (landOffsets (offsetSettings v x 16)) (bytes-set-none (fileOf s) v (x .writes) (s .offsets))
+      ap (λ (ss : List Setting). landOffsets ss (s .offsets)) settings-are
+      ∙ offsets-append landedBytes setOffsets (s .offsets)
+      ∙ ap (landOffsets setOffsets) (bytes-set-none _ _ _ (s .offsets))
       ∙ ap (λ (ss : List Setting). landOffsets ss (s .offsets))
-      (offsets-same v (offsetsOnly (s .offsets)) x (standingsOnly (transaction s t)) (λ d. refl) (λ d. refl) 16)
+      (offsets-same v (offsetsOnly (s .offsets)) (descriptorsOnly (transaction s t)) (λ d. refl) 16)
 
   -- Those in seen are who has a mark on a byte set.
   module _ (seen : ℕ) (sees : (u : ℕ) (y : Transaction) → u < 8 → contains seen u ≡ conflicts (m .marks) u y landedBytes) where
     conflicts-are : (u : ℕ) → u < 8
         → conflicts (m .marks) u (transaction s u) allSet ≡ contains seen u || some (knowsOffset (transaction s u) (transaction s t)) 16
-    unfolding txnOf
     conflicts-are u l =
         let y = transaction s u in
         ap (conflicts (m .marks) u y) settings-are
-        ∙ conflicts-append (m .marks) u y landedBytes (offsetSettings v x 16)
-        ∙ ap₂ _||_ (sym (sees u y l)) (known-offsets (m .marks) u y v x (transaction s t) (λ d. refl) 16)
+        ∙ conflicts-append (m .marks) u y landedBytes setOffsets
+        ∙ ap₂ _||_ (sym (sees u y l)) (known-offsets (m .marks) u y v (transaction s t) 16)
 
     after-same : (u : ℕ) → u < 8 → afterCommit t (m .marks) allSet s u ≡ passedOver (s .transactions) t seen u
     unfolding afterCommit passedOver afterwards staled hit
@@ -184,7 +193,7 @@ module _ (m : Machine) (t : ℕ) where
     count-is = sum-same (λ u. cond (becomesStale t (m .marks) allSet s u) 1 0) (countedIn (s .transactions) t seen) 8 became-same
 
   -- A transaction in range whose placing fits can land.
-  module _ (fit : fits (offsetsOnly (s .offsets)) (standingsOnly (transaction s t)) ≡ true) where
+  module _ (fit : fits (offsetsOnly (s .offsets)) (descriptorsOnly (transaction s t)) ≡ true) where
     record-lands : (k : ℕ) → recordIn (transaction s t) (writeRecordAt (m .journal) t k) ≡ true → RecordLands (s .offsets) (m .journal) t k
     record-lands k e =
         let w = writeRecordAt (m .journal) t k in

@@ -17,17 +17,17 @@ use Rattle.record.specs.declared.Transaction.{Transaction}
 use Rattle.record.specs.declared.journal.WriteRecord.{WriteRecord}
 use Rattle.record.specs.State.{standingAt}
 use Rattle.record.specs.Journal.{writeRecordAt}
-use Rattle.standings.specs.Table.{advance, isTouched, finalOffset}
+use Rattle.standings.specs.Table.{advance, finalOffset}
 use Rattle.ranges.specs.Below.{below, sum}
 use Rattle.ranges.specs.Ranges.{lengthsBefore, Sizes}
 use Rattle.ranges.proofs.Laws.{below-at, below-fails}
 use Rattle.rules.specs.Items.{offset, Values}
 use Rattle.rules.specs.Transactions.{Write}
-use Rattle.rules.specs.Commits.{Setting, landsAt, stretch, byteSettings, offsetSettings, fits}
+use Rattle.rules.specs.Commits.{Setting, landsAt, stretch, byteSettings, setsOffset, offsetSettings, fits}
 use Rattle.rules.specs.Machine.{dataStart, writeAt, tabulate}
 use Rattle.rules.specs.Calls.{landByte, landFiles, landOffset, landOffsets, hasSighted, conflicts}
 use Rattle.rules.proofs.View.Tables.{sum-le}
-use Rattle.landing.specs.Landing.{offsetsOnly, standingsOnly, bytesSet, CanLand}
+use Rattle.landing.specs.Landing.{offsetsOnly, descriptorsOnly, bytesSet, CanLand}
 
 -- ---- settings in order
 
@@ -191,19 +191,19 @@ abbrev pub fitsAt : Transaction → List ℕ → ℕ → Bool
 fitsAt x offsets d = leb (getD offsets d 0 + advance (standingAt x d)) 4096
 
 module _ (x : Transaction) (offsets : List ℕ) where
-  pub placed-all : below (fitsAt x offsets) 16 ≡ true → fits (offsetsOnly offsets) (standingsOnly x) ≡ true
+  pub placed-all : below (fitsAt x offsets) 16 ≡ true → fits (offsetsOnly offsets) (descriptorsOnly x) ≡ true
   unfolding fits offsetsOnly
   placed-all e = e
 
   module _ (d a : ℕ) (limit : getD offsets d 0 ≤ 4096) (e : a ≡ advance (standingAt x d)) where
-    pub placed-not : d < 16 → 4096 - getD offsets d 0 < a → fits (offsetsOnly offsets) (standingsOnly x) ≡ false
+    pub placed-not : d < 16 → 4096 - getD offsets d 0 < a → fits (offsetsOnly offsets) (descriptorsOnly x) ≡ false
     unfolding fits offsetsOnly
     placed-not l h = below-fails (fitsAt x offsets) d 16 l (lt-leb (getD offsets d 0 + advance (standingAt x d)) 4096 (omega arith))
 
     pub fits-so : a ≤ 4096 - getD offsets d 0 → fitsAt x offsets d ≡ true
     fits-so h = le-leb (getD offsets d 0 + advance (standingAt x d)) 4096 (omega arith)
 
-  pub fits-at : fits (offsetsOnly offsets) (standingsOnly x) ≡ true → (d : ℕ) → d < 16 → getD offsets d 0 + advance (standingAt x d) ≤ 4096
+  pub fits-at : fits (offsetsOnly offsets) (descriptorsOnly x) ≡ true → (d : ℕ) → d < 16 → getD offsets d 0 + advance (standingAt x d) ≤ 4096
   unfolding fits offsetsOnly
   fits-at e d l = leb-true (getD offsets d 0 + advance (standingAt x d)) 4096 (below-at (fitsAt x offsets) 16 d e l)
 
@@ -212,18 +212,18 @@ module _ (x : Transaction) (offsets : List ℕ) where
 module _ (x : Transaction) (offsets : List ℕ) where
   -- The committed offsets once those of the first n descriptors are set.
   abbrev pub offsetsSet : ℕ → List ℕ
-  offsetsSet n = landOffsets (offsetSettings (offsetsOnly offsets) (standingsOnly x) n) offsets
+  offsetsSet n = landOffsets (offsetSettings (offsetsOnly offsets) (descriptorsOnly x) n) offsets
 
   pub offsets-none : offsetsSet 0 ≡ offsets
   unfolding offsetSettings landOffsets
   offsets-none = refl
 
-  offsets-more : (d : ℕ) (b : Bool) → isTouched (standingAt x d) ≡ b
+  offsets-more : (d : ℕ) (b : Bool) → setsOffset (descriptorsOnly x) d ≡ b
       → offsetsSet (d + 1) ≡ cond b (set (offsetsSet d) d (finalOffset (getD offsets d 0) (standingAt x d))) (offsetsSet d)
   unfolding offsetSettings landOffsets landOffset offsetsOnly
   offsets-more d b e =
       rw (add-one, e)
-      (offsets-append (offsetSettings (offsetsOnly offsets) (standingsOnly x) d) (cond b (record { item = offset d; to = finalOffset (getD offsets d 0) (standingAt x d) } ∷ []) []) offsets
+      (offsets-append (offsetSettings (offsetsOnly offsets) (descriptorsOnly x) d) (cond b (record { item = offset d; to = finalOffset (getD offsets d 0) (standingAt x d) } ∷ []) []) offsets
       ∙ pick b)
     where
       pick : (b : Bool) → landOffsets (cond b (record { item = offset d; to = finalOffset (getD offsets d 0) (standingAt x d) } ∷ []) []) (offsetsSet d)
@@ -231,8 +231,8 @@ module _ (x : Transaction) (offsets : List ℕ) where
       pick true = refl
       pick false = refl
 
-  pub offset-set : (d : ℕ) → isTouched (standingAt x d) ≡ true → set (offsetsSet d) d (finalOffset (getD offsets d 0) (standingAt x d)) ≡ offsetsSet (d + 1)
+  pub offset-set : (d : ℕ) → setsOffset (descriptorsOnly x) d ≡ true → set (offsetsSet d) d (finalOffset (getD offsets d 0) (standingAt x d)) ≡ offsetsSet (d + 1)
   offset-set d e = sym (offsets-more d true e)
 
-  pub offset-kept : (d : ℕ) → isTouched (standingAt x d) ≡ false → offsetsSet d ≡ offsetsSet (d + 1)
+  pub offset-kept : (d : ℕ) → setsOffset (descriptorsOnly x) d ≡ false → offsetsSet d ≡ offsetsSet (d + 1)
   offset-kept d e = sym (offsets-more d false e)

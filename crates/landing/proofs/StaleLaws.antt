@@ -16,10 +16,12 @@ use Rattle.record.specs.declared.Transaction.{Transaction}
 use Rattle.record.specs.State.{noTransaction, standingAt, withStale}
 use Rattle.ranges.specs.Below.{sum}
 use Rattle.ranges.proofs.Laws.{sum-zero, sum-more}
-use Rattle.standings.specs.Table.{isTouched, isKnown}
+use Rattle.standings.specs.Table.{isKnown}
 use Rattle.rules.specs.Machine.{tabulate}
 use Rattle.rules.proofs.View.Tables.{length-tabulate}
 use Rattle.laws.proofs.Filled.{filled, filled-none, filled-set, filled-all}
+use Rattle.rules.specs.Commits.{setsOffset}
+use Rattle.landing.specs.Landing.{descriptorsOnly}
 use Rattle.landing.specs.Staling.{some, knowsOffset, hit, afterwards, newlyStale}
 
 -- ---- a test of some number below a bound
@@ -43,17 +45,17 @@ module _ (p : ℕ → Bool) where
 -- ---- offsets that another transaction knows
 
 module _ (y x : Transaction) (d : ℕ) where
-  pub knows : isTouched (standingAt x d) ≡ true → isKnown (standingAt y d) ≡ true → knowsOffset y x d ≡ true
+  pub knows : setsOffset (descriptorsOnly x) d ≡ true → isKnown (standingAt y d) ≡ true → knowsOffset y x d ≡ true
   unfolding knowsOffset
   knows e f = simp (e, f)
 
-  pub knows-unset : isTouched (standingAt x d) ≡ false → knowsOffset y x d ≡ false
+  pub knows-unset : setsOffset (descriptorsOnly x) d ≡ false → knowsOffset y x d ≡ false
   unfolding knowsOffset
   knows-unset e = simp e
 
   pub knows-unknown : isKnown (standingAt y d) ≡ false → knowsOffset y x d ≡ false
   unfolding knowsOffset
-  knows-unknown f = ap (λ (b : Bool). isTouched (standingAt x d) && b) f ∙ and-false (isTouched (standingAt x d))
+  knows-unknown f = ap (λ (b : Bool). setsOffset (descriptorsOnly x) d && b) f ∙ and-false (setsOffset (descriptorsOnly x) d)
 
 -- ---- a transaction that is hit
 

@@ -4,7 +4,7 @@ use mathlib.Core.Path.{_≡_}
 use lib.ListN.{getD}
 use Prim.Native.Nat.{ℕ, _+_, _≤_, _<_}
 use Rattle.record.specs.declared.Transaction.{Transaction}
-use Rattle.record.specs.State.{standingAt}
+use Rattle.record.specs.State.{standingAt, dirtyAt}
 use Rattle.record.specs.Journal.{writeRecordAt}
 use Rattle.ranges.specs.Ranges.{lengthsBefore, Sizes}
 use Rattle.rules.specs.Items.{byte, offset, Values}
@@ -12,14 +12,14 @@ use Rattle.rules.specs.Transactions.{Txn}
 use Rattle.rules.specs.Commits.{Setting, landsAt, byteSettings}
 use Rattle.rules.specs.Machine.{writeAt, tabulate}
 
--- The committed offsets as values, and the standings of x as a transaction of the rules: what a commit sets goes by no committed
+-- The committed offsets as values, and the descriptors of x as a transaction of the rules: what a commit sets goes by no committed
 -- byte, and its offsets by no write.
 unfoldable pub offsetsOnly : List ℕ → Values
 offsetsOnly offsets (byte q) = 0
 offsetsOnly offsets (offset d) = getD offsets d 0
 
-abbrev pub standingsOnly : Transaction → Txn
-standingsOnly x = record { standing = standingAt x; writes = [] }
+abbrev pub descriptorsOnly : Transaction → Txn
+descriptorsOnly x = record { standing = standingAt x; dirty = dirtyAt x; writes = [] }
 
 -- The bytes that the first n write records of transaction t set, in call order.
 unfoldable pub bytesSet : List ℕ → List ℕ → List ℕ → List ℕ → ℕ → ℕ → List Setting

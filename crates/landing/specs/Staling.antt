@@ -5,7 +5,9 @@ use Prim.Native.Nat.{ℕ, zero, suc}
 use Rattle.octets.specs.Marks.{contains}
 use Rattle.record.specs.declared.Transaction.{Transaction}
 use Rattle.record.specs.State.{standingAt, ended, withStale}
-use Rattle.standings.specs.Table.{isTouched, isKnown}
+use Rattle.standings.specs.Table.{isKnown}
+use Rattle.rules.specs.Commits.{setsOffset}
+use Rattle.landing.specs.Landing.{descriptorsOnly}
 
 -- A test of some number below a bound.
 unfoldable pub some : (ℕ → Bool) → ℕ → Bool
@@ -14,7 +16,7 @@ some p (suc n) = some p n || p n
 
 -- y has settled the offset of a descriptor that a commit of x sets.
 unfoldable pub knowsOffset : Transaction → Transaction → ℕ → Bool
-knowsOffset y x d = isTouched (standingAt x d) && isKnown (standingAt y d)
+knowsOffset y x d = setsOffset (descriptorsOnly x) d && isKnown (standingAt y d)
 
 -- Transaction u, as y, is another open one that has sighted a byte or an offset that the commit of t, as x, set. Those in seen have
 -- sighted one of the bytes.

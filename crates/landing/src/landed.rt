@@ -21,12 +21,12 @@ ghost use Rattle.record.specs.declared.Transaction.{Transaction};
 ghost use Rattle.ranges.specs.Ranges.{sized};
 ghost use Rattle.rules.specs.Commits.{landsAt, offsetSettings, fits};
 ghost use Rattle.rules.specs.Calls.{landFiles, landOffsets, conflicts};
-ghost use Rattle.landing.specs.Landing.{offsetsOnly, standingsOnly, bytesSet, CanLand};
+ghost use Rattle.landing.specs.Landing.{offsetsOnly, descriptorsOnly, bytesSet, CanLand};
 
 // Commit's placing: every advance of x fits behind its committed offset.
 pub fn places_fit(x: Transaction, offsets: &[u16; DESCRIPTORS]) -> bool
     requires { ⌜ ((d : ℕ) → d < 16 → getD (now offsets) d 0 ≤ 4096) ⌝ }
-    ensures { λ r. ⌜ r ≡ fits (offsetsOnly (now (offsets .entry))) (standingsOnly x) ⌝ }
+    ensures { λ r. ⌜ r ≡ fits (offsetsOnly (now (offsets .entry))) (descriptorsOnly x) ⌝ }
 {
     let mut d = 0;
     while d < DESCRIPTORS {
@@ -86,14 +86,15 @@ pub fn land_writes<'a>(
 
 // The committed offsets after a commit of x.
 pub fn offsets_after(x: Transaction, offsets: [u16; DESCRIPTORS]) -> [u16; DESCRIPTORS]
-    requires { ⌜ fits (offsetsOnly offsets) (standingsOnly x) ≡ true ⌝ }
-    ensures { λ r. ⌜ r ≡ landOffsets (offsetSettings (offsetsOnly offsets) (standingsOnly x) 16) offsets ⌝ }
+    requires { ⌜ fits (offsetsOnly offsets) (descriptorsOnly x) ≡ true ⌝ }
+    ensures { λ r. ⌜ r ≡ landOffsets (offsetSettings (offsetsOnly offsets) (descriptorsOnly x) 16) offsets ⌝ }
 {
     let mut out = offsets;
     let mut d = 0;
     while d < DESCRIPTORS {
-        let z = x.standing_at(d);
-        if z.is_touched() {
+        let q = x.descriptors[d];
+        if q.sets_offset() {
+            let z = q.standing;
             out[d] = z.final_offset(offsets[d]);
         }
         d += 1;

@@ -12,8 +12,8 @@ fn knows_offset_of(y: Transaction, x: Transaction) -> bool
 {
     let mut d = 0;
     while d < DESCRIPTORS {
-        let z = x.standing_at(d);
-        if z.is_touched() {
+        let q = x.descriptors[d];
+        if q.sets_offset() {
             let k = y.standing_at(d);
             if k.is_known() {
                 return true;

@@ -1,5 +1,5 @@
--- A transaction put back into the record: as it was, with another standing, with one write more.
-use mathlib.Core.Bool.{Bool, true, false, cond}
+-- A transaction put back into the record: as it was, with one descriptor changed, with one write more.
+use mathlib.Core.Bool.{true, cond}
 use mathlib.Core.List.{List, [], _∷_, _++_}
 use mathlib.Core.Path.{_≡_, refl, sym, ap, ap₂, _∙_}
 use borrow.Author.Tests.{eq-eqb, ne-eqb}
@@ -14,30 +14,35 @@ use Rattle.record.specs.declared.Descriptor.{Descriptor}
 use Rattle.record.specs.declared.Transaction.{Transaction}
 use Rattle.record.specs.declared.Store.{Store}
 use Rattle.record.specs.declared.journal.WriteRecord.{WriteRecord}
-use Rattle.record.specs.State.{transaction, standingAt, noDescriptor, withUsed, withDescriptors, withTransaction}
+use Rattle.record.specs.State.{transaction, standingAt, dirtyAt, noDescriptor, withUsed, withDescriptors, withTransaction}
 use Rattle.record.specs.Journal.{writeRecordAt, withRecordAt}
 use Rattle.record.proofs.JournalLaws.{with-more, with-same, with-own-records}
 use Rattle.standings.specs.Table.{afterWrite, writePlace}
-use Rattle.rules.specs.Transactions.{Txn, Write, put, withStanding}
+use Rattle.rules.specs.Transactions.{Txn, Write, put, dirtied}
 use Rattle.rules.specs.Steps.{total, written}
 use Rattle.rules.specs.Machine.{tabulate, writeAt, recordOf, txnOf, noWrite, journalled, holding, withTxn}
 use Rattle.rules.proofs.View.Shape.{Shaped}
 use Rattle.rules.proofs.View.Tables.{tabulate-getD, tabulate-set}
 use Rattle.laws.proofs.Decoded.{Opened, decoded-count, decoded-at, decoded-total, decoded-length, total-append}
 
--- ---- the standings of a transaction
+-- ---- the descriptors of a transaction
 
-tabulate-descriptors : (x : Transaction) → length (x .descriptors) ≡ 16 → tabulate (λ d. record { standing = standingAt x d }) 16 ≡ x .descriptors
+abbrev descriptorAt : Transaction → ℕ → Descriptor
+descriptorAt x d = record { standing = standingAt x d; dirty = dirtyAt x d }
+
+tabulate-descriptors : (x : Transaction) → length (x .descriptors) ≡ 16 → tabulate (descriptorAt x) 16 ≡ x .descriptors
 tabulate-descriptors x e =
     ap (λ (n : ℕ). tabulate (λ d. getD (x .descriptors) d noDescriptor) n) (sym e) ∙ tabulate-getD (x .descriptors) noDescriptor
 
 put-descriptor : (x : Transaction) (d : ℕ) (z : Standing) → d < 16 → length (x .descriptors) ≡ 16
-    → tabulate (λ e. record { standing = put d z (standingAt x) e }) 16 ≡ set (x .descriptors) d (record { standing = z })
+    → tabulate (λ e. record { standing = put d z (standingAt x) e; dirty = put d true (dirtyAt x) e }) 16
+    ≡ set (x .descriptors) d (record { standing = z; dirty = true })
 unfolding put
 put-descriptor x d z h e =
-    tabulate-set (λ k. record { standing = standingAt x k }) (λ k. record { standing = cond (eqb k d) z (standingAt x k) }) 16 d (record { standing = z }) h
+    let q : Descriptor = record { standing = z; dirty = true } in
+    tabulate-set (descriptorAt x) (λ k. record { standing = cond (eqb k d) z (standingAt x k); dirty = cond (eqb k d) true (dirtyAt x k) }) 16 d q h
     (rw (eq-eqb d d refl)) (λ k ne. rw (ne-eqb k d ne))
-    ∙ ap (λ (l : List Descriptor). set l d (record { standing = z })) (tabulate-descriptors x e)
+    ∙ ap (λ (l : List Descriptor). set l d q) (tabulate-descriptors x e)
 
 -- ---- a whole transaction
 
@@ -79,13 +84,13 @@ module _ (s : Store) (journal logs : List ℕ) (t : ℕ) (o : Opened s journal l
       let x = transaction s t in
       rw (decoded-count s journal logs t o, decoded-total s journal logs t o, tabulate-descriptors x (o .shape .descriptors t (o .small)))
 
-  -- One descriptor stands otherwise.
-  pub txn-restood : (d : ℕ) (z : Standing) → d < 16
-      → withTxn t (withStanding d z (txnOf s journal logs t)) s
+  -- One descriptor stands otherwise, and is dirty.
+  pub txn-dirtied : (d : ℕ) (z : Standing) → d < 16
+      → withTxn t (dirtied d z (txnOf s journal logs t)) s
       ≡ withTransaction t
-      (withDescriptors (set (transaction s t .descriptors) d (record { standing = z })) (transaction s t)) s
+      (withDescriptors (set (transaction s t .descriptors) d (record { standing = z; dirty = true })) (transaction s t)) s
   unfolding withTxn holding txnOf
-  txn-restood d z h =
+  txn-dirtied d z h =
       rw (decoded-count s journal logs t o, decoded-total s journal logs t o, put-descriptor (transaction s t) d z h (o .shape .descriptors t (o .small)))
 
   -- One write more: its record, the counters, its descriptor.
@@ -93,7 +98,7 @@ module _ (s : Store) (journal logs : List ℕ) (t : ℕ) (o : Opened s journal l
       → withTxn t (written d bytes (txnOf s journal logs t)) s
       ≡ withTransaction t
       (withUsed (record { records = transaction s t .used .records + 1; bytes = transaction s t .used .bytes + length bytes })
-      (withDescriptors (set (transaction s t .descriptors) d (record { standing = afterWrite (length bytes) (standingAt (transaction s t) d) }))
+      (withDescriptors (set (transaction s t .descriptors) d (record { standing = afterWrite (length bytes) (standingAt (transaction s t) d); dirty = true }))
       (transaction s t))) s
   unfolding withTxn withTransaction holding written txnOf
   txn-written d bytes h =

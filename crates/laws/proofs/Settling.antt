@@ -153,9 +153,9 @@ module _ (p : ℕ → Bool) (c : ℕ → ℕ) (n : ℕ) (passes : p n ≡ true) 
       pick false q = rw (q, first-other p n e (eqb-false e n q))
 
   settle-more : (x : Txn) → settle n (c n) (settleAll (first p n) c x) ≡ settleAll (first p (suc n)) c x
-  unfolding settle
+  unfolding settle settleAll
   settle-more x =
-      ap₂ (λ (f : ℕ → Standing) (ws : List Write). record { standing = f; writes = ws }) (fun-ext (standing-more x)) (places x)
+      ap₂ (λ (f : ℕ → Standing) (ws : List Write). record { standing = f; dirty = x .dirty; writes = ws }) (fun-ext (standing-more x)) (places x)
     where
       places : (x : Txn) → map (placeWrite n (c n)) (settleAll (first p n) c x .writes) ≡ settleAll (first p (suc n)) c x .writes
       places x = unfold settleAll in places-more (x .writes)
@@ -189,7 +189,7 @@ module _ (v : Values) (p : ℕ → Bool) (x : Txn) where
   none-yet : settleAll (first p 0) offsets x ≡ x
   unfolding settleAll
   none-yet =
-      ap₂ (λ (f : ℕ → Standing) (ws : List Write). record { standing = f; writes = ws }) (fun-ext (λ d. rw (nobody d))) (same (x .writes))
+      ap₂ (λ (f : ℕ → Standing) (ws : List Write). record { standing = f; dirty = x .dirty; writes = ws }) (fun-ext (λ d. rw (nobody d))) (same (x .writes))
     where
       nobody : (d : ℕ) → first p 0 d ≡ false
       nobody d = unfold first in rw (le-ltb d 0 (omega arith)) (and-false (p d))

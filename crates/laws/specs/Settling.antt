@@ -18,5 +18,6 @@ unfoldable pub settleAll : (ℕ → Bool) → (ℕ → ℕ) → Txn → Txn
 settleAll p c x =
     record {
       standing = λ d. cond (p d) (settled (c d) (x .standing d)) (x .standing d);
+      dirty = x .dirty;
       writes = map (placeAll p c) (x .writes);
     }

@@ -19,7 +19,7 @@ use Rattle.record.specs.Paper.{given, said}
 use Rattle.ranges.specs.Ranges.{admission, standingIn, lengthsBefore}
 use Rattle.ranges.proofs.Laws.{and-right, below-at, standing-numbers}
 use Rattle.rules.specs.Items.{Item, Values, Prog, done, andThen, result, asked}
-use Rattle.rules.specs.Transactions.{Txn, Write, withStanding, Settled, past, all, settling}
+use Rattle.rules.specs.Transactions.{Txn, Write, dirtied, Settled, past, all, settling}
 use Rattle.rules.specs.Reading.{fetch}
 use Rattle.rules.specs.Messages.{read, bufferOf, on}
 use Rattle.rules.specs.Steps.{Stepped, accept, check, orGivenBack, step, readStep, readSettled, settledByRead}
@@ -31,7 +31,7 @@ use Rattle.laws.specs.Settling.{settleAll}
 use Rattle.laws.proofs.Decoded.{Opened}
 use Rattle.laws.proofs.Settling.{marked-settling}
 use Rattle.settling.specs.Choices.{chosenByRead, settlesWithin, allWithin, settledTransaction}
-use Rattle.settling.proofs.Settled.{settledTxn, settledJournal, txn-settled-restood, journal-settled, descriptor-settled, data-settled, writes-settled, standing-settled}
+use Rattle.settling.proofs.Settled.{settledTxn, settledJournal, txn-settled-dirtied, journal-settled, descriptor-settled, data-settled, writes-settled, standing-settled}
 use Rattle.settling.proofs.Chosen.{settling-read}
 use Rattle.runs.specs.declared.Extent.{Extent}
 use Rattle.runs.specs.Runs.{Recorded, recorded, extent, Counted}
@@ -132,7 +132,7 @@ module _ (t d n : ℕ) (buffer : List ℕ) (m : Machine) (passes : admission (si
       fetches = fetch (fileOf (m .store)) (meant .writes) (fileOf (m .store) d) from count
 
       abbrev finally : Txn
-      finally = withStanding d (afterRead count (meant .standing d)) meant
+      finally = dirtied d (afterRead count (meant .standing d)) meant
 
       reads-on : result v (goesOn meant) ≡ accept finally (given count) (result v fetches ++ drop count buffer)
       unfolding readSettled result
@@ -239,15 +239,15 @@ module _ (t d n : ℕ) (buffer : List ℕ) (m : Machine) (passes : admission (si
           marks-set = rw (ej, places-are) read-marks
 
           store-is : (z : Standing) → z ≡ afterRead (e .length) (standingAt x d)
-              → withTransaction t (withDescriptors (set (x .descriptors) d (record { standing = z })) x) (m .store) ≡ withTxn t finally (m .store)
+              → withTransaction t (withDescriptors (set (x .descriptors) d (record { standing = z; dirty = true })) x) (m .store) ≡ withTxn t finally (m .store)
           unfolding settledTransaction
           store-is z ez =
               rw (ez ∙ ap₂ (λ (e : Extent) (z : Standing). afterRead (e .length) z) places-are standing-is, ex)
-              (sym (txn-settled-restood (m .store) (m .journal) (m .logs) t o choice d (afterRead count (meant .standing d)) (omega arith)))
+              (sym (txn-settled-dirtied (m .store) (m .journal) (m .logs) t o choice d (afterRead count (meant .standing d)) (omega arith)))
 
           pub read-meets : (z : Standing) (marksThen reader : List ℕ) → z ≡ afterRead (e .length) (standingAt x d) → marksThen ≡ marks → reader ≡ bytes ++ drop (e .length) buffer
               → Meets (call (on t (read d n buffer)) m) (Given (e .length))
-              (lent (withTransaction t (withDescriptors (set (x .descriptors) d (record { standing = z })) x) (m .store)) journal (m .files) (m .logs) marksThen) reader
+              (lent (withTransaction t (withDescriptors (set (x .descriptors) d (record { standing = z; dirty = true })) x) (m .store)) journal (m .files) (m .logs) marksThen) reader
           unfolding said
           read-meets z marksThen reader ez em er =
               record {

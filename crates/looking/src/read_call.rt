@@ -92,6 +92,7 @@ pub fn read<'a>(
     );
     y.descriptors[d] = Descriptor {
         standing: z.after_read(e.length as u16),
+        dirty: true,
     };
     s.transactions[t] = y;
     Answer {

@@ -10,7 +10,7 @@ use Rattle.standings.specs.declared.Place.the-variants.{At, After}
 use Rattle.record.specs.declared.Transaction.{Transaction}
 use Rattle.record.specs.declared.Store.{Store}
 use Rattle.record.specs.declared.journal.WriteRecord.{WriteRecord}
-use Rattle.record.specs.State.{ended, begun, withUsed, withDescriptors, withBegun}
+use Rattle.record.specs.State.{noDescriptor, ended, begun, withUsed, withDescriptors, withBegun}
 use Rattle.record.specs.Journal.{withRecords}
 use Rattle.ranges.specs.Ranges.{storeIn}
 
@@ -23,7 +23,7 @@ forged file offset x =
 unfoldable pub opened : Standing → ℕ → ℕ → Transaction
 opened z n bytes =
     withUsed (record { records = n; bytes = bytes })
-    (withDescriptors (set (replicate 16 (record { standing = Untouched })) 15 (record { standing = z })) begun)
+    (withDescriptors (set (replicate 16 noDescriptor) 15 (record { standing = z; dirty = false })) begun)
 
 -- A journal whose first n records of transaction 7 are those.
 unfoldable pub journal : (ℕ → WriteRecord) → ℕ → List ℕ

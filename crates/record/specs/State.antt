@@ -14,7 +14,7 @@ use Rattle.record.specs.declared.Store.{Store}
 
 -- A descriptor that nobody touched; it also stands in an array of descriptors past its end.
 abbrev pub noDescriptor : Descriptor
-noDescriptor = record { standing = Untouched }
+noDescriptor = record { standing = Untouched; dirty = false }
 
 -- "an ended transaction has an empty log, sixteen Untouched descriptors and is not stale"
 unfoldable pub ended : Transaction
@@ -44,6 +44,10 @@ begun = withBegun true ended
 -- The standing of descriptor d.
 abbrev pub standingAt : Transaction → ℕ → Standing
 standingAt x d = getD (x .descriptors) d noDescriptor .standing
+
+-- Whether descriptor d is dirty.
+abbrev pub dirtyAt : Transaction → ℕ → Bool
+dirtyAt x d = getD (x .descriptors) d noDescriptor .dirty
 
 -- ---- the store
 

@@ -5,7 +5,9 @@ pub mod outcomes;
 
 use counters::Used;
 use standings::Standing;
+ghost use mathlib.Core.Bool.{_&&_};
 ghost use mathlib.Core.Path.{_≡_};
+ghost use Rattle.standings.specs.Table.{isTouched};
 ghost use Rattle.record.specs.State.{ended as endedTransaction, begun as begunTransaction, standingAt};
 ghost use Prim.Native.Nat.{_<_};
 
@@ -13,8 +15,11 @@ pub const DESCRIPTORS: usize = 16;
 
 pub const TRANSACTIONS: usize = 8;
 
+// The standing of a descriptor, and whether the transaction made an accepted Seek, Read or Write on it: then it is dirty, and
+// Commit sets its offset.
 pub struct Descriptor {
     pub standing: Standing,
+    pub dirty: bool,
 }
 
 pub struct Transaction {
@@ -31,13 +36,27 @@ pub struct Store {
     pub transactions: [Transaction; TRANSACTIONS],
 }
 
+impl Descriptor {
+    // Whether Commit sets its offset: it is dirty, and not Untouched.
+    pub fn sets_offset(self) -> bool
+        ensures { λ r. ⌜ r ≡ (self .dirty && isTouched (self .standing)) ⌝ }
+    {
+        if !self.dirty {
+            return false;
+        }
+        let z = self.standing;
+        z.is_touched()
+    }
+}
+
 impl Transaction {
-    // A transaction that has ended: an empty log, sixteen Untouched descriptors, not stale.
+    // A transaction that has ended: an empty log, sixteen Untouched descriptors, none dirty, not stale.
     pub fn ended() -> Transaction
         ensures { λ r. ⌜ r ≡ endedTransaction ⌝ }
     {
         let d = Descriptor {
             standing: Standing::Untouched,
+            dirty: false,
         };
         Transaction {
             begun: false,

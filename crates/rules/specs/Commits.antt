@@ -1,5 +1,5 @@
 -- Paper 01, "Commit and Abort": what a commit sets.
-use mathlib.Core.Bool.{Bool, cond}
+use mathlib.Core.Bool.{Bool, cond, _&&_}
 use mathlib.Core.List.{List, [], _∷_, _++_}
 use lib.Dec.{leb}
 use Prim.Native.Nat.{ℕ, zero, suc, _+_, _*_}
@@ -30,13 +30,17 @@ byteSettings fileOf v (w ∷ ws) =
     stretch (4096 * fileOf (w .descriptor) + landsAt (v (offset (w .descriptor))) (w .place)) (w .bytes)
     ++ byteSettings fileOf v ws
 
--- "Then the offset of every descriptor not Untouched is set (EndTransaction in the notes): committed offset plus advance if Deferred,
--- otherwise its own": those of the first n descriptors.
+-- "Then the offset of every descriptor not Untouched is set (EndTransaction in the notes)"; 02, F-2: "Commit sets the offset of a
+-- descriptor only if the transaction made a Seek, Read or Write on it".
+unfoldable pub setsOffset : Txn → ℕ → Bool
+setsOffset x d = x .dirty d && isTouched (x .standing d)
+
+-- "committed offset plus advance if Deferred, otherwise its own": those of the first n descriptors.
 unfoldable pub offsetSettings : Values → Txn → ℕ → List Setting
 offsetSettings v x zero = []
 offsetSettings v x (suc d) =
     offsetSettings v x d
-    ++ cond (isTouched (x .standing d)) (record { item = offset d; to = finalOffset (v (offset d)) (x .standing d) } ∷ []) []
+    ++ cond (setsOffset x d) (record { item = offset d; to = finalOffset (v (offset d)) (x .standing d) } ∷ []) []
 
 -- All that a commit sets, in order: landing, setters and staleness go by this one list.
 unfoldable pub settings : (ℕ → ℕ) → Values → Txn → List Setting

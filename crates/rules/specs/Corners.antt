@@ -1,10 +1,18 @@
--- Corners of paper 01's text: each one's calls and the replies expected, in order. They start as the situations do.
+-- Corners of paper 01's text and of 02's: each one's calls and the replies expected, in order. They start as the situations do.
+use mathlib.Core.Bool.{Bool, true, false, cond}
 use mathlib.Core.List.{List, [], _∷_, _++_}
 use mathlib.Core.Path.{_≡_}
+use lib.Dec.{eqb}
 use lib.ListN.{replicate}
+use Prim.Native.Nat.{ℕ}
+use Rattle.standings.specs.declared.Standing.{Standing}
+use Rattle.standings.specs.declared.Standing.the-variants.{Untouched, Deferred}
 use Rattle.record.specs.Paper.{plain, pointer, granted, refused}
-use Rattle.rules.specs.Items.{byte, offset}
+use Rattle.rules.specs.Items.{byte, offset, result}
 use Rattle.rules.specs.Messages.{seek, write, getFilePointer, read, begin, on, commit, abort, places, says}
+use Rattle.rules.specs.Transactions.{Txn}
+use Rattle.rules.specs.Steps.{Stepped, refuse, accept, step}
+use Rattle.rules.specs.Commits.{settings, fits}
 use Rattle.rules.specs.Setup.{Seen, Exchange, _⇒_, callsOf, Goes, sighted, committedBytes, beginning, sightingsOf, gives, refusesWith, lists, begins, A, B, C, X, Y, Z, dot}
 use Rattle.rules.specs.Situations.{toldK, toldL}
 
@@ -91,6 +99,47 @@ toldReadNoneStale =
     ∷ commit 1 ⇒ says (granted 1)
     ∷ commit 0 ⇒ says (refused 13)
     ∷ []
+
+-- "only if the transaction made a Seek, Read or Write on it, 0 bytes included" (02, F-2): T1 looks, then reads 0 bytes, and its commit
+-- sets the offset that T0 looked at.
+unfoldable pub toldReadNoneSets : List Exchange
+toldReadNoneSets =
+    begins
+    ++ on 0 (getFilePointer 0) ⇒ says (pointer 0)
+    ∷ on 1 (getFilePointer 0) ⇒ says (pointer 0)
+    ∷ on 1 (read 0 0 []) ⇒ gives 0 []
+    ∷ commit 1 ⇒ says (granted 1)
+    ∷ commit 0 ⇒ says (refused 13)
+    ∷ []
+
+-- A refused Seek, Write or Read makes no descriptor dirty, and what T1 made dirty before its Abort is clean when it is begun again.
+unfoldable pub toldOnlyLooked : List Exchange
+toldOnlyLooked =
+    begins
+    ++ on 0 (getFilePointer 0) ⇒ says (pointer 0)
+    ∷ on 1 (seek 0 9) ⇒ says plain
+    ∷ abort 1 ⇒ says plain
+    ∷ begin 1 ⇒ says plain
+    ∷ on 1 (getFilePointer 0) ⇒ says (pointer 0)
+    ∷ on 1 (seek 0 4097) ⇒ says (refused 8)
+    ∷ on 1 (write 0 (replicate 4097 A)) ⇒ says (refused 9)
+    ∷ on 1 (read 0 1 []) ⇒ refusesWith 7 []
+    ∷ commit 1 ⇒ says (granted 0)
+    ∷ commit 0 ⇒ says (granted 0)
+    ∷ []
+
+-- A forged transaction whose descriptor 0 stands so, the dirty ones being all or none.
+unfoldable pub mixed : Standing → Bool → Txn
+mixed z b = record { standing = λ d. cond (eqb d 0) z Untouched; dirty = λ d. b; writes = [] }
+
+-- Whether descriptor d is dirty after a step; a refused one leaves everything.
+unfoldable pub dirtyAfter : Stepped → ℕ → Bool
+dirtyAfter (refuse n) d = false
+dirtyAfter (accept y a buffer) d = y .dirty d
+
+-- A Read of 0 bytes through 1, all descriptors of one file: 0, Deferred and clean, is settled beside 1.
+unfoldable pub readBeside : Stepped
+readBeside = result (λ i. 0) (step (λ d. 0) (read 1 0 []) (mixed (Deferred 1) false))
 
 -- A Write of 0 bytes makes an Untouched descriptor Deferred: "the offset of every descriptor not Untouched is set"; "setting to the
 -- same value counts".
@@ -416,6 +465,14 @@ pub record Corners (x : Seen) : Type 0 where
       × (x .value (callsOf toldNeighbourSet) (offset 8) ≡ 5)
   pub readNone : Goes x toldReadNone × (sightingsOf (callsOf toldReadNone) 0 ≡ sighted (offset 0) 0 ∷ [])
   pub readNoneStale : Goes x toldReadNoneStale
+  pub readNoneSets : Goes x toldReadNoneSets
+  pub onlyLooked : Goes x toldOnlyLooked
+  -- Deferred and clean, or Untouched and dirty, sets nothing; 12 at Commit looks at both. Deferred and dirty is set.
+  pub mixtures :
+      (settings (λ d. 0) (λ i. 4096) (mixed (Deferred 1) false) ≡ []) × (settings (λ d. 0) (λ i. 4096) (mixed Untouched true) ≡ [])
+      × (fits (λ i. 4096) (mixed (Deferred 1) false) ≡ false)
+      × (settings (λ d. 0) (λ i. 7) (mixed (Deferred 1) true) ≡ record { item = offset 0; to = 8 } ∷ [])
+  pub settledStaysClean : (dirtyAfter readBeside 0 ≡ false) × (dirtyAfter readBeside 1 ≡ true)
   pub writeNone : Goes x toldWriteNone
   pub sightedAgain :
       Goes x toldSightedAgain

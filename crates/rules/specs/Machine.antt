@@ -7,7 +7,7 @@ use Rattle.standings.specs.declared.Place.the-variants.{At}
 use Rattle.record.specs.declared.Store.{Store}
 use Rattle.record.specs.declared.Transaction.{Transaction}
 use Rattle.record.specs.declared.journal.WriteRecord.{WriteRecord}
-use Rattle.record.specs.State.{transaction, standingAt, withUsed, withDescriptors, withTransaction}
+use Rattle.record.specs.State.{transaction, standingAt, dirtyAt, withUsed, withDescriptors, withTransaction}
 use Rattle.record.specs.Journal.{writeRecordAt, withRecords}
 use Rattle.ranges.specs.Ranges.{lengthsBefore, Sizes, sized}
 use Rattle.rules.specs.Items.{byte, offset, Values}
@@ -81,6 +81,7 @@ unfoldable pub txnOf : Store → List ℕ → List ℕ → ℕ → Txn
 txnOf s journal logs t =
     record {
       standing = standingAt (transaction s t);
+      dirty = dirtyAt (transaction s t);
       writes = tabulate (writeAt journal logs t) (transaction s t .used .records);
     }
 
@@ -91,11 +92,11 @@ noWrite = record { descriptor = 0; place = At 0; bytes = [] }
 unfoldable pub journalled : ℕ → List Write → List ℕ → List ℕ
 journalled t ws journal = withRecords journal t (λ k. recordOf (getD ws k noWrite)) (length ws)
 
--- A transaction with the standings and the counters of another meaning: "records used and data bytes used".
+-- A transaction with the descriptors and the counters of another meaning: "records used and data bytes used".
 unfoldable pub holding : Txn → Transaction → Transaction
 holding y x =
     withUsed (record { records = length (y .writes); bytes = total (y .writes) })
-    (withDescriptors (tabulate (λ d. record { standing = y .standing d }) 16) x)
+    (withDescriptors (tabulate (λ d. record { standing = y .standing d; dirty = y .dirty d }) 16) x)
 
 -- The store after transaction t has become y.
 unfoldable pub withTxn : ℕ → Txn → Store → Store

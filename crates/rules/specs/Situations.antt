@@ -114,14 +114,14 @@ toldI =
     ∷ commit 0 ⇒ says (granted 0)
     ∷ []
 
--- j "T0 and T1 each GetFilePointer on 0. Commit T0: 1. T1: 13."
+-- j "T0 and T1 each GetFilePointer on 0."; 02, F-2: "In j both commits answer 0."
 unfoldable pub toldJ : List Exchange
 toldJ =
     begins
     ++ on 0 (getFilePointer 0) ⇒ says (pointer 0)
     ∷ on 1 (getFilePointer 0) ⇒ says (pointer 0)
-    ∷ commit 0 ⇒ says (granted 1)
-    ∷ commit 1 ⇒ says (refused 13)
+    ∷ commit 0 ⇒ says (granted 0)
+    ∷ commit 1 ⇒ says (granted 0)
     ∷ []
 
 -- k "Seek 4,096 passes, 4,097 is 8. At 4,096 a write of 1 is 9, of 0 passes. From 4,095 a read of 2 gives 1."

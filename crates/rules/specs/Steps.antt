@@ -11,7 +11,7 @@ use Rattle.record.specs.Paper.{Said, plain, pointer, given}
 use Rattle.rules.specs.Messages.{Op, seek, write, getFilePointer, read}
 use Rattle.rules.specs.Items.{Prog, done, andThen}
 use Rattle.standings.specs.Table.{afterSeek, afterWrite, afterRead, pointerSettles, readSettles, offsetOf, writePlace}
-use Rattle.rules.specs.Transactions.{Txn, Write, withWrites, withStanding, those, Settled, past, all, settling}
+use Rattle.rules.specs.Transactions.{Txn, Write, withWrites, dirtied, those, Settled, past, all, settling}
 use Rattle.rules.specs.Reading.{fetch}
 
 -- A step is refused, or accepted: the transaction after it, the answer, and the reader's buffer.
@@ -36,13 +36,13 @@ total (w ∷ ws) = length (w .bytes) + total ws
 unfoldable pub written : ℕ → List ℕ → Txn → Txn
 written d bytes x =
     withWrites (x .writes ++ (record { descriptor = d; place = writePlace (x .standing d); bytes = bytes } ∷ []))
-    (withStanding d (afterWrite (length bytes) (x .standing d)) x)
+    (dirtied d (afterWrite (length bytes) (x .standing d)) x)
 
 unfoldable pub seekStep : ℕ → ℕ → Txn → Prog Stepped
 seekStep d v x =
     check (leb d 15) 6
     (check (leb v 4096) 8
-    (done (accept (withStanding d (afterSeek v (x .standing d)) x) plain [])))
+    (done (accept (dirtied d (afterSeek v (x .standing d)) x) plain [])))
 
 -- 9: "Write whose offset, or advance while Deferred or Untouched (0), plus length is above 4,096". 10: "Write as 65th record".
 -- 11: "Write taking the log's data above 4,096". "A write of 0 bytes uses a record."
@@ -71,7 +71,7 @@ readSettled fileOf d n buffer y =
     let o = offsetOf (y .standing d) in
     let m = min n (4096 - o) in
     andThen (fetch fileOf (y .writes) (fileOf d) o m)
-    (λ bytes. done (accept (withStanding d (afterRead m (y .standing d)) y) (given m) (bytes ++ drop m buffer)))
+    (λ bytes. done (accept (dirtied d (afterRead m (y .standing d)) y) (given m) (bytes ++ drop m buffer)))
 
 -- 7: "Read of more bytes than the reader's buffer has".
 unfoldable pub readStep : (ℕ → ℕ) → ℕ → ℕ → List ℕ → Txn → Prog Stepped

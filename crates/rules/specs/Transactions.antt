@@ -1,5 +1,5 @@
--- One transaction: its standings and its writes, and how descriptors are settled.
-use mathlib.Core.Bool.{Bool, cond}
+-- One transaction: its standings, its dirty descriptors and its writes, and how descriptors are settled.
+use mathlib.Core.Bool.{Bool, true, false, cond}
 use mathlib.Core.List.{List, [], _∷_, _++_, map}
 use lib.Dec.{leb, eqb}
 use Prim.Native.Nat.{ℕ, zero, suc, _+_}
@@ -16,30 +16,39 @@ pub record Write : Type 0 where
   pub place : Place
   pub bytes : List ℕ
 
--- A transaction's standing for each descriptor, and its writes in call order.
+-- A transaction's standing for each descriptor; whether the descriptor is dirty: it "made a Seek, Read or Write on it, 0 bytes
+-- included" (02, F-2), so that Commit sets its offset; and its writes in call order.
 pub record Txn : Type 0 where
   pub standing : ℕ → Standing
+  pub dirty : ℕ → Bool
   pub writes : List Write
 
 -- "Begin opens a transaction with nothing in it, all Untouched."
 unfoldable pub empty : Txn
-empty = record { standing = λ d. Untouched; writes = [] }
+empty = record { standing = λ d. Untouched; dirty = λ d. false; writes = [] }
 
 -- A function with another value at one number.
 module _ {A : Type 0} where
   unfoldable pub put : ℕ → A → (ℕ → A) → ℕ → A
   put d a f e = cond (eqb e d) a (f e)
 
--- A transaction with other standings, or other writes.
+-- A transaction with other standings, other dirty descriptors, or other writes.
 abbrev pub withStandings : (ℕ → Standing) → Txn → Txn
-withStandings f x = record { standing = f; writes = x .writes }
+withStandings f x = record { standing = f; dirty = x .dirty; writes = x .writes }
+
+abbrev pub withDirty : (ℕ → Bool) → Txn → Txn
+withDirty f x = record { standing = x .standing; dirty = f; writes = x .writes }
 
 abbrev pub withWrites : List Write → Txn → Txn
-withWrites ws x = record { standing = x .standing; writes = ws }
+withWrites ws x = record { standing = x .standing; dirty = x .dirty; writes = ws }
 
 -- With another standing for descriptor d.
 abbrev pub withStanding : ℕ → Standing → Txn → Txn
 withStanding d z x = withStandings (put d z (x .standing)) x
+
+-- The same after an accepted Seek, Read or Write on d, which makes d dirty.
+abbrev pub dirtied : ℕ → Standing → Txn → Txn
+dirtied d z x = withDirty (put d true (x .dirty)) (withStanding d z x)
 
 -- "Each write made while the place was unknown now lies at c plus the advance before it."
 unfoldable pub placedAt : ℕ → Place → Place

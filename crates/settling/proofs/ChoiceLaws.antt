@@ -9,7 +9,7 @@ use borrow.Author.Tests.{le-leb, lt-leb, eq-eqb, ne-eqb}
 use Prim.Native.Nat.{ℕ, _+_, _≤_, _<_}
 use Rattle.record.specs.declared.Descriptor.{Descriptor}
 use Rattle.record.specs.declared.Transaction.{Transaction}
-use Rattle.record.specs.State.{standingAt, noDescriptor, withDescriptors}
+use Rattle.record.specs.State.{standingAt, dirtyAt, noDescriptor, withDescriptors}
 use Rattle.standings.specs.Table.{advance, settled}
 use Rattle.rules.specs.Machine.{tabulate}
 use Rattle.rules.proofs.View.Tables.{tabulate-same, tabulate-set, tabulate-getD}
@@ -46,11 +46,11 @@ module _ (chosen : List Bool) (offsets : List ℕ) (x : Transaction) where
   module _ (n : ℕ) (h : n < length (x .descriptors)) where
     -- one more that is chosen
     pub settled-more : getD chosen n false ≡ true
-        → withDescriptors (set (settledFront chosen offsets x n .descriptors) n (record { standing = settled (getD offsets n 0) (standingAt x n) })) x
+        → withDescriptors (set (settledFront chosen offsets x n .descriptors) n (record { standing = settled (getD offsets n 0) (standingAt x n); dirty = dirtyAt x n })) x
         ≡ settledFront chosen offsets x (n + 1)
     unfolding settledDescriptor
     settled-more e =
-        ap (λ (ds : List Descriptor). withDescriptors ds x) (filled-set (settledDescriptor chosen offsets x) (x .descriptors) n (record { standing = settled (getD offsets n 0) (standingAt x n) }) h (rw e))
+        ap (λ (ds : List Descriptor). withDescriptors ds x) (filled-set (settledDescriptor chosen offsets x) (x .descriptors) n (record { standing = settled (getD offsets n 0) (standingAt x n); dirty = dirtyAt x n }) h (rw e))
 
     -- one more that is not
     pub settled-kept : getD chosen n false ≡ false → settledFront chosen offsets x n ≡ settledFront chosen offsets x (n + 1)
@@ -79,7 +79,7 @@ module _ (chosen : List Bool) (offsets : List ℕ) (x : Transaction) where
   settling-none none l =
       rw (below-all (settlesWithin chosen offsets x) 16 (λ e h. within-kept e (none e h)))
       (ap (λ (ds : List Descriptor). record { verdict = Settled; transaction = withDescriptors ds x })
-      (tabulate-same (settledDescriptor chosen offsets x) (λ e. record { standing = standingAt x e }) 16 (λ e h. rw (none e h))
+      (tabulate-same (settledDescriptor chosen offsets x) (λ e. record { standing = standingAt x e; dirty = dirtyAt x e }) 16 (λ e h. rw (none e h))
       ∙ ap (tabulate (λ e. getD (x .descriptors) e noDescriptor)) (sym l)
       ∙ tabulate-getD (x .descriptors) noDescriptor))
 

@@ -1,5 +1,5 @@
 -- A transaction with descriptors settled, put back into the record: its standings, its counters and its write records.
-use mathlib.Core.Bool.{Bool, false, cond}
+use mathlib.Core.Bool.{Bool, true, false, cond}
 use mathlib.Core.List.{List}
 use mathlib.Core.Path.{_≡_, refl, sym, ap, _∙_}
 use borrow.Author.Tests.{eq-eqb, ne-eqb}
@@ -12,12 +12,12 @@ use Rattle.standings.specs.declared.Standing.{Standing}
 use Rattle.record.specs.declared.Descriptor.{Descriptor}
 use Rattle.record.specs.declared.Store.{Store}
 use Rattle.record.specs.declared.journal.WriteRecord.{WriteRecord}
-use Rattle.record.specs.State.{transaction, standingAt, noDescriptor, withDescriptors, withTransaction}
+use Rattle.record.specs.State.{transaction, standingAt, dirtyAt, noDescriptor, withDescriptors, withTransaction}
 use Rattle.record.specs.Journal.{writeRecordAt}
 use Rattle.record.proofs.JournalLaws.{with-same, read-own}
 use Rattle.ranges.specs.Ranges.{lengthsBefore}
 use Rattle.ranges.proofs.Laws.{sum-same, record-in, place-end}
-use Rattle.rules.specs.Transactions.{Txn, Write, put, withStanding, withStandings}
+use Rattle.rules.specs.Transactions.{Txn, Write, put, withStandings, withDirty, dirtied}
 use Rattle.rules.specs.Steps.{total}
 use Rattle.rules.specs.Machine.{tabulate, dataStart, writeAt, recordOf, txnOf, noWrite, journalled, holding, withTxn}
 use Rattle.laws.specs.Settling.{placeAll, settleAll}
@@ -99,16 +99,16 @@ module _ (s : Store) (journal logs : List ℕ) (t : ℕ) (o : Opened s journal l
       (with-same journal t (λ k. recordOf (getD (tabulate thenAt n) k noWrite)) (λ k. recordAfter chosen (s .offsets) (writeRecordAt journal t k)) n
       (λ k h. ap recordOf (getD-tabulate thenAt n k noWrite h) ∙ record-then k h))
 
-  -- A meaning with these writes, whatever its standings.
-  put-back : (f : ℕ → Standing) (l : List Descriptor) → tabulate (λ d. record { standing = f d }) 16 ≡ l
-      → withTxn t (withStandings f (settledTxn s journal logs t chosen)) s ≡ withTransaction t (withDescriptors l (transaction s t)) s
+  -- A meaning with these writes, whatever its descriptors.
+  put-back : (f : ℕ → Standing) (g : ℕ → Bool) (l : List Descriptor) → tabulate (λ d. record { standing = f d; dirty = g d }) 16 ≡ l
+      → withTxn t (withDirty g (withStandings f (settledTxn s journal logs t chosen))) s ≡ withTransaction t (withDescriptors l (transaction s t)) s
   unfolding withTxn holding
-  put-back f l e = rw (settled-count, settled-total, e)
+  put-back f g l e = rw (settled-count, settled-total, e)
 
   -- The chosen descriptors settled.
   pub txn-settled : withTxn t (settledTxn s journal logs t chosen) s ≡ withTransaction t (settledTransaction chosen (s .offsets) (transaction s t)) s
   unfolding settleAll txnOf settledTransaction settledDescriptor
-  txn-settled = put-back (settledTxn s journal logs t chosen .standing) _ refl
+  txn-settled = put-back (settledTxn s journal logs t chosen .standing) (dirtyAt (transaction s t)) _ refl
 
   -- The standing of a descriptor afterwards.
   pub standing-settled : (d : ℕ) → d < 16 → standingAt (settledTransaction chosen (s .offsets) (transaction s t)) d ≡ settledTxn s journal logs t chosen .standing d
@@ -116,17 +116,18 @@ module _ (s : Store) (journal logs : List ℕ) (t : ℕ) (o : Opened s journal l
   standing-settled d h =
       ap (λ (q : Descriptor). q .standing) (getD-tabulate (settledDescriptor chosen (s .offsets) (transaction s t)) 16 d noDescriptor h)
 
-  -- The chosen descriptors settled, and then one of them stands otherwise.
-  pub txn-settled-restood : (d : ℕ) (z : Standing) → d < 16
-      → withTxn t (withStanding d z (settledTxn s journal logs t chosen)) s
+  -- The chosen descriptors settled, and then one descriptor stands otherwise and is dirty.
+  pub txn-settled-dirtied : (d : ℕ) (z : Standing) → d < 16
+      → withTxn t (dirtied d z (settledTxn s journal logs t chosen)) s
       ≡ withTransaction t
-      (withDescriptors (set (settledTransaction chosen (s .offsets) (transaction s t) .descriptors) d (record { standing = z })) (transaction s t)) s
+      (withDescriptors (set (settledTransaction chosen (s .offsets) (transaction s t) .descriptors) d (record { standing = z; dirty = true })) (transaction s t)) s
   unfolding settledTransaction settleAll txnOf settledDescriptor
-  txn-settled-restood d z h =
-      put-back (put d z (settledTxn s journal logs t chosen .standing)) _
+  txn-settled-dirtied d z h =
+      put-back (put d z (settledTxn s journal logs t chosen .standing)) (put d true (dirtyAt (transaction s t))) _
       (unfold put in
-      tabulate-set (settledDescriptor chosen (s .offsets) (transaction s t)) (λ e. record { standing = cond (eqb e d) z (settledTxn s journal logs t chosen .standing e) }) 16 d
-      (record { standing = z }) h (rw (eq-eqb d d refl)) (λ e ne. rw (ne-eqb e d ne)))
+      tabulate-set (settledDescriptor chosen (s .offsets) (transaction s t))
+      (λ e. record { standing = cond (eqb e d) z (settledTxn s journal logs t chosen .standing e); dirty = cond (eqb e d) true (dirtyAt (transaction s t) e) }) 16 d
+      (record { standing = z; dirty = true }) h (rw (eq-eqb d d refl)) (λ e ne. rw (ne-eqb e d ne)))
 
   -- The write records read back from the new journal.
   record-settled : (k : ℕ) → k < transaction s t .used .records

@@ -7,7 +7,7 @@ use lib.ListN.{getD}
 use Prim.Native.Nat.{ℕ, _+_}
 use Rattle.record.specs.declared.Descriptor.{Descriptor}
 use Rattle.record.specs.declared.Transaction.{Transaction}
-use Rattle.record.specs.State.{standingAt, withDescriptors}
+use Rattle.record.specs.State.{standingAt, dirtyAt, withDescriptors}
 use Rattle.ranges.specs.Below.{below}
 use Rattle.standings.specs.Table.{pointerSettles, readSettles, advance, settled}
 use Rattle.rules.specs.Machine.{tabulate}
@@ -39,7 +39,7 @@ allWithin chosen offsets x = below (settlesWithin chosen offsets x) 16
 -- Descriptor e, settled at its committed offset if chosen.
 unfoldable pub settledDescriptor : List Bool → List ℕ → Transaction → ℕ → Descriptor
 settledDescriptor chosen offsets x e =
-    record { standing = cond (getD chosen e false) (settled (getD offsets e 0) (standingAt x e)) (standingAt x e) }
+    record { standing = cond (getD chosen e false) (settled (getD offsets e 0) (standingAt x e)) (standingAt x e); dirty = dirtyAt x e }
 
 -- The transaction with every chosen descriptor settled.
 unfoldable pub settledTransaction : List Bool → List ℕ → Transaction → Transaction

@@ -68,7 +68,8 @@ pub fn settle(x: Transaction, chosen: [bool; DESCRIPTORS], offsets: &[u16; DESCR
     let mut e = 0;
     while e < DESCRIPTORS {
         if chosen[e] {
-            let z = x.standing_at(e);
+            let q = x.descriptors[e];
+            let z = q.standing;
             let c = offsets[e];
             if FILE_END - c < z.advance() {
                 return Settling {
@@ -78,6 +79,7 @@ pub fn settle(x: Transaction, chosen: [bool; DESCRIPTORS], offsets: &[u16; DESCR
             }
             y.descriptors[e] = Descriptor {
                 standing: z.settled(c),
+                dirty: q.dirty,
             };
         }
         e += 1;

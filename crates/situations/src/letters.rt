@@ -131,13 +131,13 @@ pub fn i() -> bool {
     stands(r, 2, 0, 0, b'A', 0, 9)
 }
 
-// T0 and T1 each GetFilePointer on 0. Commit T0: 1. T1: 13.
+// T0 and T1 each GetFilePointer on 0. Both commits answer 0.
 pub fn j() -> bool {
     let r = start();
     let r = pointer(r, 0, 0, 0);
     let r = pointer(r, 1, 0, 0);
-    let r = commit(r, 0, 1);
-    let r = commit(r, 1, STALE);
+    let r = commit(r, 0, 0);
+    let r = commit(r, 1, 0);
     stands(r, 0, 0, 0, 0, 0, 0)
 }
 

@@ -11,7 +11,7 @@ use Rattle.standings.specs.declared.Standing.the-variants.{Untouched, Placed, D
 use Rattle.record.specs.Paper.{Said}
 use Rattle.rules.specs.Items.{offset, same, Values, Prog, done, andThen, result, asked}
 use Rattle.standings.specs.Table.{isKnown, settled, advance, afterSeek, afterWrite, afterRead, pointerSettles, readSettles, offsetOf}
-use Rattle.rules.specs.Transactions.{Txn, Write, put, withStanding, settle, those, Settled, past, all, settling}
+use Rattle.rules.specs.Transactions.{Txn, Write, put, settle, those, Settled, past, all, settling}
 use Rattle.rules.specs.Reading.{Source, own, file, bring, latest, fetch}
 use Rattle.rules.specs.Messages.{Op, seek, write, getFilePointer, read}
 use Rattle.rules.specs.Steps.{Stepped, accept, check, orGivenBack, written, seekStep, writeStep, pointerStep, settledByRead, readSettled, readStep, step}
@@ -177,11 +177,11 @@ module _ (v : Values) where
   keeps-check x false n p h y a b e d = cc
 
   -- A program that asks for nothing and puts one standing, which stays Known or not.
-  keeps-put : (x : Txn) (e : ℕ) (z : Standing) (ws : List Write) (a : Said) (b : List ℕ) → isKnown z ≡ isKnown (x .standing e)
-      → Keeps x (done (accept (record { standing = put e z (x .standing); writes = ws }) a b))
+  keeps-put : (x : Txn) (e : ℕ) (z : Standing) (f : ℕ → Bool) (ws : List Write) (a : Said) (b : List ℕ) → isKnown z ≡ isKnown (x .standing e)
+      → Keeps x (done (accept (record { standing = put e z (x .standing); dirty = f; writes = ws }) a b))
   unfolding Keeps result asked among
-  keeps-put x e z ws a b h y a₁ b₁ q d =
-      let s : y ≡ record { standing = put e z (x .standing); writes = ws } = cc in
+  keeps-put x e z f ws a b h y a₁ b₁ q d =
+      let s : y ≡ record { standing = put e z (x .standing); dirty = f; writes = ws } = cc in
       ap (λ (w : Txn). isKnown (w .standing d)) s ∙ put-known e d z (x .standing) h ∙ sym (or-false (isKnown (x .standing d)))
 
   -- A program that does nothing but answer.
@@ -218,21 +218,21 @@ module _ (v : Values) where
           ∙ or-assoc (isKnown (x .standing d)) (among (offset d) (asked v (settling ds x))) (among (offset d) (asked v (next z)))
 
   keeps-read : (fileOf : ℕ → ℕ) (d n : ℕ) (buffer : List ℕ) (y : Txn) → Keeps y (readSettled fileOf d n buffer y)
-  unfolding readSettled withStanding
+  unfolding readSettled
   keeps-read fileOf d n buffer y =
       keeps-after y (fetch fileOf (y .writes) (fileOf d) (offsetOf (y .standing d)) (min n (4096 - offsetOf (y .standing d)))) _
       (λ e. fetch-among v e fileOf (y .writes) (fileOf d) (offsetOf (y .standing d)) (min n (4096 - offsetOf (y .standing d))))
-      (λ bytes. keeps-put y d _ (y .writes) _ _ (read-known (min n (4096 - offsetOf (y .standing d))) (y .standing d)))
+      (λ bytes. keeps-put y d _ _ (y .writes) _ _ (read-known (min n (4096 - offsetOf (y .standing d))) (y .standing d)))
 
   keeps-step : (fileOf : ℕ → ℕ) (o : Op) (x : Txn) → Keeps x (step fileOf o x)
-  unfolding step seekStep writeStep pointerStep readStep withStanding written settledByRead
-  keeps-step fileOf (seek d u) x = keeps-check x _ _ _ (keeps-check x _ _ _ (keeps-put x d _ (x .writes) _ _ (seek-known u (x .standing d))))
+  unfolding step seekStep writeStep pointerStep readStep written settledByRead
+  keeps-step fileOf (seek d u) x = keeps-check x _ _ _ (keeps-check x _ _ _ (keeps-put x d _ _ (x .writes) _ _ (seek-known u (x .standing d))))
   keeps-step fileOf (write d bytes) x =
       keeps-check x _ _ _
       (keeps-check x _ _ _
       (keeps-check x _ _ _
       (keeps-check x _ _ _
-      (keeps-put x d _ _ _ _ (write-known (length bytes) (x .standing d))))))
+      (keeps-put x d _ _ _ _ _ (write-known (length bytes) (x .standing d))))))
   keeps-step fileOf (getFilePointer d) x =
       keeps-check x _ _ _
       (keeps-settling x _ _

@@ -1,5 +1,5 @@
 -- A transaction as the record and the logs hold it: in range, and its writes' bytes one after the other in its log.
-use mathlib.Core.Bool.{true}
+use mathlib.Core.Bool.{true, false}
 use mathlib.Core.List.{List, [], _∷_}
 use mathlib.Core.Logic.{⊎-elim}
 use mathlib.Core.Path.{_≡_, refl, sym, ap, _∙_}
@@ -105,12 +105,17 @@ module _ (s : Store) (journal logs : List ℕ) (t : ℕ) (size : length logs ≡
   unfolding txnOf
   untouched sixteen d h = ap (λ (x : Descriptor). x .standing) (List·getD-eq-default (transaction s t .descriptors) noDescriptor (omega arith))
 
+  clean : length (transaction s t .descriptors) ≡ 16 → (d : ℕ) → 16 ≤ d → txnOf s journal logs t .dirty d ≡ false
+  unfolding txnOf
+  clean sixteen d h = ap (λ (x : Descriptor). x .dirty) (List·getD-eq-default (transaction s t .descriptors) noDescriptor (omega arith))
+
   pub decoded-in : length (transaction s t .descriptors) ≡ 16 → TxnIn (txnOf s journal logs t)
   unfolding standingIn
   decoded-in sixteen =
       record {
         standings = λ d. ⊎-elim (λ h. rw (untouched sixteen d h)) (known d) (le-or-lt 16 d);
         above = untouched sixteen;
+        clean = clean sixteen;
         records = rw length-writes (r .records);
         bytes = rw decoded-total (r .bytes);
         writes = λ k h. let g : k < count = rw length-writes at h in rw (written-at k g) (write-in k g);

@@ -16,7 +16,7 @@ use Rattle.record.specs.declared.Descriptor.{Descriptor}
 use Rattle.record.specs.declared.Transaction.{Transaction}
 use Rattle.record.specs.declared.Store.{Store}
 use Rattle.record.specs.declared.journal.WriteRecord.{WriteRecord}
-use Rattle.record.specs.State.{transaction, standingAt, noDescriptor, noTransaction}
+use Rattle.record.specs.State.{transaction, standingAt, dirtyAt, noDescriptor, noTransaction}
 use Rattle.record.specs.Journal.{writeRecordAt}
 use Rattle.record.proofs.JournalLaws.{length-with, read-own, read-elsewhere}
 use Rattle.ranges.specs.Below.{sum}
@@ -42,18 +42,34 @@ module _ (s : Store) (journal : List ℕ) (t : ℕ) (y : Txn) (shaped : Shaped s
   unfolding withTxn withTransaction
   own-transaction = getD-set-same (s .transactions) t (holding y (transaction s t)) noTransaction (rw (shaped .transactions) small)
 
+  abbrev ownDescriptor : ℕ → Descriptor
+  ownDescriptor d = record { standing = y .standing d; dirty = y .dirty d }
+
   own-standing : (d : ℕ) → standingAt (transaction (withTxn t y s) t) d ≡ y .standing d
   unfolding holding
   own-standing d = ap (λ (x : Transaction). standingAt x d) own-transaction ∙ ⊎-elim beyond known (le-or-lt 16 d)
     where
       known : d < 16 → standingAt (holding y (transaction s t)) d ≡ y .standing d
-      known l = ap (λ (x : Descriptor). x .standing) (getD-tabulate (λ e. record { standing = y .standing e }) 16 d noDescriptor l)
+      known l = ap (λ (x : Descriptor). x .standing) (getD-tabulate ownDescriptor 16 d noDescriptor l)
 
       beyond : 16 ≤ d → standingAt (holding y (transaction s t)) d ≡ y .standing d
       beyond l =
           ap (λ (x : Descriptor). x .standing)
-          (List·getD-eq-default (tabulate (λ e. record { standing = y .standing e }) 16) noDescriptor (rw length-tabulate l))
+          (List·getD-eq-default (tabulate ownDescriptor 16) noDescriptor (rw length-tabulate l))
           ∙ sym (h .above d l)
+
+  own-dirty : (d : ℕ) → dirtyAt (transaction (withTxn t y s) t) d ≡ y .dirty d
+  unfolding holding
+  own-dirty d = ap (λ (x : Transaction). dirtyAt x d) own-transaction ∙ ⊎-elim beyond known (le-or-lt 16 d)
+    where
+      known : d < 16 → dirtyAt (holding y (transaction s t)) d ≡ y .dirty d
+      known l = ap (λ (x : Descriptor). x .dirty) (getD-tabulate ownDescriptor 16 d noDescriptor l)
+
+      beyond : 16 ≤ d → dirtyAt (holding y (transaction s t)) d ≡ y .dirty d
+      beyond l =
+          ap (λ (x : Descriptor). x .dirty)
+          (List·getD-eq-default (tabulate ownDescriptor 16) noDescriptor (rw length-tabulate l))
+          ∙ sym (h .clean d l)
 
   own-written : (k : ℕ) → k < length (y .writes) → writeRecordAt after-journal t k ≡ recordOf (getD (y .writes) k noWrite)
   unfolding journalled
@@ -103,6 +119,7 @@ module _ (s : Store) (journal : List ℕ) (t : ℕ) (y : Txn) (shaped : Shaped s
       λ i.
       record {
         standing = fun-ext own-standing i;
+        dirty = fun-ext own-dirty i;
         writes =
             (ap (λ (x : Transaction). tabulate (writeAt after-journal logs t) (x .used .records)) own-transaction
             ∙ tabulate-same (writeAt after-journal logs t) (λ k. getD (y .writes) k noWrite) (length (y .writes)) (own-write logs carries)
@@ -175,7 +192,7 @@ module _ (s : Store) (journal : List ℕ) (t : ℕ) (y : Txn) (shaped : Shaped s
       here u e =
           ap (λ (v : ℕ). length (transaction (withTxn t y s) v .descriptors)) e
           ∙ ap (λ (x : Transaction). length (x .descriptors)) own-transaction
-          ∙ length-tabulate (λ d. record { standing = y .standing d }) 16
+          ∙ length-tabulate ownDescriptor 16
 
       elsewhere : (u : ℕ) → u < 8 → (u ≡ t → ⊥) → length (transaction (withTxn t y s) u .descriptors) ≡ 16
       elsewhere u l ne = ap (λ (x : Transaction). length (x .descriptors)) (other-same u l ne .transaction) ∙ shaped .descriptors u l

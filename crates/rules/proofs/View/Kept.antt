@@ -14,7 +14,7 @@ use Rattle.record.specs.Paper.{Said}
 use Rattle.ranges.specs.Ranges.{standingIn, placeIn}
 use Rattle.rules.specs.Items.{offset, Values, Prog, done, andThen, result}
 use Rattle.standings.specs.Table.{advance, settled, afterSeek, afterWrite, afterRead, pointerSettles, readSettles, offsetOf, writePlace}
-use Rattle.rules.specs.Transactions.{Txn, Write, put, withStanding, placedAt, placeWrite, settle, those, Settled, past, all, settling}
+use Rattle.rules.specs.Transactions.{Txn, Write, put, withWrites, dirtied, placedAt, placeWrite, settle, those, Settled, past, all, settling}
 use Rattle.rules.specs.Reading.{fetch}
 use Rattle.rules.specs.Messages.{Op, seek, write, getFilePointer, read}
 use Rattle.rules.specs.Steps.{Stepped, accept, check, orGivenBack, total, written, seekStep, writeStep, pointerStep, settledByRead, readSettled, readStep, step}
@@ -34,8 +34,8 @@ unfolding total
 total-append [] w = omega arith
 total-append (x ∷ ws) w = let e = total-append ws w in omega arith
 
--- What holds of a standing at every descriptor but one, and of the new one there.
-put-case : (P : ℕ → Standing → Type 0) (d : ℕ) (z : Standing) (f : ℕ → Standing) → P d z → ((e : ℕ) → (e ≡ d → ⊥) → P e (f e)) → (e : ℕ) → P e (put d z f e)
+-- What holds at every descriptor but one, and of the new value there.
+put-case : {A : Type 0} (P : ℕ → A → Type 0) (d : ℕ) (z : A) (f : ℕ → A) → P d z → ((e : ℕ) → (e ≡ d → ⊥) → P e (f e)) → (e : ℕ) → P e (put d z f e)
 unfolding put
 put-case P d z f here elsewhere e = pick (eqb e d) refl
   where
@@ -43,16 +43,16 @@ put-case P d z f here elsewhere e = pick (eqb e d) refl
     pick true q = rw (eqb-true e d q) here
     pick false q = elsewhere e (eqb-false e d q)
 
--- ---- one standing put, one write added
+-- ---- one descriptor changed, one write added
 
-withStanding-in : (d : ℕ) (z : Standing) (x : Txn) → d < 16 → standingIn z ≡ true → EndsKept (x .standing d) z → TxnIn x → TxnIn (withStanding d z x)
-unfolding withStanding
-withStanding-in d z x small zin ends h =
+dirtied-in : (d : ℕ) (z : Standing) (x : Txn) → d < 16 → standingIn z ≡ true → EndsKept (x .standing d) z → TxnIn x → TxnIn (dirtied d z x)
+dirtied-in d z x small zin ends h =
     record {
       standings = put-case (λ (e : ℕ) (y : Standing). standingIn y ≡ true) d z (x .standing) zin (λ e ne. h .standings e);
       above =
           put-case (λ (e : ℕ) (y : Standing). 16 ≤ e → y ≡ Untouched) d z (x .standing) (λ g. absurd (omega arith))
           (λ e ne. h .above e);
+      clean = put-case (λ (e : ℕ) (b : Bool). 16 ≤ e → b ≡ false) d true (x .dirty) (λ g. absurd (omega arith)) (λ e ne. h .clean e);
       records = h .records;
       bytes = h .bytes;
       writes =
@@ -68,12 +68,13 @@ withStanding-in d z x small zin ends h =
     }
 
 append-in : (w : Write) (x : Txn) → WriteIn x w → length (x .writes) + 1 ≤ 64 → total (x .writes) + length (w .bytes) ≤ 4096 → TxnIn x
-    → TxnIn (record { standing = x .standing; writes = x .writes ++ (w ∷ []) })
+    → TxnIn (withWrites (x .writes ++ (w ∷ [])) x)
 append-in w x win few small h =
-    let y : Txn = record { standing = x .standing; writes = x .writes ++ (w ∷ []) } in
+    let y : Txn = withWrites (x .writes ++ (w ∷ [])) x in
     record {
       standings = h .standings;
       above = h .above;
+      clean = h .clean;
       records = rw length-append few;
       bytes = rw total-append small;
       writes =
@@ -84,8 +85,8 @@ append-in w x win few small h =
 
 -- A new write lies in range under the standing that it leaves.
 new-in : (d : ℕ) (bytes : List ℕ) (x : Txn) → d < 16 → placeNumber (writePlace (x .standing d)) + length bytes ≤ 4096
-    → WriteIn (withStanding d (afterWrite (length bytes) (x .standing d)) x) (record { descriptor = d; place = writePlace (x .standing d); bytes = bytes })
-unfolding withStanding put
+    → WriteIn (dirtied d (afterWrite (length bytes) (x .standing d)) x) (record { descriptor = d; place = writePlace (x .standing d); bytes = bytes })
+unfolding put
 new-in d bytes x low small =
     record { descriptor = low; place = rw (eq-eqb d d refl) (place-written (length bytes) (x .standing d) small) }
 
@@ -122,6 +123,7 @@ settle-in d c x low small h =
       above =
           put-case (λ (e : ℕ) (y : Standing). 16 ≤ e → y ≡ Untouched) d (settled c (x .standing d)) (x .standing) (λ g. absurd (omega arith))
           (λ e ne. h .above e);
+      clean = h .clean;
       records = rw length-map (h .records);
       bytes = rw total-placed (h .bytes);
       writes =
@@ -195,20 +197,20 @@ module _ (v : Values) where
       pick (all y) e = k y (settling-kept v ds x y ps low h e)
 
   ends-seek : (d u : ℕ) (x : Txn) → TxnIn x → Ends (pieces (x .writes)) (seekStep d u x)
-  unfolding seekStep withStanding
+  unfolding seekStep
   ends-seek d u x h =
       ends-check _ (leb d 15) 6 _ (λ e. ends-check _ (leb u 4096) 8 _ (λ f.
       let low = leb-true d 15 e in
-      ends-done _ (withStanding d (afterSeek u (x .standing d)) x) _ _
+      ends-done _ (dirtied d (afterSeek u (x .standing d)) x) _ _
       (record {
         ranges =
-            withStanding-in d (afterSeek u (x .standing d)) x (omega arith)
+            dirtied-in d (afterSeek u (x .standing d)) x (omega arith)
             (seek-in u (x .standing d) (leb-true u 4096 f) (h .standings d)) (seek-ends u (x .standing d)) h;
         same = refl;
       })))
 
   ends-write : (d : ℕ) (bytes : List ℕ) (x : Txn) → TxnIn x → Ends (pieces (x .writes) ++ (bytes ∷ [])) (writeStep d bytes x)
-  unfolding writeStep written withStanding
+  unfolding writeStep written
   ends-write d bytes x h =
       let z = x .standing d in
       let n = length bytes in
@@ -220,22 +222,22 @@ module _ (v : Values) where
       ends-done _ (written d bytes x) _ _
       (record {
         ranges =
-            append-in w (withStanding d (afterWrite n z) x)
+            append-in w (dirtied d (afterWrite n z) x)
             (new-in d bytes x (omega arith) small)
             (leb-true (length (x .writes) + 1) 64 g) (leb-true (total (x .writes) + n) 4096 i)
-            (withStanding-in d (afterWrite n z) x (omega arith) (write-in n z small (h .standings d)) (write-ends n z) h);
+            (dirtied-in d (afterWrite n z) x (omega arith) (write-in n z small (h .standings d)) (write-ends n z) h);
         same = map-append (λ w. w .bytes) (x .writes) (w ∷ []);
       })))))
 
   ends-read : (ps : List (List ℕ)) (fileOf : ℕ → ℕ) (d n : ℕ) (buffer : List ℕ) (y : Txn) → d < 16 → Kept ps y → Ends ps (readSettled fileOf d n buffer y)
-  unfolding readSettled withStanding
+  unfolding readSettled
   ends-read ps fileOf d n buffer y low h =
       let m = min n (4096 - offsetOf (y .standing d)) in
       ends-andThen ps (fetch fileOf (y .writes) (fileOf d) (offsetOf (y .standing d)) m) _
-      (ends-done ps (withStanding d (afterRead m (y .standing d)) y) _ _
+      (ends-done ps (dirtied d (afterRead m (y .standing d)) y) _ _
       (record {
         ranges =
-            withStanding-in d (afterRead m (y .standing d)) y low (read-in m (y .standing d) (omega arith) (h .ranges .standings d))
+            dirtied-in d (afterRead m (y .standing d)) y low (read-in m (y .standing d) (omega arith) (h .ranges .standings d))
             (read-ends m (y .standing d)) (h .ranges);
         same = h .same;
       }))

@@ -11,7 +11,7 @@ use Rattle.octets.proofs.PartLaws.{cut-same, le-or-lt}
 use Rattle.record.specs.declared.Store.{Store}
 use Rattle.record.specs.declared.Transaction.{Transaction}
 use Rattle.record.specs.declared.journal.WriteRecord.{WriteRecord}
-use Rattle.record.specs.State.{transaction, standingAt, noTransaction}
+use Rattle.record.specs.State.{transaction, standingAt, dirtyAt, noTransaction}
 use Rattle.record.specs.Journal.{writeRecordAt}
 use Rattle.ranges.specs.Below.{sum}
 use Rattle.ranges.specs.Ranges.{recordIn, lengthsBefore}
@@ -84,6 +84,7 @@ module _ (r : Store) (written : List ℕ) (s : Store) (journal : List ℕ) (u : 
         λ i.
         record {
           standing = standingAt (same .transaction i);
+          dirty = dirtyAt (same .transaction i);
           writes =
               (ap (λ (x : Transaction). tabulate (writeAt written kept u) (x .used .records)) (same .transaction)
               ∙ tabulate-same (writeAt written kept u) (writeAt journal logs u) (transaction s u .used .records) write-same)

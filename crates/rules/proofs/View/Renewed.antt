@@ -1,5 +1,5 @@
 -- A record with other committed offsets and other transactions: when its ranges hold, and which transactions mean the same in it.
-use mathlib.Core.Bool.{true, _&&_}
+use mathlib.Core.Bool.{true, false, _&&_}
 use mathlib.Core.List.{List}
 use mathlib.Core.Logic.{_⊎_, inl, inr}
 use mathlib.Core.Path.{_≡_, refl, sym, ap, _∙_, fun-ext}
@@ -13,7 +13,7 @@ use Rattle.standings.specs.declared.Standing.the-variants.{Untouched}
 use Rattle.record.specs.declared.Transaction.{Transaction}
 use Rattle.record.specs.declared.Store.{Store}
 use Rattle.record.specs.declared.journal.WriteRecord.{WriteRecord}
-use Rattle.record.specs.State.{transaction, standingAt, noDescriptor, noTransaction, ended, begun, withOffsets, withTransactions}
+use Rattle.record.specs.State.{transaction, standingAt, dirtyAt, noDescriptor, noTransaction, ended, begun, withOffsets, withTransactions}
 use Rattle.record.specs.Journal.{writeRecordAt}
 use Rattle.ranges.specs.Below.{sum}
 use Rattle.ranges.specs.Ranges.{standingIn, placeIn, recordIn, lengthsBefore}
@@ -51,8 +51,16 @@ untouched zero d = refl
 untouched (suc n) zero = refl
 untouched (suc n) (suc d) = untouched n d
 
+clean : (n d : ℕ) → getD (replicate n noDescriptor) d noDescriptor .dirty ≡ false
+clean zero d = refl
+clean (suc n) zero = refl
+clean (suc n) (suc d) = clean n d
+
 pub bare-standing : (y : Transaction) → Bare y → (d : ℕ) → standingAt y d ≡ Untouched
 bare-standing y b d = rw (b .descriptors) (untouched 16 d)
+
+pub bare-dirty : (y : Transaction) → Bare y → (d : ℕ) → dirtyAt y d ≡ false
+bare-dirty y b d = rw (b .descriptors) (clean 16 d)
 
 -- A transaction that is alike is in range too.
 module _ (x y : Transaction) (a : Alike x y) where

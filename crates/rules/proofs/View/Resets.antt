@@ -14,7 +14,7 @@ use Rattle.octets.specs.Marks.{hasMark, withoutMarks}
 use Rattle.standings.specs.declared.Standing.{Standing}
 use Rattle.standings.specs.declared.Standing.the-variants.{Untouched}
 use Rattle.record.specs.declared.Transaction.{Transaction}
-use Rattle.record.specs.State.{transaction, standingAt, noTransaction}
+use Rattle.record.specs.State.{transaction, standingAt, dirtyAt, noTransaction}
 use Rattle.ranges.proofs.Laws.{in-range}
 use Rattle.rules.specs.Machine.{Machine, fileOf, txnOf, tabulate, writeAt}
 use Rattle.record.specs.State.{withTransaction}
@@ -22,7 +22,7 @@ use Rattle.rules.specs.Transactions.{empty, put}
 use Rattle.rules.specs.Calls.{reset}
 use Rattle.rules.proofs.Serial.Sighted.{Seat, vacant, held, withSeat}
 use Rattle.rules.proofs.View.Shape.{heldBy, seat, view, Sound}
-use Rattle.rules.proofs.View.Renewed.{Alike, Bare, Carried, bare-standing, same-values}
+use Rattle.rules.proofs.View.Renewed.{Alike, Bare, Carried, bare-standing, bare-dirty, same-values}
 use Rattle.rules.proofs.View.Endings.{ending, staleAs, seat-in, seat-out, unmarked-own, ending-sound, ending-seat}
 
 alike-same : (x y : Transaction) → y ≡ x → Alike x y
@@ -34,7 +34,8 @@ unfolding txnOf empty tabulate
 bare-txn m t b =
     let f : _≡_ {A = ℕ → Standing} (standingAt (transaction (m .store) t)) (λ d. Untouched) = fun-ext (bare-standing (transaction (m .store) t) b) in
     let g : tabulate (writeAt (m .journal) (m .logs) t) (transaction (m .store) t .used .records) ≡ [] = rw (b .records) in
-    λ i. record { standing = f i; writes = g i }
+    let c : _≡_ {A = ℕ → Bool} (dirtyAt (transaction (m .store) t)) (λ d. false) = fun-ext (bare-dirty (transaction (m .store) t) b) in
+    λ i. record { standing = f i; dirty = c i; writes = g i }
 
 -- What a bare transaction stands for.
 abbrev pub newSeat : Transaction → Seat

@@ -16,7 +16,7 @@ use Rattle.ranges.proofs.Laws.{and-right, below-at}
 use Rattle.rules.specs.Items.{Item, byte, offset, Values}
 use Rattle.standings.specs.Table.{advance, isTouched, finalOffset}
 use Rattle.rules.specs.Transactions.{Txn, Write}
-use Rattle.rules.specs.Commits.{Setting, landsAt, stretch, byteSettings, offsetSettings, settings, fits}
+use Rattle.rules.specs.Commits.{Setting, landsAt, stretch, byteSettings, setsOffset, offsetSettings, settings, fits}
 use Rattle.rules.proofs.View.Shape.{WriteIn, TxnIn}
 use Rattle.rules.specs.Machine.{noWrite}
 
@@ -83,17 +83,18 @@ module _ (fileOf : ℕ → ℕ) (v : Values) (y : Txn) (files : (d : ℕ) → d 
       (stretch-in (4096 * fileOf d + landsAt (v (offset d)) (w .place)) (w .bytes) (omega arith))
       (bytes-in ws (λ k l. h (suc k) (suc-le-suc l)))
 
-  one-in : (d : ℕ) → d < 16 → (b : Bool) → isTouched (y .standing d) ≡ b
+  one-in : (d : ℕ) → d < 16 → (b : Bool) → setsOffset y d ≡ b
       → AllIn (cond b (record { item = offset d; to = finalOffset (v (offset d)) (y .standing d) } ∷ []) [])
-  one-in d l true e = ((l, final-in (v (offset d)) (y .standing d) e (fits-at d l) (ranges .standings d)), tt)
+  unfolding setsOffset
+  one-in d l true e = ((l, final-in (v (offset d)) (y .standing d) (and-right (y .dirty d) _ e) (fits-at d l) (ranges .standings d)), tt)
   one-in d l false e = tt
 
   offsets-in : (n : ℕ) → n ≤ 16 → AllIn (offsetSettings v y n)
   unfolding offsetSettings
   offsets-in zero h = tt
   offsets-in (suc n) h =
-      all-append (offsetSettings v y n) (cond (isTouched (y .standing n)) (record { item = offset n; to = finalOffset (v (offset n)) (y .standing n) } ∷ []) [])
-      (offsets-in n (omega arith)) (one-in n (omega arith) (isTouched (y .standing n)) refl)
+      all-append (offsetSettings v y n) (cond (setsOffset y n) (record { item = offset n; to = finalOffset (v (offset n)) (y .standing n) } ∷ []) [])
+      (offsets-in n (omega arith)) (one-in n (omega arith) (setsOffset y n) refl)
 
   pub settings-in : AllIn (settings fileOf v y)
   unfolding settings

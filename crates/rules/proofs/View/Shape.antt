@@ -56,6 +56,7 @@ pub record WriteIn (y : Txn) (w : Write) : Type 0 where
 pub record TxnIn (y : Txn) : Type 0 where
   pub standings : (d : ℕ) → standingIn (y .standing d) ≡ true
   pub above : (d : ℕ) → 16 ≤ d → y .standing d ≡ Untouched
+  pub clean : (d : ℕ) → 16 ≤ d → y .dirty d ≡ false
   pub records : length (y .writes) ≤ 64
   pub bytes : total (y .writes) ≤ 4096
   pub writes : (k : ℕ) → k < length (y .writes) → WriteIn y (getD (y .writes) k noWrite)

@@ -5,8 +5,8 @@ use mathlib.Core.Logic.{⊎-elim}
 use mathlib.Core.Path.{_≡_, sym, ap, ap₂, _∙_}
 use Prim.Native.Nat.{ℕ, _-_, _≤_}
 use native.Mathlib.Omega.{arith}
-use lib.ListN.{length, getD, set, length-set}
-use Rattle.standings.specs.Table.{advance, isTouched, finalOffset}
+use lib.ListN.{length, set, length-set}
+use Rattle.rules.specs.Commits.{setsOffset}
 use Rattle.landing.proofs.LandLaws.{fits-at, offsetsSet, offsets-none, offset-set, offset-kept}
 use borrow.Author.Needs.{needs}
 use Rattle.landing.proofs.landed.offsets_after.Statement.{statement}
@@ -19,13 +19,16 @@ abbrev μ-loop : tie.MeasureT-loop
 μ-loop x offsets out₀ d₀ out d = 16 - d
 
 loop-holds : tie.Need-loop-holds Inv-loop μ-loop
-loop-holds c = (omega arith, sym (offsets-none (c .args .x) (c .args .t2)), search needs, search needs)
+loop-holds c = (omega arith, sym (offsets-none (c .args .t1) (c .args .t2)), search needs, search needs)
 
-standing-at-requires : tie.Need-standing-at-requires Inv-loop μ-loop
-standing-at-requires c κs = search needs
+mul-q : tie.Need-mul-q Inv-loop μ-loop
+mul-q c = search needs
 
-is-touched-requires : tie.Need-is-touched-requires Inv-loop μ-loop
-is-touched-requires c κs = search needs
+element-copy-out-q : tie.Need-element-copy-out-q Inv-loop μ-loop
+element-copy-out-q c = search needs
+
+sets-offset-requires : tie.Need-sets-offset-requires Inv-loop μ-loop
+sets-offset-requires c κs = search needs
 
 mul-final-offset : tie.Need-mul-final-offset Inv-loop μ-loop
 mul-final-offset c = search needs
@@ -36,7 +39,7 @@ array-read-final-offset c = search needs
 final-offset-requires : tie.Need-final-offset-requires Inv-loop μ-loop
 final-offset-requires c κs =
     let d = c .before .before .before .before .loop .d in
-    omega (arith, fits-at (c .before .before .before .before .before .args .x) (c .before .before .before .before .before .args .t2) (c .before .before .before .before .before .pre) d (omega arith), ap advance (c .before .before .standing-at .ensures))
+    omega (arith, fits-at (c .before .before .before .before .before .args .t1) (c .before .before .before .before .before .args .t2) (c .before .before .before .before .before .pre) d (omega arith))
 
 mul-out : tie.Need-mul-out Inv-loop μ-loop
 mul-out c = search needs
@@ -51,17 +54,17 @@ loop-less : tie.Need-loop-less Inv-loop μ-loop
 loop-less c = search needs
 
 loop-again : tie.Need-loop-again Inv-loop μ-loop
+unfolding setsOffset
 loop-again c =
-    let x = c .before .before .before .before .before .args .x in
+    let x = c .before .before .before .before .before .args .t1 in
     let offsets = c .before .before .before .before .before .args .t2 in
     let l = c .before .before .before .before .loop in
-    let z = c .before .before .standing-at .ensures in
-    let e = sym (c .before .is-touched .ensures ∙ ap isTouched z) in
+    let e = sym (c .before .sets-offset .ensures) in
     ⊎-elim
     (λ w. (
       omega arith,
       w .2
-          ∙ ap₂ (λ (xs : List ℕ) (n : ℕ). set xs (l .d) n) (l .inv .1) (w .1 .ensures ∙ ap (finalOffset (getD offsets (l .d) 0)) z)
+          ∙ ap₂ (λ (xs : List ℕ) (n : ℕ). set xs (l .d) n) (l .inv .1) (w .1 .ensures)
           ∙ offset-set x offsets (l .d) (e ∙ w .0 .taken),
       l .inv .2,
       ap length (w .2) ∙ length-set (l .out) (l .d) (w .1 .result) ∙ l .inv .3,
@@ -73,7 +76,7 @@ returns : tie.Need-returns Inv-loop μ-loop
 returns c =
     let l = c .before .loop in
     let e : l .d ≡ 16 = omega arith in
-    l .inv .1 ∙ ap (offsetsSet (c .before .before .args .x) (c .before .before .args .t2)) e
+    l .inv .1 ∙ ap (offsetsSet (c .before .before .args .t1) (c .before .before .args .t2)) e
 
 pub offsets-after-spec : {M : Type 1} → statement M
 offsets-after-spec =
@@ -82,8 +85,9 @@ offsets-after-spec =
     Inv-loop
     μ-loop
     loop-holds
-    standing-at-requires
-    is-touched-requires
+    mul-q
+    element-copy-out-q
+    sets-offset-requires
     mul-final-offset
     array-read-final-offset
     final-offset-requires

@@ -5,7 +5,8 @@ use mathlib.Core.Path.{_≡_, sym, ap, _∙_}
 use mathlib.Core.Logic.{⊎-elim}
 use Prim.Native.Nat.{_-_, _≤_}
 use native.Mathlib.Omega.{arith}
-use Rattle.standings.specs.Table.{isTouched, isKnown}
+use Rattle.standings.specs.Table.{isKnown}
+use Rattle.rules.specs.Commits.{setsOffset}
 use Rattle.landing.specs.Staling.{some, knowsOffset}
 use Rattle.landing.proofs.StaleLaws.{some-zero, some-more, some-at, knows, knows-unset, knows-unknown}
 use borrow.Author.Needs.{needs}
@@ -21,25 +22,29 @@ abbrev μ-loop : tie.MeasureT-loop
 loop-holds : tie.Need-loop-holds Inv-loop μ-loop
 loop-holds c = (omega arith, some-zero _)
 
+mul-q : tie.Need-mul-q Inv-loop μ-loop
+mul-q c = search needs
+
+element-copy-out-q : tie.Need-element-copy-out-q Inv-loop μ-loop
+element-copy-out-q c = search needs
+
+sets-offset-requires : tie.Need-sets-offset-requires Inv-loop μ-loop
+sets-offset-requires c κs = search needs
+
 standing-at-requires : tie.Need-standing-at-requires Inv-loop μ-loop
 standing-at-requires c κs = search needs
-
-is-touched-requires : tie.Need-is-touched-requires Inv-loop μ-loop
-is-touched-requires c κs = search needs
-
-standing-at-requires-2 : tie.Need-standing-at-requires-2 Inv-loop μ-loop
-standing-at-requires-2 c κs = search needs
 
 is-known-requires : tie.Need-is-known-requires Inv-loop μ-loop
 is-known-requires c κs = search needs
 
 returns : tie.Need-returns Inv-loop μ-loop
+unfolding setsOffset
 returns c =
     let y = c .before .before .before .before .before .before .before .before .args .y in
-    let x = c .before .before .before .before .before .before .before .before .args .x in
+    let x = c .before .before .before .before .before .before .before .before .args .t2 in
     let d = c .before .before .before .before .before .before .before .loop .d in
-    let set = sym (c .before .before .before .before .is-touched .ensures ∙ ap isTouched (c .before .before .before .before .before .standing-at .ensures)) ∙ c .before .before .before .if1 .taken in
-    let known = sym (c .before .is-known .ensures ∙ ap isKnown (c .before .before .standing-at2 .ensures)) ∙ c .if2 .taken in
+    let set = sym (c .before .before .before .before .sets-offset .ensures) ∙ c .before .before .before .if1 .taken in
+    let known = sym (c .before .is-known .ensures ∙ ap isKnown (c .before .before .standing-at .ensures)) ∙ c .if2 .taken in
     sym (some-at (knowsOffset y x) 16 d (omega arith) (knows y x d set known))
 
 add-d : tie.Need-add-d Inv-loop μ-loop
@@ -49,11 +54,12 @@ loop-less : tie.Need-loop-less Inv-loop μ-loop
 loop-less c = search needs
 
 loop-again : tie.Need-loop-again Inv-loop μ-loop
+unfolding setsOffset
 loop-again c =
     let y = c .before .before .before .before .before .args .y in
-    let x = c .before .before .before .before .before .args .x in
+    let x = c .before .before .before .before .before .args .t2 in
     let l = c .before .before .before .before .loop in
-    let set = sym (c .before .is-touched .ensures ∙ ap isTouched (c .before .before .standing-at .ensures)) in
+    let set = sym (c .before .sets-offset .ensures) in
     let miss : knowsOffset y x (l .d) ≡ false =
     ⊎-elim (λ w. knows-unknown y x (l .d) (sym (w .2 .ensures ∙ ap isKnown (w .1 .ensures)) ∙ w .3 .left))
     (λ w. knows-unset y x (l .d) (set ∙ w .left)) (c .if1 .came) in
@@ -71,9 +77,10 @@ knows-offset-of-spec =
     Inv-loop
     μ-loop
     loop-holds
+    mul-q
+    element-copy-out-q
+    sets-offset-requires
     standing-at-requires
-    is-touched-requires
-    standing-at-requires-2
     is-known-requires
     returns
     add-d

@@ -2,7 +2,7 @@
 use mathlib.Core.Bool.{true}
 use mathlib.Core.Path.{_≡_, sym, ap, _∙_}
 use mathlib.Core.Logic.{⊎-elim}
-use lib.ListN.{length, getD, set}
+use lib.ListN.{length, set}
 use native.Mathlib.Omega.{arith}
 use borrow.Author.Needs.{needs}
 use borrow.Author.Tests.{not-true}
@@ -10,9 +10,8 @@ use denote.Ref.{now}
 use Prim.Native.Nat.{_-_, _≤_, _<_}
 use Rattle.ranges.specs.Below.{below}
 use Rattle.ranges.proofs.Laws.{below-zero, below-more, below-fails}
-use Rattle.standings.specs.Table.{advance, settled}
 use Rattle.standings.specs.declared.Standing.{Standing}
-use Rattle.record.specs.State.{withDescriptors}
+use Rattle.record.specs.State.{dirtyAt, withDescriptors}
 use Rattle.record.specs.declared.Transaction.{Transaction}
 use Rattle.laws.proofs.Owned.{sixteen-descriptors}
 use Rattle.settling.specs.declared.settle.Verdict.the-variants.{Settled}
@@ -22,10 +21,10 @@ use Rattle.settling.proofs.settle.settle.Statement.{statement}
 use Rattle.settling.proofs.settle.settle.Tie as tie
 
 abbrev Inv-loop : tie.InvT-loop
-Inv-loop x offsets chosen y₀ e₀ y e = (e ≤ 16) × (y ≡ settledFront chosen offsets x e) × (below (settlesWithin chosen offsets x) e ≡ true)
+Inv-loop offsets x chosen y₀ e₀ y e = (e ≤ 16) × (y ≡ settledFront chosen offsets x e) × (below (settlesWithin chosen offsets x) e ≡ true)
 
 abbrev μ-loop : tie.MeasureT-loop
-μ-loop x offsets chosen y₀ e₀ y e = 16 - e
+μ-loop offsets x chosen y₀ e₀ y e = 16 - e
 
 any-requires : tie.Need-any-requires Inv-loop μ-loop
 any-requires c κs = search needs
@@ -34,8 +33,8 @@ returns : tie.Need-returns Inv-loop μ-loop
 returns c =
     let a = c .before .before .args in
     sym
-    (settling-none (a .t2) (now (a .offsets)) (a .x) (c .before .any .ensures (not-true _ (c .if1 .taken)))
-    (sixteen-descriptors (a .x) _ (c .before .before .good .0)))
+    (settling-none (a .t2) (now (a .offsets)) (a .t1) (c .before .any .ensures (not-true _ (c .if1 .taken)))
+    (sixteen-descriptors (a .t1) _ (c .before .before .good .0)))
 
 loop-holds : tie.Need-loop-holds Inv-loop μ-loop
 loop-holds c = (omega arith, settled-none _ _ _, below-zero _)
@@ -43,8 +42,11 @@ loop-holds c = (omega arith, settled-none _ _ _, below-zero _)
 array-read-if2 : tie.Need-array-read-if2 Inv-loop μ-loop
 array-read-if2 c = search needs
 
-standing-at-requires : tie.Need-standing-at-requires Inv-loop μ-loop
-standing-at-requires c κs = search needs
+mul-q : tie.Need-mul-q Inv-loop μ-loop
+mul-q c = search needs
+
+element-copy-out-q : tie.Need-element-copy-out-q Inv-loop μ-loop
+element-copy-out-q c = search needs
 
 mul-c : tie.Need-mul-c Inv-loop μ-loop
 mul-c c = search needs
@@ -64,20 +66,19 @@ returns-2 c =
     let a = c .before .before .before .before .before .before .before .before .before .args in
     let e = c .before .before .before .before .before .before .loop .e in
     rw
-    (below-fails (settlesWithin (a .t2) (now (a .offsets)) (a .x)) e 16 (omega arith)
-    (within-past (a .t2) (now (a .offsets)) (a .x) e (c .before .before .before .before .if2 .taken) (omega (arith, c .before .advance .ensures, ap advance (c .before .before .before .standing-at .ensures)))))
+    (below-fails (settlesWithin (a .t2) (now (a .offsets)) (a .t1)) e 16 (omega arith)
+    (within-past (a .t2) (now (a .offsets)) (a .t1) e (c .before .before .before .before .if2 .taken) (omega (arith, c .before .advance .ensures))))
 
 settled-requires : tie.Need-settled-requires Inv-loop μ-loop
 settled-requires c κs =
     omega (
       arith,
       c .before .advance .ensures,
-      ap advance (c .before .before .before .standing-at .ensures),
       c .before .before .before .before .before .before .before .before .before .pre (c .before .before .before .before .before .before .loop .e) (omega arith),
     )
 
-mul-t17 : tie.Need-mul-t17 Inv-loop μ-loop
-mul-t17 c = search needs
+mul-t21 : tie.Need-mul-t21 Inv-loop μ-loop
+mul-t21 c = search needs
 
 element-set-from-y : tie.Need-element-set-from-y Inv-loop μ-loop
 element-set-from-y c = search needs
@@ -93,21 +94,21 @@ loop-again c =
     let start = c .before .before .before .before .before in
     let a = start .args in
     let e = c .before .before .loop .e in
-    let l : length (a .x .descriptors) ≡ 16 = sixteen-descriptors (a .x) _ (start .good .0) in
-    let h : e < length (a .x .descriptors) = omega arith in (
+    let l : length (a .t1 .descriptors) ≡ 16 = sixteen-descriptors (a .t1) _ (start .good .0) in
+    let h : e < length (a .t1 .descriptors) = omega arith in (
       omega arith,
       ⊎-elim
           (λ w.
           w .6
-          ∙ ap (λ (y : Transaction). withDescriptors (set (y .descriptors) e (record { standing = w .5 .result })) y) (c .before .before .loop .inv .1)
-          ∙ ap (λ (z : Standing). withDescriptors (set (settledFront (a .t2) (now (a .offsets)) (a .x) e .descriptors) e (record { standing = z })) (a .x)) (w .5 .ensures ∙ ap (settled (getD (now (a .offsets)) e 0)) (w .1 .ensures))
-          ∙ settled-more (a .t2) (now (a .offsets)) (a .x) e h (w .0 .taken))
-          (λ w. w .1 ∙ c .before .before .loop .inv .1 ∙ settled-kept (a .t2) (now (a .offsets)) (a .x) e h (w .0 .left))
+          ∙ ap (λ (y : Transaction). withDescriptors (set (y .descriptors) e (record { standing = w .5 .result; dirty = dirtyAt (a .t1) e })) y) (c .before .before .loop .inv .1)
+          ∙ ap (λ (z : Standing). withDescriptors (set (settledFront (a .t2) (now (a .offsets)) (a .t1) e .descriptors) e (record { standing = z; dirty = dirtyAt (a .t1) e })) (a .t1)) (w .5 .ensures)
+          ∙ settled-more (a .t2) (now (a .offsets)) (a .t1) e h (w .0 .taken))
+          (λ w. w .1 ∙ c .before .before .loop .inv .1 ∙ settled-kept (a .t2) (now (a .offsets)) (a .t1) e h (w .0 .left))
           (c .if2 .came),
-      below-more (settlesWithin (a .t2) (now (a .offsets)) (a .x)) e (c .before .before .loop .inv .2)
+      below-more (settlesWithin (a .t2) (now (a .offsets)) (a .t1)) e (c .before .before .loop .inv .2)
           (⊎-elim
-          (λ w. within-settled (a .t2) (now (a .offsets)) (a .x) e (omega (arith, w .3 .ensures, ap advance (w .1 .ensures), w .4 .left, start .pre e (omega arith))))
-          (λ w. within-kept (a .t2) (now (a .offsets)) (a .x) e (w .0 .left))
+          (λ w. within-settled (a .t2) (now (a .offsets)) (a .t1) e (omega (arith, w .3 .ensures, w .4 .left, start .pre e (omega arith))))
+          (λ w. within-kept (a .t2) (now (a .offsets)) (a .t1) e (w .0 .left))
           (c .if2 .came)),
     )
 
@@ -117,11 +118,11 @@ returns-3 c =
     let start = c .before .before .before .before in
     let a = start .args in
     let e : c .before .loop .e ≡ 16 = omega arith in
-    let l : length (a .x .descriptors) ≡ 16 = sixteen-descriptors (a .x) _ (start .good .0) in
+    let l : length (a .t1 .descriptors) ≡ 16 = sixteen-descriptors (a .t1) _ (start .good .0) in
     let w = c .before .loop .inv in
     rw (rw e at (w .2))
     (ap (λ (y : Transaction). record { verdict = Settled; transaction = y })
-    (w .1 ∙ ap (settledFront (a .t2) (now (a .offsets)) (a .x)) e ∙ settled-all (a .t2) (now (a .offsets)) (a .x) l))
+    (w .1 ∙ ap (settledFront (a .t2) (now (a .offsets)) (a .t1)) e ∙ settled-all (a .t2) (now (a .offsets)) (a .t1) l))
 
 pub settle-spec : {M : Type 1} → statement M
 settle-spec =
@@ -133,14 +134,15 @@ settle-spec =
     returns
     loop-holds
     array-read-if2
-    standing-at-requires
+    mul-q
+    element-copy-out-q
     mul-c
     element-copy-out-c
     sub-if3
     advance-requires
     returns-2
     settled-requires
-    mul-t17
+    mul-t21
     element-set-from-y
     add-e
     loop-less

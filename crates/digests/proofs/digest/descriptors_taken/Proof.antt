@@ -1,9 +1,9 @@
--- `standings_taken` meets its contract. The loop's invariant: the digest is in range.
+-- `descriptors_taken` meets its contract. The loop's invariant: the digest is in range.
 use Prim.Native.Nat.{_-_, _≤_}
 use borrow.Author.Needs.{needs}
 use Rattle.digests.specs.Bounds.{Digest}
-use Rattle.digests.proofs.digest.standings_taken.Statement.{statement}
-use Rattle.digests.proofs.digest.standings_taken.Tie as tie
+use Rattle.digests.proofs.digest.descriptors_taken.Statement.{statement}
+use Rattle.digests.proofs.digest.descriptors_taken.Tie as tie
 
 abbrev Inv-loop : tie.InvT-loop
 Inv-loop h x out₀ d₀ out d = Digest out × (d ≤ 16)
@@ -14,11 +14,17 @@ abbrev μ-loop : tie.MeasureT-loop
 loop-holds : tie.Need-loop-holds Inv-loop μ-loop
 loop-holds c = search needs
 
-standing-at-requires : tie.Need-standing-at-requires Inv-loop μ-loop
-standing-at-requires c κs = search needs
+mul-q : tie.Need-mul-q Inv-loop μ-loop
+mul-q c = search needs
+
+element-copy-out-q : tie.Need-element-copy-out-q Inv-loop μ-loop
+element-copy-out-q c = search needs
 
 standing-taken-requires : tie.Need-standing-taken-requires Inv-loop μ-loop
 standing-taken-requires c κs = search needs
+
+flag-taken-requires : tie.Need-flag-taken-requires Inv-loop μ-loop
+flag-taken-requires c κs = search needs
 
 add-d : tie.Need-add-d Inv-loop μ-loop
 add-d c = search needs
@@ -32,15 +38,17 @@ loop-again c = search needs
 returns : tie.Need-returns Inv-loop μ-loop
 returns c = search needs
 
-pub standings-taken-spec : {M : Type 1} → statement M
-standings-taken-spec =
+pub descriptors-taken-spec : {M : Type 1} → statement M
+descriptors-taken-spec =
     tie.close
     (tie.spec
     Inv-loop
     μ-loop
     loop-holds
-    standing-at-requires
+    mul-q
+    element-copy-out-q
     standing-taken-requires
+    flag-taken-requires
     add-d
     loop-less
     loop-again

@@ -1,5 +1,5 @@
-//! A second implementation of paper 01 with request F-1, written from the papers alone: a store over lent buffers, the
-//! plain machine of demand 3, a generator of calls, and the means to run the two side by side.
+//! A second implementation of paper 01 with requests F-1 and F-3, written from the papers alone: a store over lent
+//! buffers, the plain machine of demand 3, a generator of calls, and the means to run the two side by side.
 
 pub mod call;
 pub mod digest;

@@ -216,6 +216,9 @@ impl Pair {
         }
         self.keep_history(call, reply, answer);
         self.check_record();
+        if let (Call::Step(t, step), Answer::Given(given)) = (call, answer) {
+            self.check_latest_writes(*t, step.descriptor, usize::from(given));
+        }
     }
 
     /// For a Begin or a Fresh: the state with garbage where no call looks, which the call has to clear away.
@@ -308,6 +311,22 @@ impl Pair {
         let data = course.writes.iter().flat_map(|write| &write.data);
         let logged = &self.state.logs[SPAN * t..][..usize::from(transaction.log.bytes)];
         assert!(logged.iter().eq(data), "data bytes of transaction {t}");
+    }
+
+    /// At each place just read the store finds the latest write over it, and has looked at that one and all newer ones,
+    /// or at all where there is none.
+    fn check_latest_writes(&self, t: usize, d: usize, given: usize) {
+        let committed = &self.machine.committed;
+        let course = &self.machine.open[t].as_ref().expect("a Read was accepted").course;
+        let file = committed.file_of[d];
+        let end = course.offset(d);
+        for place in end - given..end {
+            let latest = course.latest_write(committed, file, place);
+            let run = self.state.store.latest_write(t, file, place, end);
+            assert_eq!(run.record, latest, "transaction {t}, latest write over place {place} of file {file}");
+            let looked = course.writes.len() - latest.unwrap_or(0);
+            assert_eq!(run.looked, looked, "transaction {t}, records looked at for place {place} of file {file}");
+        }
     }
 
     // What is looked at now and then.

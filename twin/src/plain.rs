@@ -301,7 +301,7 @@ impl Course {
         self.sightings.push(committed.sight_offset(d));
     }
 
-    fn offset(&self, d: usize) -> usize {
+    pub fn offset(&self, d: usize) -> usize {
         match self.standings[d] {
             Standing::Placed { offset } | Standing::Moved { offset, .. } | Standing::Known { offset } => offset,
             Standing::Untouched | Standing::Deferred { .. } => unreachable!("no offset is carried"),
@@ -320,6 +320,16 @@ impl Course {
                 }
             };
         }
+    }
+
+    /// Which write, in call order, is the latest over a place: it covers the place and no later one does.
+    pub fn latest_write(&self, committed: &Committed, file: usize, place: usize) -> Option<usize> {
+        self.writes.iter().rposition(|write| match write.place {
+            Place::At(first) => {
+                committed.file_of[write.descriptor] == file && (first..first + write.data.len()).contains(&place)
+            }
+            Place::After(_) => false,
+        })
     }
 
     /// What the transaction's own writes put on `count` places of a file from `start` on.

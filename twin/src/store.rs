@@ -77,9 +77,14 @@ pub struct Lent<'a> {
     pub marks: &'a mut [u8],
 }
 
-/// A stretch of a read that one source supplies: the log from the given byte on, or else the file.
-struct Run {
-    log_from: Option<usize>,
+/// A stretch of a read that one source supplies.
+pub struct Run {
+    /// The record that supplies it, counted from the oldest; none where the file does.
+    pub record: Option<usize>,
+    /// How many records were looked at.
+    pub looked: usize,
+    /// Where it starts, in the log or in the file.
+    from: usize,
     end: usize,
 }
 
@@ -460,12 +465,12 @@ impl Store {
         let end = place + out.len();
         let mut at = place;
         while at < end {
-            let run = self.run(t, file, at, end);
+            let run = self.latest_write(t, file, at, end);
             let length = run.end - at;
-            let source = match run.log_from {
-                Some(from) => &lent.logs[SPAN * t + from..][..length],
+            let source = match run.record {
+                Some(_) => &lent.logs[SPAN * t + run.from..][..length],
                 None => {
-                    let from = SPAN * file + at;
+                    let from = SPAN * file + run.from;
                     lent.marks[from..from + length].iter_mut().for_each(|mark| *mark |= 1 << t);
                     &lent.files[from..from + length]
                 }
@@ -475,12 +480,13 @@ impl Store {
         }
     }
 
-    /// The longest stretch from `place` on, up to `end`, that one record or else the file supplies.
-    fn run(&self, t: usize, file: usize, place: usize, end: usize) -> Run {
+    /// From the newest record back to the first that covers `place`; with the longest stretch from there on, up to `end`,
+    /// that this record supplies, or the file where none covers it.
+    pub fn latest_write(&self, t: usize, file: usize, place: usize, end: usize) -> Run {
         let log = &self.transactions[t].log;
         let mut limit = end;
         let mut data = usize::from(log.bytes);
-        for record in log.records.iter().rev() {
+        for (looked, (k, record)) in (1..).zip(log.records.iter().enumerate().rev()) {
             let length = usize::from(record.length);
             data -= length;
             if length == 0 || usize::from(self.files[usize::from(record.descriptor)]) != file {
@@ -493,10 +499,10 @@ impl Store {
             if start > place {
                 limit = limit.min(start);
             } else if place < start + length {
-                return Run { log_from: Some(data + place - start), end: limit.min(start + length) };
+                return Run { record: Some(k), looked, from: data + place - start, end: limit.min(start + length) };
             }
         }
-        Run { log_from: None, end: limit }
+        Run { record: None, looked: log.records.len(), from: place, end: limit }
     }
 
     // Listing places.

@@ -15,7 +15,9 @@ use Rattle.record.specs.declared.journal.WriteRecord.{WriteRecord}
 use Rattle.rules.specs.Coverage.{noPlace}
 use Rattle.runs.specs.declared.Extent.{Extent}
 use Rattle.runs.specs.declared.Run.{Run}
-use Rattle.runs.specs.Runs.{Recorded, Supplier, theFile, theRecord, supplier, isRecord, RunOf}
+use Rattle.runs.specs.declared.Supplier.{Supplier}
+use Rattle.runs.specs.declared.Supplier.the-variants.{File, Record}
+use Rattle.runs.specs.Runs.{Recorded, supplier, isRecord, RunOf}
 use Rattle.coverage.specs.Covering.{coveredAt, someBelow, waitsOn, Upto, NextOf}
 
 -- ---- some number below a bound
@@ -60,44 +62,45 @@ unplaced-has-none a = refl
 
 -- ---- a run
 
-supplier-file : (x : Supplier) → isRecord x ≡ false → x ≡ theFile
-unfolding isRecord
-supplier-file theFile e = refl
-supplier-file (theRecord k) e = absurd (let z : _≡_ {A = Bool} true false = e in let n : _≡_ {A = ℕ} 0 1 = cc in omega arith)
+supplier-file : (x : Supplier) → isRecord x ≡ false → x ≡ File
+supplier-file File e = refl
+supplier-file (Record k) e = absurd (let z : _≡_ {A = Bool} true false = e in let n : _≡_ {A = ℕ} 0 1 = cc in omega arith)
 
-not-file : (x : Supplier) → (x ≡ theFile → ⊥) → isRecord x ≡ true
-unfolding isRecord
-not-file theFile h = absurd (h refl)
-not-file (theRecord k) h = refl
+not-file : (x : Supplier) → (x ≡ File → ⊥) → isRecord x ≡ true
+not-file File h = absurd (h refl)
+not-file (Record k) h = refl
 
 module _ (j : Recorded) (t records : ℕ) (e : Extent) (r : Run) (run : RunOf j t records e r) where
   abbrev covered : ℕ → Bool
   covered = coveredAt j t records (e .file)
 
-  run-along : (q : ℕ) → e .place ≤ q → q < e .place + r .length → covered q ≡ r .logged
+  abbrev logged : Bool
+  logged = isRecord (r .supplier)
+
+  run-along : (q : ℕ) → e .place ≤ q → q < e .place + r .length → covered q ≡ logged
   unfolding coveredAt
   run-along q g l =
       let i : e .place + (q - e .place) ≡ q = omega arith in
-      ap (λ (x : ℕ). isRecord (supplier j t records (e .file) x)) (sym i) ∙ ap isRecord (run .same (q - e .place) (omega arith)) ∙ sym (run .logged)
+      ap (λ (x : ℕ). isRecord (supplier j t records (e .file) x)) (sym i) ∙ ap isRecord (run .same (q - e .place) (omega arith)) ∙ sym (ap isRecord (run .supplied))
 
-  run-first : covered (e .place) ≡ r .logged
+  run-first : covered (e .place) ≡ logged
   run-first = run-along (e .place) (omega arith) (omega (arith, run .some))
 
   -- after a run of the file comes a covered place
-  run-then : r .logged ≡ false → r .length < e .length → covered (e .place + r .length) ≡ true
+  run-then : logged ≡ false → r .length < e .length → covered (e .place + r .length) ≡ true
   unfolding coveredAt
   run-then b l =
       not-file (supplier j t records (e .file) (e .place + r .length))
-      (λ q. run .longest l (q ∙ sym (supplier-file (supplier j t records (e .file) (e .place)) (sym (run .logged) ∙ b))))
+      (λ q. run .longest l (q ∙ sym (supplier-file (supplier j t records (e .file) (e .place)) (sym (ap isRecord (run .supplied)) ∙ b))))
 
   module _ (whole : e .length ≡ 4096 - e .place) (inside : e .place < 4096) where
     -- the first place is covered
-    pub first-covered-here : r .logged ≡ true → Upto covered false (e .place) (e .place)
+    pub first-covered-here : logged ≡ true → Upto covered false (e .place) (e .place)
     first-covered-here b =
         record { start = omega arith; within = omega arith; same = λ q g l. absurd (omega arith); ended = λ l. run-first ∙ b }
 
     -- the first covered place comes after the run
-    pub first-covered-after : r .logged ≡ false → Upto covered false (e .place) (e .place + r .length)
+    pub first-covered-after : logged ≡ false → Upto covered false (e .place) (e .place + r .length)
     first-covered-after b =
         record {
           start = omega arith;
@@ -108,12 +111,12 @@ module _ (j : Recorded) (t records : ℕ) (e : Extent) (r : Run) (run : RunOf j 
 
   -- the walk over runs has come to this one, which is the file's
   pub first-clear-here : (p : ℕ) → p ≤ e .place → e .place ≤ 4096
-      → ((q : ℕ) → p ≤ q → q < e .place → covered q ≡ true) → r .logged ≡ false → Upto covered true p (e .place)
+      → ((q : ℕ) → p ≤ q → q < e .place → covered q ≡ true) → logged ≡ false → Upto covered true p (e .place)
   first-clear-here p g l before b = record { start = g; within = l; same = before; ended = λ h. run-first ∙ b }
 
   -- or a record's, and goes on
   pub first-clear-after : (p : ℕ)
-      → ((q : ℕ) → p ≤ q → q < e .place → covered q ≡ true) → r .logged ≡ true → (q : ℕ) → p ≤ q → q < e .place + r .length → covered q ≡ true
+      → ((q : ℕ) → p ≤ q → q < e .place → covered q ≡ true) → logged ≡ true → (q : ℕ) → p ≤ q → q < e .place + r .length → covered q ≡ true
   first-clear-after p before b q g l = ⊎-elim (λ h. run-along q h l ∙ b) (λ h. before q g h) (le-or-lt (e .place) q)
 
 -- no place is left

@@ -21,7 +21,9 @@ use Rattle.rules.specs.Machine.{tabulate, fileOf, dataStart, writeAt, txnOf}
 use Rattle.rules.specs.Coverage.{someWrite, coversPlace, covered, unplacedOn, unplaced, listed, stretchesOf}
 use Rattle.rules.proofs.Coverage.Stretches.{stretches-same}
 use Rattle.rules.proofs.Coverage.Theorem.{lists-its-places}
-use Rattle.runs.specs.Runs.{Recorded, recorded, covers, Supplier, theFile, theRecord, newest, supplier, isRecord}
+use Rattle.runs.specs.declared.Supplier.{Supplier}
+use Rattle.runs.specs.declared.Supplier.the-variants.{File, Record}
+use Rattle.runs.specs.Runs.{Recorded, recorded, covers, newest, supplier, isRecord}
 use Rattle.runs.proofs.RunLaws.{data-suc, supplier-is, covers-in}
 use Rattle.coverage.specs.Covering.{coveredAt, someBelow, waitsOn, waitsIn}
 
@@ -75,14 +77,14 @@ module _ (j : Recorded) (logs : List ℕ) (t f : ℕ) where
         (length-cut logs (4096 * t + lengthsBefore (j .journal) t k) (w .length) (omega (arith, data-suc (j .journal) t k)))
 
     covered-is : (n : ℕ) → lengthsBefore (j .journal) t n ≤ 4096 → (p : ℕ) → covered file f (writes n) p ≡ coveredAt j t n f p
-    unfolding covered coveredAt supplier newest tabulate someWrite isRecord
+    unfolding covered coveredAt supplier newest tabulate someWrite
     covered-is zero h p = refl
     covered-is (suc n) h p =
         some-one-more (coversPlace file f p) (writes n) (writeAt (j .journal) logs t n)
         ∙ ap₂ _||_ (covered-is n (omega (arith, data-suc (j .journal) t n)) p) (covers-is p n h)
         ∙ pick (covers (j .filenumbers) f p (writeRecordAt (j .journal) t n))
       where
-        pick : (b : Bool) → (coveredAt j t n f p || b) ≡ isRecord (cond b (theRecord n) (supplier j t n f p))
+        pick : (b : Bool) → (coveredAt j t n f p || b) ≡ isRecord (cond b (Record n) (supplier j t n f p))
         pick true = or-true (coveredAt j t n f p)
         pick false = or-false (coveredAt j t n f p)
 
@@ -108,12 +110,12 @@ module _ (s : Store) (journal logs : List ℕ) (t f : ℕ) where
 
     -- a write record covers no place past the file
     none-past : (p : ℕ) → 4096 ≤ p → coveredAt (recorded journal (s .filenumbers)) t (transaction s t .used .records) f p ≡ false
-    unfolding coveredAt isRecord
+    unfolding coveredAt
     none-past p h = pick (supplier (recorded journal (s .filenumbers)) t (transaction s t .used .records) f p) refl
       where
         pick : (x : Supplier) → supplier (recorded journal (s .filenumbers)) t (transaction s t .used .records) f p ≡ x → isRecord x ≡ false
-        pick theFile e = refl
-        pick (theRecord k) e =
+        pick File e = refl
+        pick (Record k) e =
             let w = writeRecordAt journal t k in
             let by = supplier-is (recorded journal (s .filenumbers)) t f (transaction s t .used .records) p k e in
             let within = place-end (standingAt (transaction s t) (w .descriptor)) (w .place) (w .length) (record-in (transaction s t) w (range .writes k (by .0)) .place) in

@@ -12,7 +12,7 @@ use record::journal::NUMBERS;
 use record::journal::WriteRecord;
 use record::journal::record_at;
 use runs::Extent;
-use runs::run_at;
+use runs::latest_write;
 use standings::Place;
 ghost use mathlib.Core.Bool.{true, false};
 ghost use mathlib.Core.List.{_++_};
@@ -89,8 +89,9 @@ fn first_covered<'a>(
         place: p,
         length: FILE_BYTES - p,
     };
-    let r = run_at(journal, filenumbers, t, used, e);
-    if r.logged {
+    let r = latest_write(journal, filenumbers, t, used, e);
+    let supplier = r.supplier;
+    if supplier.is_record() {
         return p;
     }
     p + r.length
@@ -115,8 +116,9 @@ fn first_clear<'a>(
             place: q,
             length: FILE_BYTES - q,
         };
-        let r = run_at(journal, filenumbers, t, used, e);
-        if !r.logged {
+        let r = latest_write(journal, filenumbers, t, used, e);
+        let supplier = r.supplier;
+        if !supplier.is_record() {
             return q;
         }
         q += r.length;

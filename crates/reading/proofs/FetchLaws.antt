@@ -20,8 +20,10 @@ use Rattle.rules.specs.Calls.{marked}
 use Rattle.rules.specs.Machine.{tabulate}
 use Rattle.runs.specs.declared.Extent.{Extent}
 use Rattle.runs.specs.declared.Run.{Run}
-use Rattle.runs.specs.Runs.{extent, Recorded, Supplier, theFile, theRecord, supplier, isRecord, standsAt, RunOf, writeIn}
-use Rattle.runs.proofs.RunLaws.{sourceOf, latest-is, run-in-log, run-along}
+use Rattle.runs.specs.declared.Supplier.{Supplier}
+use Rattle.runs.specs.declared.Supplier.the-variants.{File, Record}
+use Rattle.runs.specs.Runs.{extent, Recorded, supplier, isRecord, standsAt, sourceOf, RunOf, writeIn}
+use Rattle.runs.proofs.RunLaws.{latest-is, run-in-log, run-along}
 use Rattle.reading.specs.Serving.{fileValues, fetching, bytesOf, marksAfter}
 
 -- ---- a fetch, byte by byte
@@ -178,15 +180,15 @@ module _ (j : Recorded) (t records : ℕ) (log file : List ℕ) (inside : length
   supplied : (f p : ℕ) (s : Supplier) → supplier j t records f p ≡ s → ofOne f p ≡ bring (sourceOf (j .journal) log t p s) (4096 * f + p)
   supplied f p s e = ap (λ (x : Source). bring x (4096 * f + p)) (latest-is j log t f p records inside ∙ ap (sourceOf (j .journal) log t p) e)
 
-  by-file : (f p : ℕ) → supplier j t records f p ≡ theFile → (result (fileValues f file) (ofOne f p) ≡ getD file p 0) × (asked (fileValues f file) (ofOne f p) ≡ byte (4096 * f + p) ∷ [])
+  by-file : (f p : ℕ) → supplier j t records f p ≡ File → (result (fileValues f file) (ofOne f p) ≡ getD file p 0) × (asked (fileValues f file) (ofOne f p) ≡ byte (4096 * f + p) ∷ [])
   unfolding sourceOf bring result asked fileValues
   by-file f p e =
       let g : 4096 * f + p - 4096 * f ≡ p = omega arith in
-      (ap (result (fileValues f file)) (supplied f p theFile e) ∙ ap (λ (k : ℕ). getD file k 0) g, ap (asked (fileValues f file)) (supplied f p theFile e))
+      (ap (result (fileValues f file)) (supplied f p File e) ∙ ap (λ (k : ℕ). getD file k 0) g, ap (asked (fileValues f file)) (supplied f p File e))
 
-  by-record : (f p k : ℕ) → supplier j t records f p ≡ theRecord k → (result (fileValues f file) (ofOne f p) ≡ getD log (standsAt (j .journal) t p (theRecord k)) 0) × (asked (fileValues f file) (ofOne f p) ≡ [])
+  by-record : (f p k : ℕ) → supplier j t records f p ≡ Record k → (result (fileValues f file) (ofOne f p) ≡ getD log (standsAt (j .journal) t p (Record k)) 0) × (asked (fileValues f file) (ofOne f p) ≡ [])
   unfolding sourceOf bring result asked
-  by-record f p k e = (ap (result (fileValues f file)) (supplied f p (theRecord k) e), ap (asked (fileValues f file)) (supplied f p (theRecord k) e))
+  by-record f p k e = (ap (result (fileValues f file)) (supplied f p (Record k) e), ap (asked (fileValues f file)) (supplied f p (Record k) e))
 
   module _ (e : Extent) (r : Run) (run : RunOf j t records e r) (within : e .place + e .length ≤ length file) where
     abbrev f : ℕ
@@ -195,28 +197,30 @@ module _ (j : Recorded) (t records : ℕ) (log file : List ℕ) (inside : length
     abbrev p : ℕ
     p = e .place
 
+    abbrev logged : Bool
+    logged = isRecord (r .supplier)
+
     -- the places of the run
     abbrev its : Extent
     its = extent f p (r .length)
 
     -- a run of the file, and one of a record
-    is-file : supplier j t records f p ≡ theFile → (r .logged ≡ false) × (r .at ≡ p)
-    unfolding isRecord standsAt
-    is-file s = (run .logged ∙ ap isRecord s, run .start ∙ ap (standsAt (j .journal) t p) s)
+    is-file : supplier j t records f p ≡ File → (logged ≡ false) × (r .at ≡ p)
+    unfolding standsAt
+    is-file s = (ap isRecord (run .supplied ∙ s), run .start ∙ ap (standsAt (j .journal) t p) s)
 
-    is-record : (k : ℕ) → supplier j t records f p ≡ theRecord k → r .logged ≡ true
-    unfolding isRecord
-    is-record k s = run .logged ∙ ap isRecord s
+    is-record : (k : ℕ) → supplier j t records f p ≡ Record k → logged ≡ true
+    is-record k s = ap isRecord (run .supplied ∙ s)
 
     pub run-within : length log ≡ 4096 → length file ≡ 4096 → r .at + r .length ≤ 4096
     run-within = pick (supplier j t records f p) refl
       where
         pick : (s : Supplier) → supplier j t records f p ≡ s → length log ≡ 4096 → length file ≡ 4096 → r .at + r .length ≤ 4096
-        pick theFile s hl hf = omega (arith, is-file s .1, run .within)
-        pick (theRecord k) s hl hf = omega (arith, run-in-log j t records e r run k s)
+        pick File s hl hf = omega (arith, is-file s .1, run .within)
+        pick (Record k) s hl hf = omega (arith, run-in-log j t records e r run k s)
 
     -- "handed over as that part of the log or of the file"
-    pub run-bytes : bytesOf j t records log file its ≡ cut (chosen (r .logged) log file) (r .at) (r .length)
+    pub run-bytes : bytesOf j t records log file its ≡ cut (chosen (logged) log file) (r .at) (r .length)
     unfolding chosen bytesOf fetching
     run-bytes = pick (supplier j t records f p) refl
       where
@@ -225,36 +229,36 @@ module _ (j : Recorded) (t records : ℕ) (log file : List ℕ) (inside : length
         part at src = result-run (fileValues f file) (λ d. getD (j .filenumbers) d 0) (tabulate (writeIn (j .journal) log t) records) f p at (r .length) src
 
         pick : (s : Supplier) → supplier j t records f p ≡ s
-            → bytesOf j t records log file its ≡ cut (chosen (r .logged) log file) (r .at) (r .length)
-        pick theFile s =
+            → bytesOf j t records log file its ≡ cut (chosen (logged) log file) (r .at) (r .length)
+        pick File s =
             let g = is-file s in
             rw (g .0, g .1) (part p file (omega (arith, run .within)) (λ i l. by-file f (p + i) (run .same i l ∙ s) .0))
-        pick (theRecord k) s =
+        pick (Record k) s =
             rw (is-record k s)
             (part (r .at) log (omega (arith, run-in-log j t records e r run k s))
             (λ i l. by-record f (p + i) k (run .same i l ∙ s) .0 ∙ ap (λ (m : ℕ). getD log m 0) (run-along j t records e r run k s i)))
 
     -- "an own write shields, byte by byte"
-    pub run-shields : (marks : List ℕ) → r .logged ≡ true → marksAfter j t records log file its marks ≡ marks
+    pub run-shields : (marks : List ℕ) → logged ≡ true → marksAfter j t records log file its marks ≡ marks
     unfolding marksAfter fetching marked
     run-shields marks b = pick (supplier j t records f p) refl
       where
         pick : (s : Supplier) → supplier j t records f p ≡ s → marksAfter j t records log file its marks ≡ marks
-        pick theFile s = absurd (false≢true (sym (is-file s .0) ∙ b))
-        pick (theRecord k) s =
+        pick File s = absurd (false≢true (sym (is-file s .0) ∙ b))
+        pick (Record k) s =
             ap (λ (l : List Item). marked t l marks)
             (asked-run (fileValues f file) (λ d. getD (j .filenumbers) d 0) (tabulate (writeIn (j .journal) log t) records) f p (r .length) (λ i l. by-record f (p + i) k (run .same i l ∙ s) .1))
 
-    pub run-marks : (marks : List ℕ) → r .logged ≡ false → (from n : ℕ) → from ≡ 4096 * f + p → n ≡ r .length
+    pub run-marks : (marks : List ℕ) → logged ≡ false → (from n : ℕ) → from ≡ 4096 * f + p → n ≡ r .length
         → withMarks t from n marks ≡ marksAfter j t records log file its marks
     unfolding marksAfter fetching
     run-marks marks b from n ef en = ap₂ (λ (k i : ℕ). withMarks t k i marks) ef en ∙ sym (pick (supplier j t records f p) refl)
       where
         pick : (s : Supplier) → supplier j t records f p ≡ s → marksAfter j t records log file its marks ≡ withMarks t (4096 * f + p) (r .length) marks
-        pick theFile s =
+        pick File s =
             marked-run (fileValues f file) (λ d. getD (j .filenumbers) d 0) (tabulate (writeIn (j .journal) log t) records) f t p (r .length) marks
             (λ i l. by-file f (p + i) (run .same i l ∙ s) .1)
-        pick (theRecord k) s = absurd (false≢true (sym b ∙ is-record k s))
+        pick (Record k) s = absurd (false≢true (sym b ∙ is-record k s))
 
 -- ---- the buffers after some bytes, and after some more
 

@@ -8,7 +8,7 @@ use record::DESCRIPTORS;
 use record::journal::NUMBERS;
 use runs::Extent;
 use runs::Run;
-use runs::run_at;
+use runs::latest_write;
 ghost use mathlib.Core.List.{_++_};
 ghost use mathlib.Core.Path.{_≡_};
 ghost use Prim.Native.Nat.{_+_, _≤_};
@@ -35,10 +35,12 @@ fn copy_run<'a>(
     ensures reader { λ r. ⌜ now (reader .exit) ≡ pasted (now (reader .entry)) at (bytesOf (recorded (now (journal .entry)) (now (filenumbers .entry))) t (used .records) (now (log .entry)) (now (file .entry)) (extent (e .file) (e .place) (r .length))) ⌝ }
     ensures marks { λ r. ⌜ now (marks .exit) ≡ marksAfter (recorded (now (journal .entry)) (now (filenumbers .entry))) t (used .records) (now (log .entry)) (now (file .entry)) (extent (e .file) (e .place) (r .length)) (now (marks .entry)) ⌝ }
 {
-    let r = run_at(journal, filenumbers, t, used, e);
-    let bytes = parts::run(log, file, r.logged, r.at, r.length);
+    let r = latest_write(journal, filenumbers, t, used, e);
+    let supplier = r.supplier;
+    let logged = supplier.is_record();
+    let bytes = parts::run(log, file, logged, r.at, r.length);
     parts::copy_to(reader, at, bytes);
-    if r.logged {
+    if logged {
         return r;
     }
     let from = FILE_BYTES * wide_octet(e.file) + e.place;

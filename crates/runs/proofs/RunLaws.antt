@@ -1,4 +1,4 @@
--- The laws of runs: what a write record lies over, the walk from the newest record back, and that its supplier is the latest write.
+-- The laws of runs: what a write record covers, the walk from the newest record back, and that what it finds is the latest write.
 -- Assumes nothing.
 use mathlib.Core.Bool.{Bool, true, false, cond, _&&_, and-false, false≢true}
 use mathlib.Core.List.{List, [], _∷_, _++_}
@@ -27,9 +27,11 @@ use Rattle.rules.specs.Transactions.{Write}
 use Rattle.rules.specs.Machine.{tabulate}
 use Rattle.runs.specs.declared.Extent.{Extent}
 use Rattle.runs.specs.declared.Run.{Run}
-use Rattle.runs.specs.Runs.{extent, Recorded, covers, Supplier, theFile, theRecord, newest, supplier, isRecord, standsAt, Counted, GapOf, RunOf, writeIn}
+use Rattle.runs.specs.declared.Supplier.{Supplier}
+use Rattle.runs.specs.declared.Supplier.the-variants.{File, Record}
+use Rattle.runs.specs.Runs.{extent, Recorded, covers, coveredBy, newest, supplier, standsAt, Counted, GapOf, LatestWrite, RunOf, writeIn, sourceOf}
 
--- ---- what a write record lies over
+-- ---- what a write record covers
 
 untrue : (b : Bool) → (b ≡ true → ⊥) → b ≡ false
 untrue true h = absurd (h refl)
@@ -64,7 +66,7 @@ module _ (filenumbers : List ℕ) (f p : ℕ) (w : WriteRecord) where
   pub covers-in : covers filenumbers f p w ≡ true → (startOf w ≤ p) × (p < startOf w + w .length)
   covers-in e = over-in (w .place) (w .length) p (covers-over e)
 
-  -- a record that lies over one place lies over all of its own
+  -- a record that covers one place covers all of its own
   pub covers-along : covers filenumbers f p w ≡ true → (i : ℕ) → startOf w ≤ i → i < startOf w + w .length → covers filenumbers f i w ≡ true
   unfolding covers
   covers-along e i g l =
@@ -101,7 +103,7 @@ module _ (filenumbers : List ℕ) (w : WriteRecord) (e : Extent) where
     unfolding covers over
     inside i g h = rw (eq-eqb (getD filenumbers (w .descriptor) 0) (e .file) there, placed, le-leb p i g, lt-ltb i (p + w .length) h)
 
-    -- none, where it lies over the first
+    -- none, where it covers the first
     pub gap-over : p ≤ e .place → e .place < p + w .length → GapOf filenumbers w e 0
     gap-over g h = record { within = omega arith; clear = λ i l. absurd (omega arith); met = λ l. inside (e .place + 0) (omega arith) (omega arith) }
 
@@ -117,37 +119,63 @@ module _ (filenumbers : List ℕ) (w : WriteRecord) (e : Extent) where
 
 -- ---- the walk from the newest record back
 
-newest-suc : (c : ℕ → Bool) (n : ℕ) → newest c (suc n) ≡ cond (c n) (theRecord n) (newest c n)
+newest-suc : (c : ℕ → Bool) (n : ℕ) → newest c (suc n) ≡ cond (c n) (Record n) (newest c n)
 unfolding newest
 newest-suc c n = refl
 
-newest-is : (c : ℕ → Bool) (n k : ℕ) → newest c n ≡ theRecord k → (k < n) × (c k ≡ true)
+newest-is : (c : ℕ → Bool) (n k : ℕ) → newest c n ≡ Record k → (k < n) × (c k ≡ true)
 unfolding newest
 newest-is c zero k e = let z : _≡_ {A = ℕ} 0 1 = cc in absurd (omega arith)
 newest-is c (suc n) k e = pick (c n) refl (sym (newest-suc c n) ∙ e) (newest-is c n k)
   where
-    pick : (b : Bool) → c n ≡ b → cond b (theRecord n) (newest c n) ≡ theRecord k → (newest c n ≡ theRecord k → (k < n) × (c k ≡ true)) → (k < suc n) × (c k ≡ true)
+    pick : (b : Bool) → c n ≡ b → cond b (Record n) (newest c n) ≡ Record k → (newest c n ≡ Record k → (k < n) × (c k ≡ true)) → (k < suc n) × (c k ≡ true)
     pick true q e ih = let s : n ≡ k = cc in (omega arith, ap c (sym s) ∙ q)
     pick false q e ih = let r = ih e in (omega arith, r .1)
+
+-- no later one than the first that it meets covers
+newest-later : (c : ℕ → Bool) (n k m : ℕ) → newest c n ≡ Record k → k < m → m < n → c m ≡ false
+unfolding newest
+newest-later c zero k m e g l = absurd (omega arith)
+newest-later c (suc n) k m e g l = pick (c n) refl (sym (newest-suc c n) ∙ e) (λ e h. newest-later c n k m e g h)
+  where
+    pick : (b : Bool) → c n ≡ b → cond b (Record n) (newest c n) ≡ Record k → (newest c n ≡ Record k → m < n → c m ≡ false) → c m ≡ false
+    pick true q e ih = let s : n ≡ k = cc in absurd (omega arith)
+    pick false q e ih = ⊎-elim (ih e) (λ h. let s : m ≡ n = omega arith in ap c s ∙ q) (le-or-lt (suc m) n)
+
+-- it meets none exactly when none covers
+newest-none : (c : ℕ → Bool) (n : ℕ) → newest c n ≡ File → (k : ℕ) → k < n → c k ≡ false
+unfolding newest
+newest-none c zero e k l = absurd (omega arith)
+newest-none c (suc n) e k l = pick (c n) refl (sym (newest-suc c n) ∙ e) (λ e. newest-none c n e k)
+  where
+    pick : (b : Bool) → c n ≡ b → cond b (Record n) (newest c n) ≡ File → (newest c n ≡ File → k < n → c k ≡ false) → c k ≡ false
+    pick true q e ih = let z : _≡_ {A = ℕ} 0 1 = cc in absurd (omega arith)
+    pick false q e ih = ⊎-elim (ih e) (λ h. let s : k ≡ n = omega arith in ap c s ∙ q) (le-or-lt (suc k) n)
+
+newest-only : (c : ℕ → Bool) (n : ℕ) → ((k : ℕ) → k < n → c k ≡ false) → newest c n ≡ File
+unfolding newest
+newest-only c zero h = refl
+newest-only c (suc n) h =
+    newest-suc c n ∙ ap (λ (b : Bool). cond b (Record n) (newest c n)) (h n (omega arith)) ∙ newest-only c n (λ k l. h k (omega arith))
 
 abbrev theirs : Recorded → ℕ → ℕ → WriteRecord
 theirs j t k = writeRecordAt (j .journal) t k
 
 module _ (j : Recorded) (t f : ℕ) where
-  -- the record that supplies a place is one of the transaction's and lies over it
-  pub supplier-is : (n p k : ℕ) → supplier j t n f p ≡ theRecord k → (k < n) × (covers (j .filenumbers) f p (theirs j t k) ≡ true)
+  -- the record that supplies a place is one of the transaction's and covers it
+  pub supplier-is : (n p k : ℕ) → supplier j t n f p ≡ Record k → (k < n) × (covers (j .filenumbers) f p (theirs j t k) ≡ true)
   unfolding supplier
   supplier-is n p k e = newest-is (λ k. covers (j .filenumbers) f p (theirs j t k)) n k e
 
-  supplier-suc : (k p : ℕ) → supplier j t (suc k) f p ≡ cond (covers (j .filenumbers) f p (theirs j t k)) (theRecord k) (supplier j t k f p)
+  supplier-suc : (k p : ℕ) → supplier j t (suc k) f p ≡ cond (covers (j .filenumbers) f p (theirs j t k)) (Record k) (supplier j t k f p)
   unfolding supplier
   supplier-suc k p = newest-suc (λ k. covers (j .filenumbers) f p (theirs j t k)) k
 
-  supplier-this : (k p : ℕ) → covers (j .filenumbers) f p (theirs j t k) ≡ true → supplier j t (suc k) f p ≡ theRecord k
-  supplier-this k p e = supplier-suc k p ∙ ap (λ (b : Bool). cond b (theRecord k) (supplier j t k f p)) e
+  supplier-this : (k p : ℕ) → covers (j .filenumbers) f p (theirs j t k) ≡ true → supplier j t (suc k) f p ≡ Record k
+  supplier-this k p e = supplier-suc k p ∙ ap (λ (b : Bool). cond b (Record k) (supplier j t k f p)) e
 
   supplier-older : (k p : ℕ) → covers (j .filenumbers) f p (theirs j t k) ≡ false → supplier j t (suc k) f p ≡ supplier j t k f p
-  supplier-older k p e = supplier-suc k p ∙ ap (λ (b : Bool). cond b (theRecord k) (supplier j t k f p)) e
+  supplier-older k p e = supplier-suc k p ∙ ap (λ (b : Bool). cond b (Record k) (supplier j t k f p)) e
 
 -- The walk has come back to record k: of the first n places, each has its supplier among the records before it, and the place after
 -- them has a newer one.
@@ -155,11 +183,11 @@ pub record Walked (j : Recorded) (t records : ℕ) (e : Extent) (k n : ℕ) : Ty
   pub some : 1 ≤ n
   pub within : n ≤ e .length
   pub same : (i : ℕ) → i < n → supplier j t records (e .file) (e .place + i) ≡ supplier j t k (e .file) (e .place + i)
-  pub ended : n < e .length → (m : ℕ) × (k ≤ m) × (supplier j t records (e .file) (e .place + n) ≡ theRecord m)
+  pub ended : n < e .length → (m : ℕ) × (k ≤ m) × (supplier j t records (e .file) (e .place + n) ≡ Record m)
 
 module _ (j : Recorded) (t records : ℕ) (e : Extent) where
   abbrev by : ℕ → ℕ → Type 0
-  by i k = supplier j t records (e .file) (e .place + i) ≡ theRecord k
+  by i k = supplier j t records (e .file) (e .place + i) ≡ Record k
 
   pub walked-none : 1 ≤ e .length → Walked j t records e records (e .length)
   walked-none h = record { some = h; within = omega arith; same = λ i g. refl; ended = λ g. absurd (omega arith) }
@@ -182,7 +210,7 @@ module _ (j : Recorded) (t records : ℕ) (e : Extent) where
             let o = w .ended (omega arith) in
             (o .0, omega (arith, o .1), ap (λ (i : ℕ). supplier j t records (e .file) (e .place + i)) same ∙ o .2)
 
-    -- the record lies over the first place where it leaves none
+    -- the record covers the first place where it leaves none
     pub gap-covers : (g : ℕ) → g ≡ 0 → GapOf (j .filenumbers) (theirs j t k) (extent (e .file) (e .place) n) g → covers (j .filenumbers) (e .file) (e .place) (theirs j t k) ≡ true
     gap-covers g z q = ap (λ (i : ℕ). covers (j .filenumbers) (e .file) i (theirs j t k)) (omega arith) ∙ q .met (omega (arith, w .some))
 
@@ -193,7 +221,7 @@ module _ (j : Recorded) (t records : ℕ) (e : Extent) where
       abbrev z : ℕ
       z = theirs j t k .length
 
-      here : supplier j t records (e .file) (e .place) ≡ theRecord k
+      here : supplier j t records (e .file) (e .place) ≡ Record k
       here =
           ap (supplier j t records (e .file)) (sym (add-zero (e .place)))
           ∙ w .same 0 (w .some)
@@ -214,14 +242,14 @@ module _ (j : Recorded) (t records : ℕ) (e : Extent) where
           ∙ supplier-this j t (e .file) k (e .place + i)
           (covers-along (j .filenumbers) (e .file) (e .place) (theirs j t k) first (e .place + i) (omega (arith, covers-in (j .filenumbers) (e .file) (e .place) (theirs j t k) first .0)) h)
 
-      pub walked-found : (r : Run) → r .logged ≡ true → r .at ≡ lengthsBefore (j .journal) t k + (e .place - x) → r .length ≡ min n (x + z - e .place) → RunOf j t records e r
-      unfolding isRecord standsAt
+      pub walked-found : (r : Run) → r .supplier ≡ Record k → r .at ≡ lengthsBefore (j .journal) t k + (e .place - x) → r .length ≡ min n (x + z - e .place) → RunOf j t records e r
+      unfolding standsAt
       walked-found r b d q =
           let g = covers-in (j .filenumbers) (e .file) (e .place) (theirs j t k) first in
           let on : (i : ℕ) → r .length ≡ i → supplier j t records (e .file) (e .place + r .length) ≡ supplier j t records (e .file) (e .place) → by i k =
           λ i a s. ap (λ (i : ℕ). supplier j t records (e .file) (e .place + i)) (sym a) ∙ s ∙ here in
           record {
-            logged = b ∙ sym (ap isRecord here);
+            supplied = b ∙ sym here;
             start = d ∙ sym (ap (standsAt (j .journal) t (e .place)) here);
             some = omega (arith, w .some, g .0, g .1);
             within = omega (arith, w .within);
@@ -234,22 +262,22 @@ module _ (j : Recorded) (t records : ℕ) (e : Extent) where
                 (le-or-lt n (x + z - e .place));
           }
 
-  -- no record lies over the first place
+  -- no record covers the first place
   module _ (n : ℕ) (w : Walked j t records e 0 n) where
-    by-file : (i : ℕ) → i < n → supplier j t records (e .file) (e .place + i) ≡ theFile
+    by-file : (i : ℕ) → i < n → supplier j t records (e .file) (e .place + i) ≡ File
     by-file i l = w .same i l ∙ supplier-zero (e .place + i)
       where
-        supplier-zero : (q : ℕ) → supplier j t 0 (e .file) q ≡ theFile
+        supplier-zero : (q : ℕ) → supplier j t 0 (e .file) q ≡ File
         supplier-zero q = unfold supplier newest in refl
 
-    here-file : supplier j t records (e .file) (e .place) ≡ theFile
+    here-file : supplier j t records (e .file) (e .place) ≡ File
     here-file = ap (supplier j t records (e .file)) (sym (add-zero (e .place))) ∙ by-file 0 (w .some)
 
-    pub walked-all : RunOf j t records e (record { logged = false; at = e .place; length = n })
-    unfolding isRecord standsAt
+    pub walked-all : RunOf j t records e (record { supplier = File; looked = records; at = e .place; length = n })
+    unfolding standsAt
     walked-all =
         record {
-          logged = sym (ap isRecord here-file);
+          supplied = sym here-file;
           start = sym (ap (standsAt (j .journal) t (e .place)) here-file);
           some = w .some;
           within = w .within;
@@ -258,11 +286,6 @@ module _ (j : Recorded) (t records : ℕ) (e : Extent) where
         }
 
 -- ---- the supplier is the latest write
-
--- The byte that a supplier has for place p: that of the log, or the file's.
-unfoldable pub sourceOf : List ℕ → List ℕ → ℕ → ℕ → Supplier → Source
-sourceOf journal log t p theFile = file
-sourceOf journal log t p (theRecord k) = own (getD log (standsAt journal t p (theRecord k)) 0)
 
 orElse-assoc : (x y z : Source) → orElse (orElse x y) z ≡ orElse x (orElse y z)
 unfolding orElse
@@ -291,7 +314,7 @@ data-back journal t k h = let e : k ≡ suc (k - 1) = omega arith in ap (lengths
 
 module _ (j : Recorded) (log : List ℕ) (t f p : ℕ) where
   supplies-is : (k : ℕ) → lengthsBefore (j .journal) t (suc k) ≤ length log
-      → supplies (λ d. getD (j .filenumbers) d 0) f p (writeIn (j .journal) log t k) ≡ cond (covers (j .filenumbers) f p (theirs j t k)) (sourceOf (j .journal) log t p (theRecord k)) file
+      → supplies (λ d. getD (j .filenumbers) d 0) f p (writeIn (j .journal) log t k) ≡ cond (covers (j .filenumbers) f p (theirs j t k)) (sourceOf (j .journal) log t p (Record k)) file
   unfolding supplies writeIn covers sourceOf standsAt
   supplies-is k h =
       ap (λ (n : ℕ). cond (eqb (getD (j .filenumbers) (w .descriptor) 0) f && over (w .place) n p) (own (byteAt (w .place) bytes p)) file) long
@@ -327,10 +350,25 @@ module _ (j : Recorded) (log : List ℕ) (t f p : ℕ) where
       ∙ ap₂ orElse (supplies-is n h) (latest-is n (omega (arith, data-suc (j .journal) t n)))
       ∙ pick (covers (j .filenumbers) f p (theirs j t n))
     where
-      pick : (b : Bool) → orElse (cond b (sourceOf (j .journal) log t p (theRecord n)) file) (sourceOf (j .journal) log t p (supplier j t n f p))
-          ≡ sourceOf (j .journal) log t p (cond b (theRecord n) (supplier j t n f p))
+      pick : (b : Bool) → orElse (cond b (sourceOf (j .journal) log t p (Record n)) file) (sourceOf (j .journal) log t p (supplier j t n f p))
+          ≡ sourceOf (j .journal) log t p (cond b (Record n) (supplier j t n f p))
       pick true = refl
       pick false = refl
+
+-- What the walk finds is the latest write over the place, where the count is that of the records looked at.
+pub latest-write : (j : Recorded) (t records f p : ℕ) (found : Supplier) (looked : ℕ) → found ≡ supplier j t records f p
+    → ((k : ℕ) → found ≡ Record k → looked ≡ records - k) → (found ≡ File → looked ≡ records) → LatestWrite j t records f p found looked
+unfolding supplier
+latest-write j t records f p found looked e some all =
+    record {
+      covering = λ k s. newest-is (coveredBy j t f p) records k (sym e ∙ s);
+      mostRecent = λ k m s. newest-later (coveredBy j t f p) records k m (sym e ∙ s);
+      none = λ s. newest-none (coveredBy j t f p) records (sym e ∙ s);
+      onlyNone = λ h. e ∙ newest-only (coveredBy j t f p) records h;
+      thatAndNewer = some;
+      all = all;
+      inRules = λ log h. latest-is j log t f p records h ∙ sym (ap (sourceOf (j .journal) log t p) e);
+    }
 
 -- ---- a run lies inside the log, or inside the file
 
@@ -341,8 +379,8 @@ data-upto journal t k (suc n) h = ⊎-elim (λ g. omega (arith, data-suc journal
     same : n < suc k → lengthsBefore journal t (suc k) ≤ lengthsBefore journal t (suc n)
     same g = let e : suc k ≡ suc n = omega arith in rw e (omega arith)
 
-module _ (j : Recorded) (t records : ℕ) (e : Extent) (r : Run) (run : RunOf j t records e r) (k : ℕ) (s : supplier j t records (e .file) (e .place) ≡ theRecord k) where
-  -- the record that supplies a run lies over each of its places
+module _ (j : Recorded) (t records : ℕ) (e : Extent) (r : Run) (run : RunOf j t records e r) (k : ℕ) (s : supplier j t records (e .file) (e .place) ≡ Record k) where
+  -- the record that supplies a run covers each of its places
   run-covers : (i : ℕ) → i < r .length → (k < records) × (covers (j .filenumbers) (e .file) (e .place + i) (theirs j t k) ≡ true)
   run-covers i l = supplier-is j t (e .file) records (e .place + i) k (run .same i l ∙ s)
 
@@ -364,7 +402,7 @@ module _ (j : Recorded) (t records : ℕ) (e : Extent) (r : Run) (run : RunOf j 
       omega (arith, starts, g .1, g .2, data-suc (j .journal) t k, data-upto (j .journal) t k records (g .0))
 
   -- where its places stand in the log
-  pub run-along : (i : ℕ) → standsAt (j .journal) t (e .place + i) (theRecord k) ≡ r .at + i
+  pub run-along : (i : ℕ) → standsAt (j .journal) t (e .place + i) (Record k) ≡ r .at + i
   unfolding standsAt
   run-along i = let g = run-inside in omega (arith, starts, g .1)
 

@@ -1,5 +1,5 @@
-// Runs: who supplies the places of a file to a transaction, and the longest stretch from a place on that one write record supplies, or
-// that the file supplies.
+// The latest write over a place of a file, and the run from the place on: the longest stretch that one write record supplies, or that the
+// file supplies.
 use counters::Used;
 use numbers::smaller;
 use numbers::wide;
@@ -9,8 +9,9 @@ use record::journal::NUMBERS;
 use record::journal::WriteRecord;
 use record::journal::record_at;
 use standings::Place;
+ghost use mathlib.Core.Path.{_≡_};
 ghost use Prim.Native.Nat.{_<_, _≤_};
-ghost use Rattle.runs.specs.Runs.{recorded, Counted, GapOf, RunOf};
+ghost use Rattle.runs.specs.Runs.{recorded, isRecord, Counted, GapOf, LatestWrite, RunOf};
 
 // Places of a file: `length` of them, from `place` on.
 pub struct Extent {
@@ -19,14 +20,33 @@ pub struct Extent {
     pub length: usize,
 }
 
-// A run: bytes that one write record of the log supplies, or the file; where they start there, and how many they are.
+// Who supplies a place to a transaction: the file, or its write record of that number.
+pub enum Supplier {
+    File,
+    Record(usize),
+}
+
+impl Supplier {
+    pub fn is_record(self) -> bool
+        ensures { λ r. ⌜ r ≡ isRecord self ⌝ }
+    {
+        match self {
+            Supplier::File => false,
+            Supplier::Record(_) => true,
+        }
+    }
+}
+
+// A run: who supplies it, how many write records were looked at to find that, where its bytes start in the log or in the file, and how
+// many they are.
 pub struct Run {
-    pub logged: bool,
+    pub supplier: Supplier,
+    pub looked: usize,
     pub at: usize,
     pub length: usize,
 }
 
-// How many of the places come before the first that the write record lies over.
+// How many of the places come before the first that the write record covers.
 fn gap(w: WriteRecord, filenumbers: &[u8; DESCRIPTORS], e: Extent) -> usize
     requires { ⌜ w .descriptor < 16 ⌝ }
     ensures { λ r. ⌜ GapOf (now (filenumbers .entry)) w e r ⌝ }
@@ -53,9 +73,10 @@ fn gap(w: WriteRecord, filenumbers: &[u8; DESCRIPTORS], e: Extent) -> usize
     smaller(e.length, start - e.place)
 }
 
-// The longest run at the front of the places: the walk goes from the newest record back, and stops at the first that lies over the
-// first place.
-pub fn run_at<'a>(
+// The latest write over the first of the places, and the longest run at their front. Corollary 2 of the notes: "Otherwise, a sees the most
+// recent precedessor in OP_{T_i} ." The walk goes from the newest record back and stops at the first that covers the place. On its way it
+// keeps where the data of the records looked at start in the log, and how many places come before those that they cover.
+pub fn latest_write<'a>(
     journal: &'a [u16; NUMBERS],
     filenumbers: &'a [u8; DESCRIPTORS],
     t: usize,
@@ -63,13 +84,15 @@ pub fn run_at<'a>(
     e: Extent,
 ) -> Run
     requires { ⌜ Counted (now journal) t used × (1 ≤ e .length) ⌝ }
-    ensures { λ r. ⌜ RunOf (recorded (now (journal .entry)) (now (filenumbers .entry))) t (used .records) e r ⌝ }
+    ensures latest { λ r. ⌜ LatestWrite (recorded (now (journal .entry)) (now (filenumbers .entry))) t (used .records) (e .file) (e .place) (r .supplier) (r .looked) ⌝ }
+    ensures run { λ r. ⌜ RunOf (recorded (now (journal .entry)) (now (filenumbers .entry))) t (used .records) e r ⌝ }
 {
-    let mut k = wide_octet(used.records);
+    let records = wide_octet(used.records);
+    let mut left = records;
     let mut start = wide(used.bytes);
     let mut length = e.length;
-    while 0 < k {
-        k -= 1;
+    while 0 < left {
+        let k = left - 1;
         let w = record_at(journal, t, k);
         let size = wide(w.length);
         start -= size;
@@ -86,15 +109,18 @@ pub fn run_at<'a>(
             let place = w.place;
             let p = wide(place.number());
             return Run {
-                logged: true,
+                supplier: Supplier::Record(k),
+                looked: records - k,
                 at: start + (e.place - p),
                 length: smaller(length, p + size - e.place),
             };
         }
         length = g;
+        left -= 1;
     }
     Run {
-        logged: false,
+        supplier: Supplier::File,
+        looked: records,
         at: e.place,
         length,
     }

@@ -1,6 +1,6 @@
 -- `coverage::first_clear` meets its contract. The loop's invariant: the places from p to q are covered. Assumes nothing.
 use mathlib.Core.Bool.{true}
-use mathlib.Core.Path.{_≡_}
+use mathlib.Core.Path.{_≡_, sym, _∙_}
 use Prim.Native.Nat.{ℕ, _-_, _≤_, _<_}
 use native.Mathlib.Omega.{arith}
 use borrow.Author.Needs.{needs}
@@ -25,18 +25,22 @@ loop-holds : tie.Need-loop-holds Inv-loop μ-loop
 loop-holds c =
     (omega arith, omega (arith, c .pre .1), λ q g l. absurd (omega arith))
 
-sub-t11 : tie.Need-sub-t11 Inv-loop μ-loop
-sub-t11 c = search needs
+sub-t12 : tie.Need-sub-t12 Inv-loop μ-loop
+sub-t12 c = search needs
 
-run-at-requires : tie.Need-run-at-requires Inv-loop μ-loop
-run-at-requires c κs = search needs
+latest-write-requires : tie.Need-latest-write-requires Inv-loop μ-loop
+latest-write-requires c κs = search needs
+
+is-record-requires : tie.Need-is-record-requires Inv-loop μ-loop
+is-record-requires c κs = search needs
 
 returns : tie.Need-returns Inv-loop μ-loop
 returns c =
     let s = c .before .before .before .before .before in
     let a = s .args in
     let l = c .before .before .before .before .loop in
-    first-clear-here (lent s) (a .t) (a .used .records) (extent (a .f) (l .q) (4096 - l .q)) (c .before .before .run-at .result) (c .before .before .run-at .ensures) (a .p) (l .inv .0) (l .inv .1) (l .inv .2) (not-true _ (c .if1 .taken))
+    let r = c .before .before .latest-write in
+    first-clear-here (lent s) (a .t) (a .used .records) (extent (a .f) (l .q) (4096 - l .q)) (r .result) (r .ensures .1) (a .p) (l .inv .0) (l .inv .1) (l .inv .2) (sym (c .before .is-record .ensures) ∙ not-true _ (c .if1 .taken))
 
 add-q : tie.Need-add-q Inv-loop μ-loop
 add-q c = search needs
@@ -49,10 +53,10 @@ loop-again c =
     let s = c .before .before .before .before .before .before in
     let a = s .args in
     let l = c .before .before .before .before .before .loop in
-    let r = c .before .before .before .run-at in (
+    let r = c .before .before .before .latest-write in (
       omega arith,
-      omega (arith, r .ensures .within),
-      first-clear-after (lent s) (a .t) (a .used .records) (extent (a .f) (l .q) (4096 - l .q)) (r .result) (r .ensures) (a .p) (l .inv .2) (not-false _ (c .before .if1 .left)),
+      omega (arith, r .ensures .1 .within),
+      first-clear-after (lent s) (a .t) (a .used .records) (extent (a .f) (l .q) (4096 - l .q)) (r .result) (r .ensures .1) (a .p) (l .inv .2) (sym (c .before .before .is-record .ensures) ∙ not-false _ (c .before .if1 .left)),
     )
 
 returns-2 : tie.Need-returns-2 Inv-loop μ-loop
@@ -67,8 +71,9 @@ first-clear-spec =
     Inv-loop
     μ-loop
     loop-holds
-    sub-t11
-    run-at-requires
+    sub-t12
+    latest-write-requires
+    is-record-requires
     returns
     add-q
     loop-less

@@ -1,6 +1,6 @@
 -- `coverage::first_covered` meets its contract. Assumes nothing.
 use mathlib.Core.Bool.{Bool, false}
-use mathlib.Core.Path.{refl}
+use mathlib.Core.Path.{refl, sym, _∙_}
 use Prim.Native.Nat.{ℕ, _-_}
 use native.Mathlib.Omega.{arith}
 use borrow.Author.Needs.{needs}
@@ -24,27 +24,32 @@ returns c =
     let a = s .args in
     upto-end (covering s) false (a .p) (c .if1 .taken)
 
-sub-t10 : tie.Need-sub-t10
-sub-t10 c = search needs
+sub-t11 : tie.Need-sub-t11
+sub-t11 c = search needs
 
-run-at-requires : tie.Need-run-at-requires
-run-at-requires c κs = search needs
+latest-write-requires : tie.Need-latest-write-requires
+latest-write-requires c κs = search needs
+
+is-record-requires : tie.Need-is-record-requires
+is-record-requires c κs = search needs
 
 returns-2 : tie.Need-returns-2
 returns-2 c =
-    let s = c .before .before .before in
+    let s = c .before .before .before .before in
     let a = s .args in
-    first-covered-here (lent s) (a .t) (a .used .records) (extent (a .f) (a .p) (4096 - a .p)) (c .before .run-at .result) (c .before .run-at .ensures) refl (omega arith) (c .if2 .taken)
+    let r = c .before .before .latest-write in
+    first-covered-here (lent s) (a .t) (a .used .records) (extent (a .f) (a .p) (4096 - a .p)) (r .result) (r .ensures .1) refl (omega arith) (sym (c .before .is-record .ensures) ∙ c .if2 .taken)
 
 add-result : tie.Need-add-result
 add-result c = search needs
 
 returns-3 : tie.Need-returns-3
 returns-3 c =
-    let s = c .before .before .before .before in
+    let s = c .before .before .before .before .before in
     let a = s .args in
-    first-covered-after (lent s) (a .t) (a .used .records) (extent (a .f) (a .p) (4096 - a .p)) (c .before .before .run-at .result) (c .before .before .run-at .ensures) refl (omega arith) (c .before .if2 .left)
+    let r = c .before .before .before .latest-write in
+    first-covered-after (lent s) (a .t) (a .used .records) (extent (a .f) (a .p) (4096 - a .p)) (r .result) (r .ensures .1) refl (omega arith) (sym (c .before .before .is-record .ensures) ∙ c .before .if2 .left)
 
 pub first-covered-spec : {M : Type 1} → statement M
 first-covered-spec =
-    tie.close (tie.spec returns sub-t10 run-at-requires returns-2 add-result returns-3)
+    tie.close (tie.spec returns sub-t11 latest-write-requires is-record-requires returns-2 add-result returns-3)

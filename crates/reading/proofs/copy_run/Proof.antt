@@ -1,12 +1,12 @@
 -- `reading::copy_run` meets its contract. Assumes nothing.
-use mathlib.Core.Bool.{true, false}
+use mathlib.Core.Bool.{Bool, true, false}
 use mathlib.Core.Path.{_≡_, sym, ap, _∙_}
 use Prim.Native.Nat.{_+_, _≤_}
 use native.Mathlib.Omega.{arith}
 use lib.ListN.{length}
 use Rattle.octets.specs.Parts.{pasted, cut, chosen}
 use Rattle.ranges.specs.Ranges.{lengthsBefore}
-use Rattle.runs.specs.Runs.{Recorded, recorded, extent}
+use Rattle.runs.specs.Runs.{Recorded, recorded, extent, isRecord}
 use Rattle.reading.specs.Serving.{bytesOf}
 use Rattle.reading.proofs.FetchLaws.{length-bytes, in-chosen, run-within, run-bytes, run-shields, run-marks}
 use borrow.Author.Needs.{needs}
@@ -22,61 +22,68 @@ inside c = let h = c .pre .0 in omega (arith, h .counted .adds, h .counted .byte
 within : (c : tie.Start) → c .args .e .place + c .args .e .length ≤ length (c .args .file .now)
 within c = omega (arith, c .pre .0 .places, c .pre .0 .fileLength)
 
-run-at-requires : tie.Need-run-at-requires
-run-at-requires c κs = search needs
+latest-write-requires : tie.Need-latest-write-requires
+latest-write-requires c κs = search needs
+
+is-record-requires : tie.Need-is-record-requires
+is-record-requires c κs = search needs
 
 -- The run lies inside the part that it is handed over from.
-run-ends : (c : tie.After-run-at) → c .run-at .result .at + c .run-at .result .length ≤ 4096
+run-ends : (c : tie.After-latest-write) → c .latest-write .result .at + c .latest-write .result .length ≤ 4096
 run-ends c =
     let s = c .before .before .before .before .before in
     let a = s .args in
-    run-within (lent s) (a .t) (a .used .records) (a .log .now) (a .file .now) (inside s) (a .e) (c .run-at .result) (c .run-at .ensures) (within s) (s .pre .0 .logLength) (s .pre .0 .fileLength)
+    run-within (lent s) (a .t) (a .used .records) (a .log .now) (a .file .now) (inside s) (a .e) (c .latest-write .result) (c .latest-write .ensures .1) (within s) (s .pre .0 .logLength) (s .pre .0 .fileLength)
 
 run-requires : tie.Need-run-requires
 run-requires c κs =
-    let h = c .before .before .before .before .before .pre .0 in
-    in-chosen _ _ _ _ 4096 (omega (arith, h .logLength, h .fileLength)) (omega (arith, h .logLength, h .fileLength)) (run-ends c)
+    let h = c .before .before .before .before .before .before .pre .0 in
+    in-chosen _ _ _ _ 4096 (omega (arith, h .logLength, h .fileLength)) (omega (arith, h .logLength, h .fileLength)) (run-ends (c .before))
 
 -- "handed over as that part of the log or of the file"
 handed : (c : tie.After-run)
-    → c .run .result .now ≡ cut (chosen (c .before .run-at .result .logged) (c .before .before .before .before .before .before .args .log .now) (c .before .before .before .before .before .before .args .file .now)) (c .before .run-at .result .at) (c .before .run-at .result .length)
-handed c = c .run .ensures
+    → c .run .result .now ≡ cut (chosen (isRecord (c .before .before .latest-write .result .supplier)) (c .before .before .before .before .before .before .before .args .log .now) (c .before .before .before .before .before .before .before .args .file .now)) (c .before .before .latest-write .result .at) (c .before .before .latest-write .result .length)
+handed c =
+    let a = c .before .before .before .before .before .before .before .args in
+    let r = c .before .before .latest-write .result in
+    c .run .ensures ∙ ap (λ (b : Bool). cut (chosen b (a .log .now) (a .file .now)) (r .at) (r .length)) (c .before .is-record .ensures)
 
 bytes-are : (c : tie.After-run)
-    → c .run .result .now ≡ bytesOf (lent (c .before .before .before .before .before .before)) (c .before .before .before .before .before .before .args .t) (c .before .before .before .before .before .before .args .used .records) (c .before .before .before .before .before .before .args .log .now) (c .before .before .before .before .before .before .args .file .now) (extent (c .before .before .before .before .before .before .args .e .file) (c .before .before .before .before .before .before .args .e .place) (c .before .run-at .result .length))
+    → c .run .result .now ≡ bytesOf (lent (c .before .before .before .before .before .before .before)) (c .before .before .before .before .before .before .before .args .t) (c .before .before .before .before .before .before .before .args .used .records) (c .before .before .before .before .before .before .before .args .log .now) (c .before .before .before .before .before .before .before .args .file .now) (extent (c .before .before .before .before .before .before .before .args .e .file) (c .before .before .before .before .before .before .before .args .e .place) (c .before .before .latest-write .result .length))
 bytes-are c =
-    let s = c .before .before .before .before .before .before in
+    let s = c .before .before .before .before .before .before .before in
     let a = s .args in
+    let r = c .before .before .latest-write in
     handed c
-    ∙ sym (run-bytes (lent s) (a .t) (a .used .records) (a .log .now) (a .file .now) (inside s) (a .e) (c .before .run-at .result) (c .before .run-at .ensures) (within s))
+    ∙ sym (run-bytes (lent s) (a .t) (a .used .records) (a .log .now) (a .file .now) (inside s) (a .e) (r .result) (r .ensures .1) (within s))
 
 copy-to-requires : tie.Need-copy-to-requires
 copy-to-requires c κs =
-    let s = c .before .before .before .before .before .before .before in
+    let s = c .before .before .before .before .before .before .before .before in
     let a = s .args in
-    let r = c .before .before .run-at in
+    let r = c .before .before .before .latest-write in
     let l = ap length (bytes-are (c .before)) ∙ length-bytes (lent s) (a .t) (a .used .records) (a .log .now) (a .file .now) (a .e .file) (a .e .place) (r .result .length) in
-    omega (arith, l, r .ensures .within, s .pre .1 .1)
+    omega (arith, l, r .ensures .1 .within, s .pre .1 .1)
 
 same-length : tie.Need-same-length
 same-length c = search needs
 
--- The record supplied the run, and the file did.
-own : (c : tie.Then1) → c .before .before .before .before .before .before .run-at .result .logged ≡ true
-own c = search needs
+-- A record supplied the run, and the file did.
+own : (c : tie.Then1) → isRecord (c .before .before .before .before .before .before .before .latest-write .result .supplier) ≡ true
+own c = sym (c .before .before .before .before .before .before .is-record .ensures) ∙ c .if1 .taken
 
-filed : (c : tie.Else1) → c .before .before .before .before .before .before .run-at .result .logged ≡ false
-filed c = search needs
+filed : (c : tie.Else1) → isRecord (c .before .before .before .before .before .before .before .latest-write .result .supplier) ≡ false
+filed c = sym (c .before .before .before .before .before .before .is-record .ensures) ∙ c .if1 .left
 
 returns : tie.Need-returns
 returns c =
-    let s = c .before .before .before .before .before .before .before .before .before .before .before in
+    let s = c .before .before .before .before .before .before .before .before .before .before .before .before in
     let a = s .args in
-    let r = c .before .before .before .before .before .before .run-at in (
-      r .ensures,
+    let r = c .before .before .before .before .before .before .before .latest-write in (
+      r .ensures .1,
       (
         c .before .before .before .copy-to .ensures ∙ ap (pasted (a .reader .now) (a .at)) (bytes-are (c .before .before .before .before .before)),
-        sym (run-shields (lent s) (a .t) (a .used .records) (a .log .now) (a .file .now) (inside s) (a .e) (r .result) (r .ensures) (within s) (a .marks .now) (own c)),
+        sym (run-shields (lent s) (a .t) (a .used .records) (a .log .now) (a .file .now) (inside s) (a .e) (r .result) (r .ensures .1) (within s) (a .marks .now) (own c)),
       ),
     )
 
@@ -100,14 +107,14 @@ same-length-3 c = search needs
 
 returns-2 : tie.Need-returns-2
 returns-2 c =
-    let s = c .before .before .before .before .before .before .before .before .before .before .before .before .before .before .before .before .before in
+    let s = c .before .before .before .before .before .before .before .before .before .before .before .before .before .before .before .before .before .before in
     let a = s .args in
-    let r = c .before .before .before .before .before .before .before .before .before .before .before .before .run-at in (
-      r .ensures,
+    let r = c .before .before .before .before .before .before .before .before .before .before .before .before .before .latest-write in (
+      r .ensures .1,
       (
         c .before .before .before .before .before .before .before .before .before .copy-to .ensures ∙ ap (pasted (a .reader .now) (a .at)) (bytes-are (c .before .before .before .before .before .before .before .before .before .before .before)),
         c .before .before .mark .ensures
-            ∙ run-marks (lent s) (a .t) (a .used .records) (a .log .now) (a .file .now) (inside s) (a .e) (r .result) (r .ensures) (within s) (a .marks .now) (filed (c .before .before .before .before .before .before)) _ _ (omega (arith, c .before .before .before .before .before .wide-octet .ensures .0)) (omega arith),
+            ∙ run-marks (lent s) (a .t) (a .used .records) (a .log .now) (a .file .now) (inside s) (a .e) (r .result) (r .ensures .1) (within s) (a .marks .now) (filed (c .before .before .before .before .before .before)) _ _ (omega (arith, c .before .before .before .before .before .wide-octet .ensures .0)) (omega arith),
       ),
     )
 
@@ -115,7 +122,8 @@ pub copy-run-spec : {M : Type 1} → statement M
 copy-run-spec =
     tie.close
     (tie.spec
-    run-at-requires
+    latest-write-requires
+    is-record-requires
     run-requires
     copy-to-requires
     same-length

@@ -47,7 +47,7 @@ pub enum Answer {
     Offset(u16),
     /// The count of bytes that a Read gave.
     Given(u16),
-    /// How many other transactions became stale by the Commit.
+    /// The transactions that became stale by the Commit: bit t, worth 2 to the power t, for t.
     Granted(u8),
     /// The count of pairs that a Places listed.
     Pairs(u16),

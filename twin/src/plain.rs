@@ -455,8 +455,8 @@ impl Machine {
         self.grants += 1;
         self.committed.grant(&ended.course, self.grants);
         let equal_after = self.with_equal_lists();
-        let turned = (0..TRANSACTIONS).filter(|&u| u != t && equal_before[u] && !equal_after[u]).count();
-        Ok(Answer::Granted(turned as u8))
+        let turned = (0..TRANSACTIONS).filter(|&u| u != t && equal_before[u] && !equal_after[u]);
+        Ok(Answer::Granted(turned.map(|u| 1 << u).sum()))
     }
 
     fn abort(&mut self, t: usize) -> Outcome {

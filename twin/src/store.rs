@@ -570,18 +570,18 @@ impl Store {
         clear_marks(lent.marks, t);
     }
 
-    /// Makes stale every open transaction that has sighted one of the bytes or offsets just set, and counts those that
-    /// were not so before. The one that set them has ended.
+    /// Makes stale every open transaction that has sighted one of the bytes or offsets just set, and answers the octet
+    /// of those that were not so before. The one that set them has ended.
     fn make_stale(&mut self, sighters: u8, offsets: u16) -> u8 {
-        let mut count = 0;
+        let mut octet = 0;
         for (t, transaction) in self.transactions.iter_mut().enumerate() {
             let sighted = sighters >> t & 1 == 1 || transaction.knows_any(offsets);
             if transaction.begun && !transaction.stale && sighted {
                 transaction.stale = true;
-                count += 1;
+                octet |= 1 << t;
             }
         }
-        count
+        octet
     }
 }
 

@@ -65,7 +65,7 @@ pub fn code(o: Outcome) -> u8 {
         Outcome::Done => 0,
         Outcome::Offset(_) => 1,
         Outcome::Given(_) => 2,
-        Outcome::Staled(_) => 3,
+        Outcome::Granted(_) => 3,
         Outcome::Pairs(_) => 4,
         Outcome::Refused(r) => std::num::wrapping_add_u8(10, r.number()),
     }
@@ -77,7 +77,7 @@ pub fn answered(o: Outcome) -> u64 {
         Outcome::Done => 0,
         Outcome::Offset(n) => n as u64,
         Outcome::Given(n) => n as u64,
-        Outcome::Staled(n) => n as u64,
+        Outcome::Granted(n) => n as u64,
         Outcome::Pairs(n) => n as u64,
         Outcome::Refused(_) => 0,
     }

@@ -1,26 +1,29 @@
 -- The rules of Commit after each of its tests: stale, past the end, granted.
-use mathlib.Core.Bool.{true, false}
+use mathlib.Core.Bool.{Bool, true, false, false≢true}
 use mathlib.Core.List.{List, []}
 use mathlib.Core.Path.{_≡_, refl, sym, ap, ap₂, _∙_}
-use Prim.Native.Nat.{ℕ, _<_}
+use lib.ListN.{length}
+use lib.Count.{ones}
+use Prim.Native.Nat.{ℕ, zero, suc, _<_}
 use Rattle.octets.specs.Marks.{withoutMarks, contains}
+use Rattle.octets.proofs.SetLaws.{ones-bits}
 use Rattle.record.specs.declared.Store.{Store}
 use Rattle.record.specs.declared.Transaction.{Transaction}
 use Rattle.record.specs.declared.outcomes.Answer.{Answer}
 use Rattle.record.specs.declared.outcomes.Refusal.the-variants.{Stale}
-use Rattle.record.specs.declared.outcomes.Outcome.the-variants.{Staled, Refused}
+use Rattle.record.specs.declared.outcomes.Outcome.the-variants.{Granted, Refused}
 use Rattle.record.specs.State.{transaction, ended, withOffsets, withTransactions, withTransaction}
-use Rattle.record.specs.Paper.{granted, refused, said}
-use Rattle.ranges.specs.Below.{sum}
+use Rattle.record.specs.Paper.{Said, plain, pointer, given, granted, pairs, refused, said}
+use Rattle.octets.specs.Bits.{bitsOf}
 use Rattle.ranges.specs.Ranges.{admission}
 use Rattle.rules.specs.Commits.{fits, commitRefusal}
 use Rattle.rules.specs.Messages.{commit}
 use Rattle.rules.specs.Machine.{Machine, lent, withStore, withMarking, sizes, tabulate}
-use Rattle.rules.specs.Calls.{Turn, turnDown, reset, admitted, landFiles, conflicts, commitDecided, commitGranted, commitTurn, call}
+use Rattle.rules.specs.Calls.{Turn, turnDown, reset, passing, admitted, landFiles, conflicts, becomesStale, commitDecided, commitGranted, commitTurn, formerNumber, call}
 use Rattle.landing.specs.Landing.{offsetsOnly, descriptorsOnly}
 use Rattle.landing.proofs.LandLaws.{offsetsSet}
-use Rattle.landing.proofs.StaleLaws.{passedOver, countedIn}
-use Rattle.landing.proofs.Granted.{allSet, landedBytes, fits-is, files-are, offsets-are, transactions-are, count-is}
+use Rattle.landing.proofs.StaleLaws.{turned, passedOver}
+use Rattle.landing.proofs.Granted.{allSet, landedBytes, fits-is, files-are, offsets-are, offsetsIn, others, transactions-are, octet-is}
 use Rattle.rules.specs.Promises.{Meets}
 use Rattle.refusing.proofs.Turns.{passing-on}
 
@@ -62,23 +65,66 @@ module _ (t : ℕ) (m : Machine) where
 
   -- What the grant leaves, part by part.
   pub granted-meets : (w : Turn) → w ≡ commitGranted t (allSet m t) m
+      → length (m .store .transactions) ≡ 8 → t < 8
       → (seen : ℕ) → ((u : ℕ) (y : Transaction) → u < 8 → contains seen u ≡ conflicts (m .marks) u y (landedBytes m t))
-      → (count : ℕ) → count ≡ sum (countedIn (m .store .transactions) t seen) 8
-      → (xs : List Transaction) → xs ≡ tabulate (passedOver (m .store .transactions) t seen) 8
+      → (octet : ℕ) → octet ≡ bitsOf (turned (others m t) seen (offsetsIn m t)) 8
+      → (xs : List Transaction) → xs ≡ tabulate (passedOver (others m t) seen (offsetsIn m t)) 8
       → (offsets : List ℕ) → offsets ≡ offsetsSet (transaction (m .store) t) (m .store .offsets) 16
       → (files : List ℕ) → files ≡ landFiles (landedBytes m t) (m .files)
       → (marks : List ℕ) → marks ≡ withoutMarks t (m .marks)
       → (r : Store) → r ≡ withTransactions xs (withOffsets offsets (m .store))
-      → Meets w (Staled count) (lent r (m .journal) files (m .logs) marks) []
+      → Meets w (Granted octet) (lent r (m .journal) files (m .logs) marks) []
   unfolding commitGranted said
-  granted-meets w e seen sees count n xs ts offsets os files fs marks ms r q =
+  granted-meets w e eight small seen sees octet n xs ts offsets os files fs marks ms r q =
       rw (e, q)
       (record {
-        outcome = ap granted (n ∙ sym (count-is m t seen sees));
+        outcome = ap granted (n ∙ sym (octet-is m t seen sees eight small));
         machine =
             rw (ms, fs, files-are m t)
             (ap₂ (λ (o : List ℕ) (l : List Transaction). lent (withTransactions l (withOffsets o (m .store))) (m .journal) (landFiles (landedBytes m t) (m .files)) (m .logs) (withoutMarks t (m .marks)))
             (os ∙ sym (offsets-are m t))
-            (ts ∙ sym (transactions-are m t seen sees)));
+            (ts ∙ sym (transactions-are m t seen sees eight small)));
         reader = refl;
       })
+
+-- ---- the former number
+
+-- The octet of an answer.
+octetIn : Said → ℕ
+octetIn plain = 0
+octetIn (pointer o) = 0
+octetIn (given n) = 0
+octetIn (granted n) = n
+octetIn (pairs n) = 0
+octetIn (refused n) = 0
+
+isGranted : Said → Bool
+isGranted plain = false
+isGranted (pointer o) = false
+isGranted (given n) = false
+isGranted (granted n) = true
+isGranted (pairs n) = false
+isGranted (refused n) = false
+
+not-granted : (k n : ℕ) → refused k ≡ granted n → ⊥
+unfolding isGranted
+not-granted k n e = false≢true (ap isGranted e)
+
+module _ (t : ℕ) (m : Machine) (n : ℕ) where
+  decided-octet : (stale placed : Bool) → commitDecided t (allSet m t) m (commitRefusal stale placed) .reply .answer ≡ granted n
+      → n ≡ bitsOf (becomesStale t (m .marks) (allSet m t) (m .store)) 8
+  unfolding commitDecided commitRefusal commitGranted octetIn
+  decided-octet true placed e = absurd (not-granted 13 n e)
+  decided-octet false false e = absurd (not-granted 12 n e)
+  decided-octet false true e = sym (ap octetIn e)
+
+  passing-octet : (k : ℕ) → passing k [] m (commitTurn t m) .reply .answer ≡ granted n → n ≡ bitsOf (becomesStale t (m .marks) (allSet m t) (m .store)) 8
+  unfolding passing turnDown commitTurn
+  passing-octet zero e = decided-octet (transaction (m .store) t .stale) _ e
+  passing-octet (suc k) e = absurd (not-granted (suc k) n e)
+
+  -- The count of ones in the octet that a Commit answers.
+  pub ones-are : call (commit t) m .reply .answer ≡ granted n → ones n ≡ formerNumber t m
+  unfolding call admitted formerNumber
+  ones-are e =
+      ap ones (passing-octet (admission (sizes m) (m .store) (m .journal) t) e) ∙ ones-bits (becomesStale t (m .marks) (allSet m t) (m .store)) 8

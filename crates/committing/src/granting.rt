@@ -2,7 +2,9 @@
 use landing::landed;
 use landing::staled;
 use octets::marks::unmark;
+use octets::sets;
 use record::Store;
+use record::Transaction;
 use record::journal::NUMBERS;
 use record::outcomes::Answer;
 use record::outcomes::Outcome;
@@ -19,7 +21,8 @@ ghost use Rattle.rules.specs.Promises.{Meets};
 ghost use Rattle.landing.specs.Landing.{offsetsOnly, descriptorsOnly, CanLand};
 
 // Grants the commit of transaction t, which is not stale and whose placing fits: lands its writes in call order, sets its offsets and
-// ends it. Every other open transaction that has sighted a byte or offset just set is stale from then on.
+// ends it. Every other open transaction that has sighted a byte or offset just set is stale from then on; the answer is the octet of
+// those that were not so before, and only they are written anew.
 pub fn grant(
     mut s: Store,
     journal: &[u16; NUMBERS],
@@ -46,17 +49,21 @@ pub fn grant(
     let offsets = s.offsets;
     s.offsets = landed::offsets_after(x, offsets);
     unmark(marks, t);
-    let mut count = 0u8;
+    let set = staled::offsets_set(x);
+    s.transactions[t] = Transaction::ended();
+    let mut stale = 0u16;
     let mut u = 0;
     while u < 8 {
-        let y = s.transactions[u];
-        let h = staled::is_hit(x, t, seen, u, y);
-        s.transactions[u] = staled::after_commit(u == t, h, y);
-        count += staled::newly_stale(h, y);
+        let mut y = s.transactions[u];
+        if staled::goes_stale(y, u, seen, set) {
+            y.stale = true;
+            s.transactions[u] = y;
+            stale = sets::added(stale, u);
+        }
         u += 1;
     }
     Answer {
         store: s,
-        outcome: Outcome::Staled(count),
+        outcome: Outcome::Granted(stale as u8),
     }
 }

@@ -13,7 +13,7 @@ pub fn code(o: Outcome) -> u16 {
         Outcome::Done => 0,
         Outcome::Offset(_) => 1,
         Outcome::Given(_) => 2,
-        Outcome::Staled(_) => 3,
+        Outcome::Granted(_) => 3,
         Outcome::Pairs(_) => 4,
         Outcome::Refused(r) => 10 + r.number() as u16,
     }
@@ -25,7 +25,7 @@ pub fn number(o: Outcome) -> u16 {
         Outcome::Done => 0,
         Outcome::Offset(n) => n,
         Outcome::Given(n) => n,
-        Outcome::Staled(n) => n as u16,
+        Outcome::Granted(n) => n as u16,
         Outcome::Pairs(n) => n,
         Outcome::Refused(_) => 0,
     }
@@ -39,7 +39,7 @@ fn place(o: Outcome) -> usize
         Outcome::Done => 0,
         Outcome::Offset(_) => 1,
         Outcome::Given(_) => 2,
-        Outcome::Staled(_) => 3,
+        Outcome::Granted(_) => 3,
         Outcome::Pairs(_) => 4,
         Outcome::Refused(r) => 4 + wide_octet(r.number()),
     }

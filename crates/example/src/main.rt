@@ -15,9 +15,9 @@ fn print(text: &[u8]) {
     io::write_all(STDOUT_FILENO, text);
 }
 
-fn print_number(text: &[u8], n: u16) {
+fn print_number(text: &[u8], n: u64) {
     print(text);
-    io::print_decimal(STDOUT_FILENO, n as u64);
+    io::print_decimal(STDOUT_FILENO, n);
 }
 
 // Prints what a call answered, and hands back the record to keep.
@@ -26,10 +26,13 @@ fn told(call: &[u8], a: Answer) -> Store {
     print(call);
     match o {
         Outcome::Done => print(b": done"),
-        Outcome::Offset(n) => print_number(b": offset ", n),
-        Outcome::Given(n) => print_number(b": bytes given ", n),
-        Outcome::Staled(n) => print_number(b": granted, made stale ", n as u16),
-        Outcome::Pairs(n) => print_number(b": pairs listed ", n),
+        Outcome::Offset(n) => print_number(b": offset ", n as u64),
+        Outcome::Given(n) => print_number(b": bytes given ", n as u64),
+        Outcome::Granted(octet) => print_number(
+            b": granted, made stale ",
+            store::made_stale(octet) as u64,
+        ),
+        Outcome::Pairs(n) => print_number(b": pairs listed ", n as u64),
         Outcome::Refused(_) => print(b": refused"),
     }
     print(b"\n");

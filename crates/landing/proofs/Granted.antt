@@ -3,17 +3,20 @@ use mathlib.Core.Bool.{Bool, true, false, cond, not, _&&_, _||_, or-false}
 use mathlib.Core.List.{List, [], _∷_, _++_}
 use mathlib.Core.Path.{_≡_, refl, sym, ap, ap₂, _∙_}
 use lib.Dec.{eqb}
-use lib.ListN.{length, getD}
+use lib.ListN.{length, getD, set}
+use lib.Seq.{getD-set-same, getD-set-other}
+use borrow.Author.Tests.{eqb-true, eqb-false}
 use native.Mathlib.Omega.{arith}
 use Prim.Native.Nat.{ℕ, zero, suc, _+_, _*_, _<_}
+use Rattle.octets.specs.Bits.{bitsOf}
 use Rattle.octets.specs.Marks.{contains}
+use Rattle.octets.proofs.SetLaws.{contains-bits, bits-same}
 use Rattle.record.specs.declared.Store.{Store}
 use Rattle.record.specs.declared.Transaction.{Transaction}
-use Rattle.record.specs.State.{transaction, standingAt, dirtyAt, ended, withStale}
+use Rattle.record.specs.State.{transaction, noTransaction, standingAt, dirtyAt, ended, withStale}
 use Rattle.record.specs.Journal.{writeRecordAt}
-use Rattle.ranges.specs.Below.{sum}
 use Rattle.ranges.specs.Ranges.{recordIn}
-use Rattle.ranges.proofs.Laws.{sum-same, InRange, Lengths, record-in}
+use Rattle.ranges.proofs.Laws.{InRange, Lengths, record-in}
 use Rattle.rules.specs.Items.{offset, Values}
 use Rattle.standings.specs.declared.Standing.{Standing}
 use Rattle.standings.specs.Table.{isTouched, finalOffset, isKnown}
@@ -25,9 +28,9 @@ use Rattle.rules.proofs.View.Tables.{tabulate-same}
 use Rattle.rules.proofs.View.SettingsIn.{lands-in}
 use Rattle.laws.proofs.Decoded.{Opened}
 use Rattle.landing.specs.Landing.{offsetsOnly, descriptorsOnly, bytesSet, RecordLands, CanLand}
-use Rattle.landing.specs.Staling.{some, knowsOffset, hit, afterwards, newlyStale}
+use Rattle.landing.specs.Staling.{some, knowsOffset, goesStale}
 use Rattle.landing.proofs.LandLaws.{landed-append, offsets-append, conflicts-append, fits-at, offsetsSet}
-use Rattle.landing.proofs.StaleLaws.{passedOver, countedIn}
+use Rattle.landing.proofs.StaleLaws.{some-same, nth, turned, passedOver}
 
 -- ---- what a commit sets goes by the committed offsets and the descriptors
 
@@ -83,10 +86,14 @@ bytes-set-none F v (w ∷ ws) offsets =
 
 -- ---- who has sighted an offset that is set
 
+-- Descriptor d is set, and y knows its offset.
+abbrev settles : Transaction → Transaction → ℕ → Bool
+settles y x d = setsOffset (descriptorsOnly x) d && isKnown (standingAt y d)
+
 -- The descriptors set that stand Known.
 known-offsets : (marks : List ℕ) (u : ℕ) (y : Transaction) (v : Values) (x : Transaction) (n : ℕ)
-    → conflicts marks u y (offsetSettings v (descriptorsOnly x) n) ≡ some (knowsOffset y x) n
-unfolding offsetSettings some conflicts hasSighted knowsOffset
+    → conflicts marks u y (offsetSettings v (descriptorsOnly x) n) ≡ some (settles y x) n
+unfolding offsetSettings some conflicts hasSighted
 known-offsets marks u y v x zero = refl
 known-offsets marks u y v x (suc n) =
     conflicts-append marks u y (offsetSettings v (descriptorsOnly x) n) (setting n (v (offset n)) (descriptorsOnly x))
@@ -97,15 +104,33 @@ known-offsets marks u y v x (suc n) =
     one true = or-false (isKnown (standingAt y n))
     one false = refl
 
+-- Those of the set of descriptors that a commit of x sets.
+knows-same : (y x : Transaction) → some (settles y x) 16 ≡ some (knowsOffset y (bitsOf (setsOffset (descriptorsOnly x)) 16)) 16
+unfolding knowsOffset
+knows-same y x =
+    some-same (settles y x) (knowsOffset y (bitsOf (setsOffset (descriptorsOnly x)) 16)) 16
+    (λ d l. ap (λ (b : Bool). b && isKnown (standingAt y d)) (sym (contains-bits (setsOffset (descriptorsOnly x)) 16 d l)))
+
 -- ---- a granted commit
 
-hit-same : (own begun stale conflict : Bool) → (not own && begun && not stale && conflict) ≡ ((not own && begun && conflict) && not stale)
-hit-same true o z c = refl
-hit-same false false z c = refl
-hit-same false true true true = refl
-hit-same false true true false = refl
-hit-same false true false true = refl
-hit-same false true false false = refl
+-- Only a transaction that goes stale is written anew.
+rewritten : (y : Transaction) (b c z : Bool) → y .stale ≡ z → withStale (z || (b && c)) y ≡ cond (b && not z && c) (withStale true y) y
+rewritten y b c z e = pick b c z (ap (λ (w : Bool). withStale w y) (sym e))
+  where
+    pick : (b c z : Bool) → withStale z y ≡ y → withStale (z || (b && c)) y ≡ cond (b && not z && c) (withStale true y) y
+    pick true c true k = k
+    pick false c true k = k
+    pick true true false k = refl
+    pick true false false k = k
+    pick false c false k = k
+
+-- The transactions with number t ended.
+nth-ended : (xs : List Transaction) (t u : ℕ) → length xs ≡ 8 → t < 8 → nth (set xs t ended) u ≡ cond (eqb u t) ended (nth xs u)
+nth-ended xs t u l small = pick (eqb u t) refl
+  where
+    pick : (b : Bool) → eqb u t ≡ b → nth (set xs t ended) u ≡ cond b ended (nth xs u)
+    pick true e = ap (nth (set xs t ended)) (eqb-true u t e) ∙ getD-set-same xs t ended noTransaction (omega arith)
+    pick false e = getD-set-other xs t u ended noTransaction (eqb-false u t e)
 
 module _ (m : Machine) (t : ℕ) where
   abbrev s : Store
@@ -154,43 +179,56 @@ module _ (m : Machine) (t : ℕ) where
       ∙ ap (λ (ss : List Setting). landOffsets ss (s .offsets))
       (offsets-same v (offsetsOnly (s .offsets)) (descriptorsOnly (transaction s t)) (λ d. refl) 16)
 
+  -- The descriptors whose offsets it sets, and the transactions once it has ended.
+  abbrev pub offsetsIn : ℕ
+  offsetsIn = bitsOf (setsOffset (descriptorsOnly (transaction s t))) 16
+
+  abbrev pub others : List Transaction
+  others = set (s .transactions) t ended
+
   -- Those in seen are who has a mark on a byte set.
   module _ (seen : ℕ) (sees : (u : ℕ) (y : Transaction) → u < 8 → contains seen u ≡ conflicts (m .marks) u y landedBytes) where
-    conflicts-are : (u : ℕ) → u < 8
-        → conflicts (m .marks) u (transaction s u) allSet ≡ contains seen u || some (knowsOffset (transaction s u) (transaction s t)) 16
+    -- Whether transaction y is hit.
+    abbrev hits : ℕ → Transaction → Bool
+    hits u y = contains seen u || some (knowsOffset y offsetsIn) 16
+
+    conflicts-are : (u : ℕ) → u < 8 → conflicts (m .marks) u (transaction s u) allSet ≡ hits u (transaction s u)
     conflicts-are u l =
         let y = transaction s u in
         ap (conflicts (m .marks) u y) settings-are
         ∙ conflicts-append (m .marks) u y landedBytes setOffsets
-        ∙ ap₂ _||_ (sym (sees u y l)) (known-offsets (m .marks) u y v (transaction s t) 16)
+        ∙ ap₂ _||_ (sym (sees u y l)) (known-offsets (m .marks) u y v (transaction s t) 16 ∙ knows-same y (transaction s t))
 
-    after-same : (u : ℕ) → u < 8 → afterCommit t (m .marks) allSet s u ≡ passedOver (s .transactions) t seen u
-    unfolding afterCommit passedOver afterwards staled hit
-    after-same u l = rw (conflicts-are u l) (pick (eqb u t))
-      where
-        y : Transaction
-        y = transaction s u
+    module _ (eight : length (s .transactions) ≡ 8) (small : t < 8) where
+      after-same : (u : ℕ) → u < 8 → afterCommit t (m .marks) allSet s u ≡ passedOver others seen offsetsIn u
+      unfolding afterCommit passedOver staled goesStale ended
+      after-same u l = rw (conflicts-are u l, nth-ended (s .transactions) t u eight small) (pick (eqb u t))
+        where
+          y : Transaction
+          y = transaction s u
 
-        c : Bool
-        c = contains seen u || some (knowsOffset (transaction s u) (transaction s t)) 16
+          pick : (b : Bool)
+              → cond b ended (withStale (y .stale || (y .begun && hits u y)) y)
+              ≡ cond (goesStale seen offsetsIn u (cond b ended y)) (withStale true (cond b ended y)) (cond b ended y)
+          pick true = refl
+          pick false = rewritten y (y .begun) (hits u y) (y .stale) refl
 
-        pick : (b : Bool) → cond b ended (withStale (y .stale || (y .begun && c)) y) ≡ cond b ended (withStale (y .stale || (not b && y .begun && c)) y)
-        pick true = refl
-        pick false = refl
+      pub transactions-are : tabulate (afterCommit t (m .marks) allSet s) 8 ≡ tabulate (passedOver others seen offsetsIn) 8
+      transactions-are = tabulate-same (afterCommit t (m .marks) allSet s) (passedOver others seen offsetsIn) 8 after-same
 
-    pub transactions-are : tabulate (afterCommit t (m .marks) allSet s) 8 ≡ tabulate (passedOver (s .transactions) t seen) 8
-    transactions-are = tabulate-same (afterCommit t (m .marks) allSet s) (passedOver (s .transactions) t seen) 8 after-same
+      went-same : (u : ℕ) → u < 8 → becomesStale t (m .marks) allSet s u ≡ turned others seen offsetsIn u
+      unfolding becomesStale goesStale ended
+      went-same u l = rw (conflicts-are u l, nth-ended (s .transactions) t u eight small) (pick (eqb u t))
+        where
+          y : Transaction
+          y = transaction s u
 
-    became-same : (u : ℕ) → u < 8 → cond (becomesStale t (m .marks) allSet s u) 1 0 ≡ countedIn (s .transactions) t seen u
-    unfolding becomesStale countedIn newlyStale hit
-    became-same u l =
-        let y = transaction s u in
-        let c = contains seen u || some (knowsOffset y (transaction s t)) 16 in
-        ap (λ (b : Bool). cond (not (eqb u t) && y .begun && not (y .stale) && b) 1 0) (conflicts-are u l)
-        ∙ ap (λ (b : Bool). cond b 1 0) (hit-same (eqb u t) (y .begun) (y .stale) c)
+          pick : (b : Bool) → (not b && y .begun && not (y .stale) && hits u y) ≡ goesStale seen offsetsIn u (cond b ended y)
+          pick true = refl
+          pick false = refl
 
-    pub count-is : sum (λ u. cond (becomesStale t (m .marks) allSet s u) 1 0) 8 ≡ sum (countedIn (s .transactions) t seen) 8
-    count-is = sum-same (λ u. cond (becomesStale t (m .marks) allSet s u) 1 0) (countedIn (s .transactions) t seen) 8 became-same
+      pub octet-is : bitsOf (becomesStale t (m .marks) allSet s) 8 ≡ bitsOf (turned others seen offsetsIn) 8
+      octet-is = bits-same (becomesStale t (m .marks) allSet s) (turned others seen offsetsIn) 8 went-same
 
   -- A transaction in range whose placing fits can land.
   module _ (fit : fits (offsetsOnly (s .offsets)) (descriptorsOnly (transaction s t)) ≡ true) where

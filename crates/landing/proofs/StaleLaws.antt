@@ -1,28 +1,24 @@
--- Whom a commit makes stale: the tests of the code.
-use mathlib.Core.Bool.{Bool, true, false, cond, not, _&&_, _||_, or-true, or-false, and-false}
+-- Whom a commit makes stale: the tests of the code, and the loop over the eight transactions. Assumes nothing.
+use mathlib.Core.Bool.{Bool, true, false, cond, not, _&&_, _||_, or-true, and-false}
 use mathlib.Core.List.{List, _++_}
 use mathlib.Core.Logic.{⊎-elim}
 use mathlib.Core.Path.{_≡_, refl, sym, ap, ap₂, _∙_}
-use lib.Dec.{eqb}
 use lib.ListN.{length, getD, set, drop}
 use lib.Seq.{drop-cons, getD-at}
-use borrow.Author.Tests.{eq-eqb, ne-eqb}
 use native.Mathlib.Omega.{arith}
 use native.Mathlib.Nat.{eq-or-lt-of-le, le-of-suc-le-suc, not-suc-le-zero}
 use native.Mathlib.Numerals.{add-one}
 use Prim.Native.Nat.{ℕ, zero, suc, _+_, _≤_, _<_}
+use Rattle.octets.specs.Bits.{withBit, bitsOf}
 use Rattle.octets.specs.Marks.{contains}
+use Rattle.octets.proofs.SetLaws.{bits-with, bits-without}
 use Rattle.record.specs.declared.Transaction.{Transaction}
 use Rattle.record.specs.State.{noTransaction, standingAt, withStale}
-use Rattle.ranges.specs.Below.{sum}
-use Rattle.ranges.proofs.Laws.{sum-zero, sum-more}
 use Rattle.standings.specs.Table.{isKnown}
 use Rattle.rules.specs.Machine.{tabulate}
 use Rattle.rules.proofs.View.Tables.{length-tabulate}
-use Rattle.laws.proofs.Filled.{filled, filled-none, filled-set, filled-all}
-use Rattle.rules.specs.Commits.{setsOffset}
-use Rattle.landing.specs.Landing.{descriptorsOnly}
-use Rattle.landing.specs.Staling.{some, knowsOffset, hit, afterwards, newlyStale}
+use Rattle.laws.proofs.Filled.{filled, filled-none, filled-set, filled-kept, filled-all}
+use Rattle.landing.specs.Staling.{some, knowsOffset, goesStale}
 
 -- ---- a test of some number below a bound
 
@@ -42,71 +38,54 @@ module _ (p : ℕ → Bool) where
       ⊎-elim (λ q. ap (λ (b : Bool). some p n || b) (ap p (sym q) ∙ e) ∙ or-true (some p n)) (λ m. ap (λ (b : Bool). b || p n) (some-at n i m e))
       (eq-or-lt-of-le (le-of-suc-le-suc l))
 
+pub some-same : (p q : ℕ → Bool) (n : ℕ) → ((i : ℕ) → i < n → p i ≡ q i) → some p n ≡ some q n
+unfolding some
+some-same p q zero h = refl
+some-same p q (suc n) h = ap₂ _||_ (some-same p q n (λ i l. h i (omega arith))) (h n (omega arith))
+
+-- ---- a set that a loop gathers: one number more of it
+
+pub gathered : (p : ℕ → Bool) (set n : ℕ) → set ≡ bitsOf p n → p n ≡ true → withBit n set ≡ bitsOf p (n + 1)
+gathered p set n e h = ap (withBit n) e ∙ bits-with p n h ∙ ap (bitsOf p) (omega arith)
+
+pub passed-by : (p : ℕ → Bool) (set n : ℕ) → set ≡ bitsOf p n → p n ≡ false → set ≡ bitsOf p (n + 1)
+passed-by p set n e h = e ∙ bits-without p n h ∙ ap (bitsOf p) (omega arith)
+
 -- ---- offsets that another transaction knows
 
-module _ (y x : Transaction) (d : ℕ) where
-  pub knows : setsOffset (descriptorsOnly x) d ≡ true → isKnown (standingAt y d) ≡ true → knowsOffset y x d ≡ true
+module _ (y : Transaction) (set d : ℕ) where
+  pub knows : contains set d ≡ true → isKnown (standingAt y d) ≡ true → knowsOffset y set d ≡ true
   unfolding knowsOffset
   knows e f = simp (e, f)
 
-  pub knows-unset : setsOffset (descriptorsOnly x) d ≡ false → knowsOffset y x d ≡ false
+  pub knows-unset : contains set d ≡ false → knowsOffset y set d ≡ false
   unfolding knowsOffset
   knows-unset e = simp e
 
-  pub knows-unknown : isKnown (standingAt y d) ≡ false → knowsOffset y x d ≡ false
+  pub knows-unknown : isKnown (standingAt y d) ≡ false → knowsOffset y set d ≡ false
   unfolding knowsOffset
-  knows-unknown f = ap (λ (b : Bool). setsOffset (descriptorsOnly x) d && b) f ∙ and-false (setsOffset (descriptorsOnly x) d)
+  knows-unknown f = ap (λ (b : Bool). contains set d && b) f ∙ and-false (contains set d)
 
--- ---- a transaction that is hit
+-- ---- a transaction that goes stale
 
-module _ (y : Transaction) (ends h : Bool) (e : ends ≡ false) where
-  pub after-hit : h ≡ true → withStale true y ≡ afterwards ends h y
-  unfolding afterwards
-  after-hit f = rw (e, f, or-true)
+module _ (seen set u : ℕ) (y : Transaction) where
+  pub stale-closed : y .begun ≡ false → goesStale seen set u y ≡ false
+  unfolding goesStale
+  stale-closed b = simp b
 
-  pub after-other : h ≡ false → y ≡ afterwards ends h y
-  unfolding afterwards
-  after-other f = rw (e, f, or-false)
+  module _ (b : y .begun ≡ true) where
+    pub stale-already : y .stale ≡ true → goesStale seen set u y ≡ false
+    unfolding goesStale
+    stale-already z = simp (b, z)
 
-module _ (x : Transaction) (t seen u : ℕ) (y : Transaction) where
-  pub hit-own : u ≡ t → hit x t seen u y ≡ false
-  unfolding hit
-  hit-own e = simp (eq-eqb u t e)
+    module _ (z : y .stale ≡ false) where
+      pub stale-by-byte : contains seen u ≡ true → goesStale seen set u y ≡ true
+      unfolding goesStale
+      stale-by-byte h = simp (b, z, h)
 
-  module _ (e : u ≡ t → ⊥) where
-    pub hit-closed : y .begun ≡ false → hit x t seen u y ≡ false
-    unfolding hit
-    hit-closed b = simp (ne-eqb u t e, b)
-
-    module _ (b : y .begun ≡ true) where
-      pub hit-byte : contains seen u ≡ true → hit x t seen u y ≡ true
-      unfolding hit
-      hit-byte h = simp (ne-eqb u t e, b, h)
-
-      pub hit-offset : contains seen u ≡ false → hit x t seen u y ≡ some (knowsOffset y x) 16
-      unfolding hit
-      hit-offset h = simp (ne-eqb u t e, b, h)
-
-pub newly-le : (h : Bool) (y : Transaction) → newlyStale h y ≤ 1
-unfolding newlyStale
-newly-le h y = pick (h && not (y .stale))
-  where
-    pick : (b : Bool) → cond b 1 0 ≤ 1
-    pick true = omega arith
-    pick false = omega arith
-
-module _ (h : Bool) (y : Transaction) where
-  pub newly-missed : h ≡ false → newlyStale h y ≡ 0
-  unfolding newlyStale
-  newly-missed e = simp e
-
-  pub newly-again : h ≡ true → y .stale ≡ true → newlyStale h y ≡ 0
-  unfolding newlyStale
-  newly-again e f = simp (e, f)
-
-  pub newly-now : h ≡ true → y .stale ≡ false → newlyStale h y ≡ 1
-  unfolding newlyStale
-  newly-now e f = simp (e, f)
+      pub stale-by-offset : contains seen u ≡ false → goesStale seen set u y ≡ some (knowsOffset y set) 16
+      unfolding goesStale
+      stale-by-offset h = simp (b, z, h)
 
 -- ---- the loop over the eight transactions
 
@@ -114,68 +93,65 @@ module _ (h : Bool) (y : Transaction) where
 abbrev pub nth : List Transaction → ℕ → Transaction
 nth xs u = getD xs u noTransaction
 
--- Transaction u after a granted commit of t, and 1 if it became stale by it.
+-- Those that go stale, and each of the eight after it.
+abbrev pub turned : List Transaction → ℕ → ℕ → ℕ → Bool
+turned xs seen set u = goesStale seen set u (nth xs u)
+
 unfoldable pub passedOver : List Transaction → ℕ → ℕ → ℕ → Transaction
-passedOver xs t seen u = afterwards (eqb u t) (hit (nth xs t) t seen u (nth xs u)) (nth xs u)
+passedOver xs seen set u = cond (turned xs seen set u) (withStale true (nth xs u)) (nth xs u)
 
-unfoldable pub countedIn : List Transaction → ℕ → ℕ → ℕ → ℕ
-countedIn xs t seen u = newlyStale (hit (nth xs t) t seen u (nth xs u)) (nth xs u)
-
--- After the first u of the transactions xs: ys is the list, and count of them became stale.
-pub record Passed (xs : List Transaction) (t seen : ℕ) (ys : List Transaction) (count u : ℕ) : Type 0 where
+-- After the first u of the transactions xs: ys is the list, and octet the set of those that went stale.
+pub record Passed (xs : List Transaction) (seen offsets : ℕ) (ys : List Transaction) (octet u : ℕ) : Type 0 where
   pub bound : u ≤ 8
-  pub list : ys ≡ filled (passedOver xs t seen) xs u
-  pub counted : count ≡ sum (countedIn xs t seen) u
-  pub few : count ≤ u
+  pub list : ys ≡ filled (passedOver xs seen offsets) xs u
+  pub went : octet ≡ bitsOf (turned xs seen offsets) u
   pub eight : length xs ≡ 8
 
-module _ (xs : List Transaction) (t seen : ℕ) where
-  pub passed-none : length xs ≡ 8 → Passed xs t seen xs 0 0
-  passed-none l =
-      record {
-        bound = omega arith;
-        list = sym (filled-none (passedOver xs t seen) xs);
-        counted = sym (sum-zero (countedIn xs t seen));
-        few = omega arith;
-        eight = l;
-      }
+module _ (xs : List Transaction) (seen offsets : ℕ) where
+  pub passed-none : length xs ≡ 8 → Passed xs seen offsets xs 0 0
+  unfolding bitsOf
+  passed-none l = record { bound = omega arith; list = sym (filled-none (passedOver xs seen offsets) xs); went = refl; eight = l }
 
-  module _ (ys : List Transaction) (count u : ℕ) (p : Passed xs t seen ys count u) where
-    pub passed-all : 8 ≤ u → (count ≡ sum (countedIn xs t seen) 8) × (ys ≡ tabulate (passedOver xs t seen) 8)
+  module _ (ys : List Transaction) (octet u : ℕ) (p : Passed xs seen offsets ys octet u) where
+    pub passed-all : 8 ≤ u → (octet ≡ bitsOf (turned xs seen offsets) 8) × (ys ≡ tabulate (passedOver xs seen offsets) 8)
     passed-all l =
         let e : u ≡ 8 = omega (arith, p .bound) in (
-          p .counted ∙ ap (sum (countedIn xs t seen)) e,
-          p .list ∙ ap (filled (passedOver xs t seen) xs) e ∙ filled-all (passedOver xs t seen) xs 8 (omega (arith, p .eight)),
+          p .went ∙ ap (bitsOf (turned xs seen offsets)) e,
+          p .list ∙ ap (filled (passedOver xs seen offsets) xs) e ∙ filled-all (passedOver xs seen offsets) xs 8 (omega (arith, p .eight)),
         )
 
     -- A turn over transaction u, which still stands as it stood.
-    module _ (small : u < 8) (h : Bool) (e : h ≡ hit (nth xs t) t seen u (nth ys u)) where
+    module _ (small : u < 8) (h : Bool) (e : h ≡ goesStale seen offsets u (nth ys u)) where
       same : nth ys u ≡ nth xs u
       same =
-          ap (λ (l : List Transaction). nth l u) (p .list ∙ ap (λ (l : List Transaction). tabulate (passedOver xs t seen) u ++ l) (drop-cons xs u noTransaction (omega (arith, p .eight))))
-          ∙ getD-at (tabulate (passedOver xs t seen) u) (nth xs u) (drop (suc u) xs) noTransaction u (length-tabulate (passedOver xs t seen) u)
+          ap (λ (l : List Transaction). nth l u) (p .list ∙ ap (λ (l : List Transaction). tabulate (passedOver xs seen offsets) u ++ l) (drop-cons xs u noTransaction (omega (arith, p .eight))))
+          ∙ getD-at (tabulate (passedOver xs seen offsets) u) (nth xs u) (drop (suc u) xs) noTransaction u (length-tabulate (passedOver xs seen offsets) u)
 
-      found : h ≡ hit (nth xs t) t seen u (nth xs u)
-      found = e ∙ ap (hit (nth xs t) t seen u) same
+      found : (b : Bool) → h ≡ b → turned xs seen offsets u ≡ b
+      found b f = ap (goesStale seen offsets u) (sym same) ∙ sym e ∙ f
 
-      after-is : (y : Transaction) → y ≡ afterwards (eqb u t) h (nth ys u) → y ≡ passedOver xs t seen u
+      pub passed-stale : h ≡ true → Passed xs seen offsets (set ys u (withStale true (nth ys u))) (withBit u octet) (u + 1)
       unfolding passedOver
-      after-is y f = f ∙ ap₂ (afterwards (eqb u t)) found same
-
-      became-is : (n : ℕ) → n ≡ newlyStale h (nth ys u) → n ≡ countedIn xs t seen u
-      unfolding countedIn
-      became-is n f = f ∙ ap₂ newlyStale found same
-
-      pub passed-more : (y : Transaction) → y ≡ afterwards (eqb u t) h (nth ys u)
-          → (n : ℕ) → n ≡ newlyStale h (nth ys u)
-          → Passed xs t seen (set ys u y) (count + n) (u + 1)
-      passed-more y f n g =
+      passed-stale f =
           record {
             bound = omega arith;
             list =
-                ap (λ (l : List Transaction). set l u y) (p .list)
-                ∙ filled-set (passedOver xs t seen) xs u y (omega (arith, p .eight)) (after-is y f);
-            counted = ap₂ _+_ (p .counted) (became-is n g) ∙ sym (sum-more (countedIn xs t seen) u);
-            few = omega (arith, p .few, newly-le h (nth ys u));
+                ap (λ (l : List Transaction). set l u (withStale true (nth ys u))) (p .list)
+                ∙ filled-set (passedOver xs seen offsets) xs u (withStale true (nth ys u)) (omega (arith, p .eight))
+                (ap (withStale true) same ∙ sym (ap (λ (b : Bool). cond b (withStale true (nth xs u)) (nth xs u)) (found true f)));
+            went = gathered (turned xs seen offsets) octet u (p .went) (found true f);
+            eight = p .eight;
+          }
+
+      pub passed-kept : h ≡ false → Passed xs seen offsets ys octet (u + 1)
+      unfolding passedOver
+      passed-kept f =
+          record {
+            bound = omega arith;
+            list =
+                p .list
+                ∙ filled-kept (passedOver xs seen offsets) xs u noTransaction (omega (arith, p .eight))
+                (ap (λ (b : Bool). cond b (withStale true (nth xs u)) (nth xs u)) (found false f));
+            went = passed-by (turned xs seen offsets) octet u (p .went) (found false f);
             eight = p .eight;
           }

@@ -1,21 +1,41 @@
-// Whom a granted commit makes stale.
-use octets::marks::contains;
+// Whom a granted commit makes stale: the test of marks and settled offsets against what it set.
+use octets::marks;
+use octets::sets;
 use record::DESCRIPTORS;
 use record::Transaction;
 ghost use mathlib.Core.Path.{_≡_};
 ghost use Prim.Native.Nat.{_<_};
-ghost use Rattle.landing.specs.Staling.{some, knowsOffset, hit, afterwards, newlyStale};
+ghost use Rattle.octets.specs.Bits.{bitsOf};
+ghost use Rattle.rules.specs.Commits.{setsOffset};
+ghost use Rattle.landing.specs.Landing.{descriptorsOnly};
+ghost use Rattle.landing.specs.Staling.{some, knowsOffset, goesStale};
 
-// Whether transaction y has settled an offset that a commit of x sets.
-fn knows_offset_of(y: Transaction, x: Transaction) -> bool
-    ensures { λ r. ⌜ r ≡ some (knowsOffset y x) 16 ⌝ }
+// The descriptors whose offsets a commit of x sets, as sixteen bits.
+pub fn offsets_set(x: Transaction) -> u16
+    ensures { λ r. ⌜ r ≡ bitsOf (setsOffset (descriptorsOnly x)) 16 ⌝ }
 {
+    let mut set = 0u16;
     let mut d = 0;
     while d < DESCRIPTORS {
         let q = x.descriptors[d];
         if q.sets_offset() {
-            let k = y.standing_at(d);
-            if k.is_known() {
+            set = sets::added(set, d);
+        }
+        d += 1;
+    }
+    set
+}
+
+// Whether transaction y has settled the offset of a descriptor of the set.
+fn knows_one_of(y: Transaction, set: u16) -> bool
+    ensures { λ r. ⌜ r ≡ some (knowsOffset y set) 16 ⌝ }
+{
+    let mut d = 0;
+    while d < DESCRIPTORS {
+        if sets::contains(set, d) {
+            let q = y.descriptors[d];
+            let z = q.standing;
+            if z.is_known() {
                 return true;
             }
         }
@@ -24,47 +44,20 @@ fn knows_offset_of(y: Transaction, x: Transaction) -> bool
     false
 }
 
-// Whether transaction u, as y, is another open one that has sighted what the commit of t, as x, set; seen are those who have a mark
-// on a byte that it set.
-pub fn is_hit(x: Transaction, t: usize, seen: u8, u: usize, y: Transaction) -> bool
+// Whether transaction u, as y, is open, not stale yet, and has sighted what was set: seen are those who have a mark on a byte of it, set
+// are the descriptors whose offsets belong to it.
+pub fn goes_stale(y: Transaction, u: usize, seen: u8, set: u16) -> bool
     requires { ⌜ u < 8 ⌝ }
-    ensures { λ r. ⌜ r ≡ hit x t seen u y ⌝ }
+    ensures { λ r. ⌜ r ≡ goesStale seen set u y ⌝ }
 {
-    if u == t {
-        return false;
-    }
     if !y.begun {
         return false;
     }
-    if contains(seen, u) {
+    if y.stale {
+        return false;
+    }
+    if marks::contains(seen, u) {
         return true;
     }
-    knows_offset_of(y, x)
-}
-
-// A transaction after the commit: ended if it is the one that commits, stale if it is hit.
-pub fn after_commit(ends: bool, h: bool, y: Transaction) -> Transaction
-    ensures { λ r. ⌜ r ≡ afterwards ends h y ⌝ }
-{
-    if ends {
-        return Transaction::ended();
-    }
-    let mut out = y;
-    if h {
-        out.stale = true;
-    }
-    out
-}
-
-// 1 if a transaction that is hit was not stale before.
-pub fn newly_stale(h: bool, y: Transaction) -> u8
-    ensures { λ r. ⌜ r ≡ newlyStale h y ⌝ }
-{
-    if !h {
-        return 0;
-    }
-    if y.stale {
-        return 0;
-    }
-    1
+    knows_one_of(y, set)
 }

@@ -108,9 +108,9 @@ bit-other u t other = ⊎-elim (λ h. bit-above u (2 ^ t) (pow-lt (omega arith))
         ∙ ap (λ (j : ℕ). j % 2) (shl-shr (2 ^ suc k) u ∙ pow-suc 2 k)
         ∙ mul-mod-left (2 ^ k) 2
 
--- as the code shifts
-pub shift-one : (t : ℕ) → t < 8 → 1 * 2 ^ t % 256 ≡ 2 ^ t
-shift-one t h = shl-exact 1 t 8 (omega arith) (omega arith) ∙ one-mul (2 ^ t)
+-- as the code shifts, in a number of w bits
+pub shift-one : (w t : ℕ) → t < w → 1 * 2 ^ t % 2 ^ w ≡ 2 ^ t
+shift-one w t h = shl-exact 1 t w (omega arith) (omega arith) ∙ one-mul (2 ^ t)
 
 -- a test that holds of every number below n
 holds : (ℕ → Bool) → ℕ → Bool

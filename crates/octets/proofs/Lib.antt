@@ -2,3 +2,4 @@
 pub mod PartLaws
 mod BitLaws
 pub mod MarkLaws
+pub mod SetLaws

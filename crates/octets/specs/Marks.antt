@@ -29,6 +29,6 @@ unfoldable pub hasMarkIn : List ℕ → ℕ → ℕ → ℕ → Bool
 hasMarkIn marks t from zero = false
 hasMarkIn marks t from (suc n) = hasMarkIn marks t from n || hasMark marks t (from + n)
 
--- A set of transactions as an octet: bit t, worth 2 to the power t, for transaction t.
+-- A set of numbers as the bits of one, of transactions as an octet: bit t, worth 2 to the power t, for transaction t.
 unfoldable pub contains : ℕ → ℕ → Bool
 contains octet t = eqb (bit t octet) 1

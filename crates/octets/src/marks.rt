@@ -1,5 +1,6 @@
 // Marks: an octet for each byte of the files, of which bit t, worth 2 to the power t, is transaction t's. A set of transactions is
 // an octet too.
+use crate::sets;
 ghost use mathlib.Core.Bool.{_||_};
 ghost use mathlib.Core.Path.{_≡_};
 ghost use Prim.Native.Nat.{ℕ, _+_, _<_, _≤_};
@@ -68,7 +69,7 @@ pub fn contains(octet: u8, t: usize) -> bool
     requires { ⌜ t < 8 ⌝ }
     ensures { λ r. ⌜ r ≡ contains octet t ⌝ }
 {
-    (octet >> t) % 2 == 1
+    sets::contains(octet as u16, t)
 }
 
 // The transactions of both sets.

@@ -3,7 +3,7 @@ use Prim.Native.Nat.{ℕ}
 use Rattle.record.specs.declared.outcomes.Refusal.{Refusal}
 use Rattle.record.specs.declared.outcomes.Refusal.the-variants.{BufferLength, RecordRange, NoSuchTransaction, NotOpen, AlreadyOpen, NoSuchDescriptor, ReaderTooShort, SeekPastEnd, WritePastEnd, RecordsFull, LogFull, SettledPastEnd, Stale, NoSuchFile, NoPlaceYet, ListTooLong}
 use Rattle.record.specs.declared.outcomes.Outcome.{Outcome}
-use Rattle.record.specs.declared.outcomes.Outcome.the-variants.{Done, Offset, Given, Staled, Pairs, Refused}
+use Rattle.record.specs.declared.outcomes.Outcome.the-variants.{Done, Offset, Given, Granted, Pairs, Refused}
 
 -- "What a turned-down call brings": the column Returned. From 15 on paper 02: "a new refusal number joins demand 1's fourteen and
 -- 01's table".
@@ -30,7 +30,7 @@ abbrev pub refusals : ℕ
 refusals = 16
 
 -- "Read answers the count of bytes given; Fresh, Begin, Seek, Write and Abort answer plainly"; "GetFilePointer answers the
--- offset"; "Commit answers how many became stale by it"; F-1: "The answer is the count of pairs"; or the number of a refusal.
+-- offset"; F-1: "The answer is the count of pairs"; F-4: "Commit answers that octet"; or the number of a refusal.
 pub data Said : Type 0 where
   plain : Said
   pointer : ℕ → Said
@@ -44,6 +44,6 @@ unfoldable pub said : Outcome → Said
 said Done = plain
 said (Offset o) = pointer o
 said (Given n) = given n
-said (Staled n) = granted n
+said (Granted n) = granted n
 said (Pairs n) = pairs n
 said (Refused r) = refused (number r)

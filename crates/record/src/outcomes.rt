@@ -52,13 +52,13 @@ impl Refusal {
     }
 }
 
-// The result of a call: plain, an offset, a count of bytes given, how many others a granted Commit made stale,
-// a count of pairs, or a refusal.
+// The result of a call: plain, an offset, a count of bytes given, the octet of those that a granted Commit made stale (bit t, worth 2 to
+// the power t, for transaction t), a count of pairs, or a refusal.
 pub enum Outcome {
     Done,
     Offset(u16),
     Given(u16),
-    Staled(u8),
+    Granted(u8),
     Pairs(u16),
     Refused(Refusal),
 }

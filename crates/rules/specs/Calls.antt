@@ -6,13 +6,14 @@ use lib.Dec.{eqb}
 use lib.ListN.{set, replicate}
 use Prim.Native.Nat.{ℕ, zero, suc, _+_, _*_}
 use Rattle.octets.specs.Parts.{pasted}
+use Rattle.octets.specs.Bits.{bitsOf, countOf}
 use Rattle.octets.specs.Marks.{hasMark, withMark, withoutMarks}
 use Rattle.record.specs.declared.Store.{Store}
 use Rattle.record.specs.declared.Transaction.{Transaction}
 use Rattle.record.specs.declared.outcomes.Refusal.the-variants.{Stale}
 use Rattle.record.specs.State.{transaction, standingAt, ended, begun, withStale, withOffsets, withTransactions, withTransaction}
 use Rattle.record.specs.Paper.{number, Said, plain, granted, refused}
-use Rattle.ranges.specs.Below.{guarded, isNone, sum}
+use Rattle.ranges.specs.Below.{guarded, isNone}
 use Rattle.ranges.specs.Ranges.{admission, admissionOfBegin, admissionOfFresh}
 use Rattle.rules.specs.Items.{Item, byte, offset, result, asked}
 use Rattle.standings.specs.Table.{isKnown}
@@ -137,17 +138,18 @@ staled marks ss u x = withStale (x .stale || (x .begun && conflicts marks u x ss
 unfoldable pub afterCommit : ℕ → List ℕ → List Setting → Store → ℕ → Transaction
 afterCommit t marks ss s u = cond (eqb u t) ended (staled marks ss u (transaction s u))
 
--- "Commit answers how many became stale by it that were not so before."
+-- Those that became "stale by it that were not so before".
 unfoldable pub becomesStale : ℕ → List ℕ → List Setting → Store → ℕ → Bool
 becomesStale t marks ss s u =
     let x = transaction s u in
     not (eqb u t) && x .begun && not (x .stale) && conflicts marks u x ss
 
+-- F-4: "an octet with bit t (worth 2 to the power t) for each transaction that this commit made stale and that was not so before"
 unfoldable pub commitGranted : ℕ → List Setting → Machine → Turn
 commitGranted t ss m =
     let s = m .store in
     record {
-      reply = record { answer = granted (sum (λ u. cond (becomesStale t (m .marks) ss s u) 1 0) 8); buffer = [] };
+      reply = record { answer = granted (bitsOf (becomesStale t (m .marks) ss s) 8); buffer = [] };
       after =
           withStore (withOffsets (landOffsets ss (s .offsets)) (withTransactions (tabulate (afterCommit t (m .marks) ss s) 8) s))
           (withFiles (landFiles ss (m .files))
@@ -168,6 +170,13 @@ commitTurn t m =
     let v = values (m .store) (m .files) in
     let x = txnOf (m .store) (m .journal) (m .logs) t in
     commitDecided t (settings (fileOf (m .store)) v x) m (commitRefusal (transaction (m .store) t .stale) (fits v x))
+
+-- "Commit answers how many became stale by it that were not so before": the former number. F-4: "The old number is the count of ones in
+-- that octet."
+unfoldable pub formerNumber : ℕ → Machine → ℕ
+formerNumber t m =
+    let ss = settings (fileOf (m .store)) (values (m .store) (m .files)) (txnOf (m .store) (m .journal) (m .logs) t) in
+    countOf (becomesStale t (m .marks) ss (m .store)) 8
 
 -- F-1: "A new call lists, for one open transaction and one file, the places its writes cover"; "a new call changes only what its
 -- request says": nothing but the buffer for the list.

@@ -13,7 +13,7 @@ use Rattle.rules.specs.Messages.{seek, write, getFilePointer, read, begi
 use Rattle.rules.specs.Transactions.{Txn}
 use Rattle.rules.specs.Steps.{Stepped, refuse, accept, step}
 use Rattle.rules.specs.Commits.{settings, fits}
-use Rattle.rules.specs.Setup.{Seen, Exchange, _⇒_, callsOf, Goes, sighted, committedBytes, beginning, sightingsOf, gives, refusesWith, lists, begins, A, B, C, X, Y, Z, dot}
+use Rattle.rules.specs.Setup.{Seen, Exchange, _⇒_, callsOf, Goes, formerNumbers, sighted, committedBytes, beginning, sightingsOf, gives, refusesWith, lists, begins, A, B, C, X, Y, Z, dot}
 use Rattle.rules.specs.Situations.{toldK, toldL}
 
 -- "Checked in this order, save that 13 comes before 12": T0 is stale by the offset of 1, and its write on 0 would run past the end.
@@ -148,7 +148,7 @@ toldWriteNone =
     begins
     ++ on 1 (getFilePointer 0) ⇒ says (pointer 0)
     ∷ on 0 (write 0 []) ⇒ says plain
-    ∷ commit 0 ⇒ says (granted 1)
+    ∷ commit 0 ⇒ says (granted 2)
     ∷ commit 1 ⇒ says (refused 13)
     ∷ []
 
@@ -448,6 +448,22 @@ toldNoPlaceYet =
     ∷ places 0 0 (replicate 4 dot) ⇒ lists 1 (0 ∷ 0 ∷ 0 ∷ 1 ∷ [])
     ∷ []
 
+-- F-4, "bit t (worth 2 to the power t) for each transaction that this commit made stale and that was not so before": 1 and 2, and then 0
+-- alone, as those two were stale before.
+unfoldable pub toldOctet : List Exchange
+toldOctet =
+    begins
+    ++ on 1 (getFilePointer 0) ⇒ says (pointer 0)
+    ∷ on 2 (getFilePointer 0) ⇒ says (pointer 0)
+    ∷ on 0 (seek 0 3) ⇒ says plain
+    ∷ commit 0 ⇒ says (granted 6)
+    ∷ begin 0 ⇒ says plain
+    ∷ on 0 (getFilePointer 0) ⇒ says (pointer 3)
+    ∷ begin 7 ⇒ says plain
+    ∷ on 7 (seek 0 4) ⇒ says plain
+    ∷ commit 7 ⇒ says (granted 1)
+    ∷ []
+
 -- What situations k and l and the corners come to, together.
 pub record Corners (x : Seen) : Type 0 where
   pub k : Goes x toldK
@@ -523,3 +539,4 @@ pub record Corners (x : Seen) : Type 0 where
       × (x .value (callsOf toldSettledAlone) (offset 1) ≡ 5)
   pub listedPlaces : Goes x toldPlaces × (sightingsOf (callsOf toldPlaces) 0 ≡ [])
   pub noPlaceYet : Goes x toldNoPlaceYet
+  pub octet : Goes x toldOctet × (formerNumbers toldOctet ≡ 2 ∷ 1 ∷ [])

@@ -5,7 +5,8 @@ use mathlib.Core.List.{List, [], _∷_, map}
 use mathlib.Core.Logic.{_↔_}
 use mathlib.Core.Path.{_≡_}
 use lib.ListN.{getD}
-use Prim.Native.Nat.{ℕ, _≤_}
+use Prim.Native.Nat.{ℕ, _≤_, _<_}
+use Rattle.octets.specs.Marks.{contains}
 use Rattle.record.specs.declared.outcomes.Outcome.{Outcome}
 use Rattle.record.specs.declared.outcomes.Refusal.the-variants.{Stale}
 use Rattle.record.specs.State.{transaction}
@@ -39,9 +40,11 @@ pub record Holds (m₀ : Machine) (p₀ : Plain) (cs : List Call) (m : Machine) 
   pub staleness :
       (t : ℕ) (r : Running) → t ≤ 7 → p .slots t ≡ running r
       → (call (commit t) m .reply .answer ≡ refused (number Stale) → ⊥) ↔ (firstList r ≡ secondList p r)
-  -- "it must equal the other open ones whose two lists were equal before that commit and aren't after it"
-  pub number :
-      (t n : ℕ) → call (commit t) m .reply .answer ≡ granted n → n ≡ becameStale p (plainCall (commit t) p .after) 8
+  -- F-4, "an octet with bit t (worth 2 to the power t) for each transaction that this commit made stale and that was not so before":
+  -- bit u is 1 exactly for "the other open ones whose two lists were equal before that commit and aren't after it".
+  pub octet :
+      (t n : ℕ) → call (commit t) m .reply .answer ≡ granted n
+      → (n < 256) × ((u : ℕ) → u < 8 → contains n u ≡ becameStale t p (plainCall (commit t) p .after) u)
   -- "the granted transactions, run again alone in grant order from the same fresh state with all their accepted calls, meet no
   -- refusal, give the same answers and bytes": the list of calls that does so gives on the plain machine the replies that they had.
   pub again : plainReplies (rerun (grantsOf cs p₀)) p₀ ≡ sameReplies (grantsOf cs p₀)

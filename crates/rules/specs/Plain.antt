@@ -3,6 +3,7 @@ use mathlib.Core.Bool.{Bool, false, cond, not, _&&_}
 use mathlib.Core.List.{List, [], _∷_, _++_, map}
 use lib.Dec.{leb, eqb}
 use Prim.Native.Nat.{ℕ, zero, suc, _+_}
+use Rattle.octets.specs.Bits.{bitsOf}
 use Rattle.record.specs.declared.outcomes.Refusal.the-variants.{Stale}
 use Rattle.record.specs.Paper.{number, Said, plain, granted, refused}
 use Rattle.ranges.specs.Below.{guarded}
@@ -118,20 +119,23 @@ committing fileOf n x c =
 unfoldable pub grant : ℕ → Running → Plain → Plain
 grant t r p = withSlot t closed (withGrant (committing (p .fileOf) (p .grants + 1) (r .txn) (p .committed)) p)
 
+-- Open with equal lists, and open with lists that differ.
+unfoldable pub equalSlot : Plain → Slot → Bool
+equalSlot p closed = false
+equalSlot p (running r) = sameEntries (firstList r) (secondList p r)
+
 unfoldable pub staleSlot : Plain → Slot → Bool
 staleSlot p closed = false
 staleSlot p (running r) = isStale p r
 
--- The number of a Commit that takes the machine from p to q: "the other open ones whose two lists were equal before that commit
--- and aren't after it", of the first n numbers.
-unfoldable pub becameStale : Plain → Plain → ℕ → ℕ
-becameStale p q zero = 0
-becameStale p q (suc u) =
-    becameStale p q u + cond (not (staleSlot p (q .slots u)) && staleSlot q (q .slots u)) 1 0
+-- Whether u is one of those that a Commit of t which takes the machine from p to q made stale: "the other open ones whose two lists
+-- were equal before that commit and aren't after it".
+unfoldable pub becameStale : ℕ → Plain → Plain → ℕ → Bool
+becameStale t p q u = not (eqb u t) && equalSlot p (p .slots u) && staleSlot q (q .slots u)
 
 -- "Abort and a Commit refused with 13 end it and set nothing."
 unfoldable pub plainCommitted : ℕ → Running → Plain → ℕ → PlainTurn
-plainCommitted t r p zero = answering (granted (becameStale p (grant t r p) 8)) (grant t r p)
+plainCommitted t r p zero = answering (granted (bitsOf (becameStale t p (grant t r p)) 8)) (grant t r p)
 plainCommitted t r p (suc n) =
     record {
       reply = record { answer = refused (suc n); buffer = [] };

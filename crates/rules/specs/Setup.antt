@@ -1,9 +1,11 @@
 -- How the situations are told: from Fresh, and what is looked at after a list of calls.
-use mathlib.Core.List.{List, [], _∷_, map}
+use mathlib.Core.List.{List, [], _∷_, _++_, map}
 use mathlib.Core.Path.{_≡_}
 use lib.ListN.{getD}
 use Prim.Native.Nat.{ℕ, zero, suc, _*_}
-use Rattle.record.specs.Paper.{plain, given, pairs, refused}
+use Rattle.octets.specs.Bits.{countOf}
+use Rattle.octets.specs.Marks.{contains}
+use Rattle.record.specs.Paper.{Said, plain, pointer, given, granted, pairs, refused}
 use Rattle.rules.specs.Items.{Item, byte, Values}
 use Rattle.rules.specs.Messages.{Call, begin, Reply, says}
 use Rattle.rules.specs.Sightings.{Entry}
@@ -45,6 +47,19 @@ callsOf = map (λ e. e .call)
 -- The calls of the list give the replies of the list.
 abbrev pub Goes : Seen → List Exchange → Type 0
 Goes x es = x .replies (callsOf es) ≡ map (λ e. e .reply) es
+
+-- F-4, "The old number is the count of ones in that octet": those of the granted Commits, in order.
+unfoldable pub formerIn : Said → List ℕ
+formerIn plain = []
+formerIn (pointer o) = []
+formerIn (given n) = []
+formerIn (granted o) = countOf (contains o) 8 ∷ []
+formerIn (pairs n) = []
+formerIn (refused n) = []
+
+unfoldable pub formerNumbers : List Exchange → List ℕ
+formerNumbers [] = []
+formerNumbers (e ∷ es) = formerIn (e .reply .answer) ++ formerNumbers es
 
 -- "T0 to T2 are begun."
 unfoldable pub begins : List Exchange

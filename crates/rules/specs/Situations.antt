@@ -6,7 +6,7 @@ use Prim.Native.Nat.{ℕ}
 use Rattle.record.specs.Paper.{plain, pointer, granted, refused}
 use Rattle.rules.specs.Items.{offset}
 use Rattle.rules.specs.Messages.{seek, write, getFilePointer, read, on, commit, Reply, says}
-use Rattle.rules.specs.Setup.{Seen, Exchange, _⇒_, callsOf, Goes, sighted, beginning, sightingsOf, gives, begins, A, B, C, D, Q, X, Y, Z, dot}
+use Rattle.rules.specs.Setup.{Seen, Exchange, _⇒_, callsOf, Goes, formerNumbers, sighted, beginning, sightingsOf, gives, begins, A, B, C, D, Q, X, Y, Z, dot}
 
 -- a "T0 writes AB, T1 writes CD, both on 0. Commit T1, T0: both answer 0. File 0 begins CDAB, offset 4."
 unfoldable pub toldA : List Exchange
@@ -146,17 +146,28 @@ toldL =
     ∷ on 0 (write 0 (A ∷ [])) ⇒ says (refused 9)
     ∷ []
 
--- What the starred situations come to, together.
+-- What the starred situations come to, together; F-4: "the situations give the octet beside their number".
 pub record Starred (x : Seen) : Type 0 where
-  pub a : Goes x toldA × (beginning (x .value (callsOf toldA)) 0 4 ≡ C ∷ D ∷ A ∷ B ∷ []) × (x .value (callsOf toldA) (offset 0) ≡ 4)
-  pub b : Goes x toldB
-  pub c : Goes x toldC × (beginning (x .value (callsOf toldC)) 0 2 ≡ A ∷ B ∷ [])
+  pub a :
+      Goes x toldA
+      × (formerNumbers toldA ≡ 0 ∷ 0 ∷ [])
+      × (beginning (x .value (callsOf toldA)) 0 4 ≡ C ∷ D ∷ A ∷ B ∷ [])
+      × (x .value (callsOf toldA) (offset 0) ≡ 4)
+  pub b : Goes x toldB × (formerNumbers toldB ≡ 1 ∷ [])
+  pub c : Goes x toldC × (formerNumbers toldC ≡ 0 ∷ 0 ∷ []) × (beginning (x .value (callsOf toldC)) 0 2 ≡ A ∷ B ∷ [])
   pub d :
-      Goes x (toldD 2 (says (granted 1)) (says (refused 13)))
-      × Goes x (toldD 3 (says (granted 0)) (says (granted 0)))
-  pub e : Goes x toldE
-  pub f : Goes x toldF
+      (let told = toldD 2 (says (granted 1)) (says (refused 13)) in Goes x told × (formerNumbers told ≡ 1 ∷ []))
+      × (let told = toldD 3 (says (granted 0)) (says (granted 0)) in Goes x told × (formerNumbers told ≡ 0 ∷ 0 ∷ []))
+  pub e : Goes x toldE × (formerNumbers toldE ≡ 1 ∷ [])
+  pub f : Goes x toldF × (formerNumbers toldF ≡ 1 ∷ [])
   pub g : Goes x toldG × (sightingsOf (callsOf toldG) 0 ≡ sighted (offset 8) 0 ∷ [])
-  pub h : Goes x toldH × (beginning (x .value (callsOf toldH)) 0 1 ≡ A ∷ []) × (x .value (callsOf toldH) (offset 0) ≡ 1)
-  pub i : Goes x toldI × (beginning (x .value (callsOf toldI)) 0 5 ≡ 0 ∷ 0 ∷ 0 ∷ 0 ∷ A ∷ []) × (x .value (callsOf toldI) (offset 0) ≡ 9)
-  pub j : Goes x toldJ
+  pub h :
+      Goes x toldH
+      × (formerNumbers toldH ≡ 0 ∷ 0 ∷ 0 ∷ [])
+      × (beginning (x .value (callsOf toldH)) 0 1 ≡ A ∷ [])
+      × (x .value (callsOf toldH) (offset 0) ≡ 1)
+  pub i :
+      Goes x toldI
+      × (formerNumbers toldI ≡ 0 ∷ 0 ∷ [])
+      × (beginning (x .value (callsOf toldI)) 0 5 ≡ 0 ∷ 0 ∷ 0 ∷ 0 ∷ A ∷ []) × (x .value (callsOf toldI) (offset 0) ≡ 9)
+  pub j : Goes x toldJ × (formerNumbers toldJ ≡ 0 ∷ 0 ∷ [])

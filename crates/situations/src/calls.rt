@@ -180,6 +180,13 @@ pub fn commit(r: Run, t: usize, want: u16) -> Run {
     q
 }
 
+// A commit that is granted: the octet of those that it makes stale, beside their number.
+pub fn granted(r: Run, t: usize, octet: u8, number: u32) -> Run {
+    let mut q = commit(r, t, octet as u16);
+    q.ok = q.ok & (store::made_stale(octet) == number);
+    q
+}
+
 // All was as expected so far. From place p on file 0 has w, x, y and z, and the committed offset of descriptor 0 is n.
 pub fn stands(r: Run, p: usize, w: u8, x: u8, y: u8, z: u8, n: u16) -> bool
     requires { ⌜ p < 8 ⌝ }

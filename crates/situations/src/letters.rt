@@ -6,6 +6,7 @@ use crate::calls::SETTLED_PAST_END;
 use crate::calls::STALE;
 use crate::calls::WRITE_PAST_END;
 use crate::calls::commit;
+use crate::calls::granted;
 use crate::calls::pointer;
 use crate::calls::read;
 use crate::calls::seek;
@@ -19,8 +20,8 @@ pub fn a() -> bool {
     let r = start();
     let r = write(r, 0, 0, 2, b'A', 0);
     let r = write(r, 1, 0, 2, b'C', 0);
-    let r = commit(r, 1, 0);
-    let r = commit(r, 0, 0);
+    let r = granted(r, 1, 0, 0);
+    let r = granted(r, 0, 0, 0);
     stands(r, 0, b'C', b'D', b'A', b'B', 4)
 }
 
@@ -29,7 +30,7 @@ pub fn b() -> bool {
     let r = start();
     let r = pointer(r, 0, 0, 0);
     let r = write(r, 1, 0, 1, b'A', 0);
-    let r = commit(r, 1, 1);
+    let r = granted(r, 1, 1, 1);
     let r = commit(r, 0, STALE);
     stands(r, 0, b'A', 0, 0, 0, 1)
 }
@@ -43,9 +44,9 @@ pub fn c() -> bool {
     let r = read(r, 0, 0, 2, b'A', b'B', b'.', 2);
     let r = seek(r, 1, 8, 0, 0);
     let r = write(r, 1, 8, 2, b'X', 0);
-    let r = commit(r, 1, 0);
+    let r = granted(r, 1, 0, 0);
     let set = stands(r, 0, b'X', b'Y', 0, 0, 0);
-    let r = commit(r, 0, 0);
+    let r = granted(r, 0, 0, 0);
     set & stands(r, 0, b'A', b'B', 0, 0, 2)
 }
 
@@ -63,12 +64,12 @@ fn reads_three(v: usize) -> Run {
 // As c, but T0 reads 3 and T1 writes Z at 2: T1 answers 1, T0 13. With Z at 3: 0, and T0 passes.
 pub fn d() -> bool {
     let r = reads_three(2);
-    let r = commit(r, 1, 1);
+    let r = granted(r, 1, 1, 1);
     let r = commit(r, 0, STALE);
     let at_two = stands(r, 0, 0, 0, b'Z', 0, 0);
     let r = reads_three(3);
-    let r = commit(r, 1, 0);
-    let r = commit(r, 0, 0);
+    let r = granted(r, 1, 0, 0);
+    let r = granted(r, 0, 0, 0);
     at_two & stands(r, 0, b'A', b'B', 0, b'Z', 3)
 }
 
@@ -79,7 +80,7 @@ pub fn e() -> bool {
     let r = read(r, 0, 0, 1, 0, b'.', b'.', 1);
     let r = seek(r, 1, 8, 0, 0);
     let r = write(r, 1, 8, 1, 0, 0);
-    let r = commit(r, 1, 1);
+    let r = granted(r, 1, 1, 1);
     let r = commit(r, 0, STALE);
     stands(r, 0, 0, 0, 0, 0, 0)
 }
@@ -91,7 +92,7 @@ pub fn f() -> bool {
     let r = seek(r, 0, 0, 0, 0);
     let r = read(r, 0, 0, 1, b'A', b'.', b'.', 1);
     let r = seek(r, 1, 0, 5, 0);
-    let r = commit(r, 1, 1);
+    let r = granted(r, 1, 1, 1);
     let r = commit(r, 0, STALE);
     stands(r, 0, 0, 0, 0, 0, 5)
 }
@@ -109,13 +110,13 @@ pub fn g() -> bool {
 pub fn h() -> bool {
     let r = start();
     let r = seek(r, 0, 0, 4096, 0);
-    let r = commit(r, 0, 0);
+    let r = granted(r, 0, 0, 0);
     let r = write(r, 1, 0, 1, b'A', 0);
     let r = commit(r, 1, SETTLED_PAST_END);
     let left = stands(r, 0, 0, 0, 0, 0, 4096);
     let r = seek(r, 2, 0, 0, 0);
-    let r = commit(r, 2, 0);
-    let r = commit(r, 1, 0);
+    let r = granted(r, 2, 0, 0);
+    let r = granted(r, 1, 0, 0);
     left & stands(r, 0, b'A', 0, 0, 0, 1)
 }
 
@@ -126,8 +127,8 @@ pub fn i() -> bool {
     let r = seek(r, 0, 0, 9, 0);
     let r = pointer(r, 0, 0, 9);
     let r = seek(r, 1, 0, 4, 0);
-    let r = commit(r, 1, 0);
-    let r = commit(r, 0, 0);
+    let r = granted(r, 1, 0, 0);
+    let r = granted(r, 0, 0, 0);
     stands(r, 2, 0, 0, b'A', 0, 9)
 }
 
@@ -136,8 +137,8 @@ pub fn j() -> bool {
     let r = start();
     let r = pointer(r, 0, 0, 0);
     let r = pointer(r, 1, 0, 0);
-    let r = commit(r, 0, 0);
-    let r = commit(r, 1, 0);
+    let r = granted(r, 0, 0, 0);
+    let r = granted(r, 1, 0, 0);
     stands(r, 0, 0, 0, 0, 0, 0)
 }
 

@@ -1,7 +1,7 @@
 -- The situations of paper 01 hold of the rules: each is computed.
 use mathlib.Core.Path.{refl}
 use Rattle.rules.specs.Situations.{Starred, toldA, toldB, toldC, toldD, toldE, toldF, toldG, toldH, toldI, toldJ, toldK, toldL}
-use Rattle.rules.specs.Corners.{Corners, toldStaleFirst, toldRefusedSettling, toldUnsighted, toldMoved, toldMovedStale, toldNeighbour, toldNeighbourSet, toldReadNone, toldReadNoneStale, toldReadNoneSets, toldOnlyLooked, mixed, dirtyAfter, readBeside, toldWriteNone, toldSightedAgain, toldStillStale, toldBegunAgain, toldStaleEnded, toldJustBegun, toldNumbers, toldArguments, toldLog, toldOverlap, toldTwoAppends, toldOtherFile, toldKnown, toldPlaced, toldMovedTwice, toldLastPlace, toldUntouched, toldPlacedUnsighted, toldFifteen, toldFifteenSet, toldInOrder, toldKnownOnce, toldSettledAlone, toldPlaces, toldNoPlaceYet}
+use Rattle.rules.specs.Corners.{Corners, toldStaleFirst, toldRefusedSettling, toldUnsighted, toldMoved, toldMovedStale, toldNeighbour, toldNeighbourSet, toldReadNone, toldReadNoneStale, toldReadNoneSets, toldOnlyLooked, mixed, dirtyAfter, readBeside, toldWriteNone, toldSightedAgain, toldStillStale, toldBegunAgain, toldStaleEnded, toldJustBegun, toldNumbers, toldArguments, toldLog, toldOverlap, toldTwoAppends, toldOtherFile, toldKnown, toldPlaced, toldMovedTwice, toldLastPlace, toldUntouched, toldPlacedUnsighted, toldFifteen, toldFifteenSet, toldInOrder, toldKnownOnce, toldSettledAlone, toldPlaces, toldNoPlaceYet, toldOctet}
 use Rattle.rules.specs.Setup.{onPlain}
 use Rattle.rules.proofs.Cases.Opened.{opened}
 
@@ -10,21 +10,21 @@ pub starred : Starred onPlain
 unfolding opened toldA toldB toldC toldD toldE toldF toldG toldH toldI toldJ
 starred =
     record {
-      a = (refl, refl, refl);
-      b = refl;
-      c = (refl, refl);
-      d = (refl, refl);
-      e = refl;
-      f = refl;
+      a = (refl, refl, refl, refl);
+      b = (refl, refl);
+      c = (refl, refl, refl);
+      d = ((refl, refl), (refl, refl));
+      e = (refl, refl);
+      f = (refl, refl);
       g = (refl, refl);
-      h = (refl, refl, refl);
-      i = (refl, refl, refl);
-      j = refl;
+      h = (refl, refl, refl, refl);
+      i = (refl, refl, refl, refl);
+      j = (refl, refl);
     }
 
 -- Situations k and l, and corners of the text.
 pub corners : Corners onPlain
-unfolding opened toldK toldL toldStaleFirst toldRefusedSettling toldUnsighted toldMoved toldMovedStale toldNeighbour toldNeighbourSet toldReadNone toldReadNoneStale toldReadNoneSets toldOnlyLooked mixed dirtyAfter readBeside toldWriteNone toldSightedAgain toldStillStale toldBegunAgain toldStaleEnded toldJustBegun toldNumbers toldArguments toldLog toldOverlap toldTwoAppends toldOtherFile toldKnown toldPlaced toldMovedTwice toldLastPlace toldUntouched toldPlacedUnsighted toldFifteen toldFifteenSet toldInOrder toldKnownOnce toldSettledAlone toldPlaces toldNoPlaceYet
+unfolding opened toldK toldL toldStaleFirst toldRefusedSettling toldUnsighted toldMoved toldMovedStale toldNeighbour toldNeighbourSet toldReadNone toldReadNoneStale toldReadNoneSets toldOnlyLooked mixed dirtyAfter readBeside toldWriteNone toldSightedAgain toldStillStale toldBegunAgain toldStaleEnded toldJustBegun toldNumbers toldArguments toldLog toldOverlap toldTwoAppends toldOtherFile toldKnown toldPlaced toldMovedTwice toldLastPlace toldUntouched toldPlacedUnsighted toldFifteen toldFifteenSet toldInOrder toldKnownOnce toldSettledAlone toldPlaces toldNoPlaceYet toldOctet
 corners =
     record {
       k = refl;
@@ -67,4 +67,5 @@ corners =
       settledAlone = (refl, refl, refl);
       listedPlaces = (refl, refl);
       noPlaceYet = refl;
+      octet = (refl, refl);
     }

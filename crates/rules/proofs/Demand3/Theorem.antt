@@ -8,6 +8,9 @@ use lib.Dec.{leb, eqb}
 use lib.ListN.{length, getD}
 use native.Mathlib.Omega.{arith}
 use Prim.Native.Nat.{ℕ, zero, suc, _≤_, _<_}
+use Rattle.octets.specs.Bits.{bitsOf}
+use Rattle.octets.specs.Marks.{contains}
+use Rattle.octets.proofs.SetLaws.{bits-lt, contains-bits}
 use Rattle.record.specs.State.{transaction}
 use Rattle.record.specs.Paper.{Said, plain, pointer, given, granted, pairs, refused, said}
 use Rattle.ranges.specs.Ranges.{admission, admissionOfFresh}
@@ -104,40 +107,40 @@ open-same m p e t l =
     ∙ ap (λ (s : Sighted). taken (s .seats t)) e
     ∙ slot-taken p (p .slots t)
 
--- The number of a granted Commit on the plain machine.
-numberOf : Said → ℕ
-numberOf plain = 0
-numberOf (pointer o) = 0
-numberOf (given n) = 0
-numberOf (granted n) = n
-numberOf (pairs n) = 0
-numberOf (refused n) = 0
+-- The octet of a granted Commit on the plain machine.
+octetIn : Said → ℕ
+octetIn plain = 0
+octetIn (pointer o) = 0
+octetIn (given n) = 0
+octetIn (granted n) = n
+octetIn (pairs n) = 0
+octetIn (refused n) = 0
 
-pub record Counted (p : Plain) (τ : PlainTurn) : Type 0 where
-  pub count : (n : ℕ) → τ .reply .answer ≡ granted n → n ≡ becameStale p (τ .after) 8
+pub record Told (t : ℕ) (p : Plain) (τ : PlainTurn) : Type 0 where
+  pub octet : (n : ℕ) → τ .reply .answer ≡ granted n → n ≡ bitsOf (becameStale t p (τ .after)) 8
 
-not-counted : (p : Plain) (τ : PlainTurn) (k : ℕ) → τ .reply .answer ≡ refused k → Counted p τ
-not-counted p τ k e = record { count = λ n g. absurd (answer-not-refused (granted n) k tt (sym g ∙ e)) }
+not-told : (t : ℕ) (p : Plain) (τ : PlainTurn) (k : ℕ) → τ .reply .answer ≡ refused k → Told t p τ
+not-told t p τ k e = record { octet = λ n g. absurd (answer-not-refused (granted n) k tt (sym g ∙ e)) }
 
-counted-decided : (t : ℕ) (r : Running) (p : Plain) (stale placed : Bool) → Counted p (plainCommitted t r p (commitRefusal stale placed))
-unfolding plainCommitted commitRefusal answering numberOf
-counted-decided t r p true placed = not-counted p _ 13 refl
-counted-decided t r p false true = record { count = λ n g. sym (ap numberOf g) }
-counted-decided t r p false false = not-counted p _ 12 refl
+told-decided : (t : ℕ) (r : Running) (p : Plain) (stale placed : Bool) → Told t p (plainCommitted t r p (commitRefusal stale placed))
+unfolding plainCommitted commitRefusal answering octetIn
+told-decided t r p true placed = not-told t p _ 13 refl
+told-decided t r p false true = record { octet = λ n g. sym (ap octetIn g) }
+told-decided t r p false false = not-told t p _ 12 refl
 
-counted-slot : (t : ℕ) (s : Slot) (p : Plain) → Counted p (plainCommit t s p)
+told-slot : (t : ℕ) (s : Slot) (p : Plain) → Told t p (plainCommit t s p)
 unfolding plainCommit turnedDown
-counted-slot t closed p = not-counted p _ 4 refl
-counted-slot t (running r) p = counted-decided t r p _ _
+told-slot t closed p = not-told t p _ 4 refl
+told-slot t (running r) p = told-decided t r p _ _
 
-counted : (b : Bool) (t : ℕ) (p : Plain) → Counted p (cond b (plainCommit t (p .slots t) p) (turnedDown 3 [] p))
+told : (b : Bool) (t : ℕ) (p : Plain) → Told t p (cond b (plainCommit t (p .slots t) p) (turnedDown 3 [] p))
 unfolding turnedDown
-counted true t p = counted-slot t (p .slots t) p
-counted false t p = not-counted p _ 3 refl
+told true t p = told-slot t (p .slots t) p
+told false t p = not-told t p _ 3 refl
 
-counted-commit : (t : ℕ) (p : Plain) → Counted p (plainCall (commit t) p)
+told-commit : (t : ℕ) (p : Plain) → Told t p (plainCall (commit t) p)
 unfolding plainCall numbered
-counted-commit t p = counted (leb t 7) t p
+told-commit t p = told (leb t 7) t p
 
 -- Demand 3 from a sound store that stands for the store without buffers with these committed values and nothing open.
 pub holds-from : (F : ℕ → ℕ) (v : Values) (m₀ : Machine) → Sound m₀ → view m₀ ≡ startSighted F v
@@ -155,7 +158,11 @@ holds-from F v m₀ sound start cs =
       replies = a .replies ∙ ap (sightedReplies cs) start ∙ replies-same F v cs;
       openness = open-same m p same;
       staleness = λ t r l o. subst⁻¹ (λ (x : Reply). (x .answer ≡ refused 13 → ⊥) ↔ (firstList r ≡ secondList p r)) (turn (commit t)) (store-commit F v cs t r o .passes);
-      number = λ t n g. counted-commit t p .count n (sym (ap (λ (x : Reply). x .answer) (turn (commit t) ∙ ap (λ (τ : SightedTurn). τ .reply) (turn-same F v cs (commit t)))) ∙ g);
+      octet =
+          λ t n g.
+          let b = becameStale t p (plainCall (commit t) p .after) in
+          let e = told-commit t p .octet n (sym (ap (λ (x : Reply). x .answer) (turn (commit t) ∙ ap (λ (τ : SightedTurn). τ .reply) (turn-same F v cs (commit t)))) ∙ g) in
+          (omega (arith, bits-lt b 8), λ u l. ap (λ (k : ℕ). contains k u) e ∙ contains-bits b 8 u l);
       again = again-same F v cs;
       left = ap (λ (s : Sighted). s .value) same ∙ sym (ap (λ (c : Committed). c .value) (again-left F v cs));
       ranges = λ c. never-early c m (a .sound);

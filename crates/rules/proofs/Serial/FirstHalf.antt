@@ -5,6 +5,7 @@ use mathlib.Core.List.{List, [], _∷_, _++_}
 use mathlib.Core.Path.{_≡_, refl, sym, ap, ap₂, _∙_, fun-ext}
 use lib.Dec.{eqb, leb}
 use Prim.Native.Nat.{ℕ, zero, suc, _+_}
+use Rattle.octets.specs.Bits.{bitsOf}
 use Rattle.record.specs.Paper.{Said, plain, granted, refused}
 use Rattle.rules.specs.Items.{Item, Values, byte, offset, result, asked}
 use Rattle.rules.specs.Transactions.{Txn, empty, put}
@@ -13,9 +14,9 @@ use Rattle.rules.specs.Steps.{Stepped, refuse, accept, step}
 use Rattle.rules.specs.Commits.{settings, fits, landed, commitRefusal}
 use Rattle.rules.specs.Messages.{Call, begin, on, commit, abort, Reply}
 use Rattle.rules.specs.Sightings.{sameEntries, entries}
-use Rattle.rules.specs.Plain.{Running, Slot, closed, running, Plain, startPlain, ops, firstList, secondList, isStale, PlainTurn, turnedDown, withSlot, answering, plainBegin, plainStepped, plainOn, committing, grant, staleSlot, becameStale, plainCommitted, plainCommit, plainAbort, numbered, plainCall, plainAfter, plainReplies, plainPlaces}
+use Rattle.rules.specs.Plain.{Running, Slot, closed, running, Plain, startPlain, ops, firstList, secondList, isStale, PlainTurn, turnedDown, withSlot, answering, plainBegin, plainStepped, plainOn, committing, grant, equalSlot, staleSlot, becameStale, plainCommitted, plainCommit, plainAbort, numbered, plainCall, plainAfter, plainReplies, plainPlaces}
 use Rattle.rules.specs.Lone.{lone}
-use Rattle.rules.proofs.Serial.Sighted.{Held, Seat, vacant, held, Sighted, startSighted, sighted, among, hit, markAll, SightedTurn, turnedAway, withSeat, telling, sightedBegin, sightedStepped, sightedOn, touch, newlyStale, countNew, granting, sightedCommitted, sightedCommit, sightedAbort, seated, sightedCall, sightedAfter, sightedReplies, sightedPlaces}
+use Rattle.rules.proofs.Serial.Sighted.{Held, Seat, vacant, held, Sighted, startSighted, sighted, among, hit, markAll, SightedTurn, turnedAway, withSeat, telling, sightedBegin, sightedStepped, sightedOn, touch, newlyStale, granting, sightedCommitted, sightedCommit, sightedAbort, seated, sightedCall, sightedAfter, sightedReplies, sightedPlaces}
 use Rattle.rules.proofs.Serial.Programs.{among-append}
 use Rattle.rules.proofs.Serial.Lists.{items, current, current-entries, current-append, anyTouched, hit-is, markAll-at, current-after}
 use Rattle.rules.proofs.Serial.Sound.{Sound, seen-old, lists-same, sound-more, sound-granted, items-more, extended}
@@ -97,33 +98,30 @@ module _ (t : ℕ) (r : Running) (p : Plain) where
   newly-is :
       (s : Slot)
       → SoundSlot (p .fileOf) (p .committed) (p .grants) s
-      → newlyStale (settings (p .fileOf) (p .committed .value) (r .txn)) (seatOf p s)
-      ≡ (not (staleSlot p s) && staleSlot (grant t r p) s)
-  unfolding newlyStale seatOf SoundSlot staleSlot heldOf
+      → newlyStale (settings (p .fileOf) (p .committed .value) (r .txn)) (seatOf p s) ≡ (equalSlot p s && staleSlot (grant t r p) s)
+  unfolding newlyStale seatOf SoundSlot equalSlot staleSlot isStale heldOf
   newly-is closed h = refl
   newly-is (running q) h =
-      newly (isStale p q) (hit (settings (p .fileOf) (p .committed .value) (r .txn)) (heldOf p q))
-      ∙ ap (λ (b : Bool). not (isStale p q) && b) (stale-after q h)
+      newly (sameEntries (firstList q) (secondList p q)) (hit (settings (p .fileOf) (p .committed .value) (r .txn)) (heldOf p q))
+      ∙ ap (λ (b : Bool). sameEntries (firstList q) (secondList p q) && b) (stale-after q h)
     where
-      newly : (a b : Bool) → (not a && b) ≡ (not a && (a || b))
+      newly : (a b : Bool) → (not (not a) && b) ≡ (a && (not a || b))
       newly true b = refl
       newly false b = refl
 
-  count-is :
-      (seats : ℕ → Seat) (slots : ℕ → Slot)
-      → ((u : ℕ) → seats u ≡ seatOf p (slots u))
-      → ((u : ℕ) → SoundSlot (p .fileOf) (p .committed) (p .grants) (slots u))
-      → grant t r p .slots ≡ slots
-      → (n : ℕ)
-      → countNew (settings (p .fileOf) (p .committed .value) (r .txn)) seats n ≡ becameStale p (grant t r p) n
-  unfolding countNew becameStale
-  count-is seats slots e h k zero = refl
-  count-is seats slots e h k (suc n) =
-      ap₂ (λ (a : ℕ) (b : Bool). a + cond b 1 0)
-      (count-is seats slots e h k n)
-      (ap (newlyStale (settings (p .fileOf) (p .committed .value) (r .txn))) (e n)
-      ∙ newly-is (slots n) (h n)
-      ∙ ap (λ (f : ℕ → Slot). not (staleSlot p (f n)) && staleSlot (grant t r p) (f n)) (sym k))
+  -- Those that the grant makes stale.
+  became-is :
+      ((u : ℕ) → SoundSlot (p .fileOf) (p .committed) (p .grants) (p .slots u))
+      → (u : ℕ)
+      → newlyStale (settings (p .fileOf) (p .committed .value) (r .txn)) (put t vacant (λ w. seatOf p (p .slots w)) u) ≡ becameStale t p (grant t r p) u
+  unfolding newlyStale becameStale put grant withSlot staleSlot
+  became-is h u = pick (eqb u t)
+    where
+      pick : (b : Bool)
+          → newlyStale (settings (p .fileOf) (p .committed .value) (r .txn)) (cond b vacant (seatOf p (p .slots u)))
+          ≡ (not b && equalSlot p (p .slots u) && staleSlot (grant t r p) (cond b closed (p .slots u)))
+      pick true = refl
+      pick false = newly-is (p .slots u) (h u)
 
 -- The store of a machine with another slot.
 seat-slot : (t : ℕ) (s : Slot) (p : Plain) (z : Slot) → seatOf p z ≡ seatOf (withSlot t s p) z
@@ -206,7 +204,7 @@ module _ (p : Plain) (g : Good p) where
   same-grant :
       (t : ℕ) (r : Running)
       → granting t (settings (p .fileOf) (p .committed .value) (r .txn)) (abs p)
-      ≡ absTurn (answering (granted (becameStale p (grant t r p) 8)) (grant t r p))
+      ≡ absTurn (answering (granted (bitsOf (becameStale t p (grant t r p)) 8)) (grant t r p))
   unfolding granting absTurn answering abs grant committing seatOf SoundSlot withSlot
   same-grant t r =
       let ss = settings (p .fileOf) (p .committed .value) (r .txn) in
@@ -216,12 +214,12 @@ module _ (p : Plain) (g : Good p) where
       let seats : (u : ℕ) → put t vacant (λ w. seatOf p (p .slots w)) u ≡ seatOf p (others u) =
       put-map (seatOf p) t closed (p .slots) in
       ap₂
-      (λ (n : ℕ) (f : ℕ → Seat).
+      (λ (b : ℕ → Bool) (f : ℕ → Seat).
       record {
-        reply = record { answer = granted n; buffer = [] };
+        reply = record { answer = granted (bitsOf b 8); buffer = [] };
         after = record { fileOf = p .fileOf; value = landed ss (p .committed .value); seats = f };
       })
-      (count-is t r p (put t vacant (λ w. seatOf p (p .slots w))) others seats sound refl 8)
+      (fun-ext (became-is t r p (g .sound)))
       (fun-ext (λ u. ap (touch ss) (seats u) ∙ touch-is t r p (others u) (sound u)))
 
   same-committed :

@@ -7,6 +7,8 @@ use borrow.Author.Tests.{eqb-true, eq-eqb}
 use lib.Dec.{leb, eqb}
 use native.Mathlib.Omega.{arith}
 use Prim.Native.Nat.{ℕ, zero, suc, _+_}
+use Rattle.octets.specs.Bits.{bitsOf}
+use Rattle.octets.proofs.SetLaws.{bits-none}
 use Rattle.record.specs.Paper.{Said, plain, granted}
 use Rattle.rules.specs.Messages.{Op, bufferOf, Call, begin, on, commit, Reply, says}
 use Rattle.rules.specs.Items.{result, asked}
@@ -15,7 +17,7 @@ use Rattle.rules.specs.Steps.{Stepped, refuse, accept, step}
 use Rattle.rules.specs.Commits.{fits, commitRefusal}
 use Rattle.rules.specs.Sightings.{Entry, Committed, entries}
 use Rattle.rules.specs.Lone.{Lone, stopped, prepend, goOn, lone}
-use Rattle.rules.specs.Plain.{Accepted, Running, justBegun, afterCall, Slot, closed, running, Plain, ops, firstList, secondList, isStale, PlainTurn, turnedDown, withSlot, withGrant, answering, plainBegin, plainStepped, plainOn, committing, grant, staleSlot, becameStale, plainCommitted, plainCommit, numbered, plainCall, plainAfter, plainReplies}
+use Rattle.rules.specs.Plain.{Accepted, Running, justBegun, afterCall, Slot, closed, running, Plain, ops, firstList, secondList, isStale, PlainTurn, turnedDown, withSlot, withGrant, answering, plainBegin, plainStepped, plainOn, committing, grant, equalSlot, staleSlot, becameStale, plainCommitted, plainCommit, numbered, plainCall, plainAfter, plainReplies}
 use Rattle.rules.specs.Grants.{Grant, againOf, rerun, repliesOf, sameReplies}
 use Rattle.rules.proofs.Serial.Alone.{again, serially, SameAgain, AllSame}
 use Rattle.rules.proofs.Serial.Commits.{stale-exactly, commit-turn}
@@ -155,12 +157,14 @@ abbrev pub Idle : Plain → Type 0
 Idle p = (u : ℕ) → p .slots u ≡ closed
 
 -- Nobody becomes stale where nobody is open.
-nobody : (p q : Plain) → Idle q → (n : ℕ) → becameStale p q n ≡ 0
+nobody : (t : ℕ) (p q : Plain) → Idle q → bitsOf (becameStale t p q) 8 ≡ 0
 unfolding becameStale staleSlot
-nobody p q none zero = refl
-nobody p q none (suc u) =
-    let e : _≡_ {A = ℕ} (cond (not (staleSlot p (q .slots u)) && staleSlot q (q .slots u)) 1 0) 0 = rw (none u) refl in
-    let f = nobody p q none u in omega arith
+nobody t p q none = bits-none (becameStale t p q) 8 (λ u. rw (none u) (last (not (eqb u t)) (equalSlot p (p .slots u))))
+  where
+    last : (a b : Bool) → (a && b && false) ≡ false
+    last true true = refl
+    last true false = refl
+    last false b = refl
 
 put-closed : (t : ℕ) (s : Slot) (f : ℕ → Slot) → ((u : ℕ) → f u ≡ closed) → (u : ℕ) → put t closed (put t s f) u ≡ closed
 unfolding put
@@ -205,7 +209,7 @@ module _ (t : ℕ) (p : Plain) (r : Running) where
       granting-turn : plainCommitted t r ready (commitRefusal false true) ≡ record { reply = says (granted 0); after = grant t r ready }
       granting-turn =
           unfold plainCommitted commitRefusal answering in
-          ap (λ (n : ℕ). record { reply = says (granted n); after = grant t r ready }) (nobody ready (grant t r ready) (idle-after none) 8)
+          ap (λ (n : ℕ). record { reply = says (granted n); after = grant t r ready }) (nobody t ready (grant t r ready) (idle-after none))
 
 -- The replies, and what is left committed.
 pub record Done (g : Grant) (p : Plain) : Type 0 where

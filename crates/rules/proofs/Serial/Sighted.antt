@@ -5,7 +5,8 @@ use Rattle.rules.specs.Coverage.{placesOf}
 use mathlib.Core.Bool.{Bool, true, false, cond, not, _&&_, _||_}
 use mathlib.Core.List.{List, [], _∷_, _++_}
 use lib.Dec.{leb, eqb}
-use Prim.Native.Nat.{ℕ, zero, suc, _+_}
+use Prim.Native.Nat.{ℕ, zero, suc}
+use Rattle.octets.specs.Bits.{bitsOf}
 use Rattle.record.specs.declared.outcomes.Refusal.the-variants.{Stale}
 use Rattle.record.specs.Paper.{number, Said, plain, granted, refused}
 use Rattle.rules.specs.Items.{Item, byte, offset, same, Values, Prog, result, asked}
@@ -91,16 +92,12 @@ unfoldable pub newlyStale : List Setting → Seat → Bool
 newlyStale ss vacant = false
 newlyStale ss (held h) = not (h .stale) && hit ss h
 
-unfoldable pub countNew : List Setting → (ℕ → Seat) → ℕ → ℕ
-countNew ss seats zero = 0
-countNew ss seats (suc u) = countNew ss seats u + cond (newlyStale ss (seats u)) 1 0
-
 -- Transaction t ends with these settings; every other open one that has sighted one of them is stale.
 unfoldable pub granting : ℕ → List Setting → Sighted → SightedTurn
 granting t ss s =
     let others = put t vacant (s .seats) in
     record {
-      reply = record { answer = granted (countNew ss others 8); buffer = [] };
+      reply = record { answer = granted (bitsOf (λ u. newlyStale ss (others u)) 8); buffer = [] };
       after = record { fileOf = s .fileOf; value = landed ss (s .value); seats = λ u. touch ss (others u) };
     }
 

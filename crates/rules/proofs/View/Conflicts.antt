@@ -1,19 +1,20 @@
--- Who has sighted what a commit sets: the flags and the number of a granted Commit.
+-- Who has sighted what a commit sets: the flags and the octet of a granted Commit.
 use mathlib.Core.Bool.{Bool, true, false, cond, not, _&&_, _||_}
 use mathlib.Core.List.{List, [], _∷_}
 use mathlib.Core.Path.{_≡_, refl, ap, ap₂}
 use lib.Dec.{eqb}
-use Prim.Native.Nat.{ℕ, zero, suc, _+_, _≤_, _<_}
+use Prim.Native.Nat.{ℕ, _<_}
 use native.Mathlib.Omega.{arith}
 use borrow.Author.Tests.{le-leb}
 use Rattle.record.specs.State.{transaction}
-use Rattle.ranges.specs.Below.{sum}
+use Rattle.octets.specs.Bits.{bitsOf}
+use Rattle.octets.proofs.SetLaws.{bits-same}
 use Rattle.rules.specs.Items.{Item, byte, offset}
 use Rattle.rules.specs.Transactions.{put}
 use Rattle.rules.specs.Commits.{Setting}
 use Rattle.rules.specs.Machine.{Machine, txnOf}
 use Rattle.rules.specs.Calls.{hasSighted, conflicts, becomesStale}
-use Rattle.rules.proofs.Serial.Sighted.{vacant, held, sighted, hit, newlyStale, countNew}
+use Rattle.rules.proofs.Serial.Sighted.{vacant, held, sighted, hit, newlyStale}
 use Rattle.rules.proofs.View.Shape.{heldBy, seat}
 
 module _ (m : Machine) (u : ℕ) where
@@ -37,8 +38,5 @@ module _ (m : Machine) (t : ℕ) (ss : List Setting) where
       pick false true = refl
       pick false false = refl
 
-  pub count-same : (n : ℕ) → n ≤ 8 → sum (λ u. cond (becomesStale t (m .marks) ss (m .store) u) 1 0) n ≡ countNew ss (put t vacant (seat m)) n
-  unfolding sum countNew
-  count-same zero l = refl
-  count-same (suc n) l =
-      ap₂ _+_ (count-same n (omega arith)) (ap (λ (b : Bool). cond b 1 0) (becomes-stale n (omega arith)))
+  pub octet-same : bitsOf (becomesStale t (m .marks) ss (m .store)) 8 ≡ bitsOf (λ u. newlyStale ss (put t vacant (seat m) u)) 8
+  octet-same = bits-same (becomesStale t (m .marks) ss (m .store)) (λ u. newlyStale ss (put t vacant (seat m) u)) 8 becomes-stale

@@ -1,4 +1,4 @@
--- A granted Commit: the number, the landed files and offsets, the flags of the others, and the store stays sound.
+-- A granted Commit: the octet, the landed files and offsets, the flags of the others, and the store stays sound.
 use mathlib.Core.Bool.{Bool, true, false, cond, not, _&&_, _||_}
 use mathlib.Core.List.{List, []}
 use mathlib.Core.Logic.{_⊎_, inl, inr}
@@ -24,7 +24,7 @@ use Rattle.rules.proofs.View.Renewed.{ended-bare, Alike, Carried, same-
 use Rattle.rules.proofs.View.Endings.{ending, staleAs, seat-in, seat-out, ending-sound, ending-seat}
 use Rattle.rules.proofs.View.SettingsIn.{AllIn}
 use Rattle.rules.proofs.View.Landing.{length-files, length-offsets, limit-landed, all-landed}
-use Rattle.rules.proofs.View.Conflicts.{conflicts-hit, count-same}
+use Rattle.rules.proofs.View.Conflicts.{conflicts-hit, octet-same}
 
 module _ (m : Machine) (t : ℕ) (ss : List Setting) where
   ts : List Transaction
@@ -100,4 +100,4 @@ module _ (m : Machine) (t : ℕ) (ss : List Setting) where
 
   pub granted-reply : commitGranted t ss m .reply ≡ granting t ss (view m) .reply
   unfolding commitGranted granting view
-  granted-reply = ap (λ (n : ℕ). record { answer = granted n; buffer = [] }) (count-same m t ss 8 (omega arith))
+  granted-reply = ap (λ (n : ℕ). record { answer = granted n; buffer = [] }) (octet-same m t ss)

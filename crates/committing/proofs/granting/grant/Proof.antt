@@ -1,24 +1,27 @@
 -- `committing::granting::grant` meets its contract. The loop changes the transactions alone, and has passed the first u of them. Assumes
 -- nothing.
 use native.Mathlib.Omega.{arith}
-use mathlib.Core.Path.{_≡_, refl, ap}
-use lib.ListN.{set}
+use mathlib.Core.Bool.{true}
+use mathlib.Core.Logic.{⊎-elim}
+use mathlib.Core.Path.{_≡_, refl, sym, ap, _∙_}
+use lib.ListN.{length, set, length-set}
 use Prim.Native.Nat.{_-_}
-use Rattle.record.specs.State.{withTransactions}
+use Rattle.octets.proofs.SetLaws.{bits-lt}
+use Rattle.record.specs.State.{withStale, withTransactions}
 use Rattle.rules.specs.Machine.{Machine, lent}
 use Rattle.laws.proofs.Owned.{shaped}
-use Rattle.landing.proofs.StaleLaws.{nth, newly-le, Passed, passed-none, passed-more, passed-all}
+use Rattle.landing.proofs.StaleLaws.{nth, turned, Passed, passed-none, passed-stale, passed-kept, passed-all}
 use Rattle.committing.proofs.CommitRules.{commit-granted, granted-meets}
 use borrow.Author.Needs.{needs}
 use Rattle.committing.proofs.granting.grant.Statement.{statement}
 use Rattle.committing.proofs.granting.grant.Tie as tie
 
 abbrev Inv-loop : tie.InvT-loop
-Inv-loop journal files logs marks t s₀ x seen count₀ u₀ s count u =
-    (s ≡ withTransactions (s .transactions) s₀) × Passed (s₀ .transactions) t seen (s .transactions) count u
+Inv-loop journal files logs marks t s₀ seen set stale₀ u₀ s stale u =
+    (s ≡ withTransactions (s .transactions) s₀) × Passed (s₀ .transactions) seen set (s .transactions) stale u
 
 abbrev μ-loop : tie.MeasureT-loop
-μ-loop journal files logs marks t s₀ x seen count₀ u₀ s count u = 8 - u
+μ-loop journal files logs marks t s₀ seen set stale₀ u₀ s stale u = 8 - u
 
 -- What the caller lent.
 abbrev machine : tie.Start Inv-loop μ-loop → Machine
@@ -39,8 +42,24 @@ offsets-after-requires c κs = c .before .before .before .before .before .before
 unmark-requires : tie.Need-unmark-requires Inv-loop μ-loop
 unmark-requires c κs = omega (arith, c .before .before .before .before .before .before .before .before .before .before .before .before .before .before .before .before .pre .0 .small)
 
+offsets-set-requires : tie.Need-offsets-set-requires Inv-loop μ-loop
+offsets-set-requires c κs = search needs
+
+ended-requires : tie.Need-ended-requires Inv-loop μ-loop
+ended-requires c κs = search needs
+
+mul-t16 : tie.Need-mul-t16 Inv-loop μ-loop
+mul-t16 c = omega (arith, c .before .before .before .before .before .before .before .before .before .before .before .before .before .before .before .before .before .before .before .before .before .pre .0 .small)
+
+element-set-from-s : tie.Need-element-set-from-s Inv-loop μ-loop
+element-set-from-s c = c .before .before .before .before .before .before .before .before .before .before .before .before .before .before .before .before .before .before .before .before .before .pre .0 .small
+
+-- The eight transactions, as they were lent.
+eight : (c : tie.Start Inv-loop μ-loop) → length (c .args .t1 .transactions) ≡ 8
+eight c = shaped (c .args .t1) _ (c .good .0) .transactions
+
 loop-holds : tie.Need-loop-holds Inv-loop μ-loop
-loop-holds c = (refl, passed-none _ _ _ (shaped (c .before .before .before .before .before .before .before .before .before .before .before .before .before .before .before .before .before .before .before .args .t1) _ (c .before .before .before .before .before .before .before .before .before .before .before .before .before .before .before .before .before .before .before .good .0) .transactions))
+loop-holds c = (refl, passed-none _ _ _ (length-set (c .before .before .before .before .before .before .before .before .before .before .before .before .before .before .before .before .before .before .before .before .before .args .t1 .transactions) (c .before .before .before .before .before .before .before .before .before .before .before .before .before .before .before .before .before .before .before .before .before .args .t) (c .ended .result) ∙ eight (c .before .before .before .before .before .before .before .before .before .before .before .before .before .before .before .before .before .before .before .before .before)))
 
 mul-y : tie.Need-mul-y Inv-loop μ-loop
 mul-y c = omega (arith, c .loop-test .taken)
@@ -48,39 +67,42 @@ mul-y c = omega (arith, c .loop-test .taken)
 element-copy-out-y : tie.Need-element-copy-out-y Inv-loop μ-loop
 element-copy-out-y c = c .loop-test .taken
 
-is-hit-requires : tie.Need-is-hit-requires Inv-loop μ-loop
-is-hit-requires c κs = c .before .loop-test .taken
+goes-stale-requires : tie.Need-goes-stale-requires Inv-loop μ-loop
+goes-stale-requires c κs = c .before .loop-test .taken
 
-after-commit-requires : tie.Need-after-commit-requires Inv-loop μ-loop
-after-commit-requires c κs = search needs
+mul-y-2 : tie.Need-mul-y-2 Inv-loop μ-loop
+mul-y-2 c = omega (arith, c .before .before .before .loop-test .taken)
 
-mul-t31 : tie.Need-mul-t31 Inv-loop μ-loop
-mul-t31 c = omega (arith, c .before .before .before .loop-test .taken)
+element-set-from-y : tie.Need-element-set-from-y Inv-loop μ-loop
+element-set-from-y c = c .before .before .before .loop-test .taken
 
-element-set-from-s : tie.Need-element-set-from-s Inv-loop μ-loop
-element-set-from-s c = c .before .before .before .loop-test .taken
-
-newly-stale-requires : tie.Need-newly-stale-requires Inv-loop μ-loop
-newly-stale-requires c κs = search needs
-
-add-count : tie.Need-add-count Inv-loop μ-loop
-add-count c =
-    let l = c .before .before .before .before .before .loop in
-    omega (arith, l .inv .1 .few, c .before .before .before .before .loop-test .taken, c .newly-stale .ensures, newly-le (c .before .before .is-hit .result) (nth (l .s .transactions) (l .u)))
+added-requires : tie.Need-added-requires Inv-loop μ-loop
+added-requires c κs = omega (arith, c .before .before .before .loop-test .taken)
 
 add-u : tie.Need-add-u Inv-loop μ-loop
-add-u c = omega (arith, c .before .before .before .before .loop-test .taken)
+add-u c = omega (arith, c .before .before .before .loop-test .taken)
 
 loop-less : tie.Need-loop-less Inv-loop μ-loop
-loop-less c = omega (arith, c .before .before .before .before .loop-test .taken)
+loop-less c = omega (arith, c .before .before .before .loop-test .taken)
 
 loop-again : tie.Need-loop-again Inv-loop μ-loop
 loop-again c =
-    let l = c .before .before .before .before .before .loop in
-    let y = c .before .after-commit in (
-      ap (withTransactions (set (l .s .transactions) (l .u) (y .result))) (l .inv .0),
-      passed-more _ _ _ _ _ _ (l .inv .1) (c .before .before .before .before .loop-test .taken) _ (c .before .before .is-hit .ensures) _ (y .ensures) _ (c .newly-stale .ensures),
-    )
+    let l = c .before .before .before .before .loop in
+    let found = c .before .goes-stale .ensures in
+    let small = c .before .before .before .loop-test .taken in
+    ⊎-elim
+    (λ w. rw (w .2, w .3 ∙ w .1 .ensures) (
+      ap (withTransactions (set (l .s .transactions) (l .u) (withStale true (nth (l .s .transactions) (l .u))))) (l .inv .0),
+      passed-stale _ _ _ _ _ _ (l .inv .1) small _ found (w .0 .taken),
+    ))
+    (λ w. rw (w .1, w .2) (l .inv .0, passed-kept _ _ _ _ _ _ (l .inv .1) small _ found (w .0 .left)))
+    (c .if1 .came)
+
+cast-t42 : tie.Need-cast-t42 Inv-loop μ-loop
+cast-t42 c =
+    let l = c .before .loop in
+    let done = passed-all _ _ _ _ _ _ (l .inv .1) (omega (arith, c .loop-test .left)) in
+    omega (arith, done .0, bits-lt (turned (set (c .before .before .before .before .before .before .before .before .before .before .before .before .before .before .before .before .before .before .before .before .before .before .before .args .t1 .transactions) (c .before .before .before .before .before .before .before .before .before .before .before .before .before .before .before .before .before .before .before .before .before .before .before .args .t) (c .before .before .ended .result)) (c .before .before .before .before .before .before .before .before .before .before .before .before .land-writes .result) (c .before .before .before .offsets-set .result)) 8)
 
 same-length : tie.Need-same-length Inv-loop μ-loop
 same-length c = search needs
@@ -91,11 +113,15 @@ same-length-2 c = search needs
 returns : tie.Need-returns Inv-loop μ-loop
 returns c =
     let l = c .before .loop in
-    let landed = c .before .before .before .before .before .before .before .before .before .before .land-writes in
-    let start = c .before .before .before .before .before .before .before .before .before .before .before .before .before .before .before .before .before .before .before .before .before in
+    let landed = c .before .before .before .before .before .before .before .before .before .before .before .before .land-writes in
+    let start = c .before .before .before .before .before .before .before .before .before .before .before .before .before .before .before .before .before .before .before .before .before .before .before in
+    let m = machine start in
+    let t = start .args .t in
     let done = passed-all _ _ _ _ _ _ (l .inv .1) (omega (arith, c .loop-test .left)) in
-    granted-meets (start .args .t) (machine start) _ (commit-granted (start .args .t) (machine start) (start .pre .2) (start .pre .1))
-    (landed .result) (landed .ensures .1) _ (done .0) _ (done .1) _ (c .before .before .before .before .before .before .offsets-after .ensures) _ (landed .ensures .0) _ (c .before .before .before .before .unmark .ensures) _ (l .inv .0)
+    let ended = c .before .before .ended .ensures in
+    let set = c .before .before .before .offsets-set .ensures in
+    granted-meets t m _ (commit-granted t m (start .pre .2) (start .pre .1)) (eight start) (start .pre .0 .small)
+    (landed .result) (landed .ensures .1) _ (rw (sym ended, sym set) (done .0)) _ (rw (sym ended, sym set) (done .1)) _ (c .before .before .before .before .before .before .before .before .offsets-after .ensures) _ (landed .ensures .0) _ (c .before .before .before .before .before .before .unmark .ensures) _ (l .inv .0)
 
 pub grant-spec : {M : Type 1} → statement M
 grant-spec =
@@ -108,18 +134,21 @@ grant-spec =
     land-writes-requires
     offsets-after-requires
     unmark-requires
+    offsets-set-requires
+    ended-requires
+    mul-t16
+    element-set-from-s
     loop-holds
     mul-y
     element-copy-out-y
-    is-hit-requires
-    after-commit-requires
-    mul-t31
-    element-set-from-s
-    newly-stale-requires
-    add-count
+    goes-stale-requires
+    mul-y-2
+    element-set-from-y
+    added-requires
     add-u
     loop-less
     loop-again
+    cast-t42
     same-length
     same-length-2
     returns)

@@ -54,7 +54,7 @@ loop-again c =
     let j = a .from + l .i in (
       omega arith,
       (
-        ap₂ (λ (d : List ℕ) (m : ℕ). set d j (bitOr (getD d j 0) m)) (l .inv .1 .0) (shift-one (a .t) (omega arith))
+        ap₂ (λ (d : List ℕ) (m : ℕ). set d j (bitOr (getD d j 0) m)) (l .inv .1 .0) (shift-one 8 (a .t) (omega arith))
             ∙ sym (with-marks-more (a .t) (a .from) (l .i) (a .marks .now)),
         simp length-set (omega arith),
       ),

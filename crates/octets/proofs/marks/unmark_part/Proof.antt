@@ -87,7 +87,7 @@ loop-again c =
     let j = a .from + l .i in (
       omega arith,
       (
-        ap₂ (λ (d : List ℕ) (m : ℕ). set d j (bitAnd (getD d j 0) (255 - m))) (l .inv .1 .0) (shift-one (a .t) (omega arith))
+        ap₂ (λ (d : List ℕ) (m : ℕ). set d j (bitAnd (getD d j 0) (255 - m))) (l .inv .1 .0) (shift-one 8 (a .t) (omega arith))
             ∙ changed-more (withoutBit (a .t)) (a .from) (a .marks .now) (l .i),
         simp length-set (omega arith),
       ),

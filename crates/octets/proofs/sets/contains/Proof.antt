@@ -1,9 +1,9 @@
--- `octets::marks::contains` meets its contract. Assumes nothing.
+-- `octets::sets::contains` meets its contract. Assumes nothing.
 use borrow.Author.Needs.{needs}
 use Rattle.octets.specs.Bits.{bit}
 use Rattle.octets.specs.Marks.{contains}
-use Rattle.octets.proofs.marks.contains.Statement.{statement}
-use Rattle.octets.proofs.marks.contains.Tie as tie
+use Rattle.octets.proofs.sets.contains.Statement.{statement}
+use Rattle.octets.proofs.sets.contains.Tie as tie
 
 cast-result : tie.Need-cast-result
 cast-result c = search needs

@@ -1,0 +1,10 @@
+-- `committing::counting::made_stale` meets its contract. Assumes nothing.
+use Rattle.committing.proofs.CommitRules.{ones-are}
+use Rattle.committing.proofs.counting.made_stale.Statement.{statement}
+use Rattle.committing.proofs.counting.made_stale.Tie as tie
+
+returns : tie.Need-returns
+returns c = λ t m e. ones-are t m (c .args .octet) e
+
+pub made-stale-spec : {M : Type 1} → statement M
+made-stale-spec = tie.close (tie.spec returns)

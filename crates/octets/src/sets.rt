@@ -1,0 +1,21 @@
+// A set of numbers below 16 as the bits of one: bit k, worth 2 to the power k, for k.
+ghost use mathlib.Core.Path.{_≡_};
+ghost use Prim.Native.Nat.{_<_};
+ghost use Rattle.octets.specs.Bits.{withBit};
+ghost use Rattle.octets.specs.Marks.{contains};
+
+// Whether k is in the set.
+pub fn contains(set: u16, k: usize) -> bool
+    requires { ⌜ k < 16 ⌝ }
+    ensures { λ r. ⌜ r ≡ contains set k ⌝ }
+{
+    (set >> k) % 2 == 1
+}
+
+// The set with k in it.
+pub fn added(set: u16, k: usize) -> u16
+    requires { ⌜ k < 16 ⌝ }
+    ensures { λ r. ⌜ r ≡ withBit k set ⌝ }
+{
+    set | (1u16 << k)
+}

@@ -30,7 +30,8 @@ pub fn places_fit(x: Transaction, offsets: &[u16; DESCRIPTORS]) -> bool
 {
     let mut d = 0;
     while d < DESCRIPTORS {
-        let z = x.standing_at(d);
+        let q = x.descriptors[d];
+        let z = q.standing;
         if FILE_END - offsets[d] < z.advance() {
             return false;
         }

@@ -12,16 +12,19 @@ use Rattle.landing.proofs.landed.places_fit.Statement.{statement}
 use Rattle.landing.proofs.landed.places_fit.Tie as tie
 
 abbrev Inv-loop : tie.InvT-loop
-Inv-loop x offsets d₀ d = (d ≤ 16) × (below (fitsAt x offsets) d ≡ true)
+Inv-loop offsets x d₀ d = (d ≤ 16) × (below (fitsAt x offsets) d ≡ true)
 
 abbrev μ-loop : tie.MeasureT-loop
-μ-loop x offsets d₀ d = 16 - d
+μ-loop offsets x d₀ d = 16 - d
 
 loop-holds : tie.Need-loop-holds Inv-loop μ-loop
 loop-holds c = (omega arith, below-zero _)
 
-standing-at-requires : tie.Need-standing-at-requires Inv-loop μ-loop
-standing-at-requires c κs = search needs
+mul-q : tie.Need-mul-q Inv-loop μ-loop
+mul-q c = search needs
+
+element-copy-out-q : tie.Need-element-copy-out-q Inv-loop μ-loop
+element-copy-out-q c = search needs
 
 mul-if1 : tie.Need-mul-if1 Inv-loop μ-loop
 mul-if1 c = search needs
@@ -39,7 +42,7 @@ returns : tie.Need-returns Inv-loop μ-loop
 returns c =
     let a = c .before .before .before .before .before .before .args in
     let d = c .before .before .before .before .before .loop .d in
-    sym (placed-not (a .x) (a .offsets .now) d _ (c .before .before .before .before .before .before .pre d (omega arith)) (c .before .advance .ensures ∙ ap advance (c .before .before .before .standing-at .ensures)) (omega arith) (c .if1 .taken))
+    sym (placed-not (a .t1) (a .offsets .now) d _ (c .before .before .before .before .before .before .pre d (omega arith)) (c .before .advance .ensures) (omega arith) (c .if1 .taken))
 
 add-d : tie.Need-add-d Inv-loop μ-loop
 add-d c = search needs
@@ -52,14 +55,14 @@ loop-again c =
     let a = c .before .before .before .before .before .before .args in
     let l = c .before .before .before .before .before .loop in (
       omega arith,
-      below-more (fitsAt (a .x) (a .offsets .now)) (l .d) (l .inv .1)
-          (fits-so (a .x) (a .offsets .now) (l .d) _ (c .before .before .before .before .before .before .pre (l .d) (omega arith)) (c .before .advance .ensures ∙ ap advance (c .before .before .before .standing-at .ensures)) (c .if1 .left)),
+      below-more (fitsAt (a .t1) (a .offsets .now)) (l .d) (l .inv .1)
+          (fits-so (a .t1) (a .offsets .now) (l .d) _ (c .before .before .before .before .before .before .pre (l .d) (omega arith)) (c .before .advance .ensures) (c .if1 .left)),
     )
 
 returns-2 : tie.Need-returns-2 Inv-loop μ-loop
 returns-2 c =
     let e : c .before .loop .d ≡ 16 = omega arith in
-    sym (placed-all (c .before .before .args .x) (c .before .before .args .offsets .now) (rw e at (c .before .loop .inv .1)))
+    sym (placed-all (c .before .before .args .t1) (c .before .before .args .offsets .now) (rw e at (c .before .loop .inv .1)))
 
 pub places-fit-spec : {M : Type 1} → statement M
 places-fit-spec =
@@ -68,7 +71,8 @@ places-fit-spec =
     Inv-loop
     μ-loop
     loop-holds
-    standing-at-requires
+    mul-q
+    element-copy-out-q
     mul-if1
     element-copy-out-if1
     sub-if1

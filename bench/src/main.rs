@@ -1,4 +1,5 @@
-//! One table: the proved store against the imperative twin, memcpy, and other stores on a day on air; and its cost by age.
+//! One table: the proved store against the imperative twin, memcpy, and other stores on a day on air; its cost by age; and the
+//! program `trace` beside the twin's.
 //!
 //!     bench            the full measurement, some minutes
 //!     bench --short    a trial of everything, some seconds: its figures mean little
@@ -16,6 +17,7 @@ mod script;
 #[cfg(feature = "sqlite")]
 mod sqlite;
 mod stores;
+mod traces;
 
 use day::Tally;
 use peers::{Order, Peer};
@@ -31,11 +33,25 @@ pub struct Effort {
     ticks: usize,
     day_nanoseconds: f64,
     rounds_by_age: usize,
+    trace_lines: u64,
 }
 
-const FULL: Effort =
-    Effort { sweeps: 40, nanoseconds: 2e6, ticks: 60_000, day_nanoseconds: 1e8, rounds_by_age: 10_000 };
-const SHORT: Effort = Effort { sweeps: 3, nanoseconds: 3e5, ticks: 6_000, day_nanoseconds: 5e6, rounds_by_age: 300 };
+const FULL: Effort = Effort {
+    sweeps: 40,
+    nanoseconds: 2e6,
+    ticks: 60_000,
+    day_nanoseconds: 1e8,
+    rounds_by_age: 10_000,
+    trace_lines: 1_000_000,
+};
+const SHORT: Effort = Effort {
+    sweeps: 3,
+    nanoseconds: 3e5,
+    ticks: 6_000,
+    day_nanoseconds: 5e6,
+    rounds_by_age: 300,
+    trace_lines: 100_000,
+};
 
 fn row(figure: &str, proved: &str, compared: &str, ratio: f64, target: &str, met: Option<bool>) {
     let met = met.map_or("", |met| if met { "yes" } else { "NO" });
@@ -224,6 +240,15 @@ fn table_of_ages(effort: &Effort) {
     row(&figure, &nanoseconds(last), &compared, last / first, "flat (≤ 1.1)", Some(last <= 1.1 * first));
 }
 
+fn table_of_traces(effort: &Effort) {
+    let lines = effort.trace_lines;
+    let rates = traces::measure(lines, effort.sweeps.min(15)).expect("both programs run, and target/ can be written");
+    let ratio = rates.proved / rates.twin;
+    let said = |rate: f64| format!("{rate:.0} lines/s");
+    let figure = format!("A trace of {lines} lines");
+    row(&figure, &said(rates.proved), &format!("twin {}", said(rates.twin)), ratio, "≥ 0.8", Some(ratio >= 0.8));
+}
+
 /// One case alone, for a profiler.
 fn only(words: &[String]) {
     let which = if words[0] == "twin" { Which::Twin } else { Which::Proved };
@@ -268,6 +293,7 @@ fn main() {
     table_of_calls(&effort);
     table_of_day(&effort);
     table_of_ages(&effort);
+    table_of_traces(&effort);
     println!();
     println!("Load averages before: {before}; after: {}.", load());
     versions();

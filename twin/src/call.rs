@@ -73,6 +73,8 @@ pub enum Refusal {
     NoSuchFile = 14,
     NoPlaceYet = 15,
     ListTooLong = 16,
+    /// A line of a trace; no call meets it.
+    BadLine = 17,
 }
 
 impl Refusal {

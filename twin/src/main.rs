@@ -2,7 +2,8 @@
 //!
 //! `twin N` makes N calls (300,000 if left out) and prints a line after every thousand. `twin --stats N` prints how often
 //! each outcome was met instead. A disagreement ends the program with a panic that names the call. `twin --vectors FILE..`
-//! makes the calls of lists instead (see vectors.rs), and says of each file whether all replies agree.
+//! makes the calls of lists instead (see vectors.rs), and says of each file whether all replies agree. `twin --trace` makes
+//! the calls of a trace that it reads from standard input (see trace.rs); `twin --make-trace SEED N` prints one of N lines.
 
 use std::io::{self, Write};
 use std::process::ExitCode;
@@ -11,6 +12,8 @@ use twin::call::{Action, Call, Step};
 use twin::digest::{self, Digest};
 use twin::generator::{self, Generator, Request};
 use twin::pair::{Pair, Tally};
+use twin::trace;
+use twin::traces;
 use twin::vectors;
 
 const CALLS: u64 = 300_000;
@@ -19,6 +22,9 @@ const SIGHTINGS_EVERY: u64 = 100;
 
 struct Options {
     stats: bool,
+    trace: bool,
+    /// The seed of a trace to print.
+    made_trace: Option<u64>,
     calls: u64,
     /// Files of lists to run instead of the stream.
     vectors: Option<Vec<String>>,
@@ -37,11 +43,13 @@ impl Drop for CallNumber {
 
 fn main() -> ExitCode {
     let Some(options) = options() else {
-        eprintln!("usage: twin [--stats] [N] | twin --vectors FILE..");
+        eprintln!("usage: twin [--stats] [N] | twin --vectors FILE.. | twin --trace | twin --make-trace SEED N");
         return ExitCode::from(2);
     };
     let ended = match &options.vectors {
         Some(files) => run_vectors(files),
+        None if options.trace => run_trace().map(|()| true),
+        None if options.made_trace.is_some() => make_trace(&options).map(|()| true),
         None => run(&options).map(|()| true),
     };
     match ended {
@@ -55,11 +63,13 @@ fn main() -> ExitCode {
 }
 
 fn options() -> Option<Options> {
-    let mut options = Options { stats: false, calls: CALLS, vectors: None };
+    let mut options = Options { stats: false, trace: false, made_trace: None, calls: CALLS, vectors: None };
     let mut arguments = std::env::args().skip(1);
     while let Some(argument) = arguments.next() {
         match argument.as_str() {
             "--stats" => options.stats = true,
+            "--trace" => options.trace = true,
+            "--make-trace" => options.made_trace = Some(arguments.next()?.parse().ok()?),
             "--vectors" => options.vectors = Some(arguments.by_ref().collect()),
             calls => options.calls = calls.parse().ok()?,
         }
@@ -81,6 +91,18 @@ fn run_vectors(files: &[String]) -> io::Result<bool> {
         agree = agree && report.disagreements.is_empty();
     }
     Ok(agree)
+}
+
+/// Reads and writes some tens of kilobytes at a time.
+fn run_trace() -> io::Result<()> {
+    let mut input = io::BufReader::with_capacity(1 << 16, io::stdin().lock());
+    let mut out = io::BufWriter::with_capacity(1 << 16, io::stdout().lock());
+    trace::run(&mut input, &mut out)
+}
+
+fn make_trace(options: &Options) -> io::Result<()> {
+    let mut out = io::BufWriter::with_capacity(1 << 16, io::stdout().lock());
+    traces::write(&mut out, options.made_trace.unwrap_or_default(), options.calls)
 }
 
 fn run(options: &Options) -> io::Result<()> {
@@ -143,7 +165,7 @@ fn data(request: &Request) -> Vec<u8> {
     (0..request.number).map(|i| ((request.data_first + request.data_step * i) % 256) as u8).collect()
 }
 
-/// Calls so far; done, offset, given, granted, pairs; refusals 1 to 16; the digest of the state, the digest of all answers.
+/// Calls so far; done, offset, given, granted, pairs; refusals 1 to 17; the digest of the state, the digest of all answers.
 fn write_line(out: &mut impl Write, made: u64, pair: &Pair, answers: Digest) -> io::Result<()> {
     let Tally { done, offset, given, granted, pairs, refused, .. } = &pair.tally;
     write!(out, "{made} {done} {offset} {given} {granted} {pairs}")?;

@@ -1,12 +1,12 @@
--- A refusal's number is at most 16.
+-- A refusal's number is at most 17.
 use mathlib.Core.Path.{_≡_}
 use Prim.Native.Nat.{ℕ, _≤_}
 use native.Mathlib.Omega.{arith}
 use Rattle.record.specs.Paper.{number}
 use Rattle.record.specs.declared.outcomes.Refusal.{Refusal}
-use Rattle.record.specs.declared.outcomes.Refusal.the-variants.{BufferLength, RecordRange, NoSuchTransaction, NotOpen, AlreadyOpen, NoSuchDescriptor, ReaderTooShort, SeekPastEnd, WritePastEnd, RecordsFull, LogFull, SettledPastEnd, Stale, NoSuchFile, NoPlaceYet, ListTooLong}
+use Rattle.record.specs.declared.outcomes.Refusal.the-variants.{BufferLength, RecordRange, NoSuchTransaction, NotOpen, AlreadyOpen, NoSuchDescriptor, ReaderTooShort, SeekPastEnd, WritePastEnd, RecordsFull, LogFull, SettledPastEnd, Stale, NoSuchFile, NoPlaceYet, ListTooLong, BadLine}
 
-pub number-bound : (r : Refusal) → number r ≤ 16
+pub number-bound : (r : Refusal) → number r ≤ 17
 number-bound BufferLength = omega arith
 number-bound RecordRange = omega arith
 number-bound NoSuchTransaction = omega arith
@@ -23,6 +23,7 @@ number-bound Stale = omega arith
 number-bound NoSuchFile = omega arith
 number-bound NoPlaceYet = omega arith
 number-bound ListTooLong = omega arith
+number-bound BadLine = omega arith
 
-pub bounded : (r : Refusal) (n : ℕ) → n ≡ number r → n ≤ 16
+pub bounded : (r : Refusal) (n : ℕ) → n ≡ number r → n ≤ 17
 bounded r n e = omega (arith, e, number-bound r)

@@ -17,7 +17,7 @@ withBit t x = bitOr x (2 ^ t)
 unfoldable pub withoutBit : ℕ → ℕ → ℕ
 withoutBit t x = bitAnd x (255 - 2 ^ t)
 
--- those of the first n numbers that pass a test, as the bits of a number: bit u, "worth 2 to the power u", for u; and how many they are
+-- those of the first n numbers that pass a test, as the bits of a number: bit u, worth 2 to the power u, for u; and how many they are
 unfoldable pub bitsOf : (ℕ → Bool) → ℕ → ℕ
 bitsOf p zero = 0
 bitsOf p (suc u) = bitsOf p u + cond (p u) (2 ^ u) 0

@@ -3,6 +3,7 @@ use generator::Request;
 use record::Store;
 use record::journal::NUMBERS;
 use record::outcomes::Answer;
+use requests::Request as Asked;
 ghost use Rattle.io.specs.Counts.{Counts};
 
 // How many bytes of a buffer are lent where n are asked for.
@@ -39,51 +40,6 @@ fn fresh(
     store::fresh(s, journal, files, logs, marks, &list[..n])
 }
 
-fn write(
-    s: Store,
-    journal: &mut [u16; NUMBERS],
-    q: Request,
-    files: &[u8],
-    logs: &mut [u8],
-    marks: &[u8],
-    bytes: &mut [u8],
-) -> Answer {
-    put(bytes, q.first, q.step);
-    store::write(
-        s,
-        journal,
-        files,
-        logs,
-        marks,
-        q.transaction,
-        q.descriptor,
-        bytes,
-    )
-}
-
-fn read<'a>(
-    s: Store,
-    journal: &mut [u16; NUMBERS],
-    q: Request,
-    files: &'a [u8],
-    logs: &'a [u8],
-    marks: &mut [u8],
-    reader: &mut [u8],
-) -> Answer {
-    put(reader, 165, 0);
-    store::read(
-        s,
-        journal,
-        files,
-        logs,
-        marks,
-        q.transaction,
-        q.descriptor,
-        q.number,
-        reader,
-    )
-}
-
 fn places(
     s: Store,
     journal: &[u16; NUMBERS],
@@ -97,29 +53,38 @@ fn places(
     store::places(s, journal, files, logs, marks, q.transaction, q.file, out)
 }
 
-// The calls that lend no buffer but the store's.
-fn plain(
-    s: Store,
-    journal: &mut [u16; NUMBERS],
-    q: Request,
-    files: &mut [u8],
-    logs: &[u8],
-    marks: &mut [u8],
-) -> Answer {
+// The request of a generated call of another kind than Fresh and Places.
+fn request(q: Request) -> Asked {
     let t = q.transaction;
+    let d = q.descriptor;
     if q.kind == generator::BEGIN {
-        return store::begin(s, journal, files, logs, marks, t);
+        return Asked::Begin(t);
     }
     if q.kind == generator::SEEK {
-        return store::seek(s, journal, files, logs, marks, t, q.descriptor, q.number);
+        return Asked::Seek(t, d, q.number);
+    }
+    if q.kind == generator::WRITE {
+        return Asked::Write(t, d);
     }
     if q.kind == generator::GET_FILE_POINTER {
-        return store::get_file_pointer(s, journal, files, logs, marks, t, q.descriptor);
+        return Asked::GetFilePointer(t, d);
+    }
+    if q.kind == generator::READ {
+        return Asked::Read(t, d, q.number);
     }
     if q.kind == generator::COMMIT {
-        return store::commit(s, journal, files, logs, marks, t);
+        return Asked::Commit(t);
     }
-    store::abort(s, journal, files, logs, marks, t)
+    Asked::Abort(t)
+}
+
+// Fills what a Write writes and what a Read answers in.
+fn fill(q: Request, bytes: &mut [u8], reader: &mut [u8]) {
+    if q.kind == generator::WRITE {
+        put(bytes, q.first, q.step);
+    } else if q.kind == generator::READ {
+        put(reader, 165, 0);
+    }
 }
 
 fn by_kind(
@@ -135,19 +100,11 @@ fn by_kind(
     if q.kind == generator::FRESH {
         return fresh(s, journal, q, files, logs, marks);
     }
-    if q.kind == generator::WRITE {
-        let n = within(q.number, bytes);
-        return write(s, journal, q, files, logs, marks, &mut bytes[..n]);
-    }
-    if q.kind == generator::READ {
-        let n = within(q.buffer, reader);
-        return read(s, journal, q, files, logs, marks, &mut reader[..n]);
-    }
     if q.kind == generator::PLACES {
-        let n = within(q.buffer, reader);
-        return places(s, journal, q, files, logs, marks, &mut reader[..n]);
+        return places(s, journal, q, files, logs, marks, reader);
     }
-    plain(s, journal, q, files, logs, marks)
+    fill(q, bytes, reader);
+    dispatch::perform(s, journal, files, logs, marks, request(q), bytes, reader)
 }
 
 // How many bytes of store buffer `which` are lent.
@@ -174,6 +131,8 @@ pub fn performed(
     let f = lent(q, 1, files);
     let l = lent(q, 2, logs);
     let m = lent(q, 3, marks);
+    let r = within(q.buffer, reader);
+    let n = within(q.number, bytes);
     by_kind(
         s,
         journal,
@@ -181,7 +140,7 @@ pub fn performed(
         &mut files[..f],
         &mut logs[..l],
         &mut marks[..m],
-        reader,
-        bytes,
+        &mut reader[..r],
+        &mut bytes[..n],
     )
 }

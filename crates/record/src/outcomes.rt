@@ -3,7 +3,7 @@ use crate::Store;
 ghost use mathlib.Core.Path.{_≡_};
 ghost use Rattle.record.specs.Paper.{number};
 
-// The refusals, in the order of their numbers: paper 01's table, then those of paper 02.
+// The refusals, in the order of their numbers: paper 01's table, then those of paper 02. The last is a line's of a trace; no call meets it.
 pub enum Refusal {
     BufferLength,
     RecordRange,
@@ -21,10 +21,11 @@ pub enum Refusal {
     NoSuchFile,
     NoPlaceYet,
     ListTooLong,
+    BadLine,
 }
 
 // How many they are; their numbers in the paper go from 1 to this.
-pub const REFUSALS: u8 = 16;
+pub const REFUSALS: u8 = 17;
 
 impl Refusal {
     // Its number in the paper.
@@ -48,6 +49,7 @@ impl Refusal {
             Refusal::NoSuchFile => 14,
             Refusal::NoPlaceYet => 15,
             Refusal::ListTooLong => 16,
+            Refusal::BadLine => 17,
         }
     }
 }

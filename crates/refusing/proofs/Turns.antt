@@ -7,7 +7,7 @@ use Prim.Native.Nat.{ℕ, zero, suc}
 use Rattle.record.specs.declared.outcomes.Answer.{Answer}
 use Rattle.record.specs.declared.Store.{Store}
 use Rattle.record.specs.declared.outcomes.Refusal.{Refusal}
-use Rattle.record.specs.declared.outcomes.Refusal.the-variants.{BufferLength, RecordRange, NoSuchTransaction, NotOpen, AlreadyOpen, NoSuchDescriptor, ReaderTooShort, SeekPastEnd, WritePastEnd, RecordsFull, LogFull, SettledPastEnd, Stale, NoSuchFile, NoPlaceYet, ListTooLong}
+use Rattle.record.specs.declared.outcomes.Refusal.the-variants.{BufferLength, RecordRange, NoSuchTransaction, NotOpen, AlreadyOpen, NoSuchDescriptor, ReaderTooShort, SeekPastEnd, WritePastEnd, RecordsFull, LogFull, SettledPastEnd, Stale, NoSuchFile, NoPlaceYet, ListTooLong, BadLine}
 use Rattle.record.specs.declared.outcomes.Outcome.the-variants.{Done, Refused}
 use Rattle.record.specs.declared.Transaction.{Transaction}
 use Rattle.record.specs.State.{transaction, withTransaction}
@@ -53,6 +53,7 @@ number-suc Stale = (12, refl)
 number-suc NoSuchFile = (13, refl)
 number-suc NoPlaceYet = (14, refl)
 number-suc ListTooLong = (15, refl)
+number-suc BadLine = (16, refl)
 
 pub passing-number : (r : Refusal) (buffer : List ℕ) (m : Machine) (next : Turn) → passing (number r) buffer m next ≡ turnDown (number r) buffer m
 unfolding passing

@@ -2,22 +2,11 @@
 // unoptimised).
 use digests::outcomes::code;
 use digests::outcomes::number;
-use record::Store;
 use record::journal::NUMBERS;
 use record::outcomes::Answer;
 use record::outcomes::Outcome;
+use requests::Request;
 ghost use Prim.Native.Nat.{_<_};
-
-// The kinds of calls.
-const SEEK: u8 = 0;
-
-const WRITE: u8 = 1;
-
-const GET_FILE_POINTER: u8 = 2;
-
-const READ: u8 = 3;
-
-const COMMIT: u8 = 4;
 
 // Refusals that a call has to answer: 10,000 and the number in paper 01's table.
 pub const SEEK_PAST_END: u16 = 10008;
@@ -88,29 +77,8 @@ fn front<'a>(bytes: &'a [u8], n: usize) -> &'a [u8] {
     &bytes[0..n]
 }
 
-fn performed(
-    s: Store,
-    journal: &mut [u16; NUMBERS],
-    files: &mut [u8],
-    logs: &mut [u8],
-    marks: &mut [u8],
-    kind: u8,
-    t: usize,
-    d: usize,
-    n: usize,
-    bytes: &[u8],
-    reader: &mut [u8],
-) -> Answer {
-    match kind {
-        SEEK => store::seek(s, journal, files, logs, marks, t, d, n),
-        WRITE => store::write(s, journal, files, logs, marks, t, d, bytes),
-        GET_FILE_POINTER => store::get_file_pointer(s, journal, files, logs, marks, t, d),
-        READ => store::read(s, journal, files, logs, marks, t, d, n, reader),
-        _ => store::commit(s, journal, files, logs, marks, t),
-    }
-}
-
-fn made(mut r: Run, kind: u8, t: usize, d: usize, n: usize, first: u8) -> Run {
+// After the call of a request. A Write takes the first n of two bytes, `first` and the next letter.
+fn made(mut r: Run, q: Request, n: usize, first: u8) -> Run {
     let mut journal = r.journal;
     let mut files = r.files;
     let mut logs = r.logs;
@@ -118,16 +86,13 @@ fn made(mut r: Run, kind: u8, t: usize, d: usize, n: usize, first: u8) -> Run {
     let mut reader = [b'.'; 3];
     let bytes = [first, std::num::wrapping_add_u8(first, 1)];
     let a = r.answer;
-    let answer = performed(
+    let answer = dispatch::perform(
         a.store,
         &mut journal,
         &mut files,
         &mut logs,
         &mut marks,
-        kind,
-        t,
-        d,
-        n,
+        q,
         front(&bytes, n),
         &mut reader,
     );
@@ -143,7 +108,7 @@ fn made(mut r: Run, kind: u8, t: usize, d: usize, n: usize, first: u8) -> Run {
 // Each call names its transaction, then its descriptor; last stands the number that it has to answer (0 for a plain answer), or a
 // refusal.
 pub fn seek(r: Run, t: usize, d: usize, v: usize, want: u16) -> Run {
-    let mut q = made(r, SEEK, t, d, v, 0);
+    let mut q = made(r, Request::Seek(t, d, v), 0, 0);
     let a = q.answer;
     q.ok = q.ok & answers(a, 0, want);
     q
@@ -151,14 +116,14 @@ pub fn seek(r: Run, t: usize, d: usize, v: usize, want: u16) -> Run {
 
 // Writes n bytes, at most 2: `first`, and the next letter.
 pub fn write(r: Run, t: usize, d: usize, n: usize, first: u8, want: u16) -> Run {
-    let mut q = made(r, WRITE, t, d, n, first);
+    let mut q = made(r, Request::Write(t, d), n, first);
     let a = q.answer;
     q.ok = q.ok & answers(a, 0, want);
     q
 }
 
 pub fn pointer(r: Run, t: usize, d: usize, want: u16) -> Run {
-    let mut q = made(r, GET_FILE_POINTER, t, d, 0, 0);
+    let mut q = made(r, Request::GetFilePointer(t, d), 0, 0);
     let a = q.answer;
     q.ok = q.ok & answers(a, 1, want);
     q
@@ -166,7 +131,7 @@ pub fn pointer(r: Run, t: usize, d: usize, want: u16) -> Run {
 
 // The reader's buffer, of three dots before the call, has x, y and z after it.
 pub fn read(r: Run, t: usize, d: usize, n: usize, x: u8, y: u8, z: u8, want: u16) -> Run {
-    let mut q = made(r, READ, t, d, n, 0);
+    let mut q = made(r, Request::Read(t, d, n), 0, 0);
     let a = q.answer;
     let reader = q.reader;
     q.ok = q.ok & answers(a, 2, want) & (reader[0] == x) & (reader[1] == y) & (reader[2] == z);
@@ -174,7 +139,7 @@ pub fn read(r: Run, t: usize, d: usize, n: usize, x: u8, y: u8, z: u8, want: u16
 }
 
 pub fn commit(r: Run, t: usize, want: u16) -> Run {
-    let mut q = made(r, COMMIT, t, 0, 0, 0);
+    let mut q = made(r, Request::Commit(t), 0, 0);
     let a = q.answer;
     q.ok = q.ok & answers(a, 3, want);
     q

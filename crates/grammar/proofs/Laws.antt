@@ -1,0 +1,173 @@
+-- Laws of the grammar on the part of a line from a place on.
+use mathlib.Core.Bool.{true, false}
+use mathlib.Core.List.{List, [], _∷_}
+use mathlib.Core.Path.{_≡_, refl, sym, ap}
+use native.Mathlib.Numerals.{add-one}
+use native.Mathlib.Omega.{arith}
+use lib.Dec.{leb}
+use lib.ListN.{length, drop, getD, drop-of-length-le}
+use lib.Seq.{drop-cons}
+use borrow.Author.Tests.{leb-true, le-leb, lt-leb, eq-eqb, ne-eqb}
+use Prim.Native.Nat.{ℕ, zero, suc, _+_, _-_, _*_, _≤_, _<_}
+use Rattle.ranges.proofs.Laws.{and-left, and-right}
+use Rattle.requests.specs.declared.Request.{Request}
+use Rattle.grammar.specs.declared.Field.{Field}
+use Rattle.grammar.specs.declared.Field.the-variants.{Missing, Number}
+use Rattle.grammar.specs.declared.Parsed.{Parsed}
+use Rattle.grammar.specs.declared.Parsed.the-variants.{Another}
+use Rattle.grammar.specs.Parsing.{foundOf, lineOf, startOf, Reads}
+use Rattle.grammar.specs.Grammar.{Line, another, asks, Found, none, found, isDigit, worth, digits, decimal, spaced, after, writes, lettered, form, parsed}
+
+-- A digit lies between the bytes of 0 and 9.
+pub digit-bounds : (b : ℕ) → isDigit b ≡ true → (48 ≤ b) × (b ≤ 57)
+unfolding isDigit
+digit-bounds b e =
+    (leb-true 48 b (and-left (leb 48 b) (leb b 57) e), leb-true b 57 (and-right (leb 48 b) (leb b 57) e))
+
+-- The largest number that a first digit and n more make.
+unfoldable pub most : ℕ → ℕ
+most zero = 9
+most (suc n) = most n * 10 + 9
+
+most-five : (n : ℕ) → n ≤ 4 → most n ≤ 99999
+unfolding most
+most-five zero l = omega arith
+most-five (suc zero) l = omega arith
+most-five (suc (suc zero)) l = omega arith
+most-five (suc (suc (suc zero))) l = omega arith
+most-five (suc (suc (suc (suc zero)))) l = omega arith
+most-five (suc (suc (suc (suc (suc n))))) l = let e : ⊥ = omega arith in elim e [ ]
+
+-- A number whose next digits, of at most four, number `left`: it is small, and stays within its bound with one digit more.
+module _ (left v : ℕ) (h : v ≤ most (4 - left)) where
+  pub most-small : left ≤ 4 → v ≤ 99999
+  most-small l = omega (arith, most-five (4 - left) (omega arith))
+
+  pub most-more : (d : ℕ) → 0 < left → left ≤ 4 → d ≤ 9 → v * 10 + d ≤ most (4 - (left - 1))
+  unfolding most
+  most-more d p l e =
+      let s : 4 - (left - 1) ≡ suc (4 - left) = omega arith in
+      rw s (omega arith)
+
+suc-less : (n : ℕ) → suc n - 1 ≡ n
+suc-less n = omega arith
+
+-- The digits after a number, where no more may follow.
+pub digits-none : (n v : ℕ) (bytes : List ℕ) → n ≡ 0 → digits n v bytes ≡ found v bytes
+unfolding digits
+digits-none n v bytes e = rw e
+
+-- The digits after a number, at the end of the line, at another byte and at a digit.
+module _ (line : List ℕ) (at v : ℕ) where
+  pub digits-end : (n : ℕ) → length line ≤ at → digits n v (drop at line) ≡ found v (drop at line)
+  unfolding digits
+  digits-end zero h = refl
+  digits-end (suc n) h = rw (drop-of-length-le line h)
+
+  pub digits-stop : (n : ℕ) → at < length line → isDigit (getD line at 0) ≡ false → digits n v (drop at line) ≡ found v (drop at line)
+  unfolding digits
+  digits-stop zero h e = refl
+  digits-stop (suc n) h e = rw (drop-cons line at 0 h, e)
+
+  pub digits-more : (n : ℕ) → 0 < n → at < length line → isDigit (getD line at 0) ≡ true
+      → digits n v (drop at line) ≡ digits (n - 1) (v * 10 + worth (getD line at 0)) (drop (at + 1) line)
+  unfolding digits
+  digits-more zero p h e = elim (absurd p) [ ]
+    where
+      absurd : 0 < 0 → ⊥
+      absurd p = omega arith
+  digits-more (suc n) p h e =
+      rw (drop-cons line at 0 h, e, add-one at) (ap (λ (k : ℕ). digits k (v * 10 + worth (getD line at 0)) (drop (suc at) line)) (sym (suc-less n)))
+
+-- A number, a space before it, and the space before a Write's bytes, at a place of the line.
+module _ (line : List ℕ) (at : ℕ) where
+  pub decimal-end : length line ≤ at → decimal (drop at line) ≡ none
+  unfolding decimal
+  decimal-end h = rw (drop-of-length-le line h)
+
+  pub decimal-other : at < length line → isDigit (getD line at 0) ≡ false → decimal (drop at line) ≡ none
+  unfolding decimal
+  decimal-other h e = rw (drop-cons line at 0 h, e)
+
+  pub decimal-digits : at < length line → isDigit (getD line at 0) ≡ true → (v : ℕ) → v ≡ worth (getD line at 0)
+      → decimal (drop at line) ≡ digits 4 v (drop (at + 1) line)
+  unfolding decimal
+  decimal-digits h e v w = rw (drop-cons line at 0 h, e, add-one at, w)
+
+  pub spaced-end : length line ≤ at → spaced (drop at line) ≡ none
+  unfolding spaced
+  spaced-end h = rw (drop-of-length-le line h)
+
+  pub spaced-other : at < length line → (getD line at 0 ≡ 32 → ⊥) → spaced (drop at line) ≡ none
+  unfolding spaced
+  spaced-other h e = rw (drop-cons line at 0 h, ne-eqb (getD line at 0) 32 e)
+
+  pub spaced-decimal : at < length line → getD line at 0 ≡ 32 → spaced (drop at line) ≡ decimal (drop (at + 1) line)
+  unfolding spaced
+  spaced-decimal h e = rw (drop-cons line at 0 h, eq-eqb (getD line at 0) 32 e, add-one at)
+
+  module _ (q : Request) where
+    pub writes-end : length line ≤ at → writes q (drop at line) ≡ another
+    unfolding writes
+    writes-end h = rw (drop-of-length-le line h)
+
+    pub writes-other : at < length line → (getD line at 0 ≡ 32 → ⊥) → writes q (drop at line) ≡ another
+    unfolding writes
+    writes-other h e = rw (drop-cons line at 0 h, ne-eqb (getD line at 0) 32 e)
+
+    pub writes-space : at < length line → getD line at 0 ≡ 32 → writes q (drop at line) ≡ asks q (drop (at + 1) line)
+    unfolding writes
+    writes-space h e = rw (drop-cons line at 0 h, eq-eqb (getD line at 0) 32 e, add-one at)
+
+-- The letter and the transaction of a line.
+pub form-short : (line : List ℕ) → length line < 2 → form line ≡ another
+unfolding form
+form-short [] h = refl
+form-short (k ∷ []) h = refl
+form-short (k ∷ t ∷ bytes) h = let e : ⊥ = omega arith in elim e [ ]
+
+pub form-other : (line : List ℕ) → 2 ≤ length line → isDigit (getD line 1 0) ≡ false → form line ≡ another
+unfolding form
+form-other [] h e = let n : ⊥ = omega arith in elim n [ ]
+form-other (k ∷ []) h e = let n : ⊥ = omega arith in elim n [ ]
+form-other (k ∷ t ∷ bytes) h e = rw e
+
+pub form-digit : (line : List ℕ) → 2 ≤ length line → isDigit (getD line 1 0) ≡ true → (t : ℕ) → t ≡ worth (getD line 1 0)
+    → form line ≡ lettered (getD line 0 0) t (drop 2 line)
+unfolding form
+form-digit [] h e t w = let n : ⊥ = omega arith in elim n [ ]
+form-digit (k ∷ []) h e t w = let n : ⊥ = omega arith in elim n [ ]
+form-digit (k ∷ b ∷ bytes) h e t w = rw (e, w)
+
+pub parsed-long : (line : List ℕ) → 128 < length line → parsed line ≡ another
+unfolding parsed
+parsed-long line h = rw (lt-leb (length line) 128 h)
+
+pub parsed-form : (line : List ℕ) → length line ≤ 128 → parsed line ≡ form line
+unfolding parsed
+parsed-form line h = rw (le-leb (length line) 128 h)
+
+-- A letter of no form.
+pub lettered-other : (k t : ℕ) (bytes : List ℕ) → (k ≡ 66 → ⊥) → (k ≡ 67 → ⊥) → (k ≡ 65 → ⊥) → (k ≡ 80 → ⊥) → (k ≡ 83 → ⊥)
+    → (k ≡ 82 → ⊥) → (k ≡ 87 → ⊥) → lettered k t bytes ≡ another
+unfolding lettered
+lettered-other k t bytes b c a p s r w =
+    rw (ne-eqb k 66 b, ne-eqb k 67 c, ne-eqb k 65 a, ne-eqb k 80 p, ne-eqb k 83 s, ne-eqb k 82 r, ne-eqb k 87 w)
+
+-- What comes of a number that was looked for and is f.
+module _ (line : List ℕ) (f : Field) (g : Found) (next : ℕ → List ℕ → Line) (h : foundOf line f ≡ g) where
+  pub after-missing : f ≡ Missing → Reads line Another (after g next)
+  unfolding foundOf lineOf startOf after
+  after-missing e = rw (← h, e) (record { means = refl; within = omega arith })
+
+  pub after-number : (v end : ℕ) (r : Parsed) → f ≡ Number v end → Reads line r (next v (drop end line)) → Reads line r (after g next)
+  unfolding foundOf after
+  after-number v end r e t = rw (← h, e) t
+
+-- A line means what another definition says of it; it has another form.
+pub as-meant : (line : List ℕ) (r : Parsed) (meant said : Line) → meant ≡ said → Reads line r said → Reads line r meant
+as-meant line r meant said e h = rw e h
+
+pub other : (line : List ℕ) (meant : Line) → meant ≡ another → Reads line Another meant
+unfolding lineOf startOf
+other line meant e = rw e (record { means = refl; within = omega arith })

@@ -1,0 +1,80 @@
+-- The form of a line of a trace (paper 02, F-5): from its bytes, without its end, to a call or to another form.
+use mathlib.Core.Bool.{Bool, cond, _&&_}
+use mathlib.Core.List.{List, [], _∷_}
+use lib.Dec.{eqb, leb}
+use lib.ListN.{length}
+use Prim.Native.Char.{code}
+use Prim.Native.Nat.{ℕ, zero, suc, _+_, _-_, _*_}
+use Rattle.requests.specs.declared.Request.{Request}
+use Rattle.requests.specs.declared.Request.the-variants.{Begin, Commit, Abort, GetFilePointer, Seek, Read, Write}
+
+-- What a line says: a request, with the bytes of a Write (none in any other), whose call is `callOf` of crate requests; or it "has another
+-- form or is longer than 128 bytes".
+pub data Line : Type 0 where
+  another : Line
+  asks : Request → List ℕ → Line
+
+-- A number at the front of some bytes, with the bytes after it; or none.
+pub data Found : Type 0 where
+  none : Found
+  found : ℕ → List ℕ → Found
+
+unfoldable pub isDigit : ℕ → Bool
+isDigit b = leb (code "0") b && leb b (code "9")
+
+abbrev pub worth : ℕ → ℕ
+worth b = b - code "0"
+
+-- A number with the digits that follow it, at most n of them.
+unfoldable pub digits : ℕ → ℕ → List ℕ → Found
+digits zero v bytes = found v bytes
+digits (suc n) v [] = found v []
+digits (suc n) v (b ∷ bytes) = cond (isDigit b) (digits n (v * 10 + worth b) bytes) (found v (b ∷ bytes))
+
+-- "in decimal, 1 to 5 digits each": a sixth would stand where a space or the line's end has to.
+unfoldable pub decimal : List ℕ → Found
+decimal [] = none
+decimal (b ∷ bytes) = cond (isDigit b) (digits 4 (worth b) bytes) none
+
+-- "one space between": a space, then a number.
+unfoldable pub spaced : List ℕ → Found
+spaced [] = none
+spaced (b ∷ bytes) = cond (eqb b (code " ")) (decimal bytes) none
+
+-- What comes of the number and the bytes after it.
+unfoldable pub after : Found → (ℕ → List ℕ → Line) → Line
+after none next = another
+after (found v bytes) next = next v bytes
+
+-- Nothing comes after it.
+unfoldable pub ends : Request → List ℕ → Line
+ends q [] = asks q []
+ends q (b ∷ bytes) = another
+
+-- A space "and the bytes up to the line's end"
+unfoldable pub writes : Request → List ℕ → Line
+writes q [] = another
+writes q (b ∷ bytes) = cond (eqb b (code " ")) (asks q bytes) another
+
+-- "A line is `B0` (Begin), `C0` (Commit), `A0` (Abort), `P0 3` (GetFilePointer), `S0 3 17` (Seek), `R0 3 5` (Read) or `W0 3 ` and the
+-- bytes up to the line's end": by its letter k, transaction t and the bytes after them.
+unfoldable pub lettered : ℕ → ℕ → List ℕ → Line
+lettered k t bytes =
+    cond (eqb k (code "B")) (ends (Begin t) bytes)
+    (cond (eqb k (code "C")) (ends (Commit t) bytes)
+    (cond (eqb k (code "A")) (ends (Abort t) bytes)
+    (cond (eqb k (code "P")) (after (spaced bytes) (λ d. ends (GetFilePointer t d)))
+    (cond (eqb k (code "S")) (after (spaced bytes) (λ d rest. after (spaced rest) (λ v. ends (Seek t d v))))
+    (cond (eqb k (code "R")) (after (spaced bytes) (λ d rest. after (spaced rest) (λ n. ends (Read t d n))))
+    (cond (eqb k (code "W")) (after (spaced bytes) (λ d. writes (Write t d)))
+    another))))))
+
+-- "The digit is the transaction"
+unfoldable pub form : List ℕ → Line
+form [] = another
+form (k ∷ []) = another
+form (k ∷ t ∷ bytes) = cond (isDigit t) (lettered k (worth t) bytes) another
+
+-- "17, once for the whole line, when a line has another form or is longer than 128 bytes without its line end"
+unfoldable pub parsed : List ℕ → Line
+parsed line = cond (leb (length line) 128) (form line) another

@@ -1,0 +1,33 @@
+-- What the parser's answers stand for.
+use mathlib.Core.List.{List}
+use mathlib.Core.Path.{_≡_}
+use lib.ListN.{length, drop}
+use Prim.Native.Nat.{ℕ, _≤_}
+use Rattle.grammar.specs.Grammar.{Line, another, asks, Found, none, found, parsed}
+use Rattle.grammar.specs.declared.Parsed.{Parsed}
+use Rattle.grammar.specs.declared.Parsed.the-variants.{Another, Asks}
+use Rattle.grammar.specs.declared.Field.{Field}
+use Rattle.grammar.specs.declared.Field.the-variants.{Missing, Number}
+
+-- A request, and where the bytes of a Write start in a line.
+unfoldable pub lineOf : List ℕ → Parsed → Line
+lineOf line Another = another
+lineOf line (Asks q start) = asks q (drop start line)
+
+unfoldable pub startOf : Parsed → ℕ
+startOf Another = 0
+startOf (Asks q start) = start
+
+-- A number, and where the bytes after it start in a line.
+unfoldable pub foundOf : List ℕ → Field → Found
+foundOf line Missing = none
+foundOf line (Number n end) = found n (drop end line)
+
+-- The answer r is what is meant, and a Write's bytes lie in the line.
+pub record Reads (line : List ℕ) (r : Parsed) (meant : Line) : Type 0 where
+  pub means : lineOf line r ≡ meant
+  pub within : startOf r ≤ length line
+
+-- The parser answers what the definition says of the line.
+abbrev pub Parses : List ℕ → Parsed → Type 0
+Parses line r = Reads line r (parsed line)

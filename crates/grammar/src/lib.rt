@@ -1,0 +1,169 @@
+// The lines of a trace (paper 02, F-5): what a line asks. specs/Grammar.antt says which form a line has.
+use requests::Request;
+ghost use mathlib.Core.Bool.{true, cond};
+ghost use mathlib.Core.Path.{_≡_};
+ghost use lib.ListN.{drop};
+ghost use Prim.Native.Nat.{_≤_};
+ghost use Rattle.requests.specs.declared.Request.{Request};
+ghost use Rattle.grammar.specs.Grammar.{isDigit, worth, digits, spaced, after, ends, writes, lettered};
+ghost use Rattle.grammar.specs.Parsing.{foundOf, Reads, Parses};
+
+// The most bytes of a line, without its end.
+pub const LINE_BYTES: usize = 128;
+
+// What a line asks: a request, and where the bytes of a Write start (in any other, the line's end); or it has another form.
+pub enum Parsed {
+    Another,
+    Asks(Request, usize),
+}
+
+// A number, and where the bytes after it start; or no number.
+enum Field {
+    Missing,
+    Number(usize, usize),
+}
+
+fn is_digit(b: u8) -> bool
+    ensures { λ r. ⌜ r ≡ isDigit b ⌝ }
+{
+    if b < b'0' {
+        return false;
+    }
+    b <= b'9'
+}
+
+fn worth(b: u8) -> usize
+    requires { ⌜ isDigit b ≡ true ⌝ }
+    ensures { λ r. ⌜ (r ≡ worth b) × (r ≤ 9) ⌝ }
+{
+    (b - b'0') as usize
+}
+
+// The number that up to four digits from a place on make of its first one.
+fn digits_from(line: &[u8], first: usize, from: usize) -> Field
+    requires { ⌜ first ≤ 9 ⌝ }
+    ensures { λ r. ⌜ foundOf (now (line .entry)) r ≡ digits 4 first (drop from (now (line .entry))) ⌝ }
+{
+    let mut number = first;
+    let mut at = from;
+    let mut left: usize = 4;
+    while 0 < left {
+        if line.len() <= at {
+            return Field::Number(number, at);
+        }
+        let b = line[at];
+        if !is_digit(b) {
+            return Field::Number(number, at);
+        }
+        number = number * 10 + worth(b);
+        at += 1;
+        left -= 1;
+    }
+    Field::Number(number, at)
+}
+
+// One space and a number of one to five digits.
+fn number_at(line: &[u8], at: usize) -> Field
+    ensures { λ r. ⌜ foundOf (now (line .entry)) r ≡ spaced (drop at (now (line .entry))) ⌝ }
+{
+    if line.len() <= at {
+        return Field::Missing;
+    }
+    if line[at] != b' ' {
+        return Field::Missing;
+    }
+    let from = at + 1;
+    if line.len() <= from {
+        return Field::Missing;
+    }
+    let b = line[from];
+    if !is_digit(b) {
+        return Field::Missing;
+    }
+    digits_from(line, worth(b), from + 1)
+}
+
+// The request, where the line ends at that place.
+fn ended(q: Request, line: &[u8], at: usize) -> Parsed
+    ensures { λ r. ⌜ Reads (now (line .entry)) r (ends q (drop at (now (line .entry)))) ⌝ }
+{
+    if at < line.len() {
+        return Parsed::Another;
+    }
+    Parsed::Asks(q, line.len())
+}
+
+// `P0 3`
+fn pointer_line(line: &[u8], t: usize) -> Parsed
+    ensures { λ r. ⌜ Reads (now (line .entry)) r (after (spaced (drop 2 (now (line .entry)))) (λ d. ends (Request.GetFilePointer t d))) ⌝ }
+{
+    let Field::Number(d, at) = number_at(line, 2) else {
+        return Parsed::Another;
+    };
+    ended(Request::GetFilePointer(t, d), line, at)
+}
+
+// `S0 3 17`, otherwise `R0 3 5`
+fn seek_or_read_line(line: &[u8], t: usize, seeks: bool) -> Parsed
+    ensures { λ r. ⌜ Reads (now (line .entry)) r (after (spaced (drop 2 (now (line .entry)))) (λ d rest. after (spaced rest) (λ n. ends (cond seeks (Request.Seek t d n) (Request.Read t d n))))) ⌝ }
+{
+    let Field::Number(d, second) = number_at(line, 2) else {
+        return Parsed::Another;
+    };
+    let Field::Number(n, at) = number_at(line, second) else {
+        return Parsed::Another;
+    };
+    if seeks {
+        return ended(Request::Seek(t, d, n), line, at);
+    }
+    ended(Request::Read(t, d, n), line, at)
+}
+
+// `W0 3 ` and the bytes up to the line's end
+fn write_line(line: &[u8], t: usize) -> Parsed
+    ensures { λ r. ⌜ Reads (now (line .entry)) r (after (spaced (drop 2 (now (line .entry)))) (λ d. writes (Request.Write t d))) ⌝ }
+{
+    let Field::Number(d, at) = number_at(line, 2) else {
+        return Parsed::Another;
+    };
+    if line.len() <= at {
+        return Parsed::Another;
+    }
+    if line[at] != b' ' {
+        return Parsed::Another;
+    }
+    Parsed::Asks(Request::Write(t, d), at + 1)
+}
+
+// The line with that letter and transaction.
+fn by_letter(line: &[u8], letter: u8, t: usize) -> Parsed
+    ensures { λ r. ⌜ Reads (now (line .entry)) r (lettered letter t (drop 2 (now (line .entry)))) ⌝ }
+{
+    match letter {
+        b'B' => ended(Request::Begin(t), line, 2),
+        b'C' => ended(Request::Commit(t), line, 2),
+        b'A' => ended(Request::Abort(t), line, 2),
+        b'P' => pointer_line(line, t),
+        b'S' => seek_or_read_line(line, t, true),
+        b'R' => seek_or_read_line(line, t, false),
+        b'W' => write_line(line, t),
+        _ => Parsed::Another,
+    }
+}
+
+// What a line asks. It comes without its end.
+pub fn parse(line: &[u8]) -> Parsed
+    ensures { λ r. ⌜ Parses (now (line .entry)) r ⌝ }
+{
+    if LINE_BYTES < line.len() {
+        return Parsed::Another;
+    }
+    if line.len() < 2 {
+        return Parsed::Another;
+    }
+    let digit = line[1];
+    if !is_digit(digit) {
+        return Parsed::Another;
+    }
+    by_letter(line, line[0], worth(digit))
+}

@@ -1,0 +1,70 @@
+-- The lines of a trace. Paper 02, F-5: "A line ends at the byte 10, the last one also at the end of the input, where an empty rest is no
+-- line."
+use mathlib.Core.Path.{_≡_}
+use mathlib.Core.Bool.{Bool, true, false, cond}
+use mathlib.Core.List.{List, [], _∷_, _++_, map}
+use lib.Dec.{eqb}
+use lib.ListN.{take}
+use Prim.Native.Nat.{ℕ, _≤_, _<_}
+use Rattle.lines.specs.declared.Look.{Look}
+
+-- The line that a byte of the input ends, if it does, and what is held of the line at hand after the byte.
+unfoldable pub ended : ℕ → List ℕ → List (List ℕ)
+ended x held = cond (eqb x 10) (held ∷ []) []
+
+unfoldable pub grown : ℕ → List ℕ → List ℕ
+grown x held = cond (eqb x 10) [] (held ++ (x ∷ []))
+
+-- "the last one also at the end of the input, where an empty rest is no line"
+unfoldable pub lastLine : List ℕ → List (List ℕ)
+lastLine [] = []
+lastLine (x ∷ xs) = (x ∷ xs) ∷ []
+
+unfoldable pub linesFrom : List ℕ → List ℕ → List (List ℕ)
+linesFrom held [] = lastLine held
+linesFrom held (x ∷ xs) = ended x held ++ linesFrom (grown x held) xs
+
+-- The lines of the whole input.
+unfoldable pub linesOf : List ℕ → List (List ℕ)
+linesOf input = linesFrom [] input
+
+-- ---- input that comes in pieces
+
+-- What is kept of a line: 129 bytes, which show that it is "longer than 128 bytes without its line end".
+unfoldable pub kept : List ℕ → List ℕ
+kept line = take 129 line
+
+-- The lines that end in a piece, and what is held after it, where held is what came before of the line at hand.
+unfoldable pub endedIn : List ℕ → List ℕ → List (List ℕ)
+endedIn held [] = []
+endedIn held (x ∷ xs) = ended x held ++ endedIn (kept (grown x held)) xs
+
+unfoldable pub heldAfter : List ℕ → List ℕ → List ℕ
+heldAfter held [] = held
+heldAfter held (x ∷ xs) = heldAfter (kept (grown x held)) xs
+
+-- The lines of all pieces.
+unfoldable pub fromPieces : List ℕ → List (List ℕ) → List (List ℕ)
+fromPieces held [] = lastLine held
+fromPieces held (piece ∷ pieces) = endedIn held piece ++ fromPieces (heldAfter held piece) pieces
+
+unfoldable pub joined : List (List ℕ) → List ℕ
+joined [] = []
+joined (piece ∷ pieces) = piece ++ joined pieces
+
+-- Proved in proofs/Pieces.antt: wherever the input is cut, the lines are those of the whole.
+abbrev pub PiecesAreTheWhole : Type 0
+PiecesAreTheWhole = (pieces : List (List ℕ)) → fromPieces [] pieces ≡ map kept (linesOf (joined pieces))
+
+-- What a look for the next line end finds in a piece: the line that ends first, and the rest of the piece; or that no line ends in it,
+-- and what is held then.
+unfoldable pub Found : Bool → List ℕ → List ℕ → List ℕ → List ℕ → Type 0
+Found true held piece line rest = (endedIn held piece ≡ line ∷ endedIn [] rest) × (heldAfter held piece ≡ heldAfter [] rest)
+Found false held piece line rest = (endedIn held piece ≡ []) × (heldAfter held piece ≡ line)
+
+-- Where a look from `from` on ends in a piece of that size: past the line end that it found.
+pub record Went (r : Look) (from size : ℕ) : Type 0 where
+  pub within : r .held ≤ 129
+  pub onward : from ≤ r .at
+  pub inside : r .at ≤ size
+  pub past : r .ended ≡ true → from < r .at

@@ -1,0 +1,127 @@
+-- `put_answer` meets its contract. Assumes nothing.
+use native.Mathlib.Omega.{arith}
+use Rattle.record.specs.Paper.{said}
+use Rattle.printing.specs.Printed.{spelled}
+use Rattle.printing.proofs.Laws.{length-decimal}
+use borrow.Author.Needs.{needs}
+use Rattle.printing.proofs.put_answer.Statement.{statement}
+use Rattle.printing.proofs.put_answer.Tie as tie
+
+enum-told : tie.Need-enum-told
+enum-told c = search needs
+
+put-ok-requires : tie.Need-put-ok-requires
+put-ok-requires c κs = search needs
+
+enum-known-o : tie.Need-enum-known-o
+enum-known-o c = search needs
+
+put-ok-number-requires : tie.Need-put-ok-number-requires
+put-ok-number-requires c κs = search needs
+
+enum-known-o-2 : tie.Need-enum-known-o-2
+enum-known-o-2 c = search needs
+
+put-given-requires : tie.Need-put-given-requires
+put-given-requires c κs = search needs
+
+enum-known-o-3 : tie.Need-enum-known-o-3
+enum-known-o-3 c = search needs
+
+cast-put-ok-number : tie.Need-cast-put-ok-number
+cast-put-ok-number c = search needs
+
+put-ok-number-requires-2 : tie.Need-put-ok-number-requires-2
+put-ok-number-requires-2 c κs = search needs
+
+enum-known-o-4 : tie.Need-enum-known-o-4
+enum-known-o-4 c = search needs
+
+put-ok-number-requires-3 : tie.Need-put-ok-number-requires-3
+put-ok-number-requires-3 c κs = search needs
+
+enum-known-o-5 : tie.Need-enum-known-o-5
+enum-known-o-5 c = search needs
+
+number-requires : tie.Need-number-requires
+number-requires c κs = search needs
+
+cast-put-decimal : tie.Need-cast-put-decimal
+cast-put-decimal c = search needs
+
+put-decimal-requires : tie.Need-put-decimal-requires
+put-decimal-requires c κs = omega (arith, length-decimal (c .number .result), c .before .before .before .before .before .before .before .pre)
+
+same-length : tie.Need-same-length
+same-length c = search needs
+
+returns : tie.Need-returns
+unfolding spelled said
+returns c = rw (c .before .before .before .before .enum-told .given .1) (c .before .before .put-ok .ensures)
+
+same-length-2 : tie.Need-same-length-2
+same-length-2 c = search needs
+
+returns-2 : tie.Need-returns-2
+unfolding spelled said
+returns-2 c = rw (c .before .before .before .before .before .o .given .1) (c .before .before .put-ok-number .ensures)
+
+same-length-3 : tie.Need-same-length-3
+same-length-3 c = search needs
+
+returns-3 : tie.Need-returns-3
+unfolding spelled said
+returns-3 c = rw (c .before .before .before .before .before .o2 .given .1) (c .before .before .put-given .ensures)
+
+same-length-4 : tie.Need-same-length-4
+same-length-4 c = search needs
+
+returns-4 : tie.Need-returns-4
+unfolding spelled said
+returns-4 c = rw (c .before .before .before .before .before .o3 .given .1) (c .before .before .put-ok-number2 .ensures)
+
+same-length-5 : tie.Need-same-length-5
+same-length-5 c = search needs
+
+returns-5 : tie.Need-returns-5
+unfolding spelled said
+returns-5 c = rw (c .before .before .before .before .before .o4 .given .1) (c .before .before .put-ok-number3 .ensures)
+
+same-length-6 : tie.Need-same-length-6
+same-length-6 c = search needs
+
+returns-6 : tie.Need-returns-6
+unfolding spelled said
+returns-6 c = rw (c .before .before .before .before .before .before .o5 .given .1, ← c .before .before .before .number .ensures) (c .before .before .put-decimal .ensures)
+
+pub put-answer-spec : {M : Type 1} → statement M
+put-answer-spec =
+    tie.close
+    (tie.spec
+    enum-told
+    put-ok-requires
+    enum-known-o
+    put-ok-number-requires
+    enum-known-o-2
+    put-given-requires
+    enum-known-o-3
+    cast-put-ok-number
+    put-ok-number-requires-2
+    enum-known-o-4
+    put-ok-number-requires-3
+    enum-known-o-5
+    number-requires
+    cast-put-decimal
+    put-decimal-requires
+    same-length
+    returns
+    same-length-2
+    returns-2
+    same-length-3
+    returns-3
+    same-length-4
+    returns-4
+    same-length-5
+    returns-5
+    same-length-6
+    returns-6)

@@ -1,0 +1,60 @@
+-- From what the parser says of a line to what the line is answered; and bounds. Assumes nothing.
+use mathlib.Core.Bool.{Bool, true, false, cond}
+use mathlib.Core.List.{List}
+use mathlib.Core.Path.{_≡_, refl, sym, ap, _∙_}
+use lib.ListN.{length, take, drop, length-drop}
+use lib.Seq.{take-all, length-take-le}
+use native.Mathlib.Omega.{arith}
+use Prim.Native.Nat.{ℕ, _+_, _-_, _*_, _≤_, _<_}
+use Rattle.dispatch.specs.Performing.{Performs}
+use Rattle.grammar.specs.Grammar.{another, asks, parsed}
+use Rattle.grammar.specs.Parsing.{Parses, lineOf, startOf}
+use Rattle.grammar.specs.declared.Parsed.{Parsed}
+use Rattle.grammar.specs.declared.Parsed.the-variants.{Another, Asks}
+use Rattle.lines.specs.Lines.{Went}
+use Rattle.lines.specs.declared.Look.{Look}
+use Rattle.record.specs.Paper.{said, refused}
+use Rattle.record.specs.declared.outcomes.Outcome.{Outcome}
+use Rattle.requests.specs.declared.Request.{Request}
+use Rattle.rules.specs.Machine.{Machine}
+use Rattle.trace.specs.Answers.{Answers, AnswersTo}
+
+module _ (line : List ℕ) (r : Parsed) (p : Parses line r) where
+  pub refused-line : r ≡ Another → (reader : List ℕ) (m : Machine) (o : Outcome) → said o ≡ refused 17 → Answers line reader m o m reader
+  unfolding AnswersTo lineOf
+  refused-line e reader m o q =
+      let l : parsed line ≡ another = sym (p .means) ∙ ap (lineOf line) e in
+      rw l (q, (refl, refl))
+
+  module _ (q : Request) (start : ℕ) (e : r ≡ Asks q start) where
+    pub starts-within : start ≤ length line
+    unfolding startOf
+    starts-within = omega (arith, p .within, ap startOf e)
+
+    -- the bytes are cut as a range of the code, `&line[start..]`
+    pub asked-line : (reader : List ℕ) (m : Machine) (o : Outcome) (m′ : Machine) (reader′ : List ℕ)
+        → Performs q (take (length line - start) (drop start line)) reader m o m′ reader′ → Answers line reader m o m′ reader′
+    unfolding AnswersTo lineOf
+    asked-line reader m o m′ reader′ f =
+        let l : parsed line ≡ asks q (drop start line) = sym (p .means) ∙ ap (lineOf line) e in
+        let n = length-drop start line in
+        let all = take-all (length line - start) (drop start line) (omega arith) in
+        rw (l, ← all) f
+
+-- ---- bounds
+
+-- a part from the front of a buffer
+pub counted : (n : ℕ) (l : List ℕ) → n ≤ length l → n ≡ length (take n l)
+counted n l h = sym (length-take-le n l h)
+
+-- what is left of a piece after a look, and one more while lines end: it falls with each look
+unfoldable pub left : Look → ℕ → ℕ
+left k size = 2 * (size - k .at) + cond (k .ended) 1 0
+
+pub falls : (k next : Look) (size : ℕ) → k .ended ≡ true → Went next (k .at) size → left next size < left k size
+unfolding left
+falls k next size e w = rw e (pick (next .ended) refl)
+  where
+    pick : (t : Bool) → next .ended ≡ t → 2 * (size - next .at) + cond (next .ended) 1 0 < 2 * (size - k .at) + 1
+    pick true f = rw f (omega (arith, w .inside, w .past f))
+    pick false f = rw f (omega (arith, w .inside, w .onward))

@@ -75,6 +75,7 @@ pub enum Refusal {
     ListTooLong = 16,
     /// A line of a trace; no call meets it.
     BadLine = 17,
+    StaleReader = 18,
 }
 
 impl Refusal {

@@ -197,6 +197,38 @@ commit 0 -> granted 0
     );
 }
 
+#[test]
+fn a_stale_transaction_is_turned_back_after_6_and_before_7_and_12() {
+    agrees(
+        "\
+begin 1 -> done
+pointer 0 1 -> offset 0
+write 0 0 41 -> done
+write 0 2 41 -> done
+seek 0 2 9 -> done
+seek 0 3 5 -> done
+seek 1 0 4096 -> done
+seek 1 1 0 -> done
+commit 1 -> granted 1
+read 0 16 2 07 -> refused 6
+pointer 0 16 -> refused 6
+read 0 0 2 07 -> refused 18
+read 0 0 1 07 -> refused 18
+read 0 15 0 - -> refused 18
+pointer 0 0 -> refused 18
+pointer 0 1 -> refused 18
+pointer 0 2 -> refused 18
+pointer 0 3 -> refused 18
+pointer 0 15 -> refused 18
+seek 0 3 7 -> done
+write 0 3 42 -> done
+begin 0 -> refused 5
+commit 0 -> refused 13
+pointer 0 0 -> refused 4
+",
+    );
+}
+
 /// What a Commit of transaction 0 leaves in offset 3, on a record in which descriptor 3 stands so, was acted on or not, and
 /// has the committed offset 7.
 fn committed_from(standing: Standing, acted: u16) -> Result<u16, Refusal> {

@@ -165,7 +165,7 @@ fn data(request: &Request) -> Vec<u8> {
     (0..request.number).map(|i| ((request.data_first + request.data_step * i) % 256) as u8).collect()
 }
 
-/// Calls so far; done, offset, given, granted, pairs; refusals 1 to 17; the digest of the state, the digest of all answers.
+/// Calls so far; done, offset, given, granted, pairs; refusals 1 to 18; the digest of the state, the digest of all answers.
 fn write_line(out: &mut impl Write, made: u64, pair: &Pair, answers: Digest) -> io::Result<()> {
     let Tally { done, offset, given, granted, pairs, refused, .. } = &pair.tally;
     write!(out, "{made} {done} {offset} {given} {granted} {pairs}")?;

@@ -24,7 +24,7 @@ pub struct Tally {
     pub granted: u64,
     pub pairs: u64,
     /// By the refusal's number; the first entry stays 0.
-    pub refused: [u64; 18],
+    pub refused: [u64; 19],
     /// Grants while another transaction was open.
     pub granted_among_others: u64,
     /// Grants that made another transaction stale.

@@ -422,7 +422,7 @@ impl Machine {
             Action::Read { buffer, .. } => buffer.clone(),
             _ => Vec::new(),
         };
-        if let Err(refusal) = self.check_open(t) {
+        if let Err(refusal) = self.check_open(t).and_then(|()| self.check_look(t, step)) {
             return Reply { outcome: Err(refusal), buffer: untouched_buffer };
         }
         let transaction = self.open[t].as_mut().expect("it is open");
@@ -471,6 +471,15 @@ impl Machine {
             Some(_) => Ok(()),
             None => Err(Refusal::NotOpen),
         }
+    }
+
+    /// A stale transaction looks no more. A descriptor number above 15 is left to the step itself.
+    fn check_look(&self, t: usize, step: &Step) -> Result<(), Refusal> {
+        let looks = matches!(step.action, Action::GetFilePointer | Action::Read { .. });
+        if looks && step.descriptor < DESCRIPTORS && self.is_stale(t) {
+            return Err(Refusal::StaleReader);
+        }
+        Ok(())
     }
 
     fn check_placing(&self, t: usize) -> Result<(), Refusal> {

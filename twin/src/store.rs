@@ -296,7 +296,7 @@ impl Store {
     }
 
     pub fn get_file_pointer(&mut self, lent: &mut Lent, t: usize, d: usize) -> Result<u16, Refusal> {
-        self.check_descriptor(lent, t, d)?;
+        self.check_look(lent, t, d)?;
         match self.transactions[t].standings[d] {
             Standing::Placed(offset) | Standing::Moved { offset, .. } | Standing::Known(offset) => Ok(offset),
             Standing::Untouched | Standing::Deferred(_) => {
@@ -315,7 +315,7 @@ impl Store {
         count: usize,
         reader: &mut [u8],
     ) -> Result<u16, Refusal> {
-        self.check_descriptor(lent, t, d)?;
+        self.check_look(lent, t, d)?;
         if count > reader.len() {
             return Err(Refusal::ReaderTooShort);
         }
@@ -392,6 +392,15 @@ impl Store {
         self.check_open(lent, t)?;
         if d >= DESCRIPTORS {
             return Err(Refusal::NoSuchDescriptor);
+        }
+        Ok(())
+    }
+
+    /// The checks of a call that looks.
+    fn check_look(&self, lent: &Lent, t: usize, d: usize) -> Result<(), Refusal> {
+        self.check_descriptor(lent, t, d)?;
+        if self.transactions[t].stale {
+            return Err(Refusal::StaleReader);
         }
         Ok(())
     }

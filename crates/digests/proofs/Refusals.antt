@@ -1,12 +1,12 @@
--- A refusal's number is at most 17.
+-- A refusal's number is at most 18.
 use mathlib.Core.Path.{_≡_}
 use Prim.Native.Nat.{ℕ, _≤_}
 use native.Mathlib.Omega.{arith}
 use Rattle.record.specs.Paper.{number}
 use Rattle.record.specs.declared.outcomes.Refusal.{Refusal}
-use Rattle.record.specs.declared.outcomes.Refusal.the-variants.{BufferLength, RecordRange, NoSuchTransaction, NotOpen, AlreadyOpen, NoSuchDescriptor, ReaderTooShort, SeekPastEnd, WritePastEnd, RecordsFull, LogFull, SettledPastEnd, Stale, NoSuchFile, NoPlaceYet, ListTooLong, BadLine}
+use Rattle.record.specs.declared.outcomes.Refusal.the-variants.{BufferLength, RecordRange, NoSuchTransaction, NotOpen, AlreadyOpen, NoSuchDescriptor, ReaderTooShort, SeekPastEnd, WritePastEnd, RecordsFull, LogFull, SettledPastEnd, Stale, NoSuchFile, NoPlaceYet, ListTooLong, BadLine, StaleReader}
 
-pub number-bound : (r : Refusal) → number r ≤ 17
+pub number-bound : (r : Refusal) → number r ≤ 18
 number-bound BufferLength = omega arith
 number-bound RecordRange = omega arith
 number-bound NoSuchTransaction = omega arith
@@ -24,6 +24,7 @@ number-bound NoSuchFile = omega arith
 number-bound NoPlaceYet = omega arith
 number-bound ListTooLong = omega arith
 number-bound BadLine = omega arith
+number-bound StaleReader = omega arith
 
-pub bounded : (r : Refusal) (n : ℕ) → n ≡ number r → n ≤ 17
+pub bounded : (r : Refusal) (n : ℕ) → n ≡ number r → n ≤ 18
 bounded r n e = omega (arith, e, number-bound r)

@@ -15,7 +15,7 @@ use Rattle.ranges.specs.Ranges.{admission}
 use Rattle.standings.specs.Table.{afterSeek}
 use Rattle.rules.specs.Transactions.{dirtied}
 use Rattle.rules.specs.Messages.{Op, seek, bufferOf, on}
-use Rattle.rules.specs.Steps.{step, seekStep}
+use Rattle.rules.specs.Steps.{step, seekStep, looks, turnsBack}
 use Rattle.rules.specs.Machine.{Machine, lent, withStore, sizes, txnOf}
 use Rattle.rules.specs.Calls.{Turn, turnDown, logged, call}
 use Rattle.laws.proofs.Decoded.{Opened}
@@ -26,12 +26,12 @@ use Rattle.refusing.proofs.Turns.{on-refused, on-accepted, check-held, check-fa
 module _ (t d v : ℕ) (m : Machine) (passes : admission (sizes m) (m .store) (m .journal) t ≡ 0) where
   pub seek-no-descriptor : 15 < d → call (on t (seek d v)) m ≡ turnDown 6 [] m
   unfolding step seekStep bufferOf
-  seek-no-descriptor h = on-refused t (seek d v) m passes 6 (check-failed (leb d 15) 6 _ (lt-leb d 15 h))
+  seek-no-descriptor h = on-refused t (seek d v) m passes (unfold turnsBack looks in refl) 6 (check-failed (leb d 15) 6 _ (lt-leb d 15 h))
 
   pub seek-past-end : d ≤ 15 → 4096 < v → call (on t (seek d v)) m ≡ turnDown 8 [] m
   unfolding step seekStep bufferOf
   seek-past-end h g =
-      on-refused t (seek d v) m passes 8 (check-held (leb d 15) 6 _ (le-leb d 15 h) ∙ check-failed (leb v 4096) 8 _ (lt-leb v 4096 g))
+      on-refused t (seek d v) m passes (unfold turnsBack looks in refl) 8 (check-held (leb d 15) 6 _ (le-leb d 15 h) ∙ check-failed (leb v 4096) 8 _ (lt-leb v 4096 g))
 
   -- An accepted Seek sets the standing of d and makes d dirty, and nothing else.
   pub seek-meets : Opened (m .store) (m .journal) (m .logs) t → d ≤ 15 → v ≤ 4096
@@ -42,7 +42,7 @@ module _ (t d v : ℕ) (m : Machine) (passes : admission (sizes m) (m .store) (m
   seek-meets o h g =
       let z = afterSeek v (standingAt (transaction (m .store) t) d) in
       let e =
-      on-accepted t (seek d v) m passes (dirtied d z (txnOf (m .store) (m .journal) (m .logs) t)) plain []
+      on-accepted t (seek d v) m passes (unfold turnsBack looks in refl) (dirtied d z (txnOf (m .store) (m .journal) (m .logs) t)) plain []
       (check-held (leb d 15) 6 _ (le-leb d 15 h) ∙ check-held (leb v 4096) 8 _ (le-leb v 4096 g)) in
       record {
         outcome = sym (ap (λ (w : Turn). w .reply .answer) e);

@@ -23,7 +23,7 @@ use Rattle.ranges.proofs.Laws.{and-right}
 use Rattle.rules.specs.Items.{Prog, done}
 use Rattle.standings.specs.Table.{afterWrite, writePlace}
 use Rattle.rules.specs.Messages.{Op, write, bufferOf, on}
-use Rattle.rules.specs.Steps.{Stepped, refuse, accept, check, step, writeStep, written, total}
+use Rattle.rules.specs.Steps.{Stepped, refuse, accept, check, step, writeStep, written, total, looks, turnsBack}
 use Rattle.rules.specs.Machine.{Machine, lent, withStore, withJournal, withLogs, sizes, fileOf, txnOf, recordOf}
 use Rattle.rules.specs.Calls.{Turn, turnDown, logged, call}
 use Rattle.laws.proofs.Decoded.{Opened, decoded-count, decoded-total}
@@ -84,7 +84,7 @@ room-left s t d n e =
 module _ (t d : ℕ) (bytes : List ℕ) (m : Machine) (passes : admission (sizes m) (m .store) (m .journal) t ≡ 0) where
   pub write-no-descriptor : 15 < d → call (on t (write d bytes)) m ≡ turnDown 6 [] m
   unfolding step writeStep bufferOf
-  write-no-descriptor h = on-refused t (write d bytes) m passes 6 (check-failed (leb d 15) 6 _ (lt-leb d 15 h))
+  write-no-descriptor h = on-refused t (write d bytes) m passes (unfold turnsBack looks in refl) 6 (check-failed (leb d 15) 6 _ (lt-leb d 15 h))
 
   module _ (o : Opened (m .store) (m .journal) (m .logs) t) (low : d ≤ 15) where
     -- The step, with its tests on the record.
@@ -101,7 +101,7 @@ module _ (t d : ℕ) (bytes : List ℕ) (m : Machine) (passes : admission (sizes
     pub write-refused : (r : Refusal) → number r ≡ writeRefusal (m .store) t d (length bytes) → call (on t (write d bytes)) m ≡ turnDown (number r) [] m
     unfolding bufferOf
     write-refused r e =
-        on-refused t (write d bytes) m passes (number r) (stepped ∙ three-refused 9 10 11 _ _ _ _ r e)
+        on-refused t (write d bytes) m passes (unfold turnsBack looks in refl) (number r) (stepped ∙ three-refused 9 10 11 _ _ _ _ r e)
 
     module _ (room : Room (m .store) t d (length bytes)) where
       accepted : step (fileOf (m .store)) (write d bytes) (txnOf (m .store) (m .journal) (m .logs) t) ≡ done (accept (written d bytes (txnOf (m .store) (m .journal) (m .logs) t)) plain [])
@@ -126,7 +126,7 @@ module _ (t d : ℕ) (bytes : List ℕ) (m : Machine) (passes : admission (sizes
       unfolding said logged written recordOf txnOf
       write-meets u z journal logs er eb ez ej el =
           let y = txnOf (m .store) (m .journal) (m .logs) t in
-          let e = on-accepted t (write d bytes) m passes (written d bytes y) plain [] accepted in
+          let e = on-accepted t (write d bytes) m passes (unfold turnsBack looks in refl) (written d bytes y) plain [] accepted in
           rw (both-counters u _ _ er eb, ez, ej, el)
           (record {
             outcome = sym (ap (λ (w : Turn). w .reply .answer) e);

@@ -1,3 +1,4 @@
 -- Laws of the two calls: their rules after each of their tests.
+pub mod LookRules
 pub mod PointerRules
 pub mod ReadRules

@@ -1,8 +1,8 @@
 -- The rule of GetFilePointer after each of its tests.
-use mathlib.Core.Bool.{Bool, true, false, cond}
+use mathlib.Core.Bool.{Bool, true, false, cond, true≢false}
 use mathlib.Core.List.{List, [], _∷_}
 use mathlib.Core.Path.{_≡_, refl, sym, ap, ap₂, _∙_}
-use borrow.Author.Tests.{le-leb, lt-leb}
+use borrow.Author.Tests.{le-leb}
 use lib.Dec.{leb}
 use lib.Seq.{set-getD}
 use native.Mathlib.Omega.{arith}
@@ -10,26 +10,28 @@ use Prim.Native.Nat.{ℕ, _≤_, _<_}
 use Rattle.standings.specs.declared.Standing.{Standing}
 use Rattle.standings.specs.Table.{pointerSettles, offsetOf}
 use Rattle.record.specs.declared.outcomes.Outcome.the-variants.{Offset}
+use Rattle.record.specs.declared.outcomes.Refusal.{Refusal}
 use Rattle.record.specs.declared.Transaction.{Transaction}
 use Rattle.record.specs.declared.Store.{Store}
 use Rattle.record.specs.State.{transaction, noTransaction, standingAt, withTransaction}
-use Rattle.record.specs.Paper.{pointer, said}
+use Rattle.record.specs.Paper.{number, pointer, said}
 use Rattle.ranges.specs.Ranges.{admission}
 use Rattle.rules.specs.Items.{Item, Prog, done, andThen, result, asked}
 use Rattle.rules.specs.Transactions.{Txn, Settled, past, all, settling}
 use Rattle.rules.specs.Messages.{getFilePointer, bufferOf, on}
-use Rattle.rules.specs.Steps.{Stepped, accept, orGivenBack, step, pointerStep}
+use Rattle.rules.specs.Steps.{Stepped, accept, orGivenBack, step, pointerStep, descriptorOf, looks}
 use Rattle.rules.specs.Machine.{Machine, lent, withStore, withJournal, sizes, values, txnOf, withTxn}
 use Rattle.rules.specs.Calls.{Turn, turnDown, marked, logged, served, call}
 use Rattle.rules.specs.Promises.{Meets}
-use Rattle.rules.proofs.Serial.Programs.{result-andThen, asked-andThen}
+use Rattle.rules.proofs.Serial.Programs.{result-andThen, asked-andThen, not-stale}
 use Rattle.laws.proofs.Decoded.{Opened}
 use Rattle.laws.proofs.Encoded.{writes-same, holding-same}
 use Rattle.laws.proofs.Settling.{marked-settling}
 use Rattle.settling.specs.Choices.{chosenByPointer, allWithin, settledTransaction}
 use Rattle.settling.proofs.Settled.{settledTxn, settledJournal, txn-settled, journal-settled, standing-settled}
 use Rattle.settling.proofs.Chosen.{settling-pointer}
-use Rattle.refusing.proofs.Turns.{program, on-stepped, on-refused, on-accepted, check-held, check-failed}
+use Rattle.refusing.proofs.Turns.{program, on-stepped, on-accepted, check-held, check-failed}
+use Rattle.looking.proofs.LookRules.{lookRefusal, look-refused}
 
 -- A transaction put back as it was.
 txn-same : (s : Store) (journal logs : List ℕ) (t : ℕ) → Opened s journal logs t → withTxn t (txnOf s journal logs t) s ≡ s
@@ -37,9 +39,10 @@ unfolding withTxn withTransaction
 txn-same s journal logs t o = rw (holding-same s journal logs t o, set-getD (s .transactions) t noTransaction)
 
 module _ (t d : ℕ) (m : Machine) (passes : admission (sizes m) (m .store) (m .journal) t ≡ 0) where
-  pub pointer-no-descriptor : 15 < d → call (on t (getFilePointer d)) m ≡ turnDown 6 [] m
-  unfolding step pointerStep bufferOf
-  pointer-no-descriptor h = on-refused t (getFilePointer d) m passes 6 (check-failed (leb d 15) 6 _ (lt-leb d 15 h))
+  pub pointer-refused : (r : Refusal) → number r ≡ lookRefusal (transaction (m .store) t .stale) d 0 0
+      → call (on t (getFilePointer d)) m ≡ turnDown (number r) [] m
+  unfolding step pointerStep bufferOf descriptorOf looks
+  pointer-refused = look-refused t (getFilePointer d) m passes d 0 0 refl refl (check-failed (leb d 15) 6 _) (λ l e. absurd (true≢false e))
 
   -- Transaction t, the choice, and the transaction afterwards.
   abbrev held : Transaction
@@ -56,13 +59,13 @@ module _ (t d : ℕ) (m : Machine) (passes : admission (sizes m) (m .store) (m .
   told y = done (accept y (pointer (offsetOf (y .standing d))) [])
 
   -- Where nothing is settled.
-  pub pointer-stays : Opened (m .store) (m .journal) (m .logs) t → d ≤ 15 → pointerSettles (standingAt held d) ≡ false
+  pub pointer-stays : Opened (m .store) (m .journal) (m .logs) t → held .stale ≡ false → d ≤ 15 → pointerSettles (standingAt held d) ≡ false
       → Meets (call (on t (getFilePointer d)) m) (Offset (offsetOf (standingAt held d))) m []
   unfolding step pointerStep settling andThen orGivenBack txnOf logged said
-  pointer-stays o h e =
+  pointer-stays o f h e =
       let x = txnOf (m .store) (m .journal) (m .logs) t in
       let w =
-      on-accepted t (getFilePointer d) m passes x (pointer (offsetOf (x .standing d))) []
+      on-accepted t (getFilePointer d) m passes (not-stale (held .stale) (getFilePointer d) f) x (pointer (offsetOf (x .standing d))) []
       (check-held (leb d 15) 6 _ (le-leb d 15 h)
       ∙ ap (λ (b : Bool). andThen (settling (cond b (d ∷ []) []) x) (orGivenBack (λ y. done (accept y (pointer (offsetOf (y .standing d))) [])))) e) in
       record {
@@ -89,10 +92,10 @@ module _ (t d : ℕ) (m : Machine) (passes : admission (sizes m) (m .store) (m .
       (settling-pointer (m .store) (m .journal) (m .files) (m .logs) t d (omega arith)
       ∙ ap (λ (b : Bool). cond b (all (settledTxn (m .store) (m .journal) (m .logs) t choice)) past) e)
 
-  pub pointer-past : d ≤ 15 → allWithin choice (m .store .offsets) held ≡ false → call (on t (getFilePointer d)) m ≡ turnDown 12 [] m
+  pub pointer-past : held .stale ≡ false → d ≤ 15 → allWithin choice (m .store .offsets) held ≡ false → call (on t (getFilePointer d)) m ≡ turnDown 12 [] m
   unfolding orGivenBack result served bufferOf
-  pointer-past h e =
-      on-stepped t (getFilePointer d) m passes
+  pointer-past f h e =
+      on-stepped t (getFilePointer d) m passes (not-stale (held .stale) (getFilePointer d) f)
       ∙ ap (served t (getFilePointer d) m (asked (values (m .store) (m .files)) (program t (getFilePointer d) m passes))) (pointer-result false h e)
 
   -- Neither settling nor the answer marks anything.
@@ -112,13 +115,13 @@ module _ (t d : ℕ) (m : Machine) (passes : admission (sizes m) (m .store) (m .
       ∙ marked-settling v t ds x (asked v (orGivenBack told (result v (settling ds x)))) (m .marks)
       ∙ told-marks (result v (settling ds x))
 
-  meets : Opened (m .store) (m .journal) (m .logs) t → d ≤ 15 → allWithin choice (m .store .offsets) held ≡ true
+  meets : Opened (m .store) (m .journal) (m .logs) t → held .stale ≡ false → d ≤ 15 → allWithin choice (m .store .offsets) held ≡ true
       → Meets (call (on t (getFilePointer d)) m) (Offset (offsetOf (standingAt afterwards d)))
       (withStore (withTransaction t afterwards (m .store)) (withJournal (settledJournal (m .store) (m .journal) t choice) m)) []
   unfolding orGivenBack result served said told logged
-  meets o h e =
+  meets o f h e =
       let w =
-      on-stepped t (getFilePointer d) m passes
+      on-stepped t (getFilePointer d) m passes (not-stale (held .stale) (getFilePointer d) f)
       ∙ ap (served t (getFilePointer d) m (asked (values (m .store) (m .files)) (program t (getFilePointer d) m passes))) (pointer-result true h e) in
       record {
         outcome =
@@ -134,7 +137,7 @@ module _ (t d : ℕ) (m : Machine) (passes : admission (sizes m) (m .store) (m .
       }
 
   -- An accepted GetFilePointer: the offset, the transaction x with d settled, and the journal with its write records placed.
-  pub pointer-meets : Opened (m .store) (m .journal) (m .logs) t → d ≤ 15 → allWithin choice (m .store .offsets) held ≡ true
+  pub pointer-meets : Opened (m .store) (m .journal) (m .logs) t → held .stale ≡ false → d ≤ 15 → allWithin choice (m .store .offsets) held ≡ true
       → (a : ℕ) (x : Transaction) (journal : List ℕ) → a ≡ offsetOf (standingAt x d) → x ≡ afterwards → journal ≡ settledJournal (m .store) (m .journal) t choice
       → Meets (call (on t (getFilePointer d)) m) (Offset a) (withStore (withTransaction t x (m .store)) (withJournal journal m)) []
-  pointer-meets o h e a x journal ea ex ej = rw (ea, ex, ej) (meets o h e)
+  pointer-meets o f h e a x journal ea ex ej = rw (ea, ex, ej) (meets o f h e)

@@ -2,31 +2,32 @@
 use mathlib.Core.Bool.{Bool, true, false, cond, not, _||_}
 use mathlib.Core.List.{List, _++_, append-nil}
 use mathlib.Core.Path.{_≡_, refl, sym, ap, ap₂, _∙_}
-use borrow.Author.Tests.{le-leb, lt-leb, leb-true}
+use borrow.Author.Tests.{le-leb, leb-true}
 use lib.Dec.{leb}
 use lib.ListN.{length, getD, set, drop}
 use native.Mathlib.Omega.{arith}
-use Prim.Native.Nat.{ℕ, _+_, _-_, _≤_, _<_, min}
+use Prim.Native.Nat.{ℕ, _+_, _-_, _≤_, min}
 use Rattle.octets.specs.Parts.{filePart}
 use Rattle.standings.specs.declared.Standing.{Standing}
 use Rattle.standings.specs.declared.Standing.the-variants.{Untouched, Placed, Deferred, Moved, Known}
 use Rattle.standings.specs.Table.{afterRead, offsetOf, advance, settled}
 use Rattle.record.specs.declared.outcomes.Outcome.the-variants.{Given}
+use Rattle.record.specs.declared.outcomes.Refusal.{Refusal}
 use Rattle.record.specs.declared.Transaction.{Transaction}
 use Rattle.record.specs.declared.Store.{Store}
 use Rattle.record.specs.State.{transaction, standingAt, withDescriptors, withTransaction}
-use Rattle.record.specs.Paper.{given, said}
+use Rattle.record.specs.Paper.{number, given, said}
 use Rattle.ranges.specs.Ranges.{admission, standingIn, lengthsBefore}
 use Rattle.ranges.proofs.Laws.{and-right, below-at, standing-numbers}
 use Rattle.rules.specs.Items.{Item, Values, Prog, done, andThen, result, asked}
 use Rattle.rules.specs.Transactions.{Txn, Write, dirtied, Settled, past, all, settling}
 use Rattle.rules.specs.Reading.{fetch}
 use Rattle.rules.specs.Messages.{read, bufferOf, on}
-use Rattle.rules.specs.Steps.{Stepped, accept, check, orGivenBack, step, readStep, readSettled, settledByRead}
+use Rattle.rules.specs.Steps.{Stepped, accept, check, orGivenBack, step, readStep, readSettled, settledByRead, descriptorOf, looks}
 use Rattle.rules.specs.Machine.{Machine, lent, withStore, withJournal, withMarking, sizes, fileOf, values, txnOf, withTxn, journalled}
 use Rattle.rules.specs.Calls.{Turn, turnDown, marked, logged, served, call}
 use Rattle.rules.specs.Promises.{Meets}
-use Rattle.rules.proofs.Serial.Programs.{result-andThen, asked-andThen}
+use Rattle.rules.proofs.Serial.Programs.{result-andThen, asked-andThen, not-stale}
 use Rattle.laws.specs.Settling.{settleAll}
 use Rattle.laws.proofs.Decoded.{Opened}
 use Rattle.laws.proofs.Settling.{marked-settling}
@@ -37,7 +38,8 @@ use Rattle.runs.specs.declared.Extent.{Extent}
 use Rattle.runs.specs.Runs.{Recorded, recorded, extent, Counted}
 use Rattle.reading.specs.Serving.{bytesOf, marksAfter, logPart}
 use Rattle.reading.proofs.MachineLaws.{bytes-are, marks-are}
-use Rattle.refusing.proofs.Turns.{program, on-stepped, on-refused, check-held, check-failed}
+use Rattle.refusing.proofs.Turns.{program, on-stepped, check-held, check-failed}
+use Rattle.looking.proofs.LookRules.{lookRefusal, look-refused}
 
 -- ---- the offset of a standing in range, and of one that was settled
 
@@ -58,16 +60,14 @@ chosen-low true c z e h = settled-low c z e (leb-true (c + advance z) 4096 h)
 chosen-low false c z e h = offset-low z e
 
 module _ (t d n : ℕ) (buffer : List ℕ) (m : Machine) (passes : admission (sizes m) (m .store) (m .journal) t ≡ 0) where
-  pub read-no-descriptor : 15 < d → call (on t (read d n buffer)) m ≡ turnDown 6 buffer m
-  unfolding step readStep bufferOf
-  read-no-descriptor h = on-refused t (read d n buffer) m passes 6 (check-failed (leb d 15) 6 _ (lt-leb d 15 h))
+  pub read-refused : (r : Refusal) → number r ≡ lookRefusal (transaction (m .store) t .stale) d n (length buffer)
+      → call (on t (read d n buffer)) m ≡ turnDown (number r) buffer m
+  unfolding step readStep bufferOf descriptorOf looks
+  read-refused =
+      look-refused t (read d n buffer) m passes d n (length buffer) refl refl (check-failed (leb d 15) 6 _)
+      (λ low short. check-held (leb d 15) 6 _ low ∙ check-failed (leb n (length buffer)) 7 _ short)
 
-  pub read-too-short : d ≤ 15 → length buffer < n → call (on t (read d n buffer)) m ≡ turnDown 7 buffer m
-  unfolding step readStep bufferOf
-  read-too-short h g =
-      on-refused t (read d n buffer) m passes 7 (check-held (leb d 15) 6 _ (le-leb d 15 h) ∙ check-failed (leb n (length buffer)) 7 _ (lt-leb n (length buffer) g))
-
-  module _ (o : Opened (m .store) (m .journal) (m .logs) t) (low : d ≤ 15) (room : n ≤ length buffer) where
+  module _ (o : Opened (m .store) (m .journal) (m .logs) t) (fresh : transaction (m .store) t .stale ≡ false) (low : d ≤ 15) (room : n ≤ length buffer) where
     -- Transaction t, the choice, the transaction afterwards, and its meaning.
     abbrev held : Transaction
     held = transaction (m .store) t
@@ -114,7 +114,7 @@ module _ (t d n : ℕ) (buffer : List ℕ) (m : Machine) (passes : admission (si
     pub read-past : allWithin choice (m .store .offsets) held ≡ false → call (on t (read d n buffer)) m ≡ turnDown 12 buffer m
     unfolding orGivenBack result served bufferOf
     read-past e =
-        on-stepped t (read d n buffer) m passes
+        on-stepped t (read d n buffer) m passes (not-stale (held .stale) (read d n buffer) fresh)
         ∙ ap (served t (read d n buffer) m (asked v (program t (read d n buffer) m passes))) (read-result false e)
 
     module _ (within : allWithin choice (m .store .offsets) held ≡ true) where
@@ -161,7 +161,7 @@ module _ (t d n : ℕ) (buffer : List ℕ) (m : Machine) (passes : admission (si
           }
       unfolding served logged orGivenBack
       accepted =
-          on-stepped t (read d n buffer) m passes
+          on-stepped t (read d n buffer) m passes (not-stale (held .stale) (read d n buffer) fresh)
           ∙ ap (served t (read d n buffer) m (asked v (program t (read d n buffer) m passes))) (read-result true within ∙ reads-on)
           ∙ ap turn marks-on
         where

@@ -1,4 +1,5 @@
 // The calls that look: GetFilePointer and Read.
+mod looks;
 mod pointer_call;
 mod read_call;
 

@@ -1,4 +1,5 @@
 // GetFilePointer.
+use crate::looks::may_look;
 use numbers::wide_octet;
 use ranges::Gate;
 use record::Store;
@@ -37,8 +38,9 @@ pub fn get_file_pointer(
     if !x.begun {
         return refusing::turned_down(Refusal::NotOpen, s);
     }
-    if 15 < d {
-        return refusing::turned_down(Refusal::NoSuchDescriptor, s);
+    let h = may_look(x.stale, d, 0, 0);
+    if let Gate::Refused(r) = h {
+        return refusing::turned_down(r, s);
     }
     let z = x.standing_at(d);
     if !z.pointer_settles() {

@@ -1,4 +1,5 @@
 // Read.
+use crate::looks::may_look;
 use numbers::FILE_BYTES;
 use numbers::smaller;
 use numbers::wide;
@@ -62,11 +63,9 @@ pub fn read<'a>(
     if !x.begun {
         return refusing::turned_down(Refusal::NotOpen, s);
     }
-    if 15 < d {
-        return refusing::turned_down(Refusal::NoSuchDescriptor, s);
-    }
-    if reader.len() < n {
-        return refusing::turned_down(Refusal::ReaderTooShort, s);
+    let h = may_look(x.stale, d, n, reader.len());
+    if let Gate::Refused(r) = h {
+        return refusing::turned_down(r, s);
     }
     let chosen = chosen_by_read(x, &s.filenumbers, d);
     let a = settle(x, chosen, &s.offsets);

@@ -22,10 +22,11 @@ pub enum Refusal {
     NoPlaceYet,
     ListTooLong,
     BadLine,
+    StaleReader,
 }
 
 // How many they are; their numbers in the paper go from 1 to this.
-pub const REFUSALS: u8 = 17;
+pub const REFUSALS: u8 = 18;
 
 impl Refusal {
     // Its number in the paper.
@@ -50,6 +51,7 @@ impl Refusal {
             Refusal::NoPlaceYet => 15,
             Refusal::ListTooLong => 16,
             Refusal::BadLine => 17,
+            Refusal::StaleReader => 18,
         }
     }
 }

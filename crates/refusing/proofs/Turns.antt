@@ -7,7 +7,7 @@ use Prim.Native.Nat.{ℕ, zero, suc}
 use Rattle.record.specs.declared.outcomes.Answer.{Answer}
 use Rattle.record.specs.declared.Store.{Store}
 use Rattle.record.specs.declared.outcomes.Refusal.{Refusal}
-use Rattle.record.specs.declared.outcomes.Refusal.the-variants.{BufferLength, RecordRange, NoSuchTransaction, NotOpen, AlreadyOpen, NoSuchDescriptor, ReaderTooShort, SeekPastEnd, WritePastEnd, RecordsFull, LogFull, SettledPastEnd, Stale, NoSuchFile, NoPlaceYet, ListTooLong, BadLine}
+use Rattle.record.specs.declared.outcomes.Refusal.the-variants.{BufferLength, RecordRange, NoSuchTransaction, NotOpen, AlreadyOpen, NoSuchDescriptor, ReaderTooShort, SeekPastEnd, WritePastEnd, RecordsFull, LogFull, SettledPastEnd, Stale, NoSuchFile, NoPlaceYet, ListTooLong, BadLine, StaleReader}
 use Rattle.record.specs.declared.outcomes.Outcome.the-variants.{Done, Refused}
 use Rattle.record.specs.declared.Transaction.{Transaction}
 use Rattle.record.specs.State.{transaction, withTransaction}
@@ -20,7 +20,7 @@ use Rattle.ranges.proofs.Laws.{Admitted, shared-zero, shared-passed, shared-ref
 use Rattle.rules.specs.Items.{Values, Prog, done, result, asked}
 use Rattle.rules.specs.Transactions.{Txn}
 use Rattle.rules.specs.Messages.{Op, bufferOf, Call, on}
-use Rattle.rules.specs.Steps.{Stepped, refuse, accept, check, step}
+use Rattle.rules.specs.Steps.{Stepped, refuse, accept, check, step, turnsBack, turnedBack}
 use Rattle.rules.specs.Machine.{Machine, withStore, withJournal, withLogs, withMarking, sizes, fileOf, values, txnOf, withTxn, journalled}
 use Rattle.rules.specs.Calls.{Turn, answer, turnDown, reset, passing, admitted, marked, logged, served, stepTurn, call}
 use Rattle.rules.specs.Promises.{Meets}
@@ -54,6 +54,7 @@ number-suc NoSuchFile = (13, refl)
 number-suc NoPlaceYet = (14, refl)
 number-suc ListTooLong = (15, refl)
 number-suc BadLine = (16, refl)
+number-suc StaleReader = (17, refl)
 
 pub passing-number : (r : Refusal) (buffer : List ℕ) (m : Machine) (next : Turn) → passing (number r) buffer m next ≡ turnDown (number r) buffer m
 unfolding passing
@@ -140,22 +141,39 @@ module _ (t : ℕ) (o : Op) (m : Machine) (passes : admission (sizes m) (m .stor
   abbrev pub program : Prog Stepped
   program = step (fileOf (m .store)) o (txnOf (m .store) (m .journal) (m .logs) t)
 
-  pub on-stepped : call (on t o) m ≡ served t o m (asked (values (m .store) (m .files)) program) (result (values (m .store) (m .files)) program)
+  abbrev stale : Bool
+  stale = transaction (m .store) t .stale
+
+  on-turn : call (on t o) m ≡ served t o m (asked (values (m .store) (m .files)) program) (turnedBack stale o (result (values (m .store) (m .files)) program))
   unfolding call admitted stepTurn
-  on-stepped =
-      passing-on (admission (sizes m) (m .store) (m .journal) t) (bufferOf o) m (stepTurn t o m) passes
+  on-turn = passing-on (admission (sizes m) (m .store) (m .journal) t) (bufferOf o) m (stepTurn t o m) passes
 
-  -- A step that asks for nothing and refuses, or accepts.
-  pub on-refused : (n : ℕ) → program ≡ done (refuse n) → call (on t o) m ≡ turnDown n (bufferOf o) m
-  unfolding served result
-  on-refused n e = on-stepped ∙ ap (λ (p : Prog Stepped). served t o m (asked (values (m .store) (m .files)) p) (result (values (m .store) (m .files)) p)) e
+  -- A call that looks, of a stale transaction.
+  pub on-turned-back : turnsBack stale o ≡ true → call (on t o) m ≡ turnDown 18 (bufferOf o) m
+  unfolding turnedBack served
+  on-turned-back e =
+      let v = values (m .store) (m .files) in
+      on-turn ∙ ap (λ (b : Bool). served t o m (asked v program) (cond b (refuse 18) (result v program))) e
 
-  pub on-accepted : (y : Txn) (a : Said) (buffer : List ℕ) → program ≡ done (accept y a buffer)
-      → call (on t o) m
-      ≡ record {
-        reply = record { answer = a; buffer = buffer };
-        after = withStore (withTxn t y (m .store)) (withJournal (journalled t (y .writes) (m .journal)) (withLogs (logged t o (m .store) (m .logs)) m));
-      }
-  unfolding served result asked marked
-  on-accepted y a buffer e =
-      on-stepped ∙ ap (λ (p : Prog Stepped). served t o m (asked (values (m .store) (m .files)) p) (result (values (m .store) (m .files)) p)) e
+  -- One that is not turned back.
+  module _ (heard : turnsBack stale o ≡ false) where
+    pub on-stepped : call (on t o) m ≡ served t o m (asked (values (m .store) (m .files)) program) (result (values (m .store) (m .files)) program)
+    unfolding turnedBack
+    on-stepped =
+        let v = values (m .store) (m .files) in
+        on-turn ∙ ap (λ (b : Bool). served t o m (asked v program) (cond b (refuse 18) (result v program))) heard
+
+    -- A step that asks for nothing and refuses, or accepts.
+    pub on-refused : (n : ℕ) → program ≡ done (refuse n) → call (on t o) m ≡ turnDown n (bufferOf o) m
+    unfolding served result
+    on-refused n e = on-stepped ∙ ap (λ (p : Prog Stepped). served t o m (asked (values (m .store) (m .files)) p) (result (values (m .store) (m .files)) p)) e
+
+    pub on-accepted : (y : Txn) (a : Said) (buffer : List ℕ) → program ≡ done (accept y a buffer)
+        → call (on t o) m
+        ≡ record {
+          reply = record { answer = a; buffer = buffer };
+          after = withStore (withTxn t y (m .store)) (withJournal (journalled t (y .writes) (m .journal)) (withLogs (logged t o (m .store) (m .logs)) m));
+        }
+    unfolding served result asked marked
+    on-accepted y a buffer e =
+        on-stepped ∙ ap (λ (p : Prog Stepped). served t o m (asked (values (m .store) (m .files)) p) (result (values (m .store) (m .files)) p)) e

@@ -18,7 +18,7 @@ use Rattle.ranges.specs.Ranges.{admission, admissionOfBegin, admissionOfFresh}
 use Rattle.rules.specs.Items.{Item, byte, offset, result, asked}
 use Rattle.standings.specs.Table.{isKnown}
 use Rattle.rules.specs.Messages.{Op, seek, write, getFilePointer, read, bufferOf}
-use Rattle.rules.specs.Steps.{Stepped, refuse, accept, step}
+use Rattle.rules.specs.Steps.{Stepped, refuse, accept, step, turnedBack}
 use Rattle.rules.specs.Coverage.{placesOf}
 use Rattle.rules.specs.Commits.{Setting, settings, fits, commitRefusal}
 use Rattle.rules.specs.Messages.{Call, begin, on, commit, abort, places, Reply}
@@ -101,7 +101,7 @@ unfoldable pub stepTurn : ℕ → Op → Machine → Turn
 stepTurn t o m =
     let v = values (m .store) (m .files) in
     let p = step (fileOf (m .store)) o (txnOf (m .store) (m .journal) (m .logs) t) in
-    served t o m (asked v p) (result v p)
+    served t o m (asked v p) (turnedBack (transaction (m .store) t .stale) o (result v p))
 
 -- Settings put into the files buffer, and into the committed offsets.
 unfoldable pub landByte : Item → ℕ → List ℕ → List ℕ

@@ -152,18 +152,48 @@ toldWriteNone =
     ∷ commit 1 ⇒ says (refused 13)
     ∷ []
 
--- "Stale transactions go on being served until they commit or abort": T0 sights the byte again, with its new setter, and stays
--- stale. "How many became stale by it that were not so before": T2's commit makes no other stale.
-unfoldable pub toldSightedAgain : List Exchange
-toldSightedAgain =
+-- F-6, "Read and GetFilePointer of a stale transaction are now refused"; "18 when the transaction is stale, after 6 and before 7": T0 is
+-- stale by the offset of 1, and its write on 0 would run past the end (12). 18 comes whatever the standing: 0 stands Deferred, 1 Known, 2
+-- Moved, 3 Placed, 4 Untouched. Its Seeks, its Writes and its list of places go on.
+unfoldable pub toldTurnedBack : List Exchange
+toldTurnedBack =
+    begins
+    ++ on 0 (getFilePointer 1) ⇒ says (pointer 0)
+    ∷ on 0 (write 0 (A ∷ [])) ⇒ says plain
+    ∷ on 0 (write 2 (A ∷ [])) ⇒ says plain
+    ∷ on 0 (seek 2 9) ⇒ says plain
+    ∷ on 0 (seek 3 5) ⇒ says plain
+    ∷ on 1 (seek 0 4096) ⇒ says plain
+    ∷ on 1 (seek 1 0) ⇒ says plain
+    ∷ commit 1 ⇒ says (granted 1)
+    ∷ on 0 (read 16 2 (dot ∷ [])) ⇒ refusesWith 6 (dot ∷ [])
+    ∷ on 0 (getFilePointer 16) ⇒ says (refused 6)
+    ∷ on 0 (read 0 2 (dot ∷ [])) ⇒ refusesWith 18 (dot ∷ [])
+    ∷ on 0 (read 0 1 (dot ∷ [])) ⇒ refusesWith 18 (dot ∷ [])
+    ∷ on 0 (read 15 0 []) ⇒ refusesWith 18 []
+    ∷ on 0 (getFilePointer 0) ⇒ says (refused 18)
+    ∷ on 0 (getFilePointer 1) ⇒ says (refused 18)
+    ∷ on 0 (getFilePointer 2) ⇒ says (refused 18)
+    ∷ on 0 (getFilePointer 3) ⇒ says (refused 18)
+    ∷ on 0 (getFilePointer 4) ⇒ says (refused 18)
+    ∷ on 0 (getFilePointer 15) ⇒ says (refused 18)
+    ∷ on 0 (seek 3 7) ⇒ says plain
+    ∷ on 0 (write 3 (B ∷ [])) ⇒ says plain
+    ∷ places 0 3 (replicate 4 dot) ⇒ lists 1 (0 ∷ 7 ∷ 0 ∷ 1 ∷ [])
+    ∷ []
+
+-- "it stays open until Commit or Abort": T0 is stale by byte 0. "How many became stale by it that were not so before": T2's commit makes no
+-- other stale.
+unfoldable pub toldStaysOpen : List Exchange
+toldStaysOpen =
     begins
     ++ on 0 (seek 0 0) ⇒ says plain
     ∷ on 0 (read 0 1 (dot ∷ [])) ⇒ gives 1 (0 ∷ [])
     ∷ on 1 (seek 8 0) ⇒ says plain
     ∷ on 1 (write 8 (Z ∷ [])) ⇒ says plain
     ∷ commit 1 ⇒ says (granted 1)
-    ∷ on 0 (seek 0 0) ⇒ says plain
-    ∷ on 0 (read 0 1 (dot ∷ [])) ⇒ gives 1 (Z ∷ [])
+    ∷ on 0 (read 0 1 (dot ∷ [])) ⇒ refusesWith 18 (dot ∷ [])
+    ∷ begin 0 ⇒ says (refused 5)
     ∷ on 2 (seek 8 0) ⇒ says plain
     ∷ on 2 (write 8 (Y ∷ [])) ⇒ says plain
     ∷ commit 2 ⇒ says (granted 0)
@@ -171,8 +201,20 @@ toldSightedAgain =
 
 unfoldable pub toldStillStale : List Exchange
 toldStillStale =
-    toldSightedAgain
+    toldStaysOpen
     ++ commit 0 ⇒ says (refused 13)
+    ∷ on 0 (read 0 1 (dot ∷ [])) ⇒ refusesWith 4 (dot ∷ [])
+    ∷ []
+
+-- After its Abort it is not open, and begun again it reads.
+unfoldable pub toldReadsAgain : List Exchange
+toldReadsAgain =
+    toldStaysOpen
+    ++ abort 0 ⇒ says plain
+    ∷ on 0 (read 0 1 (dot ∷ [])) ⇒ refusesWith 4 (dot ∷ [])
+    ∷ begin 0 ⇒ says plain
+    ∷ on 0 (seek 0 0) ⇒ says plain
+    ∷ on 0 (read 0 1 (dot ∷ [])) ⇒ gives 1 (Y ∷ [])
     ∷ []
 
 -- "A number begun again is a new transaction": what T0 sighted before its Commit, and T2 before its Abort, makes neither stale.
@@ -490,13 +532,10 @@ pub record Corners (x : Seen) : Type 0 where
       × (settings (λ d. 0) (λ i. 7) (mixed (Deferred 1) true) ≡ record { item = offset 0; to = 8 } ∷ [])
   pub settledStaysClean : (dirtyAfter readBeside 0 ≡ false) × (dirtyAfter readBeside 1 ≡ true)
   pub writeNone : Goes x toldWriteNone
-  pub sightedAgain :
-      Goes x toldSightedAgain
-      × (sightingsOf (callsOf toldSightedAgain) 0
-      ≡ sighted (byte 0) 0
-      ∷ sighted (byte 0) 1
-      ∷ [])
+  pub turnedBack : Goes x toldTurnedBack × (sightingsOf (callsOf toldTurnedBack) 0 ≡ sighted (offset 1) 0 ∷ [])
+  pub staysOpen : Goes x toldStaysOpen × (sightingsOf (callsOf toldStaysOpen) 0 ≡ sighted (byte 0) 0 ∷ [])
   pub stillStale : Goes x toldStillStale
+  pub readsAgain : Goes x toldReadsAgain
   pub begunAgain : Goes x toldBegunAgain
   pub staleEnded : Goes x toldStaleEnded
   pub justBegun : Goes x toldJustBegun

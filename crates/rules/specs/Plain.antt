@@ -10,7 +10,7 @@ use Rattle.ranges.specs.Below.{guarded}
 use Rattle.rules.specs.Messages.{Op, bufferOf, Call, begin, on, commit, abort, places, Reply}
 use Rattle.rules.specs.Items.{Values, result, asked}
 use Rattle.rules.specs.Transactions.{Txn, empty, put}
-use Rattle.rules.specs.Steps.{Stepped, refuse, accept, step}
+use Rattle.rules.specs.Steps.{Stepped, refuse, accept, step, turnedBack}
 use Rattle.rules.specs.Coverage.{placesOf}
 use Rattle.rules.specs.Commits.{settings, fits, landed, setBy, commitRefusal}
 use Rattle.rules.specs.Sightings.{Entry, sameEntries, Committed, entries}
@@ -106,7 +106,7 @@ plainOn t o (running r) p =
     plainStepped t o r
     (entries (p .committed .setter) (asked (p .committed .value) (step (p .fileOf) o (r .txn))))
     p
-    (result (p .committed .value) (step (p .fileOf) o (r .txn)))
+    (turnedBack (isStale p r) o (result (p .committed .value) (step (p .fileOf) o (r .txn))))
 
 -- What a granted Commit leaves, as grant number n: it "lands the writes, sets the offsets and makes the count the setter of all it
 -- set".

@@ -1,6 +1,6 @@
 -- One transaction's step: Seek, Write, GetFilePointer and Read, with refusals 6 to 12 in the table's order. What an accepted step
 -- asks for, in order, is its list of sightings.
-use mathlib.Core.Bool.{Bool, cond}
+use mathlib.Core.Bool.{Bool, true, false, cond, _&&_}
 use mathlib.Core.List.{List, [], _∷_, _++_}
 use lib.Dec.{leb, eqb}
 use lib.ListN.{length, drop}
@@ -86,3 +86,25 @@ step fileOf (seek d v) x = seekStep d v x
 step fileOf (write d bytes) x = writeStep d bytes x
 step fileOf (getFilePointer d) x = pointerStep d x
 step fileOf (read d n buffer) x = readStep fileOf d n buffer x
+
+-- The descriptor of a call, and whether it looks: "Read and GetFilePointer" (F-6).
+unfoldable pub descriptorOf : Op → ℕ
+descriptorOf (seek d v) = d
+descriptorOf (write d bytes) = d
+descriptorOf (getFilePointer d) = d
+descriptorOf (read d n buffer) = d
+
+unfoldable pub looks : Op → Bool
+looks (seek d v) = false
+looks (write d bytes) = false
+looks (getFilePointer d) = true
+looks (read d n buffer) = true
+
+-- F-6, "Read and GetFilePointer of a stale transaction are now refused"; "18 when the transaction is stale, after 6 and before 7": of one
+-- that looks, through a descriptor that passes 6.
+unfoldable pub turnsBack : Bool → Op → Bool
+turnsBack stale o = looks o && stale && leb (descriptorOf o) 15
+
+-- .. whatever else the step comes to. Lone runs are made of steps alone: nothing is stale there.
+unfoldable pub turnedBack : Bool → Op → Stepped → Stepped
+turnedBack stale o s = cond (turnsBack stale o) (refuse 18) s

@@ -1,7 +1,7 @@
 -- The situations of paper 01 hold of the rules: each is computed.
 use mathlib.Core.Path.{refl}
 use Rattle.rules.specs.Situations.{Starred, toldA, toldB, toldC, toldD, toldE, toldF, toldG, toldH, toldI, toldJ, toldK, toldL}
-use Rattle.rules.specs.Corners.{Corners, toldStaleFirst, toldRefusedSettling, toldUnsighted, toldMoved, toldMovedStale, toldNeighbour, toldNeighbourSet, toldReadNone, toldReadNoneStale, toldReadNoneSets, toldOnlyLooked, mixed, dirtyAfter, readBeside, toldWriteNone, toldSightedAgain, toldStillStale, toldBegunAgain, toldStaleEnded, toldJustBegun, toldNumbers, toldArguments, toldLog, toldOverlap, toldTwoAppends, toldOtherFile, toldKnown, toldPlaced, toldMovedTwice, toldLastPlace, toldUntouched, toldPlacedUnsighted, toldFifteen, toldFifteenSet, toldInOrder, toldKnownOnce, toldSettledAlone, toldPlaces, toldNoPlaceYet, toldOctet}
+use Rattle.rules.specs.Corners.{Corners, toldStaleFirst, toldRefusedSettling, toldUnsighted, toldMoved, toldMovedStale, toldNeighbour, toldNeighbourSet, toldReadNone, toldReadNoneStale, toldReadNoneSets, toldOnlyLooked, mixed, dirtyAfter, readBeside, toldWriteNone, toldTurnedBack, toldStaysOpen, toldStillStale, toldReadsAgain, toldBegunAgain, toldStaleEnded, toldJustBegun, toldNumbers, toldArguments, toldLog, toldOverlap, toldTwoAppends, toldOtherFile, toldKnown, toldPlaced, toldMovedTwice, toldLastPlace, toldUntouched, toldPlacedUnsighted, toldFifteen, toldFifteenSet, toldInOrder, toldKnownOnce, toldSettledAlone, toldPlaces, toldNoPlaceYet, toldOctet}
 use Rattle.rules.specs.Setup.{onPlain}
 use Rattle.rules.proofs.Cases.Opened.{opened}
 
@@ -24,7 +24,7 @@ starred =
 
 -- Situations k and l, and corners of the text.
 pub corners : Corners onPlain
-unfolding opened toldK toldL toldStaleFirst toldRefusedSettling toldUnsighted toldMoved toldMovedStale toldNeighbour toldNeighbourSet toldReadNone toldReadNoneStale toldReadNoneSets toldOnlyLooked mixed dirtyAfter readBeside toldWriteNone toldSightedAgain toldStillStale toldBegunAgain toldStaleEnded toldJustBegun toldNumbers toldArguments toldLog toldOverlap toldTwoAppends toldOtherFile toldKnown toldPlaced toldMovedTwice toldLastPlace toldUntouched toldPlacedUnsighted toldFifteen toldFifteenSet toldInOrder toldKnownOnce toldSettledAlone toldPlaces toldNoPlaceYet toldOctet
+unfolding opened toldK toldL toldStaleFirst toldRefusedSettling toldUnsighted toldMoved toldMovedStale toldNeighbour toldNeighbourSet toldReadNone toldReadNoneStale toldReadNoneSets toldOnlyLooked mixed dirtyAfter readBeside toldWriteNone toldTurnedBack toldStaysOpen toldStillStale toldReadsAgain toldBegunAgain toldStaleEnded toldJustBegun toldNumbers toldArguments toldLog toldOverlap toldTwoAppends toldOtherFile toldKnown toldPlaced toldMovedTwice toldLastPlace toldUntouched toldPlacedUnsighted toldFifteen toldFifteenSet toldInOrder toldKnownOnce toldSettledAlone toldPlaces toldNoPlaceYet toldOctet
 corners =
     record {
       k = refl;
@@ -43,8 +43,10 @@ corners =
       mixtures = (refl, refl, refl, refl);
       settledStaysClean = (refl, refl);
       writeNone = refl;
-      sightedAgain = (refl, refl);
+      turnedBack = (refl, refl);
+      staysOpen = (refl, refl);
       stillStale = refl;
+      readsAgain = refl;
       begunAgain = refl;
       staleEnded = refl;
       justBegun = refl;

@@ -10,8 +10,9 @@ use Rattle.record.specs.declared.outcomes.Refusal.the-variants.{Stale}
 use Rattle.ranges.proofs.Laws.{and-left, and-right}
 use Rattle.rules.specs.Items.{Item, Values, Prog, done, ask, andThen, result}
 use Rattle.rules.specs.Messages.{Op, seek, write, getFilePointer, read}
-use Rattle.rules.specs.Steps.{Stepped, refuse, accept, check, orGivenBack, seekStep, writeStep, pointerStep, readSettled, readStep, step}
+use Rattle.rules.specs.Steps.{Stepped, refuse, accept, check, orGivenBack, seekStep, writeStep, pointerStep, readSettled, readStep, step, turnedBack}
 use Rattle.rules.specs.Transactions.{Txn, Settled, past, all}
+use Rattle.rules.proofs.Serial.Programs.{turned-back}
 
 -- An answer is no refusal.
 abbrev pub IsAnswer : Said → Type 0
@@ -70,7 +71,7 @@ always-read : (fileOf : ℕ → ℕ) (d n : ℕ) (buffer : List ℕ) (y : Txn) �
 unfolding readSettled
 always-read fileOf d n buffer y = always-then _ _ (λ bytes. tt)
 
-pub always-step : (fileOf : ℕ → ℕ) (o : Op) (x : Txn) → Always (step fileOf o x)
+always-step : (fileOf : ℕ → ℕ) (o : Op) (x : Txn) → Always (step fileOf o x)
 unfolding step seekStep writeStep pointerStep readStep
 always-step fileOf (seek d v) x = always-check _ 6 _ (later 6 refl) (always-check _ 8 _ (later 8 refl) tt)
 always-step fileOf (write d bytes) x =
@@ -82,7 +83,12 @@ always-step fileOf (read d n buffer) x =
     always-check _ 6 _ (later 6 refl)
     (always-check _ 7 _ (later 7 refl) (always-then _ _ (λ s. always-back _ (always-read fileOf d n buffer) s)))
 
-pub always-result : (v : Values) (p : Prog Stepped) → Always p → Right (result v p)
+always-result : (v : Values) (p : Prog Stepped) → Always p → Right (result v p)
 unfolding result
 always-result v (done s) h = h
 always-result v (ask i f) h = always-result v (f (v i)) (h (v i))
+
+-- The step of a call, turned back or not.
+pub right-step : (fileOf : ℕ → ℕ) (o : Op) (x : Txn) (v : Values) (stale : Bool) → Right (turnedBack stale o (result v (step fileOf o x)))
+right-step fileOf o x v stale =
+    turned-back Right stale o (result v (step fileOf o x)) (later 18 refl) (λ e. always-result v (step fileOf o x) (always-step fileOf o x))

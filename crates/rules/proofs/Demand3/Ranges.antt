@@ -17,11 +17,11 @@ use Rattle.rules.specs.Messages.{Op, bufferOf, places}
 use Rattle.rules.specs.Steps.{Stepped, refuse, accept}
 use Rattle.rules.specs.Commits.{Setting, commitRefusal}
 use Rattle.rules.specs.Messages.{Call, begin, on, commit, abort}
-use Rattle.rules.specs.Machine.{Machine, fileOf, txnOf}
+use Rattle.rules.specs.Machine.{Machine, fileOf, values, txnOf}
 use Rattle.rules.specs.Calls.{Turn, answer, turnDown, passing, beginTurn, abortTurn, served, stepTurn, commitGranted, commitDecided, commitTurn, admitted, call, placesTurn}
 use Rattle.rules.proofs.View.Shape.{Sound}
 use Rattle.rules.proofs.View.Admissions.{shared-is}
-use Rattle.rules.proofs.Demand3.Answers.{IsAnswer, answer-not-refused, Right, always-step, always-result}
+use Rattle.rules.proofs.Demand3.Answers.{IsAnswer, answer-not-refused, Right, right-step}
 use Rattle.rules.proofs.Demand3.Refusals.{refused-same}
 
 -- A refusal, if it is one, with a number of at least 3.
@@ -94,7 +94,7 @@ unfolding call abortTurn answer stepTurn commitTurn placesTurn placesOf
 late-call (begin t) m s = late-begin m s t
 late-call (on t o) m s =
     late-admitted m s t (bufferOf o) (stepTurn t o m)
-    (late-served t o m _ _ (always-result _ _ (always-step (fileOf (m .store)) o (txnOf (m .store) (m .journal) (m .logs) t))))
+    (late-served t o m _ _ (right-step (fileOf (m .store)) o (txnOf (m .store) (m .journal) (m .logs) t) (values (m .store) (m .files)) _))
 late-call (commit t) m s = late-admitted m s t [] (commitTurn t m) (late-decided t _ m _ _)
 late-call (abort t) m s = late-admitted m s t [] (abortTurn t m) (late-answer _ tt)
 late-call (places t f out) m s = late-admitted m s t out (placesTurn t f out m) (late-placed _ f out _ _ (places-late _ f out _))

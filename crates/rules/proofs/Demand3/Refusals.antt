@@ -19,7 +19,7 @@ use Rattle.rules.specs.Machine.{Machine, sizes, fileOf, values, txnOf}
 use Rattle.rules.specs.Promises.{Meets}
 use Rattle.rules.specs.Demand1.{IsRefusal, Demand1On, Demand1, RefusedByCode, Demand1OfCode}
 use Rattle.rules.specs.Calls.{Turn, answer, turnDown, passing, fresh, reset, beginTurn, abortTurn, served, stepTurn, commitGranted, commitDecided, commitTurn, admitted, call, placesTurn}
-use Rattle.rules.proofs.Demand3.Answers.{IsAnswer, answer-not-refused, Leaving, later as later-on, Right, always-step, always-result}
+use Rattle.rules.proofs.Demand3.Answers.{IsAnswer, answer-not-refused, Leaving, later as later-on, Right, right-step}
 
 pub refused-same : (m n : ℕ) → refused m ≡ refused n → m ≡ n
 refused-same m n e = cc
@@ -116,7 +116,7 @@ leaves-call (begin t) m =
     (begin-leaving (sizes m) (m .store) (m .journal) t) (leaves-answer m [] _ tt)
 leaves-call (on t o) m =
     leaves-admitted t (bufferOf o) m _
-    (leaves-served t o m _ _ (always-result _ _ (always-step (fileOf (m .store)) o (txnOf (m .store) (m .journal) (m .logs) t))))
+    (leaves-served t o m _ _ (right-step (fileOf (m .store)) o (txnOf (m .store) (m .journal) (m .logs) t) (values (m .store) (m .files)) _))
 leaves-call (commit t) m = leaves-admitted t [] m _ (leaves-decided t _ m _ _)
 leaves-call (abort t) m = leaves-admitted t [] m _ (leaves-answer m [] _ tt)
 leaves-call (places t f out) m = leaves-admitted t out m _ (leaves-placed m _ f out _ _ (placed-leaving _ f out _))
@@ -148,7 +148,7 @@ unfolding call beginTurn abortTurn answer stepTurn commitTurn admitted placesTur
 ends-call (begin t) m e =
     absurd (not-13 (admissionOfBegin (sizes m) (m .store) (m .journal) t) [] m _ (begin-leaving (sizes m) (m .store) (m .journal) t) (answer-not-refused _ 13 tt) e)
 ends-call (on t o) m e =
-    absurd (not-13 (admission (sizes m) (m .store) (m .journal) t) (bufferOf o) m _ (admission-leaving (sizes m) (m .store) (m .journal) t) (served-not-13 t o m _ _ (always-result _ _ (always-step (fileOf (m .store)) o (txnOf (m .store) (m .journal) (m .logs) t)))) e)
+    absurd (not-13 (admission (sizes m) (m .store) (m .journal) t) (bufferOf o) m _ (admission-leaving (sizes m) (m .store) (m .journal) t) (served-not-13 t o m _ _ (right-step (fileOf (m .store)) o (txnOf (m .store) (m .journal) (m .logs) t) (values (m .store) (m .files)) _)) e)
 ends-call (commit t) m e =
     (t, refl, passing-ends (admission (sizes m) (m .store) (m .journal) t) m _ _ (decided-ends t _ m _ _) e)
 ends-call (abort t) m e =

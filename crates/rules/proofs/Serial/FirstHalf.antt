@@ -10,14 +10,14 @@ use Rattle.record.specs.Paper.{Said, plain, granted, refused}
 use Rattle.rules.specs.Items.{Item, Values, byte, offset, result, asked}
 use Rattle.rules.specs.Transactions.{Txn, empty, put}
 use Rattle.rules.specs.Messages.{Op, bufferOf, places}
-use Rattle.rules.specs.Steps.{Stepped, refuse, accept, step}
+use Rattle.rules.specs.Steps.{Stepped, refuse, accept, step, turnedBack}
 use Rattle.rules.specs.Commits.{settings, fits, landed, commitRefusal}
 use Rattle.rules.specs.Messages.{Call, begin, on, commit, abort, Reply}
 use Rattle.rules.specs.Sightings.{sameEntries, entries}
 use Rattle.rules.specs.Plain.{Running, Slot, closed, running, Plain, startPlain, ops, firstList, secondList, isStale, PlainTurn, turnedDown, withSlot, answering, plainBegin, plainStepped, plainOn, committing, grant, equalSlot, staleSlot, becameStale, plainCommitted, plainCommit, plainAbort, numbered, plainCall, plainAfter, plainReplies, plainPlaces}
 use Rattle.rules.specs.Lone.{lone}
 use Rattle.rules.proofs.Serial.Sighted.{Held, Seat, vacant, held, Sighted, startSighted, sighted, among, hit, markAll, SightedTurn, turnedAway, withSeat, telling, sightedBegin, sightedStepped, sightedOn, touch, newlyStale, granting, sightedCommitted, sightedCommit, sightedAbort, seated, sightedCall, sightedAfter, sightedReplies, sightedPlaces}
-use Rattle.rules.proofs.Serial.Programs.{among-append}
+use Rattle.rules.proofs.Serial.Programs.{among-append, turned-back}
 use Rattle.rules.proofs.Serial.Lists.{items, current, current-entries, current-append, anyTouched, hit-is, markAll-at, current-after}
 use Rattle.rules.proofs.Serial.Sound.{Sound, seen-old, lists-same, sound-more, sound-granted, items-more, extended}
 use Rattle.rules.proofs.Serial.Invariant.{SoundSlot, Good, put-keeps, good-call}
@@ -199,7 +199,12 @@ module _ (p : Plain) (g : Good p) where
       → sightedOn t o (seatOf p s) (abs p) ≡ absTurn (plainOn t o s p)
   unfolding sightedOn plainOn seatOf abs turnedAway turnedDown absTurn SoundSlot heldOf
   same-on t o closed h = refl
-  same-on t o (running r) h = same-stepped t o r h (result (p .committed .value) (step (p .fileOf) o (r .txn))) refl
+  same-on t o (running r) h =
+      let s = result (p .committed .value) (step (p .fileOf) o (r .txn)) in
+      let is = asked (p .committed .value) (step (p .fileOf) o (r .txn)) in
+      turned-back
+      (λ z. sightedStepped t o (heldOf p r) is (abs p) z ≡ absTurn (plainStepped t o r (entries (p .committed .setter) is) p z))
+      (isStale p r) o s (unfold sightedStepped plainStepped in refl) (λ e. same-stepped t o r h s refl)
 
   same-grant :
       (t : ℕ) (r : Running)

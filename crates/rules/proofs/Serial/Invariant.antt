@@ -9,11 +9,12 @@ use Prim.Native.Nat.{ℕ, zero, suc, _+_, _≤_, _<_}
 use Rattle.rules.specs.Items.{Item, Values, result, asked}
 use Rattle.rules.specs.Transactions.{put}
 use Rattle.rules.specs.Messages.{Op, bufferOf, places}
-use Rattle.rules.specs.Steps.{Stepped, refuse, accept, step}
+use Rattle.rules.specs.Steps.{Stepped, refuse, accept, step, turnedBack}
 use Rattle.rules.specs.Commits.{settings, fits, commitRefusal}
 use Rattle.rules.specs.Messages.{Call, begin, on, commit, abort}
 use Rattle.rules.specs.Sightings.{entries, Committed}
 use Rattle.rules.specs.Plain.{Running, Slot, closed, running, Plain, startPlain, isStale, PlainTurn, turnedDown, withSlot, answering, plainBegin, plainStepped, plainOn, committing, grant, plainCommitted, plainCommit, plainAbort, numbered, plainCall, plainAfter, plainPlaces}
+use Rattle.rules.proofs.Serial.Programs.{turned-back}
 use Rattle.rules.proofs.Serial.Lists.{touched, setBy-at}
 use Rattle.rules.proofs.Serial.Sound.{Sound, sound-begun, sound-more, sound-granted}
 
@@ -124,7 +125,10 @@ module _ (p : Plain) (g : Good p) where
       → Good (plainOn t o s p .after)
   unfolding plainOn turnedDown SoundSlot
   good-on t o l closed h = g
-  good-on t o l (running r) h = good-stepped t o r l h (result (p .committed .value) (step (p .fileOf) o (r .txn))) refl
+  good-on t o l (running r) h =
+      let s = result (p .committed .value) (step (p .fileOf) o (r .txn)) in
+      let es = entries (p .committed .setter) (asked (p .committed .value) (step (p .fileOf) o (r .txn))) in
+      turned-back (λ z. Good (plainStepped t o r es p z .after)) (isStale p r) o s (unfold plainStepped in g) (λ e. good-stepped t o r l h s refl)
 
   good-committed : (t : ℕ) (r : Running) → leb t 7 ≡ true → (n : ℕ) → Good (plainCommitted t r p n .after)
   unfolding plainCommitted answering SoundSlot

@@ -1,9 +1,11 @@
--- Laws of programs: one program after another, and what a list of items holds.
-use mathlib.Core.Bool.{Bool, false, _||_, or-assoc}
+-- Laws of programs: one program after another, what a list of items holds, and a step of a stale transaction.
+use mathlib.Core.Bool.{Bool, true, false, cond, _&&_, _||_, or-assoc, and-false}
 use mathlib.Core.List.{List, [], _∷_, _++_}
 use mathlib.Core.Path.{_≡_, refl, ap, sym, _∙_}
 use Prim.Native.Nat.{ℕ}
 use Rattle.rules.specs.Items.{Item, Values, Prog, done, ask, andThen, result, asked, same}
+use Rattle.rules.specs.Messages.{Op}
+use Rattle.rules.specs.Steps.{Stepped, refuse, looks, turnsBack, turnedBack}
 use Rattle.rules.proofs.Serial.Sighted.{among}
 
 -- An item stands in a joined list where it stands in one of the two.
@@ -53,3 +55,25 @@ module _ {A : Type 0} (v w : Values) where
   unfolding asked
   agree-asked (done a) h = refl
   agree-asked (ask i f) h = ap (λ (l : List Item). i ∷ l) (ap (λ (n : ℕ). asked w (f n)) (h .0) ∙ agree-asked (f (v i)) (h .1))
+
+-- What holds of a refusal 18, and of the step where it is not turned back.
+pub turned-back :
+    (P : Stepped → Type 0) (stale : Bool) (o : Op) (s : Stepped)
+    → P (refuse 18)
+    → (turnsBack stale o ≡ false → P s)
+    → P (turnedBack stale o s)
+unfolding turnedBack
+turned-back P stale o s h k = chosen (turnsBack stale o) k
+  where
+    chosen : (b : Bool) → (b ≡ false → P s) → P (cond b (refuse 18) s)
+    chosen true k = h
+    chosen false k = k refl
+
+-- A step of one that is not stale is never turned back.
+pub not-stale : (stale : Bool) (o : Op) → stale ≡ false → turnsBack stale o ≡ false
+unfolding turnsBack
+not-stale stale o e = rw (e, and-false (looks o))
+
+pub not-turned-back : (stale : Bool) (o : Op) (s : Stepped) → stale ≡ false → turnedBack stale o s ≡ s
+unfolding turnedBack
+not-turned-back stale o s e = rw (not-stale stale o e)

@@ -1,7 +1,7 @@
 -- The granted transactions run again, as a list of calls on the plain machine: each accepted call gives what it gave in the lone run,
 -- and each Commit is granted.
 use mathlib.Core.Bool.{Bool, true, false, cond, not, _&&_, and-false, false≢true}
-use mathlib.Core.List.{List, [], _∷_, _++_, map, append-nil, append-assoc}
+use mathlib.Core.List.{List, [], _∷_, _++_, map, map-append, append-nil, append-assoc}
 use mathlib.Core.Path.{_≡_, refl, sym, ap, ap₂, _∙_, fun-ext}
 use borrow.Author.Tests.{eqb-true, eq-eqb}
 use lib.Dec.{leb, eqb}
@@ -13,12 +13,14 @@ use Rattle.record.specs.Paper.{Said, plain, granted}
 use Rattle.rules.specs.Messages.{Op, bufferOf, Call, begin, on, commit, Reply, says}
 use Rattle.rules.specs.Items.{result, asked}
 use Rattle.rules.specs.Transactions.{Txn, empty, put}
-use Rattle.rules.specs.Steps.{Stepped, refuse, accept, step}
+use Rattle.rules.specs.Steps.{Stepped, refuse, accept, step, turnedBack}
 use Rattle.rules.specs.Commits.{fits, commitRefusal}
 use Rattle.rules.specs.Sightings.{Entry, Committed, entries}
 use Rattle.rules.specs.Lone.{Lone, stopped, prepend, goOn, lone}
 use Rattle.rules.specs.Plain.{Accepted, Running, justBegun, afterCall, Slot, closed, running, Plain, ops, firstList, secondList, isStale, PlainTurn, turnedDown, withSlot, withGrant, answering, plainBegin, plainStepped, plainOn, committing, grant, equalSlot, staleSlot, becameStale, plainCommitted, plainCommit, numbered, plainCall, plainAfter, plainReplies}
 use Rattle.rules.specs.Grants.{Grant, againOf, rerun, repliesOf, sameReplies}
+use Rattle.rules.proofs.Serial.Programs.{not-turned-back}
+use Rattle.rules.proofs.Serial.Lone.{lone-more}
 use Rattle.rules.proofs.Serial.Alone.{again, serially, SameAgain, AllSame}
 use Rattle.rules.proofs.Serial.Commits.{stale-exactly, commit-turn}
 
@@ -96,27 +98,51 @@ tails a b xs bs e = ap rest e
     rest [] = []
     rest (x ∷ xs) = xs
 
+-- The lone run of what the machine holds of a transaction is what it holds.
+abbrev pub Faithful : Plain → Running → List Reply → Type 0
+Faithful p r rs =
+    lone (p .fileOf) (p .committed) (ops (r .calls)) empty ≡ record { through = true; txn = r .txn; replies = rs; seen = r .seen }
+
+-- Then it is not stale, and stays so by one more accepted call.
+module _ (p : Plain) (r : Running) (rs : List Reply) (f : Faithful p r rs) where
+  faithful-fresh : isStale p r ≡ false
+  unfolding firstList secondList
+  faithful-fresh = stale-exactly p r .1 (sym (ap (λ (l : Lone). l .seen) f))
+
+  faithful-more : (a : Accepted) (y : Txn) (answer : Said) (buffer : List ℕ)
+      → result (p .committed .value) (step (p .fileOf) (a .op) (r .txn)) ≡ accept y answer buffer
+      → Faithful p
+      (afterCall y a (entries (p .committed .setter) (asked (p .committed .value) (step (p .fileOf) (a .op) (r .txn)))) r)
+      (rs ++ (record { answer = answer; buffer = buffer } ∷ []))
+  unfolding ops
+  faithful-more a y answer buffer q =
+      ap (λ (os : List Op). lone (p .fileOf) (p .committed) os empty) (map-append (λ (x : Accepted). x .op) (r .calls) (a ∷ []))
+      ∙ lone-more (p .fileOf) (p .committed) (ops (r .calls)) (a .op) empty (r .txn) y answer buffer rs (r .seen) f q
+
 module _ (t : ℕ) (small : leb t 7 ≡ true) where
-  -- The turn of a call of an open transaction.
-  on-turn : (o : Op) (r : Running) (p : Plain) → p .slots t ≡ running r
+  -- The turn of a call of an open transaction that is not stale.
+  on-turn : (o : Op) (r : Running) (p : Plain) → p .slots t ≡ running r → isStale p r ≡ false
       → plainCall (on t o) p
       ≡ plainStepped t o r (entries (p .committed .setter) (asked (p .committed .value) (step (p .fileOf) o (r .txn)))) p
       (result (p .committed .value) (step (p .fileOf) o (r .txn)))
   unfolding plainCall numbered plainOn
-  on-turn o r p e = ap₂ (λ (b : Bool) (s : Slot). cond b (plainOn t o s p) (turnedDown 3 (bufferOf o) p)) small e
+  on-turn o r p e f =
+      ap₂ (λ (b : Bool) (s : Slot). cond b (plainOn t o s p) (turnedDown 3 (bufferOf o) p)) small e
+      ∙ ap (plainStepped t o r (entries (p .committed .setter) (asked (p .committed .value) (step (p .fileOf) o (r .txn)))) p)
+      (not-turned-back (isStale p r) o (result (p .committed .value) (step (p .fileOf) o (r .txn))) f)
 
   -- One accepted call more, before those that the rest of the lone run gives.
-  run-step : (a : Accepted) (xs : List Accepted) (r : Running) (p : Plain) (es : List Entry) (rest : Txn → Lone)
-      → ((y : Txn) → rest y .through ≡ true → rest y .replies ≡ map (λ b. b .reply) xs
+  run-step : (a : Accepted) (xs : List Accepted) (r : Running) (p : Plain) (es : List Entry) (rest : Txn → Lone) (s : Stepped)
+      → ((y : Txn) (answer : Said) (buffer : List ℕ) → s ≡ accept y answer buffer → rest y .through ≡ true → rest y .replies ≡ map (λ b. b .reply) xs
       → Ran t xs (afterCall y a es r) (withSlot t (running (afterCall y a es r)) p) (rest y))
-      → (s : Stepped) → plainCall (on t (a .op)) p ≡ plainStepped t (a .op) r es p s
+      → plainCall (on t (a .op)) p ≡ plainStepped t (a .op) r es p s
       → goOn rest (r .txn) es s .through ≡ true → goOn rest (r .txn) es s .replies ≡ a .reply ∷ map (λ b. b .reply) xs
       → Ran t (a ∷ xs) r p (goOn rest (r .txn) es s)
   unfolding goOn stopped prepend plainStepped plainReplies plainAfter
-  run-step a xs r p es rest next (refuse n) q h g = absurd (false≢true h)
-  run-step a xs r p es rest next (accept y answer buffer) q h g =
+  run-step a xs r p es rest (refuse n) next q h g = absurd (false≢true h)
+  run-step a xs r p es rest (accept y answer buffer) next q h g =
       let k = heads _ (a .reply) _ _ g in
-      let n = next y h (tails _ (a .reply) _ _ g) in
+      let n = next y answer buffer refl h (tails _ (a .reply) _ _ g) in
       let turn : plainCall (on t (a .op)) p ≡ record { reply = a .reply; after = withSlot t (running (afterCall y a es r)) p } =
       q ∙ ap (λ (x : Reply). record { reply = x; after = withSlot t (running (afterCall y (record { op = a .op; reply = x }) es r)) p }) k in
       record {
@@ -131,12 +157,12 @@ module _ (t : ℕ) (small : leb t 7 ≡ true) where
             (append-assoc (r .calls) (a ∷ []) xs) (append-assoc (r .seen) es (rest y .seen));
       }
 
-  run-on : (xs : List Accepted) (r : Running) (p : Plain) → p .slots t ≡ running r
+  run-on : (xs : List Accepted) (r : Running) (p : Plain) → p .slots t ≡ running r → (rs : List Reply) → Faithful p r rs
       → lone (p .fileOf) (p .committed) (ops xs) (r .txn) .through ≡ true
       → lone (p .fileOf) (p .committed) (ops xs) (r .txn) .replies ≡ map (λ a. a .reply) xs
       → Ran t xs r p (lone (p .fileOf) (p .committed) (ops xs) (r .txn))
   unfolding plainReplies plainAfter lone ops withSlot
-  run-on [] r p e h g =
+  run-on [] r p e rs f h g =
       record {
         replies = refl;
         after =
@@ -145,11 +171,14 @@ module _ (t : ℕ) (small : leb t 7 ≡ true) where
             (append-nil (r .calls)) (append-nil (r .seen))
             ∙ slot-own t (running r) p e);
       }
-  run-on (a ∷ xs) r p e h g =
+  run-on (a ∷ xs) r p e rs f h g =
       let es = entries (p .committed .setter) (asked (p .committed .value) (step (p .fileOf) (a .op) (r .txn))) in
       run-step a xs r p es (λ y. lone (p .fileOf) (p .committed) (ops xs) y)
-      (λ y. run-on xs (afterCall y a es r) (withSlot t (running (afterCall y a es r)) p) (put-same t (running (afterCall y a es r)) (p .slots)))
-      (result (p .committed .value) (step (p .fileOf) (a .op) (r .txn))) (on-turn (a .op) r p e) h g
+      (result (p .committed .value) (step (p .fileOf) (a .op) (r .txn)))
+      (λ y answer buffer q.
+      run-on xs (afterCall y a es r) (withSlot t (running (afterCall y a es r)) p) (put-same t (running (afterCall y a es r)) (p .slots))
+      (rs ++ (record { answer = answer; buffer = buffer } ∷ [])) (faithful-more p r rs f a y answer buffer q))
+      (on-turn (a .op) r p e (faithful-fresh p r rs f)) h g
 
 -- ---- a granted transaction, begun with nothing else open
 
@@ -186,7 +215,7 @@ ran-on : (t : ℕ) (p : Plain) (xs : List Accepted) → leb t 7 ≡ true
     → lone (p .fileOf) (p .committed) (ops xs) empty .replies ≡ map (λ a. a .reply) xs
     → Ran t xs justBegun (withSlot t (running justBegun) p) (lone (p .fileOf) (p .committed) (ops xs) empty)
 unfolding withSlot
-ran-on t p xs small h g = run-on t small xs justBegun (withSlot t (running justBegun) p) (put-same t (running justBegun) (p .slots)) h g
+ran-on t p xs small h g = run-on t small xs justBegun (withSlot t (running justBegun) p) (put-same t (running justBegun) (p .slots)) [] (unfold lone ops in refl) h g
 
 -- What it leaves.
 module _ (t : ℕ) (p : Plain) (r : Running) where

@@ -8,7 +8,7 @@ use Prim.Native.Nat.{ℕ, _+_}
 use Rattle.rules.specs.Items.{result, asked}
 use Rattle.rules.specs.Transactions.{Txn, empty}
 use Rattle.rules.specs.Messages.{Op, bufferOf, places}
-use Rattle.rules.specs.Steps.{Stepped, refuse, accept, step}
+use Rattle.rules.specs.Steps.{Stepped, refuse, accept, step, turnedBack}
 use Rattle.rules.specs.Commits.{fits, commitRefusal}
 use Rattle.rules.specs.Messages.{Call, begin, on, commit, abort, Reply}
 use Rattle.rules.specs.Sightings.{Entry, entries, Committed}
@@ -66,7 +66,7 @@ module _ (p : Plain) where
   turned-on t o closed = kept _ _
   turned-on t o (running r) =
       turned-stepped t o r (entries (p .committed .setter) (asked (p .committed .value) (step (p .fileOf) o (r .txn))))
-      (result (p .committed .value) (step (p .fileOf) o (r .txn)))
+      (turnedBack (isStale p r) o (result (p .committed .value) (step (p .fileOf) o (r .txn))))
 
   turned-committed :
       (t : ℕ) (r : Running)

@@ -13,7 +13,7 @@ use Rattle.rules.specs.Items.{Item, byte, offset, same, Values, Prog, re
 use Rattle.standings.specs.Table.{isKnown}
 use Rattle.rules.specs.Transactions.{Txn, empty, put}
 use Rattle.rules.specs.Messages.{Op, bufferOf, places}
-use Rattle.rules.specs.Steps.{Stepped, refuse, accept, step}
+use Rattle.rules.specs.Steps.{Stepped, refuse, accept, step, turnedBack}
 use Rattle.rules.specs.Commits.{Setting, settings, fits, landed, commitRefusal}
 use Rattle.rules.specs.Messages.{Call, begin, on, commit, abort, Reply}
 
@@ -81,7 +81,8 @@ sightedStepped t o h is s (accept y answer buffer) =
 unfoldable pub sightedOn : ℕ → Op → Seat → Sighted → SightedTurn
 sightedOn t o vacant s = turnedAway 4 (bufferOf o) s
 sightedOn t o (held h) s =
-    sightedStepped t o h (asked (s .value) (step (s .fileOf) o (h .txn))) s (result (s .value) (step (s .fileOf) o (h .txn)))
+    sightedStepped t o h (asked (s .value) (step (s .fileOf) o (h .txn))) s
+    (turnedBack (h .stale) o (result (s .value) (step (s .fileOf) o (h .txn))))
 
 -- Another open transaction after a commit of those settings.
 unfoldable pub touch : List Setting → Seat → Seat

@@ -6,10 +6,11 @@ use Prim.Native.Nat.{ℕ, _<_}
 use Rattle.record.specs.State.{transaction}
 use Rattle.rules.specs.Items.{result}
 use Rattle.rules.specs.Messages.{Op, bufferOf}
-use Rattle.rules.specs.Steps.{Stepped, refuse, accept, step}
+use Rattle.rules.specs.Steps.{Stepped, refuse, accept, step, turnedBack}
 use Rattle.rules.specs.Messages.{on}
 use Rattle.rules.specs.Machine.{Machine, fileOf, values, txnOf}
 use Rattle.rules.specs.Calls.{turnDown, served, stepTurn, call}
+use Rattle.rules.proofs.Serial.Programs.{turned-back}
 use Rattle.rules.proofs.Serial.Sighted.{turnedAway, sightedStepped, sightedOn, sightedCall}
 use Rattle.rules.proofs.View.Shape.{heldBy, view, Sound}
 use Rattle.rules.proofs.View.Accepted.{sightings, machineAfter, heldAfter, view-after, sound-after}
@@ -33,5 +34,6 @@ unfolding call sightedCall sightedOn stepTurn sightings view heldBy
 step-turn m t o h =
     admitted-agrees m t h (bufferOf o) (stepTurn t o m) (sightedOn t o) refl
     (λ small begun.
-    step-agrees m t o h small begun
-    (result (values (m .store) (m .files)) (step (fileOf (m .store)) o (txnOf (m .store) (m .journal) (m .logs) t))) refl)
+    let s = result (values (m .store) (m .files)) (step (fileOf (m .store)) o (txnOf (m .store) (m .journal) (m .logs) t)) in
+    turned-back (λ z. Agrees (served t o m (sightings m t o) z) (sightedStepped t o (heldBy m t) (sightings m t o) (view m) z))
+    (transaction (m .store) t .stale) o s (unfold served sightedStepped turnDown turnedAway in (refl, refl, h)) (λ e. step-agrees m t o h small begun s refl))

@@ -1,14 +1,14 @@
--- `print_counts` meets its contract. The loop's invariant: the index is at most 22.
+-- `print_counts` meets its contract. The loop's invariant: the index is at most 23.
 use Prim.Native.Nat.{_-_, _≤_}
 use borrow.Author.Needs.{needs}
 use Rattle.workload.proofs.print_counts.Statement.{statement}
 use Rattle.workload.proofs.print_counts.Tie as tie
 
 abbrev Inv-loop : tie.InvT-loop
-Inv-loop counts k₀ k = k ≤ 22
+Inv-loop counts k₀ k = k ≤ 23
 
 abbrev μ-loop : tie.MeasureT-loop
-μ-loop counts k₀ k = 22 - k
+μ-loop counts k₀ k = 23 - k
 
 loop-holds : tie.Need-loop-holds Inv-loop μ-loop
 loop-holds c = search needs

@@ -8,7 +8,7 @@ use native.Mathlib.Omega.{arith}
 use Prim.Native.Nat.{ℕ, _<_}
 use Rattle.standings.specs.Table.{pointerSettles, offsetOf}
 use Rattle.record.specs.State.{transaction, withTransaction}
-use Rattle.record.specs.declared.outcomes.Refusal.the-variants.{NotOpen, NoSuchDescriptor, SettledPastEnd}
+use Rattle.record.specs.declared.outcomes.Refusal.the-variants.{NotOpen, SettledPastEnd}
 use Rattle.ranges.specs.Ranges.{admission}
 use Rattle.ranges.proofs.Laws.{in-range}
 use Rattle.rules.specs.Messages.{Op, bufferOf}
@@ -20,8 +20,9 @@ use Rattle.settling.specs.Choices.{chosenByPointer, settlingOf}
 use Rattle.settling.specs.Records.{placedRecords}
 use Rattle.settling.proofs.ChoiceLaws.{verdict-past, verdict-settled, transaction-settled}
 use Rattle.settling.proofs.Settled.{placeable}
-use Rattle.refusing.proofs.Turns.{LetThrough, sharedWith, gate-refused, gate-passed, gate-let-through, admission-open, admitted-closed, turned-meets}
-use Rattle.looking.proofs.PointerRules.{pointer-no-descriptor, pointer-stays, pointer-past, pointer-meets}
+use Rattle.refusing.proofs.Turns.{LetThrough, sharedWith, gate-refused, gate-passed, gate-zero, gate-number, gate-let-through, admission-open, admitted-closed, turned-meets}
+use Rattle.looking.proofs.LookRules.{MayLook, lookRefusal, may-look}
+use Rattle.looking.proofs.PointerRules.{pointer-refused, pointer-stays, pointer-past, pointer-meets}
 use Rattle.looking.proofs.pointer_call.get_file_pointer.Statement.{statement}
 use Rattle.looking.proofs.pointer_call.get_file_pointer.Tie as tie
 
@@ -52,6 +53,13 @@ admits c = admission-open (machine (first c)) (first c .args .t) (passed (told-o
 is-open : (c : tie.Else1) → let a = first c .args in Opened (a .t1) (a .journal .now) (a .logs .now) (a .t)
 is-open c =
     opened (machine (first c)) (first c .args .t) (shaped _ _ (first c .good .0)) (told-of c .before .before .admit .ensures .1) (let-through (told-of c)) (not-false _ (c .if1 .left))
+
+-- The call may look.
+abbrev begun-at : tie.After-enum-told2 → tie.Else1
+begun-at c = c .before .before .before
+
+looked : (c : tie.After-enum-told2) → let a = first (begun-at c) .args in MayLook (transaction (a .t1) (a .t) .stale) (a .d) 0 0
+looked c = may-look _ _ _ _ (gate-zero _ _ (c .before .before .may-look .ensures) (c .enum-told2 .given .1))
 
 admit-requires : tie.Need-admit-requires
 admit-requires c κs = search needs
@@ -93,18 +101,28 @@ returns-2 c =
     let e = admitted-closed m (start .args .t) (passed told) (not-true _ (c .before .if1 .taken)) [] (stepTurn (start .args .t) (Op.getFilePointer (start .args .d)) m) in
     turned-meets _ NotOpen [] m _ e (c .turned-down2 .ensures .0) (c .turned-down2 .ensures .1)
 
+may-look-requires : tie.Need-may-look-requires
+may-look-requires c κs = search needs
+
+enum-known-h : tie.Need-enum-known-h
+enum-known-h c = search needs
+
 turned-down-requires-3 : tie.Need-turned-down-requires-3
 turned-down-requires-3 c κs = search needs
 
 returns-3 : tie.Need-returns-3
 returns-3 c =
-    let begun = c .before .before in
-    let start = first begun in
-    let e = pointer-no-descriptor (start .args .t) (start .args .d) (machine start) (admits begun) (c .before .if2 .taken) in
-    turned-meets _ NoSuchDescriptor [] (machine start) _ e (c .turned-down3 .ensures .0) (c .turned-down3 .ensures .1)
+    let looks = c .before .before .before .before in
+    let start = first (looks .before) in
+    let r = c .before .before .h .given .0 .0 in
+    let e = pointer-refused (start .args .t) (start .args .d) (machine start) (admits (looks .before)) r (gate-number _ _ (looks .may-look .ensures) r (c .before .before .h .given .1)) in
+    turned-meets _ r [] (machine start) _ e (c .turned-down3 .ensures .0) (c .turned-down3 .ensures .1)
+
+enum-told-2 : tie.Need-enum-told-2
+enum-told-2 c = search needs
 
 standing-at-requires : tie.Need-standing-at-requires
-standing-at-requires c κs = search needs
+standing-at-requires c κs = omega (arith, looked c .low)
 
 pointer-settles-requires : tie.Need-pointer-settles-requires
 pointer-settles-requires c κs = search needs
@@ -115,35 +133,36 @@ offset-requires c κs = search needs
 returns-4 : tie.Need-returns-4
 returns-4 c =
     let low = c .before .before .before .before in
-    let start = first (low .before) in
+    let begun = begun-at low in
+    let start = first begun in
     let stood = c .before .before .before .standing-at .ensures in
     rw (c .offset .ensures ∙ ap offsetOf stood)
-    (pointer-stays (start .args .t) (start .args .d) (machine start) (admits (low .before)) (is-open (low .before)) (low .if2 .left)
-    (sym (c .before .before .pointer-settles .ensures ∙ ap pointerSettles stood) ∙ not-true _ (c .before .if3 .taken)))
+    (pointer-stays (start .args .t) (start .args .d) (machine start) (admits begun) (is-open begun) (looked low .fresh) (looked low .low)
+    (sym (c .before .before .pointer-settles .ensures ∙ ap pointerSettles stood) ∙ not-true _ (c .before .if2 .taken)))
 
 chosen-by-pointer-requires : tie.Need-chosen-by-pointer-requires
-chosen-by-pointer-requires c κs = search needs
+chosen-by-pointer-requires c κs = omega (arith, looked (c .before .before .before) .low)
 
 settle-requires : tie.Need-settle-requires
 settle-requires c κs =
-    let told = told-of (c .before .before .before .before .before .before .before) in
+    let told = told-of (begun-at (c .before .before .before .before .before .before)) in
     in-range _ _ (let-through told .ranges) .offsets
-
-enum-told-2 : tie.Need-enum-told-2
-enum-told-2 c = search needs
 
 enum-told-3 : tie.Need-enum-told-3
 enum-told-3 c = search needs
+
+enum-told-4 : tie.Need-enum-told-4
+enum-told-4 c = search needs
 
 turned-down-requires-4 : tie.Need-turned-down-requires-4
 turned-down-requires-4 c κs = search needs
 
 -- What settling answers.
-abbrev low-of : tie.After-settle → tie.Else2
+abbrev low-of : tie.After-settle → tie.After-enum-told2
 low-of c = c .before .before .before .before .before .before .before
 
 abbrev begun-of : tie.After-settle → tie.Else1
-begun-of c = low-of c .before
+begun-of c = begun-at (low-of c)
 
 settles : (c : tie.After-settle) → let a = first (begun-of c) .args in let x = transaction (a .t1) (a .t) in
     c .settle .result ≡ settlingOf (chosenByPointer x (a .d)) (a .t1 .offsets) x
@@ -156,8 +175,9 @@ returns-5 c =
     let settle = c .before .before .before in
     let begun = begun-of settle in
     let start = first begun in
-    let past = verdict-past _ _ _ _ (settles settle) (c .before .enum-told3 .given .1) in
-    let e = pointer-past (start .args .t) (start .args .d) (machine start) (admits begun) (low-of settle .if2 .left) past in
+    let past = verdict-past _ _ _ _ (settles settle) (c .before .enum-told4 .given .1) in
+    let look = looked (low-of settle) in
+    let e = pointer-past (start .args .t) (start .args .d) (machine start) (admits begun) (look .fresh) (look .low) past in
     turned-meets _ SettledPastEnd [] (machine start) _ e (c .turned-down4 .ensures .0) (c .turned-down4 .ensures .1)
 
 wide-octet-requires : tie.Need-wide-octet-requires
@@ -183,7 +203,7 @@ element-set-from-y : tie.Need-element-set-from-y
 element-set-from-y c = small c
 
 standing-at-requires-2 : tie.Need-standing-at-requires-2
-standing-at-requires-2 c κs = search needs
+standing-at-requires-2 c κs = omega (arith, looked (low-of (settle-of c)) .low)
 
 offset-requires-2 : tie.Need-offset-requires-2
 offset-requires-2 c κs = search needs
@@ -196,8 +216,9 @@ returns-6 c =
     let begun = begun-of settle in
     let a = first begun .args in
     let m = machine (first begun) in
-    let v = placed .before .before .before .before .before .before .enum-told2 .given .1 in
-    pointer-meets (a .t) (a .d) m (admits begun) (is-open begun) (low-of settle .if2 .left) (verdict-settled _ _ _ _ (settles settle) v)
+    let v = placed .before .before .before .before .before .before .enum-told3 .given .1 in
+    let look = looked (low-of settle) in
+    pointer-meets (a .t) (a .d) m (admits begun) (is-open begun) (look .fresh) (look .low) (verdict-settled _ _ _ _ (settles settle) v)
     _ (settle .settle .result .transaction) _ (c .offset2 .ensures ∙ ap offsetOf (c .before .standing-at2 .ensures)) (transaction-settled _ _ _ _ (settles settle) v)
     (placed .place-records .ensures
     ∙ ap₂ (λ (l : List Bool) (k : ℕ). placedRecords l (a .t1 .offsets) (a .journal .now) (a .t) k) (settle .before .before .before .chosen-by-pointer .ensures) (placed .before .before .before .wide-octet .ensures .0))
@@ -215,16 +236,19 @@ get-file-pointer-spec =
     element-copy-out-x
     turned-down-requires-2
     returns-2
+    may-look-requires
+    enum-known-h
     turned-down-requires-3
     returns-3
+    enum-told-2
     standing-at-requires
     pointer-settles-requires
     offset-requires
     returns-4
     chosen-by-pointer-requires
     settle-requires
-    enum-told-2
     enum-told-3
+    enum-told-4
     turned-down-requires-4
     returns-5
     wide-octet-requires

@@ -1,5 +1,5 @@
 -- `looking::read` meets its contract.
-use mathlib.Core.Bool.{Bool, true}
+use mathlib.Core.Bool.{Bool, false, true}
 use mathlib.Core.List.{List}
 use mathlib.Core.Path.{_≡_, ap, ap₂, _∙_}
 use borrow.Author.Needs.{needs}
@@ -10,7 +10,7 @@ use Prim.Native.Nat.{ℕ, _-_, _≤_, min}
 use Rattle.standings.specs.declared.Standing.{Standing}
 use Rattle.standings.specs.Table.{afterRead, offsetOf}
 use Rattle.record.specs.State.{transaction, standingAt, withTransaction}
-use Rattle.record.specs.declared.outcomes.Refusal.the-variants.{NotOpen, NoSuchDescriptor, ReaderTooShort, SettledPastEnd}
+use Rattle.record.specs.declared.outcomes.Refusal.the-variants.{NotOpen, SettledPastEnd}
 use Rattle.ranges.specs.Ranges.{admission}
 use Rattle.ranges.proofs.Laws.{in-range}
 use Rattle.rules.specs.Messages.{Op, bufferOf}
@@ -23,8 +23,9 @@ use Rattle.settling.specs.Records.{placedRecords}
 use Rattle.settling.proofs.ChoiceLaws.{verdict-past, verdict-settled, transaction-settled}
 use Rattle.settling.proofs.Settled.{settledJournal, placeable}
 use Rattle.runs.specs.Runs.{extent}
-use Rattle.refusing.proofs.Turns.{LetThrough, sharedWith, gate-refused, gate-passed, gate-let-through, admission-open, admitted-closed, turned-meets}
-use Rattle.looking.proofs.ReadRules.{read-no-descriptor, read-too-short, read-past, offset-within, counted, read-meets}
+use Rattle.refusing.proofs.Turns.{LetThrough, sharedWith, gate-refused, gate-passed, gate-zero, gate-number, gate-let-through, admission-open, admitted-closed, turned-meets}
+use Rattle.looking.proofs.LookRules.{MayLook, may-look}
+use Rattle.looking.proofs.ReadRules.{read-refused, read-past, offset-within, counted, read-meets}
 use Rattle.looking.proofs.read_call.read.Statement.{statement}
 use Rattle.looking.proofs.read_call.read.Tie as tie
 
@@ -55,6 +56,13 @@ admits c = admission-open (machine (first c)) (first c .args .t) (passed (told-o
 is-open : (c : tie.Else1) → let a = first c .args in Opened (a .t1) (a .journal .now) (a .logs .now) (a .t)
 is-open c =
     opened (machine (first c)) (first c .args .t) (shaped _ _ (first c .good .0)) (told-of c .before .before .admit .ensures .1) (let-through (told-of c)) (not-false _ (c .if1 .left))
+
+-- The call may look.
+abbrev begun-at : tie.After-enum-told2 → tie.Else1
+begun-at c = c .before .before .before
+
+looked : (c : tie.After-enum-told2) → let a = first (begun-at c) .args in MayLook (transaction (a .t1) (a .t) .stale) (a .d) (a .n) (length (a .reader .now))
+looked c = may-look _ _ _ _ (gate-zero _ _ (c .before .before .may-look .ensures) (c .enum-told2 .given .1))
 
 admit-requires : tie.Need-admit-requires
 admit-requires c κs = search needs
@@ -97,56 +105,58 @@ returns-2 c =
     let e = admitted-closed m (start .args .t) (passed told) (not-true _ (c .before .if1 .taken)) (bufferOf o) (stepTurn (start .args .t) o m) in
     turned-meets _ NotOpen (bufferOf o) m _ e (c .turned-down2 .ensures .0) (c .turned-down2 .ensures .1)
 
+may-look-requires : tie.Need-may-look-requires
+may-look-requires c κs = search needs
+
+enum-known-h : tie.Need-enum-known-h
+enum-known-h c = search needs
+
 turned-down-requires-3 : tie.Need-turned-down-requires-3
 turned-down-requires-3 c κs = search needs
 
 returns-3 : tie.Need-returns-3
 returns-3 c =
-    let begun = c .before .before in
-    let a = first begun .args in
-    let m = machine (first begun) in
-    let e = read-no-descriptor (a .t) (a .d) (a .n) (a .reader .now) m (admits begun) (c .before .if2 .taken) in
-    turned-meets _ NoSuchDescriptor (a .reader .now) m _ e (c .turned-down3 .ensures .0) (c .turned-down3 .ensures .1)
-
-turned-down-requires-4 : tie.Need-turned-down-requires-4
-turned-down-requires-4 c κs = search needs
-
-returns-4 : tie.Need-returns-4
-returns-4 c =
-    let begun = c .before .before .before in
-    let a = first begun .args in
-    let m = machine (first begun) in
-    let e = read-too-short (a .t) (a .d) (a .n) (a .reader .now) m (admits begun) (c .before .before .if2 .left) (c .before .if3 .taken) in
-    turned-meets _ ReaderTooShort (a .reader .now) m _ e (c .turned-down4 .ensures .0) (c .turned-down4 .ensures .1)
-
-chosen-by-read-requires : tie.Need-chosen-by-read-requires
-chosen-by-read-requires c κs = search needs
-
-settle-requires : tie.Need-settle-requires
-settle-requires c κs =
-    in-range _ _ (let-through (told-of (c .before .before .before .before .before .before .before)) .ranges) .offsets
+    let looks = c .before .before .before .before in
+    let a = first (looks .before) .args in
+    let m = machine (first (looks .before)) in
+    let r = c .before .before .h .given .0 .0 in
+    let e = read-refused (a .t) (a .d) (a .n) (a .reader .now) m (admits (looks .before)) r (gate-number _ _ (looks .may-look .ensures) r (c .before .before .h .given .1)) in
+    turned-meets _ r (a .reader .now) m _ e (c .turned-down3 .ensures .0) (c .turned-down3 .ensures .1)
 
 enum-told-2 : tie.Need-enum-told-2
 enum-told-2 c = search needs
 
+chosen-by-read-requires : tie.Need-chosen-by-read-requires
+chosen-by-read-requires c κs = omega (arith, looked (c .before .before) .low)
+
+settle-requires : tie.Need-settle-requires
+settle-requires c κs =
+    in-range _ _ (let-through (told-of (begun-at (c .before .before .before .before .before))) .ranges) .offsets
+
 enum-told-3 : tie.Need-enum-told-3
 enum-told-3 c = search needs
 
-turned-down-requires-5 : tie.Need-turned-down-requires-5
-turned-down-requires-5 c κs = search needs
+enum-told-4 : tie.Need-enum-told-4
+enum-told-4 c = search needs
+
+turned-down-requires-4 : tie.Need-turned-down-requires-4
+turned-down-requires-4 c κs = search needs
 
 -- What settling answers.
-abbrev room-of : tie.After-settle → tie.Else3
+abbrev room-of : tie.After-settle → tie.After-enum-told2
 room-of c = c .before .before .before .before .before .before
 
 abbrev begun-of : tie.After-settle → tie.Else1
-begun-of c = room-of c .before .before
+begun-of c = begun-at (room-of c)
+
+fresh : (c : tie.After-settle) → let a = first (begun-of c) .args in transaction (a .t1) (a .t) .stale ≡ false
+fresh c = looked (room-of c) .fresh
 
 low : (c : tie.After-settle) → first (begun-of c) .args .d ≤ 15
-low c = room-of c .before .if2 .left
+low c = looked (room-of c) .low
 
 roomy : (c : tie.After-settle) → let a = first (begun-of c) .args in a .n ≤ length (a .reader .now)
-roomy c = room-of c .if3 .left
+roomy c = looked (room-of c) .roomy
 
 settles : (c : tie.After-settle) → let a = first (begun-of c) .args in let x = transaction (a .t1) (a .t) in
     c .settle .result ≡ settlingOf (chosenByRead (a .t1 .filenumbers) x (a .d)) (a .t1 .offsets) x
@@ -154,15 +164,15 @@ settles c =
     let a = first (begun-of c) .args in
     c .settle .ensures ∙ ap (λ (l : List Bool). settlingOf l (a .t1 .offsets) (transaction (a .t1) (a .t))) (c .before .before .before .chosen-by-read .ensures)
 
-returns-5 : tie.Need-returns-5
-returns-5 c =
+returns-4 : tie.Need-returns-4
+returns-4 c =
     let settle = c .before .before .before in
     let begun = begun-of settle in
     let a = first begun .args in
     let m = machine (first begun) in
-    let past = verdict-past _ _ _ _ (settles settle) (c .before .enum-told3 .given .1) in
-    let e = read-past (a .t) (a .d) (a .n) (a .reader .now) m (admits begun) (is-open begun) (low settle) (roomy settle) past in
-    turned-meets _ SettledPastEnd (a .reader .now) m _ e (c .turned-down5 .ensures .0) (c .turned-down5 .ensures .1)
+    let past = verdict-past _ _ _ _ (settles settle) (c .before .enum-told4 .given .1) in
+    let e = read-past (a .t) (a .d) (a .n) (a .reader .now) m (admits begun) (is-open begun) (fresh settle) (low settle) (roomy settle) past in
+    turned-meets _ SettledPastEnd (a .reader .now) m _ e (c .turned-down4 .ensures .0) (c .turned-down4 .ensures .1)
 
 wide-octet-requires : tie.Need-wide-octet-requires
 wide-octet-requires c κs = search needs
@@ -182,11 +192,11 @@ begin-of c = first (begun-of (settle-of c))
 
 within : (c : tie.After-place-records) → let a = begin-of c .args in let x = transaction (a .t1) (a .t) in
     allWithin (chosenByRead (a .t1 .filenumbers) x (a .d)) (a .t1 .offsets) x ≡ true
-within c = verdict-settled _ _ _ _ (settles (settle-of c)) (c .before .before .before .before .before .before .before .enum-told2 .given .1)
+within c = verdict-settled _ _ _ _ (settles (settle-of c)) (c .before .before .before .before .before .before .before .enum-told3 .given .1)
 
 afterwards : (c : tie.After-place-records) → let a = begin-of c .args in let x = transaction (a .t1) (a .t) in
     settle-of c .settle .result .transaction ≡ settledTransaction (chosenByRead (a .t1 .filenumbers) x (a .d)) (a .t1 .offsets) x
-afterwards c = transaction-settled _ _ _ _ (settles (settle-of c)) (c .before .before .before .before .before .before .before .enum-told2 .given .1)
+afterwards c = transaction-settled _ _ _ _ (settles (settle-of c)) (c .before .before .before .before .before .before .before .enum-told3 .given .1)
 
 placed : (c : tie.After-place-records) → let a = begin-of c .args in let x = transaction (a .t1) (a .t) in
     c .place-records .last .0 ≡ settledJournal (a .t1) (a .journal .now) (a .t) (chosenByRead (a .t1 .filenumbers) x (a .d))
@@ -197,10 +207,10 @@ placed c =
     (c .before .before .before .wide-octet .ensures .0)
 
 standing-at-requires : tie.Need-standing-at-requires
-standing-at-requires c κs = search needs
+standing-at-requires c κs = omega (arith, low (settle-of c))
 
 element-copy-out-places-given : tie.Need-element-copy-out-places-given
-element-copy-out-places-given c = search needs
+element-copy-out-places-given c = omega (arith, low (settle-of (c .before)))
 
 -- The offset that is read from.
 low-offset : (c : tie.After-standing-at) → offsetOf (c .standing-at .result) ≤ 4096
@@ -210,7 +220,7 @@ low-offset c =
     let begun = begun-of settle in
     let a = begin-of p .args in
     rw (c .standing-at .ensures)
-    (offset-within (a .t) (a .d) (a .n) (a .reader .now) (machine (begin-of p)) (admits begun) (is-open begun) (low settle) (roomy settle) (within p) _ (afterwards p))
+    (offset-within (a .t) (a .d) (a .n) (a .reader .now) (machine (begin-of p)) (admits begun) (is-open begun) (fresh settle) (low settle) (roomy settle) (within p) _ (afterwards p))
 
 places-given-requires : tie.Need-places-given-requires
 places-given-requires c κs = low-offset (c .before)
@@ -239,7 +249,7 @@ copy-bytes-requires c κs =
     rw (e .places-given .ensures) (
       record {
         counted =
-            counted (a .t) (a .d) (a .n) (a .reader .now) (machine (begin-of p)) (admits begun) (is-open begun) (low settle) (roomy settle) (within p) _ (afterwards p) _ (placed p) _
+            counted (a .t) (a .d) (a .n) (a .reader .now) (machine (begin-of p)) (admits begun) (is-open begun) (fresh settle) (low settle) (roomy settle) (within p) _ (afterwards p) _ (placed p) _
             (places-are e);
         logsLength = through .lengths .logs;
         filesLength = through .lengths .files;
@@ -270,20 +280,20 @@ places-of c = c .before .before .before .before .before .before .before .before 
 abbrev told-at : tie.After-after-read → tie.After-enum-told
 told-at c = told-of (begun-of (settle-of (placed-of (places-of c))))
 
-mul-t23 : tie.Need-mul-t23
-mul-t23 c = omega (arith, low (settle-of (placed-of (places-of c))))
+mul-t25 : tie.Need-mul-t25
+mul-t25 c = omega (arith, low (settle-of (placed-of (places-of c))))
 
 element-set-from-y : tie.Need-element-set-from-y
 element-set-from-y c = omega (arith, low (settle-of (placed-of (places-of c))))
 
-mul-t25 : tie.Need-mul-t25
-mul-t25 c = omega (arith, let-through (told-at c) .small)
+mul-t27 : tie.Need-mul-t27
+mul-t27 c = omega (arith, let-through (told-at c) .small)
 
 element-set-from-s : tie.Need-element-set-from-s
 element-set-from-s c = let-through (told-at c) .small
 
-cast-t54 : tie.Need-cast-t54
-cast-t54 c = omega (arith, few (places-of (c .before)))
+cast-t53 : tie.Need-cast-t53
+cast-t53 c = omega (arith, few (places-of (c .before)))
 
 same-length : tie.Need-same-length
 same-length c = search needs
@@ -291,16 +301,16 @@ same-length c = search needs
 same-length-2 : tie.Need-same-length-2
 same-length-2 c = search needs
 
-returns-6 : tie.Need-returns-6
+returns-5 : tie.Need-returns-5
 unfolding withTransaction
-returns-6 c =
+returns-5 c =
     let e = places-of (c .before) in
     let p = placed-of e in
     let settle = settle-of p in
     let begun = begun-of settle in
     let a = begin-of p .args in
     let copied = c .before .before .before .before .before .before .before .copy-bytes .ensures in
-    read-meets (a .t) (a .d) (a .n) (a .reader .now) (machine (begin-of p)) (admits begun) (is-open begun) (low settle) (roomy settle) (within p) (settle .settle .result .transaction) (afterwards p) _ (placed p) (e .places-given .result) (places-are e) _ _ _
+    read-meets (a .t) (a .d) (a .n) (a .reader .now) (machine (begin-of p)) (admits begun) (is-open begun) (fresh settle) (low settle) (roomy settle) (within p) (settle .settle .result .transaction) (afterwards p) _ (placed p) (e .places-given .result) (places-are e) _ _ _
     (c .before .after-read .ensures ∙ ap (afterRead (e .places-given .result .length)) (e .before .before .standing-at .ensures)) (copied .1) (copied .0)
 
 pub read-spec : {M : Type 1} → statement M
@@ -316,16 +326,17 @@ read-spec =
     element-copy-out-x
     turned-down-requires-2
     returns-2
+    may-look-requires
+    enum-known-h
     turned-down-requires-3
     returns-3
-    turned-down-requires-4
-    returns-4
+    enum-told-2
     chosen-by-read-requires
     settle-requires
-    enum-told-2
     enum-told-3
-    turned-down-requires-5
-    returns-5
+    enum-told-4
+    turned-down-requires-4
+    returns-4
     wide-octet-requires
     place-records-requires
     standing-at-requires
@@ -334,11 +345,11 @@ read-spec =
     copy-bytes-requires
     cast-after-read
     after-read-requires
-    mul-t23
-    element-set-from-y
     mul-t25
+    element-set-from-y
+    mul-t27
     element-set-from-s
-    cast-t54
+    cast-t53
     same-length
     same-length-2
-    returns-6)
+    returns-5)

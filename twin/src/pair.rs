@@ -215,9 +215,20 @@ impl Pair {
             assert!(with_garbage == self.state, "{call:?} leaves some garbage");
         }
         self.keep_history(call, reply, answer);
+        self.check_moment(call, expected);
         self.check_record();
         if let (Call::Step(t, step), Answer::Given(given)) = (call, answer) {
             self.check_latest_writes(*t, step.descriptor, usize::from(given));
+        }
+    }
+
+    /// What a call that looks gave is what its transaction's accepted calls up to it give, run alone on what is committed now.
+    fn check_moment(&self, call: &Call, given: &Reply) {
+        if let Call::Step(t, Step { action: Action::Read { .. } | Action::GetFilePointer, .. }) = call {
+            let calls = &self.machine.open[*t].as_ref().expect("it is open").calls;
+            let (_, replies) = Course::run_alone(&self.machine.committed, calls);
+            assert_eq!(replies.len(), calls.len(), "{call:?}: the run alone stops before it");
+            assert_eq!(replies.last(), Some(given), "{call:?} gave something else than alone");
         }
     }
 

@@ -6,6 +6,7 @@ pub mod Invariant
 pub mod Known
 pub mod Lists
 pub mod Lone
+pub mod Moments
 pub mod Programs
 pub mod Rerun
 pub mod SecondHalf

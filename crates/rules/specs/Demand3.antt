@@ -1,7 +1,7 @@
 -- Demand 3, beside its wording. The store is the rules of crate rules on records and buffers (`call`), the plain machine is
 -- `plainCall`, and both run the same list of calls, refused ones included.
 use mathlib.Core.Bool.{Bool, true, false}
-use mathlib.Core.List.{List, [], _∷_, map}
+use mathlib.Core.List.{List, [], _∷_, _++_, map}
 use mathlib.Core.Logic.{_↔_}
 use mathlib.Core.Path.{_≡_}
 use lib.ListN.{getD}
@@ -11,8 +11,11 @@ use Rattle.record.specs.declared.outcomes.Outcome.{Outcome}
 use Rattle.record.specs.declared.outcomes.Refusal.the-variants.{Stale}
 use Rattle.record.specs.State.{transaction}
 use Rattle.record.specs.Paper.{number, plain, granted, refused, said}
-use Rattle.rules.specs.Messages.{Call, commit, Reply}
-use Rattle.rules.specs.Plain.{Slot, closed, running, Running, Plain, freshPlain, plainCall, plainAfter, plainReplies, firstList, secondList, becameStale}
+use Rattle.rules.specs.Messages.{Op, Call, on, commit, Reply}
+use Rattle.rules.specs.Transactions.{empty}
+use Rattle.rules.specs.Steps.{looks}
+use Rattle.rules.specs.Lone.{Lone, lone}
+use Rattle.rules.specs.Plain.{Slot, closed, running, Running, Plain, ops, freshPlain, plainCall, plainAfter, plainReplies, firstList, secondList, becameStale}
 use Rattle.rules.specs.Grants.{grantsOf, rerun, sameReplies}
 use Rattle.rules.specs.Machine.{Machine, values}
 use Rattle.rules.specs.Calls.{fresh, call, callsAfter, callsReplies}
@@ -27,6 +30,23 @@ pub record FreshlyMade (numbers : List ℕ) (m : Machine) : Type 0 where
 unfoldable pub isRunning : Slot → Bool
 isRunning closed = false
 isRunning (running r) = true
+
+-- "A call is accepted when it returns no refusal".
+abbrev pub IsAccepted : Reply → Type 0
+IsAccepted r = (n : ℕ) → r .answer ≡ refused n → ⊥
+
+-- "its transaction's accepted calls up to it .. run alone on the committed files and offsets of that moment": those that the machine holds
+-- of transaction r, and then o.
+unfoldable pub upTo : Plain → Running → Op → Lone
+upTo p r o = lone (p .fileOf) (p .committed) (ops (r .calls) ++ (o ∷ [])) empty
+
+-- Call o of transaction t gave a reply when the plain machine was p: the lone run up to it gets through and gives, after the replies that
+-- the transaction had before, this one, answer and the reader's whole buffer.
+pub record OneMoment (p : Plain) (t : ℕ) (o : Op) (reply : Reply) : Type 0 where
+  pub reader : Running
+  pub isOpen : p .slots t ≡ running reader
+  pub through : upTo p reader o .through ≡ true
+  pub replies : upTo p reader o .replies ≡ map (λ a. a .reply) (reader .calls) ++ (reply ∷ [])
 
 -- What holds after a list of calls cs, of the store m and the plain machine p that it leads to, from the store m₀ and the machine
 -- p₀. As it is claimed for every list, it holds at every moment of each.
@@ -50,6 +70,10 @@ pub record Holds (m₀ : Machine) (p₀ : Plain) (cs : List Call) (m : Machine) 
   pub again : plainReplies (rerun (grantsOf cs p₀)) p₀ ≡ sameReplies (grantsOf cs p₀)
   -- "and leave the same files and offsets"
   pub left : values (m .store) (m .files) ≡ plainAfter (rerun (grantsOf cs p₀)) p₀ .committed .value
+  -- F-7, "each accepted Read and GetFilePointer, in transactions that later abort as well, gives the answer and the bytes that its
+  -- transaction's accepted calls up to it give, run alone on the committed files and offsets of that moment": of the next call, whatever it is.
+  pub moment :
+      (t : ℕ) (o : Op) → looks o ≡ true → IsAccepted (call (on t o) m .reply) → OneMoment p t o (call (on t o) m .reply)
   -- "A store reached from Fresh by these calls never meets 2": nor 1, while the caller lends the same buffers.
   pub ranges : (c : Call) → (call c m .reply .answer ≡ refused 2 → ⊥) × (call c m .reply .answer ≡ refused 1 → ⊥)
 
@@ -85,6 +109,10 @@ replyOf x = record { answer = said (x .outcome); buffer = x .reader }
 pub record CodeHolds (m₀ : Machine) (p₀ : Plain) (xs : List Made) : Type 0 where
   pub replies : map replyOf xs ≡ plainReplies (map (λ x. x .made) xs) p₀
   pub holds : Holds m₀ p₀ (map (λ x. x .made) xs) (lastOf m₀ xs) (plainAfter (map (λ x. x .made) xs) p₀)
+  -- F-7 about one more call of the code, which keeps its promise too.
+  pub moment :
+      (x : Made) (t : ℕ) (o : Op) → x .made ≡ on t o → Meets (call (x .made) (lastOf m₀ xs)) (x .outcome) (x .kept) (x .reader)
+      → looks o ≡ true → IsAccepted (replyOf x) → OneMoment (plainAfter (map (λ x. x .made) xs) p₀) t o (replyOf x)
 
 abbrev pub Demand3OfCode : Type 0
 Demand3OfCode =

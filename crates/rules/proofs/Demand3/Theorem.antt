@@ -16,17 +16,18 @@ use Rattle.record.specs.Paper.{Said, plain, pointer, given, granted, pairs, ref
 use Rattle.ranges.specs.Ranges.{admission, admissionOfFresh}
 use Rattle.ranges.proofs.Laws.{AdmittedFresh, admitted-fresh}
 use Rattle.rules.specs.Commits.{fits, commitRefusal}
-use Rattle.rules.specs.Messages.{Call, begin, on, commit, abort, Reply, places}
+use Rattle.rules.specs.Messages.{Op, Call, begin, on, commit, abort, Reply, places}
+use Rattle.rules.specs.Steps.{looks}
 use Rattle.rules.specs.Plain.{Slot, closed, running, Running, Plain, startPlain, freshPlain, isStale, PlainTurn, turnedDown, answering, grant, becameStale, plainCommitted, plainCommit, numbered, plainCall, plainAfter, plainReplies, firstList, secondList}
 use Rattle.rules.specs.Items.{Values}
 use Rattle.rules.specs.Sightings.{Committed}
 use Rattle.rules.specs.Machine.{Machine, sizes, values}
 use Rattle.rules.specs.Calls.{Turn, answer, turnDown, passing, freshMachine, fresh, call, callsAfter, callsReplies}
 use Rattle.rules.specs.Promises.{Meets}
-use Rattle.rules.specs.Demand3.{FreshlyMade, isRunning, Holds, Demand3, Made, Linked, lastOf, replyOf, CodeHolds, Demand3OfCode}
+use Rattle.rules.specs.Demand3.{FreshlyMade, isRunning, IsAccepted, OneMoment, Holds, Demand3, Made, Linked, lastOf, replyOf, CodeHolds, Demand3OfCode}
 use Rattle.rules.proofs.Serial.Sighted.{Held, Seat, vacant, held, Sighted, startSighted, SightedTurn, sightedCall, sightedAfter, sightedReplies}
 use Rattle.rules.proofs.Serial.FirstHalf.{abs, absTurn, seatOf}
-use Rattle.rules.proofs.Serial.Theorem.{replies-same, state-same, turn-same, store-commit, again-same, again-left}
+use Rattle.rules.proofs.Serial.Theorem.{replies-same, state-same, turn-same, store-commit, again-same, again-left, moment-same}
 use Rattle.rules.proofs.View.Shape.{Sound, heldBy, seat, view}
 use Rattle.rules.proofs.View.Admissions.{Agrees}
 use Rattle.rules.proofs.View.StepTurn.{step-turn}
@@ -165,6 +166,10 @@ holds-from F v m₀ sound start cs =
           (omega (arith, bits-lt b 8), λ u l. ap (λ (k : ℕ). contains k u) e ∙ contains-bits b 8 u l);
       again = again-same F v cs;
       left = ap (λ (s : Sighted). s .value) same ∙ sym (ap (λ (c : Committed). c .value) (again-left F v cs));
+      moment =
+          λ t o l g.
+          let e = turn (on t o) ∙ ap (λ (τ : SightedTurn). τ .reply) (turn-same F v cs (on t o)) in
+          subst⁻¹ (OneMoment p t o) e (moment-same F v cs t o l (subst IsAccepted e g));
       ranges = λ c. never-early c m (a .sound);
     }
 
@@ -206,7 +211,12 @@ demand3-of-code numbers before o m₀ k accepted xs linked =
     let cs = map (λ (x : Made). x .made) xs in
     let l = linked-facts xs m₀ linked in
     let h = demand3 numbers m₀ made cs in
+    let p₀ : Plain = freshPlain (λ d. getD numbers d 0) in
+    let code : Holds m₀ p₀ cs (lastOf m₀ xs) (plainAfter cs p₀) = subst⁻¹ (λ (m : Machine). Holds m₀ p₀ cs m (plainAfter cs p₀)) (l .last) h in
     record {
       replies = l .replies ∙ h .replies;
-      holds = subst⁻¹ (λ (m : Machine). Holds m₀ (freshPlain (λ d. getD numbers d 0)) cs m (plainAfter cs (freshPlain (λ d. getD numbers d 0)))) (l .last) h;
+      holds = code;
+      moment = λ x t o made meets look accepted.
+          let e : replyOf x ≡ call (on t o) (lastOf m₀ xs) .reply = reply-same _ x meets ∙ ap (λ (c : Call). call c (lastOf m₀ xs) .reply) made in
+          subst⁻¹ (OneMoment (plainAfter cs p₀) t o) e (code .moment t o look (subst IsAccepted e accepted));
     }

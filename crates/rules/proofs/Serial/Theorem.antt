@@ -11,7 +11,9 @@ use Rattle.record.specs.Paper.{Said, plain, pointer, given, granted, refused}
 use Rattle.rules.specs.Items.{Values}
 use Rattle.rules.specs.Transactions.{empty}
 use Rattle.rules.specs.Commits.{fits, commitRefusal}
-use Rattle.rules.specs.Messages.{Call, commit}
+use Rattle.rules.specs.Messages.{Op, Call, on, commit}
+use Rattle.rules.specs.Steps.{looks}
+use Rattle.rules.specs.Demand3.{IsAccepted, OneMoment}
 use Rattle.rules.specs.Sightings.{sameEntries}
 use Rattle.rules.specs.Plain.{Running, Slot, running, Plain, startPlain, ops, firstList, secondList, isStale, PlainTurn, turnedDown, answering, plainCommitted, plainCommit, numbered, plainCall, plainAfter, plainReplies}
 use Rattle.rules.specs.Lone.{lone}
@@ -23,6 +25,7 @@ use Rattle.rules.proofs.Serial.Rerun.{reran}
 use Rattle.rules.proofs.Serial.Sound.{recorded}
 use Rattle.rules.proofs.Serial.Invariant.{Good, good-start, good-after, sound-at, open-number}
 use Rattle.rules.proofs.Serial.FirstHalf.{abs, abs-start, absTurn, same-call, same-after, same-replies}
+use Rattle.rules.proofs.Serial.Moments.{plain-moment}
 use Rattle.rules.proofs.Serial.SecondHalf.{files-kept, in-order, alone-recorded}
 
 module _ (fileOf : ℕ → ℕ) (v : Values) (cs : List Call) where
@@ -87,6 +90,10 @@ module _ (fileOf : ℕ → ℕ) (v : Values) (cs : List Call) where
       → lone (reached .fileOf) (reached .committed) (ops (r .calls)) empty
       ≡ record { through = true; txn = r .txn; replies = map (λ a. a .reply) (r .calls); seen = r .seen }
   alone-same t r o e = alone-recorded reached r (sound-at reached reached-good t r o) e
+
+  -- What an accepted Read or GetFilePointer gives is what its transaction gives alone at that moment.
+  pub moment-same : (t : ℕ) (o : Op) → looks o ≡ true → IsAccepted (plainCall (on t o) reached .reply) → OneMoment reached t o (plainCall (on t o) reached .reply)
+  moment-same t o = plain-moment reached reached-good t o
 
   -- Every descriptor's file stays the one that Fresh was given.
   pub files-same : reached .fileOf ≡ fileOf

@@ -55,9 +55,10 @@ fn read(pair: &mut Pair, t: usize, d: usize, count: usize) -> Vec<u8> {
     }
 }
 
-fn granted(pair: &mut Pair, t: usize) -> u8 {
+/// The octet of a granted Commit, and the number of transactions in it.
+fn granted(pair: &mut Pair, t: usize) -> (u8, u32) {
     match make(pair, Call::Commit(t)).outcome {
-        Ok(Answer::Granted(count)) => count,
+        Ok(Answer::Granted(octet)) => (octet, octet.count_ones()),
         other => panic!("not granted: {other:?}"),
     }
 }
@@ -71,7 +72,7 @@ fn a_appends_land_in_the_order_of_commits() {
     let mut pair = begun(2);
     write(&mut pair, 0, 0, b"AB");
     write(&mut pair, 1, 0, b"CD");
-    assert_eq!((granted(&mut pair, 1), granted(&mut pair, 0)), (0, 0));
+    assert_eq!((granted(&mut pair, 1), granted(&mut pair, 0)), ((0, 0), (0, 0)));
     assert_eq!((&pair.state.files[..4], pair.state.store.offsets[0]), (&b"CDAB"[..], 4));
 }
 
@@ -80,7 +81,7 @@ fn b_an_offset_looked_at_makes_stale() {
     let mut pair = begun(2);
     assert_eq!(pointer(&mut pair, 0, 0), 0);
     write(&mut pair, 1, 0, b"A");
-    assert_eq!(granted(&mut pair, 1), 1);
+    assert_eq!(granted(&mut pair, 1), (1, 1));
     assert_eq!(refused_commit(&mut pair, 0), Refusal::Stale);
 }
 
@@ -93,7 +94,7 @@ fn c_an_own_write_shields() {
     assert_eq!(read(&mut pair, 0, 0, 2), b"AB");
     seek(&mut pair, 1, 8, 0);
     write(&mut pair, 1, 8, b"XY");
-    assert_eq!((granted(&mut pair, 1), granted(&mut pair, 0)), (0, 0));
+    assert_eq!((granted(&mut pair, 1), granted(&mut pair, 0)), ((0, 0), (0, 0)));
     assert_eq!(&pair.state.files[..2], b"AB");
 }
 
@@ -107,11 +108,11 @@ fn d_byte_by_byte() {
         assert_eq!(read(&mut pair, 0, 0, 3), b"AB\0");
         seek(&mut pair, 1, 8, place);
         write(&mut pair, 1, 8, b"Z");
-        assert_eq!(granted(&mut pair, 1), turned);
+        assert_eq!(granted(&mut pair, 1), (turned, turned.into()));
         if turned == 1 {
             assert_eq!(refused_commit(&mut pair, 0), Refusal::Stale);
         } else {
-            assert_eq!(granted(&mut pair, 0), 0);
+            assert_eq!(granted(&mut pair, 0), (0, 0));
         }
     }
 }
@@ -123,7 +124,7 @@ fn e_setting_to_the_same_value_counts() {
     assert_eq!(read(&mut pair, 0, 0, 1), [0]);
     seek(&mut pair, 1, 8, 0);
     write(&mut pair, 1, 8, &[0]);
-    assert_eq!(granted(&mut pair, 1), 1);
+    assert_eq!(granted(&mut pair, 1), (1, 1));
     assert_eq!(refused_commit(&mut pair, 0), Refusal::Stale);
 }
 
@@ -134,7 +135,7 @@ fn f_a_moved_descriptor_is_settled_by_a_read() {
     seek(&mut pair, 0, 0, 0);
     assert_eq!(read(&mut pair, 0, 0, 1), b"A");
     seek(&mut pair, 1, 0, 5);
-    assert_eq!(granted(&mut pair, 1), 1);
+    assert_eq!(granted(&mut pair, 1), (1, 1));
     assert_eq!(refused_commit(&mut pair, 0), Refusal::Stale);
 }
 
@@ -152,11 +153,11 @@ fn g_a_read_settles_the_other_descriptors_of_its_file() {
 fn h_a_commit_without_room_stays_open() {
     let mut pair = begun(3);
     seek(&mut pair, 0, 0, 4096);
-    assert_eq!(granted(&mut pair, 0), 0);
+    assert_eq!(granted(&mut pair, 0), (0, 0));
     write(&mut pair, 1, 0, b"A");
     assert_eq!(refused_commit(&mut pair, 1), Refusal::SettledPastEnd);
     seek(&mut pair, 2, 0, 0);
-    assert_eq!((granted(&mut pair, 2), granted(&mut pair, 1)), (0, 0));
+    assert_eq!((granted(&mut pair, 2), granted(&mut pair, 1)), ((0, 0), (0, 0)));
     assert_eq!((pair.state.files[0], pair.state.store.offsets[0]), (b'A', 1));
 }
 
@@ -167,7 +168,7 @@ fn i_a_moved_descriptor_answers_without_settling() {
     seek(&mut pair, 0, 0, 9);
     assert_eq!(pointer(&mut pair, 0, 0), 9);
     seek(&mut pair, 1, 0, 4);
-    assert_eq!((granted(&mut pair, 1), granted(&mut pair, 0)), (0, 0));
+    assert_eq!((granted(&mut pair, 1), granted(&mut pair, 0)), ((0, 0), (0, 0)));
     assert_eq!((pair.state.files[4], pair.state.store.offsets[0]), (b'A', 9));
 }
 
@@ -175,7 +176,7 @@ fn i_a_moved_descriptor_answers_without_settling() {
 fn j_looking_moves_nothing() {
     let mut pair = begun(2);
     assert_eq!((pointer(&mut pair, 0, 0), pointer(&mut pair, 1, 0)), (0, 0));
-    assert_eq!((granted(&mut pair, 0), granted(&mut pair, 1)), (0, 0));
+    assert_eq!((granted(&mut pair, 0), granted(&mut pair, 1)), ((0, 0), (0, 0)));
 }
 
 #[test]

@@ -29,9 +29,11 @@ pub struct Cost {
 
 const LENGTH: usize = 16;
 
-/// Eight open transactions (or the first `open` of them), each with r deferred records of 16 bytes through descriptor 1.
+/// Eight open transactions (or the first `open` of them), each with r deferred records of 16 bytes through descriptor 1. Before them
+/// the file of descriptor 0 is filled, so that a Read gives all that it wants.
 fn opened(open: usize, r: usize) -> Script {
-    (0..open).fold(Script::default().fresh(), |script, t| script.begin(t).times(r, |s| s.write(t, 1, LENGTH)))
+    let filled = Script::default().fresh().filled(7, 0);
+    (0..open).fold(filled, |script, t| script.begin(t).times(r, |s| s.write(t, 1, LENGTH)))
 }
 
 fn case(name: &'static str, setup: Script, kind: Kind) -> Case {

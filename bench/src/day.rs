@@ -1,7 +1,8 @@
 //! A day on air: eight tasks, each a transaction number of its own, interleaved call by call in a fixed order.
 //!
 //! 0 and 1 log what went out, by appends through descriptor 0; logger 0 starts the log anew at every 64th entry of its own. 2 edits the
-//! playlist (file 1). 3 and 4 write captions, 5 and 6 read captions (file 2). 7 is a meter that asks for the log's offset.
+//! playlist (file 1). 3 and 4 write captions, 5 and 6 read captions (file 2). 7 is a meter that asks for the log's offset. Before the first
+//! tick playlist and captions are filled.
 
 use crate::script::{self, Script, Step, BYTES};
 use crate::stores::{Buffers, GRANTED};
@@ -50,7 +51,7 @@ fn transaction(task: usize, turn: usize, numbers: &mut Numbers) -> Script {
 /// The day's calls, from its Fresh on: each tick one task, drawn from the recurrence, makes its next call.
 pub fn day(ticks: usize) -> Script {
     let mut numbers = Numbers(1);
-    let mut out = Script::default().fresh();
+    let mut out = Script::default().fresh().filled(2, 1).filled(3, 2);
     let mut waiting: [Vec<u8>; TASKS] = Default::default();
     let mut turns = [0; TASKS];
     for _ in 0..ticks {

@@ -41,14 +41,15 @@ impl Digest {
         self.take_all(buffer);
     }
 
-    /// Takes in a transaction: begun and stale (0 or 1), records used, bytes used, four numbers for each descriptor, then
-    /// four for each of its write records.
+    /// Takes in a transaction: begun and stale (0 or 1), records used, bytes used, the octet of sighted lengths, four
+    /// numbers for each descriptor, then four for each of its write records.
     fn take_transaction(&mut self, transaction: &Transaction) {
         let log = &transaction.log;
         self.take(transaction.begun);
         self.take(transaction.stale);
         self.take(log.records.len() as u64);
         self.take(log.bytes);
+        self.take(transaction.sighted_lengths);
         for (d, &standing) in transaction.standings.iter().enumerate() {
             self.take_all(&standing_numbers(standing));
             self.take(transaction.acted >> d & 1);
@@ -59,12 +60,13 @@ impl Digest {
     }
 }
 
-/// The digest of a state, by what it means: the descriptors' files; the committed offsets; each transaction; the bytes of
-/// files, logs and marks. Every number is taken in whole.
+/// The digest of a state, by what it means: the descriptors' files; the committed offsets; the committed lengths; each
+/// transaction; the bytes of files, logs and marks. Every number is taken in whole.
 pub fn of_state(store: &Store, files: &[u8], logs: &[u8], marks: &[u8]) -> u64 {
     let mut digest = Digest::default();
     digest.take_all(&store.files);
     digest.take_all(&store.offsets);
+    digest.take_all(&store.lengths);
     for transaction in &store.transactions {
         digest.take_transaction(transaction);
     }
@@ -101,6 +103,6 @@ mod tests {
     #[test]
     fn the_digest_at_the_start() {
         let state = Pair::new().state;
-        assert_eq!(super::of_state(&state.store, &state.files, &state.logs, &state.marks), 266472364167866);
+        assert_eq!(super::of_state(&state.store, &state.files, &state.logs, &state.marks), 173233549664945);
     }
 }

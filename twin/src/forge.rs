@@ -1,12 +1,12 @@
 //! Forged records, which no run from Fresh reaches.
 
 use crate::generator::Damage;
-use crate::store::{Log, Place, Standing, Store, Transaction, WriteRecord, DESCRIPTORS};
+use crate::store::{Log, Place, Standing, Store, Transaction, WriteRecord, DESCRIPTORS, FILES};
 
 const EMPTY_RECORD: WriteRecord = WriteRecord { descriptor: 0, place: Place::At(0), length: 0 };
 
-/// Puts a field out of range; the number of the forgery, 1 to 15, says which. All but the first two are about
-/// transaction t, which is counted as begun.
+/// Puts a field out of range; the number of the forgery, 1 to 16, says which. 3 to 15 are about transaction t, which is
+/// counted as begun.
 pub fn forge(store: &mut Store, damage: &Damage) {
     let i = damage.forged_index as usize;
     let above = (4097 + damage.excess % 61439) as u16;
@@ -20,12 +20,14 @@ pub fn forge(store: &mut Store, damage: &Damage) {
         5 => *standing = Standing::Moved { advance: above, offset: 0 },
         6 => *standing = Standing::Moved { advance: 0, offset: above },
         7 => *standing = Standing::Known(above),
+        16 => store.lengths[i % FILES] = above,
         _ => forge_log(transaction, damage),
     }
-    if damage.forgery > 2 {
+    if (3..16).contains(&damage.forgery) {
         transaction.begun = true;
         // No range speaks of these.
         transaction.acted ^= damage.excess as u16;
+        transaction.sighted_lengths ^= damage.excess as u8;
     }
 }
 
@@ -75,6 +77,7 @@ pub fn garbage_in_closed(store: &mut Store, marks: &mut [u8], t: usize) {
         log: Log { records: vec![record; 255], bytes: 65535 },
         standings: [Standing::Known(5000); DESCRIPTORS],
         acted: 21845,
+        sighted_lengths: 255,
     };
     marks.iter_mut().for_each(|mark| *mark |= 1 << t);
 }
@@ -83,7 +86,9 @@ pub fn garbage_in_closed(store: &mut Store, marks: &mut [u8], t: usize) {
 pub fn garbage_in_record(store: &mut Store) {
     store.files = [255; DESCRIPTORS];
     store.offsets = [5000; DESCRIPTORS];
+    store.lengths = [5000; FILES];
     store.transactions[7].begun = true;
     store.transactions[7].acted = u16::MAX;
+    store.transactions[7].sighted_lengths = u8::MAX;
     store.transactions[7].log.records = vec![WriteRecord { descriptor: 99, ..EMPTY_RECORD }; 200];
 }

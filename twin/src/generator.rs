@@ -3,7 +3,7 @@
 //!
 //! The recurrence: x' = 48271 x mod 2147483647, from x = 1. (The 10,000th number is 399268537.)
 //! Call i, from 0, draws the next twelve numbers r0 to r11, whatever its kind. They, the phase (i div 256) and a guess
-//! at which transactions are open give everything about the call; the mode is the phase mod 7.
+//! at which transactions are open give everything about the call; the mode is the phase mod 8.
 
 #![allow(clippy::manual_is_multiple_of, clippy::manual_range_contains)] // plain arithmetic is wanted here
 
@@ -11,7 +11,7 @@ pub const SEED: u64 = 1;
 
 const DRAWS: usize = 12;
 const PHASE: u64 = 256;
-const MODES: u64 = 7;
+const MODES: u64 = 8;
 
 // The modes. Two differ by the tables below alone: 1, crowded, has few descriptors and transactions and many Commits; 6,
 // scattered, has few descriptors and transactions and few Commits, so that lists of places get long.
@@ -20,6 +20,7 @@ const MANY_RECORDS: u64 = 2; // Writes of 0 to 2 bytes, until the log has 64 rec
 const LONG_WRITES: u64 = 3; // until the log has 4,096 bytes
 const NEAR_END: u64 = 4; // Seeks around 4,096
 const LONG_READS: u64 = 5;
+const SHORT_FILES: u64 = 7; // Seeks and Writes near the start, mostly in steps of 4, so that ends meet; more Freshes
 
 // The kinds of calls.
 pub const FRESH: u64 = 0;
@@ -35,7 +36,7 @@ pub const ABORT: u64 = 8;
 const KINDS: u64 = 9;
 
 /// How many of 1,000 calls are of each kind, for each mode (nine numbers a mode).
-const WEIGHTS: [u64; 63] = [
+const WEIGHTS: [u64; 72] = [
     4, 20, 220, 260, 85, 226, 40, 102, 43, // mixed
     4, 20, 175, 225, 130, 200, 40, 162, 44, // crowded
     4, 10, 60, 800, 10, 56, 40, 12, 8, // many records
@@ -43,12 +44,13 @@ const WEIGHTS: [u64; 63] = [
     4, 20, 220, 270, 85, 160, 40, 151, 50, // near the end
     4, 20, 210, 250, 65, 270, 40, 102, 39, // long reads
     4, 20, 340, 340, 20, 100, 150, 16, 10, // scattered
+    24, 20, 60, 330, 10, 330, 16, 180, 30, // short files
 ];
 
 /// How many transaction numbers a mode mostly uses.
-const TRANSACTIONS_USED: [u64; 7] = [8, 4, 2, 3, 6, 8, 2];
+const TRANSACTIONS_USED: [u64; 8] = [8, 4, 2, 3, 6, 8, 2, 4];
 /// Through how many files of the usual arrangement a mode goes (each by two descriptors).
-const FILES_USED: [u64; 7] = [8, 2, 8, 8, 3, 4, 2];
+const FILES_USED: [u64; 8] = [8, 2, 8, 8, 3, 4, 2, 2];
 
 #[derive(Clone, Copy, Debug)]
 pub struct Generator {
@@ -89,7 +91,7 @@ pub struct Damage {
     /// 1, 2, 3: of the files, logs, marks only the first `short_length` bytes are lent.
     pub short: u64,
     pub short_length: u64,
-    /// 1 to 15: the call gets a copy of the record with a field out of range (see forge.rs).
+    /// 1 to 16: the call gets a copy of the record with a field out of range (see forge.rs).
     pub forgery: u64,
     pub forged_transaction: u64,
     pub forged_index: u64,
@@ -198,7 +200,7 @@ fn transaction(phase: u64, r: u64) -> u64 {
     } else if class < 4 {
         value % 8
     } else {
-        (phase + value % TRANSACTIONS_USED[(phase % MODES) as usize]) % 8
+        (phase + phase / 8 + value % TRANSACTIONS_USED[(phase % MODES) as usize]) % 8
     }
 }
 
@@ -237,6 +239,12 @@ fn number(kind: u64, mode: u64, class: u64, value: u64) -> u64 {
 fn seek_to(mode: u64, class: u64, value: u64) -> u64 {
     if mode == NEAR_END && class < 10 {
         4084 + value % 14
+    } else if mode == SHORT_FILES {
+        if class < 12 {
+            4 * (value % 4)
+        } else {
+            value % 16
+        }
     } else if class < 6 {
         value % 4
     } else if class < 11 {
@@ -262,6 +270,12 @@ fn write_length(mode: u64, class: u64, value: u64) -> u64 {
             200 + value % 1300
         } else {
             3000 + value % 1098
+        }
+    } else if mode == SHORT_FILES {
+        if class < 12 {
+            4
+        } else {
+            value % 9
         }
     } else if class < 3 {
         0
@@ -358,7 +372,7 @@ fn damage(kind: u64, r: &[u64; DRAWS]) -> Damage {
     Damage {
         short: if short { 1 + r[8] % 3 } else { 0 },
         short_length: if r[9] % 2 == 0 { 32767 } else { r[9] / 2 % 32768 },
-        forgery: if forged { 1 + r[8] % 15 } else { 0 },
+        forgery: if forged { 1 + r[8] % 16 } else { 0 },
         forged_transaction: r[9] % 8,
         forged_index: r[9] / 8 % 16,
         excess: r[10],

@@ -1,4 +1,4 @@
-//! A second implementation of paper 01 with requests F-1 to F-5, written from the papers alone: a store over lent
+//! A second implementation of paper 01 with requests F-1 to F-8, written from the papers alone: a store over lent
 //! buffers, the plain machine of demand 3, a generator of calls, and the means to run the two side by side.
 
 pub mod call;

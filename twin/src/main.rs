@@ -117,6 +117,7 @@ fn run(options: &Options) -> io::Result<()> {
         answers.take_reply(reply.outcome, &reply.buffer);
         if made % SIGHTINGS_EVERY == 0 {
             pair.check_sightings();
+            pair.check_beyond_lengths();
         }
         if made % LINE_EVERY == 0 {
             pair.check_serial_order();
@@ -125,8 +126,7 @@ fn run(options: &Options) -> io::Result<()> {
             }
         }
     }
-    pair.check_sightings();
-    pair.check_serial_order();
+    pair.check_at_rest();
     if options.stats {
         write_stats(&mut out, options.calls, &pair.tally)?;
     }
@@ -191,5 +191,13 @@ fn write_stats(out: &mut impl Write, calls: u64, tally: &Tally) -> io::Result<()
     writeln!(out, "granted, making others stale {}", tally.granted_making_stale)?;
     writeln!(out, "granted after a look and a write {}", tally.granted_after_look)?;
     writeln!(out, "lists of one pair {}", tally.one_pair)?;
-    writeln!(out, "lists of several pairs {}", tally.several_pairs)
+    writeln!(out, "lists of several pairs {}", tally.several_pairs)?;
+    writeln!(out, "short reads {}", tally.short)?;
+    writeln!(out, "short reads with bytes, up to the committed length {}", tally.short_at_committed)?;
+    writeln!(out, "short reads with bytes, up to an own write {}", tally.short_at_own)?;
+    writeln!(out, "short reads from beyond the length {}", tally.short_beyond)?;
+    writeln!(out, "granted, raising a length {}", tally.granted_raising)?;
+    writeln!(out, "granted up to a length that stays, sighted by others {}", tally.granted_meeting)?;
+    writeln!(out, "made stale by a length {}", tally.stale_by_length)?;
+    writeln!(out, "made stale by lengths alone {}", tally.stale_by_length_alone)
 }

@@ -4,7 +4,7 @@ use crate::call::{Action, Answer, Call, Outcome, Refusal, Reply, Step};
 use crate::forge::{forge, garbage_in_closed, garbage_in_record};
 use crate::generator::Damage;
 use crate::plain::{self, Committed, Course, Item, Machine};
-use crate::store::{self, Lent, Standing, Store, Transaction, BUFFER, DESCRIPTORS, SPAN, TRANSACTIONS};
+use crate::store::{self, Lent, Standing, Store, Transaction, BUFFER, DESCRIPTORS, FILES, SPAN, TRANSACTIONS};
 
 /// The store's record with its three buffers.
 #[derive(Clone, PartialEq, Eq)]
@@ -34,6 +34,21 @@ pub struct Tally {
     /// Lists of places with one pair, and with more.
     pub one_pair: u64,
     pub several_pairs: u64,
+    /// Reads that gave fewer bytes than wanted.
+    pub short: u64,
+    /// Those of them that gave some, up to the committed length, and up to an own write beyond it.
+    pub short_at_committed: u64,
+    pub short_at_own: u64,
+    /// Those of them that began beyond the length.
+    pub short_beyond: u64,
+    /// Grants that raised a length.
+    pub granted_raising: u64,
+    /// Grants with a byte just before a length that they leave as it is, while another transaction has sighted that length
+    /// and stays as it was.
+    pub granted_meeting: u64,
+    /// Transactions made stale by a length, and by lengths alone.
+    pub stale_by_length: u64,
+    pub stale_by_length_alone: u64,
 }
 
 /// An accepted call of a transaction, and what the store replied.
@@ -207,6 +222,7 @@ impl Pair {
 
     fn call_accepted(&mut self, call: &Call, expected: &Reply, answer: Answer) {
         self.expect_log_bytes(call);
+        let lengths = self.state.store.lengths;
         let with_garbage = self.with_garbage(call);
         let reply = self.state.apply(call);
         assert_eq!(reply, *expected, "{call:?}");
@@ -217,8 +233,14 @@ impl Pair {
         self.keep_history(call, reply, answer);
         self.check_moment(call, expected);
         self.check_record();
-        if let (Call::Step(t, step), Answer::Given(given)) = (call, answer) {
-            self.check_latest_writes(*t, step.descriptor, usize::from(given));
+        match (call, answer) {
+            (Call::Step(t, step), Answer::Given(given)) => {
+                self.check_latest_writes(*t, step.descriptor, usize::from(given));
+                self.check_sighted_lengths(*t);
+                self.count_read(*t, step, usize::from(given));
+            }
+            (_, Answer::Granted(octet)) => self.count_lengths(lengths, octet),
+            _ => {}
         }
     }
 
@@ -291,9 +313,50 @@ impl Pair {
         self.granted.push(served);
     }
 
+    fn count_read(&mut self, t: usize, step: &Step, given: usize) {
+        let Action::Read { count, .. } = step.action else { return };
+        let Some(transaction) = &self.machine.open[t] else { return };
+        if given == count {
+            return;
+        }
+        let committed = &self.machine.committed;
+        let file = committed.file_of[step.descriptor];
+        let length = transaction.course.length(committed, file);
+        self.tally.short += 1;
+        self.tally.short_at_committed += u64::from(given > 0 && length == committed.lengths[file]);
+        self.tally.short_at_own += u64::from(given > 0 && length > committed.lengths[file]);
+        self.tally.short_beyond += u64::from(transaction.course.offset(step.descriptor) > length);
+    }
+
+    /// For a grant that found these lengths and made these transactions stale.
+    fn count_lengths(&mut self, lengths: [u16; FILES], turned: u8) {
+        let Machine { committed, open, grants } = &self.machine;
+        let store = &self.state.store;
+        let tally = &mut self.tally;
+        let met = |file: usize| {
+            let length = committed.lengths[file];
+            length == usize::from(lengths[file])
+                && length > 0
+                && committed.sight(Item::Byte { file, place: length - 1 }).setter == *grants
+        };
+        let met: u8 = (0..FILES).filter(|&file| met(file)).map(|file| 1 << file).sum();
+        let spared = |transaction: &Transaction| !transaction.stale && transaction.sighted_lengths & met != 0;
+        tally.granted_raising += u64::from(store.lengths != lengths);
+        tally.granted_meeting += u64::from(store.transactions.iter().any(spared));
+        for transaction in
+            open.iter().enumerate().filter(|(t, _)| turned >> t & 1 == 1).filter_map(|(_, open)| open.as_ref())
+        {
+            let is_length = |item: Item| matches!(item, Item::Length { .. });
+            let sightings = transaction.course.sightings.iter();
+            let set: Vec<_> = sightings.filter(|sighting| committed.sight(sighting.item) != **sighting).collect();
+            tally.stale_by_length += u64::from(set.iter().any(|sighting| is_length(sighting.item)));
+            tally.stale_by_length_alone += u64::from(set.iter().all(|sighting| is_length(sighting.item)));
+        }
+    }
+
     // What must hold after every accepted call.
 
-    /// Files, offsets, standings, what was acted on, write records and log bytes are those of the machine.
+    /// Files, offsets, lengths, standings, what was acted on, write records and log bytes are those of the machine.
     fn check_record(&self) {
         let State { store, files, logs, .. } = &self.state;
         let committed = &self.machine.committed;
@@ -302,6 +365,7 @@ impl Pair {
             assert_eq!(usize::from(store.files[d]), committed.file_of[d], "file of descriptor {d}");
             assert_eq!(usize::from(store.offsets[d]), committed.offsets[d], "committed offset {d}");
         }
+        assert_eq!(store.lengths.map(usize::from), committed.lengths, "committed lengths");
         assert!(*logs == self.expected_logs, "log bytes");
         for t in 0..TRANSACTIONS {
             match &self.machine.open[t] {
@@ -340,10 +404,27 @@ impl Pair {
         }
     }
 
+    /// The lengths that t has sighted are those in its first list, and each file has one length to t on both sides.
+    fn check_sighted_lengths(&self, t: usize) {
+        let store = &self.state.store;
+        let committed = &self.machine.committed;
+        let course = &self.machine.open[t].as_ref().expect("it is open").course;
+        for file in 0..FILES {
+            let sighted = course.sightings.iter().any(|sighting| sighting.item == Item::Length { file });
+            let bit = store.transactions[t].sighted_lengths >> file & 1 == 1;
+            assert_eq!(bit, sighted, "transaction {t}, sighted length of file {file}");
+            assert_eq!(
+                usize::from(store.length(t, file)),
+                course.length(committed, file),
+                "transaction {t}, file {file}"
+            );
+        }
+    }
+
     // What is looked at now and then.
 
-    /// The marks of t are the bytes in t's first list, its Known descriptors the offsets in it, and it has the stale
-    /// flag exactly when its two lists differ.
+    /// The marks of t are the bytes in t's first list, its Known descriptors the offsets in it, its sighted lengths the
+    /// lengths in it, and it has the stale flag exactly when its two lists differ.
     pub fn check_sightings(&self) {
         let mut marks = vec![0; BUFFER];
         for (t, transaction) in self.machine.open.iter().enumerate() {
@@ -354,8 +435,10 @@ impl Pair {
                 match sighting.item {
                     Item::Offset { descriptor } => known[descriptor] = true,
                     Item::Byte { file, place } => marks[SPAN * file + place] |= 1 << t,
+                    Item::Length { .. } => {}
                 }
             }
+            self.check_sighted_lengths(t);
             let is_known = record.standings.map(|standing| matches!(standing, Standing::Known(_)));
             assert_eq!(is_known, known, "transaction {t}, sighted offsets");
             assert_eq!(record.stale, self.machine.is_stale(t), "staleness of transaction {t}");
@@ -363,8 +446,16 @@ impl Pair {
         assert!(marks == self.state.marks, "marks");
     }
 
+    /// From the committed length of a file on, every byte of it is 0.
+    pub fn check_beyond_lengths(&self) {
+        for (file, bytes) in self.state.files.chunks(SPAN).enumerate() {
+            let length = usize::from(self.state.store.lengths[file]);
+            assert!(bytes[length..].iter().all(|&byte| byte == 0), "file {file} beyond its length");
+        }
+    }
+
     /// Runs the granted transactions one after another from the state of Fresh: the store has given the same replies
-    /// and has the same files and offsets.
+    /// and has the same files, offsets and lengths.
     pub fn check_serial_order(&self) {
         let mut committed = Committed::fresh(&self.fresh_files).expect("an accepted Fresh");
         for (served, number) in self.granted.iter().zip(1..) {
@@ -374,14 +465,15 @@ impl Pair {
             committed.grant(&course, number);
         }
         assert_eq!(self.granted.len() as u64, self.machine.grants, "count of grants");
-        assert!(committed == self.machine.committed, "serial order: the machine's files, offsets and setters");
-        let files = committed.files.concat();
-        let offsets = committed.offsets.map(|offset| offset as u16);
-        assert!(files == self.state.files && offsets == self.state.store.offsets, "serial order: the store's end");
+        assert!(committed == self.machine.committed, "serial order: the machine's files, offsets, lengths and setters");
+        assert!(committed.files.concat() == self.state.files, "serial order: the store's files");
+        assert_eq!(committed.offsets, self.state.store.offsets.map(usize::from), "serial order: the store's offsets");
+        assert_eq!(committed.lengths, self.state.store.lengths.map(usize::from), "serial order: the store's lengths");
     }
 
     pub fn check_at_rest(&self) {
         self.check_sightings();
+        self.check_beyond_lengths();
         self.check_serial_order();
     }
 }

@@ -1,6 +1,7 @@
-//! The plain machine of demand 3. It holds committed files, offsets and setters, a count of grants, and for each open
-//! transaction its accepted calls, standings, writes and sightings, and on which descriptors it acted. It has no marks and no stale flag: a transaction is
-//! stale when the sightings it holds differ from those of its accepted calls run alone on what is committed now.
+//! The plain machine of demand 3. It holds committed files, offsets, lengths and setters, a count of grants, and for each
+//! open transaction its accepted calls, standings, writes and sightings, and on which descriptors it acted. It has no marks
+//! and no stale flag: a transaction is stale when the sightings it holds differ from those of its accepted calls run alone
+//! on what is committed now.
 
 use crate::call::{Action, Answer, Call, Outcome, Refusal, Reply, Step};
 
@@ -21,8 +22,11 @@ pub struct Committed {
     /// The file of each descriptor.
     pub file_of: [usize; DESCRIPTORS],
     pub offsets: [usize; DESCRIPTORS],
+    /// The length of each file.
+    pub lengths: [usize; FILES],
     byte_setters: Vec<[Setter; FILE_BYTES]>,
     offset_setters: [Setter; DESCRIPTORS],
+    length_setters: [Setter; FILES],
 }
 
 #[derive(Clone, Copy, Debug, PartialEq, Eq)]
@@ -52,6 +56,7 @@ pub struct Write {
 pub enum Item {
     Offset { descriptor: usize },
     Byte { file: usize, place: usize },
+    Length { file: usize },
 }
 
 /// An entry of a list: what was sighted, and who had set it.
@@ -95,20 +100,24 @@ impl Committed {
             files: vec![[0; FILE_BYTES]; FILES],
             file_of: std::array::from_fn(|d| usize::from(files[d])),
             offsets: [0; DESCRIPTORS],
+            lengths: [0; FILES],
             byte_setters: vec![[0; FILE_BYTES]; FILES],
             offset_setters: [0; DESCRIPTORS],
+            length_setters: [0; FILES],
         })
     }
 
-    fn sight_offset(&self, descriptor: usize) -> Sighting {
-        Sighting { item: Item::Offset { descriptor }, setter: self.offset_setters[descriptor] }
+    pub fn sight(&self, item: Item) -> Sighting {
+        let setter = match item {
+            Item::Offset { descriptor } => self.offset_setters[descriptor],
+            Item::Byte { file, place } => self.byte_setters[file][place],
+            Item::Length { file } => self.length_setters[file],
+        };
+        Sighting { item, setter }
     }
 
-    fn sight_byte(&self, file: usize, place: usize) -> Sighting {
-        Sighting { item: Item::Byte { file, place }, setter: self.byte_setters[file][place] }
-    }
-
-    /// Lands the writes of a granted transaction, then sets the offsets; `setter` is the number of the grant.
+    /// Lands the writes of a granted transaction, each raising its file's length where it ends beyond it, then sets the
+    /// offsets; `setter` is the number of the grant.
     pub fn grant(&mut self, course: &Course, setter: Setter) {
         for write in &course.writes {
             self.land(write, setter);
@@ -133,6 +142,10 @@ impl Committed {
         for (place, &byte) in (start..).zip(&write.data) {
             self.files[file][place] = byte;
             self.byte_setters[file][place] = setter;
+            if place >= self.lengths[file] {
+                self.lengths[file] = place + 1;
+                self.length_setters[file] = setter;
+            }
         }
     }
 }
@@ -255,11 +268,25 @@ impl Course {
         for &other in &settled {
             self.settle(committed, other);
         }
+        let file = committed.file_of[d];
         let offset = self.offset(d);
-        let given = count.min(FILE_BYTES - offset);
-        self.fetch(committed, committed.file_of[d], offset, &mut buffer[..given]);
+        let given = (offset..self.length(committed, file)).take(count).len();
+        self.fetch(committed, file, offset, &mut buffer[..given]);
         self.standings[d] = self.standings[d].after_bytes(given);
+        if given < count {
+            self.sightings.push(committed.sight(Item::Length { file }));
+        }
         Ok(Answer::Given(given as u16))
+    }
+
+    /// The largest of the committed length and the ends of the own writes on the file that have a place and a byte.
+    pub fn length(&self, committed: &Committed, file: usize) -> usize {
+        let on_file = |write: &&Write| committed.file_of[write.descriptor] == file && !write.data.is_empty();
+        let ends = self.writes.iter().filter(on_file).filter_map(|write| match write.place {
+            Place::At(first) => Some(first + write.data.len()),
+            Place::After(_) => None,
+        });
+        ends.fold(committed.lengths[file], usize::max)
     }
 
     /// The descriptors that a Read through `d` settles, in ascending number.
@@ -298,7 +325,7 @@ impl Course {
             Standing::Moved { offset, .. } => Standing::Known { offset },
             Standing::Placed { .. } | Standing::Known { .. } => unreachable!("settled without need"),
         };
-        self.sightings.push(committed.sight_offset(d));
+        self.sightings.push(committed.sight(Item::Offset { descriptor: d }));
     }
 
     pub fn offset(&self, d: usize) -> usize {
@@ -315,7 +342,7 @@ impl Course {
             out[i] = match own_byte {
                 Some(byte) => byte,
                 None => {
-                    self.sightings.push(committed.sight_byte(file, start + i));
+                    self.sightings.push(committed.sight(Item::Byte { file, place: start + i }));
                     committed.files[file][start + i]
                 }
             };

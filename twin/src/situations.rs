@@ -13,10 +13,19 @@ fn begun(open: usize) -> Pair {
     pair
 }
 
+/// The same after a first commit that fills file 0 with zeros.
+fn begun_on_filled(open: usize) -> Pair {
+    let mut pair = begun(open);
+    done(make(&mut pair, Call::Begin(7)));
+    write(&mut pair, 7, 0, &[0; 4096]);
+    assert_eq!(granted(&mut pair, 7), (0, 0));
+    assert_eq!((pair.state.store.offsets[0], pair.state.store.lengths[0]), (4096, 4096));
+    pair
+}
+
 fn make(pair: &mut Pair, call: Call) -> Reply {
     let reply = pair.call(&call, None);
-    pair.check_sightings();
-    pair.check_serial_order();
+    pair.check_at_rest();
     reply
 }
 
@@ -101,7 +110,7 @@ fn c_an_own_write_shields() {
 #[test]
 fn d_byte_by_byte() {
     for (place, turned) in [(2, 1), (3, 0)] {
-        let mut pair = begun(2);
+        let mut pair = begun_on_filled(2);
         seek(&mut pair, 0, 0, 0);
         write(&mut pair, 0, 0, b"AB");
         seek(&mut pair, 0, 0, 0);
@@ -119,7 +128,7 @@ fn d_byte_by_byte() {
 
 #[test]
 fn e_setting_to_the_same_value_counts() {
-    let mut pair = begun(2);
+    let mut pair = begun_on_filled(2);
     seek(&mut pair, 0, 0, 0);
     assert_eq!(read(&mut pair, 0, 0, 1), [0]);
     seek(&mut pair, 1, 8, 0);
@@ -181,7 +190,7 @@ fn j_looking_moves_nothing() {
 
 #[test]
 fn k_the_end_of_a_file() {
-    let mut pair = begun(1);
+    let mut pair = begun_on_filled(1);
     seek(&mut pair, 0, 0, 4096);
     assert_eq!(step(&mut pair, 0, 0, Action::Seek { to: 4097 }).outcome, Err(Refusal::SeekPastEnd));
     assert_eq!(refused_write(&mut pair, 0, 0, b"A"), Refusal::WritePastEnd);

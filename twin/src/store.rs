@@ -1,7 +1,7 @@
 //! The store: a record that the caller keeps, and three buffers that the caller lends to every call.
 //!
 //! There are no setters and no lists here. What a transaction has sighted is kept as one bit for each file byte (the
-//! marks) and, for an offset, as the standing Known.
+//! marks) and one for each file's length; for an offset, as the standing Known.
 
 use std::ops::Range;
 
@@ -60,13 +60,17 @@ pub struct Transaction {
     pub standings: [Standing; DESCRIPTORS],
     /// The descriptors (a bit for each) on which it made a Seek, Read or Write. Only their offsets are set at Commit.
     pub acted: u16,
+    /// The files (a bit for each) whose length it has sighted.
+    pub sighted_lengths: u8,
 }
 
-/// The record: the file and the committed offset of each descriptor, and the transactions.
+/// The record: the file and the committed offset of each descriptor, the committed length of each file, and the
+/// transactions.
 #[derive(Clone, Debug, PartialEq, Eq)]
 pub struct Store {
     pub files: [u8; DESCRIPTORS],
     pub offsets: [u16; DESCRIPTORS],
+    pub lengths: [u16; FILES],
     pub transactions: [Transaction; TRANSACTIONS],
 }
 
@@ -204,9 +208,10 @@ impl Transaction {
         log: Log::EMPTY,
         standings: [Standing::Untouched; DESCRIPTORS],
         acted: 0,
+        sighted_lengths: 0,
     };
 
-    /// Leaves an empty log, sixteen Untouched descriptors that nothing was made on, and not stale.
+    /// Leaves an empty log, sixteen Untouched descriptors that nothing was made on, no length sighted, and not stale.
     fn reset(&mut self, begun: bool) {
         self.begun = begun;
         self.stale = false;
@@ -214,6 +219,7 @@ impl Transaction {
         self.log.bytes = 0;
         self.standings = [Standing::Untouched; DESCRIPTORS];
         self.acted = 0;
+        self.sighted_lengths = 0;
     }
 
     fn in_range(&self) -> bool {
@@ -241,7 +247,12 @@ impl Lent<'_> {
 impl Store {
     /// The record that Fresh makes.
     pub fn new(files: [u8; DESCRIPTORS]) -> Store {
-        Store { files, offsets: [0; DESCRIPTORS], transactions: [Transaction::ENDED; TRANSACTIONS] }
+        Store {
+            files,
+            offsets: [0; DESCRIPTORS],
+            lengths: [0; FILES],
+            transactions: [Transaction::ENDED; TRANSACTIONS],
+        }
     }
 
     pub fn fresh(&mut self, lent: &mut Lent, files: &[u8]) -> Result<(), Refusal> {
@@ -306,7 +317,8 @@ impl Store {
         }
     }
 
-    /// Reads `count` bytes to the front of `reader` and answers how many there were.
+    /// Reads `count` bytes to the front of `reader`, or those up to the transaction's length, and answers how many there
+    /// were. Where they are fewer the length is sighted.
     pub fn read(
         &mut self,
         lent: &mut Lent,
@@ -320,12 +332,16 @@ impl Store {
             return Err(Refusal::ReaderTooShort);
         }
         self.settle(t, self.settled_by_read(t, d))?;
+        let file = usize::from(self.files[d]);
         let start = usize::from(self.offset(t, d));
-        let given = count.min(SPAN - start);
-        self.fetch(lent, t, usize::from(self.files[d]), start, &mut reader[..given]);
+        let given = count.min(usize::from(self.length(t, file)).saturating_sub(start));
+        self.fetch(lent, t, file, start, &mut reader[..given]);
         let transaction = &mut self.transactions[t];
         transaction.standings[d] = transaction.standings[d].after_bytes(given as u16);
         transaction.acted |= 1 << d;
+        if given < count {
+            transaction.sighted_lengths |= 1 << file;
+        }
         Ok(given as u16)
     }
 
@@ -347,7 +363,7 @@ impl Store {
         Ok(stretches.len() as u16)
     }
 
-    /// Answers how many other transactions became stale.
+    /// Answers which other transactions became stale (a bit for each).
     pub fn commit(&mut self, lent: &mut Lent, t: usize) -> Result<u8, Refusal> {
         self.check_open(lent, t)?;
         if self.transactions[t].stale {
@@ -356,9 +372,10 @@ impl Store {
         }
         self.check_settling(t, u16::MAX)?;
         let sighters = self.land(lent, t);
+        let lengths = self.raise_lengths(t);
         let offsets = self.set_offsets(t);
         self.end(lent, t);
-        Ok(self.make_stale(sighters, offsets))
+        Ok(self.make_stale(sighters, lengths, offsets))
     }
 
     pub fn abort(&mut self, lent: &mut Lent, t: usize) -> Result<(), Refusal> {
@@ -409,6 +426,7 @@ impl Store {
     fn in_range(&self) -> bool {
         self.files.iter().all(|&file| usize::from(file) < FILES)
             && self.offsets.iter().all(|&offset| offset <= SPAN_16)
+            && self.lengths.iter().all(|&length| length <= SPAN_16)
             && self.transactions.iter().all(|transaction| !transaction.begun || transaction.in_range())
     }
 
@@ -468,6 +486,19 @@ impl Store {
     }
 
     // Reading.
+
+    /// The length of a file to a transaction: the committed one, or the furthest end of its own writes that have a place
+    /// and a byte.
+    pub fn length(&self, t: usize, file: usize) -> u16 {
+        let mut length = self.lengths[file];
+        for record in &self.transactions[t].log.records {
+            let Place::At(start) = record.place else { continue };
+            if record.length > 0 && usize::from(self.files[usize::from(record.descriptor)]) == file {
+                length = length.max(start + record.length);
+            }
+        }
+        length
+    }
 
     /// Fills `out` from `place` of `file` on, run by run, and marks the bytes that the file supplied.
     fn fetch(&self, lent: &mut Lent, t: usize, file: usize, place: usize, out: &mut [u8]) {
@@ -540,18 +571,41 @@ impl Store {
         let mut sighters = 0;
         let mut data = SPAN * t;
         for record in &self.transactions[t].log.records {
-            let d = usize::from(record.descriptor);
-            let place = match record.place {
-                Place::At(place) => place,
-                Place::After(advance) => self.offsets[d] + advance,
-            };
+            let (file, place) = self.landing_place(record);
             let length = usize::from(record.length);
-            let start = SPAN * usize::from(self.files[d]) + usize::from(place);
+            let start = SPAN * file + usize::from(place);
             lent.files[start..start + length].copy_from_slice(&lent.logs[data..data + length]);
             sighters |= lent.marks[start..start + length].iter().fold(0, |all, mark| all | mark);
             data += length;
         }
         sighters
+    }
+
+    /// Raises the length of each file to the ends of the writes of at least one byte, before any offset is set, and
+    /// answers which lengths were raised (a bit for each file).
+    fn raise_lengths(&mut self, t: usize) -> u8 {
+        let mut lengths = self.lengths;
+        let mut raised = 0;
+        for record in self.transactions[t].log.records.iter().filter(|record| record.length > 0) {
+            let (file, place) = self.landing_place(record);
+            let end = place + record.length;
+            if end > lengths[file] {
+                lengths[file] = end;
+                raised |= 1 << file;
+            }
+        }
+        self.lengths = lengths;
+        raised
+    }
+
+    /// The file and place where a write lands.
+    fn landing_place(&self, record: &WriteRecord) -> (usize, u16) {
+        let d = usize::from(record.descriptor);
+        let place = match record.place {
+            Place::At(place) => place,
+            Place::After(advance) => self.offsets[d] + advance,
+        };
+        (usize::from(self.files[d]), place)
     }
 
     /// Sets the committed offsets and answers which were set (a bit for each descriptor).
@@ -579,12 +633,13 @@ impl Store {
         clear_marks(lent.marks, t);
     }
 
-    /// Makes stale every open transaction that has sighted one of the bytes or offsets just set, and answers the octet
-    /// of those that were not so before. The one that set them has ended.
-    fn make_stale(&mut self, sighters: u8, offsets: u16) -> u8 {
+    /// Makes stale every open transaction that has sighted one of the bytes, lengths or offsets just set, and answers the
+    /// octet of those that were not so before. The one that set them has ended.
+    fn make_stale(&mut self, sighters: u8, lengths: u8, offsets: u16) -> u8 {
         let mut octet = 0;
         for (t, transaction) in self.transactions.iter_mut().enumerate() {
-            let sighted = sighters >> t & 1 == 1 || transaction.knows_any(offsets);
+            let length = transaction.sighted_lengths & lengths != 0;
+            let sighted = sighters >> t & 1 == 1 || length || transaction.knows_any(offsets);
             if transaction.begun && !transaction.stale && sighted {
                 transaction.stale = true;
                 octet |= 1 << t;

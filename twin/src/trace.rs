@@ -200,6 +200,6 @@ mod tests {
     #[test]
     fn what_a_read_gives() {
         let input = b"B0\nW0 0 \x00\n\nS0 0 0\nR0 0 0\nW0 0 \x0b\xfa\r\nS0 0 0\nR0 0 4\nR0 0 4097\n";
-        assert_eq!(printed(input), "ok\nok\n17\nok\nok\nok\nok\nok 0bfa0d00\n7\n");
+        assert_eq!(printed(input), "ok\nok\n17\nok\nok\nok\nok\nok 0bfa0d\n7\n");
     }
 }

@@ -107,6 +107,7 @@ fn part(pair: &Pair, name: &str) -> Option<Word> {
     match name {
         "files" => Some(Word::Bytes(pair.state.files.clone())),
         "offsets" => Some(Word::Numbers(pair.state.store.offsets.map(u64::from).to_vec())),
+        "lengths" => Some(Word::Numbers(pair.state.store.lengths.map(u64::from).to_vec())),
         _ => None,
     }
 }
@@ -173,6 +174,7 @@ commit 0 -> granted 0
 commit 18446744073709551615 -> refused 3
   files 4142 43*2 00*32764
   offsets 4 0 0 0 0 0 0 0 3 0 0 0 0 0 0 0
+  lengths 4 0 0 0 0 0 0 0
 ";
 
     #[test]
@@ -190,7 +192,7 @@ commit 18446744073709551615 -> refused 3
 
     #[test]
     fn what_is_not_known_disagrees() {
-        for line in ["undo -> done", "commit 0", "  lengths 0"] {
+        for line in ["undo -> done", "commit 0", "  windows 0", "  lengths 0"] {
             let report = run(&LIST.replace("commit 0 -> granted 0", line));
             assert_eq!(report.disagreements.len(), 1, "{line}");
         }

@@ -12,7 +12,7 @@ use Rattle.record.specs.declared.Transaction.{Transaction}
 use Rattle.record.specs.declared.outcomes.Answer.{Answer}
 use Rattle.record.specs.declared.outcomes.Refusal.the-variants.{Stale}
 use Rattle.record.specs.declared.outcomes.Outcome.the-variants.{Granted, Refused}
-use Rattle.record.specs.State.{transaction, ended, withOffsets, withTransactions, withTransaction}
+use Rattle.record.specs.State.{transaction, ended, withOffsets, withLengths, withTransactions, withTransaction}
 use Rattle.record.specs.Paper.{Said, plain, pointer, given, granted, pairs, refused, said}
 use Rattle.octets.specs.Bits.{bitsOf}
 use Rattle.ranges.specs.Ranges.{admission}
@@ -20,10 +20,10 @@ use Rattle.rules.specs.Commits.{fits, commitRefusal}
 use Rattle.rules.specs.Messages.{commit}
 use Rattle.rules.specs.Machine.{Machine, lent, withStore, withMarking, sizes, tabulate}
 use Rattle.rules.specs.Calls.{Turn, turnDown, reset, passing, admitted, landFiles, conflicts, becomesStale, commitDecided, commitGranted, commitTurn, formerNumber, call}
-use Rattle.landing.specs.Landing.{offsetsOnly, descriptorsOnly}
+use Rattle.landing.specs.Landing.{offsetsOnly, descriptorsOnly, CanLand}
 use Rattle.landing.proofs.LandLaws.{offsetsSet}
 use Rattle.landing.proofs.StaleLaws.{turned, passedOver}
-use Rattle.landing.proofs.Granted.{allSet, landedBytes, fits-is, files-are, offsets-are, offsetsIn, others, transactions-are, octet-is}
+use Rattle.landing.proofs.Granted.{allSet, landedBytes, fits-is, files-are, offsets-are, lengths-are, landedLengths, raisedIn, offsetsIn, others, transactions-are, octet-is}
 use Rattle.rules.specs.Promises.{Meets}
 use Rattle.refusing.proofs.Turns.{passing-on}
 
@@ -66,24 +66,27 @@ module _ (t : ℕ) (m : Machine) where
   -- What the grant leaves, part by part.
   pub granted-meets : (w : Turn) → w ≡ commitGranted t (allSet m t) m
       → length (m .store .transactions) ≡ 8 → t < 8
+      → length (m .store .lengths) ≡ 8
+      → CanLand (m .store .filenumbers) (m .store .offsets) (m .journal) (sizes m) t (transaction (m .store) t .used .records)
       → (seen : ℕ) → ((u : ℕ) (y : Transaction) → u < 8 → contains seen u ≡ conflicts (m .marks) u y (landedBytes m t))
-      → (octet : ℕ) → octet ≡ bitsOf (turned (others m t) seen (offsetsIn m t)) 8
-      → (xs : List Transaction) → xs ≡ tabulate (passedOver (others m t) seen (offsetsIn m t)) 8
+      → (octet : ℕ) → octet ≡ bitsOf (turned (others m t) seen (offsetsIn m t) (raisedIn m t)) 8
+      → (xs : List Transaction) → xs ≡ tabulate (passedOver (others m t) seen (offsetsIn m t) (raisedIn m t)) 8
       → (offsets : List ℕ) → offsets ≡ offsetsSet (transaction (m .store) t) (m .store .offsets) 16
+      → (lengths : List ℕ) → lengths ≡ landedLengths m t
       → (files : List ℕ) → files ≡ landFiles (landedBytes m t) (m .files)
       → (marks : List ℕ) → marks ≡ withoutMarks t (m .marks)
-      → (r : Store) → r ≡ withTransactions xs (withOffsets offsets (m .store))
+      → (r : Store) → r ≡ withTransactions xs (withOffsets offsets (withLengths lengths (m .store)))
       → Meets w (Granted octet) (lent r (m .journal) files (m .logs) marks) []
   unfolding commitGranted said
-  granted-meets w e eight small seen sees octet n xs ts offsets os files fs marks ms r q =
+  granted-meets w e eight small eightLengths can seen sees octet n xs ts offsets os lengths ls files fs marks ms r q =
       rw (e, q)
       (record {
-        outcome = ap granted (n ∙ sym (octet-is m t seen sees eight small));
+        outcome = ap granted (n ∙ sym (octet-is m t can seen sees eight small));
         machine =
-            rw (ms, fs, files-are m t)
-            (ap₂ (λ (o : List ℕ) (l : List Transaction). lent (withTransactions l (withOffsets o (m .store))) (m .journal) (landFiles (landedBytes m t) (m .files)) (m .logs) (withoutMarks t (m .marks)))
+            rw (ms, fs, files-are m t, ls, lengths-are m t can eightLengths)
+            (ap₂ (λ (o : List ℕ) (l : List Transaction). lent (withTransactions l (withOffsets o (withLengths (landedLengths m t) (m .store)))) (m .journal) (landFiles (landedBytes m t) (m .files)) (m .logs) (withoutMarks t (m .marks)))
             (os ∙ sym (offsets-are m t))
-            (ts ∙ sym (transactions-are m t seen sees eight small)));
+            (ts ∙ sym (transactions-are m t can seen sees eight small)));
         reader = refl;
       })
 

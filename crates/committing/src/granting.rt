@@ -20,8 +20,8 @@ ghost use Rattle.rules.specs.Calls.{commitTurn};
 ghost use Rattle.rules.specs.Promises.{Meets};
 ghost use Rattle.landing.specs.Landing.{offsetsOnly, descriptorsOnly, CanLand};
 
-// Grants the commit of transaction t, which is not stale and whose placing fits: lands its writes in call order, sets its offsets and
-// ends it. Every other open transaction that has sighted a byte or offset just set is stale from then on; the answer is the octet of
+// Grants the commit of transaction t, which is not stale and whose placing fits: lands its writes in call order, raises lengths,
+// sets its offsets and ends it. Every other open transaction that has sighted a byte, offset or length just set is stale from then on; the answer is the octet of
 // those that were not so before, and only they are written anew.
 pub fn grant(
     mut s: Store,
@@ -46,16 +46,19 @@ pub fn grant(
         t,
         used,
     );
+    let lengths = s.lengths;
+    s.lengths = landed::lengths_after(journal, &s.filenumbers, &s.offsets, t, used, lengths);
     let offsets = s.offsets;
     s.offsets = landed::offsets_after(x, offsets);
     unmark(marks, t);
     let set = staled::offsets_set(x);
+    let raised = staled::lengths_raised(&lengths, &s.lengths);
     s.transactions[t] = Transaction::ended();
     let mut stale = 0u16;
     let mut u = 0;
     while u < 8 {
         let mut y = s.transactions[u];
-        if staled::goes_stale(y, u, seen, set) {
+        if staled::goes_stale(y, u, seen, set, raised) {
             y.stale = true;
             s.transactions[u] = y;
             stale = sets::added(stale, u);

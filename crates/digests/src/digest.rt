@@ -133,8 +133,9 @@ fn transaction_taken(h: usize, x: Transaction, journal: &[u16; NUMBERS], t: usiz
     let used = x.used;
     let flags = flag_taken(flag_taken(h, x.begun), x.stale);
     let counters = taken(octet_taken(flags, used.records), used.bytes);
+    let sighted = octet_taken(counters, x.lengthmarks);
     writes_taken(
-        descriptors_taken(counters, x),
+        descriptors_taken(sighted, x),
         journal,
         t,
         wide_octet(used.records),
@@ -165,7 +166,8 @@ pub fn of_state(
 ) -> usize {
     let filenumbers = octets_taken(0, &s.filenumbers);
     let offsets = numbers_taken(filenumbers, &s.offsets);
-    let record = transactions_taken(offsets, s, journal);
+    let lengths = numbers_taken(offsets, &s.lengths);
+    let record = transactions_taken(lengths, s, journal);
     octets_taken(octets_taken(octets_taken(record, files), logs), marks)
 }
 

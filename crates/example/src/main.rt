@@ -1,5 +1,5 @@
-// A caller of the store. Transaction 0 writes while transaction 1 reads the same bytes: the commit of 0 makes 1 stale, the commit
-// of 1 is refused, and 1 starts again.
+// A caller of the store. Transaction 1 reads an empty file while transaction 0 writes to it: the commit of 0 makes 1 stale, since the file
+// no longer ends where 1 saw it end; the commit of 1 is refused, and 1 starts again.
 use libc::STDOUT_FILENO;
 use record::Store;
 use record::journal::NUMBERS;

@@ -2,6 +2,7 @@
 use counters::Used;
 use generator::Damage;
 use record::Descriptor;
+use record::FILES;
 use record::Store;
 use record::Transaction;
 use record::journal::NUMBERS;
@@ -69,12 +70,14 @@ fn with_used(mut x: Transaction, records: u8, bytes: u16) -> Transaction {
     x
 }
 
-// Forgeries 3 to 9: a standing out of range, too many records, or the sum of their lengths.
+// Forgeries 3 to 9: a standing out of range, too many records, or the sum of their lengths; with any lengths sighted, of which no range
+// speaks.
 fn transaction(x: Transaction, g: Damage) -> Transaction
     requires { ⌜ g .index < 16 ⌝ }
 {
     let used = x.used;
-    let y = with_used(x, used.records, used.bytes);
+    let mut y = with_used(x, used.records, used.bytes);
+    y.lengthmarks = (g.excess % 256) as u8;
     if g.forgery < 8 {
         return with_standing(y, g.index, standing(g.forgery, g.excess), g.excess % 2 == 0);
     }
@@ -169,16 +172,11 @@ fn logged(x: Transaction, journal: &mut [u16; NUMBERS], g: Damage) -> Transactio
     two_records(x, journal, g)
 }
 
-// The record with a field out of range; the number of the forgery, 0 to 15, says which. 0 leaves the record.
-pub fn forged(mut s: Store, journal: &mut [u16; NUMBERS], g: Damage) -> Store
-    requires { ⌜ (g .transaction < 8) × (g .index < 16) ⌝ }
+// Forgeries 1, 2 and 16: a file number, a committed offset or a committed length.
+fn committed(mut s: Store, g: Damage) -> Store
+    requires { ⌜ g .index < 16 ⌝ }
 {
     let i = g.index;
-    let t = g.transaction;
-    let x = s.transactions[t];
-    if g.forgery == 0 {
-        return s;
-    }
     if g.forgery == 1 {
         s.filenumbers[i] = (8 + g.excess % 248) as u8;
         return s;
@@ -186,6 +184,26 @@ pub fn forged(mut s: Store, journal: &mut [u16; NUMBERS], g: Damage) -> Store
     if g.forgery == 2 {
         s.offsets[i] = above(g.excess);
         return s;
+    }
+    let f = i % FILES;
+    s.lengths[f] = above(g.excess);
+    s
+}
+
+// The record with a field out of range; the number of the forgery, 0 to 16, says which. 0 leaves the record.
+pub fn forged(mut s: Store, journal: &mut [u16; NUMBERS], g: Damage) -> Store
+    requires { ⌜ (g .transaction < 8) × (g .index < 16) ⌝ }
+{
+    let t = g.transaction;
+    let x = s.transactions[t];
+    if g.forgery == 0 {
+        return s;
+    }
+    if g.forgery < 3 {
+        return committed(s, g);
+    }
+    if 15 < g.forgery {
+        return committed(s, g);
     }
     if g.forgery < 10 {
         s.transactions[t] = transaction(x, g);

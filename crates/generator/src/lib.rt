@@ -13,6 +13,8 @@ const NEAR_END: usize = 4;
 
 const LONG_READS: usize = 5;
 
+const SHORT_FILES: usize = 7;
+
 // The kinds of calls.
 pub const FRESH: usize = 0;
 
@@ -33,8 +35,8 @@ pub const COMMIT: usize = 7;
 pub const ABORT: usize = 8;
 
 // How many of 1,000 calls are of each kind, nine numbers a mode: mixed, crowded, many records, long writes, near the end, long reads,
-// scattered.
-const WEIGHTS: [usize; 63] = [
+// scattered, short files.
+const WEIGHTS: [usize; 72] = [
     4,
     20,
     220,
@@ -98,6 +100,15 @@ const WEIGHTS: [usize; 63] = [
     150,
     16,
     10,
+    24,
+    20,
+    60,
+    330,
+    10,
+    330,
+    16,
+    180,
+    30,
 ];
 
 // What is wrong with the buffers or the record lent to a call; short and forgery are 0 where nothing is.
@@ -105,7 +116,7 @@ pub struct Damage {
     // 1, 2, 3: of the files, logs, marks only the first length bytes are lent.
     pub short: usize,
     pub length: usize,
-    // 1 to 15: the call gets a record out of its ranges.
+    // 1 to 16: the call gets a record out of its ranges.
     pub forgery: usize,
     pub transaction: usize,
     pub index: usize,
@@ -170,6 +181,7 @@ fn transactions_used(mode: usize) -> usize
         3 => 3,
         4 => 6,
         6 => 2,
+        7 => 4,
         _ => 8,
     }
 }
@@ -183,6 +195,7 @@ fn files_used(mode: usize) -> usize
         4 => 3,
         5 => 4,
         6 => 2,
+        7 => 2,
         _ => 8,
     }
 }
@@ -207,8 +220,8 @@ fn transaction(phase: usize, r: usize) -> usize
     if class < 4 {
         return value % 8;
     }
-    let used = transactions_used(phase % 7);
-    (phase + one_below(used, value)) % 8
+    let used = transactions_used(phase % 8);
+    (phase + phase / 8 + one_below(used, value)) % 8
 }
 
 // One of the mode's descriptors, now and then 16 or 17.
@@ -235,7 +248,7 @@ fn file(mode: usize, r: usize) -> usize {
 
 // The kind, by the weights of the mode.
 fn kind(mode: usize, r: usize) -> usize
-    requires { ⌜ mode < 7 ⌝ }
+    requires { ⌜ mode < 8 ⌝ }
 {
     let mut rest = r % 1000;
     let mut k = FRESH;
@@ -293,11 +306,22 @@ pub fn guess_after(guess: [bool; 8], q: Request) -> [bool; 8] {
     out
 }
 
+// Where a Seek goes in a short file: mostly in steps of 4, so that ends meet.
+fn near_start(class: usize, value: usize) -> usize {
+    if class < 12 {
+        return 4 * (value % 4);
+    }
+    value % 16
+}
+
 fn seek_to(mode: usize, class: usize, value: usize) -> usize {
     if mode == NEAR_END {
         if class < 10 {
             return 4084 + value % 14;
         }
+    }
+    if mode == SHORT_FILES {
+        return near_start(class, value);
     }
     if class < 6 {
         return value % 4;
@@ -328,6 +352,14 @@ fn usual_length(class: usize, value: usize) -> usize {
     value % 4098
 }
 
+// How many bytes a Write to a short file has.
+fn write_to_short_file(class: usize, value: usize) -> usize {
+    if class < 12 {
+        return 4;
+    }
+    value % 9
+}
+
 fn write_length(mode: usize, class: usize, value: usize) -> usize {
     if mode == MANY_RECORDS {
         if class < 10 {
@@ -344,6 +376,9 @@ fn write_length(mode: usize, class: usize, value: usize) -> usize {
         if class < 14 {
             return 3000 + value % 1098;
         }
+    }
+    if mode == SHORT_FILES {
+        return write_to_short_file(class, value);
     }
     usual_length(class, value)
 }
@@ -461,7 +496,7 @@ fn forgery(kind: usize, class: usize, r: usize) -> usize {
         return 0;
     }
     if class < 5 {
-        return 1 + r % 15;
+        return 1 + r % 16;
     }
     0
 }
@@ -537,7 +572,7 @@ pub fn requested(r: [usize; 12], phase: usize, guess: [bool; 8]) -> Request
     requires { ⌜ phase < 65536 ⌝ }
     ensures { λ a. ⌜ (a .damage .transaction < 8) × (a .damage .index < 16) ⌝ }
 {
-    let mode = phase % 7;
+    let mode = phase % 8;
     let class = r[3] % 16;
     let t = transaction(phase, r[1]);
     let k = begun_first(kind(mode, r[0]), t, guess, r[11]);

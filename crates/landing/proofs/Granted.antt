@@ -2,12 +2,12 @@
 use mathlib.Core.Bool.{Bool, true, false, cond, not, _&&_, _||_, or-false}
 use mathlib.Core.List.{List, [], _∷_, _++_}
 use mathlib.Core.Path.{_≡_, refl, sym, ap, ap₂, _∙_}
-use lib.Dec.{eqb}
+use lib.Dec.{ltb, eqb}
 use lib.ListN.{length, getD, set}
 use lib.Seq.{getD-set-same, getD-set-other}
-use borrow.Author.Tests.{eqb-true, eqb-false}
+use borrow.Author.Tests.{eqb-true, eqb-false, ltb-true, ltb-false, lt-ltb, le-ltb}
 use native.Mathlib.Omega.{arith}
-use Prim.Native.Nat.{ℕ, zero, suc, _+_, _*_, _<_}
+use Prim.Native.Nat.{ℕ, zero, suc, _+_, _*_, _<_, max}
 use Rattle.octets.specs.Bits.{bitsOf}
 use Rattle.octets.specs.Marks.{contains}
 use Rattle.octets.proofs.SetLaws.{contains-bits, bits-same}
@@ -15,21 +15,23 @@ use Rattle.record.specs.declared.Store.{Store}
 use Rattle.record.specs.declared.Transaction.{Transaction}
 use Rattle.record.specs.State.{transaction, noTransaction, standingAt, dirtyAt, ended, withStale}
 use Rattle.record.specs.Journal.{writeRecordAt}
-use Rattle.ranges.specs.Ranges.{recordIn}
+use Rattle.octets.proofs.PartLaws.{length-cut}
+use Rattle.ranges.specs.Below.{sum}
+use Rattle.ranges.specs.Ranges.{recordIn, lengthsBefore}
 use Rattle.ranges.proofs.Laws.{InRange, Lengths, record-in}
-use Rattle.rules.specs.Items.{offset, Values}
+use Rattle.rules.specs.Items.{offset, fileLength, Values}
 use Rattle.standings.specs.declared.Standing.{Standing}
 use Rattle.standings.specs.Table.{isTouched, finalOffset, isKnown}
 use Rattle.rules.specs.Transactions.{Txn, Write}
-use Rattle.rules.specs.Commits.{Setting, landsAt, stretch, byteSettings, setsOffset, offsetSettings, settings, fits}
-use Rattle.rules.specs.Machine.{Machine, sizes, fileOf, values, txnOf, tabulate}
-use Rattle.rules.specs.Calls.{landByte, landFiles, landOffset, landOffsets, hasSighted, conflicts, staled, afterCommit, becomesStale}
-use Rattle.rules.proofs.View.Tables.{tabulate-same}
+use Rattle.rules.specs.Commits.{Setting, landsAt, stretch, byteSettings, setsOffset, offsetSettings, landedEnd, lengthSettings, settings, fits}
+use Rattle.rules.specs.Machine.{Machine, sizes, fileOf, values, dataStart, writeAt, txnOf, tabulate}
+use Rattle.rules.specs.Calls.{landByte, landFiles, landOffset, landOffsets, landLength, landLengths, hasSighted, conflicts, staled, afterCommit, becomesStale}
+use Rattle.rules.proofs.View.Tables.{tabulate-same, sum-le}
 use Rattle.rules.proofs.View.SettingsIn.{lands-in}
 use Rattle.laws.proofs.Decoded.{Opened}
-use Rattle.landing.specs.Landing.{offsetsOnly, descriptorsOnly, bytesSet, RecordLands, CanLand}
-use Rattle.landing.specs.Staling.{some, knowsOffset, goesStale}
-use Rattle.landing.proofs.LandLaws.{landed-append, offsets-append, conflicts-append, fits-at, offsetsSet}
+use Rattle.landing.specs.Landing.{offsetsOnly, descriptorsOnly, bytesSet, landedReach, lengthsLanded, RecordLands, CanLand}
+use Rattle.landing.specs.Staling.{some, knowsOffset, knowsLength, isRaised, goesStale}
+use Rattle.landing.proofs.LandLaws.{landed-append, offsets-append, conflicts-append, fits-at, offsetsSet, lengths-append, lengths-table, lengths-land-none, lengths-set-none, known-lengths, reach-is, length-at}
 use Rattle.landing.proofs.StaleLaws.{some-same, nth, turned, passedOver}
 
 -- ---- what a commit sets goes by the committed offsets and the descriptors
@@ -83,6 +85,42 @@ bytes-set-none F v (w ∷ ws) offsets =
     offsets-append (stretch q (w .bytes)) (byteSettings F v ws) offsets
     ∙ ap (landOffsets (byteSettings F v ws)) (stretch-sets-none q (w .bytes) offsets)
     ∙ bytes-set-none F v ws offsets
+
+-- ---- no byte and no offset lands in the lengths
+
+stretch-raises-none : (q : ℕ) (bs lengths : List ℕ) → landLengths (stretch q bs) lengths ≡ lengths
+unfolding landLengths stretch landLength
+stretch-raises-none q [] lengths = refl
+stretch-raises-none q (b ∷ bs) lengths = stretch-raises-none (suc q) bs lengths
+
+bytes-raise-none : (F : ℕ → ℕ) (v : Values) (ws : List Write) (lengths : List ℕ) → landLengths (byteSettings F v ws) lengths ≡ lengths
+unfolding byteSettings landLengths
+bytes-raise-none F v [] lengths = refl
+bytes-raise-none F v (w ∷ ws) lengths =
+    let q = 4096 * F (w .descriptor) + landsAt (v (offset (w .descriptor))) (w .place) in
+    lengths-append (stretch q (w .bytes)) (byteSettings F v ws) lengths
+    ∙ ap (landLengths (byteSettings F v ws)) (stretch-raises-none q (w .bytes) lengths)
+    ∙ bytes-raise-none F v ws lengths
+
+offsets-raise-none : (v : Values) (x : Txn) (lengths : List ℕ) (n : ℕ) → landLengths (offsetSettings v x n) lengths ≡ lengths
+unfolding offsetSettings landLengths landLength
+offsets-raise-none v x lengths zero = refl
+offsets-raise-none v x lengths (suc n) =
+    lengths-append (offsetSettings v x n) (setting n (v (offset n)) x) lengths
+    ∙ one (setsOffset x n) (landLengths (offsetSettings v x n) lengths)
+    ∙ offsets-raise-none v x lengths n
+  where
+    one : (b : Bool) (l : List ℕ) → landLengths (cond b (record { item = offset n; to = finalOffset (v (offset n)) (x .standing n) } ∷ []) []) l ≡ l
+    one true l = refl
+    one false l = refl
+
+-- A number lies below the larger of itself and another where it lies below the other.
+over-max : (a b : ℕ) → ltb a (max a b) ≡ ltb a b
+over-max a b = pick (ltb a b) refl
+  where
+    pick : (t : Bool) → ltb a b ≡ t → ltb a (max a b) ≡ t
+    pick true e = let l = ltb-true a b e in lt-ltb a (max a b) (omega arith)
+    pick false e = let l = ltb-false a b e in le-ltb a (max a b) (omega arith)
 
 -- ---- who has sighted an offset that is set
 
@@ -160,24 +198,80 @@ module _ (m : Machine) (t : ℕ) where
   abbrev setOffsets : List Setting
   setOffsets = offsetSettings v (descriptorsOnly (transaction s t)) 16
 
-  settings-are : allSet ≡ landedBytes ++ setOffsets
+  abbrev setLengths : List Setting
+  setLengths = lengthSettings (fileOf s) v (x .writes) 8
+
+  settings-are : allSet ≡ landedBytes ++ (setOffsets ++ setLengths)
   unfolding settings txnOf
-  settings-are = ap₂ _++_ bytes-are (offsets-only v x (transaction s t) (λ d. refl) (λ d. refl) 16)
+  settings-are =
+      ap₂ _++_ bytes-are (ap (λ (ss : List Setting). ss ++ setLengths) (offsets-only v x (transaction s t) (λ d. refl) (λ d. refl) 16))
 
   pub files-are : landFiles allSet (m .files) ≡ landFiles landedBytes (m .files)
   files-are =
       ap (λ (ss : List Setting). landFiles ss (m .files)) settings-are
-      ∙ landed-append landedBytes setOffsets (m .files)
+      ∙ landed-append landedBytes (setOffsets ++ setLengths) (m .files)
+      ∙ landed-append setOffsets setLengths (landFiles landedBytes (m .files))
+      ∙ lengths-land-none (fileOf s) v (x .writes) (landFiles setOffsets (landFiles landedBytes (m .files))) 8
       ∙ offsets-land-none v (descriptorsOnly (transaction s t)) (landFiles landedBytes (m .files)) 16
 
   pub offsets-are : landOffsets allSet (s .offsets) ≡ offsetsSet (transaction s t) (s .offsets) 16
   unfolding values offsetsOnly bytesSet
   offsets-are =
       ap (λ (ss : List Setting). landOffsets ss (s .offsets)) settings-are
-      ∙ offsets-append landedBytes setOffsets (s .offsets)
+      ∙ offsets-append landedBytes (setOffsets ++ setLengths) (s .offsets)
+      ∙ offsets-append setOffsets setLengths (landOffsets landedBytes (s .offsets))
+      ∙ lengths-set-none (fileOf s) v (x .writes) (landOffsets setOffsets (landOffsets landedBytes (s .offsets))) 8
       ∙ ap (landOffsets setOffsets) (bytes-set-none _ _ _ (s .offsets))
       ∙ ap (λ (ss : List Setting). landOffsets ss (s .offsets))
       (offsets-same v (offsetsOnly (s .offsets)) (descriptorsOnly (transaction s t)) (λ d. refl) 16)
+
+  -- The lengths that it leaves, and the files whose lengths it raises.
+  abbrev pub landedLengths : List ℕ
+  landedLengths = lengthsLanded (s .filenumbers) (s .offsets) (m .journal) t (s .lengths) (transaction s t .used .records)
+
+  abbrev pub raisedIn : ℕ
+  raisedIn = bitsOf (isRaised (s .lengths) landedLengths) 8
+
+  module _ (can : CanLand (s .filenumbers) (s .offsets) (m .journal) (sizes m) t (transaction s t .used .records)) where
+    byte-count : (k : ℕ) → k < transaction s t .used .records → length (writeAt (m .journal) (m .logs) t k .bytes) ≡ writeRecordAt (m .journal) t k .length
+    unfolding writeAt dataStart lengthsBefore sum
+    byte-count k l =
+        length-cut (m .logs) _ (writeRecordAt (m .journal) t k .length)
+        (omega (arith, can .logs, can .small, can .bytes, sum-le (λ j. writeRecordAt (m .journal) t j .length) (suc k) (transaction s t .used .records) l))
+
+    reach-same : (f : ℕ) → landedReach (s .filenumbers) (s .offsets) (m .journal) t f (transaction s t .used .records) ≡ landedEnd (fileOf s) v f (x .writes)
+    unfolding fileOf txnOf
+    reach-same f =
+        reach-is (s .filenumbers) (s .offsets) (m .journal) t v (λ d. unfold values in refl) (m .logs) f (transaction s t .used .records) byte-count
+
+    pub lengths-are : length (s .lengths) ≡ 8 → landLengths allSet (s .lengths) ≡ landedLengths
+    unfolding lengthsLanded bytesSet
+    lengths-are eight =
+        ap (λ (ss : List Setting). landLengths ss (s .lengths)) settings-are
+        ∙ lengths-append landedBytes (setOffsets ++ setLengths) (s .lengths)
+        ∙ lengths-append setOffsets setLengths (landLengths landedBytes (s .lengths))
+        ∙ ap (landLengths setLengths)
+        (offsets-raise-none v (descriptorsOnly (transaction s t)) (landLengths landedBytes (s .lengths)) 16 ∙ bytes-raise-none _ _ _ (s .lengths))
+        ∙ lengths-table (fileOf s) v (x .writes) (s .lengths) eight (λ f. unfold values in refl)
+        ∙ tabulate-same (λ f. max (getD (s .lengths) f 0) (landedEnd (fileOf s) v f (x .writes)))
+        (λ f. max (getD (s .lengths) f 0) (landedReach (s .filenumbers) (s .offsets) (m .journal) t f (transaction s t .used .records))) 8
+        (λ f l. ap (max (getD (s .lengths) f 0)) (sym (reach-same f)))
+
+    -- The files whose lengths it raises, and who has sighted one.
+    raised-is : (f : ℕ) → f < 8 → contains raisedIn f ≡ ltb (v (fileLength f)) (landedEnd (fileOf s) v f (x .writes))
+    unfolding values
+    raised-is f l =
+        contains-bits (isRaised (s .lengths) landedLengths) 8 f l
+        ∙ ap (ltb (getD (s .lengths) f 0)) (length-at (s .filenumbers) (s .offsets) (m .journal) t (s .lengths) (transaction s t .used .records) f l)
+        ∙ over-max (getD (s .lengths) f 0) (landedReach (s .filenumbers) (s .offsets) (m .journal) t f (transaction s t .used .records))
+        ∙ ap (ltb (getD (s .lengths) f 0)) (reach-same f)
+
+    pub lengths-known : (u : ℕ) (y : Transaction) → conflicts (m .marks) u y setLengths ≡ some (knowsLength y raisedIn) 8
+    unfolding knowsLength
+    lengths-known u y =
+        known-lengths (fileOf s) v (x .writes) (m .marks) u y 8
+        ∙ some-same (λ f. ltb (v (fileLength f)) (landedEnd (fileOf s) v f (x .writes)) && contains (y .lengthmarks) f) (λ f. contains raisedIn f && contains (y .lengthmarks) f) 8
+        (λ f l. ap (λ (b : Bool). b && contains (y .lengthmarks) f) (sym (raised-is f l)))
 
   -- The descriptors whose offsets it sets, and the transactions once it has ended.
   abbrev pub offsetsIn : ℕ
@@ -187,20 +281,23 @@ module _ (m : Machine) (t : ℕ) where
   others = set (s .transactions) t ended
 
   -- Those in seen are who has a mark on a byte set.
-  module _ (seen : ℕ) (sees : (u : ℕ) (y : Transaction) → u < 8 → contains seen u ≡ conflicts (m .marks) u y landedBytes) where
+  module _ (can : CanLand (s .filenumbers) (s .offsets) (m .journal) (sizes m) t (transaction s t .used .records))
+      (seen : ℕ) (sees : (u : ℕ) (y : Transaction) → u < 8 → contains seen u ≡ conflicts (m .marks) u y landedBytes) where
     -- Whether transaction y is hit.
     abbrev hits : ℕ → Transaction → Bool
-    hits u y = contains seen u || some (knowsOffset y offsetsIn) 16
+    hits u y = contains seen u || (some (knowsOffset y offsetsIn) 16 || some (knowsLength y raisedIn) 8)
 
     conflicts-are : (u : ℕ) → u < 8 → conflicts (m .marks) u (transaction s u) allSet ≡ hits u (transaction s u)
     conflicts-are u l =
         let y = transaction s u in
         ap (conflicts (m .marks) u y) settings-are
-        ∙ conflicts-append (m .marks) u y landedBytes setOffsets
-        ∙ ap₂ _||_ (sym (sees u y l)) (known-offsets (m .marks) u y v (transaction s t) 16 ∙ knows-same y (transaction s t))
+        ∙ conflicts-append (m .marks) u y landedBytes (setOffsets ++ setLengths)
+        ∙ ap₂ _||_ (sym (sees u y l))
+        (conflicts-append (m .marks) u y setOffsets setLengths
+        ∙ ap₂ _||_ (known-offsets (m .marks) u y v (transaction s t) 16 ∙ knows-same y (transaction s t)) (lengths-known can u y))
 
     module _ (eight : length (s .transactions) ≡ 8) (small : t < 8) where
-      after-same : (u : ℕ) → u < 8 → afterCommit t (m .marks) allSet s u ≡ passedOver others seen offsetsIn u
+      after-same : (u : ℕ) → u < 8 → afterCommit t (m .marks) allSet s u ≡ passedOver others seen offsetsIn raisedIn u
       unfolding afterCommit passedOver staled goesStale ended
       after-same u l = rw (conflicts-are u l, nth-ended (s .transactions) t u eight small) (pick (eqb u t))
         where
@@ -209,26 +306,26 @@ module _ (m : Machine) (t : ℕ) where
 
           pick : (b : Bool)
               → cond b ended (withStale (y .stale || (y .begun && hits u y)) y)
-              ≡ cond (goesStale seen offsetsIn u (cond b ended y)) (withStale true (cond b ended y)) (cond b ended y)
+              ≡ cond (goesStale seen offsetsIn raisedIn u (cond b ended y)) (withStale true (cond b ended y)) (cond b ended y)
           pick true = refl
           pick false = rewritten y (y .begun) (hits u y) (y .stale) refl
 
-      pub transactions-are : tabulate (afterCommit t (m .marks) allSet s) 8 ≡ tabulate (passedOver others seen offsetsIn) 8
-      transactions-are = tabulate-same (afterCommit t (m .marks) allSet s) (passedOver others seen offsetsIn) 8 after-same
+      pub transactions-are : tabulate (afterCommit t (m .marks) allSet s) 8 ≡ tabulate (passedOver others seen offsetsIn raisedIn) 8
+      transactions-are = tabulate-same (afterCommit t (m .marks) allSet s) (passedOver others seen offsetsIn raisedIn) 8 after-same
 
-      went-same : (u : ℕ) → u < 8 → becomesStale t (m .marks) allSet s u ≡ turned others seen offsetsIn u
+      went-same : (u : ℕ) → u < 8 → becomesStale t (m .marks) allSet s u ≡ turned others seen offsetsIn raisedIn u
       unfolding becomesStale goesStale ended
       went-same u l = rw (conflicts-are u l, nth-ended (s .transactions) t u eight small) (pick (eqb u t))
         where
           y : Transaction
           y = transaction s u
 
-          pick : (b : Bool) → (not b && y .begun && not (y .stale) && hits u y) ≡ goesStale seen offsetsIn u (cond b ended y)
+          pick : (b : Bool) → (not b && y .begun && not (y .stale) && hits u y) ≡ goesStale seen offsetsIn raisedIn u (cond b ended y)
           pick true = refl
           pick false = refl
 
-      pub octet-is : bitsOf (becomesStale t (m .marks) allSet s) 8 ≡ bitsOf (turned others seen offsetsIn) 8
-      octet-is = bits-same (becomesStale t (m .marks) allSet s) (turned others seen offsetsIn) 8 went-same
+      pub octet-is : bitsOf (becomesStale t (m .marks) allSet s) 8 ≡ bitsOf (turned others seen offsetsIn raisedIn) 8
+      octet-is = bits-same (becomesStale t (m .marks) allSet s) (turned others seen offsetsIn raisedIn) 8 went-same
 
   -- A transaction in range whose placing fits can land.
   module _ (fit : fits (offsetsOnly (s .offsets)) (descriptorsOnly (transaction s t)) ≡ true) where

@@ -1,14 +1,14 @@
 -- Landing, write record by write record; Commit's placing; and the offsets, descriptor by descriptor.
-use mathlib.Core.Bool.{Bool, true, false, cond, _||_, or-assoc}
+use mathlib.Core.Bool.{Bool, true, false, cond, _&&_, _||_, or-assoc, or-false}
 use mathlib.Core.List.{List, [], _∷_, _++_, append-nil, append-assoc}
 use mathlib.Core.Path.{_≡_, refl, sym, ap, ap₂, _∙_}
-use lib.Dec.{leb}
+use lib.Dec.{leb, ltb, eqb}
 use lib.ListN.{length, getD, set}
 use lib.Seq.{sets}
-use borrow.Author.Tests.{le-leb, lt-leb, leb-true}
+use borrow.Author.Tests.{le-leb, lt-leb, leb-true, ltb-true, ltb-false, eq-eqb, ne-eqb}
 use native.Mathlib.Numerals.{add-one}
 use native.Mathlib.Omega.{arith}
-use Prim.Native.Nat.{ℕ, suc, _+_, _-_, _*_, _≤_, _<_}
+use Prim.Native.Nat.{ℕ, zero, suc, _+_, _-_, _*_, _≤_, _<_, max}
 use Rattle.octets.specs.Parts.{pasted, cut}
 use Rattle.octets.specs.Marks.{hasMark, hasMarkIn, contains}
 use Rattle.octets.proofs.PartLaws.{pasted-sets, length-cut}
@@ -21,13 +21,17 @@ use Rattle.standings.specs.Table.{advance, finalOffset}
 use Rattle.ranges.specs.Below.{below, sum}
 use Rattle.ranges.specs.Ranges.{lengthsBefore, Sizes}
 use Rattle.ranges.proofs.Laws.{below-at, below-fails}
-use Rattle.rules.specs.Items.{offset, Values}
+use Rattle.rules.specs.Items.{offset, fileLength, Values}
+use Rattle.rules.specs.Reading.{writeEnd, farthest}
 use Rattle.rules.specs.Transactions.{Write}
-use Rattle.rules.specs.Commits.{Setting, landsAt, stretch, byteSettings, setsOffset, offsetSettings, fits}
+use Rattle.rules.specs.Commits.{Setting, landsAt, stretch, byteSettings, setsOffset, offsetSettings, landedEnd, lengthSettings, fits}
 use Rattle.rules.specs.Machine.{dataStart, writeAt, tabulate}
-use Rattle.rules.specs.Calls.{landByte, landFiles, landOffset, landOffsets, hasSighted, conflicts}
-use Rattle.rules.proofs.View.Tables.{sum-le}
-use Rattle.landing.specs.Landing.{offsetsOnly, descriptorsOnly, bytesSet, CanLand}
+use Rattle.rules.specs.Calls.{landByte, landFiles, landOffset, landOffsets, landLength, landLengths, hasSighted, conflicts}
+use Rattle.rules.proofs.View.Tables.{sum-le, length-tabulate, getD-tabulate, tabulate-same, tabulate-getD, tabulate-set}
+use Rattle.rules.proofs.View.Ends.{farthest-last}
+use Rattle.laws.proofs.Filled.{filled, filled-none, filled-set, filled-kept, filled-all}
+use Rattle.landing.specs.Landing.{offsetsOnly, descriptorsOnly, bytesSet, landedReach, lengthsLanded, CanLand}
+use Rattle.landing.specs.Staling.{some}
 
 -- ---- settings in order
 
@@ -236,3 +240,151 @@ module _ (x : Transaction) (offsets : List ℕ) where
 
   pub offset-kept : (d : ℕ) → setsOffset (descriptorsOnly x) d ≡ false → offsetsSet d ≡ offsetsSet (d + 1)
   offset-kept d e = sym (offsets-more d false e)
+
+-- ---- the lengths
+
+module _ (filenumbers offsets journal : List ℕ) (t : ℕ) where
+  -- Where record k ends in file f.
+  abbrev endIn : ℕ → ℕ → ℕ
+  endIn f k =
+      let w = writeRecordAt journal t k in
+      cond (eqb (getD filenumbers (w .descriptor) 0) f) (writeEnd (landsAt (getD offsets (w .descriptor) 0) (w .place)) (w .length)) 0
+
+  reach-more : (f k : ℕ) → landedReach filenumbers offsets journal t f (k + 1) ≡ max (landedReach filenumbers offsets journal t f k) (endIn f k)
+  unfolding landedReach
+  reach-more f k = rw add-one
+
+  -- The same of the writes.
+  pub reach-is : (v : Values) → ((d : ℕ) → v (offset d) ≡ getD offsets d 0) → (logs : List ℕ) (f n : ℕ)
+      → ((k : ℕ) → k < n → length (writeAt journal logs t k .bytes) ≡ writeRecordAt journal t k .length)
+      → landedReach filenumbers offsets journal t f n ≡ landedEnd (λ d. getD filenumbers d 0) v f (tabulate (writeAt journal logs t) n)
+  unfolding landedReach landedEnd tabulate farthest writeRecordAt writeAt
+  reach-is v h logs f zero l = refl
+  reach-is v h logs f (suc n) l =
+      let end : Write → ℕ = λ w. writeEnd (landsAt (v (offset (w .descriptor))) (w .place)) (length (w .bytes)) in
+      let w = writeRecordAt journal t n in
+      let here : endIn f n ≡ cond (eqb (getD filenumbers (w .descriptor) 0) f) (end (writeAt journal logs t n)) 0 =
+      unfold writeAt in
+      ap₂ (λ (c k : ℕ). cond (eqb (getD filenumbers (w .descriptor) 0) f) (writeEnd (landsAt c (w .place)) k) 0) (sym (h (w .descriptor)))
+      (sym (unfold writeAt in l n (omega arith))) in
+      let later = reach-is v h logs f n (λ k g. l k (omega arith)) in
+      ap₂ (λ (a b : ℕ). max a b) later here
+      ∙ sym (farthest-last (λ d. getD filenumbers d 0) f end (tabulate (writeAt journal logs t) n) (writeAt journal logs t n))
+
+  module _ (lengths : List ℕ) where
+    abbrev lengthAfter : ℕ → ℕ → ℕ
+    lengthAfter k f = max (getD lengths f 0) (landedReach filenumbers offsets journal t f k)
+
+    pub length-at : (k f : ℕ) → f < 8 → getD (lengthsLanded filenumbers offsets journal t lengths k) f 0 ≡ lengthAfter k f
+    unfolding lengthsLanded
+    length-at k f h = getD-tabulate (lengthAfter k) 8 f 0 h
+
+    pub lengths-none : length lengths ≡ 8 → lengths ≡ lengthsLanded filenumbers offsets journal t lengths 0
+    unfolding lengthsLanded landedReach
+    lengths-none e =
+        sym (tabulate-getD lengths 0) ∙ ap (tabulate (λ f. getD lengths f 0)) e
+        ∙ tabulate-same (λ f. getD lengths f 0) (λ f. max (getD lengths f 0) 0) 8 (λ f l. omega arith)
+
+    pub length-lengths : (k : ℕ) → length (lengthsLanded filenumbers offsets journal t lengths k) ≡ 8
+    unfolding lengthsLanded
+    length-lengths k = length-tabulate (lengthAfter k) 8
+
+    -- One record more raises the length of its file.
+    pub lengths-more : (k f end n : ℕ) → f < 8 → f ≡ getD filenumbers (writeRecordAt journal t k .descriptor) 0
+        → end ≡ writeEnd (landsAt (getD offsets (writeRecordAt journal t k .descriptor) 0) (writeRecordAt journal t k .place)) (writeRecordAt journal t k .length)
+        → n ≡ max (getD (lengthsLanded filenumbers offsets journal t lengths k) f 0) end
+        → set (lengthsLanded filenumbers offsets journal t lengths k) f n ≡ lengthsLanded filenumbers offsets journal t lengths (k + 1)
+    unfolding lengthsLanded
+    lengths-more k f end n h ef ee en =
+        sym (tabulate-set (lengthAfter k) (lengthAfter (k + 1)) 8 f n h own other)
+      where
+        own : lengthAfter (k + 1) f ≡ n
+        own =
+            let e : endIn f k ≡ end = rw (eq-eqb (getD filenumbers (writeRecordAt journal t k .descriptor) 0) f (sym ef)) (sym ee) in
+            let m = reach-more f k in
+            let g : n ≡ max (lengthAfter k f) end = en ∙ ap (λ (a : ℕ). max a end) (getD-tabulate (lengthAfter k) 8 f 0 h) in
+            omega arith
+
+        other : (j : ℕ) → (j ≡ f → ⊥) → lengthAfter (k + 1) j ≡ lengthAfter k j
+        other j ne =
+            let e : endIn j k ≡ 0 = rw (ne-eqb (getD filenumbers (writeRecordAt journal t k .descriptor) 0) j (λ q. ne (sym q ∙ sym ef))) in
+            let m = reach-more j k in
+            omega arith
+
+-- Settings put into the lengths.
+pub lengths-append : (xs ys : List Setting) (lengths : List ℕ) → landLengths (xs ++ ys) lengths ≡ landLengths ys (landLengths xs lengths)
+unfolding landLengths
+lengths-append [] ys lengths = refl
+lengths-append (x ∷ xs) ys lengths = lengths-append xs ys (landLength (x .item) (x .to) lengths)
+
+module _ (F : ℕ → ℕ) (v : Values) (ws : List Write) where
+  -- The length of file f, if it is raised.
+  abbrev raising : ℕ → List Setting
+  raising f = cond (ltb (v (fileLength f)) (landedEnd F v f ws)) (record { item = fileLength f; to = landedEnd F v f ws } ∷ []) []
+
+  lengths-filled : (lengths : List ℕ) → length lengths ≡ 8 → ((f : ℕ) → v (fileLength f) ≡ getD lengths f 0) → (n : ℕ) → n ≤ 8
+      → landLengths (lengthSettings F v ws n) lengths ≡ filled (λ f. max (getD lengths f 0) (landedEnd F v f ws)) lengths n
+  unfolding lengthSettings
+  lengths-filled lengths e h zero l = unfold landLengths in sym (filled-none (λ f. max (getD lengths f 0) (landedEnd F v f ws)) lengths)
+  lengths-filled lengths e h (suc n) l =
+      lengths-append (lengthSettings F v ws n) (raising n) lengths
+      ∙ ap (landLengths (raising n)) (lengths-filled lengths e h n (omega arith))
+      ∙ one (ltb (v (fileLength n)) (landedEnd F v n ws)) refl
+      ∙ ap (filled (λ f. max (getD lengths f 0) (landedEnd F v f ws)) lengths) (omega arith)
+    where
+      one : (b : Bool) → ltb (v (fileLength n)) (landedEnd F v n ws) ≡ b
+          → landLengths (cond b (record { item = fileLength n; to = landedEnd F v n ws } ∷ []) []) (filled (λ f. max (getD lengths f 0) (landedEnd F v f ws)) lengths n)
+          ≡ filled (λ f. max (getD lengths f 0) (landedEnd F v f ws)) lengths (n + 1)
+      one true q =
+          let k = ltb-true (v (fileLength n)) (landedEnd F v n ws) q in
+          let a = h n in
+          unfold landLengths landLength in
+          filled-set (λ f. max (getD lengths f 0) (landedEnd F v f ws)) lengths n (landedEnd F v n ws) (omega arith) (omega arith)
+      one false q =
+          let k = ltb-false (v (fileLength n)) (landedEnd F v n ws) q in
+          let a = h n in
+          unfold landLengths in
+          filled-kept (λ f. max (getD lengths f 0) (landedEnd F v f ws)) lengths n 0 (omega arith) (omega arith)
+
+  pub lengths-table : (lengths : List ℕ) → length lengths ≡ 8 → ((f : ℕ) → v (fileLength f) ≡ getD lengths f 0)
+      → landLengths (lengthSettings F v ws 8) lengths ≡ tabulate (λ f. max (getD lengths f 0) (landedEnd F v f ws)) 8
+  lengths-table lengths e h =
+      lengths-filled lengths e h 8 (omega arith) ∙ filled-all (λ f. max (getD lengths f 0) (landedEnd F v f ws)) lengths 8 (omega arith)
+
+  -- No length lands in the files or in the offsets.
+  pub lengths-land-none : (files : List ℕ) (n : ℕ) → landFiles (lengthSettings F v ws n) files ≡ files
+  unfolding lengthSettings landFiles landByte
+  lengths-land-none files zero = refl
+  lengths-land-none files (suc n) =
+      landed-append (lengthSettings F v ws n) (raising n) files
+      ∙ one (ltb (v (fileLength n)) (landedEnd F v n ws)) (landFiles (lengthSettings F v ws n) files)
+      ∙ lengths-land-none files n
+    where
+      one : (b : Bool) (l : List ℕ) → landFiles (cond b (record { item = fileLength n; to = landedEnd F v n ws } ∷ []) []) l ≡ l
+      one true l = refl
+      one false l = refl
+
+  pub lengths-set-none : (offsets : List ℕ) (n : ℕ) → landOffsets (lengthSettings F v ws n) offsets ≡ offsets
+  unfolding lengthSettings landOffsets landOffset
+  lengths-set-none offsets zero = refl
+  lengths-set-none offsets (suc n) =
+      offsets-append (lengthSettings F v ws n) (raising n) offsets
+      ∙ one (ltb (v (fileLength n)) (landedEnd F v n ws)) (landOffsets (lengthSettings F v ws n) offsets)
+      ∙ lengths-set-none offsets n
+    where
+      one : (b : Bool) (l : List ℕ) → landOffsets (cond b (record { item = fileLength n; to = landedEnd F v n ws } ∷ []) []) l ≡ l
+      one true l = refl
+      one false l = refl
+
+  -- Who has sighted a length that is raised.
+  pub known-lengths : (marks : List ℕ) (u : ℕ) (y : Transaction) (n : ℕ)
+      → conflicts marks u y (lengthSettings F v ws n) ≡ some (λ f. ltb (v (fileLength f)) (landedEnd F v f ws) && contains (y .lengthmarks) f) n
+  unfolding lengthSettings some conflicts hasSighted
+  known-lengths marks u y zero = refl
+  known-lengths marks u y (suc n) =
+      conflicts-append marks u y (lengthSettings F v ws n) (raising n)
+      ∙ ap₂ _||_ (known-lengths marks u y n) (one (ltb (v (fileLength n)) (landedEnd F v n ws)))
+    where
+      one : (b : Bool) → conflicts marks u y (cond b (record { item = fileLength n; to = landedEnd F v n ws } ∷ []) []) ≡ (b && contains (y .lengthmarks) n)
+      one true = or-false (contains (y .lengthmarks) n)
+      one false = refl

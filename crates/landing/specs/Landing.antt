@@ -1,14 +1,17 @@
 -- What a granted commit lands in the files buffer, read off the journal, the logs and the record's two arrays of descriptors.
+use mathlib.Core.Bool.{cond}
 use mathlib.Core.List.{List, []}
 use mathlib.Core.Path.{_≡_}
+use lib.Dec.{eqb}
 use lib.ListN.{getD}
-use Prim.Native.Nat.{ℕ, _+_, _≤_, _<_}
+use Prim.Native.Nat.{ℕ, zero, suc, _+_, _≤_, _<_, max}
 use Rattle.record.specs.declared.Transaction.{Transaction}
 use Rattle.record.specs.State.{standingAt, dirtyAt}
 use Rattle.record.specs.Journal.{writeRecordAt}
 use Rattle.ranges.specs.Ranges.{lengthsBefore, Sizes}
-use Rattle.rules.specs.Items.{byte, offset, Values}
+use Rattle.rules.specs.Items.{byte, offset, fileLength, Values}
 use Rattle.rules.specs.Transactions.{Txn}
+use Rattle.rules.specs.Reading.{writeEnd}
 use Rattle.rules.specs.Commits.{Setting, landsAt, byteSettings}
 use Rattle.rules.specs.Machine.{writeAt, tabulate}
 
@@ -17,6 +20,7 @@ use Rattle.rules.specs.Machine.{writeAt, tabulate}
 unfoldable pub offsetsOnly : List ℕ → Values
 offsetsOnly offsets (byte q) = 0
 offsetsOnly offsets (offset d) = getD offsets d 0
+offsetsOnly offsets (fileLength f) = 0
 
 abbrev pub descriptorsOnly : Transaction → Txn
 descriptorsOnly x = record { standing = standingAt x; dirty = dirtyAt x; writes = [] }
@@ -25,6 +29,19 @@ descriptorsOnly x = record { standing = standingAt x; dirty = dirtyAt x; writes 
 unfoldable pub bytesSet : List ℕ → List ℕ → List ℕ → List ℕ → ℕ → ℕ → List Setting
 bytesSet filenumbers offsets journal logs t n =
     byteSettings (λ d. getD filenumbers d 0) (offsetsOnly offsets) (tabulate (writeAt journal logs t) n)
+
+-- 02, F-8: "a granted write of at least one byte raises it to the write's end": how far the first n write records of transaction t reach in
+-- file f as they land, and the committed lengths then.
+unfoldable pub landedReach : List ℕ → List ℕ → List ℕ → ℕ → ℕ → ℕ → ℕ
+landedReach filenumbers offsets journal t f zero = 0
+landedReach filenumbers offsets journal t f (suc k) =
+    let w = writeRecordAt journal t k in
+    max (landedReach filenumbers offsets journal t f k)
+    (cond (eqb (getD filenumbers (w .descriptor) 0) f) (writeEnd (landsAt (getD offsets (w .descriptor) 0) (w .place)) (w .length)) 0)
+
+unfoldable pub lengthsLanded : List ℕ → List ℕ → List ℕ → ℕ → List ℕ → ℕ → List ℕ
+lengthsLanded filenumbers offsets journal t lengths n =
+    tabulate (λ f. max (getD lengths f 0) (landedReach filenumbers offsets journal t f n)) 8
 
 -- Record k of transaction t lands inside a file.
 pub record RecordLands (offsets journal : List ℕ) (t k : ℕ) : Type 0 where

@@ -1,27 +1,30 @@
-// What a granted commit sets: the bytes of its writes, and the committed offsets.
+// What a granted commit sets: the bytes of its writes, the committed offsets, and the committed lengths.
 use counters::Used;
 use numbers::FILE_BYTES;
 use numbers::FILE_END;
+use numbers::larger;
 use numbers::wide;
 use numbers::wide_octet;
 use octets::marks::joined;
 use octets::marks::markers;
 use octets::parts;
 use record::DESCRIPTORS;
+use record::FILES;
 use record::Transaction;
 use record::journal::NUMBERS;
 use record::journal::record_at;
 use standings::Place;
 ghost use mathlib.Core.Bool.{true};
 ghost use mathlib.Core.Path.{_≡_};
-ghost use Prim.Native.Nat.{ℕ, _≤_, _<_};
+ghost use Prim.Native.Nat.{ℕ, _+_, _≤_, _<_};
 ghost use lib.ListN.{length, getD};
 ghost use Rattle.octets.specs.Marks.{contains};
 ghost use Rattle.record.specs.declared.Transaction.{Transaction};
 ghost use Rattle.ranges.specs.Ranges.{sized};
 ghost use Rattle.rules.specs.Commits.{landsAt, offsetSettings, fits};
+ghost use Rattle.rules.specs.Reading.{writeEnd};
 ghost use Rattle.rules.specs.Calls.{landFiles, landOffsets, conflicts};
-ghost use Rattle.landing.specs.Landing.{offsetsOnly, descriptorsOnly, bytesSet, CanLand};
+ghost use Rattle.landing.specs.Landing.{offsetsOnly, descriptorsOnly, bytesSet, lengthsLanded, CanLand};
 
 // Commit's placing: every advance of x fits behind its committed offset.
 pub fn places_fit(x: Transaction, offsets: &[u16; DESCRIPTORS]) -> bool
@@ -99,6 +102,45 @@ pub fn offsets_after(x: Transaction, offsets: [u16; DESCRIPTORS]) -> [u16; DESCR
             out[d] = z.final_offset(offsets[d]);
         }
         d += 1;
+    }
+    out
+}
+
+// Where a write of n bytes ends that starts at the place; 0 where it has no byte.
+fn write_end(place: usize, n: usize) -> usize
+    requires { ⌜ place + n ≤ 4096 ⌝ }
+    ensures { λ r. ⌜ r ≡ writeEnd place n ⌝ }
+{
+    if n == 0 {
+        return 0;
+    }
+    place + n
+}
+
+// The committed lengths after transaction t's writes have landed: each raises that of its file to its end.
+pub fn lengths_after<'a>(
+    journal: &'a [u16; NUMBERS],
+    filenumbers: &'a [u8; DESCRIPTORS],
+    offsets: &'a [u16; DESCRIPTORS],
+    t: usize,
+    used: Used,
+    lengths: [u16; FILES],
+) -> [u16; FILES]
+    requires { ⌜ CanLand (now filenumbers) (now offsets) (now journal) (sized 32768 32768 32768) t (used .records) ⌝ }
+    ensures { λ r. ⌜ r ≡ lengthsLanded (now (filenumbers .entry)) (now (offsets .entry)) (now (journal .entry)) t lengths (used .records) ⌝ }
+{
+    let records = wide_octet(used.records);
+    let mut out = lengths;
+    let mut k = 0;
+    while k < records {
+        let w = record_at(journal, t, k);
+        let d = wide(w.descriptor);
+        let p = w.place;
+        let place = lands_at(p, wide(offsets[d]));
+        let end = write_end(place, wide(w.length));
+        let f = wide_octet(filenumbers[d]);
+        out[f] = larger(wide(out[f]), end) as u16;
+        k += 1;
     }
     out
 }

@@ -1,14 +1,15 @@
-// Whom a granted commit makes stale: the test of marks and settled offsets against what it set.
+// Whom a granted commit makes stale: the test of marks, settled offsets and sighted lengths against what it set.
 use octets::marks;
 use octets::sets;
 use record::DESCRIPTORS;
+use record::FILES;
 use record::Transaction;
 ghost use mathlib.Core.Path.{_≡_};
 ghost use Prim.Native.Nat.{_<_};
 ghost use Rattle.octets.specs.Bits.{bitsOf};
 ghost use Rattle.rules.specs.Commits.{setsOffset};
 ghost use Rattle.landing.specs.Landing.{descriptorsOnly};
-ghost use Rattle.landing.specs.Staling.{some, knowsOffset, goesStale};
+ghost use Rattle.landing.specs.Staling.{some, knowsOffset, knowsLength, isRaised, goesStale};
 
 // The descriptors whose offsets a commit of x sets, as sixteen bits.
 pub fn offsets_set(x: Transaction) -> u16
@@ -44,11 +45,43 @@ fn knows_one_of(y: Transaction, set: u16) -> bool
     false
 }
 
+// The files whose length is larger after a commit than before it, as bits.
+pub fn lengths_raised<'a>(before: &'a [u16; FILES], after: &'a [u16; FILES]) -> u16
+    ensures { λ r. ⌜ r ≡ bitsOf (isRaised (now (before .entry)) (now (after .entry))) 8 ⌝ }
+{
+    let mut raised = 0u16;
+    let mut f = 0;
+    while f < FILES {
+        if before[f] < after[f] {
+            raised = sets::added(raised, f);
+        }
+        f += 1;
+    }
+    raised
+}
+
+// Whether transaction y has sighted the length of a file of the set.
+fn knows_length(y: Transaction, raised: u16) -> bool
+    ensures { λ r. ⌜ r ≡ some (knowsLength y raised) 8 ⌝ }
+{
+    let octet = y.lengthmarks;
+    let mut f = 0;
+    while f < FILES {
+        if sets::contains(raised, f) {
+            if marks::contains(octet, f) {
+                return true;
+            }
+        }
+        f += 1;
+    }
+    false
+}
+
 // Whether transaction u, as y, is open, not stale yet, and has sighted what was set: seen are those who have a mark on a byte of it, set
-// are the descriptors whose offsets belong to it.
-pub fn goes_stale(y: Transaction, u: usize, seen: u8, set: u16) -> bool
+// are the descriptors whose offsets belong to it, raised the files whose lengths do.
+pub fn goes_stale(y: Transaction, u: usize, seen: u8, set: u16, raised: u16) -> bool
     requires { ⌜ u < 8 ⌝ }
-    ensures { λ r. ⌜ r ≡ goesStale seen set u y ⌝ }
+    ensures { λ r. ⌜ r ≡ goesStale seen set raised u y ⌝ }
 {
     if !y.begun {
         return false;
@@ -59,5 +92,8 @@ pub fn goes_stale(y: Transaction, u: usize, seen: u8, set: u16) -> bool
     if marks::contains(seen, u) {
         return true;
     }
-    knows_one_of(y, set)
+    if knows_one_of(y, set) {
+        return true;
+    }
+    knows_length(y, raised)
 }

@@ -20,7 +20,7 @@ use Rattle.record.proofs.JournalLaws.{with-more, with-same, with-own-records}
 use Rattle.standings.specs.Table.{afterWrite, writePlace}
 use Rattle.rules.specs.Transactions.{Txn, Write, put, dirtied}
 use Rattle.rules.specs.Steps.{total, written}
-use Rattle.rules.specs.Machine.{tabulate, writeAt, recordOf, txnOf, noWrite, journalled, holding, withTxn}
+use Rattle.rules.specs.Machine.{tabulate, writeAt, recordOf, txnOf, noWrite, journalled, holding, lengthmarked, sightingLengths, withTxn}
 use Rattle.rules.proofs.View.Shape.{Shaped}
 use Rattle.rules.proofs.View.Tables.{tabulate-getD, tabulate-set}
 use Rattle.laws.proofs.Decoded.{Opened, decoded-count, decoded-at, decoded-total, decoded-length, total-append}
@@ -86,21 +86,21 @@ module _ (s : Store) (journal logs : List ℕ) (t : ℕ) (o : Opened s journal l
 
   -- One descriptor stands otherwise, and is dirty.
   pub txn-dirtied : (d : ℕ) (z : Standing) → d < 16
-      → withTxn t (dirtied d z (txnOf s journal logs t)) s
+      → withTxn t (dirtied d z (txnOf s journal logs t)) [] s
       ≡ withTransaction t
       (withDescriptors (set (transaction s t .descriptors) d (record { standing = z; dirty = true })) (transaction s t)) s
-  unfolding withTxn holding txnOf
+  unfolding withTxn sightingLengths lengthmarked holding txnOf
   txn-dirtied d z h =
       rw (decoded-count s journal logs t o, decoded-total s journal logs t o, put-descriptor (transaction s t) d z h (o .shape .descriptors t (o .small)))
 
   -- One write more: its record, the counters, its descriptor.
   pub txn-written : (d : ℕ) (bytes : List ℕ) → d < 16
-      → withTxn t (written d bytes (txnOf s journal logs t)) s
+      → withTxn t (written d bytes (txnOf s journal logs t)) [] s
       ≡ withTransaction t
       (withUsed (record { records = transaction s t .used .records + 1; bytes = transaction s t .used .bytes + length bytes })
       (withDescriptors (set (transaction s t .descriptors) d (record { standing = afterWrite (length bytes) (standingAt (transaction s t) d); dirty = true }))
       (transaction s t))) s
-  unfolding withTxn withTransaction holding written txnOf
+  unfolding withTxn sightingLengths lengthmarked withTransaction holding written txnOf
   txn-written d bytes h =
       let n = transaction s t .used .records in
       let z = standingAt (transaction s t) d in

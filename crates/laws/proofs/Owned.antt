@@ -26,18 +26,19 @@ each-at own into P tells (x ∷ xs) (u ∷ us) s z (suc k) h = each-at own into 
 
 -- A transaction has sixteen descriptors.
 sixteen : (x : Transaction) (vs : List Val) → shadow (field transactionType .row .own (transactionType .to x) vs) → length (x .descriptors) ≡ 16
-sixteen x vs g = sym (length-map (x .descriptors) _) ∙ g .1 .1 .1 .1 .1 .0 .1 .0 .1
+sixteen x vs g = sym (length-map (x .descriptors) _) ∙ g .1 .1 .1 .1 .1 .1 .0 .1 .0 .1
 
 pub sixteen-descriptors : (x : Transaction) (vs : List Val) → shadow (row transactionType .own x vs) → length (x .descriptors) ≡ 16
 sixteen-descriptors x vs g = sixteen x vs g
 
 pub shaped : (s : Store) (vs : List Val) → shadow (row storeType .own s vs) → Shaped s
 shaped s vs g =
-    let ts = g .1 .1 .1 .1 .0 in
+    let ts = g .1 .1 .1 .1 .1 .0 in
     let eight : length (s .transactions) ≡ 8 = sym (length-map (s .transactions) _) ∙ ts .1 .0 .1 in
     record {
       files = sym (length-map (s .filenumbers) _) ∙ g .1 .1 .0 .1 .0 .1;
       offsets = sym (length-map (s .offsets) _) ∙ g .1 .1 .1 .0 .1 .0 .1;
+      lengths = sym (length-map (s .lengths) _) ∙ g .1 .1 .1 .1 .0 .1 .0 .1;
       transactions = eight;
       descriptors =
           λ t h.

@@ -16,6 +16,7 @@ use Rattle.ranges.proofs.Laws.{and-left}
 use Rattle.rules.specs.Items.{Item, byte, offset, Values, Prog, done, ask, andThen, result, asked}
 use Rattle.standings.specs.Table.{advance, settled}
 use Rattle.rules.specs.Transactions.{Write, Txn, put, placedAt, placeWrite, settle, those, Settled, past, all, settling}
+use Rattle.rules.specs.Machine.{lengthmarked}
 use Rattle.rules.specs.Calls.{marked}
 use Rattle.laws.specs.Settling.{placeAll, settleAll}
 
@@ -72,6 +73,21 @@ module _ (v : Values) where
 
       pick : marked t (asked v (settling ds next) ++ is) marks ≡ marked t is marks
           → (b : Bool) → marked t (asked v (cond b (settling ds next) (done past)) ++ is) marks ≡ marked t is marks
+      pick e true = e
+      pick e false = refl
+
+  -- Nor a length.
+  pub lengths-settling : (ds : List ℕ) (x : Txn) (is : List Item) (n : ℕ) → lengthmarked (asked v (settling ds x) ++ is) n ≡ lengthmarked is n
+  unfolding settling asked lengthmarked
+  lengths-settling [] x is n = refl
+  lengths-settling (d ∷ ds) x is n =
+      pick (lengths-settling ds (settle d (v (offset d)) x) is n) (leb (v (offset d) + advance (x .standing d)) 4096)
+    where
+      next : Txn
+      next = settle d (v (offset d)) x
+
+      pick : lengthmarked (asked v (settling ds next) ++ is) n ≡ lengthmarked is n
+          → (b : Bool) → lengthmarked (asked v (cond b (settling ds next) (done past)) ++ is) n ≡ lengthmarked is n
       pick e true = e
       pick e false = refl
 

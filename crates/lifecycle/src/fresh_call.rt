@@ -45,11 +45,12 @@ fn fresh_store(numbers: &[u8]) -> Store
     Store {
         filenumbers,
         offsets: [0u16; 16],
+        lengths: [0u16; 8],
         transactions: [x; 8],
     }
 }
 
-// Makes the store fresh: descriptor d belongs to file numbers[d], every file byte, mark and offset is 0, nothing is open, the journal
+// Makes the store fresh: descriptor d belongs to file numbers[d], every file byte, mark, offset and length is 0, nothing is open, the journal
 // is empty. The logs are left as found. Refuses 1, then 14, and hands back the record at hand.
 pub fn fresh(
     s: Store,

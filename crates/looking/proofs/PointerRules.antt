@@ -13,20 +13,20 @@ use Rattle.record.specs.declared.outcomes.Outcome.the-variants.{Offset}
 use Rattle.record.specs.declared.outcomes.Refusal.{Refusal}
 use Rattle.record.specs.declared.Transaction.{Transaction}
 use Rattle.record.specs.declared.Store.{Store}
-use Rattle.record.specs.State.{transaction, noTransaction, standingAt, withTransaction}
+use Rattle.record.specs.State.{transaction, noTransaction, standingAt, withLengthmarks, withTransaction}
 use Rattle.record.specs.Paper.{number, pointer, said}
 use Rattle.ranges.specs.Ranges.{admission}
 use Rattle.rules.specs.Items.{Item, Prog, done, andThen, result, asked}
 use Rattle.rules.specs.Transactions.{Txn, Settled, past, all, settling}
 use Rattle.rules.specs.Messages.{getFilePointer, bufferOf, on}
 use Rattle.rules.specs.Steps.{Stepped, accept, orGivenBack, step, pointerStep, descriptorOf, looks}
-use Rattle.rules.specs.Machine.{Machine, lent, withStore, withJournal, sizes, values, txnOf, withTxn}
+use Rattle.rules.specs.Machine.{Machine, lent, withStore, withJournal, sizes, values, txnOf, lengthmarked, sightingLengths, withTxn}
 use Rattle.rules.specs.Calls.{Turn, turnDown, marked, logged, served, call}
 use Rattle.rules.specs.Promises.{Meets}
 use Rattle.rules.proofs.Serial.Programs.{result-andThen, asked-andThen, not-stale}
 use Rattle.laws.proofs.Decoded.{Opened}
 use Rattle.laws.proofs.Encoded.{writes-same, holding-same}
-use Rattle.laws.proofs.Settling.{marked-settling}
+use Rattle.laws.proofs.Settling.{marked-settling, lengths-settling}
 use Rattle.settling.specs.Choices.{chosenByPointer, allWithin, settledTransaction}
 use Rattle.settling.proofs.Settled.{settledTxn, settledJournal, txn-settled, journal-settled, standing-settled}
 use Rattle.settling.proofs.Chosen.{settling-pointer}
@@ -34,8 +34,8 @@ use Rattle.refusing.proofs.Turns.{program, on-stepped, on-accepted, check-held,
 use Rattle.looking.proofs.LookRules.{lookRefusal, look-refused}
 
 -- A transaction put back as it was.
-txn-same : (s : Store) (journal logs : List ℕ) (t : ℕ) → Opened s journal logs t → withTxn t (txnOf s journal logs t) s ≡ s
-unfolding withTxn withTransaction
+txn-same : (s : Store) (journal logs : List ℕ) (t : ℕ) → Opened s journal logs t → withTxn t (txnOf s journal logs t) [] s ≡ s
+unfolding withTxn sightingLengths lengthmarked withTransaction
 txn-same s journal logs t o = rw (holding-same s journal logs t o, set-getD (s .transactions) t noTransaction)
 
 module _ (t d : ℕ) (m : Machine) (passes : admission (sizes m) (m .store) (m .journal) t ≡ 0) where
@@ -115,6 +115,24 @@ module _ (t d : ℕ) (m : Machine) (passes : admission (sizes m) (m .store) (m .
       ∙ marked-settling v t ds x (asked v (orGivenBack told (result v (settling ds x)))) (m .marks)
       ∙ told-marks (result v (settling ds x))
 
+  -- Nor is a length sighted.
+  told-lengths : (s : Settled) (n : ℕ) → lengthmarked (asked (values (m .store) (m .files)) (orGivenBack told s)) n ≡ n
+  unfolding orGivenBack asked told lengthmarked
+  told-lengths past n = refl
+  told-lengths (all y) n = refl
+
+  lengths-kept : d ≤ 15 → sightingLengths (asked (values (m .store) (m .files)) (program t (getFilePointer d) m passes)) held ≡ held
+  unfolding step pointerStep told sightingLengths
+  lengths-kept h =
+      let v = values (m .store) (m .files) in
+      let x = txnOf (m .store) (m .journal) (m .logs) t in
+      let ds = cond (pointerSettles (x .standing d)) (d ∷ []) [] in
+      ap (λ (n : ℕ). withLengthmarks n held)
+      (ap (λ (p : Prog Stepped). lengthmarked (asked v p) (held .lengthmarks)) (check-held (leb d 15) 6 (andThen (settling ds x) (orGivenBack told)) (le-leb d 15 h))
+      ∙ ap (λ (is : List Item). lengthmarked is (held .lengthmarks)) (asked-andThen v (settling ds x) (orGivenBack told))
+      ∙ lengths-settling v ds x (asked v (orGivenBack told (result v (settling ds x)))) (held .lengthmarks)
+      ∙ told-lengths (result v (settling ds x)) (held .lengthmarks))
+
   meets : Opened (m .store) (m .journal) (m .logs) t → held .stale ≡ false → d ≤ 15 → allWithin choice (m .store .offsets) held ≡ true
       → Meets (call (on t (getFilePointer d)) m) (Offset (offsetOf (standingAt afterwards d)))
       (withStore (withTransaction t afterwards (m .store)) (withJournal (settledJournal (m .store) (m .journal) t choice) m)) []
@@ -131,7 +149,7 @@ module _ (t d : ℕ) (m : Machine) (passes : admission (sizes m) (m .store) (m .
             sym
             (ap (λ (w : Turn). w .after) w
             ∙ ap₂ (λ (s : Store) (j : List ℕ). lent s j (m .files) (m .logs) (marked t (asked (values (m .store) (m .files)) (program t (getFilePointer d) m passes)) (m .marks)))
-            (txn-settled (m .store) (m .journal) (m .logs) t o choice) (journal-settled (m .store) (m .journal) (m .logs) t o choice)
+            (txn-settled (m .store) (m .journal) (m .logs) t o choice _ (lengths-kept h)) (journal-settled (m .store) (m .journal) (m .logs) t o choice)
             ∙ ap (λ (l : List ℕ). lent (withTransaction t afterwards (m .store)) (settledJournal (m .store) (m .journal) t choice) (m .files) (m .logs) l) (marks-kept h));
         reader = sym (ap (λ (w : Turn). w .reply .buffer) w);
       }

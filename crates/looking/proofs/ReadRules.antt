@@ -1,42 +1,53 @@
 -- The rule of Read after each of its tests.
 use mathlib.Core.Bool.{Bool, true, false, cond, not, _||_}
-use mathlib.Core.List.{List, _++_, append-nil}
+use mathlib.Core.List.{List, [], _∷_, _++_, append-nil}
 use mathlib.Core.Path.{_≡_, refl, sym, ap, ap₂, _∙_}
 use borrow.Author.Tests.{le-leb, leb-true}
-use lib.Dec.{leb}
+use lib.Dec.{leb, ltb, eqb}
 use lib.ListN.{length, getD, set, drop}
 use native.Mathlib.Omega.{arith}
-use Prim.Native.Nat.{ℕ, _+_, _-_, _≤_, min}
+use Prim.Native.Nat.{ℕ, _+_, _-_, _*_, _≤_, _<_, min, max}
+use Rattle.octets.specs.Bits.{withBit}
 use Rattle.octets.specs.Parts.{filePart}
+use Rattle.octets.proofs.PartLaws.{length-cut}
 use Rattle.standings.specs.declared.Standing.{Standing}
 use Rattle.standings.specs.declared.Standing.the-variants.{Untouched, Placed, Deferred, Moved, Known}
-use Rattle.standings.specs.Table.{afterRead, offsetOf, advance, settled}
+use Rattle.standings.specs.Table.{afterRead, readSettles, offsetOf, advance, settled}
 use Rattle.record.specs.declared.outcomes.Outcome.the-variants.{Given}
 use Rattle.record.specs.declared.outcomes.Refusal.{Refusal}
 use Rattle.record.specs.declared.Transaction.{Transaction}
 use Rattle.record.specs.declared.Store.{Store}
-use Rattle.record.specs.State.{transaction, standingAt, withDescriptors, withTransaction}
+use Rattle.record.specs.State.{transaction, standingAt, withDescriptors, withLengthmarks, withTransaction}
+use Rattle.record.specs.Journal.{writeRecordAt}
 use Rattle.record.specs.Paper.{number, given, said}
 use Rattle.ranges.specs.Ranges.{admission, standingIn, lengthsBefore}
 use Rattle.ranges.proofs.Laws.{and-right, below-at, standing-numbers}
-use Rattle.rules.specs.Items.{Item, Values, Prog, done, andThen, result, asked}
+use Rattle.rules.specs.Items.{Item, fileLength, Values, Prog, done, andThen, result, asked}
 use Rattle.rules.specs.Transactions.{Txn, Write, dirtied, Settled, past, all, settling}
-use Rattle.rules.specs.Reading.{fetch}
+use Rattle.rules.specs.Reading.{fetch, placedEnd, ownEnd, lengthFor, gather}
 use Rattle.rules.specs.Messages.{read, bufferOf, on}
 use Rattle.rules.specs.Steps.{Stepped, accept, check, orGivenBack, step, readStep, readSettled, settledByRead, descriptorOf, looks}
-use Rattle.rules.specs.Machine.{Machine, lent, withStore, withJournal, withMarking, sizes, fileOf, values, txnOf, withTxn, journalled}
+use Rattle.rules.specs.Machine.{Machine, lent, withStore, withJournal, withMarking, sizes, fileOf, values, txnOf, lengthmarked, sightingLengths, withTxn, journalled, writeAt, dataStart}
 use Rattle.rules.specs.Calls.{Turn, turnDown, marked, logged, served, call}
 use Rattle.rules.specs.Promises.{Meets}
 use Rattle.rules.proofs.Serial.Programs.{result-andThen, asked-andThen, not-stale}
+use Rattle.rules.proofs.Serial.Gathers.{read-stops, length-gather}
+use Rattle.rules.proofs.View.Shape.{TxnIn}
+use Rattle.rules.proofs.View.Chosen.{DescriptorsIn, those-in}
+use Rattle.rules.proofs.View.Decode.{decoded-in}
+use Rattle.rules.proofs.View.Kept.{pieces, settling-kept}
+use Rattle.rules.proofs.View.Ends.{length-for}
 use Rattle.laws.specs.Settling.{settleAll}
 use Rattle.laws.proofs.Decoded.{Opened}
-use Rattle.laws.proofs.Settling.{marked-settling}
+use Rattle.laws.proofs.Settling.{marked-settling, lengths-settling}
 use Rattle.settling.specs.Choices.{chosenByRead, settlesWithin, allWithin, settledTransaction}
 use Rattle.settling.proofs.Settled.{settledTxn, settledJournal, txn-settled-dirtied, journal-settled, descriptor-settled, data-settled, writes-settled, standing-settled}
 use Rattle.settling.proofs.Chosen.{settling-read}
 use Rattle.runs.specs.declared.Extent.{Extent}
-use Rattle.runs.specs.Runs.{Recorded, recorded, extent, Counted}
+use Rattle.runs.specs.Runs.{Recorded, recorded, extent, Counted, recordEnd, reach}
+use Rattle.runs.proofs.RunLaws.{data-suc, data-upto, reach-is}
 use Rattle.reading.specs.Serving.{bytesOf, marksAfter, logPart}
+use Rattle.reading.proofs.FetchLaws.{marked-append, lengths-fetch}
 use Rattle.reading.proofs.MachineLaws.{bytes-are, marks-are}
 use Rattle.refusing.proofs.Turns.{program, on-stepped, check-held, check-failed}
 use Rattle.looking.proofs.LookRules.{lookRefusal, look-refused}
@@ -117,16 +128,22 @@ module _ (t d n : ℕ) (buffer : List ℕ) (m : Machine) (passes : admission (si
         on-stepped t (read d n buffer) m passes (not-stale (held .stale) (read d n buffer) fresh)
         ∙ ap (served t (read d n buffer) m (asked v (program t (read d n buffer) m passes))) (read-result false e)
 
-    module _ (within : allWithin choice (m .store .offsets) held ≡ true) where
+    module _ (within : allWithin choice (m .store .offsets) held ≡ true) (bounded : (g : ℕ) → v (fileLength g) ≤ 4096) where
       -- The offset that is read from, how many bytes are given, by which file; and the transaction's meaning at the end.
       abbrev from : ℕ
       from = offsetOf (meant .standing d)
 
-      abbrev count : ℕ
-      count = min n (4096 - from)
-
       abbrev f : ℕ
       f = getD (m .store .filenumbers) d 0
+
+      abbrev end : ℕ
+      end = lengthFor (fileOf (m .store)) (fileOf (m .store) d) (meant .writes) v
+
+      abbrev count : ℕ
+      count = min n (end - from)
+
+      abbrev gathers : Prog (List ℕ)
+      gathers = gather (fileOf (m .store)) (meant .writes) (fileOf (m .store) d) from n
 
       abbrev fetches : Prog (List ℕ)
       fetches = fetch (fileOf (m .store)) (meant .writes) (fileOf (m .store) d) from count
@@ -134,15 +151,38 @@ module _ (t d n : ℕ) (buffer : List ℕ) (m : Machine) (passes : admission (si
       abbrev finally : Txn
       finally = dirtied d (afterRead count (meant .standing d)) meant
 
-      reads-on : result v (goesOn meant) ≡ accept finally (given count) (result v fetches ++ drop count buffer)
-      unfolding readSettled result
-      reads-on = result-andThen v fetches (λ bytes. done (accept finally (given count) (bytes ++ drop count buffer)))
+      ends : List ℕ → Prog Stepped
+      ends bytes =
+          done (accept (dirtied d (afterRead (length bytes) (meant .standing d)) meant) (given (length bytes)) (bytes ++ drop (length bytes) buffer))
 
-      asks-on : asked v (goesOn meant) ≡ asked v fetches
-      unfolding readSettled asked
+      reads-on : result v (goesOn meant) ≡ accept finally (given count) (result v fetches ++ drop count buffer)
+      unfolding readSettled result ends
+      reads-on =
+          result-andThen v gathers ends
+          ∙ ap₂ (λ (bytes : List ℕ) (k : ℕ). accept (dirtied d (afterRead k (meant .standing d)) meant) (given k) (bytes ++ drop k buffer))
+          (read-stops (fileOf (m .store)) (meant .writes) (fileOf (m .store) d) from n v .bytes)
+          (length-gather (fileOf (m .store)) (meant .writes) (fileOf (m .store) d) from n v)
+
+      -- "a Read that gave fewer bytes than wanted sights the length, listed after its bytes"
+      abbrev last : List Item
+      last = cond (ltb count n) (fileLength (fileOf (m .store) d) ∷ []) []
+
+      asks-on : asked v (goesOn meant) ≡ asked v fetches ++ last
+      unfolding readSettled asked ends
       asks-on =
-          asked-andThen v fetches (λ bytes. done (accept finally (given count) (bytes ++ drop count buffer)))
-          ∙ append-nil (asked v fetches)
+          asked-andThen v gathers ends
+          ∙ append-nil (asked v gathers)
+          ∙ read-stops (fileOf (m .store)) (meant .writes) (fileOf (m .store) d) from n v .sightings
+
+      last-unmarked : (b : Bool) (marks : List ℕ) → marked t (cond b (fileLength (fileOf (m .store) d) ∷ []) []) marks ≡ marks
+      unfolding marked
+      last-unmarked true marks = refl
+      last-unmarked false marks = refl
+
+      last-length : (b : Bool) (k : ℕ) → lengthmarked (cond b (fileLength (fileOf (m .store) d) ∷ []) []) k ≡ cond b (withBit (fileOf (m .store) d) k) k
+      unfolding lengthmarked
+      last-length true k = refl
+      last-length false k = refl
 
       -- Settling marks nothing.
       marks-on : marked t (asked v (program t (read d n buffer) m passes)) (m .marks) ≡ marked t (asked v fetches) (m .marks)
@@ -153,11 +193,28 @@ module _ (t d n : ℕ) (buffer : List ℕ) (m : Machine) (passes : admission (si
           ∙ marked-settling v t (settledByRead (fileOf (m .store)) d before) before (asked v (orGivenBack goesOn (result v settles))) (m .marks)
           ∙ ap (λ (s : Settled). marked t (asked v (orGivenBack goesOn s)) (m .marks)) (settles-to true within)
           ∙ ap (λ (is : List Item). marked t is (m .marks)) asks-on
+          ∙ marked-append t (asked v fetches) last (m .marks)
+          ∙ last-unmarked (ltb count n) (marked t (asked v fetches) (m .marks))
+
+      -- Settling and fetching sight no length.
+      lengths-on : (k : ℕ) → lengthmarked (asked v (program t (read d n buffer) m passes)) k ≡ cond (ltb count n) (withBit (fileOf (m .store) d) k) k
+      unfolding orGivenBack
+      lengths-on k =
+          ap (λ (p : Prog Stepped). lengthmarked (asked v p) k) program-is
+          ∙ ap (λ (is : List Item). lengthmarked is k) (asked-andThen v settles (orGivenBack goesOn))
+          ∙ lengths-settling v (settledByRead (fileOf (m .store)) d before) before (asked v (orGivenBack goesOn (result v settles))) k
+          ∙ ap (λ (s : Settled). lengthmarked (asked v (orGivenBack goesOn s)) k) (settles-to true within)
+          ∙ ap (λ (is : List Item). lengthmarked is k) asks-on
+          ∙ lengths-fetch v (fileOf (m .store)) (meant .writes) (fileOf (m .store) d) from count last k
+          ∙ last-length (ltb count n) k
+
+      abbrev sees : List Item
+      sees = asked v (program t (read d n buffer) m passes)
 
       accepted : call (on t (read d n buffer)) m
           ≡ record {
             reply = record { answer = given count; buffer = result v fetches ++ drop count buffer };
-            after = withStore (withTxn t finally (m .store)) (withJournal (journalled t (meant .writes) (m .journal)) (withMarking (marked t (asked v fetches) (m .marks)) m));
+            after = withStore (withTxn t finally sees (m .store)) (withJournal (journalled t (meant .writes) (m .journal)) (withMarking (marked t (asked v fetches) (m .marks)) m));
           }
       unfolding served logged orGivenBack
       accepted =
@@ -169,8 +226,22 @@ module _ (t d n : ℕ) (buffer : List ℕ) (m : Machine) (passes : admission (si
           turn marks =
               record {
                 reply = record { answer = given count; buffer = result v fetches ++ drop count buffer };
-                after = withStore (withTxn t finally (m .store)) (withJournal (journalled t (meant .writes) (m .journal)) (withMarking marks m));
+                after = withStore (withTxn t finally sees (m .store)) (withJournal (journalled t (meant .writes) (m .journal)) (withMarking marks m));
               }
+
+      -- The transaction's length, in range.
+      meant-in : TxnIn meant
+      meant-in =
+          settling-kept v (settledByRead (fileOf (m .store)) d before) before meant (pieces (before .writes)) (settled-are 16 (omega arith))
+          (record { ranges = decoded-in (m .store) (m .journal) (m .logs) t (o .size) (o .small) (o .ranges) (o .shape .descriptors t (o .small)); same = refl })
+          (settles-to true within)
+          .ranges
+        where
+          settled-are : (k : ℕ) → k ≤ 16 → DescriptorsIn (settledByRead (fileOf (m .store)) d before)
+          settled-are k h = unfold settledByRead in those-in (λ e. readSettles (eqb (fileOf (m .store) e) (fileOf (m .store) d)) (eqb e d) (before .standing e)) 16 (omega arith)
+
+      end-low : end ≤ 4096
+      end-low = length-for (fileOf (m .store)) (fileOf (m .store) d) meant v (bounded (fileOf (m .store) d)) meant-in
 
       from-low : from ≤ 4096
       unfolding allWithin settlesWithin settleAll txnOf
@@ -189,7 +260,7 @@ module _ (t d n : ℕ) (buffer : List ℕ) (m : Machine) (passes : admission (si
       read-bytes : bytesOf placed t (held .used .records) (logPart (m .logs) t) (filePart (m .files) f) (extent f from count) ≡ result v fetches
       unfolding fileOf
       read-bytes =
-          bytes-are placed (m .logs) t (held .used .records) inside v (m .files) (λ q. unfold values in refl) (extent f from count) (let l = from-low in omega arith)
+          bytes-are placed (m .logs) t (held .used .records) inside v (m .files) (λ q. unfold values in refl) (extent f from count) (let l = from-low in let k = end-low in omega arith)
           ∙ ap (λ (ws : List Write). result v (fetch (fileOf (m .store)) ws f from count)) (writes-settled (m .store) (m .journal) (m .logs) t o choice)
 
       read-marks : marksAfter placed t (held .used .records) (logPart (m .logs) t) (filePart (m .files) f) (extent f from count) (m .marks) ≡ marked t (asked v fetches) (m .marks)
@@ -207,11 +278,7 @@ module _ (t d n : ℕ) (buffer : List ℕ) (m : Machine) (passes : admission (si
         pub offset-within : offsetOf (standingAt x d) ≤ 4096
         offset-within = rw standing-is from-low
 
-        -- what is read: "the smaller of n and 4,096 less the offset"
-        abbrev pub places : Extent
-        places = extent f (offsetOf (standingAt x d)) (min n (4096 - offsetOf (standingAt x d)))
-
-        module _ (journal : List ℕ) (ej : journal ≡ settledJournal (m .store) (m .journal) t choice) (e : Extent) (ee : e ≡ places) where
+        module _ (journal : List ℕ) (ej : journal ≡ settledJournal (m .store) (m .journal) t choice) where
           pub counted : Counted journal t (held .used)
           counted =
               rw ej
@@ -223,6 +290,40 @@ module _ (t d n : ℕ) (buffer : List ℕ) (m : Machine) (passes : admission (si
                 descriptors = descriptor-settled (m .store) (m .journal) (m .logs) t o choice;
               })
 
+          -- How far the file reaches for the transaction, as the code finds it.
+          abbrev pub reached : ℕ
+          reached = reach (recorded journal (m .store .filenumbers)) t f (getD (m .store .lengths) f 0) (held .used .records)
+
+          data-upon : (k : ℕ) → k < held .used .records → lengthsBefore (placed .journal) t k + writeRecordAt (placed .journal) t k .length ≤ 4096
+          data-upon k h = omega (arith, data-suc (placed .journal) t k, data-upto (placed .journal) t k (held .used .records) h, inside)
+
+          end-of : (k : ℕ) → k < held .used .records → let w = writeAt (placed .journal) (m .logs) t k in
+              recordEnd (m .store .filenumbers) f (writeRecordAt (placed .journal) t k)
+              ≡ cond (eqb (getD (m .store .filenumbers) (w .descriptor) 0) f) (placedEnd (w .place) (length (w .bytes))) 0
+          unfolding recordEnd writeAt dataStart
+          end-of k h =
+              let w = writeRecordAt (placed .journal) t k in
+              ap (λ (z : ℕ). cond (eqb (getD (m .store .filenumbers) (w .descriptor) 0) f) (placedEnd (w .place) z) 0)
+              (sym
+              (length-cut (m .logs) (4096 * t + lengthsBefore (placed .journal) t k) (w .length)
+              (omega (arith, data-upon k h, o .size, o .small))))
+
+          reached-is : reached ≡ end
+          unfolding lengthFor fileOf values
+          reached-is =
+              ap (λ (l : List ℕ). reach (recorded l (m .store .filenumbers)) t f (getD (m .store .lengths) f 0) (held .used .records)) ej
+              ∙ reach-is placed t f (getD (m .store .lengths) f 0) (writeAt (placed .journal) (m .logs) t) (held .used .records) end-of
+              ∙ ap (λ (ws : List Write). max (getD (m .store .lengths) f 0) (ownEnd (λ e. getD (m .store .filenumbers) e 0) f ws))
+              (writes-settled (m .store) (m .journal) (m .logs) t o choice)
+
+          pub reached-low : reached ≤ 4096
+          reached-low = rw reached-is end-low
+
+          -- what is read: "the smaller of n and" the transaction's length "less the offset"
+          abbrev pub places : Extent
+          places = extent f (offsetOf (standingAt x d)) (min n (reached - offsetOf (standingAt x d)))
+
+        module _ (journal : List ℕ) (ej : journal ≡ settledJournal (m .store) (m .journal) t choice) (e : Extent) (ee : e ≡ places journal ej) where
           abbrev pub bytes : List ℕ
           bytes = bytesOf (recorded journal (m .store .filenumbers)) t (held .used .records) (logPart (m .logs) t) (filePart (m .files) (e .file)) e
 
@@ -230,7 +331,7 @@ module _ (t d n : ℕ) (buffer : List ℕ) (m : Machine) (passes : admission (si
           marks = marksAfter (recorded journal (m .store .filenumbers)) t (held .used .records) (logPart (m .logs) t) (filePart (m .files) (e .file)) e (m .marks)
 
           places-are : e ≡ extent f from count
-          places-are = ee ∙ ap (λ (z : Standing). extent f (offsetOf z) (min n (4096 - offsetOf z))) standing-is
+          places-are = ee ∙ ap₂ (λ (z : Standing) (l : ℕ). extent f (offsetOf z) (min n (l - offsetOf z))) standing-is (reached-is journal ej)
 
           bytes-given : bytes ++ drop (e .length) buffer ≡ result v fetches ++ drop count buffer
           bytes-given = rw (ej, places-are) (ap (λ (l : List ℕ). l ++ drop count buffer) read-bytes)
@@ -238,23 +339,35 @@ module _ (t d n : ℕ) (buffer : List ℕ) (m : Machine) (passes : admission (si
           marks-set : marks ≡ marked t (asked v fetches) (m .marks)
           marks-set = rw (ej, places-are) read-marks
 
-          store-is : (z : Standing) → z ≡ afterRead (e .length) (standingAt x d)
-              → withTransaction t (withDescriptors (set (x .descriptors) d (record { standing = z; dirty = true })) x) (m .store) ≡ withTxn t finally (m .store)
-          unfolding settledTransaction
-          store-is z ez =
-              rw (ez ∙ ap₂ (λ (e : Extent) (z : Standing). afterRead (e .length) z) places-are standing-is, ex)
-              (sym (txn-settled-dirtied (m .store) (m .journal) (m .logs) t o choice d (afterRead count (meant .standing d)) (omega arith)))
+          -- The transaction at the end: the descriptor read through, and the length sighted where fewer bytes were given than wanted.
+          abbrev pub atEnd : Standing → ℕ → Transaction
+          atEnd z octet = withLengthmarks octet (withDescriptors (set (x .descriptors) d (record { standing = z; dirty = true })) x)
 
-          pub read-meets : (z : Standing) (marksThen reader : List ℕ) → z ≡ afterRead (e .length) (standingAt x d) → marksThen ≡ marks → reader ≡ bytes ++ drop (e .length) buffer
+          octet-is : (octet : ℕ) → octet ≡ cond (ltb (e .length) n) (withBit f (x .lengthmarks)) (x .lengthmarks) → octet ≡ lengthmarked sees (held .lengthmarks)
+          unfolding settledTransaction fileOf
+          octet-is octet eo =
+              eo
+              ∙ ap₂ (λ (k : ℕ) (y : Transaction). cond (ltb k n) (withBit f (y .lengthmarks)) (y .lengthmarks)) (ap (λ (e : Extent). e .length) places-are) ex
+              ∙ sym (lengths-on (held .lengthmarks))
+
+          store-is : (z : Standing) (octet : ℕ) → z ≡ afterRead (e .length) (standingAt x d) → octet ≡ cond (ltb (e .length) n) (withBit f (x .lengthmarks)) (x .lengthmarks)
+              → withTransaction t (atEnd z octet) (m .store) ≡ withTxn t finally sees (m .store)
+          unfolding settledTransaction sightingLengths
+          store-is z octet ez eo =
+              rw (ez ∙ ap₂ (λ (e : Extent) (z : Standing). afterRead (e .length) z) places-are standing-is, octet-is octet eo, ex)
+              (sym (txn-settled-dirtied (m .store) (m .journal) (m .logs) t o choice sees d (afterRead count (meant .standing d)) (omega arith)))
+
+          pub read-meets : (z : Standing) (octet : ℕ) (marksThen reader : List ℕ) → z ≡ afterRead (e .length) (standingAt x d)
+              → octet ≡ cond (ltb (e .length) n) (withBit f (x .lengthmarks)) (x .lengthmarks) → marksThen ≡ marks → reader ≡ bytes ++ drop (e .length) buffer
               → Meets (call (on t (read d n buffer)) m) (Given (e .length))
-              (lent (withTransaction t (withDescriptors (set (x .descriptors) d (record { standing = z; dirty = true })) x) (m .store)) journal (m .files) (m .logs) marksThen) reader
+              (lent (withTransaction t (atEnd z octet) (m .store)) journal (m .files) (m .logs) marksThen) reader
           unfolding said
-          read-meets z marksThen reader ez em er =
+          read-meets z octet marksThen reader ez eo em er =
               record {
                 outcome = ap (λ (e : Extent). given (e .length)) places-are ∙ sym (ap (λ (w : Turn). w .reply .answer) accepted);
                 machine =
-                    ap (λ (s : Store). lent s journal (m .files) (m .logs) marksThen) (store-is z ez)
-                    ∙ ap₂ (λ (j ms : List ℕ). lent (withTxn t finally (m .store)) j (m .files) (m .logs) ms)
+                    ap (λ (s : Store). lent s journal (m .files) (m .logs) marksThen) (store-is z octet ez eo)
+                    ∙ ap₂ (λ (j ms : List ℕ). lent (withTxn t finally sees (m .store)) j (m .files) (m .logs) ms)
                     (ej ∙ sym (journal-settled (m .store) (m .journal) (m .logs) t o choice)) (em ∙ marks-set)
                     ∙ sym (ap (λ (w : Turn). w .after) accepted);
                 reader = er ∙ bytes-given ∙ sym (ap (λ (w : Turn). w .reply .buffer) accepted);

@@ -1,6 +1,6 @@
-// The paper's numbers for bytes; a wider type; the smaller of two numbers.
+// The paper's numbers for bytes; a wider type; the smaller and the larger of two numbers, and what one has over the other.
 ghost use mathlib.Core.Path.{_≡_};
-ghost use Prim.Native.Nat.{_≤_, min};
+ghost use Prim.Native.Nat.{_-_, _≤_, min, max};
 
 // The bytes of a file, and of a transaction's log; as an offset, the end of a file.
 pub const FILE_BYTES: usize = 4096;
@@ -29,4 +29,23 @@ pub fn smaller(a: usize, b: usize) -> usize
         return a;
     }
     b
+}
+
+pub fn larger(a: usize, b: usize) -> usize
+    ensures { λ r. ⌜ r ≡ max a b ⌝ }
+{
+    if a < b {
+        return b;
+    }
+    a
+}
+
+// a less b, 0 where b is the larger.
+pub fn over(a: usize, b: usize) -> usize
+    ensures { λ r. ⌜ r ≡ a - b ⌝ }
+{
+    if a < b {
+        return 0;
+    }
+    a - b
 }

@@ -81,3 +81,12 @@ pub bits-none : (p : ℕ → Bool) (n : ℕ) → ((u : ℕ) → p u ≡ false) �
 unfolding bitsOf
 bits-none p zero h = refl
 bits-none p (suc n) h = sym (bits-without p n (h n)) ∙ bits-none p n h
+
+-- what is in it with a number more
+pub contains-with : (t x u : ℕ) → contains (withBit t x) u ≡ cond (eqb u t) true (contains x u)
+unfolding contains
+contains-with t x u = ap (λ (b : ℕ). eqb b 1) (bit-with u t x) ∙ pick (eqb u t)
+  where
+    pick : (b : Bool) → eqb (cond b 1 (bit u x)) 1 ≡ cond b true (eqb (bit u x) 1)
+    pick true = refl
+    pick false = refl

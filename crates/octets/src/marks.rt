@@ -5,7 +5,7 @@ ghost use mathlib.Core.Bool.{_||_};
 ghost use mathlib.Core.Path.{_≡_};
 ghost use Prim.Native.Nat.{ℕ, _+_, _<_, _≤_};
 ghost use lib.ListN.{length};
-ghost use Rattle.octets.specs.Bits.{withoutBit, changed};
+ghost use Rattle.octets.specs.Bits.{withBit, withoutBit, changed};
 ghost use Rattle.octets.specs.Marks.{withMarks, withoutMarks, hasMarkIn, contains};
 
 // Transaction t marks the n places from `from` on.
@@ -77,4 +77,12 @@ pub fn joined(a: u8, b: u8) -> u8
     ensures { λ r. ⌜ ((u : ℕ) → contains r u ≡ contains a u || contains b u) ⌝ }
 {
     a | b
+}
+
+// The set with t in it.
+pub fn with(octet: u8, t: usize) -> u8
+    requires { ⌜ t < 8 ⌝ }
+    ensures { λ r. ⌜ r ≡ withBit t octet ⌝ }
+{
+    octet | (1u8 << t)
 }

@@ -208,6 +208,7 @@ pub record TransactionInRange (x : Transaction) (journal : List ℕ) (t : ℕ) :
 pub record InRange (s : Store) (journal : List ℕ) : Type 0 where
   pub files : (d : ℕ) → d < 16 → getD (s .filenumbers) d 0 ≤ 7
   pub offsets : (d : ℕ) → d < 16 → getD (s .offsets) d 0 ≤ 4096
+  pub lengths : (f : ℕ) → f < 8 → getD (s .lengths) f 0 ≤ 4096
   pub transactions : (t : ℕ) → t < 8 → transaction s t .begun ≡ true → TransactionInRange (transaction s t) journal t
 
 module _ (x : Transaction) (journal : List ℕ) (t : ℕ) where
@@ -240,10 +241,14 @@ module _ (x : Transaction) (journal : List ℕ) (t : ℕ) where
 pub in-range : (s : Store) (journal : List ℕ) → storeIn s journal ≡ true → InRange s journal
 unfolding storeIn
 in-range s journal e =
-    let three = and-three (below (λ d. leb (getD (s .filenumbers) d 0) 7) 16) (below (λ d. leb (getD (s .offsets) d 0) 4096) 16) (below (λ t. transactionIn (transaction s t) journal t) 8) e in
+    let files = below (λ d. leb (getD (s .filenumbers) d 0) 7) 16 in
+    let offsets = below (λ d. leb (getD (s .offsets) d 0) 4096) 16 in
+    let lengths = below (λ f. leb (getD (s .lengths) f 0) 4096) 8 in
+    let three = and-three (files && offsets) lengths (below (λ t. transactionIn (transaction s t) journal t) 8) e in
     record {
-      files = λ d l. leb-true _ _ (below-at (λ d. leb (getD (s .filenumbers) d 0) 7) 16 d (three .0) l);
-      offsets = λ d l. leb-true _ _ (below-at (λ d. leb (getD (s .offsets) d 0) 4096) 16 d (three .1) l);
+      files = λ d l. leb-true _ _ (below-at (λ d. leb (getD (s .filenumbers) d 0) 7) 16 d (and-left files offsets (three .0)) l);
+      offsets = λ d l. leb-true _ _ (below-at (λ d. leb (getD (s .offsets) d 0) 4096) 16 d (and-right files offsets (three .0)) l);
+      lengths = λ f l. leb-true _ _ (below-at (λ f. leb (getD (s .lengths) f 0) 4096) 8 f (three .1) l);
       transactions = λ t l b. transaction-in (transaction s t) journal t (below-at (λ t. transactionIn (transaction s t) journal t) 8 t (three .2) l) b;
     }
 
@@ -252,8 +257,10 @@ unfolding storeIn
 in-range-intro s journal r =
     and-both _ _
     (and-both _ _
+    (and-both _ _
     (below-all (λ d. leb (getD (s .filenumbers) d 0) 7) 16 (λ d l. le-leb _ _ (r .files d l)))
     (below-all (λ d. leb (getD (s .offsets) d 0) 4096) 16 (λ d l. le-leb _ _ (r .offsets d l))))
+    (below-all (λ f. leb (getD (s .lengths) f 0) 4096) 8 (λ f l. le-leb _ _ (r .lengths f l))))
     (below-all (λ t. transactionIn (transaction s t) journal t) 8 (λ t l. transaction-in-intro (transaction s t) journal t (r .transactions t l)))
 
 -- What the ranges say of a write record: its descriptor, and its place under that descriptor's standing.

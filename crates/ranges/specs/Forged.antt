@@ -10,14 +10,23 @@ use Rattle.standings.specs.declared.Place.the-variants.{At, After}
 use Rattle.record.specs.declared.Transaction.{Transaction}
 use Rattle.record.specs.declared.Store.{Store}
 use Rattle.record.specs.declared.journal.WriteRecord.{WriteRecord}
-use Rattle.record.specs.State.{noDescriptor, ended, begun, withUsed, withDescriptors, withBegun}
+use Rattle.record.specs.State.{noDescriptor, ended, begun, withUsed, withDescriptors, withBegun, withLengths}
 use Rattle.record.specs.Journal.{withRecords}
 use Rattle.ranges.specs.Ranges.{storeIn}
 
 -- A store whose transaction 7 is x, with the file number of descriptor 15 and the offset of descriptor 15.
 unfoldable pub forged : ℕ → ℕ → Transaction → Store
 forged file offset x =
-    record { filenumbers = set (replicate 16 0) 15 file; offsets = set (replicate 16 0) 15 offset; transactions = set (replicate 8 ended) 7 x }
+    record {
+      filenumbers = set (replicate 16 0) 15 file;
+      offsets = set (replicate 16 0) 15 offset;
+      lengths = replicate 8 0;
+      transactions = set (replicate 8 ended) 7 x;
+    }
+
+-- One whose file 7 has this committed length.
+unfoldable pub lengthened : ℕ → Store
+lengthened n = withLengths (set (replicate 8 0) 7 n) (forged 0 0 ended)
 
 -- An open transaction whose descriptor 15 stands so, with n records and their bytes.
 unfoldable pub opened : Standing → ℕ → ℕ → Transaction
@@ -45,6 +54,8 @@ pub record Forged : Type 0 where
   pub file : (storeIn (forged 7 0 ended) [] ≡ true) × (storeIn (forged 8 0 ended) [] ≡ false)
   -- "committed offsets at most 4,096"
   pub offset : (storeIn (forged 0 4096 ended) [] ≡ true) × (storeIn (forged 0 4097 ended) [] ≡ false)
+  -- 02, F-8: "Check 2 covers lengths, at most 4,096."
+  pub length : (storeIn (lengthened 4096) [] ≡ true) × (storeIn (lengthened 4097) [] ≡ false)
   -- "offsets and advances of standings at most 4,096"
   pub standings :
       (storeIn (forged 0 0 (opened (Moved 4096 4096) 0 0)) [] ≡ true) × (storeIn (forged 0 0 (opened (Moved 0 4097) 0 0)) [] ≡ false)

@@ -59,11 +59,12 @@ journalIn x journal t =
 unfoldable pub transactionIn : Transaction → List ℕ → ℕ → Bool
 transactionIn x journal t = not (x .begun) || (below (λ d. standingIn (standingAt x d)) 16 && journalIn x journal t)
 
--- "files at most 7; committed offsets at most 4,096; and in each open transaction .."
+-- "files at most 7; committed offsets at most 4,096; and in each open transaction .."; 02, F-8: "Check 2 covers lengths, at most 4,096."
 unfoldable pub storeIn : Store → List ℕ → Bool
 storeIn s journal =
     below (λ d. leb (getD (s .filenumbers) d 0) 7) 16
     && below (λ d. leb (getD (s .offsets) d 0) 4096) 16
+    && below (λ f. leb (getD (s .lengths) f 0) 4096) 8
     && below (λ t. transactionIn (transaction s t) journal t) 8
 
 -- The number of a refusal when a test fails, otherwise what the later tests say; 0 stands for none.

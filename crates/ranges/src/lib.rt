@@ -6,6 +6,7 @@ use numbers::FILE_END;
 use numbers::wide;
 use numbers::wide_octet;
 use record::DESCRIPTORS;
+use record::FILES;
 use record::Store;
 use record::TRANSACTIONS;
 use record::Transaction;
@@ -57,6 +58,20 @@ fn offsets_in(offsets: &[u16; DESCRIPTORS]) -> bool
             return false;
         }
         d += 1;
+    }
+    true
+}
+
+// The committed lengths of the eight files are at most 4,096.
+fn lengths_in(lengths: &[u16; FILES]) -> bool
+    ensures { λ r. ⌜ r ≡ below (λ f. leb (getD (now (lengths .entry)) f 0) 4096) 8 ⌝ }
+{
+    let mut f = 0;
+    while f < FILES {
+        if lengths[f] > FILE_END {
+            return false;
+        }
+        f += 1;
     }
     true
 }
@@ -192,6 +207,9 @@ fn store_in(s: Store, journal: &[u16; NUMBERS]) -> bool
         return false;
     }
     if !offsets_in(&s.offsets) {
+        return false;
+    }
+    if !lengths_in(&s.lengths) {
         return false;
     }
     let mut t = 0;

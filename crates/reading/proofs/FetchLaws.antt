@@ -13,11 +13,11 @@ use Rattle.octets.proofs.PartLaws.{pasted-none, pasted-append}
 use Rattle.octets.proofs.MarkLaws.{with-marks-none, with-marks-first}
 use Rattle.ranges.specs.Ranges.{lengthsBefore}
 use Rattle.rules.proofs.Serial.Programs.{result-andThen, asked-andThen}
-use Rattle.rules.specs.Items.{Item, byte, offset, Values, Prog, done, andThen, result, asked}
+use Rattle.rules.specs.Items.{Item, byte, offset, fileLength, Values, Prog, done, andThen, result, asked}
 use Rattle.rules.specs.Reading.{Source, own, file, latest, bring, fetch}
 use Rattle.rules.specs.Transactions.{Write}
 use Rattle.rules.specs.Calls.{marked}
-use Rattle.rules.specs.Machine.{tabulate}
+use Rattle.rules.specs.Machine.{tabulate, lengthmarked}
 use Rattle.runs.specs.declared.Extent.{Extent}
 use Rattle.runs.specs.declared.Run.{Run}
 use Rattle.runs.specs.declared.Supplier.{Supplier}
@@ -141,11 +141,28 @@ module _ (v w : Values) (fileOf : ℕ → ℕ) (ws : List Write) (f : ℕ) where
 
 -- ---- marks
 
-marked-append : (t : ℕ) (is js : List Item) (marks : List ℕ) → marked t (is ++ js) marks ≡ marked t js (marked t is marks)
+pub marked-append : (t : ℕ) (is js : List Item) (marks : List ℕ) → marked t (is ++ js) marks ≡ marked t js (marked t is marks)
 unfolding marked
 marked-append t [] js marks = refl
 marked-append t (byte q ∷ is) js marks = marked-append t is js (withMark t q marks)
 marked-append t (offset d ∷ is) js marks = marked-append t is js marks
+marked-append t (fileLength g ∷ is) js marks = marked-append t is js marks
+
+-- A fetch sights no length.
+lengths-bring : (v : Values) (s : Source) (q : ℕ) (is : List Item) (n : ℕ) → lengthmarked (asked v (bring s q) ++ is) n ≡ lengthmarked is n
+unfolding bring asked lengthmarked
+lengths-bring v (own b) q is n = refl
+lengths-bring v file q is n = refl
+
+pub lengths-fetch : (v : Values) (fileOf : ℕ → ℕ) (ws : List Write) (f p m : ℕ) (is : List Item) (n : ℕ)
+    → lengthmarked (asked v (fetch fileOf ws f p m) ++ is) n ≡ lengthmarked is n
+lengths-fetch v fileOf ws f p zero is n = unfold fetch asked in refl
+lengths-fetch v fileOf ws f p (suc m) is n =
+    let here = asked v (one v fileOf ws f p) in
+    ap (λ (l : List Item). lengthmarked (l ++ is) n) (asked-suc v fileOf ws f p m)
+    ∙ ap (λ (l : List Item). lengthmarked l n) (append-assoc here (asked v (fetch fileOf ws f (suc p) m)) is)
+    ∙ lengths-bring v (latest fileOf f p ws) (4096 * f + p) (asked v (fetch fileOf ws f (suc p) m) ++ is) n
+    ∙ lengths-fetch v fileOf ws f (suc p) m is n
 
 module _ (v : Values) (fileOf : ℕ → ℕ) (ws : List Write) (f t : ℕ) where
   -- where the file supplies each byte, the stretch is marked

@@ -5,7 +5,7 @@ use lib.ListN.{length, getD}
 use Prim.Native.Nat.{ℕ, _+_, _-_, _*_, _≤_, _<_}
 use Rattle.counters.specs.declared.Used.{Used}
 use Rattle.octets.specs.Parts.{cut}
-use Rattle.rules.specs.Items.{Values, byte, offset, Prog, result, asked}
+use Rattle.rules.specs.Items.{Values, byte, offset, fileLength, Prog, result, asked}
 use Rattle.rules.specs.Reading.{fetch}
 use Rattle.rules.specs.Machine.{tabulate}
 use Rattle.rules.specs.Calls.{marked}
@@ -16,6 +16,7 @@ use Rattle.runs.specs.Runs.{Recorded, Counted, writeIn}
 unfoldable pub fileValues : ℕ → List ℕ → Values
 fileValues f file (byte q) = getD file (q - 4096 * f) 0
 fileValues f file (offset d) = 0
+fileValues f file (fileLength g) = 0
 
 -- The bytes of these places, as transaction t with so many write records sees them.
 unfoldable pub fetching : Recorded → ℕ → ℕ → List ℕ → Extent → Prog (List ℕ)

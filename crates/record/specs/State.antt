@@ -16,26 +16,36 @@ use Rattle.record.specs.declared.Store.{Store}
 abbrev pub noDescriptor : Descriptor
 noDescriptor = record { standing = Untouched; dirty = false }
 
--- "an ended transaction has an empty log, sixteen Untouched descriptors and is not stale"
+-- "an ended transaction has an empty log, sixteen Untouched descriptors and is not stale"; it has sighted no length.
 unfoldable pub ended : Transaction
-ended = record { begun = false; stale = false; used = record { records = 0; bytes = 0 }; descriptors = replicate 16 noDescriptor }
+ended =
+    record {
+      begun = false;
+      stale = false;
+      lengthmarks = 0;
+      used = record { records = 0; bytes = 0 };
+      descriptors = replicate 16 noDescriptor;
+    }
 
 -- What stands in an array of transactions past its end.
 abbrev pub noTransaction : Transaction
-noTransaction = record { begun = false; stale = false; used = record { records = 0; bytes = 0 }; descriptors = [] }
+noTransaction = record { begun = false; stale = false; lengthmarks = 0; used = record { records = 0; bytes = 0 }; descriptors = [] }
 
 -- A transaction with another value in one field.
 abbrev pub withBegun : Bool → Transaction → Transaction
-withBegun b x = record { begun = b; stale = x .stale; used = x .used; descriptors = x .descriptors }
+withBegun b x = record { begun = b; stale = x .stale; lengthmarks = x .lengthmarks; used = x .used; descriptors = x .descriptors }
 
 abbrev pub withStale : Bool → Transaction → Transaction
-withStale b x = record { begun = x .begun; stale = b; used = x .used; descriptors = x .descriptors }
+withStale b x = record { begun = x .begun; stale = b; lengthmarks = x .lengthmarks; used = x .used; descriptors = x .descriptors }
+
+abbrev pub withLengthmarks : ℕ → Transaction → Transaction
+withLengthmarks n x = record { begun = x .begun; stale = x .stale; lengthmarks = n; used = x .used; descriptors = x .descriptors }
 
 abbrev pub withUsed : Used → Transaction → Transaction
-withUsed u x = record { begun = x .begun; stale = x .stale; used = u; descriptors = x .descriptors }
+withUsed u x = record { begun = x .begun; stale = x .stale; lengthmarks = x .lengthmarks; used = u; descriptors = x .descriptors }
 
 abbrev pub withDescriptors : List Descriptor → Transaction → Transaction
-withDescriptors ds x = record { begun = x .begun; stale = x .stale; used = x .used; descriptors = ds }
+withDescriptors ds x = record { begun = x .begun; stale = x .stale; lengthmarks = x .lengthmarks; used = x .used; descriptors = ds }
 
 -- "Begin gives an empty log, sixteen Untouched descriptors, no marks, not stale."
 unfoldable pub begun : Transaction
@@ -52,10 +62,13 @@ dirtyAt x d = getD (x .descriptors) d noDescriptor .dirty
 -- ---- the store
 
 abbrev pub withOffsets : List ℕ → Store → Store
-withOffsets os s = record { filenumbers = s .filenumbers; offsets = os; transactions = s .transactions }
+withOffsets os s = record { filenumbers = s .filenumbers; offsets = os; lengths = s .lengths; transactions = s .transactions }
+
+abbrev pub withLengths : List ℕ → Store → Store
+withLengths ls s = record { filenumbers = s .filenumbers; offsets = s .offsets; lengths = ls; transactions = s .transactions }
 
 abbrev pub withTransactions : List Transaction → Store → Store
-withTransactions xs s = record { filenumbers = s .filenumbers; offsets = s .offsets; transactions = xs }
+withTransactions xs s = record { filenumbers = s .filenumbers; offsets = s .offsets; lengths = s .lengths; transactions = xs }
 
 -- Transaction t of the store, and the store with another in its place.
 abbrev pub transaction : Store → ℕ → Transaction

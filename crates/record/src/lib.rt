@@ -13,6 +13,8 @@ ghost use Prim.Native.Nat.{_<_};
 
 pub const DESCRIPTORS: usize = 16;
 
+pub const FILES: usize = 8;
+
 pub const TRANSACTIONS: usize = 8;
 
 // The standing of a descriptor, and whether the transaction made an accepted Seek, Read or Write on it: then it is dirty, and
@@ -22,17 +24,20 @@ pub struct Descriptor {
     pub dirty: bool,
 }
 
+// lengthmarks has bit f (worth 2 to the power f) set where the transaction has sighted the length of file f.
 pub struct Transaction {
     pub begun: bool,
     pub stale: bool,
+    pub lengthmarks: u8,
     pub used: Used,
     pub descriptors: [Descriptor; DESCRIPTORS],
 }
 
-// The file number and the committed offset of each descriptor, and the transactions.
+// The file number and the committed offset of each descriptor, the committed length of each file, and the transactions.
 pub struct Store {
     pub filenumbers: [u8; DESCRIPTORS],
     pub offsets: [u16; DESCRIPTORS],
+    pub lengths: [u16; FILES],
     pub transactions: [Transaction; TRANSACTIONS],
 }
 
@@ -50,7 +55,7 @@ impl Descriptor {
 }
 
 impl Transaction {
-    // A transaction that has ended: an empty log, sixteen Untouched descriptors, none dirty, not stale.
+    // A transaction that has ended: an empty log, sixteen Untouched descriptors, none dirty, not stale, no length sighted.
     pub fn ended() -> Transaction
         ensures { λ r. ⌜ r ≡ endedTransaction ⌝ }
     {
@@ -61,6 +66,7 @@ impl Transaction {
         Transaction {
             begun: false,
             stale: false,
+            lengthmarks: 0,
             used: Used {
                 records: 0,
                 bytes: 0,
@@ -94,6 +100,7 @@ pub fn blank() -> Store {
     Store {
         filenumbers: [0; DESCRIPTORS],
         offsets: [0; DESCRIPTORS],
+        lengths: [0; FILES],
         transactions: [x; TRANSACTIONS],
     }
 }

@@ -172,7 +172,7 @@ module _ (t : ℕ) (o : Op) (m : Machine) (passes : admission (sizes m) (m .stor
         → call (on t o) m
         ≡ record {
           reply = record { answer = a; buffer = buffer };
-          after = withStore (withTxn t y (m .store)) (withJournal (journalled t (y .writes) (m .journal)) (withLogs (logged t o (m .store) (m .logs)) m));
+          after = withStore (withTxn t y [] (m .store)) (withJournal (journalled t (y .writes) (m .journal)) (withLogs (logged t o (m .store) (m .logs)) m));
         }
     unfolding served result asked marked
     on-accepted y a buffer e =

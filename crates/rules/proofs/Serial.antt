@@ -2,8 +2,10 @@
 pub mod Alone
 pub mod Commits
 pub mod FirstHalf
+pub mod Gathers
 pub mod Invariant
 pub mod Known
+pub mod Lengths
 pub mod Lists
 pub mod Lone
 pub mod Moments

@@ -2,11 +2,13 @@
 pub mod Accepted
 pub mod Admissions
 pub mod Asked
+pub mod Chosen
 pub mod Conflicts
 pub mod Decode
 pub mod Encode
 pub mod EndTurns
 pub mod Endings
+pub mod Ends
 pub mod FreshView
 pub mod Grants
 pub mod Kept
@@ -21,3 +23,4 @@ pub mod Shape
 pub mod StandingRanges
 pub mod StepTurn
 pub mod Tables
+pub mod Zeros

@@ -4,7 +4,7 @@ use mathlib.Core.List.{List}
 use mathlib.Core.Path.{_≡_}
 use lib.ListN.{length}
 use Prim.Native.Nat.{ℕ, _≤_}
-use Rattle.record.specs.State.{transaction, withOffsets}
+use Rattle.record.specs.State.{transaction, withOffsets, withLengths}
 use Rattle.rules.specs.Messages.{Call}
 use Rattle.rules.specs.Machine.{Machine, withStore, withFiles, fileOf, values}
 use Rattle.rules.specs.Calls.{freshStore, freshMachine, callsAfter, callsReplies}
@@ -20,13 +20,13 @@ pub record AtRest (m : Machine) : Type 0 where
   pub reached : m ≡ callsAfter calls first
   pub closed : (t : ℕ) → t ≤ 7 → transaction (m .store) t .begun ≡ false
 
--- One made fresh, with other logs, and given the same files and offsets.
+-- One made fresh, with other logs, and given the same files, offsets and lengths.
 unfoldable pub rejuvenated : Machine → List ℕ → Machine
 rejuvenated m logs =
-    withStore (withOffsets (m .store .offsets) (freshStore (m .store .filenumbers)))
+    withStore (withOffsets (m .store .offsets) (withLengths (m .store .lengths) (freshStore (m .store .filenumbers))))
     (withFiles (m .files) (freshMachine (m .store .filenumbers) logs))
 
--- Two stores answer a list of calls alike, reply for reply and byte for byte, and end with the same files and offsets.
+-- Two stores answer a list of calls alike, reply for reply and byte for byte, and end with the same files, offsets and lengths.
 pub record Alike (cs : List Call) (m n : Machine) : Type 0 where
   pub replies : callsReplies cs m ≡ callsReplies cs n
   pub left : values (callsAfter cs m .store) (callsAfter cs m .files) ≡ values (callsAfter cs n .store) (callsAfter cs n .files)

@@ -6,6 +6,7 @@ use Prim.Native.Nat.{ℕ, _≤_}
 use Rattle.octets.specs.Marks.{hasMark}
 use Rattle.record.specs.declared.outcomes.Refusal.the-variants.{Stale}
 use Rattle.record.specs.Paper.{number, plain, granted, refused}
+use Rattle.record.specs.State.{transaction}
 use Rattle.rules.specs.Messages.{seek, write, getFilePointer, read, Call, begin, on, commit, abort, places}
 use Rattle.rules.specs.Machine.{Machine}
 use Rattle.rules.specs.Calls.{fresh, call}
@@ -27,9 +28,10 @@ isCommit (commit t) = true
 isCommit (abort t) = false
 isCommit (places t f out) = false
 
--- Transaction t has no mark.
-abbrev pub Unmarked : ℕ → Machine → Type 0
-Unmarked t m = (q : ℕ) → hasMark (m .marks) t q ≡ false
+-- Transaction t has no mark, and has sighted no length.
+pub record Unmarked (t : ℕ) (m : Machine) : Type 0 where
+  pub bytes : (q : ℕ) → hasMark (m .marks) t q ≡ false
+  pub lengths : transaction (m .store) t .lengthmarks ≡ 0
 
 pub record Buffers (m : Machine) : Type 0 where
   -- "A Write puts its bytes in its log directly after the data used. No other call touches a log byte."

@@ -7,15 +7,15 @@ use lib.ListN.{set, replicate}
 use Prim.Native.Nat.{ℕ, zero, suc, _+_, _*_}
 use Rattle.octets.specs.Parts.{pasted}
 use Rattle.octets.specs.Bits.{bitsOf, countOf}
-use Rattle.octets.specs.Marks.{hasMark, withMark, withoutMarks}
+use Rattle.octets.specs.Marks.{hasMark, withMark, withoutMarks, contains}
 use Rattle.record.specs.declared.Store.{Store}
 use Rattle.record.specs.declared.Transaction.{Transaction}
 use Rattle.record.specs.declared.outcomes.Refusal.the-variants.{Stale}
-use Rattle.record.specs.State.{transaction, standingAt, ended, begun, withStale, withOffsets, withTransactions, withTransaction}
+use Rattle.record.specs.State.{transaction, standingAt, ended, begun, withStale, withOffsets, withLengths, withTransactions, withTransaction}
 use Rattle.record.specs.Paper.{number, Said, plain, granted, refused}
 use Rattle.ranges.specs.Below.{guarded, isNone}
 use Rattle.ranges.specs.Ranges.{admission, admissionOfBegin, admissionOfFresh}
-use Rattle.rules.specs.Items.{Item, byte, offset, result, asked}
+use Rattle.rules.specs.Items.{Item, byte, offset, fileLength, result, asked}
 use Rattle.standings.specs.Table.{isKnown}
 use Rattle.rules.specs.Messages.{Op, seek, write, getFilePointer, read, bufferOf}
 use Rattle.rules.specs.Steps.{Stepped, refuse, accept, step, turnedBack}
@@ -40,12 +40,13 @@ turnDown n buffer m = record { reply = record { answer = refused n; buffer = buf
 unfoldable pub passing : ℕ → List ℕ → Machine → Turn → Turn
 passing n buffer m next = guarded (λ k. turnDown k buffer m) (isNone n) n next
 
--- "Every file byte, mark and offset is 0, nothing is open; the log buffer is left as found."
+-- "Every file byte, mark and offset is 0, nothing is open; the log buffer is left as found." 02, F-8: a length is "0 when fresh".
 unfoldable pub freshStore : List ℕ → Store
 freshStore numbers =
     record {
       filenumbers = numbers;
       offsets = replicate 16 0;
+      lengths = replicate 8 0;
       transactions = replicate 8 ended;
     }
 
@@ -76,6 +77,7 @@ unfoldable pub marked : ℕ → List Item → List ℕ → List ℕ
 marked t [] marks = marks
 marked t (byte q ∷ is) marks = marked t is (withMark t q marks)
 marked t (offset d ∷ is) marks = marked t is marks
+marked t (fileLength f ∷ is) marks = marked t is marks
 
 -- "A Write puts its bytes in its log directly after the data used. No other call touches a log byte."
 unfoldable pub logged : ℕ → Op → Store → List ℕ → List ℕ
@@ -91,7 +93,7 @@ served t o m is (accept y a buffer) =
     record {
       reply = record { answer = a; buffer = buffer };
       after =
-          withStore (withTxn t y (m .store))
+          withStore (withTxn t y is (m .store))
           (withJournal (journalled t (y .writes) (m .journal))
           (withLogs (logged t o (m .store) (m .logs))
           (withMarking (marked t is (m .marks)) m)));
@@ -103,10 +105,11 @@ stepTurn t o m =
     let p = step (fileOf (m .store)) o (txnOf (m .store) (m .journal) (m .logs) t) in
     served t o m (asked v p) (turnedBack (transaction (m .store) t .stale) o (result v p))
 
--- Settings put into the files buffer, and into the committed offsets.
+-- Settings put into the files buffer, into the committed offsets, and into the committed lengths.
 unfoldable pub landByte : Item → ℕ → List ℕ → List ℕ
 landByte (byte q) n files = set files q n
 landByte (offset d) n files = files
+landByte (fileLength f) n files = files
 
 unfoldable pub landFiles : List Setting → List ℕ → List ℕ
 landFiles [] files = files
@@ -115,17 +118,30 @@ landFiles (s ∷ ss) files = landFiles ss (landByte (s .item) (s .to) files)
 unfoldable pub landOffset : Item → ℕ → List ℕ → List ℕ
 landOffset (byte q) n offsets = offsets
 landOffset (offset d) n offsets = set offsets d n
+landOffset (fileLength f) n offsets = offsets
 
 unfoldable pub landOffsets : List Setting → List ℕ → List ℕ
 landOffsets [] offsets = offsets
 landOffsets (s ∷ ss) offsets = landOffsets ss (landOffset (s .item) (s .to) offsets)
 
--- Whether transaction u, as x, has sighted an item: a marked byte, or the offset of a descriptor that stands Known.
+unfoldable pub landLength : Item → ℕ → List ℕ → List ℕ
+landLength (byte q) n lengths = lengths
+landLength (offset d) n lengths = lengths
+landLength (fileLength f) n lengths = set lengths f n
+
+unfoldable pub landLengths : List Setting → List ℕ → List ℕ
+landLengths [] lengths = lengths
+landLengths (s ∷ ss) lengths = landLengths ss (landLength (s .item) (s .to) lengths)
+
+-- Whether transaction u, as x, has sighted an item: a marked byte, the offset of a descriptor that stands Known, or a length whose bit is
+-- set.
 unfoldable pub hasSighted : List ℕ → ℕ → Transaction → Item → Bool
 hasSighted marks u x (byte q) = hasMark marks u q
 hasSighted marks u x (offset d) = isKnown (standingAt x d)
+hasSighted marks u x (fileLength f) = contains (x .lengthmarks) f
 
--- "has sighted a byte or offset just set"
+-- "has sighted a byte or offset just set"; 02, F-8: "a commit that raises a length sets it, and every other open transaction that has
+-- sighted it is stale from then on".
 unfoldable pub conflicts : List ℕ → ℕ → Transaction → List Setting → Bool
 conflicts marks u x [] = false
 conflicts marks u x (s ∷ ss) = hasSighted marks u x (s .item) || conflicts marks u x ss
@@ -151,7 +167,10 @@ commitGranted t ss m =
     record {
       reply = record { answer = granted (bitsOf (becomesStale t (m .marks) ss s) 8); buffer = [] };
       after =
-          withStore (withOffsets (landOffsets ss (s .offsets)) (withTransactions (tabulate (afterCommit t (m .marks) ss s) 8) s))
+          withStore
+          (withOffsets (landOffsets ss (s .offsets))
+          (withLengths (landLengths ss (s .lengths))
+          (withTransactions (tabulate (afterCommit t (m .marks) ss s) 8) s)))
           (withFiles (landFiles ss (m .files))
           (withMarking (withoutMarks t (m .marks)) m));
     }

@@ -1,14 +1,16 @@
 -- Paper 01, "Commit and Abort": what a commit sets.
 use mathlib.Core.Bool.{Bool, cond, _&&_}
 use mathlib.Core.List.{List, [], _∷_, _++_}
-use lib.Dec.{leb}
+use lib.Dec.{leb, ltb}
+use lib.ListN.{length}
 use Prim.Native.Nat.{ℕ, zero, suc, _+_, _*_}
 use Rattle.standings.specs.declared.Place.{Place}
 use Rattle.standings.specs.declared.Place.the-variants.{At, After}
 use Rattle.ranges.specs.Below.{below}
-use Rattle.rules.specs.Items.{Item, byte, offset, same, Values}
+use Rattle.rules.specs.Items.{Item, byte, offset, fileLength, same, Values}
 use Rattle.standings.specs.Table.{advance, isTouched, finalOffset}
 use Rattle.rules.specs.Transactions.{Txn, Write}
+use Rattle.rules.specs.Reading.{writeEnd, farthest}
 
 -- An item, and the value that a commit sets it to.
 pub record Setting : Type 0 where
@@ -42,9 +44,20 @@ offsetSettings v x (suc d) =
     offsetSettings v x d
     ++ cond (setsOffset x d) (record { item = offset d; to = finalOffset (v (offset d)) (x .standing d) } ∷ []) []
 
+-- 02, F-8: "a granted write of at least one byte raises it to the write's end": how far the writes reach in file f as they land.
+unfoldable pub landedEnd : (ℕ → ℕ) → Values → ℕ → List Write → ℕ
+landedEnd fileOf v f ws = farthest fileOf f (λ w. writeEnd (landsAt (v (offset (w .descriptor))) (w .place)) (length (w .bytes))) ws
+
+-- "a commit that raises a length sets it", and no other does: the lengths of the first n files.
+unfoldable pub lengthSettings : (ℕ → ℕ) → Values → List Write → ℕ → List Setting
+lengthSettings fileOf v ws zero = []
+lengthSettings fileOf v ws (suc f) =
+    lengthSettings fileOf v ws f
+    ++ cond (ltb (v (fileLength f)) (landedEnd fileOf v f ws)) (record { item = fileLength f; to = landedEnd fileOf v f ws } ∷ []) []
+
 -- All that a commit sets, in order: landing, setters and staleness go by this one list.
 unfoldable pub settings : (ℕ → ℕ) → Values → Txn → List Setting
-settings fileOf v x = byteSettings fileOf v (x .writes) ++ offsetSettings v x 16
+settings fileOf v x = byteSettings fileOf v (x .writes) ++ (offsetSettings v x 16 ++ lengthSettings fileOf v (x .writes) 8)
 
 -- 12: "settling, or Commit's placing, takes committed offset plus advance above 4,096". Commit's placing passes.
 unfoldable pub fits : Values → Txn → Bool

@@ -7,14 +7,27 @@ use lib.ListN.{replicate}
 use Prim.Native.Nat.{ℕ}
 use Rattle.standings.specs.declared.Standing.{Standing}
 use Rattle.standings.specs.declared.Standing.the-variants.{Untouched, Deferred}
+use Rattle.standings.specs.declared.Place.{Place}
+use Rattle.standings.specs.declared.Place.the-variants.{At, After}
 use Rattle.record.specs.Paper.{plain, pointer, granted, refused}
-use Rattle.rules.specs.Items.{byte, offset, result}
+use Rattle.rules.specs.Items.{byte, offset, fileLength, result}
 use Rattle.rules.specs.Messages.{seek, write, getFilePointer, read, begin, on, commit, abort, places, says}
-use Rattle.rules.specs.Transactions.{Txn}
+use Rattle.rules.specs.Transactions.{Txn, Write}
+use Rattle.rules.specs.Reading.{ownEnd}
 use Rattle.rules.specs.Steps.{Stepped, refuse, accept, step}
 use Rattle.rules.specs.Commits.{settings, fits}
 use Rattle.rules.specs.Setup.{Seen, Exchange, _⇒_, callsOf, Goes, formerNumbers, sighted, committedBytes, beginning, sightingsOf, gives, refusesWith, lists, begins, A, B, C, X, Y, Z, dot}
 use Rattle.rules.specs.Situations.{toldK, toldL}
+
+-- Before the others, T7 commits two zeros at the front of file 0, and the offset 0 of descriptor 0.
+unfoldable pub twoZeros : List Exchange
+twoZeros =
+    begin 7 ⇒ says plain
+    ∷ on 7 (seek 0 0) ⇒ says plain
+    ∷ on 7 (write 0 (0 ∷ 0 ∷ [])) ⇒ says plain
+    ∷ on 7 (seek 0 0) ⇒ says plain
+    ∷ commit 7 ⇒ says (granted 0)
+    ∷ []
 
 -- "Checked in this order, save that 13 comes before 12": T0 is stale by the offset of 1, and its write on 0 would run past the end.
 unfoldable pub toldStaleFirst : List Exchange
@@ -72,7 +85,8 @@ toldMovedStale =
 -- "The notes, read to the letter, would settle untouched descriptors too; that is not done": 8 is Untouched when T0 reads through 0.
 unfoldable pub toldNeighbour : List Exchange
 toldNeighbour =
-    begins
+    twoZeros
+    ++ begins
     ++ on 0 (seek 0 0) ⇒ says plain
     ∷ on 0 (read 0 1 (dot ∷ [])) ⇒ gives 1 (0 ∷ [])
     ∷ []
@@ -186,7 +200,8 @@ toldTurnedBack =
 -- other stale.
 unfoldable pub toldStaysOpen : List Exchange
 toldStaysOpen =
-    begins
+    twoZeros
+    ++ begins
     ++ on 0 (seek 0 0) ⇒ says plain
     ∷ on 0 (read 0 1 (dot ∷ [])) ⇒ gives 1 (0 ∷ [])
     ∷ on 1 (seek 8 0) ⇒ says plain
@@ -220,7 +235,8 @@ toldReadsAgain =
 -- "A number begun again is a new transaction": what T0 sighted before its Commit, and T2 before its Abort, makes neither stale.
 unfoldable pub toldBegunAgain : List Exchange
 toldBegunAgain =
-    begins
+    twoZeros
+    ++ begins
     ++ on 0 (getFilePointer 0) ⇒ says (pointer 0)
     ∷ on 2 (read 0 1 (dot ∷ [])) ⇒ gives 1 (0 ∷ [])
     ∷ abort 2 ⇒ says plain
@@ -322,7 +338,8 @@ toldTwoAppends =
 -- A write in file 1 does not show in file 0.
 unfoldable pub toldOtherFile : List Exchange
 toldOtherFile =
-    begins
+    twoZeros
+    ++ begins
     ++ on 0 (seek 1 0) ⇒ says plain
     ∷ on 0 (write 1 (A ∷ [])) ⇒ says plain
     ∷ on 0 (seek 0 0) ⇒ says plain
@@ -342,8 +359,8 @@ toldKnown =
     ∷ on 0 (write 0 (C ∷ [])) ⇒ says plain
     ∷ on 0 (getFilePointer 0) ⇒ says (pointer 6)
     ∷ on 0 (seek 0 3) ⇒ says plain
-    ∷ on 0 (read 0 4 (dot ∷ dot ∷ dot ∷ dot ∷ [])) ⇒ gives 4 (A ∷ B ∷ C ∷ 0 ∷ [])
-    ∷ on 0 (getFilePointer 0) ⇒ says (pointer 7)
+    ∷ on 0 (read 0 4 (dot ∷ dot ∷ dot ∷ dot ∷ [])) ⇒ gives 3 (A ∷ B ∷ C ∷ dot ∷ [])
+    ∷ on 0 (getFilePointer 0) ⇒ says (pointer 6)
     ∷ commit 0 ⇒ says (granted 0)
     ∷ []
 
@@ -352,10 +369,11 @@ unfoldable pub toldPlaced : List Exchange
 toldPlaced =
     begins
     ++ on 0 (seek 0 3) ⇒ says plain
-    ∷ on 0 (write 0 (A ∷ B ∷ [])) ⇒ says plain
+    ∷ on 0 (write 0 (A ∷ B ∷ C ∷ [])) ⇒ says plain
+    ∷ on 0 (getFilePointer 0) ⇒ says (pointer 6)
+    ∷ on 0 (seek 0 3) ⇒ says plain
+    ∷ on 0 (read 0 2 (dot ∷ dot ∷ [])) ⇒ gives 2 (A ∷ B ∷ [])
     ∷ on 0 (getFilePointer 0) ⇒ says (pointer 5)
-    ∷ on 0 (read 0 2 (dot ∷ dot ∷ [])) ⇒ gives 2 (0 ∷ 0 ∷ [])
-    ∷ on 0 (getFilePointer 0) ⇒ says (pointer 7)
     ∷ []
 
 -- Moved keeps its advance and takes each Seek and Write on its offset. 12: "settling, or Commit's placing, takes committed offset
@@ -431,7 +449,8 @@ toldFifteenSet =
 -- "A call's sightings are listed settled offsets first, by descriptor, then bytes by place": 0 and 8 stand Deferred.
 unfoldable pub toldInOrder : List Exchange
 toldInOrder =
-    begins
+    twoZeros
+    ++ begins
     ++ on 0 (write 0 []) ⇒ says plain
     ∷ on 0 (write 8 []) ⇒ says plain
     ∷ on 0 (read 8 2 (dot ∷ dot ∷ [])) ⇒ gives 2 (0 ∷ 0 ∷ [])
@@ -440,7 +459,8 @@ toldInOrder =
 -- A descriptor that stands Known is not sighted again.
 unfoldable pub toldKnownOnce : List Exchange
 toldKnownOnce =
-    begins
+    twoZeros
+    ++ begins
     ++ on 0 (read 0 1 (dot ∷ [])) ⇒ gives 1 (0 ∷ [])
     ∷ on 0 (read 0 1 (dot ∷ [])) ⇒ gives 1 (0 ∷ [])
     ∷ []
@@ -506,9 +526,117 @@ toldOctet =
     ∷ commit 7 ⇒ says (granted 1)
     ∷ []
 
+-- F-8: "A Read that gave fewer bytes than wanted sights the length": T0's gives nothing. T1 writes from place 1 on, so that the length is 2
+-- and byte 0 is set by nobody: run alone T0 would now sight byte 0, whose setter is 0 as the length's was; entries of unlike kind differ.
+unfoldable pub toldNothingGiven : List Exchange
+toldNothingGiven =
+    begins
+    ++ on 0 (seek 0 0) ⇒ says plain
+    ∷ on 0 (read 0 1 (dot ∷ [])) ⇒ gives 0 (dot ∷ [])
+    ∷ []
+
+unfoldable pub toldNothingGivenStale : List Exchange
+toldNothingGivenStale =
+    toldNothingGiven
+    ++ on 1 (seek 8 1) ⇒ says plain
+    ∷ on 1 (write 8 (X ∷ [])) ⇒ says plain
+    ∷ commit 1 ⇒ says (granted 1)
+    ∷ commit 0 ⇒ says (refused 13)
+    ∷ []
+
+-- So it does where it ends at an own write.
+unfoldable pub toldOwnEnd : List Exchange
+toldOwnEnd =
+    begins
+    ++ on 0 (seek 0 0) ⇒ says plain
+    ∷ on 0 (write 0 (A ∷ B ∷ [])) ⇒ says plain
+    ∷ on 0 (seek 0 0) ⇒ says plain
+    ∷ on 0 (read 0 3 (dot ∷ dot ∷ dot ∷ [])) ⇒ gives 2 (A ∷ B ∷ dot ∷ [])
+    ∷ []
+
+unfoldable pub toldOwnEndStale : List Exchange
+toldOwnEndStale =
+    toldOwnEnd
+    ++ on 1 (seek 8 5) ⇒ says plain
+    ∷ on 1 (write 8 (X ∷ [])) ⇒ says plain
+    ∷ commit 1 ⇒ says (granted 1)
+    ∷ commit 0 ⇒ says (refused 13)
+    ∷ []
+
+-- A Read that gave all the bytes wanted sights no length: T1 may raise it.
+unfoldable pub toldFullRead : List Exchange
+toldFullRead =
+    twoZeros
+    ++ begins
+    ++ on 0 (seek 0 0) ⇒ says plain
+    ∷ on 0 (read 0 2 (dot ∷ dot ∷ [])) ⇒ gives 2 (0 ∷ 0 ∷ [])
+    ∷ on 1 (seek 8 2) ⇒ says plain
+    ∷ on 1 (write 8 (X ∷ [])) ⇒ says plain
+    ∷ commit 1 ⇒ says (granted 0)
+    ∷ []
+
+-- A Read of 0 bytes wanted sights none either, wherever it starts.
+unfoldable pub toldNoneWanted : List Exchange
+toldNoneWanted =
+    begins
+    ++ on 0 (seek 0 9) ⇒ says plain
+    ∷ on 0 (read 0 0 []) ⇒ gives 0 []
+    ∷ []
+
+-- "gives nothing from beyond it": the offset stays, the length is sighted, after the bytes of the call. The Seek is lawful, and so is a
+-- Write there: "Bytes between an old end and a write come from the file". Its commit leaves the write's end as the length.
+unfoldable pub toldBeyond : List Exchange
+toldBeyond =
+    twoZeros
+    ++ begins
+    ++ on 0 (seek 0 1) ⇒ says plain
+    ∷ on 0 (read 0 2 (dot ∷ dot ∷ [])) ⇒ gives 1 (0 ∷ dot ∷ [])
+    ∷ on 0 (seek 0 4) ⇒ says plain
+    ∷ on 0 (read 0 1 (dot ∷ [])) ⇒ gives 0 (dot ∷ [])
+    ∷ on 0 (getFilePointer 0) ⇒ says (pointer 4)
+    ∷ on 0 (write 0 (A ∷ [])) ⇒ says plain
+    ∷ on 0 (seek 0 2) ⇒ says plain
+    ∷ on 0 (read 0 3 (dot ∷ dot ∷ dot ∷ [])) ⇒ gives 3 (0 ∷ 0 ∷ A ∷ [])
+    ∷ []
+
+unfoldable pub toldBeyondSet : List Exchange
+toldBeyondSet =
+    toldBeyond
+    ++ commit 0 ⇒ says (granted 0)
+    ∷ []
+
+-- Own writes that have no place yet do not count; a Read places those of its file first.
+unfoldable pub ownWrite : Place → List ℕ → List Write
+ownWrite place bytes = record { descriptor = 0; place = place; bytes = bytes } ∷ []
+
+unfoldable pub toldDeferredEnd : List Exchange
+toldDeferredEnd =
+    begins
+    ++ on 0 (write 0 (A ∷ B ∷ [])) ⇒ says plain
+    ∷ on 0 (seek 8 0) ⇒ says plain
+    ∷ on 0 (read 8 2 (dot ∷ dot ∷ [])) ⇒ gives 2 (A ∷ B ∷ [])
+    ∷ []
+
+-- "a granted write of at least one byte raises it": one of 0 bytes past the end raises nothing, and one that ends at the length sets none.
+-- T1 has sighted the length.
+unfoldable pub toldNotRaised : List Exchange
+toldNotRaised =
+    twoZeros
+    ++ begins
+    ++ on 1 (seek 8 2) ⇒ says plain
+    ∷ on 1 (read 8 1 (dot ∷ [])) ⇒ gives 0 (dot ∷ [])
+    ∷ on 0 (seek 0 100) ⇒ says plain
+    ∷ on 0 (write 0 []) ⇒ says plain
+    ∷ commit 0 ⇒ says (granted 0)
+    ∷ on 2 (seek 0 0) ⇒ says plain
+    ∷ on 2 (write 0 (A ∷ B ∷ [])) ⇒ says plain
+    ∷ commit 2 ⇒ says (granted 0)
+    ∷ commit 1 ⇒ says (granted 0)
+    ∷ []
+
 -- What situations k and l and the corners come to, together.
 pub record Corners (x : Seen) : Type 0 where
-  pub k : Goes x toldK
+  pub k : Goes x toldK × (sightingsOf (callsOf toldK) 0 ≡ sighted (byte 4095) 1 ∷ sighted (fileLength 0) 1 ∷ [])
   pub l : Goes x toldL
   pub staleFirst : Goes x toldStaleFirst
   pub refusedSettling : Goes x toldRefusedSettling × (sightingsOf (callsOf toldRefusedSettling) 1 ≡ [])
@@ -516,7 +644,7 @@ pub record Corners (x : Seen) : Type 0 where
       Goes x toldUnsighted × (beginning (x .value (callsOf toldUnsighted)) 0 1 ≡ A ∷ []) × (x .value (callsOf toldUnsighted) (offset 0) ≡ 1)
   pub moved : Goes x toldMoved × (sightingsOf (callsOf toldMoved) 0 ≡ sighted (offset 8) 0 ∷ [])
   pub movedStale : Goes x toldMovedStale
-  pub neighbour : Goes x toldNeighbour × (sightingsOf (callsOf toldNeighbour) 0 ≡ sighted (byte 0) 0 ∷ [])
+  pub neighbour : Goes x toldNeighbour × (sightingsOf (callsOf toldNeighbour) 0 ≡ sighted (byte 0) 1 ∷ [])
   pub neighbourSet :
       Goes x toldNeighbourSet
       × (x .value (callsOf toldNeighbourSet) (offset 0) ≡ 1)
@@ -533,7 +661,7 @@ pub record Corners (x : Seen) : Type 0 where
   pub settledStaysClean : (dirtyAfter readBeside 0 ≡ false) × (dirtyAfter readBeside 1 ≡ true)
   pub writeNone : Goes x toldWriteNone
   pub turnedBack : Goes x toldTurnedBack × (sightingsOf (callsOf toldTurnedBack) 0 ≡ sighted (offset 1) 0 ∷ [])
-  pub staysOpen : Goes x toldStaysOpen × (sightingsOf (callsOf toldStaysOpen) 0 ≡ sighted (byte 0) 0 ∷ [])
+  pub staysOpen : Goes x toldStaysOpen × (sightingsOf (callsOf toldStaysOpen) 0 ≡ sighted (byte 0) 1 ∷ [])
   pub stillStale : Goes x toldStillStale
   pub readsAgain : Goes x toldReadsAgain
   pub begunAgain : Goes x toldBegunAgain
@@ -549,7 +677,7 @@ pub record Corners (x : Seen) : Type 0 where
   pub known :
       Goes x toldKnown
       × (beginning (x .value (callsOf toldKnown)) 0 6 ≡ 0 ∷ 0 ∷ 0 ∷ A ∷ B ∷ C ∷ [])
-      × (x .value (callsOf toldKnown) (offset 0) ≡ 7)
+      × (x .value (callsOf toldKnown) (offset 0) ≡ 6)
   pub placed : Goes x toldPlaced
   pub movedTwice :
       Goes x toldMovedTwice
@@ -564,14 +692,14 @@ pub record Corners (x : Seen) : Type 0 where
   pub inOrder :
       Goes x toldInOrder
       × (sightingsOf (callsOf toldInOrder) 0
-      ≡ sighted (offset 0) 0
+      ≡ sighted (offset 0) 1
       ∷ sighted (offset 8) 0
-      ∷ sighted (byte 0) 0
-      ∷ sighted (byte 1) 0
+      ∷ sighted (byte 0) 1
+      ∷ sighted (byte 1) 1
       ∷ [])
   pub knownOnce :
       Goes x toldKnownOnce
-      × (sightingsOf (callsOf toldKnownOnce) 0 ≡ sighted (offset 0) 0 ∷ sighted (byte 0) 0 ∷ sighted (byte 1) 0 ∷ [])
+      × (sightingsOf (callsOf toldKnownOnce) 0 ≡ sighted (offset 0) 1 ∷ sighted (byte 0) 1 ∷ sighted (byte 1) 1 ∷ [])
   pub settledAlone :
       Goes x toldSettledAlone
       × (x .value (callsOf toldSettledAlone) (byte 4100) ≡ B)
@@ -579,3 +707,35 @@ pub record Corners (x : Seen) : Type 0 where
   pub listedPlaces : Goes x toldPlaces × (sightingsOf (callsOf toldPlaces) 0 ≡ [])
   pub noPlaceYet : Goes x toldNoPlaceYet
   pub octet : Goes x toldOctet × (formerNumbers toldOctet ≡ 2 ∷ 1 ∷ [])
+  pub nothingGiven : Goes x toldNothingGiven × (sightingsOf (callsOf toldNothingGiven) 0 ≡ sighted (fileLength 0) 0 ∷ [])
+  pub nothingGivenStale :
+      Goes x toldNothingGivenStale
+      × (x .value (callsOf toldNothingGivenStale) (fileLength 0) ≡ 2)
+      × (beginning (x .value (callsOf toldNothingGivenStale)) 0 2 ≡ 0 ∷ X ∷ [])
+  pub ownEnding : Goes x toldOwnEnd × (sightingsOf (callsOf toldOwnEnd) 0 ≡ sighted (fileLength 0) 0 ∷ [])
+  pub ownEndingStale : Goes x toldOwnEndStale
+  pub fullRead :
+      Goes x toldFullRead
+      × (sightingsOf (callsOf toldFullRead) 0 ≡ sighted (byte 0) 1 ∷ sighted (byte 1) 1 ∷ [])
+      × (x .value (callsOf toldFullRead) (fileLength 0) ≡ 3)
+  pub noneWanted : Goes x toldNoneWanted × (sightingsOf (callsOf toldNoneWanted) 0 ≡ [])
+  pub beyond :
+      Goes x toldBeyond
+      × (sightingsOf (callsOf toldBeyond) 0
+      ≡ sighted (byte 1) 1
+      ∷ sighted (fileLength 0) 1
+      ∷ sighted (fileLength 0) 1
+      ∷ sighted (byte 2) 0
+      ∷ sighted (byte 3) 0
+      ∷ [])
+  pub beyondSet :
+      Goes x toldBeyondSet
+      × (x .value (callsOf toldBeyondSet) (fileLength 0) ≡ 5)
+      × (beginning (x .value (callsOf toldBeyondSet)) 0 5 ≡ 0 ∷ 0 ∷ 0 ∷ 0 ∷ A ∷ [])
+  pub deferredEnd :
+      Goes x toldDeferredEnd
+      × (ownEnd (λ d. 0) 0 (ownWrite (After 3) (A ∷ B ∷ [])) ≡ 0)
+      × (ownEnd (λ d. 0) 0 (ownWrite (At 3) (A ∷ B ∷ [])) ≡ 5)
+      × (ownEnd (λ d. 0) 0 (ownWrite (At 3) []) ≡ 0)
+      × (ownEnd (λ d. 0) 1 (ownWrite (At 3) (A ∷ B ∷ [])) ≡ 0)
+  pub notRaised : Goes x toldNotRaised × (x .value (callsOf toldNotRaised) (fileLength 0) ≡ 2)

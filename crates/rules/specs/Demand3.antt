@@ -68,7 +68,7 @@ pub record Holds (m₀ : Machine) (p₀ : Plain) (cs : List Call) (m : Machine) 
   -- "the granted transactions, run again alone in grant order from the same fresh state with all their accepted calls, meet no
   -- refusal, give the same answers and bytes": the list of calls that does so gives on the plain machine the replies that they had.
   pub again : plainReplies (rerun (grantsOf cs p₀)) p₀ ≡ sameReplies (grantsOf cs p₀)
-  -- "and leave the same files and offsets"
+  -- "and leave the same files and offsets"; 02, F-8: "Lengths join .. what serial order compares": files, offsets and lengths.
   pub left : values (m .store) (m .files) ≡ plainAfter (rerun (grantsOf cs p₀)) p₀ .committed .value
   -- F-7, "each accepted Read and GetFilePointer, in transactions that later abort as well, gives the answer and the bytes that its
   -- transaction's accepted calls up to it give, run alone on the committed files and offsets of that moment": of the next call, whatever it is.

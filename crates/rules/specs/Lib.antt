@@ -26,6 +26,7 @@ pub mod Demand1
 pub mod Demand3
 pub mod Age
 pub mod Buffers
+pub mod Lengths
 -- The situations and corners of paper 01.
 pub mod Setup
 pub mod Situations

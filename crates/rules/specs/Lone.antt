@@ -22,7 +22,7 @@ unfoldable pub prepend : Reply → List Entry → Lone → Lone
 prepend r es l = record { through = l .through; txn = l .txn; replies = r ∷ l .replies; seen = es ++ l .seen }
 
 -- "Run alone, a transaction starts just begun, with no other open, on the files, offsets and setters named. The run stops before
--- the first call that meets one of 6 to 12."
+-- the first call that meets one of 6 to 12." 02, F-8: lengths join "what every lone run starts from".
 unfoldable pub goOn : (Txn → Lone) → Txn → List Entry → Stepped → Lone
 goOn rest x es (refuse n) = stopped x
 goOn rest x es (accept y answer buffer) = prepend (record { answer = answer; buffer = buffer }) es (rest y)

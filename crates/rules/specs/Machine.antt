@@ -2,15 +2,16 @@
 use mathlib.Core.List.{List, [], _∷_, _++_}
 use lib.ListN.{length, getD}
 use Prim.Native.Nat.{ℕ, zero, suc, _+_, _*_}
+use Rattle.octets.specs.Bits.{withBit}
 use Rattle.octets.specs.Parts.{cut}
 use Rattle.standings.specs.declared.Place.the-variants.{At}
 use Rattle.record.specs.declared.Store.{Store}
 use Rattle.record.specs.declared.Transaction.{Transaction}
 use Rattle.record.specs.declared.journal.WriteRecord.{WriteRecord}
-use Rattle.record.specs.State.{transaction, standingAt, dirtyAt, withUsed, withDescriptors, withTransaction}
+use Rattle.record.specs.State.{transaction, standingAt, dirtyAt, withUsed, withLengthmarks, withDescriptors, withTransaction}
 use Rattle.record.specs.Journal.{writeRecordAt, withRecords}
 use Rattle.ranges.specs.Ranges.{lengthsBefore, Sizes, sized}
-use Rattle.rules.specs.Items.{byte, offset, Values}
+use Rattle.rules.specs.Items.{Item, byte, offset, fileLength, Values}
 use Rattle.rules.specs.Transactions.{Txn, Write}
 use Rattle.rules.specs.Steps.{total}
 
@@ -57,10 +58,11 @@ unfoldable pub fileOf : Store → ℕ → ℕ
 fileOf s d = getD (s .filenumbers) d 0
 
 -- The committed values: "file f is the part that starts at place 4,096 × f" of the files buffer; a descriptor "has a committed
--- offset".
+-- offset"; 02, F-8: "Each file gets a committed length".
 unfoldable pub values : Store → List ℕ → Values
 values s files (byte q) = getD files q 0
 values s files (offset d) = getD (s .offsets) d 0
+values s files (fileLength f) = getD (s .lengths) f 0
 
 -- "in a lent buffer of 32,768 bytes, transaction t's part starting at 4,096 × t"; "A Write puts its bytes in its log directly after
 -- the data used": where the data of write record k of transaction t start.
@@ -98,6 +100,16 @@ holding y x =
     withUsed (record { records = length (y .writes); bytes = total (y .writes) })
     (withDescriptors (tabulate (λ d. record { standing = y .standing d; dirty = y .dirty d }) 16) x)
 
--- The store after transaction t has become y.
-unfoldable pub withTxn : ℕ → Txn → Store → Store
-withTxn t y s = withTransaction t (holding y (transaction s t)) s
+-- The lengths that a transaction has sighted after sightings: bit f (worth 2 to the power f) for that of file f.
+unfoldable pub lengthmarked : List Item → ℕ → ℕ
+lengthmarked [] n = n
+lengthmarked (byte q ∷ is) n = lengthmarked is n
+lengthmarked (offset d ∷ is) n = lengthmarked is n
+lengthmarked (fileLength f ∷ is) n = lengthmarked is (withBit f n)
+
+unfoldable pub sightingLengths : List Item → Transaction → Transaction
+sightingLengths is x = withLengthmarks (lengthmarked is (x .lengthmarks)) x
+
+-- The store after transaction t has become y and has sighted these items.
+unfoldable pub withTxn : ℕ → Txn → List Item → Store → Store
+withTxn t y is s = withTransaction t (holding y (sightingLengths is (transaction s t))) s

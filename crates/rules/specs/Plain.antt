@@ -49,7 +49,8 @@ pub record Plain : Type 0 where
 unfoldable pub startPlain : (ℕ → ℕ) → Values → Plain
 startPlain fileOf v = record { fileOf = fileOf; committed = record { value = v; setter = λ i. 0 }; grants = 0; slots = λ t. closed }
 
--- "starts with the files, each descriptor's file, the offsets and the setters that an accepted Fresh gives"
+-- "starts with the files, each descriptor's file, the offsets and the setters that an accepted Fresh gives"; 02, F-8: "Lengths join what
+-- the plain machine holds".
 abbrev pub freshPlain : (ℕ → ℕ) → Plain
 freshPlain fileOf = startPlain fileOf (λ i. 0)
 

@@ -6,7 +6,7 @@ use Prim.Native.Nat.{ℕ}
 use Rattle.rules.specs.Items.{Item, same, Values}
 
 -- "An entry of a list says which offset (by descriptor) or which byte (by file and place) was sighted, together with its
--- setter."
+-- setter." 02, F-8: "a sighted length joins both lists as an entry of its own kind, by file, with its setter".
 pub record Entry : Type 0 where
   pub item : Item
   pub setter : ℕ

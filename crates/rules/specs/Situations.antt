@@ -5,8 +5,16 @@ use lib.ListN.{replicate}
 use Prim.Native.Nat.{ℕ}
 use Rattle.record.specs.Paper.{plain, pointer, granted, refused}
 use Rattle.rules.specs.Items.{offset}
-use Rattle.rules.specs.Messages.{seek, write, getFilePointer, read, on, commit, Reply, says}
+use Rattle.rules.specs.Messages.{seek, write, getFilePointer, read, begin, on, commit, Reply, says}
 use Rattle.rules.specs.Setup.{Seen, Exchange, _⇒_, callsOf, Goes, formerNumbers, sighted, beginning, sightingsOf, gives, begins, A, B, C, D, Q, X, Y, Z, dot}
+
+-- 02, F-8: "Situations d, e and k get a first commit that fills the file with zeros": T7's, through descriptor 0.
+unfoldable pub filled : List Exchange
+filled =
+    begin 7 ⇒ says plain
+    ∷ on 7 (write 0 (replicate 4096 0)) ⇒ says plain
+    ∷ commit 7 ⇒ says (granted 0)
+    ∷ []
 
 -- a "T0 writes AB, T1 writes CD, both on 0. Commit T1, T0: both answer 0. File 0 begins CDAB, offset 4."
 unfoldable pub toldA : List Exchange
@@ -45,7 +53,8 @@ toldC =
 -- d "As c, but T0 reads 3 and T1 writes Z at 2: T1 answers 1, T0 13. With Z at 3: 0, and T0 passes." The place of Z is p.
 unfoldable pub toldD : ℕ → Reply → Reply → List Exchange
 toldD p ofT1 ofT0 =
-    begins
+    filled
+    ++ begins
     ++ on 0 (seek 0 0) ⇒ says plain
     ∷ on 0 (write 0 (A ∷ B ∷ [])) ⇒ says plain
     ∷ on 0 (seek 0 0) ⇒ says plain
@@ -59,7 +68,8 @@ toldD p ofT1 ofT0 =
 -- e "T0 on 0: Seek 0, read 1. T1 writes byte 0 with value 0 on 8 after Seek 0: commit 1, T0 13."
 unfoldable pub toldE : List Exchange
 toldE =
-    begins
+    filled
+    ++ begins
     ++ on 0 (seek 0 0) ⇒ says plain
     ∷ on 0 (read 0 1 (dot ∷ [])) ⇒ gives 1 (0 ∷ [])
     ∷ on 1 (seek 8 0) ⇒ says plain
@@ -127,7 +137,8 @@ toldJ =
 -- k "Seek 4,096 passes, 4,097 is 8. At 4,096 a write of 1 is 9, of 0 passes. From 4,095 a read of 2 gives 1."
 unfoldable pub toldK : List Exchange
 toldK =
-    begins
+    filled
+    ++ begins
     ++ on 0 (seek 0 4096) ⇒ says plain
     ∷ on 0 (seek 0 4097) ⇒ says (refused 8)
     ∷ on 0 (write 0 (A ∷ [])) ⇒ says (refused 9)
@@ -156,9 +167,9 @@ pub record Starred (x : Seen) : Type 0 where
   pub b : Goes x toldB × (formerNumbers toldB ≡ 1 ∷ [])
   pub c : Goes x toldC × (formerNumbers toldC ≡ 0 ∷ 0 ∷ []) × (beginning (x .value (callsOf toldC)) 0 2 ≡ A ∷ B ∷ [])
   pub d :
-      (let told = toldD 2 (says (granted 1)) (says (refused 13)) in Goes x told × (formerNumbers told ≡ 1 ∷ []))
-      × (let told = toldD 3 (says (granted 0)) (says (granted 0)) in Goes x told × (formerNumbers told ≡ 0 ∷ 0 ∷ []))
-  pub e : Goes x toldE × (formerNumbers toldE ≡ 1 ∷ [])
+      (let told = toldD 2 (says (granted 1)) (says (refused 13)) in Goes x told × (formerNumbers told ≡ 0 ∷ 1 ∷ []))
+      × (let told = toldD 3 (says (granted 0)) (says (granted 0)) in Goes x told × (formerNumbers told ≡ 0 ∷ 0 ∷ 0 ∷ []))
+  pub e : Goes x toldE × (formerNumbers toldE ≡ 0 ∷ 1 ∷ [])
   pub f : Goes x toldF × (formerNumbers toldF ≡ 1 ∷ [])
   pub g : Goes x toldG × (sightingsOf (callsOf toldG) 0 ≡ sighted (offset 8) 0 ∷ [])
   pub h :

@@ -4,7 +4,7 @@ use mathlib.Core.Bool.{Bool, true, false, cond, _&&_}
 use mathlib.Core.List.{List, [], _∷_, _++_}
 use lib.Dec.{leb, eqb}
 use lib.ListN.{length, drop}
-use Prim.Native.Nat.{ℕ, zero, suc, _+_, _-_, min}
+use Prim.Native.Nat.{ℕ, zero, suc, _+_}
 use Rattle.standings.specs.Table.{placeNumber}
 use Rattle.ranges.specs.Below.{guarded}
 use Rattle.record.specs.Paper.{Said, plain, pointer, given}
@@ -12,7 +12,7 @@ use Rattle.rules.specs.Messages.{Op, seek, write, getFilePointer, read}
 use Rattle.rules.specs.Items.{Prog, done, andThen}
 use Rattle.standings.specs.Table.{afterSeek, afterWrite, afterRead, pointerSettles, readSettles, offsetOf, writePlace}
 use Rattle.rules.specs.Transactions.{Txn, Write, withWrites, dirtied, those, Settled, past, all, settling}
-use Rattle.rules.specs.Reading.{fetch}
+use Rattle.rules.specs.Reading.{gather}
 
 -- A step is refused, or accepted: the transaction after it, the answer, and the reader's buffer.
 pub data Stepped : Type 0 where
@@ -64,14 +64,14 @@ pointerStep d x =
 unfoldable pub settledByRead : (ℕ → ℕ) → ℕ → Txn → List ℕ
 settledByRead fileOf d x = those (λ e. readSettles (eqb (fileOf e) (fileOf d)) (eqb e d) (x .standing e)) 16
 
--- "A Read of n bytes gives the smaller of n and 4,096 less the offset", "copied to the front of the reader's buffer. The rest of
--- that buffer is left."
+-- "A Read of n bytes gives the smaller of n and 4,096 less the offset": since F-8 the transaction's length less the offset.
+-- "copied to the front of the reader's buffer. The rest of that buffer is left."
 unfoldable pub readSettled : (ℕ → ℕ) → ℕ → ℕ → List ℕ → Txn → Prog Stepped
 readSettled fileOf d n buffer y =
-    let o = offsetOf (y .standing d) in
-    let m = min n (4096 - o) in
-    andThen (fetch fileOf (y .writes) (fileOf d) o m)
-    (λ bytes. done (accept (dirtied d (afterRead m (y .standing d)) y) (given m) (bytes ++ drop m buffer)))
+    andThen (gather fileOf (y .writes) (fileOf d) (offsetOf (y .standing d)) n)
+    (λ bytes.
+    let m = length bytes in
+    done (accept (dirtied d (afterRead m (y .standing d)) y) (given m) (bytes ++ drop m buffer)))
 
 -- 7: "Read of more bytes than the reader's buffer has".
 unfoldable pub readStep : (ℕ → ℕ) → ℕ → ℕ → List ℕ → Txn → Prog Stepped

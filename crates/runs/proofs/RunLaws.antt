@@ -6,8 +6,9 @@ use mathlib.Core.Logic.{_⊎_, inl, inr, ⊎-elim}
 use mathlib.Core.Path.{_≡_, refl, sym, ap, ap₂, _∙_}
 use lib.Dec.{leb, ltb, eqb}
 use lib.ListN.{getD, length}
-use Prim.Native.Nat.{ℕ, zero, suc, _+_, _-_, _≤_, _<_, min}
+use Prim.Native.Nat.{ℕ, zero, suc, _+_, _-_, _≤_, _<_, min, max}
 use native.Mathlib.Nat.{add-zero}
+use native.Mathlib.Numerals.{add-one}
 use native.Mathlib.Omega.{arith}
 use borrow.Author.Tests.{leb-true, ltb-true, lt-ltb, le-leb, eq-eqb, ne-eqb}
 use Rattle.counters.specs.declared.Used.{Used}
@@ -22,14 +23,15 @@ use Rattle.ranges.specs.Ranges.{lengthsBefore}
 use Rattle.ranges.proofs.Laws.{and-left, and-right, and-both, sum-same, TransactionInRange, record-in}
 use Rattle.octets.specs.Parts.{cut}
 use Rattle.octets.proofs.PartLaws.{le-or-lt, length-cut, getD-cut}
-use Rattle.rules.specs.Reading.{over, byteAt, Source, own, file, supplies, orElse, latest}
+use Rattle.rules.specs.Reading.{over, byteAt, Source, own, file, supplies, orElse, latest, writeEnd, placedEnd, farthest, ownEnd}
 use Rattle.rules.specs.Transactions.{Write}
 use Rattle.rules.specs.Machine.{tabulate}
+use Rattle.rules.proofs.View.Ends.{farthest-last}
 use Rattle.runs.specs.declared.Extent.{Extent}
 use Rattle.runs.specs.declared.Run.{Run}
 use Rattle.runs.specs.declared.Supplier.{Supplier}
 use Rattle.runs.specs.declared.Supplier.the-variants.{File, Record}
-use Rattle.runs.specs.Runs.{extent, Recorded, covers, coveredBy, newest, supplier, standsAt, Counted, GapOf, LatestWrite, RunOf, writeIn, sourceOf}
+use Rattle.runs.specs.Runs.{extent, Recorded, covers, coveredBy, newest, supplier, standsAt, Counted, GapOf, LatestWrite, RunOf, writeIn, sourceOf, recordEnd, reach}
 
 -- ---- what a write record covers
 
@@ -431,3 +433,61 @@ counted-same journal other t u c same =
       bytes = c .bytes;
       descriptors = λ k h. omega (arith, same k h .0, c .descriptors k h);
     }
+
+-- ---- where a file ends for a transaction
+
+module _ (filenumbers : List ℕ) (f : ℕ) (w : WriteRecord) where
+  pub end-unplaced : (a : ℕ) → w .place ≡ After a → 0 ≡ recordEnd filenumbers f w
+  unfolding recordEnd placedEnd
+  end-unplaced a e = rw e (pick (eqb (getD filenumbers (w .descriptor) 0) f))
+    where
+      pick : (b : Bool) → _≡_ {A = ℕ} 0 (cond b 0 0)
+      pick true = refl
+      pick false = refl
+
+  pub end-other-file : (getD filenumbers (w .descriptor) 0 ≡ f → ⊥) → 0 ≡ recordEnd filenumbers f w
+  unfolding recordEnd
+  end-other-file h = rw (ne-eqb (getD filenumbers (w .descriptor) 0) f h)
+
+  placed-none : (q : Place) → placedEnd q 0 ≡ 0
+  unfolding placedEnd writeEnd
+  placed-none (At p) = refl
+  placed-none (After a) = refl
+
+  pub end-empty : w .length ≡ 0 → 0 ≡ recordEnd filenumbers f w
+  unfolding recordEnd
+  end-empty e = rw (e, placed-none (w .place)) (pick (eqb (getD filenumbers (w .descriptor) 0) f))
+    where
+      pick : (b : Bool) → _≡_ {A = ℕ} 0 (cond b 0 0)
+      pick true = refl
+      pick false = refl
+
+  write-some : (p n : ℕ) → 0 < n → p + n ≡ writeEnd p n
+  unfolding writeEnd
+  write-some p zero h = absurd (omega arith)
+  write-some p (suc n) h = refl
+
+  pub end-placed : (p : ℕ) → w .place ≡ At p → getD filenumbers (w .descriptor) 0 ≡ f → 0 < w .length → p + w .length ≡ recordEnd filenumbers f w
+  unfolding recordEnd placedEnd
+  end-placed p e g h = rw (e, eq-eqb (getD filenumbers (w .descriptor) 0) f g) (write-some p (w .length) h)
+
+module _ (j : Recorded) (t f n : ℕ) where
+  pub reach-none : reach j t f n 0 ≡ n
+  unfolding reach
+  reach-none = refl
+
+  pub reach-more : (k : ℕ) → reach j t f n (k + 1) ≡ max (reach j t f n k) (recordEnd (j .filenumbers) f (writeRecordAt (j .journal) t k))
+  unfolding reach
+  reach-more k = rw add-one
+
+  -- The same of the writes.
+  pub reach-is : (g : ℕ → Write) (c : ℕ)
+      → ((k : ℕ) → k < c → recordEnd (j .filenumbers) f (writeRecordAt (j .journal) t k) ≡ cond (eqb (getD (j .filenumbers) (g k .descriptor) 0) f) (placedEnd (g k .place) (length (g k .bytes))) 0)
+      → reach j t f n c ≡ max n (ownEnd (λ d. getD (j .filenumbers) d 0) f (tabulate g c))
+  unfolding reach tabulate ownEnd farthest
+  reach-is g zero h = omega arith
+  reach-is g (suc c) h =
+      let e = reach-is g c (λ k l. h k (omega arith)) in
+      let q = farthest-last (λ d. getD (j .filenumbers) d 0) f (λ w. placedEnd (w .place) (length (w .bytes))) (tabulate g c) (g c) in
+      let r = h c (omega arith) in
+      omega arith

@@ -5,14 +5,14 @@ use mathlib.Core.List.{List}
 use mathlib.Core.Path.{_≡_}
 use lib.Dec.{eqb}
 use lib.ListN.{getD, length}
-use Prim.Native.Nat.{ℕ, zero, suc, _+_, _-_, _≤_, _<_}
+use Prim.Native.Nat.{ℕ, zero, suc, _+_, _-_, _≤_, _<_, max}
 use Rattle.counters.specs.declared.Used.{Used}
 use Rattle.standings.specs.Table.{placeNumber}
 use Rattle.record.specs.declared.journal.WriteRecord.{WriteRecord}
 use Rattle.record.specs.Journal.{writeRecordAt}
 use Rattle.ranges.specs.Ranges.{lengthsBefore}
 use Rattle.octets.specs.Parts.{cut}
-use Rattle.rules.specs.Reading.{over, Source, own, file, latest}
+use Rattle.rules.specs.Reading.{over, Source, own, file, latest, placedEnd}
 use Rattle.rules.specs.Transactions.{Write}
 use Rattle.rules.specs.Machine.{tabulate}
 use Rattle.runs.specs.declared.Extent.{Extent}
@@ -85,6 +85,15 @@ pub record LatestWrite (j : Recorded) (t records f p : ℕ) (found : Supplier) (
   -- its byte is that of the latest write as the rules have it, whatever the log
   pub inRules : (log : List ℕ) → lengthsBefore (j .journal) t records ≤ length log
       → latest (λ d. getD (j .filenumbers) d 0) f p (tabulate (writeIn (j .journal) log t) records) ≡ sourceOf (j .journal) log t p found
+
+-- "the ends of its own placed writes of at least one byte": where a write record ends in file f.
+unfoldable pub recordEnd : List ℕ → ℕ → WriteRecord → ℕ
+recordEnd filenumbers f w = cond (eqb (getD filenumbers (w .descriptor) 0) f) (placedEnd (w .place) (w .length)) 0
+
+-- The largest of a number and of the ends of transaction t's first records in file f.
+unfoldable pub reach : Recorded → ℕ → ℕ → ℕ → ℕ → ℕ
+reach j t f n zero = n
+reach j t f n (suc k) = max (reach j t f n k) (recordEnd (j .filenumbers) f (writeRecordAt (j .journal) t k))
 
 -- What check 2 says of the write records of transaction t: "records at most 64, their lengths adding to the data used, at most 4,096;
 -- each record's descriptor at most 15".

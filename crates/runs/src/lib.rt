@@ -1,17 +1,20 @@
 // The latest write over a place of a file, and the run from the place on: the longest stretch that one write record supplies, or that the
-// file supplies.
+// file supplies. And where a file ends for a transaction.
 use counters::Used;
+use numbers::larger;
 use numbers::smaller;
 use numbers::wide;
 use numbers::wide_octet;
 use record::DESCRIPTORS;
+use record::FILES;
 use record::journal::NUMBERS;
 use record::journal::WriteRecord;
 use record::journal::record_at;
 use standings::Place;
 ghost use mathlib.Core.Path.{_≡_};
+ghost use lib.ListN.{getD};
 ghost use Prim.Native.Nat.{_<_, _≤_};
-ghost use Rattle.runs.specs.Runs.{recorded, isRecord, Counted, GapOf, LatestWrite, RunOf};
+ghost use Rattle.runs.specs.Runs.{recorded, isRecord, recordEnd, reach, Counted, GapOf, LatestWrite, RunOf};
 
 // Places of a file: `length` of them, from `place` on.
 pub struct Extent {
@@ -124,4 +127,47 @@ pub fn latest_write<'a>(
         at: e.place,
         length,
     }
+}
+
+// Where the write record ends in the file; 0 where it has no place, no byte, or another file.
+fn end_in(r: WriteRecord, filenumbers: &[u8; DESCRIPTORS], file: u8) -> usize
+    requires { ⌜ r .descriptor < 16 ⌝ }
+    ensures { λ e. ⌜ e ≡ recordEnd (now (filenumbers .entry)) file r ⌝ }
+{
+    let place = r.place;
+    let Place::At(p) = place else {
+        return 0;
+    };
+    let d = wide(r.descriptor);
+    if filenumbers[d] != file {
+        return 0;
+    }
+    let size = wide(r.length);
+    if size == 0 {
+        return 0;
+    }
+    wide(p) + size
+}
+
+// "A transaction's length is the largest of the committed one and the ends of its own placed writes of at least one byte."
+pub fn length_for<'a>(
+    journal: &'a [u16; NUMBERS],
+    filenumbers: &'a [u8; DESCRIPTORS],
+    lengths: &'a [u16; FILES],
+    t: usize,
+    used: Used,
+    file: u8,
+) -> usize
+    requires { ⌜ Counted (now journal) t used × (file < 8) ⌝ }
+    ensures { λ r. ⌜ r ≡ reach (recorded (now (journal .entry)) (now (filenumbers .entry))) t file (getD (now (lengths .entry)) file 0) (used .records) ⌝ }
+{
+    let records = wide_octet(used.records);
+    let mut end = wide(lengths[wide_octet(file)]);
+    let mut k = 0;
+    while k < records {
+        let w = record_at(journal, t, k);
+        end = larger(end, end_in(w, filenumbers, file));
+        k += 1;
+    }
+    end
 }

@@ -10,6 +10,7 @@ use Prim.Native.Nat.{ℕ, _+_, _*_, _≤_, _<_}
 use Rattle.octets.specs.Parts.{cut}
 use Rattle.standings.specs.declared.Standing.{Standing}
 use Rattle.record.specs.declared.Descriptor.{Descriptor}
+use Rattle.record.specs.declared.Transaction.{Transaction}
 use Rattle.record.specs.declared.Store.{Store}
 use Rattle.record.specs.declared.journal.WriteRecord.{WriteRecord}
 use Rattle.record.specs.State.{transaction, standingAt, dirtyAt, noDescriptor, withDescriptors, withTransaction}
@@ -17,9 +18,10 @@ use Rattle.record.specs.Journal.{writeRecordAt}
 use Rattle.record.proofs.JournalLaws.{with-same, read-own}
 use Rattle.ranges.specs.Ranges.{lengthsBefore}
 use Rattle.ranges.proofs.Laws.{sum-same, record-in, place-end}
+use Rattle.rules.specs.Items.{Item}
 use Rattle.rules.specs.Transactions.{Txn, Write, put, withStandings, withDirty, dirtied}
 use Rattle.rules.specs.Steps.{total}
-use Rattle.rules.specs.Machine.{tabulate, dataStart, writeAt, recordOf, txnOf, noWrite, journalled, holding, withTxn}
+use Rattle.rules.specs.Machine.{tabulate, dataStart, writeAt, recordOf, txnOf, noWrite, journalled, holding, sightingLengths, withTxn}
 use Rattle.laws.specs.Settling.{placeAll, settleAll}
 use Rattle.rules.proofs.View.Tables.{length-tabulate, getD-tabulate, tabulate-same, tabulate-set, map-tabulate}
 use Rattle.laws.proofs.Decoded.{Opened, decoded-length, decoded-total, total-tabulate}
@@ -99,16 +101,20 @@ module _ (s : Store) (journal logs : List ℕ) (t : ℕ) (o : Opened s journal l
       (with-same journal t (λ k. recordOf (getD (tabulate thenAt n) k noWrite)) (λ k. recordAfter chosen (s .offsets) (writeRecordAt journal t k)) n
       (λ k h. ap recordOf (getD-tabulate thenAt n k noWrite h) ∙ record-then k h))
 
-  -- A meaning with these writes, whatever its descriptors.
-  put-back : (f : ℕ → Standing) (g : ℕ → Bool) (l : List Descriptor) → tabulate (λ d. record { standing = f d; dirty = g d }) 16 ≡ l
-      → withTxn t (withDirty g (withStandings f (settledTxn s journal logs t chosen))) s ≡ withTransaction t (withDescriptors l (transaction s t)) s
-  unfolding withTxn holding
-  put-back f g l e = rw (settled-count, settled-total, e)
+  -- A meaning with these writes, whatever its descriptors, that sighted these items.
+  put-back : (is : List Item) (f : ℕ → Standing) (g : ℕ → Bool) (l : List Descriptor) → tabulate (λ d. record { standing = f d; dirty = g d }) 16 ≡ l
+      → withTxn t (withDirty g (withStandings f (settledTxn s journal logs t chosen))) is s
+      ≡ withTransaction t (withDescriptors l (sightingLengths is (transaction s t))) s
+  unfolding withTxn holding sightingLengths
+  put-back is f g l e = rw (settled-count, settled-total, e)
 
-  -- The chosen descriptors settled.
-  pub txn-settled : withTxn t (settledTxn s journal logs t chosen) s ≡ withTransaction t (settledTransaction chosen (s .offsets) (transaction s t)) s
+  -- The chosen descriptors settled, and no length sighted.
+  pub txn-settled : (is : List Item) → sightingLengths is (transaction s t) ≡ transaction s t
+      → withTxn t (settledTxn s journal logs t chosen) is s ≡ withTransaction t (settledTransaction chosen (s .offsets) (transaction s t)) s
   unfolding settleAll txnOf settledTransaction settledDescriptor
-  txn-settled = put-back (settledTxn s journal logs t chosen .standing) (dirtyAt (transaction s t)) _ refl
+  txn-settled is none =
+      put-back is (settledTxn s journal logs t chosen .standing) (dirtyAt (transaction s t)) _ refl
+      ∙ ap (λ (x : Transaction). withTransaction t (withDescriptors (tabulate (settledDescriptor chosen (s .offsets) (transaction s t)) 16) x) s) none
 
   -- The standing of a descriptor afterwards.
   pub standing-settled : (d : ℕ) → d < 16 → standingAt (settledTransaction chosen (s .offsets) (transaction s t)) d ≡ settledTxn s journal logs t chosen .standing d
@@ -117,13 +123,14 @@ module _ (s : Store) (journal logs : List ℕ) (t : ℕ) (o : Opened s journal l
       ap (λ (q : Descriptor). q .standing) (getD-tabulate (settledDescriptor chosen (s .offsets) (transaction s t)) 16 d noDescriptor h)
 
   -- The chosen descriptors settled, and then one descriptor stands otherwise and is dirty.
-  pub txn-settled-dirtied : (d : ℕ) (z : Standing) → d < 16
-      → withTxn t (dirtied d z (settledTxn s journal logs t chosen)) s
+  pub txn-settled-dirtied : (is : List Item) (d : ℕ) (z : Standing) → d < 16
+      → withTxn t (dirtied d z (settledTxn s journal logs t chosen)) is s
       ≡ withTransaction t
-      (withDescriptors (set (settledTransaction chosen (s .offsets) (transaction s t) .descriptors) d (record { standing = z; dirty = true })) (transaction s t)) s
+      (withDescriptors (set (settledTransaction chosen (s .offsets) (transaction s t) .descriptors) d (record { standing = z; dirty = true }))
+      (sightingLengths is (transaction s t))) s
   unfolding settledTransaction settleAll txnOf settledDescriptor
-  txn-settled-dirtied d z h =
-      put-back (put d z (settledTxn s journal logs t chosen .standing)) (put d true (dirtyAt (transaction s t))) _
+  txn-settled-dirtied is d z h =
+      put-back is (put d z (settledTxn s journal logs t chosen .standing)) (put d true (dirtyAt (transaction s t))) _
       (unfold put in
       tabulate-set (settledDescriptor chosen (s .offsets) (transaction s t))
       (λ e. record { standing = cond (eqb e d) z (settledTxn s journal logs t chosen .standing e); dirty = cond (eqb e d) true (dirtyAt (transaction s t) e) }) 16 d

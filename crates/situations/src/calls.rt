@@ -77,14 +77,13 @@ fn front<'a>(bytes: &'a [u8], n: usize) -> &'a [u8] {
     &bytes[0..n]
 }
 
-// After the call of a request. A Write takes the first n of two bytes, `first` and the next letter.
-fn made(mut r: Run, q: Request, n: usize, first: u8) -> Run {
+// After the call of a request; a Write takes the bytes.
+fn made(mut r: Run, q: Request, bytes: &[u8]) -> Run {
     let mut journal = r.journal;
     let mut files = r.files;
     let mut logs = r.logs;
     let mut marks = r.marks;
     let mut reader = [b'.'; 3];
-    let bytes = [first, std::num::wrapping_add_u8(first, 1)];
     let a = r.answer;
     let answer = dispatch::perform(
         a.store,
@@ -93,7 +92,7 @@ fn made(mut r: Run, q: Request, n: usize, first: u8) -> Run {
         &mut logs,
         &mut marks,
         q,
-        front(&bytes, n),
+        bytes,
         &mut reader,
     );
     r.answer = answer;
@@ -108,7 +107,7 @@ fn made(mut r: Run, q: Request, n: usize, first: u8) -> Run {
 // Each call names its transaction, then its descriptor; last stands the number that it has to answer (0 for a plain answer), or a
 // refusal.
 pub fn seek(r: Run, t: usize, d: usize, v: usize, want: u16) -> Run {
-    let mut q = made(r, Request::Seek(t, d, v), 0, 0);
+    let mut q = made(r, Request::Seek(t, d, v), &[]);
     let a = q.answer;
     q.ok = q.ok & answers(a, 0, want);
     q
@@ -116,14 +115,15 @@ pub fn seek(r: Run, t: usize, d: usize, v: usize, want: u16) -> Run {
 
 // Writes n bytes, at most 2: `first`, and the next letter.
 pub fn write(r: Run, t: usize, d: usize, n: usize, first: u8, want: u16) -> Run {
-    let mut q = made(r, Request::Write(t, d), n, first);
+    let bytes = [first, std::num::wrapping_add_u8(first, 1)];
+    let mut q = made(r, Request::Write(t, d), front(&bytes, n));
     let a = q.answer;
     q.ok = q.ok & answers(a, 0, want);
     q
 }
 
 pub fn pointer(r: Run, t: usize, d: usize, want: u16) -> Run {
-    let mut q = made(r, Request::GetFilePointer(t, d), 0, 0);
+    let mut q = made(r, Request::GetFilePointer(t, d), &[]);
     let a = q.answer;
     q.ok = q.ok & answers(a, 1, want);
     q
@@ -131,7 +131,7 @@ pub fn pointer(r: Run, t: usize, d: usize, want: u16) -> Run {
 
 // The reader's buffer, of three dots before the call, has x, y and z after it.
 pub fn read(r: Run, t: usize, d: usize, n: usize, x: u8, y: u8, z: u8, want: u16) -> Run {
-    let mut q = made(r, Request::Read(t, d, n), 0, 0);
+    let mut q = made(r, Request::Read(t, d, n), &[]);
     let a = q.answer;
     let reader = q.reader;
     q.ok = q.ok & answers(a, 2, want) & (reader[0] == x) & (reader[1] == y) & (reader[2] == z);
@@ -139,7 +139,7 @@ pub fn read(r: Run, t: usize, d: usize, n: usize, x: u8, y: u8, z: u8, want: u16
 }
 
 pub fn commit(r: Run, t: usize, want: u16) -> Run {
-    let mut q = made(r, Request::Commit(t), 0, 0);
+    let mut q = made(r, Request::Commit(t), &[]);
     let a = q.answer;
     q.ok = q.ok & answers(a, 3, want);
     q
@@ -150,6 +150,15 @@ pub fn granted(r: Run, t: usize, octet: u8, number: u32) -> Run {
     let mut q = commit(r, t, octet as u16);
     q.ok = q.ok & (store::made_stale(octet) == number);
     q
+}
+
+// "a first commit that fills the file with zeros": T7's, through descriptor 0.
+pub fn filled(r: Run) -> Run {
+    let b = made(r, Request::Begin(7), &[]);
+    let mut q = made(b, Request::Write(7, 0), &[0u8; 4096]);
+    let a = q.answer;
+    q.ok = q.ok & answers(a, 0, 0);
+    granted(q, 7, 0, 0)
 }
 
 // All was as expected so far. From place p on file 0 has w, x, y and z, and the committed offset of descriptor 0 is n.

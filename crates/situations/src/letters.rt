@@ -1,4 +1,4 @@
-// The twelve situations, each under its words in paper 01.
+// The twelve situations, each under its words in paper 01. In d, e and k a first commit fills file 0 with zeros (paper 02, F-8).
 use crate::calls::RECORDS_FULL;
 use crate::calls::Run;
 use crate::calls::SEEK_PAST_END;
@@ -6,6 +6,7 @@ use crate::calls::SETTLED_PAST_END;
 use crate::calls::STALE;
 use crate::calls::WRITE_PAST_END;
 use crate::calls::commit;
+use crate::calls::filled;
 use crate::calls::granted;
 use crate::calls::pointer;
 use crate::calls::read;
@@ -52,7 +53,7 @@ pub fn c() -> bool {
 
 // As c, but T0 reads 3 and T1 writes Z at v; T1 has not committed.
 fn reads_three(v: usize) -> Run {
-    let r = start();
+    let r = filled(start());
     let r = seek(r, 0, 0, 0, 0);
     let r = write(r, 0, 0, 2, b'A', 0);
     let r = seek(r, 0, 0, 0, 0);
@@ -66,7 +67,7 @@ pub fn d() -> bool {
     let r = reads_three(2);
     let r = granted(r, 1, 1, 1);
     let r = commit(r, 0, STALE);
-    let at_two = stands(r, 0, 0, 0, b'Z', 0, 0);
+    let at_two = stands(r, 0, 0, 0, b'Z', 0, 4096);
     let r = reads_three(3);
     let r = granted(r, 1, 0, 0);
     let r = granted(r, 0, 0, 0);
@@ -75,14 +76,14 @@ pub fn d() -> bool {
 
 // T0 on 0: Seek 0, read 1. T1 writes byte 0 with value 0 on 8 after Seek 0: commit 1, T0 13.
 pub fn e() -> bool {
-    let r = start();
+    let r = filled(start());
     let r = seek(r, 0, 0, 0, 0);
     let r = read(r, 0, 0, 1, 0, b'.', b'.', 1);
     let r = seek(r, 1, 8, 0, 0);
     let r = write(r, 1, 8, 1, 0, 0);
     let r = granted(r, 1, 1, 1);
     let r = commit(r, 0, STALE);
-    stands(r, 0, 0, 0, 0, 0, 0)
+    stands(r, 0, 0, 0, 0, 0, 4096)
 }
 
 // T0 on 0: write A, Seek 0, read 1: A. T1 on 0: Seek 5, commit: 1. T0 13.
@@ -144,7 +145,7 @@ pub fn j() -> bool {
 
 // Seek 4,096 passes, 4,097 is 8. At 4,096 a write of 1 is 9, of 0 passes. From 4,095 a read of 2 gives 1.
 pub fn k() -> bool {
-    let r = start();
+    let r = filled(start());
     let r = seek(r, 0, 0, 4096, 0);
     let r = seek(r, 0, 0, 4097, SEEK_PAST_END);
     let r = pointer(r, 0, 0, 4096);

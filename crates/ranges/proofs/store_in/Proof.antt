@@ -33,6 +33,13 @@ returns-2 : tie.Need-returns-2 Inv-loop μ-loop
 unfolding storeIn
 returns-2 c = simp (held (c .before .before .before .before .before .files-in .ensures) (c .before .before .before .before .if1 .left), failed (c .before .offsets-in .ensures) (c .if2 .taken))
 
+lengths-in-requires : tie.Need-lengths-in-requires Inv-loop μ-loop
+lengths-in-requires c κs = search needs
+
+returns-3 : tie.Need-returns-3 Inv-loop μ-loop
+unfolding storeIn
+returns-3 c = simp (held (c .before .before .before .before .before .before .before .before .before .files-in .ensures) (c .before .before .before .before .before .before .before .before .if1 .left), held (c .before .before .before .before .before .offsets-in .ensures) (c .before .before .before .before .if2 .left), failed (c .before .lengths-in .ensures) (c .if3 .taken))
+
 loop-holds : tie.Need-loop-holds Inv-loop μ-loop
 loop-holds c = (omega arith, below-zero _)
 
@@ -54,12 +61,12 @@ element-copy-out-y c = search needs
 transaction-in-requires : tie.Need-transaction-in-requires Inv-loop μ-loop
 transaction-in-requires c κs = search needs
 
-returns-3 : tie.Need-returns-3 Inv-loop μ-loop
+returns-4 : tie.Need-returns-4 Inv-loop μ-loop
 unfolding storeIn
-returns-3 c =
-    let a = c .before .before .before .before .before .before .before .before .before .before .before .before .before .before .before .before .before .args in
+returns-4 c =
+    let a = c .before .before .before .before .before .before .before .before .before .before .before .before .before .before .before .before .before .before .before .before .before .args in
     let t = c .before .before .before .before .before .before .before .loop .t in
-    simp (held (c .before .before .before .before .before .before .before .before .before .before .before .before .before .files-in .ensures) (c .before .before .before .before .before .before .before .before .before .before .before .before .if1 .left), held (c .before .before .before .before .before .before .before .before .before .offsets-in .ensures) (c .before .before .before .before .before .before .before .before .if2 .left), below-fails (λ u. transactionIn (transaction (a .t1) u) (a .journal .now) u) t 8 (omega arith) (failed (c .before .transaction-in .ensures) (c .if4 .taken)))
+    simp (held (c .before .before .before .before .before .before .before .before .before .before .before .before .before .before .before .before .before .files-in .ensures) (c .before .before .before .before .before .before .before .before .before .before .before .before .before .before .before .before .if1 .left), held (c .before .before .before .before .before .before .before .before .before .before .before .before .before .offsets-in .ensures) (c .before .before .before .before .before .before .before .before .before .before .before .before .if2 .left), held (c .before .before .before .before .before .before .before .before .before .lengths-in .ensures) (c .before .before .before .before .before .before .before .before .if3 .left), below-fails (λ u. transactionIn (transaction (a .t1) u) (a .journal .now) u) t 8 (omega arith) (failed (c .before .transaction-in .ensures) (c .if5 .taken)))
 
 add-t : tie.Need-add-t Inv-loop μ-loop
 add-t c = search needs
@@ -73,13 +80,13 @@ loop-again c =
     ⊎-elim
     (λ w. (omega arith, below-more _ _ (i .inv .1) (held (w .2 .ensures) (w .3 .left))))
     (λ w. (omega arith, below-more _ _ (i .inv .1) (c .before .idle .ensures (not-false _ (w .left)) _ _)))
-    (c .if3 .came)
+    (c .if4 .came)
 
-returns-4 : tie.Need-returns-4 Inv-loop μ-loop
+returns-5 : tie.Need-returns-5 Inv-loop μ-loop
 unfolding storeIn
-returns-4 c =
+returns-5 c =
     let e : c .before .loop .t ≡ 8 = omega arith in
-    simp (held (c .before .before .before .before .before .before .before .files-in .ensures) (c .before .before .before .before .before .before .if1 .left), held (c .before .before .before .offsets-in .ensures) (c .before .before .if2 .left), rw e at (c .before .loop .inv .1))
+    simp (held (c .before .before .before .before .before .before .before .before .before .before .before .files-in .ensures) (c .before .before .before .before .before .before .before .before .before .before .if1 .left), held (c .before .before .before .before .before .before .before .offsets-in .ensures) (c .before .before .before .before .before .before .if2 .left), held (c .before .before .before .lengths-in .ensures) (c .before .before .if3 .left), rw e at (c .before .loop .inv .1))
 
 pub store-in-spec : {M : Type 1} → statement M
 store-in-spec =
@@ -91,6 +98,8 @@ store-in-spec =
     returns
     offsets-in-requires
     returns-2
+    lengths-in-requires
+    returns-3
     loop-holds
     mul-x
     element-copy-out-x
@@ -98,8 +107,8 @@ store-in-spec =
     mul-y
     element-copy-out-y
     transaction-in-requires
-    returns-3
+    returns-4
     add-t
     loop-less
     loop-again
-    returns-4)
+    returns-5)

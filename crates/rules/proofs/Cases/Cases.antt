@@ -1,13 +1,13 @@
 -- The situations of paper 01 hold of the rules: each is computed.
 use mathlib.Core.Path.{refl}
-use Rattle.rules.specs.Situations.{Starred, toldA, toldB, toldC, toldD, toldE, toldF, toldG, toldH, toldI, toldJ, toldK, toldL}
-use Rattle.rules.specs.Corners.{Corners, toldStaleFirst, toldRefusedSettling, toldUnsighted, toldMoved, toldMovedStale, toldNeighbour, toldNeighbourSet, toldReadNone, toldReadNoneStale, toldReadNoneSets, toldOnlyLooked, mixed, dirtyAfter, readBeside, toldWriteNone, toldTurnedBack, toldStaysOpen, toldStillStale, toldReadsAgain, toldBegunAgain, toldStaleEnded, toldJustBegun, toldNumbers, toldArguments, toldLog, toldOverlap, toldTwoAppends, toldOtherFile, toldKnown, toldPlaced, toldMovedTwice, toldLastPlace, toldUntouched, toldPlacedUnsighted, toldFifteen, toldFifteenSet, toldInOrder, toldKnownOnce, toldSettledAlone, toldPlaces, toldNoPlaceYet, toldOctet}
+use Rattle.rules.specs.Situations.{Starred, filled, toldA, toldB, toldC, toldD, toldE, toldF, toldG, toldH, toldI, toldJ, toldK, toldL}
+use Rattle.rules.specs.Corners.{Corners, twoZeros, ownWrite, toldStaleFirst, toldRefusedSettling, toldUnsighted, toldMoved, toldMovedStale, toldNeighbour, toldNeighbourSet, toldReadNone, toldReadNoneStale, toldReadNoneSets, toldOnlyLooked, mixed, dirtyAfter, readBeside, toldWriteNone, toldTurnedBack, toldStaysOpen, toldStillStale, toldReadsAgain, toldBegunAgain, toldStaleEnded, toldJustBegun, toldNumbers, toldArguments, toldLog, toldOverlap, toldTwoAppends, toldOtherFile, toldKnown, toldPlaced, toldMovedTwice, toldLastPlace, toldUntouched, toldPlacedUnsighted, toldFifteen, toldFifteenSet, toldInOrder, toldKnownOnce, toldSettledAlone, toldPlaces, toldNoPlaceYet, toldOctet, toldNothingGiven, toldNothingGivenStale, toldOwnEnd, toldOwnEndStale, toldFullRead, toldNoneWanted, toldBeyond, toldBeyondSet, toldDeferredEnd, toldNotRaised}
 use Rattle.rules.specs.Setup.{onPlain}
 use Rattle.rules.proofs.Cases.Opened.{opened}
 
 -- "The starred ones hold together as a theorem about the rules."
 pub starred : Starred onPlain
-unfolding opened toldA toldB toldC toldD toldE toldF toldG toldH toldI toldJ
+unfolding opened filled toldA toldB toldC toldD toldE toldF toldG toldH toldI toldJ
 starred =
     record {
       a = (refl, refl, refl, refl);
@@ -24,10 +24,10 @@ starred =
 
 -- Situations k and l, and corners of the text.
 pub corners : Corners onPlain
-unfolding opened toldK toldL toldStaleFirst toldRefusedSettling toldUnsighted toldMoved toldMovedStale toldNeighbour toldNeighbourSet toldReadNone toldReadNoneStale toldReadNoneSets toldOnlyLooked mixed dirtyAfter readBeside toldWriteNone toldTurnedBack toldStaysOpen toldStillStale toldReadsAgain toldBegunAgain toldStaleEnded toldJustBegun toldNumbers toldArguments toldLog toldOverlap toldTwoAppends toldOtherFile toldKnown toldPlaced toldMovedTwice toldLastPlace toldUntouched toldPlacedUnsighted toldFifteen toldFifteenSet toldInOrder toldKnownOnce toldSettledAlone toldPlaces toldNoPlaceYet toldOctet
+unfolding opened filled twoZeros ownWrite toldK toldL toldStaleFirst toldRefusedSettling toldUnsighted toldMoved toldMovedStale toldNeighbour toldNeighbourSet toldReadNone toldReadNoneStale toldReadNoneSets toldOnlyLooked mixed dirtyAfter readBeside toldWriteNone toldTurnedBack toldStaysOpen toldStillStale toldReadsAgain toldBegunAgain toldStaleEnded toldJustBegun toldNumbers toldArguments toldLog toldOverlap toldTwoAppends toldOtherFile toldKnown toldPlaced toldMovedTwice toldLastPlace toldUntouched toldPlacedUnsighted toldFifteen toldFifteenSet toldInOrder toldKnownOnce toldSettledAlone toldPlaces toldNoPlaceYet toldOctet toldNothingGiven toldNothingGivenStale toldOwnEnd toldOwnEndStale toldFullRead toldNoneWanted toldBeyond toldBeyondSet toldDeferredEnd toldNotRaised
 corners =
     record {
-      k = refl;
+      k = (refl, refl);
       l = refl;
       staleFirst = refl;
       refusedSettling = (refl, refl);
@@ -70,4 +70,14 @@ corners =
       listedPlaces = (refl, refl);
       noPlaceYet = refl;
       octet = (refl, refl);
+      nothingGiven = (refl, refl);
+      nothingGivenStale = (refl, refl, refl);
+      ownEnding = (refl, refl);
+      ownEndingStale = refl;
+      fullRead = (refl, refl, refl);
+      noneWanted = (refl, refl);
+      beyond = (refl, refl);
+      beyondSet = (refl, refl, refl);
+      deferredEnd = (refl, refl, refl, refl, refl);
+      notRaised = (refl, refl);
     }

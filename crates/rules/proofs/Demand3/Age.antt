@@ -1,5 +1,5 @@
--- "No condition reads the store's age": a store at rest stands for the same store without buffers as a young one with its files and
--- offsets, so both answer alike.
+-- "No condition reads the store's age": a store at rest stands for the same store without buffers as a young one with its files,
+-- offsets and lengths, so both answer alike.
 use mathlib.Core.Bool.{Bool, false}
 use mathlib.Core.List.{List}
 use mathlib.Core.Logic.{_⊎_, inl, inr}
@@ -11,7 +11,7 @@ use Rattle.octets.proofs.PartLaws.{le-or-lt}
 use Rattle.record.specs.declared.Transaction.{Transaction}
 use Rattle.record.specs.State.{transaction, ended}
 use Rattle.ranges.proofs.Laws.{InRange, in-range, in-range-intro}
-use Rattle.rules.specs.Items.{Values, Item, byte, offset}
+use Rattle.rules.specs.Items.{Values, Item, byte, offset, fileLength}
 use Rattle.rules.specs.Messages.{Call, Reply}
 use Rattle.rules.specs.Machine.{Machine, fileOf, values}
 use Rattle.rules.specs.Calls.{freshStore, freshMachine, callsAfter, callsReplies}
@@ -51,6 +51,7 @@ module _ (m : Machine) (s : Sound m) (logs : List ℕ) (size : length logs ≡ 3
             record {
               files = s .shaped .files;
               offsets = s .shaped .offsets;
+              lengths = s .shaped .lengths;
               transactions = f .shaped .transactions;
               descriptors = f .shaped .descriptors;
             };
@@ -60,7 +61,7 @@ module _ (m : Machine) (s : Sound m) (logs : List ℕ) (size : length logs ≡ 3
         marks = f .marks;
         inRange =
             in-range-intro (rejuvenated m logs .store) (rejuvenated m logs .journal)
-            (record { files = r .files; offsets = r .offsets; transactions = in-range (freshStore (m .store .filenumbers)) _ (f .inRange) .transactions });
+            (record { files = r .files; offsets = r .offsets; lengths = r .lengths; transactions = in-range (freshStore (m .store .filenumbers)) _ (f .inRange) .transactions });
       }
 
   young-closed : (t : ℕ) → t ≤ 7 → transaction (rejuvenated m logs .store) t .begun ≡ false
@@ -75,6 +76,7 @@ module _ (m : Machine) (s : Sound m) (logs : List ℕ) (size : length logs ≡ 3
       each : (i : Item) → values (m .store) (m .files) i ≡ values (rejuvenated m logs .store) (rejuvenated m logs .files) i
       each (byte q) = unfold values in refl
       each (offset d) = unfold values in refl
+      each (fileLength f) = unfold values in refl
 
 pub ageless : Ageless
 unfolding view

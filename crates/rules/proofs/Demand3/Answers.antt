@@ -3,12 +3,12 @@ use mathlib.Core.Bool.{Bool, true, false, cond, not, _&&_, false≢true}
 use mathlib.Core.List.{List, []}
 use mathlib.Core.Path.{_≡_, refl, sym, ap, _∙_, subst}
 use borrow.Author.Tests.{leb-true, eq-eqb}
-use lib.Dec.{leb, eqb}
+use lib.Dec.{leb, ltb, eqb}
 use Prim.Native.Nat.{ℕ, _≤_, min}
 use Rattle.record.specs.Paper.{number, refusals, Said, plain, pointer, given, granted, pairs, refused}
 use Rattle.record.specs.declared.outcomes.Refusal.the-variants.{Stale}
 use Rattle.ranges.proofs.Laws.{and-left, and-right}
-use Rattle.rules.specs.Items.{Item, Values, Prog, done, ask, andThen, result}
+use Rattle.rules.specs.Items.{Item, fileLength, Values, Prog, done, ask, within, andThen, result}
 use Rattle.rules.specs.Messages.{Op, seek, write, getFilePointer, read}
 use Rattle.rules.specs.Steps.{Stepped, refuse, accept, check, orGivenBack, seekStep, writeStep, pointerStep, readSettled, readStep, step, turnedBack}
 use Rattle.rules.specs.Transactions.{Txn, Settled, past, all}
@@ -50,12 +50,14 @@ Right (accept y a b) = IsAnswer a
 abbrev pub Always : Prog Stepped → Type 0
 Always (done s) = Right s
 Always (ask i f) = (v : ℕ) → Always (f v)
+Always (within g p f) = (b : Bool) → Always (f b)
 
 module _ {A : Type 0} where
   always-then : (p : Prog A) (k : A → Prog Stepped) → ((a : A) → Always (k a)) → Always (andThen p k)
   unfolding andThen
   always-then (done a) k h = h a
   always-then (ask i f) k h = λ v. always-then (f v) k h
+  always-then (within g p f) k h = λ b. always-then (f b) k h
 
 always-check : (ok : Bool) (n : ℕ) (next : Prog Stepped) → Later n → Always next → Always (check ok n next)
 unfolding check
@@ -87,6 +89,11 @@ always-result : (v : Values) (p : Prog Stepped) → Always p → Right (result v
 unfolding result
 always-result v (done s) h = h
 always-result v (ask i f) h = always-result v (f (v i)) (h (v i))
+always-result v (within g p f) h = chosen (ltb p (v (fileLength g))) (always-result v (f true) (h true)) (always-result v (f false) (h false))
+  where
+    chosen : (b : Bool) → Right (result v (f true)) → Right (result v (f false)) → Right (cond b (result v (f true)) (result v (f false)))
+    chosen true k l = k
+    chosen false k l = l
 
 -- The step of a call, turned back or not.
 pub right-step : (fileOf : ℕ → ℕ) (o : Op) (x : Txn) (v : Values) (stale : Bool) → Right (turnedBack stale o (result v (step fileOf o x)))

@@ -1,23 +1,25 @@
 -- Which calls touch which buffer.
 use mathlib.Core.Bool.{Bool, true, false, cond, true≢false}
-use mathlib.Core.List.{List, []}
+use mathlib.Core.List.{List, [], _∷_}
 use mathlib.Core.Path.{_≡_, refl, sym, ap, _∙_}
 use borrow.Author.Tests.{eq-eqb}
 use lib.Dec.{eqb}
+use lib.ListN.{getD, set}
 use native.Mathlib.Omega.{arith}
 use Prim.Native.Nat.{ℕ, zero, suc, _≤_}
 use Rattle.octets.specs.Marks.{hasMark, withoutMarks}
 use Rattle.octets.proofs.MarkLaws.{has-without-marks}
 use Rattle.record.specs.declared.Transaction.{Transaction}
-use Rattle.record.specs.State.{begun, ended}
+use Rattle.record.specs.State.{noTransaction, begun, ended, withTransaction}
 use Rattle.record.specs.Paper.{Said, plain, granted, refused}
 use Rattle.rules.specs.Items.{Item}
 use Rattle.rules.specs.Messages.{Op, seek, write, getFilePointer, read, bufferOf, Call, begin, on, commit, abort, places}
 use Rattle.rules.specs.Steps.{Stepped, refuse, accept}
 use Rattle.rules.specs.Commits.{Setting, commitRefusal}
 use Rattle.rules.specs.Machine.{Machine}
-use Rattle.rules.specs.Calls.{Turn, answer, turnDown, passing, fresh, freshMachine, reset, beginTurn, abortTurn, logged, served, stepTurn, commitGranted, commitDecided, commitTurn, admitted, call, placesTurn}
+use Rattle.rules.specs.Calls.{Turn, answer, turnDown, passing, fresh, freshMachine, reset, beginTurn, abortTurn, logged, served, stepTurn, afterCommit, commitGranted, commitDecided, commitTurn, admitted, call, placesTurn}
 use Rattle.rules.specs.Buffers.{isWrite, isCommit, Unmarked, Buffers}
+use Rattle.rules.proofs.View.Tables.{getD-tabulate}
 use Rattle.rules.proofs.Demand3.Answers.{IsAnswer, answer-not-refused, Leaving}
 use Rattle.rules.proofs.Demand3.Refusals.{refused-same, admission-leaving, passing-zero, passing-stale}
 
@@ -77,6 +79,26 @@ call-files (places t f out) m e = passing-leaves (λ x. x .files) _ out m (place
 cleared : (t : ℕ) (marks : List ℕ) → t ≤ 7 → (q : ℕ) → hasMark (withoutMarks t marks) t q ≡ false
 cleared t marks l q = has-without-marks t t q marks (omega arith) (omega arith) ∙ rw (eq-eqb t t refl)
 
+-- The lengths that it has sighted.
+replaced : (t : ℕ) (x : Transaction) (ts : List Transaction) → x .lengthmarks ≡ 0 → getD (set ts t x) t noTransaction .lengthmarks ≡ 0
+replaced t x [] e = refl
+replaced zero x (y ∷ ts) e = e
+replaced (suc t) x (y ∷ ts) e = replaced t x ts e
+
+reset-cleared : (t : ℕ) (x : Transaction) (m : Machine) → t ≤ 7 → x .lengthmarks ≡ 0 → Unmarked t (reset t x m)
+unfolding reset withTransaction
+reset-cleared t x m l e = record { bytes = cleared t (m .marks) l; lengths = replaced t x (m .store .transactions) e }
+
+granted-cleared : (t : ℕ) (ss : List Setting) (m : Machine) → t ≤ 7 → Unmarked t (commitGranted t ss m .after)
+unfolding commitGranted afterCommit ended
+granted-cleared t ss m l =
+    record {
+      bytes = cleared t (m .marks) l;
+      lengths =
+          ap (λ (x : Transaction). x .lengthmarks) (getD-tabulate (afterCommit t (m .marks) ss (m .store)) 8 t noTransaction (omega arith))
+          ∙ rw (eq-eqb t t refl);
+    }
+
 -- An answered call's turn is its own.
 answered-turn : (k : ℕ) (m : Machine) (w : Turn) (a : Said) → IsAnswer a → passing k [] m w .reply .answer ≡ a → passing k [] m w ≡ w
 unfolding passing
@@ -87,33 +109,33 @@ answered k m w a h e = ap (λ (x : Turn). x .after) (answered-turn k m w a h e)
 
 decided-cleared : (t : ℕ) (ss : List Setting) (m : Machine) (stale placed : Bool) (n : ℕ) → t ≤ 7
     → commitDecided t ss m (commitRefusal stale placed) .reply .answer ≡ granted n → Unmarked t (commitDecided t ss m (commitRefusal stale placed) .after)
-unfolding commitDecided commitRefusal commitGranted
+unfolding commitDecided commitRefusal
 decided-cleared t ss m true placed n l e = absurd (answer-not-refused (granted n) 13 tt (sym e))
-decided-cleared t ss m false true n l e = cleared t (m .marks) l
+decided-cleared t ss m false true n l e = granted-cleared t ss m l
 decided-cleared t ss m false false n l e = absurd (answer-not-refused (granted n) 12 tt (sym e))
 
 decided-stale : (t : ℕ) (ss : List Setting) (m : Machine) (stale placed : Bool) → t ≤ 7
     → commitDecided t ss m (commitRefusal stale placed) .reply .answer ≡ refused 13 → Unmarked t (commitDecided t ss m (commitRefusal stale placed) .after)
-unfolding commitDecided commitRefusal commitGranted reset
-decided-stale t ss m true placed l e = cleared t (m .marks) l
+unfolding commitDecided commitRefusal commitGranted ended
+decided-stale t ss m true placed l e = reset-cleared t ended m l refl
 decided-stale t ss m false true l e = absurd (answer-not-refused _ 13 tt e)
 decided-stale t ss m false false l e = let z : _≡_ {A = ℕ} 12 13 = refused-same 12 13 e in absurd (omega arith)
 
 pub buffers : (m : Machine) → Buffers m
-unfolding call admitted beginTurn abortTurn commitTurn answer reset fresh freshMachine
+unfolding call admitted beginTurn abortTurn commitTurn answer begun ended fresh freshMachine
 buffers m =
     record {
       logs = λ c. call-logs c m;
       freshLogs = λ numbers. passing-leaves (λ x. x .logs) _ [] m _ refl;
       files = λ c. call-files c m;
-      begun = λ t l e q. rw (answered _ m (beginTurn t m) plain tt e) (cleared t (m .marks) l q);
-      aborted = λ t l e q. rw (answered _ m (abortTurn t m) plain tt e) (cleared t (m .marks) l q);
+      begun = λ t l e. rw (answered _ m (beginTurn t m) plain tt e) (reset-cleared t begun m l refl);
+      aborted = λ t l e. rw (answered _ m (abortTurn t m) plain tt e) (reset-cleared t ended m l refl);
       committed =
-          λ t n l e q.
+          λ t n l e.
           rw (answered _ m (commitTurn t m) (granted n) tt e)
-          (decided-cleared t _ m _ _ n l (sym (ap (λ (w : Turn). w .reply .answer) (answered-turn _ m (commitTurn t m) (granted n) tt e)) ∙ e) q);
+          (decided-cleared t _ m _ _ n l (sym (ap (λ (w : Turn). w .reply .answer) (answered-turn _ m (commitTurn t m) (granted n) tt e)) ∙ e));
       stale =
-          λ t l e q.
+          λ t l e.
           let z = passing-stale _ m (commitTurn t m) (admission-leaving _ (m .store) (m .journal) t) e in
-          rw (ap (λ (w : Turn). w .after) z) (decided-stale t _ m _ _ l (sym (ap (λ (w : Turn). w .reply .answer) z) ∙ e) q);
+          rw (ap (λ (w : Turn). w .after) z) (decided-stale t _ m _ _ l (sym (ap (λ (w : Turn). w .reply .answer) z) ∙ e));
     }

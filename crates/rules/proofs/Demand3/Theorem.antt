@@ -37,7 +37,7 @@ use Rattle.rules.proofs.Demand3.Answers.{IsAnswer, answer-not-refused}
 use Rattle.rules.proofs.Demand3.Ranges.{never-early}
 
 -- Every call agrees with that of the store without its buffers.
-call-turn : (c : Call) (m : Machine) → Sound m → Agrees (call c m) (sightedCall c (view m))
+pub call-turn : (c : Call) (m : Machine) → Sound m → Agrees (call c m) (sightedCall c (view m))
 call-turn (begin t) m s = begin-turn m t s
 call-turn (on t o) m s = step-turn m t o s
 call-turn (commit t) m s = commit-turn m t s

@@ -7,7 +7,7 @@ use lib.Dec.{eqb, leb}
 use Prim.Native.Nat.{ℕ, zero, suc, _+_}
 use Rattle.octets.specs.Bits.{bitsOf}
 use Rattle.record.specs.Paper.{Said, plain, granted, refused}
-use Rattle.rules.specs.Items.{Item, Values, byte, offset, result, asked}
+use Rattle.rules.specs.Items.{Item, Values, byte, offset, fileLength, result, asked}
 use Rattle.rules.specs.Transactions.{Txn, empty, put}
 use Rattle.rules.specs.Messages.{Op, bufferOf, places}
 use Rattle.rules.specs.Steps.{Stepped, refuse, accept, step, turnedBack}
@@ -16,15 +16,15 @@ use Rattle.rules.specs.Messages.{Call, begin, on, commit, abort, Reply}
 use Rattle.rules.specs.Sightings.{sameEntries, entries}
 use Rattle.rules.specs.Plain.{Running, Slot, closed, running, Plain, startPlain, ops, firstList, secondList, isStale, PlainTurn, turnedDown, withSlot, answering, plainBegin, plainStepped, plainOn, committing, grant, equalSlot, staleSlot, becameStale, plainCommitted, plainCommit, plainAbort, numbered, plainCall, plainAfter, plainReplies, plainPlaces}
 use Rattle.rules.specs.Lone.{lone}
-use Rattle.rules.proofs.Serial.Sighted.{Held, Seat, vacant, held, Sighted, startSighted, sighted, among, hit, markAll, SightedTurn, turnedAway, withSeat, telling, sightedBegin, sightedStepped, sightedOn, touch, newlyStale, granting, sightedCommitted, sightedCommit, sightedAbort, seated, sightedCall, sightedAfter, sightedReplies, sightedPlaces}
+use Rattle.rules.proofs.Serial.Sighted.{Held, Seat, vacant, held, Sighted, startSighted, sighted, among, hit, markAll, lengthAll, SightedTurn, turnedAway, withSeat, telling, sightedBegin, sightedStepped, sightedOn, touch, newlyStale, granting, sightedCommitted, sightedCommit, sightedAbort, seated, sightedCall, sightedAfter, sightedReplies, sightedPlaces}
 use Rattle.rules.proofs.Serial.Programs.{among-append, turned-back}
-use Rattle.rules.proofs.Serial.Lists.{items, current, current-entries, current-append, anyTouched, hit-is, markAll-at, current-after}
+use Rattle.rules.proofs.Serial.Lists.{items, current, current-entries, current-append, anyTouched, hit-is, markAll-at, lengthAll-at, current-after}
 use Rattle.rules.proofs.Serial.Sound.{Sound, seen-old, lists-same, sound-more, sound-granted, items-more, extended}
 use Rattle.rules.proofs.Serial.Invariant.{SoundSlot, Good, put-keeps, good-call}
 
 -- The store of a plain machine: a byte is marked where it was sighted, and a transaction is stale where its two lists differ.
 unfoldable pub heldOf : Plain → Running → Held
-heldOf p r = record { txn = r .txn; marked = λ q. among (byte q) (items (r .seen)); stale = isStale p r }
+heldOf p r = record { txn = r .txn; marked = λ q. among (byte q) (items (r .seen)); lengths = λ f. among (fileLength f) (items (r .seen)); stale = isStale p r }
 
 unfoldable pub seatOf : Plain → Slot → Seat
 seatOf p closed = vacant
@@ -66,6 +66,7 @@ sighted-is :
 unfolding sighted heldOf
 sighted-is p r s (byte q) = refl
 sighted-is p r s (offset d) = s .known d
+sighted-is p r s (fileLength f) = refl
 
 module _ (t : ℕ) (r : Running) (p : Plain) where
   -- Who is stale after a grant: who was so before, and who has sighted an item just set.
@@ -93,7 +94,7 @@ module _ (t : ℕ) (r : Running) (p : Plain) where
   unfolding touch seatOf SoundSlot heldOf
   touch-is closed h = refl
   touch-is (running q) h =
-      ap (λ (b : Bool). held (record { txn = q .txn; marked = λ k. among (byte k) (items (q .seen)); stale = b })) (stale-after q h)
+      ap (λ (b : Bool). held (record { txn = q .txn; marked = λ k. among (byte k) (items (q .seen)); lengths = λ f. among (fileLength f) (items (q .seen)); stale = b })) (stale-after q h)
 
   newly-is :
       (s : Slot)
@@ -173,6 +174,14 @@ module _ (p : Plain) (g : Good p) where
       ∙ sym (among-append (byte q) (items (r .seen)) is)
       ∙ ap (among (byte q)) (sym (items-more (p .committed .setter) (r .seen) is))
 
+  lengths-more :
+      (r : Running) (is : List Item) (f : ℕ)
+      → lengthAll is (λ k. among (fileLength k) (items (r .seen))) f ≡ among (fileLength f) (items (r .seen ++ entries (p .committed .setter) is))
+  lengths-more r is f =
+      lengthAll-at is (λ k. among (fileLength k) (items (r .seen))) f
+      ∙ sym (among-append (fileLength f) (items (r .seen)) is)
+      ∙ ap (among (fileLength f)) (sym (items-more (p .committed .setter) (r .seen) is))
+
   same-stepped :
       (t : ℕ) (o : Op) (r : Running)
       → Sound (p .fileOf) (p .committed) (p .grants) r
@@ -186,9 +195,25 @@ module _ (p : Plain) (g : Good p) where
       let now = asked (p .committed .value) (step (p .fileOf) o (r .txn)) in
       let reply : Reply = record { answer = answer; buffer = buffer } in
       ap₂
-      (λ (m : ℕ → Bool) (b : Bool).
-      record { reply = reply; after = withSeat t (held (record { txn = y; marked = m; stale = b })) (abs p) })
+      (λ (m l : ℕ → Bool).
+      record { reply = reply; after = withSeat t (held (record { txn = y; marked = m; lengths = l; stale = isStale p r })) (abs p) })
       (fun-ext (marked-more r now))
+      (fun-ext (lengths-more r now))
+      ∙ ap
+      (λ (b : Bool).
+      record {
+        reply = reply;
+        after =
+            withSeat t
+            (held
+            (record {
+              txn = y;
+              marked = λ q. among (byte q) (items (r .seen ++ entries (p .committed .setter) now));
+              lengths = λ f. among (fileLength f) (items (r .seen ++ entries (p .committed .setter) now));
+              stale = b;
+            }))
+            (abs p);
+      })
       (stale-more o r y answer buffer h e)
       ∙ ap (λ (a : Sighted). record { reply = reply; after = a })
       (abs-slot t (running (extended r o y answer buffer (entries (p .committed .setter) now))) p)

@@ -3,16 +3,16 @@ use mathlib.Core.Bool.{Bool, true, false, cond, _||_, or-assoc, or-false, or-tru
 use mathlib.Core.List.{List, [], _∷_, _++_}
 use mathlib.Core.Path.{_≡_, refl, ap, sym, _∙_}
 use borrow.Author.Tests.{eqb-true}
-use lib.Dec.{eqb, leb}
+use lib.Dec.{eqb, leb, ltb}
 use lib.ListN.{length}
-use Prim.Native.Nat.{ℕ, zero, suc, _+_, _-_, _*_, min}
+use Prim.Native.Nat.{ℕ, zero, suc, _+_, _*_}
 use Rattle.standings.specs.declared.Standing.{Standing}
 use Rattle.standings.specs.declared.Standing.the-variants.{Untouched, Placed, Deferred, Moved, Known}
 use Rattle.record.specs.Paper.{Said}
-use Rattle.rules.specs.Items.{offset, same, Values, Prog, done, andThen, result, asked}
+use Rattle.rules.specs.Items.{offset, fileLength, same, Values, Prog, done, within, andThen, result, asked}
 use Rattle.standings.specs.Table.{isKnown, settled, advance, afterSeek, afterWrite, afterRead, pointerSettles, readSettles, offsetOf}
 use Rattle.rules.specs.Transactions.{Txn, Write, put, settle, those, Settled, past, all, settling}
-use Rattle.rules.specs.Reading.{Source, own, file, bring, latest, fetch}
+use Rattle.rules.specs.Reading.{Source, own, file, bring, latest, ownEnd, reaches, gather}
 use Rattle.rules.specs.Messages.{Op, seek, write, getFilePointer, read}
 use Rattle.rules.specs.Steps.{Stepped, accept, check, orGivenBack, written, seekStep, writeStep, pointerStep, settledByRead, readSettled, readStep, step}
 use Rattle.rules.proofs.Serial.Sighted.{among}
@@ -156,13 +156,37 @@ unfolding bring asked among same
 bring-among v d (own b) q = refl
 bring-among v d file q = refl
 
-fetch-among : (v : Values) (d : ℕ) (fileOf : ℕ → ℕ) (ws : List Write) (f p n : ℕ)
-    → among (offset d) (asked v (fetch fileOf ws f p n)) ≡ false
-unfolding fetch asked among
-fetch-among v d fileOf ws f p zero = refl
-fetch-among v d fileOf ws f p (suc n) =
-    none-andThen v (offset d) (bring (latest fileOf f p ws) (4096 * f + p)) _ (bring-among v d (latest fileOf f p ws) (4096 * f + p))
-    (λ b. none-andThen v (offset d) (fetch fileOf ws f (suc p) n) _ (fetch-among v d fileOf ws f (suc p) n) (λ bs. refl))
+reaches-among : (v : Values) (d : ℕ) (own : Bool) (f p : ℕ) → among (offset d) (asked v (reaches own f p)) ≡ false
+unfolding reaches asked among same
+reaches-among v d true f p = refl
+reaches-among v d false f p = pick (ltb p (v (fileLength f)))
+  where
+    pick : (b : Bool) → among (offset d) (cond b [] (fileLength f ∷ [])) ≡ false
+    pick true = refl
+    pick false = refl
+
+gather-among : (v : Values) (d : ℕ) (fileOf : ℕ → ℕ) (ws : List Write) (f p n : ℕ)
+    → among (offset d) (asked v (gather fileOf ws f p n)) ≡ false
+unfolding gather asked among
+gather-among v d fileOf ws f p zero = refl
+gather-among v d fileOf ws f p (suc n) =
+    none-andThen v (offset d) (reaches (ltb p (ownEnd fileOf f ws)) f p) _ (reaches-among v d (ltb p (ownEnd fileOf f ws)) f p)
+    (more (gather-among v d fileOf ws f (suc p) n))
+  where
+    rest : Prog (List ℕ)
+    rest = gather fileOf ws f (suc p) n
+
+    more : among (offset d) (asked v rest) ≡ false → (there : Bool)
+        → among (offset d)
+        (asked v
+        (cond there
+        (andThen (bring (latest fileOf f p ws) (4096 * f + p)) (λ b. andThen rest (λ bs. done (b ∷ bs))))
+        (done [])))
+        ≡ false
+    more h true =
+        none-andThen v (offset d) (bring (latest fileOf f p ws) (4096 * f + p)) _ (bring-among v d (latest fileOf f p ws) (4096 * f + p))
+        (λ b. none-andThen v (offset d) rest _ h (λ bs. refl))
+    more h false = refl
 
 module _ (v : Values) where
   -- What known-step says, of a program that starts at transaction x.
@@ -220,9 +244,9 @@ module _ (v : Values) where
   keeps-read : (fileOf : ℕ → ℕ) (d n : ℕ) (buffer : List ℕ) (y : Txn) → Keeps y (readSettled fileOf d n buffer y)
   unfolding readSettled
   keeps-read fileOf d n buffer y =
-      keeps-after y (fetch fileOf (y .writes) (fileOf d) (offsetOf (y .standing d)) (min n (4096 - offsetOf (y .standing d)))) _
-      (λ e. fetch-among v e fileOf (y .writes) (fileOf d) (offsetOf (y .standing d)) (min n (4096 - offsetOf (y .standing d))))
-      (λ bytes. keeps-put y d _ _ (y .writes) _ _ (read-known (min n (4096 - offsetOf (y .standing d))) (y .standing d)))
+      keeps-after y (gather fileOf (y .writes) (fileOf d) (offsetOf (y .standing d)) n) _
+      (λ e. gather-among v e fileOf (y .writes) (fileOf d) (offsetOf (y .standing d)) n)
+      (λ bytes. keeps-put y d _ _ (y .writes) _ _ (read-known (length bytes) (y .standing d)))
 
   keeps-step : (fileOf : ℕ → ℕ) (o : Op) (x : Txn) → Keeps x (step fileOf o x)
   unfolding step seekStep writeStep pointerStep readStep written settledByRead

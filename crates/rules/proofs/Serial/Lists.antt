@@ -6,11 +6,11 @@ use borrow.Author.Tests.{eqb-true, eq-eqb, ne-eqb}
 use lib.Dec.{eqb}
 use native.Mathlib.Omega.{arith}
 use Prim.Native.Nat.{ℕ, _+_, _≤_}
-use Rattle.rules.specs.Items.{Item, byte, offset, same, Values}
+use Rattle.rules.specs.Items.{Item, byte, offset, fileLength, same, Values}
 use Rattle.rules.specs.Transactions.{put}
 use Rattle.rules.specs.Commits.{Setting, putItem, landed, setBy}
 use Rattle.rules.specs.Sightings.{Entry, sameEntry, sameEntries, entries}
-use Rattle.rules.proofs.Serial.Sighted.{Held, sighted, among, hit, markAll}
+use Rattle.rules.proofs.Serial.Sighted.{Held, sighted, among, hit, markAll, lengthAll}
 use Rattle.rules.proofs.Serial.Programs.{Every}
 
 -- Tests.
@@ -39,20 +39,31 @@ pub same-true : (i j : Item) → same i j ≡ true → i ≡ j
 unfolding same
 same-true (byte p) (byte q) e = ap byte (eqb-true p q e)
 same-true (byte p) (offset d) e = absurd (false≢true e)
+same-true (byte p) (fileLength g) e = absurd (false≢true e)
 same-true (offset d) (byte q) e = absurd (false≢true e)
 same-true (offset d) (offset e) h = ap offset (eqb-true d e h)
+same-true (offset d) (fileLength g) e = absurd (false≢true e)
+same-true (fileLength f) (byte q) e = absurd (false≢true e)
+same-true (fileLength f) (offset d) e = absurd (false≢true e)
+same-true (fileLength f) (fileLength g) e = ap fileLength (eqb-true f g e)
 
 pub same-refl : (i : Item) → same i i ≡ true
 unfolding same
 same-refl (byte p) = eq-eqb p p refl
 same-refl (offset d) = eq-eqb d d refl
+same-refl (fileLength f) = eq-eqb f f refl
 
 pub same-sym : (i j : Item) → same i j ≡ same j i
 unfolding same
 same-sym (byte p) (byte q) = eqb-sym p q
 same-sym (byte p) (offset d) = refl
+same-sym (byte p) (fileLength g) = refl
 same-sym (offset d) (byte q) = refl
 same-sym (offset d) (offset e) = eqb-sym d e
+same-sym (offset d) (fileLength g) = refl
+same-sym (fileLength f) (byte q) = refl
+same-sym (fileLength f) (offset e) = refl
+same-sym (fileLength f) (fileLength g) = eqb-sym f g
 
 -- Entries.
 pub sameEntry-true : (a b : Entry) → sameEntry a b ≡ true → a ≡ b
@@ -210,6 +221,17 @@ markAll-at (byte p ∷ is) m q =
     ∙ ap (λ (b : Bool). b || among (byte q) is) (put-or p q m)
     ∙ or-assoc (m q) (eqb q p) (among (byte q) is)
 markAll-at (offset d ∷ is) m q = markAll-at is m q
+markAll-at (fileLength f ∷ is) m q = markAll-at is m q
+
+pub lengthAll-at : (is : List Item) (m : ℕ → Bool) (f : ℕ) → lengthAll is m f ≡ (m f || among (fileLength f) is)
+unfolding lengthAll among same
+lengthAll-at [] m f = sym (or-false (m f))
+lengthAll-at (byte p ∷ is) m f = lengthAll-at is m f
+lengthAll-at (offset d ∷ is) m f = lengthAll-at is m f
+lengthAll-at (fileLength g ∷ is) m f =
+    lengthAll-at is (put g true m) f
+    ∙ ap (λ (b : Bool). b || among (fileLength f) is) (put-or g f m)
+    ∙ or-assoc (m f) (eqb f g) (among (fileLength f) is)
 
 -- After a grant the entries are current that were so before and whose items were not set.
 fresh-setter : (n k m : ℕ) → k ≤ n → (b : Bool) → eqb (cond b (n + 1) m) k ≡ (eqb m k && not b)

@@ -1,5 +1,5 @@
 -- The store without its buffers, for the proof of demand 3: committed values, and for each open transaction what it is, the bytes
--- that it has sighted, and whether it is stale. Nothing here has to be believed: the store's rules are shown equal to it, and it
+-- and the lengths that it has sighted, and whether it is stale. Nothing here has to be believed: the store's rules are shown equal to it, and it
 -- to the plain machine.
 use Rattle.rules.specs.Coverage.{placesOf}
 use mathlib.Core.Bool.{Bool, true, false, cond, not, _&&_, _||_}
@@ -9,7 +9,7 @@ use Prim.Native.Nat.{ℕ, zero, suc}
 use Rattle.octets.specs.Bits.{bitsOf}
 use Rattle.record.specs.declared.outcomes.Refusal.the-variants.{Stale}
 use Rattle.record.specs.Paper.{number, Said, plain, granted, refused}
-use Rattle.rules.specs.Items.{Item, byte, offset, same, Values, Prog, result, asked}
+use Rattle.rules.specs.Items.{Item, byte, offset, fileLength, same, Values, Prog, result, asked}
 use Rattle.standings.specs.Table.{isKnown}
 use Rattle.rules.specs.Transactions.{Txn, empty, put}
 use Rattle.rules.specs.Messages.{Op, bufferOf, places}
@@ -20,6 +20,7 @@ use Rattle.rules.specs.Messages.{Call, begin, on, commit, abort, Reply}
 pub record Held : Type 0 where
   pub txn : Txn
   pub marked : ℕ → Bool
+  pub lengths : ℕ → Bool
   pub stale : Bool
 
 pub data Seat : Type 0 where
@@ -34,10 +35,11 @@ pub record Sighted : Type 0 where
 unfoldable pub startSighted : (ℕ → ℕ) → Values → Sighted
 startSighted fileOf v = record { fileOf = fileOf; value = v; seats = λ t. vacant }
 
--- A byte is sighted where it is marked, an offset where its descriptor stands Known.
+-- A byte is sighted where it is marked, an offset where its descriptor stands Known, and a length where it is held so.
 unfoldable pub sighted : Held → Item → Bool
 sighted h (byte q) = h .marked q
 sighted h (offset d) = isKnown (h .txn .standing d)
+sighted h (fileLength f) = h .lengths f
 
 -- Whether an item stands in a list.
 unfoldable pub among : Item → List Item → Bool
@@ -52,6 +54,13 @@ unfoldable pub markAll : List Item → (ℕ → Bool) → ℕ → Bool
 markAll [] m = m
 markAll (byte q ∷ is) m = markAll is (put q true m)
 markAll (offset d ∷ is) m = markAll is m
+markAll (fileLength f ∷ is) m = markAll is m
+
+unfoldable pub lengthAll : List Item → (ℕ → Bool) → ℕ → Bool
+lengthAll [] m = m
+lengthAll (byte q ∷ is) m = lengthAll is m
+lengthAll (offset d ∷ is) m = lengthAll is m
+lengthAll (fileLength f ∷ is) m = lengthAll is (put f true m)
 
 pub record SightedTurn : Type 0 where
   pub reply : Reply
@@ -67,7 +76,7 @@ unfoldable pub telling : Said → Sighted → SightedTurn
 telling a s = record { reply = record { answer = a; buffer = [] }; after = s }
 
 unfoldable pub sightedBegin : ℕ → Seat → Sighted → SightedTurn
-sightedBegin t vacant s = telling plain (withSeat t (held (record { txn = empty; marked = λ q. false; stale = false })) s)
+sightedBegin t vacant s = telling plain (withSeat t (held (record { txn = empty; marked = λ q. false; lengths = λ f. false; stale = false })) s)
 sightedBegin t (held h) s = turnedAway 5 [] s
 
 unfoldable pub sightedStepped : ℕ → Op → Held → List Item → Sighted → Stepped → SightedTurn
@@ -75,7 +84,10 @@ sightedStepped t o h is s (refuse n) = turnedAway n (bufferOf o) s
 sightedStepped t o h is s (accept y answer buffer) =
     record {
       reply = record { answer = answer; buffer = buffer };
-      after = withSeat t (held (record { txn = y; marked = markAll is (h .marked); stale = h .stale })) s;
+      after =
+          withSeat t
+          (held (record { txn = y; marked = markAll is (h .marked); lengths = lengthAll is (h .lengths); stale = h .stale }))
+          s;
     }
 
 unfoldable pub sightedOn : ℕ → Op → Seat → Sighted → SightedTurn
@@ -87,7 +99,7 @@ sightedOn t o (held h) s =
 -- Another open transaction after a commit of those settings.
 unfoldable pub touch : List Setting → Seat → Seat
 touch ss vacant = vacant
-touch ss (held h) = held (record { txn = h .txn; marked = h .marked; stale = h .stale || hit ss h })
+touch ss (held h) = held (record { txn = h .txn; marked = h .marked; lengths = h .lengths; stale = h .stale || hit ss h })
 
 unfoldable pub newlyStale : List Setting → Seat → Bool
 newlyStale ss vacant = false

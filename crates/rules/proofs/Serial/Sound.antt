@@ -8,7 +8,7 @@ use lib.Dec.{eqb}
 use native.Mathlib.Omega.{arith}
 use Prim.Native.Nat.{ℕ, _+_, _≤_}
 use Rattle.record.specs.Paper.{Said}
-use Rattle.rules.specs.Items.{Item, offset, Values, result, asked}
+use Rattle.rules.specs.Items.{Item, offset, fileLength, Values, result, asked}
 use Rattle.standings.specs.Table.{isKnown}
 use Rattle.rules.specs.Transactions.{Txn, empty}
 use Rattle.rules.specs.Messages.{Op}
@@ -18,8 +18,10 @@ use Rattle.rules.specs.Messages.{Reply}
 use Rattle.rules.specs.Sightings.{Entry, sameEntries, entries, Committed}
 use Rattle.rules.specs.Plain.{Accepted, Running, ops, committing, grant}
 use Rattle.rules.specs.Lone.{Lone, lone}
+use Rattle.rules.specs.Lengths.{Longer}
 use Rattle.rules.proofs.Serial.Sighted.{among}
-use Rattle.rules.proofs.Serial.Programs.{Every, among-append, agree-result, agree-asked}
+use Rattle.rules.proofs.Serial.Programs.{Every, every-append, every-left, every-right, among-append, agree-result, agree-asked}
+use Rattle.rules.proofs.Serial.Lengths.{commit-longer}
 use Rattle.rules.proofs.Serial.Known.{known-step}
 use Rattle.rules.proofs.Serial.Lists.{iff-same, and-left, and-right, sameEntries-true, sameEntries-of, items, items-entries, items-append, entries-append, current, current-is, touched, setBy-at, landed-at}
 use Rattle.rules.proofs.Serial.Lone.{lone-more, lone-current}
@@ -50,23 +52,9 @@ recorded r s = record { through = true; txn = r .txn; replies = map (λ a. a .re
 pub record Sound (fileOf : ℕ → ℕ) (c : Committed) (n : ℕ) (r : Running) : Type 0 where
   pub sightings : List Sighting
   pub listed : r .seen ≡ map entryOf sightings
-  pub alone : (k : Committed) → Agrees (k .value) sightings → lone fileOf k (ops (r .calls)) empty ≡ recorded r (k .setter)
+  pub alone : (k : Committed) → Longer (c .value) (k .value) → Agrees (k .value) sightings → lone fileOf k (ops (r .calls)) empty ≡ recorded r (k .setter)
   pub recent : Every (Recent c n) sightings
   pub known : (d : ℕ) → isKnown (r .txn .standing d) ≡ among (offset d) (items (r .seen))
-
--- Every element.
-module _ {A : Type 0} (P : A → Type 0) where
-  every-append : (xs ys : List A) → Every P xs → Every P ys → Every P (xs ++ ys)
-  every-append [] ys h k = k
-  every-append (x ∷ xs) ys h k = (h .0, every-append xs ys (h .1) k)
-
-  every-left : (xs ys : List A) → Every P (xs ++ ys) → Every P xs
-  every-left [] ys h = tt
-  every-left (x ∷ xs) ys h = (h .0, every-left xs ys (h .1))
-
-  every-right : (xs ys : List A) → Every P (xs ++ ys) → Every P ys
-  every-right [] ys h = h
-  every-right (x ∷ xs) ys h = every-right xs ys (h .1)
 
 every-map : {A B : Type 0} (P : A → Type 0) (Q : B → Type 0) (f : A → B) → ((a : A) → P a → Q (f a)) → (xs : List A) → Every P xs → Every Q (map f xs)
 every-map P Q f h [] e = tt
@@ -95,7 +83,7 @@ module _ (fileOf : ℕ → ℕ) (c : Committed) (n : ℕ) (r : Running) (s : Sou
   -- The lone run of a transaction whose setters are current is the recorded one.
   pub alone-now : current (c .setter) (r .seen) ≡ true → lone fileOf c (ops (r .calls)) empty ≡ recorded r (c .setter)
   alone-now e =
-      s .alone c (agrees-now (s .sightings) (s .recent) (subst (λ (l : List Entry). current (c .setter) l ≡ true) (s .listed) e))
+      s .alone c (λ f. omega arith) (agrees-now (s .sightings) (s .recent) (subst (λ (l : List Entry). current (c .setter) l ≡ true) (s .listed) e))
 
   -- The two lists are equal exactly where every recorded entry still has its setter.
   pub lists-same : sameEntries (r .seen) (lone fileOf c (ops (r .calls)) empty .seen) ≡ current (c .setter) (r .seen)
@@ -132,7 +120,7 @@ sightings-recent c n h (i ∷ is) = (record { old = h i; kept = λ e. refl }, si
 -- Begin: nothing sighted yet.
 pub sound-begun : (fileOf : ℕ → ℕ) (c : Committed) (n : ℕ) → Sound fileOf c n (record { txn = empty; calls = []; seen = [] })
 unfolding lone ops recorded empty items among entries
-sound-begun fileOf c n = record { sightings = []; listed = refl; alone = λ k h. refl; recent = tt; known = λ d. refl }
+sound-begun fileOf c n = record { sightings = []; listed = refl; alone = λ k l h. refl; recent = tt; known = λ d. refl }
 
 -- The items that a transaction has sighted after one more call.
 pub items-more : (s : Values) (es : List Entry) (is : List Item) → items (es ++ entries s is) ≡ items es ++ is
@@ -153,24 +141,25 @@ module _ (fileOf : ℕ → ℕ) (c : Committed) (n : ℕ) (r : Running) (s : Sou
       (o : Op) (y : Txn) (answer : Said) (buffer : List ℕ)
       → result (c .value) (step fileOf o (r .txn)) ≡ accept y answer buffer
       → (k : Committed)
+      → Longer (c .value) (k .value)
       → Agrees (k .value) (s .sightings ++ sightingsOf c (asked (c .value) (step fileOf o (r .txn))))
       → lone fileOf k (ops (extended r o y answer buffer (entries (c .setter) (asked (c .value) (step fileOf o (r .txn)))) .calls)) empty
       ≡ recorded (extended r o y answer buffer (entries (c .setter) (asked (c .value) (step fileOf o (r .txn))))) (k .setter)
   unfolding ops recorded
-  more-alone o y answer buffer e k a =
+  more-alone o y answer buffer e k l a =
       let now = asked (c .value) (step fileOf o (r .txn)) in
       let reply : Reply = record { answer = answer; buffer = buffer } in
       let same-values = sightings-agree c (k .value) now (every-right (λ (g : Sighting). k .value (g .item) ≡ g .value) (s .sightings) (sightingsOf c now) a) in
       ap (λ (os : List Op). lone fileOf k os empty) (map-append (λ (x : Accepted). x .op) (r .calls) (record { op = o; reply = reply } ∷ []))
       ∙ lone-more fileOf k (ops (r .calls)) o empty (r .txn) y answer buffer (map (λ x. x .reply) (r .calls))
       (entries (k .setter) (items (r .seen)))
-      (s .alone k (every-left (λ (g : Sighting). k .value (g .item) ≡ g .value) (s .sightings) (sightingsOf c now) a))
-      (agree-result (c .value) (k .value) (step fileOf o (r .txn)) same-values ∙ e)
+      (s .alone k l (every-left (λ (g : Sighting). k .value (g .item) ≡ g .value) (s .sightings) (sightingsOf c now) a))
+      (agree-result (c .value) (k .value) l (step fileOf o (r .txn)) same-values ∙ e)
       ∙ ap₂
       (λ (rs : List Reply) (es : List Entry). record { through = true; txn = y; replies = rs; seen = es })
       (sym (map-append (λ (x : Accepted). x .reply) (r .calls) (record { op = o; reply = reply } ∷ [])))
       (ap (λ (is : List Item). entries (k .setter) (items (r .seen)) ++ entries (k .setter) is)
-      (agree-asked (c .value) (k .value) (step fileOf o (r .txn)) same-values)
+      (agree-asked (c .value) (k .value) l (step fileOf o (r .txn)) same-values)
       ∙ sym (entries-append (k .setter) (items (r .seen)) now)
       ∙ ap (entries (k .setter)) (sym (items-more (c .setter) (r .seen) now)))
 
@@ -226,7 +215,7 @@ module _ (fileOf : ℕ → ℕ) (c : Committed) (n : ℕ) (r : Running) (s : Sou
       record {
         sightings = s .sightings;
         listed = s .listed;
-        alone = s .alone;
+        alone = λ k l a. s .alone k (λ f. omega (arith, commit-longer fileOf (c .value) x f, l f)) a;
         recent = every-as (Recent c n) (Recent (committing fileOf (n + 1) x c) (n + 1)) (after-setting ss) (s .sightings) (s .recent);
         known = s .known;
       }

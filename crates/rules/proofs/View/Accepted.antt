@@ -8,6 +8,7 @@ use lib.Dec.{leb, eqb}
 use lib.ListN.{length, getD, List·getD-eq-default}
 use native.Mathlib.Omega.{arith}
 use Prim.Native.Nat.{ℕ, _*_, _≤_, _<_}
+use Rattle.octets.specs.Marks.{contains}
 use Rattle.octets.proofs.PartLaws.{le-or-lt}
 use Rattle.record.specs.declared.Transaction.{Transaction}
 use Rattle.record.specs.declared.Store.{Store}
@@ -15,17 +16,17 @@ use lib.Seq.{getD-set-other}
 use Rattle.record.specs.State.{transaction, noTransaction}
 use Rattle.record.specs.Paper.{Said}
 use Rattle.ranges.proofs.Laws.{and-left, and-right, InRange, in-range}
-use Rattle.rules.specs.Items.{Item, byte, offset, Values, result, asked}
+use Rattle.rules.specs.Items.{Item, byte, offset, fileLength, Values, result, asked}
 use Rattle.rules.specs.Transactions.{Txn, put}
 use Rattle.rules.specs.Messages.{Op}
 use Rattle.rules.specs.Steps.{accept, step}
-use Rattle.rules.specs.Machine.{Machine, withStore, withJournal, withLogs, withMarking, fileOf, values, txnOf, withTxn, journalled, holding}
+use Rattle.rules.specs.Machine.{Machine, withStore, withJournal, withLogs, withMarking, fileOf, values, txnOf, withTxn, journalled, holding, sightingLengths}
 use Rattle.record.specs.State.{withTransaction}
 use Rattle.rules.specs.Calls.{marked, logged}
-use Rattle.rules.proofs.Serial.Sighted.{Held, vacant, held, markAll, withSeat}
+use Rattle.rules.proofs.Serial.Sighted.{Held, vacant, held, markAll, lengthAll, withSeat}
 use Rattle.rules.proofs.View.Shape.{heldBy, seat, view, Sound, TxnIn}
 use Rattle.rules.proofs.View.Tables.{same-or-not}
-use Rattle.rules.proofs.View.Marks.{ItemsIn, length-marked, marked-own, marked-other}
+use Rattle.rules.proofs.View.Marks.{ItemsIn, length-marked, marked-own, marked-other, lengths-own}
 use Rattle.rules.proofs.View.Asked.{asked-in}
 use Rattle.rules.proofs.View.Kept.{pieces, piecesAfter, Kept, step-kept}
 use Rattle.rules.proofs.View.Decode.{dataBefore, Carries, total-pieces, decoded-total, decoded-carries, decoded-in}
@@ -41,6 +42,14 @@ file-in s journal size r d = ⊎-elim beyond (r .files d) (le-or-lt 16 d)
     beyond : 16 ≤ d → getD (s .filenumbers) d 0 ≤ 7
     beyond l = rw (List·getD-eq-default (s .filenumbers) 0 {n = d} (omega arith)) (omega arith)
 
+-- "lengths, at most 4,096", of every number.
+pub length-in : (s : Store) (journal files : List ℕ) → length (s .lengths) ≡ 8 → InRange s journal → (f : ℕ) → values s files (fileLength f) ≤ 4096
+unfolding values
+length-in s journal files size r f = ⊎-elim beyond (r .lengths f) (le-or-lt 8 f)
+  where
+    beyond : 8 ≤ f → getD (s .lengths) f 0 ≤ 4096
+    beyond l = rw (List·getD-eq-default (s .lengths) 0 {n = f} (omega arith)) (omega arith)
+
 -- What is vacant stays so, and what is held is the same.
 seat-same : (b : Bool) (g h : Held) → (b ≡ true → g ≡ h) → cond b (held g) vacant ≡ cond b (held h) vacant
 seat-same true g h e = ap held (e refl)
@@ -53,14 +62,19 @@ sightings m t o = asked (values (m .store) (m .files)) (step (fileOf (m .store))
 -- The store after a step that is accepted and leaves y, and transaction t then.
 unfoldable pub machineAfter : Machine → ℕ → Op → Txn → Machine
 machineAfter m t o y =
-    withStore (withTxn t y (m .store))
+    withStore (withTxn t y (sightings m t o) (m .store))
     (withJournal (journalled t (y .writes) (m .journal))
     (withLogs (logged t o (m .store) (m .logs))
     (withMarking (marked t (sightings m t o) (m .marks)) m)))
 
 unfoldable pub heldAfter : Machine → ℕ → Op → Txn → Held
 heldAfter m t o y =
-    record { txn = y; marked = markAll (sightings m t o) (heldBy m t .marked); stale = transaction (m .store) t .stale }
+    record {
+      txn = y;
+      marked = markAll (sightings m t o) (heldBy m t .marked);
+      lengths = lengthAll (sightings m t o) (heldBy m t .lengths);
+      stale = transaction (m .store) t .stale;
+    }
 
 module _ (m : Machine) (t : ℕ) (o : Op) (sound : Sound m) (small : t < 8) (begun : transaction (m .store) t .begun ≡ true) where
   abbrev v : Values
@@ -72,12 +86,15 @@ module _ (m : Machine) (t : ℕ) (o : Op) (sound : Sound m) (small : t < 8) (beg
   range : InRange (m .store) (m .journal)
   range = in-range (m .store) (m .journal) (sound .inRange)
 
-  sightings-in : ItemsIn (sightings m t o)
-  unfolding sightings
-  sightings-in = asked-in v (fileOf (m .store)) (file-in (m .store) (m .journal) (sound .shaped .files) range) o x
+  bounded : (f : ℕ) → v (fileLength f) ≤ 4096
+  bounded = length-in (m .store) (m .journal) (m .files) (sound .shaped .lengths) range
 
   txn-in : TxnIn x
   txn-in = decoded-in (m .store) (m .journal) (m .logs) t (sound .logs) small (range .transactions t small begun) (sound .shaped .descriptors t small)
+
+  sightings-in : ItemsIn (sightings m t o)
+  unfolding sightings
+  sightings-in = asked-in v bounded (fileOf (m .store)) (file-in (m .store) (m .journal) (sound .shaped .files) range) o x txn-in
 
   data-used : dataBefore (pieces (x .writes)) (length (pieces (x .writes))) ≡ transaction (m .store) t .used .bytes
   data-used = sym (total-pieces (x .writes)) ∙ decoded-total (m .store) (m .journal) (m .logs) t (sound .logs) small (range .transactions t small begun)
@@ -90,7 +107,7 @@ module _ (m : Machine) (t : ℕ) (o : Op) (sound : Sound m) (small : t < 8) (beg
     new = heldAfter m t o y
 
     kept : Kept (piecesAfter o (pieces (x .writes))) y
-    kept = step-kept (fileOf (m .store)) v o x y a b txn-in e
+    kept = step-kept (fileOf (m .store)) v bounded o x y a b txn-in e
 
     data-in : dataBefore (piecesAfter o (pieces (x .writes))) (length (piecesAfter o (pieces (x .writes)))) ≤ 4096
     data-in = rw (← kept .same, ← total-pieces (y .writes)) (kept .ranges .bytes)
@@ -108,29 +125,31 @@ module _ (m : Machine) (t : ℕ) (o : Op) (sound : Sound m) (small : t < 8) (beg
     unfolding machineAfter
     sound-after =
         record {
-          shaped = encoded-shaped (m .store) (m .journal) t y (sound .shaped) (sound .journal) small (kept .ranges);
-          journal = encoded-long (m .store) (m .journal) t y (sound .shaped) (sound .journal) small (kept .ranges);
+          shaped = encoded-shaped (m .store) (m .journal) t y (sightings m t o) (sound .shaped) (sound .journal) small (kept .ranges);
+          journal = encoded-long (m .store) (m .journal) t y (sightings m t o) (sound .shaped) (sound .journal) small (kept .ranges);
           files = sound .files;
           logs = apart .size ∙ sound .logs;
           marks = length-marked t (sightings m t o) (m .marks) ∙ sound .marks;
-          inRange = encoded-in (m .store) (m .journal) t y (sound .shaped) (sound .journal) small (kept .ranges) (sound .inRange);
+          inRange = encoded-in (m .store) (m .journal) t y (sightings m t o) (sound .shaped) (sound .journal) small (kept .ranges) (sound .inRange);
         }
 
     own-held : heldBy after t ≡ new
-    unfolding machineAfter heldAfter heldBy holding
+    unfolding machineAfter heldAfter heldBy holding sightingLengths
     own-held =
-        let h = own-transaction (m .store) (m .journal) t y (sound .shaped) (sound .journal) small (kept .ranges) in
+        let h = own-transaction (m .store) (m .journal) t y (sightings m t o) (sound .shaped) (sound .journal) small (kept .ranges) in
         λ i.
         record {
-          txn = encoded (m .store) (m .journal) t y (sound .shaped) (sound .journal) small (kept .ranges) (logged t o (m .store) (m .logs)) carries i;
+          txn = encoded (m .store) (m .journal) t y (sightings m t o) (sound .shaped) (sound .journal) small (kept .ranges) (logged t o (m .store) (m .logs)) carries i;
           marked = marked-own t (sightings m t o) (m .marks) (sound .marks) sightings-in i;
+          lengths =
+              (ap (λ (z : Transaction). contains (z .lengthmarks)) h ∙ lengths-own (sightings m t o) (transaction (m .store) t .lengthmarks)) i;
           stale = h i .stale;
         }
 
     own-seat : seat after t ≡ held new
-    unfolding seat machineAfter holding
+    unfolding seat machineAfter holding sightingLengths
     own-seat =
-        let h = own-transaction (m .store) (m .journal) t y (sound .shaped) (sound .journal) small (kept .ranges) in
+        let h = own-transaction (m .store) (m .journal) t y (sightings m t o) (sound .shaped) (sound .journal) small (kept .ranges) in
         ap (λ (c : Bool). cond c (held (heldBy after t)) vacant)
         (ap₂ (λ (p q : Bool). p && q) (le-leb t 7 (omega arith)) (ap (λ (z : Transaction). z .begun) h ∙ begun))
         ∙ ap held own-held
@@ -138,17 +157,18 @@ module _ (m : Machine) (t : ℕ) (o : Op) (sound : Sound m) (small : t < 8) (beg
     other-seat : (u : ℕ) → (u ≡ t → ⊥) → seat after u ≡ seat m u
     unfolding seat machineAfter heldBy withTxn withTransaction
     other-seat u other =
-        ap (λ (z : Transaction). cond (leb u 7 && z .begun) (held (heldBy after u)) vacant) (getD-set-other (m .store .transactions) t u (holding y (transaction (m .store) t)) noTransaction other)
+        ap (λ (z : Transaction). cond (leb u 7 && z .begun) (held (heldBy after u)) vacant) (getD-set-other (m .store .transactions) t u (holding y (sightingLengths (sightings m t o) (transaction (m .store) t))) noTransaction other)
         ∙ seat-same (leb u 7 && transaction (m .store) u .begun) (heldBy after u) (heldBy m u)
         (λ q.
         let l = leb-true u 7 (and-left (leb u 7) (transaction (m .store) u .begun) q) in
-        let same = other-same (m .store) (m .journal) t y (sound .shaped) (sound .journal) small (kept .ranges) u (omega arith) other in
+        let same = other-same (m .store) (m .journal) t y (sightings m t o) (sound .shaped) (sound .journal) small (kept .ranges) u (omega arith) other in
         let r = range .transactions u (omega arith) (and-right (leb u 7) (transaction (m .store) u .begun) q) in
         λ i.
         record {
           txn =
-              txn-same (withTxn t y (m .store)) (journalled t (y .writes) (m .journal)) (m .store) (m .journal) u same t (logged t o (m .store) (m .logs)) (m .logs) apart (sound .logs) other (omega arith) r i;
+              txn-same (withTxn t y (sightings m t o) (m .store)) (journalled t (y .writes) (m .journal)) (m .store) (m .journal) u same t (logged t o (m .store) (m .logs)) (m .logs) apart (sound .logs) other (omega arith) r i;
           marked = λ p. marked-other t u (sightings m t o) (m .marks) (sound .marks) sightings-in other p i;
+          lengths = contains (same .transaction i .lengthmarks);
           stale = same .transaction i .stale;
         })
 
@@ -166,6 +186,7 @@ module _ (m : Machine) (t : ℕ) (o : Op) (sound : Sound m) (small : t < 8) (beg
     unfolding values machineAfter withTxn withTransaction
     values-after (byte q) = refl
     values-after (offset d) = refl
+    values-after (fileLength f) = refl
 
     pub view-after : view after ≡ withSeat t (held new) (view m)
     unfolding view withSeat machineAfter fileOf withTxn withTransaction

@@ -3,41 +3,28 @@ use mathlib.Core.Bool.{Bool, true, false, cond}
 use mathlib.Core.List.{List, [], _∷_, _++_}
 use mathlib.Core.Path.{_≡_, refl}
 use borrow.Author.Tests.{leb-true}
-use lib.Dec.{leb, eqb}
+use lib.Dec.{leb, ltb, eqb}
 use native.Mathlib.Omega.{arith}
 use Prim.Native.Nat.{ℕ, zero, suc, _+_, _-_, _*_, _≤_, _<_, min}
-use Rattle.rules.specs.Items.{Item, offset, Values, Prog, done, andThen, result, asked}
+use Rattle.rules.specs.Items.{Item, offset, fileLength, Values, Prog, done, andThen, result, asked}
 use Rattle.standings.specs.Table.{advance, pointerSettles, readSettles, offsetOf}
 use Rattle.rules.specs.Transactions.{Txn, Write, those, settle, Settled, past, all, settling}
-use Rattle.rules.specs.Reading.{Source, own, file, bring, latest, fetch}
+use Rattle.rules.specs.Reading.{Source, own, file, bring, latest, fetch, lengthFor, gather}
 use Rattle.rules.specs.Messages.{Op, seek, write, getFilePointer, read}
 use Rattle.rules.specs.Steps.{Stepped, check, orGivenBack, seekStep, writeStep, pointerStep, settledByRead, readSettled, readStep, step}
 use Rattle.rules.proofs.Serial.Programs.{asked-andThen}
+use Rattle.rules.proofs.Serial.Gathers.{read-stops}
+use Rattle.rules.proofs.View.Shape.{TxnIn}
 use Rattle.rules.proofs.View.Marks.{ItemsIn}
+use Rattle.rules.proofs.View.Chosen.{DescriptorsIn, one-in, those-in}
+use Rattle.rules.proofs.View.Ends.{length-for}
+use Rattle.rules.proofs.View.Kept.{pieces, Kept, settling-kept}
 
 items-append : (is js : List Item) → ItemsIn is → ItemsIn js → ItemsIn (is ++ js)
 items-append [] js h g = g
 items-append (i ∷ is) js h g = (h .0, items-append is js (h .1) g)
 
--- Descriptors that the store has.
-abbrev pub DescriptorsIn : List ℕ → Type 0
-DescriptorsIn [] = Unit {0}
-DescriptorsIn (d ∷ ds) = (d < 16) × DescriptorsIn ds
-
-descriptors-append : (ds es : List ℕ) → DescriptorsIn ds → DescriptorsIn es → DescriptorsIn (ds ++ es)
-descriptors-append [] es h g = g
-descriptors-append (d ∷ ds) es h g = (h .0, descriptors-append ds es (h .1) g)
-
-pub one-in : (b : Bool) (d : ℕ) → d < 16 → DescriptorsIn (cond b (d ∷ []) [])
-one-in true d h = (h, tt)
-one-in false d h = tt
-
-pub those-in : (p : ℕ → Bool) (n : ℕ) → n ≤ 16 → DescriptorsIn (those p n)
-unfolding those
-those-in p zero h = tt
-those-in p (suc n) h = descriptors-append (those p n) (cond (p n) (n ∷ []) []) (those-in p n (omega arith)) (one-in (p n) n h)
-
-module _ (v : Values) where
+module _ (v : Values) (bounded : (f : ℕ) → v (fileLength f) ≤ 4096) where
   -- A program that asks only for items that the store has.
   AsksIn : {A : Type 0} → Prog A → Type 0
   AsksIn p = ItemsIn (asked v p)
@@ -46,9 +33,12 @@ module _ (v : Values) where
   unfolding AsksIn asked
   asks-done a = tt
 
-  asks-andThen : {A B : Type 0} (p : Prog A) (k : A → Prog B) → AsksIn p → ((a : A) → AsksIn (k a)) → AsksIn (andThen p k)
+  asks-next : {A B : Type 0} (p : Prog A) (k : A → Prog B) → AsksIn p → AsksIn (k (result v p)) → AsksIn (andThen p k)
   unfolding AsksIn
-  asks-andThen p k h g = rw (asked-andThen v p k) (items-append (asked v p) (asked v (k (result v p))) h (g (result v p)))
+  asks-next p k h g = rw (asked-andThen v p k) (items-append (asked v p) (asked v (k (result v p))) h g)
+
+  asks-andThen : {A B : Type 0} (p : Prog A) (k : A → Prog B) → AsksIn p → ((a : A) → AsksIn (k a)) → AsksIn (andThen p k)
+  asks-andThen p k h g = asks-next p k h (g (result v p))
 
   asks-check : (b : Bool) (n : ℕ) (p : Prog Stepped) → (b ≡ true → AsksIn p) → AsksIn (check b n p)
   unfolding AsksIn check asked
@@ -66,10 +56,16 @@ module _ (v : Values) where
       pick later true = later
       pick later false = tt
 
-  asks-back : (next : Txn → Prog Stepped) → ((y : Txn) → AsksIn (next y)) → (s : Settled) → AsksIn (orGivenBack next s)
-  unfolding AsksIn orGivenBack asked
-  asks-back next h past = tt
-  asks-back next h (all y) = h y
+  -- What follows a settling of a transaction in range that is not given back.
+  asks-settled : (ds : List ℕ) (x : Txn) (next : Txn → Prog Stepped) → DescriptorsIn ds → TxnIn x → ((y : Txn) → TxnIn y → AsksIn (next y))
+      → AsksIn (andThen (settling ds x) (orGivenBack next))
+  asks-settled ds x next low h k =
+      asks-next (settling ds x) (orGivenBack next) (asks-settling ds x low) (pick (result v (settling ds x)) refl)
+    where
+      pick : (s : Settled) → result v (settling ds x) ≡ s → AsksIn (orGivenBack next s)
+      pick past e = unfold AsksIn orGivenBack asked in tt
+      pick (all y) e =
+          unfold orGivenBack in k y (settling-kept v ds x y (pieces (x .writes)) low (record { ranges = h; same = refl }) e .ranges)
 
   asks-bring : (s : Source) (q : ℕ) → q < 32768 → AsksIn (bring s q)
   unfolding AsksIn bring asked
@@ -84,31 +80,41 @@ module _ (v : Values) where
         asks-andThen (bring (latest fileOf f p ws) (4096 * f + p)) _ (asks-bring (latest fileOf f p ws) (4096 * f + p) (omega arith))
         (λ b. asks-andThen (fetch fileOf ws f (suc p) n) _ (asks-fetch ws f (suc p) n hf (omega arith)) (λ bs. asks-done (b ∷ bs)))
 
-    asks-read : (d n : ℕ) (buffer : List ℕ) (y : Txn) → AsksIn (readSettled fileOf d n buffer y)
+    asks-gather : (y : Txn) (f p n : ℕ) → f ≤ 7 → TxnIn y → AsksIn (gather fileOf (y .writes) f p n)
+    unfolding AsksIn
+    asks-gather y f p n hf h =
+        let m = min n (lengthFor fileOf f (y .writes) v - p) in
+        let l = length-for fileOf f y v (bounded f) h in
+        rw (read-stops fileOf (y .writes) f p n v .sightings)
+        (items-append (asked v (fetch fileOf (y .writes) f p m)) _ (asks-fetch (y .writes) f p m hf (omega arith)) (pick (ltb m n)))
+      where
+        pick : (b : Bool) → ItemsIn (cond b (fileLength f ∷ []) [])
+        pick true = (omega arith, tt)
+        pick false = tt
+
+    asks-read : (d n : ℕ) (buffer : List ℕ) (y : Txn) → TxnIn y → AsksIn (readSettled fileOf d n buffer y)
     unfolding readSettled
-    asks-read d n buffer y =
-        asks-andThen (fetch fileOf (y .writes) (fileOf d) (offsetOf (y .standing d)) (min n (4096 - offsetOf (y .standing d)))) _
-        (asks-fetch (y .writes) (fileOf d) (offsetOf (y .standing d)) (min n (4096 - offsetOf (y .standing d))) (small d) (omega arith))
+    asks-read d n buffer y h =
+        asks-andThen (gather fileOf (y .writes) (fileOf d) (offsetOf (y .standing d)) n) _
+        (asks-gather y (fileOf d) (offsetOf (y .standing d)) n (small d) h)
         (λ bytes. asks-done _)
 
-    asks-step : (o : Op) (x : Txn) → AsksIn (step fileOf o x)
+    asks-step : (o : Op) (x : Txn) → TxnIn x → AsksIn (step fileOf o x)
     unfolding step seekStep writeStep pointerStep readStep settledByRead
-    asks-step (seek d u) x = asks-check _ 6 _ (λ e. asks-check _ 8 _ (λ f. asks-done _))
-    asks-step (write d bytes) x =
-        asks-check _ 6 _ (λ e. asks-check _ 9 _ (λ f. asks-check _ 10 _ (λ g. asks-check _ 11 _ (λ h. asks-done _))))
-    asks-step (getFilePointer d) x =
+    asks-step (seek d u) x h = asks-check _ 6 _ (λ e. asks-check _ 8 _ (λ f. asks-done _))
+    asks-step (write d bytes) x h =
+        asks-check _ 6 _ (λ e. asks-check _ 9 _ (λ f. asks-check _ 10 _ (λ g. asks-check _ 11 _ (λ k. asks-done _))))
+    asks-step (getFilePointer d) x h =
         asks-check (leb d 15) 6 _ (λ e.
         let l = leb-true d 15 e in
-        asks-andThen (settling (cond (pointerSettles (x .standing d)) (d ∷ []) []) x) _
-        (asks-settling (cond (pointerSettles (x .standing d)) (d ∷ []) []) x (one-in (pointerSettles (x .standing d)) d (omega arith)))
-        (asks-back _ (λ y. asks-done _)))
-    asks-step (read d n buffer) x =
+        asks-settled (cond (pointerSettles (x .standing d)) (d ∷ []) []) x _ (one-in (pointerSettles (x .standing d)) d (omega arith)) h
+        (λ y k. asks-done _))
+    asks-step (read d n buffer) x h =
         let ds = those (λ e. readSettles (eqb (fileOf e) (fileOf d)) (eqb e d) (x .standing e)) 16 in
         asks-check _ 6 _ (λ e. asks-check _ 7 _ (λ f.
-        asks-andThen (settling ds x) _
-        (asks-settling ds x (those-in (λ e. readSettles (eqb (fileOf e) (fileOf d)) (eqb e d) (x .standing e)) 16 (omega arith)))
-        (asks-back _ (asks-read d n buffer))))
+        asks-settled ds x _ (those-in (λ e. readSettles (eqb (fileOf e) (fileOf d)) (eqb e d) (x .standing e)) 16 (omega arith)) h
+        (asks-read d n buffer)))
 
-    pub asked-in : (o : Op) (x : Txn) → ItemsIn (asked v (step fileOf o x))
+    pub asked-in : (o : Op) (x : Txn) → TxnIn x → ItemsIn (asked v (step fileOf o x))
     unfolding AsksIn
-    asked-in o x = asks-step o x
+    asked-in o x h = asks-step o x h

@@ -9,7 +9,7 @@ use borrow.Author.Tests.{le-leb}
 use Rattle.record.specs.State.{transaction}
 use Rattle.octets.specs.Bits.{bitsOf}
 use Rattle.octets.proofs.SetLaws.{bits-same}
-use Rattle.rules.specs.Items.{Item, byte, offset}
+use Rattle.rules.specs.Items.{Item, byte, offset, fileLength}
 use Rattle.rules.specs.Transactions.{put}
 use Rattle.rules.specs.Commits.{Setting}
 use Rattle.rules.specs.Machine.{Machine, txnOf}
@@ -22,6 +22,7 @@ module _ (m : Machine) (u : ℕ) where
   unfolding hasSighted sighted heldBy txnOf
   sighted-same (byte q) = refl
   sighted-same (offset d) = refl
+  sighted-same (fileLength f) = refl
 
   pub conflicts-hit : (ss : List Setting) → conflicts (m .marks) u (transaction (m .store) u) ss ≡ hit ss (heldBy m u)
   unfolding conflicts hit

@@ -22,9 +22,10 @@ use Rattle.record.proofs.JournalLaws.{length-with, read-own, read-elsewhere}
 use Rattle.ranges.specs.Below.{sum}
 use Rattle.ranges.specs.Ranges.{standingIn, recordIn, lengthsBefore, storeIn}
 use Rattle.ranges.proofs.Laws.{and-both, sum-same, TransactionInRange, in-range, in-range-intro}
+use Rattle.rules.specs.Items.{Item}
 use Rattle.rules.specs.Transactions.{Txn, Write}
 use Rattle.rules.specs.Steps.{total}
-use Rattle.rules.specs.Machine.{tabulate, dataStart, writeAt, recordOf, txnOf, noWrite, journalled, holding, withTxn}
+use Rattle.rules.specs.Machine.{tabulate, dataStart, writeAt, recordOf, txnOf, noWrite, journalled, holding, sightingLengths, withTxn}
 use Rattle.record.specs.State.{withTransaction}
 use Rattle.rules.proofs.View.Shape.{Shaped, TxnIn}
 use Rattle.rules.proofs.View.Tables.{same-or-not, length-tabulate, getD-tabulate, tabulate-same, tabulate-getD, getD-map}
@@ -32,40 +33,40 @@ use Rattle.rules.proofs.View.Kept.{pieces}
 use Rattle.rules.proofs.View.Decode.{dataBefore, Carries, total-pieces}
 use Rattle.rules.proofs.View.Others.{SameAt, range-same}
 
-module _ (s : Store) (journal : List ℕ) (t : ℕ) (y : Txn) (shaped : Shaped s) (long : length journal ≡ 1536) (small : t < 8) (h : TxnIn y) where
+module _ (s : Store) (journal : List ℕ) (t : ℕ) (y : Txn) (is : List Item) (shaped : Shaped s) (long : length journal ≡ 1536) (small : t < 8) (h : TxnIn y) where
   abbrev after-journal : List ℕ
   after-journal = journalled t (y .writes) journal
 
   -- ---- transaction t
 
-  pub own-transaction : transaction (withTxn t y s) t ≡ holding y (transaction s t)
+  pub own-transaction : transaction (withTxn t y is s) t ≡ holding y (sightingLengths is (transaction s t))
   unfolding withTxn withTransaction
-  own-transaction = getD-set-same (s .transactions) t (holding y (transaction s t)) noTransaction (rw (shaped .transactions) small)
+  own-transaction = getD-set-same (s .transactions) t (holding y (sightingLengths is (transaction s t))) noTransaction (rw (shaped .transactions) small)
 
   abbrev ownDescriptor : ℕ → Descriptor
   ownDescriptor d = record { standing = y .standing d; dirty = y .dirty d }
 
-  own-standing : (d : ℕ) → standingAt (transaction (withTxn t y s) t) d ≡ y .standing d
+  own-standing : (d : ℕ) → standingAt (transaction (withTxn t y is s) t) d ≡ y .standing d
   unfolding holding
   own-standing d = ap (λ (x : Transaction). standingAt x d) own-transaction ∙ ⊎-elim beyond known (le-or-lt 16 d)
     where
-      known : d < 16 → standingAt (holding y (transaction s t)) d ≡ y .standing d
+      known : d < 16 → standingAt (holding y (sightingLengths is (transaction s t))) d ≡ y .standing d
       known l = ap (λ (x : Descriptor). x .standing) (getD-tabulate ownDescriptor 16 d noDescriptor l)
 
-      beyond : 16 ≤ d → standingAt (holding y (transaction s t)) d ≡ y .standing d
+      beyond : 16 ≤ d → standingAt (holding y (sightingLengths is (transaction s t))) d ≡ y .standing d
       beyond l =
           ap (λ (x : Descriptor). x .standing)
           (List·getD-eq-default (tabulate ownDescriptor 16) noDescriptor (rw length-tabulate l))
           ∙ sym (h .above d l)
 
-  own-dirty : (d : ℕ) → dirtyAt (transaction (withTxn t y s) t) d ≡ y .dirty d
+  own-dirty : (d : ℕ) → dirtyAt (transaction (withTxn t y is s) t) d ≡ y .dirty d
   unfolding holding
   own-dirty d = ap (λ (x : Transaction). dirtyAt x d) own-transaction ∙ ⊎-elim beyond known (le-or-lt 16 d)
     where
-      known : d < 16 → dirtyAt (holding y (transaction s t)) d ≡ y .dirty d
+      known : d < 16 → dirtyAt (holding y (sightingLengths is (transaction s t))) d ≡ y .dirty d
       known l = ap (λ (x : Descriptor). x .dirty) (getD-tabulate ownDescriptor 16 d noDescriptor l)
 
-      beyond : 16 ≤ d → dirtyAt (holding y (transaction s t)) d ≡ y .dirty d
+      beyond : 16 ≤ d → dirtyAt (holding y (sightingLengths is (transaction s t))) d ≡ y .dirty d
       beyond l =
           ap (λ (x : Descriptor). x .dirty)
           (List·getD-eq-default (tabulate ownDescriptor 16) noDescriptor (rw length-tabulate l))
@@ -113,7 +114,7 @@ module _ (s : Store) (journal : List ℕ) (t : ℕ) (y : Txn) (shaped : Shaped s
       }
 
   -- The record means y there, if the logs carry y's bytes.
-  pub encoded : (logs : List ℕ) → Carries logs (4096 * t) (pieces (y .writes)) → txnOf (withTxn t y s) after-journal logs t ≡ y
+  pub encoded : (logs : List ℕ) → Carries logs (4096 * t) (pieces (y .writes)) → txnOf (withTxn t y is s) after-journal logs t ≡ y
   unfolding txnOf holding
   encoded logs carries =
       λ i.
@@ -127,7 +128,7 @@ module _ (s : Store) (journal : List ℕ) (t : ℕ) (y : Txn) (shaped : Shaped s
             i;
       }
 
-  own-record : (k : ℕ) → k < length (y .writes) → recordIn (transaction (withTxn t y s) t) (writeRecordAt after-journal t k) ≡ true
+  own-record : (k : ℕ) → k < length (y .writes) → recordIn (transaction (withTxn t y is s) t) (writeRecordAt after-journal t k) ≡ true
   unfolding recordIn
   own-record k l =
       let w = getD (y .writes) k noWrite in
@@ -135,7 +136,7 @@ module _ (s : Store) (journal : List ℕ) (t : ℕ) (y : Txn) (shaped : Shaped s
       rw (own-descriptor k l, own-place k l, own-length k l, own-standing (w .descriptor))
       (and-both (leb (w .descriptor) 15) _ (le-leb (w .descriptor) 15 (omega (arith, e .descriptor))) (e .place))
 
-  own-range : TransactionInRange (transaction (withTxn t y s) t) after-journal t
+  own-range : TransactionInRange (transaction (withTxn t y is s) t) after-journal t
   unfolding holding
   own-range =
       let e = own-transaction in
@@ -153,48 +154,50 @@ module _ (s : Store) (journal : List ℕ) (t : ℕ) (y : Txn) (shaped : Shaped s
 
   -- ---- every other transaction
 
-  pub other-same : (u : ℕ) → u < 8 → (u ≡ t → ⊥) → SameAt (withTxn t y s) after-journal s journal u
+  pub other-same : (u : ℕ) → u < 8 → (u ≡ t → ⊥) → SameAt (withTxn t y is s) after-journal s journal u
   unfolding withTxn withTransaction journalled
   other-same u m other =
       record {
-        transaction = getD-set-other (s .transactions) t u (holding y (transaction s t)) noTransaction other;
+        transaction = getD-set-other (s .transactions) t u (holding y (sightingLengths is (transaction s t))) noTransaction other;
         records = λ k l. read-elsewhere journal t (λ j. recordOf (getD (y .writes) j noWrite)) long small (length (y .writes)) u k (h .records) m l other;
       }
 
   -- ---- the whole record
 
-  pub encoded-in : storeIn s journal ≡ true → storeIn (withTxn t y s) after-journal ≡ true
+  pub encoded-in : storeIn s journal ≡ true → storeIn (withTxn t y is s) after-journal ≡ true
   encoded-in e =
-      in-range-intro (withTxn t y s) after-journal
+      in-range-intro (withTxn t y is s) after-journal
       (record {
         files = unfold withTxn withTransaction in in-range s journal e .files;
         offsets = unfold withTxn withTransaction in in-range s journal e .offsets;
+        lengths = unfold withTxn withTransaction in in-range s journal e .lengths;
         transactions = λ u l b. ⊎-elim (λ same. rw same own-range) (elsewhere u l b) (same-or-not u t);
       })
     where
-      elsewhere : (u : ℕ) → u < 8 → transaction (withTxn t y s) u .begun ≡ true → (u ≡ t → ⊥) → TransactionInRange (transaction (withTxn t y s) u) after-journal u
+      elsewhere : (u : ℕ) → u < 8 → transaction (withTxn t y is s) u .begun ≡ true → (u ≡ t → ⊥) → TransactionInRange (transaction (withTxn t y is s) u) after-journal u
       elsewhere u l b ne =
           let same = other-same u l ne in
-          range-same (withTxn t y s) after-journal s journal u same
+          range-same (withTxn t y is s) after-journal s journal u same
           (in-range s journal e .transactions u l (ap (λ (x : Transaction). x .begun) (sym (same .transaction)) ∙ b))
 
-  pub encoded-shaped : Shaped (withTxn t y s)
+  pub encoded-shaped : Shaped (withTxn t y is s)
   unfolding withTxn withTransaction holding
   encoded-shaped =
       record {
         files = shaped .files;
         offsets = shaped .offsets;
-        transactions = length-set (s .transactions) t (holding y (transaction s t)) ∙ shaped .transactions;
+        lengths = shaped .lengths;
+        transactions = length-set (s .transactions) t (holding y (sightingLengths is (transaction s t))) ∙ shaped .transactions;
         descriptors = λ u l. ⊎-elim (here u) (elsewhere u l) (same-or-not u t);
       }
     where
-      here : (u : ℕ) → u ≡ t → length (transaction (withTxn t y s) u .descriptors) ≡ 16
+      here : (u : ℕ) → u ≡ t → length (transaction (withTxn t y is s) u .descriptors) ≡ 16
       here u e =
-          ap (λ (v : ℕ). length (transaction (withTxn t y s) v .descriptors)) e
+          ap (λ (v : ℕ). length (transaction (withTxn t y is s) v .descriptors)) e
           ∙ ap (λ (x : Transaction). length (x .descriptors)) own-transaction
           ∙ length-tabulate ownDescriptor 16
 
-      elsewhere : (u : ℕ) → u < 8 → (u ≡ t → ⊥) → length (transaction (withTxn t y s) u .descriptors) ≡ 16
+      elsewhere : (u : ℕ) → u < 8 → (u ≡ t → ⊥) → length (transaction (withTxn t y is s) u .descriptors) ≡ 16
       elsewhere u l ne = ap (λ (x : Transaction). length (x .descriptors)) (other-same u l ne .transaction) ∙ shaped .descriptors u l
 
   pub encoded-long : length after-journal ≡ 1536

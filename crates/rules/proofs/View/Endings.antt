@@ -1,4 +1,4 @@
--- The store after transaction t has been reset or committed: other offsets, transactions and files, and the marks of t cleared.
+-- The store after transaction t has been reset or committed: other offsets, lengths, transactions and files, and the marks of t cleared.
 use mathlib.Core.Bool.{Bool, false, cond}
 use mathlib.Core.List.{List}
 use mathlib.Core.Path.{_≡_, refl, _∙_, fun-ext}
@@ -6,7 +6,7 @@ use lib.ListN.{length, getD}
 use Prim.Native.Nat.{ℕ, _≤_, _<_}
 use native.Mathlib.Omega.{arith}
 use borrow.Author.Tests.{le-leb, lt-leb, ne-eqb, eq-eqb}
-use Rattle.octets.specs.Marks.{hasMark, withoutMarks}
+use Rattle.octets.specs.Marks.{hasMark, withoutMarks, contains}
 use Rattle.octets.proofs.MarkLaws.{length-without-marks, has-without-marks}
 use Rattle.record.specs.declared.Transaction.{Transaction}
 use Rattle.record.specs.State.{transaction, noTransaction}
@@ -16,13 +16,13 @@ use Rattle.rules.proofs.Serial.Sighted.{Held, vacant, held}
 use Rattle.rules.proofs.View.Shape.{heldBy, seat, Sound}
 use Rattle.rules.proofs.View.Renewed.{renewed, Alike, Carried, alike-txn, renewed-in, renewed-shaped}
 
-abbrev pub ending : ℕ → List ℕ → List Transaction → List ℕ → Machine → Machine
-ending t offsets ts files m =
-    withStore (renewed offsets ts (m .store)) (withFiles files (withMarking (withoutMarks t (m .marks)) m))
+abbrev pub ending : ℕ → List ℕ → List ℕ → List Transaction → List ℕ → Machine → Machine
+ending t offsets lengths ts files m =
+    withStore (renewed offsets lengths ts (m .store)) (withFiles files (withMarking (withoutMarks t (m .marks)) m))
 
 -- What a transaction holds, stale or not.
 abbrev pub staleAs : Held → Bool → Held
-staleAs h b = record { txn = h .txn; marked = h .marked; stale = b }
+staleAs h b = record { txn = h .txn; marked = h .marked; lengths = h .lengths; stale = b }
 
 -- ---- seats
 
@@ -46,39 +46,41 @@ module _ (t : ℕ) (small : t < 8) (marks : List ℕ) where
 
 -- ---- the whole
 
-module _ (t : ℕ) (offsets : List ℕ) (ts : List Transaction) (files : List ℕ) (m : Machine) where
+module _ (t : ℕ) (offsets lengths : List ℕ) (ts : List Transaction) (files : List ℕ) (m : Machine) where
   pub ending-sound : Sound m
       → ((u : ℕ) → u < 8 → Carried (transaction (m .store) u) (getD ts u noTransaction))
       → length offsets ≡ 16
       → ((d : ℕ) → d < 16 → getD offsets d 0 ≤ 4096)
+      → length lengths ≡ 8
+      → ((f : ℕ) → f < 8 → getD lengths f 0 ≤ 4096)
       → length ts ≡ 8
       → length files ≡ 32768
-      → Sound (ending t offsets ts files m)
-  ending-sound sound carried e h f g =
+      → Sound (ending t offsets lengths ts files m)
+  ending-sound sound carried e h j k f g =
       record {
-        shaped = renewed-shaped offsets ts (m .store) (m .journal) carried e f (sound .shaped);
+        shaped = renewed-shaped offsets lengths ts (m .store) (m .journal) carried e j f (sound .shaped);
         journal = sound .journal;
         files = g;
         logs = sound .logs;
         marks = length-without-marks t (m .marks) ∙ sound .marks;
-        inRange = in-range-intro (renewed offsets ts (m .store)) (m .journal) (renewed-in offsets ts (m .store) (m .journal) carried h (in-range (m .store) (m .journal) (sound .inRange)));
+        inRange = in-range-intro (renewed offsets lengths ts (m .store)) (m .journal) (renewed-in offsets lengths ts (m .store) (m .journal) carried h k (in-range (m .store) (m .journal) (sound .inRange)));
       }
 
   -- Another transaction that is alike keeps what it holds.
   pub ending-held : t < 8 → (u : ℕ) → u < 8 → (u ≡ t → ⊥) → Alike (transaction (m .store) u) (getD ts u noTransaction)
-      → heldBy (ending t offsets ts files m) u
+      → heldBy (ending t offsets lengths ts files m) u
       ≡ staleAs (heldBy m u) (getD ts u noTransaction .stale)
   unfolding heldBy
   ending-held small u l other a =
-      let e = alike-txn offsets ts (m .store) (m .journal) u (m .logs) a in
+      let e = alike-txn offsets lengths ts (m .store) (m .journal) u (m .logs) a in
       let f : hasMark (withoutMarks t (m .marks)) u ≡ hasMark (m .marks) u = fun-ext (λ q. unmarked-other t small (m .marks) u q l other) in
-      λ i. record { txn = e i; marked = f i; stale = getD ts u noTransaction .stale }
+      λ i. record { txn = e i; marked = f i; lengths = contains (a .lengthmarks i); stale = getD ts u noTransaction .stale }
 
   pub ending-seat : t < 8 → (u : ℕ) → u < 8 → (u ≡ t → ⊥) → Alike (transaction (m .store) u) (getD ts u noTransaction)
-      → seat (ending t offsets ts files m) u
+      → seat (ending t offsets lengths ts files m) u
       ≡ cond (transaction (m .store) u .begun)
       (held (staleAs (heldBy m u) (getD ts u noTransaction .stale))) vacant
   ending-seat small u l other a =
-      seat-in (ending t offsets ts files m) u (transaction (m .store) u .begun)
+      seat-in (ending t offsets lengths ts files m) u (transaction (m .store) u .begun)
       (staleAs (heldBy m u) (getD ts u noTransaction .stale))
       l (a .begun) (ending-held small u l other a)

@@ -10,7 +10,7 @@ use Rattle.octets.proofs.PartLaws.{le-or-lt}
 use Rattle.record.specs.declared.Transaction.{Transaction}
 use Rattle.record.specs.State.{transaction, noTransaction, noDescriptor, ended}
 use Rattle.ranges.proofs.Laws.{InRange, in-range-intro}
-use Rattle.rules.specs.Items.{Item, byte, offset, Values}
+use Rattle.rules.specs.Items.{Item, byte, offset, fileLength, Values}
 use Rattle.rules.specs.Machine.{fileOf, values}
 use Rattle.rules.specs.Calls.{freshStore, freshMachine}
 use Rattle.rules.proofs.Serial.Sighted.{Seat, vacant, startSighted}
@@ -43,6 +43,7 @@ module _ (numbers : List ℕ) (logs : List ℕ) where
   unfolding values freshStore
   fresh-values n (byte q) = zeros n q
   fresh-values n (offset d) = zeros 16 d
+  fresh-values n (fileLength f) = zeros 8 f
 
   pub fresh-view : view (freshMachine numbers logs) ≡ startSighted (λ d. getD numbers d 0) (λ i. 0)
   unfolding view startSighted freshMachine freshStore fileOf
@@ -57,6 +58,7 @@ module _ (numbers : List ℕ) (logs : List ℕ) where
       record {
         files = e;
         offsets = length-zeros 16;
+        lengths = length-zeros 8;
         transactions = length-replicate 8 ended;
         descriptors = λ u l. ap (λ (x : Transaction). length (x .descriptors)) (ended-at u l) ∙ length-replicate 16 noDescriptor;
       }
@@ -67,6 +69,7 @@ module _ (numbers : List ℕ) (logs : List ℕ) where
       record {
         files = h;
         offsets = λ d l. rw (zeros 16 d) (omega arith);
+        lengths = λ f l. rw (zeros 8 f) (omega arith);
         transactions = λ u l b. absurd (true≢false (sym b ∙ ap (λ (x : Transaction). x .begun) (ended-at u l)));
       }
 

@@ -16,14 +16,14 @@ use Rattle.ranges.proofs.Laws.{in-range}
 use Rattle.rules.specs.Transactions.{put}
 use Rattle.rules.specs.Commits.{Setting, landed}
 use Rattle.rules.specs.Machine.{Machine, tabulate, fileOf}
-use Rattle.rules.specs.Calls.{landFiles, landOffsets, conflicts, staled, afterCommit, commitGranted}
+use Rattle.rules.specs.Calls.{landFiles, landOffsets, landLengths, conflicts, staled, afterCommit, commitGranted}
 use Rattle.rules.proofs.Serial.Sighted.{Seat, vacant, held, touch, granting}
 use Rattle.rules.proofs.View.Shape.{heldBy, seat, view, Sound}
 use Rattle.rules.proofs.View.Tables.{length-tabulate, getD-tabulate}
 use Rattle.rules.proofs.View.Renewed.{ended-bare, Alike, Carried, same-values}
 use Rattle.rules.proofs.View.Endings.{ending, staleAs, seat-in, seat-out, ending-sound, ending-seat}
 use Rattle.rules.proofs.View.SettingsIn.{AllIn}
-use Rattle.rules.proofs.View.Landing.{length-files, length-offsets, limit-landed, all-landed}
+use Rattle.rules.proofs.View.Landing.{length-files, length-offsets, length-lengths, limit-landed, limit-lengths, all-landed}
 use Rattle.rules.proofs.View.Conflicts.{conflicts-hit, octet-same}
 
 module _ (m : Machine) (t : ℕ) (ss : List Setting) where
@@ -31,7 +31,7 @@ module _ (m : Machine) (t : ℕ) (ss : List Setting) where
   ts = tabulate (afterCommit t (m .marks) ss (m .store)) 8
 
   after : Machine
-  after = ending t (landOffsets ss (m .store .offsets)) ts (landFiles ss (m .files)) m
+  after = ending t (landOffsets ss (m .store .offsets)) (landLengths ss (m .store .lengths)) ts (landFiles ss (m .files)) m
 
   at-commit : (u : ℕ) → u < 8 → (b : Bool) → eqb u t ≡ b
       → getD ts u noTransaction ≡ cond b ended (staled (m .marks) ss u (transaction (m .store) u))
@@ -40,7 +40,7 @@ module _ (m : Machine) (t : ℕ) (ss : List Setting) where
 
   staled-alike : (u : ℕ) (y : Transaction) → y ≡ staled (m .marks) ss u (transaction (m .store) u) → Alike (transaction (m .store) u) y
   unfolding staled
-  staled-alike u y e = rw e (record { begun = refl; used = refl; descriptors = refl })
+  staled-alike u y e = rw e (record { begun = refl; lengthmarks = refl; used = refl; descriptors = refl })
 
   carried : (u : ℕ) → u < 8 → (b : Bool) → eqb u t ≡ b → Carried (transaction (m .store) u) (getD ts u noTransaction)
   carried u l true e = inr (rw (at-commit u l true e) ended-bare)
@@ -68,7 +68,7 @@ module _ (m : Machine) (t : ℕ) (ss : List Setting) where
     other-seat u h (inl l) = seat-out after u l ∙ ap (touch ss) (sym (seat-out m u l))
     other-seat u h (inr l) =
         let e = at-commit u l false (ne-eqb u t h) in
-        ending-seat t (landOffsets ss (m .store .offsets)) ts (landFiles ss (m .files)) m small u l h (staled-alike u (getD ts u noTransaction) e)
+        ending-seat t (landOffsets ss (m .store .offsets)) (landLengths ss (m .store .lengths)) ts (landFiles ss (m .files)) m small u l h (staled-alike u (getD ts u noTransaction) e)
         ∙ ap (λ (y : Transaction). cond (transaction (m .store) u .begun) (held (staleAs (heldBy m u) (y .stale))) vacant) e
         ∙ touched u (transaction (m .store) u .begun)
         ∙ ap (touch ss) (sym (seat-in m u (transaction (m .store) u .begun) (heldBy m u) l refl refl))
@@ -83,9 +83,11 @@ module _ (m : Machine) (t : ℕ) (ss : List Setting) where
       unfolding commitGranted after ts
       granted-sound =
           let r = in-range (m .store) (m .journal) (sound .inRange) in
-          ending-sound t (landOffsets ss (m .store .offsets)) ts (landFiles ss (m .files)) m sound (λ u l. carried u l (eqb u t) refl)
+          ending-sound t (landOffsets ss (m .store .offsets)) (landLengths ss (m .store .lengths)) ts (landFiles ss (m .files)) m sound (λ u l. carried u l (eqb u t) refl)
           (length-offsets ss (m .store .offsets) ∙ sound .shaped .offsets)
           (limit-landed ss (m .store .offsets) inside (sound .shaped .offsets) (r .offsets))
+          (length-lengths ss (m .store .lengths) ∙ sound .shaped .lengths)
+          (limit-lengths ss (m .store .lengths) inside (sound .shaped .lengths) (r .lengths))
           (length-tabulate (afterCommit t (m .marks) ss (m .store)) 8)
           (length-files ss (m .files) ∙ sound .files)
 
@@ -94,7 +96,8 @@ module _ (m : Machine) (t : ℕ) (ss : List Setting) where
       granted-view =
           let e : _≡_ {A = ℕ → Seat} (seat after) (λ u. touch ss (put t vacant (seat m) u)) = fun-ext (λ u. seats u (eqb u t) refl) in
           let f =
-          all-landed ts (m .store) ss (m .store .offsets) (m .files) inside (sound .shaped .offsets) (sound .files)
+          all-landed ts (m .store) ss (m .store .offsets) (m .store .lengths) (m .files) inside (sound .shaped .offsets) (sound .shaped .lengths)
+          (sound .files)
           ∙ ap (landed ss) (same-values ts (m .store) (m .files)) in
           λ i. record { fileOf = fileOf (m .store); value = f i; seats = e i }
 

@@ -6,23 +6,25 @@ use borrow.Author.Tests.{leb-true, eqb-true, eqb-false, eq-eqb}
 use lib.Dec.{leb, eqb}
 use lib.ListN.{length, getD, length-append, length-map}
 use native.Mathlib.Omega.{arith}
-use Prim.Native.Nat.{ℕ, _+_, _-_, _≤_, _<_, min}
+use Prim.Native.Nat.{ℕ, _+_, _≤_, _<_}
 use Rattle.standings.specs.declared.Standing.{Standing}
 use Rattle.standings.specs.declared.Standing.the-variants.{Untouched}
 use Rattle.standings.specs.Table.{placeNumber}
 use Rattle.record.specs.Paper.{Said}
 use Rattle.ranges.specs.Ranges.{standingIn, placeIn}
-use Rattle.rules.specs.Items.{offset, Values, Prog, done, andThen, result}
+use Rattle.rules.specs.Items.{offset, fileLength, Values, Prog, done, andThen, result}
 use Rattle.standings.specs.Table.{advance, settled, afterSeek, afterWrite, afterRead, pointerSettles, readSettles, offsetOf, writePlace}
 use Rattle.rules.specs.Transactions.{Txn, Write, put, withWrites, dirtied, placedAt, placeWrite, settle, those, Settled, past, all, settling}
-use Rattle.rules.specs.Reading.{fetch}
+use Rattle.rules.specs.Reading.{gather}
 use Rattle.rules.specs.Messages.{Op, seek, write, getFilePointer, read}
 use Rattle.rules.specs.Steps.{Stepped, accept, check, orGivenBack, total, written, seekStep, writeStep, pointerStep, settledByRead, readSettled, readStep, step}
 use Rattle.rules.proofs.Serial.Programs.{result-andThen}
+use Rattle.rules.proofs.Serial.Gathers.{length-gather}
 use Rattle.rules.proofs.View.Shape.{WriteIn, TxnIn}
+use Rattle.rules.proofs.View.Ends.{length-for}
 use Rattle.rules.specs.Machine.{noWrite}
 use Rattle.rules.proofs.View.Tables.{every-snoc, getD-map}
-use Rattle.rules.proofs.View.Asked.{DescriptorsIn, one-in, those-in}
+use Rattle.rules.proofs.View.Chosen.{DescriptorsIn, one-in, those-in}
 use Rattle.rules.proofs.View.StandingRanges.{EndsKept, seek-in, write-in, read-in, settled-in, seek-ends, write-ends, read-ends, place-kept, place-settled, place-written}
 
 -- The bytes of writes, which the log holds one after the other.
@@ -138,7 +140,7 @@ pub record Kept (ps : List (List ℕ)) (y : Txn) : Type 0 where
   pub ranges : TxnIn y
   pub same : pieces (y .writes) ≡ ps
 
-settling-kept : (v : Values) (ds : List ℕ) (x y : Txn) (ps : List (List ℕ)) → DescriptorsIn ds → Kept ps x → result v (settling ds x) ≡ all y → Kept ps y
+pub settling-kept : (v : Values) (ds : List ℕ) (x y : Txn) (ps : List (List ℕ)) → DescriptorsIn ds → Kept ps x → result v (settling ds x) ≡ all y → Kept ps y
 unfolding settling result settle
 settling-kept v [] x y ps low h e = let q : y ≡ x = cc in rw q h
 settling-kept v (d ∷ ds) x y ps low h e =
@@ -168,7 +170,7 @@ piecesAfter (write d bytes) ps = ps ++ (bytes ∷ [])
 piecesAfter (getFilePointer d) ps = ps
 piecesAfter (read d n buffer) ps = ps
 
-module _ (v : Values) where
+module _ (v : Values) (bounded : (f : ℕ) → v (fileLength f) ≤ 4096) where
   -- A program that, if it accepts, ends in such a transaction.
   Ends : List (List ℕ) → Prog Stepped → Type 0
   Ends ps p = (y : Txn) (a : Said) (b : List ℕ) → result v p ≡ accept y a b → Kept ps y
@@ -232,8 +234,11 @@ module _ (v : Values) where
   ends-read : (ps : List (List ℕ)) (fileOf : ℕ → ℕ) (d n : ℕ) (buffer : List ℕ) (y : Txn) → d < 16 → Kept ps y → Ends ps (readSettled fileOf d n buffer y)
   unfolding readSettled
   ends-read ps fileOf d n buffer y low h =
-      let m = min n (4096 - offsetOf (y .standing d)) in
-      ends-andThen ps (fetch fileOf (y .writes) (fileOf d) (offsetOf (y .standing d)) m) _
+      let p = gather fileOf (y .writes) (fileOf d) (offsetOf (y .standing d)) n in
+      let m = length (result v p) in
+      let e = length-gather fileOf (y .writes) (fileOf d) (offsetOf (y .standing d)) n v in
+      let l = length-for fileOf (fileOf d) y v (bounded (fileOf d)) (h .ranges) in
+      ends-andThen ps p _
       (ends-done ps (dirtied d (afterRead m (y .standing d)) y) _ _
       (record {
         ranges =
@@ -258,7 +263,7 @@ module _ (v : Values) where
       (those-in (λ e. readSettles (eqb (fileOf e) (fileOf d)) (eqb e d) (x .standing e)) 16 (omega arith)) (record { ranges = h; same = refl })
       (λ y k. ends-read _ fileOf d n buffer y (omega arith) k)))
 
-pub step-kept : (fileOf : ℕ → ℕ) (v : Values) (o : Op) (x y : Txn) (a : Said) (b : List ℕ) → TxnIn x → result v (step fileOf o x) ≡ accept y a b
+pub step-kept : (fileOf : ℕ → ℕ) (v : Values) → ((f : ℕ) → v (fileLength f) ≤ 4096) → (o : Op) (x y : Txn) (a : Said) (b : List ℕ) → TxnIn x → result v (step fileOf o x) ≡ accept y a b
     → Kept (piecesAfter o (pieces (x .writes))) y
 unfolding Ends
-step-kept fileOf v o x y a b h e = ends-step v fileOf o x h y a b e
+step-kept fileOf v bounded o x y a b h e = ends-step v bounded fileOf o x h y a b e

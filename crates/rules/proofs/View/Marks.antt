@@ -6,17 +6,21 @@ use borrow.Author.Tests.{eq-eqb, ne-eqb}
 use lib.Dec.{eqb}
 use lib.ListN.{length}
 use Prim.Native.Nat.{ℕ, _<_}
-use Rattle.octets.specs.Marks.{hasMark, withMark}
+use Rattle.octets.specs.Bits.{withBit}
+use Rattle.octets.specs.Marks.{hasMark, withMark, contains}
+use Rattle.octets.proofs.SetLaws.{contains-with}
 use Rattle.octets.proofs.MarkLaws.{length-with-mark, has-with-mark}
-use Rattle.rules.specs.Items.{Item, byte, offset}
+use Rattle.rules.specs.Items.{Item, byte, offset, fileLength}
 use Rattle.rules.specs.Transactions.{put}
+use Rattle.rules.specs.Machine.{lengthmarked}
 use Rattle.rules.specs.Calls.{marked}
-use Rattle.rules.proofs.Serial.Sighted.{markAll}
+use Rattle.rules.proofs.Serial.Sighted.{markAll, lengthAll}
 
--- An item that a store has: one of its 32,768 bytes, or of its 16 offsets.
+-- An item that a store has: one of its 32,768 bytes, of its 16 offsets, or of the lengths of its 8 files.
 abbrev pub ItemIn : Item → Type 0
 ItemIn (byte q) = q < 32768
 ItemIn (offset d) = d < 16
+ItemIn (fileLength f) = f < 8
 
 abbrev pub ItemsIn : List Item → Type 0
 ItemsIn [] = Unit {0}
@@ -27,6 +31,7 @@ unfolding marked
 length-marked t [] marks = refl
 length-marked t (byte q ∷ is) marks = length-marked t is (withMark t q marks) ∙ length-with-mark t q marks
 length-marked t (offset d ∷ is) marks = length-marked t is marks
+length-marked t (fileLength f ∷ is) marks = length-marked t is marks
 
 module _ (t q : ℕ) (marks : List ℕ) (there : q < length marks) where
   -- One mark more: transaction t's own, and another's.
@@ -51,6 +56,7 @@ marked-own t (byte q ∷ is) marks l h =
     marked-own t is (withMark t q marks) (length-with-mark t q marks ∙ l) (h .1)
     ∙ ap (markAll is) (fun-ext (own-mark t q marks there))
 marked-own t (offset d ∷ is) marks l h = marked-own t is marks l (h .1)
+marked-own t (fileLength f ∷ is) marks l h = marked-own t is marks l (h .1)
 
 -- Those of another transaction.
 pub marked-other : (t u : ℕ) (is : List Item) (marks : List ℕ) → length marks ≡ 32768 → ItemsIn is → (u ≡ t → ⊥)
@@ -62,3 +68,16 @@ marked-other t u (byte q ∷ is) marks l h ne p =
     marked-other t u is (withMark t q marks) (length-with-mark t q marks ∙ l) (h .1) ne p
     ∙ other-mark t q marks there u ne p
 marked-other t u (offset d ∷ is) marks l h ne p = marked-other t u is marks l (h .1) ne p
+marked-other t u (fileLength f ∷ is) marks l h ne p = marked-other t u is marks l (h .1) ne p
+
+-- The lengths that it has sighted after sightings.
+own-length : (f n g : ℕ) → contains (withBit f n) g ≡ put f true (contains n) g
+unfolding put
+own-length f n g = contains-with f n g
+
+pub lengths-own : (is : List Item) (n : ℕ) → contains (lengthmarked is n) ≡ lengthAll is (contains n)
+unfolding lengthmarked lengthAll
+lengths-own [] n = refl
+lengths-own (byte q ∷ is) n = lengths-own is n
+lengths-own (offset d ∷ is) n = lengths-own is n
+lengths-own (fileLength f ∷ is) n = lengths-own is (withBit f n) ∙ ap (lengthAll is) (fun-ext (own-length f n))

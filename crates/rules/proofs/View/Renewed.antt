@@ -1,4 +1,4 @@
--- A record with other committed offsets and other transactions: when its ranges hold, and which transactions mean the same in it.
+-- A record with other committed offsets and lengths and other transactions: when its ranges hold, and which transactions mean the same in it.
 use mathlib.Core.Bool.{true, false, _&&_}
 use mathlib.Core.List.{List}
 use mathlib.Core.Logic.{_⊎_, inl, inr}
@@ -13,38 +13,40 @@ use Rattle.standings.specs.declared.Standing.the-variants.{Untouched}
 use Rattle.record.specs.declared.Transaction.{Transaction}
 use Rattle.record.specs.declared.Store.{Store}
 use Rattle.record.specs.declared.journal.WriteRecord.{WriteRecord}
-use Rattle.record.specs.State.{transaction, standingAt, dirtyAt, noDescriptor, noTransaction, ended, begun, withOffsets, withTransactions}
+use Rattle.record.specs.State.{transaction, standingAt, dirtyAt, noDescriptor, noTransaction, ended, begun, withOffsets, withLengths, withTransactions}
 use Rattle.record.specs.Journal.{writeRecordAt}
 use Rattle.ranges.specs.Below.{sum}
 use Rattle.ranges.specs.Ranges.{standingIn, placeIn, recordIn, lengthsBefore}
 use Rattle.ranges.proofs.Laws.{TransactionInRange, InRange}
 use Rattle.rules.specs.Machine.{txnOf, writeAt, dataStart, values}
-use Rattle.rules.specs.Items.{Item, byte, offset}
+use Rattle.rules.specs.Items.{Item, byte, offset, fileLength}
 use Rattle.rules.proofs.View.Shape.{Shaped}
 
--- The record with other committed offsets and transactions.
-abbrev pub renewed : List ℕ → List Transaction → Store → Store
-renewed offsets ts s = withOffsets offsets (withTransactions ts s)
+-- The record with other committed offsets and lengths and other transactions.
+abbrev pub renewed : List ℕ → List ℕ → List Transaction → Store → Store
+renewed offsets lengths ts s = withOffsets offsets (withLengths lengths (withTransactions ts s))
 
 -- A transaction that differs at most in being stale.
 pub record Alike (x y : Transaction) : Type 0 where
   pub begun : y .begun ≡ x .begun
+  pub lengthmarks : y .lengthmarks ≡ x .lengthmarks
   pub used : y .used ≡ x .used
   pub descriptors : y .descriptors ≡ x .descriptors
 
--- "an empty log, sixteen Untouched descriptors"
+-- "an empty log, sixteen Untouched descriptors", and no length sighted
 pub record Bare (y : Transaction) : Type 0 where
+  pub lengthmarks : y .lengthmarks ≡ 0
   pub records : y .used .records ≡ 0
   pub bytes : y .used .bytes ≡ 0
   pub descriptors : y .descriptors ≡ replicate 16 noDescriptor
 
 pub ended-bare : Bare ended
 unfolding ended
-ended-bare = record { records = refl; bytes = refl; descriptors = refl }
+ended-bare = record { lengthmarks = refl; records = refl; bytes = refl; descriptors = refl }
 
 pub begun-bare : Bare begun
 unfolding begun ended
-begun-bare = record { records = refl; bytes = refl; descriptors = refl }
+begun-bare = record { lengthmarks = refl; records = refl; bytes = refl; descriptors = refl }
 
 untouched : (n d : ℕ) → getD (replicate n noDescriptor) d noDescriptor .standing ≡ Untouched
 untouched zero d = refl
@@ -81,7 +83,7 @@ module _ (x y : Transaction) (a : Alike x y) where
         writes = λ k l. alike-record (writeRecordAt journal u k) ∙ r .writes k (rw (a .used) at l);
       }
 
-module _ (offsets : List ℕ) (ts : List Transaction) (s : Store) (journal : List ℕ) (u : ℕ) where
+module _ (offsets lengths : List ℕ) (ts : List Transaction) (s : Store) (journal : List ℕ) (u : ℕ) where
   bare-in : Bare (getD ts u noTransaction) → TransactionInRange (getD ts u noTransaction) journal u
   unfolding standingIn lengthsBefore sum
   bare-in b =
@@ -94,7 +96,7 @@ module _ (offsets : List ℕ) (ts : List Transaction) (s : Store) (journal : Lis
       }
 
   -- It stands for the same writes and standings.
-  pub alike-txn : (logs : List ℕ) → Alike (transaction s u) (getD ts u noTransaction) → txnOf (renewed offsets ts s) journal logs u ≡ txnOf s journal logs u
+  pub alike-txn : (logs : List ℕ) → Alike (transaction s u) (getD ts u noTransaction) → txnOf (renewed offsets lengths ts s) journal logs u ≡ txnOf s journal logs u
   unfolding txnOf writeAt dataStart
   alike-txn logs a = rw (a .descriptors, a .used)
 
@@ -102,41 +104,44 @@ module _ (offsets : List ℕ) (ts : List Transaction) (s : Store) (journal : Lis
 abbrev pub Carried : Transaction → Transaction → Type 0
 Carried x y = Alike x y ⊎ Bare y
 
-carried-in : (offsets : List ℕ) (ts : List Transaction) (s : Store) (journal : List ℕ) (u : ℕ)
+carried-in : (offsets lengths : List ℕ) (ts : List Transaction) (s : Store) (journal : List ℕ) (u : ℕ)
     → Carried (transaction s u) (getD ts u noTransaction)
     → getD ts u noTransaction .begun ≡ true
     → (transaction s u .begun ≡ true → TransactionInRange (transaction s u) journal u)
     → TransactionInRange (getD ts u noTransaction) journal u
-carried-in offsets ts s journal u (inl a) b h = alike-range (transaction s u) (getD ts u noTransaction) a journal u (h (sym (a .begun) ∙ b))
-carried-in offsets ts s journal u (inr y) b h = bare-in offsets ts s journal u y
+carried-in offsets lengths ts s journal u (inl a) b h = alike-range (transaction s u) (getD ts u noTransaction) a journal u (h (sym (a .begun) ∙ b))
+carried-in offsets lengths ts s journal u (inr y) b h = bare-in offsets lengths ts s journal u y
 
 carried-length : (x y : Transaction) → Carried x y → length (x .descriptors) ≡ 16 → length (y .descriptors) ≡ 16
 carried-length x y (inl a) e = ap length (a .descriptors) ∙ e
 carried-length x y (inr b) e = ap length (b .descriptors) ∙ length-replicate 16 noDescriptor
 
-module _ (offsets : List ℕ) (ts : List Transaction) (s : Store) (journal : List ℕ) (carried : (u : ℕ) → u < 8 → Carried (transaction s u) (getD ts u noTransaction)) where
-  pub renewed-in : ((d : ℕ) → d < 16 → getD offsets d 0 ≤ 4096) → InRange s journal → InRange (renewed offsets ts s) journal
-  renewed-in h r =
+module _ (offsets lengths : List ℕ) (ts : List Transaction) (s : Store) (journal : List ℕ) (carried : (u : ℕ) → u < 8 → Carried (transaction s u) (getD ts u noTransaction)) where
+  pub renewed-in : ((d : ℕ) → d < 16 → getD offsets d 0 ≤ 4096) → ((f : ℕ) → f < 8 → getD lengths f 0 ≤ 4096) → InRange s journal → InRange (renewed offsets lengths ts s) journal
+  renewed-in h k r =
       record {
         files = r .files;
         offsets = h;
-        transactions = λ u l b. carried-in offsets ts s journal u (carried u l) b (r .transactions u l);
+        lengths = k;
+        transactions = λ u l b. carried-in offsets lengths ts s journal u (carried u l) b (r .transactions u l);
       }
 
-  pub renewed-shaped : length offsets ≡ 16 → length ts ≡ 8 → Shaped s → Shaped (renewed offsets ts s)
-  renewed-shaped e f r =
+  pub renewed-shaped : length offsets ≡ 16 → length lengths ≡ 8 → length ts ≡ 8 → Shaped s → Shaped (renewed offsets lengths ts s)
+  renewed-shaped e k f r =
       record {
         files = r .files;
         offsets = e;
+        lengths = k;
         transactions = f;
         descriptors = λ u l. carried-length (transaction s u) (getD ts u noTransaction) (carried u l) (r .descriptors u l);
       }
 
--- The committed values of the same offsets.
-pub same-values : (ts : List Transaction) (s : Store) (files : List ℕ) → values (renewed (s .offsets) ts s) files ≡ values s files
+-- The committed values of the same offsets and lengths.
+pub same-values : (ts : List Transaction) (s : Store) (files : List ℕ) → values (renewed (s .offsets) (s .lengths) ts s) files ≡ values s files
 unfolding values
 same-values ts s files = fun-ext each
   where
-    each : (i : Item) → values (renewed (s .offsets) ts s) files i ≡ values s files i
+    each : (i : Item) → values (renewed (s .offsets) (s .lengths) ts s) files i ≡ values s files i
     each (byte q) = refl
     each (offset d) = refl
+    each (fileLength f) = refl

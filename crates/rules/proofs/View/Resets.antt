@@ -10,7 +10,8 @@ use Prim.Native.Nat.{ℕ, _≤_, _<_}
 use native.Mathlib.Omega.{arith}
 use borrow.Author.Tests.{eqb-true, eqb-false}
 use Rattle.octets.proofs.PartLaws.{le-or-lt}
-use Rattle.octets.specs.Marks.{hasMark, withoutMarks}
+use Rattle.octets.proofs.MarkLaws.{contains-none}
+use Rattle.octets.specs.Marks.{hasMark, withoutMarks, contains}
 use Rattle.standings.specs.declared.Standing.{Standing}
 use Rattle.standings.specs.declared.Standing.the-variants.{Untouched}
 use Rattle.record.specs.declared.Transaction.{Transaction}
@@ -26,7 +27,7 @@ use Rattle.rules.proofs.View.Renewed.{Alike, Bare, Carried, bare-standi
 use Rattle.rules.proofs.View.Endings.{ending, staleAs, seat-in, seat-out, unmarked-own, ending-sound, ending-seat}
 
 alike-same : (x y : Transaction) → y ≡ x → Alike x y
-alike-same x y e = rw e (record { begun = refl; used = refl; descriptors = refl })
+alike-same x y e = rw e (record { begun = refl; lengthmarks = refl; used = refl; descriptors = refl })
 
 -- A bare transaction stands for an empty one.
 pub bare-txn : (m : Machine) (t : ℕ) → Bare (transaction (m .store) t) → txnOf (m .store) (m .journal) (m .logs) t ≡ empty
@@ -39,7 +40,7 @@ bare-txn m t b =
 
 -- What a bare transaction stands for.
 abbrev pub newSeat : Transaction → Seat
-newSeat x = cond (x .begun) (held (record { txn = empty; marked = λ q. false; stale = x .stale })) vacant
+newSeat x = cond (x .begun) (held (record { txn = empty; marked = λ q. false; lengths = λ f. false; stale = x .stale })) vacant
 
 module _ (t : ℕ) (x : Transaction) (m : Machine) (small : t < 8) (bare : Bare x) (sound : Sound m) where
   ts : List Transaction
@@ -61,33 +62,38 @@ module _ (t : ℕ) (x : Transaction) (m : Machine) (small : t < 8) (bare : Bare 
   unfolding reset withTransaction ts
   reset-sound =
       let r = in-range (m .store) (m .journal) (sound .inRange) in
-      ending-sound t (m .store .offsets) ts (m .files) m sound (λ u l. carried u (eqb u t) refl)
-      (sound .shaped .offsets) (r .offsets)
+      ending-sound t (m .store .offsets) (m .store .lengths) ts (m .files) m sound (λ u l. carried u (eqb u t) refl)
+      (sound .shaped .offsets) (r .offsets) (sound .shaped .lengths) (r .lengths)
       (length-set (m .store .transactions) t x ∙ sound .shaped .transactions) (sound .files)
 
   after : Machine
-  after = ending t (m .store .offsets) ts (m .files) m
+  after = ending t (m .store .offsets) (m .store .lengths) ts (m .files) m
 
-  own-held : heldBy after t ≡ record { txn = empty; marked = λ q. false; stale = x .stale }
+  own-held : heldBy after t ≡ record { txn = empty; marked = λ q. false; lengths = λ f. false; stale = x .stale }
   unfolding heldBy after
   own-held =
       let e = bare-txn after t (rw own bare) in
       let f : _≡_ {A = ℕ → Bool} (hasMark (withoutMarks t (m .marks)) t) (λ q. false) =
       fun-ext (unmarked-own t small (m .marks)) in
       let g : getD ts t noTransaction .stale ≡ x .stale = ap (λ (z : Transaction). z .stale) own in
-      λ i. record { txn = e i; marked = f i; stale = g i }
+      let l : _≡_ {A = ℕ → Bool} (contains (getD ts t noTransaction .lengthmarks)) (λ f. false) =
+      ap (λ (z : Transaction). contains (z .lengthmarks)) own ∙ ap contains (bare .lengthmarks) ∙ fun-ext none in
+      λ i. record { txn = e i; marked = f i; lengths = l i; stale = g i }
+    where
+      none : (f : ℕ) → contains 0 f ≡ false
+      none f = contains-none f
 
   seat-own : seat after t ≡ newSeat x
   unfolding after
   seat-own =
-      seat-in after t (x .begun) (record { txn = empty; marked = λ q. false; stale = x .stale })
+      seat-in after t (x .begun) (record { txn = empty; marked = λ q. false; lengths = λ f. false; stale = x .stale })
       small (ap (λ (z : Transaction). z .begun) own) own-held
 
   seat-other : (u : ℕ) → (u ≡ t → ⊥) → (8 ≤ u) ⊎ (u < 8) → seat after u ≡ seat m u
   unfolding heldBy after
   seat-other u h (inl l) = seat-out after u l ∙ sym (seat-out m u l)
   seat-other u h (inr l) =
-      ending-seat t (m .store .offsets) ts (m .files) m small u l h (alike-same (transaction (m .store) u) (getD ts u noTransaction) (other u h))
+      ending-seat t (m .store .offsets) (m .store .lengths) ts (m .files) m small u l h (alike-same (transaction (m .store) u) (getD ts u noTransaction) (other u h))
       ∙ ap (λ (y : Transaction). cond (transaction (m .store) u .begun) (held (staleAs (heldBy m u) (y .stale))) vacant) (other u h)
       ∙ sym (seat-in m u (transaction (m .store) u .begun) (heldBy m u) l refl refl)
 

@@ -1,8 +1,8 @@
--- All that a granted commit sets lies inside the files buffer, or is the offset of a descriptor and at most 4,096.
+-- All that a granted commit sets lies inside the files buffer, or is the offset of a descriptor or the length of a file and at most 4,096.
 use mathlib.Core.Bool.{Bool, true, false, cond, false≢true}
 use mathlib.Core.List.{List, [], _∷_, _++_}
 use mathlib.Core.Path.{_≡_, refl}
-use lib.Dec.{leb}
+use lib.Dec.{leb, ltb}
 use lib.ListN.{length, getD}
 use Prim.Native.Nat.{ℕ, zero, suc, _+_, _*_, _≤_, _<_, suc-le-suc}
 use native.Mathlib.Omega.{arith}
@@ -13,17 +13,20 @@ use Rattle.standings.specs.declared.Place.{Place}
 use Rattle.standings.specs.declared.Place.the-variants.{At, After}
 use Rattle.ranges.specs.Ranges.{standingIn, endsWithin, placeIn}
 use Rattle.ranges.proofs.Laws.{and-right, below-at}
-use Rattle.rules.specs.Items.{Item, byte, offset, Values}
+use Rattle.rules.specs.Items.{Item, byte, offset, fileLength, Values}
 use Rattle.standings.specs.Table.{advance, isTouched, finalOffset}
 use Rattle.rules.specs.Transactions.{Txn, Write}
-use Rattle.rules.specs.Commits.{Setting, landsAt, stretch, byteSettings, setsOffset, offsetSettings, settings, fits}
+use Rattle.rules.specs.Commits.{Setting, landsAt, stretch, byteSettings, setsOffset, offsetSettings, landedEnd, lengthSettings, settings, fits}
+use Rattle.rules.specs.Reading.{writeEnd}
 use Rattle.rules.proofs.View.Shape.{WriteIn, TxnIn}
+use Rattle.rules.proofs.View.Ends.{write-end, farthest-in}
 use Rattle.rules.specs.Machine.{noWrite}
 
 -- Where an item may lie, and what it may be set to.
 abbrev pub SetIn : Item → ℕ → Type 0
 SetIn (byte q) n = q < 32768
 SetIn (offset d) n = (d < 16) × (n ≤ 4096)
+SetIn (fileLength f) n = (f < 8) × (n ≤ 4096)
 
 abbrev pub AllIn : List Setting → Type 0
 AllIn [] = Unit {0}
@@ -67,7 +70,7 @@ final-in c (Known o) s h e = leb-true o 4096 e
 -- ---- a transaction in range whose placing fits
 
 module _ (fileOf : ℕ → ℕ) (v : Values) (y : Txn) (files : (d : ℕ) → d < 16 → fileOf d ≤ 7) (ranges : TxnIn y) (fit : fits v y ≡ true) where
-  fits-at : (d : ℕ) → d < 16 → v (offset d) + advance (y .standing d) ≤ 4096
+  pub fits-at : (d : ℕ) → d < 16 → v (offset d) + advance (y .standing d) ≤ 4096
   unfolding fits
   fits-at d l = leb-true (v (offset d) + advance (y .standing d)) 4096 (below-at (λ e. leb (v (offset e) + advance (y .standing e)) 4096) 16 d fit l)
 
@@ -96,6 +99,28 @@ module _ (fileOf : ℕ → ℕ) (v : Values) (y : Txn) (files : (d : ℕ) → d 
       all-append (offsetSettings v y n) (cond (setsOffset y n) (record { item = offset n; to = finalOffset (v (offset n)) (y .standing n) } ∷ []) [])
       (offsets-in n (omega arith)) (one-in n (omega arith) (setsOffset y n) refl)
 
+  landed-end : (f : ℕ) → landedEnd fileOf v f (y .writes) ≤ 4096
+  unfolding landedEnd
+  landed-end f =
+      farthest-in fileOf f (λ w. writeEnd (landsAt (v (offset (w .descriptor))) (w .place)) (length (w .bytes))) (y .writes)
+      (λ k l.
+      let w = getD (y .writes) k noWrite in
+      let i = ranges .writes k l in
+      write-end (landsAt (v (offset (w .descriptor))) (w .place)) (length (w .bytes))
+      (lands-in (v (offset (w .descriptor))) (y .standing (w .descriptor)) (w .place) (length (w .bytes)) (fits-at (w .descriptor) (i .descriptor)) (i .place)))
+
+  lengths-in : (n : ℕ) → n ≤ 8 → AllIn (lengthSettings fileOf v (y .writes) n)
+  unfolding lengthSettings
+  lengths-in zero h = tt
+  lengths-in (suc f) h =
+      all-append (lengthSettings fileOf v (y .writes) f) _ (lengths-in f (omega arith)) (pick (ltb (v (fileLength f)) (landedEnd fileOf v f (y .writes))))
+    where
+      pick : (b : Bool) → AllIn (cond b (record { item = fileLength f; to = landedEnd fileOf v f (y .writes) } ∷ []) [])
+      pick true = ((omega arith, landed-end f), tt)
+      pick false = tt
+
   pub settings-in : AllIn (settings fileOf v y)
   unfolding settings
-  settings-in = all-append (byteSettings fileOf v (y .writes)) (offsetSettings v y 16) (bytes-in (y .writes) (ranges .writes)) (offsets-in 16 (omega arith))
+  settings-in =
+      all-append (byteSettings fileOf v (y .writes)) _ (bytes-in (y .writes) (ranges .writes))
+      (all-append (offsetSettings v y 16) _ (offsets-in 16 (omega arith)) (lengths-in 8 (omega arith)))

@@ -5,7 +5,7 @@ use mathlib.Core.Path.{_≡_}
 use lib.Dec.{leb}
 use lib.ListN.{length, getD}
 use Prim.Native.Nat.{ℕ, _+_, _≤_, _<_}
-use Rattle.octets.specs.Marks.{hasMark}
+use Rattle.octets.specs.Marks.{hasMark, contains}
 use Rattle.standings.specs.declared.Standing.{Standing}
 use Rattle.standings.specs.declared.Standing.the-variants.{Untouched}
 use Rattle.record.specs.declared.Store.{Store}
@@ -23,6 +23,7 @@ heldBy m u =
     record {
       txn = txnOf (m .store) (m .journal) (m .logs) u;
       marked = hasMark (m .marks) u;
+      lengths = contains (transaction (m .store) u .lengthmarks);
       stale = transaction (m .store) u .stale;
     }
 
@@ -36,6 +37,7 @@ view m = record { fileOf = fileOf (m .store); value = values (m .store) (m .file
 pub record Shaped (s : Store) : Type 0 where
   pub files : length (s .filenumbers) ≡ 16
   pub offsets : length (s .offsets) ≡ 16
+  pub lengths : length (s .lengths) ≡ 8
   pub transactions : length (s .transactions) ≡ 8
   pub descriptors : (t : ℕ) → t < 8 → length (transaction s t .descriptors) ≡ 16
 

@@ -2,14 +2,17 @@
 -- nothing.
 use native.Mathlib.Omega.{arith}
 use mathlib.Core.Bool.{true}
+use mathlib.Core.List.{List}
 use mathlib.Core.Logic.{⊎-elim}
 use mathlib.Core.Path.{_≡_, refl, sym, ap, _∙_}
 use lib.ListN.{length, set, length-set}
-use Prim.Native.Nat.{_-_}
+use Prim.Native.Nat.{ℕ, _-_}
+use Rattle.octets.specs.Bits.{bitsOf}
 use Rattle.octets.proofs.SetLaws.{bits-lt}
 use Rattle.record.specs.State.{withStale, withTransactions}
 use Rattle.rules.specs.Machine.{Machine, lent}
 use Rattle.laws.proofs.Owned.{shaped}
+use Rattle.landing.specs.Staling.{isRaised}
 use Rattle.landing.proofs.StaleLaws.{nth, turned, Passed, passed-none, passed-stale, passed-kept, passed-all}
 use Rattle.committing.proofs.CommitRules.{commit-granted, granted-meets}
 use borrow.Author.Needs.{needs}
@@ -17,11 +20,11 @@ use Rattle.committing.proofs.granting.grant.Statement.{statement}
 use Rattle.committing.proofs.granting.grant.Tie as tie
 
 abbrev Inv-loop : tie.InvT-loop
-Inv-loop journal files logs marks t s₀ seen set stale₀ u₀ s stale u =
-    (s ≡ withTransactions (s .transactions) s₀) × Passed (s₀ .transactions) seen set (s .transactions) stale u
+Inv-loop journal files logs marks t s₀ seen set raised stale₀ u₀ s stale u =
+    (s ≡ withTransactions (s .transactions) s₀) × Passed (s₀ .transactions) seen set raised (s .transactions) stale u
 
 abbrev μ-loop : tie.MeasureT-loop
-μ-loop journal files logs marks t s₀ seen set stale₀ u₀ s stale u = 8 - u
+μ-loop journal files logs marks t s₀ seen set raised stale₀ u₀ s stale u = 8 - u
 
 -- What the caller lent.
 abbrev machine : tie.Start Inv-loop μ-loop → Machine
@@ -36,30 +39,49 @@ element-copy-out-x c = c .before .before .before .pre .0 .small
 land-writes-requires : tie.Need-land-writes-requires Inv-loop μ-loop
 land-writes-requires c κs = c .before .before .before .before .before .before .before .before .before .before .pre .0
 
+lengths-after-requires : tie.Need-lengths-after-requires Inv-loop μ-loop
+lengths-after-requires c κs =
+    let can = c .before .before .before .before .before .before .before .before .before .before .before .before .before .before .before .before .before .pre .0 in
+    record {
+      files = refl;
+      logs = refl;
+      marks = refl;
+      small = can .small;
+      records = can .records;
+      bytes = can .bytes;
+      numbers = can .numbers;
+      inside = can .inside;
+    }
+
 offsets-after-requires : tie.Need-offsets-after-requires Inv-loop μ-loop
-offsets-after-requires c κs = c .before .before .before .before .before .before .before .before .before .before .before .before .before .before .pre .1
+offsets-after-requires c κs = c .before .before .before .before .before .before .before .before .before .before .before .before .before .before .before .before .before .before .before .pre .1
 
 unmark-requires : tie.Need-unmark-requires Inv-loop μ-loop
-unmark-requires c κs = omega (arith, c .before .before .before .before .before .before .before .before .before .before .before .before .before .before .before .before .pre .0 .small)
+unmark-requires c κs = omega (arith, c .before .before .before .before .before .before .before .before .before .before .before .before .before .before .before .before .before .before .before .before .before .pre .0 .small)
 
 offsets-set-requires : tie.Need-offsets-set-requires Inv-loop μ-loop
 offsets-set-requires c κs = search needs
 
+lengths-raised-requires : tie.Need-lengths-raised-requires Inv-loop μ-loop
+lengths-raised-requires c κs = search needs
+
 ended-requires : tie.Need-ended-requires Inv-loop μ-loop
 ended-requires c κs = search needs
 
-mul-t16 : tie.Need-mul-t16 Inv-loop μ-loop
-mul-t16 c = omega (arith, c .before .before .before .before .before .before .before .before .before .before .before .before .before .before .before .before .before .before .before .before .before .pre .0 .small)
+mul-t18 : tie.Need-mul-t18 Inv-loop μ-loop
+mul-t18 c = omega (arith, c .before .before .before .before .before .before .before .before .before .before .before .before .before .before .before .before .before .before .before .before .before .before .before .before .before .before .before .before .before .before .pre .0 .small)
 
 element-set-from-s : tie.Need-element-set-from-s Inv-loop μ-loop
-element-set-from-s c = c .before .before .before .before .before .before .before .before .before .before .before .before .before .before .before .before .before .before .before .before .before .pre .0 .small
+element-set-from-s c = c .before .before .before .before .before .before .before .before .before .before .before .before .before .before .before .before .before .before .before .before .before .before .before .before .before .before .before .before .before .before .pre .0 .small
 
 -- The eight transactions, as they were lent.
 eight : (c : tie.Start Inv-loop μ-loop) → length (c .args .t1 .transactions) ≡ 8
 eight c = shaped (c .args .t1) _ (c .good .0) .transactions
 
 loop-holds : tie.Need-loop-holds Inv-loop μ-loop
-loop-holds c = (refl, passed-none _ _ _ (length-set (c .before .before .before .before .before .before .before .before .before .before .before .before .before .before .before .before .before .before .before .before .before .args .t1 .transactions) (c .before .before .before .before .before .before .before .before .before .before .before .before .before .before .before .before .before .before .before .before .before .args .t) (c .ended .result) ∙ eight (c .before .before .before .before .before .before .before .before .before .before .before .before .before .before .before .before .before .before .before .before .before)))
+loop-holds c =
+    let start = c .before .before .before .before .before .before .before .before .before .before .before .before .before .before .before .before .before .before .before .before .before .before .before .before .before .before .before .before .before .before in
+    (refl, passed-none _ _ _ _ (length-set (start .args .t1 .transactions) (start .args .t) (c .ended .result) ∙ eight start))
 
 mul-y : tie.Need-mul-y Inv-loop μ-loop
 mul-y c = omega (arith, c .loop-test .taken)
@@ -93,16 +115,17 @@ loop-again c =
     ⊎-elim
     (λ w. rw (w .2, w .3 ∙ w .1 .ensures) (
       ap (withTransactions (set (l .s .transactions) (l .u) (withStale true (nth (l .s .transactions) (l .u))))) (l .inv .0),
-      passed-stale _ _ _ _ _ _ (l .inv .1) small _ found (w .0 .taken),
+      passed-stale _ _ _ _ _ _ _ (l .inv .1) small _ found (w .0 .taken),
     ))
-    (λ w. rw (w .1, w .2) (l .inv .0, passed-kept _ _ _ _ _ _ (l .inv .1) small _ found (w .0 .left)))
+    (λ w. rw (w .1, w .2) (l .inv .0, passed-kept _ _ _ _ _ _ _ (l .inv .1) small _ found (w .0 .left)))
     (c .if1 .came)
 
-cast-t42 : tie.Need-cast-t42 Inv-loop μ-loop
-cast-t42 c =
+cast-t50 : tie.Need-cast-t50 Inv-loop μ-loop
+cast-t50 c =
+    let start = c .before .before .before .before .before .before .before .before .before .before .before .before .before .before .before .before .before .before .before .before .before .before .before .before .before .before .before .before .before .before .before .before in
     let l = c .before .loop in
-    let done = passed-all _ _ _ _ _ _ (l .inv .1) (omega (arith, c .loop-test .left)) in
-    omega (arith, done .0, bits-lt (turned (set (c .before .before .before .before .before .before .before .before .before .before .before .before .before .before .before .before .before .before .before .before .before .before .before .args .t1 .transactions) (c .before .before .before .before .before .before .before .before .before .before .before .before .before .before .before .before .before .before .before .before .before .before .before .args .t) (c .before .before .ended .result)) (c .before .before .before .before .before .before .before .before .before .before .before .before .land-writes .result) (c .before .before .before .offsets-set .result)) 8)
+    let done = passed-all _ _ _ _ _ _ _ (l .inv .1) (omega (arith, c .loop-test .left)) in
+    omega (arith, done .0, bits-lt (turned (set (start .args .t1 .transactions) (start .args .t) (c .before .before .ended .result)) (c .before .before .before .before .before .before .before .before .before .before .before .before .before .before .before .before .before .before .before .before .before .land-writes .result) (c .before .before .before .before .before .before .before .offsets-set .result) (c .before .before .before .lengths-raised .result)) 8)
 
 same-length : tie.Need-same-length Inv-loop μ-loop
 same-length c = search needs
@@ -113,15 +136,18 @@ same-length-2 c = search needs
 returns : tie.Need-returns Inv-loop μ-loop
 returns c =
     let l = c .before .loop in
-    let landed = c .before .before .before .before .before .before .before .before .before .before .before .before .land-writes in
-    let start = c .before .before .before .before .before .before .before .before .before .before .before .before .before .before .before .before .before .before .before .before .before .before .before in
+    let landed = c .before .before .before .before .before .before .before .before .before .before .before .before .before .before .before .before .before .before .before .before .before .land-writes in
+    let start = c .before .before .before .before .before .before .before .before .before .before .before .before .before .before .before .before .before .before .before .before .before .before .before .before .before .before .before .before .before .before .before .before in
     let m = machine start in
     let t = start .args .t in
-    let done = passed-all _ _ _ _ _ _ (l .inv .1) (omega (arith, c .loop-test .left)) in
+    let done = passed-all _ _ _ _ _ _ _ (l .inv .1) (omega (arith, c .loop-test .left)) in
     let ended = c .before .before .ended .ensures in
-    let set = c .before .before .before .offsets-set .ensures in
+    let set = c .before .before .before .before .before .before .before .offsets-set .ensures in
+    let lengths = c .before .before .before .before .before .before .before .before .before .before .before .before .before .before .lengths-after .ensures in
+    let raised = c .before .before .before .lengths-raised .ensures ∙ ap (λ (after : List ℕ). bitsOf (isRaised (start .args .t1 .lengths) after) 8) lengths in
     granted-meets t m _ (commit-granted t m (start .pre .2) (start .pre .1)) (eight start) (start .pre .0 .small)
-    (landed .result) (landed .ensures .1) _ (rw (sym ended, sym set) (done .0)) _ (rw (sym ended, sym set) (done .1)) _ (c .before .before .before .before .before .before .before .before .offsets-after .ensures) _ (landed .ensures .0) _ (c .before .before .before .before .before .before .unmark .ensures) _ (l .inv .0)
+    (shaped (start .args .t1) _ (start .good .0) .lengths) (start .pre .0)
+    (landed .result) (landed .ensures .1) _ (rw (sym ended, sym set, sym raised) (done .0)) _ (rw (sym ended, sym set, sym raised) (done .1)) _ (c .before .before .before .before .before .before .before .before .before .before .before .before .offsets-after .ensures) _ lengths _ (landed .ensures .0) _ (c .before .before .before .before .before .before .before .before .before .before .unmark .ensures) _ (l .inv .0)
 
 pub grant-spec : {M : Type 1} → statement M
 grant-spec =
@@ -132,11 +158,13 @@ grant-spec =
     mul-x
     element-copy-out-x
     land-writes-requires
+    lengths-after-requires
     offsets-after-requires
     unmark-requires
     offsets-set-requires
+    lengths-raised-requires
     ended-requires
-    mul-t16
+    mul-t18
     element-set-from-s
     loop-holds
     mul-y
@@ -148,7 +176,7 @@ grant-spec =
     add-u
     loop-less
     loop-again
-    cast-t42
+    cast-t50
     same-length
     same-length-2
     returns)

@@ -12,18 +12,17 @@ offset-requires c κs = search needs
 wide-requires : tie.Need-wide-requires
 wide-requires c κs = search needs
 
-sub-smaller : tie.Need-sub-smaller
-sub-smaller c = search needs
+over-requires : tie.Need-over-requires
+over-requires c κs = search needs
 
 smaller-requires : tie.Need-smaller-requires
 smaller-requires c κs = search needs
 
 returns : tie.Need-returns
 returns c =
-    let w = c .before .wide .ensures .0 ∙ c .before .before .offset .ensures in
-    let a = c .before .before .before .args in
-    ap₂ (extent (a .file)) w (c .smaller .ensures ∙ ap (λ (q : ℕ). min (a .n) (4096 - q)) w)
+    let w = c .before .before .wide .ensures .0 ∙ c .before .before .before .offset .ensures in
+    let a = c .before .before .before .before .args in
+    ap₂ (extent (a .file)) w (c .smaller .ensures ∙ ap (min (a .n)) (c .before .over .ensures ∙ ap (λ (q : ℕ). a .end - q) w))
 
 pub places-given-spec : {M : Type 1} → statement M
-places-given-spec =
-    tie.close (tie.spec offset-requires wide-requires sub-smaller smaller-requires returns)
+places-given-spec = tie.close (tie.spec offset-requires wide-requires over-requires smaller-requires returns)

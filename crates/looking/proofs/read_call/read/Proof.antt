@@ -6,7 +6,7 @@ use borrow.Author.Needs.{needs}
 use borrow.Author.Tests.{not-true, not-false}
 use lib.ListN.{length, getD}
 use native.Mathlib.Omega.{arith}
-use Prim.Native.Nat.{ℕ, _-_, _≤_, min}
+use Prim.Native.Nat.{ℕ, _+_, _-_, _≤_, _<_, min}
 use Rattle.standings.specs.declared.Standing.{Standing}
 use Rattle.standings.specs.Table.{afterRead, offsetOf}
 use Rattle.record.specs.State.{transaction, standingAt, withTransaction}
@@ -14,7 +14,8 @@ use Rattle.record.specs.declared.outcomes.Refusal.the-variants.{NotOpen, Settle
 use Rattle.ranges.specs.Ranges.{admission}
 use Rattle.ranges.proofs.Laws.{in-range}
 use Rattle.rules.specs.Messages.{Op, bufferOf}
-use Rattle.rules.specs.Machine.{Machine, lent, sizes}
+use Rattle.rules.specs.Items.{fileLength}
+use Rattle.rules.specs.Machine.{Machine, lent, sizes, values}
 use Rattle.rules.specs.Calls.{call, admitted, stepTurn}
 use Rattle.laws.proofs.Owned.{shaped}
 use Rattle.laws.proofs.Decoded.{Opened, opened}
@@ -22,10 +23,12 @@ use Rattle.settling.specs.Choices.{chosenByRead, allWithin, settledTransaction,
 use Rattle.settling.specs.Records.{placedRecords}
 use Rattle.settling.proofs.ChoiceLaws.{verdict-past, verdict-settled, transaction-settled}
 use Rattle.settling.proofs.Settled.{settledJournal, placeable}
-use Rattle.runs.specs.Runs.{extent}
+use Rattle.runs.specs.declared.Extent.{Extent}
+use Rattle.runs.specs.Runs.{extent, recorded, Counted, reach}
+use Rattle.rules.proofs.View.Accepted.{length-in}
 use Rattle.refusing.proofs.Turns.{LetThrough, sharedWith, gate-refused, gate-passed, gate-zero, gate-number, gate-let-through, admission-open, admitted-closed, turned-meets}
 use Rattle.looking.proofs.LookRules.{MayLook, may-look}
-use Rattle.looking.proofs.ReadRules.{read-refused, read-past, offset-within, counted, read-meets}
+use Rattle.looking.proofs.ReadRules.{read-refused, read-past, offset-within, counted, reached-low, read-meets}
 use Rattle.looking.proofs.read_call.read.Statement.{statement}
 use Rattle.looking.proofs.read_call.read.Tie as tie
 
@@ -209,8 +212,12 @@ placed c =
 standing-at-requires : tie.Need-standing-at-requires
 standing-at-requires c κs = omega (arith, low (settle-of c))
 
-element-copy-out-places-given : tie.Need-element-copy-out-places-given
-element-copy-out-places-given c = omega (arith, low (settle-of (c .before)))
+element-copy-out-file : tie.Need-element-copy-out-file
+element-copy-out-file c = omega (arith, low (settle-of (c .before)))
+
+-- "lengths, at most 4,096"
+limits : (c : tie.Else1) → let m = machine (first c) in (g : ℕ) → values (m .store) (m .files) (fileLength g) ≤ 4096
+limits c = length-in _ _ _ (is-open c .shape .lengths) (in-range _ _ (let-through (told-of c) .ranges))
 
 -- The offset that is read from.
 low-offset : (c : tie.After-standing-at) → offsetOf (c .standing-at .result) ≤ 4096
@@ -220,22 +227,63 @@ low-offset c =
     let begun = begun-of settle in
     let a = begin-of p .args in
     rw (c .standing-at .ensures)
-    (offset-within (a .t) (a .d) (a .n) (a .reader .now) (machine (begin-of p)) (admits begun) (is-open begun) (fresh settle) (low settle) (roomy settle) (within p) _ (afterwards p))
+    (offset-within (a .t) (a .d) (a .n) (a .reader .now) (machine (begin-of p)) (admits begun) (is-open begun) (fresh settle) (low settle) (roomy settle) (within p) (limits begun) _ (afterwards p))
+
+-- The file that is read.
+low-file : (c : tie.After-place-records) → let a = begin-of c .args in getD (a .t1 .filenumbers) (a .d) 0 < 8
+low-file c =
+    let a = begin-of c .args in
+    omega (arith, in-range _ _ (let-through (told-of (begun-of (settle-of c))) .ranges) .files (a .d) (omega (arith, low (settle-of c))))
+
+counts : (c : tie.After-place-records) → let a = begin-of c .args in Counted (c .place-records .last .0) (a .t) (transaction (a .t1) (a .t) .used)
+counts p =
+    let settle = settle-of p in
+    let begun = begun-of settle in
+    let a = begin-of p .args in
+    counted (a .t) (a .d) (a .n) (a .reader .now) (machine (begin-of p)) (admits begun) (is-open begun) (fresh settle) (low settle) (roomy settle) (within p) (limits begun) _ (afterwards p) _ (placed p)
+
+length-for-requires : tie.Need-length-for-requires
+length-for-requires c κs = (counts (c .before .before .before .before .before .before), low-file (c .before .before .before .before .before .before))
 
 places-given-requires : tie.Need-places-given-requires
-places-given-requires c κs = low-offset (c .before)
+places-given-requires c κs = search needs
 
 -- What is read.
 abbrev placed-of : tie.After-places-given → tie.After-place-records
-placed-of c = c .before .before .before
+placed-of c = c .before .before .before .before .before .before .before .before
+
+-- How far the file reaches for the transaction.
+abbrev end-of : tie.After-places-given → ℕ
+end-of c =
+    let a = begin-of (placed-of c) .args in
+    reach (recorded (placed-of c .place-records .last .0) (a .t1 .filenumbers)) (a .t) (getD (a .t1 .filenumbers) (a .d) 0)
+    (getD (a .t1 .lengths) (getD (a .t1 .filenumbers) (a .d) 0) 0) (transaction (a .t1) (a .t) .used .records)
 
 places-are : (c : tie.After-places-given) → let a = begin-of (placed-of c) .args in
     let z = standingAt (settle-of (placed-of c) .settle .result .transaction) (a .d) in
-    c .places-given .result ≡ extent (getD (a .t1 .filenumbers) (a .d) 0) (offsetOf z) (min (a .n) (4096 - offsetOf z))
+    c .places-given .result ≡ extent (getD (a .t1 .filenumbers) (a .d) 0) (offsetOf z) (min (a .n) (end-of c - offsetOf z))
 places-are c =
     let a = begin-of (placed-of c) .args in
     c .places-given .ensures
-    ∙ ap (λ (z : Standing). extent (getD (a .t1 .filenumbers) (a .d) 0) (offsetOf z) (min (a .n) (4096 - offsetOf z))) (c .before .before .standing-at .ensures)
+    ∙ ap₂ (λ (z : Standing) (l : ℕ). extent (getD (a .t1 .filenumbers) (a .d) 0) (offsetOf z) (min (a .n) (l - offsetOf z)))
+    (c .before .before .before .before .before .before .before .standing-at .ensures) (c .before .length-for .ensures)
+
+end-low : (c : tie.After-places-given) → end-of c ≤ 4096
+end-low c =
+    let p = placed-of c in
+    let settle = settle-of p in
+    let begun = begun-of settle in
+    let a = begin-of p .args in
+    reached-low (a .t) (a .d) (a .n) (a .reader .now) (machine (begin-of p)) (admits begun) (is-open begun) (fresh settle) (low settle) (roomy settle) (within p) (limits begun) _ (afterwards p) _ (placed p)
+
+-- What is read lies in the file.
+read-within : (c : tie.After-places-given) → c .places-given .result .place + c .places-given .result .length ≤ 4096
+read-within c =
+    let a = begin-of (placed-of c) .args in
+    let z = standingAt (settle-of (placed-of c) .settle .result .transaction) (a .d) in
+    let off : offsetOf z ≤ 4096 = rw (c .before .before .before .before .before .before .before .standing-at .ensures) at (low-offset (c .before .before .before .before .before .before .before)) in
+    let l = end-low c in
+    rw (places-are c) (omega arith)
 
 copy-bytes-requires : tie.Need-copy-bytes-requires
 copy-bytes-requires c κs =
@@ -245,24 +293,22 @@ copy-bytes-requires c κs =
     let begun = begun-of settle in
     let a = begin-of p .args in
     let through = let-through (told-of begun) in
-    let off = low-offset (e .before .before) in
-    rw (e .places-given .ensures) (
+    let inside = read-within e in
+    let shorter = ap (λ (x : Extent). x .length) (places-are e) in (
       record {
-        counted =
-            counted (a .t) (a .d) (a .n) (a .reader .now) (machine (begin-of p)) (admits begun) (is-open begun) (fresh settle) (low settle) (roomy settle) (within p) _ (afterwards p) _ (placed p) _
-            (places-are e);
+        counted = counts p;
         logsLength = through .lengths .logs;
         filesLength = through .lengths .files;
         marksLength = through .lengths .marks;
-        number = omega (arith, in-range _ _ (through .ranges) .files (a .d) (omega (arith, low settle)));
-        places = omega (arith, off);
+        number = rw (places-are e) (low-file p);
+        places = inside;
       },
-      omega (arith, roomy settle),
+      omega (arith, shorter, roomy settle),
     )
 
 -- It fits its type.
 few : (c : tie.After-places-given) → c .places-given .result .length ≤ 4096
-few c = rw (c .places-given .ensures) (omega arith)
+few c = omega (arith, read-within c)
 
 cast-after-read : tie.Need-cast-after-read
 cast-after-read c = omega (arith, few (c .before .before .before .before .before .before .before .before .before .before .before))
@@ -270,8 +316,7 @@ cast-after-read c = omega (arith, few (c .before .before .before .before .before
 after-read-requires : tie.Need-after-read-requires
 after-read-requires c κs =
     let e = c .before .before .before .before .before .before .before .before .before .before .before in
-    let off = low-offset (e .before .before) in
-    rw (e .places-given .ensures) (omega (arith, off))
+    omega (arith, read-within e, ap (λ (x : Extent). x .place) (e .places-given .ensures))
 
 -- The bytes, copied.
 abbrev places-of : tie.After-after-read → tie.After-places-given
@@ -280,20 +325,23 @@ places-of c = c .before .before .before .before .before .before .before .before 
 abbrev told-at : tie.After-after-read → tie.After-enum-told
 told-at c = told-of (begun-of (settle-of (placed-of (places-of c))))
 
-mul-t25 : tie.Need-mul-t25
-mul-t25 c = omega (arith, low (settle-of (placed-of (places-of c))))
+mul-t27 : tie.Need-mul-t27
+mul-t27 c = omega (arith, low (settle-of (placed-of (places-of c))))
 
 element-set-from-y : tie.Need-element-set-from-y
 element-set-from-y c = omega (arith, low (settle-of (placed-of (places-of c))))
 
-mul-t27 : tie.Need-mul-t27
-mul-t27 c = omega (arith, let-through (told-at c) .small)
+length-sighted-requires : tie.Need-length-sighted-requires
+length-sighted-requires c κs = low-file (placed-of (places-of (c .before)))
+
+mul-t29 : tie.Need-mul-t29
+mul-t29 c = omega (arith, let-through (told-at (c .before .before)) .small)
 
 element-set-from-s : tie.Need-element-set-from-s
-element-set-from-s c = let-through (told-at c) .small
+element-set-from-s c = let-through (told-at (c .before .before)) .small
 
-cast-t53 : tie.Need-cast-t53
-cast-t53 c = omega (arith, few (places-of (c .before)))
+cast-t58 : tie.Need-cast-t58
+cast-t58 c = omega (arith, few (places-of (c .before .before .before)))
 
 same-length : tie.Need-same-length
 same-length c = search needs
@@ -304,14 +352,14 @@ same-length-2 c = search needs
 returns-5 : tie.Need-returns-5
 unfolding withTransaction
 returns-5 c =
-    let e = places-of (c .before) in
+    let e = places-of (c .before .before .before) in
     let p = placed-of e in
     let settle = settle-of p in
     let begun = begun-of settle in
     let a = begin-of p .args in
-    let copied = c .before .before .before .before .before .before .before .copy-bytes .ensures in
-    read-meets (a .t) (a .d) (a .n) (a .reader .now) (machine (begin-of p)) (admits begun) (is-open begun) (fresh settle) (low settle) (roomy settle) (within p) (settle .settle .result .transaction) (afterwards p) _ (placed p) (e .places-given .result) (places-are e) _ _ _
-    (c .before .after-read .ensures ∙ ap (afterRead (e .places-given .result .length)) (e .before .before .standing-at .ensures)) (copied .1) (copied .0)
+    let copied = c .before .before .before .before .before .before .before .before .before .copy-bytes .ensures in
+    read-meets (a .t) (a .d) (a .n) (a .reader .now) (machine (begin-of p)) (admits begun) (is-open begun) (fresh settle) (low settle) (roomy settle) (within p) (limits begun) (settle .settle .result .transaction) (afterwards p) _ (placed p) (e .places-given .result) (places-are e) _ _ _ _
+    (c .before .before .before .after-read .ensures ∙ ap (afterRead (e .places-given .result .length)) (e .before .before .before .before .before .before .before .standing-at .ensures)) (c .before .length-sighted .ensures) (copied .1) (copied .0)
 
 pub read-spec : {M : Type 1} → statement M
 read-spec =
@@ -340,16 +388,18 @@ read-spec =
     wide-octet-requires
     place-records-requires
     standing-at-requires
-    element-copy-out-places-given
+    element-copy-out-file
+    length-for-requires
     places-given-requires
     copy-bytes-requires
     cast-after-read
     after-read-requires
-    mul-t25
-    element-set-from-y
     mul-t27
+    element-set-from-y
+    length-sighted-requires
+    mul-t29
     element-set-from-s
-    cast-t53
+    cast-t58
     same-length
     same-length-2
     returns-5)

@@ -1,0 +1,32 @@
+-- Request F-8, "Files with a length": what holds of the lengths of every store reached from Fresh.
+use mathlib.Core.List.{List}
+use mathlib.Core.Path.{_≡_}
+use Prim.Native.Nat.{ℕ, _+_, _*_, _≤_, _<_}
+use Rattle.rules.specs.Items.{byte, fileLength, Values}
+use Rattle.rules.specs.Messages.{Call}
+use Rattle.rules.specs.Machine.{Machine, values}
+use Rattle.rules.specs.Calls.{call, callsAfter}
+use Rattle.rules.specs.Demand3.{FreshlyMade}
+
+-- Beyond its committed length every byte of a file is 0.
+abbrev pub ZeroBeyond : Values → Type 0
+ZeroBeyond v = (f p : ℕ) → f < 8 → v (fileLength f) ≤ p → p < 4096 → v (byte (4096 * f + p)) ≡ 0
+
+-- No length is shorter in the second values than in the first.
+abbrev pub Longer : Values → Values → Type 0
+Longer v w = (f : ℕ) → v (fileLength f) ≤ w (fileLength f)
+
+-- The committed values of a store.
+abbrev pub committedIn : Machine → Values
+committedIn m = values (m .store) (m .files)
+
+pub record LengthsHold (m : Machine) : Type 0 where
+  -- "Bytes between an old end and a write come from the file, and are 0 in every store reached from Fresh."
+  pub zeros : ZeroBeyond (committedIn m)
+  -- "Each file gets a committed length, 0 to 4,096"
+  pub limit : (f : ℕ) → committedIn m (fileLength f) ≤ 4096
+  -- No call lowers a length: a place below it stays below it.
+  pub grows : (c : Call) → Longer (committedIn m) (committedIn (call c m .after))
+
+abbrev pub LengthsAlwaysHold : Type 0
+LengthsAlwaysHold = (numbers : List ℕ) (m₀ : Machine) → FreshlyMade numbers m₀ → (cs : List Call) → LengthsHold (callsAfter cs m₀)

@@ -1,7 +1,7 @@
 //! Forged records, which no run from Fresh reaches.
 
 use crate::generator::Damage;
-use crate::store::{Log, Place, Standing, Store, Transaction, WriteRecord, DESCRIPTORS, FILES};
+use crate::store::{Log, Place, Standing, Store, Transaction, WriteRecord, DESCRIPTORS, FILES, SPAN};
 
 const EMPTY_RECORD: WriteRecord = WriteRecord { descriptor: 0, place: Place::At(0), length: 0 };
 
@@ -79,7 +79,7 @@ pub fn garbage_in_closed(store: &mut Store, marks: &mut [u8], t: usize) {
         acted: 21845,
         sighted_lengths: 255,
     };
-    marks.iter_mut().for_each(|mark| *mark |= 1 << t);
+    marks[SPAN * t..SPAN * (t + 1)].fill(255);
 }
 
 /// Puts the record out of its ranges, which Fresh doesn't mind.

@@ -1,10 +1,11 @@
-//! A second implementation of paper 01 with requests F-1 to F-8, written from the papers alone: a store over lent
+//! A second implementation of paper 01 with requests F-1 to F-9, written from the papers alone: a store over lent
 //! buffers, the plain machine of demand 3, a generator of calls, and the means to run the two side by side.
 
 pub mod call;
 pub mod digest;
 pub mod forge;
 pub mod generator;
+pub mod marks;
 pub mod pair;
 pub mod plain;
 pub mod store;

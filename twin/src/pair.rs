@@ -434,7 +434,10 @@ impl Pair {
             for sighting in &transaction.course.sightings {
                 match sighting.item {
                     Item::Offset { descriptor } => known[descriptor] = true,
-                    Item::Byte { file, place } => marks[SPAN * file + place] |= 1 << t,
+                    Item::Byte { file, place } => {
+                        let byte = SPAN * file + place;
+                        marks[SPAN * t + byte / 8] |= 1 << (byte % 8);
+                    }
                     Item::Length { .. } => {}
                 }
             }

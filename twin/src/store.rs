@@ -6,6 +6,7 @@
 use std::ops::Range;
 
 use crate::call::Refusal;
+use crate::marks;
 
 pub const FILES: usize = 8;
 pub const DESCRIPTORS: usize = 16;
@@ -273,7 +274,7 @@ impl Store {
             return Err(Refusal::AlreadyOpen);
         }
         self.transactions[t].reset(true);
-        clear_marks(lent.marks, t);
+        marks::clear(lent.marks, t);
         Ok(())
     }
 
@@ -511,7 +512,7 @@ impl Store {
                 Some(_) => &lent.logs[SPAN * t + run.from..][..length],
                 None => {
                     let from = SPAN * file + run.from;
-                    lent.marks[from..from + length].iter_mut().for_each(|mark| *mark |= 1 << t);
+                    marks::set(lent.marks, t, from..from + length);
                     &lent.files[from..from + length]
                 }
             };
@@ -566,7 +567,8 @@ impl Store {
 
     // Ending a transaction.
 
-    /// Lands the writes in call order and answers who has sighted a byte just set (a bit for each transaction).
+    /// Lands the writes in call order and answers which other open transactions have sighted a byte just set (a bit for
+    /// each).
     fn land(&self, lent: &mut Lent, t: usize) -> u8 {
         let mut sighters = 0;
         let mut data = SPAN * t;
@@ -575,7 +577,9 @@ impl Store {
             let length = usize::from(record.length);
             let start = SPAN * file + usize::from(place);
             lent.files[start..start + length].copy_from_slice(&lent.logs[data..data + length]);
-            sighters |= lent.marks[start..start + length].iter().fold(0, |all, mark| all | mark);
+            for u in (0..TRANSACTIONS).filter(|&u| u != t && self.transactions[u].begun) {
+                sighters |= u8::from(marks::any(lent.marks, u, start..start + length)) << u;
+            }
             data += length;
         }
         sighters
@@ -630,7 +634,7 @@ impl Store {
 
     fn end(&mut self, lent: &mut Lent, t: usize) {
         self.transactions[t].reset(false);
-        clear_marks(lent.marks, t);
+        marks::clear(lent.marks, t);
     }
 
     /// Makes stale every open transaction that has sighted one of the bytes, lengths or offsets just set, and answers the
@@ -660,9 +664,4 @@ fn joined(mut stretches: Vec<Range<u16>>) -> Vec<Range<u16>> {
         }
     }
     joined
-}
-
-fn clear_marks(marks: &mut [u8], t: usize) {
-    let others = !(1 << t);
-    marks.iter_mut().for_each(|mark| *mark &= others);
 }

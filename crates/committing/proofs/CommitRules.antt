@@ -1,5 +1,5 @@
 -- The rules of Commit after each of its tests: stale, past the end, granted.
-use mathlib.Core.Bool.{Bool, true, false, false≢true}
+use mathlib.Core.Bool.{Bool, true, false, _&&_, false≢true}
 use mathlib.Core.List.{List, []}
 use mathlib.Core.Path.{_≡_, refl, sym, ap, ap₂, _∙_}
 use lib.ListN.{length}
@@ -15,11 +15,13 @@ use Rattle.record.specs.declared.outcomes.Outcome.the-variants.{Granted, Refuse
 use Rattle.record.specs.State.{transaction, ended, withOffsets, withLengths, withTransactions, withTransaction}
 use Rattle.record.specs.Paper.{Said, plain, pointer, given, granted, pairs, refused, said}
 use Rattle.octets.specs.Bits.{bitsOf}
+use Rattle.octets.specs.Parts.{tabulate}
 use Rattle.ranges.specs.Ranges.{admission}
 use Rattle.rules.specs.Commits.{fits, commitRefusal}
 use Rattle.rules.specs.Messages.{commit}
-use Rattle.rules.specs.Machine.{Machine, lent, withStore, withMarking, sizes, tabulate}
+use Rattle.rules.specs.Machine.{Machine, lent, withStore, withMarking, sizes}
 use Rattle.rules.specs.Calls.{Turn, turnDown, reset, passing, admitted, landFiles, conflicts, becomesStale, commitDecided, commitGranted, commitTurn, formerNumber, call}
+use Rattle.landing.specs.Staling.{isWatched}
 use Rattle.landing.specs.Landing.{offsetsOnly, descriptorsOnly, CanLand}
 use Rattle.landing.proofs.LandLaws.{offsetsSet}
 use Rattle.landing.proofs.StaleLaws.{turned, passedOver}
@@ -68,7 +70,8 @@ module _ (t : ℕ) (m : Machine) where
       → length (m .store .transactions) ≡ 8 → t < 8
       → length (m .store .lengths) ≡ 8
       → CanLand (m .store .filenumbers) (m .store .offsets) (m .journal) (sizes m) t (transaction (m .store) t .used .records)
-      → (seen : ℕ) → ((u : ℕ) (y : Transaction) → u < 8 → contains seen u ≡ conflicts (m .marks) u y (landedBytes m t))
+      → (watched : ℕ) → watched ≡ bitsOf (isWatched (m .store .transactions) t) 8
+      → (seen : ℕ) → ((u : ℕ) (y : Transaction) → u < 8 → contains seen u ≡ contains watched u && conflicts (m .marks) u y (landedBytes m t))
       → (octet : ℕ) → octet ≡ bitsOf (turned (others m t) seen (offsetsIn m t) (raisedIn m t)) 8
       → (xs : List Transaction) → xs ≡ tabulate (passedOver (others m t) seen (offsetsIn m t) (raisedIn m t)) 8
       → (offsets : List ℕ) → offsets ≡ offsetsSet (transaction (m .store) t) (m .store .offsets) 16
@@ -78,15 +81,15 @@ module _ (t : ℕ) (m : Machine) where
       → (r : Store) → r ≡ withTransactions xs (withOffsets offsets (withLengths lengths (m .store)))
       → Meets w (Granted octet) (lent r (m .journal) files (m .logs) marks) []
   unfolding commitGranted said
-  granted-meets w e eight small eightLengths can seen sees octet n xs ts offsets os lengths ls files fs marks ms r q =
+  granted-meets w e eight small eightLengths can watched watches seen sees octet n xs ts offsets os lengths ls files fs marks ms r q =
       rw (e, q)
       (record {
-        outcome = ap granted (n ∙ sym (octet-is m t can seen sees eight small));
+        outcome = ap granted (n ∙ sym (octet-is m t can watched watches seen sees eight small));
         machine =
             rw (ms, fs, files-are m t, ls, lengths-are m t can eightLengths)
             (ap₂ (λ (o : List ℕ) (l : List Transaction). lent (withTransactions l (withOffsets o (withLengths (landedLengths m t) (m .store)))) (m .journal) (landFiles (landedBytes m t) (m .files)) (m .logs) (withoutMarks t (m .marks)))
             (os ∙ sym (offsets-are m t))
-            (ts ∙ sym (transactions-are m t can seen sees eight small)));
+            (ts ∙ sym (transactions-are m t can watched watches seen sees eight small)));
         reader = refl;
       })
 

@@ -11,6 +11,7 @@ use record::outcomes::Refusal;
 ghost use mathlib.Core.List.{[]};
 ghost use mathlib.Core.Path.{_≡_};
 ghost use Prim.Native.Nat.{_<_};
+ghost use lib.ListN.{length};
 ghost use Rattle.octets.specs.Marks.{withoutMarks};
 ghost use Rattle.record.specs.declared.outcomes.Refusal.{Refusal};
 ghost use Rattle.record.specs.declared.outcomes.Outcome.{Outcome};
@@ -22,7 +23,7 @@ ghost use Rattle.rules.specs.Promises.{Meets};
 
 // Ends transaction t, which is stale, as at Abort.
 fn end_stale(mut s: Store, marks: &mut [u8], t: usize) -> Answer
-    requires { ⌜ t < 8 ⌝ }
+    requires { ⌜ (t < 8) × (length (now marks) ≡ 32768) ⌝ }
     ensures answer { λ r. ⌜ (r .outcome ≡ Outcome.Refused Refusal.Stale) × (r .store ≡ withTransaction t ended s) ⌝ }
     ensures marks { λ _. ⌜ now (marks .exit) ≡ withoutMarks t (now (marks .entry)) ⌝ }
 {

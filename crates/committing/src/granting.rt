@@ -36,6 +36,8 @@ pub fn grant(
 {
     let x = s.transactions[t];
     let used = x.used;
+    let transactions = s.transactions;
+    let watched = staled::watched(transactions, t);
     let seen = landed::land_writes(
         files,
         logs,
@@ -45,6 +47,7 @@ pub fn grant(
         &s.offsets,
         t,
         used,
+        watched,
     );
     let lengths = s.lengths;
     s.lengths = landed::lengths_after(journal, &s.filenumbers, &s.offsets, t, used, lengths);

@@ -15,9 +15,10 @@ use Rattle.record.specs.Journal.{writeRecordAt}
 use Rattle.ranges.specs.Ranges.{lengthsBefore}
 use Rattle.ranges.proofs.Laws.{TransactionInRange, record-in, place-end}
 use Rattle.octets.proofs.PartLaws.{le-or-lt, length-cut}
+use Rattle.octets.specs.Parts.{tabulate}
 use Rattle.rules.specs.Transactions.{Write}
 use Rattle.rules.specs.Reading.{over}
-use Rattle.rules.specs.Machine.{tabulate, fileOf, dataStart, writeAt, txnOf}
+use Rattle.rules.specs.Machine.{fileOf, dataStart, writeAt, txnOf}
 use Rattle.rules.specs.Coverage.{someWrite, coversPlace, covered, unplacedOn, unplaced, listed, stretchesOf}
 use Rattle.rules.proofs.Coverage.Stretches.{stretches-same}
 use Rattle.rules.proofs.Coverage.Theorem.{lists-its-places}

@@ -16,6 +16,7 @@ use Rattle.record.specs.declared.Transaction.{Transaction}
 use Rattle.record.specs.State.{transaction, noTransaction, standingAt, dirtyAt, ended, withStale}
 use Rattle.record.specs.Journal.{writeRecordAt}
 use Rattle.octets.proofs.PartLaws.{length-cut}
+use Rattle.octets.specs.Parts.{tabulate}
 use Rattle.ranges.specs.Below.{sum}
 use Rattle.ranges.specs.Ranges.{recordIn, lengthsBefore}
 use Rattle.ranges.proofs.Laws.{InRange, Lengths, record-in}
@@ -24,13 +25,13 @@ use Rattle.standings.specs.declared.Standing.{Standing}
 use Rattle.standings.specs.Table.{isTouched, finalOffset, isKnown}
 use Rattle.rules.specs.Transactions.{Txn, Write}
 use Rattle.rules.specs.Commits.{Setting, landsAt, stretch, byteSettings, setsOffset, offsetSettings, landedEnd, lengthSettings, settings, fits}
-use Rattle.rules.specs.Machine.{Machine, sizes, fileOf, values, dataStart, writeAt, txnOf, tabulate}
+use Rattle.rules.specs.Machine.{Machine, sizes, fileOf, values, dataStart, writeAt, txnOf}
 use Rattle.rules.specs.Calls.{landByte, landFiles, landOffset, landOffsets, landLength, landLengths, hasSighted, conflicts, staled, afterCommit, becomesStale}
 use Rattle.rules.proofs.View.Tables.{tabulate-same, sum-le}
 use Rattle.rules.proofs.View.SettingsIn.{lands-in}
 use Rattle.laws.proofs.Decoded.{Opened}
 use Rattle.landing.specs.Landing.{offsetsOnly, descriptorsOnly, bytesSet, landedReach, lengthsLanded, RecordLands, CanLand}
-use Rattle.landing.specs.Staling.{some, knowsOffset, knowsLength, isRaised, goesStale}
+use Rattle.landing.specs.Staling.{isWatched, some, knowsOffset, knowsLength, isRaised, goesStale}
 use Rattle.landing.proofs.LandLaws.{landed-append, offsets-append, conflicts-append, fits-at, offsetsSet, lengths-append, lengths-table, lengths-land-none, lengths-set-none, known-lengths, reach-is, length-at}
 use Rattle.landing.proofs.StaleLaws.{some-same, nth, turned, passedOver}
 
@@ -162,6 +163,12 @@ rewritten y b c z e = pick b c z (ap (λ (w : Bool). withStale w y) (sym e))
     pick true false false k = k
     pick false c false k = k
 
+-- Two tests that say the same of an open transaction that is not stale.
+where-open : (b z c d : Bool) → (b && not z ≡ true → c ≡ d) → (b && not z && c) ≡ (b && not z && d)
+where-open true false c d same = same refl
+where-open true true c d same = refl
+where-open false z c d same = refl
+
 -- The transactions with number t ended.
 nth-ended : (xs : List Transaction) (t u : ℕ) → length xs ≡ 8 → t < 8 → nth (set xs t ended) u ≡ cond (eqb u t) ended (nth xs u)
 nth-ended xs t u l small = pick (eqb u t) refl
@@ -280,49 +287,68 @@ module _ (m : Machine) (t : ℕ) where
   abbrev pub others : List Transaction
   others = set (s .transactions) t ended
 
-  -- Those in seen are who has a mark on a byte set.
+  -- Those in seen are who of the watched has a mark on a byte set.
   module _ (can : CanLand (s .filenumbers) (s .offsets) (m .journal) (sizes m) t (transaction s t .used .records))
-      (seen : ℕ) (sees : (u : ℕ) (y : Transaction) → u < 8 → contains seen u ≡ conflicts (m .marks) u y landedBytes) where
+      (watched : ℕ) (watches : watched ≡ bitsOf (isWatched (s .transactions) t) 8)
+      (seen : ℕ) (sees : (u : ℕ) (y : Transaction) → u < 8 → contains seen u ≡ contains watched u && conflicts (m .marks) u y landedBytes) where
     -- Whether transaction y is hit.
     abbrev hits : ℕ → Transaction → Bool
     hits u y = contains seen u || (some (knowsOffset y offsetsIn) 16 || some (knowsLength y raisedIn) 8)
 
-    conflicts-are : (u : ℕ) → u < 8 → conflicts (m .marks) u (transaction s u) allSet ≡ hits u (transaction s u)
-    conflicts-are u l =
+    seen-is : (u : ℕ) → u < 8 → isWatched (s .transactions) t u ≡ true → contains seen u ≡ conflicts (m .marks) u (transaction s u) landedBytes
+    seen-is u l w =
+        sees u (transaction s u) l
+        ∙ ap (λ (b : Bool). b && conflicts (m .marks) u (transaction s u) landedBytes)
+        (ap (λ (n : ℕ). contains n u) watches ∙ contains-bits (isWatched (s .transactions) t) 8 u l ∙ w)
+
+    conflicts-are : (u : ℕ) → u < 8 → isWatched (s .transactions) t u ≡ true
+        → conflicts (m .marks) u (transaction s u) allSet ≡ hits u (transaction s u)
+    conflicts-are u l w =
         let y = transaction s u in
         ap (conflicts (m .marks) u y) settings-are
         ∙ conflicts-append (m .marks) u y landedBytes (setOffsets ++ setLengths)
-        ∙ ap₂ _||_ (sym (sees u y l))
+        ∙ ap₂ _||_ (sym (seen-is u l w))
         (conflicts-append (m .marks) u y setOffsets setLengths
         ∙ ap₂ _||_ (known-offsets (m .marks) u y v (transaction s t) 16 ∙ knows-same y (transaction s t)) (lengths-known can u y))
+
+    -- Of another transaction that is open and not stale the two tests say the same.
+    hit-alike : (u : ℕ) → u < 8 → eqb u t ≡ false → let y = transaction s u in
+        (y .begun && not (y .stale) && conflicts (m .marks) u y allSet) ≡ (y .begun && not (y .stale) && hits u y)
+    hit-alike u l e =
+        let y = transaction s u in
+        where-open (y .begun) (y .stale) (conflicts (m .marks) u y allSet) (hits u y)
+        (λ o. conflicts-are u l (ap (λ (b : Bool). not b && y .begun && not (y .stale)) e ∙ o))
 
     module _ (eight : length (s .transactions) ≡ 8) (small : t < 8) where
       after-same : (u : ℕ) → u < 8 → afterCommit t (m .marks) allSet s u ≡ passedOver others seen offsetsIn raisedIn u
       unfolding afterCommit passedOver staled goesStale ended
-      after-same u l = rw (conflicts-are u l, nth-ended (s .transactions) t u eight small) (pick (eqb u t))
+      after-same u l = rw (nth-ended (s .transactions) t u eight small) (pick (eqb u t) refl)
         where
           y : Transaction
           y = transaction s u
 
-          pick : (b : Bool)
-              → cond b ended (withStale (y .stale || (y .begun && hits u y)) y)
+          pick : (b : Bool) → eqb u t ≡ b
+              → cond b ended (withStale (y .stale || (y .begun && conflicts (m .marks) u y allSet)) y)
               ≡ cond (goesStale seen offsetsIn raisedIn u (cond b ended y)) (withStale true (cond b ended y)) (cond b ended y)
-          pick true = refl
-          pick false = rewritten y (y .begun) (hits u y) (y .stale) refl
+          pick true e = refl
+          pick false e =
+              rewritten y (y .begun) (conflicts (m .marks) u y allSet) (y .stale) refl
+              ∙ ap (λ (b : Bool). cond b (withStale true y) y) (hit-alike u l e)
 
       pub transactions-are : tabulate (afterCommit t (m .marks) allSet s) 8 ≡ tabulate (passedOver others seen offsetsIn raisedIn) 8
       transactions-are = tabulate-same (afterCommit t (m .marks) allSet s) (passedOver others seen offsetsIn raisedIn) 8 after-same
 
       went-same : (u : ℕ) → u < 8 → becomesStale t (m .marks) allSet s u ≡ turned others seen offsetsIn raisedIn u
       unfolding becomesStale goesStale ended
-      went-same u l = rw (conflicts-are u l, nth-ended (s .transactions) t u eight small) (pick (eqb u t))
+      went-same u l = rw (nth-ended (s .transactions) t u eight small) (pick (eqb u t) refl)
         where
           y : Transaction
           y = transaction s u
 
-          pick : (b : Bool) → (not b && y .begun && not (y .stale) && hits u y) ≡ goesStale seen offsetsIn raisedIn u (cond b ended y)
-          pick true = refl
-          pick false = refl
+          pick : (b : Bool) → eqb u t ≡ b
+              → (not b && y .begun && not (y .stale) && conflicts (m .marks) u y allSet) ≡ goesStale seen offsetsIn raisedIn u (cond b ended y)
+          pick true e = refl
+          pick false e = hit-alike u l e
 
       pub octet-is : bitsOf (becomesStale t (m .marks) allSet s) 8 ≡ bitsOf (turned others seen offsetsIn raisedIn) 8
       octet-is = bits-same (becomesStale t (m .marks) allSet s) (turned others seen offsetsIn raisedIn) 8 went-same

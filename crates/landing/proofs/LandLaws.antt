@@ -1,5 +1,5 @@
 -- Landing, write record by write record; Commit's placing; and the offsets, descriptor by descriptor.
-use mathlib.Core.Bool.{Bool, true, false, cond, _&&_, _||_, or-assoc, or-false}
+use mathlib.Core.Bool.{Bool, true, false, cond, _&&_, _||_, and-false, or-assoc, or-false}
 use mathlib.Core.List.{List, [], _∷_, _++_, append-nil, append-assoc}
 use mathlib.Core.Path.{_≡_, refl, sym, ap, ap₂, _∙_}
 use lib.Dec.{leb, ltb, eqb}
@@ -9,10 +9,11 @@ use borrow.Author.Tests.{le-leb, lt-leb, leb-true, ltb-true, ltb-false, eq-eqb, 
 use native.Mathlib.Numerals.{add-one}
 use native.Mathlib.Omega.{arith}
 use Prim.Native.Nat.{ℕ, zero, suc, _+_, _-_, _*_, _≤_, _<_, max}
-use Rattle.octets.specs.Parts.{pasted, cut}
+use Rattle.octets.specs.Parts.{pasted, cut, tabulate}
 use Rattle.octets.specs.Marks.{hasMark, hasMarkIn, contains}
 use Rattle.octets.proofs.PartLaws.{pasted-sets, length-cut}
 use Rattle.octets.proofs.MarkLaws.{has-in-none, has-in-first, contains-none}
+use Rattle.octets.proofs.TableLaws.{length-tabulate, getD-tabulate}
 use Rattle.record.specs.declared.Transaction.{Transaction}
 use Rattle.record.specs.declared.journal.WriteRecord.{WriteRecord}
 use Rattle.record.specs.State.{standingAt}
@@ -25,9 +26,9 @@ use Rattle.rules.specs.Items.{offset, fileLength, Values}
 use Rattle.rules.specs.Reading.{writeEnd, farthest}
 use Rattle.rules.specs.Transactions.{Write}
 use Rattle.rules.specs.Commits.{Setting, landsAt, stretch, byteSettings, setsOffset, offsetSettings, landedEnd, lengthSettings, fits}
-use Rattle.rules.specs.Machine.{dataStart, writeAt, tabulate}
+use Rattle.rules.specs.Machine.{dataStart, writeAt}
 use Rattle.rules.specs.Calls.{landByte, landFiles, landOffset, landOffsets, landLength, landLengths, hasSighted, conflicts}
-use Rattle.rules.proofs.View.Tables.{sum-le, length-tabulate, getD-tabulate, tabulate-same, tabulate-getD, tabulate-set}
+use Rattle.rules.proofs.View.Tables.{sum-le, tabulate-same, tabulate-getD, tabulate-set}
 use Rattle.rules.proofs.View.Ends.{farthest-last}
 use Rattle.laws.proofs.Filled.{filled, filled-none, filled-set, filled-kept, filled-all}
 use Rattle.landing.specs.Landing.{offsetsOnly, descriptorsOnly, bytesSet, landedReach, lengthsLanded, CanLand}
@@ -84,6 +85,10 @@ bytes-more : (filenumbers offsets journal logs : List ℕ) (t k : ℕ) → let w
 unfolding bytesSet tabulate writeAt offsetsOnly
 bytes-more filenumbers offsets journal logs t k =
     rw add-one (bytes-append (λ d. getD filenumbers d 0) (offsetsOnly offsets) (tabulate (writeAt journal logs t) k) (writeAt journal logs t k))
+
+in-both : (w a b : Bool) → (w && a) || (w && b) ≡ w && (a || b)
+in-both true a b = refl
+in-both false a b = refl
 
 -- What a turn of the loop over write records has read of record k.
 pub record Found (filenumbers offsets journal : List ℕ) (t k : ℕ) (w : WriteRecord) (d size c place f start : ℕ) : Type 0 where
@@ -159,17 +164,18 @@ module _ {filenumbers offsets journal : List ℕ} {t k : ℕ} {w : WriteRecord} 
           ∙ ap (landFiles (stretch q bs)) e
           ∙ sym (ap (λ (rs : List Setting). landFiles rs before) set-more ∙ landed-append ss (stretch q bs) before)
 
-      pub seen-more : (marks : List ℕ) (u : ℕ) (y : Transaction) (a b c : Bool) → c ≡ a || b
-          → a ≡ conflicts marks u y (bytesSet filenumbers offsets journal logs t k)
-          → b ≡ hasMarkIn marks u (4096 * f + place) size
-          → c ≡ conflicts marks u y (bytesSet filenumbers offsets journal logs t (k + 1))
-      seen-more marks u y a b c e g h =
+      pub seen-more : (marks : List ℕ) (u : ℕ) (y : Transaction) (w a b c : Bool) → c ≡ a || b
+          → a ≡ w && conflicts marks u y (bytesSet filenumbers offsets journal logs t k)
+          → b ≡ w && hasMarkIn marks u (4096 * f + place) size
+          → c ≡ w && conflicts marks u y (bytesSet filenumbers offsets journal logs t (k + 1))
+      seen-more marks u y w a b c e g h =
           let ss = bytesSet filenumbers offsets journal logs t k in
           let q = 4096 * f + place in
           let bs = cut logs start size in
           e
-          ∙ ap₂ _||_ g (h ∙ ap (hasMarkIn marks u q) (sym bytes-length) ∙ sym (conflicts-stretch marks u y q bs))
-          ∙ sym (ap (conflicts marks u y) set-more ∙ conflicts-append marks u y ss (stretch q bs))
+          ∙ ap₂ _||_ g (h ∙ ap (λ (x : Bool). w && x) (ap (hasMarkIn marks u q) (sym bytes-length) ∙ sym (conflicts-stretch marks u y q bs)))
+          ∙ in-both w (conflicts marks u y ss) (conflicts marks u y (stretch q bs))
+          ∙ ap (λ (x : Bool). w && x) (sym (ap (conflicts marks u y) set-more ∙ conflicts-append marks u y ss (stretch q bs)))
 
       pub start-more : start + size ≡ dataStart journal t (k + 1)
       unfolding dataStart lengthsBefore sum
@@ -180,9 +186,10 @@ module _ (filenumbers offsets journal logs : List ℕ) (t : ℕ) where
   unfolding bytesSet tabulate byteSettings landFiles
   none-landed files = refl
 
-  pub none-seen : (marks : List ℕ) (u : ℕ) (y : Transaction) → contains 0 u ≡ conflicts marks u y (bytesSet filenumbers offsets journal logs t 0)
+  pub none-seen : (marks : List ℕ) (u : ℕ) (y : Transaction) (w : Bool)
+      → contains 0 u ≡ w && conflicts marks u y (bytesSet filenumbers offsets journal logs t 0)
   unfolding bytesSet tabulate byteSettings conflicts
-  none-seen marks u y = contains-none u
+  none-seen marks u y w = contains-none u ∙ sym (and-false w)
 
 pub none-started : (journal : List ℕ) (t : ℕ) → 4096 * t ≡ dataStart journal t 0
 unfolding dataStart lengthsBefore sum

@@ -11,12 +11,12 @@ use native.Mathlib.Numerals.{add-one}
 use Prim.Native.Nat.{ℕ, zero, suc, _+_, _≤_, _<_}
 use Rattle.octets.specs.Bits.{withBit, bitsOf}
 use Rattle.octets.specs.Marks.{contains}
-use Rattle.octets.proofs.SetLaws.{bits-with, bits-without}
+use Rattle.octets.proofs.SetLaws.{gathered, passed-by}
+use Rattle.octets.specs.Parts.{tabulate}
+use Rattle.octets.proofs.TableLaws.{length-tabulate}
 use Rattle.record.specs.declared.Transaction.{Transaction}
 use Rattle.record.specs.State.{noTransaction, standingAt, withStale}
 use Rattle.standings.specs.Table.{isKnown}
-use Rattle.rules.specs.Machine.{tabulate}
-use Rattle.rules.proofs.View.Tables.{length-tabulate}
 use Rattle.laws.proofs.Filled.{filled, filled-none, filled-set, filled-kept, filled-all}
 use Rattle.landing.specs.Staling.{some, knowsOffset, knowsLength, goesStale}
 
@@ -42,14 +42,6 @@ pub some-same : (p q : ℕ → Bool) (n : ℕ) → ((i : ℕ) → i < n → p i 
 unfolding some
 some-same p q zero h = refl
 some-same p q (suc n) h = ap₂ _||_ (some-same p q n (λ i l. h i (omega arith))) (h n (omega arith))
-
--- ---- a set that a loop gathers: one number more of it
-
-pub gathered : (p : ℕ → Bool) (set n : ℕ) → set ≡ bitsOf p n → p n ≡ true → withBit n set ≡ bitsOf p (n + 1)
-gathered p set n e h = ap (withBit n) e ∙ bits-with p n h ∙ ap (bitsOf p) (omega arith)
-
-pub passed-by : (p : ℕ → Bool) (set n : ℕ) → set ≡ bitsOf p n → p n ≡ false → set ≡ bitsOf p (n + 1)
-passed-by p set n e h = e ∙ bits-without p n h ∙ ap (bitsOf p) (omega arith)
 
 -- ---- offsets that another transaction knows
 

@@ -5,6 +5,7 @@ use mathlib.Core.Path.{_≡_}
 use lib.Dec.{eqb}
 use lib.ListN.{getD}
 use Prim.Native.Nat.{ℕ, zero, suc, _+_, _≤_, _<_, max}
+use Rattle.octets.specs.Parts.{tabulate}
 use Rattle.record.specs.declared.Transaction.{Transaction}
 use Rattle.record.specs.State.{standingAt, dirtyAt}
 use Rattle.record.specs.Journal.{writeRecordAt}
@@ -13,7 +14,7 @@ use Rattle.rules.specs.Items.{byte, offset, fileLength, Values}
 use Rattle.rules.specs.Transactions.{Txn}
 use Rattle.rules.specs.Reading.{writeEnd}
 use Rattle.rules.specs.Commits.{Setting, landsAt, byteSettings}
-use Rattle.rules.specs.Machine.{writeAt, tabulate}
+use Rattle.rules.specs.Machine.{writeAt}
 
 -- The committed offsets as values, and the descriptors of x as a transaction of the rules: what a commit sets goes by no committed
 -- byte, and its offsets by no write.

@@ -2,13 +2,19 @@
 -- descriptors whose offsets it set, and that of the files whose lengths it raised.
 use mathlib.Core.Bool.{Bool, false, not, _&&_, _||_}
 use mathlib.Core.List.{List}
-use lib.Dec.{ltb}
+use lib.Dec.{eqb, ltb}
 use lib.ListN.{getD}
 use Prim.Native.Nat.{ℕ, zero, suc}
 use Rattle.octets.specs.Marks.{contains}
 use Rattle.record.specs.declared.Transaction.{Transaction}
-use Rattle.record.specs.State.{standingAt}
+use Rattle.record.specs.State.{noTransaction, standingAt}
 use Rattle.standings.specs.Table.{isKnown}
+
+-- The transactions that a commit of t can make stale: every other one that is open and not stale.
+abbrev pub isWatched : List Transaction → ℕ → ℕ → Bool
+isWatched transactions t u =
+    let y = getD transactions u noTransaction in
+    not (eqb u t) && y .begun && not (y .stale)
 
 -- A test of some number below a bound.
 unfoldable pub some : (ℕ → Bool) → ℕ → Bool

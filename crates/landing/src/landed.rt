@@ -14,7 +14,7 @@ use record::Transaction;
 use record::journal::NUMBERS;
 use record::journal::record_at;
 use standings::Place;
-ghost use mathlib.Core.Bool.{true};
+ghost use mathlib.Core.Bool.{true, _&&_};
 ghost use mathlib.Core.Path.{_≡_};
 ghost use Prim.Native.Nat.{ℕ, _+_, _≤_, _<_};
 ghost use lib.ListN.{length, getD};
@@ -54,7 +54,7 @@ fn lands_at(place: Place, c: usize) -> usize
     }
 }
 
-// Lands transaction t's writes in call order. Answers those who have a mark on a byte that it set.
+// Lands transaction t's writes in call order. Answers those of the watched transactions that have a mark on a byte that it set.
 pub fn land_writes<'a>(
     files: &mut [u8],
     logs: &[u8],
@@ -64,10 +64,11 @@ pub fn land_writes<'a>(
     offsets: &'a [u16; DESCRIPTORS],
     t: usize,
     used: Used,
+    watched: u8,
 ) -> u8
     requires { ⌜ CanLand (now filenumbers) (now offsets) (now journal) (sized (length (now files)) (length (now logs)) (length (now marks))) t (used .records) ⌝ }
     ensures files { λ _. ⌜ now (files .exit) ≡ landFiles (bytesSet (now (filenumbers .entry)) (now (offsets .entry)) (now (journal .entry)) (now (logs .entry)) t (used .records)) (now (files .entry)) ⌝ }
-    ensures seen { λ r. ⌜ ((u : ℕ) (y : Transaction) → u < 8 → contains r u ≡ conflicts (now (marks .entry)) u y (bytesSet (now (filenumbers .entry)) (now (offsets .entry)) (now (journal .entry)) (now (logs .entry)) t (used .records))) ⌝ }
+    ensures seen { λ r. ⌜ ((u : ℕ) (y : Transaction) → u < 8 → contains r u ≡ contains watched u && conflicts (now (marks .entry)) u y (bytesSet (now (filenumbers .entry)) (now (offsets .entry)) (now (journal .entry)) (now (logs .entry)) t (used .records))) ⌝ }
 {
     let records = wide_octet(used.records);
     let mut seen = 0u8;
@@ -81,7 +82,7 @@ pub fn land_writes<'a>(
         let place = lands_at(p, wide(offsets[d]));
         let f = wide_octet(filenumbers[d]);
         parts::land(files, f, place, parts::part(logs, start, size));
-        seen = joined(seen, markers(marks, FILE_BYTES * f + place, size));
+        seen = joined(seen, markers(marks, watched, FILE_BYTES * f + place, size));
         start += size;
         k += 1;
     }

@@ -3,13 +3,30 @@ use octets::marks;
 use octets::sets;
 use record::DESCRIPTORS;
 use record::FILES;
+use record::TRANSACTIONS;
 use record::Transaction;
 ghost use mathlib.Core.Path.{_≡_};
 ghost use Prim.Native.Nat.{_<_};
 ghost use Rattle.octets.specs.Bits.{bitsOf};
 ghost use Rattle.rules.specs.Commits.{setsOffset};
 ghost use Rattle.landing.specs.Landing.{descriptorsOnly};
-ghost use Rattle.landing.specs.Staling.{some, knowsOffset, knowsLength, isRaised, goesStale};
+ghost use Rattle.landing.specs.Staling.{isWatched, some, knowsOffset, knowsLength, isRaised, goesStale};
+
+// The transactions that a commit of t can make stale: every other one that is open and not stale.
+pub fn watched(transactions: [Transaction; TRANSACTIONS], t: usize) -> u8
+    ensures { λ r. ⌜ r ≡ bitsOf (isWatched transactions t) 8 ⌝ }
+{
+    let mut found = 0u8;
+    let mut u = 0;
+    while u < TRANSACTIONS {
+        let y = transactions[u];
+        if (u != t) & y.begun & !y.stale {
+            found = marks::with(found, u);
+        }
+        u += 1;
+    }
+    found
+}
 
 // The descriptors whose offsets a commit of x sets, as sixteen bits.
 pub fn offsets_set(x: Transaction) -> u16

@@ -5,8 +5,9 @@ use mathlib.Core.Path.{_≡_, refl, sym, ap, _∙_}
 use lib.ListN.{length, getD}
 use native.Mathlib.Omega.{arith}
 use Prim.Native.Nat.{ℕ, zero, suc, _+_, _*_, _≤_, _<_}
-use Rattle.octets.specs.Parts.{cut}
+use Rattle.octets.specs.Parts.{cut, tabulate}
 use Rattle.octets.proofs.PartLaws.{length-cut}
+use Rattle.octets.proofs.TableLaws.{length-tabulate, getD-tabulate}
 use Rattle.record.specs.declared.Store.{Store}
 use Rattle.record.specs.State.{transaction}
 use Rattle.record.specs.Journal.{writeRecordAt}
@@ -15,9 +16,9 @@ use Rattle.ranges.specs.Ranges.{lengthsBefore}
 use Rattle.ranges.proofs.Laws.{sum-same, TransactionInRange, Admitted, in-range}
 use Rattle.rules.specs.Transactions.{Txn, Write}
 use Rattle.rules.specs.Steps.{total}
-use Rattle.rules.specs.Machine.{Machine, sizes, tabulate, dataStart, writeAt, txnOf}
+use Rattle.rules.specs.Machine.{Machine, sizes, dataStart, writeAt, txnOf}
 use Rattle.rules.proofs.View.Shape.{Shaped}
-use Rattle.rules.proofs.View.Tables.{length-tabulate, getD-tabulate, sum-le}
+use Rattle.rules.proofs.View.Tables.{sum-le}
 
 -- What a call knows of the transaction that it was admitted to.
 pub record Opened (s : Store) (journal logs : List ℕ) (t : ℕ) : Type 0 where

@@ -8,6 +8,7 @@ use lib.ListN.{length, getD, set, length-append, List·getD-append}
 use lib.Seq.{getD-at}
 use native.Mathlib.Omega.{arith}
 use Prim.Native.Nat.{ℕ, suc, _+_, _-_, _*_, _≤_, _<_}
+use Rattle.octets.specs.Parts.{tabulate}
 use Rattle.counters.specs.declared.Used.{Used}
 use Rattle.standings.specs.declared.Standing.{Standing}
 use Rattle.record.specs.declared.Descriptor.{Descriptor}
@@ -20,7 +21,7 @@ use Rattle.record.proofs.JournalLaws.{with-more, with-same, with-own-records}
 use Rattle.standings.specs.Table.{afterWrite, writePlace}
 use Rattle.rules.specs.Transactions.{Txn, Write, put, dirtied}
 use Rattle.rules.specs.Steps.{total, written}
-use Rattle.rules.specs.Machine.{tabulate, writeAt, recordOf, txnOf, noWrite, journalled, holding, lengthmarked, sightingLengths, withTxn}
+use Rattle.rules.specs.Machine.{writeAt, recordOf, txnOf, noWrite, journalled, holding, lengthmarked, sightingLengths, withTxn}
 use Rattle.rules.proofs.View.Shape.{Shaped}
 use Rattle.rules.proofs.View.Tables.{tabulate-getD, tabulate-set}
 use Rattle.laws.proofs.Decoded.{Opened, decoded-count, decoded-at, decoded-total, decoded-length, total-append}

@@ -1,19 +1,19 @@
--- The laws of bits, and of a stretch of octets that is changed. Assumes nothing.
+-- The laws of bits, and of a stretch of octets that is cleared. Assumes nothing.
 use mathlib.Core.Path.{_≡_, refl, sym, ap, ap₂, _∙_}
-use mathlib.Core.Bool.{Bool, true, false, cond, _&&_, _||_, false≢true}
-use mathlib.Core.List.{List, [], _∷_, _++_, map, map-append, append-nil}
+use mathlib.Core.Bool.{Bool, true, false, cond, not, _||_, or-true, or-false}
+use mathlib.Core.List.{List}
 use mathlib.Core.Logic.{_⊎_, inl, inr, ⊎-elim}
-use Prim.Native.Nat.{ℕ, zero, suc, _+_, _-_, _*_, _^_, _/_, _%_, _≤_, _<_, min, max}
-use native.Mathlib.Nat.{one-mul, zero-add, add-zero, add-suc, max-zero, not-suc-le-zero, le-of-suc-le-suc, eq-or-lt-of-le, div-one, div-self, div-eq-of-lt, zero-div, mod-lt, mod-eq-of-lt, mul-mod-left, mul-add-mod-self-right, div-div-eq-div-mul, pow-suc, mul-comm}
+use Prim.Native.Nat.{ℕ, zero, suc, _+_, _-_, _*_, _^_, _/_, _%_, _≤_, _<_, max}
+use native.Mathlib.Nat.{zero-mul, one-mul, suc-mul, add-zero, add-suc, add-comm, max-zero, div-one, div-self, div-eq-of-lt, zero-div, mod-lt, mod-eq-of-lt, mul-mod-left, mul-add-mod-self-right, div-div-eq-div-mul, pow-suc, mul-comm}
 use native.Mathlib.Numerals.{add-one}
 use native.Mathlib.Omega.{arith}
 use lib.Dec.{eqb}
-use lib.ListN.{length, take, drop, getD, set, length-map}
-use lib.Bits.{bitAnd, bitOr, and-shr, or-shr, and-step, or-step, and-le-l, or-lt}
-use lib.Seq.{length-take-le, take-suc, take-length, drop-cons, drop-length, append-snoc, set-getD, set-at, getD-at}
-use lib.Pow.{pow-pos, pow-lt, pow-mono, pow-add, shl-shr, shl-exact}
-use borrow.Author.Tests.{eqb-true, eqb-false}
-use Rattle.octets.specs.Bits.{bit, withBit, withoutBit, changed}
+use lib.ListN.{length, getD, set, length-set, List·getD-eq-default}
+use lib.Bits.{bitAnd, bitOr, or-shr, or-step, or-zero-r, or-lt, or-add-and, or-shifted-r, and-zero-r, and-le-l, and-le-r, and-mask, and-high}
+use lib.Seq.{getD-set-same, getD-set-other, set-out}
+use lib.Pow.{pow-pos, pow-lt, pow-mono, pow-add, shl-shr, shr-shr, shl-exact, mod-pow-add}
+use borrow.Author.Tests.{eqb-true, eqb-false, eq-eqb, ne-eqb}
+use Rattle.octets.specs.Bits.{bit, withBit, span, cleared}
 use Rattle.octets.specs.Marks.{contains}
 use Rattle.octets.proofs.PartLaws.{le-or-lt}
 
@@ -52,27 +52,15 @@ bits-equal x y same = upto (x + y) x y (omega arith) (omega arith) same
         let high : x / 2 ≡ y / 2 = upto n (x / 2) (y / 2) (omega arith) (omega arith) (λ u. sym (bit-next u x) ∙ same (suc u) ∙ bit-next u y) in
         omega arith
 
--- an operation that goes digit by digit goes bit by bit
-module _
-    (op f : ℕ → ℕ → ℕ)
-    (shr : (a b k : ℕ) → op a b / 2 ^ k ≡ op (a / 2 ^ k) (b / 2 ^ k))
-    (step : (a b : ℕ) → op a b ≡ op (a / 2) (b / 2) * 2 + f (a % 2) (b % 2))
-    (small : (x y : ℕ) → x < 2 → y < 2 → f x y < 2)
-  where
-    bit-op : (u a b : ℕ) → bit u (op a b) ≡ f (bit u a) (bit u b)
-    unfolding bit
-    bit-op u a b =
-        let x = a / 2 ^ u in
-        let y = b / 2 ^ u in
-        ap (λ (k : ℕ). k % 2) (shr a b u ∙ step x y)
-        ∙ mul-add-mod-self-right (op (x / 2) (y / 2)) 2 (f (x % 2) (y % 2))
-        ∙ mod-eq-of-lt (small (x % 2) (y % 2) (bit-lt u a) (bit-lt u b))
-
 pub bit-or : (u a b : ℕ) → bit u (bitOr a b) ≡ max (bit u a) (bit u b)
-bit-or = bit-op bitOr max or-shr or-step (λ x y h g. omega arith)
-
-pub bit-and : (u a b : ℕ) → bit u (bitAnd a b) ≡ min (bit u a) (bit u b)
-bit-and = bit-op bitAnd min and-shr and-step (λ x y h g. omega arith)
+unfolding bit
+bit-or u a b =
+    let x = a / 2 ^ u in
+    let y = b / 2 ^ u in
+    let small : max (x % 2) (y % 2) < 2 = omega arith in
+    ap (λ (k : ℕ). k % 2) (or-shr a b u ∙ or-step x y)
+    ∙ mul-add-mod-self-right (bitOr (x / 2) (y / 2)) 2 (max (x % 2) (y % 2))
+    ∙ mod-eq-of-lt small
 
 -- the transactions of both sets
 pub contains-or : (a b u : ℕ) → contains (bitOr a b) u ≡ contains a u || contains b u
@@ -88,7 +76,7 @@ contains-or a b u = ap (λ (k : ℕ). eqb k 1) (bit-or u a b) ∙ either (bit u 
     either zero (suc (suc y)) h g = absurd (omega arith)
     either (suc zero) (suc (suc y)) h g = absurd (omega arith)
 
--- ---- a bit set, a bit cleared
+-- ---- a bit set
 
 -- the bits of a power
 pub bit-own : (t : ℕ) → bit t (2 ^ t) ≡ 1
@@ -112,33 +100,6 @@ bit-other u t other = ⊎-elim (λ h. bit-above u (2 ^ t) (pow-lt (omega arith))
 pub shift-one : (w t : ℕ) → t < w → 1 * 2 ^ t % 2 ^ w ≡ 2 ^ t
 shift-one w t h = shl-exact 1 t w (omega arith) (omega arith) ∙ one-mul (2 ^ t)
 
--- a test that holds of every number below n
-holds : (ℕ → Bool) → ℕ → Bool
-holds p zero = true
-holds p (suc n) = p n && holds p n
-
-holds-at : (p : ℕ → Bool) (n k : ℕ) → holds p n ≡ true → k < n → p k ≡ true
-unfolding holds
-holds-at p zero k e h = absurd (not-suc-le-zero h)
-holds-at p (suc n) k e h = both (p n) refl e (λ q. holds-at p n k q) (eq-or-lt-of-le (le-of-suc-le-suc h))
-  where
-    both : (b : Bool) → p n ≡ b → (b && holds p n) ≡ true → (holds p n ≡ true → k < n → p k ≡ true) → (k ≡ n) ⊎ (k < n) → p k ≡ true
-    both true q e below (inl same) = ap p same ∙ q
-    both true q e below (inr less) = below e less
-    both false q e below w = absurd (false≢true e)
-
--- the mask that clears bit t of an octet has every other bit
-right : ℕ → ℕ → Bool
-right t u = eqb (bit u (255 - 2 ^ t)) (cond (eqb u t) 0 1)
-
-table : holds (λ (t : ℕ). holds (right t) 8) 8 ≡ true
-unfolding bit holds right
-table = refl
-
-bit-mask : (u t : ℕ) → u < 8 → t < 8 → bit u (255 - 2 ^ t) ≡ cond (eqb u t) 0 1
-unfolding right
-bit-mask u t hu ht = eqb-true (bit u (255 - 2 ^ t)) (cond (eqb u t) 0 1) (holds-at (right t) 8 u (holds-at (λ (t : ℕ). holds (right t) 8) 8 t table ht) hu)
-
 -- every bit of an octet with bit t set
 pub bit-with : (u t x : ℕ) → bit u (withBit t x) ≡ cond (eqb u t) 1 (bit u x)
 unfolding withBit
@@ -148,91 +109,126 @@ bit-with u t x = pick (eqb u t) refl
     pick true e = let h = bit-lt t x in rw (bit-or, eqb-true u t e, bit-own) (omega arith)
     pick false e = rw (bit-or, bit-other u t (eqb-false u t e), max-zero)
 
--- and with bit t cleared
-pub bit-without : (u t x : ℕ) → u < 8 → t < 8 → bit u (withoutBit t x) ≡ cond (eqb u t) 0 (bit u x)
-unfolding withoutBit
-bit-without u t x hu ht = bit-and u x (255 - 2 ^ t) ∙ ap (min (bit u x)) (bit-mask u t hu ht) ∙ pick (eqb u t)
-  where
-    pick : (b : Bool) → min (bit u x) (cond b 0 1) ≡ cond b 0 (bit u x)
-    pick true = omega arith
-    pick false = let h = bit-lt u x in omega arith
-
-pub without-zero : (t : ℕ) → withoutBit t 0 ≡ 0
-unfolding withoutBit
-without-zero t = refl
-
--- both give octets
+-- it stays an octet
 pub with-lt : (t x : ℕ) → t < 8 → x < 256 → withBit t x < 256
 unfolding withBit
 with-lt t x ht hx = or-lt 8 x (2 ^ t) hx (pow-lt ht)
 
-pub without-le : (t x : ℕ) → withoutBit t x ≤ x
-unfolding withoutBit
-without-le t x = and-le-l x (255 - 2 ^ t)
+-- ---- the bits of a span
 
--- an octet that lacks the bit is left as it is
-pub without-same : (t x : ℕ) → t < 8 → x < 256 → bit t x ≡ 0 → withoutBit t x ≡ x
-without-same t x ht hx none =
-    bits-equal (withoutBit t x) x
-    (λ u. ⊎-elim (above u) (λ hu. bit-without u t x hu ht ∙ pick u (eqb u t) refl) (le-or-lt 8 u))
+or-assoc : (a b c : ℕ) → bitOr (bitOr a b) c ≡ bitOr a (bitOr b c)
+or-assoc a b c = bits-equal (bitOr (bitOr a b) c) (bitOr a (bitOr b c)) (λ u. simp bit-or (omega arith))
+
+span-none : (low : ℕ) → span low 0 ≡ 0
+unfolding span
+span-none low = simp add-zero (omega arith)
+
+span-more : (low n : ℕ) → withBit (low + n) (span low n) ≡ span low (suc n)
+unfolding span withBit
+span-more low n =
+    let h : 2 ^ low ≤ 2 ^ (low + n) = pow-mono (omega arith) in
+    let p = pow-pos low in
+    let e : 2 ^ (low + suc n) ≡ 2 ^ (low + n) * 2 = ap (λ (k : ℕ). 2 ^ k) (add-suc low n) ∙ pow-suc 2 (low + n) in
+    ap (bitOr (span low n)) (sym (one-mul (2 ^ (low + n))))
+    ∙ or-shifted-r 1 (low + n) (span low n) (omega arith)
+    ∙ omega arith
+
+-- one bit more of it set
+pub with-span : (low n x : ℕ) → withBit (low + n) (bitOr x (span low n)) ≡ bitOr x (span low (suc n))
+unfolding withBit
+with-span low n x = or-assoc x (span low n) (2 ^ (low + n)) ∙ ap (bitOr x) (span-more low n)
+
+pub with-span-none : (low x : ℕ) → bitOr x (span low 0) ≡ x
+with-span-none low x = ap (bitOr x) (span-none low) ∙ or-zero-r x
+
+-- a whole octet of it
+pub with-octet : (x : ℕ) → x < 256 → bitOr x (span 0 8) ≡ span 0 8
+unfolding span
+with-octet x h = let e : bitAnd x 255 ≡ x = and-mask x 8 ∙ mod-eq-of-lt h in omega (arith, or-add-and x 255)
+
+-- what a number has in a span
+in-span : (low n x : ℕ) → bitAnd x (span low n) ≡ x / 2 ^ low % 2 ^ n * 2 ^ low
+unfolding span
+in-span low n x = ap (λ (k : ℕ). bitAnd x (2 ^ k - 2 ^ low)) (add-comm low n) ∙ and-high x n low
+
+some-scaled : (a p : ℕ) → 0 < p → eqb (a * p) 0 ≡ eqb a 0
+some-scaled zero p h = ap (λ (k : ℕ). eqb k 0) (zero-mul p)
+some-scaled (suc a) p h = ne-eqb (suc a * p) 0 (λ e. omega (arith, suc-mul a p)) ∙ sym (ne-eqb (suc a) 0 (λ e. omega arith))
+
+pub some-none : (low x : ℕ) → not (eqb (bitAnd x (span low 0)) 0) ≡ false
+some-none low x = ap (λ (k : ℕ). not (eqb (bitAnd x k) 0)) (span-none low) ∙ ap (λ (k : ℕ). not (eqb k 0)) (and-zero-r x)
+
+pub some-more : (low n x : ℕ) → not (eqb (bitAnd x (span low (suc n))) 0) ≡ not (eqb (bitAnd x (span low n)) 0) || eqb (bit (low + n) x) 1
+unfolding bit
+some-more low n x =
+    let y = x / 2 ^ low in
+    let e : suc n ≡ 1 + n = omega arith in
+    scaled (suc n)
+    ∙ ap (λ (k : ℕ). not (eqb (y % 2 ^ k) 0)) e
+    ∙ ap (λ (k : ℕ). not (eqb k 0)) (mod-pow-add y 1 n)
+    ∙ either (y / 2 ^ n % 2) (y % 2 ^ n) (2 ^ n) (mod-lt (y / 2 ^ n) (omega arith)) (pow-pos n)
+    ∙ ap₂ (λ (b : Bool) (k : ℕ). b || eqb (k % 2) 1) (sym (scaled n)) (shr-shr x low n)
   where
-    above : (u : ℕ) → 8 ≤ u → bit u (withoutBit t x) ≡ bit u x
-    above u h =
-        let wide : 2 ^ 8 ≤ 2 ^ u = pow-mono h in
-        bit-above u (withoutBit t x) (omega (arith, without-le t x)) ∙ sym (bit-above u x (omega arith))
+    scaled : (m : ℕ) → not (eqb (bitAnd x (span low m)) 0) ≡ not (eqb (x / 2 ^ low % 2 ^ m) 0)
+    scaled m = ap (λ (k : ℕ). not (eqb k 0)) (in-span low m x) ∙ ap not (some-scaled (x / 2 ^ low % 2 ^ m) (2 ^ low) (pow-pos low))
 
-    pick : (u : ℕ) (b : Bool) → eqb u t ≡ b → cond b 0 (bit u x) ≡ bit u x
-    pick u true e = sym (ap (λ (k : ℕ). bit k x) (eqb-true u t e) ∙ none)
-    pick u false e = refl
+    either : (b r p : ℕ) → b < 2 → 0 < p → not (eqb (b * p + r) 0) ≡ not (eqb r 0) || eqb b 1
+    either zero r p h g =
+        let e : 0 * p + r ≡ r = omega (arith, zero-mul p) in
+        ap (λ (k : ℕ). not (eqb k 0)) e ∙ sym (or-false (not (eqb r 0)))
+    either (suc zero) r p h g = ap not (ne-eqb (1 * p + r) 0 (λ e. omega (arith, one-mul p))) ∙ sym (or-true (not (eqb r 0)))
+    either (suc (suc b)) r p h g = absurd (omega arith)
 
--- ---- a stretch that is changed
+-- and in a whole octet
+pub some-octet : (x : ℕ) → x < 256 → bitAnd x (span 0 8) ≡ x
+unfolding span
+some-octet x h = and-mask x 8 ∙ mod-eq-of-lt h
 
-module _ (f : ℕ → ℕ) (from : ℕ) (xs : List ℕ) where
-  pub changed-none : changed f from 0 xs ≡ xs
-  unfolding changed
-  changed-none = refl
+pub some-or : (a b : ℕ) → not (eqb (bitOr a b) 0) ≡ not (eqb a 0) || not (eqb b 0)
+some-or a b = pick (eqb a 0) refl (eqb b 0) refl
+  where
+    pick : (x : Bool) → eqb a 0 ≡ x → (y : Bool) → eqb b 0 ≡ y → not (eqb (bitOr a b) 0) ≡ not x || not y
+    pick true e true f = ap not (eq-eqb (bitOr a b) 0 (omega (arith, or-add-and a b, eqb-true a 0 e, eqb-true b 0 f)))
+    pick true e false f = ap not (ne-eqb (bitOr a b) 0 (λ g. eqb-false b 0 f (omega (arith, or-add-and a b, and-le-l a b))))
+    pick false e y f = ap not (ne-eqb (bitOr a b) 0 (λ g. eqb-false a 0 e (omega (arith, or-add-and a b, and-le-r a b))))
 
-  -- one octet more
-  pub changed-more : (n : ℕ)
-      → set (changed f from n xs) (from + n) (f (getD (changed f from n xs) (from + n) 0)) ≡ changed f from (n + 1) xs
-  unfolding changed
-  changed-more n = ap (λ (k : ℕ). changed f from k xs) (sym (add-one n))
+-- ---- a stretch that is cleared
 
-  -- where no octet is altered
-  pub changed-same : (n : ℕ) → ((i : ℕ) → from ≤ i → i < from + n → f (getD xs i 0) ≡ getD xs i 0) → changed f from n xs ≡ xs
-  unfolding changed
-  changed-same zero same = refl
-  changed-same (suc n) same =
-      ap (λ (l : List ℕ). set l (from + n) (f (getD l (from + n) 0))) (changed-same n (λ i h g. same i h (omega arith)))
-      ∙ ap (set xs (from + n)) (same (from + n) (omega arith) (omega arith))
-      ∙ set-getD xs (from + n) 0
+pub cleared-none : (from : ℕ) (xs : List ℕ) → cleared from 0 xs ≡ xs
+unfolding cleared
+cleared-none from xs = refl
 
--- the first n octets, and the m after them
-pub changed-next : (f : ℕ → ℕ) (n m : ℕ) (xs : List ℕ) → changed f n m (changed f 0 n xs) ≡ changed f 0 (n + m) xs
-unfolding changed
-changed-next f n zero xs = ap (λ (k : ℕ). changed f 0 k xs) (sym (add-zero n))
-changed-next f n (suc m) xs =
-    ap₂ (λ (l : List ℕ) (k : ℕ). set l k (f (getD l k 0))) (changed-next f n m xs) (sym (zero-add (n + m)))
-    ∙ ap (λ (k : ℕ). changed f 0 k xs) (sym (add-suc n m))
+pub cleared-more : (from n : ℕ) (xs : List ℕ) → set (cleared from n xs) (from + n) 0 ≡ cleared from (n + 1) xs
+unfolding cleared
+cleared-more from n xs = ap (λ (k : ℕ). cleared from k xs) (sym (add-one n))
 
--- the front of a buffer, and a whole one
-changed-front : (f : ℕ → ℕ) (n : ℕ) (xs : List ℕ) → n ≤ length xs → changed f 0 n xs ≡ map f (take n xs) ++ drop n xs
-unfolding changed
-changed-front f zero xs h = refl
-changed-front f (suc n) xs h =
-    let a = map f (take n xs) in
-    let x = getD xs n 0 in
-    let rest = drop (suc n) xs in
-    let l : length a ≡ n = length-map (take n xs) f ∙ length-take-le n xs (omega arith) in
-    ap₂ (λ (ys : List ℕ) (k : ℕ). set ys k (f (getD ys k 0)))
-    (changed-front f n xs (omega arith) ∙ ap (λ (ys : List ℕ). a ++ ys) (drop-cons xs n 0 h)) (zero-add n)
-    ∙ ap (λ (y : ℕ). set (a ++ (x ∷ rest)) n (f y)) (getD-at a x rest 0 n l)
-    ∙ set-at a x rest (f x) n l
-    ∙ sym (append-snoc a (f x) rest)
-    ∙ ap (λ (ys : List ℕ). ys ++ rest) (sym (ap (map f) (take-suc xs n 0 h) ∙ map-append f (take n xs) (x ∷ [])))
+pub length-cleared : (from n : ℕ) (xs : List ℕ) → length (cleared from n xs) ≡ length xs
+unfolding cleared
+length-cleared from zero xs = refl
+length-cleared from (suc n) xs = length-set (cleared from n xs) (from + n) 0 ∙ length-cleared from n xs
 
-pub changed-all : (f : ℕ → ℕ) (xs : List ℕ) → changed f 0 (length xs) xs ≡ map f xs
-changed-all f xs =
-    changed-front f (length xs) xs (omega arith)
-    ∙ ap₂ (λ (a b : List ℕ). map f a ++ b) (take-length xs) (drop-length xs)
-    ∙ append-nil (map f xs)
+-- inside it, and outside
+pub cleared-in : (from n : ℕ) (xs : List ℕ) (i : ℕ) → from ≤ i → i < from + n → _≡_ {A = ℕ} (getD (cleared from n xs) i 0) 0
+unfolding cleared
+cleared-in from zero xs i h g = absurd (omega arith)
+cleared-in from (suc n) xs i h g = ⊎-elim last (λ l. before l (cleared-in from n xs i h l)) (le-or-lt (from + n) i)
+  where
+    ys : List ℕ
+    ys = cleared from n xs
+
+    last : from + n ≤ i → _≡_ {A = ℕ} (getD (set ys (from + n) 0) i 0) 0
+    last l = ap (λ (k : ℕ). getD (set ys (from + n) 0) k 0) (omega arith) ∙ own (le-or-lt (length ys) (from + n))
+      where
+        own : (length ys ≤ from + n) ⊎ (from + n < length ys) → _≡_ {A = ℕ} (getD (set ys (from + n) 0) (from + n) 0) 0
+        own (inl out) = ap (λ (l : List ℕ). getD l (from + n) 0) (set-out ys (from + n) 0 out) ∙ List·getD-eq-default ys 0 out
+        own (inr there) = getD-set-same ys (from + n) 0 0 there
+
+    before : i < from + n → _≡_ {A = ℕ} (getD ys i 0) 0 → _≡_ {A = ℕ} (getD (set ys (from + n) 0) i 0) 0
+    before l e = getD-set-other ys (from + n) i 0 0 (λ e. omega arith) ∙ e
+
+pub cleared-out : (from n : ℕ) (xs : List ℕ) (i : ℕ) → (i < from) ⊎ (from + n ≤ i) → getD (cleared from n xs) i 0 ≡ getD xs i 0
+unfolding cleared
+cleared-out from zero xs i h = refl
+cleared-out from (suc n) xs i h =
+    getD-set-other (cleared from n xs) (from + n) i 0 0 (λ e. ⊎-elim (λ g. omega arith) (λ g. omega arith) h)
+    ∙ cleared-out from n xs i (⊎-elim inl (λ g. inr (omega arith)) h)

@@ -1,50 +1,88 @@
 -- The laws of marks, and of sets of transactions. Assumes nothing.
 use mathlib.Core.Path.{_≡_, refl, sym, ap, ap₂, _∙_}
-use mathlib.Core.Bool.{Bool, true, false, cond, not, _&&_, _||_, or-true, or-false, or-assoc, false≢true}
-use mathlib.Core.List.{List, map}
-use mathlib.Core.Logic.{⊎-elim}
-use Prim.Native.Nat.{ℕ, zero, suc, _+_, _≤_, _<_}
+use mathlib.Core.Bool.{Bool, true, false, cond, not, _&&_, _||_, and-false, or-false, or-assoc}
+use mathlib.Core.List.{List}
+use mathlib.Core.Logic.{inl, inr, ⊎-elim}
+use Prim.Native.Nat.{ℕ, zero, suc, _+_, _-_, _*_, _/_, _%_, _≤_, _<_}
 use native.Mathlib.Nat.{add-assoc, add-zero, add-suc}
 use native.Mathlib.Numerals.{add-one}
 use native.Mathlib.Omega.{arith}
-use lib.Dec.{eqb}
-use lib.ListN.{length, getD, set, replicate, length-set, length-map, List·getD-map}
-use lib.Seq.{getD-set-same, getD-set-other, set-out}
-use borrow.Author.Tests.{eqb-true, eqb-false}
-use Rattle.octets.specs.Bits.{bit, withBit, withoutBit}
-use Rattle.octets.specs.Marks.{hasMark, withMark, withMarks, withoutMarks, hasMarkIn, contains}
-use Rattle.octets.proofs.BitLaws.{bit-zero, bit-with, bit-without, without-zero, with-lt, without-le}
+use lib.Bits.{bitAnd, bitOr}
+use lib.Dec.{eqb, ltb}
+use lib.ListN.{length, getD, set, length-set}
+use lib.Seq.{getD-set-same, getD-set-other, set-getD, set-set, set-out}
+use borrow.Author.Tests.{eqb-true, eqb-false, eq-eqb, ne-eqb, ltb-true, ltb-false, lt-ltb}
+use Rattle.octets.specs.Bits.{bit, withBit, span, cleared}
+use Rattle.octets.specs.Marks.{byTransaction, names, hasMark, withMark, withMarks, withoutMarks, hasMarkIn, contains}
+use Rattle.octets.proofs.BitLaws.{bit-zero, bit-with, with-lt, with-span, with-span-none, with-octet, some-none, some-more, some-octet, some-or, length-cleared, cleared-in, cleared-out}
 use Rattle.octets.proofs.PartLaws.{le-or-lt}
 
 -- ---- one mark more
 
 pub length-with-mark : (t q : ℕ) (marks : List ℕ) → length (withMark t q marks) ≡ length marks
 unfolding withMark
-length-with-mark t q marks = length-set marks q (withBit t (getD marks q 0))
+length-with-mark t q marks =
+    let i = byTransaction .octetOf t q in
+    length-set marks i (withBit (byTransaction .bitOf t q) (getD marks i 0))
+
+-- two pairs of transaction and byte have different octets or bits
+apart : (t q u p : ℕ) → q < 32768 → p < 32768
+    → eqb (byTransaction .octetOf u p) (byTransaction .octetOf t q) && eqb (byTransaction .bitOf u p) (byTransaction .bitOf t q)
+    ≡ eqb u t && eqb p q
+apart t q u p h g = pick (eqb u t) refl (eqb p q) refl
+  where
+    differ : ((4096 * u + p / 8 ≡ 4096 * t + q / 8) → (p % 8 ≡ q % 8) → ⊥)
+        → eqb (4096 * u + p / 8) (4096 * t + q / 8) && eqb (p % 8) (q % 8) ≡ false
+    differ clash = places (eqb (4096 * u + p / 8) (4096 * t + q / 8)) refl
+      where
+        places : (b : Bool) → eqb (4096 * u + p / 8) (4096 * t + q / 8) ≡ b → b && eqb (p % 8) (q % 8) ≡ false
+        places true e = ne-eqb (p % 8) (q % 8) (clash (eqb-true (4096 * u + p / 8) (4096 * t + q / 8) e))
+        places false e = refl
+
+    pick : (b : Bool) → eqb u t ≡ b → (c : Bool) → eqb p q ≡ c
+        → eqb (4096 * u + p / 8) (4096 * t + q / 8) && eqb (p % 8) (q % 8) ≡ b && c
+    pick true e true f = rw (eqb-true u t e, eqb-true p q f, eq-eqb (4096 * t + q / 8) (4096 * t + q / 8) refl, eq-eqb (q % 8) (q % 8) refl)
+    pick true e false f = differ (λ x y. eqb-false p q f (omega (arith, eqb-true u t e)))
+    pick false e c f = differ (λ x y. eqb-false u t e (omega arith))
 
 -- every mark of every transaction then
-pub has-with-mark : (t q u p : ℕ) (marks : List ℕ) → q < length marks
+pub has-with-mark : (t q u p : ℕ) (marks : List ℕ) → t < 8 → q < 32768 → length marks ≡ 32768
     → hasMark (withMark t q marks) u p ≡ (eqb u t && eqb p q) || hasMark marks u p
-unfolding hasMark withMark
-has-with-mark t q u p marks there = place (eqb p q) refl
+unfolding hasMark names withMark
+has-with-mark t q u p marks small there size = inside (ltb p 32768) refl
   where
-    x : ℕ
-    x = getD marks q 0
+    i : ℕ
+    i = 4096 * t + q / 8
 
-    own : (b : Bool) → eqb (cond b 1 (bit u x)) 1 ≡ (b && true) || eqb (bit u x) 1
+    x : ℕ
+    x = getD marks i 0
+
+    k : ℕ
+    k = 4096 * u + p / 8
+
+    own : (b : Bool) → eqb (cond b 1 (bit (p % 8) x)) 1 ≡ b || eqb (bit (p % 8) x) 1
     own true = refl
     own false = refl
 
-    other : (b c : Bool) → c ≡ (b && false) || c
-    other true c = refl
-    other false c = refl
-
-    place : (b : Bool) → eqb p q ≡ b → eqb (bit u (getD (set marks q (withBit t x)) p 0)) 1 ≡ (eqb u t && b) || eqb (bit u (getD marks p 0)) 1
+    place : (b : Bool) → eqb k i ≡ b
+        → eqb (bit (p % 8) (getD (set marks i (withBit (q % 8) x)) k 0)) 1 ≡ (b && eqb (p % 8) (q % 8)) || eqb (bit (p % 8) (getD marks k 0)) 1
     place true e =
-        rw (eqb-true p q e)
-        (ap (λ (y : ℕ). eqb (bit u y) 1) (getD-set-same marks q (withBit t x) 0 there) ∙ ap (λ (b : ℕ). eqb b 1) (bit-with u t x) ∙ own (eqb u t))
-    place false e =
-        ap (λ (y : ℕ). eqb (bit u y) 1) (getD-set-other marks q p (withBit t x) 0 (eqb-false p q e)) ∙ other (eqb u t) (eqb (bit u (getD marks p 0)) 1)
+        let f = eqb-true k i e in
+        ap (λ (j : ℕ). eqb (bit (p % 8) (getD (set marks i (withBit (q % 8) x)) j 0)) 1) f
+        ∙ ap (λ (y : ℕ). eqb (bit (p % 8) y) 1) (getD-set-same marks i (withBit (q % 8) x) 0 (omega arith))
+        ∙ ap (λ (b : ℕ). eqb b 1) (bit-with (p % 8) (q % 8) x)
+        ∙ own (eqb (p % 8) (q % 8))
+        ∙ ap (λ (j : ℕ). eqb (p % 8) (q % 8) || eqb (bit (p % 8) (getD marks j 0)) 1) (sym f)
+    place false e = ap (λ (y : ℕ). eqb (bit (p % 8) y) 1) (getD-set-other marks i k (withBit (q % 8) x) 0 (eqb-false k i e))
+
+    inside : (b : Bool) → ltb p 32768 ≡ b
+        → b && eqb (bit (p % 8) (getD (set marks i (withBit (q % 8) x)) k 0)) 1
+        ≡ (eqb u t && eqb p q) || (b && eqb (bit (p % 8) (getD marks k 0)) 1)
+    inside true e =
+        place (eqb k i) refl ∙ ap (λ (b : Bool). b || eqb (bit (p % 8) (getD marks k 0)) 1) (apart t q u p there (ltb-true p 32768 e))
+    inside false e =
+        let h = ltb-false p 32768 e in
+        sym (rw (ne-eqb p q (λ f. omega arith)) (or-false (eqb u t && false) ∙ and-false (eqb u t)))
 
 -- ---- a stretch of marks more
 
@@ -52,10 +90,6 @@ module _ (t from : ℕ) where
   pub with-marks-none : (marks : List ℕ) → withMarks t from 0 marks ≡ marks
   unfolding withMarks
   with-marks-none marks = refl
-
-  pub with-marks-more : (n : ℕ) (marks : List ℕ) → withMarks t from (n + 1) marks ≡ withMark t (from + n) (withMarks t from n marks)
-  unfolding withMarks
-  with-marks-more n marks = ap (λ (k : ℕ). withMarks t from k marks) (add-one n)
 
   pub length-with-marks : (n : ℕ) (marks : List ℕ) → length (withMarks t from n marks) ≡ length marks
   unfolding withMarks
@@ -68,6 +102,16 @@ module _ (t from : ℕ) where
   with-marks-add n zero marks = ap (λ (k : ℕ). withMarks t from k marks) (sym (add-zero n))
   with-marks-add n (suc m) marks =
       ap₂ (withMark t) (add-assoc from n m) (with-marks-add n m marks) ∙ ap (λ (k : ℕ). withMarks t from k marks) (sym (add-suc n m))
+
+-- in three parts
+pub with-marks-parts : (t from n a b : ℕ) (marks : List ℕ) → a + b * 8 ≤ n
+    → withMarks t (from + (a + b * 8)) (n - (a + b * 8)) (withMarks t (from + a) (8 * b) (withMarks t from a marks)) ≡ withMarks t from n marks
+with-marks-parts t from n a b marks h =
+    let e : a + 8 * b ≡ a + b * 8 = omega arith in
+    let f : a + b * 8 + (n - (a + b * 8)) ≡ n = omega arith in
+    ap (withMarks t (from + (a + b * 8)) (n - (a + b * 8))) (with-marks-add t from a (8 * b) marks ∙ ap (λ (k : ℕ). withMarks t from k marks) e)
+    ∙ with-marks-add t from (a + b * 8) (n - (a + b * 8)) marks
+    ∙ ap (λ (k : ℕ). withMarks t from k marks) f
 
 -- from the front
 pub with-marks-first : (t from n : ℕ) (marks : List ℕ) → withMarks t from (suc n) marks ≡ withMarks t (suc from) n (withMark t from marks)
@@ -82,57 +126,88 @@ with-marks-first t from n marks =
 
 pub length-without-marks : (t : ℕ) (marks : List ℕ) → length (withoutMarks t marks) ≡ length marks
 unfolding withoutMarks
-length-without-marks t marks = length-map marks (withoutBit t)
+length-without-marks t marks = length-cleared (4096 * t) 4096 marks
 
-octet-without : (t : ℕ) (marks : List ℕ) (p : ℕ) → getD (withoutMarks t marks) p 0 ≡ withoutBit t (getD marks p 0)
-unfolding withoutMarks
-octet-without t marks p =
-    ap (λ (d : ℕ). getD (map (withoutBit t) marks) p d) (sym (without-zero t)) ∙ List·getD-map (withoutBit t) marks p 0
-
-pub has-without-marks : (t u p : ℕ) (marks : List ℕ) → u < 8 → t < 8
-    → hasMark (withoutMarks t marks) u p ≡ not (eqb u t) && hasMark marks u p
-unfolding hasMark
-has-without-marks t u p marks hu ht =
-    ap (λ (y : ℕ). eqb (bit u y) 1) (octet-without t marks p)
-    ∙ ap (λ (b : ℕ). eqb b 1) (bit-without u t (getD marks p 0) hu ht)
-    ∙ pick (eqb u t)
+pub has-without-marks : (t u p : ℕ) (marks : List ℕ) → hasMark (withoutMarks t marks) u p ≡ not (eqb u t) && hasMark marks u p
+unfolding hasMark names withoutMarks
+has-without-marks t u p marks = inside (ltb p 32768) refl (eqb u t) refl
   where
-    pick : (b : Bool) → eqb (cond b 0 (bit u (getD marks p 0))) 1 ≡ not b && eqb (bit u (getD marks p 0)) 1
-    pick true = refl
-    pick false = refl
+    inside : (b : Bool) → ltb p 32768 ≡ b → (c : Bool) → eqb u t ≡ c
+        → b && eqb (bit (p % 8) (getD (cleared (4096 * t) 4096 marks) (4096 * u + p / 8) 0)) 1
+        ≡ not c && (b && eqb (bit (p % 8) (getD marks (4096 * u + p / 8) 0)) 1)
+    inside false e c f = sym (and-false (not c))
+    inside true e true f =
+        let h = ltb-true p 32768 e in
+        let g = eqb-true u t f in
+        ap (λ (y : ℕ). eqb (bit (p % 8) y) 1) (cleared-in (4096 * t) 4096 marks (4096 * u + p / 8) (omega arith) (omega arith))
+        ∙ ap (λ (b : ℕ). eqb b 1) (bit-zero (p % 8))
+    inside true e false f =
+        let h = ltb-true p 32768 e in
+        let g = eqb-false u t f in
+        ap (λ (y : ℕ). eqb (bit (p % 8) y) 1)
+        (cleared-out (4096 * t) 4096 marks (4096 * u + p / 8)
+        (⊎-elim (λ l. inr (⊎-elim (λ k. absurd (g (omega arith))) (λ k. omega arith) (le-or-lt u t))) (λ l. inl (omega arith)) (le-or-lt t u)))
+
+-- ---- marks within one octet
+
+module _ (t from : ℕ) (marks : List ℕ) where
+  pub octet-marked : (n : ℕ) → t < 8 → length marks ≡ 32768 → from + n ≤ 32768 → from % 8 + n ≤ 8
+      → withMarks t from n marks ≡ set marks (4096 * t + from / 8) (bitOr (getD marks (4096 * t + from / 8) 0) (span (from % 8) n))
+  unfolding withMarks withMark
+  octet-marked zero small size inside one =
+      let i = 4096 * t + from / 8 in
+      sym (ap (set marks i) (with-span-none (from % 8) (getD marks i 0)) ∙ set-getD marks i 0)
+  octet-marked (suc n) small size inside one =
+      let i = 4096 * t + from / 8 in
+      let v = bitOr (getD marks i 0) (span (from % 8) n) in
+      let e : 4096 * t + (from + n) / 8 ≡ i = omega arith in
+      let f : (from + n) % 8 ≡ from % 8 + n = omega arith in
+      ap (withMark t (from + n)) (octet-marked n small size (omega arith) (omega arith))
+      ∙ ap₂ (λ (j b : ℕ). set (set marks i v) j (withBit b (getD (set marks i v) j 0))) e f
+      ∙ ap (λ (y : ℕ). set (set marks i v) i (withBit (from % 8 + n) y)) (getD-set-same marks i v 0 (omega arith))
+      ∙ set-set marks i v (withBit (from % 8 + n) v)
+      ∙ ap (set marks i) (with-span (from % 8) n (getD marks i 0))
+
+  pub octet-has : (n : ℕ) → from + n ≤ 32768 → from % 8 + n ≤ 8
+      → hasMarkIn marks t from n ≡ not (eqb (bitAnd (getD marks (4096 * t + from / 8) 0) (span (from % 8) n)) 0)
+  unfolding hasMarkIn hasMark names
+  octet-has zero inside one = sym (some-none (from % 8) (getD marks (4096 * t + from / 8) 0))
+  octet-has (suc n) inside one =
+      let i = 4096 * t + from / 8 in
+      let e : 4096 * t + (from + n) / 8 ≡ i = omega arith in
+      let f : (from + n) % 8 ≡ from % 8 + n = omega arith in
+      ap₂ (λ (b : Bool) (c : Bool). b || (c && eqb (bit ((from + n) % 8) (getD marks (4096 * t + (from + n) / 8) 0)) 1))
+      (octet-has n (omega arith) (omega arith)) (lt-ltb (from + n) 32768 (omega arith))
+      ∙ ap₂ (λ (j b : ℕ). not (eqb (bitAnd (getD marks i 0) (span (from % 8) n)) 0) || eqb (bit b (getD marks j 0)) 1) e f
+      ∙ sym (some-more (from % 8) n (getD marks i 0))
 
 -- ---- marks stay octets
 
-pub octets-with-mark : (t q : ℕ) (marks : List ℕ) → t < 8 → ((p : ℕ) → getD marks p 0 < 256) → (p : ℕ) → getD (withMark t q marks) p 0 < 256
+octets-with-mark : (t q : ℕ) (marks : List ℕ) → ((p : ℕ) → getD marks p 0 < 256) → (p : ℕ) → getD (withMark t q marks) p 0 < 256
 unfolding withMark
-octets-with-mark t q marks ht octets p = ⊎-elim out there (le-or-lt (length marks) q)
+octets-with-mark t q marks octets p = ⊎-elim out there (le-or-lt (length marks) i)
   where
+    i : ℕ
+    i = 4096 * t + q / 8
+
     x : ℕ
-    x = withBit t (getD marks q 0)
+    x = withBit (q % 8) (getD marks i 0)
 
-    out : length marks ≤ q → getD (set marks q x) p 0 < 256
-    out h = rw (set-out marks q x h) (octets p)
+    out : length marks ≤ i → getD (set marks i x) p 0 < 256
+    out h = rw (set-out marks i x h) (octets p)
 
-    place : q < length marks → (b : Bool) → eqb p q ≡ b → getD (set marks q x) p 0 < 256
-    place h true e = rw (eqb-true p q e, getD-set-same marks q x 0 h) (with-lt t (getD marks q 0) ht (octets q))
-    place h false e = rw (getD-set-other marks q p x 0 (eqb-false p q e)) (octets p)
+    place : i < length marks → (b : Bool) → eqb p i ≡ b → getD (set marks i x) p 0 < 256
+    place h true e = rw (eqb-true p i e, getD-set-same marks i x 0 h) (with-lt (q % 8) (getD marks i 0) (omega arith) (octets i))
+    place h false e = rw (getD-set-other marks i p x 0 (eqb-false p i e)) (octets p)
 
-    there : q < length marks → getD (set marks q x) p 0 < 256
-    there h = place h (eqb p q) refl
+    there : i < length marks → getD (set marks i x) p 0 < 256
+    there h = place h (eqb p i) refl
 
-pub octets-without-marks : (t : ℕ) (marks : List ℕ) → ((p : ℕ) → getD marks p 0 < 256) → (p : ℕ) → getD (withoutMarks t marks) p 0 < 256
-octets-without-marks t marks octets p = omega (arith, octet-without t marks p, without-le t (getD marks p 0), octets p)
-
--- ---- no marks
-
-pub has-none : (n t q : ℕ) → hasMark (replicate n 0) t q ≡ false
-unfolding hasMark
-has-none n t q = ap (λ (y : ℕ). eqb (bit t y) 1) (zeros n q) ∙ ap (λ (b : ℕ). eqb b 1) (bit-zero t)
-  where
-    zeros : (n k : ℕ) → _≡_ {A = ℕ} (getD (replicate n 0) k 0) 0
-    zeros zero k = refl
-    zeros (suc n) zero = refl
-    zeros (suc n) (suc k) = zeros n k
+pub octets-with-marks : (t from n : ℕ) (marks : List ℕ) → ((p : ℕ) → getD marks p 0 < 256) → (p : ℕ) → getD (withMarks t from n marks) p 0 < 256
+unfolding withMarks
+octets-with-marks t from zero marks octets = octets
+octets-with-marks t from (suc n) marks octets =
+    octets-with-mark t (from + n) (withMarks t from n marks) (octets-with-marks t from n marks octets)
 
 -- ---- a mark somewhere in a stretch
 
@@ -140,44 +215,6 @@ module _ (marks : List ℕ) (t from : ℕ) where
   pub has-in-none : hasMarkIn marks t from 0 ≡ false
   unfolding hasMarkIn
   has-in-none = refl
-
-  pub has-in-more : (n : ℕ) → hasMarkIn marks t from (n + 1) ≡ hasMarkIn marks t from n || hasMark marks t (from + n)
-  unfolding hasMarkIn
-  has-in-more n = ap (hasMarkIn marks t from) (add-one n)
-
-  pub has-in-true : (n : ℕ) → hasMarkIn marks t from n ≡ true → (q : ℕ) × (from ≤ q) × (q < from + n) × (hasMark marks t q ≡ true)
-  unfolding hasMarkIn
-  has-in-true zero e = absurd (false≢true e)
-  has-in-true (suc n) e = pick (hasMarkIn marks t from n) refl e (has-in-true n)
-    where
-      pick : (b : Bool) → hasMarkIn marks t from n ≡ b → b || hasMark marks t (from + n) ≡ true
-          → (hasMarkIn marks t from n ≡ true → (q : ℕ) × (from ≤ q) × (q < from + n) × (hasMark marks t q ≡ true))
-          → (q : ℕ) × (from ≤ q) × (q < from + suc n) × (hasMark marks t q ≡ true)
-      pick true f g below = let w = below f in (w .0, w .1, omega (arith, w .2), w .3)
-      pick false f g below = (from + n, omega arith, omega arith, g)
-
-  pub has-in-intro : (n q : ℕ) → from ≤ q → q < from + n → hasMark marks t q ≡ true → hasMarkIn marks t from n ≡ true
-  unfolding hasMarkIn
-  has-in-intro zero q h g e = absurd (omega arith)
-  has-in-intro (suc n) q h g e =
-      ⊎-elim
-      (λ l. ap (λ (b : Bool). hasMarkIn marks t from n || b) (ap (hasMark marks t) (omega arith) ∙ e) ∙ or-true (hasMarkIn marks t from n))
-      (λ l. ap (λ (b : Bool). b || hasMark marks t (from + n)) (has-in-intro n q h l e))
-      (le-or-lt (from + n) q)
-
-  pub has-in-false : (n : ℕ) → ((q : ℕ) → from ≤ q → q < from + n → hasMark marks t q ≡ false) → hasMarkIn marks t from n ≡ false
-  unfolding hasMarkIn
-  has-in-false zero none = refl
-  has-in-false (suc n) none =
-      ap₂ _||_ (has-in-false n (λ q h g. none q h (omega arith))) (none (from + n) (omega arith) (omega arith))
-
-  -- the other way
-  pub has-in-nowhere : (n q : ℕ) → from ≤ q → q < from + n → hasMarkIn marks t from n ≡ false → hasMark marks t q ≡ false
-  has-in-nowhere n q h g e = pick (hasMark marks t q) refl
-    where
-      pick : (b : Bool) → hasMark marks t q ≡ b → b ≡ false
-      pick true f = absurd (false≢true (sym e ∙ has-in-intro n q h g f))
-      pick false f = refl
 
   -- in one stretch or in the stretch directly after it
   pub has-in-add : (n m : ℕ) → hasMarkIn marks t from (n + m) ≡ hasMarkIn marks t from n || hasMarkIn marks t (from + n) m
@@ -188,6 +225,19 @@ module _ (marks : List ℕ) (t from : ℕ) where
       ∙ ap₂ _||_ (has-in-add n m) (ap (hasMark marks t) (sym (add-assoc from n m)))
       ∙ or-assoc (hasMarkIn marks t from n) (hasMarkIn marks t (from + n) m) (hasMark marks t (from + n + m))
 
+-- in three parts
+pub has-in-parts : (marks : List ℕ) (t from n a b : ℕ) → a + b * 8 ≤ n
+    → hasMarkIn marks t from n
+    ≡ hasMarkIn marks t from a || (hasMarkIn marks t (from + a) (8 * b) || hasMarkIn marks t (from + (a + b * 8)) (n - (a + b * 8)))
+has-in-parts marks t from n a b h =
+    let rest = hasMarkIn marks t (from + (a + b * 8)) (n - (a + b * 8)) in
+    let e : n ≡ a + b * 8 + (n - (a + b * 8)) = omega arith in
+    let f : a + b * 8 ≡ a + 8 * b = omega arith in
+    ap (hasMarkIn marks t from) e
+    ∙ has-in-add marks t from (a + b * 8) (n - (a + b * 8))
+    ∙ ap (λ (x : Bool). x || rest) (ap (hasMarkIn marks t from) f ∙ has-in-add marks t from a (8 * b))
+    ∙ or-assoc (hasMarkIn marks t from a) (hasMarkIn marks t (from + a) (8 * b)) rest
+
 -- from the front
 pub has-in-first : (marks : List ℕ) (t from n : ℕ) → hasMarkIn marks t from (suc n) ≡ hasMark marks t from || hasMarkIn marks t (suc from) n
 unfolding hasMarkIn
@@ -196,6 +246,45 @@ has-in-first marks t from n =
     ap (hasMarkIn marks t from) e
     ∙ has-in-add marks t from 1 n
     ∙ ap₂ (λ (k j : ℕ). hasMark marks t k || hasMarkIn marks t j n) (add-zero from) (add-one from)
+
+-- ---- whole octets of marks
+
+module _ (t from k : ℕ) (whole : from % 8 ≡ 0) (inside : from + 8 * k + 8 ≤ 32768) where
+  place : 4096 * t + (from + 8 * k) / 8 ≡ 4096 * t + from / 8 + k
+  place = omega arith
+
+  first : (from + 8 * k) % 8 ≡ 0
+  first = omega arith
+
+  next : 8 * k + 8 ≡ 8 * (k + 1)
+  next = omega arith
+
+  -- octet k is set
+  pub octets-marked : (marks : List ℕ) → t < 8 → length marks ≡ 32768 → ((i : ℕ) → getD marks i 0 < 256)
+      → set (withMarks t from (8 * k) marks) (4096 * t + from / 8 + k) (span 0 8) ≡ withMarks t from (8 * (k + 1)) marks
+  octets-marked marks small size octets =
+      let ys = withMarks t from (8 * k) marks in
+      let i = 4096 * t + from / 8 + k in
+      ap (set ys i) (sym (with-octet (getD ys i 0) (octets-with-marks t from (8 * k) marks octets i)))
+      ∙ ap₂ (λ (j b : ℕ). set ys j (bitOr (getD ys j 0) (span b 8))) (sym place) (sym first)
+      ∙ sym (octet-marked t (from + 8 * k) ys 8 small (length-with-marks t from (8 * k) marks ∙ size) (omega arith) (omega arith))
+      ∙ with-marks-add t from (8 * k) 8 marks
+      ∙ ap (λ (n : ℕ). withMarks t from n marks) next
+
+  -- octet k is looked at
+  pub octets-has : (marks : List ℕ) (found : ℕ) → getD marks (4096 * t + from / 8 + k) 0 < 256
+      → not (eqb found 0) ≡ hasMarkIn marks t from (8 * k)
+      → not (eqb (bitOr found (getD marks (4096 * t + from / 8 + k) 0)) 0) ≡ hasMarkIn marks t from (8 * (k + 1))
+  octets-has marks found octet e =
+      let i = 4096 * t + from / 8 + k in
+      let x = getD marks i 0 in
+      some-or found x
+      ∙ ap₂ _||_ e
+      (ap (λ (y : ℕ). not (eqb y 0)) (sym (some-octet x octet))
+      ∙ ap₂ (λ (j b : ℕ). not (eqb (bitAnd (getD marks j 0) (span b 8)) 0)) (sym place) (sym first)
+      ∙ sym (octet-has t (from + 8 * k) marks 8 (omega arith) (omega arith)))
+      ∙ sym (has-in-add marks t from (8 * k) 8)
+      ∙ ap (hasMarkIn marks t from) next
 
 -- ---- sets of transactions
 

@@ -5,11 +5,11 @@ use mathlib.Core.Path.{_≡_, refl, sym, ap, ap₂, _∙_}
 use lib.Bits.{bitOr, or-shifted-r}
 use lib.Count.{ones, ones-cat}
 use lib.Dec.{eqb}
-use lib.Pow.{pow-lt, add-lt-pow}
+use lib.Pow.{pow-lt}
 use native.Mathlib.Nat.{one-mul, eq-or-lt-of-le, le-of-suc-le-suc, not-suc-le-zero, add-comm, pow-suc}
 use native.Mathlib.Omega.{arith}
 use borrow.Author.Tests.{eq-eqb, ne-eqb}
-use Prim.Native.Nat.{ℕ, zero, suc, _+_, _*_, _^_, _≤_, _<_}
+use Prim.Native.Nat.{ℕ, zero, suc, _+_, _^_, _<_}
 use Rattle.octets.specs.Bits.{bit, withBit, bitsOf, countOf}
 use Rattle.octets.specs.Marks.{contains}
 use Rattle.octets.proofs.BitLaws.{bit-above, bit-with}
@@ -37,6 +37,13 @@ module _ (p : ℕ → Bool) where
   pub bits-without : (n : ℕ) → p n ≡ false → bitsOf p n ≡ bitsOf p (suc n)
   unfolding bitsOf
   bits-without n e = let f : cond (p n) (2 ^ n) 0 ≡ 0 = ap (λ (b : Bool). cond b (2 ^ n) 0) e in omega arith
+
+  -- a set that a loop gathers
+  pub gathered : (set n : ℕ) → set ≡ bitsOf p n → p n ≡ true → withBit n set ≡ bitsOf p (n + 1)
+  gathered set n e h = ap (withBit n) e ∙ bits-with n h ∙ ap (bitsOf p) (omega arith)
+
+  pub passed-by : (set n : ℕ) → set ≡ bitsOf p n → p n ≡ false → set ≡ bitsOf p (n + 1)
+  passed-by set n e h = e ∙ bits-without n h ∙ ap (bitsOf p) (omega arith)
 
   -- what is in it
   pub contains-bits : (n u : ℕ) → u < n → contains (bitsOf p n) u ≡ p u

@@ -1,30 +1,56 @@
--- Marks by meaning: which transaction has marked which place. Above this crate nothing else is known of them.
-use mathlib.Core.Bool.{Bool, false, _||_}
-use mathlib.Core.List.{List, map}
-use lib.Dec.{eqb}
-use lib.ListN.{getD, set}
-use Prim.Native.Nat.{ℕ, zero, suc, _+_}
-use Rattle.octets.specs.Bits.{bit, withBit, withoutBit}
+-- Marks by meaning: which transaction has marked which byte of the files. Above this crate nothing else is known of them.
+use mathlib.Core.Bool.{Bool, false, not, _&&_, _||_}
+use mathlib.Core.List.{List}
+use mathlib.Core.Path.{_≡_}
+use lib.Dec.{eqb, ltb}
+use lib.ListN.{length, getD, set}
+use Prim.Native.Nat.{ℕ, zero, suc, _+_, _*_, _/_, _%_, _<_}
+use Rattle.octets.specs.Parts.{tabulate}
+use Rattle.octets.specs.Bits.{bit, withBit, bitsOf, cleared}
 
--- "one octet for each file byte, in the same place, bit t (worth 2 to the power t) set where transaction t has sighted that byte":
--- transaction t has marked place q
+-- An arrangement of marks: in which octet of the buffer, and as which bit of it, the mark of transaction t on byte q stands.
+pub record Arrangement : Type 0 where
+  pub octetOf : ℕ → ℕ → ℕ
+  pub bitOf : ℕ → ℕ → ℕ
+
+-- 01: "one octet for each file byte, in the same place, bit t (worth 2 to the power t) set where transaction t has sighted that byte"
+abbrev pub byByte : Arrangement
+byByte = record { octetOf = λ t q. q; bitOf = λ t q. t }
+
+-- 02, F-9: "eight stretches of 4,096 bytes, transaction t's starting at 4,096 × t, a bit for each file byte in the order of the file
+-- buffer, lowest bit first"
+abbrev pub byTransaction : Arrangement
+byTransaction = record { octetOf = λ t q. 4096 * t + q / 8; bitOf = λ t q. q % 8 }
+
+-- The pairs of transaction and byte that marks name: one of the 32,768 bytes, whose bit is set.
+unfoldable pub names : Arrangement → List ℕ → ℕ → ℕ → Bool
+names a marks t q = ltb q 32768 && eqb (bit (a .bitOf t q) (getD marks (a .octetOf t q) 0)) 1
+
+-- "each old arrangement and its new one": octet i of the new one has the marks of transaction i / 4096 on the eight bytes from
+-- 8 * (i % 4096) on.
+unfoldable pub rearranged : List ℕ → List ℕ
+rearranged marks = tabulate (λ i. bitsOf (λ k. names byByte marks (i / 4096) (8 * (i % 4096) + k)) 8) 32768
+
+-- Transaction t has marked byte q.
 unfoldable pub hasMark : List ℕ → ℕ → ℕ → Bool
-hasMark marks t q = eqb (bit t (getD marks q 0)) 1
+hasMark marks t q = names byTransaction marks t q
 
--- the marks once transaction t has marked place q
+-- The marks once transaction t has marked byte q.
 unfoldable pub withMark : ℕ → ℕ → List ℕ → List ℕ
-withMark t q marks = set marks q (withBit t (getD marks q 0))
+withMark t q marks =
+    let i = byTransaction .octetOf t q in
+    set marks i (withBit (byTransaction .bitOf t q) (getD marks i 0))
 
--- the marks once it has marked the n places from `from` on
+-- The marks once it has marked the n bytes from `from` on.
 unfoldable pub withMarks : ℕ → ℕ → ℕ → List ℕ → List ℕ
 withMarks t from zero marks = marks
 withMarks t from (suc n) marks = withMark t (from + n) (withMarks t from n marks)
 
--- the marks with those of transaction t cleared
+-- The marks with those of transaction t cleared: its stretch.
 unfoldable pub withoutMarks : ℕ → List ℕ → List ℕ
-withoutMarks t marks = map (withoutBit t) marks
+withoutMarks t marks = cleared (4096 * t) 4096 marks
 
--- transaction t has marked some of the n places from `from` on
+-- Transaction t has marked some of the n bytes from `from` on.
 unfoldable pub hasMarkIn : List ℕ → ℕ → ℕ → ℕ → Bool
 hasMarkIn marks t from zero = false
 hasMarkIn marks t from (suc n) = hasMarkIn marks t from n || hasMark marks t (from + n)
@@ -32,3 +58,18 @@ hasMarkIn marks t from (suc n) = hasMarkIn marks t from n || hasMark marks t (fr
 -- A set of numbers as the bits of one, of transactions as an octet: bit t, worth 2 to the power t, for transaction t.
 unfoldable pub contains : ℕ → ℕ → Bool
 contains octet t = eqb (bit t octet) 1
+
+-- "Show that each old arrangement and its new one name the same pairs of transaction and byte".
+pub record SamePairs : Type 0 where
+  pub size : (marks : List ℕ) → length (rearranged marks) ≡ 32768
+  pub pairs : (marks : List ℕ) (t q : ℕ) → t < 8 → names byTransaction (rearranged marks) t q ≡ names byByte marks t q
+  -- No other buffer names them: two of 32,768 octets that name the same pairs are one.
+  pub only : (xs ys : List ℕ) → length xs ≡ 32768 → length ys ≡ 32768
+      → ((i : ℕ) → getD xs i 0 < 256) → ((i : ℕ) → getD ys i 0 < 256)
+      → ((t q : ℕ) → t < 8 → names byTransaction xs t q ≡ names byTransaction ys t q)
+      → xs ≡ ys
+  -- "let all else rest on that fact": what is done with marks is done with the pairs that the old arrangement names.
+  pub marking : (marks : List ℕ) (t q u p : ℕ) → t < 8 → u < 8 → q < 32768
+      → hasMark (withMark t q (rearranged marks)) u p ≡ (eqb u t && eqb p q) || names byByte marks u p
+  pub clearing : (marks : List ℕ) (t u p : ℕ) → u < 8
+      → hasMark (withoutMarks t (rearranged marks)) u p ≡ not (eqb u t) && names byByte marks u p

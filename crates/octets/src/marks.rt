@@ -1,65 +1,134 @@
-// Marks: an octet for each byte of the files, of which bit t, worth 2 to the power t, is transaction t's. A set of transactions is
-// an octet too.
+// Marks: eight stretches of 4,096 octets, transaction t's from octet 4,096 × t on, a bit for each byte of the files in their order,
+// lowest bit first. A set of transactions is an octet too.
 use crate::sets;
-ghost use mathlib.Core.Bool.{_||_};
+use numbers::smaller;
+ghost use mathlib.Core.Bool.{_&&_, _||_};
 ghost use mathlib.Core.Path.{_≡_};
-ghost use Prim.Native.Nat.{ℕ, _+_, _<_, _≤_};
+ghost use Prim.Native.Nat.{ℕ, _+_, _*_, _%_, _<_, _≤_};
 ghost use lib.ListN.{length};
-ghost use Rattle.octets.specs.Bits.{withBit, withoutBit, changed};
+ghost use Rattle.octets.specs.Bits.{span, withBit};
 ghost use Rattle.octets.specs.Marks.{withMarks, withoutMarks, hasMarkIn, contains};
 
-// Transaction t marks the n places from `from` on.
+// The octets of a transaction's marks.
+const STRETCH: usize = 4096;
+
+// The octet with the n bits from `low` on.
+fn span(low: usize, n: usize) -> u8
+    requires { ⌜ low + n ≤ 8 ⌝ }
+    ensures { λ r. ⌜ r ≡ span low n ⌝ }
+{
+    ((1u16 << (low + n)) - (1u16 << low)) as u8
+}
+
+// Transaction t marks the n bytes from `from` on.
 pub fn mark(marks: &mut [u8], t: usize, from: usize, n: usize)
-    requires { ⌜ (t < 8) × (from + n ≤ length (now marks)) ⌝ }
+    requires { ⌜ (t < 8) × ((from + n ≤ 32768) × (length (now marks) ≡ 32768)) ⌝ }
     ensures { λ _. ⌜ now (marks .exit) ≡ withMarks t from n (now (marks .entry)) ⌝ }
 {
-    let mask = 1u8 << t;
+    let head = smaller(n, (8 - from % 8) % 8);
+    let whole = (n - head) / 8;
+    let done = head + whole * 8;
+    mark_bits(marks, t, from, head);
+    mark_octets(marks, t, from + head, whole);
+    mark_bits(marks, t, from + done, n - done);
+}
+
+// The same for bytes whose marks stand in one octet.
+fn mark_bits(marks: &mut [u8], t: usize, from: usize, n: usize)
+    requires { ⌜ (t < 8) × ((from + n ≤ 32768) × ((from % 8 + n ≤ 8) × (length (now marks) ≡ 32768))) ⌝ }
+    ensures { λ _. ⌜ now (marks .exit) ≡ withMarks t from n (now (marks .entry)) ⌝ }
+{
+    if n == 0 {
+        return;
+    }
+    let i = STRETCH * t + from / 8;
+    marks[i] = marks[i] | span(from % 8, n);
+}
+
+// The same for the bytes whose marks are n whole octets.
+fn mark_octets(marks: &mut [u8], t: usize, from: usize, n: usize)
+    requires { ⌜ (t < 8) × ((from + 8 * n ≤ 32768) × ((0 < n → from % 8 ≡ 0) × (length (now marks) ≡ 32768))) ⌝ }
+    ensures { λ _. ⌜ now (marks .exit) ≡ withMarks t from (8 * n) (now (marks .entry)) ⌝ }
+{
+    let start = STRETCH * t + from / 8;
+    let full = span(0, 8);
     let mut i = 0;
     while i < n {
-        marks[from + i] = marks[from + i] | mask;
+        marks[start + i] = full;
         i += 1;
     }
 }
 
 // Clears transaction t's marks.
 pub fn unmark(marks: &mut [u8], t: usize)
-    requires { ⌜ t < 8 ⌝ }
+    requires { ⌜ (t < 8) × (length (now marks) ≡ 32768) ⌝ }
     ensures { λ _. ⌜ now (marks .exit) ≡ withoutMarks t (now (marks .entry)) ⌝ }
 {
-    let mut from = 0;
-    while 512 <= marks.len() - from {
-        unmark_part(marks, t, from, 512);
-        from += 512;
-    }
-    unmark_part(marks, t, from, marks.len() - from);
-}
-
-// The same for the n places from `from` on; where t has marked none of them, nothing is written.
-fn unmark_part(marks: &mut [u8], t: usize, from: usize, n: usize)
-    requires { ⌜ (t < 8) × (from + n ≤ length (now marks)) ⌝ }
-    ensures { λ _. ⌜ now (marks .exit) ≡ changed (withoutBit t) from n (now (marks .entry)) ⌝ }
-{
-    if !contains(markers(marks, from, n), t) {
-        return;
-    }
-    let mask = !(1u8 << t);
+    let start = STRETCH * t;
     let mut i = 0;
-    while i < n {
-        marks[from + i] = marks[from + i] & mask;
+    while i < STRETCH {
+        marks[start + i] = 0;
         i += 1;
     }
 }
 
-// Those who have marked some of the n places from `from` on.
-pub fn markers(marks: &[u8], from: usize, n: usize) -> u8
-    requires { ⌜ from + n ≤ length (now marks) ⌝ }
-    ensures { λ r. ⌜ ((u : ℕ) → u < 8 → contains r u ≡ hasMarkIn (now (marks .entry)) u from n) ⌝ }
+// Whether transaction t has marked some of the n bytes from `from` on.
+pub fn has_mark_in(marks: &[u8], t: usize, from: usize, n: usize) -> bool
+    requires { ⌜ (t < 8) × ((from + n ≤ 32768) × (length (now marks) ≡ 32768)) ⌝ }
+    ensures { λ r. ⌜ r ≡ hasMarkIn (now (marks .entry)) t from n ⌝ }
 {
+    let head = smaller(n, (8 - from % 8) % 8);
+    let whole = (n - head) / 8;
+    let done = head + whole * 8;
+    if has_mark_in_bits(marks, t, from, head) {
+        return true;
+    }
+    if has_mark_in_octets(marks, t, from + head, whole) {
+        return true;
+    }
+    has_mark_in_bits(marks, t, from + done, n - done)
+}
+
+// The same for bytes whose marks stand in one octet.
+fn has_mark_in_bits(marks: &[u8], t: usize, from: usize, n: usize) -> bool
+    requires { ⌜ (t < 8) × ((from + n ≤ 32768) × ((from % 8 + n ≤ 8) × (length (now marks) ≡ 32768))) ⌝ }
+    ensures { λ r. ⌜ r ≡ hasMarkIn (now (marks .entry)) t from n ⌝ }
+{
+    if n == 0 {
+        return false;
+    }
+    marks[STRETCH * t + from / 8] & span(from % 8, n) != 0
+}
+
+// The same for the bytes whose marks are n whole octets.
+fn has_mark_in_octets(marks: &[u8], t: usize, from: usize, n: usize) -> bool
+    requires { ⌜ (t < 8) × ((from + 8 * n ≤ 32768) × ((0 < n → from % 8 ≡ 0) × (length (now marks) ≡ 32768))) ⌝ }
+    ensures { λ r. ⌜ r ≡ hasMarkIn (now (marks .entry)) t from (8 * n) ⌝ }
+{
+    let start = STRETCH * t + from / 8;
     let mut found = 0u8;
     let mut i = 0;
     while i < n {
-        found = found | marks[from + i];
+        found = found | marks[start + i];
         i += 1;
+    }
+    found != 0
+}
+
+// Those of the watched transactions that have marked some of the n bytes from `from` on.
+pub fn markers(marks: &[u8], watched: u8, from: usize, n: usize) -> u8
+    requires { ⌜ (from + n ≤ 32768) × (length (now marks) ≡ 32768) ⌝ }
+    ensures { λ r. ⌜ ((u : ℕ) → u < 8 → contains r u ≡ contains watched u && hasMarkIn (now (marks .entry)) u from n) ⌝ }
+{
+    let mut found = 0u8;
+    let mut u = 0;
+    while u < 8 {
+        if contains(watched, u) {
+            if has_mark_in(marks, u, from, n) {
+                found = with(found, u);
+            }
+        }
+        u += 1;
     }
     found
 }

@@ -7,7 +7,7 @@ use lib.Seq.{drop-cons}
 use Prim.Native.Nat.{ℕ, zero, suc, _+_, _-_, _*_, _≤_, _<_}
 use native.Mathlib.Nat.{add-zero, add-suc, zero-add}
 use native.Mathlib.Omega.{arith}
-use Rattle.octets.specs.Parts.{cut, chosen, pasted}
+use Rattle.octets.specs.Parts.{cut, chosen, pasted, tabulate}
 use Rattle.octets.specs.Marks.{withMark, withMarks}
 use Rattle.octets.proofs.PartLaws.{pasted-none, pasted-append}
 use Rattle.octets.proofs.MarkLaws.{with-marks-none, with-marks-first}
@@ -17,7 +17,7 @@ use Rattle.rules.specs.Items.{Item, byte, offset, fileLength, Values, Prog, don
 use Rattle.rules.specs.Reading.{Source, own, file, latest, bring, fetch}
 use Rattle.rules.specs.Transactions.{Write}
 use Rattle.rules.specs.Calls.{marked}
-use Rattle.rules.specs.Machine.{tabulate, lengthmarked}
+use Rattle.rules.specs.Machine.{lengthmarked}
 use Rattle.runs.specs.declared.Extent.{Extent}
 use Rattle.runs.specs.declared.Run.{Run}
 use Rattle.runs.specs.declared.Supplier.{Supplier}

@@ -4,14 +4,14 @@ use mathlib.Core.Path.{_≡_, sym, ap, _∙_}
 use lib.ListN.{getD}
 use Prim.Native.Nat.{ℕ, suc, _+_, _*_, _≤_}
 use native.Mathlib.Omega.{arith}
-use Rattle.octets.specs.Parts.{filePart}
+use Rattle.octets.specs.Parts.{filePart, tabulate}
 use Rattle.octets.proofs.PartLaws.{cut-cut, getD-cut}
 use Rattle.record.specs.Journal.{writeRecordAt}
 use Rattle.ranges.specs.Ranges.{lengthsBefore}
 use Rattle.rules.specs.Items.{Item, byte, Values, result, asked}
 use Rattle.rules.specs.Transactions.{Write}
 use Rattle.rules.specs.Reading.{fetch}
-use Rattle.rules.specs.Machine.{tabulate, dataStart, writeAt}
+use Rattle.rules.specs.Machine.{dataStart, writeAt}
 use Rattle.rules.specs.Calls.{marked}
 use Rattle.rules.proofs.View.Tables.{tabulate-same}
 use Rattle.runs.specs.declared.Extent.{Extent}

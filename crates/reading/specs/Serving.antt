@@ -4,10 +4,9 @@ use mathlib.Core.Path.{_≡_}
 use lib.ListN.{length, getD}
 use Prim.Native.Nat.{ℕ, _+_, _-_, _*_, _≤_, _<_}
 use Rattle.counters.specs.declared.Used.{Used}
-use Rattle.octets.specs.Parts.{cut}
+use Rattle.octets.specs.Parts.{cut, tabulate}
 use Rattle.rules.specs.Items.{Values, byte, offset, fileLength, Prog, result, asked}
 use Rattle.rules.specs.Reading.{fetch}
-use Rattle.rules.specs.Machine.{tabulate}
 use Rattle.rules.specs.Calls.{marked}
 use Rattle.runs.specs.declared.Extent.{Extent}
 use Rattle.runs.specs.Runs.{Recorded, Counted, writeIn}

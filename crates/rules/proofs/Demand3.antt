@@ -3,6 +3,7 @@ pub mod Age
 pub mod Answers
 pub mod Buffers
 pub mod Lengths
+pub mod Marks
 pub mod Ranges
 pub mod Refusals
 pub mod Situations

@@ -1,4 +1,4 @@
--- Which calls touch which buffer, on any record and any buffers.
+-- Which calls touch which buffer, on any record and any buffers; and whose marks a call leaves, in every store reached from Fresh.
 use mathlib.Core.Bool.{Bool, true, false}
 use mathlib.Core.List.{List}
 use mathlib.Core.Path.{_≡_}
@@ -9,7 +9,8 @@ use Rattle.record.specs.Paper.{number, plain, granted, refused}
 use Rattle.record.specs.State.{transaction}
 use Rattle.rules.specs.Messages.{seek, write, getFilePointer, read, Call, begin, on, commit, abort, places}
 use Rattle.rules.specs.Machine.{Machine}
-use Rattle.rules.specs.Calls.{fresh, call}
+use Rattle.rules.specs.Calls.{fresh, call, callsAfter}
+use Rattle.rules.specs.Demand3.{FreshlyMade}
 
 unfoldable pub isWrite : Call → Bool
 isWrite (begin t) = false
@@ -28,6 +29,24 @@ isCommit (commit t) = true
 isCommit (abort t) = false
 isCommit (places t f out) = false
 
+unfoldable pub touchesMarks : Call → Bool
+touchesMarks (begin t) = true
+touchesMarks (on t (seek d v)) = false
+touchesMarks (on t (write d bytes)) = false
+touchesMarks (on t (getFilePointer d)) = false
+touchesMarks (on t (read d n buffer)) = true
+touchesMarks (commit t) = true
+touchesMarks (abort t) = true
+touchesMarks (places t f out) = false
+
+-- The transaction whose call it is.
+unfoldable pub callerOf : Call → ℕ
+callerOf (begin t) = t
+callerOf (on t o) = t
+callerOf (commit t) = t
+callerOf (abort t) = t
+callerOf (places t f out) = t
+
 -- Transaction t has no mark, and has sighted no length.
 pub record Unmarked (t : ℕ) (m : Machine) : Type 0 where
   pub bytes : (q : ℕ) → hasMark (m .marks) t q ≡ false
@@ -40,8 +59,17 @@ pub record Buffers (m : Machine) : Type 0 where
   pub freshLogs : (numbers : List ℕ) → fresh numbers m .after .logs ≡ m .logs
   -- "A write that isn't granted is seen by its own transaction and by nobody else."
   pub files : (c : Call) → isCommit c ≡ false → call c m .after .files ≡ m .files
+  -- Marks are set by Read, and cleared by Begin and by what ends a transaction.
+  pub marks : (c : Call) → touchesMarks c ≡ false → call c m .after .marks ≡ m .marks
   -- "Begin gives .. no marks"; "Abort drops log and marks"; "The transaction ends and its marks are cleared"; "it ends as at Abort".
   pub begun : (t : ℕ) → t ≤ 7 → call (begin t) m .reply .answer ≡ plain → Unmarked t (call (begin t) m .after)
   pub aborted : (t : ℕ) → t ≤ 7 → call (abort t) m .reply .answer ≡ plain → Unmarked t (call (abort t) m .after)
   pub committed : (t n : ℕ) → t ≤ 7 → call (commit t) m .reply .answer ≡ granted n → Unmarked t (call (commit t) m .after)
   pub stale : (t : ℕ) → t ≤ 7 → call (commit t) m .reply .answer ≡ refused (number Stale) → Unmarked t (call (commit t) m .after)
+
+-- Every call leaves the marks of all transactions but its own.
+abbrev pub MarksLeft : Machine → Type 0
+MarksLeft m = (c : Call) (u q : ℕ) → (u ≡ callerOf c → ⊥) → hasMark (call c m .after .marks) u q ≡ hasMark (m .marks) u q
+
+abbrev pub MarksAlwaysLeft : Type 0
+MarksAlwaysLeft = (numbers : List ℕ) (m₀ : Machine) → FreshlyMade numbers m₀ → (cs : List Call) → MarksLeft (callsAfter cs m₀)

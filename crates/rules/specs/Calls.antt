@@ -5,7 +5,7 @@ use mathlib.Core.List.{List, [], _∷_}
 use lib.Dec.{eqb}
 use lib.ListN.{set, replicate}
 use Prim.Native.Nat.{ℕ, zero, suc, _+_, _*_}
-use Rattle.octets.specs.Parts.{pasted}
+use Rattle.octets.specs.Parts.{pasted, tabulate}
 use Rattle.octets.specs.Bits.{bitsOf, countOf}
 use Rattle.octets.specs.Marks.{hasMark, withMark, withoutMarks, contains}
 use Rattle.record.specs.declared.Store.{Store}
@@ -22,7 +22,7 @@ use Rattle.rules.specs.Steps.{Stepped, refuse, accept, step, turnedBack}
 use Rattle.rules.specs.Coverage.{placesOf}
 use Rattle.rules.specs.Commits.{Setting, settings, fits, commitRefusal}
 use Rattle.rules.specs.Messages.{Call, begin, on, commit, abort, places, Reply}
-use Rattle.rules.specs.Machine.{Machine, lent, withStore, withJournal, withFiles, withLogs, withMarking, sizes, tabulate, fileOf, values, txnOf, withTxn, journalled}
+use Rattle.rules.specs.Machine.{Machine, lent, withStore, withJournal, withFiles, withLogs, withMarking, sizes, fileOf, values, txnOf, withTxn, journalled}
 
 -- A call's reply, and the store after it.
 pub record Turn : Type 0 where
@@ -72,7 +72,7 @@ beginTurn t m = answer plain (reset t begun m)
 unfoldable pub abortTurn : ℕ → Machine → Turn
 abortTurn t m = answer plain (reset t ended m)
 
--- "bit t (worth 2 to the power t) set where transaction t has sighted that byte": the marks after sightings.
+-- 02, F-9: "a bit for each file byte in the order of the file buffer", set where transaction t has sighted it: the marks after sightings.
 unfoldable pub marked : ℕ → List Item → List ℕ → List ℕ
 marked t [] marks = marks
 marked t (byte q ∷ is) marks = marked t is (withMark t q marks)

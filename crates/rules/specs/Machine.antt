@@ -1,9 +1,9 @@
 -- The store as a caller holds it: the record in its two parts and the three lent buffers; and what they mean for one transaction.
-use mathlib.Core.List.{List, [], _∷_, _++_}
+use mathlib.Core.List.{List, [], _∷_}
 use lib.ListN.{length, getD}
-use Prim.Native.Nat.{ℕ, zero, suc, _+_, _*_}
+use Prim.Native.Nat.{ℕ, _+_, _*_}
 use Rattle.octets.specs.Bits.{withBit}
-use Rattle.octets.specs.Parts.{cut}
+use Rattle.octets.specs.Parts.{cut, tabulate}
 use Rattle.standings.specs.declared.Place.the-variants.{At}
 use Rattle.record.specs.declared.Store.{Store}
 use Rattle.record.specs.declared.Transaction.{Transaction}
@@ -46,12 +46,6 @@ withMarking marks m = lent (m .store) (m .journal) (m .files) (m .logs) marks
 -- The lengths of the buffers.
 abbrev pub sizes : Machine → Sizes
 sizes m = sized (length (m .files)) (length (m .logs)) (length (m .marks))
-
--- The list of f 0, f 1, .. below n.
-module _ {A : Type 0} where
-  unfoldable pub tabulate : (ℕ → A) → ℕ → List A
-  tabulate f zero = []
-  tabulate f (suc n) = tabulate f n ++ (f n ∷ [])
 
 -- "Each belongs for good to one file, named at Fresh": the file of descriptor d.
 unfoldable pub fileOf : Store → ℕ → ℕ

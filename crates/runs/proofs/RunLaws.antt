@@ -21,11 +21,10 @@ use Rattle.record.specs.Journal.{writeRecordAt}
 use Rattle.ranges.specs.Below.{sum}
 use Rattle.ranges.specs.Ranges.{lengthsBefore}
 use Rattle.ranges.proofs.Laws.{and-left, and-right, and-both, sum-same, TransactionInRange, record-in}
-use Rattle.octets.specs.Parts.{cut}
+use Rattle.octets.specs.Parts.{cut, tabulate}
 use Rattle.octets.proofs.PartLaws.{le-or-lt, length-cut, getD-cut}
 use Rattle.rules.specs.Reading.{over, byteAt, Source, own, file, supplies, orElse, latest, writeEnd, placedEnd, farthest, ownEnd}
 use Rattle.rules.specs.Transactions.{Write}
-use Rattle.rules.specs.Machine.{tabulate}
 use Rattle.rules.proofs.View.Ends.{farthest-last}
 use Rattle.runs.specs.declared.Extent.{Extent}
 use Rattle.runs.specs.declared.Run.{Run}

@@ -11,10 +11,9 @@ use Rattle.standings.specs.Table.{placeNumber}
 use Rattle.record.specs.declared.journal.WriteRecord.{WriteRecord}
 use Rattle.record.specs.Journal.{writeRecordAt}
 use Rattle.ranges.specs.Ranges.{lengthsBefore}
-use Rattle.octets.specs.Parts.{cut}
+use Rattle.octets.specs.Parts.{cut, tabulate}
 use Rattle.rules.specs.Reading.{over, Source, own, file, latest, placedEnd}
 use Rattle.rules.specs.Transactions.{Write}
-use Rattle.rules.specs.Machine.{tabulate}
 use Rattle.runs.specs.declared.Extent.{Extent}
 use Rattle.runs.specs.declared.Run.{Run}
 use Rattle.runs.specs.declared.Supplier.{Supplier}

@@ -7,11 +7,11 @@ use lib.ListN.{length, getD, set, replicate}
 use native.Mathlib.Omega.{arith}
 use borrow.Author.Tests.{le-leb, lt-leb, eq-eqb, ne-eqb}
 use Prim.Native.Nat.{ℕ, _+_, _≤_, _<_}
+use Rattle.octets.specs.Parts.{tabulate}
 use Rattle.record.specs.declared.Descriptor.{Descriptor}
 use Rattle.record.specs.declared.Transaction.{Transaction}
 use Rattle.record.specs.State.{standingAt, dirtyAt, noDescriptor, withDescriptors}
 use Rattle.standings.specs.Table.{advance, settled}
-use Rattle.rules.specs.Machine.{tabulate}
 use Rattle.rules.proofs.View.Tables.{tabulate-same, tabulate-set, tabulate-getD}
 use Rattle.ranges.proofs.Laws.{below-all}
 use Rattle.laws.proofs.Filled.{filled, filled-none, filled-all, filled-set, filled-kept}

@@ -9,6 +9,8 @@ use lib.ListN.{length, getD, List·getD-eq-default}
 use native.Mathlib.Omega.{arith}
 use Prim.Native.Nat.{ℕ, _≤_, _<_}
 use Rattle.octets.proofs.PartLaws.{le-or-lt}
+use Rattle.octets.specs.Parts.{tabulate}
+use Rattle.octets.proofs.TableLaws.{length-tabulate, getD-tabulate}
 use Rattle.record.specs.declared.Descriptor.{Descriptor}
 use Rattle.record.specs.declared.Store.{Store}
 use Rattle.record.specs.State.{transaction, standingAt, noDescriptor}
@@ -17,9 +19,8 @@ use Rattle.rules.specs.Items.{result}
 use Rattle.standings.specs.Table.{pointerSettles, readSettles}
 use Rattle.rules.specs.Transactions.{those, past, all, settling}
 use Rattle.rules.specs.Steps.{settledByRead}
-use Rattle.rules.specs.Machine.{tabulate, fileOf, values, txnOf}
+use Rattle.rules.specs.Machine.{fileOf, values, txnOf}
 use Rattle.laws.specs.Settling.{settleAll}
-use Rattle.rules.proofs.View.Tables.{length-tabulate, getD-tabulate}
 use Rattle.laws.proofs.Settling.{fitsAt, settled-together, those-one}
 use Rattle.settling.specs.Choices.{settlesForRead, chosenByRead, settlesForPointer, chosenByPointer, settlesWithin, allWithin}
 use Rattle.settling.proofs.Settled.{settledTxn}

@@ -7,7 +7,8 @@ use lib.Dec.{eqb}
 use lib.ListN.{length, getD, set}
 use native.Mathlib.Omega.{arith}
 use Prim.Native.Nat.{ℕ, _+_, _*_, _≤_, _<_}
-use Rattle.octets.specs.Parts.{cut}
+use Rattle.octets.specs.Parts.{cut, tabulate}
+use Rattle.octets.proofs.TableLaws.{length-tabulate, getD-tabulate}
 use Rattle.standings.specs.declared.Standing.{Standing}
 use Rattle.record.specs.declared.Descriptor.{Descriptor}
 use Rattle.record.specs.declared.Transaction.{Transaction}
@@ -21,9 +22,9 @@ use Rattle.ranges.proofs.Laws.{sum-same, record-in, place-end}
 use Rattle.rules.specs.Items.{Item}
 use Rattle.rules.specs.Transactions.{Txn, Write, put, withStandings, withDirty, dirtied}
 use Rattle.rules.specs.Steps.{total}
-use Rattle.rules.specs.Machine.{tabulate, dataStart, writeAt, recordOf, txnOf, noWrite, journalled, holding, sightingLengths, withTxn}
+use Rattle.rules.specs.Machine.{dataStart, writeAt, recordOf, txnOf, noWrite, journalled, holding, sightingLengths, withTxn}
 use Rattle.laws.specs.Settling.{placeAll, settleAll}
-use Rattle.rules.proofs.View.Tables.{length-tabulate, getD-tabulate, tabulate-same, tabulate-set, map-tabulate}
+use Rattle.rules.proofs.View.Tables.{tabulate-same, tabulate-set, map-tabulate}
 use Rattle.laws.proofs.Decoded.{Opened, decoded-length, decoded-total, total-tabulate}
 use Rattle.settling.specs.Choices.{settledDescriptor, settledTransaction}
 use Rattle.settling.specs.Records.{recordAfter, placedRecords, Placeable}

@@ -5,12 +5,12 @@ use mathlib.Core.List.{List}
 use lib.Dec.{leb, eqb}
 use lib.ListN.{getD}
 use Prim.Native.Nat.{ℕ, _+_}
+use Rattle.octets.specs.Parts.{tabulate}
 use Rattle.record.specs.declared.Descriptor.{Descriptor}
 use Rattle.record.specs.declared.Transaction.{Transaction}
 use Rattle.record.specs.State.{standingAt, dirtyAt, withDescriptors}
 use Rattle.ranges.specs.Below.{below}
 use Rattle.standings.specs.Table.{pointerSettles, readSettles, advance, settled}
-use Rattle.rules.specs.Machine.{tabulate}
 use Rattle.settling.specs.declared.settle.Verdict.the-variants.{Settled, Past}
 use Rattle.settling.specs.declared.settle.Settling.{Settling}
 

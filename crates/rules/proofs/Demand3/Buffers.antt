@@ -1,25 +1,28 @@
 -- Which calls touch which buffer.
 use mathlib.Core.Bool.{Bool, true, false, cond, true≢false}
-use mathlib.Core.List.{List, [], _∷_}
+use mathlib.Core.List.{List, [], _∷_, _++_}
 use mathlib.Core.Path.{_≡_, refl, sym, ap, _∙_}
 use borrow.Author.Tests.{eq-eqb}
-use lib.Dec.{eqb}
+use lib.Dec.{leb, eqb}
 use lib.ListN.{getD, set}
 use native.Mathlib.Omega.{arith}
-use Prim.Native.Nat.{ℕ, zero, suc, _≤_}
-use Rattle.octets.specs.Marks.{hasMark, withoutMarks}
+use Prim.Native.Nat.{ℕ, zero, suc, _+_, _≤_}
+use Rattle.octets.specs.Marks.{hasMark, withMark, withoutMarks}
+use Rattle.standings.specs.Table.{advance, pointerSettles, offsetOf}
 use Rattle.octets.proofs.MarkLaws.{has-without-marks}
+use Rattle.octets.proofs.TableLaws.{getD-tabulate}
 use Rattle.record.specs.declared.Transaction.{Transaction}
 use Rattle.record.specs.State.{noTransaction, begun, ended, withTransaction}
-use Rattle.record.specs.Paper.{Said, plain, granted, refused}
-use Rattle.rules.specs.Items.{Item}
+use Rattle.record.specs.Paper.{Said, plain, pointer, granted, refused}
+use Rattle.rules.specs.Items.{Item, byte, offset, fileLength, Values, Prog, done, andThen, result, asked}
+use Rattle.rules.specs.Transactions.{Txn, settle, Settled, past, all, settling}
 use Rattle.rules.specs.Messages.{Op, seek, write, getFilePointer, read, bufferOf, Call, begin, on, commit, abort, places}
-use Rattle.rules.specs.Steps.{Stepped, refuse, accept}
+use Rattle.rules.specs.Steps.{Stepped, refuse, accept, check, orGivenBack, seekStep, writeStep, pointerStep, step}
 use Rattle.rules.specs.Commits.{Setting, commitRefusal}
-use Rattle.rules.specs.Machine.{Machine}
-use Rattle.rules.specs.Calls.{Turn, answer, turnDown, passing, fresh, freshMachine, reset, beginTurn, abortTurn, logged, served, stepTurn, afterCommit, commitGranted, commitDecided, commitTurn, admitted, call, placesTurn}
-use Rattle.rules.specs.Buffers.{isWrite, isCommit, Unmarked, Buffers}
-use Rattle.rules.proofs.View.Tables.{getD-tabulate}
+use Rattle.rules.specs.Machine.{Machine, fileOf, values, txnOf}
+use Rattle.rules.specs.Calls.{Turn, answer, turnDown, passing, fresh, freshMachine, reset, beginTurn, abortTurn, logged, marked, served, stepTurn, afterCommit, commitGranted, commitDecided, commitTurn, admitted, call, placesTurn}
+use Rattle.rules.specs.Buffers.{isWrite, isCommit, touchesMarks, Unmarked, Buffers}
+use Rattle.rules.proofs.Serial.Programs.{asked-andThen}
 use Rattle.rules.proofs.Demand3.Answers.{IsAnswer, answer-not-refused, Leaving}
 use Rattle.rules.proofs.Demand3.Refusals.{refused-same, admission-leaving, passing-zero, passing-stale}
 
@@ -75,9 +78,74 @@ call-files (commit t) m e = absurd (true≢false e)
 call-files (abort t) m e = passing-leaves (λ x. x .files) _ [] m (abortTurn t m) refl
 call-files (places t f out) m e = passing-leaves (λ x. x .files) _ out m (placesTurn t f out m) (unfold placesTurn in refl)
 
+-- A settling sights offsets alone, and so does a GetFilePointer.
+marked-append : (t : ℕ) (is js : List Item) (marks : List ℕ) → marked t (is ++ js) marks ≡ marked t js (marked t is marks)
+unfolding marked
+marked-append t [] js marks = refl
+marked-append t (byte q ∷ is) js marks = marked-append t is js (withMark t q marks)
+marked-append t (offset d ∷ is) js marks = marked-append t is js marks
+marked-append t (fileLength f ∷ is) js marks = marked-append t is js marks
+
+module _ (t : ℕ) (v : Values) (marks : List ℕ) where
+  settling-marks : (ds : List ℕ) (x : Txn) → marked t (asked v (settling ds x)) marks ≡ marks
+  unfolding settling asked marked
+  settling-marks [] x = refl
+  settling-marks (d ∷ ds) x = pick (leb (v (offset d) + advance (x .standing d)) 4096) (settling-marks ds (settle d (v (offset d)) x))
+    where
+      pick : (b : Bool) → marked t (asked v (settling ds (settle d (v (offset d)) x))) marks ≡ marks
+          → marked t (asked v (cond b (settling ds (settle d (v (offset d)) x)) (done past))) marks ≡ marks
+      pick true e = e
+      pick false e = refl
+
+  check-marks : (b : Bool) (n : ℕ) (p : Prog Stepped) → marked t (asked v p) marks ≡ marks → marked t (asked v (check b n p)) marks ≡ marks
+  unfolding check asked marked
+  check-marks true n p e = e
+  check-marks false n p e = refl
+
+  done-marks : (s : Stepped) → marked t (asked v (done s)) marks ≡ marks
+  unfolding asked marked
+  done-marks s = refl
+
+  step-marks : (file : ℕ → ℕ) (o : Op) (x : Txn) → touchesMarks (on t o) ≡ false → marked t (asked v (step file o x)) marks ≡ marks
+  unfolding step seekStep writeStep pointerStep touchesMarks
+  step-marks file (seek d n) x e = check-marks _ 6 _ (check-marks _ 8 _ (done-marks _))
+  step-marks file (write d bytes) x e =
+      check-marks _ 6 _ (check-marks _ 9 _ (check-marks _ 10 _ (check-marks _ 11 _ (done-marks _))))
+  step-marks file (getFilePointer d) x e = check-marks _ 6 _ (settled (cond (pointerSettles (x .standing d)) (d ∷ []) []))
+    where
+      next : Txn → Prog Stepped
+      next y = done (accept y (pointer (offsetOf (y .standing d))) [])
+
+      after : (z : Settled) → marked t (asked v (orGivenBack next z)) marks ≡ marks
+      after past = unfold orGivenBack in done-marks _
+      after (all y) = unfold orGivenBack in done-marks _
+
+      settled : (ds : List ℕ) → marked t (asked v (andThen (settling ds x) (orGivenBack next))) marks ≡ marks
+      settled ds =
+          ap (λ (is : List Item). marked t is marks) (asked-andThen v (settling ds x) (orGivenBack next))
+          ∙ marked-append t (asked v (settling ds x)) (asked v (orGivenBack next (result v (settling ds x)))) marks
+          ∙ ap (marked t (asked v (orGivenBack next (result v (settling ds x))))) (settling-marks ds x)
+          ∙ after (result v (settling ds x))
+  step-marks file (read d n buffer) x e = absurd (true≢false e)
+
+served-marks : (t : ℕ) (o : Op) (m : Machine) (is : List Item) (s : Stepped) → marked t is (m .marks) ≡ m .marks → served t o m is s .after .marks ≡ m .marks
+unfolding served turnDown
+served-marks t o m is (refuse n) e = refl
+served-marks t o m is (accept y a b) e = e
+
+call-marks : (c : Call) (m : Machine) → touchesMarks c ≡ false → call c m .after .marks ≡ m .marks
+unfolding call admitted stepTurn touchesMarks
+call-marks (begin t) m e = absurd (true≢false e)
+call-marks (on t o) m e =
+    passing-leaves (λ x. x .marks) _ (bufferOf o) m (stepTurn t o m)
+    (served-marks t o m _ _ (step-marks t (values (m .store) (m .files)) (m .marks) (fileOf (m .store)) o (txnOf (m .store) (m .journal) (m .logs) t) e))
+call-marks (commit t) m e = absurd (true≢false e)
+call-marks (abort t) m e = absurd (true≢false e)
+call-marks (places t f out) m e = passing-leaves (λ x. x .marks) _ out m (placesTurn t f out m) (unfold placesTurn in refl)
+
 -- The marks of a transaction that is replaced, or committed.
-cleared : (t : ℕ) (marks : List ℕ) → t ≤ 7 → (q : ℕ) → hasMark (withoutMarks t marks) t q ≡ false
-cleared t marks l q = has-without-marks t t q marks (omega arith) (omega arith) ∙ rw (eq-eqb t t refl)
+cleared : (t : ℕ) (marks : List ℕ) (q : ℕ) → hasMark (withoutMarks t marks) t q ≡ false
+cleared t marks q = has-without-marks t t q marks ∙ rw (eq-eqb t t refl)
 
 -- The lengths that it has sighted.
 replaced : (t : ℕ) (x : Transaction) (ts : List Transaction) → x .lengthmarks ≡ 0 → getD (set ts t x) t noTransaction .lengthmarks ≡ 0
@@ -85,15 +153,15 @@ replaced t x [] e = refl
 replaced zero x (y ∷ ts) e = e
 replaced (suc t) x (y ∷ ts) e = replaced t x ts e
 
-reset-cleared : (t : ℕ) (x : Transaction) (m : Machine) → t ≤ 7 → x .lengthmarks ≡ 0 → Unmarked t (reset t x m)
+reset-cleared : (t : ℕ) (x : Transaction) (m : Machine) → x .lengthmarks ≡ 0 → Unmarked t (reset t x m)
 unfolding reset withTransaction
-reset-cleared t x m l e = record { bytes = cleared t (m .marks) l; lengths = replaced t x (m .store .transactions) e }
+reset-cleared t x m e = record { bytes = cleared t (m .marks); lengths = replaced t x (m .store .transactions) e }
 
 granted-cleared : (t : ℕ) (ss : List Setting) (m : Machine) → t ≤ 7 → Unmarked t (commitGranted t ss m .after)
 unfolding commitGranted afterCommit ended
 granted-cleared t ss m l =
     record {
-      bytes = cleared t (m .marks) l;
+      bytes = cleared t (m .marks);
       lengths =
           ap (λ (x : Transaction). x .lengthmarks) (getD-tabulate (afterCommit t (m .marks) ss (m .store)) 8 t noTransaction (omega arith))
           ∙ rw (eq-eqb t t refl);
@@ -114,12 +182,12 @@ decided-cleared t ss m true placed n l e = absurd (answer-not-refused (granted n
 decided-cleared t ss m false true n l e = granted-cleared t ss m l
 decided-cleared t ss m false false n l e = absurd (answer-not-refused (granted n) 12 tt (sym e))
 
-decided-stale : (t : ℕ) (ss : List Setting) (m : Machine) (stale placed : Bool) → t ≤ 7
+decided-stale : (t : ℕ) (ss : List Setting) (m : Machine) (stale placed : Bool)
     → commitDecided t ss m (commitRefusal stale placed) .reply .answer ≡ refused 13 → Unmarked t (commitDecided t ss m (commitRefusal stale placed) .after)
 unfolding commitDecided commitRefusal commitGranted ended
-decided-stale t ss m true placed l e = reset-cleared t ended m l refl
-decided-stale t ss m false true l e = absurd (answer-not-refused _ 13 tt e)
-decided-stale t ss m false false l e = let z : _≡_ {A = ℕ} 12 13 = refused-same 12 13 e in absurd (omega arith)
+decided-stale t ss m true placed e = reset-cleared t ended m refl
+decided-stale t ss m false true e = absurd (answer-not-refused _ 13 tt e)
+decided-stale t ss m false false e = let z : _≡_ {A = ℕ} 12 13 = refused-same 12 13 e in absurd (omega arith)
 
 pub buffers : (m : Machine) → Buffers m
 unfolding call admitted beginTurn abortTurn commitTurn answer begun ended fresh freshMachine
@@ -128,8 +196,9 @@ buffers m =
       logs = λ c. call-logs c m;
       freshLogs = λ numbers. passing-leaves (λ x. x .logs) _ [] m _ refl;
       files = λ c. call-files c m;
-      begun = λ t l e. rw (answered _ m (beginTurn t m) plain tt e) (reset-cleared t begun m l refl);
-      aborted = λ t l e. rw (answered _ m (abortTurn t m) plain tt e) (reset-cleared t ended m l refl);
+      marks = λ c. call-marks c m;
+      begun = λ t l e. rw (answered _ m (beginTurn t m) plain tt e) (reset-cleared t begun m refl);
+      aborted = λ t l e. rw (answered _ m (abortTurn t m) plain tt e) (reset-cleared t ended m refl);
       committed =
           λ t n l e.
           rw (answered _ m (commitTurn t m) (granted n) tt e)
@@ -137,5 +206,5 @@ buffers m =
       stale =
           λ t l e.
           let z = passing-stale _ m (commitTurn t m) (admission-leaving _ (m .store) (m .journal) t) e in
-          rw (ap (λ (w : Turn). w .after) z) (decided-stale t _ m _ _ l (sym (ap (λ (w : Turn). w .reply .answer) z) ∙ e));
+          rw (ap (λ (w : Turn). w .after) z) (decided-stale t _ m _ _ (sym (ap (λ (w : Turn). w .reply .answer) z) ∙ e));
     }

@@ -92,7 +92,7 @@ module _ (m : Machine) (t : ℕ) (o : Op) (sound : Sound m) (small : t < 8) (beg
   txn-in : TxnIn x
   txn-in = decoded-in (m .store) (m .journal) (m .logs) t (sound .logs) small (range .transactions t small begun) (sound .shaped .descriptors t small)
 
-  sightings-in : ItemsIn (sightings m t o)
+  pub sightings-in : ItemsIn (sightings m t o)
   unfolding sightings
   sightings-in = asked-in v bounded (fileOf (m .store)) (file-in (m .store) (m .journal) (sound .shaped .files) range) o x txn-in
 
@@ -140,7 +140,7 @@ module _ (m : Machine) (t : ℕ) (o : Op) (sound : Sound m) (small : t < 8) (beg
         λ i.
         record {
           txn = encoded (m .store) (m .journal) t y (sightings m t o) (sound .shaped) (sound .journal) small (kept .ranges) (logged t o (m .store) (m .logs)) carries i;
-          marked = marked-own t (sightings m t o) (m .marks) (sound .marks) sightings-in i;
+          marked = marked-own t (sightings m t o) (m .marks) small (sound .marks) sightings-in i;
           lengths =
               (ap (λ (z : Transaction). contains (z .lengthmarks)) h ∙ lengths-own (sightings m t o) (transaction (m .store) t .lengthmarks)) i;
           stale = h i .stale;
@@ -167,7 +167,7 @@ module _ (m : Machine) (t : ℕ) (o : Op) (sound : Sound m) (small : t < 8) (beg
         record {
           txn =
               txn-same (withTxn t y (sightings m t o) (m .store)) (journalled t (y .writes) (m .journal)) (m .store) (m .journal) u same t (logged t o (m .store) (m .logs)) (m .logs) apart (sound .logs) other (omega arith) r i;
-          marked = λ p. marked-other t u (sightings m t o) (m .marks) (sound .marks) sightings-in other p i;
+          marked = λ p. marked-other t u (sightings m t o) (m .marks) small (sound .marks) sightings-in other p i;
           lengths = contains (same .transaction i .lengthmarks);
           stale = same .transaction i .stale;
         })

@@ -10,6 +10,7 @@ use native.Mathlib.Omega.{arith}
 use Prim.Native.Nat.{ℕ, suc, _+_, _*_, _≤_, _<_}
 use Rattle.octets.specs.Parts.{cut}
 use Rattle.octets.proofs.PartLaws.{length-cut, le-or-lt}
+use Rattle.octets.proofs.TableLaws.{length-tabulate, getD-tabulate}
 use Rattle.standings.specs.declared.Standing.the-variants.{Untouched}
 use Rattle.record.specs.declared.Descriptor.{Descriptor}
 use Rattle.record.specs.declared.Store.{Store}
@@ -22,7 +23,7 @@ use Rattle.rules.specs.Transactions.{Write}
 use Rattle.rules.specs.Steps.{total}
 use Rattle.rules.specs.Machine.{dataStart, writeAt, txnOf, noWrite}
 use Rattle.rules.proofs.View.Shape.{WriteIn, TxnIn}
-use Rattle.rules.proofs.View.Tables.{length-tabulate, getD-tabulate, sum-first, sum-le}
+use Rattle.rules.proofs.View.Tables.{sum-first, sum-le}
 use Rattle.rules.proofs.View.Kept.{pieces}
 
 -- The data bytes of the first k pieces.

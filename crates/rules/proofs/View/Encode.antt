@@ -10,8 +10,9 @@ use lib.Seq.{getD-set-same, getD-set-other}
 use native.Mathlib.Nat.{eq-or-lt-of-le}
 use native.Mathlib.Omega.{arith}
 use Prim.Native.Nat.{ℕ, _+_, _*_, _≤_, _<_}
-use Rattle.octets.specs.Parts.{cut}
+use Rattle.octets.specs.Parts.{cut, tabulate}
 use Rattle.octets.proofs.PartLaws.{le-or-lt}
+use Rattle.octets.proofs.TableLaws.{length-tabulate, getD-tabulate}
 use Rattle.record.specs.declared.Descriptor.{Descriptor}
 use Rattle.record.specs.declared.Transaction.{Transaction}
 use Rattle.record.specs.declared.Store.{Store}
@@ -25,10 +26,10 @@ use Rattle.ranges.proofs.Laws.{and-both, sum-same, TransactionInRange, in-range
 use Rattle.rules.specs.Items.{Item}
 use Rattle.rules.specs.Transactions.{Txn, Write}
 use Rattle.rules.specs.Steps.{total}
-use Rattle.rules.specs.Machine.{tabulate, dataStart, writeAt, recordOf, txnOf, noWrite, journalled, holding, sightingLengths, withTxn}
+use Rattle.rules.specs.Machine.{dataStart, writeAt, recordOf, txnOf, noWrite, journalled, holding, sightingLengths, withTxn}
 use Rattle.record.specs.State.{withTransaction}
 use Rattle.rules.proofs.View.Shape.{Shaped, TxnIn}
-use Rattle.rules.proofs.View.Tables.{same-or-not, length-tabulate, getD-tabulate, tabulate-same, tabulate-getD, getD-map}
+use Rattle.rules.proofs.View.Tables.{same-or-not, tabulate-same, tabulate-getD, getD-map}
 use Rattle.rules.proofs.View.Kept.{pieces}
 use Rattle.rules.proofs.View.Decode.{dataBefore, Carries, total-pieces}
 use Rattle.rules.proofs.View.Others.{SameAt, range-same}

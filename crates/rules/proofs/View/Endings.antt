@@ -37,12 +37,12 @@ seat-out m u l = rw (lt-leb u 7 (omega arith))
 
 -- ---- marks
 
-module _ (t : ℕ) (small : t < 8) (marks : List ℕ) where
+module _ (t : ℕ) (marks : List ℕ) where
   pub unmarked-own : (q : ℕ) → hasMark (withoutMarks t marks) t q ≡ false
-  unmarked-own q = has-without-marks t t q marks small small ∙ rw (eq-eqb t t refl)
+  unmarked-own q = has-without-marks t t q marks ∙ rw (eq-eqb t t refl)
 
-  pub unmarked-other : (u q : ℕ) → u < 8 → (u ≡ t → ⊥) → hasMark (withoutMarks t marks) u q ≡ hasMark marks u q
-  unmarked-other u q l other = has-without-marks t u q marks l small ∙ rw (ne-eqb u t other)
+  pub unmarked-other : (u q : ℕ) → (u ≡ t → ⊥) → hasMark (withoutMarks t marks) u q ≡ hasMark marks u q
+  unmarked-other u q other = has-without-marks t u q marks ∙ rw (ne-eqb u t other)
 
 -- ---- the whole
 
@@ -67,20 +67,20 @@ module _ (t : ℕ) (offsets lengths : List ℕ) (ts : List Transaction) (files :
       }
 
   -- Another transaction that is alike keeps what it holds.
-  pub ending-held : t < 8 → (u : ℕ) → u < 8 → (u ≡ t → ⊥) → Alike (transaction (m .store) u) (getD ts u noTransaction)
+  pub ending-held : (u : ℕ) → (u ≡ t → ⊥) → Alike (transaction (m .store) u) (getD ts u noTransaction)
       → heldBy (ending t offsets lengths ts files m) u
       ≡ staleAs (heldBy m u) (getD ts u noTransaction .stale)
   unfolding heldBy
-  ending-held small u l other a =
+  ending-held u other a =
       let e = alike-txn offsets lengths ts (m .store) (m .journal) u (m .logs) a in
-      let f : hasMark (withoutMarks t (m .marks)) u ≡ hasMark (m .marks) u = fun-ext (λ q. unmarked-other t small (m .marks) u q l other) in
+      let f : hasMark (withoutMarks t (m .marks)) u ≡ hasMark (m .marks) u = fun-ext (λ q. unmarked-other t (m .marks) u q other) in
       λ i. record { txn = e i; marked = f i; lengths = contains (a .lengthmarks i); stale = getD ts u noTransaction .stale }
 
-  pub ending-seat : t < 8 → (u : ℕ) → u < 8 → (u ≡ t → ⊥) → Alike (transaction (m .store) u) (getD ts u noTransaction)
+  pub ending-seat : (u : ℕ) → u < 8 → (u ≡ t → ⊥) → Alike (transaction (m .store) u) (getD ts u noTransaction)
       → seat (ending t offsets lengths ts files m) u
       ≡ cond (transaction (m .store) u .begun)
       (held (staleAs (heldBy m u) (getD ts u noTransaction .stale))) vacant
-  ending-seat small u l other a =
+  ending-seat u l other a =
       seat-in (ending t offsets lengths ts files m) u (transaction (m .store) u .begun)
       (staleAs (heldBy m u) (getD ts u noTransaction .stale))
-      l (a .begun) (ending-held small u l other a)
+      l (a .begun) (ending-held u other a)

@@ -9,17 +9,18 @@ use Prim.Native.Nat.{ℕ, _≤_, _<_}
 use native.Mathlib.Omega.{arith}
 use borrow.Author.Tests.{eqb-true, eqb-false, eq-eqb, ne-eqb}
 use Rattle.octets.proofs.PartLaws.{le-or-lt}
+use Rattle.octets.specs.Parts.{tabulate}
+use Rattle.octets.proofs.TableLaws.{length-tabulate, getD-tabulate}
 use Rattle.record.specs.declared.Transaction.{Transaction}
 use Rattle.record.specs.State.{transaction, noTransaction, ended}
 use Rattle.record.specs.Paper.{granted}
 use Rattle.ranges.proofs.Laws.{in-range}
 use Rattle.rules.specs.Transactions.{put}
 use Rattle.rules.specs.Commits.{Setting, landed}
-use Rattle.rules.specs.Machine.{Machine, tabulate, fileOf}
+use Rattle.rules.specs.Machine.{Machine, fileOf}
 use Rattle.rules.specs.Calls.{landFiles, landOffsets, landLengths, conflicts, staled, afterCommit, commitGranted}
 use Rattle.rules.proofs.Serial.Sighted.{Seat, vacant, held, touch, granting}
 use Rattle.rules.proofs.View.Shape.{heldBy, seat, view, Sound}
-use Rattle.rules.proofs.View.Tables.{length-tabulate, getD-tabulate}
 use Rattle.rules.proofs.View.Renewed.{ended-bare, Alike, Carried, same-values}
 use Rattle.rules.proofs.View.Endings.{ending, staleAs, seat-in, seat-out, ending-sound, ending-seat}
 use Rattle.rules.proofs.View.SettingsIn.{AllIn}
@@ -68,7 +69,7 @@ module _ (m : Machine) (t : ℕ) (ss : List Setting) where
     other-seat u h (inl l) = seat-out after u l ∙ ap (touch ss) (sym (seat-out m u l))
     other-seat u h (inr l) =
         let e = at-commit u l false (ne-eqb u t h) in
-        ending-seat t (landOffsets ss (m .store .offsets)) (landLengths ss (m .store .lengths)) ts (landFiles ss (m .files)) m small u l h (staled-alike u (getD ts u noTransaction) e)
+        ending-seat t (landOffsets ss (m .store .offsets)) (landLengths ss (m .store .lengths)) ts (landFiles ss (m .files)) m u l h (staled-alike u (getD ts u noTransaction) e)
         ∙ ap (λ (y : Transaction). cond (transaction (m .store) u .begun) (held (staleAs (heldBy m u) (y .stale))) vacant) e
         ∙ touched u (transaction (m .store) u .begun)
         ∙ ap (touch ss) (sym (seat-in m u (transaction (m .store) u .begun) (heldBy m u) l refl refl))

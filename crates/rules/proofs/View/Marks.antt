@@ -33,42 +33,40 @@ length-marked t (byte q ∷ is) marks = length-marked t is (withMark t q marks) 
 length-marked t (offset d ∷ is) marks = length-marked t is marks
 length-marked t (fileLength f ∷ is) marks = length-marked t is marks
 
-module _ (t q : ℕ) (marks : List ℕ) (there : q < length marks) where
+module _ (t q : ℕ) (marks : List ℕ) (small : t < 8) (there : q < 32768) (size : length marks ≡ 32768) where
   -- One mark more: transaction t's own, and another's.
   own-mark : (p : ℕ) → hasMark (withMark t q marks) t p ≡ put q true (hasMark marks t) p
   unfolding put
-  own-mark p = has-with-mark t q t p marks there ∙ rw (eq-eqb t t refl) (pick (eqb p q))
+  own-mark p = has-with-mark t q t p marks small there size ∙ rw (eq-eqb t t refl) (pick (eqb p q))
     where
       pick : (b : Bool) → b || hasMark marks t p ≡ cond b true (hasMark marks t p)
       pick true = refl
       pick false = refl
 
   other-mark : (u : ℕ) → (u ≡ t → ⊥) → (p : ℕ) → hasMark (withMark t q marks) u p ≡ hasMark marks u p
-  other-mark u ne p = has-with-mark t q u p marks there ∙ rw (ne-eqb u t ne)
+  other-mark u ne p = has-with-mark t q u p marks small there size ∙ rw (ne-eqb u t ne)
 
 -- The bytes that transaction t has sighted after sightings.
-pub marked-own : (t : ℕ) (is : List Item) (marks : List ℕ) → length marks ≡ 32768 → ItemsIn is
+pub marked-own : (t : ℕ) (is : List Item) (marks : List ℕ) → t < 8 → length marks ≡ 32768 → ItemsIn is
     → hasMark (marked t is marks) t ≡ markAll is (hasMark marks t)
 unfolding marked markAll
-marked-own t [] marks l h = refl
-marked-own t (byte q ∷ is) marks l h =
-    let there : q < length marks = rw l (h .0) in
-    marked-own t is (withMark t q marks) (length-with-mark t q marks ∙ l) (h .1)
-    ∙ ap (markAll is) (fun-ext (own-mark t q marks there))
-marked-own t (offset d ∷ is) marks l h = marked-own t is marks l (h .1)
-marked-own t (fileLength f ∷ is) marks l h = marked-own t is marks l (h .1)
+marked-own t [] marks small l h = refl
+marked-own t (byte q ∷ is) marks small l h =
+    marked-own t is (withMark t q marks) small (length-with-mark t q marks ∙ l) (h .1)
+    ∙ ap (markAll is) (fun-ext (own-mark t q marks small (h .0) l))
+marked-own t (offset d ∷ is) marks small l h = marked-own t is marks small l (h .1)
+marked-own t (fileLength f ∷ is) marks small l h = marked-own t is marks small l (h .1)
 
 -- Those of another transaction.
-pub marked-other : (t u : ℕ) (is : List Item) (marks : List ℕ) → length marks ≡ 32768 → ItemsIn is → (u ≡ t → ⊥)
+pub marked-other : (t u : ℕ) (is : List Item) (marks : List ℕ) → t < 8 → length marks ≡ 32768 → ItemsIn is → (u ≡ t → ⊥)
     → (p : ℕ) → hasMark (marked t is marks) u p ≡ hasMark marks u p
 unfolding marked
-marked-other t u [] marks l h ne p = refl
-marked-other t u (byte q ∷ is) marks l h ne p =
-    let there : q < length marks = rw l (h .0) in
-    marked-other t u is (withMark t q marks) (length-with-mark t q marks ∙ l) (h .1) ne p
-    ∙ other-mark t q marks there u ne p
-marked-other t u (offset d ∷ is) marks l h ne p = marked-other t u is marks l (h .1) ne p
-marked-other t u (fileLength f ∷ is) marks l h ne p = marked-other t u is marks l (h .1) ne p
+marked-other t u [] marks small l h ne p = refl
+marked-other t u (byte q ∷ is) marks small l h ne p =
+    marked-other t u is (withMark t q marks) small (length-with-mark t q marks ∙ l) (h .1) ne p
+    ∙ other-mark t q marks small (h .0) l u ne p
+marked-other t u (offset d ∷ is) marks small l h ne p = marked-other t u is marks small l (h .1) ne p
+marked-other t u (fileLength f ∷ is) marks small l h ne p = marked-other t u is marks small l (h .1) ne p
 
 -- The lengths that it has sighted after sightings.
 own-length : (f n g : ℕ) → contains (withBit f n) g ≡ put f true (contains n) g

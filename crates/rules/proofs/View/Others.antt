@@ -6,7 +6,7 @@ use lib.ListN.{length, getD}
 use native.Mathlib.Nat.{eq-or-lt-of-le}
 use native.Mathlib.Omega.{arith}
 use Prim.Native.Nat.{ℕ, _+_, _*_, _≤_, _<_}
-use Rattle.octets.specs.Parts.{cut}
+use Rattle.octets.specs.Parts.{cut, tabulate}
 use Rattle.octets.proofs.PartLaws.{cut-same, le-or-lt}
 use Rattle.record.specs.declared.Store.{Store}
 use Rattle.record.specs.declared.Transaction.{Transaction}
@@ -16,7 +16,7 @@ use Rattle.record.specs.Journal.{writeRecordAt}
 use Rattle.ranges.specs.Below.{sum}
 use Rattle.ranges.specs.Ranges.{recordIn, lengthsBefore}
 use Rattle.ranges.proofs.Laws.{sum-same, TransactionInRange}
-use Rattle.rules.specs.Machine.{tabulate, dataStart, writeAt, txnOf}
+use Rattle.rules.specs.Machine.{dataStart, writeAt, txnOf}
 use Rattle.rules.proofs.View.Tables.{tabulate-same}
 use Rattle.rules.proofs.View.Decode.{data-fits}
 

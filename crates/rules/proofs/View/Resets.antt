@@ -12,12 +12,13 @@ use borrow.Author.Tests.{eqb-true, eqb-false}
 use Rattle.octets.proofs.PartLaws.{le-or-lt}
 use Rattle.octets.proofs.MarkLaws.{contains-none}
 use Rattle.octets.specs.Marks.{hasMark, withoutMarks, contains}
+use Rattle.octets.specs.Parts.{tabulate}
 use Rattle.standings.specs.declared.Standing.{Standing}
 use Rattle.standings.specs.declared.Standing.the-variants.{Untouched}
 use Rattle.record.specs.declared.Transaction.{Transaction}
 use Rattle.record.specs.State.{transaction, standingAt, dirtyAt, noTransaction}
 use Rattle.ranges.proofs.Laws.{in-range}
-use Rattle.rules.specs.Machine.{Machine, fileOf, txnOf, tabulate, writeAt}
+use Rattle.rules.specs.Machine.{Machine, fileOf, txnOf, writeAt}
 use Rattle.record.specs.State.{withTransaction}
 use Rattle.rules.specs.Transactions.{empty, put}
 use Rattle.rules.specs.Calls.{reset}
@@ -74,7 +75,7 @@ module _ (t : ℕ) (x : Transaction) (m : Machine) (small : t < 8) (bare : Bare 
   own-held =
       let e = bare-txn after t (rw own bare) in
       let f : _≡_ {A = ℕ → Bool} (hasMark (withoutMarks t (m .marks)) t) (λ q. false) =
-      fun-ext (unmarked-own t small (m .marks)) in
+      fun-ext (unmarked-own t (m .marks)) in
       let g : getD ts t noTransaction .stale ≡ x .stale = ap (λ (z : Transaction). z .stale) own in
       let l : _≡_ {A = ℕ → Bool} (contains (getD ts t noTransaction .lengthmarks)) (λ f. false) =
       ap (λ (z : Transaction). contains (z .lengthmarks)) own ∙ ap contains (bare .lengthmarks) ∙ fun-ext none in
@@ -93,7 +94,7 @@ module _ (t : ℕ) (x : Transaction) (m : Machine) (small : t < 8) (bare : Bare 
   unfolding heldBy after
   seat-other u h (inl l) = seat-out after u l ∙ sym (seat-out m u l)
   seat-other u h (inr l) =
-      ending-seat t (m .store .offsets) (m .store .lengths) ts (m .files) m small u l h (alike-same (transaction (m .store) u) (getD ts u noTransaction) (other u h))
+      ending-seat t (m .store .offsets) (m .store .lengths) ts (m .files) m u l h (alike-same (transaction (m .store) u) (getD ts u noTransaction) (other u h))
       ∙ ap (λ (y : Transaction). cond (transaction (m .store) u .begun) (held (staleAs (heldBy m u) (y .stale))) vacant) (other u h)
       ∙ sym (seat-in m u (transaction (m .store) u .begun) (heldBy m u) l refl refl)
 

@@ -5,19 +5,15 @@ use mathlib.Core.Logic.{_⊎_, inl, inr, ⊎-elim}
 use mathlib.Core.Path.{_≡_, refl, sym, ap, ap₂, _∙_}
 use borrow.Author.Tests.{eqb-true, eqb-false}
 use lib.Dec.{eqb}
-use lib.ListN.{length, getD, set, length-append, length-set, List·getD-append}
-use lib.Seq.{ext-getD, getD-at, getD-set-same, getD-set-other, set-getD}
-use borrow.Author.Tests.{eqb-true, eqb-false}
-use mathlib.Core.Bool.{Bool, true, false}
-use lib.Dec.{eqb}
+use lib.ListN.{length, getD, set, length-set}
+use lib.Seq.{ext-getD, getD-set-same, getD-set-other, set-getD}
 use native.Mathlib.Nat.{eq-or-lt-of-le, le-of-suc-le-suc, not-suc-le-zero}
 use native.Mathlib.Omega.{arith}
 use Prim.Native.Nat.{ℕ, zero, suc, _+_, _≤_, _<_}
-use native.Mathlib.Numerals.{add-one}
-use Rattle.octets.specs.Parts.{pasted}
+use Rattle.octets.specs.Parts.{pasted, tabulate}
 use Rattle.octets.proofs.PartLaws.{pasted-none, pasted-more}
+use Rattle.octets.proofs.TableLaws.{length-tabulate, getD-tabulate}
 use Rattle.ranges.specs.Below.{sum}
-use Rattle.rules.specs.Machine.{tabulate}
 
 -- Two numbers are the same or not.
 pub same-or-not : (a b : ℕ) → (a ≡ b) ⊎ (a ≡ b → ⊥)
@@ -28,20 +24,6 @@ same-or-not a b = pick (eqb a b) refl
     pick false e = inr (eqb-false a b e)
 
 module _ {A : Type 0} where
-  pub length-tabulate : (f : ℕ → A) (n : ℕ) → length (tabulate f n) ≡ n
-  unfolding tabulate
-  length-tabulate f zero = refl
-  length-tabulate f (suc n) = let e = length-tabulate f n in simp length-append (omega arith)
-
-  pub getD-tabulate : (f : ℕ → A) (n k : ℕ) (z : A) → k < n → getD (tabulate f n) k z ≡ f k
-  unfolding tabulate
-  getD-tabulate f zero k z h = absurd (not-suc-le-zero h)
-  getD-tabulate f (suc n) k z h =
-      ⊎-elim
-      (λ e. ap (λ (i : ℕ). getD (tabulate f n ++ (f n ∷ [])) i z) e ∙ getD-at (tabulate f n) (f n) [] z n (length-tabulate f n) ∙ ap f (sym e))
-      (λ l. List·getD-append (tabulate f n) (f n ∷ []) z k (rw length-tabulate l) ∙ getD-tabulate f n k z l)
-      (eq-or-lt-of-le (le-of-suc-le-suc h))
-
   pub tabulate-same : (f g : ℕ → A) (n : ℕ) → ((k : ℕ) → k < n → f k ≡ g k) → tabulate f n ≡ tabulate g n
   unfolding tabulate
   tabulate-same f g zero h = refl

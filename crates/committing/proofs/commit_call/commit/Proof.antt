@@ -83,7 +83,9 @@ places-fit-requires : tie.Need-places-fit-requires
 places-fit-requires c κs = in-range _ _ (let-through (c .before .before .before .before .before) .ranges) .offsets
 
 end-stale-requires : tie.Need-end-stale-requires
-end-stale-requires c κs = omega (arith, let-through (c .before .before .before .before .before .before .before .before) .small)
+end-stale-requires c κs =
+    let through = let-through (c .before .before .before .before .before .before .before .before) in
+    (through .small, through .lengths .marks)
 
 same-length : tie.Need-same-length
 same-length c = search needs

@@ -20,11 +20,11 @@ use Rattle.committing.proofs.granting.grant.Statement.{statement}
 use Rattle.committing.proofs.granting.grant.Tie as tie
 
 abbrev Inv-loop : tie.InvT-loop
-Inv-loop journal files logs marks t s₀ seen set raised stale₀ u₀ s stale u =
+Inv-loop journal files logs marks t s₀ watched seen set raised stale₀ u₀ s stale u =
     (s ≡ withTransactions (s .transactions) s₀) × Passed (s₀ .transactions) seen set raised (s .transactions) stale u
 
 abbrev μ-loop : tie.MeasureT-loop
-μ-loop journal files logs marks t s₀ seen set raised stale₀ u₀ s stale u = 8 - u
+μ-loop journal files logs marks t s₀ watched seen set raised stale₀ u₀ s stale u = 8 - u
 
 -- What the caller lent.
 abbrev machine : tie.Start Inv-loop μ-loop → Machine
@@ -36,12 +36,15 @@ mul-x c = omega (arith, c .before .before .before .pre .0 .small)
 element-copy-out-x : tie.Need-element-copy-out-x Inv-loop μ-loop
 element-copy-out-x c = c .before .before .before .pre .0 .small
 
+watched-requires : tie.Need-watched-requires Inv-loop μ-loop
+watched-requires c κs = search needs
+
 land-writes-requires : tie.Need-land-writes-requires Inv-loop μ-loop
-land-writes-requires c κs = c .before .before .before .before .before .before .before .before .before .before .pre .0
+land-writes-requires c κs = c .before .before .before .before .before .before .before .before .before .before .before .before .pre .0
 
 lengths-after-requires : tie.Need-lengths-after-requires Inv-loop μ-loop
 lengths-after-requires c κs =
-    let can = c .before .before .before .before .before .before .before .before .before .before .before .before .before .before .before .before .before .pre .0 in
+    let can = c .before .before .before .before .before .before .before .before .before .before .before .before .before .before .before .before .before .before .before .pre .0 in
     record {
       files = refl;
       logs = refl;
@@ -54,10 +57,12 @@ lengths-after-requires c κs =
     }
 
 offsets-after-requires : tie.Need-offsets-after-requires Inv-loop μ-loop
-offsets-after-requires c κs = c .before .before .before .before .before .before .before .before .before .before .before .before .before .before .before .before .before .before .before .pre .1
+offsets-after-requires c κs = c .before .before .before .before .before .before .before .before .before .before .before .before .before .before .before .before .before .before .before .before .before .pre .1
 
 unmark-requires : tie.Need-unmark-requires Inv-loop μ-loop
-unmark-requires c κs = omega (arith, c .before .before .before .before .before .before .before .before .before .before .before .before .before .before .before .before .before .before .before .before .before .pre .0 .small)
+unmark-requires c κs =
+    let can = c .before .before .before .before .before .before .before .before .before .before .before .before .before .before .before .before .before .before .before .before .before .before .before .pre .0 in
+    (can .small, can .marks)
 
 offsets-set-requires : tie.Need-offsets-set-requires Inv-loop μ-loop
 offsets-set-requires c κs = search needs
@@ -68,11 +73,11 @@ lengths-raised-requires c κs = search needs
 ended-requires : tie.Need-ended-requires Inv-loop μ-loop
 ended-requires c κs = search needs
 
-mul-t18 : tie.Need-mul-t18 Inv-loop μ-loop
-mul-t18 c = omega (arith, c .before .before .before .before .before .before .before .before .before .before .before .before .before .before .before .before .before .before .before .before .before .before .before .before .before .before .before .before .before .before .pre .0 .small)
+mul-t20 : tie.Need-mul-t20 Inv-loop μ-loop
+mul-t20 c = omega (arith, c .before .before .before .before .before .before .before .before .before .before .before .before .before .before .before .before .before .before .before .before .before .before .before .before .before .before .before .before .before .before .before .before .pre .0 .small)
 
 element-set-from-s : tie.Need-element-set-from-s Inv-loop μ-loop
-element-set-from-s c = c .before .before .before .before .before .before .before .before .before .before .before .before .before .before .before .before .before .before .before .before .before .before .before .before .before .before .before .before .before .before .pre .0 .small
+element-set-from-s c = c .before .before .before .before .before .before .before .before .before .before .before .before .before .before .before .before .before .before .before .before .before .before .before .before .before .before .before .before .before .before .before .before .pre .0 .small
 
 -- The eight transactions, as they were lent.
 eight : (c : tie.Start Inv-loop μ-loop) → length (c .args .t1 .transactions) ≡ 8
@@ -80,7 +85,7 @@ eight c = shaped (c .args .t1) _ (c .good .0) .transactions
 
 loop-holds : tie.Need-loop-holds Inv-loop μ-loop
 loop-holds c =
-    let start = c .before .before .before .before .before .before .before .before .before .before .before .before .before .before .before .before .before .before .before .before .before .before .before .before .before .before .before .before .before .before in
+    let start = c .before .before .before .before .before .before .before .before .before .before .before .before .before .before .before .before .before .before .before .before .before .before .before .before .before .before .before .before .before .before .before .before in
     (refl, passed-none _ _ _ _ (length-set (start .args .t1 .transactions) (start .args .t) (c .ended .result) ∙ eight start))
 
 mul-y : tie.Need-mul-y Inv-loop μ-loop
@@ -120,9 +125,9 @@ loop-again c =
     (λ w. rw (w .1, w .2) (l .inv .0, passed-kept _ _ _ _ _ _ _ (l .inv .1) small _ found (w .0 .left)))
     (c .if1 .came)
 
-cast-t50 : tie.Need-cast-t50 Inv-loop μ-loop
-cast-t50 c =
-    let start = c .before .before .before .before .before .before .before .before .before .before .before .before .before .before .before .before .before .before .before .before .before .before .before .before .before .before .before .before .before .before .before .before in
+cast-t52 : tie.Need-cast-t52 Inv-loop μ-loop
+cast-t52 c =
+    let start = c .before .before .before .before .before .before .before .before .before .before .before .before .before .before .before .before .before .before .before .before .before .before .before .before .before .before .before .before .before .before .before .before .before .before in
     let l = c .before .loop in
     let done = passed-all _ _ _ _ _ _ _ (l .inv .1) (omega (arith, c .loop-test .left)) in
     omega (arith, done .0, bits-lt (turned (set (start .args .t1 .transactions) (start .args .t) (c .before .before .ended .result)) (c .before .before .before .before .before .before .before .before .before .before .before .before .before .before .before .before .before .before .before .before .before .land-writes .result) (c .before .before .before .before .before .before .before .offsets-set .result) (c .before .before .before .lengths-raised .result)) 8)
@@ -137,7 +142,7 @@ returns : tie.Need-returns Inv-loop μ-loop
 returns c =
     let l = c .before .loop in
     let landed = c .before .before .before .before .before .before .before .before .before .before .before .before .before .before .before .before .before .before .before .before .before .land-writes in
-    let start = c .before .before .before .before .before .before .before .before .before .before .before .before .before .before .before .before .before .before .before .before .before .before .before .before .before .before .before .before .before .before .before .before in
+    let start = c .before .before .before .before .before .before .before .before .before .before .before .before .before .before .before .before .before .before .before .before .before .before .before .before .before .before .before .before .before .before .before .before .before .before in
     let m = machine start in
     let t = start .args .t in
     let done = passed-all _ _ _ _ _ _ _ (l .inv .1) (omega (arith, c .loop-test .left)) in
@@ -147,7 +152,7 @@ returns c =
     let raised = c .before .before .before .lengths-raised .ensures ∙ ap (λ (after : List ℕ). bitsOf (isRaised (start .args .t1 .lengths) after) 8) lengths in
     granted-meets t m _ (commit-granted t m (start .pre .2) (start .pre .1)) (eight start) (start .pre .0 .small)
     (shaped (start .args .t1) _ (start .good .0) .lengths) (start .pre .0)
-    (landed .result) (landed .ensures .1) _ (rw (sym ended, sym set, sym raised) (done .0)) _ (rw (sym ended, sym set, sym raised) (done .1)) _ (c .before .before .before .before .before .before .before .before .before .before .before .before .offsets-after .ensures) _ lengths _ (landed .ensures .0) _ (c .before .before .before .before .before .before .before .before .before .before .unmark .ensures) _ (l .inv .0)
+    _ (c .before .before .before .before .before .before .before .before .before .before .before .before .before .before .before .before .before .before .before .before .before .before .before .before .before .before .before .watched .ensures) (landed .result) (landed .ensures .1) _ (rw (sym ended, sym set, sym raised) (done .0)) _ (rw (sym ended, sym set, sym raised) (done .1)) _ (c .before .before .before .before .before .before .before .before .before .before .before .before .offsets-after .ensures) _ lengths _ (landed .ensures .0) _ (c .before .before .before .before .before .before .before .before .before .before .unmark .ensures) _ (l .inv .0)
 
 pub grant-spec : {M : Type 1} → statement M
 grant-spec =
@@ -157,6 +162,7 @@ grant-spec =
     μ-loop
     mul-x
     element-copy-out-x
+    watched-requires
     land-writes-requires
     lengths-after-requires
     offsets-after-requires
@@ -164,7 +170,7 @@ grant-spec =
     offsets-set-requires
     lengths-raised-requires
     ended-requires
-    mul-t18
+    mul-t20
     element-set-from-s
     loop-holds
     mul-y
@@ -176,7 +182,7 @@ grant-spec =
     add-u
     loop-less
     loop-again
-    cast-t50
+    cast-t52
     same-length
     same-length-2
     returns)

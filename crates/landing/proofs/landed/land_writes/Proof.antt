@@ -1,5 +1,6 @@
 -- `landing::landed::land_writes` meets its contract. The loop's invariant: the files and the transactions found are those of the
 -- records landed so far. Assumes nothing.
+use mathlib.Core.Bool.{_&&_}
 use mathlib.Core.Path.{_≡_, sym, ap, _∙_}
 use lib.ListN.{length}
 use Prim.Native.Nat.{ℕ, _+_, _-_, _*_, _≤_, _<_}
@@ -16,15 +17,16 @@ use Rattle.landing.proofs.landed.land_writes.Statement.{statement}
 use Rattle.landing.proofs.landed.land_writes.Tie as tie
 
 abbrev Inv-loop : tie.InvT-loop
-Inv-loop files₀ logs marks journal filenumbers offsets t records seen₀ start₀ k₀ files seen start k =
+Inv-loop files₀ logs marks journal filenumbers offsets t watched records seen₀ start₀ k₀ files seen start k =
     (k ≤ records)
     × (files ≡ landFiles (bytesSet filenumbers offsets journal logs t k) files₀)
-    × ((u : ℕ) (y : Transaction) → u < 8 → contains seen u ≡ conflicts marks u y (bytesSet filenumbers offsets journal logs t k))
+    × ((u : ℕ) (y : Transaction) → u < 8
+    → contains seen u ≡ contains watched u && conflicts marks u y (bytesSet filenumbers offsets journal logs t k))
     × (start ≡ dataStart journal t k)
     × (length files ≡ 32768)
 
 abbrev μ-loop : tie.MeasureT-loop
-μ-loop files₀ logs marks journal filenumbers offsets t records seen₀ start₀ k₀ files seen start k = records - k
+μ-loop files₀ logs marks journal filenumbers offsets t watched records seen₀ start₀ k₀ files seen start k = records - k
 
 -- What the turn has read of its record.
 found : (c : tie.After-land-arg Inv-loop μ-loop) → let a = c .before .before .before .before .before .before .before .before .before .before .before .before .before .before .before .args in
@@ -69,7 +71,14 @@ mul-start c = search needs
 
 loop-holds : tie.Need-loop-holds Inv-loop μ-loop
 loop-holds c =
-    (omega arith, none-landed _ _ _ _ _ _, λ u y l. none-seen _ _ _ _ _ _ u y, none-started _ _, c .before .before .before .before .pre .files)
+    let a = c .before .before .before .before .args in (
+      omega arith,
+      none-landed _ _ _ _ _ _,
+      λ u y l. none-seen (a .filenumbers .now) (a .offsets .now) (a .journal .now) (a .logs .now) (a .t) (a .marks .now) u y
+          (contains (a .watched) u),
+      none-started _ _,
+      c .before .before .before .before .pre .files,
+    )
 
 record-at-requires : tie.Need-record-at-requires Inv-loop μ-loop
 record-at-requires c κs = (c .before .before .before .before .before .before .pre .small, omega (arith, c .loop-test .taken, c .before .before .wide-octet .ensures, c .before .before .before .before .before .before .pre .records))
@@ -114,7 +123,10 @@ add-markers : tie.Need-add-markers Inv-loop μ-loop
 add-markers c = let n = inside (c .before .before .before .before) in omega arith
 
 markers-requires : tie.Need-markers-requires Inv-loop μ-loop
-markers-requires c κs = omega (arith, inside (c .before .before .before .before), c .before .before .before .before .before .before .before .before .before .before .before .before .before .before .before .before .before .before .before .pre .marks)
+markers-requires c κs =
+    let marks = c .before .before .before .before .before .before .before .before .before .before .before .before .before .before .before .before .before .before .before .pre .marks in
+    let n = inside (c .before .before .before .before) in
+    (omega arith, marks)
 
 joined-requires : tie.Need-joined-requires Inv-loop μ-loop
 joined-requires c κs = search needs
@@ -137,7 +149,8 @@ loop-again c =
     let h : 4096 * c .before .before .before .before .before .before .before .wide-octet2 .result + c .before .before .before .before .before .before .before .before .before .lands-at .result + c .before .before .before .before .before .before .before .before .before .before .before .before .wide2 .result ≤ 32768 = omega (arith, n) in (
       omega arith,
       land-more r (a .logs .now) (n .2) (a .files .now) (l .files) (c .before .before .before .before .land .last .0) (l .inv .1) (rw (l .inv .4) h) _ (c .before .before .before .before .before .part .ensures) (c .before .before .before .before .land .ensures),
-      λ u y g. seen-more r (a .logs .now) (n .2) (a .marks .now) u y _ _ _ (c .joined .ensures u) (l .inv .2 u y g) (c .before .markers .ensures u g),
+      λ u y g. seen-more r (a .logs .now) (n .2) (a .marks .now) u y (contains (a .watched) u) _ _ _
+          (c .joined .ensures u) (l .inv .2 u y g) (c .before .markers .ensures u g),
       start-more r (a .logs .now) (n .2),
       c .before .before .before .before .land .kept .0 ∙ l .inv .4,
     )
@@ -152,7 +165,7 @@ returns c =
     let ss = bytesSet (a .filenumbers .now) (a .offsets .now) (a .journal .now) (a .logs .now) (a .t) in
     let e : l .k ≡ a .used .records = omega arith in (
       l .inv .1 ∙ ap (λ (n : ℕ). landFiles (ss n) (a .files .now)) e,
-      λ u y g. l .inv .2 u y g ∙ ap (λ (n : ℕ). conflicts (a .marks .now) u y (ss n)) e,
+      λ u y g. l .inv .2 u y g ∙ ap (λ (n : ℕ). contains (a .watched) u && conflicts (a .marks .now) u y (ss n)) e,
     )
 
 pub land-writes-spec : {M : Type 1} → statement M

@@ -8,7 +8,7 @@ use Prim.Native.Nat.{_-_, _≤_}
 use native.Mathlib.Omega.{arith}
 use Rattle.octets.specs.Bits.{bitsOf}
 use Rattle.landing.specs.Staling.{isRaised}
-use Rattle.landing.proofs.StaleLaws.{gathered, passed-by}
+use Rattle.octets.proofs.SetLaws.{gathered, passed-by}
 use borrow.Author.Needs.{needs}
 use Rattle.landing.proofs.staled.lengths_raised.Statement.{statement}
 use Rattle.landing.proofs.staled.lengths_raised.Tie as tie

@@ -6,7 +6,7 @@ use native.Mathlib.Omega.{arith}
 use Rattle.octets.specs.Bits.{withBit, bitsOf}
 use Rattle.rules.specs.Commits.{setsOffset}
 use Rattle.landing.specs.Landing.{descriptorsOnly}
-use Rattle.landing.proofs.StaleLaws.{gathered, passed-by}
+use Rattle.octets.proofs.SetLaws.{gathered, passed-by}
 use borrow.Author.Needs.{needs}
 use Rattle.landing.proofs.staled.offsets_set.Statement.{statement}
 use Rattle.landing.proofs.staled.offsets_set.Tie as tie

@@ -1,88 +1,75 @@
--- `octets::marks::mark` meets its contract. The loop's invariant: the first i places of the stretch are marked. Assumes nothing.
-use mathlib.Core.Path.{_≡_, sym, ap, ap₂, _∙_}
-use mathlib.Core.List.{List}
-use Prim.Native.Nat.{ℕ, _+_, _-_, _≤_}
+-- `octets::marks::mark` meets its contract. Assumes nothing.
+use mathlib.Core.Path.{ap, _∙_}
+use Prim.Native.Nat.{_+_, _-_, _*_, _/_}
 use native.Mathlib.Omega.{arith}
-use lib.Bits.{bitOr}
-use lib.ListN.{length, getD, set, length-set}
-use Rattle.octets.specs.Bits.{withBit}
-use Rattle.octets.specs.Marks.{withMark, withMarks}
-use Rattle.octets.proofs.BitLaws.{shift-one}
-use Rattle.octets.proofs.MarkLaws.{with-marks-none, with-marks-more}
+use Rattle.octets.specs.Marks.{withMarks}
+use Rattle.octets.proofs.MarkLaws.{with-marks-parts}
+use borrow.Author.Needs.{needs}
 use Rattle.octets.proofs.marks.mark.Statement.{statement}
 use Rattle.octets.proofs.marks.mark.Tie as tie
 
-abbrev Inv-loop : tie.InvT-loop
-Inv-loop marks₀ t from n mask i₀ marks i =
-    (i ≤ n) × ((marks ≡ withMarks t from i marks₀) × (length marks ≡ length marks₀))
+sub-smaller : tie.Need-sub-smaller
+sub-smaller c = search needs
 
-abbrev μ-loop : tie.MeasureT-loop
-μ-loop marks₀ t from n mask i₀ marks i = n - i
+smaller-requires : tie.Need-smaller-requires
+smaller-requires c κs = search needs
 
-cast-mask : tie.Need-cast-mask Inv-loop μ-loop
-cast-mask c = omega arith
+sub-whole : tie.Need-sub-whole
+sub-whole c = search needs
 
-shl-mask : tie.Need-shl-mask Inv-loop μ-loop
-shl-mask c = omega arith
+mul-done : tie.Need-mul-done
+mul-done c = search needs
 
-loop-holds : tie.Need-loop-holds Inv-loop μ-loop
-loop-holds c = (omega arith, (sym (with-marks-none (c .args .t) (c .args .from) (c .args .marks .now)), omega arith))
+add-done : tie.Need-add-done
+add-done c = search needs
 
-add-marks : tie.Need-add-marks Inv-loop μ-loop
-add-marks c = omega arith
+mark-bits-requires : tie.Need-mark-bits-requires
+mark-bits-requires c κs = search needs
 
-slice-read-marks : tie.Need-slice-read-marks Inv-loop μ-loop
-slice-read-marks c = omega arith
+add-mark-octets : tie.Need-add-mark-octets
+add-mark-octets c = search needs
 
-add-marks-2 : tie.Need-add-marks-2 Inv-loop μ-loop
-add-marks-2 c = omega arith
+mark-octets-requires : tie.Need-mark-octets-requires
+mark-octets-requires c κs = search needs
 
-slice-write-marks : tie.Need-slice-write-marks Inv-loop μ-loop
-slice-write-marks c = omega arith
+add-mark-bits : tie.Need-add-mark-bits
+add-mark-bits c = search needs
 
-add-i : tie.Need-add-i Inv-loop μ-loop
-add-i c = omega arith
+sub-mark-bits : tie.Need-sub-mark-bits
+sub-mark-bits c = search needs
 
-loop-less : tie.Need-loop-less Inv-loop μ-loop
-loop-less c = omega arith
+mark-bits-requires-2 : tie.Need-mark-bits-requires-2
+mark-bits-requires-2 c κs = search needs
 
-loop-again : tie.Need-loop-again Inv-loop μ-loop
-unfolding withMark withBit
-loop-again c =
-    let l = c .before .before .loop in
-    let a = c .before .before .before .args in
-    let j = a .from + l .i in (
-      omega arith,
-      (
-        ap₂ (λ (d : List ℕ) (m : ℕ). set d j (bitOr (getD d j 0) m)) (l .inv .1 .0) (shift-one 8 (a .t) (omega arith))
-            ∙ sym (with-marks-more (a .t) (a .from) (l .i) (a .marks .now)),
-        simp length-set (omega arith),
-      ),
-    )
+same-length : tie.Need-same-length
+same-length c = search needs
 
-same-length : tie.Need-same-length Inv-loop μ-loop
-same-length c = omega arith
-
-returns : tie.Need-returns Inv-loop μ-loop
+returns : tie.Need-returns
 returns c =
-    let a = c .before .before .args in
-    c .before .loop .inv .1 .0 ∙ ap (λ (k : ℕ). withMarks (a .t) (a .from) k (a .marks .now)) (omega arith)
+    let a = c .before .before .before .before .before .before .before .before .before .before .before .before .before .before .args in
+    let head = c .before .before .before .before .before .before .before .before .before .before .before .before .smaller .result in
+    let whole = (a .n - head) / 8 in
+    let done = head + whole * 8 in
+    c .before .before .mark-bits2 .ensures
+    ∙ ap (withMarks (a .t) (a .from + done) (a .n - done))
+    (c .before .before .before .before .before .before .mark-octets .ensures
+    ∙ ap (withMarks (a .t) (a .from + head) (8 * whole)) (c .before .before .before .before .before .before .before .before .before .before .mark-bits .ensures))
+    ∙ with-marks-parts (a .t) (a .from) (a .n) head whole (a .marks .now) (omega arith)
 
 pub mark-spec : {M : Type 1} → statement M
 mark-spec =
     tie.close
     (tie.spec
-    Inv-loop
-    μ-loop
-    cast-mask
-    shl-mask
-    loop-holds
-    add-marks
-    slice-read-marks
-    add-marks-2
-    slice-write-marks
-    add-i
-    loop-less
-    loop-again
+    sub-smaller
+    smaller-requires
+    sub-whole
+    mul-done
+    add-done
+    mark-bits-requires
+    add-mark-octets
+    mark-octets-requires
+    add-mark-bits
+    sub-mark-bits
+    mark-bits-requires-2
     same-length
     returns)

@@ -27,66 +27,30 @@ extern "C" {
         stamps_len: usize,
         rounds: usize,
     ) -> u64;
+
+    fn bench_calls_repeat(
+        files: *mut u8,
+        files_len: usize,
+        logs: *mut u8,
+        logs_len: usize,
+        marks: *mut u8,
+        marks_len: usize,
+        setup: *const u8,
+        setup_len: usize,
+        data: *const u8,
+        data_len: usize,
+        reader: *mut u8,
+        reader_len: usize,
+        said: *mut u8,
+        said_len: usize,
+        kind: usize,
+        count: usize,
+        size: usize,
+        rounds: usize,
+    ) -> u64;
 }
 
-/// A loop of the archive: setup first, then so many rounds.
-type Loop = unsafe extern "C" fn(
-    *mut u8,
-    usize,
-    *mut u8,
-    usize,
-    *mut u8,
-    usize,
-    *const u8,
-    usize,
-    *const u8,
-    usize,
-    *mut u8,
-    usize,
-    *mut u8,
-    usize,
-    usize,
-    usize,
-    usize,
-) -> u64;
-
-macro_rules! loops {
-    ($($name:ident),*) => {
-        extern "C" {
-            $(fn $name(
-                files: *mut u8,
-                files_len: usize,
-                logs: *mut u8,
-                logs_len: usize,
-                marks: *mut u8,
-                marks_len: usize,
-                setup: *const u8,
-                setup_len: usize,
-                data: *const u8,
-                data_len: usize,
-                reader: *mut u8,
-                reader_len: usize,
-                said: *mut u8,
-                said_len: usize,
-                count: usize,
-                size: usize,
-                rounds: usize,
-            ) -> u64;)*
-        }
-    };
-}
-
-loops!(
-    bench_calls_seeks,
-    bench_calls_pointers,
-    bench_calls_batches,
-    bench_calls_reads,
-    bench_calls_drops,
-    bench_calls_commits,
-    bench_calls_lands
-);
-
-/// The loops of one kind of call. Each is written twice: in the crate `bench_calls`, and in `repeat_twin` for the twin.
+/// The loops of one kind of call, numbered as in the crate `bench_calls`. Each is written twice: there, and in `repeat_twin` for the twin.
 #[derive(Clone, Copy, PartialEq, Debug)]
 pub enum Kind {
     /// A Seek of transaction 0 on descriptor 0.
@@ -103,20 +67,6 @@ pub enum Kind {
     Commits,
     /// Begin, Seek to 0, Write of `size` bytes and Commit of transaction 7, on descriptor 0.
     Lands,
-}
-
-impl Kind {
-    fn proved(self) -> Loop {
-        match self {
-            Kind::Seeks => bench_calls_seeks,
-            Kind::Pointers => bench_calls_pointers,
-            Kind::Batches => bench_calls_batches,
-            Kind::Reads => bench_calls_reads,
-            Kind::Drops => bench_calls_drops,
-            Kind::Commits => bench_calls_commits,
-            Kind::Lands => bench_calls_lands,
-        }
-    }
 }
 
 #[derive(Clone, Copy, PartialEq)]
@@ -217,7 +167,7 @@ impl Buffers {
 
     fn repeat_proved(&mut self, kind: Kind, setup: &Script, count: usize, size: usize, rounds: usize) {
         self.sum = unsafe {
-            kind.proved()(
+            bench_calls_repeat(
                 self.files.as_mut_ptr(),
                 self.files.len(),
                 self.logs.as_mut_ptr(),
@@ -232,6 +182,7 @@ impl Buffers {
                 self.reader.len(),
                 self.said.as_mut_ptr(),
                 self.said.len(),
+                kind as usize,
                 count,
                 size,
                 rounds,

@@ -3,6 +3,7 @@
 mod loops;
 mod script;
 
+use loops::Turns;
 use record::journal::NUMBERS;
 use script::Passed;
 
@@ -84,9 +85,10 @@ fn prepared(
     )
 }
 
-// Seeks.
+// Runs the script `setup` once and then the loop of one kind (`loops`) so many rounds: with so many Writes in a batch, and Writes and Reads
+// of so many bytes.
 #[no_mangle]
-pub extern "C" fn bench_calls_seeks(
+pub extern "C" fn bench_calls_repeat(
     files: &mut [u8],
     logs: &mut [u8],
     marks: &mut [u8],
@@ -94,149 +96,20 @@ pub extern "C" fn bench_calls_seeks(
     data: &[u8],
     reader: &mut [u8],
     said: &mut [u8],
+    kind: usize,
     count: usize,
     size: usize,
     rounds: usize,
 ) -> u64 {
     let mut journal = [0u16; NUMBERS];
     let p = prepared(&mut journal, files, logs, marks, setup, data, reader, said);
-    let q = loops::seeks(p, &mut journal, files, logs, marks, rounds);
-    q.sum
-}
-
-// GetFilePointers.
-#[no_mangle]
-pub extern "C" fn bench_calls_pointers(
-    files: &mut [u8],
-    logs: &mut [u8],
-    marks: &mut [u8],
-    setup: &[u8],
-    data: &[u8],
-    reader: &mut [u8],
-    said: &mut [u8],
-    count: usize,
-    size: usize,
-    rounds: usize,
-) -> u64 {
-    let mut journal = [0u16; NUMBERS];
-    let p = prepared(&mut journal, files, logs, marks, setup, data, reader, said);
-    let q = loops::pointers(p, &mut journal, files, logs, marks, rounds);
-    q.sum
-}
-
-// Batches of so many Writes, each of so many bytes.
-#[no_mangle]
-pub extern "C" fn bench_calls_batches(
-    files: &mut [u8],
-    logs: &mut [u8],
-    marks: &mut [u8],
-    setup: &[u8],
-    data: &[u8],
-    reader: &mut [u8],
-    said: &mut [u8],
-    count: usize,
-    size: usize,
-    rounds: usize,
-) -> u64 {
-    let mut journal = [0u16; NUMBERS];
-    let p = prepared(&mut journal, files, logs, marks, setup, data, reader, said);
-    let q = loops::batches(
-        p,
-        &mut journal,
-        files,
-        logs,
-        marks,
-        script::named(data, 16, size),
+    let bytes = script::named(data, 16, size);
+    let turns = Turns {
+        kind,
         count,
+        size,
         rounds,
-    );
-    q.sum
-}
-
-// A Seek and a Read of so many bytes.
-#[no_mangle]
-pub extern "C" fn bench_calls_reads(
-    files: &mut [u8],
-    logs: &mut [u8],
-    marks: &mut [u8],
-    setup: &[u8],
-    data: &[u8],
-    reader: &mut [u8],
-    said: &mut [u8],
-    count: usize,
-    size: usize,
-    rounds: usize,
-) -> u64 {
-    let mut journal = [0u16; NUMBERS];
-    let p = prepared(&mut journal, files, logs, marks, setup, data, reader, said);
-    let q = loops::reads(p, &mut journal, files, logs, marks, reader, size, rounds);
-    q.sum
-}
-
-// Begin and Abort.
-#[no_mangle]
-pub extern "C" fn bench_calls_drops(
-    files: &mut [u8],
-    logs: &mut [u8],
-    marks: &mut [u8],
-    setup: &[u8],
-    data: &[u8],
-    reader: &mut [u8],
-    said: &mut [u8],
-    count: usize,
-    size: usize,
-    rounds: usize,
-) -> u64 {
-    let mut journal = [0u16; NUMBERS];
-    let p = prepared(&mut journal, files, logs, marks, setup, data, reader, said);
-    let q = loops::drops(p, &mut journal, files, logs, marks, rounds);
-    q.sum
-}
-
-// Begin and Commit.
-#[no_mangle]
-pub extern "C" fn bench_calls_commits(
-    files: &mut [u8],
-    logs: &mut [u8],
-    marks: &mut [u8],
-    setup: &[u8],
-    data: &[u8],
-    reader: &mut [u8],
-    said: &mut [u8],
-    count: usize,
-    size: usize,
-    rounds: usize,
-) -> u64 {
-    let mut journal = [0u16; NUMBERS];
-    let p = prepared(&mut journal, files, logs, marks, setup, data, reader, said);
-    let q = loops::commits(p, &mut journal, files, logs, marks, rounds);
-    q.sum
-}
-
-// Begin, Seek, Write of so many bytes, and Commit.
-#[no_mangle]
-pub extern "C" fn bench_calls_lands(
-    files: &mut [u8],
-    logs: &mut [u8],
-    marks: &mut [u8],
-    setup: &[u8],
-    data: &[u8],
-    reader: &mut [u8],
-    said: &mut [u8],
-    count: usize,
-    size: usize,
-    rounds: usize,
-) -> u64 {
-    let mut journal = [0u16; NUMBERS];
-    let p = prepared(&mut journal, files, logs, marks, setup, data, reader, said);
-    let q = loops::lands(
-        p,
-        &mut journal,
-        files,
-        logs,
-        marks,
-        script::named(data, 16, size),
-        rounds,
-    );
+    };
+    let q = loops::repeated(p, &mut journal, files, logs, marks, bytes, reader, turns);
     q.sum
 }

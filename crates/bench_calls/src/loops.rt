@@ -254,3 +254,48 @@ pub fn lands(
     }
     Passed { store: s, sum }
 }
+
+// Which loop, and its numbers: Writes in a batch, bytes of a Write or Read, rounds.
+pub struct Turns {
+    pub kind: usize,
+    pub count: usize,
+    pub size: usize,
+    pub rounds: usize,
+}
+
+// The loop of a kind: 0 Seeks, 1 GetFilePointers, 2 batches of Writes, 3 Reads, 4 Begin and Abort, 5 Begin and Commit, 6 Begin, Seek, Write
+// and Commit. Another kind is none.
+pub fn repeated(
+    p: Passed,
+    journal: &mut [u16; NUMBERS],
+    files: &mut [u8],
+    logs: &mut [u8],
+    marks: &mut [u8],
+    bytes: &[u8],
+    reader: &mut [u8],
+    turns: Turns,
+) -> Passed {
+    let n = turns.rounds;
+    if turns.kind == 0 {
+        return seeks(p, journal, files, logs, marks, n);
+    }
+    if turns.kind == 1 {
+        return pointers(p, journal, files, logs, marks, n);
+    }
+    if turns.kind == 2 {
+        return batches(p, journal, files, logs, marks, bytes, turns.count, n);
+    }
+    if turns.kind == 3 {
+        return reads(p, journal, files, logs, marks, reader, turns.size, n);
+    }
+    if turns.kind == 4 {
+        return drops(p, journal, files, logs, marks, n);
+    }
+    if turns.kind == 5 {
+        return commits(p, journal, files, logs, marks, n);
+    }
+    if turns.kind == 6 {
+        return lands(p, journal, files, logs, marks, bytes, n);
+    }
+    p
+}

@@ -22,6 +22,11 @@ use Rattle.landing.specs.Staling.{some, knowsOffset, knowsLength, goesSt
 
 -- ---- a test of some number below a bound
 
+pub some-none : (p : ℕ → Bool) (n : ℕ) → ((i : ℕ) → p i ≡ false) → some p n ≡ false
+unfolding some
+some-none p zero none = refl
+some-none p (suc n) none = ap₂ _||_ (some-none p n none) (none n)
+
 module _ (p : ℕ → Bool) where
   pub some-zero : some p 0 ≡ false
   unfolding some

@@ -48,6 +48,9 @@ pub fn offsets_set(x: Transaction) -> u16
 fn knows_one_of(y: Transaction, set: u16) -> bool
     ensures { λ r. ⌜ r ≡ some (knowsOffset y set) 16 ⌝ }
 {
+    if set == 0 {
+        return false;
+    }
     let mut d = 0;
     while d < DESCRIPTORS {
         if sets::contains(set, d) {
@@ -81,6 +84,9 @@ pub fn lengths_raised<'a>(before: &'a [u16; FILES], after: &'a [u16; FILES]) -> 
 fn knows_length(y: Transaction, raised: u16) -> bool
     ensures { λ r. ⌜ r ≡ some (knowsLength y raised) 8 ⌝ }
 {
+    if raised == 0 {
+        return false;
+    }
     let octet = y.lengthmarks;
     let mut f = 0;
     while f < FILES {

@@ -44,8 +44,10 @@ returns-2 c =
     let a = c .before .before .before .before .before .before .args in
     let head = c .before .before .before .before .smaller .result in
     sym (has-in-parts (a .marks .now) (a .t) (a .from) (a .n) head ((a .n - head) / 8) (omega arith)
-    ∙ rw (sym (c .before .before .before .has-mark-in-bits .ensures) ∙ c .before .before .if1 .left,
-    sym (c .before .has-mark-in-octets .ensures) ∙ c .if2 .taken))
+    ∙ rw (
+      sym (c .before .before .before .has-mark-in-bits .ensures) ∙ c .before .before .if1 .left,
+      sym (c .before .has-mark-in-octets .ensures) ∙ c .if2 .taken,
+    ))
 
 add-has-mark-in-bits : tie.Need-add-has-mark-in-bits
 add-has-mark-in-bits c = search needs

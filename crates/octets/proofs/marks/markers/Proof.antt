@@ -44,13 +44,22 @@ loop-again c =
     let l = c .before .before .before .loop in
     let p : ℕ → Bool = λ v. contains (a .watched) v && hasMarkIn (a .marks .now) v (a .from) (a .n) in
     let watched = sym (c .before .contains .ensures) in
-    ⊎-elim (λ w. (omega arith, w .4 ∙ w .3 .ensures ∙ gathered p (l .found) (l .u) (l .inv .1)
-    (ap₂ _&&_ (watched ∙ w .0 .taken) (sym (w .1 .ensures) ∙ w .2 .taken))))
+    ⊎-elim (λ w. (
+      omega arith,
+      w .4 ∙ w .3 .ensures ∙ gathered p (l .found) (l .u) (l .inv .1)
+          (ap₂ _&&_ (watched ∙ w .0 .taken) (sym (w .1 .ensures) ∙ w .2 .taken)),
+    ))
     (⊎-elim
-    (λ w. (omega arith, w .3 ∙ passed-by p (l .found) (l .u) (l .inv .1)
-    (ap₂ _&&_ (watched ∙ w .0 .taken) (sym (w .1 .ensures) ∙ w .2 .left))))
-    (λ w. (omega arith, w .1 ∙ passed-by p (l .found) (l .u) (l .inv .1)
-    (ap (λ (b : Bool). b && hasMarkIn (a .marks .now) (l .u) (a .from) (a .n)) (watched ∙ w .0 .left)))))
+    (λ w. (
+      omega arith,
+      w .3 ∙ passed-by p (l .found) (l .u) (l .inv .1)
+          (ap₂ _&&_ (watched ∙ w .0 .taken) (sym (w .1 .ensures) ∙ w .2 .left)),
+    ))
+    (λ w. (
+      omega arith,
+      w .1 ∙ passed-by p (l .found) (l .u) (l .inv .1)
+          (ap (λ (b : Bool). b && hasMarkIn (a .marks .now) (l .u) (a .from) (a .n)) (watched ∙ w .0 .left)),
+    )))
     (c .if1 .came)
 
 returns : tie.Need-returns Inv-loop μ-loop

@@ -20,9 +20,9 @@ ghost use Rattle.rules.specs.Calls.{commitTurn};
 ghost use Rattle.rules.specs.Promises.{Meets};
 ghost use Rattle.landing.specs.Landing.{offsetsOnly, descriptorsOnly, CanLand};
 
-// Grants the commit of transaction t, which is not stale and whose placing fits: lands its writes in call order, raises lengths,
-// sets its offsets and ends it. Every other open transaction that has sighted a byte, offset or length just set is stale from then on; the answer is the octet of
-// those that were not so before, and only they are written anew.
+// Grants the commit of transaction t, which is not stale and whose placing fits: lands its writes in call order, raises lengths, sets its
+// offsets and ends it. Every other open transaction that has sighted a byte, offset or length just set is stale from then on; the answer is
+// the octet of those that were not so before, and only they are written anew.
 pub fn grant(
     mut s: Store,
     journal: &[u16; NUMBERS],

@@ -75,8 +75,12 @@ fn table_of_calls(effort: &Effort) {
         let ratio = cost.proved / cost.twin;
         let figure = format!("{}; 8 open, {} records each", case.name, counts[i / each]);
         let twin = format!("twin {}", nanoseconds(cost.twin));
-        row(&figure, &nanoseconds(cost.proved), &twin, ratio, "≤ 1.5", Some(ratio <= 1.5));
+        row(&figure, &nanoseconds(cost.proved), &twin, ratio, "≤ 1.3", Some(ratio <= 1.3));
     }
+    let mut ratios: Vec<f64> = of_calls.iter().map(|cost| cost.proved / cost.twin).collect();
+    ratios.sort_by(f64::total_cmp);
+    let median = (ratios[(ratios.len() - 1) / 2] + ratios[ratios.len() / 2]) / 2.0;
+    row("The median of these", "", "", median, "≤ 0.95", Some(median <= 0.95));
     let memcpy = calls::memcpy(4096, effort);
     for (i, name) in ["Read", "Write"].into_iter().enumerate() {
         let (whole, fixed) = (sized[i], sized[i + 2]);
@@ -194,12 +198,12 @@ fn table_of_day(effort: &Effort) {
     let (proved, twin, peers) = (&aired[0], &aired[1], &aired[2..]);
     let said = |other: &Aired| format!("{} {}", other.name, other.say());
     let day_of = format!("Day on air, {} commits in {} calls", day::commits(&day), day.len());
-    row(&day_of, &proved.say(), &said(twin), proved.rate / twin.rate, "", None);
-    let fastest = peers.iter().map(|peer| peer.rate).fold(0.0, f64::max);
+    let ratio = proved.rate / twin.rate;
+    row(&day_of, &proved.say(), &said(twin), ratio, "≥ 1.25", Some(ratio >= 1.25));
     for peer in peers {
         let ratio = proved.rate / peer.rate;
-        let (target, met) =
-            if peer.rate == fastest { ("≥ 10 (fastest peer)", Some(ratio >= 10.0)) } else { ("", None) };
+        let ahead = peer.name == "LMDB, one after another";
+        let (target, met) = if ahead { ("> 1", Some(ratio > 1.0)) } else { ("", None) };
         row("Day on air", &format!("{:.0}/s", proved.rate), &said(peer), ratio, target, met);
     }
     let wrong = proved.tally.granted_by_machine;

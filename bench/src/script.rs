@@ -83,6 +83,10 @@ impl Script {
         self.with(COMMIT, t, 0, 0, 0)
     }
 
+    pub fn abort(self, t: usize) -> Script {
+        self.with(ABORT, t, 0, 0, 0)
+    }
+
     /// A transaction that fills the file of descriptor d.
     pub fn filled(self, t: usize, d: usize) -> Script {
         self.begin(t).seek(t, d, 0).write(t, d, 4096).seek(t, d, 0).commit(t)

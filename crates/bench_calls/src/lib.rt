@@ -1,115 +1,177 @@
-// Loops of store calls over a record that is held inside, exported for bench/ to time. Each runs the script `setup` first (`script`), and
-// answers a sum of what the calls answered, so that nothing of them can be left out.
-mod loops;
-mod script;
+// Scripts of store calls, run over a record and buffers that bench/ lends. A script is a list of steps of eight
+// octets: the kind of call, its transaction, its descriptor, an octet that is not looked at, and two numbers, low
+// octet first: how many octets (or the offset of a Seek), and where they start in `data`.
+use octets::parts;
+use record::layout::Record;
+use record::outcomes::Outcome;
+use requests::Request;
+ghost use Prim.Native.Nat.{_+_, _≤_};
+ghost use lib.ListN.{length};
 
-use loops::Turns;
-use record::journal::NUMBERS;
-use script::Passed;
+const STEP: usize = 8;
 
-// Runs the script `setup` once and then `body` so many rounds. The processor time in microseconds before each round goes to `stamps`, as
-// far as it has room. Answers the sum of the numbers that the calls answered.
-#[no_mangle]
-pub extern "C" fn bench_calls_run(
+// One step, its numbers widened.
+struct Step {
+    kind: u8,
+    t: usize,
+    d: usize,
+    n: usize,
+    from: usize,
+}
+
+fn wide(x: u8) -> usize
+    ensures { λ r. ⌜ r ≤ 255 ⌝ }
+{
+    x as usize
+}
+
+fn number(low: u8, high: u8) -> usize {
+    wide(low) + 256 * wide(high)
+}
+
+// The step at octet `at` of the script.
+fn step_at(script: &[u8], at: usize) -> Step
+    requires { ⌜ at + 8 ≤ length (now script) ⌝ }
+{
+    Step {
+        kind: script[at],
+        t: wide(script[at + 1]),
+        d: wide(script[at + 2]),
+        n: number(script[at + 4], script[at + 5]),
+        from: number(script[at + 6], script[at + 7]),
+    }
+}
+
+// The part of data that a step names, or all of data where it reaches past the end.
+fn named<'a>(data: &'a [u8], from: usize, n: usize) -> &'a [u8] {
+    if data.len() < from {
+        return data;
+    }
+    if data.len() - from < n {
+        return data;
+    }
+    parts::part(data, from, n)
+}
+
+// The call of a step that is no Fresh. A kind above 7 is an Abort too.
+fn request(s: Step) -> Request {
+    let kind = s.kind;
+    match kind {
+        1 => Request::Begin(s.t),
+        2 => Request::Seek(s.t, s.d, s.n),
+        3 => Request::Write(s.t, s.d),
+        4 => Request::GetFilePointer(s.t, s.d),
+        5 => Request::Read(s.t, s.d, s.n),
+        6 => Request::Commit(s.t),
+        _ => Request::Abort(s.t),
+    }
+}
+
+// Makes the call of a step. Kind 0 is Fresh.
+fn made(
+    kept: &mut Record,
     files: &mut [u8],
     logs: &mut [u8],
     marks: &mut [u8],
-    setup: &[u8],
-    body: &[u8],
+    s: Step,
+    data: &[u8],
+    reader: &mut [u8],
+) -> Outcome {
+    let bytes = named(data, s.from, s.n);
+    if s.kind == 0 {
+        return store::fresh(kept, files, logs, marks, bytes);
+    }
+    requests::perform(kept, files, logs, marks, request(s), bytes, reader)
+}
+
+// An outcome as one octet: 0 done, 1 an offset, 2 a count of bytes, 3 granted, 4 a count of pairs, and 10 more than a
+// refusal's number.
+fn code(o: Outcome) -> u8 {
+    match o {
+        Outcome::Done => 0,
+        Outcome::Offset(_) => 1,
+        Outcome::Given(_) => 2,
+        Outcome::Granted(_) => 3,
+        Outcome::Pairs(_) => 4,
+        Outcome::Refused(r) => std::num::wrapping_add_u8(10, r.number()),
+    }
+}
+
+// The number that an outcome carries.
+fn answered(o: Outcome) -> u64 {
+    match o {
+        Outcome::Done => 0,
+        Outcome::Offset(n) => n as u64,
+        Outcome::Given(n) => n as u64,
+        Outcome::Granted(n) => n as u64,
+        Outcome::Pairs(n) => n as u64,
+        Outcome::Refused(_) => 0,
+    }
+}
+
+// Puts x at i, if there is room.
+fn note(said: &mut [u8], i: usize, x: u8) {
+    if i < said.len() {
+        said[i] = x;
+    }
+}
+
+// Puts the processor time in microseconds at i, if there is room.
+fn stamp(stamps: &mut [i64], i: usize) {
+    if i < stamps.len() {
+        stamps[i] = libc::clock();
+    }
+}
+
+// Runs the script once. The code of each step's outcome goes to `said`, as far as it has room. Answers the sum of the
+// numbers that the calls answered, modulo 2 to the power 64.
+fn pass(
+    kept: &mut Record,
+    files: &mut [u8],
+    logs: &mut [u8],
+    marks: &mut [u8],
+    script: &[u8],
+    data: &[u8],
+    reader: &mut [u8],
+    said: &mut [u8],
+) -> u64 {
+    let mut sum = 0;
+    let mut start = 0;
+    let mut i = 0;
+    while STEP <= script.len() - start {
+        let at = i;
+        let s = step_at(script, start);
+        start += STEP;
+        i += 1;
+        let o = made(kept, files, logs, marks, s, data, reader);
+        sum = std::num::wrapping_add_u64(sum, answered(o));
+        note(said, at, code(o));
+    }
+    sum
+}
+
+// Runs the script so many rounds. The processor time in microseconds before each round goes to `stamps`, as far as it
+// has room. Answers the sum of the numbers that the calls answered.
+#[no_mangle]
+pub extern "C" fn bench_calls_run(
+    kept: &mut Record,
+    files: &mut [u8],
+    logs: &mut [u8],
+    marks: &mut [u8],
+    script: &[u8],
     data: &[u8],
     reader: &mut [u8],
     said: &mut [u8],
     stamps: &mut [i64],
     rounds: usize,
 ) -> u64 {
-    let mut journal = [0u16; NUMBERS];
-    let first = Passed {
-        store: record::blank(),
-        sum: 0,
-    };
-    let mut p = script::pass(
-        first,
-        &mut journal,
-        files,
-        logs,
-        marks,
-        setup,
-        data,
-        reader,
-        said,
-    );
-    let mut left = rounds;
-    while 0 < left {
-        script::stamp(stamps, rounds - left);
-        left -= 1;
-        p = script::pass(
-            p,
-            &mut journal,
-            files,
-            logs,
-            marks,
-            body,
-            data,
-            reader,
-            said,
-        );
+    let mut sum = 0;
+    let mut i = 0;
+    while i < rounds {
+        stamp(stamps, i);
+        i += 1;
+        let told = pass(kept, files, logs, marks, script, data, reader, said);
+        sum = std::num::wrapping_add_u64(sum, told);
     }
-    p.sum
-}
-
-// The record after `setup`.
-fn prepared(
-    journal: &mut [u16; NUMBERS],
-    files: &mut [u8],
-    logs: &mut [u8],
-    marks: &mut [u8],
-    setup: &[u8],
-    data: &[u8],
-    reader: &mut [u8],
-    said: &mut [u8],
-) -> Passed {
-    let first = Passed {
-        store: record::blank(),
-        sum: 0,
-    };
-    script::pass(
-        first,
-        journal,
-        files,
-        logs,
-        marks,
-        setup,
-        data,
-        reader,
-        said,
-    )
-}
-
-// Runs the script `setup` once and then the loop of one kind (`loops`) so many rounds: with so many Writes in a batch, and Writes and Reads
-// of so many bytes.
-#[no_mangle]
-pub extern "C" fn bench_calls_repeat(
-    files: &mut [u8],
-    logs: &mut [u8],
-    marks: &mut [u8],
-    setup: &[u8],
-    data: &[u8],
-    reader: &mut [u8],
-    said: &mut [u8],
-    kind: usize,
-    count: usize,
-    size: usize,
-    rounds: usize,
-) -> u64 {
-    let mut journal = [0u16; NUMBERS];
-    let p = prepared(&mut journal, files, logs, marks, setup, data, reader, said);
-    let bytes = script::named(data, 16, size);
-    let turns = Turns {
-        kind,
-        count,
-        size,
-        rounds,
-    };
-    let q = loops::repeated(p, &mut journal, files, logs, marks, bytes, reader, turns);
-    q.sum
+    sum
 }

@@ -1,35 +1,49 @@
 -- The rules of Commit after each of its tests: stale, past the end, granted.
-use mathlib.Core.Bool.{Bool, true, false, _&&_, false≢true}
-use mathlib.Core.List.{List, []}
-use mathlib.Core.Path.{_≡_, refl, sym, ap, ap₂, _∙_}
-use lib.ListN.{length}
+use mathlib.Core.Bool.{Bool, true, false, cond, not, _&&_, _||_, false≢true}
+use mathlib.Core.List.{List, [], _++_}
+use mathlib.Core.Path.{_≡_, refl, sym, ap, ap₂, _∙_, subst}
 use lib.Count.{ones}
-use Prim.Native.Nat.{ℕ, zero, suc, _<_}
-use Rattle.octets.specs.Marks.{withoutMarks, contains}
-use Rattle.octets.proofs.SetLaws.{ones-bits}
-use Rattle.record.specs.declared.Store.{Store}
-use Rattle.record.specs.declared.Transaction.{Transaction}
-use Rattle.record.specs.declared.outcomes.Answer.{Answer}
-use Rattle.record.specs.declared.outcomes.Refusal.the-variants.{Stale}
-use Rattle.record.specs.declared.outcomes.Outcome.the-variants.{Granted, Refused}
-use Rattle.record.specs.State.{transaction, ended, withOffsets, withLengths, withTransactions, withTransaction}
-use Rattle.record.specs.Paper.{Said, plain, pointer, given, granted, pairs, refused, said}
+use lib.Dec.{eqb}
+use lib.ListN.{length, getD, set, drop}
+use lib.Seq.{drop-cons, getD-at, getD-set-same, getD-set-other}
+use borrow.Author.Tests.{eqb-true, eqb-false}
+use native.Mathlib.Omega.{arith}
+use Prim.Native.Nat.{ℕ, zero, suc, _+_, _<_}
 use Rattle.octets.specs.Bits.{bitsOf}
 use Rattle.octets.specs.Parts.{tabulate}
+use Rattle.octets.specs.Marks.{withoutMarks, contains}
+use Rattle.octets.proofs.SetLaws.{contains-bits, ones-bits}
+use Rattle.octets.proofs.TableLaws.{length-tabulate, table-same}
+use Rattle.record.specs.declared.Store.{Store}
+use Rattle.record.specs.declared.Transaction.{Transaction}
+use Rattle.record.specs.declared.outcomes.Refusal.the-variants.{Stale}
+use Rattle.record.specs.declared.outcomes.Outcome.the-variants.{Granted, Refused}
+use Rattle.record.specs.State.{transaction, noTransaction, ended, withStale, withOffsets, withLengths, withTransactions, withTransaction}
+use Rattle.record.specs.Layout.{storeOf, journalOf, withStaleAt, resetAt}
+use Rattle.record.specs.Paper.{Said, plain, pointer, given, granted, pairs, refused, number, said}
+use Rattle.record.proofs.LayoutLaws.{transaction-of, length-with-stale, store-with-stale, journal-with-stale, store-reset, journal-reset}
+use Rattle.record.proofs.Filled.{filled, filled-set, filled-kept}
 use Rattle.ranges.specs.Ranges.{admission}
-use Rattle.rules.specs.Commits.{fits, commitRefusal}
+use Rattle.rules.specs.Commits.{Setting, fits, commitRefusal}
 use Rattle.rules.specs.Messages.{commit}
-use Rattle.rules.specs.Machine.{Machine, lent, withStore, withMarking, sizes}
-use Rattle.rules.specs.Calls.{Turn, turnDown, reset, passing, admitted, landFiles, conflicts, becomesStale, commitDecided, commitGranted, commitTurn, formerNumber, call}
-use Rattle.landing.specs.Staling.{isWatched}
-use Rattle.landing.specs.Landing.{offsetsOnly, descriptorsOnly, CanLand}
-use Rattle.landing.proofs.LandLaws.{offsetsSet}
-use Rattle.landing.proofs.StaleLaws.{turned, passedOver}
-use Rattle.landing.proofs.Granted.{allSet, landedBytes, fits-is, files-are, offsets-are, lengths-are, landedLengths, raisedIn, offsetsIn, others, transactions-are, octet-is}
-use Rattle.rules.specs.Promises.{Meets}
+use Rattle.rules.specs.Machine.{Machine, lent, sizes}
+use Rattle.rules.specs.Calls.{Turn, turnDown, reset, passing, admitted, landFiles, landOffsets, landLengths, conflicts, staled, afterCommit, becomesStale, commitDecided, commitGranted, commitTurn, formerNumber, call}
+use Rattle.rules.specs.Promises.{Meets, machineOf, LeftAsFound}
+use Rattle.laws.proofs.Shapes.{shaped}
+use Rattle.landing.specs.Landing.{placesFit, withOffsetsOf, bytesSetIn, lengthsLandedIn, CanLandIn, Means}
+use Rattle.landing.proofs.OffsetLaws.{offsetsSet}
+use Rattle.landing.proofs.Landed.{allSet, fits-is, files-are, offsets-are, lengths-are}
+use Rattle.conflicts.specs.Staling.{staleBy}
+use Rattle.committing.specs.Granting.{CanGrant, staleIn, withStaleIn}
 use Rattle.refusing.proofs.Turns.{passing-on}
 
+-- ---- after each test
+
 module _ (t : ℕ) (m : Machine) where
+  -- All that a commit sets.
+  abbrev settingsOf : List Setting
+  settingsOf = allSet (m .store) (m .journal) (m .files) (m .logs) t
+
   -- A commit that is let through goes by its own turn.
   pub commit-on : admission (sizes m) (m .store) (m .journal) t ≡ 0 → call (commit t) m ≡ commitTurn t m
   unfolding call admitted
@@ -43,55 +57,180 @@ module _ (t : ℕ) (m : Machine) where
 
   module _ (fresh : transaction (m .store) t .stale ≡ false) where
     -- 12: "everything, the transaction open".
-    pub commit-past : fits (offsetsOnly (m .store .offsets)) (descriptorsOnly (transaction (m .store) t)) ≡ false → commitTurn t m ≡ turnDown 12 [] m
+    pub commit-past : placesFit (m .store) (transaction (m .store) t) ≡ false → commitTurn t m ≡ turnDown 12 [] m
     unfolding commitTurn commitRefusal commitDecided turnDown
-    commit-past e = rw (fresh, fits-is m t, e)
+    commit-past e = rw (fresh, fits-is (m .store) (m .journal) (m .files) (m .logs) t, e)
 
-    pub commit-granted : fits (offsetsOnly (m .store .offsets)) (descriptorsOnly (transaction (m .store) t)) ≡ true
-        → commitTurn t m ≡ commitGranted t (allSet m t) m
+    commit-granted : placesFit (m .store) (transaction (m .store) t) ≡ true → commitTurn t m ≡ commitGranted t settingsOf m
     unfolding commitTurn commitRefusal commitDecided
-    commit-granted e = rw (fresh, fits-is m t, e)
+    commit-granted e = rw (fresh, fits-is (m .store) (m .journal) (m .files) (m .logs) t, e)
 
-  pub stale-meets : (a : Answer) (w : Turn) (marks : List ℕ)
-      → w ≡ record { reply = record { answer = refused 13; buffer = [] }; after = reset t ended m }
-      → a .outcome ≡ Refused Stale → a .store ≡ withTransaction t ended (m .store) → marks ≡ withoutMarks t (m .marks)
-      → Meets w (a .outcome) (withStore (a .store) (withMarking marks m)) []
-  unfolding reset said
-  stale-meets a w marks e o s f =
-      rw e
-      (record {
-        outcome = ap said o;
-        machine = ap₂ (λ (x : Store) (l : List ℕ). withStore x (withMarking l m)) s f;
-        reader = refl;
-      })
+-- ---- a stale transaction ends
 
-  -- What the grant leaves, part by part.
-  pub granted-meets : (w : Turn) → w ≡ commitGranted t (allSet m t) m
-      → length (m .store .transactions) ≡ 8 → t < 8
-      → length (m .store .lengths) ≡ 8
-      → CanLand (m .store .filenumbers) (m .store .offsets) (m .journal) (sizes m) t (transaction (m .store) t .used .records)
-      → (watched : ℕ) → watched ≡ bitsOf (isWatched (m .store .transactions) t) 8
-      → (seen : ℕ) → ((u : ℕ) (y : Transaction) → u < 8 → contains seen u ≡ contains watched u && conflicts (m .marks) u y (landedBytes m t))
-      → (octet : ℕ) → octet ≡ bitsOf (turned (others m t) seen (offsetsIn m t) (raisedIn m t)) 8
-      → (xs : List Transaction) → xs ≡ tabulate (passedOver (others m t) seen (offsetsIn m t) (raisedIn m t)) 8
-      → (offsets : List ℕ) → offsets ≡ offsetsSet (transaction (m .store) t) (m .store .offsets) 16
-      → (lengths : List ℕ) → lengths ≡ landedLengths m t
-      → (files : List ℕ) → files ≡ landFiles (landedBytes m t) (m .files)
-      → (marks : List ℕ) → marks ≡ withoutMarks t (m .marks)
-      → (r : Store) → r ≡ withTransactions xs (withOffsets offsets (withLengths lengths (m .store)))
-      → Meets w (Granted octet) (lent r (m .journal) files (m .logs) marks) []
-  unfolding commitGranted said
-  granted-meets w e eight small eightLengths can watched watches seen sees octet n xs ts offsets os lengths ls files fs marks ms r q =
-      rw (e, q)
-      (record {
-        outcome = ap granted (n ∙ sym (octet-is m t can watched watches seen sees eight small));
-        machine =
-            rw (ms, fs, files-are m t, ls, lengths-are m t can eightLengths)
-            (ap₂ (λ (o : List ℕ) (l : List Transaction). lent (withTransactions l (withOffsets o (withLengths (landedLengths m t) (m .store)))) (m .journal) (landFiles (landedBytes m t) (m .files)) (m .logs) (withoutMarks t (m .marks)))
-            (os ∙ sym (offsets-are m t))
-            (ts ∙ sym (transactions-are m t can watched watches seen sees eight small)));
-        reader = refl;
-      })
+pub stale-follows : (kept files logs marks after unmarked : List ℕ) (t : ℕ) (w : Turn) → length kept ≡ 2088 → t < 8
+    → w ≡ record { reply = record { answer = refused 13; buffer = [] }; after = reset t ended (machineOf kept files logs marks) }
+    → after ≡ resetAt kept t false → unmarked ≡ withoutMarks t marks
+    → Meets w (Refused Stale) (machineOf after files logs unmarked) [] × LeftAsFound (Refused Stale) kept after
+unfolding reset said ended
+stale-follows kept files logs marks after unmarked t w long small e r u = (
+  rw (e, u) (record {
+    outcome = refl;
+    machine =
+        ap₂ (λ (s : Store) (j : List ℕ). lent s j files logs (withoutMarks t marks)) (ap storeOf r ∙ store-reset kept t long small false) (ap journalOf r ∙ journal-reset kept t long small false);
+    reader = refl;
+  }),
+  λ q f n. let same : Stale ≡ q = cc in absurd (n (ap number (sym same))),
+)
+
+-- ---- those who go stale
+
+-- The element that a loop fills next is still the list's own.
+filled-next : {A : Type 0} (f : ℕ → A) (xs : List A) (n : ℕ) (z : A) → n < length xs → getD (filled f xs n) n z ≡ getD xs n z
+filled-next f xs n z h =
+    ap (λ (l : List _). getD (tabulate f n ++ l) n z) (drop-cons xs n z h) ∙ getD-at (tabulate f n) (getD xs n z) (drop (suc n) xs) z n (length-tabulate f n)
+
+-- The store once those of the octet among the first n transactions are stale.
+abbrev pub staleFirst : ℕ → List ℕ → ℕ → Store
+staleFirst octet kept n = withTransactions (filled (staleIn octet (storeOf kept)) (storeOf kept .transactions) n) (storeOf kept)
+
+module _ (octet : ℕ) (before kept : List ℕ) (u : ℕ) (few : u < 8) where
+  module _ (so : Means before kept (staleFirst octet before u)) where
+    pub stale-put : contains octet u ≡ true → (after : List ℕ) → after ≡ withStaleAt kept u → Means before after (staleFirst octet before (u + 1))
+    unfolding withTransaction
+    stale-put has after e =
+        let s = storeOf before in
+        let eight = shaped before .transactions in
+        let same : transaction (staleFirst octet before u) u ≡ transaction s u = filled-next (staleIn octet s) (s .transactions) u noTransaction (omega arith) in
+        record {
+          store =
+              ap storeOf e
+              ∙ store-with-stale kept u (so .long) few
+              ∙ ap (λ (q : Store). withTransaction u (withStale true (transaction q u)) q) (so .store)
+              ∙ ap (λ (y : Transaction). withTransactions (set (staleFirst octet before u .transactions) u (withStale true y)) s) same
+              ∙ ap (λ (xs : List Transaction). withTransactions xs s)
+              (filled-set (staleIn octet s) (s .transactions) u (withStale true (transaction s u)) (omega arith)
+              (sym (ap (λ (b : Bool). cond b (withStale true (transaction s u)) (transaction s u)) has)));
+          journal = ap journalOf e ∙ journal-with-stale kept u (so .long) few ∙ so .journal;
+          long = ap length e ∙ length-with-stale kept u (so .long) few ∙ so .long;
+        }
+
+    pub stale-left : contains octet u ≡ false → (after : List ℕ) → after ≡ kept → Means before after (staleFirst octet before (u + 1))
+    stale-left has after e =
+        let s = storeOf before in
+        let eight = shaped before .transactions in
+        record {
+          store =
+              ap storeOf e
+              ∙ so .store
+              ∙ ap (λ (xs : List Transaction). withTransactions xs s)
+              (filled-kept (staleIn octet s) (s .transactions) u noTransaction (omega arith)
+              (ap (λ (b : Bool). cond b (withStale true (transaction s u)) (transaction s u)) has));
+          journal = ap journalOf e ∙ so .journal;
+          long = ap length e ∙ so .long;
+        }
+
+-- ---- a granted commit
+
+-- Only a transaction that goes stale is written anew.
+rewritten : (y : Transaction) (b c z : Bool) → y .stale ≡ z → cond (b && not z && c) (withStale true y) y ≡ withStale (z || (b && c)) y
+rewritten y b c z e = pick b c z (ap (λ (w : Bool). withStale w y) e)
+  where
+    pick : (b c z : Bool) → y ≡ withStale z y → cond (b && not z && c) (withStale true y) y ≡ withStale (z || (b && c)) y
+    pick true c true k = k
+    pick false c true k = k
+    pick true true false k = refl
+    pick true false false k = k
+    pick false c false k = k
+
+module _ (s : Store) (marks : List ℕ) (ss : List Setting) (t octet : ℕ) (small : t < 8) (eight : length (s .transactions) ≡ 8)
+    (says : octet ≡ bitsOf (becomesStale t marks ss s) 8)
+  where
+    -- Transaction u, once t has ended and those of the octet are stale.
+    after-same : (u : ℕ) → u < 8 → let y = getD (set (s .transactions) t ended) u noTransaction in
+        cond (contains octet u) (withStale true y) y ≡ afterCommit t marks ss s u
+    unfolding becomesStale afterCommit staled
+    after-same u l =
+        rw (ap (λ (n : ℕ). contains n u) says ∙ contains-bits (becomesStale t marks ss s) 8 u l)
+        (pick (eqb u t) refl)
+      where
+        y : Transaction
+        y = transaction s u
+
+        pick : (b : Bool) → eqb u t ≡ b → let x = getD (set (s .transactions) t ended) u noTransaction in
+            cond (not (eqb u t) && y .begun && not (y .stale) && conflicts marks u y ss) (withStale true x) x
+            ≡ cond (eqb u t) ended (withStale (y .stale || (y .begun && conflicts marks u y ss)) y)
+        pick true e =
+            rw (e, eqb-true u t e) (getD-set-same (s .transactions) t ended noTransaction (omega arith))
+        pick false e =
+            rw (e, getD-set-other (s .transactions) t u ended noTransaction (eqb-false u t e)) (rewritten y (y .begun) (conflicts marks u y ss) (y .stale) refl)
+
+    transactions-are : tabulate (λ u. cond (contains octet u) (withStale true (getD (set (s .transactions) t ended) u noTransaction)) (getD (set (s .transactions) t ended) u noTransaction)) 8
+        ≡ tabulate (afterCommit t marks ss s) 8
+    transactions-are = table-same _ _ 8 after-same
+
+-- What the grant leaves, part by part.
+module _ (kept files logs marks : List ℕ) (t : ℕ) (x : Transaction) (can : CanGrant kept files logs marks t x)
+    (octet : ℕ) (says : (files logs : List ℕ) → length logs ≡ 32768 → octet ≡ staleBy kept files logs marks t)
+    (lengths : List ℕ) (lengthsAre : lengths ≡ lengthsLandedIn kept t (x .used .records))
+    (raised : List ℕ) (raises : Means kept raised (withLengths lengths (storeOf kept)))
+    (placed : List ℕ) (places : Means raised placed (withOffsetsOf x (storeOf raised)))
+    (closed : List ℕ) (ends : closed ≡ resetAt placed t false)
+    (after : List ℕ) (stales : Means closed after (withStaleIn octet (storeOf closed)))
+  where
+    abbrev s : Store
+    s = storeOf kept
+
+    abbrev ss : List Setting
+    ss = allSet s (journalOf kept) files logs t
+
+    own-is : transaction s t ≡ x
+    own-is = transaction-of kept t (can .lands .small) ∙ sym (can .own)
+
+    closed-is : storeOf closed ≡ withTransaction t ended (withOffsetsOf x (withLengths lengths s))
+    unfolding ended
+    closed-is =
+        ap storeOf ends
+        ∙ store-reset placed t (places .long) (can .lands .small) false
+        ∙ ap (withTransaction t ended) (places .store ∙ ap (withOffsetsOf x) (raises .store))
+
+    journal-is : journalOf after ≡ journalOf kept
+    journal-is =
+        stales .journal ∙ ap journalOf ends ∙ journal-reset placed t (places .long) (can .lands .small) false ∙ places .journal ∙ raises .journal
+
+    offsets-is : landOffsets ss (s .offsets) ≡ withOffsetsOf x s .offsets
+    offsets-is = offsets-are s (journalOf kept) files logs t ∙ ap (λ (y : Transaction). offsetsSet y (s .offsets) 16) own-is
+
+    lengths-is : landLengths ss (s .lengths) ≡ lengths
+    lengths-is =
+        lengths-are s (journalOf kept) files logs t (subst (λ (y : Transaction). CanLandIn kept t (y .used .records)) (sym own-is) (can .lands)) (can .logsLength) (shaped kept .lengths)
+        ∙ ap (λ (y : Transaction). lengthsLandedIn kept t (y .used .records)) own-is
+        ∙ sym lengthsAre
+
+    store-is : storeOf after ≡ withOffsets (landOffsets ss (s .offsets)) (withLengths (landLengths ss (s .lengths)) (withTransactions (tabulate (afterCommit t marks ss s) 8) s))
+    unfolding withTransaction staleBy
+    store-is =
+        stales .store
+        ∙ ap (withStaleIn octet) closed-is
+        ∙ ap (λ (xs : List Transaction). withTransactions xs (withOffsetsOf x (withLengths lengths s)))
+        (transactions-are s marks ss t octet (can .lands .small) (shaped kept .transactions) (says files logs (can .logsLength)))
+        ∙ ap₂ (λ (os ls : List ℕ). withOffsets os (withLengths ls (withTransactions (tabulate (afterCommit t marks ss s) 8) s))) (sym offsets-is) (sym lengths-is)
+
+    pub granted-follows : (landed : List ℕ) → landed ≡ landFiles (bytesSetIn kept logs t (x .used .records)) files
+        → (unmarked : List ℕ) → unmarked ≡ withoutMarks t marks
+        → Meets (commitTurn t (machineOf kept files logs marks)) (Granted octet) (machineOf after landed logs unmarked) [] × LeftAsFound (Granted octet) kept after
+    unfolding commitGranted said staleBy
+    granted-follows landed lands unmarked ms =
+        let fresh : transaction s t .stale ≡ false = ap (λ (y : Transaction). y .stale) own-is ∙ can .fresh in
+        let fit : placesFit s (transaction s t) ≡ true = ap (placesFit s) own-is ∙ can .fits in
+        let files-is : landed ≡ landFiles ss files =
+        lands ∙ ap (λ (y : Transaction). landFiles (bytesSetIn kept logs t (y .used .records)) files) (sym own-is) ∙ sym (files-are s (journalOf kept) files logs t) in (
+          rw (commit-granted t (machineOf kept files logs marks) fresh fit, store-is, journal-is, files-is, ms) (record {
+            outcome = ap granted (says files logs (can .logsLength));
+            machine = refl;
+            reader = refl;
+          }),
+          λ r e n. cc,
+        )
 
 -- ---- the former number
 
@@ -117,14 +256,14 @@ unfolding isGranted
 not-granted k n e = false≢true (ap isGranted e)
 
 module _ (t : ℕ) (m : Machine) (n : ℕ) where
-  decided-octet : (stale placed : Bool) → commitDecided t (allSet m t) m (commitRefusal stale placed) .reply .answer ≡ granted n
-      → n ≡ bitsOf (becomesStale t (m .marks) (allSet m t) (m .store)) 8
+  decided-octet : (stale placed : Bool) → commitDecided t (settingsOf t m) m (commitRefusal stale placed) .reply .answer ≡ granted n
+      → n ≡ bitsOf (becomesStale t (m .marks) (settingsOf t m) (m .store)) 8
   unfolding commitDecided commitRefusal commitGranted octetIn
   decided-octet true placed e = absurd (not-granted 13 n e)
   decided-octet false false e = absurd (not-granted 12 n e)
   decided-octet false true e = sym (ap octetIn e)
 
-  passing-octet : (k : ℕ) → passing k [] m (commitTurn t m) .reply .answer ≡ granted n → n ≡ bitsOf (becomesStale t (m .marks) (allSet m t) (m .store)) 8
+  passing-octet : (k : ℕ) → passing k [] m (commitTurn t m) .reply .answer ≡ granted n → n ≡ bitsOf (becomesStale t (m .marks) (settingsOf t m) (m .store)) 8
   unfolding passing turnDown commitTurn
   passing-octet zero e = decided-octet (transaction (m .store) t .stale) _ e
   passing-octet (suc k) e = absurd (not-granted (suc k) n e)
@@ -133,4 +272,4 @@ module _ (t : ℕ) (m : Machine) (n : ℕ) where
   pub ones-are : call (commit t) m .reply .answer ≡ granted n → ones n ≡ formerNumber t m
   unfolding call admitted formerNumber
   ones-are e =
-      ap ones (passing-octet (admission (sizes m) (m .store) (m .journal) t) e) ∙ ones-bits (becomesStale t (m .marks) (allSet m t) (m .store)) 8
+      ap ones (passing-octet (admission (sizes m) (m .store) (m .journal) t) e) ∙ ones-bits (becomesStale t (m .marks) (settingsOf t m) (m .store)) 8

@@ -1,75 +1,61 @@
 // A commit that is granted.
-use landing::landed;
-use landing::staled;
+use conflicts::stale_by;
+use landing::lengths::lengths_after;
+use landing::lengths::put_lengths;
+use landing::offsets::put_offsets;
+use landing::writes::land_writes;
+use octets::marks::contains;
 use octets::marks::unmark;
-use octets::sets;
-use record::Store;
+use record::TRANSACTIONS;
 use record::Transaction;
-use record::journal::NUMBERS;
-use record::outcomes::Answer;
+use record::layout::Record;
+use record::layout::put_stale;
+use record::layout::reset;
 use record::outcomes::Outcome;
-ghost use mathlib.Core.Bool.{true, false};
 ghost use mathlib.Core.List.{[]};
 ghost use mathlib.Core.Path.{_≡_};
 ghost use lib.ListN.{length};
-ghost use Rattle.record.specs.State.{transaction};
-ghost use Rattle.ranges.specs.Ranges.{sized};
-ghost use Rattle.rules.specs.Commits.{fits};
-ghost use Rattle.rules.specs.Machine.{lent};
 ghost use Rattle.rules.specs.Calls.{commitTurn};
-ghost use Rattle.rules.specs.Promises.{Meets};
-ghost use Rattle.landing.specs.Landing.{offsetsOnly, descriptorsOnly, CanLand};
+ghost use Rattle.rules.specs.Promises.{Follows};
+ghost use Rattle.landing.specs.Landing.{Becomes};
+ghost use Rattle.committing.specs.Granting.{CanGrant, withStaleIn};
 
-// Grants the commit of transaction t, which is not stale and whose placing fits: lands its writes in call order, raises lengths, sets its
-// offsets and ends it. Every other open transaction that has sighted a byte, offset or length just set is stale from then on; the answer is
-// the octet of those that were not so before, and only they are written anew.
+// Makes the transactions of the octet stale.
+fn put_stale_in(kept: &mut Record, octet: u8)
+    requires { ⌜ length (now kept) ≡ 2088 ⌝ }
+    ensures { λ _. ⌜ Becomes kept (withStaleIn octet) ⌝ }
+{
+    let mut u = 0;
+    while u < TRANSACTIONS {
+        if contains(octet, u) {
+            put_stale(kept, u);
+        }
+        u += 1;
+    }
+}
+
+// Grants the commit of transaction t, which is x: lands its writes in call order, raises lengths, sets its offsets and
+// ends it. Every other open transaction that has sighted a byte, offset or length just set is stale from then on; the
+// answer is the octet of those that were not so before.
 pub fn grant(
-    mut s: Store,
-    journal: &[u16; NUMBERS],
+    kept: &mut Record,
     files: &mut [u8],
     logs: &[u8],
     marks: &mut [u8],
     t: usize,
-) -> Answer
-    requires { ⌜ CanLand (s .filenumbers) (s .offsets) (now journal) (sized (length (now files)) (length (now logs)) (length (now marks))) t (transaction s t .used .records) × (fits (offsetsOnly (s .offsets)) (descriptorsOnly (transaction s t)) ≡ true) × (transaction s t .stale ≡ false) ⌝ }
-    ensures { λ r. ⌜ Meets (commitTurn t (lent s (now (journal .entry)) (now (files .entry)) (now (logs .entry)) (now (marks .entry)))) (r .outcome) (lent (r .store) (now (journal .exit)) (now (files .exit)) (now (logs .exit)) (now (marks .exit))) [] ⌝ }
+    x: Transaction,
+) -> Outcome
+    requires { ⌜ CanGrant (now kept) (now files) (now logs) (now marks) t x ⌝ }
+    ensures { λ r. ⌜ Follows (commitTurn t) kept files logs marks r [] ⌝ }
 {
-    let x = s.transactions[t];
+    let octet = stale_by(kept, marks, t);
     let used = x.used;
-    let transactions = s.transactions;
-    let watched = staled::watched(transactions, t);
-    let seen = landed::land_writes(
-        files,
-        logs,
-        marks,
-        journal,
-        &s.filenumbers,
-        &s.offsets,
-        t,
-        used,
-        watched,
-    );
-    let lengths = s.lengths;
-    s.lengths = landed::lengths_after(journal, &s.filenumbers, &s.offsets, t, used, lengths);
-    let offsets = s.offsets;
-    s.offsets = landed::offsets_after(x, offsets);
+    land_writes(kept, files, logs, t, used);
+    let lengths = lengths_after(kept, t, used);
+    put_lengths(kept, lengths);
+    put_offsets(kept, x);
     unmark(marks, t);
-    let set = staled::offsets_set(x);
-    let raised = staled::lengths_raised(&lengths, &s.lengths);
-    s.transactions[t] = Transaction::ended();
-    let mut stale = 0u16;
-    let mut u = 0;
-    while u < 8 {
-        let mut y = s.transactions[u];
-        if staled::goes_stale(y, u, seen, set, raised) {
-            y.stale = true;
-            s.transactions[u] = y;
-            stale = sets::added(stale, u);
-        }
-        u += 1;
-    }
-    Answer {
-        store: s,
-        outcome: Outcome::Granted(stale as u8),
-    }
+    reset(kept, t, false);
+    put_stale_in(kept, octet);
+    Outcome::Granted(octet)
 }

@@ -22,7 +22,7 @@ use Rattle.counters.proofs.Used.Laws as T′
 abbrev pub used : ℕ → ℕ → Used
 used r k = record { records = r; bytes = k }
 
-pub pair-fits : (r k : ℕ) → r < 2 ^ 8 → k < 2 ^ 16 → Is T.the-row (used r k) (T′.lowered (used r k) ∷ [])
+pub pair-fits : (r k : ℕ) → r < 2 ^ 64 → k < 2 ^ 16 → Is T.the-row (used r k) (T′.lowered (used r k) ∷ [])
 pair-fits r k fr fk = LL.owes T.the-type T′.the-laws (used r k) ((refl, fr), ((refl, fk), tt))
 
 pub says-both : {M : Type 1} {𝓤 : URA M} {H : Heap 𝓤} {A : Atoms 𝓤} {K : Type 0} {W : Given 𝓤 H A} {Γ : List (Item 𝓤)} → K → {φ ψ : Type 0} {P : SProp 𝓤} → φ → ψ

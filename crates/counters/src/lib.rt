@@ -1,10 +1,10 @@
 // The two counters of a transaction's log: write records used and data bytes used.
 
 ghost use mathlib.Core.Path.{_≡_};
-ghost use Prim.Native.Nat.{_+_, _<_, _≤_};
+ghost use Prim.Native.Nat.{_+_, _≤_};
 
 pub struct Used {
-    pub records: u8,
+    pub records: usize,
     pub bytes: u16,
 }
 

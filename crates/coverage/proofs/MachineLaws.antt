@@ -2,30 +2,26 @@
 -- nothing.
 use mathlib.Core.Bool.{Bool, true, false, cond, _&&_, _||_}
 use mathlib.Core.List.{List, [], _∷_, _++_}
-use mathlib.Core.Logic.{⊎-elim}
 use mathlib.Core.Path.{_≡_, refl, sym, ap, ap₂, _∙_}
-use lib.Dec.{ltb, eqb}
+use lib.Dec.{eqb}
 use lib.ListN.{getD, length}
 use Prim.Native.Nat.{ℕ, zero, suc, _+_, _*_, _≤_, _<_}
 use native.Mathlib.Omega.{arith}
-use borrow.Author.Tests.{lt-ltb, le-ltb}
 use Rattle.record.specs.declared.Store.{Store}
-use Rattle.record.specs.State.{transaction, standingAt}
+use Rattle.record.specs.State.{transaction}
 use Rattle.record.specs.Journal.{writeRecordAt}
 use Rattle.ranges.specs.Ranges.{lengthsBefore}
-use Rattle.ranges.proofs.Laws.{TransactionInRange, record-in, place-end}
-use Rattle.octets.proofs.PartLaws.{le-or-lt, length-cut}
+use Rattle.ranges.proofs.Laws.{TransactionInRange}
+use Rattle.octets.proofs.PartLaws.{length-cut}
 use Rattle.octets.specs.Parts.{tabulate}
 use Rattle.rules.specs.Transactions.{Write}
 use Rattle.rules.specs.Reading.{over}
 use Rattle.rules.specs.Machine.{fileOf, dataStart, writeAt, txnOf}
-use Rattle.rules.specs.Coverage.{someWrite, coversPlace, covered, unplacedOn, unplaced, listed, stretchesOf}
+use Rattle.rules.specs.Coverage.{someWrite, coversPlace, covered, unplacedOn, unplaced, stretchesOf}
 use Rattle.rules.proofs.Coverage.Stretches.{stretches-same}
-use Rattle.rules.proofs.Coverage.Theorem.{lists-its-places}
-use Rattle.runs.specs.declared.Supplier.{Supplier}
-use Rattle.runs.specs.declared.Supplier.the-variants.{File, Record}
+use Rattle.runs.specs.declared.Supplier.the-variants.{Record}
 use Rattle.runs.specs.Runs.{Recorded, recorded, covers, newest, supplier, isRecord}
-use Rattle.runs.proofs.RunLaws.{data-suc, supplier-is, covers-in}
+use Rattle.runs.proofs.RunLaws.{data-suc}
 use Rattle.coverage.specs.Covering.{coveredAt, someBelow, waitsOn, waitsIn}
 
 -- ---- a test of one write more
@@ -108,26 +104,3 @@ module _ (s : Store) (journal logs : List ℕ) (t f : ℕ) where
     unfolding stretchesOf
     stretches-in =
         stretches-same (covered (fileOf s) f (txnOf s journal logs t .writes)) (coveredAt (recorded journal (s .filenumbers)) t (transaction s t .used .records) f) 0 4096 (λ p g l. covered-in p)
-
-    -- a write record covers no place past the file
-    none-past : (p : ℕ) → 4096 ≤ p → coveredAt (recorded journal (s .filenumbers)) t (transaction s t .used .records) f p ≡ false
-    unfolding coveredAt
-    none-past p h = pick (supplier (recorded journal (s .filenumbers)) t (transaction s t .used .records) f p) refl
-      where
-        pick : (x : Supplier) → supplier (recorded journal (s .filenumbers)) t (transaction s t .used .records) f p ≡ x → isRecord x ≡ false
-        pick File e = refl
-        pick (Record k) e =
-            let w = writeRecordAt journal t k in
-            let by = supplier-is (recorded journal (s .filenumbers)) t f (transaction s t .used .records) p k e in
-            let within = place-end (standingAt (transaction s t) (w .descriptor)) (w .place) (w .length) (record-in (transaction s t) w (range .writes k (by .0)) .place) in
-            absurd (omega (arith, within, covers-in (s .filenumbers) f p w (by .1) .1))
-
-    -- "A place is in the list exactly when a write covers it."
-    pub listed-in : (p : ℕ) → listed (stretchesOf (covered (fileOf s) f (txnOf s journal logs t .writes))) p ≡ covered (fileOf s) f (txnOf s journal logs t .writes) p
-    listed-in p = lists-its-places (covered (fileOf s) f (txnOf s journal logs t .writes)) p ∙ ⊎-elim past inside (le-or-lt 4096 p)
-      where
-        inside : p < 4096 → (ltb p 4096 && covered (fileOf s) f (txnOf s journal logs t .writes) p) ≡ covered (fileOf s) f (txnOf s journal logs t .writes) p
-        inside h = ap (λ (b : Bool). b && covered (fileOf s) f (txnOf s journal logs t .writes) p) (lt-ltb p 4096 h)
-
-        past : 4096 ≤ p → (ltb p 4096 && covered (fileOf s) f (txnOf s journal logs t .writes) p) ≡ covered (fileOf s) f (txnOf s journal logs t .writes) p
-        past h = ap (λ (b : Bool). b && covered (fileOf s) f (txnOf s journal logs t .writes) p) (le-ltb p 4096 h) ∙ sym (covered-in p ∙ none-past p h)

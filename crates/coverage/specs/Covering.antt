@@ -5,19 +5,20 @@ use mathlib.Core.Path.{_≡_}
 use lib.Dec.{eqb}
 use lib.ListN.{getD}
 use Prim.Native.Nat.{ℕ, zero, suc, _+_, _≤_, _<_}
+use Rattle.counters.specs.declared.Used.{Used}
 use Rattle.record.specs.declared.journal.WriteRecord.{WriteRecord}
 use Rattle.record.specs.Journal.{writeRecordAt}
 use Rattle.rules.specs.Coverage.{noPlace, stretchesOf, Stretch as Listed}
-use Rattle.runs.specs.Runs.{Recorded, isRecord, supplier}
+use Rattle.runs.specs.Runs.{Recorded, recordedIn, isRecord, supplier}
 use Rattle.coverage.specs.declared.Stretch.{Stretch}
 
 -- Whether a write record of transaction t, which has so many, covers place p of file f.
 unfoldable pub coveredAt : Recorded → ℕ → ℕ → ℕ → ℕ → Bool
 coveredAt j t records f p = isRecord (supplier j t records f p)
 
--- The list of the places that they cover.
-abbrev pub stretchesIn : Recorded → ℕ → ℕ → ℕ → List Listed
-stretchesIn j t records f = stretchesOf (coveredAt j t records f)
+-- The list of the places that those of a record cover.
+abbrev pub stretchesIn : List ℕ → ℕ → Used → ℕ → List Listed
+stretchesIn kept t u f = stretchesOf (coveredAt (recordedIn kept) t (u .records) f)
 
 -- Whether some number below a bound passes a test.
 unfoldable pub someBelow : (ℕ → Bool) → ℕ → Bool

@@ -1,16 +1,15 @@
-// The places of a file that a transaction's write records cover, as a list of stretches; and whether one of its records on the file has
-// no place yet. Each stretch is found by walks over the records, and no table of places is made.
+// The places of a file that a transaction's write records cover, as a list of stretches; and whether one of its records
+// on the file has no place yet. Each stretch is found by walks over the records, and no table of places is made.
 mod places_call;
 
 use counters::Used;
 use numbers::FILE_BYTES;
 use numbers::wide;
-use numbers::wide_octet;
 pub use places_call::places;
-use record::DESCRIPTORS;
-use record::journal::NUMBERS;
 use record::journal::WriteRecord;
 use record::journal::record_at;
+use record::layout::Record;
+use record::layout::file_at;
 use runs::Extent;
 use runs::latest_write;
 use standings::Place;
@@ -20,8 +19,9 @@ ghost use mathlib.Core.Path.{_≡_};
 ghost use lib.ListN.{length};
 ghost use Prim.Native.Nat.{_+_, _*_, _<_, _≤_};
 ghost use Rattle.octets.specs.Parts.{pasted};
+ghost use Rattle.record.specs.Layout.{storeOf, journalOf};
 ghost use Rattle.rules.specs.Coverage.{sixteen, withPairs};
-ghost use Rattle.runs.specs.Runs.{recorded, Counted};
+ghost use Rattle.runs.specs.Runs.{recordedIn, Counted};
 ghost use Rattle.coverage.specs.Covering.{coveredAt, stretchesIn, waitsOn, waitsIn, Upto, NextOf};
 
 // Places of a file: `length` of them, from `offset` on.
@@ -31,12 +31,11 @@ pub struct Stretch {
 }
 
 // The write record is one of file f and has no place yet.
-fn waits(w: WriteRecord, filenumbers: &[u8; DESCRIPTORS], f: u8) -> bool
+fn waits(kept: &Record, w: WriteRecord, f: u16) -> bool
     requires { ⌜ w .descriptor < 16 ⌝ }
-    ensures { λ r. ⌜ r ≡ waitsOn (now (filenumbers .entry)) f w ⌝ }
+    ensures { λ r. ⌜ r ≡ waitsOn (storeOf (now (kept .entry)) .filenumbers) f w ⌝ }
 {
-    let d = wide(w.descriptor);
-    if filenumbers[d] != f {
+    if file_at(kept, wide(w.descriptor)) != f {
         return false;
     }
     let place = w.place;
@@ -47,21 +46,14 @@ fn waits(w: WriteRecord, filenumbers: &[u8; DESCRIPTORS], f: u8) -> bool
 }
 
 // A write of transaction t on file f has no place yet.
-fn waiting<'a>(
-    journal: &'a [u16; NUMBERS],
-    filenumbers: &'a [u8; DESCRIPTORS],
-    t: usize,
-    used: Used,
-    f: u8,
-) -> bool
-    requires { ⌜ Counted (now journal) t used ⌝ }
-    ensures { λ r. ⌜ r ≡ waitsIn (recorded (now (journal .entry)) (now (filenumbers .entry))) t (used .records) f ⌝ }
+fn waiting(kept: &Record, t: usize, used: Used, f: u16) -> bool
+    requires { ⌜ Counted (journalOf (now kept)) t used ⌝ }
+    ensures { λ r. ⌜ r ≡ waitsIn (recordedIn (now (kept .entry))) t (used .records) f ⌝ }
 {
-    let records = wide_octet(used.records);
     let mut k = 0;
-    while k < records {
-        let w = record_at(journal, t, k);
-        if waits(w, filenumbers, f) {
+    while k < used.records {
+        let w = record_at(kept, t, k);
+        if waits(kept, w, f) {
             return true;
         }
         k += 1;
@@ -70,16 +62,9 @@ fn waiting<'a>(
 }
 
 // The first place from p on that is covered, or the end of the file.
-fn first_covered<'a>(
-    journal: &'a [u16; NUMBERS],
-    filenumbers: &'a [u8; DESCRIPTORS],
-    t: usize,
-    used: Used,
-    f: u8,
-    p: usize,
-) -> usize
-    requires { ⌜ Counted (now journal) t used × (p ≤ 4096) ⌝ }
-    ensures { λ r. ⌜ Upto (coveredAt (recorded (now (journal .entry)) (now (filenumbers .entry))) t (used .records) f) false p r ⌝ }
+fn first_covered(kept: &Record, t: usize, used: Used, f: u16, p: usize) -> usize
+    requires { ⌜ Counted (journalOf (now kept)) t used × (p ≤ 4096) ⌝ }
+    ensures { λ r. ⌜ Upto (coveredAt (recordedIn (now (kept .entry))) t (used .records) f) false p r ⌝ }
 {
     if p == FILE_BYTES {
         return p;
@@ -89,7 +74,7 @@ fn first_covered<'a>(
         place: p,
         length: FILE_BYTES - p,
     };
-    let r = latest_write(journal, filenumbers, t, used, e);
+    let r = latest_write(kept, t, used, e);
     let supplier = r.supplier;
     if supplier.is_record() {
         return p;
@@ -98,16 +83,9 @@ fn first_covered<'a>(
 }
 
 // The first place from p on that is not covered, or the end of the file: run after run, whichever record supplies it.
-fn first_clear<'a>(
-    journal: &'a [u16; NUMBERS],
-    filenumbers: &'a [u8; DESCRIPTORS],
-    t: usize,
-    used: Used,
-    f: u8,
-    p: usize,
-) -> usize
-    requires { ⌜ Counted (now journal) t used × (p ≤ 4096) ⌝ }
-    ensures { λ r. ⌜ Upto (coveredAt (recorded (now (journal .entry)) (now (filenumbers .entry))) t (used .records) f) true p r ⌝ }
+fn first_clear(kept: &Record, t: usize, used: Used, f: u16, p: usize) -> usize
+    requires { ⌜ Counted (journalOf (now kept)) t used × (p ≤ 4096) ⌝ }
+    ensures { λ r. ⌜ Upto (coveredAt (recordedIn (now (kept .entry))) t (used .records) f) true p r ⌝ }
 {
     let mut q = p;
     while q < FILE_BYTES {
@@ -116,7 +94,7 @@ fn first_clear<'a>(
             place: q,
             length: FILE_BYTES - q,
         };
-        let r = latest_write(journal, filenumbers, t, used, e);
+        let r = latest_write(kept, t, used, e);
         let supplier = r.supplier;
         if !supplier.is_record() {
             return q;
@@ -127,19 +105,12 @@ fn first_clear<'a>(
 }
 
 // The first stretch of covered places from p on; one of length 0 where there is none.
-fn next_stretch<'a>(
-    journal: &'a [u16; NUMBERS],
-    filenumbers: &'a [u8; DESCRIPTORS],
-    t: usize,
-    used: Used,
-    f: u8,
-    p: usize,
-) -> Stretch
-    requires { ⌜ Counted (now journal) t used × (p ≤ 4096) ⌝ }
-    ensures { λ r. ⌜ NextOf (coveredAt (recorded (now (journal .entry)) (now (filenumbers .entry))) t (used .records) f) p r ⌝ }
+fn next_stretch(kept: &Record, t: usize, used: Used, f: u16, p: usize) -> Stretch
+    requires { ⌜ Counted (journalOf (now kept)) t used × (p ≤ 4096) ⌝ }
+    ensures { λ r. ⌜ NextOf (coveredAt (recordedIn (now (kept .entry))) t (used .records) f) p r ⌝ }
 {
-    let offset = first_covered(journal, filenumbers, t, used, f, p);
-    let end = first_clear(journal, filenumbers, t, used, f, offset);
+    let offset = first_covered(kept, t, used, f, p);
+    let end = first_clear(kept, t, used, f, offset);
     Stretch {
         offset,
         length: end - offset,
@@ -147,20 +118,14 @@ fn next_stretch<'a>(
 }
 
 // How many stretches the list has.
-fn count_stretches<'a>(
-    journal: &'a [u16; NUMBERS],
-    filenumbers: &'a [u8; DESCRIPTORS],
-    t: usize,
-    used: Used,
-    f: u8,
-) -> usize
-    requires { ⌜ Counted (now journal) t used ⌝ }
-    ensures { λ r. ⌜ r ≡ length (stretchesIn (recorded (now (journal .entry)) (now (filenumbers .entry))) t (used .records) f) ⌝ }
+fn count_stretches(kept: &Record, t: usize, used: Used, f: u16) -> usize
+    requires { ⌜ Counted (journalOf (now kept)) t used ⌝ }
+    ensures { λ r. ⌜ r ≡ length (stretchesIn (now (kept .entry)) t used f) ⌝ }
 {
     let mut p = 0;
     let mut n = 0;
     while p < FILE_BYTES {
-        let s = next_stretch(journal, filenumbers, t, used, f, p);
+        let s = next_stretch(kept, t, used, f, p);
         if s.length == 0 {
             return n;
         }
@@ -189,21 +154,15 @@ fn put_pair(out: &mut [u8], at: usize, s: Stretch)
 }
 
 // Writes the pairs of the list to the front of the buffer.
-fn write_stretches<'a>(
-    journal: &'a [u16; NUMBERS],
-    filenumbers: &'a [u8; DESCRIPTORS],
-    t: usize,
-    used: Used,
-    f: u8,
-    out: &mut [u8],
-)
-    requires { ⌜ Counted (now journal) t used × (4 * length (stretchesIn (recorded (now journal) (now filenumbers)) t (used .records) f) ≤ length (now out)) ⌝ }
-    ensures { λ _. ⌜ now (out .exit) ≡ withPairs (stretchesIn (recorded (now (journal .entry)) (now (filenumbers .entry))) t (used .records) f) (now (out .entry)) ⌝ }
+fn write_stretches(kept: &Record, t: usize, used: Used, f: u16, out: &mut [u8])
+    requires counted { ⌜ Counted (journalOf (now kept)) t used ⌝ }
+    requires room { ⌜ 4 * length (stretchesIn (now kept) t used f) ≤ length (now out) ⌝ }
+    ensures { λ _. ⌜ now (out .exit) ≡ withPairs (stretchesIn (now (kept .entry)) t used f) (now (out .entry)) ⌝ }
 {
     let mut p = 0;
     let mut at = 0;
     while p < FILE_BYTES {
-        let s = next_stretch(journal, filenumbers, t, used, f, p);
+        let s = next_stretch(kept, t, used, f, p);
         if s.length == 0 {
             return;
         }

@@ -4,7 +4,7 @@ use Prim.Native.Nat.{ℕ, _≤_}
 use native.Mathlib.Omega.{arith}
 use Rattle.record.specs.Paper.{number}
 use Rattle.record.specs.declared.outcomes.Refusal.{Refusal}
-use Rattle.record.specs.declared.outcomes.Refusal.the-variants.{BufferLength, RecordRange, NoSuchTransaction, NotOpen, AlreadyOpen, NoSuchDescriptor, ReaderTooShort, SeekPastEnd, WritePastEnd, RecordsFull, LogFull, SettledPastEnd, Stale, NoSuchFile, NoPlaceYet, ListTooLong, BadLine, StaleReader}
+use Rattle.record.specs.declared.outcomes.Refusal.the-variants.{BufferLength, RecordRange, NoSuchTransaction, NotOpen, AlreadyOpen, NoSuchTarget, ReaderTooShort, SeekPastEnd, WritePastEnd, RecordsFull, LogFull, SettledPastEnd, Stale, NoSuchFile, NoPlaceYet, ListTooLong, BadLine, StaleReader}
 
 pub number-bound : (r : Refusal) → number r ≤ 18
 number-bound BufferLength = omega arith
@@ -12,7 +12,7 @@ number-bound RecordRange = omega arith
 number-bound NoSuchTransaction = omega arith
 number-bound NotOpen = omega arith
 number-bound AlreadyOpen = omega arith
-number-bound NoSuchDescriptor = omega arith
+number-bound NoSuchTarget = omega arith
 number-bound ReaderTooShort = omega arith
 number-bound SeekPastEnd = omega arith
 number-bound WritePastEnd = omega arith

@@ -1,13 +1,18 @@
 // Digests of the state and of the answers: from 0, h' = (65521 h + n + 1) mod 281474976710597 for each number n.
 use crate::outcomes;
 use numbers::smaller;
-use numbers::wide_octet;
-use record::Store;
+use record::DESCRIPTORS;
+use record::FILES;
+use record::TRANSACTIONS;
 use record::Transaction;
-use record::journal::NUMBERS;
 use record::journal::RECORDS;
 use record::journal::WriteRecord;
 use record::journal::record_at;
+use record::layout::Record;
+use record::layout::file_at;
+use record::layout::length_at;
+use record::layout::offset_at;
+use record::layout::transaction_at;
 use record::outcomes::Outcome;
 use standings::Place;
 use standings::Standing;
@@ -46,19 +51,6 @@ fn octets_taken(h: usize, octets: &[u8]) -> usize
     let mut i = 0;
     while i < octets.len() {
         out = octet_taken(out, octets[i]);
-        i += 1;
-    }
-    out
-}
-
-fn numbers_taken(h: usize, numbers: &[u16]) -> usize
-    requires { ⌜ Digest h ⌝ }
-    ensures { λ r. ⌜ Digest r ⌝ }
-{
-    let mut out = h;
-    let mut i = 0;
-    while i < numbers.len() {
-        out = taken(out, numbers[i]);
         i += 1;
     }
     out
@@ -112,7 +104,7 @@ fn write_taken(h: usize, w: WriteRecord) -> usize
 }
 
 // The first n write records of transaction t, at most 64.
-fn writes_taken(h: usize, journal: &[u16; NUMBERS], t: usize, n: usize) -> usize
+fn writes_taken(h: usize, kept: &Record, t: usize, n: usize) -> usize
     requires { ⌜ Digest h × (t < 8) ⌝ }
     ensures { λ r. ⌜ Digest r ⌝ }
 {
@@ -120,55 +112,72 @@ fn writes_taken(h: usize, journal: &[u16; NUMBERS], t: usize, n: usize) -> usize
     let mut out = h;
     let mut k = 0;
     while k < records {
-        out = write_taken(out, record_at(journal, t, k));
+        out = write_taken(out, record_at(kept, t, k));
         k += 1;
     }
     out
 }
 
-fn transaction_taken(h: usize, x: Transaction, journal: &[u16; NUMBERS], t: usize) -> usize
+// A number of the record has sixteen bits; so has that of the records used.
+fn transaction_taken(h: usize, kept: &Record, t: usize) -> usize
     requires { ⌜ Digest h × (t < 8) ⌝ }
     ensures { λ r. ⌜ Digest r ⌝ }
 {
+    let x = transaction_at(kept, t);
     let used = x.used;
+    let records = smaller(used.records, 65535);
     let flags = flag_taken(flag_taken(h, x.begun), x.stale);
-    let counters = taken(octet_taken(flags, used.records), used.bytes);
-    let sighted = octet_taken(counters, x.lengthmarks);
-    writes_taken(
-        descriptors_taken(sighted, x),
-        journal,
-        t,
-        wide_octet(used.records),
-    )
+    let counters = taken(taken(flags, records as u16), used.bytes);
+    let sighted = taken(counters, x.lengthmarks);
+    writes_taken(descriptors_taken(sighted, x), kept, t, records)
 }
 
-fn transactions_taken(h: usize, s: Store, journal: &[u16; NUMBERS]) -> usize
+fn transactions_taken(h: usize, kept: &Record) -> usize
     requires { ⌜ Digest h ⌝ }
     ensures { λ r. ⌜ Digest r ⌝ }
 {
     let mut out = h;
     let mut t = 0;
-    while t < 8 {
-        let x = s.transactions[t];
-        out = transaction_taken(out, x, journal, t);
+    while t < TRANSACTIONS {
+        out = transaction_taken(out, kept, t);
         t += 1;
     }
     out
 }
 
+// How many numbers are committed.
+const COMMITTED: usize = 2 * DESCRIPTORS + FILES;
+
+// What is committed, number by number: the files of the descriptors, their offsets, the lengths of the files.
+fn committed_at(kept: &Record, i: usize) -> u16
+    requires { ⌜ i < 40 ⌝ }
+{
+    if i < DESCRIPTORS {
+        return file_at(kept, i);
+    }
+    if i < 2 * DESCRIPTORS {
+        return offset_at(kept, i - DESCRIPTORS);
+    }
+    length_at(kept, i - 2 * DESCRIPTORS)
+}
+
+fn committed_taken(h: usize, kept: &Record) -> usize
+    requires { ⌜ Digest h ⌝ }
+    ensures { λ r. ⌜ Digest r ⌝ }
+{
+    let mut out = h;
+    let mut i = 0;
+    while i < COMMITTED {
+        out = taken(out, committed_at(kept, i));
+        i += 1;
+    }
+    out
+}
+
 // The digest of a state: what the record says, however it is arranged, then the store buffers.
-pub fn of_state(
-    s: Store,
-    journal: &[u16; NUMBERS],
-    files: &[u8],
-    logs: &[u8],
-    marks: &[u8],
-) -> usize {
-    let filenumbers = octets_taken(0, &s.filenumbers);
-    let offsets = numbers_taken(filenumbers, &s.offsets);
-    let lengths = numbers_taken(offsets, &s.lengths);
-    let record = transactions_taken(lengths, s, journal);
-    octets_taken(octets_taken(octets_taken(record, files), logs), marks)
+pub fn of_state(kept: &Record, files: &[u8], logs: &[u8], marks: &[u8]) -> usize {
+    let all = transactions_taken(committed_taken(0, kept), kept);
+    octets_taken(octets_taken(octets_taken(all, files), logs), marks)
 }
 
 // Takes in an outcome, and the buffer lent for the answer, after the call.

@@ -4,24 +4,30 @@ use mathlib.Core.List.{List, []}
 use mathlib.Core.Path.{_≡_, refl, sym, ap, ap₂, _∙_}
 use borrow.Author.Tests.{le-leb, lt-leb}
 use lib.Dec.{leb}
-use lib.ListN.{set}
+use lib.ListN.{set, length}
 use native.Mathlib.Omega.{arith}
 use Prim.Native.Nat.{ℕ, _≤_, _<_}
 use Rattle.record.specs.State.{transaction, standingAt, withDescriptors, withTransaction}
+use Rattle.record.specs.Layout.{transactionOf, storeOf, journalOf, withDescriptorAt}
+use Rattle.record.proofs.LayoutLaws.{length-journal, transaction-of, store-with-descriptor, journal-with-descriptor}
 use Rattle.record.specs.Paper.{plain, said}
 use Rattle.record.specs.declared.outcomes.Outcome.the-variants.{Done}
+use Rattle.record.specs.declared.Descriptor.{Descriptor}
+use Rattle.record.specs.declared.Transaction.{Transaction}
 use Rattle.record.specs.declared.Store.{Store}
+use Rattle.standings.specs.declared.Standing.{Standing}
 use Rattle.ranges.specs.Ranges.{admission}
 use Rattle.standings.specs.Table.{afterSeek}
 use Rattle.rules.specs.Transactions.{dirtied}
-use Rattle.rules.specs.Messages.{Op, seek, bufferOf, on}
+use Rattle.rules.specs.Messages.{seek, bufferOf, on}
 use Rattle.rules.specs.Steps.{step, seekStep, looks, turnsBack}
 use Rattle.rules.specs.Machine.{Machine, lent, withStore, sizes, txnOf}
 use Rattle.rules.specs.Calls.{Turn, turnDown, logged, call}
-use Rattle.laws.proofs.Decoded.{Opened}
+use Rattle.laws.proofs.Shapes.{shaped}
+use Rattle.laws.proofs.Decoded.{Opened, opened}
 use Rattle.laws.proofs.Encoded.{txn-dirtied, writes-same}
-use Rattle.rules.specs.Promises.{Meets}
-use Rattle.refusing.proofs.Turns.{on-refused, on-accepted, check-held, check-failed}
+use Rattle.rules.specs.Promises.{Meets, machineOf, LeftAsFound}
+use Rattle.refusing.proofs.Turns.{LetThrough, on-refused, on-accepted, check-held, check-failed, done-follows}
 
 module _ (t d v : ℕ) (m : Machine) (passes : admission (sizes m) (m .store) (m .journal) t ≡ 0) where
   pub seek-no-descriptor : 15 < d → call (on t (seek d v)) m ≡ turnDown 6 [] m
@@ -34,7 +40,7 @@ module _ (t d v : ℕ) (m : Machine) (passes : admission (sizes m) (m .store) (m
       on-refused t (seek d v) m passes (unfold turnsBack looks in refl) 8 (check-held (leb d 15) 6 _ (le-leb d 15 h) ∙ check-failed (leb v 4096) 8 _ (lt-leb v 4096 g))
 
   -- An accepted Seek sets the standing of d and makes d dirty, and nothing else.
-  pub seek-meets : Opened (m .store) (m .journal) (m .logs) t → d ≤ 15 → v ≤ 4096
+  seek-meets : Opened (m .store) (m .journal) (m .logs) t → d ≤ 15 → v ≤ 4096
       → let x = transaction (m .store) t in
       let after = withTransaction t (withDescriptors (set (x .descriptors) d (record { standing = afterSeek v (standingAt x d); dirty = true })) x) (m .store) in
       Meets (call (on t (seek d v)) m) Done (withStore after m) []
@@ -54,3 +60,24 @@ module _ (t d v : ℕ) (m : Machine) (passes : admission (sizes m) (m .store) (m
             (writes-same (m .store) (m .journal) (m .logs) t o));
         reader = sym (ap (λ (w : Turn). w .reply .buffer) e);
       }
+
+-- The record with descriptor d put back, as the code puts it.
+module _ (t d v : ℕ) (kept files logs marks : List ℕ) (long : length kept ≡ 2088) (few : d ≤ 15) (fits : v ≤ 4096) where
+  abbrev handedOver : Machine
+  handedOver = machineOf kept files logs marks
+
+  pub seek-follows : admission (sizes handedOver) (storeOf kept) (journalOf kept) t ≡ 0 → LetThrough handedOver t → transaction (storeOf kept) t .begun ≡ true
+      → (z y : Standing) → z ≡ standingAt (transactionOf kept t) d → y ≡ afterSeek v z
+      → (after : List ℕ) → after ≡ withDescriptorAt kept t d (record { standing = y; dirty = true })
+      → Meets (call (on t (seek d v)) handedOver) Done (machineOf after files logs marks) [] × LeftAsFound Done kept after
+  seek-follows passes through begun z y is-z is-y after is-after =
+      let small = through .small in
+      let x = transaction (storeOf kept) t in
+      let q : Descriptor = record { standing = y; dirty = true } in
+      let o = opened handedOver t (shaped kept) (length-journal kept) through begun in
+      let e =
+      ap storeOf is-after ∙ store-with-descriptor kept t d q long small (omega arith)
+      ∙ ap (λ (w : Standing). withTransaction t (withDescriptors (set (x .descriptors) d (record { standing = w; dirty = true })) x) (storeOf kept))
+      (is-y ∙ ap (afterSeek v) (is-z ∙ ap (λ (u : Transaction). standingAt u d) (sym (transaction-of kept t small)))) in
+      let f = ap journalOf is-after ∙ journal-with-descriptor kept t d q long small (omega arith) in
+      (rw (e, f) (seek-meets t d v handedOver passes o few fits), done-follows kept after)

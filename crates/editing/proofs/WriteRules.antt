@@ -1,5 +1,5 @@
 -- The rule of Write after each of its tests.
-use mathlib.Core.Bool.{Bool, true, false, cond}
+use mathlib.Core.Bool.{Bool, true, false}
 use mathlib.Core.List.{List, []}
 use mathlib.Core.Path.{_≡_, refl, sym, ap, ap₂, _∙_}
 use borrow.Author.Tests.{le-leb, lt-leb, leb-true}
@@ -9,27 +9,37 @@ use native.Mathlib.Omega.{arith}
 use Prim.Native.Nat.{ℕ, _+_, _*_, _≤_, _<_}
 use Rattle.octets.specs.Parts.{pasted}
 use Rattle.counters.specs.declared.Used.{Used}
-use Rattle.record.specs.declared.outcomes.Refusal.{Refusal}
-use Rattle.record.specs.declared.Store.{Store}
-use Rattle.record.specs.declared.outcomes.Outcome.the-variants.{Done}
-use Rattle.standings.specs.Table.{placeNumber}
-use Rattle.record.specs.State.{transaction, standingAt, withUsed, withDescriptors, withTransaction}
-use Rattle.record.specs.Journal.{withRecordAt}
-use Rattle.record.specs.Paper.{plain, said, number}
+use Rattle.standings.specs.declared.Place.{Place}
 use Rattle.standings.specs.declared.Standing.{Standing}
 use Rattle.standings.specs.declared.Standing.the-variants.{Untouched, Placed, Deferred, Moved, Known}
+use Rattle.standings.specs.Table.{placeNumber, afterWrite, writePlace}
+use Rattle.record.specs.declared.outcomes.Refusal.{Refusal}
+use Rattle.record.specs.declared.outcomes.Outcome.the-variants.{Done}
+use Rattle.record.specs.declared.Descriptor.{Descriptor}
+use Rattle.record.specs.declared.Transaction.{Transaction}
+use Rattle.record.specs.declared.Store.{Store}
+use Rattle.record.specs.declared.journal.WriteRecord.{WriteRecord}
+use Rattle.record.specs.State.{transaction, standingAt, withUsed, withDescriptors, withTransaction}
+use Rattle.record.specs.Journal.{withRecordAt}
+use Rattle.record.specs.Layout.{transactionOf, storeOf, journalOf, withDescriptorAt, withUsedAt}
+use Rattle.record.specs.Paper.{plain, said, number}
+use Rattle.record.proofs.JournalLaws.{length-with-at}
+use Rattle.record.proofs.LayoutLaws.{length-journal, transaction-of, store-with-record, journal-with-record, store-with-used, journal-with-used, length-with-used, store-with-descriptor, journal-with-descriptor}
 use Rattle.ranges.specs.Ranges.{admission, unless, standingIn}
-use Rattle.ranges.proofs.Laws.{and-right}
+use Rattle.ranges.proofs.Laws.{and-right, number-suc}
 use Rattle.rules.specs.Items.{Prog, done}
-use Rattle.standings.specs.Table.{afterWrite, writePlace}
-use Rattle.rules.specs.Messages.{Op, write, bufferOf, on}
-use Rattle.rules.specs.Steps.{Stepped, refuse, accept, check, step, writeStep, written, total, looks, turnsBack}
-use Rattle.rules.specs.Machine.{Machine, lent, withStore, withJournal, withLogs, sizes, fileOf, txnOf, recordOf}
+use Rattle.rules.specs.Messages.{write, bufferOf, on}
+use Rattle.rules.specs.Steps.{Stepped, refuse, accept, check, step, writeStep, written, looks, turnsBack}
+use Rattle.rules.specs.Machine.{Machine, lent, sizes, fileOf, txnOf, recordOf}
 use Rattle.rules.specs.Calls.{Turn, turnDown, logged, call}
-use Rattle.laws.proofs.Decoded.{Opened, decoded-count, decoded-total}
+use Rattle.rules.specs.Promises.{Meets, machineOf, LeftAsFound}
+use Rattle.laws.proofs.Shapes.{shaped, eight, put-twice}
+use Rattle.laws.proofs.Decoded.{Opened, opened, decoded-count, decoded-total}
 use Rattle.laws.proofs.Encoded.{txn-written, writes-more}
-use Rattle.rules.specs.Promises.{Meets}
-use Rattle.refusing.proofs.Turns.{number-suc, on-refused, on-accepted, check-held, check-failed}
+use Rattle.refusing.proofs.Turns.{LetThrough, on-refused, on-accepted, check-held, check-failed, done-follows}
+use Rattle.editing.specs.Writes.{writeRefusal, Room, storeWritten, journalWritten}
+
+-- ---- the room
 
 -- Three tests in a row: the number of the first that fails, and the step that they guard.
 module _ (i j k : ℕ) where
@@ -48,14 +58,16 @@ module _ (i j k : ℕ) where
   three-held true true false hi hj hk e = absurd (let f : k ≡ 0 = e in omega arith)
   three-held true true true hi hj hk e = (refl, refl, refl)
 
--- Refusals 9 to 11 for a write of these bytes through descriptor d, on the record; 0 stands for none.
-abbrev pub writeRefusal : Store → ℕ → ℕ → ℕ → ℕ
-writeRefusal s t d n =
-    unless (leb (placeNumber (writePlace (standingAt (transaction s t) d)) + n) 4096) 9
-    (unless (leb (transaction s t .used .records + 1) 64) 10 (unless (leb (transaction s t .used .bytes + n) 4096) 11 0))
+pub room-left : (place : Place) (used : Used) (n : ℕ) → writeRefusal place used n ≡ 0 → Room place used n
+unfolding writeRefusal
+room-left place used n e =
+    let three =
+    three-held 9 10 11 (leb (placeNumber place + n) 4096) (leb (used .records + 1) 64) (leb (used .bytes + n) 4096) (omega arith) (omega arith) (omega arith) e in
+    let few = leb-true (used .records + 1) 64 (three .1) in
+    record { file = leb-true _ 4096 (three .0); records = omega arith; log = leb-true _ 4096 (three .2) }
 
 -- A place in range.
-pub place-within : (z : Standing) → standingIn z ≡ true → placeNumber (writePlace z) ≤ 4096
+place-within : (z : Standing) → standingIn z ≡ true → placeNumber (writePlace z) ≤ 4096
 unfolding standingIn writePlace
 place-within Untouched e = omega arith
 place-within (Placed o) e = leb-true o 4096 e
@@ -63,23 +75,41 @@ place-within (Deferred a) e = leb-true a 4096 e
 place-within (Moved a o) e = leb-true o 4096 (and-right (leb a 4096) (leb o 4096) e)
 place-within (Known o) e = leb-true o 4096 e
 
+-- ---- the record with one write more, as the code puts it
+
 -- The two counters, from each of them.
-pub both-counters : (u : Used) (r b : ℕ) → u .records ≡ r → u .bytes ≡ b → u ≡ record { records = r; bytes = b }
+both-counters : (u : Used) (r b : ℕ) → u .records ≡ r → u .bytes ≡ b → u ≡ record { records = r; bytes = b }
 both-counters u r b e f = λ i. record { records = e i; bytes = f i }
 
--- What passing these tests tells.
-pub record Room (s : Store) (t d n : ℕ) : Type 0 where
-  pub file : placeNumber (writePlace (standingAt (transaction s t) d)) + n ≤ 4096
-  pub records : transaction s t .used .records < 64
-  pub log : transaction s t .used .bytes + n ≤ 4096
+module _ (t d n : ℕ) (z : Standing) (used : Used) (kept : List ℕ) (long : length kept ≡ 2088) (small : t < 8) (few : d < 16) (room : used .records < 64) where
+  pub write-put : (p : Place) (u : Used) (y : Standing) (one two three : List ℕ)
+      → p ≡ writePlace z → one ≡ withRecordAt kept t (used .records) (record { descriptor = d; place = p; length = n })
+      → u .records ≡ used .records + 1 → u .bytes ≡ used .bytes + n → two ≡ withUsedAt one t u
+      → y ≡ afterWrite n z → three ≡ withDescriptorAt two t d (record { standing = y; dirty = true })
+      → (storeOf three ≡ storeWritten t d z used n (storeOf kept)) × (journalOf three ≡ journalWritten t d z used n (journalOf kept))
+  unfolding storeWritten journalWritten
+  write-put p u y one two three is-p is-one is-records is-bytes is-two is-y is-three =
+      let w : WriteRecord = record { descriptor = d; place = p; length = n } in
+      let q : Descriptor = record { standing = y; dirty = true } in
+      let x = transaction (storeOf kept) t in
+      let described : Transaction → Transaction = λ v. withDescriptors (set (v .descriptors) d q) v in
+      let long-one : length one ≡ 2088 = ap length is-one ∙ length-with-at kept t (used .records) w ∙ long in
+      let long-two : length two ≡ 2088 = ap length is-two ∙ length-with-used one t long-one small u ∙ long-one in
+      let store-two : storeOf two ≡ withTransaction t (withUsed u x) (storeOf kept) =
+      ap storeOf is-two ∙ store-with-used one t long-one small u
+      ∙ ap (λ (s : Store). withTransaction t (withUsed u (transaction s t)) s) (ap storeOf is-one ∙ store-with-record kept long t (used .records) w small room) in (
+        ap storeOf is-three ∙ store-with-descriptor two t d q long-two small few
+            ∙ ap (λ (s : Store). withTransaction t (described (transaction s t)) s) store-two
+            ∙ put-twice (storeOf kept) t (withUsed u x) described (eight kept t small)
+            ∙ ap₂ (λ (v : Used) (e : Standing). withTransaction t (withUsed v (withDescriptors (set (x .descriptors) d (record { standing = e; dirty = true })) x)) (storeOf kept))
+            (both-counters u _ _ is-records is-bytes) is-y,
+        ap journalOf is-three ∙ journal-with-descriptor two t d q long-two small few
+            ∙ ap journalOf is-two ∙ journal-with-used one t long-one small u
+            ∙ ap journalOf is-one ∙ journal-with-record kept long t (used .records) w small room
+            ∙ ap (λ (e : Place). withRecordAt (journalOf kept) t (used .records) (record { descriptor = d; place = e; length = n })) is-p,
+      )
 
-pub room-left : (s : Store) (t d n : ℕ) → writeRefusal s t d n ≡ 0 → Room s t d n
-room-left s t d n e =
-    let three =
-    three-held 9 10 11 (leb (placeNumber (writePlace (standingAt (transaction s t) d)) + n) 4096) (leb (transaction s t .used .records + 1) 64)
-    (leb (transaction s t .used .bytes + n) 4096) (omega arith) (omega arith) (omega arith) e in
-    let few = leb-true (transaction s t .used .records + 1) 64 (three .1) in
-    record { file = leb-true _ 4096 (three .0); records = omega arith; log = leb-true _ 4096 (three .2) }
+-- ---- the rule
 
 module _ (t d : ℕ) (bytes : List ℕ) (m : Machine) (passes : admission (sizes m) (m .store) (m .journal) t ≡ 0) where
   pub write-no-descriptor : 15 < d → call (on t (write d bytes)) m ≡ turnDown 6 [] m
@@ -87,54 +117,92 @@ module _ (t d : ℕ) (bytes : List ℕ) (m : Machine) (passes : admission (sizes
   write-no-descriptor h = on-refused t (write d bytes) m passes (unfold turnsBack looks in refl) 6 (check-failed (leb d 15) 6 _ (lt-leb d 15 h))
 
   module _ (o : Opened (m .store) (m .journal) (m .logs) t) (low : d ≤ 15) where
+    abbrev place : Place
+    place = writePlace (standingAt (transaction (m .store) t) d)
+
+    abbrev used : Used
+    used = transaction (m .store) t .used
+
     -- The step, with its tests on the record.
     stepped : step (fileOf (m .store)) (write d bytes) (txnOf (m .store) (m .journal) (m .logs) t)
-        ≡ check (leb (placeNumber (writePlace (standingAt (transaction (m .store) t) d)) + length bytes) 4096) 9
-        (check (leb (transaction (m .store) t .used .records + 1) 64) 10
-        (check (leb (transaction (m .store) t .used .bytes + length bytes) 4096) 11
+        ≡ check (leb (placeNumber place + length bytes) 4096) 9
+        (check (leb (used .records + 1) 64) 10
+        (check (leb (used .bytes + length bytes) 4096) 11
         (done (accept (written d bytes (txnOf (m .store) (m .journal) (m .logs) t)) plain []))))
     unfolding step writeStep txnOf
     stepped =
         check-held (leb d 15) 6 _ (le-leb d 15 low)
         ∙ rw (decoded-count (m .store) (m .journal) (m .logs) t o, decoded-total (m .store) (m .journal) (m .logs) t o)
 
-    pub write-refused : (r : Refusal) → number r ≡ writeRefusal (m .store) t d (length bytes) → call (on t (write d bytes)) m ≡ turnDown (number r) [] m
-    unfolding bufferOf
+    write-refused : (r : Refusal) → number r ≡ writeRefusal place used (length bytes) → call (on t (write d bytes)) m ≡ turnDown (number r) [] m
+    unfolding bufferOf writeRefusal
     write-refused r e =
         on-refused t (write d bytes) m passes (unfold turnsBack looks in refl) (number r) (stepped ∙ three-refused 9 10 11 _ _ _ _ r e)
 
-    module _ (room : Room (m .store) t d (length bytes)) where
+    module _ (room : Room place used (length bytes)) where
       accepted : step (fileOf (m .store)) (write d bytes) (txnOf (m .store) (m .journal) (m .logs) t) ≡ done (accept (written d bytes (txnOf (m .store) (m .journal) (m .logs) t)) plain [])
       accepted =
           stepped
-          ∙ check-held (leb (placeNumber (writePlace (standingAt (transaction (m .store) t) d)) + length bytes) 4096) 9 _ (le-leb _ 4096 (room .file))
-          ∙ check-held (leb (transaction (m .store) t .used .records + 1) 64) 10 _ (le-leb (transaction (m .store) t .used .records + 1) 64 (omega (arith, room .records)))
-          ∙ check-held (leb (transaction (m .store) t .used .bytes + length bytes) 4096) 11 _ (le-leb _ 4096 (room .log))
+          ∙ check-held (leb (placeNumber place + length bytes) 4096) 9 _ (le-leb _ 4096 (room .file))
+          ∙ check-held (leb (used .records + 1) 64) 10 _ (le-leb (used .records + 1) 64 (omega (arith, room .records)))
+          ∙ check-held (leb (used .bytes + length bytes) 4096) 11 _ (le-leb _ 4096 (room .log))
 
       -- An accepted Write adds a record, moves the counters forward, sets the standing of d and makes d dirty, and puts its bytes in
       -- the log directly after the data used.
-      pub write-meets : (u : Used) (z : Standing) (journal logs : List ℕ)
-          → let x = transaction (m .store) t in
-          u .records ≡ x .used .records + 1
-          → u .bytes ≡ x .used .bytes + length bytes
-          → z ≡ afterWrite (length bytes) (standingAt x d)
-          → journal ≡ withRecordAt (m .journal) t (x .used .records) (record { descriptor = d; place = writePlace (standingAt x d); length = length bytes })
-          → logs ≡ pasted (m .logs) (4096 * t + x .used .bytes) bytes
-          → let after = withTransaction t (withUsed u (withDescriptors (set (x .descriptors) d (record { standing = z; dirty = true })) x)) (m .store) in
+      write-meets : let z = standingAt (transaction (m .store) t) d in
           Meets (call (on t (write d bytes)) m) Done
-          (withStore after (withJournal journal (withLogs logs m))) []
-      unfolding said logged written recordOf txnOf
-      write-meets u z journal logs er eb ez ej el =
+          (lent (storeWritten t d z used (length bytes) (m .store)) (journalWritten t d z used (length bytes) (m .journal)) (m .files) (pasted (m .logs) (4096 * t + used .bytes) bytes) (m .marks)) []
+      unfolding said logged written recordOf txnOf storeWritten journalWritten
+      write-meets =
           let y = txnOf (m .store) (m .journal) (m .logs) t in
           let e = on-accepted t (write d bytes) m passes (unfold turnsBack looks in refl) (written d bytes y) plain [] accepted in
-          rw (both-counters u _ _ er eb, ez, ej, el)
-          (record {
+          record {
             outcome = sym (ap (λ (w : Turn). w .reply .answer) e);
             machine =
                 sym
                 (ap (λ (w : Turn). w .after) e
-                ∙ ap₂ (λ (s : Store) (j : List ℕ). lent s j (m .files) (pasted (m .logs) (4096 * t + transaction (m .store) t .used .bytes) bytes) (m .marks))
+                ∙ ap₂ (λ (s : Store) (j : List ℕ). lent s j (m .files) (pasted (m .logs) (4096 * t + used .bytes) bytes) (m .marks))
                 (txn-written (m .store) (m .journal) (m .logs) t o d bytes (omega arith))
                 (writes-more (m .store) (m .journal) (m .logs) t o _));
             reader = sym (ap (λ (w : Turn). w .reply .buffer) e);
-          })
+          }
+
+-- ---- with what the code reads
+
+-- A Write that its first tests have let through, the standing of d and the counters as they were read.
+pub record Reached (t d : ℕ) (kept files logs marks : List ℕ) (z : Standing) (used : Used) : Type 0 where
+  pub low : d ≤ 15
+  pub passes : admission (sizes (machineOf kept files logs marks)) (storeOf kept) (journalOf kept) t ≡ 0
+  pub through : LetThrough (machineOf kept files logs marks) t
+  pub begun : transaction (storeOf kept) t .begun ≡ true
+  pub reads-standing : z ≡ standingAt (transactionOf kept t) d
+  pub reads-used : used ≡ transactionOf kept t .used
+
+module _ {t d : ℕ} {kept files logs marks : List ℕ} {z : Standing} {used : Used} (a : Reached t d kept files logs marks z used) where
+  abbrev handedOver : Machine
+  handedOver = machineOf kept files logs marks
+
+  open-here : Opened (storeOf kept) (journalOf kept) logs t
+  open-here = opened handedOver t (shaped kept) (length-journal kept) (a .through) (a .begun)
+
+  is-standing : z ≡ standingAt (transaction (storeOf kept) t) d
+  is-standing = a .reads-standing ∙ ap (λ (x : Transaction). standingAt x d) (sym (transaction-of kept t (a .through .small)))
+
+  is-used : used ≡ transaction (storeOf kept) t .used
+  is-used = a .reads-used ∙ ap (λ (x : Transaction). x .used) (sym (transaction-of kept t (a .through .small)))
+
+  pub numbers-within : (placeNumber (writePlace z) ≤ 4096) × (used .bytes ≤ 4096)
+  numbers-within = (rw is-standing (place-within _ (open-here .ranges .standings d (omega (arith, a .low)))), rw is-used (open-here .ranges .bytes))
+
+  pub write-no-room : (bytes : List ℕ) (r : Refusal) → number r ≡ writeRefusal (writePlace z) used (length bytes)
+      → call (on t (write d bytes)) handedOver ≡ turnDown (number r) [] handedOver
+  write-no-room bytes r e =
+      write-refused t d bytes handedOver (a .passes) open-here (a .low) r
+      (e ∙ ap₂ (λ (y : Standing) (u : Used). writeRefusal (writePlace y) u (length bytes)) is-standing is-used)
+
+  pub write-follows : (bytes : List ℕ) → Room (writePlace z) used (length bytes)
+      → (after filled : List ℕ) → filled ≡ pasted logs (4096 * t + used .bytes) bytes
+      → storeOf after ≡ storeWritten t d z used (length bytes) (storeOf kept) → journalOf after ≡ journalWritten t d z used (length bytes) (journalOf kept)
+      → Meets (call (on t (write d bytes)) handedOver) Done (machineOf after files filled marks) [] × LeftAsFound Done kept after
+  write-follows bytes room after filled is-filled is-store is-journal =
+      (rw (is-store, is-journal, is-filled, is-standing, is-used) (write-meets t d bytes handedOver (a .passes) open-here (a .low) (rw (is-standing, is-used) at room)), done-follows kept after)

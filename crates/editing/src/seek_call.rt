@@ -2,53 +2,47 @@
 use numbers::FILE_BYTES;
 use ranges::Gate;
 use record::Descriptor;
-use record::Store;
-use record::journal::NUMBERS;
-use record::outcomes::Answer;
+use record::layout::Record;
+use record::layout::is_begun;
+use record::layout::put_descriptor;
+use record::layout::standing_at;
 use record::outcomes::Outcome;
 use record::outcomes::Refusal;
 ghost use mathlib.Core.List.{[]};
-ghost use mathlib.Core.Path.{_≡_};
 ghost use Rattle.rules.specs.Messages.{Op, Call};
 ghost use Rattle.rules.specs.Calls.{call};
-ghost use Rattle.rules.specs.Machine.{lent};
-ghost use Rattle.rules.specs.Promises.{Meets};
+ghost use Rattle.rules.specs.Promises.{Follows};
 
 // Sets the offset of descriptor d in transaction t to v, at most 4,096.
 pub fn seek(
-    mut s: Store,
-    journal: &[u16; NUMBERS],
+    kept: &mut Record,
     files: &[u8],
     logs: &[u8],
     marks: &[u8],
     t: usize,
     d: usize,
     v: usize,
-) -> Answer
-    ensures { λ r. ⌜ Meets (call (Call.on t (Op.seek d v)) (lent s (now (journal .entry)) (now (files .entry)) (now (logs .entry)) (now (marks .entry)))) (r .outcome) (lent (r .store) (now (journal .exit)) (now (files .exit)) (now (logs .exit)) (now (marks .exit))) [] ⌝ }
+) -> Outcome
+    ensures { λ r. ⌜ Follows (call (Call.on t (Op.seek d v))) kept files logs marks r [] ⌝ }
 {
-    let g = ranges::admit(s, journal, files.len(), logs.len(), marks.len(), t);
+    let g = ranges::admit(kept, files.len(), logs.len(), marks.len(), t);
     if let Gate::Refused(r) = g {
-        return refusing::turned_down(r, s);
+        return Outcome::Refused(r);
     }
-    let mut x = s.transactions[t];
-    if !x.begun {
-        return refusing::turned_down(Refusal::NotOpen, s);
+    if !is_begun(kept, t) {
+        return Outcome::Refused(Refusal::NotOpen);
     }
     if 15 < d {
-        return refusing::turned_down(Refusal::NoSuchDescriptor, s);
+        return Outcome::Refused(Refusal::NoSuchTarget);
     }
     if FILE_BYTES < v {
-        return refusing::turned_down(Refusal::SeekPastEnd, s);
+        return Outcome::Refused(Refusal::SeekPastEnd);
     }
-    let z = x.standing_at(d);
-    x.descriptors[d] = Descriptor {
+    let z = standing_at(kept, t, d);
+    let q = Descriptor {
         standing: z.after_seek(v as u16),
         dirty: true,
     };
-    s.transactions[t] = x;
-    Answer {
-        store: s,
-        outcome: Outcome::Done,
-    }
+    put_descriptor(kept, t, d, q);
+    Outcome::Done
 }

@@ -1,94 +1,103 @@
 // Write.
+use counters::Used;
 use numbers::FILE_BYTES;
 use numbers::wide;
-use numbers::wide_octet;
 use octets::parts;
 use ranges::Gate;
 use record::Descriptor;
-use record::Store;
-use record::journal::NUMBERS;
 use record::journal::RECORDS;
 use record::journal::WriteRecord;
 use record::journal::put_record;
-use record::outcomes::Answer;
+use record::layout::Record;
+use record::layout::is_begun;
+use record::layout::put_descriptor;
+use record::layout::put_used;
+use record::layout::standing_at;
+use record::layout::used_at;
 use record::outcomes::Outcome;
 use record::outcomes::Refusal;
+use standings::Place;
+use standings::Standing;
 ghost use mathlib.Core.List.{[]};
 ghost use mathlib.Core.Path.{_≡_};
-ghost use Prim.Native.Nat.{_+_, _≤_};
-ghost use lib.Dec.{leb};
-ghost use Rattle.ranges.specs.Ranges.{gateNumber, unless};
+ghost use Prim.Native.Nat.{_<_, _≤_};
+ghost use lib.ListN.{length};
+ghost use Rattle.standings.specs.Table.{placeNumber, writePlace};
+ghost use Rattle.record.specs.Layout.{storeOf, journalOf};
+ghost use Rattle.ranges.specs.Ranges.{gateNumber};
 ghost use Rattle.rules.specs.Messages.{Op, Call};
 ghost use Rattle.rules.specs.Calls.{call};
-ghost use Rattle.rules.specs.Machine.{lent};
-ghost use Rattle.rules.specs.Promises.{Meets};
+ghost use Rattle.rules.specs.Promises.{Follows};
+ghost use Rattle.editing.specs.Writes.{writeRefusal, Room, storeWritten, journalWritten};
 
 // Refusals 9 to 11 of a write of n bytes: past the end of its file, as 65th record, or past the end of its log.
-fn room(place: usize, n: usize, records: usize, end: usize) -> Gate
-    requires { ⌜ (place ≤ 4096) × (end ≤ 4096) ⌝ }
-    ensures { λ r. ⌜ gateNumber r ≡ unless (leb (place + n) 4096) 9 (unless (leb (records + 1) 64) 10 (unless (leb (end + n) 4096) 11 0)) ⌝ }
+fn room(place: Place, used: Used, n: usize) -> Gate
+    requires { ⌜ (placeNumber place ≤ 4096) × (used .bytes ≤ 4096) ⌝ }
+    ensures { λ r. ⌜ gateNumber r ≡ writeRefusal place used n ⌝ }
 {
-    if FILE_BYTES - place < n {
+    if FILE_BYTES - wide(place.number()) < n {
         return Gate::Refused(Refusal::WritePastEnd);
     }
-    if RECORDS <= records {
+    if RECORDS <= used.records {
         return Gate::Refused(Refusal::RecordsFull);
     }
-    if FILE_BYTES - end < n {
+    if FILE_BYTES - wide(used.bytes) < n {
         return Gate::Refused(Refusal::LogFull);
     }
     Gate::Pass
 }
 
-// Writes bytes through descriptor d of transaction t into its log. A write whose place is unknown lies after the advance before it.
+// Puts a write of n bytes through descriptor d, which stood at z, into the record: its write record, the counters, d.
+fn put_write(kept: &mut Record, t: usize, d: usize, z: Standing, u: Used, n: u16)
+    requires { ⌜ (length (now kept) ≡ 2088) × (t < 8) × (d < 16) ⌝ }
+    requires { ⌜ Room (writePlace z) u n ⌝ }
+    ensures { λ _. ⌜ storeOf (now (kept .exit)) ≡ storeWritten t d z u n (storeOf (now (kept .entry))) ⌝ }
+    ensures { λ _. ⌜ journalOf (now (kept .exit)) ≡ journalWritten t d z u n (journalOf (now (kept .entry))) ⌝ }
+{
+    let w = WriteRecord {
+        descriptor: d as u16,
+        place: z.write_place(),
+        length: n,
+    };
+    put_record(kept, t, u.records, w);
+    put_used(kept, t, counters::appended(u, n));
+    let q = Descriptor {
+        standing: z.after_write(n),
+        dirty: true,
+    };
+    put_descriptor(kept, t, d, q);
+}
+
+// Writes bytes through descriptor d of transaction t into its log. A write whose place is unknown lies after the
+// advance before it.
 pub fn write(
-    mut s: Store,
-    journal: &mut [u16; NUMBERS],
+    kept: &mut Record,
     files: &[u8],
     logs: &mut [u8],
     marks: &[u8],
     t: usize,
     d: usize,
     bytes: &[u8],
-) -> Answer
-    ensures { λ r. ⌜ Meets (call (Call.on t (Op.write d (now (bytes .entry)))) (lent s (now (journal .entry)) (now (files .entry)) (now (logs .entry)) (now (marks .entry)))) (r .outcome) (lent (r .store) (now (journal .exit)) (now (files .exit)) (now (logs .exit)) (now (marks .exit))) [] ⌝ }
+) -> Outcome
+    ensures { λ r. ⌜ Follows (call (Call.on t (Op.write d (now (bytes .entry))))) kept files logs marks r [] ⌝ }
 {
-    let g = ranges::admit(s, journal, files.len(), logs.len(), marks.len(), t);
+    let g = ranges::admit(kept, files.len(), logs.len(), marks.len(), t);
     if let Gate::Refused(r) = g {
-        return refusing::turned_down(r, s);
+        return Outcome::Refused(r);
     }
-    let mut x = s.transactions[t];
-    if !x.begun {
-        return refusing::turned_down(Refusal::NotOpen, s);
+    if !is_begun(kept, t) {
+        return Outcome::Refused(Refusal::NotOpen);
     }
     if 15 < d {
-        return refusing::turned_down(Refusal::NoSuchDescriptor, s);
+        return Outcome::Refused(Refusal::NoSuchTarget);
     }
-    let z = x.standing_at(d);
-    let place = z.write_place();
-    let records = wide_octet(x.used.records);
-    let end = wide(x.used.bytes);
-    let h = room(wide(place.number()), bytes.len(), records, end);
+    let z = standing_at(kept, t, d);
+    let used = used_at(kept, t);
+    let h = room(z.write_place(), used, bytes.len());
     if let Gate::Refused(r) = h {
-        return refusing::turned_down(r, s);
+        return Outcome::Refused(r);
     }
-    parts::copy_to(logs, FILE_BYTES * t + end, bytes);
-    let length = bytes.len() as u16;
-    let w = WriteRecord {
-        descriptor: d as u16,
-        place,
-        length,
-    };
-    put_record(journal, t, records, w);
-    let used = x.used;
-    x.used = counters::appended(used, length);
-    x.descriptors[d] = Descriptor {
-        standing: z.after_write(length),
-        dirty: true,
-    };
-    s.transactions[t] = x;
-    Answer {
-        store: s,
-        outcome: Outcome::Done,
-    }
+    parts::copy_to(logs, FILE_BYTES * t + wide(used.bytes), bytes);
+    put_write(kept, t, d, z, used, bytes.len() as u16);
+    Outcome::Done
 }

@@ -1,15 +1,13 @@
-// A caller of the store. Transaction 1 reads an empty file while transaction 0 writes to it: the commit of 0 makes 1 stale, since the file
-// no longer ends where 1 saw it end; the commit of 1 is refused, and 1 starts again.
+// A caller of the store. Transaction 1 reads an empty file while transaction 0 writes to it: the commit of 0 makes 1
+// stale, since the file no longer ends where 1 saw it end; the commit of 1 is refused, and 1 starts again.
 use libc::STDOUT_FILENO;
-use record::Store;
-use record::journal::NUMBERS;
-use record::outcomes::Answer;
+use numbers::BUFFER_BYTES;
+use record::layout::NUMBERS;
+use record::layout::Record;
 use record::outcomes::Outcome;
 
-// A store buffer, and the second part of the record.
-type Buffer = [u8; 32768];
-
-type Journal = [u16; NUMBERS];
+// A store buffer.
+type Buffer = [u8; BUFFER_BYTES];
 
 fn print(text: &[u8]) {
     io::write_all(STDOUT_FILENO, text);
@@ -20,9 +18,8 @@ fn print_number(text: &[u8], n: u64) {
     io::print_decimal(STDOUT_FILENO, n);
 }
 
-// Prints what a call answered, and hands back the record to keep.
-fn told(call: &[u8], a: Answer) -> Store {
-    let o = a.outcome;
+// Prints what a call answered.
+fn tell(call: &[u8], o: Outcome) {
     print(call);
     match o {
         Outcome::Done => print(b": done"),
@@ -36,54 +33,44 @@ fn told(call: &[u8], a: Answer) -> Store {
         Outcome::Refused(_) => print(b": refused"),
     }
     print(b"\n");
-    a.store
-}
-
-// A fresh store whose descriptors all belong to file 0, with transactions 0 and 1 begun. Every call takes the record, its first part
-// by value and its second lent, with the three store buffers, and answers its outcome with the first part to keep.
-fn begun(journal: &mut Journal, files: &mut Buffer, logs: &Buffer, marks: &mut Buffer) -> Store {
-    let a = store::fresh(record::blank(), journal, files, logs, marks, &[0u8; 16]);
-    let a = store::begin(a.store, journal, files, logs, marks, 0);
-    let a = store::begin(a.store, journal, files, logs, marks, 1);
-    a.store
 }
 
 // Transaction 0 writes through descriptor 0 and transaction 1 reads through descriptor 1; then both commit.
-fn both(
-    s: Store,
-    journal: &mut Journal,
-    files: &mut Buffer,
-    logs: &mut Buffer,
-    marks: &mut Buffer,
-) -> Store {
+fn both(kept: &mut Record, files: &mut Buffer, logs: &mut Buffer, marks: &mut Buffer) {
     let mut reader = [0u8; 5];
-    let a = store::write(s, journal, files, logs, marks, 0, 0, b"hello");
-    let s = told(b"0 writes", a);
-    let a = store::read(s, journal, files, logs, marks, 1, 1, 5, &mut reader);
-    let s = told(b"1 reads", a);
-    let a = store::commit(s, journal, files, logs, marks, 0);
-    let s = told(b"commit 0", a);
-    let a = store::commit(s, journal, files, logs, marks, 1);
-    told(b"commit 1", a)
+    store::begin(kept, files, logs, marks, 0);
+    store::begin(kept, files, logs, marks, 1);
+    tell(
+        b"0 writes",
+        store::write(kept, files, logs, marks, 0, 0, b"hello"),
+    );
+    tell(
+        b"1 reads",
+        store::read(kept, files, logs, marks, 1, 1, 5, &mut reader),
+    );
+    tell(b"commit 0", store::commit(kept, files, logs, marks, 0));
+    tell(b"commit 1", store::commit(kept, files, logs, marks, 1));
 }
 
 // Transaction 1 again.
-fn again(s: Store, journal: &mut Journal, files: &mut Buffer, logs: &Buffer, marks: &mut Buffer) {
+fn again(kept: &mut Record, files: &mut Buffer, logs: &Buffer, marks: &mut Buffer) {
     let mut reader = [0u8; 5];
-    let a = store::begin(s, journal, files, logs, marks, 1);
-    let a = store::read(a.store, journal, files, logs, marks, 1, 1, 5, &mut reader);
-    let s = told(b"1 reads", a);
+    store::begin(kept, files, logs, marks, 1);
+    tell(
+        b"1 reads",
+        store::read(kept, files, logs, marks, 1, 1, 5, &mut reader),
+    );
     print(&reader);
-    let a = store::commit(s, journal, files, logs, marks, 1);
-    told(b"\ncommit 1", a);
+    tell(b"\ncommit 1", store::commit(kept, files, logs, marks, 1));
 }
 
+// A fresh store whose descriptors all belong to file 0.
 fn main() {
-    let mut journal = [0u16; NUMBERS];
-    let mut files = [0u8; 32768];
-    let mut logs = [0u8; 32768];
-    let mut marks = [0u8; 32768];
-    let s = begun(&mut journal, &mut files, &logs, &mut marks);
-    let s = both(s, &mut journal, &mut files, &mut logs, &mut marks);
-    again(s, &mut journal, &mut files, &logs, &mut marks);
+    let mut kept = [0u16; NUMBERS];
+    let mut files = [0u8; BUFFER_BYTES];
+    let mut logs = [0u8; BUFFER_BYTES];
+    let mut marks = [0u8; BUFFER_BYTES];
+    store::fresh(&mut kept, &mut files, &logs, &mut marks, &[0u8; 16]);
+    both(&mut kept, &mut files, &mut logs, &mut marks);
+    again(&mut kept, &mut files, &logs, &mut marks);
 }

@@ -1,18 +1,26 @@
 // Forged records, which no run from Fresh reaches.
 use counters::Used;
 use generator::Damage;
+use numbers::FILE_BYTES;
+use numbers::FILE_END;
+use numbers::smaller;
 use record::Descriptor;
 use record::FILES;
-use record::Store;
-use record::Transaction;
-use record::journal::NUMBERS;
-use record::journal::RECORDS;
 use record::journal::WriteRecord;
 use record::journal::put_record;
 use record::journal::record_at;
+use record::layout::Record;
+use record::layout::is_begun;
+use record::layout::put_descriptor;
+use record::layout::put_file;
+use record::layout::put_length;
+use record::layout::put_lengthmarks;
+use record::layout::put_offset;
+use record::layout::put_used;
+use record::layout::reset;
+use record::layout::used_at;
 use standings::Place;
 use standings::Standing;
-ghost use mathlib.Core.Path.{_≡_};
 ghost use Prim.Native.Nat.{_<_};
 
 // A number above 4,096.
@@ -22,7 +30,7 @@ fn above(excess: usize) -> u16 {
 
 // A number next to n.
 fn other(n: u16) -> u16 {
-    if n < 4096 {
+    if n < FILE_END {
         return n + 1;
     }
     n - 1
@@ -30,10 +38,24 @@ fn other(n: u16) -> u16 {
 
 // Where a write of n bytes has to lie to end at 4,097.
 fn past(n: u16) -> u16 {
-    if n <= 4096 {
-        return 4097 - n;
+    if n <= FILE_END {
+        return FILE_END + 1 - n;
     }
-    4097
+    FILE_END + 1
+}
+
+// Forgeries 1, 2 and 16: a file number, a committed offset or a committed length.
+fn forge_committed(kept: &mut Record, g: Damage)
+    requires { ⌜ g .index < 16 ⌝ }
+{
+    let i = g.index;
+    if g.forgery == 1 {
+        put_file(kept, i, (8 + g.excess % 65528) as u16);
+    } else if g.forgery == 2 {
+        put_offset(kept, i, above(g.excess));
+    } else {
+        put_length(kept, i % FILES, above(g.excess));
+    }
 }
 
 // Forgeries 3 to 7: a standing out of range.
@@ -54,42 +76,47 @@ fn standing(forgery: usize, excess: usize) -> Standing {
     }
 }
 
-// The transaction with another standing of descriptor d, which is dirty or not: no range speaks of that.
-fn with_standing(mut x: Transaction, d: usize, z: Standing, dirty: bool) -> Transaction
-    requires { ⌜ d < 16 ⌝ }
+// Transaction t is open: begun where it was not.
+fn open(kept: &mut Record, t: usize)
+    requires { ⌜ t < 8 ⌝ }
 {
-    x.descriptors[d] = Descriptor { standing: z, dirty };
-    x
+    if !is_begun(kept, t) {
+        reset(kept, t, true);
+    }
 }
 
-// The transaction counted as begun, with other counters.
-fn with_used(mut x: Transaction, records: u8, bytes: u16) -> Transaction {
-    let used = Used { records, bytes };
-    x.begun = true;
-    x.used = used;
-    x
-}
-
-// Forgeries 3 to 9: a standing out of range, too many records, or the sum of their lengths; with any lengths sighted, of which no range
-// speaks.
-fn transaction(x: Transaction, g: Damage) -> Transaction
-    requires { ⌜ g .index < 16 ⌝ }
+// Forgeries 3 to 9: a standing out of range, too many records, or the sum of their lengths; with any lengths sighted,
+// of which no range speaks, and a descriptor that is dirty or not.
+fn forge_transaction(kept: &mut Record, g: Damage)
+    requires { ⌜ (g .transaction < 8) × (g .index < 16) ⌝ }
 {
-    let used = x.used;
-    let mut y = with_used(x, used.records, used.bytes);
-    y.lengthmarks = (g.excess % 256) as u8;
+    let t = g.transaction;
+    put_lengthmarks(kept, t, (g.excess % 65536) as u16);
+    let used = used_at(kept, t);
     if g.forgery < 8 {
-        return with_standing(y, g.index, standing(g.forgery, g.excess), g.excess % 2 == 0);
+        let q = Descriptor {
+            standing: standing(g.forgery, g.excess),
+            dirty: g.excess % 2 == 0,
+        };
+        put_descriptor(kept, t, g.index, q);
+    } else if g.forgery == 8 {
+        forge_used(kept, t, 65 + g.excess % 65471, used.bytes);
+    } else {
+        forge_used(kept, t, used.records, other(used.bytes));
     }
-    if g.forgery == 8 {
-        return with_used(y, (65 + g.excess % 191) as u8, used.bytes);
-    }
-    with_used(y, used.records, other(used.bytes))
+}
+
+// Other counters of transaction t. A number of the record has sixteen bits.
+fn forge_used(kept: &mut Record, t: usize, records: usize, bytes: u16)
+    requires { ⌜ t < 8 ⌝ }
+{
+    let records = smaller(records, 65535);
+    put_used(kept, t, Used { records, bytes });
 }
 
 // A write through descriptor 0, at place p.
 fn write_at(p: u16, length: u16) -> WriteRecord
-    ensures { λ r. ⌜ r .descriptor ≡ 0 ⌝ }
+    ensures { λ r. ⌜ r .descriptor < 16 ⌝ }
 {
     WriteRecord {
         descriptor: 0,
@@ -98,118 +125,101 @@ fn write_at(p: u16, length: u16) -> WriteRecord
     }
 }
 
-// Transaction t, counted as begun; where it has no write record it gets an empty one, at place 0.
-fn with_a_record(x: Transaction, journal: &mut [u16; NUMBERS], t: usize) -> Transaction
+// Transaction t has a write record: where it had none it gets an empty one, at place 0.
+fn write_one(kept: &mut Record, t: usize)
     requires { ⌜ t < 8 ⌝ }
 {
-    let used = x.used;
+    let used = used_at(kept, t);
     if used.records == 0 {
-        put_record(journal, t, 0, write_at(0, 0));
-        return with_used(x, 1, used.bytes);
+        put_record(kept, t, 0, write_at(0, 0));
+        forge_used(kept, t, 1, used.bytes);
     }
-    with_used(x, used.records, used.bytes)
 }
 
-// Forgeries 10 to 12: the first record's descriptor, its end, or the sum of the lengths. No record can be put with a descriptor above
-// 15, so the number itself is set.
-fn first_record(journal: &mut [u16; NUMBERS], g: Damage)
+// Forgeries 10 to 12: the first record's descriptor, its end, or the sum of the lengths.
+fn forge_record(kept: &mut Record, g: Damage)
     requires { ⌜ g .transaction < 8 ⌝ }
 {
     let t = g.transaction;
-    let w = record_at(journal, t, 0);
+    let w = record_at(kept, t, 0);
     if g.forgery == 10 {
-        journal[3 * RECORDS * t] = (32 + g.excess % 224) as u16;
-        return;
+        let far = WriteRecord {
+            descriptor: (16 + g.excess % 65504) as u16,
+            place: Place::After(0),
+            length: w.length,
+        };
+        put_record(kept, t, 0, far);
+    } else if g.forgery == 11 {
+        put_record(kept, t, 0, write_at(past(w.length), w.length));
+    } else {
+        put_record(kept, t, 0, write_at(0, other(w.length)));
     }
-    if g.forgery == 11 {
-        put_record(journal, t, 0, write_at(past(w.length), w.length));
-        return;
-    }
-    put_record(journal, t, 0, write_at(0, other(w.length)));
 }
 
 // Forgeries 13 and 14: a record without a place under Placed, or one that ends past the advance.
-fn without_place(x: Transaction, journal: &mut [u16; NUMBERS], g: Damage) -> Transaction
+fn forge_place(kept: &mut Record, g: Damage)
     requires { ⌜ (g .transaction < 8) × (g .index < 16) ⌝ }
 {
     let t = g.transaction;
     let i = g.index;
-    let w = record_at(journal, t, 0);
+    let w = record_at(kept, t, 0);
     let after = WriteRecord {
         descriptor: i as u16,
         place: Place::After(1),
         length: w.length,
     };
-    put_record(journal, t, 0, after);
+    put_record(kept, t, 0, after);
+    let mut standing = Standing::Deferred(0);
     if g.forgery == 13 {
-        return with_standing(x, i, Standing::Placed(0), false);
+        standing = Standing::Placed(0);
     }
-    with_standing(x, i, Standing::Deferred(0), false)
+    let q = Descriptor {
+        standing,
+        dirty: false,
+    };
+    put_descriptor(kept, t, i, q);
 }
 
 // Forgery 15: two records, each in range, whose data together is above 4,096 bytes.
-fn two_records(x: Transaction, journal: &mut [u16; NUMBERS], g: Damage) -> Transaction
+fn forge_two(kept: &mut Record, g: Damage)
     requires { ⌜ g .transaction < 8 ⌝ }
 {
     let t = g.transaction;
-    let n = 1 + g.excess % 4096;
-    put_record(journal, t, 0, write_at(0, 4096));
-    put_record(journal, t, 1, write_at(0, n as u16));
-    with_used(x, 2, (4096 + n) as u16)
+    let n = 1 + g.excess % FILE_BYTES;
+    put_record(kept, t, 0, write_at(0, FILE_END));
+    put_record(kept, t, 1, write_at(0, n as u16));
+    forge_used(kept, t, 2, (FILE_BYTES + n) as u16);
 }
 
 // Forgeries 10 to 15, of a transaction that has a write record.
-fn logged(x: Transaction, journal: &mut [u16; NUMBERS], g: Damage) -> Transaction
+fn forge_log(kept: &mut Record, g: Damage)
     requires { ⌜ (g .transaction < 8) × (g .index < 16) ⌝ }
 {
+    write_one(kept, g.transaction);
     if g.forgery < 13 {
-        first_record(journal, g);
-        return x;
+        forge_record(kept, g);
+    } else if g.forgery < 15 {
+        forge_place(kept, g);
+    } else {
+        forge_two(kept, g);
     }
-    if g.forgery < 15 {
-        return without_place(x, journal, g);
-    }
-    two_records(x, journal, g)
 }
 
-// Forgeries 1, 2 and 16: a file number, a committed offset or a committed length.
-fn committed(mut s: Store, g: Damage) -> Store
-    requires { ⌜ g .index < 16 ⌝ }
-{
-    let i = g.index;
-    if g.forgery == 1 {
-        s.filenumbers[i] = (8 + g.excess % 248) as u8;
-        return s;
-    }
-    if g.forgery == 2 {
-        s.offsets[i] = above(g.excess);
-        return s;
-    }
-    let f = i % FILES;
-    s.lengths[f] = above(g.excess);
-    s
-}
-
-// The record with a field out of range; the number of the forgery, 0 to 16, says which. 0 leaves the record.
-pub fn forged(mut s: Store, journal: &mut [u16; NUMBERS], g: Damage) -> Store
+// Puts a number out of range into the record; that of the forgery, 0 to 16, says which. 0 leaves the record.
+pub fn forge(kept: &mut Record, g: Damage)
     requires { ⌜ (g .transaction < 8) × (g .index < 16) ⌝ }
 {
-    let t = g.transaction;
-    let x = s.transactions[t];
     if g.forgery == 0 {
-        return s;
+        return;
     }
-    if g.forgery < 3 {
-        return committed(s, g);
+    if (g.forgery < 3) | (15 < g.forgery) {
+        forge_committed(kept, g);
+        return;
     }
-    if 15 < g.forgery {
-        return committed(s, g);
-    }
+    open(kept, g.transaction);
     if g.forgery < 10 {
-        s.transactions[t] = transaction(x, g);
-        return s;
+        forge_transaction(kept, g);
+    } else {
+        forge_log(kept, g);
     }
-    let y = with_a_record(x, journal, t);
-    s.transactions[t] = logged(y, journal, g);
-    s
 }

@@ -1,5 +1,9 @@
-// A fixed stream of calls with good and bad numbers, by the recurrence x' = 48271 x mod 2147483647. Call i (from 0) draws twelve
-// numbers, whatever its kind; they, the phase (i div 256) and a guess at which transactions are open give all about the call.
+// A fixed stream of calls with good and bad numbers, by the recurrence x' = 48271 x mod 2147483647. Call i (from 0)
+// draws twelve numbers, whatever its kind; they, the phase (i div 256) and a guess at which transactions are open give
+// all about the call.
+use numbers::BUFFER_BYTES;
+use numbers::FILE_BYTES;
+use requests::Request;
 ghost use Prim.Native.Nat.{_≤_, _<_};
 
 // The modes. Modes 1, crowded, and 6, scattered, differ by the tables alone.
@@ -15,27 +19,27 @@ const LONG_READS: usize = 5;
 
 const SHORT_FILES: usize = 7;
 
-// The kinds of calls.
-pub const FRESH: usize = 0;
+// The kinds of calls, in the order of their weights.
+const FRESH: usize = 0;
 
-pub const BEGIN: usize = 1;
+const BEGIN: usize = 1;
 
-pub const SEEK: usize = 2;
+const SEEK: usize = 2;
 
-pub const WRITE: usize = 3;
+const WRITE: usize = 3;
 
-pub const GET_FILE_POINTER: usize = 4;
+const GET_FILE_POINTER: usize = 4;
 
-pub const READ: usize = 5;
+const READ: usize = 5;
 
-pub const PLACES: usize = 6;
+const PLACES: usize = 6;
 
-pub const COMMIT: usize = 7;
+const COMMIT: usize = 7;
 
-pub const ABORT: usize = 8;
+const ABORT: usize = 8;
 
-// How many of 1,000 calls are of each kind, nine numbers a mode: mixed, crowded, many records, long writes, near the end, long reads,
-// scattered, short files.
+// How many of 1,000 calls are of each kind, nine numbers a mode: mixed, crowded, many records, long writes, near the
+// end, long reads, scattered, short files.
 const WEIGHTS: [usize; 72] = [
     4,
     20,
@@ -123,20 +127,22 @@ pub struct Damage {
     pub excess: usize,
 }
 
-// A call as numbers. A number that its kind doesn't use is there all the same.
-pub struct Request {
-    pub kind: usize,
+// A Fresh, or another call.
+pub enum Made {
+    Fresh,
+    Asks(Request),
+}
+
+// A call, and what is lent with it. What its kind doesn't use is there all the same.
+pub struct Generated {
+    pub made: Made,
     pub transaction: usize,
-    pub descriptor: usize,
-    // The file that Places asks about.
-    pub file: usize,
-    // Where a Seek goes, how many bytes a Write has or a Read wants.
-    pub number: usize,
-    // The length of the buffer lent for the answer, 0 for a call that is no Read or Places.
-    pub buffer: usize,
-    // The first byte of a Write, and what each byte has more than the one before.
+    // How many bytes a Write has, the first of them, and what each has more than the one before.
+    pub size: usize,
     pub first: u8,
     pub step: u8,
+    // The length of the buffer lent for the answer, 0 for a call that is no Read or Places.
+    pub buffer: usize,
     // The file numbers of a Fresh are the first `listed` of these.
     pub list: [u8; 17],
     pub listed: usize,
@@ -280,30 +286,37 @@ fn begun_first(kind: usize, t: usize, guess: [bool; 8], r: usize) -> usize {
     BEGIN
 }
 
-// The transactions that are guessed open after the call.
-pub fn guess_after(guess: [bool; 8], q: Request) -> [bool; 8] {
+// The transactions that are guessed open after a request of transaction t.
+fn guess_after_request(guess: [bool; 8], q: Request, t: usize) -> [bool; 8]
+    requires { ⌜ t < 8 ⌝ }
+{
     let mut out = guess;
-    let t = q.transaction;
-    if 0 < q.damage.short {
-        return out;
-    }
-    if 0 < q.damage.forgery {
-        return out;
-    }
-    if 7 < t {
-        return out;
-    }
-    if q.kind == FRESH {
-        return [false; 8];
-    }
-    if q.kind == BEGIN {
-        out[t] = true;
-        return out;
-    }
-    if COMMIT <= q.kind {
-        out[t] = false;
+    match q {
+        Request::Begin(_) => out[t] = true,
+        Request::Commit(_) => out[t] = false,
+        Request::Abort(_) => out[t] = false,
+        _ => {}
     }
     out
+}
+
+// The transactions that are guessed open after the call.
+pub fn guess_after(guess: [bool; 8], g: Generated) -> [bool; 8] {
+    let t = g.transaction;
+    if 0 < g.damage.short {
+        return guess;
+    }
+    if 0 < g.damage.forgery {
+        return guess;
+    }
+    if 7 < t {
+        return guess;
+    }
+    let made = g.made;
+    let Made::Asks(q) = made else {
+        return [false; 8];
+    };
+    guess_after_request(guess, q, t)
 }
 
 // Where a Seek goes in a short file: mostly in steps of 4, so that ends meet.
@@ -330,7 +343,7 @@ fn seek_to(mode: usize, class: usize, value: usize) -> usize {
         return value % 64;
     }
     if class < 13 {
-        return value % 4096;
+        return value % FILE_BYTES;
     }
     if class < 15 {
         return 4088 + value % 14;
@@ -401,10 +414,10 @@ fn reader_length(mode: usize, class: usize) -> usize
     }
     if class == 14 {
         if mode == MIXED {
-            return 4096;
+            return FILE_BYTES;
         }
         if mode == LONG_READS {
-            return 4096;
+            return FILE_BYTES;
         }
     }
     16
@@ -412,7 +425,7 @@ fn reader_length(mode: usize, class: usize) -> usize
 
 fn read_count(mode: usize, class: usize, value: usize) -> usize {
     let room = reader_length(mode, class);
-    if room == 4096 {
+    if room == FILE_BYTES {
         return 4080 + value % 20;
     }
     if room == 0 {
@@ -437,7 +450,8 @@ fn number(kind: usize, mode: usize, class: usize, value: usize) -> usize {
     read_count(mode, class, value)
 }
 
-// The length of the buffer for a list: often room for a few pairs, below five; otherwise 64 bytes, or 300, which every list fits.
+// The length of the buffer for a list: often room for a few pairs, below five; otherwise 64 bytes, or 300, which every
+// list fits.
 fn list_room(class: usize, value: usize) -> usize {
     if class < 10 {
         return value % 20;
@@ -482,9 +496,9 @@ fn short(class: usize, r: usize) -> usize {
 
 fn short_length(r: usize) -> usize {
     if r % 2 == 0 {
-        return 32767;
+        return BUFFER_BYTES - 1;
     }
-    r / 2 % 32768
+    r / 2 % BUFFER_BYTES
 }
 
 // Which forgery the record gets. Fresh looks at no record.
@@ -567,8 +581,25 @@ fn list_length(class: usize, value: usize) -> usize
     16
 }
 
+// The call of a kind with its transaction, descriptor, file and number.
+fn call_of(kind: usize, t: usize, d: usize, f: usize, n: usize) -> Made {
+    if kind == FRESH {
+        return Made::Fresh;
+    }
+    match kind {
+        BEGIN => Made::Asks(Request::Begin(t)),
+        SEEK => Made::Asks(Request::Seek(t, d, n)),
+        WRITE => Made::Asks(Request::Write(t, d)),
+        GET_FILE_POINTER => Made::Asks(Request::GetFilePointer(t, d)),
+        READ => Made::Asks(Request::Read(t, d, n)),
+        PLACES => Made::Asks(Request::Places(t, f)),
+        COMMIT => Made::Asks(Request::Commit(t)),
+        _ => Made::Asks(Request::Abort(t)),
+    }
+}
+
 // The call of a phase that twelve numbers make.
-pub fn requested(r: [usize; 12], phase: usize, guess: [bool; 8]) -> Request
+pub fn requested(r: [usize; 12], phase: usize, guess: [bool; 8]) -> Generated
     requires { ⌜ phase < 65536 ⌝ }
     ensures { λ a. ⌜ (a .damage .transaction < 8) × (a .damage .index < 16) ⌝ }
 {
@@ -576,17 +607,16 @@ pub fn requested(r: [usize; 12], phase: usize, guess: [bool; 8]) -> Request
     let class = r[3] % 16;
     let t = transaction(phase, r[1]);
     let k = begun_first(kind(mode, r[0]), t, guess, r[11]);
+    let n = number(k, mode, class, r[4]);
     let d = damaged(k, r);
     let list = list(r);
-    Request {
-        kind: k,
+    Generated {
+        made: call_of(k, t, descriptor(mode, r[2]), file(mode, r[2]), n),
         transaction: t,
-        descriptor: descriptor(mode, r[2]),
-        file: file(mode, r[2]),
-        number: number(k, mode, class, r[4]),
-        buffer: buffer(k, mode, class, r[4]),
+        size: n,
         first: written(r[5], r[6]),
         step: written(r[6], r[6]),
+        buffer: buffer(k, mode, class, r[4]),
         list,
         listed: list_length(r[3], r[4]),
         damage: d,

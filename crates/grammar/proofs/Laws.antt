@@ -14,8 +14,8 @@ use Rattle.requests.specs.declared.Request.{Request}
 use Rattle.grammar.specs.declared.Field.{Field}
 use Rattle.grammar.specs.declared.Field.the-variants.{Missing, Number}
 use Rattle.grammar.specs.declared.Parsed.{Parsed}
-use Rattle.grammar.specs.declared.Parsed.the-variants.{Another}
-use Rattle.grammar.specs.Parsing.{foundOf, lineOf, startOf, Reads}
+use Rattle.grammar.specs.declared.Parsed.the-variants.{Another, Asks}
+use Rattle.grammar.specs.Parsing.{foundOf, lineOf, startOf, Reads, Parses}
 use Rattle.grammar.specs.Grammar.{Line, another, asks, Found, none, found, isDigit, worth, digits, decimal, spaced, after, writes, lettered, form, parsed}
 
 -- A digit lies between the bytes of 0 and 9.
@@ -171,3 +171,8 @@ as-meant line r meant said e h = rw e h
 pub other : (line : List ℕ) (meant : Line) → meant ≡ another → Reads line Another meant
 unfolding lineOf startOf
 other line meant e = rw e (record { means = refl; within = omega arith })
+
+-- A request's bytes start inside its line.
+pub starts-within : (line : List ℕ) (r : Parsed) → Parses line r → (q : Request) (start : ℕ) → r ≡ Asks q start → start ≤ length line
+unfolding startOf
+starts-within line r p q start e = omega (arith, p .within, ap startOf e)

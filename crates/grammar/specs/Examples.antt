@@ -25,19 +25,25 @@ pub record Examples : Type 0 where
       (line "P0 3" ≡ asks (GetFilePointer 0 3) []) × (line "S0 3 17" ≡ asks (Seek 0 3 17) []) × (line "R0 3 5" ≡ asks (Read 0 3 5) [])
   -- "or `W0 3 ` and the bytes up to the line's end": none, two, a space, any byte.
   pub written :
-      (line "W0 3 " ≡ asks (Write 0 3) []) × (line "W0 0 hi" ≡ asks (Write 0 0) (bytes "hi")) × (line "W0 3  x" ≡ asks (Write 0 3) (bytes " x"))
+      (line "W0 3 " ≡ asks (Write 0 3) []) × (line "W0 0 hi" ≡ asks (Write 0 0) (bytes "hi"))
+      × (line "W0 3  x" ≡ asks (Write 0 3) (bytes " x"))
       × (parsed (bytes "W0 3 " ++ (0 ∷ 13 ∷ 255 ∷ [])) ≡ asks (Write 0 3) (0 ∷ 13 ∷ 255 ∷ []))
   pub unwritten : (line "W0 3" ≡ another) × (line "W0" ≡ another) × (line "W0  3 x" ≡ another)
   -- "The digit is the transaction": digits 8 and 9 too, which the store refuses.
-  pub transactions : (line "B8" ≡ asks (Begin 8) []) × (line "B9" ≡ asks (Begin 9) []) × (line "B" ≡ another) × (line "B10" ≡ another) × (line "Bx" ≡ another)
+  pub transactions :
+      (line "B8" ≡ asks (Begin 8) []) × (line "B9" ≡ asks (Begin 9) []) × (line "B" ≡ another)
+      × (line "B10" ≡ another) × (line "Bx" ≡ another)
   -- "in decimal, 1 to 5 digits each"
   pub digits :
       (line "P0 00003" ≡ asks (GetFilePointer 0 3) []) × (line "P0 000003" ≡ another) × (line "P0 " ≡ another)
-      × (line "S0 99999 99999" ≡ asks (Seek 0 99999 99999) []) × (line "S0 3 100000" ≡ another) × (line "P0 -3" ≡ another) × (line "P0 3x" ≡ another)
+      × (line "S0 99999 99999" ≡ asks (Seek 0 99999 99999) []) × (line "S0 3 100000" ≡ another)
+      × (line "P0 -3" ≡ another) × (line "P0 3x" ≡ another)
   -- "one space between"
-  pub spaces : (line "P0  3" ≡ another) × (line "S0 3  17" ≡ another) × (line "P03" ≡ another) × (line "P0 3 " ≡ another) × (line "B0 " ≡ another)
+  pub spaces :
+      (line "P0  3" ≡ another) × (line "S0 3  17" ≡ another) × (line "P03" ≡ another) × (line "P0 3 " ≡ another) × (line "B0 " ≡ another)
   -- A byte 13 before the line's end is no part of these; nor is an empty line or another letter a form.
   pub others : (line "B0\r" ≡ another) × (line "P0 3\r" ≡ another) × (line "" ≡ another) × (line "b0" ≡ another) × (line "F0" ≡ another)
   -- "longer than 128 bytes without its line end": 128 pass.
   pub longest :
-      (parsed (bytes "W0 0 " ++ replicate 123 0) ≡ asks (Write 0 0) (replicate 123 0)) × (parsed (bytes "W0 0 " ++ replicate 124 0) ≡ another)
+      (parsed (bytes "W0 0 " ++ replicate 123 0) ≡ asks (Write 0 0) (replicate 123 0))
+      × (parsed (bytes "W0 0 " ++ replicate 124 0) ≡ another)

@@ -11,7 +11,8 @@ ghost use Rattle.grammar.specs.Parsing.{foundOf, Reads, Parses};
 // The most bytes of a line, without its end.
 pub const LINE_BYTES: usize = 128;
 
-// What a line asks: a request, and where the bytes of a Write start (in any other, the line's end); or it has another form.
+// What a line asks: a request, and where the bytes of a Write start (in any other, the line's end); or it has another
+// form.
 pub enum Parsed {
     Another,
     Asks(Request, usize),
@@ -95,7 +96,8 @@ fn ended(q: Request, line: &[u8], at: usize) -> Parsed
 
 // `P0 3`
 fn pointer_line(line: &[u8], t: usize) -> Parsed
-    ensures { λ r. ⌜ Reads (now (line .entry)) r (after (spaced (drop 2 (now (line .entry)))) (λ d. ends (Request.GetFilePointer t d))) ⌝ }
+    ensures { λ r. ⌜ Reads (now (line .entry)) r
+        (after (spaced (drop 2 (now (line .entry)))) (λ d. ends (Request.GetFilePointer t d))) ⌝ }
 {
     let Field::Number(d, at) = number_at(line, 2) else {
         return Parsed::Another;
@@ -105,7 +107,9 @@ fn pointer_line(line: &[u8], t: usize) -> Parsed
 
 // `S0 3 17`, otherwise `R0 3 5`
 fn seek_or_read_line(line: &[u8], t: usize, seeks: bool) -> Parsed
-    ensures { λ r. ⌜ Reads (now (line .entry)) r (after (spaced (drop 2 (now (line .entry)))) (λ d rest. after (spaced rest) (λ n. ends (cond seeks (Request.Seek t d n) (Request.Read t d n))))) ⌝ }
+    ensures { λ r. ⌜ Reads (now (line .entry)) r
+        (after (spaced (drop 2 (now (line .entry))))
+        (λ d rest. after (spaced rest) (λ n. ends (cond seeks (Request.Seek t d n) (Request.Read t d n))))) ⌝ }
 {
     let Field::Number(d, second) = number_at(line, 2) else {
         return Parsed::Another;
@@ -121,7 +125,8 @@ fn seek_or_read_line(line: &[u8], t: usize, seeks: bool) -> Parsed
 
 // `W0 3 ` and the bytes up to the line's end
 fn write_line(line: &[u8], t: usize) -> Parsed
-    ensures { λ r. ⌜ Reads (now (line .entry)) r (after (spaced (drop 2 (now (line .entry)))) (λ d. writes (Request.Write t d))) ⌝ }
+    ensures { λ r. ⌜ Reads (now (line .entry)) r
+        (after (spaced (drop 2 (now (line .entry)))) (λ d. writes (Request.Write t d))) ⌝ }
 {
     let Field::Number(d, at) = number_at(line, 2) else {
         return Parsed::Another;

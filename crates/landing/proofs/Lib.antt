@@ -1,4 +1,5 @@
--- Laws of the definitions of specs/, and how they are those of the rules.
-pub mod LandLaws
-pub mod StaleLaws
-pub mod Granted
+pub mod Settings
+pub mod WriteLaws
+pub mod LengthLaws
+pub mod OffsetLaws
+pub mod Landed

@@ -1,3 +1,5 @@
-// What a granted commit lands (`landed`), and whom it makes stale (`staled`).
-pub mod landed;
-pub mod staled;
+// What a commit lands: the bytes of its writes (`writes`), the committed lengths (`lengths`), the committed offsets
+// (`offsets`).
+pub mod lengths;
+pub mod offsets;
+pub mod writes;

@@ -1,11 +1,11 @@
 -- A begun transaction as the record and the logs hold it: how many writes, how many bytes, how long each is.
-use mathlib.Core.Bool.{Bool, true}
+use mathlib.Core.Bool.{true}
 use mathlib.Core.List.{List, [], _∷_, _++_}
-use mathlib.Core.Path.{_≡_, refl, sym, ap, _∙_}
+use mathlib.Core.Path.{_≡_, refl, ap, _∙_}
 use lib.ListN.{length, getD}
 use native.Mathlib.Omega.{arith}
 use Prim.Native.Nat.{ℕ, zero, suc, _+_, _*_, _≤_, _<_}
-use Rattle.octets.specs.Parts.{cut, tabulate}
+use Rattle.octets.specs.Parts.{tabulate}
 use Rattle.octets.proofs.PartLaws.{length-cut}
 use Rattle.octets.proofs.TableLaws.{length-tabulate, getD-tabulate}
 use Rattle.record.specs.declared.Store.{Store}
@@ -14,7 +14,7 @@ use Rattle.record.specs.Journal.{writeRecordAt}
 use Rattle.ranges.specs.Below.{sum}
 use Rattle.ranges.specs.Ranges.{lengthsBefore}
 use Rattle.ranges.proofs.Laws.{sum-same, TransactionInRange, Admitted, in-range}
-use Rattle.rules.specs.Transactions.{Txn, Write}
+use Rattle.rules.specs.Transactions.{Write}
 use Rattle.rules.specs.Steps.{total}
 use Rattle.rules.specs.Machine.{Machine, sizes, dataStart, writeAt, txnOf}
 use Rattle.rules.proofs.View.Shape.{Shaped}

@@ -6,10 +6,8 @@ use borrow.Author.Tests.{eq-eqb, ne-eqb}
 use lib.Dec.{eqb}
 use lib.ListN.{length, getD, set, length-append, List·getD-append}
 use lib.Seq.{getD-at}
-use native.Mathlib.Omega.{arith}
-use Prim.Native.Nat.{ℕ, suc, _+_, _-_, _*_, _≤_, _<_}
+use Prim.Native.Nat.{ℕ, _+_, _-_, _<_}
 use Rattle.octets.specs.Parts.{tabulate}
-use Rattle.counters.specs.declared.Used.{Used}
 use Rattle.standings.specs.declared.Standing.{Standing}
 use Rattle.record.specs.declared.Descriptor.{Descriptor}
 use Rattle.record.specs.declared.Transaction.{Transaction}
@@ -19,10 +17,9 @@ use Rattle.record.specs.State.{transaction, standingAt, dirtyAt, noDescriptor, 
 use Rattle.record.specs.Journal.{writeRecordAt, withRecordAt}
 use Rattle.record.proofs.JournalLaws.{with-more, with-same, with-own-records}
 use Rattle.standings.specs.Table.{afterWrite, writePlace}
-use Rattle.rules.specs.Transactions.{Txn, Write, put, dirtied}
-use Rattle.rules.specs.Steps.{total, written}
+use Rattle.rules.specs.Transactions.{Write, put, dirtied}
+use Rattle.rules.specs.Steps.{written}
 use Rattle.rules.specs.Machine.{writeAt, recordOf, txnOf, noWrite, journalled, holding, lengthmarked, sightingLengths, withTxn}
-use Rattle.rules.proofs.View.Shape.{Shaped}
 use Rattle.rules.proofs.View.Tables.{tabulate-getD, tabulate-set}
 use Rattle.laws.proofs.Decoded.{Opened, decoded-count, decoded-at, decoded-total, decoded-length, total-append}
 
@@ -77,13 +74,6 @@ module _ (s : Store) (journal logs : List ℕ) (t : ℕ) (o : Opened s journal l
       (λ k h. ap recordOf (List·getD-append ws (w ∷ []) noWrite k (rw e h) ∙ decoded-at s journal logs t o k noWrite h) ∙ record-own k h)
       ∙ with-own-records journal t n)
       (ap recordOf (getD-at ws w [] noWrite n e)))
-
-  -- The counters and the descriptors of a meaning that has this transaction's writes.
-  pub holding-same : holding (txnOf s journal logs t) (transaction s t) ≡ transaction s t
-  unfolding holding txnOf
-  holding-same =
-      let x = transaction s t in
-      rw (decoded-count s journal logs t o, decoded-total s journal logs t o, tabulate-descriptors x (o .shape .descriptors t (o .small)))
 
   -- One descriptor stands otherwise, and is dirty.
   pub txn-dirtied : (d : ℕ) (z : Standing) → d < 16

@@ -1,5 +1,4 @@
-pub mod Owned
-pub mod Filled
+pub mod Shapes
 pub mod Decoded
 pub mod Encoded
 pub mod Settling

@@ -1,19 +1,17 @@
 -- Settling one descriptor after the other is settling them all at once.
 use mathlib.Core.Bool.{Bool, true, false, cond, not, _&&_, _||_}
-use mathlib.Core.List.{List, [], _∷_, _++_, map, map-append, append-nil}
+use mathlib.Core.List.{List, [], _∷_, _++_, map, append-nil}
 use mathlib.Core.Logic.{⊎-elim}
 use mathlib.Core.Path.{_≡_, refl, sym, ap, ap₂, _∙_, fun-ext}
 use borrow.Author.Tests.{eqb-true, eqb-false, eq-eqb, ne-eqb, lt-ltb, le-ltb}
 use lib.Dec.{leb, ltb, eqb}
-use lib.ListN.{length}
 use native.Mathlib.Omega.{arith}
 use Prim.Native.Nat.{ℕ, zero, suc, _+_, _≤_, _<_}
 use Rattle.standings.specs.declared.Standing.{Standing}
 use Rattle.standings.specs.declared.Place.{Place}
 use Rattle.octets.proofs.PartLaws.{le-or-lt}
 use Rattle.ranges.specs.Below.{below}
-use Rattle.ranges.proofs.Laws.{and-left}
-use Rattle.rules.specs.Items.{Item, byte, offset, Values, Prog, done, ask, andThen, result, asked}
+use Rattle.rules.specs.Items.{Item, offset, Values, done, result, asked}
 use Rattle.standings.specs.Table.{advance, settled}
 use Rattle.rules.specs.Transactions.{Write, Txn, put, placedAt, placeWrite, settle, those, Settled, past, all, settling}
 use Rattle.rules.specs.Machine.{lengthmarked}
@@ -41,23 +39,6 @@ module _ (v : Values) where
       pick : result v (settling (ds ++ es) next) ≡ onward past (λ y. result v (settling es y)) (result v (settling ds next))
           → (b : Bool) → result v (cond b (settling (ds ++ es) next) (done past))
           ≡ onward past (λ y. result v (settling es y)) (result v (cond b (settling ds next) (done past)))
-      pick e true = e
-      pick e false = refl
-
-  asked-append : (ds es : List ℕ) (x : Txn)
-      → asked v (settling (ds ++ es) x) ≡ asked v (settling ds x) ++ onward [] (λ y. asked v (settling es y)) (result v (settling ds x))
-  unfolding settling result asked onward
-  asked-append [] es x = refl
-  asked-append (d ∷ ds) es x =
-      ap (λ (l : List Item). offset d ∷ l)
-      (pick (asked-append ds es (settle d (v (offset d)) x)) (leb (v (offset d) + advance (x .standing d)) 4096))
-    where
-      next : Txn
-      next = settle d (v (offset d)) x
-
-      pick : asked v (settling (ds ++ es) next) ≡ asked v (settling ds next) ++ onward [] (λ y. asked v (settling es y)) (result v (settling ds next))
-          → (b : Bool) → asked v (cond b (settling (ds ++ es) next) (done past))
-          ≡ asked v (cond b (settling ds next) (done past)) ++ onward [] (λ y. asked v (settling es y)) (result v (cond b (settling ds next) (done past)))
       pick e true = e
       pick e false = refl
 
@@ -233,26 +214,6 @@ module _ (v : Values) (p : ℕ → Bool) (x : Txn) where
       → result v (settling (those p n) x) ≡ cond (below fitsAt n) (all (settleAll p (λ d. v (offset d)) x)) past
   settled-together n none =
       in-turn n ∙ ap (λ (f : ℕ → Bool). cond (below fitsAt n) (all (settleAll f offsets x)) past) (first-all p n none)
-
-  -- What is asked for: the committed offsets, in the same order.
-  pub asked-together : (n : ℕ) → below fitsAt n ≡ true → asked v (settling (those p n) x) ≡ map offset (those p n)
-  unfolding those below settling asked onward
-  asked-together zero e = refl
-  asked-together (suc n) e =
-      let f = and-left (below fitsAt n) (fitsAt n) e in
-      asked-append v (those p n) (cond (p n) (n ∷ []) []) x
-      ∙ ap₂ (λ (l : List Item) (s : Settled). l ++ onward [] (λ y. asked v (settling (cond (p n) (n ∷ []) []) y)) s) (asked-together n f)
-      (in-turn n ∙ ap (λ (b : Bool). cond b (all (settleAll (first p n) offsets x)) past) f)
-      ∙ ap (λ (l : List Item). map offset (those p n) ++ l) (one (p n) (settleAll (first p n) offsets x))
-      ∙ sym (map-append offset (those p n) (cond (p n) (n ∷ []) []))
-    where
-      last : (b : Bool) (y : Txn) → asked v (cond b (done (all y)) (done past)) ≡ []
-      last true y = refl
-      last false y = refl
-
-      one : (b : Bool) (y : Txn) → asked v (settling (cond b (n ∷ []) []) y) ≡ map offset (cond b (n ∷ []) [])
-      one true y = ap (λ (l : List Item). offset n ∷ l) (last (leb (v (offset n) + advance (y .standing n)) 4096) (settle n (v (offset n)) y))
-      one false y = refl
 
 -- ---- one descriptor among many
 

@@ -1,39 +1,84 @@
 -- The rule of Fresh after its tests.
-use mathlib.Core.List.{List, [], _++_, append-nil}
+use mathlib.Core.List.{List, []}
+use mathlib.Core.Logic.{⊎-elim}
 use mathlib.Core.Path.{_≡_, sym, ap, _∙_}
-use lib.ListN.{length, drop, replicate}
-use lib.Seq.{drop-length}
-use native.Mathlib.Nat.{zero-add}
-use Prim.Native.Nat.{ℕ, _+_}
-use Rattle.octets.specs.Parts.{pasted}
-use Rattle.record.specs.declared.Store.{Store}
+use lib.ListN.{length, getD, replicate, length-replicate, getD-replicate, List·getD-eq-default}
+use native.Mathlib.Omega.{arith}
+use Prim.Native.Nat.{ℕ, _<_}
+use Rattle.octets.specs.Parts.{tabulate}
+use Rattle.octets.proofs.PartLaws.{le-or-lt}
+use Rattle.octets.proofs.TableLaws.{table-same}
 use Rattle.record.specs.declared.outcomes.Outcome.the-variants.{Done}
+use Rattle.record.specs.Layout.{storeOf, journalOf, withFileNumbersAt}
 use Rattle.record.specs.Paper.{plain, said}
+use Rattle.record.proofs.LayoutLaws.{store-of-zeros, filed, store-with-files, journal-with-files}
 use Rattle.ranges.specs.Ranges.{admissionOfFresh}
 use Rattle.ranges.proofs.Laws.{admitted-fresh}
-use Rattle.rules.specs.Machine.{Machine, lent, sizes}
+use Rattle.rules.specs.Machine.{lent, sizes}
 use Rattle.rules.specs.Calls.{Turn, answer, fresh, freshStore, freshMachine}
-use Rattle.rules.specs.Promises.{Meets}
-use Rattle.refusing.proofs.Turns.{passing-on}
+use Rattle.rules.specs.Promises.{Meets, machineOf, LeftAsFound}
+use Rattle.rules.proofs.View.Tables.{tabulate-getD}
+use Rattle.refusing.proofs.Turns.{passing-on, done-follows}
 
--- A list pasted over one of its length.
-pub pasted-whole : (d s : List ℕ) → length s ≡ length d → pasted d 0 s ≡ s
-unfolding pasted
-pasted-whole d s e = rw (zero-add, e, drop-length, append-nil)
+-- ---- a record of zeros, and the file numbers in it
 
-pub fresh-meets : (numbers : List ℕ) (m : Machine) → admissionOfFresh (sizes m) numbers ≡ 0
-    → (s : Store) (journal files marks : List ℕ) → s ≡ freshStore numbers → journal ≡ replicate 1536 0
-    → files ≡ replicate (length (m .files)) 0 → marks ≡ replicate (length (m .marks)) 0
-    → Meets (fresh numbers m) Done (lent s journal files (m .logs) marks) []
+abbrev zeros : ℕ → List ℕ
+zeros n = replicate n 0
+
+length-zeros : (n : ℕ) → length (zeros n) ≡ n
+length-zeros n = length-replicate {A = ℕ} n 0
+
+zero-at : (n k : ℕ) → k < n → getD (zeros n) k 0 ≡ 0
+zero-at n k h = getD-replicate {A = ℕ} n k 0 0 h
+
+zero-anywhere : (k : ℕ) → getD (zeros 2088) k 0 ≡ 0
+zero-anywhere k = ⊎-elim (λ h. List·getD-eq-default (zeros 2088) 0 {n = k} (omega (arith, length-zeros 2088))) (zero-at 2088 k) (le-or-lt 2088 k)
+
+-- A list as a table of its numbers.
+listed : (l : List ℕ) (n : ℕ) → length l ≡ n → tabulate (λ k. getD l k 0) n ≡ l
+listed l n e = ap (λ (m : ℕ). tabulate (λ k. getD l k 0) m) (sym e) ∙ tabulate-getD l 0
+
+journal-of-zeros : journalOf (zeros 2088) ≡ zeros 1536
+unfolding journalOf
+journal-of-zeros =
+    table-same (λ k. getD (zeros 2088) k 0) (λ k. getD (zeros 1536) k 0) 1536 (λ k h. zero-at 2088 k (omega arith) ∙ sym (zero-at 1536 k h))
+    ∙ listed (zeros 1536) 1536 (length-zeros 1536)
+
+module _ (numbers : List ℕ) (sixteen : length numbers ≡ 16) where
+  abbrev numbered : List ℕ
+  numbered = withFileNumbersAt (zeros 2088) (λ d. getD numbers d 0) 16
+
+  fresh-store : storeOf numbered ≡ freshStore numbers
+  unfolding freshStore
+  fresh-store =
+      store-with-files (zeros 2088) (length-zeros 2088) (λ d. getD numbers d 0)
+      ∙ ap (filed (tabulate (λ d. getD numbers d 0) 16)) (store-of-zeros (zeros 2088) zero-anywhere)
+      ∙ ap (λ (l : List ℕ). filed l (freshStore [])) (listed numbers 16 sixteen)
+
+  fresh-journal : journalOf numbered ≡ zeros 1536
+  fresh-journal = journal-with-files (zeros 2088) (length-zeros 2088) (λ d. getD numbers d 0) 16 ∙ journal-of-zeros
+
+-- ---- the rule
+
+pub fresh-follows : (numbers kept files logs marks : List ℕ) → admissionOfFresh (sizes (machineOf kept files logs marks)) numbers ≡ 0
+    → (one after bytes sightings : List ℕ) → one ≡ replicate 2088 0 → after ≡ withFileNumbersAt one (λ d. getD numbers d 0) 16
+    → bytes ≡ replicate (length files) 0 → sightings ≡ replicate (length marks) 0
+    → Meets (fresh numbers (machineOf kept files logs marks)) Done (machineOf after bytes logs sightings) [] × LeftAsFound Done kept after
 unfolding fresh answer freshMachine said
-fresh-meets numbers m passes s journal files marks es ej ef em =
-    let e = passing-on _ [] m (answer plain (freshMachine numbers (m .logs))) passes in
-    let l = admitted-fresh (sizes m) numbers passes .lengths in
-    let f = ef ∙ ap (λ (n : ℕ). replicate n 0) (l .files) in
-    let g = em ∙ ap (λ (n : ℕ). replicate n 0) (l .marks) in
-    let same : lent s journal files (m .logs) marks ≡ freshMachine numbers (m .logs) = λ i. lent (es i) (ej i) (f i) (m .logs) (g i) in
-    record {
-      outcome = sym (ap (λ (w : Turn). w .reply .answer) e);
-      machine = same ∙ sym (ap (λ (w : Turn). w .after) e);
-      reader = sym (ap (λ (w : Turn). w .reply .buffer) e);
-    }
+fresh-follows numbers kept files logs marks passes one after bytes sightings is-one is-after is-bytes is-sightings =
+    let m = machineOf kept files logs marks in
+    let e = passing-on _ [] m (answer plain (freshMachine numbers logs)) passes in
+    let a = admitted-fresh (sizes m) numbers passes in
+    let put = is-after ∙ ap (λ (l : List ℕ). withFileNumbersAt l (λ d. getD numbers d 0) 16) is-one in
+    let s = ap storeOf put ∙ fresh-store numbers (a .sixteen) in
+    let j = ap journalOf put ∙ fresh-journal numbers (a .sixteen) in
+    let f = is-bytes ∙ ap (λ (n : ℕ). replicate n 0) (a .lengths .files) in
+    let g = is-sightings ∙ ap (λ (n : ℕ). replicate n 0) (a .lengths .marks) in
+    let same : machineOf after bytes logs sightings ≡ freshMachine numbers logs = λ i. lent (s i) (j i) (f i) logs (g i) in (
+      record {
+        outcome = sym (ap (λ (w : Turn). w .reply .answer) e);
+        machine = same ∙ sym (ap (λ (w : Turn). w .after) e);
+        reader = sym (ap (λ (w : Turn). w .reply .buffer) e);
+      },
+      done-follows kept after,
+    )

@@ -1,1 +1,2 @@
 pub mod FreshRules
+pub mod ResetRules

@@ -1,42 +1,28 @@
 // Begin.
 use octets::marks as bits;
 use ranges::Gate;
-use record::Store;
-use record::Transaction;
-use record::journal::NUMBERS;
-use record::outcomes::Answer;
+use record::layout::Record;
+use record::layout::is_begun;
+use record::layout::reset;
 use record::outcomes::Outcome;
 use record::outcomes::Refusal;
 ghost use mathlib.Core.List.{[]};
-ghost use mathlib.Core.Path.{_≡_};
 ghost use Rattle.rules.specs.Messages.{Call};
 ghost use Rattle.rules.specs.Calls.{call};
-ghost use Rattle.rules.specs.Machine.{lent};
-ghost use Rattle.rules.specs.Promises.{Meets};
+ghost use Rattle.rules.specs.Promises.{Follows};
 
 // Opens transaction t: an empty log, sixteen Untouched descriptors, no marks, not stale.
-pub fn begin(
-    mut s: Store,
-    journal: &[u16; NUMBERS],
-    files: &[u8],
-    logs: &[u8],
-    marks: &mut [u8],
-    t: usize,
-) -> Answer
-    ensures { λ r. ⌜ Meets (call (Call.begin t) (lent s (now (journal .entry)) (now (files .entry)) (now (logs .entry)) (now (marks .entry)))) (r .outcome) (lent (r .store) (now (journal .exit)) (now (files .exit)) (now (logs .exit)) (now (marks .exit))) [] ⌝ }
+pub fn begin(kept: &mut Record, files: &[u8], logs: &[u8], marks: &mut [u8], t: usize) -> Outcome
+    ensures { λ r. ⌜ Follows (call (Call.begin t)) kept files logs marks r [] ⌝ }
 {
-    let g = ranges::admit(s, journal, files.len(), logs.len(), marks.len(), t);
+    let g = ranges::admit(kept, files.len(), logs.len(), marks.len(), t);
     if let Gate::Refused(r) = g {
-        return refusing::turned_down(r, s);
+        return Outcome::Refused(r);
     }
-    let x = s.transactions[t];
-    if x.begun {
-        return refusing::turned_down(Refusal::AlreadyOpen, s);
+    if is_begun(kept, t) {
+        return Outcome::Refused(Refusal::AlreadyOpen);
     }
     bits::unmark(marks, t);
-    s.transactions[t] = Transaction::begun();
-    Answer {
-        store: s,
-        outcome: Outcome::Done,
-    }
+    reset(kept, t, true);
+    Outcome::Done
 }

@@ -1,18 +1,14 @@
 // Fresh.
-use octets::parts;
 use ranges::Gate;
-use record::Store;
-use record::Transaction;
-use record::journal;
-use record::journal::NUMBERS;
-use record::outcomes::Answer;
+use record::journal::clear;
+use record::layout::Record;
+use record::layout::put_files;
 use record::outcomes::Outcome;
 ghost use mathlib.Core.List.{[]};
 ghost use mathlib.Core.Path.{_≡_};
 ghost use lib.ListN.{length, replicate};
-ghost use Rattle.rules.specs.Calls.{fresh as freshRule, freshStore};
-ghost use Rattle.rules.specs.Machine.{lent};
-ghost use Rattle.rules.specs.Promises.{Meets};
+ghost use Rattle.rules.specs.Calls.{fresh as freshRule};
+ghost use Rattle.rules.specs.Promises.{Follows};
 
 // Sets every octet to 0.
 fn zero(buffer: &mut [u8])
@@ -25,52 +21,24 @@ fn zero(buffer: &mut [u8])
     }
 }
 
-// The sixteen file numbers as an array.
-fn sixteen(numbers: &[u8]) -> [u8; 16]
-    requires { ⌜ length (now numbers) ≡ 16 ⌝ }
-    ensures { λ r. ⌜ r ≡ now (numbers .entry) ⌝ }
-{
-    let mut out = [0u8; 16];
-    parts::copy_to(&mut out, 0, numbers);
-    out
-}
-
-// The record of a fresh store.
-fn fresh_store(numbers: &[u8]) -> Store
-    requires { ⌜ length (now numbers) ≡ 16 ⌝ }
-    ensures { λ r. ⌜ r ≡ freshStore (now (numbers .entry)) ⌝ }
-{
-    let filenumbers = sixteen(numbers);
-    let x = Transaction::ended();
-    Store {
-        filenumbers,
-        offsets: [0u16; 16],
-        lengths: [0u16; 8],
-        transactions: [x; 8],
-    }
-}
-
-// Makes the store fresh: descriptor d belongs to file numbers[d], every file byte, mark, offset and length is 0, nothing is open, the journal
-// is empty. The logs are left as found. Refuses 1, then 14, and hands back the record at hand.
+// Makes the store fresh: descriptor d belongs to file numbers[d], every file byte, mark, offset and length is 0,
+// nothing is open, the journal is empty. The logs are left as found. Refuses 1, then 14; the record then stays.
 pub fn fresh(
-    s: Store,
-    journal: &mut [u16; NUMBERS],
+    kept: &mut Record,
     files: &mut [u8],
     logs: &[u8],
     marks: &mut [u8],
     numbers: &[u8],
-) -> Answer
-    ensures { λ r. ⌜ Meets (freshRule (now (numbers .entry)) (lent s (now (journal .entry)) (now (files .entry)) (now (logs .entry)) (now (marks .entry)))) (r .outcome) (lent (r .store) (now (journal .exit)) (now (files .exit)) (now (logs .exit)) (now (marks .exit))) [] ⌝ }
+) -> Outcome
+    ensures { λ r. ⌜ Follows (freshRule (now (numbers .entry))) kept files logs marks r [] ⌝ }
 {
     let g = ranges::admit_fresh(files.len(), logs.len(), marks.len(), numbers);
     if let Gate::Refused(r) = g {
-        return refusing::turned_down(r, s);
+        return Outcome::Refused(r);
     }
-    journal::clear(journal);
+    clear(kept);
+    put_files(kept, numbers);
     zero(files);
     zero(marks);
-    Answer {
-        store: fresh_store(numbers),
-        outcome: Outcome::Done,
-    }
+    Outcome::Done
 }

@@ -1,14 +1,14 @@
 -- Laws of one look for a line end. Assumes nothing.
-use mathlib.Core.Path.{_≡_, refl, sym, ap, ap₂, _∙_}
+use mathlib.Core.Path.{_≡_, refl, sym, ap, _∙_}
 use mathlib.Core.Bool.{Bool, true, false, cond}
 use mathlib.Core.List.{List, [], _∷_, _++_}
 use lib.Dec.{eqb, ltb}
 use lib.ListN.{length, take, drop, getD, set, length-append}
-use lib.Seq.{take-all, take-append-le, take-take, take-suc-set, drop-cons, length-take-le}
+use lib.Seq.{take-all, take-append-le, take-suc-set, drop-cons, length-take-le}
 use native.Mathlib.Numerals.{add-one}
 use native.Mathlib.Omega.{arith}
 use borrow.Author.Tests.{eq-eqb, ne-eqb, lt-ltb}
-use Prim.Native.Nat.{ℕ, suc, _+_, _≤_, _<_}
+use Prim.Native.Nat.{ℕ, _+_, _≤_, _<_}
 use Rattle.lines.specs.Lines.{ended, grown, lastLine, kept, endedIn, heldAfter, Found}
 
 -- the same lines are found, and the same is held, from two places on

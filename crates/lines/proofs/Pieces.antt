@@ -1,10 +1,9 @@
 -- Wherever the input is cut, the lines are those of the whole. Assumes nothing.
 use mathlib.Core.Path.{_≡_, refl, sym, ap, ap₂, _∙_}
 use mathlib.Core.Bool.{Bool, true, false, cond}
-use mathlib.Core.List.{List, [], _∷_, _++_, map, append-assoc, append-nil}
+use mathlib.Core.List.{List, [], _∷_, _++_, map, append-assoc}
 use lib.Dec.{eqb}
 use lib.ListN.{take}
-use lib.Seq.{take-nil}
 use Prim.Native.Nat.{ℕ, zero, suc}
 use Rattle.lines.specs.Lines.{ended, grown, lastLine, linesFrom, linesOf, kept, endedIn, heldAfter, fromPieces, joined, PiecesAreTheWhole}
 

@@ -1,5 +1,5 @@
-// The lines of an input that comes in pieces. Of the line at hand the first KEPT bytes are held in a lent buffer of as many, so that a line
-// of any length passes through; that is one byte more than a line may have.
+// The lines of an input that comes in pieces. Of the line at hand the first KEPT bytes are held in a lent buffer of as
+// many, so that a line of any length passes through; that is one byte more than a line may have.
 ghost use mathlib.Core.Path.{_≡_};
 ghost use mathlib.Core.Bool.{cond};
 ghost use mathlib.Core.List.{_∷_, []};
@@ -9,14 +9,16 @@ ghost use Rattle.lines.specs.Lines.{Found, Went, lastLine};
 
 pub const KEPT: usize = 129;
 
-// What a look for the next line end found: whether a line ended, how many bytes of it are held, and the place after it in the piece.
+// What a look for the next line end found: whether a line ended, how many bytes of it are held, and the place after it
+// in the piece.
 pub struct Look {
     pub ended: bool,
     pub held: usize,
     pub at: usize,
 }
 
-// Looks for the next line end in the piece, from `from` on. The bytes on the way there join the `held` bytes of the line at hand.
+// Looks for the next line end in the piece, from `from` on. The bytes on the way there join the `held` bytes of the
+// line at hand.
 pub fn next(line: &mut [u8], held: usize, piece: &[u8], from: usize) -> Look
     requires { ⌜ (length (now line) ≡ 129) × ((held ≤ 129) × (from ≤ length (now piece))) ⌝ }
     ensures { λ r. ⌜ Found (r .ended) (take held (now (line .entry))) (drop from (now (piece .entry)))

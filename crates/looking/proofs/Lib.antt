@@ -2,3 +2,4 @@
 pub mod LookRules
 pub mod PointerRules
 pub mod ReadRules
+pub mod GivingLaws

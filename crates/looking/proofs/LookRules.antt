@@ -1,20 +1,37 @@
 -- The rule of a call that looks, after the tests that GetFilePointer and Read have in common.
 use mathlib.Core.Bool.{Bool, true, false, not, _&&_, and-false}
+use mathlib.Core.List.{List}
 use mathlib.Core.Path.{_≡_, refl, sym, ap, _∙_}
 use borrow.Author.Tests.{leb-true}
 use lib.Dec.{leb}
+use lib.ListN.{length}
 use native.Mathlib.Omega.{arith}
-use Prim.Native.Nat.{ℕ, _≤_}
+use Prim.Native.Nat.{ℕ, _≤_, _<_}
 use Rattle.record.specs.declared.outcomes.Refusal.{Refusal}
+use Rattle.record.specs.declared.outcomes.Outcome.the-variants.{Refused}
+use Rattle.record.specs.declared.Transaction.{Transaction}
+use Rattle.record.specs.declared.Store.{Store}
 use Rattle.record.specs.State.{transaction}
+use Rattle.record.specs.Layout.{transactionOf, storeOf, journalOf}
+use Rattle.record.proofs.LayoutLaws.{length-journal, transaction-of}
 use Rattle.record.specs.Paper.{number}
 use Rattle.ranges.specs.Ranges.{unless, admission}
 use Rattle.rules.specs.Items.{done}
 use Rattle.rules.specs.Messages.{Op, bufferOf, on}
 use Rattle.rules.specs.Steps.{refuse, descriptorOf, looks, turnsBack}
 use Rattle.rules.specs.Machine.{Machine, sizes}
-use Rattle.rules.specs.Calls.{turnDown, call}
-use Rattle.refusing.proofs.Turns.{number-suc, program, on-turned-back, on-refused}
+use Rattle.rules.specs.Calls.{Turn, turnDown, call}
+use Rattle.rules.specs.Promises.{Meets, machineOf, LeftAsFound}
+use Rattle.laws.proofs.Shapes.{shaped, eight, put-read}
+use Rattle.laws.proofs.Decoded.{Opened, opened}
+use Rattle.settling.specs.declared.settle.Verdict.{Verdict}
+use Rattle.settling.specs.declared.settle.Verdict.the-variants.{Settled}
+use Rattle.settling.specs.Choices.{settledTransaction}
+use Rattle.settling.specs.Records.{Placeable}
+use Rattle.settling.specs.Outcome.{SettledIn}
+use Rattle.settling.proofs.Settled.{placeable}
+use Rattle.ranges.proofs.Laws.{number-suc, in-range}
+use Rattle.refusing.proofs.Turns.{LetThrough, turned-follows, program, on-turned-back, on-refused}
 
 -- Refusals 6, 18 and 7; 0 stands for none.
 abbrev pub lookRefusal : Bool → ℕ → ℕ → ℕ → ℕ
@@ -58,3 +75,63 @@ module _ (t : ℕ) (o : Op) (m : Machine) (passes : admission (sizes m) (m .stor
       refused true false false ea eb ec e =
           on-refused t o m passes (both true false ea eb) 7 (short ea ec) ∙ ap (λ (k : ℕ). turnDown k (bufferOf o) m) (sym e)
       refused true false true ea eb ec e = absurd (omega (arith, number-suc r .1, e))
+
+-- ---- what such a call knows once it may look
+
+pub record Looking (kept files logs marks : List ℕ) (t d n room : ℕ) : Type 0 where
+  pub long : length kept ≡ 2088
+  pub passes : admission (sizes (machineOf kept files logs marks)) (storeOf kept) (journalOf kept) t ≡ 0
+  pub through : LetThrough (machineOf kept files logs marks) t
+  pub held : Opened (storeOf kept) (journalOf kept) logs t
+  pub may : MayLook (transaction (storeOf kept) t .stale) d n room
+
+-- The gate speaks of the transaction that the code has read.
+pub gate-says : (kept : List ℕ) (t : ℕ) → t < 8 → (x : Transaction) → x ≡ transactionOf kept t → (d n room k : ℕ) → k ≡ lookRefusal (x .stale) d n room
+    → k ≡ lookRefusal (transaction (storeOf kept) t .stale) d n room
+gate-says kept t small x own d n room k says = says ∙ ap (λ (y : Transaction). lookRefusal (y .stale) d n room) (own ∙ sym (transaction-of kept t small))
+
+pub looking : (kept files logs marks : List ℕ) (t d n room : ℕ) → length kept ≡ 2088
+    → admission (sizes (machineOf kept files logs marks)) (storeOf kept) (journalOf kept) t ≡ 0
+    → LetThrough (machineOf kept files logs marks) t
+    → transaction (storeOf kept) t .begun ≡ true
+    → lookRefusal (transaction (storeOf kept) t .stale) d n room ≡ 0
+    → Looking kept files logs marks t d n room
+looking kept files logs marks t d n room long passes through begun may =
+    record {
+      long = long;
+      passes = passes;
+      through = through;
+      held = opened (machineOf kept files logs marks) t (shaped kept) (length-journal kept) through begun;
+      may = may-look _ _ _ _ may;
+    }
+
+-- A call that was refused after settling had left the record alone.
+pub turned-left : (r : Refusal) (buffer kept files logs marks : List ℕ) (w : Turn) → w ≡ turnDown (number r) buffer (machineOf kept files logs marks)
+    → (now : List ℕ) → now ≡ kept → Meets w (Refused r) (machineOf now files logs marks) buffer × LeftAsFound (Refused r) kept now
+turned-left r buffer kept files logs marks w e now same = rw same (turned-follows r buffer kept files logs marks w e)
+
+-- ---- settling, as the code does it, in the terms of the rules
+
+-- The choice is made by the transaction.
+abbrev pub SettledAs : (Transaction → List Bool) → ℕ → List ℕ → List ℕ → Verdict → Type 0
+SettledAs choice t kept now v = let x = transaction (storeOf kept) t in SettledIn (choice x) t x kept now v
+
+module _ {kept files logs marks : List ℕ} {t d n room : ℕ} (l : Looking kept files logs marks t d n room) (x : Transaction) (own : x ≡ transactionOf kept t) where
+  own-is : x ≡ transaction (storeOf kept) t
+  own-is = own ∙ sym (transaction-of kept t (l .held .small))
+
+  pub ready : Placeable kept t (x .used .records)
+  ready =
+      placeable kept logs t (l .held) (x .used .records) (ap (λ (y : Transaction). y .used .records) own-is) (l .long)
+      (in-range (storeOf kept) (journalOf kept) (l .through .ranges) .offsets)
+
+  pub settled-as : (choice : Transaction → List Bool) (chosen : List Bool) → chosen ≡ choice x → (now : List ℕ) (v w : Verdict) → SettledIn chosen t x kept now v → v ≡ w
+      → SettledAs choice t kept now w
+  settled-as choice chosen ec now v w s ev = rw (ec ∙ ap choice own-is, own-is, ev) at s
+
+module _ (choice : Transaction → List Bool) {t : ℕ} {kept now : List ℕ} (s : SettledAs choice t kept now Settled) (small : t < 8) where
+  pub transaction-now : let x = transaction (storeOf kept) t in transactionOf now t ≡ settledTransaction (choice x) (storeOf kept .offsets) x
+  transaction-now =
+      sym (transaction-of now t small)
+      ∙ ap (λ (s : Store). transaction s t) (s .store refl)
+      ∙ put-read (storeOf kept) t _ (eight kept t small)

@@ -4,39 +4,37 @@ use mathlib.Core.List.{List, [], _∷_}
 use mathlib.Core.Path.{_≡_, refl, sym, ap, ap₂, _∙_}
 use borrow.Author.Tests.{le-leb}
 use lib.Dec.{leb}
-use lib.Seq.{set-getD}
 use native.Mathlib.Omega.{arith}
-use Prim.Native.Nat.{ℕ, _≤_, _<_}
+use Prim.Native.Nat.{ℕ, _≤_}
 use Rattle.standings.specs.declared.Standing.{Standing}
 use Rattle.standings.specs.Table.{pointerSettles, offsetOf}
-use Rattle.record.specs.declared.outcomes.Outcome.the-variants.{Offset}
+use Rattle.record.specs.declared.outcomes.Outcome.the-variants.{Offset, Refused}
 use Rattle.record.specs.declared.outcomes.Refusal.{Refusal}
+use Rattle.record.specs.declared.outcomes.Refusal.the-variants.{SettledPastEnd}
 use Rattle.record.specs.declared.Transaction.{Transaction}
 use Rattle.record.specs.declared.Store.{Store}
-use Rattle.record.specs.State.{transaction, noTransaction, standingAt, withLengthmarks, withTransaction}
+use Rattle.record.specs.State.{transaction, standingAt, withLengthmarks, withTransaction}
+use Rattle.record.specs.Layout.{transactionOf}
 use Rattle.record.specs.Paper.{number, pointer, said}
 use Rattle.ranges.specs.Ranges.{admission}
 use Rattle.rules.specs.Items.{Item, Prog, done, andThen, result, asked}
 use Rattle.rules.specs.Transactions.{Txn, Settled, past, all, settling}
 use Rattle.rules.specs.Messages.{getFilePointer, bufferOf, on}
 use Rattle.rules.specs.Steps.{Stepped, accept, orGivenBack, step, pointerStep, descriptorOf, looks}
-use Rattle.rules.specs.Machine.{Machine, lent, withStore, withJournal, sizes, values, txnOf, lengthmarked, sightingLengths, withTxn}
+use Rattle.rules.specs.Machine.{Machine, lent, withStore, withJournal, sizes, values, txnOf, lengthmarked, sightingLengths}
 use Rattle.rules.specs.Calls.{Turn, turnDown, marked, logged, served, call}
-use Rattle.rules.specs.Promises.{Meets}
+use Rattle.rules.specs.Promises.{Meets, machineOf, LeftAsFound}
 use Rattle.rules.proofs.Serial.Programs.{result-andThen, asked-andThen, not-stale}
 use Rattle.laws.proofs.Decoded.{Opened}
-use Rattle.laws.proofs.Encoded.{writes-same, holding-same}
 use Rattle.laws.proofs.Settling.{marked-settling, lengths-settling}
+use Rattle.settling.specs.declared.settle.Verdict.{Verdict}
+use Rattle.settling.specs.declared.settle.Verdict.the-variants as verdict
 use Rattle.settling.specs.Choices.{chosenByPointer, allWithin, settledTransaction}
 use Rattle.settling.proofs.Settled.{settledTxn, settledJournal, txn-settled, journal-settled, standing-settled}
+use Rattle.settling.proofs.ChoiceLaws.{verdict-past, verdict-settled}
 use Rattle.settling.proofs.Chosen.{settling-pointer}
-use Rattle.refusing.proofs.Turns.{program, on-stepped, on-accepted, check-held, check-failed}
-use Rattle.looking.proofs.LookRules.{lookRefusal, look-refused}
-
--- A transaction put back as it was.
-txn-same : (s : Store) (journal logs : List ℕ) (t : ℕ) → Opened s journal logs t → withTxn t (txnOf s journal logs t) [] s ≡ s
-unfolding withTxn sightingLengths lengthmarked withTransaction
-txn-same s journal logs t o = rw (holding-same s journal logs t o, set-getD (s .transactions) t noTransaction)
+use Rattle.refusing.proofs.Turns.{program, on-stepped, check-held, check-failed}
+use Rattle.looking.proofs.LookRules.{lookRefusal, look-refused, Looking, turned-left, SettledAs, transaction-now}
 
 module _ (t d : ℕ) (m : Machine) (passes : admission (sizes m) (m .store) (m .journal) t ≡ 0) where
   pub pointer-refused : (r : Refusal) → number r ≡ lookRefusal (transaction (m .store) t .stale) d 0 0
@@ -58,26 +56,6 @@ module _ (t d : ℕ) (m : Machine) (passes : admission (sizes m) (m .store) (m .
   told : Txn → Prog Stepped
   told y = done (accept y (pointer (offsetOf (y .standing d))) [])
 
-  -- Where nothing is settled.
-  pub pointer-stays : Opened (m .store) (m .journal) (m .logs) t → held .stale ≡ false → d ≤ 15 → pointerSettles (standingAt held d) ≡ false
-      → Meets (call (on t (getFilePointer d)) m) (Offset (offsetOf (standingAt held d))) m []
-  unfolding step pointerStep settling andThen orGivenBack txnOf logged said
-  pointer-stays o f h e =
-      let x = txnOf (m .store) (m .journal) (m .logs) t in
-      let w =
-      on-accepted t (getFilePointer d) m passes (not-stale (held .stale) (getFilePointer d) f) x (pointer (offsetOf (x .standing d))) []
-      (check-held (leb d 15) 6 _ (le-leb d 15 h)
-      ∙ ap (λ (b : Bool). andThen (settling (cond b (d ∷ []) []) x) (orGivenBack (λ y. done (accept y (pointer (offsetOf (y .standing d))) [])))) e) in
-      record {
-        outcome = sym (ap (λ (w : Turn). w .reply .answer) w);
-        machine =
-            sym
-            (ap (λ (w : Turn). w .after) w
-            ∙ ap₂ (λ (s : Store) (j : List ℕ). lent s j (m .files) (m .logs) (m .marks)) (txn-same (m .store) (m .journal) (m .logs) t o)
-            (writes-same (m .store) (m .journal) (m .logs) t o));
-        reader = sym (ap (λ (w : Turn). w .reply .buffer) w);
-      }
-
   pointer-result : (b : Bool) → d ≤ 15 → allWithin choice (m .store .offsets) held ≡ b
       → result (values (m .store) (m .files)) (program t (getFilePointer d) m passes)
       ≡ result (values (m .store) (m .files)) (orGivenBack told (cond b (all (settledTxn (m .store) (m .journal) (m .logs) t choice)) past))
@@ -92,7 +70,7 @@ module _ (t d : ℕ) (m : Machine) (passes : admission (sizes m) (m .store) (m .
       (settling-pointer (m .store) (m .journal) (m .files) (m .logs) t d (omega arith)
       ∙ ap (λ (b : Bool). cond b (all (settledTxn (m .store) (m .journal) (m .logs) t choice)) past) e)
 
-  pub pointer-past : held .stale ≡ false → d ≤ 15 → allWithin choice (m .store .offsets) held ≡ false → call (on t (getFilePointer d)) m ≡ turnDown 12 [] m
+  pointer-past : held .stale ≡ false → d ≤ 15 → allWithin choice (m .store .offsets) held ≡ false → call (on t (getFilePointer d)) m ≡ turnDown 12 [] m
   unfolding orGivenBack result served bufferOf
   pointer-past f h e =
       on-stepped t (getFilePointer d) m passes (not-stale (held .stale) (getFilePointer d) f)
@@ -154,8 +132,23 @@ module _ (t d : ℕ) (m : Machine) (passes : admission (sizes m) (m .store) (m .
         reader = sym (ap (λ (w : Turn). w .reply .buffer) w);
       }
 
-  -- An accepted GetFilePointer: the offset, the transaction x with d settled, and the journal with its write records placed.
-  pub pointer-meets : Opened (m .store) (m .journal) (m .logs) t → held .stale ≡ false → d ≤ 15 → allWithin choice (m .store .offsets) held ≡ true
-      → (a : ℕ) (x : Transaction) (journal : List ℕ) → a ≡ offsetOf (standingAt x d) → x ≡ afterwards → journal ≡ settledJournal (m .store) (m .journal) t choice
-      → Meets (call (on t (getFilePointer d)) m) (Offset a) (withStore (withTransaction t x (m .store)) (withJournal journal m)) []
-  pointer-meets o f h e a x journal ea ex ej = rw (ea, ex, ej) (meets o f h e)
+-- The same of what the code has, once it may look: the record before settling and after.
+module _ {kept files logs marks : List ℕ} {t d : ℕ} (l : Looking kept files logs marks t d 0 0) (now : List ℕ) where
+  abbrev SettledTo : Verdict → Type 0
+  SettledTo = SettledAs (λ x. chosenByPointer x d) t kept now
+
+  abbrev answered : Turn
+  answered = call (on t (getFilePointer d)) (machineOf kept files logs marks)
+
+  pub past-follows : SettledTo verdict.Past → Meets answered (Refused SettledPastEnd) (machineOf now files logs marks) [] × LeftAsFound (Refused SettledPastEnd) kept now
+  past-follows s =
+      turned-left SettledPastEnd [] kept files logs marks answered
+      (pointer-past t d (machineOf kept files logs marks) (l .passes) (l .may .fresh) (l .may .low) (verdict-past _ _ _ (sym (s .answer)))) now (s .refused refl)
+
+  pub pointer-follows : SettledTo verdict.Settled → (a : ℕ) → a ≡ offsetOf (standingAt (transactionOf now t) d)
+      → Meets answered (Offset a) (machineOf now files logs marks) [] × LeftAsFound (Offset a) kept now
+  pointer-follows s a ea = (
+    rw (ea, transaction-now (λ x. chosenByPointer x d) s (l .held .small), s .store refl, s .journal refl)
+        (meets t d (machineOf kept files logs marks) (l .passes) (l .held) (l .may .fresh) (l .may .low) (verdict-settled _ _ _ (sym (s .answer)))),
+    λ r e n. cc,
+  )

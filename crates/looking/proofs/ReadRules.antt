@@ -4,7 +4,7 @@ use mathlib.Core.List.{List, [], _∷_, _++_, append-nil}
 use mathlib.Core.Path.{_≡_, refl, sym, ap, ap₂, _∙_}
 use borrow.Author.Tests.{le-leb, leb-true}
 use lib.Dec.{leb, ltb, eqb}
-use lib.ListN.{length, getD, set, drop}
+use lib.ListN.{length, getD, drop}
 use native.Mathlib.Omega.{arith}
 use Prim.Native.Nat.{ℕ, _+_, _-_, _*_, _≤_, _<_, min, max}
 use Rattle.octets.specs.Bits.{withBit}
@@ -13,15 +13,17 @@ use Rattle.octets.proofs.PartLaws.{length-cut}
 use Rattle.standings.specs.declared.Standing.{Standing}
 use Rattle.standings.specs.declared.Standing.the-variants.{Untouched, Placed, Deferred, Moved, Known}
 use Rattle.standings.specs.Table.{afterRead, readSettles, offsetOf, advance, settled}
-use Rattle.record.specs.declared.outcomes.Outcome.the-variants.{Given}
+use Rattle.record.specs.declared.outcomes.Outcome.the-variants.{Given, Refused}
 use Rattle.record.specs.declared.outcomes.Refusal.{Refusal}
+use Rattle.record.specs.declared.outcomes.Refusal.the-variants.{SettledPastEnd}
 use Rattle.record.specs.declared.Transaction.{Transaction}
 use Rattle.record.specs.declared.Store.{Store}
-use Rattle.record.specs.State.{transaction, standingAt, withDescriptors, withLengthmarks, withTransaction}
+use Rattle.record.specs.State.{transaction, standingAt, withTransaction}
 use Rattle.record.specs.Journal.{writeRecordAt}
+use Rattle.record.specs.Layout.{transactionOf, storeOf, journalOf}
 use Rattle.record.specs.Paper.{number, given, said}
 use Rattle.ranges.specs.Ranges.{admission, standingIn, lengthsBefore}
-use Rattle.ranges.proofs.Laws.{and-right, below-at, standing-numbers}
+use Rattle.ranges.proofs.Laws.{and-right, below-at, standing-numbers, in-range}
 use Rattle.rules.specs.Items.{Item, fileLength, Values, Prog, done, andThen, result, asked}
 use Rattle.rules.specs.Transactions.{Txn, Write, dirtied, Settled, past, all, settling}
 use Rattle.rules.specs.Reading.{fetch, placedEnd, ownEnd, lengthFor, gather}
@@ -29,7 +31,7 @@ use Rattle.rules.specs.Messages.{read, bufferOf, on}
 use Rattle.rules.specs.Steps.{Stepped, accept, check, orGivenBack, step, readStep, readSettled, settledByRead, descriptorOf, looks}
 use Rattle.rules.specs.Machine.{Machine, lent, withStore, withJournal, withMarking, sizes, fileOf, values, txnOf, lengthmarked, sightingLengths, withTxn, journalled, writeAt, dataStart}
 use Rattle.rules.specs.Calls.{Turn, turnDown, marked, logged, served, call}
-use Rattle.rules.specs.Promises.{Meets}
+use Rattle.rules.specs.Promises.{Meets, machineOf, LeftAsFound}
 use Rattle.rules.proofs.Serial.Programs.{result-andThen, asked-andThen, not-stale}
 use Rattle.rules.proofs.Serial.Gathers.{read-stops, length-gather}
 use Rattle.rules.proofs.View.Shape.{TxnIn}
@@ -37,20 +39,26 @@ use Rattle.rules.proofs.View.Chosen.{DescriptorsIn, those-in}
 use Rattle.rules.proofs.View.Decode.{decoded-in}
 use Rattle.rules.proofs.View.Kept.{pieces, settling-kept}
 use Rattle.rules.proofs.View.Ends.{length-for}
+use Rattle.rules.proofs.View.Accepted.{length-in}
 use Rattle.laws.specs.Settling.{settleAll}
+use Rattle.laws.proofs.Shapes.{put-twice}
 use Rattle.laws.proofs.Decoded.{Opened}
 use Rattle.laws.proofs.Settling.{marked-settling, lengths-settling}
+use Rattle.settling.specs.declared.settle.Verdict.{Verdict}
+use Rattle.settling.specs.declared.settle.Verdict.the-variants as verdict
 use Rattle.settling.specs.Choices.{chosenByRead, settlesWithin, allWithin, settledTransaction}
 use Rattle.settling.proofs.Settled.{settledTxn, settledJournal, txn-settled-dirtied, journal-settled, descriptor-settled, data-settled, writes-settled, standing-settled}
+use Rattle.settling.proofs.ChoiceLaws.{verdict-past, verdict-settled}
 use Rattle.settling.proofs.Chosen.{settling-read}
 use Rattle.runs.specs.declared.Extent.{Extent}
-use Rattle.runs.specs.Runs.{Recorded, recorded, extent, Counted, recordEnd, reach}
+use Rattle.runs.specs.Runs.{Recorded, recorded, recordedIn, extent, Counted, recordEnd, reach}
 use Rattle.runs.proofs.RunLaws.{data-suc, data-upto, reach-is}
 use Rattle.reading.specs.Serving.{bytesOf, marksAfter, logPart}
 use Rattle.reading.proofs.FetchLaws.{marked-append, lengths-fetch}
 use Rattle.reading.proofs.MachineLaws.{bytes-are, marks-are}
-use Rattle.refusing.proofs.Turns.{program, on-stepped, check-held, check-failed}
-use Rattle.looking.proofs.LookRules.{lookRefusal, look-refused}
+use Rattle.refusing.proofs.Turns.{LetThrough, program, on-stepped, check-held, check-failed}
+use Rattle.looking.specs.Giving.{placesFrom, afterGiving, MovedOn, Readable, Served}
+use Rattle.looking.proofs.LookRules.{lookRefusal, look-refused, Looking, turned-left, SettledAs, transaction-now}
 
 -- ---- the offset of a standing in range, and of one that was settled
 
@@ -122,7 +130,7 @@ module _ (t d n : ℕ) (buffer : List ℕ) (m : Machine) (passes : admission (si
         ∙ result-andThen v settles (orGivenBack goesOn)
         ∙ ap (λ (s : Settled). result v (orGivenBack goesOn s)) (settles-to b e)
 
-    pub read-past : allWithin choice (m .store .offsets) held ≡ false → call (on t (read d n buffer)) m ≡ turnDown 12 buffer m
+    read-past : allWithin choice (m .store .offsets) held ≡ false → call (on t (read d n buffer)) m ≡ turnDown 12 buffer m
     unfolding orGivenBack result served bufferOf
     read-past e =
         on-stepped t (read d n buffer) m passes (not-stale (held .stale) (read d n buffer) fresh)
@@ -269,19 +277,32 @@ module _ (t d n : ℕ) (buffer : List ℕ) (m : Machine) (passes : admission (si
           marks-are placed (m .logs) t (held .used .records) inside v (m .files) (λ q. unfold values in refl) (extent f from count) (m .marks)
           ∙ ap (λ (ws : List Write). marked t (asked v (fetch (fileOf (m .store)) ws f from count)) (m .marks)) (writes-settled (m .store) (m .journal) (m .logs) t o choice)
 
-      -- The same in the code's terms: the transaction and the journal after settling, and how many bytes are given.
-      module _ (x : Transaction) (ex : x ≡ afterwards) where
-        standing-is : standingAt x d ≡ meant .standing d
-        standing-is =
-            ap (λ (x : Transaction). standingAt x d) ex ∙ standing-settled (m .store) (m .journal) (m .logs) t o choice d (omega arith)
+      -- The same in the code's terms: of the record after settling.
+      module _ (now : List ℕ) (stands : transactionOf now t ≡ afterwards) (es : storeOf now ≡ withTransaction t afterwards (m .store))
+          (ej : journalOf now ≡ settledJournal (m .store) (m .journal) t choice)
+        where
+          files-now : storeOf now .filenumbers ≡ m .store .filenumbers
+          unfolding withTransaction
+          files-now = ap (λ (s : Store). s .filenumbers) es
 
-        pub offset-within : offsetOf (standingAt x d) ≤ 4096
-        offset-within = rw standing-is from-low
+          lengths-now : storeOf now .lengths ≡ m .store .lengths
+          unfolding withTransaction
+          lengths-now = ap (λ (s : Store). s .lengths) es
 
-        module _ (journal : List ℕ) (ej : journal ≡ settledJournal (m .store) (m .journal) t choice) where
-          pub counted : Counted journal t (held .used)
+          used-now : transactionOf now t .used ≡ held .used
+          unfolding settledTransaction
+          used-now = ap (λ (x : Transaction). x .used) stands
+
+          recorded-now : recordedIn now ≡ placed
+          recorded-now = ap₂ recorded ej files-now
+
+          standing-is : standingAt (transactionOf now t) d ≡ meant .standing d
+          standing-is =
+              ap (λ (x : Transaction). standingAt x d) stands ∙ standing-settled (m .store) (m .journal) (m .logs) t o choice d (omega arith)
+
+          counted : Counted (journalOf now) t (transactionOf now t .used)
           counted =
-              rw ej
+              rw (ej, used-now)
               (record {
                 small = o .small;
                 records = o .ranges .records;
@@ -289,10 +310,6 @@ module _ (t d n : ℕ) (buffer : List ℕ) (m : Machine) (passes : admission (si
                 bytes = o .ranges .bytes;
                 descriptors = descriptor-settled (m .store) (m .journal) (m .logs) t o choice;
               })
-
-          -- How far the file reaches for the transaction, as the code finds it.
-          abbrev pub reached : ℕ
-          reached = reach (recorded journal (m .store .filenumbers)) t f (getD (m .store .lengths) f 0) (held .used .records)
 
           data-upon : (k : ℕ) → k < held .used .records → lengthsBefore (placed .journal) t k + writeRecordAt (placed .journal) t k .length ≤ 4096
           data-upon k h = omega (arith, data-suc (placed .journal) t k, data-upto (placed .journal) t k (held .used .records) h, inside)
@@ -308,67 +325,107 @@ module _ (t d n : ℕ) (buffer : List ℕ) (m : Machine) (passes : admission (si
               (length-cut (m .logs) (4096 * t + lengthsBefore (placed .journal) t k) (w .length)
               (omega (arith, data-upon k h, o .size, o .small))))
 
-          reached-is : reached ≡ end
+          -- How far the file reaches for the transaction, as the code finds it.
+          reached-is : reach placed t f (getD (m .store .lengths) f 0) (held .used .records) ≡ end
           unfolding lengthFor fileOf values
           reached-is =
-              ap (λ (l : List ℕ). reach (recorded l (m .store .filenumbers)) t f (getD (m .store .lengths) f 0) (held .used .records)) ej
-              ∙ reach-is placed t f (getD (m .store .lengths) f 0) (writeAt (placed .journal) (m .logs) t) (held .used .records) end-of
+              reach-is placed t f (getD (m .store .lengths) f 0) (writeAt (placed .journal) (m .logs) t) (held .used .records) end-of
               ∙ ap (λ (ws : List Write). max (getD (m .store .lengths) f 0) (ownEnd (λ e. getD (m .store .filenumbers) e 0) f ws))
               (writes-settled (m .store) (m .journal) (m .logs) t o choice)
 
-          pub reached-low : reached ≤ 4096
-          reached-low = rw reached-is end-low
+          places-are : placesFrom now t d n ≡ extent f from count
+          places-are = rw (recorded-now, files-now, lengths-now, used-now, standing-is, reached-is)
 
-          -- what is read: "the smaller of n and" the transaction's length "less the offset"
-          abbrev pub places : Extent
-          places = extent f (offsetOf (standingAt x d)) (min n (reached - offsetOf (standingAt x d)))
-
-        module _ (journal : List ℕ) (ej : journal ≡ settledJournal (m .store) (m .journal) t choice) (e : Extent) (ee : e ≡ places journal ej) where
-          abbrev pub bytes : List ℕ
-          bytes = bytesOf (recorded journal (m .store .filenumbers)) t (held .used .records) (logPart (m .logs) t) (filePart (m .files) (e .file)) e
-
-          abbrev pub marks : List ℕ
-          marks = marksAfter (recorded journal (m .store .filenumbers)) t (held .used .records) (logPart (m .logs) t) (filePart (m .files) (e .file)) e (m .marks)
-
-          places-are : e ≡ extent f from count
-          places-are = ee ∙ ap₂ (λ (z : Standing) (l : ℕ). extent f (offsetOf z) (min n (l - offsetOf z))) standing-is (reached-is journal ej)
-
-          bytes-given : bytes ++ drop (e .length) buffer ≡ result v fetches ++ drop count buffer
-          bytes-given = rw (ej, places-are) (ap (λ (l : List ℕ). l ++ drop count buffer) read-bytes)
-
-          marks-set : marks ≡ marked t (asked v fetches) (m .marks)
-          marks-set = rw (ej, places-are) read-marks
-
-          -- The transaction at the end: the descriptor read through, and the length sighted where fewer bytes were given than wanted.
-          abbrev pub atEnd : Standing → ℕ → Transaction
-          atEnd z octet = withLengthmarks octet (withDescriptors (set (x .descriptors) d (record { standing = z; dirty = true })) x)
-
-          octet-is : (octet : ℕ) → octet ≡ cond (ltb (e .length) n) (withBit f (x .lengthmarks)) (x .lengthmarks) → octet ≡ lengthmarked sees (held .lengthmarks)
-          unfolding settledTransaction fileOf
-          octet-is octet eo =
-              eo
-              ∙ ap₂ (λ (k : ℕ) (y : Transaction). cond (ltb k n) (withBit f (y .lengthmarks)) (y .lengthmarks)) (ap (λ (e : Extent). e .length) places-are) ex
-              ∙ sym (lengths-on (held .lengthmarks))
-
-          store-is : (z : Standing) (octet : ℕ) → z ≡ afterRead (e .length) (standingAt x d) → octet ≡ cond (ltb (e .length) n) (withBit f (x .lengthmarks)) (x .lengthmarks)
-              → withTransaction t (atEnd z octet) (m .store) ≡ withTxn t finally sees (m .store)
-          unfolding settledTransaction sightingLengths
-          store-is z octet ez eo =
-              rw (ez ∙ ap₂ (λ (e : Extent) (z : Standing). afterRead (e .length) z) places-are standing-is, octet-is octet eo, ex)
-              (sym (txn-settled-dirtied (m .store) (m .journal) (m .logs) t o choice sees d (afterRead count (meant .standing d)) (omega arith)))
-
-          pub read-meets : (z : Standing) (octet : ℕ) (marksThen reader : List ℕ) → z ≡ afterRead (e .length) (standingAt x d)
-              → octet ≡ cond (ltb (e .length) n) (withBit f (x .lengthmarks)) (x .lengthmarks) → marksThen ≡ marks → reader ≡ bytes ++ drop (e .length) buffer
-              → Meets (call (on t (read d n buffer)) m) (Given (e .length))
-              (lent (withTransaction t (atEnd z octet) (m .store)) journal (m .files) (m .logs) marksThen) reader
-          unfolding said
-          read-meets z octet marksThen reader ez eo em er =
+          pub readable : length now ≡ 2088 → LetThrough m t → Readable now (m .files) (m .logs) (m .marks) t d n buffer
+          readable long through =
               record {
-                outcome = ap (λ (e : Extent). given (e .length)) places-are ∙ sym (ap (λ (w : Turn). w .reply .answer) accepted);
-                machine =
-                    ap (λ (s : Store). lent s journal (m .files) (m .logs) marksThen) (store-is z octet ez eo)
-                    ∙ ap₂ (λ (j ms : List ℕ). lent (withTxn t finally sees (m .store)) j (m .files) (m .logs) ms)
-                    (ej ∙ sym (journal-settled (m .store) (m .journal) (m .logs) t o choice)) (em ∙ marks-set)
-                    ∙ sym (ap (λ (w : Turn). w .after) accepted);
-                reader = er ∙ bytes-given ∙ sym (ap (λ (w : Turn). w .reply .buffer) accepted);
+                long = long;
+                few = omega arith;
+                room = room;
+                handed =
+                    record {
+                      counted = counted;
+                      filesLength = through .lengths .files;
+                      logsLength = through .lengths .logs;
+                      marksLength = through .lengths .marks;
+                      number = rw files-now (let l = in-range (m .store) (m .journal) (through .ranges) .files d (omega arith) in omega arith);
+                      places = omega (arith, from-low, end-low, ap (λ (e : Extent). e .place) places-are, ap (λ (e : Extent). e .length) places-are);
+                    };
               }
+
+          -- What was given, the marks, and the record at the end, are those of the rule.
+          module _ (e : Extent) (ee : e ≡ extent f from count) where
+            bytes-given : bytesOf (recordedIn now) t (transactionOf now t .used .records) (logPart (m .logs) t) (filePart (m .files) (e .file)) e ++ drop (e .length) buffer
+                ≡ result v fetches ++ drop count buffer
+            bytes-given = rw (recorded-now, used-now, ee) (ap (λ (l : List ℕ). l ++ drop count buffer) read-bytes)
+
+            marks-set : marksAfter (recordedIn now) t (transactionOf now t .used .records) (logPart (m .logs) t) (filePart (m .files) (e .file)) e (m .marks)
+                ≡ marked t (asked v fetches) (m .marks)
+            marks-set = rw (recorded-now, used-now, ee) read-marks
+
+            store-is : withTransaction t (afterGiving d n e (transactionOf now t)) (storeOf now) ≡ withTxn t finally sees (m .store)
+            store-is =
+                ap₂ (λ (x : Transaction) (s : Store). withTransaction t (afterGiving d n e x) s) stands es
+                ∙ put-twice (m .store) t afterwards (λ _. afterGiving d n e afterwards) (rw (o .shape .transactions) (o .small))
+                ∙ ap (λ (e : Extent). withTransaction t (afterGiving d n e afterwards) (m .store)) ee
+                ∙ finally-is
+              where
+                finally-is : withTransaction t (afterGiving d n (extent f from count) afterwards) (m .store) ≡ withTxn t finally sees (m .store)
+                finally-is =
+                    unfold settledTransaction sightingLengths fileOf in
+                    rw (standing-settled (m .store) (m .journal) (m .logs) t o choice d (omega arith), sym (lengths-on (held .lengthmarks)))
+                    (sym (txn-settled-dirtied (m .store) (m .journal) (m .logs) t o choice sees d (afterRead count (meant .standing d)) (omega arith)))
+
+          pub read-meets : (r : ℕ) (after marksThen reader : List ℕ) → r ≡ placesFrom now t d n .length → MovedOn t d n (placesFrom now t d n) now after
+              → Served t (placesFrom now t d n) now (m .files) (m .logs) (m .marks) buffer marksThen reader
+              → Meets (call (on t (read d n buffer)) m) (Given r) (lent (storeOf after) (journalOf after) (m .files) (m .logs) marksThen) reader
+          unfolding said
+          read-meets r after marksThen reader er moved served =
+              let e = placesFrom now t d n in
+              record {
+                outcome = ap given (er ∙ ap (λ (e : Extent). e .length) places-are) ∙ sym (ap (λ (w : Turn). w .reply .answer) accepted);
+                machine =
+                    ap (λ (s : Store). lent s (journalOf after) (m .files) (m .logs) marksThen) (moved .store ∙ store-is e places-are)
+                    ∙ ap₂ (λ (j ms : List ℕ). lent (withTxn t finally sees (m .store)) j (m .files) (m .logs) ms)
+                    (moved .journal ∙ ej ∙ sym (journal-settled (m .store) (m .journal) (m .logs) t o choice)) (served .marking ∙ marks-set e places-are)
+                    ∙ sym (ap (λ (w : Turn). w .after) accepted);
+                reader = served .bytes ∙ bytes-given e places-are ∙ sym (ap (λ (w : Turn). w .reply .buffer) accepted);
+              }
+
+-- The same of what the code has, once it may look: the record before settling and after.
+module _ {kept files logs marks : List ℕ} {t d n : ℕ} (buffer : List ℕ) (l : Looking kept files logs marks t d n (length buffer)) (now : List ℕ) where
+  abbrev SettledTo : Verdict → Type 0
+  SettledTo = SettledAs (λ x. chosenByRead (storeOf kept .filenumbers) x d) t kept now
+
+  abbrev machine : Machine
+  machine = machineOf kept files logs marks
+
+  abbrev answered : Turn
+  answered = call (on t (read d n buffer)) machine
+
+  pub past-follows : SettledTo verdict.Past → Meets answered (Refused SettledPastEnd) (machineOf now files logs marks) buffer × LeftAsFound (Refused SettledPastEnd) kept now
+  past-follows s =
+      turned-left SettledPastEnd buffer kept files logs marks answered
+      (read-past t d n buffer machine (l .passes) (l .held) (l .may .fresh) (l .may .low) (l .may .roomy) (verdict-past _ _ _ (sym (s .answer)))) now (s .refused refl)
+
+  module _ (s : SettledTo verdict.Settled) where
+    -- "lengths, at most 4,096"
+    limits : (g : ℕ) → values (storeOf kept) files (fileLength g) ≤ 4096
+    limits = length-in _ _ _ (l .held .shape .lengths) (in-range (storeOf kept) (journalOf kept) (l .through .ranges))
+
+    stands-now : let x = transaction (storeOf kept) t in transactionOf now t ≡ settledTransaction (chosenByRead (storeOf kept .filenumbers) x d) (storeOf kept .offsets) x
+    stands-now = transaction-now (λ x. chosenByRead (storeOf kept .filenumbers) x d) s (l .held .small)
+
+    pub handed-on : Readable now files logs marks t d n buffer
+    handed-on =
+        readable t d n buffer machine (l .passes) (l .held) (l .may .fresh) (l .may .low) (l .may .roomy) (verdict-settled _ _ _ (sym (s .answer))) limits now stands-now (s .store refl) (s .journal refl)
+        (s .long) (l .through)
+
+    pub read-follows : (r : ℕ) (after marksThen reader : List ℕ) → r ≡ placesFrom now t d n .length → MovedOn t d n (placesFrom now t d n) now after
+        → Served t (placesFrom now t d n) now files logs marks buffer marksThen reader
+        → Meets answered (Given r) (machineOf after files logs marksThen) reader × LeftAsFound (Given r) kept after
+    read-follows r after marksThen reader er moved served = (
+      read-meets t d n buffer machine (l .passes) (l .held) (l .may .fresh) (l .may .low) (l .may .roomy) (verdict-settled _ _ _ (sym (s .answer))) limits now stands-now (s .store refl) (s .journal refl)
+          r after marksThen reader er moved served,
+      λ q e k. cc,
+    )

@@ -1,4 +1,5 @@
-// The paper's numbers for bytes; a wider type; the smaller and the larger of two numbers, and what one has over the other.
+// The paper's numbers for bytes; a wider type; the smaller and the larger of two numbers, and what one has over the
+// other.
 ghost use mathlib.Core.Path.{_≡_};
 ghost use Prim.Native.Nat.{_-_, _≤_, min, max};
 

@@ -2,7 +2,7 @@
 use mathlib.Core.Path.{_≡_, refl, sym, ap, ap₂, _∙_}
 use mathlib.Core.Bool.{Bool, true, false}
 use mathlib.Core.List.{List, [], _∷_, _++_, append-assoc}
-use mathlib.Core.Logic.{_⊎_, inl, inr, ⊎-elim}
+use mathlib.Core.Logic.{_⊎_, inl, inr}
 use Prim.Native.Nat.{ℕ, zero, suc, _+_, _-_, _*_, _≤_, _<_, min}
 use native.Mathlib.Nat.{add-assoc, suc-sub-suc, add-zero, zero-sub, sub-zero}
 use native.Mathlib.Omega.{arith}
@@ -79,9 +79,6 @@ module _ (d : List ℕ) (at : ℕ) (s : List ℕ) (fits : at + length s ≤ leng
       ap (λ (k : ℕ). getD (take at d ++ (s ++ drop (at + length s) d)) (k + i) z) (sym length-head)
       ∙ getD-append-add (take at d) (s ++ drop (at + length s) d) i z
 
-  pub pasted-in : (i z : ℕ) → i < length s → getD (pasted d at s) (at + i) z ≡ getD s i z
-  pasted-in i z h = from-at i z ∙ List·getD-append s (drop (at + length s) d) z i h
-
   pub pasted-after : (i z : ℕ) → at + length s ≤ i → getD (pasted d at s) i z ≡ getD d i z
   pasted-after i z h =
       ap (λ (k : ℕ). getD (pasted d at s) k z) e
@@ -131,10 +128,6 @@ module _ (d : List ℕ) (at : ℕ) (s : List ℕ) (fits : at + length s ≤ leng
   pub cut-pasted-before : (p n : ℕ) → p + n ≤ at → cut (pasted d at s) p n ≡ cut d p n
   cut-pasted-before p n h =
       cut-same (pasted d at s) d p n (length-pasted d at s fits) (λ i g k. pasted-before d at s fits i 0 (omega arith))
-
-  pub cut-pasted-after : (p n : ℕ) → at + length s ≤ p → cut (pasted d at s) p n ≡ cut d p n
-  cut-pasted-after p n h =
-      cut-same (pasted d at s) d p n (length-pasted d at s fits) (λ i g k. pasted-after d at s fits i 0 (omega arith))
 
   -- what lies before the end of the paste, and what lies after it
   length-front : length (take at d ++ s) ≡ at + length s
@@ -202,16 +195,6 @@ pasted-part d a n at s h g =
     ∙ sym (append-assoc (take a d) (take at x) (s ++ drop (a + (at + length s)) d))
     ∙ ap₂ (λ (p : List ℕ) (m : ℕ). p ++ (s ++ drop m d)) (sym (take-add a at d)) (sym (add-assoc a at (length s)))
 
--- and what the part then holds
-pub cut-around : (d : List ℕ) (a n at : ℕ) (s : List ℕ) → a + n ≤ length d → at + length s ≤ n
-    → cut (pasted d (a + at) s) a n ≡ pasted (cut d a n) at s
-cut-around d a n at s h g =
-    let y = pasted (cut d a n) at s in
-    let ly = length-inner d a n at s h g in
-    ap (λ (l : List ℕ). cut l a n) (sym (pasted-part d a n at s h g))
-    ∙ ap (λ (m : ℕ). cut (pasted d a y) a m) (sym ly)
-    ∙ cut-pasted d a y (rw ly h)
-
 -- a part that was lent as `&mut d[a..a + n]` and pasted into, when it is back
 pub pasted-lent : (d : List ℕ) (a n at : ℕ) (s y : List ℕ) → a + n ≤ length d → at + length s ≤ n
     → y ≡ pasted (midOf a (a + n - a) d) at s → putMid a (a + n - a) d y ≡ pasted d (a + at) s
@@ -228,26 +211,3 @@ module _ (files : List ℕ) (f : ℕ) (size : length files ≡ 32768) (there : f
   pub length-file : length (filePart files f) ≡ 4096
   unfolding filePart
   length-file = length-cut files (4096 * f) 4096 (omega arith)
-
-  pub getD-file : (i : ℕ) → i < 4096 → getD (filePart files f) i 0 ≡ getD files (4096 * f + i) 0
-  unfolding filePart
-  getD-file i h = getD-cut files (4096 * f) 4096 i 0 h
-
-  module _ (at : ℕ) (s : List ℕ) (fits : at + length s ≤ 4096) where
-    -- what a landing leaves in its own file, and in every other
-    pub file-landed : filePart (pasted files (4096 * f + at) s) f ≡ pasted (filePart files f) at s
-    unfolding filePart
-    file-landed = cut-around files (4096 * f) 4096 at s (omega arith) fits
-
-    pub file-other : (g : ℕ) → (g ≡ f → ⊥) → filePart (pasted files (4096 * f + at) s) g ≡ filePart files g
-    unfolding filePart
-    file-other g other = ⊎-elim after before (le-or-lt f g)
-      where
-        inside : 4096 * f + at + length s ≤ length files
-        inside = omega arith
-
-        before : g < f → cut (pasted files (4096 * f + at) s) (4096 * g) 4096 ≡ cut files (4096 * g) 4096
-        before h = cut-pasted-before files (4096 * f + at) s inside (4096 * g) 4096 (omega arith)
-
-        after : f ≤ g → cut (pasted files (4096 * f + at) s) (4096 * g) 4096 ≡ cut files (4096 * g) 4096
-        after h = cut-pasted-after files (4096 * f + at) s inside (4096 * g) 4096 (omega arith)

@@ -1,21 +1,17 @@
 -- Each old arrangement of marks and its new one name the same pairs of transaction and byte. Assumes nothing.
 use mathlib.Core.Path.{_≡_, refl, sym, ap, ap₂, _∙_}
-use mathlib.Core.Bool.{Bool, true, false, not, _&&_, _||_, false≢true}
+use mathlib.Core.Bool.{Bool, true, false, not, _&&_, _||_}
 use mathlib.Core.List.{List}
-use mathlib.Core.Logic.{⊎-elim}
-use Prim.Native.Nat.{ℕ, _+_, _*_, _^_, _/_, _%_, _≤_, _<_}
+use Prim.Native.Nat.{ℕ, _+_, _*_, _/_, _%_, _<_}
 use native.Mathlib.Omega.{arith}
 use lib.Dec.{eqb, ltb}
 use lib.ListN.{length, getD}
-use lib.Pow.{pow-mono}
 use lib.Seq.{ext-getD}
-use borrow.Author.Tests.{eqb-true, eqb-false, ltb-true, lt-ltb}
+use borrow.Author.Tests.{ltb-true, lt-ltb}
 use Rattle.octets.specs.Bits.{bit, bitsOf}
 use Rattle.octets.specs.Marks.{byByte, byTransaction, names, rearranged, hasMark, withMark, withoutMarks, contains, SamePairs}
-use Rattle.octets.proofs.BitLaws.{bit-lt, bit-above, bits-equal}
-use Rattle.octets.proofs.PartLaws.{le-or-lt}
 use Rattle.octets.proofs.MarkLaws.{has-with-mark, has-without-marks}
-use Rattle.octets.proofs.SetLaws.{contains-bits}
+use Rattle.octets.proofs.SetLaws.{contains-bits, octets-same}
 use Rattle.octets.proofs.TableLaws.{length-tabulate, getD-tabulate}
 
 -- octet i of the new arrangement
@@ -50,37 +46,22 @@ pairs marks t q small = pick (ltb q 32768) refl
         ∙ ap₂ (λ (u p : ℕ). names byByte marks u p) whose which
         ∙ ap (λ (b : Bool). b && eqb (bit t (getD marks q 0)) 1) e
 
-same-bit : (x y : ℕ) → x < 2 → y < 2 → eqb x 1 ≡ eqb y 1 → x ≡ y
-same-bit x y h g e = pick (eqb x 1) refl (eqb y 1) refl e
-  where
-    pick : (b : Bool) → eqb x 1 ≡ b → (c : Bool) → eqb y 1 ≡ c → b ≡ c → x ≡ y
-    pick true p true q e = eqb-true x 1 p ∙ sym (eqb-true y 1 q)
-    pick true p false q e = absurd (false≢true (sym e))
-    pick false p true q e = absurd (false≢true e)
-    pick false p false q e = let l = eqb-false x 1 p in let m = eqb-false y 1 q in omega arith
-
 only : (xs ys : List ℕ) → length xs ≡ 32768 → length ys ≡ 32768
     → ((i : ℕ) → getD xs i 0 < 256) → ((i : ℕ) → getD ys i 0 < 256)
     → ((t q : ℕ) → t < 8 → names byTransaction xs t q ≡ names byTransaction ys t q)
     → xs ≡ ys
-unfolding names
+unfolding names contains
 only xs ys l m small small′ same =
-    ext-getD 0 xs ys (l ∙ sym m) (λ i h. bits-equal (getD xs i 0) (getD ys i 0) (λ u. ⊎-elim (high i u) (low i u (omega arith)) (le-or-lt 8 u)))
+    ext-getD 0 xs ys (l ∙ sym m) (λ i h. octets-same (getD xs i 0) (getD ys i 0) (small i) (small′ i) (each i (omega arith)))
   where
-    high : (i u : ℕ) → 8 ≤ u → bit u (getD xs i 0) ≡ bit u (getD ys i 0)
-    high i u h =
-        let wide : 2 ^ 8 ≤ 2 ^ u = pow-mono h in
-        bit-above u (getD xs i 0) (omega (arith, small i)) ∙ sym (bit-above u (getD ys i 0) (omega (arith, small′ i)))
-
-    low : (i u : ℕ) → i < 32768 → u < 8 → bit u (getD xs i 0) ≡ bit u (getD ys i 0)
-    low i u h g =
+    each : (i : ℕ) → i < 32768 → (u : ℕ) → u < 8 → contains (getD xs i 0) u ≡ contains (getD ys i 0) u
+    each i h u g =
         let t = i / 4096 in
         let q = 8 * (i % 4096) + u in
         let e : 4096 * t + q / 8 ≡ i = omega arith in
         let f : q % 8 ≡ u = omega arith in
         let in32 = lt-ltb q 32768 (omega arith) in
-        same-bit (bit u (getD xs i 0)) (bit u (getD ys i 0)) (bit-lt u (getD xs i 0)) (bit-lt u (getD ys i 0))
-        (rw (in32, e, f) at (same t q (omega arith)))
+        rw (in32, e, f) at (same t q (omega arith))
 
 marking : (marks : List ℕ) (t q u p : ℕ) → t < 8 → u < 8 → q < 32768
     → hasMark (withMark t q (rearranged marks)) u p ≡ (eqb u t && eqb p q) || names byByte marks u p

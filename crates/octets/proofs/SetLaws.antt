@@ -1,18 +1,19 @@
 -- The laws of sets of numbers as bits. Assumes nothing.
-use mathlib.Core.Bool.{Bool, true, false, cond}
-use mathlib.Core.Logic.{⊎-elim}
+use mathlib.Core.Bool.{Bool, true, false, cond, _&&_, false≢true}
+use mathlib.Core.Logic.{_⊎_, inl, inr, ⊎-elim}
 use mathlib.Core.Path.{_≡_, refl, sym, ap, ap₂, _∙_}
-use lib.Bits.{bitOr, or-shifted-r}
+use lib.Bits.{bitOr, bitAnd, or-shifted-r, and-shr, and-step}
 use lib.Count.{ones, ones-cat}
 use lib.Dec.{eqb}
-use lib.Pow.{pow-lt}
-use native.Mathlib.Nat.{one-mul, eq-or-lt-of-le, le-of-suc-le-suc, not-suc-le-zero, add-comm, pow-suc}
+use lib.Pow.{pow-lt, pow-mono}
+use native.Mathlib.Nat.{one-mul, eq-or-lt-of-le, le-of-suc-le-suc, not-suc-le-zero, add-comm, pow-suc, mul-add-mod-self-right, mod-eq-of-lt}
 use native.Mathlib.Omega.{arith}
-use borrow.Author.Tests.{eq-eqb, ne-eqb}
-use Prim.Native.Nat.{ℕ, zero, suc, _+_, _^_, _<_}
-use Rattle.octets.specs.Bits.{bit, withBit, bitsOf, countOf}
+use borrow.Author.Tests.{eqb-true, eqb-false, eq-eqb, ne-eqb}
+use Prim.Native.Nat.{ℕ, zero, suc, _+_, _-_, _^_, _/_, _%_, _≤_, _<_, min}
+use Rattle.octets.specs.Bits.{bit, withBit, withoutBit, withBitAs, bitsOf, countOf}
 use Rattle.octets.specs.Marks.{contains}
-use Rattle.octets.proofs.BitLaws.{bit-above, bit-with}
+use Rattle.octets.proofs.BitLaws.{bit-lt, bit-above, bits-equal, bit-with}
+use Rattle.octets.proofs.PartLaws.{le-or-lt}
 
 module _ (p : ℕ → Bool) where
   pub bits-lt : (n : ℕ) → bitsOf p n < 2 ^ n
@@ -89,6 +90,23 @@ unfolding bitsOf
 bits-none p zero h = refl
 bits-none p (suc n) h = sym (bits-without p n (h n)) ∙ bits-none p n h
 
+-- two octets that contain the same are one
+pub octets-same : (x y : ℕ) → x < 256 → y < 256 → ((u : ℕ) → u < 8 → contains x u ≡ contains y u) → x ≡ y
+unfolding contains
+octets-same x y h g same = bits-equal x y (λ u. ⊎-elim (high u) (λ l. same-bit (bit u x) (bit u y) (bit-lt u x) (bit-lt u y) (same u l)) (le-or-lt 8 u))
+  where
+    high : (u : ℕ) → 8 ≤ u → bit u x ≡ bit u y
+    high u l = let wide : 2 ^ 8 ≤ 2 ^ u = pow-mono l in bit-above u x (omega arith) ∙ sym (bit-above u y (omega arith))
+
+    same-bit : (a b : ℕ) → a < 2 → b < 2 → eqb a 1 ≡ eqb b 1 → a ≡ b
+    same-bit a b h g e = pick (eqb a 1) refl (eqb b 1) refl e
+      where
+        pick : (p : Bool) → eqb a 1 ≡ p → (q : Bool) → eqb b 1 ≡ q → p ≡ q → a ≡ b
+        pick true p true q e = eqb-true a 1 p ∙ sym (eqb-true b 1 q)
+        pick true p false q e = absurd (false≢true (sym e))
+        pick false p true q e = absurd (false≢true e)
+        pick false p false q e = let l = eqb-false a 1 p in let m = eqb-false b 1 q in omega arith
+
 -- what is in it with a number more
 pub contains-with : (t x u : ℕ) → contains (withBit t x) u ≡ cond (eqb u t) true (contains x u)
 unfolding contains
@@ -97,3 +115,61 @@ contains-with t x u = ap (λ (b : ℕ). eqb b 1) (bit-with u t x) ∙ pick (eqb 
     pick : (b : Bool) → eqb (cond b 1 (bit u x)) 1 ≡ cond b true (eqb (bit u x) 1)
     pick true = refl
     pick false = refl
+
+-- ---- a set of numbers below 16 without one of them
+
+-- every bit of both
+bit-and : (u a b : ℕ) → bit u (bitAnd a b) ≡ min (bit u a) (bit u b)
+unfolding bit
+bit-and u a b =
+    let x = a / 2 ^ u in
+    let y = b / 2 ^ u in
+    let small : min (x % 2) (y % 2) < 2 = omega arith in
+    ap (λ (k : ℕ). k % 2) (and-shr a b u ∙ and-step x y)
+    ∙ mul-add-mod-self-right (bitAnd (x / 2) (y / 2)) 2 (min (x % 2) (y % 2))
+    ∙ mod-eq-of-lt small
+
+-- a test that holds of every number below n
+holds : (ℕ → Bool) → ℕ → Bool
+holds p zero = true
+holds p (suc n) = p n && holds p n
+
+holds-at : (p : ℕ → Bool) (n k : ℕ) → holds p n ≡ true → k < n → p k ≡ true
+unfolding holds
+holds-at p zero k e h = absurd (not-suc-le-zero h)
+holds-at p (suc n) k e h = both (p n) refl e (λ q. holds-at p n k q) (eq-or-lt-of-le (le-of-suc-le-suc h))
+  where
+    both : (b : Bool) → p n ≡ b → (b && holds p n) ≡ true → (holds p n ≡ true → k < n → p k ≡ true) → (k ≡ n) ⊎ (k < n) → p k ≡ true
+    both true q e below (inl same) = ap p same ∙ q
+    both true q e below (inr less) = below e less
+    both false q e below w = absurd (false≢true e)
+
+-- the mask that clears bit t of sixteen has every other bit
+right : ℕ → ℕ → Bool
+right t u = eqb (bit u (65535 - 2 ^ t)) (cond (eqb u t) 0 1)
+
+table : holds (λ (t : ℕ). holds (right t) 16) 16 ≡ true
+unfolding bit holds right
+table = refl
+
+masked : (t u : ℕ) → t < 16 → u < 16 → bit u (65535 - 2 ^ t) ≡ cond (eqb u t) 0 1
+unfolding right
+masked t u ht hu = eqb-true (bit u (65535 - 2 ^ t)) (cond (eqb u t) 0 1) (holds-at (right t) 16 u (holds-at (λ (t : ℕ). holds (right t) 16) 16 t table ht) hu)
+
+pub contains-without : (t x u : ℕ) → t < 16 → u < 16 → contains (withoutBit t x) u ≡ cond (eqb u t) false (contains x u)
+unfolding contains withoutBit
+contains-without t x u h g = ap (λ (b : ℕ). eqb b 1) (bit-and u x (65535 - 2 ^ t) ∙ ap (min (bit u x)) (masked t u h g)) ∙ pick (eqb u t) (bit u x) (bit-lt u x)
+  where
+    pick : (b : Bool) (y : ℕ) → y < 2 → eqb (min y (cond b 0 1)) 1 ≡ cond b false (eqb y 1)
+    pick true zero l = refl
+    pick true (suc zero) l = refl
+    pick true (suc (suc y)) l = absurd (omega arith)
+    pick false zero l = refl
+    pick false (suc zero) l = refl
+    pick false (suc (suc y)) l = absurd (omega arith)
+
+-- what is in it with a number put in or taken out
+pub contains-put : (t : ℕ) (b : Bool) (x u : ℕ) → t < 16 → u < 16 → contains (withBitAs t b x) u ≡ cond (eqb u t) b (contains x u)
+unfolding withBitAs
+contains-put t true x u h g = contains-with t x u
+contains-put t false x u h g = contains-without t x u h g

@@ -2,7 +2,7 @@
 use mathlib.Core.Bool.{Bool, cond}
 use Prim.Native.Nat.{ℕ, zero, suc, _+_, _-_, _^_, _/_, _%_}
 use mathlib.Core.List.{List}
-use lib.Bits.{bitOr}
+use lib.Bits.{bitOr, bitAnd}
 use lib.ListN.{set}
 
 -- bit u of x, worth 2 to the power u: 0 or 1
@@ -12,6 +12,13 @@ bit u x = x / 2 ^ u % 2
 -- x with bit t set
 unfoldable pub withBit : ℕ → ℕ → ℕ
 withBit t x = bitOr x (2 ^ t)
+
+-- x, a number of sixteen bits, with bit t cleared; and with bit t set or cleared
+unfoldable pub withoutBit : ℕ → ℕ → ℕ
+withoutBit t x = bitAnd x (65535 - 2 ^ t)
+
+unfoldable pub withBitAs : ℕ → Bool → ℕ → ℕ
+withBitAs t b x = cond b (withBit t x) (withoutBit t x)
 
 -- the number whose bits are the n from bit `low` on
 unfoldable pub span : ℕ → ℕ → ℕ

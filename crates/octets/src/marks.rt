@@ -1,5 +1,5 @@
-// Marks: eight stretches of 4,096 octets, transaction t's from octet 4,096 × t on, a bit for each byte of the files in their order,
-// lowest bit first. A set of transactions is an octet too.
+// Marks: eight stretches of 4,096 octets, transaction t's from octet 4,096 × t on, a bit for each byte of the files in
+// their order, lowest bit first. A set of transactions is an octet too.
 use crate::sets;
 use numbers::smaller;
 ghost use mathlib.Core.Bool.{_&&_, _||_};
@@ -118,7 +118,8 @@ fn has_mark_in_octets(marks: &[u8], t: usize, from: usize, n: usize) -> bool
 // Those of the watched transactions that have marked some of the n bytes from `from` on.
 pub fn markers(marks: &[u8], watched: u8, from: usize, n: usize) -> u8
     requires { ⌜ (from + n ≤ 32768) × (length (now marks) ≡ 32768) ⌝ }
-    ensures { λ r. ⌜ ((u : ℕ) → u < 8 → contains r u ≡ contains watched u && hasMarkIn (now (marks .entry)) u from n) ⌝ }
+    ensures { λ r. ⌜ ((u : ℕ) → u < 8
+        → contains r u ≡ contains watched u && hasMarkIn (now (marks .entry)) u from n) ⌝ }
 {
     let mut found = 0u8;
     let mut u = 0;

@@ -6,8 +6,8 @@ use Prim.Native.Nat.{ℕ, zero, suc, _+_, _-_, _*_, _/_, _%_, _^_, _≤_, _<_, m
 use native.Mathlib.Numerals.{add-one}
 use native.Mathlib.Omega.{arith}
 use lib.Dec.{ltb}
-use lib.ListN.{length, take, drop, getD, set, length-append, length-take}
-use lib.Seq.{take-suc, take-all, length-take-le, append-snoc, take-take}
+use lib.ListN.{length, take, getD, set, length-append, length-take}
+use lib.Seq.{take-suc, take-all, append-snoc}
 use borrow.Author.Tests.{lt-ltb, le-ltb, ltb-true, ltb-false}
 use Rattle.octets.specs.Parts.{pasted}
 use Rattle.octets.proofs.PartLaws.{pasted-append, pasted-none, pasted-more, length-pasted}

@@ -6,7 +6,8 @@ ghost use mathlib.Core.List.{_∷_, []};
 ghost use Prim.Native.Nat.{_+_, _*_, _<_, _≤_};
 ghost use lib.ListN.{length, take};
 ghost use Rattle.record.specs.Paper.{said};
-ghost use Rattle.printing.specs.Printed.{Put, glyph as glyphOf, decimal, hexPairs, ok as okText, okNumber, okBytes, spelled, printed};
+ghost use Rattle.printing.specs.Printed.{Put, glyph as glyphOf, decimal, hexPairs, ok as okText, okNumber};
+ghost use Rattle.printing.specs.Printed.{okBytes, spelled, printed};
 
 fn put_byte(out: &mut [u8], at: usize, b: u8) -> usize
     requires { ⌜ at < length (now out) ⌝ }
@@ -114,7 +115,8 @@ fn put_answer(out: &mut [u8], at: usize, o: Outcome, reader: &[u8]) -> usize
 // The line of a reply: what was answered, with the bytes of a Read from the reader's buffer, and the line's end.
 pub fn print(out: &mut [u8], at: usize, o: Outcome, reader: &[u8]) -> usize
     requires { ⌜ at + 9 + 2 * length (now reader) ≤ length (now out) ⌝ }
-    ensures { λ r. ⌜ Put (now (out .entry)) at (printed (record { answer = said o; buffer = now (reader .entry) })) (now (out .exit)) r
+    ensures { λ r. ⌜ Put (now (out .entry)) at
+        (printed (record { answer = said o; buffer = now (reader .entry) })) (now (out .exit)) r
         × (r ≤ length (now (out .exit))) ⌝ }
 {
     let next = put_answer(out, at, o, reader);

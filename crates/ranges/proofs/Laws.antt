@@ -1,7 +1,7 @@
 -- Laws of the definitions in specs/: tests and sums by index, what a passed test of a call tells, and what the ranges say.
 use mathlib.Core.Bool.{Bool, true, false, cond, not, _&&_, _||_}
 use mathlib.Core.List.{List}
-use mathlib.Core.Path.{_≡_, refl, sym, _∙_}
+use mathlib.Core.Path.{_≡_, refl, sym, ap, _∙_}
 use mathlib.Core.Logic.{⊎-elim}
 use lib.Dec.{leb, eqb}
 use lib.ListN.{getD, length}
@@ -21,7 +21,12 @@ use Rattle.record.specs.declared.journal.WriteRecord.{WriteRecord}
 use Rattle.record.specs.State.{transaction, standingAt}
 use Rattle.record.specs.Journal.{writeRecordAt}
 use Rattle.ranges.specs.Below.{below, sum}
-use Rattle.ranges.specs.Ranges.{standingIn, endsWithin, placeIn, recordIn, lengthsBefore, journalIn, transactionIn, storeIn, unless, Sizes, sizesIn, shared, admissionOfFresh}
+use Rattle.ranges.specs.Ranges.{standingIn, endsWithin, placeIn, recordIn, lengthsBefore, journalIn, transactionIn, storeIn, unless, Sizes, sizesIn, firstTests, shared, admissionOfFresh, gateNumber}
+use Rattle.ranges.specs.declared.Gate.{Gate}
+use Rattle.ranges.specs.declared.Gate.the-variants.{Pass, Refused}
+use Rattle.record.specs.Paper.{number}
+use Rattle.record.specs.declared.outcomes.Refusal.{Refusal}
+use Rattle.record.specs.declared.outcomes.Refusal.the-variants.{BufferLength, RecordRange, NoSuchTransaction, NotOpen, AlreadyOpen, NoSuchTarget, ReaderTooShort, SeekPastEnd, WritePastEnd, RecordsFull, LogFull, SettledPastEnd, Stale, NoSuchFile, NoPlaceYet, ListTooLong, BadLine, StaleReader}
 
 -- Tests joined by &&.
 pub and-left : (a b : Bool) → a && b ≡ true → a ≡ true
@@ -109,25 +114,85 @@ unfolding sum
 sum-same f g zero h = refl
 sum-same f g (suc n) h = rw (sum-same f g n (λ k l. h k (omega arith)), h n (omega arith))
 
--- Refusals 1 to 3, from the tests in the table's order, and what comes after them.
-module _ (z : Sizes) (s : Store) (journal : List ℕ) (t later : ℕ) where
-  pub shared-lengths : sizesIn z ≡ false → 1 ≡ shared z s journal t later
-  unfolding shared unless
-  shared-lengths e = rw e
+-- Refusals 1 and 2, from the tests in the table's order, and what comes after them.
+module _ (z : Sizes) (s : Store) (journal : List ℕ) (later : ℕ) where
+  pub first-lengths : sizesIn z ≡ false → 1 ≡ firstTests z s journal later
+  unfolding firstTests unless
+  first-lengths e = rw e
 
-  module _ (lengths : sizesIn z ≡ true) where
-    pub shared-ranges : storeIn s journal ≡ false → 2 ≡ shared z s journal t later
-    unfolding shared unless
-    shared-ranges e = rw (lengths, e)
+  pub first-ranges : sizesIn z ≡ true → storeIn s journal ≡ false → 2 ≡ firstTests z s journal later
+  unfolding firstTests unless
+  first-ranges lengths e = rw (lengths, e)
 
-    module _ (ranges : storeIn s journal ≡ true) where
-      pub shared-number : 7 < t → 3 ≡ shared z s journal t later
-      unfolding shared unless
-      shared-number l = rw (lengths, ranges, lt-leb t 7 l)
+  pub first-later : sizesIn z ≡ true → storeIn s journal ≡ true → firstTests z s journal later ≡ later
+  unfolding firstTests unless
+  first-later lengths ranges = rw (lengths, ranges)
 
-      pub shared-later : t ≤ 7 → shared z s journal t later ≡ later
-      unfolding shared unless
-      shared-later l = rw (lengths, ranges, le-leb t 7 l)
+-- The tests after 1 and 2 decide where these pass, and where not they don't matter.
+module _ (z : Sizes) (s : Store) (journal : List ℕ) where
+  pub first-passed : (later : ℕ) → firstTests z s journal 0 ≡ 0 → firstTests z s journal later ≡ later
+  unfolding firstTests unless
+  first-passed later e = pick (sizesIn z) (storeIn s journal) e
+    where
+      pick : (a b : Bool) → _≡_ {A = ℕ} (cond a (cond b 0 2) 1) 0 → cond a (cond b later 2) 1 ≡ later
+      pick true true e = refl
+      pick true false e = absurd (omega arith)
+      pick false b e = absurd (omega arith)
+
+  pub first-refused : (later n : ℕ) → n ≡ firstTests z s journal 0 → 0 < n → firstTests z s journal later ≡ n
+  unfolding firstTests unless
+  first-refused later n e h = pick (sizesIn z) (storeIn s journal) e
+    where
+      pick : (a b : Bool) → n ≡ cond a (cond b 0 2) 1 → cond a (cond b later 2) 1 ≡ n
+      pick true true e = absurd (omega arith)
+      pick true false e = sym e
+      pick false b e = sym e
+
+  -- Test 3 comes after them.
+  pub shared-first : (t later : ℕ) → shared z s journal t later ≡ firstTests z s journal (unless (leb t 7) 3 later)
+  unfolding shared firstTests
+  shared-first t later = refl
+
+-- A refusal's number is not 0.
+pub number-suc : (r : Refusal) → (k : ℕ) × (number r ≡ suc k)
+number-suc BufferLength = (0, refl)
+number-suc RecordRange = (1, refl)
+number-suc NoSuchTransaction = (2, refl)
+number-suc NotOpen = (3, refl)
+number-suc AlreadyOpen = (4, refl)
+number-suc NoSuchTarget = (5, refl)
+number-suc ReaderTooShort = (6, refl)
+number-suc SeekPastEnd = (7, refl)
+number-suc WritePastEnd = (8, refl)
+number-suc RecordsFull = (9, refl)
+number-suc LogFull = (10, refl)
+number-suc SettledPastEnd = (11, refl)
+number-suc Stale = (12, refl)
+number-suc NoSuchFile = (13, refl)
+number-suc NoPlaceYet = (14, refl)
+number-suc ListTooLong = (15, refl)
+number-suc BadLine = (16, refl)
+number-suc StaleReader = (17, refl)
+
+-- What the gate of tests 1 and 2 tells of 1 to 3.
+module _ (g : Gate) (z : Sizes) (s : Store) (journal : List ℕ) (t : ℕ) (says : gateNumber g ≡ firstTests z s journal 0) where
+  pub gate-before : (r : Refusal) → g ≡ Refused r → number r ≡ shared z s journal t 0
+  unfolding gateNumber
+  gate-before r e =
+      let n = number-suc r in
+      sym (shared-first z s journal t 0 ∙ first-refused z s journal (unless (leb t 7) 3 0) (number r) (sym (ap gateNumber e) ∙ says) (let q = n .1 in omega arith))
+
+  gate-after : g ≡ Pass → shared z s journal t 0 ≡ unless (leb t 7) 3 0
+  unfolding gateNumber
+  gate-after e = shared-first z s journal t 0 ∙ first-passed z s journal (unless (leb t 7) 3 0) (sym says ∙ ap gateNumber e)
+
+  pub gate-number-out : g ≡ Pass → 7 < t → 3 ≡ shared z s journal t 0
+  unfolding unless
+  gate-number-out e l = sym (gate-after e ∙ rw (lt-leb t 7 l))
+
+  pub gate-number-in : g ≡ Pass → t ≤ 7 → 0 ≡ shared z s journal t 0
+  unfolding unless
+  gate-number-in e l = sym (gate-after e ∙ rw (le-leb t 7 l))
 
 -- A test of a call that passed, and the tests after it.
 unless-zero : (ok : Bool) (n later : ℕ) → 0 < n → unless ok n later ≡ 0 → (ok ≡ true) × (later ≡ 0)
@@ -297,11 +362,3 @@ place-end z (After a) n e = leb-true _ _ (and-left (leb (a + n) 4096) (endsWithi
 pub place-within : (z : Standing) (a n : ℕ) → placeIn z (After a) n ≡ true → endsWithin z (a + n) ≡ true
 unfolding placeIn
 place-within z a n e = and-right (leb (a + n) 4096) (endsWithin z (a + n)) e
-
-pub place-at-intro : (z : Standing) (p n : ℕ) → p + n ≤ 4096 → placeIn z (At p) n ≡ true
-unfolding placeIn
-place-at-intro z p n l = le-leb _ _ l
-
-pub place-after-intro : (z : Standing) (a n : ℕ) → a + n ≤ 4096 → endsWithin z (a + n) ≡ true → placeIn z (After a) n ≡ true
-unfolding placeIn
-place-after-intro z a n l e = and-both _ _ (le-leb _ _ l) e

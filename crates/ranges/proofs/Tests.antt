@@ -2,43 +2,53 @@
 use mathlib.Core.Bool.{Bool, true, false, not, _&&_, _||_}
 use mathlib.Core.List.{List}
 use mathlib.Core.Path.{_≡_, refl, sym, _∙_}
+use native.Mathlib.Numerals.{add-one}
+use lib.ListN.{getD}
 use lib.Dec.{leb, eqb}
-use Prim.Native.Nat.{ℕ, _+_, _≤_, _<_}
+use Prim.Native.Nat.{ℕ, zero, suc, _+_, _≤_, _<_}
 use native.Mathlib.Omega.{arith}
-use borrow.Author.Tests.{leb-true, le-leb, lt-leb, not-true, not-false}
+use borrow.Author.Tests.{ne-eqb, leb-true, le-leb, lt-leb, not-true, not-false}
 use Rattle.standings.specs.declared.Standing.{Standing}
 use Rattle.standings.specs.declared.Standing.the-variants.{Untouched, Placed, Deferred, Moved, Known}
 use Rattle.standings.specs.declared.Place.{Place}
 use Rattle.standings.specs.declared.Place.the-variants.{At, After}
-use Rattle.standings.specs.Table.{advance, offsetOf, isTouched, mayWait, placeNumber}
+use Rattle.standings.specs.Table.{advance, mayWait, placeNumber}
 use Rattle.record.specs.declared.Transaction.{Transaction}
 use Rattle.record.specs.declared.journal.WriteRecord.{WriteRecord}
-use Rattle.record.specs.State.{standingAt}
+use Rattle.record.specs.State.{transaction, standingAt}
+use Rattle.record.specs.Layout.{standingOf, transactionOf, storeOf, journalOf}
+use Rattle.record.proofs.LayoutLaws.{file-of, offset-of, length-of, transaction-of}
 use Rattle.record.specs.Journal.{writeRecordAt}
 use Rattle.ranges.specs.Below.{below}
-use Rattle.ranges.specs.Ranges.{standingIn, endsWithin, placeIn, recordIn, lengthsBefore, journalIn, transactionIn}
-use Rattle.ranges.proofs.Laws.{and-left, and-true, standing-numbers, below-at, sum-zero, sum-more, transaction-in-intro}
+use Rattle.ranges.specs.Ranges.{standingIn, endsWithin, placeIn, recordIn, lengthsBefore, journalIn, journalPasses, transactionIn, storeIn}
+use Rattle.ranges.proofs.Laws.{and-left, and-true, below-same, sum-zero, sum-more}
 
 and-false : (a : Bool) → a && false ≡ false
 and-false true = refl
 and-false false = refl
 
+-- ---- tests without a branch
+
+pub one-more : (p : ℕ → Bool) (i : ℕ) (b q : Bool) → b ≡ below p i → q ≡ p i → b && q ≡ below p (i + 1)
+unfolding below
+one-more p i b q e f = rw (e, f, add-one)
+
+pub none-yet : (p : ℕ → Bool) → true ≡ below p 0
+unfolding below
+none-yet p = refl
+
 -- ---- a standing
 
-module _ (z : Standing) (n : ℕ) (is-n : n ≡ advance z) where
-  pub advance-out : 4096 < n → false ≡ standingIn z
-  advance-out l = sym (standing-numbers z ∙ rw (← is-n, lt-leb n 4096 l))
-
-  pub offset-decides : (m : ℕ) → m ≡ offsetOf z → n ≤ 4096 → leb m 4096 ≡ standingIn z
-  offset-decides m e l = sym (standing-numbers z ∙ rw (← is-n, ← e, le-leb n 4096 l))
-
-pub untouched-in : (z : Standing) {r : Bool} → r ≡ isTouched z → r ≡ false → standingIn z ≡ true
-unfolding standingIn
-untouched-in Untouched e h = refl
-untouched-in (Placed o) e h = cc
-untouched-in (Deferred a) e h = cc
-untouched-in (Moved a o) e h = cc
-untouched-in (Known o) e h = cc
+-- Of its three numbers those that it carries are looked at.
+pub numbers-decide : (k a b : ℕ) → (eqb k 0 || leb a 4096) && (not (eqb k 3) || leb b 4096) ≡ standingIn (standingOf k a b)
+unfolding standingIn standingOf
+numbers-decide zero a b = refl
+numbers-decide (suc zero) a b = and-true (leb a 4096)
+numbers-decide (suc (suc zero)) a b = and-true (leb a 4096)
+numbers-decide (suc (suc (suc zero))) a b = refl
+numbers-decide (suc (suc (suc (suc k)))) a b =
+    let n = suc (suc (suc (suc k))) in
+    rw (ne-eqb n 0 (λ p. omega arith), ne-eqb n 1 (λ p. omega arith), ne-eqb n 2 (λ p. omega arith), ne-eqb n 3 (λ p. omega arith)) (and-true (leb a 4096))
 
 -- ---- a write record
 
@@ -118,20 +128,20 @@ turned false true j e true = refl
 turned false true j e false = refl
 turned false false j e u = refl
 
-or-closed : (b q : Bool) → not b ≡ true → true ≡ not b || q
+or-closed : (b q : Bool) → b ≡ false → true ≡ not b || q
 or-closed b q e = rw e
 
-or-begun : (b q : Bool) → not b ≡ false → not b || q ≡ q
+or-begun : (b q : Bool) → b ≡ true → not b || q ≡ q
 or-begun b q e = rw e
 
 module _ (x : Transaction) (journal : List ℕ) (t : ℕ) where
-  pub closed-in : not (x .begun) ≡ true → true ≡ transactionIn x journal t
+  pub closed-in : x .begun ≡ false → true ≡ transactionIn x journal t
   unfolding transactionIn
   closed-in e = or-closed (x .begun) _ e
 
-  module _ (begun : not (x .begun) ≡ false) where
-    begun-in : transactionIn x journal t ≡ leb (x .used .records) 64 && leb (x .used .bytes) 4096 && below (λ d. standingIn (standingAt x d)) 16 && (below (λ k. recordIn x (writeRecordAt journal t k)) (x .used .records) && eqb (lengthsBefore journal t (x .used .records)) (x .used .bytes))
-    unfolding transactionIn journalIn
+  module _ (begun : x .begun ≡ true) where
+    begun-in : transactionIn x journal t ≡ leb (x .used .records) 64 && leb (x .used .bytes) 4096 && below (λ d. standingIn (standingAt x d)) 16 && journalPasses x journal t (x .used .records) (x .used .bytes)
+    unfolding transactionIn journalIn journalPasses
     begun-in = or-begun (x .begun) _ begun ∙ turned (below (λ d. standingIn (standingAt x d)) 16) (leb (x .used .records) 64) _ _ (leb (x .used .bytes) 4096)
 
     pub records-fail : (n : ℕ) → n ≡ x .used .records → 64 < n → false ≡ transactionIn x journal t
@@ -142,22 +152,21 @@ module _ (x : Transaction) (journal : List ℕ) (t : ℕ) where
       bytes-fail l = sym (begun-in ∙ rw (le-leb (x .used .records) 64 (rw is-n at few), lt-leb (x .used .bytes) 4096 (rw is-m at l)))
 
       module _ (fits : m ≤ 4096) where
-        counted : transactionIn x journal t ≡ below (λ d. standingIn (standingAt x d)) 16 && (below (λ k. recordIn x (writeRecordAt journal t k)) n && eqb (lengthsBefore journal t n) m)
+        counted : transactionIn x journal t ≡ below (λ d. standingIn (standingAt x d)) 16 && journalPasses x journal t n m
         counted = rw (is-n, is-m) (begun-in ∙ rw (le-leb (x .used .records) 64 (rw is-n at few), le-leb (x .used .bytes) 4096 (rw is-m at fits)))
 
         pub standings-fail : below (λ d. standingIn (standingAt x d)) 16 ≡ false → false ≡ transactionIn x journal t
         standings-fail e = sym (counted ∙ rw e)
 
-        pub records-decide : (r : Bool) → below (λ d. standingIn (standingAt x d)) 16 ≡ true → r ≡ below (λ k. recordIn x (writeRecordAt journal t k)) n && eqb (lengthsBefore journal t n) m → r ≡ transactionIn x journal t
+        pub records-decide : (r : Bool) → below (λ d. standingIn (standingAt x d)) 16 ≡ true → r ≡ journalPasses x journal t n m → r ≡ transactionIn x journal t
         records-decide r standings e = e ∙ sym (counted ∙ rw standings)
 
--- A transaction with no records, no bytes and its standings in range is in range.
-pub idle-in : (x : Transaction) (journal : List ℕ) (t : ℕ) → x .used .records ≡ 0 → x .used .bytes ≡ 0 → below (λ d. standingIn (standingAt x d)) 16 ≡ true → transactionIn x journal t ≡ true
-idle-in x journal t r u e =
-    transaction-in-intro x journal t (λ _. record {
-      standings = λ d l. below-at (λ d. standingIn (standingAt x d)) 16 d e l;
-      records = omega arith;
-      bytes = omega arith;
-      total = rw (r, u) (sym (lengths-none journal t));
-      writes = λ k l. absurd (omega arith);
-    })
+-- ---- the whole record
+
+-- Check 2 in the record's own numbers.
+pub store-numbers : (r : List ℕ) → storeIn (storeOf r) (journalOf r)
+    ≡ below (λ k. leb (getD r (2048 + k) 0) 7) 16 && below (λ k. leb (getD r (2064 + k) 0) 4096) 16 && below (λ k. leb (getD r (2080 + k) 0) 4096) 8
+    && below (λ t. transactionIn (transactionOf r t) (journalOf r) t) 8
+unfolding storeIn
+store-numbers r =
+    rw (below-same (λ d. leb (getD (storeOf r .filenumbers) d 0) 7) (λ k. leb (getD r (2048 + k) 0) 7) 16 (λ d h. rw (file-of r d h)), below-same (λ d. leb (getD (storeOf r .offsets) d 0) 4096) (λ k. leb (getD r (2064 + k) 0) 4096) 16 (λ d h. rw (offset-of r d h)), below-same (λ f. leb (getD (storeOf r .lengths) f 0) 4096) (λ k. leb (getD r (2080 + k) 0) 4096) 8 (λ f h. rw (length-of r f h)), below-same (λ t. transactionIn (transaction (storeOf r) t) (journalOf r) t) (λ t. transactionIn (transactionOf r t) (journalOf r) t) 8 (λ t h. rw (transaction-of r t h)))

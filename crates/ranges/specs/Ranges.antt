@@ -55,6 +55,11 @@ journalIn x journal t =
     && eqb (lengthsBefore journal t (u .records)) (u .bytes)
     && leb (u .bytes) 4096
 
+-- The part of it that goes over the records.
+unfoldable pub journalPasses : Transaction → List ℕ → ℕ → ℕ → ℕ → Bool
+journalPasses x journal t records bytes =
+    below (λ k. recordIn x (writeRecordAt journal t k)) records && eqb (lengthsBefore journal t records) bytes
+
 -- "in each open transaction"
 unfoldable pub transactionIn : Transaction → List ℕ → ℕ → Bool
 transactionIn x journal t = not (x .begun) || (below (λ d. standingIn (standingAt x d)) 16 && journalIn x journal t)
@@ -83,6 +88,10 @@ sized files logs marks = record { files = files; logs = logs; marks = marks }
 -- "a store buffer .. has another length"
 unfoldable pub sizesIn : Sizes → Bool
 sizesIn z = eqb (z .files) 32768 && eqb (z .logs) 32768 && eqb (z .marks) 32768
+
+-- Refusals 1 and 2; then what comes after them.
+unfoldable pub firstTests : Sizes → Store → List ℕ → ℕ → ℕ
+firstTests z s journal later = unless (sizesIn z) 1 (unless (storeIn s journal) 2 later)
 
 -- Refusals 1 to 3, in the table's order; then what comes after them.
 unfoldable pub shared : Sizes → Store → List ℕ → ℕ → ℕ → ℕ

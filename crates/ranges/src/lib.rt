@@ -4,28 +4,35 @@ use numbers::BUFFER_BYTES;
 use numbers::FILE_BYTES;
 use numbers::FILE_END;
 use numbers::wide;
-use numbers::wide_octet;
 use record::DESCRIPTORS;
 use record::FILES;
-use record::Store;
 use record::TRANSACTIONS;
-use record::Transaction;
-use record::journal::NUMBERS;
 use record::journal::RECORDS;
 use record::journal::record_at;
+use record::layout::FILE_NUMBERS_AT;
+use record::layout::LENGTHS_AT;
+use record::layout::OFFSETS_AT;
+use record::layout::Record;
+use record::layout::first_at;
+use record::layout::is_begun;
+use record::layout::kind_at;
+use record::layout::length_of;
+use record::layout::second_at;
+use record::layout::standing_at;
+use record::layout::used_at;
 use record::outcomes::Refusal;
 use standings::Place;
 use standings::Standing;
-ghost use mathlib.Core.List.{List};
 ghost use mathlib.Core.Path.{_≡_};
-ghost use mathlib.Core.Bool.{true, _&&_};
-ghost use lib.Dec.{leb, eqb};
+ghost use mathlib.Core.Bool.{true};
+ghost use lib.Dec.{leb};
 ghost use lib.ListN.{getD, length};
-ghost use Prim.Native.Nat.{ℕ, _<_, _≤_};
+ghost use Prim.Native.Nat.{_+_, _<_, _≤_};
 ghost use Rattle.record.specs.State.{standingAt};
-ghost use Rattle.record.specs.Journal.{writeRecordAt};
+ghost use Rattle.record.specs.Layout.{standingOf, transactionOf, storeOf, journalOf};
 ghost use Rattle.ranges.specs.Below.{below};
-ghost use Rattle.ranges.specs.Ranges.{standingIn, placeIn, recordIn, lengthsBefore, transactionIn, storeIn, sized, sizesIn, shared, admissionOfFresh, gateNumber};
+ghost use Rattle.ranges.specs.Ranges.{standingIn, placeIn, journalPasses, transactionIn, storeIn, sized, sizesIn};
+ghost use Rattle.ranges.specs.Ranges.{firstTests, shared, admissionOfFresh, gateNumber};
 
 // What the tests before a call's own say: go on, or a refusal.
 pub enum Gate {
@@ -33,7 +40,7 @@ pub enum Gate {
     Refused(Refusal),
 }
 
-// The sixteen file numbers are at most 7.
+// Fresh's sixteen file numbers are at most 7.
 fn files_in(files: &[u8]) -> bool
     requires { ⌜ length (now files) ≡ 16 ⌝ }
     ensures { λ r. ⌜ r ≡ below (λ d. leb (getD (now (files .entry)) d 0) 7) 16 ⌝ }
@@ -48,61 +55,42 @@ fn files_in(files: &[u8]) -> bool
     true
 }
 
-// The sixteen committed offsets are at most 4,096.
-fn offsets_in(offsets: &[u16; DESCRIPTORS]) -> bool
-    ensures { λ r. ⌜ r ≡ below (λ d. leb (getD (now (offsets .entry)) d 0) 4096) 16 ⌝ }
+// The record's n numbers from `from` on are at most `most`. No branch: it goes over all of them.
+fn at_most(kept: &Record, from: usize, n: usize, most: u16) -> bool
+    requires { ⌜ from + n ≤ 2088 ⌝ }
+    ensures { λ r. ⌜ r ≡ below (λ k. leb (getD (now (kept .entry)) (from + k) 0) most) n ⌝ }
 {
+    let mut good = true;
+    let mut k = 0;
+    while k < n {
+        good = good & (kept[from + k] <= most);
+        k += 1;
+    }
+    good
+}
+
+// The standing in three numbers is in range: those that it carries are at most 4,096, and the others are not looked at.
+fn numbers_in(k: u16, a: u16, b: u16) -> bool
+    ensures { λ r. ⌜ r ≡ standingIn (standingOf k a b) ⌝ }
+{
+    ((k == 0) | (a <= FILE_END)) & ((k != 3) | (b <= FILE_END))
+}
+
+// The standings of transaction t are in range. No branch: it goes over all of them.
+fn standings_in(kept: &Record, t: usize) -> bool
+    requires { ⌜ t < 8 ⌝ }
+    ensures { λ r. ⌜ r ≡ below (λ d. standingIn (standingAt (transactionOf (now (kept .entry)) t) d)) 16 ⌝ }
+{
+    let mut good = true;
     let mut d = 0;
     while d < DESCRIPTORS {
-        if offsets[d] > FILE_END {
-            return false;
-        }
+        let k = kind_at(kept, t, d);
+        let a = first_at(kept, t, d);
+        let b = second_at(kept, t, d);
+        good = good & numbers_in(k, a, b);
         d += 1;
     }
-    true
-}
-
-// The committed lengths of the eight files are at most 4,096.
-fn lengths_in(lengths: &[u16; FILES]) -> bool
-    ensures { λ r. ⌜ r ≡ below (λ f. leb (getD (now (lengths .entry)) f 0) 4096) 8 ⌝ }
-{
-    let mut f = 0;
-    while f < FILES {
-        if lengths[f] > FILE_END {
-            return false;
-        }
-        f += 1;
-    }
-    true
-}
-
-// The standing's advance and offset are at most 4,096. Most are Untouched, and one comparison passes those.
-fn standing_in(z: Standing) -> bool
-    ensures { λ r. ⌜ r ≡ standingIn z ⌝ }
-{
-    if !z.is_touched() {
-        return true;
-    }
-    if z.advance() > FILE_END {
-        return false;
-    }
-    z.offset() <= FILE_END
-}
-
-// The standings of transaction x are in range.
-fn standings_in(x: Transaction) -> bool
-    ensures { λ r. ⌜ r ≡ below (λ d. standingIn (standingAt x d)) 16 ⌝ }
-{
-    let mut d = 0;
-    while d < DESCRIPTORS {
-        let q = x.descriptors[d];
-        let z = q.standing;
-        if !standing_in(z) {
-            return false;
-        }
-        d += 1;
-    }
-    true
+    good
 }
 
 // A write of n bytes is in range at that place, under its descriptor's standing.
@@ -122,28 +110,23 @@ fn place_in(z: Standing, place: Place, n: u16) -> bool
     }
 }
 
-// The first records of transaction x, which has number t, are in range, and their lengths add to bytes.
-fn records_in(
-    x: Transaction,
-    t: usize,
-    journal: &[u16; NUMBERS],
-    records: usize,
-    bytes: usize,
-) -> bool
-    requires { ⌜ (t < 8) × (records ≤ 64) × (below (λ d. standingIn (standingAt x d)) 16 ≡ true) ⌝ }
-    ensures { λ r. ⌜ r ≡ (below (λ k. recordIn x (writeRecordAt (now (journal .entry)) t k)) records && eqb (lengthsBefore (now (journal .entry)) t records) bytes) ⌝ }
+// The first records of transaction t are in range, and their lengths add to bytes.
+fn records_in(kept: &Record, t: usize, records: usize, bytes: usize) -> bool
+    requires { ⌜ (t < 8) × (records ≤ 64)
+        × (below (λ d. standingIn (standingAt (transactionOf (now kept) t) d)) 16 ≡ true) ⌝ }
+    ensures { λ r. ⌜ r ≡
+        journalPasses (transactionOf (now (kept .entry)) t) (journalOf (now (kept .entry))) t records bytes ⌝ }
 {
     let mut sum = 0;
     let mut k = 0;
     while k < records {
-        let w = record_at(journal, t, k);
+        let w = record_at(kept, t, k);
         let d = wide(w.descriptor);
         if 15 < d {
             return false;
         }
         let place = w.place;
-        let q = x.descriptors[d];
-        let z = q.standing;
+        let z = standing_at(kept, t, d);
         if !place_in(z, place, w.length) {
             return false;
         }
@@ -153,77 +136,58 @@ fn records_in(
     sum == bytes
 }
 
-// Transaction x, which has number t, is in range.
-fn transaction_in(x: Transaction, t: usize, journal: &[u16; NUMBERS]) -> bool
+// Transaction t is in range.
+fn transaction_in(kept: &Record, t: usize) -> bool
     requires { ⌜ t < 8 ⌝ }
-    ensures { λ r. ⌜ r ≡ transactionIn x (now (journal .entry)) t ⌝ }
+    ensures { λ r. ⌜ r ≡ transactionIn (transactionOf (now (kept .entry)) t) (journalOf (now (kept .entry))) t ⌝ }
 {
-    if !x.begun {
+    if !is_begun(kept, t) {
         return true;
     }
-    let records = wide_octet(x.used.records);
-    let bytes = wide(x.used.bytes);
+    let used = used_at(kept, t);
+    let records = used.records;
+    let bytes = wide(used.bytes);
     if records > RECORDS {
         return false;
     }
     if bytes > FILE_BYTES {
         return false;
     }
-    if !standings_in(x) {
+    if !standings_in(kept, t) {
         return false;
     }
-    records_in(x, t, journal, records, bytes)
+    records_in(kept, t, records, bytes)
 }
 
-// Transaction x is not open, or has written nothing and touched nothing: it is in range.
-fn idle(x: Transaction) -> bool
-    ensures { λ r. ⌜ (r ≡ true → (journal : List ℕ) (t : ℕ) → transactionIn x journal t ≡ true) ⌝ }
+// The transactions are in range.
+fn transactions_in(kept: &Record) -> bool
+    ensures { λ r. ⌜ r ≡
+        below (λ t. transactionIn (transactionOf (now (kept .entry)) t) (journalOf (now (kept .entry))) t) 8 ⌝ }
 {
-    if !x.begun {
-        return true;
-    }
-    if x.used.records != 0 {
-        return false;
-    }
-    if x.used.bytes != 0 {
-        return false;
-    }
-    let mut d = 0;
-    while d < DESCRIPTORS {
-        let z = x.standing_at(d);
-        if z.is_touched() {
-            return false;
-        }
-        d += 1;
-    }
-    true
-}
-
-// The record is in range. Most transactions are passed by the short test.
-fn store_in(s: Store, journal: &[u16; NUMBERS]) -> bool
-    ensures { λ r. ⌜ r ≡ storeIn s (now (journal .entry)) ⌝ }
-{
-    if !files_in(&s.filenumbers) {
-        return false;
-    }
-    if !offsets_in(&s.offsets) {
-        return false;
-    }
-    if !lengths_in(&s.lengths) {
-        return false;
-    }
     let mut t = 0;
     while t < TRANSACTIONS {
-        let x = s.transactions[t];
-        if !idle(x) {
-            let y = s.transactions[t];
-            if !transaction_in(y, t, journal) {
-                return false;
-            }
+        if !transaction_in(kept, t) {
+            return false;
         }
         t += 1;
     }
     true
+}
+
+// The record is in range.
+fn store_in(kept: &Record) -> bool
+    ensures { λ r. ⌜ r ≡ storeIn (storeOf (now (kept .entry))) (journalOf (now (kept .entry))) ⌝ }
+{
+    if !at_most(kept, FILE_NUMBERS_AT, DESCRIPTORS, 7) {
+        return false;
+    }
+    if !at_most(kept, OFFSETS_AT, DESCRIPTORS, FILE_END) {
+        return false;
+    }
+    if !at_most(kept, LENGTHS_AT, FILES, FILE_END) {
+        return false;
+    }
+    transactions_in(kept)
 }
 
 // Each store buffer has 32,768 bytes.
@@ -239,24 +203,31 @@ fn sizes_in(files: usize, logs: usize, marks: usize) -> bool
     marks == BUFFER_BYTES
 }
 
-// Refusals 1 to 3, for every call but Fresh. files, logs and marks are the lengths of the lent buffers.
-pub fn admit(
-    s: Store,
-    journal: &[u16; NUMBERS],
-    files: usize,
-    logs: usize,
-    marks: usize,
-    t: usize,
-) -> Gate
-    ensures gate { λ r. ⌜ gateNumber r ≡ shared (sized files logs marks) s (now (journal .entry)) t 0 ⌝ }
-    ensures long { λ _. ⌜ length (now (journal .entry)) ≡ 1536 ⌝ }
+// Refusals 1 and 2, for every call but Fresh. files, logs and marks are the lengths of the lent buffers.
+pub fn first_tests(kept: &Record, files: usize, logs: usize, marks: usize) -> Gate
+    ensures gate { λ r. ⌜ gateNumber r ≡
+        firstTests (sized files logs marks) (storeOf (now (kept .entry))) (journalOf (now (kept .entry))) 0 ⌝ }
+    ensures long { λ _. ⌜ length (now (kept .entry)) ≡ 2088 ⌝ }
 {
-    record::journal::length_of(journal);
+    length_of(kept);
     if !sizes_in(files, logs, marks) {
         return Gate::Refused(Refusal::BufferLength);
     }
-    if !store_in(s, journal) {
+    if !store_in(kept) {
         return Gate::Refused(Refusal::RecordRange);
+    }
+    Gate::Pass
+}
+
+// Refusals 1 to 3, for calls of a transaction.
+pub fn admit(kept: &Record, files: usize, logs: usize, marks: usize, t: usize) -> Gate
+    ensures gate { λ r. ⌜ gateNumber r ≡
+        shared (sized files logs marks) (storeOf (now (kept .entry))) (journalOf (now (kept .entry))) t 0 ⌝ }
+    ensures long { λ _. ⌜ length (now (kept .entry)) ≡ 2088 ⌝ }
+{
+    let g = first_tests(kept, files, logs, marks);
+    if let Gate::Refused(r) = g {
+        return Gate::Refused(r);
     }
     if t > 7 {
         return Gate::Refused(Refusal::NoSuchTransaction);

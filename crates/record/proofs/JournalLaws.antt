@@ -2,7 +2,7 @@
 use mathlib.Core.Bool.{Bool, true, false}
 use mathlib.Core.List.{List}
 use mathlib.Core.Logic.{⊎-elim}
-use mathlib.Core.Path.{_≡_, refl, sym, ap, _∙_}
+use mathlib.Core.Path.{_≡_, refl, _∙_}
 use lib.Dec.{ltb}
 use lib.ListN.{getD, set, length, length-set}
 use lib.Seq.{getD-set-same, getD-set-other, set-getD}
@@ -72,7 +72,7 @@ module _ (journal : List ℕ) (t k : ℕ) where
       rw (holder-held a b c, number-held a b c, length-held a b c, set-getD journal i 0, set-getD journal (i + 1) 0, set-getD journal (i + 2) 0)
 
   module _ (w : WriteRecord) (long : length journal ≡ 1536) (small : t < 8) (few : k < 64) where
-    pub at-same : w .descriptor < 16 → writeRecordAt (withRecordAt journal t k w) t k ≡ w
+    at-same : w .descriptor < 16 → writeRecordAt (withRecordAt journal t k w) t k ≡ w
     unfolding withRecordAt writeRecordAt
     at-same low =
         let i = 3 * (64 * t + k) in
@@ -88,7 +88,7 @@ module _ (journal : List ℕ) (t k : ℕ) where
         let g : getD c (i + 2) 0 ≡ w .length = getD-set-same b (i + 2) (w .length) 0 (omega arith) in
         rw (e, f, g) (held-record w low)
 
-    pub at-other : (u j : ℕ) → u < 8 → j < 64 → (64 * u + j ≡ 64 * t + k → ⊥) → writeRecordAt (withRecordAt journal t k w) u j ≡ writeRecordAt journal u j
+    at-other : (u j : ℕ) → u < 8 → j < 64 → (64 * u + j ≡ 64 * t + k → ⊥) → writeRecordAt (withRecordAt journal t k w) u j ≡ writeRecordAt journal u j
     unfolding withRecordAt writeRecordAt
     at-other u j m l ne =
         let i = 3 * (64 * t + k) in

@@ -1,1 +1,3 @@
 pub mod JournalLaws
+pub mod LayoutLaws
+pub mod Filled

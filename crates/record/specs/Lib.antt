@@ -1,3 +1,4 @@
 pub mod Paper
 pub mod State
 pub mod Journal
+pub mod Layout

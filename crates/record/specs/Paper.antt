@@ -1,7 +1,10 @@
 -- What the calls answer, in the numbers and values of paper 01.
 use Prim.Native.Nat.{ℕ}
 use Rattle.record.specs.declared.outcomes.Refusal.{Refusal}
-use Rattle.record.specs.declared.outcomes.Refusal.the-variants.{BufferLength, RecordRange, NoSuchTransaction, NotOpen, AlreadyOpen, NoSuchDescriptor, ReaderTooShort, SeekPastEnd, WritePastEnd, RecordsFull, LogFull, SettledPastEnd, Stale, NoSuchFile, NoPlaceYet, ListTooLong, BadLine, StaleReader}
+use Rattle.record.specs.declared.outcomes.Refusal.the-variants.{BufferLength, RecordRange, NoSuchTransaction, NotOpen, AlreadyOpen}
+use Rattle.record.specs.declared.outcomes.Refusal.the-variants.{NoSuchTarget, ReaderTooShort, SeekPastEnd, WritePastEnd, RecordsFull}
+use Rattle.record.specs.declared.outcomes.Refusal.the-variants.{LogFull, SettledPastEnd, Stale, NoSuchFile, NoPlaceYet, ListTooLong}
+use Rattle.record.specs.declared.outcomes.Refusal.the-variants.{BadLine, StaleReader}
 use Rattle.record.specs.declared.outcomes.Outcome.{Outcome}
 use Rattle.record.specs.declared.outcomes.Outcome.the-variants.{Done, Offset, Given, Granted, Pairs, Refused}
 
@@ -13,7 +16,7 @@ number RecordRange = 2
 number NoSuchTransaction = 3
 number NotOpen = 4
 number AlreadyOpen = 5
-number NoSuchDescriptor = 6
+number NoSuchTarget = 6
 number ReaderTooShort = 7
 number SeekPastEnd = 8
 number WritePastEnd = 9

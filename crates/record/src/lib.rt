@@ -1,6 +1,7 @@
-// The store record: what a caller keeps between calls, beside the three lent buffers. It has two parts: a `Store`, which travels by
-// value, and the journal, a lent array of numbers with the write records of all transactions (`journal`).
+// The store record: what a caller keeps between calls, beside the three lent buffers. It is one lent array of numbers:
+// `layout` reads and writes what they mean, in the forms below, and `journal` the write records among them.
 pub mod journal;
+pub mod layout;
 pub mod outcomes;
 
 use counters::Used;
@@ -8,7 +9,7 @@ use standings::Standing;
 ghost use mathlib.Core.Bool.{_&&_};
 ghost use mathlib.Core.Path.{_≡_};
 ghost use Rattle.standings.specs.Table.{isTouched};
-ghost use Rattle.record.specs.State.{ended as endedTransaction, begun as begunTransaction, standingAt};
+ghost use Rattle.record.specs.State.{standingAt};
 ghost use Prim.Native.Nat.{_<_};
 
 pub const DESCRIPTORS: usize = 16;
@@ -17,8 +18,8 @@ pub const FILES: usize = 8;
 
 pub const TRANSACTIONS: usize = 8;
 
-// The standing of a descriptor, and whether the transaction made an accepted Seek, Read or Write on it: then it is dirty, and
-// Commit sets its offset.
+// The standing of a descriptor, and whether the transaction made an accepted Seek, Read or Write on it: then it is
+// dirty, and Commit sets its offset.
 pub struct Descriptor {
     pub standing: Standing,
     pub dirty: bool,
@@ -28,14 +29,15 @@ pub struct Descriptor {
 pub struct Transaction {
     pub begun: bool,
     pub stale: bool,
-    pub lengthmarks: u8,
+    pub lengthmarks: u16,
     pub used: Used,
     pub descriptors: [Descriptor; DESCRIPTORS],
 }
 
-// The file number and the committed offset of each descriptor, the committed length of each file, and the transactions.
+// What the record means, beside its journal: the file number and the committed offset of each descriptor, the committed
+// length of each file, and the transactions. Only specs/ speaks of it; no code makes one.
 pub struct Store {
-    pub filenumbers: [u8; DESCRIPTORS],
+    pub filenumbers: [u16; DESCRIPTORS],
     pub offsets: [u16; DESCRIPTORS],
     pub lengths: [u16; FILES],
     pub transactions: [Transaction; TRANSACTIONS],
@@ -55,35 +57,6 @@ impl Descriptor {
 }
 
 impl Transaction {
-    // A transaction that has ended: an empty log, sixteen Untouched descriptors, none dirty, not stale, no length sighted.
-    pub fn ended() -> Transaction
-        ensures { λ r. ⌜ r ≡ endedTransaction ⌝ }
-    {
-        let d = Descriptor {
-            standing: Standing::Untouched,
-            dirty: false,
-        };
-        Transaction {
-            begun: false,
-            stale: false,
-            lengthmarks: 0,
-            used: Used {
-                records: 0,
-                bytes: 0,
-            },
-            descriptors: [d; DESCRIPTORS],
-        }
-    }
-
-    // A transaction just begun.
-    pub fn begun() -> Transaction
-        ensures { λ r. ⌜ r ≡ begunTransaction ⌝ }
-    {
-        let mut out = Transaction::ended();
-        out.begun = true;
-        out
-    }
-
     // The standing of descriptor d.
     pub fn standing_at(self, d: usize) -> Standing
         requires { ⌜ d < 16 ⌝ }
@@ -91,16 +64,5 @@ impl Transaction {
     {
         let q = self.descriptors[d];
         q.standing
-    }
-}
-
-// A record for a caller that has none yet, to hand to Fresh.
-pub fn blank() -> Store {
-    let x = Transaction::ended();
-    Store {
-        filenumbers: [0; DESCRIPTORS],
-        offsets: [0; DESCRIPTORS],
-        lengths: [0; FILES],
-        transactions: [x; TRANSACTIONS],
     }
 }

@@ -1,16 +1,16 @@
 // What a call answers.
-use crate::Store;
 ghost use mathlib.Core.Path.{_≡_};
 ghost use Rattle.record.specs.Paper.{number};
 
-// The refusals, in the order of their numbers: paper 01's table, then those of paper 02. The last is a line's of a trace; no call meets it.
+// The refusals, in the order of their numbers: paper 01's table, then those of paper 02. BadLine is a line's of a
+// trace; no call meets it.
 pub enum Refusal {
     BufferLength,
     RecordRange,
     NoSuchTransaction,
     NotOpen,
     AlreadyOpen,
-    NoSuchDescriptor,
+    NoSuchTarget,
     ReaderTooShort,
     SeekPastEnd,
     WritePastEnd,
@@ -39,7 +39,7 @@ impl Refusal {
             Refusal::NoSuchTransaction => 3,
             Refusal::NotOpen => 4,
             Refusal::AlreadyOpen => 5,
-            Refusal::NoSuchDescriptor => 6,
+            Refusal::NoSuchTarget => 6,
             Refusal::ReaderTooShort => 7,
             Refusal::SeekPastEnd => 8,
             Refusal::WritePastEnd => 9,
@@ -56,8 +56,8 @@ impl Refusal {
     }
 }
 
-// The result of a call: plain, an offset, a count of bytes given, the octet of those that a granted Commit made stale (bit t, worth 2 to
-// the power t, for transaction t), a count of pairs, or a refusal.
+// The result of a call: plain, an offset, a count of bytes given, the octet of those that a granted Commit made stale
+// (bit t, worth 2 to the power t, for transaction t), a count of pairs, or a refusal.
 pub enum Outcome {
     Done,
     Offset(u16),
@@ -65,10 +65,4 @@ pub enum Outcome {
     Granted(u8),
     Pairs(u16),
     Refused(Refusal),
-}
-
-// What a call hands back: its outcome, and the record to keep.
-pub struct Answer {
-    pub store: Store,
-    pub outcome: Outcome,
 }

@@ -1,29 +1,29 @@
 -- The rules of a call after each of its tests: turned down, or let through.
-use mathlib.Core.Bool.{Bool, true, false, cond}
+use mathlib.Core.Bool.{Bool, true, false, cond, not}
 use mathlib.Core.List.{List, []}
 use mathlib.Core.Path.{_≡_, refl, sym, ap, _∙_}
 use native.Mathlib.Omega.{arith}
-use Prim.Native.Nat.{ℕ, zero, suc}
-use Rattle.record.specs.declared.outcomes.Answer.{Answer}
+use Prim.Native.Nat.{ℕ, _<_}
 use Rattle.record.specs.declared.Store.{Store}
 use Rattle.record.specs.declared.outcomes.Refusal.{Refusal}
-use Rattle.record.specs.declared.outcomes.Refusal.the-variants.{BufferLength, RecordRange, NoSuchTransaction, NotOpen, AlreadyOpen, NoSuchDescriptor, ReaderTooShort, SeekPastEnd, WritePastEnd, RecordsFull, LogFull, SettledPastEnd, Stale, NoSuchFile, NoPlaceYet, ListTooLong, BadLine, StaleReader}
 use Rattle.record.specs.declared.outcomes.Outcome.the-variants.{Done, Refused}
 use Rattle.record.specs.declared.Transaction.{Transaction}
 use Rattle.record.specs.State.{transaction, withTransaction}
+use Rattle.record.specs.Layout.{transactionOf, storeOf}
+use Rattle.record.proofs.LayoutLaws.{transaction-of}
 use Rattle.record.specs.Paper.{Said, plain, number, said}
 use Rattle.octets.specs.Marks.{withoutMarks}
 use Rattle.ranges.specs.declared.Gate.{Gate}
 use Rattle.ranges.specs.declared.Gate.the-variants.{Pass, Refused as GateRefused}
 use Rattle.ranges.specs.Ranges.{unless, shared, admission, admissionOfBegin, gateNumber}
-use Rattle.ranges.proofs.Laws.{Admitted, shared-zero, shared-passed, shared-refused}
-use Rattle.rules.specs.Items.{Values, Prog, done, result, asked}
+use Rattle.ranges.proofs.Laws.{failed, held, number-suc, Admitted, shared-zero, shared-passed, shared-refused}
+use Rattle.rules.specs.Items.{Prog, done, result, asked}
 use Rattle.rules.specs.Transactions.{Txn}
-use Rattle.rules.specs.Messages.{Op, bufferOf, Call, on}
+use Rattle.rules.specs.Messages.{Op, bufferOf, on}
 use Rattle.rules.specs.Steps.{Stepped, refuse, accept, check, step, turnsBack, turnedBack}
 use Rattle.rules.specs.Machine.{Machine, withStore, withJournal, withLogs, withMarking, sizes, fileOf, values, txnOf, withTxn, journalled}
 use Rattle.rules.specs.Calls.{Turn, answer, turnDown, reset, passing, admitted, marked, logged, served, stepTurn, call}
-use Rattle.rules.specs.Promises.{Meets}
+use Rattle.rules.specs.Promises.{Meets, machineOf, LeftAsFound}
 
 -- ---- the shared tests
 
@@ -34,27 +34,6 @@ LetThrough m t = Admitted (sizes m) (m .store) (m .journal) t
 -- The shared tests 1 to 3, before what comes after them.
 abbrev pub sharedWith : Machine → ℕ → ℕ → ℕ
 sharedWith m t later = shared (sizes m) (m .store) (m .journal) t later
-
--- A refusal's number is not 0.
-pub number-suc : (r : Refusal) → (k : ℕ) × (number r ≡ suc k)
-number-suc BufferLength = (0, refl)
-number-suc RecordRange = (1, refl)
-number-suc NoSuchTransaction = (2, refl)
-number-suc NotOpen = (3, refl)
-number-suc AlreadyOpen = (4, refl)
-number-suc NoSuchDescriptor = (5, refl)
-number-suc ReaderTooShort = (6, refl)
-number-suc SeekPastEnd = (7, refl)
-number-suc WritePastEnd = (8, refl)
-number-suc RecordsFull = (9, refl)
-number-suc LogFull = (10, refl)
-number-suc SettledPastEnd = (11, refl)
-number-suc Stale = (12, refl)
-number-suc NoSuchFile = (13, refl)
-number-suc NoPlaceYet = (14, refl)
-number-suc ListTooLong = (15, refl)
-number-suc BadLine = (16, refl)
-number-suc StaleReader = (17, refl)
 
 pub passing-number : (r : Refusal) (buffer : List ℕ) (m : Machine) (next : Turn) → passing (number r) buffer m next ≡ turnDown (number r) buffer m
 unfolding passing
@@ -107,24 +86,36 @@ module _ (m : Machine) (t : ℕ) (passes : sharedWith m t 0 ≡ 0) where
   unfolding admitted passing
   admitted-closed e buffer next = ap (λ (n : ℕ). passing n buffer m next) (admission-closed e)
 
+-- Whether the transaction is open, as the code reads it.
+module _ (kept : List ℕ) (t : ℕ) (small : t < 8) {r : Bool} (reads : r ≡ transactionOf kept t .begun) where
+  pub is-open : not r ≡ false → transaction (storeOf kept) t .begun ≡ true
+  is-open h = ap (λ (x : Transaction). x .begun) (transaction-of kept t small) ∙ held reads h
+
+  pub is-closed : not r ≡ true → transaction (storeOf kept) t .begun ≡ false
+  is-closed h = ap (λ (x : Transaction). x .begun) (transaction-of kept t small) ∙ failed reads h
+
 pub passing-on : (n : ℕ) (buffer : List ℕ) (m : Machine) (next : Turn) → n ≡ 0 → passing n buffer m next ≡ next
 unfolding passing
 passing-on n buffer m next e = rw e
 
--- A call that was turned down, where the rules turn it down.
-pub turned-meets : (a : Answer) (r : Refusal) (buffer : List ℕ) (m : Machine) (w : Turn) → w ≡ turnDown (number r) buffer m
-    → a .outcome ≡ Refused r → a .store ≡ m .store → Meets w (a .outcome) (withStore (a .store) m) buffer
+-- A call that was turned down and left the record alone, where the rules turn it down.
+pub turned-follows : (r : Refusal) (buffer kept files logs marks : List ℕ) (w : Turn) → w ≡ turnDown (number r) buffer (machineOf kept files logs marks)
+    → Meets w (Refused r) (machineOf kept files logs marks) buffer × LeftAsFound (Refused r) kept kept
 unfolding turnDown said
-turned-meets a r buffer m w e o s =
-    rw e (record { outcome = ap said o; machine = ap (λ (x : Store). withStore x m) s; reader = refl })
+turned-follows r buffer kept files logs marks w e =
+    (rw e (record { outcome = refl; machine = refl; reader = refl }), λ q f n. refl)
+
+-- A call that answers plainly is no refusal.
+pub done-follows : (before after : List ℕ) → LeftAsFound Done before after
+done-follows before after r e n = cc
 
 -- ---- Begin and Abort: a transaction replaced, its marks cleared
 
 pub reset-meets : (t : ℕ) (x : Transaction) (m : Machine) (w : Turn) → w ≡ answer plain (reset t x m)
-    → (a : Answer) (marks : List ℕ) → a ≡ record { outcome = Done; store = withTransaction t x (m .store) } → marks ≡ withoutMarks t (m .marks)
-    → Meets w (a .outcome) (withStore (a .store) (withMarking marks m)) []
+    → (s : Store) (marks : List ℕ) → s ≡ withTransaction t x (m .store) → marks ≡ withoutMarks t (m .marks)
+    → Meets w Done (withStore s (withMarking marks m)) []
 unfolding answer reset said
-reset-meets t x m w e a marks f g =
+reset-meets t x m w e s marks f g =
     rw (e, f) (record { outcome = refl; machine = ap (λ (l : List ℕ). withStore (withTransaction t x (m .store)) (withMarking l m)) g; reader = refl })
 
 -- ---- one transaction's step

@@ -1,16 +1,17 @@
 -- The calls that requests stand for.
 use mathlib.Core.List.{List}
 use Prim.Native.Nat.{ℕ}
-use Rattle.rules.specs.Messages.{Call, begin, on, commit, abort, seek, write, getFilePointer, read}
+use Rattle.rules.specs.Messages.{Call, begin, on, commit, abort, places, seek, write, getFilePointer, read}
 use Rattle.requests.specs.declared.Request.{Request}
-use Rattle.requests.specs.declared.Request.the-variants.{Begin, Commit, Abort, GetFilePointer, Seek, Read, Write}
+use Rattle.requests.specs.declared.Request.the-variants.{Begin, Seek, Write, GetFilePointer, Read, Places, Commit, Abort}
 
--- The call of a request, with the bytes of a Write and the reader's buffer.
+-- The call of a request, with the bytes of a Write and the buffer for an answer.
 unfoldable pub callOf : Request → List ℕ → List ℕ → Call
 callOf (Begin t) bytes reader = begin t
+callOf (Seek t d v) bytes reader = on t (seek d v)
+callOf (Write t d) bytes reader = on t (write d bytes)
+callOf (GetFilePointer t d) bytes reader = on t (getFilePointer d)
+callOf (Read t d n) bytes reader = on t (read d n reader)
+callOf (Places t f) bytes reader = places t f reader
 callOf (Commit t) bytes reader = commit t
 callOf (Abort t) bytes reader = abort t
-callOf (GetFilePointer t d) bytes reader = on t (getFilePointer d)
-callOf (Seek t d v) bytes reader = on t (seek d v)
-callOf (Read t d n) bytes reader = on t (read d n reader)
-callOf (Write t d) bytes reader = on t (write d bytes)

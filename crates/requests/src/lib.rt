@@ -1,12 +1,42 @@
-// A call given as data: its kind with its numbers. A Write's bytes and the reader's buffer are lent beside it.
+// Calls as data, and how one is performed on the store.
+use record::layout::Record;
+use record::outcomes::Outcome;
+ghost use Rattle.requests.specs.Performing.{Performed};
 
-// Each names its transaction, then its descriptor; last stands Seek's offset or Read's count.
+// A call: its kind with its numbers. Each names its transaction, then its descriptor (Places its file); last stands
+// Seek's offset or Read's count. A Write's bytes and the buffer for an answer are lent beside it.
 pub enum Request {
     Begin(usize),
+    Seek(usize, usize, usize),
+    Write(usize, usize),
+    GetFilePointer(usize, usize),
+    Read(usize, usize, usize),
+    Places(usize, usize),
     Commit(usize),
     Abort(usize),
-    GetFilePointer(usize, usize),
-    Seek(usize, usize, usize),
-    Read(usize, usize, usize),
-    Write(usize, usize),
+}
+
+// Performs the call of the request. A Write takes its bytes from `bytes`, Read and Places answer in `reader`; the
+// others use neither.
+pub fn perform(
+    kept: &mut Record,
+    files: &mut [u8],
+    logs: &mut [u8],
+    marks: &mut [u8],
+    q: Request,
+    bytes: &[u8],
+    reader: &mut [u8],
+) -> Outcome
+    ensures { λ r. ⌜ Performed q (now (bytes .entry)) kept files logs marks r reader ⌝ }
+{
+    match q {
+        Request::Begin(t) => store::begin(kept, files, logs, marks, t),
+        Request::Seek(t, d, v) => store::seek(kept, files, logs, marks, t, d, v),
+        Request::Write(t, d) => store::write(kept, files, logs, marks, t, d, bytes),
+        Request::GetFilePointer(t, d) => store::get_file_pointer(kept, files, logs, marks, t, d),
+        Request::Read(t, d, n) => store::read(kept, files, logs, marks, t, d, n, reader),
+        Request::Places(t, f) => store::places(kept, files, logs, marks, t, f, reader),
+        Request::Commit(t) => store::commit(kept, files, logs, marks, t),
+        Request::Abort(t) => store::abort(kept, files, logs, marks, t),
+    }
 }

@@ -1,10 +1,15 @@
 -- How the promises of the calls cite the rules.
 use mathlib.Core.List.{List}
 use mathlib.Core.Path.{_≡_}
+use denote.Ref.{RefT, now}
+use denote.Triple.Both.{Both}
 use Prim.Native.Nat.{ℕ}
+use Rattle.record.specs.declared.outcomes.Refusal.{Refusal}
 use Rattle.record.specs.declared.outcomes.Outcome.{Outcome}
-use Rattle.record.specs.Paper.{said}
-use Rattle.rules.specs.Machine.{Machine}
+use Rattle.record.specs.declared.outcomes.Outcome.the-variants.{Refused}
+use Rattle.record.specs.Paper.{number, said}
+use Rattle.record.specs.Layout.{storeOf, journalOf}
+use Rattle.rules.specs.Machine.{Machine, lent}
 use Rattle.rules.specs.Calls.{Turn}
 
 -- A call's outcome and what it left are those of a turn of the rules: the outcome in paper 01's numbers and values, record and
@@ -13,3 +18,28 @@ pub record Meets (w : Turn) (o : Outcome) (m : Machine) (atReader : List ℕ) : 
   pub outcome : said o ≡ w .reply .answer
   pub machine : m ≡ w .after
   pub reader : atReader ≡ w .reply .buffer
+
+-- The machine that a record of numbers and the three buffers mean.
+abbrev pub machineOf : List ℕ → List ℕ → List ℕ → List ℕ → Machine
+machineOf kept files logs marks = lent (storeOf kept) (journalOf kept) files logs marks
+
+-- A lent array or buffer as a clause names it: the numbers behind it at entry and at exit.
+abbrev pub Lent : Type 0
+Lent = Both (RefT (List ℕ)) (RefT (List ℕ))
+
+-- What a call is handed, and what it leaves.
+abbrev pub handed : Lent → Lent → Lent → Lent → Machine
+handed kept files logs marks = machineOf (now (kept .entry)) (now (files .entry)) (now (logs .entry)) (now (marks .entry))
+
+abbrev pub left : Lent → Lent → Lent → Lent → Machine
+left kept files logs marks = machineOf (now (kept .exit)) (now (files .exit)) (now (logs .exit)) (now (marks .exit))
+
+-- A refusal other than 13 leaves the record number by number, not only in what it means.
+abbrev pub LeftAsFound : Outcome → List ℕ → List ℕ → Type 0
+LeftAsFound o before after = (r : Refusal) → o ≡ Refused r → (number r ≡ 13 → ⊥) → after ≡ before
+
+-- The promise of a call: on what it is handed it answers o, and leaves record, buffers and reader's buffer, as the rule says.
+abbrev pub Follows : (Machine → Turn) → Lent → Lent → Lent → Lent → Outcome → List ℕ → Type 0
+Follows rule kept files logs marks o reader =
+    Meets (rule (handed kept files logs marks)) o (left kept files logs marks) reader
+    × LeftAsFound o (now (kept .entry)) (now (kept .exit))

@@ -11,7 +11,6 @@ use native.Mathlib.Nat.{add-zero}
 use native.Mathlib.Numerals.{add-one}
 use native.Mathlib.Omega.{arith}
 use borrow.Author.Tests.{leb-true, ltb-true, lt-ltb, le-leb, eq-eqb, ne-eqb}
-use Rattle.counters.specs.declared.Used.{Used}
 use Rattle.standings.specs.declared.Place.{Place}
 use Rattle.standings.specs.declared.Place.the-variants.{At, After}
 use Rattle.standings.specs.Table.{placeNumber}
@@ -20,7 +19,7 @@ use Rattle.record.specs.declared.journal.WriteRecord.{WriteRecord}
 use Rattle.record.specs.Journal.{writeRecordAt}
 use Rattle.ranges.specs.Below.{sum}
 use Rattle.ranges.specs.Ranges.{lengthsBefore}
-use Rattle.ranges.proofs.Laws.{and-left, and-right, and-both, sum-same, TransactionInRange, record-in}
+use Rattle.ranges.proofs.Laws.{and-left, and-right, and-both, TransactionInRange, record-in}
 use Rattle.octets.specs.Parts.{cut, tabulate}
 use Rattle.octets.proofs.PartLaws.{le-or-lt, length-cut, getD-cut}
 use Rattle.rules.specs.Reading.{over, byteAt, Source, own, file, supplies, orElse, latest, writeEnd, placedEnd, farthest, ownEnd}
@@ -417,20 +416,6 @@ counted x journal t small r =
       adds = r .total;
       bytes = r .bytes;
       descriptors = λ k h. omega (arith, record-in x (writeRecordAt journal t k) (r .writes k h) .descriptor);
-    }
-
--- and of records with the same descriptors and lengths, as once they are settled
-pub counted-same : (journal other : List ℕ) (t : ℕ) (u : Used) → Counted journal t u
-    → ((k : ℕ) → k < u .records → (writeRecordAt other t k .descriptor ≡ writeRecordAt journal t k .descriptor) × (writeRecordAt other t k .length ≡ writeRecordAt journal t k .length))
-    → Counted other t u
-unfolding lengthsBefore
-counted-same journal other t u c same =
-    record {
-      small = c .small;
-      records = c .records;
-      adds = sum-same (λ k. writeRecordAt other t k .length) (λ k. writeRecordAt journal t k .length) (u .records) (λ k h. same k h .1) ∙ c .adds;
-      bytes = c .bytes;
-      descriptors = λ k h. omega (arith, same k h .0, c .descriptors k h);
     }
 
 -- ---- where a file ends for a transaction

@@ -10,6 +10,7 @@ use Rattle.counters.specs.declared.Used.{Used}
 use Rattle.standings.specs.Table.{placeNumber}
 use Rattle.record.specs.declared.journal.WriteRecord.{WriteRecord}
 use Rattle.record.specs.Journal.{writeRecordAt}
+use Rattle.record.specs.Layout.{storeOf, journalOf}
 use Rattle.ranges.specs.Ranges.{lengthsBefore}
 use Rattle.octets.specs.Parts.{cut, tabulate}
 use Rattle.rules.specs.Reading.{over, Source, own, file, latest, placedEnd}
@@ -30,6 +31,10 @@ pub record Recorded : Type 0 where
 
 abbrev pub recorded : List ℕ → List ℕ → Recorded
 recorded journal filenumbers = record { journal = journal; filenumbers = filenumbers }
+
+-- A record's own.
+abbrev pub recordedIn : List ℕ → Recorded
+recordedIn kept = recorded (journalOf kept) (storeOf kept .filenumbers)
 
 -- Whether a write record covers place p of file f.
 unfoldable pub covers : List ℕ → ℕ → ℕ → WriteRecord → Bool
@@ -85,6 +90,10 @@ pub record LatestWrite (j : Recorded) (t records f p : ℕ) (found : Supplier) (
   pub inRules : (log : List ℕ) → lengthsBefore (j .journal) t records ≤ length log
       → latest (λ d. getD (j .filenumbers) d 0) f p (tabulate (writeIn (j .journal) log t) records) ≡ sourceOf (j .journal) log t p found
 
+-- The same for the first of these places, of a run.
+abbrev pub LatestAt : Recorded → ℕ → ℕ → Extent → Run → Type 0
+LatestAt j t records e r = LatestWrite j t records (e .file) (e .place) (r .supplier) (r .looked)
+
 -- "the ends of its own placed writes of at least one byte": where a write record ends in file f.
 unfoldable pub recordEnd : List ℕ → ℕ → WriteRecord → ℕ
 recordEnd filenumbers f w = cond (eqb (getD filenumbers (w .descriptor) 0) f) (placedEnd (w .place) (w .length)) 0
@@ -93,6 +102,10 @@ recordEnd filenumbers f w = cond (eqb (getD filenumbers (w .descriptor) 0) f) (p
 unfoldable pub reach : Recorded → ℕ → ℕ → ℕ → ℕ → ℕ
 reach j t f n zero = n
 reach j t f n (suc k) = max (reach j t f n k) (recordEnd (j .filenumbers) f (writeRecordAt (j .journal) t k))
+
+-- "A transaction's length is the largest of the committed one and the ends": that of file f for transaction t with so many records.
+abbrev pub lengthFor : List ℕ → ℕ → ℕ → ℕ → ℕ
+lengthFor kept t records f = reach (recordedIn kept) t f (getD (storeOf kept .lengths) f 0) records
 
 -- What check 2 says of the write records of transaction t: "records at most 64, their lengths adding to the data used, at most 4,096;
 -- each record's descriptor at most 15".
@@ -116,4 +129,5 @@ pub record RunOf (j : Recorded) (t records : ℕ) (e : Extent) (r : Run) : Type 
   pub some : 1 ≤ r .length
   pub within : r .length ≤ e .length
   pub same : (i : ℕ) → i < r .length → supplier j t records (e .file) (e .place + i) ≡ supplier j t records (e .file) (e .place)
-  pub longest : r .length < e .length → supplier j t records (e .file) (e .place + r .length) ≡ supplier j t records (e .file) (e .place) → ⊥
+  pub longest : r .length < e .length
+      → supplier j t records (e .file) (e .place + r .length) ≡ supplier j t records (e .file) (e .place) → ⊥

@@ -1,5 +1,5 @@
 -- Laws for the loops of settling: one choice among many, and a transaction of which the first descriptors are settled.
-use mathlib.Core.Bool.{Bool, true, false, cond, not, _&&_, _||_}
+use mathlib.Core.Bool.{Bool, true, false, cond, not, _&&_, or-true}
 use mathlib.Core.List.{List}
 use mathlib.Core.Path.{_≡_, refl, sym, ap, _∙_}
 use lib.Dec.{eqb}
@@ -14,14 +14,10 @@ use Rattle.record.specs.State.{standingAt, dirtyAt, noDescriptor, withDescripto
 use Rattle.standings.specs.Table.{advance, settled}
 use Rattle.rules.proofs.View.Tables.{tabulate-same, tabulate-set, tabulate-getD}
 use Rattle.ranges.proofs.Laws.{below-all}
-use Rattle.laws.proofs.Filled.{filled, filled-none, filled-all, filled-set, filled-kept}
+use Rattle.record.proofs.Filled.{filled, filled-none, filled-all, filled-set, filled-kept}
 use Rattle.settling.specs.declared.settle.Verdict.the-variants.{Settled, Past}
 use Rattle.settling.specs.declared.settle.Settling.{Settling}
 use Rattle.settling.specs.Choices.{settlesWithin, allWithin, settledDescriptor, settledTransaction, settlingOf}
-
-or-true : (a : Bool) → a || true ≡ true
-or-true true = refl
-or-true false = refl
 
 -- One of sixteen is chosen, or none.
 pub one-chosen : (d : ℕ) (b : Bool) → d < 16 → set (replicate 16 false) d b ≡ tabulate (λ e. eqb e d && b) 16
@@ -84,25 +80,26 @@ module _ (chosen : List Bool) (offsets : List ℕ) (x : Transaction) where
       ∙ tabulate-getD (x .descriptors) noDescriptor))
 
 -- What the verdict tells.
-module _ (chosen : List Bool) (offsets : List ℕ) (x : Transaction) (r : Settling) (e : r ≡ settlingOf chosen offsets x) where
-  pub verdict-past : r .verdict ≡ Past → allWithin chosen offsets x ≡ false
-  unfolding settlingOf
-  verdict-past v = pick (allWithin chosen offsets x) (sym v ∙ ap (λ (r : Settling). r .verdict) e)
+module _ (chosen : List Bool) (offsets : List ℕ) (x : Transaction) where
+  verdict : Bool → Settling
+  verdict b = cond b (record { verdict = Settled; transaction = settledTransaction chosen offsets x }) (record { verdict = Past; transaction = x })
+
+  pub verdict-past : settlingOf chosen offsets x .verdict ≡ Past → allWithin chosen offsets x ≡ false
+  unfolding settlingOf verdict
+  verdict-past e = pick (allWithin chosen offsets x) e
     where
-      pick : (b : Bool) → Past ≡ cond {A = Settling} b (record { verdict = Settled; transaction = settledTransaction chosen offsets x }) (record { verdict = Past; transaction = x }) .verdict → b ≡ false
+      pick : (b : Bool) → verdict b .verdict ≡ Past → b ≡ false
       pick true q = cc
       pick false q = refl
 
-  pub verdict-settled : r .verdict ≡ Settled → allWithin chosen offsets x ≡ true
-  unfolding settlingOf
-  verdict-settled v = pick (allWithin chosen offsets x) (sym v ∙ ap (λ (r : Settling). r .verdict) e)
+  pub verdict-settled : settlingOf chosen offsets x .verdict ≡ Settled → allWithin chosen offsets x ≡ true
+  unfolding settlingOf verdict
+  verdict-settled e = pick (allWithin chosen offsets x) e
     where
-      pick : (b : Bool) → Settled ≡ cond {A = Settling} b (record { verdict = Settled; transaction = settledTransaction chosen offsets x }) (record { verdict = Past; transaction = x }) .verdict → b ≡ true
+      pick : (b : Bool) → verdict b .verdict ≡ Settled → b ≡ true
       pick true q = refl
       pick false q = cc
 
-  pub transaction-settled : r .verdict ≡ Settled → r .transaction ≡ settledTransaction chosen offsets x
-  unfolding settlingOf
-  transaction-settled v =
-      ap (λ (r : Settling). r .transaction) e
-      ∙ ap (λ (b : Bool). cond {A = Settling} b (record { verdict = Settled; transaction = settledTransaction chosen offsets x }) (record { verdict = Past; transaction = x }) .transaction) (verdict-settled v)
+  pub transaction-settled : settlingOf chosen offsets x .verdict ≡ Settled → settlingOf chosen offsets x .transaction ≡ settledTransaction chosen offsets x
+  unfolding settlingOf verdict
+  transaction-settled e = ap (λ (b : Bool). verdict b .transaction) (verdict-settled e)

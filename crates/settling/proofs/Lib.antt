@@ -1,5 +1,6 @@
 -- Laws of settling, for the proofs of the calls that settle.
 pub mod ChoiceLaws
 pub mod RecordLaws
+pub mod InRecord
 pub mod Settled
 pub mod Chosen

@@ -6,11 +6,14 @@ use lib.ListN.{length, getD}
 use Prim.Native.Nat.{ℕ, _+_, _<_}
 use Rattle.standings.specs.declared.Place.{Place}
 use Rattle.standings.specs.declared.Place.the-variants.{At, After}
+use Rattle.record.specs.declared.Store.{Store}
 use Rattle.record.specs.declared.journal.WriteRecord.{WriteRecord}
 use Rattle.record.specs.Journal.{writeRecordAt, withRecordAt}
-use Rattle.record.proofs.JournalLaws.{with-own, with-none, with-more, with-same, with-own-records, read-next}
+use Rattle.record.specs.Layout.{storeOf, journalOf}
+use Rattle.record.proofs.JournalLaws.{length-with-at, with-own, with-none, with-more, with-same, with-own-records, read-next}
+use Rattle.record.proofs.LayoutLaws.{length-journal, journal-with-record, store-with-record}
 use Rattle.rules.specs.Transactions.{placedAt}
-use Rattle.settling.specs.Records.{recordAfter, placedRecords}
+use Rattle.settling.specs.Records.{recordAfter, placedRecords, PlacedIn}
 
 -- ---- one record
 
@@ -31,42 +34,70 @@ module _ (chosen : List Bool) (offsets : List ℕ) (w : WriteRecord) where
     after-kept e = rw (rw is at e)
 
     -- otherwise it gets one.
-    pub after-settled : (a : ℕ) → w .place ≡ After a → getD chosen d false ≡ true
-        → recordAfter chosen offsets w ≡ record { descriptor = w .descriptor; place = At (getD offsets d 0 + a); length = w .length }
+    pub after-settled : (a : ℕ) → w .place ≡ After a → getD chosen d false ≡ true → (c : ℕ) → c ≡ getD offsets d 0
+        → recordAfter chosen offsets w ≡ record { descriptor = w .descriptor; place = At (c + a); length = w .length }
     unfolding recordAfter placedAt
-    after-settled a e c = rw (rw is at c, e, is)
+    after-settled a e b c o = rw (rw is at b, e, o, is)
 
 -- ---- the records of a transaction
 
-module _ (chosen : List Bool) (offsets journal₀ : List ℕ) (t : ℕ) where
-  pub placed-none : placedRecords chosen offsets journal₀ t 0 ≡ journal₀
+module _ (chosen : List Bool) (t : ℕ) (before : List ℕ) (long : length before ≡ 2088) where
+  pub placed-none : PlacedIn chosen t 0 before before
   unfolding placedRecords
-  placed-none = with-none journal₀ t _
+  placed-none = record { journal = sym (with-none (journalOf before) t _); store = refl; long = long }
 
   -- Where nothing is chosen, nothing changes.
-  pub placed-kept : (n : ℕ) → ((k : ℕ) → k < n → writeRecordAt journal₀ t k .descriptor < 16) → ((e : ℕ) → e < 16 → getD chosen e false ≡ false)
-      → placedRecords chosen offsets journal₀ t n ≡ journal₀
+  pub placed-kept : (n : ℕ) → ((k : ℕ) → k < n → writeRecordAt (journalOf before) t k .descriptor < 16) → ((e : ℕ) → e < 16 → getD chosen e false ≡ false)
+      → PlacedIn chosen t n before before
   unfolding placedRecords
   placed-kept n low none =
-      with-same journal₀ t (λ k. recordAfter chosen offsets (writeRecordAt journal₀ t k)) (writeRecordAt journal₀ t) n
-      (λ k h. after-kept chosen offsets (writeRecordAt journal₀ t k) _ refl (none (writeRecordAt journal₀ t k .descriptor) (low k h)))
-      ∙ with-own-records journal₀ t n
+      let own = writeRecordAt (journalOf before) t in
+      let offsets = storeOf before .offsets in
+      record {
+        journal =
+            sym
+            (with-same (journalOf before) t (λ k. recordAfter chosen offsets (own k)) own n
+            (λ k h. after-kept chosen offsets (own k) _ refl (none (own k .descriptor) (low k h)))
+            ∙ with-own-records (journalOf before) t n);
+        store = refl;
+        long = long;
+      }
 
-  module _ (k : ℕ) (journal : List ℕ) (placed : journal ≡ placedRecords chosen offsets journal₀ t k)
-      (long : length journal₀ ≡ 1536) (small : t < 8) (few : k < 64)
-    where
-      -- The next record is not changed yet.
-      pub next-record : writeRecordAt journal t k ≡ writeRecordAt journal₀ t k
+-- The first k records are placed.
+module _ (chosen : List Bool) (t k : ℕ) (before now : List ℕ) (placed : PlacedIn chosen t k before now) where
+  pub offset-kept : (d : ℕ) → getD (storeOf now .offsets) d 0 ≡ getD (storeOf before .offsets) d 0
+  offset-kept d = ap (λ (s : Store). getD (s .offsets) d 0) (placed .store)
+
+  module _ (small : t < 8) (few : k < 64) where
+    -- The next record is not changed yet.
+    pub next-record : writeRecordAt (journalOf now) t k ≡ writeRecordAt (journalOf before) t k
+    unfolding placedRecords
+    next-record = ap (λ (j : List ℕ). writeRecordAt j t k) (placed .journal) ∙ read-next (journalOf before) t _ (length-journal before) small k few
+
+    -- One record more, read as r.
+    module _ (r : WriteRecord) (read : r ≡ writeRecordAt (journalOf now) t k) (after : List ℕ) where
+      journal-more : (w : WriteRecord) → recordAfter chosen (storeOf before .offsets) r ≡ w
+          → withRecordAt (journalOf now) t k w ≡ placedRecords chosen (storeOf before .offsets) (journalOf before) t (k + 1)
       unfolding placedRecords
-      next-record = ap (λ (j : List ℕ). writeRecordAt j t k) placed ∙ read-next journal₀ t _ long small k few
+      journal-more w e =
+          ap₂ (λ (j : List ℕ) (w : WriteRecord). withRecordAt j t k w) (placed .journal) (sym e ∙ ap (recordAfter chosen (storeOf before .offsets)) (read ∙ next-record))
+          ∙ sym (with-more (journalOf before) t _ k)
 
-      -- One record more, read off the journal as r.
-      module _ (r : WriteRecord) (read : r ≡ writeRecordAt journal t k) where
-        pub one-placed : (w : WriteRecord) → recordAfter chosen offsets r ≡ w → withRecordAt journal t k w ≡ placedRecords chosen offsets journal₀ t (k + 1)
-        unfolding placedRecords
-        one-placed w e =
-            ap₂ (λ (j : List ℕ) (w : WriteRecord). withRecordAt j t k w) placed (sym e ∙ ap (recordAfter chosen offsets) (read ∙ next-record))
-            ∙ sym (with-more journal₀ t _ k)
+      pub one-placed : (w : WriteRecord) → after ≡ withRecordAt now t k w → recordAfter chosen (storeOf before .offsets) r ≡ w → PlacedIn chosen t (k + 1) before after
+      one-placed w put e =
+          record {
+            journal = ap journalOf put ∙ journal-with-record now (placed .long) t k w small few ∙ journal-more w e;
+            store = ap storeOf put ∙ store-with-record now (placed .long) t k w small few ∙ placed .store;
+            long = ap length put ∙ length-with-at now t k w ∙ placed .long;
+          }
 
-        pub one-kept : recordAfter chosen offsets r ≡ r → journal ≡ placedRecords chosen offsets journal₀ t (k + 1)
-        one-kept e = sym (ap (withRecordAt journal t k) read ∙ with-own journal t k) ∙ one-placed r e
+      pub one-kept : after ≡ now → recordAfter chosen (storeOf before .offsets) r ≡ r → PlacedIn chosen t (k + 1) before after
+      one-kept same e =
+          record {
+            journal =
+                ap journalOf same
+                ∙ sym (ap (withRecordAt (journalOf now) t k) read ∙ with-own (journalOf now) t k)
+                ∙ journal-more r e;
+            store = ap storeOf same ∙ placed .store;
+            long = ap length same ∙ placed .long;
+          }

@@ -16,6 +16,7 @@ use Rattle.record.specs.declared.Store.{Store}
 use Rattle.record.specs.declared.journal.WriteRecord.{WriteRecord}
 use Rattle.record.specs.State.{transaction, standingAt, dirtyAt, noDescriptor, withDescriptors, withTransaction}
 use Rattle.record.specs.Journal.{writeRecordAt}
+use Rattle.record.specs.Layout.{storeOf, journalOf}
 use Rattle.record.proofs.JournalLaws.{with-same, read-own}
 use Rattle.ranges.specs.Ranges.{lengthsBefore}
 use Rattle.ranges.proofs.Laws.{sum-same, record-in, place-end}
@@ -36,17 +37,18 @@ module _ (s : Store) (journal logs : List ℕ) (t : ℕ) (o : Opened s journal l
   low-descriptor k h =
       omega (arith, record-in (transaction s t) (writeRecordAt journal t k) (o .ranges .writes k h) .descriptor)
 
-  pub placeable : (n : ℕ) → n ≡ transaction s t .used .records → ((e : ℕ) → e < 16 → getD (s .offsets) e 0 ≤ 4096) → Placeable journal t n (s .offsets)
-  placeable n e low =
+module _ (kept logs : List ℕ) (t : ℕ) (o : Opened (storeOf kept) (journalOf kept) logs t) where
+  pub placeable : (n : ℕ) → n ≡ transaction (storeOf kept) t .used .records → length kept ≡ 2088 → ((e : ℕ) → e < 16 → getD (storeOf kept .offsets) e 0 ≤ 4096) → Placeable kept t n
+  placeable n e long low =
       record {
-        long = o .long;
+        long = long;
         small = o .small;
         few = rw e (o .ranges .records);
-        descriptors = λ k h. low-descriptor k (rw e at h);
+        descriptors = λ k h. low-descriptor (storeOf kept) (journalOf kept) logs t o k (rw e at h);
         places =
             λ k h.
-            let w = writeRecordAt journal t k in
-            omega (arith, place-end _ (w .place) (w .length) (record-in (transaction s t) w (o .ranges .writes k (rw e at h)) .place));
+            let w = writeRecordAt (journalOf kept) t k in
+            omega (arith, place-end _ (w .place) (w .length) (record-in (transaction (storeOf kept) t) w (o .ranges .writes k (rw e at h)) .place));
         committed = low;
       }
 

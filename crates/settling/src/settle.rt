@@ -1,12 +1,15 @@
 // Which descriptors a call settles; these take their committed offsets, all of them or none.
-use crate::any;
 use numbers::FILE_END;
 use record::DESCRIPTORS;
 use record::Descriptor;
 use record::Transaction;
+use record::layout::Record;
+use record::layout::file_at;
+use record::layout::offset_at;
 ghost use mathlib.Core.Path.{_≡_};
 ghost use Prim.Native.Nat.{ℕ, _≤_, _<_};
-ghost use lib.ListN.{getD};
+ghost use lib.ListN.{length, getD};
+ghost use Rattle.record.specs.Layout.{storeOf};
 ghost use Rattle.settling.specs.Choices.{chosenByRead, chosenByPointer, settlingOf};
 
 // Whether every chosen descriptor could be settled.
@@ -22,21 +25,17 @@ pub struct Settling {
 }
 
 // The descriptors that a Read through d settles.
-pub fn chosen_by_read(
-    x: Transaction,
-    filenumbers: &[u8; DESCRIPTORS],
-    d: usize,
-) -> [bool; DESCRIPTORS]
+pub fn chosen_by_read(kept: &Record, x: Transaction, d: usize) -> [bool; DESCRIPTORS]
     requires { ⌜ d < 16 ⌝ }
-    ensures { λ r. ⌜ r ≡ chosenByRead (now (filenumbers .entry)) x d ⌝ }
+    ensures { λ r. ⌜ r ≡ chosenByRead (storeOf (now (kept .entry)) .filenumbers) x d ⌝ }
 {
     let mut chosen = [false; DESCRIPTORS];
-    let f = filenumbers[d];
+    let f = file_at(kept, d);
     let mut e = 0;
     while e < DESCRIPTORS {
         let q = x.descriptors[e];
         let z = q.standing;
-        chosen[e] = z.read_settles(filenumbers[e] == f, e == d);
+        chosen[e] = z.read_settles(file_at(kept, e) == f, e == d);
         e += 1;
     }
     chosen
@@ -54,23 +53,18 @@ pub fn chosen_by_pointer(x: Transaction, d: usize) -> [bool; DESCRIPTORS]
 }
 
 // Settles every chosen descriptor at its committed offset, or none.
-pub fn settle(x: Transaction, chosen: [bool; DESCRIPTORS], offsets: &[u16; DESCRIPTORS]) -> Settling
-    requires { ⌜ ((e : ℕ) → e < 16 → getD (now offsets) e 0 ≤ 4096) ⌝ }
-    ensures { λ r. ⌜ r ≡ settlingOf chosen (now (offsets .entry)) x ⌝ }
+pub fn settle(kept: &Record, x: Transaction, chosen: [bool; DESCRIPTORS]) -> Settling
+    requires sixteen { ⌜ length (x .descriptors) ≡ 16 ⌝ }
+    requires committed { ⌜ ((e : ℕ) → e < 16 → getD (storeOf (now kept) .offsets) e 0 ≤ 4096) ⌝ }
+    ensures { λ r. ⌜ r ≡ settlingOf chosen (storeOf (now (kept .entry)) .offsets) x ⌝ }
 {
-    if !any(chosen) {
-        return Settling {
-            verdict: Verdict::Settled,
-            transaction: x,
-        };
-    }
     let mut y = x;
     let mut e = 0;
     while e < DESCRIPTORS {
         if chosen[e] {
             let q = x.descriptors[e];
             let z = q.standing;
-            let c = offsets[e];
+            let c = offset_at(kept, e);
             if FILE_END - c < z.advance() {
                 return Settling {
                     verdict: Verdict::Past,

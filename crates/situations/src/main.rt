@@ -1,8 +1,12 @@
 // Runs the twelve situations of paper 01 on the store, and prints for each its letter, a space, and `ok` or `no`.
 use libc::STDOUT_FILENO;
+use numbers::BUFFER_BYTES;
+use record::layout::NUMBERS;
+use record::layout::Record;
+use script::Buffer;
 
-mod calls;
 mod letters;
+mod script;
 
 fn print(letter: u8, ok: bool) {
     let line = [letter, b' '];
@@ -14,17 +18,25 @@ fn print(letter: u8, ok: bool) {
     }
 }
 
+fn run(kept: &mut Record, files: &mut Buffer, logs: &mut Buffer, marks: &mut Buffer) {
+    print(b'a', letters::a(kept, files, logs, marks));
+    print(b'b', letters::b(kept, files, logs, marks));
+    print(b'c', letters::c(kept, files, logs, marks));
+    print(b'd', letters::d(kept, files, logs, marks));
+    print(b'e', letters::e(kept, files, logs, marks));
+    print(b'f', letters::f(kept, files, logs, marks));
+    print(b'g', letters::g(kept, files, logs, marks));
+    print(b'h', letters::h(kept, files, logs, marks));
+    print(b'i', letters::i(kept, files, logs, marks));
+    print(b'j', letters::j(kept, files, logs, marks));
+    print(b'k', letters::k(kept, files, logs, marks));
+    print(b'l', letters::l(kept, files, logs, marks));
+}
+
 fn main() {
-    print(b'a', letters::a());
-    print(b'b', letters::b());
-    print(b'c', letters::c());
-    print(b'd', letters::d());
-    print(b'e', letters::e());
-    print(b'f', letters::f());
-    print(b'g', letters::g());
-    print(b'h', letters::h());
-    print(b'i', letters::i());
-    print(b'j', letters::j());
-    print(b'k', letters::k());
-    print(b'l', letters::l());
+    let mut kept = [0u16; NUMBERS];
+    let mut files = [0u8; BUFFER_BYTES];
+    let mut logs = [0u8; BUFFER_BYTES];
+    let mut marks = [0u8; BUFFER_BYTES];
+    run(&mut kept, &mut files, &mut logs, &mut marks);
 }

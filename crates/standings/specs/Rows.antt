@@ -3,7 +3,8 @@ use mathlib.Core.Bool.{true, false}
 use mathlib.Core.Path.{_≡_}
 use Rattle.standings.specs.declared.Standing.the-variants.{Untouched, Placed, Deferred, Moved, Known}
 use Rattle.standings.specs.declared.Place.the-variants.{At, After}
-use Rattle.standings.specs.Table.{afterSeek, afterWrite, afterRead, pointerSettles, readSettles, settled, offsetOf, writePlace, isTouched, finalOffset, isKnown}
+use Rattle.standings.specs.Table.{afterSeek, afterWrite, afterRead, pointerSettles, readSettles, settled, offsetOf, writePlace}
+use Rattle.standings.specs.Table.{isTouched, finalOffset, isKnown}
 
 -- "Seek v": v is 9. "Write n", "Read": n is 2. Settled at committed offset 5; a write lies at its place or after its advance.
 pub record Rows : Type 0 where
@@ -29,7 +30,8 @@ pub record Rows : Type 0 where
       × (pointerSettles (Known 3) ≡ false) × (readSettles true true (Known 3) ≡ false) × (afterRead 2 (Known 3) ≡ Known 5)
   -- Of another file nothing is settled, and of d's file no other Untouched descriptor.
   pub neighbours :
-      (readSettles false false (Deferred 4) ≡ false) × (readSettles false false (Moved 4 3) ≡ false) × (readSettles true false Untouched ≡ false)
+      (readSettles false false (Deferred 4) ≡ false) × (readSettles false false (Moved 4 3) ≡ false)
+      × (readSettles true false Untouched ≡ false)
   -- "GetFilePointer answers the offset."
   pub pointers : (offsetOf (Placed 3) ≡ 3) × (offsetOf (Moved 4 3) ≡ 3) × (offsetOf (Known 3) ≡ 3)
   -- "the offset of every descriptor not Untouched is set ..: committed offset plus advance if Deferred, otherwise its own"

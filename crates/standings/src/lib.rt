@@ -1,7 +1,9 @@
 // The standing of a descriptor in a transaction, and the table of standings: a method for each of its columns.
 ghost use mathlib.Core.Path.{_≡_};
 ghost use Prim.Native.Nat.{_+_, _≤_};
-ghost use Rattle.standings.specs.Table.{afterSeek, afterWrite, afterRead, pointerSettles, readSettles, advance, settled, offsetOf, writePlace, isTouched, finalOffset, isKnown, mayWait, placeNumber};
+ghost use Rattle.standings.specs.Table.{afterSeek, afterWrite, afterRead, pointerSettles, readSettles, advance};
+ghost use Rattle.standings.specs.Table.{settled, offsetOf, writePlace, isTouched, finalOffset, isKnown, mayWait};
+ghost use Rattle.standings.specs.Table.{placeNumber};
 
 // Paper 01's five standings. Each carries the numbers named there and no others.
 pub enum Standing {

@@ -1,5 +1,5 @@
-// The nine calls. Each takes the record, its first part by value and the journal lent, and the three store buffers, has no precondition,
-// and answers its outcome with the record to keep; its promise stands at the function. `made_stale` counts what a commit's octet names.
+// The nine calls. Each is lent the record and the three store buffers, has no precondition, and answers its outcome; its
+// promise stands at the function. `made_stale` counts what a commit's octet names.
 pub use committing::commit;
 pub use committing::made_stale;
 pub use coverage::places;

@@ -8,7 +8,7 @@ use lib.Seq.{take-all, length-take-le}
 use borrow.Author.Tests.{leb-true, leb-false, lt-leb}
 use native.Mathlib.Omega.{arith}
 use Prim.Native.Nat.{ℕ, _<_}
-use Rattle.grammar.specs.Grammar.{Line, another, parsed, form}
+use Rattle.grammar.specs.Grammar.{another, parsed, form}
 use Rattle.lines.specs.Lines.{kept}
 use Rattle.trace.specs.Answers.{KeptIsEnough}
 

@@ -3,12 +3,12 @@ use mathlib.Core.Bool.{Bool, true, false, cond}
 use mathlib.Core.List.{List}
 use mathlib.Core.Path.{_≡_, refl, sym, ap, _∙_}
 use lib.ListN.{length, take, drop, length-drop}
-use lib.Seq.{take-all, length-take-le}
+use lib.Seq.{take-all}
 use native.Mathlib.Omega.{arith}
-use Prim.Native.Nat.{ℕ, _+_, _-_, _*_, _≤_, _<_}
-use Rattle.dispatch.specs.Performing.{Performs}
+use Prim.Native.Nat.{ℕ, _+_, _-_, _*_, _<_}
+use Rattle.requests.specs.Performing.{Performs}
 use Rattle.grammar.specs.Grammar.{another, asks, parsed}
-use Rattle.grammar.specs.Parsing.{Parses, lineOf, startOf}
+use Rattle.grammar.specs.Parsing.{Parses, lineOf}
 use Rattle.grammar.specs.declared.Parsed.{Parsed}
 use Rattle.grammar.specs.declared.Parsed.the-variants.{Another, Asks}
 use Rattle.lines.specs.Lines.{Went}
@@ -27,10 +27,6 @@ module _ (line : List ℕ) (r : Parsed) (p : Parses line r) where
       rw l (q, (refl, refl))
 
   module _ (q : Request) (start : ℕ) (e : r ≡ Asks q start) where
-    pub starts-within : start ≤ length line
-    unfolding startOf
-    starts-within = omega (arith, p .within, ap startOf e)
-
     -- the bytes are cut as a range of the code, `&line[start..]`
     pub asked-line : (reader : List ℕ) (m : Machine) (o : Outcome) (m′ : Machine) (reader′ : List ℕ)
         → Performs q (take (length line - start) (drop start line)) reader m o m′ reader′ → Answers line reader m o m′ reader′
@@ -42,10 +38,6 @@ module _ (line : List ℕ) (r : Parsed) (p : Parses line r) where
         rw (l, ← all) f
 
 -- ---- bounds
-
--- a part from the front of a buffer
-pub counted : (n : ℕ) (l : List ℕ) → n ≤ length l → n ≡ length (take n l)
-counted n l h = sym (length-take-le n l h)
 
 -- what is left of a piece after a look, and one more while lines end: it falls with each look
 unfoldable pub left : Look → ℕ → ℕ

@@ -74,7 +74,7 @@ module _ {M : Type 1} (𝓤 : URA M) (H : Heap 𝓤) (A : Atoms 𝓤) (W : Given
       feqI ! (List Val) (vunit ∷ []) (vunit ∷ []) refl $ move ! (1 ∷ 0 ∷ []) $ done !
 
   -- the borrow is closed at whatever counters r and k the struct's cell has
-  shut : {Γ : List (Item 𝓤)} {G : Goal 𝓤 H} → Soaks G → (r k : ℕ) → r < 2 ^ 8 → k < 2 ^ 16
+  shut : {Γ : List (Item 𝓤)} {G : Goal 𝓤 H} → Soaks G → (r k : ℕ) → r < 2 ^ 64 → k < 2 ^ 16
       → Step (Go {0}) W (‵ (fobs γ (T.the-row .coded .code (used r k))) ∷ ‵ (fbor κ (Body (mem T.the-row) b o γ)) ∷ ‵ (flft κ q) ∷ Γ) G
       (‵ (cellAt fullShare (T.the-row .mir) (T′.lowered (used r k) ∷ []) b o) ∷ ‵ (T.the-row .own h (T′.lowered h ∷ [])) ∷ ‵ (fobor κ q (Body (mem T.the-row) b o γ)) ∷ ‵ (fobs γ (T.the-row .coded .code h)) ∷ ‵ (fauth γ (T.the-row .coded .code h)) ∷ Γ) G
   shut z r k fr fk = step (λ s. move ! (1 ∷ []) $ drop ! $ owned ! T.the-row (Is T.the-row) ((LL.makes T.the-type T′.the-plain) 𝓤 H A) (used r k) _ (pair-fits r k fr fk) $ move ! (1 ∷ 0 ∷ []) $ closes ! z T.the-row (used r k) (T′.lowered (used r k) ∷ []) b o $ s)

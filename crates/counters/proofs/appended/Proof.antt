@@ -90,7 +90,7 @@ module _ {M : Type 1} (𝓤 : URA M) (H : Heap 𝓤) (A : Atoms 𝓤) (W : Given
   Post = walkOf 𝓤 H A appended.ended stayed (appended.clauses 𝓤 H A at-mem run) .post ((tt, tt, tt, (h, (n, tt)), at), tt)
 
   -- the exit, at counters r and k that are one more and n more
-  exits : (r k : ℕ) → r < 2 ^ 8 → k < 2 ^ 16 → r ≡ h .records + 1 → k ≡ h .bytes + n → ent 𝓤 (emp 𝓤) (Post (T′.lowered (used r k)))
+  exits : (r k : ℕ) → r < 2 ^ 64 → k < 2 ^ 16 → r ≡ h .records + 1 → k ≡ h .bytes + n → ent 𝓤 (emp 𝓤) (Post (T′.lowered (used r k)))
   exits r k fr fk er ek =
       qed W [] ∵
       suffices ! _ (ends-at 𝓤 H A appended.ended stayed (appended.clauses 𝓤 H A at-mem run) W ((tt, tt, tt, (h, (n, tt)), at), tt) (T′.lowered (used r k)) (used r k) (tt, (tt, tt)) (tt, (tt, tt))) $ says-both ! (omega arith) (omega arith) $

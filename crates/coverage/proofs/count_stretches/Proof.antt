@@ -7,21 +7,21 @@ use native.Mathlib.Omega.{arith}
 use borrow.Author.Needs.{needs}
 use lib.ListN.{length}
 use Rattle.rules.specs.Coverage.{Stretch as Listed}
-use Rattle.runs.specs.Runs.{recorded}
+use Rattle.runs.specs.Runs.{recordedIn}
 use Rattle.coverage.specs.Covering.{coveredAt}
 use Rattle.coverage.proofs.ListLaws.{Listing, asListed, listing-none, listing-end, listing-all, listing-more, length-snoc}
 use Rattle.coverage.proofs.count_stretches.Statement.{statement}
 use Rattle.coverage.proofs.count_stretches.Tie as tie
 
 abbrev Inv-loop : tie.InvT-loop
-Inv-loop journal filenumbers t used f p₀ n₀ p n = (p ≤ 4096) × (n ≤ p) × (l : List Listed) × (length l ≡ n) × Listing (coveredAt (recorded journal filenumbers) t (used .records) f) p l
+Inv-loop kept t used f p₀ n₀ p n = (p ≤ 4096) × (n ≤ p) × (l : List Listed) × (length l ≡ n) × Listing (coveredAt (recordedIn kept) t (used .records) f) p l
 
 abbrev μ-loop : tie.MeasureT-loop
-μ-loop journal filenumbers t used f p₀ n₀ p n = 4096 - p
+μ-loop kept t used f p₀ n₀ p n = 4096 - p
 
 -- The places that are covered.
 abbrev covering : tie.Start Inv-loop μ-loop → ℕ → Bool
-covering c = coveredAt (recorded (c .args .journal .now) (c .args .filenumbers .now)) (c .args .t) (c .args .used .records) (c .args .f)
+covering c = coveredAt (recordedIn (c .args .kept .now)) (c .args .t) (c .args .used .records) (c .args .f)
 
 loop-holds : tie.Need-loop-holds Inv-loop μ-loop
 loop-holds c =

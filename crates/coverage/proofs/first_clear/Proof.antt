@@ -5,28 +5,28 @@ use Prim.Native.Nat.{ℕ, _-_, _≤_, _<_}
 use native.Mathlib.Omega.{arith}
 use borrow.Author.Needs.{needs}
 use borrow.Author.Tests.{not-true, not-false}
-use Rattle.runs.specs.Runs.{Recorded, extent, recorded}
+use Rattle.runs.specs.Runs.{Recorded, extent, recordedIn}
 use Rattle.coverage.specs.Covering.{coveredAt}
 use Rattle.coverage.proofs.CoverLaws.{first-clear-here, first-clear-after}
 use Rattle.coverage.proofs.first_clear.Statement.{statement}
 use Rattle.coverage.proofs.first_clear.Tie as tie
 
 abbrev Inv-loop : tie.InvT-loop
-Inv-loop journal filenumbers t used f p q₀ q = (p ≤ q) × (q ≤ 4096) × ((i : ℕ) → p ≤ i → i < q → coveredAt (recorded journal filenumbers) t (used .records) f i ≡ true)
+Inv-loop kept t used f p q₀ q = (p ≤ q) × (q ≤ 4096) × ((i : ℕ) → p ≤ i → i < q → coveredAt (recordedIn kept) t (used .records) f i ≡ true)
 
 abbrev μ-loop : tie.MeasureT-loop
-μ-loop journal filenumbers t used f p q₀ q = 4096 - q
+μ-loop kept t used f p q₀ q = 4096 - q
 
 -- What is lent.
 abbrev lent : tie.Start Inv-loop μ-loop → Recorded
-lent c = recorded (c .args .journal .now) (c .args .filenumbers .now)
+lent c = recordedIn (c .args .kept .now)
 
 loop-holds : tie.Need-loop-holds Inv-loop μ-loop
 loop-holds c =
     (omega arith, omega (arith, c .pre .1), λ q g l. absurd (omega arith))
 
-sub-t12 : tie.Need-sub-t12 Inv-loop μ-loop
-sub-t12 c = search needs
+sub-t11 : tie.Need-sub-t11 Inv-loop μ-loop
+sub-t11 c = search needs
 
 latest-write-requires : tie.Need-latest-write-requires Inv-loop μ-loop
 latest-write-requires c κs = search needs
@@ -71,7 +71,7 @@ first-clear-spec =
     Inv-loop
     μ-loop
     loop-holds
-    sub-t12
+    sub-t11
     latest-write-requires
     is-record-requires
     returns

@@ -4,7 +4,7 @@ use mathlib.Core.Path.{refl, sym, _∙_}
 use Prim.Native.Nat.{ℕ, _-_}
 use native.Mathlib.Omega.{arith}
 use borrow.Author.Needs.{needs}
-use Rattle.runs.specs.Runs.{Recorded, recorded, extent}
+use Rattle.runs.specs.Runs.{Recorded, recordedIn, extent}
 use Rattle.coverage.specs.Covering.{coveredAt}
 use Rattle.coverage.proofs.CoverLaws.{first-covered-here, first-covered-after, upto-end}
 use Rattle.coverage.proofs.first_covered.Statement.{statement}
@@ -12,11 +12,11 @@ use Rattle.coverage.proofs.first_covered.Tie as tie
 
 -- The places that are covered.
 abbrev covering : tie.Start → ℕ → Bool
-covering c = coveredAt (recorded (c .args .journal .now) (c .args .filenumbers .now)) (c .args .t) (c .args .used .records) (c .args .f)
+covering c = coveredAt (recordedIn (c .args .kept .now)) (c .args .t) (c .args .used .records) (c .args .f)
 
 -- What is lent.
 abbrev lent : tie.Start → Recorded
-lent c = recorded (c .args .journal .now) (c .args .filenumbers .now)
+lent c = recordedIn (c .args .kept .now)
 
 returns : tie.Need-returns
 returns c =
@@ -24,8 +24,8 @@ returns c =
     let a = s .args in
     upto-end (covering s) false (a .p) (c .if1 .taken)
 
-sub-t11 : tie.Need-sub-t11
-sub-t11 c = search needs
+sub-t10 : tie.Need-sub-t10
+sub-t10 c = search needs
 
 latest-write-requires : tie.Need-latest-write-requires
 latest-write-requires c κs = search needs
@@ -52,4 +52,4 @@ returns-3 c =
 
 pub first-covered-spec : {M : Type 1} → statement M
 first-covered-spec =
-    tie.close (tie.spec returns sub-t11 latest-write-requires is-record-requires returns-2 add-result returns-3)
+    tie.close (tie.spec returns sub-t10 latest-write-requires is-record-requires returns-2 add-result returns-3)

@@ -1,9 +1,9 @@
 -- `coverage::next_stretch` meets its contract. Assumes nothing.
 use mathlib.Core.Bool.{Bool}
 use mathlib.Core.Path.{refl}
-use Prim.Native.Nat.{ℕ, _-_}
+use Prim.Native.Nat.{ℕ}
 use borrow.Author.Needs.{needs}
-use Rattle.runs.specs.Runs.{recorded}
+use Rattle.runs.specs.Runs.{recordedIn}
 use Rattle.coverage.specs.Covering.{coveredAt}
 use Rattle.coverage.proofs.CoverLaws.{next-of}
 use Rattle.coverage.proofs.next_stretch.Statement.{statement}
@@ -11,7 +11,7 @@ use Rattle.coverage.proofs.next_stretch.Tie as tie
 
 -- The places that are covered.
 abbrev covering : tie.Start → ℕ → Bool
-covering c = coveredAt (recorded (c .args .journal .now) (c .args .filenumbers .now)) (c .args .t) (c .args .used .records) (c .args .f)
+covering c = coveredAt (recordedIn (c .args .kept .now)) (c .args .t) (c .args .used .records) (c .args .f)
 
 first-covered-requires : tie.Need-first-covered-requires
 first-covered-requires c κs = search needs
@@ -19,8 +19,8 @@ first-covered-requires c κs = search needs
 first-clear-requires : tie.Need-first-clear-requires
 first-clear-requires c κs = search needs
 
-sub-t9 : tie.Need-sub-t9
-sub-t9 c = search needs
+sub-t8 : tie.Need-sub-t8
+sub-t8 c = search needs
 
 returns : tie.Need-returns
 returns c =
@@ -29,4 +29,4 @@ returns c =
     next-of (covering s) (a .p) (c .before .first-covered .result) (c .first-clear .result) _ (c .before .first-covered .ensures) (c .first-clear .ensures) refl
 
 pub next-stretch-spec : {M : Type 1} → statement M
-next-stretch-spec = tie.close (tie.spec first-covered-requires first-clear-requires sub-t9 returns)
+next-stretch-spec = tie.close (tie.spec first-covered-requires first-clear-requires sub-t8 returns)

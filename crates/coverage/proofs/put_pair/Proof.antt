@@ -1,7 +1,7 @@
 -- `coverage::put_pair` meets its contract. Assumes nothing.
 use mathlib.Core.List.{List}
 use mathlib.Core.Path.{ap, _∙_}
-use Prim.Native.Nat.{ℕ, _+_, _-_}
+use Prim.Native.Nat.{ℕ, _+_}
 use borrow.Author.Needs.{needs}
 use lib.ListN.{length}
 use Rattle.octets.specs.Parts.{pasted}
@@ -24,10 +24,13 @@ same-length c = search needs
 
 returns : tie.Need-returns
 returns c =
-    let a = c .before .before .before .before .before .before .before .before .before .args in
-    c .before .before .put-number2 .ensures
-    ∙ ap (λ (l : List ℕ). pasted l (a .at + 2) (sixteen (a .s .length))) (c .before .before .before .before .before .before .put-number .ensures)
-    ∙ pair-put (a .out .now) (a .at) (a .s) (c .before .before .before .before .before .before .before .before .before .pre .0)
+    let second = c .before .before in
+    let first = second .before .before .before .before in
+    let s = first .before .before .before in
+    let a = s .args in
+    second .put-number2 .ensures
+    ∙ ap (λ (l : List ℕ). pasted l (a .at + 2) (sixteen (a .s .length))) (first .put-number .ensures)
+    ∙ pair-put (a .out .now) (a .at) (a .s) (s .pre .0)
 
 pub put-pair-spec : {M : Type 1} → statement M
 put-pair-spec =

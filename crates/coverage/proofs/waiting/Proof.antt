@@ -1,48 +1,56 @@
 -- `coverage::waiting` meets its contract. The loop's invariant: none of the first k records waits. Assumes nothing.
-use mathlib.Core.Bool.{false}
+use mathlib.Core.Bool.{Bool, false}
+use mathlib.Core.List.{List}
 use mathlib.Core.Path.{sym, ap, _∙_, _≡_}
-use Prim.Native.Nat.{_-_, _≤_}
+use Prim.Native.Nat.{ℕ, _-_, _≤_}
 use native.Mathlib.Omega.{arith}
 use borrow.Author.Needs.{needs}
 use Rattle.record.specs.Journal.{writeRecordAt}
+use Rattle.record.specs.Layout.{storeOf, journalOf}
 use Rattle.coverage.specs.Covering.{someBelow, waitsOn, waitsIn}
 use Rattle.coverage.proofs.CoverLaws.{some-none, some-more, some-found}
 use Rattle.coverage.proofs.waiting.Statement.{statement}
 use Rattle.coverage.proofs.waiting.Tie as tie
 
+-- Record i of the transaction waits.
+abbrev waits-at : List ℕ → ℕ → ℕ → ℕ → Bool
+waits-at kept t f i = waitsOn (storeOf kept .filenumbers) f (writeRecordAt (journalOf kept) t i)
+
 abbrev Inv-loop : tie.InvT-loop
-Inv-loop journal filenumbers t f records k₀ k = (k ≤ records) × (someBelow (λ i. waitsOn filenumbers f (writeRecordAt journal t i)) k ≡ false)
+Inv-loop kept t used f k₀ k = (k ≤ used .records) × (someBelow (waits-at kept t f) k ≡ false)
 
 abbrev μ-loop : tie.MeasureT-loop
-μ-loop journal filenumbers t f records k₀ k = records - k
+μ-loop kept t used f k₀ k = used .records - k
 
-wide-octet-requires : tie.Need-wide-octet-requires Inv-loop μ-loop
-wide-octet-requires c κs = search needs
+abbrev testing : tie.Start Inv-loop μ-loop → ℕ → Bool
+testing s = waits-at (s .args .kept .now) (s .args .t) (s .args .f)
 
 loop-holds : tie.Need-loop-holds Inv-loop μ-loop
-loop-holds c =
-    let a = c .before .args in
-    (omega arith, some-none (λ i. waitsOn (a .filenumbers .now) (a .f) (writeRecordAt (a .journal .now) (a .t) i)))
+loop-holds c = (omega arith, some-none (testing c))
 
 record-at-requires : tie.Need-record-at-requires Inv-loop μ-loop
 record-at-requires c κs = search needs
 
 waits-requires : tie.Need-waits-requires Inv-loop μ-loop
 waits-requires c κs =
-    let s = c .before .before .before .before in
-    rw (c .record-at .ensures) (s .pre .descriptors (c .before .before .loop .k) (omega (arith, c .before .before .before .wide-octet .ensures .0)))
+    let at-loop = c .before .before .before in
+    rw (c .record-at .ensures) (at-loop .before .pre .descriptors (at-loop .loop .k) (omega arith))
 
 -- What the test of the record says.
-this : (c : tie.After-waits Inv-loop μ-loop) → waitsOn (c .before .before .before .before .before .args .filenumbers .now) (c .before .before .before .before .before .args .f) (writeRecordAt (c .before .before .before .before .before .args .journal .now) (c .before .before .before .before .before .args .t) (c .before .before .before .loop .k)) ≡ c .waits .result
+abbrev loop-of : tie.After-waits Inv-loop μ-loop → tie.At-loop Inv-loop μ-loop
+loop-of c = c .before .before .before .before
+
+this : (c : tie.After-waits Inv-loop μ-loop) → testing (loop-of c .before) (loop-of c .loop .k) ≡ c .waits .result
 this c =
-    let a = c .before .before .before .before .before .args in
-    ap (waitsOn (a .filenumbers .now) (a .f)) (sym (c .before .record-at .ensures)) ∙ sym (c .waits .ensures)
+    let a = loop-of c .before .args in
+    ap (waitsOn (storeOf (a .kept .now) .filenumbers) (a .f)) (sym (c .before .record-at .ensures)) ∙ sym (c .waits .ensures)
 
 returns : tie.Need-returns Inv-loop μ-loop
 unfolding waitsIn
 returns c =
-    let a = c .before .before .before .before .before .before .args in
-    sym (some-found (λ i. waitsOn (a .filenumbers .now) (a .f) (writeRecordAt (a .journal .now) (a .t) i)) (a .used .records) (c .before .before .before .before .loop .k) (omega (arith, c .before .before .before .before .before .wide-octet .ensures .0)) (this (c .before) ∙ c .if1 .taken))
+    let at-loop = loop-of (c .before) in
+    let s = at-loop .before in
+    sym (some-found (testing s) (s .args .used .records) (at-loop .loop .k) (omega arith) (this (c .before) ∙ c .if2 .taken))
 
 add-k : tie.Need-add-k Inv-loop μ-loop
 add-k c = search needs
@@ -52,15 +60,16 @@ loop-less c = search needs
 
 loop-again : tie.Need-loop-again Inv-loop μ-loop
 loop-again c =
-    let a = c .before .before .before .before .before .before .args in
-    (omega arith, some-more (λ i. waitsOn (a .filenumbers .now) (a .f) (writeRecordAt (a .journal .now) (a .t) i)) (c .before .before .before .before .loop .k) (c .before .before .before .before .loop .inv .1) (this (c .before) ∙ c .if1 .left))
+    let at-loop = loop-of (c .before) in
+    (omega arith, some-more (testing (at-loop .before)) (at-loop .loop .k) (at-loop .loop .inv .1) (this (c .before) ∙ c .if2 .left))
 
 returns-2 : tie.Need-returns-2 Inv-loop μ-loop
 unfolding waitsIn
 returns-2 c =
-    let a = c .before .before .before .args in
-    let e : c .before .loop .k ≡ a .used .records = omega (arith, c .before .before .wide-octet .ensures .0) in
-    sym (ap (someBelow (λ i. waitsOn (a .filenumbers .now) (a .f) (writeRecordAt (a .journal .now) (a .t) i))) (sym e) ∙ c .before .loop .inv .1)
+    let at-loop = c .before .before in
+    let s = at-loop .before in
+    let all : at-loop .loop .k ≡ s .args .used .records = omega arith in
+    sym (ap (someBelow (testing s)) (sym all) ∙ at-loop .loop .inv .1)
 
 pub waiting-spec : {M : Type 1} → statement M
 waiting-spec =
@@ -68,7 +77,6 @@ waiting-spec =
     (tie.spec
     Inv-loop
     μ-loop
-    wide-octet-requires
     loop-holds
     record-at-requires
     waits-requires

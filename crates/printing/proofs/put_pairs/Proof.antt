@@ -1,5 +1,5 @@
 -- `put_pairs` meets its contract. The loop's invariant: the pairs of the first i bytes are put. Assumes nothing.
-use Prim.Native.Nat.{ℕ, _+_, _-_, _*_, _≤_, _<_}
+use Prim.Native.Nat.{_+_, _-_, _*_, _≤_, _<_}
 use mathlib.Core.Path.{_≡_, sym}
 use mathlib.Core.List.{[], _∷_, _++_}
 use lib.Seq.{take-all, length-take-le}

@@ -1,26 +1,25 @@
--- `ranges::records_in` meets its contract. The loop's invariant: the records passed are in range, and the sum is that of their lengths.
-use Prim.Native.Nat.{_-_, _*_, _≤_}
-use mathlib.Core.Path.{_≡_, refl, ap, _∙_}
-use mathlib.Core.Bool.{true}
-use native.Mathlib.Omega.{arith}
-use lib.Dec.{eqb}
-use Rattle.record.specs.declared.journal.WriteRecord.{WriteRecord}
-use Rattle.record.specs.Journal.{writeRecordAt}
+-- `ranges::records_in` meets its contract.
 use Rattle.ranges.specs.Below.{below}
-use Rattle.ranges.specs.Ranges.{recordIn, lengthsBefore}
+use Rattle.ranges.specs.Ranges.{recordIn, lengthsBefore, journalPasses}
+use Rattle.record.specs.Layout.{transactionOf, journalOf}
+use Rattle.record.specs.Journal.{writeRecordAt}
+use Rattle.record.specs.declared.journal.WriteRecord.{WriteRecord}
+use mathlib.Core.Bool.{true}
+use mathlib.Core.Path.{ap, _∙_, _≡_}
+use lib.Dec.{eqb}
 use Rattle.ranges.proofs.Laws.{below-zero, below-more, below-at, below-fails}
 use Rattle.ranges.proofs.Tests.{descriptor-out, place-out, record-passes, lengths-none, lengths-more, and-fails, and-last}
+use Prim.Native.Nat.{_-_, _*_, _≤_}
+use native.Mathlib.Omega.{arith}
 use borrow.Author.Needs.{needs}
 use Rattle.ranges.proofs.records_in.Statement.{statement}
 use Rattle.ranges.proofs.records_in.Tie as tie
 
 abbrev Inv-loop : tie.InvT-loop
-Inv-loop t journal records bytes x sum₀ k₀ sum k =
-    (k ≤ records) × (below (λ j. recordIn x (writeRecordAt journal t j)) k ≡ true) × (sum ≡ lengthsBefore journal t k)
-    × (sum ≤ 65535 * k)
+Inv-loop kept t records bytes sum₀ k₀ sum k = (k ≤ records) × (below (λ j. recordIn (transactionOf kept t) (writeRecordAt (journalOf kept) t j)) k ≡ true) × (sum ≡ lengthsBefore (journalOf kept) t k) × (sum ≤ 65535 * k)
 
 abbrev μ-loop : tie.MeasureT-loop
-μ-loop t journal records bytes x sum₀ k₀ sum k = records - k
+μ-loop kept t records bytes sum₀ k₀ sum k = records - k
 
 loop-holds : tie.Need-loop-holds Inv-loop μ-loop
 loop-holds c = (omega arith, below-zero _, lengths-none _ _, omega arith)
@@ -32,26 +31,25 @@ wide-requires : tie.Need-wide-requires Inv-loop μ-loop
 wide-requires c κs = search needs
 
 returns : tie.Need-returns Inv-loop μ-loop
+unfolding journalPasses
 returns c =
     let i = c .before .before .before .before .loop in
     and-fails _ _ (below-fails _ (i .k) _ (omega arith) (descriptor-out _ _ _ (c .before .before .record-at .ensures) _ (c .before .wide .ensures .0) (c .if1 .taken)))
 
-mul-q : tie.Need-mul-q Inv-loop μ-loop
-mul-q c = search needs
-
-element-copy-out-q : tie.Need-element-copy-out-q Inv-loop μ-loop
-element-copy-out-q c = search needs
+standing-at-requires : tie.Need-standing-at-requires Inv-loop μ-loop
+standing-at-requires c κs = search needs
 
 place-in-requires : tie.Need-place-in-requires Inv-loop μ-loop
 place-in-requires c κs =
     let start = c .before .before .before .before .before .before in
-    below-at _ 16 (c .before .before .wide .result) (start .pre .2) (omega arith)
+    rw (c .standing-at .ensures) (below-at _ 16 (c .before .before .wide .result) (start .pre .2) (omega arith))
 
 returns-2 : tie.Need-returns-2 Inv-loop μ-loop
+unfolding journalPasses
 returns-2 c =
     let i = c .before .before .before .before .before .before .before .loop in
     and-fails _ _ (below-fails _ (i .k) _ (omega arith)
-    (place-out _ _ _ (c .before .before .before .before .before .record-at .ensures) _ (c .before .before .before .before .wide .ensures .0) (omega arith) _ refl _ (c .before .place-in .ensures) (c .if2 .taken)))
+    (place-out _ _ _ (c .before .before .before .before .before .record-at .ensures) _ (c .before .before .before .before .wide .ensures .0) (omega arith) _ (c .before .before .standing-at .ensures) _ (c .before .place-in .ensures) (c .if2 .taken)))
 
 wide-requires-2 : tie.Need-wide-requires-2 Inv-loop μ-loop
 wide-requires-2 c κs = search needs
@@ -71,12 +69,13 @@ loop-again c =
     let w = c .before .before .before .before .before .before .record-at .ensures in (
       omega arith,
       below-more _ _ (i .inv .1)
-          (record-passes _ _ _ w _ (c .before .before .before .before .before .wide .ensures .0) (omega arith) _ refl _ (c .before .before .place-in .ensures) (c .before .if2 .left)),
+          (record-passes _ _ _ w _ (c .before .before .before .before .before .wide .ensures .0) (omega arith) _ (c .before .before .before .standing-at .ensures) _ (c .before .before .place-in .ensures) (c .before .if2 .left)),
       lengths-more _ _ _ _ _ (i .inv .2) (c .wide2 .ensures .0 ∙ ap (λ (v : WriteRecord). v .length) w),
       omega arith,
     )
 
 returns-3 : tie.Need-returns-3 Inv-loop μ-loop
+unfolding journalPasses
 returns-3 c =
     let i = c .before .loop in
     let e : i .k ≡ c .before .before .args .records = omega arith in
@@ -92,8 +91,7 @@ records-in-spec =
     record-at-requires
     wide-requires
     returns
-    mul-q
-    element-copy-out-q
+    standing-at-requires
     place-in-requires
     returns-2
     wide-requires-2

@@ -1,25 +1,30 @@
 -- `ranges::transaction_in` meets its contract.
-use native.Mathlib.Omega.{arith}
-use borrow.Author.Needs.{needs}
+use mathlib.Core.Path.{ap, _∙_}
+use Rattle.counters.specs.declared.Used.{Used}
 use Rattle.ranges.proofs.Laws.{failed, held}
 use Rattle.ranges.proofs.Tests.{closed-in, records-fail, bytes-fail, standings-fail, records-decide}
+use native.Mathlib.Omega.{arith}
+use borrow.Author.Needs.{needs}
 use Rattle.ranges.proofs.transaction_in.Statement.{statement}
 use Rattle.ranges.proofs.transaction_in.Tie as tie
 
-returns : tie.Need-returns
-returns c = closed-in _ _ _ (c .if1 .taken)
+is-begun-requires : tie.Need-is-begun-requires
+is-begun-requires c κs = search needs
 
-wide-octet-requires : tie.Need-wide-octet-requires
-wide-octet-requires c κs = search needs
+returns : tie.Need-returns
+returns c = closed-in _ _ _ (failed (c .before .is-begun .ensures) (c .if1 .taken))
+
+used-at-requires : tie.Need-used-at-requires
+used-at-requires c κs = search needs
 
 wide-requires : tie.Need-wide-requires
 wide-requires c κs = search needs
 
 returns-2 : tie.Need-returns-2
-returns-2 c = records-fail _ _ _ (c .before .before .before .if1 .left) _ (c .before .before .wide-octet .ensures .0) (c .if2 .taken)
+returns-2 c = records-fail _ _ _ (held (c .before .before .before .before .is-begun .ensures) (c .before .before .before .if1 .left)) _ (ap (λ (u : Used). u .records) (c .before .before .used-at .ensures)) (c .if2 .taken)
 
 returns-3 : tie.Need-returns-3
-returns-3 c = bytes-fail _ _ _ (c .before .before .before .before .if1 .left) _ _ (c .before .before .before .wide-octet .ensures .0) (c .before .before .wide .ensures .0) (c .before .if2 .left) (c .if3 .taken)
+returns-3 c = bytes-fail _ _ _ (held (c .before .before .before .before .before .is-begun .ensures) (c .before .before .before .before .if1 .left)) _ _ (ap (λ (u : Used). u .records) (c .before .before .before .used-at .ensures)) (c .before .before .wide .ensures .0 ∙ ap (λ (u : Used). u .bytes) (c .before .before .before .used-at .ensures)) (c .before .if2 .left) (c .if3 .taken)
 
 standings-in-requires : tie.Need-standings-in-requires
 standings-in-requires c κs = search needs
@@ -27,7 +32,7 @@ standings-in-requires c κs = search needs
 returns-4 : tie.Need-returns-4
 returns-4 c =
     let i = c .before .before in
-    standings-fail _ _ _ (i .before .before .before .before .if1 .left) _ _ (i .before .before .before .wide-octet .ensures .0) (i .before .before .wide .ensures .0) (i .before .if2 .left) (i .if3 .left)
+    standings-fail _ _ _ (held (i .before .before .before .before .before .is-begun .ensures) (i .before .before .before .before .if1 .left)) _ _ (ap (λ (u : Used). u .records) (i .before .before .before .used-at .ensures)) (i .before .before .wide .ensures .0 ∙ ap (λ (u : Used). u .bytes) (i .before .before .before .used-at .ensures)) (i .before .if2 .left) (i .if3 .left)
     (failed (c .before .standings-in .ensures) (c .if4 .taken))
 
 records-in-requires : tie.Need-records-in-requires
@@ -36,15 +41,16 @@ records-in-requires c κs = (omega arith, omega arith, held (c .before .standing
 returns-5 : tie.Need-returns-5
 returns-5 c =
     let i = c .before .before .before in
-    records-decide _ _ _ (i .before .before .before .before .if1 .left) _ _ (i .before .before .before .wide-octet .ensures .0) (i .before .before .wide .ensures .0) (i .before .if2 .left) (i .if3 .left)
+    records-decide _ _ _ (held (i .before .before .before .before .before .is-begun .ensures) (i .before .before .before .before .if1 .left)) _ _ (ap (λ (u : Used). u .records) (i .before .before .before .used-at .ensures)) (i .before .before .wide .ensures .0 ∙ ap (λ (u : Used). u .bytes) (i .before .before .before .used-at .ensures)) (i .before .if2 .left) (i .if3 .left)
     _ (held (c .before .before .standings-in .ensures) (c .before .if4 .left)) (c .records-in .ensures)
 
 pub transaction-in-spec : {M : Type 1} → statement M
 transaction-in-spec =
     tie.close
     (tie.spec
+    is-begun-requires
     returns
-    wide-octet-requires
+    used-at-requires
     wide-requires
     returns-2
     returns-3

@@ -5,25 +5,28 @@ use native.Mathlib.Omega.{arith}
 use borrow.Author.Needs.{needs}
 use lib.ListN.{length}
 use Rattle.octets.specs.Parts.{pasted}
-use Rattle.runs.specs.Runs.{Recorded, recorded, extent}
+use Rattle.runs.specs.Runs.{Recorded, recordedIn, extent}
 use Rattle.reading.specs.Serving.{bytesOf, marksAfter}
 use Rattle.reading.proofs.FetchLaws.{bytes-none, bytes-more, bytes-all, marks-none, marks-more}
 use Rattle.reading.proofs.copy_runs.Statement.{statement}
 use Rattle.reading.proofs.copy_runs.Tie as tie
 
 abbrev Inv-loop : tie.InvT-loop
-Inv-loop journal filenumbers t used log file marks₀ e reader₀ i₀ marks reader i =
+Inv-loop kept file log marks₀ t used e reader₀ i₀ marks reader i =
     (i ≤ e .length)
     × (length marks ≡ length marks₀)
     × (length reader ≡ length reader₀)
-    × (reader ≡ pasted reader₀ 0 (bytesOf (recorded journal filenumbers) t (used .records) log file (extent (e .file) (e .place) i)))
-    × (marks ≡ marksAfter (recorded journal filenumbers) t (used .records) log file (extent (e .file) (e .place) i) marks₀)
+    × (reader ≡ pasted reader₀ 0 (bytesOf (recordedIn kept) t (used .records) log file (extent (e .file) (e .place) i)))
+    × (marks ≡ marksAfter (recordedIn kept) t (used .records) log file (extent (e .file) (e .place) i) marks₀)
 
 abbrev μ-loop : tie.MeasureT-loop
-μ-loop journal filenumbers t used log file marks₀ e reader₀ i₀ marks reader i = e .length - i
+μ-loop kept file log marks₀ t used e reader₀ i₀ marks reader i = e .length - i
 
 abbrev lent : tie.Start Inv-loop μ-loop → Recorded
-lent c = recorded (c .args .journal .now) (c .args .filenumbers .now)
+lent c = recordedIn (c .args .kept .now)
+
+abbrev start-of : tie.At-loop Inv-loop μ-loop → tie.Start Inv-loop μ-loop
+start-of c = c .before .before .before .before .before
 
 loop-holds : tie.Need-loop-holds Inv-loop μ-loop
 loop-holds c =
@@ -36,23 +39,22 @@ loop-holds c =
       sym (marks-none (lent s) (a .t) (a .used .records) (a .log .now) (a .file .now) (a .e .file) (a .e .place) (a .marks .now)),
     )
 
-add-t14 : tie.Need-add-t14 Inv-loop μ-loop
-add-t14 c =
-    record { fits = omega (arith, c .before .before .before .before .before .before .before .before .pre .0 .places) }
+add-t13 : tie.Need-add-t13 Inv-loop μ-loop
+add-t13 c = record { fits = omega (arith, start-of (c .before .before .before) .pre .0 .places) }
 
-sub-t15 : tie.Need-sub-t15 Inv-loop μ-loop
-sub-t15 c =
-    omega arith
+sub-t14 : tie.Need-sub-t14 Inv-loop μ-loop
+sub-t14 c = omega arith
 
 copy-run-requires : tie.Need-copy-run-requires Inv-loop μ-loop
 copy-run-requires c κs =
-    let s = c .before .before .before .before .before .before .before .before .before .before .before in
-    let l = c .before .before .before .before .before .before .loop in
+    let at-loop = c .before .before .before .before .before .before in
+    let s = start-of at-loop in
+    let l = at-loop .loop in
     let h = s .pre .0 in (
       record {
         counted = h .counted;
-        logLength = h .logLength;
         fileLength = h .fileLength;
+        logLength = h .logLength;
         marksLength = l .inv .1 ∙ h .marksLength;
         number = h .number;
         places = omega (arith, h .places, l .inv .0);
@@ -60,27 +62,34 @@ copy-run-requires c κs =
       (omega arith, omega (arith, s .pre .1, l .inv .2)),
     )
 
+-- The end of a turn: the run is copied.
+abbrev copied : tie.After-struct-known4 Inv-loop μ-loop → tie.After-copy-run Inv-loop μ-loop
+copied c = c .before .before .before .before .before
+
+abbrev in-turn : tie.After-struct-known4 Inv-loop μ-loop → tie.At-loop Inv-loop μ-loop
+in-turn c = copied c .before .before .before .before .before .before .before
+
 add-i : tie.Need-add-i Inv-loop μ-loop
-add-i c =
-    record { fits = omega (arith, c .before .before .before .before .before .copy-run .ensures .0 .within, c .before .before .before .before .before .before .before .before .before .before .before .before .before .before .before .before .before .pre .0 .places) }
+add-i c = record { fits = omega (arith, copied c .copy-run .ensures .0 .within, start-of (in-turn c) .pre .0 .places) }
 
 loop-less : tie.Need-loop-less Inv-loop μ-loop
-loop-less c =
-    omega (arith, c .before .before .before .before .before .copy-run .ensures .0 .some, c .before .before .before .before .before .copy-run .ensures .0 .within)
+loop-less c = omega (arith, copied c .copy-run .ensures .0 .some, copied c .copy-run .ensures .0 .within)
 
 loop-again : tie.Need-loop-again Inv-loop μ-loop
 loop-again c =
-    let s = c .before .before .before .before .before .before .before .before .before .before .before .before .before .before .before .before .before in
+    let s = start-of (in-turn c) in
     let a = s .args in
-    let l = c .before .before .before .before .before .before .before .before .before .before .before .before .loop in
-    let r = c .before .before .before .before .before .copy-run in (
+    let l = in-turn c .loop in
+    let r = copied c .copy-run in (
       omega (arith, r .ensures .0 .within),
-      r .kept .1 .1 .1 .1 .1 .1 .0 ∙ l .inv .1,
-      r .kept .1 .1 .1 .1 .1 .1 .1 .1 .0 ∙ l .inv .2,
+      r .kept .1 .1 .1 .0 ∙ l .inv .1,
+      r .kept .1 .1 .1 .1 .1 .1 .1 .0 ∙ l .inv .2,
       r .ensures .1 .0
-          ∙ bytes-more (lent s) (a .t) (a .used .records) (a .log .now) (a .file .now) (a .e .file) (a .e .place) (a .reader .now) (l .i) (r .result .length) _ _ (l .inv .3) (omega arith) (omega (arith, r .ensures .0 .within, s .pre .1)),
+          ∙ bytes-more (lent s) (a .t) (a .used .records) (a .log .now) (a .file .now) (a .e .file) (a .e .place) (a .reader .now) (l .i) (r .result .length) _ _
+          (l .inv .3) (omega arith) (omega (arith, r .ensures .0 .within, s .pre .1)),
       r .ensures .1 .1
-          ∙ marks-more (lent s) (a .t) (a .used .records) (a .log .now) (a .file .now) (a .e .file) (a .e .place) (a .marks .now) (l .i) (r .result .length) _ _ (l .inv .4) (omega arith),
+          ∙ marks-more (lent s) (a .t) (a .used .records) (a .log .now) (a .file .now) (a .e .file) (a .e .place) (a .marks .now) (l .i) (r .result .length) _ _
+          (l .inv .4) (omega arith),
     )
 
 same-length : tie.Need-same-length Inv-loop μ-loop
@@ -91,9 +100,10 @@ same-length-2 c = search needs
 
 returns : tie.Need-returns Inv-loop μ-loop
 returns c =
-    let s = c .before .before .before .before .before .before .before in
+    let at-loop = c .before .before in
+    let s = start-of at-loop in
     let a = s .args in
-    let l = c .before .before .loop in
+    let l = at-loop .loop in
     let q : l .i ≡ a .e .length = omega arith in (
       l .inv .3
           ∙ ap (λ (n : ℕ). pasted (a .reader .now) 0 (bytesOf (lent s) (a .t) (a .used .records) (a .log .now) (a .file .now) (extent (a .e .file) (a .e .place) n))) q
@@ -108,8 +118,8 @@ copy-runs-spec =
     Inv-loop
     μ-loop
     loop-holds
-    add-t14
-    sub-t15
+    add-t13
+    sub-t14
     copy-run-requires
     add-i
     loop-less

@@ -2,17 +2,17 @@
 use mathlib.Core.Bool.{Bool, true, false}
 use mathlib.Core.List.{List, [], _∷_, _++_, map, map-append}
 use mathlib.Core.Logic.{_⊎_, inl, inr, ⊎-elim}
-use mathlib.Core.Path.{_≡_, refl, sym, ap, ap₂, _∙_}
+use mathlib.Core.Path.{_≡_, refl, sym, ap, _∙_}
 use borrow.Author.Tests.{eqb-true, eqb-false}
 use lib.Dec.{eqb}
-use lib.ListN.{length, getD, set, length-set}
-use lib.Seq.{ext-getD, getD-set-same, getD-set-other, set-getD}
+use lib.ListN.{length, getD, set}
+use lib.Seq.{ext-getD, set-getD}
 use native.Mathlib.Nat.{eq-or-lt-of-le, le-of-suc-le-suc, not-suc-le-zero}
 use native.Mathlib.Omega.{arith}
 use Prim.Native.Nat.{ℕ, zero, suc, _+_, _≤_, _<_}
 use Rattle.octets.specs.Parts.{pasted, tabulate}
 use Rattle.octets.proofs.PartLaws.{pasted-none, pasted-more}
-use Rattle.octets.proofs.TableLaws.{length-tabulate, getD-tabulate}
+use Rattle.octets.proofs.TableLaws.{length-tabulate, getD-tabulate, table-same, table-set}
 use Rattle.ranges.specs.Below.{sum}
 
 -- Two numbers are the same or not.
@@ -25,10 +25,7 @@ same-or-not a b = pick (eqb a b) refl
 
 module _ {A : Type 0} where
   pub tabulate-same : (f g : ℕ → A) (n : ℕ) → ((k : ℕ) → k < n → f k ≡ g k) → tabulate f n ≡ tabulate g n
-  unfolding tabulate
-  tabulate-same f g zero h = refl
-  tabulate-same f g (suc n) h =
-      ap₂ (λ (l : List A) (a : A). l ++ (a ∷ [])) (tabulate-same f g n (λ k l. h k (omega arith))) (h n (omega arith))
+  tabulate-same = table-same
 
   -- Every list is the table of its elements.
   pub tabulate-getD : (l : List A) (z : A) → tabulate (λ k. getD l k z) (length l) ≡ l
@@ -38,17 +35,7 @@ module _ {A : Type 0} where
 
   -- A table that differs from another at one number.
   pub tabulate-set : (f g : ℕ → A) (n d : ℕ) (a : A) → d < n → g d ≡ a → ((k : ℕ) → (k ≡ d → ⊥) → g k ≡ f k) → tabulate g n ≡ set (tabulate f n) d a
-  tabulate-set f g n d a h here other =
-      ext-getD a (tabulate g n) (set (tabulate f n) d a) (length-tabulate g n ∙ sym (length-set (tabulate f n) d a ∙ length-tabulate f n))
-      (λ k l. let m : k < n = rw length-tabulate at l in getD-tabulate g n k a m ∙ pick k m (eqb k d) refl)
-    where
-      pick : (k : ℕ) → k < n → (b : Bool) → eqb k d ≡ b → g k ≡ getD (set (tabulate f n) d a) k a
-      pick k m true e =
-          let q = eqb-true k d e in
-          ap g q ∙ here ∙ sym (ap (λ (i : ℕ). getD (set (tabulate f n) d a) i a) q ∙ getD-set-same (tabulate f n) d a a (rw length-tabulate h))
-      pick k m false e =
-          let q = eqb-false k d e in
-          other k q ∙ sym (getD-set-other (tabulate f n) d k a a q ∙ getD-tabulate f n k a m)
+  tabulate-set f g n d a h here other = table-set f g n d a h here (λ k _ q. other k q)
 
   -- What holds of every element of a list and of one more holds of every element of the longer list.
   pub every-snoc : (P : A → Type 0) (l : List A) (a z : A) → ((k : ℕ) → k < length l → P (getD l k z)) → P a

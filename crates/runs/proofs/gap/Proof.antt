@@ -1,13 +1,19 @@
 -- `runs::gap` meets its contract. Assumes nothing.
+use mathlib.Core.List.{List}
 use mathlib.Core.Path.{_≡_, sym, ap, _∙_}
 use Prim.Native.Nat.{ℕ}
 use native.Mathlib.Omega.{arith}
 use lib.ListN.{getD}
 use Rattle.standings.specs.Table.{placeNumber}
+use Rattle.record.specs.Layout.{storeOf}
 use Rattle.runs.proofs.RunLaws.{gap-unplaced, gap-other-file, gap-before, gap-empty, gap-over, gap-after}
 use borrow.Author.Needs.{needs}
 use Rattle.runs.proofs.gap.Statement.{statement}
 use Rattle.runs.proofs.gap.Tie as tie
+
+-- Each descriptor's file, as lent.
+abbrev numbers : tie.Start → List ℕ
+numbers s = storeOf (s .args .kept .now) .filenumbers
 
 enum-known-place : tie.Need-enum-known-place
 enum-known-place c = search needs
@@ -17,27 +23,31 @@ enum-told c = search needs
 
 returns : tie.Need-returns
 returns c =
-    let a = c .before .before .args in
-    gap-unplaced (a .filenumbers .now) (a .w) (a .e) _ (c .enum-told .given .1)
+    let s = c .before .before in
+    gap-unplaced (numbers s) (s .args .w) (s .args .e) _ (c .enum-told .given .1)
 
 wide-requires : tie.Need-wide-requires
 wide-requires c κs = search needs
 
--- The descriptor whose file is looked up.
-descriptor-is : (c : tie.After-wide) → c .wide .result ≡ c .before .before .before .before .args .w .descriptor
-descriptor-is c = omega arith
+file-at-requires : tie.Need-file-at-requires
+file-at-requires c κs = search needs
 
-element-copy-out-if1 : tie.Need-element-copy-out-if1
-element-copy-out-if1 c = search needs
+-- The file that is looked up is that of the record's descriptor.
+abbrev start-of : tie.After-file-at → tie.Start
+start-of c = c .before .before .before .before .before
+
+file-is : (c : tie.After-file-at) → c .file-at .result ≡ getD (numbers (start-of c)) (start-of c .args .w .descriptor) 0
+file-is c = c .file-at .ensures ∙ ap (λ (d : ℕ). getD (numbers (start-of c)) d 0) (c .before .wide .ensures .0)
 
 returns-2 : tie.Need-returns-2
 returns-2 c =
-    let a = c .before .before .before .before .before .before .before .args in
-    gap-other-file (a .filenumbers .now) (a .w) (a .e) (λ q. c .if1 .taken (ap (λ (d : ℕ). getD (a .filenumbers .now) d 0) (descriptor-is (c .before .before .before)) ∙ q))
+    let looked = c .before .before in
+    let s = start-of looked in
+    gap-other-file (numbers s) (s .args .w) (s .args .e) (λ q. c .if1 .taken (file-is looked ∙ q))
 
 -- The record is one of the file.
-there : (c : tie.Else1) → getD (c .before .before .before .before .before .before .before .args .filenumbers .now) (c .before .before .before .before .before .before .before .args .w .descriptor) 0 ≡ c .before .before .before .before .before .before .before .args .e .file
-there c = ap (λ (d : ℕ). getD (c .before .before .before .before .before .before .before .args .filenumbers .now) d 0) (sym (descriptor-is (c .before .before .before))) ∙ c .if1 .left
+there : (c : tie.Else1) → let s = start-of (c .before .before) in getD (numbers s) (s .args .w .descriptor) 0 ≡ s .args .e .file
+there c = sym (file-is (c .before .before)) ∙ c .if1 .left
 
 wide-requires-2 : tie.Need-wide-requires-2
 wide-requires-2 c κs = search needs
@@ -48,22 +58,29 @@ wide-requires-3 c κs = search needs
 add-end : tie.Need-add-end
 add-end c = search needs
 
+-- Before its ends are known: the record is one of the file, and has a place.
+abbrev here : tie.After-wide3 → tie.Else1
+here c = c .before .before
+
+abbrev at-place : tie.After-wide3 → tie.After-place
+at-place c = here c .before .before .before .before .before
+
 returns-3 : tie.Need-returns-3
 returns-3 c =
-    let a = c .before .before .before .before .before .before .before .before .before .before .before .args in
-    let x = c .before .before .before .before .before .before .before .before .before .place .given in
-    gap-before (a .filenumbers .now) (a .w) (a .e) (omega (arith, ap placeNumber (x .1)))
+    let ends = c .before .before in
+    let s = start-of (here ends .before .before) in
+    gap-before (numbers s) (s .args .w) (s .args .e) (omega (arith, ap placeNumber (at-place ends .place .given .1)))
 
 returns-4 : tie.Need-returns-4
 returns-4 c =
-    let a = c .before .before .before .before .before .before .before .before .before .before .before .before .before .args in
-    let x = c .before .before .before .before .before .before .before .before .before .before .before .place .given in
-    gap-over (a .filenumbers .now) (a .w) (a .e) _ (x .1) (there (c .before .before .before .before .before .before)) (omega arith) (omega arith)
+    let ends = c .before .before .before .before in
+    let s = start-of (here ends .before .before) in
+    gap-over (numbers s) (s .args .w) (s .args .e) _ (at-place ends .place .given .1) (there (here ends)) (omega arith) (omega arith)
 
 returns-5 : tie.Need-returns-5
 returns-5 c =
-    let a = c .before .before .before .before .before .before .before .before .before .before .before .before .before .before .args in
-    gap-empty (a .filenumbers .now) (a .w) (a .e) (omega arith)
+    let s = start-of (here (c .before .before .before .before .before) .before .before) in
+    gap-empty (numbers s) (s .args .w) (s .args .e) (omega arith)
 
 sub-smaller : tie.Need-sub-smaller
 sub-smaller c = search needs
@@ -73,9 +90,9 @@ smaller-requires c κs = search needs
 
 returns-6 : tie.Need-returns-6
 returns-6 c =
-    let a = c .before .before .before .before .before .before .before .before .before .before .before .before .before .before .before .before .args in
-    let x = c .before .before .before .before .before .before .before .before .before .before .before .before .before .before .place .given in
-    gap-after (a .filenumbers .now) (a .w) (a .e) _ (x .1) (there (c .before .before .before .before .before .before .before .before .before)) (omega arith) (omega arith) _ (omega arith)
+    let ends = c .before .before .before .before .before .before .before in
+    let s = start-of (here ends .before .before) in
+    gap-after (numbers s) (s .args .w) (s .args .e) _ (at-place ends .place .given .1) (there (here ends)) (omega arith) (omega arith) _ (omega arith)
 
 pub gap-spec : {M : Type 1} → statement M
 gap-spec =
@@ -85,7 +102,7 @@ gap-spec =
     enum-told
     returns
     wide-requires
-    element-copy-out-if1
+    file-at-requires
     returns-2
     wide-requires-2
     wide-requires-3

@@ -1,40 +1,42 @@
--- `any` meets its contract. The loop's invariant: none below `e` is chosen.
-use mathlib.Core.Bool.{false}
-use mathlib.Core.Path.{_≡_}
-use borrow.Author.Count.{below-none, below-more}
-use borrow.Author.Needs.{needs}
+-- `settling::any` meets its contract. The loop's invariant: where none was found, none below `e` is chosen.
+use mathlib.Core.Bool.{Bool, true, false, _||_}
+use mathlib.Core.Logic.{⊎-elim}
+use mathlib.Core.Path.{_≡_, refl, ap, _∙_}
 use lib.ListN.{getD}
+use native.Mathlib.Nat.{eq-or-lt-of-le, le-of-suc-le-suc}
+use native.Mathlib.Numerals.{add-one}
 use native.Mathlib.Omega.{arith}
-use Prim.Native.Nat.{ℕ, _-_, _≤_, _<_}
+use borrow.Author.Needs.{needs}
+use Prim.Native.Nat.{ℕ, _+_, _-_, _≤_, _<_}
 use Rattle.settling.proofs.any.Statement.{statement}
 use Rattle.settling.proofs.any.Tie as tie
 
+neither : (a b : Bool) → a || b ≡ false → (a ≡ false) × (b ≡ false)
+neither true b e = absurd (let z : _≡_ {A = ℕ} 0 1 = cc in omega arith)
+neither false b e = (refl, e)
+
+none-more : (p : ℕ → Bool) (n : ℕ) (a : Bool) → (a ≡ false → (k : ℕ) → k < n → p k ≡ false) → a || p n ≡ false → (k : ℕ) → k < n + 1 → p k ≡ false
+none-more p n a none e k h =
+    let w = neither a (p n) e in
+    ⊎-elim (λ q. ap p q ∙ w .1) (λ l. none (w .0) k l) (eq-or-lt-of-le (le-of-suc-le-suc (rw add-one at h)))
+
 abbrev Inv-loop : tie.InvT-loop
-Inv-loop chosen e₀ e = (e ≤ 16) × ((k : ℕ) → k < e → getD chosen k false ≡ false)
+Inv-loop chosen found₀ e₀ found e = (e ≤ 16) × (found ≡ false → (k : ℕ) → k < e → getD chosen k false ≡ false)
 
 abbrev μ-loop : tie.MeasureT-loop
-μ-loop chosen e₀ e = 16 - e
+μ-loop chosen found₀ e₀ found e = 16 - e
 
 loop-holds : tie.Need-loop-holds Inv-loop μ-loop
-loop-holds c = (search needs, below-none _)
-
-array-read-if1 : tie.Need-array-read-if1 Inv-loop μ-loop
-array-read-if1 c = search needs
-
-returns : tie.Need-returns Inv-loop μ-loop
-returns c = λ q. absurd (let z : _≡_ {A = ℕ} 0 1 = cc in omega arith)
-
-add-e : tie.Need-add-e Inv-loop μ-loop
-add-e c = search needs
-
-loop-less : tie.Need-loop-less Inv-loop μ-loop
-loop-less c = search needs
+loop-holds c = (omega arith, λ f k h. absurd (omega arith))
 
 loop-again : tie.Need-loop-again Inv-loop μ-loop
-loop-again c = (search needs, below-more _ _ (c .before .before .loop .inv .1) (c .if1 .left))
+loop-again c =
+    let l = c .before .loop in
+    let chosen = c .before .before .args .t1 in
+    (omega arith, none-more (λ k. getD chosen k false) (l .e) (l .found) (l .inv .1))
 
-returns-2 : tie.Need-returns-2 Inv-loop μ-loop
-returns-2 c = λ q e h. c .before .loop .inv .1 e (omega arith)
+returns : tie.Need-returns Inv-loop μ-loop
+returns c f k h = let l = c .before .loop in l .inv .1 f k (omega arith)
 
 pub any-spec : {M : Type 1} → statement M
 any-spec =
@@ -43,9 +45,8 @@ any-spec =
     Inv-loop
     μ-loop
     loop-holds
-    array-read-if1
-    returns
-    add-e
-    loop-less
+    (λ c. search needs)
+    (λ c. search needs)
+    (λ c. search needs)
     loop-again
-    returns-2)
+    returns)

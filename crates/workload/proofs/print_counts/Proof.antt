@@ -1,4 +1,3 @@
--- `print_counts` meets its contract. The loop's invariant: the index is at most 23.
 use Prim.Native.Nat.{_-_, _≤_}
 use borrow.Author.Needs.{needs}
 use Rattle.workload.proofs.print_counts.Statement.{statement}

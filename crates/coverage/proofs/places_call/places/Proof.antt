@@ -1,19 +1,22 @@
 -- `coverage::places` meets its contract.
-use mathlib.Core.Bool.{Bool}
-use mathlib.Core.Path.{_≡_, sym, _∙_}
+use mathlib.Core.Bool.{true}
+use mathlib.Core.Path.{_≡_, refl, sym, ap, subst, _∙_}
 use borrow.Author.Needs.{needs}
-use borrow.Author.Tests.{not-true, not-false}
 use native.Mathlib.Omega.{arith}
-use Prim.Native.Nat.{ℕ}
+use Rattle.counters.specs.declared.Used.{Used}
 use Rattle.record.specs.State.{transaction}
-use Rattle.record.specs.declared.outcomes.Refusal.the-variants.{NotOpen, NoSuchDescriptor, NoPlaceYet, ListTooLong}
+use Rattle.record.specs.Layout.{journalOf}
+use Rattle.record.specs.declared.Transaction.{Transaction}
+use Rattle.record.specs.declared.outcomes.Refusal.the-variants.{NotOpen, NoSuchTarget, NoPlaceYet, ListTooLong}
+use Rattle.record.proofs.LayoutLaws.{length-journal, transaction-of}
 use Rattle.ranges.specs.Ranges.{admission}
-use Rattle.rules.specs.Machine.{Machine, lent, sizes}
+use Rattle.rules.specs.Machine.{Machine, sizes}
 use Rattle.rules.specs.Calls.{call, admitted, placesTurn}
-use Rattle.laws.proofs.Owned.{shaped}
+use Rattle.rules.specs.Promises.{machineOf}
+use Rattle.laws.proofs.Shapes.{shaped}
 use Rattle.laws.proofs.Decoded.{Opened, opened}
-use Rattle.refusing.proofs.Turns.{LetThrough, sharedWith, gate-refused, gate-passed, gate-let-through, admission-open, admitted-closed, turned-meets}
-use Rattle.runs.specs.Runs.{recorded, Counted}
+use Rattle.refusing.proofs.Turns.{LetThrough, sharedWith, gate-refused, gate-passed, gate-let-through, is-open, is-closed, admission-open, admitted-closed, turned-follows}
+use Rattle.runs.specs.Runs.{recordedIn, Counted}
 use Rattle.runs.proofs.RunLaws.{counted}
 use Rattle.coverage.specs.Covering.{coveredAt}
 use Rattle.coverage.proofs.PlacesRules.{stretches-few, places-no-file, places-waiting, places-too-long, places-meets}
@@ -22,7 +25,7 @@ use Rattle.coverage.proofs.places_call.places.Tie as tie
 
 -- What the caller lent.
 abbrev machine : tie.Start → Machine
-machine c = lent (c .args .t1) (c .args .journal .now) (c .args .files .now) (c .args .logs .now) (c .args .marks .now)
+machine c = machineOf (c .args .kept .now) (c .args .files .now) (c .args .logs .now) (c .args .marks .now)
 
 -- The start of a call that tests 1 to 3 have let through, and what they told.
 abbrev start-of : tie.After-enum-told → tie.Start
@@ -36,24 +39,37 @@ let-through c = gate-let-through _ (machine (start-of c)) (start-of c .args .t) 
 
 -- The transaction is open.
 abbrev told-of : tie.Else1 → tie.After-enum-told
-told-of c = c .before .before .before
+told-of c = c .before .before
 
 abbrev first : tie.Else1 → tie.Start
 first c = start-of (told-of c)
 
+begun : (c : tie.Else1) → transaction (machine (first c) .store) (first c .args .t) .begun ≡ true
+begun c = is-open (first c .args .kept .now) (first c .args .t) (let-through (told-of c) .small) (c .before .is-begun .ensures) (c .if1 .left)
+
 admits : (c : tie.Else1) → let m = machine (first c) in admission (sizes m) (m .store) (m .journal) (first c .args .t) ≡ 0
-admits c = admission-open (machine (first c)) (first c .args .t) (passed (told-of c)) (not-false _ (c .if1 .left))
+admits c = admission-open (machine (first c)) (first c .args .t) (passed (told-of c)) (begun c)
 
-is-open : (c : tie.Else1) → let a = first c .args in Opened (a .t1) (a .journal .now) (a .logs .now) (a .t)
-is-open c =
-    opened (machine (first c)) (first c .args .t) (shaped _ _ (first c .good .0)) (told-of c .before .before .admit .ensures .1) (let-through (told-of c)) (not-false _ (c .if1 .left))
+open-here : (c : tie.Else1) → let m = machine (first c) in Opened (m .store) (m .journal) (m .logs) (first c .args .t)
+open-here c =
+    let kept = first c .args .kept .now in
+    opened (machine (first c)) (first c .args .t) (shaped kept) (length-journal kept) (let-through (told-of c)) (begun c)
 
-in-counts : (c : tie.Else1) → let a = first c .args in Counted (a .journal .now) (a .t) (transaction (a .t1) (a .t) .used)
-in-counts c = let a = first c .args in counted (transaction (a .t1) (a .t)) (a .journal .now) (a .t) (is-open c .small) (is-open c .ranges)
+-- Its counters, as they were read.
+abbrev went-on : tie.After-used-at → tie.Else1
+went-on c = c .before .before
 
--- The places that its writes cover.
-abbrev covering : tie.Else1 → ℕ → Bool
-covering c = let a = first c .args in coveredAt (recorded (a .journal .now) (a .t1 .filenumbers)) (a .t) (transaction (a .t1) (a .t) .used .records) (a .f)
+used-is : (c : tie.After-used-at) → let s = first (went-on c) in c .used-at .result ≡ transaction (machine s .store) (s .args .t) .used
+used-is c =
+    let a = first (went-on c) .args in
+    c .used-at .ensures ∙ sym (ap (λ (x : Transaction). x .used) (transaction-of (a .kept .now) (a .t) (let-through (told-of (went-on c)) .small)))
+
+in-counts : (c : tie.After-used-at) → let a = first (went-on c) .args in Counted (journalOf (a .kept .now)) (a .t) (c .used-at .result)
+in-counts c =
+    let s = first (went-on c) in
+    let o = open-here (went-on c) in
+    subst (λ (u : Used). Counted (machine s .journal) (s .args .t) u) (sym (used-is c))
+    (counted (transaction (machine s .store) (s .args .t)) (machine s .journal) (s .args .t) (o .small) (o .ranges))
 
 admit-requires : tie.Need-admit-requires
 admit-requires c κs = search needs
@@ -61,104 +77,102 @@ admit-requires c κs = search needs
 enum-known-g : tie.Need-enum-known-g
 enum-known-g c = search needs
 
-turned-down-requires : tie.Need-turned-down-requires
-turned-down-requires c κs = search needs
-
 returns : tie.Need-returns
 unfolding call admitted admission
 returns c =
-    let gate = c .before .before .before .before in
+    let gate = c .before .before .before in
     let start = gate .before .before .before .before .before in
     let m = machine start in
     let out = start .args .out .now in
-    let e = gate-refused _ m (start .args .t) (gate .admit .ensures .0) _ _ out (placesTurn (start .args .t) (start .args .f) out m) (c .before .before .g .given .1) in
-    turned-meets _ _ out m _ e (c .turned-down .ensures .0) (c .turned-down .ensures .1)
+    let e = gate-refused _ m (start .args .t) (gate .admit .ensures .0) _ _ out (placesTurn (start .args .t) (start .args .f) out m) (c .before .g .given .1) in
+    turned-follows _ out _ _ _ _ _ e
 
 enum-told : tie.Need-enum-told
 enum-told c = search needs
 
-mul-x : tie.Need-mul-x
-mul-x c = omega (arith, let-through c .small)
-
-element-copy-out-x : tie.Need-element-copy-out-x
-element-copy-out-x c = let-through c .small
-
-turned-down-requires-2 : tie.Need-turned-down-requires-2
-turned-down-requires-2 c κs = search needs
+is-begun-requires : tie.Need-is-begun-requires
+is-begun-requires c κs = let-through c .small
 
 returns-2 : tie.Need-returns-2
 unfolding call
 returns-2 c =
-    let told = c .before .before .before .before in
+    let told = c .before .before in
     let start = start-of told in
     let m = machine start in
     let out = start .args .out .now in
-    let e = admitted-closed m (start .args .t) (passed told) (not-true _ (c .before .if1 .taken)) out (placesTurn (start .args .t) (start .args .f) out m) in
-    turned-meets _ NotOpen out m _ e (c .turned-down2 .ensures .0) (c .turned-down2 .ensures .1)
-
-turned-down-requires-3 : tie.Need-turned-down-requires-3
-turned-down-requires-3 c κs = search needs
+    let closed = is-closed (start .args .kept .now) (start .args .t) (let-through told .small) (c .before .is-begun .ensures) (c .if1 .taken) in
+    turned-follows NotOpen out _ _ _ _ _ (admitted-closed m (start .args .t) (passed told) closed out (placesTurn (start .args .t) (start .args .f) out m))
 
 returns-3 : tie.Need-returns-3
 returns-3 c =
-    let start = first (c .before .before) in
-    let m = machine start in
+    let start = first (c .before) in
     let out = start .args .out .now in
-    let e = places-no-file (start .args .t) (start .args .f) out m (admits (c .before .before)) (c .before .if2 .taken) in
-    turned-meets _ NoSuchDescriptor out m _ e (c .turned-down3 .ensures .0) (c .turned-down3 .ensures .1)
+    turned-follows NoSuchTarget out _ _ _ _ _ (places-no-file (start .args .t) (start .args .f) out (machine start) (admits (c .before)) (c .if2 .taken))
+
+used-at-requires : tie.Need-used-at-requires
+used-at-requires c κs = let-through (told-of (c .before)) .small
 
 cast-file : tie.Need-cast-file
 cast-file c = search needs
 
 waiting-requires : tie.Need-waiting-requires
-waiting-requires c κs = in-counts (c .before .before .before .before)
-
-turned-down-requires-4 : tie.Need-turned-down-requires-4
-turned-down-requires-4 c κs = search needs
+waiting-requires c κs = in-counts c
 
 returns-4 : tie.Need-returns-4
 returns-4 c =
-    let start = first (c .before .before .before .before .before .before .before) in
-    let m = machine start in
+    let read = c .before .before in
+    let start = first (went-on read) in
     let out = start .args .out .now in
-    let e =
-    places-waiting (start .args .t) (start .args .f) out m (admits (c .before .before .before .before .before .before .before)) (c .before .before .before .before .before .before .if2 .left)
-    (sym (c .before .before .waiting .ensures) ∙ c .before .if3 .taken) in
-    turned-meets _ NoPlaceYet out m _ e (c .turned-down4 .ensures .0) (c .turned-down4 .ensures .1)
+    turned-follows NoPlaceYet out _ _ _ _ _
+    (places-waiting (start .args .t) (start .args .f) out (machine start) (admits (went-on read)) (read .before .if2 .left) _ (ap (λ (u : Used). u .records) (used-is read))
+    (sym (c .before .waiting .ensures) ∙ c .if3 .taken))
+
+-- Each of its writes on the file has a place.
+abbrev placed-of : tie.After-count-stretches → tie.After-waiting
+placed-of c = c .before .before
+
+abbrev read-of : tie.After-count-stretches → tie.After-used-at
+read-of c = placed-of c .before
 
 count-stretches-requires : tie.Need-count-stretches-requires
-count-stretches-requires c κs = in-counts (c .before .before .before .before .before .before .before .before)
-
-turned-down-requires-5 : tie.Need-turned-down-requires-5
-turned-down-requires-5 c κs = search needs
+count-stretches-requires c κs = in-counts (c .before .before)
 
 returns-5 : tie.Need-returns-5
 returns-5 c =
-    let start = first (c .before .before .before .before .before .before .before .before .before .before .before) in
-    let m = machine start in
+    let n = c .before in
+    let read = read-of n in
+    let start = first (went-on read) in
     let out = start .args .out .now in
-    let e =
-    places-too-long (start .args .t) (start .args .f) out m (admits (c .before .before .before .before .before .before .before .before .before .before .before)) (c .before .before .before .before .before .before .before .before .before .before .if2 .left) (is-open (c .before .before .before .before .before .before .before .before .before .before .before))
-    (sym (c .before .before .before .before .before .before .waiting .ensures) ∙ c .before .before .before .before .before .if3 .left) (omega (arith, c .before .if4 .taken, c .before .before .count-stretches .ensures)) in
-    turned-meets _ ListTooLong out m _ e (c .turned-down5 .ensures .0) (c .turned-down5 .ensures .1)
+    turned-follows ListTooLong out _ _ _ _ _
+    (places-too-long (start .args .t) (start .args .f) out (machine start) (admits (went-on read)) (read .before .if2 .left) _ (ap (λ (u : Used). u .records) (used-is read))
+    (open-here (went-on read)) (sym (placed-of n .waiting .ensures) ∙ n .before .if3 .left) (omega (arith, c .if4 .taken, n .count-stretches .ensures)))
 
 write-stretches-requires : tie.Need-write-stretches-requires
-write-stretches-requires c κs = (in-counts (c .before .before .before .before .before .before .before .before .before .before .before .before .before), omega (arith, c .before .before .before .if4 .left, c .before .before .before .before .count-stretches .ensures))
+write-stretches-requires c κs =
+    let n = c .before .before in
+    (in-counts (read-of n), omega (arith, c .before .if4 .left, n .count-stretches .ensures))
 
-cast-t40 : tie.Need-cast-t40
-cast-t40 c = omega (arith, c .before .before .before .before .before .before .before .count-stretches .ensures, stretches-few (covering (c .before .before .before .before .before .before .before .before .before .before .before .before .before .before .before .before)))
+cast-t26 : tie.Need-cast-t26
+cast-t26 c =
+    let n = c .before .before .before .before .before in
+    let a = first (went-on (read-of n)) .args in
+    omega (arith, n .count-stretches .ensures, stretches-few (coveredAt (recordedIn (a .kept .now)) (a .t) (read-of n .used-at .result .records) (a .f)))
 
 same-length : tie.Need-same-length
 same-length c = search needs
 
 returns-6 : tie.Need-returns-6
 returns-6 c =
-    let start = first (c .before .before .before .before .before .before .before .before .before .before .before .before .before .before .before .before) in
-    let m = machine start in
-    let out = start .args .out .now in
-    rw (c .before .before .write-stretches .ensures)
-    (places-meets (start .args .t) (start .args .f) out m (admits (c .before .before .before .before .before .before .before .before .before .before .before .before .before .before .before .before)) (c .before .before .before .before .before .before .before .before .before .before .before .before .before .before .before .if2 .left) (is-open (c .before .before .before .before .before .before .before .before .before .before .before .before .before .before .before .before))
-    (sym (c .before .before .before .before .before .before .before .before .before .before .before .waiting .ensures) ∙ c .before .before .before .before .before .before .before .before .before .before .if3 .left) (omega (arith, c .before .before .before .before .before .before .if4 .left, c .before .before .before .before .before .before .before .count-stretches .ensures)) _ (c .before .before .before .before .before .before .before .count-stretches .ensures))
+    let n = c .before .before .before .before .before in
+    let read = read-of n in
+    let start = first (went-on read) in
+    let out = start .args .out .now in (
+      rw (c .before .before .write-stretches .ensures)
+          (places-meets (start .args .t) (start .args .f) out (machine start) (admits (went-on read)) (read .before .if2 .left) _ (ap (λ (u : Used). u .records) (used-is read))
+          (open-here (went-on read)) (sym (placed-of n .waiting .ensures) ∙ n .before .if3 .left)
+          (omega (arith, c .before .before .before .before .if4 .left, n .count-stretches .ensures)) _ (n .count-stretches .ensures)),
+      λ r e h. refl,
+    )
 
 pub places-spec : {M : Type 1} → statement M
 places-spec =
@@ -166,23 +180,18 @@ places-spec =
     (tie.spec
     admit-requires
     enum-known-g
-    turned-down-requires
     returns
     enum-told
-    mul-x
-    element-copy-out-x
-    turned-down-requires-2
+    is-begun-requires
     returns-2
-    turned-down-requires-3
     returns-3
+    used-at-requires
     cast-file
     waiting-requires
-    turned-down-requires-4
     returns-4
     count-stretches-requires
-    turned-down-requires-5
     returns-5
     write-stretches-requires
-    cast-t40
+    cast-t26
     same-length
     returns-6)

@@ -6,10 +6,10 @@ use Rattle.digests.proofs.digest.writes_taken.Statement.{statement}
 use Rattle.digests.proofs.digest.writes_taken.Tie as tie
 
 abbrev Inv-loop : tie.InvT-loop
-Inv-loop h journal t n records out₀ k₀ out k = Digest out × (k ≤ records) × (records ≤ 64)
+Inv-loop h kept t n records out₀ k₀ out k = Digest out × (k ≤ records) × (records ≤ 64)
 
 abbrev μ-loop : tie.MeasureT-loop
-μ-loop h journal t n records out₀ k₀ out k = records - k
+μ-loop h kept t n records out₀ k₀ out k = records - k
 
 smaller-requires : tie.Need-smaller-requires Inv-loop μ-loop
 smaller-requires c κs = search needs

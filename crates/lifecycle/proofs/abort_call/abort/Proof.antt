@@ -1,26 +1,27 @@
 -- `lifecycle::abort` meets its contract.
 use borrow.Author.Needs.{needs}
-use borrow.Author.Tests.{not-true, not-false}
 use native.Mathlib.Omega.{arith}
+use mathlib.Core.Bool.{false}
 use mathlib.Core.List.{[]}
-use mathlib.Core.Path.{_≡_, refl, ap, _∙_}
-use Prim.Native.Nat.{ℕ}
+use mathlib.Core.Path.{_≡_}
 use Rattle.record.specs.declared.outcomes.Refusal.the-variants.{NotOpen}
-use Rattle.record.specs.State.{ended, withTransaction}
+use Rattle.record.specs.State.{ended}
 use Rattle.ranges.specs.Ranges.{admission}
-use Rattle.rules.specs.Machine.{Machine, lent}
-use Rattle.rules.specs.Calls.{call, passing, turnDown, abortTurn, admitted}
-use Rattle.refusing.proofs.Turns.{LetThrough, sharedWith, gate-refused, gate-passed, gate-let-through, admission-open, admitted-closed, passing-on, turned-meets, reset-meets}
+use Rattle.rules.specs.Machine.{Machine}
+use Rattle.rules.specs.Calls.{call, admitted, abortTurn}
+use Rattle.rules.specs.Promises.{machineOf}
+use Rattle.refusing.proofs.Turns.{LetThrough, sharedWith, gate-refused, gate-passed, gate-let-through, is-open, is-closed, admission-open, admitted-closed, passing-on, turned-follows}
+use Rattle.lifecycle.proofs.ResetRules.{reset-follows}
 use Rattle.lifecycle.proofs.abort_call.abort.Statement.{statement}
 use Rattle.lifecycle.proofs.abort_call.abort.Tie as tie
 
 -- What the caller lent.
 abbrev machine : tie.Start → Machine
-machine c = lent (c .args .t1) (c .args .journal .now) (c .args .files .now) (c .args .logs .now) (c .args .marks .now)
+machine c = machineOf (c .args .kept .now) (c .args .files .now) (c .args .logs .now) (c .args .marks .now)
 
 -- The start of a call that tests 1 to 3 have let through, and what they told.
 abbrev start-of : tie.After-enum-told → tie.Start
-start-of c = c .before .before .before .before .before .before
+start-of c = c .before .before .before .before .before .before .before
 
 passed : (c : tie.After-enum-told) → sharedWith (machine (start-of c)) (start-of c .args .t) 0 ≡ 0
 passed c = gate-passed _ (machine (start-of c)) (start-of c .args .t) (c .before .before .admit .ensures .0) (c .enum-told .given .1)
@@ -28,82 +29,54 @@ passed c = gate-passed _ (machine (start-of c)) (start-of c .args .t) (c .before
 let-through : (c : tie.After-enum-told) → LetThrough (machine (start-of c)) (start-of c .args .t)
 let-through c = gate-let-through _ (machine (start-of c)) (start-of c .args .t) (c .before .before .admit .ensures .0) (c .enum-told .given .1)
 
-admit-requires : tie.Need-admit-requires
-admit-requires c κs = search needs
-
-enum-known-g : tie.Need-enum-known-g
-enum-known-g c = search needs
-
-turned-down-requires : tie.Need-turned-down-requires
-turned-down-requires c κs = search needs
-
 returns : tie.Need-returns
 unfolding call admitted admission
 returns c =
     let start = c .before .before .before .before .before .before .before .before in
     let m = machine start in
-    let e = gate-refused _ m (start .args .t) (c .before .before .before .before .admit .ensures .0) _ (c .before .before .g .given .0 .0) [] (abortTurn (start .args .t) m) (c .before .before .g .given .1) in
-    turned-meets _ (c .before .before .g .given .0 .0) [] m _ e (c .turned-down .ensures .0) (c .turned-down .ensures .1)
+    let e = gate-refused _ m (start .args .t) (c .before .before .before .admit .ensures .0) _ _ [] (abortTurn (start .args .t) m) (c .before .g .given .1) in
+    turned-follows _ [] _ _ _ _ _ e
 
-enum-told : tie.Need-enum-told
-enum-told c = search needs
-
-mul-x : tie.Need-mul-x
-mul-x c = omega (arith, let-through c .small)
-
-element-copy-out-x : tie.Need-element-copy-out-x
-element-copy-out-x c = let-through c .small
-
-turned-down-requires-2 : tie.Need-turned-down-requires-2
-turned-down-requires-2 c κs = search needs
+is-begun-requires : tie.Need-is-begun-requires
+is-begun-requires c κs = let-through (c .before) .small
 
 returns-2 : tie.Need-returns-2
 unfolding call
 returns-2 c =
-    let start = start-of (c .before .before .before .before) in
-    let m = machine start in
-    let e = admitted-closed m (start .args .t) (passed (c .before .before .before .before)) (not-true _ (c .before .if1 .taken)) [] (abortTurn (start .args .t) m) in
-    turned-meets _ NotOpen [] m _ e (c .turned-down2 .ensures .0) (c .turned-down2 .ensures .1)
+    let told = c .before .before .before in
+    let a = start-of told .args in
+    let m = machine (start-of told) in
+    let closed = is-closed (a .kept .now) (a .t) (let-through told .small) (c .before .is-begun .ensures) (c .if1 .taken) in
+    turned-follows NotOpen [] _ _ _ _ _ (admitted-closed m (a .t) (passed told) closed [] (abortTurn (a .t) m))
 
 unmark-requires : tie.Need-unmark-requires
-unmark-requires c κs = (let-through (c .before .before .before .before) .small, let-through (c .before .before .before .before) .lengths .marks)
+unmark-requires c κs = let told = c .before .before .before .before in (omega (arith, let-through told .small), let-through told .lengths .marks)
 
-ended-requires : tie.Need-ended-requires
-ended-requires c κs = search needs
-
-mul-t13 : tie.Need-mul-t13
-mul-t13 c = omega (arith, let-through (c .before .before .before .before .before .before .before .before) .small)
-
-element-set-from-s : tie.Need-element-set-from-s
-element-set-from-s c = let-through (c .before .before .before .before .before .before .before .before) .small
-
-same-length : tie.Need-same-length
-same-length c = search needs
+reset-requires : tie.Need-reset-requires
+reset-requires c κs = let-through (c .before .before .before .before .before .before .before .before) .small
 
 returns-3 : tie.Need-returns-3
-unfolding call abortTurn admitted withTransaction
+unfolding call admitted abortTurn ended
 returns-3 c =
-    let start = start-of (c .before .before .before .before .before .before .before .before) in
-    let m = machine start in
-    let e = passing-on _ [] m (abortTurn (start .args .t) m) (admission-open m (start .args .t) (passed (c .before .before .before .before .before .before .before .before)) (not-false _ (c .before .before .before .before .before .if1 .left))) in
-    rw (c .ended .ensures) (reset-meets (start .args .t) ended m _ e _ _ refl (c .before .before .before .unmark .ensures))
+    let open-here = c .before .before .before .before .before .before in
+    let told = open-here .before .before .before in
+    let a = start-of told .args in
+    let m = machine (start-of told) in
+    let begun = is-open (a .kept .now) (a .t) (let-through told .small) (open-here .before .is-begun .ensures) (open-here .if1 .left) in
+    let e = passing-on _ [] m (abortTurn (a .t) m) (admission-open m (a .t) (passed told) begun) in
+    reset-follows (a .t) false _ _ _ _ (told .before .before .admit .ensures .1) (let-through told .small) _ e _ _ (c .reset .ensures) (c .before .before .before .before .unmark .ensures)
 
 pub abort-spec : {M : Type 1} → statement M
 abort-spec =
     tie.close
     (tie.spec
-    admit-requires
-    enum-known-g
-    turned-down-requires
+    (λ c κs. search needs)
+    (λ c. search needs)
     returns
-    enum-told
-    mul-x
-    element-copy-out-x
-    turned-down-requires-2
+    (λ c. search needs)
+    is-begun-requires
     returns-2
     unmark-requires
-    ended-requires
-    mul-t13
-    element-set-from-s
-    same-length
+    reset-requires
+    (λ c. search needs)
     returns-3)

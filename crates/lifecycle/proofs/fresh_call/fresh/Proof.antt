@@ -6,79 +6,59 @@ use Prim.Native.Nat.{ℕ}
 use Rattle.record.specs.Paper.{plain}
 use Rattle.ranges.specs.Ranges.{admissionOfFresh}
 use Rattle.ranges.proofs.Laws.{admitted-fresh}
-use Rattle.rules.specs.Machine.{Machine, lent, sizes}
+use Rattle.rules.specs.Machine.{Machine, sizes}
 use Rattle.rules.specs.Calls.{answer, passing, fresh, freshMachine}
-use Rattle.refusing.proofs.Turns.{gate-number, gate-zero, passing-number, turned-meets}
-use Rattle.lifecycle.proofs.FreshRules.{fresh-meets}
+use Rattle.rules.specs.Promises.{machineOf}
+use Rattle.refusing.proofs.Turns.{gate-number, gate-zero, passing-number, turned-follows}
+use Rattle.lifecycle.proofs.FreshRules.{fresh-follows}
 use Rattle.lifecycle.proofs.fresh_call.fresh.Statement.{statement}
 use Rattle.lifecycle.proofs.fresh_call.fresh.Tie as tie
 
 -- What the caller lent.
 abbrev machine : tie.Start → Machine
-machine c = lent (c .args .s) (c .args .journal .now) (c .args .files .now) (c .args .logs .now) (c .args .marks .now)
+machine c = machineOf (c .args .kept .now) (c .args .files .now) (c .args .logs .now) (c .args .marks .now)
 
 -- What the tests let through.
-passed : (c : tie.After-enum-told) → admissionOfFresh (sizes (machine (c .before .before .before .before .before .before .before))) (c .before .before .before .before .before .before .before .args .numbers .now) ≡ 0
+abbrev start-of : tie.After-enum-told → tie.Start
+start-of c = c .before .before .before .before .before .before .before
+
+passed : (c : tie.After-enum-told) → admissionOfFresh (sizes (machine (start-of c))) (start-of c .args .numbers .now) ≡ 0
 passed c = gate-zero _ _ (c .before .before .admit-fresh .ensures) (c .enum-told .given .1)
-
-admit-fresh-requires : tie.Need-admit-fresh-requires
-admit-fresh-requires c κs = search needs
-
-enum-known-g : tie.Need-enum-known-g
-enum-known-g c = search needs
-
-turned-down-requires : tie.Need-turned-down-requires
-turned-down-requires c κs = search needs
 
 returns : tie.Need-returns
 unfolding fresh
 returns c =
-    let start = c .before .before .before .before .before .before .before .before .before in
+    let start = c .before .before .before .before .before .before .before .before in
     let m = machine start in
-    let r = c .before .before .g .given .0 .0 in
-    let e = gate-number _ _ (c .before .before .before .before .admit-fresh .ensures) r (c .before .before .g .given .1) in
-    turned-meets _ r [] m _ (ap (λ (n : ℕ). passing n [] m (answer plain (freshMachine (start .args .numbers .now) (m .logs)))) (sym e) ∙ passing-number r [] m _) (c .turned-down .ensures .0) (c .turned-down .ensures .1)
+    let r = c .before .g .given .0 .0 in
+    let e = gate-number _ _ (c .before .before .before .admit-fresh .ensures) r (c .before .g .given .1) in
+    let next = answer plain (freshMachine (start .args .numbers .now) (m .logs)) in
+    turned-follows r [] _ _ _ _ _ (ap (λ (n : ℕ). passing n [] m next) (sym e) ∙ passing-number r [] m next)
 
-enum-told : tie.Need-enum-told
-enum-told c = search needs
-
-clear-requires : tie.Need-clear-requires
-clear-requires c κs = search needs
-
-zero-requires : tie.Need-zero-requires
-zero-requires c κs = search needs
-
-zero-requires-2 : tie.Need-zero-requires-2
-zero-requires-2 c κs = search needs
-
-fresh-store-requires : tie.Need-fresh-store-requires
-fresh-store-requires c κs = admitted-fresh (sizes (machine (c .before .before .before .before .before .before .before .before .before .before .before .before .before .before .before .before .before))) (c .before .before .before .before .before .before .before .before .before .before .before .before .before .before .before .before .before .args .numbers .now) (passed (c .before .before .before .before .before .before .before .before .before .before)) .sixteen
-
-same-length : tie.Need-same-length
-same-length c = search needs
-
-same-length-2 : tie.Need-same-length-2
-same-length-2 c = search needs
+put-files-requires : tie.Need-put-files-requires
+put-files-requires c κs =
+    let told = c .before .before .before in
+    admitted-fresh (sizes (machine (start-of told))) (start-of told .args .numbers .now) (passed told) .sixteen
 
 returns-2 : tie.Need-returns-2
 returns-2 c =
-    let start = c .before .before .before .before .before .before .before .before .before .before .before .before .before .before .before .before .before .before in
-    let m = machine start in
-    fresh-meets (start .args .numbers .now) m (passed (c .before .before .before .before .before .before .before .before .before .before .before)) _ _ _ _ (c .fresh-store .ensures) (c .before .before .before .before .before .before .before .before .before .clear .ensures) (c .before .before .before .before .before .before .before .zero .ensures) (c .before .before .before .zero2 .ensures)
+    let put = c .before .before .before .before .before .before .before .before in
+    let told = put .before .before .before .before in
+    fresh-follows (start-of told .args .numbers .now) _ _ _ _ (passed told) _ _ _ _
+    (put .before .before .clear .ensures) (put .put-files .ensures) (c .before .before .before .before .before .before .zero .ensures) (c .before .before .zero2 .ensures)
 
 pub fresh-spec : {M : Type 1} → statement M
 fresh-spec =
     tie.close
     (tie.spec
-    admit-fresh-requires
-    enum-known-g
-    turned-down-requires
+    (λ c κs. search needs)
+    (λ c. search needs)
     returns
-    enum-told
-    clear-requires
-    zero-requires
-    zero-requires-2
-    fresh-store-requires
-    same-length
-    same-length-2
+    (λ c. search needs)
+    (λ c κs. search needs)
+    put-files-requires
+    (λ c κs. search needs)
+    (λ c κs. search needs)
+    (λ c. search needs)
+    (λ c. search needs)
     returns-2)

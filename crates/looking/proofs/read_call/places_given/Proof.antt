@@ -6,18 +6,6 @@ use Rattle.runs.specs.Runs.{extent}
 use Rattle.looking.proofs.read_call.places_given.Statement.{statement}
 use Rattle.looking.proofs.read_call.places_given.Tie as tie
 
-offset-requires : tie.Need-offset-requires
-offset-requires c κs = search needs
-
-wide-requires : tie.Need-wide-requires
-wide-requires c κs = search needs
-
-over-requires : tie.Need-over-requires
-over-requires c κs = search needs
-
-smaller-requires : tie.Need-smaller-requires
-smaller-requires c κs = search needs
-
 returns : tie.Need-returns
 returns c =
     let w = c .before .before .wide .ensures .0 ∙ c .before .before .before .offset .ensures in
@@ -25,4 +13,11 @@ returns c =
     ap₂ (extent (a .file)) w (c .smaller .ensures ∙ ap (min (a .n)) (c .before .over .ensures ∙ ap (λ (q : ℕ). a .end - q) w))
 
 pub places-given-spec : {M : Type 1} → statement M
-places-given-spec = tie.close (tie.spec offset-requires wide-requires over-requires smaller-requires returns)
+places-given-spec =
+    tie.close
+    (tie.spec
+    (λ c κs. search needs)
+    (λ c κs. search needs)
+    (λ c κs. search needs)
+    (λ c κs. search needs)
+    returns)

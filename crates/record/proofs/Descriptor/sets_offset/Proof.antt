@@ -12,13 +12,15 @@ returns c =
     let q = c .before .before .args .self in
     sym (ap (λ (b : Bool). b && isTouched (q .standing)) (not-true (q .dirty) (c .if1 .taken)))
 
-is-touched-requires : tie.Need-is-touched-requires
-is-touched-requires c κs = search needs
-
 returns-2 : tie.Need-returns-2
 returns-2 c =
     let q = c .before .before .before .args .self in
     c .is-touched .ensures ∙ sym (ap (λ (b : Bool). b && isTouched (q .standing)) (not-false (q .dirty) (c .before .if1 .left)))
 
 pub sets-offset-spec : {M : Type 1} → statement M
-sets-offset-spec = tie.close (tie.spec returns is-touched-requires returns-2)
+sets-offset-spec =
+    tie.close
+    (tie.spec
+    returns
+    (λ c κs. search needs)
+    returns-2)

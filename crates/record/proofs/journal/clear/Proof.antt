@@ -14,22 +14,19 @@ whole : (l : List ℕ) (n : ℕ) → length l ≡ n → replicate n 0 ++ drop n 
 whole l n e = ap (λ (r : List ℕ). replicate n 0 ++ r) (let h : length l ≤ n = omega arith in drop-of-length-le l h) ∙ append-nil (replicate n 0)
 
 abbrev Inv-loop : tie.InvT-loop
-Inv-loop journal₀ i₀ journal i = (i ≤ 1536) × (length journal₀ ≡ 1536) × (journal ≡ replicate i 0 ++ drop i journal₀)
+Inv-loop kept₀ i₀ kept i = (i ≤ 2088) × (length kept₀ ≡ 2088) × (kept ≡ replicate i 0 ++ drop i kept₀)
 
 abbrev μ-loop : tie.MeasureT-loop
-μ-loop journal₀ i₀ journal i = 1536 - i
-
-length-of-requires : tie.Need-length-of-requires Inv-loop μ-loop
-length-of-requires c κs = search needs
+μ-loop kept₀ i₀ kept i = 2088 - i
 
 loop-holds : tie.Need-loop-holds Inv-loop μ-loop
-loop-holds c = let l : length (c .before .before .before .args .journal .now) ≡ 1536 = search needs in (omega arith, l, fill-none _ 0)
+loop-holds c = let l : length (c .before .before .before .args .kept .now) ≡ 2088 = search needs in (omega arith, l, fill-none _ 0)
 
-mul-journal : tie.Need-mul-journal Inv-loop μ-loop
-mul-journal c = omega arith
+mul-kept : tie.Need-mul-kept Inv-loop μ-loop
+mul-kept c = omega arith
 
-element-write-journal : tie.Need-element-write-journal Inv-loop μ-loop
-element-write-journal c = omega arith
+element-write-kept : tie.Need-element-write-kept Inv-loop μ-loop
+element-write-kept c = omega arith
 
 add-i : tie.Need-add-i Inv-loop μ-loop
 add-i c = omega arith
@@ -42,13 +39,13 @@ loop-again c =
     let i = c .before .loop .inv in (
       omega arith,
       i .1,
-      ap (λ (l : List ℕ). set l (c .before .loop .i) 0) (i .2) ∙ fill-more (c .before .loop .i) 0 (c .before .before .before .before .before .args .journal .now) (omega arith),
+      ap (λ (l : List ℕ). set l (c .before .loop .i) 0) (i .2) ∙ fill-more (c .before .loop .i) 0 (c .before .before .before .before .before .args .kept .now) (omega arith),
     )
 
 returns : tie.Need-returns Inv-loop μ-loop
 returns c =
-    let e : c .before .loop .i ≡ 1536 = omega arith in
-    c .before .loop .inv .2 ∙ rw e (whole (c .before .before .before .before .before .args .journal .now) 1536 (c .before .loop .inv .1))
+    let e : c .before .loop .i ≡ 2088 = omega arith in
+    c .before .loop .inv .2 ∙ rw e (whole (c .before .before .before .before .before .args .kept .now) 2088 (c .before .loop .inv .1))
 
 pub clear-spec : {M : Type 1} → statement M
 clear-spec =
@@ -56,10 +53,10 @@ clear-spec =
     (tie.spec
     Inv-loop
     μ-loop
-    length-of-requires
+    (λ c κs. search needs)
     loop-holds
-    mul-journal
-    element-write-journal
+    mul-kept
+    element-write-kept
     add-i
     loop-less
     loop-again

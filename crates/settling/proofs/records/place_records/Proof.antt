@@ -1,38 +1,29 @@
 -- `records::place_records` meets its contract. The loop's invariant: the records below `k` are placed.
 use mathlib.Core.Logic.{⊎-elim}
-use mathlib.Core.Path.{_≡_, sym, ap, _∙_}
+use mathlib.Core.Path.{_≡_, ap, _∙_}
 use native.Mathlib.Omega.{arith}
 use borrow.Author.Needs.{needs}
-use borrow.Author.Tests.{not-true}
 use Prim.Native.Nat.{ℕ, _-_, _≤_, _<_}
 use Rattle.standings.specs.Table.{placeNumber}
 use Rattle.record.specs.Journal.{writeRecordAt}
-use Rattle.settling.specs.Records.{placedRecords}
-use Rattle.settling.proofs.RecordLaws.{after-kept, after-placed, after-settled, placed-none, placed-kept, next-record, one-placed, one-kept}
+use Rattle.record.specs.Layout.{journalOf}
+use Rattle.settling.specs.Records.{PlacedIn}
+use Rattle.settling.proofs.RecordLaws.{after-kept, after-placed, after-settled, placed-none, next-record, offset-kept, one-placed, one-kept}
 use Rattle.settling.proofs.records.place_records.Statement.{statement}
 use Rattle.settling.proofs.records.place_records.Tie as tie
 
 abbrev Inv-loop : tie.InvT-loop
-Inv-loop journal₀ t records offsets chosen k₀ journal k = (k ≤ records) × (journal ≡ placedRecords chosen offsets journal₀ t k)
+Inv-loop kept₀ t records chosen k₀ kept k = (k ≤ records) × PlacedIn chosen t k kept₀ kept
 
 abbrev μ-loop : tie.MeasureT-loop
-μ-loop journal₀ t records offsets chosen k₀ journal k = records - k
-
-any-requires : tie.Need-any-requires Inv-loop μ-loop
-any-requires c κs = search needs
-
-returns : tie.Need-returns Inv-loop μ-loop
-returns c =
-    let start = c .before .before in
-    sym (placed-kept (start .args .t4) (start .args .offsets .now) (start .args .journal .now) (start .args .t) (start .args .records) (start .pre .descriptors)
-    (c .before .any .ensures (not-true _ (c .if1 .taken))))
+μ-loop kept₀ t records chosen k₀ kept k = records - k
 
 loop-holds : tie.Need-loop-holds Inv-loop μ-loop
-loop-holds c = (omega arith, sym (placed-none _ _ _ _))
+loop-holds c = (omega arith, placed-none _ _ _ (c .pre .long))
 
 -- The record that is looked at: it is not changed yet, and in range.
 abbrev start-of : tie.After-record-at Inv-loop μ-loop → tie.Start Inv-loop μ-loop
-start-of c = c .before .before .before .before .before .before
+start-of c = c .before .before .before .before
 
 abbrev at : tie.After-record-at Inv-loop μ-loop → ℕ
 at c = c .before .before .before .loop .k
@@ -40,10 +31,10 @@ at c = c .before .before .before .loop .k
 few : (c : tie.After-record-at Inv-loop μ-loop) → at c < 64
 few c = omega (arith, start-of c .pre .few)
 
-looked-at : (c : tie.After-record-at Inv-loop μ-loop) → c .record-at .result ≡ writeRecordAt (start-of c .args .journal .now) (start-of c .args .t) (at c)
+looked-at : (c : tie.After-record-at Inv-loop μ-loop) → c .record-at .result ≡ writeRecordAt (journalOf (start-of c .args .kept .now)) (start-of c .args .t) (at c)
 looked-at c =
-    let p = start-of c .pre in
-    c .record-at .ensures ∙ next-record _ _ _ _ (at c) _ (c .before .before .before .loop .inv .1) (p .long) (p .small) (few c)
+    let l = c .before .before .before .loop in
+    c .record-at .ensures ∙ next-record _ _ _ _ _ (l .inv .1) (start-of c .pre .small) (few c)
 
 low-descriptor : (c : tie.After-record-at Inv-loop μ-loop) → c .record-at .result .descriptor < 16
 low-descriptor c = rw (looked-at c) (start-of c .pre .descriptors (at c) (omega arith))
@@ -53,73 +44,61 @@ low-place c = rw (looked-at c) (start-of c .pre .places (at c) (omega arith))
 
 record-at-requires : tie.Need-record-at-requires Inv-loop μ-loop
 record-at-requires c κs =
-    let p = c .before .before .before .before .before .pre in
+    let p = c .before .before .before .pre in
     (p .small, omega (arith, p .few))
 
-enum-known-place : tie.Need-enum-known-place Inv-loop μ-loop
-enum-known-place c = search needs
+array-read-if1 : tie.Need-array-read-if1 Inv-loop μ-loop
+array-read-if1 c = omega (arith, c .wide .ensures .0, low-descriptor (c .before .before .before .before))
 
-wide-requires : tie.Need-wide-requires Inv-loop μ-loop
-wide-requires c κs = search needs
+offset-at-requires : tie.Need-offset-at-requires Inv-loop μ-loop
+offset-at-requires c κs =
+    omega (arith, c .before .before .wide .ensures .0, low-descriptor (c .before .before .before .before .before .before))
 
-array-read-if2 : tie.Need-array-read-if2 Inv-loop μ-loop
-array-read-if2 c = omega (arith, c .wide .ensures .0, low-descriptor (c .before .before .before .before))
-
-mul-c : tie.Need-mul-c Inv-loop μ-loop
-mul-c c = search needs
-
-element-copy-out-c : tie.Need-element-copy-out-c Inv-loop μ-loop
-element-copy-out-c c =
-    omega (arith, c .before .wide .ensures .0, low-descriptor (c .before .before .before .before .before))
-
-add-t25 : tie.Need-add-t25 Inv-loop μ-loop
-add-t25 c =
-    let r = c .before .before .before .before .before .before .before in
-    let d = c .before .before .before .wide in
+add-t21 : tie.Need-add-t21 Inv-loop μ-loop
+add-t21 c =
+    let called = c .before in
+    let d = called .before .before .before .wide in
+    let looked = called .before .before .before .before .before .before .before in
+    let l = looked .before .before .before .loop in
+    let low : d .result < 16 = omega (arith, d .ensures .0, low-descriptor looked) in
     omega (
       arith,
-      ap placeNumber (c .before .before .before .before .before .place .given .1),
-      low-place r,
-      start-of r .pre .committed (d .result) (omega (arith, d .ensures .0, low-descriptor r)),
+      ap placeNumber (called .before .before .before .before .before .place .given .1),
+      low-place looked,
+      called .offset-at .ensures,
+      offset-kept _ _ _ _ _ (l .inv .1) (d .result),
+      start-of looked .pre .committed (d .result) low,
     )
 
 put-record-requires : tie.Need-put-record-requires Inv-loop μ-loop
 put-record-requires c κs =
-    let r = c .before .before .before .before .before .before .before in
-    (start-of r .pre .small, few r, low-descriptor r)
-
-enum-told : tie.Need-enum-told Inv-loop μ-loop
-enum-told c = search needs
-
-add-k : tie.Need-add-k Inv-loop μ-loop
-add-k c = search needs
-
-loop-less : tie.Need-loop-less Inv-loop μ-loop
-loop-less c = search needs
+    let looked = c .before .before .before .before .before .before .before .before in
+    (start-of looked .pre .small, few looked, omega (arith, low-descriptor looked))
 
 loop-again : tie.Need-loop-again Inv-loop μ-loop
 loop-again c =
-    let r = c .before in
-    let a = start-of r .args in
-    let p = start-of r .pre in
-    let l = r .before .before .before .loop in
-    let w = r .record-at .result in
-    let kept = one-kept (a .t4) (a .offsets .now) (a .journal .now) (a .t) (l .k) (l .journal) (l .inv .1) (p .long) (p .small) (few r) w (r .record-at .ensures) in
-    let placed = one-placed (a .t4) (a .offsets .now) (a .journal .now) (a .t) (l .k) (l .journal) (l .inv .1) (p .long) (p .small) (few r) w (r .record-at .ensures) in (
+    let looked = c .before in
+    let l = looked .before .before .before .loop in
+    let a = start-of looked .args in
+    let small = start-of looked .pre .small in
+    let w = looked .record-at .result in
+    let so-far = l .inv .1 in
+    let kept = one-kept _ _ _ _ _ so-far small (few looked) w (looked .record-at .ensures) in
+    let placed = one-placed _ _ _ _ _ so-far small (few looked) w (looked .record-at .ensures) in (
       omega arith,
       ⊎-elim
-          (λ v. v .8 ∙ v .7 .ensures ∙ placed _ (after-settled _ _ w _ (v .3 .ensures .0) _ (v .1 .given .1) (v .4 .taken)))
+          (λ v. placed _ _ (v .9 ∙ v .8 .ensures) (after-settled _ _ w _ (v .3 .ensures .0) _ (v .1 .given .1) (v .4 .taken) _ (v .6 .ensures ∙ offset-kept _ _ _ _ _ so-far _)))
           (⊎-elim
-          (λ v. v .5 ∙ kept (after-kept _ _ w _ (v .3 .ensures .0) (v .4 .left)))
-          (λ v. v .2 ∙ kept (after-placed _ _ w _ (v .1 .given .1))))
+          (λ v. kept _ (v .5) (after-kept _ _ w _ (v .3 .ensures .0) (v .4 .left)))
+          (λ v. kept _ (v .2) (after-placed _ _ w _ (v .1 .given .1))))
           (c .match .came),
     )
 
-returns-2 : tie.Need-returns-2 Inv-loop μ-loop
-returns-2 c =
-    let a = c .before .before .before .before .args in
-    let e : c .before .loop .k ≡ a .records = omega arith in
-    c .before .loop .inv .1 ∙ ap (placedRecords (a .t4) (a .offsets .now) (a .journal .now) (a .t)) e
+returns : tie.Need-returns Inv-loop μ-loop
+returns c =
+    let l = c .before .loop in
+    let e : l .k ≡ c .before .before .args .records = omega arith in
+    rw e at (l .inv .1)
 
 pub place-records-spec : {M : Type 1} → statement M
 place-records-spec =
@@ -127,19 +106,16 @@ place-records-spec =
     (tie.spec
     Inv-loop
     μ-loop
-    any-requires
-    returns
     loop-holds
     record-at-requires
-    enum-known-place
-    wide-requires
-    array-read-if2
-    mul-c
-    element-copy-out-c
-    add-t25
+    (λ c. search needs)
+    (λ c κs. search needs)
+    array-read-if1
+    offset-at-requires
+    add-t21
     put-record-requires
-    enum-told
-    add-k
-    loop-less
+    (λ c. search needs)
+    (λ c. search needs)
+    (λ c. search needs)
     loop-again
-    returns-2)
+    returns)

@@ -9,15 +9,6 @@ use borrow.Author.Needs.{needs}
 use Rattle.settling.proofs.settle.chosen_by_pointer.Statement.{statement}
 use Rattle.settling.proofs.settle.chosen_by_pointer.Tie as tie
 
-standing-at-requires : tie.Need-standing-at-requires
-standing-at-requires c κs = search needs
-
-pointer-settles-requires : tie.Need-pointer-settles-requires
-pointer-settles-requires c κs = search needs
-
-array-write-chosen : tie.Need-array-write-chosen
-array-write-chosen c = search needs
-
 returns : tie.Need-returns
 unfolding settlesForPointer chosenByPointer
 returns c =
@@ -28,4 +19,8 @@ returns c =
 pub chosen-by-pointer-spec : {M : Type 1} → statement M
 chosen-by-pointer-spec =
     tie.close
-    (tie.spec standing-at-requires pointer-settles-requires array-write-chosen returns)
+    (tie.spec
+    (λ c κs. search needs)
+    (λ c κs. search needs)
+    (λ c. search needs)
+    returns)

@@ -1,14 +1,13 @@
--- `l` is safe and ends.
 use Prim.Native.Nat.{_-_, _≤_}
 use borrow.Author.Needs.{needs}
 use Rattle.situations.proofs.letters.l.Statement.{statement}
 use Rattle.situations.proofs.letters.l.Tie as tie
 
 abbrev Inv-loop : tie.InvT-loop
-Inv-loop r₀ i₀ r i = i ≤ 64
+Inv-loop kept₀ files₀ logs₀ marks₀ ok₀ i₀ t7 t8 t9 t10 kept files logs marks ok i = i ≤ 64
 
 abbrev μ-loop : tie.MeasureT-loop
-μ-loop r₀ i₀ r i = 64 - i
+μ-loop kept₀ files₀ logs₀ marks₀ ok₀ i₀ t7 t8 t9 t10 kept files logs marks ok i = 64 - i
 
 start-requires : tie.Need-start-requires Inv-loop μ-loop
 start-requires c κs = search needs
@@ -16,8 +15,14 @@ start-requires c κs = search needs
 loop-holds : tie.Need-loop-holds Inv-loop μ-loop
 loop-holds c = search needs
 
-write-requires : tie.Need-write-requires Inv-loop μ-loop
-write-requires c κs = search needs
+slice-aggregate-run : tie.Need-slice-aggregate-run Inv-loop μ-loop
+slice-aggregate-run c = search needs
+
+slice-aggregate-run-2 : tie.Need-slice-aggregate-run-2 Inv-loop μ-loop
+slice-aggregate-run-2 c = search needs
+
+run-requires : tie.Need-run-requires Inv-loop μ-loop
+run-requires c κs = search needs
 
 add-i : tie.Need-add-i Inv-loop μ-loop
 add-i c = search needs
@@ -28,14 +33,14 @@ loop-less c = search needs
 loop-again : tie.Need-loop-again Inv-loop μ-loop
 loop-again c = search needs
 
-write-requires-2 : tie.Need-write-requires-2 Inv-loop μ-loop
-write-requires-2 c κs = search needs
+slice-aggregate-run-3 : tie.Need-slice-aggregate-run-3 Inv-loop μ-loop
+slice-aggregate-run-3 c = search needs
 
-seek-requires : tie.Need-seek-requires Inv-loop μ-loop
-seek-requires c κs = search needs
+slice-aggregate-run-4 : tie.Need-slice-aggregate-run-4 Inv-loop μ-loop
+slice-aggregate-run-4 c = search needs
 
-write-requires-3 : tie.Need-write-requires-3 Inv-loop μ-loop
-write-requires-3 c κs = search needs
+run-requires-2 : tie.Need-run-requires-2 Inv-loop μ-loop
+run-requires-2 c κs = search needs
 
 returns : tie.Need-returns Inv-loop μ-loop
 returns c = search needs
@@ -48,11 +53,13 @@ l-spec =
     μ-loop
     start-requires
     loop-holds
-    write-requires
+    slice-aggregate-run
+    slice-aggregate-run-2
+    run-requires
     add-i
     loop-less
     loop-again
-    write-requires-2
-    seek-requires
-    write-requires-3
+    slice-aggregate-run-3
+    slice-aggregate-run-4
+    run-requires-2
     returns)

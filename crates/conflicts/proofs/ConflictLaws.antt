@@ -1,0 +1,246 @@
+-- Who has sighted what a commit would set, setting by setting, and whom it would make stale.
+use mathlib.Core.Bool.{Bool, true, false, not, _&&_, _||_, and-false, or-assoc, or-false}
+use mathlib.Core.List.{List, [], _∷_, _++_, append-nil}
+use mathlib.Core.Path.{_≡_, refl, sym, ap, ap₂, _∙_}
+use lib.Dec.{eqb, ltb}
+use lib.ListN.{length, getD}
+use borrow.Author.Tests.{ltb-true, ltb-false, lt-ltb, le-ltb, ne-eqb}
+use native.Mathlib.Numerals.{add-one}
+use native.Mathlib.Omega.{arith}
+use Prim.Native.Nat.{ℕ, zero, suc, _+_, _*_, _≤_, _<_, max}
+use Rattle.octets.specs.Bits.{bitsOf}
+use Rattle.octets.specs.Parts.{cut, tabulate}
+use Rattle.octets.specs.Marks.{hasMark, hasMarkIn, contains}
+use Rattle.octets.proofs.PartLaws.{length-cut}
+use Rattle.octets.proofs.MarkLaws.{has-in-none, has-in-first, contains-none}
+use Rattle.octets.proofs.SetLaws.{bits-lt, contains-bits, octets-same}
+use Rattle.counters.specs.declared.Used.{Used}
+use Rattle.record.specs.declared.Descriptor.{Descriptor}
+use Rattle.record.specs.declared.Transaction.{Transaction}
+use Rattle.record.specs.State.{standingAt}
+use Rattle.record.specs.Layout.{standingOf, base, descriptorOf, transactionOf, storeOf, journalOf}
+use Rattle.record.proofs.LayoutLaws.{transaction-of, descriptor-of, standing-of}
+use Rattle.standings.specs.Table.{isKnown, isTouched, finalOffset}
+use Rattle.rules.specs.Items.{offset, fileLength, Values}
+use Rattle.rules.specs.Transactions.{Txn}
+use Rattle.rules.specs.Commits.{Setting, stretch, byteSettings, setsOffset, offsetSettings, landedEnd, lengthSettings}
+use Rattle.rules.specs.Machine.{dataStart, fileOf, values, writeAt, txnOf}
+use Rattle.rules.specs.Calls.{hasSighted, conflicts, becomesStale}
+use Rattle.landing.specs.declared.writes.Landing.{Landing}
+use Rattle.landing.specs.Landing.{descriptorsOnly, bytesSet, bytesSetIn, landedReach, lengthsLandedIn, CanLandIn, LandsAs}
+use Rattle.landing.proofs.WriteLaws.{data-in, byte-count, set-more}
+use Rattle.landing.proofs.LengthLaws.{reach-is, length-at}
+use Rattle.landing.proofs.Landed.{allSet, settings-are}
+use Rattle.conflicts.specs.Staling.{staleBy, isWatched, Sighters, offsetsSetIn, lengthsSetIn, knowsOffset, knowsLength}
+
+-- ---- what the code reads of a descriptor
+
+-- A kind above 3 is Known.
+known-kind : (k a b : ℕ) → isKnown (standingOf k a b) ≡ ltb 3 k
+unfolding standingOf
+known-kind zero a b = refl
+known-kind (suc zero) a b = refl
+known-kind (suc (suc zero)) a b = refl
+known-kind (suc (suc (suc zero))) a b = refl
+known-kind (suc (suc (suc (suc k)))) a b =
+    rw (ne-eqb (suc (suc (suc (suc k)))) 0 (λ p. omega arith), ne-eqb (suc (suc (suc (suc k)))) 1 (λ p. omega arith), ne-eqb (suc (suc (suc (suc k)))) 2 (λ p. omega arith), ne-eqb (suc (suc (suc (suc k)))) 3 (λ p. omega arith), lt-ltb 3 (suc (suc (suc (suc k)))) (omega arith))
+
+pub stands-known : (kept : List ℕ) (u d k : ℕ) → d < 16 → k ≡ getD kept (base u + d) 0 → isKnown (standingAt (transactionOf kept u) d) ≡ ltb 3 k
+stands-known kept u d k few e =
+    ap isKnown (standing-of kept u d few) ∙ known-kind _ _ _ ∙ ap (ltb 3) (sym e)
+
+-- Its offset is set.
+pub sets-is : (kept : List ℕ) (t d : ℕ) → d < 16 → (q : Descriptor) → q ≡ descriptorOf kept t d
+    → setsOffset (descriptorsOnly (transactionOf kept t)) d ≡ (q .dirty && isTouched (q .standing))
+unfolding setsOffset
+sets-is kept t d few q e = ap (λ (p : Descriptor). p .dirty && isTouched (p .standing)) (descriptor-of kept t d few ∙ sym e)
+
+-- ---- settings in order
+
+module _ (marks : List ℕ) (u : ℕ) (y : Transaction) where
+  conflicts-append : (xs ys : List Setting) → conflicts marks u y (xs ++ ys) ≡ conflicts marks u y xs || conflicts marks u y ys
+  unfolding conflicts
+  conflicts-append [] ys = refl
+  conflicts-append (x ∷ xs) ys =
+      ap (λ (b : Bool). hasSighted marks u y (x .item) || b) (conflicts-append xs ys)
+      ∙ sym (or-assoc (hasSighted marks u y (x .item)) (conflicts marks u y xs) (conflicts marks u y ys))
+
+  -- Who has sighted one of the bytes of a stretch has a mark in it.
+  conflicts-stretch : (q : ℕ) (bs : List ℕ) → conflicts marks u y (stretch q bs) ≡ hasMarkIn marks u q (length bs)
+  unfolding conflicts stretch hasSighted
+  conflicts-stretch q [] = sym (has-in-none marks u q)
+  conflicts-stretch q (b ∷ bs) =
+      ap (λ (c : Bool). hasMark marks u q || c) (conflicts-stretch (suc q) bs) ∙ sym (has-in-first marks u q (length bs))
+
+-- The lengths of the first f files that transaction t's first n writes raise, and how far they reach in file f.
+abbrev pub raisedBelow : List ℕ → List ℕ → List ℕ → ℕ → ℕ → ℕ → List Setting
+raisedBelow kept files logs t n f =
+    let s = storeOf kept in lengthSettings (fileOf s) (values s files) (tabulate (writeAt (journalOf kept) logs t) n) f
+
+abbrev reachOf : List ℕ → List ℕ → List ℕ → ℕ → ℕ → ℕ → ℕ
+reachOf kept files logs t n f =
+    let s = storeOf kept in landedEnd (fileOf s) (values s files) f (tabulate (writeAt (journalOf kept) logs t) n)
+
+module _ (kept marks : List ℕ) (watched : ℕ) where
+  sighters-none : Sighters kept marks watched [] 0
+  unfolding conflicts
+  sighters-none u l = contains-none u ∙ sym (and-false (contains watched u))
+
+  sighters-join : (ss rs : List Setting) (a b c : ℕ) → Sighters kept marks watched ss a → Sighters kept marks watched rs b
+      → ((u : ℕ) → contains c u ≡ contains a u || contains b u) → Sighters kept marks watched (ss ++ rs) c
+  sighters-join ss rs a b c sa sb joins u l =
+      joins u
+      ∙ ap₂ _||_ (sa u l) (sb u l)
+      ∙ both (contains watched u) (conflicts marks u (transactionOf kept u) ss) (conflicts marks u (transactionOf kept u) rs)
+      ∙ ap (λ (x : Bool). contains watched u && x) (sym (conflicts-append marks u (transactionOf kept u) ss rs))
+    where
+      both : (w x y : Bool) → (w && x) || (w && y) ≡ w && (x || y)
+      both true x y = refl
+      both false x y = refl
+
+  -- ---- bytes
+
+  pub no-bytes : (logs : List ℕ) (t : ℕ) → Sighters kept marks watched (bytesSetIn kept logs t 0) 0
+  unfolding bytesSet tabulate byteSettings
+  no-bytes logs t = sighters-none
+
+  pub bytes-more : {t n k : ℕ} {w : Landing} → CanLandIn kept t n → k < n → LandsAs kept t k w
+      → (logs : List ℕ) → length logs ≡ 32768 → (a b c : ℕ)
+      → Sighters kept marks watched (bytesSetIn kept logs t k) a
+      → ((u : ℕ) → u < 8 → contains b u ≡ contains watched u && hasMarkIn marks u (4096 * w .file + w .place) (w .length))
+      → ((u : ℕ) → contains c u ≡ contains a u || contains b u)
+      → Sighters kept marks watched (bytesSetIn kept logs t (k + 1)) c
+  bytes-more {t} {n} {k} {w} can earlier lands logs size a b c sa sb joins =
+      let q = 4096 * w .file + w .place in
+      let start = dataStart (journalOf kept) t k in
+      let bs = cut logs start (w .length) in
+      let long : length bs ≡ w .length = length-cut logs start (w .length) (let e = lands .length in omega (arith, data-in can earlier, can .small)) in
+      rw (set-more lands logs start refl)
+      (sighters-join (bytesSetIn kept logs t k) (stretch q bs) a b c sa
+      (λ u l. sb u l ∙ ap (λ (x : Bool). contains watched u && x) (ap (hasMarkIn marks u q) (sym long) ∙ sym (conflicts-stretch marks u (transactionOf kept u) q bs)))
+      joins)
+
+  -- ---- offsets
+
+  module _ (v : Values) (x : Txn) where
+    pub no-offsets : Sighters kept marks watched (offsetSettings v x 0) 0
+    unfolding offsetSettings
+    no-offsets = sighters-none
+
+    pub offset-more : (d : ℕ) → setsOffset x d ≡ true → (a b c : ℕ) → Sighters kept marks watched (offsetSettings v x d) a
+        → b ≡ bitsOf (knowsOffset kept watched d) 8 → ((u : ℕ) → contains c u ≡ contains a u || contains b u)
+        → Sighters kept marks watched (offsetSettings v x (d + 1)) c
+    unfolding offsetSettings conflicts hasSighted
+    offset-more d sets a b c sa sb joins =
+        rw (add-one, sets)
+        (sighters-join (offsetSettings v x d) (record { item = offset d; to = finalOffset (v (offset d)) (x .standing d) } ∷ []) a b c sa
+        (λ u l. ap (λ (k : ℕ). contains k u) sb
+        ∙ contains-bits (knowsOffset kept watched d) 8 u l
+        ∙ ap (λ (y : Bool). contains watched u && y) (sym (or-false (isKnown (standingAt (transactionOf kept u) d)))))
+        joins)
+
+    pub offset-less : (d a : ℕ) → setsOffset x d ≡ false → Sighters kept marks watched (offsetSettings v x d) a
+        → Sighters kept marks watched (offsetSettings v x (d + 1)) a
+    unfolding offsetSettings
+    offset-less d a sets sa = rw (add-one, sets, append-nil) sa
+
+  -- ---- lengths
+
+  module _ (files logs : List ℕ) (t n : ℕ) where
+    pub no-lengths : Sighters kept marks watched (raisedBelow kept files logs t n 0) 0
+    unfolding lengthSettings
+    no-lengths = sighters-none
+
+    module _ (can : CanLandIn kept t n) (size : length logs ≡ 32768) (f : ℕ) (few : f < 8) where
+      -- A number lies below the larger of itself and another where it lies below the other.
+      over-max : (a b : ℕ) → ltb a (max a b) ≡ ltb a b
+      over-max a b = pick (ltb a b) refl
+        where
+          pick : (c : Bool) → ltb a b ≡ c → ltb a (max a b) ≡ c
+          pick true e = let l = ltb-true a b e in lt-ltb a (max a b) (omega arith)
+          pick false e = let l = ltb-false a b e in le-ltb a (max a b) (omega arith)
+
+      raised-is : ltb (values (storeOf kept) files (fileLength f)) (reachOf kept files logs t n f) ≡ ltb (getD (storeOf kept .lengths) f 0) (getD (lengthsLandedIn kept t n) f 0)
+      unfolding values fileOf
+      raised-is =
+          let s = storeOf kept in
+          let j = journalOf kept in
+          sym
+          (ap (ltb (getD (s .lengths) f 0)) (length-at (s .filenumbers) (s .offsets) j t (s .lengths) n f few)
+          ∙ over-max (getD (s .lengths) f 0) (landedReach (s .filenumbers) (s .offsets) j t f n)
+          ∙ ap (ltb (getD (s .lengths) f 0)) (reach-is (s .filenumbers) (s .offsets) j t (values s files) (λ d. refl) logs f n (λ k h. byte-count can h logs size)))
+
+      module _ (length after : ℕ) (before : length ≡ getD (storeOf kept .lengths) f 0) (afterwards : after ≡ getD (lengthsLandedIn kept t n) f 0) where
+        raised-so : ltb (values (storeOf kept) files (fileLength f)) (reachOf kept files logs t n f) ≡ ltb length after
+        raised-so = raised-is ∙ sym (ap₂ ltb before afterwards)
+
+        pub length-more : length < after → (a b c : ℕ) → Sighters kept marks watched (raisedBelow kept files logs t n f) a
+            → b ≡ bitsOf (knowsLength kept watched f) 8 → ((u : ℕ) → contains c u ≡ contains a u || contains b u)
+            → Sighters kept marks watched (raisedBelow kept files logs t n (f + 1)) c
+        unfolding lengthSettings conflicts hasSighted
+        length-more h a b c sa sb joins =
+            rw (add-one, raised-so ∙ lt-ltb length after h)
+            (sighters-join (raisedBelow kept files logs t n f) (record { item = fileLength f; to = reachOf kept files logs t n f } ∷ []) a b c sa
+            (λ u l. ap (λ (k : ℕ). contains k u) sb
+            ∙ contains-bits (knowsLength kept watched f) 8 u l
+            ∙ ap (λ (y : Bool). contains watched u && y) (sym (or-false (contains (transactionOf kept u .lengthmarks) f))))
+            joins)
+
+        pub length-less : after ≤ length → (a : ℕ) → Sighters kept marks watched (raisedBelow kept files logs t n f) a → Sighters kept marks watched (raisedBelow kept files logs t n (f + 1)) a
+        unfolding lengthSettings
+        length-less h a sa = rw (add-one, raised-so ∙ le-ltb length after h, append-nil) sa
+
+-- ---- the octet
+
+module _ (kept files logs marks : List ℕ) (t : ℕ) where
+  abbrev committed : Values
+  committed = values (storeOf kept) files
+
+  abbrev all : List Setting
+  all = allSet (storeOf kept) (journalOf kept) files logs t
+
+  -- All that it sets, as the code goes over it.
+  all-is : t < 8 → (used : Used) → used ≡ transactionOf kept t .used
+      → all ≡ bytesSetIn kept logs t (used .records) ++ (offsetsSetIn kept committed t ++ lengthsSetIn kept files logs t (used .records))
+  unfolding txnOf
+  all-is small used e =
+      let s = storeOf kept in
+      settings-are s (journalOf kept) files logs t
+      ∙ ap (λ (x : Transaction). bytesSetIn kept logs t (x .used .records) ++ (offsetSettings committed (descriptorsOnly x) 16 ++ lengthsSetIn kept files logs t (x .used .records)))
+      (transaction-of kept t small)
+      ∙ ap (λ (n : Used). bytesSetIn kept logs t (n .records) ++ (offsetsSetIn kept committed t ++ lengthsSetIn kept files logs t (n .records))) (sym e)
+
+  module _ (watched : ℕ) (watches : watched ≡ bitsOf (isWatched kept t) 8) where
+    octet-is : (r : ℕ) → r < 256 → Sighters kept marks watched all r → r ≡ staleBy kept files logs marks t
+    unfolding staleBy becomesStale
+    octet-is r small sees =
+        octets-same r (bitsOf (becomesStale t marks all (storeOf kept)) 8) small (bits-lt (becomesStale t marks all (storeOf kept)) 8)
+        (λ u l. sees u l
+        ∙ ap (λ (b : Bool). b && conflicts marks u (transactionOf kept u) all) (ap (λ (n : ℕ). contains n u) watches ∙ contains-bits (isWatched kept t) 8 u l)
+        ∙ regroup (not (eqb u t)) (transactionOf kept u .begun) (not (transactionOf kept u .stale)) (conflicts marks u (transactionOf kept u) all)
+        ∙ ap (λ (y : Transaction). not (eqb u t) && y .begun && not (y .stale) && conflicts marks u y all) (sym (transaction-of kept u l))
+        ∙ sym (contains-bits (becomesStale t marks all (storeOf kept)) 8 u l))
+      where
+        regroup : (a b c d : Bool) → (a && b && c) && d ≡ a && b && c && d
+        regroup true true c d = refl
+        regroup true false c d = refl
+        regroup false b c d = refl
+
+    -- Nobody is watched.
+    pub none-stale : watched ≡ 0 → 0 ≡ staleBy kept files logs marks t
+    none-stale e =
+        octet-is 0 (omega arith)
+        (λ u l. contains-none u ∙ sym (ap (λ (n : ℕ). contains n u && conflicts marks u (transactionOf kept u) all) e ∙ ap (λ (b : Bool). b && conflicts marks u (transactionOf kept u) all) (contains-none u)))
+
+    pub stale-is : t < 8 → (used : Used) → used ≡ transactionOf kept t .used → (a b c d r : ℕ)
+        → Sighters kept marks watched (bytesSetIn kept logs t (used .records)) a
+        → Sighters kept marks watched (offsetsSetIn kept committed t) b
+        → Sighters kept marks watched (lengthsSetIn kept files logs t (used .records)) c
+        → ((u : ℕ) → contains d u ≡ contains b u || contains c u) → ((u : ℕ) → contains r u ≡ contains a u || contains d u)
+        → r < 256 → r ≡ staleBy kept files logs marks t
+    stale-is small used e a b c d r sa sb sc later joins octet =
+        octet-is r octet
+        (rw (all-is small used e)
+        (sighters-join kept marks watched (bytesSetIn kept logs t (used .records)) (offsetsSetIn kept committed t ++ lengthsSetIn kept files logs t (used .records)) a d r sa
+        (sighters-join kept marks watched (offsetsSetIn kept committed t) (lengthsSetIn kept files logs t (used .records)) b c d sb sc later)
+        joins))

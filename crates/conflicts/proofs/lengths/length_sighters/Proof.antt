@@ -1,0 +1,73 @@
+-- `conflicts::lengths::length_sighters` meets its contract. The loop's invariant: those who have sighted a length that is raised of the
+-- files passed.
+use mathlib.Core.List.{List}
+use mathlib.Core.Logic.{⊎-elim}
+use mathlib.Core.Path.{_≡_, ap, _∙_}
+use lib.ListN.{length, getD}
+use Prim.Native.Nat.{ℕ, _-_, _≤_, _<_}
+use native.Mathlib.Omega.{arith}
+use Rattle.octets.specs.Marks.{contains}
+use Rattle.landing.specs.Landing.{CanLandIn, lengthsLandedIn}
+use Rattle.conflicts.specs.Staling.{Sighters}
+use Rattle.conflicts.proofs.ConflictLaws.{raisedBelow, no-lengths, length-more, length-less}
+use borrow.Author.Needs.{needs}
+use Rattle.conflicts.proofs.lengths.length_sighters.Statement.{statement}
+use Rattle.conflicts.proofs.lengths.length_sighters.Tie as tie
+
+abbrev Inv-loop : tie.InvT-loop
+Inv-loop kept t watched after found₀ f₀ found f =
+    (f ≤ 8)
+    × ((n : ℕ) (files logs marks : List ℕ) → CanLandIn kept t n → after ≡ lengthsLandedIn kept t n → length logs ≡ 32768
+    → Sighters kept marks watched (raisedBelow kept files logs t n f) found)
+
+abbrev μ-loop : tie.MeasureT-loop
+μ-loop kept t watched after found₀ f₀ found f = 8 - f
+
+loop-holds : tie.Need-loop-holds Inv-loop μ-loop
+loop-holds c = let a = c .before .args in (omega arith, λ n files logs marks can e size. no-lengths (a .kept .now) marks (a .watched) files logs (a .t) n)
+
+loop-again : tie.Need-loop-again Inv-loop μ-loop
+loop-again c =
+    let at-loop = c .before .before .before in
+    let a = at-loop .before .before .args in
+    let l = at-loop .loop in
+    let few : l .f < 8 = omega arith in
+    let now-at : (n : ℕ) → at-loop .before .lengths-after .result ≡ lengthsLandedIn (a .kept .now) (a .t) n
+    → getD (at-loop .before .lengths-after .result) (l .f) 0 ≡ getD (lengthsLandedIn (a .kept .now) (a .t) n) (l .f) 0 =
+    λ n e. ap (λ (xs : List ℕ). getD xs (l .f) 0) e in
+    ⊎-elim
+    (λ w. (
+      omega arith,
+      λ n files logs marks can e size. length-more (a .kept .now) marks (a .watched) files logs (a .t) n can size (l .f) few _ _ (c .before .length-at .ensures) (now-at n e)
+          (w .0 .taken) _ _ _ (l .inv .1 n files logs marks can e size) (w .1 .ensures) (λ u. ap (λ (k : ℕ). contains k u) (w .3) ∙ w .2 .ensures u),
+    ))
+    (λ w. (
+      omega arith,
+      λ n files logs marks can e size. rw (w .1) (length-less (a .kept .now) marks (a .watched) files logs (a .t) n can size (l .f) few _ _ (c .before .length-at .ensures) (now-at n e)
+          (w .0 .left) _ (l .inv .1 n files logs marks can e size)),
+    ))
+    (c .if1 .came)
+
+returns : tie.Need-returns Inv-loop μ-loop
+returns c =
+    let start = c .before .before .before in
+    let e : c .before .loop .f ≡ 8 = omega arith in
+    λ files logs marks size. rw e at (c .before .loop .inv .1 (start .args .used .records) files logs marks (start .pre) (c .before .before .lengths-after .ensures) size)
+
+pub length-sighters-spec : {M : Type 1} → statement M
+length-sighters-spec =
+    tie.close
+    (tie.spec
+    Inv-loop
+    μ-loop
+    (λ c κs. search needs)
+    loop-holds
+    (λ c κs. search needs)
+    (λ c. search needs)
+    (λ c. search needs)
+    (λ c κs. search needs)
+    (λ c κs. search needs)
+    (λ c. search needs)
+    (λ c. search needs)
+    loop-again
+    returns)

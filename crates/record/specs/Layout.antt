@@ -1,0 +1,142 @@
+-- The record as a caller lends it, a list of numbers, and what they mean. Nothing else knows how they are laid out:
+--     0       the journal (Journal.antt)
+--     1536    the transactions, 64 numbers each: the kinds of its sixteen standings, their first numbers, their second numbers; then
+--             begun, stale, the lengths sighted, the dirty descriptors as bits, records used, bytes used, and ten that are not looked at
+--     2048    the file numbers of the sixteen descriptors
+--     2064    their committed offsets
+--     2080    the committed lengths of the eight files
+use mathlib.Core.Bool.{Bool, true, false, cond}
+use mathlib.Core.List.{List}
+use lib.Dec.{eqb}
+use lib.ListN.{getD, set}
+use Prim.Native.Nat.{ℕ, zero, suc, _+_, _*_}
+use Rattle.octets.specs.Parts.{tabulate}
+use Rattle.octets.specs.Bits.{withBitAs}
+use Rattle.octets.specs.Marks.{contains}
+use Rattle.counters.specs.declared.Used.{Used}
+use Rattle.standings.specs.declared.Standing.{Standing}
+use Rattle.standings.specs.declared.Standing.the-variants.{Untouched, Placed, Deferred, Moved, Known}
+use Rattle.record.specs.declared.Descriptor.{Descriptor}
+use Rattle.record.specs.declared.Transaction.{Transaction}
+use Rattle.record.specs.declared.Store.{Store}
+
+-- ---- what numbers mean: every number means something, and none is cut
+
+-- Three numbers as a standing: its kind, the first number that it carries, the second. A kind above 3 is Known; what a standing does not
+-- carry is not looked at.
+unfoldable pub standingOf : ℕ → ℕ → ℕ → Standing
+standingOf k a b =
+    cond (eqb k 0) Untouched (cond (eqb k 1) (Placed a) (cond (eqb k 2) (Deferred a) (cond (eqb k 3) (Moved a b) (Known a))))
+
+-- A flag is set where its number is 1.
+abbrev pub isSet : ℕ → Bool
+isSet n = eqb n 1
+
+-- The first number of transaction t.
+abbrev pub base : ℕ → ℕ
+base t = 1536 + 64 * t
+
+unfoldable pub descriptorOf : List ℕ → ℕ → ℕ → Descriptor
+descriptorOf r t d =
+    record {
+      standing = standingOf (getD r (base t + d) 0) (getD r (base t + d + 16) 0) (getD r (base t + d + 32) 0);
+      dirty = contains (getD r (base t + 51) 0) d;
+    }
+
+unfoldable pub usedOf : List ℕ → ℕ → Used
+usedOf r t = record { records = getD r (base t + 52) 0; bytes = getD r (base t + 53) 0 }
+
+unfoldable pub transactionOf : List ℕ → ℕ → Transaction
+transactionOf r t =
+    record {
+      begun = isSet (getD r (base t + 48) 0);
+      stale = isSet (getD r (base t + 49) 0);
+      lengthmarks = getD r (base t + 50) 0;
+      used = usedOf r t;
+      descriptors = tabulate (descriptorOf r t) 16;
+    }
+
+-- The record's meaning, in two parts.
+unfoldable pub storeOf : List ℕ → Store
+storeOf r =
+    record {
+      filenumbers = tabulate (λ d. getD r (2048 + d) 0) 16;
+      offsets = tabulate (λ d. getD r (2064 + d) 0) 16;
+      lengths = tabulate (λ f. getD r (2080 + f) 0) 8;
+      transactions = tabulate (transactionOf r) 8;
+    }
+
+unfoldable pub journalOf : List ℕ → List ℕ
+journalOf r = tabulate (λ i. getD r i 0) 1536
+
+-- ---- how a meaning is put: in one form, with 0 for what is not carried
+
+abbrev pub kind : Standing → ℕ
+kind Untouched = 0
+kind (Placed o) = 1
+kind (Deferred a) = 2
+kind (Moved a o) = 3
+kind (Known o) = 4
+
+abbrev pub first : Standing → ℕ
+first Untouched = 0
+first (Placed o) = o
+first (Deferred a) = a
+first (Moved a o) = a
+first (Known o) = o
+
+abbrev pub second : Standing → ℕ
+second Untouched = 0
+second (Placed o) = 0
+second (Deferred a) = 0
+second (Moved a o) = o
+second (Known o) = 0
+
+abbrev pub flag : Bool → ℕ
+flag true = 1
+flag false = 0
+
+-- The record with descriptor d of transaction t as q; with f 0, f 1, .. in the place of those below n that are chosen.
+unfoldable pub withDescriptorAt : List ℕ → ℕ → ℕ → Descriptor → List ℕ
+withDescriptorAt r t d q =
+    let z = q .standing in
+    set (set (set (set r (base t + d) (kind z)) (base t + d + 16) (first z)) (base t + d + 32) (second z)) (base t + 51)
+    (withBitAs d (q .dirty) (getD r (base t + 51) 0))
+
+unfoldable pub withChosenAt : List ℕ → ℕ → (ℕ → Bool) → (ℕ → Descriptor) → ℕ → List ℕ
+withChosenAt r t chosen f zero = r
+withChosenAt r t chosen f (suc n) =
+    let s = withChosenAt r t chosen f n in
+    cond (chosen n) (withDescriptorAt s t n (f n)) s
+
+-- With the two counters of transaction t as u; with t stale; with n as the lengths that it has sighted.
+unfoldable pub withUsedAt : List ℕ → ℕ → Used → List ℕ
+withUsedAt r t u = set (set r (base t + 52) (u .records)) (base t + 53) (u .bytes)
+
+abbrev pub withStaleAt : List ℕ → ℕ → List ℕ
+withStaleAt r t = set r (base t + 49) 1
+
+abbrev pub withLengthmarksAt : List ℕ → ℕ → ℕ → List ℕ
+withLengthmarksAt r t n = set r (base t + 50) n
+
+-- With n zeros from number i on; with transaction t as one that has ended, or as one just begun.
+unfoldable pub zeroedFrom : List ℕ → ℕ → ℕ → List ℕ
+zeroedFrom r i zero = r
+zeroedFrom r i (suc n) = set (zeroedFrom r i n) (i + n) 0
+
+unfoldable pub resetAt : List ℕ → ℕ → Bool → List ℕ
+resetAt r t begun = set (zeroedFrom r (base t) 54) (base t + 48) (flag begun)
+
+-- With another file number, committed offset, committed length; with f 0, f 1, .. as the file numbers below n.
+abbrev pub withFileNumberAt : List ℕ → ℕ → ℕ → List ℕ
+withFileNumberAt r d n = set r (2048 + d) n
+
+abbrev pub withOffsetAt : List ℕ → ℕ → ℕ → List ℕ
+withOffsetAt r d n = set r (2064 + d) n
+
+abbrev pub withLengthAt : List ℕ → ℕ → ℕ → List ℕ
+withLengthAt r f n = set r (2080 + f) n
+
+unfoldable pub withFileNumbersAt : List ℕ → (ℕ → ℕ) → ℕ → List ℕ
+withFileNumbersAt r f zero = r
+withFileNumbersAt r f (suc n) = withFileNumberAt (withFileNumbersAt r f n) n (f n)

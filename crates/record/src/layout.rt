@@ -1,0 +1,363 @@
+// How the record lies in its numbers: the journal, eight transactions, file numbers, committed offsets and lengths.
+// Only this module, `journal` and specs/Layout.antt know that; everybody else reads and writes by name.
+use crate::DESCRIPTORS;
+use crate::Descriptor;
+use crate::Transaction;
+use counters::Used;
+use numbers::wide;
+use octets::sets;
+use standings::Standing;
+ghost use mathlib.Core.Bool.{false};
+ghost use mathlib.Core.Path.{_≡_};
+ghost use Prim.Native.Nat.{_+_, _<_};
+ghost use lib.ListN.{length, getD};
+ghost use Rattle.record.specs.State.{standingAt, noDescriptor};
+ghost use Rattle.record.specs.Layout.{standingOf, base, kind, first, second, flag};
+ghost use Rattle.record.specs.Layout.{descriptorOf, transactionOf, storeOf};
+ghost use Rattle.record.specs.Layout.{withDescriptorAt, withChosenAt, withUsedAt, resetAt};
+ghost use Rattle.record.specs.Layout.{withStaleAt, withLengthmarksAt};
+ghost use Rattle.record.specs.Layout.{withFileNumberAt, withFileNumbersAt, withOffsetAt, withLengthAt};
+
+// How many numbers a record has.
+pub const NUMBERS: usize = 2088;
+
+// The record, as a caller keeps it and lends it to every call.
+pub type Record = [u16; NUMBERS];
+
+// A transaction's numbers, how many of them are looked at, and where they stand.
+const TRANSACTION: usize = 64;
+
+const LOOKED_AT: usize = 54;
+
+const TRANSACTIONS_AT: usize = 1536;
+
+// Where the file numbers, the committed offsets and the committed lengths stand, for a test that goes over all of them.
+pub const FILE_NUMBERS_AT: usize = 2048;
+
+pub const OFFSETS_AT: usize = 2064;
+
+pub const LENGTHS_AT: usize = 2080;
+
+// How many numbers were lent, which the array's type alone does not tell a proof.
+pub fn length_of(kept: &[u16]) -> usize
+    ensures { λ n. ⌜ n ≡ length (now (kept .entry)) ⌝ }
+{
+    kept.len()
+}
+
+// ---- numbers and what they mean
+
+fn standing_of(k: u16, a: u16, b: u16) -> Standing
+    ensures { λ r. ⌜ r ≡ standingOf k a b ⌝ }
+{
+    if k == 0 {
+        return Standing::Untouched;
+    }
+    if k == 1 {
+        return Standing::Placed(a);
+    }
+    if k == 2 {
+        return Standing::Deferred(a);
+    }
+    if k == 3 {
+        return Standing::Moved {
+            advance: a,
+            offset: b,
+        };
+    }
+    Standing::Known(a)
+}
+
+fn kind_of(z: Standing) -> u16
+    ensures { λ r. ⌜ r ≡ kind z ⌝ }
+{
+    match z {
+        Standing::Untouched => 0,
+        Standing::Placed(_) => 1,
+        Standing::Deferred(_) => 2,
+        Standing::Moved { .. } => 3,
+        Standing::Known(_) => 4,
+    }
+}
+
+fn first_of(z: Standing) -> u16
+    ensures { λ r. ⌜ r ≡ first z ⌝ }
+{
+    match z {
+        Standing::Untouched => 0,
+        Standing::Placed(offset) => offset,
+        Standing::Deferred(advance) => advance,
+        Standing::Moved { advance, offset: _ } => advance,
+        Standing::Known(offset) => offset,
+    }
+}
+
+fn second_of(z: Standing) -> u16
+    ensures { λ r. ⌜ r ≡ second z ⌝ }
+{
+    match z {
+        Standing::Untouched => 0,
+        Standing::Placed(_) => 0,
+        Standing::Deferred(_) => 0,
+        Standing::Moved { advance: _, offset } => offset,
+        Standing::Known(_) => 0,
+    }
+}
+
+fn flag_of(b: bool) -> u16
+    ensures { λ r. ⌜ r ≡ flag b ⌝ }
+{
+    if b {
+        return 1;
+    }
+    0
+}
+
+// ---- reading
+
+pub fn is_begun(kept: &Record, t: usize) -> bool
+    requires { ⌜ t < 8 ⌝ }
+    ensures { λ r. ⌜ r ≡ transactionOf (now (kept .entry)) t .begun ⌝ }
+{
+    kept[TRANSACTIONS_AT + TRANSACTION * t + 48] == 1
+}
+
+pub fn is_stale(kept: &Record, t: usize) -> bool
+    requires { ⌜ t < 8 ⌝ }
+    ensures { λ r. ⌜ r ≡ transactionOf (now (kept .entry)) t .stale ⌝ }
+{
+    kept[TRANSACTIONS_AT + TRANSACTION * t + 49] == 1
+}
+
+pub fn lengthmarks_at(kept: &Record, t: usize) -> u16
+    requires { ⌜ t < 8 ⌝ }
+    ensures { λ r. ⌜ r ≡ transactionOf (now (kept .entry)) t .lengthmarks ⌝ }
+{
+    kept[TRANSACTIONS_AT + TRANSACTION * t + 50]
+}
+
+pub fn used_at(kept: &Record, t: usize) -> Used
+    requires { ⌜ t < 8 ⌝ }
+    ensures { λ r. ⌜ r ≡ transactionOf (now (kept .entry)) t .used ⌝ }
+{
+    let base = TRANSACTIONS_AT + TRANSACTION * t;
+    let records = wide(kept[base + 52]);
+    let bytes = kept[base + 53];
+    Used { records, bytes }
+}
+
+// The three numbers of a standing, for a test that does not take it apart.
+pub fn kind_at(kept: &Record, t: usize, d: usize) -> u16
+    requires { ⌜ (t < 8) × (d < 16) ⌝ }
+    ensures { λ r. ⌜ r ≡ getD (now (kept .entry)) (base t + d) 0 ⌝ }
+{
+    kept[TRANSACTIONS_AT + TRANSACTION * t + d]
+}
+
+pub fn first_at(kept: &Record, t: usize, d: usize) -> u16
+    requires { ⌜ (t < 8) × (d < 16) ⌝ }
+    ensures { λ r. ⌜ r ≡ getD (now (kept .entry)) (base t + d + 16) 0 ⌝ }
+{
+    kept[TRANSACTIONS_AT + TRANSACTION * t + d + 16]
+}
+
+pub fn second_at(kept: &Record, t: usize, d: usize) -> u16
+    requires { ⌜ (t < 8) × (d < 16) ⌝ }
+    ensures { λ r. ⌜ r ≡ getD (now (kept .entry)) (base t + d + 32) 0 ⌝ }
+{
+    kept[TRANSACTIONS_AT + TRANSACTION * t + d + 32]
+}
+
+// The standing of descriptor d in transaction t.
+pub fn standing_at(kept: &Record, t: usize, d: usize) -> Standing
+    requires { ⌜ (t < 8) × (d < 16) ⌝ }
+    ensures { λ r. ⌜ r ≡ standingAt (transactionOf (now (kept .entry)) t) d ⌝ }
+{
+    let k = kind_at(kept, t, d);
+    let a = first_at(kept, t, d);
+    let b = second_at(kept, t, d);
+    standing_of(k, a, b)
+}
+
+pub fn descriptor_at(kept: &Record, t: usize, d: usize) -> Descriptor
+    requires { ⌜ (t < 8) × (d < 16) ⌝ }
+    ensures { λ r. ⌜ r ≡ descriptorOf (now (kept .entry)) t d ⌝ }
+{
+    let standing = standing_at(kept, t, d);
+    let dirty = kept[TRANSACTIONS_AT + TRANSACTION * t + 51];
+    Descriptor {
+        standing,
+        dirty: sets::contains(dirty, d),
+    }
+}
+
+// The sixteen descriptors of transaction t.
+fn descriptors_at(kept: &Record, t: usize) -> [Descriptor; DESCRIPTORS]
+    requires { ⌜ t < 8 ⌝ }
+    ensures { λ r. ⌜ r ≡ transactionOf (now (kept .entry)) t .descriptors ⌝ }
+{
+    let first = descriptor_at(kept, t, 0);
+    let mut all = [first; DESCRIPTORS];
+    let mut d = 0;
+    while d < DESCRIPTORS {
+        let q = descriptor_at(kept, t, d);
+        all[d] = q;
+        d += 1;
+    }
+    all
+}
+
+// Transaction t.
+pub fn transaction_at(kept: &Record, t: usize) -> Transaction
+    requires { ⌜ t < 8 ⌝ }
+    ensures { λ r. ⌜ r ≡ transactionOf (now (kept .entry)) t ⌝ }
+{
+    let begun = is_begun(kept, t);
+    let stale = is_stale(kept, t);
+    let lengthmarks = lengthmarks_at(kept, t);
+    let used = used_at(kept, t);
+    let descriptors = descriptors_at(kept, t);
+    Transaction {
+        begun,
+        stale,
+        lengthmarks,
+        used,
+        descriptors,
+    }
+}
+
+// The file number of descriptor d.
+pub fn file_at(kept: &Record, d: usize) -> u16
+    requires { ⌜ d < 16 ⌝ }
+    ensures { λ r. ⌜ r ≡ getD (storeOf (now (kept .entry)) .filenumbers) d 0 ⌝ }
+{
+    kept[FILE_NUMBERS_AT + d]
+}
+
+// The committed offset of descriptor d.
+pub fn offset_at(kept: &Record, d: usize) -> u16
+    requires { ⌜ d < 16 ⌝ }
+    ensures { λ r. ⌜ r ≡ getD (storeOf (now (kept .entry)) .offsets) d 0 ⌝ }
+{
+    kept[OFFSETS_AT + d]
+}
+
+// The committed length of file f.
+pub fn length_at(kept: &Record, f: usize) -> u16
+    requires { ⌜ f < 8 ⌝ }
+    ensures { λ r. ⌜ r ≡ getD (storeOf (now (kept .entry)) .lengths) f 0 ⌝ }
+{
+    kept[LENGTHS_AT + f]
+}
+
+// ---- putting
+
+// Puts q in the place of descriptor d of transaction t.
+pub fn put_descriptor(kept: &mut Record, t: usize, d: usize, q: Descriptor)
+    requires { ⌜ (t < 8) × (d < 16) ⌝ }
+    ensures { λ _. ⌜ now (kept .exit) ≡ withDescriptorAt (now (kept .entry)) t d q ⌝ }
+{
+    let i = TRANSACTIONS_AT + TRANSACTION * t + d;
+    let j = TRANSACTIONS_AT + TRANSACTION * t + 51;
+    let z = q.standing;
+    let dirty = kept[j];
+    kept[i] = kind_of(z);
+    kept[i + 16] = first_of(z);
+    kept[i + 32] = second_of(z);
+    kept[j] = sets::put(dirty, d, q.dirty);
+}
+
+// Puts those of the sixteen descriptors of transaction t that are chosen.
+pub fn put_chosen(
+    kept: &mut Record,
+    t: usize,
+    chosen: [bool; DESCRIPTORS],
+    all: [Descriptor; DESCRIPTORS],
+)
+    requires { ⌜ t < 8 ⌝ }
+    ensures { λ _. ⌜ now (kept .exit)
+        ≡ withChosenAt (now (kept .entry)) t (λ e. getD chosen e false) (λ e. getD all e noDescriptor) 16 ⌝ }
+{
+    let mut e = 0;
+    while e < DESCRIPTORS {
+        if chosen[e] {
+            let q = all[e];
+            put_descriptor(kept, t, e, q);
+        }
+        e += 1;
+    }
+}
+
+// Puts the two counters of transaction t.
+pub fn put_used(kept: &mut Record, t: usize, u: Used)
+    requires { ⌜ (t < 8) × (u .records < 65536) ⌝ }
+    ensures { λ _. ⌜ now (kept .exit) ≡ withUsedAt (now (kept .entry)) t u ⌝ }
+{
+    let base = TRANSACTIONS_AT + TRANSACTION * t;
+    kept[base + 52] = u.records as u16;
+    kept[base + 53] = u.bytes;
+}
+
+// Makes transaction t stale.
+pub fn put_stale(kept: &mut Record, t: usize)
+    requires { ⌜ t < 8 ⌝ }
+    ensures { λ _. ⌜ now (kept .exit) ≡ withStaleAt (now (kept .entry)) t ⌝ }
+{
+    kept[TRANSACTIONS_AT + TRANSACTION * t + 49] = 1;
+}
+
+// Puts the lengths that transaction t has sighted.
+pub fn put_lengthmarks(kept: &mut Record, t: usize, n: u16)
+    requires { ⌜ t < 8 ⌝ }
+    ensures { λ _. ⌜ now (kept .exit) ≡ withLengthmarksAt (now (kept .entry)) t n ⌝ }
+{
+    kept[TRANSACTIONS_AT + TRANSACTION * t + 50] = n;
+}
+
+// Makes transaction t one that has ended, or one just begun.
+pub fn reset(kept: &mut Record, t: usize, begun: bool)
+    requires { ⌜ t < 8 ⌝ }
+    ensures { λ _. ⌜ now (kept .exit) ≡ resetAt (now (kept .entry)) t begun ⌝ }
+{
+    let base = TRANSACTIONS_AT + TRANSACTION * t;
+    let mut i = 0;
+    while i < LOOKED_AT {
+        kept[base + i] = 0;
+        i += 1;
+    }
+    kept[base + 48] = flag_of(begun);
+}
+
+pub fn put_file(kept: &mut Record, d: usize, n: u16)
+    requires { ⌜ d < 16 ⌝ }
+    ensures { λ _. ⌜ now (kept .exit) ≡ withFileNumberAt (now (kept .entry)) d n ⌝ }
+{
+    kept[FILE_NUMBERS_AT + d] = n;
+}
+
+// Puts the sixteen file numbers.
+pub fn put_files(kept: &mut Record, numbers: &[u8])
+    requires { ⌜ length (now numbers) ≡ 16 ⌝ }
+    ensures { λ _. ⌜ now (kept .exit)
+        ≡ withFileNumbersAt (now (kept .entry)) (λ d. getD (now (numbers .entry)) d 0) 16 ⌝ }
+{
+    let mut d = 0;
+    while d < DESCRIPTORS {
+        put_file(kept, d, numbers[d] as u16);
+        d += 1;
+    }
+}
+
+pub fn put_offset(kept: &mut Record, d: usize, n: u16)
+    requires { ⌜ d < 16 ⌝ }
+    ensures { λ _. ⌜ now (kept .exit) ≡ withOffsetAt (now (kept .entry)) d n ⌝ }
+{
+    kept[OFFSETS_AT + d] = n;
+}
+
+pub fn put_length(kept: &mut Record, f: usize, n: u16)
+    requires { ⌜ f < 8 ⌝ }
+    ensures { λ _. ⌜ now (kept .exit) ≡ withLengthAt (now (kept .entry)) f n ⌝ }
+{
+    kept[LENGTHS_AT + f] = n;
+}

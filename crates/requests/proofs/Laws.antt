@@ -1,0 +1,12 @@
+-- A request that is another is performed as the other.
+use mathlib.Core.List.{List}
+use mathlib.Core.Path.{_≡_}
+use Prim.Native.Nat.{ℕ}
+use Rattle.record.specs.declared.outcomes.Outcome.{Outcome}
+use Rattle.requests.specs.declared.Request.{Request}
+use Rattle.rules.specs.Machine.{Machine}
+use Rattle.requests.specs.Performing.{Performs}
+
+pub performs-as : (q p : Request) (bytes reader : List ℕ) (m : Machine) (o : Outcome) (m′ : Machine) (reader′ : List ℕ)
+    → q ≡ p → Performs p bytes reader m o m′ reader′ → Performs q bytes reader m o m′ reader′
+performs-as q p bytes reader m o m′ reader′ e h = rw e h

@@ -1,0 +1,75 @@
+use Prim.Native.Nat.{_-_}
+use native.Mathlib.Omega.{arith}
+use borrow.Author.Needs.{needs}
+use Rattle.grammar.proofs.Laws.{starts-within}
+use Rattle.situations.proofs.script.answers.Statement.{statement}
+use Rattle.situations.proofs.script.answers.Tie as tie
+
+parse-requires : tie.Need-parse-requires
+parse-requires c κs = search needs
+
+enum-known-p : tie.Need-enum-known-p
+enum-known-p c = search needs
+
+enum-told : tie.Need-enum-told
+enum-told c = search needs
+
+returns : tie.Need-returns
+returns c = search needs
+
+sub-perform : tie.Need-sub-perform
+sub-perform c = omega (arith, starts-within _ _ (c .before .before .before .before .before .before .before .parse .ensures) _ _ (c .before .before .before .before .before .p .given .1))
+
+part-perform-start : tie.Need-part-perform-start
+part-perform-start c = omega (arith, starts-within _ _ (c .before .before .before .before .before .before .before .parse .ensures) _ _ (c .before .before .before .before .before .p .given .1))
+
+part-perform-end : tie.Need-part-perform-end
+part-perform-end c = search needs
+
+slice-aggregate-perform : tie.Need-slice-aggregate-perform
+slice-aggregate-perform c = search needs
+
+perform-requires : tie.Need-perform-requires
+perform-requires c κs = search needs
+
+slice-aggregate-print : tie.Need-slice-aggregate-print
+slice-aggregate-print c = search needs
+
+slice-aggregate-print-2 : tie.Need-slice-aggregate-print-2
+slice-aggregate-print-2 c = search needs
+
+print-requires : tie.Need-print-requires
+print-requires c κs = search needs
+
+slice-aggregate-part : tie.Need-slice-aggregate-part
+slice-aggregate-part c = search needs
+
+part-requires : tie.Need-part-requires
+part-requires c κs = search needs
+
+same-requires : tie.Need-same-requires
+same-requires c κs = search needs
+
+returns-2 : tie.Need-returns-2
+returns-2 c = search needs
+
+pub answers-spec : {M : Type 1} → statement M
+answers-spec =
+    tie.close
+    (tie.spec
+    parse-requires
+    enum-known-p
+    enum-told
+    returns
+    sub-perform
+    part-perform-start
+    part-perform-end
+    slice-aggregate-perform
+    perform-requires
+    slice-aggregate-print
+    slice-aggregate-print-2
+    print-requires
+    slice-aggregate-part
+    part-requires
+    same-requires
+    returns-2)

@@ -1,0 +1,118 @@
+// Calls as lines of a trace, held to the lines that they have to be answered.
+use grammar::Parsed;
+use numbers::BUFFER_BYTES;
+use numbers::FILE_BYTES;
+use numbers::smaller;
+use octets::parts;
+use record::layout::Record;
+use record::layout::offset_at;
+use record::layout::standing_at;
+use requests::Request;
+ghost use Prim.Native.Nat.{_≤_};
+ghost use lib.ListN.{length};
+
+// A store buffer.
+pub type Buffer = [u8; BUFFER_BYTES];
+
+// Where the line ends that starts at `from`: at its byte 10, or at the end of the text.
+fn line_end(text: &[u8], from: usize) -> usize
+    requires { ⌜ from ≤ length (now text) ⌝ }
+    ensures { λ r. ⌜ (from ≤ r) × (r ≤ length (now (text .entry))) ⌝ }
+{
+    let mut i = from;
+    while i < text.len() {
+        if text[i] == b'\n' {
+            return i;
+        }
+        i += 1;
+    }
+    i
+}
+
+// The call of a line answers as the reply says, which has its line end.
+fn answers(
+    kept: &mut Record,
+    files: &mut Buffer,
+    logs: &mut Buffer,
+    marks: &mut Buffer,
+    line: &[u8],
+    reply: &[u8],
+) -> bool {
+    let mut reader = [0u8; 8];
+    let mut out = [0u8; 32];
+    let p = grammar::parse(line);
+    let Parsed::Asks(q, start) = p else {
+        return false;
+    };
+    let o = requests::perform(kept, files, logs, marks, q, &line[start..], &mut reader);
+    let n = printing::print(&mut out, 0, o, &reader);
+    check::same(parts::part(&out, 0, n), reply)
+}
+
+// Every call of the lines answers as the line says that stands in its place among the replies.
+pub fn run(
+    kept: &mut Record,
+    files: &mut Buffer,
+    logs: &mut Buffer,
+    marks: &mut Buffer,
+    calls: &[u8],
+    replies: &[u8],
+) -> bool {
+    let mut ok = true;
+    let mut i = 0;
+    let mut j = 0;
+    while i < calls.len() {
+        let e = line_end(calls, i);
+        let f = smaller(line_end(replies, j) + 1, replies.len());
+        ok = ok & answers(kept, files, logs, marks, &calls[i..e], &replies[j..f]);
+        i = smaller(e + 1, calls.len());
+        j = f;
+    }
+    ok
+}
+
+// "Each situation starts at its own Fresh; T0 to T2 are begun." Descriptor d belongs to file d mod 8.
+pub fn start(kept: &mut Record, files: &mut Buffer, logs: &mut Buffer, marks: &mut Buffer) -> bool {
+    let list = [0u8, 1, 2, 3, 4, 5, 6, 7, 0, 1, 2, 3, 4, 5, 6, 7];
+    store::fresh(kept, files, logs, marks, &list);
+    run(kept, files, logs, marks, b"B0\nB1\nB2\n", b"ok\nok\nok\n")
+}
+
+// The same with "a first commit that fills the file with zeros": T7's, through descriptor 0.
+pub fn start_filled(
+    kept: &mut Record,
+    files: &mut Buffer,
+    logs: &mut Buffer,
+    marks: &mut Buffer,
+) -> bool {
+    let begun = start(kept, files, logs, marks) & run(kept, files, logs, marks, b"B7\n", b"ok\n");
+    let write = Request::Write(7, 0);
+    requests::perform(kept, files, logs, marks, write, &[0u8; FILE_BYTES], &mut []);
+    begun & run(kept, files, logs, marks, b"C7\n", b"ok 0\n")
+}
+
+// File 0 begins so, and the committed offset of descriptor 0 is n.
+pub fn stands(kept: &Record, files: &[u8], front: &[u8], n: u16) -> bool {
+    let size = front.len();
+    if files.len() < size {
+        return false;
+    }
+    check::same(parts::part(files, 0, size), front) & (offset_at(kept, 0) == n)
+}
+
+// Nobody has sighted a byte, and T0 has sighted the offset of descriptor d and no other.
+pub fn sighted_alone(kept: &Record, marks: &Buffer, d: usize) -> bool {
+    let mut ok = check::same(marks, &[0u8; BUFFER_BYTES]);
+    let mut i = 0;
+    while i < 16 {
+        let z = standing_at(kept, 0, i);
+        ok = ok & (z.is_known() == (i == d));
+        i += 1;
+    }
+    ok
+}
+
+// That many are named by the octet of a commit.
+pub fn names(octet: u8, number: u32) -> bool {
+    store::made_stale(octet) == number
+}

@@ -85,10 +85,11 @@ pub record Looking (kept files logs marks : List ℕ) (t d n room : ℕ) : Type 
   pub held : Opened (storeOf kept) (journalOf kept) logs t
   pub may : MayLook (transaction (storeOf kept) t .stale) d n room
 
--- The gate speaks of the transaction that the code has read.
-pub gate-says : (kept : List ℕ) (t : ℕ) → t < 8 → (x : Transaction) → x ≡ transactionOf kept t → (d n room k : ℕ) → k ≡ lookRefusal (x .stale) d n room
+-- The gate speaks of the flag that the code has read.
+pub gate-says : (kept : List ℕ) (t : ℕ) → t < 8 → (stale : Bool) → stale ≡ transactionOf kept t .stale → (d n room k : ℕ) → k ≡ lookRefusal stale d n room
     → k ≡ lookRefusal (transaction (storeOf kept) t .stale) d n room
-gate-says kept t small x own d n room k says = says ∙ ap (λ (y : Transaction). lookRefusal (y .stale) d n room) (own ∙ sym (transaction-of kept t small))
+gate-says kept t small stale own d n room k says =
+    says ∙ ap (λ (b : Bool). lookRefusal b d n room) (own ∙ ap (λ (y : Transaction). y .stale) (sym (transaction-of kept t small)))
 
 pub looking : (kept files logs marks : List ℕ) (t d n room : ℕ) → length kept ≡ 2088
     → admission (sizes (machineOf kept files logs marks)) (storeOf kept) (journalOf kept) t ≡ 0
@@ -116,16 +117,17 @@ turned-left r buffer kept files logs marks w e now same = rw same (turned-follow
 abbrev pub SettledAs : (Transaction → List Bool) → ℕ → List ℕ → List ℕ → Verdict → Type 0
 SettledAs choice t kept now v = let x = transaction (storeOf kept) t in SettledIn (choice x) t x kept now v
 
-module _ {kept files logs marks : List ℕ} {t d n room : ℕ} (l : Looking kept files logs marks t d n room) (x : Transaction) (own : x ≡ transactionOf kept t) where
-  own-is : x ≡ transaction (storeOf kept) t
-  own-is = own ∙ sym (transaction-of kept t (l .held .small))
+module _ {kept files logs marks : List ℕ} {t d n room : ℕ} (l : Looking kept files logs marks t d n room) where
+  own-is : transactionOf kept t ≡ transaction (storeOf kept) t
+  own-is = sym (transaction-of kept t (l .held .small))
 
-  pub ready : Placeable kept t (x .used .records)
+  pub ready : Placeable kept t (transactionOf kept t .used .records)
   ready =
-      placeable kept logs t (l .held) (x .used .records) (ap (λ (y : Transaction). y .used .records) own-is) (l .long)
+      placeable kept logs t (l .held) (transactionOf kept t .used .records) (ap (λ (y : Transaction). y .used .records) own-is) (l .long)
       (in-range (storeOf kept) (journalOf kept) (l .through .ranges) .offsets)
 
-  pub settled-as : (choice : Transaction → List Bool) (chosen : List Bool) → chosen ≡ choice x → (now : List ℕ) (v w : Verdict) → SettledIn chosen t x kept now v → v ≡ w
+  pub settled-as : (choice : Transaction → List Bool) (chosen : List Bool) → chosen ≡ choice (transactionOf kept t) → (now : List ℕ) (v w : Verdict)
+      → SettledIn chosen t (transactionOf kept t) kept now v → v ≡ w
       → SettledAs choice t kept now w
   settled-as choice chosen ec now v w s ev = rw (ec ∙ ap choice own-is, own-is, ev) at s
 

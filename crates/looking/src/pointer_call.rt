@@ -3,8 +3,8 @@ use crate::looks::may_look;
 use ranges::Gate;
 use record::layout::Record;
 use record::layout::is_begun;
+use record::layout::is_stale;
 use record::layout::standing_at;
-use record::layout::transaction_at;
 use record::outcomes::Outcome;
 use record::outcomes::Refusal;
 use settling::settle::Verdict;
@@ -33,13 +33,12 @@ pub fn get_file_pointer(
     if !is_begun(kept, t) {
         return Outcome::Refused(Refusal::NotOpen);
     }
-    let x = transaction_at(kept, t);
-    let h = may_look(x.stale, d, 0, 0);
+    let h = may_look(is_stale(kept, t), d, 0, 0);
     if let Gate::Refused(r) = h {
         return Outcome::Refused(r);
     }
-    let chosen = chosen_by_pointer(x, d);
-    let v = settle_chosen(kept, t, x, chosen);
+    let chosen = chosen_by_pointer(kept, t, d);
+    let v = settle_chosen(kept, t, chosen);
     let Verdict::Settled = v else {
         return Outcome::Refused(Refusal::SettledPastEnd);
     };

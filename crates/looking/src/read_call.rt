@@ -10,11 +10,11 @@ use record::Descriptor;
 use record::layout::Record;
 use record::layout::file_at;
 use record::layout::is_begun;
+use record::layout::is_stale;
 use record::layout::lengthmarks_at;
 use record::layout::put_descriptor;
 use record::layout::put_lengthmarks;
 use record::layout::standing_at;
-use record::layout::transaction_at;
 use record::layout::used_at;
 use record::outcomes::Outcome;
 use record::outcomes::Refusal;
@@ -115,13 +115,12 @@ pub fn read<'a>(
     if !is_begun(kept, t) {
         return Outcome::Refused(Refusal::NotOpen);
     }
-    let x = transaction_at(kept, t);
-    let h = may_look(x.stale, d, n, reader.len());
+    let h = may_look(is_stale(kept, t), d, n, reader.len());
     if let Gate::Refused(r) = h {
         return Outcome::Refused(r);
     }
-    let chosen = chosen_by_read(kept, x, d);
-    let v = settle_chosen(kept, t, x, chosen);
+    let chosen = chosen_by_read(kept, t, d);
+    let v = settle_chosen(kept, t, chosen);
     let Verdict::Settled = v else {
         return Outcome::Refused(Refusal::SettledPastEnd);
     };

@@ -9,8 +9,6 @@ use standings::Standing;
 ghost use mathlib.Core.Bool.{_&&_};
 ghost use mathlib.Core.Path.{_≡_};
 ghost use Rattle.standings.specs.Table.{isTouched};
-ghost use Rattle.record.specs.State.{standingAt};
-ghost use Prim.Native.Nat.{_<_};
 
 pub const DESCRIPTORS: usize = 16;
 
@@ -53,16 +51,5 @@ impl Descriptor {
         }
         let z = self.standing;
         z.is_touched()
-    }
-}
-
-impl Transaction {
-    // The standing of descriptor d.
-    pub fn standing_at(self, d: usize) -> Standing
-        requires { ⌜ d < 16 ⌝ }
-        ensures { λ r. ⌜ r ≡ standingAt self d ⌝ }
-    {
-        let q = self.descriptors[d];
-        q.standing
     }
 }

@@ -22,21 +22,21 @@ use Rattle.settling.specs.Outcome.{SettledIn}
 use Rattle.settling.proofs.ChoiceLaws.{settling-none, transaction-settled}
 use Rattle.settling.proofs.RecordLaws.{placed-kept}
 
-pub sixteen : (x : Transaction) (before : List ℕ) (t : ℕ) → x ≡ transactionOf before t → length (x .descriptors) ≡ 16
-sixteen x before t own = ap (λ (y : Transaction). length (y .descriptors)) own ∙ sixteen-descriptors before t
+module _ (chosen : List Bool) (t : ℕ) (before : List ℕ) (ready : Placeable before t (transactionOf before t .used .records)) where
+  abbrev x : Transaction
+  x = transactionOf before t
 
-module _ (chosen : List Bool) (t : ℕ) (x : Transaction) (before : List ℕ) (own : x ≡ transactionOf before t) (ready : Placeable before t (x .used .records)) where
   abbrev offsets : List ℕ
   offsets = storeOf before .offsets
 
   own-again : withTransaction t x (storeOf before) ≡ storeOf before
   unfolding withTransaction
-  own-again = rw (own ∙ sym (transaction-of before t (ready .small)), set-getD (storeOf before .transactions) t noTransaction)
+  own-again = rw (sym (transaction-of before t (ready .small)), set-getD (storeOf before .transactions) t noTransaction)
 
   -- None was chosen.
   pub none-settled : ((e : ℕ) → e < 16 → getD chosen e false ≡ false) → SettledIn chosen t x before before Settled
   none-settled none =
-      let e = settling-none chosen offsets x none (sixteen x before t own) in
+      let e = settling-none chosen offsets x none (sixteen-descriptors before t) in
       let settled : settlingOf chosen offsets x .verdict ≡ Settled = ap (λ (r : Settling). r .verdict) e in
       record {
         answer = sym settled;
@@ -69,7 +69,7 @@ module _ (chosen : List Bool) (t : ℕ) (x : Transaction) (before : List ℕ) (o
           ∙ getD-tabulate (settledDescriptor chosen offsets x) 16 e noDescriptor h
 
       own-placed : transaction (storeOf placed) t ≡ x
-      own-placed = ap (λ (s : Store). transaction s t) (p .store) ∙ transaction-of before t (ready .small) ∙ sym own
+      own-placed = ap (λ (s : Store). transaction s t) (p .store) ∙ transaction-of before t (ready .small)
 
       -- One that is not chosen is as it was.
       not-chosen : (e : ℕ) → e < 16 → getD chosen e false ≡ false → then e ≡ descriptorOf placed t e

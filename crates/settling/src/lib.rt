@@ -7,9 +7,9 @@ use crate::records::place_records;
 use crate::settle::Verdict;
 use crate::settle::settle;
 use record::DESCRIPTORS;
-use record::Transaction;
 use record::layout::Record;
 use record::layout::put_chosen;
+use record::layout::transaction_at;
 ghost use mathlib.Core.Bool.{false};
 ghost use mathlib.Core.Path.{_≡_};
 ghost use Prim.Native.Nat.{ℕ, _<_};
@@ -31,21 +31,17 @@ fn any(chosen: [bool; DESCRIPTORS]) -> bool
     found
 }
 
-// Settles every chosen descriptor of transaction t in the record, or none. Where none is chosen there is nothing to
-// put.
-pub fn settle_chosen(
-    kept: &mut Record,
-    t: usize,
-    x: Transaction,
-    chosen: [bool; DESCRIPTORS],
-) -> Verdict
-    requires own { ⌜ x ≡ transactionOf (now kept) t ⌝ }
-    requires placeable { ⌜ Placeable (now kept) t (x .used .records) ⌝ }
-    ensures { λ r. ⌜ SettledIn chosen t x (now (kept .entry)) (now (kept .exit)) r ⌝ }
+// Settles every chosen descriptor of transaction t in the record, or none. The transaction is read whole only where
+// one is chosen.
+pub fn settle_chosen(kept: &mut Record, t: usize, chosen: [bool; DESCRIPTORS]) -> Verdict
+    requires { ⌜ Placeable (now kept) t (transactionOf (now kept) t .used .records) ⌝ }
+    ensures { λ r. ⌜ SettledIn chosen t (transactionOf (now (kept .entry)) t)
+        (now (kept .entry)) (now (kept .exit)) r ⌝ }
 {
     if !any(chosen) {
         return Verdict::Settled;
     }
+    let x = transaction_at(kept, t);
     let a = settle(kept, x, chosen);
     let v = a.verdict;
     let Verdict::Settled = v else {

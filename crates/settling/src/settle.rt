@@ -6,10 +6,11 @@ use record::Transaction;
 use record::layout::Record;
 use record::layout::file_at;
 use record::layout::offset_at;
+use record::layout::standing_at;
 ghost use mathlib.Core.Path.{_≡_};
 ghost use Prim.Native.Nat.{ℕ, _≤_, _<_};
 ghost use lib.ListN.{length, getD};
-ghost use Rattle.record.specs.Layout.{storeOf};
+ghost use Rattle.record.specs.Layout.{transactionOf, storeOf};
 ghost use Rattle.settling.specs.Choices.{chosenByRead, chosenByPointer, settlingOf};
 
 // Whether every chosen descriptor could be settled.
@@ -24,30 +25,30 @@ pub struct Settling {
     pub transaction: Transaction,
 }
 
-// The descriptors that a Read through d settles.
-pub fn chosen_by_read(kept: &Record, x: Transaction, d: usize) -> [bool; DESCRIPTORS]
-    requires { ⌜ d < 16 ⌝ }
-    ensures { λ r. ⌜ r ≡ chosenByRead (storeOf (now (kept .entry)) .filenumbers) x d ⌝ }
+// The descriptors that a Read through d settles in transaction t.
+pub fn chosen_by_read(kept: &Record, t: usize, d: usize) -> [bool; DESCRIPTORS]
+    requires { ⌜ (t < 8) × (d < 16) ⌝ }
+    ensures { λ r. ⌜ r
+        ≡ chosenByRead (storeOf (now (kept .entry)) .filenumbers) (transactionOf (now (kept .entry)) t) d ⌝ }
 {
     let mut chosen = [false; DESCRIPTORS];
     let f = file_at(kept, d);
     let mut e = 0;
     while e < DESCRIPTORS {
-        let q = x.descriptors[e];
-        let z = q.standing;
+        let z = standing_at(kept, t, e);
         chosen[e] = z.read_settles(file_at(kept, e) == f, e == d);
         e += 1;
     }
     chosen
 }
 
-// The one descriptor that a GetFilePointer on d settles, if it does.
-pub fn chosen_by_pointer(x: Transaction, d: usize) -> [bool; DESCRIPTORS]
-    requires { ⌜ d < 16 ⌝ }
-    ensures { λ r. ⌜ r ≡ chosenByPointer x d ⌝ }
+// The one descriptor that a GetFilePointer on d settles in transaction t, if it does.
+pub fn chosen_by_pointer(kept: &Record, t: usize, d: usize) -> [bool; DESCRIPTORS]
+    requires { ⌜ (t < 8) × (d < 16) ⌝ }
+    ensures { λ r. ⌜ r ≡ chosenByPointer (transactionOf (now (kept .entry)) t) d ⌝ }
 {
     let mut chosen = [false; DESCRIPTORS];
-    let z = x.standing_at(d);
+    let z = standing_at(kept, t, d);
     chosen[d] = z.pointer_settles();
     chosen
 }

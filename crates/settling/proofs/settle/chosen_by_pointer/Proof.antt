@@ -14,7 +14,7 @@ unfolding settlesForPointer chosenByPointer
 returns c =
     let d = c .before .before .args .d in
     ap (λ (b : Bool). set (replicate 16 false) d b) (c .pointer-settles .ensures ∙ ap pointerSettles (c .before .standing-at .ensures))
-    ∙ one-chosen d _ (c .before .before .pre)
+    ∙ one-chosen d _ (c .before .before .pre .1)
 
 pub chosen-by-pointer-spec : {M : Type 1} → statement M
 chosen-by-pointer-spec =

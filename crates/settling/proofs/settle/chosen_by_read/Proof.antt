@@ -8,18 +8,18 @@ use native.Mathlib.Omega.{arith}
 use borrow.Author.Needs.{needs}
 use Prim.Native.Nat.{ℕ, _-_, _≤_}
 use Rattle.standings.specs.Table.{readSettles}
-use Rattle.record.specs.Layout.{storeOf}
-use Rattle.record.specs.State.{standingAt}
+use Rattle.record.specs.Layout.{transactionOf, storeOf}
 use Rattle.record.proofs.Filled.{filled, filled-none, filled-all, filled-set}
 use Rattle.settling.specs.Choices.{settlesForRead, chosenByRead}
 use Rattle.settling.proofs.settle.chosen_by_read.Statement.{statement}
 use Rattle.settling.proofs.settle.chosen_by_read.Tie as tie
 
 abbrev Inv-loop : tie.InvT-loop
-Inv-loop kept d x chosen₀ f e₀ chosen e = (e ≤ 16) × (chosen ≡ filled (settlesForRead (storeOf kept .filenumbers) x d) (replicate 16 false) e)
+Inv-loop kept t d chosen₀ f e₀ chosen e =
+    (e ≤ 16) × (chosen ≡ filled (settlesForRead (storeOf kept .filenumbers) (transactionOf kept t) d) (replicate 16 false) e)
 
 abbrev μ-loop : tie.MeasureT-loop
-μ-loop kept d x chosen₀ f e₀ chosen e = 16 - e
+μ-loop kept t d chosen₀ f e₀ chosen e = 16 - e
 
 loop-holds : tie.Need-loop-holds Inv-loop μ-loop
 loop-holds c = (omega arith, sym (filled-none _ (replicate 16 false)))
@@ -34,7 +34,8 @@ loop-again c =
       ap (λ (l : List Bool). set l e (c .read-settles .result)) (at-loop .loop .inv .1)
           ∙ filled-set _ (replicate 16 false) e (c .read-settles .result) (omega arith)
           (c .read-settles .ensures
-          ∙ ap₂ (λ (f g : ℕ). readSettles (eqb f g) (eqb e (a .d)) (standingAt (a .t2) e)) (c .before .file-at2 .ensures) (at-loop .before .file-at .ensures)),
+          ∙ ap₂ (λ (f g : ℕ). readSettles (eqb f g) (eqb e (a .d)) (c .before .before .standing-at .result)) (c .before .file-at2 .ensures) (at-loop .before .file-at .ensures)
+          ∙ ap (readSettles _ (eqb e (a .d))) (c .before .before .standing-at .ensures)),
     )
 
 returns : tie.Need-returns Inv-loop μ-loop
@@ -54,8 +55,7 @@ chosen-by-read-spec =
     μ-loop
     (λ c κs. search needs)
     loop-holds
-    (λ c. search needs)
-    (λ c. search needs)
+    (λ c κs. search needs)
     (λ c κs. search needs)
     (λ c κs. search needs)
     (λ c. search needs)

@@ -85,7 +85,7 @@ fn plain(c: Step, lent: &Buffers) -> Call {
         script::WRITE => action(Action::Write { data: bytes }),
         script::POINTER => action(Action::GetFilePointer),
         script::READ => action(Action::Read { count: c.n, buffer: lent.reader.clone() }),
-        script::COMMIT => Call::Commit(c.t),
+        script::COMMIT => Call::Commit { transaction: c.t, minute: script::MINUTE },
         _ => Call::Abort(c.t),
     }
 }

@@ -11,6 +11,9 @@ pub const READ: u8 = 5;
 pub const COMMIT: u8 = 6;
 pub const ABORT: u8 = 7;
 
+/// The minute of every Commit.
+pub const MINUTE: usize = 0;
+
 /// Where a Write's bytes start in the data: behind the sixteen file numbers of Fresh.
 pub const BYTES: usize = 16;
 

@@ -6,7 +6,7 @@ use twin::call::Refusal;
 use twin::store::{Lent, Store, BUFFER, DESCRIPTORS};
 
 /// How many numbers the record of the proved store has.
-const NUMBERS: usize = 2088;
+const NUMBERS: usize = 2104;
 
 extern "C" {
     fn bench_calls_run(
@@ -148,7 +148,7 @@ fn call(store: &mut Store, lent: &mut Lent, c: Step, data: &[u8], reader: &mut [
         script::WRITE => answer(0, store.write(lent, c.t, c.d, bytes).map(|()| 0)),
         script::POINTER => answer(1, store.get_file_pointer(lent, c.t, c.d).map(u64::from)),
         script::READ => answer(2, store.read(lent, c.t, c.d, c.n, reader).map(u64::from)),
-        script::COMMIT => answer(GRANTED, store.commit(lent, c.t).map(u64::from)),
+        script::COMMIT => answer(GRANTED, store.commit(lent, c.t, script::MINUTE).map(u64::from)),
         script::ABORT => answer(0, store.abort(lent, c.t).map(|()| 0)),
         _ => (0, 0),
     }

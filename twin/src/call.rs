@@ -23,7 +23,7 @@ pub struct Step {
     pub action: Action,
 }
 
-/// A call with its arguments. The first number is the transaction.
+/// A call with its arguments. A number without a name is the transaction.
 #[derive(Clone, Debug, PartialEq, Eq)]
 pub enum Call {
     Fresh {
@@ -37,8 +37,17 @@ pub enum Call {
         file: usize,
         buffer: Vec<u8>,
     },
-    Commit(usize),
+    Commit {
+        transaction: usize,
+        minute: usize,
+    },
     Abort(usize),
+    /// Sets the hours in which a file may change.
+    Window {
+        file: usize,
+        start: usize,
+        end: usize,
+    },
 }
 
 #[derive(Clone, Copy, Debug, PartialEq, Eq)]
@@ -61,8 +70,8 @@ pub enum Refusal {
     NoSuchTransaction = 3,
     NotOpen = 4,
     AlreadyOpen = 5,
-    /// Also a file number above 7 in Places.
-    NoSuchDescriptor = 6,
+    /// A descriptor number above 15, or a file number above 7 in Places or Window.
+    NoSuchTarget = 6,
     ReaderTooShort = 7,
     SeekPastEnd = 8,
     WritePastEnd = 9,
@@ -76,6 +85,8 @@ pub enum Refusal {
     /// A line of a trace; no call meets it.
     BadLine = 17,
     StaleReader = 18,
+    FileClosed = 21,
+    NoSuchMinute = 22,
 }
 
 impl Refusal {

@@ -1,10 +1,12 @@
 //! Corners of Places, of looking, of stale readers and of lengths (requests F-1, F-2, F-6 and F-8), as lists of calls
-//! on store and plain machine together, and on forged records.
+//! on store and plain machine together, and on forged records. Those of later requests have modules of their own.
+
+mod windows;
 
 use crate::call::{Action, Answer, Call, Refusal, Step};
 use crate::pair::Pair;
 use crate::plain::Item;
-use crate::store::{Lent, Standing, Store, BUFFER, DESCRIPTORS, FILES};
+use crate::store::{Buffers, Standing, Store, DESCRIPTORS, FILES};
 use crate::vectors::run;
 
 const START: &str = "\
@@ -235,15 +237,14 @@ pointer 0 0 -> refused 4
 /// What a Commit of transaction 0 leaves in offset 3, on a record in which descriptor 3 stands so, was acted on or not, and
 /// has the committed offset 7.
 fn committed_from(standing: Standing, acted: u16) -> Result<u16, Refusal> {
-    let mut buffers = [vec![0; BUFFER], vec![0; BUFFER], vec![0; BUFFER]];
-    let [files, logs, marks] = &mut buffers;
-    let mut lent = Lent { files, logs, marks };
+    let mut buffers = Buffers::zeros();
+    let mut lent = buffers.lend();
     let mut store = Store::new([0; DESCRIPTORS]);
     store.begin(&mut lent, 0)?;
     store.offsets[3] = 7;
     store.transactions[0].standings[3] = standing;
     store.transactions[0].acted = acted;
-    store.commit(&mut lent, 0).map(|_| store.offsets[3])
+    store.commit(&mut lent, 0, 0).map(|_| store.offsets[3])
 }
 
 #[test]
@@ -466,7 +467,7 @@ fn a_write_without_a_place_counts_when_it_is_placed() {
         assert_eq!(pair.call(&Call::Begin(0), None).outcome, Ok(Answer::Done));
         if commit {
             step(&mut pair, 0, Action::Seek { to: 10 });
-            assert_eq!(pair.call(&Call::Commit(0), None).outcome, Ok(Answer::Granted(0)));
+            assert_eq!(pair.call(&Call::Commit { transaction: 0, minute: 0 }, None).outcome, Ok(Answer::Granted(0)));
         }
     }
     step(&mut pair, 0, Action::Write { data: b"AB".to_vec() });
@@ -484,9 +485,8 @@ fn a_write_without_a_place_counts_when_it_is_placed() {
 
 #[test]
 fn a_length_above_4096_is_refused_by_all_but_fresh() {
-    let mut buffers = [vec![0; BUFFER], vec![0; BUFFER], vec![0; BUFFER]];
-    let [files, logs, marks] = &mut buffers;
-    let mut lent = Lent { files, logs, marks };
+    let mut buffers = Buffers::zeros();
+    let mut lent = buffers.lend();
     for file in 0..FILES {
         let mut store = Store::new([0; DESCRIPTORS]);
         store.lengths[file] = 4096;
@@ -500,7 +500,7 @@ fn a_length_above_4096_is_refused_by_all_but_fresh() {
         assert_eq!(store.get_file_pointer(&mut lent, 0, 0), Err(Refusal::RecordRange));
         assert_eq!(store.read(&mut lent, 0, 0, 1, &mut [7]), Err(Refusal::RecordRange));
         assert_eq!(store.places(&lent, 0, 0, &mut []), Err(Refusal::RecordRange));
-        assert_eq!(store.commit(&mut lent, 0), Err(Refusal::RecordRange));
+        assert_eq!(store.commit(&mut lent, 0, 0), Err(Refusal::RecordRange));
         assert_eq!(store.abort(&mut lent, 0), refused);
         assert_eq!(store, forged);
         assert_eq!(store.fresh(&mut lent, &[0; DESCRIPTORS]), Ok(()));
@@ -510,14 +510,13 @@ fn a_length_above_4096_is_refused_by_all_but_fresh() {
 
 #[test]
 fn sighted_lengths_of_a_closed_number_are_passed_over_and_cleared() {
-    let mut buffers = [vec![0; BUFFER], vec![0; BUFFER], vec![0; BUFFER]];
-    let [files, logs, marks] = &mut buffers;
-    let mut lent = Lent { files, logs, marks };
+    let mut buffers = Buffers::zeros();
+    let mut lent = buffers.lend();
     let mut store = Store::new([0; DESCRIPTORS]);
     assert_eq!(store.begin(&mut lent, 0), Ok(()));
     store.transactions[1].sighted_lengths = 255;
     assert_eq!(store.write(&mut lent, 0, 0, b"A"), Ok(()));
-    assert_eq!(store.commit(&mut lent, 0), Ok(0));
+    assert_eq!(store.commit(&mut lent, 0, 0), Ok(0));
     assert_eq!((store.transactions[1].sighted_lengths, store.transactions[1].stale), (255, false));
     assert_eq!(store.begin(&mut lent, 1), Ok(()));
     assert_eq!(store.transactions[1].sighted_lengths, 0);
@@ -525,9 +524,9 @@ fn sighted_lengths_of_a_closed_number_are_passed_over_and_cleared() {
 
 #[test]
 fn bytes_beyond_a_forged_length_are_shown_up_to_an_own_write() {
-    let mut buffers = [vec![5; BUFFER], vec![0; BUFFER], vec![0; BUFFER]];
-    let [files, logs, marks] = &mut buffers;
-    let mut lent = Lent { files, logs, marks };
+    let mut buffers = Buffers::zeros();
+    buffers.files.fill(5);
+    let mut lent = buffers.lend();
     let mut store = Store::new([0; DESCRIPTORS]);
     store.lengths[0] = 2;
     assert_eq!(store.begin(&mut lent, 0), Ok(()));

@@ -2,7 +2,7 @@
 //! h' = (65521 h + n + 1) mod (2^48 - 59), for n up to 65,535. Nothing in it goes past 64 bits.
 
 use crate::call::{Answer, Outcome};
-use crate::store::{Place, Standing, Store, Transaction, WriteRecord};
+use crate::store::{Buffers, Place, Standing, Store, Transaction, WriteRecord};
 
 const FACTOR: u64 = 65521;
 const MODULUS: u64 = 281_474_976_710_597;
@@ -60,19 +60,22 @@ impl Digest {
     }
 }
 
-/// The digest of a state, by what it means: the descriptors' files; the committed offsets; the committed lengths; each
-/// transaction; the bytes of files, logs and marks. Every number is taken in whole.
-pub fn of_state(store: &Store, files: &[u8], logs: &[u8], marks: &[u8]) -> u64 {
+/// The digest of a state, by what it means: the descriptors' files; the committed offsets; the committed lengths; start and
+/// end of each window; each transaction; the bytes of files, logs and marks. Every number is taken in whole.
+pub fn of_state(store: &Store, buffers: &Buffers) -> u64 {
     let mut digest = Digest::default();
     digest.take_all(&store.files);
     digest.take_all(&store.offsets);
     digest.take_all(&store.lengths);
+    for window in &store.windows {
+        digest.take_all(&[window.start, window.end]);
+    }
     for transaction in &store.transactions {
         digest.take_transaction(transaction);
     }
-    digest.take_all(files);
-    digest.take_all(logs);
-    digest.take_all(marks);
+    digest.take_all(&buffers.files);
+    digest.take_all(&buffers.logs);
+    digest.take_all(&buffers.marks);
     digest.value()
 }
 
@@ -103,6 +106,6 @@ mod tests {
     #[test]
     fn the_digest_at_the_start() {
         let state = Pair::new().state;
-        assert_eq!(super::of_state(&state.store, &state.files, &state.logs, &state.marks), 173233549664945);
+        assert_eq!(super::of_state(&state.store, &state.buffers), 119130975807168);
     }
 }

@@ -1,15 +1,16 @@
 //! Forged records, which no run from Fresh reaches.
 
 use crate::generator::Damage;
-use crate::store::{Log, Place, Standing, Store, Transaction, WriteRecord, DESCRIPTORS, FILES, SPAN};
+use crate::store::{Log, Place, Standing, Store, Transaction, Window, WriteRecord, DESCRIPTORS, FILES, SPAN};
 
 const EMPTY_RECORD: WriteRecord = WriteRecord { descriptor: 0, place: Place::At(0), length: 0 };
 
-/// Puts a field out of range; the number of the forgery, 1 to 16, says which. 3 to 15 are about transaction t, which is
+/// Puts a field out of range; the number of the forgery, 1 to 18, says which. 3 to 15 are about transaction t, which is
 /// counted as begun.
 pub fn forge(store: &mut Store, damage: &Damage) {
     let i = damage.forged_index as usize;
     let above = (4097 + damage.excess % 61439) as u16;
+    let above_minutes = (1440 + damage.excess % 64096) as u16;
     let transaction = &mut store.transactions[damage.forged_transaction as usize];
     let standing = &mut transaction.standings[i];
     match damage.forgery {
@@ -21,6 +22,8 @@ pub fn forge(store: &mut Store, damage: &Damage) {
         6 => *standing = Standing::Moved { advance: 0, offset: above },
         7 => *standing = Standing::Known(above),
         16 => store.lengths[i % FILES] = above,
+        17 => store.windows[i % FILES].start = above_minutes,
+        18 => store.windows[i % FILES].end = above_minutes,
         _ => forge_log(transaction, damage),
     }
     if (3..16).contains(&damage.forgery) {
@@ -87,6 +90,7 @@ pub fn garbage_in_record(store: &mut Store) {
     store.files = [255; DESCRIPTORS];
     store.offsets = [5000; DESCRIPTORS];
     store.lengths = [5000; FILES];
+    store.windows = [Window { start: 1440, end: 65535 }; FILES];
     store.transactions[7].begun = true;
     store.transactions[7].acted = u16::MAX;
     store.transactions[7].sighted_lengths = u8::MAX;

@@ -32,19 +32,20 @@ pub const READ: u64 = 5;
 pub const PLACES: u64 = 6;
 pub const COMMIT: u64 = 7;
 pub const ABORT: u64 = 8;
+pub const WINDOW: u64 = 9;
 
-const KINDS: u64 = 9;
+const KINDS: u64 = 10;
 
-/// How many of 1,000 calls are of each kind, for each mode (nine numbers a mode).
-const WEIGHTS: [u64; 72] = [
-    4, 20, 220, 260, 85, 226, 40, 102, 43, // mixed
-    4, 20, 175, 225, 130, 200, 40, 162, 44, // crowded
-    4, 10, 60, 800, 10, 56, 40, 12, 8, // many records
-    4, 20, 220, 440, 30, 101, 40, 92, 53, // long writes
-    4, 20, 220, 270, 85, 160, 40, 151, 50, // near the end
-    4, 20, 210, 250, 65, 270, 40, 102, 39, // long reads
-    4, 20, 340, 340, 20, 100, 150, 16, 10, // scattered
-    24, 20, 60, 330, 10, 330, 16, 180, 30, // short files
+/// How many of 1,000 calls are of each kind, for each mode (ten numbers a mode).
+const WEIGHTS: [u64; 80] = [
+    4, 20, 210, 250, 80, 211, 40, 102, 43, 40, // mixed
+    4, 20, 165, 215, 120, 190, 40, 162, 44, 40, // crowded
+    4, 10, 60, 790, 10, 56, 40, 12, 8, 10, // many records
+    4, 20, 210, 420, 30, 91, 40, 92, 53, 40, // long writes
+    4, 20, 210, 260, 80, 145, 40, 151, 50, 40, // near the end
+    4, 20, 200, 240, 60, 255, 40, 102, 39, 40, // long reads
+    4, 20, 335, 335, 20, 100, 150, 16, 10, 10, // scattered
+    24, 20, 50, 320, 10, 320, 16, 180, 30, 30, // short files
 ];
 
 /// How many transaction numbers a mode mostly uses.
@@ -68,10 +69,14 @@ pub struct Request {
     pub kind: u64,
     pub transaction: u64,
     pub descriptor: u64,
-    /// The file that Places asks about.
+    /// The file that Places asks about, or whose window is set.
     pub file: u64,
     /// Where a Seek goes, how many bytes a Write has or a Read wants.
     pub number: u64,
+    /// The minute of a Commit, or a window's start.
+    pub minute: u64,
+    /// A window's end.
+    pub end: u64,
     /// The length of a Read's or Places' buffer. It is filled with `BLANK` before the call.
     pub buffer: u64,
     /// Byte i of a Write is (data_first + data_step i) mod 256.
@@ -91,7 +96,7 @@ pub struct Damage {
     /// 1, 2, 3: of the files, logs, marks only the first `short_length` bytes are lent.
     pub short: u64,
     pub short_length: u64,
-    /// 1 to 16: the call gets a copy of the record with a field out of range (see forge.rs).
+    /// 1 to 18: the call gets a copy of the record with a field out of range (see forge.rs).
     pub forgery: u64,
     pub forged_transaction: u64,
     pub forged_index: u64,
@@ -143,6 +148,8 @@ fn request(kind: u64, transaction: u64, mode: u64, r: &[u64; DRAWS]) -> Request 
         descriptor: descriptor(mode, r[2]),
         file: file(mode, r[2]),
         number: number(kind, mode, r[3], r[4]),
+        minute: minute(r[3], r[4]),
+        end: if r[10] % 2 == 0 { minute(r[3], r[4]) } else { minute(r[5], r[6]) },
         buffer: buffer(kind, mode, r[3] % 16, r[4]),
         data_first: if zeros { 0 } else { r[5] % 256 },
         data_step: if zeros { 0 } else { r[6] % 256 },
@@ -154,19 +161,20 @@ fn request(kind: u64, transaction: u64, mode: u64, r: &[u64; DRAWS]) -> Request 
 
 fn kind(mode: u64, r: u64) -> u64 {
     let mut rest = r % 1000;
-    for kind in FRESH..ABORT {
+    for kind in FRESH..WINDOW {
         let weight = WEIGHTS[(KINDS * mode + kind) as usize];
         if rest < weight {
             return kind;
         }
         rest -= weight;
     }
-    ABORT
+    WINDOW
 }
 
 /// A call on a transaction that seems not to be open is made a Begin, seven times out of eight.
 fn begun_first(kind: u64, transaction: u64, open: [bool; 8], r: u64) -> u64 {
-    if kind > BEGIN && transaction < 8 && !open[transaction as usize] && r % 8 != 0 {
+    let on_transaction = SEEK <= kind && kind <= ABORT && transaction < 8;
+    if on_transaction && !open[transaction as usize] && r % 8 != 0 {
         BEGIN
     } else {
         kind
@@ -288,6 +296,17 @@ fn write_length(mode: u64, class: u64, value: u64) -> u64 {
     }
 }
 
+/// Mostly around midnight and noon, sometimes any, now and then 1,440 or more.
+fn minute(class: u64, value: u64) -> u64 {
+    if class % 16 == 0 {
+        1440 + value % 2 * (value / 2 % 64096)
+    } else if class % 16 < 12 {
+        (720 * (value % 2) + 1439 + value / 2 % 3) % 1440
+    } else {
+        value % 1440
+    }
+}
+
 fn buffer(kind: u64, mode: u64, class: u64, value: u64) -> u64 {
     if kind == PLACES {
         list_room(class, value)
@@ -372,7 +391,7 @@ fn damage(kind: u64, r: &[u64; DRAWS]) -> Damage {
     Damage {
         short: if short { 1 + r[8] % 3 } else { 0 },
         short_length: if r[9] % 2 == 0 { 32767 } else { r[9] / 2 % 32768 },
-        forgery: if forged { 1 + r[8] % 16 } else { 0 },
+        forgery: if forged { 1 + r[8] % 18 } else { 0 },
         forged_transaction: r[9] % 8,
         forged_index: r[9] / 8 % 16,
         excess: r[10],

@@ -11,7 +11,8 @@ use std::process::ExitCode;
 use twin::call::{Action, Call, Step};
 use twin::digest::{self, Digest};
 use twin::generator::{self, Generator, Request};
-use twin::pair::{Pair, Tally};
+use twin::pair::Pair;
+use twin::tally::Tally;
 use twin::trace;
 use twin::traces;
 use twin::vectors;
@@ -128,7 +129,8 @@ fn run(options: &Options) -> io::Result<()> {
     }
     pair.check_at_rest();
     if options.stats {
-        write_stats(&mut out, options.calls, &pair.tally)?;
+        writeln!(out, "calls {}", options.calls)?;
+        pair.tally.write(&mut out)?;
     }
     out.flush()
 }
@@ -140,8 +142,11 @@ fn call(request: &Request) -> Call {
         generator::FRESH => Call::Fresh { files: request.list[..request.list_length as usize].to_vec() },
         generator::BEGIN => Call::Begin(transaction),
         generator::PLACES => Call::Places { transaction, file: request.file as usize, buffer: blank(request) },
-        generator::COMMIT => Call::Commit(transaction),
+        generator::COMMIT => Call::Commit { transaction, minute: request.minute as usize },
         generator::ABORT => Call::Abort(transaction),
+        generator::WINDOW => {
+            Call::Window { file: request.file as usize, start: request.minute as usize, end: request.end as usize }
+        }
         _ => Call::Step(transaction, Step { descriptor: request.descriptor as usize, action: action(request) }),
     }
 }
@@ -165,39 +170,13 @@ fn data(request: &Request) -> Vec<u8> {
     (0..request.number).map(|i| ((request.data_first + request.data_step * i) % 256) as u8).collect()
 }
 
-/// Calls so far; done, offset, given, granted, pairs; refusals 1 to 18; the digest of the state, the digest of all answers.
+/// Calls so far; done, offset, given, granted, pairs; refusals 1 to 22; the digest of the state, the digest of all answers.
 fn write_line(out: &mut impl Write, made: u64, pair: &Pair, answers: Digest) -> io::Result<()> {
     let Tally { done, offset, given, granted, pairs, refused, .. } = &pair.tally;
     write!(out, "{made} {done} {offset} {given} {granted} {pairs}")?;
     for count in &refused[1..] {
         write!(out, " {count}")?;
     }
-    let state = &pair.state;
-    let digest = digest::of_state(&state.store, &state.files, &state.logs, &state.marks);
+    let digest = digest::of_state(&pair.state.store, &pair.state.buffers);
     writeln!(out, " {digest} {}", answers.value())
-}
-
-fn write_stats(out: &mut impl Write, calls: u64, tally: &Tally) -> io::Result<()> {
-    writeln!(out, "calls {calls}")?;
-    writeln!(out, "done {}", tally.done)?;
-    writeln!(out, "offset {}", tally.offset)?;
-    writeln!(out, "given {}", tally.given)?;
-    writeln!(out, "granted {}", tally.granted)?;
-    writeln!(out, "pairs {}", tally.pairs)?;
-    for (number, count) in tally.refused.iter().enumerate().skip(1) {
-        writeln!(out, "refused {number}: {count}")?;
-    }
-    writeln!(out, "granted with others open {}", tally.granted_among_others)?;
-    writeln!(out, "granted, making others stale {}", tally.granted_making_stale)?;
-    writeln!(out, "granted after a look and a write {}", tally.granted_after_look)?;
-    writeln!(out, "lists of one pair {}", tally.one_pair)?;
-    writeln!(out, "lists of several pairs {}", tally.several_pairs)?;
-    writeln!(out, "short reads {}", tally.short)?;
-    writeln!(out, "short reads with bytes, up to the committed length {}", tally.short_at_committed)?;
-    writeln!(out, "short reads with bytes, up to an own write {}", tally.short_at_own)?;
-    writeln!(out, "short reads from beyond the length {}", tally.short_beyond)?;
-    writeln!(out, "granted, raising a length {}", tally.granted_raising)?;
-    writeln!(out, "granted up to a length that stays, sighted by others {}", tally.granted_meeting)?;
-    writeln!(out, "made stale by a length {}", tally.stale_by_length)?;
-    writeln!(out, "made stale by lengths alone {}", tally.stale_by_length_alone)
 }

@@ -3,56 +3,27 @@
 use crate::call::{Action, Answer, Call, Outcome, Refusal, Reply, Step};
 use crate::forge::{forge, garbage_in_closed, garbage_in_record};
 use crate::generator::Damage;
-use crate::plain::{self, Committed, Course, Item, Machine};
-use crate::store::{self, Lent, Standing, Store, Transaction, BUFFER, DESCRIPTORS, FILES, SPAN, TRANSACTIONS};
+use crate::plain::{self, Committed, Course, Item, Machine, FRESH_WINDOWS};
+use crate::store::{
+    self, Buffers, Lent, Standing, Store, Transaction, Window, BUFFER, DESCRIPTORS, FILES, SPAN, TRANSACTIONS,
+};
+use crate::tally::Tally;
 
-/// The store's record with its three buffers.
+/// The store's record with its buffers.
 #[derive(Clone, PartialEq, Eq)]
 pub struct State {
     pub store: Store,
-    pub files: Vec<u8>,
-    pub logs: Vec<u8>,
-    pub marks: Vec<u8>,
-}
-
-/// How often each outcome was met.
-#[derive(Clone, Debug, Default)]
-pub struct Tally {
-    pub done: u64,
-    pub offset: u64,
-    pub given: u64,
-    pub granted: u64,
-    pub pairs: u64,
-    /// By the refusal's number; the first entry stays 0.
-    pub refused: [u64; 19],
-    /// Grants while another transaction was open.
-    pub granted_among_others: u64,
-    /// Grants that made another transaction stale.
-    pub granted_making_stale: u64,
-    /// Grants of a transaction with a Read or GetFilePointer and a Write.
-    pub granted_after_look: u64,
-    /// Lists of places with one pair, and with more.
-    pub one_pair: u64,
-    pub several_pairs: u64,
-    /// Reads that gave fewer bytes than wanted.
-    pub short: u64,
-    /// Those of them that gave some, up to the committed length, and up to an own write beyond it.
-    pub short_at_committed: u64,
-    pub short_at_own: u64,
-    /// Those of them that began beyond the length.
-    pub short_beyond: u64,
-    /// Grants that raised a length.
-    pub granted_raising: u64,
-    /// Grants with a byte just before a length that they leave as it is, while another transaction has sighted that length
-    /// and stays as it was.
-    pub granted_meeting: u64,
-    /// Transactions made stale by a length, and by lengths alone.
-    pub stale_by_length: u64,
-    pub stale_by_length_alone: u64,
+    pub buffers: Buffers,
 }
 
 /// An accepted call of a transaction, and what the store replied.
 type Served = (Step, Reply);
+
+/// A granted transaction: its accepted calls, and the minute of its Commit.
+struct Grant {
+    served: Vec<Served>,
+    minute: usize,
+}
 
 pub struct Pair {
     pub state: State,
@@ -65,30 +36,34 @@ pub struct Pair {
     /// The accepted calls of each open transaction.
     served: [Vec<Served>; TRANSACTIONS],
     /// The transactions granted since the last Fresh, in the order of their grants.
-    granted: Vec<Vec<Served>>,
+    granted: Vec<Grant>,
 }
 
 impl State {
     fn new() -> State {
-        let zeros = vec![0; BUFFER];
-        State { store: Store::new([0; DESCRIPTORS]), files: zeros.clone(), logs: zeros.clone(), marks: zeros }
+        State { store: Store::new([0; DESCRIPTORS]), buffers: Buffers::zeros() }
     }
 
     fn apply(&mut self, call: &Call) -> Reply {
-        let mut lent = Lent { files: &mut self.files, logs: &mut self.logs, marks: &mut self.marks };
-        apply(&mut self.store, &mut lent, call)
+        apply(&mut self.store, &mut self.buffers.lend(), call)
     }
 
     /// The call with one of the buffers (1 files, 2 logs, 3 marks, 0 none) lent only in part.
     fn apply_short(&mut self, call: &Call, short: u64, length: usize) -> Reply {
-        let part = |which: u64| if short == which { length } else { BUFFER };
-        let mut lent = Lent {
-            files: &mut self.files[..part(1)],
-            logs: &mut self.logs[..part(2)],
-            marks: &mut self.marks[..part(3)],
-        };
+        let mut lent = self.buffers.lend();
+        match short {
+            1 => shorten(&mut lent.files, length),
+            2 => shorten(&mut lent.logs, length),
+            3 => shorten(&mut lent.marks, length),
+            _ => {}
+        }
         apply(&mut self.store, &mut lent, call)
     }
+}
+
+fn shorten(buffer: &mut &mut [u8], length: usize) {
+    let whole = std::mem::take(buffer);
+    *buffer = &mut whole[..length];
 }
 
 /// Makes the call on a store.
@@ -101,8 +76,9 @@ fn apply(store: &mut Store, lent: &mut Lent, call: &Call) -> Reply {
         Call::Places { transaction, file, .. } => {
             store.places(lent, *transaction, *file, &mut buffer).map(Answer::Pairs)
         }
-        Call::Commit(t) => store.commit(lent, *t).map(Answer::Granted),
+        Call::Commit { transaction, minute } => store.commit(lent, *transaction, *minute).map(Answer::Granted),
         Call::Abort(t) => store.abort(lent, *t).map(|()| Answer::Done),
+        Call::Window { file, start, end } => store.set_window(lent, *file, *start, *end).map(|()| Answer::Done),
     };
     Reply { outcome, buffer }
 }
@@ -122,25 +98,6 @@ fn untouched_buffer(call: &Call) -> Vec<u8> {
     match call {
         Call::Step(_, Step { action: Action::Read { buffer, .. }, .. }) | Call::Places { buffer, .. } => buffer.clone(),
         _ => Vec::new(),
-    }
-}
-
-impl Tally {
-    fn count(&mut self, outcome: Outcome) {
-        match outcome {
-            Ok(Answer::Done) => self.done += 1,
-            Ok(Answer::Offset(_)) => self.offset += 1,
-            Ok(Answer::Given(_)) => self.given += 1,
-            Ok(Answer::Granted(_)) => self.granted += 1,
-            Ok(Answer::Pairs(count)) => self.count_pairs(count),
-            Err(refusal) => self.refused[refusal.number()] += 1,
-        }
-    }
-
-    fn count_pairs(&mut self, count: u16) {
-        self.pairs += 1;
-        self.one_pair += u64::from(count == 1);
-        self.several_pairs += u64::from(count > 1);
     }
 }
 
@@ -208,6 +165,9 @@ impl Pair {
             Err(Refusal::Stale) => self.call_stale(call),
             Err(refusal) => {
                 self.call_refused(call, refusal);
+                if let Call::Commit { transaction, minute } = *call {
+                    self.tally.count_kept_open(&self.machine, transaction, minute, refusal);
+                }
             }
         }
         expected
@@ -222,6 +182,7 @@ impl Pair {
 
     fn call_accepted(&mut self, call: &Call, expected: &Reply, answer: Answer) {
         self.expect_log_bytes(call);
+        let with_window = self.with_window(call);
         let lengths = self.state.store.lengths;
         let with_garbage = self.with_garbage(call);
         let reply = self.state.apply(call);
@@ -230,18 +191,26 @@ impl Pair {
             assert_eq!(with_garbage.apply(call), *expected, "{call:?} after garbage");
             assert!(with_garbage == self.state, "{call:?} leaves some garbage");
         }
-        self.keep_history(call, reply, answer);
+        if let Some(with_window) = with_window {
+            assert!(with_window == self.state, "{call:?} changed something else");
+        }
         self.check_moment(call, expected);
         self.check_record();
         match (call, answer) {
             (Call::Step(t, step), Answer::Given(given)) => {
+                let course = &self.machine.open[*t].as_ref().expect("it is open").course;
                 self.check_latest_writes(*t, step.descriptor, usize::from(given));
                 self.check_sighted_lengths(*t);
-                self.count_read(*t, step, usize::from(given));
+                self.tally.count_read(&self.machine.committed, course, step, usize::from(given));
             }
-            (_, Answer::Granted(octet)) => self.count_lengths(lengths, octet),
+            (Call::Commit { transaction, minute }, Answer::Granted(octet)) => {
+                self.check_hours(*minute);
+                self.tally.count_grant(&self.machine, &self.served[*transaction], octet);
+                self.tally.count_lengths(&self.machine, &self.state.store, lengths, octet);
+            }
             _ => {}
         }
+        self.keep_history(call, reply);
     }
 
     /// What a call that looks gave is what its transaction's accepted calls up to it give, run alone on what is committed now.
@@ -261,15 +230,23 @@ impl Pair {
         }
         let mut state = self.state.clone();
         match call {
-            Call::Begin(t) => garbage_in_closed(&mut state.store, &mut state.marks, *t),
+            Call::Begin(t) => garbage_in_closed(&mut state.store, &mut state.buffers.marks, *t),
             _ => garbage_in_record(&mut state.store),
         }
         Some(state)
     }
 
+    /// For the setting of a window: the state with this window, and otherwise as it is.
+    fn with_window(&self, call: &Call) -> Option<State> {
+        let &Call::Window { file, start, end } = call else { return None };
+        let mut state = self.state.clone();
+        state.store.windows[file] = Window { start: start as u16, end: end as u16 };
+        Some(state)
+    }
+
     /// A Commit refused with 13 leaves what an Abort leaves.
     fn call_stale(&mut self, call: &Call) {
-        let &Call::Commit(t) = call else {
+        let &Call::Commit { transaction: t, .. } = call else {
             panic!("{call:?}: 13 from a call that is no Commit");
         };
         let mut aborted = self.state.clone();
@@ -288,7 +265,7 @@ impl Pair {
         }
     }
 
-    fn keep_history(&mut self, call: &Call, reply: Reply, answer: Answer) {
+    fn keep_history(&mut self, call: &Call, reply: Reply) {
         match call {
             Call::Fresh { files } => {
                 self.fresh_files = files.clone();
@@ -297,76 +274,30 @@ impl Pair {
             }
             Call::Begin(t) | Call::Abort(t) => self.served[*t].clear(),
             Call::Step(t, step) => self.served[*t].push((step.clone(), reply)),
-            Call::Places { .. } => {}
-            Call::Commit(t) => self.keep_grant(*t, answer),
-        }
-    }
-
-    fn keep_grant(&mut self, t: usize, answer: Answer) {
-        let served = std::mem::take(&mut self.served[t]);
-        let writes = served.iter().any(|(step, _)| matches!(step.action, Action::Write { .. }));
-        let looks = |step: &Step| matches!(step.action, Action::Read { .. } | Action::GetFilePointer);
-        let others_open = self.machine.open.iter().any(Option::is_some);
-        self.tally.granted_among_others += u64::from(others_open);
-        self.tally.granted_making_stale += u64::from(answer != Answer::Granted(0));
-        self.tally.granted_after_look += u64::from(writes && served.iter().any(|(step, _)| looks(step)));
-        self.granted.push(served);
-    }
-
-    fn count_read(&mut self, t: usize, step: &Step, given: usize) {
-        let Action::Read { count, .. } = step.action else { return };
-        let Some(transaction) = &self.machine.open[t] else { return };
-        if given == count {
-            return;
-        }
-        let committed = &self.machine.committed;
-        let file = committed.file_of[step.descriptor];
-        let length = transaction.course.length(committed, file);
-        self.tally.short += 1;
-        self.tally.short_at_committed += u64::from(given > 0 && length == committed.lengths[file]);
-        self.tally.short_at_own += u64::from(given > 0 && length > committed.lengths[file]);
-        self.tally.short_beyond += u64::from(transaction.course.offset(step.descriptor) > length);
-    }
-
-    /// For a grant that found these lengths and made these transactions stale.
-    fn count_lengths(&mut self, lengths: [u16; FILES], turned: u8) {
-        let Machine { committed, open, grants } = &self.machine;
-        let store = &self.state.store;
-        let tally = &mut self.tally;
-        let met = |file: usize| {
-            let length = committed.lengths[file];
-            length == usize::from(lengths[file])
-                && length > 0
-                && committed.sight(Item::Byte { file, place: length - 1 }).setter == *grants
-        };
-        let met: u8 = (0..FILES).filter(|&file| met(file)).map(|file| 1 << file).sum();
-        let spared = |transaction: &Transaction| !transaction.stale && transaction.sighted_lengths & met != 0;
-        tally.granted_raising += u64::from(store.lengths != lengths);
-        tally.granted_meeting += u64::from(store.transactions.iter().any(spared));
-        for transaction in
-            open.iter().enumerate().filter(|(t, _)| turned >> t & 1 == 1).filter_map(|(_, open)| open.as_ref())
-        {
-            let is_length = |item: Item| matches!(item, Item::Length { .. });
-            let sightings = transaction.course.sightings.iter();
-            let set: Vec<_> = sightings.filter(|sighting| committed.sight(sighting.item) != **sighting).collect();
-            tally.stale_by_length += u64::from(set.iter().any(|sighting| is_length(sighting.item)));
-            tally.stale_by_length_alone += u64::from(set.iter().all(|sighting| is_length(sighting.item)));
+            Call::Commit { transaction, minute } => {
+                let served = std::mem::take(&mut self.served[*transaction]);
+                self.granted.push(Grant { served, minute: *minute });
+            }
+            Call::Places { .. } | Call::Window { .. } => {}
         }
     }
 
     // What must hold after every accepted call.
 
-    /// Files, offsets, lengths, standings, what was acted on, write records and log bytes are those of the machine.
+    /// Files, offsets, lengths, windows, standings, what was acted on, write records and log bytes are those of the
+    /// machine.
     fn check_record(&self) {
-        let State { store, files, logs, .. } = &self.state;
+        let State { store, buffers } = &self.state;
         let committed = &self.machine.committed;
-        assert!(files.chunks(SPAN).eq(committed.files.iter().map(|file| &file[..])), "committed files");
+        assert!(buffers.files.chunks(SPAN).eq(committed.files.iter().map(|file| &file[..])), "committed files");
         for d in 0..DESCRIPTORS {
             assert_eq!(usize::from(store.files[d]), committed.file_of[d], "file of descriptor {d}");
             assert_eq!(usize::from(store.offsets[d]), committed.offsets[d], "committed offset {d}");
         }
         assert_eq!(store.lengths.map(usize::from), committed.lengths, "committed lengths");
-        assert!(*logs == self.expected_logs, "log bytes");
+        let windows = store.windows.map(|Window { start, end }| plain::Window { start: start.into(), end: end.into() });
+        assert_eq!(windows, self.machine.windows, "windows");
+        assert!(buffers.logs == self.expected_logs, "log bytes");
         for t in 0..TRANSACTIONS {
             match &self.machine.open[t] {
                 None => assert_eq!(store.transactions[t], Transaction::ENDED, "ended transaction {t}"),
@@ -384,8 +315,19 @@ impl Pair {
         let records: Vec<_> = course.writes.iter().map(store_record).collect();
         assert_eq!(transaction.log.records, records, "write records of transaction {t}");
         let data = course.writes.iter().flat_map(|write| &write.data);
-        let logged = &self.state.logs[SPAN * t..][..usize::from(transaction.log.bytes)];
+        let logged = &self.state.buffers.logs[SPAN * t..][..usize::from(transaction.log.bytes)];
         assert!(logged.iter().eq(data), "data bytes of transaction {t}");
+    }
+
+    /// The last grant has put no byte into a file that is closed at its minute.
+    fn check_hours(&mut self, minute: usize) {
+        let Machine { committed, windows, grants, .. } = &self.machine;
+        let changed: Vec<_> = (0..FILES).filter(|&file| committed.has_byte_of(file, *grants)).collect();
+        for &file in &changed {
+            assert!(windows[file].is_open(minute), "minute {minute}: a byte for file {file}, {:?}", windows[file]);
+        }
+        let changed: Vec<_> = changed.into_iter().map(|file| windows[file]).collect();
+        self.tally.count_windows(&changed, minute);
     }
 
     /// At each place just read the store finds the latest write over it, and has looked at that one and all newer ones,
@@ -446,30 +388,32 @@ impl Pair {
             assert_eq!(is_known, known, "transaction {t}, sighted offsets");
             assert_eq!(record.stale, self.machine.is_stale(t), "staleness of transaction {t}");
         }
-        assert!(marks == self.state.marks, "marks");
+        assert!(marks == self.state.buffers.marks, "marks");
     }
 
     /// From the committed length of a file on, every byte of it is 0.
     pub fn check_beyond_lengths(&self) {
-        for (file, bytes) in self.state.files.chunks(SPAN).enumerate() {
+        for (file, bytes) in self.state.buffers.files.chunks(SPAN).enumerate() {
             let length = usize::from(self.state.store.lengths[file]);
             assert!(bytes[length..].iter().all(|&byte| byte == 0), "file {file} beyond its length");
         }
     }
 
-    /// Runs the granted transactions one after another from the state of Fresh: the store has given the same replies
-    /// and has the same files, offsets and lengths.
+    /// Runs the granted transactions one after another from the state of Fresh, with Fresh's windows: the store has given
+    /// the same replies and has the same files, offsets and lengths.
     pub fn check_serial_order(&self) {
         let mut committed = Committed::fresh(&self.fresh_files).expect("an accepted Fresh");
-        for (served, number) in self.granted.iter().zip(1..) {
+        for (Grant { served, minute }, number) in self.granted.iter().zip(1..) {
             let (course, replies) = Course::run_alone(&committed, served.iter().map(|(step, _)| step));
             let same = replies.iter().eq(served.iter().map(|(_, reply)| reply));
             assert!(same, "serial order: transaction of grant {number} replies otherwise");
+            let granted = course.check_commit(&committed, &FRESH_WINDOWS, *minute);
+            assert_eq!(granted, Ok(()), "serial order: Commit of grant {number}");
             committed.grant(&course, number);
         }
         assert_eq!(self.granted.len() as u64, self.machine.grants, "count of grants");
         assert!(committed == self.machine.committed, "serial order: the machine's files, offsets, lengths and setters");
-        assert!(committed.files.concat() == self.state.files, "serial order: the store's files");
+        assert!(committed.files.concat() == self.state.buffers.files, "serial order: the store's files");
         assert_eq!(committed.offsets, self.state.store.offsets.map(usize::from), "serial order: the store's offsets");
         assert_eq!(committed.lengths, self.state.store.lengths.map(usize::from), "serial order: the store's lengths");
     }

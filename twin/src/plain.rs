@@ -1,7 +1,7 @@
-//! The plain machine of demand 3. It holds committed files, offsets, lengths and setters, a count of grants, and for each
-//! open transaction its accepted calls, standings, writes and sightings, and on which descriptors it acted. It has no marks
-//! and no stale flag: a transaction is stale when the sightings it holds differ from those of its accepted calls run alone
-//! on what is committed now.
+//! The plain machine of demand 3. It holds committed files, offsets, lengths and setters, a count of grants, the windows,
+//! and for each open transaction its accepted calls, standings, writes and sightings, and on which descriptors it acted. It
+//! has no marks and no stale flag: a transaction is stale when the sightings it holds differ from those of its accepted
+//! calls run alone on what is committed now.
 
 use crate::call::{Action, Answer, Call, Outcome, Refusal, Reply, Step};
 
@@ -11,6 +11,7 @@ const TRANSACTIONS: usize = 8;
 const FILE_BYTES: usize = 4096;
 const LOG_RECORDS: usize = 64;
 const LOG_BYTES: usize = 4096;
+const MINUTES: usize = 1440;
 
 /// The number of a granted commit, from 1; 0 stands for Fresh.
 pub type Setter = u64;
@@ -83,10 +84,23 @@ pub struct Transaction {
     pub course: Course,
 }
 
+/// When a file may change: from the minute `start` on, until it is `end`.
+#[derive(Clone, Copy, Debug, PartialEq, Eq)]
+pub struct Window {
+    pub start: usize,
+    pub end: usize,
+}
+
+pub type Windows = [Window; FILES];
+
+/// The windows of a Fresh.
+pub const FRESH_WINDOWS: Windows = [Window { start: 0, end: 0 }; FILES];
+
 #[derive(Clone, Debug)]
 pub struct Machine {
     pub committed: Committed,
     pub grants: Setter,
+    pub windows: Windows,
     pub open: [Option<Transaction>; TRANSACTIONS],
 }
 
@@ -114,6 +128,11 @@ impl Committed {
             Item::Length { file } => self.length_setters[file],
         };
         Sighting { item, setter }
+    }
+
+    /// Was a byte of the file set last by this grant?
+    pub fn has_byte_of(&self, file: usize, setter: Setter) -> bool {
+        self.byte_setters[file].contains(&setter)
     }
 
     /// Lands the writes of a granted transaction, each raising its file's length where it ends beyond it, then sets the
@@ -147,6 +166,15 @@ impl Committed {
                 self.length_setters[file] = setter;
             }
         }
+    }
+}
+
+impl Window {
+    /// Walks through a day that begins at `start`, up to the next time that it is `end`.
+    pub fn is_open(self, minute: usize) -> bool {
+        let day = (self.start..self.start + MINUTES).map(|minute| minute % MINUTES);
+        let ended = |(passed, now): &(usize, usize)| *passed > 0 && *now == self.end;
+        day.enumerate().take_while(|now| !ended(now)).any(|(_, now)| now == minute)
     }
 }
 
@@ -380,7 +408,7 @@ impl Course {
     /// The places of a file that the writes cover, listed at the front of `buffer`.
     fn places(&self, committed: &Committed, file: usize, buffer: &mut [u8]) -> Outcome {
         if file >= FILES {
-            return Err(Refusal::NoSuchDescriptor);
+            return Err(Refusal::NoSuchTarget);
         }
         let pairs = pairs(&self.covered(committed, file)?);
         let list = pairs.iter().flatten().flat_map(|&number| [(number / 256) as u8, (number % 256) as u8]);
@@ -406,10 +434,26 @@ impl Course {
     }
 }
 
+impl Course {
+    /// What a Commit that is not stale is refused for, at a good minute: a byte for a closed file, then placing.
+    pub fn check_commit(&self, committed: &Committed, windows: &Windows, minute: usize) -> Result<(), Refusal> {
+        let mut with_bytes = self.writes.iter().filter(|write| !write.data.is_empty());
+        if with_bytes.any(|write| !windows[committed.file_of[write.descriptor]].is_open(minute)) {
+            return Err(Refusal::FileClosed);
+        }
+        self.check_placing(committed)
+    }
+
+    pub fn check_placing(&self, committed: &Committed) -> Result<(), Refusal> {
+        (0..DESCRIPTORS).try_for_each(|d| self.check_room(committed, d))
+    }
+}
+
 impl Machine {
     /// The machine on the state of an accepted Fresh with these sixteen file numbers.
     pub fn fresh(files: &[u8]) -> Result<Machine, Refusal> {
-        Ok(Machine { committed: Committed::fresh(files)?, grants: 0, open: Default::default() })
+        let committed = Committed::fresh(files)?;
+        Ok(Machine { committed, grants: 0, windows: FRESH_WINDOWS, open: Default::default() })
     }
 
     /// Takes one call, of buffers and lists with the right lengths.
@@ -422,8 +466,9 @@ impl Machine {
             Call::Begin(t) => no_buffer(self.begin(*t)),
             Call::Step(t, step) => self.step(*t, step),
             Call::Places { transaction, file, buffer } => self.places(*transaction, *file, buffer),
-            Call::Commit(t) => no_buffer(self.commit(*t)),
+            Call::Commit { transaction, minute } => no_buffer(self.commit(*transaction, *minute)),
             Call::Abort(t) => no_buffer(self.abort(*t)),
+            Call::Window { file, start, end } => no_buffer(self.set_window(*file, *start, *end)),
         }
     }
 
@@ -470,13 +515,15 @@ impl Machine {
         Reply { outcome, buffer }
     }
 
-    fn commit(&mut self, t: usize) -> Outcome {
+    fn commit(&mut self, t: usize, minute: usize) -> Outcome {
         self.check_open(t)?;
+        check_minute(minute)?;
         if self.is_stale(t) {
             self.open[t] = None;
             return Err(Refusal::Stale);
         }
-        self.check_placing(t)?;
+        let course = &self.open[t].as_ref().expect("it is open").course;
+        course.check_commit(&self.committed, &self.windows, minute)?;
         let equal_before = self.with_equal_lists();
         let ended = self.open[t].take().expect("it is open");
         self.grants += 1;
@@ -489,6 +536,17 @@ impl Machine {
     fn abort(&mut self, t: usize) -> Outcome {
         self.check_open(t)?;
         self.open[t] = None;
+        Ok(Answer::Done)
+    }
+
+    /// Changes nothing else.
+    fn set_window(&mut self, file: usize, start: usize, end: usize) -> Outcome {
+        if file >= FILES {
+            return Err(Refusal::NoSuchTarget);
+        }
+        check_minute(start)?;
+        check_minute(end)?;
+        self.windows[file] = Window { start, end };
         Ok(Answer::Done)
     }
 
@@ -507,11 +565,6 @@ impl Machine {
             return Err(Refusal::StaleReader);
         }
         Ok(())
-    }
-
-    fn check_placing(&self, t: usize) -> Result<(), Refusal> {
-        let course = &self.open[t].as_ref().expect("it is open").course;
-        (0..DESCRIPTORS).try_for_each(|d| course.check_room(&self.committed, d))
     }
 
     /// Which transactions are open with two equal lists.
@@ -538,10 +591,18 @@ fn check_transaction(t: usize) -> Result<(), Refusal> {
     }
 }
 
+fn check_minute(minute: usize) -> Result<(), Refusal> {
+    if minute < MINUTES {
+        Ok(())
+    } else {
+        Err(Refusal::NoSuchMinute)
+    }
+}
+
 fn check_descriptor(d: usize) -> Result<(), Refusal> {
     if d < DESCRIPTORS {
         Ok(())
     } else {
-        Err(Refusal::NoSuchDescriptor)
+        Err(Refusal::NoSuchTarget)
     }
 }

@@ -66,14 +66,14 @@ fn read(pair: &mut Pair, t: usize, d: usize, count: usize) -> Vec<u8> {
 
 /// The octet of a granted Commit, and the number of transactions in it.
 fn granted(pair: &mut Pair, t: usize) -> (u8, u32) {
-    match make(pair, Call::Commit(t)).outcome {
+    match make(pair, Call::Commit { transaction: t, minute: 0 }).outcome {
         Ok(Answer::Granted(octet)) => (octet, octet.count_ones()),
         other => panic!("not granted: {other:?}"),
     }
 }
 
 fn refused_commit(pair: &mut Pair, t: usize) -> Refusal {
-    make(pair, Call::Commit(t)).outcome.expect_err("a refusal")
+    make(pair, Call::Commit { transaction: t, minute: 0 }).outcome.expect_err("a refusal")
 }
 
 #[test]
@@ -82,7 +82,7 @@ fn a_appends_land_in_the_order_of_commits() {
     write(&mut pair, 0, 0, b"AB");
     write(&mut pair, 1, 0, b"CD");
     assert_eq!((granted(&mut pair, 1), granted(&mut pair, 0)), ((0, 0), (0, 0)));
-    assert_eq!((&pair.state.files[..4], pair.state.store.offsets[0]), (&b"CDAB"[..], 4));
+    assert_eq!((&pair.state.buffers.files[..4], pair.state.store.offsets[0]), (&b"CDAB"[..], 4));
 }
 
 #[test]
@@ -104,7 +104,7 @@ fn c_an_own_write_shields() {
     seek(&mut pair, 1, 8, 0);
     write(&mut pair, 1, 8, b"XY");
     assert_eq!((granted(&mut pair, 1), granted(&mut pair, 0)), ((0, 0), (0, 0)));
-    assert_eq!(&pair.state.files[..2], b"AB");
+    assert_eq!(&pair.state.buffers.files[..2], b"AB");
 }
 
 #[test]
@@ -167,7 +167,7 @@ fn h_a_commit_without_room_stays_open() {
     assert_eq!(refused_commit(&mut pair, 1), Refusal::SettledPastEnd);
     seek(&mut pair, 2, 0, 0);
     assert_eq!((granted(&mut pair, 2), granted(&mut pair, 1)), ((0, 0), (0, 0)));
-    assert_eq!((pair.state.files[0], pair.state.store.offsets[0]), (b'A', 1));
+    assert_eq!((pair.state.buffers.files[0], pair.state.store.offsets[0]), (b'A', 1));
 }
 
 #[test]
@@ -178,7 +178,7 @@ fn i_a_moved_descriptor_answers_without_settling() {
     assert_eq!(pointer(&mut pair, 0, 0), 9);
     seek(&mut pair, 1, 0, 4);
     assert_eq!((granted(&mut pair, 1), granted(&mut pair, 0)), ((0, 0), (0, 0)));
-    assert_eq!((pair.state.files[4], pair.state.store.offsets[0]), (b'A', 9));
+    assert_eq!((pair.state.buffers.files[4], pair.state.store.offsets[0]), (b'A', 9));
 }
 
 #[test]

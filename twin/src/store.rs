@@ -3,6 +3,7 @@
 //! There are no setters and no lists here. What a transaction has sighted is kept as one bit for each file byte (the
 //! marks) and one for each file's length; for an offset, as the standing Known.
 
+use std::cmp::Ordering;
 use std::ops::Range;
 
 use crate::call::Refusal;
@@ -17,6 +18,8 @@ pub const SPAN: usize = 4096;
 pub const RECORDS: usize = 64;
 /// The length of each of the three store buffers.
 pub const BUFFER: usize = 32768;
+/// Minutes of a day.
+pub const MINUTES: usize = 1440;
 
 const SPAN_16: u16 = SPAN as u16;
 
@@ -65,14 +68,31 @@ pub struct Transaction {
     pub sighted_lengths: u8,
 }
 
-/// The record: the file and the committed offset of each descriptor, the committed length of each file, and the
-/// transactions.
+/// The minutes in which a file may change: start is in, end is out; over midnight where start is above end, always where
+/// the two are equal.
+#[derive(Clone, Copy, Debug, PartialEq, Eq)]
+pub struct Window {
+    pub start: u16,
+    pub end: u16,
+}
+
+/// The record: the file and the committed offset of each descriptor, the committed length and the window of each file, and
+/// the transactions.
 #[derive(Clone, Debug, PartialEq, Eq)]
 pub struct Store {
     pub files: [u8; DESCRIPTORS],
     pub offsets: [u16; DESCRIPTORS],
     pub lengths: [u16; FILES],
+    pub windows: [Window; FILES],
     pub transactions: [Transaction; TRANSACTIONS],
+}
+
+/// Store buffers, as a caller may keep them.
+#[derive(Clone, Debug, PartialEq, Eq)]
+pub struct Buffers {
+    pub files: Vec<u8>,
+    pub logs: Vec<u8>,
+    pub marks: Vec<u8>,
 }
 
 /// The store buffers, as lent to a call.
@@ -234,6 +254,32 @@ impl Transaction {
     }
 }
 
+impl Window {
+    const ALWAYS: Window = Window { start: 0, end: 0 };
+
+    pub fn is_open(self, minute: u16) -> bool {
+        match self.start.cmp(&self.end) {
+            Ordering::Less => self.start <= minute && minute < self.end,
+            Ordering::Equal => true,
+            Ordering::Greater => self.start <= minute || minute < self.end,
+        }
+    }
+
+    fn in_range(self) -> bool {
+        usize::from(self.start) < MINUTES && usize::from(self.end) < MINUTES
+    }
+}
+
+impl Buffers {
+    pub fn zeros() -> Buffers {
+        Buffers { files: vec![0; BUFFER], logs: vec![0; BUFFER], marks: vec![0; BUFFER] }
+    }
+
+    pub fn lend(&mut self) -> Lent<'_> {
+        Lent { files: &mut self.files, logs: &mut self.logs, marks: &mut self.marks }
+    }
+}
+
 impl Lent<'_> {
     fn check(&self) -> Result<(), Refusal> {
         let fits = |buffer: &[u8]| buffer.len() == BUFFER;
@@ -252,6 +298,7 @@ impl Store {
             files,
             offsets: [0; DESCRIPTORS],
             lengths: [0; FILES],
+            windows: [Window::ALWAYS; FILES],
             transactions: [Transaction::ENDED; TRANSACTIONS],
         }
     }
@@ -351,7 +398,7 @@ impl Store {
     pub fn places(&self, lent: &Lent, t: usize, file: usize, out: &mut [u8]) -> Result<u16, Refusal> {
         self.check_open(lent, t)?;
         if file >= FILES {
-            return Err(Refusal::NoSuchDescriptor);
+            return Err(Refusal::NoSuchTarget);
         }
         let stretches = joined(self.stretches(t, file)?);
         if out.len() < 4 * stretches.len() {
@@ -365,12 +412,14 @@ impl Store {
     }
 
     /// Answers which other transactions became stale (a bit for each).
-    pub fn commit(&mut self, lent: &mut Lent, t: usize) -> Result<u8, Refusal> {
+    pub fn commit(&mut self, lent: &mut Lent, t: usize, minute: usize) -> Result<u8, Refusal> {
         self.check_open(lent, t)?;
+        let minute = checked_minute(minute)?;
         if self.transactions[t].stale {
             self.end(lent, t);
             return Err(Refusal::Stale);
         }
+        self.check_hours(t, minute)?;
         self.check_settling(t, u16::MAX)?;
         let sighters = self.land(lent, t);
         let lengths = self.raise_lengths(t);
@@ -385,13 +434,28 @@ impl Store {
         Ok(())
     }
 
+    /// Sets the window of a file.
+    pub fn set_window(&mut self, lent: &Lent, file: usize, start: usize, end: usize) -> Result<(), Refusal> {
+        self.check_lent(lent)?;
+        if file >= FILES {
+            return Err(Refusal::NoSuchTarget);
+        }
+        self.windows[file] = Window { start: checked_minute(start)?, end: checked_minute(end)? };
+        Ok(())
+    }
+
     // The checks that calls begin with, in the order of the table.
 
-    fn check_number(&self, lent: &Lent, t: usize) -> Result<(), Refusal> {
+    fn check_lent(&self, lent: &Lent) -> Result<(), Refusal> {
         lent.check()?;
         if !self.in_range() {
             return Err(Refusal::RecordRange);
         }
+        Ok(())
+    }
+
+    fn check_number(&self, lent: &Lent, t: usize) -> Result<(), Refusal> {
+        self.check_lent(lent)?;
         if t >= TRANSACTIONS {
             return Err(Refusal::NoSuchTransaction);
         }
@@ -409,7 +473,7 @@ impl Store {
     fn check_descriptor(&self, lent: &Lent, t: usize, d: usize) -> Result<(), Refusal> {
         self.check_open(lent, t)?;
         if d >= DESCRIPTORS {
-            return Err(Refusal::NoSuchDescriptor);
+            return Err(Refusal::NoSuchTarget);
         }
         Ok(())
     }
@@ -428,6 +492,7 @@ impl Store {
         self.files.iter().all(|&file| usize::from(file) < FILES)
             && self.offsets.iter().all(|&offset| offset <= SPAN_16)
             && self.lengths.iter().all(|&length| length <= SPAN_16)
+            && self.windows.iter().all(|window| window.in_range())
             && self.transactions.iter().all(|transaction| !transaction.begun || transaction.in_range())
     }
 
@@ -567,6 +632,17 @@ impl Store {
 
     // Ending a transaction.
 
+    /// Is each file open to which a write of at least one byte would go?
+    fn check_hours(&self, t: usize, minute: u16) -> Result<(), Refusal> {
+        for record in self.transactions[t].log.records.iter().filter(|record| record.length > 0) {
+            let file = usize::from(self.files[usize::from(record.descriptor)]);
+            if !self.windows[file].is_open(minute) {
+                return Err(Refusal::FileClosed);
+            }
+        }
+        Ok(())
+    }
+
     /// Lands the writes in call order and answers which other open transactions have sighted a byte just set (a bit for
     /// each).
     fn land(&self, lent: &mut Lent, t: usize) -> u8 {
@@ -651,6 +727,13 @@ impl Store {
         }
         octet
     }
+}
+
+fn checked_minute(minute: usize) -> Result<u16, Refusal> {
+    if minute >= MINUTES {
+        return Err(Refusal::NoSuchMinute);
+    }
+    Ok(minute as u16)
 }
 
 /// Stretches sorted by their start, those that overlap or touch made one.

@@ -3,11 +3,13 @@
 use std::io::{self, BufRead, Write};
 
 use crate::call::Refusal;
-use crate::store::{Lent, Store, BUFFER, DESCRIPTORS, FILES, SPAN};
+use crate::store::{Buffers, Store, DESCRIPTORS, FILES, SPAN};
 
 /// The most bytes of a line, without its end.
 const LONGEST: usize = 128;
 const LINE_END: u8 = 10;
+/// The minute of every Commit.
+const MINUTE: usize = 0;
 
 /// What a line asks of its transaction; the first number is a descriptor.
 #[derive(Clone, Copy, Debug, PartialEq, Eq)]
@@ -30,9 +32,7 @@ enum Said<'a> {
 
 struct Trace {
     store: Store,
-    files: Vec<u8>,
-    logs: Vec<u8>,
-    marks: Vec<u8>,
+    buffers: Buffers,
     reader: Vec<u8>,
 }
 
@@ -108,18 +108,11 @@ fn number(bytes: &[u8]) -> Option<(usize, &[u8])> {
 impl Trace {
     /// A fresh store, descriptor d in file d mod 8.
     fn new() -> Trace {
-        let zeros = vec![0; BUFFER];
-        let mut trace = Trace {
-            store: Store::new([0; DESCRIPTORS]),
-            files: zeros.clone(),
-            logs: zeros.clone(),
-            marks: zeros,
-            reader: vec![0; SPAN],
-        };
+        let mut store = Store::new([0; DESCRIPTORS]);
+        let mut buffers = Buffers::zeros();
         let list: Vec<u8> = (0..DESCRIPTORS).map(|d| (d % FILES) as u8).collect();
-        let mut lent = Lent { files: &mut trace.files, logs: &mut trace.logs, marks: &mut trace.marks };
-        trace.store.fresh(&mut lent, &list).expect("a good list");
-        trace
+        store.fresh(&mut buffers.lend(), &list).expect("a good list");
+        Trace { store, buffers, reader: vec![0; SPAN] }
     }
 
     /// Makes the call of a line, and prints what comes of it.
@@ -144,10 +137,10 @@ impl Trace {
     }
 
     fn perform(&mut self, t: usize, form: Form) -> Result<Said<'_>, Refusal> {
-        let mut lent = Lent { files: &mut self.files, logs: &mut self.logs, marks: &mut self.marks };
+        let mut lent = self.buffers.lend();
         match form {
             Form::Begin => self.store.begin(&mut lent, t).map(|()| Said::Nothing),
-            Form::Commit => self.store.commit(&mut lent, t).map(|n| Said::Number(u16::from(n))),
+            Form::Commit => self.store.commit(&mut lent, t, MINUTE).map(|n| Said::Number(u16::from(n))),
             Form::Abort => self.store.abort(&mut lent, t).map(|()| Said::Nothing),
             Form::Pointer(d) => self.store.get_file_pointer(&mut lent, t, d).map(Said::Number),
             Form::Seek(d, to) => self.store.seek(&mut lent, t, d, to).map(|()| Said::Nothing),

@@ -3,7 +3,7 @@
 //! A line is a call, ` -> ` and its reply, in words with one space between. A list starts with `fresh`. An indented line
 //! at its end names a part of the state and says what is in it. Bytes are hexadecimal pairs, and `hh*n` is n bytes hh;
 //! pieces are joined by `.`, and stand apart in an indented line; `-` is none. A word may be several numbers, with commas
-//! between.
+//! between. A commit without a minute is one at minute 0.
 
 use crate::call::{Action, Answer, Call, Reply, Step};
 use crate::pair::Pair;
@@ -74,7 +74,8 @@ fn reply(pair: &mut Pair, words: &[&str]) -> Option<Vec<Word>> {
         }
         ["begin", t] => Call::Begin(number(t)?),
         ["abort", t] => Call::Abort(number(t)?),
-        ["commit", t] => Call::Commit(number(t)?),
+        ["commit", t] => Call::Commit { transaction: number(t)?, minute: 0 },
+        ["commit", t, minute] => Call::Commit { transaction: number(t)?, minute: number(minute)? },
         ["seek", t, d, to] => step(t, d, Action::Seek { to: number(to)? })?,
         ["write", t, d, data] => step(t, d, Action::Write { data: bytes(data)? })?,
         ["pointer", t, d] => step(t, d, Action::GetFilePointer)?,
@@ -82,6 +83,7 @@ fn reply(pair: &mut Pair, words: &[&str]) -> Option<Vec<Word>> {
         ["places", t, file, buffer] => {
             Call::Places { transaction: number(t)?, file: number(file)?, buffer: bytes(buffer)? }
         }
+        ["window", file, start, end] => Call::Window { file: number(file)?, start: number(start)?, end: number(end)? },
         _ => return None,
     };
     Some(said(pair.call(&call, None)))
@@ -105,7 +107,7 @@ fn said(reply: Reply) -> Vec<Word> {
 /// A part of the state, as indented lines name them; none where there is no such part.
 fn part(pair: &Pair, name: &str) -> Option<Word> {
     match name {
-        "files" => Some(Word::Bytes(pair.state.files.clone())),
+        "files" => Some(Word::Bytes(pair.state.buffers.files.clone())),
         "offsets" => Some(Word::Numbers(pair.state.store.offsets.map(u64::from).to_vec())),
         "lengths" => Some(Word::Numbers(pair.state.store.lengths.map(u64::from).to_vec())),
         _ => None,

@@ -10,6 +10,9 @@ ghost use lib.ListN.{length};
 
 const STEP: usize = 8;
 
+// The minute of every Commit.
+const MINUTE: usize = 0;
+
 // One step, its numbers widened.
 struct Step {
     kind: u8,
@@ -62,7 +65,7 @@ fn request(s: Step) -> Request {
         3 => Request::Write(s.t, s.d),
         4 => Request::GetFilePointer(s.t, s.d),
         5 => Request::Read(s.t, s.d, s.n),
-        6 => Request::Commit(s.t),
+        6 => Request::Commit(s.t, MINUTE),
         _ => Request::Abort(s.t),
     }
 }

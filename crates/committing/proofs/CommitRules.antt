@@ -1,4 +1,4 @@
--- The rules of Commit after each of its tests: stale, past the end, granted.
+-- The rules of Commit after each of its tests: no minute of the day, stale, closed, past the end, granted.
 use mathlib.Core.Bool.{Bool, true, false, cond, not, _&&_, _||_, false≢true}
 use mathlib.Core.List.{List, [], _++_}
 use mathlib.Core.Path.{_≡_, refl, sym, ap, ap₂, _∙_, subst}
@@ -9,6 +9,7 @@ use lib.Seq.{drop-cons, getD-at, getD-set-same, getD-set-other}
 use borrow.Author.Tests.{eqb-true, eqb-false}
 use native.Mathlib.Omega.{arith}
 use Prim.Native.Nat.{ℕ, zero, suc, _+_, _<_}
+use Rattle.windows.specs.Hours.{minuteIn}
 use Rattle.octets.specs.Bits.{bitsOf}
 use Rattle.octets.specs.Parts.{tabulate}
 use Rattle.octets.specs.Marks.{withoutMarks, contains}
@@ -18,56 +19,67 @@ use Rattle.record.specs.declared.Store.{Store}
 use Rattle.record.specs.declared.Transaction.{Transaction}
 use Rattle.record.specs.declared.outcomes.Refusal.the-variants.{Stale}
 use Rattle.record.specs.declared.outcomes.Outcome.the-variants.{Granted, Refused}
-use Rattle.record.specs.State.{transaction, noTransaction, ended, withStale, withOffsets, withLengths, withTransactions, withTransaction}
-use Rattle.record.specs.Layout.{storeOf, journalOf, withStaleAt, resetAt}
+use Rattle.record.specs.State.{transaction, noTransaction, windowAt, ended, withStale, withOffsets, withLengths, withTransactions, withTransaction}
+use Rattle.record.specs.Layout.{storeOf, journalOf, withStaleAt, resetAt, recordLength}
 use Rattle.record.specs.Paper.{Said, plain, pointer, given, granted, pairs, refused, number, said}
 use Rattle.record.proofs.LayoutLaws.{transaction-of, length-with-stale, store-with-stale, journal-with-stale, store-reset, journal-reset}
 use Rattle.record.proofs.Filled.{filled, filled-set, filled-kept}
 use Rattle.ranges.specs.Ranges.{admission}
-use Rattle.rules.specs.Commits.{Setting, fits, commitRefusal}
+use Rattle.rules.specs.Windows.{forClosed}
+use Rattle.rules.specs.Commits.{Setting, commitRefusal}
 use Rattle.rules.specs.Messages.{commit}
-use Rattle.rules.specs.Machine.{Machine, lent, sizes}
-use Rattle.rules.specs.Calls.{Turn, turnDown, reset, passing, admitted, landFiles, landOffsets, landLengths, conflicts, staled, afterCommit, becomesStale, commitDecided, commitGranted, commitTurn, formerNumber, call}
+use Rattle.rules.specs.Machine.{Machine, lent, sizes, fileOf, txnOf}
+use Rattle.rules.specs.Calls.{Turn, turnDown, reset, passing, admitted, landFiles, landOffsets, landLengths, conflicts, staled, afterCommit, becomesStale, commitDecided, commitGranted, settingsOf, commitTurn, formerNumber, call}
 use Rattle.rules.specs.Promises.{Meets, machineOf, LeftAsFound}
 use Rattle.laws.proofs.Shapes.{shaped}
 use Rattle.landing.specs.Landing.{placesFit, withOffsetsOf, bytesSetIn, lengthsLandedIn, CanLandIn, Means}
 use Rattle.landing.proofs.OffsetLaws.{offsetsSet}
 use Rattle.landing.proofs.Landed.{allSet, fits-is, files-are, offsets-are, lengths-are}
 use Rattle.conflicts.specs.Staling.{staleBy}
-use Rattle.committing.specs.Granting.{CanGrant, staleIn, withStaleIn}
+use Rattle.committing.specs.Granting.{CanGrant, grantTurn, staleIn, withStaleIn}
 use Rattle.refusing.proofs.Turns.{passing-on}
 
 -- ---- after each test
 
-module _ (t : ℕ) (m : Machine) where
-  -- All that a commit sets.
-  abbrev settingsOf : List Setting
-  settingsOf = allSet (m .store) (m .journal) (m .files) (m .logs) t
+module _ (t minute : ℕ) (m : Machine) where
+  -- A byte would go to a file that is closed at the minute.
+  abbrev shut : Bool
+  shut = forClosed (fileOf (m .store)) (windowAt (m .store)) minute (txnOf (m .store) (m .journal) (m .logs) t .writes)
 
   -- A commit that is let through goes by its own turn.
-  pub commit-on : admission (sizes m) (m .store) (m .journal) t ≡ 0 → call (commit t) m ≡ commitTurn t m
+  pub commit-on : admission (sizes m) (m .store) (m .journal) t ≡ 0 → call (commit t minute) m ≡ commitTurn t minute m
   unfolding call admitted
-  commit-on passes = passing-on (admission (sizes m) (m .store) (m .journal) t) [] m (commitTurn t m) passes
+  commit-on passes = passing-on (admission (sizes m) (m .store) (m .journal) t) [] m (commitTurn t minute m) passes
 
-  -- 13: "it ends as at Abort".
-  pub commit-stale : transaction (m .store) t .stale ≡ true
-      → commitTurn t m ≡ record { reply = record { answer = refused 13; buffer = [] }; after = reset t ended m }
-  unfolding commitTurn commitRefusal commitDecided
-  commit-stale e = rw e
+  -- 22 keeps the transaction open, and so do 21 and 12.
+  pub commit-no-minute : minuteIn minute ≡ false → commitTurn t minute m ≡ turnDown 22 [] m
+  unfolding commitTurn commitRefusal commitDecided turnDown
+  commit-no-minute e = rw e
 
-  module _ (fresh : transaction (m .store) t .stale ≡ false) where
-    -- 12: "everything, the transaction open".
-    pub commit-past : placesFit (m .store) (transaction (m .store) t) ≡ false → commitTurn t m ≡ turnDown 12 [] m
-    unfolding commitTurn commitRefusal commitDecided turnDown
-    commit-past e = rw (fresh, fits-is (m .store) (m .journal) (m .files) (m .logs) t, e)
-
-    commit-granted : placesFit (m .store) (transaction (m .store) t) ≡ true → commitTurn t m ≡ commitGranted t settingsOf m
+  module _ (daily : minuteIn minute ≡ true) where
+    -- 13: "it ends as at Abort".
+    pub commit-stale : transaction (m .store) t .stale ≡ true
+        → commitTurn t minute m ≡ record { reply = record { answer = refused 13; buffer = [] }; after = reset t ended m }
     unfolding commitTurn commitRefusal commitDecided
-    commit-granted e = rw (fresh, fits-is (m .store) (m .journal) (m .files) (m .logs) t, e)
+    commit-stale e = rw (daily, e)
+
+    module _ (fresh : transaction (m .store) t .stale ≡ false) where
+      pub commit-closed : shut ≡ true → commitTurn t minute m ≡ turnDown 21 [] m
+      unfolding commitTurn commitRefusal commitDecided turnDown
+      commit-closed e = rw (daily, fresh, e)
+
+      module _ (unlocked : shut ≡ false) where
+        pub commit-past : placesFit (m .store) (transaction (m .store) t) ≡ false → commitTurn t minute m ≡ turnDown 12 [] m
+        unfolding commitTurn commitRefusal commitDecided turnDown
+        commit-past e = rw (daily, fresh, unlocked, fits-is (m .store) (m .journal) (m .files) (m .logs) t, e)
+
+        pub commit-granted : placesFit (m .store) (transaction (m .store) t) ≡ true → commitTurn t minute m ≡ grantTurn t m
+        unfolding commitTurn commitRefusal commitDecided
+        commit-granted e = rw (daily, fresh, unlocked, fits-is (m .store) (m .journal) (m .files) (m .logs) t, e)
 
 -- ---- a stale transaction ends
 
-pub stale-follows : (kept files logs marks after unmarked : List ℕ) (t : ℕ) (w : Turn) → length kept ≡ 2088 → t < 8
+pub stale-follows : (kept files logs marks after unmarked : List ℕ) (t : ℕ) (w : Turn) → length kept ≡ recordLength → t < 8
     → w ≡ record { reply = record { answer = refused 13; buffer = [] }; after = reset t ended (machineOf kept files logs marks) }
     → after ≡ resetAt kept t false → unmarked ≡ withoutMarks t marks
     → Meets w (Refused Stale) (machineOf after files logs unmarked) [] × LeftAsFound (Refused Stale) kept after
@@ -217,14 +229,12 @@ module _ (kept files logs marks : List ℕ) (t : ℕ) (x : Transaction) (can : C
 
     pub granted-follows : (landed : List ℕ) → landed ≡ landFiles (bytesSetIn kept logs t (x .used .records)) files
         → (unmarked : List ℕ) → unmarked ≡ withoutMarks t marks
-        → Meets (commitTurn t (machineOf kept files logs marks)) (Granted octet) (machineOf after landed logs unmarked) [] × LeftAsFound (Granted octet) kept after
+        → Meets (grantTurn t (machineOf kept files logs marks)) (Granted octet) (machineOf after landed logs unmarked) [] × LeftAsFound (Granted octet) kept after
     unfolding commitGranted said staleBy
     granted-follows landed lands unmarked ms =
-        let fresh : transaction s t .stale ≡ false = ap (λ (y : Transaction). y .stale) own-is ∙ can .fresh in
-        let fit : placesFit s (transaction s t) ≡ true = ap (placesFit s) own-is ∙ can .fits in
         let files-is : landed ≡ landFiles ss files =
         lands ∙ ap (λ (y : Transaction). landFiles (bytesSetIn kept logs t (y .used .records)) files) (sym own-is) ∙ sym (files-are s (journalOf kept) files logs t) in (
-          rw (commit-granted t (machineOf kept files logs marks) fresh fit, store-is, journal-is, files-is, ms) (record {
+          rw (store-is, journal-is, files-is, ms) (record {
             outcome = ap granted (says files logs (can .logsLength));
             machine = refl;
             reader = refl;
@@ -256,20 +266,24 @@ unfolding isGranted
 not-granted k n e = false≢true (ap isGranted e)
 
 module _ (t : ℕ) (m : Machine) (n : ℕ) where
-  decided-octet : (stale placed : Bool) → commitDecided t (settingsOf t m) m (commitRefusal stale placed) .reply .answer ≡ granted n
-      → n ≡ bitsOf (becomesStale t (m .marks) (settingsOf t m) (m .store)) 8
-  unfolding commitDecided commitRefusal commitGranted octetIn
-  decided-octet true placed e = absurd (not-granted 13 n e)
-  decided-octet false false e = absurd (not-granted 12 n e)
-  decided-octet false true e = sym (ap octetIn e)
+  abbrev became : ℕ → Bool
+  became = becomesStale t (m .marks) (settingsOf m t) (m .store)
 
-  passing-octet : (k : ℕ) → passing k [] m (commitTurn t m) .reply .answer ≡ granted n → n ≡ bitsOf (becomesStale t (m .marks) (settingsOf t m) (m .store)) 8
+  decided-octet : (daily stale shut placed : Bool) → commitDecided t (settingsOf m t) m (commitRefusal daily stale shut placed) .reply .answer ≡ granted n
+      → n ≡ bitsOf became 8
+  unfolding commitDecided commitRefusal commitGranted octetIn
+  decided-octet false stale shut placed e = absurd (not-granted 22 n e)
+  decided-octet true true shut placed e = absurd (not-granted 13 n e)
+  decided-octet true false true placed e = absurd (not-granted 21 n e)
+  decided-octet true false false false e = absurd (not-granted 12 n e)
+  decided-octet true false false true e = sym (ap octetIn e)
+
+  passing-octet : (minute k : ℕ) → passing k [] m (commitTurn t minute m) .reply .answer ≡ granted n → n ≡ bitsOf became 8
   unfolding passing turnDown commitTurn
-  passing-octet zero e = decided-octet (transaction (m .store) t .stale) _ e
-  passing-octet (suc k) e = absurd (not-granted (suc k) n e)
+  passing-octet minute zero e = decided-octet (minuteIn minute) (transaction (m .store) t .stale) _ _ e
+  passing-octet minute (suc k) e = absurd (not-granted (suc k) n e)
 
   -- The count of ones in the octet that a Commit answers.
-  pub ones-are : call (commit t) m .reply .answer ≡ granted n → ones n ≡ formerNumber t m
+  pub ones-are : (minute : ℕ) → call (commit t minute) m .reply .answer ≡ granted n → ones n ≡ formerNumber t m
   unfolding call admitted formerNumber
-  ones-are e =
-      ap ones (passing-octet (admission (sizes m) (m .store) (m .journal) t) e) ∙ ones-bits (becomesStale t (m .marks) (settingsOf t m) (m .store)) 8
+  ones-are minute e = ap ones (passing-octet minute (admission (sizes m) (m .store) (m .journal) t) e) ∙ ones-bits became 8

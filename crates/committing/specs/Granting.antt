@@ -1,5 +1,5 @@
 -- A commit that is granted: what it has passed, and the transactions that it makes stale.
-use mathlib.Core.Bool.{true, false, cond}
+use mathlib.Core.Bool.{true, cond}
 use mathlib.Core.List.{List}
 use mathlib.Core.Path.{_≡_}
 use lib.ListN.{length}
@@ -9,19 +9,24 @@ use Rattle.octets.specs.Marks.{contains}
 use Rattle.record.specs.declared.Store.{Store}
 use Rattle.record.specs.declared.Transaction.{Transaction}
 use Rattle.record.specs.State.{transaction, withStale, withTransactions}
-use Rattle.record.specs.Layout.{transactionOf, storeOf}
+use Rattle.record.specs.Layout.{transactionOf, storeOf, recordLength}
+use Rattle.rules.specs.Machine.{Machine}
+use Rattle.rules.specs.Calls.{Turn, commitGranted, settingsOf}
 use Rattle.landing.specs.Landing.{placesFit, CanLandIn}
 
--- Transaction t, which is x, is not stale, its placing fits, and its writes land inside the files.
+-- The placing of transaction t, which is x, fits, and its writes land inside the files.
 pub record CanGrant (kept files logs marks : List ℕ) (t : ℕ) (x : Transaction) : Type 0 where
-  pub numbers : length kept ≡ 2088
+  pub numbers : length kept ≡ recordLength
   pub filesLength : length files ≡ 32768
   pub logsLength : length logs ≡ 32768
   pub marksLength : length marks ≡ 32768
   pub own : x ≡ transactionOf kept t
-  pub fresh : x .stale ≡ false
   pub fits : placesFit (storeOf kept) x ≡ true
   pub lands : CanLandIn kept t (x .used .records)
+
+-- What a granted commit does.
+abbrev pub grantTurn : ℕ → Machine → Turn
+grantTurn t m = commitGranted t (settingsOf m t) m
 
 -- Transaction u once those of the octet are stale, and the store then.
 abbrev pub staleIn : ℕ → Store → ℕ → Transaction

@@ -1,5 +1,6 @@
 // Commit.
 use crate::granting::grant;
+use closing::has_byte_for_closed;
 use landing::offsets::places_fit;
 use octets::marks::unmark;
 use ranges::Gate;
@@ -8,20 +9,23 @@ use record::layout::reset;
 use record::layout::transaction_at;
 use record::outcomes::Outcome;
 use record::outcomes::Refusal;
+use windows::minute_in;
 ghost use mathlib.Core.List.{[]};
 ghost use Rattle.rules.specs.Messages.{Call};
 ghost use Rattle.rules.specs.Calls.{call};
 ghost use Rattle.rules.specs.Promises.{Follows};
 
-// Commits transaction t: refusals 1 to 4, then 13 before 12, then the grant. A stale transaction ends as at Abort.
+// Commits transaction t at a minute of the day: refusals 1 to 4, then 22, 13, 21 and 12, then the grant. A stale
+// transaction ends as at Abort; one that is refused otherwise stays open.
 pub fn commit(
     kept: &mut Record,
     files: &mut [u8],
     logs: &[u8],
     marks: &mut [u8],
     t: usize,
+    minute: usize,
 ) -> Outcome
-    ensures { λ r. ⌜ Follows (call (Call.commit t)) kept files logs marks r [] ⌝ }
+    ensures { λ r. ⌜ Follows (call (Call.commit t minute)) kept files logs marks r [] ⌝ }
 {
     let g = ranges::admit(kept, files.len(), logs.len(), marks.len(), t);
     if let Gate::Refused(r) = g {
@@ -31,10 +35,16 @@ pub fn commit(
     if !x.begun {
         return Outcome::Refused(Refusal::NotOpen);
     }
+    if !minute_in(minute) {
+        return Outcome::Refused(Refusal::NoSuchMinute);
+    }
     if x.stale {
         unmark(marks, t);
         reset(kept, t, false);
         return Outcome::Refused(Refusal::Stale);
+    }
+    if has_byte_for_closed(kept, t, minute as u16) {
+        return Outcome::Refused(Refusal::FileClosed);
     }
     if !places_fit(kept, x) {
         return Outcome::Refused(Refusal::SettledPastEnd);

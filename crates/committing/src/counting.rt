@@ -8,8 +8,8 @@ ghost use Rattle.rules.specs.Calls.{call, formerNumber};
 
 // How many transactions a commit made stale that answered this octet: the count of ones in it.
 pub fn made_stale(octet: u8) -> u32
-    ensures { λ r. ⌜ ((t : ℕ) (m : Machine)
-        → call (Call.commit t) m .reply .answer ≡ granted octet → r ≡ formerNumber t m) ⌝ }
+    ensures { λ r. ⌜ ((t minute : ℕ) (m : Machine)
+        → call (Call.commit t minute) m .reply .answer ≡ granted octet → r ≡ formerNumber t m) ⌝ }
 {
     u8::count_ones(octet)
 }

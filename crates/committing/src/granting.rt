@@ -15,14 +15,14 @@ use record::outcomes::Outcome;
 ghost use mathlib.Core.List.{[]};
 ghost use mathlib.Core.Path.{_≡_};
 ghost use lib.ListN.{length};
-ghost use Rattle.rules.specs.Calls.{commitTurn};
+ghost use Rattle.record.specs.Layout.{recordLength};
 ghost use Rattle.rules.specs.Promises.{Follows};
 ghost use Rattle.landing.specs.Landing.{Becomes};
-ghost use Rattle.committing.specs.Granting.{CanGrant, withStaleIn};
+ghost use Rattle.committing.specs.Granting.{CanGrant, grantTurn, withStaleIn};
 
 // Makes the transactions of the octet stale.
 fn put_stale_in(kept: &mut Record, octet: u8)
-    requires { ⌜ length (now kept) ≡ 2088 ⌝ }
+    requires { ⌜ length (now kept) ≡ recordLength ⌝ }
     ensures { λ _. ⌜ Becomes kept (withStaleIn octet) ⌝ }
 {
     let mut u = 0;
@@ -46,7 +46,7 @@ pub fn grant(
     x: Transaction,
 ) -> Outcome
     requires { ⌜ CanGrant (now kept) (now files) (now logs) (now marks) t x ⌝ }
-    ensures { λ r. ⌜ Follows (commitTurn t) kept files logs marks r [] ⌝ }
+    ensures { λ r. ⌜ Follows (grantTurn t) kept files logs marks r [] ⌝ }
 {
     let octet = stale_by(kept, marks, t);
     let used = x.used;

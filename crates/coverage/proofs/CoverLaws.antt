@@ -1,11 +1,10 @@
 -- What the walks over write records tell: which records have no place yet, and which places of a run are covered. Assumes nothing.
-use mathlib.Core.Bool.{Bool, true, false, _||_}
+use mathlib.Core.Bool.{Bool, true, false}
 use mathlib.Core.List.{List}
 use mathlib.Core.Logic.{⊎-elim}
 use mathlib.Core.Path.{_≡_, refl, sym, ap, subst, _∙_}
 use lib.ListN.{getD}
-use Prim.Native.Nat.{ℕ, zero, suc, _+_, _-_, _≤_, _<_}
-use native.Mathlib.Numerals.{add-one}
+use Prim.Native.Nat.{ℕ, _+_, _-_, _≤_, _<_}
 use native.Mathlib.Omega.{arith}
 use borrow.Author.Tests.{eq-eqb, ne-eqb}
 use Rattle.octets.proofs.PartLaws.{le-or-lt}
@@ -18,28 +17,7 @@ use Rattle.runs.specs.declared.Run.{Run}
 use Rattle.runs.specs.declared.Supplier.{Supplier}
 use Rattle.runs.specs.declared.Supplier.the-variants.{File, Record}
 use Rattle.runs.specs.Runs.{Recorded, supplier, isRecord, RunOf}
-use Rattle.coverage.specs.Covering.{coveredAt, someBelow, waitsOn, Upto, NextOf}
-
--- ---- some number below a bound
-
-module _ (test : ℕ → Bool) where
-  pub some-none : someBelow test 0 ≡ false
-  unfolding someBelow
-  some-none = refl
-
-  pub some-more : (i : ℕ) → someBelow test i ≡ false → test i ≡ false → someBelow test (i + 1) ≡ false
-  unfolding someBelow
-  some-more i e f = rw (add-one, e, f)
-
-  pub some-found : (n i : ℕ) → i < n → test i ≡ true → someBelow test n ≡ true
-  unfolding someBelow
-  some-found zero i l e = absurd (omega arith)
-  some-found (suc n) i l e =
-      ⊎-elim (λ h. rw (some-found n i h e)) (λ h. let s : n ≡ i = omega arith in or-right (someBelow test n) (test n) (ap test s ∙ e)) (le-or-lt (suc i) n)
-    where
-      or-right : (a b : Bool) → b ≡ true → (a || b) ≡ true
-      or-right true b q = refl
-      or-right false b q = q
+use Rattle.coverage.specs.Covering.{coveredAt, waitsOn, Upto, NextOf}
 
 -- ---- a write record that has no place yet
 

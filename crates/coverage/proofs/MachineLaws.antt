@@ -1,8 +1,8 @@
 -- The places that a transaction's write records cover are those that its writes cover, and the same of writes without a place. Assumes
 -- nothing.
-use mathlib.Core.Bool.{Bool, true, false, cond, _&&_, _||_}
-use mathlib.Core.List.{List, [], _∷_, _++_}
-use mathlib.Core.Path.{_≡_, refl, sym, ap, ap₂, _∙_}
+use mathlib.Core.Bool.{Bool, true, false, cond, _&&_, _||_, or-false, or-true}
+use mathlib.Core.List.{List}
+use mathlib.Core.Path.{_≡_, refl, ap, ap₂, _∙_}
 use lib.Dec.{eqb}
 use lib.ListN.{getD, length}
 use Prim.Native.Nat.{ℕ, zero, suc, _+_, _*_, _≤_, _<_}
@@ -19,33 +19,11 @@ use Rattle.rules.specs.Reading.{over}
 use Rattle.rules.specs.Machine.{fileOf, dataStart, writeAt, txnOf}
 use Rattle.rules.specs.Coverage.{someWrite, coversPlace, covered, unplacedOn, unplaced, stretchesOf}
 use Rattle.rules.proofs.Coverage.Stretches.{stretches-same}
+use Rattle.laws.proofs.Decoded.{some-one-more, some-tabulate}
 use Rattle.runs.specs.declared.Supplier.the-variants.{Record}
 use Rattle.runs.specs.Runs.{Recorded, recorded, covers, newest, supplier, isRecord}
 use Rattle.runs.proofs.RunLaws.{data-suc}
-use Rattle.coverage.specs.Covering.{coveredAt, someBelow, waitsOn, waitsIn}
-
--- ---- a test of one write more
-
-or-assoc : (a b c : Bool) → ((a || b) || c) ≡ (a || (b || c))
-or-assoc true b c = refl
-or-assoc false b c = refl
-
-or-false : (a : Bool) → (a || false) ≡ a
-or-false true = refl
-or-false false = refl
-
-or-true : (a : Bool) → (a || true) ≡ true
-or-true true = refl
-or-true false = refl
-
-some-append : (test : Write → Bool) (xs ys : List Write) → someWrite test (xs ++ ys) ≡ (someWrite test xs || someWrite test ys)
-unfolding someWrite
-some-append test [] ys = refl
-some-append test (x ∷ xs) ys = ap (λ (b : Bool). test x || b) (some-append test xs ys) ∙ sym (or-assoc (test x) (someWrite test xs) (someWrite test ys))
-
-some-one-more : (test : Write → Bool) (xs : List Write) (w : Write) → someWrite test (xs ++ (w ∷ [])) ≡ (someWrite test xs || test w)
-unfolding someWrite
-some-one-more test xs w = some-append test xs (w ∷ []) ∙ ap (λ (b : Bool). someWrite test xs || b) (or-false (test w))
+use Rattle.coverage.specs.Covering.{coveredAt, waitsOn, waitsIn}
 
 -- ---- the first n writes
 
@@ -58,11 +36,8 @@ module _ (j : Recorded) (logs : List ℕ) (t f : ℕ) where
   writes n = tabulate (writeAt (j .journal) logs t) n
 
   unplaced-is : (n : ℕ) → unplaced file f (writes n) ≡ waitsIn j t n f
-  unfolding unplaced waitsIn someBelow tabulate someWrite unplacedOn waitsOn writeAt
-  unplaced-is zero = refl
-  unplaced-is (suc n) =
-      some-one-more (unplacedOn file f) (writes n) (writeAt (j .journal) logs t n)
-      ∙ ap (λ (b : Bool). b || waitsOn (j .filenumbers) f (writeRecordAt (j .journal) t n)) (unplaced-is n)
+  unfolding unplaced waitsIn unplacedOn waitsOn writeAt
+  unplaced-is n = some-tabulate (unplacedOn file f) (writeAt (j .journal) logs t) (λ k. waitsOn (j .filenumbers) f (writeRecordAt (j .journal) t k)) n (λ k l. refl)
 
   module _ (small : t < 8) (long : length logs ≡ 32768) where
     covers-is : (p k : ℕ) → lengthsBefore (j .journal) t (suc k) ≤ 4096

@@ -1,13 +1,14 @@
 -- The places of a file that a transaction's write records cover, and those of its records that have no place yet.
-use mathlib.Core.Bool.{Bool, true, false, not, _&&_, _||_}
+use mathlib.Core.Bool.{Bool, true, false, not, _&&_}
 use mathlib.Core.List.{List}
 use mathlib.Core.Path.{_≡_}
 use lib.Dec.{eqb}
 use lib.ListN.{getD}
-use Prim.Native.Nat.{ℕ, zero, suc, _+_, _≤_, _<_}
+use Prim.Native.Nat.{ℕ, _+_, _≤_, _<_}
 use Rattle.counters.specs.declared.Used.{Used}
 use Rattle.record.specs.declared.journal.WriteRecord.{WriteRecord}
 use Rattle.record.specs.Journal.{writeRecordAt}
+use Rattle.ranges.specs.Below.{someBelow}
 use Rattle.rules.specs.Coverage.{noPlace, stretchesOf, Stretch as Listed}
 use Rattle.runs.specs.Runs.{Recorded, recordedIn, isRecord, supplier}
 use Rattle.coverage.specs.declared.Stretch.{Stretch}
@@ -19,11 +20,6 @@ coveredAt j t records f p = isRecord (supplier j t records f p)
 -- The list of the places that those of a record cover.
 abbrev pub stretchesIn : List ℕ → ℕ → Used → ℕ → List Listed
 stretchesIn kept t u f = stretchesOf (coveredAt (recordedIn kept) t (u .records) f)
-
--- Whether some number below a bound passes a test.
-unfoldable pub someBelow : (ℕ → Bool) → ℕ → Bool
-someBelow test zero = false
-someBelow test (suc n) = someBelow test n || test n
 
 -- Whether a write record is one of file f and has no place yet.
 unfoldable pub waitsOn : List ℕ → ℕ → WriteRecord → Bool

@@ -13,6 +13,7 @@ use record::layout::file_at;
 use record::layout::length_at;
 use record::layout::offset_at;
 use record::layout::transaction_at;
+use record::layout::window_at;
 use record::outcomes::Outcome;
 use standings::Place;
 use standings::Standing;
@@ -145,12 +146,26 @@ fn transactions_taken(h: usize, kept: &Record) -> usize
     out
 }
 
-// How many numbers are committed.
+// Start and end of the windows, number by number.
+fn minute_at(kept: &Record, i: usize) -> u16
+    requires { ⌜ i < 16 ⌝ }
+{
+    let w = window_at(kept, i / 2);
+    if i % 2 == 0 {
+        return w.start;
+    }
+    w.end
+}
+
+// How many numbers are committed, without the windows and with them.
 const COMMITTED: usize = 2 * DESCRIPTORS + FILES;
 
-// What is committed, number by number: the files of the descriptors, their offsets, the lengths of the files.
+const WITH_WINDOWS: usize = COMMITTED + 2 * FILES;
+
+// What is committed, number by number: the files of the descriptors, their offsets, the lengths of the files; then the
+// windows of the files.
 fn committed_at(kept: &Record, i: usize) -> u16
-    requires { ⌜ i < 40 ⌝ }
+    requires { ⌜ i < 56 ⌝ }
 {
     if i < DESCRIPTORS {
         return file_at(kept, i);
@@ -158,7 +173,10 @@ fn committed_at(kept: &Record, i: usize) -> u16
     if i < 2 * DESCRIPTORS {
         return offset_at(kept, i - DESCRIPTORS);
     }
-    length_at(kept, i - 2 * DESCRIPTORS)
+    if i < COMMITTED {
+        return length_at(kept, i - 2 * DESCRIPTORS);
+    }
+    minute_at(kept, i - COMMITTED)
 }
 
 fn committed_taken(h: usize, kept: &Record) -> usize
@@ -167,7 +185,7 @@ fn committed_taken(h: usize, kept: &Record) -> usize
 {
     let mut out = h;
     let mut i = 0;
-    while i < COMMITTED {
+    while i < WITH_WINDOWS {
         out = taken(out, committed_at(kept, i));
         i += 1;
     }

@@ -8,7 +8,7 @@ use lib.ListN.{set, length}
 use native.Mathlib.Omega.{arith}
 use Prim.Native.Nat.{ℕ, _≤_, _<_}
 use Rattle.record.specs.State.{transaction, standingAt, withDescriptors, withTransaction}
-use Rattle.record.specs.Layout.{transactionOf, storeOf, journalOf, withDescriptorAt}
+use Rattle.record.specs.Layout.{transactionOf, storeOf, journalOf, withDescriptorAt, recordLength}
 use Rattle.record.proofs.LayoutLaws.{length-journal, transaction-of, store-with-descriptor, journal-with-descriptor}
 use Rattle.record.specs.Paper.{plain, said}
 use Rattle.record.specs.declared.outcomes.Outcome.the-variants.{Done}
@@ -62,7 +62,7 @@ module _ (t d v : ℕ) (m : Machine) (passes : admission (sizes m) (m .store) (m
       }
 
 -- The record with descriptor d put back, as the code puts it.
-module _ (t d v : ℕ) (kept files logs marks : List ℕ) (long : length kept ≡ 2088) (few : d ≤ 15) (fits : v ≤ 4096) where
+module _ (t d v : ℕ) (kept files logs marks : List ℕ) (long : length kept ≡ recordLength) (few : d ≤ 15) (fits : v ≤ 4096) where
   abbrev handedOver : Machine
   handedOver = machineOf kept files logs marks
 

@@ -21,7 +21,7 @@ use Rattle.record.specs.declared.Store.{Store}
 use Rattle.record.specs.declared.journal.WriteRecord.{WriteRecord}
 use Rattle.record.specs.State.{transaction, standingAt, withUsed, withDescriptors, withTransaction}
 use Rattle.record.specs.Journal.{withRecordAt}
-use Rattle.record.specs.Layout.{transactionOf, storeOf, journalOf, withDescriptorAt, withUsedAt}
+use Rattle.record.specs.Layout.{transactionOf, storeOf, journalOf, withDescriptorAt, withUsedAt, recordLength}
 use Rattle.record.specs.Paper.{plain, said, number}
 use Rattle.record.proofs.JournalLaws.{length-with-at}
 use Rattle.record.proofs.LayoutLaws.{length-journal, transaction-of, store-with-record, journal-with-record, store-with-used, journal-with-used, length-with-used, store-with-descriptor, journal-with-descriptor}
@@ -81,7 +81,7 @@ place-within (Known o) e = leb-true o 4096 e
 both-counters : (u : Used) (r b : ℕ) → u .records ≡ r → u .bytes ≡ b → u ≡ record { records = r; bytes = b }
 both-counters u r b e f = λ i. record { records = e i; bytes = f i }
 
-module _ (t d n : ℕ) (z : Standing) (used : Used) (kept : List ℕ) (long : length kept ≡ 2088) (small : t < 8) (few : d < 16) (room : used .records < 64) where
+module _ (t d n : ℕ) (z : Standing) (used : Used) (kept : List ℕ) (long : length kept ≡ recordLength) (small : t < 8) (few : d < 16) (room : used .records < 64) where
   pub write-put : (p : Place) (u : Used) (y : Standing) (one two three : List ℕ)
       → p ≡ writePlace z → one ≡ withRecordAt kept t (used .records) (record { descriptor = d; place = p; length = n })
       → u .records ≡ used .records + 1 → u .bytes ≡ used .bytes + n → two ≡ withUsedAt one t u
@@ -93,8 +93,8 @@ module _ (t d n : ℕ) (z : Standing) (used : Used) (kept : List ℕ) (long : le
       let q : Descriptor = record { standing = y; dirty = true } in
       let x = transaction (storeOf kept) t in
       let described : Transaction → Transaction = λ v. withDescriptors (set (v .descriptors) d q) v in
-      let long-one : length one ≡ 2088 = ap length is-one ∙ length-with-at kept t (used .records) w ∙ long in
-      let long-two : length two ≡ 2088 = ap length is-two ∙ length-with-used one t long-one small u ∙ long-one in
+      let long-one : length one ≡ recordLength = ap length is-one ∙ length-with-at kept t (used .records) w ∙ long in
+      let long-two : length two ≡ recordLength = ap length is-two ∙ length-with-used one t long-one small u ∙ long-one in
       let store-two : storeOf two ≡ withTransaction t (withUsed u x) (storeOf kept) =
       ap storeOf is-two ∙ store-with-used one t long-one small u
       ∙ ap (λ (s : Store). withTransaction t (withUsed u (transaction s t)) s) (ap storeOf is-one ∙ store-with-record kept long t (used .records) w small room) in (

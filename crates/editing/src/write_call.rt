@@ -23,7 +23,7 @@ ghost use mathlib.Core.Path.{_≡_};
 ghost use Prim.Native.Nat.{_<_, _≤_};
 ghost use lib.ListN.{length};
 ghost use Rattle.standings.specs.Table.{placeNumber, writePlace};
-ghost use Rattle.record.specs.Layout.{storeOf, journalOf};
+ghost use Rattle.record.specs.Layout.{storeOf, journalOf, recordLength};
 ghost use Rattle.ranges.specs.Ranges.{gateNumber};
 ghost use Rattle.rules.specs.Messages.{Op, Call};
 ghost use Rattle.rules.specs.Calls.{call};
@@ -49,7 +49,7 @@ fn room(place: Place, used: Used, n: usize) -> Gate
 
 // Puts a write of n bytes through descriptor d, which stood at z, into the record: its write record, the counters, d.
 fn put_write(kept: &mut Record, t: usize, d: usize, z: Standing, u: Used, n: u16)
-    requires { ⌜ (length (now kept) ≡ 2088) × (t < 8) × (d < 16) ⌝ }
+    requires { ⌜ (length (now kept) ≡ recordLength) × (t < 8) × (d < 16) ⌝ }
     requires { ⌜ Room (writePlace z) u n ⌝ }
     ensures { λ _. ⌜ storeOf (now (kept .exit)) ≡ storeWritten t d z u n (storeOf (now (kept .entry))) ⌝ }
     ensures { λ _. ⌜ journalOf (now (kept .exit)) ≡ journalWritten t d z u n (journalOf (now (kept .entry))) ⌝ }

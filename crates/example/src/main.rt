@@ -6,6 +6,9 @@ use record::layout::NUMBERS;
 use record::layout::Record;
 use record::outcomes::Outcome;
 
+// The minute of every commit. In a fresh store each file may change at any.
+const MINUTE: usize = 0;
+
 // A store buffer.
 type Buffer = [u8; BUFFER_BYTES];
 
@@ -48,8 +51,14 @@ fn both(kept: &mut Record, files: &mut Buffer, logs: &mut Buffer, marks: &mut Bu
         b"1 reads",
         store::read(kept, files, logs, marks, 1, 1, 5, &mut reader),
     );
-    tell(b"commit 0", store::commit(kept, files, logs, marks, 0));
-    tell(b"commit 1", store::commit(kept, files, logs, marks, 1));
+    tell(
+        b"commit 0",
+        store::commit(kept, files, logs, marks, 0, MINUTE),
+    );
+    tell(
+        b"commit 1",
+        store::commit(kept, files, logs, marks, 1, MINUTE),
+    );
 }
 
 // Transaction 1 again.
@@ -61,7 +70,10 @@ fn again(kept: &mut Record, files: &mut Buffer, logs: &Buffer, marks: &mut Buffe
         store::read(kept, files, logs, marks, 1, 1, 5, &mut reader),
     );
     print(&reader);
-    tell(b"\ncommit 1", store::commit(kept, files, logs, marks, 1));
+    tell(
+        b"\ncommit 1",
+        store::commit(kept, files, logs, marks, 1, MINUTE),
+    );
 }
 
 // A fresh store whose descriptors all belong to file 0.

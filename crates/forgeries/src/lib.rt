@@ -17,8 +17,10 @@ use record::layout::put_length;
 use record::layout::put_lengthmarks;
 use record::layout::put_offset;
 use record::layout::put_used;
+use record::layout::put_window;
 use record::layout::reset;
 use record::layout::used_at;
+use record::layout::window_at;
 use standings::Place;
 use standings::Standing;
 ghost use Prim.Native.Nat.{_<_};
@@ -56,6 +58,21 @@ fn forge_committed(kept: &mut Record, g: Damage)
     } else {
         put_length(kept, i % FILES, above(g.excess));
     }
+}
+
+// Forgeries 17 and 18: a window's start or end above 1,439.
+fn forge_window(kept: &mut Record, g: Damage)
+    requires { ⌜ g .index < 16 ⌝ }
+{
+    let f = g.index % FILES;
+    let n = (1440 + g.excess % 64096) as u16;
+    let mut w = window_at(kept, f);
+    if g.forgery == 17 {
+        w.start = n;
+    } else {
+        w.end = n;
+    }
+    put_window(kept, f, w);
 }
 
 // Forgeries 3 to 7: a standing out of range.
@@ -205,11 +222,15 @@ fn forge_log(kept: &mut Record, g: Damage)
     }
 }
 
-// Puts a number out of range into the record; that of the forgery, 0 to 16, says which. 0 leaves the record.
+// Puts a number out of range into the record; that of the forgery, 0 to 18, says which. 0 leaves the record.
 pub fn forge(kept: &mut Record, g: Damage)
     requires { ⌜ (g .transaction < 8) × (g .index < 16) ⌝ }
 {
     if g.forgery == 0 {
+        return;
+    }
+    if 16 < g.forgery {
+        forge_window(kept, g);
         return;
     }
     if (g.forgery < 3) | (15 < g.forgery) {

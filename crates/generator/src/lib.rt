@@ -38,80 +38,90 @@ const COMMIT: usize = 7;
 
 const ABORT: usize = 8;
 
-// How many of 1,000 calls are of each kind, nine numbers a mode: mixed, crowded, many records, long writes, near the
+const SET_WINDOW: usize = 9;
+
+// How many of 1,000 calls are of each kind, ten numbers a mode: mixed, crowded, many records, long writes, near the
 // end, long reads, scattered, short files.
-const WEIGHTS: [usize; 72] = [
+const WEIGHTS: [usize; 80] = [
     4,
     20,
-    220,
-    260,
-    85,
-    226,
+    210,
+    250,
+    80,
+    211,
     40,
     102,
     43,
+    40,
     4,
     20,
-    175,
-    225,
-    130,
-    200,
+    165,
+    215,
+    120,
+    190,
     40,
     162,
     44,
+    40,
     4,
     10,
     60,
-    800,
+    790,
     10,
     56,
     40,
     12,
     8,
-    4,
-    20,
-    220,
-    440,
-    30,
-    101,
-    40,
-    92,
-    53,
-    4,
-    20,
-    220,
-    270,
-    85,
-    160,
-    40,
-    151,
-    50,
+    10,
     4,
     20,
     210,
-    250,
-    65,
-    270,
+    420,
+    30,
+    91,
+    40,
+    92,
+    53,
+    40,
+    4,
+    20,
+    210,
+    260,
+    80,
+    145,
+    40,
+    151,
+    50,
+    40,
+    4,
+    20,
+    200,
+    240,
+    60,
+    255,
     40,
     102,
     39,
+    40,
     4,
     20,
-    340,
-    340,
+    335,
+    335,
     20,
     100,
     150,
     16,
     10,
+    10,
     24,
     20,
-    60,
-    330,
+    50,
+    320,
     10,
-    330,
+    320,
     16,
     180,
+    30,
     30,
 ];
 
@@ -120,7 +130,7 @@ pub struct Damage {
     // 1, 2, 3: of the files, logs, marks only the first length bytes are lent.
     pub short: usize,
     pub length: usize,
-    // 1 to 16: the call gets a record out of its ranges.
+    // 1 to 18: the call gets a record out of its ranges.
     pub forgery: usize,
     pub transaction: usize,
     pub index: usize,
@@ -258,20 +268,21 @@ fn kind(mode: usize, r: usize) -> usize
 {
     let mut rest = r % 1000;
     let mut k = FRESH;
-    while k < ABORT {
-        let weight = WEIGHTS[9 * mode + k];
+    while k < SET_WINDOW {
+        let weight = WEIGHTS[10 * mode + k];
         if rest < weight {
             return k;
         }
         rest -= weight;
         k += 1;
     }
-    ABORT
+    SET_WINDOW
 }
 
-// A call on a transaction that is guessed closed is made a Begin, seven times out of eight.
+// A call on a transaction that is guessed closed is made a Begin, seven times out of eight. The setting of a window is
+// on none.
 fn begun_first(kind: usize, t: usize, guess: [bool; 8], r: usize) -> usize {
-    if kind <= BEGIN {
+    if (kind <= BEGIN) | (kind == SET_WINDOW) {
         return kind;
     }
     if 7 < t {
@@ -293,7 +304,7 @@ fn guess_after_request(guess: [bool; 8], q: Request, t: usize) -> [bool; 8]
     let mut out = guess;
     match q {
         Request::Begin(_) => out[t] = true,
-        Request::Commit(_) => out[t] = false,
+        Request::Commit(_, _) => out[t] = false,
         Request::Abort(_) => out[t] = false,
         _ => {}
     }
@@ -440,14 +451,36 @@ fn read_count(mode: usize, class: usize, value: usize) -> usize {
     value % (room + 1)
 }
 
+// A minute: mostly one of six, around midnight and around noon, sometimes any of the day, now and then none.
+fn minute(class: usize, value: usize) -> usize {
+    if class == 0 {
+        if value % 2 == 0 {
+            return 1440;
+        }
+        return 1440 + value / 2 % 64096;
+    }
+    if class < 12 {
+        return (720 * (value % 2) + 1439 + value / 2 % 3) % 1440;
+    }
+    value % 1440
+}
+
+// The end of a window: as its start for every other one.
+fn window_end(start: usize, r: [usize; 12]) -> usize {
+    if r[10] % 2 == 0 {
+        return start;
+    }
+    minute(r[5] % 16, r[6])
+}
+
 fn number(kind: usize, mode: usize, class: usize, value: usize) -> usize {
-    if kind == SEEK {
-        return seek_to(mode, class, value);
+    match kind {
+        SEEK => seek_to(mode, class, value),
+        WRITE => write_length(mode, class, value),
+        COMMIT => minute(class, value),
+        SET_WINDOW => minute(class, value),
+        _ => read_count(mode, class, value),
     }
-    if kind == WRITE {
-        return write_length(mode, class, value);
-    }
-    read_count(mode, class, value)
 }
 
 // The length of the buffer for a list: often room for a few pairs, below five; otherwise 64 bytes, or 300, which every
@@ -510,7 +543,7 @@ fn forgery(kind: usize, class: usize, r: usize) -> usize {
         return 0;
     }
     if class < 5 {
-        return 1 + r % 16;
+        return 1 + r % 18;
     }
     0
 }
@@ -581,8 +614,8 @@ fn list_length(class: usize, value: usize) -> usize
     16
 }
 
-// The call of a kind with its transaction, descriptor, file and number.
-fn call_of(kind: usize, t: usize, d: usize, f: usize, n: usize) -> Made {
+// The call of a kind with its transaction, descriptor, file and number, and the end of a window.
+fn call_of(kind: usize, t: usize, d: usize, f: usize, n: usize, end: usize) -> Made {
     if kind == FRESH {
         return Made::Fresh;
     }
@@ -593,8 +626,9 @@ fn call_of(kind: usize, t: usize, d: usize, f: usize, n: usize) -> Made {
         GET_FILE_POINTER => Made::Asks(Request::GetFilePointer(t, d)),
         READ => Made::Asks(Request::Read(t, d, n)),
         PLACES => Made::Asks(Request::Places(t, f)),
-        COMMIT => Made::Asks(Request::Commit(t)),
-        _ => Made::Asks(Request::Abort(t)),
+        COMMIT => Made::Asks(Request::Commit(t, n)),
+        ABORT => Made::Asks(Request::Abort(t)),
+        _ => Made::Asks(Request::SetWindow(f, n, end)),
     }
 }
 
@@ -611,7 +645,14 @@ pub fn requested(r: [usize; 12], phase: usize, guess: [bool; 8]) -> Generated
     let d = damaged(k, r);
     let list = list(r);
     Generated {
-        made: call_of(k, t, descriptor(mode, r[2]), file(mode, r[2]), n),
+        made: call_of(
+            k,
+            t,
+            descriptor(mode, r[2]),
+            file(mode, r[2]),
+            n,
+            window_end(n, r),
+        ),
         transaction: t,
         size: n,
         first: written(r[5], r[6]),

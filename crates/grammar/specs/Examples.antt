@@ -19,7 +19,7 @@ line text = parsed (bytes text)
 pub record Examples : Type 0 where
   -- "`B0` (Begin), `C0` (Commit), `A0` (Abort)"
   pub alone :
-      (line "B0" ≡ asks (Begin 0) []) × (line "C7" ≡ asks (Commit 7) []) × (line "A3" ≡ asks (Abort 3) [])
+      (line "B0" ≡ asks (Begin 0) []) × (line "C7" ≡ asks (Commit 7 0) []) × (line "A3" ≡ asks (Abort 3) [])
   -- "`P0 3` (GetFilePointer), `S0 3 17` (Seek), `R0 3 5` (Read)"
   pub numbered :
       (line "P0 3" ≡ asks (GetFilePointer 0 3) []) × (line "S0 3 17" ≡ asks (Seek 0 3 17) []) × (line "R0 3 5" ≡ asks (Read 0 3 5) [])

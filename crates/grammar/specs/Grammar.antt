@@ -56,12 +56,16 @@ unfoldable pub writes : Request → List ℕ → Line
 writes q [] = another
 writes q (b ∷ bytes) = cond (eqb b (code " ")) (asks q bytes) another
 
+-- F-11: "a trace runs at minute 0".
+abbrev pub traceMinute : ℕ
+traceMinute = 0
+
 -- "A line is `B0` (Begin), `C0` (Commit), `A0` (Abort), `P0 3` (GetFilePointer), `S0 3 17` (Seek), `R0 3 5` (Read) or `W0 3 ` and the
 -- bytes up to the line's end": by its letter k, transaction t and the bytes after them.
 unfoldable pub lettered : ℕ → ℕ → List ℕ → Line
 lettered k t bytes =
     cond (eqb k (code "B")) (ends (Begin t) bytes)
-    (cond (eqb k (code "C")) (ends (Commit t) bytes)
+    (cond (eqb k (code "C")) (ends (Commit t traceMinute) bytes)
     (cond (eqb k (code "A")) (ends (Abort t) bytes)
     (cond (eqb k (code "P")) (after (spaced bytes) (λ d. ends (GetFilePointer t d)))
     (cond (eqb k (code "S")) (after (spaced bytes) (λ d rest. after (spaced rest) (λ v. ends (Seek t d v))))

@@ -11,6 +11,9 @@ ghost use Rattle.grammar.specs.Parsing.{foundOf, Reads, Parses};
 // The most bytes of a line, without its end.
 pub const LINE_BYTES: usize = 128;
 
+// The minute of every Commit of a trace.
+const TRACE_MINUTE: usize = 0;
+
 // What a line asks: a request, and where the bytes of a Write start (in any other, the line's end); or it has another
 // form.
 pub enum Parsed {
@@ -146,7 +149,7 @@ fn by_letter(line: &[u8], letter: u8, t: usize) -> Parsed
 {
     match letter {
         b'B' => ended(Request::Begin(t), line, 2),
-        b'C' => ended(Request::Commit(t), line, 2),
+        b'C' => ended(Request::Commit(t, TRACE_MINUTE), line, 2),
         b'A' => ended(Request::Abort(t), line, 2),
         b'P' => pointer_line(line, t),
         b'S' => seek_or_read_line(line, t, true),

@@ -11,7 +11,7 @@ use Rattle.record.specs.declared.Store.{Store}
 use Rattle.record.specs.declared.Transaction.{Transaction}
 use Rattle.record.specs.State.{standingAt, dirtyAt, withOffsets}
 use Rattle.record.specs.Journal.{writeRecordAt}
-use Rattle.record.specs.Layout.{storeOf, journalOf}
+use Rattle.record.specs.Layout.{storeOf, journalOf, recordLength}
 use Rattle.ranges.specs.Ranges.{lengthsBefore}
 use Rattle.rules.specs.Items.{byte, offset, fileLength, Values}
 use Rattle.rules.specs.Transactions.{Txn}
@@ -96,7 +96,7 @@ pub record LandsAs (kept : List ℕ) (t k : ℕ) (r : Landing) : Type 0 where
 pub record Means (before after : List ℕ) (s : Store) : Type 0 where
   pub store : storeOf after ≡ s
   pub journal : journalOf after ≡ journalOf before
-  pub long : length after ≡ 2088
+  pub long : length after ≡ recordLength
 
 -- What a function does to the meaning of the record that it is lent: its store becomes f of what it was.
 abbrev pub Becomes : Lent → (Store → Store) → Type 0

@@ -11,7 +11,7 @@ ghost use mathlib.Core.Path.{_≡_};
 ghost use Prim.Native.Nat.{_+_, _≤_};
 ghost use lib.ListN.{length};
 ghost use Rattle.record.specs.State.{withLengths};
-ghost use Rattle.record.specs.Layout.{storeOf};
+ghost use Rattle.record.specs.Layout.{storeOf, recordLength};
 ghost use Rattle.rules.specs.Reading.{writeEnd};
 ghost use Rattle.landing.specs.Landing.{CanLandIn, lengthsLandedIn, Becomes};
 
@@ -59,7 +59,7 @@ pub fn lengths_after(kept: &Record, t: usize, used: Used) -> [u16; FILES]
 
 // Puts the committed lengths.
 pub fn put_lengths(kept: &mut Record, lengths: [u16; FILES])
-    requires { ⌜ length (now kept) ≡ 2088 ⌝ }
+    requires { ⌜ length (now kept) ≡ recordLength ⌝ }
     ensures { λ _. ⌜ Becomes kept (withLengths lengths) ⌝ }
 {
     let mut f = 0;

@@ -9,7 +9,7 @@ ghost use mathlib.Core.Bool.{true};
 ghost use mathlib.Core.Path.{_≡_};
 ghost use Prim.Native.Nat.{ℕ, _≤_, _<_};
 ghost use lib.ListN.{length, getD};
-ghost use Rattle.record.specs.Layout.{storeOf};
+ghost use Rattle.record.specs.Layout.{storeOf, recordLength};
 ghost use Rattle.landing.specs.Landing.{placesFit, withOffsetsOf, Becomes};
 
 // Commit's placing: every advance of x fits behind its committed offset.
@@ -31,7 +31,7 @@ pub fn places_fit(kept: &Record, x: Transaction) -> bool
 
 // Puts the committed offsets that a commit of x sets.
 pub fn put_offsets(kept: &mut Record, x: Transaction)
-    requires { ⌜ (length (now kept) ≡ 2088) × (placesFit (storeOf (now kept)) x ≡ true) ⌝ }
+    requires { ⌜ (length (now kept) ≡ recordLength) × (placesFit (storeOf (now kept)) x ≡ true) ⌝ }
     ensures { λ _. ⌜ Becomes kept (withOffsetsOf x) ⌝ }
 {
     let mut d = 0;

@@ -1,7 +1,7 @@
 -- A begun transaction as the record and the logs hold it: how many writes, how many bytes, how long each is.
-use mathlib.Core.Bool.{true}
+use mathlib.Core.Bool.{Bool, true, _||_, or-assoc, or-false}
 use mathlib.Core.List.{List, [], _∷_, _++_}
-use mathlib.Core.Path.{_≡_, refl, ap, _∙_}
+use mathlib.Core.Path.{_≡_, refl, sym, ap, ap₂, _∙_}
 use lib.ListN.{length, getD}
 use native.Mathlib.Omega.{arith}
 use Prim.Native.Nat.{ℕ, zero, suc, _+_, _*_, _≤_, _<_}
@@ -11,11 +11,12 @@ use Rattle.octets.proofs.TableLaws.{length-tabulate, getD-tabulate}
 use Rattle.record.specs.declared.Store.{Store}
 use Rattle.record.specs.State.{transaction}
 use Rattle.record.specs.Journal.{writeRecordAt}
-use Rattle.ranges.specs.Below.{sum}
+use Rattle.ranges.specs.Below.{someBelow, sum}
 use Rattle.ranges.specs.Ranges.{lengthsBefore}
 use Rattle.ranges.proofs.Laws.{sum-same, TransactionInRange, Admitted, in-range}
 use Rattle.rules.specs.Transactions.{Write}
 use Rattle.rules.specs.Steps.{total}
+use Rattle.rules.specs.Coverage.{someWrite}
 use Rattle.rules.specs.Machine.{Machine, sizes, dataStart, writeAt, txnOf}
 use Rattle.rules.proofs.View.Shape.{Shaped}
 use Rattle.rules.proofs.View.Tables.{sum-le}
@@ -42,6 +43,23 @@ pub total-tabulate : (f : ℕ → Write) (n : ℕ) → total (tabulate f n) ≡ 
 unfolding tabulate total sum
 total-tabulate f zero = refl
 total-tabulate f (suc n) = total-append (tabulate f n) (f n) ∙ ap (λ (m : ℕ). m + length (f n .bytes)) (total-tabulate f n)
+
+-- A test of some write, of writes that are decoded one by one.
+module _ (test : Write → Bool) where
+  some-append : (xs ys : List Write) → someWrite test (xs ++ ys) ≡ (someWrite test xs || someWrite test ys)
+  unfolding someWrite
+  some-append [] ys = refl
+  some-append (x ∷ xs) ys = ap (λ (b : Bool). test x || b) (some-append xs ys) ∙ sym (or-assoc (test x) (someWrite test xs) (someWrite test ys))
+
+  pub some-one-more : (xs : List Write) (w : Write) → someWrite test (xs ++ (w ∷ [])) ≡ (someWrite test xs || test w)
+  unfolding someWrite
+  some-one-more xs w = some-append xs (w ∷ []) ∙ ap (λ (b : Bool). someWrite test xs || b) (or-false (test w))
+
+  pub some-tabulate : (f : ℕ → Write) (p : ℕ → Bool) (n : ℕ) → ((k : ℕ) → k < n → test (f k) ≡ p k) → someWrite test (tabulate f n) ≡ someBelow p n
+  unfolding tabulate someWrite someBelow
+  some-tabulate f p zero h = refl
+  some-tabulate f p (suc n) h =
+      some-one-more (tabulate f n) (f n) ∙ ap₂ _||_ (some-tabulate f p n (λ k l. h k (omega arith))) (h n (omega arith))
 
 module _ (s : Store) (journal logs : List ℕ) (t : ℕ) (o : Opened s journal logs t) where
   pub decoded-count : length (txnOf s journal logs t .writes) ≡ transaction s t .used .records

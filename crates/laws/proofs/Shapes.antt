@@ -23,6 +23,7 @@ shaped kept =
       files = length-tabulate _ 16;
       offsets = length-tabulate _ 16;
       lengths = length-tabulate _ 8;
+      windows = length-tabulate _ 8;
       transactions = length-tabulate _ 8;
       descriptors = λ t h. ap (λ (x : Transaction). length (x .descriptors)) (transaction-of kept t h) ∙ sixteen-descriptors kept t;
     }

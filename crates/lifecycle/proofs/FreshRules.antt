@@ -9,7 +9,7 @@ use Rattle.octets.specs.Parts.{tabulate}
 use Rattle.octets.proofs.PartLaws.{le-or-lt}
 use Rattle.octets.proofs.TableLaws.{table-same}
 use Rattle.record.specs.declared.outcomes.Outcome.the-variants.{Done}
-use Rattle.record.specs.Layout.{storeOf, journalOf, withFileNumbersAt}
+use Rattle.record.specs.Layout.{storeOf, journalOf, withFileNumbersAt, recordLength}
 use Rattle.record.specs.Paper.{plain, said}
 use Rattle.record.proofs.LayoutLaws.{store-of-zeros, filed, store-with-files, journal-with-files}
 use Rattle.ranges.specs.Ranges.{admissionOfFresh}
@@ -31,37 +31,37 @@ length-zeros n = length-replicate {A = ℕ} n 0
 zero-at : (n k : ℕ) → k < n → getD (zeros n) k 0 ≡ 0
 zero-at n k h = getD-replicate {A = ℕ} n k 0 0 h
 
-zero-anywhere : (k : ℕ) → getD (zeros 2088) k 0 ≡ 0
-zero-anywhere k = ⊎-elim (λ h. List·getD-eq-default (zeros 2088) 0 {n = k} (omega (arith, length-zeros 2088))) (zero-at 2088 k) (le-or-lt 2088 k)
+zero-anywhere : (k : ℕ) → getD (zeros recordLength) k 0 ≡ 0
+zero-anywhere k = ⊎-elim (λ h. List·getD-eq-default (zeros recordLength) 0 {n = k} (omega (arith, length-zeros recordLength))) (zero-at recordLength k) (le-or-lt recordLength k)
 
 -- A list as a table of its numbers.
 listed : (l : List ℕ) (n : ℕ) → length l ≡ n → tabulate (λ k. getD l k 0) n ≡ l
 listed l n e = ap (λ (m : ℕ). tabulate (λ k. getD l k 0) m) (sym e) ∙ tabulate-getD l 0
 
-journal-of-zeros : journalOf (zeros 2088) ≡ zeros 1536
+journal-of-zeros : journalOf (zeros recordLength) ≡ zeros 1536
 unfolding journalOf
 journal-of-zeros =
-    table-same (λ k. getD (zeros 2088) k 0) (λ k. getD (zeros 1536) k 0) 1536 (λ k h. zero-at 2088 k (omega arith) ∙ sym (zero-at 1536 k h))
+    table-same (λ k. getD (zeros recordLength) k 0) (λ k. getD (zeros 1536) k 0) 1536 (λ k h. zero-at recordLength k (omega arith) ∙ sym (zero-at 1536 k h))
     ∙ listed (zeros 1536) 1536 (length-zeros 1536)
 
 module _ (numbers : List ℕ) (sixteen : length numbers ≡ 16) where
   abbrev numbered : List ℕ
-  numbered = withFileNumbersAt (zeros 2088) (λ d. getD numbers d 0) 16
+  numbered = withFileNumbersAt (zeros recordLength) (λ d. getD numbers d 0) 16
 
   fresh-store : storeOf numbered ≡ freshStore numbers
   unfolding freshStore
   fresh-store =
-      store-with-files (zeros 2088) (length-zeros 2088) (λ d. getD numbers d 0)
-      ∙ ap (filed (tabulate (λ d. getD numbers d 0) 16)) (store-of-zeros (zeros 2088) zero-anywhere)
+      store-with-files (zeros recordLength) (length-zeros recordLength) (λ d. getD numbers d 0)
+      ∙ ap (filed (tabulate (λ d. getD numbers d 0) 16)) (store-of-zeros (zeros recordLength) zero-anywhere)
       ∙ ap (λ (l : List ℕ). filed l (freshStore [])) (listed numbers 16 sixteen)
 
   fresh-journal : journalOf numbered ≡ zeros 1536
-  fresh-journal = journal-with-files (zeros 2088) (length-zeros 2088) (λ d. getD numbers d 0) 16 ∙ journal-of-zeros
+  fresh-journal = journal-with-files (zeros recordLength) (length-zeros recordLength) (λ d. getD numbers d 0) 16 ∙ journal-of-zeros
 
 -- ---- the rule
 
 pub fresh-follows : (numbers kept files logs marks : List ℕ) → admissionOfFresh (sizes (machineOf kept files logs marks)) numbers ≡ 0
-    → (one after bytes sightings : List ℕ) → one ≡ replicate 2088 0 → after ≡ withFileNumbersAt one (λ d. getD numbers d 0) 16
+    → (one after bytes sightings : List ℕ) → one ≡ replicate recordLength 0 → after ≡ withFileNumbersAt one (λ d. getD numbers d 0) 16
     → bytes ≡ replicate (length files) 0 → sightings ≡ replicate (length marks) 0
     → Meets (fresh numbers (machineOf kept files logs marks)) Done (machineOf after bytes logs sightings) [] × LeftAsFound Done kept after
 unfolding fresh answer freshMachine said

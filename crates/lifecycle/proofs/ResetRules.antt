@@ -7,14 +7,14 @@ use Prim.Native.Nat.{ℕ, _<_}
 use Rattle.octets.specs.Marks.{withoutMarks}
 use Rattle.record.specs.declared.outcomes.Outcome.the-variants.{Done}
 use Rattle.record.specs.State.{ended, withBegun}
-use Rattle.record.specs.Layout.{storeOf, journalOf, resetAt}
+use Rattle.record.specs.Layout.{storeOf, journalOf, resetAt, recordLength}
 use Rattle.record.specs.Paper.{plain}
 use Rattle.record.proofs.LayoutLaws.{store-reset, journal-reset}
 use Rattle.rules.specs.Calls.{Turn, answer, reset}
 use Rattle.rules.specs.Promises.{Meets, machineOf, LeftAsFound}
 use Rattle.refusing.proofs.Turns.{reset-meets, done-follows}
 
-pub reset-follows : (t : ℕ) (b : Bool) (kept files logs marks : List ℕ) → length kept ≡ 2088 → t < 8
+pub reset-follows : (t : ℕ) (b : Bool) (kept files logs marks : List ℕ) → length kept ≡ recordLength → t < 8
     → (w : Turn) → w ≡ answer plain (reset t (withBegun b ended) (machineOf kept files logs marks))
     → (after cleared : List ℕ) → after ≡ resetAt kept t b → cleared ≡ withoutMarks t marks
     → Meets w Done (machineOf after files logs cleared) [] × LeftAsFound Done kept after

@@ -13,7 +13,7 @@ use Rattle.counters.specs.declared.Used.{Used}
 use Rattle.record.specs.declared.Transaction.{Transaction}
 use Rattle.record.specs.declared.Store.{Store}
 use Rattle.record.specs.State.{transaction, standingAt, withDescriptors, withLengthmarks, withTransaction}
-use Rattle.record.specs.Layout.{transactionOf, storeOf, journalOf, withDescriptorAt, withLengthmarksAt}
+use Rattle.record.specs.Layout.{transactionOf, storeOf, journalOf, withDescriptorAt, withLengthmarksAt, recordLength}
 use Rattle.record.proofs.LayoutLaws.{transaction-of, length-with-descriptor, store-with-descriptor, journal-with-descriptor, store-with-lengthmarks, journal-with-lengthmarks}
 use Rattle.laws.proofs.Shapes.{eight, put-read, put-twice}
 use Rattle.runs.specs.declared.Extent.{Extent}
@@ -46,7 +46,7 @@ module _ (kept : List ℕ) (t d n : ℕ) (z : Standing) (e : Extent) (p : Movabl
     pub moved-short : e .length < n → (sighted m : ℕ) → sighted ≡ transactionOf after t .lengthmarks → m ≡ withBit (e .file) sighted
         → (last : List ℕ) → last ≡ withLengthmarksAt after t m → MovedOn t d n e kept last
     moved-short h sighted m read is last marked =
-        let long : length after ≡ 2088 = ap length put ∙ length-with-descriptor kept t d (record { standing = y; dirty = true }) ∙ p .long in
+        let long : length after ≡ recordLength = ap length put ∙ length-with-descriptor kept t d (record { standing = y; dirty = true }) ∙ p .long in
         let now-is : transactionOf after t ≡ dirtied (transactionOf kept t) =
         sym (transaction-of after t (p .small)) ∙ ap (λ (s : Store). transaction s t) store-dirtied ∙ put-read (storeOf kept) t (dirtied (transactionOf kept t)) (eight kept t (p .small)) in
         record {

@@ -12,7 +12,7 @@ use Rattle.record.specs.declared.outcomes.Outcome.the-variants.{Refused}
 use Rattle.record.specs.declared.Transaction.{Transaction}
 use Rattle.record.specs.declared.Store.{Store}
 use Rattle.record.specs.State.{transaction}
-use Rattle.record.specs.Layout.{transactionOf, storeOf, journalOf}
+use Rattle.record.specs.Layout.{transactionOf, storeOf, journalOf, recordLength}
 use Rattle.record.proofs.LayoutLaws.{length-journal, transaction-of}
 use Rattle.record.specs.Paper.{number}
 use Rattle.ranges.specs.Ranges.{unless, admission}
@@ -79,7 +79,7 @@ module _ (t : ℕ) (o : Op) (m : Machine) (passes : admission (sizes m) (m .stor
 -- ---- what such a call knows once it may look
 
 pub record Looking (kept files logs marks : List ℕ) (t d n room : ℕ) : Type 0 where
-  pub long : length kept ≡ 2088
+  pub long : length kept ≡ recordLength
   pub passes : admission (sizes (machineOf kept files logs marks)) (storeOf kept) (journalOf kept) t ≡ 0
   pub through : LetThrough (machineOf kept files logs marks) t
   pub held : Opened (storeOf kept) (journalOf kept) logs t
@@ -91,7 +91,7 @@ pub gate-says : (kept : List ℕ) (t : ℕ) → t < 8 → (stale : Bool) → sta
 gate-says kept t small stale own d n room k says =
     says ∙ ap (λ (b : Bool). lookRefusal b d n room) (own ∙ ap (λ (y : Transaction). y .stale) (sym (transaction-of kept t small)))
 
-pub looking : (kept files logs marks : List ℕ) (t d n room : ℕ) → length kept ≡ 2088
+pub looking : (kept files logs marks : List ℕ) (t d n room : ℕ) → length kept ≡ recordLength
     → admission (sizes (machineOf kept files logs marks)) (storeOf kept) (journalOf kept) t ≡ 0
     → LetThrough (machineOf kept files logs marks) t
     → transaction (storeOf kept) t .begun ≡ true

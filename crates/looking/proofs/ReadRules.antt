@@ -20,7 +20,7 @@ use Rattle.record.specs.declared.Transaction.{Transaction}
 use Rattle.record.specs.declared.Store.{Store}
 use Rattle.record.specs.State.{transaction, standingAt, withTransaction}
 use Rattle.record.specs.Journal.{writeRecordAt}
-use Rattle.record.specs.Layout.{transactionOf, storeOf, journalOf}
+use Rattle.record.specs.Layout.{transactionOf, storeOf, journalOf, recordLength}
 use Rattle.record.specs.Paper.{number, given, said}
 use Rattle.ranges.specs.Ranges.{admission, standingIn, lengthsBefore}
 use Rattle.ranges.proofs.Laws.{and-right, below-at, standing-numbers, in-range}
@@ -336,7 +336,7 @@ module _ (t d n : ℕ) (buffer : List ℕ) (m : Machine) (passes : admission (si
           places-are : placesFrom now t d n ≡ extent f from count
           places-are = rw (recorded-now, files-now, lengths-now, used-now, standing-is, reached-is)
 
-          pub readable : length now ≡ 2088 → LetThrough m t → Readable now (m .files) (m .logs) (m .marks) t d n buffer
+          pub readable : length now ≡ recordLength → LetThrough m t → Readable now (m .files) (m .logs) (m .marks) t d n buffer
           readable long through =
               record {
                 long = long;

@@ -12,7 +12,7 @@ use Rattle.standings.specs.declared.Standing.{Standing}
 use Rattle.standings.specs.Table.{afterRead, offsetOf}
 use Rattle.record.specs.declared.Transaction.{Transaction}
 use Rattle.record.specs.State.{standingAt, withDescriptors, withLengthmarks, withTransaction}
-use Rattle.record.specs.Layout.{transactionOf, storeOf, journalOf}
+use Rattle.record.specs.Layout.{transactionOf, storeOf, journalOf, recordLength}
 use Rattle.rules.specs.Promises.{Lent}
 use Rattle.runs.specs.declared.Extent.{Extent}
 use Rattle.runs.specs.Runs.{extent, recordedIn, lengthFor}
@@ -35,7 +35,7 @@ afterGiving d n e x =
 
 -- What is asked before that is put, and the record after it was.
 pub record Movable (kept : List ℕ) (t d : ℕ) (z : Standing) (e : Extent) : Type 0 where
-  pub long : length kept ≡ 2088
+  pub long : length kept ≡ recordLength
   pub small : t < 8
   pub few : d < 16
   pub stands : z ≡ standingAt (transactionOf kept t) d
@@ -48,7 +48,7 @@ pub record MovedOn (t d n : ℕ) (e : Extent) (before after : List ℕ) : Type 0
 
 -- What a Read is handed once its descriptor has its place.
 pub record Readable (kept files logs marks : List ℕ) (t d n : ℕ) (reader : List ℕ) : Type 0 where
-  pub long : length kept ≡ 2088
+  pub long : length kept ≡ recordLength
   pub few : d < 16
   pub room : n ≤ length reader
   pub handed : HandedWhole kept files logs marks t (transactionOf kept t .used) (placesFrom kept t d n)

@@ -1,18 +1,20 @@
 -- Check 2 on forged records is computed.
 use mathlib.Core.Path.{refl}
+use Rattle.windows.specs.Hours.{minuteIn}
 use Rattle.record.specs.State.{ended, begun}
 use Rattle.record.specs.Journal.{heldAs, held, writeRecordAt, withRecordAt, withRecords}
 use Rattle.ranges.specs.Below.{below, sum}
-use Rattle.ranges.specs.Ranges.{standingIn, endsWithin, placeIn, recordIn, lengthsBefore, journalIn, transactionIn, storeIn}
-use Rattle.ranges.specs.Forged.{forged, lengthened, opened, journal, placed, first, deferred, Forged}
+use Rattle.ranges.specs.Ranges.{windowIn, standingIn, endsWithin, placeIn, recordIn, lengthsBefore, journalIn, transactionIn, storeIn}
+use Rattle.ranges.specs.Forged.{forged, lengthened, windowed, opened, journal, placed, first, deferred, Forged}
 
 pub forged-records : Forged
-unfolding ended begun heldAs held writeRecordAt withRecordAt withRecords below sum standingIn endsWithin placeIn recordIn lengthsBefore journalIn transactionIn storeIn forged lengthened opened journal placed first deferred
+unfolding ended begun heldAs held writeRecordAt withRecordAt withRecords below sum minuteIn windowIn standingIn endsWithin placeIn recordIn lengthsBefore journalIn transactionIn storeIn forged lengthened windowed opened journal placed first deferred
 forged-records =
     record {
       file = (refl, refl);
       offset = (refl, refl);
       length = (refl, refl);
+      window = (refl, refl, refl);
       standings = (refl, refl, refl, refl, refl, refl);
       records = (refl, refl);
       bytes = (refl, refl, refl);

@@ -1,5 +1,5 @@
 -- Laws of the definitions in specs/: tests and sums by index, what a passed test of a call tells, and what the ranges say.
-use mathlib.Core.Bool.{Bool, true, false, cond, not, _&&_, _||_}
+use mathlib.Core.Bool.{Bool, true, false, cond, not, _&&_, _||_, and-assoc}
 use mathlib.Core.List.{List}
 use mathlib.Core.Path.{_≡_, refl, sym, ap, _∙_}
 use mathlib.Core.Logic.{⊎-elim}
@@ -7,9 +7,10 @@ use lib.Dec.{leb, eqb}
 use lib.ListN.{getD, length}
 use Prim.Native.Nat.{ℕ, zero, suc, _+_, _≤_, _<_}
 use native.Mathlib.Nat.{eq-or-lt-of-le, le-of-suc-le-suc, not-suc-le-zero}
-use native.Mathlib.Numerals.{add-one}
+use native.Mathlib.Numerals.{add-one, unary-clauses}
 use native.Mathlib.Omega.{arith}
-use borrow.Author.Tests.{leb-true, le-leb, lt-leb, eqb-true, eq-eqb, not-true, not-false}
+use borrow.Author.Tests.{leb-true, le-leb, eqb-true, eq-eqb, not-true, not-false}
+use Rattle.windows.specs.Hours.{minuteIn}
 use Rattle.standings.specs.declared.Standing.{Standing}
 use Rattle.standings.specs.declared.Standing.the-variants.{Untouched, Placed, Deferred, Moved, Known}
 use Rattle.standings.specs.declared.Place.{Place}
@@ -18,15 +19,16 @@ use Rattle.standings.specs.Table.{advance, offsetOf, placeNumber}
 use Rattle.record.specs.declared.Transaction.{Transaction}
 use Rattle.record.specs.declared.Store.{Store}
 use Rattle.record.specs.declared.journal.WriteRecord.{WriteRecord}
-use Rattle.record.specs.State.{transaction, standingAt}
+use Rattle.record.specs.State.{transaction, standingAt, windowAt}
 use Rattle.record.specs.Journal.{writeRecordAt}
-use Rattle.ranges.specs.Below.{below, sum}
-use Rattle.ranges.specs.Ranges.{standingIn, endsWithin, placeIn, recordIn, lengthsBefore, journalIn, transactionIn, storeIn, unless, Sizes, sizesIn, firstTests, shared, admissionOfFresh, gateNumber}
+use Rattle.octets.proofs.PartLaws.{le-or-lt}
+use Rattle.ranges.specs.Below.{below, someBelow, sum}
+use Rattle.ranges.specs.Ranges.{standingIn, endsWithin, placeIn, recordIn, lengthsBefore, journalIn, transactionIn, windowIn, storeIn, unless, Sizes, sizesIn, firstTests, shared, windowRefusal, admissionOfWindow, admissionOfFresh, gateNumber}
 use Rattle.ranges.specs.declared.Gate.{Gate}
 use Rattle.ranges.specs.declared.Gate.the-variants.{Pass, Refused}
 use Rattle.record.specs.Paper.{number}
 use Rattle.record.specs.declared.outcomes.Refusal.{Refusal}
-use Rattle.record.specs.declared.outcomes.Refusal.the-variants.{BufferLength, RecordRange, NoSuchTransaction, NotOpen, AlreadyOpen, NoSuchTarget, ReaderTooShort, SeekPastEnd, WritePastEnd, RecordsFull, LogFull, SettledPastEnd, Stale, NoSuchFile, NoPlaceYet, ListTooLong, BadLine, StaleReader}
+use Rattle.record.specs.declared.outcomes.Refusal.the-variants.{BufferLength, RecordRange, NoSuchTransaction, NotOpen, AlreadyOpen, NoSuchTarget, ReaderTooShort, SeekPastEnd, WritePastEnd, RecordsFull, LogFull, SettledPastEnd, Stale, NoSuchFile, NoPlaceYet, ListTooLong, BadLine, StaleReader, FileClosed, NoSuchMinute}
 
 -- Tests joined by &&.
 pub and-left : (a b : Bool) → a && b ≡ true → a ≡ true
@@ -100,6 +102,44 @@ unfolding below
 below-same p q zero h = refl
 below-same p q (suc n) h = rw (below-same p q n (λ k l. h k (omega arith)), h n (omega arith))
 
+-- Two tests of every number below a bound, joined; and a test below a sum of two bounds.
+pub below-both : (p q : ℕ → Bool) (n : ℕ) → below p n && below q n ≡ below (λ k. p k && q k) n
+unfolding below
+below-both p q zero = refl
+below-both p q (suc n) = crossed (below p n) (p n) (below q n) (q n) ∙ ap (λ (b : Bool). b && (p n && q n)) (below-both p q n)
+  where
+    crossed : (a b c d : Bool) → (a && b) && (c && d) ≡ (a && c) && (b && d)
+    crossed true true c d = refl
+    crossed true false true d = refl
+    crossed true false false d = refl
+    crossed false b c d = refl
+
+pub below-sum : (p : ℕ → Bool) (m n : ℕ) → below p (m + n) ≡ below p m && below (λ k. p (m + k)) n
+unfolding below
+below-sum p m zero = simp unary-clauses (sym (and-true (below p m)))
+below-sum p m (suc n) =
+    simp unary-clauses (ap (λ (b : Bool). b && p (m + n)) (below-sum p m n) ∙ and-assoc (below p m) (below (λ k. p (m + k)) n) (p (m + n)))
+
+-- A test of some number below a bound.
+module _ (p : ℕ → Bool) where
+  pub some-none : someBelow p 0 ≡ false
+  unfolding someBelow
+  some-none = refl
+
+  pub some-more : (i : ℕ) → someBelow p i ≡ false → p i ≡ false → someBelow p (i + 1) ≡ false
+  unfolding someBelow
+  some-more i e f = rw (add-one, e, f)
+
+  pub some-found : (n i : ℕ) → i < n → p i ≡ true → someBelow p n ≡ true
+  unfolding someBelow
+  some-found zero i l e = absurd (omega arith)
+  some-found (suc n) i l e =
+      ⊎-elim (λ h. rw (some-found n i h e)) (λ h. let s : n ≡ i = omega arith in or-right (someBelow p n) (p n) (ap p s ∙ e)) (le-or-lt (suc i) n)
+    where
+      or-right : (a b : Bool) → b ≡ true → (a || b) ≡ true
+      or-right true b q = refl
+      or-right false b q = q
+
 -- A sum over every number below a bound.
 pub sum-zero : (f : ℕ → ℕ) → sum f 0 ≡ 0
 unfolding sum
@@ -130,7 +170,7 @@ module _ (z : Sizes) (s : Store) (journal : List ℕ) (later : ℕ) where
 
 -- The tests after 1 and 2 decide where these pass, and where not they don't matter.
 module _ (z : Sizes) (s : Store) (journal : List ℕ) where
-  pub first-passed : (later : ℕ) → firstTests z s journal 0 ≡ 0 → firstTests z s journal later ≡ later
+  first-passed : (later : ℕ) → firstTests z s journal 0 ≡ 0 → firstTests z s journal later ≡ later
   unfolding firstTests unless
   first-passed later e = pick (sizesIn z) (storeIn s journal) e
     where
@@ -139,7 +179,7 @@ module _ (z : Sizes) (s : Store) (journal : List ℕ) where
       pick true false e = absurd (omega arith)
       pick false b e = absurd (omega arith)
 
-  pub first-refused : (later n : ℕ) → n ≡ firstTests z s journal 0 → 0 < n → firstTests z s journal later ≡ n
+  first-refused : (later n : ℕ) → n ≡ firstTests z s journal 0 → 0 < n → firstTests z s journal later ≡ n
   unfolding firstTests unless
   first-refused later n e h = pick (sizesIn z) (storeIn s journal) e
     where
@@ -147,11 +187,6 @@ module _ (z : Sizes) (s : Store) (journal : List ℕ) where
       pick true true e = absurd (omega arith)
       pick true false e = sym e
       pick false b e = sym e
-
-  -- Test 3 comes after them.
-  pub shared-first : (t later : ℕ) → shared z s journal t later ≡ firstTests z s journal (unless (leb t 7) 3 later)
-  unfolding shared firstTests
-  shared-first t later = refl
 
 -- A refusal's number is not 0.
 pub number-suc : (r : Refusal) → (k : ℕ) × (number r ≡ suc k)
@@ -173,26 +208,20 @@ number-suc NoPlaceYet = (14, refl)
 number-suc ListTooLong = (15, refl)
 number-suc BadLine = (16, refl)
 number-suc StaleReader = (17, refl)
+number-suc FileClosed = (20, refl)
+number-suc NoSuchMinute = (21, refl)
 
--- What the gate of tests 1 and 2 tells of 1 to 3.
-module _ (g : Gate) (z : Sizes) (s : Store) (journal : List ℕ) (t : ℕ) (says : gateNumber g ≡ firstTests z s journal 0) where
-  pub gate-before : (r : Refusal) → g ≡ Refused r → number r ≡ shared z s journal t 0
+-- What the gate of tests 1 and 2 tells of those after them.
+module _ (g : Gate) (z : Sizes) (s : Store) (journal : List ℕ) (says : gateNumber g ≡ firstTests z s journal 0) (later : ℕ) where
+  pub gate-before : (r : Refusal) → g ≡ Refused r → number r ≡ firstTests z s journal later
   unfolding gateNumber
   gate-before r e =
       let n = number-suc r in
-      sym (shared-first z s journal t 0 ∙ first-refused z s journal (unless (leb t 7) 3 0) (number r) (sym (ap gateNumber e) ∙ says) (let q = n .1 in omega arith))
+      sym (first-refused z s journal later (number r) (sym (ap gateNumber e) ∙ says) (let q = n .1 in omega arith))
 
-  gate-after : g ≡ Pass → shared z s journal t 0 ≡ unless (leb t 7) 3 0
+  pub gate-after : (n : ℕ) → g ≡ Pass → n ≡ later → n ≡ firstTests z s journal later
   unfolding gateNumber
-  gate-after e = shared-first z s journal t 0 ∙ first-passed z s journal (unless (leb t 7) 3 0) (sym says ∙ ap gateNumber e)
-
-  pub gate-number-out : g ≡ Pass → 7 < t → 3 ≡ shared z s journal t 0
-  unfolding unless
-  gate-number-out e l = sym (gate-after e ∙ rw (lt-leb t 7 l))
-
-  pub gate-number-in : g ≡ Pass → t ≤ 7 → 0 ≡ shared z s journal t 0
-  unfolding unless
-  gate-number-in e l = sym (gate-after e ∙ rw (le-leb t 7 l))
+  gate-after n e h = h ∙ sym (first-passed z s journal later (sym says ∙ ap gateNumber e))
 
 -- A test of a call that passed, and the tests after it.
 unless-zero : (ok : Bool) (n later : ℕ) → 0 < n → unless ok n later ≡ 0 → (ok ≡ true) × (later ≡ 0)
@@ -220,7 +249,7 @@ pub record Admitted (z : Sizes) (s : Store) (journal : List ℕ) (t : ℕ) : Typ
 
 module _ (z : Sizes) (s : Store) (journal : List ℕ) (t : ℕ) where
   pub shared-zero : (later : ℕ) → shared z s journal t later ≡ 0 → Admitted z s journal t × (later ≡ 0)
-  unfolding shared
+  unfolding shared firstTests
   shared-zero later e =
       let a = unless-zero (sizesIn z) 1 _ (omega arith) e in
       let b = unless-zero (storeIn s journal) 2 _ (omega arith) (a .1) in
@@ -230,7 +259,7 @@ module _ (z : Sizes) (s : Store) (journal : List ℕ) (t : ℕ) where
 
   -- The tests after 1 to 3 decide where these pass, and where not they don't matter.
   pub shared-passed : (later : ℕ) → shared z s journal t 0 ≡ 0 → shared z s journal t later ≡ later
-  unfolding shared unless
+  unfolding shared firstTests unless
   shared-passed later e = pick (sizesIn z) (storeIn s journal) (leb t 7) e
     where
       pick : (a b c : Bool) → _≡_ {A = ℕ} (cond a (cond b (cond c 0 3) 2) 1) 0 → cond a (cond b (cond c later 3) 2) 1 ≡ later
@@ -240,7 +269,7 @@ module _ (z : Sizes) (s : Store) (journal : List ℕ) (t : ℕ) where
       pick false b c e = absurd (omega arith)
 
   pub shared-refused : (later n : ℕ) → n ≡ shared z s journal t 0 → 0 < n → shared z s journal t later ≡ n
-  unfolding shared unless
+  unfolding shared firstTests unless
   shared-refused later n e h = pick (sizesIn z) (storeIn s journal) (leb t 7) e
     where
       pick : (a b c : Bool) → n ≡ cond a (cond b (cond c 0 3) 2) 1 → cond a (cond b (cond c later 3) 2) 1 ≡ n
@@ -248,6 +277,23 @@ module _ (z : Sizes) (s : Store) (journal : List ℕ) (t : ℕ) where
       pick true true false e = sym e
       pick true false c e = sym e
       pick false b c e = sym e
+
+-- What passed tests of the setting of a window tell.
+pub record AdmittedWindow (z : Sizes) (s : Store) (journal : List ℕ) (f start end : ℕ) : Type 0 where
+  pub lengths : Lengths z
+  pub ranges : storeIn s journal ≡ true
+  pub small : f < 8
+  pub minutes : minuteIn start && minuteIn end ≡ true
+
+pub admitted-window : (z : Sizes) (s : Store) (journal : List ℕ) (f start end : ℕ) → admissionOfWindow z s journal f start end ≡ 0 → AdmittedWindow z s journal f start end
+unfolding admissionOfWindow firstTests windowRefusal
+admitted-window z s journal f start end e =
+    let a = unless-zero (sizesIn z) 1 _ (omega arith) e in
+    let b = unless-zero (storeIn s journal) 2 _ (omega arith) (a .1) in
+    let c = unless-zero (leb f 7) 6 _ (omega arith) (b .1) in
+    let d = unless-zero (minuteIn start && minuteIn end) 22 0 (omega arith) (c .1) in
+    let l = leb-true f 7 (c .0) in
+    record { lengths = lengths-in z (a .0); ranges = b .0; small = omega arith; minutes = d .0 }
 
 pub record AdmittedFresh (z : Sizes) (xs : List ℕ) : Type 0 where
   pub lengths : Lengths z
@@ -274,6 +320,7 @@ pub record InRange (s : Store) (journal : List ℕ) : Type 0 where
   pub files : (d : ℕ) → d < 16 → getD (s .filenumbers) d 0 ≤ 7
   pub offsets : (d : ℕ) → d < 16 → getD (s .offsets) d 0 ≤ 4096
   pub lengths : (f : ℕ) → f < 8 → getD (s .lengths) f 0 ≤ 4096
+  pub windows : (f : ℕ) → f < 8 → windowIn (windowAt s f) ≡ true
   pub transactions : (t : ℕ) → t < 8 → transaction s t .begun ≡ true → TransactionInRange (transaction s t) journal t
 
 module _ (x : Transaction) (journal : List ℕ) (t : ℕ) where
@@ -309,12 +356,15 @@ in-range s journal e =
     let files = below (λ d. leb (getD (s .filenumbers) d 0) 7) 16 in
     let offsets = below (λ d. leb (getD (s .offsets) d 0) 4096) 16 in
     let lengths = below (λ f. leb (getD (s .lengths) f 0) 4096) 8 in
-    let three = and-three (files && offsets) lengths (below (λ t. transactionIn (transaction s t) journal t) 8) e in
+    let windows = below (λ f. windowIn (windowAt s f)) 8 in
+    let last = and-three (files && offsets && lengths) windows (below (λ t. transactionIn (transaction s t) journal t) 8) e in
+    let first = and-three files offsets lengths (last .0) in
     record {
-      files = λ d l. leb-true _ _ (below-at (λ d. leb (getD (s .filenumbers) d 0) 7) 16 d (and-left files offsets (three .0)) l);
-      offsets = λ d l. leb-true _ _ (below-at (λ d. leb (getD (s .offsets) d 0) 4096) 16 d (and-right files offsets (three .0)) l);
-      lengths = λ f l. leb-true _ _ (below-at (λ f. leb (getD (s .lengths) f 0) 4096) 8 f (three .1) l);
-      transactions = λ t l b. transaction-in (transaction s t) journal t (below-at (λ t. transactionIn (transaction s t) journal t) 8 t (three .2) l) b;
+      files = λ d l. leb-true _ _ (below-at (λ d. leb (getD (s .filenumbers) d 0) 7) 16 d (first .0) l);
+      offsets = λ d l. leb-true _ _ (below-at (λ d. leb (getD (s .offsets) d 0) 4096) 16 d (first .1) l);
+      lengths = λ f l. leb-true _ _ (below-at (λ f. leb (getD (s .lengths) f 0) 4096) 8 f (first .2) l);
+      windows = λ f l. below-at (λ f. windowIn (windowAt s f)) 8 f (last .1) l;
+      transactions = λ t l b. transaction-in (transaction s t) journal t (below-at (λ t. transactionIn (transaction s t) journal t) 8 t (last .2) l) b;
     }
 
 pub in-range-intro : (s : Store) (journal : List ℕ) → InRange s journal → storeIn s journal ≡ true
@@ -323,9 +373,11 @@ in-range-intro s journal r =
     and-both _ _
     (and-both _ _
     (and-both _ _
+    (and-both _ _
     (below-all (λ d. leb (getD (s .filenumbers) d 0) 7) 16 (λ d l. le-leb _ _ (r .files d l)))
     (below-all (λ d. leb (getD (s .offsets) d 0) 4096) 16 (λ d l. le-leb _ _ (r .offsets d l))))
     (below-all (λ f. leb (getD (s .lengths) f 0) 4096) 8 (λ f l. le-leb _ _ (r .lengths f l))))
+    (below-all (λ f. windowIn (windowAt s f)) 8 (r .windows)))
     (below-all (λ t. transactionIn (transaction s t) journal t) 8 (λ t l. transaction-in-intro (transaction s t) journal t (r .transactions t l)))
 
 -- What the ranges say of a write record: its descriptor, and its place under that descriptor's standing.

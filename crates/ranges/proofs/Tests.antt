@@ -1,7 +1,7 @@
 -- What each test of src/lib.rt decides, in the order in which they are made.
 use mathlib.Core.Bool.{Bool, true, false, not, _&&_, _||_}
 use mathlib.Core.List.{List}
-use mathlib.Core.Path.{_≡_, refl, sym, _∙_}
+use mathlib.Core.Path.{_≡_, refl, sym, ap, _∙_}
 use native.Mathlib.Numerals.{add-one}
 use lib.ListN.{getD}
 use lib.Dec.{leb, eqb}
@@ -15,13 +15,14 @@ use Rattle.standings.specs.declared.Place.the-variants.{At, After}
 use Rattle.standings.specs.Table.{advance, mayWait, placeNumber}
 use Rattle.record.specs.declared.Transaction.{Transaction}
 use Rattle.record.specs.declared.journal.WriteRecord.{WriteRecord}
-use Rattle.record.specs.State.{transaction, standingAt}
-use Rattle.record.specs.Layout.{standingOf, transactionOf, storeOf, journalOf}
-use Rattle.record.proofs.LayoutLaws.{file-of, offset-of, length-of, transaction-of}
+use Rattle.record.specs.State.{transaction, standingAt, windowAt}
+use Rattle.windows.specs.Hours.{minuteIn}
+use Rattle.record.specs.Layout.{standingOf, windowOf, transactionOf, storeOf, journalOf}
+use Rattle.record.proofs.LayoutLaws.{file-of, offset-of, length-of, window-of, transaction-of}
 use Rattle.record.specs.Journal.{writeRecordAt}
 use Rattle.ranges.specs.Below.{below}
-use Rattle.ranges.specs.Ranges.{standingIn, endsWithin, placeIn, recordIn, lengthsBefore, journalIn, journalPasses, transactionIn, storeIn}
-use Rattle.ranges.proofs.Laws.{and-left, and-true, below-same, sum-zero, sum-more}
+use Rattle.ranges.specs.Ranges.{standingIn, endsWithin, placeIn, recordIn, lengthsBefore, journalIn, journalPasses, transactionIn, windowIn, storeIn}
+use Rattle.ranges.proofs.Laws.{and-left, and-true, below-same, below-both, below-sum, sum-zero, sum-more}
 
 and-false : (a : Bool) → a && false ≡ false
 and-false true = refl
@@ -163,10 +164,28 @@ module _ (x : Transaction) (journal : List ℕ) (t : ℕ) where
 
 -- ---- the whole record
 
+-- The windows in the record's own numbers: the starts, and behind them the ends.
+windows-decide : (r : List ℕ) → below (λ f. windowIn (windowAt (storeOf r) f)) 8 ≡ below (λ k. leb (getD r (2088 + k) 0) 1439) 16
+windows-decide r =
+    below-same (λ f. windowIn (windowAt (storeOf r) f)) (λ f. starts f && ends f) 8 (λ f h. ap windowIn (window-of r f h) ∙ both f)
+    ∙ sym (below-sum starts 8 8 ∙ ap (λ (b : Bool). below starts 8 && b) (below-same (λ k. starts (8 + k)) ends 8 behind) ∙ below-both starts ends 8)
+  where
+    starts : ℕ → Bool
+    starts k = leb (getD r (2088 + k) 0) 1439
+
+    ends : ℕ → Bool
+    ends k = leb (getD r (2096 + k) 0) 1439
+
+    behind : (k : ℕ) → k < 8 → starts (8 + k) ≡ ends k
+    behind k h = let e : 2088 + (8 + k) ≡ 2096 + k = omega arith in ap (λ (i : ℕ). leb (getD r i 0) 1439) e
+
+    both : (f : ℕ) → windowIn (windowOf r f) ≡ starts f && ends f
+    both f = unfold windowIn windowOf minuteIn in refl
+
 -- Check 2 in the record's own numbers.
 pub store-numbers : (r : List ℕ) → storeIn (storeOf r) (journalOf r)
     ≡ below (λ k. leb (getD r (2048 + k) 0) 7) 16 && below (λ k. leb (getD r (2064 + k) 0) 4096) 16 && below (λ k. leb (getD r (2080 + k) 0) 4096) 8
-    && below (λ t. transactionIn (transactionOf r t) (journalOf r) t) 8
+    && below (λ k. leb (getD r (2088 + k) 0) 1439) 16 && below (λ t. transactionIn (transactionOf r t) (journalOf r) t) 8
 unfolding storeIn
 store-numbers r =
-    rw (below-same (λ d. leb (getD (storeOf r .filenumbers) d 0) 7) (λ k. leb (getD r (2048 + k) 0) 7) 16 (λ d h. rw (file-of r d h)), below-same (λ d. leb (getD (storeOf r .offsets) d 0) 4096) (λ k. leb (getD r (2064 + k) 0) 4096) 16 (λ d h. rw (offset-of r d h)), below-same (λ f. leb (getD (storeOf r .lengths) f 0) 4096) (λ k. leb (getD r (2080 + k) 0) 4096) 8 (λ f h. rw (length-of r f h)), below-same (λ t. transactionIn (transaction (storeOf r) t) (journalOf r) t) (λ t. transactionIn (transactionOf r t) (journalOf r) t) 8 (λ t h. rw (transaction-of r t h)))
+    rw (below-same (λ d. leb (getD (storeOf r .filenumbers) d 0) 7) (λ k. leb (getD r (2048 + k) 0) 7) 16 (λ d h. rw (file-of r d h)), below-same (λ d. leb (getD (storeOf r .offsets) d 0) 4096) (λ k. leb (getD r (2064 + k) 0) 4096) 16 (λ d h. rw (offset-of r d h)), below-same (λ f. leb (getD (storeOf r .lengths) f 0) 4096) (λ k. leb (getD r (2080 + k) 0) 4096) 8 (λ f h. rw (length-of r f h)), windows-decide r, below-same (λ t. transactionIn (transaction (storeOf r) t) (journalOf r) t) (λ t. transactionIn (transactionOf r t) (journalOf r) t) 8 (λ t h. rw (transaction-of r t h)))

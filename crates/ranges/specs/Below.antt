@@ -1,5 +1,5 @@
--- Refuse or go on; a test of every number below a bound, and a sum over them, by index.
-use mathlib.Core.Bool.{Bool, true, false, cond, _&&_}
+-- Refuse or go on; a test of every number below a bound, or of one of them, and a sum over them, by index.
+use mathlib.Core.Bool.{Bool, true, false, cond, _&&_, _||_}
 use Prim.Native.Nat.{ℕ, zero, suc, _+_}
 
 -- Goes on where the test holds, otherwise refuses with the number: of a call on the store, of a transaction's step and of the plain
@@ -16,6 +16,10 @@ isNone (suc n) = false
 unfoldable pub below : (ℕ → Bool) → ℕ → Bool
 below p zero = true
 below p (suc n) = below p n && p n
+
+unfoldable pub someBelow : (ℕ → Bool) → ℕ → Bool
+someBelow p zero = false
+someBelow p (suc n) = someBelow p n || p n
 
 unfoldable pub sum : (ℕ → ℕ) → ℕ → ℕ
 sum f zero = 0

@@ -4,13 +4,14 @@ use mathlib.Core.List.{List, []}
 use mathlib.Core.Path.{_≡_}
 use lib.ListN.{set, replicate}
 use Prim.Native.Nat.{ℕ, zero, suc}
+use Rattle.windows.specs.Hours.{window, freshWindow}
 use Rattle.standings.specs.declared.Standing.{Standing}
 use Rattle.standings.specs.declared.Standing.the-variants.{Untouched, Placed, Deferred, Moved, Known}
 use Rattle.standings.specs.declared.Place.the-variants.{At, After}
 use Rattle.record.specs.declared.Transaction.{Transaction}
 use Rattle.record.specs.declared.Store.{Store}
 use Rattle.record.specs.declared.journal.WriteRecord.{WriteRecord}
-use Rattle.record.specs.State.{noDescriptor, ended, begun, withUsed, withDescriptors, withBegun, withLengths}
+use Rattle.record.specs.State.{noDescriptor, ended, begun, withUsed, withDescriptors, withBegun, withLengths, withWindows}
 use Rattle.record.specs.Journal.{withRecords}
 use Rattle.ranges.specs.Ranges.{storeIn}
 
@@ -21,12 +22,17 @@ forged file offset x =
       filenumbers = set (replicate 16 0) 15 file;
       offsets = set (replicate 16 0) 15 offset;
       lengths = replicate 8 0;
+      windows = replicate 8 freshWindow;
       transactions = set (replicate 8 ended) 7 x;
     }
 
 -- One whose file 7 has this committed length.
 unfoldable pub lengthened : ℕ → Store
 lengthened n = withLengths (set (replicate 8 0) 7 n) (forged 0 0 ended)
+
+-- One whose file 7 has this window.
+unfoldable pub windowed : ℕ → ℕ → Store
+windowed start end = withWindows (set (replicate 8 freshWindow) 7 (window start end)) (forged 0 0 ended)
 
 -- An open transaction whose descriptor 15 stands so, with n records and their bytes.
 unfoldable pub opened : Standing → ℕ → ℕ → Transaction
@@ -56,6 +62,9 @@ pub record Forged : Type 0 where
   pub offset : (storeIn (forged 0 4096 ended) [] ≡ true) × (storeIn (forged 0 4097 ended) [] ≡ false)
   -- 02, F-8: "Check 2 covers lengths, at most 4,096."
   pub length : (storeIn (lengthened 4096) [] ≡ true) × (storeIn (lengthened 4097) [] ≡ false)
+  -- 02, F-11: "start and end minute, 0 to 1,439"; "Check 2 covers the windows."
+  pub window :
+      (storeIn (windowed 1439 1439) [] ≡ true) × (storeIn (windowed 1440 0) [] ≡ false) × (storeIn (windowed 0 1440) [] ≡ false)
   -- "offsets and advances of standings at most 4,096"
   pub standings :
       (storeIn (forged 0 0 (opened (Moved 4096 4096) 0 0)) [] ≡ true) × (storeIn (forged 0 0 (opened (Moved 0 4097) 0 0)) [] ≡ false)

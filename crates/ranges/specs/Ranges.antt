@@ -4,6 +4,8 @@ use mathlib.Core.List.{List}
 use lib.Dec.{leb, eqb}
 use lib.ListN.{getD, length}
 use Prim.Native.Nat.{ℕ, _+_}
+use Rattle.windows.specs.declared.Window.{Window}
+use Rattle.windows.specs.Hours.{minuteIn}
 use Rattle.standings.specs.declared.Standing.{Standing}
 use Rattle.standings.specs.declared.Standing.the-variants.{Untouched, Placed, Deferred, Moved, Known}
 use Rattle.standings.specs.declared.Place.{Place}
@@ -11,7 +13,7 @@ use Rattle.standings.specs.declared.Place.the-variants.{At, After}
 use Rattle.record.specs.declared.Transaction.{Transaction}
 use Rattle.record.specs.declared.Store.{Store}
 use Rattle.record.specs.declared.journal.WriteRecord.{WriteRecord}
-use Rattle.record.specs.State.{transaction, standingAt}
+use Rattle.record.specs.State.{transaction, standingAt, windowAt}
 use Rattle.record.specs.Journal.{writeRecordAt}
 use Rattle.record.specs.Paper.{number}
 use Rattle.ranges.specs.declared.Gate.{Gate}
@@ -64,12 +66,18 @@ journalPasses x journal t records bytes =
 unfoldable pub transactionIn : Transaction → List ℕ → ℕ → Bool
 transactionIn x journal t = not (x .begun) || (below (λ d. standingIn (standingAt x d)) 16 && journalIn x journal t)
 
--- "files at most 7; committed offsets at most 4,096; and in each open transaction .."; 02, F-8: "Check 2 covers lengths, at most 4,096."
+-- 02, F-11: "a window of start and end minute, 0 to 1,439"
+unfoldable pub windowIn : Window → Bool
+windowIn w = minuteIn (w .start) && minuteIn (w .end)
+
+-- "files at most 7; committed offsets at most 4,096; and in each open transaction .."; 02, F-8: "Check 2 covers lengths, at most 4,096.";
+-- F-11: "Check 2 covers the windows."
 unfoldable pub storeIn : Store → List ℕ → Bool
 storeIn s journal =
     below (λ d. leb (getD (s .filenumbers) d 0) 7) 16
     && below (λ d. leb (getD (s .offsets) d 0) 4096) 16
     && below (λ f. leb (getD (s .lengths) f 0) 4096) 8
+    && below (λ f. windowIn (windowAt s f)) 8
     && below (λ t. transactionIn (transaction s t) journal t) 8
 
 -- The number of a refusal when a test fails, otherwise what the later tests say; 0 stands for none.
@@ -95,7 +103,7 @@ firstTests z s journal later = unless (sizesIn z) 1 (unless (storeIn s journal) 
 
 -- Refusals 1 to 3, in the table's order; then what comes after them.
 unfoldable pub shared : Sizes → Store → List ℕ → ℕ → ℕ → ℕ
-shared z s journal t later = unless (sizesIn z) 1 (unless (storeIn s journal) 2 (unless (leb t 7) 3 later))
+shared z s journal t later = firstTests z s journal (unless (leb t 7) 3 later)
 
 -- Refusals 1 to 4: "not open (all calls but Fresh, Begin)".
 unfoldable pub admission : Sizes → Store → List ℕ → ℕ → ℕ
@@ -104,6 +112,15 @@ admission z s journal t = shared z s journal t (unless (transaction s t .begun) 
 -- Refusals 1 to 3 and 5: "Begin of one already open".
 unfoldable pub admissionOfBegin : Sizes → Store → List ℕ → ℕ → ℕ
 admissionOfBegin z s journal t = shared z s journal t (unless (not (transaction s t .begun)) 5 0)
+
+-- 02, F-11, the setting of a window: 6 for a file number above 7; "22 when a minute is above 1,439, .. after the file number (6) when
+-- setting".
+unfoldable pub windowRefusal : ℕ → ℕ → ℕ → ℕ
+windowRefusal f start end = unless (leb f 7) 6 (unless (minuteIn start && minuteIn end) 22 0)
+
+-- Refusals 1 and 2, and then these: the call has no transaction number.
+unfoldable pub admissionOfWindow : Sizes → Store → List ℕ → ℕ → ℕ → ℕ → ℕ
+admissionOfWindow z s journal f start end = firstTests z s journal (windowRefusal f start end)
 
 -- "a store buffer, or Fresh's list, has another length" (1); "Fresh with a file number above 7" (14). The file numbers are a list.
 unfoldable pub admissionOfFresh : Sizes → List ℕ → ℕ

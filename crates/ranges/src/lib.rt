@@ -1,4 +1,4 @@
-// The tests that calls share: the ranges of the record (refusal 2), and refusals 1 to 3 and 14 in the table's order.
+// The tests that calls share: the ranges of the record (refusal 2), and refusals 1 to 3, 6, 14 and 22 in their order.
 
 use numbers::BUFFER_BYTES;
 use numbers::FILE_BYTES;
@@ -13,6 +13,7 @@ use record::layout::FILE_NUMBERS_AT;
 use record::layout::LENGTHS_AT;
 use record::layout::OFFSETS_AT;
 use record::layout::Record;
+use record::layout::STARTS_AT;
 use record::layout::first_at;
 use record::layout::is_begun;
 use record::layout::kind_at;
@@ -23,16 +24,18 @@ use record::layout::used_at;
 use record::outcomes::Refusal;
 use standings::Place;
 use standings::Standing;
+use windows::LAST_MINUTE;
+use windows::minute_in;
 ghost use mathlib.Core.Path.{_≡_};
 ghost use mathlib.Core.Bool.{true};
 ghost use lib.Dec.{leb};
 ghost use lib.ListN.{getD, length};
 ghost use Prim.Native.Nat.{_+_, _<_, _≤_};
 ghost use Rattle.record.specs.State.{standingAt};
-ghost use Rattle.record.specs.Layout.{standingOf, transactionOf, storeOf, journalOf};
+ghost use Rattle.record.specs.Layout.{standingOf, transactionOf, storeOf, journalOf, recordLength};
 ghost use Rattle.ranges.specs.Below.{below};
 ghost use Rattle.ranges.specs.Ranges.{standingIn, placeIn, journalPasses, transactionIn, storeIn, sized, sizesIn};
-ghost use Rattle.ranges.specs.Ranges.{firstTests, shared, admissionOfFresh, gateNumber};
+ghost use Rattle.ranges.specs.Ranges.{firstTests, shared, admissionOfWindow, admissionOfFresh, gateNumber};
 
 // What the tests before a call's own say: go on, or a refusal.
 pub enum Gate {
@@ -57,7 +60,7 @@ fn files_in(files: &[u8]) -> bool
 
 // The record's n numbers from `from` on are at most `most`. No branch: it goes over all of them.
 fn at_most(kept: &Record, from: usize, n: usize, most: u16) -> bool
-    requires { ⌜ from + n ≤ 2088 ⌝ }
+    requires { ⌜ from + n ≤ recordLength ⌝ }
     ensures { λ r. ⌜ r ≡ below (λ k. leb (getD (now (kept .entry)) (from + k) 0) most) n ⌝ }
 {
     let mut good = true;
@@ -187,6 +190,9 @@ fn store_in(kept: &Record) -> bool
     if !at_most(kept, LENGTHS_AT, FILES, FILE_END) {
         return false;
     }
+    if !at_most(kept, STARTS_AT, FILES + FILES, LAST_MINUTE) {
+        return false;
+    }
     transactions_in(kept)
 }
 
@@ -207,7 +213,7 @@ fn sizes_in(files: usize, logs: usize, marks: usize) -> bool
 pub fn first_tests(kept: &Record, files: usize, logs: usize, marks: usize) -> Gate
     ensures gate { λ r. ⌜ gateNumber r ≡
         firstTests (sized files logs marks) (storeOf (now (kept .entry))) (journalOf (now (kept .entry))) 0 ⌝ }
-    ensures long { λ _. ⌜ length (now (kept .entry)) ≡ 2088 ⌝ }
+    ensures long { λ _. ⌜ length (now (kept .entry)) ≡ recordLength ⌝ }
 {
     length_of(kept);
     if !sizes_in(files, logs, marks) {
@@ -223,7 +229,7 @@ pub fn first_tests(kept: &Record, files: usize, logs: usize, marks: usize) -> Ga
 pub fn admit(kept: &Record, files: usize, logs: usize, marks: usize, t: usize) -> Gate
     ensures gate { λ r. ⌜ gateNumber r ≡
         shared (sized files logs marks) (storeOf (now (kept .entry))) (journalOf (now (kept .entry))) t 0 ⌝ }
-    ensures long { λ _. ⌜ length (now (kept .entry)) ≡ 2088 ⌝ }
+    ensures long { λ _. ⌜ length (now (kept .entry)) ≡ recordLength ⌝ }
 {
     let g = first_tests(kept, files, logs, marks);
     if let Gate::Refused(r) = g {
@@ -231,6 +237,37 @@ pub fn admit(kept: &Record, files: usize, logs: usize, marks: usize, t: usize) -
     }
     if t > 7 {
         return Gate::Refused(Refusal::NoSuchTransaction);
+    }
+    Gate::Pass
+}
+
+// Refusals 1, 2, 6 and 22, for the setting of file f's window.
+pub fn admit_window(
+    kept: &Record,
+    files: usize,
+    logs: usize,
+    marks: usize,
+    f: usize,
+    start: usize,
+    end: usize,
+) -> Gate
+    ensures gate { λ r. ⌜ gateNumber r
+        ≡ admissionOfWindow (sized files logs marks) (storeOf (now (kept .entry))) (journalOf (now (kept .entry)))
+        f start end ⌝ }
+    ensures long { λ _. ⌜ length (now (kept .entry)) ≡ recordLength ⌝ }
+{
+    let g = first_tests(kept, files, logs, marks);
+    if let Gate::Refused(r) = g {
+        return Gate::Refused(r);
+    }
+    if f > 7 {
+        return Gate::Refused(Refusal::NoSuchTarget);
+    }
+    if !minute_in(start) {
+        return Gate::Refused(Refusal::NoSuchMinute);
+    }
+    if !minute_in(end) {
+        return Gate::Refused(Refusal::NoSuchMinute);
     }
     Gate::Pass
 }

@@ -18,15 +18,17 @@ use Rattle.octets.proofs.PartLaws.{le-or-lt}
 use Rattle.octets.proofs.SetLaws.{contains-put, contains-bits, bits-none}
 use Rattle.octets.proofs.TableLaws.{length-tabulate, getD-tabulate, table-same, table-set}
 use Rattle.counters.specs.declared.Used.{Used}
+use Rattle.windows.specs.declared.Window.{Window}
+use Rattle.windows.specs.Hours.{freshWindow}
 use Rattle.standings.specs.declared.Standing.{Standing}
 use Rattle.standings.specs.declared.Standing.the-variants.{Untouched, Placed, Deferred, Moved, Known}
 use Rattle.record.specs.declared.Descriptor.{Descriptor}
 use Rattle.record.specs.declared.Transaction.{Transaction}
 use Rattle.record.specs.declared.Store.{Store}
 use Rattle.record.specs.declared.journal.WriteRecord.{WriteRecord}
-use Rattle.record.specs.State.{ended, noTransaction, noDescriptor, transaction, standingAt, withTransaction, withBegun, withStale, withLengthmarks, withDescriptors, withUsed, withOffsets, withLengths}
+use Rattle.record.specs.State.{ended, noTransaction, noDescriptor, transaction, standingAt, withTransaction, withBegun, withStale, withLengthmarks, withDescriptors, withUsed, withOffsets, withLengths, withWindows, windowAt}
 use Rattle.record.specs.Journal.{holder, writeRecordAt, withRecordAt}
-use Rattle.record.specs.Layout.{standingOf, isSet, base, descriptorOf, usedOf, transactionOf, storeOf, journalOf, kind, first, second, flag, withDescriptorAt, withChosenAt, withUsedAt, withStaleAt, withLengthmarksAt, zeroedFrom, resetAt, withFileNumberAt, withFileNumbersAt, withOffsetAt, withLengthAt}
+use Rattle.record.specs.Layout.{standingOf, isSet, base, descriptorOf, usedOf, transactionOf, storeOf, journalOf, kind, first, second, flag, withDescriptorAt, withChosenAt, withUsedAt, withStaleAt, withLengthmarksAt, zeroedFrom, resetAt, withFileNumberAt, withFileNumbersAt, withOffsetAt, withLengthAt, windowOf, withWindowAt, recordLength}
 use Rattle.standings.specs.Table.{placeNumber}
 use Rattle.record.proofs.Filled.{filled, filled-none, filled-set, filled-kept, filled-all}
 
@@ -69,6 +71,10 @@ module _ (r : List ℕ) where
   unfolding storeOf
   length-of f h = getD-tabulate (λ k. getD r (2080 + k) 0) 8 f 0 h
 
+  pub window-of : (f : ℕ) → f < 8 → windowAt (storeOf r) f ≡ windowOf r f
+  unfolding storeOf
+  window-of f h = getD-tabulate (windowOf r) 8 f freshWindow h
+
 -- ---- two records that agree on some numbers
 
 module _ (r s : List ℕ) where
@@ -82,6 +88,10 @@ module _ (r s : List ℕ) where
 
   column-same : (at n : ℕ) → Agree at n → tabulate (λ k. getD s (at + k) 0) n ≡ tabulate (λ k. getD r (at + k) 0) n
   column-same at n e = table-same _ _ n (λ k h. e (at + k) (omega arith) (omega arith))
+
+  windows-same : Agree 2088 16 → tabulate (windowOf s) 8 ≡ tabulate (windowOf r) 8
+  unfolding windowOf
+  windows-same e = table-same _ _ 8 (λ f h. rw (e (2088 + f) (omega arith) (omega arith), e (2096 + f) (omega arith) (omega arith)))
 
   descriptors-same : (t : ℕ) → Agree (base t) 48 → getD s (base t + 51) 0 ≡ getD r (base t + 51) 0
       → tabulate (descriptorOf s t) 16 ≡ tabulate (descriptorOf r t) 16
@@ -111,7 +121,7 @@ module _ (r s : List ℕ) where
     store-block : (y : Transaction) → transactionOf s t ≡ y → storeOf s ≡ withTransaction t y (storeOf r)
     unfolding storeOf withTransaction
     store-block y own =
-        rw (column-same 2048 16 (λ j a b. outside j (inr (omega arith))), column-same 2064 16 (λ j a b. outside j (inr (omega arith))), column-same 2080 8 (λ j a b. outside j (inr (omega arith))), table-set (transactionOf r) (transactionOf s) 8 t y small own (λ u l. other-transaction u))
+        rw (column-same 2048 16 (λ j a b. outside j (inr (omega arith))), column-same 2064 16 (λ j a b. outside j (inr (omega arith))), column-same 2080 8 (λ j a b. outside j (inr (omega arith))), windows-same (λ j a b. outside j (inr (omega arith))), table-set (transactionOf r) (transactionOf s) 8 t y small own (λ u l. other-transaction u))
 
     -- The transaction became f of what it was.
     store-by : (f : Transaction → Transaction) → transactionOf s t ≡ f (transactionOf r t) → storeOf s ≡ withTransaction t (f (transaction (storeOf r) t)) (storeOf r)
@@ -123,6 +133,9 @@ module _ (r s : List ℕ) where
 -- A number outside a column of m numbers from `at` on was put.
 column-left : (r : List ℕ) (i n at m : ℕ) → (i < at) ⊎ (at + m ≤ i) → tabulate (λ k. getD (set r i n) (at + k) 0) m ≡ tabulate (λ k. getD r (at + k) 0) m
 column-left r i n at m w = column-same r (set r i n) at m (λ j a b. getD-set-other r i j n 0 (λ p. ⊎-elim (λ h. omega arith) (λ h. omega arith) w))
+
+windows-left : (r : List ℕ) (i n : ℕ) → i < 2088 → tabulate (windowOf (set r i n)) 8 ≡ tabulate (windowOf r) 8
+windows-left r i n h = windows-same r (set r i n) (λ j a b. getD-set-other r i j n 0 (λ p. omega arith))
 
 -- ---- a descriptor
 
@@ -153,7 +166,7 @@ module _ (r : List ℕ) (t d : ℕ) (q : Descriptor) where
       ∙ getD-set-other a (base t + d + 16) j (first z) 0 n1
       ∙ getD-set-other r (base t + d) j (kind z) 0 n0
 
-  module _ (long : length r ≡ 2088) (small : t < 8) (few : d < 16) where
+  module _ (long : length r ≡ recordLength) (small : t < 8) (few : d < 16) where
     own-kind : getD (withDescriptorAt r t d q) (base t + d) 0 ≡ kind (q .standing)
     unfolding withDescriptorAt
     own-kind =
@@ -173,7 +186,7 @@ module _ (r : List ℕ) (t d : ℕ) (q : Descriptor) where
         let a = set r (base t + d) (kind z) in
         let b = set a (base t + d + 16) (first z) in
         let c = set b (base t + d + 32) (second z) in
-        let la : length a ≡ 2088 = length-set r (base t + d) (kind z) ∙ long in
+        let la : length a ≡ recordLength = length-set r (base t + d) (kind z) ∙ long in
         getD-set-other c (base t + 51) (base t + d + 16) (withBitAs d (q .dirty) (getD r (base t + 51) 0)) 0 (λ p. omega arith)
         ∙ getD-set-other b (base t + d + 32) (base t + d + 16) (second z) 0 (λ p. omega arith)
         ∙ getD-set-same a (base t + d + 16) (first z) 0 (omega arith)
@@ -185,7 +198,7 @@ module _ (r : List ℕ) (t d : ℕ) (q : Descriptor) where
         let a = set r (base t + d) (kind z) in
         let b = set a (base t + d + 16) (first z) in
         let c = set b (base t + d + 32) (second z) in
-        let lb : length b ≡ 2088 = length-set a (base t + d + 16) (first z) ∙ length-set r (base t + d) (kind z) ∙ long in
+        let lb : length b ≡ recordLength = length-set a (base t + d + 16) (first z) ∙ length-set r (base t + d) (kind z) ∙ long in
         getD-set-other c (base t + 51) (base t + d + 32) (withBitAs d (q .dirty) (getD r (base t + 51) 0)) 0 (λ p. omega arith)
         ∙ getD-set-same b (base t + d + 32) (second z) 0 (omega arith)
 
@@ -196,7 +209,7 @@ module _ (r : List ℕ) (t d : ℕ) (q : Descriptor) where
         let a = set r (base t + d) (kind z) in
         let b = set a (base t + d + 16) (first z) in
         let c = set b (base t + d + 32) (second z) in
-        let lc : length c ≡ 2088 = length-set b (base t + d + 32) (second z) ∙ length-set a (base t + d + 16) (first z) ∙ length-set r (base t + d) (kind z) ∙ long in
+        let lc : length c ≡ recordLength = length-set b (base t + d + 32) (second z) ∙ length-set a (base t + d + 16) (first z) ∙ length-set r (base t + d) (kind z) ∙ long in
         getD-set-same c (base t + 51) (withBitAs d (q .dirty) (getD r (base t + 51) 0)) 0 (omega arith)
 
     -- The descriptor that was put, and another of the same transaction.
@@ -250,7 +263,7 @@ module _ (r : List ℕ) (t : ℕ) (chosen : ℕ → Bool) (f : ℕ → Descripto
       let e = length-with-chosen n in
       either (λ l. length l ≡ length r) (chosen n) (withDescriptorAt s t n (f n)) s (length-with-descriptor s t n (f n) ∙ e) (λ _. e)
 
-  module _ (long : length r ≡ 2088) (small : t < 8) where
+  module _ (long : length r ≡ recordLength) (small : t < 8) where
     outside-chosen : (n : ℕ) → n ≤ 16 → AgreeBut r (withChosenAt r t chosen f n) t
     unfolding withChosenAt
     outside-chosen zero h j w = refl
@@ -296,7 +309,7 @@ module _ (r : List ℕ) (t : ℕ) (chosen : ℕ → Bool) (f : ℕ → Descripto
 -- ---- the two counters, the flags, the lengths sighted
 
 -- Number k of transaction t was put, which is no descriptor's.
-module _ (r : List ℕ) (t : ℕ) (long : length r ≡ 2088) (small : t < 8) (k n : ℕ) (past : 48 ≤ k) (few : k < 64) (clean : k ≡ 51 → ⊥) where
+module _ (r : List ℕ) (t : ℕ) (long : length r ≡ recordLength) (small : t < 8) (k n : ℕ) (past : 48 ≤ k) (few : k < 64) (clean : k ≡ 51 → ⊥) where
   outside-number : AgreeBut r (set r (base t + k) n) t
   outside-number j w = getD-set-other r (base t + k) j n 0 (⊎-elim (λ h p. omega arith) (λ h p. omega arith) w)
 
@@ -315,13 +328,13 @@ module _ (r : List ℕ) (t : ℕ) (long : length r ≡ 2088) (small : t < 8) (k 
       number-at : (j : ℕ) → getD (set r (base t + k) n) (base t + j) 0 ≡ after j
       number-at j = number-by j (eqb j k) refl
 
-module _ (r : List ℕ) (t : ℕ) (long : length r ≡ 2088) (small : t < 8) where
+module _ (r : List ℕ) (t : ℕ) (long : length r ≡ recordLength) (small : t < 8) where
   module _ (u : Used) where
     pub length-with-used : length (withUsedAt r t u) ≡ length r
     unfolding withUsedAt
     length-with-used = simp length-set
 
-    recorded : length (set r (base t + 52) (u .records)) ≡ 2088
+    recorded : length (set r (base t + 52) (u .records)) ≡ recordLength
     recorded = length-set r (base t + 52) (u .records) ∙ long
 
     outside-used : AgreeBut r (withUsedAt r t u) t
@@ -393,12 +406,16 @@ module _ (r : List ℕ) where
   transaction-of-zeros t none =
       rw (none 48 (omega arith), none 49 (omega arith), none 50 (omega arith), none 52 (omega arith), none 53 (omega arith), table-same (descriptorOf r t) (λ _. noDescriptor) 16 (λ d h. rw (none d (omega arith), none 51 (omega arith), none-dirty d h)), sixteen-of noDescriptor)
 
+  windows-of-zeros : ((j : ℕ) → getD r j 0 ≡ 0) → tabulate (windowOf r) 8 ≡ replicate 8 freshWindow
+  unfolding windowOf
+  windows-of-zeros none = table-same _ (λ _. freshWindow) 8 (λ f h. rw (none (2088 + f), none (2096 + f))) ∙ eight-of freshWindow
+
   pub store-of-zeros : ((j : ℕ) → getD r j 0 ≡ 0)
-      → storeOf r ≡ record { filenumbers = replicate 16 0; offsets = replicate 16 0; lengths = replicate 8 0; transactions = replicate 8 ended }
+      → storeOf r ≡ record { filenumbers = replicate 16 0; offsets = replicate 16 0; lengths = replicate 8 0; windows = replicate 8 freshWindow; transactions = replicate 8 ended }
   unfolding storeOf
   store-of-zeros none =
       let zeros : (at m : ℕ) → tabulate (λ k. getD r (at + k) 0) m ≡ tabulate (λ _. 0) m = λ at m. table-same _ _ m (λ k h. none (at + k)) in
-      rw (zeros 2048 16, zeros 2064 16, zeros 2080 8, table-same (transactionOf r) (λ _. ended) 8 (λ t h. transaction-of-zeros t (λ k l. none (base t + k))), sixteen-of {A = ℕ} 0, eight-of {A = ℕ} 0, eight-of ended)
+      rw (zeros 2048 16, zeros 2064 16, zeros 2080 8, windows-of-zeros none, table-same (transactionOf r) (λ _. ended) 8 (λ t h. transaction-of-zeros t (λ k l. none (base t + k))), sixteen-of {A = ℕ} 0, eight-of {A = ℕ} 0, eight-of ended)
 
 module _ (r : List ℕ) (i : ℕ) where
   length-zeroed : (n : ℕ) → length (zeroedFrom r i n) ≡ length r
@@ -427,11 +444,11 @@ flag-back : (b : Bool) → isSet (flag b) ≡ b
 flag-back true = refl
 flag-back false = refl
 
-module _ (r : List ℕ) (t : ℕ) (long : length r ≡ 2088) (small : t < 8) (b : Bool) where
+module _ (r : List ℕ) (t : ℕ) (long : length r ≡ recordLength) (small : t < 8) (b : Bool) where
   abbrev zeroed : List ℕ
   zeroed = zeroedFrom r (base t) 54
 
-  long-zeroed : length zeroed ≡ 2088
+  long-zeroed : length zeroed ≡ recordLength
   long-zeroed = length-zeroed r (base t) 54 ∙ long
 
   pub length-reset : length (resetAt r t b) ≡ length r
@@ -461,9 +478,9 @@ module _ (r : List ℕ) (t : ℕ) (long : length r ≡ 2088) (small : t < 8) (b 
 
 -- The store with other file numbers.
 abbrev pub filed : List ℕ → Store → Store
-filed l s = record { filenumbers = l; offsets = s .offsets; lengths = s .lengths; transactions = s .transactions }
+filed l s = record { filenumbers = l; offsets = s .offsets; lengths = s .lengths; windows = s .windows; transactions = s .transactions }
 
-module _ (r : List ℕ) (long : length r ≡ 2088) where
+module _ (r : List ℕ) (long : length r ≡ recordLength) where
   -- A number past the transactions leaves them and the journal.
   module _ (i n : ℕ) (past : 2048 ≤ i) where
     transactions-past : tabulate (transactionOf (set r i n)) 8 ≡ tabulate (transactionOf r) 8
@@ -473,7 +490,7 @@ module _ (r : List ℕ) (long : length r ≡ 2088) where
     journal-past = journal-same r (set r i n) (λ j a b. getD-set-other r i j n 0 (λ p. omega arith))
 
   -- A column of m numbers from `at` on, of which number k was put.
-  column-set : (at m k n : ℕ) → k < m → at + m ≤ 2088 → tabulate (λ d. getD (set r (at + k) n) (at + d) 0) m ≡ set (tabulate (λ d. getD r (at + d) 0) m) k n
+  column-set : (at m k n : ℕ) → k < m → at + m ≤ recordLength → tabulate (λ d. getD (set r (at + k) n) (at + d) 0) m ≡ set (tabulate (λ d. getD r (at + d) 0) m) k n
   column-set at m k n h l =
       table-set (λ d. getD r (at + d) 0) (λ d. getD (set r (at + k) n) (at + d) 0) m k n h (getD-set-same r (at + k) n 0 (omega arith)) (λ d f ne. getD-set-other r (at + k) (at + d) n 0 (λ p. ne (omega arith)))
 
@@ -482,19 +499,19 @@ module _ (r : List ℕ) (long : length r ≡ 2088) where
     unfolding storeOf
     store-with-offset h =
         let i = 2064 + k in
-        rw (transactions-past i n (omega arith), column-left r i n 2048 16 (inr (omega arith)), column-left r i n 2080 8 (inl (omega arith)), column-set 2064 16 k n h (omega arith))
+        rw (transactions-past i n (omega arith), column-left r i n 2048 16 (inr (omega arith)), column-left r i n 2080 8 (inl (omega arith)), windows-left r i n (omega arith), column-set 2064 16 k n h (omega arith))
 
     pub store-with-length : k < 8 → storeOf (withLengthAt r k n) ≡ withLengths (set (storeOf r .lengths) k n) (storeOf r)
     unfolding storeOf
     store-with-length h =
         let i = 2080 + k in
-        rw (transactions-past i n (omega arith), column-left r i n 2048 16 (inr (omega arith)), column-left r i n 2064 16 (inr (omega arith)), column-set 2080 8 k n h (omega arith))
+        rw (transactions-past i n (omega arith), column-left r i n 2048 16 (inr (omega arith)), column-left r i n 2064 16 (inr (omega arith)), windows-left r i n (omega arith), column-set 2080 8 k n h (omega arith))
 
     store-with-file : k < 16 → let s = storeOf r in storeOf (withFileNumberAt r k n) ≡ filed (set (s .filenumbers) k n) s
     unfolding storeOf
     store-with-file h =
         let i = 2048 + k in
-        rw (transactions-past i n (omega arith), column-left r i n 2064 16 (inl (omega arith)), column-left r i n 2080 8 (inl (omega arith)), column-set 2048 16 k n h (omega arith))
+        rw (transactions-past i n (omega arith), column-left r i n 2064 16 (inl (omega arith)), column-left r i n 2080 8 (inl (omega arith)), windows-left r i n (omega arith), column-set 2048 16 k n h (omega arith))
 
     journal-with-file : journalOf (withFileNumberAt r k n) ≡ journalOf r
     journal-with-file = journal-past (2048 + k) n (omega arith)
@@ -505,7 +522,37 @@ module _ (r : List ℕ) (long : length r ≡ 2088) where
     pub journal-with-length : journalOf (withLengthAt r k n) ≡ journalOf r
     journal-with-length = journal-past (2080 + k) n (omega arith)
 
-module _ (r : List ℕ) (long : length r ≡ 2088) (f : ℕ → ℕ) where
+  -- The window of file f.
+  module _ (f : ℕ) (w : Window) where
+    -- A number that is neither of the two.
+    window-kept : (j : ℕ) → (j ≡ 2088 + f → ⊥) → (j ≡ 2096 + f → ⊥) → getD (withWindowAt r f w) j 0 ≡ getD r j 0
+    window-kept j n0 n1 = getD-set-other (set r (2088 + f) (w .start)) (2096 + f) j (w .end) 0 n1 ∙ getD-set-other r (2088 + f) j (w .start) 0 n0
+
+    before-windows : (at n : ℕ) → at + n ≤ 2088 → Agree r (withWindowAt r f w) at n
+    before-windows at n l j a b = window-kept j (λ p. omega arith) (λ p. omega arith)
+
+    own-window : f < 8 → windowOf (withWindowAt r f w) f ≡ w
+    unfolding windowOf
+    own-window h =
+        let a = set r (2088 + f) (w .start) in
+        let la : length a ≡ recordLength = length-set r (2088 + f) (w .start) ∙ long in
+        rw (getD-set-other a (2096 + f) (2088 + f) (w .end) 0 (λ p. omega arith), getD-set-same r (2088 + f) (w .start) 0 (omega arith), getD-set-same a (2096 + f) (w .end) 0 (omega arith))
+
+    other-window : f < 8 → (g : ℕ) → g < 8 → (g ≡ f → ⊥) → windowOf (withWindowAt r f w) g ≡ windowOf r g
+    unfolding windowOf
+    other-window h g l ne =
+        rw (window-kept (2088 + g) (λ p. ne (omega arith)) (λ p. omega arith), window-kept (2096 + g) (λ p. omega arith) (λ p. ne (omega arith)))
+
+    pub store-with-window : f < 8 → storeOf (withWindowAt r f w) ≡ withWindows (set (storeOf r .windows) f w) (storeOf r)
+    unfolding storeOf
+    store-with-window h =
+        let s = withWindowAt r f w in
+        rw (transactions-same r s (before-windows 1536 512 (omega arith)), column-same r s 2048 16 (before-windows 2048 16 (omega arith)), column-same r s 2064 16 (before-windows 2064 16 (omega arith)), column-same r s 2080 8 (before-windows 2080 8 (omega arith)), table-set (windowOf r) (windowOf s) 8 f w h (own-window h) (other-window h))
+
+    pub journal-with-window : journalOf (withWindowAt r f w) ≡ journalOf r
+    journal-with-window = journal-same r (withWindowAt r f w) (before-windows 0 1536 (omega arith))
+
+module _ (r : List ℕ) (long : length r ≡ recordLength) (f : ℕ → ℕ) where
   length-with-files : (n : ℕ) → length (withFileNumbersAt r f n) ≡ length r
   unfolding withFileNumbersAt
   length-with-files zero = refl
@@ -536,8 +583,8 @@ module _ (r : List ℕ) (long : length r ≡ 2088) (f : ℕ → ℕ) where
 
 -- ---- the journal
 
-module _ (r : List ℕ) (long : length r ≡ 2088) where
-  journal-set : (s : List ℕ) → length s ≡ 2088 → (i n : ℕ) → i < 1536 → journalOf (set s i n) ≡ set (journalOf s) i n
+module _ (r : List ℕ) (long : length r ≡ recordLength) where
+  journal-set : (s : List ℕ) → length s ≡ recordLength → (i n : ℕ) → i < 1536 → journalOf (set s i n) ≡ set (journalOf s) i n
   unfolding journalOf
   journal-set s l i n h =
       table-set (λ j. getD s j 0) (λ j. getD (set s i n) j 0) 1536 i n h (getD-set-same s i n 0 (omega arith)) (λ j m ne. getD-set-other s i j n 0 ne)
@@ -545,7 +592,7 @@ module _ (r : List ℕ) (long : length r ≡ 2088) where
   store-set : (s : List ℕ) (i n : ℕ) → i < 1536 → storeOf (set s i n) ≡ storeOf s
   unfolding storeOf
   store-set s i n h =
-      rw (column-left s i n 2048 16 (inl (omega arith)), column-left s i n 2064 16 (inl (omega arith)), column-left s i n 2080 8 (inl (omega arith)), transactions-same s (set s i n) (λ j a b. getD-set-other s i j n 0 (λ p. omega arith)))
+      rw (column-left s i n 2048 16 (inl (omega arith)), column-left s i n 2064 16 (inl (omega arith)), column-left s i n 2080 8 (inl (omega arith)), windows-left s i n (omega arith), transactions-same s (set s i n) (λ j a b. getD-set-other s i j n 0 (λ p. omega arith)))
 
   module _ (t k : ℕ) (w : WriteRecord) (small : t < 8) (few : k < 64) where
     pub journal-with-record : journalOf (withRecordAt r t k w) ≡ withRecordAt (journalOf r) t k w
@@ -554,8 +601,8 @@ module _ (r : List ℕ) (long : length r ≡ 2088) where
         let i = 3 * (64 * t + k) in
         let a = set r i (holder (w .descriptor) (w .place)) in
         let b = set a (i + 1) (placeNumber (w .place)) in
-        let la : length a ≡ 2088 = length-set r i (holder (w .descriptor) (w .place)) ∙ long in
-        let lb : length b ≡ 2088 = length-set a (i + 1) (placeNumber (w .place)) ∙ la in
+        let la : length a ≡ recordLength = length-set r i (holder (w .descriptor) (w .place)) ∙ long in
+        let lb : length b ≡ recordLength = length-set a (i + 1) (placeNumber (w .place)) ∙ la in
         journal-set b lb (i + 2) (w .length) (omega arith)
         ∙ ap (λ (l : List ℕ). set l (i + 2) (w .length)) (journal-set a la (i + 1) (placeNumber (w .place)) (omega arith)
         ∙ ap (λ (l : List ℕ). set l (i + 1) (placeNumber (w .place))) (journal-set r long i (holder (w .descriptor) (w .place)) (omega arith)))

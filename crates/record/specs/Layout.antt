@@ -5,6 +5,8 @@
 --     2048    the file numbers of the sixteen descriptors
 --     2064    their committed offsets
 --     2080    the committed lengths of the eight files
+--     2088    the starts of their windows
+--     2096    the ends of their windows
 use mathlib.Core.Bool.{Bool, true, false, cond}
 use mathlib.Core.List.{List}
 use lib.Dec.{eqb}
@@ -14,11 +16,17 @@ use Rattle.octets.specs.Parts.{tabulate}
 use Rattle.octets.specs.Bits.{withBitAs}
 use Rattle.octets.specs.Marks.{contains}
 use Rattle.counters.specs.declared.Used.{Used}
+use Rattle.windows.specs.declared.Window.{Window}
+use Rattle.windows.specs.Hours.{window}
 use Rattle.standings.specs.declared.Standing.{Standing}
 use Rattle.standings.specs.declared.Standing.the-variants.{Untouched, Placed, Deferred, Moved, Known}
 use Rattle.record.specs.declared.Descriptor.{Descriptor}
 use Rattle.record.specs.declared.Transaction.{Transaction}
 use Rattle.record.specs.declared.Store.{Store}
+
+-- How many numbers a record has: the one place that says so.
+abbrev pub recordLength : ℕ
+recordLength = 2104
 
 -- ---- what numbers mean: every number means something, and none is cut
 
@@ -56,6 +64,9 @@ transactionOf r t =
       descriptors = tabulate (descriptorOf r t) 16;
     }
 
+unfoldable pub windowOf : List ℕ → ℕ → Window
+windowOf r f = window (getD r (2088 + f) 0) (getD r (2096 + f) 0)
+
 -- The record's meaning, in two parts.
 unfoldable pub storeOf : List ℕ → Store
 storeOf r =
@@ -63,6 +74,7 @@ storeOf r =
       filenumbers = tabulate (λ d. getD r (2048 + d) 0) 16;
       offsets = tabulate (λ d. getD r (2064 + d) 0) 16;
       lengths = tabulate (λ f. getD r (2080 + f) 0) 8;
+      windows = tabulate (windowOf r) 8;
       transactions = tabulate (transactionOf r) 8;
     }
 
@@ -127,7 +139,7 @@ zeroedFrom r i (suc n) = set (zeroedFrom r i n) (i + n) 0
 unfoldable pub resetAt : List ℕ → ℕ → Bool → List ℕ
 resetAt r t begun = set (zeroedFrom r (base t) 54) (base t + 48) (flag begun)
 
--- With another file number, committed offset, committed length; with f 0, f 1, .. as the file numbers below n.
+-- With another file number, committed offset, committed length, window; with f 0, f 1, .. as the file numbers below n.
 abbrev pub withFileNumberAt : List ℕ → ℕ → ℕ → List ℕ
 withFileNumberAt r d n = set r (2048 + d) n
 
@@ -136,6 +148,9 @@ withOffsetAt r d n = set r (2064 + d) n
 
 abbrev pub withLengthAt : List ℕ → ℕ → ℕ → List ℕ
 withLengthAt r f n = set r (2080 + f) n
+
+abbrev pub withWindowAt : List ℕ → ℕ → Window → List ℕ
+withWindowAt r f w = set (set r (2088 + f) (w .start)) (2096 + f) (w .end)
 
 unfoldable pub withFileNumbersAt : List ℕ → (ℕ → ℕ) → ℕ → List ℕ
 withFileNumbersAt r f zero = r

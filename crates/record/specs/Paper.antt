@@ -2,9 +2,10 @@
 use Prim.Native.Nat.{ℕ}
 use Rattle.record.specs.declared.outcomes.Refusal.{Refusal}
 use Rattle.record.specs.declared.outcomes.Refusal.the-variants.{BufferLength, RecordRange, NoSuchTransaction, NotOpen, AlreadyOpen}
-use Rattle.record.specs.declared.outcomes.Refusal.the-variants.{NoSuchTarget, ReaderTooShort, SeekPastEnd, WritePastEnd, RecordsFull}
-use Rattle.record.specs.declared.outcomes.Refusal.the-variants.{LogFull, SettledPastEnd, Stale, NoSuchFile, NoPlaceYet, ListTooLong}
-use Rattle.record.specs.declared.outcomes.Refusal.the-variants.{BadLine, StaleReader}
+use Rattle.record.specs.declared.outcomes.Refusal.the-variants.{NoSuchTarget, ReaderTooShort, SeekPastEnd, WritePastEnd}
+use Rattle.record.specs.declared.outcomes.Refusal.the-variants.{RecordsFull, LogFull, SettledPastEnd, Stale, NoSuchFile}
+use Rattle.record.specs.declared.outcomes.Refusal.the-variants.{NoPlaceYet, ListTooLong, BadLine, StaleReader}
+use Rattle.record.specs.declared.outcomes.Refusal.the-variants.{FileClosed, NoSuchMinute}
 use Rattle.record.specs.declared.outcomes.Outcome.{Outcome}
 use Rattle.record.specs.declared.outcomes.Outcome.the-variants.{Done, Offset, Given, Granted, Pairs, Refused}
 
@@ -29,10 +30,12 @@ number NoPlaceYet = 15
 number ListTooLong = 16
 number BadLine = 17
 number StaleReader = 18
+number FileClosed = 21
+number NoSuchMinute = 22
 
--- How many they are: the numbers go from 1 to this.
+-- The numbers go from 1 to this; 19 and 20 are not among them yet.
 abbrev pub refusals : ℕ
-refusals = 18
+refusals = 22
 
 -- "Read answers the count of bytes given; Fresh, Begin, Seek, Write and Abort answer plainly"; "GetFilePointer answers the
 -- offset"; F-1: "The answer is the count of pairs"; F-4: "Commit answers that octet"; or the number of a refusal.

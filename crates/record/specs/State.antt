@@ -4,6 +4,8 @@ use mathlib.Core.List.{List, []}
 use lib.ListN.{getD, set, replicate}
 use Prim.Native.Nat.{ℕ}
 use Rattle.counters.specs.declared.Used.{Used}
+use Rattle.windows.specs.declared.Window.{Window}
+use Rattle.windows.specs.Hours.{freshWindow}
 use Rattle.standings.specs.declared.Standing.{Standing}
 use Rattle.standings.specs.declared.Standing.the-variants.{Untouched}
 use Rattle.record.specs.declared.Descriptor.{Descriptor}
@@ -62,13 +64,24 @@ dirtyAt x d = getD (x .descriptors) d noDescriptor .dirty
 -- ---- the store
 
 abbrev pub withOffsets : List ℕ → Store → Store
-withOffsets os s = record { filenumbers = s .filenumbers; offsets = os; lengths = s .lengths; transactions = s .transactions }
+withOffsets os s =
+    record { filenumbers = s .filenumbers; offsets = os; lengths = s .lengths; windows = s .windows; transactions = s .transactions }
 
 abbrev pub withLengths : List ℕ → Store → Store
-withLengths ls s = record { filenumbers = s .filenumbers; offsets = s .offsets; lengths = ls; transactions = s .transactions }
+withLengths ls s =
+    record { filenumbers = s .filenumbers; offsets = s .offsets; lengths = ls; windows = s .windows; transactions = s .transactions }
+
+abbrev pub withWindows : List Window → Store → Store
+withWindows ws s =
+    record { filenumbers = s .filenumbers; offsets = s .offsets; lengths = s .lengths; windows = ws; transactions = s .transactions }
 
 abbrev pub withTransactions : List Transaction → Store → Store
-withTransactions xs s = record { filenumbers = s .filenumbers; offsets = s .offsets; lengths = s .lengths; transactions = xs }
+withTransactions xs s =
+    record { filenumbers = s .filenumbers; offsets = s .offsets; lengths = s .lengths; windows = s .windows; transactions = xs }
+
+-- The window of file f.
+abbrev pub windowAt : Store → ℕ → Window
+windowAt s f = getD (s .windows) f freshWindow
 
 -- Transaction t of the store, and the store with another in its place.
 abbrev pub transaction : Store → ℕ → Transaction

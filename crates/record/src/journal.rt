@@ -9,7 +9,7 @@ ghost use mathlib.Core.Path.{_≡_};
 ghost use Prim.Native.Nat.{_<_};
 ghost use lib.ListN.{replicate};
 ghost use Rattle.record.specs.Journal.{holder, writeRecordAt, withRecordAt};
-ghost use Rattle.record.specs.Layout.{journalOf};
+ghost use Rattle.record.specs.Layout.{journalOf, recordLength};
 
 pub const RECORDS: usize = 64;
 
@@ -68,7 +68,7 @@ pub fn put_record(kept: &mut Record, t: usize, k: usize, w: WriteRecord)
 
 // Sets every number of the record to 0.
 pub fn clear(kept: &mut Record)
-    ensures { λ _. ⌜ now (kept .exit) ≡ replicate 2088 0 ⌝ }
+    ensures { λ _. ⌜ now (kept .exit) ≡ replicate recordLength 0 ⌝ }
 {
     length_of(kept);
     let mut i = 0;

@@ -1,5 +1,6 @@
-// How the record lies in its numbers: the journal, eight transactions, file numbers, committed offsets and lengths.
-// Only this module, `journal` and specs/Layout.antt know that; everybody else reads and writes by name.
+// How the record lies in its numbers: the journal, eight transactions, file numbers, committed offsets, committed
+// lengths and windows. Only this module, `journal` and specs/Layout.antt know that; everybody else reads and writes by
+// name.
 use crate::DESCRIPTORS;
 use crate::Descriptor;
 use crate::Transaction;
@@ -7,19 +8,21 @@ use counters::Used;
 use numbers::wide;
 use octets::sets;
 use standings::Standing;
+use windows::Window;
 ghost use mathlib.Core.Bool.{false};
 ghost use mathlib.Core.Path.{_≡_};
 ghost use Prim.Native.Nat.{_+_, _<_};
 ghost use lib.ListN.{length, getD};
-ghost use Rattle.record.specs.State.{standingAt, noDescriptor};
+ghost use Rattle.record.specs.State.{standingAt, noDescriptor, windowAt};
 ghost use Rattle.record.specs.Layout.{standingOf, base, kind, first, second, flag};
 ghost use Rattle.record.specs.Layout.{descriptorOf, transactionOf, storeOf};
 ghost use Rattle.record.specs.Layout.{withDescriptorAt, withChosenAt, withUsedAt, resetAt};
 ghost use Rattle.record.specs.Layout.{withStaleAt, withLengthmarksAt};
-ghost use Rattle.record.specs.Layout.{withFileNumberAt, withFileNumbersAt, withOffsetAt, withLengthAt};
+ghost use Rattle.record.specs.Layout.{withFileNumberAt, withFileNumbersAt};
+ghost use Rattle.record.specs.Layout.{withOffsetAt, withLengthAt, withWindowAt};
 
 // How many numbers a record has.
-pub const NUMBERS: usize = 2088;
+pub const NUMBERS: usize = 2104;
 
 // The record, as a caller keeps it and lends it to every call.
 pub type Record = [u16; NUMBERS];
@@ -31,12 +34,17 @@ const LOOKED_AT: usize = 54;
 
 const TRANSACTIONS_AT: usize = 1536;
 
-// Where the file numbers, the committed offsets and the committed lengths stand, for a test that goes over all of them.
+// Where the file numbers, the committed offsets, the committed lengths, the starts of the windows and behind them their
+// ends stand, for a test that goes over all of them.
 pub const FILE_NUMBERS_AT: usize = 2048;
 
 pub const OFFSETS_AT: usize = 2064;
 
 pub const LENGTHS_AT: usize = 2080;
+
+pub const STARTS_AT: usize = 2088;
+
+const ENDS_AT: usize = 2096;
 
 // How many numbers were lent, which the array's type alone does not tell a proof.
 pub fn length_of(kept: &[u16]) -> usize
@@ -250,6 +258,16 @@ pub fn length_at(kept: &Record, f: usize) -> u16
     kept[LENGTHS_AT + f]
 }
 
+// The window of file f.
+pub fn window_at(kept: &Record, f: usize) -> Window
+    requires { ⌜ f < 8 ⌝ }
+    ensures { λ r. ⌜ r ≡ windowAt (storeOf (now (kept .entry))) f ⌝ }
+{
+    let start = kept[STARTS_AT + f];
+    let end = kept[ENDS_AT + f];
+    Window { start, end }
+}
+
 // ---- putting
 
 // Puts q in the place of descriptor d of transaction t.
@@ -360,4 +378,12 @@ pub fn put_length(kept: &mut Record, f: usize, n: u16)
     ensures { λ _. ⌜ now (kept .exit) ≡ withLengthAt (now (kept .entry)) f n ⌝ }
 {
     kept[LENGTHS_AT + f] = n;
+}
+
+pub fn put_window(kept: &mut Record, f: usize, w: Window)
+    requires { ⌜ f < 8 ⌝ }
+    ensures { λ _. ⌜ now (kept .exit) ≡ withWindowAt (now (kept .entry)) f w ⌝ }
+{
+    kept[STARTS_AT + f] = w.start;
+    kept[ENDS_AT + f] = w.end;
 }

@@ -6,6 +6,7 @@ pub mod outcomes;
 
 use counters::Used;
 use standings::Standing;
+use windows::Window;
 ghost use mathlib.Core.Bool.{_&&_};
 ghost use mathlib.Core.Path.{_≡_};
 ghost use Rattle.standings.specs.Table.{isTouched};
@@ -33,11 +34,12 @@ pub struct Transaction {
 }
 
 // What the record means, beside its journal: the file number and the committed offset of each descriptor, the committed
-// length of each file, and the transactions. Only specs/ speaks of it; no code makes one.
+// length and the window of each file, and the transactions. Only specs/ speaks of it; no code makes one.
 pub struct Store {
     pub filenumbers: [u16; DESCRIPTORS],
     pub offsets: [u16; DESCRIPTORS],
     pub lengths: [u16; FILES],
+    pub windows: [Window; FILES],
     pub transactions: [Transaction; TRANSACTIONS],
 }
 

@@ -23,10 +23,12 @@ pub enum Refusal {
     ListTooLong,
     BadLine,
     StaleReader,
+    FileClosed,
+    NoSuchMinute,
 }
 
-// How many they are; their numbers in the paper go from 1 to this.
-pub const REFUSALS: u8 = 18;
+// Their numbers in the paper go from 1 to this; 19 and 20 are not among them yet.
+pub const REFUSALS: u8 = 22;
 
 impl Refusal {
     // Its number in the paper.
@@ -52,6 +54,8 @@ impl Refusal {
             Refusal::ListTooLong => 16,
             Refusal::BadLine => 17,
             Refusal::StaleReader => 18,
+            Refusal::FileClosed => 21,
+            Refusal::NoSuchMinute => 22,
         }
     }
 }

@@ -5,7 +5,7 @@ use denote.Ref.{now}
 use Prim.Native.Nat.{ℕ}
 use Rattle.record.specs.declared.outcomes.Outcome.{Outcome}
 use Rattle.requests.specs.declared.Request.{Request}
-use Rattle.requests.specs.declared.Request.the-variants.{Begin, Seek, Write, GetFilePointer, Read, Places, Commit, Abort}
+use Rattle.requests.specs.declared.Request.the-variants.{Begin, Seek, Write, GetFilePointer, Read, Places, Commit, Abort, SetWindow}
 use Rattle.requests.specs.Requests.{callOf}
 use Rattle.rules.specs.Messages.{bufferOfCall}
 use Rattle.rules.specs.Machine.{Machine}
@@ -20,8 +20,9 @@ Unanswered (Write t d) before after = after ≡ before
 Unanswered (GetFilePointer t d) before after = after ≡ before
 Unanswered (Read t d n) before after = Unit
 Unanswered (Places t f) before after = Unit
-Unanswered (Commit t) before after = after ≡ before
+Unanswered (Commit t minute) before after = after ≡ before
 Unanswered (Abort t) before after = after ≡ before
+Unanswered (SetWindow f start end) before after = after ≡ before
 
 -- The outcome o, the machine m′ and the buffer for an answer are those that the rules give for the request's call, with these
 -- bytes and this buffer, on machine m.

@@ -1,9 +1,9 @@
 -- The calls that requests stand for.
 use mathlib.Core.List.{List}
 use Prim.Native.Nat.{ℕ}
-use Rattle.rules.specs.Messages.{Call, begin, on, commit, abort, places, seek, write, getFilePointer, read}
+use Rattle.rules.specs.Messages.{Call, begin, on, commit, abort, places, setWindow, seek, write, getFilePointer, read}
 use Rattle.requests.specs.declared.Request.{Request}
-use Rattle.requests.specs.declared.Request.the-variants.{Begin, Seek, Write, GetFilePointer, Read, Places, Commit, Abort}
+use Rattle.requests.specs.declared.Request.the-variants.{Begin, Seek, Write, GetFilePointer, Read, Places, Commit, Abort, SetWindow}
 
 -- The call of a request, with the bytes of a Write and the buffer for an answer.
 unfoldable pub callOf : Request → List ℕ → List ℕ → Call
@@ -13,5 +13,6 @@ callOf (Write t d) bytes reader = on t (write d bytes)
 callOf (GetFilePointer t d) bytes reader = on t (getFilePointer d)
 callOf (Read t d n) bytes reader = on t (read d n reader)
 callOf (Places t f) bytes reader = places t f reader
-callOf (Commit t) bytes reader = commit t
+callOf (Commit t minute) bytes reader = commit t minute
 callOf (Abort t) bytes reader = abort t
+callOf (SetWindow f start end) bytes reader = setWindow f start end

@@ -3,8 +3,9 @@ use record::layout::Record;
 use record::outcomes::Outcome;
 ghost use Rattle.requests.specs.Performing.{Performed};
 
-// A call: its kind with its numbers. Each names its transaction, then its descriptor (Places its file); last stands
-// Seek's offset or Read's count. A Write's bytes and the buffer for an answer are lent beside it.
+// A call: its kind with its numbers. Each but SetWindow names its transaction, then its descriptor (Places its file);
+// last stands Seek's offset, Read's count or Commit's minute. SetWindow names its file, then start and end. A Write's
+// bytes and the buffer for an answer are lent beside it.
 pub enum Request {
     Begin(usize),
     Seek(usize, usize, usize),
@@ -12,8 +13,9 @@ pub enum Request {
     GetFilePointer(usize, usize),
     Read(usize, usize, usize),
     Places(usize, usize),
-    Commit(usize),
+    Commit(usize, usize),
     Abort(usize),
+    SetWindow(usize, usize, usize),
 }
 
 // Performs the call of the request. A Write takes its bytes from `bytes`, Read and Places answer in `reader`; the
@@ -36,7 +38,16 @@ pub fn perform(
         Request::GetFilePointer(t, d) => store::get_file_pointer(kept, files, logs, marks, t, d),
         Request::Read(t, d, n) => store::read(kept, files, logs, marks, t, d, n, reader),
         Request::Places(t, f) => store::places(kept, files, logs, marks, t, f, reader),
-        Request::Commit(t) => store::commit(kept, files, logs, marks, t),
+        Request::Commit(t, minute) => store::commit(kept, files, logs, marks, t, minute),
         Request::Abort(t) => store::abort(kept, files, logs, marks, t),
+        Request::SetWindow(f, start, end) => store::set_window(
+            kept,
+            files,
+            logs,
+            marks,
+            f,
+            start,
+            end,
+        ),
     }
 }

@@ -2,6 +2,7 @@
 pub mod Age
 pub mod Answers
 pub mod Buffers
+pub mod Closed
 pub mod Lengths
 pub mod Marks
 pub mod Ranges

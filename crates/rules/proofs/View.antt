@@ -23,4 +23,5 @@ pub mod Shape
 pub mod StandingRanges
 pub mod StepTurn
 pub mod Tables
+pub mod WindowTurn
 pub mod Zeros

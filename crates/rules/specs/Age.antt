@@ -4,7 +4,7 @@ use mathlib.Core.List.{List}
 use mathlib.Core.Path.{_≡_}
 use lib.ListN.{length}
 use Prim.Native.Nat.{ℕ, _≤_}
-use Rattle.record.specs.State.{transaction, withOffsets, withLengths}
+use Rattle.record.specs.State.{transaction, withOffsets, withLengths, withWindows, windowAt}
 use Rattle.rules.specs.Messages.{Call}
 use Rattle.rules.specs.Machine.{Machine, withStore, withFiles, fileOf, values}
 use Rattle.rules.specs.Calls.{freshStore, freshMachine, callsAfter, callsReplies}
@@ -20,10 +20,11 @@ pub record AtRest (m : Machine) : Type 0 where
   pub reached : m ≡ callsAfter calls first
   pub closed : (t : ℕ) → t ≤ 7 → transaction (m .store) t .begun ≡ false
 
--- One made fresh, with other logs, and given the same files, offsets and lengths.
+-- One made fresh, with other logs, and given the same files, offsets, lengths and windows.
 unfoldable pub rejuvenated : Machine → List ℕ → Machine
 rejuvenated m logs =
-    withStore (withOffsets (m .store .offsets) (withLengths (m .store .lengths) (freshStore (m .store .filenumbers))))
+    let s = m .store in
+    withStore (withOffsets (s .offsets) (withLengths (s .lengths) (withWindows (s .windows) (freshStore (s .filenumbers)))))
     (withFiles (m .files) (freshMachine (m .store .filenumbers) logs))
 
 -- Two stores answer a list of calls alike, reply for reply and byte for byte, and end with the same files, offsets and lengths.
@@ -36,8 +37,10 @@ pub record Alike (cs : List Call) (m n : Machine) : Type 0 where
 abbrev pub Ageless : Type 0
 Ageless = (m : Machine) → AtRest m → (logs : List ℕ) → length logs ≡ 32768 → (cs : List Call) → Alike cs m (rejuvenated m logs)
 
--- Demand 3 from any store at rest, Fresh's being one: the plain machine starts with what is committed there.
+-- Demand 3 from any store at rest, Fresh's being one: the plain machine starts with what is committed there, and with the
+-- windows.
 abbrev pub Demand3AtRest : Type 0
 Demand3AtRest =
     (m : Machine) → AtRest m → (cs : List Call)
-    → let p = startPlain (fileOf (m .store)) (values (m .store) (m .files)) in Holds m p cs (callsAfter cs m) (plainAfter cs p)
+    → let p = startPlain (fileOf (m .store)) (values (m .store) (m .files)) (windowAt (m .store)) in
+    Holds m p cs (callsAfter cs m) (plainAfter cs p)

@@ -2,12 +2,13 @@
 use mathlib.Core.Bool.{Bool, true, false}
 use mathlib.Core.List.{List}
 use mathlib.Core.Path.{_≡_}
+use lib.Dec.{eqb}
 use Prim.Native.Nat.{ℕ, _≤_}
 use Rattle.octets.specs.Marks.{hasMark}
 use Rattle.record.specs.declared.outcomes.Refusal.the-variants.{Stale}
 use Rattle.record.specs.Paper.{number, plain, granted, refused}
 use Rattle.record.specs.State.{transaction}
-use Rattle.rules.specs.Messages.{seek, write, getFilePointer, read, Call, begin, on, commit, abort, places}
+use Rattle.rules.specs.Messages.{seek, write, getFilePointer, read, Call, begin, on, commit, abort, places, setWindow}
 use Rattle.rules.specs.Machine.{Machine}
 use Rattle.rules.specs.Calls.{fresh, call, callsAfter}
 use Rattle.rules.specs.Demand3.{FreshlyMade}
@@ -18,16 +19,18 @@ isWrite (on t (seek d v)) = false
 isWrite (on t (write d bytes)) = true
 isWrite (on t (getFilePointer d)) = false
 isWrite (on t (read d n buffer)) = false
-isWrite (commit t) = false
+isWrite (commit t minute) = false
 isWrite (abort t) = false
 isWrite (places t f out) = false
+isWrite (setWindow f start end) = false
 
 unfoldable pub isCommit : Call → Bool
 isCommit (begin t) = false
 isCommit (on t o) = false
-isCommit (commit t) = true
+isCommit (commit t minute) = true
 isCommit (abort t) = false
 isCommit (places t f out) = false
+isCommit (setWindow f start end) = false
 
 unfoldable pub touchesMarks : Call → Bool
 touchesMarks (begin t) = true
@@ -35,17 +38,19 @@ touchesMarks (on t (seek d v)) = false
 touchesMarks (on t (write d bytes)) = false
 touchesMarks (on t (getFilePointer d)) = false
 touchesMarks (on t (read d n buffer)) = true
-touchesMarks (commit t) = true
+touchesMarks (commit t minute) = true
 touchesMarks (abort t) = true
 touchesMarks (places t f out) = false
+touchesMarks (setWindow f start end) = false
 
--- The transaction whose call it is.
-unfoldable pub callerOf : Call → ℕ
-callerOf (begin t) = t
-callerOf (on t o) = t
-callerOf (commit t) = t
-callerOf (abort t) = t
-callerOf (places t f out) = t
+-- Whether it is a call of transaction u.
+unfoldable pub isCallOf : ℕ → Call → Bool
+isCallOf u (begin t) = eqb u t
+isCallOf u (on t o) = eqb u t
+isCallOf u (commit t minute) = eqb u t
+isCallOf u (abort t) = eqb u t
+isCallOf u (places t f out) = eqb u t
+isCallOf u (setWindow f start end) = false
 
 -- Transaction t has no mark, and has sighted no length.
 pub record Unmarked (t : ℕ) (m : Machine) : Type 0 where
@@ -64,12 +69,15 @@ pub record Buffers (m : Machine) : Type 0 where
   -- "Begin gives .. no marks"; "Abort drops log and marks"; "The transaction ends and its marks are cleared"; "it ends as at Abort".
   pub begun : (t : ℕ) → t ≤ 7 → call (begin t) m .reply .answer ≡ plain → Unmarked t (call (begin t) m .after)
   pub aborted : (t : ℕ) → t ≤ 7 → call (abort t) m .reply .answer ≡ plain → Unmarked t (call (abort t) m .after)
-  pub committed : (t n : ℕ) → t ≤ 7 → call (commit t) m .reply .answer ≡ granted n → Unmarked t (call (commit t) m .after)
-  pub stale : (t : ℕ) → t ≤ 7 → call (commit t) m .reply .answer ≡ refused (number Stale) → Unmarked t (call (commit t) m .after)
+  pub committed :
+      (t minute n : ℕ) → t ≤ 7 → call (commit t minute) m .reply .answer ≡ granted n → Unmarked t (call (commit t minute) m .after)
+  pub stale :
+      (t minute : ℕ) → t ≤ 7 → call (commit t minute) m .reply .answer ≡ refused (number Stale)
+      → Unmarked t (call (commit t minute) m .after)
 
 -- Every call leaves the marks of all transactions but its own.
 abbrev pub MarksLeft : Machine → Type 0
-MarksLeft m = (c : Call) (u q : ℕ) → (u ≡ callerOf c → ⊥) → hasMark (call c m .after .marks) u q ≡ hasMark (m .marks) u q
+MarksLeft m = (c : Call) (u q : ℕ) → isCallOf u c ≡ false → hasMark (call c m .after .marks) u q ≡ hasMark (m .marks) u q
 
 abbrev pub MarksAlwaysLeft : Type 0
 MarksAlwaysLeft = (numbers : List ℕ) (m₀ : Machine) → FreshlyMade numbers m₀ → (cs : List Call) → MarksLeft (callsAfter cs m₀)

@@ -1,28 +1,32 @@
--- The rules of the nine calls on the record and the buffers: outcome, record, files, logs, marks and reader's buffer, for every
+-- The rules of the ten calls on the record and the buffers: outcome, record, files, logs, marks and reader's buffer, for every
 -- input. The promises of the code cite these.
 use mathlib.Core.Bool.{Bool, false, cond, not, _&&_, _||_}
 use mathlib.Core.List.{List, [], _∷_}
 use lib.Dec.{eqb}
 use lib.ListN.{set, replicate}
 use Prim.Native.Nat.{ℕ, zero, suc, _+_, _*_}
+use Rattle.windows.specs.Hours.{minuteIn, window, freshWindow}
 use Rattle.octets.specs.Parts.{pasted, tabulate}
 use Rattle.octets.specs.Bits.{bitsOf, countOf}
 use Rattle.octets.specs.Marks.{hasMark, withMark, withoutMarks, contains}
 use Rattle.record.specs.declared.Store.{Store}
 use Rattle.record.specs.declared.Transaction.{Transaction}
 use Rattle.record.specs.declared.outcomes.Refusal.the-variants.{Stale}
-use Rattle.record.specs.State.{transaction, standingAt, ended, begun, withStale, withOffsets, withLengths, withTransactions, withTransaction}
+use Rattle.record.specs.State.{transaction, standingAt, windowAt, ended, begun, withStale}
+use Rattle.record.specs.State.{withOffsets, withLengths, withWindows, withTransactions, withTransaction}
 use Rattle.record.specs.Paper.{number, Said, plain, granted, refused}
 use Rattle.ranges.specs.Below.{guarded, isNone}
-use Rattle.ranges.specs.Ranges.{admission, admissionOfBegin, admissionOfFresh}
+use Rattle.ranges.specs.Ranges.{admission, admissionOfBegin, admissionOfFresh, admissionOfWindow}
 use Rattle.rules.specs.Items.{Item, byte, offset, fileLength, result, asked}
 use Rattle.standings.specs.Table.{isKnown}
 use Rattle.rules.specs.Messages.{Op, seek, write, getFilePointer, read, bufferOf}
 use Rattle.rules.specs.Steps.{Stepped, refuse, accept, step, turnedBack}
 use Rattle.rules.specs.Coverage.{placesOf}
+use Rattle.rules.specs.Windows.{forClosed}
 use Rattle.rules.specs.Commits.{Setting, settings, fits, commitRefusal}
-use Rattle.rules.specs.Messages.{Call, begin, on, commit, abort, places, Reply}
-use Rattle.rules.specs.Machine.{Machine, lent, withStore, withJournal, withFiles, withLogs, withMarking, sizes, fileOf, values, txnOf, withTxn, journalled}
+use Rattle.rules.specs.Messages.{Call, begin, on, commit, abort, places, setWindow, Reply}
+use Rattle.rules.specs.Machine.{Machine, lent, withStore, withJournal, withFiles, withLogs, withMarking, sizes}
+use Rattle.rules.specs.Machine.{fileOf, values, txnOf, withTxn, journalled}
 
 -- A call's reply, and the store after it.
 pub record Turn : Type 0 where
@@ -41,12 +45,14 @@ unfoldable pub passing : ℕ → List ℕ → Machine → Turn → Turn
 passing n buffer m next = guarded (λ k. turnDown k buffer m) (isNone n) n next
 
 -- "Every file byte, mark and offset is 0, nothing is open; the log buffer is left as found." 02, F-8: a length is "0 when fresh".
+-- F-11: "Fresh sets all to 0 and 0."
 unfoldable pub freshStore : List ℕ → Store
 freshStore numbers =
     record {
       filenumbers = numbers;
       offsets = replicate 16 0;
       lengths = replicate 8 0;
+      windows = replicate 8 freshWindow;
       transactions = replicate 8 ended;
     }
 
@@ -175,7 +181,7 @@ commitGranted t ss m =
           (withMarking (withoutMarks t (m .marks)) m));
     }
 
--- 13: "it ends as at Abort". 12: "everything, the transaction open".
+-- 13: "it ends as at Abort". 12: "everything, the transaction open". F-11: "A Commit refused with 21 or 22 keeps its transaction open."
 unfoldable pub commitDecided : ℕ → List Setting → Machine → ℕ → Turn
 commitDecided t ss m zero = commitGranted t ss m
 commitDecided t ss m (suc n) =
@@ -184,18 +190,22 @@ commitDecided t ss m (suc n) =
       after = cond (eqb (suc n) (number Stale)) (reset t ended m) m;
     }
 
-unfoldable pub commitTurn : ℕ → Machine → Turn
-commitTurn t m =
-    let v = values (m .store) (m .files) in
-    let x = txnOf (m .store) (m .journal) (m .logs) t in
-    commitDecided t (settings (fileOf (m .store)) v x) m (commitRefusal (transaction (m .store) t .stale) (fits v x))
+-- What a Commit of t sets if it is granted.
+abbrev pub settingsOf : Machine → ℕ → List Setting
+settingsOf m t = settings (fileOf (m .store)) (values (m .store) (m .files)) (txnOf (m .store) (m .journal) (m .logs) t)
+
+unfoldable pub commitTurn : ℕ → ℕ → Machine → Turn
+commitTurn t minute m =
+    let s = m .store in
+    let x = txnOf s (m .journal) (m .logs) t in
+    let shut = forClosed (fileOf s) (windowAt s) minute (x .writes) in
+    commitDecided t (settingsOf m t) m
+    (commitRefusal (minuteIn minute) (transaction s t .stale) shut (fits (values s (m .files)) x))
 
 -- "Commit answers how many became stale by it that were not so before": the former number. F-4: "The old number is the count of ones in
 -- that octet."
 unfoldable pub formerNumber : ℕ → Machine → ℕ
-formerNumber t m =
-    let ss = settings (fileOf (m .store)) (values (m .store) (m .files)) (txnOf (m .store) (m .journal) (m .logs) t) in
-    countOf (becomesStale t (m .marks) ss (m .store)) 8
+formerNumber t m = countOf (becomesStale t (m .marks) (settingsOf m t) (m .store)) 8
 
 -- F-1: "A new call lists, for one open transaction and one file, the places its writes cover"; "a new call changes only what its
 -- request says": nothing but the buffer for the list.
@@ -203,19 +213,26 @@ unfoldable pub placesTurn : ℕ → ℕ → List ℕ → Machine → Turn
 placesTurn t f out m =
     record { reply = placesOf (fileOf (m .store)) f out (txnOf (m .store) (m .journal) (m .logs) t); after = m }
 
+-- 02, F-11: "A call sets a window", and changes nothing else.
+unfoldable pub windowTurn : ℕ → ℕ → ℕ → Machine → Turn
+windowTurn f start end m =
+    answer plain (withStore (withWindows (set (m .store .windows) f (window start end)) (m .store)) m)
+
 -- The shared tests, 1 to 4, on what a caller lends.
 unfoldable pub admitted : ℕ → List ℕ → Machine → Turn → Turn
 admitted t buffer m next =
     passing (admission (sizes m) (m .store) (m .journal) t) buffer m next
 
--- The calls of demand 3, and F-1's.
+-- The calls of demand 3, and F-1's; F-11: "Demand 3's lists may from now on hold the setting of windows".
 unfoldable pub call : Call → Machine → Turn
 call (begin t) m =
     passing (admissionOfBegin (sizes m) (m .store) (m .journal) t) [] m (beginTurn t m)
 call (on t o) m = admitted t (bufferOf o) m (stepTurn t o m)
-call (commit t) m = admitted t [] m (commitTurn t m)
+call (commit t minute) m = admitted t [] m (commitTurn t minute m)
 call (abort t) m = admitted t [] m (abortTurn t m)
 call (places t f out) m = admitted t out m (placesTurn t f out m)
+call (setWindow f start end) m =
+    passing (admissionOfWindow (sizes m) (m .store) (m .journal) f start end) [] m (windowTurn f start end m)
 
 -- A list of calls: the store after it, and its replies.
 unfoldable pub callsAfter : List Call → Machine → Machine

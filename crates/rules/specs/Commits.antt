@@ -76,6 +76,8 @@ unfoldable pub setBy : ℕ → List Setting → Values → Values
 setBy n [] v = v
 setBy n (s ∷ ss) v = setBy n ss (putItem (s .item) n v)
 
--- Commit's refusals in order, "save that 13 comes before 12"; 0 stands for none.
-unfoldable pub commitRefusal : Bool → Bool → ℕ
-commitRefusal stale placed = cond stale 13 (cond placed 0 12)
+-- Commit's refusals after 4 in order, "save that 13 comes before 12"; 02, F-11: 21 "after 13 and before 12", "22 when a minute is above
+-- 1,439, after 4 in Commit"; 0 stands for none. They go by whether the minute is one of the day, the transaction is stale, a byte would go
+-- to a closed file, and Commit's placing passes.
+unfoldable pub commitRefusal : Bool → Bool → Bool → Bool → ℕ
+commitRefusal minute stale shut placed = cond minute (cond stale 13 (cond shut 21 (cond placed 0 12))) 22

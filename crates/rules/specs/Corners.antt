@@ -3,20 +3,24 @@ use mathlib.Core.Bool.{Bool, true, false, cond}
 use mathlib.Core.List.{List, [], _∷_, _++_}
 use mathlib.Core.Path.{_≡_}
 use lib.Dec.{eqb}
-use lib.ListN.{replicate}
+use lib.ListN.{length, replicate}
 use Prim.Native.Nat.{ℕ}
 use Rattle.standings.specs.declared.Standing.{Standing}
 use Rattle.standings.specs.declared.Standing.the-variants.{Untouched, Deferred}
 use Rattle.standings.specs.declared.Place.{Place}
 use Rattle.standings.specs.declared.Place.the-variants.{At, After}
+use Rattle.windows.specs.Hours.{window}
 use Rattle.record.specs.Paper.{plain, pointer, granted, refused}
 use Rattle.rules.specs.Items.{byte, offset, fileLength, result}
-use Rattle.rules.specs.Messages.{seek, write, getFilePointer, read, begin, on, commit, abort, places, says}
+use Rattle.rules.specs.Messages.{seek, write, getFilePointer, read, Call, begin, on, commit, abort, places, setWindow, says}
 use Rattle.rules.specs.Transactions.{Txn, Write}
 use Rattle.rules.specs.Reading.{ownEnd}
 use Rattle.rules.specs.Steps.{Stepped, refuse, accept, step}
 use Rattle.rules.specs.Commits.{settings, fits}
-use Rattle.rules.specs.Setup.{Seen, Exchange, _⇒_, callsOf, Goes, formerNumbers, sighted, committedBytes, beginning, sightingsOf, gives, refusesWith, lists, begins, A, B, C, X, Y, Z, dot}
+use Rattle.rules.specs.Plain.{Plain, startPlain, plainReplies}
+use Rattle.rules.specs.Grants.{grantsOf, rerun, sameReplies, serialStart}
+use Rattle.rules.specs.Setup.{Seen, Exchange, _⇒_, commits, callsOf, Goes, formerNumbers, sighted, committedBytes, beginning}
+use Rattle.rules.specs.Setup.{sightingsOf, gives, refusesWith, lists, begins, A, B, C, X, Y, Z, dot}
 use Rattle.rules.specs.Situations.{toldK, toldL}
 
 -- Before the others, T7 commits two zeros at the front of file 0, and the offset 0 of descriptor 0.
@@ -26,7 +30,7 @@ twoZeros =
     ∷ on 7 (seek 0 0) ⇒ says plain
     ∷ on 7 (write 0 (0 ∷ 0 ∷ [])) ⇒ says plain
     ∷ on 7 (seek 0 0) ⇒ says plain
-    ∷ commit 7 ⇒ says (granted 0)
+    ∷ commits 7 ⇒ says (granted 0)
     ∷ []
 
 -- "Checked in this order, save that 13 comes before 12": T0 is stale by the offset of 1, and its write on 0 would run past the end.
@@ -37,9 +41,9 @@ toldStaleFirst =
     ∷ on 0 (write 0 (A ∷ [])) ⇒ says plain
     ∷ on 1 (seek 0 4096) ⇒ says plain
     ∷ on 1 (seek 1 0) ⇒ says plain
-    ∷ commit 1 ⇒ says (granted 1)
-    ∷ commit 0 ⇒ says (refused 13)
-    ∷ commit 0 ⇒ says (refused 4)
+    ∷ commits 1 ⇒ says (granted 1)
+    ∷ commits 0 ⇒ says (refused 13)
+    ∷ commits 0 ⇒ says (refused 4)
     ∷ []
 
 -- "A refusal 12 tells the caller something about an offset and makes no sighting": T1 sights nothing by two of them.
@@ -47,7 +51,7 @@ unfoldable pub toldRefusedSettling : List Exchange
 toldRefusedSettling =
     begins
     ++ on 0 (seek 0 4096) ⇒ says plain
-    ∷ commit 0 ⇒ says (granted 0)
+    ∷ commits 0 ⇒ says (granted 0)
     ∷ on 1 (write 0 (A ∷ [])) ⇒ says plain
     ∷ on 1 (getFilePointer 0) ⇒ says (refused 12)
     ∷ on 1 (read 0 1 (dot ∷ [])) ⇒ refusesWith 12 (dot ∷ [])
@@ -58,8 +62,8 @@ unfoldable pub toldUnsighted : List Exchange
 toldUnsighted =
     toldRefusedSettling
     ++ on 2 (seek 0 0) ⇒ says plain
-    ∷ commit 2 ⇒ says (granted 0)
-    ∷ commit 1 ⇒ says (granted 0)
+    ∷ commits 2 ⇒ says (granted 0)
+    ∷ commits 1 ⇒ says (granted 0)
     ∷ []
 
 -- "It settles every descriptor of d's file that stands Deferred or Moved": 8 stands Moved when T0 reads through 0. "Moved becomes
@@ -78,8 +82,8 @@ unfoldable pub toldMovedStale : List Exchange
 toldMovedStale =
     toldMoved
     ++ on 1 (seek 8 3) ⇒ says plain
-    ∷ commit 1 ⇒ says (granted 1)
-    ∷ commit 0 ⇒ says (refused 13)
+    ∷ commits 1 ⇒ says (granted 1)
+    ∷ commits 0 ⇒ says (refused 13)
     ∷ []
 
 -- "The notes, read to the letter, would settle untouched descriptors too; that is not done": 8 is Untouched when T0 reads through 0.
@@ -95,8 +99,8 @@ unfoldable pub toldNeighbourSet : List Exchange
 toldNeighbourSet =
     toldNeighbour
     ++ on 1 (seek 8 5) ⇒ says plain
-    ∷ commit 1 ⇒ says (granted 0)
-    ∷ commit 0 ⇒ says (granted 0)
+    ∷ commits 1 ⇒ says (granted 0)
+    ∷ commits 0 ⇒ says (granted 0)
     ∷ []
 
 -- "0 bytes is a lawful result and settles all the same."
@@ -110,8 +114,8 @@ unfoldable pub toldReadNoneStale : List Exchange
 toldReadNoneStale =
     toldReadNone
     ++ on 1 (seek 0 5) ⇒ says plain
-    ∷ commit 1 ⇒ says (granted 1)
-    ∷ commit 0 ⇒ says (refused 13)
+    ∷ commits 1 ⇒ says (granted 1)
+    ∷ commits 0 ⇒ says (refused 13)
     ∷ []
 
 -- "only if the transaction made a Seek, Read or Write on it, 0 bytes included" (02, F-2): T1 looks, then reads 0 bytes, and its commit
@@ -122,8 +126,8 @@ toldReadNoneSets =
     ++ on 0 (getFilePointer 0) ⇒ says (pointer 0)
     ∷ on 1 (getFilePointer 0) ⇒ says (pointer 0)
     ∷ on 1 (read 0 0 []) ⇒ gives 0 []
-    ∷ commit 1 ⇒ says (granted 1)
-    ∷ commit 0 ⇒ says (refused 13)
+    ∷ commits 1 ⇒ says (granted 1)
+    ∷ commits 0 ⇒ says (refused 13)
     ∷ []
 
 -- A refused Seek, Write or Read makes no descriptor dirty, and what T1 made dirty before its Abort is clean when it is begun again.
@@ -138,8 +142,8 @@ toldOnlyLooked =
     ∷ on 1 (seek 0 4097) ⇒ says (refused 8)
     ∷ on 1 (write 0 (replicate 4097 A)) ⇒ says (refused 9)
     ∷ on 1 (read 0 1 []) ⇒ refusesWith 7 []
-    ∷ commit 1 ⇒ says (granted 0)
-    ∷ commit 0 ⇒ says (granted 0)
+    ∷ commits 1 ⇒ says (granted 0)
+    ∷ commits 0 ⇒ says (granted 0)
     ∷ []
 
 -- A forged transaction whose descriptor 0 stands so, the dirty ones being all or none.
@@ -162,8 +166,8 @@ toldWriteNone =
     begins
     ++ on 1 (getFilePointer 0) ⇒ says (pointer 0)
     ∷ on 0 (write 0 []) ⇒ says plain
-    ∷ commit 0 ⇒ says (granted 2)
-    ∷ commit 1 ⇒ says (refused 13)
+    ∷ commits 0 ⇒ says (granted 2)
+    ∷ commits 1 ⇒ says (refused 13)
     ∷ []
 
 -- F-6, "Read and GetFilePointer of a stale transaction are now refused"; "18 when the transaction is stale, after 6 and before 7": T0 is
@@ -179,7 +183,7 @@ toldTurnedBack =
     ∷ on 0 (seek 3 5) ⇒ says plain
     ∷ on 1 (seek 0 4096) ⇒ says plain
     ∷ on 1 (seek 1 0) ⇒ says plain
-    ∷ commit 1 ⇒ says (granted 1)
+    ∷ commits 1 ⇒ says (granted 1)
     ∷ on 0 (read 16 2 (dot ∷ [])) ⇒ refusesWith 6 (dot ∷ [])
     ∷ on 0 (getFilePointer 16) ⇒ says (refused 6)
     ∷ on 0 (read 0 2 (dot ∷ [])) ⇒ refusesWith 18 (dot ∷ [])
@@ -206,18 +210,18 @@ toldStaysOpen =
     ∷ on 0 (read 0 1 (dot ∷ [])) ⇒ gives 1 (0 ∷ [])
     ∷ on 1 (seek 8 0) ⇒ says plain
     ∷ on 1 (write 8 (Z ∷ [])) ⇒ says plain
-    ∷ commit 1 ⇒ says (granted 1)
+    ∷ commits 1 ⇒ says (granted 1)
     ∷ on 0 (read 0 1 (dot ∷ [])) ⇒ refusesWith 18 (dot ∷ [])
     ∷ begin 0 ⇒ says (refused 5)
     ∷ on 2 (seek 8 0) ⇒ says plain
     ∷ on 2 (write 8 (Y ∷ [])) ⇒ says plain
-    ∷ commit 2 ⇒ says (granted 0)
+    ∷ commits 2 ⇒ says (granted 0)
     ∷ []
 
 unfoldable pub toldStillStale : List Exchange
 toldStillStale =
     toldStaysOpen
-    ++ commit 0 ⇒ says (refused 13)
+    ++ commits 0 ⇒ says (refused 13)
     ∷ on 0 (read 0 1 (dot ∷ [])) ⇒ refusesWith 4 (dot ∷ [])
     ∷ []
 
@@ -240,13 +244,13 @@ toldBegunAgain =
     ++ on 0 (getFilePointer 0) ⇒ says (pointer 0)
     ∷ on 2 (read 0 1 (dot ∷ [])) ⇒ gives 1 (0 ∷ [])
     ∷ abort 2 ⇒ says plain
-    ∷ commit 0 ⇒ says (granted 0)
+    ∷ commits 0 ⇒ says (granted 0)
     ∷ begin 0 ⇒ says plain
     ∷ begin 2 ⇒ says plain
     ∷ on 1 (write 0 (A ∷ [])) ⇒ says plain
-    ∷ commit 1 ⇒ says (granted 0)
-    ∷ commit 0 ⇒ says (granted 0)
-    ∷ commit 2 ⇒ says (granted 0)
+    ∷ commits 1 ⇒ says (granted 0)
+    ∷ commits 0 ⇒ says (granted 0)
+    ∷ commits 2 ⇒ says (granted 0)
     ∷ []
 
 -- "13 .. it ends as at Abort": begun again, T0 is not stale.
@@ -255,18 +259,18 @@ toldStaleEnded =
     begins
     ++ on 0 (getFilePointer 0) ⇒ says (pointer 0)
     ∷ on 1 (seek 0 5) ⇒ says plain
-    ∷ commit 1 ⇒ says (granted 1)
-    ∷ commit 0 ⇒ says (refused 13)
+    ∷ commits 1 ⇒ says (granted 1)
+    ∷ commits 0 ⇒ says (refused 13)
     ∷ begin 0 ⇒ says plain
-    ∷ commit 0 ⇒ says (granted 0)
+    ∷ commits 0 ⇒ says (granted 0)
     ∷ []
 
 -- The Commit of a transaction just begun is granted; then it is not open.
 unfoldable pub toldJustBegun : List Exchange
 toldJustBegun =
     begins
-    ++ commit 0 ⇒ says (granted 0)
-    ∷ commit 0 ⇒ says (refused 4)
+    ++ commits 0 ⇒ says (granted 0)
+    ∷ commits 0 ⇒ says (refused 4)
     ∷ on 0 (seek 0 0) ⇒ says (refused 4)
     ∷ []
 
@@ -276,10 +280,10 @@ toldNumbers =
     begins
     ++ begin 8 ⇒ says (refused 3)
     ∷ on 8 (seek 0 0) ⇒ says (refused 3)
-    ∷ commit 8 ⇒ says (refused 3)
+    ∷ commits 8 ⇒ says (refused 3)
     ∷ abort 8 ⇒ says (refused 3)
     ∷ on 3 (seek 16 0) ⇒ says (refused 4)
-    ∷ commit 3 ⇒ says (refused 4)
+    ∷ commits 3 ⇒ says (refused 4)
     ∷ abort 3 ⇒ says (refused 4)
     ∷ begin 0 ⇒ says (refused 5)
     ∷ []
@@ -289,7 +293,7 @@ unfoldable pub toldArguments : List Exchange
 toldArguments =
     begins
     ++ on 1 (seek 0 4096) ⇒ says plain
-    ∷ commit 1 ⇒ says (granted 0)
+    ∷ commits 1 ⇒ says (granted 0)
     ∷ on 0 (read 16 2 (dot ∷ [])) ⇒ refusesWith 6 (dot ∷ [])
     ∷ on 0 (seek 16 4097) ⇒ says (refused 6)
     ∷ on 0 (write 16 (replicate 4097 A)) ⇒ says (refused 6)
@@ -322,7 +326,7 @@ toldOverlap =
     ∷ on 0 (write 0 (C ∷ [])) ⇒ says plain
     ∷ on 0 (seek 0 0) ⇒ says plain
     ∷ on 0 (read 0 3 (dot ∷ dot ∷ dot ∷ [])) ⇒ gives 3 (A ∷ C ∷ X ∷ [])
-    ∷ commit 0 ⇒ says (granted 0)
+    ∷ commits 0 ⇒ says (granted 0)
     ∷ []
 
 -- Two appends of one transaction land one after the other: "those still deferred lie from the committed offset of that moment", each
@@ -332,7 +336,7 @@ toldTwoAppends =
     begins
     ++ on 0 (write 0 (A ∷ [])) ⇒ says plain
     ∷ on 0 (write 0 (B ∷ [])) ⇒ says plain
-    ∷ commit 0 ⇒ says (granted 0)
+    ∷ commits 0 ⇒ says (granted 0)
     ∷ []
 
 -- A write in file 1 does not show in file 0.
@@ -352,7 +356,7 @@ unfoldable pub toldKnown : List Exchange
 toldKnown =
     begins
     ++ on 1 (seek 0 3) ⇒ says plain
-    ∷ commit 1 ⇒ says (granted 0)
+    ∷ commits 1 ⇒ says (granted 0)
     ∷ on 0 (write 0 (A ∷ [])) ⇒ says plain
     ∷ on 0 (write 0 (B ∷ [])) ⇒ says plain
     ∷ on 0 (getFilePointer 0) ⇒ says (pointer 5)
@@ -361,7 +365,7 @@ toldKnown =
     ∷ on 0 (seek 0 3) ⇒ says plain
     ∷ on 0 (read 0 4 (dot ∷ dot ∷ dot ∷ dot ∷ [])) ⇒ gives 3 (A ∷ B ∷ C ∷ dot ∷ [])
     ∷ on 0 (getFilePointer 0) ⇒ says (pointer 6)
-    ∷ commit 0 ⇒ says (granted 0)
+    ∷ commits 0 ⇒ says (granted 0)
     ∷ []
 
 -- A Placed offset takes n more at a Write and at a Read.
@@ -382,17 +386,17 @@ unfoldable pub toldMovedTwice : List Exchange
 toldMovedTwice =
     begins
     ++ on 1 (seek 0 4096) ⇒ says plain
-    ∷ commit 1 ⇒ says (granted 0)
+    ∷ commits 1 ⇒ says (granted 0)
     ∷ on 0 (write 0 (A ∷ [])) ⇒ says plain
     ∷ on 0 (seek 0 9) ⇒ says plain
     ∷ on 0 (seek 0 5) ⇒ says plain
     ∷ on 0 (write 0 (B ∷ C ∷ [])) ⇒ says plain
     ∷ on 0 (getFilePointer 0) ⇒ says (pointer 7)
     ∷ on 0 (read 0 1 (dot ∷ [])) ⇒ refusesWith 12 (dot ∷ [])
-    ∷ commit 0 ⇒ says (refused 12)
+    ∷ commits 0 ⇒ says (refused 12)
     ∷ on 2 (seek 0 4095) ⇒ says plain
-    ∷ commit 2 ⇒ says (granted 0)
-    ∷ commit 0 ⇒ says (granted 0)
+    ∷ commits 2 ⇒ says (granted 0)
+    ∷ commits 0 ⇒ says (granted 0)
     ∷ []
 
 -- Settling reaches 4,096.
@@ -400,7 +404,7 @@ unfoldable pub toldLastPlace : List Exchange
 toldLastPlace =
     begins
     ++ on 1 (seek 0 4095) ⇒ says plain
-    ∷ commit 1 ⇒ says (granted 0)
+    ∷ commits 1 ⇒ says (granted 0)
     ∷ on 0 (write 0 (A ∷ [])) ⇒ says plain
     ∷ on 0 (getFilePointer 0) ⇒ says (pointer 4096)
     ∷ []
@@ -410,11 +414,11 @@ unfoldable pub toldUntouched : List Exchange
 toldUntouched =
     begins
     ++ on 1 (seek 1 5) ⇒ says plain
-    ∷ commit 1 ⇒ says (granted 0)
+    ∷ commits 1 ⇒ says (granted 0)
     ∷ on 0 (getFilePointer 1) ⇒ says (pointer 5)
     ∷ on 2 (seek 0 3) ⇒ says plain
-    ∷ commit 2 ⇒ says (granted 0)
-    ∷ commit 0 ⇒ says (granted 0)
+    ∷ commits 2 ⇒ says (granted 0)
+    ∷ commits 0 ⇒ says (granted 0)
     ∷ []
 
 -- Placed is never sighted.
@@ -424,7 +428,7 @@ toldPlacedUnsighted =
     ++ on 0 (seek 0 0) ⇒ says plain
     ∷ on 0 (getFilePointer 0) ⇒ says (pointer 0)
     ∷ on 1 (seek 0 5) ⇒ says plain
-    ∷ commit 1 ⇒ says (granted 0)
+    ∷ commits 1 ⇒ says (granted 0)
     ∷ []
 
 -- Descriptor 15, of file 7 as 7 is, is settled by a Read, set by a Commit and looked at by 12 as any other.
@@ -440,10 +444,10 @@ unfoldable pub toldFifteenSet : List Exchange
 toldFifteenSet =
     toldFifteen
     ++ on 1 (seek 15 4096) ⇒ says plain
-    ∷ commit 1 ⇒ says (granted 1)
-    ∷ commit 0 ⇒ says (refused 13)
+    ∷ commits 1 ⇒ says (granted 1)
+    ∷ commits 0 ⇒ says (refused 13)
     ∷ on 2 (write 15 (B ∷ [])) ⇒ says plain
-    ∷ commit 2 ⇒ says (refused 12)
+    ∷ commits 2 ⇒ says (refused 12)
     ∷ []
 
 -- "A call's sightings are listed settled offsets first, by descriptor, then bytes by place": 0 and 8 stand Deferred.
@@ -473,8 +477,8 @@ toldSettledAlone =
     ∷ on 0 (write 1 (B ∷ [])) ⇒ says plain
     ∷ on 0 (getFilePointer 0) ⇒ says (pointer 1)
     ∷ on 1 (seek 1 4) ⇒ says plain
-    ∷ commit 1 ⇒ says (granted 0)
-    ∷ commit 0 ⇒ says (granted 0)
+    ∷ commits 1 ⇒ says (granted 0)
+    ∷ commits 0 ⇒ says (granted 0)
     ∷ []
 
 -- F-1: "sorted by offset; touching stretches are joined and none is empty": 5 and 6, and 7 through 8, are one stretch, 9 is another, and
@@ -518,12 +522,12 @@ toldOctet =
     ++ on 1 (getFilePointer 0) ⇒ says (pointer 0)
     ∷ on 2 (getFilePointer 0) ⇒ says (pointer 0)
     ∷ on 0 (seek 0 3) ⇒ says plain
-    ∷ commit 0 ⇒ says (granted 6)
+    ∷ commits 0 ⇒ says (granted 6)
     ∷ begin 0 ⇒ says plain
     ∷ on 0 (getFilePointer 0) ⇒ says (pointer 3)
     ∷ begin 7 ⇒ says plain
     ∷ on 7 (seek 0 4) ⇒ says plain
-    ∷ commit 7 ⇒ says (granted 1)
+    ∷ commits 7 ⇒ says (granted 1)
     ∷ []
 
 -- F-8: "A Read that gave fewer bytes than wanted sights the length": T0's gives nothing. T1 writes from place 1 on, so that the length is 2
@@ -540,8 +544,8 @@ toldNothingGivenStale =
     toldNothingGiven
     ++ on 1 (seek 8 1) ⇒ says plain
     ∷ on 1 (write 8 (X ∷ [])) ⇒ says plain
-    ∷ commit 1 ⇒ says (granted 1)
-    ∷ commit 0 ⇒ says (refused 13)
+    ∷ commits 1 ⇒ says (granted 1)
+    ∷ commits 0 ⇒ says (refused 13)
     ∷ []
 
 -- So it does where it ends at an own write.
@@ -559,8 +563,8 @@ toldOwnEndStale =
     toldOwnEnd
     ++ on 1 (seek 8 5) ⇒ says plain
     ∷ on 1 (write 8 (X ∷ [])) ⇒ says plain
-    ∷ commit 1 ⇒ says (granted 1)
-    ∷ commit 0 ⇒ says (refused 13)
+    ∷ commits 1 ⇒ says (granted 1)
+    ∷ commits 0 ⇒ says (refused 13)
     ∷ []
 
 -- A Read that gave all the bytes wanted sights no length: T1 may raise it.
@@ -572,7 +576,7 @@ toldFullRead =
     ∷ on 0 (read 0 2 (dot ∷ dot ∷ [])) ⇒ gives 2 (0 ∷ 0 ∷ [])
     ∷ on 1 (seek 8 2) ⇒ says plain
     ∷ on 1 (write 8 (X ∷ [])) ⇒ says plain
-    ∷ commit 1 ⇒ says (granted 0)
+    ∷ commits 1 ⇒ says (granted 0)
     ∷ []
 
 -- A Read of 0 bytes wanted sights none either, wherever it starts.
@@ -602,7 +606,7 @@ toldBeyond =
 unfoldable pub toldBeyondSet : List Exchange
 toldBeyondSet =
     toldBeyond
-    ++ commit 0 ⇒ says (granted 0)
+    ++ commits 0 ⇒ says (granted 0)
     ∷ []
 
 -- Own writes that have no place yet do not count; a Read places those of its file first.
@@ -627,12 +631,143 @@ toldNotRaised =
     ∷ on 1 (read 8 1 (dot ∷ [])) ⇒ gives 0 (dot ∷ [])
     ∷ on 0 (seek 0 100) ⇒ says plain
     ∷ on 0 (write 0 []) ⇒ says plain
-    ∷ commit 0 ⇒ says (granted 0)
+    ∷ commits 0 ⇒ says (granted 0)
     ∷ on 2 (seek 0 0) ⇒ says plain
     ∷ on 2 (write 0 (A ∷ B ∷ [])) ⇒ says plain
-    ∷ commit 2 ⇒ says (granted 0)
-    ∷ commit 1 ⇒ says (granted 0)
+    ∷ commits 2 ⇒ says (granted 0)
+    ∷ commits 1 ⇒ says (granted 0)
     ∷ []
+
+-- 02, F-11: "start in, end out", at minute 1,439 as at every other; 22 "when a minute is above 1,439". T0's Commit stays open until it is
+-- granted, and its calls are as before; an empty T1 is refused with 22 too.
+unfoldable pub toldWindow : List Exchange
+toldWindow =
+    begins
+    ++ setWindow 0 600 1439 ⇒ says plain
+    ∷ on 0 (seek 0 0) ⇒ says plain
+    ∷ on 0 (write 0 (A ∷ [])) ⇒ says plain
+    ∷ commit 0 1440 ⇒ says (refused 22)
+    ∷ commit 0 1439 ⇒ says (refused 21)
+    ∷ commit 0 599 ⇒ says (refused 21)
+    ∷ on 0 (write 0 (B ∷ [])) ⇒ says plain
+    ∷ commit 0 600 ⇒ says (granted 0)
+    ∷ begin 0 ⇒ says plain
+    ∷ on 0 (write 8 (C ∷ [])) ⇒ says plain
+    ∷ commit 0 1438 ⇒ says (granted 0)
+    ∷ commit 1 1440 ⇒ says (refused 22)
+    ∷ commit 1 1439 ⇒ says (granted 0)
+    ∷ commit 1 1440 ⇒ says (refused 4)
+    ∷ commit 8 1440 ⇒ says (refused 3)
+    ∷ []
+
+-- "a start above the end runs over midnight": from 1,380 to 59, on both sides and at both ends.
+unfoldable pub toldMidnight : List Exchange
+toldMidnight =
+    begins
+    ++ setWindow 0 1380 60 ⇒ says plain
+    ∷ on 0 (write 0 (A ∷ [])) ⇒ says plain
+    ∷ on 1 (write 8 (B ∷ [])) ⇒ says plain
+    ∷ on 2 (write 0 (C ∷ [])) ⇒ says plain
+    ∷ commit 0 60 ⇒ says (refused 21)
+    ∷ commit 0 1379 ⇒ says (refused 21)
+    ∷ commit 0 1380 ⇒ says (granted 0)
+    ∷ commit 1 1439 ⇒ says (granted 0)
+    ∷ commit 2 0 ⇒ says (granted 0)
+    ∷ begin 0 ⇒ says plain
+    ∷ on 0 (write 0 (X ∷ [])) ⇒ says plain
+    ∷ commit 0 59 ⇒ says (granted 0)
+    ∷ []
+
+-- "equal ones mean always open", and each file has its own window: T1 writes to file 1, which nobody closed.
+unfoldable pub toldAlways : List Exchange
+toldAlways =
+    begins
+    ++ setWindow 0 720 720 ⇒ says plain
+    ∷ on 0 (write 0 (A ∷ [])) ⇒ says plain
+    ∷ on 1 (write 1 (B ∷ [])) ⇒ says plain
+    ∷ on 2 (write 8 (C ∷ [])) ⇒ says plain
+    ∷ commit 0 720 ⇒ says (granted 0)
+    ∷ setWindow 0 1 2 ⇒ says plain
+    ∷ commit 1 720 ⇒ says (granted 0)
+    ∷ commit 2 720 ⇒ says (refused 21)
+    ∷ setWindow 0 1439 1439 ⇒ says plain
+    ∷ commit 2 719 ⇒ says (granted 0)
+    ∷ []
+
+-- 22 "after 4 in Commit", before 13: T0 is stale, is refused with 22, and is open and stale still: "A Commit refused with 21 or 22 keeps
+-- its transaction open." 21 "after 13": at a minute of the day it is refused with 13, though it has a byte for a closed file, and ends.
+unfoldable pub toldBadMinute : List Exchange
+toldBadMinute =
+    begins
+    ++ on 0 (getFilePointer 0) ⇒ says (pointer 0)
+    ∷ on 0 (write 0 (A ∷ [])) ⇒ says plain
+    ∷ on 1 (seek 0 5) ⇒ says plain
+    ∷ commits 1 ⇒ says (granted 1)
+    ∷ setWindow 0 1 2 ⇒ says plain
+    ∷ commit 0 1440 ⇒ says (refused 22)
+    ∷ on 0 (getFilePointer 0) ⇒ says (refused 18)
+    ∷ commit 0 3 ⇒ says (refused 13)
+    ∷ commit 0 3 ⇒ says (refused 4)
+    ∷ []
+
+-- 21 "before 12": T1's append goes past the file's end. It has no place yet and is looked at all the same.
+unfoldable pub toldClosedFirst : List Exchange
+toldClosedFirst =
+    begins
+    ++ on 0 (seek 0 4096) ⇒ says plain
+    ∷ commits 0 ⇒ says (granted 0)
+    ∷ on 1 (write 0 (A ∷ [])) ⇒ says plain
+    ∷ setWindow 0 1 2 ⇒ says plain
+    ∷ commit 1 3 ⇒ says (refused 21)
+    ∷ commit 1 1 ⇒ says (refused 12)
+    ∷ commit 1 3 ⇒ says (refused 21)
+    ∷ []
+
+-- "21 when a byte would go to a closed file": a write of 0 bytes passes, and so does an offset set in a closed file.
+unfoldable pub toldNoByte : List Exchange
+toldNoByte =
+    begins
+    ++ setWindow 0 1 2 ⇒ says plain
+    ∷ on 0 (seek 0 9) ⇒ says plain
+    ∷ on 0 (write 0 []) ⇒ says plain
+    ∷ commit 0 3 ⇒ says (granted 0)
+    ∷ []
+
+-- Setting: 6 before 22, 22 for the start and for the end. A refused one sets nothing.
+unfoldable pub toldSetting : List Exchange
+toldSetting =
+    begins
+    ++ setWindow 8 1440 1440 ⇒ says (refused 6)
+    ∷ setWindow 0 1440 2 ⇒ says (refused 22)
+    ∷ setWindow 0 1 1440 ⇒ says (refused 22)
+    ∷ on 0 (write 0 (A ∷ [])) ⇒ says plain
+    ∷ commit 0 3 ⇒ says (granted 0)
+    ∷ setWindow 7 1439 0 ⇒ says plain
+    ∷ on 1 (write 15 (A ∷ [])) ⇒ says plain
+    ∷ commit 1 0 ⇒ says (refused 21)
+    ∷ commit 1 1439 ⇒ says (granted 0)
+    ∷ []
+
+-- A window set while T0 is open counts at its Commit, and makes nobody stale.
+unfoldable pub toldMeanwhile : List Exchange
+toldMeanwhile =
+    begins
+    ++ on 0 (getFilePointer 0) ⇒ says (pointer 0)
+    ∷ on 0 (write 0 (A ∷ [])) ⇒ says plain
+    ∷ setWindow 0 600 700 ⇒ says plain
+    ∷ on 0 (getFilePointer 0) ⇒ says (pointer 1)
+    ∷ commit 0 5 ⇒ says (refused 21)
+    ∷ setWindow 0 0 0 ⇒ says plain
+    ∷ commit 0 5 ⇒ says (granted 0)
+    ∷ []
+
+-- "the serial order runs with Fresh's windows": file 0 is closed at the start, is opened, and T0 is granted; run again from the windows
+-- found it would be refused with 21.
+unfoldable pub closedAtStart : Plain
+closedAtStart = startPlain (λ d. 0) (λ i. 0) (λ f. window 1 2)
+
+unfoldable pub openedThen : List Call
+openedThen = setWindow 0 0 0 ∷ begin 0 ∷ on 0 (write 0 (A ∷ [])) ∷ commit 0 5 ∷ []
 
 -- What situations k and l and the corners come to, together.
 pub record Corners (x : Seen) : Type 0 where
@@ -672,7 +807,8 @@ pub record Corners (x : Seen) : Type 0 where
   pub log : Goes x toldLog
   pub overlap : Goes x toldOverlap × (beginning (x .value (callsOf toldOverlap)) 0 3 ≡ A ∷ C ∷ X ∷ [])
   pub twoAppends :
-      Goes x toldTwoAppends × (beginning (x .value (callsOf toldTwoAppends)) 0 2 ≡ A ∷ B ∷ []) × (x .value (callsOf toldTwoAppends) (offset 0) ≡ 2)
+      Goes x toldTwoAppends × (beginning (x .value (callsOf toldTwoAppends)) 0 2 ≡ A ∷ B ∷ [])
+      × (x .value (callsOf toldTwoAppends) (offset 0) ≡ 2)
   pub otherFile : Goes x toldOtherFile
   pub known :
       Goes x toldKnown
@@ -739,3 +875,14 @@ pub record Corners (x : Seen) : Type 0 where
       × (ownEnd (λ d. 0) 0 (ownWrite (At 3) []) ≡ 0)
       × (ownEnd (λ d. 0) 1 (ownWrite (At 3) (A ∷ B ∷ [])) ≡ 0)
   pub notRaised : Goes x toldNotRaised × (x .value (callsOf toldNotRaised) (fileLength 0) ≡ 2)
+  pub window : Goes x toldWindow × (beginning (x .value (callsOf toldWindow)) 0 3 ≡ C ∷ B ∷ 0 ∷ [])
+  pub midnight : Goes x toldMidnight × (beginning (x .value (callsOf toldMidnight)) 0 3 ≡ B ∷ C ∷ X ∷ [])
+  pub alwaysOpen : Goes x toldAlways
+  pub badMinute : Goes x toldBadMinute
+  pub closedFirst : Goes x toldClosedFirst × (x .value (callsOf toldClosedFirst) (fileLength 0) ≡ 0)
+  pub noByte : Goes x toldNoByte × (x .value (callsOf toldNoByte) (offset 0) ≡ 9) × (x .value (callsOf toldNoByte) (fileLength 0) ≡ 0)
+  pub setting : Goes x toldSetting
+  pub meanwhile : Goes x toldMeanwhile
+  pub freshWindows :
+      let gs = grantsOf openedThen closedAtStart in
+      (length gs ≡ 1) × (plainReplies (rerun gs) (serialStart closedAtStart) ≡ sameReplies gs)

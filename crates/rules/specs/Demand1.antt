@@ -1,8 +1,10 @@
 -- Demand 1, beside its wording: "Every call .. ends in its result or one of fourteen refusals (02 adds more), each under its written
--- condition only. A refusal changes no buffer and no record, save that a commit refused as stale (13) ends its transaction as an abort does."
--- (The conditions are those of the rules: ranges/specs/Ranges.antt, Steps.antt, Commits.antt.)
+-- condition only. A refusal changes no buffer and no record, save that a commit refused as stale (13) ends its transaction as an abort
+-- does." (The conditions are those of the rules: ranges/specs/Ranges.antt, Steps.antt, Commits.antt.)
+use mathlib.Core.Bool.{Bool, true, not, _&&_}
 use mathlib.Core.List.{List}
 use mathlib.Core.Path.{_≡_}
+use lib.Dec.{leb}
 use Prim.Native.Nat.{ℕ, _≤_}
 use Rattle.record.specs.declared.outcomes.Refusal.the-variants.{Stale}
 use Rattle.record.specs.declared.outcomes.Outcome.{Outcome}
@@ -12,9 +14,12 @@ use Rattle.rules.specs.Machine.{Machine}
 use Rattle.rules.specs.Calls.{fresh, call}
 use Rattle.rules.specs.Promises.{Meets}
 
--- The numbers of the refusals.
+-- The numbers of the refusals; 19 and 20 are of a request that comes later.
+abbrev pub isNumber : ℕ → Bool
+isNumber n = leb n refusals && not (leb 19 n && leb n 20)
+
 abbrev pub IsRefusal : ℕ → Type 0
-IsRefusal n = (1 ≤ n) × (n ≤ refusals)
+IsRefusal n = (1 ≤ n) × (isNumber n ≡ true)
 
 -- On any record and any buffers m, with any numbers.
 pub record Demand1On (m : Machine) : Type 0 where
@@ -29,7 +34,7 @@ pub record Demand1On (m : Machine) : Type 0 where
   -- "save that a commit refused as stale (13) ends its transaction as an abort does"
   pub ends :
       (c : Call) → call c m .reply .answer ≡ refused (number Stale)
-      → (t : ℕ) × (c ≡ commit t) × (call c m .after ≡ call (abort t) m .after)
+      → (t : ℕ) × (minute : ℕ) × (c ≡ commit t minute) × (call c m .after ≡ call (abort t) m .after)
 
 -- Demand 1 about the rules.
 abbrev pub Demand1 : Type 0
@@ -39,7 +44,7 @@ Demand1 = (m : Machine) → Demand1On m
 pub record RefusedByCode (c : Call) (m : Machine) (n : ℕ) (after : Machine) (reader : List ℕ) : Type 0 where
   pub known : IsRefusal n
   pub leaves : (n ≡ number Stale → ⊥) → (after ≡ m) × (reader ≡ bufferOfCall c)
-  pub ends : n ≡ number Stale → (t : ℕ) × (c ≡ commit t) × (after ≡ call (abort t) m .after)
+  pub ends : n ≡ number Stale → (t : ℕ) × (minute : ℕ) × (c ≡ commit t minute) × (after ≡ call (abort t) m .after)
 
 abbrev pub Demand1OfCode : Type 0
 Demand1OfCode =

@@ -8,15 +8,16 @@ use lib.ListN.{getD}
 use Prim.Native.Nat.{ℕ, _≤_, _<_}
 use Rattle.octets.specs.Marks.{contains}
 use Rattle.record.specs.declared.outcomes.Outcome.{Outcome}
-use Rattle.record.specs.declared.outcomes.Refusal.the-variants.{Stale}
+use Rattle.record.specs.declared.outcomes.Refusal.the-variants.{Stale, NoSuchMinute}
 use Rattle.record.specs.State.{transaction}
 use Rattle.record.specs.Paper.{number, plain, granted, refused, said}
 use Rattle.rules.specs.Messages.{Op, Call, on, commit, Reply}
 use Rattle.rules.specs.Transactions.{empty}
 use Rattle.rules.specs.Steps.{looks}
 use Rattle.rules.specs.Lone.{Lone, lone}
-use Rattle.rules.specs.Plain.{Slot, closed, running, Running, Plain, ops, freshPlain, plainCall, plainAfter, plainReplies, firstList, secondList, becameStale}
-use Rattle.rules.specs.Grants.{grantsOf, rerun, sameReplies}
+use Rattle.rules.specs.Plain.{Slot, closed, running, Running, Plain, ops, freshPlain, plainCall, plainAfter, plainReplies}
+use Rattle.rules.specs.Plain.{firstList, secondList, becameStale}
+use Rattle.rules.specs.Grants.{grantsOf, rerun, sameReplies, serialStart}
 use Rattle.rules.specs.Machine.{Machine, values}
 use Rattle.rules.specs.Calls.{fresh, call, callsAfter, callsReplies}
 use Rattle.rules.specs.Promises.{Meets}
@@ -56,22 +57,25 @@ pub record Holds (m₀ : Machine) (p₀ : Plain) (cs : List Call) (m : Machine) 
   -- A transaction is open in the store exactly when it is on the plain machine.
   pub openness : (t : ℕ) → t ≤ 7 → transaction (m .store) t .begun ≡ isRunning (p .slots t)
   -- "a commit by an open transaction is not refused as stale EXACTLY when its two lists of sightings on 01's plain machine are
-  -- equal"
+  -- equal". 02, F-11: "A Commit refused with 22 stands outside the comparison of the two lists."
   pub staleness :
-      (t : ℕ) (r : Running) → t ≤ 7 → p .slots t ≡ running r
-      → (call (commit t) m .reply .answer ≡ refused (number Stale) → ⊥) ↔ (firstList r ≡ secondList p r)
+      (t minute : ℕ) (r : Running) → t ≤ 7 → p .slots t ≡ running r
+      → (call (commit t minute) m .reply .answer ≡ refused (number NoSuchMinute) → ⊥)
+      → (call (commit t minute) m .reply .answer ≡ refused (number Stale) → ⊥) ↔ (firstList r ≡ secondList p r)
   -- F-4, "an octet with bit t (worth 2 to the power t) for each transaction that this commit made stale and that was not so before":
   -- bit u is 1 exactly for "the other open ones whose two lists were equal before that commit and aren't after it".
   pub octet :
-      (t n : ℕ) → call (commit t) m .reply .answer ≡ granted n
-      → (n < 256) × ((u : ℕ) → u < 8 → contains n u ≡ becameStale t p (plainCall (commit t) p .after) u)
+      (t minute n : ℕ) → call (commit t minute) m .reply .answer ≡ granted n
+      → (n < 256) × ((u : ℕ) → u < 8 → contains n u ≡ becameStale t p (plainCall (commit t minute) p .after) u)
   -- "the granted transactions, run again alone in grant order from the same fresh state with all their accepted calls, meet no
   -- refusal, give the same answers and bytes": the list of calls that does so gives on the plain machine the replies that they had.
-  pub again : plainReplies (rerun (grantsOf cs p₀)) p₀ ≡ sameReplies (grantsOf cs p₀)
+  -- F-11: "the serial order runs with Fresh's windows".
+  pub again : plainReplies (rerun (grantsOf cs p₀)) (serialStart p₀) ≡ sameReplies (grantsOf cs p₀)
   -- "and leave the same files and offsets"; 02, F-8: "Lengths join .. what serial order compares": files, offsets and lengths.
-  pub left : values (m .store) (m .files) ≡ plainAfter (rerun (grantsOf cs p₀)) p₀ .committed .value
+  pub left : values (m .store) (m .files) ≡ plainAfter (rerun (grantsOf cs p₀)) (serialStart p₀) .committed .value
   -- F-7, "each accepted Read and GetFilePointer, in transactions that later abort as well, gives the answer and the bytes that its
-  -- transaction's accepted calls up to it give, run alone on the committed files and offsets of that moment": of the next call, whatever it is.
+  -- transaction's accepted calls up to it give, run alone on the committed files and offsets of that moment": of the next call, whatever
+  -- it is.
   pub moment :
       (t : ℕ) (o : Op) → looks o ≡ true → IsAccepted (call (on t o) m .reply) → OneMoment p t o (call (on t o) m .reply)
   -- "A store reached from Fresh by these calls never meets 2": nor 1, while the caller lends the same buffers.

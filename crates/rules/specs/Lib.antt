@@ -12,7 +12,9 @@ pub mod Steps
 pub mod Commits
 -- What a transaction's writes cover (paper 02, F-1).
 pub mod Coverage
--- The store: the record and its buffers, the rules of the nine calls, and how promises cite them.
+-- Which Commits have a byte for a closed file (paper 02, F-11; when a file is open is windows/specs/Hours.antt).
+pub mod Windows
+-- The store: the record and its buffers, the rules of the ten calls, and how promises cite them.
 pub mod Machine
 pub mod Calls
 pub mod Promises
@@ -27,6 +29,7 @@ pub mod Demand3
 pub mod Age
 pub mod Buffers
 pub mod Lengths
+pub mod Closed
 -- The situations and corners of paper 01.
 pub mod Setup
 pub mod Situations

@@ -11,13 +11,14 @@ pub data Op : Type 0 where
   read : ℕ → ℕ → List ℕ → Op
 
 -- "Begin, Seek, Write, GetFilePointer, Read, Commit and Abort calls", each with its transaction number; and F-1's, with a file and
--- the buffer for the list.
+-- the buffer for the list. 02, F-11: "Commit takes the minute", and "A call sets a window": a file, its start and its end.
 pub data Call : Type 0 where
   begin : ℕ → Call
   on : ℕ → Op → Call
-  commit : ℕ → Call
+  commit : ℕ → ℕ → Call
   abort : ℕ → Call
   places : ℕ → ℕ → List ℕ → Call
+  setWindow : ℕ → ℕ → ℕ → Call
 
 -- The reader's buffer of a call, or that for its list; empty where it has none.
 unfoldable pub bufferOf : Op → List ℕ
@@ -29,9 +30,10 @@ bufferOf (read d n buffer) = buffer
 unfoldable pub bufferOfCall : Call → List ℕ
 bufferOfCall (begin t) = []
 bufferOfCall (on t o) = bufferOf o
-bufferOfCall (commit t) = []
+bufferOfCall (commit t minute) = []
 bufferOfCall (abort t) = []
 bufferOfCall (places t f out) = out
+bufferOfCall (setWindow f start end) = []
 
 -- What a call gives: its answer, and the reader's buffer after it (empty where it has none).
 pub record Reply : Type 0 where

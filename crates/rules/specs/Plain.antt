@@ -3,15 +3,18 @@ use mathlib.Core.Bool.{Bool, false, cond, not, _&&_}
 use mathlib.Core.List.{List, [], _∷_, _++_, map}
 use lib.Dec.{leb, eqb}
 use Prim.Native.Nat.{ℕ, zero, suc, _+_}
+use Rattle.windows.specs.Hours.{minuteIn, window, Windows, freshWindows}
 use Rattle.octets.specs.Bits.{bitsOf}
 use Rattle.record.specs.declared.outcomes.Refusal.the-variants.{Stale}
 use Rattle.record.specs.Paper.{number, Said, plain, granted, refused}
-use Rattle.ranges.specs.Below.{guarded}
-use Rattle.rules.specs.Messages.{Op, bufferOf, Call, begin, on, commit, abort, places, Reply}
+use Rattle.ranges.specs.Below.{guarded, isNone}
+use Rattle.ranges.specs.Ranges.{windowRefusal}
+use Rattle.rules.specs.Messages.{Op, bufferOf, Call, begin, on, commit, abort, places, setWindow, Reply}
 use Rattle.rules.specs.Items.{Values, result, asked}
 use Rattle.rules.specs.Transactions.{Txn, empty, put}
 use Rattle.rules.specs.Steps.{Stepped, refuse, accept, step, turnedBack}
 use Rattle.rules.specs.Coverage.{placesOf}
+use Rattle.rules.specs.Windows.{forClosed}
 use Rattle.rules.specs.Commits.{settings, fits, landed, setBy, commitRefusal}
 use Rattle.rules.specs.Sightings.{Entry, sameEntries, Committed, entries}
 use Rattle.rules.specs.Lone.{lone}
@@ -39,20 +42,29 @@ pub data Slot : Type 0 where
   running : Running → Slot
 
 -- "It holds these, a count of grants from 0, and for each open transaction its accepted calls, standings, writes and sightings."
+-- 02, F-11: "the plain machine holds the windows".
 pub record Plain : Type 0 where
   pub fileOf : ℕ → ℕ
   pub committed : Committed
   pub grants : ℕ
+  pub windows : Windows
   pub slots : ℕ → Slot
 
--- The machine with these committed values and nothing open, counting its grants from here on.
-unfoldable pub startPlain : (ℕ → ℕ) → Values → Plain
-startPlain fileOf v = record { fileOf = fileOf; committed = record { value = v; setter = λ i. 0 }; grants = 0; slots = λ t. closed }
+-- The machine with these committed values, these windows and nothing open, counting its grants from here on.
+unfoldable pub startPlain : (ℕ → ℕ) → Values → Windows → Plain
+startPlain fileOf v windows =
+    record {
+      fileOf = fileOf;
+      committed = record { value = v; setter = λ i. 0 };
+      grants = 0;
+      windows = windows;
+      slots = λ t. closed;
+    }
 
 -- "starts with the files, each descriptor's file, the offsets and the setters that an accepted Fresh gives"; 02, F-8: "Lengths join what
--- the plain machine holds".
+-- the plain machine holds". F-11: "Fresh sets all to 0 and 0."
 abbrev pub freshPlain : (ℕ → ℕ) → Plain
-freshPlain fileOf = startPlain fileOf (λ i. 0)
+freshPlain fileOf = startPlain fileOf (λ i. 0) freshWindows
 
 unfoldable pub ops : List Accepted → List Op
 ops = map (λ a. a .op)
@@ -80,10 +92,16 @@ turnedDown n buffer p = record { reply = record { answer = refused n; buffer = b
 
 -- The machine with another transaction as number t, or with what a grant leaves committed.
 unfoldable pub withSlot : ℕ → Slot → Plain → Plain
-withSlot t s p = record { fileOf = p .fileOf; committed = p .committed; grants = p .grants; slots = put t s (p .slots) }
+withSlot t s p =
+    record { fileOf = p .fileOf; committed = p .committed; grants = p .grants; windows = p .windows; slots = put t s (p .slots) }
 
 abbrev pub withGrant : Committed → Plain → Plain
-withGrant c p = record { fileOf = p .fileOf; committed = c; grants = p .grants + 1; slots = p .slots }
+withGrant c p = record { fileOf = p .fileOf; committed = c; grants = p .grants + 1; windows = p .windows; slots = p .slots }
+
+-- 02, F-11: "setting one changes nothing else in it".
+abbrev pub withWindows : Windows → Plain → Plain
+withWindows windows p =
+    record { fileOf = p .fileOf; committed = p .committed; grants = p .grants; windows = windows; slots = p .slots }
 
 unfoldable pub answering : Said → Plain → PlainTurn
 answering a p = record { reply = record { answer = a; buffer = [] }; after = p }
@@ -143,9 +161,12 @@ plainCommitted t r p (suc n) =
       after = cond (eqb (suc n) (number Stale)) (withSlot t closed p) p;
     }
 
-unfoldable pub plainCommit : ℕ → Slot → Plain → PlainTurn
-plainCommit t closed p = turnedDown 4 [] p
-plainCommit t (running r) p = plainCommitted t r p (commitRefusal (isStale p r) (fits (p .committed .value) (r .txn)))
+unfoldable pub plainCommit : ℕ → ℕ → Slot → Plain → PlainTurn
+plainCommit t minute closed p = turnedDown 4 [] p
+plainCommit t minute (running r) p =
+    let x = r .txn in
+    plainCommitted t r p
+    (commitRefusal (minuteIn minute) (isStale p r) (forClosed (p .fileOf) (p .windows) minute (x .writes)) (fits (p .committed .value) x))
 
 unfoldable pub plainAbort : ℕ → Slot → Plain → PlainTurn
 plainAbort t closed p = turnedDown 4 [] p
@@ -156,6 +177,13 @@ unfoldable pub plainPlaces : ℕ → List ℕ → Slot → Plain → PlainTurn
 plainPlaces f out closed p = turnedDown 4 out p
 plainPlaces f out (running r) p = record { reply = placesOf (p .fileOf) f out (r .txn); after = p }
 
+-- F-11: a window is set, after 6 and 22.
+unfoldable pub plainSetWindow : ℕ → ℕ → ℕ → Plain → PlainTurn
+plainSetWindow f start end p =
+    let n = windowRefusal f start end in
+    guarded (λ k. turnedDown k [] p) (isNone n) n
+    (answering plain (withWindows (put f (window start end) (p .windows)) p))
+
 -- 3: "transaction number above 7"
 unfoldable pub numbered : ℕ → List ℕ → (Slot → Plain → PlainTurn) → Plain → PlainTurn
 numbered t buffer next p = guarded (λ n. turnedDown n buffer p) (leb t 7) 3 (next (p .slots t) p)
@@ -163,9 +191,10 @@ numbered t buffer next p = guarded (λ n. turnedDown n buffer p) (leb t 7) 3 (ne
 unfoldable pub plainCall : Call → Plain → PlainTurn
 plainCall (begin t) p = numbered t [] (plainBegin t) p
 plainCall (on t o) p = numbered t (bufferOf o) (plainOn t o) p
-plainCall (commit t) p = numbered t [] (plainCommit t) p
+plainCall (commit t minute) p = numbered t [] (plainCommit t minute) p
 plainCall (abort t) p = numbered t [] (plainAbort t) p
 plainCall (places t f out) p = numbered t out (plainPlaces f out) p
+plainCall (setWindow f start end) p = plainSetWindow f start end p
 
 -- A list of calls: the machine after it, and its replies.
 unfoldable pub plainAfter : List Call → Plain → Plain

@@ -7,7 +7,7 @@ use Rattle.octets.specs.Bits.{countOf}
 use Rattle.octets.specs.Marks.{contains}
 use Rattle.record.specs.Paper.{Said, plain, pointer, given, granted, pairs, refused}
 use Rattle.rules.specs.Items.{Item, byte, Values}
-use Rattle.rules.specs.Messages.{Call, begin, Reply, says}
+use Rattle.rules.specs.Messages.{Call, begin, commit, Reply, says}
 use Rattle.rules.specs.Sightings.{Entry}
 use Rattle.rules.specs.Plain.{Slot, closed, running, Plain, freshPlain, plainReplies, plainAfter}
 use Rattle.rules.specs.Machine.{Machine, values}
@@ -64,6 +64,10 @@ formerNumbers (e ∷ es) = formerIn (e .reply .answer) ++ formerNumbers es
 -- "T0 to T2 are begun."
 unfoldable pub begins : List Exchange
 begins = begin 0 ⇒ says plain ∷ begin 1 ⇒ says plain ∷ begin 2 ⇒ says plain ∷ []
+
+-- Commit of t at minute 0: Fresh's windows are open at every minute, so where none is set it tells nothing.
+abbrev pub commits : ℕ → Call
+commits t = commit t 0
 
 -- n committed bytes from a place of the files buffer on.
 unfoldable pub committedBytes : Values → ℕ → ℕ → List ℕ

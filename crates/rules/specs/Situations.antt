@@ -5,15 +5,16 @@ use lib.ListN.{replicate}
 use Prim.Native.Nat.{ℕ}
 use Rattle.record.specs.Paper.{plain, pointer, granted, refused}
 use Rattle.rules.specs.Items.{offset}
-use Rattle.rules.specs.Messages.{seek, write, getFilePointer, read, begin, on, commit, Reply, says}
-use Rattle.rules.specs.Setup.{Seen, Exchange, _⇒_, callsOf, Goes, formerNumbers, sighted, beginning, sightingsOf, gives, begins, A, B, C, D, Q, X, Y, Z, dot}
+use Rattle.rules.specs.Messages.{seek, write, getFilePointer, read, begin, on, Reply, says}
+use Rattle.rules.specs.Setup.{Seen, Exchange, _⇒_, commits, callsOf, Goes, formerNumbers, sighted, beginning, sightingsOf, gives}
+use Rattle.rules.specs.Setup.{begins, A, B, C, D, Q, X, Y, Z, dot}
 
 -- 02, F-8: "Situations d, e and k get a first commit that fills the file with zeros": T7's, through descriptor 0.
 unfoldable pub filled : List Exchange
 filled =
     begin 7 ⇒ says plain
     ∷ on 7 (write 0 (replicate 4096 0)) ⇒ says plain
-    ∷ commit 7 ⇒ says (granted 0)
+    ∷ commits 7 ⇒ says (granted 0)
     ∷ []
 
 -- a "T0 writes AB, T1 writes CD, both on 0. Commit T1, T0: both answer 0. File 0 begins CDAB, offset 4."
@@ -22,8 +23,8 @@ toldA =
     begins
     ++ on 0 (write 0 (A ∷ B ∷ [])) ⇒ says plain
     ∷ on 1 (write 0 (C ∷ D ∷ [])) ⇒ says plain
-    ∷ commit 1 ⇒ says (granted 0)
-    ∷ commit 0 ⇒ says (granted 0)
+    ∷ commits 1 ⇒ says (granted 0)
+    ∷ commits 0 ⇒ says (granted 0)
     ∷ []
 
 -- b "T0 GetFilePointer on 0: 0. T1 writes A on 0, commits: 1. Commit T0: 13."
@@ -32,8 +33,8 @@ toldB =
     begins
     ++ on 0 (getFilePointer 0) ⇒ says (pointer 0)
     ∷ on 1 (write 0 (A ∷ [])) ⇒ says plain
-    ∷ commit 1 ⇒ says (granted 1)
-    ∷ commit 0 ⇒ says (refused 13)
+    ∷ commits 1 ⇒ says (granted 1)
+    ∷ commits 0 ⇒ says (refused 13)
     ∷ []
 
 -- c "T0 on 0: Seek 0, write AB, Seek 0, read 2: AB. T1 on 8: Seek 0, write XY, commit: 0. T0 commits; file begins AB."
@@ -46,8 +47,8 @@ toldC =
     ∷ on 0 (read 0 2 (dot ∷ dot ∷ dot ∷ [])) ⇒ gives 2 (A ∷ B ∷ dot ∷ [])
     ∷ on 1 (seek 8 0) ⇒ says plain
     ∷ on 1 (write 8 (X ∷ Y ∷ [])) ⇒ says plain
-    ∷ commit 1 ⇒ says (granted 0)
-    ∷ commit 0 ⇒ says (granted 0)
+    ∷ commits 1 ⇒ says (granted 0)
+    ∷ commits 0 ⇒ says (granted 0)
     ∷ []
 
 -- d "As c, but T0 reads 3 and T1 writes Z at 2: T1 answers 1, T0 13. With Z at 3: 0, and T0 passes." The place of Z is p.
@@ -61,8 +62,8 @@ toldD p ofT1 ofT0 =
     ∷ on 0 (read 0 3 (dot ∷ dot ∷ dot ∷ [])) ⇒ gives 3 (A ∷ B ∷ 0 ∷ [])
     ∷ on 1 (seek 8 p) ⇒ says plain
     ∷ on 1 (write 8 (Z ∷ [])) ⇒ says plain
-    ∷ commit 1 ⇒ ofT1
-    ∷ commit 0 ⇒ ofT0
+    ∷ commits 1 ⇒ ofT1
+    ∷ commits 0 ⇒ ofT0
     ∷ []
 
 -- e "T0 on 0: Seek 0, read 1. T1 writes byte 0 with value 0 on 8 after Seek 0: commit 1, T0 13."
@@ -74,8 +75,8 @@ toldE =
     ∷ on 0 (read 0 1 (dot ∷ [])) ⇒ gives 1 (0 ∷ [])
     ∷ on 1 (seek 8 0) ⇒ says plain
     ∷ on 1 (write 8 (0 ∷ [])) ⇒ says plain
-    ∷ commit 1 ⇒ says (granted 1)
-    ∷ commit 0 ⇒ says (refused 13)
+    ∷ commits 1 ⇒ says (granted 1)
+    ∷ commits 0 ⇒ says (refused 13)
     ∷ []
 
 -- f "T0 on 0: write A, Seek 0, read 1: A. T1 on 0: Seek 5, commit: 1. T0 13."
@@ -86,8 +87,8 @@ toldF =
     ∷ on 0 (seek 0 0) ⇒ says plain
     ∷ on 0 (read 0 1 (dot ∷ [])) ⇒ gives 1 (A ∷ [])
     ∷ on 1 (seek 0 5) ⇒ says plain
-    ∷ commit 1 ⇒ says (granted 1)
-    ∷ commit 0 ⇒ says (refused 13)
+    ∷ commits 1 ⇒ says (granted 1)
+    ∷ commits 0 ⇒ says (refused 13)
     ∷ []
 
 -- g "T0 writes Q on 8; on 0 Seek 0, read 1: Q; one sighting, the offset of 8."
@@ -104,12 +105,12 @@ unfoldable pub toldH : List Exchange
 toldH =
     begins
     ++ on 0 (seek 0 4096) ⇒ says plain
-    ∷ commit 0 ⇒ says (granted 0)
+    ∷ commits 0 ⇒ says (granted 0)
     ∷ on 1 (write 0 (A ∷ [])) ⇒ says plain
-    ∷ commit 1 ⇒ says (refused 12)
+    ∷ commits 1 ⇒ says (refused 12)
     ∷ on 2 (seek 0 0) ⇒ says plain
-    ∷ commit 2 ⇒ says (granted 0)
-    ∷ commit 1 ⇒ says (granted 0)
+    ∷ commits 2 ⇒ says (granted 0)
+    ∷ commits 1 ⇒ says (granted 0)
     ∷ []
 
 -- i "T0 on 0: write A, Seek 9, GetFilePointer 9. T1 on 0: Seek 4, commit: 0. T0 commits: A at 4, offset 9."
@@ -120,8 +121,8 @@ toldI =
     ∷ on 0 (seek 0 9) ⇒ says plain
     ∷ on 0 (getFilePointer 0) ⇒ says (pointer 9)
     ∷ on 1 (seek 0 4) ⇒ says plain
-    ∷ commit 1 ⇒ says (granted 0)
-    ∷ commit 0 ⇒ says (granted 0)
+    ∷ commits 1 ⇒ says (granted 0)
+    ∷ commits 0 ⇒ says (granted 0)
     ∷ []
 
 -- j "T0 and T1 each GetFilePointer on 0."; 02, F-2: "In j both commits answer 0."
@@ -130,8 +131,8 @@ toldJ =
     begins
     ++ on 0 (getFilePointer 0) ⇒ says (pointer 0)
     ∷ on 1 (getFilePointer 0) ⇒ says (pointer 0)
-    ∷ commit 0 ⇒ says (granted 0)
-    ∷ commit 1 ⇒ says (granted 0)
+    ∷ commits 0 ⇒ says (granted 0)
+    ∷ commits 1 ⇒ says (granted 0)
     ∷ []
 
 -- k "Seek 4,096 passes, 4,097 is 8. At 4,096 a write of 1 is 9, of 0 passes. From 4,095 a read of 2 gives 1."

@@ -9,7 +9,7 @@ use Rattle.standings.specs.declared.Place.the-variants.{At, After}
 use Rattle.record.specs.declared.Store.{Store}
 use Rattle.record.specs.declared.journal.WriteRecord.{WriteRecord}
 use Rattle.record.specs.Journal.{writeRecordAt, withRecordAt}
-use Rattle.record.specs.Layout.{storeOf, journalOf}
+use Rattle.record.specs.Layout.{storeOf, journalOf, recordLength}
 use Rattle.record.proofs.JournalLaws.{length-with-at, with-own, with-none, with-more, with-same, with-own-records, read-next}
 use Rattle.record.proofs.LayoutLaws.{length-journal, journal-with-record, store-with-record}
 use Rattle.rules.specs.Transactions.{placedAt}
@@ -41,7 +41,7 @@ module _ (chosen : List Bool) (offsets : List ℕ) (w : WriteRecord) where
 
 -- ---- the records of a transaction
 
-module _ (chosen : List Bool) (t : ℕ) (before : List ℕ) (long : length before ≡ 2088) where
+module _ (chosen : List Bool) (t : ℕ) (before : List ℕ) (long : length before ≡ recordLength) where
   pub placed-none : PlacedIn chosen t 0 before before
   unfolding placedRecords
   placed-none = record { journal = sym (with-none (journalOf before) t _); store = refl; long = long }

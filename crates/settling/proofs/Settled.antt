@@ -16,7 +16,7 @@ use Rattle.record.specs.declared.Store.{Store}
 use Rattle.record.specs.declared.journal.WriteRecord.{WriteRecord}
 use Rattle.record.specs.State.{transaction, standingAt, dirtyAt, noDescriptor, withDescriptors, withTransaction}
 use Rattle.record.specs.Journal.{writeRecordAt}
-use Rattle.record.specs.Layout.{storeOf, journalOf}
+use Rattle.record.specs.Layout.{storeOf, journalOf, recordLength}
 use Rattle.record.proofs.JournalLaws.{with-same, read-own}
 use Rattle.ranges.specs.Ranges.{lengthsBefore}
 use Rattle.ranges.proofs.Laws.{sum-same, record-in, place-end}
@@ -38,7 +38,7 @@ module _ (s : Store) (journal logs : List ℕ) (t : ℕ) (o : Opened s journal l
       omega (arith, record-in (transaction s t) (writeRecordAt journal t k) (o .ranges .writes k h) .descriptor)
 
 module _ (kept logs : List ℕ) (t : ℕ) (o : Opened (storeOf kept) (journalOf kept) logs t) where
-  pub placeable : (n : ℕ) → n ≡ transaction (storeOf kept) t .used .records → length kept ≡ 2088 → ((e : ℕ) → e < 16 → getD (storeOf kept .offsets) e 0 ≤ 4096) → Placeable kept t n
+  pub placeable : (n : ℕ) → n ≡ transaction (storeOf kept) t .used .records → length kept ≡ recordLength → ((e : ℕ) → e < 16 → getD (storeOf kept .offsets) e 0 ≤ 4096) → Placeable kept t n
   placeable n e long low =
       record {
         long = long;

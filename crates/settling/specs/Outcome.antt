@@ -6,7 +6,7 @@ use lib.ListN.{length}
 use Prim.Native.Nat.{ℕ}
 use Rattle.record.specs.declared.Transaction.{Transaction}
 use Rattle.record.specs.State.{withTransaction}
-use Rattle.record.specs.Layout.{storeOf, journalOf}
+use Rattle.record.specs.Layout.{storeOf, journalOf, recordLength}
 use Rattle.settling.specs.declared.settle.Verdict.{Verdict}
 use Rattle.settling.specs.declared.settle.Verdict.the-variants.{Settled, Past}
 use Rattle.settling.specs.Choices.{settledTransaction, settlingOf}
@@ -18,4 +18,4 @@ pub record SettledIn (chosen : List Bool) (t : ℕ) (x : Transaction) (before af
   pub refused : v ≡ Past → after ≡ before
   pub store : v ≡ Settled → storeOf after ≡ withTransaction t (settledTransaction chosen (storeOf before .offsets) x) (storeOf before)
   pub journal : v ≡ Settled → journalOf after ≡ placedRecords chosen (storeOf before .offsets) (journalOf before) t (x .used .records)
-  pub long : length after ≡ 2088
+  pub long : length after ≡ recordLength

@@ -7,7 +7,7 @@ use Prim.Native.Nat.{ℕ, _≤_, _<_}
 use Rattle.standings.specs.Table.{placeNumber}
 use Rattle.record.specs.declared.journal.WriteRecord.{WriteRecord}
 use Rattle.record.specs.Journal.{writeRecordAt, withRecords}
-use Rattle.record.specs.Layout.{storeOf, journalOf}
+use Rattle.record.specs.Layout.{storeOf, journalOf, recordLength}
 use Rattle.rules.specs.Transactions.{placedAt}
 
 -- "Each write made while the place was unknown now lies at c plus the advance before it", where its descriptor is chosen.
@@ -23,7 +23,7 @@ placedRecords chosen offsets journal t records =
 
 -- What check 2 says of the first records of transaction t, and of the committed offsets.
 pub record Placeable (kept : List ℕ) (t records : ℕ) : Type 0 where
-  pub long : length kept ≡ 2088
+  pub long : length kept ≡ recordLength
   pub small : t < 8
   pub few : records ≤ 64
   pub descriptors : (k : ℕ) → k < records → writeRecordAt (journalOf kept) t k .descriptor < 16
@@ -34,4 +34,4 @@ pub record Placeable (kept : List ℕ) (t records : ℕ) : Type 0 where
 pub record PlacedIn (chosen : List Bool) (t records : ℕ) (before after : List ℕ) : Type 0 where
   pub journal : journalOf after ≡ placedRecords chosen (storeOf before .offsets) (journalOf before) t records
   pub store : storeOf after ≡ storeOf before
-  pub long : length after ≡ 2088
+  pub long : length after ≡ recordLength

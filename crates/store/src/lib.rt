@@ -1,10 +1,11 @@
-// The nine calls. Each is lent the record and the three store buffers, has no precondition, and answers its outcome; its
+// The ten calls. Each is lent the record and the three store buffers, has no precondition, and answers its outcome; its
 // promise stands at the function. `made_stale` counts what a commit's octet names.
 pub use committing::commit;
 pub use committing::made_stale;
 pub use coverage::places;
 pub use editing::seek;
 pub use editing::write;
+pub use hours::set_window;
 pub use lifecycle::abort;
 pub use lifecycle::begin;
 pub use lifecycle::fresh;

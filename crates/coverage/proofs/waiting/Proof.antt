@@ -7,8 +7,9 @@ use native.Mathlib.Omega.{arith}
 use borrow.Author.Needs.{needs}
 use Rattle.record.specs.Journal.{writeRecordAt}
 use Rattle.record.specs.Layout.{storeOf, journalOf}
-use Rattle.coverage.specs.Covering.{someBelow, waitsOn, waitsIn}
-use Rattle.coverage.proofs.CoverLaws.{some-none, some-more, some-found}
+use Rattle.ranges.specs.Below.{someBelow}
+use Rattle.ranges.proofs.Laws.{some-none, some-more, some-found}
+use Rattle.coverage.specs.Covering.{waitsOn, waitsIn}
 use Rattle.coverage.proofs.waiting.Statement.{statement}
 use Rattle.coverage.proofs.waiting.Tie as tie
 

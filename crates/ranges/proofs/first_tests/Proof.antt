@@ -1,5 +1,6 @@
 -- `ranges::first_tests` meets its contract.
 use mathlib.Core.Path.{sym, _≡_}
+use Rattle.record.specs.Layout.{recordLength}
 use Rattle.ranges.specs.Ranges.{gateNumber}
 use Rattle.ranges.proofs.Laws.{failed, held, first-lengths, first-ranges, first-later}
 use lib.ListN.{length}
@@ -16,7 +17,7 @@ sizes-in-requires c κs = search needs
 returns : tie.Need-returns
 unfolding gateNumber
 returns c =
-    let l : length (c .before .before .before .before .args .kept .now) ≡ 2088 = search needs in
+    let l : length (c .before .before .before .before .args .kept .now) ≡ recordLength = search needs in
     (first-lengths _ _ _ _ (failed (c .before .sizes-in .ensures) (c .if1 .taken)), l)
 
 store-in-requires : tie.Need-store-in-requires
@@ -25,13 +26,13 @@ store-in-requires c κs = search needs
 returns-2 : tie.Need-returns-2
 unfolding gateNumber
 returns-2 c =
-    let l : length (c .before .before .before .before .before .before .args .kept .now) ≡ 2088 = search needs in
+    let l : length (c .before .before .before .before .before .before .args .kept .now) ≡ recordLength = search needs in
     (first-ranges _ _ _ _ (held (c .before .before .before .sizes-in .ensures) (c .before .before .if1 .left)) (failed (c .before .store-in .ensures) (c .if2 .taken)), l)
 
 returns-3 : tie.Need-returns-3
 unfolding gateNumber
 returns-3 c =
-    let l : length (c .before .before .before .before .before .before .args .kept .now) ≡ 2088 = search needs in
+    let l : length (c .before .before .before .before .before .before .args .kept .now) ≡ recordLength = search needs in
     (sym (first-later _ _ _ _ (held (c .before .before .before .sizes-in .ensures) (c .before .before .if1 .left)) (held (c .before .store-in .ensures) (c .if2 .left))), l)
 
 pub first-tests-spec : {M : Type 1} → statement M

@@ -64,10 +64,19 @@ returns-8 c =
     let met = called .abort .ensures in
     (performs-as _ _ _ _ _ _ _ _ (called .before .before .before .before .before .before .q8 .given .1) (record { meets = met .0; unanswered = refl }), met .1)
 
+returns-9 : tie.Need-returns-9
+unfolding callOf bufferOfCall bufferOf Unanswered
+returns-9 c =
+    let called = c in
+    let met = called .set-window .ensures in
+    (performs-as _ _ _ _ _ _ _ _ (called .before .before .before .before .before .before .q9 .given .1) (record { meets = met .0; unanswered = refl }), met .1)
+
 pub perform-spec : {M : Type 1} → statement M
 perform-spec =
     tie.close
     (tie.spec
+    (λ c. search needs)
+    (λ c κs. search needs)
     (λ c. search needs)
     (λ c κs. search needs)
     (λ c. search needs)
@@ -117,4 +126,8 @@ perform-spec =
     (λ c. search needs)
     (λ c. search needs)
     (λ c. search needs)
-    returns-8)
+    returns-8
+    (λ c. search needs)
+    (λ c. search needs)
+    (λ c. search needs)
+    returns-9)

@@ -1,5 +1,5 @@
 -- "No condition reads the store's age": a store at rest stands for the same store without buffers as a young one with its files,
--- offsets and lengths, so both answer alike.
+-- offsets, lengths and windows, so both answer alike.
 use mathlib.Core.Bool.{Bool, false}
 use mathlib.Core.List.{List}
 use mathlib.Core.Logic.{_⊎_, inl, inr}
@@ -9,7 +9,7 @@ use Prim.Native.Nat.{ℕ, _≤_, _<_}
 use native.Mathlib.Omega.{arith}
 use Rattle.octets.proofs.PartLaws.{le-or-lt}
 use Rattle.record.specs.declared.Transaction.{Transaction}
-use Rattle.record.specs.State.{transaction, ended}
+use Rattle.record.specs.State.{transaction, ended, windowAt}
 use Rattle.ranges.proofs.Laws.{InRange, in-range, in-range-intro}
 use Rattle.rules.specs.Items.{Values, Item, byte, offset, fileLength}
 use Rattle.rules.specs.Messages.{Call, Reply}
@@ -28,11 +28,11 @@ module _ (m : Machine) (closed : (t : ℕ) → t ≤ 7 → transaction (m .store
   no-seat u (inl l) = seat-out m u l
   no-seat u (inr l) = seat-in m u false (heldBy m u) l (closed u (omega arith)) refl
 
-  pub resting-view : view m ≡ startSighted (fileOf (m .store)) (values (m .store) (m .files))
+  pub resting-view : view m ≡ startSighted (fileOf (m .store)) (values (m .store) (m .files)) (windowAt (m .store))
   unfolding view startSighted
   resting-view =
       let e : _≡_ {A = ℕ → Seat} (seat m) (λ u. vacant) = fun-ext (λ u. no-seat u (le-or-lt 8 u)) in
-      λ i. record { fileOf = fileOf (m .store); value = values (m .store) (m .files); seats = e i }
+      λ i. record { fileOf = fileOf (m .store); value = values (m .store) (m .files); windows = windowAt (m .store); seats = e i }
 
 at-rest-sound : (m : Machine) → AtRest m → Sound m
 at-rest-sound m r =
@@ -52,6 +52,7 @@ module _ (m : Machine) (s : Sound m) (logs : List ℕ) (size : length logs ≡ 3
               files = s .shaped .files;
               offsets = s .shaped .offsets;
               lengths = s .shaped .lengths;
+              windows = s .shaped .windows;
               transactions = f .shaped .transactions;
               descriptors = f .shaped .descriptors;
             };
@@ -61,17 +62,17 @@ module _ (m : Machine) (s : Sound m) (logs : List ℕ) (size : length logs ≡ 3
         marks = f .marks;
         inRange =
             in-range-intro (rejuvenated m logs .store) (rejuvenated m logs .journal)
-            (record { files = r .files; offsets = r .offsets; lengths = r .lengths; transactions = in-range (freshStore (m .store .filenumbers)) _ (f .inRange) .transactions });
+            (record { files = r .files; offsets = r .offsets; lengths = r .lengths; windows = r .windows; transactions = in-range (freshStore (m .store .filenumbers)) _ (f .inRange) .transactions });
       }
 
   young-closed : (t : ℕ) → t ≤ 7 → transaction (rejuvenated m logs .store) t .begun ≡ false
   unfolding rejuvenated freshMachine
   young-closed t l = closed-at (m .store .filenumbers) logs t (omega arith)
 
-  same-start : startSighted (fileOf (m .store)) (values (m .store) (m .files))
-      ≡ startSighted (fileOf (rejuvenated m logs .store)) (values (rejuvenated m logs .store) (rejuvenated m logs .files))
+  same-start : startSighted (fileOf (m .store)) (values (m .store) (m .files)) (windowAt (m .store))
+      ≡ startSighted (fileOf (rejuvenated m logs .store)) (values (rejuvenated m logs .store) (rejuvenated m logs .files)) (windowAt (rejuvenated m logs .store))
   unfolding rejuvenated freshStore freshMachine fileOf
-  same-start = ap (startSighted (fileOf (m .store))) (fun-ext each)
+  same-start = ap (λ (v : Values). startSighted (fileOf (m .store)) v (windowAt (m .store))) (fun-ext each)
     where
       each : (i : Item) → values (m .store) (m .files) i ≡ values (rejuvenated m logs .store) (rejuvenated m logs .files) i
       each (byte q) = unfold values in refl
@@ -94,4 +95,4 @@ ageless m rest logs size cs =
 
 pub demand3-at-rest : Demand3AtRest
 demand3-at-rest m rest cs =
-    holds-from (fileOf (m .store)) (values (m .store) (m .files)) m (at-rest-sound m rest) (resting-view m (rest .closed)) cs
+    holds-from (fileOf (m .store)) (values (m .store) (m .files)) (windowAt (m .store)) m (at-rest-sound m rest) (resting-view m (rest .closed)) cs

@@ -5,9 +5,10 @@ use mathlib.Core.Path.{_≡_, refl, sym, ap, _∙_, subst}
 use borrow.Author.Tests.{leb-true, eq-eqb}
 use lib.Dec.{leb, ltb, eqb}
 use Prim.Native.Nat.{ℕ, _≤_, min}
-use Rattle.record.specs.Paper.{number, refusals, Said, plain, pointer, given, granted, pairs, refused}
+use Rattle.record.specs.Paper.{number, Said, plain, pointer, given, granted, pairs, refused}
 use Rattle.record.specs.declared.outcomes.Refusal.the-variants.{Stale}
 use Rattle.ranges.proofs.Laws.{and-left, and-right}
+use Rattle.rules.specs.Demand1.{isNumber}
 use Rattle.rules.specs.Items.{Item, fileLength, Values, Prog, done, ask, within, andThen, result}
 use Rattle.rules.specs.Messages.{Op, seek, write, getFilePointer, read}
 use Rattle.rules.specs.Steps.{Stepped, refuse, accept, check, orGivenBack, seekStep, writeStep, pointerStep, readSettled, readStep, step, turnedBack}
@@ -28,16 +29,16 @@ answer-not-refused a n h e = subst IsAnswer e h
 
 -- A number of no refusal (0), or of one that leaves everything: any but that of Stale.
 abbrev pub Leaving : ℕ → Type 0
-Leaving n = (n ≤ refusals) × (n ≡ number Stale → ⊥)
+Leaving n = (isNumber n ≡ true) × (n ≡ number Stale → ⊥)
 
 -- One that a call meets after 1 and 2, tested.
 abbrev pub Later : ℕ → Type 0
 Later n = (3 ≤ n) × Leaving n
 
-pub later : (n : ℕ) → leb 3 n && (leb n refusals && not (eqb n (number Stale))) ≡ true → Later n
+pub later : (n : ℕ) → leb 3 n && (isNumber n && not (eqb n (number Stale))) ≡ true → Later n
 later n e =
     let f = and-right (leb 3 n) _ e in
-    (leb-true 3 n (and-left (leb 3 n) _ e), (leb-true n refusals (and-left (leb n refusals) _ f), λ g. other (eqb n (number Stale)) (and-right (leb n refusals) _ f) (eq-eqb n (number Stale) g)))
+    (leb-true 3 n (and-left (leb 3 n) _ e), (and-left (isNumber n) _ f, λ g. other (eqb n (number Stale)) (and-right (isNumber n) _ f) (eq-eqb n (number Stale) g)))
   where
     other : (b : Bool) → not b ≡ true → b ≡ true → ⊥
     other true e g = false≢true e

@@ -16,11 +16,11 @@ use Rattle.record.specs.State.{noTransaction, begun, ended, withTransaction}
 use Rattle.record.specs.Paper.{Said, plain, pointer, granted, refused}
 use Rattle.rules.specs.Items.{Item, byte, offset, fileLength, Values, Prog, done, andThen, result, asked}
 use Rattle.rules.specs.Transactions.{Txn, settle, Settled, past, all, settling}
-use Rattle.rules.specs.Messages.{Op, seek, write, getFilePointer, read, bufferOf, Call, begin, on, commit, abort, places}
+use Rattle.rules.specs.Messages.{Op, seek, write, getFilePointer, read, bufferOf, Call, begin, on, commit, abort, places, setWindow}
 use Rattle.rules.specs.Steps.{Stepped, refuse, accept, check, orGivenBack, seekStep, writeStep, pointerStep, step}
 use Rattle.rules.specs.Commits.{Setting, commitRefusal}
 use Rattle.rules.specs.Machine.{Machine, fileOf, values, txnOf}
-use Rattle.rules.specs.Calls.{Turn, answer, turnDown, passing, fresh, freshMachine, reset, beginTurn, abortTurn, logged, marked, served, stepTurn, afterCommit, commitGranted, commitDecided, commitTurn, admitted, call, placesTurn}
+use Rattle.rules.specs.Calls.{Turn, answer, turnDown, passing, fresh, freshMachine, reset, beginTurn, abortTurn, logged, marked, served, stepTurn, afterCommit, commitGranted, commitDecided, commitTurn, admitted, call, placesTurn, windowTurn}
 use Rattle.rules.specs.Buffers.{isWrite, isCommit, touchesMarks, Unmarked, Buffers}
 use Rattle.rules.proofs.Serial.Programs.{asked-andThen}
 use Rattle.rules.proofs.Demand3.Answers.{IsAnswer, answer-not-refused, Leaving}
@@ -66,17 +66,19 @@ call-logs : (c : Call) (m : Machine) → isWrite c ≡ false → call c m .after
 unfolding call admitted beginTurn abortTurn stepTurn commitTurn answer reset
 call-logs (begin t) m e = passing-leaves (λ x. x .logs) _ [] m (beginTurn t m) refl
 call-logs (on t o) m e = passing-leaves (λ x. x .logs) _ (bufferOf o) m (stepTurn t o m) (served-logs t o m _ _ e)
-call-logs (commit t) m e = passing-leaves (λ x. x .logs) _ [] m (commitTurn t m) (decided-logs t _ m _)
+call-logs (commit t minute) m e = passing-leaves (λ x. x .logs) _ [] m (commitTurn t minute m) (decided-logs t _ m _)
 call-logs (abort t) m e = passing-leaves (λ x. x .logs) _ [] m (abortTurn t m) refl
 call-logs (places t f out) m e = passing-leaves (λ x. x .logs) _ out m (placesTurn t f out m) (unfold placesTurn in refl)
+call-logs (setWindow f start end) m e = passing-leaves (λ x. x .logs) _ [] m (windowTurn f start end m) (unfold windowTurn in refl)
 
 call-files : (c : Call) (m : Machine) → isCommit c ≡ false → call c m .after .files ≡ m .files
 unfolding call admitted beginTurn abortTurn stepTurn answer reset isCommit
 call-files (begin t) m e = passing-leaves (λ x. x .files) _ [] m (beginTurn t m) refl
 call-files (on t o) m e = passing-leaves (λ x. x .files) _ (bufferOf o) m (stepTurn t o m) (served-files t o m _ _)
-call-files (commit t) m e = absurd (true≢false e)
+call-files (commit t minute) m e = absurd (true≢false e)
 call-files (abort t) m e = passing-leaves (λ x. x .files) _ [] m (abortTurn t m) refl
 call-files (places t f out) m e = passing-leaves (λ x. x .files) _ out m (placesTurn t f out m) (unfold placesTurn in refl)
+call-files (setWindow f start end) m e = passing-leaves (λ x. x .files) _ [] m (windowTurn f start end m) (unfold windowTurn in refl)
 
 -- A settling sights offsets alone, and so does a GetFilePointer.
 marked-append : (t : ℕ) (is js : List Item) (marks : List ℕ) → marked t (is ++ js) marks ≡ marked t js (marked t is marks)
@@ -139,9 +141,10 @@ call-marks (begin t) m e = absurd (true≢false e)
 call-marks (on t o) m e =
     passing-leaves (λ x. x .marks) _ (bufferOf o) m (stepTurn t o m)
     (served-marks t o m _ _ (step-marks t (values (m .store) (m .files)) (m .marks) (fileOf (m .store)) o (txnOf (m .store) (m .journal) (m .logs) t) e))
-call-marks (commit t) m e = absurd (true≢false e)
+call-marks (commit t minute) m e = absurd (true≢false e)
 call-marks (abort t) m e = absurd (true≢false e)
 call-marks (places t f out) m e = passing-leaves (λ x. x .marks) _ out m (placesTurn t f out m) (unfold placesTurn in refl)
+call-marks (setWindow f start end) m e = passing-leaves (λ x. x .marks) _ [] m (windowTurn f start end m) (unfold windowTurn answer in refl)
 
 -- The marks of a transaction that is replaced, or committed.
 cleared : (t : ℕ) (marks : List ℕ) (q : ℕ) → hasMark (withoutMarks t marks) t q ≡ false
@@ -168,26 +171,30 @@ granted-cleared t ss m l =
     }
 
 -- An answered call's turn is its own.
-answered-turn : (k : ℕ) (m : Machine) (w : Turn) (a : Said) → IsAnswer a → passing k [] m w .reply .answer ≡ a → passing k [] m w ≡ w
+pub answered-turn : (k : ℕ) (m : Machine) (w : Turn) (a : Said) → IsAnswer a → passing k [] m w .reply .answer ≡ a → passing k [] m w ≡ w
 unfolding passing
 answered-turn k m w a h e = ap (λ (n : ℕ). passing n [] m w) (passing-zero k [] m w a h e)
 
 answered : (k : ℕ) (m : Machine) (w : Turn) (a : Said) → IsAnswer a → passing k [] m w .reply .answer ≡ a → passing k [] m w .after ≡ w .after
 answered k m w a h e = ap (λ (x : Turn). x .after) (answered-turn k m w a h e)
 
-decided-cleared : (t : ℕ) (ss : List Setting) (m : Machine) (stale placed : Bool) (n : ℕ) → t ≤ 7
-    → commitDecided t ss m (commitRefusal stale placed) .reply .answer ≡ granted n → Unmarked t (commitDecided t ss m (commitRefusal stale placed) .after)
+decided-cleared : (t : ℕ) (ss : List Setting) (m : Machine) (daily stale shut placed : Bool) (n : ℕ) → t ≤ 7
+    → commitDecided t ss m (commitRefusal daily stale shut placed) .reply .answer ≡ granted n → Unmarked t (commitDecided t ss m (commitRefusal daily stale shut placed) .after)
 unfolding commitDecided commitRefusal
-decided-cleared t ss m true placed n l e = absurd (answer-not-refused (granted n) 13 tt (sym e))
-decided-cleared t ss m false true n l e = granted-cleared t ss m l
-decided-cleared t ss m false false n l e = absurd (answer-not-refused (granted n) 12 tt (sym e))
+decided-cleared t ss m false stale shut placed n l e = absurd (answer-not-refused (granted n) 22 tt (sym e))
+decided-cleared t ss m true true shut placed n l e = absurd (answer-not-refused (granted n) 13 tt (sym e))
+decided-cleared t ss m true false true placed n l e = absurd (answer-not-refused (granted n) 21 tt (sym e))
+decided-cleared t ss m true false false true n l e = granted-cleared t ss m l
+decided-cleared t ss m true false false false n l e = absurd (answer-not-refused (granted n) 12 tt (sym e))
 
-decided-stale : (t : ℕ) (ss : List Setting) (m : Machine) (stale placed : Bool)
-    → commitDecided t ss m (commitRefusal stale placed) .reply .answer ≡ refused 13 → Unmarked t (commitDecided t ss m (commitRefusal stale placed) .after)
+decided-stale : (t : ℕ) (ss : List Setting) (m : Machine) (daily stale shut placed : Bool)
+    → commitDecided t ss m (commitRefusal daily stale shut placed) .reply .answer ≡ refused 13 → Unmarked t (commitDecided t ss m (commitRefusal daily stale shut placed) .after)
 unfolding commitDecided commitRefusal commitGranted ended
-decided-stale t ss m true placed e = reset-cleared t ended m refl
-decided-stale t ss m false true e = absurd (answer-not-refused _ 13 tt e)
-decided-stale t ss m false false e = let z : _≡_ {A = ℕ} 12 13 = refused-same 12 13 e in absurd (omega arith)
+decided-stale t ss m false stale shut placed e = let z : _≡_ {A = ℕ} 22 13 = refused-same 22 13 e in absurd (omega arith)
+decided-stale t ss m true true shut placed e = reset-cleared t ended m refl
+decided-stale t ss m true false true placed e = let z : _≡_ {A = ℕ} 21 13 = refused-same 21 13 e in absurd (omega arith)
+decided-stale t ss m true false false true e = absurd (answer-not-refused _ 13 tt e)
+decided-stale t ss m true false false false e = let z : _≡_ {A = ℕ} 12 13 = refused-same 12 13 e in absurd (omega arith)
 
 pub buffers : (m : Machine) → Buffers m
 unfolding call admitted beginTurn abortTurn commitTurn answer begun ended fresh freshMachine
@@ -200,11 +207,11 @@ buffers m =
       begun = λ t l e. rw (answered _ m (beginTurn t m) plain tt e) (reset-cleared t begun m refl);
       aborted = λ t l e. rw (answered _ m (abortTurn t m) plain tt e) (reset-cleared t ended m refl);
       committed =
-          λ t n l e.
-          rw (answered _ m (commitTurn t m) (granted n) tt e)
-          (decided-cleared t _ m _ _ n l (sym (ap (λ (w : Turn). w .reply .answer) (answered-turn _ m (commitTurn t m) (granted n) tt e)) ∙ e));
+          λ t minute n l e.
+          rw (answered _ m (commitTurn t minute m) (granted n) tt e)
+          (decided-cleared t _ m _ _ _ _ n l (sym (ap (λ (w : Turn). w .reply .answer) (answered-turn _ m (commitTurn t minute m) (granted n) tt e)) ∙ e));
       stale =
-          λ t l e.
-          let z = passing-stale _ m (commitTurn t m) (admission-leaving _ (m .store) (m .journal) t) e in
-          rw (ap (λ (w : Turn). w .after) z) (decided-stale t _ m _ _ (sym (ap (λ (w : Turn). w .reply .answer) z) ∙ e));
+          λ t minute l e.
+          let z = passing-stale _ m (commitTurn t minute m) (admission-leaving _ (m .store) (m .journal) t) e in
+          rw (ap (λ (w : Turn). w .after) z) (decided-stale t _ m _ _ _ _ (sym (ap (λ (w : Turn). w .reply .answer) z) ∙ e));
     }

@@ -7,18 +7,23 @@ use lib.Dec.{leb, eqb}
 use lib.ListN.{getD}
 use native.Mathlib.Omega.{arith}
 use Prim.Native.Nat.{ℕ, zero, suc, _≤_, _<_}
+use Rattle.windows.specs.Hours.{minuteIn}
+use Rattle.record.specs.Paper.{plain}
+use Rattle.ranges.specs.Below.{guarded, isNone}
+use Rattle.ranges.specs.Ranges.{windowRefusal}
+use Rattle.rules.specs.Windows.{forClosed}
 use Rattle.record.specs.State.{transaction}
 use Rattle.ranges.proofs.Laws.{in-range, and-left, and-right}
 use Rattle.rules.specs.Items.{fileLength, Values, result, asked}
 use Rattle.rules.specs.Transactions.{Txn}
-use Rattle.rules.specs.Messages.{Op, bufferOf, Call, begin, on, commit, abort, places}
+use Rattle.rules.specs.Messages.{Op, bufferOf, Call, begin, on, commit, abort, places, setWindow}
 use Rattle.rules.specs.Steps.{Stepped, refuse, accept, step, turnedBack}
 use Rattle.rules.specs.Commits.{settings, fits, landed, commitRefusal}
 use Rattle.rules.specs.Machine.{Machine, fileOf, values, txnOf}
 use Rattle.rules.specs.Calls.{call, callsAfter}
 use Rattle.rules.specs.Demand3.{FreshlyMade}
 use Rattle.rules.specs.Lengths.{ZeroBeyond, Longer, committedIn, LengthsHold, LengthsAlwaysHold}
-use Rattle.rules.proofs.Serial.Sighted.{Held, Seat, vacant, held, Sighted, startSighted, turnedAway, SightedTurn, withSeat, telling, sightedBegin, sightedStepped, sightedOn, granting, sightedCommitted, sightedCommit, sightedAbort, sightedPlaces, seated, sightedCall}
+use Rattle.rules.proofs.Serial.Sighted.{Held, Seat, vacant, held, Sighted, startSighted, turnedAway, SightedTurn, withSeat, telling, sightedBegin, sightedStepped, sightedOn, granting, sightedCommitted, sightedCommit, sightedAbort, sightedPlaces, windowed, sightedWindow, seated, sightedCall}
 use Rattle.rules.proofs.Serial.Lengths.{commit-longer}
 use Rattle.rules.proofs.View.Shape.{heldBy, seat, view, Sound}
 use Rattle.rules.proofs.View.Decode.{decoded-in}
@@ -44,17 +49,20 @@ module _ (P : Values → Type 0) (s : Sighted) (now : P (s .value))
   kept-on t o vacant = now
   kept-on t o (held h) = kept-stepped t o h (turnedBack (h .stale) o (result (s .value) (step (s .fileOf) o (h .txn))))
 
-  kept-committed : (t : ℕ) (h : Held) → leb t 7 ≡ true → s .seats t ≡ held h → (stale placed : Bool) → fits (s .value) (h .txn) ≡ placed
-      → P (sightedCommitted t h s (commitRefusal stale placed) .after .value)
+  kept-committed : (t : ℕ) (h : Held) → leb t 7 ≡ true → s .seats t ≡ held h → (daily stale shut placed : Bool) → fits (s .value) (h .txn) ≡ placed
+      → P (sightedCommitted t h s (commitRefusal daily stale shut placed) .after .value)
   unfolding sightedCommitted commitRefusal granting withSeat
-  kept-committed t h l o true placed e = now
-  kept-committed t h l o false true e = then t h l o e
-  kept-committed t h l o false false e = now
+  kept-committed t h l o false stale shut placed e = now
+  kept-committed t h l o true true shut placed e = now
+  kept-committed t h l o true false true placed e = now
+  kept-committed t h l o true false false true e = then t h l o e
+  kept-committed t h l o true false false false e = now
 
-  kept-commit : (t : ℕ) → leb t 7 ≡ true → (x : Seat) → s .seats t ≡ x → P (sightedCommit t x s .after .value)
+  kept-commit : (t minute : ℕ) → leb t 7 ≡ true → (x : Seat) → s .seats t ≡ x → P (sightedCommit t minute x s .after .value)
   unfolding sightedCommit turnedAway
-  kept-commit t l vacant o = now
-  kept-commit t l (held h) o = kept-committed t h l o (h .stale) (fits (s .value) (h .txn)) refl
+  kept-commit t minute l vacant o = now
+  kept-commit t minute l (held h) o =
+      kept-committed t h l o (minuteIn minute) (h .stale) (forClosed (s .fileOf) (s .windows) minute (h .txn .writes)) (fits (s .value) (h .txn)) refl
 
   kept-abort : (t : ℕ) (x : Seat) → P (sightedAbort t x s .after .value)
   unfolding sightedAbort telling withSeat turnedAway
@@ -65,6 +73,14 @@ module _ (P : Values → Type 0) (s : Sighted) (now : P (s .value))
   unfolding sightedPlaces turnedAway
   kept-places f out vacant = now
   kept-places f out (held h) = now
+
+  kept-window : (f start end : ℕ) → P (sightedWindow f start end s .after .value)
+  unfolding sightedWindow turnedAway telling windowed
+  kept-window f start end = pick (windowRefusal f start end)
+    where
+      pick : (n : ℕ) → P (guarded (λ k. turnedAway k [] s) (isNone n) n (telling plain (windowed f start end s)) .after .value)
+      pick zero = now
+      pick (suc n) = now
 
   kept-seated : (t : ℕ) (buffer : List ℕ) (next : Seat → Sighted → SightedTurn) → (leb t 7 ≡ true → P (next (s .seats t) s .after .value))
       → P (seated t buffer next s .after .value)
@@ -79,9 +95,10 @@ module _ (P : Values → Type 0) (s : Sighted) (now : P (s .value))
   unfolding sightedCall
   kept-call (begin t) = kept-seated t [] (sightedBegin t) (λ l. kept-begin t (s .seats t))
   kept-call (on t o) = kept-seated t (bufferOf o) (sightedOn t o) (λ l. kept-on t o (s .seats t))
-  kept-call (commit t) = kept-seated t [] (sightedCommit t) (λ l. kept-commit t l (s .seats t) refl)
+  kept-call (commit t minute) = kept-seated t [] (sightedCommit t minute) (λ l. kept-commit t minute l (s .seats t) refl)
   kept-call (abort t) = kept-seated t [] (sightedAbort t) (λ l. kept-abort t (s .seats t))
   kept-call (places t f out) = kept-seated t out (sightedPlaces f out) (λ l. kept-places f out (s .seats t))
+  kept-call (setWindow f start end) = kept-window f start end
 
 -- What is held in a seat of a store.
 unfoldable heldIn : Seat → Held → Held

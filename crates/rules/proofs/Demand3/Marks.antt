@@ -4,18 +4,18 @@ use mathlib.Core.List.{List, [], _∷_, _++_}
 use mathlib.Core.Path.{_≡_, refl, sym, ap, _∙_, subst}
 use lib.Dec.{leb, eqb}
 use native.Mathlib.Omega.{arith}
-use borrow.Author.Tests.{leb-true}
+use borrow.Author.Tests.{leb-true, eqb-false}
 use Prim.Native.Nat.{ℕ, zero, suc, _<_}
 use Rattle.octets.specs.Marks.{hasMark, withoutMarks}
 use Rattle.record.specs.declared.Transaction.{Transaction}
 use Rattle.record.specs.State.{transaction, ended}
 use Rattle.ranges.specs.Ranges.{unless, admission}
-use Rattle.rules.specs.Messages.{Op, bufferOf, Call, begin, on, commit, abort, places}
+use Rattle.rules.specs.Messages.{Op, bufferOf, Call, begin, on, commit, abort, places, setWindow}
 use Rattle.rules.specs.Steps.{Stepped, refuse, accept, turnedBack}
 use Rattle.rules.specs.Commits.{Setting}
 use Rattle.rules.specs.Machine.{Machine, sizes}
-use Rattle.rules.specs.Calls.{Turn, turnDown, passing, answer, reset, beginTurn, abortTurn, served, stepTurn, commitGranted, commitDecided, commitTurn, placesTurn, admitted, call, callsAfter}
-use Rattle.rules.specs.Buffers.{callerOf, MarksLeft, MarksAlwaysLeft}
+use Rattle.rules.specs.Calls.{Turn, turnDown, passing, answer, reset, beginTurn, abortTurn, served, stepTurn, commitGranted, commitDecided, commitTurn, placesTurn, windowTurn, admitted, call, callsAfter}
+use Rattle.rules.specs.Buffers.{isCallOf, MarksLeft, MarksAlwaysLeft}
 use Rattle.rules.proofs.View.Shape.{Sound}
 use Rattle.rules.proofs.View.Marks.{marked-other}
 use Rattle.rules.proofs.View.Endings.{unmarked-other}
@@ -65,13 +65,14 @@ module _ (m : Machine) (u q : ℕ) where
         pick true false k = refl
         pick true true k = k refl refl
 
-    call-left : (c : Call) → (u ≡ callerOf c → ⊥) → Left (call c m .after)
-    unfolding call callerOf beginTurn abortTurn answer stepTurn commitTurn placesTurn admitted sightings
-    call-left (begin t) other = passing-left _ [] (beginTurn t m) (reset-left t _ other)
-    call-left (on t o) other = admitted-left t (bufferOf o) (stepTurn t o m) (λ small begun. served-left t o small begun other _)
-    call-left (commit t) other = passing-left _ [] (commitTurn t m) (decided-left t _ _ other)
-    call-left (abort t) other = passing-left _ [] (abortTurn t m) (reset-left t ended other)
+    call-left : (c : Call) → isCallOf u c ≡ false → Left (call c m .after)
+    unfolding call isCallOf beginTurn abortTurn answer stepTurn commitTurn placesTurn windowTurn admitted sightings
+    call-left (begin t) other = passing-left _ [] (beginTurn t m) (reset-left t _ (eqb-false u t other))
+    call-left (on t o) other = admitted-left t (bufferOf o) (stepTurn t o m) (λ small begun. served-left t o small begun (eqb-false u t other) _)
+    call-left (commit t minute) other = passing-left _ [] (commitTurn t minute m) (decided-left t _ _ (eqb-false u t other))
+    call-left (abort t) other = passing-left _ [] (abortTurn t m) (reset-left t ended (eqb-false u t other))
     call-left (places t f out) other = passing-left _ out (placesTurn t f out m) refl
+    call-left (setWindow f start end) other = passing-left _ [] (windowTurn f start end m) refl
 
 pub marks-always-left : MarksAlwaysLeft
 marks-always-left numbers m₀ made cs c u q other =

@@ -10,15 +10,15 @@ use Rattle.record.specs.declared.Store.{Store}
 use Rattle.record.specs.State.{transaction, ended}
 use Rattle.record.specs.declared.outcomes.Refusal.the-variants.{Stale}
 use Rattle.record.specs.Paper.{number, Said, said, plain, granted, refused}
-use Rattle.ranges.specs.Ranges.{Sizes, unless, shared, admission, admissionOfBegin, admissionOfFresh}
+use Rattle.ranges.specs.Ranges.{Sizes, unless, firstTests, shared, windowRefusal, admissionOfWindow, admission, admissionOfBegin, admissionOfFresh}
 use Rattle.rules.specs.Items.{Item, result, asked}
 use Rattle.rules.specs.Steps.{Stepped, refuse, accept, step}
 use Rattle.rules.specs.Commits.{Setting, settings, fits, commitRefusal}
-use Rattle.rules.specs.Messages.{Op, bufferOf, bufferOfCall, Call, begin, on, commit, abort, Reply, places}
+use Rattle.rules.specs.Messages.{Op, bufferOf, bufferOfCall, Call, begin, on, commit, abort, Reply, places, setWindow}
 use Rattle.rules.specs.Machine.{Machine, sizes, fileOf, values, txnOf}
 use Rattle.rules.specs.Promises.{Meets}
 use Rattle.rules.specs.Demand1.{IsRefusal, Demand1On, Demand1, RefusedByCode, Demand1OfCode}
-use Rattle.rules.specs.Calls.{Turn, answer, turnDown, passing, fresh, reset, beginTurn, abortTurn, served, stepTurn, commitGranted, commitDecided, commitTurn, admitted, call, placesTurn}
+use Rattle.rules.specs.Calls.{Turn, answer, turnDown, passing, fresh, reset, beginTurn, abortTurn, served, stepTurn, commitGranted, commitDecided, commitTurn, admitted, call, placesTurn, windowTurn}
 use Rattle.rules.proofs.Demand3.Answers.{IsAnswer, answer-not-refused, Leaving, later as later-on, Right, right-step}
 
 pub refused-same : (m n : ℕ) → refused m ≡ refused n → m ≡ n
@@ -51,16 +51,20 @@ leaves-served t o m is (refuse k) h =
     }
 leaves-served t o m is (accept y a b) h = leaves-answer m (bufferOf o) _ h
 
-leaves-decided : (t : ℕ) (ss : List Setting) (m : Machine) (stale placed : Bool) → Leaves m [] (commitDecided t ss m (commitRefusal stale placed))
+leaves-decided : (t : ℕ) (ss : List Setting) (m : Machine) (daily stale shut placed : Bool) → Leaves m [] (commitDecided t ss m (commitRefusal daily stale shut placed))
 unfolding commitDecided commitRefusal commitGranted
-leaves-decided t ss m true placed =
+leaves-decided t ss m false stale shut placed =
+    record { leaves = λ n e d. (refl, refl); known = λ n e. subst IsRefusal (refused-same 22 n e) (omega arith, refl) }
+leaves-decided t ss m true true shut placed =
     record {
       leaves = λ n e d. absurd (d (sym (refused-same 13 n e)));
-      known = λ n e. subst IsRefusal (refused-same 13 n e) (omega arith, omega arith);
+      known = λ n e. subst IsRefusal (refused-same 13 n e) (omega arith, refl);
     }
-leaves-decided t ss m false true = leaves-answer m [] _ tt
-leaves-decided t ss m false false =
-    record { leaves = λ n e d. (refl, refl); known = λ n e. subst IsRefusal (refused-same 12 n e) (omega arith, omega arith) }
+leaves-decided t ss m true false true placed =
+    record { leaves = λ n e d. (refl, refl); known = λ n e. subst IsRefusal (refused-same 21 n e) (omega arith, refl) }
+leaves-decided t ss m true false false true = leaves-answer m [] _ tt
+leaves-decided t ss m true false false false =
+    record { leaves = λ n e d. (refl, refl); known = λ n e. subst IsRefusal (refused-same 12 n e) (omega arith, refl) }
 
 -- The shared tests refuse with a number other than 13.
 unless-leaving : (b : Bool) (n later : ℕ) → Leaving n → Leaving later → Leaving (unless b n later)
@@ -68,14 +72,17 @@ unfolding unless
 unless-leaving true n later h l = l
 unless-leaving false n later h l = h
 
+first-leaving : (z : Sizes) (s : Store) (j : List ℕ) (later : ℕ) → Leaving later → Leaving (firstTests z s j later)
+unfolding firstTests
+first-leaving z s j later h =
+    unless-leaving _ 1 _ (refl, λ e. omega arith) (unless-leaving _ 2 _ (refl, λ e. omega arith) h)
+
 shared-leaving : (z : Sizes) (s : Store) (j : List ℕ) (t later : ℕ) → Leaving later → Leaving (shared z s j t later)
 unfolding shared
-shared-leaving z s j t later h =
-    unless-leaving _ 1 _ (omega arith, λ e. omega arith)
-    (unless-leaving _ 2 _ (omega arith, λ e. omega arith) (unless-leaving _ 3 _ (later-on 3 refl .1) h))
+shared-leaving z s j t later h = first-leaving z s j _ (unless-leaving _ 3 _ (later-on 3 refl .1) h)
 
 none-leaving : Leaving 0
-none-leaving = (omega arith, λ e. omega arith)
+none-leaving = (refl, λ e. omega arith)
 
 pub admission-leaving : (z : Sizes) (s : Store) (j : List ℕ) (t : ℕ) → Leaving (admission z s j t)
 unfolding admission
@@ -84,6 +91,11 @@ admission-leaving z s j t = shared-leaving z s j t _ (unless-leaving _ 4 0 (late
 begin-leaving : (z : Sizes) (s : Store) (j : List ℕ) (t : ℕ) → Leaving (admissionOfBegin z s j t)
 unfolding admissionOfBegin
 begin-leaving z s j t = shared-leaving z s j t _ (unless-leaving _ 5 0 (later-on 5 refl .1) none-leaving)
+
+window-leaving : (z : Sizes) (s : Store) (j : List ℕ) (f start end : ℕ) → Leaving (admissionOfWindow z s j f start end)
+unfolding admissionOfWindow windowRefusal
+window-leaving z s j f start end =
+    first-leaving z s j _ (unless-leaving _ 6 _ (later-on 6 refl .1) (unless-leaving _ 22 0 (later-on 22 refl .1) none-leaving))
 
 leaves-admitted : (t : ℕ) (buffer : List ℕ) (m : Machine) (w : Turn) → Leaves m buffer w → Leaves m buffer (admitted t buffer m w)
 unfolding admitted
@@ -110,16 +122,19 @@ placed-not-13 fileOf f out x zero h e = answer-not-refused _ 13 tt e
 placed-not-13 fileOf f out x (suc n) h e = h .1 (refused-same (suc n) 13 e)
 
 leaves-call : (c : Call) (m : Machine) → Leaves m (bufferOfCall c) (call c m)
-unfolding call bufferOfCall beginTurn abortTurn answer stepTurn commitTurn placesTurn placesOf
+unfolding call bufferOfCall beginTurn abortTurn answer stepTurn commitTurn placesTurn placesOf windowTurn
 leaves-call (begin t) m =
     leaves-passing (admissionOfBegin (sizes m) (m .store) (m .journal) t) [] m _
     (begin-leaving (sizes m) (m .store) (m .journal) t) (leaves-answer m [] _ tt)
 leaves-call (on t o) m =
     leaves-admitted t (bufferOf o) m _
     (leaves-served t o m _ _ (right-step (fileOf (m .store)) o (txnOf (m .store) (m .journal) (m .logs) t) (values (m .store) (m .files)) _))
-leaves-call (commit t) m = leaves-admitted t [] m _ (leaves-decided t _ m _ _)
+leaves-call (commit t minute) m = leaves-admitted t [] m _ (leaves-decided t _ m _ _ _ _)
 leaves-call (abort t) m = leaves-admitted t [] m _ (leaves-answer m [] _ tt)
 leaves-call (places t f out) m = leaves-admitted t out m _ (leaves-placed m _ f out _ _ (placed-leaving _ f out _))
+leaves-call (setWindow f start end) m =
+    leaves-passing (admissionOfWindow (sizes m) (m .store) (m .journal) f start end) [] m _
+    (window-leaving (sizes m) (m .store) (m .journal) f start end) (leaves-answer m [] _ tt)
 
 -- A refusal 13 is a Commit's, which then leaves what an Abort leaves.
 not-13 : (k : ℕ) (buffer : List ℕ) (m : Machine) (w : Turn) → Leaving k → (w .reply .answer ≡ refused 13 → ⊥) → passing k buffer m w .reply .answer ≡ refused 13 → ⊥
@@ -132,42 +147,46 @@ unfolding served turnDown
 served-not-13 t o m is (refuse k) h e = h .1 .1 (refused-same k 13 e)
 served-not-13 t o m is (accept y a b) h e = answer-not-refused a 13 h e
 
-decided-ends : (t : ℕ) (ss : List Setting) (m : Machine) (stale placed : Bool) → commitDecided t ss m (commitRefusal stale placed) .reply .answer ≡ refused 13 → commitDecided t ss m (commitRefusal stale placed) .after ≡ reset t ended m
+decided-ends : (t : ℕ) (ss : List Setting) (m : Machine) (daily stale shut placed : Bool) → commitDecided t ss m (commitRefusal daily stale shut placed) .reply .answer ≡ refused 13 → commitDecided t ss m (commitRefusal daily stale shut placed) .after ≡ reset t ended m
 unfolding commitDecided commitRefusal commitGranted
-decided-ends t ss m true placed e = refl
-decided-ends t ss m false true e = absurd (answer-not-refused _ 13 tt e)
-decided-ends t ss m false false e = let z : _≡_ {A = ℕ} 12 13 = refused-same 12 13 e in absurd (omega arith)
+decided-ends t ss m false stale shut placed e = let z : _≡_ {A = ℕ} 22 13 = refused-same 22 13 e in absurd (omega arith)
+decided-ends t ss m true true shut placed e = refl
+decided-ends t ss m true false true placed e = let z : _≡_ {A = ℕ} 21 13 = refused-same 21 13 e in absurd (omega arith)
+decided-ends t ss m true false false true e = absurd (answer-not-refused _ 13 tt e)
+decided-ends t ss m true false false false e = let z : _≡_ {A = ℕ} 12 13 = refused-same 12 13 e in absurd (omega arith)
 
 passing-ends : (k : ℕ) (m : Machine) (w z : Turn) → (w .reply .answer ≡ refused 13 → w .after ≡ z .after) → passing k [] m w .reply .answer ≡ refused 13 → passing k [] m w .after ≡ passing k [] m z .after
 unfolding passing turnDown
 passing-ends zero m w z f e = f e
 passing-ends (suc k) m w z f e = refl
 
-ends-call : (c : Call) (m : Machine) → call c m .reply .answer ≡ refused 13 → (t : ℕ) × (c ≡ commit t) × (call c m .after ≡ call (abort t) m .after)
-unfolding call beginTurn abortTurn answer stepTurn commitTurn admitted placesTurn placesOf
+ends-call : (c : Call) (m : Machine) → call c m .reply .answer ≡ refused 13 → (t : ℕ) × (minute : ℕ) × (c ≡ commit t minute) × (call c m .after ≡ call (abort t) m .after)
+unfolding call beginTurn abortTurn answer stepTurn commitTurn admitted placesTurn placesOf windowTurn
 ends-call (begin t) m e =
     absurd (not-13 (admissionOfBegin (sizes m) (m .store) (m .journal) t) [] m _ (begin-leaving (sizes m) (m .store) (m .journal) t) (answer-not-refused _ 13 tt) e)
 ends-call (on t o) m e =
     absurd (not-13 (admission (sizes m) (m .store) (m .journal) t) (bufferOf o) m _ (admission-leaving (sizes m) (m .store) (m .journal) t) (served-not-13 t o m _ _ (right-step (fileOf (m .store)) o (txnOf (m .store) (m .journal) (m .logs) t) (values (m .store) (m .files)) _)) e)
-ends-call (commit t) m e =
-    (t, refl, passing-ends (admission (sizes m) (m .store) (m .journal) t) m _ _ (decided-ends t _ m _ _) e)
+ends-call (commit t minute) m e =
+    (t, minute, refl, passing-ends (admission (sizes m) (m .store) (m .journal) t) m _ _ (decided-ends t _ m _ _ _ _) e)
 ends-call (abort t) m e =
     absurd (not-13 (admission (sizes m) (m .store) (m .journal) t) [] m _ (admission-leaving (sizes m) (m .store) (m .journal) t) (answer-not-refused _ 13 tt) e)
 ends-call (places t f out) m e =
     absurd (not-13 (admission (sizes m) (m .store) (m .journal) t) out m _ (admission-leaving (sizes m) (m .store) (m .journal) t) (placed-not-13 _ f out _ _ (placed-leaving _ f out _)) e)
+ends-call (setWindow f start end) m e =
+    absurd (not-13 (admissionOfWindow (sizes m) (m .store) (m .journal) f start end) [] m _ (window-leaving (sizes m) (m .store) (m .journal) f start end) (answer-not-refused _ 13 tt) e)
 
 leaves-fresh : (numbers : List ℕ) (m : Machine) → Leaves m [] (fresh numbers m)
 unfolding fresh answer admissionOfFresh
 leaves-fresh numbers m =
     leaves-passing _ [] m _
-    (unless-leaving _ 1 _ (omega arith, λ e. omega arith) (unless-leaving _ 14 0 (later-on 14 refl .1) none-leaving))
+    (unless-leaving _ 1 _ (refl, λ e. omega arith) (unless-leaving _ 14 0 (later-on 14 refl .1) none-leaving))
     (leaves-answer m [] _ tt)
 
 fresh-not-13 : (numbers : List ℕ) (m : Machine) (n : ℕ) → fresh numbers m .reply .answer ≡ refused n → n ≡ number Stale → ⊥
 unfolding fresh answer admissionOfFresh
 fresh-not-13 numbers m n e f =
     not-13 _ [] m _
-    (unless-leaving _ 1 _ (omega arith, λ e. omega arith) (unless-leaving _ 14 0 (later-on 14 refl .1) none-leaving))
+    (unless-leaving _ 1 _ (refl, λ e. omega arith) (unless-leaving _ 14 0 (later-on 14 refl .1) none-leaving))
     (answer-not-refused _ 13 tt) (e ∙ ap refused f)
 
 -- A call that answers met no early refusal, and one refused with 13 met it in its own turn.
@@ -198,5 +217,5 @@ demand1-of-code c m o after reader n k e =
     record {
       known = d .known c n f;
       leaves = λ h. let l = d .leaves c n f h in (k .machine ∙ l .0, k .reader ∙ l .1);
-      ends = λ h. let w = d .ends c (f ∙ ap refused h) in (w .0, w .1, k .machine ∙ w .2);
+      ends = λ h. let w = d .ends c (f ∙ ap refused h) in (w .0, w .1, w .2, k .machine ∙ w .3);
     }

@@ -3,6 +3,7 @@ use mathlib.Core.List.{List}
 use mathlib.Core.Path.{_≡_, sym, ap, _∙_, fun-ext, subst⁻¹}
 use Prim.Native.Nat.{ℕ}
 use lib.ListN.{getD}
+use Rattle.windows.specs.Hours.{freshWindows}
 use Rattle.rules.specs.Items.{Values}
 use Rattle.rules.specs.Messages.{Call, Reply}
 use Rattle.rules.specs.Sightings.{Committed}
@@ -21,7 +22,7 @@ module _ (m : Machine) (made : FreshlyMade numbers m) where
   same-values :
       (cs : List Call)
       → values (callsAfter cs m .store) (callsAfter cs m .files) ≡ plainAfter cs (freshPlain (λ d. getD numbers d 0)) .committed .value
-  same-values cs = demand3 numbers m made cs .left ∙ ap (λ (c : Committed). c .value) (again-left (λ d. getD numbers d 0) (λ i. 0) cs)
+  same-values cs = demand3 numbers m made cs .left ∙ ap (λ (c : Committed). c .value) (again-left (λ d. getD numbers d 0) (λ i. 0) freshWindows cs)
 
   same-seen : onStore m ≡ onPlain
   unfolding onStore onPlain freshNumbered

@@ -8,6 +8,7 @@ use lib.Dec.{leb, eqb}
 use lib.ListN.{length, getD}
 use native.Mathlib.Omega.{arith}
 use Prim.Native.Nat.{ℕ, zero, suc, _≤_, _<_}
+use Rattle.windows.specs.Hours.{Windows, freshWindows}
 use Rattle.octets.specs.Bits.{bitsOf}
 use Rattle.octets.specs.Marks.{contains}
 use Rattle.octets.proofs.SetLaws.{bits-lt, contains-bits}
@@ -16,7 +17,7 @@ use Rattle.record.specs.Paper.{Said, plain, pointer, given, granted, pairs, ref
 use Rattle.ranges.specs.Ranges.{admission, admissionOfFresh}
 use Rattle.ranges.proofs.Laws.{AdmittedFresh, admitted-fresh}
 use Rattle.rules.specs.Commits.{fits, commitRefusal}
-use Rattle.rules.specs.Messages.{Op, Call, begin, on, commit, abort, Reply, places}
+use Rattle.rules.specs.Messages.{Op, Call, begin, on, commit, abort, Reply, places, setWindow}
 use Rattle.rules.specs.Steps.{looks}
 use Rattle.rules.specs.Plain.{Slot, closed, running, Running, Plain, startPlain, freshPlain, isStale, PlainTurn, turnedDown, answering, grant, becameStale, plainCommitted, plainCommit, numbered, plainCall, plainAfter, plainReplies, firstList, secondList}
 use Rattle.rules.specs.Items.{Values}
@@ -32,6 +33,7 @@ use Rattle.rules.proofs.View.Shape.{Sound, heldBy, seat, view}
 use Rattle.rules.proofs.View.Admissions.{Agrees}
 use Rattle.rules.proofs.View.StepTurn.{step-turn}
 use Rattle.rules.proofs.View.EndTurns.{begin-turn, abort-turn, commit-turn, places-turn}
+use Rattle.rules.proofs.View.WindowTurn.{window-turn}
 use Rattle.rules.proofs.View.FreshView.{fresh-sound, fresh-view}
 use Rattle.rules.proofs.Demand3.Answers.{IsAnswer, answer-not-refused}
 use Rattle.rules.proofs.Demand3.Ranges.{never-early}
@@ -40,9 +42,10 @@ use Rattle.rules.proofs.Demand3.Ranges.{never-early}
 pub call-turn : (c : Call) (m : Machine) → Sound m → Agrees (call c m) (sightedCall c (view m))
 call-turn (begin t) m s = begin-turn m t s
 call-turn (on t o) m s = step-turn m t o s
-call-turn (commit t) m s = commit-turn m t s
+call-turn (commit t minute) m s = commit-turn m t s minute
 call-turn (abort t) m s = abort-turn m t s
 call-turn (places t f out) m s = places-turn m t s f out
+call-turn (setWindow f start end) m s = window-turn m f start end s
 
 -- .. and so does every list of calls.
 pub record Agree (cs : List Call) (m : Machine) : Type 0 where
@@ -70,7 +73,7 @@ fresh-passed (suc k) m w e = absurd (answer-not-refused plain (suc k) tt (sym e)
 
 pub record FreshFacts (numbers : List ℕ) (m : Machine) : Type 0 where
   pub sound : Sound m
-  pub same : view m ≡ startSighted (λ d. getD numbers d 0) (λ i. 0)
+  pub same : view m ≡ startSighted (λ d. getD numbers d 0) (λ i. 0) freshWindows
 
 pub fresh-facts : (numbers : List ℕ) (m : Machine) → FreshlyMade numbers m → FreshFacts numbers m
 unfolding fresh answer passing
@@ -123,60 +126,66 @@ pub record Told (t : ℕ) (p : Plain) (τ : PlainTurn) : Type 0 where
 not-told : (t : ℕ) (p : Plain) (τ : PlainTurn) (k : ℕ) → τ .reply .answer ≡ refused k → Told t p τ
 not-told t p τ k e = record { octet = λ n g. absurd (answer-not-refused (granted n) k tt (sym g ∙ e)) }
 
-told-decided : (t : ℕ) (r : Running) (p : Plain) (stale placed : Bool) → Told t p (plainCommitted t r p (commitRefusal stale placed))
+told-decided : (t : ℕ) (r : Running) (p : Plain) (daily stale shut placed : Bool) → Told t p (plainCommitted t r p (commitRefusal daily stale shut placed))
 unfolding plainCommitted commitRefusal answering octetIn
-told-decided t r p true placed = not-told t p _ 13 refl
-told-decided t r p false true = record { octet = λ n g. sym (ap octetIn g) }
-told-decided t r p false false = not-told t p _ 12 refl
+told-decided t r p false stale shut placed = not-told t p _ 22 refl
+told-decided t r p true true shut placed = not-told t p _ 13 refl
+told-decided t r p true false true placed = not-told t p _ 21 refl
+told-decided t r p true false false true = record { octet = λ n g. sym (ap octetIn g) }
+told-decided t r p true false false false = not-told t p _ 12 refl
 
-told-slot : (t : ℕ) (s : Slot) (p : Plain) → Told t p (plainCommit t s p)
+told-slot : (t minute : ℕ) (s : Slot) (p : Plain) → Told t p (plainCommit t minute s p)
 unfolding plainCommit turnedDown
-told-slot t closed p = not-told t p _ 4 refl
-told-slot t (running r) p = told-decided t r p _ _
+told-slot t minute closed p = not-told t p _ 4 refl
+told-slot t minute (running r) p = told-decided t r p _ _ _ _
 
-told : (b : Bool) (t : ℕ) (p : Plain) → Told t p (cond b (plainCommit t (p .slots t) p) (turnedDown 3 [] p))
+told : (b : Bool) (t minute : ℕ) (p : Plain) → Told t p (cond b (plainCommit t minute (p .slots t) p) (turnedDown 3 [] p))
 unfolding turnedDown
-told true t p = told-slot t (p .slots t) p
-told false t p = not-told t p _ 3 refl
+told true t minute p = told-slot t minute (p .slots t) p
+told false t minute p = not-told t p _ 3 refl
 
-told-commit : (t : ℕ) (p : Plain) → Told t p (plainCall (commit t) p)
+told-commit : (t minute : ℕ) (p : Plain) → Told t p (plainCall (commit t minute) p)
 unfolding plainCall numbered
-told-commit t p = told (leb t 7) t p
+told-commit t minute p = told (leb t 7) t minute p
 
--- Demand 3 from a sound store that stands for the store without buffers with these committed values and nothing open.
-pub holds-from : (F : ℕ → ℕ) (v : Values) (m₀ : Machine) → Sound m₀ → view m₀ ≡ startSighted F v
-    → (cs : List Call) → Holds m₀ (startPlain F v) cs (callsAfter cs m₀) (plainAfter cs (startPlain F v))
+-- Demand 3 from a sound store that stands for the store without buffers with these committed values, these windows and nothing open.
+pub holds-from : (F : ℕ → ℕ) (v : Values) (ws : Windows) (m₀ : Machine) → Sound m₀ → view m₀ ≡ startSighted F v ws
+    → (cs : List Call) → Holds m₀ (startPlain F v ws) cs (callsAfter cs m₀) (plainAfter cs (startPlain F v ws))
 unfolding view abs absTurn
-holds-from F v m₀ sound start cs =
+holds-from F v ws m₀ sound start cs =
     let a = calls-agree cs m₀ sound in
     let m = callsAfter cs m₀ in
-    let p = plainAfter cs (startPlain F v) in
-    let e : view m ≡ sightedAfter cs (startSighted F v) = a .state ∙ ap (sightedAfter cs) start in
-    let same : view m ≡ abs p = e ∙ state-same F v cs in
-    let turn : (c : Call) → call c m .reply ≡ sightedCall c (sightedAfter cs (startSighted F v)) .reply =
+    let p = plainAfter cs (startPlain F v ws) in
+    let e : view m ≡ sightedAfter cs (startSighted F v ws) = a .state ∙ ap (sightedAfter cs) start in
+    let same : view m ≡ abs p = e ∙ state-same F v ws cs in
+    let turn : (c : Call) → call c m .reply ≡ sightedCall c (sightedAfter cs (startSighted F v ws)) .reply =
     λ c. call-turn c m (a .sound) .0 ∙ ap (λ (s : Sighted). sightedCall c s .reply) e in
     record {
-      replies = a .replies ∙ ap (sightedReplies cs) start ∙ replies-same F v cs;
+      replies = a .replies ∙ ap (sightedReplies cs) start ∙ replies-same F v ws cs;
       openness = open-same m p same;
-      staleness = λ t r l o. subst⁻¹ (λ (x : Reply). (x .answer ≡ refused 13 → ⊥) ↔ (firstList r ≡ secondList p r)) (turn (commit t)) (store-commit F v cs t r o .passes);
+      staleness =
+          λ t minute r l o h.
+          let e = turn (commit t minute) in
+          subst⁻¹ (λ (x : Reply). (x .answer ≡ refused 13 → ⊥) ↔ (firstList r ≡ secondList p r)) e
+          (store-commit F v ws cs t minute r o (λ k. h (ap (λ (x : Reply). x .answer) e ∙ k)) .passes);
       octet =
-          λ t n g.
-          let b = becameStale t p (plainCall (commit t) p .after) in
-          let e = told-commit t p .octet n (sym (ap (λ (x : Reply). x .answer) (turn (commit t) ∙ ap (λ (τ : SightedTurn). τ .reply) (turn-same F v cs (commit t)))) ∙ g) in
+          λ t minute n g.
+          let b = becameStale t p (plainCall (commit t minute) p .after) in
+          let e = told-commit t minute p .octet n (sym (ap (λ (x : Reply). x .answer) (turn (commit t minute) ∙ ap (λ (τ : SightedTurn). τ .reply) (turn-same F v ws cs (commit t minute)))) ∙ g) in
           (omega (arith, bits-lt b 8), λ u l. ap (λ (k : ℕ). contains k u) e ∙ contains-bits b 8 u l);
-      again = again-same F v cs;
-      left = ap (λ (s : Sighted). s .value) same ∙ sym (ap (λ (c : Committed). c .value) (again-left F v cs));
+      again = again-same F v ws cs;
+      left = ap (λ (s : Sighted). s .value) same ∙ sym (ap (λ (c : Committed). c .value) (again-left F v ws cs));
       moment =
           λ t o l g.
-          let e = turn (on t o) ∙ ap (λ (τ : SightedTurn). τ .reply) (turn-same F v cs (on t o)) in
-          subst⁻¹ (OneMoment p t o) e (moment-same F v cs t o l (subst IsAccepted e g));
+          let e = turn (on t o) ∙ ap (λ (τ : SightedTurn). τ .reply) (turn-same F v ws cs (on t o)) in
+          subst⁻¹ (OneMoment p t o) e (moment-same F v ws cs t o l (subst IsAccepted e g));
       ranges = λ c. never-early c m (a .sound);
     }
 
 pub demand3 : Demand3
 demand3 numbers m₀ made cs =
     let f = fresh-facts numbers m₀ made in
-    holds-from (λ d. getD numbers d 0) (λ i. 0) m₀ (f .sound) (f .same) cs
+    holds-from (λ d. getD numbers d 0) (λ i. 0) freshWindows m₀ (f .sound) (f .same) cs
 
 -- Calls of the code that keep their promises are calls of the rules.
 pub record LinkedFacts (m : Machine) (xs : List Made) : Type 0 where

@@ -4,6 +4,7 @@ use mathlib.Core.List.{List, [], _∷_, map}
 use mathlib.Core.Path.{_≡_}
 use lib.Dec.{leb}
 use Prim.Native.Nat.{ℕ, _+_}
+use Rattle.windows.specs.Hours.{minuteIn}
 use Rattle.rules.specs.Transactions.{empty}
 use Rattle.rules.specs.Commits.{fits}
 use Rattle.rules.specs.Sightings.{Committed}
@@ -22,9 +23,10 @@ serially fileOf n [] c = c
 serially fileOf n (g ∷ gs) c = serially fileOf (n + 1) gs (committing fileOf (n + 1) (again fileOf c (g .calls) .txn) c)
 
 -- "meet no refusal, give the same answers and bytes": each gets through all its calls with the replies that it had, and its Commit
--- is not refused (alone it is not stale, so by 12 at most).
+-- is not refused (alone it is not stale, and with Fresh's windows no file is closed, so by 22 or 12 at most).
 pub record SameAgain (fileOf : ℕ → ℕ) (c : Committed) (g : Grant) : Type 0 where
   pub small : leb (g .number) 7 ≡ true
+  pub daily : minuteIn (g .minute) ≡ true
   pub through : again fileOf c (g .calls) .through ≡ true
   pub replies : again fileOf c (g .calls) .replies ≡ map (λ a. a .reply) (g .calls)
   pub fitting : fits (c .value) (again fileOf c (g .calls) .txn) ≡ true

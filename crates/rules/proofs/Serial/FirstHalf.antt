@@ -5,18 +5,22 @@ use mathlib.Core.List.{List, [], _∷_, _++_}
 use mathlib.Core.Path.{_≡_, refl, sym, ap, ap₂, _∙_, fun-ext}
 use lib.Dec.{eqb, leb}
 use Prim.Native.Nat.{ℕ, zero, suc, _+_}
+use Rattle.windows.specs.Hours.{minuteIn, window, Windows}
 use Rattle.octets.specs.Bits.{bitsOf}
 use Rattle.record.specs.Paper.{Said, plain, granted, refused}
+use Rattle.ranges.specs.Below.{guarded, isNone}
+use Rattle.ranges.specs.Ranges.{windowRefusal}
+use Rattle.rules.specs.Windows.{forClosed}
 use Rattle.rules.specs.Items.{Item, Values, byte, offset, fileLength, result, asked}
 use Rattle.rules.specs.Transactions.{Txn, empty, put}
-use Rattle.rules.specs.Messages.{Op, bufferOf, places}
+use Rattle.rules.specs.Messages.{Op, bufferOf, places, setWindow}
 use Rattle.rules.specs.Steps.{Stepped, refuse, accept, step, turnedBack}
 use Rattle.rules.specs.Commits.{settings, fits, landed, commitRefusal}
 use Rattle.rules.specs.Messages.{Call, begin, on, commit, abort, Reply}
 use Rattle.rules.specs.Sightings.{sameEntries, entries}
-use Rattle.rules.specs.Plain.{Running, Slot, closed, running, Plain, startPlain, ops, firstList, secondList, isStale, PlainTurn, turnedDown, withSlot, answering, plainBegin, plainStepped, plainOn, committing, grant, equalSlot, staleSlot, becameStale, plainCommitted, plainCommit, plainAbort, numbered, plainCall, plainAfter, plainReplies, plainPlaces}
+use Rattle.rules.specs.Plain.{Running, Slot, closed, running, Plain, withWindows, plainSetWindow, startPlain, ops, firstList, secondList, isStale, PlainTurn, turnedDown, withSlot, answering, plainBegin, plainStepped, plainOn, committing, grant, equalSlot, staleSlot, becameStale, plainCommitted, plainCommit, plainAbort, numbered, plainCall, plainAfter, plainReplies, plainPlaces}
 use Rattle.rules.specs.Lone.{lone}
-use Rattle.rules.proofs.Serial.Sighted.{Held, Seat, vacant, held, Sighted, startSighted, sighted, among, hit, markAll, lengthAll, SightedTurn, turnedAway, withSeat, telling, sightedBegin, sightedStepped, sightedOn, touch, newlyStale, granting, sightedCommitted, sightedCommit, sightedAbort, seated, sightedCall, sightedAfter, sightedReplies, sightedPlaces}
+use Rattle.rules.proofs.Serial.Sighted.{Held, Seat, vacant, held, Sighted, startSighted, sighted, among, hit, markAll, lengthAll, SightedTurn, turnedAway, withSeat, telling, sightedBegin, sightedStepped, sightedOn, touch, newlyStale, granting, sightedCommitted, sightedCommit, sightedAbort, windowed, sightedWindow, seated, sightedCall, sightedAfter, sightedReplies, sightedPlaces}
 use Rattle.rules.proofs.Serial.Programs.{among-append, turned-back}
 use Rattle.rules.proofs.Serial.Lists.{items, current, current-entries, current-append, anyTouched, hit-is, markAll-at, lengthAll-at, current-after}
 use Rattle.rules.proofs.Serial.Sound.{Sound, seen-old, lists-same, sound-more, sound-granted, items-more, extended}
@@ -31,14 +35,14 @@ seatOf p closed = vacant
 seatOf p (running r) = held (heldOf p r)
 
 unfoldable pub abs : Plain → Sighted
-abs p = record { fileOf = p .fileOf; value = p .committed .value; seats = λ t. seatOf p (p .slots t) }
+abs p = record { fileOf = p .fileOf; value = p .committed .value; windows = p .windows; seats = λ t. seatOf p (p .slots t) }
 
 unfoldable pub absTurn : PlainTurn → SightedTurn
 absTurn τ = record { reply = τ .reply; after = abs (τ .after) }
 
-pub abs-start : (fileOf : ℕ → ℕ) (v : Values) → startSighted fileOf v ≡ abs (startPlain fileOf v)
+pub abs-start : (fileOf : ℕ → ℕ) (v : Values) (ws : Windows) → startSighted fileOf v ws ≡ abs (startPlain fileOf v ws)
 unfolding startSighted abs startPlain seatOf
-abs-start fileOf v = refl
+abs-start fileOf v ws = refl
 
 -- A function with another value at one number, after a map.
 put-map : {A B : Type 0} (f : A → B) (t : ℕ) (a : A) (g : ℕ → A) (u : ℕ) → put t (f a) (λ w. f (g w)) u ≡ f (put t a g u)
@@ -133,7 +137,7 @@ seat-slot t s p (running r) = refl
 abs-slot : (t : ℕ) (s : Slot) (p : Plain) → withSeat t (seatOf p s) (abs p) ≡ abs (withSlot t s p)
 unfolding withSeat abs withSlot
 abs-slot t s p =
-    ap (λ (f : ℕ → Seat). record { fileOf = p .fileOf; value = p .committed .value; seats = f })
+    ap (λ (f : ℕ → Seat). record { fileOf = p .fileOf; value = p .committed .value; windows = p .windows; seats = f })
     (fun-ext (λ u. put-map (seatOf p) t s (p .slots) u ∙ seat-slot t s p (put t s (p .slots) u)))
 
 -- Each call: what it gives on a slot, and on that slot's seat.
@@ -247,7 +251,7 @@ module _ (p : Plain) (g : Good p) where
       (λ (b : ℕ → Bool) (f : ℕ → Seat).
       record {
         reply = record { answer = granted (bitsOf b 8); buffer = [] };
-        after = record { fileOf = p .fileOf; value = landed ss (p .committed .value); seats = f };
+        after = record { fileOf = p .fileOf; value = landed ss (p .committed .value); windows = p .windows; seats = f };
       })
       (fun-ext (became-is t r p (g .sound)))
       (fun-ext (λ u. ap (touch ss) (seats u) ∙ touch-is t r p (others u) (sound u)))
@@ -265,10 +269,12 @@ module _ (p : Plain) (g : Good p) where
       ended true = ap (λ (a : Sighted). record { reply = record { answer = refused (suc n); buffer = [] }; after = a }) (abs-slot t closed p)
       ended false = refl
 
-  same-commit : (t : ℕ) (s : Slot) → sightedCommit t (seatOf p s) (abs p) ≡ absTurn (plainCommit t s p)
+  same-commit : (t minute : ℕ) (s : Slot) → sightedCommit t minute (seatOf p s) (abs p) ≡ absTurn (plainCommit t minute s p)
   unfolding sightedCommit plainCommit seatOf turnedAway turnedDown absTurn heldOf abs
-  same-commit t closed = refl
-  same-commit t (running r) = same-committed t r (commitRefusal (isStale p r) (fits (p .committed .value) (r .txn)))
+  same-commit t minute closed = refl
+  same-commit t minute (running r) =
+      same-committed t r
+      (commitRefusal (minuteIn minute) (isStale p r) (forClosed (p .fileOf) (p .windows) minute (r .txn .writes)) (fits (p .committed .value) (r .txn)))
 
   same-abort : (t : ℕ) (s : Slot) → sightedAbort t (seatOf p s) (abs p) ≡ absTurn (plainAbort t s p)
   unfolding sightedAbort plainAbort seatOf turnedAway turnedDown absTurn telling answering
@@ -280,6 +286,30 @@ module _ (p : Plain) (g : Good p) where
   unfolding sightedPlaces plainPlaces seatOf turnedAway turnedDown absTurn heldOf abs
   same-places f out closed = refl
   same-places f out (running r) = refl
+
+  -- A window set makes nobody stale.
+  same-window : (f start end : ℕ) → sightedWindow f start end (abs p) ≡ absTurn (plainSetWindow f start end p)
+  unfolding sightedWindow plainSetWindow absTurn turnedAway turnedDown telling answering windowed abs
+  same-window f start end = chosen (windowRefusal f start end)
+    where
+      seat-windows : (ws : Windows) (s : Slot) → seatOf p s ≡ seatOf (withWindows ws p) s
+      seat-windows ws closed = unfold seatOf in refl
+      seat-windows ws (running r) = unfold seatOf heldOf isStale firstList secondList in refl
+
+      ws : Windows
+      ws = put f (window start end) (p .windows)
+
+      seats-same : _≡_ {A = ℕ → Seat} (λ t. seatOf p (p .slots t)) (λ t. seatOf (withWindows ws p) (p .slots t))
+      seats-same = fun-ext (λ t. seat-windows ws (p .slots t))
+
+      chosen :
+          (n : ℕ)
+          → guarded (λ k. turnedAway k [] (abs p)) (isNone n) n (telling plain (windowed f start end (abs p)))
+          ≡ absTurn (guarded (λ k. turnedDown k [] p) (isNone n) n (answering plain (withWindows ws p)))
+      chosen zero =
+          ap (λ (g : ℕ → Seat). record { reply = record { answer = plain; buffer = [] }; after = record { fileOf = p .fileOf; value = p .committed .value; windows = ws; seats = g } })
+          seats-same
+      chosen (suc n) = refl
 
   same-numbered :
       (t : ℕ) (buffer : List ℕ) (first : Seat → Sighted → SightedTurn) (second : Slot → Plain → PlainTurn)
@@ -300,9 +330,11 @@ pub same-call : (c : Call) (p : Plain) → Good p → sightedCall c (abs p) ≡ 
 unfolding sightedCall plainCall
 same-call (begin t) p g = same-numbered p g t [] (sightedBegin t) (plainBegin t) (same-begin p g t (p .slots t))
 same-call (on t o) p g = same-numbered p g t (bufferOf o) (sightedOn t o) (plainOn t o) (same-on p g t o (p .slots t) (g .sound t))
-same-call (commit t) p g = same-numbered p g t [] (sightedCommit t) (plainCommit t) (same-commit p g t (p .slots t))
+same-call (commit t minute) p g =
+    same-numbered p g t [] (sightedCommit t minute) (plainCommit t minute) (same-commit p g t minute (p .slots t))
 same-call (abort t) p g = same-numbered p g t [] (sightedAbort t) (plainAbort t) (same-abort p g t (p .slots t))
 same-call (places t f out) p g = same-numbered p g t out (sightedPlaces f out) (plainPlaces f out) (same-places p g f out (p .slots t))
+same-call (setWindow f start end) p g = same-window p g f start end
 
 pub same-after : (cs : List Call) (p : Plain) → Good p → sightedAfter cs (abs p) ≡ abs (plainAfter cs p)
 unfolding sightedAfter plainAfter absTurn

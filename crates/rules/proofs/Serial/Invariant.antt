@@ -6,14 +6,19 @@ use borrow.Author.Tests.{ne-eqb, leb-true, leb-false}
 use lib.Dec.{eqb, leb}
 use native.Mathlib.Omega.{arith}
 use Prim.Native.Nat.{ℕ, zero, suc, _+_, _≤_, _<_}
+use Rattle.windows.specs.Hours.{minuteIn, window, Windows}
+use Rattle.record.specs.Paper.{plain}
+use Rattle.ranges.specs.Below.{guarded, isNone}
+use Rattle.ranges.specs.Ranges.{windowRefusal}
+use Rattle.rules.specs.Windows.{forClosed}
 use Rattle.rules.specs.Items.{Item, Values, result, asked}
 use Rattle.rules.specs.Transactions.{put}
-use Rattle.rules.specs.Messages.{Op, bufferOf, places}
+use Rattle.rules.specs.Messages.{Op, bufferOf, places, setWindow}
 use Rattle.rules.specs.Steps.{Stepped, refuse, accept, step, turnedBack}
 use Rattle.rules.specs.Commits.{settings, fits, commitRefusal}
 use Rattle.rules.specs.Messages.{Call, begin, on, commit, abort}
 use Rattle.rules.specs.Sightings.{entries, Committed}
-use Rattle.rules.specs.Plain.{Running, Slot, closed, running, Plain, startPlain, isStale, PlainTurn, turnedDown, withSlot, answering, plainBegin, plainStepped, plainOn, committing, grant, plainCommitted, plainCommit, plainAbort, numbered, plainCall, plainAfter, plainPlaces}
+use Rattle.rules.specs.Plain.{Running, Slot, closed, running, Plain, withWindows, plainSetWindow, startPlain, isStale, PlainTurn, turnedDown, withSlot, answering, plainBegin, plainStepped, plainOn, committing, grant, plainCommitted, plainCommit, plainAbort, numbered, plainCall, plainAfter, plainPlaces}
 use Rattle.rules.proofs.Serial.Programs.{turned-back}
 use Rattle.rules.proofs.Serial.Lists.{touched, setBy-at}
 use Rattle.rules.proofs.Serial.Sound.{Sound, sound-begun, sound-more, sound-granted}
@@ -42,9 +47,9 @@ module _ {A : Type 0} (t : ℕ) (a : A) (f : ℕ → A) where
   unfolding put
   put-other u h = ap (λ (b : Bool). cond b a (f u)) (ne-eqb u t h)
 
-pub good-start : (fileOf : ℕ → ℕ) (v : Values) → Good (startPlain fileOf v)
+pub good-start : (fileOf : ℕ → ℕ) (v : Values) (ws : Windows) → Good (startPlain fileOf v ws)
 unfolding startPlain SoundSlot
-good-start fileOf v = record { setters = λ i. omega arith; sound = λ t. tt; above = λ t h. refl }
+good-start fileOf v ws = record { setters = λ i. omega arith; sound = λ t. tt; above = λ t h. refl }
 
 module _ (p : Plain) (g : Good p) where
   pub sound-at : (t : ℕ) (r : Running) → p .slots t ≡ running r → Sound (p .fileOf) (p .committed) (p .grants) r
@@ -139,10 +144,12 @@ module _ (p : Plain) (g : Good p) where
       ended true = good-slot t l closed tt
       ended false = g
 
-  good-commit : (t : ℕ) → leb t 7 ≡ true → (s : Slot) → Good (plainCommit t s p .after)
+  good-commit : (t minute : ℕ) → leb t 7 ≡ true → (s : Slot) → Good (plainCommit t minute s p .after)
   unfolding plainCommit turnedDown
-  good-commit t l closed = g
-  good-commit t l (running r) = good-committed t r l (commitRefusal (isStale p r) (fits (p .committed .value) (r .txn)))
+  good-commit t minute l closed = g
+  good-commit t minute l (running r) =
+      good-committed t r l
+      (commitRefusal (minuteIn minute) (isStale p r) (forClosed (p .fileOf) (p .windows) minute (r .txn .writes)) (fits (p .committed .value) (r .txn)))
 
   good-abort : (t : ℕ) → leb t 7 ≡ true → (s : Slot) → Good (plainAbort t s p .after)
   unfolding plainAbort turnedDown answering SoundSlot
@@ -168,13 +175,22 @@ unfolding plainPlaces turnedDown
 good-places f out closed p g = g
 good-places f out (running r) p g = g
 
+good-window : (f start end : ℕ) (p : Plain) → Good p → Good (plainSetWindow f start end p .after)
+unfolding plainSetWindow turnedDown answering
+good-window f start end p g = chosen (windowRefusal f start end)
+  where
+    chosen : (n : ℕ) → Good (guarded (λ k. turnedDown k [] p) (isNone n) n (answering plain (withWindows (put f (window start end) (p .windows)) p)) .after)
+    chosen zero = record { setters = g .setters; sound = g .sound; above = g .above }
+    chosen (suc n) = g
+
 pub good-call : (c : Call) (p : Plain) → Good p → Good (plainCall c p .after)
 unfolding plainCall
 good-call (begin t) p g = good-numbered p g t [] (plainBegin t) (λ l. good-begin p g t l (p .slots t))
 good-call (on t o) p g = good-numbered p g t (bufferOf o) (plainOn t o) (λ l. good-on p g t o l (p .slots t) (g .sound t))
-good-call (commit t) p g = good-numbered p g t [] (plainCommit t) (λ l. good-commit p g t l (p .slots t))
+good-call (commit t minute) p g = good-numbered p g t [] (plainCommit t minute) (λ l. good-commit p g t minute l (p .slots t))
 good-call (abort t) p g = good-numbered p g t [] (plainAbort t) (λ l. good-abort p g t l (p .slots t))
 good-call (places t f out) p g = good-numbered p g t out (plainPlaces f out) (λ l. good-places f out (p .slots t) p g)
+good-call (setWindow f start end) p g = good-window f start end p g
 
 pub good-after : (cs : List Call) (p : Plain) → Good p → Good (plainAfter cs p)
 unfolding plainAfter

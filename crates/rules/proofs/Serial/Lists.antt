@@ -162,11 +162,11 @@ setBy-at n (s ∷ ss) v j =
     ∙ ap (λ (a : Bool). cond (touched ss j) n (cond a n (v j))) (same-sym j (s .item))
     ∙ cond-twice n (v j) (same (s .item) j) (touched ss j)
 
-or-left-false : (a b : Bool) → (a || b) ≡ false → a ≡ false
+pub or-left-false : (a b : Bool) → (a || b) ≡ false → a ≡ false
 or-left-false true b e = e
 or-left-false false b e = refl
 
-or-right-false : (a b : Bool) → (a || b) ≡ false → b ≡ false
+pub or-right-false : (a b : Bool) → (a || b) ≡ false → b ≡ false
 or-right-false true true e = e
 or-right-false true false e = refl
 or-right-false false b e = e

@@ -7,12 +7,15 @@ use borrow.Author.Tests.{eqb-true, eq-eqb}
 use lib.Dec.{leb, eqb}
 use native.Mathlib.Omega.{arith}
 use Prim.Native.Nat.{ℕ, zero, suc, _+_}
+use Rattle.windows.specs.Hours.{minuteIn, freshWindows, isOpenAt, isClosedAt}
 use Rattle.octets.specs.Bits.{bitsOf}
 use Rattle.octets.proofs.SetLaws.{bits-none}
 use Rattle.record.specs.Paper.{Said, plain, granted}
+use Rattle.rules.specs.Coverage.{someWrite}
+use Rattle.rules.specs.Windows.{isForClosed, forClosed}
 use Rattle.rules.specs.Messages.{Op, bufferOf, Call, begin, on, commit, Reply, says}
 use Rattle.rules.specs.Items.{result, asked}
-use Rattle.rules.specs.Transactions.{Txn, empty, put}
+use Rattle.rules.specs.Transactions.{Txn, Write, empty, put}
 use Rattle.rules.specs.Steps.{Stepped, refuse, accept, step, turnedBack}
 use Rattle.rules.specs.Commits.{fits, commitRefusal}
 use Rattle.rules.specs.Sightings.{Entry, Committed, entries}
@@ -62,13 +65,13 @@ module _ {A : Type 0} (t : ℕ) where
 slot-own : (t : ℕ) (s : Slot) (p : Plain) → p .slots t ≡ s → withSlot t s p ≡ p
 unfolding withSlot
 slot-own t s p e =
-    ap (λ (f : ℕ → Slot). record { fileOf = p .fileOf; committed = p .committed; grants = p .grants; slots = f })
+    ap (λ (f : ℕ → Slot). record { fileOf = p .fileOf; committed = p .committed; grants = p .grants; windows = p .windows; slots = f })
     (ap (λ (x : Slot). put t x (p .slots)) (sym e) ∙ put-own t (p .slots))
 
 slot-twice : (t : ℕ) (s r : Slot) (p : Plain) → withSlot t s (withSlot t r p) ≡ withSlot t s p
 unfolding withSlot
 slot-twice t s r p =
-    ap (λ (f : ℕ → Slot). record { fileOf = p .fileOf; committed = p .committed; grants = p .grants; slots = f }) (put-twice t s r (p .slots))
+    ap (λ (f : ℕ → Slot). record { fileOf = p .fileOf; committed = p .committed; grants = p .grants; windows = p .windows; slots = f }) (put-twice t s r (p .slots))
 
 -- ---- the accepted calls of one transaction
 
@@ -185,6 +188,16 @@ module _ (t : ℕ) (small : leb t 7 ≡ true) where
 abbrev pub Idle : Plain → Type 0
 Idle p = (u : ℕ) → p .slots u ≡ closed
 
+-- With Fresh's windows every file is open at every minute.
+no-write-closed : (fileOf : ℕ → ℕ) (minute : ℕ) (w : Write) → isForClosed fileOf freshWindows minute w ≡ false
+unfolding isForClosed isClosedAt isOpenAt
+no-write-closed fileOf minute w = simp and-false
+
+never-closed : (fileOf : ℕ → ℕ) (minute : ℕ) (ws : List Write) → forClosed fileOf freshWindows minute ws ≡ false
+unfolding forClosed someWrite
+never-closed fileOf minute [] = refl
+never-closed fileOf minute (w ∷ ws) = rw (no-write-closed fileOf minute w) (never-closed fileOf minute ws)
+
 -- Nobody becomes stale where nobody is open.
 nobody : (t : ℕ) (p q : Plain) → Idle q → bitsOf (becameStale t p q) 8 ≡ 0
 unfolding becameStale staleSlot
@@ -226,16 +239,19 @@ module _ (t : ℕ) (p : Plain) (r : Running) where
   unfolding grant withSlot
   idle-after none u = ap (λ (f : ℕ → Slot). put t closed f u) (put-twice t (running r) (running justBegun) (p .slots)) ∙ put-closed t (running r) (p .slots) none u
 
-  granted-turn : leb t 7 ≡ true → Idle p → r .seen ≡ lone (p .fileOf) (p .committed) (ops (r .calls)) empty .seen
+  granted-turn : (minute : ℕ) → leb t 7 ≡ true → minuteIn minute ≡ true → p .windows ≡ freshWindows → Idle p → r .seen ≡ lone (p .fileOf) (p .committed) (ops (r .calls)) empty .seen
       → fits (p .committed .value) (r .txn) ≡ true
-      → plainCall (commit t) ready ≡ record { reply = says (granted 0); after = grant t r ready }
+      → plainCall (commit t minute) ready ≡ record { reply = says (granted 0); after = grant t r ready }
   unfolding withSlot firstList secondList
-  granted-turn small none same fit =
-      commit-turn t r ready small (put-same t (running r) _)
-      ∙ ap₂ (λ (a b : Bool). plainCommitted t r ready (commitRefusal a b)) (stale-exactly ready r .1 same) fit
+  granted-turn minute small daily always none same fit =
+      commit-turn t minute r ready small (put-same t (running r) _)
+      ∙ ap₂ (λ (d s : Bool). plainCommitted t r ready (commitRefusal d s (forClosed (p .fileOf) (p .windows) minute (r .txn .writes)) (fits (p .committed .value) (r .txn))))
+      daily (stale-exactly ready r .1 same)
+      ∙ ap₂ (λ (c f : Bool). plainCommitted t r ready (commitRefusal true false c f))
+      (ap (λ ws. forClosed (p .fileOf) ws minute (r .txn .writes)) always ∙ never-closed (p .fileOf) minute (r .txn .writes)) fit
       ∙ granting-turn
     where
-      granting-turn : plainCommitted t r ready (commitRefusal false true) ≡ record { reply = says (granted 0); after = grant t r ready }
+      granting-turn : plainCommitted t r ready (commitRefusal true false false true) ≡ record { reply = says (granted 0); after = grant t r ready }
       granting-turn =
           unfold plainCommitted commitRefusal answering in
           ap (λ (n : ℕ). record { reply = says (granted n); after = grant t r ready }) (nobody t ready (grant t r ready) (idle-after none))
@@ -247,36 +263,39 @@ pub record Done (g : Grant) (p : Plain) : Type 0 where
   pub after : plainAfter (againOf g) p ≡ end
   pub idle : Idle end
   pub files : end .fileOf ≡ p .fileOf
+  pub windows : end .windows ≡ p .windows
   pub grants : end .grants ≡ p .grants + 1
   pub committed : end .committed ≡ committing (p .fileOf) (p .grants + 1) (again (p .fileOf) (p .committed) (g .calls) .txn) (p .committed)
 
-done-again : (g : Grant) (p : Plain) → Idle p → SameAgain (p .fileOf) (p .committed) g → Done g p
+done-again : (g : Grant) (p : Plain) → p .windows ≡ freshWindows → Idle p → SameAgain (p .fileOf) (p .committed) g → Done g p
 unfolding againOf repliesOf again plainReplies plainAfter
-done-again g p none s =
+done-again g p always none s =
     let t = g .number in
+    let minute = g .minute in
     let l = lone (p .fileOf) (p .committed) (ops (g .calls)) empty in
     let q = withSlot t (running justBegun) p in
     let r = after-run (g .calls) justBegun l in
     let b : plainCall (begin t) p ≡ record { reply = says plain; after = q } = begun-turn t p (s .small) (none t) in
     let ran : Ran t (g .calls) justBegun q l = ran-on t p (g .calls) (s .small) (s .through) (s .replies) in
-    let c : plainCall (commit t) (withSlot t (running r) q) ≡ record { reply = says (granted 0); after = grant t r (withSlot t (running r) q) } =
-    granted-turn t p r (s .small) none refl (s .fitting) in
+    let c : plainCall (commit t minute) (withSlot t (running r) q) ≡ record { reply = says (granted 0); after = grant t r (withSlot t (running r) q) } =
+    granted-turn t p r minute (s .small) (s .daily) always none refl (s .fitting) in
     let cs = callsOn t (g .calls) in
     record {
       end = grant t r (withSlot t (running r) q);
       replies =
-          ap (λ (τ : PlainTurn). τ .reply ∷ plainReplies (cs ++ (commit t ∷ [])) (τ .after)) b
+          ap (λ (τ : PlainTurn). τ .reply ∷ plainReplies (cs ++ (commit t minute ∷ [])) (τ .after)) b
           ∙ ap (λ (rs : List Reply). says plain ∷ rs)
-          (replies-append cs (commit t ∷ []) q
-          ∙ ap₂ (λ (rs : List Reply) (m : Plain). rs ++ plainReplies (commit t ∷ []) m) (ran .replies) (ran .after)
+          (replies-append cs (commit t minute ∷ []) q
+          ∙ ap₂ (λ (rs : List Reply) (m : Plain). rs ++ plainReplies (commit t minute ∷ []) m) (ran .replies) (ran .after)
           ∙ ap (λ (τ : PlainTurn). map (λ (a : Accepted). a .reply) (g .calls) ++ (τ .reply ∷ [])) c);
       after =
-          ap (λ (τ : PlainTurn). plainAfter (cs ++ (commit t ∷ [])) (τ .after)) b
-          ∙ after-append cs (commit t ∷ []) q
-          ∙ ap (plainAfter (commit t ∷ [])) (ran .after)
+          ap (λ (τ : PlainTurn). plainAfter (cs ++ (commit t minute ∷ [])) (τ .after)) b
+          ∙ after-append cs (commit t minute ∷ []) q
+          ∙ ap (plainAfter (commit t minute ∷ [])) (ran .after)
           ∙ ap (λ (τ : PlainTurn). τ .after) c;
       idle = idle-after t p r none;
       files = unfold grant withSlot in refl;
+      windows = unfold grant withSlot in refl;
       grants = unfold grant withSlot in refl;
       committed = unfold grant withSlot in refl;
     }
@@ -287,13 +306,13 @@ pub record Reran (gs : List Grant) (p : Plain) : Type 0 where
   pub replies : plainReplies (rerun gs) p ≡ sameReplies gs
   pub left : plainAfter (rerun gs) p .committed ≡ serially (p .fileOf) (p .grants) gs (p .committed)
 
-pub reran : (gs : List Grant) (p : Plain) → Idle p → AllSame (p .fileOf) (p .grants) gs (p .committed) → Reran gs p
+pub reran : (gs : List Grant) (p : Plain) → p .windows ≡ freshWindows → Idle p → AllSame (p .fileOf) (p .grants) gs (p .committed) → Reran gs p
 unfolding rerun sameReplies serially AllSame plainReplies plainAfter
-reran [] p none s = record { replies = refl; left = refl }
-reran (g ∷ gs) p none s =
-    let d = done-again g p none (s .0) in
+reran [] p always none s = record { replies = refl; left = refl }
+reran (g ∷ gs) p always none s =
+    let d = done-again g p always none (s .0) in
     let c = committing (p .fileOf) (p .grants + 1) (again (p .fileOf) (p .committed) (g .calls) .txn) (p .committed) in
-    let rest : Reran gs (d .end) = reran gs (d .end) (d .idle) (rw (d .files, d .grants, d .committed) (s .1)) in
+    let rest : Reran gs (d .end) = reran gs (d .end) (d .windows ∙ always) (d .idle) (rw (d .files, d .grants, d .committed) (s .1)) in
     record {
       replies =
           replies-append (againOf g) (rerun gs) p

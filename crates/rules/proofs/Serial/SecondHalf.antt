@@ -4,15 +4,20 @@ use mathlib.Core.List.{List, [], _∷_, _++_, map}
 use mathlib.Core.Path.{_≡_, refl, sym, ap, _∙_, subst}
 use borrow.Author.Tests.{not-false}
 use lib.Dec.{leb}
-use Prim.Native.Nat.{ℕ, _+_}
+use Prim.Native.Nat.{ℕ, zero, suc, _+_}
+use Rattle.windows.specs.Hours.{minuteIn, window, Windows}
+use Rattle.record.specs.Paper.{plain}
+use Rattle.ranges.specs.Below.{guarded, isNone}
+use Rattle.ranges.specs.Ranges.{windowRefusal}
+use Rattle.rules.specs.Windows.{forClosed}
 use Rattle.rules.specs.Items.{result, asked}
-use Rattle.rules.specs.Transactions.{Txn, empty}
-use Rattle.rules.specs.Messages.{Op, bufferOf, places}
+use Rattle.rules.specs.Transactions.{Txn, empty, put}
+use Rattle.rules.specs.Messages.{Op, bufferOf, places, setWindow}
 use Rattle.rules.specs.Steps.{Stepped, refuse, accept, step, turnedBack}
 use Rattle.rules.specs.Commits.{fits, commitRefusal}
 use Rattle.rules.specs.Messages.{Call, begin, on, commit, abort, Reply}
 use Rattle.rules.specs.Sightings.{Entry, entries, Committed}
-use Rattle.rules.specs.Plain.{Accepted, Running, Slot, closed, running, Plain, ops, isStale, PlainTurn, turnedDown, withSlot, answering, plainBegin, plainStepped, plainOn, committing, grant, plainCommitted, plainCommit, plainAbort, numbered, plainCall, plainAfter, plainPlaces}
+use Rattle.rules.specs.Plain.{Accepted, Running, Slot, closed, running, Plain, withWindows, plainSetWindow, ops, isStale, PlainTurn, turnedDown, withSlot, answering, plainBegin, plainStepped, plainOn, committing, grant, plainCommitted, plainCommit, plainAbort, numbered, plainCall, plainAfter, plainPlaces}
 use Rattle.rules.specs.Lone.{Lone, lone}
 use Rattle.rules.specs.Grants.{Grant, grantAt, ifGranted, grantedBy, grantsOf}
 use Rattle.rules.proofs.Serial.Alone.{again, serially, SameAgain, AllSame}
@@ -39,66 +44,79 @@ alone-recorded p r s e =
 -- What a call does to the committed state: nothing, or it is a granted Commit.
 pub data Turned (p : Plain) : PlainTurn → List Grant → Type 0 where
   kept :
-      (reply : Reply) (slots : ℕ → Slot)
+      (reply : Reply) (windows : Windows) (slots : ℕ → Slot)
       → Turned p
-      (record { reply = reply; after = record { fileOf = p .fileOf; committed = p .committed; grants = p .grants; slots = slots } })
+      (record { reply = reply; after = record { fileOf = p .fileOf; committed = p .committed; grants = p .grants; windows = windows; slots = slots } })
       []
   grants :
-      (t : ℕ) (r : Running) (reply : Reply)
+      (t minute : ℕ) (r : Running) (reply : Reply)
+      → minuteIn minute ≡ true
       → p .slots t ≡ running r
       → isStale p r ≡ false
       → fits (p .committed .value) (r .txn) ≡ true
-      → Turned p (record { reply = reply; after = grant t r p }) (record { number = t; calls = r .calls } ∷ [])
+      → Turned p (record { reply = reply; after = grant t r p }) (record { number = t; minute = minute; calls = r .calls } ∷ [])
 
 module _ (p : Plain) where
   turned-begin : (t : ℕ) (s : Slot) → Turned p (plainBegin t s p) []
   unfolding plainBegin answering withSlot turnedDown
-  turned-begin t closed = kept _ _
-  turned-begin t (running r) = kept _ _
+  turned-begin t closed = kept _ _ _
+  turned-begin t (running r) = kept _ _ _
 
   turned-stepped : (t : ℕ) (o : Op) (r : Running) (es : List Entry) (s : Stepped) → Turned p (plainStepped t o r es p s) []
   unfolding plainStepped withSlot turnedDown
-  turned-stepped t o r es (refuse n) = kept _ _
-  turned-stepped t o r es (accept y answer buffer) = kept _ _
+  turned-stepped t o r es (refuse n) = kept _ _ _
+  turned-stepped t o r es (accept y answer buffer) = kept _ _ _
 
   turned-on : (t : ℕ) (o : Op) (s : Slot) → Turned p (plainOn t o s p) []
   unfolding plainOn turnedDown
-  turned-on t o closed = kept _ _
+  turned-on t o closed = kept _ _ _
   turned-on t o (running r) =
       turned-stepped t o r (entries (p .committed .setter) (asked (p .committed .value) (step (p .fileOf) o (r .txn))))
       (turnedBack (isStale p r) o (result (p .committed .value) (step (p .fileOf) o (r .txn))))
 
   turned-committed :
-      (t : ℕ) (r : Running)
+      (t minute : ℕ) (r : Running)
       → p .slots t ≡ running r
-      → (stale placed : Bool)
+      → (daily stale shut placed : Bool)
+      → minuteIn minute ≡ daily
       → isStale p r ≡ stale
       → fits (p .committed .value) (r .txn) ≡ placed
-      → Turned p (plainCommitted t r p (commitRefusal stale placed))
-      (ifGranted (plainCommitted t r p (commitRefusal stale placed) .reply .answer) (record { number = t; calls = r .calls } ∷ []))
+      → Turned p (plainCommitted t r p (commitRefusal daily stale shut placed))
+      (ifGranted (plainCommitted t r p (commitRefusal daily stale shut placed) .reply .answer) (record { number = t; minute = minute; calls = r .calls } ∷ []))
   unfolding plainCommitted commitRefusal ifGranted answering withSlot
-  turned-committed t r o true placed s f = kept _ _
-  turned-committed t r o false true s f = grants t r _ o s f
-  turned-committed t r o false false s f = kept _ _
+  turned-committed t minute r o false stale shut placed d s f = kept _ _ _
+  turned-committed t minute r o true true shut placed d s f = kept _ _ _
+  turned-committed t minute r o true false true placed d s f = kept _ _ _
+  turned-committed t minute r o true false false true d s f = grants t minute r _ d o s f
+  turned-committed t minute r o true false false false d s f = kept _ _ _
 
   turned-commit :
-      (t : ℕ) (s : Slot)
+      (t minute : ℕ) (s : Slot)
       → p .slots t ≡ s
-      → Turned p (plainCommit t s p) (ifGranted (plainCommit t s p .reply .answer) (grantAt t s))
+      → Turned p (plainCommit t minute s p) (ifGranted (plainCommit t minute s p .reply .answer) (grantAt t minute s))
   unfolding plainCommit turnedDown ifGranted grantAt
-  turned-commit t closed o = kept _ _
-  turned-commit t (running r) o =
-      turned-committed t r o (isStale p r) (fits (p .committed .value) (r .txn)) refl refl
+  turned-commit t minute closed o = kept _ _ _
+  turned-commit t minute (running r) o =
+      turned-committed t minute r o (minuteIn minute) (isStale p r) (forClosed (p .fileOf) (p .windows) minute (r .txn .writes))
+      (fits (p .committed .value) (r .txn)) refl refl refl
 
   turned-abort : (t : ℕ) (s : Slot) → Turned p (plainAbort t s p) []
   unfolding plainAbort turnedDown answering withSlot
-  turned-abort t closed = kept _ _
-  turned-abort t (running r) = kept _ _
+  turned-abort t closed = kept _ _ _
+  turned-abort t (running r) = kept _ _ _
 
   turned-places : (f : ℕ) (out : List ℕ) (s : Slot) → Turned p (plainPlaces f out s p) []
   unfolding plainPlaces turnedDown
-  turned-places f out closed = kept _ _
-  turned-places f out (running r) = kept _ _
+  turned-places f out closed = kept _ _ _
+  turned-places f out (running r) = kept _ _ _
+
+  turned-window : (f start end : ℕ) → Turned p (plainSetWindow f start end p) []
+  unfolding plainSetWindow turnedDown answering
+  turned-window f start end = chosen (windowRefusal f start end)
+    where
+      chosen : (n : ℕ) → Turned p (guarded (λ k. turnedDown k [] p) (isNone n) n (answering plain (withWindows (put f (window start end) (p .windows)) p))) []
+      chosen zero = kept _ _ _
+      chosen (suc n) = kept _ _ _
 
   -- What holds of a call's turn and of a refusal 3 holds of the call.
   turned-numbered :
@@ -115,20 +133,21 @@ module _ (p : Plain) where
 
   pub turned : (c : Call) → Turned p (plainCall c p) (grantedBy c p)
   unfolding plainCall grantedBy turnedDown ifGranted
-  turned (begin t) = turned-numbered (λ τ. Turned p τ []) t [] (plainBegin t) (turned-begin t (p .slots t)) (kept _ _)
-  turned (on t o) = turned-numbered (λ τ. Turned p τ []) t (bufferOf o) (plainOn t o) (turned-on t o (p .slots t)) (kept _ _)
-  turned (commit t) =
-      turned-numbered (λ τ. Turned p τ (ifGranted (τ .reply .answer) (grantAt t (p .slots t)))) t [] (plainCommit t)
-      (turned-commit t (p .slots t) refl)
-      (kept _ _)
-  turned (abort t) = turned-numbered (λ τ. Turned p τ []) t [] (plainAbort t) (turned-abort t (p .slots t)) (kept _ _)
-  turned (places t f out) = turned-numbered (λ τ. Turned p τ []) t out (plainPlaces f out) (turned-places f out (p .slots t)) (kept _ _)
+  turned (begin t) = turned-numbered (λ τ. Turned p τ []) t [] (plainBegin t) (turned-begin t (p .slots t)) (kept _ _ _)
+  turned (on t o) = turned-numbered (λ τ. Turned p τ []) t (bufferOf o) (plainOn t o) (turned-on t o (p .slots t)) (kept _ _ _)
+  turned (commit t minute) =
+      turned-numbered (λ τ. Turned p τ (ifGranted (τ .reply .answer) (grantAt t minute (p .slots t)))) t [] (plainCommit t minute)
+      (turned-commit t minute (p .slots t) refl)
+      (kept _ _ _)
+  turned (abort t) = turned-numbered (λ τ. Turned p τ []) t [] (plainAbort t) (turned-abort t (p .slots t)) (kept _ _ _)
+  turned (places t f out) = turned-numbered (λ τ. Turned p τ []) t out (plainPlaces f out) (turned-places f out (p .slots t)) (kept _ _ _)
+  turned (setWindow f start end) = turned-window f start end
 
 -- No call changes a descriptor's file.
 files-turn : (p : Plain) (τ : PlainTurn) (hs : List Grant) → Turned p τ hs → τ .after .fileOf ≡ p .fileOf
 unfolding grant withSlot
-files-turn p τ hs (kept reply slots) = refl
-files-turn p τ hs (grants t r reply o e f) = refl
+files-turn p τ hs (kept reply windows slots) = refl
+files-turn p τ hs (grants t minute r reply d o e f) = refl
 
 pub files-kept : (cs : List Call) (p : Plain) → plainAfter cs p .fileOf ≡ p .fileOf
 unfolding plainAfter
@@ -142,36 +161,39 @@ pub record InOrder (fileOf : ℕ → ℕ) (n : ℕ) (gs : List Grant) (c end : C
 
 module _ (p : Plain) (g : Good p) where
   granted-again :
-      (t : ℕ) (r : Running)
+      (t minute : ℕ) (r : Running)
       → leb t 7 ≡ true
+      → minuteIn minute ≡ true
       → Sound (p .fileOf) (p .committed) (p .grants) r
       → isStale p r ≡ false
       → fits (p .committed .value) (r .txn) ≡ true
-      → SameAgain (p .fileOf) (p .committed) (record { number = t; calls = r .calls })
+      → SameAgain (p .fileOf) (p .committed) (record { number = t; minute = minute; calls = r .calls })
   unfolding again
-  granted-again t r small s e f =
+  granted-again t minute r small d s e f =
       let l = alone-recorded p r s e in
       record {
         small = small;
+        daily = d;
         through = ap (λ (a : Lone). a .through) l;
         replies = ap (λ (a : Lone). a .replies) l;
         fitting = ap (λ (a : Lone). fits (p .committed .value) (a .txn)) l ∙ f;
       }
 
   granted-first :
-      (t : ℕ) (r : Running) (gs : List Grant) (end : Committed)
+      (t minute : ℕ) (r : Running) (gs : List Grant) (end : Committed)
       → leb t 7 ≡ true
+      → minuteIn minute ≡ true
       → Sound (p .fileOf) (p .committed) (p .grants) r
       → isStale p r ≡ false
       → fits (p .committed .value) (r .txn) ≡ true
       → InOrder (p .fileOf) (p .grants + 1) gs (committing (p .fileOf) (p .grants + 1) (r .txn) (p .committed)) end
-      → InOrder (p .fileOf) (p .grants) (record { number = t; calls = r .calls } ∷ gs) (p .committed) end
+      → InOrder (p .fileOf) (p .grants) (record { number = t; minute = minute; calls = r .calls } ∷ gs) (p .committed) end
   unfolding again serially AllSame
-  granted-first t r gs end small s e f i =
+  granted-first t minute r gs end small d s e f i =
       let x : again (p .fileOf) (p .committed) (r .calls) .txn ≡ r .txn = ap (λ (a : Lone). a .txn) (alone-recorded p r s e) in
       record {
         same = (
-          granted-again t r small s e f,
+          granted-again t minute r small d s e f,
           subst (λ (y : Txn). AllSame (p .fileOf) (p .grants + 1) gs (committing (p .fileOf) (p .grants + 1) y (p .committed))) (sym x)
               (i .same),
         );
@@ -185,8 +207,9 @@ module _ (p : Plain) (g : Good p) where
       → InOrder (τ .after .fileOf) (τ .after .grants) gs (τ .after .committed) end
       → InOrder (p .fileOf) (p .grants) (hs ++ gs) (p .committed) end
   unfolding grant withSlot
-  in-order-turn τ hs gs end (kept reply slots) i = i
-  in-order-turn τ hs gs end (grants t r reply o e f) i = granted-first t r gs end (open-number p g t r o) (sound-at p g t r o) e f i
+  in-order-turn τ hs gs end (kept reply windows slots) i = i
+  in-order-turn τ hs gs end (grants t minute r reply d o e f) i =
+      granted-first t minute r gs end (open-number p g t r o) d (sound-at p g t r o) e f i
 
 pub in-order : (cs : List Call) (p : Plain) → Good p → InOrder (p .fileOf) (p .grants) (grantsOf cs p) (p .committed) (plainAfter cs p .committed)
 unfolding grantsOf plainAfter serially AllSame

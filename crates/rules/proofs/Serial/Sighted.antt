@@ -1,6 +1,7 @@
--- The store without its buffers, for the proof of demand 3: committed values, and for each open transaction what it is, the bytes
+-- The store without its buffers, for the proof of demand 3: committed values, windows, and for each open transaction what it is, the bytes
 -- and the lengths that it has sighted, and whether it is stale. Nothing here has to be believed: the store's rules are shown equal to it, and it
 -- to the plain machine.
+use Rattle.windows.specs.Hours.{minuteIn, window, Windows}
 use Rattle.rules.specs.Coverage.{placesOf}
 use mathlib.Core.Bool.{Bool, true, false, cond, not, _&&_, _||_}
 use mathlib.Core.List.{List, [], _∷_, _++_}
@@ -9,10 +10,13 @@ use Prim.Native.Nat.{ℕ, zero, suc}
 use Rattle.octets.specs.Bits.{bitsOf}
 use Rattle.record.specs.declared.outcomes.Refusal.the-variants.{Stale}
 use Rattle.record.specs.Paper.{number, Said, plain, granted, refused}
+use Rattle.ranges.specs.Below.{guarded, isNone}
+use Rattle.ranges.specs.Ranges.{windowRefusal}
+use Rattle.rules.specs.Windows.{forClosed}
 use Rattle.rules.specs.Items.{Item, byte, offset, fileLength, same, Values, Prog, result, asked}
 use Rattle.standings.specs.Table.{isKnown}
 use Rattle.rules.specs.Transactions.{Txn, empty, put}
-use Rattle.rules.specs.Messages.{Op, bufferOf, places}
+use Rattle.rules.specs.Messages.{Op, bufferOf, places, setWindow}
 use Rattle.rules.specs.Steps.{Stepped, refuse, accept, step, turnedBack}
 use Rattle.rules.specs.Commits.{Setting, settings, fits, landed, commitRefusal}
 use Rattle.rules.specs.Messages.{Call, begin, on, commit, abort, Reply}
@@ -30,10 +34,11 @@ pub data Seat : Type 0 where
 pub record Sighted : Type 0 where
   pub fileOf : ℕ → ℕ
   pub value : Values
+  pub windows : Windows
   pub seats : ℕ → Seat
 
-unfoldable pub startSighted : (ℕ → ℕ) → Values → Sighted
-startSighted fileOf v = record { fileOf = fileOf; value = v; seats = λ t. vacant }
+unfoldable pub startSighted : (ℕ → ℕ) → Values → Windows → Sighted
+startSighted fileOf v windows = record { fileOf = fileOf; value = v; windows = windows; seats = λ t. vacant }
 
 -- A byte is sighted where it is marked, an offset where its descriptor stands Known, and a length where it is held so.
 unfoldable pub sighted : Held → Item → Bool
@@ -70,7 +75,7 @@ unfoldable pub turnedAway : ℕ → List ℕ → Sighted → SightedTurn
 turnedAway n buffer s = record { reply = record { answer = refused n; buffer = buffer }; after = s }
 
 unfoldable pub withSeat : ℕ → Seat → Sighted → Sighted
-withSeat t x s = record { fileOf = s .fileOf; value = s .value; seats = put t x (s .seats) }
+withSeat t x s = record { fileOf = s .fileOf; value = s .value; windows = s .windows; seats = put t x (s .seats) }
 
 unfoldable pub telling : Said → Sighted → SightedTurn
 telling a s = record { reply = record { answer = a; buffer = [] }; after = s }
@@ -111,7 +116,7 @@ granting t ss s =
     let others = put t vacant (s .seats) in
     record {
       reply = record { answer = granted (bitsOf (λ u. newlyStale ss (others u)) 8); buffer = [] };
-      after = record { fileOf = s .fileOf; value = landed ss (s .value); seats = λ u. touch ss (others u) };
+      after = record { fileOf = s .fileOf; value = landed ss (s .value); windows = s .windows; seats = λ u. touch ss (others u) };
     }
 
 unfoldable pub sightedCommitted : ℕ → Held → Sighted → ℕ → SightedTurn
@@ -122,9 +127,11 @@ sightedCommitted t h s (suc n) =
       after = cond (eqb (suc n) (number Stale)) (withSeat t vacant s) s;
     }
 
-unfoldable pub sightedCommit : ℕ → Seat → Sighted → SightedTurn
-sightedCommit t vacant s = turnedAway 4 [] s
-sightedCommit t (held h) s = sightedCommitted t h s (commitRefusal (h .stale) (fits (s .value) (h .txn)))
+unfoldable pub sightedCommit : ℕ → ℕ → Seat → Sighted → SightedTurn
+sightedCommit t minute vacant s = turnedAway 4 [] s
+sightedCommit t minute (held h) s =
+    sightedCommitted t h s
+    (commitRefusal (minuteIn minute) (h .stale) (forClosed (s .fileOf) (s .windows) minute (h .txn .writes)) (fits (s .value) (h .txn)))
 
 unfoldable pub sightedAbort : ℕ → Seat → Sighted → SightedTurn
 sightedAbort t vacant s = turnedAway 4 [] s
@@ -134,15 +141,26 @@ unfoldable pub sightedPlaces : ℕ → List ℕ → Seat → Sighted → Sighted
 sightedPlaces f out vacant s = turnedAway 4 out s
 sightedPlaces f out (held h) s = record { reply = placesOf (s .fileOf) f out (h .txn); after = s }
 
+-- With another window for file f.
+unfoldable pub windowed : ℕ → ℕ → ℕ → Sighted → Sighted
+windowed f start end s =
+    record { fileOf = s .fileOf; value = s .value; windows = put f (window start end) (s .windows); seats = s .seats }
+
+unfoldable pub sightedWindow : ℕ → ℕ → ℕ → Sighted → SightedTurn
+sightedWindow f start end s =
+    let n = windowRefusal f start end in
+    guarded (λ k. turnedAway k [] s) (isNone n) n (telling plain (windowed f start end s))
+
 unfoldable pub seated : ℕ → List ℕ → (Seat → Sighted → SightedTurn) → Sighted → SightedTurn
 seated t buffer next s = cond (leb t 7) (next (s .seats t) s) (turnedAway 3 buffer s)
 
 unfoldable pub sightedCall : Call → Sighted → SightedTurn
 sightedCall (begin t) s = seated t [] (sightedBegin t) s
 sightedCall (on t o) s = seated t (bufferOf o) (sightedOn t o) s
-sightedCall (commit t) s = seated t [] (sightedCommit t) s
+sightedCall (commit t minute) s = seated t [] (sightedCommit t minute) s
 sightedCall (abort t) s = seated t [] (sightedAbort t) s
 sightedCall (places t f out) s = seated t out (sightedPlaces f out) s
+sightedCall (setWindow f start end) s = sightedWindow f start end s
 
 unfoldable pub sightedAfter : List Call → Sighted → Sighted
 sightedAfter [] s = s

@@ -7,6 +7,7 @@ use borrow.Author.Tests.{not-false}
 use lib.Dec.{leb}
 use native.Mathlib.Omega.{arith}
 use Prim.Native.Nat.{ℕ}
+use Rattle.windows.specs.Hours.{Windows}
 use Rattle.record.specs.Paper.{Said, plain, pointer, given, granted, refused}
 use Rattle.rules.specs.Items.{Values}
 use Rattle.rules.specs.Transactions.{empty}
@@ -17,69 +18,82 @@ use Rattle.rules.specs.Demand3.{IsAccepted, OneMoment}
 use Rattle.rules.specs.Sightings.{sameEntries}
 use Rattle.rules.specs.Plain.{Running, Slot, running, Plain, startPlain, ops, firstList, secondList, isStale, PlainTurn, turnedDown, answering, plainCommitted, plainCommit, numbered, plainCall, plainAfter, plainReplies}
 use Rattle.rules.specs.Lone.{lone}
-use Rattle.rules.specs.Grants.{grantsOf, rerun, sameReplies}
+use Rattle.rules.specs.Grants.{grantsOf, rerun, sameReplies, serialStart}
 use Rattle.rules.proofs.Serial.Alone.{serially, AllSame}
 use Rattle.rules.proofs.Serial.Sighted.{startSighted, SightedTurn, sightedCall, sightedAfter, sightedReplies}
-use Rattle.rules.proofs.Serial.Commits.{Tells, commit-tells}
-use Rattle.rules.proofs.Serial.Rerun.{reran}
+use Rattle.rules.proofs.Serial.Commits.{Tells, commit-tells, daily-commit}
+use Rattle.rules.proofs.Serial.Rerun.{Reran, reran}
 use Rattle.rules.proofs.Serial.Sound.{recorded}
 use Rattle.rules.proofs.Serial.Invariant.{Good, good-start, good-after, sound-at, open-number}
 use Rattle.rules.proofs.Serial.FirstHalf.{abs, abs-start, absTurn, same-call, same-after, same-replies}
 use Rattle.rules.proofs.Serial.Moments.{plain-moment}
 use Rattle.rules.proofs.Serial.SecondHalf.{files-kept, in-order, alone-recorded}
 
-module _ (fileOf : ℕ → ℕ) (v : Values) (cs : List Call) where
+module _ (fileOf : ℕ → ℕ) (v : Values) (ws : Windows) (cs : List Call) where
   -- The machine after the list of calls.
   abbrev pub reached : Plain
-  reached = plainAfter cs (startPlain fileOf v)
+  reached = plainAfter cs (startPlain fileOf v ws)
 
-  pub reached-good : Good (plainAfter cs (startPlain fileOf v))
-  reached-good = good-after cs (startPlain fileOf v) (good-start fileOf v)
+  pub reached-good : Good (plainAfter cs (startPlain fileOf v ws))
+  reached-good = good-after cs (startPlain fileOf v ws) (good-start fileOf v ws)
 
   -- "That the store returns the same refusals is part of demand 3": all replies are the same, refusals, answers, Commit's number
   -- and the reader's buffers.
-  pub replies-same : sightedReplies cs (startSighted fileOf v) ≡ plainReplies cs (startPlain fileOf v)
-  replies-same = ap (sightedReplies cs) (abs-start fileOf v) ∙ same-replies cs (startPlain fileOf v) (good-start fileOf v)
+  pub replies-same : sightedReplies cs (startSighted fileOf v ws) ≡ plainReplies cs (startPlain fileOf v ws)
+  replies-same = ap (sightedReplies cs) (abs-start fileOf v ws) ∙ same-replies cs (startPlain fileOf v ws) (good-start fileOf v ws)
 
-  pub state-same : sightedAfter cs (startSighted fileOf v) ≡ abs (plainAfter cs (startPlain fileOf v))
-  state-same = ap (sightedAfter cs) (abs-start fileOf v) ∙ same-after cs (startPlain fileOf v) (good-start fileOf v)
+  pub state-same : sightedAfter cs (startSighted fileOf v ws) ≡ abs (plainAfter cs (startPlain fileOf v ws))
+  state-same = ap (sightedAfter cs) (abs-start fileOf v ws) ∙ same-after cs (startPlain fileOf v ws) (good-start fileOf v ws)
 
   -- The turn of one more call.
   pub turn-same :
-      (c : Call) → sightedCall c (sightedAfter cs (startSighted fileOf v)) ≡ absTurn (plainCall c (plainAfter cs (startPlain fileOf v)))
+      (c : Call) → sightedCall c (sightedAfter cs (startSighted fileOf v ws)) ≡ absTurn (plainCall c (plainAfter cs (startPlain fileOf v ws)))
   turn-same c = ap (sightedCall c) state-same ∙ same-call c reached reached-good
 
   -- A Commit after the list is refused with 13 exactly when the two lists of its transaction differ at that moment: by the machine,
   -- and by the store.
-  pub machine-commit : (t : ℕ) (r : Running) → reached .slots t ≡ running r → Tells (plainCall (commit t) reached .reply .answer) r reached
-  machine-commit t r o = commit-tells t r reached (open-number reached reached-good t r o) o
+  pub machine-commit :
+      (t minute : ℕ) (r : Running) → reached .slots t ≡ running r → (plainCall (commit t minute) reached .reply .answer ≡ refused 22 → ⊥)
+      → Tells (plainCall (commit t minute) reached .reply .answer) r reached
+  machine-commit t minute r o h =
+      let l = open-number reached reached-good t r o in
+      commit-tells t minute r reached l o (daily-commit t minute r reached l o h)
 
   pub store-commit :
-      (t : ℕ) (r : Running)
+      (t minute : ℕ) (r : Running)
       → reached .slots t ≡ running r
-      → Tells (sightedCall (commit t) (sightedAfter cs (startSighted fileOf v)) .reply .answer) r reached
+      → (sightedCall (commit t minute) (sightedAfter cs (startSighted fileOf v ws)) .reply .answer ≡ refused 22 → ⊥)
+      → Tells (sightedCall (commit t minute) (sightedAfter cs (startSighted fileOf v ws)) .reply .answer) r reached
   unfolding absTurn
-  store-commit t r o =
-      subst (λ (τ : SightedTurn). Tells (τ .reply .answer) r reached) (sym (turn-same (commit t))) (machine-commit t r o)
+  store-commit t minute r o h =
+      let e = turn-same (commit t minute) in
+      subst (λ (τ : SightedTurn). Tells (τ .reply .answer) r reached) (sym e)
+      (machine-commit t minute r o (λ k. h (ap (λ (τ : SightedTurn). τ .reply .answer) e ∙ k)))
 
   -- "the granted ones are run alone .., in the order of their grants": each meets no refusal and gives the same answers and bytes,
   -- and together they leave the files and offsets of the machine.
-  serial-same : AllSame fileOf 0 (grantsOf cs (startPlain fileOf v)) (startPlain fileOf v .committed)
+  serial-same : AllSame fileOf 0 (grantsOf cs (startPlain fileOf v ws)) (startPlain fileOf v ws .committed)
   unfolding startPlain
-  serial-same = in-order cs (startPlain fileOf v) (good-start fileOf v) .same
+  serial-same = in-order cs (startPlain fileOf v ws) (good-start fileOf v ws) .same
 
   serial-left :
-      serially fileOf 0 (grantsOf cs (startPlain fileOf v)) (startPlain fileOf v .committed) ≡ plainAfter cs (startPlain fileOf v) .committed
+      serially fileOf 0 (grantsOf cs (startPlain fileOf v ws)) (startPlain fileOf v ws .committed) ≡ plainAfter cs (startPlain fileOf v ws) .committed
   unfolding startPlain
-  serial-left = in-order cs (startPlain fileOf v) (good-start fileOf v) .left
+  serial-left = in-order cs (startPlain fileOf v ws) (good-start fileOf v ws) .left
 
-  pub again-same : plainReplies (rerun (grantsOf cs (startPlain fileOf v))) (startPlain fileOf v) ≡ sameReplies (grantsOf cs (startPlain fileOf v))
-  again-same = reran (grantsOf cs (startPlain fileOf v)) (startPlain fileOf v) (unfold startPlain in λ u. refl) (unfold startPlain in serial-same) .replies
+  -- They are run again with Fresh's windows.
+  reran-again : Reran (grantsOf cs (startPlain fileOf v ws)) (serialStart (startPlain fileOf v ws))
+  unfolding startPlain serialStart
+  reran-again = reran (grantsOf cs (startPlain fileOf v ws)) (serialStart (startPlain fileOf v ws)) refl (λ u. refl) serial-same
 
-  pub again-left : plainAfter (rerun (grantsOf cs (startPlain fileOf v))) (startPlain fileOf v) .committed ≡ plainAfter cs (startPlain fileOf v) .committed
-  again-left =
-      reran (grantsOf cs (startPlain fileOf v)) (startPlain fileOf v) (unfold startPlain in λ u. refl) (unfold startPlain in serial-same) .left
-      ∙ (unfold startPlain in serial-left)
+  pub again-same :
+      plainReplies (rerun (grantsOf cs (startPlain fileOf v ws))) (serialStart (startPlain fileOf v ws)) ≡ sameReplies (grantsOf cs (startPlain fileOf v ws))
+  again-same = reran-again .replies
+
+  pub again-left :
+      plainAfter (rerun (grantsOf cs (startPlain fileOf v ws))) (serialStart (startPlain fileOf v ws)) .committed
+      ≡ plainAfter cs (startPlain fileOf v ws) .committed
+  again-left = reran-again .left ∙ (unfold startPlain serialStart in serial-left)
 
   -- An open transaction that is not stale, run alone on the committed state: it gets through its accepted calls, with the
   -- recorded replies, and stands and has written as recorded.
@@ -98,4 +112,4 @@ module _ (fileOf : ℕ → ℕ) (v : Values) (cs : List Call) where
   -- Every descriptor's file stays the one that Fresh was given.
   pub files-same : reached .fileOf ≡ fileOf
   unfolding startPlain
-  files-same = files-kept cs (startPlain fileOf v)
+  files-same = files-kept cs (startPlain fileOf v ws)

@@ -13,7 +13,7 @@ use Rattle.octets.proofs.PartLaws.{le-or-lt}
 use Rattle.record.specs.declared.Transaction.{Transaction}
 use Rattle.record.specs.declared.Store.{Store}
 use lib.Seq.{getD-set-other}
-use Rattle.record.specs.State.{transaction, noTransaction}
+use Rattle.record.specs.State.{transaction, noTransaction, windowAt}
 use Rattle.record.specs.Paper.{Said}
 use Rattle.ranges.proofs.Laws.{and-left, and-right, InRange, in-range}
 use Rattle.rules.specs.Items.{Item, byte, offset, fileLength, Values, result, asked}
@@ -190,4 +190,4 @@ module _ (m : Machine) (t : ℕ) (o : Op) (sound : Sound m) (small : t < 8) (beg
 
     pub view-after : view after ≡ withSeat t (held new) (view m)
     unfolding view withSeat machineAfter fileOf withTxn withTransaction
-    view-after = λ i. record { fileOf = fileOf (m .store); value = fun-ext values-after i; seats = fun-ext seats-after i }
+    view-after = λ i. record { fileOf = fileOf (m .store); value = fun-ext values-after i; windows = windowAt (m .store); seats = fun-ext seats-after i }

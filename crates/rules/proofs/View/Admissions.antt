@@ -7,7 +7,7 @@ use Prim.Native.Nat.{ℕ, _<_}
 use native.Mathlib.Omega.{arith}
 use borrow.Author.Tests.{leb-true}
 use Rattle.record.specs.State.{transaction}
-use Rattle.ranges.specs.Ranges.{unless, sizesIn, shared, admission}
+use Rattle.ranges.specs.Ranges.{unless, sizesIn, firstTests, shared, admission}
 use Rattle.rules.specs.Machine.{Machine, sizes}
 use Rattle.rules.specs.Calls.{Turn, turnDown, passing, admitted}
 use Rattle.rules.proofs.Serial.Sighted.{Seat, vacant, held, Sighted, SightedTurn, turnedAway, seated}
@@ -18,11 +18,16 @@ use Rattle.rules.proofs.View.Shape.{heldBy, seat, view, Sound}
 abbrev pub Agrees : Turn → SightedTurn → Type 0
 Agrees a b = (a .reply ≡ b .reply) × (view (a .after) ≡ b .after) × Sound (a .after)
 
+-- 1 and 2 are not met.
+pub first-is : (m : Machine) (later : ℕ) → Sound m → firstTests (sizes m) (m .store) (m .journal) later ≡ later
+unfolding firstTests sizesIn unless
+first-is m later sound = rw (sound .files, sound .logs, sound .marks, sound .inRange)
+
 module _ (m : Machine) (t : ℕ) (sound : Sound m) where
   pub shared-is : (later : ℕ)
       → shared (sizes m) (m .store) (m .journal) t later ≡ unless (leb t 7) 3 later
-  unfolding shared sizesIn unless
-  shared-is later = rw (sound .files, sound .logs, sound .marks, sound .inRange)
+  unfolding shared
+  shared-is later = first-is m _ sound
 
   module _ (buffer : List ℕ) (next : Turn) (seating : Seat → Sighted → SightedTurn)
       (closed : seating vacant (view m) ≡ turnedAway 4 buffer (view m)) where

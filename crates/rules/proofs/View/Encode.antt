@@ -172,6 +172,7 @@ module _ (s : Store) (journal : List ℕ) (t : ℕ) (y : Txn) (is : List Item) (
         files = unfold withTxn withTransaction in in-range s journal e .files;
         offsets = unfold withTxn withTransaction in in-range s journal e .offsets;
         lengths = unfold withTxn withTransaction in in-range s journal e .lengths;
+        windows = unfold withTxn withTransaction in in-range s journal e .windows;
         transactions = λ u l b. ⊎-elim (λ same. rw same own-range) (elsewhere u l b) (same-or-not u t);
       })
     where
@@ -188,6 +189,7 @@ module _ (s : Store) (journal : List ℕ) (t : ℕ) (y : Txn) (is : List Item) (
         files = shaped .files;
         offsets = shaped .offsets;
         lengths = shaped .lengths;
+        windows = shaped .windows;
         transactions = length-set (s .transactions) t (holding y (sightingLengths is (transaction s t))) ∙ shaped .transactions;
         descriptors = λ u l. ⊎-elim (here u) (elsewhere u l) (same-or-not u t);
       }

@@ -6,13 +6,15 @@ use lib.Dec.{leb}
 use Prim.Native.Nat.{ℕ, _<_}
 use native.Mathlib.Omega.{arith}
 use borrow.Author.Tests.{leb-true}
-use Rattle.record.specs.State.{transaction, ended, begun}
+use Rattle.windows.specs.Hours.{minuteIn}
+use Rattle.record.specs.State.{transaction, windowAt, ended, begun}
 use Rattle.ranges.specs.Ranges.{unless, admissionOfBegin}
 use Rattle.ranges.proofs.Laws.{in-range}
-use Rattle.rules.specs.Commits.{Setting, settings, fits, commitRefusal}
+use Rattle.rules.specs.Commits.{fits, commitRefusal}
+use Rattle.rules.specs.Windows.{forClosed}
 use Rattle.rules.specs.Messages.{begin, commit, abort, places}
 use Rattle.rules.specs.Machine.{Machine, fileOf, values, txnOf}
-use Rattle.rules.specs.Calls.{answer, turnDown, passing, beginTurn, abortTurn, commitDecided, commitTurn, call, placesTurn}
+use Rattle.rules.specs.Calls.{answer, turnDown, passing, beginTurn, abortTurn, commitDecided, settingsOf, commitTurn, call, placesTurn}
 use Rattle.rules.proofs.Serial.Sighted.{vacant, held, turnedAway, telling, sightedBegin, sightedCommitted, sightedCommit, sightedAbort, seated, sightedCall, sightedPlaces}
 use Rattle.rules.proofs.View.Shape.{heldBy, seat, view, Sound}
 use Rattle.rules.proofs.View.Decode.{decoded-in}
@@ -21,10 +23,6 @@ use Rattle.rules.proofs.View.Renewed.{ended-bare, begun-bare}
 use Rattle.rules.proofs.View.Resets.{reset-sound, reset-view}
 use Rattle.rules.proofs.View.SettingsIn.{AllIn, settings-in}
 use Rattle.rules.proofs.View.Grants.{granted-sound, granted-view, granted-reply}
-
--- All that a commit of transaction t sets.
-abbrev settingsOf : Machine → ℕ → List Setting
-settingsOf m t = settings (fileOf (m .store)) (values (m .store) (m .files)) (txnOf (m .store) (m .journal) (m .logs) t)
 
 module _ (m : Machine) (t : ℕ) (sound : Sound m) where
   begins : (b c : Bool) → leb t 7 ≡ b
@@ -59,25 +57,28 @@ module _ (m : Machine) (t : ℕ) (sound : Sound m) where
       listed : Agrees (placesTurn t f out m) (sightedPlaces f out (held (heldBy m t)) (view m))
       listed = unfold placesTurn sightedPlaces heldBy view in (refl, refl, sound)
 
-  -- 13, 12, or granted.
-  decides : t < 8 → (p q : Bool) → (q ≡ true → AllIn (settingsOf m t))
-      → Agrees (commitDecided t (settingsOf m t) m (commitRefusal p q)) (sightedCommitted t (heldBy m t) (view m) (commitRefusal p q))
+  -- 22, 13, 21, 12, or granted.
+  decides : t < 8 → (daily p shut q : Bool) → (q ≡ true → AllIn (settingsOf m t))
+      → Agrees (commitDecided t (settingsOf m t) m (commitRefusal daily p shut q)) (sightedCommitted t (heldBy m t) (view m) (commitRefusal daily p shut q))
   unfolding commitRefusal commitDecided sightedCommitted heldBy view ended
-  decides l true q h = (refl, reset-view t ended m l ended-bare sound, reset-sound t ended m l ended-bare sound)
-  decides l false false h = (refl, refl, sound)
-  decides l false true h =
+  decides l false p shut q h = (refl, refl, sound)
+  decides l true true shut q h = (refl, reset-view t ended m l ended-bare sound, reset-sound t ended m l ended-bare sound)
+  decides l true false true q h = (refl, refl, sound)
+  decides l true false false false h = (refl, refl, sound)
+  decides l true false false true h =
       (granted-reply m t (settingsOf m t), granted-view m t (settingsOf m t) l sound (h refl), granted-sound m t (settingsOf m t) l sound (h refl))
 
-  commit-next : t < 8 → transaction (m .store) t .begun ≡ true → Agrees (commitTurn t m) (sightedCommit t (held (heldBy m t)) (view m))
+  commit-next : (minute : ℕ) → t < 8 → transaction (m .store) t .begun ≡ true
+      → Agrees (commitTurn t minute m) (sightedCommit t minute (held (heldBy m t)) (view m))
   unfolding commitTurn sightedCommit heldBy view fileOf
-  commit-next l b =
+  commit-next minute l b =
       let r = in-range (m .store) (m .journal) (sound .inRange) in
       let v = values (m .store) (m .files) in
       let x = txnOf (m .store) (m .journal) (m .logs) t in
-      decides l (transaction (m .store) t .stale) (fits v x)
+      decides l (minuteIn minute) (transaction (m .store) t .stale) (forClosed (fileOf (m .store)) (windowAt (m .store)) minute (x .writes)) (fits v x)
       (settings-in (fileOf (m .store)) v x (r .files)
       (decoded-in (m .store) (m .journal) (m .logs) t (sound .logs) l (r .transactions t l b) (sound .shaped .descriptors t l)))
 
-  pub commit-turn : Agrees (call (commit t) m) (sightedCall (commit t) (view m))
+  pub commit-turn : (minute : ℕ) → Agrees (call (commit t minute) m) (sightedCall (commit t minute) (view m))
   unfolding call sightedCall sightedCommit
-  commit-turn = admitted-agrees m t sound [] (commitTurn t m) (sightedCommit t) refl commit-next
+  commit-turn minute = admitted-agrees m t sound [] (commitTurn t minute m) (sightedCommit t minute) refl (commit-next minute)

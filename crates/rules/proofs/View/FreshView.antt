@@ -6,10 +6,12 @@ use mathlib.Core.Path.{_≡_, refl, sym, ap, _∙_, fun-ext}
 use lib.ListN.{length, getD, replicate, length-replicate, getD-replicate}
 use Prim.Native.Nat.{ℕ, zero, suc, _≤_, _<_}
 use native.Mathlib.Omega.{arith}
+use Rattle.windows.specs.Hours.{minuteIn, Windows, freshWindow, freshWindows}
 use Rattle.octets.proofs.PartLaws.{le-or-lt}
 use Rattle.record.specs.declared.Transaction.{Transaction}
-use Rattle.record.specs.State.{transaction, noTransaction, noDescriptor, ended}
+use Rattle.record.specs.State.{transaction, noTransaction, noDescriptor, ended, windowAt}
 use Rattle.ranges.proofs.Laws.{InRange, in-range-intro}
+use Rattle.ranges.specs.Ranges.{windowIn}
 use Rattle.rules.specs.Items.{Item, byte, offset, fileLength, Values}
 use Rattle.rules.specs.Machine.{fileOf, values}
 use Rattle.rules.specs.Calls.{freshStore, freshMachine}
@@ -22,6 +24,12 @@ zeros : (n k : ℕ) → _≡_ {A = ℕ} (getD (replicate n 0) k 0) 0
 zeros zero k = refl
 zeros (suc n) zero = refl
 zeros (suc n) (suc k) = zeros n k
+
+-- Windows of 0 and 0, inside and past the end.
+always : (n k : ℕ) → getD (replicate n freshWindow) k freshWindow ≡ freshWindow
+always zero k = refl
+always (suc n) zero = refl
+always (suc n) (suc k) = always n k
 
 length-zeros : (n : ℕ) → length (replicate n zero) ≡ n
 length-zeros n = length-replicate n zero
@@ -45,12 +53,13 @@ module _ (numbers : List ℕ) (logs : List ℕ) where
   fresh-values n (offset d) = zeros 16 d
   fresh-values n (fileLength f) = zeros 8 f
 
-  pub fresh-view : view (freshMachine numbers logs) ≡ startSighted (λ d. getD numbers d 0) (λ i. 0)
+  pub fresh-view : view (freshMachine numbers logs) ≡ startSighted (λ d. getD numbers d 0) (λ i. 0) freshWindows
   unfolding view startSighted freshMachine freshStore fileOf
   fresh-view =
       let e : _≡_ {A = ℕ → Seat} (seat (freshMachine numbers logs)) (λ u. vacant) = fun-ext (λ u. seats u (le-or-lt 8 u)) in
       let f : _≡_ {A = Values} (values (freshStore numbers) (replicate 32768 0)) (λ i. 0) = fun-ext (fresh-values 32768) in
-      λ i. record { fileOf = λ d. getD numbers d 0; value = f i; seats = e i }
+      let w : _≡_ {A = Windows} (windowAt (freshStore numbers)) freshWindows = fun-ext (always 8) in
+      λ i. record { fileOf = λ d. getD numbers d 0; value = f i; windows = w i; seats = e i }
 
   fresh-shaped : length numbers ≡ 16 → Shaped (freshStore numbers)
   unfolding freshStore ended
@@ -59,6 +68,7 @@ module _ (numbers : List ℕ) (logs : List ℕ) where
         files = e;
         offsets = length-zeros 16;
         lengths = length-zeros 8;
+        windows = length-replicate 8 freshWindow;
         transactions = length-replicate 8 ended;
         descriptors = λ u l. ap (λ (x : Transaction). length (x .descriptors)) (ended-at u l) ∙ length-replicate 16 noDescriptor;
       }
@@ -70,6 +80,7 @@ module _ (numbers : List ℕ) (logs : List ℕ) where
         files = h;
         offsets = λ d l. rw (zeros 16 d) (omega arith);
         lengths = λ f l. rw (zeros 8 f) (omega arith);
+        windows = λ f l. rw (always 8 f) (unfold windowIn minuteIn in refl);
         transactions = λ u l b. absurd (true≢false (sym b ∙ ap (λ (x : Transaction). x .begun) (ended-at u l)));
       }
 

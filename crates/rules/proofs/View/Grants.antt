@@ -12,7 +12,7 @@ use Rattle.octets.proofs.PartLaws.{le-or-lt}
 use Rattle.octets.specs.Parts.{tabulate}
 use Rattle.octets.proofs.TableLaws.{length-tabulate, getD-tabulate}
 use Rattle.record.specs.declared.Transaction.{Transaction}
-use Rattle.record.specs.State.{transaction, noTransaction, ended}
+use Rattle.record.specs.State.{transaction, noTransaction, ended, windowAt}
 use Rattle.record.specs.Paper.{granted}
 use Rattle.ranges.proofs.Laws.{in-range}
 use Rattle.rules.specs.Transactions.{put}
@@ -100,7 +100,7 @@ module _ (m : Machine) (t : ℕ) (ss : List Setting) where
           all-landed ts (m .store) ss (m .store .offsets) (m .store .lengths) (m .files) inside (sound .shaped .offsets) (sound .shaped .lengths)
           (sound .files)
           ∙ ap (landed ss) (same-values ts (m .store) (m .files)) in
-          λ i. record { fileOf = fileOf (m .store); value = f i; seats = e i }
+          λ i. record { fileOf = fileOf (m .store); value = f i; windows = windowAt (m .store); seats = e i }
 
   pub granted-reply : commitGranted t ss m .reply ≡ granting t ss (view m) .reply
   unfolding commitGranted granting view

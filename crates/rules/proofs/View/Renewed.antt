@@ -123,6 +123,7 @@ module _ (offsets lengths : List ℕ) (ts : List Transaction) (s : Store) (journ
         files = r .files;
         offsets = h;
         lengths = k;
+        windows = r .windows;
         transactions = λ u l b. carried-in offsets lengths ts s journal u (carried u l) b (r .transactions u l);
       }
 
@@ -132,6 +133,7 @@ module _ (offsets lengths : List ℕ) (ts : List Transaction) (s : Store) (journ
         files = r .files;
         offsets = e;
         lengths = k;
+        windows = r .windows;
         transactions = f;
         descriptors = λ u l. carried-length (transaction s u) (getD ts u noTransaction) (carried u l) (r .descriptors u l);
       }

@@ -16,7 +16,7 @@ use Rattle.octets.specs.Parts.{tabulate}
 use Rattle.standings.specs.declared.Standing.{Standing}
 use Rattle.standings.specs.declared.Standing.the-variants.{Untouched}
 use Rattle.record.specs.declared.Transaction.{Transaction}
-use Rattle.record.specs.State.{transaction, standingAt, dirtyAt, noTransaction}
+use Rattle.record.specs.State.{transaction, standingAt, dirtyAt, noTransaction, windowAt}
 use Rattle.ranges.proofs.Laws.{in-range}
 use Rattle.rules.specs.Machine.{Machine, fileOf, txnOf, writeAt}
 use Rattle.record.specs.State.{withTransaction}
@@ -107,4 +107,4 @@ module _ (t : ℕ) (x : Transaction) (m : Machine) (small : t < 8) (bare : Bare 
   reset-view =
       let e : _≡_ {A = ℕ → Seat} (seat (reset t x m)) (put t (newSeat x) (seat m)) = fun-ext (λ u. seats u (eqb u t) refl) in
       let f = same-values ts (m .store) (m .files) in
-      λ i. record { fileOf = fileOf (m .store); value = f i; seats = e i }
+      λ i. record { fileOf = fileOf (m .store); value = f i; windows = windowAt (m .store); seats = e i }

@@ -11,7 +11,7 @@ use Rattle.standings.specs.declared.Standing.the-variants.{Untouched}
 use Rattle.record.specs.declared.Store.{Store}
 use Rattle.standings.specs.declared.Place.{Place}
 use Rattle.standings.specs.declared.Place.the-variants.{At}
-use Rattle.record.specs.State.{transaction}
+use Rattle.record.specs.State.{transaction, windowAt}
 use Rattle.ranges.specs.Ranges.{standingIn, placeIn, storeIn}
 use Rattle.rules.specs.Transactions.{Txn, Write}
 use Rattle.rules.specs.Steps.{total}
@@ -31,13 +31,14 @@ unfoldable pub seat : Machine → ℕ → Seat
 seat m u = cond (leb u 7 && transaction (m .store) u .begun) (held (heldBy m u)) vacant
 
 unfoldable pub view : Machine → Sighted
-view m = record { fileOf = fileOf (m .store); value = values (m .store) (m .files); seats = seat m }
+view m = record { fileOf = fileOf (m .store); value = values (m .store) (m .files); windows = windowAt (m .store); seats = seat m }
 
 -- The lengths that the record's types give its arrays.
 pub record Shaped (s : Store) : Type 0 where
   pub files : length (s .filenumbers) ≡ 16
   pub offsets : length (s .offsets) ≡ 16
   pub lengths : length (s .lengths) ≡ 8
+  pub windows : length (s .windows) ≡ 8
   pub transactions : length (s .transactions) ≡ 8
   pub descriptors : (t : ℕ) → t < 8 → length (transaction s t .descriptors) ≡ 16
 

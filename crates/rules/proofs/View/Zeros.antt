@@ -30,7 +30,7 @@ touched-append (s ∷ ss) rs j = ap (λ (b : Bool). same (s .item) j || b) (touc
     or-same false b c = refl
 
 -- Neither touches it.
-neither : (ss rs : List Setting) (j : Item) → touched ss j ≡ false → touched rs j ≡ false → touched (ss ++ rs) j ≡ false
+pub neither : (ss rs : List Setting) (j : Item) → touched ss j ≡ false → touched rs j ≡ false → touched (ss ++ rs) j ≡ false
 neither ss rs j e f = touched-append ss rs j ∙ ap₂ (λ (a b : Bool). a || b) e f
 
 -- A byte before or after a stretch.

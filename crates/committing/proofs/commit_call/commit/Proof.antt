@@ -1,24 +1,27 @@
 -- `committing::commit_call::commit` meets its contract.
 use borrow.Author.Needs.{needs}
-use mathlib.Core.Bool.{true, false}
+use mathlib.Core.Bool.{Bool, true, false}
 use mathlib.Core.List.{[]}
 use mathlib.Core.Path.{_≡_, sym, ap, _∙_, subst}
+use Rattle.windows.specs.Hours.{minuteIn}
+use Rattle.windows.proofs.HoursLaws.{minute-most}
 use Rattle.record.specs.declared.Transaction.{Transaction}
-use Rattle.record.specs.declared.outcomes.Refusal.the-variants.{NotOpen, SettledPastEnd}
+use Rattle.record.specs.declared.outcomes.Refusal.the-variants.{NotOpen, SettledPastEnd, FileClosed, NoSuchMinute}
 use Rattle.record.specs.State.{transaction}
 use Rattle.record.proofs.LayoutLaws.{length-journal, transaction-of}
 use Rattle.ranges.specs.Ranges.{admission}
 use Rattle.ranges.proofs.Laws.{in-range, failed, held}
 use Rattle.rules.specs.Messages.{Call}
 use Rattle.rules.specs.Machine.{Machine}
-use Rattle.rules.specs.Calls.{call, admitted, commitTurn}
+use Rattle.rules.specs.Calls.{Turn, call, admitted, commitTurn}
 use Rattle.rules.specs.Promises.{machineOf}
 use Rattle.laws.proofs.Shapes.{shaped}
 use Rattle.laws.proofs.Decoded.{opened}
 use Rattle.landing.specs.Landing.{placesFit, CanLandIn}
 use Rattle.landing.proofs.Landed.{can-land}
+use Rattle.closing.specs.Closing.{hasByteForClosed}
 use Rattle.refusing.proofs.Turns.{LetThrough, sharedWith, gate-refused, gate-passed, gate-let-through, is-open, is-closed, admission-open, admitted-closed, turned-follows}
-use Rattle.committing.proofs.CommitRules.{commit-on, commit-stale, commit-past, stale-follows}
+use Rattle.committing.proofs.CommitRules.{commit-on, commit-no-minute, commit-stale, commit-closed, commit-past, commit-granted, stale-follows}
 use Rattle.committing.proofs.commit_call.commit.Statement.{statement}
 use Rattle.committing.proofs.commit_call.commit.Tie as tie
 
@@ -54,17 +57,46 @@ begun c =
     is-open (start-of told .args .kept .now) (start-of told .args .t) (let-through told .small)
     (ap (λ (x : Transaction). x .begun) (c .before .before .transaction-at .ensures)) (c .if1 .left)
 
-on-turn : (c : tie.Else1) → let start = start-of (told-of c) in call (Call.commit (start .args .t)) (machine start) ≡ commitTurn (start .args .t) (machine start)
+abbrev turn-of : tie.Start → Turn
+turn-of start = commitTurn (start .args .t) (start .args .minute) (machine start)
+
+on-turn : (c : tie.Else1) → let start = start-of (told-of c) in call (Call.commit (start .args .t) (start .args .minute)) (machine start) ≡ turn-of start
 on-turn c =
     let start = start-of (told-of c) in
-    commit-on (start .args .t) (machine start) (admission-open (machine start) (start .args .t) (passed (told-of c)) (begun c))
+    commit-on (start .args .t) (start .args .minute) (machine start) (admission-open (machine start) (start .args .t) (passed (told-of c)) (begun c))
+
+-- The minute is one of the day.
+abbrev open-at : tie.Else2 → tie.Else1
+open-at c = c .before .before
+
+daily : (c : tie.Else2) → minuteIn (start-of (told-of (open-at c)) .args .minute) ≡ true
+daily c = held (c .before .minute-in .ensures) (c .if2 .left)
+
+-- It is not stale.
+abbrev fresh-at : tie.Else3 → tie.Else1
+fresh-at c = open-at (c .before)
+
+fresh : (c : tie.Else3) → transaction-of-store (fresh-at c) .stale ≡ false
+fresh c = ap (λ (x : Transaction). x .stale) (own (fresh-at c)) ∙ c .if3 .left
+
+-- None of its bytes is for a closed file.
+abbrev unlocked-at : tie.Else4 → tie.Else3
+unlocked-at c = c .before .before .before
+
+abbrev closing-of : tie.Start → Bool
+closing-of start = hasByteForClosed (start .args .kept .now) (start .args .logs .now) (start .args .t) (start .args .minute)
+
+unlocked : (c : tie.Else4) → closing-of (start-of (told-of (fresh-at (unlocked-at c)))) ≡ false
+unlocked c =
+    let told = told-of (fresh-at (unlocked-at c)) in
+    sym (c .before .has-byte-for-closed .ensures (start-of told .args .logs .now) (let-through told .lengths .logs)) ∙ c .if4 .left
 
 returns : tie.Need-returns
 unfolding call admitted admission
 returns c =
     let start = c .before .before .before .before .before .before .before .before in
     let m = machine start in
-    let e = gate-refused _ m (start .args .t) (c .before .before .before .admit .ensures .0) _ _ [] (commitTurn (start .args .t) m) (c .before .g .given .1) in
+    let e = gate-refused _ m (start .args .t) (c .before .before .before .admit .ensures .0) _ _ [] (turn-of start) (c .before .g .given .1) in
     turned-follows _ [] _ _ _ _ _ e
 
 transaction-at-requires : tie.Need-transaction-at-requires
@@ -78,67 +110,115 @@ returns-2 c =
     let m = machine start in
     let closed = is-closed (start .args .kept .now) (start .args .t) (let-through told .small)
     (ap (λ (x : Transaction). x .begun) (c .before .before .transaction-at .ensures)) (c .if1 .taken) in
-    turned-follows NotOpen [] _ _ _ _ _ (admitted-closed m (start .args .t) (passed told) closed [] (commitTurn (start .args .t) m))
+    turned-follows NotOpen [] _ _ _ _ _ (admitted-closed m (start .args .t) (passed told) closed [] (turn-of start))
 
-unmark-requires : tie.Need-unmark-requires
-unmark-requires c κs = let through = let-through (told-of (c .before .before)) in (through .small, through .lengths .marks)
-
-reset-requires : tie.Need-reset-requires
-reset-requires c κs = let-through (told-of (c .before .before .before .before .before .before)) .small
-
+-- 22
 returns-3 : tie.Need-returns-3
 returns-3 c =
-    let at-unmark = c .before .before .before .before in
-    let open-here = at-unmark .before .before .before in
-    let told = told-of open-here in
-    let start = start-of told in
-    let stale = ap (λ (x : Transaction). x .stale) (own open-here) ∙ at-unmark .before .before .if2 .taken in
-    stale-follows _ _ _ (start .args .marks .now) _ _ (start .args .t) _ (told .before .before .admit .ensures .1) (let-through told .small)
-    (on-turn open-here ∙ commit-stale (start .args .t) (machine start) stale) (c .reset .ensures) (at-unmark .unmark .ensures)
+    let open-here = c .before .before in
+    let start = start-of (told-of open-here) in
+    turned-follows NoSuchMinute [] _ _ _ _ _
+    (on-turn open-here ∙ commit-no-minute (start .args .t) (start .args .minute) (machine start) (failed (c .before .minute-in .ensures) (c .if2 .taken)))
 
-places-fit-requires : tie.Need-places-fit-requires
-places-fit-requires c κs = in-range _ _ (let-through (told-of (c .before .before)) .ranges) .offsets
+-- 13
+unmark-requires : tie.Need-unmark-requires
+unmark-requires c κs = let through = let-through (told-of (open-at (c .before .before))) in (through .small, through .lengths .marks)
 
--- It is not stale.
-fresh : (c : tie.Else2) → transaction-of-store (c .before) .stale ≡ false
-fresh c = ap (λ (x : Transaction). x .stale) (own (c .before)) ∙ c .if2 .left
+reset-requires : tie.Need-reset-requires
+reset-requires c κs = let-through (told-of (open-at (c .before .before .before .before .before .before))) .small
 
 returns-4 : tie.Need-returns-4
 returns-4 c =
+    let at-unmark = c .before .before .before .before in
+    let day = at-unmark .before .before .before in
+    let told = told-of (open-at day) in
+    let start = start-of told in
+    let stale = ap (λ (x : Transaction). x .stale) (own (open-at day)) ∙ at-unmark .before .before .if3 .taken in
+    stale-follows _ _ _ (start .args .marks .now) _ _ (start .args .t) _ (told .before .before .admit .ensures .1) (let-through told .small)
+    (on-turn (open-at day) ∙ commit-stale (start .args .t) (start .args .minute) (machine start) (daily day) stale) (c .reset .ensures) (at-unmark .unmark .ensures)
+
+-- 21
+cast-has-byte-for-closed : tie.Need-cast-has-byte-for-closed
+cast-has-byte-for-closed c =
+    let day = c .before .before in
+    let l = minute-most (start-of (told-of (open-at day)) .args .minute) (daily day) in
+    search needs
+
+has-byte-for-closed-requires : tie.Need-has-byte-for-closed-requires
+has-byte-for-closed-requires c κs =
+    let open-here = fresh-at (c .before) in
+    let told = told-of open-here in
+    let start = start-of told in
+    record {
+      ranges = let-through told .ranges;
+      small = let-through told .small;
+      begun = ap (λ (x : Transaction). x .begun) (sym (transaction-of (start .args .kept .now) (start .args .t) (let-through told .small))) ∙ begun open-here;
+    }
+
+returns-5 : tie.Need-returns-5
+returns-5 c =
     let fresh-here = c .before .before .before in
-    let open-here = fresh-here .before in
+    let told = told-of (fresh-at fresh-here) in
+    let start = start-of told in
+    let m = machine start in
+    let shut = sym (c .before .has-byte-for-closed .ensures (m .logs) (let-through told .lengths .logs)) ∙ c .if4 .taken in
+    turned-follows FileClosed [] _ _ _ _ _
+    (on-turn (fresh-at fresh-here) ∙ commit-closed (start .args .t) (start .args .minute) m (daily (fresh-here .before)) (fresh fresh-here) shut)
+
+-- 12
+places-fit-requires : tie.Need-places-fit-requires
+places-fit-requires c κs = in-range _ _ (let-through (told-of (fresh-at (unlocked-at (c .before)))) .ranges) .offsets
+
+returns-6 : tie.Need-returns-6
+returns-6 c =
+    let unlocked-here = c .before .before .before in
+    let fresh-here = unlocked-at unlocked-here in
+    let open-here = fresh-at fresh-here in
     let start = start-of (told-of open-here) in
     let m = machine start in
-    let past = ap (placesFit (m .store)) (own open-here) ∙ failed (c .before .places-fit .ensures) (c .if3 .taken) in
-    turned-follows SettledPastEnd [] _ _ _ _ _ (on-turn open-here ∙ commit-past (start .args .t) m (fresh fresh-here) past)
+    let past = ap (placesFit (m .store)) (own open-here) ∙ failed (c .before .places-fit .ensures) (c .if5 .taken) in
+    turned-follows SettledPastEnd [] _ _ _ _ _
+    (on-turn open-here ∙ commit-past (start .args .t) (start .args .minute) m (daily (fresh-here .before)) (fresh fresh-here) (unlocked unlocked-here) past)
+
+-- Its placing fits.
+abbrev unlocked-of : tie.Else5 → tie.Else4
+unlocked-of c = c .before .before .before
+
+fit : (c : tie.Else5) → let start = start-of (told-of (fresh-at (unlocked-at (unlocked-of c)))) in placesFit (machine start .store) (transaction (machine start .store) (start .args .t)) ≡ true
+fit c =
+    let open-here = fresh-at (unlocked-at (unlocked-of c)) in
+    ap (placesFit (machine (start-of (told-of open-here)) .store)) (own open-here) ∙ held (c .before .places-fit .ensures) (c .if5 .left)
 
 grant-requires : tie.Need-grant-requires
 grant-requires c κs =
-    let at-fit = c .before .before .before .before in
-    let open-here = at-fit .before .before .before in
+    let fits = c .before .before .before in
+    let open-here = fresh-at (unlocked-at (unlocked-of fits)) in
     let told = told-of open-here in
     let start = start-of told in
     let m = machine start in
     let t = start .args .t in
     let through = let-through told in
-    let fit = held (at-fit .places-fit .ensures) (c .before .before .before .if3 .left) in
     let o = opened m t (shaped (start .args .kept .now)) (length-journal (start .args .kept .now)) through (begun open-here) in
-    let lands = can-land (m .store) (m .journal) (m .files) (m .logs) t (ap (placesFit (m .store)) (own open-here) ∙ fit) o (in-range (m .store) (m .journal) (through .ranges)) in
+    let lands = can-land (m .store) (m .journal) (m .files) (m .logs) t (fit fits) o (in-range (m .store) (m .journal) (through .ranges)) in
     record {
       numbers = told .before .before .admit .ensures .1;
       filesLength = through .lengths .files;
       logsLength = through .lengths .logs;
       marksLength = through .lengths .marks;
       own = open-here .before .before .transaction-at .ensures;
-      fresh = at-fit .before .before .if2 .left;
-      fits = fit;
+      fits = held (fits .before .places-fit .ensures) (fits .if5 .left);
       lands = subst (λ (x : Transaction). CanLandIn (start .args .kept .now) t (x .used .records)) (own open-here) lands;
     }
 
-returns-5 : tie.Need-returns-5
-returns-5 c =
+returns-7 : tie.Need-returns-7
+returns-7 c =
     let at-grant = c .before .before .before .before in
-    rw (on-turn (at-grant .before .before .before .before .before .before .before .before)) (at-grant .grant .ensures)
+    let fits = at-grant .before .before .before .before in
+    let unlocked-here = unlocked-of fits in
+    let fresh-here = unlocked-at unlocked-here in
+    let start = start-of (told-of (fresh-at fresh-here)) in
+    rw (on-turn (fresh-at fresh-here) ∙ commit-granted (start .args .t) (start .args .minute) (machine start) (daily (fresh-here .before)) (fresh fresh-here) (unlocked unlocked-here) (fit fits))
+    (at-grant .grant .ensures)
 
 pub commit-spec : {M : Type 1} → statement M
 commit-spec =
@@ -150,13 +230,18 @@ commit-spec =
     (λ c. search needs)
     transaction-at-requires
     returns-2
+    (λ c κs. search needs)
+    returns-3
     unmark-requires
     reset-requires
     (λ c. search needs)
-    returns-3
-    places-fit-requires
     returns-4
+    cast-has-byte-for-closed
+    has-byte-for-closed-requires
+    returns-5
+    places-fit-requires
+    returns-6
     grant-requires
     (λ c. search needs)
     (λ c. search needs)
-    returns-5)
+    returns-7)

@@ -4,7 +4,7 @@ use Rattle.committing.proofs.counting.made_stale.Statement.{statement}
 use Rattle.committing.proofs.counting.made_stale.Tie as tie
 
 returns : tie.Need-returns
-returns c = λ t m e. ones-are t m (c .args .octet) e
+returns c = λ t minute m e. ones-are t m (c .args .octet) minute e
 
 pub made-stale-spec : {M : Type 1} → statement M
 made-stale-spec = tie.close (tie.spec returns)

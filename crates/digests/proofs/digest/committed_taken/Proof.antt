@@ -6,10 +6,10 @@ use Rattle.digests.proofs.digest.committed_taken.Statement.{statement}
 use Rattle.digests.proofs.digest.committed_taken.Tie as tie
 
 abbrev Inv-loop : tie.InvT-loop
-Inv-loop h kept out₀ i₀ out i = Digest out × (i ≤ 40)
+Inv-loop h kept out₀ i₀ out i = Digest out × (i ≤ 56)
 
 abbrev μ-loop : tie.MeasureT-loop
-μ-loop h kept out₀ i₀ out i = 40 - i
+μ-loop h kept out₀ i₀ out i = 56 - i
 
 loop-holds : tie.Need-loop-holds Inv-loop μ-loop
 loop-holds c = search needs

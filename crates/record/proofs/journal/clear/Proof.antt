@@ -6,6 +6,7 @@ use mathlib.Core.Path.{_≡_, ap, _∙_}
 use native.Mathlib.Omega.{arith}
 use lib.ListN.{length, drop, set, replicate, drop-of-length-le}
 use Prim.Native.Nat.{ℕ, _-_, _≤_}
+use Rattle.record.specs.Layout.{recordLength}
 use Rattle.record.proofs.journal.clear.Statement.{statement}
 use Rattle.record.proofs.journal.clear.Tie as tie
 
@@ -14,13 +15,13 @@ whole : (l : List ℕ) (n : ℕ) → length l ≡ n → replicate n 0 ++ drop n 
 whole l n e = ap (λ (r : List ℕ). replicate n 0 ++ r) (let h : length l ≤ n = omega arith in drop-of-length-le l h) ∙ append-nil (replicate n 0)
 
 abbrev Inv-loop : tie.InvT-loop
-Inv-loop kept₀ i₀ kept i = (i ≤ 2088) × (length kept₀ ≡ 2088) × (kept ≡ replicate i 0 ++ drop i kept₀)
+Inv-loop kept₀ i₀ kept i = (i ≤ recordLength) × (length kept₀ ≡ recordLength) × (kept ≡ replicate i 0 ++ drop i kept₀)
 
 abbrev μ-loop : tie.MeasureT-loop
-μ-loop kept₀ i₀ kept i = 2088 - i
+μ-loop kept₀ i₀ kept i = recordLength - i
 
 loop-holds : tie.Need-loop-holds Inv-loop μ-loop
-loop-holds c = let l : length (c .before .before .before .args .kept .now) ≡ 2088 = search needs in (omega arith, l, fill-none _ 0)
+loop-holds c = let l : length (c .before .before .before .args .kept .now) ≡ recordLength = search needs in (omega arith, l, fill-none _ 0)
 
 mul-kept : tie.Need-mul-kept Inv-loop μ-loop
 mul-kept c = omega arith
@@ -44,8 +45,8 @@ loop-again c =
 
 returns : tie.Need-returns Inv-loop μ-loop
 returns c =
-    let e : c .before .loop .i ≡ 2088 = omega arith in
-    c .before .loop .inv .2 ∙ rw e (whole (c .before .before .before .before .before .args .kept .now) 2088 (c .before .loop .inv .1))
+    let e : c .before .loop .i ≡ recordLength = omega arith in
+    c .before .loop .inv .2 ∙ rw e (whole (c .before .before .before .before .before .args .kept .now) recordLength (c .before .loop .inv .1))
 
 pub clear-spec : {M : Type 1} → statement M
 clear-spec =

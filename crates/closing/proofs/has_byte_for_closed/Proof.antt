@@ -1,0 +1,26 @@
+-- `closing::has_byte_for_closed` meets its contract.
+use mathlib.Core.Path.{sym, ap, _∙_}
+use borrow.Author.Needs.{needs}
+use Rattle.closing.specs.Closing.{hasByteFor}
+use Rattle.closing.proofs.ClosingLaws.{none-closed, closed-is}
+use Rattle.closing.proofs.has_byte_for_closed.Statement.{statement}
+use Rattle.closing.proofs.has_byte_for_closed.Tie as tie
+
+-- No file is closed.
+returns : tie.Need-returns
+returns c logs long =
+    let start = c .before .before in
+    sym (none-closed (start .args .kept .now) (start .args .t) _ (c .if1 .taken))
+    ∙ ap (hasByteFor (start .args .kept .now) (start .args .t)) (c .before .closed-files .ensures)
+    ∙ closed-is (start .args .kept .now) (start .args .t) (start .pre) logs long (start .args .minute)
+
+returns-2 : tie.Need-returns-2
+returns-2 c logs long =
+    let start = c .before .before .before in
+    c .has-byte-for .ensures
+    ∙ ap (hasByteFor (start .args .kept .now) (start .args .t)) (c .before .before .closed-files .ensures)
+    ∙ closed-is (start .args .kept .now) (start .args .t) (start .pre) logs long (start .args .minute)
+
+pub has-byte-for-closed-spec : {M : Type 1} → statement M
+has-byte-for-closed-spec =
+    tie.close (tie.spec (λ c κs. search needs) returns (λ c κs. search needs) returns-2)

@@ -1,0 +1,285 @@
+-- No grant puts a byte into a file that is closed at its minute.
+use mathlib.Core.Bool.{Bool, true, false, cond, _&&_, _||_, true≢false}
+use mathlib.Core.List.{List, [], _∷_, _++_}
+use mathlib.Core.Path.{_≡_, refl, sym, ap, _∙_, subst}
+use borrow.Author.Tests.{eqb-true, lt-ltb, le-ltb}
+use lib.Dec.{eqb, ltb}
+use lib.ListN.{length, getD}
+use native.Mathlib.Omega.{arith}
+use Prim.Native.Nat.{ℕ, zero, suc, _+_, _*_, _/_, _≤_, _<_, suc-le-suc}
+use Rattle.windows.specs.Hours.{Windows, isClosedAt}
+use Rattle.record.specs.State.{transaction, windowAt}
+use Rattle.record.specs.Paper.{granted}
+use Rattle.standings.specs.Table.{finalOffset}
+use Rattle.ranges.specs.Ranges.{unless, admission}
+use Rattle.ranges.proofs.Laws.{in-range, shared-zero}
+use Rattle.rules.specs.Items.{Item, byte, offset, fileLength, same, Values}
+use Rattle.rules.specs.Transactions.{Txn, Write}
+use Rattle.rules.specs.Reading.{writeEnd, farthest}
+use Rattle.rules.specs.Coverage.{someWrite}
+use Rattle.rules.specs.Windows.{isForClosed, forClosed}
+use Rattle.rules.specs.Commits.{Setting, landsAt, stretch, byteSettings, setsOffset, offsetSettings, landedEnd, lengthSettings, settings, fits, landed, commitRefusal}
+use Rattle.rules.specs.Messages.{commit}
+use Rattle.rules.specs.Machine.{Machine, sizes, fileOf, values, txnOf, noWrite}
+use Rattle.rules.specs.Calls.{Turn, passing, commitGranted, commitDecided, settingsOf, commitTurn, admitted, call, callsAfter}
+use Rattle.rules.specs.Closed.{Among, first, later, Spared, ClosedSpared}
+use Rattle.rules.proofs.Serial.Programs.{Every, every-append}
+use Rattle.rules.proofs.Serial.Lists.{touched, landed-at, same-true, or-left-false, or-right-false}
+use Rattle.rules.proofs.Serial.Sighted.{Sighted, granting}
+use Rattle.rules.proofs.View.Shape.{view, Sound, WriteIn, TxnIn}
+use Rattle.rules.proofs.View.Decode.{decoded-in}
+use Rattle.rules.proofs.View.SettingsIn.{AllIn, lands-in, fits-at, settings-in}
+use Rattle.rules.proofs.View.Grants.{granted-view}
+use Rattle.rules.proofs.View.Zeros.{neither}
+use Rattle.rules.proofs.Demand3.Answers.{answer-not-refused}
+use Rattle.rules.proofs.Demand3.Refusals.{passing-zero}
+use Rattle.rules.proofs.Demand3.Buffers.{answered-turn}
+use Rattle.rules.proofs.Demand3.Theorem.{calls-agree, fresh-facts}
+
+-- A write of no byte ends nowhere.
+no-bytes : (a n : ℕ) → (ltb 0 n && true) ≡ false → writeEnd a n ≡ 0
+unfolding writeEnd
+no-bytes a zero q = refl
+no-bytes a (suc n) q = absurd (true≢false (sym (ap (λ (b : Bool). b && true) (lt-ltb 0 (suc n) (omega arith))) ∙ q))
+
+-- ---- settings
+
+module _ (ws : Windows) (minute : ℕ) where
+  -- A setting of no byte of a closed file.
+  abbrev Sparing : Item → Type 0
+  Sparing (byte q) = isClosedAt ws minute (q / 4096) ≡ false
+  Sparing (offset d) = Unit {0}
+  Sparing (fileLength f) = Unit {0}
+
+  abbrev AllSparing : List Setting → Type 0
+  AllSparing = Every (λ (s : Setting). Sparing (s .item))
+
+  -- The bytes of a write in file g.
+  stretch-spares : (g q : ℕ) (bs : List ℕ) → 4096 * g ≤ q → q + length bs ≤ 4096 * g + 4096
+      → (0 < length bs → isClosedAt ws minute g ≡ false) → AllSparing (stretch q bs)
+  unfolding stretch
+  stretch-spares g q [] l k h = tt
+  stretch-spares g q (b ∷ bs) l k h =
+      let e : q / 4096 ≡ g = omega arith in
+      let c = h (omega arith) in
+      (rw e c, stretch-spares g (suc q) bs (omega arith) (omega arith) (λ m. c))
+
+  module _ (file : ℕ → ℕ) (v : Values) (y : Txn) (files : (d : ℕ) → d < 16 → file d ≤ 7) (ranges : TxnIn y) (fit : fits v y ≡ true) where
+    bytes-spare : (us : List Write) → ((k : ℕ) → k < length us → WriteIn y (getD us k noWrite)) → forClosed file ws minute us ≡ false
+        → AllSparing (byteSettings file v us)
+    unfolding byteSettings forClosed someWrite
+    bytes-spare [] h e = tt
+    bytes-spare (w ∷ us) h e =
+        let i = h 0 (omega arith) in
+        let d = w .descriptor in
+        let a = landsAt (v (offset d)) (w .place) in
+        let k = lands-in (v (offset d)) (y .standing d) (w .place) (length (w .bytes)) (fits-at file v y files ranges fit d (i .descriptor)) (i .place) in
+        let o = or-left-false (isForClosed file ws minute w) (someWrite (isForClosed file ws minute) us) e in
+        let r = or-right-false (isForClosed file ws minute w) (someWrite (isForClosed file ws minute) us) e in
+        every-append (λ (s : Setting). Sparing (s .item)) (stretch (4096 * file d + a) (w .bytes)) (byteSettings file v us)
+        (stretch-spares (file d) (4096 * file d + a) (w .bytes) (omega arith) (omega arith) (λ l. opened (length (w .bytes)) l (unfold isForClosed in o)))
+        (bytes-spare us (λ k l. h (suc k) (suc-le-suc l)) r)
+      where
+        opened : (n : ℕ) → 0 < n → (ltb 0 n && isClosedAt ws minute (file (w .descriptor))) ≡ false → isClosedAt ws minute (file (w .descriptor)) ≡ false
+        opened n l q = rw (lt-ltb 0 n l) at q
+
+    offsets-spare : (n : ℕ) → AllSparing (offsetSettings v y n)
+    unfolding offsetSettings
+    offsets-spare zero = tt
+    offsets-spare (suc d) =
+        every-append (λ (s : Setting). Sparing (s .item)) (offsetSettings v y d) _ (offsets-spare d) (pick (setsOffset y d))
+      where
+        pick : (b : Bool) → AllSparing (cond b (record { item = offset d; to = finalOffset (v (offset d)) (y .standing d) } ∷ []) [])
+        pick true = (tt, tt)
+        pick false = tt
+
+    lengths-spare : (us : List Write) (n : ℕ) → AllSparing (lengthSettings file v us n)
+    unfolding lengthSettings
+    lengths-spare us zero = tt
+    lengths-spare us (suc f) =
+        every-append (λ (s : Setting). Sparing (s .item)) (lengthSettings file v us f) _ (lengths-spare us f) (pick (ltb (v (fileLength f)) (landedEnd file v f us)))
+      where
+        pick : (b : Bool) → AllSparing (cond b (record { item = fileLength f; to = landedEnd file v f us } ∷ []) [])
+        pick true = (tt, tt)
+        pick false = tt
+
+    settings-spare : forClosed file ws minute (y .writes) ≡ false → AllSparing (settings file v y)
+    unfolding settings
+    settings-spare e =
+        every-append (λ (s : Setting). Sparing (s .item)) (byteSettings file v (y .writes)) _ (bytes-spare (y .writes) (ranges .writes) e)
+        (every-append (λ (s : Setting). Sparing (s .item)) (offsetSettings v y 16) _ (offsets-spare 16) (lengths-spare (y .writes) 8))
+
+  -- One among them.
+  among-spares : (s : Setting) (ss : List Setting) → Among s ss → AllSparing ss → Sparing (s .item)
+  among-spares s ss (first rs) h = h .0
+  among-spares s ss (later r rs a) h = among-spares s rs a (h .1)
+
+  -- A byte of a closed file is not touched.
+  not-touched : (q : ℕ) → isClosedAt ws minute (q / 4096) ≡ true → (ss : List Setting) → AllSparing ss → touched ss (byte q) ≡ false
+  unfolding touched
+  not-touched q c [] h = refl
+  not-touched q c (s ∷ ss) h = pick (same (s .item) (byte q)) refl (not-touched q c ss (h .1))
+    where
+      pick : (b : Bool) → same (s .item) (byte q) ≡ b → touched ss (byte q) ≡ false → (b || touched ss (byte q)) ≡ false
+      pick true e r =
+          let z : isClosedAt ws minute (q / 4096) ≡ false = subst Sparing (same-true (s .item) (byte q) e) (h .0) in
+          absurd (true≢false (sym c ∙ z))
+      pick false e r = r
+
+  -- The writes of a file that is closed have no byte: they end nowhere, and raise no length.
+  module _ (file : ℕ → ℕ) (v : Values) (f : ℕ) (shut : isClosedAt ws minute f ≡ true) where
+    ends-nowhere : (us : List Write) → forClosed file ws minute us ≡ false → landedEnd file v f us ≡ 0
+    unfolding landedEnd forClosed someWrite farthest
+    ends-nowhere [] e = refl
+    ends-nowhere (w ∷ us) e =
+        let o = or-left-false (isForClosed file ws minute w) (someWrite (isForClosed file ws minute) us) e in
+        let r = ends-nowhere us (or-right-false (isForClosed file ws minute w) (someWrite (isForClosed file ws minute) us) e) in
+        let a = landsAt (v (offset (w .descriptor))) (w .place) in
+        let n : cond (eqb (file (w .descriptor)) f) (writeEnd a (length (w .bytes))) 0 ≡ 0 =
+        pick a (eqb (file (w .descriptor)) f) refl (unfold isForClosed in o) in
+        omega arith
+      where
+        pick : (a : ℕ) (b : Bool) → eqb (file (w .descriptor)) f ≡ b → (ltb 0 (length (w .bytes)) && isClosedAt ws minute (file (w .descriptor))) ≡ false
+            → cond b (writeEnd a (length (w .bytes))) 0 ≡ 0
+        pick a true e q =
+            let c : isClosedAt ws minute (file (w .descriptor)) ≡ true = ap (isClosedAt ws minute) (eqb-true (file (w .descriptor)) f e) ∙ shut in
+            no-bytes a (length (w .bytes)) (rw c at q)
+        pick a false e q = refl
+
+    module _ (y : Txn) (none : forClosed file ws minute (y .writes) ≡ false) where
+      stretch-no-length : (q : ℕ) (bs : List ℕ) → touched (stretch q bs) (fileLength f) ≡ false
+      unfolding stretch touched same
+      stretch-no-length q [] = refl
+      stretch-no-length q (b ∷ bs) = stretch-no-length (suc q) bs
+
+      bytes-no-length : (us : List Write) → touched (byteSettings file v us) (fileLength f) ≡ false
+      unfolding byteSettings
+      bytes-no-length [] = unfold touched in refl
+      bytes-no-length (w ∷ us) =
+          let q = 4096 * file (w .descriptor) + landsAt (v (offset (w .descriptor))) (w .place) in
+          neither (stretch q (w .bytes)) (byteSettings file v us) (fileLength f) (stretch-no-length q (w .bytes)) (bytes-no-length us)
+
+      offsets-no-length : (n : ℕ) → touched (offsetSettings v y n) (fileLength f) ≡ false
+      unfolding offsetSettings
+      offsets-no-length zero = unfold touched in refl
+      offsets-no-length (suc d) =
+          neither (offsetSettings v y d) (cond (setsOffset y d) (record { item = offset d; to = finalOffset (v (offset d)) (y .standing d) } ∷ []) [])
+          (fileLength f) (offsets-no-length d) (pick (setsOffset y d))
+        where
+          pick : (b : Bool) → touched (cond b (record { item = offset d; to = finalOffset (v (offset d)) (y .standing d) } ∷ []) []) (fileLength f) ≡ false
+          pick true = unfold touched same in refl
+          pick false = unfold touched in refl
+
+      lengths-not : (n : ℕ) → touched (lengthSettings file v (y .writes) n) (fileLength f) ≡ false
+      unfolding lengthSettings
+      lengths-not zero = unfold touched in refl
+      lengths-not (suc g) =
+          neither (lengthSettings file v (y .writes) g)
+          (cond (ltb (v (fileLength g)) (landedEnd file v g (y .writes))) (record { item = fileLength g; to = landedEnd file v g (y .writes) } ∷ []) [])
+          (fileLength f) (lengths-not g) (last (eqb g f) refl)
+        where
+          pick : (b : Bool) → eqb g f ≡ false
+              → touched (cond b (record { item = fileLength g; to = landedEnd file v g (y .writes) } ∷ []) []) (fileLength f) ≡ false
+          pick true e = unfold touched same in rw e
+          pick false e = unfold touched in refl
+
+          last : (b : Bool) → eqb g f ≡ b
+              → touched (cond (ltb (v (fileLength g)) (landedEnd file v g (y .writes))) (record { item = fileLength g; to = landedEnd file v g (y .writes) } ∷ []) []) (fileLength f) ≡ false
+          last false e = pick (ltb (v (fileLength g)) (landedEnd file v g (y .writes))) e
+          last true e =
+              let z : landedEnd file v g (y .writes) ≡ 0 = ap (λ (h : ℕ). landedEnd file v h (y .writes)) (eqb-true g f e) ∙ ends-nowhere (y .writes) none in
+              let l : ltb (v (fileLength g)) (landedEnd file v g (y .writes)) ≡ false = ap (ltb (v (fileLength g))) z ∙ le-ltb (v (fileLength g)) 0 (omega arith) in
+              ap (λ (b : Bool). touched (cond b (record { item = fileLength g; to = landedEnd file v g (y .writes) } ∷ []) []) (fileLength f)) l ∙ (unfold touched in refl)
+
+      length-not-touched : touched (settings file v y) (fileLength f) ≡ false
+      unfolding settings
+      length-not-touched =
+          neither (byteSettings file v (y .writes)) (offsetSettings v y 16 ++ lengthSettings file v (y .writes) 8) (fileLength f) (bytes-no-length (y .writes))
+          (neither (offsetSettings v y 16) (lengthSettings file v (y .writes) 8) (fileLength f) (offsets-no-length 16) (lengths-not 8))
+
+-- ---- a granted Commit
+
+-- Its tests passed, and it leaves what the settings leave.
+record Passed (m : Machine) (t minute : ℕ) : Type 0 where
+  small : t < 8
+  begun : transaction (m .store) t .begun ≡ true
+  none : forClosed (fileOf (m .store)) (windowAt (m .store)) minute (txnOf (m .store) (m .journal) (m .logs) t .writes) ≡ false
+  fit : fits (values (m .store) (m .files)) (txnOf (m .store) (m .journal) (m .logs) t) ≡ true
+  leaves : call (commit t minute) m .after ≡ commitGranted t (settingsOf m t) m .after
+
+decided-granted : (t : ℕ) (ss : List Setting) (m : Machine) (daily stale shut placed : Bool) (n : ℕ)
+    → commitDecided t ss m (commitRefusal daily stale shut placed) .reply .answer ≡ granted n
+    → (shut ≡ false) × (placed ≡ true) × (commitDecided t ss m (commitRefusal daily stale shut placed) .after ≡ commitGranted t ss m .after)
+unfolding commitDecided commitRefusal
+decided-granted t ss m false stale shut placed n e = absurd (answer-not-refused (granted n) 22 tt (sym e))
+decided-granted t ss m true true shut placed n e = absurd (answer-not-refused (granted n) 13 tt (sym e))
+decided-granted t ss m true false true placed n e = absurd (answer-not-refused (granted n) 21 tt (sym e))
+decided-granted t ss m true false false true n e = (refl, refl, refl)
+decided-granted t ss m true false false false n e = absurd (answer-not-refused (granted n) 12 tt (sym e))
+
+is-open : (b : Bool) → unless b 4 0 ≡ 0 → b ≡ true
+unfolding unless
+is-open true e = refl
+is-open false e = absurd (let z : _≡_ {A = ℕ} 4 0 = e in omega arith)
+
+passed : (m : Machine) (t minute n : ℕ) → call (commit t minute) m .reply .answer ≡ granted n → Passed m t minute
+unfolding call admitted admission commitTurn
+passed m t minute n e =
+    let k = admission (sizes m) (m .store) (m .journal) t in
+    let z : k ≡ 0 = passing-zero k [] m (commitTurn t minute m) (granted n) tt e in
+    let a = shared-zero (sizes m) (m .store) (m .journal) t (unless (transaction (m .store) t .begun) 4 0) z in
+    let w : passing k [] m (commitTurn t minute m) ≡ commitTurn t minute m = answered-turn k m (commitTurn t minute m) (granted n) tt e in
+    let d = decided-granted t (settingsOf m t) m _ _ _ _ n (sym (ap (λ (x : Turn). x .reply .answer) w) ∙ e) in
+    record {
+      small = a .0 .small;
+      begun = is-open (transaction (m .store) t .begun) (a .1);
+      none = d .0;
+      fit = d .1;
+      leaves = ap (λ (x : Turn). x .after) w ∙ d .2;
+    }
+
+granted-values : (m : Machine) (t : ℕ) (ss : List Setting) → t < 8 → Sound m → AllIn ss
+    → values (commitGranted t ss m .after .store) (commitGranted t ss m .after .files) ≡ landed ss (values (m .store) (m .files))
+unfolding view granting
+granted-values m t ss small sound inside = ap (λ (y : Sighted). y .value) (granted-view m t ss small sound inside)
+
+-- Equal committed values, in the buffers.
+byte-left : (n m : Machine) (q : ℕ) → values (n .store) (n .files) (byte q) ≡ values (m .store) (m .files) (byte q) → getD (n .files) q 0 ≡ getD (m .files) q 0
+unfolding values
+byte-left n m q e = e
+
+length-left : (n m : Machine) (f : ℕ) → values (n .store) (n .files) (fileLength f) ≡ values (m .store) (m .files) (fileLength f)
+    → getD (n .store .lengths) f 0 ≡ getD (m .store .lengths) f 0
+unfolding values
+length-left n m f e = e
+
+spared : (m : Machine) → Sound m → (t minute n : ℕ) → call (commit t minute) m .reply .answer ≡ granted n → Spared m t minute
+spared m sound t minute n e =
+    let p = passed m t minute n e in
+    let s = m .store in
+    let v = values s (m .files) in
+    let x = txnOf s (m .journal) (m .logs) t in
+    let r = in-range s (m .journal) (sound .inRange) in
+    let ranges = decoded-in s (m .journal) (m .logs) t (sound .logs) (p .small) (r .transactions t (p .small) (p .begun)) (sound .shaped .descriptors t (p .small)) in
+    let sparing = settings-spare (windowAt s) minute (fileOf s) v x (unfold fileOf in r .files) ranges (p .fit) (p .none) in
+    let left : values (call (commit t minute) m .after .store) (call (commit t minute) m .after .files) ≡ landed (settingsOf m t) v =
+    ap (λ (y : Machine). values (y .store) (y .files)) (p .leaves)
+    ∙ granted-values m t (settingsOf m t) (p .small) sound (settings-in (fileOf s) v x (unfold fileOf in r .files) ranges (p .fit)) in
+    record {
+      bytes = λ a q i f. subst (Sparing (windowAt s) minute) f (among-spares (windowAt s) minute a (settingsOf m t) i sparing);
+      kept =
+          λ f q l k c.
+          let e : (4096 * f + q) / 4096 ≡ f = omega arith in
+          byte-left (call (commit t minute) m .after) m (4096 * f + q)
+          (ap (λ (y : Values). y (byte (4096 * f + q))) left
+          ∙ landed-at (settingsOf m t) v (byte (4096 * f + q)) (not-touched (windowAt s) minute (4096 * f + q) (ap (isClosedAt (windowAt s) minute) e ∙ c) (settingsOf m t) sparing));
+      length =
+          λ f l c.
+          length-left (call (commit t minute) m .after) m f
+          (ap (λ (y : Values). y (fileLength f)) left
+          ∙ landed-at (settingsOf m t) v (fileLength f) (length-not-touched (windowAt s) minute (fileOf s) v f c x (p .none)));
+    }
+
+pub closed-spared : ClosedSpared
+closed-spared numbers m₀ made cs t minute n e =
+    spared (callsAfter cs m₀) (calls-agree cs m₀ (fresh-facts numbers m₀ made .sound) .sound) t minute n e

@@ -1,0 +1,37 @@
+-- Request F-11: "No grant puts a byte into a file that is closed at its minute."
+use mathlib.Core.Bool.{true, false}
+use mathlib.Core.List.{List, _∷_}
+use mathlib.Core.Path.{_≡_}
+use lib.ListN.{getD}
+use Prim.Native.Nat.{ℕ, _+_, _*_, _/_, _<_}
+use Rattle.windows.specs.Hours.{isClosedAt}
+use Rattle.record.specs.State.{windowAt}
+use Rattle.record.specs.Paper.{granted}
+use Rattle.rules.specs.Items.{byte}
+use Rattle.rules.specs.Messages.{Call, commit}
+use Rattle.rules.specs.Commits.{Setting}
+use Rattle.rules.specs.Machine.{Machine}
+use Rattle.rules.specs.Calls.{settingsOf, call, callsAfter}
+use Rattle.rules.specs.Demand3.{FreshlyMade}
+
+-- A setting is among those of a list.
+pub data Among (x : Setting) : List Setting → Type 0 where
+  first : (ss : List Setting) → Among x (x ∷ ss)
+  later : (s : Setting) (ss : List Setting) → Among x ss → Among x (s ∷ ss)
+
+-- Of a granted Commit of t at the minute, on store m: it sets no byte of a closed file (nor to the value that it has already), and the
+-- bytes of that file and its length are as before.
+pub record Spared (m : Machine) (t minute : ℕ) : Type 0 where
+  pub bytes :
+      (s : Setting) (q : ℕ) → Among s (settingsOf m t) → s .item ≡ byte q → isClosedAt (windowAt (m .store)) minute (q / 4096) ≡ false
+  pub kept :
+      (f p : ℕ) → f < 8 → p < 4096 → isClosedAt (windowAt (m .store)) minute f ≡ true
+      → getD (call (commit t minute) m .after .files) (4096 * f + p) 0 ≡ getD (m .files) (4096 * f + p) 0
+  pub length :
+      (f : ℕ) → f < 8 → isClosedAt (windowAt (m .store)) minute f ≡ true
+      → getD (call (commit t minute) m .after .store .lengths) f 0 ≡ getD (m .store .lengths) f 0
+
+abbrev pub ClosedSpared : Type 0
+ClosedSpared =
+    (numbers : List ℕ) (m₀ : Machine) → FreshlyMade numbers m₀ → (cs : List Call) (t minute n : ℕ)
+    → call (commit t minute) (callsAfter cs m₀) .reply .answer ≡ granted n → Spared (callsAfter cs m₀) t minute

@@ -1,0 +1,13 @@
+-- The hours of specs/, computed.
+use mathlib.Core.Path.{refl}
+use Rattle.windows.specs.Hours.{minuteIn, isOpenAt, Hours}
+
+pub hours : Hours
+unfolding minuteIn isOpenAt
+hours =
+    record {
+      minutes = (refl, refl);
+      day = (refl, refl, refl, refl);
+      night = (refl, refl, refl, refl, refl, refl);
+      always = (refl, refl, refl);
+    }

@@ -1,0 +1,50 @@
+-- Request F-11, "Hours in which a file may change".
+use mathlib.Core.Bool.{Bool, true, false, cond, not, _&&_, _||_}
+use mathlib.Core.Path.{_≡_}
+use lib.Dec.{leb, ltb, eqb}
+use Prim.Native.Nat.{ℕ}
+use Rattle.windows.specs.declared.Window.{Window}
+
+-- "Each file has a window of start and end minute, 0 to 1,439": whether a number is a minute of the day.
+unfoldable pub minuteIn : ℕ → Bool
+minuteIn n = leb n 1439
+
+abbrev pub window : ℕ → ℕ → Window
+window start end = record { start = start; end = end }
+
+-- The window of each file.
+abbrev pub Windows : Type 0
+Windows = ℕ → Window
+
+-- "Fresh sets all to 0 and 0." This one also stands in an array of windows past its end.
+abbrev pub freshWindow : Window
+freshWindow = window 0 0
+
+abbrev pub freshWindows : Windows
+freshWindows f = freshWindow
+
+-- "start in, end out; a start above the end runs over midnight, equal ones mean always open": whether the minute lies in the window.
+unfoldable pub isOpenAt : Window → ℕ → Bool
+isOpenAt w minute =
+    let from = leb (w .start) minute in
+    let before = ltb minute (w .end) in
+    eqb (w .start) (w .end) || cond (ltb (w .start) (w .end)) (from && before) (from || before)
+
+-- "a file that is closed at its minute"
+unfoldable pub isClosedAt : Windows → ℕ → ℕ → Bool
+isClosedAt windows minute f = not (isOpenAt (windows f) minute)
+
+-- These words, computed: the last minute of the day, and each end of a window.
+pub record Hours : Type 0 where
+  pub minutes : (minuteIn 1439 ≡ true) × (minuteIn 1440 ≡ false)
+  -- "start in, end out"
+  pub day :
+      (isOpenAt (window 600 1439) 599 ≡ false) × (isOpenAt (window 600 1439) 600 ≡ true)
+      × (isOpenAt (window 600 1439) 1438 ≡ true) × (isOpenAt (window 600 1439) 1439 ≡ false)
+  -- "a start above the end runs over midnight"
+  pub night :
+      (isOpenAt (window 1380 60) 1379 ≡ false) × (isOpenAt (window 1380 60) 1380 ≡ true) × (isOpenAt (window 1380 60) 1439 ≡ true)
+      × (isOpenAt (window 1380 60) 0 ≡ true) × (isOpenAt (window 1380 60) 59 ≡ true) × (isOpenAt (window 1380 60) 60 ≡ false)
+  -- "equal ones mean always open"
+  pub always :
+      (isOpenAt (window 720 720) 719 ≡ true) × (isOpenAt (window 720 720) 720 ≡ true) × (isOpenAt (window 720 720) 721 ≡ true)

@@ -1,0 +1,33 @@
+// The hours in which a file may change.
+ghost use mathlib.Core.Path.{_≡_};
+ghost use Rattle.windows.specs.Hours.{minuteIn, isOpenAt};
+
+// The last minute of a day.
+pub const LAST_MINUTE: u16 = 1439;
+
+// The window of a file: from minute start on, before minute end. A start above the end runs over midnight; equal ones
+// mean always open.
+pub struct Window {
+    pub start: u16,
+    pub end: u16,
+}
+
+// Whether the number is a minute of the day.
+pub fn minute_in(n: usize) -> bool
+    ensures { λ r. ⌜ r ≡ minuteIn n ⌝ }
+{
+    n <= LAST_MINUTE as usize
+}
+
+// Whether the minute lies in the window. An equal start and end want no test: every minute is at that one or later, or
+// before it.
+pub fn is_open(w: Window, minute: u16) -> bool
+    ensures { λ r. ⌜ r ≡ isOpenAt w minute ⌝ }
+{
+    let from = w.start <= minute;
+    let before = minute < w.end;
+    if w.start < w.end {
+        return from & before;
+    }
+    from | before
+}

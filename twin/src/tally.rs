@@ -1,0 +1,184 @@
+//! How often each outcome, and each case of interest, was met.
+
+use std::io::{self, Write};
+
+use crate::call::{Action, Answer, Outcome, Refusal, Reply, Step};
+use crate::plain::{Committed, Course, Item, Machine, Place, Window};
+use crate::store::{Store, Transaction, FILES};
+
+/// The highest number of a refusal.
+const REFUSALS: usize = 22;
+
+#[derive(Clone, Debug, Default)]
+pub struct Tally {
+    pub done: u64,
+    pub offset: u64,
+    pub given: u64,
+    pub granted: u64,
+    pub pairs: u64,
+    /// By the refusal's number; the first entry stays 0.
+    pub refused: [u64; REFUSALS + 1],
+    /// Grants while another transaction was open.
+    granted_among_others: u64,
+    /// Grants that made another transaction stale.
+    granted_making_stale: u64,
+    /// Grants of a transaction with a Read or GetFilePointer and a Write.
+    granted_after_look: u64,
+    /// Lists of places with one pair, and with more.
+    one_pair: u64,
+    several_pairs: u64,
+    /// Reads that gave fewer bytes than wanted.
+    short: u64,
+    /// Those of them that gave some, up to the committed length, and up to an own write beyond it.
+    short_at_committed: u64,
+    short_at_own: u64,
+    /// Those of them that began beyond the length.
+    short_beyond: u64,
+    /// Grants that raised a length.
+    granted_raising: u64,
+    /// Grants with a byte just before a length that they leave as it is, while another transaction has sighted that length
+    /// and stays as it was.
+    granted_meeting: u64,
+    /// Transactions made stale by a length, and by lengths alone.
+    stale_by_length: u64,
+    stale_by_length_alone: u64,
+    /// Grants with a byte for a file that is not always open; where its window runs over midnight; in its first minute.
+    granted_in_window: u64,
+    granted_over_midnight: u64,
+    granted_at_start: u64,
+    /// Commits refused with 21 for a file whose window runs over midnight; in the minute in which it ends; for writes
+    /// without a place alone; where 12 would come next.
+    closed_over_midnight: u64,
+    closed_at_end: u64,
+    closed_unplaced: u64,
+    closed_without_room: u64,
+    /// Commits of a stale transaction refused with 22.
+    stale_without_minute: u64,
+}
+
+impl Tally {
+    pub fn count(&mut self, outcome: Outcome) {
+        match outcome {
+            Ok(Answer::Done) => self.done += 1,
+            Ok(Answer::Offset(_)) => self.offset += 1,
+            Ok(Answer::Given(_)) => self.given += 1,
+            Ok(Answer::Granted(_)) => self.granted += 1,
+            Ok(Answer::Pairs(count)) => self.count_pairs(count),
+            Err(refusal) => self.refused[refusal.number()] += 1,
+        }
+    }
+
+    fn count_pairs(&mut self, count: u16) {
+        self.pairs += 1;
+        self.one_pair += u64::from(count == 1);
+        self.several_pairs += u64::from(count > 1);
+    }
+
+    /// A Read that was accepted.
+    pub fn count_read(&mut self, committed: &Committed, course: &Course, step: &Step, given: usize) {
+        let Action::Read { count, .. } = step.action else { return };
+        if given == count {
+            return;
+        }
+        let file = committed.file_of[step.descriptor];
+        let length = course.length(committed, file);
+        self.short += 1;
+        self.short_at_committed += u64::from(given > 0 && length == committed.lengths[file]);
+        self.short_at_own += u64::from(given > 0 && length > committed.lengths[file]);
+        self.short_beyond += u64::from(course.offset(step.descriptor) > length);
+    }
+
+    /// A grant of these calls that made these transactions stale.
+    pub fn count_grant(&mut self, machine: &Machine, served: &[(Step, Reply)], turned: u8) {
+        let writes = served.iter().any(|(step, _)| matches!(step.action, Action::Write { .. }));
+        let looks = |step: &Step| matches!(step.action, Action::Read { .. } | Action::GetFilePointer);
+        self.granted_among_others += u64::from(machine.open.iter().any(Option::is_some));
+        self.granted_making_stale += u64::from(turned != 0);
+        self.granted_after_look += u64::from(writes && served.iter().any(|(step, _)| looks(step)));
+    }
+
+    /// A grant that found these lengths and made these transactions stale.
+    pub fn count_lengths(&mut self, machine: &Machine, store: &Store, lengths: [u16; FILES], turned: u8) {
+        let Machine { committed, open, grants, .. } = machine;
+        let met = |file: usize| {
+            let length = committed.lengths[file];
+            length == usize::from(lengths[file])
+                && length > 0
+                && committed.sight(Item::Byte { file, place: length - 1 }).setter == *grants
+        };
+        let met: u8 = (0..FILES).filter(|&file| met(file)).map(|file| 1 << file).sum();
+        let spared = |transaction: &Transaction| !transaction.stale && transaction.sighted_lengths & met != 0;
+        self.granted_raising += u64::from(store.lengths != lengths);
+        self.granted_meeting += u64::from(store.transactions.iter().any(spared));
+        for transaction in
+            open.iter().enumerate().filter(|(t, _)| turned >> t & 1 == 1).filter_map(|(_, open)| open.as_ref())
+        {
+            let is_length = |item: Item| matches!(item, Item::Length { .. });
+            let sightings = transaction.course.sightings.iter();
+            let set: Vec<_> = sightings.filter(|sighting| committed.sight(sighting.item) != **sighting).collect();
+            self.stale_by_length += u64::from(set.iter().any(|sighting| is_length(sighting.item)));
+            self.stale_by_length_alone += u64::from(set.iter().all(|sighting| is_length(sighting.item)));
+        }
+    }
+
+    /// A grant at this minute with a byte for each of these windows' files.
+    pub fn count_windows(&mut self, windows: &[Window], minute: usize) {
+        let any = |case: &dyn Fn(&Window) -> bool| u64::from(windows.iter().any(case));
+        self.granted_in_window += any(&|window| window.start != window.end);
+        self.granted_over_midnight += any(&|window| window.start > window.end);
+        self.granted_at_start += any(&|window| window.start != window.end && window.start == minute);
+    }
+
+    /// A Commit that was refused, and left its transaction open if it was.
+    pub fn count_kept_open(&mut self, machine: &Machine, t: usize, minute: usize, refusal: Refusal) {
+        let Some(Some(transaction)) = machine.open.get(t) else { return };
+        if refusal == Refusal::NoSuchMinute {
+            self.stale_without_minute += u64::from(machine.is_stale(t));
+        }
+        if refusal != Refusal::FileClosed {
+            return;
+        }
+        let Machine { committed, windows, .. } = machine;
+        let course = &transaction.course;
+        let window = |d: usize| windows[committed.file_of[d]];
+        let with_bytes = course.writes.iter().filter(|write| !write.data.is_empty());
+        let closed: Vec<_> = with_bytes.filter(|write| !window(write.descriptor).is_open(minute)).collect();
+        let over_midnight = |d: usize| window(d).start > window(d).end;
+        self.closed_over_midnight += u64::from(closed.iter().any(|write| over_midnight(write.descriptor)));
+        self.closed_at_end += u64::from(closed.iter().any(|write| window(write.descriptor).end == minute));
+        self.closed_unplaced += u64::from(closed.iter().all(|write| matches!(write.place, Place::After(_))));
+        self.closed_without_room += u64::from(course.check_placing(committed).is_err());
+    }
+
+    pub fn write(&self, out: &mut impl Write) -> io::Result<()> {
+        writeln!(out, "done {}", self.done)?;
+        writeln!(out, "offset {}", self.offset)?;
+        writeln!(out, "given {}", self.given)?;
+        writeln!(out, "granted {}", self.granted)?;
+        writeln!(out, "pairs {}", self.pairs)?;
+        for (number, count) in self.refused.iter().enumerate().skip(1) {
+            writeln!(out, "refused {number}: {count}")?;
+        }
+        writeln!(out, "granted with others open {}", self.granted_among_others)?;
+        writeln!(out, "granted, making others stale {}", self.granted_making_stale)?;
+        writeln!(out, "granted after a look and a write {}", self.granted_after_look)?;
+        writeln!(out, "lists of one pair {}", self.one_pair)?;
+        writeln!(out, "lists of several pairs {}", self.several_pairs)?;
+        writeln!(out, "short reads {}", self.short)?;
+        writeln!(out, "short reads with bytes, up to the committed length {}", self.short_at_committed)?;
+        writeln!(out, "short reads with bytes, up to an own write {}", self.short_at_own)?;
+        writeln!(out, "short reads from beyond the length {}", self.short_beyond)?;
+        writeln!(out, "granted, raising a length {}", self.granted_raising)?;
+        writeln!(out, "granted up to a length that stays, sighted by others {}", self.granted_meeting)?;
+        writeln!(out, "made stale by a length {}", self.stale_by_length)?;
+        writeln!(out, "made stale by lengths alone {}", self.stale_by_length_alone)?;
+        writeln!(out, "granted inside a window {}", self.granted_in_window)?;
+        writeln!(out, "granted inside a window over midnight {}", self.granted_over_midnight)?;
+        writeln!(out, "granted in a window's first minute {}", self.granted_at_start)?;
+        writeln!(out, "closed, by a window over midnight {}", self.closed_over_midnight)?;
+        writeln!(out, "closed in the minute in which a window ends {}", self.closed_at_end)?;
+        writeln!(out, "closed for writes without a place alone {}", self.closed_unplaced)?;
+        writeln!(out, "closed, and without room too {}", self.closed_without_room)?;
+        writeln!(out, "stale, with a minute above 1,439 {}", self.stale_without_minute)
+    }
+}

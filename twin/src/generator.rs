@@ -136,7 +136,8 @@ impl Default for Generator {
     }
 }
 
-fn step(x: u64) -> u64 {
+/// The recurrence.
+pub fn step(x: u64) -> u64 {
     x * 48271 % 2147483647
 }
 

@@ -131,6 +131,8 @@ fn run(options: &Options) -> io::Result<()> {
     if options.stats {
         writeln!(out, "calls {}", options.calls)?;
         pair.tally.write(&mut out)?;
+        writeln!(out, "writes in two parts {}", pair.split.writes)?;
+        writeln!(out, "two parts without room {}", pair.split.renewed)?;
     }
     out.flush()
 }

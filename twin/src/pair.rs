@@ -4,6 +4,7 @@ use crate::call::{Action, Answer, Call, Outcome, Refusal, Reply, Step};
 use crate::forge::{forge, garbage_in_closed, garbage_in_record};
 use crate::generator::Damage;
 use crate::plain::{self, Committed, Course, Item, Machine, FRESH_WINDOWS};
+use crate::split::Split;
 use crate::store::{
     self, Buffers, Lent, Standing, Store, Transaction, Window, BUFFER, DESCRIPTORS, FILES, SPAN, TRANSACTIONS,
 };
@@ -29,6 +30,8 @@ pub struct Pair {
     pub state: State,
     pub machine: Machine,
     pub tally: Tally,
+    /// The store with every Write in two parts.
+    pub split: Split,
     /// The log buffer as it has to be: a Write's bytes put directly after the data used, and nothing else.
     expected_logs: Vec<u8>,
     /// The file numbers of the last Fresh.
@@ -44,7 +47,7 @@ impl State {
         State { store: Store::new([0; DESCRIPTORS]), buffers: Buffers::zeros() }
     }
 
-    fn apply(&mut self, call: &Call) -> Reply {
+    pub fn apply(&mut self, call: &Call) -> Reply {
         apply(&mut self.store, &mut self.buffers.lend(), call)
     }
 
@@ -109,9 +112,10 @@ impl Pair {
         let reply = state.apply(&Call::Fresh { files: files.clone() });
         assert_eq!(reply.outcome, Ok(Answer::Done));
         Pair {
-            state,
             machine: Machine::fresh(&files).expect("file numbers up to 7"),
             tally: Tally::default(),
+            split: Split::new(&state),
+            state,
             expected_logs: vec![0; BUFFER],
             fresh_files: files,
             served: Default::default(),
@@ -169,6 +173,9 @@ impl Pair {
                     self.tally.count_kept_open(&self.machine, transaction, minute, refusal);
                 }
             }
+        }
+        if matches!(expected.outcome, Ok(_) | Err(Refusal::Stale)) {
+            self.split.follow(call, &expected, &self.state);
         }
         expected
     }

@@ -3,3 +3,4 @@ pub mod View
 pub mod Cases
 pub mod Demand3
 pub mod Coverage
+pub mod Splitting

@@ -30,6 +30,7 @@ pub mod Age
 pub mod Buffers
 pub mod Lengths
 pub mod Closed
+pub mod Splitting
 -- The situations and corners of paper 01.
 pub mod Setup
 pub mod Situations

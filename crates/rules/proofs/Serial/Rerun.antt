@@ -50,11 +50,11 @@ module _ {A : Type 0} (t : ℕ) where
       pick u true e = ap f (sym (eqb-true u t e))
       pick u false e = refl
 
-  put-same : (a : A) (f : ℕ → A) → put t a f t ≡ a
+  pub put-same : (a : A) (f : ℕ → A) → put t a f t ≡ a
   unfolding put
   put-same a f = rw (eq-eqb t t refl)
 
-  put-twice : (a b : A) (f : ℕ → A) → put t a (put t b f) ≡ put t a f
+  pub put-twice : (a b : A) (f : ℕ → A) → put t a (put t b f) ≡ put t a f
   unfolding put
   put-twice a b f = fun-ext (λ u. pick u (eqb u t))
     where

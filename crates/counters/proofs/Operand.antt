@@ -22,7 +22,7 @@ abbrev Told : {M : Type 1} (𝓤 : URA M) → Val → Bool → Val → Type 2
 Told 𝓤 u taken v = Path (Item 𝓤 × (Val × Bool)) (‵ ftrue, (u, taken)) (‵ ftrue, (v, true))
 
 module _ {M : Type 1} (𝓤 : URA M) (H : Heap 𝓤) (A : Atoms 𝓤) (Γ : List (Item 𝓤)) (E : Env 𝓤 H) (k : ℕ) where
-  abbrev pub Stands : Operand → Val → Type 2
+  abbrev Stands : Operand → Val → Type 2
   Stands (copy (place i [])) v = nth 𝓤 H A (k - 2 * i) Γ ≡ ‵ (fat fullShare (spotOf 𝓤 H E i .0) (spotOf 𝓤 H E i .1) (spotOf 𝓤 H E i .2) v)
   Stands (copy (place i (s ∷ st))) v = Told 𝓤 v false v
   Stands (int w m) v = Told 𝓤 (vint w m) (ltb m (2 ^ bits w)) v

@@ -41,10 +41,10 @@ module _ (S : ℕ → Bool) (p : ℕ) (s : Stretch) (next : NextOf S p s) where
       ∙ skipped S p (s .offset - p) (4096 - s .offset) (λ q a l. next .before .same q a (omega arith))
       ∙ ap (λ (x : ℕ). stretchesFrom S x (4096 - s .offset)) g
 
-  pub next-none : s .length ≡ 0 → rest S p ≡ []
+  next-none : s .length ≡ 0 → rest S p ≡ []
   next-none z = reached ∙ ap (rest S) (next-end z) ∙ unfold stretchesFrom in refl
 
-  pub next-some : (s .length ≡ 0 → ⊥) → rest S p ≡ asListed s ∷ rest S (s .offset + s .length)
+  next-some : (s .length ≡ 0 → ⊥) → rest S p ≡ asListed s ∷ rest S (s .offset + s .length)
   next-some h =
       let b = next-bounds in
       let k : s .length ≡ suc (s .length - 1) = omega arith in
@@ -122,7 +122,7 @@ encoded-snoc (x ∷ l) s =
     ap (λ (r : List ℕ). (sixteen (x .offset) ++ sixteen (x .length)) ++ r) (encoded-snoc l s)
     ∙ sym (append-assoc (sixteen (x .offset) ++ sixteen (x .length)) (encoded l) (pair s))
 
-pub length-encoded : (l : List listing.Stretch) → length (encoded l) ≡ 4 * length l
+length-encoded : (l : List listing.Stretch) → length (encoded l) ≡ 4 * length l
 unfolding encoded
 length-encoded [] = refl
 length-encoded (x ∷ l) =

@@ -69,7 +69,7 @@ module _ (s : Store) (journal logs : List ℕ) (t f : ℕ) where
   unplaced-in = unplaced-is (recorded journal (s .filenumbers)) logs t f (transaction s t .used .records)
 
   module _ (small : t < 8) (long : length logs ≡ 32768) (range : TransactionInRange (transaction s t) journal t) where
-    pub covered-in : (p : ℕ) → covered (fileOf s) f (txnOf s journal logs t .writes) p ≡ coveredAt (recorded journal (s .filenumbers)) t (transaction s t .used .records) f p
+    covered-in : (p : ℕ) → covered (fileOf s) f (txnOf s journal logs t .writes) p ≡ coveredAt (recorded journal (s .filenumbers)) t (transaction s t .used .records) f p
     unfolding txnOf fileOf
     covered-in p =
         covered-is (recorded journal (s .filenumbers)) logs t f small long (transaction s t .used .records) (omega (arith, range .total, range .bytes)) p

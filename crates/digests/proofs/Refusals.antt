@@ -6,7 +6,7 @@ use Rattle.record.specs.Paper.{number}
 use Rattle.record.specs.declared.outcomes.Refusal.{Refusal}
 use Rattle.record.specs.declared.outcomes.Refusal.the-variants.{BufferLength, RecordRange, NoSuchTransaction, NotOpen, AlreadyOpen, NoSuchTarget, ReaderTooShort, SeekPastEnd, WritePastEnd, RecordsFull, LogFull, SettledPastEnd, Stale, NoSuchFile, NoPlaceYet, ListTooLong, BadLine, StaleReader, FileClosed, NoSuchMinute}
 
-pub number-bound : (r : Refusal) → number r ≤ 22
+number-bound : (r : Refusal) → number r ≤ 22
 number-bound BufferLength = omega arith
 number-bound RecordRange = omega arith
 number-bound NoSuchTransaction = omega arith

@@ -64,13 +64,13 @@ module _ (s : Store) (journal files logs : List ℕ) (t : ℕ) where
   abbrev pub allSet : List Setting
   allSet = settings (fileOf s) v x
 
-  abbrev pub landedBytes : List Setting
+  abbrev landedBytes : List Setting
   landedBytes = bytesSet (s .filenumbers) (s .offsets) journal logs t count
 
-  abbrev pub setOffsets : List Setting
+  abbrev setOffsets : List Setting
   setOffsets = offsetSettings v (descriptorsOnly (transaction s t)) 16
 
-  abbrev pub setLengths : List Setting
+  abbrev setLengths : List Setting
   setLengths = lengthSettings (fileOf s) v (x .writes) 8
 
   pub fits-is : fits v x ≡ placesFit s (transaction s t)

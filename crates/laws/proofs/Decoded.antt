@@ -71,7 +71,7 @@ module _ (s : Store) (journal logs : List ℕ) (t : ℕ) (o : Opened s journal l
   decoded-at k z h = getD-tabulate (writeAt journal logs t) (transaction s t .used .records) k z h
 
   -- A record's data lie within the transaction's part of the logs.
-  pub data-within : (k : ℕ) → k < transaction s t .used .records
+  data-within : (k : ℕ) → k < transaction s t .used .records
       → lengthsBefore journal t k + writeRecordAt journal t k .length ≤ transaction s t .used .bytes
   unfolding lengthsBefore sum
   data-within k h =

@@ -46,7 +46,7 @@ put-descriptor x d z h e =
 
 module _ (s : Store) (journal logs : List ℕ) (t : ℕ) (o : Opened s journal logs t) where
   -- The record of a write that was read off a record is that record.
-  pub record-own : (k : ℕ) → k < transaction s t .used .records → recordOf (writeAt journal logs t k) ≡ writeRecordAt journal t k
+  record-own : (k : ℕ) → k < transaction s t .used .records → recordOf (writeAt journal logs t k) ≡ writeRecordAt journal t k
   unfolding recordOf writeAt
   record-own k h = rw (decoded-length s journal logs t o k h)
 

@@ -376,7 +376,7 @@ module _ (t d n : ℕ) (buffer : List ℕ) (m : Machine) (passes : admission (si
                     rw (standing-settled (m .store) (m .journal) (m .logs) t o choice d (omega arith), sym (lengths-on (held .lengthmarks)))
                     (sym (txn-settled-dirtied (m .store) (m .journal) (m .logs) t o choice sees d (afterRead count (meant .standing d)) (omega arith)))
 
-          pub read-meets : (r : ℕ) (after marksThen reader : List ℕ) → r ≡ placesFrom now t d n .length → MovedOn t d n (placesFrom now t d n) now after
+          read-meets : (r : ℕ) (after marksThen reader : List ℕ) → r ≡ placesFrom now t d n .length → MovedOn t d n (placesFrom now t d n) now after
               → Served t (placesFrom now t d n) now (m .files) (m .logs) (m .marks) buffer marksThen reader
               → Meets (call (on t (read d n buffer)) m) (Given r) (lent (storeOf after) (journalOf after) (m .files) (m .logs) marksThen) reader
           unfolding said

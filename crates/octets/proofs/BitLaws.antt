@@ -52,7 +52,7 @@ bits-equal x y same = upto (x + y) x y (omega arith) (omega arith) same
         let high : x / 2 ≡ y / 2 = upto n (x / 2) (y / 2) (omega arith) (omega arith) (λ u. sym (bit-next u x) ∙ same (suc u) ∙ bit-next u y) in
         omega arith
 
-pub bit-or : (u a b : ℕ) → bit u (bitOr a b) ≡ max (bit u a) (bit u b)
+bit-or : (u a b : ℕ) → bit u (bitOr a b) ≡ max (bit u a) (bit u b)
 unfolding bit
 bit-or u a b =
     let x = a / 2 ^ u in
@@ -79,11 +79,11 @@ contains-or a b u = ap (λ (k : ℕ). eqb k 1) (bit-or u a b) ∙ either (bit u 
 -- ---- a bit set
 
 -- the bits of a power
-pub bit-own : (t : ℕ) → bit t (2 ^ t) ≡ 1
+bit-own : (t : ℕ) → bit t (2 ^ t) ≡ 1
 unfolding bit
 bit-own t = ap (λ (k : ℕ). k % 2) (div-self (pow-pos t))
 
-pub bit-other : (u t : ℕ) → (u ≡ t → ⊥) → bit u (2 ^ t) ≡ 0
+bit-other : (u t : ℕ) → (u ≡ t → ⊥) → bit u (2 ^ t) ≡ 0
 unfolding bit
 bit-other u t other = ⊎-elim (λ h. bit-above u (2 ^ t) (pow-lt (omega arith))) lower (le-or-lt t u)
   where

@@ -91,13 +91,13 @@ module _ (t from : ℕ) where
   unfolding withMarks
   with-marks-none marks = refl
 
-  pub length-with-marks : (n : ℕ) (marks : List ℕ) → length (withMarks t from n marks) ≡ length marks
+  length-with-marks : (n : ℕ) (marks : List ℕ) → length (withMarks t from n marks) ≡ length marks
   unfolding withMarks
   length-with-marks zero marks = refl
   length-with-marks (suc n) marks = length-with-mark t (from + n) (withMarks t from n marks) ∙ length-with-marks n marks
 
   -- the stretch directly after it, too
-  pub with-marks-add : (n m : ℕ) (marks : List ℕ) → withMarks t (from + n) m (withMarks t from n marks) ≡ withMarks t from (n + m) marks
+  with-marks-add : (n m : ℕ) (marks : List ℕ) → withMarks t (from + n) m (withMarks t from n marks) ≡ withMarks t from (n + m) marks
   unfolding withMarks
   with-marks-add n zero marks = ap (λ (k : ℕ). withMarks t from k marks) (sym (add-zero n))
   with-marks-add n (suc m) marks =
@@ -203,7 +203,7 @@ octets-with-mark t q marks octets p = ⊎-elim out there (le-or-lt (length marks
     there : i < length marks → getD (set marks i x) p 0 < 256
     there h = place h (eqb p i) refl
 
-pub octets-with-marks : (t from n : ℕ) (marks : List ℕ) → ((p : ℕ) → getD marks p 0 < 256) → (p : ℕ) → getD (withMarks t from n marks) p 0 < 256
+octets-with-marks : (t from n : ℕ) (marks : List ℕ) → ((p : ℕ) → getD marks p 0 < 256) → (p : ℕ) → getD (withMarks t from n marks) p 0 < 256
 unfolding withMarks
 octets-with-marks t from zero marks octets = octets
 octets-with-marks t from (suc n) marks octets =
@@ -217,7 +217,7 @@ module _ (marks : List ℕ) (t from : ℕ) where
   has-in-none = refl
 
   -- in one stretch or in the stretch directly after it
-  pub has-in-add : (n m : ℕ) → hasMarkIn marks t from (n + m) ≡ hasMarkIn marks t from n || hasMarkIn marks t (from + n) m
+  has-in-add : (n m : ℕ) → hasMarkIn marks t from (n + m) ≡ hasMarkIn marks t from n || hasMarkIn marks t (from + n) m
   unfolding hasMarkIn
   has-in-add n zero = ap (hasMarkIn marks t from) (add-zero n) ∙ sym (or-false (hasMarkIn marks t from n))
   has-in-add n (suc m) =

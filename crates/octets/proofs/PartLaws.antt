@@ -178,7 +178,7 @@ length-inner : (d : List ℕ) (a n at : ℕ) (s : List ℕ) → a + n ≤ length
 length-inner d a n at s h g = length-pasted (cut d a n) at s (rw (length-cut d a n h) g) ∙ length-cut d a n h
 
 -- and is a paste in the whole
-pub pasted-part : (d : List ℕ) (a n at : ℕ) (s : List ℕ) → a + n ≤ length d → at + length s ≤ n
+pasted-part : (d : List ℕ) (a n at : ℕ) (s : List ℕ) → a + n ≤ length d → at + length s ≤ n
     → pasted d a (pasted (cut d a n) at s) ≡ pasted d (a + at) s
 unfolding pasted cut
 pasted-part d a n at s h g =

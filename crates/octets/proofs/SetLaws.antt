@@ -26,7 +26,7 @@ module _ (p : ℕ → Bool) where
       pick false h = let g : 2 ^ n < 2 ^ suc n = pow-lt (omega arith) in omega arith
 
   -- a number more, in the set or not
-  pub bits-with : (n : ℕ) → p n ≡ true → withBit n (bitsOf p n) ≡ bitsOf p (suc n)
+  bits-with : (n : ℕ) → p n ≡ true → withBit n (bitsOf p n) ≡ bitsOf p (suc n)
   unfolding bitsOf withBit
   bits-with n e =
       ap (bitOr (bitsOf p n)) (sym (one-mul (2 ^ n)))
@@ -35,7 +35,7 @@ module _ (p : ℕ → Bool) where
       ∙ add-comm (2 ^ n) (bitsOf p n)
       ∙ ap (λ (b : Bool). bitsOf p n + cond b (2 ^ n) 0) (sym e)
 
-  pub bits-without : (n : ℕ) → p n ≡ false → bitsOf p n ≡ bitsOf p (suc n)
+  bits-without : (n : ℕ) → p n ≡ false → bitsOf p n ≡ bitsOf p (suc n)
   unfolding bitsOf
   bits-without n e = let f : cond (p n) (2 ^ n) 0 ≡ 0 = ap (λ (b : Bool). cond b (2 ^ n) 0) e in omega arith
 
@@ -156,7 +156,7 @@ masked : (t u : ℕ) → t < 16 → u < 16 → bit u (65535 - 2 ^ t) ≡ cond (e
 unfolding right
 masked t u ht hu = eqb-true (bit u (65535 - 2 ^ t)) (cond (eqb u t) 0 1) (holds-at (right t) 16 u (holds-at (λ (t : ℕ). holds (right t) 16) 16 t table ht) hu)
 
-pub contains-without : (t x u : ℕ) → t < 16 → u < 16 → contains (withoutBit t x) u ≡ cond (eqb u t) false (contains x u)
+contains-without : (t x u : ℕ) → t < 16 → u < 16 → contains (withoutBit t x) u ≡ cond (eqb u t) false (contains x u)
 unfolding contains withoutBit
 contains-without t x u h g = ap (λ (b : ℕ). eqb b 1) (bit-and u x (65535 - 2 ^ t) ∙ ap (min (bit u x)) (masked t u h g)) ∙ pick (eqb u t) (bit u x) (bit-lt u x)
   where

@@ -107,7 +107,7 @@ take-within n l = pick (ltb n (length l)) refl
         let m : min n (length l) ≡ length l = omega arith in
         ap (λ (k : ℕ). take k l) m ∙ take-all (length l) l (omega arith) ∙ sym (take-all n l h)
 
-pub length-number : (n : ℕ) → length (okNumber n) ≤ 8
+length-number : (n : ℕ) → length (okNumber n) ≤ 8
 unfolding okNumber
 length-number n = omega (arith, length-decimal n)
 
@@ -126,7 +126,7 @@ unfolding okBytes
 bytes-some [] h = absurd (h refl)
 bytes-some (b ∷ bs) h = refl
 
-pub length-given : (n : ℕ) (b : List ℕ) → length (okBytes (take n b)) ≤ 3 + 2 * length b
+length-given : (n : ℕ) (b : List ℕ) → length (okBytes (take n b)) ≤ 3 + 2 * length b
 length-given n b = omega (arith, length-bytes (take n b), length-take n b)
 
 pub length-spelled : (a : Said) (b : List ℕ) → length (spelled a b) ≤ 8 + 2 * length b

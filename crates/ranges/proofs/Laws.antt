@@ -72,7 +72,7 @@ module _ (p : ℕ → Bool) where
   unfolding below
   below-zero = refl
 
-  pub below-suc : (i : ℕ) → below p i ≡ true → p i ≡ true → below p (suc i) ≡ true
+  below-suc : (i : ℕ) → below p i ≡ true → p i ≡ true → below p (suc i) ≡ true
   unfolding below
   below-suc i e f = and-both (below p i) (p i) e f
 
@@ -340,7 +340,7 @@ module _ (x : Transaction) (journal : List ℕ) (t : ℕ) where
         writes = λ k l. below-at (λ k. recordIn x (writeRecordAt journal t k)) (u .records) k (and-right (leb (u .records) 64) _ (three .0)) l;
       }
 
-  pub transaction-in-intro : (x .begun ≡ true → TransactionInRange x journal t) → transactionIn x journal t ≡ true
+  transaction-in-intro : (x .begun ≡ true → TransactionInRange x journal t) → transactionIn x journal t ≡ true
   unfolding transactionIn journalIn
   transaction-in-intro h =
       or-intro (x .begun) _ (λ b.
@@ -392,7 +392,7 @@ record-in x w e =
     let within = placeIn (standingAt x d) (w .place) (w .length) in
     record { descriptor = leb-true _ _ (and-left (leb d 15) within e); place = and-right (leb d 15) within e }
 
-pub record-in-intro : (x : Transaction) (w : WriteRecord) → RecordInRange x w → recordIn x w ≡ true
+record-in-intro : (x : Transaction) (w : WriteRecord) → RecordInRange x w → recordIn x w ≡ true
 unfolding recordIn
 record-in-intro x w r = and-both _ _ (le-leb _ _ (r .descriptor)) (r .place)
 

@@ -47,7 +47,7 @@ module _ (v : Values) (fileOf : ℕ → ℕ) (ws : List Write) (f : ℕ) where
       (asked-andThen v (fetch fileOf ws f (suc p) n) (λ bs. done (result v (one p) ∷ bs)) ∙ append-nil (asked v (fetch fileOf ws f (suc p) n)))
 
   -- a fetch of m bytes, then of n
-  pub result-split : (p m n : ℕ) → result v (fetch fileOf ws f p (m + n)) ≡ result v (fetch fileOf ws f p m) ++ result v (fetch fileOf ws f (p + m) n)
+  result-split : (p m n : ℕ) → result v (fetch fileOf ws f p (m + n)) ≡ result v (fetch fileOf ws f p m) ++ result v (fetch fileOf ws f (p + m) n)
   unfolding fetch result
   result-split p zero n = ap₂ (λ (i j : ℕ). result v (fetch fileOf ws f i j)) (sym (add-zero p)) (zero-add n)
   result-split p (suc m) n =
@@ -58,7 +58,7 @@ module _ (v : Values) (fileOf : ℕ → ℕ) (ws : List Write) (f : ℕ) where
       ∙ ap (λ (l : List ℕ). result v (one p) ∷ l) (result-split (suc p) m n ∙ ap (λ (k : ℕ). result v (fetch fileOf ws f (suc p) m) ++ result v (fetch fileOf ws f k n)) g)
       ∙ ap (λ (l : List ℕ). l ++ result v (fetch fileOf ws f (p + suc m) n)) (sym (result-suc p m))
 
-  pub asked-split : (p m n : ℕ) → asked v (fetch fileOf ws f p (m + n)) ≡ asked v (fetch fileOf ws f p m) ++ asked v (fetch fileOf ws f (p + m) n)
+  asked-split : (p m n : ℕ) → asked v (fetch fileOf ws f p (m + n)) ≡ asked v (fetch fileOf ws f p m) ++ asked v (fetch fileOf ws f (p + m) n)
   unfolding fetch asked
   asked-split p zero n = ap₂ (λ (i j : ℕ). asked v (fetch fileOf ws f i j)) (sym (add-zero p)) (zero-add n)
   asked-split p (suc m) n =
@@ -70,7 +70,7 @@ module _ (v : Values) (fileOf : ℕ → ℕ) (ws : List Write) (f : ℕ) where
       ∙ sym (append-assoc (asked v (one p)) (asked v (fetch fileOf ws f (suc p) m)) (asked v (fetch fileOf ws f (p + suc m) n)))
       ∙ ap (λ (l : List Item). l ++ asked v (fetch fileOf ws f (p + suc m) n)) (sym (asked-suc p m))
 
-  pub length-fetched : (p n : ℕ) → length (result v (fetch fileOf ws f p n)) ≡ n
+  length-fetched : (p n : ℕ) → length (result v (fetch fileOf ws f p n)) ≡ n
   unfolding fetch result
   length-fetched p zero = refl
   length-fetched p (suc n) = ap length (result-suc p n) ∙ ap suc (length-fetched (suc p) n)

@@ -70,7 +70,7 @@ module _ (m : Machine) (t : ℕ) (passes : sharedWith m t 0 ≡ 0) where
   unfolding admission unless
   admission-open e = shared-passed (sizes m) (m .store) (m .journal) t _ passes ∙ rw e
 
-  pub admission-closed : transaction (m .store) t .begun ≡ false → admission (sizes m) (m .store) (m .journal) t ≡ 4
+  admission-closed : transaction (m .store) t .begun ≡ false → admission (sizes m) (m .store) (m .journal) t ≡ 4
   unfolding admission unless
   admission-closed e = shared-passed (sizes m) (m .store) (m .journal) t _ passes ∙ rw e
 

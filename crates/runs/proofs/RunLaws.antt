@@ -59,7 +59,7 @@ module _ (filenumbers : List ℕ) (f p : ℕ) (w : WriteRecord) where
   abbrev ofFile : Bool
   ofFile = eqb (getD filenumbers (w .descriptor) 0) f
 
-  pub covers-over : covers filenumbers f p w ≡ true → over (w .place) (w .length) p ≡ true
+  covers-over : covers filenumbers f p w ≡ true → over (w .place) (w .length) p ≡ true
   unfolding covers
   covers-over e = and-right ofFile (over (w .place) (w .length) p) e
 
@@ -67,7 +67,7 @@ module _ (filenumbers : List ℕ) (f p : ℕ) (w : WriteRecord) where
   covers-in e = over-in (w .place) (w .length) p (covers-over e)
 
   -- a record that covers one place covers all of its own
-  pub covers-along : covers filenumbers f p w ≡ true → (i : ℕ) → startOf w ≤ i → i < startOf w + w .length → covers filenumbers f i w ≡ true
+  covers-along : covers filenumbers f p w ≡ true → (i : ℕ) → startOf w ≤ i → i < startOf w + w .length → covers filenumbers f i w ≡ true
   unfolding covers
   covers-along e i g l =
       and-both ofFile (over (w .place) (w .length) i) (and-left ofFile (over (w .place) (w .length) p) e)
@@ -163,7 +163,7 @@ theirs j t k = writeRecordAt (j .journal) t k
 
 module _ (j : Recorded) (t f : ℕ) where
   -- the record that supplies a place is one of the transaction's and covers it
-  pub supplier-is : (n p k : ℕ) → supplier j t n f p ≡ Record k → (k < n) × (covers (j .filenumbers) f p (theirs j t k) ≡ true)
+  supplier-is : (n p k : ℕ) → supplier j t n f p ≡ Record k → (k < n) × (covers (j .filenumbers) f p (theirs j t k) ≡ true)
   unfolding supplier
   supplier-is n p k e = newest-is (λ k. covers (j .filenumbers) f p (theirs j t k)) n k e
 

@@ -37,7 +37,7 @@ table-choice p n none =
 
 -- Settling the chosen ones in turn, on the committed offsets of the record.
 module _ (s : Store) (journal files logs : List ℕ) (t : ℕ) where
-  pub settling-chosen : (p : ℕ → Bool) → ((e : ℕ) → 16 ≤ e → p e ≡ false)
+  settling-chosen : (p : ℕ → Bool) → ((e : ℕ) → 16 ≤ e → p e ≡ false)
       → result (values s files) (settling (those p 16) (txnOf s journal logs t))
       ≡ cond (allWithin (tabulate p 16) (s .offsets) (transaction s t)) (all (settledTxn s journal logs t (tabulate p 16))) past
   unfolding values txnOf allWithin settlesWithin

@@ -76,11 +76,11 @@ module _ (s : Store) (journal logs : List ℕ) (t : ℕ) (o : Opened s journal l
   writes-table =
       map-tabulate (placeAll (λ e. getD chosen e false) (λ e. getD (s .offsets) e 0)) (writeAt journal logs t) (transaction s t .used .records)
 
-  pub settled-count : length (settledTxn s journal logs t chosen .writes) ≡ transaction s t .used .records
+  settled-count : length (settledTxn s journal logs t chosen .writes) ≡ transaction s t .used .records
   unfolding count
   settled-count = ap length writes-table ∙ length-tabulate thenAt (transaction s t .used .records)
 
-  pub settled-total : total (settledTxn s journal logs t chosen .writes) ≡ transaction s t .used .bytes
+  settled-total : total (settledTxn s journal logs t chosen .writes) ≡ transaction s t .used .bytes
   unfolding count thenAt placeAll
   settled-total =
       ap total writes-table

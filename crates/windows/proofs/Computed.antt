@@ -2,7 +2,7 @@
 use mathlib.Core.Path.{refl}
 use Rattle.windows.specs.Hours.{minuteIn, isOpenAt, Hours}
 
-pub hours : Hours
+hours : Hours
 unfolding minuteIn isOpenAt
 hours =
     record {

@@ -1,6 +1,6 @@
 -- `Standing::after_read` meets its contract, by cases on the standing.
 use native.Mathlib.Omega.{arith}
-use Rattle.standings.specs.Table.{afterRead, offsetOf}
+use Rattle.standings.specs.Table.{afterRead}
 use borrow.Author.Needs.{needs}
 use Rattle.standings.proofs.Standing.after_read.Statement.{statement}
 use Rattle.standings.proofs.Standing.after_read.Tie as tie
@@ -12,7 +12,6 @@ enum-known-self : tie.Need-enum-known-self
 enum-known-self c = search needs
 
 add-t9 : tie.Need-add-t9
-unfolding offsetOf
 add-t9 c = omega (arith, rw (c .before .self .given .1) at (c .before .before .before .pre))
 
 enum-known-self-2 : tie.Need-enum-known-self-2
@@ -22,14 +21,12 @@ enum-known-self-3 : tie.Need-enum-known-self-3
 enum-known-self-3 c = search needs
 
 add-t10 : tie.Need-add-t10
-unfolding offsetOf
 add-t10 c = omega (arith, rw (c .before .self3 .given .1) at (c .before .before .before .pre))
 
 enum-known-self-4 : tie.Need-enum-known-self-4
 enum-known-self-4 c = search needs
 
 add-t11 : tie.Need-add-t11
-unfolding offsetOf
 add-t11 c = omega (arith, rw (c .before .self4 .given .1) at (c .before .before .before .pre))
 
 returns : tie.Need-returns

@@ -1,6 +1,5 @@
 -- `Standing::after_write` meets its contract, by cases on the standing.
 use native.Mathlib.Omega.{arith}
-use Rattle.standings.specs.Table.{placeNumber}
 use Rattle.standings.specs.Table.{afterWrite, writePlace}
 use borrow.Author.Needs.{needs}
 use Rattle.standings.proofs.Standing.after_write.Statement.{statement}
@@ -13,28 +12,28 @@ enum-known-self : tie.Need-enum-known-self
 enum-known-self c = search needs
 
 add-t9 : tie.Need-add-t9
-unfolding placeNumber writePlace
+unfolding writePlace
 add-t9 c = omega (arith, rw (c .before .self .given .1) at (c .before .before .before .pre))
 
 enum-known-self-2 : tie.Need-enum-known-self-2
 enum-known-self-2 c = search needs
 
 add-t10 : tie.Need-add-t10
-unfolding placeNumber writePlace
+unfolding writePlace
 add-t10 c = omega (arith, rw (c .before .self2 .given .1) at (c .before .before .before .pre))
 
 enum-known-self-3 : tie.Need-enum-known-self-3
 enum-known-self-3 c = search needs
 
 add-t11 : tie.Need-add-t11
-unfolding placeNumber writePlace
+unfolding writePlace
 add-t11 c = omega (arith, rw (c .before .self3 .given .1) at (c .before .before .before .pre))
 
 enum-known-self-4 : tie.Need-enum-known-self-4
 enum-known-self-4 c = search needs
 
 add-t12 : tie.Need-add-t12
-unfolding placeNumber writePlace
+unfolding writePlace
 add-t12 c = omega (arith, rw (c .before .self4 .given .1) at (c .before .before .before .pre))
 
 returns : tie.Need-returns

@@ -1,6 +1,6 @@
 -- `Standing::final_offset` meets its contract, by cases on the standing.
 use native.Mathlib.Omega.{arith}
-use Rattle.standings.specs.Table.{advance, finalOffset}
+use Rattle.standings.specs.Table.{finalOffset}
 use borrow.Author.Needs.{needs}
 use Rattle.standings.proofs.Standing.final_offset.Statement.{statement}
 use Rattle.standings.proofs.Standing.final_offset.Tie as tie
@@ -15,7 +15,6 @@ enum-known-self-2 : tie.Need-enum-known-self-2
 enum-known-self-2 c = search needs
 
 add-result : tie.Need-add-result
-unfolding advance
 add-result c = omega (arith, rw (c .before .self2 .given .1) at (c .before .before .before .pre))
 
 enum-known-self-3 : tie.Need-enum-known-self-3

@@ -1,6 +1,6 @@
 -- `Standing::settled` meets its contract, by cases on the standing.
 use native.Mathlib.Omega.{arith}
-use Rattle.standings.specs.Table.{advance, settled}
+use Rattle.standings.specs.Table.{settled}
 use borrow.Author.Needs.{needs}
 use Rattle.standings.proofs.Standing.settled.Statement.{statement}
 use Rattle.standings.proofs.Standing.settled.Tie as tie
@@ -15,7 +15,6 @@ enum-known-self-2 : tie.Need-enum-known-self-2
 enum-known-self-2 c = search needs
 
 add-t8 : tie.Need-add-t8
-unfolding advance
 add-t8 c = omega (arith, rw (c .before .self2 .given .1) at (c .before .before .before .pre))
 
 enum-known-self-3 : tie.Need-enum-known-self-3

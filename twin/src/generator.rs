@@ -3,17 +3,15 @@
 //!
 //! The recurrence: x' = 48271 x mod 2147483647, from x = 1. (The 10,000th number is 399268537.)
 //! Call i, from 0, draws the next twelve numbers r0 to r11, whatever its kind. They, the phase (i div 256) and a guess
-//! at which transactions are open give everything about the call; the mode is the phase mod 10.
+//! at which transactions are open give everything about the call; the mode is the phase mod 8.
 
 #![allow(clippy::manual_is_multiple_of, clippy::manual_range_contains)] // plain arithmetic is wanted here
-
-use crate::scripts::{Scripts, NO_SCRIPT};
 
 pub const SEED: u64 = 1;
 
 const DRAWS: usize = 12;
 const PHASE: u64 = 256;
-const MODES: u64 = 10;
+const MODES: u64 = 8;
 
 // The modes. Two differ by the tables below alone: 1, crowded, has few descriptors and transactions and many Commits; 6,
 // scattered, has few descriptors and transactions and few Commits, so that lists of places get long.
@@ -23,8 +21,6 @@ const LONG_WRITES: u64 = 3; // until the log has 4,096 bytes
 const NEAR_END: u64 = 4; // Seeks around 4,096
 const LONG_READS: u64 = 5;
 const SHORT_FILES: u64 = 7; // Seeks and Writes near the start, mostly in steps of 4, so that ends meet; more Freshes
-const QUIET: u64 = 8; // begins with a Fresh, and has few transactions, so that often none is open; Undos and dispatchers
-const READY: u64 = 9; // begins with a Fresh; a descriptor a transaction, so that few writes have no place; best orders
 
 // The kinds of calls.
 pub const FRESH: u64 = 0;
@@ -37,30 +33,25 @@ pub const PLACES: u64 = 6;
 pub const COMMIT: u64 = 7;
 pub const ABORT: u64 = 8;
 pub const WINDOW: u64 = 9;
-pub const UNDO: u64 = 10;
-pub const DISPATCH: u64 = 11;
-pub const BEST: u64 = 12;
 
-const KINDS: u64 = 13;
+const KINDS: u64 = 10;
 
-/// How many of 1,000 calls are of each kind, for each mode (thirteen numbers a mode).
-const WEIGHTS: [u64; 130] = [
-    4, 20, 200, 250, 80, 207, 40, 102, 43, 40, 5, 5, 4, // mixed
-    4, 20, 155, 215, 120, 186, 40, 162, 44, 40, 5, 5, 4, // crowded
-    4, 10, 60, 787, 10, 56, 40, 12, 8, 10, 1, 1, 1, // many records
-    4, 20, 208, 419, 30, 91, 40, 92, 53, 40, 1, 1, 1, // long writes
-    4, 20, 200, 260, 80, 141, 40, 151, 50, 40, 5, 5, 4, // near the end
-    4, 20, 190, 240, 60, 251, 40, 102, 39, 40, 5, 5, 4, // long reads
-    4, 20, 333, 335, 20, 100, 146, 16, 10, 10, 1, 1, 4, // scattered
-    24, 20, 50, 310, 10, 316, 16, 180, 30, 30, 5, 5, 4, // short files
-    4, 10, 210, 392, 20, 70, 10, 110, 20, 20, 65, 65, 4, // quiet
-    4, 10, 200, 240, 50, 160, 6, 20, 40, 20, 5, 5, 240, // ready
+/// How many of 1,000 calls are of each kind, for each mode (ten numbers a mode).
+const WEIGHTS: [u64; 80] = [
+    4, 20, 210, 250, 80, 211, 40, 102, 43, 40, // mixed
+    4, 20, 165, 215, 120, 190, 40, 162, 44, 40, // crowded
+    4, 10, 60, 790, 10, 56, 40, 12, 8, 10, // many records
+    4, 20, 210, 420, 30, 91, 40, 92, 53, 40, // long writes
+    4, 20, 210, 260, 80, 145, 40, 151, 50, 40, // near the end
+    4, 20, 200, 240, 60, 255, 40, 102, 39, 40, // long reads
+    4, 20, 335, 335, 20, 100, 150, 16, 10, 10, // scattered
+    24, 20, 50, 320, 10, 320, 16, 180, 30, 30, // short files
 ];
 
 /// How many transaction numbers a mode mostly uses.
-const TRANSACTIONS_USED: [u64; 10] = [8, 4, 2, 3, 6, 8, 2, 4, 1, 8];
+const TRANSACTIONS_USED: [u64; 8] = [8, 4, 2, 3, 6, 8, 2, 4];
 /// Through how many files of the usual arrangement a mode goes (each by two descriptors).
-const FILES_USED: [u64; 10] = [8, 2, 8, 8, 3, 4, 2, 2, 2, 2];
+const FILES_USED: [u64; 8] = [8, 2, 8, 8, 3, 4, 2, 2];
 
 #[derive(Clone, Copy, Debug)]
 pub struct Generator {
@@ -70,8 +61,6 @@ pub struct Generator {
     made: u64,
     /// Which transactions are open, as far as the calls made let guess (not looking at what was refused).
     open: [bool; 8],
-    /// Which of them made a Seek since they seemed begun.
-    sought: [bool; 8],
 }
 
 /// A call as numbers. A number that its kind doesn't use is there all the same.
@@ -84,38 +73,30 @@ pub struct Request {
     pub file: u64,
     /// Where a Seek goes, how many bytes a Write has or a Read wants.
     pub number: u64,
-    /// The minute of a Commit, a dispatcher or a best order, or a window's start.
+    /// The minute of a Commit, or a window's start.
     pub minute: u64,
     /// A window's end.
     pub end: u64,
-    /// The length of a Read's, Places' or dispatcher's buffer. It is filled with `BLANK` before the call.
+    /// The length of a Read's or Places' buffer. It is filled with `BLANK` before the call.
     pub buffer: u64,
-    /// Byte i of a Write, or of a dispatcher's data, is (data_first + data_step i) mod 256.
+    /// Byte i of a Write is (data_first + data_step i) mod 256.
     pub data_first: u64,
     pub data_step: u64,
     /// Fresh's list is the first `list_length` numbers.
     pub list: [u8; 17],
     pub list_length: u64,
-    pub scripts: Scripts,
-    /// The transactions of a best order are the first `members_length` numbers.
-    pub members: [u64; 10],
-    pub members_length: u64,
-    pub budget: u64,
     pub damage: Damage,
 }
 
 pub const BLANK: u8 = 165;
 
-/// Fresh's list in which descriptor d belongs to file d mod 8.
-const USUAL: [u8; 17] = [0, 1, 2, 3, 4, 5, 6, 7, 0, 1, 2, 3, 4, 5, 6, 7, 0];
-
 /// What is wrong with the buffers or the record lent to the call: `short` and `forgery` are 0 where nothing is.
 #[derive(Clone, Copy, Debug)]
 pub struct Damage {
-    /// 1, 2, 3, 4: of the files, logs, marks, undo buffer only the first `short_length` bytes are lent.
+    /// 1, 2, 3: of the files, logs, marks only the first `short_length` bytes are lent.
     pub short: u64,
     pub short_length: u64,
-    /// 1 to 27: the call gets a copy of the record with a field out of range (see forge.rs).
+    /// 1 to 18: the call gets a copy of the record with a field out of range (see forge.rs).
     pub forgery: u64,
     pub forged_transaction: u64,
     pub forged_index: u64,
@@ -130,7 +111,7 @@ impl Damage {
 
 impl Generator {
     pub fn new() -> Generator {
-        Generator { x: SEED, made: 0, open: [false; 8], sought: [false; 8] }
+        Generator { x: SEED, made: 0, open: [false; 8] }
     }
 
     pub fn next_call(&mut self) -> Request {
@@ -140,18 +121,11 @@ impl Generator {
             *draw = self.x;
         }
         let phase = self.made / PHASE;
-        let mode = phase % MODES;
-        let request = if mode >= QUIET && self.made % PHASE == 0 {
-            Request { list: USUAL, list_length: 16, ..request(FRESH, 0, mode, self.open, &r) }
-        } else {
-            let transaction = transaction(phase, r[1]);
-            let kind = sought_first(mode, kind(mode, r[0]), transaction, self.sought);
-            let (kind, transaction) = fitted(mode, kind, transaction, self.open, &r);
-            request(kind, transaction, mode, self.open, &r)
-        };
         self.made += 1;
+        let transaction = transaction(phase, r[1]);
+        let kind = begun_first(kind(phase % MODES, r[0]), transaction, self.open, r[11]);
+        let request = request(kind, transaction, phase % MODES, &r);
         self.open = guess(self.open, &request);
-        self.sought = guess_sought(self.sought, &request);
         request
     }
 }
@@ -167,148 +141,84 @@ pub fn step(x: u64) -> u64 {
     x * 48271 % 2147483647
 }
 
-fn request(kind: u64, transaction: u64, mode: u64, open: [bool; 8], r: &[u64; DRAWS]) -> Request {
+fn request(kind: u64, transaction: u64, mode: u64, r: &[u64; DRAWS]) -> Request {
     let zeros = r[6] / 256 % 4 == 0;
-    let (members, members_length) = members(open, r);
     Request {
         kind,
         transaction,
-        descriptor: descriptor(mode, transaction, r[2]),
+        descriptor: descriptor(mode, r[2]),
         file: file(mode, r[2]),
         number: number(kind, mode, r[3], r[4]),
-        minute: if kind >= DISPATCH { minute(r[7] / 128, r[8]) } else { minute(r[3], r[4]) },
+        minute: minute(r[3], r[4]),
         end: if r[10] % 2 == 0 { minute(r[3], r[4]) } else { minute(r[5], r[6]) },
-        buffer: buffer(kind, mode, r),
+        buffer: buffer(kind, mode, r[3] % 16, r[4]),
         data_first: if zeros { 0 } else { r[5] % 256 },
         data_step: if zeros { 0 } else { r[6] % 256 },
         list: list(r),
         list_length: list_length(r[3], r[4]),
-        scripts: scripts(r),
-        members,
-        members_length,
-        budget: budget(members_length, r[6]),
         damage: damage(kind, r),
     }
 }
 
 fn kind(mode: u64, r: u64) -> u64 {
     let mut rest = r % 1000;
-    for kind in FRESH..BEST {
+    for kind in FRESH..WINDOW {
         let weight = WEIGHTS[(KINDS * mode + kind) as usize];
         if rest < weight {
             return kind;
         }
         rest -= weight;
     }
-    BEST
+    WINDOW
 }
 
-/// In the ready mode the first Write of a transaction is made a Seek.
-fn sought_first(mode: u64, kind: u64, transaction: u64, sought: [bool; 8]) -> u64 {
-    if mode == READY && kind == WRITE && transaction < 8 && !sought[transaction as usize] {
-        SEEK
+/// A call on a transaction that seems not to be open is made a Begin, seven times out of eight.
+fn begun_first(kind: u64, transaction: u64, open: [bool; 8], r: u64) -> u64 {
+    let on_transaction = SEEK <= kind && kind <= ABORT && transaction < 8;
+    if on_transaction && !open[transaction as usize] && r % 8 != 0 {
+        BEGIN
     } else {
         kind
     }
 }
 
-/// Seven times out of eight, a call on a transaction that seems not to be open is made a Begin (in the quiet mode, while none
-/// seems open, as often an Undo or a dispatcher), and one of these two while one seems open a Commit or an Abort of the
-/// first such.
-fn fitted(mode: u64, kind: u64, transaction: u64, open: [bool; 8], r: &[u64; DRAWS]) -> (u64, u64) {
-    let first = first_open(open);
-    let on_transaction = SEEK <= kind && kind <= ABORT && transaction < 8;
-    if r[11] % 8 == 0 {
-        (kind, transaction)
-    } else if on_transaction && !open[transaction as usize] {
-        (if mode == QUIET && first == 8 { at_rest(r[10]) } else { BEGIN }, transaction)
-    } else if (kind == UNDO || kind == DISPATCH) && first < 8 {
-        (if r[9] % 4 == 0 { ABORT } else { COMMIT }, first)
-    } else {
-        (kind, transaction)
-    }
-}
-
-fn at_rest(r: u64) -> u64 {
-    if r % 3 == 0 {
-        UNDO
-    } else if r % 3 == 1 {
-        DISPATCH
-    } else {
-        BEGIN
-    }
-}
-
-/// The lowest number of a transaction that seems open, 8 where none does.
-fn first_open(open: [bool; 8]) -> u64 {
-    let mut t = 0;
-    while t < 8 && !open[t as usize] {
-        t += 1;
-    }
-    t
-}
-
 /// The transactions that seem open after the call.
 fn guess(open: [bool; 8], request: &Request) -> [bool; 8] {
     let mut open = open;
-    if request.damage.is_any() {
+    if request.damage.is_any() || request.transaction > 7 {
         return open;
     }
-    if request.kind == FRESH && is_good(&request.list, request.list_length) {
+    if request.kind == FRESH {
         return [false; 8];
-    }
-    if request.transaction > 7 {
-        return open;
     }
     if request.kind == BEGIN {
         open[request.transaction as usize] = true;
     }
-    if request.kind == ABORT || request.kind == COMMIT && request.minute < 1440 {
+    if request.kind == COMMIT || request.kind == ABORT {
         open[request.transaction as usize] = false;
     }
     open
 }
 
-/// The transactions that seem to have made a Seek since their Begin.
-fn guess_sought(sought: [bool; 8], request: &Request) -> [bool; 8] {
-    let mut sought = sought;
-    let counts = request.kind == BEGIN || request.kind == SEEK;
-    if counts && request.transaction < 8 && !request.damage.is_any() {
-        sought[request.transaction as usize] = request.kind == SEEK;
-    }
-    sought
-}
-
-/// Sixteen numbers up to 7.
-fn is_good(list: &[u8; 17], length: u64) -> bool {
-    let mut good = length == 16;
-    for &number in &list[..16] {
-        good = good && number < 8;
-    }
-    good
-}
-
-/// Mostly one of a few that follow the phase, sometimes (not in the quiet mode) any of the eight, now and then 8 or 9.
+/// Mostly one of a few that follow the phase, sometimes any of the eight, now and then 8 or 9.
 fn transaction(phase: u64, r: u64) -> u64 {
     let class = r % 40;
     let value = r / 40;
     if class == 0 {
         8 + value % 2
-    } else if class < 4 && phase % MODES != QUIET {
+    } else if class < 4 {
         value % 8
     } else {
         (phase + phase / 8 + value % TRANSACTIONS_USED[(phase % MODES) as usize]) % 8
     }
 }
 
-/// One of the mode's descriptors (in the ready mode mostly that of the transaction), now and then 16 or 17.
-fn descriptor(mode: u64, transaction: u64, r: u64) -> u64 {
+/// One of the mode's descriptors, now and then 16 or 17.
+fn descriptor(mode: u64, r: u64) -> u64 {
     let class = r % 40;
     let value = r / 40;
     if class == 0 {
         16 + value % 2
-    } else if mode == READY && class > 3 {
-        transaction % 2 + 8 * (transaction / 2 % 2)
     } else {
         value % FILES_USED[mode as usize] + 8 * (value / 64 % 2)
     }
@@ -338,7 +248,7 @@ fn number(kind: u64, mode: u64, class: u64, value: u64) -> u64 {
 fn seek_to(mode: u64, class: u64, value: u64) -> u64 {
     if mode == NEAR_END && class < 10 {
         4084 + value % 14
-    } else if mode >= SHORT_FILES {
+    } else if mode == SHORT_FILES {
         if class < 12 {
             4 * (value % 4)
         } else {
@@ -370,7 +280,7 @@ fn write_length(mode: u64, class: u64, value: u64) -> u64 {
         } else {
             3000 + value % 1098
         }
-    } else if mode >= SHORT_FILES {
+    } else if mode == SHORT_FILES {
         if class < 12 {
             4
         } else {
@@ -398,13 +308,11 @@ fn minute(class: u64, value: u64) -> u64 {
     }
 }
 
-fn buffer(kind: u64, mode: u64, r: &[u64; DRAWS]) -> u64 {
+fn buffer(kind: u64, mode: u64, class: u64, value: u64) -> u64 {
     if kind == PLACES {
-        list_room(r[3] % 16, r[4])
-    } else if kind == DISPATCH {
-        reader_length(mode, r[2])
+        list_room(class, value)
     } else {
-        reader_length(mode, r[3])
+        reader_length(mode, class)
     }
 }
 
@@ -476,80 +384,15 @@ fn list_length(class: u64, value: u64) -> u64 {
     }
 }
 
-/// One to eight scripts, sometimes none or too many; now and then one is too long or writes past the data.
-fn scripts(r: &[u64; DRAWS]) -> Scripts {
-    let class = r[3] % 16;
-    Scripts {
-        count: if class == 0 {
-            9 + r[4] % 8
-        } else if class == 1 {
-            0
-        } else {
-            1 + r[4] % 8
-        },
-        data: r[5] / 256 % 64,
-        long: if r[8] % 32 == 0 { r[8] / 32 % 8 } else { NO_SCRIPT },
-        past: if r[9] % 16 == 0 { r[9] / 16 % 8 } else { NO_SCRIPT },
-        base: r[4],
-        stride: r[5],
-    }
-}
-
-/// Up to eight of the transactions that seem open, in a changing order; now and then others, none, a repeat, a number above 7
-/// or too many.
-fn members(open: [bool; 8], r: &[u64; DRAWS]) -> ([u64; 10], u64) {
-    let class = r[3] % 32;
-    let any = class == 0 || class == 3 || class == 5;
-    let most = if class == 5 { 8 } else { 1 + r[4] % 8 };
-    let mut members = [8 + r[4] / 8 % 2; 10];
-    let mut length = 0;
-    for i in 0..8 {
-        let t = (r[5] % 8 + (1 + 2 * (r[5] / 8 % 4)) * i) % 8;
-        if (open[t as usize] || any) && length < most {
-            members[length as usize] = t;
-            length += 1;
-        }
-    }
-    if class == 1 {
-        length = 0;
-    } else if class == 2 {
-        members[length as usize] = members[0];
-        length += 1;
-    } else if class == 3 || class == 5 {
-        length += 1;
-    } else if class == 4 {
-        length += 2;
-    }
-    (members, length)
-}
-
-/// Mostly up to 30 orders, often as many as there are of one to five; now and then 0, or 40,320 and more. A larger budget is
-/// given to short lists only.
-fn budget(length: u64, r: u64) -> u64 {
-    let value = r / 16;
-    match r % 16 {
-        0 => 0,
-        1 => 40321 + value % 25000,
-        2 if length < 5 => 40320,
-        2 | 3 => 120,
-        4 => 24,
-        5 => 6,
-        6 => 2,
-        7 => 1,
-        _ => 1 + value % 30,
-    }
-}
-
 /// Of 128 calls two get a short buffer, two a forged record (Fresh doesn't), one has both.
 fn damage(kind: u64, r: &[u64; DRAWS]) -> Damage {
     let class = r[7] % 128;
-    let short = if class < 3 { 1 + r[8] % 4 } else { 0 };
-    let whole = if short == 4 { 4096 } else { 32768 };
+    let short = class < 3;
     let forged = class > 1 && class < 5 && kind != FRESH;
     Damage {
-        short,
-        short_length: if r[9] % 2 == 0 { whole - 1 } else { r[9] / 2 % whole },
-        forgery: if forged { 1 + r[8] % 27 } else { 0 },
+        short: if short { 1 + r[8] % 3 } else { 0 },
+        short_length: if r[9] % 2 == 0 { 32767 } else { r[9] / 2 % 32768 },
+        forgery: if forged { 1 + r[8] % 18 } else { 0 },
         forged_transaction: r[9] % 8,
         forged_index: r[9] / 8 % 16,
         excess: r[10],

@@ -1,19 +1,14 @@
-//! A second implementation of paper 01 with requests F-1 to F-14, written from the papers alone: a store over lent
+//! A second implementation of paper 01 with requests F-1 to F-9, F-11 and F-12, written from the papers alone: a store over lent
 //! buffers, the plain machine of demand 3, a generator of calls, and the means to run the two side by side.
 
-pub mod best;
 pub mod call;
 pub mod digest;
-pub mod dispatch;
 pub mod forge;
 pub mod generator;
 pub mod marks;
 pub mod pair;
 pub mod plain;
-pub mod request;
-pub mod scripts;
 pub mod split;
-pub mod state;
 pub mod store;
 pub mod tally;
 pub mod trace;

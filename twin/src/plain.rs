@@ -1,13 +1,9 @@
-//! The plain machine of demand 3. It holds committed files, offsets, lengths and setters, a count of grants, what the last
-//! grant found of these, the windows, and for each open transaction its accepted calls, standings, writes and sightings,
-//! and on which descriptors it acted. It has no marks and no stale flag: a transaction is stale when the sightings it holds
-//! differ from those of its accepted calls run alone on what is committed now.
+//! The plain machine of demand 3. It holds committed files, offsets, lengths and setters, a count of grants, the windows,
+//! and for each open transaction its accepted calls, standings, writes and sightings, and on which descriptors it acted. It
+//! has no marks and no stale flag: a transaction is stale when the sightings it holds differ from those of its accepted
+//! calls run alone on what is committed now.
 
-use std::collections::HashSet;
-
-use crate::call::{
-    Action, Answer, Best, Call, Dispatch, Outcome, Ran, Refusal, Reply, Script, ScriptAction, ScriptStep, Step,
-};
+use crate::call::{Action, Answer, Call, Outcome, Refusal, Reply, Step};
 
 const FILES: usize = 8;
 const DESCRIPTORS: usize = 16;
@@ -100,19 +96,10 @@ pub type Windows = [Window; FILES];
 /// The windows of a Fresh.
 pub const FRESH_WINDOWS: Windows = [Window { start: 0, end: 0 }; FILES];
 
-/// What a grant found: files, offsets, lengths and setters, and the count of grants.
-#[derive(Clone, Debug)]
-pub struct Found {
-    pub committed: Committed,
-    grants: Setter,
-}
-
 #[derive(Clone, Debug)]
 pub struct Machine {
     pub committed: Committed,
     pub grants: Setter,
-    /// What the last grant found, until it is taken back.
-    pub found: Option<Found>,
     pub windows: Windows,
     pub open: [Option<Transaction>; TRANSACTIONS],
 }
@@ -165,17 +152,13 @@ impl Committed {
         }
     }
 
-    /// Where a write begins, as long as no offset of its grant is set.
-    pub fn landing(&self, write: &Write) -> usize {
-        match write.place {
-            Place::At(place) => place,
-            Place::After(advance) => self.offsets[write.descriptor] + advance,
-        }
-    }
-
     fn land(&mut self, write: &Write, setter: Setter) {
         let file = self.file_of[write.descriptor];
-        for (place, &byte) in (self.landing(write)..).zip(&write.data) {
+        let start = match write.place {
+            Place::At(place) => place,
+            Place::After(advance) => self.offsets[write.descriptor] + advance,
+        };
+        for (place, &byte) in (start..).zip(&write.data) {
             self.files[file][place] = byte;
             self.byte_setters[file][place] = setter;
             if place >= self.lengths[file] {
@@ -451,14 +434,6 @@ impl Course {
     }
 }
 
-impl Transaction {
-    /// Does its list differ from that of its calls run alone on what is committed?
-    fn is_stale(&self, committed: &Committed) -> bool {
-        let (alone, _) = Course::run_alone(committed, &self.calls);
-        alone.sightings != self.course.sightings
-    }
-}
-
 impl Course {
     /// What a Commit that is not stale is refused for, at a good minute: a byte for a closed file, then placing.
     pub fn check_commit(&self, committed: &Committed, windows: &Windows, minute: usize) -> Result<(), Refusal> {
@@ -478,7 +453,7 @@ impl Machine {
     /// The machine on the state of an accepted Fresh with these sixteen file numbers.
     pub fn fresh(files: &[u8]) -> Result<Machine, Refusal> {
         let committed = Committed::fresh(files)?;
-        Ok(Machine { committed, grants: 0, found: None, windows: FRESH_WINDOWS, open: Default::default() })
+        Ok(Machine { committed, grants: 0, windows: FRESH_WINDOWS, open: Default::default() })
     }
 
     /// Takes one call, of buffers and lists with the right lengths.
@@ -494,15 +469,15 @@ impl Machine {
             Call::Commit { transaction, minute } => no_buffer(self.commit(*transaction, *minute)),
             Call::Abort(t) => no_buffer(self.abort(*t)),
             Call::Window { file, start, end } => no_buffer(self.set_window(*file, *start, *end)),
-            Call::Undo => no_buffer(self.undo()),
-            Call::Dispatch(dispatch) => self.dispatch(dispatch).0,
-            Call::Best { list, minute, budget } => no_buffer(self.best(list, *minute, *budget)),
         }
     }
 
     /// Do the two lists of an open transaction differ?
     pub fn is_stale(&self, t: usize) -> bool {
-        self.open[t].as_ref().is_some_and(|transaction| transaction.is_stale(&self.committed))
+        self.open[t].as_ref().is_some_and(|transaction| {
+            let (alone, _) = Course::run_alone(&self.committed, &transaction.calls);
+            alone.sightings != transaction.course.sightings
+        })
     }
 
     fn begin(&mut self, t: usize) -> Outcome {
@@ -547,10 +522,10 @@ impl Machine {
             self.open[t] = None;
             return Err(Refusal::Stale);
         }
-        self.course(t).check_commit(&self.committed, &self.windows, minute)?;
+        let course = &self.open[t].as_ref().expect("it is open").course;
+        course.check_commit(&self.committed, &self.windows, minute)?;
         let equal_before = self.with_equal_lists();
         let ended = self.open[t].take().expect("it is open");
-        self.found = Some(Found { committed: self.committed.clone(), grants: self.grants });
         self.grants += 1;
         self.committed.grant(&ended.course, self.grants);
         let equal_after = self.with_equal_lists();
@@ -575,17 +550,6 @@ impl Machine {
         Ok(Answer::Done)
     }
 
-    /// Goes back to what the last grant found.
-    fn undo(&mut self) -> Outcome {
-        if self.open.iter().any(Option::is_some) {
-            return Err(Refusal::UndoWhileOpen);
-        }
-        let found = self.found.take().ok_or(Refusal::NothingToUndo)?;
-        self.committed = found.committed;
-        self.grants = found.grants;
-        Ok(Answer::Done)
-    }
-
     fn check_open(&self, t: usize) -> Result<(), Refusal> {
         check_transaction(t)?;
         match self.open[t] {
@@ -606,175 +570,6 @@ impl Machine {
     /// Which transactions are open with two equal lists.
     fn with_equal_lists(&self) -> [bool; TRANSACTIONS] {
         std::array::from_fn(|t| self.open[t].is_some() && !self.is_stale(t))
-    }
-}
-
-impl Machine {
-    /// Tries the orders from the given one on, as many as the budget allows. Changes nothing.
-    fn best(&self, list: &[usize], minute: usize, budget: usize) -> Outcome {
-        self.check_best(list, minute, budget)?;
-        let orders = (1..=list.len()).product();
-        let tried = budget.min(orders);
-        let grants: Vec<usize> = (0..tried).map(|n| self.grants_in(&nth_order(list, n), minute)).collect();
-        let most = *grants.iter().max().expect("an order was tried");
-        let earliest = grants.iter().position(|&count| count == most).expect("it is one of them");
-        let gap = if tried == orders { 0 } else { self.without_closed_bytes(list, minute) - most };
-        Ok(Answer::Best(Best::new(&nth_order(list, earliest), most, gap, tried)))
-    }
-
-    fn check_best(&self, list: &[usize], minute: usize, budget: usize) -> Result<(), Refusal> {
-        let different: HashSet<&usize> = list.iter().collect();
-        if list.is_empty() || list.len() > 8 || different.len() < list.len() {
-            return Err(Refusal::BadList);
-        }
-        list.iter().try_for_each(|&t| check_transaction(t))?;
-        list.iter().try_for_each(|&t| self.check_open(t))?;
-        check_minute(minute)?;
-        let unplaced = |write: &Write| matches!(write.place, Place::After(_));
-        let unready = |&t: &usize| self.is_stale(t) || self.course(t).writes.iter().any(unplaced);
-        if list.iter().any(unready) {
-            return Err(Refusal::NotReady);
-        }
-        if !(1..=40320).contains(&budget) {
-            return Err(Refusal::BadBudget);
-        }
-        Ok(())
-    }
-
-    /// How many of the Commits are granted, made in this order on a copy of what is committed.
-    pub fn grants_in(&self, order: &[usize], minute: usize) -> usize {
-        let mut committed = self.committed.clone();
-        let mut grants = self.grants;
-        for &t in order {
-            let transaction = self.open[t].as_ref().expect("it is open");
-            let refused = transaction.course.check_commit(&committed, &self.windows, minute).is_err();
-            if !transaction.is_stale(&committed) && !refused {
-                grants += 1;
-                committed.grant(&transaction.course, grants);
-            }
-        }
-        (grants - self.grants) as usize
-    }
-
-    /// How many of the transactions have no byte for a file that is closed at the minute.
-    fn without_closed_bytes(&self, list: &[usize], minute: usize) -> usize {
-        let closed = |write: &Write| !self.windows[self.committed.file_of[write.descriptor]].is_open(minute);
-        let has_closed = |&t: &usize| self.course(t).writes.iter().any(|write| closed(write) && !write.data.is_empty());
-        list.iter().filter(|t| !has_closed(t)).count()
-    }
-
-    fn course(&self, t: usize) -> &Course {
-        &self.open[t].as_ref().expect("it is open").course
-    }
-}
-
-/// Order number n, from 0, of the orders by ascending positions: each choice of a first one stands before so many orders of
-/// the rest.
-pub fn nth_order(list: &[usize], n: usize) -> Vec<usize> {
-    let mut rest = list.to_vec();
-    let mut order = Vec::new();
-    let mut n = n;
-    while !rest.is_empty() {
-        let orders_of_rest: usize = (1..rest.len()).product();
-        order.push(rest.remove(n / orders_of_rest));
-        n %= orders_of_rest;
-    }
-    order
-}
-
-/// The single calls of each round of a dispatcher, with their replies.
-pub type Rounds = Vec<Vec<(Call, Reply)>>;
-
-impl Machine {
-    /// Makes the single calls of which a dispatcher consists.
-    pub fn dispatch(&mut self, dispatch: &Dispatch) -> (Reply, Rounds) {
-        let mut running = Running {
-            dispatch,
-            reader: dispatch.buffer.clone(),
-            ended: vec![None; dispatch.scripts.len()],
-            rounds: Vec::new(),
-        };
-        if let Err(refusal) = self.check_dispatch(dispatch) {
-            return (Reply { outcome: Err(refusal), buffer: running.reader }, running.rounds);
-        }
-        while running.ended.contains(&None) {
-            running.round(self);
-        }
-        let made = running.rounds.iter().flatten();
-        let commits = made.filter(|(call, _)| matches!(call, Call::Commit { .. })).count();
-        let ended = std::array::from_fn(|k| running.ended.get(k).and_then(|ended| ended.expect("it is over").err()));
-        let ran = Ran { scripts: dispatch.scripts.len(), ended, commits: commits as u16 };
-        (Reply { outcome: Ok(Answer::Ran(ran)), buffer: running.reader }, running.rounds)
-    }
-
-    fn check_dispatch(&self, dispatch: &Dispatch) -> Result<(), Refusal> {
-        if self.open.iter().any(Option::is_some) {
-            return Err(Refusal::DispatchWhileOpen);
-        }
-        let past = |step: &ScriptStep| match step.action {
-            ScriptAction::Write { start, length } => start.saturating_add(length) > dispatch.data.len(),
-            _ => false,
-        };
-        let bad = |script: &Script| script.len() > 16 || script.iter().any(past);
-        if dispatch.scripts.len() > 8 || dispatch.scripts.iter().any(bad) {
-            return Err(Refusal::BadScripts);
-        }
-        Ok(())
-    }
-}
-
-/// A dispatcher while it runs.
-struct Running<'a> {
-    dispatch: &'a Dispatch,
-    reader: Vec<u8>,
-    /// How each script that is over has ended.
-    ended: Vec<Option<Result<(), Refusal>>>,
-    rounds: Rounds,
-}
-
-impl Running<'_> {
-    fn round(&mut self, machine: &mut Machine) {
-        self.rounds.push(Vec::new());
-        for k in self.unfinished() {
-            self.make(machine, Call::Begin(k)).expect("no transaction is open between rounds");
-        }
-        let longest = self.dispatch.scripts.iter().map(Vec::len).max().unwrap_or(0);
-        for turn in 0..longest {
-            for k in self.unfinished() {
-                let Some(step) = self.dispatch.step(k, turn, &self.reader) else { continue };
-                if let Err(refusal) = self.make(machine, Call::Step(k, step)) {
-                    self.fail(machine, k, refusal);
-                }
-            }
-        }
-        for k in self.unfinished() {
-            match self.make(machine, Call::Commit { transaction: k, minute: self.dispatch.minute }) {
-                Ok(_) => self.ended[k] = Some(Ok(())),
-                Err(Refusal::Stale) => {}
-                Err(refusal) => self.fail(machine, k, refusal),
-            }
-        }
-    }
-
-    fn unfinished(&self) -> Vec<usize> {
-        (0..self.ended.len()).filter(|&k| self.ended[k].is_none()).collect()
-    }
-
-    fn fail(&mut self, machine: &mut Machine, k: usize, refusal: Refusal) {
-        self.ended[k] = Some(Err(refusal));
-        if machine.open[k].is_some() {
-            self.make(machine, Call::Abort(k)).expect("it is open");
-        }
-    }
-
-    fn make(&mut self, machine: &mut Machine, call: Call) -> Outcome {
-        let reply = machine.take(&call);
-        let outcome = reply.outcome;
-        if matches!(call, Call::Step(_, Step { action: Action::Read { .. }, .. })) {
-            self.reader = reply.buffer.clone();
-        }
-        self.rounds.last_mut().expect("a round is on").push((call, reply));
-        outcome
     }
 }
 

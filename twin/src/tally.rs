@@ -1,14 +1,13 @@
 //! How often each outcome, and each case of interest, was met.
 
 use std::io::{self, Write};
-use std::ops::Range;
 
-use crate::call::{Action, Answer, Best, Call, Outcome, Refusal, Reply, Step};
-use crate::plain::{Committed, Course, Item, Machine, Place, Rounds, Window, Windows};
-use crate::store::{Store, Transaction, FILES, SPAN};
+use crate::call::{Action, Answer, Outcome, Refusal, Reply, Step};
+use crate::plain::{Committed, Course, Item, Machine, Place, Window};
+use crate::store::{Store, Transaction, FILES};
 
 /// The highest number of a refusal.
-const REFUSALS: usize = 27;
+const REFUSALS: usize = 22;
 
 #[derive(Clone, Debug, Default)]
 pub struct Tally {
@@ -17,8 +16,6 @@ pub struct Tally {
     pub given: u64,
     pub granted: u64,
     pub pairs: u64,
-    pub ran: u64,
-    pub best: u64,
     /// By the refusal's number; the first entry stays 0.
     pub refused: [u64; REFUSALS + 1],
     /// Grants while another transaction was open.
@@ -57,32 +54,6 @@ pub struct Tally {
     closed_without_room: u64,
     /// Commits of a stale transaction refused with 22.
     stale_without_minute: u64,
-    /// Grants taken back; with own writes that overlap; that had raised a length; without a byte; with a byte in a file that
-    /// is not always open; after another transaction's end or a refused Commit.
-    undone: u64,
-    undone_overlapping: u64,
-    undone_raising: u64,
-    undone_empty: u64,
-    undone_in_window: u64,
-    undone_after_end: u64,
-    /// Scripts of dispatchers; granted, in a later round than the first; failed at a call, at Commit, in a later round.
-    scripts: u64,
-    scripts_granted: u64,
-    scripts_granted_later: u64,
-    scripts_failed_at_call: u64,
-    scripts_failed_at_commit: u64,
-    scripts_failed_later: u64,
-    /// Dispatchers of three rounds or more, and those of two scripts or more with as many rounds as scripts.
-    many_rounds: u64,
-    most_rounds: u64,
-    /// Best orders of two transactions or more; of all eight; other than the given one; with fewer grants than transactions;
-    /// with all orders tried; with a gap.
-    orders: u64,
-    orders_of_eight: u64,
-    better_than_given: u64,
-    not_all_granted: u64,
-    all_tried: u64,
-    with_gap: u64,
 }
 
 impl Tally {
@@ -93,8 +64,6 @@ impl Tally {
             Ok(Answer::Given(_)) => self.given += 1,
             Ok(Answer::Granted(_)) => self.granted += 1,
             Ok(Answer::Pairs(count)) => self.count_pairs(count),
-            Ok(Answer::Ran(_)) => self.ran += 1,
-            Ok(Answer::Best(_)) => self.best += 1,
             Err(refusal) => self.refused[refusal.number()] += 1,
         }
     }
@@ -160,62 +129,6 @@ impl Tally {
         self.granted_at_start += any(&|window| window.start != window.end && window.start == minute);
     }
 
-    /// A grant was taken back whose writes had landed on these parts of the files buffer. Did a length go down, and has a
-    /// transaction ended since it?
-    pub fn count_undo(&mut self, windows: &Windows, landed: &[Range<usize>], lowered: bool, ended_since: bool) {
-        let landed: Vec<_> = landed.iter().filter(|bytes| !bytes.is_empty()).collect();
-        let overlap = |one: &Range<usize>, other: &Range<usize>| one.start < other.end && other.start < one.end;
-        let overlapping = |k: usize| landed[..k].iter().any(|earlier| overlap(earlier, landed[k]));
-        let in_window = |bytes: &&Range<usize>| windows[bytes.start / SPAN].start != windows[bytes.start / SPAN].end;
-        self.undone += 1;
-        self.undone_overlapping += u64::from((0..landed.len()).any(overlapping));
-        self.undone_raising += u64::from(lowered);
-        self.undone_empty += u64::from(landed.is_empty());
-        self.undone_in_window += u64::from(landed.iter().any(in_window));
-        self.undone_after_end += u64::from(ended_since);
-    }
-
-    /// A dispatcher that ran in these rounds.
-    pub fn count_rounds(&mut self, scripts: usize, rounds: &Rounds) {
-        self.scripts += scripts as u64;
-        self.many_rounds += u64::from(rounds.len() > 2);
-        self.most_rounds += u64::from(scripts > 1 && rounds.len() == scripts);
-        for (round, calls) in rounds.iter().enumerate() {
-            let later = u64::from(round > 0);
-            for (call, reply) in calls {
-                match (call, reply.outcome) {
-                    (_, Err(Refusal::Stale)) => {}
-                    (Call::Commit { .. }, Ok(_)) => {
-                        self.scripts_granted += 1;
-                        self.scripts_granted_later += later;
-                    }
-                    (Call::Commit { .. }, Err(_)) => {
-                        self.scripts_failed_at_commit += 1;
-                        self.scripts_failed_later += later;
-                    }
-                    (_, Err(_)) => {
-                        self.scripts_failed_at_call += 1;
-                        self.scripts_failed_later += later;
-                    }
-                    _ => {}
-                }
-            }
-        }
-    }
-
-    /// A best order of the list, which in its own order has so many grants.
-    pub fn count_best(&mut self, list: &[usize], orders: usize, best: Best, given: usize) {
-        if list.len() < 2 {
-            return;
-        }
-        self.orders += 1;
-        self.orders_of_eight += u64::from(list.len() == 8);
-        self.better_than_given += u64::from(usize::from(best.grants) > given);
-        self.not_all_granted += u64::from(usize::from(best.grants) < list.len());
-        self.all_tried += u64::from(usize::from(best.tried) == orders);
-        self.with_gap += u64::from(best.gap > 0);
-    }
-
     /// A Commit that was refused, and left its transaction open if it was.
     pub fn count_kept_open(&mut self, machine: &Machine, t: usize, minute: usize, refusal: Refusal) {
         let Some(Some(transaction)) = machine.open.get(t) else { return };
@@ -243,8 +156,6 @@ impl Tally {
         writeln!(out, "given {}", self.given)?;
         writeln!(out, "granted {}", self.granted)?;
         writeln!(out, "pairs {}", self.pairs)?;
-        writeln!(out, "ran {}", self.ran)?;
-        writeln!(out, "best {}", self.best)?;
         for (number, count) in self.refused.iter().enumerate().skip(1) {
             writeln!(out, "refused {number}: {count}")?;
         }
@@ -268,26 +179,6 @@ impl Tally {
         writeln!(out, "closed in the minute in which a window ends {}", self.closed_at_end)?;
         writeln!(out, "closed for writes without a place alone {}", self.closed_unplaced)?;
         writeln!(out, "closed, and without room too {}", self.closed_without_room)?;
-        writeln!(out, "stale, with a minute above 1,439 {}", self.stale_without_minute)?;
-        writeln!(out, "taken back {}", self.undone)?;
-        writeln!(out, "taken back, own writes overlap {}", self.undone_overlapping)?;
-        writeln!(out, "taken back, a length goes down {}", self.undone_raising)?;
-        writeln!(out, "taken back, without a byte {}", self.undone_empty)?;
-        writeln!(out, "taken back in a file that isn't always open {}", self.undone_in_window)?;
-        writeln!(out, "taken back after another end or a refused commit {}", self.undone_after_end)?;
-        writeln!(out, "scripts {}", self.scripts)?;
-        writeln!(out, "scripts granted {}", self.scripts_granted)?;
-        writeln!(out, "scripts granted after the first round {}", self.scripts_granted_later)?;
-        writeln!(out, "scripts failed at a call {}", self.scripts_failed_at_call)?;
-        writeln!(out, "scripts failed at their commit {}", self.scripts_failed_at_commit)?;
-        writeln!(out, "scripts failed after the first round {}", self.scripts_failed_later)?;
-        writeln!(out, "dispatchers of three rounds or more {}", self.many_rounds)?;
-        writeln!(out, "dispatchers of as many rounds as scripts, at least two {}", self.most_rounds)?;
-        writeln!(out, "best orders of two or more {}", self.orders)?;
-        writeln!(out, "best orders of eight {}", self.orders_of_eight)?;
-        writeln!(out, "best orders with more grants than the given one {}", self.better_than_given)?;
-        writeln!(out, "best orders with fewer grants than transactions {}", self.not_all_granted)?;
-        writeln!(out, "best orders of all {}", self.all_tried)?;
-        writeln!(out, "best orders with a gap {}", self.with_gap)
+        writeln!(out, "stale, with a minute above 1,439 {}", self.stale_without_minute)
     }
 }

@@ -1,12 +1,11 @@
 //! Lists of calls with the replies that they must get, from a file, run on store and plain machine side by side.
 //!
-//! A line is a call, ` -> ` and its reply, in words with one space between. A list starts with `fresh`, on buffers that are
-//! all 0. An indented line at its end names a part of the state and says what is in it. Bytes are hexadecimal pairs, and `hh*n` is n bytes hh;
+//! A line is a call, ` -> ` and its reply, in words with one space between. A list starts with `fresh`. An indented line
+//! at its end names a part of the state and says what is in it. Bytes are hexadecimal pairs, and `hh*n` is n bytes hh;
 //! pieces are joined by `.`, and stand apart in an indented line; `-` is none. A word may be several numbers, with commas
-//! between. A commit without a minute is one at minute 0. A dispatcher's scripts are one word (see `scripts`), `-` a script
-//! without calls and `none` no script.
+//! between. A commit without a minute is one at minute 0.
 
-use crate::call::{Action, Answer, Call, Dispatch, Reply, Script, ScriptAction, ScriptStep, Step};
+use crate::call::{Action, Answer, Call, Reply, Step};
 use crate::pair::Pair;
 
 /// How a file went: the lists and the calls in it, and the first disagreement of each list that has one.
@@ -30,15 +29,11 @@ pub fn run(text: &str) -> Report {
     let mut report = Report::default();
     let mut pair = Pair::new();
     let mut agrees = true;
-    let mut ended = true;
     for (line, number) in text.lines().zip(1..) {
-        if line.starts_with("fresh ") && ended {
-            pair.check_at_rest();
-            pair = Pair::new();
+        if line.starts_with("fresh ") {
             report.lists += 1;
             agrees = true;
         }
-        ended = line.starts_with(' ');
         report.calls += usize::from(!line.starts_with(' '));
         if !agrees {
             continue;
@@ -89,17 +84,6 @@ fn reply(pair: &mut Pair, words: &[&str]) -> Option<Vec<Word>> {
             Call::Places { transaction: number(t)?, file: number(file)?, buffer: bytes(buffer)? }
         }
         ["window", file, start, end] => Call::Window { file: number(file)?, start: number(start)?, end: number(end)? },
-        ["undo"] => Call::Undo,
-        ["dispatch", scripts, data, buffer, minute] => Call::Dispatch(Dispatch {
-            scripts: self::scripts(scripts)?,
-            data: bytes(data)?,
-            buffer: bytes(buffer)?,
-            minute: number(minute)?,
-        }),
-        ["best", list, minute, budget] => {
-            let list = numbers(list)?.into_iter().map(|number| number as usize).collect();
-            Call::Best { list, minute: number(minute)?, budget: number(budget)? }
-        }
         _ => return None,
     };
     Some(said(pair.call(&call, None)))
@@ -109,33 +93,6 @@ fn step(t: &str, d: &str, action: Action) -> Option<Call> {
     Some(Call::Step(number(t)?, Step { descriptor: number(d)?, action }))
 }
 
-/// Scripts are parted by `|`, their calls by `,`, and the words of a call by `:`.
-fn scripts(word: &str) -> Option<Vec<Script>> {
-    if word == "none" {
-        return Some(Vec::new());
-    }
-    word.split('|').map(script).collect()
-}
-
-fn script(word: &str) -> Option<Script> {
-    if word == "-" {
-        return Some(Vec::new());
-    }
-    word.split(',').map(script_step).collect()
-}
-
-fn script_step(word: &str) -> Option<ScriptStep> {
-    let words: Vec<&str> = word.split(':').collect();
-    let (descriptor, action) = match words[..] {
-        ["seek", d, to] => (d, ScriptAction::Seek { to: number(to)? }),
-        ["write", d, start, length] => (d, ScriptAction::Write { start: number(start)?, length: number(length)? }),
-        ["pointer", d] => (d, ScriptAction::GetFilePointer),
-        ["read", d, count] => (d, ScriptAction::Read { count: number(count)? }),
-        _ => return None,
-    };
-    Some(ScriptStep { descriptor: number(descriptor)?, action })
-}
-
 fn said(reply: Reply) -> Vec<Word> {
     match reply.outcome {
         Ok(Answer::Done) => vec![Word::Name("done")],
@@ -143,24 +100,6 @@ fn said(reply: Reply) -> Vec<Word> {
         Ok(Answer::Given(count)) => vec![Word::Name("given"), Word::Number(count.into()), Word::Bytes(reply.buffer)],
         Ok(Answer::Granted(count)) => vec![Word::Name("granted"), Word::Number(count.into())],
         Ok(Answer::Pairs(count)) => vec![Word::Name("pairs"), Word::Number(count.into()), Word::Bytes(reply.buffer)],
-        Ok(Answer::Ran(ran)) => vec![
-            Word::Name("ran"),
-            Word::Numbers(ran.results()),
-            Word::Name("commits"),
-            Word::Number(ran.commits.into()),
-            Word::Name("reader"),
-            Word::Bytes(reply.buffer),
-        ],
-        Ok(Answer::Best(best)) => vec![
-            Word::Name("order"),
-            Word::Numbers(best.order().iter().map(|&t| t.into()).collect()),
-            Word::Name("grants"),
-            Word::Number(best.grants.into()),
-            Word::Name("gap"),
-            Word::Number(best.gap.into()),
-            Word::Name("tried"),
-            Word::Number(best.tried.into()),
-        ],
         Err(refusal) => vec![Word::Name("refused"), Word::Number(refusal.number() as u64)],
     }
 }
@@ -170,7 +109,6 @@ fn part(pair: &Pair, name: &str) -> Option<Word> {
     match name {
         "files" => Some(Word::Bytes(pair.state.buffers.files.clone())),
         "offsets" => Some(Word::Numbers(pair.state.store.offsets.map(u64::from).to_vec())),
-        "undo" => Some(Word::Bytes(pair.state.buffers.undo.clone())),
         "lengths" => Some(Word::Numbers(pair.state.store.lengths.map(u64::from).to_vec())),
         _ => None,
     }
@@ -256,7 +194,7 @@ commit 18446744073709551615 -> refused 3
 
     #[test]
     fn what_is_not_known_disagrees() {
-        for line in ["redo -> done", "commit 0", "  windows 0", "  lengths 0"] {
+        for line in ["undo -> done", "commit 0", "  windows 0", "  lengths 0"] {
             let report = run(&LIST.replace("commit 0 -> granted 0", line));
             assert_eq!(report.disagreements.len(), 1, "{line}");
         }

@@ -69,6 +69,7 @@ fn table_of_calls(effort: &Effort) {
     let each = cases.len() / counts.len();
     cases.extend(calls::sized(4096));
     cases.extend(calls::sized(0));
+    cases.extend(counts.into_iter().flat_map(calls::held));
     let costs = calls::measure(&cases, effort);
     let (of_calls, sized) = costs.split_at(each * counts.len());
     for (i, (case, cost)) in cases.iter().zip(of_calls).enumerate() {
@@ -81,6 +82,11 @@ fn table_of_calls(effort: &Effort) {
     ratios.sort_by(f64::total_cmp);
     let median = (ratios[(ratios.len() - 1) / 2] + ratios[ratios.len() / 2]) / 2.0;
     row("The median of these", "", "", median, "≤ 0.95", Some(median <= 0.95));
+    for (i, (case, cost)) in cases.iter().zip(&costs).skip(of_calls.len() + 4).enumerate() {
+        let figure = format!("{}; {} records held", case.name, counts[i / 2]);
+        let twin = format!("twin {}", nanoseconds(cost.twin));
+        row(&figure, &nanoseconds(cost.proved), &twin, cost.proved / cost.twin, "", None);
+    }
     let memcpy = calls::memcpy(4096, effort);
     for (i, name) in ["Read", "Write"].into_iter().enumerate() {
         let (whole, fixed) = (sized[i], sized[i + 2]);

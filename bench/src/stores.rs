@@ -3,10 +3,10 @@
 use crate::script::{self, Script, Step};
 use std::time::Instant;
 use twin::call::Refusal;
-use twin::store::{Lent, Store, BUFFER, DESCRIPTORS};
+use twin::store::{Lent, Store, BUFFER, DESCRIPTORS, SPAN};
 
 /// How many numbers the record of the proved store has.
-const NUMBERS: usize = 2104;
+const NUMBERS: usize = 2323;
 
 extern "C" {
     fn bench_calls_run(
@@ -17,6 +17,8 @@ extern "C" {
         logs_len: usize,
         marks: *mut u8,
         marks_len: usize,
+        undo: *mut u8,
+        undo_len: usize,
         script: *const u8,
         script_len: usize,
         data: *const u8,
@@ -43,6 +45,7 @@ pub struct Buffers {
     pub files: Vec<u8>,
     pub logs: Vec<u8>,
     pub marks: Vec<u8>,
+    pub undo: Vec<u8>,
     pub data: Vec<u8>,
     pub reader: Vec<u8>,
     /// The code of each step's outcome in the last pass; see `code`.
@@ -64,6 +67,7 @@ impl Buffers {
             files: buffer.clone(),
             logs: buffer.clone(),
             marks: buffer,
+            undo: vec![0; SPAN],
             data,
             reader: vec![0; 4096],
             said: vec![0; said],
@@ -99,6 +103,8 @@ impl Buffers {
                 self.logs.len(),
                 self.marks.as_mut_ptr(),
                 self.marks.len(),
+                self.undo.as_mut_ptr(),
+                self.undo.len(),
                 script.octets.as_ptr(),
                 script.octets.len(),
                 self.data.as_ptr(),
@@ -125,7 +131,7 @@ impl Buffers {
     }
 
     fn pass(&mut self, store: &mut Store, octets: &[u8]) {
-        let mut lent = Lent { files: &mut self.files, logs: &mut self.logs, marks: &mut self.marks };
+        let mut lent = Lent { files: &mut self.files, logs: &mut self.logs, marks: &mut self.marks, undo: &mut self.undo };
         for (i, step) in octets.chunks_exact(8).enumerate() {
             let c = Step::at(step);
             let (code, number) = call(store, &mut lent, c, &self.data, &mut self.reader);
@@ -150,6 +156,7 @@ fn call(store: &mut Store, lent: &mut Lent, c: Step, data: &[u8], reader: &mut [
         script::READ => answer(2, store.read(lent, c.t, c.d, c.n, reader).map(u64::from)),
         script::COMMIT => answer(GRANTED, store.commit(lent, c.t, script::MINUTE).map(u64::from)),
         script::ABORT => answer(0, store.abort(lent, c.t).map(|()| 0)),
+        script::TAKE_BACK => answer(0, store.undo(lent).map(|()| 0)),
         _ => (0, 0),
     }
 }

@@ -48,6 +48,8 @@ pub enum Call {
         start: usize,
         end: usize,
     },
+    /// Takes the last grant back.
+    Undo,
 }
 
 #[derive(Clone, Copy, Debug, PartialEq, Eq)]
@@ -87,6 +89,8 @@ pub enum Refusal {
     StaleReader = 18,
     FileClosed = 21,
     NoSuchMinute = 22,
+    UndoWhileOpen = 23,
+    NothingToUndo = 24,
 }
 
 impl Refusal {

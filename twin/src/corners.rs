@@ -2,6 +2,7 @@
 //! on store and plain machine together, and on forged records. Those of later requests have modules of their own.
 
 mod splitting;
+mod undo;
 mod windows;
 
 use crate::call::{Action, Answer, Call, Refusal, Step};

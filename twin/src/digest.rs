@@ -2,7 +2,7 @@
 //! h' = (65521 h + n + 1) mod (2^48 - 59), for n up to 65,535. Nothing in it goes past 64 bits.
 
 use crate::call::{Answer, Outcome};
-use crate::store::{Buffers, Place, Standing, Store, Transaction, WriteRecord};
+use crate::store::{Buffers, Place, Standing, Store, Transaction, Undo, WriteRecord};
 
 const FACTOR: u64 = 65521;
 const MODULUS: u64 = 281_474_976_710_597;
@@ -58,10 +58,28 @@ impl Digest {
             self.take_all(&record_numbers(record));
         }
     }
+
+    /// Takes in 0 where nothing is held; otherwise 1, records used, bytes used, descriptor, place and length of each record,
+    /// then the offsets and the lengths found.
+    fn take_undo(&mut self, undo: &Undo) {
+        self.take(undo.held);
+        if !undo.held {
+            return;
+        }
+        self.take(undo.log.records.len() as u64);
+        self.take(undo.log.bytes);
+        for &record in &undo.log.records {
+            let [descriptor, _, place, length] = record_numbers(record);
+            self.take_all(&[descriptor, place, length]);
+        }
+        self.take_all(&undo.offsets);
+        self.take_all(&undo.lengths);
+    }
 }
 
 /// The digest of a state, by what it means: the descriptors' files; the committed offsets; the committed lengths; start and
-/// end of each window; each transaction; the bytes of files, logs and marks. Every number is taken in whole.
+/// end of each window; each transaction; what is held of the last grant; the bytes of files, logs, marks and undo buffer.
+/// Every number is taken in whole.
 pub fn of_state(store: &Store, buffers: &Buffers) -> u64 {
     let mut digest = Digest::default();
     digest.take_all(&store.files);
@@ -73,9 +91,11 @@ pub fn of_state(store: &Store, buffers: &Buffers) -> u64 {
     for transaction in &store.transactions {
         digest.take_transaction(transaction);
     }
+    digest.take_undo(&store.undo);
     digest.take_all(&buffers.files);
     digest.take_all(&buffers.logs);
     digest.take_all(&buffers.marks);
+    digest.take_all(&buffers.undo);
     digest.value()
 }
 
@@ -106,6 +126,6 @@ mod tests {
     #[test]
     fn the_digest_at_the_start() {
         let state = Pair::new().state;
-        assert_eq!(super::of_state(&state.store, &state.buffers), 119130975807168);
+        assert_eq!(super::of_state(&state.store, &state.buffers), 200157994588266);
     }
 }

@@ -11,7 +11,7 @@ pub const SEED: u64 = 1;
 
 const DRAWS: usize = 12;
 const PHASE: u64 = 256;
-const MODES: u64 = 8;
+const MODES: u64 = 9;
 
 // The modes. Two differ by the tables below alone: 1, crowded, has few descriptors and transactions and many Commits; 6,
 // scattered, has few descriptors and transactions and few Commits, so that lists of places get long.
@@ -21,6 +21,7 @@ const LONG_WRITES: u64 = 3; // until the log has 4,096 bytes
 const NEAR_END: u64 = 4; // Seeks around 4,096
 const LONG_READS: u64 = 5;
 const SHORT_FILES: u64 = 7; // Seeks and Writes near the start, mostly in steps of 4, so that ends meet; more Freshes
+const QUIET: u64 = 8; // begins with a Fresh, and has few transactions, so that often none is open, and Undos
 
 // The kinds of calls.
 pub const FRESH: u64 = 0;
@@ -33,25 +34,27 @@ pub const PLACES: u64 = 6;
 pub const COMMIT: u64 = 7;
 pub const ABORT: u64 = 8;
 pub const WINDOW: u64 = 9;
+pub const UNDO: u64 = 10;
 
-const KINDS: u64 = 10;
+const KINDS: u64 = 11;
 
-/// How many of 1,000 calls are of each kind, for each mode (ten numbers a mode).
-const WEIGHTS: [u64; 80] = [
-    4, 20, 210, 250, 80, 211, 40, 102, 43, 40, // mixed
-    4, 20, 165, 215, 120, 190, 40, 162, 44, 40, // crowded
-    4, 10, 60, 790, 10, 56, 40, 12, 8, 10, // many records
-    4, 20, 210, 420, 30, 91, 40, 92, 53, 40, // long writes
-    4, 20, 210, 260, 80, 145, 40, 151, 50, 40, // near the end
-    4, 20, 200, 240, 60, 255, 40, 102, 39, 40, // long reads
-    4, 20, 335, 335, 20, 100, 150, 16, 10, 10, // scattered
-    24, 20, 50, 320, 10, 320, 16, 180, 30, 30, // short files
+/// How many of 1,000 calls are of each kind, for each mode (eleven numbers a mode).
+const WEIGHTS: [u64; 99] = [
+    4, 20, 205, 250, 80, 211, 40, 102, 43, 40, 5, // mixed
+    4, 20, 160, 215, 120, 190, 40, 162, 44, 40, 5, // crowded
+    4, 10, 60, 789, 10, 56, 40, 12, 8, 10, 1, // many records
+    4, 20, 209, 420, 30, 91, 40, 92, 53, 40, 1, // long writes
+    4, 20, 205, 260, 80, 145, 40, 151, 50, 40, 5, // near the end
+    4, 20, 195, 240, 60, 255, 40, 102, 39, 40, 5, // long reads
+    4, 20, 334, 335, 20, 100, 150, 16, 10, 10, 1, // scattered
+    24, 20, 50, 315, 10, 320, 16, 180, 30, 30, 5, // short files
+    4, 10, 220, 456, 20, 70, 10, 110, 20, 10, 70, // quiet
 ];
 
 /// How many transaction numbers a mode mostly uses.
-const TRANSACTIONS_USED: [u64; 8] = [8, 4, 2, 3, 6, 8, 2, 4];
+const TRANSACTIONS_USED: [u64; 9] = [8, 4, 2, 3, 6, 8, 2, 4, 1];
 /// Through how many files of the usual arrangement a mode goes (each by two descriptors).
-const FILES_USED: [u64; 8] = [8, 2, 8, 8, 3, 4, 2, 2];
+const FILES_USED: [u64; 9] = [8, 2, 8, 8, 3, 4, 2, 2, 2];
 
 #[derive(Clone, Copy, Debug)]
 pub struct Generator {
@@ -90,13 +93,16 @@ pub struct Request {
 
 pub const BLANK: u8 = 165;
 
+/// Fresh's list in which descriptor d belongs to file d mod 8.
+const USUAL: [u8; 17] = [0, 1, 2, 3, 4, 5, 6, 7, 0, 1, 2, 3, 4, 5, 6, 7, 0];
+
 /// What is wrong with the buffers or the record lent to the call: `short` and `forgery` are 0 where nothing is.
 #[derive(Clone, Copy, Debug)]
 pub struct Damage {
-    /// 1, 2, 3: of the files, logs, marks only the first `short_length` bytes are lent.
+    /// 1, 2, 3, 4: of the files, logs, marks, undo buffer only the first `short_length` bytes are lent.
     pub short: u64,
     pub short_length: u64,
-    /// 1 to 18: the call gets a copy of the record with a field out of range (see forge.rs).
+    /// 1 to 27: the call gets a copy of the record with a field out of range (see forge.rs).
     pub forgery: u64,
     pub forged_transaction: u64,
     pub forged_index: u64,
@@ -121,10 +127,14 @@ impl Generator {
             *draw = self.x;
         }
         let phase = self.made / PHASE;
+        let mode = phase % MODES;
+        let request = if mode == QUIET && self.made % PHASE == 0 {
+            Request { list: USUAL, list_length: 16, ..request(FRESH, 0, mode, &r) }
+        } else {
+            let (kind, transaction) = fitted(mode, kind(mode, r[0]), transaction(phase, r[1]), self.open, &r);
+            request(kind, transaction, mode, &r)
+        };
         self.made += 1;
-        let transaction = transaction(phase, r[1]);
-        let kind = begun_first(kind(phase % MODES, r[0]), transaction, self.open, r[11]);
-        let request = request(kind, transaction, phase % MODES, &r);
         self.open = guess(self.open, &request);
         request
     }
@@ -162,51 +172,79 @@ fn request(kind: u64, transaction: u64, mode: u64, r: &[u64; DRAWS]) -> Request 
 
 fn kind(mode: u64, r: u64) -> u64 {
     let mut rest = r % 1000;
-    for kind in FRESH..WINDOW {
+    for kind in FRESH..UNDO {
         let weight = WEIGHTS[(KINDS * mode + kind) as usize];
         if rest < weight {
             return kind;
         }
         rest -= weight;
     }
-    WINDOW
+    UNDO
 }
 
-/// A call on a transaction that seems not to be open is made a Begin, seven times out of eight.
-fn begun_first(kind: u64, transaction: u64, open: [bool; 8], r: u64) -> u64 {
+/// Seven times out of eight, a call on a transaction that seems not to be open is made a Begin (in the quiet mode, a third of
+/// the times when none seems open, an Undo), and an Undo while one seems open is made a Commit or an Abort of the first such.
+fn fitted(mode: u64, kind: u64, transaction: u64, open: [bool; 8], r: &[u64; DRAWS]) -> (u64, u64) {
+    let first = first_open(open);
     let on_transaction = SEEK <= kind && kind <= ABORT && transaction < 8;
-    if on_transaction && !open[transaction as usize] && r % 8 != 0 {
-        BEGIN
+    if r[11] % 8 == 0 {
+        (kind, transaction)
+    } else if on_transaction && !open[transaction as usize] {
+        let at_rest = mode == QUIET && first == 8;
+        (if at_rest && r[10] % 3 == 0 { UNDO } else { BEGIN }, transaction)
+    } else if kind == UNDO && first < 8 {
+        (if r[9] % 4 == 0 { ABORT } else { COMMIT }, first)
     } else {
-        kind
+        (kind, transaction)
     }
+}
+
+/// The lowest number of a transaction that seems open, 8 where none does.
+fn first_open(open: [bool; 8]) -> u64 {
+    let mut t = 0;
+    while t < 8 && !open[t as usize] {
+        t += 1;
+    }
+    t
 }
 
 /// The transactions that seem open after the call.
 fn guess(open: [bool; 8], request: &Request) -> [bool; 8] {
     let mut open = open;
-    if request.damage.is_any() || request.transaction > 7 {
+    if request.damage.is_any() {
         return open;
     }
-    if request.kind == FRESH {
+    if request.kind == FRESH && is_good(&request.list, request.list_length) {
         return [false; 8];
+    }
+    if request.transaction > 7 {
+        return open;
     }
     if request.kind == BEGIN {
         open[request.transaction as usize] = true;
     }
-    if request.kind == COMMIT || request.kind == ABORT {
+    if request.kind == ABORT || request.kind == COMMIT && request.minute < 1440 {
         open[request.transaction as usize] = false;
     }
     open
 }
 
-/// Mostly one of a few that follow the phase, sometimes any of the eight, now and then 8 or 9.
+/// Sixteen numbers up to 7.
+fn is_good(list: &[u8; 17], length: u64) -> bool {
+    let mut good = length == 16;
+    for &number in &list[..16] {
+        good = good && number < 8;
+    }
+    good
+}
+
+/// Mostly one of a few that follow the phase, sometimes (not in the quiet mode) any of the eight, now and then 8 or 9.
 fn transaction(phase: u64, r: u64) -> u64 {
     let class = r % 40;
     let value = r / 40;
     if class == 0 {
         8 + value % 2
-    } else if class < 4 {
+    } else if class < 4 && phase % MODES != QUIET {
         value % 8
     } else {
         (phase + phase / 8 + value % TRANSACTIONS_USED[(phase % MODES) as usize]) % 8
@@ -248,7 +286,7 @@ fn number(kind: u64, mode: u64, class: u64, value: u64) -> u64 {
 fn seek_to(mode: u64, class: u64, value: u64) -> u64 {
     if mode == NEAR_END && class < 10 {
         4084 + value % 14
-    } else if mode == SHORT_FILES {
+    } else if mode == SHORT_FILES || mode == QUIET {
         if class < 12 {
             4 * (value % 4)
         } else {
@@ -280,7 +318,7 @@ fn write_length(mode: u64, class: u64, value: u64) -> u64 {
         } else {
             3000 + value % 1098
         }
-    } else if mode == SHORT_FILES {
+    } else if mode == SHORT_FILES || mode == QUIET {
         if class < 12 {
             4
         } else {
@@ -387,12 +425,13 @@ fn list_length(class: u64, value: u64) -> u64 {
 /// Of 128 calls two get a short buffer, two a forged record (Fresh doesn't), one has both.
 fn damage(kind: u64, r: &[u64; DRAWS]) -> Damage {
     let class = r[7] % 128;
-    let short = class < 3;
+    let short = if class < 3 { 1 + r[8] % 4 } else { 0 };
+    let whole = if short == 4 { 4096 } else { 32768 };
     let forged = class > 1 && class < 5 && kind != FRESH;
     Damage {
-        short: if short { 1 + r[8] % 3 } else { 0 },
-        short_length: if r[9] % 2 == 0 { 32767 } else { r[9] / 2 % 32768 },
-        forgery: if forged { 1 + r[8] % 18 } else { 0 },
+        short,
+        short_length: if r[9] % 2 == 0 { whole - 1 } else { r[9] / 2 % whole },
+        forgery: if forged { 1 + r[8] % 27 } else { 0 },
         forged_transaction: r[9] % 8,
         forged_index: r[9] / 8 % 16,
         excess: r[10],

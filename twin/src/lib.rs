@@ -1,4 +1,4 @@
-//! A second implementation of paper 01 with requests F-1 to F-9, F-11 and F-12, written from the papers alone: a store over lent
+//! A second implementation of paper 01 with requests F-1 to F-9 and F-11 to F-13, written from the papers alone: a store over lent
 //! buffers, the plain machine of demand 3, a generator of calls, and the means to run the two side by side.
 
 pub mod call;
@@ -9,6 +9,7 @@ pub mod marks;
 pub mod pair;
 pub mod plain;
 pub mod split;
+pub mod state;
 pub mod store;
 pub mod tally;
 pub mod trace;

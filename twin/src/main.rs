@@ -149,6 +149,7 @@ fn call(request: &Request) -> Call {
         generator::WINDOW => {
             Call::Window { file: request.file as usize, start: request.minute as usize, end: request.end as usize }
         }
+        generator::UNDO => Call::Undo,
         _ => Call::Step(transaction, Step { descriptor: request.descriptor as usize, action: action(request) }),
     }
 }
@@ -172,7 +173,7 @@ fn data(request: &Request) -> Vec<u8> {
     (0..request.number).map(|i| ((request.data_first + request.data_step * i) % 256) as u8).collect()
 }
 
-/// Calls so far; done, offset, given, granted, pairs; refusals 1 to 22; the digest of the state, the digest of all answers.
+/// Calls so far; done, offset, given, granted, pairs; refusals 1 to 24; the digest of the state, the digest of all answers.
 fn write_line(out: &mut impl Write, made: u64, pair: &Pair, answers: Digest) -> io::Result<()> {
     let Tally { done, offset, given, granted, pairs, refused, .. } = &pair.tally;
     write!(out, "{made} {done} {offset} {given} {granted} {pairs}")?;

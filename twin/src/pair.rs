@@ -1,21 +1,15 @@
 //! Store and plain machine side by side. Every call goes to both, and the two must agree; a disagreement is a panic.
 
-use crate::call::{Action, Answer, Call, Outcome, Refusal, Reply, Step};
-use crate::forge::{forge, garbage_in_closed, garbage_in_record};
+use crate::call::{Action, Answer, Call, Refusal, Reply, Step};
+use crate::forge::{forge, garbage_in_closed, garbage_in_record, garbage_in_undo};
 use crate::generator::Damage;
 use crate::plain::{self, Committed, Course, Item, Machine, FRESH_WINDOWS};
 use crate::split::Split;
+use crate::state::{untouched_buffer, State};
 use crate::store::{
-    self, Buffers, Lent, Standing, Store, Transaction, Window, BUFFER, DESCRIPTORS, FILES, SPAN, TRANSACTIONS,
+    self, Log, Standing, Transaction, Undo, Window, WriteRecord, BUFFER, DESCRIPTORS, FILES, SPAN, TRANSACTIONS,
 };
 use crate::tally::Tally;
-
-/// The store's record with its buffers.
-#[derive(Clone, PartialEq, Eq)]
-pub struct State {
-    pub store: Store,
-    pub buffers: Buffers,
-}
 
 /// An accepted call of a transaction, and what the store replied.
 type Served = (Step, Reply);
@@ -34,74 +28,17 @@ pub struct Pair {
     pub split: Split,
     /// The log buffer as it has to be: a Write's bytes put directly after the data used, and nothing else.
     expected_logs: Vec<u8>,
+    /// The undo buffer as it has to be, and the records held of the last grant.
+    expected_undo: Vec<u8>,
+    expected_held: Vec<WriteRecord>,
     /// The file numbers of the last Fresh.
     fresh_files: Vec<u8>,
     /// The accepted calls of each open transaction.
     served: [Vec<Served>; TRANSACTIONS],
-    /// The transactions granted since the last Fresh, in the order of their grants.
+    /// The transactions granted since the last Fresh and not taken back, in the order of their grants.
     granted: Vec<Grant>,
-}
-
-impl State {
-    fn new() -> State {
-        State { store: Store::new([0; DESCRIPTORS]), buffers: Buffers::zeros() }
-    }
-
-    pub fn apply(&mut self, call: &Call) -> Reply {
-        apply(&mut self.store, &mut self.buffers.lend(), call)
-    }
-
-    /// The call with one of the buffers (1 files, 2 logs, 3 marks, 0 none) lent only in part.
-    fn apply_short(&mut self, call: &Call, short: u64, length: usize) -> Reply {
-        let mut lent = self.buffers.lend();
-        match short {
-            1 => shorten(&mut lent.files, length),
-            2 => shorten(&mut lent.logs, length),
-            3 => shorten(&mut lent.marks, length),
-            _ => {}
-        }
-        apply(&mut self.store, &mut lent, call)
-    }
-}
-
-fn shorten(buffer: &mut &mut [u8], length: usize) {
-    let whole = std::mem::take(buffer);
-    *buffer = &mut whole[..length];
-}
-
-/// Makes the call on a store.
-fn apply(store: &mut Store, lent: &mut Lent, call: &Call) -> Reply {
-    let mut buffer = untouched_buffer(call);
-    let outcome = match call {
-        Call::Fresh { files } => store.fresh(lent, files).map(|()| Answer::Done),
-        Call::Begin(t) => store.begin(lent, *t).map(|()| Answer::Done),
-        Call::Step(t, step) => apply_step(store, lent, *t, step, &mut buffer),
-        Call::Places { transaction, file, .. } => {
-            store.places(lent, *transaction, *file, &mut buffer).map(Answer::Pairs)
-        }
-        Call::Commit { transaction, minute } => store.commit(lent, *transaction, *minute).map(Answer::Granted),
-        Call::Abort(t) => store.abort(lent, *t).map(|()| Answer::Done),
-        Call::Window { file, start, end } => store.set_window(lent, *file, *start, *end).map(|()| Answer::Done),
-    };
-    Reply { outcome, buffer }
-}
-
-fn apply_step(store: &mut Store, lent: &mut Lent, t: usize, step: &Step, buffer: &mut [u8]) -> Outcome {
-    let d = step.descriptor;
-    match &step.action {
-        Action::Seek { to } => store.seek(lent, t, d, *to).map(|()| Answer::Done),
-        Action::Write { data } => store.write(lent, t, d, data).map(|()| Answer::Done),
-        Action::GetFilePointer => store.get_file_pointer(lent, t, d).map(Answer::Offset),
-        Action::Read { count, .. } => store.read(lent, t, d, *count, buffer).map(Answer::Given),
-    }
-}
-
-/// The buffer lent for the call's answer, before the call.
-fn untouched_buffer(call: &Call) -> Vec<u8> {
-    match call {
-        Call::Step(_, Step { action: Action::Read { buffer, .. }, .. }) | Call::Places { buffer, .. } => buffer.clone(),
-        _ => Vec::new(),
-    }
+    /// Has a transaction ended since the last grant, or a Commit been refused?
+    ended_since: bool,
 }
 
 impl Pair {
@@ -117,9 +54,12 @@ impl Pair {
             split: Split::new(&state),
             state,
             expected_logs: vec![0; BUFFER],
+            expected_undo: vec![0; SPAN],
+            expected_held: Vec::new(),
             fresh_files: files,
             served: Default::default(),
             granted: Vec::new(),
+            ended_since: false,
         }
     }
 
@@ -162,7 +102,11 @@ impl Pair {
         if matches!(call, Call::Fresh { .. }) {
             self.check_at_rest();
         }
+        let ending = self.ending(call);
         let expected = self.machine.take(call);
+        if let (Some(course), Ok(_)) = (ending, expected.outcome) {
+            self.expect_held(&course);
+        }
         match expected.outcome {
             Ok(Answer::Pairs(_)) => self.call_looking(call, &expected),
             Ok(answer) => self.call_accepted(call, &expected, answer),
@@ -170,6 +114,7 @@ impl Pair {
             Err(refusal) => {
                 self.call_refused(call, refusal);
                 if let Call::Commit { transaction, minute } = *call {
+                    self.ended_since = true;
                     self.tally.count_kept_open(&self.machine, transaction, minute, refusal);
                 }
             }
@@ -180,11 +125,29 @@ impl Pair {
         expected
     }
 
+    /// The transaction that a Commit may end by a grant.
+    fn ending(&self, call: &Call) -> Option<Course> {
+        let Call::Commit { transaction, .. } = call else { return None };
+        let open = self.machine.open.get(*transaction)?.as_ref()?;
+        Some(open.course.clone())
+    }
+
+    /// What has to be held of a grant that the machine has just made.
+    fn expect_held(&mut self, course: &Course) {
+        let found = &self.machine.found.as_ref().expect("a grant").committed;
+        let old = old_bytes(found, course);
+        self.expected_undo[..old.len()].copy_from_slice(&old);
+        let placed =
+            |write| WriteRecord { place: store::Place::At(found.landing(write) as u16), ..store_record(write) };
+        self.expected_held = course.writes.iter().map(placed).collect();
+    }
+
     /// An accepted call that changes nothing.
     fn call_looking(&mut self, call: &Call, expected: &Reply) {
         let before = self.state.clone();
         assert_eq!(self.state.apply(call), *expected, "{call:?}");
         assert!(self.state == before, "{call:?} changed something");
+        self.try_on_garbage(call, expected, self.with_garbage(call));
     }
 
     fn call_accepted(&mut self, call: &Call, expected: &Reply, answer: Answer) {
@@ -194,10 +157,7 @@ impl Pair {
         let with_garbage = self.with_garbage(call);
         let reply = self.state.apply(call);
         assert_eq!(reply, *expected, "{call:?}");
-        if let Some(mut with_garbage) = with_garbage {
-            assert_eq!(with_garbage.apply(call), *expected, "{call:?} after garbage");
-            assert!(with_garbage == self.state, "{call:?} leaves some garbage");
-        }
+        self.try_on_garbage(call, expected, with_garbage);
         if let Some(with_window) = with_window {
             assert!(with_window == self.state, "{call:?} changed something else");
         }
@@ -215,6 +175,12 @@ impl Pair {
                 self.tally.count_grant(&self.machine, &self.served[*transaction], octet);
                 self.tally.count_lengths(&self.machine, &self.state.store, lengths, octet);
             }
+            (Call::Undo, _) => {
+                let store = &self.state.store;
+                let landed: Vec<_> = self.expected_held.iter().map(|record| store.landing(record)).collect();
+                let lowered = store.lengths != lengths;
+                self.tally.count_undo(&self.machine.windows, &landed, lowered, self.ended_since);
+            }
             _ => {}
         }
         self.keep_history(call, reply);
@@ -230,17 +196,33 @@ impl Pair {
         }
     }
 
-    /// For a Begin or a Fresh: the state with garbage where no call looks, which the call has to clear away.
+    /// The state with garbage where no call looks: for a Begin and a Fresh, some that they have to clear away, and while
+    /// nothing is held of a grant, some instead of it.
     fn with_garbage(&self, call: &Call) -> Option<State> {
-        if !matches!(call, Call::Begin(_) | Call::Fresh { .. }) {
+        let held = self.state.store.undo.held;
+        if held && !matches!(call, Call::Begin(_) | Call::Fresh { .. }) {
             return None;
         }
         let mut state = self.state.clone();
         match call {
             Call::Begin(t) => garbage_in_closed(&mut state.store, &mut state.buffers.marks, *t),
-            _ => garbage_in_record(&mut state.store),
+            Call::Fresh { .. } => garbage_in_record(&mut state.store),
+            _ => {}
+        }
+        if !held {
+            garbage_in_undo(&mut state.store);
         }
         Some(state)
+    }
+
+    /// Makes the call on a state with garbage: the same reply, and the state that the store has after it.
+    fn try_on_garbage(&self, call: &Call, expected: &Reply, with_garbage: Option<State>) {
+        let Some(mut state) = with_garbage else { return };
+        assert_eq!(state.apply(call), *expected, "{call:?} after garbage");
+        if !state.store.undo.held {
+            state.store.undo = Undo::NONE;
+        }
+        assert!(state == self.state, "{call:?} leaves some garbage");
     }
 
     /// For the setting of a window: the state with this window, and otherwise as it is.
@@ -262,6 +244,7 @@ impl Pair {
         check_refused(call, &reply, Refusal::Stale);
         assert!(self.state == aborted, "{call:?}: 13 left something else than Abort");
         self.served[t].clear();
+        self.ended_since = true;
         self.check_record();
     }
 
@@ -279,11 +262,19 @@ impl Pair {
                 self.served = Default::default();
                 self.granted.clear();
             }
-            Call::Begin(t) | Call::Abort(t) => self.served[*t].clear(),
+            Call::Begin(t) => self.served[*t].clear(),
+            Call::Abort(t) => {
+                self.served[*t].clear();
+                self.ended_since = true;
+            }
             Call::Step(t, step) => self.served[*t].push((step.clone(), reply)),
             Call::Commit { transaction, minute } => {
                 let served = std::mem::take(&mut self.served[*transaction]);
                 self.granted.push(Grant { served, minute: *minute });
+                self.ended_since = false;
+            }
+            Call::Undo => {
+                self.granted.pop();
             }
             Call::Places { .. } | Call::Window { .. } => {}
         }
@@ -291,8 +282,8 @@ impl Pair {
 
     // What must hold after every accepted call.
 
-    /// Files, offsets, lengths, windows, standings, what was acted on, write records and log bytes are those of the
-    /// machine.
+    /// Files, offsets, lengths, windows, standings, what was acted on, write records, log bytes and what is held of the last
+    /// grant are those of the machine.
     fn check_record(&self) {
         let State { store, buffers } = &self.state;
         let committed = &self.machine.committed;
@@ -305,12 +296,30 @@ impl Pair {
         let windows = store.windows.map(|Window { start, end }| plain::Window { start: start.into(), end: end.into() });
         assert_eq!(windows, self.machine.windows, "windows");
         assert!(buffers.logs == self.expected_logs, "log bytes");
+        self.check_held();
         for t in 0..TRANSACTIONS {
             match &self.machine.open[t] {
                 None => assert_eq!(store.transactions[t], Transaction::ENDED, "ended transaction {t}"),
                 Some(transaction) => self.check_open(t, &transaction.course),
             }
         }
+    }
+
+    /// Held is what the last grant found, as long as the machine keeps it.
+    fn check_held(&self) {
+        let State { store, buffers } = &self.state;
+        let held = self.machine.found.as_ref().map_or(Undo::NONE, |found| {
+            let records = self.expected_held.clone();
+            let bytes = records.iter().map(|record| record.length).sum();
+            Undo {
+                held: true,
+                log: Log { records, bytes },
+                offsets: found.committed.offsets.map(|offset| offset as u16),
+                lengths: found.committed.lengths.map(|length| length as u16),
+            }
+        });
+        assert_eq!(store.undo, held, "held of the last grant");
+        assert!(buffers.undo == self.expected_undo, "undo buffer");
     }
 
     fn check_open(&self, t: usize, course: &Course) {
@@ -406,8 +415,8 @@ impl Pair {
         }
     }
 
-    /// Runs the granted transactions one after another from the state of Fresh, with Fresh's windows: the store has given
-    /// the same replies and has the same files, offsets and lengths.
+    /// Runs the granted transactions that are not taken back one after another from the state of Fresh, with Fresh's windows:
+    /// the store has given the same replies and has the same files, offsets and lengths.
     pub fn check_serial_order(&self) {
         let mut committed = Committed::fresh(&self.fresh_files).expect("an accepted Fresh");
         for (Grant { served, minute }, number) in self.granted.iter().zip(1..) {
@@ -438,6 +447,26 @@ impl Default for Pair {
     }
 }
 
+/// The bytes on which the writes of a course land, one write after another, on the files that its grant finds: those of the
+/// latest write before it over the place, otherwise the file's.
+fn old_bytes(found: &Committed, course: &Course) -> Vec<u8> {
+    let mut old = Vec::new();
+    for (k, write) in course.writes.iter().enumerate() {
+        let file = found.file_of[write.descriptor];
+        let start = found.landing(write);
+        for place in start..start + write.data.len() {
+            let byte_of = |earlier: &plain::Write| {
+                let same_file = found.file_of[earlier.descriptor] == file;
+                let i = place.checked_sub(found.landing(earlier)).filter(|_| same_file)?;
+                earlier.data.get(i).copied()
+            };
+            let earlier = course.writes[..k].iter().rev().find_map(byte_of);
+            old.push(earlier.unwrap_or(found.files[file][place]));
+        }
+    }
+    old
+}
+
 fn check_refused(call: &Call, reply: &Reply, refusal: Refusal) {
     assert_eq!(reply.outcome, Err(refusal), "{call:?}");
     assert!(reply.buffer == untouched_buffer(call), "{call:?}: a refusal changed the buffer lent for the answer");
@@ -457,10 +486,10 @@ fn store_standing(standing: plain::Standing) -> Standing {
 }
 
 /// A write of the machine as the record holds it.
-fn store_record(write: &plain::Write) -> store::WriteRecord {
+fn store_record(write: &plain::Write) -> WriteRecord {
     let place = match write.place {
         plain::Place::At(place) => store::Place::At(place as u16),
         plain::Place::After(advance) => store::Place::After(advance as u16),
     };
-    store::WriteRecord { descriptor: write.descriptor as u8, place, length: write.data.len() as u16 }
+    WriteRecord { descriptor: write.descriptor as u8, place, length: write.data.len() as u16 }
 }

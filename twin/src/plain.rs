@@ -1,7 +1,7 @@
-//! The plain machine of demand 3. It holds committed files, offsets, lengths and setters, a count of grants, the windows,
-//! and for each open transaction its accepted calls, standings, writes and sightings, and on which descriptors it acted. It
-//! has no marks and no stale flag: a transaction is stale when the sightings it holds differ from those of its accepted
-//! calls run alone on what is committed now.
+//! The plain machine of demand 3. It holds committed files, offsets, lengths and setters, a count of grants, what the last
+//! grant found of these, the windows, and for each open transaction its accepted calls, standings, writes and sightings,
+//! and on which descriptors it acted. It has no marks and no stale flag: a transaction is stale when the sightings it holds
+//! differ from those of its accepted calls run alone on what is committed now.
 
 use crate::call::{Action, Answer, Call, Outcome, Refusal, Reply, Step};
 
@@ -96,10 +96,19 @@ pub type Windows = [Window; FILES];
 /// The windows of a Fresh.
 pub const FRESH_WINDOWS: Windows = [Window { start: 0, end: 0 }; FILES];
 
+/// What a grant found: files, offsets, lengths and setters, and the count of grants.
+#[derive(Clone, Debug)]
+pub struct Found {
+    pub committed: Committed,
+    grants: Setter,
+}
+
 #[derive(Clone, Debug)]
 pub struct Machine {
     pub committed: Committed,
     pub grants: Setter,
+    /// What the last grant found, until it is taken back.
+    pub found: Option<Found>,
     pub windows: Windows,
     pub open: [Option<Transaction>; TRANSACTIONS],
 }
@@ -152,13 +161,17 @@ impl Committed {
         }
     }
 
-    fn land(&mut self, write: &Write, setter: Setter) {
-        let file = self.file_of[write.descriptor];
-        let start = match write.place {
+    /// Where a write begins, as long as no offset of its grant is set.
+    pub fn landing(&self, write: &Write) -> usize {
+        match write.place {
             Place::At(place) => place,
             Place::After(advance) => self.offsets[write.descriptor] + advance,
-        };
-        for (place, &byte) in (start..).zip(&write.data) {
+        }
+    }
+
+    fn land(&mut self, write: &Write, setter: Setter) {
+        let file = self.file_of[write.descriptor];
+        for (place, &byte) in (self.landing(write)..).zip(&write.data) {
             self.files[file][place] = byte;
             self.byte_setters[file][place] = setter;
             if place >= self.lengths[file] {
@@ -453,7 +466,7 @@ impl Machine {
     /// The machine on the state of an accepted Fresh with these sixteen file numbers.
     pub fn fresh(files: &[u8]) -> Result<Machine, Refusal> {
         let committed = Committed::fresh(files)?;
-        Ok(Machine { committed, grants: 0, windows: FRESH_WINDOWS, open: Default::default() })
+        Ok(Machine { committed, grants: 0, found: None, windows: FRESH_WINDOWS, open: Default::default() })
     }
 
     /// Takes one call, of buffers and lists with the right lengths.
@@ -469,6 +482,7 @@ impl Machine {
             Call::Commit { transaction, minute } => no_buffer(self.commit(*transaction, *minute)),
             Call::Abort(t) => no_buffer(self.abort(*t)),
             Call::Window { file, start, end } => no_buffer(self.set_window(*file, *start, *end)),
+            Call::Undo => no_buffer(self.undo()),
         }
     }
 
@@ -526,6 +540,7 @@ impl Machine {
         course.check_commit(&self.committed, &self.windows, minute)?;
         let equal_before = self.with_equal_lists();
         let ended = self.open[t].take().expect("it is open");
+        self.found = Some(Found { committed: self.committed.clone(), grants: self.grants });
         self.grants += 1;
         self.committed.grant(&ended.course, self.grants);
         let equal_after = self.with_equal_lists();
@@ -547,6 +562,17 @@ impl Machine {
         check_minute(start)?;
         check_minute(end)?;
         self.windows[file] = Window { start, end };
+        Ok(Answer::Done)
+    }
+
+    /// Goes back to what the last grant found.
+    fn undo(&mut self) -> Outcome {
+        if self.open.iter().any(Option::is_some) {
+            return Err(Refusal::UndoWhileOpen);
+        }
+        let found = self.found.take().ok_or(Refusal::NothingToUndo)?;
+        self.committed = found.committed;
+        self.grants = found.grants;
         Ok(Answer::Done)
     }
 

@@ -1,7 +1,8 @@
-//! The store once more, with every Write made in two parts (request F-12): all but the write records must come out the same.
+//! The store once more, with every Write made in two parts (request F-12): all but the write records, those
+//! held of the last grant among them, must come out the same.
 
 use crate::call::{Action, Answer, Call, Outcome, Refusal, Reply, Step};
-use crate::pair::State;
+use crate::state::State;
 use crate::store::{Store, Transaction};
 
 pub struct Split {
@@ -54,5 +55,6 @@ pub fn same_but_records(one: &State, other: &State) -> bool {
 fn without_records(store: &Store) -> Store {
     let mut store = store.clone();
     store.transactions.iter_mut().for_each(|Transaction { log, .. }| log.records.clear());
+    store.undo.log.records.clear();
     store
 }

@@ -1,4 +1,4 @@
-//! The store: a record that the caller keeps, and three buffers that the caller lends to every call.
+//! The store: a record that the caller keeps, and four buffers that the caller lends to every call.
 //!
 //! There are no setters and no lists here. What a transaction has sighted is kept as one bit for each file byte (the
 //! marks) and one for each file's length; for an offset, as the standing Known.
@@ -16,7 +16,7 @@ pub const TRANSACTIONS: usize = 8;
 pub const SPAN: usize = 4096;
 /// Write records of a log.
 pub const RECORDS: usize = 64;
-/// The length of each of the three store buffers.
+/// The length of each of files, logs and marks; the undo buffer has the length of a log.
 pub const BUFFER: usize = 32768;
 /// Minutes of a day.
 pub const MINUTES: usize = 1440;
@@ -76,8 +76,20 @@ pub struct Window {
     pub end: u16,
 }
 
-/// The record: the file and the committed offset of each descriptor, the committed length and the window of each file, and
-/// the transactions.
+/// What is held of the last grant, to take it back. Where nothing is held the rest is free.
+#[derive(Clone, Debug, PartialEq, Eq)]
+pub struct Undo {
+    pub held: bool,
+    /// Its writes in the order in which they landed, all with a place. The bytes that each landed on lie in the undo
+    /// buffer, after those of the writes before it.
+    pub log: Log,
+    /// The offsets and lengths that it found.
+    pub offsets: [u16; DESCRIPTORS],
+    pub lengths: [u16; FILES],
+}
+
+/// The record: the file and the committed offset of each descriptor, the committed length and the window of each file, the
+/// transactions, and what is held of the last grant.
 #[derive(Clone, Debug, PartialEq, Eq)]
 pub struct Store {
     pub files: [u8; DESCRIPTORS],
@@ -85,6 +97,7 @@ pub struct Store {
     pub lengths: [u16; FILES],
     pub windows: [Window; FILES],
     pub transactions: [Transaction; TRANSACTIONS],
+    pub undo: Undo,
 }
 
 /// Store buffers, as a caller may keep them.
@@ -93,6 +106,7 @@ pub struct Buffers {
     pub files: Vec<u8>,
     pub logs: Vec<u8>,
     pub marks: Vec<u8>,
+    pub undo: Vec<u8>,
 }
 
 /// The store buffers, as lent to a call.
@@ -100,6 +114,7 @@ pub struct Lent<'a> {
     pub files: &'a mut [u8],
     pub logs: &'a mut [u8],
     pub marks: &'a mut [u8],
+    pub undo: &'a mut [u8],
 }
 
 /// A stretch of a read that one source supplies.
@@ -174,6 +189,15 @@ impl WriteRecord {
     fn end(&self) -> u32 {
         let (Place::At(start) | Place::After(start)) = self.place;
         u32::from(start) + u32::from(self.length)
+    }
+
+    /// The same write where it lands, given the committed offsets.
+    fn landed(&self, offsets: &[u16; DESCRIPTORS]) -> WriteRecord {
+        let place = match self.place {
+            Place::At(place) => place,
+            Place::After(advance) => offsets[usize::from(self.descriptor)] + advance,
+        };
+        WriteRecord { place: Place::At(place), ..*self }
     }
 
     /// Is it in range, given how its transaction's descriptors stand?
@@ -254,6 +278,17 @@ impl Transaction {
     }
 }
 
+impl Undo {
+    pub const NONE: Undo = Undo { held: false, log: Log::EMPTY, offsets: [0; DESCRIPTORS], lengths: [0; FILES] };
+
+    /// What is held is in the ranges of placed records, of offsets and of lengths.
+    fn in_range(&self) -> bool {
+        !self.held
+            || self.log.in_range(&[Standing::Untouched; DESCRIPTORS])
+                && self.offsets.iter().chain(&self.lengths).all(|&number| number <= SPAN_16)
+    }
+}
+
 impl Window {
     const ALWAYS: Window = Window { start: 0, end: 0 };
 
@@ -272,18 +307,18 @@ impl Window {
 
 impl Buffers {
     pub fn zeros() -> Buffers {
-        Buffers { files: vec![0; BUFFER], logs: vec![0; BUFFER], marks: vec![0; BUFFER] }
+        Buffers { files: vec![0; BUFFER], logs: vec![0; BUFFER], marks: vec![0; BUFFER], undo: vec![0; SPAN] }
     }
 
     pub fn lend(&mut self) -> Lent<'_> {
-        Lent { files: &mut self.files, logs: &mut self.logs, marks: &mut self.marks }
+        Lent { files: &mut self.files, logs: &mut self.logs, marks: &mut self.marks, undo: &mut self.undo }
     }
 }
 
 impl Lent<'_> {
     fn check(&self) -> Result<(), Refusal> {
         let fits = |buffer: &[u8]| buffer.len() == BUFFER;
-        if fits(self.files) && fits(self.logs) && fits(self.marks) {
+        if fits(self.files) && fits(self.logs) && fits(self.marks) && self.undo.len() == SPAN {
             Ok(())
         } else {
             Err(Refusal::BufferLength)
@@ -300,6 +335,7 @@ impl Store {
             lengths: [0; FILES],
             windows: [Window::ALWAYS; FILES],
             transactions: [Transaction::ENDED; TRANSACTIONS],
+            undo: Undo::NONE,
         }
     }
 
@@ -421,8 +457,9 @@ impl Store {
         }
         self.check_hours(t, minute)?;
         self.check_settling(t, u16::MAX)?;
+        self.hold(t);
         let sighters = self.land(lent, t);
-        let lengths = self.raise_lengths(t);
+        let lengths = self.raise_lengths();
         let offsets = self.set_offsets(t);
         self.end(lent, t);
         Ok(self.make_stale(sighters, lengths, offsets))
@@ -441,6 +478,22 @@ impl Store {
             return Err(Refusal::NoSuchTarget);
         }
         self.windows[file] = Window { start: checked_minute(start)?, end: checked_minute(end)? };
+        Ok(())
+    }
+
+    /// Takes the last grant back: files, offsets and lengths are again as it found them.
+    pub fn undo(&mut self, lent: &mut Lent) -> Result<(), Refusal> {
+        self.check_lent(lent)?;
+        if self.transactions.iter().any(|transaction| transaction.begun) {
+            return Err(Refusal::UndoWhileOpen);
+        }
+        if !self.undo.held {
+            return Err(Refusal::NothingToUndo);
+        }
+        self.put_back(lent);
+        self.offsets = self.undo.offsets;
+        self.lengths = self.undo.lengths;
+        self.undo = Undo::NONE;
         Ok(())
     }
 
@@ -494,6 +547,7 @@ impl Store {
             && self.lengths.iter().all(|&length| length <= SPAN_16)
             && self.windows.iter().all(|window| window.in_range())
             && self.transactions.iter().all(|transaction| !transaction.begun || transaction.in_range())
+            && self.undo.in_range()
     }
 
     // Settling.
@@ -643,49 +697,68 @@ impl Store {
         Ok(())
     }
 
-    /// Lands the writes in call order and answers which other open transactions have sighted a byte just set (a bit for
-    /// each).
+    /// Holds where the writes of a transaction will land, and the offsets and lengths before that.
+    fn hold(&mut self, t: usize) {
+        let Store { offsets, lengths, transactions, undo, .. } = self;
+        let log = &transactions[t].log;
+        undo.held = true;
+        undo.log.records.clear();
+        undo.log.records.extend(log.records.iter().map(|record| record.landed(offsets)));
+        undo.log.bytes = log.bytes;
+        undo.offsets = *offsets;
+        undo.lengths = *lengths;
+    }
+
+    /// Lands the writes just held, in call order, each after its old bytes are kept in the undo buffer. Answers which other
+    /// open transactions have sighted a byte just set (a bit for each).
     fn land(&self, lent: &mut Lent, t: usize) -> u8 {
         let mut sighters = 0;
-        let mut data = SPAN * t;
-        for record in &self.transactions[t].log.records {
-            let (file, place) = self.landing_place(record);
-            let length = usize::from(record.length);
-            let start = SPAN * file + usize::from(place);
-            lent.files[start..start + length].copy_from_slice(&lent.logs[data..data + length]);
+        let mut data = 0;
+        for record in &self.undo.log.records {
+            let landing = self.landing(record);
+            let length = landing.len();
+            lent.undo[data..data + length].copy_from_slice(&lent.files[landing.clone()]);
+            lent.files[landing.clone()].copy_from_slice(&lent.logs[SPAN * t + data..][..length]);
             for u in (0..TRANSACTIONS).filter(|&u| u != t && self.transactions[u].begun) {
-                sighters |= u8::from(marks::any(lent.marks, u, start..start + length)) << u;
+                sighters |= u8::from(marks::any(lent.marks, u, landing.clone())) << u;
             }
             data += length;
         }
         sighters
     }
 
-    /// Raises the length of each file to the ends of the writes of at least one byte, before any offset is set, and
-    /// answers which lengths were raised (a bit for each file).
-    fn raise_lengths(&mut self, t: usize) -> u8 {
-        let mut lengths = self.lengths;
+    /// Puts the old bytes back, from the last write to the first.
+    fn put_back(&self, lent: &mut Lent) {
+        let mut data = usize::from(self.undo.log.bytes);
+        for record in self.undo.log.records.iter().rev() {
+            let landing = self.landing(record);
+            data -= landing.len();
+            lent.files[landing.clone()].copy_from_slice(&lent.undo[data..data + landing.len()]);
+        }
+    }
+
+    /// The bytes of the files buffer on which a write with a place lands.
+    pub fn landing(&self, record: &WriteRecord) -> Range<usize> {
+        let Place::At(place) = record.place else {
+            unreachable!("what is held has a place");
+        };
+        let start = SPAN * usize::from(self.files[usize::from(record.descriptor)]) + usize::from(place);
+        start..start + usize::from(record.length)
+    }
+
+    /// Raises the length of each file to the ends of the writes just held that have a byte, and answers which lengths were
+    /// raised (a bit for each file).
+    fn raise_lengths(&mut self) -> u8 {
         let mut raised = 0;
-        for record in self.transactions[t].log.records.iter().filter(|record| record.length > 0) {
-            let (file, place) = self.landing_place(record);
-            let end = place + record.length;
-            if end > lengths[file] {
-                lengths[file] = end;
+        for record in self.undo.log.records.iter().filter(|record| record.length > 0) {
+            let file = usize::from(self.files[usize::from(record.descriptor)]);
+            let end = record.end() as u16;
+            if end > self.lengths[file] {
+                self.lengths[file] = end;
                 raised |= 1 << file;
             }
         }
-        self.lengths = lengths;
         raised
-    }
-
-    /// The file and place where a write lands.
-    fn landing_place(&self, record: &WriteRecord) -> (usize, u16) {
-        let d = usize::from(record.descriptor);
-        let place = match record.place {
-            Place::At(place) => place,
-            Place::After(advance) => self.offsets[d] + advance,
-        };
-        (usize::from(self.files[d]), place)
     }
 
     /// Sets the committed offsets and answers which were set (a bit for each descriptor).

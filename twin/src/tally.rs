@@ -1,13 +1,14 @@
 //! How often each outcome, and each case of interest, was met.
 
 use std::io::{self, Write};
+use std::ops::Range;
 
 use crate::call::{Action, Answer, Outcome, Refusal, Reply, Step};
-use crate::plain::{Committed, Course, Item, Machine, Place, Window};
-use crate::store::{Store, Transaction, FILES};
+use crate::plain::{Committed, Course, Item, Machine, Place, Window, Windows};
+use crate::store::{Store, Transaction, FILES, SPAN};
 
 /// The highest number of a refusal.
-const REFUSALS: usize = 22;
+const REFUSALS: usize = 24;
 
 #[derive(Clone, Debug, Default)]
 pub struct Tally {
@@ -54,6 +55,14 @@ pub struct Tally {
     closed_without_room: u64,
     /// Commits of a stale transaction refused with 22.
     stale_without_minute: u64,
+    /// Grants taken back; with own writes that overlap; that had raised a length; without a byte; with a byte in a file that
+    /// is not always open; after another transaction's end or a refused Commit.
+    undone: u64,
+    undone_overlapping: u64,
+    undone_raising: u64,
+    undone_empty: u64,
+    undone_in_window: u64,
+    undone_after_end: u64,
 }
 
 impl Tally {
@@ -129,6 +138,21 @@ impl Tally {
         self.granted_at_start += any(&|window| window.start != window.end && window.start == minute);
     }
 
+    /// A grant was taken back whose writes had landed on these parts of the files buffer. Did a length go down, and has a
+    /// transaction ended since it?
+    pub fn count_undo(&mut self, windows: &Windows, landed: &[Range<usize>], lowered: bool, ended_since: bool) {
+        let landed: Vec<_> = landed.iter().filter(|bytes| !bytes.is_empty()).collect();
+        let overlap = |one: &Range<usize>, other: &Range<usize>| one.start < other.end && other.start < one.end;
+        let overlapping = |k: usize| landed[..k].iter().any(|earlier| overlap(earlier, landed[k]));
+        let in_window = |bytes: &&Range<usize>| windows[bytes.start / SPAN].start != windows[bytes.start / SPAN].end;
+        self.undone += 1;
+        self.undone_overlapping += u64::from((0..landed.len()).any(overlapping));
+        self.undone_raising += u64::from(lowered);
+        self.undone_empty += u64::from(landed.is_empty());
+        self.undone_in_window += u64::from(landed.iter().any(in_window));
+        self.undone_after_end += u64::from(ended_since);
+    }
+
     /// A Commit that was refused, and left its transaction open if it was.
     pub fn count_kept_open(&mut self, machine: &Machine, t: usize, minute: usize, refusal: Refusal) {
         let Some(Some(transaction)) = machine.open.get(t) else { return };
@@ -179,6 +203,12 @@ impl Tally {
         writeln!(out, "closed in the minute in which a window ends {}", self.closed_at_end)?;
         writeln!(out, "closed for writes without a place alone {}", self.closed_unplaced)?;
         writeln!(out, "closed, and without room too {}", self.closed_without_room)?;
-        writeln!(out, "stale, with a minute above 1,439 {}", self.stale_without_minute)
+        writeln!(out, "stale, with a minute above 1,439 {}", self.stale_without_minute)?;
+        writeln!(out, "taken back {}", self.undone)?;
+        writeln!(out, "taken back, own writes overlap {}", self.undone_overlapping)?;
+        writeln!(out, "taken back, a length goes down {}", self.undone_raising)?;
+        writeln!(out, "taken back, without a byte {}", self.undone_empty)?;
+        writeln!(out, "taken back in a file that isn't always open {}", self.undone_in_window)?;
+        writeln!(out, "taken back after another end or a refused commit {}", self.undone_after_end)
     }
 }

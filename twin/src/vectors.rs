@@ -1,7 +1,7 @@
 //! Lists of calls with the replies that they must get, from a file, run on store and plain machine side by side.
 //!
-//! A line is a call, ` -> ` and its reply, in words with one space between. A list starts with `fresh`. An indented line
-//! at its end names a part of the state and says what is in it. Bytes are hexadecimal pairs, and `hh*n` is n bytes hh;
+//! A line is a call, ` -> ` and its reply, in words with one space between. A list starts with `fresh`, on buffers that are
+//! all 0. An indented line at its end names a part of the state and says what is in it. Bytes are hexadecimal pairs, and `hh*n` is n bytes hh;
 //! pieces are joined by `.`, and stand apart in an indented line; `-` is none. A word may be several numbers, with commas
 //! between. A commit without a minute is one at minute 0.
 
@@ -29,11 +29,15 @@ pub fn run(text: &str) -> Report {
     let mut report = Report::default();
     let mut pair = Pair::new();
     let mut agrees = true;
+    let mut ended = true;
     for (line, number) in text.lines().zip(1..) {
-        if line.starts_with("fresh ") {
+        if line.starts_with("fresh ") && ended {
+            pair.check_at_rest();
+            pair = Pair::new();
             report.lists += 1;
             agrees = true;
         }
+        ended = line.starts_with(' ');
         report.calls += usize::from(!line.starts_with(' '));
         if !agrees {
             continue;
@@ -84,6 +88,7 @@ fn reply(pair: &mut Pair, words: &[&str]) -> Option<Vec<Word>> {
             Call::Places { transaction: number(t)?, file: number(file)?, buffer: bytes(buffer)? }
         }
         ["window", file, start, end] => Call::Window { file: number(file)?, start: number(start)?, end: number(end)? },
+        ["undo"] => Call::Undo,
         _ => return None,
     };
     Some(said(pair.call(&call, None)))
@@ -109,6 +114,7 @@ fn part(pair: &Pair, name: &str) -> Option<Word> {
     match name {
         "files" => Some(Word::Bytes(pair.state.buffers.files.clone())),
         "offsets" => Some(Word::Numbers(pair.state.store.offsets.map(u64::from).to_vec())),
+        "undo" => Some(Word::Bytes(pair.state.buffers.undo.clone())),
         "lengths" => Some(Word::Numbers(pair.state.store.lengths.map(u64::from).to_vec())),
         _ => None,
     }
@@ -194,7 +200,7 @@ commit 18446744073709551615 -> refused 3
 
     #[test]
     fn what_is_not_known_disagrees() {
-        for line in ["undo -> done", "commit 0", "  windows 0", "  lengths 0"] {
+        for line in ["redo -> done", "commit 0", "  windows 0", "  lengths 0"] {
             let report = run(&LIST.replace("commit 0 -> granted 0", line));
             assert_eq!(report.disagreements.len(), 1, "{line}");
         }

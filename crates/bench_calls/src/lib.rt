@@ -56,7 +56,7 @@ fn named<'a>(data: &'a [u8], from: usize, n: usize) -> &'a [u8] {
     parts::part(data, from, n)
 }
 
-// The call of a step that is no Fresh. A kind above 7 is an Abort too.
+// The call of a step that is no Fresh. A kind above 8 is an Abort too.
 fn request(s: Step) -> Request {
     let kind = s.kind;
     match kind {
@@ -66,6 +66,7 @@ fn request(s: Step) -> Request {
         4 => Request::GetFilePointer(s.t, s.d),
         5 => Request::Read(s.t, s.d, s.n),
         6 => Request::Commit(s.t, MINUTE),
+        8 => Request::TakeBack,
         _ => Request::Abort(s.t),
     }
 }
@@ -76,15 +77,16 @@ fn made(
     files: &mut [u8],
     logs: &mut [u8],
     marks: &mut [u8],
+    undo: &mut [u8],
     s: Step,
     data: &[u8],
     reader: &mut [u8],
 ) -> Outcome {
     let bytes = named(data, s.from, s.n);
     if s.kind == 0 {
-        return store::fresh(kept, files, logs, marks, bytes);
+        return store::fresh(kept, files, logs, marks, undo, bytes);
     }
-    requests::perform(kept, files, logs, marks, request(s), bytes, reader)
+    requests::perform(kept, files, logs, marks, undo, request(s), bytes, reader)
 }
 
 // An outcome as one octet: 0 done, 1 an offset, 2 a count of bytes, 3 granted, 4 a count of pairs, and 10 more than a
@@ -133,6 +135,7 @@ fn pass(
     files: &mut [u8],
     logs: &mut [u8],
     marks: &mut [u8],
+    undo: &mut [u8],
     script: &[u8],
     data: &[u8],
     reader: &mut [u8],
@@ -146,7 +149,7 @@ fn pass(
         let s = step_at(script, start);
         start += STEP;
         i += 1;
-        let o = made(kept, files, logs, marks, s, data, reader);
+        let o = made(kept, files, logs, marks, undo, s, data, reader);
         sum = std::num::wrapping_add_u64(sum, answered(o));
         note(said, at, code(o));
     }
@@ -161,6 +164,7 @@ pub extern "C" fn bench_calls_run(
     files: &mut [u8],
     logs: &mut [u8],
     marks: &mut [u8],
+    undo: &mut [u8],
     script: &[u8],
     data: &[u8],
     reader: &mut [u8],
@@ -173,7 +177,7 @@ pub extern "C" fn bench_calls_run(
     while i < rounds {
         stamp(stamps, i);
         i += 1;
-        let told = pass(kept, files, logs, marks, script, data, reader, said);
+        let told = pass(kept, files, logs, marks, undo, script, data, reader, said);
         sum = std::num::wrapping_add_u64(sum, told);
     }
     sum

@@ -11,30 +11,34 @@ use native.Mathlib.Omega.{arith}
 use Prim.Native.Nat.{ℕ, zero, suc, _+_, _<_}
 use Rattle.windows.specs.Hours.{minuteIn}
 use Rattle.octets.specs.Bits.{bitsOf}
-use Rattle.octets.specs.Parts.{tabulate}
+use Rattle.octets.specs.Parts.{pasted, tabulate}
 use Rattle.octets.specs.Marks.{withoutMarks, contains}
 use Rattle.octets.proofs.SetLaws.{contains-bits, ones-bits}
 use Rattle.octets.proofs.TableLaws.{length-tabulate, table-same}
+use Rattle.counters.specs.declared.Used.{Used}
+use Rattle.record.specs.declared.Undo.{Undo}
 use Rattle.record.specs.declared.Store.{Store}
 use Rattle.record.specs.declared.Transaction.{Transaction}
 use Rattle.record.specs.declared.outcomes.Refusal.the-variants.{Stale}
 use Rattle.record.specs.declared.outcomes.Outcome.the-variants.{Granted, Refused}
-use Rattle.record.specs.State.{transaction, noTransaction, windowAt, ended, withStale, withOffsets, withLengths, withTransactions, withTransaction}
+use Rattle.record.specs.State.{transaction, noTransaction, windowAt, ended, withStale, withOffsets, withLengths, withUndo, withTransactions, withTransaction}
 use Rattle.record.specs.Layout.{storeOf, journalOf, withStaleAt, resetAt, recordLength}
 use Rattle.record.specs.Paper.{Said, plain, pointer, given, granted, pairs, refused, number, said}
 use Rattle.record.proofs.LayoutLaws.{transaction-of, length-with-stale, store-with-stale, journal-with-stale, store-reset, journal-reset}
 use Rattle.record.proofs.Filled.{filled, filled-set, filled-kept}
-use Rattle.ranges.specs.Ranges.{admission}
+use Rattle.ranges.specs.Ranges.{lengthsBefore, admission}
 use Rattle.rules.specs.Windows.{forClosed}
 use Rattle.rules.specs.Commits.{Setting, commitRefusal}
 use Rattle.rules.specs.Messages.{commit}
 use Rattle.rules.specs.Machine.{Machine, lent, sizes, fileOf, txnOf}
 use Rattle.rules.specs.Calls.{Turn, turnDown, reset, passing, admitted, landFiles, landOffsets, landLengths, conflicts, staled, afterCommit, becomesStale, commitDecided, commitGranted, settingsOf, commitTurn, formerNumber, call}
+use Rattle.rules.specs.Undo.{keepingFound}
 use Rattle.rules.specs.Promises.{Meets, machineOf, LeftAsFound}
 use Rattle.laws.proofs.Shapes.{shaped}
 use Rattle.landing.specs.Landing.{placesFit, withOffsetsOf, bytesSetIn, lengthsLandedIn, CanLandIn, Means}
+use Rattle.landing.specs.Keeping.{oldBytesIn, keptRecords, GrantKept}
 use Rattle.landing.proofs.OffsetLaws.{offsetsSet}
-use Rattle.landing.proofs.Landed.{allSet, fits-is, files-are, offsets-are, lengths-are}
+use Rattle.landing.proofs.Landed.{allSet, fits-is, files-are, offsets-are, old-are, lengths-are, records-are, counters-are}
 use Rattle.conflicts.specs.Staling.{staleBy}
 use Rattle.committing.specs.Granting.{CanGrant, grantTurn, staleIn, withStaleIn}
 use Rattle.refusing.proofs.Turns.{passing-on}
@@ -79,16 +83,16 @@ module _ (t minute : ℕ) (m : Machine) where
 
 -- ---- a stale transaction ends
 
-pub stale-follows : (kept files logs marks after unmarked : List ℕ) (t : ℕ) (w : Turn) → length kept ≡ recordLength → t < 8
-    → w ≡ record { reply = record { answer = refused 13; buffer = [] }; after = reset t ended (machineOf kept files logs marks) }
+pub stale-follows : (kept files logs marks undo after unmarked : List ℕ) (t : ℕ) (w : Turn) → length kept ≡ recordLength → t < 8
+    → w ≡ record { reply = record { answer = refused 13; buffer = [] }; after = reset t ended (machineOf kept files logs marks undo) }
     → after ≡ resetAt kept t false → unmarked ≡ withoutMarks t marks
-    → Meets w (Refused Stale) (machineOf after files logs unmarked) [] × LeftAsFound (Refused Stale) kept after
+    → Meets w (Refused Stale) (machineOf after files logs unmarked undo) [] × LeftAsFound (Refused Stale) kept after
 unfolding reset said ended
-stale-follows kept files logs marks after unmarked t w long small e r u = (
+stale-follows kept files logs marks undo after unmarked t w long small e r u = (
   rw (e, u) (record {
     outcome = refl;
     machine =
-        ap₂ (λ (s : Store) (j : List ℕ). lent s j files logs (withoutMarks t marks)) (ap storeOf r ∙ store-reset kept t long small false) (ap journalOf r ∙ journal-reset kept t long small false);
+        ap₂ (λ (s : Store) (j : List ℕ). lent s j files logs (withoutMarks t marks) undo) (ap storeOf r ∙ store-reset kept t long small false) (ap journalOf r ∙ journal-reset kept t long small false);
     reader = refl;
   }),
   λ q f n. let same : Stale ≡ q = cc in absurd (n (ap number (sym same))),
@@ -181,10 +185,11 @@ module _ (s : Store) (marks : List ℕ) (ss : List Setting) (t octet : ℕ) (sma
     transactions-are = table-same _ _ 8 after-same
 
 -- What the grant leaves, part by part.
-module _ (kept files logs marks : List ℕ) (t : ℕ) (x : Transaction) (can : CanGrant kept files logs marks t x)
+module _ (kept files logs marks undo : List ℕ) (t : ℕ) (x : Transaction) (can : CanGrant kept files logs marks undo t x)
     (octet : ℕ) (says : (files logs : List ℕ) → length logs ≡ 32768 → octet ≡ staleBy kept files logs marks t)
     (lengths : List ℕ) (lengthsAre : lengths ≡ lengthsLandedIn kept t (x .used .records))
-    (raised : List ℕ) (raises : Means kept raised (withLengths lengths (storeOf kept)))
+    (holding : List ℕ) (holds : GrantKept kept holding t (x .used))
+    (raised : List ℕ) (raises : Means holding raised (withLengths lengths (storeOf holding)))
     (placed : List ℕ) (places : Means raised placed (withOffsetsOf x (storeOf raised)))
     (closed : List ℕ) (ends : closed ≡ resetAt placed t false)
     (after : List ℕ) (stales : Means closed after (withStaleIn octet (storeOf closed)))
@@ -195,50 +200,97 @@ module _ (kept files logs marks : List ℕ) (t : ℕ) (x : Transaction) (can : C
     abbrev ss : List Setting
     ss = allSet s (journalOf kept) files logs t
 
+    -- What is held, and the store with it.
+    abbrev held : Undo
+    held = record { held = true; used = x .used; offsets = s .offsets; lengths = s .lengths }
+
     own-is : transaction s t ≡ x
     own-is = transaction-of kept t (can .lands .small) ∙ sym (can .own)
 
-    closed-is : storeOf closed ≡ withTransaction t ended (withOffsetsOf x (withLengths lengths s))
+    closed-is : storeOf closed ≡ withTransaction t ended (withOffsetsOf x (withLengths lengths (withUndo held s)))
     unfolding ended
     closed-is =
         ap storeOf ends
         ∙ store-reset placed t (places .long) (can .lands .small) false
-        ∙ ap (withTransaction t ended) (places .store ∙ ap (withOffsetsOf x) (raises .store))
+        ∙ ap (withTransaction t ended) (places .store ∙ ap (withOffsetsOf x) (raises .store ∙ ap (withLengths lengths) (holds .store)))
 
-    journal-is : journalOf after ≡ journalOf kept
+    journal-is : journalOf after ≡ keptRecords kept t (x .used .records)
     journal-is =
-        stales .journal ∙ ap journalOf ends ∙ journal-reset placed t (places .long) (can .lands .small) false ∙ places .journal ∙ raises .journal
+        stales .journal
+        ∙ ap journalOf ends
+        ∙ journal-reset placed t (places .long) (can .lands .small) false
+        ∙ places .journal
+        ∙ raises .journal
+        ∙ holds .journal
 
     offsets-is : landOffsets ss (s .offsets) ≡ withOffsetsOf x s .offsets
     offsets-is = offsets-are s (journalOf kept) files logs t ∙ ap (λ (y : Transaction). offsetsSet y (s .offsets) 16) own-is
 
+    -- Its writes land, as the transaction in the record has them.
+    lands-own : CanLandIn kept t (transaction s t .used .records)
+    lands-own = subst (λ (y : Transaction). CanLandIn kept t (y .used .records)) (sym own-is) (can .lands)
+
     lengths-is : landLengths ss (s .lengths) ≡ lengths
     lengths-is =
-        lengths-are s (journalOf kept) files logs t (subst (λ (y : Transaction). CanLandIn kept t (y .used .records)) (sym own-is) (can .lands)) (can .logsLength) (shaped kept .lengths)
+        lengths-are s (journalOf kept) files logs t lands-own (can .logsLength) (shaped kept .lengths)
         ∙ ap (λ (y : Transaction). lengthsLandedIn kept t (y .used .records)) own-is
         ∙ sym lengthsAre
 
-    store-is : storeOf after ≡ withOffsets (landOffsets ss (s .offsets)) (withLengths (landLengths ss (s .lengths)) (withTransactions (tabulate (afterCommit t marks ss s) 8) s))
+    -- The store that keeps what the grant finds, as the rules have it.
+    abbrev keeping : Machine
+    keeping = keepingFound (txnOf s (journalOf kept) logs t) (machineOf kept files logs marks undo)
+
+    bytes-own : lengthsBefore (journalOf kept) t (transaction s t .used .records) ≡ transaction s t .used .bytes
+    bytes-own = subst (λ (y : Transaction). lengthsBefore (journalOf kept) t (y .used .records) ≡ y .used .bytes) (sym own-is) (can .bytes)
+
+    held-is : withUndo held s ≡ keeping .store
+    unfolding keepingFound
+    held-is =
+        ap (λ (u : Used). withUndo (record { held = true; used = u; offsets = s .offsets; lengths = s .lengths }) s)
+        (sym
+        (counters-are s (journalOf kept) files logs t lands-own (can .logsLength) bytes-own ∙ ap (λ (y : Transaction). y .used) own-is))
+
+    records-is : keptRecords kept t (x .used .records) ≡ keeping .journal
+    unfolding keepingFound
+    records-is =
+        ap (λ (y : Transaction). keptRecords kept t (y .used .records)) (sym own-is)
+        ∙ records-are s (journalOf kept) files logs t lands-own (can .logsLength)
+
+    -- A store with these offsets and lengths, and the transactions as they are after the commit.
+    abbrev committed : List ℕ → List ℕ → Store → Store
+    committed os ls q = withOffsets os (withLengths ls (withTransactions (tabulate (afterCommit t marks ss s) 8) q))
+
+    store-is : storeOf after ≡ committed (landOffsets ss (s .offsets)) (landLengths ss (s .lengths)) (keeping .store)
     unfolding withTransaction staleBy
     store-is =
         stales .store
         ∙ ap (withStaleIn octet) closed-is
-        ∙ ap (λ (xs : List Transaction). withTransactions xs (withOffsetsOf x (withLengths lengths s)))
+        ∙ ap (λ (xs : List Transaction). withTransactions xs (withOffsetsOf x (withLengths lengths (withUndo held s))))
         (transactions-are s marks ss t octet (can .lands .small) (shaped kept .transactions) (says files logs (can .logsLength)))
-        ∙ ap₂ (λ (os ls : List ℕ). withOffsets os (withLengths ls (withTransactions (tabulate (afterCommit t marks ss s) 8) s))) (sym offsets-is) (sym lengths-is)
+        ∙ ap₂ (λ (os ls : List ℕ). committed os ls (withUndo held s)) (sym offsets-is) (sym lengths-is)
+        ∙ ap (committed (landOffsets ss (s .offsets)) (landLengths ss (s .lengths))) held-is
 
     pub granted-follows : (landed : List ℕ) → landed ≡ landFiles (bytesSetIn kept logs t (x .used .records)) files
+        → (old : List ℕ) → old ≡ pasted undo 0 (oldBytesIn kept files logs t (x .used .records))
         → (unmarked : List ℕ) → unmarked ≡ withoutMarks t marks
-        → Meets (grantTurn t (machineOf kept files logs marks)) (Granted octet) (machineOf after landed logs unmarked) [] × LeftAsFound (Granted octet) kept after
-    unfolding commitGranted said staleBy
-    granted-follows landed lands unmarked ms =
+        → Meets (grantTurn t (machineOf kept files logs marks undo)) (Granted octet) (machineOf after landed logs unmarked old) []
+        × LeftAsFound (Granted octet) kept after
+    unfolding commitGranted keepingFound said staleBy
+    granted-follows landed lands old olds unmarked ms =
         let files-is : landed ≡ landFiles ss files =
-        lands ∙ ap (λ (y : Transaction). landFiles (bytesSetIn kept logs t (y .used .records)) files) (sym own-is) ∙ sym (files-are s (journalOf kept) files logs t) in (
-          rw (store-is, journal-is, files-is, ms) (record {
+        lands
+        ∙ ap (λ (y : Transaction). landFiles (bytesSetIn kept logs t (y .used .records)) files) (sym own-is)
+        ∙ sym (files-are s (journalOf kept) files logs t) in
+        let old-is =
+        olds
+        ∙ ap (λ (y : Transaction). pasted undo 0 (oldBytesIn kept files logs t (y .used .records))) (sym own-is)
+        ∙ ap (pasted undo 0) (sym (old-are s (journalOf kept) files logs t)) in
+        let noted = journal-is ∙ records-is in (
+          record {
             outcome = ap granted (says files logs (can .logsLength));
-            machine = refl;
+            machine = λ i. lent (store-is i) (noted i) (files-is i) logs (ms i) (old-is i);
             reader = refl;
-          }),
+          },
           λ r e n. cc,
         )
 
@@ -269,7 +321,9 @@ module _ (t : ℕ) (m : Machine) (n : ℕ) where
   abbrev became : ℕ → Bool
   became = becomesStale t (m .marks) (settingsOf m t) (m .store)
 
-  decided-octet : (daily stale shut placed : Bool) → commitDecided t (settingsOf m t) m (commitRefusal daily stale shut placed) .reply .answer ≡ granted n
+  decided-octet : (daily stale shut placed : Bool)
+      → commitDecided t (txnOf (m .store) (m .journal) (m .logs) t) (settingsOf m t) m (commitRefusal daily stale shut placed) .reply .answer
+      ≡ granted n
       → n ≡ bitsOf became 8
   unfolding commitDecided commitRefusal commitGranted octetIn
   decided-octet false stale shut placed e = absurd (not-granted 22 n e)

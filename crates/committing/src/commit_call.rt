@@ -22,12 +22,13 @@ pub fn commit(
     files: &mut [u8],
     logs: &[u8],
     marks: &mut [u8],
+    undo: &mut [u8],
     t: usize,
     minute: usize,
 ) -> Outcome
-    ensures { λ r. ⌜ Follows (call (Call.commit t minute)) kept files logs marks r [] ⌝ }
+    ensures { λ r. ⌜ Follows (call (Call.commit t minute)) kept files logs marks undo r [] ⌝ }
 {
-    let g = ranges::admit(kept, files.len(), logs.len(), marks.len(), t);
+    let g = ranges::admit(kept, files.len(), logs.len(), marks.len(), undo.len(), t);
     if let Gate::Refused(r) = g {
         return Outcome::Refused(r);
     }
@@ -49,5 +50,5 @@ pub fn commit(
     if !places_fit(kept, x) {
         return Outcome::Refused(Refusal::SettledPastEnd);
     }
-    grant(kept, files, logs, marks, t, x)
+    grant(kept, files, logs, marks, undo, t, x)
 }

@@ -1,5 +1,6 @@
 // A commit that is granted.
 use conflicts::stale_by;
+use landing::keeping::keep_grant;
 use landing::lengths::lengths_after;
 use landing::lengths::put_lengths;
 use landing::offsets::put_offsets;
@@ -34,24 +35,26 @@ fn put_stale_in(kept: &mut Record, octet: u8)
     }
 }
 
-// Grants the commit of transaction t, which is x: lands its writes in call order, raises lengths, sets its offsets and
-// ends it. Every other open transaction that has sighted a byte, offset or length just set is stale from then on; the
-// answer is the octet of those that were not so before.
+// Grants the commit of transaction t, which is x: lands its writes in call order, keeps what they landed on and what it
+// found, raises lengths, sets its offsets and ends it. Every other open transaction that has sighted a byte, offset or
+// length just set is stale from then on; the answer is the octet of those that were not so before.
 pub fn grant(
     kept: &mut Record,
     files: &mut [u8],
     logs: &[u8],
     marks: &mut [u8],
+    undo: &mut [u8],
     t: usize,
     x: Transaction,
 ) -> Outcome
-    requires { ⌜ CanGrant (now kept) (now files) (now logs) (now marks) t x ⌝ }
-    ensures { λ r. ⌜ Follows (grantTurn t) kept files logs marks r [] ⌝ }
+    requires { ⌜ CanGrant (now kept) (now files) (now logs) (now marks) (now undo) t x ⌝ }
+    ensures { λ r. ⌜ Follows (grantTurn t) kept files logs marks undo r [] ⌝ }
 {
     let octet = stale_by(kept, marks, t);
     let used = x.used;
-    land_writes(kept, files, logs, t, used);
+    land_writes(kept, files, logs, undo, t, used);
     let lengths = lengths_after(kept, t, used);
+    keep_grant(kept, t, used);
     put_lengths(kept, lengths);
     put_offsets(kept, x);
     unmark(marks, t);

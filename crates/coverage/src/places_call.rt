@@ -19,13 +19,15 @@ pub fn places(
     files: &[u8],
     logs: &[u8],
     marks: &[u8],
+    undo: &[u8],
     t: usize,
     f: usize,
     out: &mut [u8],
 ) -> Outcome
-    ensures { λ r. ⌜ Follows (call (Call.places t f (now (out .entry)))) kept files logs marks r (now (out .exit)) ⌝ }
+    ensures { λ r. ⌜ Follows (call (Call.places t f (now (out .entry)))) kept files logs marks undo r
+        (now (out .exit)) ⌝ }
 {
-    let g = ranges::admit(kept, files.len(), logs.len(), marks.len(), t);
+    let g = ranges::admit(kept, files.len(), logs.len(), marks.len(), undo.len(), t);
     if let Gate::Refused(r) = g {
         return Outcome::Refused(r);
     }

@@ -1,12 +1,12 @@
--- A refusal's number is at most 22.
+-- A refusal's number is at most 24.
 use mathlib.Core.Path.{_≡_}
 use Prim.Native.Nat.{ℕ, _≤_}
 use native.Mathlib.Omega.{arith}
 use Rattle.record.specs.Paper.{number}
 use Rattle.record.specs.declared.outcomes.Refusal.{Refusal}
-use Rattle.record.specs.declared.outcomes.Refusal.the-variants.{BufferLength, RecordRange, NoSuchTransaction, NotOpen, AlreadyOpen, NoSuchTarget, ReaderTooShort, SeekPastEnd, WritePastEnd, RecordsFull, LogFull, SettledPastEnd, Stale, NoSuchFile, NoPlaceYet, ListTooLong, BadLine, StaleReader, FileClosed, NoSuchMinute}
+use Rattle.record.specs.declared.outcomes.Refusal.the-variants.{BufferLength, RecordRange, NoSuchTransaction, NotOpen, AlreadyOpen, NoSuchTarget, ReaderTooShort, SeekPastEnd, WritePastEnd, RecordsFull, LogFull, SettledPastEnd, Stale, NoSuchFile, NoPlaceYet, ListTooLong, BadLine, StaleReader, FileClosed, NoSuchMinute, StillOpen, NoGrant}
 
-number-bound : (r : Refusal) → number r ≤ 22
+number-bound : (r : Refusal) → number r ≤ 24
 number-bound BufferLength = omega arith
 number-bound RecordRange = omega arith
 number-bound NoSuchTransaction = omega arith
@@ -27,6 +27,8 @@ number-bound BadLine = omega arith
 number-bound StaleReader = omega arith
 number-bound FileClosed = omega arith
 number-bound NoSuchMinute = omega arith
+number-bound StillOpen = omega arith
+number-bound NoGrant = omega arith
 
-pub bounded : (r : Refusal) (n : ℕ) → n ≡ number r → n ≤ 22
+pub bounded : (r : Refusal) (n : ℕ) → n ≡ number r → n ≤ 24
 bounded r n e = omega (arith, e, number-bound r)

@@ -5,14 +5,20 @@ use record::DESCRIPTORS;
 use record::FILES;
 use record::TRANSACTIONS;
 use record::Transaction;
+use record::journal::GRANT;
 use record::journal::RECORDS;
 use record::journal::WriteRecord;
 use record::journal::record_at;
+use record::layout::FOUND;
 use record::layout::Record;
 use record::layout::file_at;
+use record::layout::found_length_at;
+use record::layout::found_offset_at;
+use record::layout::is_held;
 use record::layout::length_at;
 use record::layout::offset_at;
 use record::layout::transaction_at;
+use record::layout::undo_used;
 use record::layout::window_at;
 use record::outcomes::Outcome;
 use standings::Place;
@@ -192,10 +198,65 @@ fn committed_taken(h: usize, kept: &Record) -> usize
     out
 }
 
+// The write records of the last grant, at most 64: descriptor, place and length of each.
+fn landed_taken(h: usize, kept: &Record, n: usize) -> usize
+    requires { ⌜ Digest h ⌝ }
+    ensures { λ r. ⌜ Digest r ⌝ }
+{
+    let records = smaller(n, RECORDS);
+    let mut out = h;
+    let mut k = 0;
+    while k < records {
+        let w = record_at(kept, GRANT, k);
+        let place = w.place;
+        out = three_taken(out, w.descriptor, place.number(), w.length);
+        k += 1;
+    }
+    out
+}
+
+// What the last grant found, number by number: the offsets of the descriptors, then the lengths of the files.
+fn found_at(kept: &Record, i: usize) -> u16
+    requires { ⌜ i < 24 ⌝ }
+{
+    if i < DESCRIPTORS {
+        return found_offset_at(kept, i);
+    }
+    found_length_at(kept, i - DESCRIPTORS)
+}
+
+fn found_taken(h: usize, kept: &Record) -> usize
+    requires { ⌜ Digest h ⌝ }
+    ensures { λ r. ⌜ Digest r ⌝ }
+{
+    let mut out = h;
+    let mut i = 0;
+    while i < FOUND {
+        out = taken(out, found_at(kept, i));
+        i += 1;
+    }
+    out
+}
+
+// What is held of the last grant: whether anything is and, where it is, its counters, its records and what it found.
+fn undo_taken(h: usize, kept: &Record) -> usize
+    requires { ⌜ Digest h ⌝ }
+    ensures { λ r. ⌜ Digest r ⌝ }
+{
+    if !is_held(kept) {
+        return taken(h, 0);
+    }
+    let used = undo_used(kept);
+    let records = smaller(used.records, 65535);
+    let counters = taken(taken(taken(h, 1), records as u16), used.bytes);
+    found_taken(landed_taken(counters, kept, records), kept)
+}
+
 // The digest of a state: what the record says, however it is arranged, then the store buffers.
-pub fn of_state(kept: &Record, files: &[u8], logs: &[u8], marks: &[u8]) -> usize {
-    let all = transactions_taken(committed_taken(0, kept), kept);
-    octets_taken(octets_taken(octets_taken(all, files), logs), marks)
+pub fn of_state(kept: &Record, files: &[u8], logs: &[u8], marks: &[u8], undo: &[u8]) -> usize {
+    let all = undo_taken(transactions_taken(committed_taken(0, kept), kept), kept);
+    let shared = octets_taken(octets_taken(octets_taken(all, files), logs), marks);
+    octets_taken(shared, undo)
 }
 
 // Takes in an outcome, and the buffer lent for the answer, after the call.

@@ -33,7 +33,7 @@ pub fn number(o: Outcome) -> u16 {
 
 // Which of the counts an outcome adds to.
 fn place(o: Outcome) -> usize
-    ensures { λ r. ⌜ r < 27 ⌝ }
+    ensures { λ r. ⌜ r < 29 ⌝ }
 {
     match o {
         Outcome::Done => 0,

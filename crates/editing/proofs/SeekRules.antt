@@ -55,21 +55,21 @@ module _ (t d v : ℕ) (m : Machine) (passes : admission (sizes m) (m .store) (m
         machine =
             sym
             (ap (λ (w : Turn). w .after) e
-            ∙ ap₂ (λ (s : Store) (j : List ℕ). lent s j (m .files) (m .logs) (m .marks))
+            ∙ ap₂ (λ (s : Store) (j : List ℕ). lent s j (m .files) (m .logs) (m .marks) (m .undo))
             (txn-dirtied (m .store) (m .journal) (m .logs) t o d z (omega arith))
             (writes-same (m .store) (m .journal) (m .logs) t o));
         reader = sym (ap (λ (w : Turn). w .reply .buffer) e);
       }
 
 -- The record with descriptor d put back, as the code puts it.
-module _ (t d v : ℕ) (kept files logs marks : List ℕ) (long : length kept ≡ recordLength) (few : d ≤ 15) (fits : v ≤ 4096) where
+module _ (t d v : ℕ) (kept files logs marks undo : List ℕ) (long : length kept ≡ recordLength) (few : d ≤ 15) (fits : v ≤ 4096) where
   abbrev handedOver : Machine
-  handedOver = machineOf kept files logs marks
+  handedOver = machineOf kept files logs marks undo
 
   pub seek-follows : admission (sizes handedOver) (storeOf kept) (journalOf kept) t ≡ 0 → LetThrough handedOver t → transaction (storeOf kept) t .begun ≡ true
       → (z y : Standing) → z ≡ standingAt (transactionOf kept t) d → y ≡ afterSeek v z
       → (after : List ℕ) → after ≡ withDescriptorAt kept t d (record { standing = y; dirty = true })
-      → Meets (call (on t (seek d v)) handedOver) Done (machineOf after files logs marks) [] × LeftAsFound Done kept after
+      → Meets (call (on t (seek d v)) handedOver) Done (machineOf after files logs marks undo) [] × LeftAsFound Done kept after
   seek-follows passes through begun z y is-z is-y after is-after =
       let small = through .small in
       let x = transaction (storeOf kept) t in

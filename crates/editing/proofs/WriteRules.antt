@@ -97,7 +97,7 @@ module _ (t d n : ℕ) (z : Standing) (used : Used) (kept : List ℕ) (long : le
       let long-two : length two ≡ recordLength = ap length is-two ∙ length-with-used one t long-one small u ∙ long-one in
       let store-two : storeOf two ≡ withTransaction t (withUsed u x) (storeOf kept) =
       ap storeOf is-two ∙ store-with-used one t long-one small u
-      ∙ ap (λ (s : Store). withTransaction t (withUsed u (transaction s t)) s) (ap storeOf is-one ∙ store-with-record kept long t (used .records) w small room) in (
+      ∙ ap (λ (s : Store). withTransaction t (withUsed u (transaction s t)) s) (ap storeOf is-one ∙ store-with-record kept long t (used .records) w (omega (arith, small)) room) in (
         ap storeOf is-three ∙ store-with-descriptor two t d q long-two small few
             ∙ ap (λ (s : Store). withTransaction t (described (transaction s t)) s) store-two
             ∙ put-twice (storeOf kept) t (withUsed u x) described (eight kept t small)
@@ -105,7 +105,7 @@ module _ (t d n : ℕ) (z : Standing) (used : Used) (kept : List ℕ) (long : le
             (both-counters u _ _ is-records is-bytes) is-y,
         ap journalOf is-three ∙ journal-with-descriptor two t d q long-two small few
             ∙ ap journalOf is-two ∙ journal-with-used one t long-one small u
-            ∙ ap journalOf is-one ∙ journal-with-record kept long t (used .records) w small room
+            ∙ ap journalOf is-one ∙ journal-with-record kept long t (used .records) w (omega (arith, small)) room
             ∙ ap (λ (e : Place). withRecordAt (journalOf kept) t (used .records) (record { descriptor = d; place = e; length = n })) is-p,
       )
 
@@ -151,7 +151,7 @@ module _ (t d : ℕ) (bytes : List ℕ) (m : Machine) (passes : admission (sizes
       -- the log directly after the data used.
       write-meets : let z = standingAt (transaction (m .store) t) d in
           Meets (call (on t (write d bytes)) m) Done
-          (lent (storeWritten t d z used (length bytes) (m .store)) (journalWritten t d z used (length bytes) (m .journal)) (m .files) (pasted (m .logs) (4096 * t + used .bytes) bytes) (m .marks)) []
+          (lent (storeWritten t d z used (length bytes) (m .store)) (journalWritten t d z used (length bytes) (m .journal)) (m .files) (pasted (m .logs) (4096 * t + used .bytes) bytes) (m .marks) (m .undo)) []
       unfolding said logged written recordOf txnOf storeWritten journalWritten
       write-meets =
           let y = txnOf (m .store) (m .journal) (m .logs) t in
@@ -161,7 +161,7 @@ module _ (t d : ℕ) (bytes : List ℕ) (m : Machine) (passes : admission (sizes
             machine =
                 sym
                 (ap (λ (w : Turn). w .after) e
-                ∙ ap₂ (λ (s : Store) (j : List ℕ). lent s j (m .files) (pasted (m .logs) (4096 * t + used .bytes) bytes) (m .marks))
+                ∙ ap₂ (λ (s : Store) (j : List ℕ). lent s j (m .files) (pasted (m .logs) (4096 * t + used .bytes) bytes) (m .marks) (m .undo))
                 (txn-written (m .store) (m .journal) (m .logs) t o d bytes (omega arith))
                 (writes-more (m .store) (m .journal) (m .logs) t o _));
             reader = sym (ap (λ (w : Turn). w .reply .buffer) e);
@@ -170,17 +170,17 @@ module _ (t d : ℕ) (bytes : List ℕ) (m : Machine) (passes : admission (sizes
 -- ---- with what the code reads
 
 -- A Write that its first tests have let through, the standing of d and the counters as they were read.
-pub record Reached (t d : ℕ) (kept files logs marks : List ℕ) (z : Standing) (used : Used) : Type 0 where
+pub record Reached (t d : ℕ) (kept files logs marks undo : List ℕ) (z : Standing) (used : Used) : Type 0 where
   pub low : d ≤ 15
-  pub passes : admission (sizes (machineOf kept files logs marks)) (storeOf kept) (journalOf kept) t ≡ 0
-  pub through : LetThrough (machineOf kept files logs marks) t
+  pub passes : admission (sizes (machineOf kept files logs marks undo)) (storeOf kept) (journalOf kept) t ≡ 0
+  pub through : LetThrough (machineOf kept files logs marks undo) t
   pub begun : transaction (storeOf kept) t .begun ≡ true
   pub reads-standing : z ≡ standingAt (transactionOf kept t) d
   pub reads-used : used ≡ transactionOf kept t .used
 
-module _ {t d : ℕ} {kept files logs marks : List ℕ} {z : Standing} {used : Used} (a : Reached t d kept files logs marks z used) where
+module _ {t d : ℕ} {kept files logs marks undo : List ℕ} {z : Standing} {used : Used} (a : Reached t d kept files logs marks undo z used) where
   abbrev handedOver : Machine
-  handedOver = machineOf kept files logs marks
+  handedOver = machineOf kept files logs marks undo
 
   open-here : Opened (storeOf kept) (journalOf kept) logs t
   open-here = opened handedOver t (shaped kept) (length-journal kept) (a .through) (a .begun)
@@ -203,6 +203,6 @@ module _ {t d : ℕ} {kept files logs marks : List ℕ} {z : Standing} {used : U
   pub write-follows : (bytes : List ℕ) → Room (writePlace z) used (length bytes)
       → (after filled : List ℕ) → filled ≡ pasted logs (4096 * t + used .bytes) bytes
       → storeOf after ≡ storeWritten t d z used (length bytes) (storeOf kept) → journalOf after ≡ journalWritten t d z used (length bytes) (journalOf kept)
-      → Meets (call (on t (write d bytes)) handedOver) Done (machineOf after files filled marks) [] × LeftAsFound Done kept after
+      → Meets (call (on t (write d bytes)) handedOver) Done (machineOf after files filled marks undo) [] × LeftAsFound Done kept after
   write-follows bytes room after filled is-filled is-store is-journal =
       (rw (is-store, is-journal, is-filled, is-standing, is-used) (write-meets t d bytes handedOver (a .passes) open-here (a .low) (rw (is-standing, is-used) at room)), done-follows kept after)

@@ -75,13 +75,14 @@ pub fn write(
     files: &[u8],
     logs: &mut [u8],
     marks: &[u8],
+    undo: &[u8],
     t: usize,
     d: usize,
     bytes: &[u8],
 ) -> Outcome
-    ensures { λ r. ⌜ Follows (call (Call.on t (Op.write d (now (bytes .entry))))) kept files logs marks r [] ⌝ }
+    ensures { λ r. ⌜ Follows (call (Call.on t (Op.write d (now (bytes .entry))))) kept files logs marks undo r [] ⌝ }
 {
-    let g = ranges::admit(kept, files.len(), logs.len(), marks.len(), t);
+    let g = ranges::admit(kept, files.len(), logs.len(), marks.len(), undo.len(), t);
     if let Gate::Refused(r) = g {
         return Outcome::Refused(r);
     }

@@ -2,6 +2,7 @@
 // stale, since the file no longer ends where 1 saw it end; the commit of 1 is refused, and 1 starts again.
 use libc::STDOUT_FILENO;
 use numbers::BUFFER_BYTES;
+use numbers::FILE_BYTES;
 use record::layout::NUMBERS;
 use record::layout::Record;
 use record::outcomes::Outcome;
@@ -9,8 +10,10 @@ use record::outcomes::Outcome;
 // The minute of every commit. In a fresh store each file may change at any.
 const MINUTE: usize = 0;
 
-// A store buffer.
+// A store buffer, and that of a grant's old bytes.
 type Buffer = [u8; BUFFER_BYTES];
+
+type Undo = [u8; FILE_BYTES];
 
 fn print(text: &[u8]) {
     io::write_all(STDOUT_FILENO, text);
@@ -39,40 +42,52 @@ fn tell(call: &[u8], o: Outcome) {
 }
 
 // Transaction 0 writes through descriptor 0 and transaction 1 reads through descriptor 1; then both commit.
-fn both(kept: &mut Record, files: &mut Buffer, logs: &mut Buffer, marks: &mut Buffer) {
+fn both(
+    kept: &mut Record,
+    files: &mut Buffer,
+    logs: &mut Buffer,
+    marks: &mut Buffer,
+    undo: &mut Undo,
+) {
     let mut reader = [0u8; 5];
-    store::begin(kept, files, logs, marks, 0);
-    store::begin(kept, files, logs, marks, 1);
+    store::begin(kept, files, logs, marks, undo, 0);
+    store::begin(kept, files, logs, marks, undo, 1);
     tell(
         b"0 writes",
-        store::write(kept, files, logs, marks, 0, 0, b"hello"),
+        store::write(kept, files, logs, marks, undo, 0, 0, b"hello"),
     );
     tell(
         b"1 reads",
-        store::read(kept, files, logs, marks, 1, 1, 5, &mut reader),
+        store::read(kept, files, logs, marks, undo, 1, 1, 5, &mut reader),
     );
     tell(
         b"commit 0",
-        store::commit(kept, files, logs, marks, 0, MINUTE),
+        store::commit(kept, files, logs, marks, undo, 0, MINUTE),
     );
     tell(
         b"commit 1",
-        store::commit(kept, files, logs, marks, 1, MINUTE),
+        store::commit(kept, files, logs, marks, undo, 1, MINUTE),
     );
 }
 
 // Transaction 1 again.
-fn again(kept: &mut Record, files: &mut Buffer, logs: &Buffer, marks: &mut Buffer) {
+fn again(
+    kept: &mut Record,
+    files: &mut Buffer,
+    logs: &Buffer,
+    marks: &mut Buffer,
+    undo: &mut Undo,
+) {
     let mut reader = [0u8; 5];
-    store::begin(kept, files, logs, marks, 1);
+    store::begin(kept, files, logs, marks, undo, 1);
     tell(
         b"1 reads",
-        store::read(kept, files, logs, marks, 1, 1, 5, &mut reader),
+        store::read(kept, files, logs, marks, undo, 1, 1, 5, &mut reader),
     );
     print(&reader);
     tell(
         b"\ncommit 1",
-        store::commit(kept, files, logs, marks, 1, MINUTE),
+        store::commit(kept, files, logs, marks, undo, 1, MINUTE),
     );
 }
 
@@ -82,7 +97,8 @@ fn main() {
     let mut files = [0u8; BUFFER_BYTES];
     let mut logs = [0u8; BUFFER_BYTES];
     let mut marks = [0u8; BUFFER_BYTES];
-    store::fresh(&mut kept, &mut files, &logs, &mut marks, &[0u8; 16]);
-    both(&mut kept, &mut files, &mut logs, &mut marks);
-    again(&mut kept, &mut files, &logs, &mut marks);
+    let mut undo = [0u8; FILE_BYTES];
+    store::fresh(&mut kept, &mut files, &logs, &mut marks, &undo, &[0u8; 16]);
+    both(&mut kept, &mut files, &mut logs, &mut marks, &mut undo);
+    again(&mut kept, &mut files, &logs, &mut marks, &mut undo);
 }

@@ -6,6 +6,7 @@ use numbers::FILE_END;
 use numbers::smaller;
 use record::Descriptor;
 use record::FILES;
+use record::journal::GRANT;
 use record::journal::WriteRecord;
 use record::journal::put_record;
 use record::journal::record_at;
@@ -13,12 +14,17 @@ use record::layout::Record;
 use record::layout::is_begun;
 use record::layout::put_descriptor;
 use record::layout::put_file;
+use record::layout::put_found_length;
+use record::layout::put_found_offset;
+use record::layout::put_held;
 use record::layout::put_length;
 use record::layout::put_lengthmarks;
 use record::layout::put_offset;
+use record::layout::put_undo_used;
 use record::layout::put_used;
 use record::layout::put_window;
 use record::layout::reset;
+use record::layout::undo_used;
 use record::layout::used_at;
 use record::layout::window_at;
 use standings::Place;
@@ -123,12 +129,26 @@ fn forge_transaction(kept: &mut Record, g: Damage)
     }
 }
 
-// Other counters of transaction t. A number of the record has sixteen bits.
+// Other counters of stretch t. A number of the record has sixteen bits.
 fn forge_used(kept: &mut Record, t: usize, records: usize, bytes: u16)
-    requires { ⌜ t < 8 ⌝ }
+    requires { ⌜ t < 9 ⌝ }
 {
     let records = smaller(records, 65535);
-    put_used(kept, t, Used { records, bytes });
+    if t == GRANT {
+        put_undo_used(kept, Used { records, bytes });
+    } else {
+        put_used(kept, t, Used { records, bytes });
+    }
+}
+
+// What a stretch of the journal has in use: a transaction's, or the last grant's.
+fn used_in(kept: &Record, t: usize) -> Used
+    requires { ⌜ t < 9 ⌝ }
+{
+    if t == GRANT {
+        return undo_used(kept);
+    }
+    used_at(kept, t)
 }
 
 // A write through descriptor 0, at place p.
@@ -142,31 +162,30 @@ fn write_at(p: u16, length: u16) -> WriteRecord
     }
 }
 
-// Transaction t has a write record: where it had none it gets an empty one, at place 0.
+// Stretch t has a write record: where it had none it gets an empty one, at place 0.
 fn write_one(kept: &mut Record, t: usize)
-    requires { ⌜ t < 8 ⌝ }
+    requires { ⌜ t < 9 ⌝ }
 {
-    let used = used_at(kept, t);
+    let used = used_in(kept, t);
     if used.records == 0 {
         put_record(kept, t, 0, write_at(0, 0));
         forge_used(kept, t, 1, used.bytes);
     }
 }
 
-// Forgeries 10 to 12: the first record's descriptor, its end, or the sum of the lengths.
-fn forge_record(kept: &mut Record, g: Damage)
-    requires { ⌜ g .transaction < 8 ⌝ }
+// The first record of stretch t: its descriptor (10), its end (11), or the sum of the lengths (12).
+fn forge_record(kept: &mut Record, t: usize, what: usize, excess: usize)
+    requires { ⌜ t < 9 ⌝ }
 {
-    let t = g.transaction;
     let w = record_at(kept, t, 0);
-    if g.forgery == 10 {
+    if what == 10 {
         let far = WriteRecord {
-            descriptor: (16 + g.excess % 65504) as u16,
+            descriptor: (16 + excess % 65504) as u16,
             place: Place::After(0),
             length: w.length,
         };
         put_record(kept, t, 0, far);
-    } else if g.forgery == 11 {
+    } else if what == 11 {
         put_record(kept, t, 0, write_at(past(w.length), w.length));
     } else {
         put_record(kept, t, 0, write_at(0, other(w.length)));
@@ -197,12 +216,11 @@ fn forge_place(kept: &mut Record, g: Damage)
     put_descriptor(kept, t, i, q);
 }
 
-// Forgery 15: two records, each in range, whose data together is above 4,096 bytes.
-fn forge_two(kept: &mut Record, g: Damage)
-    requires { ⌜ g .transaction < 8 ⌝ }
+// Stretch t gets two records, each in range, whose data together is above 4,096 bytes.
+fn forge_two(kept: &mut Record, t: usize, excess: usize)
+    requires { ⌜ t < 9 ⌝ }
 {
-    let t = g.transaction;
-    let n = 1 + g.excess % FILE_BYTES;
+    let n = 1 + excess % FILE_BYTES;
     put_record(kept, t, 0, write_at(0, FILE_END));
     put_record(kept, t, 1, write_at(0, n as u16));
     forge_used(kept, t, 2, (FILE_BYTES + n) as u16);
@@ -212,21 +230,73 @@ fn forge_two(kept: &mut Record, g: Damage)
 fn forge_log(kept: &mut Record, g: Damage)
     requires { ⌜ (g .transaction < 8) × (g .index < 16) ⌝ }
 {
-    write_one(kept, g.transaction);
+    let t = g.transaction;
+    write_one(kept, t);
     if g.forgery < 13 {
-        forge_record(kept, g);
+        forge_record(kept, t, g.forgery, g.excess);
     } else if g.forgery < 15 {
         forge_place(kept, g);
     } else {
-        forge_two(kept, g);
+        forge_two(kept, t, g.excess);
     }
 }
 
-// Puts a number out of range into the record; that of the forgery, 0 to 18, says which. 0 leaves the record.
+// Forgeries 19 to 22: a number that the last grant found, how many records it has, or the sum of their lengths.
+fn forge_found(kept: &mut Record, g: Damage)
+    requires { ⌜ g .index < 16 ⌝ }
+{
+    let i = g.index;
+    let used = undo_used(kept);
+    if g.forgery == 19 {
+        put_found_offset(kept, i, above(g.excess));
+    } else if g.forgery == 20 {
+        put_found_length(kept, i % FILES, above(g.excess));
+    } else if g.forgery == 21 {
+        forge_used(kept, GRANT, 65 + g.excess % 65471, used.bytes);
+    } else {
+        forge_used(kept, GRANT, used.records, other(used.bytes));
+    }
+}
+
+// Forgery 27: the last grant's first record has no place.
+fn forge_landing(kept: &mut Record) {
+    let w = record_at(kept, GRANT, 0);
+    let after = WriteRecord {
+        descriptor: 0,
+        place: Place::After(0),
+        length: w.length,
+    };
+    put_record(kept, GRANT, 0, after);
+}
+
+// Forgeries 19 to 27: something is held of the last grant, and out of range.
+fn forge_undo(kept: &mut Record, g: Damage)
+    requires { ⌜ g .index < 16 ⌝ }
+{
+    put_held(kept, true);
+    if g.forgery < 23 {
+        forge_found(kept, g);
+        return;
+    }
+    write_one(kept, GRANT);
+    if g.forgery < 26 {
+        forge_record(kept, GRANT, g.forgery - 13, g.excess);
+    } else if g.forgery == 26 {
+        forge_two(kept, GRANT, g.excess);
+    } else {
+        forge_landing(kept);
+    }
+}
+
+// Puts a number out of range into the record; that of the forgery, 0 to 27, says which. 0 leaves the record.
 pub fn forge(kept: &mut Record, g: Damage)
     requires { ⌜ (g .transaction < 8) × (g .index < 16) ⌝ }
 {
     if g.forgery == 0 {
+        return;
+    }
+    if 18 < g.forgery {
+        forge_undo(kept, g);
         return;
     }
     if 16 < g.forgery {

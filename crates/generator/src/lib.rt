@@ -19,6 +19,10 @@ const LONG_READS: usize = 5;
 
 const SHORT_FILES: usize = 7;
 
+const QUIET: usize = 8;
+
+const MODES: usize = 9;
+
 // The kinds of calls, in the order of their weights.
 const FRESH: usize = 0;
 
@@ -40,12 +44,16 @@ const ABORT: usize = 8;
 
 const SET_WINDOW: usize = 9;
 
-// How many of 1,000 calls are of each kind, ten numbers a mode: mixed, crowded, many records, long writes, near the
-// end, long reads, scattered, short files.
-const WEIGHTS: [usize; 80] = [
+const TAKE_BACK: usize = 10;
+
+const KINDS: usize = 11;
+
+// How many of 1,000 calls are of each kind, eleven numbers a mode: mixed, crowded, many records, long writes, near the
+// end, long reads, scattered, short files, quiet.
+const WEIGHTS: [usize; 99] = [
     4,
     20,
-    210,
+    205,
     250,
     80,
     211,
@@ -53,9 +61,10 @@ const WEIGHTS: [usize; 80] = [
     102,
     43,
     40,
+    5,
     4,
     20,
-    165,
+    160,
     215,
     120,
     190,
@@ -63,19 +72,21 @@ const WEIGHTS: [usize; 80] = [
     162,
     44,
     40,
+    5,
     4,
     10,
     60,
-    790,
+    789,
     10,
     56,
     40,
     12,
     8,
     10,
+    1,
     4,
     20,
-    210,
+    209,
     420,
     30,
     91,
@@ -83,9 +94,10 @@ const WEIGHTS: [usize; 80] = [
     92,
     53,
     40,
+    1,
     4,
     20,
-    210,
+    205,
     260,
     80,
     145,
@@ -93,9 +105,10 @@ const WEIGHTS: [usize; 80] = [
     151,
     50,
     40,
+    5,
     4,
     20,
-    200,
+    195,
     240,
     60,
     255,
@@ -103,9 +116,10 @@ const WEIGHTS: [usize; 80] = [
     102,
     39,
     40,
+    5,
     4,
     20,
-    335,
+    334,
     335,
     20,
     100,
@@ -113,24 +127,37 @@ const WEIGHTS: [usize; 80] = [
     16,
     10,
     10,
+    1,
     24,
     20,
     50,
-    320,
+    315,
     10,
     320,
     16,
     180,
     30,
     30,
+    5,
+    4,
+    10,
+    220,
+    456,
+    20,
+    70,
+    10,
+    110,
+    20,
+    10,
+    70,
 ];
 
 // What is wrong with the buffers or the record lent to a call; short and forgery are 0 where nothing is.
 pub struct Damage {
-    // 1, 2, 3: of the files, logs, marks only the first length bytes are lent.
+    // 1, 2, 3, 4: of the files, logs, marks, undo buffer only the first length bytes are lent.
     pub short: usize,
     pub length: usize,
-    // 1 to 18: the call gets a record out of its ranges.
+    // 1 to 27: the call gets a record out of its ranges.
     pub forgery: usize,
     pub transaction: usize,
     pub index: usize,
@@ -198,6 +225,7 @@ fn transactions_used(mode: usize) -> usize
         4 => 6,
         6 => 2,
         7 => 4,
+        QUIET => 1,
         _ => 8,
     }
 }
@@ -212,6 +240,7 @@ fn files_used(mode: usize) -> usize
         5 => 4,
         6 => 2,
         7 => 2,
+        QUIET => 2,
         _ => 8,
     }
 }
@@ -224,7 +253,7 @@ fn one_below(used: usize, value: usize) -> usize
     value % used
 }
 
-// Mostly one of a few that follow the phase, sometimes any of the eight, now and then 8 or 9.
+// Mostly one of a few that follow the phase, sometimes, not in the quiet mode, any of the eight, now and then 8 or 9.
 fn transaction(phase: usize, r: usize) -> usize
     requires { ⌜ phase < 65536 ⌝ }
 {
@@ -233,10 +262,11 @@ fn transaction(phase: usize, r: usize) -> usize
     if class == 0 {
         return 8 + value % 2;
     }
-    if class < 4 {
+    let mode = phase % MODES;
+    if (class < 4) & (mode != QUIET) {
         return value % 8;
     }
-    let used = transactions_used(phase % 8);
+    let used = transactions_used(mode);
     (phase + phase / 8 + one_below(used, value)) % 8
 }
 
@@ -264,37 +294,91 @@ fn file(mode: usize, r: usize) -> usize {
 
 // The kind, by the weights of the mode.
 fn kind(mode: usize, r: usize) -> usize
-    requires { ⌜ mode < 8 ⌝ }
+    requires { ⌜ mode < 9 ⌝ }
 {
     let mut rest = r % 1000;
     let mut k = FRESH;
-    while k < SET_WINDOW {
-        let weight = WEIGHTS[10 * mode + k];
+    while k < TAKE_BACK {
+        let weight = WEIGHTS[KINDS * mode + k];
         if rest < weight {
             return k;
         }
         rest -= weight;
         k += 1;
     }
-    SET_WINDOW
+    TAKE_BACK
 }
 
-// A call on a transaction that is guessed closed is made a Begin, seven times out of eight. The setting of a window is
-// on none.
-fn begun_first(kind: usize, t: usize, guess: [bool; 8], r: usize) -> usize {
-    if (kind <= BEGIN) | (kind == SET_WINDOW) {
-        return kind;
+// The lowest number of a transaction that is guessed open, 8 where none is.
+fn first_open(guess: [bool; 8]) -> usize {
+    let mut t = 0;
+    while t < 8 {
+        if guess[t] {
+            return t;
+        }
+        t += 1;
+    }
+    8
+}
+
+// A kind of call, and its transaction.
+struct Chosen {
+    kind: usize,
+    transaction: usize,
+}
+
+// A call on a transaction that is guessed closed: a Begin, or a taking back, for a third of those in the quiet mode that
+// come while none is guessed open.
+fn opening(mode: usize, t: usize, first: usize, r: usize) -> Chosen {
+    if (mode == QUIET) & (first == 8) & (r % 3 == 0) {
+        return Chosen {
+            kind: TAKE_BACK,
+            transaction: t,
+        };
+    }
+    Chosen {
+        kind: BEGIN,
+        transaction: t,
+    }
+}
+
+// A taking back while one is guessed open: that one's Commit or Abort.
+fn ending(first: usize, r: usize) -> Chosen {
+    if r % 4 == 0 {
+        return Chosen {
+            kind: ABORT,
+            transaction: first,
+        };
+    }
+    Chosen {
+        kind: COMMIT,
+        transaction: first,
+    }
+}
+
+// Seven times out of eight a call is made to fit the guess.
+fn fitted(mode: usize, kind: usize, t: usize, guess: [bool; 8], r: [usize; 12]) -> Chosen {
+    let chosen = Chosen {
+        kind,
+        transaction: t,
+    };
+    if r[11] % 8 == 0 {
+        return chosen;
+    }
+    let first = first_open(guess);
+    if (kind == TAKE_BACK) & (first < 8) {
+        return ending(first, r[9]);
+    }
+    if (kind < SEEK) | (ABORT < kind) {
+        return chosen;
     }
     if 7 < t {
-        return kind;
+        return chosen;
     }
     if guess[t] {
-        return kind;
+        return chosen;
     }
-    if r % 8 == 0 {
-        return kind;
-    }
-    BEGIN
+    opening(mode, t, first, r[10])
 }
 
 // The transactions that are guessed open after a request of transaction t.
@@ -304,11 +388,30 @@ fn guess_after_request(guess: [bool; 8], q: Request, t: usize) -> [bool; 8]
     let mut out = guess;
     match q {
         Request::Begin(_) => out[t] = true,
-        Request::Commit(_, _) => out[t] = false,
+        Request::Commit(_, minute) => out[t] = out[t] & (1439 < minute),
         Request::Abort(_) => out[t] = false,
         _ => {}
     }
     out
+}
+
+// The first sixteen numbers of a list are at most 7.
+fn is_good(list: [u8; 17]) -> bool {
+    let mut good = true;
+    let mut d = 0;
+    while d < 16 {
+        good = good & (list[d] < 8);
+        d += 1;
+    }
+    good
+}
+
+// The transactions that are guessed open after a Fresh: none, where it has sixteen good numbers.
+fn guess_after_fresh(guess: [bool; 8], list: [u8; 17], listed: usize) -> [bool; 8] {
+    if (listed == 16) & is_good(list) {
+        return [false; 8];
+    }
+    guess
 }
 
 // The transactions that are guessed open after the call.
@@ -320,14 +423,20 @@ pub fn guess_after(guess: [bool; 8], g: Generated) -> [bool; 8] {
     if 0 < g.damage.forgery {
         return guess;
     }
+    let made = g.made;
+    let list = g.list;
+    let Made::Asks(q) = made else {
+        return guess_after_fresh(guess, list, g.listed);
+    };
     if 7 < t {
         return guess;
     }
-    let made = g.made;
-    let Made::Asks(q) = made else {
-        return [false; 8];
-    };
     guess_after_request(guess, q, t)
+}
+
+// A mode in which the files stay short.
+fn is_short(mode: usize) -> bool {
+    (mode == SHORT_FILES) | (mode == QUIET)
 }
 
 // Where a Seek goes in a short file: mostly in steps of 4, so that ends meet.
@@ -344,7 +453,7 @@ fn seek_to(mode: usize, class: usize, value: usize) -> usize {
             return 4084 + value % 14;
         }
     }
-    if mode == SHORT_FILES {
+    if is_short(mode) {
         return near_start(class, value);
     }
     if class < 6 {
@@ -401,7 +510,7 @@ fn write_length(mode: usize, class: usize, value: usize) -> usize {
             return 3000 + value % 1098;
         }
     }
-    if mode == SHORT_FILES {
+    if is_short(mode) {
         return write_to_short_file(class, value);
     }
     usual_length(class, value)
@@ -522,16 +631,27 @@ fn written(r: usize, zeros: usize) -> u8 {
 // Which store buffer is short, for two calls of 128 and for one that is forged as well.
 fn short(class: usize, r: usize) -> usize {
     if class < 3 {
-        return 1 + r % 3;
+        return 1 + r % 4;
     }
     0
 }
 
-fn short_length(r: usize) -> usize {
-    if r % 2 == 0 {
-        return BUFFER_BYTES - 1;
+// How many bytes store buffer `which` has: the fourth holds the old bytes of a grant.
+fn whole(which: usize) -> usize
+    ensures { λ r. ⌜ 0 < r ⌝ }
+{
+    if which == 4 {
+        return FILE_BYTES;
     }
-    r / 2 % BUFFER_BYTES
+    BUFFER_BYTES
+}
+
+fn short_length(which: usize, r: usize) -> usize {
+    let n = whole(which);
+    if r % 2 == 0 {
+        return n - 1;
+    }
+    r / 2 % n
 }
 
 // Which forgery the record gets. Fresh looks at no record.
@@ -543,7 +663,7 @@ fn forgery(kind: usize, class: usize, r: usize) -> usize {
         return 0;
     }
     if class < 5 {
-        return 1 + r % 18;
+        return 1 + r % 27;
     }
     0
 }
@@ -552,9 +672,10 @@ fn damaged(kind: usize, r: [usize; 12]) -> Damage
     ensures { λ a. ⌜ (a .transaction < 8) × (a .index < 16) ⌝ }
 {
     let class = r[7] % 128;
+    let which = short(class, r[8]);
     Damage {
-        short: short(class, r[8]),
-        length: short_length(r[9]),
+        short: which,
+        length: short_length(which, r[9]),
         forgery: forgery(kind, class, r[8]),
         transaction: r[9] % 8,
         index: r[9] / 8 % 16,
@@ -628,19 +749,18 @@ fn call_of(kind: usize, t: usize, d: usize, f: usize, n: usize, end: usize) -> M
         PLACES => Made::Asks(Request::Places(t, f)),
         COMMIT => Made::Asks(Request::Commit(t, n)),
         ABORT => Made::Asks(Request::Abort(t)),
+        TAKE_BACK => Made::Asks(Request::TakeBack),
         _ => Made::Asks(Request::SetWindow(f, n, end)),
     }
 }
 
-// The call of a phase that twelve numbers make.
-pub fn requested(r: [usize; 12], phase: usize, guess: [bool; 8]) -> Generated
-    requires { ⌜ phase < 65536 ⌝ }
+// The call of a kind in a mode that twelve numbers make.
+fn call_from(r: [usize; 12], mode: usize, chosen: Chosen) -> Generated
     ensures { λ a. ⌜ (a .damage .transaction < 8) × (a .damage .index < 16) ⌝ }
 {
-    let mode = phase % 8;
+    let k = chosen.kind;
+    let t = chosen.transaction;
     let class = r[3] % 16;
-    let t = transaction(phase, r[1]);
-    let k = begun_first(kind(mode, r[0]), t, guess, r[11]);
     let n = number(k, mode, class, r[4]);
     let d = damaged(k, r);
     let list = list(r);
@@ -662,4 +782,34 @@ pub fn requested(r: [usize; 12], phase: usize, guess: [bool; 8]) -> Generated
         listed: list_length(r[3], r[4]),
         damage: d,
     }
+}
+
+// The Fresh with which a phase of the quiet mode starts: descriptor d belongs to file d mod 8.
+fn quiet_start(r: [usize; 12]) -> Generated
+    ensures { λ a. ⌜ (a .damage .transaction < 8) × (a .damage .index < 16) ⌝ }
+{
+    let chosen = Chosen {
+        kind: FRESH,
+        transaction: 0,
+    };
+    let mut g = call_from(r, QUIET, chosen);
+    let list = files_by(1, 0);
+    g.list = list;
+    g.listed = 16;
+    g
+}
+
+// Call i that twelve numbers make.
+pub fn requested(r: [usize; 12], i: usize, guess: [bool; 8]) -> Generated
+    requires { ⌜ i < 16777216 ⌝ }
+    ensures { λ a. ⌜ (a .damage .transaction < 8) × (a .damage .index < 16) ⌝ }
+{
+    let phase = i / 256;
+    let mode = phase % MODES;
+    if (mode == QUIET) & (i % 256 == 0) {
+        return quiet_start(r);
+    }
+    let t = transaction(phase, r[1]);
+    let chosen = fitted(mode, kind(mode, r[0]), t, guess, r);
+    call_from(r, mode, chosen)
 }

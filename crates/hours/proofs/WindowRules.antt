@@ -20,18 +20,18 @@ use Rattle.refusing.proofs.Turns.{passing-on, done-follows}
 abbrev pub testsOf : Machine → ℕ → ℕ → ℕ → ℕ
 testsOf m f start end = admissionOfWindow (sizes m) (m .store) (m .journal) f start end
 
-module _ (f start end : ℕ) (kept files logs marks : List ℕ) (long : length kept ≡ recordLength) (few : f < 8) where
-  pub window-follows : testsOf (machineOf kept files logs marks) f start end ≡ 0
+module _ (f start end : ℕ) (kept files logs marks undo : List ℕ) (long : length kept ≡ recordLength) (few : f < 8) where
+  pub window-follows : testsOf (machineOf kept files logs marks undo) f start end ≡ 0
       → (after : List ℕ) → after ≡ withWindowAt kept f (window start end)
-      → Meets (call (setWindow f start end) (machineOf kept files logs marks)) Done (machineOf after files logs marks) [] × LeftAsFound Done kept after
+      → Meets (call (setWindow f start end) (machineOf kept files logs marks undo)) Done (machineOf after files logs marks undo) [] × LeftAsFound Done kept after
   unfolding call windowTurn answer said
   window-follows passes after e =
-      let m = machineOf kept files logs marks in
+      let m = machineOf kept files logs marks undo in
       let w = window start end in (
         rw (passing-on (testsOf m f start end) [] m (windowTurn f start end m) passes) (record {
           outcome = refl;
           machine =
-              ap₂ (λ (s : Store) (j : List ℕ). lent s j files logs marks) (ap storeOf e ∙ store-with-window kept long f w few) (ap journalOf e ∙ journal-with-window kept long f w);
+              ap₂ (λ (s : Store) (j : List ℕ). lent s j files logs marks undo) (ap storeOf e ∙ store-with-window kept long f w few) (ap journalOf e ∙ journal-with-window kept long f w);
           reader = refl;
         }),
         done-follows kept after,

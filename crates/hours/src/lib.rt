@@ -16,13 +16,23 @@ pub fn set_window(
     files: &[u8],
     logs: &[u8],
     marks: &[u8],
+    undo: &[u8],
     f: usize,
     start: usize,
     end: usize,
 ) -> Outcome
-    ensures { λ r. ⌜ Follows (call (Call.setWindow f start end)) kept files logs marks r [] ⌝ }
+    ensures { λ r. ⌜ Follows (call (Call.setWindow f start end)) kept files logs marks undo r [] ⌝ }
 {
-    let g = ranges::admit_window(kept, files.len(), logs.len(), marks.len(), f, start, end);
+    let g = ranges::admit_window(
+        kept,
+        files.len(),
+        logs.len(),
+        marks.len(),
+        undo.len(),
+        f,
+        start,
+        end,
+    );
     if let Gate::Refused(r) = g {
         return Outcome::Refused(r);
     }

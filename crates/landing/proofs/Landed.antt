@@ -1,27 +1,35 @@
--- What the code lands and sets is what the rules say that a commit sets.
+-- What the code lands, sets and keeps is what the rules say that a commit sets and keeps.
 use mathlib.Core.Bool.{Bool, true, cond, _&&_}
 use mathlib.Core.List.{List, [], _∷_, _++_}
 use mathlib.Core.Path.{_≡_, refl, sym, ap, ap₂, _∙_}
 use lib.ListN.{length, getD}
 use native.Mathlib.Omega.{arith}
 use Prim.Native.Nat.{ℕ, zero, suc, _+_, _*_, _<_, max}
+use Rattle.octets.specs.Parts.{tabulate}
+use Rattle.octets.proofs.TableLaws.{length-tabulate, getD-tabulate}
+use Rattle.undo.specs.OldBytes.{oldBytes}
 use Rattle.record.specs.declared.Store.{Store}
 use Rattle.record.specs.declared.Transaction.{Transaction}
 use Rattle.record.specs.State.{transaction, standingAt, dirtyAt}
-use Rattle.record.specs.Journal.{writeRecordAt}
-use Rattle.ranges.specs.Ranges.{recordIn}
-use Rattle.ranges.proofs.Laws.{InRange, record-in}
+use Rattle.record.specs.Journal.{grantStretch, writeRecordAt, withRecords}
+use Rattle.record.proofs.JournalLaws.{with-same}
+use Rattle.ranges.specs.Ranges.{lengthsBefore, recordIn}
+use Rattle.ranges.proofs.Laws.{sum-same, InRange, record-in}
 use Rattle.standings.specs.declared.Standing.{Standing}
+use Rattle.standings.specs.declared.Place.the-variants.{At}
 use Rattle.standings.specs.Table.{isTouched, finalOffset}
 use Rattle.rules.specs.Items.{offset, Values}
 use Rattle.rules.specs.Transactions.{Txn, Write}
 use Rattle.rules.specs.Commits.{Setting, landsAt, stretch, byteSettings, setsOffset, offsetSettings, landedEnd, lengthSettings, settings, fits}
-use Rattle.rules.specs.Machine.{fileOf, values, txnOf}
+use Rattle.rules.specs.Steps.{total}
+use Rattle.rules.specs.Machine.{fileOf, values, writeAt, txnOf, noWrite}
+use Rattle.rules.specs.Undo.{landingOf, landingsOf, landedRecord}
 use Rattle.rules.specs.Calls.{landFiles, landOffsets, landLengths}
 use Rattle.rules.proofs.View.Tables.{tabulate-same}
 use Rattle.rules.proofs.View.SettingsIn.{lands-in}
-use Rattle.laws.proofs.Decoded.{Opened}
+use Rattle.laws.proofs.Decoded.{Opened, total-tabulate}
 use Rattle.landing.specs.Landing.{offsetsOnly, descriptorsOnly, placesFit, bytesSet, landedReach, lengthsLanded, RecordLands, CanLand}
+use Rattle.landing.specs.Keeping.{recordLanded}
 use Rattle.landing.proofs.Settings.{landed-append, offsets-append, lengths-append, bytes-set-none, bytes-raise-none, offsets-land-none, offsets-raise-none, lengths-land-none, lengths-set-none}
 use Rattle.landing.proofs.WriteLaws.{byte-count}
 use Rattle.landing.proofs.OffsetLaws.{fits-at, offsetsSet}
@@ -105,6 +113,12 @@ module _ (s : Store) (journal files logs : List ℕ) (t : ℕ) where
       ∙ ap (λ (ss : List Setting). landOffsets ss (s .offsets))
       (offsets-same v (offsetsOnly (s .offsets)) (descriptorsOnly (transaction s t)) (λ d. refl) 16)
 
+  -- The bytes that its writes land on.
+  pub old-are : oldBytes (landingsOf (fileOf s) v (x .writes)) files
+      ≡ oldBytes (landingsOf (fileOf s) (offsetsOnly (s .offsets)) (tabulate (writeAt journal logs t) count)) files
+  unfolding txnOf landingOf values offsetsOnly
+  old-are = refl
+
   -- Its writes land inside the files, from data inside its log.
   module _ (can : CanLand (s .filenumbers) (s .offsets) journal t count) (size : length logs ≡ 32768) where
     reach-same : (f : ℕ) → landedReach (s .filenumbers) (s .offsets) journal t f count ≡ landedEnd (fileOf s) v f (x .writes)
@@ -125,6 +139,34 @@ module _ (s : Store) (journal files logs : List ℕ) (t : ℕ) where
         ∙ tabulate-same (λ f. max (getD (s .lengths) f 0) (landedEnd (fileOf s) v f (x .writes)))
         (λ f. max (getD (s .lengths) f 0) (landedReach (s .filenumbers) (s .offsets) journal t f count)) 8
         (λ f l. ap (max (getD (s .lengths) f 0)) (sym (reach-same f)))
+
+    -- What is kept of them: their records, and how many records and bytes there are.
+    kept-is : (k : ℕ) → k < count → recordLanded (s .offsets) (writeRecordAt journal t k) ≡ landedRecord v (getD (x .writes) k noWrite)
+    unfolding txnOf recordLanded landedRecord writeAt values
+    kept-is k h =
+        let w = writeRecordAt journal t k in
+        let p = landsAt (getD (s .offsets) (w .descriptor) 0) (w .place) in
+        ap (λ (n : ℕ). record { descriptor = w .descriptor; place = At p; length = n })
+        (sym (byte-count can h logs size))
+        ∙ ap (landedRecord v) (sym (getD-tabulate (writeAt journal logs t) count k noWrite h))
+
+    pub records-are : withRecords journal grantStretch (λ k. recordLanded (s .offsets) (writeRecordAt journal t k)) count
+        ≡ withRecords journal grantStretch (λ k. landedRecord v (getD (x .writes) k noWrite)) (length (x .writes))
+    unfolding txnOf
+    records-are =
+        with-same journal grantStretch _ _ count kept-is
+        ∙ ap (withRecords journal grantStretch (λ k. landedRecord v (getD (x .writes) k noWrite)))
+        (sym (length-tabulate (writeAt journal logs t) count))
+
+    pub counters-are : lengthsBefore journal t count ≡ transaction s t .used .bytes
+        → record { records = length (x .writes); bytes = total (x .writes) } ≡ transaction s t .used
+    unfolding txnOf lengthsBefore
+    counters-are e =
+        ap₂ (λ (m n : ℕ). record { records = m; bytes = n }) (length-tabulate (writeAt journal logs t) count)
+        (total-tabulate (writeAt journal logs t) count
+        ∙ sum-same (λ k. length (writeAt journal logs t k .bytes)) (λ k. writeRecordAt journal t k .length) count
+        (λ k h. byte-count can h logs size)
+        ∙ e)
 
   -- A transaction in range whose placing fits can land.
   module _ (fit : placesFit s (transaction s t) ≡ true) where

@@ -3,3 +3,4 @@ pub mod WriteLaws
 pub mod LengthLaws
 pub mod OffsetLaws
 pub mod Landed
+pub mod KeepingLaws

@@ -118,6 +118,6 @@ pub none-landed : (filenumbers offsets journal logs files : List ℕ) (t : ℕ) 
 unfolding bytesSet tabulate byteSettings landFiles
 none-landed filenumbers offsets journal logs files t = refl
 
-pub none-started : (journal : List ℕ) (t : ℕ) → 4096 * t ≡ dataStart journal t 0
+pub none-started : (journal : List ℕ) (t : ℕ) → 4096 * t + 0 ≡ dataStart journal t 0
 unfolding dataStart lengthsBefore sum
 none-started journal t = omega arith

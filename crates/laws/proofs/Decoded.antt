@@ -24,12 +24,12 @@ use Rattle.rules.proofs.View.Tables.{sum-le}
 -- What a call knows of the transaction that it was admitted to.
 pub record Opened (s : Store) (journal logs : List ℕ) (t : ℕ) : Type 0 where
   pub shape : Shaped s
-  pub long : length journal ≡ 1536
+  pub long : length journal ≡ 1728
   pub size : length logs ≡ 32768
   pub small : t < 8
   pub ranges : TransactionInRange (transaction s t) journal t
 
-pub opened : (m : Machine) (t : ℕ) → Shaped (m .store) → length (m .journal) ≡ 1536 → Admitted (sizes m) (m .store) (m .journal) t
+pub opened : (m : Machine) (t : ℕ) → Shaped (m .store) → length (m .journal) ≡ 1728 → Admitted (sizes m) (m .store) (m .journal) t
     → transaction (m .store) t .begun ≡ true → Opened (m .store) (m .journal) (m .logs) t
 opened m t shape long a begun =
     record { shape = shape; long = long; size = a .lengths .logs; small = a .small; ranges = in-range (m .store) (m .journal) (a .ranges) .transactions t (a .small) begun }

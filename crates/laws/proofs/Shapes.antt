@@ -8,7 +8,7 @@ use Rattle.octets.proofs.TableLaws.{length-tabulate}
 use Rattle.record.specs.declared.Transaction.{Transaction}
 use Rattle.record.specs.declared.Store.{Store}
 use Rattle.record.specs.State.{noTransaction, transaction, withTransaction}
-use Rattle.record.specs.Layout.{transactionOf, storeOf}
+use Rattle.record.specs.Layout.{transactionOf, undoOf, storeOf}
 use Rattle.record.proofs.LayoutLaws.{transaction-of}
 use Rattle.rules.proofs.View.Shape.{Shaped}
 
@@ -17,13 +17,15 @@ unfolding transactionOf
 sixteen-descriptors kept t = length-tabulate _ 16
 
 pub shaped : (kept : List ℕ) → Shaped (storeOf kept)
-unfolding storeOf
+unfolding storeOf undoOf
 shaped kept =
     record {
       files = length-tabulate _ 16;
       offsets = length-tabulate _ 16;
       lengths = length-tabulate _ 8;
       windows = length-tabulate _ 8;
+      foundOffsets = length-tabulate _ 16;
+      foundLengths = length-tabulate _ 8;
       transactions = length-tabulate _ 8;
       descriptors = λ t h. ap (λ (x : Transaction). length (x .descriptors)) (transaction-of kept t h) ∙ sixteen-descriptors kept t;
     }

@@ -38,11 +38,11 @@ zero-anywhere k = ⊎-elim (λ h. List·getD-eq-default (zeros recordLength) 0 {
 listed : (l : List ℕ) (n : ℕ) → length l ≡ n → tabulate (λ k. getD l k 0) n ≡ l
 listed l n e = ap (λ (m : ℕ). tabulate (λ k. getD l k 0) m) (sym e) ∙ tabulate-getD l 0
 
-journal-of-zeros : journalOf (zeros recordLength) ≡ zeros 1536
+journal-of-zeros : journalOf (zeros recordLength) ≡ zeros 1728
 unfolding journalOf
 journal-of-zeros =
-    table-same (λ k. getD (zeros recordLength) k 0) (λ k. getD (zeros 1536) k 0) 1536 (λ k h. zero-at recordLength k (omega arith) ∙ sym (zero-at 1536 k h))
-    ∙ listed (zeros 1536) 1536 (length-zeros 1536)
+    table-same (λ k. getD (zeros recordLength) k 0) (λ k. getD (zeros 1728) k 0) 1728 (λ k h. zero-at recordLength k (omega arith) ∙ sym (zero-at 1728 k h))
+    ∙ listed (zeros 1728) 1728 (length-zeros 1728)
 
 module _ (numbers : List ℕ) (sixteen : length numbers ≡ 16) where
   abbrev numbered : List ℕ
@@ -55,26 +55,26 @@ module _ (numbers : List ℕ) (sixteen : length numbers ≡ 16) where
       ∙ ap (filed (tabulate (λ d. getD numbers d 0) 16)) (store-of-zeros (zeros recordLength) zero-anywhere)
       ∙ ap (λ (l : List ℕ). filed l (freshStore [])) (listed numbers 16 sixteen)
 
-  fresh-journal : journalOf numbered ≡ zeros 1536
+  fresh-journal : journalOf numbered ≡ zeros 1728
   fresh-journal = journal-with-files (zeros recordLength) (length-zeros recordLength) (λ d. getD numbers d 0) 16 ∙ journal-of-zeros
 
 -- ---- the rule
 
-pub fresh-follows : (numbers kept files logs marks : List ℕ) → admissionOfFresh (sizes (machineOf kept files logs marks)) numbers ≡ 0
+pub fresh-follows : (numbers kept files logs marks undo : List ℕ) → admissionOfFresh (sizes (machineOf kept files logs marks undo)) numbers ≡ 0
     → (one after bytes sightings : List ℕ) → one ≡ replicate recordLength 0 → after ≡ withFileNumbersAt one (λ d. getD numbers d 0) 16
     → bytes ≡ replicate (length files) 0 → sightings ≡ replicate (length marks) 0
-    → Meets (fresh numbers (machineOf kept files logs marks)) Done (machineOf after bytes logs sightings) [] × LeftAsFound Done kept after
+    → Meets (fresh numbers (machineOf kept files logs marks undo)) Done (machineOf after bytes logs sightings undo) [] × LeftAsFound Done kept after
 unfolding fresh answer freshMachine said
-fresh-follows numbers kept files logs marks passes one after bytes sightings is-one is-after is-bytes is-sightings =
-    let m = machineOf kept files logs marks in
-    let e = passing-on _ [] m (answer plain (freshMachine numbers logs)) passes in
+fresh-follows numbers kept files logs marks undo passes one after bytes sightings is-one is-after is-bytes is-sightings =
+    let m = machineOf kept files logs marks undo in
+    let e = passing-on _ [] m (answer plain (freshMachine numbers logs undo)) passes in
     let a = admitted-fresh (sizes m) numbers passes in
     let put = is-after ∙ ap (λ (l : List ℕ). withFileNumbersAt l (λ d. getD numbers d 0) 16) is-one in
     let s = ap storeOf put ∙ fresh-store numbers (a .sixteen) in
     let j = ap journalOf put ∙ fresh-journal numbers (a .sixteen) in
     let f = is-bytes ∙ ap (λ (n : ℕ). replicate n 0) (a .lengths .files) in
     let g = is-sightings ∙ ap (λ (n : ℕ). replicate n 0) (a .lengths .marks) in
-    let same : machineOf after bytes logs sightings ≡ freshMachine numbers logs = λ i. lent (s i) (j i) (f i) logs (g i) in (
+    let same : machineOf after bytes logs sightings undo ≡ freshMachine numbers logs undo = λ i. lent (s i) (j i) (f i) logs (g i) undo in (
       record {
         outcome = sym (ap (λ (w : Turn). w .reply .answer) e);
         machine = same ∙ sym (ap (λ (w : Turn). w .after) e);

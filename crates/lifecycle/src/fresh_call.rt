@@ -28,11 +28,12 @@ pub fn fresh(
     files: &mut [u8],
     logs: &[u8],
     marks: &mut [u8],
+    undo: &[u8],
     numbers: &[u8],
 ) -> Outcome
-    ensures { λ r. ⌜ Follows (freshRule (now (numbers .entry))) kept files logs marks r [] ⌝ }
+    ensures { λ r. ⌜ Follows (freshRule (now (numbers .entry))) kept files logs marks undo r [] ⌝ }
 {
-    let g = ranges::admit_fresh(files.len(), logs.len(), marks.len(), numbers);
+    let g = ranges::admit_fresh(files.len(), logs.len(), marks.len(), undo.len(), numbers);
     if let Gate::Refused(r) = g {
         return Outcome::Refused(r);
     }

@@ -78,10 +78,10 @@ module _ (t : ℕ) (o : Op) (m : Machine) (passes : admission (sizes m) (m .stor
 
 -- ---- what such a call knows once it may look
 
-pub record Looking (kept files logs marks : List ℕ) (t d n room : ℕ) : Type 0 where
+pub record Looking (kept files logs marks undo : List ℕ) (t d n room : ℕ) : Type 0 where
   pub long : length kept ≡ recordLength
-  pub passes : admission (sizes (machineOf kept files logs marks)) (storeOf kept) (journalOf kept) t ≡ 0
-  pub through : LetThrough (machineOf kept files logs marks) t
+  pub passes : admission (sizes (machineOf kept files logs marks undo)) (storeOf kept) (journalOf kept) t ≡ 0
+  pub through : LetThrough (machineOf kept files logs marks undo) t
   pub held : Opened (storeOf kept) (journalOf kept) logs t
   pub may : MayLook (transaction (storeOf kept) t .stale) d n room
 
@@ -91,25 +91,25 @@ pub gate-says : (kept : List ℕ) (t : ℕ) → t < 8 → (stale : Bool) → sta
 gate-says kept t small stale own d n room k says =
     says ∙ ap (λ (b : Bool). lookRefusal b d n room) (own ∙ ap (λ (y : Transaction). y .stale) (sym (transaction-of kept t small)))
 
-pub looking : (kept files logs marks : List ℕ) (t d n room : ℕ) → length kept ≡ recordLength
-    → admission (sizes (machineOf kept files logs marks)) (storeOf kept) (journalOf kept) t ≡ 0
-    → LetThrough (machineOf kept files logs marks) t
+pub looking : (kept files logs marks undo : List ℕ) (t d n room : ℕ) → length kept ≡ recordLength
+    → admission (sizes (machineOf kept files logs marks undo)) (storeOf kept) (journalOf kept) t ≡ 0
+    → LetThrough (machineOf kept files logs marks undo) t
     → transaction (storeOf kept) t .begun ≡ true
     → lookRefusal (transaction (storeOf kept) t .stale) d n room ≡ 0
-    → Looking kept files logs marks t d n room
-looking kept files logs marks t d n room long passes through begun may =
+    → Looking kept files logs marks undo t d n room
+looking kept files logs marks undo t d n room long passes through begun may =
     record {
       long = long;
       passes = passes;
       through = through;
-      held = opened (machineOf kept files logs marks) t (shaped kept) (length-journal kept) through begun;
+      held = opened (machineOf kept files logs marks undo) t (shaped kept) (length-journal kept) through begun;
       may = may-look _ _ _ _ may;
     }
 
 -- A call that was refused after settling had left the record alone.
-pub turned-left : (r : Refusal) (buffer kept files logs marks : List ℕ) (w : Turn) → w ≡ turnDown (number r) buffer (machineOf kept files logs marks)
-    → (now : List ℕ) → now ≡ kept → Meets w (Refused r) (machineOf now files logs marks) buffer × LeftAsFound (Refused r) kept now
-turned-left r buffer kept files logs marks w e now same = rw same (turned-follows r buffer kept files logs marks w e)
+pub turned-left : (r : Refusal) (buffer kept files logs marks undo : List ℕ) (w : Turn) → w ≡ turnDown (number r) buffer (machineOf kept files logs marks undo)
+    → (now : List ℕ) → now ≡ kept → Meets w (Refused r) (machineOf now files logs marks undo) buffer × LeftAsFound (Refused r) kept now
+turned-left r buffer kept files logs marks undo w e now same = rw same (turned-follows r buffer kept files logs marks undo w e)
 
 -- ---- settling, as the code does it, in the terms of the rules
 
@@ -117,7 +117,7 @@ turned-left r buffer kept files logs marks w e now same = rw same (turned-follow
 abbrev pub SettledAs : (Transaction → List Bool) → ℕ → List ℕ → List ℕ → Verdict → Type 0
 SettledAs choice t kept now v = let x = transaction (storeOf kept) t in SettledIn (choice x) t x kept now v
 
-module _ {kept files logs marks : List ℕ} {t d n room : ℕ} (l : Looking kept files logs marks t d n room) where
+module _ {kept files logs marks undo : List ℕ} {t d n room : ℕ} (l : Looking kept files logs marks undo t d n room) where
   own-is : transactionOf kept t ≡ transaction (storeOf kept) t
   own-is = sym (transaction-of kept t (l .held .small))
 

@@ -126,29 +126,29 @@ module _ (t d : ℕ) (m : Machine) (passes : admission (sizes m) (m .store) (m .
         machine =
             sym
             (ap (λ (w : Turn). w .after) w
-            ∙ ap₂ (λ (s : Store) (j : List ℕ). lent s j (m .files) (m .logs) (marked t (asked (values (m .store) (m .files)) (program t (getFilePointer d) m passes)) (m .marks)))
+            ∙ ap₂ (λ (s : Store) (j : List ℕ). lent s j (m .files) (m .logs) (marked t (asked (values (m .store) (m .files)) (program t (getFilePointer d) m passes)) (m .marks)) (m .undo))
             (txn-settled (m .store) (m .journal) (m .logs) t o choice _ (lengths-kept h)) (journal-settled (m .store) (m .journal) (m .logs) t o choice)
-            ∙ ap (λ (l : List ℕ). lent (withTransaction t afterwards (m .store)) (settledJournal (m .store) (m .journal) t choice) (m .files) (m .logs) l) (marks-kept h));
+            ∙ ap (λ (l : List ℕ). lent (withTransaction t afterwards (m .store)) (settledJournal (m .store) (m .journal) t choice) (m .files) (m .logs) l (m .undo)) (marks-kept h));
         reader = sym (ap (λ (w : Turn). w .reply .buffer) w);
       }
 
 -- The same of what the code has, once it may look: the record before settling and after.
-module _ {kept files logs marks : List ℕ} {t d : ℕ} (l : Looking kept files logs marks t d 0 0) (now : List ℕ) where
+module _ {kept files logs marks undo : List ℕ} {t d : ℕ} (l : Looking kept files logs marks undo t d 0 0) (now : List ℕ) where
   abbrev SettledTo : Verdict → Type 0
   SettledTo = SettledAs (λ x. chosenByPointer x d) t kept now
 
   abbrev answered : Turn
-  answered = call (on t (getFilePointer d)) (machineOf kept files logs marks)
+  answered = call (on t (getFilePointer d)) (machineOf kept files logs marks undo)
 
-  pub past-follows : SettledTo verdict.Past → Meets answered (Refused SettledPastEnd) (machineOf now files logs marks) [] × LeftAsFound (Refused SettledPastEnd) kept now
+  pub past-follows : SettledTo verdict.Past → Meets answered (Refused SettledPastEnd) (machineOf now files logs marks undo) [] × LeftAsFound (Refused SettledPastEnd) kept now
   past-follows s =
-      turned-left SettledPastEnd [] kept files logs marks answered
-      (pointer-past t d (machineOf kept files logs marks) (l .passes) (l .may .fresh) (l .may .low) (verdict-past _ _ _ (sym (s .answer)))) now (s .refused refl)
+      turned-left SettledPastEnd [] kept files logs marks undo answered
+      (pointer-past t d (machineOf kept files logs marks undo) (l .passes) (l .may .fresh) (l .may .low) (verdict-past _ _ _ (sym (s .answer)))) now (s .refused refl)
 
   pub pointer-follows : SettledTo verdict.Settled → (a : ℕ) → a ≡ offsetOf (standingAt (transactionOf now t) d)
-      → Meets answered (Offset a) (machineOf now files logs marks) [] × LeftAsFound (Offset a) kept now
+      → Meets answered (Offset a) (machineOf now files logs marks undo) [] × LeftAsFound (Offset a) kept now
   pointer-follows s a ea = (
     rw (ea, transaction-now (λ x. chosenByPointer x d) s (l .held .small), s .store refl, s .journal refl)
-        (meets t d (machineOf kept files logs marks) (l .passes) (l .held) (l .may .fresh) (l .may .low) (verdict-settled _ _ _ (sym (s .answer)))),
+        (meets t d (machineOf kept files logs marks undo) (l .passes) (l .held) (l .may .fresh) (l .may .low) (verdict-settled _ _ _ (sym (s .answer)))),
     λ r e n. cc,
   )

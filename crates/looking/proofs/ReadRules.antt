@@ -378,34 +378,34 @@ module _ (t d n : ℕ) (buffer : List ℕ) (m : Machine) (passes : admission (si
 
           read-meets : (r : ℕ) (after marksThen reader : List ℕ) → r ≡ placesFrom now t d n .length → MovedOn t d n (placesFrom now t d n) now after
               → Served t (placesFrom now t d n) now (m .files) (m .logs) (m .marks) buffer marksThen reader
-              → Meets (call (on t (read d n buffer)) m) (Given r) (lent (storeOf after) (journalOf after) (m .files) (m .logs) marksThen) reader
+              → Meets (call (on t (read d n buffer)) m) (Given r) (lent (storeOf after) (journalOf after) (m .files) (m .logs) marksThen (m .undo)) reader
           unfolding said
           read-meets r after marksThen reader er moved served =
               let e = placesFrom now t d n in
               record {
                 outcome = ap given (er ∙ ap (λ (e : Extent). e .length) places-are) ∙ sym (ap (λ (w : Turn). w .reply .answer) accepted);
                 machine =
-                    ap (λ (s : Store). lent s (journalOf after) (m .files) (m .logs) marksThen) (moved .store ∙ store-is e places-are)
-                    ∙ ap₂ (λ (j ms : List ℕ). lent (withTxn t finally sees (m .store)) j (m .files) (m .logs) ms)
+                    ap (λ (s : Store). lent s (journalOf after) (m .files) (m .logs) marksThen (m .undo)) (moved .store ∙ store-is e places-are)
+                    ∙ ap₂ (λ (j ms : List ℕ). lent (withTxn t finally sees (m .store)) j (m .files) (m .logs) ms (m .undo))
                     (moved .journal ∙ ej ∙ sym (journal-settled (m .store) (m .journal) (m .logs) t o choice)) (served .marking ∙ marks-set e places-are)
                     ∙ sym (ap (λ (w : Turn). w .after) accepted);
                 reader = served .bytes ∙ bytes-given e places-are ∙ sym (ap (λ (w : Turn). w .reply .buffer) accepted);
               }
 
 -- The same of what the code has, once it may look: the record before settling and after.
-module _ {kept files logs marks : List ℕ} {t d n : ℕ} (buffer : List ℕ) (l : Looking kept files logs marks t d n (length buffer)) (now : List ℕ) where
+module _ {kept files logs marks undo : List ℕ} {t d n : ℕ} (buffer : List ℕ) (l : Looking kept files logs marks undo t d n (length buffer)) (now : List ℕ) where
   abbrev SettledTo : Verdict → Type 0
   SettledTo = SettledAs (λ x. chosenByRead (storeOf kept .filenumbers) x d) t kept now
 
   abbrev machine : Machine
-  machine = machineOf kept files logs marks
+  machine = machineOf kept files logs marks undo
 
   abbrev answered : Turn
   answered = call (on t (read d n buffer)) machine
 
-  pub past-follows : SettledTo verdict.Past → Meets answered (Refused SettledPastEnd) (machineOf now files logs marks) buffer × LeftAsFound (Refused SettledPastEnd) kept now
+  pub past-follows : SettledTo verdict.Past → Meets answered (Refused SettledPastEnd) (machineOf now files logs marks undo) buffer × LeftAsFound (Refused SettledPastEnd) kept now
   past-follows s =
-      turned-left SettledPastEnd buffer kept files logs marks answered
+      turned-left SettledPastEnd buffer kept files logs marks undo answered
       (read-past t d n buffer machine (l .passes) (l .held) (l .may .fresh) (l .may .low) (l .may .roomy) (verdict-past _ _ _ (sym (s .answer)))) now (s .refused refl)
 
   module _ (s : SettledTo verdict.Settled) where
@@ -423,7 +423,7 @@ module _ {kept files logs marks : List ℕ} {t d n : ℕ} (buffer : List ℕ) (l
 
     pub read-follows : (r : ℕ) (after marksThen reader : List ℕ) → r ≡ placesFrom now t d n .length → MovedOn t d n (placesFrom now t d n) now after
         → Served t (placesFrom now t d n) now files logs marks buffer marksThen reader
-        → Meets answered (Given r) (machineOf after files logs marksThen) reader × LeftAsFound (Given r) kept after
+        → Meets answered (Given r) (machineOf after files logs marksThen undo) reader × LeftAsFound (Given r) kept after
     read-follows r after marksThen reader er moved served = (
       read-meets t d n buffer machine (l .passes) (l .held) (l .may .fresh) (l .may .low) (l .may .roomy) (verdict-settled _ _ _ (sym (s .answer))) limits now stands-now (s .store refl) (s .journal refl)
           r after marksThen reader er moved served,

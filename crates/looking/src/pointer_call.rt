@@ -21,12 +21,13 @@ pub fn get_file_pointer(
     files: &[u8],
     logs: &[u8],
     marks: &[u8],
+    undo: &[u8],
     t: usize,
     d: usize,
 ) -> Outcome
-    ensures { λ r. ⌜ Follows (call (Call.on t (Op.getFilePointer d))) kept files logs marks r [] ⌝ }
+    ensures { λ r. ⌜ Follows (call (Call.on t (Op.getFilePointer d))) kept files logs marks undo r [] ⌝ }
 {
-    let g = ranges::admit(kept, files.len(), logs.len(), marks.len(), t);
+    let g = ranges::admit(kept, files.len(), logs.len(), marks.len(), undo.len(), t);
     if let Gate::Refused(r) = g {
         return Outcome::Refused(r);
     }

@@ -100,15 +100,16 @@ pub fn read<'a>(
     files: &'a [u8],
     logs: &'a [u8],
     marks: &mut [u8],
+    undo: &[u8],
     t: usize,
     d: usize,
     n: usize,
     reader: &mut [u8],
 ) -> Outcome
-    ensures { λ r. ⌜ Follows (call (Call.on t (Op.read d n (now (reader .entry))))) kept files logs marks r
+    ensures { λ r. ⌜ Follows (call (Call.on t (Op.read d n (now (reader .entry))))) kept files logs marks undo r
         (now (reader .exit)) ⌝ }
 {
-    let g = ranges::admit(kept, files.len(), logs.len(), marks.len(), t);
+    let g = ranges::admit(kept, files.len(), logs.len(), marks.len(), undo.len(), t);
     if let Gate::Refused(r) = g {
         return Outcome::Refused(r);
     }

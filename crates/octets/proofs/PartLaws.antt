@@ -79,6 +79,9 @@ module _ (d : List ℕ) (at : ℕ) (s : List ℕ) (fits : at + length s ≤ leng
       ap (λ (k : ℕ). getD (take at d ++ (s ++ drop (at + length s) d)) (k + i) z) (sym length-head)
       ∙ getD-append-add (take at d) (s ++ drop (at + length s) d) i z
 
+  pub pasted-in : (i z : ℕ) → i < length s → getD (pasted d at s) (at + i) z ≡ getD s i z
+  pasted-in i z h = from-at i z ∙ List·getD-append s (drop (at + length s) d) z i h
+
   pub pasted-after : (i z : ℕ) → at + length s ≤ i → getD (pasted d at s) i z ≡ getD d i z
   pasted-after i z h =
       ap (λ (k : ℕ). getD (pasted d at s) k z) e
@@ -128,6 +131,10 @@ module _ (d : List ℕ) (at : ℕ) (s : List ℕ) (fits : at + length s ≤ leng
   pub cut-pasted-before : (p n : ℕ) → p + n ≤ at → cut (pasted d at s) p n ≡ cut d p n
   cut-pasted-before p n h =
       cut-same (pasted d at s) d p n (length-pasted d at s fits) (λ i g k. pasted-before d at s fits i 0 (omega arith))
+
+  pub cut-pasted-after : (p n : ℕ) → at + length s ≤ p → cut (pasted d at s) p n ≡ cut d p n
+  cut-pasted-after p n h =
+      cut-same (pasted d at s) d p n (length-pasted d at s fits) (λ i g k. pasted-after d at s fits i 0 (omega arith))
 
   -- what lies before the end of the paste, and what lies after it
   length-front : length (take at d ++ s) ≡ at + length s

@@ -45,6 +45,7 @@ fn on_lent(
     files: &mut [u8],
     logs: &mut [u8],
     marks: &mut [u8],
+    undo: &mut [u8],
     g: Generated,
     bytes: &mut [u8],
     reader: &mut [u8],
@@ -53,11 +54,11 @@ fn on_lent(
     let Made::Asks(q) = made else {
         let list = g.list;
         let n = within(g.listed, &list);
-        return store::fresh(kept, files, logs, marks, &list[..n]);
+        return store::fresh(kept, files, logs, marks, undo, &list[..n]);
     };
     put(bytes, g.first, g.step);
     put(reader, FILLED, 0);
-    requests::perform(kept, files, logs, marks, q, bytes, reader)
+    requests::perform(kept, files, logs, marks, undo, q, bytes, reader)
 }
 
 // Performs the call, with a short store buffer where it says so.
@@ -66,6 +67,7 @@ pub fn performed(
     files: &mut [u8],
     logs: &mut [u8],
     marks: &mut [u8],
+    undo: &mut [u8],
     g: Generated,
     bytes: &mut [u8],
     reader: &mut [u8],
@@ -73,6 +75,7 @@ pub fn performed(
     let f = lent(g, 1, files);
     let l = lent(g, 2, logs);
     let m = lent(g, 3, marks);
+    let u = lent(g, 4, undo);
     let n = within(g.size, bytes);
     let r = within(g.buffer, reader);
     on_lent(
@@ -80,6 +83,7 @@ pub fn performed(
         &mut files[..f],
         &mut logs[..l],
         &mut marks[..m],
+        &mut undo[..u],
         g,
         &mut bytes[..n],
         &mut reader[..r],

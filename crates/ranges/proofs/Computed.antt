@@ -4,11 +4,11 @@ use Rattle.windows.specs.Hours.{minuteIn}
 use Rattle.record.specs.State.{ended, begun}
 use Rattle.record.specs.Journal.{heldAs, held, writeRecordAt, withRecordAt, withRecords}
 use Rattle.ranges.specs.Below.{below, sum}
-use Rattle.ranges.specs.Ranges.{windowIn, standingIn, endsWithin, placeIn, recordIn, lengthsBefore, journalIn, transactionIn, storeIn}
-use Rattle.ranges.specs.Forged.{forged, lengthened, windowed, opened, journal, placed, first, deferred, Forged}
+use Rattle.ranges.specs.Ranges.{windowIn, standingIn, endsWithin, placeIn, recordIn, lengthsBefore, journalIn, transactionIn, tablesIn, placedIn, landedIn, grantPasses, undoIn, storeIn}
+use Rattle.ranges.specs.Forged.{forged, lengthened, windowed, opened, journal, granted, grantJournal, placed, first, deferred, Forged}
 
 pub forged-records : Forged
-unfolding ended begun heldAs held writeRecordAt withRecordAt withRecords below sum minuteIn windowIn standingIn endsWithin placeIn recordIn lengthsBefore journalIn transactionIn storeIn forged lengthened windowed opened journal placed first deferred
+unfolding ended begun heldAs held writeRecordAt withRecordAt withRecords below sum minuteIn windowIn standingIn endsWithin placeIn recordIn lengthsBefore journalIn transactionIn tablesIn placedIn landedIn grantPasses undoIn storeIn forged lengthened windowed opened journal granted grantJournal placed first deferred
 forged-records =
     record {
       file = (refl, refl);
@@ -22,4 +22,10 @@ forged-records =
       place = (refl, refl);
       unplaced = (refl, refl, refl, refl, refl);
       closed = refl;
+      grantRecords = (refl, refl);
+      grantBytes = (refl, refl, refl);
+      grantPlace = (refl, refl);
+      grantUnplaced = (refl, refl);
+      found = (refl, refl, refl);
+      nothingHeld = refl;
     }

@@ -1,5 +1,5 @@
 -- Laws of the definitions in specs/: tests and sums by index, what a passed test of a call tells, and what the ranges say.
-use mathlib.Core.Bool.{Bool, true, false, cond, not, _&&_, _||_, and-assoc}
+use mathlib.Core.Bool.{Bool, true, false, cond, not, _&&_, _||_, and-assoc, true≢false}
 use mathlib.Core.List.{List}
 use mathlib.Core.Path.{_≡_, refl, sym, ap, _∙_}
 use mathlib.Core.Logic.{⊎-elim}
@@ -17,18 +17,19 @@ use Rattle.standings.specs.declared.Place.{Place}
 use Rattle.standings.specs.declared.Place.the-variants.{At, After}
 use Rattle.standings.specs.Table.{advance, offsetOf, placeNumber}
 use Rattle.record.specs.declared.Transaction.{Transaction}
+use Rattle.record.specs.declared.Undo.{Undo}
 use Rattle.record.specs.declared.Store.{Store}
 use Rattle.record.specs.declared.journal.WriteRecord.{WriteRecord}
 use Rattle.record.specs.State.{transaction, standingAt, windowAt}
-use Rattle.record.specs.Journal.{writeRecordAt}
+use Rattle.record.specs.Journal.{writeRecordAt, grantStretch}
 use Rattle.octets.proofs.PartLaws.{le-or-lt}
 use Rattle.ranges.specs.Below.{below, someBelow, sum}
-use Rattle.ranges.specs.Ranges.{standingIn, endsWithin, placeIn, recordIn, lengthsBefore, journalIn, transactionIn, windowIn, storeIn, unless, Sizes, sizesIn, firstTests, shared, windowRefusal, admissionOfWindow, admissionOfFresh, gateNumber}
+use Rattle.ranges.specs.Ranges.{standingIn, endsWithin, placeIn, recordIn, lengthsBefore, journalIn, transactionIn, windowIn, tablesIn, placedIn, landedIn, grantPasses, undoIn, storeIn, unless, Sizes, sizesIn, firstTests, shared, windowRefusal, admissionOfWindow, noneBegun, admissionOfTakingBack, admissionOfFresh, gateNumber}
 use Rattle.ranges.specs.declared.Gate.{Gate}
 use Rattle.ranges.specs.declared.Gate.the-variants.{Pass, Refused}
 use Rattle.record.specs.Paper.{number}
 use Rattle.record.specs.declared.outcomes.Refusal.{Refusal}
-use Rattle.record.specs.declared.outcomes.Refusal.the-variants.{BufferLength, RecordRange, NoSuchTransaction, NotOpen, AlreadyOpen, NoSuchTarget, ReaderTooShort, SeekPastEnd, WritePastEnd, RecordsFull, LogFull, SettledPastEnd, Stale, NoSuchFile, NoPlaceYet, ListTooLong, BadLine, StaleReader, FileClosed, NoSuchMinute}
+use Rattle.record.specs.declared.outcomes.Refusal.the-variants.{BufferLength, RecordRange, NoSuchTransaction, NotOpen, AlreadyOpen, NoSuchTarget, ReaderTooShort, SeekPastEnd, WritePastEnd, RecordsFull, LogFull, SettledPastEnd, Stale, NoSuchFile, NoPlaceYet, ListTooLong, BadLine, StaleReader, FileClosed, NoSuchMinute, StillOpen, NoGrant}
 
 -- Tests joined by &&.
 pub and-left : (a b : Bool) → a && b ≡ true → a ≡ true
@@ -210,6 +211,8 @@ number-suc BadLine = (16, refl)
 number-suc StaleReader = (17, refl)
 number-suc FileClosed = (20, refl)
 number-suc NoSuchMinute = (21, refl)
+number-suc StillOpen = (22, refl)
+number-suc NoGrant = (23, refl)
 
 -- What the gate of tests 1 and 2 tells of those after them.
 module _ (g : Gate) (z : Sizes) (s : Store) (journal : List ℕ) (says : gateNumber g ≡ firstTests z s journal 0) (later : ℕ) where
@@ -229,17 +232,23 @@ unfolding unless
 unless-zero true n later l e = (refl, e)
 unless-zero false n later l e = absurd (let f : n ≡ 0 = e in omega arith)
 
--- The store buffers have 32,768 bytes each.
+-- The store buffers have 32,768 bytes each, that of the old bytes 4,096.
 pub record Lengths (z : Sizes) : Type 0 where
   pub files : z .files ≡ 32768
   pub logs : z .logs ≡ 32768
   pub marks : z .marks ≡ 32768
+  pub undo : z .undo ≡ 4096
 
 lengths-in : (z : Sizes) → sizesIn z ≡ true → Lengths z
 unfolding sizesIn
 lengths-in z e =
-    let three = and-three (eqb (z .files) 32768) (eqb (z .logs) 32768) (eqb (z .marks) 32768) e in
-    record { files = eqb-true _ _ (three .0); logs = eqb-true _ _ (three .1); marks = eqb-true _ _ (three .2) }
+    let last = and-three (eqb (z .files) 32768 && eqb (z .logs) 32768) (eqb (z .marks) 32768) (eqb (z .undo) 4096) e in
+    record {
+      files = eqb-true _ _ (and-left _ (eqb (z .logs) 32768) (last .0));
+      logs = eqb-true _ _ (and-right (eqb (z .files) 32768) _ (last .0));
+      marks = eqb-true _ _ (last .1);
+      undo = eqb-true _ _ (last .2);
+    }
 
 -- What a passed gate tells, and then whether the transaction is open.
 pub record Admitted (z : Sizes) (s : Store) (journal : List ℕ) (t : ℕ) : Type 0 where
@@ -295,6 +304,22 @@ admitted-window z s journal f start end e =
     let l = leb-true f 7 (c .0) in
     record { lengths = lengths-in z (a .0); ranges = b .0; small = omega arith; minutes = d .0 }
 
+-- What passed tests of a taking back tell.
+pub record AdmittedBack (z : Sizes) (s : Store) (journal : List ℕ) : Type 0 where
+  pub lengths : Lengths z
+  pub ranges : storeIn s journal ≡ true
+  pub idle : (t : ℕ) → t < 8 → transaction s t .begun ≡ false
+  pub held : s .undo .held ≡ true
+
+pub admitted-back : (z : Sizes) (s : Store) (journal : List ℕ) → admissionOfTakingBack z s journal ≡ 0 → AdmittedBack z s journal
+unfolding admissionOfTakingBack firstTests noneBegun
+admitted-back z s journal e =
+    let a = unless-zero (sizesIn z) 1 _ (omega arith) e in
+    let b = unless-zero (storeIn s journal) 2 _ (omega arith) (a .1) in
+    let c = unless-zero (below (λ t. not (transaction s t .begun)) 8) 23 _ (omega arith) (b .1) in
+    let d = unless-zero (s .undo .held) 24 0 (omega arith) (c .1) in
+    record { lengths = lengths-in z (a .0); ranges = b .0; idle = λ t l. not-true _ (below-at (λ t. not (transaction s t .begun)) 8 t (c .0) l); held = d .0 }
+
 pub record AdmittedFresh (z : Sizes) (xs : List ℕ) : Type 0 where
   pub lengths : Lengths z
   pub sixteen : length xs ≡ 16
@@ -315,12 +340,73 @@ pub record TransactionInRange (x : Transaction) (journal : List ℕ) (t : ℕ) :
   pub total : lengthsBefore journal t (x .used .records) ≡ x .used .bytes
   pub writes : (k : ℕ) → k < x .used .records → recordIn x (writeRecordAt journal t k) ≡ true
 
+-- While a grant is held: its records, their places, and the offsets and lengths that it found.
+pub record UndoInRange (u : Undo) (journal : List ℕ) : Type 0 where
+  pub records : u .used .records ≤ 64
+  pub bytes : u .used .bytes ≤ 4096
+  pub total : lengthsBefore journal grantStretch (u .used .records) ≡ u .used .bytes
+  pub writes : (k : ℕ) → k < u .used .records → landedIn (writeRecordAt journal grantStretch k) ≡ true
+  pub offsets : (d : ℕ) → d < 16 → getD (u .offsets) d 0 ≤ 4096
+  pub lengths : (f : ℕ) → f < 8 → getD (u .lengths) f 0 ≤ 4096
+
+module _ (u : Undo) (journal : List ℕ) where
+  pub undo-in : undoIn u journal ≡ true → u .held ≡ true → UndoInRange u journal
+  unfolding undoIn grantPasses
+  undo-in e b =
+      let n = u .used .records in
+      let offsets = below (λ d. leb (getD (u .offsets) d 0) 4096) 16 in
+      let lengths = below (λ f. leb (getD (u .lengths) f 0) 4096) 8 in
+      let writes = below (λ k. landedIn (writeRecordAt journal grantStretch k)) n in
+      let adds = eqb (lengthsBefore journal grantStretch n) (u .used .bytes) in
+      let first = leb n 64 && leb (u .used .bytes) 4096 in
+      let all = and-three (first && offsets) lengths (writes && adds) (or-right (u .held) (first && offsets && lengths && (writes && adds)) b e) in
+      let three = and-three (leb n 64) (leb (u .used .bytes) 4096) offsets (all .0) in
+      record {
+        records = leb-true _ _ (three .0);
+        bytes = leb-true _ _ (three .1);
+        total = eqb-true _ _ (and-right writes adds (all .2));
+        writes = λ k l. below-at (λ k. landedIn (writeRecordAt journal grantStretch k)) n k (and-left writes adds (all .2)) l;
+        offsets = λ d l. leb-true _ _ (below-at (λ d. leb (getD (u .offsets) d 0) 4096) 16 d (three .2) l);
+        lengths = λ f l. leb-true _ _ (below-at (λ f. leb (getD (u .lengths) f 0) 4096) 8 f (all .1) l);
+      }
+
+  pub undo-in-intro : (u .held ≡ true → UndoInRange u journal) → undoIn u journal ≡ true
+  unfolding undoIn grantPasses
+  undo-in-intro h =
+      or-intro (u .held) _ (λ b.
+      let r = h b in
+      and-both _ _
+      (and-both _ _
+      (and-both _ _
+      (and-both _ _ (le-leb _ _ (r .records)) (le-leb _ _ (r .bytes)))
+      (below-all (λ d. leb (getD (u .offsets) d 0) 4096) 16 (λ d l. le-leb _ _ (r .offsets d l))))
+      (below-all (λ f. leb (getD (u .lengths) f 0) 4096) 8 (λ f l. le-leb _ _ (r .lengths f l))))
+      (and-both _ _ (below-all (λ k. landedIn (writeRecordAt journal grantStretch k)) _ (r .writes)) (eq-eqb _ _ (r .total))))
+
+-- A record of the last grant in range: its descriptor, and where it ends.
+placed-end : (q : Place) (n : ℕ) → placedIn q n ≡ true → placeNumber q + n ≤ 4096
+unfolding placedIn
+placed-end (At p) n e = leb-true _ _ e
+placed-end (After a) n e = absurd (true≢false (sym e))
+
+pub landed-in : (w : WriteRecord) → landedIn w ≡ true → (w .descriptor ≤ 15) × (placeNumber (w .place) + w .length ≤ 4096)
+unfolding landedIn
+landed-in w e =
+    let within = placedIn (w .place) (w .length) in
+    let low = leb (w .descriptor) 15 in
+    (leb-true _ _ (and-left low within e), placed-end (w .place) (w .length) (and-right low within e))
+
+pub landed-in-intro : (d p n : ℕ) → d ≤ 15 → p + n ≤ 4096 → landedIn (record { descriptor = d; place = At p; length = n }) ≡ true
+unfolding landedIn placedIn
+landed-in-intro d p n l m = and-both _ _ (le-leb _ _ l) (le-leb _ _ m)
+
 -- What the ranges say of the record.
 pub record InRange (s : Store) (journal : List ℕ) : Type 0 where
   pub files : (d : ℕ) → d < 16 → getD (s .filenumbers) d 0 ≤ 7
   pub offsets : (d : ℕ) → d < 16 → getD (s .offsets) d 0 ≤ 4096
   pub lengths : (f : ℕ) → f < 8 → getD (s .lengths) f 0 ≤ 4096
   pub windows : (f : ℕ) → f < 8 → windowIn (windowAt s f) ≡ true
+  pub undo : s .undo .held ≡ true → UndoInRange (s .undo) journal
   pub transactions : (t : ℕ) → t < 8 → transaction s t .begun ≡ true → TransactionInRange (transaction s t) journal t
 
 module _ (x : Transaction) (journal : List ℕ) (t : ℕ) where
@@ -351,26 +437,28 @@ module _ (x : Transaction) (journal : List ℕ) (t : ℕ) where
       (le-leb _ _ (r .bytes))))
 
 pub in-range : (s : Store) (journal : List ℕ) → storeIn s journal ≡ true → InRange s journal
-unfolding storeIn
+unfolding storeIn tablesIn
 in-range s journal e =
     let files = below (λ d. leb (getD (s .filenumbers) d 0) 7) 16 in
     let offsets = below (λ d. leb (getD (s .offsets) d 0) 4096) 16 in
     let lengths = below (λ f. leb (getD (s .lengths) f 0) 4096) 8 in
     let windows = below (λ f. windowIn (windowAt s f)) 8 in
-    let last = and-three (files && offsets && lengths) windows (below (λ t. transactionIn (transaction s t) journal t) 8) e in
+    let last = and-three (files && offsets && lengths) windows (below (λ t. transactionIn (transaction s t) journal t) 8) (and-left (tablesIn s journal) (undoIn (s .undo) journal) e) in
     let first = and-three files offsets lengths (last .0) in
     record {
       files = λ d l. leb-true _ _ (below-at (λ d. leb (getD (s .filenumbers) d 0) 7) 16 d (first .0) l);
       offsets = λ d l. leb-true _ _ (below-at (λ d. leb (getD (s .offsets) d 0) 4096) 16 d (first .1) l);
       lengths = λ f l. leb-true _ _ (below-at (λ f. leb (getD (s .lengths) f 0) 4096) 8 f (first .2) l);
       windows = λ f l. below-at (λ f. windowIn (windowAt s f)) 8 f (last .1) l;
+      undo = undo-in (s .undo) journal (and-right (tablesIn s journal) (undoIn (s .undo) journal) e);
       transactions = λ t l b. transaction-in (transaction s t) journal t (below-at (λ t. transactionIn (transaction s t) journal t) 8 t (last .2) l) b;
     }
 
 pub in-range-intro : (s : Store) (journal : List ℕ) → InRange s journal → storeIn s journal ≡ true
-unfolding storeIn
+unfolding storeIn tablesIn
 in-range-intro s journal r =
     and-both _ _
+    (and-both _ _
     (and-both _ _
     (and-both _ _
     (and-both _ _
@@ -378,7 +466,8 @@ in-range-intro s journal r =
     (below-all (λ d. leb (getD (s .offsets) d 0) 4096) 16 (λ d l. le-leb _ _ (r .offsets d l))))
     (below-all (λ f. leb (getD (s .lengths) f 0) 4096) 8 (λ f l. le-leb _ _ (r .lengths f l))))
     (below-all (λ f. windowIn (windowAt s f)) 8 (r .windows)))
-    (below-all (λ t. transactionIn (transaction s t) journal t) 8 (λ t l. transaction-in-intro (transaction s t) journal t (r .transactions t l)))
+    (below-all (λ t. transactionIn (transaction s t) journal t) 8 (λ t l. transaction-in-intro (transaction s t) journal t (r .transactions t l))))
+    (undo-in-intro (s .undo) journal (r .undo))
 
 -- What the ranges say of a write record: its descriptor, and its place under that descriptor's standing.
 pub record RecordInRange (x : Transaction) (w : WriteRecord) : Type 0 where

@@ -14,14 +14,15 @@ use Rattle.standings.specs.declared.Place.{Place}
 use Rattle.standings.specs.declared.Place.the-variants.{At, After}
 use Rattle.standings.specs.Table.{advance, mayWait, placeNumber}
 use Rattle.record.specs.declared.Transaction.{Transaction}
+use Rattle.record.specs.declared.Undo.{Undo}
 use Rattle.record.specs.declared.journal.WriteRecord.{WriteRecord}
 use Rattle.record.specs.State.{transaction, standingAt, windowAt}
 use Rattle.windows.specs.Hours.{minuteIn}
 use Rattle.record.specs.Layout.{standingOf, windowOf, transactionOf, storeOf, journalOf}
-use Rattle.record.proofs.LayoutLaws.{file-of, offset-of, length-of, window-of, transaction-of}
+use Rattle.record.proofs.LayoutLaws.{file-of, offset-of, length-of, window-of, transaction-of, found-offset-of, found-length-of}
 use Rattle.record.specs.Journal.{writeRecordAt}
 use Rattle.ranges.specs.Below.{below}
-use Rattle.ranges.specs.Ranges.{standingIn, endsWithin, placeIn, recordIn, lengthsBefore, journalIn, journalPasses, transactionIn, windowIn, storeIn}
+use Rattle.ranges.specs.Ranges.{standingIn, endsWithin, placeIn, recordIn, lengthsBefore, journalIn, journalPasses, transactionIn, windowIn, tablesIn, placedIn, landedIn, grantPasses, undoIn, noneBegun}
 use Rattle.ranges.proofs.Laws.{and-left, and-true, below-same, below-both, below-sum, sum-zero, sum-more}
 
 and-false : (a : Bool) → a && false ≡ false
@@ -111,6 +112,34 @@ pub lengths-more : (journal : List ℕ) (t n s v : ℕ) → s ≡ lengthsBefore 
 unfolding lengthsBefore
 lengths-more journal t n s v e f = rw (e, f) (sym (sum-more _ n))
 
+-- ---- a write record of the last grant
+
+module _ (q : Place) (n : ℕ) where
+  pub placed-decides : {p : ℕ} (k m : ℕ) → q ≡ At p → k ≡ placeNumber q → m ≡ n → leb (k + m) 4096 ≡ placedIn q n
+  unfolding placedIn
+  placed-decides k m is-at is-k is-m = rw (is-k, is-m, is-at)
+
+  pub unplaced-out : {a : ℕ} → q ≡ After a → false ≡ placedIn q n
+  unfolding placedIn
+  unplaced-out is-after = rw is-after
+
+-- Record w, read from the journal.
+module _ (w v : WriteRecord) (is-v : w ≡ v) where
+  pub high-out : 15 < w .descriptor → landedIn v ≡ false
+  unfolding landedIn
+  high-out l = rw (← is-v, lt-leb (w .descriptor) 15 l)
+
+  module _ (low : w .descriptor ≤ 15) (r : Bool) (is-r : r ≡ placedIn (w .place) (w .length)) where
+    landed-decides : landedIn v ≡ r
+    unfolding landedIn
+    landed-decides = rw (← is-v, le-leb (w .descriptor) 15 low, is-r)
+
+    pub landed-out : not r ≡ true → landedIn v ≡ false
+    landed-out h = landed-decides ∙ not-true _ h
+
+    pub landed-passes : not r ≡ false → landedIn v ≡ true
+    landed-passes h = landed-decides ∙ not-false _ h
+
 -- The last two tests of a journal, joined.
 pub and-fails : (a b : Bool) → a ≡ false → false ≡ a && b
 and-fails a b e = rw e
@@ -162,30 +191,89 @@ module _ (x : Transaction) (journal : List ℕ) (t : ℕ) where
         pub records-decide : (r : Bool) → below (λ d. standingIn (standingAt x d)) 16 ≡ true → r ≡ journalPasses x journal t n m → r ≡ transactionIn x journal t
         records-decide r standings e = e ∙ sym (counted ∙ rw standings)
 
+-- ---- what is held of the last grant
+
+-- The offsets and the lengths that it found, in the record's own numbers.
+found-decide : (r : List ℕ)
+    → below (λ d. leb (getD (storeOf r .undo .offsets) d 0) 4096) 16 && below (λ f. leb (getD (storeOf r .undo .lengths) f 0) 4096) 8
+    ≡ below (λ k. leb (getD r (2296 + k) 0) 4096) 24
+found-decide r =
+    rw (below-same (λ d. leb (getD (storeOf r .undo .offsets) d 0) 4096) found 16 (λ d h. rw (found-offset-of r d h)), below-same (λ f. leb (getD (storeOf r .undo .lengths) f 0) 4096) (λ k. found (16 + k)) 8 behind)
+    (sym (below-sum found 16 8))
+  where
+    found : ℕ → Bool
+    found k = leb (getD r (2296 + k) 0) 4096
+
+    behind : (f : ℕ) → f < 8 → leb (getD (storeOf r .undo .lengths) f 0) 4096 ≡ found (16 + f)
+    behind f h = let e : 2296 + (16 + f) ≡ 2312 + f = omega arith in rw (found-length-of r f h, e)
+
+module _ (r : List ℕ) where
+  abbrev undo : Undo
+  undo = storeOf r .undo
+
+  abbrev found : Bool
+  found = below (λ k. leb (getD r (2296 + k) 0) 4096) 24
+
+  pub nothing-held : undo .held ≡ false → true ≡ undoIn undo (journalOf r)
+  unfolding undoIn
+  nothing-held e = or-closed (undo .held) _ e
+
+  module _ (held : undo .held ≡ true) where
+    joined : (a b c d e : Bool) → a && b && c && d && e ≡ a && b && (c && d) && e
+    joined true true c d e = refl
+    joined true false c d e = refl
+    joined false b c d e = refl
+
+    held-in : undoIn undo (journalOf r) ≡ leb (undo .used .records) 64 && leb (undo .used .bytes) 4096 && found && grantPasses (journalOf r) (undo .used .records) (undo .used .bytes)
+    unfolding undoIn
+    held-in = or-begun (undo .held) _ held ∙ joined (leb (undo .used .records) 64) _ _ _ _ ∙ rw (found-decide r)
+
+    pub grant-records-fail : (n : ℕ) → n ≡ undo .used .records → 64 < n → false ≡ undoIn undo (journalOf r)
+    grant-records-fail n e l = sym (held-in ∙ rw (lt-leb (undo .used .records) 64 (rw e at l)))
+
+    module _ (n m : ℕ) (is-n : n ≡ undo .used .records) (is-m : m ≡ undo .used .bytes) (few : n ≤ 64) where
+      pub grant-bytes-fail : 4096 < m → false ≡ undoIn undo (journalOf r)
+      grant-bytes-fail l = sym (held-in ∙ rw (le-leb (undo .used .records) 64 (rw is-n at few), lt-leb (undo .used .bytes) 4096 (rw is-m at l)))
+
+      module _ (fits : m ≤ 4096) where
+        grant-counted : undoIn undo (journalOf r) ≡ found && grantPasses (journalOf r) n m
+        grant-counted = rw (is-n, is-m) (held-in ∙ rw (le-leb (undo .used .records) 64 (rw is-n at few), le-leb (undo .used .bytes) 4096 (rw is-m at fits)))
+
+        pub found-fails : found ≡ false → false ≡ undoIn undo (journalOf r)
+        found-fails e = sym (grant-counted ∙ rw e)
+
+        pub grant-decides : (b : Bool) → found ≡ true → b ≡ grantPasses (journalOf r) n m → b ≡ undoIn undo (journalOf r)
+        grant-decides b all e = e ∙ sym (grant-counted ∙ rw all)
+
 -- ---- the whole record
 
+-- No transaction is open, read by name.
+pub none-decides : (r : List ℕ) → below (λ t. not (transactionOf r t .begun)) 8 ≡ noneBegun (storeOf r)
+unfolding noneBegun
+none-decides r = below-same _ _ 8 (λ t h. rw (transaction-of r t h))
+
 -- The windows in the record's own numbers: the starts, and behind them the ends.
-windows-decide : (r : List ℕ) → below (λ f. windowIn (windowAt (storeOf r) f)) 8 ≡ below (λ k. leb (getD r (2088 + k) 0) 1439) 16
+windows-decide : (r : List ℕ) → below (λ f. windowIn (windowAt (storeOf r) f)) 8 ≡ below (λ k. leb (getD r (2280 + k) 0) 1439) 16
 windows-decide r =
     below-same (λ f. windowIn (windowAt (storeOf r) f)) (λ f. starts f && ends f) 8 (λ f h. ap windowIn (window-of r f h) ∙ both f)
     ∙ sym (below-sum starts 8 8 ∙ ap (λ (b : Bool). below starts 8 && b) (below-same (λ k. starts (8 + k)) ends 8 behind) ∙ below-both starts ends 8)
   where
     starts : ℕ → Bool
-    starts k = leb (getD r (2088 + k) 0) 1439
+    starts k = leb (getD r (2280 + k) 0) 1439
 
     ends : ℕ → Bool
-    ends k = leb (getD r (2096 + k) 0) 1439
+    ends k = leb (getD r (2288 + k) 0) 1439
 
     behind : (k : ℕ) → k < 8 → starts (8 + k) ≡ ends k
-    behind k h = let e : 2088 + (8 + k) ≡ 2096 + k = omega arith in ap (λ (i : ℕ). leb (getD r i 0) 1439) e
+    behind k h = let e : 2280 + (8 + k) ≡ 2288 + k = omega arith in ap (λ (i : ℕ). leb (getD r i 0) 1439) e
 
     both : (f : ℕ) → windowIn (windowOf r f) ≡ starts f && ends f
     both f = unfold windowIn windowOf minuteIn in refl
 
--- Check 2 in the record's own numbers.
-pub store-numbers : (r : List ℕ) → storeIn (storeOf r) (journalOf r)
-    ≡ below (λ k. leb (getD r (2048 + k) 0) 7) 16 && below (λ k. leb (getD r (2064 + k) 0) 4096) 16 && below (λ k. leb (getD r (2080 + k) 0) 4096) 8
-    && below (λ k. leb (getD r (2088 + k) 0) 1439) 16 && below (λ t. transactionIn (transactionOf r t) (journalOf r) t) 8
-unfolding storeIn
-store-numbers r =
-    rw (below-same (λ d. leb (getD (storeOf r .filenumbers) d 0) 7) (λ k. leb (getD r (2048 + k) 0) 7) 16 (λ d h. rw (file-of r d h)), below-same (λ d. leb (getD (storeOf r .offsets) d 0) 4096) (λ k. leb (getD r (2064 + k) 0) 4096) 16 (λ d h. rw (offset-of r d h)), below-same (λ f. leb (getD (storeOf r .lengths) f 0) 4096) (λ k. leb (getD r (2080 + k) 0) 4096) 8 (λ f h. rw (length-of r f h)), windows-decide r, below-same (λ t. transactionIn (transaction (storeOf r) t) (journalOf r) t) (λ t. transactionIn (transactionOf r t) (journalOf r) t) 8 (λ t h. rw (transaction-of r t h)))
+-- Check 2 in the record's own numbers, but for what is held of the last grant.
+pub tables-numbers : (r : List ℕ) → tablesIn (storeOf r) (journalOf r)
+    ≡ below (λ k. leb (getD r (2240 + k) 0) 7) 16 && below (λ k. leb (getD r (2256 + k) 0) 4096) 16 && below (λ k. leb (getD r (2272 + k) 0) 4096) 8
+    && below (λ k. leb (getD r (2280 + k) 0) 1439) 16 && below (λ t. transactionIn (transactionOf r t) (journalOf r) t) 8
+unfolding tablesIn
+tables-numbers r =
+    rw (below-same (λ d. leb (getD (storeOf r .filenumbers) d 0) 7) (λ k. leb (getD r (2240 + k) 0) 7) 16 (λ d h. rw (file-of r d h)), below-same (λ d. leb (getD (storeOf r .offsets) d 0) 4096) (λ k. leb (getD r (2256 + k) 0) 4096) 16 (λ d h. rw (offset-of r d h)), below-same (λ f. leb (getD (storeOf r .lengths) f 0) 4096) (λ k. leb (getD r (2272 + k) 0) 4096) 8 (λ f h. rw (length-of r f h)), windows-decide r, below-same (λ t. transactionIn (transaction (storeOf r) t) (journalOf r) t) (λ t. transactionIn (transactionOf r t) (journalOf r) t) 8 (λ t h. rw (transaction-of r t h)))

@@ -1,5 +1,5 @@
 -- Check 2 on forged records: each breaks one range, beside a record that stands just within it.
-use mathlib.Core.Bool.{true, false}
+use mathlib.Core.Bool.{Bool, true, false}
 use mathlib.Core.List.{List, []}
 use mathlib.Core.Path.{_≡_}
 use lib.ListN.{set, replicate}
@@ -11,8 +11,8 @@ use Rattle.standings.specs.declared.Place.the-variants.{At, After}
 use Rattle.record.specs.declared.Transaction.{Transaction}
 use Rattle.record.specs.declared.Store.{Store}
 use Rattle.record.specs.declared.journal.WriteRecord.{WriteRecord}
-use Rattle.record.specs.State.{noDescriptor, ended, begun, withUsed, withDescriptors, withBegun, withLengths, withWindows}
-use Rattle.record.specs.Journal.{withRecords}
+use Rattle.record.specs.State.{noDescriptor, ended, begun, withUsed, withDescriptors, withBegun, withLengths, withWindows, withUndo, noUndo}
+use Rattle.record.specs.Journal.{grantStretch, withRecords}
 use Rattle.ranges.specs.Ranges.{storeIn}
 
 -- A store whose transaction 7 is x, with the file number of descriptor 15 and the offset of descriptor 15.
@@ -23,6 +23,7 @@ forged file offset x =
       offsets = set (replicate 16 0) 15 offset;
       lengths = replicate 8 0;
       windows = replicate 8 freshWindow;
+      undo = noUndo;
       transactions = set (replicate 8 ended) 7 x;
     }
 
@@ -42,7 +43,23 @@ opened z n bytes =
 
 -- A journal whose first n records of transaction 7 are those.
 unfoldable pub journal : (ℕ → WriteRecord) → ℕ → List ℕ
-journal f n = withRecords (replicate 1536 0) 7 f n
+journal f n = withRecords (replicate 1728 0) 7 f n
+
+-- A store that holds a grant or not, with that many records and bytes; the offset that it found of descriptor 15, the length of file 7.
+unfoldable pub granted : Bool → ℕ → ℕ → ℕ → ℕ → Store
+granted held records bytes offset length =
+    withUndo
+    (record {
+      held = held;
+      used = record { records = records; bytes = bytes };
+      offsets = set (replicate 16 0) 15 offset;
+      lengths = set (replicate 8 0) 7 length;
+    })
+    (forged 0 0 ended)
+
+-- A journal whose first n records of the last grant are those.
+unfoldable pub grantJournal : (ℕ → WriteRecord) → ℕ → List ℕ
+grantJournal f n = withRecords (replicate 1728 0) grantStretch f n
 
 -- Records of n bytes at place p of descriptor 15's file; one of n bytes before others of 1; records without a place.
 unfoldable pub placed : ℕ → ℕ → ℕ → WriteRecord
@@ -95,3 +112,23 @@ pub record Forged : Type 0 where
       × (storeIn (forged 0 0 (opened Untouched 1 3)) (journal (deferred 15 3) 1) ≡ false)
   -- "in each open transaction": what lies about in a closed one passes.
   pub closed : storeIn (forged 0 0 (withBegun false (opened (Known 9999) 200 9999))) [] ≡ true
+  -- 02, F-13: "Check 2 covers what the record holds for this as it covers a log's placed records, offsets and lengths."
+  pub grantRecords :
+      (storeIn (granted true 64 0 0 0) (grantJournal (placed 0 0) 64) ≡ true)
+      × (storeIn (granted true 65 0 0 0) (grantJournal (placed 0 0) 65) ≡ false)
+  pub grantBytes :
+      (storeIn (granted true 2 4096 0 0) (grantJournal (first 4095) 2) ≡ true)
+      × (storeIn (granted true 2 4097 0 0) (grantJournal (first 4096) 2) ≡ false)
+      × (storeIn (granted true 2 4095 0 0) (grantJournal (first 4095) 2) ≡ false)
+  pub grantPlace :
+      (storeIn (granted true 1 4095 0 0) (grantJournal (placed 1 4095) 1) ≡ true)
+      × (storeIn (granted true 1 4096 0 0) (grantJournal (placed 1 4096) 1) ≡ false)
+  -- A record without a place, and one that cannot have one: its descriptor is above 15.
+  pub grantUnplaced :
+      (storeIn (granted true 1 3 0 0) (grantJournal (deferred 15 3) 1) ≡ false)
+      × (storeIn (granted true 1 3 0 0) (grantJournal (deferred 16 3) 1) ≡ false)
+  pub found :
+      (storeIn (granted true 0 0 4096 4096) [] ≡ true) × (storeIn (granted true 0 0 4097 0) [] ≡ false)
+      × (storeIn (granted true 0 0 0 4097) [] ≡ false)
+  -- What lies about while nothing is held passes.
+  pub nothingHeld : storeIn (granted false 200 9999 9999 9999) (grantJournal (deferred 16 9999) 1) ≡ true

@@ -11,10 +11,11 @@ use Rattle.standings.specs.declared.Standing.the-variants.{Untouched, Placed, D
 use Rattle.standings.specs.declared.Place.{Place}
 use Rattle.standings.specs.declared.Place.the-variants.{At, After}
 use Rattle.record.specs.declared.Transaction.{Transaction}
+use Rattle.record.specs.declared.Undo.{Undo}
 use Rattle.record.specs.declared.Store.{Store}
 use Rattle.record.specs.declared.journal.WriteRecord.{WriteRecord}
 use Rattle.record.specs.State.{transaction, standingAt, windowAt}
-use Rattle.record.specs.Journal.{writeRecordAt}
+use Rattle.record.specs.Journal.{writeRecordAt, grantStretch}
 use Rattle.record.specs.Paper.{number}
 use Rattle.ranges.specs.declared.Gate.{Gate}
 use Rattle.ranges.specs.declared.Gate.the-variants.{Pass, Refused}
@@ -45,7 +46,7 @@ placeIn z (After a) n = leb (a + n) 4096 && endsWithin z (a + n)
 unfoldable pub recordIn : Transaction → WriteRecord → Bool
 recordIn x w = leb (w .descriptor) 15 && placeIn (standingAt x (w .descriptor)) (w .place) (w .length)
 
--- The lengths of transaction t's first n records, together.
+-- The lengths of the first n records of stretch t, together.
 unfoldable pub lengthsBefore : List ℕ → ℕ → ℕ → ℕ
 lengthsBefore journal t n = sum (λ k. writeRecordAt journal t k .length) n
 
@@ -72,13 +73,40 @@ windowIn w = minuteIn (w .start) && minuteIn (w .end)
 
 -- "files at most 7; committed offsets at most 4,096; and in each open transaction .."; 02, F-8: "Check 2 covers lengths, at most 4,096.";
 -- F-11: "Check 2 covers the windows."
-unfoldable pub storeIn : Store → List ℕ → Bool
-storeIn s journal =
+unfoldable pub tablesIn : Store → List ℕ → Bool
+tablesIn s journal =
     below (λ d. leb (getD (s .filenumbers) d 0) 7) 16
     && below (λ d. leb (getD (s .offsets) d 0) 4096) 16
     && below (λ f. leb (getD (s .lengths) f 0) 4096) 8
     && below (λ f. windowIn (windowAt s f)) 8
     && below (λ t. transactionIn (transaction s t) journal t) 8
+
+-- 02, F-13: "Check 2 covers what the record holds for this as it covers a log's placed records, offsets and lengths." A record of the
+-- last grant has a place, and no standing bounds it.
+unfoldable pub placedIn : Place → ℕ → Bool
+placedIn (At p) n = leb (p + n) 4096
+placedIn (After a) n = false
+
+unfoldable pub landedIn : WriteRecord → Bool
+landedIn w = leb (w .descriptor) 15 && placedIn (w .place) (w .length)
+
+-- "records at most 64, their lengths adding to the data used, at most 4,096": those of the last grant; the part that goes over them.
+unfoldable pub grantPasses : List ℕ → ℕ → ℕ → Bool
+grantPasses journal records bytes =
+    below (λ k. landedIn (writeRecordAt journal grantStretch k)) records && eqb (lengthsBefore journal grantStretch records) bytes
+
+-- All of it, with the offsets and the lengths that the grant found; only while one is held.
+unfoldable pub undoIn : Undo → List ℕ → Bool
+undoIn u journal =
+    not (u .held)
+    || (leb (u .used .records) 64 && leb (u .used .bytes) 4096
+    && below (λ d. leb (getD (u .offsets) d 0) 4096) 16
+    && below (λ f. leb (getD (u .lengths) f 0) 4096) 8
+    && grantPasses journal (u .used .records) (u .used .bytes))
+
+-- All of check 2.
+unfoldable pub storeIn : Store → List ℕ → Bool
+storeIn s journal = tablesIn s journal && undoIn (s .undo) journal
 
 -- The number of a refusal when a test fails, otherwise what the later tests say; 0 stands for none.
 unfoldable pub unless : Bool → ℕ → ℕ → ℕ
@@ -89,13 +117,14 @@ pub record Sizes : Type 0 where
   pub files : ℕ
   pub logs : ℕ
   pub marks : ℕ
+  pub undo : ℕ
 
-abbrev pub sized : ℕ → ℕ → ℕ → Sizes
-sized files logs marks = record { files = files; logs = logs; marks = marks }
+abbrev pub sized : ℕ → ℕ → ℕ → ℕ → Sizes
+sized files logs marks undo = record { files = files; logs = logs; marks = marks; undo = undo }
 
--- "a store buffer .. has another length"
+-- "a store buffer .. has another length"; 02, F-13: "a fourth store buffer, of 4,096 bytes"; "1 covers the new buffer."
 unfoldable pub sizesIn : Sizes → Bool
-sizesIn z = eqb (z .files) 32768 && eqb (z .logs) 32768 && eqb (z .marks) 32768
+sizesIn z = eqb (z .files) 32768 && eqb (z .logs) 32768 && eqb (z .marks) 32768 && eqb (z .undo) 4096
 
 -- Refusals 1 and 2; then what comes after them.
 unfoldable pub firstTests : Sizes → Store → List ℕ → ℕ → ℕ
@@ -121,6 +150,14 @@ windowRefusal f start end = unless (leb f 7) 6 (unless (minuteIn start && minute
 -- Refusals 1 and 2, and then these: the call has no transaction number.
 unfoldable pub admissionOfWindow : Sizes → Store → List ℕ → ℕ → ℕ → ℕ → ℕ
 admissionOfWindow z s journal f start end = firstTests z s journal (windowRefusal f start end)
+
+-- No transaction is open.
+unfoldable pub noneBegun : Store → Bool
+noneBegun s = below (λ t. not (transaction s t .begun)) 8
+
+-- 02, F-13: "23 when any transaction is open, after 2; 24 when there has been no grant since the latest Fresh or taking back, after 23."
+unfoldable pub admissionOfTakingBack : Sizes → Store → List ℕ → ℕ
+admissionOfTakingBack z s journal = firstTests z s journal (unless (noneBegun s) 23 (unless (s .undo .held) 24 0))
 
 -- "a store buffer, or Fresh's list, has another length" (1); "Fresh with a file number above 7" (14). The file numbers are a list.
 unfoldable pub admissionOfFresh : Sizes → List ℕ → ℕ

@@ -1,4 +1,5 @@
-// The tests that calls share: the ranges of the record (refusal 2), and refusals 1 to 3, 6, 14 and 22 in their order.
+// The tests that calls share: the ranges of the record (refusal 2), and refusals 1 to 3, 6, 14 and 22 to 24 in their
+// order.
 
 use numbers::BUFFER_BYTES;
 use numbers::FILE_BYTES;
@@ -7,19 +8,24 @@ use numbers::wide;
 use record::DESCRIPTORS;
 use record::FILES;
 use record::TRANSACTIONS;
+use record::journal::GRANT;
 use record::journal::RECORDS;
 use record::journal::record_at;
 use record::layout::FILE_NUMBERS_AT;
+use record::layout::FOUND;
+use record::layout::FOUND_AT;
 use record::layout::LENGTHS_AT;
 use record::layout::OFFSETS_AT;
 use record::layout::Record;
 use record::layout::STARTS_AT;
 use record::layout::first_at;
 use record::layout::is_begun;
+use record::layout::is_held;
 use record::layout::kind_at;
 use record::layout::length_of;
 use record::layout::second_at;
 use record::layout::standing_at;
+use record::layout::undo_used;
 use record::layout::used_at;
 use record::outcomes::Refusal;
 use standings::Place;
@@ -34,8 +40,10 @@ ghost use Prim.Native.Nat.{_+_, _<_, _≤_};
 ghost use Rattle.record.specs.State.{standingAt};
 ghost use Rattle.record.specs.Layout.{standingOf, transactionOf, storeOf, journalOf, recordLength};
 ghost use Rattle.ranges.specs.Below.{below};
-ghost use Rattle.ranges.specs.Ranges.{standingIn, placeIn, journalPasses, transactionIn, storeIn, sized, sizesIn};
-ghost use Rattle.ranges.specs.Ranges.{firstTests, shared, admissionOfWindow, admissionOfFresh, gateNumber};
+ghost use Rattle.ranges.specs.Ranges.{standingIn, placeIn, journalPasses, transactionIn, tablesIn};
+ghost use Rattle.ranges.specs.Ranges.{placedIn, grantPasses, undoIn, storeIn, sized, sizesIn, noneBegun};
+ghost use Rattle.ranges.specs.Ranges.{firstTests, shared, admissionOfWindow, admissionOfTakingBack};
+ghost use Rattle.ranges.specs.Ranges.{admissionOfFresh, gateNumber};
 
 // What the tests before a call's own say: go on, or a refusal.
 pub enum Gate {
@@ -177,9 +185,9 @@ fn transactions_in(kept: &Record) -> bool
     true
 }
 
-// The record is in range.
-fn store_in(kept: &Record) -> bool
-    ensures { λ r. ⌜ r ≡ storeIn (storeOf (now (kept .entry))) (journalOf (now (kept .entry))) ⌝ }
+// Everything is in range but what is held of the last grant.
+fn tables_in(kept: &Record) -> bool
+    ensures { λ r. ⌜ r ≡ tablesIn (storeOf (now (kept .entry))) (journalOf (now (kept .entry))) ⌝ }
 {
     if !at_most(kept, FILE_NUMBERS_AT, DESCRIPTORS, 7) {
         return false;
@@ -196,9 +204,74 @@ fn store_in(kept: &Record) -> bool
     transactions_in(kept)
 }
 
-// Each store buffer has 32,768 bytes.
-fn sizes_in(files: usize, logs: usize, marks: usize) -> bool
-    ensures { λ r. ⌜ r ≡ sizesIn (sized files logs marks) ⌝ }
+// A write of n bytes of the last grant is in range: it has a place.
+fn placed_in(place: Place, n: u16) -> bool
+    ensures { λ r. ⌜ r ≡ placedIn place n ⌝ }
+{
+    let end = wide(place.number()) + wide(n);
+    match place {
+        Place::At(_) => end <= FILE_BYTES,
+        Place::After(_) => false,
+    }
+}
+
+// The last grant's first records are in range, and their lengths add to size.
+fn grant_in(kept: &Record, records: usize, size: usize) -> bool
+    requires { ⌜ records ≤ 64 ⌝ }
+    ensures { λ r. ⌜ r ≡ grantPasses (journalOf (now (kept .entry))) records size ⌝ }
+{
+    let mut sum = 0;
+    let mut k = 0;
+    while k < records {
+        let w = record_at(kept, GRANT, k);
+        if 15 < w.descriptor {
+            return false;
+        }
+        let place = w.place;
+        if !placed_in(place, w.length) {
+            return false;
+        }
+        sum += wide(w.length);
+        k += 1;
+    }
+    sum == size
+}
+
+// What is held of the last grant is in range.
+fn undo_in(kept: &Record) -> bool
+    ensures { λ r. ⌜ r ≡ undoIn (storeOf (now (kept .entry)) .undo) (journalOf (now (kept .entry))) ⌝ }
+{
+    if !is_held(kept) {
+        return true;
+    }
+    let used = undo_used(kept);
+    let records = used.records;
+    let size = wide(used.bytes);
+    if records > RECORDS {
+        return false;
+    }
+    if size > FILE_BYTES {
+        return false;
+    }
+    if !at_most(kept, FOUND_AT, FOUND, FILE_END) {
+        return false;
+    }
+    grant_in(kept, records, size)
+}
+
+// The record is in range.
+fn store_in(kept: &Record) -> bool
+    ensures { λ r. ⌜ r ≡ storeIn (storeOf (now (kept .entry))) (journalOf (now (kept .entry))) ⌝ }
+{
+    if !tables_in(kept) {
+        return false;
+    }
+    undo_in(kept)
+}
+
+// Each store buffer has 32,768 bytes, that of the old bytes 4,096.
+fn sizes_in(files: usize, logs: usize, marks: usize, undo: usize) -> bool
+    ensures { λ r. ⌜ r ≡ sizesIn (sized files logs marks undo) ⌝ }
 {
     if files != BUFFER_BYTES {
         return false;
@@ -206,17 +279,20 @@ fn sizes_in(files: usize, logs: usize, marks: usize) -> bool
     if logs != BUFFER_BYTES {
         return false;
     }
-    marks == BUFFER_BYTES
+    if marks != BUFFER_BYTES {
+        return false;
+    }
+    undo == FILE_BYTES
 }
 
-// Refusals 1 and 2, for every call but Fresh. files, logs and marks are the lengths of the lent buffers.
-pub fn first_tests(kept: &Record, files: usize, logs: usize, marks: usize) -> Gate
-    ensures gate { λ r. ⌜ gateNumber r ≡
-        firstTests (sized files logs marks) (storeOf (now (kept .entry))) (journalOf (now (kept .entry))) 0 ⌝ }
+// Refusals 1 and 2, for every call but Fresh. files, logs, marks and undo are the lengths of the lent buffers.
+pub fn first_tests(kept: &Record, files: usize, logs: usize, marks: usize, undo: usize) -> Gate
+    ensures gate { λ r. ⌜ gateNumber r
+        ≡ firstTests (sized files logs marks undo) (storeOf (now (kept .entry))) (journalOf (now (kept .entry))) 0 ⌝ }
     ensures long { λ _. ⌜ length (now (kept .entry)) ≡ recordLength ⌝ }
 {
     length_of(kept);
-    if !sizes_in(files, logs, marks) {
+    if !sizes_in(files, logs, marks, undo) {
         return Gate::Refused(Refusal::BufferLength);
     }
     if !store_in(kept) {
@@ -226,12 +302,12 @@ pub fn first_tests(kept: &Record, files: usize, logs: usize, marks: usize) -> Ga
 }
 
 // Refusals 1 to 3, for calls of a transaction.
-pub fn admit(kept: &Record, files: usize, logs: usize, marks: usize, t: usize) -> Gate
-    ensures gate { λ r. ⌜ gateNumber r ≡
-        shared (sized files logs marks) (storeOf (now (kept .entry))) (journalOf (now (kept .entry))) t 0 ⌝ }
+pub fn admit(kept: &Record, files: usize, logs: usize, marks: usize, undo: usize, t: usize) -> Gate
+    ensures gate { λ r. ⌜ gateNumber r
+        ≡ shared (sized files logs marks undo) (storeOf (now (kept .entry))) (journalOf (now (kept .entry))) t 0 ⌝ }
     ensures long { λ _. ⌜ length (now (kept .entry)) ≡ recordLength ⌝ }
 {
-    let g = first_tests(kept, files, logs, marks);
+    let g = first_tests(kept, files, logs, marks, undo);
     if let Gate::Refused(r) = g {
         return Gate::Refused(r);
     }
@@ -247,16 +323,17 @@ pub fn admit_window(
     files: usize,
     logs: usize,
     marks: usize,
+    undo: usize,
     f: usize,
     start: usize,
     end: usize,
 ) -> Gate
     ensures gate { λ r. ⌜ gateNumber r
-        ≡ admissionOfWindow (sized files logs marks) (storeOf (now (kept .entry))) (journalOf (now (kept .entry)))
+        ≡ admissionOfWindow (sized files logs marks undo) (storeOf (now (kept .entry))) (journalOf (now (kept .entry)))
         f start end ⌝ }
     ensures long { λ _. ⌜ length (now (kept .entry)) ≡ recordLength ⌝ }
 {
-    let g = first_tests(kept, files, logs, marks);
+    let g = first_tests(kept, files, logs, marks, undo);
     if let Gate::Refused(r) = g {
         return Gate::Refused(r);
     }
@@ -272,11 +349,50 @@ pub fn admit_window(
     Gate::Pass
 }
 
-// Refusals 1 and 14, for Fresh.
-pub fn admit_fresh(files: usize, logs: usize, marks: usize, numbers: &[u8]) -> Gate
-    ensures { λ r. ⌜ gateNumber r ≡ admissionOfFresh (sized files logs marks) (now (numbers .entry)) ⌝ }
+// No transaction is open. No branch: it goes over all of them.
+pub fn none_begun(kept: &Record) -> bool
+    ensures { λ r. ⌜ r ≡ noneBegun (storeOf (now (kept .entry))) ⌝ }
 {
-    if !sizes_in(files, logs, marks) {
+    let mut none = true;
+    let mut t = 0;
+    while t < TRANSACTIONS {
+        none = none & !is_begun(kept, t);
+        t += 1;
+    }
+    none
+}
+
+// Refusals 1, 2, 23 and 24, for the taking back of the last grant.
+pub fn admit_taking_back(
+    kept: &Record,
+    files: usize,
+    logs: usize,
+    marks: usize,
+    undo: usize,
+) -> Gate
+    ensures gate { λ r. ⌜ gateNumber r
+        ≡ admissionOfTakingBack (sized files logs marks undo) (storeOf (now (kept .entry)))
+        (journalOf (now (kept .entry))) ⌝ }
+    ensures long { λ _. ⌜ length (now (kept .entry)) ≡ recordLength ⌝ }
+{
+    let g = first_tests(kept, files, logs, marks, undo);
+    if let Gate::Refused(r) = g {
+        return Gate::Refused(r);
+    }
+    if !none_begun(kept) {
+        return Gate::Refused(Refusal::StillOpen);
+    }
+    if !is_held(kept) {
+        return Gate::Refused(Refusal::NoGrant);
+    }
+    Gate::Pass
+}
+
+// Refusals 1 and 14, for Fresh.
+pub fn admit_fresh(files: usize, logs: usize, marks: usize, undo: usize, numbers: &[u8]) -> Gate
+    ensures { λ r. ⌜ gateNumber r ≡ admissionOfFresh (sized files logs marks undo) (now (numbers .entry)) ⌝ }
+{
+    if !sizes_in(files, logs, marks, undo) {
         return Gate::Refused(Refusal::BufferLength);
     }
     if numbers.len() != DESCRIPTORS {

@@ -71,7 +71,7 @@ module _ (journal : List ℕ) (t k : ℕ) where
       let c = getD journal (i + 2) 0 in
       rw (holder-held a b c, number-held a b c, length-held a b c, set-getD journal i 0, set-getD journal (i + 1) 0, set-getD journal (i + 2) 0)
 
-  module _ (w : WriteRecord) (long : length journal ≡ 1536) (small : t < 8) (few : k < 64) where
+  module _ (w : WriteRecord) (long : length journal ≡ 1728) (small : t < 9) (few : k < 64) where
     at-same : w .descriptor < 16 → writeRecordAt (withRecordAt journal t k w) t k ≡ w
     unfolding withRecordAt writeRecordAt
     at-same low =
@@ -81,14 +81,14 @@ module _ (journal : List ℕ) (t k : ℕ) where
         let a = set journal i h in
         let b = set a (i + 1) p in
         let c = set b (i + 2) (w .length) in
-        let la : length a ≡ 1536 = length-set journal i h ∙ long in
-        let lb : length b ≡ 1536 = length-set a (i + 1) p ∙ la in
+        let la : length a ≡ 1728 = length-set journal i h ∙ long in
+        let lb : length b ≡ 1728 = length-set a (i + 1) p ∙ la in
         let e : getD c i 0 ≡ h = getD-set-other b (i + 2) i (w .length) 0 (λ q. omega arith) ∙ getD-set-other a (i + 1) i p 0 (λ q. omega arith) ∙ getD-set-same journal i h 0 (omega arith) in
         let f : getD c (i + 1) 0 ≡ p = getD-set-other b (i + 2) (i + 1) (w .length) 0 (λ q. omega arith) ∙ getD-set-same a (i + 1) p 0 (omega arith) in
         let g : getD c (i + 2) 0 ≡ w .length = getD-set-same b (i + 2) (w .length) 0 (omega arith) in
         rw (e, f, g) (held-record w low)
 
-    at-other : (u j : ℕ) → u < 8 → j < 64 → (64 * u + j ≡ 64 * t + k → ⊥) → writeRecordAt (withRecordAt journal t k w) u j ≡ writeRecordAt journal u j
+    at-other : (u j : ℕ) → u < 9 → j < 64 → (64 * u + j ≡ 64 * t + k → ⊥) → writeRecordAt (withRecordAt journal t k w) u j ≡ writeRecordAt journal u j
     unfolding withRecordAt writeRecordAt
     at-other u j m l ne =
         let i = 3 * (64 * t + k) in
@@ -129,9 +129,9 @@ module _ (journal : List ℕ) (t : ℕ) where
   with-own-records zero = refl
   with-own-records (suc n) = rw (with-own-records n, with-own journal t n)
 
-  module _ (f : ℕ → WriteRecord) (long : length journal ≡ 1536) (small : t < 8) where
+  module _ (f : ℕ → WriteRecord) (long : length journal ≡ 1728) (small : t < 9) where
     -- What is read elsewhere, past the records written or in another transaction.
-    pub read-past : (n u j : ℕ) → n ≤ 64 → u < 8 → j < 64 → ((k : ℕ) → k < n → 64 * u + j ≡ 64 * t + k → ⊥) → writeRecordAt (withRecords journal t f n) u j ≡ writeRecordAt journal u j
+    pub read-past : (n u j : ℕ) → n ≤ 64 → u < 9 → j < 64 → ((k : ℕ) → k < n → 64 * u + j ≡ 64 * t + k → ⊥) → writeRecordAt (withRecords journal t f n) u j ≡ writeRecordAt journal u j
     unfolding withRecords
     read-past zero u j few m l ne = refl
     read-past (suc n) u j few m l ne =
@@ -153,5 +153,5 @@ module _ (journal : List ℕ) (t : ℕ) where
         (eq-or-lt-of-le (le-of-suc-le-suc h))
 
     -- The records of another transaction.
-    pub read-elsewhere : (n u j : ℕ) → n ≤ 64 → u < 8 → j < 64 → (u ≡ t → ⊥) → writeRecordAt (withRecords journal t f n) u j ≡ writeRecordAt journal u j
+    pub read-elsewhere : (n u j : ℕ) → n ≤ 64 → u < 9 → j < 64 → (u ≡ t → ⊥) → writeRecordAt (withRecords journal t f n) u j ≡ writeRecordAt journal u j
     read-elsewhere n u j few m l other = read-past n u j few m l (λ k h q. other (omega arith))

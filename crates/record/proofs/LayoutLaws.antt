@@ -26,9 +26,9 @@ use Rattle.record.specs.declared.Descriptor.{Descriptor}
 use Rattle.record.specs.declared.Transaction.{Transaction}
 use Rattle.record.specs.declared.Store.{Store}
 use Rattle.record.specs.declared.journal.WriteRecord.{WriteRecord}
-use Rattle.record.specs.State.{ended, noTransaction, noDescriptor, transaction, standingAt, withTransaction, withBegun, withStale, withLengthmarks, withDescriptors, withUsed, withOffsets, withLengths, withWindows, windowAt}
+use Rattle.record.specs.State.{ended, noTransaction, noDescriptor, transaction, standingAt, withTransaction, withBegun, withStale, withLengthmarks, withDescriptors, withUsed, withOffsets, withLengths, withWindows, windowAt, noUndo}
 use Rattle.record.specs.Journal.{holder, writeRecordAt, withRecordAt}
-use Rattle.record.specs.Layout.{standingOf, isSet, base, descriptorOf, usedOf, transactionOf, storeOf, journalOf, kind, first, second, flag, withDescriptorAt, withChosenAt, withUsedAt, withStaleAt, withLengthmarksAt, zeroedFrom, resetAt, withFileNumberAt, withFileNumbersAt, withOffsetAt, withLengthAt, windowOf, withWindowAt, recordLength}
+use Rattle.record.specs.Layout.{standingOf, isSet, base, descriptorOf, usedOf, transactionOf, storeOf, journalOf, kind, first, second, flag, withDescriptorAt, withChosenAt, withUsedAt, withStaleAt, withLengthmarksAt, zeroedFrom, resetAt, withFileNumberAt, withFileNumbersAt, withOffsetAt, withLengthAt, windowOf, withWindowAt, undoOf, recordLength}
 use Rattle.standings.specs.Table.{placeNumber}
 use Rattle.record.proofs.Filled.{filled, filled-none, filled-set, filled-kept, filled-all}
 
@@ -36,16 +36,16 @@ use Rattle.record.proofs.Filled.{filled, filled-none, filled-set, fille
 
 module _ (r : List ℕ) where
   -- Write records stand in the journal as in the record.
-  pub record-of : (t k : ℕ) → t < 8 → k < 64 → writeRecordAt (journalOf r) t k ≡ writeRecordAt r t k
+  pub record-of : (t k : ℕ) → t < 9 → k < 64 → writeRecordAt (journalOf r) t k ≡ writeRecordAt r t k
   unfolding writeRecordAt journalOf
   record-of t k h l =
       let i = 3 * (64 * t + k) in
       let own : ℕ → ℕ = λ j. getD r j 0 in
-      rw (getD-tabulate own 1536 i 0 (omega arith), getD-tabulate own 1536 (i + 1) 0 (omega arith), getD-tabulate own 1536 (i + 2) 0 (omega arith))
+      rw (getD-tabulate own 1728 i 0 (omega arith), getD-tabulate own 1728 (i + 1) 0 (omega arith), getD-tabulate own 1728 (i + 2) 0 (omega arith))
 
-  pub length-journal : length (journalOf r) ≡ 1536
+  pub length-journal : length (journalOf r) ≡ 1728
   unfolding journalOf
-  length-journal = length-tabulate (λ i. getD r i 0) 1536
+  length-journal = length-tabulate (λ i. getD r i 0) 1728
 
   pub transaction-of : (t : ℕ) → t < 8 → transaction (storeOf r) t ≡ transactionOf r t
   unfolding storeOf
@@ -59,39 +59,52 @@ module _ (r : List ℕ) where
   unfolding descriptorOf
   standing-of t d h = ap (λ (q : Descriptor). q .standing) (descriptor-of t d h)
 
-  pub file-of : (d : ℕ) → d < 16 → getD (storeOf r .filenumbers) d 0 ≡ getD r (2048 + d) 0
+  pub file-of : (d : ℕ) → d < 16 → getD (storeOf r .filenumbers) d 0 ≡ getD r (2240 + d) 0
   unfolding storeOf
-  file-of d h = getD-tabulate (λ k. getD r (2048 + k) 0) 16 d 0 h
+  file-of d h = getD-tabulate (λ k. getD r (2240 + k) 0) 16 d 0 h
 
-  pub offset-of : (d : ℕ) → d < 16 → getD (storeOf r .offsets) d 0 ≡ getD r (2064 + d) 0
+  pub offset-of : (d : ℕ) → d < 16 → getD (storeOf r .offsets) d 0 ≡ getD r (2256 + d) 0
   unfolding storeOf
-  offset-of d h = getD-tabulate (λ k. getD r (2064 + k) 0) 16 d 0 h
+  offset-of d h = getD-tabulate (λ k. getD r (2256 + k) 0) 16 d 0 h
 
-  pub length-of : (f : ℕ) → f < 8 → getD (storeOf r .lengths) f 0 ≡ getD r (2080 + f) 0
+  pub length-of : (f : ℕ) → f < 8 → getD (storeOf r .lengths) f 0 ≡ getD r (2272 + f) 0
   unfolding storeOf
-  length-of f h = getD-tabulate (λ k. getD r (2080 + k) 0) 8 f 0 h
+  length-of f h = getD-tabulate (λ k. getD r (2272 + k) 0) 8 f 0 h
 
   pub window-of : (f : ℕ) → f < 8 → windowAt (storeOf r) f ≡ windowOf r f
   unfolding storeOf
   window-of f h = getD-tabulate (windowOf r) 8 f freshWindow h
 
+  pub found-offset-of : (d : ℕ) → d < 16 → getD (storeOf r .undo .offsets) d 0 ≡ getD r (2296 + d) 0
+  unfolding storeOf undoOf
+  found-offset-of d h = getD-tabulate (λ k. getD r (2296 + k) 0) 16 d 0 h
+
+  pub found-length-of : (f : ℕ) → f < 8 → getD (storeOf r .undo .lengths) f 0 ≡ getD r (2312 + f) 0
+  unfolding storeOf undoOf
+  found-length-of f h = getD-tabulate (λ k. getD r (2312 + k) 0) 8 f 0 h
+
 -- ---- two records that agree on some numbers
 
 module _ (r s : List ℕ) where
   -- They agree on the numbers from `from` on, n of them.
-  abbrev Agree : ℕ → ℕ → Type 0
+  abbrev pub Agree : ℕ → ℕ → Type 0
   Agree from n = (j : ℕ) → from ≤ j → j < from + n → getD s j 0 ≡ getD r j 0
 
-  journal-same : Agree 0 1536 → journalOf s ≡ journalOf r
+  pub journal-same : Agree 0 1728 → journalOf s ≡ journalOf r
   unfolding journalOf
-  journal-same e = table-same _ _ 1536 (λ k h. e k (omega arith) (omega arith))
+  journal-same e = table-same _ _ 1728 (λ k h. e k (omega arith) (omega arith))
 
-  column-same : (at n : ℕ) → Agree at n → tabulate (λ k. getD s (at + k) 0) n ≡ tabulate (λ k. getD r (at + k) 0) n
+  pub column-same : (at n : ℕ) → Agree at n → tabulate (λ k. getD s (at + k) 0) n ≡ tabulate (λ k. getD r (at + k) 0) n
   column-same at n e = table-same _ _ n (λ k h. e (at + k) (omega arith) (omega arith))
 
-  windows-same : Agree 2088 16 → tabulate (windowOf s) 8 ≡ tabulate (windowOf r) 8
+  pub undo-same : Agree 2296 27 → undoOf s ≡ undoOf r
+  unfolding undoOf
+  undo-same e =
+      rw (e 2320 (omega arith) (omega arith), e 2321 (omega arith) (omega arith), e 2322 (omega arith) (omega arith), column-same 2296 16 (λ j a b. e j a (omega arith)), column-same 2312 8 (λ j a b. e j (omega arith) (omega arith)))
+
+  pub windows-same : Agree 2280 16 → tabulate (windowOf s) 8 ≡ tabulate (windowOf r) 8
   unfolding windowOf
-  windows-same e = table-same _ _ 8 (λ f h. rw (e (2088 + f) (omega arith) (omega arith), e (2096 + f) (omega arith) (omega arith)))
+  windows-same e = table-same _ _ 8 (λ f h. rw (e (2280 + f) (omega arith) (omega arith), e (2288 + f) (omega arith) (omega arith)))
 
   descriptors-same : (t : ℕ) → Agree (base t) 48 → getD s (base t + 51) 0 ≡ getD r (base t + 51) 0
       → tabulate (descriptorOf s t) 16 ≡ tabulate (descriptorOf r t) 16
@@ -106,7 +119,7 @@ module _ (r s : List ℕ) where
       let same : (k : ℕ) → k < 64 → getD s (base t + k) 0 ≡ getD r (base t + k) 0 = λ k h. e (base t + k) (omega arith) (omega arith) in
       rw (same 48 (omega arith), same 49 (omega arith), same 50 (omega arith), same 52 (omega arith), same 53 (omega arith), descriptors-same t (λ j a b. e j a (omega arith)) (same 51 (omega arith)))
 
-  transactions-same : Agree 1536 512 → tabulate (transactionOf s) 8 ≡ tabulate (transactionOf r) 8
+  pub transactions-same : Agree 1728 512 → tabulate (transactionOf s) 8 ≡ tabulate (transactionOf r) 8
   transactions-same e = table-same _ _ 8 (λ t h. transaction-same t (λ j a b. e j (omega arith) (omega arith)))
 
   -- They agree but for the numbers of transaction t.
@@ -121,7 +134,7 @@ module _ (r s : List ℕ) where
     store-block : (y : Transaction) → transactionOf s t ≡ y → storeOf s ≡ withTransaction t y (storeOf r)
     unfolding storeOf withTransaction
     store-block y own =
-        rw (column-same 2048 16 (λ j a b. outside j (inr (omega arith))), column-same 2064 16 (λ j a b. outside j (inr (omega arith))), column-same 2080 8 (λ j a b. outside j (inr (omega arith))), windows-same (λ j a b. outside j (inr (omega arith))), table-set (transactionOf r) (transactionOf s) 8 t y small own (λ u l. other-transaction u))
+        rw (column-same 2240 16 (λ j a b. outside j (inr (omega arith))), column-same 2256 16 (λ j a b. outside j (inr (omega arith))), column-same 2272 8 (λ j a b. outside j (inr (omega arith))), windows-same (λ j a b. outside j (inr (omega arith))), undo-same (λ j a b. outside j (inr (omega arith))), table-set (transactionOf r) (transactionOf s) 8 t y small own (λ u l. other-transaction u))
 
     -- The transaction became f of what it was.
     store-by : (f : Transaction → Transaction) → transactionOf s t ≡ f (transactionOf r t) → storeOf s ≡ withTransaction t (f (transaction (storeOf r) t)) (storeOf r)
@@ -131,11 +144,14 @@ module _ (r s : List ℕ) where
     journal-block = journal-same (λ j a b. outside j (inl (omega arith)))
 
 -- A number outside a column of m numbers from `at` on was put.
-column-left : (r : List ℕ) (i n at m : ℕ) → (i < at) ⊎ (at + m ≤ i) → tabulate (λ k. getD (set r i n) (at + k) 0) m ≡ tabulate (λ k. getD r (at + k) 0) m
+pub column-left : (r : List ℕ) (i n at m : ℕ) → (i < at) ⊎ (at + m ≤ i) → tabulate (λ k. getD (set r i n) (at + k) 0) m ≡ tabulate (λ k. getD r (at + k) 0) m
 column-left r i n at m w = column-same r (set r i n) at m (λ j a b. getD-set-other r i j n 0 (λ p. ⊎-elim (λ h. omega arith) (λ h. omega arith) w))
 
-windows-left : (r : List ℕ) (i n : ℕ) → i < 2088 → tabulate (windowOf (set r i n)) 8 ≡ tabulate (windowOf r) 8
+windows-left : (r : List ℕ) (i n : ℕ) → i < 2280 → tabulate (windowOf (set r i n)) 8 ≡ tabulate (windowOf r) 8
 windows-left r i n h = windows-same r (set r i n) (λ j a b. getD-set-other r i j n 0 (λ p. omega arith))
+
+undo-left : (r : List ℕ) (i n : ℕ) → i < 2296 → undoOf (set r i n) ≡ undoOf r
+undo-left r i n h = undo-same r (set r i n) (λ j a b. getD-set-other r i j n 0 (λ p. omega arith))
 
 -- ---- a descriptor
 
@@ -385,6 +401,10 @@ module _ (r : List ℕ) (t : ℕ) (long : length r ≡ recordLength) (small : t 
     pub journal-with-lengthmarks : journalOf (withLengthmarksAt r t n) ≡ journalOf r
     journal-with-lengthmarks = journal-block r (withLengthmarksAt r t n) t small outside-lengthmarks
 
+pub flag-back : (b : Bool) → isSet (flag b) ≡ b
+flag-back true = refl
+flag-back false = refl
+
 -- ---- zeros: a transaction that has ended, and a record as Fresh leaves it but for the file numbers
 
 none-dirty : (d : ℕ) → d < 16 → contains 0 d ≡ false
@@ -408,14 +428,19 @@ module _ (r : List ℕ) where
 
   windows-of-zeros : ((j : ℕ) → getD r j 0 ≡ 0) → tabulate (windowOf r) 8 ≡ replicate 8 freshWindow
   unfolding windowOf
-  windows-of-zeros none = table-same _ (λ _. freshWindow) 8 (λ f h. rw (none (2088 + f), none (2096 + f))) ∙ eight-of freshWindow
+  windows-of-zeros none = table-same _ (λ _. freshWindow) 8 (λ f h. rw (none (2280 + f), none (2288 + f))) ∙ eight-of freshWindow
+
+  undo-of-zeros : ((j : ℕ) → getD r j 0 ≡ 0) → undoOf r ≡ noUndo
+  unfolding undoOf
+  undo-of-zeros none =
+      rw (none 2320, none 2321, none 2322, table-same (λ d. getD r (2296 + d) 0) (λ _. 0) 16 (λ d h. none (2296 + d)), table-same (λ f. getD r (2312 + f) 0) (λ _. 0) 8 (λ f h. none (2312 + f)), sixteen-of {A = ℕ} 0, eight-of {A = ℕ} 0)
 
   pub store-of-zeros : ((j : ℕ) → getD r j 0 ≡ 0)
-      → storeOf r ≡ record { filenumbers = replicate 16 0; offsets = replicate 16 0; lengths = replicate 8 0; windows = replicate 8 freshWindow; transactions = replicate 8 ended }
+      → storeOf r ≡ record { filenumbers = replicate 16 0; offsets = replicate 16 0; lengths = replicate 8 0; windows = replicate 8 freshWindow; undo = noUndo; transactions = replicate 8 ended }
   unfolding storeOf
   store-of-zeros none =
       let zeros : (at m : ℕ) → tabulate (λ k. getD r (at + k) 0) m ≡ tabulate (λ _. 0) m = λ at m. table-same _ _ m (λ k h. none (at + k)) in
-      rw (zeros 2048 16, zeros 2064 16, zeros 2080 8, windows-of-zeros none, table-same (transactionOf r) (λ _. ended) 8 (λ t h. transaction-of-zeros t (λ k l. none (base t + k))), sixteen-of {A = ℕ} 0, eight-of {A = ℕ} 0, eight-of ended)
+      rw (zeros 2240 16, zeros 2256 16, zeros 2272 8, windows-of-zeros none, undo-of-zeros none, table-same (transactionOf r) (λ _. ended) 8 (λ t h. transaction-of-zeros t (λ k l. none (base t + k))), sixteen-of {A = ℕ} 0, eight-of {A = ℕ} 0, eight-of ended)
 
 module _ (r : List ℕ) (i : ℕ) where
   length-zeroed : (n : ℕ) → length (zeroedFrom r i n) ≡ length r
@@ -439,10 +464,6 @@ module _ (r : List ℕ) (i : ℕ) where
       (λ e. rw e (getD-set-same (zeroedFrom r i n) (i + n) 0 0 (omega arith)))
       (λ b. getD-set-other (zeroedFrom r i n) (i + n) (i + k) 0 0 (λ p. omega arith) ∙ zeroed-own n k (omega arith) b)
       (eq-or-lt-of-le (le-of-suc-le-suc h))
-
-flag-back : (b : Bool) → isSet (flag b) ≡ b
-flag-back true = refl
-flag-back false = refl
 
 module _ (r : List ℕ) (t : ℕ) (long : length r ≡ recordLength) (small : t < 8) (b : Bool) where
   abbrev zeroed : List ℕ
@@ -478,11 +499,11 @@ module _ (r : List ℕ) (t : ℕ) (long : length r ≡ recordLength) (small : t 
 
 -- The store with other file numbers.
 abbrev pub filed : List ℕ → Store → Store
-filed l s = record { filenumbers = l; offsets = s .offsets; lengths = s .lengths; windows = s .windows; transactions = s .transactions }
+filed l s = record { filenumbers = l; offsets = s .offsets; lengths = s .lengths; windows = s .windows; undo = s .undo; transactions = s .transactions }
 
 module _ (r : List ℕ) (long : length r ≡ recordLength) where
   -- A number past the transactions leaves them and the journal.
-  module _ (i n : ℕ) (past : 2048 ≤ i) where
+  module _ (i n : ℕ) (past : 2240 ≤ i) where
     transactions-past : tabulate (transactionOf (set r i n)) 8 ≡ tabulate (transactionOf r) 8
     transactions-past = transactions-same r (set r i n) (λ j a b. getD-set-other r i j n 0 (λ p. omega arith))
 
@@ -490,7 +511,7 @@ module _ (r : List ℕ) (long : length r ≡ recordLength) where
     journal-past = journal-same r (set r i n) (λ j a b. getD-set-other r i j n 0 (λ p. omega arith))
 
   -- A column of m numbers from `at` on, of which number k was put.
-  column-set : (at m k n : ℕ) → k < m → at + m ≤ recordLength → tabulate (λ d. getD (set r (at + k) n) (at + d) 0) m ≡ set (tabulate (λ d. getD r (at + d) 0) m) k n
+  pub column-set : (at m k n : ℕ) → k < m → at + m ≤ recordLength → tabulate (λ d. getD (set r (at + k) n) (at + d) 0) m ≡ set (tabulate (λ d. getD r (at + d) 0) m) k n
   column-set at m k n h l =
       table-set (λ d. getD r (at + d) 0) (λ d. getD (set r (at + k) n) (at + d) 0) m k n h (getD-set-same r (at + k) n 0 (omega arith)) (λ d f ne. getD-set-other r (at + k) (at + d) n 0 (λ p. ne (omega arith)))
 
@@ -498,65 +519,65 @@ module _ (r : List ℕ) (long : length r ≡ recordLength) where
     pub store-with-offset : k < 16 → storeOf (withOffsetAt r k n) ≡ withOffsets (set (storeOf r .offsets) k n) (storeOf r)
     unfolding storeOf
     store-with-offset h =
-        let i = 2064 + k in
-        rw (transactions-past i n (omega arith), column-left r i n 2048 16 (inr (omega arith)), column-left r i n 2080 8 (inl (omega arith)), windows-left r i n (omega arith), column-set 2064 16 k n h (omega arith))
+        let i = 2256 + k in
+        rw (transactions-past i n (omega arith), column-left r i n 2240 16 (inr (omega arith)), column-left r i n 2272 8 (inl (omega arith)), windows-left r i n (omega arith), undo-left r i n (omega arith), column-set 2256 16 k n h (omega arith))
 
     pub store-with-length : k < 8 → storeOf (withLengthAt r k n) ≡ withLengths (set (storeOf r .lengths) k n) (storeOf r)
     unfolding storeOf
     store-with-length h =
-        let i = 2080 + k in
-        rw (transactions-past i n (omega arith), column-left r i n 2048 16 (inr (omega arith)), column-left r i n 2064 16 (inr (omega arith)), windows-left r i n (omega arith), column-set 2080 8 k n h (omega arith))
+        let i = 2272 + k in
+        rw (transactions-past i n (omega arith), column-left r i n 2240 16 (inr (omega arith)), column-left r i n 2256 16 (inr (omega arith)), windows-left r i n (omega arith), undo-left r i n (omega arith), column-set 2272 8 k n h (omega arith))
 
     store-with-file : k < 16 → let s = storeOf r in storeOf (withFileNumberAt r k n) ≡ filed (set (s .filenumbers) k n) s
     unfolding storeOf
     store-with-file h =
-        let i = 2048 + k in
-        rw (transactions-past i n (omega arith), column-left r i n 2064 16 (inl (omega arith)), column-left r i n 2080 8 (inl (omega arith)), windows-left r i n (omega arith), column-set 2048 16 k n h (omega arith))
+        let i = 2240 + k in
+        rw (transactions-past i n (omega arith), column-left r i n 2256 16 (inl (omega arith)), column-left r i n 2272 8 (inl (omega arith)), windows-left r i n (omega arith), undo-left r i n (omega arith), column-set 2240 16 k n h (omega arith))
 
     journal-with-file : journalOf (withFileNumberAt r k n) ≡ journalOf r
-    journal-with-file = journal-past (2048 + k) n (omega arith)
+    journal-with-file = journal-past (2240 + k) n (omega arith)
 
     pub journal-with-offset : journalOf (withOffsetAt r k n) ≡ journalOf r
-    journal-with-offset = journal-past (2064 + k) n (omega arith)
+    journal-with-offset = journal-past (2256 + k) n (omega arith)
 
     pub journal-with-length : journalOf (withLengthAt r k n) ≡ journalOf r
-    journal-with-length = journal-past (2080 + k) n (omega arith)
+    journal-with-length = journal-past (2272 + k) n (omega arith)
 
   -- The window of file f.
   module _ (f : ℕ) (w : Window) where
     -- A number that is neither of the two.
-    window-kept : (j : ℕ) → (j ≡ 2088 + f → ⊥) → (j ≡ 2096 + f → ⊥) → getD (withWindowAt r f w) j 0 ≡ getD r j 0
-    window-kept j n0 n1 = getD-set-other (set r (2088 + f) (w .start)) (2096 + f) j (w .end) 0 n1 ∙ getD-set-other r (2088 + f) j (w .start) 0 n0
+    window-kept : (j : ℕ) → (j ≡ 2280 + f → ⊥) → (j ≡ 2288 + f → ⊥) → getD (withWindowAt r f w) j 0 ≡ getD r j 0
+    window-kept j n0 n1 = getD-set-other (set r (2280 + f) (w .start)) (2288 + f) j (w .end) 0 n1 ∙ getD-set-other r (2280 + f) j (w .start) 0 n0
 
-    before-windows : (at n : ℕ) → at + n ≤ 2088 → Agree r (withWindowAt r f w) at n
+    before-windows : (at n : ℕ) → at + n ≤ 2280 → Agree r (withWindowAt r f w) at n
     before-windows at n l j a b = window-kept j (λ p. omega arith) (λ p. omega arith)
 
     own-window : f < 8 → windowOf (withWindowAt r f w) f ≡ w
     unfolding windowOf
     own-window h =
-        let a = set r (2088 + f) (w .start) in
-        let la : length a ≡ recordLength = length-set r (2088 + f) (w .start) ∙ long in
-        rw (getD-set-other a (2096 + f) (2088 + f) (w .end) 0 (λ p. omega arith), getD-set-same r (2088 + f) (w .start) 0 (omega arith), getD-set-same a (2096 + f) (w .end) 0 (omega arith))
+        let a = set r (2280 + f) (w .start) in
+        let la : length a ≡ recordLength = length-set r (2280 + f) (w .start) ∙ long in
+        rw (getD-set-other a (2288 + f) (2280 + f) (w .end) 0 (λ p. omega arith), getD-set-same r (2280 + f) (w .start) 0 (omega arith), getD-set-same a (2288 + f) (w .end) 0 (omega arith))
 
     other-window : f < 8 → (g : ℕ) → g < 8 → (g ≡ f → ⊥) → windowOf (withWindowAt r f w) g ≡ windowOf r g
     unfolding windowOf
     other-window h g l ne =
-        rw (window-kept (2088 + g) (λ p. ne (omega arith)) (λ p. omega arith), window-kept (2096 + g) (λ p. omega arith) (λ p. ne (omega arith)))
+        rw (window-kept (2280 + g) (λ p. ne (omega arith)) (λ p. omega arith), window-kept (2288 + g) (λ p. omega arith) (λ p. ne (omega arith)))
 
     pub store-with-window : f < 8 → storeOf (withWindowAt r f w) ≡ withWindows (set (storeOf r .windows) f w) (storeOf r)
     unfolding storeOf
     store-with-window h =
         let s = withWindowAt r f w in
-        rw (transactions-same r s (before-windows 1536 512 (omega arith)), column-same r s 2048 16 (before-windows 2048 16 (omega arith)), column-same r s 2064 16 (before-windows 2064 16 (omega arith)), column-same r s 2080 8 (before-windows 2080 8 (omega arith)), table-set (windowOf r) (windowOf s) 8 f w h (own-window h) (other-window h))
+        rw (transactions-same r s (before-windows 1728 512 (omega arith)), column-same r s 2240 16 (before-windows 2240 16 (omega arith)), column-same r s 2256 16 (before-windows 2256 16 (omega arith)), column-same r s 2272 8 (before-windows 2272 8 (omega arith)), undo-same r s (λ j a b. window-kept j (λ p. omega arith) (λ p. omega arith)), table-set (windowOf r) (windowOf s) 8 f w h (own-window h) (other-window h))
 
     pub journal-with-window : journalOf (withWindowAt r f w) ≡ journalOf r
-    journal-with-window = journal-same r (withWindowAt r f w) (before-windows 0 1536 (omega arith))
+    journal-with-window = journal-same r (withWindowAt r f w) (before-windows 0 1728 (omega arith))
 
 module _ (r : List ℕ) (long : length r ≡ recordLength) (f : ℕ → ℕ) where
   length-with-files : (n : ℕ) → length (withFileNumbersAt r f n) ≡ length r
   unfolding withFileNumbersAt
   length-with-files zero = refl
-  length-with-files (suc n) = length-set (withFileNumbersAt r f n) (2048 + n) (f n) ∙ length-with-files n
+  length-with-files (suc n) = length-set (withFileNumbersAt r f n) (2240 + n) (f n) ∙ length-with-files n
 
   pub journal-with-files : (n : ℕ) → journalOf (withFileNumbersAt r f n) ≡ journalOf r
   unfolding withFileNumbersAt
@@ -565,7 +586,7 @@ module _ (r : List ℕ) (long : length r ≡ recordLength) (f : ℕ → ℕ) whe
 
   sixteen-files : length (storeOf r .filenumbers) ≡ 16
   unfolding storeOf
-  sixteen-files = length-tabulate (λ d. getD r (2048 + d) 0) 16
+  sixteen-files = length-tabulate (λ d. getD r (2240 + d) 0) 16
 
   with-first-files : (n : ℕ) → n ≤ 16 → let s = storeOf r in storeOf (withFileNumbersAt r f n) ≡ filed (filled f (s .filenumbers) n) s
   unfolding withFileNumbersAt
@@ -584,17 +605,17 @@ module _ (r : List ℕ) (long : length r ≡ recordLength) (f : ℕ → ℕ) whe
 -- ---- the journal
 
 module _ (r : List ℕ) (long : length r ≡ recordLength) where
-  journal-set : (s : List ℕ) → length s ≡ recordLength → (i n : ℕ) → i < 1536 → journalOf (set s i n) ≡ set (journalOf s) i n
+  journal-set : (s : List ℕ) → length s ≡ recordLength → (i n : ℕ) → i < 1728 → journalOf (set s i n) ≡ set (journalOf s) i n
   unfolding journalOf
   journal-set s l i n h =
-      table-set (λ j. getD s j 0) (λ j. getD (set s i n) j 0) 1536 i n h (getD-set-same s i n 0 (omega arith)) (λ j m ne. getD-set-other s i j n 0 ne)
+      table-set (λ j. getD s j 0) (λ j. getD (set s i n) j 0) 1728 i n h (getD-set-same s i n 0 (omega arith)) (λ j m ne. getD-set-other s i j n 0 ne)
 
-  store-set : (s : List ℕ) (i n : ℕ) → i < 1536 → storeOf (set s i n) ≡ storeOf s
+  store-set : (s : List ℕ) (i n : ℕ) → i < 1728 → storeOf (set s i n) ≡ storeOf s
   unfolding storeOf
   store-set s i n h =
-      rw (column-left s i n 2048 16 (inl (omega arith)), column-left s i n 2064 16 (inl (omega arith)), column-left s i n 2080 8 (inl (omega arith)), windows-left s i n (omega arith), transactions-same s (set s i n) (λ j a b. getD-set-other s i j n 0 (λ p. omega arith)))
+      rw (column-left s i n 2240 16 (inl (omega arith)), column-left s i n 2256 16 (inl (omega arith)), column-left s i n 2272 8 (inl (omega arith)), windows-left s i n (omega arith), undo-left s i n (omega arith), transactions-same s (set s i n) (λ j a b. getD-set-other s i j n 0 (λ p. omega arith)))
 
-  module _ (t k : ℕ) (w : WriteRecord) (small : t < 8) (few : k < 64) where
+  module _ (t k : ℕ) (w : WriteRecord) (small : t < 9) (few : k < 64) where
     pub journal-with-record : journalOf (withRecordAt r t k w) ≡ withRecordAt (journalOf r) t k w
     unfolding withRecordAt
     journal-with-record =

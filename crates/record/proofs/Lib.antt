@@ -1,3 +1,4 @@
 pub mod JournalLaws
 pub mod LayoutLaws
+pub mod UndoLaws
 pub mod Filled

@@ -1,5 +1,5 @@
--- The record's second part: the journal, a list of numbers with the write records of all transactions. Nothing else knows how they
--- are laid out.
+-- The record's second part: the journal, a list of numbers with the write records of all transactions and of the last grant. Nothing
+-- else knows how they are laid out.
 use mathlib.Core.Bool.{Bool, true, false}
 use mathlib.Core.List.{List}
 use lib.Dec.{ltb}
@@ -22,13 +22,18 @@ heldAs false h p n = record { descriptor = h - 16; place = After p; length = n }
 unfoldable pub held : ℕ → ℕ → ℕ → WriteRecord
 held h p n = heldAs (ltb h 16) h p n
 
--- Write record k of transaction t, which has 64.
+-- 64 write records make a stretch. Stretch t has those of transaction t; behind all of them stretch 8 has those of the last grant, with
+-- the places at which they landed (02, F-13).
+abbrev pub grantStretch : ℕ
+grantStretch = 8
+
+-- Write record k of stretch t.
 unfoldable pub writeRecordAt : List ℕ → ℕ → ℕ → WriteRecord
 writeRecordAt journal t k =
     let i = 3 * (64 * t + k) in
     held (getD journal i 0) (getD journal (i + 1) 0) (getD journal (i + 2) 0)
 
--- The journal with another record there; and with f 0, f 1, .. below n as the first records of transaction t.
+-- The journal with another record there; and with f 0, f 1, .. below n as the first records of stretch t.
 unfoldable pub withRecordAt : List ℕ → ℕ → ℕ → WriteRecord → List ℕ
 withRecordAt journal t k w =
     let i = 3 * (64 * t + k) in

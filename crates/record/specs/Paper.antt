@@ -5,7 +5,7 @@ use Rattle.record.specs.declared.outcomes.Refusal.the-variants.{BufferLe
 use Rattle.record.specs.declared.outcomes.Refusal.the-variants.{NoSuchTarget, ReaderTooShort, SeekPastEnd, WritePastEnd}
 use Rattle.record.specs.declared.outcomes.Refusal.the-variants.{RecordsFull, LogFull, SettledPastEnd, Stale, NoSuchFile}
 use Rattle.record.specs.declared.outcomes.Refusal.the-variants.{NoPlaceYet, ListTooLong, BadLine, StaleReader}
-use Rattle.record.specs.declared.outcomes.Refusal.the-variants.{FileClosed, NoSuchMinute}
+use Rattle.record.specs.declared.outcomes.Refusal.the-variants.{FileClosed, NoSuchMinute, StillOpen, NoGrant}
 use Rattle.record.specs.declared.outcomes.Outcome.{Outcome}
 use Rattle.record.specs.declared.outcomes.Outcome.the-variants.{Done, Offset, Given, Granted, Pairs, Refused}
 
@@ -32,10 +32,12 @@ number BadLine = 17
 number StaleReader = 18
 number FileClosed = 21
 number NoSuchMinute = 22
+number StillOpen = 23
+number NoGrant = 24
 
 -- The numbers go from 1 to this; 19 and 20 are not among them yet.
 abbrev pub refusals : ℕ
-refusals = 22
+refusals = 24
 
 -- "Read answers the count of bytes given; Fresh, Begin, Seek, Write and Abort answer plainly"; "GetFilePointer answers the
 -- offset"; F-1: "The answer is the count of pairs"; F-4: "Commit answers that octet"; or the number of a refusal.

@@ -10,6 +10,7 @@ use Rattle.standings.specs.declared.Standing.{Standing}
 use Rattle.standings.specs.declared.Standing.the-variants.{Untouched}
 use Rattle.record.specs.declared.Descriptor.{Descriptor}
 use Rattle.record.specs.declared.Transaction.{Transaction}
+use Rattle.record.specs.declared.Undo.{Undo}
 use Rattle.record.specs.declared.Store.{Store}
 
 -- ---- a transaction
@@ -63,21 +64,68 @@ dirtyAt x d = getD (x .descriptors) d noDescriptor .dirty
 
 -- ---- the store
 
+-- Nothing is held of a grant.
+abbrev pub noUndo : Undo
+noUndo = record { held = false; used = record { records = 0; bytes = 0 }; offsets = replicate 16 0; lengths = replicate 8 0 }
+
+abbrev pub withHeld : Bool → Undo → Undo
+withHeld b u = record { held = b; used = u .used; offsets = u .offsets; lengths = u .lengths }
+
+-- A store with another value in one field.
 abbrev pub withOffsets : List ℕ → Store → Store
 withOffsets os s =
-    record { filenumbers = s .filenumbers; offsets = os; lengths = s .lengths; windows = s .windows; transactions = s .transactions }
+    record {
+      filenumbers = s .filenumbers;
+      offsets = os;
+      lengths = s .lengths;
+      windows = s .windows;
+      undo = s .undo;
+      transactions = s .transactions;
+    }
 
 abbrev pub withLengths : List ℕ → Store → Store
 withLengths ls s =
-    record { filenumbers = s .filenumbers; offsets = s .offsets; lengths = ls; windows = s .windows; transactions = s .transactions }
+    record {
+      filenumbers = s .filenumbers;
+      offsets = s .offsets;
+      lengths = ls;
+      windows = s .windows;
+      undo = s .undo;
+      transactions = s .transactions;
+    }
 
 abbrev pub withWindows : List Window → Store → Store
 withWindows ws s =
-    record { filenumbers = s .filenumbers; offsets = s .offsets; lengths = s .lengths; windows = ws; transactions = s .transactions }
+    record {
+      filenumbers = s .filenumbers;
+      offsets = s .offsets;
+      lengths = s .lengths;
+      windows = ws;
+      undo = s .undo;
+      transactions = s .transactions;
+    }
+
+abbrev pub withUndo : Undo → Store → Store
+withUndo u s =
+    record {
+      filenumbers = s .filenumbers;
+      offsets = s .offsets;
+      lengths = s .lengths;
+      windows = s .windows;
+      undo = u;
+      transactions = s .transactions;
+    }
 
 abbrev pub withTransactions : List Transaction → Store → Store
 withTransactions xs s =
-    record { filenumbers = s .filenumbers; offsets = s .offsets; lengths = s .lengths; windows = s .windows; transactions = xs }
+    record {
+      filenumbers = s .filenumbers;
+      offsets = s .offsets;
+      lengths = s .lengths;
+      windows = s .windows;
+      undo = s .undo;
+      transactions = xs;
+    }
 
 -- The window of file f.
 abbrev pub windowAt : Store → ℕ → Window

@@ -1,6 +1,7 @@
-// The journal: the write records of all transactions, the record's first 1,536 numbers. A write record takes three
-// numbers in a row: its descriptor, with 16 added while it has no place; its place, or the advance before it; its
-// length. Transaction t's 64 records stand from 3 × 64 × t on. Only this module and specs/Journal.antt know that.
+// The journal: the write records of all transactions and of the last grant, the record's first 1,728 numbers. A write
+// record takes three numbers in a row: its descriptor, with 16 added while it has no place; its place, or the advance
+// before it; its length. Transaction t's 64 records stand from 3 × 64 × t on, those of the last grant behind them as
+// stretch 8. Only this module and specs/Journal.antt know that.
 use crate::layout::NUMBERS;
 use crate::layout::Record;
 use crate::layout::length_of;
@@ -13,6 +14,9 @@ ghost use Rattle.record.specs.Layout.{journalOf, recordLength};
 
 pub const RECORDS: usize = 64;
 
+// The stretch of the last grant's records.
+pub const GRANT: usize = 8;
+
 // A write record: through which descriptor, where, and how many bytes.
 pub struct WriteRecord {
     pub descriptor: u16,
@@ -20,9 +24,9 @@ pub struct WriteRecord {
     pub length: u16,
 }
 
-// Write record k of transaction t.
+// Write record k of stretch t, which is transaction t's or the last grant's.
 pub fn record_at(kept: &Record, t: usize, k: usize) -> WriteRecord
-    requires { ⌜ (t < 8) × (k < 64) ⌝ }
+    requires { ⌜ (t < 9) × (k < 64) ⌝ }
     ensures { λ r. ⌜ r ≡ writeRecordAt (journalOf (now (kept .entry))) t k ⌝ }
 {
     let i = 3 * (RECORDS * t + k);
@@ -54,9 +58,9 @@ fn holder_of(d: u16, place: Place) -> u16
     }
 }
 
-// Puts w in the place of write record k of transaction t.
+// Puts w in the place of write record k of stretch t.
 pub fn put_record(kept: &mut Record, t: usize, k: usize, w: WriteRecord)
-    requires { ⌜ (t < 8) × (k < 64) × (w .descriptor < 65520) ⌝ }
+    requires { ⌜ (t < 9) × (k < 64) × (w .descriptor < 65520) ⌝ }
     ensures { λ _. ⌜ now (kept .exit) ≡ withRecordAt (now (kept .entry)) t k w ⌝ }
 {
     let i = 3 * (RECORDS * t + k);

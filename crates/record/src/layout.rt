@@ -1,6 +1,6 @@
 // How the record lies in its numbers: the journal, eight transactions, file numbers, committed offsets, committed
-// lengths and windows. Only this module, `journal` and specs/Layout.antt know that; everybody else reads and writes by
-// name.
+// lengths, windows, and what is held of the last grant. Only this module, `journal` and specs/Layout.antt know that;
+// everybody else reads and writes by name.
 use crate::DESCRIPTORS;
 use crate::Descriptor;
 use crate::Transaction;
@@ -11,7 +11,7 @@ use standings::Standing;
 use windows::Window;
 ghost use mathlib.Core.Bool.{false};
 ghost use mathlib.Core.Path.{_≡_};
-ghost use Prim.Native.Nat.{_+_, _<_};
+ghost use Prim.Native.Nat.{_+_, _<_, _≤_};
 ghost use lib.ListN.{length, getD};
 ghost use Rattle.record.specs.State.{standingAt, noDescriptor, windowAt};
 ghost use Rattle.record.specs.Layout.{standingOf, base, kind, first, second, flag};
@@ -20,9 +20,11 @@ ghost use Rattle.record.specs.Layout.{withDescriptorAt, withChosenAt, wi
 ghost use Rattle.record.specs.Layout.{withStaleAt, withLengthmarksAt};
 ghost use Rattle.record.specs.Layout.{withFileNumberAt, withFileNumbersAt};
 ghost use Rattle.record.specs.Layout.{withOffsetAt, withLengthAt, withWindowAt};
+ghost use Rattle.record.specs.Layout.{withHeldAt, withUndoUsedAt, withFoundOffsetAt, withFoundLengthAt};
+ghost use Rattle.record.specs.Layout.{copiedTo, withCommittedFound, withFoundCommitted, recordLength};
 
 // How many numbers a record has.
-pub const NUMBERS: usize = 2104;
+pub const NUMBERS: usize = 2323;
 
 // The record, as a caller keeps it and lends it to every call.
 pub type Record = [u16; NUMBERS];
@@ -32,19 +34,28 @@ const TRANSACTION: usize = 64;
 
 const LOOKED_AT: usize = 54;
 
-const TRANSACTIONS_AT: usize = 1536;
+const TRANSACTIONS_AT: usize = 1728;
 
 // Where the file numbers, the committed offsets, the committed lengths, the starts of the windows and behind them their
-// ends stand, for a test that goes over all of them.
-pub const FILE_NUMBERS_AT: usize = 2048;
+// ends, the offsets that the last grant found and behind them the lengths stand, for a test that goes over all of them.
+pub const FILE_NUMBERS_AT: usize = 2240;
 
-pub const OFFSETS_AT: usize = 2064;
+pub const OFFSETS_AT: usize = 2256;
 
-pub const LENGTHS_AT: usize = 2080;
+pub const LENGTHS_AT: usize = 2272;
 
-pub const STARTS_AT: usize = 2088;
+pub const STARTS_AT: usize = 2280;
 
-const ENDS_AT: usize = 2096;
+const ENDS_AT: usize = 2288;
+
+pub const FOUND_AT: usize = 2296;
+
+// How many numbers the last grant found: sixteen offsets, eight lengths.
+pub const FOUND: usize = 24;
+
+const FOUND_LENGTHS_AT: usize = 2312;
+
+const HELD_AT: usize = 2320;
 
 // How many numbers were lent, which the array's type alone does not tell a proof.
 pub fn length_of(kept: &[u16]) -> usize
@@ -268,6 +279,38 @@ pub fn window_at(kept: &Record, f: usize) -> Window
     Window { start, end }
 }
 
+// Whether the last grant can be taken back.
+pub fn is_held(kept: &Record) -> bool
+    ensures { λ r. ⌜ r ≡ storeOf (now (kept .entry)) .undo .held ⌝ }
+{
+    kept[HELD_AT] == 1
+}
+
+// How many write records and bytes the last grant had.
+pub fn undo_used(kept: &Record) -> Used
+    ensures { λ r. ⌜ r ≡ storeOf (now (kept .entry)) .undo .used ⌝ }
+{
+    let records = wide(kept[HELD_AT + 1]);
+    let bytes = kept[HELD_AT + 2];
+    Used { records, bytes }
+}
+
+// The offset of descriptor d that the last grant found.
+pub fn found_offset_at(kept: &Record, d: usize) -> u16
+    requires { ⌜ d < 16 ⌝ }
+    ensures { λ r. ⌜ r ≡ getD (storeOf (now (kept .entry)) .undo .offsets) d 0 ⌝ }
+{
+    kept[FOUND_AT + d]
+}
+
+// The length of file f that the last grant found.
+pub fn found_length_at(kept: &Record, f: usize) -> u16
+    requires { ⌜ f < 8 ⌝ }
+    ensures { λ r. ⌜ r ≡ getD (storeOf (now (kept .entry)) .undo .lengths) f 0 ⌝ }
+{
+    kept[FOUND_LENGTHS_AT + f]
+}
+
 // ---- putting
 
 // Puts q in the place of descriptor d of transaction t.
@@ -386,4 +429,59 @@ pub fn put_window(kept: &mut Record, f: usize, w: Window)
 {
     kept[STARTS_AT + f] = w.start;
     kept[ENDS_AT + f] = w.end;
+}
+
+pub fn put_held(kept: &mut Record, held: bool)
+    ensures { λ _. ⌜ now (kept .exit) ≡ withHeldAt (now (kept .entry)) held ⌝ }
+{
+    kept[HELD_AT] = flag_of(held);
+}
+
+pub fn put_undo_used(kept: &mut Record, u: Used)
+    requires { ⌜ u .records < 65536 ⌝ }
+    ensures { λ _. ⌜ now (kept .exit) ≡ withUndoUsedAt (now (kept .entry)) u ⌝ }
+{
+    kept[HELD_AT + 1] = u.records as u16;
+    kept[HELD_AT + 2] = u.bytes;
+}
+
+pub fn put_found_offset(kept: &mut Record, d: usize, n: u16)
+    requires { ⌜ d < 16 ⌝ }
+    ensures { λ _. ⌜ now (kept .exit) ≡ withFoundOffsetAt (now (kept .entry)) d n ⌝ }
+{
+    kept[FOUND_AT + d] = n;
+}
+
+pub fn put_found_length(kept: &mut Record, f: usize, n: u16)
+    requires { ⌜ f < 8 ⌝ }
+    ensures { λ _. ⌜ now (kept .exit) ≡ withFoundLengthAt (now (kept .entry)) f n ⌝ }
+{
+    kept[FOUND_LENGTHS_AT + f] = n;
+}
+
+// Copies the n numbers from `from` on to those from `to` on.
+fn copy_numbers(kept: &mut Record, from: usize, to: usize, n: usize)
+    requires { ⌜ (from + n ≤ recordLength) × (to + n ≤ recordLength) ⌝ }
+    ensures { λ _. ⌜ now (kept .exit) ≡ copiedTo (now (kept .entry)) from to n ⌝ }
+{
+    let mut i = 0;
+    while i < n {
+        let number = kept[from + i];
+        kept[to + i] = number;
+        i += 1;
+    }
+}
+
+// Keeps the committed offsets and lengths as those that a grant found.
+pub fn keep_found(kept: &mut Record)
+    ensures { λ _. ⌜ now (kept .exit) ≡ withCommittedFound (now (kept .entry)) ⌝ }
+{
+    copy_numbers(kept, OFFSETS_AT, FOUND_AT, FOUND);
+}
+
+// Puts the offsets and lengths that the last grant found back as the committed ones.
+pub fn put_found(kept: &mut Record)
+    ensures { λ _. ⌜ now (kept .exit) ≡ withFoundCommitted (now (kept .entry)) ⌝ }
+{
+    copy_numbers(kept, FOUND_AT, OFFSETS_AT, FOUND);
 }

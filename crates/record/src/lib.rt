@@ -1,4 +1,4 @@
-// The store record: what a caller keeps between calls, beside the three lent buffers. It is one lent array of numbers:
+// The store record: what a caller keeps between calls, beside the four lent buffers. It is one lent array of numbers:
 // `layout` reads and writes what they mean, in the forms below, and `journal` the write records among them.
 pub mod journal;
 pub mod layout;
@@ -33,13 +33,24 @@ pub struct Transaction {
     pub descriptors: [Descriptor; DESCRIPTORS],
 }
 
+// What the record holds of the last grant, beside its write records: whether it can be taken back, how many records and
+// bytes it had, and the committed offsets and lengths that it found. Only specs/ speaks of it, as of the store below.
+pub struct Undo {
+    pub held: bool,
+    pub used: Used,
+    pub offsets: [u16; DESCRIPTORS],
+    pub lengths: [u16; FILES],
+}
+
 // What the record means, beside its journal: the file number and the committed offset of each descriptor, the committed
-// length and the window of each file, and the transactions. Only specs/ speaks of it; no code makes one.
+// length and the window of each file, what is held of the last grant, and the transactions. Only specs/ speaks of it;
+// no code makes one.
 pub struct Store {
     pub filenumbers: [u16; DESCRIPTORS],
     pub offsets: [u16; DESCRIPTORS],
     pub lengths: [u16; FILES],
     pub windows: [Window; FILES],
+    pub undo: Undo,
     pub transactions: [Transaction; TRANSACTIONS],
 }
 

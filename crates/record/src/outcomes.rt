@@ -25,10 +25,12 @@ pub enum Refusal {
     StaleReader,
     FileClosed,
     NoSuchMinute,
+    StillOpen,
+    NoGrant,
 }
 
 // Their numbers in the paper go from 1 to this; 19 and 20 are not among them yet.
-pub const REFUSALS: u8 = 22;
+pub const REFUSALS: u8 = 24;
 
 impl Refusal {
     // Its number in the paper.
@@ -56,6 +58,8 @@ impl Refusal {
             Refusal::StaleReader => 18,
             Refusal::FileClosed => 21,
             Refusal::NoSuchMinute => 22,
+            Refusal::StillOpen => 23,
+            Refusal::NoGrant => 24,
         }
     }
 }

@@ -99,10 +99,10 @@ unfolding passing
 passing-on n buffer m next e = rw e
 
 -- A call that was turned down and left the record alone, where the rules turn it down.
-pub turned-follows : (r : Refusal) (buffer kept files logs marks : List ℕ) (w : Turn) → w ≡ turnDown (number r) buffer (machineOf kept files logs marks)
-    → Meets w (Refused r) (machineOf kept files logs marks) buffer × LeftAsFound (Refused r) kept kept
+pub turned-follows : (r : Refusal) (buffer kept files logs marks undo : List ℕ) (w : Turn) → w ≡ turnDown (number r) buffer (machineOf kept files logs marks undo)
+    → Meets w (Refused r) (machineOf kept files logs marks undo) buffer × LeftAsFound (Refused r) kept kept
 unfolding turnDown said
-turned-follows r buffer kept files logs marks w e =
+turned-follows r buffer kept files logs marks undo w e =
     (rw e (record { outcome = refl; machine = refl; reader = refl }), λ q f n. refl)
 
 -- A call that answers plainly is no refusal.

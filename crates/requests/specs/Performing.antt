@@ -5,7 +5,7 @@ use denote.Ref.{now}
 use Prim.Native.Nat.{ℕ}
 use Rattle.record.specs.declared.outcomes.Outcome.{Outcome}
 use Rattle.requests.specs.declared.Request.{Request}
-use Rattle.requests.specs.declared.Request.the-variants.{Begin, Seek, Write, GetFilePointer, Read, Places, Commit, Abort, SetWindow}
+use Rattle.requests.specs.declared.Request.the-variants.{Begin, Seek, Write, GetFilePointer, Read, Places, Commit, Abort, SetWindow, TakeBack}
 use Rattle.requests.specs.Requests.{callOf}
 use Rattle.rules.specs.Messages.{bufferOfCall}
 use Rattle.rules.specs.Machine.{Machine}
@@ -23,6 +23,7 @@ Unanswered (Places t f) before after = Unit
 Unanswered (Commit t minute) before after = after ≡ before
 Unanswered (Abort t) before after = after ≡ before
 Unanswered (SetWindow f start end) before after = after ≡ before
+Unanswered TakeBack before after = after ≡ before
 
 -- The outcome o, the machine m′ and the buffer for an answer are those that the rules give for the request's call, with these
 -- bytes and this buffer, on machine m.
@@ -31,7 +32,7 @@ pub record Performs (q : Request) (bytes reader : List ℕ) (m : Machine) (o : O
   pub unanswered : Unanswered q reader reader′
 
 -- The same of lent arrays; and a refusal other than 13 leaves the record number by number.
-abbrev pub Performed : Request → List ℕ → Lent → Lent → Lent → Lent → Outcome → Lent → Type 0
-Performed q bytes kept files logs marks o reader =
-    Performs q bytes (now (reader .entry)) (handed kept files logs marks) o (left kept files logs marks) (now (reader .exit))
+abbrev pub Performed : Request → List ℕ → Lent → Lent → Lent → Lent → Lent → Outcome → Lent → Type 0
+Performed q bytes kept files logs marks undo o reader =
+    Performs q bytes (now (reader .entry)) (handed kept files logs marks undo) o (left kept files logs marks undo) (now (reader .exit))
     × LeftAsFound o (now (kept .entry)) (now (kept .exit))

@@ -3,9 +3,9 @@ use record::layout::Record;
 use record::outcomes::Outcome;
 ghost use Rattle.requests.specs.Performing.{Performed};
 
-// A call: its kind with its numbers. Each but SetWindow names its transaction, then its descriptor (Places its file);
-// last stands Seek's offset, Read's count or Commit's minute. SetWindow names its file, then start and end. A Write's
-// bytes and the buffer for an answer are lent beside it.
+// A call: its kind with its numbers. Each but the last two names its transaction, then its descriptor (Places its
+// file); last stands Seek's offset, Read's count or Commit's minute. SetWindow names its file, then start and end. A
+// Write's bytes and the buffer for an answer are lent beside it.
 pub enum Request {
     Begin(usize),
     Seek(usize, usize, usize),
@@ -16,6 +16,7 @@ pub enum Request {
     Commit(usize, usize),
     Abort(usize),
     SetWindow(usize, usize, usize),
+    TakeBack,
 }
 
 // Performs the call of the request. A Write takes its bytes from `bytes`, Read and Places answer in `reader`; the
@@ -25,29 +26,40 @@ pub fn perform(
     files: &mut [u8],
     logs: &mut [u8],
     marks: &mut [u8],
+    undo: &mut [u8],
     q: Request,
     bytes: &[u8],
     reader: &mut [u8],
 ) -> Outcome
-    ensures { λ r. ⌜ Performed q (now (bytes .entry)) kept files logs marks r reader ⌝ }
+    ensures { λ r. ⌜ Performed q (now (bytes .entry)) kept files logs marks undo r reader ⌝ }
 {
     match q {
-        Request::Begin(t) => store::begin(kept, files, logs, marks, t),
-        Request::Seek(t, d, v) => store::seek(kept, files, logs, marks, t, d, v),
-        Request::Write(t, d) => store::write(kept, files, logs, marks, t, d, bytes),
-        Request::GetFilePointer(t, d) => store::get_file_pointer(kept, files, logs, marks, t, d),
-        Request::Read(t, d, n) => store::read(kept, files, logs, marks, t, d, n, reader),
-        Request::Places(t, f) => store::places(kept, files, logs, marks, t, f, reader),
-        Request::Commit(t, minute) => store::commit(kept, files, logs, marks, t, minute),
-        Request::Abort(t) => store::abort(kept, files, logs, marks, t),
+        Request::Begin(t) => store::begin(kept, files, logs, marks, undo, t),
+        Request::Seek(t, d, v) => store::seek(kept, files, logs, marks, undo, t, d, v),
+        Request::Write(t, d) => store::write(kept, files, logs, marks, undo, t, d, bytes),
+        Request::GetFilePointer(t, d) => store::get_file_pointer(
+            kept,
+            files,
+            logs,
+            marks,
+            undo,
+            t,
+            d,
+        ),
+        Request::Read(t, d, n) => store::read(kept, files, logs, marks, undo, t, d, n, reader),
+        Request::Places(t, f) => store::places(kept, files, logs, marks, undo, t, f, reader),
+        Request::Commit(t, minute) => store::commit(kept, files, logs, marks, undo, t, minute),
+        Request::Abort(t) => store::abort(kept, files, logs, marks, undo, t),
         Request::SetWindow(f, start, end) => store::set_window(
             kept,
             files,
             logs,
             marks,
+            undo,
             f,
             start,
             end,
         ),
+        Request::TakeBack => store::take_back(kept, files, logs, marks, undo),
     }
 }

@@ -9,3 +9,4 @@ pub mod Ranges
 pub mod Refusals
 pub mod Situations
 pub mod Theorem
+pub mod TakesBack

@@ -14,4 +14,5 @@ pub mod Rerun
 pub mod SecondHalf
 pub mod Sighted
 pub mod Sound
+pub mod Starts
 pub mod Theorem

@@ -2,6 +2,8 @@
 pub mod Accepted
 pub mod Admissions
 pub mod Asked
+pub mod Back
+pub mod BackTurn
 pub mod Chosen
 pub mod Conflicts
 pub mod Decode
@@ -11,6 +13,7 @@ pub mod Endings
 pub mod Ends
 pub mod FreshView
 pub mod Grants
+pub mod Keeping
 pub mod Kept
 pub mod Landing
 pub mod Logged

@@ -1,14 +1,16 @@
 -- "No condition reads the store's age."
-use mathlib.Core.Bool.{false}
+use mathlib.Core.Bool.{false, cond}
 use mathlib.Core.List.{List}
 use mathlib.Core.Path.{_≡_}
-use lib.ListN.{length}
+use lib.ListN.{length, replicate}
 use Prim.Native.Nat.{ℕ, _≤_}
-use Rattle.record.specs.State.{transaction, withOffsets, withLengths, withWindows, windowAt}
+use Rattle.record.specs.State.{transaction, withOffsets, withLengths, withWindows, withUndo, windowAt}
+use Rattle.record.specs.Journal.{grantStretch, writeRecordAt, withRecords}
 use Rattle.rules.specs.Messages.{Call}
-use Rattle.rules.specs.Machine.{Machine, withStore, withFiles, fileOf, values}
+use Rattle.rules.specs.Machine.{Machine, withStore, withJournal, withFiles, fileOf, values}
+use Rattle.rules.specs.Undo.{takenBack}
 use Rattle.rules.specs.Calls.{freshStore, freshMachine, callsAfter, callsReplies}
-use Rattle.rules.specs.Plain.{startPlain, plainAfter}
+use Rattle.rules.specs.Plain.{Earlier, nothing, found, startPlain, plainAfter}
 use Rattle.rules.specs.Demand3.{FreshlyMade, Holds}
 
 -- A store that calls have led to from a fresh one, however many, and in which nothing is open now.
@@ -20,12 +22,21 @@ pub record AtRest (m : Machine) : Type 0 where
   pub reached : m ≡ callsAfter calls first
   pub closed : (t : ℕ) → t ≤ 7 → transaction (m .store) t .begun ≡ false
 
--- One made fresh, with other logs, and given the same files, offsets, lengths and windows.
+-- One made fresh, with other logs, and given the same files, offsets, lengths and windows, and the same grant to take back: its write
+-- records, all else that the record holds of it, and the undo buffer.
 unfoldable pub rejuvenated : Machine → List ℕ → Machine
 rejuvenated m logs =
     let s = m .store in
-    withStore (withOffsets (s .offsets) (withLengths (s .lengths) (withWindows (s .windows) (freshStore (s .filenumbers)))))
-    (withFiles (m .files) (freshMachine (m .store .filenumbers) logs))
+    withStore
+    (withOffsets (s .offsets) (withLengths (s .lengths) (withWindows (s .windows) (withUndo (s .undo) (freshStore (s .filenumbers))))))
+    (withJournal (withRecords (replicate 1728 0) grantStretch (writeRecordAt (m .journal) grantStretch) (s .undo .used .records))
+    (withFiles (m .files) (freshMachine (s .filenumbers) logs (m .undo))))
+
+-- What the store would go back to: the values that its last grant found.
+unfoldable pub earlierIn : Machine → Earlier
+earlierIn m =
+    let n = takenBack m in
+    cond (m .store .undo .held) (found (record { value = values (n .store) (n .files); setter = λ i. 0 }) 0) nothing
 
 -- Two stores answer a list of calls alike, reply for reply and byte for byte, and end with the same files, offsets and lengths.
 pub record Alike (cs : List Call) (m n : Machine) : Type 0 where
@@ -37,10 +48,10 @@ pub record Alike (cs : List Call) (m n : Machine) : Type 0 where
 abbrev pub Ageless : Type 0
 Ageless = (m : Machine) → AtRest m → (logs : List ℕ) → length logs ≡ 32768 → (cs : List Call) → Alike cs m (rejuvenated m logs)
 
--- Demand 3 from any store at rest, Fresh's being one: the plain machine starts with what is committed there, and with the
--- windows.
+-- Demand 3 from any store at rest, Fresh's being one: the plain machine starts with what is committed there, with the windows, and with
+-- what the store would go back to.
 abbrev pub Demand3AtRest : Type 0
 Demand3AtRest =
     (m : Machine) → AtRest m → (cs : List Call)
-    → let p = startPlain (fileOf (m .store)) (values (m .store) (m .files)) (windowAt (m .store)) in
+    → let p = startPlain (fileOf (m .store)) (values (m .store) (m .files)) (windowAt (m .store)) (earlierIn m) in
     Holds m p cs (callsAfter cs m) (plainAfter cs p)

@@ -8,7 +8,7 @@ use Rattle.octets.specs.Marks.{hasMark}
 use Rattle.record.specs.declared.outcomes.Refusal.the-variants.{Stale}
 use Rattle.record.specs.Paper.{number, plain, granted, refused}
 use Rattle.record.specs.State.{transaction}
-use Rattle.rules.specs.Messages.{seek, write, getFilePointer, read, Call, begin, on, commit, abort, places, setWindow}
+use Rattle.rules.specs.Messages.{seek, write, getFilePointer, read, Call, begin, on, commit, abort, places, setWindow, takeBack}
 use Rattle.rules.specs.Machine.{Machine}
 use Rattle.rules.specs.Calls.{fresh, call, callsAfter}
 use Rattle.rules.specs.Demand3.{FreshlyMade}
@@ -23,6 +23,7 @@ isWrite (commit t minute) = false
 isWrite (abort t) = false
 isWrite (places t f out) = false
 isWrite (setWindow f start end) = false
+isWrite takeBack = false
 
 unfoldable pub isCommit : Call → Bool
 isCommit (begin t) = false
@@ -31,6 +32,17 @@ isCommit (commit t minute) = true
 isCommit (abort t) = false
 isCommit (places t f out) = false
 isCommit (setWindow f start end) = false
+isCommit takeBack = false
+
+-- 02, F-13: the call besides Commit that touches file bytes.
+unfoldable pub isTakeBack : Call → Bool
+isTakeBack (begin t) = false
+isTakeBack (on t o) = false
+isTakeBack (commit t minute) = false
+isTakeBack (abort t) = false
+isTakeBack (places t f out) = false
+isTakeBack (setWindow f start end) = false
+isTakeBack takeBack = true
 
 unfoldable pub touchesMarks : Call → Bool
 touchesMarks (begin t) = true
@@ -42,6 +54,7 @@ touchesMarks (commit t minute) = true
 touchesMarks (abort t) = true
 touchesMarks (places t f out) = false
 touchesMarks (setWindow f start end) = false
+touchesMarks takeBack = false
 
 -- Whether it is a call of transaction u.
 unfoldable pub isCallOf : ℕ → Call → Bool
@@ -51,6 +64,7 @@ isCallOf u (commit t minute) = eqb u t
 isCallOf u (abort t) = eqb u t
 isCallOf u (places t f out) = eqb u t
 isCallOf u (setWindow f start end) = false
+isCallOf u takeBack = false
 
 -- Transaction t has no mark, and has sighted no length.
 pub record Unmarked (t : ℕ) (m : Machine) : Type 0 where
@@ -62,8 +76,11 @@ pub record Buffers (m : Machine) : Type 0 where
   pub logs : (c : Call) → isWrite c ≡ false → call c m .after .logs ≡ m .logs
   -- "the log buffer is left as found"
   pub freshLogs : (numbers : List ℕ) → fresh numbers m .after .logs ≡ m .logs
-  -- "A write that isn't granted is seen by its own transaction and by nobody else."
-  pub files : (c : Call) → isCommit c ≡ false → call c m .after .files ≡ m .files
+  -- "A write that isn't granted is seen by its own transaction and by nobody else." File bytes are touched by Commit and taking back alone.
+  pub files : (c : Call) → isCommit c ≡ false → isTakeBack c ≡ false → call c m .after .files ≡ m .files
+  -- 02, F-13: the buffer of old bytes is touched by Commit alone, "and Fresh leaves all of it".
+  pub undo : (c : Call) → isCommit c ≡ false → call c m .after .undo ≡ m .undo
+  pub freshUndo : (numbers : List ℕ) → fresh numbers m .after .undo ≡ m .undo
   -- Marks are set by Read, and cleared by Begin and by what ends a transaction.
   pub marks : (c : Call) → touchesMarks c ≡ false → call c m .after .marks ≡ m .marks
   -- "Begin gives .. no marks"; "Abort drops log and marks"; "The transaction ends and its marks are cleared"; "it ends as at Abort".

@@ -1,4 +1,4 @@
--- The rules of the ten calls on the record and the buffers: outcome, record, files, logs, marks and reader's buffer, for every
+-- The rules of the calls on the record and the buffers: outcome, record, files, logs, marks, undo and reader's buffer, for every
 -- input. The promises of the code cite these.
 use mathlib.Core.Bool.{Bool, false, cond, not, _&&_, _||_}
 use mathlib.Core.List.{List, [], _∷_}
@@ -12,21 +12,23 @@ use Rattle.octets.specs.Marks.{hasMark, withMark, withoutMarks, contains}
 use Rattle.record.specs.declared.Store.{Store}
 use Rattle.record.specs.declared.Transaction.{Transaction}
 use Rattle.record.specs.declared.outcomes.Refusal.the-variants.{Stale}
-use Rattle.record.specs.State.{transaction, standingAt, windowAt, ended, begun, withStale}
+use Rattle.record.specs.State.{transaction, standingAt, windowAt, ended, begun, withStale, noUndo}
 use Rattle.record.specs.State.{withOffsets, withLengths, withWindows, withTransactions, withTransaction}
 use Rattle.record.specs.Paper.{number, Said, plain, granted, refused}
 use Rattle.ranges.specs.Below.{guarded, isNone}
-use Rattle.ranges.specs.Ranges.{admission, admissionOfBegin, admissionOfFresh, admissionOfWindow}
+use Rattle.ranges.specs.Ranges.{admission, admissionOfBegin, admissionOfFresh, admissionOfWindow, admissionOfTakingBack}
 use Rattle.rules.specs.Items.{Item, byte, offset, fileLength, result, asked}
+use Rattle.rules.specs.Transactions.{Txn}
 use Rattle.standings.specs.Table.{isKnown}
 use Rattle.rules.specs.Messages.{Op, seek, write, getFilePointer, read, bufferOf}
 use Rattle.rules.specs.Steps.{Stepped, refuse, accept, step, turnedBack}
 use Rattle.rules.specs.Coverage.{placesOf}
 use Rattle.rules.specs.Windows.{forClosed}
 use Rattle.rules.specs.Commits.{Setting, settings, fits, commitRefusal}
-use Rattle.rules.specs.Messages.{Call, begin, on, commit, abort, places, setWindow, Reply}
+use Rattle.rules.specs.Messages.{Call, begin, on, commit, abort, places, setWindow, takeBack, Reply}
 use Rattle.rules.specs.Machine.{Machine, lent, withStore, withJournal, withFiles, withLogs, withMarking, sizes}
 use Rattle.rules.specs.Machine.{fileOf, values, txnOf, withTxn, journalled}
+use Rattle.rules.specs.Undo.{keepingFound, takenBack}
 
 -- A call's reply, and the store after it.
 pub record Turn : Type 0 where
@@ -45,7 +47,7 @@ unfoldable pub passing : ℕ → List ℕ → Machine → Turn → Turn
 passing n buffer m next = guarded (λ k. turnDown k buffer m) (isNone n) n next
 
 -- "Every file byte, mark and offset is 0, nothing is open; the log buffer is left as found." 02, F-8: a length is "0 when fresh".
--- F-11: "Fresh sets all to 0 and 0."
+-- F-11: "Fresh sets all to 0 and 0." F-13: nothing is held of a grant, "and Fresh leaves all of it", the fourth buffer.
 unfoldable pub freshStore : List ℕ → Store
 freshStore numbers =
     record {
@@ -53,17 +55,18 @@ freshStore numbers =
       offsets = replicate 16 0;
       lengths = replicate 8 0;
       windows = replicate 8 freshWindow;
+      undo = noUndo;
       transactions = replicate 8 ended;
     }
 
-unfoldable pub freshMachine : List ℕ → List ℕ → Machine
-freshMachine numbers logs = lent (freshStore numbers) (replicate 1536 0) (replicate 32768 0) logs (replicate 32768 0)
+unfoldable pub freshMachine : List ℕ → List ℕ → List ℕ → Machine
+freshMachine numbers logs undo = lent (freshStore numbers) (replicate 1728 0) (replicate 32768 0) logs (replicate 32768 0) undo
 
 -- "Fresh takes 16 file numbers and the record at hand, which a refused Fresh hands back."
 unfoldable pub fresh : List ℕ → Machine → Turn
 fresh numbers m =
     passing (admissionOfFresh (sizes m) numbers) [] m
-    (answer plain (freshMachine numbers (m .logs)))
+    (answer plain (freshMachine numbers (m .logs) (m .undo)))
 
 -- Transaction t replaced, and its marks cleared.
 unfoldable pub reset : ℕ → Transaction → Machine → Machine
@@ -167,24 +170,25 @@ becomesStale t marks ss s u =
     not (eqb u t) && x .begun && not (x .stale) && conflicts marks u x ss
 
 -- F-4: "an octet with bit t (worth 2 to the power t) for each transaction that this commit made stale and that was not so before"
-unfoldable pub commitGranted : ℕ → List Setting → Machine → Turn
-commitGranted t ss m =
+unfoldable pub commitGranted : ℕ → Txn → List Setting → Machine → Turn
+commitGranted t x ss m =
     let s = m .store in
+    let n = keepingFound x m in
     record {
       reply = record { answer = granted (bitsOf (becomesStale t (m .marks) ss s) 8); buffer = [] };
       after =
           withStore
           (withOffsets (landOffsets ss (s .offsets))
           (withLengths (landLengths ss (s .lengths))
-          (withTransactions (tabulate (afterCommit t (m .marks) ss s) 8) s)))
+          (withTransactions (tabulate (afterCommit t (m .marks) ss s) 8) (n .store))))
           (withFiles (landFiles ss (m .files))
-          (withMarking (withoutMarks t (m .marks)) m));
+          (withMarking (withoutMarks t (m .marks)) n));
     }
 
 -- 13: "it ends as at Abort". 12: "everything, the transaction open". F-11: "A Commit refused with 21 or 22 keeps its transaction open."
-unfoldable pub commitDecided : ℕ → List Setting → Machine → ℕ → Turn
-commitDecided t ss m zero = commitGranted t ss m
-commitDecided t ss m (suc n) =
+unfoldable pub commitDecided : ℕ → Txn → List Setting → Machine → ℕ → Turn
+commitDecided t x ss m zero = commitGranted t x ss m
+commitDecided t x ss m (suc n) =
     record {
       reply = record { answer = refused (suc n); buffer = [] };
       after = cond (eqb (suc n) (number Stale)) (reset t ended m) m;
@@ -199,7 +203,7 @@ commitTurn t minute m =
     let s = m .store in
     let x = txnOf s (m .journal) (m .logs) t in
     let shut = forClosed (fileOf s) (windowAt s) minute (x .writes) in
-    commitDecided t (settingsOf m t) m
+    commitDecided t x (settingsOf m t) m
     (commitRefusal (minuteIn minute) (transaction s t .stale) shut (fits (values s (m .files)) x))
 
 -- "Commit answers how many became stale by it that were not so before": the former number. F-4: "The old number is the count of ones in
@@ -223,7 +227,11 @@ unfoldable pub admitted : ℕ → List ℕ → Machine → Turn → Turn
 admitted t buffer m next =
     passing (admission (sizes m) (m .store) (m .journal) t) buffer m next
 
--- The calls of demand 3, and F-1's; F-11: "Demand 3's lists may from now on hold the setting of windows".
+-- 02, F-13: the call takes the last grant back, and "a new call changes only what its request says".
+unfoldable pub takeBackTurn : Machine → Turn
+takeBackTurn m = answer plain (takenBack m)
+
+-- The calls of demand 3, and those of F-1, F-11 and F-13.
 unfoldable pub call : Call → Machine → Turn
 call (begin t) m =
     passing (admissionOfBegin (sizes m) (m .store) (m .journal) t) [] m (beginTurn t m)
@@ -233,6 +241,7 @@ call (abort t) m = admitted t [] m (abortTurn t m)
 call (places t f out) m = admitted t out m (placesTurn t f out m)
 call (setWindow f start end) m =
     passing (admissionOfWindow (sizes m) (m .store) (m .journal) f start end) [] m (windowTurn f start end m)
+call takeBack m = passing (admissionOfTakingBack (sizes m) (m .store) (m .journal)) [] m (takeBackTurn m)
 
 -- A list of calls: the store after it, and its replies.
 unfoldable pub callsAfter : List Call → Machine → Machine

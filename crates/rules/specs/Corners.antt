@@ -12,13 +12,13 @@ use Rattle.standings.specs.declared.Place.the-variants.{At, After}
 use Rattle.windows.specs.Hours.{window}
 use Rattle.record.specs.Paper.{plain, pointer, granted, refused}
 use Rattle.rules.specs.Items.{byte, offset, fileLength, result}
-use Rattle.rules.specs.Messages.{seek, write, getFilePointer, read, Call, begin, on, commit, abort, places, setWindow, says}
+use Rattle.rules.specs.Messages.{seek, write, getFilePointer, read, Call, begin, on, commit, abort, places, setWindow, takeBack, says}
 use Rattle.rules.specs.Transactions.{Txn, Write}
 use Rattle.rules.specs.Reading.{ownEnd}
 use Rattle.rules.specs.Steps.{Stepped, refuse, accept, step}
 use Rattle.rules.specs.Commits.{settings, fits}
-use Rattle.rules.specs.Plain.{Plain, startPlain, plainReplies}
-use Rattle.rules.specs.Grants.{grantsOf, rerun, sameReplies, serialStart}
+use Rattle.rules.specs.Plain.{Plain, nothing, found, startPlain, plainReplies}
+use Rattle.rules.specs.Grants.{serialOf, rerun, sameReplies}
 use Rattle.rules.specs.Setup.{Seen, Exchange, _⇒_, commits, callsOf, Goes, formerNumbers, sighted, committedBytes, beginning}
 use Rattle.rules.specs.Setup.{sightingsOf, gives, refusesWith, lists, begins, A, B, C, X, Y, Z, dot}
 use Rattle.rules.specs.Situations.{toldK, toldL}
@@ -764,10 +764,102 @@ toldMeanwhile =
 -- "the serial order runs with Fresh's windows": file 0 is closed at the start, is opened, and T0 is granted; run again from the windows
 -- found it would be refused with 21.
 unfoldable pub closedAtStart : Plain
-closedAtStart = startPlain (λ d. 0) (λ i. 0) (λ f. window 1 2)
+closedAtStart = startPlain (λ d. 0) (λ i. 0) (λ f. window 1 2) nothing
 
 unfoldable pub openedThen : List Call
 openedThen = setWindow 0 0 0 ∷ begin 0 ∷ on 0 (write 0 (A ∷ [])) ∷ commit 0 5 ∷ []
+
+-- 02, F-13: 24 at once after Fresh, 23 while somebody is open, and 24 again after a taking back. Own writes that overlap go back, with
+-- offset and length.
+unfoldable pub toldTakenBack : List Exchange
+toldTakenBack =
+    takeBack ⇒ says (refused 24)
+    ∷ begin 0 ⇒ says plain
+    ∷ on 0 (seek 0 0) ⇒ says plain
+    ∷ on 0 (write 0 (A ∷ B ∷ [])) ⇒ says plain
+    ∷ on 0 (seek 0 1) ⇒ says plain
+    ∷ on 0 (write 0 (C ∷ [])) ⇒ says plain
+    ∷ takeBack ⇒ says (refused 23)
+    ∷ commits 0 ⇒ says (granted 0)
+    ∷ takeBack ⇒ says plain
+    ∷ takeBack ⇒ says (refused 24)
+    ∷ []
+
+-- The same before it is taken back.
+unfoldable pub toldOverwritten : List Exchange
+toldOverwritten =
+    begin 0 ⇒ says plain
+    ∷ on 0 (write 0 (A ∷ B ∷ [])) ⇒ says plain
+    ∷ on 0 (seek 0 1) ⇒ says plain
+    ∷ on 0 (write 0 (C ∷ [])) ⇒ says plain
+    ∷ commits 0 ⇒ says (granted 0)
+    ∷ []
+
+-- An append that was taken back, and another: after an Abort, and a Commit refused with 22 of one that is then aborted.
+unfoldable pub toldAppendedAgain : List Exchange
+toldAppendedAgain =
+    begin 0 ⇒ says plain
+    ∷ on 0 (write 0 (A ∷ [])) ⇒ says plain
+    ∷ commits 0 ⇒ says (granted 0)
+    ∷ begin 1 ⇒ says plain
+    ∷ on 1 (write 0 (B ∷ [])) ⇒ says plain
+    ∷ commit 1 1440 ⇒ says (refused 22)
+    ∷ abort 1 ⇒ says plain
+    ∷ takeBack ⇒ says plain
+    ∷ begin 0 ⇒ says plain
+    ∷ on 0 (write 0 (C ∷ [])) ⇒ says plain
+    ∷ commits 0 ⇒ says (granted 0)
+    ∷ []
+
+-- "whatever the windows": the file is closed by then.
+unfoldable pub toldClosedBack : List Exchange
+toldClosedBack =
+    begin 0 ⇒ says plain
+    ∷ on 0 (write 0 (A ∷ [])) ⇒ says plain
+    ∷ commits 0 ⇒ says (granted 0)
+    ∷ setWindow 0 1 2 ⇒ says plain
+    ∷ takeBack ⇒ says plain
+    ∷ []
+
+-- A grant with nothing in it is a grant: it can be taken back, and the one before it no longer.
+unfoldable pub toldEmptyGrant : List Exchange
+toldEmptyGrant =
+    begin 0 ⇒ says plain
+    ∷ on 0 (write 0 (A ∷ [])) ⇒ says plain
+    ∷ commits 0 ⇒ says (granted 0)
+    ∷ begin 0 ⇒ says plain
+    ∷ commits 0 ⇒ says (granted 0)
+    ∷ takeBack ⇒ says plain
+    ∷ takeBack ⇒ says (refused 24)
+    ∷ []
+
+-- Commits refused with 13, 12 and 21 leave what is held; 23 while one is open, stale or not. T0's grant set an offset; it goes back.
+unfoldable pub toldRefusedBetween : List Exchange
+toldRefusedBetween =
+    begin 0 ⇒ says plain
+    ∷ begin 1 ⇒ says plain
+    ∷ on 0 (seek 0 4096) ⇒ says plain
+    ∷ on 1 (getFilePointer 0) ⇒ says (pointer 0)
+    ∷ commits 0 ⇒ says (granted 2)
+    ∷ takeBack ⇒ says (refused 23)
+    ∷ commits 1 ⇒ says (refused 13)
+    ∷ begin 1 ⇒ says plain
+    ∷ on 1 (write 0 (A ∷ [])) ⇒ says plain
+    ∷ commits 1 ⇒ says (refused 12)
+    ∷ setWindow 0 1 2 ⇒ says plain
+    ∷ commits 1 ⇒ says (refused 21)
+    ∷ takeBack ⇒ says (refused 23)
+    ∷ abort 1 ⇒ says plain
+    ∷ takeBack ⇒ says plain
+    ∷ []
+
+-- "serial order is then over the grants not taken back": a machine that starts with 7s to go back to, and a list that takes back more
+-- than it granted.
+unfoldable pub heldAtStart : Plain
+heldAtStart = startPlain (λ d. 0) (λ i. 0) (λ f. window 0 0) (found (record { value = λ i. 7; setter = λ i. 0 }) 0)
+
+unfoldable pub backTwice : List Call
+backTwice = takeBack ∷ begin 0 ∷ commit 0 0 ∷ begin 1 ∷ on 1 (seek 0 1) ∷ commit 1 0 ∷ takeBack ∷ []
 
 -- What situations k and l and the corners come to, together.
 pub record Corners (x : Seen) : Type 0 where
@@ -884,5 +976,22 @@ pub record Corners (x : Seen) : Type 0 where
   pub setting : Goes x toldSetting
   pub meanwhile : Goes x toldMeanwhile
   pub freshWindows :
-      let gs = grantsOf openedThen closedAtStart in
-      (length gs ≡ 1) × (plainReplies (rerun gs) (serialStart closedAtStart) ≡ sameReplies gs)
+      let s = serialOf openedThen closedAtStart in
+      (length (s .grants) ≡ 1) × (plainReplies (rerun (s .grants)) (s .start) ≡ sameReplies (s .grants))
+  pub takenBack :
+      Goes x toldTakenBack
+      × (beginning (x .value (callsOf toldTakenBack)) 0 2 ≡ 0 ∷ 0 ∷ [])
+      × (x .value (callsOf toldTakenBack) (offset 0) ≡ 0)
+      × (x .value (callsOf toldTakenBack) (fileLength 0) ≡ 0)
+  pub overwritten : Goes x toldOverwritten × (beginning (x .value (callsOf toldOverwritten)) 0 2 ≡ A ∷ C ∷ [])
+  pub appendedAgain :
+      Goes x toldAppendedAgain
+      × (beginning (x .value (callsOf toldAppendedAgain)) 0 2 ≡ C ∷ 0 ∷ [])
+      × (x .value (callsOf toldAppendedAgain) (offset 0) ≡ 1)
+  pub closedBack : Goes x toldClosedBack × (beginning (x .value (callsOf toldClosedBack)) 0 1 ≡ 0 ∷ [])
+  pub emptyGrant : Goes x toldEmptyGrant × (beginning (x .value (callsOf toldEmptyGrant)) 0 1 ≡ A ∷ [])
+  pub refusedBetween : Goes x toldRefusedBetween × (x .value (callsOf toldRefusedBetween) (offset 0) ≡ 0)
+  pub startGoesBack :
+      let s = serialOf backTwice heldAtStart in
+      (length (s .grants) ≡ 1) × (s .start .committed .value (offset 0) ≡ 7)
+      × (plainReplies (rerun (s .grants)) (s .start) ≡ sameReplies (s .grants))

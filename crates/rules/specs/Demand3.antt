@@ -1,6 +1,6 @@
 -- Demand 3, beside its wording. The store is the rules of crate rules on records and buffers (`call`), the plain machine is
 -- `plainCall`, and both run the same list of calls, refused ones included.
-use mathlib.Core.Bool.{Bool, true, false}
+use mathlib.Core.Bool.{true}
 use mathlib.Core.List.{List, [], _∷_, _++_, map}
 use mathlib.Core.Logic.{_↔_}
 use mathlib.Core.Path.{_≡_}
@@ -11,13 +11,14 @@ use Rattle.record.specs.declared.outcomes.Outcome.{Outcome}
 use Rattle.record.specs.declared.outcomes.Refusal.the-variants.{Stale, NoSuchMinute}
 use Rattle.record.specs.State.{transaction}
 use Rattle.record.specs.Paper.{number, plain, granted, refused, said}
+use Rattle.windows.specs.Hours.{freshWindows}
 use Rattle.rules.specs.Messages.{Op, Call, on, commit, Reply}
 use Rattle.rules.specs.Transactions.{empty}
 use Rattle.rules.specs.Steps.{looks}
 use Rattle.rules.specs.Lone.{Lone, lone}
-use Rattle.rules.specs.Plain.{Slot, closed, running, Running, Plain, ops, freshPlain, plainCall, plainAfter, plainReplies}
-use Rattle.rules.specs.Plain.{firstList, secondList, becameStale}
-use Rattle.rules.specs.Grants.{grantsOf, rerun, sameReplies, serialStart}
+use Rattle.rules.specs.Plain.{running, isRunning, Running, Plain, ops, freshPlain, plainCall, plainAfter, plainReplies}
+use Rattle.rules.specs.Plain.{nothing, withWindows, firstList, secondList, becameStale}
+use Rattle.rules.specs.Grants.{serialOf, rerun, sameReplies}
 use Rattle.rules.specs.Machine.{Machine, values}
 use Rattle.rules.specs.Calls.{fresh, call, callsAfter, callsReplies}
 use Rattle.rules.specs.Promises.{Meets}
@@ -27,10 +28,6 @@ pub record FreshlyMade (numbers : List ℕ) (m : Machine) : Type 0 where
   pub before : Machine
   pub accepted : fresh numbers before .reply .answer ≡ plain
   pub left : m ≡ fresh numbers before .after
-
-unfoldable pub isRunning : Slot → Bool
-isRunning closed = false
-isRunning (running r) = true
 
 -- "A call is accepted when it returns no refusal".
 abbrev pub IsAccepted : Reply → Type 0
@@ -69,10 +66,12 @@ pub record Holds (m₀ : Machine) (p₀ : Plain) (cs : List Call) (m : Machine) 
       → (n < 256) × ((u : ℕ) → u < 8 → contains n u ≡ becameStale t p (plainCall (commit t minute) p .after) u)
   -- "the granted transactions, run again alone in grant order from the same fresh state with all their accepted calls, meet no
   -- refusal, give the same answers and bytes": the list of calls that does so gives on the plain machine the replies that they had.
-  -- F-11: "the serial order runs with Fresh's windows".
-  pub again : plainReplies (rerun (grantsOf cs p₀)) (serialStart p₀) ≡ sameReplies (grantsOf cs p₀)
+  -- F-11: "the serial order runs with Fresh's windows". F-13: "serial order is then over the grants not taken back."
+  pub again : let s = serialOf cs p₀ in plainReplies (rerun (s .grants)) (s .start) ≡ sameReplies (s .grants)
+  -- "from the same fresh state": where the machine has nothing to go back to at the start, as after Fresh, the serial order starts there.
+  pub start : p₀ .earlier ≡ nothing → serialOf cs p₀ .start ≡ withWindows freshWindows p₀
   -- "and leave the same files and offsets"; 02, F-8: "Lengths join .. what serial order compares": files, offsets and lengths.
-  pub left : values (m .store) (m .files) ≡ plainAfter (rerun (grantsOf cs p₀)) (serialStart p₀) .committed .value
+  pub left : let s = serialOf cs p₀ in values (m .store) (m .files) ≡ plainAfter (rerun (s .grants)) (s .start) .committed .value
   -- F-7, "each accepted Read and GetFilePointer, in transactions that later abort as well, gives the answer and the bytes that its
   -- transaction's accepted calls up to it give, run alone on the committed files and offsets of that moment": of the next call, whatever
   -- it is.

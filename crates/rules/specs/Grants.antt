@@ -3,7 +3,7 @@ use mathlib.Core.List.{List, [], _∷_, _++_, map}
 use Prim.Native.Nat.{ℕ}
 use Rattle.windows.specs.Hours.{freshWindows}
 use Rattle.record.specs.Paper.{Said, plain, pointer, given, granted, pairs, refused}
-use Rattle.rules.specs.Messages.{Call, begin, on, commit, abort, places, setWindow, Reply, says}
+use Rattle.rules.specs.Messages.{Call, begin, on, commit, abort, places, setWindow, takeBack, Reply, says}
 use Rattle.rules.specs.Plain.{Accepted, Slot, closed, running, Plain, withWindows, plainCall}
 
 -- A granted transaction: its number, its Commit's minute, and "the accepted Seeks, Writes, GetFilePointers and Reads since its Begin".
@@ -25,18 +25,56 @@ ifGranted (granted n) gs = gs
 ifGranted (pairs n) gs = []
 ifGranted (refused n) gs = []
 
-unfoldable pub grantedBy : Call → Plain → List Grant
-grantedBy (begin t) p = []
-grantedBy (on t o) p = []
-grantedBy (commit t minute) p = ifGranted (plainCall (commit t minute) p .reply .answer) (grantAt t minute (p .slots t))
-grantedBy (abort t) p = []
-grantedBy (places t f out) p = []
-grantedBy (setWindow f start end) p = []
+unfoldable pub grantedBy : ℕ → ℕ → Plain → List Grant
+grantedBy t minute p = ifGranted (plainCall (commit t minute) p .reply .answer) (grantAt t minute (p .slots t))
 
--- Those of a list of calls, "in the order of their grants".
-unfoldable pub grantsOf : List Call → Plain → List Grant
-grantsOf [] p = []
-grantsOf (c ∷ cs) p = grantedBy c p ++ grantsOf cs (plainCall c p .after)
+-- What the serial order is made of: the machine that it starts from, and the grants, "in the order of their grants".
+pub record Serial : Type 0 where
+  pub start : Plain
+  pub grants : List Grant
+
+-- A list without its last.
+unfoldable pub butLast : List Grant → List Grant
+butLast [] = []
+butLast (g ∷ []) = []
+butLast (g ∷ (h ∷ gs)) = g ∷ butLast (h ∷ gs)
+
+-- 02, F-13: "serial order is then over the grants not taken back." Where none of them is left, the machine at the start goes back itself
+-- (one that has nothing to go back to there never does: Demand3.antt, `start`).
+unfoldable pub droppedFrom : Plain → List Grant → Serial
+droppedFrom p [] = record { start = plainCall takeBack p .after; grants = [] }
+droppedFrom p (g ∷ gs) = record { start = p; grants = butLast (g ∷ gs) }
+
+-- A taking back that was accepted.
+unfoldable pub ifDone : Said → Serial → Serial → Serial
+ifDone plain a b = a
+ifDone (pointer o) a b = b
+ifDone (given n) a b = b
+ifDone (granted n) a b = b
+ifDone (pairs n) a b = b
+ifDone (refused n) a b = b
+
+-- After one more call, on machine p; and after a list of calls.
+unfoldable pub adding : List Grant → Serial → Serial
+adding [] s = s
+adding (g ∷ gs) s = record { start = s .start; grants = s .grants ++ (g ∷ gs) }
+
+unfoldable pub serialBy : Call → Plain → Serial → Serial
+serialBy (begin t) p s = s
+serialBy (on t o) p s = s
+serialBy (commit t minute) p s = adding (grantedBy t minute p) s
+serialBy (abort t) p s = s
+serialBy (places t f out) p s = s
+serialBy (setWindow f start end) p s = s
+serialBy takeBack p s = ifDone (plainCall takeBack p .reply .answer) (droppedFrom (s .start) (s .grants)) s
+
+unfoldable pub serialFrom : List Call → Plain → Serial → Serial
+serialFrom [] p s = s
+serialFrom (c ∷ cs) p s = serialFrom cs (plainCall c p .after) (serialBy c p s)
+
+-- F-11: "the serial order runs with Fresh's windows".
+unfoldable pub serialOf : List Call → Plain → Serial
+serialOf cs p = serialFrom cs p (record { start = withWindows freshWindows p; grants = [] })
 
 -- "the granted ones are run alone from the state of Fresh, in the order of their grants, with their accepted calls and then their
 -- granted Commit, each on what the one before left": a list of calls, in which each is begun when the one before has ended.
@@ -54,7 +92,3 @@ repliesOf g = says plain ∷ (map (λ a. a .reply) (g .calls) ++ (says (granted 
 unfoldable pub sameReplies : List Grant → List Reply
 sameReplies [] = []
 sameReplies (g ∷ gs) = repliesOf g ++ sameReplies gs
-
--- 02, F-11: "the serial order runs with Fresh's windows": the machine that it starts from. From Fresh this is that machine itself.
-unfoldable pub serialStart : Plain → Plain
-serialStart p = withWindows freshWindows p

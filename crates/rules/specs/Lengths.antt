@@ -1,10 +1,14 @@
 -- Request F-8, "Files with a length": what holds of the lengths of every store reached from Fresh.
+use mathlib.Core.Bool.{true, false}
 use mathlib.Core.List.{List}
 use mathlib.Core.Path.{_≡_}
 use Prim.Native.Nat.{ℕ, _+_, _*_, _≤_, _<_}
+use Rattle.record.specs.State.{transaction}
 use Rattle.rules.specs.Items.{byte, fileLength, Values}
-use Rattle.rules.specs.Messages.{Call}
+use Rattle.rules.specs.Messages.{Call, takeBack}
+use Rattle.rules.specs.Buffers.{isTakeBack}
 use Rattle.rules.specs.Machine.{Machine, values}
+use Rattle.rules.specs.Undo.{takenBack}
 use Rattle.rules.specs.Calls.{call, callsAfter}
 use Rattle.rules.specs.Demand3.{FreshlyMade}
 
@@ -23,10 +27,14 @@ committedIn m = values (m .store) (m .files)
 pub record LengthsHold (m : Machine) : Type 0 where
   -- "Bytes between an old end and a write come from the file, and are 0 in every store reached from Fresh."
   pub zeros : ZeroBeyond (committedIn m)
+  -- The same of the values to which F-13's taking back would go.
+  pub zerosHeld : m .store .undo .held ≡ true → ZeroBeyond (committedIn (takenBack m))
   -- "Each file gets a committed length, 0 to 4,096"
   pub limit : (f : ℕ) → committedIn m (fileLength f) ≤ 4096
-  -- No call lowers a length: a place below it stays below it.
-  pub grows : (c : Call) → Longer (committedIn m) (committedIn (call c m .after))
+  -- No call but F-13's taking back lowers a length: a place below it stays below it. While a transaction is open that one changes
+  -- nothing.
+  pub grows : (c : Call) → isTakeBack c ≡ false → Longer (committedIn m) (committedIn (call c m .after))
+  pub opened : (t : ℕ) → t ≤ 7 → transaction (m .store) t .begun ≡ true → call takeBack m .after ≡ m
 
 abbrev pub LengthsAlwaysHold : Type 0
 LengthsAlwaysHold = (numbers : List ℕ) (m₀ : Machine) → FreshlyMade numbers m₀ → (cs : List Call) → LengthsHold (callsAfter cs m₀)

@@ -14,8 +14,10 @@ pub mod Commits
 pub mod Coverage
 -- Which Commits have a byte for a closed file (paper 02, F-11; when a file is open is windows/specs/Hours.antt).
 pub mod Windows
--- The store: the record and its buffers, the rules of the ten calls, and how promises cite them.
+-- The store: the record and its buffers, what a grant keeps and how it goes back (paper 02, F-13), the rules of the eleven calls, and
+-- how promises cite them.
 pub mod Machine
+pub mod Undo
 pub mod Calls
 pub mod Promises
 -- The plain machine: sightings with their setters, the lone run, the machine, its grants and their second run.
@@ -31,6 +33,7 @@ pub mod Buffers
 pub mod Lengths
 pub mod Closed
 pub mod Splitting
+pub mod TakingBack
 -- The situations and corners of paper 01.
 pub mod Setup
 pub mod Situations

@@ -1,4 +1,4 @@
--- The store as a caller holds it: the record in its two parts and the three lent buffers; and what they mean for one transaction.
+-- The store as a caller holds it: the record in its two parts and the four lent buffers; and what they mean for one transaction.
 use mathlib.Core.List.{List, [], _∷_}
 use lib.ListN.{length, getD}
 use Prim.Native.Nat.{ℕ, _+_, _*_}
@@ -15,37 +15,43 @@ use Rattle.rules.specs.Items.{Item, byte, offset, fileLength, Values}
 use Rattle.rules.specs.Transactions.{Txn, Write}
 use Rattle.rules.specs.Steps.{total}
 
--- The record (store and journal), and "these three, files, logs and marks, are the store buffers; every call takes all three".
+-- The record (store and journal), and "these three, files, logs and marks, are the store buffers; every call takes all three"; 02, F-13:
+-- "a fourth store buffer, of 4,096 bytes and lent as the three are".
 pub record Machine : Type 0 where
   pub store : Store
   pub journal : List ℕ
   pub files : List ℕ
   pub logs : List ℕ
   pub marks : List ℕ
+  pub undo : List ℕ
 
 -- As a caller lends them.
-abbrev pub lent : Store → List ℕ → List ℕ → List ℕ → List ℕ → Machine
-lent s journal files logs marks = record { store = s; journal = journal; files = files; logs = logs; marks = marks }
+abbrev pub lent : Store → List ℕ → List ℕ → List ℕ → List ℕ → List ℕ → Machine
+lent s journal files logs marks undo =
+    record { store = s; journal = journal; files = files; logs = logs; marks = marks; undo = undo }
 
 -- A machine with another value in one field.
 abbrev pub withStore : Store → Machine → Machine
-withStore s m = lent s (m .journal) (m .files) (m .logs) (m .marks)
+withStore s m = lent s (m .journal) (m .files) (m .logs) (m .marks) (m .undo)
 
 abbrev pub withJournal : List ℕ → Machine → Machine
-withJournal journal m = lent (m .store) journal (m .files) (m .logs) (m .marks)
+withJournal journal m = lent (m .store) journal (m .files) (m .logs) (m .marks) (m .undo)
 
 abbrev pub withFiles : List ℕ → Machine → Machine
-withFiles files m = lent (m .store) (m .journal) files (m .logs) (m .marks)
+withFiles files m = lent (m .store) (m .journal) files (m .logs) (m .marks) (m .undo)
 
 abbrev pub withLogs : List ℕ → Machine → Machine
-withLogs logs m = lent (m .store) (m .journal) (m .files) logs (m .marks)
+withLogs logs m = lent (m .store) (m .journal) (m .files) logs (m .marks) (m .undo)
 
 abbrev pub withMarking : List ℕ → Machine → Machine
-withMarking marks m = lent (m .store) (m .journal) (m .files) (m .logs) marks
+withMarking marks m = lent (m .store) (m .journal) (m .files) (m .logs) marks (m .undo)
+
+abbrev pub withOldBytes : List ℕ → Machine → Machine
+withOldBytes undo m = lent (m .store) (m .journal) (m .files) (m .logs) (m .marks) undo
 
 -- The lengths of the buffers.
 abbrev pub sizes : Machine → Sizes
-sizes m = sized (length (m .files)) (length (m .logs)) (length (m .marks))
+sizes m = sized (length (m .files)) (length (m .logs)) (length (m .marks)) (length (m .undo))
 
 -- "Each belongs for good to one file, named at Fresh": the file of descriptor d.
 unfoldable pub fileOf : Store → ℕ → ℕ

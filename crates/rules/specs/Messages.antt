@@ -12,6 +12,7 @@ pub data Op : Type 0 where
 
 -- "Begin, Seek, Write, GetFilePointer, Read, Commit and Abort calls", each with its transaction number; and F-1's, with a file and
 -- the buffer for the list. 02, F-11: "Commit takes the minute", and "A call sets a window": a file, its start and its end.
+-- F-13, "every list of demand 3, which may from now on hold this call": the last grant is taken back.
 pub data Call : Type 0 where
   begin : ℕ → Call
   on : ℕ → Op → Call
@@ -19,6 +20,7 @@ pub data Call : Type 0 where
   abort : ℕ → Call
   places : ℕ → ℕ → List ℕ → Call
   setWindow : ℕ → ℕ → ℕ → Call
+  takeBack : Call
 
 -- The reader's buffer of a call, or that for its list; empty where it has none.
 unfoldable pub bufferOf : Op → List ℕ
@@ -34,6 +36,7 @@ bufferOfCall (commit t minute) = []
 bufferOfCall (abort t) = []
 bufferOfCall (places t f out) = out
 bufferOfCall (setWindow f start end) = []
+bufferOfCall takeBack = []
 
 -- What a call gives: its answer, and the reader's buffer after it (empty where it has none).
 pub record Reply : Type 0 where

@@ -1,5 +1,5 @@
 -- The plain machine of demand 3, as paper 01 words it. "It has no marks and looks at nothing in the store's record or buffers."
-use mathlib.Core.Bool.{Bool, false, cond, not, _&&_}
+use mathlib.Core.Bool.{Bool, true, false, cond, not, _&&_}
 use mathlib.Core.List.{List, [], _∷_, _++_, map}
 use lib.Dec.{leb, eqb}
 use Prim.Native.Nat.{ℕ, zero, suc, _+_}
@@ -7,9 +7,9 @@ use Rattle.windows.specs.Hours.{minuteIn, window, Windows, freshWindows}
 use Rattle.octets.specs.Bits.{bitsOf}
 use Rattle.record.specs.declared.outcomes.Refusal.the-variants.{Stale}
 use Rattle.record.specs.Paper.{number, Said, plain, granted, refused}
-use Rattle.ranges.specs.Below.{guarded, isNone}
+use Rattle.ranges.specs.Below.{guarded, isNone, below}
 use Rattle.ranges.specs.Ranges.{windowRefusal}
-use Rattle.rules.specs.Messages.{Op, bufferOf, Call, begin, on, commit, abort, places, setWindow, Reply}
+use Rattle.rules.specs.Messages.{Op, bufferOf, Call, begin, on, commit, abort, places, setWindow, takeBack, Reply}
 use Rattle.rules.specs.Items.{Values, result, asked}
 use Rattle.rules.specs.Transactions.{Txn, empty, put}
 use Rattle.rules.specs.Steps.{Stepped, refuse, accept, step, turnedBack}
@@ -41,6 +41,12 @@ pub data Slot : Type 0 where
   closed : Slot
   running : Running → Slot
 
+-- 02, F-13: "The plain machine keeps the files, offsets, lengths, setters and count of grants that the last grant found until it goes back
+-- to them."
+pub data Earlier : Type 0 where
+  nothing : Earlier
+  found : Committed → ℕ → Earlier
+
 -- "It holds these, a count of grants from 0, and for each open transaction its accepted calls, standings, writes and sightings."
 -- 02, F-11: "the plain machine holds the windows".
 pub record Plain : Type 0 where
@@ -48,23 +54,25 @@ pub record Plain : Type 0 where
   pub committed : Committed
   pub grants : ℕ
   pub windows : Windows
+  pub earlier : Earlier
   pub slots : ℕ → Slot
 
--- The machine with these committed values, these windows and nothing open, counting its grants from here on.
-unfoldable pub startPlain : (ℕ → ℕ) → Values → Windows → Plain
-startPlain fileOf v windows =
+-- The machine with these committed values, these windows, this to go back to, and nothing open, counting its grants from here on.
+unfoldable pub startPlain : (ℕ → ℕ) → Values → Windows → Earlier → Plain
+startPlain fileOf v windows earlier =
     record {
       fileOf = fileOf;
       committed = record { value = v; setter = λ i. 0 };
       grants = 0;
       windows = windows;
+      earlier = earlier;
       slots = λ t. closed;
     }
 
 -- "starts with the files, each descriptor's file, the offsets and the setters that an accepted Fresh gives"; 02, F-8: "Lengths join what
 -- the plain machine holds". F-11: "Fresh sets all to 0 and 0."
 abbrev pub freshPlain : (ℕ → ℕ) → Plain
-freshPlain fileOf = startPlain fileOf (λ i. 0) freshWindows
+freshPlain fileOf = startPlain fileOf (λ i. 0) freshWindows nothing
 
 unfoldable pub ops : List Accepted → List Op
 ops = map (λ a. a .op)
@@ -93,15 +101,41 @@ turnedDown n buffer p = record { reply = record { answer = refused n; buffer = b
 -- The machine with another transaction as number t, or with what a grant leaves committed.
 unfoldable pub withSlot : ℕ → Slot → Plain → Plain
 withSlot t s p =
-    record { fileOf = p .fileOf; committed = p .committed; grants = p .grants; windows = p .windows; slots = put t s (p .slots) }
+    record {
+      fileOf = p .fileOf;
+      committed = p .committed;
+      grants = p .grants;
+      windows = p .windows;
+      earlier = p .earlier;
+      slots = put t s (p .slots);
+    }
 
 abbrev pub withGrant : Committed → Plain → Plain
-withGrant c p = record { fileOf = p .fileOf; committed = c; grants = p .grants + 1; windows = p .windows; slots = p .slots }
+withGrant c p =
+    record {
+      fileOf = p .fileOf;
+      committed = c;
+      grants = p .grants + 1;
+      windows = p .windows;
+      earlier = found (p .committed) (p .grants);
+      slots = p .slots;
+    }
 
 -- 02, F-11: "setting one changes nothing else in it".
 abbrev pub withWindows : Windows → Plain → Plain
 withWindows windows p =
-    record { fileOf = p .fileOf; committed = p .committed; grants = p .grants; windows = windows; slots = p .slots }
+    record {
+      fileOf = p .fileOf;
+      committed = p .committed;
+      grants = p .grants;
+      windows = windows;
+      earlier = p .earlier;
+      slots = p .slots;
+    }
+
+-- F-13: "until it goes back to them", "whatever the windows", which stay.
+abbrev pub goneBack : Committed → ℕ → Plain → Plain
+goneBack c n p = record { fileOf = p .fileOf; committed = c; grants = n; windows = p .windows; earlier = nothing; slots = p .slots }
 
 unfoldable pub answering : Said → Plain → PlainTurn
 answering a p = record { reply = record { answer = a; buffer = [] }; after = p }
@@ -188,6 +222,22 @@ plainSetWindow f start end p =
 unfoldable pub numbered : ℕ → List ℕ → (Slot → Plain → PlainTurn) → Plain → PlainTurn
 numbered t buffer next p = guarded (λ n. turnedDown n buffer p) (leb t 7) 3 (next (p .slots t) p)
 
+-- Whether a number is open, and whether one of the eight is.
+unfoldable pub isRunning : Slot → Bool
+isRunning closed = false
+isRunning (running r) = true
+
+unfoldable pub noneRunning : Plain → Bool
+noneRunning p = below (λ t. not (isRunning (p .slots t))) 8
+
+-- 02, F-13: "23 when any transaction is open, after 2; 24 when there has been no grant since the latest Fresh or taking back, after 23."
+unfoldable pub goBack : Earlier → Plain → PlainTurn
+goBack nothing p = turnedDown 24 [] p
+goBack (found c n) p = answering plain (goneBack c n p)
+
+unfoldable pub plainTakeBack : Plain → PlainTurn
+plainTakeBack p = guarded (λ n. turnedDown n [] p) (noneRunning p) 23 (goBack (p .earlier) p)
+
 unfoldable pub plainCall : Call → Plain → PlainTurn
 plainCall (begin t) p = numbered t [] (plainBegin t) p
 plainCall (on t o) p = numbered t (bufferOf o) (plainOn t o) p
@@ -195,6 +245,7 @@ plainCall (commit t minute) p = numbered t [] (plainCommit t minute) p
 plainCall (abort t) p = numbered t [] (plainAbort t) p
 plainCall (places t f out) p = numbered t out (plainPlaces f out) p
 plainCall (setWindow f start end) p = plainSetWindow f start end p
+plainCall takeBack p = plainTakeBack p
 
 -- A list of calls: the machine after it, and its replies.
 unfoldable pub plainAfter : List Call → Plain → Plain

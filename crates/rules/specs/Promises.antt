@@ -19,27 +19,29 @@ pub record Meets (w : Turn) (o : Outcome) (m : Machine) (atReader : List ℕ) : 
   pub machine : m ≡ w .after
   pub reader : atReader ≡ w .reply .buffer
 
--- The machine that a record of numbers and the three buffers mean.
-abbrev pub machineOf : List ℕ → List ℕ → List ℕ → List ℕ → Machine
-machineOf kept files logs marks = lent (storeOf kept) (journalOf kept) files logs marks
+-- The machine that a record of numbers and the four buffers mean.
+abbrev pub machineOf : List ℕ → List ℕ → List ℕ → List ℕ → List ℕ → Machine
+machineOf kept files logs marks undo = lent (storeOf kept) (journalOf kept) files logs marks undo
 
 -- A lent array or buffer as a clause names it: the numbers behind it at entry and at exit.
 abbrev pub Lent : Type 0
 Lent = Both (RefT (List ℕ)) (RefT (List ℕ))
 
 -- What a call is handed, and what it leaves.
-abbrev pub handed : Lent → Lent → Lent → Lent → Machine
-handed kept files logs marks = machineOf (now (kept .entry)) (now (files .entry)) (now (logs .entry)) (now (marks .entry))
+abbrev pub handed : Lent → Lent → Lent → Lent → Lent → Machine
+handed kept files logs marks undo =
+    machineOf (now (kept .entry)) (now (files .entry)) (now (logs .entry)) (now (marks .entry)) (now (undo .entry))
 
-abbrev pub left : Lent → Lent → Lent → Lent → Machine
-left kept files logs marks = machineOf (now (kept .exit)) (now (files .exit)) (now (logs .exit)) (now (marks .exit))
+abbrev pub left : Lent → Lent → Lent → Lent → Lent → Machine
+left kept files logs marks undo =
+    machineOf (now (kept .exit)) (now (files .exit)) (now (logs .exit)) (now (marks .exit)) (now (undo .exit))
 
 -- A refusal other than 13 leaves the record number by number, not only in what it means.
 abbrev pub LeftAsFound : Outcome → List ℕ → List ℕ → Type 0
 LeftAsFound o before after = (r : Refusal) → o ≡ Refused r → (number r ≡ 13 → ⊥) → after ≡ before
 
 -- The promise of a call: on what it is handed it answers o, and leaves record, buffers and reader's buffer, as the rule says.
-abbrev pub Follows : (Machine → Turn) → Lent → Lent → Lent → Lent → Outcome → List ℕ → Type 0
-Follows rule kept files logs marks o reader =
-    Meets (rule (handed kept files logs marks)) o (left kept files logs marks) reader
+abbrev pub Follows : (Machine → Turn) → Lent → Lent → Lent → Lent → Lent → Outcome → List ℕ → Type 0
+Follows rule kept files logs marks undo o reader =
+    Meets (rule (handed kept files logs marks undo)) o (left kept files logs marks undo) reader
     × LeftAsFound o (now (kept .entry)) (now (kept .exit))

@@ -1,5 +1,5 @@
 -- Request F-12, "One long write or two short ones": the law, in four parts, and the one fact that it rests on.
-use mathlib.Core.List.{List, [], _∷_, _++_}
+use mathlib.Core.List.{List, [], _∷_, _++_, map}
 use mathlib.Core.Logic.{_⊎_}
 use mathlib.Core.Path.{_≡_}
 use lib.ListN.{length}
@@ -9,6 +9,7 @@ use Rattle.standings.specs.declared.Standing.{Standing}
 use Rattle.standings.specs.declared.Place.{Place}
 use Rattle.standings.specs.declared.Place.the-variants.{At, After}
 use Rattle.standings.specs.Table.{afterWrite, writePlace}
+use Rattle.undo.specs.OldBytes.{spanOf, oldBytes, Inside}
 use Rattle.rules.specs.Messages.{Op, write, Reply}
 use Rattle.rules.specs.Items.{Item, Values, result, asked}
 use Rattle.rules.specs.Transactions.{Txn, Write}
@@ -16,6 +17,7 @@ use Rattle.rules.specs.Steps.{refuse, accept, step}
 use Rattle.rules.specs.Coverage.{placesOf}
 use Rattle.rules.specs.Windows.{forClosed}
 use Rattle.rules.specs.Commits.{settings, fits}
+use Rattle.rules.specs.Undo.{landingsOf}
 
 -- ---- the one fact
 
@@ -82,10 +84,14 @@ pub record SameStep (fileOf : ℕ → ℕ) (v : Values) (o : Op) (x y : Txn) : T
   pub refused : (n : ℕ) → result v (step fileOf o x) ≡ refuse n → (n ≡ 10) ⊎ (result v (step fileOf o y) ≡ refuse n)
 
 -- "effect at Commit": all that it sets, and so the bytes, offsets and lengths, their setters, who becomes stale, and the octet; the test of
--- 12; and of 21 (F-11).
+-- 12; and of 21 (F-11). "only the write records differ": a grant keeps the same old bytes (F-13), where the writes land inside the
+-- files buffer, as they do where that test of 12 passes.
 pub record SameCommit (fileOf : ℕ → ℕ) (v : Values) (x y : Txn) : Type 0 where
   pub sets : settings fileOf v x ≡ settings fileOf v y
   pub placing : fits v x ≡ fits v y
+  pub old :
+      (files : List ℕ) → Inside (length files) (map spanOf (landingsOf fileOf v (y .writes)))
+      → oldBytes (landingsOf fileOf v (x .writes)) files ≡ oldBytes (landingsOf fileOf v (y .writes)) files
   pub closed : (windows : Windows) (minute : ℕ) → forClosed fileOf windows minute (x .writes) ≡ forClosed fileOf windows minute (y .writes)
 
 pub record SplitLaw (fileOf : ℕ → ℕ) : Type 0 where

@@ -68,7 +68,7 @@ module _ (chosen : List Bool) (t k : ℕ) (before now : List ℕ) (placed : Plac
   pub offset-kept : (d : ℕ) → getD (storeOf now .offsets) d 0 ≡ getD (storeOf before .offsets) d 0
   offset-kept d = ap (λ (s : Store). getD (s .offsets) d 0) (placed .store)
 
-  module _ (small : t < 8) (few : k < 64) where
+  module _ (small : t < 9) (few : k < 64) where
     -- The next record is not changed yet.
     pub next-record : writeRecordAt (journalOf now) t k ≡ writeRecordAt (journalOf before) t k
     unfolding placedRecords

@@ -144,7 +144,7 @@ module _ (s : Store) (journal logs : List ℕ) (t : ℕ) (o : Opened s journal l
       → writeRecordAt (settledJournal s journal t chosen) t k ≡ recordAfter chosen (s .offsets) (writeRecordAt journal t k)
   unfolding placedRecords recordAfter
   record-settled k h =
-      read-own journal t _ (o .long) (o .small) (transaction s t .used .records) k (o .ranges .records) h (low-descriptor s journal logs t o k h)
+      read-own journal t _ (o .long) (omega (arith, o .small)) (transaction s t .used .records) k (o .ranges .records) h (low-descriptor s journal logs t o k h)
 
   pub descriptor-settled : (k : ℕ) → k < transaction s t .used .records → writeRecordAt (settledJournal s journal t chosen) t k .descriptor < 16
   descriptor-settled k h = rw (record-settled k h) (kept (low-descriptor s journal logs t o k h))

@@ -11,8 +11,10 @@ use requests::Request;
 ghost use Prim.Native.Nat.{_≤_};
 ghost use lib.ListN.{length};
 
-// A store buffer.
+// A store buffer, and that of a grant's old bytes.
 pub type Buffer = [u8; BUFFER_BYTES];
+
+pub type Undo = [u8; FILE_BYTES];
 
 // Where the line ends that starts at `from`: at its byte 10, or at the end of the text.
 fn line_end(text: &[u8], from: usize) -> usize
@@ -35,6 +37,7 @@ fn answers(
     files: &mut Buffer,
     logs: &mut Buffer,
     marks: &mut Buffer,
+    undo: &mut Undo,
     line: &[u8],
     reply: &[u8],
 ) -> bool {
@@ -44,7 +47,16 @@ fn answers(
     let Parsed::Asks(q, start) = p else {
         return false;
     };
-    let o = requests::perform(kept, files, logs, marks, q, &line[start..], &mut reader);
+    let o = requests::perform(
+        kept,
+        files,
+        logs,
+        marks,
+        undo,
+        q,
+        &line[start..],
+        &mut reader,
+    );
     let n = printing::print(&mut out, 0, o, &reader);
     check::same(parts::part(&out, 0, n), reply)
 }
@@ -55,6 +67,7 @@ pub fn run(
     files: &mut Buffer,
     logs: &mut Buffer,
     marks: &mut Buffer,
+    undo: &mut Undo,
     calls: &[u8],
     replies: &[u8],
 ) -> bool {
@@ -64,7 +77,7 @@ pub fn run(
     while i < calls.len() {
         let e = line_end(calls, i);
         let f = smaller(line_end(replies, j) + 1, replies.len());
-        ok = ok & answers(kept, files, logs, marks, &calls[i..e], &replies[j..f]);
+        ok = ok & answers(kept, files, logs, marks, undo, &calls[i..e], &replies[j..f]);
         i = smaller(e + 1, calls.len());
         j = f;
     }
@@ -72,10 +85,24 @@ pub fn run(
 }
 
 // "Each situation starts at its own Fresh; T0 to T2 are begun." Descriptor d belongs to file d mod 8.
-pub fn start(kept: &mut Record, files: &mut Buffer, logs: &mut Buffer, marks: &mut Buffer) -> bool {
+pub fn start(
+    kept: &mut Record,
+    files: &mut Buffer,
+    logs: &mut Buffer,
+    marks: &mut Buffer,
+    undo: &mut Undo,
+) -> bool {
     let list = [0u8, 1, 2, 3, 4, 5, 6, 7, 0, 1, 2, 3, 4, 5, 6, 7];
-    store::fresh(kept, files, logs, marks, &list);
-    run(kept, files, logs, marks, b"B0\nB1\nB2\n", b"ok\nok\nok\n")
+    store::fresh(kept, files, logs, marks, undo, &list);
+    run(
+        kept,
+        files,
+        logs,
+        marks,
+        undo,
+        b"B0\nB1\nB2\n",
+        b"ok\nok\nok\n",
+    )
 }
 
 // The same with "a first commit that fills the file with zeros": T7's, through descriptor 0.
@@ -84,11 +111,22 @@ pub fn start_filled(
     files: &mut Buffer,
     logs: &mut Buffer,
     marks: &mut Buffer,
+    undo: &mut Undo,
 ) -> bool {
-    let begun = start(kept, files, logs, marks) & run(kept, files, logs, marks, b"B7\n", b"ok\n");
+    let begun = start(kept, files, logs, marks, undo)
+        & run(kept, files, logs, marks, undo, b"B7\n", b"ok\n");
     let write = Request::Write(7, 0);
-    requests::perform(kept, files, logs, marks, write, &[0u8; FILE_BYTES], &mut []);
-    begun & run(kept, files, logs, marks, b"C7\n", b"ok 0\n")
+    requests::perform(
+        kept,
+        files,
+        logs,
+        marks,
+        undo,
+        write,
+        &[0u8; FILE_BYTES],
+        &mut [],
+    );
+    begun & run(kept, files, logs, marks, undo, b"C7\n", b"ok 0\n")
 }
 
 // File 0 begins so, and the committed offset of descriptor 0 is n.

@@ -1,5 +1,5 @@
-// The ten calls. Each is lent the record and the three store buffers, has no precondition, and answers its outcome; its
-// promise stands at the function. `made_stale` counts what a commit's octet names.
+// The eleven calls. Each is lent the record and the four store buffers, has no precondition, and answers its outcome;
+// its promise stands at the function. `made_stale` counts what a commit's octet names.
 pub use committing::commit;
 pub use committing::made_stale;
 pub use coverage::places;
@@ -11,3 +11,4 @@ pub use lifecycle::begin;
 pub use lifecycle::fresh;
 pub use looking::get_file_pointer;
 pub use looking::read;
+pub use undoing::take_back;

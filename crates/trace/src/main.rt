@@ -6,6 +6,7 @@ use libc::STDIN_FILENO;
 use libc::STDOUT_FILENO;
 use lines::KEPT;
 use numbers::BUFFER_BYTES;
+use numbers::FILE_BYTES;
 use octets::parts::part;
 use record::layout::NUMBERS;
 use record::layout::Record;
@@ -21,8 +22,10 @@ ghost use Rattle.trace.specs.Bounds.{Running, Room};
 // When more output waits than this it is written, so that the longest line still fits in after what waits.
 const MOST: usize = 57000;
 
-// A store buffer.
+// A store buffer, and that of a grant's old bytes.
 type Buffer = [u8; BUFFER_BYTES];
+
+type Undo = [u8; FILE_BYTES];
 
 // What is kept between lines beside the store: how many bytes of the line at hand are held, how many of the output
 // wait, and whether the run goes on.
@@ -38,17 +41,18 @@ fn answered(
     files: &mut Buffer,
     logs: &mut Buffer,
     marks: &mut Buffer,
+    undo: &mut Undo,
     line: &[u8],
     reader: &mut [u8],
 ) -> Outcome
-    ensures { λ r. ⌜ Answers (now (line .entry)) (now (reader .entry)) (handed kept files logs marks)
-        r (left kept files logs marks) (now (reader .exit)) ⌝ }
+    ensures { λ r. ⌜ Answers (now (line .entry)) (now (reader .entry)) (handed kept files logs marks undo)
+        r (left kept files logs marks undo) (now (reader .exit)) ⌝ }
 {
     let p = grammar::parse(line);
     let Parsed::Asks(q, start) = p else {
         return Outcome::Refused(Refusal::BadLine);
     };
-    requests::perform(kept, files, logs, marks, q, &line[start..], reader)
+    requests::perform(kept, files, logs, marks, undo, q, &line[start..], reader)
 }
 
 // Answers a line, and prints what was answered after the output that waits.
@@ -58,17 +62,18 @@ fn told(
     files: &mut Buffer,
     logs: &mut Buffer,
     marks: &mut Buffer,
+    undo: &mut Undo,
     line: &[u8],
     reader: &mut [u8],
     out: &mut [u8],
 ) -> Course
     requires { ⌜ Running c × Room (now reader) (now out) ⌝ }
-    ensures { λ r. ⌜ Told (now (line .entry)) (now (reader .entry)) (handed kept files logs marks)
-        (left kept files logs marks) (now (reader .exit))
+    ensures { λ r. ⌜ Told (now (line .entry)) (now (reader .entry)) (handed kept files logs marks undo)
+        (left kept files logs marks undo) (now (reader .exit))
         (now (out .entry)) (c .waiting) (now (out .exit)) (r .waiting)
         × ((r .waiting ≤ length (now (out .exit))) × (r .held ≡ c .held)) ⌝ }
 {
-    let o = answered(kept, files, logs, marks, line, reader);
+    let o = answered(kept, files, logs, marks, undo, line, reader);
     let waiting = printing::print(out, c.waiting, o, reader);
     c.waiting = waiting;
     c
@@ -106,6 +111,7 @@ fn taken(
     files: &mut Buffer,
     logs: &mut Buffer,
     marks: &mut Buffer,
+    undo: &mut Undo,
     line: &mut [u8],
     reader: &mut [u8],
     piece: &[u8],
@@ -118,7 +124,17 @@ fn taken(
     while look.ended {
         let n = look.held;
         let at = look.at;
-        c = told(c, kept, files, logs, marks, part(line, 0, n), reader, out);
+        c = told(
+            c,
+            kept,
+            files,
+            logs,
+            marks,
+            undo,
+            part(line, 0, n),
+            reader,
+            out,
+        );
         c = with_room(c, out);
         look = lines::next(line, 0, piece, at);
     }
@@ -133,6 +149,7 @@ fn ended(
     files: &mut Buffer,
     logs: &mut Buffer,
     marks: &mut Buffer,
+    undo: &mut Undo,
     line: &[u8],
     reader: &mut [u8],
     out: &mut [u8],
@@ -142,7 +159,17 @@ fn ended(
 {
     let n = c.held;
     if lines::is_line(part(line, 0, n)) {
-        let d = told(c, kept, files, logs, marks, part(line, 0, n), reader, out);
+        let d = told(
+            c,
+            kept,
+            files,
+            logs,
+            marks,
+            undo,
+            part(line, 0, n),
+            reader,
+            out,
+        );
         return written(d, out);
     }
     c
@@ -155,6 +182,7 @@ fn turn(
     files: &mut Buffer,
     logs: &mut Buffer,
     marks: &mut Buffer,
+    undo: &mut Undo,
     line: &mut [u8],
     reader: &mut [u8],
     input: &mut [u8],
@@ -166,12 +194,23 @@ fn turn(
     let got = libc::read(STDIN_FILENO, input);
     if got > 0 {
         let n = io::count(got, input);
-        let d = taken(c, kept, files, logs, marks, line, reader, &input[..n], out);
+        let d = taken(
+            c,
+            kept,
+            files,
+            logs,
+            marks,
+            undo,
+            line,
+            reader,
+            &input[..n],
+            out,
+        );
         return written(d, out);
     }
     c.goes = false;
     if got == 0 {
-        return ended(c, kept, files, logs, marks, line, reader, out);
+        return ended(c, kept, files, logs, marks, undo, line, reader, out);
     }
     c
 }
@@ -193,6 +232,7 @@ fn run(
     files: &mut Buffer,
     logs: &mut Buffer,
     marks: &mut Buffer,
+    undo: &mut Undo,
     line: &mut [u8],
     reader: &mut [u8],
     input: &mut [u8],
@@ -207,7 +247,7 @@ fn run(
     };
     let mut turns = u64::MAX;
     while 0 < turns {
-        c = turn(c, kept, files, logs, marks, line, reader, input, out);
+        c = turn(c, kept, files, logs, marks, undo, line, reader, input, out);
         turns = turns_left(turns, c.goes);
     }
 }
@@ -218,17 +258,19 @@ fn main() {
     let mut files = [0u8; BUFFER_BYTES];
     let mut logs = [0u8; BUFFER_BYTES];
     let mut marks = [0u8; BUFFER_BYTES];
+    let mut undo = [0u8; FILE_BYTES];
     let mut line = [0u8; KEPT];
     let mut reader = io::buffer();
     let mut input = io::large_buffer();
     let mut out = io::large_buffer();
     let list = [0u8, 1, 2, 3, 4, 5, 6, 7, 0, 1, 2, 3, 4, 5, 6, 7];
-    store::fresh(&mut kept, &mut files, &logs, &mut marks, &list);
+    store::fresh(&mut kept, &mut files, &logs, &mut marks, &undo, &list);
     run(
         &mut kept,
         &mut files,
         &mut logs,
         &mut marks,
+        &mut undo,
         &mut line,
         &mut reader,
         &mut input,

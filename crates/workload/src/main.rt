@@ -7,6 +7,7 @@ use digests::outcomes;
 use digests::outcomes::COUNTS;
 use generator::Generated;
 use numbers::BUFFER_BYTES;
+use numbers::FILE_BYTES;
 use record::layout::NUMBERS;
 use record::layout::Record;
 use record::outcomes::Outcome;
@@ -15,8 +16,10 @@ ghost use Rattle.workload.specs.Bounds.{Running};
 
 const CALLS: usize = 300000;
 
-// A store buffer.
+// A store buffer, and that of a grant's old bytes.
 type Buffer = [u8; BUFFER_BYTES];
+
+type Undo = [u8; FILE_BYTES];
 
 // What a run keeps between calls, beside the store.
 struct Course {
@@ -47,6 +50,7 @@ fn on_forged(
     files: &mut Buffer,
     logs: &mut Buffer,
     marks: &mut Buffer,
+    undo: &mut Undo,
     g: Generated,
     bytes: &mut [u8],
     reader: &mut [u8],
@@ -55,7 +59,7 @@ fn on_forged(
 {
     let damage = g.damage;
     forgeries::forge(&mut copy, damage);
-    performing::performed(&mut copy, files, logs, marks, g, bytes, reader)
+    performing::performed(&mut copy, files, logs, marks, undo, g, bytes, reader)
 }
 
 // The outcome of a call, on a forged copy where it says so.
@@ -64,6 +68,7 @@ fn outcome(
     files: &mut Buffer,
     logs: &mut Buffer,
     marks: &mut Buffer,
+    undo: &mut Undo,
     g: Generated,
     bytes: &mut [u8],
     reader: &mut [u8],
@@ -71,9 +76,9 @@ fn outcome(
     requires { ⌜ (g .damage .transaction < 8) × (g .damage .index < 16) ⌝ }
 {
     if 0 < g.damage.forgery {
-        return on_forged(*kept, files, logs, marks, g, bytes, reader);
+        return on_forged(*kept, files, logs, marks, undo, g, bytes, reader);
     }
-    performing::performed(kept, files, logs, marks, g, bytes, reader)
+    performing::performed(kept, files, logs, marks, undo, g, bytes, reader)
 }
 
 // Call i.
@@ -84,6 +89,7 @@ fn turn(
     files: &mut Buffer,
     logs: &mut Buffer,
     marks: &mut Buffer,
+    undo: &mut Undo,
     bytes: &mut [u8],
     reader: &mut [u8],
 ) -> Course
@@ -93,9 +99,9 @@ fn turn(
     let drawn = generator::draw(c.last);
     let numbers = drawn.numbers;
     let guess = c.guess;
-    let g = generator::requested(numbers, i / 256, guess);
+    let g = generator::requested(numbers, i, guess);
     c.last = drawn.last;
-    let o = outcome(kept, files, logs, marks, g, bytes, reader);
+    let o = outcome(kept, files, logs, marks, undo, g, bytes, reader);
     let n = performing::within(g.buffer, reader);
     course_after(c, g, o, &reader[..n])
 }
@@ -121,12 +127,13 @@ fn print_line(
     files: &Buffer,
     logs: &Buffer,
     marks: &Buffer,
+    undo: &Undo,
 ) {
     if made % 1000 == 0 {
         let counts = c.counts;
         print(made, b' ');
         print_counts(counts);
-        print(digest::of_state(kept, files, logs, marks), b' ');
+        print(digest::of_state(kept, files, logs, marks, undo), b' ');
         print(c.answers, b'\n');
     }
 }
@@ -136,6 +143,7 @@ fn run(
     files: &mut Buffer,
     logs: &mut Buffer,
     marks: &mut Buffer,
+    undo: &mut Undo,
     bytes: &mut [u8],
     reader: &mut [u8],
 ) {
@@ -147,9 +155,9 @@ fn run(
     };
     let mut i = 0;
     while i < CALLS {
-        c = turn(c, i, kept, files, logs, marks, bytes, reader);
+        c = turn(c, i, kept, files, logs, marks, undo, bytes, reader);
         i += 1;
-        print_line(i, c, kept, files, logs, marks);
+        print_line(i, c, kept, files, logs, marks, undo);
     }
 }
 
@@ -159,15 +167,17 @@ fn main() {
     let mut files = [0u8; BUFFER_BYTES];
     let mut logs = [0u8; BUFFER_BYTES];
     let mut marks = [0u8; BUFFER_BYTES];
+    let mut undo = [0u8; FILE_BYTES];
     let mut bytes = [0u8; 4097];
     let mut reader = [0u8; 5000];
     let list = [0u8, 1, 2, 3, 4, 5, 6, 7, 0, 1, 2, 3, 4, 5, 6, 7];
-    store::fresh(&mut kept, &mut files, &logs, &mut marks, &list);
+    store::fresh(&mut kept, &mut files, &logs, &mut marks, &undo, &list);
     run(
         &mut kept,
         &mut files,
         &mut logs,
         &mut marks,
+        &mut undo,
         &mut bytes,
         &mut reader,
     );

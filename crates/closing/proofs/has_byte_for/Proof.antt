@@ -31,7 +31,7 @@ record-at-requires c κs =
     let at-loop = c .before .before in
     let start = at-loop .before .before in
     let n : at-loop .before .used-at .result .records ≡ transactionOf (start .args .kept .now) (start .args .t) .used .records = ap (λ (u : Used). u .records) (at-loop .before .used-at .ensures) in
-    (start .pre .small, omega (arith, few (start .args .kept .now) (start .args .t) (start .pre), n, c .if1 .taken))
+    (omega (arith, start .pre .small), omega (arith, few (start .args .kept .now) (start .args .t) (start .pre), n, c .if1 .taken))
 
 -- A record that was read: its descriptor is one of the sixteen.
 abbrev loop-of : tie.After-record-at Inv-loop μ-loop → tie.At-loop Inv-loop μ-loop

@@ -16,11 +16,11 @@ use Rattle.hours.proofs.set_window.Tie as tie
 
 -- What the caller lent.
 abbrev machine : tie.Start → Machine
-machine c = machineOf (c .args .kept .now) (c .args .files .now) (c .args .logs .now) (c .args .marks .now)
+machine c = machineOf (c .args .kept .now) (c .args .files .now) (c .args .logs .now) (c .args .marks .now) (c .args .undo .now)
 
 -- What the tests let through.
 abbrev start-of : tie.After-enum-told → tie.Start
-start-of c = c .before .before .before .before .before .before .before
+start-of c = c .before .before .before .before .before .before .before .before
 
 passed : (c : tie.After-enum-told) → let a = start-of c .args in testsOf (machine (start-of c)) (a .f) (a .start) (a .end) ≡ 0
 passed c = gate-zero _ _ (c .before .before .admit-window .ensures .0) (c .enum-told .given .1)
@@ -35,12 +35,12 @@ admits c =
 returns : tie.Need-returns
 unfolding call
 returns c =
-    let start = c .before .before .before .before .before .before .before .before in
+    let start = c .before .before .before .before .before .before .before .before .before in
     let m = machine start in
     let r = c .before .g .given .0 .0 in
     let e = gate-number _ _ (c .before .before .before .admit-window .ensures .0) r (c .before .g .given .1) in
     let next = windowTurn (start .args .f) (start .args .start) (start .args .end) m in
-    turned-follows r [] _ _ _ _ _ (ap (λ (n : ℕ). passing n [] m next) (sym e) ∙ passing-number r [] m next)
+    turned-follows r [] _ _ _ _ _ _ (ap (λ (n : ℕ). passing n [] m next) (sym e) ∙ passing-number r [] m next)
 
 -- Start and end are minutes of the day, and fit sixteen bits.
 minutes : (c : tie.After-enum-told) → let a = start-of c .args in (a .start ≤ 1439) × (a .end ≤ 1439)
@@ -49,11 +49,11 @@ minutes c =
     let both = admits c .minutes in
     (minute-most (a .start) (and-left (minuteIn (a .start)) (minuteIn (a .end)) both), minute-most (a .end) (and-right (minuteIn (a .start)) (minuteIn (a .end)) both))
 
-cast-t15 : tie.Need-cast-t15
-cast-t15 c = let l = minutes c in search needs
+cast-t17 : tie.Need-cast-t17
+cast-t17 c = let l = minutes c in search needs
 
-cast-t16 : tie.Need-cast-t16
-cast-t16 c = let l = minutes c in search needs
+cast-t18 : tie.Need-cast-t18
+cast-t18 c = let l = minutes c in search needs
 
 put-window-requires : tie.Need-put-window-requires
 put-window-requires c κs = admits (c .before) .small
@@ -62,7 +62,7 @@ returns-2 : tie.Need-returns-2
 returns-2 c =
     let told = c .before .before in
     let a = start-of told .args in
-    window-follows (a .f) (a .start) (a .end) _ _ _ _ (told .before .before .admit-window .ensures .1) (admits told .small) (passed told) _ (c .put-window .ensures)
+    window-follows (a .f) (a .start) (a .end) _ _ _ _ _ (told .before .before .admit-window .ensures .1) (admits told .small) (passed told) _ (c .put-window .ensures)
 
 pub set-window-spec : {M : Type 1} → statement M
 set-window-spec =
@@ -72,7 +72,7 @@ set-window-spec =
     (λ c. search needs)
     returns
     (λ c. search needs)
-    cast-t15
-    cast-t16
+    cast-t17
+    cast-t18
     put-window-requires
     returns-2)

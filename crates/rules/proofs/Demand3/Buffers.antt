@@ -16,12 +16,13 @@ use Rattle.record.specs.State.{noTransaction, begun, ended, withTransaction}
 use Rattle.record.specs.Paper.{Said, plain, pointer, granted, refused}
 use Rattle.rules.specs.Items.{Item, byte, offset, fileLength, Values, Prog, done, andThen, result, asked}
 use Rattle.rules.specs.Transactions.{Txn, settle, Settled, past, all, settling}
-use Rattle.rules.specs.Messages.{Op, seek, write, getFilePointer, read, bufferOf, Call, begin, on, commit, abort, places, setWindow}
+use Rattle.rules.specs.Messages.{Op, seek, write, getFilePointer, read, bufferOf, Call, begin, on, commit, abort, places, setWindow, takeBack}
 use Rattle.rules.specs.Steps.{Stepped, refuse, accept, check, orGivenBack, seekStep, writeStep, pointerStep, step}
 use Rattle.rules.specs.Commits.{Setting, commitRefusal}
 use Rattle.rules.specs.Machine.{Machine, fileOf, values, txnOf}
-use Rattle.rules.specs.Calls.{Turn, answer, turnDown, passing, fresh, freshMachine, reset, beginTurn, abortTurn, logged, marked, served, stepTurn, afterCommit, commitGranted, commitDecided, commitTurn, admitted, call, placesTurn, windowTurn}
-use Rattle.rules.specs.Buffers.{isWrite, isCommit, touchesMarks, Unmarked, Buffers}
+use Rattle.rules.specs.Calls.{Turn, answer, turnDown, passing, fresh, freshMachine, reset, beginTurn, abortTurn, logged, marked, served, stepTurn, afterCommit, commitGranted, commitDecided, commitTurn, admitted, call, placesTurn, windowTurn, takeBackTurn}
+use Rattle.rules.specs.Undo.{keepingFound, takenBack}
+use Rattle.rules.specs.Buffers.{isWrite, isCommit, isTakeBack, touchesMarks, Unmarked, Buffers}
 use Rattle.rules.proofs.Serial.Programs.{asked-andThen}
 use Rattle.rules.proofs.Demand3.Answers.{IsAnswer, answer-not-refused, Leaving}
 use Rattle.rules.proofs.Demand3.Refusals.{refused-same, admission-leaving, passing-zero, passing-stale}
@@ -34,9 +35,9 @@ module _ (part : Machine → List ℕ) where
   passing-leaves (suc k) buffer m w e = refl
 
   -- A Commit that is not granted leaves it, if an ending does.
-  refused-leaves : (t n : ℕ) (ss : List Setting) (m : Machine) → part (reset t ended m) ≡ part m → part (commitDecided t ss m (suc n) .after) ≡ part m
+  refused-leaves : (t n : ℕ) (x : Txn) (ss : List Setting) (m : Machine) → part (reset t ended m) ≡ part m → part (commitDecided t x ss m (suc n) .after) ≡ part m
   unfolding commitDecided
-  refused-leaves t n ss m e = pick (eqb (suc n) 13)
+  refused-leaves t n x ss m e = pick (eqb (suc n) 13)
     where
       pick : (b : Bool) → part (cond b (reset t ended m) m) ≡ part m
       pick true = e
@@ -57,28 +58,45 @@ unfolding served turnDown
 served-files t o m is (refuse n) = refl
 served-files t o m is (accept y a b) = refl
 
-decided-logs : (t : ℕ) (ss : List Setting) (m : Machine) (n : ℕ) → commitDecided t ss m n .after .logs ≡ m .logs
+decided-logs : (t : ℕ) (x : Txn) (ss : List Setting) (m : Machine) (n : ℕ) → commitDecided t x ss m n .after .logs ≡ m .logs
 unfolding reset
-decided-logs t ss m zero = unfold commitDecided commitGranted in refl
-decided-logs t ss m (suc n) = refused-leaves (λ x. x .logs) t n ss m refl
+decided-logs t x ss m zero = unfold commitDecided commitGranted keepingFound in refl
+decided-logs t x ss m (suc n) = refused-leaves (λ z. z .logs) t n x ss m refl
 
 call-logs : (c : Call) (m : Machine) → isWrite c ≡ false → call c m .after .logs ≡ m .logs
 unfolding call admitted beginTurn abortTurn stepTurn commitTurn answer reset
 call-logs (begin t) m e = passing-leaves (λ x. x .logs) _ [] m (beginTurn t m) refl
 call-logs (on t o) m e = passing-leaves (λ x. x .logs) _ (bufferOf o) m (stepTurn t o m) (served-logs t o m _ _ e)
-call-logs (commit t minute) m e = passing-leaves (λ x. x .logs) _ [] m (commitTurn t minute m) (decided-logs t _ m _)
+call-logs (commit t minute) m e = passing-leaves (λ x. x .logs) _ [] m (commitTurn t minute m) (decided-logs t _ _ m _)
 call-logs (abort t) m e = passing-leaves (λ x. x .logs) _ [] m (abortTurn t m) refl
 call-logs (places t f out) m e = passing-leaves (λ x. x .logs) _ out m (placesTurn t f out m) (unfold placesTurn in refl)
 call-logs (setWindow f start end) m e = passing-leaves (λ x. x .logs) _ [] m (windowTurn f start end m) (unfold windowTurn in refl)
+call-logs takeBack m e = passing-leaves (λ x. x .logs) _ [] m (takeBackTurn m) (unfold takeBackTurn takenBack in refl)
 
-call-files : (c : Call) (m : Machine) → isCommit c ≡ false → call c m .after .files ≡ m .files
+call-files : (c : Call) (m : Machine) → isCommit c ≡ false → isTakeBack c ≡ false → call c m .after .files ≡ m .files
+unfolding call admitted beginTurn abortTurn stepTurn answer reset isCommit isTakeBack
+call-files (begin t) m e k = passing-leaves (λ x. x .files) _ [] m (beginTurn t m) refl
+call-files (on t o) m e k = passing-leaves (λ x. x .files) _ (bufferOf o) m (stepTurn t o m) (served-files t o m _ _)
+call-files (commit t minute) m e k = absurd (true≢false e)
+call-files (abort t) m e k = passing-leaves (λ x. x .files) _ [] m (abortTurn t m) refl
+call-files (places t f out) m e k = passing-leaves (λ x. x .files) _ out m (placesTurn t f out m) (unfold placesTurn in refl)
+call-files (setWindow f start end) m e k = passing-leaves (λ x. x .files) _ [] m (windowTurn f start end m) (unfold windowTurn in refl)
+call-files takeBack m e k = absurd (true≢false k)
+
+served-undo : (t : ℕ) (o : Op) (m : Machine) (is : List Item) (s : Stepped) → served t o m is s .after .undo ≡ m .undo
+unfolding served turnDown
+served-undo t o m is (refuse n) = refl
+served-undo t o m is (accept y a b) = refl
+
+call-undo : (c : Call) (m : Machine) → isCommit c ≡ false → call c m .after .undo ≡ m .undo
 unfolding call admitted beginTurn abortTurn stepTurn answer reset isCommit
-call-files (begin t) m e = passing-leaves (λ x. x .files) _ [] m (beginTurn t m) refl
-call-files (on t o) m e = passing-leaves (λ x. x .files) _ (bufferOf o) m (stepTurn t o m) (served-files t o m _ _)
-call-files (commit t minute) m e = absurd (true≢false e)
-call-files (abort t) m e = passing-leaves (λ x. x .files) _ [] m (abortTurn t m) refl
-call-files (places t f out) m e = passing-leaves (λ x. x .files) _ out m (placesTurn t f out m) (unfold placesTurn in refl)
-call-files (setWindow f start end) m e = passing-leaves (λ x. x .files) _ [] m (windowTurn f start end m) (unfold windowTurn in refl)
+call-undo (begin t) m e = passing-leaves (λ x. x .undo) _ [] m (beginTurn t m) refl
+call-undo (on t o) m e = passing-leaves (λ x. x .undo) _ (bufferOf o) m (stepTurn t o m) (served-undo t o m _ _)
+call-undo (commit t minute) m e = absurd (true≢false e)
+call-undo (abort t) m e = passing-leaves (λ x. x .undo) _ [] m (abortTurn t m) refl
+call-undo (places t f out) m e = passing-leaves (λ x. x .undo) _ out m (placesTurn t f out m) (unfold placesTurn in refl)
+call-undo (setWindow f start end) m e = passing-leaves (λ x. x .undo) _ [] m (windowTurn f start end m) (unfold windowTurn in refl)
+call-undo takeBack m e = passing-leaves (λ x. x .undo) _ [] m (takeBackTurn m) (unfold takeBackTurn takenBack in refl)
 
 -- A settling sights offsets alone, and so does a GetFilePointer.
 marked-append : (t : ℕ) (is js : List Item) (marks : List ℕ) → marked t (is ++ js) marks ≡ marked t js (marked t is marks)
@@ -145,6 +163,7 @@ call-marks (commit t minute) m e = absurd (true≢false e)
 call-marks (abort t) m e = absurd (true≢false e)
 call-marks (places t f out) m e = passing-leaves (λ x. x .marks) _ out m (placesTurn t f out m) (unfold placesTurn in refl)
 call-marks (setWindow f start end) m e = passing-leaves (λ x. x .marks) _ [] m (windowTurn f start end m) (unfold windowTurn answer in refl)
+call-marks takeBack m e = passing-leaves (λ x. x .marks) _ [] m (takeBackTurn m) (unfold takeBackTurn takenBack answer in refl)
 
 -- The marks of a transaction that is replaced, or committed.
 cleared : (t : ℕ) (marks : List ℕ) (q : ℕ) → hasMark (withoutMarks t marks) t q ≡ false
@@ -160,9 +179,9 @@ reset-cleared : (t : ℕ) (x : Transaction) (m : Machine) → x .lengthmarks ≡
 unfolding reset withTransaction
 reset-cleared t x m e = record { bytes = cleared t (m .marks); lengths = replaced t x (m .store .transactions) e }
 
-granted-cleared : (t : ℕ) (ss : List Setting) (m : Machine) → t ≤ 7 → Unmarked t (commitGranted t ss m .after)
-unfolding commitGranted afterCommit ended
-granted-cleared t ss m l =
+granted-cleared : (t : ℕ) (x : Txn) (ss : List Setting) (m : Machine) → t ≤ 7 → Unmarked t (commitGranted t x ss m .after)
+unfolding commitGranted keepingFound afterCommit ended
+granted-cleared t x ss m l =
     record {
       bytes = cleared t (m .marks);
       lengths =
@@ -178,23 +197,23 @@ answered-turn k m w a h e = ap (λ (n : ℕ). passing n [] m w) (passing-zero k 
 answered : (k : ℕ) (m : Machine) (w : Turn) (a : Said) → IsAnswer a → passing k [] m w .reply .answer ≡ a → passing k [] m w .after ≡ w .after
 answered k m w a h e = ap (λ (x : Turn). x .after) (answered-turn k m w a h e)
 
-decided-cleared : (t : ℕ) (ss : List Setting) (m : Machine) (daily stale shut placed : Bool) (n : ℕ) → t ≤ 7
-    → commitDecided t ss m (commitRefusal daily stale shut placed) .reply .answer ≡ granted n → Unmarked t (commitDecided t ss m (commitRefusal daily stale shut placed) .after)
+decided-cleared : (t : ℕ) (x : Txn) (ss : List Setting) (m : Machine) (daily stale shut placed : Bool) (n : ℕ) → t ≤ 7
+    → commitDecided t x ss m (commitRefusal daily stale shut placed) .reply .answer ≡ granted n → Unmarked t (commitDecided t x ss m (commitRefusal daily stale shut placed) .after)
 unfolding commitDecided commitRefusal
-decided-cleared t ss m false stale shut placed n l e = absurd (answer-not-refused (granted n) 22 tt (sym e))
-decided-cleared t ss m true true shut placed n l e = absurd (answer-not-refused (granted n) 13 tt (sym e))
-decided-cleared t ss m true false true placed n l e = absurd (answer-not-refused (granted n) 21 tt (sym e))
-decided-cleared t ss m true false false true n l e = granted-cleared t ss m l
-decided-cleared t ss m true false false false n l e = absurd (answer-not-refused (granted n) 12 tt (sym e))
+decided-cleared t x ss m false stale shut placed n l e = absurd (answer-not-refused (granted n) 22 tt (sym e))
+decided-cleared t x ss m true true shut placed n l e = absurd (answer-not-refused (granted n) 13 tt (sym e))
+decided-cleared t x ss m true false true placed n l e = absurd (answer-not-refused (granted n) 21 tt (sym e))
+decided-cleared t x ss m true false false true n l e = granted-cleared t x ss m l
+decided-cleared t x ss m true false false false n l e = absurd (answer-not-refused (granted n) 12 tt (sym e))
 
-decided-stale : (t : ℕ) (ss : List Setting) (m : Machine) (daily stale shut placed : Bool)
-    → commitDecided t ss m (commitRefusal daily stale shut placed) .reply .answer ≡ refused 13 → Unmarked t (commitDecided t ss m (commitRefusal daily stale shut placed) .after)
+decided-stale : (t : ℕ) (x : Txn) (ss : List Setting) (m : Machine) (daily stale shut placed : Bool)
+    → commitDecided t x ss m (commitRefusal daily stale shut placed) .reply .answer ≡ refused 13 → Unmarked t (commitDecided t x ss m (commitRefusal daily stale shut placed) .after)
 unfolding commitDecided commitRefusal commitGranted ended
-decided-stale t ss m false stale shut placed e = let z : _≡_ {A = ℕ} 22 13 = refused-same 22 13 e in absurd (omega arith)
-decided-stale t ss m true true shut placed e = reset-cleared t ended m refl
-decided-stale t ss m true false true placed e = let z : _≡_ {A = ℕ} 21 13 = refused-same 21 13 e in absurd (omega arith)
-decided-stale t ss m true false false true e = absurd (answer-not-refused _ 13 tt e)
-decided-stale t ss m true false false false e = let z : _≡_ {A = ℕ} 12 13 = refused-same 12 13 e in absurd (omega arith)
+decided-stale t x ss m false stale shut placed e = let z : _≡_ {A = ℕ} 22 13 = refused-same 22 13 e in absurd (omega arith)
+decided-stale t x ss m true true shut placed e = reset-cleared t ended m refl
+decided-stale t x ss m true false true placed e = let z : _≡_ {A = ℕ} 21 13 = refused-same 21 13 e in absurd (omega arith)
+decided-stale t x ss m true false false true e = absurd (answer-not-refused _ 13 tt e)
+decided-stale t x ss m true false false false e = let z : _≡_ {A = ℕ} 12 13 = refused-same 12 13 e in absurd (omega arith)
 
 pub buffers : (m : Machine) → Buffers m
 unfolding call admitted beginTurn abortTurn commitTurn answer begun ended fresh freshMachine
@@ -203,15 +222,17 @@ buffers m =
       logs = λ c. call-logs c m;
       freshLogs = λ numbers. passing-leaves (λ x. x .logs) _ [] m _ refl;
       files = λ c. call-files c m;
+      undo = λ c. call-undo c m;
+      freshUndo = λ numbers. passing-leaves (λ x. x .undo) _ [] m _ refl;
       marks = λ c. call-marks c m;
       begun = λ t l e. rw (answered _ m (beginTurn t m) plain tt e) (reset-cleared t begun m refl);
       aborted = λ t l e. rw (answered _ m (abortTurn t m) plain tt e) (reset-cleared t ended m refl);
       committed =
           λ t minute n l e.
           rw (answered _ m (commitTurn t minute m) (granted n) tt e)
-          (decided-cleared t _ m _ _ _ _ n l (sym (ap (λ (w : Turn). w .reply .answer) (answered-turn _ m (commitTurn t minute m) (granted n) tt e)) ∙ e));
+          (decided-cleared t _ _ m _ _ _ _ n l (sym (ap (λ (w : Turn). w .reply .answer) (answered-turn _ m (commitTurn t minute m) (granted n) tt e)) ∙ e));
       stale =
           λ t minute l e.
           let z = passing-stale _ m (commitTurn t minute m) (admission-leaving _ (m .store) (m .journal) t) e in
-          rw (ap (λ (w : Turn). w .after) z) (decided-stale t _ m _ _ _ _ (sym (ap (λ (w : Turn). w .reply .answer) z) ∙ e));
+          rw (ap (λ (w : Turn). w .after) z) (decided-stale t _ _ m _ _ _ _ (sym (ap (λ (w : Turn). w .reply .answer) z) ∙ e));
     }

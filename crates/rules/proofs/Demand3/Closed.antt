@@ -25,11 +25,10 @@ use Rattle.rules.specs.Calls.{Turn, passing, commitGranted, commitDecide
 use Rattle.rules.specs.Closed.{Among, first, later, Spared, ClosedSpared}
 use Rattle.rules.proofs.Serial.Programs.{Every, every-append}
 use Rattle.rules.proofs.Serial.Lists.{touched, landed-at, same-true, or-left-false, or-right-false}
-use Rattle.rules.proofs.Serial.Sighted.{Sighted, granting}
-use Rattle.rules.proofs.View.Shape.{view, Sound, WriteIn, TxnIn}
+use Rattle.rules.proofs.View.Shape.{Sound, WriteIn, TxnIn}
 use Rattle.rules.proofs.View.Decode.{decoded-in}
-use Rattle.rules.proofs.View.SettingsIn.{AllIn, lands-in, fits-at, settings-in}
-use Rattle.rules.proofs.View.Grants.{granted-view}
+use Rattle.rules.proofs.View.SettingsIn.{lands-in, fits-at}
+use Rattle.rules.proofs.View.Grants.{granted-values}
 use Rattle.rules.proofs.View.Zeros.{neither}
 use Rattle.rules.proofs.Demand3.Answers.{answer-not-refused}
 use Rattle.rules.proofs.Demand3.Refusals.{passing-zero}
@@ -200,36 +199,36 @@ module _ (ws : Windows) (minute : ℕ) where
 -- ---- a granted Commit
 
 -- Its tests passed, and it leaves what the settings leave.
-record Passed (m : Machine) (t minute : ℕ) : Type 0 where
-  small : t < 8
-  begun : transaction (m .store) t .begun ≡ true
-  none : forClosed (fileOf (m .store)) (windowAt (m .store)) minute (txnOf (m .store) (m .journal) (m .logs) t .writes) ≡ false
-  fit : fits (values (m .store) (m .files)) (txnOf (m .store) (m .journal) (m .logs) t) ≡ true
-  leaves : call (commit t minute) m .after ≡ commitGranted t (settingsOf m t) m .after
+pub record Passed (m : Machine) (t minute : ℕ) : Type 0 where
+  pub small : t < 8
+  pub begun : transaction (m .store) t .begun ≡ true
+  pub none : forClosed (fileOf (m .store)) (windowAt (m .store)) minute (txnOf (m .store) (m .journal) (m .logs) t .writes) ≡ false
+  pub fit : fits (values (m .store) (m .files)) (txnOf (m .store) (m .journal) (m .logs) t) ≡ true
+  pub leaves : call (commit t minute) m .after ≡ commitGranted t (txnOf (m .store) (m .journal) (m .logs) t) (settingsOf m t) m .after
 
-decided-granted : (t : ℕ) (ss : List Setting) (m : Machine) (daily stale shut placed : Bool) (n : ℕ)
-    → commitDecided t ss m (commitRefusal daily stale shut placed) .reply .answer ≡ granted n
-    → (shut ≡ false) × (placed ≡ true) × (commitDecided t ss m (commitRefusal daily stale shut placed) .after ≡ commitGranted t ss m .after)
+decided-granted : (t : ℕ) (x : Txn) (ss : List Setting) (m : Machine) (daily stale shut placed : Bool) (n : ℕ)
+    → commitDecided t x ss m (commitRefusal daily stale shut placed) .reply .answer ≡ granted n
+    → (shut ≡ false) × (placed ≡ true) × (commitDecided t x ss m (commitRefusal daily stale shut placed) .after ≡ commitGranted t x ss m .after)
 unfolding commitDecided commitRefusal
-decided-granted t ss m false stale shut placed n e = absurd (answer-not-refused (granted n) 22 tt (sym e))
-decided-granted t ss m true true shut placed n e = absurd (answer-not-refused (granted n) 13 tt (sym e))
-decided-granted t ss m true false true placed n e = absurd (answer-not-refused (granted n) 21 tt (sym e))
-decided-granted t ss m true false false true n e = (refl, refl, refl)
-decided-granted t ss m true false false false n e = absurd (answer-not-refused (granted n) 12 tt (sym e))
+decided-granted t x ss m false stale shut placed n e = absurd (answer-not-refused (granted n) 22 tt (sym e))
+decided-granted t x ss m true true shut placed n e = absurd (answer-not-refused (granted n) 13 tt (sym e))
+decided-granted t x ss m true false true placed n e = absurd (answer-not-refused (granted n) 21 tt (sym e))
+decided-granted t x ss m true false false true n e = (refl, refl, refl)
+decided-granted t x ss m true false false false n e = absurd (answer-not-refused (granted n) 12 tt (sym e))
 
 is-open : (b : Bool) → unless b 4 0 ≡ 0 → b ≡ true
 unfolding unless
 is-open true e = refl
 is-open false e = absurd (let z : _≡_ {A = ℕ} 4 0 = e in omega arith)
 
-passed : (m : Machine) (t minute n : ℕ) → call (commit t minute) m .reply .answer ≡ granted n → Passed m t minute
+pub passed : (m : Machine) (t minute n : ℕ) → call (commit t minute) m .reply .answer ≡ granted n → Passed m t minute
 unfolding call admitted admission commitTurn
 passed m t minute n e =
     let k = admission (sizes m) (m .store) (m .journal) t in
     let z : k ≡ 0 = passing-zero k [] m (commitTurn t minute m) (granted n) tt e in
     let a = shared-zero (sizes m) (m .store) (m .journal) t (unless (transaction (m .store) t .begun) 4 0) z in
     let w : passing k [] m (commitTurn t minute m) ≡ commitTurn t minute m = answered-turn k m (commitTurn t minute m) (granted n) tt e in
-    let d = decided-granted t (settingsOf m t) m _ _ _ _ n (sym (ap (λ (x : Turn). x .reply .answer) w) ∙ e) in
+    let d = decided-granted t (txnOf (m .store) (m .journal) (m .logs) t) (settingsOf m t) m _ _ _ _ n (sym (ap (λ (x : Turn). x .reply .answer) w) ∙ e) in
     record {
       small = a .0 .small;
       begun = is-open (transaction (m .store) t .begun) (a .1);
@@ -237,11 +236,6 @@ passed m t minute n e =
       fit = d .1;
       leaves = ap (λ (x : Turn). x .after) w ∙ d .2;
     }
-
-granted-values : (m : Machine) (t : ℕ) (ss : List Setting) → t < 8 → Sound m → AllIn ss
-    → values (commitGranted t ss m .after .store) (commitGranted t ss m .after .files) ≡ landed ss (values (m .store) (m .files))
-unfolding view granting
-granted-values m t ss small sound inside = ap (λ (y : Sighted). y .value) (granted-view m t ss small sound inside)
 
 -- Equal committed values, in the buffers.
 byte-left : (n m : Machine) (q : ℕ) → values (n .store) (n .files) (byte q) ≡ values (m .store) (m .files) (byte q) → getD (n .files) q 0 ≡ getD (m .files) q 0
@@ -264,7 +258,7 @@ spared m sound t minute n e =
     let sparing = settings-spare (windowAt s) minute (fileOf s) v x (unfold fileOf in r .files) ranges (p .fit) (p .none) in
     let left : values (call (commit t minute) m .after .store) (call (commit t minute) m .after .files) ≡ landed (settingsOf m t) v =
     ap (λ (y : Machine). values (y .store) (y .files)) (p .leaves)
-    ∙ granted-values m t (settingsOf m t) (p .small) sound (settings-in (fileOf s) v x (unfold fileOf in r .files) ranges (p .fit)) in
+    ∙ granted-values m t x (p .small) sound ranges (p .fit) in
     record {
       bytes = λ a q i f. subst (Sparing (windowAt s) minute) f (among-spares (windowAt s) minute a (settingsOf m t) i sparing);
       kept =

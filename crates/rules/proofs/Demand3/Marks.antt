@@ -10,11 +10,13 @@ use Rattle.octets.specs.Marks.{hasMark, withoutMarks}
 use Rattle.record.specs.declared.Transaction.{Transaction}
 use Rattle.record.specs.State.{transaction, ended}
 use Rattle.ranges.specs.Ranges.{unless, admission}
-use Rattle.rules.specs.Messages.{Op, bufferOf, Call, begin, on, commit, abort, places, setWindow}
+use Rattle.rules.specs.Messages.{Op, bufferOf, Call, begin, on, commit, abort, places, setWindow, takeBack}
 use Rattle.rules.specs.Steps.{Stepped, refuse, accept, turnedBack}
 use Rattle.rules.specs.Commits.{Setting}
+use Rattle.rules.specs.Transactions.{Txn}
 use Rattle.rules.specs.Machine.{Machine, sizes}
-use Rattle.rules.specs.Calls.{Turn, turnDown, passing, answer, reset, beginTurn, abortTurn, served, stepTurn, commitGranted, commitDecided, commitTurn, placesTurn, windowTurn, admitted, call, callsAfter}
+use Rattle.rules.specs.Undo.{keepingFound, takenBack}
+use Rattle.rules.specs.Calls.{Turn, turnDown, passing, answer, reset, beginTurn, abortTurn, served, stepTurn, commitGranted, commitDecided, commitTurn, placesTurn, windowTurn, takeBackTurn, admitted, call, callsAfter}
 use Rattle.rules.specs.Buffers.{isCallOf, MarksLeft, MarksAlwaysLeft}
 use Rattle.rules.proofs.View.Shape.{Sound}
 use Rattle.rules.proofs.View.Marks.{marked-other}
@@ -37,10 +39,10 @@ module _ (m : Machine) (u q : ℕ) where
   unfolding reset
   reset-left t x other = unmarked-other t (m .marks) u q other
 
-  decided-left : (t : ℕ) (ss : List Setting) (n : ℕ) → (u ≡ t → ⊥) → Left (commitDecided t ss m n .after)
-  unfolding commitDecided commitGranted
-  decided-left t ss zero other = unmarked-other t (m .marks) u q other
-  decided-left t ss (suc n) other = pick (eqb (suc n) 13)
+  decided-left : (t : ℕ) (x : Txn) (ss : List Setting) (n : ℕ) → (u ≡ t → ⊥) → Left (commitDecided t x ss m n .after)
+  unfolding commitDecided commitGranted keepingFound
+  decided-left t x ss zero other = unmarked-other t (m .marks) u q other
+  decided-left t x ss (suc n) other = pick (eqb (suc n) 13)
     where
       pick : (b : Bool) → Left (cond b (reset t ended m) m)
       pick true = reset-left t ended other
@@ -66,13 +68,14 @@ module _ (m : Machine) (u q : ℕ) where
         pick true true k = k refl refl
 
     call-left : (c : Call) → isCallOf u c ≡ false → Left (call c m .after)
-    unfolding call isCallOf beginTurn abortTurn answer stepTurn commitTurn placesTurn windowTurn admitted sightings
+    unfolding call isCallOf beginTurn abortTurn answer stepTurn commitTurn placesTurn windowTurn takeBackTurn takenBack keepingFound admitted sightings
     call-left (begin t) other = passing-left _ [] (beginTurn t m) (reset-left t _ (eqb-false u t other))
     call-left (on t o) other = admitted-left t (bufferOf o) (stepTurn t o m) (λ small begun. served-left t o small begun (eqb-false u t other) _)
-    call-left (commit t minute) other = passing-left _ [] (commitTurn t minute m) (decided-left t _ _ (eqb-false u t other))
+    call-left (commit t minute) other = passing-left _ [] (commitTurn t minute m) (decided-left t _ _ _ (eqb-false u t other))
     call-left (abort t) other = passing-left _ [] (abortTurn t m) (reset-left t ended (eqb-false u t other))
     call-left (places t f out) other = passing-left _ out (placesTurn t f out m) refl
     call-left (setWindow f start end) other = passing-left _ [] (windowTurn f start end m) refl
+    call-left takeBack other = passing-left _ [] (takeBackTurn m) refl
 
 pub marks-always-left : MarksAlwaysLeft
 marks-always-left numbers m₀ made cs c u q other =

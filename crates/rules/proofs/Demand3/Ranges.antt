@@ -12,14 +12,14 @@ use native.Mathlib.Omega.{arith}
 use Prim.Native.Nat.{ℕ, zero, suc, _≤_}
 use Rattle.record.specs.State.{transaction}
 use Rattle.record.specs.Paper.{Said, plain, refused}
-use Rattle.ranges.specs.Ranges.{unless, windowRefusal, admission, admissionOfBegin, admissionOfWindow}
+use Rattle.ranges.specs.Ranges.{unless, windowRefusal, admission, admissionOfBegin, admissionOfWindow, noneBegun, admissionOfTakingBack}
 use Rattle.rules.specs.Items.{Item}
-use Rattle.rules.specs.Messages.{Op, bufferOf, places, setWindow}
+use Rattle.rules.specs.Messages.{Op, bufferOf, places, setWindow, takeBack}
 use Rattle.rules.specs.Steps.{Stepped, refuse, accept}
 use Rattle.rules.specs.Commits.{Setting, commitRefusal}
 use Rattle.rules.specs.Messages.{Call, begin, on, commit, abort}
 use Rattle.rules.specs.Machine.{Machine, fileOf, values, txnOf}
-use Rattle.rules.specs.Calls.{Turn, answer, turnDown, passing, beginTurn, abortTurn, served, stepTurn, commitGranted, commitDecided, commitTurn, admitted, call, placesTurn, windowTurn}
+use Rattle.rules.specs.Calls.{Turn, answer, turnDown, passing, beginTurn, abortTurn, served, stepTurn, commitGranted, commitDecided, commitTurn, admitted, call, placesTurn, windowTurn, takeBackTurn}
 use Rattle.rules.proofs.View.Shape.{Sound}
 use Rattle.rules.proofs.View.Admissions.{first-is, shared-is}
 use Rattle.rules.proofs.Demand3.Answers.{IsAnswer, answer-not-refused, Right, right-step}
@@ -42,13 +42,13 @@ unfolding served turnDown
 late-served t o m is (refuse k) h = λ n e. let z : k ≡ n = refused-same k n e in omega (arith, h .0)
 late-served t o m is (accept y a b) h = late-answer _ h
 
-late-decided : (t : ℕ) (ss : List Setting) (m : Machine) (daily stale shut placed : Bool) → Late (commitDecided t ss m (commitRefusal daily stale shut placed) .reply .answer)
+late-decided : (t : ℕ) (x : Txn) (ss : List Setting) (m : Machine) (daily stale shut placed : Bool) → Late (commitDecided t x ss m (commitRefusal daily stale shut placed) .reply .answer)
 unfolding commitDecided commitRefusal commitGranted
-late-decided t ss m false stale shut placed = λ n e. let z : 22 ≡ n = refused-same 22 n e in omega arith
-late-decided t ss m true true shut placed = λ n e. let z : 13 ≡ n = refused-same 13 n e in omega arith
-late-decided t ss m true false true placed = λ n e. let z : 21 ≡ n = refused-same 21 n e in omega arith
-late-decided t ss m true false false true = late-answer _ tt
-late-decided t ss m true false false false = λ n e. let z : 12 ≡ n = refused-same 12 n e in omega arith
+late-decided t x ss m false stale shut placed = λ n e. let z : 22 ≡ n = refused-same 22 n e in omega arith
+late-decided t x ss m true true shut placed = λ n e. let z : 13 ≡ n = refused-same 13 n e in omega arith
+late-decided t x ss m true false true placed = λ n e. let z : 21 ≡ n = refused-same 21 n e in omega arith
+late-decided t x ss m true false false true = late-answer _ tt
+late-decided t x ss m true false false false = λ n e. let z : 12 ≡ n = refused-same 12 n e in omega arith
 
 late-unless : (b c : Bool) (k : ℕ) → 3 ≤ k → (j : ℕ) → unless b 3 (unless c k 0) ≡ suc j → 3 ≤ unless b 3 (unless c k 0)
 unfolding unless
@@ -101,16 +101,26 @@ late-window m s f start end =
     (late-one _ 6 _ (omega arith) (late-one _ 22 0 (omega arith) (λ j e. absurd (let z : _≡_ {A = ℕ} 0 (suc j) = e in omega arith)))))
     (late-answer _ tt)
 
+-- F-13's.
+late-back : (m : Machine) → Sound m → Late (call takeBack m .reply .answer)
+unfolding call takeBackTurn answer admissionOfTakingBack AtLeast3
+late-back m s =
+    late-passing _ [] m (takeBackTurn m)
+    (subst⁻¹ AtLeast3 (first-is m (unless (noneBegun (m .store)) 23 (unless (m .store .undo .held) 24 0)) s)
+    (late-one _ 23 _ (omega arith) (late-one _ 24 0 (omega arith) (λ j e. absurd (let z : _≡_ {A = ℕ} 0 (suc j) = e in omega arith)))))
+    (late-answer _ tt)
+
 late-call : (c : Call) (m : Machine) → Sound m → Late (call c m .reply .answer)
 unfolding call abortTurn answer stepTurn commitTurn placesTurn placesOf
 late-call (begin t) m s = late-begin m s t
 late-call (on t o) m s =
     late-admitted m s t (bufferOf o) (stepTurn t o m)
     (late-served t o m _ _ (right-step (fileOf (m .store)) o (txnOf (m .store) (m .journal) (m .logs) t) (values (m .store) (m .files)) _))
-late-call (commit t minute) m s = late-admitted m s t [] (commitTurn t minute m) (late-decided t _ m _ _ _ _)
+late-call (commit t minute) m s = late-admitted m s t [] (commitTurn t minute m) (late-decided t _ _ m _ _ _ _)
 late-call (abort t) m s = late-admitted m s t [] (abortTurn t m) (late-answer _ tt)
 late-call (places t f out) m s = late-admitted m s t out (placesTurn t f out m) (late-placed _ f out _ _ (places-late _ f out _))
 late-call (setWindow f start end) m s = late-window m s f start end
+late-call takeBack m s = late-back m s
 
 pub never-early : (c : Call) (m : Machine) → Sound m → (call c m .reply .answer ≡ refused 2 → ⊥) × (call c m .reply .answer ≡ refused 1 → ⊥)
 never-early c m s = (

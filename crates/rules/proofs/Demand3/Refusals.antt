@@ -10,15 +10,15 @@ use Rattle.record.specs.declared.Store.{Store}
 use Rattle.record.specs.State.{transaction, ended}
 use Rattle.record.specs.declared.outcomes.Refusal.the-variants.{Stale}
 use Rattle.record.specs.Paper.{number, Said, said, plain, granted, refused}
-use Rattle.ranges.specs.Ranges.{Sizes, unless, firstTests, shared, windowRefusal, admissionOfWindow, admission, admissionOfBegin, admissionOfFresh}
+use Rattle.ranges.specs.Ranges.{Sizes, unless, firstTests, shared, windowRefusal, admissionOfWindow, admissionOfTakingBack, admission, admissionOfBegin, admissionOfFresh}
 use Rattle.rules.specs.Items.{Item, result, asked}
 use Rattle.rules.specs.Steps.{Stepped, refuse, accept, step}
 use Rattle.rules.specs.Commits.{Setting, settings, fits, commitRefusal}
-use Rattle.rules.specs.Messages.{Op, bufferOf, bufferOfCall, Call, begin, on, commit, abort, Reply, places, setWindow}
+use Rattle.rules.specs.Messages.{Op, bufferOf, bufferOfCall, Call, begin, on, commit, abort, Reply, places, setWindow, takeBack}
 use Rattle.rules.specs.Machine.{Machine, sizes, fileOf, values, txnOf}
 use Rattle.rules.specs.Promises.{Meets}
 use Rattle.rules.specs.Demand1.{IsRefusal, Demand1On, Demand1, RefusedByCode, Demand1OfCode}
-use Rattle.rules.specs.Calls.{Turn, answer, turnDown, passing, fresh, reset, beginTurn, abortTurn, served, stepTurn, commitGranted, commitDecided, commitTurn, admitted, call, placesTurn, windowTurn}
+use Rattle.rules.specs.Calls.{Turn, answer, turnDown, passing, fresh, reset, beginTurn, abortTurn, served, stepTurn, commitGranted, commitDecided, commitTurn, admitted, call, placesTurn, windowTurn, takeBackTurn}
 use Rattle.rules.proofs.Demand3.Answers.{IsAnswer, answer-not-refused, Leaving, later as later-on, Right, right-step}
 
 pub refused-same : (m n : ℕ) → refused m ≡ refused n → m ≡ n
@@ -51,19 +51,19 @@ leaves-served t o m is (refuse k) h =
     }
 leaves-served t o m is (accept y a b) h = leaves-answer m (bufferOf o) _ h
 
-leaves-decided : (t : ℕ) (ss : List Setting) (m : Machine) (daily stale shut placed : Bool) → Leaves m [] (commitDecided t ss m (commitRefusal daily stale shut placed))
+leaves-decided : (t : ℕ) (x : Txn) (ss : List Setting) (m : Machine) (daily stale shut placed : Bool) → Leaves m [] (commitDecided t x ss m (commitRefusal daily stale shut placed))
 unfolding commitDecided commitRefusal commitGranted
-leaves-decided t ss m false stale shut placed =
+leaves-decided t x ss m false stale shut placed =
     record { leaves = λ n e d. (refl, refl); known = λ n e. subst IsRefusal (refused-same 22 n e) (omega arith, refl) }
-leaves-decided t ss m true true shut placed =
+leaves-decided t x ss m true true shut placed =
     record {
       leaves = λ n e d. absurd (d (sym (refused-same 13 n e)));
       known = λ n e. subst IsRefusal (refused-same 13 n e) (omega arith, refl);
     }
-leaves-decided t ss m true false true placed =
+leaves-decided t x ss m true false true placed =
     record { leaves = λ n e d. (refl, refl); known = λ n e. subst IsRefusal (refused-same 21 n e) (omega arith, refl) }
-leaves-decided t ss m true false false true = leaves-answer m [] _ tt
-leaves-decided t ss m true false false false =
+leaves-decided t x ss m true false false true = leaves-answer m [] _ tt
+leaves-decided t x ss m true false false false =
     record { leaves = λ n e d. (refl, refl); known = λ n e. subst IsRefusal (refused-same 12 n e) (omega arith, refl) }
 
 -- The shared tests refuse with a number other than 13.
@@ -97,6 +97,11 @@ unfolding admissionOfWindow windowRefusal
 window-leaving z s j f start end =
     first-leaving z s j _ (unless-leaving _ 6 _ (later-on 6 refl .1) (unless-leaving _ 22 0 (later-on 22 refl .1) none-leaving))
 
+back-leaving : (z : Sizes) (s : Store) (j : List ℕ) → Leaving (admissionOfTakingBack z s j)
+unfolding admissionOfTakingBack
+back-leaving z s j =
+    first-leaving z s j _ (unless-leaving _ 23 _ (later-on 23 refl .1) (unless-leaving _ 24 0 (later-on 24 refl .1) none-leaving))
+
 leaves-admitted : (t : ℕ) (buffer : List ℕ) (m : Machine) (w : Turn) → Leaves m buffer w → Leaves m buffer (admitted t buffer m w)
 unfolding admitted
 leaves-admitted t buffer m w l =
@@ -122,19 +127,22 @@ placed-not-13 fileOf f out x zero h e = answer-not-refused _ 13 tt e
 placed-not-13 fileOf f out x (suc n) h e = h .1 (refused-same (suc n) 13 e)
 
 leaves-call : (c : Call) (m : Machine) → Leaves m (bufferOfCall c) (call c m)
-unfolding call bufferOfCall beginTurn abortTurn answer stepTurn commitTurn placesTurn placesOf windowTurn
+unfolding call bufferOfCall beginTurn abortTurn answer stepTurn commitTurn placesTurn placesOf windowTurn takeBackTurn
 leaves-call (begin t) m =
     leaves-passing (admissionOfBegin (sizes m) (m .store) (m .journal) t) [] m _
     (begin-leaving (sizes m) (m .store) (m .journal) t) (leaves-answer m [] _ tt)
 leaves-call (on t o) m =
     leaves-admitted t (bufferOf o) m _
     (leaves-served t o m _ _ (right-step (fileOf (m .store)) o (txnOf (m .store) (m .journal) (m .logs) t) (values (m .store) (m .files)) _))
-leaves-call (commit t minute) m = leaves-admitted t [] m _ (leaves-decided t _ m _ _ _ _)
+leaves-call (commit t minute) m = leaves-admitted t [] m _ (leaves-decided t _ _ m _ _ _ _)
 leaves-call (abort t) m = leaves-admitted t [] m _ (leaves-answer m [] _ tt)
 leaves-call (places t f out) m = leaves-admitted t out m _ (leaves-placed m _ f out _ _ (placed-leaving _ f out _))
 leaves-call (setWindow f start end) m =
     leaves-passing (admissionOfWindow (sizes m) (m .store) (m .journal) f start end) [] m _
     (window-leaving (sizes m) (m .store) (m .journal) f start end) (leaves-answer m [] _ tt)
+leaves-call takeBack m =
+    leaves-passing (admissionOfTakingBack (sizes m) (m .store) (m .journal)) [] m _
+    (back-leaving (sizes m) (m .store) (m .journal)) (leaves-answer m [] _ tt)
 
 -- A refusal 13 is a Commit's, which then leaves what an Abort leaves.
 not-13 : (k : ℕ) (buffer : List ℕ) (m : Machine) (w : Turn) → Leaving k → (w .reply .answer ≡ refused 13 → ⊥) → passing k buffer m w .reply .answer ≡ refused 13 → ⊥
@@ -147,13 +155,13 @@ unfolding served turnDown
 served-not-13 t o m is (refuse k) h e = h .1 .1 (refused-same k 13 e)
 served-not-13 t o m is (accept y a b) h e = answer-not-refused a 13 h e
 
-decided-ends : (t : ℕ) (ss : List Setting) (m : Machine) (daily stale shut placed : Bool) → commitDecided t ss m (commitRefusal daily stale shut placed) .reply .answer ≡ refused 13 → commitDecided t ss m (commitRefusal daily stale shut placed) .after ≡ reset t ended m
+decided-ends : (t : ℕ) (x : Txn) (ss : List Setting) (m : Machine) (daily stale shut placed : Bool) → commitDecided t x ss m (commitRefusal daily stale shut placed) .reply .answer ≡ refused 13 → commitDecided t x ss m (commitRefusal daily stale shut placed) .after ≡ reset t ended m
 unfolding commitDecided commitRefusal commitGranted
-decided-ends t ss m false stale shut placed e = let z : _≡_ {A = ℕ} 22 13 = refused-same 22 13 e in absurd (omega arith)
-decided-ends t ss m true true shut placed e = refl
-decided-ends t ss m true false true placed e = let z : _≡_ {A = ℕ} 21 13 = refused-same 21 13 e in absurd (omega arith)
-decided-ends t ss m true false false true e = absurd (answer-not-refused _ 13 tt e)
-decided-ends t ss m true false false false e = let z : _≡_ {A = ℕ} 12 13 = refused-same 12 13 e in absurd (omega arith)
+decided-ends t x ss m false stale shut placed e = let z : _≡_ {A = ℕ} 22 13 = refused-same 22 13 e in absurd (omega arith)
+decided-ends t x ss m true true shut placed e = refl
+decided-ends t x ss m true false true placed e = let z : _≡_ {A = ℕ} 21 13 = refused-same 21 13 e in absurd (omega arith)
+decided-ends t x ss m true false false true e = absurd (answer-not-refused _ 13 tt e)
+decided-ends t x ss m true false false false e = let z : _≡_ {A = ℕ} 12 13 = refused-same 12 13 e in absurd (omega arith)
 
 passing-ends : (k : ℕ) (m : Machine) (w z : Turn) → (w .reply .answer ≡ refused 13 → w .after ≡ z .after) → passing k [] m w .reply .answer ≡ refused 13 → passing k [] m w .after ≡ passing k [] m z .after
 unfolding passing turnDown
@@ -161,19 +169,21 @@ passing-ends zero m w z f e = f e
 passing-ends (suc k) m w z f e = refl
 
 ends-call : (c : Call) (m : Machine) → call c m .reply .answer ≡ refused 13 → (t : ℕ) × (minute : ℕ) × (c ≡ commit t minute) × (call c m .after ≡ call (abort t) m .after)
-unfolding call beginTurn abortTurn answer stepTurn commitTurn admitted placesTurn placesOf windowTurn
+unfolding call beginTurn abortTurn answer stepTurn commitTurn admitted placesTurn placesOf windowTurn takeBackTurn
 ends-call (begin t) m e =
     absurd (not-13 (admissionOfBegin (sizes m) (m .store) (m .journal) t) [] m _ (begin-leaving (sizes m) (m .store) (m .journal) t) (answer-not-refused _ 13 tt) e)
 ends-call (on t o) m e =
     absurd (not-13 (admission (sizes m) (m .store) (m .journal) t) (bufferOf o) m _ (admission-leaving (sizes m) (m .store) (m .journal) t) (served-not-13 t o m _ _ (right-step (fileOf (m .store)) o (txnOf (m .store) (m .journal) (m .logs) t) (values (m .store) (m .files)) _)) e)
 ends-call (commit t minute) m e =
-    (t, minute, refl, passing-ends (admission (sizes m) (m .store) (m .journal) t) m _ _ (decided-ends t _ m _ _ _ _) e)
+    (t, minute, refl, passing-ends (admission (sizes m) (m .store) (m .journal) t) m _ _ (decided-ends t _ _ m _ _ _ _) e)
 ends-call (abort t) m e =
     absurd (not-13 (admission (sizes m) (m .store) (m .journal) t) [] m _ (admission-leaving (sizes m) (m .store) (m .journal) t) (answer-not-refused _ 13 tt) e)
 ends-call (places t f out) m e =
     absurd (not-13 (admission (sizes m) (m .store) (m .journal) t) out m _ (admission-leaving (sizes m) (m .store) (m .journal) t) (placed-not-13 _ f out _ _ (placed-leaving _ f out _)) e)
 ends-call (setWindow f start end) m e =
     absurd (not-13 (admissionOfWindow (sizes m) (m .store) (m .journal) f start end) [] m _ (window-leaving (sizes m) (m .store) (m .journal) f start end) (answer-not-refused _ 13 tt) e)
+ends-call takeBack m e =
+    absurd (not-13 (admissionOfTakingBack (sizes m) (m .store) (m .journal)) [] m _ (back-leaving (sizes m) (m .store) (m .journal)) (answer-not-refused _ 13 tt) e)
 
 leaves-fresh : (numbers : List ℕ) (m : Machine) → Leaves m [] (fresh numbers m)
 unfolding fresh answer admissionOfFresh

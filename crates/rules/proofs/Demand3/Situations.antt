@@ -7,7 +7,7 @@ use Rattle.windows.specs.Hours.{freshWindows}
 use Rattle.rules.specs.Items.{Values}
 use Rattle.rules.specs.Messages.{Call, Reply}
 use Rattle.rules.specs.Sightings.{Committed}
-use Rattle.rules.specs.Plain.{freshPlain, plainAfter, plainReplies}
+use Rattle.rules.specs.Plain.{nothing, freshPlain, plainAfter, plainReplies}
 use Rattle.rules.specs.Machine.{Machine, values}
 use Rattle.rules.specs.Calls.{callsAfter, callsReplies}
 use Rattle.rules.specs.Demand3.{FreshlyMade}
@@ -22,7 +22,7 @@ module _ (m : Machine) (made : FreshlyMade numbers m) where
   same-values :
       (cs : List Call)
       → values (callsAfter cs m .store) (callsAfter cs m .files) ≡ plainAfter cs (freshPlain (λ d. getD numbers d 0)) .committed .value
-  same-values cs = demand3 numbers m made cs .left ∙ ap (λ (c : Committed). c .value) (again-left (λ d. getD numbers d 0) (λ i. 0) freshWindows cs)
+  same-values cs = demand3 numbers m made cs .left ∙ ap (λ (c : Committed). c .value) (again-left (λ d. getD numbers d 0) (λ i. 0) freshWindows nothing tt cs)
 
   same-seen : onStore m ≡ onPlain
   unfolding onStore onPlain freshNumbered

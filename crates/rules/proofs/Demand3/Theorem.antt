@@ -17,23 +17,26 @@ use Rattle.record.specs.Paper.{Said, plain, pointer, given, granted, pairs, ref
 use Rattle.ranges.specs.Ranges.{admission, admissionOfFresh}
 use Rattle.ranges.proofs.Laws.{AdmittedFresh, admitted-fresh}
 use Rattle.rules.specs.Commits.{fits, commitRefusal}
-use Rattle.rules.specs.Messages.{Op, Call, begin, on, commit, abort, Reply, places, setWindow}
+use Rattle.rules.specs.Messages.{Op, Call, begin, on, commit, abort, Reply, places, setWindow, takeBack}
 use Rattle.rules.specs.Steps.{looks}
-use Rattle.rules.specs.Plain.{Slot, closed, running, Running, Plain, startPlain, freshPlain, isStale, PlainTurn, turnedDown, answering, grant, becameStale, plainCommitted, plainCommit, numbered, plainCall, plainAfter, plainReplies, firstList, secondList}
+use Rattle.rules.specs.Plain.{isRunning, Earlier, nothing, Slot, closed, running, Running, Plain, startPlain, freshPlain, isStale, PlainTurn, turnedDown, answering, grant, becameStale, plainCommitted, plainCommit, numbered, plainCall, plainAfter, plainReplies, firstList, secondList}
 use Rattle.rules.specs.Items.{Values}
 use Rattle.rules.specs.Sightings.{Committed}
 use Rattle.rules.specs.Machine.{Machine, sizes, values}
 use Rattle.rules.specs.Calls.{Turn, answer, turnDown, passing, freshMachine, fresh, call, callsAfter, callsReplies}
 use Rattle.rules.specs.Promises.{Meets}
-use Rattle.rules.specs.Demand3.{FreshlyMade, isRunning, IsAccepted, OneMoment, Holds, Demand3, Made, Linked, lastOf, replyOf, CodeHolds, Demand3OfCode}
-use Rattle.rules.proofs.Serial.Sighted.{Held, Seat, vacant, held, Sighted, startSighted, SightedTurn, sightedCall, sightedAfter, sightedReplies}
-use Rattle.rules.proofs.Serial.FirstHalf.{abs, absTurn, seatOf}
+use Rattle.rules.specs.Demand3.{FreshlyMade, IsAccepted, OneMoment, Holds, Demand3, Made, Linked, lastOf, replyOf, CodeHolds, Demand3OfCode}
+use Rattle.rules.proofs.Serial.Sighted.{Held, Seat, vacant, held, none, Sighted, startSighted, SightedTurn, sightedCall, sightedAfter, sightedReplies}
+use Rattle.rules.proofs.Serial.FirstHalf.{backOf, abs, absTurn, seatOf}
+use Rattle.rules.proofs.Serial.Starts.{start-stays}
 use Rattle.rules.proofs.Serial.Theorem.{replies-same, state-same, turn-same, store-commit, again-same, again-left, moment-same}
 use Rattle.rules.proofs.View.Shape.{Sound, heldBy, seat, view}
 use Rattle.rules.proofs.View.Admissions.{Agrees}
 use Rattle.rules.proofs.View.StepTurn.{step-turn}
 use Rattle.rules.proofs.View.EndTurns.{begin-turn, abort-turn, commit-turn, places-turn}
+use Rattle.rules.proofs.Serial.Invariant.{GoodEarlier}
 use Rattle.rules.proofs.View.WindowTurn.{window-turn}
+use Rattle.rules.proofs.View.BackTurn.{back-turn}
 use Rattle.rules.proofs.View.FreshView.{fresh-sound, fresh-view}
 use Rattle.rules.proofs.Demand3.Answers.{IsAnswer, answer-not-refused}
 use Rattle.rules.proofs.Demand3.Ranges.{never-early}
@@ -46,6 +49,7 @@ call-turn (commit t minute) m s = commit-turn m t s minute
 call-turn (abort t) m s = abort-turn m t s
 call-turn (places t f out) m s = places-turn m t s f out
 call-turn (setWindow f start end) m s = window-turn m f start end s
+call-turn takeBack m s = back-turn m s
 
 -- .. and so does every list of calls.
 pub record Agree (cs : List Call) (m : Machine) : Type 0 where
@@ -73,19 +77,19 @@ fresh-passed (suc k) m w e = absurd (answer-not-refused plain (suc k) tt (sym e)
 
 pub record FreshFacts (numbers : List ℕ) (m : Machine) : Type 0 where
   pub sound : Sound m
-  pub same : view m ≡ startSighted (λ d. getD numbers d 0) (λ i. 0) freshWindows
+  pub same : view m ≡ startSighted (λ d. getD numbers d 0) (λ i. 0) freshWindows none
 
 pub fresh-facts : (numbers : List ℕ) (m : Machine) → FreshlyMade numbers m → FreshFacts numbers m
 unfolding fresh answer passing
 fresh-facts numbers m f =
     let b = f .before in
     let k = admissionOfFresh (sizes b) numbers in
-    let z : k ≡ 0 = fresh-passed k b (answer plain (freshMachine numbers (b .logs))) (f .accepted) in
+    let z : k ≡ 0 = fresh-passed k b (answer plain (freshMachine numbers (b .logs) (b .undo))) (f .accepted) in
     let a = admitted-fresh (sizes b) numbers z in
-    let e : m ≡ freshMachine numbers (b .logs) = f .left ∙ ap (λ (n : ℕ). passing n [] b (answer plain (freshMachine numbers (b .logs))) .after) z in
+    let e : m ≡ freshMachine numbers (b .logs) (b .undo) = f .left ∙ ap (λ (n : ℕ). passing n [] b (answer plain (freshMachine numbers (b .logs) (b .undo))) .after) z in
     record {
-      sound = subst⁻¹ (λ (x : Machine). Sound x) e (fresh-sound numbers (b .logs) (a .sixteen) (a .numbers) (a .lengths .logs));
-      same = ap view e ∙ fresh-view numbers (b .logs);
+      sound = subst⁻¹ (λ (x : Machine). Sound x) e (fresh-sound numbers (b .logs) (b .undo) (a .sixteen) (a .numbers) (a .lengths .logs) (a .lengths .undo));
+      same = ap view e ∙ fresh-view numbers (b .logs) (b .undo);
     }
 
 -- Whether a seat is taken.
@@ -149,43 +153,44 @@ unfolding plainCall numbered
 told-commit t minute p = told (leb t 7) t minute p
 
 -- Demand 3 from a sound store that stands for the store without buffers with these committed values, these windows and nothing open.
-pub holds-from : (F : ℕ → ℕ) (v : Values) (ws : Windows) (m₀ : Machine) → Sound m₀ → view m₀ ≡ startSighted F v ws
-    → (cs : List Call) → Holds m₀ (startPlain F v ws) cs (callsAfter cs m₀) (plainAfter cs (startPlain F v ws))
+pub holds-from : (F : ℕ → ℕ) (v : Values) (ws : Windows) (x : Earlier) → GoodEarlier x → (m₀ : Machine) → Sound m₀ → view m₀ ≡ startSighted F v ws (backOf x)
+    → (cs : List Call) → Holds m₀ (startPlain F v ws x) cs (callsAfter cs m₀) (plainAfter cs (startPlain F v ws x))
 unfolding view abs absTurn
-holds-from F v ws m₀ sound start cs =
+holds-from F v ws x good m₀ sound start cs =
     let a = calls-agree cs m₀ sound in
     let m = callsAfter cs m₀ in
-    let p = plainAfter cs (startPlain F v ws) in
-    let e : view m ≡ sightedAfter cs (startSighted F v ws) = a .state ∙ ap (sightedAfter cs) start in
-    let same : view m ≡ abs p = e ∙ state-same F v ws cs in
-    let turn : (c : Call) → call c m .reply ≡ sightedCall c (sightedAfter cs (startSighted F v ws)) .reply =
+    let p = plainAfter cs (startPlain F v ws x) in
+    let e : view m ≡ sightedAfter cs (startSighted F v ws (backOf x)) = a .state ∙ ap (sightedAfter cs) start in
+    let same : view m ≡ abs p = e ∙ state-same F v ws x good cs in
+    let turn : (c : Call) → call c m .reply ≡ sightedCall c (sightedAfter cs (startSighted F v ws (backOf x))) .reply =
     λ c. call-turn c m (a .sound) .0 ∙ ap (λ (s : Sighted). sightedCall c s .reply) e in
     record {
-      replies = a .replies ∙ ap (sightedReplies cs) start ∙ replies-same F v ws cs;
+      replies = a .replies ∙ ap (sightedReplies cs) start ∙ replies-same F v ws x good cs;
       openness = open-same m p same;
       staleness =
           λ t minute r l o h.
           let e = turn (commit t minute) in
           subst⁻¹ (λ (x : Reply). (x .answer ≡ refused 13 → ⊥) ↔ (firstList r ≡ secondList p r)) e
-          (store-commit F v ws cs t minute r o (λ k. h (ap (λ (x : Reply). x .answer) e ∙ k)) .passes);
+          (store-commit F v ws x good cs t minute r o (λ k. h (ap (λ (x : Reply). x .answer) e ∙ k)) .passes);
       octet =
           λ t minute n g.
           let b = becameStale t p (plainCall (commit t minute) p .after) in
-          let e = told-commit t minute p .octet n (sym (ap (λ (x : Reply). x .answer) (turn (commit t minute) ∙ ap (λ (τ : SightedTurn). τ .reply) (turn-same F v ws cs (commit t minute)))) ∙ g) in
+          let e = told-commit t minute p .octet n (sym (ap (λ (x : Reply). x .answer) (turn (commit t minute) ∙ ap (λ (τ : SightedTurn). τ .reply) (turn-same F v ws x good cs (commit t minute)))) ∙ g) in
           (omega (arith, bits-lt b 8), λ u l. ap (λ (k : ℕ). contains k u) e ∙ contains-bits b 8 u l);
-      again = again-same F v ws cs;
-      left = ap (λ (s : Sighted). s .value) same ∙ sym (ap (λ (c : Committed). c .value) (again-left F v ws cs));
+      again = again-same F v ws x good cs;
+      start = start-stays cs (startPlain F v ws x);
+      left = ap (λ (s : Sighted). s .value) same ∙ sym (ap (λ (c : Committed). c .value) (again-left F v ws x good cs));
       moment =
           λ t o l g.
-          let e = turn (on t o) ∙ ap (λ (τ : SightedTurn). τ .reply) (turn-same F v ws cs (on t o)) in
-          subst⁻¹ (OneMoment p t o) e (moment-same F v ws cs t o l (subst IsAccepted e g));
+          let e = turn (on t o) ∙ ap (λ (τ : SightedTurn). τ .reply) (turn-same F v ws x good cs (on t o)) in
+          subst⁻¹ (OneMoment p t o) e (moment-same F v ws x good cs t o l (subst IsAccepted e g));
       ranges = λ c. never-early c m (a .sound);
     }
 
 pub demand3 : Demand3
 demand3 numbers m₀ made cs =
     let f = fresh-facts numbers m₀ made in
-    holds-from (λ d. getD numbers d 0) (λ i. 0) freshWindows m₀ (f .sound) (f .same) cs
+    holds-from (λ d. getD numbers d 0) (λ i. 0) freshWindows nothing tt m₀ (f .sound) (unfold backOf in f .same) cs
 
 -- Calls of the code that keep their promises are calls of the rules.
 pub record LinkedFacts (m : Machine) (xs : List Made) : Type 0 where

@@ -8,23 +8,23 @@ use Prim.Native.Nat.{ℕ, zero, suc, _+_}
 use Rattle.windows.specs.Hours.{minuteIn, window, Windows}
 use Rattle.octets.specs.Bits.{bitsOf}
 use Rattle.record.specs.Paper.{Said, plain, granted, refused}
-use Rattle.ranges.specs.Below.{guarded, isNone}
+use Rattle.ranges.specs.Below.{guarded, isNone, below}
 use Rattle.ranges.specs.Ranges.{windowRefusal}
 use Rattle.rules.specs.Windows.{forClosed}
 use Rattle.rules.specs.Items.{Item, Values, byte, offset, fileLength, result, asked}
 use Rattle.rules.specs.Transactions.{Txn, empty, put}
-use Rattle.rules.specs.Messages.{Op, bufferOf, places, setWindow}
+use Rattle.rules.specs.Messages.{Op, bufferOf, places, setWindow, takeBack}
 use Rattle.rules.specs.Steps.{Stepped, refuse, accept, step, turnedBack}
 use Rattle.rules.specs.Commits.{settings, fits, landed, commitRefusal}
 use Rattle.rules.specs.Messages.{Call, begin, on, commit, abort, Reply}
-use Rattle.rules.specs.Sightings.{sameEntries, entries}
-use Rattle.rules.specs.Plain.{Running, Slot, closed, running, Plain, withWindows, plainSetWindow, startPlain, ops, firstList, secondList, isStale, PlainTurn, turnedDown, withSlot, answering, plainBegin, plainStepped, plainOn, committing, grant, equalSlot, staleSlot, becameStale, plainCommitted, plainCommit, plainAbort, numbered, plainCall, plainAfter, plainReplies, plainPlaces}
+use Rattle.rules.specs.Sightings.{sameEntries, entries, Committed}
+use Rattle.rules.specs.Plain.{Running, Slot, closed, running, Plain, Earlier, nothing, found, isRunning, noneRunning, goneBack, goBack, plainTakeBack, withWindows, plainSetWindow, startPlain, ops, firstList, secondList, isStale, PlainTurn, turnedDown, withSlot, answering, plainBegin, plainStepped, plainOn, committing, grant, equalSlot, staleSlot, becameStale, plainCommitted, plainCommit, plainAbort, numbered, plainCall, plainAfter, plainReplies, plainPlaces}
 use Rattle.rules.specs.Lone.{lone}
-use Rattle.rules.proofs.Serial.Sighted.{Held, Seat, vacant, held, Sighted, startSighted, sighted, among, hit, markAll, lengthAll, SightedTurn, turnedAway, withSeat, telling, sightedBegin, sightedStepped, sightedOn, touch, newlyStale, granting, sightedCommitted, sightedCommit, sightedAbort, windowed, sightedWindow, seated, sightedCall, sightedAfter, sightedReplies, sightedPlaces}
+use Rattle.rules.proofs.Serial.Sighted.{Held, Seat, vacant, held, Back, none, kept, isHeld, noneHeld, returned, sightedReturn, sightedBack, Sighted, startSighted, sighted, among, hit, markAll, lengthAll, SightedTurn, turnedAway, withSeat, telling, sightedBegin, sightedStepped, sightedOn, touch, newlyStale, granting, sightedCommitted, sightedCommit, sightedAbort, windowed, sightedWindow, seated, sightedCall, sightedAfter, sightedReplies, sightedPlaces}
 use Rattle.rules.proofs.Serial.Programs.{among-append, turned-back}
 use Rattle.rules.proofs.Serial.Lists.{items, current, current-entries, current-append, anyTouched, hit-is, markAll-at, lengthAll-at, current-after}
 use Rattle.rules.proofs.Serial.Sound.{Sound, seen-old, lists-same, sound-more, sound-granted, items-more, extended}
-use Rattle.rules.proofs.Serial.Invariant.{SoundSlot, Good, put-keeps, good-call}
+use Rattle.rules.proofs.Serial.Invariant.{SoundSlot, Good, put-keeps, all-closed, good-call}
 
 -- The store of a plain machine: a byte is marked where it was sighted, and a transaction is stale where its two lists differ.
 unfoldable pub heldOf : Plain → Running → Held
@@ -34,15 +34,19 @@ unfoldable pub seatOf : Plain → Slot → Seat
 seatOf p closed = vacant
 seatOf p (running r) = held (heldOf p r)
 
+unfoldable pub backOf : Earlier → Back
+backOf nothing = none
+backOf (found c n) = kept (c .value)
+
 unfoldable pub abs : Plain → Sighted
-abs p = record { fileOf = p .fileOf; value = p .committed .value; windows = p .windows; seats = λ t. seatOf p (p .slots t) }
+abs p = record { fileOf = p .fileOf; value = p .committed .value; windows = p .windows; back = backOf (p .earlier); seats = λ t. seatOf p (p .slots t) }
 
 unfoldable pub absTurn : PlainTurn → SightedTurn
 absTurn τ = record { reply = τ .reply; after = abs (τ .after) }
 
-pub abs-start : (fileOf : ℕ → ℕ) (v : Values) (ws : Windows) → startSighted fileOf v ws ≡ abs (startPlain fileOf v ws)
+pub abs-start : (fileOf : ℕ → ℕ) (v : Values) (ws : Windows) (e : Earlier) → startSighted fileOf v ws (backOf e) ≡ abs (startPlain fileOf v ws e)
 unfolding startSighted abs startPlain seatOf
-abs-start fileOf v ws = refl
+abs-start fileOf v ws e = refl
 
 -- A function with another value at one number, after a map.
 put-map : {A B : Type 0} (f : A → B) (t : ℕ) (a : A) (g : ℕ → A) (u : ℕ) → put t (f a) (λ w. f (g w)) u ≡ f (put t a g u)
@@ -137,7 +141,7 @@ seat-slot t s p (running r) = refl
 abs-slot : (t : ℕ) (s : Slot) (p : Plain) → withSeat t (seatOf p s) (abs p) ≡ abs (withSlot t s p)
 unfolding withSeat abs withSlot
 abs-slot t s p =
-    ap (λ (f : ℕ → Seat). record { fileOf = p .fileOf; value = p .committed .value; windows = p .windows; seats = f })
+    ap (λ (f : ℕ → Seat). record { fileOf = p .fileOf; value = p .committed .value; windows = p .windows; back = backOf (p .earlier); seats = f })
     (fun-ext (λ u. put-map (seatOf p) t s (p .slots) u ∙ seat-slot t s p (put t s (p .slots) u)))
 
 -- Each call: what it gives on a slot, and on that slot's seat.
@@ -239,7 +243,7 @@ module _ (p : Plain) (g : Good p) where
       (t : ℕ) (r : Running)
       → granting t (settings (p .fileOf) (p .committed .value) (r .txn)) (abs p)
       ≡ absTurn (answering (granted (bitsOf (becameStale t p (grant t r p)) 8)) (grant t r p))
-  unfolding granting absTurn answering abs grant committing seatOf SoundSlot withSlot
+  unfolding granting absTurn answering abs grant committing seatOf SoundSlot withSlot backOf
   same-grant t r =
       let ss = settings (p .fileOf) (p .committed .value) (r .txn) in
       let others : ℕ → Slot = put t closed (p .slots) in
@@ -251,7 +255,7 @@ module _ (p : Plain) (g : Good p) where
       (λ (b : ℕ → Bool) (f : ℕ → Seat).
       record {
         reply = record { answer = granted (bitsOf b 8); buffer = [] };
-        after = record { fileOf = p .fileOf; value = landed ss (p .committed .value); windows = p .windows; seats = f };
+        after = record { fileOf = p .fileOf; value = landed ss (p .committed .value); windows = p .windows; back = kept (p .committed .value); seats = f };
       })
       (fun-ext (became-is t r p (g .sound)))
       (fun-ext (λ u. ap (touch ss) (seats u) ∙ touch-is t r p (others u) (sound u)))
@@ -307,9 +311,42 @@ module _ (p : Plain) (g : Good p) where
           → guarded (λ k. turnedAway k [] (abs p)) (isNone n) n (telling plain (windowed f start end (abs p)))
           ≡ absTurn (guarded (λ k. turnedDown k [] p) (isNone n) n (answering plain (withWindows ws p)))
       chosen zero =
-          ap (λ (g : ℕ → Seat). record { reply = record { answer = plain; buffer = [] }; after = record { fileOf = p .fileOf; value = p .committed .value; windows = ws; seats = g } })
+          ap (λ (g : ℕ → Seat). record { reply = record { answer = plain; buffer = [] }; after = record { fileOf = p .fileOf; value = p .committed .value; windows = ws; back = backOf (p .earlier); seats = g } })
           seats-same
       chosen (suc n) = refl
+
+  -- Going back: nobody is open, so that nobody's lists matter.
+  none-is : noneHeld (abs p) ≡ noneRunning p
+  unfolding noneHeld noneRunning abs
+  none-is = ap (λ (f : ℕ → Bool). below f 8) (fun-ext (λ t. ap not (held-is (p .slots t))))
+    where
+      held-is : (s : Slot) → isHeld (seatOf p s) ≡ isRunning s
+      held-is closed = unfold seatOf isHeld isRunning in refl
+      held-is (running r) = unfold seatOf isHeld isRunning in refl
+
+  same-gone : (c : Committed) (n : ℕ) → noneRunning p ≡ true → returned (c .value) (abs p) ≡ abs (goneBack c n p)
+  unfolding returned abs backOf seatOf
+  same-gone c n e =
+      ap (λ (f : ℕ → Seat). record { fileOf = p .fileOf; value = c .value; windows = p .windows; back = none; seats = f })
+      (fun-ext (λ t. seat-gone (p .slots t) (all-closed p g e t)))
+    where
+      seat-gone : (s : Slot) → s ≡ closed → seatOf p s ≡ seatOf (goneBack c n p) s
+      seat-gone s q = ap (seatOf p) q ∙ (unfold seatOf in ap (seatOf (goneBack c n p)) (sym q))
+
+  same-return : (x : Earlier) → noneRunning p ≡ true → sightedReturn (backOf x) (abs p) ≡ absTurn (goBack x p)
+  unfolding sightedReturn backOf goBack absTurn turnedAway turnedDown telling answering
+  same-return nothing e = refl
+  same-return (found c n) e = ap (λ (a : Sighted). record { reply = record { answer = plain; buffer = [] }; after = a }) (same-gone c n e)
+
+  same-back : sightedBack (abs p) ≡ absTurn (plainTakeBack p)
+  unfolding sightedBack plainTakeBack
+  same-back = ap (λ (b : Bool). guarded (λ k. turnedAway k [] (abs p)) b 23 (sightedReturn (abs p .back) (abs p))) none-is ∙ chosen (noneRunning p) refl
+    where
+      chosen : (b : Bool) → noneRunning p ≡ b
+          → guarded (λ k. turnedAway k [] (abs p)) b 23 (sightedReturn (abs p .back) (abs p))
+          ≡ absTurn (guarded (λ k. turnedDown k [] p) b 23 (goBack (p .earlier) p))
+      chosen true e = unfold abs in same-return (p .earlier) e
+      chosen false e = unfold absTurn turnedAway turnedDown in refl
 
   same-numbered :
       (t : ℕ) (buffer : List ℕ) (first : Seat → Sighted → SightedTurn) (second : Slot → Plain → PlainTurn)
@@ -335,6 +372,7 @@ same-call (commit t minute) p g =
 same-call (abort t) p g = same-numbered p g t [] (sightedAbort t) (plainAbort t) (same-abort p g t (p .slots t))
 same-call (places t f out) p g = same-numbered p g t out (sightedPlaces f out) (plainPlaces f out) (same-places p g f out (p .slots t))
 same-call (setWindow f start end) p g = same-window p g f start end
+same-call takeBack p g = same-back p g
 
 pub same-after : (cs : List Call) (p : Plain) → Good p → sightedAfter cs (abs p) ≡ abs (plainAfter cs p)
 unfolding sightedAfter plainAfter absTurn

@@ -1,5 +1,8 @@
 -- The invariant of the plain machine, and that every call keeps it.
-use mathlib.Core.Bool.{Bool, true, false, cond}
+use mathlib.Core.Bool.{Bool, true, false, cond, not, false≢true}
+use mathlib.Core.Logic.{⊎-elim}
+use Rattle.octets.proofs.PartLaws.{le-or-lt}
+use Rattle.ranges.proofs.Laws.{below-at}
 use mathlib.Core.List.{List, [], _∷_}
 use mathlib.Core.Path.{_≡_, refl, sym, ap, _∙_, subst}
 use borrow.Author.Tests.{ne-eqb, leb-true, leb-false}
@@ -13,12 +16,12 @@ use Rattle.ranges.specs.Ranges.{windowRefusal}
 use Rattle.rules.specs.Windows.{forClosed}
 use Rattle.rules.specs.Items.{Item, Values, result, asked}
 use Rattle.rules.specs.Transactions.{put}
-use Rattle.rules.specs.Messages.{Op, bufferOf, places, setWindow}
+use Rattle.rules.specs.Messages.{Op, bufferOf, places, setWindow, takeBack}
 use Rattle.rules.specs.Steps.{Stepped, refuse, accept, step, turnedBack}
 use Rattle.rules.specs.Commits.{settings, fits, commitRefusal}
 use Rattle.rules.specs.Messages.{Call, begin, on, commit, abort}
 use Rattle.rules.specs.Sightings.{entries, Committed}
-use Rattle.rules.specs.Plain.{Running, Slot, closed, running, Plain, withWindows, plainSetWindow, startPlain, isStale, PlainTurn, turnedDown, withSlot, answering, plainBegin, plainStepped, plainOn, committing, grant, plainCommitted, plainCommit, plainAbort, numbered, plainCall, plainAfter, plainPlaces}
+use Rattle.rules.specs.Plain.{Running, Slot, closed, running, Plain, Earlier, nothing, found, isRunning, noneRunning, goneBack, goBack, plainTakeBack, withWindows, plainSetWindow, startPlain, isStale, PlainTurn, turnedDown, withSlot, answering, plainBegin, plainStepped, plainOn, committing, grant, plainCommitted, plainCommit, plainAbort, numbered, plainCall, plainAfter, plainPlaces}
 use Rattle.rules.proofs.Serial.Programs.{turned-back}
 use Rattle.rules.proofs.Serial.Lists.{touched, setBy-at}
 use Rattle.rules.proofs.Serial.Sound.{Sound, sound-begun, sound-more, sound-granted}
@@ -27,11 +30,17 @@ unfoldable pub SoundSlot : (ℕ → ℕ) → Committed → ℕ → Slot → Type
 SoundSlot fileOf c n closed = Unit {0}
 SoundSlot fileOf c n (running r) = Sound fileOf c n r
 
+-- Nor in what the last grant found, above the count that it found.
+abbrev pub GoodEarlier : Earlier → Type 0
+GoodEarlier nothing = Unit {0}
+GoodEarlier (found c n) = (i : Item) → c .setter i ≤ n
+
 -- No setter is above the count of grants, every open transaction is sound, and numbers above 7 are closed.
 pub record Good (p : Plain) : Type 0 where
   pub setters : (i : Item) → p .committed .setter i ≤ p .grants
   pub sound : (t : ℕ) → SoundSlot (p .fileOf) (p .committed) (p .grants) (p .slots t)
   pub above : (t : ℕ) → 7 < t → p .slots t ≡ closed
+  pub earlier : GoodEarlier (p .earlier)
 
 -- A function with another value at one number.
 module _ {A : Type 0} (t : ℕ) (a : A) (f : ℕ → A) where
@@ -47,9 +56,9 @@ module _ {A : Type 0} (t : ℕ) (a : A) (f : ℕ → A) where
   unfolding put
   put-other u h = ap (λ (b : Bool). cond b a (f u)) (ne-eqb u t h)
 
-pub good-start : (fileOf : ℕ → ℕ) (v : Values) (ws : Windows) → Good (startPlain fileOf v ws)
+pub good-start : (fileOf : ℕ → ℕ) (v : Values) (ws : Windows) (e : Earlier) → GoodEarlier e → Good (startPlain fileOf v ws e)
 unfolding startPlain SoundSlot
-good-start fileOf v ws = record { setters = λ i. omega arith; sound = λ t. tt; above = λ t h. refl }
+good-start fileOf v ws e h = record { setters = λ i. omega arith; sound = λ t. tt; above = λ t h. refl; earlier = h }
 
 module _ (p : Plain) (g : Good p) where
   pub sound-at : (t : ℕ) (r : Running) → p .slots t ≡ running r → Sound (p .fileOf) (p .committed) (p .grants) r
@@ -74,6 +83,7 @@ module _ (p : Plain) (g : Good p) where
         setters = g .setters;
         sound = put-keeps t s (p .slots) (SoundSlot (p .fileOf) (p .committed) (p .grants)) h (g .sound);
         above = λ u a. put-other t s (p .slots) u (λ e. omega (arith, leb-true t 7 l)) ∙ g .above u a;
+        earlier = g .earlier;
       }
 
   sound-slot-granted :
@@ -97,6 +107,7 @@ module _ (p : Plain) (g : Good p) where
             put-keeps t closed (p .slots) (SoundSlot (p .fileOf) after (p .grants + 1)) tt
             (λ u. sound-slot-granted r (p .slots u) (g .sound u));
         above = λ u a. put-other t closed (p .slots) u (λ e. omega (arith, leb-true t 7 l)) ∙ g .above u a;
+        earlier = g .setters;
       }
     where
       at-most : (i : Item) (b : Bool) → cond b (p .grants + 1) (p .committed .setter i) ≤ p .grants + 1
@@ -180,8 +191,43 @@ unfolding plainSetWindow turnedDown answering
 good-window f start end p g = chosen (windowRefusal f start end)
   where
     chosen : (n : ℕ) → Good (guarded (λ k. turnedDown k [] p) (isNone n) n (answering plain (withWindows (put f (window start end) (p .windows)) p)) .after)
-    chosen zero = record { setters = g .setters; sound = g .sound; above = g .above }
+    chosen zero = record { setters = g .setters; sound = g .sound; above = g .above; earlier = g .earlier }
     chosen (suc n) = g
+
+-- Nobody is open where none of the eight is.
+module _ (p : Plain) (g : Good p) where
+  slot-closed : (s : Slot) → not (isRunning s) ≡ true → s ≡ closed
+  unfolding isRunning
+  slot-closed closed e = refl
+  slot-closed (running r) e = absurd (false≢true e)
+
+  pub all-closed : noneRunning p ≡ true → (t : ℕ) → p .slots t ≡ closed
+  unfolding noneRunning
+  all-closed e t =
+      ⊎-elim (λ l. g .above t (omega arith)) (λ l. slot-closed (p .slots t) (below-at (λ u. not (isRunning (p .slots u))) 8 t e l)) (le-or-lt 8 t)
+
+  good-gone : (c : Committed) (n : ℕ) → GoodEarlier (found c n) → noneRunning p ≡ true → Good (goneBack c n p)
+  unfolding SoundSlot
+  good-gone c n h e =
+      record {
+        setters = h;
+        sound = λ t. subst (SoundSlot (p .fileOf) c n) (sym (all-closed e t)) tt;
+        above = g .above;
+        earlier = tt;
+      }
+
+  good-back : (x : Earlier) → GoodEarlier x → noneRunning p ≡ true → Good (goBack x p .after)
+  unfolding goBack turnedDown answering
+  good-back nothing h e = g
+  good-back (found c n) h e = good-gone c n h e
+
+  good-taken : Good (plainTakeBack p .after)
+  unfolding plainTakeBack turnedDown
+  good-taken = chosen (noneRunning p) refl
+    where
+      chosen : (b : Bool) → noneRunning p ≡ b → Good (guarded (λ n. turnedDown n [] p) b 23 (goBack (p .earlier) p) .after)
+      chosen true e = good-back (p .earlier) (g .earlier) e
+      chosen false e = g
 
 pub good-call : (c : Call) (p : Plain) → Good p → Good (plainCall c p .after)
 unfolding plainCall
@@ -191,6 +237,7 @@ good-call (commit t minute) p g = good-numbered p g t [] (plainCommit t minute) 
 good-call (abort t) p g = good-numbered p g t [] (plainAbort t) (λ l. good-abort p g t l (p .slots t))
 good-call (places t f out) p g = good-numbered p g t out (plainPlaces f out) (λ l. good-places f out (p .slots t) p g)
 good-call (setWindow f start end) p g = good-window f start end p g
+good-call takeBack p g = good-taken p g
 
 pub good-after : (cs : List Call) (p : Plain) → Good p → Good (plainAfter cs p)
 unfolding plainAfter

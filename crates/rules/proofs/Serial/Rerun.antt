@@ -65,13 +65,13 @@ module _ {A : Type 0} (t : ℕ) where
 slot-own : (t : ℕ) (s : Slot) (p : Plain) → p .slots t ≡ s → withSlot t s p ≡ p
 unfolding withSlot
 slot-own t s p e =
-    ap (λ (f : ℕ → Slot). record { fileOf = p .fileOf; committed = p .committed; grants = p .grants; windows = p .windows; slots = f })
+    ap (λ (f : ℕ → Slot). record { fileOf = p .fileOf; committed = p .committed; grants = p .grants; windows = p .windows; earlier = p .earlier; slots = f })
     (ap (λ (x : Slot). put t x (p .slots)) (sym e) ∙ put-own t (p .slots))
 
 slot-twice : (t : ℕ) (s r : Slot) (p : Plain) → withSlot t s (withSlot t r p) ≡ withSlot t s p
 unfolding withSlot
 slot-twice t s r p =
-    ap (λ (f : ℕ → Slot). record { fileOf = p .fileOf; committed = p .committed; grants = p .grants; windows = p .windows; slots = f }) (put-twice t s r (p .slots))
+    ap (λ (f : ℕ → Slot). record { fileOf = p .fileOf; committed = p .committed; grants = p .grants; windows = p .windows; earlier = p .earlier; slots = f }) (put-twice t s r (p .slots))
 
 -- ---- the accepted calls of one transaction
 

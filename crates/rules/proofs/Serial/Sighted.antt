@@ -10,13 +10,13 @@ use Prim.Native.Nat.{ℕ, zero, suc}
 use Rattle.octets.specs.Bits.{bitsOf}
 use Rattle.record.specs.declared.outcomes.Refusal.the-variants.{Stale}
 use Rattle.record.specs.Paper.{number, Said, plain, granted, refused}
-use Rattle.ranges.specs.Below.{guarded, isNone}
+use Rattle.ranges.specs.Below.{guarded, isNone, below}
 use Rattle.ranges.specs.Ranges.{windowRefusal}
 use Rattle.rules.specs.Windows.{forClosed}
 use Rattle.rules.specs.Items.{Item, byte, offset, fileLength, same, Values, Prog, result, asked}
 use Rattle.standings.specs.Table.{isKnown}
 use Rattle.rules.specs.Transactions.{Txn, empty, put}
-use Rattle.rules.specs.Messages.{Op, bufferOf, places, setWindow}
+use Rattle.rules.specs.Messages.{Op, bufferOf, places, setWindow, takeBack}
 use Rattle.rules.specs.Steps.{Stepped, refuse, accept, step, turnedBack}
 use Rattle.rules.specs.Commits.{Setting, settings, fits, landed, commitRefusal}
 use Rattle.rules.specs.Messages.{Call, begin, on, commit, abort, Reply}
@@ -31,14 +31,20 @@ pub data Seat : Type 0 where
   vacant : Seat
   held : Held → Seat
 
+-- 02, F-13: the values that the last grant found, as long as it can be taken back.
+pub data Back : Type 0 where
+  none : Back
+  kept : Values → Back
+
 pub record Sighted : Type 0 where
   pub fileOf : ℕ → ℕ
   pub value : Values
   pub windows : Windows
+  pub back : Back
   pub seats : ℕ → Seat
 
-unfoldable pub startSighted : (ℕ → ℕ) → Values → Windows → Sighted
-startSighted fileOf v windows = record { fileOf = fileOf; value = v; windows = windows; seats = λ t. vacant }
+unfoldable pub startSighted : (ℕ → ℕ) → Values → Windows → Back → Sighted
+startSighted fileOf v windows back = record { fileOf = fileOf; value = v; windows = windows; back = back; seats = λ t. vacant }
 
 -- A byte is sighted where it is marked, an offset where its descriptor stands Known, and a length where it is held so.
 unfoldable pub sighted : Held → Item → Bool
@@ -75,7 +81,7 @@ unfoldable pub turnedAway : ℕ → List ℕ → Sighted → SightedTurn
 turnedAway n buffer s = record { reply = record { answer = refused n; buffer = buffer }; after = s }
 
 unfoldable pub withSeat : ℕ → Seat → Sighted → Sighted
-withSeat t x s = record { fileOf = s .fileOf; value = s .value; windows = s .windows; seats = put t x (s .seats) }
+withSeat t x s = record { fileOf = s .fileOf; value = s .value; windows = s .windows; back = s .back; seats = put t x (s .seats) }
 
 unfoldable pub telling : Said → Sighted → SightedTurn
 telling a s = record { reply = record { answer = a; buffer = [] }; after = s }
@@ -116,7 +122,7 @@ granting t ss s =
     let others = put t vacant (s .seats) in
     record {
       reply = record { answer = granted (bitsOf (λ u. newlyStale ss (others u)) 8); buffer = [] };
-      after = record { fileOf = s .fileOf; value = landed ss (s .value); windows = s .windows; seats = λ u. touch ss (others u) };
+      after = record { fileOf = s .fileOf; value = landed ss (s .value); windows = s .windows; back = kept (s .value); seats = λ u. touch ss (others u) };
     }
 
 unfoldable pub sightedCommitted : ℕ → Held → Sighted → ℕ → SightedTurn
@@ -144,12 +150,29 @@ sightedPlaces f out (held h) s = record { reply = placesOf (s .fileOf) f out (h 
 -- With another window for file f.
 unfoldable pub windowed : ℕ → ℕ → ℕ → Sighted → Sighted
 windowed f start end s =
-    record { fileOf = s .fileOf; value = s .value; windows = put f (window start end) (s .windows); seats = s .seats }
+    record { fileOf = s .fileOf; value = s .value; windows = put f (window start end) (s .windows); back = s .back; seats = s .seats }
 
 unfoldable pub sightedWindow : ℕ → ℕ → ℕ → Sighted → SightedTurn
 sightedWindow f start end s =
     let n = windowRefusal f start end in
     guarded (λ k. turnedAway k [] s) (isNone n) n (telling plain (windowed f start end s))
+
+unfoldable pub isHeld : Seat → Bool
+isHeld vacant = false
+isHeld (held h) = true
+
+unfoldable pub noneHeld : Sighted → Bool
+noneHeld s = below (λ t. not (isHeld (s .seats t))) 8
+
+unfoldable pub returned : Values → Sighted → Sighted
+returned v s = record { fileOf = s .fileOf; value = v; windows = s .windows; back = none; seats = s .seats }
+
+unfoldable pub sightedReturn : Back → Sighted → SightedTurn
+sightedReturn none s = turnedAway 24 [] s
+sightedReturn (kept v) s = telling plain (returned v s)
+
+unfoldable pub sightedBack : Sighted → SightedTurn
+sightedBack s = guarded (λ k. turnedAway k [] s) (noneHeld s) 23 (sightedReturn (s .back) s)
 
 unfoldable pub seated : ℕ → List ℕ → (Seat → Sighted → SightedTurn) → Sighted → SightedTurn
 seated t buffer next s = cond (leb t 7) (next (s .seats t) s) (turnedAway 3 buffer s)
@@ -161,6 +184,7 @@ sightedCall (commit t minute) s = seated t [] (sightedCommit t minute) s
 sightedCall (abort t) s = seated t [] (sightedAbort t) s
 sightedCall (places t f out) s = seated t out (sightedPlaces f out) s
 sightedCall (setWindow f start end) s = sightedWindow f start end s
+sightedCall takeBack s = sightedBack s
 
 unfoldable pub sightedAfter : List Call → Sighted → Sighted
 sightedAfter [] s = s

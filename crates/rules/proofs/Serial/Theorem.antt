@@ -16,38 +16,38 @@ use Rattle.rules.specs.Messages.{Op, Call, on, commit}
 use Rattle.rules.specs.Steps.{looks}
 use Rattle.rules.specs.Demand3.{IsAccepted, OneMoment}
 use Rattle.rules.specs.Sightings.{sameEntries}
-use Rattle.rules.specs.Plain.{Running, Slot, running, Plain, startPlain, ops, firstList, secondList, isStale, PlainTurn, turnedDown, answering, plainCommitted, plainCommit, numbered, plainCall, plainAfter, plainReplies}
+use Rattle.rules.specs.Plain.{Running, Slot, running, Plain, Earlier, startPlain, ops, firstList, secondList, isStale, PlainTurn, turnedDown, answering, plainCommitted, plainCommit, numbered, plainCall, plainAfter, plainReplies}
 use Rattle.rules.specs.Lone.{lone}
-use Rattle.rules.specs.Grants.{grantsOf, rerun, sameReplies, serialStart}
+use Rattle.rules.specs.Grants.{serialOf, rerun, sameReplies}
 use Rattle.rules.proofs.Serial.Alone.{serially, AllSame}
 use Rattle.rules.proofs.Serial.Sighted.{startSighted, SightedTurn, sightedCall, sightedAfter, sightedReplies}
 use Rattle.rules.proofs.Serial.Commits.{Tells, commit-tells, daily-commit}
 use Rattle.rules.proofs.Serial.Rerun.{Reran, reran}
 use Rattle.rules.proofs.Serial.Sound.{recorded}
-use Rattle.rules.proofs.Serial.Invariant.{Good, good-start, good-after, sound-at, open-number}
-use Rattle.rules.proofs.Serial.FirstHalf.{abs, abs-start, absTurn, same-call, same-after, same-replies}
+use Rattle.rules.proofs.Serial.Invariant.{Good, GoodEarlier, good-start, good-after, sound-at, open-number}
+use Rattle.rules.proofs.Serial.FirstHalf.{backOf, abs, abs-start, absTurn, same-call, same-after, same-replies}
 use Rattle.rules.proofs.Serial.Moments.{plain-moment}
-use Rattle.rules.proofs.Serial.SecondHalf.{files-kept, in-order, alone-recorded}
+use Rattle.rules.proofs.Serial.SecondHalf.{files-kept, InOrder, in-order-from, alone-recorded}
 
-module _ (fileOf : ℕ → ℕ) (v : Values) (ws : Windows) (cs : List Call) where
+module _ (fileOf : ℕ → ℕ) (v : Values) (ws : Windows) (e : Earlier) (h : GoodEarlier e) (cs : List Call) where
   -- The machine after the list of calls.
   abbrev pub reached : Plain
-  reached = plainAfter cs (startPlain fileOf v ws)
+  reached = plainAfter cs (startPlain fileOf v ws e)
 
-  pub reached-good : Good (plainAfter cs (startPlain fileOf v ws))
-  reached-good = good-after cs (startPlain fileOf v ws) (good-start fileOf v ws)
+  pub reached-good : Good (plainAfter cs (startPlain fileOf v ws e))
+  reached-good = good-after cs (startPlain fileOf v ws e) (good-start fileOf v ws e h)
 
   -- "That the store returns the same refusals is part of demand 3": all replies are the same, refusals, answers, Commit's number
   -- and the reader's buffers.
-  pub replies-same : sightedReplies cs (startSighted fileOf v ws) ≡ plainReplies cs (startPlain fileOf v ws)
-  replies-same = ap (sightedReplies cs) (abs-start fileOf v ws) ∙ same-replies cs (startPlain fileOf v ws) (good-start fileOf v ws)
+  pub replies-same : sightedReplies cs (startSighted fileOf v ws (backOf e)) ≡ plainReplies cs (startPlain fileOf v ws e)
+  replies-same = ap (sightedReplies cs) (abs-start fileOf v ws e) ∙ same-replies cs (startPlain fileOf v ws e) (good-start fileOf v ws e h)
 
-  pub state-same : sightedAfter cs (startSighted fileOf v ws) ≡ abs (plainAfter cs (startPlain fileOf v ws))
-  state-same = ap (sightedAfter cs) (abs-start fileOf v ws) ∙ same-after cs (startPlain fileOf v ws) (good-start fileOf v ws)
+  pub state-same : sightedAfter cs (startSighted fileOf v ws (backOf e)) ≡ abs (plainAfter cs (startPlain fileOf v ws e))
+  state-same = ap (sightedAfter cs) (abs-start fileOf v ws e) ∙ same-after cs (startPlain fileOf v ws e) (good-start fileOf v ws e h)
 
   -- The turn of one more call.
   pub turn-same :
-      (c : Call) → sightedCall c (sightedAfter cs (startSighted fileOf v ws)) ≡ absTurn (plainCall c (plainAfter cs (startPlain fileOf v ws)))
+      (c : Call) → sightedCall c (sightedAfter cs (startSighted fileOf v ws (backOf e))) ≡ absTurn (plainCall c (plainAfter cs (startPlain fileOf v ws e)))
   turn-same c = ap (sightedCall c) state-same ∙ same-call c reached reached-good
 
   -- A Commit after the list is refused with 13 exactly when the two lists of its transaction differ at that moment: by the machine,
@@ -62,8 +62,8 @@ module _ (fileOf : ℕ → ℕ) (v : Values) (ws : Windows) (cs : List Call) whe
   pub store-commit :
       (t minute : ℕ) (r : Running)
       → reached .slots t ≡ running r
-      → (sightedCall (commit t minute) (sightedAfter cs (startSighted fileOf v ws)) .reply .answer ≡ refused 22 → ⊥)
-      → Tells (sightedCall (commit t minute) (sightedAfter cs (startSighted fileOf v ws)) .reply .answer) r reached
+      → (sightedCall (commit t minute) (sightedAfter cs (startSighted fileOf v ws (backOf e))) .reply .answer ≡ refused 22 → ⊥)
+      → Tells (sightedCall (commit t minute) (sightedAfter cs (startSighted fileOf v ws (backOf e))) .reply .answer) r reached
   unfolding absTurn
   store-commit t minute r o h =
       let e = turn-same (commit t minute) in
@@ -71,29 +71,30 @@ module _ (fileOf : ℕ → ℕ) (v : Values) (ws : Windows) (cs : List Call) whe
       (machine-commit t minute r o (λ k. h (ap (λ (τ : SightedTurn). τ .reply .answer) e ∙ k)))
 
   -- "the granted ones are run alone .., in the order of their grants": each meets no refusal and gives the same answers and bytes,
-  -- and together they leave the files and offsets of the machine.
-  serial-same : AllSame fileOf 0 (grantsOf cs (startPlain fileOf v ws)) (startPlain fileOf v ws .committed)
+  -- and together they leave the files and offsets of the machine. Those that were taken back are left out.
+  in-serial : InOrder (serialOf cs (startPlain fileOf v ws e)) (plainAfter cs (startPlain fileOf v ws e))
   unfolding startPlain
-  serial-same = in-order cs (startPlain fileOf v ws) (good-start fileOf v ws) .same
+  in-serial = in-order-from cs (startPlain fileOf v ws e) (good-start fileOf v ws e h) (λ u. refl)
 
-  serial-left :
-      serially fileOf 0 (grantsOf cs (startPlain fileOf v ws)) (startPlain fileOf v ws .committed) ≡ plainAfter cs (startPlain fileOf v ws) .committed
-  unfolding startPlain
-  serial-left = in-order cs (startPlain fileOf v ws) (good-start fileOf v ws) .left
-
-  -- They are run again with Fresh's windows.
-  reran-again : Reran (grantsOf cs (startPlain fileOf v ws)) (serialStart (startPlain fileOf v ws))
-  unfolding startPlain serialStart
-  reran-again = reran (grantsOf cs (startPlain fileOf v ws)) (serialStart (startPlain fileOf v ws)) refl (λ u. refl) serial-same
+  reran-again : Reran (serialOf cs (startPlain fileOf v ws e) .grants) (serialOf cs (startPlain fileOf v ws e) .start)
+  reran-again =
+      let i = in-serial in
+      reran (serialOf cs (startPlain fileOf v ws e) .grants) (serialOf cs (startPlain fileOf v ws e) .start) (i .windows) (i .idle)
+      (subst (λ (f : ℕ → ℕ). AllSame f (serialOf cs (startPlain fileOf v ws e) .start .grants) (serialOf cs (startPlain fileOf v ws e) .grants) (serialOf cs (startPlain fileOf v ws e) .start .committed))
+      (sym (i .files)) (i .same))
 
   pub again-same :
-      plainReplies (rerun (grantsOf cs (startPlain fileOf v ws))) (serialStart (startPlain fileOf v ws)) ≡ sameReplies (grantsOf cs (startPlain fileOf v ws))
+      let s = serialOf cs (startPlain fileOf v ws e) in
+      plainReplies (rerun (s .grants)) (s .start) ≡ sameReplies (s .grants)
   again-same = reran-again .replies
 
   pub again-left :
-      plainAfter (rerun (grantsOf cs (startPlain fileOf v ws))) (serialStart (startPlain fileOf v ws)) .committed
-      ≡ plainAfter cs (startPlain fileOf v ws) .committed
-  again-left = reran-again .left ∙ (unfold startPlain serialStart in serial-left)
+      let s = serialOf cs (startPlain fileOf v ws e) in
+      plainAfter (rerun (s .grants)) (s .start) .committed ≡ plainAfter cs (startPlain fileOf v ws e) .committed
+  again-left =
+      let i = in-serial in
+      let s = serialOf cs (startPlain fileOf v ws e) in
+      reran-again .left ∙ ap (λ (f : ℕ → ℕ). serially f (s .start .grants) (s .grants) (s .start .committed)) (i .files) ∙ i .left
 
   -- An open transaction that is not stale, run alone on the committed state: it gets through its accepted calls, with the
   -- recorded replies, and stands and has written as recorded.
@@ -112,4 +113,4 @@ module _ (fileOf : ℕ → ℕ) (v : Values) (ws : Windows) (cs : List Call) whe
   -- Every descriptor's file stays the one that Fresh was given.
   pub files-same : reached .fileOf ≡ fileOf
   unfolding startPlain
-  files-same = files-kept cs (startPlain fileOf v ws)
+  files-same = files-kept cs (startPlain fileOf v ws e)

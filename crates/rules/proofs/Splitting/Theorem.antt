@@ -23,7 +23,7 @@ use Rattle.rules.specs.Commits.{Setting, setsOffset, offsetSettings, set
 use Rattle.rules.specs.Splitting.{further, through, Split, SplitTxn, Accepts, Moment, AcceptsAll, stop, next, SameStep, SameCommit, SplitsAlike}
 use Rattle.rules.proofs.Serial.Rerun.{put-same, put-twice}
 use Rattle.rules.proofs.View.Kept.{total-append}
-use Rattle.rules.proofs.Splitting.Writes.{adds-up, covered-split, unplaced-split, closed-split, byte-settings-split, length-settings-split, last-split}
+use Rattle.rules.proofs.Splitting.Writes.{adds-up, covered-split, unplaced-split, closed-split, byte-settings-split, length-settings-split, old-split, last-split}
 use Rattle.rules.proofs.Splitting.Steps.{txn, Beside, InStep, write-asks, step-split}
 
 -- Two transactions with a split have the same standings and dirty descriptors.
@@ -202,6 +202,7 @@ module _ (fileOf : ℕ → ℕ) where
       record {
         sets = settings-same v (x .standing) (x .dirty) (x .writes) (y .writes) (s .writes) ∙ ap (settings fileOf v) back;
         placing = fits-same v (x .standing) (x .dirty) (x .writes) (y .writes) (s .writes) ∙ ap (fits v) back;
+        old = λ files inside. old-split fileOf v (x .writes) (y .writes) (s .writes) files inside;
         closed = λ windows minute. closed-split fileOf windows minute (x .writes) (y .writes) (s .writes);
       }
 

@@ -10,7 +10,10 @@ use lib.ListN.{length, getD, length-append, List·getD-append}
 use lib.Seq.{getD-append-add}
 use native.Mathlib.Omega.{arith}
 use Prim.Native.Nat.{ℕ, zero, suc, _+_, _-_, _*_, _≤_, _<_, max}
-use Rattle.octets.proofs.PartLaws.{le-or-lt}
+use Rattle.octets.specs.Parts.{cut, pasted}
+use Rattle.octets.proofs.PartLaws.{le-or-lt, length-pasted}
+use Rattle.undo.specs.OldBytes.{Landing, landing, spanOf, oldBytes, Inside}
+use Rattle.undo.proofs.OldBytesLaws.{old-joined}
 use Rattle.windows.specs.Hours.{Windows, isClosedAt}
 use Rattle.standings.specs.declared.Standing.{Standing}
 use Rattle.standings.specs.declared.Standing.the-variants.{Untouched, Placed, Deferred, Moved, Known}
@@ -24,6 +27,7 @@ use Rattle.rules.specs.Steps.{total}
 use Rattle.rules.specs.Coverage.{someWrite, coversPlace, covered, noPlace, unplacedOn, unplaced}
 use Rattle.rules.specs.Windows.{isForClosed, forClosed}
 use Rattle.rules.specs.Commits.{Setting, landsAt, stretch, byteSettings, landedEnd, lengthSettings}
+use Rattle.rules.specs.Undo.{landingOf, landingsOf}
 use Rattle.rules.specs.Splitting.{further, AddsUp, through, Split, here, there}
 
 -- ---- the one fact
@@ -219,20 +223,41 @@ stretch-append q (x ∷ a) b =
     ap (λ (l : List Setting). record { item = byte q; to = x } ∷ l)
     (stretch-append (suc q) a b ∙ ap (λ (k : ℕ). stretch (suc q) a ++ stretch k b) e)
 
+old-after : (w : Landing) (ws vs : List Landing) (files : List ℕ) → let next = pasted files (w .at) (w .bytes) in
+    oldBytes ws next ≡ oldBytes vs next → oldBytes (w ∷ ws) files ≡ oldBytes (w ∷ vs) files
+unfolding oldBytes
+old-after w ws vs files e = ap (λ (l : List ℕ). cut files (w .at) (length (w .bytes)) ++ l) e
+
 module _ (fileOf : ℕ → ℕ) (v : Values) where
+  -- The second write lands where the first ends.
+  lands-behind : (d : ℕ) (q : Place) (n : ℕ)
+      → 4096 * fileOf d + landsAt (v (offset d)) (further n q) ≡ 4096 * fileOf d + landsAt (v (offset d)) q + n
+  lands-behind d q n =
+      ap (λ (k : ℕ). 4096 * fileOf d + k) (lands-further (v (offset d)) n q) ∙ sym (adding (4096 * fileOf d) (landsAt (v (offset d)) q) n)
+
   pub byte-settings-split : (xs ys : List Write) → Split xs ys → byteSettings fileOf v xs ≡ byteSettings fileOf v ys
   unfolding byteSettings
   byte-settings-split xs ys (here d q a b ws) =
-      let lands = landsAt (v (offset d)) q in
-      let p = 4096 * fileOf d + lands in
-      let e : 4096 * fileOf d + landsAt (v (offset d)) (further (length a) q) ≡ p + length a =
-      ap (λ (k : ℕ). 4096 * fileOf d + k) (lands-further (v (offset d)) (length a) q) ∙ sym (adding (4096 * fileOf d) lands (length a)) in
-      ap (λ (k : ℕ). stretch p a ++ (stretch k b ++ byteSettings fileOf v ws)) e
+      let p = 4096 * fileOf d + landsAt (v (offset d)) q in
+      ap (λ (k : ℕ). stretch p a ++ (stretch k b ++ byteSettings fileOf v ws)) (lands-behind d q (length a))
       ∙ sym (append-assoc (stretch p a) (stretch (p + length a) b) (byteSettings fileOf v ws))
       ∙ ap (λ (l : List Setting). l ++ byteSettings fileOf v ws) (sym (stretch-append p a b))
   byte-settings-split xs ys (there w ws vs s) =
       ap (λ (l : List Setting). stretch (4096 * fileOf (w .descriptor) + landsAt (v (offset (w .descriptor))) (w .place)) (w .bytes) ++ l)
       (byte-settings-split ws vs s)
+
+  -- They land on the same bytes.
+  pub old-split : (xs ys : List Write) → Split xs ys → (files : List ℕ) → Inside (length files) (map spanOf (landingsOf fileOf v ys))
+      → oldBytes (landingsOf fileOf v xs) files ≡ oldBytes (landingsOf fileOf v ys) files
+  unfolding landingOf
+  old-split xs ys (here d q a b ws) files h =
+      let p = 4096 * fileOf d + landsAt (v (offset d)) q in
+      ap (λ (k : ℕ). oldBytes (landing p a ∷ (landing k b ∷ landingsOf fileOf v ws)) files) (lands-behind d q (length a))
+      ∙ old-joined p a b (landingsOf fileOf v ws) files (h .0)
+  old-split xs ys (there w ws vs s) files h =
+      let p = 4096 * fileOf (w .descriptor) + landsAt (v (offset (w .descriptor))) (w .place) in
+      old-after (landing p (w .bytes)) (landingsOf fileOf v ws) (landingsOf fileOf v vs) files
+      (old-split ws vs s (pasted files p (w .bytes)) (rw (length-pasted files p (w .bytes) (h .0)) (h .1)))
 
   landed-end-split : (f : ℕ) (xs ys : List Write) → Split xs ys → landedEnd fileOf v f xs ≡ landedEnd fileOf v f ys
   unfolding landedEnd

@@ -31,7 +31,8 @@ use Rattle.rules.proofs.View.Asked.{asked-in}
 use Rattle.rules.proofs.View.Kept.{pieces, piecesAfter, Kept, step-kept}
 use Rattle.rules.proofs.View.Decode.{dataBefore, Carries, total-pieces, decoded-total, decoded-carries, decoded-in}
 use Rattle.rules.proofs.View.Others.{LogsApart, txn-same}
-use Rattle.rules.proofs.View.Encode.{own-transaction, encoded, other-same, encoded-in, encoded-shaped, encoded-long}
+use Rattle.rules.proofs.View.Back.{back-same}
+use Rattle.rules.proofs.View.Encode.{own-transaction, encoded, other-same, grant-same, encoded-in, encoded-shaped, encoded-long}
 use Rattle.rules.proofs.View.Logged.{logged-carries, logged-apart}
 
 -- "files at most 7", of every number.
@@ -130,6 +131,7 @@ module _ (m : Machine) (t : ℕ) (o : Op) (sound : Sound m) (small : t < 8) (beg
           files = sound .files;
           logs = apart .size ∙ sound .logs;
           marks = length-marked t (sightings m t o) (m .marks) ∙ sound .marks;
+          undo = sound .undo;
           inRange = encoded-in (m .store) (m .journal) t y (sightings m t o) (sound .shaped) (sound .journal) small (kept .ranges) (sound .inRange);
         }
 
@@ -190,4 +192,13 @@ module _ (m : Machine) (t : ℕ) (o : Op) (sound : Sound m) (small : t < 8) (beg
 
     pub view-after : view after ≡ withSeat t (held new) (view m)
     unfolding view withSeat machineAfter fileOf withTxn withTransaction
-    view-after = λ i. record { fileOf = fileOf (m .store); value = fun-ext values-after i; windows = windowAt (m .store); seats = fun-ext seats-after i }
+    view-after =
+        let b = back-same m after (grant-same (m .store) (m .journal) t y (sightings m t o) (sound .shaped) (sound .journal) small (kept .ranges) range) refl refl refl refl in
+        λ i.
+        record {
+          fileOf = fileOf (m .store);
+          value = fun-ext values-after i;
+          windows = windowAt (m .store);
+          back = b i;
+          seats = fun-ext seats-after i;
+        }

@@ -21,7 +21,7 @@ Agrees a b = (a .reply ≡ b .reply) × (view (a .after) ≡ b .after) × Sound 
 -- 1 and 2 are not met.
 pub first-is : (m : Machine) (later : ℕ) → Sound m → firstTests (sizes m) (m .store) (m .journal) later ≡ later
 unfolding firstTests sizesIn unless
-first-is m later sound = rw (sound .files, sound .logs, sound .marks, sound .inRange)
+first-is m later sound = rw (sound .files, sound .logs, sound .marks, sound .undo, sound .inRange)
 
 module _ (m : Machine) (t : ℕ) (sound : Sound m) where
   pub shared-is : (later : ℕ)

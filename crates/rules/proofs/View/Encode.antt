@@ -18,11 +18,11 @@ use Rattle.record.specs.declared.Transaction.{Transaction}
 use Rattle.record.specs.declared.Store.{Store}
 use Rattle.record.specs.declared.journal.WriteRecord.{WriteRecord}
 use Rattle.record.specs.State.{transaction, standingAt, dirtyAt, noDescriptor, noTransaction}
-use Rattle.record.specs.Journal.{writeRecordAt}
+use Rattle.record.specs.Journal.{grantStretch, writeRecordAt}
 use Rattle.record.proofs.JournalLaws.{length-with, read-own, read-elsewhere}
 use Rattle.ranges.specs.Below.{sum}
 use Rattle.ranges.specs.Ranges.{standingIn, recordIn, lengthsBefore, storeIn}
-use Rattle.ranges.proofs.Laws.{and-both, sum-same, TransactionInRange, in-range, in-range-intro}
+use Rattle.ranges.proofs.Laws.{and-both, sum-same, TransactionInRange, InRange, in-range, in-range-intro}
 use Rattle.rules.specs.Items.{Item}
 use Rattle.rules.specs.Transactions.{Txn, Write}
 use Rattle.rules.specs.Steps.{total}
@@ -32,9 +32,10 @@ use Rattle.rules.proofs.View.Shape.{Shaped, TxnIn}
 use Rattle.rules.proofs.View.Tables.{same-or-not, tabulate-same, tabulate-getD, getD-map}
 use Rattle.rules.proofs.View.Kept.{pieces}
 use Rattle.rules.proofs.View.Decode.{dataBefore, Carries, total-pieces}
+use Rattle.rules.proofs.View.Back.{SameGrant, undo-same}
 use Rattle.rules.proofs.View.Others.{SameAt, range-same}
 
-module _ (s : Store) (journal : List ℕ) (t : ℕ) (y : Txn) (is : List Item) (shaped : Shaped s) (long : length journal ≡ 1536) (small : t < 8) (h : TxnIn y) where
+module _ (s : Store) (journal : List ℕ) (t : ℕ) (y : Txn) (is : List Item) (shaped : Shaped s) (long : length journal ≡ 1728) (small : t < 8) (h : TxnIn y) where
   abbrev after-journal : List ℕ
   after-journal = journalled t (y .writes) journal
 
@@ -76,7 +77,7 @@ module _ (s : Store) (journal : List ℕ) (t : ℕ) (y : Txn) (is : List Item) (
   own-written : (k : ℕ) → k < length (y .writes) → writeRecordAt after-journal t k ≡ recordOf (getD (y .writes) k noWrite)
   unfolding journalled
   own-written k l =
-      read-own journal t (λ j. recordOf (getD (y .writes) j noWrite)) long small (length (y .writes)) k (h .records) l
+      read-own journal t (λ j. recordOf (getD (y .writes) j noWrite)) long (omega arith) (length (y .writes)) k (h .records) l
       (unfold recordOf in h .writes k l .descriptor)
 
   own-length : (k : ℕ) → k < length (y .writes) → writeRecordAt after-journal t k .length ≡ length (getD (y .writes) k noWrite .bytes)
@@ -160,8 +161,14 @@ module _ (s : Store) (journal : List ℕ) (t : ℕ) (y : Txn) (is : List Item) (
   other-same u m other =
       record {
         transaction = getD-set-other (s .transactions) t u (holding y (sightingLengths is (transaction s t))) noTransaction other;
-        records = λ k l. read-elsewhere journal t (λ j. recordOf (getD (y .writes) j noWrite)) long small (length (y .writes)) u k (h .records) m l other;
+        records = λ k l. read-elsewhere journal t (λ j. recordOf (getD (y .writes) j noWrite)) long (omega arith) (length (y .writes)) u k (h .records) (omega arith) l other;
       }
+
+  pub grant-same : InRange s journal → SameGrant (s .undo) after-journal journal
+  unfolding journalled
+  grant-same r held k l =
+      read-elsewhere journal t (λ j. recordOf (getD (y .writes) j noWrite)) long (omega arith) (length (y .writes)) grantStretch k (h .records) (omega arith)
+      (omega (arith, r .undo held .records)) (λ q. omega arith)
 
   -- ---- the whole record
 
@@ -173,6 +180,7 @@ module _ (s : Store) (journal : List ℕ) (t : ℕ) (y : Txn) (is : List Item) (
         offsets = unfold withTxn withTransaction in in-range s journal e .offsets;
         lengths = unfold withTxn withTransaction in in-range s journal e .lengths;
         windows = unfold withTxn withTransaction in in-range s journal e .windows;
+        undo = unfold withTxn withTransaction in (λ b. undo-same (s .undo) after-journal journal (grant-same (in-range s journal e)) b (in-range s journal e .undo b));
         transactions = λ u l b. ⊎-elim (λ same. rw same own-range) (elsewhere u l b) (same-or-not u t);
       })
     where
@@ -190,6 +198,8 @@ module _ (s : Store) (journal : List ℕ) (t : ℕ) (y : Txn) (is : List Item) (
         offsets = shaped .offsets;
         lengths = shaped .lengths;
         windows = shaped .windows;
+        foundOffsets = shaped .foundOffsets;
+        foundLengths = shaped .foundLengths;
         transactions = length-set (s .transactions) t (holding y (sightingLengths is (transaction s t))) ∙ shaped .transactions;
         descriptors = λ u l. ⊎-elim (here u) (elsewhere u l) (same-or-not u t);
       }
@@ -203,6 +213,6 @@ module _ (s : Store) (journal : List ℕ) (t : ℕ) (y : Txn) (is : List Item) (
       elsewhere : (u : ℕ) → u < 8 → (u ≡ t → ⊥) → length (transaction (withTxn t y is s) u .descriptors) ≡ 16
       elsewhere u l ne = ap (λ (x : Transaction). length (x .descriptors)) (other-same u l ne .transaction) ∙ shaped .descriptors u l
 
-  pub encoded-long : length after-journal ≡ 1536
+  pub encoded-long : length after-journal ≡ 1728
   unfolding journalled
   encoded-long = length-with journal t (λ k. recordOf (getD (y .writes) k noWrite)) (length (y .writes)) ∙ long

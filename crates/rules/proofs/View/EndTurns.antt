@@ -21,7 +21,7 @@ use Rattle.rules.proofs.View.Decode.{decoded-in}
 use Rattle.rules.proofs.View.Admissions.{Agrees, shared-is, admitted-agrees}
 use Rattle.rules.proofs.View.Renewed.{ended-bare, begun-bare}
 use Rattle.rules.proofs.View.Resets.{reset-sound, reset-view}
-use Rattle.rules.proofs.View.SettingsIn.{AllIn, settings-in}
+use Rattle.rules.proofs.View.Shape.{TxnIn}
 use Rattle.rules.proofs.View.Grants.{granted-sound, granted-view, granted-reply}
 
 module _ (m : Machine) (t : ℕ) (sound : Sound m) where
@@ -58,15 +58,16 @@ module _ (m : Machine) (t : ℕ) (sound : Sound m) where
       listed = unfold placesTurn sightedPlaces heldBy view in (refl, refl, sound)
 
   -- 22, 13, 21, 12, or granted.
-  decides : t < 8 → (daily p shut q : Bool) → (q ≡ true → AllIn (settingsOf m t))
-      → Agrees (commitDecided t (settingsOf m t) m (commitRefusal daily p shut q)) (sightedCommitted t (heldBy m t) (view m) (commitRefusal daily p shut q))
+  decides : t < 8 → TxnIn (txnOf (m .store) (m .journal) (m .logs) t) → (daily p shut q : Bool) → fits (values (m .store) (m .files)) (txnOf (m .store) (m .journal) (m .logs) t) ≡ q
+      → Agrees (commitDecided t (txnOf (m .store) (m .journal) (m .logs) t) (settingsOf m t) m (commitRefusal daily p shut q)) (sightedCommitted t (heldBy m t) (view m) (commitRefusal daily p shut q))
   unfolding commitRefusal commitDecided sightedCommitted heldBy view ended
-  decides l false p shut q h = (refl, refl, sound)
-  decides l true true shut q h = (refl, reset-view t ended m l ended-bare sound, reset-sound t ended m l ended-bare sound)
-  decides l true false true q h = (refl, refl, sound)
-  decides l true false false false h = (refl, refl, sound)
-  decides l true false false true h =
-      (granted-reply m t (settingsOf m t), granted-view m t (settingsOf m t) l sound (h refl), granted-sound m t (settingsOf m t) l sound (h refl))
+  decides l h false p shut q e = (refl, refl, sound)
+  decides l h true true shut q e = (refl, reset-view t ended m l ended-bare sound, reset-sound t ended m l ended-bare sound)
+  decides l h true false true q e = (refl, refl, sound)
+  decides l h true false false false e = (refl, refl, sound)
+  decides l h true false false true e =
+      let x = txnOf (m .store) (m .journal) (m .logs) t in
+      (granted-reply m t x l sound h e, granted-view m t x l sound h e, granted-sound m t x l sound h e)
 
   commit-next : (minute : ℕ) → t < 8 → transaction (m .store) t .begun ≡ true
       → Agrees (commitTurn t minute m) (sightedCommit t minute (held (heldBy m t)) (view m))
@@ -75,9 +76,8 @@ module _ (m : Machine) (t : ℕ) (sound : Sound m) where
       let r = in-range (m .store) (m .journal) (sound .inRange) in
       let v = values (m .store) (m .files) in
       let x = txnOf (m .store) (m .journal) (m .logs) t in
-      decides l (minuteIn minute) (transaction (m .store) t .stale) (forClosed (fileOf (m .store)) (windowAt (m .store)) minute (x .writes)) (fits v x)
-      (settings-in (fileOf (m .store)) v x (r .files)
-      (decoded-in (m .store) (m .journal) (m .logs) t (sound .logs) l (r .transactions t l b) (sound .shaped .descriptors t l)))
+      decides l (decoded-in (m .store) (m .journal) (m .logs) t (sound .logs) l (r .transactions t l b) (sound .shaped .descriptors t l))
+      (minuteIn minute) (transaction (m .store) t .stale) (forClosed (fileOf (m .store)) (windowAt (m .store)) minute (x .writes)) (fits v x) refl
 
   pub commit-turn : (minute : ℕ) → Agrees (call (commit t minute) m) (sightedCall (commit t minute) (view m))
   unfolding call sightedCall sightedCommit

@@ -15,8 +15,8 @@ use Rattle.ranges.specs.Ranges.{windowIn}
 use Rattle.rules.specs.Items.{Item, byte, offset, fileLength, Values}
 use Rattle.rules.specs.Machine.{fileOf, values}
 use Rattle.rules.specs.Calls.{freshStore, freshMachine}
-use Rattle.rules.proofs.Serial.Sighted.{Seat, vacant, startSighted}
-use Rattle.rules.proofs.View.Shape.{heldBy, seat, view, Shaped, Sound}
+use Rattle.rules.proofs.Serial.Sighted.{Seat, vacant, none, startSighted}
+use Rattle.rules.proofs.View.Shape.{heldBy, seat, backIn, view, Shaped, Sound}
 use Rattle.rules.proofs.View.Endings.{seat-in, seat-out}
 
 -- Zeros, inside and past the end.
@@ -34,18 +34,18 @@ always (suc n) (suc k) = always n k
 length-zeros : (n : ℕ) → length (replicate n zero) ≡ n
 length-zeros n = length-replicate n zero
 
-module _ (numbers : List ℕ) (logs : List ℕ) where
+module _ (numbers : List ℕ) (logs old : List ℕ) where
   ended-at : (u : ℕ) → u < 8 → transaction (freshStore numbers) u ≡ ended
   unfolding freshStore
   ended-at u l = getD-replicate 8 u ended noTransaction l
 
-  pub closed-at : (u : ℕ) → u < 8 → transaction (freshMachine numbers logs .store) u .begun ≡ false
+  pub closed-at : (u : ℕ) → u < 8 → transaction (freshMachine numbers logs old .store) u .begun ≡ false
   unfolding freshMachine ended
   closed-at u l = ap (λ (x : Transaction). x .begun) (ended-at u l)
 
-  seats : (u : ℕ) → (8 ≤ u) ⊎ (u < 8) → seat (freshMachine numbers logs) u ≡ vacant
-  seats u (inl l) = seat-out (freshMachine numbers logs) u l
-  seats u (inr l) = seat-in (freshMachine numbers logs) u false (heldBy (freshMachine numbers logs) u) l (closed-at u l) refl
+  seats : (u : ℕ) → (8 ≤ u) ⊎ (u < 8) → seat (freshMachine numbers logs old) u ≡ vacant
+  seats u (inl l) = seat-out (freshMachine numbers logs old) u l
+  seats u (inr l) = seat-in (freshMachine numbers logs old) u false (heldBy (freshMachine numbers logs old) u) l (closed-at u l) refl
 
   fresh-values : (n : ℕ) (i : Item) → values (freshStore numbers) (replicate n 0) i ≡ 0
   unfolding values freshStore
@@ -53,13 +53,13 @@ module _ (numbers : List ℕ) (logs : List ℕ) where
   fresh-values n (offset d) = zeros 16 d
   fresh-values n (fileLength f) = zeros 8 f
 
-  pub fresh-view : view (freshMachine numbers logs) ≡ startSighted (λ d. getD numbers d 0) (λ i. 0) freshWindows
-  unfolding view startSighted freshMachine freshStore fileOf
+  pub fresh-view : view (freshMachine numbers logs old) ≡ startSighted (λ d. getD numbers d 0) (λ i. 0) freshWindows none
+  unfolding view startSighted freshMachine freshStore fileOf backIn
   fresh-view =
-      let e : _≡_ {A = ℕ → Seat} (seat (freshMachine numbers logs)) (λ u. vacant) = fun-ext (λ u. seats u (le-or-lt 8 u)) in
+      let e : _≡_ {A = ℕ → Seat} (seat (freshMachine numbers logs old)) (λ u. vacant) = fun-ext (λ u. seats u (le-or-lt 8 u)) in
       let f : _≡_ {A = Values} (values (freshStore numbers) (replicate 32768 0)) (λ i. 0) = fun-ext (fresh-values 32768) in
       let w : _≡_ {A = Windows} (windowAt (freshStore numbers)) freshWindows = fun-ext (always 8) in
-      λ i. record { fileOf = λ d. getD numbers d 0; value = f i; windows = w i; seats = e i }
+      λ i. record { fileOf = λ d. getD numbers d 0; value = f i; windows = w i; back = none; seats = e i }
 
   fresh-shaped : length numbers ≡ 16 → Shaped (freshStore numbers)
   unfolding freshStore ended
@@ -69,11 +69,13 @@ module _ (numbers : List ℕ) (logs : List ℕ) where
         offsets = length-zeros 16;
         lengths = length-zeros 8;
         windows = length-replicate 8 freshWindow;
+        foundOffsets = length-zeros 16;
+        foundLengths = length-zeros 8;
         transactions = length-replicate 8 ended;
         descriptors = λ u l. ap (λ (x : Transaction). length (x .descriptors)) (ended-at u l) ∙ length-replicate 16 noDescriptor;
       }
 
-  fresh-in : ((d : ℕ) → d < 16 → getD numbers d 0 ≤ 7) → InRange (freshStore numbers) (replicate 1536 0)
+  fresh-in : ((d : ℕ) → d < 16 → getD numbers d 0 ≤ 7) → InRange (freshStore numbers) (replicate 1728 0)
   unfolding freshStore ended
   fresh-in h =
       record {
@@ -81,17 +83,19 @@ module _ (numbers : List ℕ) (logs : List ℕ) where
         offsets = λ d l. rw (zeros 16 d) (omega arith);
         lengths = λ f l. rw (zeros 8 f) (omega arith);
         windows = λ f l. rw (always 8 f) (unfold windowIn minuteIn in refl);
+        undo = λ h. absurd (true≢false (sym h));
         transactions = λ u l b. absurd (true≢false (sym b ∙ ap (λ (x : Transaction). x .begun) (ended-at u l)));
       }
 
-  pub fresh-sound : length numbers ≡ 16 → ((d : ℕ) → d < 16 → getD numbers d 0 ≤ 7) → length logs ≡ 32768 → Sound (freshMachine numbers logs)
+  pub fresh-sound : length numbers ≡ 16 → ((d : ℕ) → d < 16 → getD numbers d 0 ≤ 7) → length logs ≡ 32768 → length old ≡ 4096 → Sound (freshMachine numbers logs old)
   unfolding freshMachine
-  fresh-sound e h g =
+  fresh-sound e h g k =
       record {
         shaped = fresh-shaped e;
-        journal = length-zeros 1536;
+        journal = length-zeros 1728;
         files = length-zeros 32768;
         logs = g;
         marks = length-zeros 32768;
-        inRange = in-range-intro (freshStore numbers) (replicate 1536 0) (fresh-in h);
+        undo = k;
+        inRange = in-range-intro (freshStore numbers) (replicate 1728 0) (fresh-in h);
       }

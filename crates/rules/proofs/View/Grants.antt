@@ -2,7 +2,7 @@
 use mathlib.Core.Bool.{Bool, true, false, cond, not, _&&_, _||_}
 use mathlib.Core.List.{List, []}
 use mathlib.Core.Logic.{_⊎_, inl, inr}
-use mathlib.Core.Path.{_≡_, refl, sym, ap, _∙_, fun-ext}
+use mathlib.Core.Path.{_≡_, refl, sym, ap, _∙_, fun-ext, subst}
 use lib.Dec.{eqb}
 use lib.ListN.{getD}
 use Prim.Native.Nat.{ℕ, _≤_, _<_}
@@ -16,16 +16,34 @@ use Rattle.record.specs.State.{transaction, noTransaction, ended, windowAt}
 use Rattle.record.specs.Paper.{granted}
 use Rattle.ranges.proofs.Laws.{in-range}
 use Rattle.rules.specs.Transactions.{put}
-use Rattle.rules.specs.Commits.{Setting, landed}
-use Rattle.rules.specs.Machine.{Machine, fileOf}
-use Rattle.rules.specs.Calls.{landFiles, landOffsets, landLengths, conflicts, staled, afterCommit, commitGranted}
-use Rattle.rules.proofs.Serial.Sighted.{Seat, vacant, held, touch, granting}
-use Rattle.rules.proofs.View.Shape.{heldBy, seat, view, Sound}
+use Rattle.octets.specs.Bits.{bitsOf}
+use Rattle.rules.specs.Items.{Item, byte, offset, fileLength}
+use Rattle.rules.specs.Transactions.{Txn}
+use Rattle.rules.specs.Commits.{Setting, landed, settings, fits}
+use Rattle.rules.specs.Machine.{Machine, fileOf, values}
+use Rattle.rules.specs.Undo.{keepingFound}
+use Rattle.rules.specs.Calls.{Turn, landFiles, landOffsets, landLengths, conflicts, staled, afterCommit, becomesStale, commitGranted}
+use Rattle.rules.proofs.Serial.Sighted.{Seat, vacant, held, kept, touch, newlyStale, granting}
+use Rattle.rules.proofs.View.Shape.{heldBy, seat, backValues, backIn, view, Sound, TxnIn}
 use Rattle.rules.proofs.View.Renewed.{ended-bare, Alike, Carried, same-values}
 use Rattle.rules.proofs.View.Endings.{ending, staleAs, seat-in, seat-out, ending-sound, ending-seat}
-use Rattle.rules.proofs.View.SettingsIn.{AllIn}
+use Rattle.rules.proofs.View.SettingsIn.{AllIn, settings-in}
+use Rattle.rules.proofs.View.Keeping.{keeping-sound, keeping-seat, files-back}
 use Rattle.rules.proofs.View.Landing.{length-files, length-offsets, length-lengths, limit-landed, limit-lengths, all-landed}
 use Rattle.rules.proofs.View.Conflicts.{conflicts-hit, octet-same}
+
+-- A granted Commit on a store that keeps what it found already.
+unfoldable pub grantedOn : ℕ → List Setting → Machine → Turn
+grantedOn t ss m =
+    let s = m .store in
+    record {
+      reply = record { answer = granted (bitsOf (becomesStale t (m .marks) ss s) 8); buffer = [] };
+      after = ending t (landOffsets ss (s .offsets)) (landLengths ss (s .lengths)) (tabulate (afterCommit t (m .marks) ss s) 8) (landFiles ss (m .files)) m;
+    }
+
+pub kept-first : (t : ℕ) (x : Txn) (ss : List Setting) (m : Machine) → commitGranted t x ss m ≡ grantedOn t ss (keepingFound x m)
+unfolding commitGranted grantedOn keepingFound afterCommit becomesStale
+kept-first t x ss m = refl
 
 module _ (m : Machine) (t : ℕ) (ss : List Setting) where
   ts : List Transaction
@@ -80,9 +98,9 @@ module _ (m : Machine) (t : ℕ) (ss : List Setting) where
     seats u false e = other-seat u (eqb-false u t e) (le-or-lt 8 u)
 
     module _ (sound : Sound m) (inside : AllIn ss) where
-      pub granted-sound : Sound (commitGranted t ss m .after)
-      unfolding commitGranted after ts
-      granted-sound =
+      on-sound : Sound (grantedOn t ss m .after)
+      unfolding grantedOn after ts
+      on-sound =
           let r = in-range (m .store) (m .journal) (sound .inRange) in
           ending-sound t (landOffsets ss (m .store .offsets)) (landLengths ss (m .store .lengths)) ts (landFiles ss (m .files)) m sound (λ u l. carried u l (eqb u t) refl)
           (length-offsets ss (m .store .offsets) ∙ sound .shaped .offsets)
@@ -92,16 +110,92 @@ module _ (m : Machine) (t : ℕ) (ss : List Setting) where
           (length-tabulate (afterCommit t (m .marks) ss (m .store)) 8)
           (length-files ss (m .files) ∙ sound .files)
 
-      pub granted-view : view (commitGranted t ss m .after) ≡ granting t ss (view m) .after
-      unfolding commitGranted granting view after ts put fileOf
-      granted-view =
-          let e : _≡_ {A = ℕ → Seat} (seat after) (λ u. touch ss (put t vacant (seat m) u)) = fun-ext (λ u. seats u (eqb u t) refl) in
-          let f =
+      on-seats : _≡_ {A = ℕ → Seat} (seat (grantedOn t ss m .after)) (λ u. touch ss (put t vacant (seat m) u))
+      unfolding grantedOn after ts put
+      on-seats = fun-ext (λ u. seats u (eqb u t) refl)
+
+      on-values : values (grantedOn t ss m .after .store) (grantedOn t ss m .after .files) ≡ landed ss (values (m .store) (m .files))
+      unfolding grantedOn ts
+      on-values =
           all-landed ts (m .store) ss (m .store .offsets) (m .store .lengths) (m .files) inside (sound .shaped .offsets) (sound .shaped .lengths)
           (sound .files)
-          ∙ ap (landed ss) (same-values ts (m .store) (m .files)) in
-          λ i. record { fileOf = fileOf (m .store); value = f i; windows = windowAt (m .store); seats = e i }
+          ∙ ap (landed ss) (same-values ts (m .store) (m .files))
 
-  pub granted-reply : commitGranted t ss m .reply ≡ granting t ss (view m) .reply
-  unfolding commitGranted granting view
-  granted-reply = ap (λ (n : ℕ). record { answer = granted n; buffer = [] }) (octet-same m t ss)
+  on-reply : grantedOn t ss m .reply ≡ granting t ss (view m) .reply
+  unfolding grantedOn granting view
+  on-reply = ap (λ (n : ℕ). record { answer = granted n; buffer = [] }) (octet-same m t ss)
+
+-- A grant of transaction t, as x, in range and with a placing that fits.
+module _ (m : Machine) (t : ℕ) (x : Txn) (small : t < 8) (sound : Sound m) (ranges : TxnIn x) (fit : fits (values (m .store) (m .files)) x ≡ true) where
+  abbrev mine : List Setting
+  mine = settings (fileOf (m .store)) (values (m .store) (m .files)) x
+
+  abbrev first : Machine
+  first = keepingFound x m
+
+  all-in : AllIn mine
+  unfolding fileOf
+  all-in = settings-in (fileOf (m .store)) (values (m .store) (m .files)) x (in-range (m .store) (m .journal) (sound .inRange) .files) ranges fit
+
+  first-sound : Sound first
+  first-sound = keeping-sound m x sound ranges fit
+
+  pub granted-sound : Sound (commitGranted t x mine m .after)
+  granted-sound = subst (λ (τ : Turn). Sound (τ .after)) (sym (kept-first t x mine m)) (on-sound first t mine small first-sound all-in)
+
+  first-values : values (first .store) (first .files) ≡ values (m .store) (m .files)
+  unfolding keepingFound
+  first-values = fun-ext each
+    where
+      each : (i : Item) → values (first .store) (first .files) i ≡ values (m .store) (m .files) i
+      each (byte q) = unfold values keepingFound in refl
+      each (offset d) = unfold values keepingFound in refl
+      each (fileLength f) = unfold values keepingFound in refl
+
+  pub granted-values : values (commitGranted t x mine m .after .store) (commitGranted t x mine m .after .files) ≡ landed mine (values (m .store) (m .files))
+  granted-values =
+      ap (λ (τ : Turn). values (τ .after .store) (τ .after .files)) (kept-first t x mine m)
+      ∙ on-values first t mine small first-sound all-in
+      ∙ ap (landed mine) first-values
+
+  first-seats : _≡_ {A = ℕ → Seat} (seat first) (seat m)
+  first-seats = fun-ext (keeping-seat m x sound ranges fit)
+
+  seats-granted : _≡_ {A = ℕ → Seat} (seat (commitGranted t x mine m .after)) (λ u. touch mine (put t vacant (seat m) u))
+  seats-granted =
+      ap (λ (τ : Turn). seat (τ .after)) (kept-first t x mine m)
+      ∙ on-seats first t mine small first-sound all-in
+      ∙ fun-ext (λ u. ap (λ (f : ℕ → Seat). touch mine (put t vacant f u)) first-seats)
+
+  -- It goes back to what it found.
+  pub granted-back : (i : Item) → backValues (commitGranted t x mine m .after) i ≡ values (m .store) (m .files) i
+  unfolding backValues values commitGranted keepingFound
+  granted-back (byte q) = ap (λ (l : List ℕ). getD l q 0) (files-back m x sound ranges fit (commitGranted t x mine m .after .store) refl refl)
+  granted-back (offset d) = refl
+  granted-back (fileLength f) = refl
+
+  pub granted-kept : backIn (commitGranted t x mine m .after) ≡ kept (values (m .store) (m .files))
+  unfolding backIn commitGranted keepingFound
+  granted-kept = ap kept (fun-ext granted-back)
+
+  pub granted-view : view (commitGranted t x mine m .after) ≡ granting t mine (view m) .after
+  unfolding granting view commitGranted fileOf keepingFound
+  granted-view =
+      let e = seats-granted in
+      let f = granted-values in
+      let b = granted-kept in
+      λ i.
+      record {
+        fileOf = fileOf (m .store);
+        value = f i;
+        windows = windowAt (m .store);
+        back = b i;
+        seats = e i;
+      }
+
+  pub granted-reply : commitGranted t x mine m .reply ≡ granting t mine (view m) .reply
+  unfolding granting view
+  granted-reply =
+      ap (λ (τ : Turn). τ .reply) (kept-first t x mine m)
+      ∙ on-reply first t mine
+      ∙ (unfold granting view in ap (λ (f : ℕ → Seat). record { answer = granted (bitsOf (λ u. newlyStale mine (put t vacant f u)) 8); buffer = [] }) first-seats)

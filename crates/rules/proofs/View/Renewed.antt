@@ -124,6 +124,7 @@ module _ (offsets lengths : List ℕ) (ts : List Transaction) (s : Store) (journ
         offsets = h;
         lengths = k;
         windows = r .windows;
+        undo = r .undo;
         transactions = λ u l b. carried-in offsets lengths ts s journal u (carried u l) b (r .transactions u l);
       }
 
@@ -134,6 +135,8 @@ module _ (offsets lengths : List ℕ) (ts : List Transaction) (s : Store) (journ
         offsets = e;
         lengths = k;
         windows = r .windows;
+        foundOffsets = r .foundOffsets;
+        foundLengths = r .foundLengths;
         transactions = f;
         descriptors = λ u l. carried-length (transaction s u) (getD ts u noTransaction) (carried u l) (r .descriptors u l);
       }

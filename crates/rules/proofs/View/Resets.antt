@@ -25,6 +25,7 @@ use Rattle.rules.specs.Calls.{reset}
 use Rattle.rules.proofs.Serial.Sighted.{Seat, vacant, held, withSeat}
 use Rattle.rules.proofs.View.Shape.{heldBy, seat, view, Sound}
 use Rattle.rules.proofs.View.Renewed.{Alike, Bare, Carried, bare-standing, bare-dirty, same-values}
+use Rattle.rules.proofs.View.Back.{back-same}
 use Rattle.rules.proofs.View.Endings.{ending, staleAs, seat-in, seat-out, unmarked-own, ending-sound, ending-seat}
 
 alike-same : (x y : Transaction) → y ≡ x → Alike x y
@@ -107,4 +108,5 @@ module _ (t : ℕ) (x : Transaction) (m : Machine) (small : t < 8) (bare : Bare 
   reset-view =
       let e : _≡_ {A = ℕ → Seat} (seat (reset t x m)) (put t (newSeat x) (seat m)) = fun-ext (λ u. seats u (eqb u t) refl) in
       let f = same-values ts (m .store) (m .files) in
-      λ i. record { fileOf = fileOf (m .store); value = f i; windows = windowAt (m .store); seats = e i }
+      let b = back-same m after (λ h k l. refl) refl refl refl refl in
+      λ i. record { fileOf = fileOf (m .store); value = f i; windows = windowAt (m .store); back = b i; seats = e i }

@@ -13,10 +13,13 @@ use Rattle.standings.specs.declared.Place.{Place}
 use Rattle.standings.specs.declared.Place.the-variants.{At}
 use Rattle.record.specs.State.{transaction, windowAt}
 use Rattle.ranges.specs.Ranges.{standingIn, placeIn, storeIn}
+use Rattle.undo.specs.OldBytes.{putBack}
+use Rattle.rules.specs.Items.{byte, offset, fileLength, Values}
+use Rattle.rules.specs.Undo.{landedOn}
 use Rattle.rules.specs.Transactions.{Txn, Write}
 use Rattle.rules.specs.Steps.{total}
 use Rattle.rules.specs.Machine.{Machine, fileOf, values, txnOf, noWrite}
-use Rattle.rules.proofs.Serial.Sighted.{Held, Seat, vacant, held, Sighted}
+use Rattle.rules.proofs.Serial.Sighted.{Held, Seat, vacant, held, Back, none, kept, Sighted}
 
 unfoldable pub heldBy : Machine → ℕ → Held
 heldBy m u =
@@ -30,8 +33,18 @@ heldBy m u =
 unfoldable pub seat : Machine → ℕ → Seat
 seat m u = cond (leb u 7 && transaction (m .store) u .begun) (held (heldBy m u)) vacant
 
+-- The values that the last grant found, as the store holds them; and whether it holds any.
+unfoldable pub backValues : Machine → Values
+backValues m (byte q) = getD (putBack (landedOn (m .store) (m .journal)) (m .undo) (m .files)) q 0
+backValues m (offset d) = getD (m .store .undo .offsets) d 0
+backValues m (fileLength f) = getD (m .store .undo .lengths) f 0
+
+unfoldable pub backIn : Machine → Back
+backIn m = cond (m .store .undo .held) (kept (backValues m)) none
+
 unfoldable pub view : Machine → Sighted
-view m = record { fileOf = fileOf (m .store); value = values (m .store) (m .files); windows = windowAt (m .store); seats = seat m }
+view m =
+    record { fileOf = fileOf (m .store); value = values (m .store) (m .files); windows = windowAt (m .store); back = backIn m; seats = seat m }
 
 -- The lengths that the record's types give its arrays.
 pub record Shaped (s : Store) : Type 0 where
@@ -39,16 +52,19 @@ pub record Shaped (s : Store) : Type 0 where
   pub offsets : length (s .offsets) ≡ 16
   pub lengths : length (s .lengths) ≡ 8
   pub windows : length (s .windows) ≡ 8
+  pub foundOffsets : length (s .undo .offsets) ≡ 16
+  pub foundLengths : length (s .undo .lengths) ≡ 8
   pub transactions : length (s .transactions) ≡ 8
   pub descriptors : (t : ℕ) → t < 8 → length (transaction s t .descriptors) ≡ 16
 
 -- A store that meets neither 1 nor 2.
 pub record Sound (m : Machine) : Type 0 where
   pub shaped : Shaped (m .store)
-  pub journal : length (m .journal) ≡ 1536
+  pub journal : length (m .journal) ≡ 1728
   pub files : length (m .files) ≡ 32768
   pub logs : length (m .logs) ≡ 32768
   pub marks : length (m .marks) ≡ 32768
+  pub undo : length (m .undo) ≡ 4096
   pub inRange : storeIn (m .store) (m .journal) ≡ true
 
 -- Check 2 for one transaction as it is meant.

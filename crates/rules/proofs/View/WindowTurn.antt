@@ -22,6 +22,7 @@ use Rattle.rules.specs.Machine.{Machine, sizes, withStore, fileOf, value
 use Rattle.rules.specs.Calls.{answer, turnDown, passing, windowTurn, call}
 use Rattle.rules.proofs.Serial.Sighted.{turnedAway, telling, windowed, sightedWindow, sightedCall}
 use Rattle.rules.proofs.View.Shape.{heldBy, seat, view, Sound}
+use Rattle.rules.proofs.View.Back.{back-same}
 use Rattle.rules.proofs.View.Admissions.{Agrees, first-is}
 
 module _ (m : Machine) (f start end : ℕ) (sound : Sound m) where
@@ -56,7 +57,8 @@ module _ (m : Machine) (f start end : ℕ) (sound : Sound m) where
         let e = fun-ext (λ g. windows-at g (eqb g f) refl) in
         let v = fun-ext after-values in
         let s = fun-ext after-seat in
-        λ i. record { fileOf = fileOf (m .store); value = v i; windows = e i; seats = s i }
+        let b = back-same m after (λ h k l. refl) refl refl refl refl in
+        λ i. record { fileOf = fileOf (m .store); value = v i; windows = e i; back = b i; seats = s i }
 
     module _ (minutes : windowIn w ≡ true) where
       after-in : (g : ℕ) → g < 8 → (b : Bool) → eqb g f ≡ b → windowIn (getD ws g freshWindow) ≡ true
@@ -73,6 +75,8 @@ module _ (m : Machine) (f start end : ℕ) (sound : Sound m) where
                   offsets = sound .shaped .offsets;
                   lengths = sound .shaped .lengths;
                   windows = length-set (m .store .windows) f w ∙ sound .shaped .windows;
+                  foundOffsets = sound .shaped .foundOffsets;
+                  foundLengths = sound .shaped .foundLengths;
                   transactions = sound .shaped .transactions;
                   descriptors = sound .shaped .descriptors;
                 };
@@ -80,6 +84,7 @@ module _ (m : Machine) (f start end : ℕ) (sound : Sound m) where
             files = sound .files;
             logs = sound .logs;
             marks = sound .marks;
+            undo = sound .undo;
             inRange =
                 in-range-intro (after .store) (m .journal)
                 (record {
@@ -87,6 +92,7 @@ module _ (m : Machine) (f start end : ℕ) (sound : Sound m) where
                   offsets = r .offsets;
                   lengths = r .lengths;
                   windows = λ g l. after-in g l (eqb g f) refl;
+                  undo = r .undo;
                   transactions = r .transactions;
                 });
           }

@@ -14,18 +14,18 @@ returns c = refused-line _ _ (c .before .before .parse .ensures) (c .enum-told .
 
 sub-perform : tie.Need-sub-perform
 sub-perform c =
-    let told = c .before .before .before .before .before in
+    let told = c .before .before .before .before .before .before in
     omega (arith, starts-within _ _ (told .before .before .parse .ensures) _ _ (told .p .given .1))
 
 part-perform-start : tie.Need-part-perform-start
 part-perform-start c =
-    let told = c .before .before .before .before .before in
+    let told = c .before .before .before .before .before .before in
     omega (arith, starts-within _ _ (told .before .before .parse .ensures) _ _ (told .p .given .1))
 
 returns-2 : tie.Need-returns-2
 returns-2 c =
     let performed = c .before .before in
-    let told = performed .before .before .before .before .before .before .before .before in
+    let told = performed .before .before .before .before .before .before .before .before .before in
     let parsed = told .before .before in
     asked-line (parsed .before .before .before .args .line .now) _ (parsed .parse .ensures) _ _ (told .p .given .1) _ _ _ _ _ (performed .perform .ensures .0)
 

@@ -7,7 +7,7 @@ use Rattle.trace.proofs.ended.Tie as tie
 returns : tie.Need-returns
 returns c =
     let told = c .before .before .before .before .before .before in
-    let start = told .before .before .before .before .before .before .before .before .before .before .before .before .before .before in
+    let start = told .before .before .before .before .before .before .before .before .before .before .before .before .before .before .before in
     record { held = omega (arith, c .written .ensures .1, told .told .ensures .1 .1, start .pre .0 .held); waiting = omega (arith, c .written .ensures .0) }
 
 pub ended-spec : {M : Type 1} → statement M

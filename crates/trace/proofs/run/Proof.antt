@@ -8,21 +8,21 @@ use Rattle.trace.proofs.run.Statement.{statement}
 use Rattle.trace.proofs.run.Tie as tie
 
 abbrev Inv-loop : tie.InvT-loop
-Inv-loop kept₀ files₀ logs₀ marks₀ line₀ reader₀ input₀ out₀ c₀ turns₀ kept files logs marks line reader input out c turns =
+Inv-loop kept₀ files₀ logs₀ marks₀ undo₀ line₀ reader₀ input₀ out₀ c₀ turns₀ kept files logs marks undo line reader input out c turns =
     Running c × Room reader out × (length line ≡ 129) × (length input ≡ length input₀)
 
 abbrev μ-loop : tie.MeasureT-loop
-μ-loop kept₀ files₀ logs₀ marks₀ line₀ reader₀ input₀ out₀ c₀ turns₀ kept files logs marks line reader input out c turns = turns
+μ-loop kept₀ files₀ logs₀ marks₀ undo₀ line₀ reader₀ input₀ out₀ c₀ turns₀ kept files logs marks undo line reader input out c turns = turns
 
 turn-requires : tie.Need-turn-requires Inv-loop μ-loop
 turn-requires c κs =
-    let i = c .before .before .before .before .before .before .before .before .before .loop .inv in
+    let i = c .before .before .before .before .before .before .before .before .before .before .loop .inv in
     (i .0, (record { readable = i .1 .readable; printable = i .1 .printable }, i .2))
 
 loop-again : tie.Need-loop-again Inv-loop μ-loop
 loop-again c =
     let turned = c .before .before .before .before .before .before .before .before .before in
-    let i = turned .before .before .before .before .before .before .before .before .before .before .loop .inv in
+    let i = turned .before .before .before .before .before .before .before .before .before .before .before .loop .inv in
     let k = turned .turn .kept in (
       turned .turn .ensures,
       record { readable = omega (arith, i .1 .readable, k); printable = omega (arith, i .1 .printable, k) },

@@ -7,7 +7,7 @@ use Rattle.trace.proofs.turn.Tie as tie
 written-requires : tie.Need-written-requires
 written-requires c κs =
     let took = c .before .before .before .before .before .before .before in
-    let start = took .before .before .before .before .before .before .before .before .before .before .before .before .before .before .before .before .before .before .before .before in
+    let start = took .before .before .before .before .before .before .before .before .before .before .before .before .before .before .before .before .before .before .before .before .before in
     omega (arith, took .taken .ensures .waiting, took .taken .kept, start .pre .1 .0 .printable)
 
 pub turn-spec : {M : Type 1} → statement M

@@ -7,11 +7,11 @@ use Rattle.workload.proofs.run.Statement.{statement}
 use Rattle.workload.proofs.run.Tie as tie
 
 abbrev Inv-loop : tie.InvT-loop
-Inv-loop kept₀ files₀ logs₀ marks₀ bytes₀ reader₀ c₀ i₀ kept files logs marks bytes reader c i =
+Inv-loop kept₀ files₀ logs₀ marks₀ undo₀ bytes₀ reader₀ c₀ i₀ kept files logs marks undo bytes reader c i =
     Running c × (i ≤ 300000) × (length bytes ≡ length bytes₀) × (length reader ≡ length reader₀)
 
 abbrev μ-loop : tie.MeasureT-loop
-μ-loop kept₀ files₀ logs₀ marks₀ bytes₀ reader₀ c₀ i₀ kept files logs marks bytes reader c i =
+μ-loop kept₀ files₀ logs₀ marks₀ undo₀ bytes₀ reader₀ c₀ i₀ kept files logs marks undo bytes reader c i =
     300000 - i
 
 loop-holds : tie.Need-loop-holds Inv-loop μ-loop

@@ -9,7 +9,7 @@ use Rattle.record.specs.declared.Transaction.{Transaction}
 use Rattle.record.specs.declared.outcomes.Refusal.the-variants.{NotOpen, SettledPastEnd, FileClosed, NoSuchMinute}
 use Rattle.record.specs.State.{transaction}
 use Rattle.record.proofs.LayoutLaws.{length-journal, transaction-of}
-use Rattle.ranges.specs.Ranges.{admission}
+use Rattle.ranges.specs.Ranges.{lengthsBefore, admission}
 use Rattle.ranges.proofs.Laws.{in-range, failed, held}
 use Rattle.rules.specs.Messages.{Call}
 use Rattle.rules.specs.Machine.{Machine}
@@ -27,11 +27,11 @@ use Rattle.committing.proofs.commit_call.commit.Tie as tie
 
 -- What the caller lent.
 abbrev machine : tie.Start → Machine
-machine c = machineOf (c .args .kept .now) (c .args .files .now) (c .args .logs .now) (c .args .marks .now)
+machine c = machineOf (c .args .kept .now) (c .args .files .now) (c .args .logs .now) (c .args .marks .now) (c .args .undo .now)
 
 -- The start of a call that tests 1 to 3 have let through, and what they told.
 abbrev start-of : tie.After-enum-told → tie.Start
-start-of c = c .before .before .before .before .before .before .before
+start-of c = c .before .before .before .before .before .before .before .before
 
 passed : (c : tie.After-enum-told) → sharedWith (machine (start-of c)) (start-of c .args .t) 0 ≡ 0
 passed c = gate-passed _ (machine (start-of c)) (start-of c .args .t) (c .before .before .admit .ensures .0) (c .enum-told .given .1)
@@ -94,10 +94,10 @@ unlocked c =
 returns : tie.Need-returns
 unfolding call admitted admission
 returns c =
-    let start = c .before .before .before .before .before .before .before .before in
+    let start = c .before .before .before .before .before .before .before .before .before in
     let m = machine start in
     let e = gate-refused _ m (start .args .t) (c .before .before .before .admit .ensures .0) _ _ [] (turn-of start) (c .before .g .given .1) in
-    turned-follows _ [] _ _ _ _ _ e
+    turned-follows _ [] _ _ _ _ _ _ e
 
 transaction-at-requires : tie.Need-transaction-at-requires
 transaction-at-requires c κs = let-through (c .before) .small
@@ -110,14 +110,14 @@ returns-2 c =
     let m = machine start in
     let closed = is-closed (start .args .kept .now) (start .args .t) (let-through told .small)
     (ap (λ (x : Transaction). x .begun) (c .before .before .transaction-at .ensures)) (c .if1 .taken) in
-    turned-follows NotOpen [] _ _ _ _ _ (admitted-closed m (start .args .t) (passed told) closed [] (turn-of start))
+    turned-follows NotOpen [] _ _ _ _ _ _ (admitted-closed m (start .args .t) (passed told) closed [] (turn-of start))
 
 -- 22
 returns-3 : tie.Need-returns-3
 returns-3 c =
     let open-here = c .before .before in
     let start = start-of (told-of open-here) in
-    turned-follows NoSuchMinute [] _ _ _ _ _
+    turned-follows NoSuchMinute [] _ _ _ _ _ _
     (on-turn open-here ∙ commit-no-minute (start .args .t) (start .args .minute) (machine start) (failed (c .before .minute-in .ensures) (c .if2 .taken)))
 
 -- 13
@@ -134,7 +134,7 @@ returns-4 c =
     let told = told-of (open-at day) in
     let start = start-of told in
     let stale = ap (λ (x : Transaction). x .stale) (own (open-at day)) ∙ at-unmark .before .before .if3 .taken in
-    stale-follows _ _ _ (start .args .marks .now) _ _ (start .args .t) _ (told .before .before .admit .ensures .1) (let-through told .small)
+    stale-follows _ _ _ (start .args .marks .now) _ _ _ (start .args .t) _ (told .before .before .admit .ensures .1) (let-through told .small)
     (on-turn (open-at day) ∙ commit-stale (start .args .t) (start .args .minute) (machine start) (daily day) stale) (c .reset .ensures) (at-unmark .unmark .ensures)
 
 -- 21
@@ -162,7 +162,7 @@ returns-5 c =
     let start = start-of told in
     let m = machine start in
     let shut = sym (c .before .has-byte-for-closed .ensures (m .logs) (let-through told .lengths .logs)) ∙ c .if4 .taken in
-    turned-follows FileClosed [] _ _ _ _ _
+    turned-follows FileClosed [] _ _ _ _ _ _
     (on-turn (fresh-at fresh-here) ∙ commit-closed (start .args .t) (start .args .minute) m (daily (fresh-here .before)) (fresh fresh-here) shut)
 
 -- 12
@@ -177,7 +177,7 @@ returns-6 c =
     let start = start-of (told-of open-here) in
     let m = machine start in
     let past = ap (placesFit (m .store)) (own open-here) ∙ failed (c .before .places-fit .ensures) (c .if5 .taken) in
-    turned-follows SettledPastEnd [] _ _ _ _ _
+    turned-follows SettledPastEnd [] _ _ _ _ _ _
     (on-turn open-here ∙ commit-past (start .args .t) (start .args .minute) m (daily (fresh-here .before)) (fresh fresh-here) (unlocked unlocked-here) past)
 
 -- Its placing fits.
@@ -191,7 +191,7 @@ fit c =
 
 grant-requires : tie.Need-grant-requires
 grant-requires c κs =
-    let fits = c .before .before .before in
+    let fits = c .before .before .before .before in
     let open-here = fresh-at (unlocked-at (unlocked-of fits)) in
     let told = told-of open-here in
     let start = start-of told in
@@ -205,15 +205,18 @@ grant-requires c κs =
       filesLength = through .lengths .files;
       logsLength = through .lengths .logs;
       marksLength = through .lengths .marks;
+      undoLength = through .lengths .undo;
       own = open-here .before .before .transaction-at .ensures;
       fits = held (fits .before .places-fit .ensures) (fits .if5 .left);
       lands = subst (λ (x : Transaction). CanLandIn (start .args .kept .now) t (x .used .records)) (own open-here) lands;
+      bytes =
+          subst (λ (x : Transaction). lengthsBefore (m .journal) t (x .used .records) ≡ x .used .bytes) (own open-here) (o .ranges .total);
     }
 
 returns-7 : tie.Need-returns-7
 returns-7 c =
-    let at-grant = c .before .before .before .before in
-    let fits = at-grant .before .before .before .before in
+    let at-grant = c .before .before .before .before .before .before in
+    let fits = at-grant .before .before .before .before .before in
     let unlocked-here = unlocked-of fits in
     let fresh-here = unlocked-at unlocked-here in
     let start = start-of (told-of (fresh-at fresh-here)) in
@@ -242,6 +245,7 @@ commit-spec =
     places-fit-requires
     returns-6
     grant-requires
+    (λ c. search needs)
     (λ c. search needs)
     (λ c. search needs)
     returns-7)

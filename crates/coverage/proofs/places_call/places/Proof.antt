@@ -25,11 +25,11 @@ use Rattle.coverage.proofs.places_call.places.Tie as tie
 
 -- What the caller lent.
 abbrev machine : tie.Start → Machine
-machine c = machineOf (c .args .kept .now) (c .args .files .now) (c .args .logs .now) (c .args .marks .now)
+machine c = machineOf (c .args .kept .now) (c .args .files .now) (c .args .logs .now) (c .args .marks .now) (c .args .undo .now)
 
 -- The start of a call that tests 1 to 3 have let through, and what they told.
 abbrev start-of : tie.After-enum-told → tie.Start
-start-of c = c .before .before .before .before .before .before .before
+start-of c = c .before .before .before .before .before .before .before .before
 
 passed : (c : tie.After-enum-told) → sharedWith (machine (start-of c)) (start-of c .args .t) 0 ≡ 0
 passed c = gate-passed _ (machine (start-of c)) (start-of c .args .t) (c .before .before .admit .ensures .0) (c .enum-told .given .1)
@@ -81,11 +81,11 @@ returns : tie.Need-returns
 unfolding call admitted admission
 returns c =
     let gate = c .before .before .before in
-    let start = gate .before .before .before .before .before in
+    let start = gate .before .before .before .before .before .before in
     let m = machine start in
     let out = start .args .out .now in
     let e = gate-refused _ m (start .args .t) (gate .admit .ensures .0) _ _ out (placesTurn (start .args .t) (start .args .f) out m) (c .before .g .given .1) in
-    turned-follows _ out _ _ _ _ _ e
+    turned-follows _ out _ _ _ _ _ _ e
 
 enum-told : tie.Need-enum-told
 enum-told c = search needs
@@ -101,13 +101,13 @@ returns-2 c =
     let m = machine start in
     let out = start .args .out .now in
     let closed = is-closed (start .args .kept .now) (start .args .t) (let-through told .small) (c .before .is-begun .ensures) (c .if1 .taken) in
-    turned-follows NotOpen out _ _ _ _ _ (admitted-closed m (start .args .t) (passed told) closed out (placesTurn (start .args .t) (start .args .f) out m))
+    turned-follows NotOpen out _ _ _ _ _ _ (admitted-closed m (start .args .t) (passed told) closed out (placesTurn (start .args .t) (start .args .f) out m))
 
 returns-3 : tie.Need-returns-3
 returns-3 c =
     let start = first (c .before) in
     let out = start .args .out .now in
-    turned-follows NoSuchTarget out _ _ _ _ _ (places-no-file (start .args .t) (start .args .f) out (machine start) (admits (c .before)) (c .if2 .taken))
+    turned-follows NoSuchTarget out _ _ _ _ _ _ (places-no-file (start .args .t) (start .args .f) out (machine start) (admits (c .before)) (c .if2 .taken))
 
 used-at-requires : tie.Need-used-at-requires
 used-at-requires c κs = let-through (told-of (c .before)) .small
@@ -123,7 +123,7 @@ returns-4 c =
     let read = c .before .before in
     let start = first (went-on read) in
     let out = start .args .out .now in
-    turned-follows NoPlaceYet out _ _ _ _ _
+    turned-follows NoPlaceYet out _ _ _ _ _ _
     (places-waiting (start .args .t) (start .args .f) out (machine start) (admits (went-on read)) (read .before .if2 .left) _ (ap (λ (u : Used). u .records) (used-is read))
     (sym (c .before .waiting .ensures) ∙ c .if3 .taken))
 
@@ -143,7 +143,7 @@ returns-5 c =
     let read = read-of n in
     let start = first (went-on read) in
     let out = start .args .out .now in
-    turned-follows ListTooLong out _ _ _ _ _
+    turned-follows ListTooLong out _ _ _ _ _ _
     (places-too-long (start .args .t) (start .args .f) out (machine start) (admits (went-on read)) (read .before .if2 .left) _ (ap (λ (u : Used). u .records) (used-is read))
     (open-here (went-on read)) (sym (placed-of n .waiting .ensures) ∙ n .before .if3 .left) (omega (arith, c .if4 .taken, n .count-stretches .ensures)))
 
@@ -152,8 +152,8 @@ write-stretches-requires c κs =
     let n = c .before .before in
     (in-counts (read-of n), omega (arith, c .before .if4 .left, n .count-stretches .ensures))
 
-cast-t26 : tie.Need-cast-t26
-cast-t26 c =
+cast-t28 : tie.Need-cast-t28
+cast-t28 c =
     let n = c .before .before .before .before .before in
     let a = first (went-on (read-of n)) .args in
     omega (arith, n .count-stretches .ensures, stretches-few (coveredAt (recordedIn (a .kept .now)) (a .t) (read-of n .used-at .result .records) (a .f)))
@@ -192,6 +192,6 @@ places-spec =
     count-stretches-requires
     returns-5
     write-stretches-requires
-    cast-t26
+    cast-t28
     same-length
     returns-6)

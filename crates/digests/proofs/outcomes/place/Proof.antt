@@ -1,4 +1,4 @@
--- `place` meets its contract: a refusal's number is at most 22.
+-- `place` meets its contract: a refusal's number is at most 24.
 use native.Mathlib.Omega.{arith}
 use borrow.Author.Needs.{needs}
 use Rattle.digests.proofs.Refusals.{bounded}

@@ -18,11 +18,11 @@ use Rattle.editing.proofs.seek_call.seek.Tie as tie
 
 -- What the caller lent.
 abbrev machine : tie.Start → Machine
-machine c = machineOf (c .args .kept .now) (c .args .files .now) (c .args .logs .now) (c .args .marks .now)
+machine c = machineOf (c .args .kept .now) (c .args .files .now) (c .args .logs .now) (c .args .marks .now) (c .args .undo .now)
 
 -- The start of a call that tests 1 to 3 have let through, and what they told.
 abbrev start-of : tie.After-enum-told → tie.Start
-start-of c = c .before .before .before .before .before .before .before
+start-of c = c .before .before .before .before .before .before .before .before
 
 passed : (c : tie.After-enum-told) → sharedWith (machine (start-of c)) (start-of c .args .t) 0 ≡ 0
 passed c = gate-passed _ (machine (start-of c)) (start-of c .args .t) (c .before .before .admit .ensures .0) (c .enum-told .given .1)
@@ -51,11 +51,11 @@ enum-known-g c = search needs
 returns : tie.Need-returns
 unfolding call admitted admission bufferOf
 returns c =
-    let start = c .before .before .before .before .before .before .before .before in
+    let start = c .before .before .before .before .before .before .before .before .before in
     let m = machine start in
     let o = Op.seek (start .args .d) (start .args .v) in
     let e = gate-refused _ m (start .args .t) (c .before .before .before .admit .ensures .0) _ _ (bufferOf o) (stepTurn (start .args .t) o m) (c .before .g .given .1) in
-    turned-follows _ (bufferOf o) _ _ _ _ _ e
+    turned-follows _ (bufferOf o) _ _ _ _ _ _ e
 
 enum-told : tie.Need-enum-told
 enum-told c = search needs
@@ -71,17 +71,17 @@ returns-2 c =
     let m = machine start in
     let o = Op.seek (start .args .d) (start .args .v) in
     let closed = is-closed (start .args .kept .now) (start .args .t) (let-through told .small) (c .before .is-begun .ensures) (c .if1 .taken) in
-    turned-follows NotOpen [] _ _ _ _ _ (admitted-closed m (start .args .t) (passed told) closed [] (stepTurn (start .args .t) o m))
+    turned-follows NotOpen [] _ _ _ _ _ _ (admitted-closed m (start .args .t) (passed told) closed [] (stepTurn (start .args .t) o m))
 
 returns-3 : tie.Need-returns-3
 returns-3 c =
     let start = start-of (c .before .before .before .before) in
-    turned-follows NoSuchTarget [] _ _ _ _ _ (seek-no-descriptor (start .args .t) (start .args .d) (start .args .v) (machine start) (admits (c .before)) (c .if2 .taken))
+    turned-follows NoSuchTarget [] _ _ _ _ _ _ (seek-no-descriptor (start .args .t) (start .args .d) (start .args .v) (machine start) (admits (c .before)) (c .if2 .taken))
 
 returns-4 : tie.Need-returns-4
 returns-4 c =
     let start = start-of (c .before .before .before .before .before) in
-    turned-follows SeekPastEnd [] _ _ _ _ _ (seek-past-end (start .args .t) (start .args .d) (start .args .v) (machine start) (admits (c .before .before)) (c .before .if2 .left) (c .if3 .taken))
+    turned-follows SeekPastEnd [] _ _ _ _ _ _ (seek-past-end (start .args .t) (start .args .d) (start .args .v) (machine start) (admits (c .before .before)) (c .before .if2 .left) (c .if3 .taken))
 
 standing-at-requires : tie.Need-standing-at-requires
 standing-at-requires c κs = (let-through (c .before .before .before .before .before .before) .small, omega arith)
@@ -100,7 +100,7 @@ returns-5 c =
     let open-here = c .before .before .before .before .before .before .before in
     let told = open-here .before .before .before in
     let start = start-of told in
-    seek-follows (start .args .t) (start .args .d) (start .args .v) _ _ _ _ (told .before .before .admit .ensures .1) (c .before .before .before .before .before .before .if2 .left) (c .before .before .before .before .before .if3 .left)
+    seek-follows (start .args .t) (start .args .d) (start .args .v) _ _ _ _ _ (told .before .before .admit .ensures .1) (c .before .before .before .before .before .before .if2 .left) (c .before .before .before .before .before .if3 .left)
     (admits open-here) (let-through told) (begun open-here) _ _ (c .before .before .before .standing-at .ensures) (c .before .before .after-seek .ensures) _ (c .put-descriptor .ensures)
 
 pub seek-spec : {M : Type 1} → statement M

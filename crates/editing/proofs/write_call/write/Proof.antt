@@ -23,11 +23,11 @@ use Rattle.editing.proofs.write_call.write.Tie as tie
 
 -- What the caller lent.
 abbrev machine : tie.Start → Machine
-machine c = machineOf (c .args .kept .now) (c .args .files .now) (c .args .logs .now) (c .args .marks .now)
+machine c = machineOf (c .args .kept .now) (c .args .files .now) (c .args .logs .now) (c .args .marks .now) (c .args .undo .now)
 
 -- The start of a call that tests 1 to 3 have let through, and what they told.
 abbrev start-of : tie.After-enum-told → tie.Start
-start-of c = c .before .before .before .before .before .before .before .before
+start-of c = c .before .before .before .before .before .before .before .before .before
 
 passed : (c : tie.After-enum-told) → sharedWith (machine (start-of c)) (start-of c .args .t) 0 ≡ 0
 passed c = gate-passed _ (machine (start-of c)) (start-of c .args .t) (c .before .before .admit .ensures .0) (c .enum-told .given .1)
@@ -59,7 +59,7 @@ abbrev begin-of : tie.After-write-place → tie.Start
 begin-of c = start-of (told-at (open-at c))
 
 reached : (c : tie.After-write-place) → let a = begin-of c .args in
-    Reached (a .t) (a .d) (a .kept .now) (a .files .now) (a .logs .now) (a .marks .now) (c .before .before .before .standing-at .result) (c .before .used-at .result)
+    Reached (a .t) (a .d) (a .kept .now) (a .files .now) (a .logs .now) (a .marks .now) (a .undo .now) (c .before .before .before .standing-at .result) (c .before .used-at .result)
 reached c =
     record {
       low = c .before .before .before .before .before .if2 .left;
@@ -94,11 +94,11 @@ enum-known-g c = search needs
 returns : tie.Need-returns
 unfolding call admitted admission bufferOf
 returns c =
-    let start = c .before .before .before .before .before .before .before .before .before in
+    let start = c .before .before .before .before .before .before .before .before .before .before in
     let m = machine start in
     let o = Op.write (start .args .d) (start .args .bytes .now) in
     let e = gate-refused _ m (start .args .t) (c .before .before .before .admit .ensures .0) _ _ (bufferOf o) (stepTurn (start .args .t) o m) (c .before .g .given .1) in
-    turned-follows _ (bufferOf o) _ _ _ _ _ e
+    turned-follows _ (bufferOf o) _ _ _ _ _ _ e
 
 enum-told : tie.Need-enum-told
 enum-told c = search needs
@@ -114,12 +114,12 @@ returns-2 c =
     let m = machine start in
     let o = Op.write (start .args .d) (start .args .bytes .now) in
     let closed = is-closed (start .args .kept .now) (start .args .t) (let-through told .small) (c .before .is-begun .ensures) (c .if1 .taken) in
-    turned-follows NotOpen [] _ _ _ _ _ (admitted-closed m (start .args .t) (passed told) closed [] (stepTurn (start .args .t) o m))
+    turned-follows NotOpen [] _ _ _ _ _ _ (admitted-closed m (start .args .t) (passed told) closed [] (stepTurn (start .args .t) o m))
 
 returns-3 : tie.Need-returns-3
 returns-3 c =
     let start = start-of (told-at (c .before)) in
-    turned-follows NoSuchTarget [] _ _ _ _ _ (write-no-descriptor (start .args .t) (start .args .d) (start .args .bytes .now) (machine start) (admits (c .before)) (c .if2 .taken))
+    turned-follows NoSuchTarget [] _ _ _ _ _ _ (write-no-descriptor (start .args .t) (start .args .d) (start .args .bytes .now) (machine start) (admits (c .before)) (c .if2 .taken))
 
 standing-at-requires : tie.Need-standing-at-requires
 standing-at-requires c κs = (let-through (told-at (c .before .before)) .small, omega arith)
@@ -140,7 +140,7 @@ returns-4 : tie.Need-returns-4
 returns-4 c =
     let place = c .before .before .before .before in
     let r = c .before .h .given .0 .0 in
-    turned-follows r [] _ _ _ _ _ (write-no-room (reached place) (begin-of place .args .bytes .now) r (gate-number _ _ (refusal (c .before .before .before)) r (c .before .h .given .1)))
+    turned-follows r [] _ _ _ _ _ _ (write-no-room (reached place) (begin-of place .args .bytes .now) r (gate-number _ _ (refusal (c .before .before .before)) r (c .before .h .given .1)))
 
 enum-told-2 : tie.Need-enum-told-2
 enum-told-2 c = search needs

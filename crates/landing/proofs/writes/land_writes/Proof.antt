@@ -1,73 +1,111 @@
--- `landing::writes::land_writes` meets its contract. The loop's invariant: the files are those of the records landed so far.
+-- `landing::writes::land_writes` meets its contract. The loop's invariant: the files are those of the records landed so far, and the
+-- bytes that these landed on stand at the front of the undo buffer.
 use mathlib.Core.Path.{_≡_, sym, ap, _∙_}
 use lib.ListN.{length}
-use Prim.Native.Nat.{ℕ, _+_, _-_, _≤_}
+use Prim.Native.Nat.{ℕ, _+_, _-_, _*_, _≤_}
 use native.Mathlib.Omega.{arith}
+use Rattle.octets.specs.Parts.{pasted}
 use Rattle.octets.proofs.PartLaws.{length-cut}
 use Rattle.record.specs.Layout.{journalOf}
 use Rattle.rules.specs.Machine.{dataStart}
 use Rattle.rules.specs.Calls.{landFiles}
 use Rattle.landing.specs.Landing.{bytesSetIn}
+use Rattle.landing.specs.Keeping.{oldBytesIn}
 use Rattle.landing.proofs.WriteLaws.{can-first, data-in, land-more, start-more, none-landed, none-started}
+use Rattle.landing.proofs.KeepingLaws.{OldSoFar, none-old, old-more}
 use borrow.Author.Needs.{needs}
 use Rattle.landing.proofs.writes.land_writes.Statement.{statement}
 use Rattle.landing.proofs.writes.land_writes.Tie as tie
 
 abbrev Inv-loop : tie.InvT-loop
-Inv-loop kept files₀ logs t records start₀ k₀ files start k =
+Inv-loop kept files₀ logs undo₀ t records log done₀ k₀ files undo done k =
     (k ≤ records)
     × (files ≡ landFiles (bytesSetIn kept logs t k) files₀)
-    × (start ≡ dataStart (journalOf kept) t k)
+    × (log + done ≡ dataStart (journalOf kept) t k)
     × (length files ≡ 32768)
+    × OldSoFar kept logs files₀ files undo₀ undo t k done
+    × (length undo ≡ 4096)
 
 abbrev μ-loop : tie.MeasureT-loop
-μ-loop kept files₀ logs t records start₀ k₀ files start k = records - k
+μ-loop kept files₀ logs undo₀ t records log done₀ k₀ files undo done k = records - k
 
--- The data of the turn's record lie within the logs.
-within : (c : tie.After-landing-at Inv-loop μ-loop)
-    → c .before .before .loop .start + c .landing-at .result .length ≤ length (c .before .before .before .before .before .args .logs .now)
-within c =
-    let pre = c .before .before .before .before .before .pre in
-    let here = c .before .before .loop .inv .2 in
-    omega (arith, data-in (pre .0) (c .before .loop-test .taken), c .landing-at .ensures .length, pre .2, pre .0 .small)
+-- Landmarks of a turn.
+abbrev loop-of : tie.After-landing-at Inv-loop μ-loop → tie.At-loop Inv-loop μ-loop
+loop-of c = c .before .before
+
+abbrev start-of : tie.After-landing-at Inv-loop μ-loop → tie.Start Inv-loop μ-loop
+start-of c = loop-of c .before .before .before .before
+
+-- The data of the turn's record lie within the transaction's log, and it lands inside the files.
+in-log : (c : tie.After-landing-at Inv-loop μ-loop) → loop-of c .loop .done + c .landing-at .result .length ≤ 4096
+in-log c =
+    let pre = start-of c .pre in
+    let here = loop-of c .loop .inv .2 in
+    omega (arith, data-in (pre .0) (c .before .loop-test .taken), c .landing-at .ensures .length)
+
+in-logs : (c : tie.After-landing-at Inv-loop μ-loop)
+    → 4096 * start-of c .args .t + loop-of c .loop .done + c .landing-at .result .length ≤ length (start-of c .args .logs .now)
+in-logs c = let pre = start-of c .pre in omega (arith, in-log c, pre .0 .small, pre .2)
+
+in-file : (c : tie.After-landing-at Inv-loop μ-loop)
+    → let w = c .landing-at .result in 4096 * w .file + w .place + w .length ≤ length (loop-of c .loop .files)
+in-file c = let lands = c .landing-at .ensures in omega (arith, lands .number, lands .inside, loop-of c .loop .inv .3)
 
 loop-holds : tie.Need-loop-holds Inv-loop μ-loop
-loop-holds c = (omega arith, none-landed _ _ _ _ _ _, none-started _ _, c .before .before .pre .1)
+loop-holds c =
+    let pre = c .before .before .before .pre in
+    (omega arith, none-landed _ _ _ _ _ _, none-started _ _, pre .1, none-old _ _ _ _ _, pre .3)
 
 landing-at-requires : tie.Need-landing-at-requires Inv-loop μ-loop
-landing-at-requires c κs = can-first (c .before .before .before .before .pre .0) (c .loop-test .taken)
+landing-at-requires c κs = can-first (c .before .before .before .before .before .pre .0) (c .loop-test .taken)
+
+copy-to-requires : tie.Need-copy-to-requires Inv-loop μ-loop
+copy-to-requires c κs =
+    let landing = c .before .before .before in
+    let e = ap length (c .part .ensures) ∙ length-cut _ _ _ (in-file landing) in
+    omega (arith, in-log landing, loop-of landing .loop .inv .5)
+
+add-part-2 : tie.Need-add-part-2 Inv-loop μ-loop
+add-part-2 c =
+    let landing = c .before .before .before .before .before .before .before in
+    omega (arith, in-log landing, start-of landing .pre .0 .small)
 
 land-requires : tie.Need-land-requires Inv-loop μ-loop
 land-requires c κs =
-    let landing = c .before .before in
-    let e = ap length (c .part .ensures) ∙ length-cut _ _ _ (within landing) in
-    (landing .before .before .loop .inv .3, (landing .landing-at .ensures .number, omega (arith, landing .landing-at .ensures .inside)))
-
-add-start : tie.Need-add-start Inv-loop μ-loop
-add-start c = omega (arith, within (c .before .before .before .before .before), c .before .before .before .before .before .before .before .before .before .before .pre .2)
+    let landing = c .before .before .before .before .before .before .before .before in
+    let lands = landing .landing-at .ensures in
+    let e = ap length (c .part2 .ensures) ∙ length-cut _ _ _ (in-logs landing) in
+    (loop-of landing .loop .inv .3, (lands .number, omega (arith, lands .inside)))
 
 loop-again : tie.Need-loop-again Inv-loop μ-loop
 loop-again c =
-    let landing = c .before .before .before .before .before in
-    let a = landing .before .before .before .before .before .args in
-    let l = landing .before .before .loop in
-    let lands = landing .landing-at .ensures in (
+    let landed = c .before .before in
+    let copied = landed .before .before .before .before .before in
+    let landing = copied .before .before .before .before in
+    let start = start-of landing in
+    let a = start .args in
+    let l = loop-of landing .loop in
+    let lands = landing .landing-at .ensures in
+    let next = start-more lands (a .logs .now) _ (l .inv .2) in (
       omega (arith, landing .before .loop-test .taken),
-      land-more lands (a .logs .now) (l .start) (l .inv .2) (a .files .now) (l .files) _ _ (l .inv .1) (within landing)
-          (omega (arith, lands .number, lands .inside, l .inv .3)) (c .before .before .before .part .ensures) (c .before .before .land .ensures),
-      start-more lands (a .logs .now) (l .start) (l .inv .2),
-      c .before .before .land .kept .0 ∙ l .inv .3,
+      land-more lands (a .logs .now) _ (l .inv .2) (a .files .now) (l .files) _ _ (l .inv .1) (in-logs landing)
+          (in-file landing) (landed .before .part2 .ensures) (landed .land .ensures),
+      omega arith,
+      landed .land .kept .0 ∙ l .inv .3,
+      old-more lands (a .logs .now) _ (l .inv .2) (in-logs landing) (l .inv .4)
+          (in-file landing) (omega (arith, in-log landing, start .pre .3))
+          _ _ _ _ (copied .before .part .ensures) (copied .copy-to .ensures) (landed .before .part2 .ensures) (landed .land .ensures),
+      copied .copy-to .kept .0 ∙ l .inv .5,
     )
-
-same-length : tie.Need-same-length Inv-loop μ-loop
-same-length c = c .before .loop .inv .3 ∙ sym (c .before .before .before .before .pre .1)
 
 returns : tie.Need-returns Inv-loop μ-loop
 returns c =
-    let a = c .before .before .before .before .args in
+    let a = c .before .before .before .before .before .args in
     let l = c .before .loop in
-    let e : l .k ≡ a .used .records = omega (arith, c .loop-test .left) in
-    l .inv .1 ∙ ap (λ (n : ℕ). landFiles (bytesSetIn (a .kept .now) (a .logs .now) (a .t) n) (a .files .now)) e
+    let e : l .k ≡ a .used .records = omega (arith, c .loop-test .left) in (
+      l .inv .1 ∙ ap (λ (n : ℕ). landFiles (bytesSetIn (a .kept .now) (a .logs .now) (a .t) n) (a .files .now)) e,
+      l .inv .4 .old ∙ ap (λ (n : ℕ). pasted (a .undo .now) 0 (oldBytesIn (a .kept .now) (a .files .now) (a .logs .now) (a .t) n)) e,
+    )
 
 pub land-writes-spec : {M : Type 1} → statement M
 land-writes-spec =
@@ -75,14 +113,20 @@ land-writes-spec =
     (tie.spec
     Inv-loop
     μ-loop
-    (λ c. omega (arith, c .before .before .pre .0 .small))
+    (λ c. omega (arith, c .before .before .before .pre .0 .small))
     loop-holds
     landing-at-requires
-    (λ c κs. within (c .before))
+    (λ c. omega (arith, c .before .before .landing-at .ensures .number))
+    (λ c. omega (arith, c .before .before .landing-at .ensures .number, c .before .before .landing-at .ensures .inside))
+    (λ c κs. in-file (c .before .before))
+    copy-to-requires
+    add-part-2
+    (λ c κs. in-logs (c .before .before .before .before .before .before .before))
     land-requires
-    add-start
+    (λ c. omega (arith, in-log (c .before .before .before .before .before .before .before .before .before .before .before)))
     (λ c. search needs)
     (λ c. search needs)
     loop-again
-    same-length
+    (λ c. c .before .loop .inv .3 ∙ sym (c .before .before .before .before .before .pre .1))
+    (λ c. c .before .loop .inv .5 ∙ sym (c .before .before .before .before .before .pre .3))
     returns)

@@ -17,11 +17,11 @@ use Rattle.lifecycle.proofs.abort_call.abort.Tie as tie
 
 -- What the caller lent.
 abbrev machine : tie.Start → Machine
-machine c = machineOf (c .args .kept .now) (c .args .files .now) (c .args .logs .now) (c .args .marks .now)
+machine c = machineOf (c .args .kept .now) (c .args .files .now) (c .args .logs .now) (c .args .marks .now) (c .args .undo .now)
 
 -- The start of a call that tests 1 to 3 have let through, and what they told.
 abbrev start-of : tie.After-enum-told → tie.Start
-start-of c = c .before .before .before .before .before .before .before
+start-of c = c .before .before .before .before .before .before .before .before
 
 passed : (c : tie.After-enum-told) → sharedWith (machine (start-of c)) (start-of c .args .t) 0 ≡ 0
 passed c = gate-passed _ (machine (start-of c)) (start-of c .args .t) (c .before .before .admit .ensures .0) (c .enum-told .given .1)
@@ -32,10 +32,10 @@ let-through c = gate-let-through _ (machine (start-of c)) (start-of c .args .t) 
 returns : tie.Need-returns
 unfolding call admitted admission
 returns c =
-    let start = c .before .before .before .before .before .before .before .before in
+    let start = c .before .before .before .before .before .before .before .before .before in
     let m = machine start in
     let e = gate-refused _ m (start .args .t) (c .before .before .before .admit .ensures .0) _ _ [] (abortTurn (start .args .t) m) (c .before .g .given .1) in
-    turned-follows _ [] _ _ _ _ _ e
+    turned-follows _ [] _ _ _ _ _ _ e
 
 is-begun-requires : tie.Need-is-begun-requires
 is-begun-requires c κs = let-through (c .before) .small
@@ -47,7 +47,7 @@ returns-2 c =
     let a = start-of told .args in
     let m = machine (start-of told) in
     let closed = is-closed (a .kept .now) (a .t) (let-through told .small) (c .before .is-begun .ensures) (c .if1 .taken) in
-    turned-follows NotOpen [] _ _ _ _ _ (admitted-closed m (a .t) (passed told) closed [] (abortTurn (a .t) m))
+    turned-follows NotOpen [] _ _ _ _ _ _ (admitted-closed m (a .t) (passed told) closed [] (abortTurn (a .t) m))
 
 unmark-requires : tie.Need-unmark-requires
 unmark-requires c κs = let told = c .before .before .before .before in (omega (arith, let-through told .small), let-through told .lengths .marks)
@@ -64,7 +64,7 @@ returns-3 c =
     let m = machine (start-of told) in
     let begun = is-open (a .kept .now) (a .t) (let-through told .small) (open-here .before .is-begun .ensures) (open-here .if1 .left) in
     let e = passing-on _ [] m (abortTurn (a .t) m) (admission-open m (a .t) (passed told) begun) in
-    reset-follows (a .t) false _ _ _ _ (told .before .before .admit .ensures .1) (let-through told .small) _ e _ _ (c .reset .ensures) (c .before .before .before .before .unmark .ensures)
+    reset-follows (a .t) false _ _ _ _ _ (told .before .before .admit .ensures .1) (let-through told .small) _ e _ _ (c .reset .ensures) (c .before .before .before .before .unmark .ensures)
 
 pub abort-spec : {M : Type 1} → statement M
 abort-spec =

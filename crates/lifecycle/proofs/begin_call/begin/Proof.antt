@@ -20,11 +20,11 @@ use Rattle.lifecycle.proofs.begin_call.begin.Tie as tie
 
 -- What the caller lent.
 abbrev machine : tie.Start → Machine
-machine c = machineOf (c .args .kept .now) (c .args .files .now) (c .args .logs .now) (c .args .marks .now)
+machine c = machineOf (c .args .kept .now) (c .args .files .now) (c .args .logs .now) (c .args .marks .now) (c .args .undo .now)
 
 -- The start of a call that tests 1 to 3 have let through, and what they told.
 abbrev start-of : tie.After-enum-told → tie.Start
-start-of c = c .before .before .before .before .before .before .before
+start-of c = c .before .before .before .before .before .before .before .before
 
 passed : (c : tie.After-enum-told) → sharedWith (machine (start-of c)) (start-of c .args .t) 0 ≡ 0
 passed c = gate-passed _ (machine (start-of c)) (start-of c .args .t) (c .before .before .admit .ensures .0) (c .enum-told .given .1)
@@ -42,10 +42,10 @@ is-begun c =
 returns : tie.Need-returns
 unfolding call admissionOfBegin
 returns c =
-    let start = c .before .before .before .before .before .before .before .before in
+    let start = c .before .before .before .before .before .before .before .before .before in
     let m = machine start in
     let e = gate-refused _ m (start .args .t) (c .before .before .before .admit .ensures .0) _ _ [] (beginTurn (start .args .t) m) (c .before .g .given .1) in
-    turned-follows _ [] _ _ _ _ _ e
+    turned-follows _ [] _ _ _ _ _ _ e
 
 is-begun-requires : tie.Need-is-begun-requires
 is-begun-requires c κs = let-through (c .before) .small
@@ -56,7 +56,7 @@ returns-2 c =
     let told = c .before .before .before in
     let t = start-of told .args .t in
     let m = machine (start-of told) in
-    turned-follows AlreadyOpen [] _ _ _ _ _
+    turned-follows AlreadyOpen [] _ _ _ _ _ _
     (ap (λ (n : ℕ). passing n [] m (beginTurn t m)) (begin-of-open m t (passed told) (is-begun (c .before) ∙ c .if1 .taken)))
 
 unmark-requires : tie.Need-unmark-requires
@@ -73,7 +73,7 @@ returns-3 c =
     let t = start-of told .args .t in
     let m = machine (start-of told) in
     let e = passing-on _ [] m (beginTurn t m) (begin-of-closed m t (passed told) (is-begun (closed .before) ∙ closed .if1 .left)) in
-    reset-follows t true _ _ _ _ (told .before .before .admit .ensures .1) (let-through told .small) _ e _ _ (c .reset .ensures) (c .before .before .before .before .unmark .ensures)
+    reset-follows t true _ _ _ _ _ (told .before .before .admit .ensures .1) (let-through told .small) _ e _ _ (c .reset .ensures) (c .before .before .before .before .unmark .ensures)
 
 pub begin-spec : {M : Type 1} → statement M
 begin-spec =

@@ -16,11 +16,11 @@ use Rattle.lifecycle.proofs.fresh_call.fresh.Tie as tie
 
 -- What the caller lent.
 abbrev machine : tie.Start → Machine
-machine c = machineOf (c .args .kept .now) (c .args .files .now) (c .args .logs .now) (c .args .marks .now)
+machine c = machineOf (c .args .kept .now) (c .args .files .now) (c .args .logs .now) (c .args .marks .now) (c .args .undo .now)
 
 -- What the tests let through.
 abbrev start-of : tie.After-enum-told → tie.Start
-start-of c = c .before .before .before .before .before .before .before
+start-of c = c .before .before .before .before .before .before .before .before
 
 passed : (c : tie.After-enum-told) → admissionOfFresh (sizes (machine (start-of c))) (start-of c .args .numbers .now) ≡ 0
 passed c = gate-zero _ _ (c .before .before .admit-fresh .ensures) (c .enum-told .given .1)
@@ -28,12 +28,12 @@ passed c = gate-zero _ _ (c .before .before .admit-fresh .ensures) (c .enum-told
 returns : tie.Need-returns
 unfolding fresh
 returns c =
-    let start = c .before .before .before .before .before .before .before .before in
+    let start = c .before .before .before .before .before .before .before .before .before in
     let m = machine start in
     let r = c .before .g .given .0 .0 in
     let e = gate-number _ _ (c .before .before .before .admit-fresh .ensures) r (c .before .g .given .1) in
-    let next = answer plain (freshMachine (start .args .numbers .now) (m .logs)) in
-    turned-follows r [] _ _ _ _ _ (ap (λ (n : ℕ). passing n [] m next) (sym e) ∙ passing-number r [] m next)
+    let next = answer plain (freshMachine (start .args .numbers .now) (m .logs) (m .undo)) in
+    turned-follows r [] _ _ _ _ _ _ (ap (λ (n : ℕ). passing n [] m next) (sym e) ∙ passing-number r [] m next)
 
 put-files-requires : tie.Need-put-files-requires
 put-files-requires c κs =
@@ -44,7 +44,7 @@ returns-2 : tie.Need-returns-2
 returns-2 c =
     let put = c .before .before .before .before .before .before .before .before in
     let told = put .before .before .before .before in
-    fresh-follows (start-of told .args .numbers .now) _ _ _ _ (passed told) _ _ _ _
+    fresh-follows (start-of told .args .numbers .now) _ _ _ _ _ (passed told) _ _ _ _
     (put .before .before .clear .ensures) (put .put-files .ensures) (c .before .before .before .before .before .before .zero .ensures) (c .before .before .zero2 .ensures)
 
 pub fresh-spec : {M : Type 1} → statement M

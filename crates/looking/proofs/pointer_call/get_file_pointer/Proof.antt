@@ -23,11 +23,11 @@ use Rattle.looking.proofs.pointer_call.get_file_pointer.Tie as tie
 
 -- What the caller lent.
 abbrev machine : tie.Start → Machine
-machine c = machineOf (c .args .kept .now) (c .args .files .now) (c .args .logs .now) (c .args .marks .now)
+machine c = machineOf (c .args .kept .now) (c .args .files .now) (c .args .logs .now) (c .args .marks .now) (c .args .undo .now)
 
 -- The start of a call that tests 1 to 3 have let through, and what they told.
 abbrev start-of : tie.After-enum-told → tie.Start
-start-of c = c .before .before .before .before .before .before .before
+start-of c = c .before .before .before .before .before .before .before .before
 
 passed : (c : tie.After-enum-told) → sharedWith (machine (start-of c)) (start-of c .args .t) 0 ≡ 0
 passed c = gate-passed _ (machine (start-of c)) (start-of c .args .t) (c .before .before .admit .ensures .0) (c .enum-told .given .1)
@@ -59,11 +59,11 @@ first c = start-of (told-of (open-of c))
 says : (c : tie.After-may-look) → let a = first c .args in gateNumber (c .may-look .result) ≡ lookRefusal (transaction (storeOf (a .kept .now)) (a .t) .stale) (a .d) 0 0
 says c = gate-says _ _ (let-through (told-of (open-of c)) .small) _ (c .before .is-stale .ensures) (first c .args .d) 0 0 _ (c .may-look .ensures)
 
-looks : (c : tie.After-enum-told2) → let a = first (c .before .before) .args in Looking (a .kept .now) (a .files .now) (a .logs .now) (a .marks .now) (a .t) (a .d) 0 0
+looks : (c : tie.After-enum-told2) → let a = first (c .before .before) .args in Looking (a .kept .now) (a .files .now) (a .logs .now) (a .marks .now) (a .undo .now) (a .t) (a .d) 0 0
 looks c =
     let open-here = open-of (c .before .before) in
     let told = told-of open-here in
-    looking _ _ _ _ _ _ _ _ (told .before .before .admit .ensures .1) (admits open-here) (let-through told) (begun open-here) (gate-zero _ _ (says (c .before .before)) (c .enum-told2 .given .1))
+    looking _ _ _ _ _ _ _ _ _ (told .before .before .admit .ensures .1) (admits open-here) (let-through told) (begun open-here) (gate-zero _ _ (says (c .before .before)) (c .enum-told2 .given .1))
 
 -- What settling told.
 abbrev look-of : tie.After-settle-chosen → tie.After-enum-told2
@@ -80,11 +80,11 @@ returns : tie.Need-returns
 unfolding call admitted admission bufferOf
 returns c =
     let gate = c .before .before .before in
-    let start = gate .before .before .before .before .before in
+    let start = gate .before .before .before .before .before .before in
     let m = machine start in
     let o = Op.getFilePointer (start .args .d) in
     let e = gate-refused _ m (start .args .t) (gate .admit .ensures .0) _ _ (bufferOf o) (stepTurn (start .args .t) o m) (c .before .g .given .1) in
-    turned-follows _ (bufferOf o) _ _ _ _ _ e
+    turned-follows _ (bufferOf o) _ _ _ _ _ _ e
 
 is-begun-requires : tie.Need-is-begun-requires
 is-begun-requires c κs = let-through (c .before) .small
@@ -96,7 +96,7 @@ returns-2 c =
     let start = start-of told in
     let o = Op.getFilePointer (start .args .d) in
     let closed = is-closed (start .args .kept .now) (start .args .t) (let-through told .small) (c .before .is-begun .ensures) (c .if1 .taken) in
-    turned-follows NotOpen [] _ _ _ _ _ (admitted-closed (machine start) (start .args .t) (passed told) closed [] (stepTurn (start .args .t) o (machine start)))
+    turned-follows NotOpen [] _ _ _ _ _ _ (admitted-closed (machine start) (start .args .t) (passed told) closed [] (stepTurn (start .args .t) o (machine start)))
 
 is-stale-requires : tie.Need-is-stale-requires
 is-stale-requires c κs = let-through (told-of (c .before)) .small
@@ -106,7 +106,7 @@ returns-3 c =
     let looked = c .before .before .before in
     let start = first looked in
     let r = c .before .h .given .0 .0 in
-    turned-follows r [] _ _ _ _ _
+    turned-follows r [] _ _ _ _ _ _
     (pointer-refused (start .args .t) (start .args .d) (machine start) (admits (open-of looked)) r (gate-number _ _ (says looked) r (c .before .h .given .1)))
 
 chosen-by-pointer-requires : tie.Need-chosen-by-pointer-requires

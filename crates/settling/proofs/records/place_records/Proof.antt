@@ -31,10 +31,13 @@ at c = c .before .before .before .loop .k
 few : (c : tie.After-record-at Inv-loop μ-loop) → at c < 64
 few c = omega (arith, start-of c .pre .few)
 
+small : (c : tie.After-record-at Inv-loop μ-loop) → start-of c .args .t < 9
+small c = omega (arith, start-of c .pre .small)
+
 looked-at : (c : tie.After-record-at Inv-loop μ-loop) → c .record-at .result ≡ writeRecordAt (journalOf (start-of c .args .kept .now)) (start-of c .args .t) (at c)
 looked-at c =
     let l = c .before .before .before .loop in
-    c .record-at .ensures ∙ next-record _ _ _ _ _ (l .inv .1) (start-of c .pre .small) (few c)
+    c .record-at .ensures ∙ next-record _ _ _ _ _ (l .inv .1) (small c) (few c)
 
 low-descriptor : (c : tie.After-record-at Inv-loop μ-loop) → c .record-at .result .descriptor < 16
 low-descriptor c = rw (looked-at c) (start-of c .pre .descriptors (at c) (omega arith))
@@ -45,7 +48,7 @@ low-place c = rw (looked-at c) (start-of c .pre .places (at c) (omega arith))
 record-at-requires : tie.Need-record-at-requires Inv-loop μ-loop
 record-at-requires c κs =
     let p = c .before .before .before .pre in
-    (p .small, omega (arith, p .few))
+    (omega (arith, p .small), omega (arith, p .few))
 
 array-read-if1 : tie.Need-array-read-if1 Inv-loop μ-loop
 array-read-if1 c = omega (arith, c .wide .ensures .0, low-descriptor (c .before .before .before .before))
@@ -73,18 +76,17 @@ add-t21 c =
 put-record-requires : tie.Need-put-record-requires Inv-loop μ-loop
 put-record-requires c κs =
     let looked = c .before .before .before .before .before .before .before .before in
-    (start-of looked .pre .small, few looked, omega (arith, low-descriptor looked))
+    (small looked, few looked, omega (arith, low-descriptor looked))
 
 loop-again : tie.Need-loop-again Inv-loop μ-loop
 loop-again c =
     let looked = c .before in
     let l = looked .before .before .before .loop in
     let a = start-of looked .args in
-    let small = start-of looked .pre .small in
     let w = looked .record-at .result in
     let so-far = l .inv .1 in
-    let kept = one-kept _ _ _ _ _ so-far small (few looked) w (looked .record-at .ensures) in
-    let placed = one-placed _ _ _ _ _ so-far small (few looked) w (looked .record-at .ensures) in (
+    let kept = one-kept _ _ _ _ _ so-far (small looked) (few looked) w (looked .record-at .ensures) in
+    let placed = one-placed _ _ _ _ _ so-far (small looked) (few looked) w (looked .record-at .ensures) in (
       omega arith,
       ⊎-elim
           (λ v. placed _ _ (v .9 ∙ v .8 .ensures) (after-settled _ _ w _ (v .3 .ensures .0) _ (v .1 .given .1) (v .4 .taken) _ (v .6 .ensures ∙ offset-kept _ _ _ _ _ so-far _)))

@@ -4,10 +4,10 @@ use Rattle.situations.proofs.letters.l.Statement.{statement}
 use Rattle.situations.proofs.letters.l.Tie as tie
 
 abbrev Inv-loop : tie.InvT-loop
-Inv-loop kept₀ files₀ logs₀ marks₀ ok₀ i₀ t7 t8 t9 t10 kept files logs marks ok i = i ≤ 64
+Inv-loop kept₀ files₀ logs₀ marks₀ undo₀ ok₀ i₀ t8 t9 t10 t11 kept files logs marks undo ok i = i ≤ 64
 
 abbrev μ-loop : tie.MeasureT-loop
-μ-loop kept₀ files₀ logs₀ marks₀ ok₀ i₀ t7 t8 t9 t10 kept files logs marks ok i = 64 - i
+μ-loop kept₀ files₀ logs₀ marks₀ undo₀ ok₀ i₀ t8 t9 t10 t11 kept files logs marks undo ok i = 64 - i
 
 start-requires : tie.Need-start-requires Inv-loop μ-loop
 start-requires c κs = search needs

@@ -1,0 +1,32 @@
+-- `ranges::none_begun` meets its contract.
+use mathlib.Core.Bool.{Bool, not}
+use mathlib.Core.Path.{_≡_, ap, _∙_}
+use Prim.Native.Nat.{_-_, _≤_}
+use native.Mathlib.Omega.{arith}
+use borrow.Author.Needs.{needs}
+use Rattle.record.specs.Layout.{transactionOf}
+use Rattle.ranges.specs.Below.{below}
+use Rattle.ranges.proofs.Tests.{none-yet, one-more, none-decides}
+use Rattle.ranges.proofs.none_begun.Statement.{statement}
+use Rattle.ranges.proofs.none_begun.Tie as tie
+
+abbrev Inv-loop : tie.InvT-loop
+Inv-loop kept none₀ t₀ none t = (t ≤ 8) × (none ≡ below (λ u. not (transactionOf kept u .begun)) t)
+
+abbrev μ-loop : tie.MeasureT-loop
+μ-loop kept none₀ t₀ none t = 8 - t
+
+loop-holds : tie.Need-loop-holds Inv-loop μ-loop
+loop-holds c = (omega arith, none-yet _)
+
+loop-again : tie.Need-loop-again Inv-loop μ-loop
+loop-again c = (omega arith, one-more _ _ _ _ (c .before .before .loop .inv .1) (ap (λ (b : Bool). not b) (c .is-begun .ensures)))
+
+returns : tie.Need-returns Inv-loop μ-loop
+returns c =
+    let e : c .before .loop .t ≡ 8 = omega arith in
+    (rw e at (c .before .loop .inv .1)) ∙ none-decides (c .before .before .args .kept .now)
+
+pub none-begun-spec : {M : Type 1} → statement M
+none-begun-spec =
+    tie.close (tie.spec Inv-loop μ-loop loop-holds (λ c κs. search needs) (λ c. search needs) (λ c. search needs) loop-again returns)

@@ -1,0 +1,2 @@
+pub mod OldBytesLaws
+pub mod Computed

@@ -23,6 +23,50 @@ pub struct Step {
     pub action: Action,
 }
 
+/// The most scripts of a dispatcher, and the most calls of a script.
+pub const SCRIPTS: usize = 8;
+pub const SCRIPT_STEPS: usize = 16;
+
+/// What a script does through one descriptor. A Write's bytes are a part of the dispatcher's data.
+#[derive(Clone, Copy, Debug, PartialEq, Eq)]
+pub enum ScriptAction {
+    Seek { to: usize },
+    Write { start: usize, length: usize },
+    GetFilePointer,
+    Read { count: usize },
+}
+
+#[derive(Clone, Copy, Debug, PartialEq, Eq)]
+pub struct ScriptStep {
+    pub descriptor: usize,
+    pub action: ScriptAction,
+}
+
+pub type Script = Vec<ScriptStep>;
+
+/// The arguments of a dispatcher. `buffer` is the reader's buffer as it is before the call.
+#[derive(Clone, Debug, PartialEq, Eq)]
+pub struct Dispatch {
+    pub scripts: Vec<Script>,
+    pub data: Vec<u8>,
+    pub buffer: Vec<u8>,
+    pub minute: usize,
+}
+
+impl Dispatch {
+    /// The call that stands at a place of a script, for a reader's buffer as it is.
+    pub fn step(&self, script: usize, place: usize, buffer: &[u8]) -> Option<Step> {
+        let ScriptStep { descriptor, action } = *self.scripts[script].get(place)?;
+        let action = match action {
+            ScriptAction::Seek { to } => Action::Seek { to },
+            ScriptAction::Write { start, length } => Action::Write { data: self.data[start..start + length].to_vec() },
+            ScriptAction::GetFilePointer => Action::GetFilePointer,
+            ScriptAction::Read { count } => Action::Read { count, buffer: buffer.to_vec() },
+        };
+        Some(Step { descriptor, action })
+    }
+}
+
 /// A call with its arguments. A number without a name is the transaction.
 #[derive(Clone, Debug, PartialEq, Eq)]
 pub enum Call {
@@ -50,6 +94,8 @@ pub enum Call {
     },
     /// Takes the last grant back.
     Undo,
+    /// Runs scripts in rounds until each is done.
+    Dispatch(Dispatch),
 }
 
 #[derive(Clone, Copy, Debug, PartialEq, Eq)]
@@ -62,6 +108,24 @@ pub enum Answer {
     Granted(u8),
     /// The count of pairs that a Places listed.
     Pairs(u16),
+    Ran(Ran),
+}
+
+/// How the scripts of a dispatcher ended, and how many Commit calls it made.
+#[derive(Clone, Copy, Debug, PartialEq, Eq)]
+pub struct Ran {
+    pub scripts: usize,
+    /// Of each script: none where it was granted, otherwise the refusal that ended it. None beyond the last script.
+    pub ended: [Option<Refusal>; SCRIPTS],
+    pub commits: u16,
+}
+
+impl Ran {
+    /// A number for each script: 0 where it was granted, otherwise the refusal's.
+    pub fn results(&self) -> Vec<u64> {
+        let number = |ended: &Option<Refusal>| ended.map_or(0, |refusal| refusal.number() as u64);
+        self.ended[..self.scripts].iter().map(number).collect()
+    }
 }
 
 /// The refusals, with their numbers in the paper's table.
@@ -87,6 +151,8 @@ pub enum Refusal {
     /// A line of a trace; no call meets it.
     BadLine = 17,
     StaleReader = 18,
+    DispatchWhileOpen = 19,
+    BadScripts = 20,
     FileClosed = 21,
     NoSuchMinute = 22,
     UndoWhileOpen = 23,
@@ -101,7 +167,8 @@ impl Refusal {
 
 pub type Outcome = Result<Answer, Refusal>;
 
-/// The outcome of a call and the buffer lent for its answer, after it (empty for a call that is no Read or Places).
+/// The outcome of a call and the buffer lent for its answer, after it (empty for a call that is no Read, Places or
+/// Dispatch).
 #[derive(Clone, Debug, PartialEq, Eq)]
 pub struct Reply {
     pub outcome: Outcome,

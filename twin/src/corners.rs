@@ -1,6 +1,7 @@
 //! Corners of Places, of looking, of stale readers and of lengths (requests F-1, F-2, F-6 and F-8), as lists of calls
 //! on store and plain machine together, and on forged records. Those of later requests have modules of their own.
 
+mod dispatch;
 mod splitting;
 mod undo;
 mod windows;
@@ -11,14 +12,17 @@ use crate::plain::Item;
 use crate::store::{Buffers, Standing, Store, DESCRIPTORS, FILES};
 use crate::vectors::run;
 
-const START: &str = "\
-fresh 0 1 2 3 4 5 6 7 0 1 2 3 4 5 6 7 -> done
-begin 0 -> done
-";
+const FRESH: &str = "fresh 0 1 2 3 4 5 6 7 0 1 2 3 4 5 6 7 -> done\n";
 
-fn agrees(calls: &str) {
-    let report = run(&format!("{START}{calls}"));
+/// Do the calls after a Fresh get the replies that stand beside them?
+fn agrees_at_rest(calls: &str) {
+    let report = run(&format!("{FRESH}{calls}"));
     assert!(report.disagreements.is_empty(), "{report:?}");
+}
+
+/// The same with transaction 0 begun.
+fn agrees(calls: &str) {
+    agrees_at_rest(&format!("begin 0 -> done\n{calls}"));
 }
 
 #[test]

@@ -26,7 +26,8 @@ impl Digest {
     }
 
     /// Takes in the outcome of a call and the buffer lent for its answer, after it: a code (0 done, 1 offset, 2 given, 3
-    /// granted, 4 pairs, 10 + n for refusal n), then the number answered (0 where there is none), then the buffer's bytes.
+    /// granted, 4 pairs, 5 ran, 10 + n for refusal n), then the number answered (0 where there is none; of a dispatcher the
+    /// count of Commits, then a number for each script), then the buffer's bytes.
     pub fn take_reply(&mut self, outcome: Outcome, buffer: &[u8]) {
         let (code, number) = match outcome {
             Ok(Answer::Done) => (0, 0),
@@ -34,10 +35,14 @@ impl Digest {
             Ok(Answer::Given(count)) => (2, count),
             Ok(Answer::Granted(count)) => (3, u16::from(count)),
             Ok(Answer::Pairs(count)) => (4, count),
+            Ok(Answer::Ran(ran)) => (5, ran.commits),
             Err(refusal) => (10 + refusal.number() as u16, 0),
         };
         self.take(code);
         self.take(number);
+        if let Ok(Answer::Ran(ran)) = outcome {
+            self.take_all(&ran.results());
+        }
         self.take_all(buffer);
     }
 

@@ -3,9 +3,11 @@
 //!
 //! The recurrence: x' = 48271 x mod 2147483647, from x = 1. (The 10,000th number is 399268537.)
 //! Call i, from 0, draws the next twelve numbers r0 to r11, whatever its kind. They, the phase (i div 256) and a guess
-//! at which transactions are open give everything about the call; the mode is the phase mod 8.
+//! at which transactions are open give everything about the call; the mode is the phase mod 9.
 
 #![allow(clippy::manual_is_multiple_of, clippy::manual_range_contains)] // plain arithmetic is wanted here
+
+use crate::scripts::{Scripts, NO_SCRIPT};
 
 pub const SEED: u64 = 1;
 
@@ -21,7 +23,7 @@ const LONG_WRITES: u64 = 3; // until the log has 4,096 bytes
 const NEAR_END: u64 = 4; // Seeks around 4,096
 const LONG_READS: u64 = 5;
 const SHORT_FILES: u64 = 7; // Seeks and Writes near the start, mostly in steps of 4, so that ends meet; more Freshes
-const QUIET: u64 = 8; // begins with a Fresh, and has few transactions, so that often none is open, and Undos
+const QUIET: u64 = 8; // begins with a Fresh, and has few transactions, so that often none is open; Undos and dispatchers
 
 // The kinds of calls.
 pub const FRESH: u64 = 0;
@@ -35,20 +37,21 @@ pub const COMMIT: u64 = 7;
 pub const ABORT: u64 = 8;
 pub const WINDOW: u64 = 9;
 pub const UNDO: u64 = 10;
+pub const DISPATCH: u64 = 11;
 
-const KINDS: u64 = 11;
+const KINDS: u64 = 12;
 
-/// How many of 1,000 calls are of each kind, for each mode (eleven numbers a mode).
-const WEIGHTS: [u64; 99] = [
-    4, 20, 205, 250, 80, 211, 40, 102, 43, 40, 5, // mixed
-    4, 20, 160, 215, 120, 190, 40, 162, 44, 40, 5, // crowded
-    4, 10, 60, 789, 10, 56, 40, 12, 8, 10, 1, // many records
-    4, 20, 209, 420, 30, 91, 40, 92, 53, 40, 1, // long writes
-    4, 20, 205, 260, 80, 145, 40, 151, 50, 40, 5, // near the end
-    4, 20, 195, 240, 60, 255, 40, 102, 39, 40, 5, // long reads
-    4, 20, 334, 335, 20, 100, 150, 16, 10, 10, 1, // scattered
-    24, 20, 50, 315, 10, 320, 16, 180, 30, 30, 5, // short files
-    4, 10, 220, 456, 20, 70, 10, 110, 20, 10, 70, // quiet
+/// How many of 1,000 calls are of each kind, for each mode (twelve numbers a mode).
+const WEIGHTS: [u64; 108] = [
+    4, 20, 200, 250, 80, 211, 40, 102, 43, 40, 5, 5, // mixed
+    4, 20, 155, 215, 120, 190, 40, 162, 44, 40, 5, 5, // crowded
+    4, 10, 60, 788, 10, 56, 40, 12, 8, 10, 1, 1, // many records
+    4, 20, 208, 420, 30, 91, 40, 92, 53, 40, 1, 1, // long writes
+    4, 20, 200, 260, 80, 145, 40, 151, 50, 40, 5, 5, // near the end
+    4, 20, 190, 240, 60, 255, 40, 102, 39, 40, 5, 5, // long reads
+    4, 20, 333, 335, 20, 100, 150, 16, 10, 10, 1, 1, // scattered
+    24, 20, 50, 310, 10, 320, 16, 180, 30, 30, 5, 5, // short files
+    4, 10, 210, 396, 20, 70, 10, 110, 20, 20, 65, 65, // quiet
 ];
 
 /// How many transaction numbers a mode mostly uses.
@@ -80,14 +83,15 @@ pub struct Request {
     pub minute: u64,
     /// A window's end.
     pub end: u64,
-    /// The length of a Read's or Places' buffer. It is filled with `BLANK` before the call.
+    /// The length of a Read's, Places' or dispatcher's buffer. It is filled with `BLANK` before the call.
     pub buffer: u64,
-    /// Byte i of a Write is (data_first + data_step i) mod 256.
+    /// Byte i of a Write, or of a dispatcher's data, is (data_first + data_step i) mod 256.
     pub data_first: u64,
     pub data_step: u64,
     /// Fresh's list is the first `list_length` numbers.
     pub list: [u8; 17],
     pub list_length: u64,
+    pub scripts: Scripts,
     pub damage: Damage,
 }
 
@@ -161,41 +165,52 @@ fn request(kind: u64, transaction: u64, mode: u64, r: &[u64; DRAWS]) -> Request 
         number: number(kind, mode, r[3], r[4]),
         minute: minute(r[3], r[4]),
         end: if r[10] % 2 == 0 { minute(r[3], r[4]) } else { minute(r[5], r[6]) },
-        buffer: buffer(kind, mode, r[3] % 16, r[4]),
+        buffer: buffer(kind, mode, r),
         data_first: if zeros { 0 } else { r[5] % 256 },
         data_step: if zeros { 0 } else { r[6] % 256 },
         list: list(r),
         list_length: list_length(r[3], r[4]),
+        scripts: scripts(r),
         damage: damage(kind, r),
     }
 }
 
 fn kind(mode: u64, r: u64) -> u64 {
     let mut rest = r % 1000;
-    for kind in FRESH..UNDO {
+    for kind in FRESH..DISPATCH {
         let weight = WEIGHTS[(KINDS * mode + kind) as usize];
         if rest < weight {
             return kind;
         }
         rest -= weight;
     }
-    UNDO
+    DISPATCH
 }
 
-/// Seven times out of eight, a call on a transaction that seems not to be open is made a Begin (in the quiet mode, a third of
-/// the times when none seems open, an Undo), and an Undo while one seems open is made a Commit or an Abort of the first such.
+/// Seven times out of eight, a call on a transaction that seems not to be open is made a Begin (in the quiet mode, while none
+/// seems open, as often an Undo or a dispatcher), and one of these two while one seems open a Commit or an Abort of the
+/// first such.
 fn fitted(mode: u64, kind: u64, transaction: u64, open: [bool; 8], r: &[u64; DRAWS]) -> (u64, u64) {
     let first = first_open(open);
     let on_transaction = SEEK <= kind && kind <= ABORT && transaction < 8;
     if r[11] % 8 == 0 {
         (kind, transaction)
     } else if on_transaction && !open[transaction as usize] {
-        let at_rest = mode == QUIET && first == 8;
-        (if at_rest && r[10] % 3 == 0 { UNDO } else { BEGIN }, transaction)
-    } else if kind == UNDO && first < 8 {
+        (if mode == QUIET && first == 8 { at_rest(r[10]) } else { BEGIN }, transaction)
+    } else if kind >= UNDO && first < 8 {
         (if r[9] % 4 == 0 { ABORT } else { COMMIT }, first)
     } else {
         (kind, transaction)
+    }
+}
+
+fn at_rest(r: u64) -> u64 {
+    if r % 3 == 0 {
+        UNDO
+    } else if r % 3 == 1 {
+        DISPATCH
+    } else {
+        BEGIN
     }
 }
 
@@ -346,11 +361,13 @@ fn minute(class: u64, value: u64) -> u64 {
     }
 }
 
-fn buffer(kind: u64, mode: u64, class: u64, value: u64) -> u64 {
+fn buffer(kind: u64, mode: u64, r: &[u64; DRAWS]) -> u64 {
     if kind == PLACES {
-        list_room(class, value)
+        list_room(r[3] % 16, r[4])
+    } else if kind == DISPATCH {
+        reader_length(mode, r[2])
     } else {
-        reader_length(mode, class)
+        reader_length(mode, r[3])
     }
 }
 
@@ -419,6 +436,26 @@ fn list_length(class: u64, value: u64) -> u64 {
         15 + 2 * (value % 2)
     } else {
         16
+    }
+}
+
+/// One to eight scripts, sometimes none or too many; now and then one is too long or writes past the data.
+fn scripts(r: &[u64; DRAWS]) -> Scripts {
+    let class = r[3] % 16;
+    Scripts {
+        count: if class == 0 {
+            9 + r[4] % 8
+        } else if class == 1 {
+            0
+        } else {
+            1 + r[4] % 8
+        },
+        data: r[5] / 256 % 64,
+        minute: minute(r[7] / 128, r[8]),
+        long: if r[8] % 32 == 0 { r[8] / 32 % 8 } else { NO_SCRIPT },
+        past: if r[9] % 16 == 0 { r[9] / 16 % 8 } else { NO_SCRIPT },
+        base: r[4],
+        stride: r[5],
     }
 }
 

@@ -1,13 +1,16 @@
-//! A second implementation of paper 01 with requests F-1 to F-9 and F-11 to F-13, written from the papers alone: a store over lent
+//! A second implementation of paper 01 with requests F-1 to F-13, written from the papers alone: a store over lent
 //! buffers, the plain machine of demand 3, a generator of calls, and the means to run the two side by side.
 
 pub mod call;
 pub mod digest;
+pub mod dispatch;
 pub mod forge;
 pub mod generator;
 pub mod marks;
 pub mod pair;
 pub mod plain;
+pub mod request;
+pub mod scripts;
 pub mod split;
 pub mod state;
 pub mod store;

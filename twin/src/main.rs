@@ -8,9 +8,8 @@
 use std::io::{self, Write};
 use std::process::ExitCode;
 
-use twin::call::{Action, Call, Step};
 use twin::digest::{self, Digest};
-use twin::generator::{self, Generator, Request};
+use twin::generator::Generator;
 use twin::pair::Pair;
 use twin::tally::Tally;
 use twin::trace;
@@ -114,7 +113,7 @@ fn run(options: &Options) -> io::Result<()> {
     for made in 1..=options.calls {
         let _number = CallNumber(made);
         let request = generator.next_call();
-        let reply = pair.call(&call(&request), Some(&request.damage));
+        let reply = pair.call(&request.call(), Some(&request.damage));
         answers.take_reply(reply.outcome, &reply.buffer);
         if made % SIGHTINGS_EVERY == 0 {
             pair.check_sightings();
@@ -137,46 +136,10 @@ fn run(options: &Options) -> io::Result<()> {
     out.flush()
 }
 
-/// The call that a request of the generator describes.
-fn call(request: &Request) -> Call {
-    let transaction = request.transaction as usize;
-    match request.kind {
-        generator::FRESH => Call::Fresh { files: request.list[..request.list_length as usize].to_vec() },
-        generator::BEGIN => Call::Begin(transaction),
-        generator::PLACES => Call::Places { transaction, file: request.file as usize, buffer: blank(request) },
-        generator::COMMIT => Call::Commit { transaction, minute: request.minute as usize },
-        generator::ABORT => Call::Abort(transaction),
-        generator::WINDOW => {
-            Call::Window { file: request.file as usize, start: request.minute as usize, end: request.end as usize }
-        }
-        generator::UNDO => Call::Undo,
-        _ => Call::Step(transaction, Step { descriptor: request.descriptor as usize, action: action(request) }),
-    }
-}
-
-fn action(request: &Request) -> Action {
-    let number = request.number as usize;
-    match request.kind {
-        generator::SEEK => Action::Seek { to: number },
-        generator::WRITE => Action::Write { data: data(request) },
-        generator::READ => Action::Read { count: number, buffer: blank(request) },
-        _ => Action::GetFilePointer,
-    }
-}
-
-/// The buffer lent for the answer.
-fn blank(request: &Request) -> Vec<u8> {
-    vec![generator::BLANK; request.buffer as usize]
-}
-
-fn data(request: &Request) -> Vec<u8> {
-    (0..request.number).map(|i| ((request.data_first + request.data_step * i) % 256) as u8).collect()
-}
-
-/// Calls so far; done, offset, given, granted, pairs; refusals 1 to 24; the digest of the state, the digest of all answers.
+/// Calls so far; done, offset, given, granted, pairs, ran; refusals 1 to 24; the digest of the state, the digest of all answers.
 fn write_line(out: &mut impl Write, made: u64, pair: &Pair, answers: Digest) -> io::Result<()> {
-    let Tally { done, offset, given, granted, pairs, refused, .. } = &pair.tally;
-    write!(out, "{made} {done} {offset} {given} {granted} {pairs}")?;
+    let Tally { done, offset, given, granted, pairs, ran, refused, .. } = &pair.tally;
+    write!(out, "{made} {done} {offset} {given} {granted} {pairs} {ran}")?;
     for count in &refused[1..] {
         write!(out, " {count}")?;
     }

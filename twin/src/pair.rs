@@ -1,9 +1,9 @@
 //! Store and plain machine side by side. Every call goes to both, and the two must agree; a disagreement is a panic.
 
-use crate::call::{Action, Answer, Call, Refusal, Reply, Step};
+use crate::call::{Action, Answer, Call, Dispatch, Ran, Refusal, Reply, Step};
 use crate::forge::{forge, garbage_in_closed, garbage_in_record, garbage_in_undo};
 use crate::generator::Damage;
-use crate::plain::{self, Committed, Course, Item, Machine, FRESH_WINDOWS};
+use crate::plain::{self, Committed, Course, Item, Machine, Rounds, FRESH_WINDOWS};
 use crate::split::Split;
 use crate::state::{untouched_buffer, State};
 use crate::store::{
@@ -102,6 +102,9 @@ impl Pair {
         if matches!(call, Call::Fresh { .. }) {
             self.check_at_rest();
         }
+        if let Call::Dispatch(dispatch) = call {
+            return self.call_dispatch(call, dispatch);
+        }
         let ending = self.ending(call);
         let expected = self.machine.take(call);
         if let (Some(course), Ok(_)) = (ending, expected.outcome) {
@@ -123,6 +126,46 @@ impl Pair {
             self.split.follow(call, &expected, &self.state);
         }
         expected
+    }
+
+    /// A dispatcher leaves what the single calls leave that the machine makes for it. They go to both sides one by one.
+    fn call_dispatch(&mut self, call: &Call, dispatch: &Dispatch) -> Reply {
+        let mut machine = self.machine.clone();
+        let (expected, rounds) = machine.dispatch(dispatch);
+        let ran = match expected.outcome {
+            Ok(Answer::Ran(ran)) => ran,
+            Err(refusal) => return self.call_refused(call, refusal),
+            Ok(other) => panic!("{call:?}: {other:?}"),
+        };
+        let mut dispatched = self.state.clone();
+        assert_eq!(dispatched.apply(call), expected, "{call:?}");
+        let tally = self.tally.clone();
+        let found = self.machine.clone();
+        for (single, reply) in rounds.iter().flatten() {
+            assert_eq!(self.call_both(single), *reply, "{single:?} of {call:?}");
+        }
+        assert!(dispatched == self.state, "{call:?} leaves something else than its single calls");
+        self.tally = tally;
+        self.tally.count_rounds(ran.scripts, &rounds);
+        check_rounds(dispatch, ran, &rounds);
+        self.check_granted_scripts(dispatch, found, &rounds);
+        expected
+    }
+
+    /// What is committed after a dispatcher is what the granted scripts leave alone, in the order of their grants, on what it
+    /// found.
+    fn check_granted_scripts(&self, dispatch: &Dispatch, found: Machine, rounds: &Rounds) {
+        let Machine { mut committed, mut grants, .. } = found;
+        for (call, reply) in rounds.iter().flatten() {
+            let (Call::Commit { transaction, .. }, Ok(_)) = (call, reply.outcome) else { continue };
+            let step = |place| dispatch.step(*transaction, place, &dispatch.buffer);
+            let steps: Vec<_> = (0..).map_while(step).collect();
+            let (course, replies) = Course::run_alone(&committed, &steps);
+            assert_eq!(replies.len(), steps.len(), "script {transaction} alone is refused");
+            grants += 1;
+            committed.grant(&course, grants);
+        }
+        assert!(committed == self.machine.committed, "{dispatch:?}: the granted scripts alone leave something else");
     }
 
     /// The transaction that a Commit may end by a grant.
@@ -276,7 +319,7 @@ impl Pair {
             Call::Undo => {
                 self.granted.pop();
             }
-            Call::Places { .. } | Call::Window { .. } => {}
+            Call::Places { .. } | Call::Window { .. } | Call::Dispatch(_) => {}
         }
     }
 
@@ -465,6 +508,23 @@ fn old_bytes(found: &Committed, course: &Course) -> Vec<u8> {
         }
     }
     old
+}
+
+/// As many rounds as scripts are enough, and the Commits that go with them; the answer names how each script ended.
+fn check_rounds(dispatch: &Dispatch, ran: Ran, rounds: &Rounds) {
+    let n = dispatch.scripts.len();
+    assert!(rounds.len() <= n, "{} rounds of {n} scripts", rounds.len());
+    assert!(usize::from(ran.commits) <= n * (n + 1) / 2, "{} commits of {n} scripts", ran.commits);
+    for k in 0..n {
+        let of_script = |call: &Call| match call {
+            Call::Step(t, _) => *t == k,
+            Call::Commit { transaction, .. } => *transaction == k,
+            _ => false,
+        };
+        let last = rounds.iter().flatten().rfind(|(call, _)| of_script(call));
+        let (_, last) = last.expect("it was committed or refused");
+        assert_eq!(ran.ended[k], last.outcome.err(), "script {k} of {dispatch:?}");
+    }
 }
 
 fn check_refused(call: &Call, reply: &Reply, refusal: Refusal) {

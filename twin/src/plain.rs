@@ -3,7 +3,9 @@
 //! and on which descriptors it acted. It has no marks and no stale flag: a transaction is stale when the sightings it holds
 //! differ from those of its accepted calls run alone on what is committed now.
 
-use crate::call::{Action, Answer, Call, Outcome, Refusal, Reply, Step};
+use crate::call::{
+    Action, Answer, Call, Dispatch, Outcome, Ran, Refusal, Reply, Script, ScriptAction, ScriptStep, Step,
+};
 
 const FILES: usize = 8;
 const DESCRIPTORS: usize = 16;
@@ -483,6 +485,7 @@ impl Machine {
             Call::Abort(t) => no_buffer(self.abort(*t)),
             Call::Window { file, start, end } => no_buffer(self.set_window(*file, *start, *end)),
             Call::Undo => no_buffer(self.undo()),
+            Call::Dispatch(dispatch) => self.dispatch(dispatch).0,
         }
     }
 
@@ -596,6 +599,102 @@ impl Machine {
     /// Which transactions are open with two equal lists.
     fn with_equal_lists(&self) -> [bool; TRANSACTIONS] {
         std::array::from_fn(|t| self.open[t].is_some() && !self.is_stale(t))
+    }
+}
+
+/// The single calls of each round of a dispatcher, with their replies.
+pub type Rounds = Vec<Vec<(Call, Reply)>>;
+
+impl Machine {
+    /// Makes the single calls of which a dispatcher consists.
+    pub fn dispatch(&mut self, dispatch: &Dispatch) -> (Reply, Rounds) {
+        let mut running = Running {
+            dispatch,
+            reader: dispatch.buffer.clone(),
+            ended: vec![None; dispatch.scripts.len()],
+            rounds: Vec::new(),
+        };
+        if let Err(refusal) = self.check_dispatch(dispatch) {
+            return (Reply { outcome: Err(refusal), buffer: running.reader }, running.rounds);
+        }
+        while running.ended.contains(&None) {
+            running.round(self);
+        }
+        let made = running.rounds.iter().flatten();
+        let commits = made.filter(|(call, _)| matches!(call, Call::Commit { .. })).count();
+        let ended = std::array::from_fn(|k| running.ended.get(k).and_then(|ended| ended.expect("it is over").err()));
+        let ran = Ran { scripts: dispatch.scripts.len(), ended, commits: commits as u16 };
+        (Reply { outcome: Ok(Answer::Ran(ran)), buffer: running.reader }, running.rounds)
+    }
+
+    fn check_dispatch(&self, dispatch: &Dispatch) -> Result<(), Refusal> {
+        if self.open.iter().any(Option::is_some) {
+            return Err(Refusal::DispatchWhileOpen);
+        }
+        let past = |step: &ScriptStep| match step.action {
+            ScriptAction::Write { start, length } => start.saturating_add(length) > dispatch.data.len(),
+            _ => false,
+        };
+        let bad = |script: &Script| script.len() > 16 || script.iter().any(past);
+        if dispatch.scripts.len() > 8 || dispatch.scripts.iter().any(bad) {
+            return Err(Refusal::BadScripts);
+        }
+        Ok(())
+    }
+}
+
+/// A dispatcher while it runs.
+struct Running<'a> {
+    dispatch: &'a Dispatch,
+    reader: Vec<u8>,
+    /// How each script that is over has ended.
+    ended: Vec<Option<Result<(), Refusal>>>,
+    rounds: Rounds,
+}
+
+impl Running<'_> {
+    fn round(&mut self, machine: &mut Machine) {
+        self.rounds.push(Vec::new());
+        for k in self.unfinished() {
+            self.make(machine, Call::Begin(k)).expect("no transaction is open between rounds");
+        }
+        let longest = self.dispatch.scripts.iter().map(Vec::len).max().unwrap_or(0);
+        for turn in 0..longest {
+            for k in self.unfinished() {
+                let Some(step) = self.dispatch.step(k, turn, &self.reader) else { continue };
+                if let Err(refusal) = self.make(machine, Call::Step(k, step)) {
+                    self.fail(machine, k, refusal);
+                }
+            }
+        }
+        for k in self.unfinished() {
+            match self.make(machine, Call::Commit { transaction: k, minute: self.dispatch.minute }) {
+                Ok(_) => self.ended[k] = Some(Ok(())),
+                Err(Refusal::Stale) => {}
+                Err(refusal) => self.fail(machine, k, refusal),
+            }
+        }
+    }
+
+    fn unfinished(&self) -> Vec<usize> {
+        (0..self.ended.len()).filter(|&k| self.ended[k].is_none()).collect()
+    }
+
+    fn fail(&mut self, machine: &mut Machine, k: usize, refusal: Refusal) {
+        self.ended[k] = Some(Err(refusal));
+        if machine.open[k].is_some() {
+            self.make(machine, Call::Abort(k)).expect("it is open");
+        }
+    }
+
+    fn make(&mut self, machine: &mut Machine, call: Call) -> Outcome {
+        let reply = machine.take(&call);
+        let outcome = reply.outcome;
+        if matches!(call, Call::Step(_, Step { action: Action::Read { .. }, .. })) {
+            self.reader = reply.buffer.clone();
+        }
+        self.rounds.last_mut().expect("a round is on").push((call, reply));
+        outcome
     }
 }
 

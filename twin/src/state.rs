@@ -1,6 +1,6 @@
 //! The store on buffers of its own, as calls are made on it.
 
-use crate::call::{Action, Answer, Call, Outcome, Reply, Step};
+use crate::call::{Action, Answer, Call, Dispatch, Outcome, Reply, Step};
 use crate::store::{Buffers, Lent, Store, DESCRIPTORS};
 
 /// The store's record with its buffers.
@@ -59,6 +59,9 @@ fn apply(store: &mut Store, lent: &mut Lent, call: &Call) -> Reply {
         Call::Abort(t) => store.abort(lent, *t).map(|()| Answer::Done),
         Call::Window { file, start, end } => store.set_window(lent, *file, *start, *end).map(|()| Answer::Done),
         Call::Undo => store.undo(lent).map(|()| Answer::Done),
+        Call::Dispatch(Dispatch { scripts, data, minute, .. }) => {
+            store.dispatch(lent, scripts, data, &mut buffer, *minute).map(Answer::Ran)
+        }
     };
     Reply { outcome, buffer }
 }
@@ -76,7 +79,9 @@ fn apply_step(store: &mut Store, lent: &mut Lent, t: usize, step: &Step, buffer:
 /// The buffer lent for the call's answer, before the call.
 pub fn untouched_buffer(call: &Call) -> Vec<u8> {
     match call {
-        Call::Step(_, Step { action: Action::Read { buffer, .. }, .. }) | Call::Places { buffer, .. } => buffer.clone(),
+        Call::Step(_, Step { action: Action::Read { buffer, .. }, .. })
+        | Call::Places { buffer, .. }
+        | Call::Dispatch(Dispatch { buffer, .. }) => buffer.clone(),
         _ => Vec::new(),
     }
 }

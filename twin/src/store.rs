@@ -484,7 +484,7 @@ impl Store {
     /// Takes the last grant back: files, offsets and lengths are again as it found them.
     pub fn undo(&mut self, lent: &mut Lent) -> Result<(), Refusal> {
         self.check_lent(lent)?;
-        if self.transactions.iter().any(|transaction| transaction.begun) {
+        if self.is_any_open() {
             return Err(Refusal::UndoWhileOpen);
         }
         if !self.undo.held {
@@ -499,7 +499,11 @@ impl Store {
 
     // The checks that calls begin with, in the order of the table.
 
-    fn check_lent(&self, lent: &Lent) -> Result<(), Refusal> {
+    pub fn is_any_open(&self) -> bool {
+        self.transactions.iter().any(|transaction| transaction.begun)
+    }
+
+    pub fn check_lent(&self, lent: &Lent) -> Result<(), Refusal> {
         lent.check()?;
         if !self.in_range() {
             return Err(Refusal::RecordRange);

@@ -3,8 +3,8 @@
 use std::io::{self, Write};
 use std::ops::Range;
 
-use crate::call::{Action, Answer, Outcome, Refusal, Reply, Step};
-use crate::plain::{Committed, Course, Item, Machine, Place, Window, Windows};
+use crate::call::{Action, Answer, Call, Outcome, Refusal, Reply, Step};
+use crate::plain::{Committed, Course, Item, Machine, Place, Rounds, Window, Windows};
 use crate::store::{Store, Transaction, FILES, SPAN};
 
 /// The highest number of a refusal.
@@ -17,6 +17,7 @@ pub struct Tally {
     pub given: u64,
     pub granted: u64,
     pub pairs: u64,
+    pub ran: u64,
     /// By the refusal's number; the first entry stays 0.
     pub refused: [u64; REFUSALS + 1],
     /// Grants while another transaction was open.
@@ -63,6 +64,16 @@ pub struct Tally {
     undone_empty: u64,
     undone_in_window: u64,
     undone_after_end: u64,
+    /// Scripts of dispatchers; granted, in a later round than the first; failed at a call, at Commit, in a later round.
+    scripts: u64,
+    scripts_granted: u64,
+    scripts_granted_later: u64,
+    scripts_failed_at_call: u64,
+    scripts_failed_at_commit: u64,
+    scripts_failed_later: u64,
+    /// Dispatchers of three rounds or more, and those of two scripts or more with as many rounds as scripts.
+    many_rounds: u64,
+    most_rounds: u64,
 }
 
 impl Tally {
@@ -73,6 +84,7 @@ impl Tally {
             Ok(Answer::Given(_)) => self.given += 1,
             Ok(Answer::Granted(_)) => self.granted += 1,
             Ok(Answer::Pairs(count)) => self.count_pairs(count),
+            Ok(Answer::Ran(_)) => self.ran += 1,
             Err(refusal) => self.refused[refusal.number()] += 1,
         }
     }
@@ -153,6 +165,34 @@ impl Tally {
         self.undone_after_end += u64::from(ended_since);
     }
 
+    /// A dispatcher that ran in these rounds.
+    pub fn count_rounds(&mut self, scripts: usize, rounds: &Rounds) {
+        self.scripts += scripts as u64;
+        self.many_rounds += u64::from(rounds.len() > 2);
+        self.most_rounds += u64::from(scripts > 1 && rounds.len() == scripts);
+        for (round, calls) in rounds.iter().enumerate() {
+            let later = u64::from(round > 0);
+            for (call, reply) in calls {
+                match (call, reply.outcome) {
+                    (_, Err(Refusal::Stale)) => {}
+                    (Call::Commit { .. }, Ok(_)) => {
+                        self.scripts_granted += 1;
+                        self.scripts_granted_later += later;
+                    }
+                    (Call::Commit { .. }, Err(_)) => {
+                        self.scripts_failed_at_commit += 1;
+                        self.scripts_failed_later += later;
+                    }
+                    (_, Err(_)) => {
+                        self.scripts_failed_at_call += 1;
+                        self.scripts_failed_later += later;
+                    }
+                    _ => {}
+                }
+            }
+        }
+    }
+
     /// A Commit that was refused, and left its transaction open if it was.
     pub fn count_kept_open(&mut self, machine: &Machine, t: usize, minute: usize, refusal: Refusal) {
         let Some(Some(transaction)) = machine.open.get(t) else { return };
@@ -180,6 +220,7 @@ impl Tally {
         writeln!(out, "given {}", self.given)?;
         writeln!(out, "granted {}", self.granted)?;
         writeln!(out, "pairs {}", self.pairs)?;
+        writeln!(out, "ran {}", self.ran)?;
         for (number, count) in self.refused.iter().enumerate().skip(1) {
             writeln!(out, "refused {number}: {count}")?;
         }
@@ -209,6 +250,14 @@ impl Tally {
         writeln!(out, "taken back, a length goes down {}", self.undone_raising)?;
         writeln!(out, "taken back, without a byte {}", self.undone_empty)?;
         writeln!(out, "taken back in a file that isn't always open {}", self.undone_in_window)?;
-        writeln!(out, "taken back after another end or a refused commit {}", self.undone_after_end)
+        writeln!(out, "taken back after another end or a refused commit {}", self.undone_after_end)?;
+        writeln!(out, "scripts {}", self.scripts)?;
+        writeln!(out, "scripts granted {}", self.scripts_granted)?;
+        writeln!(out, "scripts granted after the first round {}", self.scripts_granted_later)?;
+        writeln!(out, "scripts failed at a call {}", self.scripts_failed_at_call)?;
+        writeln!(out, "scripts failed at their commit {}", self.scripts_failed_at_commit)?;
+        writeln!(out, "scripts failed after the first round {}", self.scripts_failed_later)?;
+        writeln!(out, "dispatchers of three rounds or more {}", self.many_rounds)?;
+        writeln!(out, "dispatchers of as many rounds as scripts, at least two {}", self.most_rounds)
     }
 }

@@ -3,9 +3,10 @@
 //! A line is a call, ` -> ` and its reply, in words with one space between. A list starts with `fresh`, on buffers that are
 //! all 0. An indented line at its end names a part of the state and says what is in it. Bytes are hexadecimal pairs, and `hh*n` is n bytes hh;
 //! pieces are joined by `.`, and stand apart in an indented line; `-` is none. A word may be several numbers, with commas
-//! between. A commit without a minute is one at minute 0.
+//! between. A commit without a minute is one at minute 0. A dispatcher's scripts are one word (see `scripts`), `-` a script
+//! without calls and `none` no script.
 
-use crate::call::{Action, Answer, Call, Reply, Step};
+use crate::call::{Action, Answer, Call, Dispatch, Reply, Script, ScriptAction, ScriptStep, Step};
 use crate::pair::Pair;
 
 /// How a file went: the lists and the calls in it, and the first disagreement of each list that has one.
@@ -89,6 +90,12 @@ fn reply(pair: &mut Pair, words: &[&str]) -> Option<Vec<Word>> {
         }
         ["window", file, start, end] => Call::Window { file: number(file)?, start: number(start)?, end: number(end)? },
         ["undo"] => Call::Undo,
+        ["dispatch", scripts, data, buffer, minute] => Call::Dispatch(Dispatch {
+            scripts: self::scripts(scripts)?,
+            data: bytes(data)?,
+            buffer: bytes(buffer)?,
+            minute: number(minute)?,
+        }),
         _ => return None,
     };
     Some(said(pair.call(&call, None)))
@@ -98,6 +105,33 @@ fn step(t: &str, d: &str, action: Action) -> Option<Call> {
     Some(Call::Step(number(t)?, Step { descriptor: number(d)?, action }))
 }
 
+/// Scripts are parted by `|`, their calls by `,`, and the words of a call by `:`.
+fn scripts(word: &str) -> Option<Vec<Script>> {
+    if word == "none" {
+        return Some(Vec::new());
+    }
+    word.split('|').map(script).collect()
+}
+
+fn script(word: &str) -> Option<Script> {
+    if word == "-" {
+        return Some(Vec::new());
+    }
+    word.split(',').map(script_step).collect()
+}
+
+fn script_step(word: &str) -> Option<ScriptStep> {
+    let words: Vec<&str> = word.split(':').collect();
+    let (descriptor, action) = match words[..] {
+        ["seek", d, to] => (d, ScriptAction::Seek { to: number(to)? }),
+        ["write", d, start, length] => (d, ScriptAction::Write { start: number(start)?, length: number(length)? }),
+        ["pointer", d] => (d, ScriptAction::GetFilePointer),
+        ["read", d, count] => (d, ScriptAction::Read { count: number(count)? }),
+        _ => return None,
+    };
+    Some(ScriptStep { descriptor: number(descriptor)?, action })
+}
+
 fn said(reply: Reply) -> Vec<Word> {
     match reply.outcome {
         Ok(Answer::Done) => vec![Word::Name("done")],
@@ -105,6 +139,14 @@ fn said(reply: Reply) -> Vec<Word> {
         Ok(Answer::Given(count)) => vec![Word::Name("given"), Word::Number(count.into()), Word::Bytes(reply.buffer)],
         Ok(Answer::Granted(count)) => vec![Word::Name("granted"), Word::Number(count.into())],
         Ok(Answer::Pairs(count)) => vec![Word::Name("pairs"), Word::Number(count.into()), Word::Bytes(reply.buffer)],
+        Ok(Answer::Ran(ran)) => vec![
+            Word::Name("ran"),
+            Word::Numbers(ran.results()),
+            Word::Name("commits"),
+            Word::Number(ran.commits.into()),
+            Word::Name("reader"),
+            Word::Bytes(reply.buffer),
+        ],
         Err(refusal) => vec![Word::Name("refused"), Word::Number(refusal.number() as u64)],
     }
 }

@@ -4,7 +4,7 @@ use Prim.Native.Nat.{ℕ, _≤_}
 use native.Mathlib.Omega.{arith}
 use Rattle.record.specs.Paper.{number}
 use Rattle.record.specs.declared.outcomes.Refusal.{Refusal}
-use Rattle.record.specs.declared.outcomes.Refusal.the-variants.{BufferLength, RecordRange, NoSuchTransaction, NotOpen, AlreadyOpen, NoSuchTarget, ReaderTooShort, SeekPastEnd, WritePastEnd, RecordsFull, LogFull, SettledPastEnd, Stale, NoSuchFile, NoPlaceYet, ListTooLong, BadLine, StaleReader, FileClosed, NoSuchMinute, StillOpen, NoGrant}
+use Rattle.record.specs.declared.outcomes.Refusal.the-variants.{BufferLength, RecordRange, NoSuchTransaction, NotOpen, AlreadyOpen, NoSuchTarget, ReaderTooShort, SeekPastEnd, WritePastEnd, RecordsFull, LogFull, SettledPastEnd, Stale, NoSuchFile, NoPlaceYet, ListTooLong, BadLine, StaleReader, NotAtRest, ScriptRange, FileClosed, NoSuchMinute, StillOpen, NoGrant}
 
 number-bound : (r : Refusal) → number r ≤ 24
 number-bound BufferLength = omega arith
@@ -25,6 +25,8 @@ number-bound NoPlaceYet = omega arith
 number-bound ListTooLong = omega arith
 number-bound BadLine = omega arith
 number-bound StaleReader = omega arith
+number-bound NotAtRest = omega arith
+number-bound ScriptRange = omega arith
 number-bound FileClosed = omega arith
 number-bound NoSuchMinute = omega arith
 number-bound StillOpen = omega arith

@@ -1,5 +1,8 @@
 // Digests of the state and of the answers: from 0, h' = (65521 h + n + 1) mod 281474976710597 for each number n.
 use crate::outcomes;
+use dispatching::ends::End;
+use dispatching::ends::Ended;
+use dispatching::scripts::SCRIPTS;
 use numbers::smaller;
 use record::DESCRIPTORS;
 use record::FILES;
@@ -257,6 +260,41 @@ pub fn of_state(kept: &Record, files: &[u8], logs: &[u8], marks: &[u8], undo: &[
     let all = undo_taken(transactions_taken(committed_taken(0, kept), kept), kept);
     let shared = octets_taken(octets_taken(octets_taken(all, files), logs), marks);
     octets_taken(shared, undo)
+}
+
+// How a script ended: 0 where it was granted, otherwise the refusal's number.
+fn ended(e: Ended) -> u16 {
+    let end = e.end;
+    match end {
+        End::Unfinished => 0,
+        End::Granted => 0,
+        End::Failed(r) => r.number() as u16,
+    }
+}
+
+// The ends of the first n scripts, at most eight.
+fn ends_taken(h: usize, ends: [Ended; 8], n: usize) -> usize
+    requires { ⌜ Digest h ⌝ }
+    ensures { λ r. ⌜ Digest r ⌝ }
+{
+    let scripts = smaller(n, SCRIPTS);
+    let mut out = h;
+    let mut k = 0;
+    while k < scripts {
+        let e = ends[k];
+        out = taken(out, ended(e));
+        k += 1;
+    }
+    out
+}
+
+// Takes in that a dispatcher ran: its Commits, the ends of its scripts, and the reader's buffer after it.
+pub fn ran_taken(h: usize, commits: usize, ends: [Ended; 8], scripts: usize, buffer: &[u8]) -> usize
+    requires { ⌜ Digest h ⌝ }
+    ensures { λ r. ⌜ Digest r ⌝ }
+{
+    let counted = taken(taken(h, 5), smaller(commits, 65535) as u16);
+    octets_taken(ends_taken(counted, ends, scripts), buffer)
 }
 
 // Takes in an outcome, and the buffer lent for the answer, after the call.

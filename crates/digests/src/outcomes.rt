@@ -4,8 +4,8 @@ use record::outcomes::Outcome;
 use record::outcomes::REFUSALS;
 ghost use Prim.Native.Nat.{_<_};
 
-// The outcomes that are counted apart: five answers, then the refusals.
-pub const COUNTS: usize = 5 + REFUSALS as usize;
+// The outcomes that are counted apart: five answers, a dispatcher that ran, then the refusals.
+pub const COUNTS: usize = 6 + REFUSALS as usize;
 
 // The code of an outcome: 0 to 4 for an answer, 10 + n for refusal n.
 pub fn code(o: Outcome) -> u16 {
@@ -33,7 +33,7 @@ pub fn number(o: Outcome) -> u16 {
 
 // Which of the counts an outcome adds to.
 fn place(o: Outcome) -> usize
-    ensures { λ r. ⌜ r < 29 ⌝ }
+    ensures { λ r. ⌜ r < 30 ⌝ }
 {
     match o {
         Outcome::Done => 0,
@@ -41,14 +41,25 @@ fn place(o: Outcome) -> usize
         Outcome::Given(_) => 2,
         Outcome::Granted(_) => 3,
         Outcome::Pairs(_) => 4,
-        Outcome::Refused(r) => 4 + wide_octet(r.number()),
+        Outcome::Refused(r) => 5 + wide_octet(r.number()),
     }
 }
 
-// The counts with one more of an outcome. No count passes the number of calls made, so that none wraps.
-pub fn counted(counts: [usize; COUNTS], o: Outcome) -> [usize; COUNTS] {
+// The counts with one more at place k. No count passes the number of calls made, so that none wraps.
+fn one_more(counts: [usize; COUNTS], k: usize) -> [usize; COUNTS]
+    requires { ⌜ k < 30 ⌝ }
+{
     let mut out = counts;
-    let k = place(o);
     out[k] = std::num::wrapping_add_usize(counts[k], 1);
     out
+}
+
+// The counts with one more of an outcome.
+pub fn counted(counts: [usize; COUNTS], o: Outcome) -> [usize; COUNTS] {
+    one_more(counts, place(o))
+}
+
+// The counts with one more dispatcher that ran.
+pub fn counted_ran(counts: [usize; COUNTS]) -> [usize; COUNTS] {
+    one_more(counts, 5)
 }

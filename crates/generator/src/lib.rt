@@ -3,6 +3,7 @@
 // all about the call.
 use numbers::BUFFER_BYTES;
 use numbers::FILE_BYTES;
+use plans::Plan;
 use requests::Request;
 ghost use Prim.Native.Nat.{_≤_, _<_};
 
@@ -46,14 +47,16 @@ const SET_WINDOW: usize = 9;
 
 const TAKE_BACK: usize = 10;
 
-const KINDS: usize = 11;
+const DISPATCH: usize = 11;
 
-// How many of 1,000 calls are of each kind, eleven numbers a mode: mixed, crowded, many records, long writes, near the
+const KINDS: usize = 12;
+
+// How many of 1,000 calls are of each kind, twelve numbers a mode: mixed, crowded, many records, long writes, near the
 // end, long reads, scattered, short files, quiet.
-const WEIGHTS: [usize; 99] = [
+const WEIGHTS: [usize; 108] = [
     4,
     20,
-    205,
+    200,
     250,
     80,
     211,
@@ -62,9 +65,10 @@ const WEIGHTS: [usize; 99] = [
     43,
     40,
     5,
+    5,
     4,
     20,
-    160,
+    155,
     215,
     120,
     190,
@@ -73,10 +77,11 @@ const WEIGHTS: [usize; 99] = [
     44,
     40,
     5,
+    5,
     4,
     10,
     60,
-    789,
+    788,
     10,
     56,
     40,
@@ -84,9 +89,10 @@ const WEIGHTS: [usize; 99] = [
     8,
     10,
     1,
+    1,
     4,
     20,
-    209,
+    208,
     420,
     30,
     91,
@@ -95,9 +101,10 @@ const WEIGHTS: [usize; 99] = [
     53,
     40,
     1,
+    1,
     4,
     20,
-    205,
+    200,
     260,
     80,
     145,
@@ -106,9 +113,10 @@ const WEIGHTS: [usize; 99] = [
     50,
     40,
     5,
+    5,
     4,
     20,
-    195,
+    190,
     240,
     60,
     255,
@@ -117,9 +125,10 @@ const WEIGHTS: [usize; 99] = [
     39,
     40,
     5,
+    5,
     4,
     20,
-    334,
+    333,
     335,
     20,
     100,
@@ -128,10 +137,11 @@ const WEIGHTS: [usize; 99] = [
     10,
     10,
     1,
+    1,
     24,
     20,
     50,
-    315,
+    310,
     10,
     320,
     16,
@@ -139,17 +149,19 @@ const WEIGHTS: [usize; 99] = [
     30,
     30,
     5,
+    5,
     4,
     10,
-    220,
-    456,
+    210,
+    396,
     20,
     70,
     10,
     110,
     20,
-    10,
-    70,
+    20,
+    65,
+    65,
 ];
 
 // What is wrong with the buffers or the record lent to a call; short and forgery are 0 where nothing is.
@@ -164,9 +176,10 @@ pub struct Damage {
     pub excess: usize,
 }
 
-// A Fresh, or another call.
+// A Fresh, a dispatcher, or another call.
 pub enum Made {
     Fresh,
+    Dispatch,
     Asks(Request),
 }
 
@@ -174,15 +187,17 @@ pub enum Made {
 pub struct Generated {
     pub made: Made,
     pub transaction: usize,
-    // How many bytes a Write has, the first of them, and what each has more than the one before.
+    // How many bytes a Write or a dispatcher's data buffer has, the first of them, and what each has more than the one
+    // before.
     pub size: usize,
     pub first: u8,
     pub step: u8,
-    // The length of the buffer lent for the answer, 0 for a call that is no Read or Places.
+    // The length of the buffer lent for the answer, 0 for a call that is no Read, Places or dispatcher.
     pub buffer: usize,
     // The file numbers of a Fresh are the first `listed` of these.
     pub list: [u8; 17],
     pub listed: usize,
+    pub plan: Plan,
     pub damage: Damage,
 }
 
@@ -298,7 +313,7 @@ fn kind(mode: usize, r: usize) -> usize
 {
     let mut rest = r % 1000;
     let mut k = FRESH;
-    while k < TAKE_BACK {
+    while k < DISPATCH {
         let weight = WEIGHTS[KINDS * mode + k];
         if rest < weight {
             return k;
@@ -306,7 +321,7 @@ fn kind(mode: usize, r: usize) -> usize
         rest -= weight;
         k += 1;
     }
-    TAKE_BACK
+    DISPATCH
 }
 
 // The lowest number of a transaction that is guessed open, 8 where none is.
@@ -327,22 +342,25 @@ struct Chosen {
     transaction: usize,
 }
 
-// A call on a transaction that is guessed closed: a Begin, or a taking back, for a third of those in the quiet mode that
-// come while none is guessed open.
+// A call on a transaction that is guessed closed: a Begin or, in the quiet mode while none is guessed open, as often a
+// taking back or a dispatcher.
 fn opening(mode: usize, t: usize, first: usize, r: usize) -> Chosen {
-    if (mode == QUIET) & (first == 8) & (r % 3 == 0) {
-        return Chosen {
-            kind: TAKE_BACK,
-            transaction: t,
-        };
+    let mut kind = BEGIN;
+    if (mode == QUIET) & (first == 8) {
+        if r % 3 == 0 {
+            kind = TAKE_BACK;
+        }
+        if r % 3 == 1 {
+            kind = DISPATCH;
+        }
     }
     Chosen {
-        kind: BEGIN,
+        kind,
         transaction: t,
     }
 }
 
-// A taking back while one is guessed open: that one's Commit or Abort.
+// A taking back or a dispatcher while one is guessed open: that one's Commit or Abort.
 fn ending(first: usize, r: usize) -> Chosen {
     if r % 4 == 0 {
         return Chosen {
@@ -366,7 +384,7 @@ fn fitted(mode: usize, kind: usize, t: usize, guess: [bool; 8], r: [usize; 12]) 
         return chosen;
     }
     let first = first_open(guess);
-    if (kind == TAKE_BACK) & (first < 8) {
+    if (TAKE_BACK <= kind) & (first < 8) {
         return ending(first, r[9]);
     }
     if (kind < SEEK) | (ABORT < kind) {
@@ -393,6 +411,14 @@ fn guess_after_request(guess: [bool; 8], q: Request, t: usize) -> [bool; 8]
         _ => {}
     }
     out
+}
+
+// The same after a request whose transaction may be none.
+fn guess_after_asked(guess: [bool; 8], q: Request, t: usize) -> [bool; 8] {
+    if 7 < t {
+        return guess;
+    }
+    guess_after_request(guess, q, t)
 }
 
 // The first sixteen numbers of a list are at most 7.
@@ -425,13 +451,11 @@ pub fn guess_after(guess: [bool; 8], g: Generated) -> [bool; 8] {
     }
     let made = g.made;
     let list = g.list;
-    let Made::Asks(q) = made else {
-        return guess_after_fresh(guess, list, g.listed);
-    };
-    if 7 < t {
-        return guess;
+    match made {
+        Made::Fresh => guess_after_fresh(guess, list, g.listed),
+        Made::Dispatch => guess,
+        Made::Asks(q) => guess_after_asked(guess, q, t),
     }
-    guess_after_request(guess, q, t)
 }
 
 // A mode in which the files stay short.
@@ -604,14 +628,13 @@ fn list_room(class: usize, value: usize) -> usize {
     300
 }
 
-fn buffer(kind: usize, mode: usize, class: usize, value: usize) -> usize {
-    if kind == READ {
-        return reader_length(mode, class);
+fn buffer(kind: usize, mode: usize, r: [usize; 12]) -> usize {
+    match kind {
+        READ => reader_length(mode, r[3] % 16),
+        PLACES => list_room(r[3] % 16, r[4]),
+        DISPATCH => reader_length(mode, r[2] % 16),
+        _ => 0,
     }
-    if kind == PLACES {
-        return list_room(class, value);
-    }
-    0
 }
 
 fn octet(n: usize) -> u8
@@ -740,6 +763,9 @@ fn call_of(kind: usize, t: usize, d: usize, f: usize, n: usize, end: usize) -> M
     if kind == FRESH {
         return Made::Fresh;
     }
+    if kind == DISPATCH {
+        return Made::Dispatch;
+    }
     match kind {
         BEGIN => Made::Asks(Request::Begin(t)),
         SEEK => Made::Asks(Request::Seek(t, d, n)),
@@ -754,6 +780,48 @@ fn call_of(kind: usize, t: usize, d: usize, f: usize, n: usize, end: usize) -> M
     }
 }
 
+// How many scripts a dispatcher has: one to eight, sometimes none or too many.
+fn script_count(class: usize, value: usize) -> usize {
+    if class == 0 {
+        return 9 + value % 8;
+    }
+    if class == 1 {
+        return 0;
+    }
+    1 + value % 8
+}
+
+// One of eight scripts for one dispatcher out of n, otherwise none.
+fn one_of(r: usize, n: usize) -> usize
+    requires { ⌜ 0 < n ⌝ }
+{
+    if r % n == 0 {
+        return r / n % 8;
+    }
+    16
+}
+
+// The numbers of a dispatcher's scripts.
+fn planned(r: [usize; 12]) -> Plan {
+    Plan {
+        count: script_count(r[3] % 16, r[4]),
+        data: r[5] / 256 % 64,
+        minute: minute(r[7] / 128 % 16, r[8]),
+        long: one_of(r[8], 32),
+        past: one_of(r[9], 16),
+        base: r[4],
+        stride: r[5],
+    }
+}
+
+// How many bytes are lent beside a call: a Write's, or a dispatcher's data.
+fn lent_size(kind: usize, n: usize, data: usize) -> usize {
+    if kind == DISPATCH {
+        return data;
+    }
+    n
+}
+
 // The call of a kind in a mode that twelve numbers make.
 fn call_from(r: [usize; 12], mode: usize, chosen: Chosen) -> Generated
     ensures { λ a. ⌜ (a .damage .transaction < 8) × (a .damage .index < 16) ⌝ }
@@ -764,6 +832,7 @@ fn call_from(r: [usize; 12], mode: usize, chosen: Chosen) -> Generated
     let n = number(k, mode, class, r[4]);
     let d = damaged(k, r);
     let list = list(r);
+    let plan = planned(r);
     Generated {
         made: call_of(
             k,
@@ -774,12 +843,13 @@ fn call_from(r: [usize; 12], mode: usize, chosen: Chosen) -> Generated
             window_end(n, r),
         ),
         transaction: t,
-        size: n,
+        size: lent_size(k, n, plan.data),
         first: written(r[5], r[6]),
         step: written(r[6], r[6]),
-        buffer: buffer(k, mode, class, r[4]),
+        buffer: buffer(k, mode, r),
         list,
         listed: list_length(r[3], r[4]),
+        plan,
         damage: d,
     }
 }

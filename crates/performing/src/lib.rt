@@ -1,6 +1,10 @@
 // A generated call, performed on the store.
+use dispatching::ends::Dispatched;
+use dispatching::ends::End;
+use dispatching::ends::Ended;
 use generator::Generated;
 use generator::Made;
+use plans::Plan;
 use record::layout::Record;
 use record::outcomes::Outcome;
 ghost use Rattle.io.specs.Counts.{Counts};
@@ -39,6 +43,91 @@ fn lent(g: Generated, which: usize, buffer: &[u8]) -> usize
     within(buffer.len(), buffer)
 }
 
+// What a generated call came to. Of a dispatcher that ran: how many scripts it had, the end of each, and the number of
+// Commits that it made.
+pub struct Came {
+    pub outcome: Outcome,
+    pub ran: bool,
+    pub scripts: usize,
+    pub ends: [Ended; 8],
+    pub commits: usize,
+}
+
+// What a call came to that is no dispatcher.
+fn single(outcome: Outcome) -> Came {
+    let e = Ended {
+        end: End::Unfinished,
+    };
+    Came {
+        outcome,
+        ran: false,
+        scripts: 0,
+        ends: [e; 8],
+        commits: 0,
+    }
+}
+
+// A call was accepted, and answered plainly.
+fn is_done(o: Outcome) -> bool {
+    match o {
+        Outcome::Done => true,
+        _ => false,
+    }
+}
+
+// What a dispatcher of so many scripts came to.
+fn several(d: Dispatched, scripts: usize) -> Came {
+    let outcome = d.outcome;
+    let ends = d.ends;
+    Came {
+        outcome,
+        ran: is_done(outcome),
+        scripts,
+        ends,
+        commits: d.commits,
+    }
+}
+
+// Makes the store fresh, with the numbers listed.
+fn made_fresh(
+    kept: &mut Record,
+    files: &mut [u8],
+    logs: &[u8],
+    marks: &mut [u8],
+    undo: &[u8],
+    g: Generated,
+) -> Outcome {
+    let list = g.list;
+    let n = within(g.listed, &list);
+    store::fresh(kept, files, logs, marks, undo, &list[..n])
+}
+
+// Runs the planned scripts.
+fn dispatched(
+    kept: &mut Record,
+    files: &mut [u8],
+    logs: &mut [u8],
+    marks: &mut [u8],
+    undo: &mut [u8],
+    plan: Plan,
+    bytes: &[u8],
+    reader: &mut [u8],
+) -> Came {
+    let scripts = plans::scripts_of(plan);
+    let d = dispatching::dispatch(
+        kept,
+        files,
+        logs,
+        marks,
+        undo,
+        scripts,
+        bytes,
+        reader,
+        plan.minute,
+    );
+    several(d, plan.count)
+}
+
 // Performs the call on the buffers that are lent.
 fn on_lent(
     kept: &mut Record,
@@ -49,16 +138,25 @@ fn on_lent(
     g: Generated,
     bytes: &mut [u8],
     reader: &mut [u8],
-) -> Outcome {
+) -> Came {
     let made = g.made;
-    let Made::Asks(q) = made else {
-        let list = g.list;
-        let n = within(g.listed, &list);
-        return store::fresh(kept, files, logs, marks, undo, &list[..n]);
-    };
+    let plan = g.plan;
     put(bytes, g.first, g.step);
     put(reader, FILLED, 0);
-    requests::perform(kept, files, logs, marks, undo, q, bytes, reader)
+    match made {
+        Made::Fresh => single(made_fresh(kept, files, logs, marks, undo, g)),
+        Made::Dispatch => dispatched(kept, files, logs, marks, undo, plan, bytes, reader),
+        Made::Asks(q) => single(requests::perform(
+            kept,
+            files,
+            logs,
+            marks,
+            undo,
+            q,
+            bytes,
+            reader,
+        )),
+    }
 }
 
 // Performs the call, with a short store buffer where it says so.
@@ -71,7 +169,7 @@ pub fn performed(
     g: Generated,
     bytes: &mut [u8],
     reader: &mut [u8],
-) -> Outcome {
+) -> Came {
     let f = lent(g, 1, files);
     let l = lent(g, 2, logs);
     let m = lent(g, 3, marks);

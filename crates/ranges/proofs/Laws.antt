@@ -24,12 +24,12 @@ use Rattle.record.specs.State.{transaction, standingAt, windowAt}
 use Rattle.record.specs.Journal.{writeRecordAt, grantStretch}
 use Rattle.octets.proofs.PartLaws.{le-or-lt}
 use Rattle.ranges.specs.Below.{below, someBelow, sum}
-use Rattle.ranges.specs.Ranges.{standingIn, endsWithin, placeIn, recordIn, lengthsBefore, journalIn, transactionIn, windowIn, tablesIn, placedIn, landedIn, grantPasses, undoIn, storeIn, unless, Sizes, sizesIn, firstTests, shared, windowRefusal, admissionOfWindow, noneBegun, admissionOfTakingBack, admissionOfFresh, gateNumber}
+use Rattle.ranges.specs.Ranges.{standingIn, endsWithin, placeIn, recordIn, lengthsBefore, journalIn, transactionIn, windowIn, tablesIn, placedIn, landedIn, grantPasses, undoIn, storeIn, unless, Sizes, sizesIn, firstTests, shared, windowRefusal, admissionOfWindow, noneBegun, admissionOfTakingBack, admissionOfDispatch, admissionOfFresh, gateNumber}
 use Rattle.ranges.specs.declared.Gate.{Gate}
 use Rattle.ranges.specs.declared.Gate.the-variants.{Pass, Refused}
 use Rattle.record.specs.Paper.{number}
 use Rattle.record.specs.declared.outcomes.Refusal.{Refusal}
-use Rattle.record.specs.declared.outcomes.Refusal.the-variants.{BufferLength, RecordRange, NoSuchTransaction, NotOpen, AlreadyOpen, NoSuchTarget, ReaderTooShort, SeekPastEnd, WritePastEnd, RecordsFull, LogFull, SettledPastEnd, Stale, NoSuchFile, NoPlaceYet, ListTooLong, BadLine, StaleReader, FileClosed, NoSuchMinute, StillOpen, NoGrant}
+use Rattle.record.specs.declared.outcomes.Refusal.the-variants.{BufferLength, RecordRange, NoSuchTransaction, NotOpen, AlreadyOpen, NoSuchTarget, ReaderTooShort, SeekPastEnd, WritePastEnd, RecordsFull, LogFull, SettledPastEnd, Stale, NoSuchFile, NoPlaceYet, ListTooLong, BadLine, StaleReader, NotAtRest, ScriptRange, FileClosed, NoSuchMinute, StillOpen, NoGrant}
 
 -- Tests joined by &&.
 pub and-left : (a b : Bool) → a && b ≡ true → a ≡ true
@@ -209,6 +209,8 @@ number-suc NoPlaceYet = (14, refl)
 number-suc ListTooLong = (15, refl)
 number-suc BadLine = (16, refl)
 number-suc StaleReader = (17, refl)
+number-suc NotAtRest = (18, refl)
+number-suc ScriptRange = (19, refl)
 number-suc FileClosed = (20, refl)
 number-suc NoSuchMinute = (21, refl)
 number-suc StillOpen = (22, refl)
@@ -319,6 +321,22 @@ admitted-back z s journal e =
     let c = unless-zero (below (λ t. not (transaction s t .begun)) 8) 23 _ (omega arith) (b .1) in
     let d = unless-zero (s .undo .held) 24 0 (omega arith) (c .1) in
     record { lengths = lengths-in z (a .0); ranges = b .0; idle = λ t l. not-true _ (below-at (λ t. not (transaction s t .begun)) 8 t (c .0) l); held = d .0 }
+
+-- What passed tests of the dispatcher tell.
+pub record AdmittedDispatch (z : Sizes) (s : Store) (journal : List ℕ) (scripts : Bool) : Type 0 where
+  pub lengths : Lengths z
+  pub ranges : storeIn s journal ≡ true
+  pub idle : (t : ℕ) → t < 8 → transaction s t .begun ≡ false
+  pub pass : scripts ≡ true
+
+pub admitted-dispatch : (z : Sizes) (s : Store) (journal : List ℕ) (scripts : Bool) → admissionOfDispatch z s journal scripts ≡ 0 → AdmittedDispatch z s journal scripts
+unfolding admissionOfDispatch firstTests noneBegun
+admitted-dispatch z s journal scripts e =
+    let a = unless-zero (sizesIn z) 1 _ (omega arith) e in
+    let b = unless-zero (storeIn s journal) 2 _ (omega arith) (a .1) in
+    let c = unless-zero (below (λ t. not (transaction s t .begun)) 8) 19 _ (omega arith) (b .1) in
+    let d = unless-zero scripts 20 0 (omega arith) (c .1) in
+    record { lengths = lengths-in z (a .0); ranges = b .0; idle = λ t l. not-true _ (below-at (λ t. not (transaction s t .begun)) 8 t (c .0) l); pass = d .0 }
 
 pub record AdmittedFresh (z : Sizes) (xs : List ℕ) : Type 0 where
   pub lengths : Lengths z

@@ -159,6 +159,10 @@ noneBegun s = below (λ t. not (transaction s t .begun)) 8
 unfoldable pub admissionOfTakingBack : Sizes → Store → List ℕ → ℕ
 admissionOfTakingBack z s journal = firstTests z s journal (unless (noneBegun s) 23 (unless (s .undo .held) 24 0))
 
+-- F-10: "19 when a transaction is open at the start, after 2; 20 when .., after 19": whether the scripts pass 20 is told.
+unfoldable pub admissionOfDispatch : Sizes → Store → List ℕ → Bool → ℕ
+admissionOfDispatch z s journal scripts = firstTests z s journal (unless (noneBegun s) 19 (unless scripts 20 0))
+
 -- "a store buffer, or Fresh's list, has another length" (1); "Fresh with a file number above 7" (14). The file numbers are a list.
 unfoldable pub admissionOfFresh : Sizes → List ℕ → ℕ
 admissionOfFresh z numbers =

@@ -4,7 +4,7 @@ use Rattle.record.specs.declared.outcomes.Refusal.{Refusal}
 use Rattle.record.specs.declared.outcomes.Refusal.the-variants.{BufferLength, RecordRange, NoSuchTransaction, NotOpen, AlreadyOpen}
 use Rattle.record.specs.declared.outcomes.Refusal.the-variants.{NoSuchTarget, ReaderTooShort, SeekPastEnd, WritePastEnd}
 use Rattle.record.specs.declared.outcomes.Refusal.the-variants.{RecordsFull, LogFull, SettledPastEnd, Stale, NoSuchFile}
-use Rattle.record.specs.declared.outcomes.Refusal.the-variants.{NoPlaceYet, ListTooLong, BadLine, StaleReader}
+use Rattle.record.specs.declared.outcomes.Refusal.the-variants.{NoPlaceYet, ListTooLong, BadLine, StaleReader, NotAtRest, ScriptRange}
 use Rattle.record.specs.declared.outcomes.Refusal.the-variants.{FileClosed, NoSuchMinute, StillOpen, NoGrant}
 use Rattle.record.specs.declared.outcomes.Outcome.{Outcome}
 use Rattle.record.specs.declared.outcomes.Outcome.the-variants.{Done, Offset, Given, Granted, Pairs, Refused}
@@ -30,12 +30,14 @@ number NoPlaceYet = 15
 number ListTooLong = 16
 number BadLine = 17
 number StaleReader = 18
+number NotAtRest = 19
+number ScriptRange = 20
 number FileClosed = 21
 number NoSuchMinute = 22
 number StillOpen = 23
 number NoGrant = 24
 
--- The numbers go from 1 to this; 19 and 20 are not among them yet.
+-- The numbers go from 1 to this.
 abbrev pub refusals : ℕ
 refusals = 24
 

@@ -23,13 +23,15 @@ pub enum Refusal {
     ListTooLong,
     BadLine,
     StaleReader,
+    NotAtRest,
+    ScriptRange,
     FileClosed,
     NoSuchMinute,
     StillOpen,
     NoGrant,
 }
 
-// Their numbers in the paper go from 1 to this; 19 and 20 are not among them yet.
+// Their numbers in the paper go from 1 to this.
 pub const REFUSALS: u8 = 24;
 
 impl Refusal {
@@ -56,6 +58,8 @@ impl Refusal {
             Refusal::ListTooLong => 16,
             Refusal::BadLine => 17,
             Refusal::StaleReader => 18,
+            Refusal::NotAtRest => 19,
+            Refusal::ScriptRange => 20,
             Refusal::FileClosed => 21,
             Refusal::NoSuchMinute => 22,
             Refusal::StillOpen => 23,

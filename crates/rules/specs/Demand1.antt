@@ -14,7 +14,7 @@ use Rattle.rules.specs.Machine.{Machine}
 use Rattle.rules.specs.Calls.{fresh, call}
 use Rattle.rules.specs.Promises.{Meets}
 
--- The numbers of the refusals; 19 and 20 are of a request that comes later.
+-- The numbers of the refusals of calls; 19 and 20 are the dispatcher's (rounds/specs/Dispatch.antt).
 abbrev pub isNumber : ℕ → Bool
 isNumber n = leb n refusals && not (leb 19 n && leb n 20)
 

@@ -8,10 +8,11 @@ use digests::outcomes::COUNTS;
 use generator::Generated;
 use numbers::BUFFER_BYTES;
 use numbers::FILE_BYTES;
+use performing::Came;
 use record::layout::NUMBERS;
 use record::layout::Record;
-use record::outcomes::Outcome;
 ghost use Prim.Native.Nat.{_<_};
+ghost use Rattle.digests.specs.Bounds.{Digest};
 ghost use Rattle.workload.specs.Bounds.{Running};
 
 const CALLS: usize = 300000;
@@ -29,22 +30,43 @@ struct Course {
     answers: usize,
 }
 
-// The course after a call, from its outcome and the buffer lent for the answer.
-fn course_after(mut c: Course, g: Generated, o: Outcome, reader: &[u8]) -> Course
+// The digest of all answers after a call, from what it came to and the buffer lent for the answer.
+fn answers_after(answers: usize, came: Came, reader: &[u8]) -> usize
+    requires { ⌜ Digest answers ⌝ }
+    ensures { λ r. ⌜ Digest r ⌝ }
+{
+    let o = came.outcome;
+    let ends = came.ends;
+    if came.ran {
+        return digest::ran_taken(answers, came.commits, ends, came.scripts, reader);
+    }
+    digest::reply_taken(answers, o, reader)
+}
+
+fn counts_after(counts: [usize; COUNTS], came: Came) -> [usize; COUNTS] {
+    let o = came.outcome;
+    if came.ran {
+        return outcomes::counted_ran(counts);
+    }
+    outcomes::counted(counts, o)
+}
+
+// The course after a call.
+fn course_after(mut c: Course, g: Generated, came: Came, reader: &[u8]) -> Course
     requires { ⌜ Running c ⌝ }
     ensures { λ r. ⌜ Running r ⌝ }
 {
     let guess = c.guess;
     let counts = c.counts;
     let guessed = generator::guess_after(guess, g);
-    let counted = outcomes::counted(counts, o);
-    c.answers = digest::reply_taken(c.answers, o, reader);
+    let counted = counts_after(counts, came);
+    c.answers = answers_after(c.answers, came, reader);
     c.guess = guessed;
     c.counts = counted;
     c
 }
 
-// The outcome of a call on a copy of the record in which a number is out of range.
+// What a call comes to on a copy of the record in which a number is out of range.
 fn on_forged(
     mut copy: Record,
     files: &mut Buffer,
@@ -54,7 +76,7 @@ fn on_forged(
     g: Generated,
     bytes: &mut [u8],
     reader: &mut [u8],
-) -> Outcome
+) -> Came
     requires { ⌜ (g .damage .transaction < 8) × (g .damage .index < 16) ⌝ }
 {
     let damage = g.damage;
@@ -62,8 +84,8 @@ fn on_forged(
     performing::performed(&mut copy, files, logs, marks, undo, g, bytes, reader)
 }
 
-// The outcome of a call, on a forged copy where it says so.
-fn outcome(
+// What a call comes to, on a forged copy where it says so.
+fn comes_to(
     kept: &mut Record,
     files: &mut Buffer,
     logs: &mut Buffer,
@@ -72,7 +94,7 @@ fn outcome(
     g: Generated,
     bytes: &mut [u8],
     reader: &mut [u8],
-) -> Outcome
+) -> Came
     requires { ⌜ (g .damage .transaction < 8) × (g .damage .index < 16) ⌝ }
 {
     if 0 < g.damage.forgery {
@@ -101,9 +123,9 @@ fn turn(
     let guess = c.guess;
     let g = generator::requested(numbers, i, guess);
     c.last = drawn.last;
-    let o = outcome(kept, files, logs, marks, undo, g, bytes, reader);
+    let came = comes_to(kept, files, logs, marks, undo, g, bytes, reader);
     let n = performing::within(g.buffer, reader);
-    course_after(c, g, o, &reader[..n])
+    course_after(c, g, came, &reader[..n])
 }
 
 fn print(n: usize, after: u8) {

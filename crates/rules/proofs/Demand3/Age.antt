@@ -8,18 +8,18 @@ use lib.ListN.{length, replicate, length-replicate}
 use Prim.Native.Nat.{ℕ, zero, _≤_, _<_}
 use native.Mathlib.Omega.{arith}
 use Rattle.octets.proofs.PartLaws.{le-or-lt}
-use Rattle.record.specs.declared.Transaction.{Transaction}
-use Rattle.record.specs.State.{transaction, ended, windowAt}
+use Rattle.record.specs.State.{transaction, windowAt}
 use Rattle.record.specs.Journal.{grantStretch, writeRecordAt, withRecords}
 use Rattle.record.proofs.JournalLaws.{length-with, read-own}
-use Rattle.ranges.proofs.Laws.{InRange, in-range, in-range-intro, landed-in}
+use Rattle.ranges.proofs.Laws.{in-range, in-range-intro, landed-in}
 use Rattle.rules.specs.Items.{Values, Item, byte, offset, fileLength}
-use Rattle.rules.specs.Messages.{Call, Reply}
+use Rattle.rules.specs.Messages.{Call}
 use Rattle.rules.specs.Machine.{Machine, fileOf, values}
 use Rattle.rules.specs.Undo.{takenBack}
-use Rattle.rules.specs.Plain.{nothing, found}
-use Rattle.rules.specs.Calls.{freshStore, freshMachine, callsAfter, callsReplies}
-use Rattle.rules.specs.Age.{AtRest, rejuvenated, earlierIn, Alike, Ageless, Demand3AtRest}
+use Rattle.rules.specs.Plain.{nothing, found, startPlain, plainAfter}
+use Rattle.rules.specs.Calls.{freshStore, freshMachine, callsAfter}
+use Rattle.rules.specs.Demand3.{Holds}
+use Rattle.rules.specs.Age.{AtRest, rejuvenated, earlierIn, Ageless, Demand3AtRest}
 use Rattle.rules.proofs.Serial.Invariant.{GoodEarlier}
 use Rattle.rules.proofs.Serial.FirstHalf.{backOf}
 use Rattle.rules.proofs.Serial.Sighted.{Seat, vacant, Back, none, kept, Sighted, startSighted, sightedAfter, sightedReplies}
@@ -27,7 +27,7 @@ use Rattle.rules.proofs.View.Shape.{heldBy, seat, backValues, backIn, v
 use Rattle.rules.proofs.View.Back.{SameGrant, undo-same, back-same, back-values}
 use Rattle.rules.proofs.View.Endings.{seat-in, seat-out}
 use Rattle.rules.proofs.View.FreshView.{fresh-sound, closed-at}
-use Rattle.rules.proofs.Demand3.Theorem.{Agree, calls-agree, fresh-facts, holds-from}
+use Rattle.rules.proofs.Demand3.Theorem.{calls-agree, fresh-facts, holds-from}
 
 -- What a store with nothing open stands for.
 module _ (m : Machine) (closed : (t : ℕ) → t ≤ 7 → transaction (m .store) t .begun ≡ false) where
@@ -41,7 +41,7 @@ module _ (m : Machine) (closed : (t : ℕ) → t ≤ 7 → transaction (m .store
       let e : _≡_ {A = ℕ → Seat} (seat m) (λ u. vacant) = fun-ext (λ u. no-seat u (le-or-lt 8 u)) in
       λ i. record { fileOf = fileOf (m .store); value = values (m .store) (m .files); windows = windowAt (m .store); back = backIn m; seats = e i }
 
-at-rest-sound : (m : Machine) → AtRest m → Sound m
+pub at-rest-sound : (m : Machine) → AtRest m → Sound m
 at-rest-sound m r =
     subst⁻¹ (λ (x : Machine). Sound x) (r .reached)
     (calls-agree (r .calls) (r .first) (fresh-facts (r .numbers) (r .first) (r .made) .sound) .sound)
@@ -131,7 +131,7 @@ ageless m rest logs size cs =
     }
 
 -- What the plain machine starts with to go back to.
-earlier-good : (m : Machine) → GoodEarlier (earlierIn m)
+pub earlier-good : (m : Machine) → GoodEarlier (earlierIn m)
 unfolding earlierIn
 earlier-good m = pick (m .store .undo .held)
   where
@@ -149,7 +149,20 @@ earlier-back m = pick (m .store .undo .held)
     pick true = ap kept (sym (back-values m))
     pick false = refl
 
+-- Demand 3 from a sound store with nothing open.
+module _ (m : Machine) (sound : Sound m) (closed : (t : ℕ) → t ≤ 7 → transaction (m .store) t .begun ≡ false) where
+  pub resting-start :
+      view m ≡ startSighted (fileOf (m .store)) (values (m .store) (m .files)) (windowAt (m .store)) (backOf (earlierIn m))
+  resting-start =
+      resting-view m closed
+      ∙ ap (λ (b : Back). startSighted (fileOf (m .store)) (values (m .store) (m .files)) (windowAt (m .store)) b) (earlier-back m)
+
+  pub resting-holds :
+      (cs : List Call)
+      → let p = startPlain (fileOf (m .store)) (values (m .store) (m .files)) (windowAt (m .store)) (earlierIn m) in
+      Holds m p cs (callsAfter cs m) (plainAfter cs p)
+  resting-holds cs =
+      holds-from (fileOf (m .store)) (values (m .store) (m .files)) (windowAt (m .store)) (earlierIn m) (earlier-good m) m sound resting-start cs
+
 pub demand3-at-rest : Demand3AtRest
-demand3-at-rest m rest cs =
-    holds-from (fileOf (m .store)) (values (m .store) (m .files)) (windowAt (m .store)) (earlierIn m) (earlier-good m) m (at-rest-sound m rest)
-    (resting-view m (rest .closed) ∙ ap (λ (b : Back). startSighted (fileOf (m .store)) (values (m .store) (m .files)) (windowAt (m .store)) b) (earlier-back m)) cs
+demand3-at-rest m rest = resting-holds m (at-rest-sound m rest) (rest .closed)

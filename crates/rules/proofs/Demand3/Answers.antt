@@ -1,15 +1,16 @@
 -- What a step can say: an accepted one answers, a refused one leaves everything.
 use mathlib.Core.Bool.{Bool, true, false, cond, not, _&&_, false≢true}
-use mathlib.Core.List.{List, []}
-use mathlib.Core.Path.{_≡_, refl, sym, ap, _∙_, subst}
-use borrow.Author.Tests.{leb-true, eq-eqb}
+use mathlib.Core.List.{List}
+use mathlib.Core.Path.{_≡_, refl, subst}
+use borrow.Author.Tests.{leb-true, le-leb, lt-leb, eq-eqb}
+use native.Mathlib.Omega.{arith}
 use lib.Dec.{leb, ltb, eqb}
-use Prim.Native.Nat.{ℕ, _≤_, min}
-use Rattle.record.specs.Paper.{number, Said, plain, pointer, given, granted, pairs, refused}
+use Prim.Native.Nat.{ℕ, _≤_}
+use Rattle.record.specs.Paper.{number, refusals, Said, plain, pointer, given, granted, pairs, refused}
 use Rattle.record.specs.declared.outcomes.Refusal.the-variants.{Stale}
 use Rattle.ranges.proofs.Laws.{and-left, and-right}
 use Rattle.rules.specs.Demand1.{isNumber}
-use Rattle.rules.specs.Items.{Item, fileLength, Values, Prog, done, ask, within, andThen, result}
+use Rattle.rules.specs.Items.{fileLength, Values, Prog, done, ask, within, andThen, result}
 use Rattle.rules.specs.Messages.{Op, seek, write, getFilePointer, read}
 use Rattle.rules.specs.Steps.{Stepped, refuse, accept, check, orGivenBack, seekStep, writeStep, pointerStep, readSettled, readStep, step, turnedBack}
 use Rattle.rules.specs.Transactions.{Txn, Settled, past, all}
@@ -48,8 +49,26 @@ abbrev pub Right : Stepped → Type 0
 Right (refuse n) = Later n
 Right (accept y a b) = IsAnswer a
 
+-- What a step gives where it is not turned back: a refusal is one of 6 to 12.
+abbrev pub OfStep : ℕ → Type 0
+OfStep n = (6 ≤ n) × (n ≤ 12)
+
+abbrev pub Plainly : Stepped → Type 0
+Plainly (refuse n) = OfStep n
+Plainly (accept y a b) = IsAnswer a
+
+plainly-right : (s : Stepped) → Plainly s → Right s
+plainly-right (refuse n) h =
+    let low : leb n refusals ≡ true = le-leb n refusals (omega (arith, h .1)) in
+    let under : leb 19 n ≡ false = lt-leb 19 n (omega (arith, h .1)) in
+    (omega (arith, h .0), (rw (low, under) refl, λ e. omega (arith, h .1)))
+plainly-right (accept y a b) h = h
+
+of-step : (n : ℕ) → leb 6 n && leb n 12 ≡ true → OfStep n
+of-step n e = (leb-true 6 n (and-left (leb 6 n) _ e), leb-true n 12 (and-right (leb 6 n) _ e))
+
 abbrev pub Always : Prog Stepped → Type 0
-Always (done s) = Right s
+Always (done s) = Plainly s
 Always (ask i f) = (v : ℕ) → Always (f v)
 Always (within g p f) = (b : Bool) → Always (f b)
 
@@ -60,14 +79,14 @@ module _ {A : Type 0} where
   always-then (ask i f) k h = λ v. always-then (f v) k h
   always-then (within g p f) k h = λ b. always-then (f b) k h
 
-always-check : (ok : Bool) (n : ℕ) (next : Prog Stepped) → Later n → Always next → Always (check ok n next)
+always-check : (ok : Bool) (n : ℕ) (next : Prog Stepped) → OfStep n → Always next → Always (check ok n next)
 unfolding check
 always-check true n next h a = a
 always-check false n next h a = h
 
 always-back : (next : Txn → Prog Stepped) → ((y : Txn) → Always (next y)) → (s : Settled) → Always (orGivenBack next s)
 unfolding orGivenBack
-always-back next h past = later 12 refl
+always-back next h past = of-step 12 refl
 always-back next h (all y) = h y
 
 always-read : (fileOf : ℕ → ℕ) (d n : ℕ) (buffer : List ℕ) (y : Txn) → Always (readSettled fileOf d n buffer y)
@@ -76,27 +95,32 @@ always-read fileOf d n buffer y = always-then _ _ (λ bytes. tt)
 
 always-step : (fileOf : ℕ → ℕ) (o : Op) (x : Txn) → Always (step fileOf o x)
 unfolding step seekStep writeStep pointerStep readStep
-always-step fileOf (seek d v) x = always-check _ 6 _ (later 6 refl) (always-check _ 8 _ (later 8 refl) tt)
+always-step fileOf (seek d v) x = always-check _ 6 _ (of-step 6 refl) (always-check _ 8 _ (of-step 8 refl) tt)
 always-step fileOf (write d bytes) x =
-    always-check _ 6 _ (later 6 refl)
-    (always-check _ 9 _ (later 9 refl) (always-check _ 10 _ (later 10 refl) (always-check _ 11 _ (later 11 refl) tt)))
+    always-check _ 6 _ (of-step 6 refl)
+    (always-check _ 9 _ (of-step 9 refl) (always-check _ 10 _ (of-step 10 refl) (always-check _ 11 _ (of-step 11 refl) tt)))
 always-step fileOf (getFilePointer d) x =
-    always-check _ 6 _ (later 6 refl) (always-then _ _ (λ s. always-back _ (λ y. tt) s))
+    always-check _ 6 _ (of-step 6 refl) (always-then _ _ (λ s. always-back _ (λ y. tt) s))
 always-step fileOf (read d n buffer) x =
-    always-check _ 6 _ (later 6 refl)
-    (always-check _ 7 _ (later 7 refl) (always-then _ _ (λ s. always-back _ (always-read fileOf d n buffer) s)))
+    always-check _ 6 _ (of-step 6 refl)
+    (always-check _ 7 _ (of-step 7 refl) (always-then _ _ (λ s. always-back _ (always-read fileOf d n buffer) s)))
 
-always-result : (v : Values) (p : Prog Stepped) → Always p → Right (result v p)
+always-result : (v : Values) (p : Prog Stepped) → Always p → Plainly (result v p)
 unfolding result
 always-result v (done s) h = h
 always-result v (ask i f) h = always-result v (f (v i)) (h (v i))
 always-result v (within g p f) h = chosen (ltb p (v (fileLength g))) (always-result v (f true) (h true)) (always-result v (f false) (h false))
   where
-    chosen : (b : Bool) → Right (result v (f true)) → Right (result v (f false)) → Right (cond b (result v (f true)) (result v (f false)))
+    chosen : (b : Bool) → Plainly (result v (f true)) → Plainly (result v (f false)) → Plainly (cond b (result v (f true)) (result v (f false)))
     chosen true k l = k
     chosen false k l = l
 
--- The step of a call, turned back or not.
+-- The step of a call.
+pub plain-step : (fileOf : ℕ → ℕ) (o : Op) (x : Txn) (v : Values) → Plainly (result v (step fileOf o x))
+plain-step fileOf o x v = always-result v (step fileOf o x) (always-step fileOf o x)
+
+-- .. turned back or not.
 pub right-step : (fileOf : ℕ → ℕ) (o : Op) (x : Txn) (v : Values) (stale : Bool) → Right (turnedBack stale o (result v (step fileOf o x)))
 right-step fileOf o x v stale =
-    turned-back Right stale o (result v (step fileOf o x)) (later 18 refl) (λ e. always-result v (step fileOf o x) (always-step fileOf o x))
+    turned-back Right stale o (result v (step fileOf o x)) (later 18 refl)
+    (λ e. plainly-right (result v (step fileOf o x)) (plain-step fileOf o x v))

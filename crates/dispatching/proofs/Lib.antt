@@ -1,0 +1,3 @@
+pub mod ScriptLaws
+pub mod StepLaws
+pub mod DispatchLaws

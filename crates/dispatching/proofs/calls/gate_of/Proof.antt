@@ -1,0 +1,50 @@
+-- In each arm the outcome is the arm's.
+use mathlib.Core.Path.{sym, ap}
+use Rattle.record.specs.declared.outcomes.Outcome.{Outcome}
+use Rattle.record.specs.Paper.{said}
+use Rattle.ranges.specs.Ranges.{gateNumber}
+use Rattle.rounds.specs.Rounds.{refusalIn}
+use borrow.Author.Needs.{needs}
+use Rattle.dispatching.proofs.calls.gate_of.Statement.{statement}
+use Rattle.dispatching.proofs.calls.gate_of.Tie as tie
+
+returns : tie.Need-returns
+unfolding gateNumber refusalIn said
+returns c = search needs
+
+returns-2 : tie.Need-returns-2
+unfolding gateNumber refusalIn said
+returns-2 c = search needs
+
+returns-3 : tie.Need-returns-3
+unfolding gateNumber refusalIn said
+returns-3 c = search needs
+
+returns-4 : tie.Need-returns-4
+unfolding gateNumber refusalIn said
+returns-4 c = search needs
+
+returns-5 : tie.Need-returns-5
+unfolding gateNumber refusalIn said
+returns-5 c = search needs
+
+returns-6 : tie.Need-returns-6
+unfolding gateNumber refusalIn said
+returns-6 c = sym (ap (λ (o : Outcome). refusalIn (said o)) (c .before .o .given .1))
+
+pub gate-of-spec : {M : Type 1} → statement M
+gate-of-spec =
+    tie.close
+    (tie.spec
+    (λ c. search needs)
+    (λ c. search needs)
+    (λ c. search needs)
+    (λ c. search needs)
+    (λ c. search needs)
+    (λ c. search needs)
+    returns
+    returns-2
+    returns-3
+    returns-4
+    returns-5
+    returns-6)

@@ -1,0 +1,83 @@
+-- `running::run` meets its contract. The loop's invariant: what stands is the work of the rounds below j.
+use mathlib.Core.Path.{_≡_, refl, sym, ap}
+use lib.ListN.{length}
+use native.Mathlib.Omega.{arith}
+use Prim.Native.Nat.{ℕ, _-_, _*_, _≤_}
+use borrow.Author.Needs.{needs}
+use Rattle.rules.specs.Promises.{machineOf}
+use Rattle.rounds.specs.Rounds.{nothingDone, rounds, dispatched}
+use Rattle.rounds.specs.Dispatch.{storeReply, onStore}
+use Rattle.dispatching.specs.Types.{scriptsOf}
+use Rattle.dispatching.specs.Steps.{Stands}
+use Rattle.dispatching.proofs.ScriptLaws.{scripts-eight}
+use Rattle.dispatching.proofs.StepLaws.{stands-as, rounds-more, nothing-stands}
+use Rattle.dispatching.proofs.running.run.Statement.{statement}
+use Rattle.dispatching.proofs.running.run.Tie as tie
+
+abbrev Inv-loop : tie.InvT-loop
+Inv-loop kept₀ files₀ logs₀ marks₀ undo₀ scripts bytes reader₀ minute count p₀ j₀ kept files logs marks undo reader p j =
+    let m = machineOf kept₀ files₀ logs₀ marks₀ undo₀ in
+    (j ≤ count)
+    × (p .commits ≤ 8 * j)
+    × (length files ≡ length files₀) × (length logs ≡ length logs₀) × (length marks ≡ length marks₀) × (length undo ≡ length undo₀) × (length reader ≡ length reader₀)
+    × Stands m (rounds (storeReply m) bytes minute (scriptsOf scripts) j (nothingDone reader₀)) (machineOf kept files logs marks undo) reader (p .ends) (p .commits)
+
+abbrev μ-loop : tie.MeasureT-loop
+μ-loop kept₀ files₀ logs₀ marks₀ undo₀ scripts bytes reader₀ minute count p₀ j₀ kept files logs marks undo reader p j = count - j
+
+loop-holds : tie.Need-loop-holds Inv-loop μ-loop
+unfolding rounds
+loop-holds c = (omega arith, omega arith, refl, refl, refl, refl, refl, nothing-stands _ _)
+
+round-requires : tie.Need-round-requires Inv-loop μ-loop
+round-requires c κs =
+    let start = c .before .before .before .before .before .before .before .before .before .before .before .before .before .before in
+    let few = scripts-eight _ _ (start .pre) in
+    let l = c .before .before .before .before .before .before .before .loop in
+    (start .pre, omega (arith, few, l .inv .1, c .before .before .before .before .before .before .loop-test .taken))
+
+add-j : tie.Need-add-j Inv-loop μ-loop
+add-j c = let few = scripts-eight _ _ (c .before .before .before .before .before .before .before .before .before .before .before .before .before .before .before .before .before .before .before .before .before .before .before .before .before .pre) in search needs
+
+loop-again : tie.Need-loop-again Inv-loop μ-loop
+loop-again c =
+    let done = c .before .before .before .before .before .before .before .before .before .before in
+    let l = done .before .before .before .before .before .before .before .before .loop in
+    let few = scripts-eight _ _ (c .before .before .before .before .before .before .before .before .before .before .before .before .before .before .before .before .before .before .before .before .before .before .before .before .before .pre) in
+    let more = done .round .ensures in (
+      omega arith,
+      omega (arith, few, l .inv .1, more .1),
+      search needs,
+      search needs,
+      search needs,
+      search needs,
+      search needs,
+      stands-as _ _ _ _ _ _ _ (rounds-more _ _ _ _ (l .j) _) (more .0 _ _ (l .inv .7)),
+    )
+
+returns : tie.Need-returns Inv-loop μ-loop
+unfolding onStore dispatched scriptsOf
+returns c =
+    let l = c .before .loop in
+    let a = c .before .before .before .before .before .before .before .before .args in
+    let m = machineOf (a .kept .now) (a .files .now) (a .logs .now) (a .marks .now) (a .undo .now) in
+    let e : l .j ≡ a .scripts .count = omega arith in
+    stands-as m _ _ _ _ _ _ (ap (λ (j : ℕ). rounds (storeReply m) (a .bytes .now) (a .minute) (scriptsOf (a .scripts)) j (nothingDone (a .reader .now))) (sym e)) (l .inv .7)
+
+pub run-spec : {M : Type 1} → statement M
+run-spec =
+    tie.close
+    (tie.spec
+    Inv-loop
+    μ-loop
+    loop-holds
+    round-requires
+    add-j
+    (λ c. search needs)
+    loop-again
+    (λ c. c .before .loop .inv .2)
+    (λ c. c .before .loop .inv .3)
+    (λ c. c .before .loop .inv .4)
+    (λ c. c .before .loop .inv .5)
+    (λ c. c .before .loop .inv .6)
+    returns)

@@ -1,0 +1,397 @@
+// The rounds. Each begins every script that goes on, gives each one call in turn until none has a call left, and then
+// commits them.
+use crate::calls::gate_of;
+use crate::calls::make;
+use crate::ends::End;
+use crate::ends::Ended;
+use crate::ends::Ends;
+use crate::scripts::CALLS;
+use crate::scripts::Scripts;
+use ranges::Gate;
+use record::layout::Record;
+use record::outcomes::Refusal;
+ghost use mathlib.Core.List.{List};
+ghost use mathlib.Core.Path.{_≡_};
+ghost use mathlib.Core.Bool.{true, cond};
+ghost use lib.ListN.{length};
+ghost use Prim.Native.Nat.{ℕ, _+_, _<_, _≤_};
+ghost use Rattle.record.specs.Paper.{number};
+ghost use Rattle.ranges.specs.Ranges.{gateNumber};
+ghost use Rattle.rules.specs.Messages.{begin};
+ghost use Rattle.rules.specs.Promises.{handed, left};
+ghost use Rattle.rounds.specs.Rounds.{Scripts as SomeScripts, scriptsIn, goesOn, withCall, failing, orFailing, decided};
+ghost use Rattle.rounds.specs.Rounds.{begins, turn, turns, passes, commitOne, commitAll, round};
+ghost use Rattle.rounds.specs.Dispatch.{storeReply, onStore};
+ghost use Rattle.dispatching.specs.Types.{scriptsOf, endAt};
+ghost use Rattle.dispatching.specs.Steps.{Stands, Carries, Steps, StepsAside};
+
+// The ends of the scripts, and the number of Commits made.
+pub struct Progress {
+    pub ends: [Ended; 8],
+    pub commits: usize,
+}
+
+// Script k goes on.
+fn goes_on(ends: Ends, k: usize) -> bool
+    requires { ⌜ k < 8 ⌝ }
+    ensures { λ r. ⌜ r ≡ goesOn (endAt ends k) ⌝ }
+{
+    let e = ends[k];
+    let end = e.end;
+    match end {
+        End::Unfinished => true,
+        End::Granted => false,
+        End::Failed(_) => false,
+    }
+}
+
+// Script k fails with the refusal, and is aborted: it is still open.
+fn fail(
+    kept: &mut Record,
+    files: &[u8],
+    logs: &[u8],
+    marks: &mut [u8],
+    undo: &[u8],
+    ends: Ends,
+    k: usize,
+    r: Refusal,
+) -> Ends
+    requires { ⌜ k < 8 ⌝ }
+    ensures { λ es. ⌜ StepsAside (λ m w. failing k (number r) w) kept files logs marks undo ends es ⌝ }
+{
+    store::abort(kept, files, logs, marks, undo, k);
+    let mut out = ends;
+    out[k] = Ended {
+        end: End::Failed(r),
+    };
+    out
+}
+
+// After a call of script k: a refusal ends it.
+fn answered(
+    kept: &mut Record,
+    files: &[u8],
+    logs: &[u8],
+    marks: &mut [u8],
+    undo: &[u8],
+    ends: Ends,
+    k: usize,
+    g: Gate,
+) -> Ends
+    requires { ⌜ k < 8 ⌝ }
+    ensures { λ es. ⌜ StepsAside (λ m w. orFailing k (gateNumber g) w) kept files logs marks undo ends es ⌝ }
+{
+    if let Gate::Refused(r) = g {
+        return fail(kept, files, logs, marks, undo, ends, k, r);
+    }
+    ends
+}
+
+// After the Commit of script k: it was granted, is stale and goes on, or another refusal ends it.
+fn decide(
+    kept: &mut Record,
+    files: &[u8],
+    logs: &[u8],
+    marks: &mut [u8],
+    undo: &[u8],
+    ends: Ends,
+    k: usize,
+    g: Gate,
+) -> Ends
+    requires { ⌜ k < 8 ⌝ }
+    ensures { λ es. ⌜ StepsAside (λ m w. decided k (gateNumber g) w) kept files logs marks undo ends es ⌝ }
+{
+    if let Gate::Refused(r) = g {
+        if r.number() == Refusal::Stale.number() {
+            return ends;
+        }
+        return fail(kept, files, logs, marks, undo, ends, k, r);
+    }
+    let mut out = ends;
+    out[k] = Ended { end: End::Granted };
+    out
+}
+
+// Begins script k, if it goes on.
+fn begin_one(
+    kept: &mut Record,
+    files: &[u8],
+    logs: &[u8],
+    marks: &mut [u8],
+    undo: &[u8],
+    ends: Ends,
+    k: usize,
+)
+    requires { ⌜ k < 8 ⌝ }
+    ensures { λ _. ⌜ StepsAside (λ m w. cond (goesOn (w .ends k)) (withCall (begin k) w) w)
+        kept files logs marks undo ends ends ⌝ }
+{
+    if goes_on(ends, k) {
+        store::begin(kept, files, logs, marks, undo, k);
+    }
+}
+
+// Begins each script that goes on.
+fn begin_all(
+    kept: &mut Record,
+    files: &[u8],
+    logs: &[u8],
+    marks: &mut [u8],
+    undo: &[u8],
+    ends: Ends,
+    count: usize,
+)
+    requires { ⌜ count ≤ 8 ⌝ }
+    ensures { λ _. ⌜ ((bytes : List ℕ) (minute : ℕ) (x : SomeScripts)
+        → StepsAside (λ m. begins (storeReply m) bytes minute x count) kept files logs marks undo ends ends) ⌝ }
+{
+    let mut k = 0;
+    while k < count {
+        begin_one(kept, files, logs, marks, undo, ends, k);
+        k += 1;
+    }
+}
+
+// Call i of script k, if it has one and goes on.
+fn turn(
+    kept: &mut Record,
+    files: &mut [u8],
+    logs: &mut [u8],
+    marks: &mut [u8],
+    undo: &mut [u8],
+    scripts: Scripts,
+    bytes: &[u8],
+    reader: &mut [u8],
+    ends: Ends,
+    i: usize,
+    k: usize,
+) -> Ends
+    requires { ⌜ (scriptsIn (length (now bytes)) (scriptsOf scripts) ≡ true) × (i < 16) × (k < scripts .count) ⌝ }
+    ensures { λ es. ⌜ ((minute : ℕ)
+        → Steps (λ m. turn (storeReply m) (now (bytes .entry)) minute (scriptsOf scripts) i k)
+        kept files logs marks undo reader ends es) ⌝ }
+{
+    if !goes_on(ends, k) {
+        return ends;
+    }
+    if i >= scripts.counts[k] {
+        return ends;
+    }
+    let line = scripts.lines[CALLS * k + i];
+    let call = line.call;
+    let g = make(kept, files, logs, marks, undo, k, call, bytes, reader);
+    answered(kept, files, logs, marks, undo, ends, k, g)
+}
+
+// Call i of each script that has one and goes on, in order.
+fn turns(
+    kept: &mut Record,
+    files: &mut [u8],
+    logs: &mut [u8],
+    marks: &mut [u8],
+    undo: &mut [u8],
+    scripts: Scripts,
+    bytes: &[u8],
+    reader: &mut [u8],
+    ends: Ends,
+    i: usize,
+) -> Ends
+    requires { ⌜ (scriptsIn (length (now bytes)) (scriptsOf scripts) ≡ true) × (i < 16) ⌝ }
+    ensures { λ es. ⌜ ((minute : ℕ)
+        → Steps (λ m. turns (storeReply m) (now (bytes .entry)) minute (scriptsOf scripts) i (scripts .count))
+        kept files logs marks undo reader ends es) ⌝ }
+{
+    let count = scripts.count;
+    let mut out = ends;
+    let mut k = 0;
+    while k < count {
+        let next = turn(
+            kept,
+            files,
+            logs,
+            marks,
+            undo,
+            scripts,
+            bytes,
+            reader,
+            out,
+            i,
+            k,
+        );
+        out = next;
+        k += 1;
+    }
+    out
+}
+
+// The calls of a round, one of each script in turn, until none has a call left.
+fn passes(
+    kept: &mut Record,
+    files: &mut [u8],
+    logs: &mut [u8],
+    marks: &mut [u8],
+    undo: &mut [u8],
+    scripts: Scripts,
+    bytes: &[u8],
+    reader: &mut [u8],
+    ends: Ends,
+) -> Ends
+    requires { ⌜ scriptsIn (length (now bytes)) (scriptsOf scripts) ≡ true ⌝ }
+    ensures { λ es. ⌜ ((minute : ℕ)
+        → Steps (λ m. passes (storeReply m) (now (bytes .entry)) minute (scriptsOf scripts) 16)
+        kept files logs marks undo reader ends es) ⌝ }
+{
+    let mut out = ends;
+    let mut i = 0;
+    while i < CALLS {
+        let next = turns(
+            kept,
+            files,
+            logs,
+            marks,
+            undo,
+            scripts,
+            bytes,
+            reader,
+            out,
+            i,
+        );
+        out = next;
+        i += 1;
+    }
+    out
+}
+
+// Commits script k, if it goes on.
+fn commit_one(
+    kept: &mut Record,
+    files: &mut [u8],
+    logs: &[u8],
+    marks: &mut [u8],
+    undo: &mut [u8],
+    p: Progress,
+    k: usize,
+    minute: usize,
+) -> Progress
+    requires { ⌜ (k < 8) × (p .commits < 64) ⌝ }
+    ensures work { λ q. ⌜ ((bytes : List ℕ) (x : SomeScripts) (reader : List ℕ)
+        → Carries (λ m. commitOne (storeReply m) bytes minute x k)
+        (handed kept files logs marks undo) reader (p .ends) (p .commits)
+        (left kept files logs marks undo) reader (q .ends) (q .commits)) ⌝ }
+    ensures few { λ q. ⌜ q .commits ≤ p .commits + 1 ⌝ }
+{
+    let ends = p.ends;
+    if !goes_on(ends, k) {
+        return p;
+    }
+    let o = store::commit(kept, files, logs, marks, undo, k, minute);
+    let out = decide(kept, files, logs, marks, undo, ends, k, gate_of(o));
+    Progress {
+        ends: out,
+        commits: p.commits + 1,
+    }
+}
+
+// Commits each script that goes on, in order.
+fn commit_all(
+    kept: &mut Record,
+    files: &mut [u8],
+    logs: &[u8],
+    marks: &mut [u8],
+    undo: &mut [u8],
+    p: Progress,
+    count: usize,
+    minute: usize,
+) -> Progress
+    requires { ⌜ (count ≤ 8) × (p .commits + count ≤ 64) ⌝ }
+    ensures work { λ q. ⌜ ((bytes : List ℕ) (x : SomeScripts) (reader : List ℕ)
+        → Carries (λ m. commitAll (storeReply m) bytes minute x count)
+        (handed kept files logs marks undo) reader (p .ends) (p .commits)
+        (left kept files logs marks undo) reader (q .ends) (q .commits)) ⌝ }
+    ensures few { λ q. ⌜ q .commits ≤ p .commits + count ⌝ }
+{
+    let mut out = p;
+    let mut k = 0;
+    while k < count {
+        let next = commit_one(kept, files, logs, marks, undo, out, k, minute);
+        out = next;
+        k += 1;
+    }
+    out
+}
+
+// One round.
+fn round(
+    kept: &mut Record,
+    files: &mut [u8],
+    logs: &mut [u8],
+    marks: &mut [u8],
+    undo: &mut [u8],
+    scripts: Scripts,
+    bytes: &[u8],
+    reader: &mut [u8],
+    minute: usize,
+    p: Progress,
+) -> Progress
+    requires { ⌜ (scriptsIn (length (now bytes)) (scriptsOf scripts) ≡ true) × (p .commits + scripts .count ≤ 64) ⌝ }
+    ensures work { λ q. ⌜ Carries (λ m. round (storeReply m) (now (bytes .entry)) minute (scriptsOf scripts))
+        (handed kept files logs marks undo) (now (reader .entry)) (p .ends) (p .commits)
+        (left kept files logs marks undo) (now (reader .exit)) (q .ends) (q .commits) ⌝ }
+    ensures few { λ q. ⌜ q .commits ≤ p .commits + scripts .count ⌝ }
+{
+    let count = scripts.count;
+    let ends = p.ends;
+    begin_all(kept, files, logs, marks, undo, ends, count);
+    let called = passes(kept, files, logs, marks, undo, scripts, bytes, reader, ends);
+    let q = Progress {
+        ends: called,
+        commits: p.commits,
+    };
+    commit_all(kept, files, logs, marks, undo, q, count, minute)
+}
+
+// As many rounds as there are scripts: each is over by then.
+pub fn run(
+    kept: &mut Record,
+    files: &mut [u8],
+    logs: &mut [u8],
+    marks: &mut [u8],
+    undo: &mut [u8],
+    scripts: Scripts,
+    bytes: &[u8],
+    reader: &mut [u8],
+    minute: usize,
+) -> Progress
+    requires { ⌜ scriptsIn (length (now bytes)) (scriptsOf scripts) ≡ true ⌝ }
+    ensures { λ p. ⌜ Stands (handed kept files logs marks undo)
+        (onStore (now (bytes .entry)) minute (scriptsOf scripts)
+        (handed kept files logs marks undo) (now (reader .entry)))
+        (left kept files logs marks undo) (now (reader .exit)) (p .ends) (p .commits) ⌝ }
+{
+    let count = scripts.count;
+    let e = Ended {
+        end: End::Unfinished,
+    };
+    let mut p = Progress {
+        ends: [e; 8],
+        commits: 0,
+    };
+    let mut j = 0;
+    while j < count {
+        let next = round(
+            kept,
+            files,
+            logs,
+            marks,
+            undo,
+            scripts,
+            bytes,
+            reader,
+            minute,
+            p,
+        );
+        p = next;
+        j += 1;
+    }
+    p
+}

@@ -1,0 +1,123 @@
+// Scripts of calls, by value, and the test that they pass before any call of theirs is made (refusal 20).
+ghost use mathlib.Core.Path.{_≡_};
+ghost use mathlib.Core.Bool.{true};
+ghost use Prim.Native.Nat.{_<_};
+ghost use Rattle.rounds.specs.Rounds.{partIn, scriptIn, scriptsIn};
+ghost use Rattle.dispatching.specs.Types.{scriptCallOf, scriptsOf, NoCalls, OneMore};
+
+// How many scripts there are at most, and how many calls each has at most.
+pub const SCRIPTS: usize = 8;
+
+pub const CALLS: usize = 16;
+
+// A call of a script. Each names its descriptor; then stand Seek's offset, the start and the length of a Write's part
+// of the data buffer, and Read's count.
+pub enum ScriptCall {
+    Seek(usize, usize),
+    Write(usize, usize, usize),
+    GetFilePointer(usize),
+    Read(usize, usize),
+}
+
+pub struct Line {
+    pub call: ScriptCall,
+}
+
+// The scripts: how many there are, how many calls each has, and the calls; call i of script k is line 16 k + i. The
+// counts may say more than there is room for; the dispatcher then refuses.
+pub struct Scripts {
+    pub lines: [Line; 128],
+    pub counts: [usize; 8],
+    pub count: usize,
+}
+
+impl Scripts {
+    // So many scripts, each without a call.
+    pub fn new(count: usize) -> Scripts
+        ensures { λ r. ⌜ NoCalls count (scriptsOf r) ⌝ }
+    {
+        let line = Line {
+            call: ScriptCall::GetFilePointer(0),
+        };
+        Scripts {
+            lines: [line; 128],
+            counts: [0; 8],
+            count: count,
+        }
+    }
+
+    // One call more for script k, below 8: a 17th raises the count alone, and a later one nothing.
+    pub fn then(self, k: usize, call: ScriptCall) -> Scripts
+        ensures { λ r. ⌜ OneMore k (scriptCallOf call) (scriptsOf self) (scriptsOf r) ⌝ }
+    {
+        let mut out = self;
+        if k >= SCRIPTS {
+            return out;
+        }
+        let n = out.counts[k];
+        if n > CALLS {
+            return out;
+        }
+        out.counts[k] = n + 1;
+        if n < CALLS {
+            out.lines[CALLS * k + n] = Line { call: call };
+        }
+        out
+    }
+}
+
+// A Write's part lies within a data buffer of n bytes.
+fn part_in(call: ScriptCall, n: usize) -> bool
+    ensures { λ r. ⌜ r ≡ partIn n (scriptCallOf call) ⌝ }
+{
+    match call {
+        ScriptCall::Seek(_, _) => true,
+        ScriptCall::Write(_, start, size) => {
+            if start > n {
+                return false;
+            }
+            size <= n - start
+        }
+        ScriptCall::GetFilePointer(_) => true,
+        ScriptCall::Read(_, _) => true,
+    }
+}
+
+// Script k has at most sixteen calls, and the parts of its Writes lie within a data buffer of n bytes.
+fn script_in(scripts: Scripts, k: usize, n: usize) -> bool
+    requires { ⌜ k < 8 ⌝ }
+    ensures { λ r. ⌜ r ≡ scriptIn n (scriptsOf scripts .script k) ⌝ }
+{
+    let calls = scripts.counts[k];
+    if calls > CALLS {
+        return false;
+    }
+    let mut i = 0;
+    while i < calls {
+        let line = scripts.lines[CALLS * k + i];
+        let call = line.call;
+        if !part_in(call, n) {
+            return false;
+        }
+        i += 1;
+    }
+    true
+}
+
+// There are at most eight scripts, and each is in range.
+pub fn scripts_in(scripts: Scripts, n: usize) -> bool
+    ensures { λ r. ⌜ r ≡ scriptsIn n (scriptsOf scripts) ⌝ }
+{
+    let count = scripts.count;
+    if count > SCRIPTS {
+        return false;
+    }
+    let mut k = 0;
+    while k < count {
+        if !script_in(scripts, k, n) {
+            return false;
+        }
+        k += 1;
+    }
+    true
+}

@@ -1,0 +1,99 @@
+-- Corners of F-10's text on the plain machine, from Fresh: what the dispatcher gives.
+use mathlib.Core.List.{List, [], _∷_, _++_}
+use mathlib.Core.Path.{_≡_}
+use lib.ListN.{length, getD, replicate}
+use Prim.Native.Nat.{ℕ}
+use Rattle.octets.specs.Parts.{tabulate}
+use Rattle.record.specs.Paper.{plain}
+use Rattle.rules.specs.Messages.{Call, begin, setWindow, takeBack, says}
+use Rattle.rules.specs.Plain.{plainCall, plainAfter}
+use Rattle.rules.specs.Setup.{freshNumbered, beginning, A, B, C, dot}
+use Rattle.rounds.specs.Rounds.{ScriptCall, seeks, writes, asks, reads, Script, Scripts, End, unfinished, passed, failed}
+use Rattle.rounds.specs.Dispatch.{plainDispatch}
+
+-- Scripts from lists of calls.
+unfoldable pub scriptOf : List ScriptCall → Script
+scriptOf cs = record { count = length cs; call = λ i. getD cs i (asks 0) }
+
+unfoldable pub scriptsOf : List (List ScriptCall) → Scripts
+scriptsOf xs = record { count = length xs; script = λ k. scriptOf (getD xs k []) }
+
+-- What it gives: the refusal, the scripts' ends, the number of Commit calls, the reader's buffer.
+pub record Gives : Type 0 where
+  pub refusal : ℕ
+  pub ends : List End
+  pub commits : ℕ
+  pub reader : List ℕ
+
+abbrev pub gives : ℕ → List End → ℕ → List ℕ → Gives
+gives n es c reader = record { refusal = n; ends = es; commits = c; reader = reader }
+
+-- After these calls, with the bytes A, B, C and a reader's buffer of three dots, at a minute.
+unfoldable pub bytes : List ℕ
+bytes = A ∷ B ∷ C ∷ []
+
+unfoldable pub reader : List ℕ
+reader = dot ∷ dot ∷ dot ∷ []
+
+unfoldable pub told : List Call → ℕ → List (List ScriptCall) → Gives
+told cs minute xs =
+    let r = plainDispatch bytes minute (scriptsOf xs) (plainAfter cs freshNumbered) reader in
+    gives (r .refusal) (tabulate (r .ends) (length xs)) (r .commits) (r .reader)
+
+-- The first n bytes of file 0 after it.
+unfoldable pub left : List (List ScriptCall) → ℕ → List ℕ
+left xs n = beginning (plainDispatch bytes 0 (scriptsOf xs) freshNumbered reader .after .committed .value) 0 n
+
+-- Asks for the pointer of descriptor 0, and writes byte i of the three there.
+unfoldable pub appends : ℕ → List ScriptCall
+appends i = asks 0 ∷ writes 0 i 1 ∷ []
+
+-- Writes a byte of the file through descriptor 0, as it lies.
+unfoldable pub adds : List ScriptCall
+adds = writes 0 0 1 ∷ []
+
+pub record Corners : Type 0 where
+  -- "Every script is over within as many rounds as there are scripts": n that all look at what each sets take n rounds.
+  pub one : told [] 0 (appends 0 ∷ []) ≡ gives 0 (passed ∷ []) 1 reader
+  pub two : told [] 0 (appends 0 ∷ appends 1 ∷ []) ≡ gives 0 (passed ∷ passed ∷ []) 3 reader
+  pub three : told [] 0 (appends 0 ∷ appends 1 ∷ appends 2 ∷ []) ≡ gives 0 (passed ∷ passed ∷ passed ∷ []) 6 reader
+  -- "so at most 36 commits for eight": as many, where they are eight such.
+  pub mostCommits : told [] 0 (replicate 8 (appends 0)) ≡ gives 0 (replicate 8 passed) 36 reader
+  -- "in grant order"
+  pub inOrder : left (appends 0 ∷ appends 1 ∷ appends 2 ∷ []) 4 ≡ A ∷ B ∷ C ∷ 0 ∷ []
+  -- No scripts: no round. A script without calls commits.
+  pub noScript : told [] 0 [] ≡ gives 0 [] 0 reader
+  pub noCall : told [] 0 ([] ∷ []) ≡ gives 0 (passed ∷ []) 1 reader
+  -- "A refusal other than 13 ends a script as failed": 6, 8 and 7 of a call; the others go on.
+  pub failing :
+      told [] 0 ((asks 16 ∷ []) ∷ (seeks 0 4097 ∷ []) ∷ (reads 0 4 ∷ []) ∷ appends 0 ∷ [])
+      ≡ gives 0 (failed 6 ∷ failed 8 ∷ failed 7 ∷ passed ∷ []) 1 reader
+  -- .. "aborting it if still open": its write does not land.
+  pub aborted : left ((writes 0 1 1 ∷ asks 16 ∷ []) ∷ appends 0 ∷ []) 2 ≡ A ∷ 0 ∷ []
+  -- At Commit: 12, by the offset that the first one set.
+  pub atCommit : told [] 0 ((seeks 0 4096 ∷ []) ∷ adds ∷ []) ≡ gives 0 (passed ∷ failed 12 ∷ []) 2 reader
+  -- F-11: 21 for a closed file; "22 when a minute is above 1,439, .. also in each of the dispatcher's".
+  pub closed : told (setWindow 0 10 20 ∷ []) 0 (adds ∷ [] ∷ []) ≡ gives 0 (failed 21 ∷ passed ∷ []) 2 reader
+  pub badMinute : told [] 1440 (adds ∷ [] ∷ []) ≡ gives 0 (failed 22 ∷ failed 22 ∷ []) 2 reader
+  -- One that fails in the second round: it has no place for its byte any more.
+  pub secondRound : told [] 0 ((seeks 0 4096 ∷ []) ∷ appends 0 ∷ []) ≡ gives 0 (passed ∷ failed 9 ∷ []) 2 reader
+  -- "Bytes read go to the front of one reader's buffer, later ones over earlier ones"; a refused Read leaves it.
+  pub later :
+      told [] 0 ((writes 0 0 3 ∷ seeks 0 0 ∷ reads 0 2 ∷ seeks 0 2 ∷ reads 0 1 ∷ reads 0 4 ∷ []) ∷ [])
+      ≡ gives 0 (failed 7 ∷ []) 0 (C ∷ B ∷ dot ∷ [])
+  -- "19 when a transaction is open at the start", before 20.
+  pub opened : told (begin 7 ∷ []) 0 ((writes 0 4 0 ∷ []) ∷ []) ≡ gives 19 (unfinished ∷ []) 0 reader
+  -- "20 when there are more than 8 scripts": eight pass, nine do not, whatever stands in them.
+  pub eight : told [] 0 (replicate 8 []) ≡ gives 0 (replicate 8 passed) 8 reader
+  pub nine : told [] 0 (replicate 9 []) ≡ gives 20 (replicate 9 unfinished) 0 reader
+  -- "one is over 16 calls": sixteen pass, and the sixteenth is given.
+  pub sixteen : told [] 0 ((replicate 15 (seeks 0 0) ++ (asks 16 ∷ [])) ∷ []) ≡ gives 0 (failed 6 ∷ []) 0 reader
+  pub seventeen : told [] 0 ([] ∷ replicate 17 (seeks 0 0) ∷ []) ≡ gives 20 (unfinished ∷ unfinished ∷ []) 0 reader
+  -- "or a Write's part runs past the data buffer", of 0 bytes too, in a call that would never be reached.
+  pub part : told [] 0 ((writes 0 1 2 ∷ writes 0 3 0 ∷ []) ∷ []) ≡ gives 0 (passed ∷ []) 1 reader
+  pub past : told [] 0 ((writes 0 2 2 ∷ []) ∷ []) ≡ gives 20 (unfinished ∷ []) 0 reader
+  pub pastEmpty : told [] 0 ((asks 16 ∷ writes 0 4 0 ∷ []) ∷ []) ≡ gives 20 (unfinished ∷ []) 0 reader
+  -- F-13: the grant that is taken back is its last one.
+  pub takenBack :
+      let p = plainDispatch bytes 0 (scriptsOf (appends 0 ∷ appends 1 ∷ [])) freshNumbered reader .after in
+      (plainCall takeBack p .reply ≡ says plain) × (beginning (plainCall takeBack p .after .committed .value) 0 2 ≡ A ∷ 0 ∷ [])

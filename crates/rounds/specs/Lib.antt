@@ -1,0 +1,4 @@
+-- The rounds, over any machine that replies to calls; and on the store and the plain machine, with the statements.
+pub mod Rounds
+pub mod Dispatch
+pub mod Corners

@@ -149,6 +149,22 @@ pub fn measure(cases: &[Case], effort: &Effort) -> Vec<Cost> {
     cases.iter().zip(&all).map(cost).collect()
 }
 
+/// All 40,320 orders of eight transactions, in a chain in which the given order is the worst: each has sighted the offset that the one
+/// before it sets. Milliseconds of the proved store, and of the twin, which commits every order on copies.
+pub fn all_orders(effort: &Effort) -> Cost {
+    let begun = (0..8).fold(Script::default().fresh(), |script, t| script.begin(t));
+    let setup = (0..8).fold(begun, |script, t| script.pointer(t, (t + 7) % 8 + 8).seek(t, t + 8, 1));
+    let least = |which, rounds: usize, sweeps: usize| {
+        let run = |_| {
+            let (spent, sum) = Buffers::new(8).best_order(which, &setup, rounds);
+            assert_eq!(sum, 7 * rounds as u64, "seven of a ring of eight are granted");
+            spent / rounds as f64 / 1e6
+        };
+        (0..sweeps).map(run).fold(f64::MAX, f64::min)
+    };
+    Cost { proved: least(Which::Proved, 4, effort.sweeps.min(10)), twin: least(Which::Twin, 1, effort.sweeps.min(2)) }
+}
+
 /// Nanoseconds for a copy of n bytes between two buffers in the nearest cache.
 pub fn memcpy(n: usize, effort: &Effort) -> f64 {
     use std::hint::black_box;

@@ -100,6 +100,13 @@ fn table_of_calls(effort: &Effort) {
     }
 }
 
+fn table_of_orders(effort: &Effort) {
+    let cost = calls::all_orders(effort);
+    let said = |milliseconds: f64| format!("{milliseconds:.1} ms");
+    let twin = format!("twin, each order committed on copies, {}", said(cost.twin));
+    row("The best of all 40,320 orders of eight", &said(cost.proved), &twin, cost.proved / cost.twin, "", None);
+}
+
 /// Commits a second and the tally of a day.
 struct Aired {
     name: String,
@@ -301,6 +308,7 @@ fn main() {
     println!("| Figure | Proved store | Compared with | Ratio | Target | Met |");
     println!("|---|---|---|---|---|---|");
     table_of_calls(&effort);
+    table_of_orders(&effort);
     table_of_day(&effort);
     table_of_ages(&effort);
     table_of_traces(&effort);

@@ -2,7 +2,7 @@
 
 use crate::script::{self, Script, Step};
 use std::time::Instant;
-use twin::call::Refusal;
+use twin::call::{Refusal, ORDERS};
 use twin::store::{Lent, Store, BUFFER, DESCRIPTORS, SPAN};
 
 /// How many numbers the record of the proved store has.
@@ -29,6 +29,22 @@ extern "C" {
         said_len: usize,
         stamps: *mut i64,
         stamps_len: usize,
+        rounds: usize,
+    ) -> u64;
+
+    fn bench_calls_order(
+        kept: *const u16,
+        files: *const u8,
+        files_len: usize,
+        logs: *const u8,
+        logs_len: usize,
+        marks: *const u8,
+        marks_len: usize,
+        undo: *const u8,
+        undo_len: usize,
+        list: *const u8,
+        list_len: usize,
+        budget: usize,
         rounds: usize,
     ) -> u64;
 }
@@ -118,6 +134,51 @@ impl Buffers {
                 rounds,
             )
         }
+    }
+
+    /// After `setup`, the best order of all eight transactions is asked for so many times, each time with a budget of all orders.
+    /// Answers the nanoseconds that it took, and the sum of the grants.
+    pub fn best_order(&mut self, which: Which, setup: &Script, rounds: usize) -> (f64, u64) {
+        match which {
+            Which::Proved => self.best_order_proved(setup, rounds),
+            Which::Twin => self.best_order_twin(setup, rounds),
+        }
+    }
+
+    fn best_order_proved(&mut self, setup: &Script, rounds: usize) -> (f64, u64) {
+        let mut kept = [0; NUMBERS];
+        self.rounds_proved(&mut kept, setup, 1, &mut []);
+        let list: [u8; 8] = [0, 1, 2, 3, 4, 5, 6, 7];
+        let start = Instant::now();
+        // The callee takes the record as a pointer and each slice as a pointer and a length; it has no precondition.
+        let sum = unsafe {
+            bench_calls_order(
+                kept.as_ptr(),
+                self.files.as_ptr(),
+                self.files.len(),
+                self.logs.as_ptr(),
+                self.logs.len(),
+                self.marks.as_ptr(),
+                self.marks.len(),
+                self.undo.as_ptr(),
+                self.undo.len(),
+                list.as_ptr(),
+                list.len(),
+                ORDERS,
+                rounds,
+            )
+        };
+        (start.elapsed().as_nanos() as f64, sum)
+    }
+
+    fn best_order_twin(&mut self, setup: &Script, rounds: usize) -> (f64, u64) {
+        let mut store = Store::new([0; DESCRIPTORS]);
+        self.pass(&mut store, &setup.octets);
+        let lent = Lent { files: &mut self.files, logs: &mut self.logs, marks: &mut self.marks, undo: &mut self.undo };
+        let start = Instant::now();
+        let grants = |_| store.best(&lent, &[0, 1, 2, 3, 4, 5, 6, 7], script::MINUTE, ORDERS).expect("an order").grants as u64;
+        let sum = (0..rounds).map(grants).sum();
+        (start.elapsed().as_nanos() as f64, sum)
     }
 
     #[inline(never)]

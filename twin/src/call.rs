@@ -96,6 +96,12 @@ pub enum Call {
     Undo,
     /// Runs scripts in rounds until each is done.
     Dispatch(Dispatch),
+    /// Asks in which order of the listed transactions most Commits would be granted.
+    Best {
+        list: Vec<usize>,
+        minute: usize,
+        budget: usize,
+    },
 }
 
 #[derive(Clone, Copy, Debug, PartialEq, Eq)]
@@ -109,6 +115,7 @@ pub enum Answer {
     /// The count of pairs that a Places listed.
     Pairs(u16),
     Ran(Ran),
+    Best(Best),
 }
 
 /// How the scripts of a dispatcher ended, and how many Commit calls it made.
@@ -125,6 +132,33 @@ impl Ran {
     pub fn results(&self) -> Vec<u64> {
         let number = |ended: &Option<Refusal>| ended.map_or(0, |refusal| refusal.number() as u64);
         self.ended[..self.scripts].iter().map(number).collect()
+    }
+}
+
+/// The orders of eight transactions, and the largest budget.
+pub const ORDERS: usize = 40320;
+
+/// An order of Commits, how many of them would be granted, how many more another order may have at most, and how many orders
+/// were tried.
+#[derive(Clone, Copy, Debug, PartialEq, Eq)]
+pub struct Best {
+    order: [u8; 8],
+    members: usize,
+    pub grants: u16,
+    pub gap: u16,
+    pub tried: u16,
+}
+
+impl Best {
+    pub fn new(order: &[usize], grants: usize, gap: usize, tried: usize) -> Best {
+        let order_of_eight = std::array::from_fn(|k| order.get(k).map_or(0, |&t| t as u8));
+        let (grants, gap, tried) = (grants as u16, gap as u16, tried as u16);
+        Best { order: order_of_eight, members: order.len(), grants, gap, tried }
+    }
+
+    /// The transaction numbers.
+    pub fn order(&self) -> &[u8] {
+        &self.order[..self.members]
     }
 }
 
@@ -152,11 +186,17 @@ pub enum Refusal {
     BadLine = 17,
     StaleReader = 18,
     DispatchWhileOpen = 19,
+    /// Too many scripts, one that is too long, or a Write's part past the data.
     BadScripts = 20,
     FileClosed = 21,
     NoSuchMinute = 22,
     UndoWhileOpen = 23,
     NothingToUndo = 24,
+    /// One of a list is stale, or has a write without a place.
+    NotReady = 25,
+    /// A list is empty, too long or has a repeat.
+    BadList = 26,
+    BadBudget = 27,
 }
 
 impl Refusal {

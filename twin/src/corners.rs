@@ -1,6 +1,7 @@
 //! Corners of Places, of looking, of stale readers and of lengths (requests F-1, F-2, F-6 and F-8), as lists of calls
 //! on store and plain machine together, and on forged records. Those of later requests have modules of their own.
 
+mod best;
 mod dispatch;
 mod splitting;
 mod undo;

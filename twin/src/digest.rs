@@ -26,8 +26,9 @@ impl Digest {
     }
 
     /// Takes in the outcome of a call and the buffer lent for its answer, after it: a code (0 done, 1 offset, 2 given, 3
-    /// granted, 4 pairs, 5 ran, 10 + n for refusal n), then the number answered (0 where there is none; of a dispatcher the
-    /// count of Commits, then a number for each script), then the buffer's bytes.
+    /// granted, 4 pairs, 5 ran, 6 best, 10 + n for refusal n), then the number answered (0 where there is none; of a
+    /// dispatcher the count of Commits, then a number for each script; of a best order its grants, then the gap, how many
+    /// were tried, and its numbers), then the buffer's bytes.
     pub fn take_reply(&mut self, outcome: Outcome, buffer: &[u8]) {
         let (code, number) = match outcome {
             Ok(Answer::Done) => (0, 0),
@@ -36,12 +37,18 @@ impl Digest {
             Ok(Answer::Granted(count)) => (3, u16::from(count)),
             Ok(Answer::Pairs(count)) => (4, count),
             Ok(Answer::Ran(ran)) => (5, ran.commits),
+            Ok(Answer::Best(best)) => (6, best.grants),
             Err(refusal) => (10 + refusal.number() as u16, 0),
         };
         self.take(code);
         self.take(number);
-        if let Ok(Answer::Ran(ran)) = outcome {
-            self.take_all(&ran.results());
+        match outcome {
+            Ok(Answer::Ran(ran)) => self.take_all(&ran.results()),
+            Ok(Answer::Best(best)) => {
+                self.take_all(&[best.gap, best.tried]);
+                self.take_all(best.order());
+            }
+            _ => {}
         }
         self.take_all(buffer);
     }

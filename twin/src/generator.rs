@@ -3,7 +3,7 @@
 //!
 //! The recurrence: x' = 48271 x mod 2147483647, from x = 1. (The 10,000th number is 399268537.)
 //! Call i, from 0, draws the next twelve numbers r0 to r11, whatever its kind. They, the phase (i div 256) and a guess
-//! at which transactions are open give everything about the call; the mode is the phase mod 9.
+//! at which transactions are open give everything about the call; the mode is the phase mod 10.
 
 #![allow(clippy::manual_is_multiple_of, clippy::manual_range_contains)] // plain arithmetic is wanted here
 
@@ -13,7 +13,7 @@ pub const SEED: u64 = 1;
 
 const DRAWS: usize = 12;
 const PHASE: u64 = 256;
-const MODES: u64 = 9;
+const MODES: u64 = 10;
 
 // The modes. Two differ by the tables below alone: 1, crowded, has few descriptors and transactions and many Commits; 6,
 // scattered, has few descriptors and transactions and few Commits, so that lists of places get long.
@@ -24,6 +24,7 @@ const NEAR_END: u64 = 4; // Seeks around 4,096
 const LONG_READS: u64 = 5;
 const SHORT_FILES: u64 = 7; // Seeks and Writes near the start, mostly in steps of 4, so that ends meet; more Freshes
 const QUIET: u64 = 8; // begins with a Fresh, and has few transactions, so that often none is open; Undos and dispatchers
+const READY: u64 = 9; // begins with a Fresh; a descriptor a transaction, so that few writes have no place; best orders
 
 // The kinds of calls.
 pub const FRESH: u64 = 0;
@@ -38,26 +39,28 @@ pub const ABORT: u64 = 8;
 pub const WINDOW: u64 = 9;
 pub const UNDO: u64 = 10;
 pub const DISPATCH: u64 = 11;
+pub const BEST: u64 = 12;
 
-const KINDS: u64 = 12;
+const KINDS: u64 = 13;
 
-/// How many of 1,000 calls are of each kind, for each mode (twelve numbers a mode).
-const WEIGHTS: [u64; 108] = [
-    4, 20, 200, 250, 80, 211, 40, 102, 43, 40, 5, 5, // mixed
-    4, 20, 155, 215, 120, 190, 40, 162, 44, 40, 5, 5, // crowded
-    4, 10, 60, 788, 10, 56, 40, 12, 8, 10, 1, 1, // many records
-    4, 20, 208, 420, 30, 91, 40, 92, 53, 40, 1, 1, // long writes
-    4, 20, 200, 260, 80, 145, 40, 151, 50, 40, 5, 5, // near the end
-    4, 20, 190, 240, 60, 255, 40, 102, 39, 40, 5, 5, // long reads
-    4, 20, 333, 335, 20, 100, 150, 16, 10, 10, 1, 1, // scattered
-    24, 20, 50, 310, 10, 320, 16, 180, 30, 30, 5, 5, // short files
-    4, 10, 210, 396, 20, 70, 10, 110, 20, 20, 65, 65, // quiet
+/// How many of 1,000 calls are of each kind, for each mode (thirteen numbers a mode).
+const WEIGHTS: [u64; 130] = [
+    4, 20, 200, 250, 80, 207, 40, 102, 43, 40, 5, 5, 4, // mixed
+    4, 20, 155, 215, 120, 186, 40, 162, 44, 40, 5, 5, 4, // crowded
+    4, 10, 60, 787, 10, 56, 40, 12, 8, 10, 1, 1, 1, // many records
+    4, 20, 208, 419, 30, 91, 40, 92, 53, 40, 1, 1, 1, // long writes
+    4, 20, 200, 260, 80, 141, 40, 151, 50, 40, 5, 5, 4, // near the end
+    4, 20, 190, 240, 60, 251, 40, 102, 39, 40, 5, 5, 4, // long reads
+    4, 20, 333, 335, 20, 100, 146, 16, 10, 10, 1, 1, 4, // scattered
+    24, 20, 50, 310, 10, 316, 16, 180, 30, 30, 5, 5, 4, // short files
+    4, 10, 210, 392, 20, 70, 10, 110, 20, 20, 65, 65, 4, // quiet
+    4, 10, 200, 240, 50, 160, 6, 20, 40, 20, 5, 5, 240, // ready
 ];
 
 /// How many transaction numbers a mode mostly uses.
-const TRANSACTIONS_USED: [u64; 9] = [8, 4, 2, 3, 6, 8, 2, 4, 1];
+const TRANSACTIONS_USED: [u64; 10] = [8, 4, 2, 3, 6, 8, 2, 4, 1, 8];
 /// Through how many files of the usual arrangement a mode goes (each by two descriptors).
-const FILES_USED: [u64; 9] = [8, 2, 8, 8, 3, 4, 2, 2, 2];
+const FILES_USED: [u64; 10] = [8, 2, 8, 8, 3, 4, 2, 2, 2, 2];
 
 #[derive(Clone, Copy, Debug)]
 pub struct Generator {
@@ -67,6 +70,8 @@ pub struct Generator {
     made: u64,
     /// Which transactions are open, as far as the calls made let guess (not looking at what was refused).
     open: [bool; 8],
+    /// Which of them made a Seek since they seemed begun.
+    sought: [bool; 8],
 }
 
 /// A call as numbers. A number that its kind doesn't use is there all the same.
@@ -79,7 +84,7 @@ pub struct Request {
     pub file: u64,
     /// Where a Seek goes, how many bytes a Write has or a Read wants.
     pub number: u64,
-    /// The minute of a Commit, or a window's start.
+    /// The minute of a Commit, a dispatcher or a best order, or a window's start.
     pub minute: u64,
     /// A window's end.
     pub end: u64,
@@ -92,6 +97,10 @@ pub struct Request {
     pub list: [u8; 17],
     pub list_length: u64,
     pub scripts: Scripts,
+    /// The transactions of a best order are the first `members_length` numbers.
+    pub members: [u64; 10],
+    pub members_length: u64,
+    pub budget: u64,
     pub damage: Damage,
 }
 
@@ -121,7 +130,7 @@ impl Damage {
 
 impl Generator {
     pub fn new() -> Generator {
-        Generator { x: SEED, made: 0, open: [false; 8] }
+        Generator { x: SEED, made: 0, open: [false; 8], sought: [false; 8] }
     }
 
     pub fn next_call(&mut self) -> Request {
@@ -132,14 +141,17 @@ impl Generator {
         }
         let phase = self.made / PHASE;
         let mode = phase % MODES;
-        let request = if mode == QUIET && self.made % PHASE == 0 {
-            Request { list: USUAL, list_length: 16, ..request(FRESH, 0, mode, &r) }
+        let request = if mode >= QUIET && self.made % PHASE == 0 {
+            Request { list: USUAL, list_length: 16, ..request(FRESH, 0, mode, self.open, &r) }
         } else {
-            let (kind, transaction) = fitted(mode, kind(mode, r[0]), transaction(phase, r[1]), self.open, &r);
-            request(kind, transaction, mode, &r)
+            let transaction = transaction(phase, r[1]);
+            let kind = sought_first(mode, kind(mode, r[0]), transaction, self.sought);
+            let (kind, transaction) = fitted(mode, kind, transaction, self.open, &r);
+            request(kind, transaction, mode, self.open, &r)
         };
         self.made += 1;
         self.open = guess(self.open, &request);
+        self.sought = guess_sought(self.sought, &request);
         request
     }
 }
@@ -155,15 +167,16 @@ pub fn step(x: u64) -> u64 {
     x * 48271 % 2147483647
 }
 
-fn request(kind: u64, transaction: u64, mode: u64, r: &[u64; DRAWS]) -> Request {
+fn request(kind: u64, transaction: u64, mode: u64, open: [bool; 8], r: &[u64; DRAWS]) -> Request {
     let zeros = r[6] / 256 % 4 == 0;
+    let (members, members_length) = members(open, r);
     Request {
         kind,
         transaction,
-        descriptor: descriptor(mode, r[2]),
+        descriptor: descriptor(mode, transaction, r[2]),
         file: file(mode, r[2]),
         number: number(kind, mode, r[3], r[4]),
-        minute: minute(r[3], r[4]),
+        minute: if kind >= DISPATCH { minute(r[7] / 128, r[8]) } else { minute(r[3], r[4]) },
         end: if r[10] % 2 == 0 { minute(r[3], r[4]) } else { minute(r[5], r[6]) },
         buffer: buffer(kind, mode, r),
         data_first: if zeros { 0 } else { r[5] % 256 },
@@ -171,20 +184,32 @@ fn request(kind: u64, transaction: u64, mode: u64, r: &[u64; DRAWS]) -> Request 
         list: list(r),
         list_length: list_length(r[3], r[4]),
         scripts: scripts(r),
+        members,
+        members_length,
+        budget: budget(members_length, r[6]),
         damage: damage(kind, r),
     }
 }
 
 fn kind(mode: u64, r: u64) -> u64 {
     let mut rest = r % 1000;
-    for kind in FRESH..DISPATCH {
+    for kind in FRESH..BEST {
         let weight = WEIGHTS[(KINDS * mode + kind) as usize];
         if rest < weight {
             return kind;
         }
         rest -= weight;
     }
-    DISPATCH
+    BEST
+}
+
+/// In the ready mode the first Write of a transaction is made a Seek.
+fn sought_first(mode: u64, kind: u64, transaction: u64, sought: [bool; 8]) -> u64 {
+    if mode == READY && kind == WRITE && transaction < 8 && !sought[transaction as usize] {
+        SEEK
+    } else {
+        kind
+    }
 }
 
 /// Seven times out of eight, a call on a transaction that seems not to be open is made a Begin (in the quiet mode, while none
@@ -197,7 +222,7 @@ fn fitted(mode: u64, kind: u64, transaction: u64, open: [bool; 8], r: &[u64; DRA
         (kind, transaction)
     } else if on_transaction && !open[transaction as usize] {
         (if mode == QUIET && first == 8 { at_rest(r[10]) } else { BEGIN }, transaction)
-    } else if kind >= UNDO && first < 8 {
+    } else if (kind == UNDO || kind == DISPATCH) && first < 8 {
         (if r[9] % 4 == 0 { ABORT } else { COMMIT }, first)
     } else {
         (kind, transaction)
@@ -244,6 +269,16 @@ fn guess(open: [bool; 8], request: &Request) -> [bool; 8] {
     open
 }
 
+/// The transactions that seem to have made a Seek since their Begin.
+fn guess_sought(sought: [bool; 8], request: &Request) -> [bool; 8] {
+    let mut sought = sought;
+    let counts = request.kind == BEGIN || request.kind == SEEK;
+    if counts && request.transaction < 8 && !request.damage.is_any() {
+        sought[request.transaction as usize] = request.kind == SEEK;
+    }
+    sought
+}
+
 /// Sixteen numbers up to 7.
 fn is_good(list: &[u8; 17], length: u64) -> bool {
     let mut good = length == 16;
@@ -266,12 +301,14 @@ fn transaction(phase: u64, r: u64) -> u64 {
     }
 }
 
-/// One of the mode's descriptors, now and then 16 or 17.
-fn descriptor(mode: u64, r: u64) -> u64 {
+/// One of the mode's descriptors (in the ready mode mostly that of the transaction), now and then 16 or 17.
+fn descriptor(mode: u64, transaction: u64, r: u64) -> u64 {
     let class = r % 40;
     let value = r / 40;
     if class == 0 {
         16 + value % 2
+    } else if mode == READY && class > 3 {
+        transaction % 2 + 8 * (transaction / 2 % 2)
     } else {
         value % FILES_USED[mode as usize] + 8 * (value / 64 % 2)
     }
@@ -301,7 +338,7 @@ fn number(kind: u64, mode: u64, class: u64, value: u64) -> u64 {
 fn seek_to(mode: u64, class: u64, value: u64) -> u64 {
     if mode == NEAR_END && class < 10 {
         4084 + value % 14
-    } else if mode == SHORT_FILES || mode == QUIET {
+    } else if mode >= SHORT_FILES {
         if class < 12 {
             4 * (value % 4)
         } else {
@@ -333,7 +370,7 @@ fn write_length(mode: u64, class: u64, value: u64) -> u64 {
         } else {
             3000 + value % 1098
         }
-    } else if mode == SHORT_FILES || mode == QUIET {
+    } else if mode >= SHORT_FILES {
         if class < 12 {
             4
         } else {
@@ -451,11 +488,55 @@ fn scripts(r: &[u64; DRAWS]) -> Scripts {
             1 + r[4] % 8
         },
         data: r[5] / 256 % 64,
-        minute: minute(r[7] / 128, r[8]),
         long: if r[8] % 32 == 0 { r[8] / 32 % 8 } else { NO_SCRIPT },
         past: if r[9] % 16 == 0 { r[9] / 16 % 8 } else { NO_SCRIPT },
         base: r[4],
         stride: r[5],
+    }
+}
+
+/// Up to eight of the transactions that seem open, in a changing order; now and then others, none, a repeat, a number above 7
+/// or too many.
+fn members(open: [bool; 8], r: &[u64; DRAWS]) -> ([u64; 10], u64) {
+    let class = r[3] % 32;
+    let any = class == 0 || class == 3 || class == 5;
+    let most = if class == 5 { 8 } else { 1 + r[4] % 8 };
+    let mut members = [8 + r[4] / 8 % 2; 10];
+    let mut length = 0;
+    for i in 0..8 {
+        let t = (r[5] % 8 + (1 + 2 * (r[5] / 8 % 4)) * i) % 8;
+        if (open[t as usize] || any) && length < most {
+            members[length as usize] = t;
+            length += 1;
+        }
+    }
+    if class == 1 {
+        length = 0;
+    } else if class == 2 {
+        members[length as usize] = members[0];
+        length += 1;
+    } else if class == 3 || class == 5 {
+        length += 1;
+    } else if class == 4 {
+        length += 2;
+    }
+    (members, length)
+}
+
+/// Mostly up to 30 orders, often as many as there are of one to five; now and then 0, or 40,320 and more. A larger budget is
+/// given to short lists only.
+fn budget(length: u64, r: u64) -> u64 {
+    let value = r / 16;
+    match r % 16 {
+        0 => 0,
+        1 => 40321 + value % 25000,
+        2 if length < 5 => 40320,
+        2 | 3 => 120,
+        4 => 24,
+        5 => 6,
+        6 => 2,
+        7 => 1,
+        _ => 1 + value % 30,
     }
 }
 

@@ -1,6 +1,7 @@
-//! A second implementation of paper 01 with requests F-1 to F-13, written from the papers alone: a store over lent
+//! A second implementation of paper 01 with requests F-1 to F-14, written from the papers alone: a store over lent
 //! buffers, the plain machine of demand 3, a generator of calls, and the means to run the two side by side.
 
+pub mod best;
 pub mod call;
 pub mod digest;
 pub mod dispatch;

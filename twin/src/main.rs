@@ -136,10 +136,10 @@ fn run(options: &Options) -> io::Result<()> {
     out.flush()
 }
 
-/// Calls so far; done, offset, given, granted, pairs, ran; refusals 1 to 24; the digest of the state, the digest of all answers.
+/// Calls so far; done, offset, given, granted, pairs, ran, best; refusals 1 to 27; the digest of the state, the digest of all answers.
 fn write_line(out: &mut impl Write, made: u64, pair: &Pair, answers: Digest) -> io::Result<()> {
-    let Tally { done, offset, given, granted, pairs, ran, refused, .. } = &pair.tally;
-    write!(out, "{made} {done} {offset} {given} {granted} {pairs} {ran}")?;
+    let Tally { done, offset, given, granted, pairs, ran, best, refused, .. } = &pair.tally;
+    write!(out, "{made} {done} {offset} {given} {granted} {pairs} {ran} {best}")?;
     for count in &refused[1..] {
         write!(out, " {count}")?;
     }

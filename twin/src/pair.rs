@@ -1,9 +1,9 @@
 //! Store and plain machine side by side. Every call goes to both, and the two must agree; a disagreement is a panic.
 
-use crate::call::{Action, Answer, Call, Dispatch, Ran, Refusal, Reply, Step};
+use crate::call::{Action, Answer, Best, Call, Dispatch, Ran, Refusal, Reply, Step};
 use crate::forge::{forge, garbage_in_closed, garbage_in_record, garbage_in_undo};
 use crate::generator::Damage;
-use crate::plain::{self, Committed, Course, Item, Machine, Rounds, FRESH_WINDOWS};
+use crate::plain::{self, nth_order, Committed, Course, Item, Machine, Rounds, FRESH_WINDOWS};
 use crate::split::Split;
 use crate::state::{untouched_buffer, State};
 use crate::store::{
@@ -112,6 +112,10 @@ impl Pair {
         }
         match expected.outcome {
             Ok(Answer::Pairs(_)) => self.call_looking(call, &expected),
+            Ok(Answer::Best(best)) => {
+                self.call_looking(call, &expected);
+                self.check_best(call, best);
+            }
             Ok(answer) => self.call_accepted(call, &expected, answer),
             Err(Refusal::Stale) => self.call_stale(call),
             Err(refusal) => {
@@ -166,6 +170,32 @@ impl Pair {
             committed.grant(&course, grants);
         }
         assert!(committed == self.machine.committed, "{dispatch:?}: the granted scripts alone leave something else");
+    }
+
+    /// The answer is an order of the list; Commit gives so many grants in it, on copies of both sides; no other order that is
+    /// tried here has more than the gap allows (all of them for up to four transactions).
+    fn check_best(&mut self, call: &Call, best: Best) {
+        let Call::Best { list, minute, budget } = call else { return };
+        let orders: usize = (1..=list.len()).product();
+        assert_eq!(usize::from(best.tried), orders.min(*budget), "{call:?}");
+        let mut machine = self.machine.clone();
+        let mut state = self.state.clone();
+        let mut left = list.clone();
+        let mut grants = 0;
+        for transaction in best.order().iter().map(|&t| usize::from(t)) {
+            let position = left.iter().position(|&listed| listed == transaction);
+            left.remove(position.expect("a transaction of the list"));
+            let commit = Call::Commit { transaction, minute: *minute };
+            let reply = state.apply(&commit);
+            assert_eq!(reply, machine.take(&commit), "{commit:?} of {call:?}");
+            grants += u16::from(reply.outcome.is_ok());
+        }
+        assert_eq!((left.len(), grants), (0, best.grants), "{call:?}");
+        let stride = orders.div_ceil(24);
+        let counts = (0..orders).step_by(stride).map(|n| self.machine.grants_in(&nth_order(list, n), *minute));
+        let most = counts.max().unwrap_or_default();
+        assert!(most <= usize::from(best.grants + best.gap), "{call:?}: {most} grants in another order");
+        self.tally.count_best(list, orders, best, self.machine.grants_in(list, *minute));
     }
 
     /// The transaction that a Commit may end by a grant.
@@ -319,7 +349,7 @@ impl Pair {
             Call::Undo => {
                 self.granted.pop();
             }
-            Call::Places { .. } | Call::Window { .. } | Call::Dispatch(_) => {}
+            Call::Places { .. } | Call::Window { .. } | Call::Dispatch(_) | Call::Best { .. } => {}
         }
     }
 

@@ -3,8 +3,10 @@
 //! and on which descriptors it acted. It has no marks and no stale flag: a transaction is stale when the sightings it holds
 //! differ from those of its accepted calls run alone on what is committed now.
 
+use std::collections::HashSet;
+
 use crate::call::{
-    Action, Answer, Call, Dispatch, Outcome, Ran, Refusal, Reply, Script, ScriptAction, ScriptStep, Step,
+    Action, Answer, Best, Call, Dispatch, Outcome, Ran, Refusal, Reply, Script, ScriptAction, ScriptStep, Step,
 };
 
 const FILES: usize = 8;
@@ -449,6 +451,14 @@ impl Course {
     }
 }
 
+impl Transaction {
+    /// Does its list differ from that of its calls run alone on what is committed?
+    fn is_stale(&self, committed: &Committed) -> bool {
+        let (alone, _) = Course::run_alone(committed, &self.calls);
+        alone.sightings != self.course.sightings
+    }
+}
+
 impl Course {
     /// What a Commit that is not stale is refused for, at a good minute: a byte for a closed file, then placing.
     pub fn check_commit(&self, committed: &Committed, windows: &Windows, minute: usize) -> Result<(), Refusal> {
@@ -486,15 +496,13 @@ impl Machine {
             Call::Window { file, start, end } => no_buffer(self.set_window(*file, *start, *end)),
             Call::Undo => no_buffer(self.undo()),
             Call::Dispatch(dispatch) => self.dispatch(dispatch).0,
+            Call::Best { list, minute, budget } => no_buffer(self.best(list, *minute, *budget)),
         }
     }
 
     /// Do the two lists of an open transaction differ?
     pub fn is_stale(&self, t: usize) -> bool {
-        self.open[t].as_ref().is_some_and(|transaction| {
-            let (alone, _) = Course::run_alone(&self.committed, &transaction.calls);
-            alone.sightings != transaction.course.sightings
-        })
+        self.open[t].as_ref().is_some_and(|transaction| transaction.is_stale(&self.committed))
     }
 
     fn begin(&mut self, t: usize) -> Outcome {
@@ -539,8 +547,7 @@ impl Machine {
             self.open[t] = None;
             return Err(Refusal::Stale);
         }
-        let course = &self.open[t].as_ref().expect("it is open").course;
-        course.check_commit(&self.committed, &self.windows, minute)?;
+        self.course(t).check_commit(&self.committed, &self.windows, minute)?;
         let equal_before = self.with_equal_lists();
         let ended = self.open[t].take().expect("it is open");
         self.found = Some(Found { committed: self.committed.clone(), grants: self.grants });
@@ -600,6 +607,79 @@ impl Machine {
     fn with_equal_lists(&self) -> [bool; TRANSACTIONS] {
         std::array::from_fn(|t| self.open[t].is_some() && !self.is_stale(t))
     }
+}
+
+impl Machine {
+    /// Tries the orders from the given one on, as many as the budget allows. Changes nothing.
+    fn best(&self, list: &[usize], minute: usize, budget: usize) -> Outcome {
+        self.check_best(list, minute, budget)?;
+        let orders = (1..=list.len()).product();
+        let tried = budget.min(orders);
+        let grants: Vec<usize> = (0..tried).map(|n| self.grants_in(&nth_order(list, n), minute)).collect();
+        let most = *grants.iter().max().expect("an order was tried");
+        let earliest = grants.iter().position(|&count| count == most).expect("it is one of them");
+        let gap = if tried == orders { 0 } else { self.without_closed_bytes(list, minute) - most };
+        Ok(Answer::Best(Best::new(&nth_order(list, earliest), most, gap, tried)))
+    }
+
+    fn check_best(&self, list: &[usize], minute: usize, budget: usize) -> Result<(), Refusal> {
+        let different: HashSet<&usize> = list.iter().collect();
+        if list.is_empty() || list.len() > 8 || different.len() < list.len() {
+            return Err(Refusal::BadList);
+        }
+        list.iter().try_for_each(|&t| check_transaction(t))?;
+        list.iter().try_for_each(|&t| self.check_open(t))?;
+        check_minute(minute)?;
+        let unplaced = |write: &Write| matches!(write.place, Place::After(_));
+        let unready = |&t: &usize| self.is_stale(t) || self.course(t).writes.iter().any(unplaced);
+        if list.iter().any(unready) {
+            return Err(Refusal::NotReady);
+        }
+        if !(1..=40320).contains(&budget) {
+            return Err(Refusal::BadBudget);
+        }
+        Ok(())
+    }
+
+    /// How many of the Commits are granted, made in this order on a copy of what is committed.
+    pub fn grants_in(&self, order: &[usize], minute: usize) -> usize {
+        let mut committed = self.committed.clone();
+        let mut grants = self.grants;
+        for &t in order {
+            let transaction = self.open[t].as_ref().expect("it is open");
+            let refused = transaction.course.check_commit(&committed, &self.windows, minute).is_err();
+            if !transaction.is_stale(&committed) && !refused {
+                grants += 1;
+                committed.grant(&transaction.course, grants);
+            }
+        }
+        (grants - self.grants) as usize
+    }
+
+    /// How many of the transactions have no byte for a file that is closed at the minute.
+    fn without_closed_bytes(&self, list: &[usize], minute: usize) -> usize {
+        let closed = |write: &Write| !self.windows[self.committed.file_of[write.descriptor]].is_open(minute);
+        let has_closed = |&t: &usize| self.course(t).writes.iter().any(|write| closed(write) && !write.data.is_empty());
+        list.iter().filter(|t| !has_closed(t)).count()
+    }
+
+    fn course(&self, t: usize) -> &Course {
+        &self.open[t].as_ref().expect("it is open").course
+    }
+}
+
+/// Order number n, from 0, of the orders by ascending positions: each choice of a first one stands before so many orders of
+/// the rest.
+pub fn nth_order(list: &[usize], n: usize) -> Vec<usize> {
+    let mut rest = list.to_vec();
+    let mut order = Vec::new();
+    let mut n = n;
+    while !rest.is_empty() {
+        let orders_of_rest: usize = (1..rest.len()).product();
+        order.push(rest.remove(n / orders_of_rest));
+        n %= orders_of_rest;
+    }
+    order
 }
 
 /// The single calls of each round of a dispatcher, with their replies.

@@ -17,6 +17,11 @@ impl Request {
             generator::WINDOW => Call::Window { file, start: self.minute as usize, end: self.end as usize },
             generator::UNDO => Call::Undo,
             generator::DISPATCH => Call::Dispatch(self.dispatch()),
+            generator::BEST => Call::Best {
+                list: self.members[..self.members_length as usize].iter().map(|&t| t as usize).collect(),
+                minute: self.minute as usize,
+                budget: self.budget as usize,
+            },
             _ => Call::Step(transaction, Step { descriptor: self.descriptor as usize, action: self.action() }),
         }
     }
@@ -47,7 +52,7 @@ impl Request {
             scripts: (0..scripts.count).map(script).collect(),
             data: self.data(scripts.data),
             buffer: self.blank(),
-            minute: scripts.minute as usize,
+            minute: self.minute as usize,
         }
     }
 }

@@ -14,7 +14,6 @@ pub struct Scripts {
     pub count: u64,
     /// The length of the data buffer. Byte i is that of a Write.
     pub data: u64,
-    pub minute: u64,
     /// Which script has 17 calls, and which has Writes that end a byte past the data.
     pub long: u64,
     pub past: u64,

@@ -62,6 +62,7 @@ fn apply(store: &mut Store, lent: &mut Lent, call: &Call) -> Reply {
         Call::Dispatch(Dispatch { scripts, data, minute, .. }) => {
             store.dispatch(lent, scripts, data, &mut buffer, *minute).map(Answer::Ran)
         }
+        Call::Best { list, minute, budget } => store.best(lent, list, *minute, *budget).map(Answer::Best),
     };
     Reply { outcome, buffer }
 }

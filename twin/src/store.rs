@@ -450,7 +450,7 @@ impl Store {
     /// Answers which other transactions became stale (a bit for each).
     pub fn commit(&mut self, lent: &mut Lent, t: usize, minute: usize) -> Result<u8, Refusal> {
         self.check_open(lent, t)?;
-        let minute = checked_minute(minute)?;
+        let minute = Store::checked_minute(minute)?;
         if self.transactions[t].stale {
             self.end(lent, t);
             return Err(Refusal::Stale);
@@ -477,7 +477,7 @@ impl Store {
         if file >= FILES {
             return Err(Refusal::NoSuchTarget);
         }
-        self.windows[file] = Window { start: checked_minute(start)?, end: checked_minute(end)? };
+        self.windows[file] = Window { start: Store::checked_minute(start)?, end: Store::checked_minute(end)? };
         Ok(())
     }
 
@@ -511,7 +511,7 @@ impl Store {
         Ok(())
     }
 
-    fn check_number(&self, lent: &Lent, t: usize) -> Result<(), Refusal> {
+    pub fn check_number(&self, lent: &Lent, t: usize) -> Result<(), Refusal> {
         self.check_lent(lent)?;
         if t >= TRANSACTIONS {
             return Err(Refusal::NoSuchTransaction);
@@ -519,12 +519,19 @@ impl Store {
         Ok(())
     }
 
-    fn check_open(&self, lent: &Lent, t: usize) -> Result<(), Refusal> {
+    pub fn check_open(&self, lent: &Lent, t: usize) -> Result<(), Refusal> {
         self.check_number(lent, t)?;
         if !self.transactions[t].begun {
             return Err(Refusal::NotOpen);
         }
         Ok(())
+    }
+
+    pub fn checked_minute(minute: usize) -> Result<u16, Refusal> {
+        if minute >= MINUTES {
+            return Err(Refusal::NoSuchMinute);
+        }
+        Ok(minute as u16)
     }
 
     fn check_descriptor(&self, lent: &Lent, t: usize, d: usize) -> Result<(), Refusal> {
@@ -691,7 +698,7 @@ impl Store {
     // Ending a transaction.
 
     /// Is each file open to which a write of at least one byte would go?
-    fn check_hours(&self, t: usize, minute: u16) -> Result<(), Refusal> {
+    pub fn check_hours(&self, t: usize, minute: u16) -> Result<(), Refusal> {
         for record in self.transactions[t].log.records.iter().filter(|record| record.length > 0) {
             let file = usize::from(self.files[usize::from(record.descriptor)]);
             if !self.windows[file].is_open(minute) {
@@ -804,13 +811,6 @@ impl Store {
         }
         octet
     }
-}
-
-fn checked_minute(minute: usize) -> Result<u16, Refusal> {
-    if minute >= MINUTES {
-        return Err(Refusal::NoSuchMinute);
-    }
-    Ok(minute as u16)
 }
 
 /// Stretches sorted by their start, those that overlap or touch made one.

@@ -3,12 +3,12 @@
 use std::io::{self, Write};
 use std::ops::Range;
 
-use crate::call::{Action, Answer, Call, Outcome, Refusal, Reply, Step};
+use crate::call::{Action, Answer, Best, Call, Outcome, Refusal, Reply, Step};
 use crate::plain::{Committed, Course, Item, Machine, Place, Rounds, Window, Windows};
 use crate::store::{Store, Transaction, FILES, SPAN};
 
 /// The highest number of a refusal.
-const REFUSALS: usize = 24;
+const REFUSALS: usize = 27;
 
 #[derive(Clone, Debug, Default)]
 pub struct Tally {
@@ -18,6 +18,7 @@ pub struct Tally {
     pub granted: u64,
     pub pairs: u64,
     pub ran: u64,
+    pub best: u64,
     /// By the refusal's number; the first entry stays 0.
     pub refused: [u64; REFUSALS + 1],
     /// Grants while another transaction was open.
@@ -74,6 +75,14 @@ pub struct Tally {
     /// Dispatchers of three rounds or more, and those of two scripts or more with as many rounds as scripts.
     many_rounds: u64,
     most_rounds: u64,
+    /// Best orders of two transactions or more; of all eight; other than the given one; with fewer grants than transactions;
+    /// with all orders tried; with a gap.
+    orders: u64,
+    orders_of_eight: u64,
+    better_than_given: u64,
+    not_all_granted: u64,
+    all_tried: u64,
+    with_gap: u64,
 }
 
 impl Tally {
@@ -85,6 +94,7 @@ impl Tally {
             Ok(Answer::Granted(_)) => self.granted += 1,
             Ok(Answer::Pairs(count)) => self.count_pairs(count),
             Ok(Answer::Ran(_)) => self.ran += 1,
+            Ok(Answer::Best(_)) => self.best += 1,
             Err(refusal) => self.refused[refusal.number()] += 1,
         }
     }
@@ -193,6 +203,19 @@ impl Tally {
         }
     }
 
+    /// A best order of the list, which in its own order has so many grants.
+    pub fn count_best(&mut self, list: &[usize], orders: usize, best: Best, given: usize) {
+        if list.len() < 2 {
+            return;
+        }
+        self.orders += 1;
+        self.orders_of_eight += u64::from(list.len() == 8);
+        self.better_than_given += u64::from(usize::from(best.grants) > given);
+        self.not_all_granted += u64::from(usize::from(best.grants) < list.len());
+        self.all_tried += u64::from(usize::from(best.tried) == orders);
+        self.with_gap += u64::from(best.gap > 0);
+    }
+
     /// A Commit that was refused, and left its transaction open if it was.
     pub fn count_kept_open(&mut self, machine: &Machine, t: usize, minute: usize, refusal: Refusal) {
         let Some(Some(transaction)) = machine.open.get(t) else { return };
@@ -221,6 +244,7 @@ impl Tally {
         writeln!(out, "granted {}", self.granted)?;
         writeln!(out, "pairs {}", self.pairs)?;
         writeln!(out, "ran {}", self.ran)?;
+        writeln!(out, "best {}", self.best)?;
         for (number, count) in self.refused.iter().enumerate().skip(1) {
             writeln!(out, "refused {number}: {count}")?;
         }
@@ -258,6 +282,12 @@ impl Tally {
         writeln!(out, "scripts failed at their commit {}", self.scripts_failed_at_commit)?;
         writeln!(out, "scripts failed after the first round {}", self.scripts_failed_later)?;
         writeln!(out, "dispatchers of three rounds or more {}", self.many_rounds)?;
-        writeln!(out, "dispatchers of as many rounds as scripts, at least two {}", self.most_rounds)
+        writeln!(out, "dispatchers of as many rounds as scripts, at least two {}", self.most_rounds)?;
+        writeln!(out, "best orders of two or more {}", self.orders)?;
+        writeln!(out, "best orders of eight {}", self.orders_of_eight)?;
+        writeln!(out, "best orders with more grants than the given one {}", self.better_than_given)?;
+        writeln!(out, "best orders with fewer grants than transactions {}", self.not_all_granted)?;
+        writeln!(out, "best orders of all {}", self.all_tried)?;
+        writeln!(out, "best orders with a gap {}", self.with_gap)
     }
 }

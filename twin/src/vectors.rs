@@ -96,6 +96,10 @@ fn reply(pair: &mut Pair, words: &[&str]) -> Option<Vec<Word>> {
             buffer: bytes(buffer)?,
             minute: number(minute)?,
         }),
+        ["best", list, minute, budget] => {
+            let list = numbers(list)?.into_iter().map(|number| number as usize).collect();
+            Call::Best { list, minute: number(minute)?, budget: number(budget)? }
+        }
         _ => return None,
     };
     Some(said(pair.call(&call, None)))
@@ -146,6 +150,16 @@ fn said(reply: Reply) -> Vec<Word> {
             Word::Number(ran.commits.into()),
             Word::Name("reader"),
             Word::Bytes(reply.buffer),
+        ],
+        Ok(Answer::Best(best)) => vec![
+            Word::Name("order"),
+            Word::Numbers(best.order().iter().map(|&t| t.into()).collect()),
+            Word::Name("grants"),
+            Word::Number(best.grants.into()),
+            Word::Name("gap"),
+            Word::Number(best.gap.into()),
+            Word::Name("tried"),
+            Word::Number(best.tried.into()),
         ],
         Err(refusal) => vec![Word::Name("refused"), Word::Number(refusal.number() as u64)],
     }

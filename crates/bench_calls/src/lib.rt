@@ -89,8 +89,8 @@ fn made(
     requests::perform(kept, files, logs, marks, undo, request(s), bytes, reader)
 }
 
-// An outcome as one octet: 0 done, 1 an offset, 2 a count of bytes, 3 granted, 4 a count of pairs, and 10 more than a
-// refusal's number.
+// An outcome as one octet: 0 done, 1 an offset, 2 a count of bytes, 3 granted, 4 a count of pairs, 6 an order, and 10
+// more than a refusal's number.
 fn code(o: Outcome) -> u8 {
     match o {
         Outcome::Done => 0,
@@ -98,6 +98,7 @@ fn code(o: Outcome) -> u8 {
         Outcome::Given(_) => 2,
         Outcome::Granted(_) => 3,
         Outcome::Pairs(_) => 4,
+        Outcome::Ordered(_, _, _) => 6,
         Outcome::Refused(r) => std::num::wrapping_add_u8(10, r.number()),
     }
 }
@@ -110,6 +111,7 @@ fn answered(o: Outcome) -> u64 {
         Outcome::Given(n) => n as u64,
         Outcome::Granted(n) => n as u64,
         Outcome::Pairs(n) => n as u64,
+        Outcome::Ordered(n, _, _) => n as u64,
         Outcome::Refused(_) => 0,
     }
 }
@@ -179,6 +181,29 @@ pub extern "C" fn bench_calls_run(
         i += 1;
         let told = pass(kept, files, logs, marks, undo, script, data, reader, said);
         sum = std::num::wrapping_add_u64(sum, told);
+    }
+    sum
+}
+
+// Asks so many times for the best order of the transactions listed. Answers the sum of the grants.
+#[no_mangle]
+pub extern "C" fn bench_calls_order<'a>(
+    kept: &'a Record,
+    files: &'a [u8],
+    logs: &'a [u8],
+    marks: &'a [u8],
+    undo: &'a [u8],
+    list: &'a [u8],
+    budget: usize,
+    rounds: usize,
+) -> u64 {
+    let mut sum = 0;
+    let mut i = 0;
+    while i < rounds {
+        i += 1;
+        let b = ordering::best_order(kept, files, logs, marks, undo, list, MINUTE, budget);
+        let o = b.outcome;
+        sum = std::num::wrapping_add_u64(sum, answered(o));
     }
     sum
 }

@@ -1,12 +1,12 @@
--- A refusal's number is at most 24.
+-- A refusal's number is at most 27.
 use mathlib.Core.Path.{_≡_}
 use Prim.Native.Nat.{ℕ, _≤_}
 use native.Mathlib.Omega.{arith}
 use Rattle.record.specs.Paper.{number}
 use Rattle.record.specs.declared.outcomes.Refusal.{Refusal}
-use Rattle.record.specs.declared.outcomes.Refusal.the-variants.{BufferLength, RecordRange, NoSuchTransaction, NotOpen, AlreadyOpen, NoSuchTarget, ReaderTooShort, SeekPastEnd, WritePastEnd, RecordsFull, LogFull, SettledPastEnd, Stale, NoSuchFile, NoPlaceYet, ListTooLong, BadLine, StaleReader, NotAtRest, ScriptRange, FileClosed, NoSuchMinute, StillOpen, NoGrant}
+use Rattle.record.specs.declared.outcomes.Refusal.the-variants.{BufferLength, RecordRange, NoSuchTransaction, NotOpen, AlreadyOpen, NoSuchTarget, ReaderTooShort, SeekPastEnd, WritePastEnd, RecordsFull, LogFull, SettledPastEnd, Stale, NoSuchFile, NoPlaceYet, ListTooLong, BadLine, StaleReader, NotAtRest, ScriptRange, FileClosed, NoSuchMinute, StillOpen, NoGrant, NotReady, BadList, BadBudget}
 
-number-bound : (r : Refusal) → number r ≤ 24
+number-bound : (r : Refusal) → number r ≤ 27
 number-bound BufferLength = omega arith
 number-bound RecordRange = omega arith
 number-bound NoSuchTransaction = omega arith
@@ -31,6 +31,9 @@ number-bound FileClosed = omega arith
 number-bound NoSuchMinute = omega arith
 number-bound StillOpen = omega arith
 number-bound NoGrant = omega arith
+number-bound NotReady = omega arith
+number-bound BadList = omega arith
+number-bound BadBudget = omega arith
 
-pub bounded : (r : Refusal) (n : ℕ) → n ≡ number r → n ≤ 24
+pub bounded : (r : Refusal) (n : ℕ) → n ≡ number r → n ≤ 27
 bounded r n e = omega (arith, e, number-bound r)

@@ -297,6 +297,33 @@ pub fn ran_taken(h: usize, commits: usize, ends: [Ended; 8], scripts: usize, buf
     octets_taken(ends_taken(counted, ends, scripts), buffer)
 }
 
+// The first n numbers of an order, at most eight.
+fn order_taken(h: usize, order: [u8; 8], n: usize) -> usize
+    requires { ⌜ Digest h ⌝ }
+    ensures { λ r. ⌜ Digest r ⌝ }
+{
+    let listed = smaller(n, 8);
+    let mut out = h;
+    let mut k = 0;
+    while k < listed {
+        out = octet_taken(out, order[k]);
+        k += 1;
+    }
+    out
+}
+
+// Takes in a best order's answer: its grants, the gap, how many orders were tried, and the order of n transactions.
+pub fn ordered_taken(h: usize, o: Outcome, order: [u8; 8], n: usize) -> usize
+    requires { ⌜ Digest h ⌝ }
+    ensures { λ r. ⌜ Digest r ⌝ }
+{
+    let Outcome::Ordered(grants, gap, tried) = o else {
+        return reply_taken(h, o, &[]);
+    };
+    let numbers = octet_taken(octet_taken(taken(h, 6), grants), gap);
+    order_taken(taken(numbers, tried), order, n)
+}
+
 // Takes in an outcome, and the buffer lent for the answer, after the call.
 pub fn reply_taken(h: usize, o: Outcome, buffer: &[u8]) -> usize
     requires { ⌜ Digest h ⌝ }

@@ -4,10 +4,10 @@ use record::outcomes::Outcome;
 use record::outcomes::REFUSALS;
 ghost use Prim.Native.Nat.{_<_};
 
-// The outcomes that are counted apart: five answers, a dispatcher that ran, then the refusals.
-pub const COUNTS: usize = 6 + REFUSALS as usize;
+// The outcomes that are counted apart: five answers, a dispatcher that ran, a best order, then the refusals.
+pub const COUNTS: usize = 7 + REFUSALS as usize;
 
-// The code of an outcome: 0 to 4 for an answer, 10 + n for refusal n.
+// The code of an outcome: 0 to 6 for an answer (5 is a dispatcher's), 10 + n for refusal n.
 pub fn code(o: Outcome) -> u16 {
     match o {
         Outcome::Done => 0,
@@ -15,6 +15,7 @@ pub fn code(o: Outcome) -> u16 {
         Outcome::Given(_) => 2,
         Outcome::Granted(_) => 3,
         Outcome::Pairs(_) => 4,
+        Outcome::Ordered(_, _, _) => 6,
         Outcome::Refused(r) => 10 + r.number() as u16,
     }
 }
@@ -27,13 +28,14 @@ pub fn number(o: Outcome) -> u16 {
         Outcome::Given(n) => n,
         Outcome::Granted(n) => n as u16,
         Outcome::Pairs(n) => n,
+        Outcome::Ordered(grants, _, _) => grants as u16,
         Outcome::Refused(_) => 0,
     }
 }
 
 // Which of the counts an outcome adds to.
 fn place(o: Outcome) -> usize
-    ensures { λ r. ⌜ r < 30 ⌝ }
+    ensures { λ r. ⌜ r < 34 ⌝ }
 {
     match o {
         Outcome::Done => 0,
@@ -41,13 +43,14 @@ fn place(o: Outcome) -> usize
         Outcome::Given(_) => 2,
         Outcome::Granted(_) => 3,
         Outcome::Pairs(_) => 4,
-        Outcome::Refused(r) => 5 + wide_octet(r.number()),
+        Outcome::Ordered(_, _, _) => 6,
+        Outcome::Refused(r) => 6 + wide_octet(r.number()),
     }
 }
 
 // The counts with one more at place k. No count passes the number of calls made, so that none wraps.
 fn one_more(counts: [usize; COUNTS], k: usize) -> [usize; COUNTS]
-    requires { ⌜ k < 30 ⌝ }
+    requires { ⌜ k < 34 ⌝ }
 {
     let mut out = counts;
     out[k] = std::num::wrapping_add_usize(counts[k], 1);

@@ -2,7 +2,7 @@
 use mathlib.Core.Bool.{Bool, true, false, cond, _&&_}
 use mathlib.Core.List.{List, [], _∷_, _++_}
 use mathlib.Core.Path.{_≡_, refl, sym, ap, _∙_, subst, subst⁻¹}
-use borrow.Author.Tests.{eqb-true, eqb-false, ne-eqb, lt-ltb, le-ltb}
+use borrow.Author.Tests.{eqb-true, eqb-false, ne-eqb}
 use lib.Dec.{eqb, ltb}
 use lib.ListN.{set, length-set, replicate, getD-replicate}
 use lib.Seq.{getD-set-same, getD-set-other}
@@ -160,66 +160,48 @@ makes-of k l bytes m buffer g m′ buffer′ q part o e f h p =
         unfold requestOf bytesOf callOf opOf readerAfter bufferOfCall bufferOf in
         record { refusal = h ∙ ap refusalIn (p .meets .outcome); machine = p .meets .machine; reader = p .meets .reader }
 
-module _ (bytes : List ℕ) (minute : ℕ) (x : Scripts) (i k : ℕ) (m₀ : Machine) (w : Work) where
-  pub turn-over : goesOn (w .ends k) ≡ false → turn (storeReply m₀) bytes minute x i k w ≡ w
-  unfolding turn
-  turn-over e = ap (λ (b : Bool). cond (b && ltb i (x .script k .count)) (perform (storeReply m₀) bytes minute x k (x .script k .call i) w) w) e
+-- Whether call i of script k is due, as the code has tested it.
+pub turn-as : (bytes : List ℕ) (minute : ℕ) (x : Scripts) (i k : ℕ) (m₀ : Machine) (w : Work) (due : Bool) → due ≡ goesOn (w .ends k) && ltb i (x .script k .count)
+    → turn (storeReply m₀) bytes minute x i k w ≡ cond due (perform (storeReply m₀) bytes minute x k (x .script k .call i) w) w
+unfolding turn
+turn-as bytes minute x i k m₀ w due e = ap (λ (b : Bool). cond b (perform (storeReply m₀) bytes minute x k (x .script k .call i) w) w) (sym e)
 
-  pub turn-none : x .script k .count ≤ i → turn (storeReply m₀) bytes minute x i k w ≡ w
-  unfolding turn
-  turn-none l =
-      ap (λ (b : Bool). cond (goesOn (w .ends k) && b) (perform (storeReply m₀) bytes minute x k (x .script k .call i) w) w) (le-ltb i (x .script k .count) l)
-      ∙ pick (goesOn (w .ends k)) _
-    where
-      pick : (b : Bool) (v : Work) → cond (b && false) v w ≡ w
-      pick true v = refl
-      pick false v = refl
+module _ (bytes : List ℕ) (minute : ℕ) (x : Scripts) (k : ℕ) (line : ScriptCall) (m₀ : Machine) (w : Work) (m : Machine) (buffer : List ℕ) (es : List Ended) (n : ℕ) (s : Stands m₀ w m buffer es n) (g : Gate) (m₁ : Machine) (buffer₁ : List ℕ) (h : Makes k line bytes m buffer g m₁ buffer₁) where
+  abbrev made : Call
+  made = on k (opOf bytes (w .reader) line)
 
-  turn-one : goesOn (w .ends k) ≡ true → i < x .script k .count → turn (storeReply m₀) bytes minute x i k w ≡ perform (storeReply m₀) bytes minute x k (x .script k .call i) w
-  unfolding turn
-  turn-one e l =
-      ap (λ (b : Bool). cond (b && ltb i (x .script k .count)) (perform (storeReply m₀) bytes minute x k (x .script k .call i) w) w) e
-      ∙ ap (λ (b : Bool). cond b (perform (storeReply m₀) bytes minute x k (x .script k .call i) w) w) (lt-ltb i (x .script k .count) l)
+  -- The call is made, and what was read stands in the reader's buffer.
+  abbrev after : Work
+  after = withReader (readerAfter line (storeReply m₀ made (w .made)) (w .reader)) (withCall made w)
 
-  module _ (m : Machine) (buffer : List ℕ) (es : List Ended) (n : ℕ) (s : Stands m₀ w m buffer es n) (g : Gate) (m₁ : Machine) (buffer₁ : List ℕ) (h : Makes k (x .script k .call i) bytes m buffer g m₁ buffer₁) where
-    abbrev line : ScriptCall
-    line = x .script k .call i
+  after-stands : Stands m₀ after m₁ buffer₁ es n
+  after-stands =
+      let t = stands-call m₀ w m buffer es n s made m₁ (h .machine ∙ ap (λ (b : List ℕ). call (on k (opOf bytes b line)) m .after) (s .reader)) in
+      record {
+        machine = t .machine;
+        reader =
+            h .reader
+            ∙ ap (λ (b : List ℕ). readerAfter line (call (on k (opOf bytes b line)) m .reply) b) (s .reader)
+            ∙ ap (λ (r : Reply). readerAfter line r (w .reader)) (replied m₀ w m buffer es n s made);
+        eight = t .eight;
+        ends = t .ends;
+        commits = t .commits;
+      }
 
-    abbrev made : Call
-    made = on k (opOf bytes (w .reader) line)
+  performed : perform (storeReply m₀) bytes minute x k line w ≡ orFailing k (gateNumber g) after
+  unfolding perform
+  performed =
+      ap (λ (a : ℕ). orFailing k a after)
+      (sym
+      (h .refusal
+      ∙ ap (λ (b : List ℕ). refusalIn (call (on k (opOf bytes b line)) m .reply .answer)) (s .reader)
+      ∙ ap (λ (r : Reply). refusalIn (r .answer)) (replied m₀ w m buffer es n s made)))
 
-    -- The call is made, and what was read stands in the reader's buffer.
-    abbrev after : Work
-    after = withReader (readerAfter line (storeReply m₀ made (w .made)) (w .reader)) (withCall made w)
-
-    after-stands : Stands m₀ after m₁ buffer₁ es n
-    after-stands =
-        let t = stands-call m₀ w m buffer es n s made m₁ (h .machine ∙ ap (λ (b : List ℕ). call (on k (opOf bytes b line)) m .after) (s .reader)) in
-        record {
-          machine = t .machine;
-          reader =
-              h .reader
-              ∙ ap (λ (b : List ℕ). readerAfter line (call (on k (opOf bytes b line)) m .reply) b) (s .reader)
-              ∙ ap (λ (r : Reply). readerAfter line r (w .reader)) (replied m₀ w m buffer es n s made);
-          eight = t .eight;
-          ends = t .ends;
-          commits = t .commits;
-        }
-
-    performed : perform (storeReply m₀) bytes minute x k line w ≡ orFailing k (gateNumber g) after
-    unfolding perform
-    performed =
-        ap (λ (a : ℕ). orFailing k a after)
-        (sym
-        (h .refusal
-        ∙ ap (λ (b : List ℕ). refusalIn (call (on k (opOf bytes b line)) m .reply .answer)) (s .reader)
-        ∙ ap (λ (r : Reply). refusalIn (r .answer)) (replied m₀ w m buffer es n s made)))
-
-    pub turn-done : goesOn (w .ends k) ≡ true → i < x .script k .count → (m₂ : Machine) (es₂ : List Ended)
-        → ((v : Work) → Stands m₀ v m₁ buffer₁ es n → Stands m₀ (orFailing k (gateNumber g) v) m₂ buffer₁ es₂ n)
-        → Stands m₀ (turn (storeReply m₀) bytes minute x i k w) m₂ buffer₁ es₂ n
-    turn-done e l m₂ es₂ f =
-        stands-as m₀ (turn (storeReply m₀) bytes minute x i k w) (orFailing k (gateNumber g) after) m₂ buffer₁ es₂ n (turn-one e l ∙ performed) (f after after-stands)
+  pub turn-done : (due : Bool) → due ≡ true → (m₂ : Machine) (es₂ : List Ended)
+      → ((v : Work) → Stands m₀ v m₁ buffer₁ es n → Stands m₀ (orFailing k (gateNumber g) v) m₂ buffer₁ es₂ n)
+      → Stands m₀ (cond due (perform (storeReply m₀) bytes minute x k line w) w) m₂ buffer₁ es₂ n
+  turn-done due e m₂ es₂ f =
+      stands-as m₀ (cond due (perform (storeReply m₀) bytes minute x k line w) w) (orFailing k (gateNumber g) after) m₂ buffer₁ es₂ n (chosen due _ w e ∙ performed) (f after after-stands)
 
 module _ (bytes : List ℕ) (minute : ℕ) (x : Scripts) (k : ℕ) (m₀ : Machine) (w : Work) where
   pub commit-over : goesOn (w .ends k) ≡ false → commitOne (storeReply m₀) bytes minute x k w ≡ w

@@ -50,6 +50,7 @@ pub fn gate_of(o: Outcome) -> Gate
         Outcome::Given(_) => Gate::Pass,
         Outcome::Granted(_) => Gate::Pass,
         Outcome::Pairs(_) => Gate::Pass,
+        Outcome::Ordered(_, _, _) => Gate::Pass,
         Outcome::Refused(r) => Gate::Refused(r),
     }
 }

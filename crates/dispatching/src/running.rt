@@ -6,6 +6,7 @@ use crate::ends::End;
 use crate::ends::Ended;
 use crate::ends::Ends;
 use crate::scripts::CALLS;
+use crate::scripts::ScriptCall;
 use crate::scripts::Scripts;
 use ranges::Gate;
 use record::layout::Record;
@@ -19,16 +20,23 @@ ghost use Rattle.record.specs.Paper.{number};
 ghost use Rattle.ranges.specs.Ranges.{gateNumber};
 ghost use Rattle.rules.specs.Messages.{begin};
 ghost use Rattle.rules.specs.Promises.{handed, left};
-ghost use Rattle.rounds.specs.Rounds.{Scripts as SomeScripts, scriptsIn, goesOn, withCall, failing, orFailing, decided};
-ghost use Rattle.rounds.specs.Rounds.{begins, turn, turns, passes, commitOne, commitAll, round};
+ghost use Rattle.rounds.specs.Rounds.{Scripts as SomeScripts, partIn, scriptsIn, goesOn, withCall, failing, orFailing, decided};
+ghost use Rattle.rounds.specs.Rounds.{begins, perform, turns, passes, commitOne, commitAll, round};
 ghost use Rattle.rounds.specs.Dispatch.{storeReply, onStore};
-ghost use Rattle.dispatching.specs.Types.{scriptsOf, endAt};
+ghost use Rattle.dispatching.specs.Types.{scriptCallOf, scriptsOf, endAt};
 ghost use Rattle.dispatching.specs.Steps.{Stands, Carries, Steps, StepsAside};
 
 // The ends of the scripts, and the number of Commits made.
 pub struct Progress {
     pub ends: [Ended; 8],
     pub commits: usize,
+}
+
+// What a script has next: whether a call is due, and which.
+pub struct Next {
+    pub script: usize,
+    pub due: bool,
+    pub call: ScriptCall,
 }
 
 // Script k goes on.
@@ -152,33 +160,29 @@ fn begin_all(
     }
 }
 
-// Call i of script k, if it has one and goes on.
+// Makes the next call of a script, if one is due.
 fn turn(
     kept: &mut Record,
     files: &mut [u8],
     logs: &mut [u8],
     marks: &mut [u8],
     undo: &mut [u8],
-    scripts: Scripts,
+    t: Next,
     bytes: &[u8],
     reader: &mut [u8],
     ends: Ends,
-    i: usize,
-    k: usize,
 ) -> Ends
-    requires { ⌜ (scriptsIn (length (now bytes)) (scriptsOf scripts) ≡ true) × (i < 16) × (k < scripts .count) ⌝ }
-    ensures { λ es. ⌜ ((minute : ℕ)
-        → Steps (λ m. turn (storeReply m) (now (bytes .entry)) minute (scriptsOf scripts) i k)
+    requires { ⌜ (t .script < 8) × (t .due ≡ true → partIn (length (now bytes)) (scriptCallOf (t .call)) ≡ true) ⌝ }
+    ensures { λ es. ⌜ ((minute : ℕ) (x : SomeScripts)
+        → Steps (λ m w. cond (t .due)
+        (perform (storeReply m) (now (bytes .entry)) minute x (t .script) (scriptCallOf (t .call)) w) w)
         kept files logs marks undo reader ends es) ⌝ }
 {
-    if !goes_on(ends, k) {
+    if !t.due {
         return ends;
     }
-    if i >= scripts.counts[k] {
-        return ends;
-    }
-    let line = scripts.lines[CALLS * k + i];
-    let call = line.call;
+    let k = t.script;
+    let call = t.call;
     let g = make(kept, files, logs, marks, undo, k, call, bytes, reader);
     answered(kept, files, logs, marks, undo, ends, k, g)
 }
@@ -205,19 +209,15 @@ fn turns(
     let mut out = ends;
     let mut k = 0;
     while k < count {
-        let next = turn(
-            kept,
-            files,
-            logs,
-            marks,
-            undo,
-            scripts,
-            bytes,
-            reader,
-            out,
-            i,
-            k,
-        );
+        let due = goes_on(out, k) & (i < scripts.counts[k]);
+        let line = scripts.lines[CALLS * k + i];
+        let call = line.call;
+        let t = Next {
+            script: k,
+            due: due,
+            call: call,
+        };
+        let next = turn(kept, files, logs, marks, undo, t, bytes, reader, out);
         out = next;
         k += 1;
     }

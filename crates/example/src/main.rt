@@ -36,6 +36,7 @@ fn tell(call: &[u8], o: Outcome) {
             store::made_stale(octet) as u64,
         ),
         Outcome::Pairs(n) => print_number(b": pairs listed ", n as u64),
+        Outcome::Ordered(n, _, _) => print_number(b": grants in order ", n as u64),
         Outcome::Refused(_) => print(b": refused"),
     }
     print(b"\n");

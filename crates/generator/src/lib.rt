@@ -5,7 +5,7 @@ use numbers::BUFFER_BYTES;
 use numbers::FILE_BYTES;
 use plans::Plan;
 use requests::Request;
-ghost use Prim.Native.Nat.{_≤_, _<_};
+ghost use Prim.Native.Nat.{_+_, _≤_, _<_};
 
 // The modes. Modes 1, crowded, and 6, scattered, differ by the tables alone.
 const MIXED: usize = 0;
@@ -22,7 +22,9 @@ const SHORT_FILES: usize = 7;
 
 const QUIET: usize = 8;
 
-const MODES: usize = 9;
+const READY: usize = 9;
+
+const MODES: usize = 10;
 
 // The kinds of calls, in the order of their weights.
 const FRESH: usize = 0;
@@ -49,17 +51,19 @@ const TAKE_BACK: usize = 10;
 
 const DISPATCH: usize = 11;
 
-const KINDS: usize = 12;
+const BEST_ORDER: usize = 12;
 
-// How many of 1,000 calls are of each kind, twelve numbers a mode: mixed, crowded, many records, long writes, near the
-// end, long reads, scattered, short files, quiet.
-const WEIGHTS: [usize; 108] = [
+const KINDS: usize = 13;
+
+// How many of 1,000 calls are of each kind, thirteen numbers a mode: mixed, crowded, many records, long writes, near
+// the end, long reads, scattered, short files, quiet, ready.
+const WEIGHTS: [usize; 130] = [
     4,
     20,
     200,
     250,
     80,
-    211,
+    207,
     40,
     102,
     43,
@@ -67,11 +71,12 @@ const WEIGHTS: [usize; 108] = [
     5,
     5,
     4,
+    4,
     20,
     155,
     215,
     120,
-    190,
+    186,
     40,
     162,
     44,
@@ -79,9 +84,10 @@ const WEIGHTS: [usize; 108] = [
     5,
     5,
     4,
+    4,
     10,
     60,
-    788,
+    787,
     10,
     56,
     40,
@@ -90,10 +96,11 @@ const WEIGHTS: [usize; 108] = [
     10,
     1,
     1,
+    1,
     4,
     20,
     208,
-    420,
+    419,
     30,
     91,
     40,
@@ -102,12 +109,13 @@ const WEIGHTS: [usize; 108] = [
     40,
     1,
     1,
+    1,
     4,
     20,
     200,
     260,
     80,
-    145,
+    141,
     40,
     151,
     50,
@@ -115,11 +123,12 @@ const WEIGHTS: [usize; 108] = [
     5,
     5,
     4,
+    4,
     20,
     190,
     240,
     60,
-    255,
+    251,
     40,
     102,
     39,
@@ -127,23 +136,25 @@ const WEIGHTS: [usize; 108] = [
     5,
     5,
     4,
+    4,
     20,
     333,
     335,
     20,
     100,
-    150,
+    146,
     16,
     10,
     10,
     1,
     1,
+    4,
     24,
     20,
     50,
     310,
     10,
-    320,
+    316,
     16,
     180,
     30,
@@ -151,9 +162,10 @@ const WEIGHTS: [usize; 108] = [
     5,
     5,
     4,
+    4,
     10,
     210,
-    396,
+    392,
     20,
     70,
     10,
@@ -162,6 +174,20 @@ const WEIGHTS: [usize; 108] = [
     20,
     65,
     65,
+    4,
+    4,
+    10,
+    200,
+    240,
+    50,
+    160,
+    6,
+    20,
+    40,
+    20,
+    5,
+    5,
+    240,
 ];
 
 // What is wrong with the buffers or the record lent to a call; short and forgery are 0 where nothing is.
@@ -176,10 +202,19 @@ pub struct Damage {
     pub excess: usize,
 }
 
-// A Fresh, a dispatcher, or another call.
+// What is asked about an order to commit in: the transactions are the first `listed` of the list.
+pub struct Ready {
+    pub list: [u8; 10],
+    pub listed: usize,
+    pub minute: usize,
+    pub budget: usize,
+}
+
+// A Fresh, a dispatcher, a best order, or another call.
 pub enum Made {
     Fresh,
     Dispatch,
+    BestOrder,
     Asks(Request),
 }
 
@@ -198,6 +233,7 @@ pub struct Generated {
     pub list: [u8; 17],
     pub listed: usize,
     pub plan: Plan,
+    pub ready: Ready,
     pub damage: Damage,
 }
 
@@ -256,6 +292,7 @@ fn files_used(mode: usize) -> usize
         6 => 2,
         7 => 2,
         QUIET => 2,
+        READY => 2,
         _ => 8,
     }
 }
@@ -285,12 +322,15 @@ fn transaction(phase: usize, r: usize) -> usize
     (phase + phase / 8 + one_below(used, value)) % 8
 }
 
-// One of the mode's descriptors, now and then 16 or 17.
-fn descriptor(mode: usize, r: usize) -> usize {
+// One of the mode's descriptors, in the ready mode mostly that of the transaction, now and then 16 or 17.
+fn descriptor(mode: usize, t: usize, r: usize) -> usize {
     let class = r % 40;
     let value = r / 40;
     if class == 0 {
         return 16 + value % 2;
+    }
+    if (mode == READY) & (3 < class) {
+        return t % 2 + 8 * (t / 2 % 2);
     }
     let used = files_used(mode);
     one_below(used, value) + 8 * (value / 64 % 2)
@@ -309,11 +349,11 @@ fn file(mode: usize, r: usize) -> usize {
 
 // The kind, by the weights of the mode.
 fn kind(mode: usize, r: usize) -> usize
-    requires { ⌜ mode < 9 ⌝ }
+    requires { ⌜ mode < 10 ⌝ }
 {
     let mut rest = r % 1000;
     let mut k = FRESH;
-    while k < DISPATCH {
+    while k < BEST_ORDER {
         let weight = WEIGHTS[KINDS * mode + k];
         if rest < weight {
             return k;
@@ -321,7 +361,21 @@ fn kind(mode: usize, r: usize) -> usize
         rest -= weight;
         k += 1;
     }
-    DISPATCH
+    BEST_ORDER
+}
+
+// In the ready mode the first Write of a transaction is made a Seek.
+fn sought_first(mode: usize, kind: usize, t: usize, sought: [bool; 8]) -> usize {
+    if (mode != READY) | (kind != WRITE) {
+        return kind;
+    }
+    if 7 < t {
+        return kind;
+    }
+    if sought[t] {
+        return kind;
+    }
+    SEEK
 }
 
 // The lowest number of a transaction that is guessed open, 8 where none is.
@@ -384,7 +438,7 @@ fn fitted(mode: usize, kind: usize, t: usize, guess: [bool; 8], r: [usize; 12]) 
         return chosen;
     }
     let first = first_open(guess);
-    if (TAKE_BACK <= kind) & (first < 8) {
+    if ((kind == TAKE_BACK) | (kind == DISPATCH)) & (first < 8) {
         return ending(first, r[9]);
     }
     if (kind < SEEK) | (ABORT < kind) {
@@ -454,13 +508,43 @@ pub fn guess_after(guess: [bool; 8], g: Generated) -> [bool; 8] {
     match made {
         Made::Fresh => guess_after_fresh(guess, list, g.listed),
         Made::Dispatch => guess,
+        Made::BestOrder => guess,
         Made::Asks(q) => guess_after_asked(guess, q, t),
     }
 }
 
+// The transactions that are guessed to have made a Seek, after a request of transaction t.
+fn sought_after_request(sought: [bool; 8], q: Request, t: usize) -> [bool; 8]
+    requires { ⌜ t < 8 ⌝ }
+{
+    let mut out = sought;
+    match q {
+        Request::Begin(_) => out[t] = false,
+        Request::Seek(_, _, _) => out[t] = true,
+        _ => {}
+    }
+    out
+}
+
+// The transactions that are guessed to have made a Seek since their Begin, after the call.
+pub fn sought_after(sought: [bool; 8], g: Generated) -> [bool; 8] {
+    let t = g.transaction;
+    if (0 < g.damage.short) | (0 < g.damage.forgery) {
+        return sought;
+    }
+    if 7 < t {
+        return sought;
+    }
+    let made = g.made;
+    let Made::Asks(q) = made else {
+        return sought;
+    };
+    sought_after_request(sought, q, t)
+}
+
 // A mode in which the files stay short.
 fn is_short(mode: usize) -> bool {
-    (mode == SHORT_FILES) | (mode == QUIET)
+    SHORT_FILES <= mode
 }
 
 // Where a Seek goes in a short file: mostly in steps of 4, so that ends meet.
@@ -766,6 +850,9 @@ fn call_of(kind: usize, t: usize, d: usize, f: usize, n: usize, end: usize) -> M
     if kind == DISPATCH {
         return Made::Dispatch;
     }
+    if kind == BEST_ORDER {
+        return Made::BestOrder;
+    }
     match kind {
         BEGIN => Made::Asks(Request::Begin(t)),
         SEEK => Made::Asks(Request::Seek(t, d, n)),
@@ -822,8 +909,99 @@ fn lent_size(kind: usize, n: usize, data: usize) -> usize {
     n
 }
 
+// The list with transaction t behind it, where it is taken.
+fn joined(m: Ready, t: usize, is_taken: bool) -> Ready
+    requires { ⌜ m .listed < 8 ⌝ }
+    ensures { λ a. ⌜ a .listed ≤ m .listed + 1 ⌝ }
+{
+    let mut out = m;
+    let n = m.listed;
+    if is_taken {
+        out.list[n] = octet(t);
+        out.listed = n + 1;
+    }
+    out
+}
+
+// Transactions for an order: those that are guessed open, or any, at most so many, from a start on by steps.
+fn members(open: [bool; 8], any: bool, most: usize, start: usize, step: usize, fill: u8) -> Ready
+    requires { ⌜ (start < 8) × (step < 8) ⌝ }
+    ensures { λ a. ⌜ a .listed ≤ 8 ⌝ }
+{
+    let mut m = Ready {
+        list: [fill; 10],
+        listed: 0,
+        minute: 0,
+        budget: 0,
+    };
+    let mut t = start;
+    let mut i = 0usize;
+    while i < 8 {
+        m = joined(m, t, (open[t] | any) & (m.listed < most));
+        t = (t + step) % 8;
+        i += 1;
+    }
+    m
+}
+
+// The list as it is asked about: now and then empty, with a repeat, or with numbers above 7 behind it.
+fn listed(m: Ready, class: usize) -> Ready
+    requires { ⌜ m .listed ≤ 8 ⌝ }
+{
+    let mut out = m;
+    let n = m.listed;
+    let first = m.list[0];
+    match class {
+        1 => out.listed = 0,
+        2 => {
+            out.list[n] = first;
+            out.listed = n + 1;
+        }
+        3 => out.listed = n + 1,
+        4 => out.listed = n + 2,
+        5 => out.listed = n + 1,
+        _ => {}
+    }
+    out
+}
+
+// Mostly up to 30 orders, often as many as there are of one to five transactions; now and then 0, or 40,320 and more. A
+// larger budget is given to short lists only.
+fn budget(length: usize, class: usize, value: usize) -> usize {
+    if (class == 2) & (length < 5) {
+        return 40320;
+    }
+    match class {
+        0 => 0,
+        1 => 40321 + value % 25000,
+        2 => 120,
+        3 => 120,
+        4 => 24,
+        5 => 6,
+        6 => 2,
+        7 => 1,
+        _ => 1 + value % 30,
+    }
+}
+
+// What is asked about an order, by twelve numbers and the transactions that are guessed open.
+fn asked_order(r: [usize; 12], open: [bool; 8]) -> Ready {
+    let class = r[3] % 32;
+    let any = (class == 0) | (class == 3) | (class == 5);
+    let mut most = 1 + r[4] % 8;
+    if class == 5 {
+        most = 8;
+    }
+    let step = 1 + 2 * (r[5] / 8 % 4);
+    let m = members(open, any, most, r[5] % 8, step, octet(8 + r[4] / 8 % 2));
+    let mut out = listed(m, class);
+    out.minute = minute(r[7] / 128 % 16, r[8]);
+    out.budget = budget(out.listed, r[6] % 16, r[6] / 16);
+    out
+}
+
 // The call of a kind in a mode that twelve numbers make.
-fn call_from(r: [usize; 12], mode: usize, chosen: Chosen) -> Generated
+fn call_from(r: [usize; 12], mode: usize, chosen: Chosen, open: [bool; 8]) -> Generated
     ensures { λ a. ⌜ (a .damage .transaction < 8) × (a .damage .index < 16) ⌝ }
 {
     let k = chosen.kind;
@@ -833,11 +1011,12 @@ fn call_from(r: [usize; 12], mode: usize, chosen: Chosen) -> Generated
     let d = damaged(k, r);
     let list = list(r);
     let plan = planned(r);
+    let ready = asked_order(r, open);
     Generated {
         made: call_of(
             k,
             t,
-            descriptor(mode, r[2]),
+            descriptor(mode, t, r[2]),
             file(mode, r[2]),
             n,
             window_end(n, r),
@@ -850,19 +1029,20 @@ fn call_from(r: [usize; 12], mode: usize, chosen: Chosen) -> Generated
         list,
         listed: list_length(r[3], r[4]),
         plan,
+        ready,
         damage: d,
     }
 }
 
-// The Fresh with which a phase of the quiet mode starts: descriptor d belongs to file d mod 8.
-fn quiet_start(r: [usize; 12]) -> Generated
+// The Fresh with which a phase of the quiet or the ready mode starts: descriptor d belongs to file d mod 8.
+fn fresh_start(r: [usize; 12], mode: usize, open: [bool; 8]) -> Generated
     ensures { λ a. ⌜ (a .damage .transaction < 8) × (a .damage .index < 16) ⌝ }
 {
     let chosen = Chosen {
         kind: FRESH,
         transaction: 0,
     };
-    let mut g = call_from(r, QUIET, chosen);
+    let mut g = call_from(r, mode, chosen, open);
     let list = files_by(1, 0);
     g.list = list;
     g.listed = 16;
@@ -870,16 +1050,17 @@ fn quiet_start(r: [usize; 12]) -> Generated
 }
 
 // Call i that twelve numbers make.
-pub fn requested(r: [usize; 12], i: usize, guess: [bool; 8]) -> Generated
+pub fn requested(r: [usize; 12], i: usize, open: [bool; 8], sought: [bool; 8]) -> Generated
     requires { ⌜ i < 16777216 ⌝ }
     ensures { λ a. ⌜ (a .damage .transaction < 8) × (a .damage .index < 16) ⌝ }
 {
     let phase = i / 256;
     let mode = phase % MODES;
-    if (mode == QUIET) & (i % 256 == 0) {
-        return quiet_start(r);
+    if (QUIET <= mode) & (i % 256 == 0) {
+        return fresh_start(r, mode, open);
     }
     let t = transaction(phase, r[1]);
-    let chosen = fitted(mode, kind(mode, r[0]), t, guess, r);
-    call_from(r, mode, chosen)
+    let k = sought_first(mode, kind(mode, r[0]), t, sought);
+    let chosen = fitted(mode, k, t, open, r);
+    call_from(r, mode, chosen, open)
 }

@@ -14,7 +14,6 @@ use lib.Seq.{getD-set-same, getD-set-other, set-out}
 use lib.Pow.{pow-pos, pow-lt, pow-mono, pow-add, shl-shr, shr-shr, shl-exact, mod-pow-add}
 use borrow.Author.Tests.{eqb-true, eqb-false, eq-eqb, ne-eqb}
 use Rattle.octets.specs.Bits.{bit, withBit, span, cleared}
-use Rattle.octets.specs.Marks.{contains}
 use Rattle.octets.proofs.PartLaws.{le-or-lt}
 
 -- ---- one bit
@@ -52,7 +51,7 @@ bits-equal x y same = upto (x + y) x y (omega arith) (omega arith) same
         let high : x / 2 ≡ y / 2 = upto n (x / 2) (y / 2) (omega arith) (omega arith) (λ u. sym (bit-next u x) ∙ same (suc u) ∙ bit-next u y) in
         omega arith
 
-bit-or : (u a b : ℕ) → bit u (bitOr a b) ≡ max (bit u a) (bit u b)
+pub bit-or : (u a b : ℕ) → bit u (bitOr a b) ≡ max (bit u a) (bit u b)
 unfolding bit
 bit-or u a b =
     let x = a / 2 ^ u in
@@ -61,20 +60,6 @@ bit-or u a b =
     ap (λ (k : ℕ). k % 2) (or-shr a b u ∙ or-step x y)
     ∙ mul-add-mod-self-right (bitOr (x / 2) (y / 2)) 2 (max (x % 2) (y % 2))
     ∙ mod-eq-of-lt small
-
--- the transactions of both sets
-pub contains-or : (a b u : ℕ) → contains (bitOr a b) u ≡ contains a u || contains b u
-unfolding contains
-contains-or a b u = ap (λ (k : ℕ). eqb k 1) (bit-or u a b) ∙ either (bit u a) (bit u b) (bit-lt u a) (bit-lt u b)
-  where
-    either : (x y : ℕ) → x < 2 → y < 2 → eqb (max x y) 1 ≡ eqb x 1 || eqb y 1
-    either zero zero h g = refl
-    either zero (suc zero) h g = refl
-    either (suc zero) zero h g = refl
-    either (suc zero) (suc zero) h g = refl
-    either (suc (suc x)) y h g = absurd (omega arith)
-    either zero (suc (suc y)) h g = absurd (omega arith)
-    either (suc zero) (suc (suc y)) h g = absurd (omega arith)
 
 -- ---- a bit set
 

@@ -1,5 +1,5 @@
 -- The laws of sets of numbers as bits. Assumes nothing.
-use mathlib.Core.Bool.{Bool, true, false, cond, _&&_, false≢true}
+use mathlib.Core.Bool.{Bool, true, false, cond, _&&_, _||_, false≢true}
 use mathlib.Core.Logic.{_⊎_, inl, inr, ⊎-elim}
 use mathlib.Core.Path.{_≡_, refl, sym, ap, ap₂, _∙_}
 use lib.Bits.{bitOr, bitAnd, or-shifted-r, and-shr, and-step}
@@ -9,10 +9,10 @@ use lib.Pow.{pow-lt, pow-mono}
 use native.Mathlib.Nat.{one-mul, eq-or-lt-of-le, le-of-suc-le-suc, not-suc-le-zero, add-comm, pow-suc, mul-add-mod-self-right, mod-eq-of-lt}
 use native.Mathlib.Omega.{arith}
 use borrow.Author.Tests.{eqb-true, eqb-false, eq-eqb, ne-eqb}
-use Prim.Native.Nat.{ℕ, zero, suc, _+_, _-_, _^_, _/_, _%_, _≤_, _<_, min}
+use Prim.Native.Nat.{ℕ, zero, suc, _+_, _-_, _^_, _/_, _%_, _≤_, _<_, min, max}
 use Rattle.octets.specs.Bits.{bit, withBit, withoutBit, withBitAs, bitsOf, countOf}
 use Rattle.octets.specs.Marks.{contains}
-use Rattle.octets.proofs.BitLaws.{bit-lt, bit-above, bits-equal, bit-with}
+use Rattle.octets.proofs.BitLaws.{bit-lt, bit-above, bits-equal, bit-or, bit-with}
 use Rattle.octets.proofs.PartLaws.{le-or-lt}
 
 module _ (p : ℕ → Bool) where
@@ -106,6 +106,20 @@ octets-same x y h g same = bits-equal x y (λ u. ⊎-elim (high u) (λ l. same-b
         pick true p false q e = absurd (false≢true (sym e))
         pick false p true q e = absurd (false≢true e)
         pick false p false q e = let l = eqb-false a 1 p in let m = eqb-false b 1 q in omega arith
+
+-- what is in one set or the other
+pub contains-or : (a b u : ℕ) → contains (bitOr a b) u ≡ contains a u || contains b u
+unfolding contains
+contains-or a b u = ap (λ (k : ℕ). eqb k 1) (bit-or u a b) ∙ either (bit u a) (bit u b) (bit-lt u a) (bit-lt u b)
+  where
+    either : (x y : ℕ) → x < 2 → y < 2 → eqb (max x y) 1 ≡ eqb x 1 || eqb y 1
+    either zero zero h g = refl
+    either zero (suc zero) h g = refl
+    either (suc zero) zero h g = refl
+    either (suc zero) (suc zero) h g = refl
+    either (suc (suc x)) y h g = absurd (omega arith)
+    either zero (suc (suc y)) h g = absurd (omega arith)
+    either (suc zero) (suc (suc y)) h g = absurd (omega arith)
 
 -- what is in it with a number more
 pub contains-with : (t x u : ℕ) → contains (withBit t x) u ≡ cond (eqb u t) true (contains x u)

@@ -4,6 +4,7 @@ use dispatching::ends::End;
 use dispatching::ends::Ended;
 use generator::Generated;
 use generator::Made;
+use generator::Ready;
 use plans::Plan;
 use record::layout::Record;
 use record::outcomes::Outcome;
@@ -51,6 +52,9 @@ pub struct Came {
     pub scripts: usize,
     pub ends: [Ended; 8],
     pub commits: usize,
+    // Of a best order: it, and how many transactions it has.
+    pub order: [u8; 8],
+    pub listed: usize,
 }
 
 // What a call came to that is no dispatcher.
@@ -64,6 +68,8 @@ fn single(outcome: Outcome) -> Came {
         scripts: 0,
         ends: [e; 8],
         commits: 0,
+        order: [0u8; 8],
+        listed: 0,
     }
 }
 
@@ -85,6 +91,8 @@ fn several(d: Dispatched, scripts: usize) -> Came {
         scripts,
         ends,
         commits: d.commits,
+        order: [0u8; 8],
+        listed: 0,
     }
 }
 
@@ -128,6 +136,35 @@ fn dispatched(
     several(d, plan.count)
 }
 
+// Asks for the best order of the transactions listed.
+fn ordered<'a>(
+    kept: &'a Record,
+    files: &'a [u8],
+    logs: &'a [u8],
+    marks: &'a [u8],
+    undo: &'a [u8],
+    ready: Ready,
+) -> Came {
+    let list = ready.list;
+    let n = within(ready.listed, &list);
+    let b = ordering::best_order(
+        kept,
+        files,
+        logs,
+        marks,
+        undo,
+        &list[..n],
+        ready.minute,
+        ready.budget,
+    );
+    let outcome = b.outcome;
+    let order = b.order;
+    let mut came = single(outcome);
+    came.order = order;
+    came.listed = n;
+    came
+}
+
 // Performs the call on the buffers that are lent.
 fn on_lent(
     kept: &mut Record,
@@ -141,11 +178,13 @@ fn on_lent(
 ) -> Came {
     let made = g.made;
     let plan = g.plan;
+    let ready = g.ready;
     put(bytes, g.first, g.step);
     put(reader, FILLED, 0);
     match made {
         Made::Fresh => single(made_fresh(kept, files, logs, marks, undo, g)),
         Made::Dispatch => dispatched(kept, files, logs, marks, undo, plan, bytes, reader),
+        Made::BestOrder => ordered(kept, files, logs, marks, undo, ready),
         Made::Asks(q) => single(requests::perform(
             kept,
             files,

@@ -11,7 +11,7 @@ use lib.Seq.{take-suc, take-all, append-snoc}
 use borrow.Author.Tests.{lt-ltb, le-ltb, ltb-true, ltb-false}
 use Rattle.octets.specs.Parts.{pasted}
 use Rattle.octets.proofs.PartLaws.{pasted-append, pasted-none, pasted-more, length-pasted}
-use Rattle.record.specs.Paper.{Said, plain, pointer, given, granted, pairs, refused}
+use Rattle.record.specs.Paper.{Said, plain, pointer, given, granted, pairs, ordered, refused}
 use Rattle.printing.specs.Printed.{Put, glyph, decimal, decimalBelow, hexPairs, ok, okNumber, okBytes, spelled}
 
 -- ---- a text that is put
@@ -136,4 +136,5 @@ length-spelled (pointer n) b = omega (arith, length-number n)
 length-spelled (given n) b = omega (arith, length-given n b)
 length-spelled (granted n) b = omega (arith, length-number n)
 length-spelled (pairs n) b = omega (arith, length-number n)
+length-spelled (ordered grants gap tried) b = omega (arith, length-number grants)
 length-spelled (refused n) b = omega (arith, length-decimal n)

@@ -8,7 +8,7 @@ use lib.Dec.{ltb}
 use lib.ListN.{length, take}
 use Prim.Native.Nat.{ℕ, zero, suc, _+_, _/_, _%_}
 use Rattle.octets.specs.Parts.{pasted}
-use Rattle.record.specs.Paper.{Said, plain, pointer, given, granted, pairs, refused}
+use Rattle.record.specs.Paper.{Said, plain, pointer, given, granted, pairs, ordered, refused}
 use Rattle.rules.specs.Messages.{Reply}
 
 -- The character of a digit below 16: `0` to `9`, then `a` to `f`.
@@ -39,13 +39,15 @@ unfoldable pub okBytes : List ℕ → List ℕ
 okBytes [] = ok
 okBytes (b ∷ bs) = ok ++ (32 ∷ hexPairs (b ∷ bs))
 
--- What is said, with the bytes at the front of the reader's buffer for a Read. No line of a trace asks for pairs.
+-- What is said, with the bytes at the front of the reader's buffer for a Read. No line of a trace asks for pairs or for
+-- an order.
 unfoldable pub spelled : Said → List ℕ → List ℕ
 spelled plain buffer = ok
 spelled (pointer n) buffer = okNumber n
 spelled (given n) buffer = okBytes (take n buffer)
 spelled (granted n) buffer = okNumber n
 spelled (pairs n) buffer = okNumber n
+spelled (ordered grants gap tried) buffer = okNumber grants
 spelled (refused n) buffer = decimal n
 
 -- "and then the byte 10"

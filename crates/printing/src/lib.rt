@@ -108,6 +108,7 @@ fn put_answer(out: &mut [u8], at: usize, o: Outcome, reader: &[u8]) -> usize
         Outcome::Given(n) => put_given(out, at, n, reader),
         Outcome::Granted(n) => put_ok_number(out, at, n as u16),
         Outcome::Pairs(n) => put_ok_number(out, at, n),
+        Outcome::Ordered(n, _, _) => put_ok_number(out, at, n as u16),
         Outcome::Refused(r) => put_decimal(out, at, r.number() as u16),
     }
 }

@@ -29,7 +29,7 @@ use Rattle.ranges.specs.declared.Gate.{Gate}
 use Rattle.ranges.specs.declared.Gate.the-variants.{Pass, Refused}
 use Rattle.record.specs.Paper.{number}
 use Rattle.record.specs.declared.outcomes.Refusal.{Refusal}
-use Rattle.record.specs.declared.outcomes.Refusal.the-variants.{BufferLength, RecordRange, NoSuchTransaction, NotOpen, AlreadyOpen, NoSuchTarget, ReaderTooShort, SeekPastEnd, WritePastEnd, RecordsFull, LogFull, SettledPastEnd, Stale, NoSuchFile, NoPlaceYet, ListTooLong, BadLine, StaleReader, NotAtRest, ScriptRange, FileClosed, NoSuchMinute, StillOpen, NoGrant}
+use Rattle.record.specs.declared.outcomes.Refusal.the-variants.{BufferLength, RecordRange, NoSuchTransaction, NotOpen, AlreadyOpen, NoSuchTarget, ReaderTooShort, SeekPastEnd, WritePastEnd, RecordsFull, LogFull, SettledPastEnd, Stale, NoSuchFile, NoPlaceYet, ListTooLong, BadLine, StaleReader, NotAtRest, ScriptRange, FileClosed, NoSuchMinute, StillOpen, NoGrant, NotReady, BadList, BadBudget}
 
 -- Tests joined by &&.
 pub and-left : (a b : Bool) → a && b ≡ true → a ≡ true
@@ -215,6 +215,9 @@ number-suc FileClosed = (20, refl)
 number-suc NoSuchMinute = (21, refl)
 number-suc StillOpen = (22, refl)
 number-suc NoGrant = (23, refl)
+number-suc NotReady = (24, refl)
+number-suc BadList = (25, refl)
+number-suc BadBudget = (26, refl)
 
 -- What the gate of tests 1 and 2 tells of those after them.
 module _ (g : Gate) (z : Sizes) (s : Store) (journal : List ℕ) (says : gateNumber g ≡ firstTests z s journal 0) (later : ℕ) where
@@ -229,7 +232,7 @@ module _ (g : Gate) (z : Sizes) (s : Store) (journal : List ℕ) (says : gateNum
   gate-after n e h = h ∙ sym (first-passed z s journal later (sym says ∙ ap gateNumber e))
 
 -- A test of a call that passed, and the tests after it.
-unless-zero : (ok : Bool) (n later : ℕ) → 0 < n → unless ok n later ≡ 0 → (ok ≡ true) × (later ≡ 0)
+pub unless-zero : (ok : Bool) (n later : ℕ) → 0 < n → unless ok n later ≡ 0 → (ok ≡ true) × (later ≡ 0)
 unfolding unless
 unless-zero true n later l e = (refl, e)
 unless-zero false n later l e = absurd (let f : n ≡ 0 = e in omega arith)
@@ -252,6 +255,15 @@ lengths-in z e =
       undo = eqb-true _ _ (last .2);
     }
 
+-- Tests 1 and 2 passed, and those after them.
+pub first-zero : (z : Sizes) (s : Store) (journal : List ℕ) (later : ℕ) → firstTests z s journal later ≡ 0
+    → Lengths z × (storeIn s journal ≡ true) × (later ≡ 0)
+unfolding firstTests
+first-zero z s journal later e =
+    let a = unless-zero (sizesIn z) 1 _ (omega arith) e in
+    let b = unless-zero (storeIn s journal) 2 later (omega arith) (a .1) in
+    (lengths-in z (a .0), b .0, b .1)
+
 -- What a passed gate tells, and then whether the transaction is open.
 pub record Admitted (z : Sizes) (s : Store) (journal : List ℕ) (t : ℕ) : Type 0 where
   pub lengths : Lengths z
@@ -260,13 +272,12 @@ pub record Admitted (z : Sizes) (s : Store) (journal : List ℕ) (t : ℕ) : Typ
 
 module _ (z : Sizes) (s : Store) (journal : List ℕ) (t : ℕ) where
   pub shared-zero : (later : ℕ) → shared z s journal t later ≡ 0 → Admitted z s journal t × (later ≡ 0)
-  unfolding shared firstTests
+  unfolding shared
   shared-zero later e =
-      let a = unless-zero (sizesIn z) 1 _ (omega arith) e in
-      let b = unless-zero (storeIn s journal) 2 _ (omega arith) (a .1) in
-      let c = unless-zero (leb t 7) 3 later (omega arith) (b .1) in
+      let a = first-zero z s journal _ e in
+      let c = unless-zero (leb t 7) 3 later (omega arith) (a .2) in
       let l = leb-true t 7 (c .0) in
-      (record { lengths = lengths-in z (a .0); ranges = b .0; small = omega arith }, c .1)
+      (record { lengths = a .0; ranges = a .1; small = omega arith }, c .1)
 
   -- The tests after 1 to 3 decide where these pass, and where not they don't matter.
   pub shared-passed : (later : ℕ) → shared z s journal t 0 ≡ 0 → shared z s journal t later ≡ later
@@ -297,14 +308,13 @@ pub record AdmittedWindow (z : Sizes) (s : Store) (journal : List ℕ) (f start 
   pub minutes : minuteIn start && minuteIn end ≡ true
 
 pub admitted-window : (z : Sizes) (s : Store) (journal : List ℕ) (f start end : ℕ) → admissionOfWindow z s journal f start end ≡ 0 → AdmittedWindow z s journal f start end
-unfolding admissionOfWindow firstTests windowRefusal
+unfolding admissionOfWindow windowRefusal
 admitted-window z s journal f start end e =
-    let a = unless-zero (sizesIn z) 1 _ (omega arith) e in
-    let b = unless-zero (storeIn s journal) 2 _ (omega arith) (a .1) in
-    let c = unless-zero (leb f 7) 6 _ (omega arith) (b .1) in
+    let a = first-zero z s journal _ e in
+    let c = unless-zero (leb f 7) 6 _ (omega arith) (a .2) in
     let d = unless-zero (minuteIn start && minuteIn end) 22 0 (omega arith) (c .1) in
     let l = leb-true f 7 (c .0) in
-    record { lengths = lengths-in z (a .0); ranges = b .0; small = omega arith; minutes = d .0 }
+    record { lengths = a .0; ranges = a .1; small = omega arith; minutes = d .0 }
 
 -- What passed tests of a taking back tell.
 pub record AdmittedBack (z : Sizes) (s : Store) (journal : List ℕ) : Type 0 where
@@ -314,13 +324,12 @@ pub record AdmittedBack (z : Sizes) (s : Store) (journal : List ℕ) : Type 0 wh
   pub held : s .undo .held ≡ true
 
 pub admitted-back : (z : Sizes) (s : Store) (journal : List ℕ) → admissionOfTakingBack z s journal ≡ 0 → AdmittedBack z s journal
-unfolding admissionOfTakingBack firstTests noneBegun
+unfolding admissionOfTakingBack noneBegun
 admitted-back z s journal e =
-    let a = unless-zero (sizesIn z) 1 _ (omega arith) e in
-    let b = unless-zero (storeIn s journal) 2 _ (omega arith) (a .1) in
-    let c = unless-zero (below (λ t. not (transaction s t .begun)) 8) 23 _ (omega arith) (b .1) in
+    let a = first-zero z s journal _ e in
+    let c = unless-zero (below (λ t. not (transaction s t .begun)) 8) 23 _ (omega arith) (a .2) in
     let d = unless-zero (s .undo .held) 24 0 (omega arith) (c .1) in
-    record { lengths = lengths-in z (a .0); ranges = b .0; idle = λ t l. not-true _ (below-at (λ t. not (transaction s t .begun)) 8 t (c .0) l); held = d .0 }
+    record { lengths = a .0; ranges = a .1; idle = λ t l. not-true _ (below-at (λ t. not (transaction s t .begun)) 8 t (c .0) l); held = d .0 }
 
 -- What passed tests of the dispatcher tell.
 pub record AdmittedDispatch (z : Sizes) (s : Store) (journal : List ℕ) (scripts : Bool) : Type 0 where

@@ -5,9 +5,10 @@ use Rattle.record.specs.declared.outcomes.Refusal.the-variants.{BufferLe
 use Rattle.record.specs.declared.outcomes.Refusal.the-variants.{NoSuchTarget, ReaderTooShort, SeekPastEnd, WritePastEnd}
 use Rattle.record.specs.declared.outcomes.Refusal.the-variants.{RecordsFull, LogFull, SettledPastEnd, Stale, NoSuchFile}
 use Rattle.record.specs.declared.outcomes.Refusal.the-variants.{NoPlaceYet, ListTooLong, BadLine, StaleReader, NotAtRest, ScriptRange}
-use Rattle.record.specs.declared.outcomes.Refusal.the-variants.{FileClosed, NoSuchMinute, StillOpen, NoGrant}
+use Rattle.record.specs.declared.outcomes.Refusal.the-variants.{FileClosed, NoSuchMinute, StillOpen, NoGrant, NotReady}
+use Rattle.record.specs.declared.outcomes.Refusal.the-variants.{BadList, BadBudget}
 use Rattle.record.specs.declared.outcomes.Outcome.{Outcome}
-use Rattle.record.specs.declared.outcomes.Outcome.the-variants.{Done, Offset, Given, Granted, Pairs, Refused}
+use Rattle.record.specs.declared.outcomes.Outcome.the-variants.{Done, Offset, Given, Granted, Pairs, Ordered, Refused}
 
 -- "What a turned-down call brings": the column Returned. From 15 on paper 02: "a new refusal number joins demand 1's fourteen and
 -- 01's table".
@@ -36,19 +37,24 @@ number FileClosed = 21
 number NoSuchMinute = 22
 number StillOpen = 23
 number NoGrant = 24
+number NotReady = 25
+number BadList = 26
+number BadBudget = 27
 
 -- The numbers go from 1 to this.
 abbrev pub refusals : ℕ
-refusals = 24
+refusals = 27
 
 -- "Read answers the count of bytes given; Fresh, Begin, Seek, Write and Abort answer plainly"; "GetFilePointer answers the
--- offset"; F-1: "The answer is the count of pairs"; F-4: "Commit answers that octet"; or the number of a refusal.
+-- offset"; F-1: "The answer is the count of pairs"; F-4: "Commit answers that octet"; F-14: beside an order "how many grants Commit
+-- would give in it, and a gap", and "The number of orders tried"; or the number of a refusal.
 pub data Said : Type 0 where
   plain : Said
   pointer : ℕ → Said
   given : ℕ → Said
   granted : ℕ → Said
   pairs : ℕ → Said
+  ordered : ℕ → ℕ → ℕ → Said
   refused : ℕ → Said
 
 -- Each case of the enum `Outcome` in those terms.
@@ -58,4 +64,5 @@ said (Offset o) = pointer o
 said (Given n) = given n
 said (Granted n) = granted n
 said (Pairs n) = pairs n
+said (Ordered grants gap tried) = ordered grants gap tried
 said (Refused r) = refused (number r)

@@ -29,10 +29,13 @@ pub enum Refusal {
     NoSuchMinute,
     StillOpen,
     NoGrant,
+    NotReady,
+    BadList,
+    BadBudget,
 }
 
 // Their numbers in the paper go from 1 to this.
-pub const REFUSALS: u8 = 24;
+pub const REFUSALS: u8 = 27;
 
 impl Refusal {
     // Its number in the paper.
@@ -64,17 +67,22 @@ impl Refusal {
             Refusal::NoSuchMinute => 22,
             Refusal::StillOpen => 23,
             Refusal::NoGrant => 24,
+            Refusal::NotReady => 25,
+            Refusal::BadList => 26,
+            Refusal::BadBudget => 27,
         }
     }
 }
 
 // The result of a call: plain, an offset, a count of bytes given, the octet of those that a granted Commit made stale
-// (bit t, worth 2 to the power t, for transaction t), a count of pairs, or a refusal.
+// (bit t, worth 2 to the power t, for transaction t), a count of pairs, an order's grants with the gap and the number of
+// orders tried, or a refusal.
 pub enum Outcome {
     Done,
     Offset(u16),
     Given(u16),
     Granted(u8),
     Pairs(u16),
+    Ordered(u8, u8, u16),
     Refused(Refusal),
 }

@@ -10,7 +10,7 @@ use Prim.Native.Nat.{ℕ, zero, suc, _+_, _≤_, _<_, min}
 use Rattle.octets.specs.Parts.{tabulate}
 use Rattle.octets.proofs.PartLaws.{le-or-lt}
 use Rattle.windows.specs.Hours.{freshWindows}
-use Rattle.record.specs.Paper.{Said, plain, pointer, given, granted, pairs, refused}
+use Rattle.record.specs.Paper.{Said, plain, pointer, given, granted, pairs, ordered, refused}
 use Rattle.rules.specs.Transactions.{put}
 use Rattle.rules.specs.Messages.{Op, bufferOf, Call, begin, on, commit, abort, Reply}
 use Rattle.rules.specs.Steps.{Stepped, refuse, accept}
@@ -126,6 +126,7 @@ module _ (t : ℕ) (p : Plain) where
   not-granted (given m) n gs e = refl
   not-granted (granted m) n gs e = absurd (omega (arith, e))
   not-granted (pairs m) n gs e = refl
+  not-granted (ordered grants gap tried) n gs e = refl
   not-granted (refused m) n gs e = refl
 
   -- ---- the others

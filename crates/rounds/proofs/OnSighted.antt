@@ -7,7 +7,7 @@ use borrow.Author.Tests.{le-leb, eqb-true}
 use lib.Dec.{leb, eqb}
 use native.Mathlib.Omega.{arith}
 use Prim.Native.Nat.{ℕ, zero, suc, _≤_, _<_}
-use Rattle.record.specs.Paper.{Said, plain, pointer, given, granted, pairs, refused}
+use Rattle.record.specs.Paper.{Said, plain, pointer, given, granted, pairs, ordered, refused}
 use Rattle.rules.specs.Items.{Item, result, asked}
 use Rattle.rules.specs.Transactions.{put}
 use Rattle.rules.specs.Messages.{Op, bufferOf, Call, begin, on, commit, abort, Reply}
@@ -31,6 +31,7 @@ answer-none (pointer o) h = refl
 answer-none (given n) h = refl
 answer-none (granted n) h = refl
 answer-none (pairs n) h = refl
+answer-none (ordered grants gap tried) h = refl
 answer-none (refused n) h = absurd h
 
 after-one : (cs : List Call) (c : Call) (s : Sighted) → sightedAfter (cs ++ (c ∷ [])) s ≡ sightedCall c (sightedAfter cs s) .after

@@ -5,7 +5,7 @@ use lib.Dec.{leb, ltb, eqb}
 use Prim.Native.Nat.{ℕ, zero, suc, _+_}
 use Rattle.octets.specs.Parts.{cut}
 use Rattle.record.specs.declared.outcomes.Refusal.the-variants.{Stale}
-use Rattle.record.specs.Paper.{number, Said, plain, pointer, given, granted, pairs, refused}
+use Rattle.record.specs.Paper.{number, Said, plain, pointer, given, granted, pairs, ordered, refused}
 use Rattle.ranges.specs.Below.{below}
 use Rattle.rules.specs.Messages.{Op, seek, write, getFilePointer, read, Call, begin, on, commit, abort, Reply}
 use Rattle.rules.specs.Transactions.{put}
@@ -85,6 +85,7 @@ refusalIn (pointer o) = 0
 refusalIn (given n) = 0
 refusalIn (granted n) = 0
 refusalIn (pairs n) = 0
+refusalIn (ordered grants gap tried) = 0
 refusalIn (refused n) = n
 
 -- "A refusal other than 13 ends a script as failed, aborting it if still open": at once, and it is open.

@@ -1,6 +1,7 @@
 -- The theorems.
 pub mod Age
 pub mod Answers
+pub mod BestOrder
 pub mod Buffers
 pub mod Closed
 pub mod Lengths

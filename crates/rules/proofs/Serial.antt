@@ -9,9 +9,11 @@ pub mod Lengths
 pub mod Lists
 pub mod Lone
 pub mod Moments
+pub mod Ordering
 pub mod Programs
 pub mod Rerun
 pub mod SecondHalf
+pub mod Shut
 pub mod Sighted
 pub mod Sound
 pub mod Starts

@@ -18,6 +18,7 @@ pub mod Kept
 pub mod Landing
 pub mod Logged
 pub mod Marks
+pub mod OrderTurn
 pub mod Others
 pub mod Renewed
 pub mod Resets

@@ -8,7 +8,7 @@ use Rattle.octets.specs.Marks.{hasMark}
 use Rattle.record.specs.declared.outcomes.Refusal.the-variants.{Stale}
 use Rattle.record.specs.Paper.{number, plain, granted, refused}
 use Rattle.record.specs.State.{transaction}
-use Rattle.rules.specs.Messages.{seek, write, getFilePointer, read, Call, begin, on, commit, abort, places, setWindow, takeBack}
+use Rattle.rules.specs.Messages.{seek, write, getFilePointer, read, Call, begin, on, commit, abort, places, setWindow, takeBack, bestOrder}
 use Rattle.rules.specs.Machine.{Machine}
 use Rattle.rules.specs.Calls.{fresh, call, callsAfter}
 use Rattle.rules.specs.Demand3.{FreshlyMade}
@@ -24,6 +24,7 @@ isWrite (abort t) = false
 isWrite (places t f out) = false
 isWrite (setWindow f start end) = false
 isWrite takeBack = false
+isWrite (bestOrder ts minute budget) = false
 
 unfoldable pub isCommit : Call → Bool
 isCommit (begin t) = false
@@ -33,6 +34,7 @@ isCommit (abort t) = false
 isCommit (places t f out) = false
 isCommit (setWindow f start end) = false
 isCommit takeBack = false
+isCommit (bestOrder ts minute budget) = false
 
 -- 02, F-13: the call besides Commit that touches file bytes.
 unfoldable pub isTakeBack : Call → Bool
@@ -43,6 +45,7 @@ isTakeBack (abort t) = false
 isTakeBack (places t f out) = false
 isTakeBack (setWindow f start end) = false
 isTakeBack takeBack = true
+isTakeBack (bestOrder ts minute budget) = false
 
 unfoldable pub touchesMarks : Call → Bool
 touchesMarks (begin t) = true
@@ -55,6 +58,7 @@ touchesMarks (abort t) = true
 touchesMarks (places t f out) = false
 touchesMarks (setWindow f start end) = false
 touchesMarks takeBack = false
+touchesMarks (bestOrder ts minute budget) = false
 
 -- Whether it is a call of transaction u.
 unfoldable pub isCallOf : ℕ → Call → Bool
@@ -65,6 +69,7 @@ isCallOf u (abort t) = eqb u t
 isCallOf u (places t f out) = eqb u t
 isCallOf u (setWindow f start end) = false
 isCallOf u takeBack = false
+isCallOf u (bestOrder ts minute budget) = false
 
 -- Transaction t has no mark, and has sighted no length.
 pub record Unmarked (t : ℕ) (m : Machine) : Type 0 where

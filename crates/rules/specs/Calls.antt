@@ -16,16 +16,17 @@ use Rattle.record.specs.State.{transaction, standingAt, windowAt, ended, begun,
 use Rattle.record.specs.State.{withOffsets, withLengths, withWindows, withTransactions, withTransaction}
 use Rattle.record.specs.Paper.{number, Said, plain, granted, refused}
 use Rattle.ranges.specs.Below.{guarded, isNone}
-use Rattle.ranges.specs.Ranges.{admission, admissionOfBegin, admissionOfFresh, admissionOfWindow, admissionOfTakingBack}
+use Rattle.ranges.specs.Ranges.{firstTests, admission, admissionOfBegin, admissionOfFresh, admissionOfWindow, admissionOfTakingBack}
 use Rattle.rules.specs.Items.{Item, byte, offset, fileLength, result, asked}
-use Rattle.rules.specs.Transactions.{Txn}
+use Rattle.rules.specs.Transactions.{Txn, Write}
 use Rattle.standings.specs.Table.{isKnown}
 use Rattle.rules.specs.Messages.{Op, seek, write, getFilePointer, read, bufferOf}
 use Rattle.rules.specs.Steps.{Stepped, refuse, accept, step, turnedBack}
 use Rattle.rules.specs.Coverage.{placesOf}
 use Rattle.rules.specs.Windows.{forClosed}
+use Rattle.rules.specs.Ordering.{grantsIn, hasUnplaced, Asked, orderReply}
 use Rattle.rules.specs.Commits.{Setting, settings, fits, commitRefusal}
-use Rattle.rules.specs.Messages.{Call, begin, on, commit, abort, places, setWindow, takeBack, Reply}
+use Rattle.rules.specs.Messages.{Call, begin, on, commit, abort, places, setWindow, takeBack, bestOrder, Reply}
 use Rattle.rules.specs.Machine.{Machine, lent, withStore, withJournal, withFiles, withLogs, withMarking, sizes}
 use Rattle.rules.specs.Machine.{fileOf, values, txnOf, withTxn, journalled}
 use Rattle.rules.specs.Undo.{keepingFound, takenBack}
@@ -231,17 +232,38 @@ admitted t buffer m next =
 unfoldable pub takeBackTurn : Machine → Turn
 takeBackTurn m = answer plain (takenBack m)
 
--- The calls of demand 3, and those of F-1, F-11 and F-13.
+-- A Commit with its shared tests.
+abbrev pub commitCall : ℕ → ℕ → Machine → Turn
+commitCall t minute m = admitted t [] m (commitTurn t minute m)
+
+-- 02, F-14: what the store is asked at the minute; the Commits of an order are made on this record and these buffers.
+unfoldable pub askedOf : ℕ → Machine → Asked
+askedOf minute m =
+    let s = m .store in
+    let writes : ℕ → List Write = λ t. txnOf s (m .journal) (m .logs) t .writes in
+    record {
+      isOpen = λ t. transaction s t .begun;
+      notReady = λ t. transaction s t .stale || hasUnplaced (writes t);
+      hasClosed = λ t. forClosed (fileOf s) (windowAt s) minute (writes t);
+      grants = λ o. grantsIn (λ t n. commitCall t minute n .reply) (λ t n. commitCall t minute n .after) o m;
+    }
+
+-- "the store is unchanged"
+unfoldable pub orderTurn : List ℕ → ℕ → ℕ → Machine → Turn
+orderTurn ts minute budget m = record { reply = orderReply (askedOf minute m) ts minute budget; after = m }
+
+-- The calls of demand 3, and those of F-1, F-11, F-13 and F-14.
 unfoldable pub call : Call → Machine → Turn
 call (begin t) m =
     passing (admissionOfBegin (sizes m) (m .store) (m .journal) t) [] m (beginTurn t m)
 call (on t o) m = admitted t (bufferOf o) m (stepTurn t o m)
-call (commit t minute) m = admitted t [] m (commitTurn t minute m)
+call (commit t minute) m = commitCall t minute m
 call (abort t) m = admitted t [] m (abortTurn t m)
 call (places t f out) m = admitted t out m (placesTurn t f out m)
 call (setWindow f start end) m =
     passing (admissionOfWindow (sizes m) (m .store) (m .journal) f start end) [] m (windowTurn f start end m)
 call takeBack m = passing (admissionOfTakingBack (sizes m) (m .store) (m .journal)) [] m (takeBackTurn m)
+call (bestOrder ts minute budget) m = passing (firstTests (sizes m) (m .store) (m .journal) 0) [] m (orderTurn ts minute budget m)
 
 -- A list of calls: the store after it, and its replies.
 unfoldable pub callsAfter : List Call → Machine → Machine

@@ -12,7 +12,7 @@ use Rattle.standings.specs.declared.Place.the-variants.{At, After}
 use Rattle.windows.specs.Hours.{window}
 use Rattle.record.specs.Paper.{plain, pointer, granted, refused}
 use Rattle.rules.specs.Items.{byte, offset, fileLength, result}
-use Rattle.rules.specs.Messages.{seek, write, getFilePointer, read, Call, begin, on, commit, abort, places, setWindow, takeBack, says}
+use Rattle.rules.specs.Messages.{seek, write, getFilePointer, read, Call, begin, on, commit, abort, places, setWindow, takeBack, bestOrder, says}
 use Rattle.rules.specs.Transactions.{Txn, Write}
 use Rattle.rules.specs.Reading.{ownEnd}
 use Rattle.rules.specs.Steps.{Stepped, refuse, accept, step}
@@ -20,7 +20,7 @@ use Rattle.rules.specs.Commits.{settings, fits}
 use Rattle.rules.specs.Plain.{Plain, nothing, found, startPlain, plainReplies}
 use Rattle.rules.specs.Grants.{serialOf, rerun, sameReplies}
 use Rattle.rules.specs.Setup.{Seen, Exchange, _⇒_, commits, callsOf, Goes, formerNumbers, sighted, committedBytes, beginning}
-use Rattle.rules.specs.Setup.{sightingsOf, gives, refusesWith, lists, begins, A, B, C, X, Y, Z, dot}
+use Rattle.rules.specs.Setup.{sightingsOf, gives, refusesWith, lists, best, begins, A, B, C, X, Y, Z, dot}
 use Rattle.rules.specs.Situations.{toldK, toldL}
 
 -- Before the others, T7 commits two zeros at the front of file 0, and the offset 0 of descriptor 0.
@@ -861,6 +861,98 @@ heldAtStart = startPlain (λ d. 0) (λ i. 0) (λ f. window 0 0) (found (record {
 unfoldable pub backTwice : List Call
 backTwice = takeBack ∷ begin 0 ∷ commit 0 0 ∷ begin 1 ∷ on 1 (seek 0 1) ∷ commit 1 0 ∷ takeBack ∷ []
 
+-- 02, F-14, its refusals in their order: 26 "before 3", also for nine numbers; 3 for any before 4 for any, and both before 22; 25 for a
+-- write of no bytes without a place, after 22 and before 27; 27 on either side of the range. A budget above the orders tries all.
+unfoldable pub toldOrderRefused : List Exchange
+toldOrderRefused =
+    bestOrder [] 1440 0 ⇒ says (refused 26)
+    ∷ bestOrder (8 ∷ 8 ∷ []) 1440 0 ⇒ says (refused 26)
+    ∷ bestOrder (0 ∷ 1 ∷ 2 ∷ 3 ∷ 4 ∷ 5 ∷ 6 ∷ 7 ∷ 8 ∷ []) 1440 0 ⇒ says (refused 26)
+    ∷ bestOrder (0 ∷ 8 ∷ []) 1440 0 ⇒ says (refused 3)
+    ∷ begin 0 ⇒ says plain
+    ∷ bestOrder (0 ∷ 1 ∷ []) 1440 0 ⇒ says (refused 4)
+    ∷ on 0 (write 0 []) ⇒ says plain
+    ∷ bestOrder (0 ∷ []) 1440 0 ⇒ says (refused 22)
+    ∷ bestOrder (0 ∷ []) 1439 0 ⇒ says (refused 25)
+    ∷ on 0 (getFilePointer 0) ⇒ says (pointer 0)
+    ∷ bestOrder (0 ∷ []) 1439 0 ⇒ says (refused 27)
+    ∷ bestOrder (0 ∷ []) 1439 40321 ⇒ says (refused 27)
+    ∷ bestOrder (0 ∷ []) 1439 40320 ⇒ best (0 ∷ []) 1 0 1
+    ∷ []
+
+-- 25 for a stale one, in any place of the list. The call changes nothing: it goes on being stale and open.
+unfoldable pub toldOrderStale : List Exchange
+toldOrderStale =
+    begins
+    ++ on 1 (getFilePointer 0) ⇒ says (pointer 0)
+    ∷ on 2 (seek 0 5) ⇒ says plain
+    ∷ commits 2 ⇒ says (granted 2)
+    ∷ bestOrder (0 ∷ 1 ∷ []) 0 1 ⇒ says (refused 25)
+    ∷ commits 1 ⇒ says (refused 13)
+    ∷ commits 0 ⇒ says (granted 0)
+    ∷ []
+
+-- T0 and T1 turn each other stale. A budget of 1 tries the given order alone and leaves a gap; two are all. T2 is open, has a write without
+-- a place and sets what both have sighted, but stands outside the list.
+unfoldable pub toldEachOther : List Exchange
+toldEachOther =
+    begins
+    ++ on 0 (getFilePointer 0) ⇒ says (pointer 0)
+    ∷ on 0 (seek 0 1) ⇒ says plain
+    ∷ on 1 (getFilePointer 0) ⇒ says (pointer 0)
+    ∷ on 1 (seek 0 2) ⇒ says plain
+    ∷ on 2 (write 0 (A ∷ [])) ⇒ says plain
+    ∷ bestOrder (1 ∷ 0 ∷ []) 0 1 ⇒ best (1 ∷ 0 ∷ []) 1 1 1
+    ∷ bestOrder (1 ∷ 0 ∷ []) 0 2 ⇒ best (1 ∷ 0 ∷ []) 1 0 2
+    ∷ commits 0 ⇒ says (granted 2)
+    ∷ []
+
+-- A chain: T1 has sighted what T0 sets, T2 what T1 sets. Only the last of the six orders, the given one from its end, has all granted; one
+-- order short of it there is a gap.
+unfoldable pub toldChain : List Exchange
+toldChain =
+    begins
+    ++ on 0 (seek 0 1) ⇒ says plain
+    ∷ on 1 (getFilePointer 0) ⇒ says (pointer 0)
+    ∷ on 1 (seek 1 1) ⇒ says plain
+    ∷ on 2 (getFilePointer 1) ⇒ says (pointer 0)
+    ∷ bestOrder (0 ∷ 1 ∷ 2 ∷ []) 0 5 ⇒ best (0 ∷ 1 ∷ 2 ∷ []) 2 1 5
+    ∷ bestOrder (0 ∷ 1 ∷ 2 ∷ []) 0 6 ⇒ best (2 ∷ 1 ∷ 0 ∷ []) 3 0 6
+    ∷ commits 2 ⇒ says (granted 0)
+    ∷ commits 1 ⇒ says (granted 0)
+    ∷ commits 0 ⇒ says (granted 0)
+    ∷ []
+
+-- T0 has sighted the length of file 0, which T1 and T2 would both raise; after T1's grant T2 no longer does, but T0 is stale by then.
+unfoldable pub toldRaisedByTwo : List Exchange
+toldRaisedByTwo =
+    begins
+    ++ on 0 (seek 0 0) ⇒ says plain
+    ∷ on 0 (read 0 1 (dot ∷ [])) ⇒ gives 0 (dot ∷ [])
+    ∷ on 1 (seek 8 3) ⇒ says plain
+    ∷ on 1 (write 8 (A ∷ [])) ⇒ says plain
+    ∷ on 2 (seek 8 2) ⇒ says plain
+    ∷ on 2 (write 8 (B ∷ [])) ⇒ says plain
+    ∷ bestOrder (1 ∷ 2 ∷ 0 ∷ []) 0 4 ⇒ best (1 ∷ 2 ∷ 0 ∷ []) 2 1 4
+    ∷ bestOrder (1 ∷ 2 ∷ 0 ∷ []) 0 6 ⇒ best (0 ∷ 1 ∷ 2 ∷ []) 3 0 6
+    ∷ commits 1 ⇒ says (granted 1)
+    ∷ commits 2 ⇒ says (granted 0)
+    ∷ commits 0 ⇒ says (refused 13)
+    ∷ []
+
+-- T0 has a byte for file 0, closed at minute 0: it is granted in no order, makes nobody stale, and is not counted in the gap.
+unfoldable pub toldClosedByte : List Exchange
+toldClosedByte =
+    begins
+    ++ setWindow 0 1 2 ⇒ says plain
+    ∷ on 0 (seek 0 0) ⇒ says plain
+    ∷ on 0 (write 0 (A ∷ [])) ⇒ says plain
+    ∷ on 1 (getFilePointer 0) ⇒ says (pointer 0)
+    ∷ bestOrder (0 ∷ 1 ∷ []) 0 1 ⇒ best (0 ∷ 1 ∷ []) 1 0 1
+    ∷ bestOrder (0 ∷ 1 ∷ []) 1 1 ⇒ best (0 ∷ 1 ∷ []) 1 1 1
+    ∷ bestOrder (0 ∷ 1 ∷ []) 1 2 ⇒ best (1 ∷ 0 ∷ []) 2 0 2
+    ∷ []
+
 -- What situations k and l and the corners come to, together.
 pub record Corners (x : Seen) : Type 0 where
   pub k : Goes x toldK × (sightingsOf (callsOf toldK) 0 ≡ sighted (byte 4095) 1 ∷ sighted (fileLength 0) 1 ∷ [])
@@ -995,3 +1087,9 @@ pub record Corners (x : Seen) : Type 0 where
       let s = serialOf backTwice heldAtStart in
       (length (s .grants) ≡ 1) × (s .start .committed .value (offset 0) ≡ 7)
       × (plainReplies (rerun (s .grants)) (s .start) ≡ sameReplies (s .grants))
+  pub orderRefused : Goes x toldOrderRefused
+  pub orderStale : Goes x toldOrderStale
+  pub eachOther : Goes x toldEachOther
+  pub chain : Goes x toldChain
+  pub raisedByTwo : Goes x toldRaisedByTwo
+  pub closedByte : Goes x toldClosedByte

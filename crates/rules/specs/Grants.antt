@@ -2,8 +2,8 @@
 use mathlib.Core.List.{List, [], _∷_, _++_, map}
 use Prim.Native.Nat.{ℕ}
 use Rattle.windows.specs.Hours.{freshWindows}
-use Rattle.record.specs.Paper.{Said, plain, pointer, given, granted, pairs, refused}
-use Rattle.rules.specs.Messages.{Call, begin, on, commit, abort, places, setWindow, takeBack, Reply, says}
+use Rattle.record.specs.Paper.{Said, plain, pointer, given, granted, pairs, ordered, refused}
+use Rattle.rules.specs.Messages.{Call, begin, on, commit, abort, places, setWindow, takeBack, bestOrder, Reply, says}
 use Rattle.rules.specs.Plain.{Accepted, Slot, closed, running, Plain, withWindows, plainCall}
 
 -- A granted transaction: its number, its Commit's minute, and "the accepted Seeks, Writes, GetFilePointers and Reads since its Begin".
@@ -23,6 +23,7 @@ ifGranted (pointer o) gs = []
 ifGranted (given n) gs = []
 ifGranted (granted n) gs = gs
 ifGranted (pairs n) gs = []
+ifGranted (ordered grants gap tried) gs = []
 ifGranted (refused n) gs = []
 
 unfoldable pub grantedBy : ℕ → ℕ → Plain → List Grant
@@ -52,6 +53,7 @@ ifDone (pointer o) a b = b
 ifDone (given n) a b = b
 ifDone (granted n) a b = b
 ifDone (pairs n) a b = b
+ifDone (ordered grants gap tried) a b = b
 ifDone (refused n) a b = b
 
 -- After one more call, on machine p; and after a list of calls.
@@ -67,6 +69,7 @@ serialBy (abort t) p s = s
 serialBy (places t f out) p s = s
 serialBy (setWindow f start end) p s = s
 serialBy takeBack p s = ifDone (plainCall takeBack p .reply .answer) (droppedFrom (s .start) (s .grants)) s
+serialBy (bestOrder ts minute budget) p s = s
 
 unfoldable pub serialFrom : List Call → Plain → Serial → Serial
 serialFrom [] p s = s

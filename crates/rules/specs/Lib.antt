@@ -14,7 +14,9 @@ pub mod Commits
 pub mod Coverage
 -- Which Commits have a byte for a closed file (paper 02, F-11; when a file is open is windows/specs/Hours.antt).
 pub mod Windows
--- The store: the record and its buffers, what a grant keeps and how it goes back (paper 02, F-13), the rules of the eleven calls, and
+-- The best order to commit in (paper 02, F-14; the orders of a list are orders/specs/Orders.antt).
+pub mod Ordering
+-- The store: the record and its buffers, what a grant keeps and how it goes back (paper 02, F-13), the rules of the twelve calls, and
 -- how promises cite them.
 pub mod Machine
 pub mod Undo
@@ -34,6 +36,7 @@ pub mod Lengths
 pub mod Closed
 pub mod Splitting
 pub mod TakingBack
+pub mod BestOrder
 -- The situations and corners of paper 01.
 pub mod Setup
 pub mod Situations

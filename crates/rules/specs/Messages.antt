@@ -1,7 +1,7 @@
 -- Calls and replies as data. Demand 3 speaks of lists of them.
-use mathlib.Core.List.{List, []}
-use Prim.Native.Nat.{ℕ}
-use Rattle.record.specs.Paper.{Said}
+use mathlib.Core.List.{List, [], _∷_}
+use Prim.Native.Nat.{ℕ, _+_}
+use Rattle.record.specs.Paper.{Said, plain, pointer, given, granted, pairs, ordered, refused}
 
 -- The calls of one transaction, with their arguments: a Write's bytes, a Read's count and the reader's buffer.
 pub data Op : Type 0 where
@@ -12,7 +12,8 @@ pub data Op : Type 0 where
 
 -- "Begin, Seek, Write, GetFilePointer, Read, Commit and Abort calls", each with its transaction number; and F-1's, with a file and
 -- the buffer for the list. 02, F-11: "Commit takes the minute", and "A call sets a window": a file, its start and its end.
--- F-13, "every list of demand 3, which may from now on hold this call": the last grant is taken back.
+-- F-13, "every list of demand 3, which may from now on hold this call": the last grant is taken back. F-14: "up to 8 different open
+-- transactions, a minute and a budget".
 pub data Call : Type 0 where
   begin : ℕ → Call
   on : ℕ → Op → Call
@@ -21,6 +22,7 @@ pub data Call : Type 0 where
   places : ℕ → ℕ → List ℕ → Call
   setWindow : ℕ → ℕ → ℕ → Call
   takeBack : Call
+  bestOrder : List ℕ → ℕ → ℕ → Call
 
 -- The reader's buffer of a call, or that for its list; empty where it has none.
 unfoldable pub bufferOf : Op → List ℕ
@@ -37,8 +39,9 @@ bufferOfCall (abort t) = []
 bufferOfCall (places t f out) = out
 bufferOfCall (setWindow f start end) = []
 bufferOfCall takeBack = []
+bufferOfCall (bestOrder ts minute budget) = []
 
--- What a call gives: its answer, and the reader's buffer after it (empty where it has none).
+-- What a call gives: its answer, and the reader's buffer after it (empty where it has none); F-14's answer has its order there.
 pub record Reply : Type 0 where
   pub answer : Said
   pub buffer : List ℕ
@@ -46,3 +49,17 @@ pub record Reply : Type 0 where
 -- A reply with no reader's buffer.
 abbrev pub says : Said → Reply
 says a = record { answer = a; buffer = [] }
+
+-- How many of these replies are grants.
+unfoldable pub isGrant : Said → ℕ
+isGrant plain = 0
+isGrant (pointer o) = 0
+isGrant (given n) = 0
+isGrant (granted n) = 1
+isGrant (pairs n) = 0
+isGrant (ordered grants gap tried) = 0
+isGrant (refused n) = 0
+
+unfoldable pub grantsAmong : List Reply → ℕ
+grantsAmong [] = 0
+grantsAmong (r ∷ rs) = isGrant (r .answer) + grantsAmong rs

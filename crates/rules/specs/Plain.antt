@@ -1,5 +1,5 @@
 -- The plain machine of demand 3, as paper 01 words it. "It has no marks and looks at nothing in the store's record or buffers."
-use mathlib.Core.Bool.{Bool, true, false, cond, not, _&&_}
+use mathlib.Core.Bool.{Bool, true, false, cond, not, _&&_, _||_}
 use mathlib.Core.List.{List, [], _∷_, _++_, map}
 use lib.Dec.{leb, eqb}
 use Prim.Native.Nat.{ℕ, zero, suc, _+_}
@@ -9,12 +9,13 @@ use Rattle.record.specs.declared.outcomes.Refusal.the-variants.{Stale}
 use Rattle.record.specs.Paper.{number, Said, plain, granted, refused}
 use Rattle.ranges.specs.Below.{guarded, isNone, below}
 use Rattle.ranges.specs.Ranges.{windowRefusal}
-use Rattle.rules.specs.Messages.{Op, bufferOf, Call, begin, on, commit, abort, places, setWindow, takeBack, Reply}
+use Rattle.rules.specs.Messages.{Op, bufferOf, Call, begin, on, commit, abort, places, setWindow, takeBack, bestOrder, Reply}
 use Rattle.rules.specs.Items.{Values, result, asked}
-use Rattle.rules.specs.Transactions.{Txn, empty, put}
+use Rattle.rules.specs.Transactions.{Txn, Write, empty, put}
 use Rattle.rules.specs.Steps.{Stepped, refuse, accept, step, turnedBack}
 use Rattle.rules.specs.Coverage.{placesOf}
 use Rattle.rules.specs.Windows.{forClosed}
+use Rattle.rules.specs.Ordering.{grantsIn, hasUnplaced, Asked, orderReply}
 use Rattle.rules.specs.Commits.{settings, fits, landed, setBy, commitRefusal}
 use Rattle.rules.specs.Sightings.{Entry, sameEntries, Committed, entries}
 use Rattle.rules.specs.Lone.{lone}
@@ -238,14 +239,35 @@ goBack (found c n) p = answering plain (goneBack c n p)
 unfoldable pub plainTakeBack : Plain → PlainTurn
 plainTakeBack p = guarded (λ n. turnedDown n [] p) (noneRunning p) 23 (goBack (p .earlier) p)
 
+abbrev pub plainCommitCall : ℕ → ℕ → Plain → PlainTurn
+plainCommitCall t minute p = numbered t [] (plainCommit t minute) p
+
+-- 02, F-14, "for the plain machine too": it answers from what it holds, and changes nothing.
+unfoldable pub writesIn : Slot → List Write
+writesIn closed = []
+writesIn (running r) = r .txn .writes
+
+unfoldable pub plainAsked : ℕ → Plain → Asked
+plainAsked minute p =
+    record {
+      isOpen = λ t. isRunning (p .slots t);
+      notReady = λ t. staleSlot p (p .slots t) || hasUnplaced (writesIn (p .slots t));
+      hasClosed = λ t. forClosed (p .fileOf) (p .windows) minute (writesIn (p .slots t));
+      grants = λ o. grantsIn (λ t q. plainCommitCall t minute q .reply) (λ t q. plainCommitCall t minute q .after) o p;
+    }
+
+unfoldable pub plainBestOrder : List ℕ → ℕ → ℕ → Plain → PlainTurn
+plainBestOrder ts minute budget p = record { reply = orderReply (plainAsked minute p) ts minute budget; after = p }
+
 unfoldable pub plainCall : Call → Plain → PlainTurn
 plainCall (begin t) p = numbered t [] (plainBegin t) p
 plainCall (on t o) p = numbered t (bufferOf o) (plainOn t o) p
-plainCall (commit t minute) p = numbered t [] (plainCommit t minute) p
+plainCall (commit t minute) p = plainCommitCall t minute p
 plainCall (abort t) p = numbered t [] (plainAbort t) p
 plainCall (places t f out) p = numbered t out (plainPlaces f out) p
 plainCall (setWindow f start end) p = plainSetWindow f start end p
 plainCall takeBack p = plainTakeBack p
+plainCall (bestOrder ts minute budget) p = plainBestOrder ts minute budget p
 
 -- A list of calls: the machine after it, and its replies.
 unfoldable pub plainAfter : List Call → Plain → Plain

@@ -5,7 +5,7 @@ use lib.ListN.{getD}
 use Prim.Native.Nat.{ℕ, zero, suc, _*_}
 use Rattle.octets.specs.Bits.{countOf}
 use Rattle.octets.specs.Marks.{contains}
-use Rattle.record.specs.Paper.{Said, plain, pointer, given, granted, pairs, refused}
+use Rattle.record.specs.Paper.{Said, plain, pointer, given, granted, pairs, ordered, refused}
 use Rattle.rules.specs.Items.{Item, byte, Values}
 use Rattle.rules.specs.Messages.{Call, begin, commit, Reply, says}
 use Rattle.rules.specs.Sightings.{Entry}
@@ -55,6 +55,7 @@ formerIn (pointer o) = []
 formerIn (given n) = []
 formerIn (granted o) = countOf (contains o) 8 ∷ []
 formerIn (pairs n) = []
+formerIn (ordered grants gap tried) = []
 formerIn (refused n) = []
 
 unfoldable pub formerNumbers : List Exchange → List ℕ
@@ -98,7 +99,11 @@ gives n buffer = record { answer = given n; buffer = buffer }
 abbrev pub lists : ℕ → List ℕ → Reply
 lists n buffer = record { answer = pairs n; buffer = buffer }
 
--- That of a refused one of both, with the buffer.
+-- The reply of a best order: the order, its grants, the gap, and how many were tried.
+abbrev pub best : List ℕ → ℕ → ℕ → ℕ → Reply
+best order grants gap tried = record { answer = ordered grants gap tried; buffer = order }
+
+-- That of a refused one of both that have a buffer, with it.
 abbrev pub refusesWith : ℕ → List ℕ → Reply
 refusesWith n buffer = record { answer = refused n; buffer = buffer }
 

@@ -1,10 +1,10 @@
 -- Request F-13: "In every list of demand 3 .. taking back leaves files, offsets and lengths exactly as that grant found them, whatever the
 -- windows".
-use mathlib.Core.List.{List, [], _∷_}
+use mathlib.Core.List.{List}
 use mathlib.Core.Path.{_≡_}
-use Prim.Native.Nat.{ℕ, _+_}
-use Rattle.record.specs.Paper.{Said, plain, pointer, given, granted, pairs, refused}
-use Rattle.rules.specs.Messages.{Call, commit, takeBack, Reply}
+use Prim.Native.Nat.{ℕ}
+use Rattle.record.specs.Paper.{plain, granted}
+use Rattle.rules.specs.Messages.{Call, commit, takeBack, grantsAmong}
 use Rattle.rules.specs.Machine.{Machine}
 use Rattle.rules.specs.Calls.{call, callsAfter, callsReplies}
 use Rattle.rules.specs.Demand3.{FreshlyMade}
@@ -14,19 +14,6 @@ pub record SameCommitted (m n : Machine) : Type 0 where
   pub files : n .files ≡ m .files
   pub offsets : n .store .offsets ≡ m .store .offsets
   pub lengths : n .store .lengths ≡ m .store .lengths
-
--- How many of these replies are grants.
-unfoldable pub isGrant : Said → ℕ
-isGrant plain = 0
-isGrant (pointer o) = 0
-isGrant (given n) = 0
-isGrant (granted n) = 1
-isGrant (pairs n) = 0
-isGrant (refused n) = 0
-
-unfoldable pub grantsAmong : List Reply → ℕ
-grantsAmong [] = 0
-grantsAmong (r ∷ rs) = isGrant (r .answer) + grantsAmong rs
 
 -- After any calls xs a Commit is granted; further calls ys, among which no Commit is granted, lead to an accepted taking back.
 abbrev pub TakesBack : Type 0

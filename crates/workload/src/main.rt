@@ -25,7 +25,8 @@ type Undo = [u8; FILE_BYTES];
 // What a run keeps between calls, beside the store.
 struct Course {
     last: usize,
-    guess: [bool; 8],
+    open: [bool; 8],
+    sought: [bool; 8],
     counts: [usize; COUNTS],
     answers: usize,
 }
@@ -39,6 +40,10 @@ fn answers_after(answers: usize, came: Came, reader: &[u8]) -> usize
     let ends = came.ends;
     if came.ran {
         return digest::ran_taken(answers, came.commits, ends, came.scripts, reader);
+    }
+    if 0 < came.listed {
+        let order = came.order;
+        return digest::ordered_taken(answers, o, order, came.listed);
     }
     digest::reply_taken(answers, o, reader)
 }
@@ -56,12 +61,15 @@ fn course_after(mut c: Course, g: Generated, came: Came, reader: &[u8]) -> Cours
     requires { ⌜ Running c ⌝ }
     ensures { λ r. ⌜ Running r ⌝ }
 {
-    let guess = c.guess;
+    let open = c.open;
+    let sought = c.sought;
     let counts = c.counts;
-    let guessed = generator::guess_after(guess, g);
+    let opened = generator::guess_after(open, g);
+    let moved = generator::sought_after(sought, g);
     let counted = counts_after(counts, came);
     c.answers = answers_after(c.answers, came, reader);
-    c.guess = guessed;
+    c.open = opened;
+    c.sought = moved;
     c.counts = counted;
     c
 }
@@ -120,8 +128,9 @@ fn turn(
 {
     let drawn = generator::draw(c.last);
     let numbers = drawn.numbers;
-    let guess = c.guess;
-    let g = generator::requested(numbers, i, guess);
+    let open = c.open;
+    let sought = c.sought;
+    let g = generator::requested(numbers, i, open, sought);
     c.last = drawn.last;
     let came = comes_to(kept, files, logs, marks, undo, g, bytes, reader);
     let n = performing::within(g.buffer, reader);
@@ -171,7 +180,8 @@ fn run(
 ) {
     let mut c = Course {
         last: 1,
-        guess: [false; 8],
+        open: [false; 8],
+        sought: [false; 8],
         counts: [0usize; COUNTS],
         answers: 0,
     };

@@ -1,14 +1,14 @@
--- `kind` meets its contract. The loop's invariant: the kind is at most 11.
+-- `kind` meets its contract. The loop's invariant: the kind is at most 12.
 use Prim.Native.Nat.{_-_, _≤_}
 use borrow.Author.Needs.{needs}
 use Rattle.generator.proofs.kind.Statement.{statement}
 use Rattle.generator.proofs.kind.Tie as tie
 
 abbrev Inv-loop : tie.InvT-loop
-Inv-loop mode r rest₀ k₀ rest k = k ≤ 11
+Inv-loop mode r rest₀ k₀ rest k = k ≤ 12
 
 abbrev μ-loop : tie.MeasureT-loop
-μ-loop mode r rest₀ k₀ rest k = 11 - k
+μ-loop mode r rest₀ k₀ rest k = 12 - k
 
 loop-holds : tie.Need-loop-holds Inv-loop μ-loop
 loop-holds c = search needs

@@ -43,6 +43,15 @@ put-ok-number-requires-3 c κs = search needs
 enum-known-o-5 : tie.Need-enum-known-o-5
 enum-known-o-5 c = search needs
 
+cast-put-ok-number-2 : tie.Need-cast-put-ok-number-2
+cast-put-ok-number-2 c = search needs
+
+put-ok-number-requires-4 : tie.Need-put-ok-number-requires-4
+put-ok-number-requires-4 c κs = search needs
+
+enum-known-o-6 : tie.Need-enum-known-o-6
+enum-known-o-6 c = search needs
+
 number-requires : tie.Need-number-requires
 number-requires c κs = search needs
 
@@ -92,7 +101,14 @@ same-length-6 c = search needs
 
 returns-6 : tie.Need-returns-6
 unfolding spelled said
-returns-6 c = rw (c .before .before .before .before .before .before .o5 .given .1, ← c .before .before .before .number .ensures) (c .before .before .put-decimal .ensures)
+returns-6 c = rw (c .before .before .before .before .before .o5 .given .1) (c .before .before .put-ok-number4 .ensures)
+
+same-length-7 : tie.Need-same-length-7
+same-length-7 c = search needs
+
+returns-7 : tie.Need-returns-7
+unfolding spelled said
+returns-7 c = rw (c .before .before .before .before .before .before .o6 .given .1, ← c .before .before .before .number .ensures) (c .before .before .put-decimal .ensures)
 
 pub put-answer-spec : {M : Type 1} → statement M
 put-answer-spec =
@@ -110,6 +126,9 @@ put-answer-spec =
     enum-known-o-4
     put-ok-number-requires-3
     enum-known-o-5
+    cast-put-ok-number-2
+    put-ok-number-requires-4
+    enum-known-o-6
     number-requires
     cast-put-decimal
     put-decimal-requires
@@ -124,4 +143,6 @@ put-answer-spec =
     same-length-5
     returns-5
     same-length-6
-    returns-6)
+    returns-6
+    same-length-7
+    returns-7)

@@ -1,7 +1,7 @@
 -- The situations of paper 01 hold of the rules: each is computed.
 use mathlib.Core.Path.{refl}
 use Rattle.rules.specs.Situations.{Starred, filled, toldA, toldB, toldC, toldD, toldE, toldF, toldG, toldH, toldI, toldJ, toldK, toldL}
-use Rattle.rules.specs.Corners.{Corners, twoZeros, ownWrite, toldStaleFirst, toldRefusedSettling, toldUnsighted, toldMoved, toldMovedStale, toldNeighbour, toldNeighbourSet, toldReadNone, toldReadNoneStale, toldReadNoneSets, toldOnlyLooked, mixed, dirtyAfter, readBeside, toldWriteNone, toldTurnedBack, toldStaysOpen, toldStillStale, toldReadsAgain, toldBegunAgain, toldStaleEnded, toldJustBegun, toldNumbers, toldArguments, toldLog, toldOverlap, toldTwoAppends, toldOtherFile, toldKnown, toldPlaced, toldMovedTwice, toldLastPlace, toldUntouched, toldPlacedUnsighted, toldFifteen, toldFifteenSet, toldInOrder, toldKnownOnce, toldSettledAlone, toldPlaces, toldNoPlaceYet, toldOctet, toldNothingGiven, toldNothingGivenStale, toldOwnEnd, toldOwnEndStale, toldFullRead, toldNoneWanted, toldBeyond, toldBeyondSet, toldDeferredEnd, toldNotRaised, toldWindow, toldMidnight, toldAlways, toldBadMinute, toldClosedFirst, toldNoByte, toldSetting, toldMeanwhile, toldTakenBack, toldOverwritten, toldAppendedAgain, toldClosedBack, toldEmptyGrant, toldRefusedBetween, closedAtStart, openedThen, heldAtStart, backTwice}
+use Rattle.rules.specs.Corners.{Corners, twoZeros, ownWrite, toldStaleFirst, toldRefusedSettling, toldUnsighted, toldMoved, toldMovedStale, toldNeighbour, toldNeighbourSet, toldReadNone, toldReadNoneStale, toldReadNoneSets, toldOnlyLooked, mixed, dirtyAfter, readBeside, toldWriteNone, toldTurnedBack, toldStaysOpen, toldStillStale, toldReadsAgain, toldBegunAgain, toldStaleEnded, toldJustBegun, toldNumbers, toldArguments, toldLog, toldOverlap, toldTwoAppends, toldOtherFile, toldKnown, toldPlaced, toldMovedTwice, toldLastPlace, toldUntouched, toldPlacedUnsighted, toldFifteen, toldFifteenSet, toldInOrder, toldKnownOnce, toldSettledAlone, toldPlaces, toldNoPlaceYet, toldOctet, toldNothingGiven, toldNothingGivenStale, toldOwnEnd, toldOwnEndStale, toldFullRead, toldNoneWanted, toldBeyond, toldBeyondSet, toldDeferredEnd, toldNotRaised, toldWindow, toldMidnight, toldAlways, toldBadMinute, toldClosedFirst, toldNoByte, toldSetting, toldMeanwhile, toldTakenBack, toldOverwritten, toldAppendedAgain, toldClosedBack, toldEmptyGrant, toldRefusedBetween, closedAtStart, openedThen, heldAtStart, backTwice, toldOrderRefused, toldOrderStale, toldEachOther, toldChain, toldRaisedByTwo, toldClosedByte}
 use Rattle.rules.specs.Setup.{onPlain}
 use Rattle.rules.proofs.Cases.Opened.{opened}
 
@@ -24,7 +24,7 @@ starred =
 
 -- Situations k and l, and corners of the text.
 pub corners : Corners onPlain
-unfolding opened filled twoZeros ownWrite toldK toldL toldStaleFirst toldRefusedSettling toldUnsighted toldMoved toldMovedStale toldNeighbour toldNeighbourSet toldReadNone toldReadNoneStale toldReadNoneSets toldOnlyLooked mixed dirtyAfter readBeside toldWriteNone toldTurnedBack toldStaysOpen toldStillStale toldReadsAgain toldBegunAgain toldStaleEnded toldJustBegun toldNumbers toldArguments toldLog toldOverlap toldTwoAppends toldOtherFile toldKnown toldPlaced toldMovedTwice toldLastPlace toldUntouched toldPlacedUnsighted toldFifteen toldFifteenSet toldInOrder toldKnownOnce toldSettledAlone toldPlaces toldNoPlaceYet toldOctet toldNothingGiven toldNothingGivenStale toldOwnEnd toldOwnEndStale toldFullRead toldNoneWanted toldBeyond toldBeyondSet toldDeferredEnd toldNotRaised toldWindow toldMidnight toldAlways toldBadMinute toldClosedFirst toldNoByte toldSetting toldMeanwhile toldTakenBack toldOverwritten toldAppendedAgain toldClosedBack toldEmptyGrant toldRefusedBetween closedAtStart openedThen heldAtStart backTwice
+unfolding opened filled twoZeros ownWrite toldK toldL toldStaleFirst toldRefusedSettling toldUnsighted toldMoved toldMovedStale toldNeighbour toldNeighbourSet toldReadNone toldReadNoneStale toldReadNoneSets toldOnlyLooked mixed dirtyAfter readBeside toldWriteNone toldTurnedBack toldStaysOpen toldStillStale toldReadsAgain toldBegunAgain toldStaleEnded toldJustBegun toldNumbers toldArguments toldLog toldOverlap toldTwoAppends toldOtherFile toldKnown toldPlaced toldMovedTwice toldLastPlace toldUntouched toldPlacedUnsighted toldFifteen toldFifteenSet toldInOrder toldKnownOnce toldSettledAlone toldPlaces toldNoPlaceYet toldOctet toldNothingGiven toldNothingGivenStale toldOwnEnd toldOwnEndStale toldFullRead toldNoneWanted toldBeyond toldBeyondSet toldDeferredEnd toldNotRaised toldWindow toldMidnight toldAlways toldBadMinute toldClosedFirst toldNoByte toldSetting toldMeanwhile toldTakenBack toldOverwritten toldAppendedAgain toldClosedBack toldEmptyGrant toldRefusedBetween closedAtStart openedThen heldAtStart backTwice toldOrderRefused toldOrderStale toldEachOther toldChain toldRaisedByTwo toldClosedByte
 corners =
     record {
       k = (refl, refl);
@@ -96,4 +96,10 @@ corners =
       emptyGrant = (refl, refl);
       refusedBetween = (refl, refl);
       startGoesBack = (refl, refl, refl);
+      orderRefused = refl;
+      orderStale = refl;
+      eachOther = refl;
+      chain = refl;
+      raisedByTwo = refl;
+      closedByte = refl;
     }

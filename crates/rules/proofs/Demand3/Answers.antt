@@ -5,8 +5,8 @@ use mathlib.Core.Path.{_≡_, refl, subst}
 use borrow.Author.Tests.{leb-true, le-leb, lt-leb, eq-eqb}
 use native.Mathlib.Omega.{arith}
 use lib.Dec.{leb, ltb, eqb}
-use Prim.Native.Nat.{ℕ, _≤_}
-use Rattle.record.specs.Paper.{number, refusals, Said, plain, pointer, given, granted, pairs, refused}
+use Prim.Native.Nat.{ℕ, _≤_, min}
+use Rattle.record.specs.Paper.{number, refusals, Said, plain, pointer, given, granted, pairs, ordered, refused}
 use Rattle.record.specs.declared.outcomes.Refusal.the-variants.{Stale}
 use Rattle.ranges.proofs.Laws.{and-left, and-right}
 use Rattle.rules.specs.Demand1.{isNumber}
@@ -23,6 +23,7 @@ IsAnswer (pointer o) = Unit {0}
 IsAnswer (given n) = Unit {0}
 IsAnswer (granted n) = Unit {0}
 IsAnswer (pairs n) = Unit {0}
+IsAnswer (ordered grants gap tried) = Unit {0}
 IsAnswer (refused n) = ⊥
 
 pub answer-not-refused : (a : Said) (n : ℕ) → IsAnswer a → a ≡ refused n → ⊥

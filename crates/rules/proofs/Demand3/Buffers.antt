@@ -16,11 +16,11 @@ use Rattle.record.specs.State.{noTransaction, begun, ended, withTransaction}
 use Rattle.record.specs.Paper.{Said, plain, pointer, granted, refused}
 use Rattle.rules.specs.Items.{Item, byte, offset, fileLength, Values, Prog, done, andThen, result, asked}
 use Rattle.rules.specs.Transactions.{Txn, settle, Settled, past, all, settling}
-use Rattle.rules.specs.Messages.{Op, seek, write, getFilePointer, read, bufferOf, Call, begin, on, commit, abort, places, setWindow, takeBack}
+use Rattle.rules.specs.Messages.{Op, seek, write, getFilePointer, read, bufferOf, Call, begin, on, commit, abort, places, setWindow, takeBack, bestOrder}
 use Rattle.rules.specs.Steps.{Stepped, refuse, accept, check, orGivenBack, seekStep, writeStep, pointerStep, step}
 use Rattle.rules.specs.Commits.{Setting, commitRefusal}
 use Rattle.rules.specs.Machine.{Machine, fileOf, values, txnOf}
-use Rattle.rules.specs.Calls.{Turn, answer, turnDown, passing, fresh, freshMachine, reset, beginTurn, abortTurn, logged, marked, served, stepTurn, afterCommit, commitGranted, commitDecided, commitTurn, admitted, call, placesTurn, windowTurn, takeBackTurn}
+use Rattle.rules.specs.Calls.{Turn, answer, turnDown, passing, fresh, freshMachine, reset, beginTurn, abortTurn, logged, marked, served, stepTurn, afterCommit, commitGranted, commitDecided, commitTurn, admitted, call, placesTurn, windowTurn, takeBackTurn, orderTurn}
 use Rattle.rules.specs.Undo.{keepingFound, takenBack}
 use Rattle.rules.specs.Buffers.{isWrite, isCommit, isTakeBack, touchesMarks, Unmarked, Buffers}
 use Rattle.rules.proofs.Serial.Programs.{asked-andThen}
@@ -72,6 +72,7 @@ call-logs (abort t) m e = passing-leaves (λ x. x .logs) _ [] m (abortTurn t m) 
 call-logs (places t f out) m e = passing-leaves (λ x. x .logs) _ out m (placesTurn t f out m) (unfold placesTurn in refl)
 call-logs (setWindow f start end) m e = passing-leaves (λ x. x .logs) _ [] m (windowTurn f start end m) (unfold windowTurn in refl)
 call-logs takeBack m e = passing-leaves (λ x. x .logs) _ [] m (takeBackTurn m) (unfold takeBackTurn takenBack in refl)
+call-logs (bestOrder ts minute budget) m e = passing-leaves (λ x. x .logs) _ [] m (orderTurn ts minute budget m) (unfold orderTurn in refl)
 
 call-files : (c : Call) (m : Machine) → isCommit c ≡ false → isTakeBack c ≡ false → call c m .after .files ≡ m .files
 unfolding call admitted beginTurn abortTurn stepTurn answer reset isCommit isTakeBack
@@ -82,6 +83,7 @@ call-files (abort t) m e k = passing-leaves (λ x. x .files) _ [] m (abortTurn t
 call-files (places t f out) m e k = passing-leaves (λ x. x .files) _ out m (placesTurn t f out m) (unfold placesTurn in refl)
 call-files (setWindow f start end) m e k = passing-leaves (λ x. x .files) _ [] m (windowTurn f start end m) (unfold windowTurn in refl)
 call-files takeBack m e k = absurd (true≢false k)
+call-files (bestOrder ts minute budget) m e k = passing-leaves (λ x. x .files) _ [] m (orderTurn ts minute budget m) (unfold orderTurn in refl)
 
 served-undo : (t : ℕ) (o : Op) (m : Machine) (is : List Item) (s : Stepped) → served t o m is s .after .undo ≡ m .undo
 unfolding served turnDown
@@ -97,6 +99,7 @@ call-undo (abort t) m e = passing-leaves (λ x. x .undo) _ [] m (abortTurn t m) 
 call-undo (places t f out) m e = passing-leaves (λ x. x .undo) _ out m (placesTurn t f out m) (unfold placesTurn in refl)
 call-undo (setWindow f start end) m e = passing-leaves (λ x. x .undo) _ [] m (windowTurn f start end m) (unfold windowTurn in refl)
 call-undo takeBack m e = passing-leaves (λ x. x .undo) _ [] m (takeBackTurn m) (unfold takeBackTurn takenBack in refl)
+call-undo (bestOrder ts minute budget) m e = passing-leaves (λ x. x .undo) _ [] m (orderTurn ts minute budget m) (unfold orderTurn in refl)
 
 -- A settling sights offsets alone, and so does a GetFilePointer.
 marked-append : (t : ℕ) (is js : List Item) (marks : List ℕ) → marked t (is ++ js) marks ≡ marked t js (marked t is marks)
@@ -164,6 +167,7 @@ call-marks (abort t) m e = absurd (true≢false e)
 call-marks (places t f out) m e = passing-leaves (λ x. x .marks) _ out m (placesTurn t f out m) (unfold placesTurn in refl)
 call-marks (setWindow f start end) m e = passing-leaves (λ x. x .marks) _ [] m (windowTurn f start end m) (unfold windowTurn answer in refl)
 call-marks takeBack m e = passing-leaves (λ x. x .marks) _ [] m (takeBackTurn m) (unfold takeBackTurn takenBack answer in refl)
+call-marks (bestOrder ts minute budget) m e = passing-leaves (λ x. x .marks) _ [] m (orderTurn ts minute budget m) (unfold orderTurn in refl)
 
 -- The marks of a transaction that is replaced, or committed.
 cleared : (t : ℕ) (marks : List ℕ) (q : ℕ) → hasMark (withoutMarks t marks) t q ≡ false

@@ -16,7 +16,7 @@ use Rattle.record.specs.State.{transaction}
 use Rattle.ranges.proofs.Laws.{admitted-back, in-range, and-left, and-right}
 use Rattle.rules.specs.Items.{fileLength, Values, result, asked}
 use Rattle.rules.specs.Transactions.{Txn}
-use Rattle.rules.specs.Messages.{Op, bufferOf, Call, begin, on, commit, abort, places, setWindow, takeBack}
+use Rattle.rules.specs.Messages.{Op, bufferOf, Call, begin, on, commit, abort, places, setWindow, takeBack, bestOrder}
 use Rattle.rules.specs.Buffers.{isCommit, isTakeBack}
 use Rattle.rules.specs.Steps.{Stepped, refuse, accept, step, turnedBack}
 use Rattle.rules.specs.Commits.{settings, fits, landed, commitRefusal}
@@ -25,7 +25,7 @@ use Rattle.rules.specs.Undo.{takenBack}
 use Rattle.rules.specs.Calls.{turnDown, passing, takeBackTurn, call, callsAfter}
 use Rattle.rules.specs.Demand3.{FreshlyMade}
 use Rattle.rules.specs.Lengths.{ZeroBeyond, Longer, committedIn, LengthsHold, LengthsAlwaysHold}
-use Rattle.rules.proofs.Serial.Sighted.{Held, Seat, vacant, held, Back, none, kept, noneHeld, returned, sightedReturn, sightedBack, Sighted, startSighted, turnedAway, SightedTurn, withSeat, telling, sightedBegin, sightedStepped, sightedOn, granting, sightedCommitted, sightedCommit, sightedAbort, sightedPlaces, windowed, sightedWindow, seated, sightedCall}
+use Rattle.rules.proofs.Serial.Sighted.{Held, Seat, vacant, held, Back, none, kept, noneHeld, returned, sightedReturn, sightedBack, Sighted, startSighted, turnedAway, SightedTurn, withSeat, telling, sightedBegin, sightedStepped, sightedOn, granting, sightedCommitted, sightedCommit, sightedAbort, sightedPlaces, windowed, sightedWindow, seated, sightedCall, sightedBestOrder}
 use Rattle.rules.proofs.Serial.Lengths.{commit-longer}
 use Rattle.rules.proofs.View.Shape.{heldBy, seat, backValues, backIn, view, Sound}
 use Rattle.rules.proofs.View.Back.{back-values}
@@ -123,6 +123,7 @@ module _ (P : Values → Back → Type 0) (s : Sighted) (now : P (s .value) (s .
   kept-call (places t f out) gr bk = kept-seated t out (sightedPlaces f out) (λ l. kept-places f out (s .seats t))
   kept-call (setWindow f start end) gr bk = kept-window f start end
   kept-call takeBack gr bk = kept-back (bk refl)
+  kept-call (bestOrder ts minute budget) gr bk = unfold sightedBestOrder in now
 
 -- Zeros beyond the lengths of what the store would go back to.
 abbrev pub ZeroBack : Back → Type 0

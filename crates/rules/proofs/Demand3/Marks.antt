@@ -10,13 +10,13 @@ use Rattle.octets.specs.Marks.{hasMark, withoutMarks}
 use Rattle.record.specs.declared.Transaction.{Transaction}
 use Rattle.record.specs.State.{transaction, ended}
 use Rattle.ranges.specs.Ranges.{unless, admission}
-use Rattle.rules.specs.Messages.{Op, bufferOf, Call, begin, on, commit, abort, places, setWindow, takeBack}
+use Rattle.rules.specs.Messages.{Op, bufferOf, Call, begin, on, commit, abort, places, setWindow, takeBack, bestOrder}
 use Rattle.rules.specs.Steps.{Stepped, refuse, accept, turnedBack}
 use Rattle.rules.specs.Commits.{Setting}
 use Rattle.rules.specs.Transactions.{Txn}
 use Rattle.rules.specs.Machine.{Machine, sizes}
 use Rattle.rules.specs.Undo.{keepingFound, takenBack}
-use Rattle.rules.specs.Calls.{Turn, turnDown, passing, answer, reset, beginTurn, abortTurn, served, stepTurn, commitGranted, commitDecided, commitTurn, placesTurn, windowTurn, takeBackTurn, admitted, call, callsAfter}
+use Rattle.rules.specs.Calls.{Turn, turnDown, passing, answer, reset, beginTurn, abortTurn, served, stepTurn, commitGranted, commitDecided, commitTurn, placesTurn, windowTurn, takeBackTurn, orderTurn, admitted, call, callsAfter}
 use Rattle.rules.specs.Buffers.{isCallOf, MarksLeft, MarksAlwaysLeft}
 use Rattle.rules.proofs.View.Shape.{Sound}
 use Rattle.rules.proofs.View.Marks.{marked-other}
@@ -76,6 +76,7 @@ module _ (m : Machine) (u q : ℕ) where
     call-left (places t f out) other = passing-left _ out (placesTurn t f out m) refl
     call-left (setWindow f start end) other = passing-left _ [] (windowTurn f start end m) refl
     call-left takeBack other = passing-left _ [] (takeBackTurn m) refl
+    call-left (bestOrder ts minute budget) other = passing-left _ [] (orderTurn ts minute budget m) (unfold orderTurn in refl)
 
 pub marks-always-left : MarksAlwaysLeft
 marks-always-left numbers m₀ made cs c u q other =

@@ -14,12 +14,13 @@ use Rattle.record.specs.State.{transaction}
 use Rattle.record.specs.Paper.{Said, plain, refused}
 use Rattle.ranges.specs.Ranges.{unless, windowRefusal, admission, admissionOfBegin, admissionOfWindow, noneBegun, admissionOfTakingBack}
 use Rattle.rules.specs.Items.{Item}
-use Rattle.rules.specs.Messages.{Op, bufferOf, places, setWindow, takeBack}
+use Rattle.rules.specs.Messages.{Op, bufferOf, places, setWindow, takeBack, bestOrder}
+use Rattle.rules.specs.Ordering.{Asked, orderRefusal, orderReplied, orderReply}
 use Rattle.rules.specs.Steps.{Stepped, refuse, accept}
 use Rattle.rules.specs.Commits.{Setting, commitRefusal}
 use Rattle.rules.specs.Messages.{Call, begin, on, commit, abort}
 use Rattle.rules.specs.Machine.{Machine, fileOf, values, txnOf}
-use Rattle.rules.specs.Calls.{Turn, answer, turnDown, passing, beginTurn, abortTurn, served, stepTurn, commitGranted, commitDecided, commitTurn, admitted, call, placesTurn, windowTurn, takeBackTurn}
+use Rattle.rules.specs.Calls.{Turn, answer, turnDown, passing, beginTurn, abortTurn, served, stepTurn, commitGranted, commitDecided, commitTurn, admitted, call, placesTurn, windowTurn, takeBackTurn, askedOf, orderTurn}
 use Rattle.rules.proofs.View.Shape.{Sound}
 use Rattle.rules.proofs.View.Admissions.{first-is, shared-is}
 use Rattle.rules.proofs.Demand3.Answers.{IsAnswer, answer-not-refused, Right, right-step}
@@ -110,6 +111,25 @@ late-back m s =
     (late-one _ 23 _ (omega arith) (late-one _ 24 0 (omega arith) (λ j e. absurd (let z : _≡_ {A = ℕ} 0 (suc j) = e in omega arith)))))
     (late-answer _ tt)
 
+-- F-14's.
+order-late : (a : Asked) (ts : List ℕ) (minute budget : ℕ) → AtLeast3 (orderRefusal a ts minute budget)
+unfolding orderRefusal AtLeast3
+order-late a ts minute budget =
+    late-one _ 26 _ (omega arith) (late-one _ 3 _ (omega arith) (late-one _ 4 _ (omega arith) (late-one _ 22 _ (omega arith)
+    (late-one _ 25 _ (omega arith) (late-one _ 27 0 (omega arith) (λ j e. absurd (let z : _≡_ {A = ℕ} 0 (suc j) = e in omega arith)))))))
+
+late-ordered : (a : Asked) (ts : List ℕ) (budget n : ℕ) → AtLeast3 n → Late (orderReplied a ts budget n .answer)
+unfolding orderReplied AtLeast3
+late-ordered a ts budget zero h = late-answer _ tt
+late-ordered a ts budget (suc k) h = λ n e. subst (λ (j : ℕ). 3 ≤ j) (refused-same (suc k) n e) (h k refl)
+
+late-order : (m : Machine) → Sound m → (ts : List ℕ) (minute budget : ℕ) → Late (call (bestOrder ts minute budget) m .reply .answer)
+unfolding call orderTurn orderReply AtLeast3
+late-order m s ts minute budget =
+    late-passing _ [] m (orderTurn ts minute budget m)
+    (subst⁻¹ AtLeast3 (first-is m 0 s) (λ j e. absurd (let z : _≡_ {A = ℕ} 0 (suc j) = e in omega arith)))
+    (late-ordered (askedOf minute m) ts budget _ (order-late (askedOf minute m) ts minute budget))
+
 late-call : (c : Call) (m : Machine) → Sound m → Late (call c m .reply .answer)
 unfolding call abortTurn answer stepTurn commitTurn placesTurn placesOf
 late-call (begin t) m s = late-begin m s t
@@ -121,6 +141,7 @@ late-call (abort t) m s = late-admitted m s t [] (abortTurn t m) (late-answer _ 
 late-call (places t f out) m s = late-admitted m s t out (placesTurn t f out m) (late-placed _ f out _ _ (places-late _ f out _))
 late-call (setWindow f start end) m s = late-window m s f start end
 late-call takeBack m s = late-back m s
+late-call (bestOrder ts minute budget) m s = late-order m s ts minute budget
 
 pub never-early : (c : Call) (m : Machine) → Sound m → (call c m .reply .answer ≡ refused 2 → ⊥) × (call c m .reply .answer ≡ refused 1 → ⊥)
 never-early c m s = (

@@ -14,11 +14,12 @@ use Rattle.ranges.specs.Ranges.{Sizes, unless, firstTests, shared, windowRefusa
 use Rattle.rules.specs.Items.{Item, result, asked}
 use Rattle.rules.specs.Steps.{Stepped, refuse, accept, step}
 use Rattle.rules.specs.Commits.{Setting, settings, fits, commitRefusal}
-use Rattle.rules.specs.Messages.{Op, bufferOf, bufferOfCall, Call, begin, on, commit, abort, Reply, places, setWindow, takeBack}
+use Rattle.rules.specs.Messages.{Op, bufferOf, bufferOfCall, Call, begin, on, commit, abort, Reply, places, setWindow, takeBack, bestOrder}
+use Rattle.rules.specs.Ordering.{Asked, orderRefusal, orderReplied, orderReply}
 use Rattle.rules.specs.Machine.{Machine, sizes, fileOf, values, txnOf}
 use Rattle.rules.specs.Promises.{Meets}
 use Rattle.rules.specs.Demand1.{IsRefusal, Demand1On, Demand1, RefusedByCode, Demand1OfCode}
-use Rattle.rules.specs.Calls.{Turn, answer, turnDown, passing, fresh, reset, beginTurn, abortTurn, served, stepTurn, commitGranted, commitDecided, commitTurn, admitted, call, placesTurn, windowTurn, takeBackTurn}
+use Rattle.rules.specs.Calls.{Turn, answer, turnDown, passing, fresh, reset, beginTurn, abortTurn, served, stepTurn, commitGranted, commitDecided, commitTurn, admitted, call, placesTurn, windowTurn, takeBackTurn, orderTurn, askedOf}
 use Rattle.rules.proofs.Demand3.Answers.{IsAnswer, answer-not-refused, Leaving, later as later-on, Right, right-step}
 
 pub refused-same : (m n : ℕ) → refused m ≡ refused n → m ≡ n
@@ -126,8 +127,27 @@ unfolding placesReply
 placed-not-13 fileOf f out x zero h e = answer-not-refused _ 13 tt e
 placed-not-13 fileOf f out x (suc n) h e = h .1 (refused-same (suc n) 13 e)
 
+-- F-14's.
+ordered-leaving : (a : Asked) (ts : List ℕ) (minute budget : ℕ) → Leaving (orderRefusal a ts minute budget)
+unfolding orderRefusal
+ordered-leaving a ts minute budget =
+    unless-leaving _ 26 _ (later-on 26 refl .1) (unless-leaving _ 3 _ (later-on 3 refl .1) (unless-leaving _ 4 _ (later-on 4 refl .1)
+    (unless-leaving _ 22 _ (later-on 22 refl .1) (unless-leaving _ 25 _ (later-on 25 refl .1) (unless-leaving _ 27 0 (later-on 27 refl .1) none-leaving)))))
+
+leaves-ordered : (m : Machine) (a : Asked) (ts : List ℕ) (budget n : ℕ) → Leaving n
+    → Leaves m [] (record { reply = orderReplied a ts budget n; after = m })
+unfolding orderReplied
+leaves-ordered m a ts budget zero h = leaves-answer m [] _ tt
+leaves-ordered m a ts budget (suc n) h =
+    record { leaves = λ k e d. (refl, refl); known = λ k e. subst IsRefusal (refused-same (suc n) k e) (omega arith, h .0) }
+
+ordered-not-13 : (a : Asked) (ts : List ℕ) (budget n : ℕ) → Leaving n → orderReplied a ts budget n .answer ≡ refused 13 → ⊥
+unfolding orderReplied
+ordered-not-13 a ts budget zero h e = answer-not-refused _ 13 tt e
+ordered-not-13 a ts budget (suc n) h e = h .1 (refused-same (suc n) 13 e)
+
 leaves-call : (c : Call) (m : Machine) → Leaves m (bufferOfCall c) (call c m)
-unfolding call bufferOfCall beginTurn abortTurn answer stepTurn commitTurn placesTurn placesOf windowTurn takeBackTurn
+unfolding call bufferOfCall beginTurn abortTurn answer stepTurn commitTurn placesTurn placesOf windowTurn takeBackTurn orderTurn orderReply
 leaves-call (begin t) m =
     leaves-passing (admissionOfBegin (sizes m) (m .store) (m .journal) t) [] m _
     (begin-leaving (sizes m) (m .store) (m .journal) t) (leaves-answer m [] _ tt)
@@ -143,6 +163,9 @@ leaves-call (setWindow f start end) m =
 leaves-call takeBack m =
     leaves-passing (admissionOfTakingBack (sizes m) (m .store) (m .journal)) [] m _
     (back-leaving (sizes m) (m .store) (m .journal)) (leaves-answer m [] _ tt)
+leaves-call (bestOrder ts minute budget) m =
+    leaves-passing (firstTests (sizes m) (m .store) (m .journal) 0) [] m _ (first-leaving (sizes m) (m .store) (m .journal) 0 none-leaving)
+    (leaves-ordered m (askedOf minute m) ts budget _ (ordered-leaving (askedOf minute m) ts minute budget))
 
 -- A refusal 13 is a Commit's, which then leaves what an Abort leaves.
 not-13 : (k : ℕ) (buffer : List ℕ) (m : Machine) (w : Turn) → Leaving k → (w .reply .answer ≡ refused 13 → ⊥) → passing k buffer m w .reply .answer ≡ refused 13 → ⊥
@@ -169,7 +192,7 @@ passing-ends zero m w z f e = f e
 passing-ends (suc k) m w z f e = refl
 
 ends-call : (c : Call) (m : Machine) → call c m .reply .answer ≡ refused 13 → (t : ℕ) × (minute : ℕ) × (c ≡ commit t minute) × (call c m .after ≡ call (abort t) m .after)
-unfolding call beginTurn abortTurn answer stepTurn commitTurn admitted placesTurn placesOf windowTurn takeBackTurn
+unfolding call beginTurn abortTurn answer stepTurn commitTurn admitted placesTurn placesOf windowTurn takeBackTurn orderTurn orderReply
 ends-call (begin t) m e =
     absurd (not-13 (admissionOfBegin (sizes m) (m .store) (m .journal) t) [] m _ (begin-leaving (sizes m) (m .store) (m .journal) t) (answer-not-refused _ 13 tt) e)
 ends-call (on t o) m e =
@@ -184,6 +207,9 @@ ends-call (setWindow f start end) m e =
     absurd (not-13 (admissionOfWindow (sizes m) (m .store) (m .journal) f start end) [] m _ (window-leaving (sizes m) (m .store) (m .journal) f start end) (answer-not-refused _ 13 tt) e)
 ends-call takeBack m e =
     absurd (not-13 (admissionOfTakingBack (sizes m) (m .store) (m .journal)) [] m _ (back-leaving (sizes m) (m .store) (m .journal)) (answer-not-refused _ 13 tt) e)
+ends-call (bestOrder ts minute budget) m e =
+    absurd (not-13 (firstTests (sizes m) (m .store) (m .journal) 0) [] m _ (first-leaving (sizes m) (m .store) (m .journal) 0 none-leaving)
+    (ordered-not-13 (askedOf minute m) ts budget _ (ordered-leaving (askedOf minute m) ts minute budget)) e)
 
 leaves-fresh : (numbers : List ℕ) (m : Machine) → Leaves m [] (fresh numbers m)
 unfolding fresh answer admissionOfFresh

@@ -13,13 +13,13 @@ use Rattle.record.specs.Paper.{plain}
 use Rattle.ranges.specs.Below.{guarded}
 use Rattle.ranges.proofs.Laws.{in-range}
 use Rattle.rules.specs.Items.{byte, offset, fileLength, Values}
-use Rattle.rules.specs.Messages.{Call, begin, on, commit, abort, places, setWindow, takeBack, Reply}
+use Rattle.rules.specs.Messages.{Call, begin, on, commit, abort, places, setWindow, takeBack, bestOrder, Reply, isGrant, grantsAmong}
 use Rattle.rules.specs.Commits.{fits, commitRefusal}
 use Rattle.rules.specs.Windows.{forClosed}
 use Rattle.rules.specs.Machine.{Machine, values, txnOf}
 use Rattle.rules.specs.Calls.{call, callsAfter, callsReplies}
 use Rattle.rules.specs.Buffers.{isCommit}
-use Rattle.rules.specs.TakingBack.{SameCommitted, isGrant, grantsAmong, TakesBack}
+use Rattle.rules.specs.TakingBack.{SameCommitted, TakesBack}
 use Rattle.rules.proofs.Serial.Sighted.{Held, Seat, vacant, held, Back, none, kept, Sighted, turnedAway, telling, returned, withSeat, granting, sightedCommitted, sightedCommit, seated, noneHeld, sightedReturn, sightedBack, sightedCall}
 use Rattle.rules.proofs.View.Shape.{backIn, view, Sound}
 use Rattle.rules.proofs.View.Decode.{decoded-in}
@@ -73,6 +73,7 @@ module _ (w : Values) where
     call-or (places t f out) e = other-or (places t f out) (unfold isCommit in refl)
     call-or (setWindow f start end) e = other-or (setWindow f start end) (unfold isCommit in refl)
     call-or takeBack e = other-or takeBack (unfold isCommit in refl)
+    call-or (bestOrder ts minute budget) e = other-or (bestOrder ts minute budget) (unfold isCommit in refl)
 
   -- A list of calls without a grant.
   calls-or : (cs : List Call) (m : Machine) → Sound m → Or (view m .back) → grantsAmong (callsReplies cs m) ≡ 0 → Or (view (callsAfter cs m) .back)

@@ -13,11 +13,11 @@ use Rattle.octets.specs.Bits.{bitsOf}
 use Rattle.octets.specs.Marks.{contains}
 use Rattle.octets.proofs.SetLaws.{bits-lt, contains-bits}
 use Rattle.record.specs.State.{transaction}
-use Rattle.record.specs.Paper.{Said, plain, pointer, given, granted, pairs, refused, said}
+use Rattle.record.specs.Paper.{Said, plain, pointer, given, granted, pairs, ordered, refused, said}
 use Rattle.ranges.specs.Ranges.{admission, admissionOfFresh}
 use Rattle.ranges.proofs.Laws.{AdmittedFresh, admitted-fresh}
 use Rattle.rules.specs.Commits.{fits, commitRefusal}
-use Rattle.rules.specs.Messages.{Op, Call, begin, on, commit, abort, Reply, places, setWindow, takeBack}
+use Rattle.rules.specs.Messages.{Op, Call, begin, on, commit, abort, Reply, places, setWindow, takeBack, bestOrder}
 use Rattle.rules.specs.Steps.{looks}
 use Rattle.rules.specs.Plain.{isRunning, Earlier, nothing, Slot, closed, running, Running, Plain, startPlain, freshPlain, isStale, PlainTurn, turnedDown, answering, grant, becameStale, plainCommitted, plainCommit, numbered, plainCall, plainAfter, plainReplies, firstList, secondList}
 use Rattle.rules.specs.Items.{Values}
@@ -37,6 +37,7 @@ use Rattle.rules.proofs.View.EndTurns.{begin-turn, abort-turn, commit-t
 use Rattle.rules.proofs.Serial.Invariant.{GoodEarlier}
 use Rattle.rules.proofs.View.WindowTurn.{window-turn}
 use Rattle.rules.proofs.View.BackTurn.{back-turn}
+use Rattle.rules.proofs.View.OrderTurn.{order-turn}
 use Rattle.rules.proofs.View.FreshView.{fresh-sound, fresh-view}
 use Rattle.rules.proofs.Demand3.Answers.{IsAnswer, answer-not-refused}
 use Rattle.rules.proofs.Demand3.Ranges.{never-early}
@@ -50,6 +51,7 @@ call-turn (abort t) m s = abort-turn m t s
 call-turn (places t f out) m s = places-turn m t s f out
 call-turn (setWindow f start end) m s = window-turn m f start end s
 call-turn takeBack m s = back-turn m s
+call-turn (bestOrder ts minute budget) m s = order-turn minute m s ts budget
 
 -- .. and so does every list of calls.
 pub record Agree (cs : List Call) (m : Machine) : Type 0 where
@@ -122,6 +124,7 @@ octetIn (pointer o) = 0
 octetIn (given n) = 0
 octetIn (granted n) = n
 octetIn (pairs n) = 0
+octetIn (ordered grants gap tried) = 0
 octetIn (refused n) = 0
 
 pub record Told (t : ℕ) (p : Plain) (τ : PlainTurn) : Type 0 where

@@ -8,7 +8,7 @@ use lib.Dec.{leb}
 use native.Mathlib.Omega.{arith}
 use Prim.Native.Nat.{ℕ}
 use Rattle.windows.specs.Hours.{minuteIn}
-use Rattle.record.specs.Paper.{Said, plain, pointer, given, granted, pairs, refused}
+use Rattle.record.specs.Paper.{Said, plain, pointer, given, granted, pairs, ordered, refused}
 use Rattle.rules.specs.Windows.{forClosed}
 use Rattle.rules.specs.Messages.{commit}
 use Rattle.rules.specs.Commits.{fits, commitRefusal}
@@ -36,6 +36,7 @@ refusalOf (pointer o) = 0
 refusalOf (given n) = 0
 refusalOf (granted n) = 0
 refusalOf (pairs n) = 0
+refusalOf (ordered grants gap tried) = 0
 refusalOf (refused n) = n
 
 module _ (t minute : ℕ) (r : Running) (p : Plain) where

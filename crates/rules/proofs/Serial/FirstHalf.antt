@@ -12,18 +12,20 @@ use Rattle.ranges.specs.Below.{guarded, isNone, below}
 use Rattle.ranges.specs.Ranges.{windowRefusal}
 use Rattle.rules.specs.Windows.{forClosed}
 use Rattle.rules.specs.Items.{Item, Values, byte, offset, fileLength, result, asked}
-use Rattle.rules.specs.Transactions.{Txn, empty, put}
-use Rattle.rules.specs.Messages.{Op, bufferOf, places, setWindow, takeBack}
+use Rattle.rules.specs.Transactions.{Txn, Write, empty, put}
+use Rattle.rules.specs.Messages.{Op, bufferOf, places, setWindow, takeBack, bestOrder}
+use Rattle.rules.specs.Ordering.{hasUnplaced}
 use Rattle.rules.specs.Steps.{Stepped, refuse, accept, step, turnedBack}
 use Rattle.rules.specs.Commits.{settings, fits, landed, commitRefusal}
 use Rattle.rules.specs.Messages.{Call, begin, on, commit, abort, Reply}
 use Rattle.rules.specs.Sightings.{sameEntries, entries, Committed}
-use Rattle.rules.specs.Plain.{Running, Slot, closed, running, Plain, Earlier, nothing, found, isRunning, noneRunning, goneBack, goBack, plainTakeBack, withWindows, plainSetWindow, startPlain, ops, firstList, secondList, isStale, PlainTurn, turnedDown, withSlot, answering, plainBegin, plainStepped, plainOn, committing, grant, equalSlot, staleSlot, becameStale, plainCommitted, plainCommit, plainAbort, numbered, plainCall, plainAfter, plainReplies, plainPlaces}
+use Rattle.rules.specs.Plain.{Running, Slot, closed, running, Plain, Earlier, nothing, found, isRunning, noneRunning, goneBack, goBack, plainTakeBack, withWindows, plainSetWindow, startPlain, ops, firstList, secondList, isStale, PlainTurn, turnedDown, withSlot, answering, plainBegin, plainStepped, plainOn, committing, grant, equalSlot, staleSlot, becameStale, plainCommitted, plainCommit, plainAbort, numbered, plainCall, plainAfter, plainReplies, plainPlaces, plainCommitCall, writesIn, plainAsked, plainBestOrder}
 use Rattle.rules.specs.Lone.{lone}
-use Rattle.rules.proofs.Serial.Sighted.{Held, Seat, vacant, held, Back, none, kept, isHeld, noneHeld, returned, sightedReturn, sightedBack, Sighted, startSighted, sighted, among, hit, markAll, lengthAll, SightedTurn, turnedAway, withSeat, telling, sightedBegin, sightedStepped, sightedOn, touch, newlyStale, granting, sightedCommitted, sightedCommit, sightedAbort, windowed, sightedWindow, seated, sightedCall, sightedAfter, sightedReplies, sightedPlaces}
+use Rattle.rules.proofs.Serial.Sighted.{Held, Seat, vacant, held, Back, none, kept, isHeld, noneHeld, returned, sightedReturn, sightedBack, Sighted, startSighted, sighted, among, hit, markAll, lengthAll, SightedTurn, turnedAway, withSeat, telling, sightedBegin, sightedStepped, sightedOn, touch, newlyStale, granting, sightedCommitted, sightedCommit, sightedAbort, windowed, sightedWindow, seated, sightedCall, sightedAfter, sightedReplies, sightedPlaces, sightedCommitCall, staleSeat, writesSeat, sightedAsked, sightedBestOrder}
 use Rattle.rules.proofs.Serial.Programs.{among-append, turned-back}
 use Rattle.rules.proofs.Serial.Lists.{items, current, current-entries, current-append, anyTouched, hit-is, markAll-at, lengthAll-at, current-after}
 use Rattle.rules.proofs.Serial.Sound.{Sound, seen-old, lists-same, sound-more, sound-granted, items-more, extended}
+use Rattle.rules.proofs.Serial.Ordering.{grants-same, Agreed, reply-same}
 use Rattle.rules.proofs.Serial.Invariant.{SoundSlot, Good, put-keeps, all-closed, good-call}
 
 -- The store of a plain machine: a byte is marked where it was sighted, and a transaction is stale where its two lists differ.
@@ -362,17 +364,61 @@ module _ (p : Plain) (g : Good p) where
       chosen true = h
       chosen false = refl
 
+-- F-14: what the store is asked and what the plain machine is asked.
+commit-same : (t minute : ℕ) (p : Plain) → Good p → sightedCommitCall t minute (abs p) ≡ absTurn (plainCommitCall t minute p)
+commit-same t minute p g = same-numbered p g t [] (sightedCommit t minute) (plainCommit t minute) (same-commit p g t minute (p .slots t))
+
+module _ (minute : ℕ) where
+  abbrev Stands : Sighted → Plain → Type 0
+  Stands s p = Good p × (s ≡ abs p)
+
+  committed : (t : ℕ) (s : Sighted) (p : Plain) → Stands s p
+      → (sightedCommitCall t minute s .reply ≡ plainCommitCall t minute p .reply) × Stands (sightedCommitCall t minute s .after) (plainCommitCall t minute p .after)
+  unfolding absTurn
+  committed t s p h =
+      let e : sightedCommitCall t minute s ≡ absTurn (plainCommitCall t minute p) = ap (sightedCommitCall t minute) (h .1) ∙ commit-same t minute p (h .0) in
+      (ap (λ (τ : SightedTurn). τ .reply) e, ((unfold plainCall in good-call (commit t minute) p (h .0)), ap (λ (τ : SightedTurn). τ .after) e))
+
+  agreed : (p : Plain) → Good p → Agreed (sightedAsked minute (abs p)) (plainAsked minute p)
+  unfolding sightedAsked plainAsked abs
+  agreed p g =
+      record {
+        isOpen = λ t e. opened (p .slots t);
+        notReady = λ t e. ap₂ (λ (b : Bool) (ws : List Write). b || hasUnplaced ws) (staled (p .slots t)) (written (p .slots t));
+        hasClosed = λ t e. ap (forClosed (p .fileOf) (p .windows) minute) (written (p .slots t));
+        grants = fun-ext (λ o.
+            grants-same (λ t x. sightedCommitCall t minute x .reply) (λ t x. sightedCommitCall t minute x .after)
+            (λ t q. plainCommitCall t minute q .reply) (λ t q. plainCommitCall t minute q .after) Stands committed o (abs p) p (g, refl));
+      }
+    where
+      opened : (s : Slot) → isHeld (seatOf p s) ≡ isRunning s
+      opened closed = unfold seatOf isHeld isRunning in refl
+      opened (running r) = unfold seatOf isHeld isRunning in refl
+
+      staled : (s : Slot) → staleSeat (seatOf p s) ≡ staleSlot p s
+      staled closed = unfold seatOf staleSeat staleSlot in refl
+      staled (running r) = unfold seatOf heldOf staleSeat staleSlot in refl
+
+      written : (s : Slot) → writesSeat (seatOf p s) ≡ writesIn s
+      written closed = unfold seatOf writesSeat writesIn in refl
+      written (running r) = unfold seatOf heldOf writesSeat writesIn in refl
+
+  same-order : (p : Plain) → Good p → (ts : List ℕ) (budget : ℕ) → sightedBestOrder ts minute budget (abs p) ≡ absTurn (plainBestOrder ts minute budget p)
+  unfolding sightedBestOrder plainBestOrder absTurn
+  same-order p g ts budget =
+      ap (λ (y : Reply). record { reply = y; after = abs p }) (reply-same (sightedAsked minute (abs p)) (plainAsked minute p) (agreed p g) ts budget minute)
+
 -- The store's turn is that of the plain machine, for every call.
 pub same-call : (c : Call) (p : Plain) → Good p → sightedCall c (abs p) ≡ absTurn (plainCall c p)
 unfolding sightedCall plainCall
 same-call (begin t) p g = same-numbered p g t [] (sightedBegin t) (plainBegin t) (same-begin p g t (p .slots t))
 same-call (on t o) p g = same-numbered p g t (bufferOf o) (sightedOn t o) (plainOn t o) (same-on p g t o (p .slots t) (g .sound t))
-same-call (commit t minute) p g =
-    same-numbered p g t [] (sightedCommit t minute) (plainCommit t minute) (same-commit p g t minute (p .slots t))
+same-call (commit t minute) p g = commit-same t minute p g
 same-call (abort t) p g = same-numbered p g t [] (sightedAbort t) (plainAbort t) (same-abort p g t (p .slots t))
 same-call (places t f out) p g = same-numbered p g t out (sightedPlaces f out) (plainPlaces f out) (same-places p g f out (p .slots t))
 same-call (setWindow f start end) p g = same-window p g f start end
 same-call takeBack p g = same-back p g
+same-call (bestOrder ts minute budget) p g = same-order minute p g ts budget
 
 pub same-after : (cs : List Call) (p : Plain) → Good p → sightedAfter cs (abs p) ≡ abs (plainAfter cs p)
 unfolding sightedAfter plainAfter absTurn

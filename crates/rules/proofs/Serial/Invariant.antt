@@ -16,12 +16,12 @@ use Rattle.ranges.specs.Ranges.{windowRefusal}
 use Rattle.rules.specs.Windows.{forClosed}
 use Rattle.rules.specs.Items.{Item, Values, result, asked}
 use Rattle.rules.specs.Transactions.{put}
-use Rattle.rules.specs.Messages.{Op, bufferOf, places, setWindow, takeBack}
+use Rattle.rules.specs.Messages.{Op, bufferOf, places, setWindow, takeBack, bestOrder}
 use Rattle.rules.specs.Steps.{Stepped, refuse, accept, step, turnedBack}
 use Rattle.rules.specs.Commits.{settings, fits, commitRefusal}
 use Rattle.rules.specs.Messages.{Call, begin, on, commit, abort}
 use Rattle.rules.specs.Sightings.{entries, Committed}
-use Rattle.rules.specs.Plain.{Running, Slot, closed, running, Plain, Earlier, nothing, found, isRunning, noneRunning, goneBack, goBack, plainTakeBack, withWindows, plainSetWindow, startPlain, isStale, PlainTurn, turnedDown, withSlot, answering, plainBegin, plainStepped, plainOn, committing, grant, plainCommitted, plainCommit, plainAbort, numbered, plainCall, plainAfter, plainPlaces}
+use Rattle.rules.specs.Plain.{Running, Slot, closed, running, Plain, Earlier, nothing, found, isRunning, noneRunning, goneBack, goBack, plainTakeBack, withWindows, plainSetWindow, plainBestOrder, startPlain, isStale, PlainTurn, turnedDown, withSlot, answering, plainBegin, plainStepped, plainOn, committing, grant, plainCommitted, plainCommit, plainAbort, numbered, plainCall, plainAfter, plainPlaces}
 use Rattle.rules.proofs.Serial.Programs.{turned-back}
 use Rattle.rules.proofs.Serial.Lists.{touched, setBy-at}
 use Rattle.rules.proofs.Serial.Sound.{Sound, sound-begun, sound-more, sound-granted}
@@ -238,6 +238,7 @@ good-call (abort t) p g = good-numbered p g t [] (plainAbort t) (λ l. good-abor
 good-call (places t f out) p g = good-numbered p g t out (plainPlaces f out) (λ l. good-places f out (p .slots t) p g)
 good-call (setWindow f start end) p g = good-window f start end p g
 good-call takeBack p g = good-taken p g
+good-call (bestOrder ts minute budget) p g = unfold plainBestOrder in g
 
 pub good-after : (cs : List Call) (p : Plain) → Good p → Good (plainAfter cs p)
 unfolding plainAfter

@@ -15,12 +15,12 @@ use Rattle.ranges.specs.Ranges.{windowRefusal}
 use Rattle.rules.specs.Windows.{forClosed}
 use Rattle.rules.specs.Items.{result, asked}
 use Rattle.rules.specs.Transactions.{Txn, empty, put}
-use Rattle.rules.specs.Messages.{Op, bufferOf, places, setWindow, takeBack}
+use Rattle.rules.specs.Messages.{Op, bufferOf, places, setWindow, takeBack, bestOrder}
 use Rattle.rules.specs.Steps.{Stepped, refuse, accept, step, turnedBack}
 use Rattle.rules.specs.Commits.{fits, commitRefusal}
 use Rattle.rules.specs.Messages.{Call, begin, on, commit, abort, Reply}
 use Rattle.rules.specs.Sightings.{Entry, entries, Committed}
-use Rattle.rules.specs.Plain.{Accepted, Running, Slot, closed, running, Plain, Earlier, nothing, found, isRunning, noneRunning, goneBack, goBack, plainTakeBack, withWindows, plainSetWindow, ops, isStale, PlainTurn, turnedDown, withSlot, answering, plainBegin, plainStepped, plainOn, committing, grant, plainCommitted, plainCommit, plainAbort, numbered, plainCall, plainAfter, plainPlaces}
+use Rattle.rules.specs.Plain.{Accepted, Running, Slot, closed, running, Plain, Earlier, nothing, found, isRunning, noneRunning, goneBack, goBack, plainTakeBack, withWindows, plainSetWindow, plainBestOrder, ops, isStale, PlainTurn, turnedDown, withSlot, answering, plainBegin, plainStepped, plainOn, committing, grant, plainCommitted, plainCommit, plainAbort, numbered, plainCall, plainAfter, plainPlaces}
 use Rattle.rules.specs.Lone.{Lone, lone}
 use Rattle.rules.specs.Grants.{Grant, grantAt, ifGranted, grantedBy, Serial, butLast, droppedFrom, ifDone, adding, serialBy, serialFrom, serialOf}
 use Rattle.rules.proofs.Serial.Alone.{again, serially, SameAgain, AllSame}
@@ -170,6 +170,7 @@ module _ (p : Plain) (s : Serial) where
   turned (places t f out) = turned-numbered (λ τ. Turned p s τ s) t out (plainPlaces f out) (turned-places f out (p .slots t)) (kept _ _ _)
   turned (setWindow f start end) = turned-window f start end
   turned takeBack = turned-back
+  turned (bestOrder ts minute budget) = unfold plainBestOrder in kept _ _ _
 
 -- No call changes a descriptor's file.
 files-turn : (p : Plain) (s : Serial) (τ : PlainTurn) (z : Serial) → Turned p s τ z → τ .after .fileOf ≡ p .fileOf

@@ -15,8 +15,9 @@ use Rattle.ranges.specs.Ranges.{windowRefusal}
 use Rattle.rules.specs.Windows.{forClosed}
 use Rattle.rules.specs.Items.{Item, byte, offset, fileLength, same, Values, Prog, result, asked}
 use Rattle.standings.specs.Table.{isKnown}
-use Rattle.rules.specs.Transactions.{Txn, empty, put}
-use Rattle.rules.specs.Messages.{Op, bufferOf, places, setWindow, takeBack}
+use Rattle.rules.specs.Transactions.{Txn, Write, empty, put}
+use Rattle.rules.specs.Messages.{Op, bufferOf, places, setWindow, takeBack, bestOrder}
+use Rattle.rules.specs.Ordering.{grantsIn, hasUnplaced, Asked, orderReply}
 use Rattle.rules.specs.Steps.{Stepped, refuse, accept, step, turnedBack}
 use Rattle.rules.specs.Commits.{Setting, settings, fits, landed, commitRefusal}
 use Rattle.rules.specs.Messages.{Call, begin, on, commit, abort, Reply}
@@ -177,14 +178,39 @@ sightedBack s = guarded (λ k. turnedAway k [] s) (noneHeld s) 23 (sightedReturn
 unfoldable pub seated : ℕ → List ℕ → (Seat → Sighted → SightedTurn) → Sighted → SightedTurn
 seated t buffer next s = cond (leb t 7) (next (s .seats t) s) (turnedAway 3 buffer s)
 
+abbrev pub sightedCommitCall : ℕ → ℕ → Sighted → SightedTurn
+sightedCommitCall t minute s = seated t [] (sightedCommit t minute) s
+
+-- 02, F-14: what it is asked.
+unfoldable pub staleSeat : Seat → Bool
+staleSeat vacant = false
+staleSeat (held h) = h .stale
+
+unfoldable pub writesSeat : Seat → List Write
+writesSeat vacant = []
+writesSeat (held h) = h .txn .writes
+
+unfoldable pub sightedAsked : ℕ → Sighted → Asked
+sightedAsked minute s =
+    record {
+      isOpen = λ t. isHeld (s .seats t);
+      notReady = λ t. staleSeat (s .seats t) || hasUnplaced (writesSeat (s .seats t));
+      hasClosed = λ t. forClosed (s .fileOf) (s .windows) minute (writesSeat (s .seats t));
+      grants = λ o. grantsIn (λ t x. sightedCommitCall t minute x .reply) (λ t x. sightedCommitCall t minute x .after) o s;
+    }
+
+unfoldable pub sightedBestOrder : List ℕ → ℕ → ℕ → Sighted → SightedTurn
+sightedBestOrder ts minute budget s = record { reply = orderReply (sightedAsked minute s) ts minute budget; after = s }
+
 unfoldable pub sightedCall : Call → Sighted → SightedTurn
 sightedCall (begin t) s = seated t [] (sightedBegin t) s
 sightedCall (on t o) s = seated t (bufferOf o) (sightedOn t o) s
-sightedCall (commit t minute) s = seated t [] (sightedCommit t minute) s
+sightedCall (commit t minute) s = sightedCommitCall t minute s
 sightedCall (abort t) s = seated t [] (sightedAbort t) s
 sightedCall (places t f out) s = seated t out (sightedPlaces f out) s
 sightedCall (setWindow f start end) s = sightedWindow f start end s
 sightedCall takeBack s = sightedBack s
+sightedCall (bestOrder ts minute budget) s = sightedBestOrder ts minute budget s
 
 unfoldable pub sightedAfter : List Call → Sighted → Sighted
 sightedAfter [] s = s

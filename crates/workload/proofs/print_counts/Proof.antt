@@ -4,10 +4,10 @@ use Rattle.workload.proofs.print_counts.Statement.{statement}
 use Rattle.workload.proofs.print_counts.Tie as tie
 
 abbrev Inv-loop : tie.InvT-loop
-Inv-loop counts k₀ k = k ≤ 30
+Inv-loop counts k₀ k = k ≤ 34
 
 abbrev μ-loop : tie.MeasureT-loop
-μ-loop counts k₀ k = 30 - k
+μ-loop counts k₀ k = 34 - k
 
 loop-holds : tie.Need-loop-holds Inv-loop μ-loop
 loop-holds c = search needs

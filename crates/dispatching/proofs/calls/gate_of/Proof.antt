@@ -30,7 +30,11 @@ returns-5 c = search needs
 
 returns-6 : tie.Need-returns-6
 unfolding gateNumber refusalIn said
-returns-6 c = sym (ap (λ (o : Outcome). refusalIn (said o)) (c .before .o .given .1))
+returns-6 c = search needs
+
+returns-7 : tie.Need-returns-7
+unfolding gateNumber refusalIn said
+returns-7 c = sym (ap (λ (o : Outcome). refusalIn (said o)) (c .before .o .given .1))
 
 pub gate-of-spec : {M : Type 1} → statement M
 gate-of-spec =
@@ -42,9 +46,11 @@ gate-of-spec =
     (λ c. search needs)
     (λ c. search needs)
     (λ c. search needs)
+    (λ c. search needs)
     returns
     returns-2
     returns-3
     returns-4
     returns-5
-    returns-6)
+    returns-6
+    returns-7)

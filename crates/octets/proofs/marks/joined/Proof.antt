@@ -1,5 +1,5 @@
 -- `octets::marks::joined` meets its contract. Assumes nothing.
-use Rattle.octets.proofs.BitLaws.{contains-or}
+use Rattle.octets.proofs.SetLaws.{contains-or}
 use Rattle.octets.proofs.marks.joined.Statement.{statement}
 use Rattle.octets.proofs.marks.joined.Tie as tie
 

@@ -82,10 +82,22 @@ returns-23 c = named (c .enum-told23 .given .1)
 returns-24 : tie.Need-returns-24
 returns-24 c = named (c .enum-told24 .given .1)
 
+returns-25 : tie.Need-returns-25
+returns-25 c = named (c .enum-told25 .given .1)
+
+returns-26 : tie.Need-returns-26
+returns-26 c = named (c .enum-told26 .given .1)
+
+returns-27 : tie.Need-returns-27
+returns-27 c = named (c .enum-told27 .given .1)
+
 pub number-spec : {M : Type 1} → statement M
 number-spec =
     tie.close
     (tie.spec
+    (λ c. search needs)
+    (λ c. search needs)
+    (λ c. search needs)
     (λ c. search needs)
     (λ c. search needs)
     (λ c. search needs)
@@ -133,4 +145,7 @@ number-spec =
     returns-21
     returns-22
     returns-23
-    returns-24)
+    returns-24
+    returns-25
+    returns-26
+    returns-27)

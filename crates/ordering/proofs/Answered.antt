@@ -1,0 +1,73 @@
+-- What the code answers is the reply of the rules.
+use mathlib.Core.Bool.{Bool, cond, not, _&&_}
+use mathlib.Core.List.{List}
+use mathlib.Core.Path.{_≡_, refl, sym, ap, ap₂, _∙_}
+use lib.Dec.{eqb}
+use lib.ListN.{length}
+use Prim.Native.Nat.{ℕ, _-_, min}
+use Rattle.octets.specs.Bits.{bitsOf}
+use Rattle.octets.specs.Marks.{contains}
+use Rattle.record.specs.Paper.{ordered}
+use Rattle.record.specs.Layout.{transactionOf}
+use Rattle.orders.specs.Orders.{orders, triedOf, factorial, Rated, bestTried, countIn, allIn, gapOf}
+use Rattle.orders.proofs.Numbered.{many-orders, many-tried}
+use Rattle.rules.specs.Messages.{Reply}
+use Rattle.rules.specs.Ordering.{Asked, orderReplied, orderReply}
+use Rattle.rules.specs.Calls.{askedOf}
+use Rattle.rules.specs.Promises.{machineOf}
+use Rattle.closing.specs.Closing.{hasByteForClosed}
+use Rattle.ordering.specs.Table.{Asking}
+use Rattle.ordering.specs.Computing.{waitsIn, Tabled, grantsBy}
+use Rattle.ordering.specs.declared.best.Known.{Known}
+use Rattle.ordering.proofs.Admitted.{ListIn}
+use Rattle.ordering.proofs.Grading.{count-is, grants-are}
+use Rattle.ordering.proofs.BestLaws.{best-same, best-tried-most}
+
+module _ (kept files logs marks undo ts : List ℕ) (minute budget : ℕ) (a : Asking (machineOf kept files logs marks undo) ts minute budget)
+    (listed : ListIn kept ts minute budget) (table : List ℕ) (tabled : Tabled kept files logs marks ts table)
+    (shut : ℕ) (shutIs : shut ≡ bitsOf (λ t. transactionOf kept t .begun && hasByteForClosed kept logs t minute) 8)
+    (placed : Bool) (placedIs : placed ≡ allIn (λ t. not (waitsIn kept t)) ts)
+    (all : ℕ) (allIs : all ≡ factorial (length ts)) (tried : ℕ) (triedIs : tried ≡ min budget all) where
+  abbrev asked : Asked
+  asked = askedOf minute (machineOf kept files logs marks undo)
+
+  abbrev G : List ℕ → ℕ
+  G = grantsBy kept (record { table = table; shut = shut; placed = placed })
+
+  abbrev best : Rated
+  best = bestTried (asked .grants) budget ts
+
+  tried-is : tried ≡ length (triedOf budget ts)
+  tried-is = triedIs ∙ ap (min budget) allIs ∙ sym (many-tried ts budget)
+
+  best-is : bestTried G tried ts ≡ best
+  best-is =
+      ap (λ (n : ℕ). bestTried G n ts) (triedIs ∙ ap (min budget) allIs)
+      ∙ best-tried-most G budget ts
+      ∙ best-same G (asked .grants) budget ts
+      (λ o h. grants-are kept files logs marks undo ts minute budget a listed table tabled shut shutIs o h placed placedIs)
+
+  reply-is : orderReply asked ts minute budget
+      ≡ record { answer = ordered (best .grants) (gapOf (asked .hasClosed) budget ts (best .grants)) (length (triedOf budget ts)); buffer = best .order }
+  unfolding orderReply orderReplied
+  reply-is = ap (orderReplied asked ts budget) (a .passed)
+
+  module _ (grants gap : ℕ) (grantsIs : grants ≡ bestTried G tried ts .grants)
+      (gapIs : gap ≡ cond (eqb tried all) 0 (countIn (λ t. not (contains shut t)) ts - grants)) where
+    gap-is : gap ≡ gapOf (asked .hasClosed) budget ts (best .grants)
+    unfolding gapOf
+    gap-is =
+        gapIs
+        ∙ ap₂ (λ (x y : ℕ). cond (eqb x y) 0 (countIn (λ t. not (contains shut t)) ts - grants)) tried-is (allIs ∙ sym (many-orders ts))
+        ∙ ap₂ (λ (x y : ℕ). cond (eqb (length (triedOf budget ts)) (length (orders ts))) 0 (x - y))
+        (count-is kept files logs marks undo ts minute budget a listed table tabled shut shutIs)
+        (grantsIs ∙ ap (λ (r : Rated). r .grants) best-is)
+
+    pub answer-is : ordered grants gap tried ≡ orderReply asked ts minute budget .answer
+    answer-is =
+        ap₂ (λ (g k : ℕ). ordered g k tried) (grantsIs ∙ ap (λ (r : Rated). r .grants) best-is) gap-is
+        ∙ ap (ordered (best .grants) (gapOf (asked .hasClosed) budget ts (best .grants))) tried-is
+        ∙ sym (ap (λ (r : Reply). r .answer) reply-is)
+
+  pub buffer-is : (order : List ℕ) → order ≡ bestTried G tried ts .order → order ≡ orderReply asked ts minute budget .buffer
+  buffer-is order e = e ∙ ap (λ (r : Rated). r .order) best-is ∙ sym (ap (λ (r : Reply). r .buffer) reply-is)

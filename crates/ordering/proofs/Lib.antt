@@ -1,0 +1,15 @@
+pub mod ListLaws
+pub mod TableLoops
+pub mod ArrangeLaws
+pub mod PassLaws
+pub mod BestLaws
+pub mod Admitted
+pub mod Grading
+pub mod Answered
+pub mod CallRules
+pub mod Hits
+pub mod Offsets
+pub mod Along
+pub mod ShortWay
+pub mod TableLaw
+pub mod Waiting

@@ -1,0 +1,30 @@
+-- `ordering::best::grants_of` meets its contract.
+use mathlib.Core.Bool.{Bool, cond}
+use mathlib.Core.Path.{_≡_, sym, ap, _∙_}
+use lib.ListN.{take}
+use Rattle.ordering.specs.Computing.{grantsPassing, grantsFollowing, grantsBy}
+use Rattle.ordering.proofs.best.grants_of.Statement.{statement}
+use Rattle.ordering.proofs.best.grants_of.Tie as tie
+
+returns : tie.Need-returns
+unfolding grantsBy
+returns c =
+    let a = c .before .before .before .args in
+    let o = take (a .n) (a .order) in
+    c .grants-passing .ensures
+    ∙ sym
+    (ap (λ (b : Bool). cond b (grantsPassing (a .known .table) (a .known .shut) o) (grantsFollowing (a .kept .now) (a .known .table) (a .known .shut) o))
+    (c .before .if1 .taken))
+
+returns-2 : tie.Need-returns-2
+unfolding grantsBy
+returns-2 c =
+    let a = c .before .before .before .args in
+    let o = take (a .n) (a .order) in
+    c .grants-following .ensures
+    ∙ sym
+    (ap (λ (b : Bool). cond b (grantsPassing (a .known .table) (a .known .shut) o) (grantsFollowing (a .kept .now) (a .known .table) (a .known .shut) o))
+    (c .before .if1 .left))
+
+pub grants-of-spec : {M : Type 1} → statement M
+grants-of-spec = tie.close (tie.spec (λ c κs. c .before .before .pre) returns (λ c κs. c .before .before .pre) returns-2)

@@ -1,0 +1,97 @@
+-- `ordering::order_call::answer` meets its contract.
+use mathlib.Core.Bool.{true}
+use mathlib.Core.List.{List}
+use mathlib.Core.Path.{_≡_, sym, ap, subst, _∙_}
+use borrow.Author.Needs.{needs}
+use lib.Dec.{leb}
+use lib.ListN.{length, take}
+use native.Mathlib.Omega.{arith}
+use Prim.Native.Nat.{ℕ, _≤_, min}
+use Rattle.record.specs.Paper.{said}
+use Rattle.ranges.proofs.Laws.{first-zero}
+use Rattle.orders.specs.Orders.{factorial, allIn}
+use Rattle.ordering.specs.Computing.{orderPart, grantsBy, BestIn}
+use Rattle.ordering.specs.declared.best.Known.{Known}
+use Rattle.ordering.proofs.ArrangeLaws.{factorial-most}
+use Rattle.ordering.proofs.Admitted.{ListIn, list-in, few-listed, land-all}
+use Rattle.ordering.proofs.Answered.{answer-is, buffer-is}
+use Rattle.ordering.proofs.order_call.answer.Statement.{statement}
+use Rattle.ordering.proofs.order_call.answer.Tie as tie
+
+listed : (c : tie.Start) → let a = c .args in ListIn (a .kept .now) (a .list .now) (a .minute) (a .budget)
+listed c = list-in (c .args .kept .now) (c .args .list .now) (c .args .minute) (c .args .budget) (c .pre .2)
+
+few : (c : tie.Start) → length (c .args .list .now) ≤ 8
+few c = few-listed (c .args .list .now) (listed c .list)
+
+octets-of-requires : tie.Need-octets-of-requires
+octets-of-requires c κs =
+    let start = c .before .before in
+    let a = start .args in
+    (land-all (a .kept .now) (a .list .now) (a .minute) (a .budget) (start .pre .0) (listed start), start .pre .1)
+
+-- How many are tried.
+abbrev start-of : tie.After-numbers-of → tie.Start
+start-of c = c .before .before .before .before .before .before .before .before
+
+tried-few : (c : tie.After-numbers-of) → c .before .smaller .result ≤ factorial (length (start-of c .args .list .now))
+tried-few c = omega (arith, c .before .smaller .ensures, c .before .before .factorial .ensures)
+
+best-of-requires : tie.Need-best-of-requires
+best-of-requires c κs =
+    let start = start-of c in (
+      few start,
+      tried-few c,
+      subst (λ (ts : List ℕ). allIn (λ t. leb t 7) ts ≡ true) (sym (c .numbers-of .ensures)) (listed start .small),
+    )
+
+gap-of-requires : tie.Need-gap-of-requires
+gap-of-requires c κs = let start = start-of (c .before) in (few start, listed start .small)
+
+cast-tried : tie.Need-cast-t18
+cast-tried c =
+    let counted = c .before .before .before in
+    let start = start-of counted in
+    omega (arith, tried-few counted, factorial-most (length (start .args .list .now)) (few start))
+
+returns : tie.Need-returns
+unfolding said orderPart
+returns c files logs undo asking =
+    let gap = c .before in
+    let best = gap .before in
+    let numbered = best .before in
+    let small = numbered .before in
+    let all = small .before in
+    let none = all .before in
+    let shut = none .before in
+    let octets = shut .before in
+    let start = start-of numbered in
+    let a = start .args in
+    let ts = a .list .now in
+    let long = first-zero _ _ _ 0 (asking .admitted) .0 .logs in
+    let known : Known = record { table = octets .octets-of .result; shut = shut .shut-of .result; placed = none .none-waits .result } in
+    let found : BestIn (grantsBy (a .kept .now) known) (small .smaller .result) ts (length ts) (best .best-of .result) =
+    subst (λ (xs : List ℕ). BestIn (grantsBy (a .kept .now) known) (small .smaller .result) xs (length ts) (best .best-of .result))
+    (numbered .numbers-of .ensures) (best .best-of .ensures) in (
+      answer-is (a .kept .now) files logs (a .marks .now) undo ts (a .minute) (a .budget) asking (listed start)
+          _ (octets .octets-of .ensures files logs long) _ (shut .shut-of .ensures logs long) _ (none .none-waits .ensures)
+          _ (all .factorial .ensures) _ (small .smaller .ensures) _ _ (found .grants) (gap .gap-of .ensures),
+      buffer-is (a .kept .now) files logs (a .marks .now) undo ts (a .minute) (a .budget) asking (listed start)
+          _ (octets .octets-of .ensures files logs long) _ (shut .shut-of .ensures logs long) _ (none .none-waits .ensures)
+          _ (all .factorial .ensures) _ (small .smaller .ensures) _ (found .order),
+    )
+
+pub answer-spec : {M : Type 1} → statement M
+answer-spec =
+    tie.close
+    (tie.spec
+    octets-of-requires
+    (λ c κs. c .before .before .before .pre .0)
+    (λ c κs. listed (c .before .before .before .before) .small)
+    (λ c κs. few (c .before .before .before .before .before))
+    (λ c κs. search needs)
+    (λ c κs. few (c .before .before .before .before .before .before .before))
+    best-of-requires
+    gap-of-requires
+    cast-tried
+    returns)

@@ -1,0 +1,73 @@
+-- `ordering::table::octets_of` meets its contract. The loop's invariant: the members passed have their octets.
+use mathlib.Core.List.{List}
+use mathlib.Core.Path.{_≡_, refl, sym, ap, _∙_, subst}
+use borrow.Author.Needs.{needs}
+use lib.ListN.{length, getD, length-set}
+use native.Mathlib.Omega.{arith}
+use Prim.Native.Nat.{ℕ, _-_, _≤_, _<_}
+use Rattle.record.specs.Layout.{transactionOf}
+use Rattle.landing.specs.Landing.{CanLandIn}
+use Rattle.conflicts.specs.Staling.{staleBy}
+use Rattle.ordering.proofs.TableLoops.{FilledFor, filled-for-more}
+use Rattle.ordering.proofs.table.octets_of.Statement.{statement}
+use Rattle.ordering.proofs.table.octets_of.Tie as tie
+
+abbrev Inv-loop : tie.InvT-loop
+Inv-loop kept marks list table₀ k₀ table k =
+    (k ≤ length list) × (length table ≡ 8)
+    × ((files logs : List ℕ) → length logs ≡ 32768 → FilledFor (staleBy kept files logs marks) list table k)
+
+abbrev μ-loop : tie.MeasureT-loop
+μ-loop kept marks list table₀ k₀ table k = length list - k
+
+loop-holds : tie.Need-loop-holds Inv-loop μ-loop
+loop-holds c = (omega arith, refl, λ files logs long j l. absurd (omega arith))
+
+-- The member that was read, whose writes land.
+abbrev loop-of : tie.After-wide-octet Inv-loop μ-loop → tie.At-loop Inv-loop μ-loop
+loop-of c = c .before .before .before
+
+abbrev start-of : tie.After-wide-octet Inv-loop μ-loop → tie.Start Inv-loop μ-loop
+start-of c = loop-of c .before .before .before
+
+lands : (c : tie.After-wide-octet Inv-loop μ-loop) → let t = c .wide-octet .result in let kept = start-of c .args .kept .now in
+    CanLandIn kept t (transactionOf kept t .used .records)
+lands c =
+    let kept = start-of c .args .kept .now in
+    subst (λ (t : ℕ). CanLandIn kept t (transactionOf kept t .used .records)) (sym (c .wide-octet .ensures .0))
+    (start-of c .pre .0 (loop-of c .loop .k) (omega arith))
+
+small : (c : tie.After-wide-octet Inv-loop μ-loop) → c .wide-octet .result < 8
+small c = lands c .small
+
+loop-again : tie.Need-loop-again Inv-loop μ-loop
+loop-again c =
+    let read = c .before in
+    let l = loop-of read .loop in
+    let a = start-of read .args in (
+      omega arith,
+      length-set (l .table) _ _ ∙ l .inv .1,
+      λ files logs long.
+          filled-for-more (staleBy (a .kept .now) files logs (a .marks .now)) (a .list .now) (l .table) (l .k) (read .wide-octet .result)
+          (c .stale-by .result) (omega (arith, small read, l .inv .1)) (read .wide-octet .ensures .0) (c .stale-by .ensures files logs long)
+          (l .inv .2 files logs long),
+    )
+
+returns : tie.Need-returns Inv-loop μ-loop
+returns c files logs long k l = c .before .loop .inv .2 files logs long k (omega arith)
+
+pub octets-of-spec : {M : Type 1} → statement M
+octets-of-spec =
+    tie.close
+    (tie.spec
+    Inv-loop
+    μ-loop
+    loop-holds
+    (λ c. search needs)
+    (λ c κs. search needs)
+    (λ c κs. (lands c, start-of c .pre .1))
+    (λ c. small (c .before))
+    (λ c. search needs)
+    (λ c. search needs)
+    loop-again
+    returns)

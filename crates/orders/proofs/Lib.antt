@@ -1,0 +1,5 @@
+pub mod Members
+pub mod Numbered
+pub mod Best
+pub mod Distinct
+pub mod Computed

@@ -1,0 +1,92 @@
+// Three tasks are ready to commit, and the scheduler wants most of them through. 0 and 1 write to a file whose end 1 and
+// 2 have seen: a commit of 0 makes 1 and 2 stale, a commit of 1 makes 2 stale. The given order is the worst.
+use libc::STDOUT_FILENO;
+use numbers::BUFFER_BYTES;
+use numbers::FILE_BYTES;
+use ordering::Best;
+use ordering::best_order;
+use record::layout::NUMBERS;
+use record::layout::Record;
+use record::outcomes::Outcome;
+
+// The minute of every commit. In a fresh store each file may change at any.
+const MINUTE: usize = 0;
+
+// A store buffer, and that of a grant's old bytes.
+type Buffer = [u8; BUFFER_BYTES];
+
+type Undo = [u8; FILE_BYTES];
+
+fn print(text: &[u8]) {
+    io::write_all(STDOUT_FILENO, text);
+}
+
+fn print_number(text: &[u8], n: u64) {
+    print(text);
+    io::print_decimal(STDOUT_FILENO, n);
+}
+
+// Prints the order of three, its grants, the gap and how many orders were tried.
+fn tell(b: Best) {
+    let o = b.outcome;
+    let order = b.order;
+    match o {
+        Outcome::Ordered(grants, gap, tried) => {
+            print_number(b"order ", order[0] as u64);
+            print_number(b" ", order[1] as u64);
+            print_number(b" ", order[2] as u64);
+            print_number(b": grants ", grants as u64);
+            print_number(b", gap ", gap as u64);
+            print_number(b", orders tried ", tried as u64);
+            print(b"\n");
+        }
+        _ => print(b"refused\n"),
+    }
+}
+
+// Transaction t writes at its own place of the file, through its own descriptor.
+fn writes(
+    kept: &mut Record,
+    files: &Buffer,
+    logs: &mut Buffer,
+    marks: &Buffer,
+    undo: &Undo,
+    t: usize,
+) {
+    store::seek(kept, files, logs, marks, undo, t, t, 4 * t);
+    store::write(kept, files, logs, marks, undo, t, t, b"task");
+}
+
+// Transaction t reads to the end of the file, through another descriptor.
+fn reads(
+    kept: &mut Record,
+    files: &Buffer,
+    logs: &Buffer,
+    marks: &mut Buffer,
+    undo: &Undo,
+    t: usize,
+) {
+    let mut reader = [0u8; 4];
+    store::read(kept, files, logs, marks, undo, t, 8 + t, 4, &mut reader);
+}
+
+// A fresh store whose descriptors all belong to file 0.
+fn main() {
+    let mut kept = [0u16; NUMBERS];
+    let mut files = [0u8; BUFFER_BYTES];
+    let mut logs = [0u8; BUFFER_BYTES];
+    let mut marks = [0u8; BUFFER_BYTES];
+    let undo = [0u8; FILE_BYTES];
+    store::fresh(&mut kept, &mut files, &logs, &mut marks, &undo, &[0u8; 16]);
+    store::begin(&mut kept, &files, &logs, &mut marks, &undo, 0);
+    store::begin(&mut kept, &files, &logs, &mut marks, &undo, 1);
+    store::begin(&mut kept, &files, &logs, &mut marks, &undo, 2);
+    writes(&mut kept, &files, &mut logs, &marks, &undo, 0);
+    writes(&mut kept, &files, &mut logs, &marks, &undo, 1);
+    reads(&mut kept, &files, &logs, &mut marks, &undo, 1);
+    reads(&mut kept, &files, &logs, &mut marks, &undo, 2);
+    let three = [0u8, 1, 2];
+    tell(best_order(&kept, &files, &logs, &marks, &undo, &three, MINUTE, 1));
+    tell(best_order(&kept, &files, &logs, &marks, &undo, &three, MINUTE, 3));
+    tell(best_order(&kept, &files, &logs, &marks, &undo, &three, MINUTE, 6));
+}

@@ -1,5 +1,5 @@
 -- The rules of Commit after each of its tests: no minute of the day, stale, closed, past the end, granted.
-use mathlib.Core.Bool.{Bool, true, false, cond, not, _&&_, _||_, false≢true}
+use mathlib.Core.Bool.{Bool, true, false, cond, not, _&&_, _||_, true≢false}
 use mathlib.Core.List.{List, [], _++_}
 use mathlib.Core.Path.{_≡_, refl, sym, ap, ap₂, _∙_, subst}
 use lib.Count.{ones}
@@ -10,10 +10,10 @@ use borrow.Author.Tests.{eqb-true, eqb-false}
 use native.Mathlib.Omega.{arith}
 use Prim.Native.Nat.{ℕ, zero, suc, _+_, _<_}
 use Rattle.windows.specs.Hours.{minuteIn}
-use Rattle.octets.specs.Bits.{bitsOf}
+use Rattle.octets.specs.Bits.{bitsOf, countOf}
 use Rattle.octets.specs.Parts.{pasted, tabulate}
 use Rattle.octets.specs.Marks.{withoutMarks, contains}
-use Rattle.octets.proofs.SetLaws.{contains-bits, ones-bits}
+use Rattle.octets.proofs.SetLaws.{bits-lt, contains-bits, ones-bits, octets-same}
 use Rattle.octets.proofs.TableLaws.{length-tabulate, table-same}
 use Rattle.counters.specs.declared.Used.{Used}
 use Rattle.record.specs.declared.Undo.{Undo}
@@ -23,7 +23,7 @@ use Rattle.record.specs.declared.outcomes.Refusal.the-variants.{Stale}
 use Rattle.record.specs.declared.outcomes.Outcome.the-variants.{Granted, Refused}
 use Rattle.record.specs.State.{transaction, noTransaction, windowAt, ended, withStale, withOffsets, withLengths, withUndo, withTransactions, withTransaction}
 use Rattle.record.specs.Layout.{storeOf, journalOf, withStaleAt, resetAt, recordLength}
-use Rattle.record.specs.Paper.{Said, plain, pointer, given, granted, pairs, refused, number, said}
+use Rattle.record.specs.Paper.{granted, refused, number, said}
 use Rattle.record.proofs.LayoutLaws.{transaction-of, length-with-stale, store-with-stale, journal-with-stale, store-reset, journal-reset}
 use Rattle.record.proofs.Filled.{filled, filled-set, filled-kept}
 use Rattle.ranges.specs.Ranges.{lengthsBefore, admission}
@@ -296,26 +296,14 @@ module _ (kept files logs marks undo : List ℕ) (t : ℕ) (x : Transaction) (ca
 
 -- ---- the former number
 
--- The octet of an answer.
-octetIn : Said → ℕ
-octetIn plain = 0
-octetIn (pointer o) = 0
-octetIn (given n) = 0
-octetIn (granted n) = n
-octetIn (pairs n) = 0
-octetIn (refused n) = 0
-
-isGranted : Said → Bool
-isGranted plain = false
-isGranted (pointer o) = false
-isGranted (given n) = false
-isGranted (granted n) = true
-isGranted (pairs n) = false
-isGranted (refused n) = false
-
 not-granted : (k n : ℕ) → refused k ≡ granted n → ⊥
-unfolding isGranted
-not-granted k n e = false≢true (ap isGranted e)
+not-granted k n e = true≢false cc
+
+-- An octet is the number of its own bits.
+pub ones-count : (x : ℕ) → x < 256 → ones x ≡ countOf (contains x) 8
+ones-count x h =
+    ap ones (octets-same x (bitsOf (contains x) 8) h (omega (arith, bits-lt (contains x) 8)) (λ u l. sym (contains-bits (contains x) 8 u l)))
+    ∙ ones-bits (contains x) 8
 
 module _ (t : ℕ) (m : Machine) (n : ℕ) where
   abbrev became : ℕ → Bool
@@ -325,12 +313,12 @@ module _ (t : ℕ) (m : Machine) (n : ℕ) where
       → commitDecided t (txnOf (m .store) (m .journal) (m .logs) t) (settingsOf m t) m (commitRefusal daily stale shut placed) .reply .answer
       ≡ granted n
       → n ≡ bitsOf became 8
-  unfolding commitDecided commitRefusal commitGranted octetIn
+  unfolding commitDecided commitRefusal commitGranted
   decided-octet false stale shut placed e = absurd (not-granted 22 n e)
   decided-octet true true shut placed e = absurd (not-granted 13 n e)
   decided-octet true false true placed e = absurd (not-granted 21 n e)
   decided-octet true false false false e = absurd (not-granted 12 n e)
-  decided-octet true false false true e = sym (ap octetIn e)
+  decided-octet true false false true e = cc
 
   passing-octet : (minute k : ℕ) → passing k [] m (commitTurn t minute m) .reply .answer ≡ granted n → n ≡ bitsOf became 8
   unfolding passing turnDown commitTurn

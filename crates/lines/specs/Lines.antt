@@ -62,9 +62,10 @@ unfoldable pub Found : Bool → List ℕ → List ℕ → List ℕ → List ℕ 
 Found true held piece line rest = (endedIn held piece ≡ line ∷ endedIn [] rest) × (heldAfter held piece ≡ heldAfter [] rest)
 Found false held piece line rest = (endedIn held piece ≡ []) × (heldAfter held piece ≡ line)
 
--- Where a look from `from` on ends in a piece of that size: past the line end that it found.
+-- Where a look from `from` on ends in a piece of that size: past the line end that it found, or at the end of the piece.
 pub record Went (r : Look) (from size : ℕ) : Type 0 where
   pub within : r .held ≤ 129
   pub onward : from ≤ r .at
   pub inside : r .at ≤ size
   pub past : r .ended ≡ true → from < r .at
+  pub whole : r .ended ≡ false → r .at ≡ size

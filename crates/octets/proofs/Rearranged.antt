@@ -9,7 +9,7 @@ use lib.ListN.{length, getD}
 use lib.Seq.{ext-getD}
 use borrow.Author.Tests.{ltb-true, lt-ltb}
 use Rattle.octets.specs.Bits.{bit, bitsOf}
-use Rattle.octets.specs.Marks.{byByte, byTransaction, names, rearranged, hasMark, withMark, withoutMarks, contains, SamePairs}
+use Rattle.octets.specs.Marks.{byByte, byTransaction, names, rearranged, hasMark, withMark, withoutMarks, contains, Arranged, SamePairs}
 use Rattle.octets.proofs.MarkLaws.{has-with-mark, has-without-marks}
 use Rattle.octets.proofs.SetLaws.{contains-bits, octets-same}
 use Rattle.octets.proofs.TableLaws.{length-tabulate, getD-tabulate}
@@ -75,3 +75,7 @@ clearing marks t u p hu = has-without-marks t u p (rearranged marks) ∙ ap (λ 
 
 pub same-pairs : SamePairs
 same-pairs = record { size = size; pairs = pairs; only = only; marking = marking; clearing = clearing }
+
+pub arranged : Arranged
+unfolding names bit
+arranged = record { old = (refl, refl); new = (refl, refl); lowestFirst = (refl, refl, refl); byPlace = (refl, refl) }

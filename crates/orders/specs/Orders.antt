@@ -165,8 +165,12 @@ pub record Computed : Type 0 where
   pub oneLeft : (length (triedOf 5 list) ≡ 5) × (gapOf (eqb 8) 5 list 1 ≡ 1)
   pub exact : (length (triedOf 6 list) ≡ 6) × (gapOf (eqb 8) 6 list 1 ≡ 0)
   pub above : (length (triedOf 7 list) ≡ 6) × (gapOf (eqb 8) 7 list 1 ≡ 0)
+  -- What no order is, and what no answer is: a later one with as many grants, and one with fewer.
+  pub notAnOrder : (Arranges (1 ∷ 2 ∷ []) (1 ∷ 1 ∷ []) → ⊥) × (Arranges (1 ∷ 2 ∷ []) (2 ∷ []) → ⊥)
+  pub tooLate : Earliest (λ o. 1) ((1 ∷ 2 ∷ []) ∷ (2 ∷ 1 ∷ []) ∷ []) (record { order = 2 ∷ 1 ∷ []; grants = 1 }) → ⊥
+  pub tooFew : Earliest (λ o. getD o 0 0) ((1 ∷ 2 ∷ []) ∷ (2 ∷ 1 ∷ []) ∷ []) (record { order = 1 ∷ 2 ∷ []; grants = 1 }) → ⊥
   -- 26.
-  pub empty : isList [] ≡ false
+  pub empty : (isList [] ≡ false) × (isList (7 ∷ []) ≡ true)
   pub repeated : isList (8 ∷ 0 ∷ 8 ∷ []) ≡ false
   pub eight : isList (0 ∷ 1 ∷ 2 ∷ 3 ∷ 4 ∷ 5 ∷ 6 ∷ 7 ∷ []) ≡ true
   pub nine : isList (0 ∷ 1 ∷ 2 ∷ 3 ∷ 4 ∷ 5 ∷ 6 ∷ 7 ∷ 8 ∷ []) ≡ false

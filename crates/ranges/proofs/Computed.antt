@@ -1,14 +1,15 @@
--- Check 2 on forged records is computed.
+-- Check 2 on forged records, and the order of the tests, are computed.
 use mathlib.Core.Path.{refl}
 use Rattle.windows.specs.Hours.{minuteIn}
 use Rattle.record.specs.State.{ended, begun}
 use Rattle.record.specs.Journal.{heldAs, held, writeRecordAt, withRecordAt, withRecords}
 use Rattle.ranges.specs.Below.{below, sum}
 use Rattle.ranges.specs.Ranges.{windowIn, standingIn, endsWithin, placeIn, recordIn, lengthsBefore, journalIn, transactionIn, tablesIn, placedIn, landedIn, grantPasses, undoIn, storeIn}
+use Rattle.ranges.specs.Ranges.{unless, sizesIn, firstTests, shared, admission, admissionOfBegin, admissionOfFresh, windowRefusal, admissionOfWindow, noneBegun, admissionOfTakingBack, admissionOfDispatch}
 use Rattle.ranges.specs.Forged.{forged, lengthened, windowed, opened, journal, granted, grantJournal, placed, first, deferred, Forged}
 
 pub forged-records : Forged
-unfolding ended begun heldAs held writeRecordAt withRecordAt withRecords below sum minuteIn windowIn standingIn endsWithin placeIn recordIn lengthsBefore journalIn transactionIn tablesIn placedIn landedIn grantPasses undoIn storeIn forged lengthened windowed opened journal granted grantJournal placed first deferred
+unfolding ended begun heldAs held writeRecordAt withRecordAt withRecords below sum minuteIn windowIn standingIn endsWithin placeIn recordIn lengthsBefore journalIn transactionIn tablesIn placedIn landedIn grantPasses undoIn storeIn unless sizesIn firstTests shared admission admissionOfBegin admissionOfFresh windowRefusal admissionOfWindow noneBegun admissionOfTakingBack admissionOfDispatch forged lengthened windowed opened journal granted grantJournal placed first deferred
 forged-records =
     record {
       file = (refl, refl);
@@ -28,4 +29,11 @@ forged-records =
       grantUnplaced = (refl, refl);
       found = (refl, refl, refl);
       nothingHeld = refl;
+      sizes = (refl, refl, refl, refl, refl, refl, refl, refl, refl);
+      order = (refl, refl, refl, refl);
+      openOrder = (refl, refl, refl, refl, refl, refl);
+      freshOrder = (refl, refl, refl, refl, refl, refl, refl, refl);
+      windowOrder = (refl, refl, refl, refl, refl);
+      backOrder = (refl, refl, refl, refl, refl);
+      dispatchOrder = (refl, refl, refl, refl, refl);
     }

@@ -1,4 +1,5 @@
--- Check 2 on forged records: each breaks one range, beside a record that stands just within it.
+-- Check 2 on forged records: each breaks one range, beside a record that stands just within it; and the order of the tests that calls
+-- share, each on what fails that test and all later ones.
 use mathlib.Core.Bool.{Bool, true, false}
 use mathlib.Core.List.{List, []}
 use mathlib.Core.Path.{_≡_}
@@ -13,7 +14,8 @@ use Rattle.record.specs.declared.Store.{Store}
 use Rattle.record.specs.declared.journal.WriteRecord.{WriteRecord}
 use Rattle.record.specs.State.{noDescriptor, ended, begun, withUsed, withDescriptors, withBegun, withLengths, withWindows, withUndo, noUndo}
 use Rattle.record.specs.Journal.{grantStretch, withRecords}
-use Rattle.ranges.specs.Ranges.{storeIn}
+use Rattle.ranges.specs.Ranges.{storeIn, Sizes, sized, sizesIn, shared, admission, admissionOfBegin, admissionOfFresh}
+use Rattle.ranges.specs.Ranges.{admissionOfWindow, admissionOfTakingBack, admissionOfDispatch}
 
 -- A store whose transaction 7 is x, with the file number of descriptor 15 and the offset of descriptor 15.
 unfoldable pub forged : ℕ → ℕ → Transaction → Store
@@ -71,6 +73,16 @@ first n (suc k) = record { descriptor = 15; place = At 0; length = 1 }
 
 unfoldable pub deferred : ℕ → ℕ → ℕ → WriteRecord
 deferred d n k = record { descriptor = d; place = After 0; length = n }
+
+-- Store buffers of the right lengths; a store within the ranges, in which 7 is open and nothing is held of a grant, and one that holds one.
+abbrev pub whole : Sizes
+whole = sized 32768 32768 32768 4096
+
+abbrev pub sevenOpen : Store
+sevenOpen = forged 7 0 begun
+
+abbrev pub nothingOpen : Bool → Store
+nothingOpen held = granted held 0 0 0 0
 
 pub record Forged : Type 0 where
   -- "files at most 7"
@@ -132,3 +144,39 @@ pub record Forged : Type 0 where
       × (storeIn (granted true 0 0 0 4097) [] ≡ false)
   -- What lies about while nothing is held passes.
   pub nothingHeld : storeIn (granted false 200 9999 9999 9999) (grantJournal (deferred 16 9999) 1) ≡ true
+  -- 1: "a store buffer .. has another length", each of the four one byte too short and one too long.
+  pub sizes :
+      (sizesIn whole ≡ true)
+      × (sizesIn (sized 32767 32768 32768 4096) ≡ false) × (sizesIn (sized 32769 32768 32768 4096) ≡ false)
+      × (sizesIn (sized 32768 32767 32768 4096) ≡ false) × (sizesIn (sized 32768 32769 32768 4096) ≡ false)
+      × (sizesIn (sized 32768 32768 32767 4096) ≡ false) × (sizesIn (sized 32768 32768 32769 4096) ≡ false)
+      × (sizesIn (sized 32768 32768 32768 4095) ≡ false) × (sizesIn (sized 32768 32768 32768 4097) ≡ false)
+  -- "Checked in this order": 1 before 2 before 3; then 4 where the number is not open, at Begin 5 where it is.
+  pub order :
+      (shared (sized 0 0 0 0) (forged 8 0 ended) [] 8 9 ≡ 1) × (shared whole (forged 8 0 ended) [] 8 9 ≡ 2)
+      × (shared whole (forged 7 0 ended) [] 8 9 ≡ 3) × (shared whole (forged 7 0 ended) [] 7 9 ≡ 9)
+  pub openOrder :
+      (admission whole sevenOpen [] 8 ≡ 3) × (admission whole sevenOpen [] 6 ≡ 4) × (admission whole sevenOpen [] 7 ≡ 0)
+      × (admissionOfBegin whole sevenOpen [] 8 ≡ 3) × (admissionOfBegin whole sevenOpen [] 7 ≡ 5)
+      × (admissionOfBegin whole sevenOpen [] 6 ≡ 0)
+  -- Of Fresh 1 before 14; its list of 16 numbers one too short and one too long. It has no 2.
+  pub freshOrder :
+      (admissionOfFresh (sized 32768 32768 32768 4095) (replicate 16 8) ≡ 1) × (admissionOfFresh whole (replicate 15 8) ≡ 1)
+      × (admissionOfFresh whole (replicate 17 8) ≡ 1) × (admissionOfFresh whole (replicate 15 0) ≡ 1)
+      × (admissionOfFresh whole (replicate 17 0) ≡ 1) × (admissionOfFresh whole (set (replicate 16 7) 15 8) ≡ 14)
+      × (admissionOfFresh whole (set (replicate 16 7) 0 8) ≡ 14) × (admissionOfFresh whole (replicate 16 7) ≡ 0)
+  -- 02, F-11: 2, then 6, then 22, for the start and for the end.
+  pub windowOrder :
+      (admissionOfWindow whole (forged 8 0 ended) [] 8 1440 1440 ≡ 2) × (admissionOfWindow whole sevenOpen [] 8 1440 1440 ≡ 6)
+      × (admissionOfWindow whole sevenOpen [] 7 1440 0 ≡ 22) × (admissionOfWindow whole sevenOpen [] 7 0 1440 ≡ 22)
+      × (admissionOfWindow whole sevenOpen [] 7 1439 1439 ≡ 0)
+  -- 02, F-13: "23 when any transaction is open, after 2; 24 .., after 23."
+  pub backOrder :
+      (admissionOfTakingBack (sized 0 0 0 0) (forged 8 0 begun) [] ≡ 1) × (admissionOfTakingBack whole (forged 8 0 begun) [] ≡ 2)
+      × (admissionOfTakingBack whole sevenOpen [] ≡ 23) × (admissionOfTakingBack whole (nothingOpen false) [] ≡ 24)
+      × (admissionOfTakingBack whole (nothingOpen true) [] ≡ 0)
+  -- 02, F-10: "19 when a transaction is open at the start, after 2; 20 when .., after 19."
+  pub dispatchOrder :
+      (admissionOfDispatch (sized 0 0 0 0) (forged 8 0 begun) [] false ≡ 1) × (admissionOfDispatch whole (forged 8 0 begun) [] false ≡ 2)
+      × (admissionOfDispatch whole sevenOpen [] false ≡ 19) × (admissionOfDispatch whole (nothingOpen false) [] false ≡ 20)
+      × (admissionOfDispatch whole (nothingOpen false) [] true ≡ 0)

@@ -6,6 +6,8 @@ pub mod Buffers
 pub mod Closed
 pub mod Lengths
 pub mod Marks
+pub mod Numbers
+pub mod Pairs
 pub mod Ranges
 pub mod Refusals
 pub mod Situations

@@ -3,7 +3,7 @@ use mathlib.Core.Bool.{true, false}
 use mathlib.Core.List.{List, _∷_}
 use mathlib.Core.Path.{_≡_}
 use lib.ListN.{getD}
-use Prim.Native.Nat.{ℕ, _+_, _*_, _/_, _<_}
+use Prim.Native.Nat.{ℕ, _/_}
 use Rattle.windows.specs.Hours.{isClosedAt}
 use Rattle.record.specs.State.{windowAt}
 use Rattle.record.specs.Paper.{granted}
@@ -25,10 +25,10 @@ pub record Spared (m : Machine) (t minute : ℕ) : Type 0 where
   pub bytes :
       (s : Setting) (q : ℕ) → Among s (settingsOf m t) → s .item ≡ byte q → isClosedAt (windowAt (m .store)) minute (q / 4096) ≡ false
   pub kept :
-      (f p : ℕ) → f < 8 → p < 4096 → isClosedAt (windowAt (m .store)) minute f ≡ true
-      → getD (call (commit t minute) m .after .files) (4096 * f + p) 0 ≡ getD (m .files) (4096 * f + p) 0
+      (q : ℕ) → isClosedAt (windowAt (m .store)) minute (q / 4096) ≡ true
+      → getD (call (commit t minute) m .after .files) q 0 ≡ getD (m .files) q 0
   pub length :
-      (f : ℕ) → f < 8 → isClosedAt (windowAt (m .store)) minute f ≡ true
+      (f : ℕ) → isClosedAt (windowAt (m .store)) minute f ≡ true
       → getD (call (commit t minute) m .after .store .lengths) f 0 ≡ getD (m .store .lengths) f 0
 
 abbrev pub ClosedSpared : Type 0

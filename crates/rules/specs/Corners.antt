@@ -1,26 +1,30 @@
--- Corners of paper 01's text and of 02's: each one's calls and the replies expected, in order. They start as the situations do.
+-- Corners of paper 01's text and of requests F-1 to F-8: each one's calls and the replies expected, in order. They start as the situations
+-- do.
 use mathlib.Core.Bool.{Bool, true, false, cond}
 use mathlib.Core.List.{List, [], _∷_, _++_}
 use mathlib.Core.Path.{_≡_}
 use lib.Dec.{eqb}
-use lib.ListN.{length, replicate}
+use lib.ListN.{replicate}
 use Prim.Native.Nat.{ℕ}
+use Rattle.octets.specs.Bits.{bitsOf}
 use Rattle.standings.specs.declared.Standing.{Standing}
-use Rattle.standings.specs.declared.Standing.the-variants.{Untouched, Deferred}
+use Rattle.standings.specs.declared.Standing.the-variants.{Untouched, Placed, Deferred, Known}
 use Rattle.standings.specs.declared.Place.{Place}
 use Rattle.standings.specs.declared.Place.the-variants.{At, After}
-use Rattle.windows.specs.Hours.{window}
+use Rattle.record.specs.declared.Transaction.{Transaction}
+use Rattle.record.specs.State.{begun, withBegun, withStale, withDescriptors, withTransactions}
 use Rattle.record.specs.Paper.{plain, pointer, granted, refused}
 use Rattle.rules.specs.Items.{byte, offset, fileLength, result}
-use Rattle.rules.specs.Messages.{seek, write, getFilePointer, read, Call, begin, on, commit, abort, places, setWindow, takeBack, bestOrder, says}
-use Rattle.rules.specs.Transactions.{Txn, Write}
+use Rattle.rules.specs.Messages.{seek, write, getFilePointer, read, begin, on, abort, places, says}
+use Rattle.rules.specs.Transactions.{Txn, Write, empty}
 use Rattle.rules.specs.Reading.{ownEnd}
 use Rattle.rules.specs.Steps.{Stepped, refuse, accept, step}
 use Rattle.rules.specs.Commits.{settings, fits}
-use Rattle.rules.specs.Plain.{Plain, nothing, found, startPlain, plainReplies}
-use Rattle.rules.specs.Grants.{serialOf, rerun, sameReplies}
+use Rattle.rules.specs.Machine.{Machine, lent}
+use Rattle.rules.specs.Calls.{freshStore, afterCommit, becomesStale, settingsOf, formerNumber}
+use Rattle.rules.specs.Lone.{Lone, lone}
 use Rattle.rules.specs.Setup.{Seen, Exchange, _⇒_, commits, callsOf, Goes, formerNumbers, sighted, committedBytes, beginning}
-use Rattle.rules.specs.Setup.{sightingsOf, gives, refusesWith, lists, best, begins, A, B, C, X, Y, Z, dot}
+use Rattle.rules.specs.Setup.{sightingsOf, gives, refusesWith, lists, begins, A, B, C, X, Y, Z, dot}
 use Rattle.rules.specs.Situations.{toldK, toldL}
 
 -- Before the others, T7 commits two zeros at the front of file 0, and the offset 0 of descriptor 0.
@@ -421,6 +425,18 @@ toldUntouched =
     ∷ commits 0 ⇒ says (granted 0)
     ∷ []
 
+-- At 4,096 there is room for an advance of 0: an Untouched descriptor is settled there, and no Commit is refused with 12 for it.
+unfoldable pub toldAtTheEnd : List Exchange
+toldAtTheEnd =
+    begins
+    ++ on 0 (seek 0 4096) ⇒ says plain
+    ∷ commits 0 ⇒ says (granted 0)
+    ∷ on 1 (getFilePointer 0) ⇒ says (pointer 4096)
+    ∷ on 1 (read 0 0 []) ⇒ gives 0 []
+    ∷ commits 1 ⇒ says (granted 0)
+    ∷ commits 2 ⇒ says (granted 0)
+    ∷ []
+
 -- Placed is never sighted.
 unfoldable pub toldPlacedUnsighted : List Exchange
 toldPlacedUnsighted =
@@ -638,320 +654,91 @@ toldNotRaised =
     ∷ commits 1 ⇒ says (granted 0)
     ∷ []
 
--- 02, F-11: "start in, end out", at minute 1,439 as at every other; 22 "when a minute is above 1,439". T0's Commit stays open until it is
--- granted, and its calls are as before; an empty T1 is refused with 22 too.
-unfoldable pub toldWindow : List Exchange
-toldWindow =
-    begins
-    ++ setWindow 0 600 1439 ⇒ says plain
-    ∷ on 0 (seek 0 0) ⇒ says plain
-    ∷ on 0 (write 0 (A ∷ [])) ⇒ says plain
-    ∷ commit 0 1440 ⇒ says (refused 22)
-    ∷ commit 0 1439 ⇒ says (refused 21)
-    ∷ commit 0 599 ⇒ says (refused 21)
-    ∷ on 0 (write 0 (B ∷ [])) ⇒ says plain
-    ∷ commit 0 600 ⇒ says (granted 0)
-    ∷ begin 0 ⇒ says plain
-    ∷ on 0 (write 8 (C ∷ [])) ⇒ says plain
-    ∷ commit 0 1438 ⇒ says (granted 0)
-    ∷ commit 1 1440 ⇒ says (refused 22)
-    ∷ commit 1 1439 ⇒ says (granted 0)
-    ∷ commit 1 1440 ⇒ says (refused 4)
-    ∷ commit 8 1440 ⇒ says (refused 3)
-    ∷ []
-
--- "a start above the end runs over midnight": from 1,380 to 59, on both sides and at both ends.
-unfoldable pub toldMidnight : List Exchange
-toldMidnight =
-    begins
-    ++ setWindow 0 1380 60 ⇒ says plain
-    ∷ on 0 (write 0 (A ∷ [])) ⇒ says plain
-    ∷ on 1 (write 8 (B ∷ [])) ⇒ says plain
-    ∷ on 2 (write 0 (C ∷ [])) ⇒ says plain
-    ∷ commit 0 60 ⇒ says (refused 21)
-    ∷ commit 0 1379 ⇒ says (refused 21)
-    ∷ commit 0 1380 ⇒ says (granted 0)
-    ∷ commit 1 1439 ⇒ says (granted 0)
-    ∷ commit 2 0 ⇒ says (granted 0)
-    ∷ begin 0 ⇒ says plain
-    ∷ on 0 (write 0 (X ∷ [])) ⇒ says plain
-    ∷ commit 0 59 ⇒ says (granted 0)
-    ∷ []
-
--- "equal ones mean always open", and each file has its own window: T1 writes to file 1, which nobody closed.
-unfoldable pub toldAlways : List Exchange
-toldAlways =
-    begins
-    ++ setWindow 0 720 720 ⇒ says plain
-    ∷ on 0 (write 0 (A ∷ [])) ⇒ says plain
-    ∷ on 1 (write 1 (B ∷ [])) ⇒ says plain
-    ∷ on 2 (write 8 (C ∷ [])) ⇒ says plain
-    ∷ commit 0 720 ⇒ says (granted 0)
-    ∷ setWindow 0 1 2 ⇒ says plain
-    ∷ commit 1 720 ⇒ says (granted 0)
-    ∷ commit 2 720 ⇒ says (refused 21)
-    ∷ setWindow 0 1439 1439 ⇒ says plain
-    ∷ commit 2 719 ⇒ says (granted 0)
-    ∷ []
-
--- 22 "after 4 in Commit", before 13: T0 is stale, is refused with 22, and is open and stale still: "A Commit refused with 21 or 22 keeps
--- its transaction open." 21 "after 13": at a minute of the day it is refused with 13, though it has a byte for a closed file, and ends.
-unfoldable pub toldBadMinute : List Exchange
-toldBadMinute =
-    begins
-    ++ on 0 (getFilePointer 0) ⇒ says (pointer 0)
-    ∷ on 0 (write 0 (A ∷ [])) ⇒ says plain
-    ∷ on 1 (seek 0 5) ⇒ says plain
-    ∷ commits 1 ⇒ says (granted 1)
-    ∷ setWindow 0 1 2 ⇒ says plain
-    ∷ commit 0 1440 ⇒ says (refused 22)
-    ∷ on 0 (getFilePointer 0) ⇒ says (refused 18)
-    ∷ commit 0 3 ⇒ says (refused 13)
-    ∷ commit 0 3 ⇒ says (refused 4)
-    ∷ []
-
--- 21 "before 12": T1's append goes past the file's end. It has no place yet and is looked at all the same.
-unfoldable pub toldClosedFirst : List Exchange
-toldClosedFirst =
-    begins
-    ++ on 0 (seek 0 4096) ⇒ says plain
-    ∷ commits 0 ⇒ says (granted 0)
-    ∷ on 1 (write 0 (A ∷ [])) ⇒ says plain
-    ∷ setWindow 0 1 2 ⇒ says plain
-    ∷ commit 1 3 ⇒ says (refused 21)
-    ∷ commit 1 1 ⇒ says (refused 12)
-    ∷ commit 1 3 ⇒ says (refused 21)
-    ∷ []
-
--- "21 when a byte would go to a closed file": a write of 0 bytes passes, and so does an offset set in a closed file.
-unfoldable pub toldNoByte : List Exchange
-toldNoByte =
-    begins
-    ++ setWindow 0 1 2 ⇒ says plain
-    ∷ on 0 (seek 0 9) ⇒ says plain
-    ∷ on 0 (write 0 []) ⇒ says plain
-    ∷ commit 0 3 ⇒ says (granted 0)
-    ∷ []
-
--- Setting: 6 before 22, 22 for the start and for the end. A refused one sets nothing.
-unfoldable pub toldSetting : List Exchange
-toldSetting =
-    begins
-    ++ setWindow 8 1440 1440 ⇒ says (refused 6)
-    ∷ setWindow 0 1440 2 ⇒ says (refused 22)
-    ∷ setWindow 0 1 1440 ⇒ says (refused 22)
-    ∷ on 0 (write 0 (A ∷ [])) ⇒ says plain
-    ∷ commit 0 3 ⇒ says (granted 0)
-    ∷ setWindow 7 1439 0 ⇒ says plain
-    ∷ on 1 (write 15 (A ∷ [])) ⇒ says plain
-    ∷ commit 1 0 ⇒ says (refused 21)
-    ∷ commit 1 1439 ⇒ says (granted 0)
-    ∷ []
-
--- A window set while T0 is open counts at its Commit, and makes nobody stale.
-unfoldable pub toldMeanwhile : List Exchange
-toldMeanwhile =
-    begins
-    ++ on 0 (getFilePointer 0) ⇒ says (pointer 0)
-    ∷ on 0 (write 0 (A ∷ [])) ⇒ says plain
-    ∷ setWindow 0 600 700 ⇒ says plain
-    ∷ on 0 (getFilePointer 0) ⇒ says (pointer 1)
-    ∷ commit 0 5 ⇒ says (refused 21)
-    ∷ setWindow 0 0 0 ⇒ says plain
-    ∷ commit 0 5 ⇒ says (granted 0)
-    ∷ []
-
--- "the serial order runs with Fresh's windows": file 0 is closed at the start, is opened, and T0 is granted; run again from the windows
--- found it would be refused with 21.
-unfoldable pub closedAtStart : Plain
-closedAtStart = startPlain (λ d. 0) (λ i. 0) (λ f. window 1 2) nothing
-
-unfoldable pub openedThen : List Call
-openedThen = setWindow 0 0 0 ∷ begin 0 ∷ on 0 (write 0 (A ∷ [])) ∷ commit 0 5 ∷ []
-
--- 02, F-13: 24 at once after Fresh, 23 while somebody is open, and 24 again after a taking back. Own writes that overlap go back, with
--- offset and length.
-unfoldable pub toldTakenBack : List Exchange
-toldTakenBack =
-    takeBack ⇒ says (refused 24)
-    ∷ begin 0 ⇒ says plain
-    ∷ on 0 (seek 0 0) ⇒ says plain
-    ∷ on 0 (write 0 (A ∷ B ∷ [])) ⇒ says plain
-    ∷ on 0 (seek 0 1) ⇒ says plain
-    ∷ on 0 (write 0 (C ∷ [])) ⇒ says plain
-    ∷ takeBack ⇒ says (refused 23)
-    ∷ commits 0 ⇒ says (granted 0)
-    ∷ takeBack ⇒ says plain
-    ∷ takeBack ⇒ says (refused 24)
-    ∷ []
-
--- The same before it is taken back.
-unfoldable pub toldOverwritten : List Exchange
-toldOverwritten =
-    begin 0 ⇒ says plain
-    ∷ on 0 (write 0 (A ∷ B ∷ [])) ⇒ says plain
-    ∷ on 0 (seek 0 1) ⇒ says plain
-    ∷ on 0 (write 0 (C ∷ [])) ⇒ says plain
-    ∷ commits 0 ⇒ says (granted 0)
-    ∷ []
-
--- An append that was taken back, and another: after an Abort, and a Commit refused with 22 of one that is then aborted.
-unfoldable pub toldAppendedAgain : List Exchange
-toldAppendedAgain =
-    begin 0 ⇒ says plain
-    ∷ on 0 (write 0 (A ∷ [])) ⇒ says plain
-    ∷ commits 0 ⇒ says (granted 0)
-    ∷ begin 1 ⇒ says plain
-    ∷ on 1 (write 0 (B ∷ [])) ⇒ says plain
-    ∷ commit 1 1440 ⇒ says (refused 22)
-    ∷ abort 1 ⇒ says plain
-    ∷ takeBack ⇒ says plain
-    ∷ begin 0 ⇒ says plain
-    ∷ on 0 (write 0 (C ∷ [])) ⇒ says plain
-    ∷ commits 0 ⇒ says (granted 0)
-    ∷ []
-
--- "whatever the windows": the file is closed by then.
-unfoldable pub toldClosedBack : List Exchange
-toldClosedBack =
-    begin 0 ⇒ says plain
-    ∷ on 0 (write 0 (A ∷ [])) ⇒ says plain
-    ∷ commits 0 ⇒ says (granted 0)
-    ∷ setWindow 0 1 2 ⇒ says plain
-    ∷ takeBack ⇒ says plain
-    ∷ []
-
--- A grant with nothing in it is a grant: it can be taken back, and the one before it no longer.
-unfoldable pub toldEmptyGrant : List Exchange
-toldEmptyGrant =
-    begin 0 ⇒ says plain
-    ∷ on 0 (write 0 (A ∷ [])) ⇒ says plain
-    ∷ commits 0 ⇒ says (granted 0)
-    ∷ begin 0 ⇒ says plain
-    ∷ commits 0 ⇒ says (granted 0)
-    ∷ takeBack ⇒ says plain
-    ∷ takeBack ⇒ says (refused 24)
-    ∷ []
-
--- Commits refused with 13, 12 and 21 leave what is held; 23 while one is open, stale or not. T0's grant set an offset; it goes back.
-unfoldable pub toldRefusedBetween : List Exchange
-toldRefusedBetween =
-    begin 0 ⇒ says plain
-    ∷ begin 1 ⇒ says plain
-    ∷ on 0 (seek 0 4096) ⇒ says plain
-    ∷ on 1 (getFilePointer 0) ⇒ says (pointer 0)
-    ∷ commits 0 ⇒ says (granted 2)
-    ∷ takeBack ⇒ says (refused 23)
-    ∷ commits 1 ⇒ says (refused 13)
-    ∷ begin 1 ⇒ says plain
-    ∷ on 1 (write 0 (A ∷ [])) ⇒ says plain
-    ∷ commits 1 ⇒ says (refused 12)
-    ∷ setWindow 0 1 2 ⇒ says plain
-    ∷ commits 1 ⇒ says (refused 21)
-    ∷ takeBack ⇒ says (refused 23)
-    ∷ abort 1 ⇒ says plain
-    ∷ takeBack ⇒ says plain
-    ∷ []
-
--- "serial order is then over the grants not taken back": a machine that starts with 7s to go back to, and a list that takes back more
--- than it granted.
-unfoldable pub heldAtStart : Plain
-heldAtStart = startPlain (λ d. 0) (λ i. 0) (λ f. window 0 0) (found (record { value = λ i. 7; setter = λ i. 0 }) 0)
-
-unfoldable pub backTwice : List Call
-backTwice = takeBack ∷ begin 0 ∷ commit 0 0 ∷ begin 1 ∷ on 1 (seek 0 1) ∷ commit 1 0 ∷ takeBack ∷ []
-
--- 02, F-14, its refusals in their order: 26 "before 3", also for nine numbers; 3 for any before 4 for any, and both before 22; 25 for a
--- write of no bytes without a place, after 22 and before 27; 27 on either side of the range. A budget above the orders tries all.
-unfoldable pub toldOrderRefused : List Exchange
-toldOrderRefused =
-    bestOrder [] 1440 0 ⇒ says (refused 26)
-    ∷ bestOrder (8 ∷ 8 ∷ []) 1440 0 ⇒ says (refused 26)
-    ∷ bestOrder (0 ∷ 1 ∷ 2 ∷ 3 ∷ 4 ∷ 5 ∷ 6 ∷ 7 ∷ 8 ∷ []) 1440 0 ⇒ says (refused 26)
-    ∷ bestOrder (0 ∷ 8 ∷ []) 1440 0 ⇒ says (refused 3)
-    ∷ begin 0 ⇒ says plain
-    ∷ bestOrder (0 ∷ 1 ∷ []) 1440 0 ⇒ says (refused 4)
-    ∷ on 0 (write 0 []) ⇒ says plain
-    ∷ bestOrder (0 ∷ []) 1440 0 ⇒ says (refused 22)
-    ∷ bestOrder (0 ∷ []) 1439 0 ⇒ says (refused 25)
-    ∷ on 0 (getFilePointer 0) ⇒ says (pointer 0)
-    ∷ bestOrder (0 ∷ []) 1439 0 ⇒ says (refused 27)
-    ∷ bestOrder (0 ∷ []) 1439 40321 ⇒ says (refused 27)
-    ∷ bestOrder (0 ∷ []) 1439 40320 ⇒ best (0 ∷ []) 1 0 1
-    ∷ []
-
--- 25 for a stale one, in any place of the list. The call changes nothing: it goes on being stale and open.
-unfoldable pub toldOrderStale : List Exchange
-toldOrderStale =
-    begins
-    ++ on 1 (getFilePointer 0) ⇒ says (pointer 0)
-    ∷ on 2 (seek 0 5) ⇒ says plain
-    ∷ commits 2 ⇒ says (granted 2)
-    ∷ bestOrder (0 ∷ 1 ∷ []) 0 1 ⇒ says (refused 25)
-    ∷ commits 1 ⇒ says (refused 13)
-    ∷ commits 0 ⇒ says (granted 0)
-    ∷ []
-
--- T0 and T1 turn each other stale. A budget of 1 tries the given order alone and leaves a gap; two are all. T2 is open, has a write without
--- a place and sets what both have sighted, but stands outside the list.
-unfoldable pub toldEachOther : List Exchange
-toldEachOther =
-    begins
-    ++ on 0 (getFilePointer 0) ⇒ says (pointer 0)
-    ∷ on 0 (seek 0 1) ⇒ says plain
-    ∷ on 1 (getFilePointer 0) ⇒ says (pointer 0)
-    ∷ on 1 (seek 0 2) ⇒ says plain
-    ∷ on 2 (write 0 (A ∷ [])) ⇒ says plain
-    ∷ bestOrder (1 ∷ 0 ∷ []) 0 1 ⇒ best (1 ∷ 0 ∷ []) 1 1 1
-    ∷ bestOrder (1 ∷ 0 ∷ []) 0 2 ⇒ best (1 ∷ 0 ∷ []) 1 0 2
-    ∷ commits 0 ⇒ says (granted 2)
-    ∷ []
-
--- A chain: T1 has sighted what T0 sets, T2 what T1 sets. Only the last of the six orders, the given one from its end, has all granted; one
--- order short of it there is a gap.
-unfoldable pub toldChain : List Exchange
-toldChain =
-    begins
-    ++ on 0 (seek 0 1) ⇒ says plain
-    ∷ on 1 (getFilePointer 0) ⇒ says (pointer 0)
-    ∷ on 1 (seek 1 1) ⇒ says plain
-    ∷ on 2 (getFilePointer 1) ⇒ says (pointer 0)
-    ∷ bestOrder (0 ∷ 1 ∷ 2 ∷ []) 0 5 ⇒ best (0 ∷ 1 ∷ 2 ∷ []) 2 1 5
-    ∷ bestOrder (0 ∷ 1 ∷ 2 ∷ []) 0 6 ⇒ best (2 ∷ 1 ∷ 0 ∷ []) 3 0 6
-    ∷ commits 2 ⇒ says (granted 0)
-    ∷ commits 1 ⇒ says (granted 0)
-    ∷ commits 0 ⇒ says (granted 0)
-    ∷ []
-
--- T0 has sighted the length of file 0, which T1 and T2 would both raise; after T1's grant T2 no longer does, but T0 is stale by then.
-unfoldable pub toldRaisedByTwo : List Exchange
-toldRaisedByTwo =
+-- "15 when a write on that file has no place yet ..; 16 when the buffer is shorter than the list, last": A has a place, B has none.
+unfoldable pub toldPlacesOrder : List Exchange
+toldPlacesOrder =
     begins
     ++ on 0 (seek 0 0) ⇒ says plain
-    ∷ on 0 (read 0 1 (dot ∷ [])) ⇒ gives 0 (dot ∷ [])
-    ∷ on 1 (seek 8 3) ⇒ says plain
-    ∷ on 1 (write 8 (A ∷ [])) ⇒ says plain
-    ∷ on 2 (seek 8 2) ⇒ says plain
-    ∷ on 2 (write 8 (B ∷ [])) ⇒ says plain
-    ∷ bestOrder (1 ∷ 2 ∷ 0 ∷ []) 0 4 ⇒ best (1 ∷ 2 ∷ 0 ∷ []) 2 1 4
-    ∷ bestOrder (1 ∷ 2 ∷ 0 ∷ []) 0 6 ⇒ best (0 ∷ 1 ∷ 2 ∷ []) 3 0 6
+    ∷ on 0 (write 0 (A ∷ [])) ⇒ says plain
+    ∷ on 0 (write 8 (B ∷ [])) ⇒ says plain
+    ∷ places 0 0 [] ⇒ says (refused 15)
+    ∷ []
+
+-- GetFilePointer settles its own descriptor alone: 8, of the same file, stays Deferred.
+unfoldable pub toldPointerAlone : List Exchange
+toldPointerAlone =
+    begins
+    ++ on 0 (write 8 (A ∷ [])) ⇒ says plain
+    ∷ on 0 (getFilePointer 0) ⇒ says (pointer 0)
+    ∷ places 0 0 [] ⇒ says (refused 15)
+    ∷ []
+
+-- 7 goes by the bytes that the reader's buffer has, and by nothing else: more than a file holds may be wanted.
+unfoldable pub toldWantedMore : List Exchange
+toldWantedMore =
+    begins
+    ++ on 0 (read 0 4097 (replicate 4097 dot)) ⇒ gives 0 (replicate 4097 dot)
+    ∷ []
+
+-- 11: "Write taking the log's data above 4,096": the data of all writes, through whichever descriptor.
+unfoldable pub toldLogShared : List Exchange
+toldLogShared =
+    begins
+    ++ on 0 (write 0 (A ∷ [])) ⇒ says plain
+    ∷ on 0 (write 1 (replicate 4094 B)) ⇒ says plain
+    ∷ on 0 (write 2 (C ∷ X ∷ [])) ⇒ says (refused 11)
+    ∷ on 0 (write 2 (C ∷ [])) ⇒ says plain
+    ∷ on 0 (write 3 (X ∷ [])) ⇒ says (refused 11)
+    ∷ []
+
+-- F-8, "Each file gets a committed length": file 0 has two bytes, file 1 none, and each is raised and sighted for itself.
+unfoldable pub toldOtherLength : List Exchange
+toldOtherLength =
+    twoZeros
+    ++ begins
+    ++ on 0 (seek 1 0) ⇒ says plain
+    ∷ on 0 (read 1 1 (dot ∷ [])) ⇒ gives 0 (dot ∷ [])
+    ∷ []
+
+unfoldable pub toldOtherLengthStale : List Exchange
+toldOtherLengthStale =
+    toldOtherLength
+    ++ on 1 (seek 8 5) ⇒ says plain
+    ∷ on 1 (write 8 (X ∷ [])) ⇒ says plain
+    ∷ commits 1 ⇒ says (granted 0)
+    ∷ on 2 (write 9 (X ∷ [])) ⇒ says plain
+    ∷ commits 2 ⇒ says (granted 1)
+    ∷ []
+
+-- "The run stops before the first call that meets one of 6 to 12": run alone on what T1 leaves, T0 stops before its GetFilePointer, which
+-- would settle past the end; the second list is empty, the first is not, and T0 is stale.
+unfoldable pub toldStopsAlone : List Exchange
+toldStopsAlone =
+    begins
+    ++ on 0 (write 0 (A ∷ [])) ⇒ says plain
+    ∷ on 0 (getFilePointer 0) ⇒ says (pointer 1)
+    ∷ on 1 (seek 0 4096) ⇒ says plain
     ∷ commits 1 ⇒ says (granted 1)
-    ∷ commits 2 ⇒ says (granted 0)
     ∷ commits 0 ⇒ says (refused 13)
     ∷ []
 
--- T0 has a byte for file 0, closed at minute 0: it is granted in no order, makes nobody stale, and is not counted in the gap.
-unfoldable pub toldClosedByte : List Exchange
-toldClosedByte =
-    begins
-    ++ setWindow 0 1 2 ⇒ says plain
-    ∷ on 0 (seek 0 0) ⇒ says plain
-    ∷ on 0 (write 0 (A ∷ [])) ⇒ says plain
-    ∷ on 1 (getFilePointer 0) ⇒ says (pointer 0)
-    ∷ bestOrder (0 ∷ 1 ∷ []) 0 1 ⇒ best (0 ∷ 1 ∷ []) 1 0 1
-    ∷ bestOrder (0 ∷ 1 ∷ []) 1 1 ⇒ best (0 ∷ 1 ∷ []) 1 1 1
-    ∷ bestOrder (0 ∷ 1 ∷ []) 1 2 ⇒ best (1 ∷ 0 ∷ []) 2 0 2
-    ∷ []
+-- A lone run whose second call is refused: the third is not made, and it did not get through.
+unfoldable pub halfway : Lone
+halfway = lone (λ d. d) (record { value = λ i. 4; setter = λ i. 3 }) (getFilePointer 0 ∷ getFilePointer 16 ∷ getFilePointer 1 ∷ []) empty
+
+-- A store, forged: 0 is to commit with the offset of descriptor 0 set, and 1, 2 and 7 have settled that offset; of them 1 is closed and 2
+-- is stale.
+unfoldable pub standsSo : Standing → Bool → Transaction
+standsSo z dirty = withDescriptors (record { standing = z; dirty = dirty } ∷ []) begun
+
+unfoldable pub settledByThree : Machine
+settledByThree =
+    let x = standsSo (Known 0) false in
+    let ts = standsSo (Placed 5) true ∷ withBegun false x ∷ withStale true x ∷ replicate 4 begun ++ (x ∷ []) in
+    lent (withTransactions ts (freshStore [])) [] [] [] [] []
+
+abbrev pub staleAfter : ℕ → Bool
+staleAfter u = afterCommit 0 [] (settingsOf settledByThree 0) (settledByThree .store) u .stale
 
 -- What situations k and l and the corners come to, together.
 pub record Corners (x : Seen) : Type 0 where
@@ -1006,6 +793,7 @@ pub record Corners (x : Seen) : Type 0 where
       × (x .value (callsOf toldMovedTwice) (offset 0) ≡ 7)
   pub lastPlace : Goes x toldLastPlace
   pub untouched : Goes x toldUntouched × (x .value (callsOf toldUntouched) (offset 1) ≡ 5)
+  pub atTheEnd : Goes x toldAtTheEnd
   pub placedUnsighted : Goes x toldPlacedUnsighted × (sightingsOf (callsOf toldPlacedUnsighted) 0 ≡ [])
   pub fifteen : Goes x toldFifteen × (sightingsOf (callsOf toldFifteen) 0 ≡ sighted (offset 15) 0 ∷ [])
   pub fifteenSet : Goes x toldFifteenSet × (x .value (callsOf toldFifteenSet) (offset 15) ≡ 4096)
@@ -1059,37 +847,20 @@ pub record Corners (x : Seen) : Type 0 where
       × (ownEnd (λ d. 0) 0 (ownWrite (At 3) []) ≡ 0)
       × (ownEnd (λ d. 0) 1 (ownWrite (At 3) (A ∷ B ∷ [])) ≡ 0)
   pub notRaised : Goes x toldNotRaised × (x .value (callsOf toldNotRaised) (fileLength 0) ≡ 2)
-  pub window : Goes x toldWindow × (beginning (x .value (callsOf toldWindow)) 0 3 ≡ C ∷ B ∷ 0 ∷ [])
-  pub midnight : Goes x toldMidnight × (beginning (x .value (callsOf toldMidnight)) 0 3 ≡ B ∷ C ∷ X ∷ [])
-  pub alwaysOpen : Goes x toldAlways
-  pub badMinute : Goes x toldBadMinute
-  pub closedFirst : Goes x toldClosedFirst × (x .value (callsOf toldClosedFirst) (fileLength 0) ≡ 0)
-  pub noByte : Goes x toldNoByte × (x .value (callsOf toldNoByte) (offset 0) ≡ 9) × (x .value (callsOf toldNoByte) (fileLength 0) ≡ 0)
-  pub setting : Goes x toldSetting
-  pub meanwhile : Goes x toldMeanwhile
-  pub freshWindows :
-      let s = serialOf openedThen closedAtStart in
-      (length (s .grants) ≡ 1) × (plainReplies (rerun (s .grants)) (s .start) ≡ sameReplies (s .grants))
-  pub takenBack :
-      Goes x toldTakenBack
-      × (beginning (x .value (callsOf toldTakenBack)) 0 2 ≡ 0 ∷ 0 ∷ [])
-      × (x .value (callsOf toldTakenBack) (offset 0) ≡ 0)
-      × (x .value (callsOf toldTakenBack) (fileLength 0) ≡ 0)
-  pub overwritten : Goes x toldOverwritten × (beginning (x .value (callsOf toldOverwritten)) 0 2 ≡ A ∷ C ∷ [])
-  pub appendedAgain :
-      Goes x toldAppendedAgain
-      × (beginning (x .value (callsOf toldAppendedAgain)) 0 2 ≡ C ∷ 0 ∷ [])
-      × (x .value (callsOf toldAppendedAgain) (offset 0) ≡ 1)
-  pub closedBack : Goes x toldClosedBack × (beginning (x .value (callsOf toldClosedBack)) 0 1 ≡ 0 ∷ [])
-  pub emptyGrant : Goes x toldEmptyGrant × (beginning (x .value (callsOf toldEmptyGrant)) 0 1 ≡ A ∷ [])
-  pub refusedBetween : Goes x toldRefusedBetween × (x .value (callsOf toldRefusedBetween) (offset 0) ≡ 0)
-  pub startGoesBack :
-      let s = serialOf backTwice heldAtStart in
-      (length (s .grants) ≡ 1) × (s .start .committed .value (offset 0) ≡ 7)
-      × (plainReplies (rerun (s .grants)) (s .start) ≡ sameReplies (s .grants))
-  pub orderRefused : Goes x toldOrderRefused
-  pub orderStale : Goes x toldOrderStale
-  pub eachOther : Goes x toldEachOther
-  pub chain : Goes x toldChain
-  pub raisedByTwo : Goes x toldRaisedByTwo
-  pub closedByte : Goes x toldClosedByte
+  pub placesOrder : Goes x toldPlacesOrder
+  pub pointerAlone : Goes x toldPointerAlone × (sightingsOf (callsOf toldPointerAlone) 0 ≡ sighted (offset 0) 0 ∷ [])
+  pub wantedMore : Goes x toldWantedMore
+  pub logShared : Goes x toldLogShared
+  pub otherLength : Goes x toldOtherLength × (sightingsOf (callsOf toldOtherLength) 0 ≡ sighted (fileLength 1) 0 ∷ [])
+  pub otherLengthStale :
+      Goes x toldOtherLengthStale
+      × (x .value (callsOf toldOtherLengthStale) (fileLength 0) ≡ 6)
+      × (x .value (callsOf toldOtherLengthStale) (fileLength 1) ≡ 1)
+  pub stopsAlone : Goes x toldStopsAlone
+  pub stopsHalfway :
+      (halfway .through ≡ false) × (halfway .replies ≡ says (pointer 4) ∷ []) × (halfway .seen ≡ sighted (offset 0) 3 ∷ [])
+      × (halfway .txn .standing 1 ≡ Untouched)
+  -- "Every other open transaction that has sighted .. is stale from then on", and the answer has those "not so before": 7 alone.
+  pub threeSettled :
+      (staleAfter 0 ≡ false) × (staleAfter 1 ≡ false) × (staleAfter 2 ≡ true) × (staleAfter 3 ≡ false) × (staleAfter 7 ≡ true)
+      × (bitsOf (becomesStale 0 [] (settingsOf settledByThree 0) (settledByThree .store)) 8 ≡ 128) × (formerNumber 0 settledByThree ≡ 1)

@@ -1,31 +1,42 @@
 -- Demand 1, beside its wording: "Every call .. ends in its result or one of fourteen refusals (02 adds more), each under its written
 -- condition only. A refusal changes no buffer and no record, save that a commit refused as stale (13) ends its transaction as an abort
--- does." (The conditions are those of the rules: ranges/specs/Ranges.antt, Steps.antt, Commits.antt.)
-use mathlib.Core.Bool.{Bool, true, not, _&&_}
-use mathlib.Core.List.{List}
+-- does." (The conditions are those of the rules: ranges/specs/Ranges.antt, Steps.antt, Commits.antt, Coverage.antt, Ordering.antt.)
+use mathlib.Core.Bool.{true}
+use mathlib.Core.List.{List, [], _∷_}
 use mathlib.Core.Path.{_≡_}
-use lib.Dec.{leb}
-use Prim.Native.Nat.{ℕ, _≤_}
+use Prim.Native.Nat.{ℕ}
 use Rattle.record.specs.declared.outcomes.Refusal.the-variants.{Stale}
 use Rattle.record.specs.declared.outcomes.Outcome.{Outcome}
-use Rattle.record.specs.Paper.{number, refusals, refused, said}
-use Rattle.rules.specs.Messages.{Call, commit, abort, bufferOfCall}
+use Rattle.record.specs.Paper.{number, refused, said}
+use Rattle.orders.specs.Orders.{isIn}
+use Rattle.rules.specs.Messages.{seek, write, getFilePointer, read, Call, begin, on, commit, abort, places, setWindow, takeBack}
+use Rattle.rules.specs.Messages.{bestOrder, bufferOfCall}
 use Rattle.rules.specs.Machine.{Machine}
 use Rattle.rules.specs.Calls.{fresh, call}
 use Rattle.rules.specs.Promises.{Meets}
 
--- The numbers of the refusals of calls; 19 and 20 are the dispatcher's (rounds/specs/Dispatch.antt).
-abbrev pub isNumber : ℕ → Bool
-isNumber n = leb n refusals && not (leb 19 n && leb n 20)
+-- The refusals of each call, in the order of its tests. (The dispatcher's are rounds/specs/Dispatch.antt.)
+unfoldable pub refusalsOf : Call → List ℕ
+refusalsOf (begin t) = 1 ∷ 2 ∷ 3 ∷ 5 ∷ []
+refusalsOf (on t (seek d v)) = 1 ∷ 2 ∷ 3 ∷ 4 ∷ 6 ∷ 8 ∷ []
+refusalsOf (on t (write d bytes)) = 1 ∷ 2 ∷ 3 ∷ 4 ∷ 6 ∷ 9 ∷ 10 ∷ 11 ∷ []
+refusalsOf (on t (getFilePointer d)) = 1 ∷ 2 ∷ 3 ∷ 4 ∷ 6 ∷ 18 ∷ 12 ∷ []
+refusalsOf (on t (read d n buffer)) = 1 ∷ 2 ∷ 3 ∷ 4 ∷ 6 ∷ 18 ∷ 7 ∷ 12 ∷ []
+refusalsOf (commit t minute) = 1 ∷ 2 ∷ 3 ∷ 4 ∷ 22 ∷ 13 ∷ 21 ∷ 12 ∷ []
+refusalsOf (abort t) = 1 ∷ 2 ∷ 3 ∷ 4 ∷ []
+refusalsOf (places t f out) = 1 ∷ 2 ∷ 3 ∷ 4 ∷ 6 ∷ 15 ∷ 16 ∷ []
+refusalsOf (setWindow f start end) = 1 ∷ 2 ∷ 6 ∷ 22 ∷ []
+refusalsOf takeBack = 1 ∷ 2 ∷ 23 ∷ 24 ∷ []
+refusalsOf (bestOrder ts minute budget) = 1 ∷ 2 ∷ 26 ∷ 3 ∷ 4 ∷ 22 ∷ 25 ∷ 27 ∷ []
 
-abbrev pub IsRefusal : ℕ → Type 0
-IsRefusal n = (1 ≤ n) × (isNumber n ≡ true)
+abbrev pub refusalsOfFresh : List ℕ
+refusalsOfFresh = 1 ∷ 14 ∷ []
 
 -- On any record and any buffers m, with any numbers.
 pub record Demand1On (m : Machine) : Type 0 where
-  -- "one of fourteen refusals (02 adds more)"
-  pub known : (c : Call) (n : ℕ) → call c m .reply .answer ≡ refused n → IsRefusal n
-  pub freshKnown : (numbers : List ℕ) (n : ℕ) → fresh numbers m .reply .answer ≡ refused n → IsRefusal n
+  -- "one of fourteen refusals (02 adds more)": one of the call's own.
+  pub known : (c : Call) (n : ℕ) → call c m .reply .answer ≡ refused n → isIn n (refusalsOf c) ≡ true
+  pub freshKnown : (numbers : List ℕ) (n : ℕ) → fresh numbers m .reply .answer ≡ refused n → isIn n refusalsOfFresh ≡ true
   -- "A refusal changes no buffer and no record"
   pub leaves :
       (c : Call) (n : ℕ) → call c m .reply .answer ≡ refused n → (n ≡ number Stale → ⊥)
@@ -42,11 +53,15 @@ Demand1 = (m : Machine) → Demand1On m
 
 -- Demand 1 about the code: a call that kept its promise, with outcome o, and left record, buffers and reader's buffer.
 pub record RefusedByCode (c : Call) (m : Machine) (n : ℕ) (after : Machine) (reader : List ℕ) : Type 0 where
-  pub known : IsRefusal n
+  pub known : isIn n (refusalsOf c) ≡ true
   pub leaves : (n ≡ number Stale → ⊥) → (after ≡ m) × (reader ≡ bufferOfCall c)
   pub ends : n ≡ number Stale → (t : ℕ) × (minute : ℕ) × (c ≡ commit t minute) × (after ≡ call (abort t) m .after)
 
-abbrev pub Demand1OfCode : Type 0
-Demand1OfCode =
-    (c : Call) (m : Machine) (o : Outcome) (after : Machine) (reader : List ℕ) (n : ℕ)
-    → Meets (call c m) o after reader → said o ≡ refused n → RefusedByCode c m n after reader
+pub record Demand1OfCode : Type 0 where
+  pub calls :
+      (c : Call) (m : Machine) (o : Outcome) (after : Machine) (reader : List ℕ) (n : ℕ)
+      → Meets (call c m) o after reader → said o ≡ refused n → RefusedByCode c m n after reader
+  -- Of Fresh: "the record at hand, which a refused Fresh hands back".
+  pub fresh :
+      (numbers : List ℕ) (m : Machine) (o : Outcome) (after : Machine) (n : ℕ)
+      → Meets (fresh numbers m) o after [] → said o ≡ refused n → (isIn n refusalsOfFresh ≡ true) × (after ≡ m)

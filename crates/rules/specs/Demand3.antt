@@ -5,8 +5,8 @@ use mathlib.Core.List.{List, [], _∷_, _++_, map}
 use mathlib.Core.Logic.{_↔_}
 use mathlib.Core.Path.{_≡_}
 use lib.ListN.{getD}
-use Prim.Native.Nat.{ℕ, _≤_, _<_}
-use Rattle.octets.specs.Marks.{contains}
+use Prim.Native.Nat.{ℕ, _≤_}
+use Rattle.octets.specs.Bits.{bitsOf}
 use Rattle.record.specs.declared.outcomes.Outcome.{Outcome}
 use Rattle.record.specs.declared.outcomes.Refusal.the-variants.{Stale, NoSuchMinute}
 use Rattle.record.specs.State.{transaction}
@@ -56,14 +56,14 @@ pub record Holds (m₀ : Machine) (p₀ : Plain) (cs : List Call) (m : Machine) 
   -- "a commit by an open transaction is not refused as stale EXACTLY when its two lists of sightings on 01's plain machine are
   -- equal". 02, F-11: "A Commit refused with 22 stands outside the comparison of the two lists."
   pub staleness :
-      (t minute : ℕ) (r : Running) → t ≤ 7 → p .slots t ≡ running r
+      (t minute : ℕ) (r : Running) → p .slots t ≡ running r
       → (call (commit t minute) m .reply .answer ≡ refused (number NoSuchMinute) → ⊥)
       → (call (commit t minute) m .reply .answer ≡ refused (number Stale) → ⊥) ↔ (firstList r ≡ secondList p r)
   -- F-4, "an octet with bit t (worth 2 to the power t) for each transaction that this commit made stale and that was not so before":
-  -- bit u is 1 exactly for "the other open ones whose two lists were equal before that commit and aren't after it".
+  -- the bits of "the other open ones whose two lists were equal before that commit and aren't after it", and no others.
   pub octet :
       (t minute n : ℕ) → call (commit t minute) m .reply .answer ≡ granted n
-      → (n < 256) × ((u : ℕ) → u < 8 → contains n u ≡ becameStale t p (plainCall (commit t minute) p .after) u)
+      → n ≡ bitsOf (becameStale t p (plainCall (commit t minute) p .after)) 8
   -- "the granted transactions, run again alone in grant order from the same fresh state with all their accepted calls, meet no
   -- refusal, give the same answers and bytes": the list of calls that does so gives on the plain machine the replies that they had.
   -- F-11: "the serial order runs with Fresh's windows". F-13: "serial order is then over the grants not taken back."

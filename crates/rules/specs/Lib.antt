@@ -31,13 +31,15 @@ pub mod Grants
 pub mod Demand1
 pub mod Demand3
 pub mod Age
+pub mod Pairs
 pub mod Buffers
 pub mod Lengths
 pub mod Closed
 pub mod Splitting
 pub mod TakingBack
 pub mod BestOrder
--- The situations and corners of paper 01.
+-- The situations, and corners of both papers.
 pub mod Setup
 pub mod Situations
 pub mod Corners
+pub mod LaterCorners

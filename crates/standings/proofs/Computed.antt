@@ -16,4 +16,7 @@ rows =
       pointers = (refl, refl, refl);
       set = (refl, refl, refl, refl, refl, refl, refl, refl, refl);
       sighted = (refl, refl, refl, refl, refl);
+      advances = (refl, refl, refl, refl, refl);
+      waits = (refl, refl, refl, refl, refl);
+      places = (refl, refl);
     }

@@ -4,7 +4,7 @@ use mathlib.Core.Path.{_≡_}
 use Rattle.standings.specs.declared.Standing.the-variants.{Untouched, Placed, Deferred, Moved, Known}
 use Rattle.standings.specs.declared.Place.the-variants.{At, After}
 use Rattle.standings.specs.Table.{afterSeek, afterWrite, afterRead, pointerSettles, readSettles, settled, offsetOf, writePlace}
-use Rattle.standings.specs.Table.{isTouched, finalOffset, isKnown}
+use Rattle.standings.specs.Table.{advance, isTouched, finalOffset, isKnown, mayWait, placeNumber}
 
 -- "Seek v": v is 9. "Write n", "Read": n is 2. Settled at committed offset 5; a write lies at its place or after its advance.
 pub record Rows : Type 0 where
@@ -43,3 +43,10 @@ pub record Rows : Type 0 where
   pub sighted :
       (isKnown Untouched ≡ false) × (isKnown (Placed 3) ≡ false) × (isKnown (Deferred 4) ≡ false) × (isKnown (Moved 4 3) ≡ false)
       × (isKnown (Known 3) ≡ true)
+  -- The advance that each carries, 0 where it carries none; and under which a record may wait for its place.
+  pub advances :
+      (advance Untouched ≡ 0) × (advance (Placed 3) ≡ 0) × (advance (Deferred 4) ≡ 4) × (advance (Moved 4 3) ≡ 4) × (advance (Known 3) ≡ 0)
+  pub waits :
+      (mayWait Untouched ≡ false) × (mayWait (Placed 3) ≡ false) × (mayWait (Deferred 4) ≡ true) × (mayWait (Moved 4 3) ≡ true)
+      × (mayWait (Known 3) ≡ false)
+  pub places : (placeNumber (At 3) ≡ 3) × (placeNumber (After 4) ≡ 4)

@@ -56,6 +56,8 @@ unfoldable pub twice : List Landing
 twice = landing 0 (1 ∷ []) ∷ landing 0 (4 ∷ []) ∷ []
 
 pub record Computed : Type 0 where
+  -- They lie inside a buffer of 3 bytes or of 2, not of 1.
+  pub inside : Inside 3 (map spanOf overlapping) × Inside 2 (map spanOf overlapping) × (Inside 1 (map spanOf overlapping) → ⊥)
   pub files : landAll overlapping (0 ∷ 0 ∷ 0 ∷ []) ≡ 65 ∷ 67 ∷ 0 ∷ []
   pub old : oldBytes overlapping (0 ∷ 0 ∷ 0 ∷ []) ≡ 0 ∷ 0 ∷ 66 ∷ []
   pub back : putBack (map spanOf overlapping) (0 ∷ 0 ∷ 66 ∷ 9 ∷ []) (65 ∷ 67 ∷ 0 ∷ []) ≡ 0 ∷ 0 ∷ 0 ∷ []

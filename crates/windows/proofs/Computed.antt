@@ -9,5 +9,6 @@ hours =
       minutes = (refl, refl);
       day = (refl, refl, refl, refl);
       night = (refl, refl, refl, refl, refl, refl);
+      fresh = (refl, refl, refl, refl);
       always = (refl, refl, refl);
     }

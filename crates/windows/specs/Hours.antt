@@ -45,6 +45,9 @@ pub record Hours : Type 0 where
   pub night :
       (isOpenAt (window 1380 60) 1379 ≡ false) × (isOpenAt (window 1380 60) 1380 ≡ true) × (isOpenAt (window 1380 60) 1439 ≡ true)
       × (isOpenAt (window 1380 60) 0 ≡ true) × (isOpenAt (window 1380 60) 59 ≡ true) × (isOpenAt (window 1380 60) 60 ≡ false)
+  -- "Fresh sets all to 0 and 0", which "mean always open".
+  pub fresh :
+      (freshWindow .start ≡ 0) × (freshWindow .end ≡ 0) × (isOpenAt freshWindow 0 ≡ true) × (isOpenAt freshWindow 1439 ≡ true)
   -- "equal ones mean always open"
   pub always :
       (isOpenAt (window 720 720) 719 ≡ true) × (isOpenAt (window 720 720) 720 ≡ true) × (isOpenAt (window 720 720) 721 ≡ true)

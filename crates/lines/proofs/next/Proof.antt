@@ -1,6 +1,6 @@
 -- `next` meets its contract. The loop's invariant: the lines from i on, with the bytes held now, are those from the start, with the bytes
 -- held then. Assumes nothing.
-use mathlib.Core.Path.{_≡_, refl, ap, _∙_}
+use mathlib.Core.Path.{_≡_, refl, sym, ap, _∙_}
 use mathlib.Core.Bool.{false≢true}
 use mathlib.Core.List.{List}
 use Prim.Native.Nat.{ℕ, _+_, _-_, _≤_, _<_}
@@ -38,7 +38,7 @@ returns c =
     let p = c .before .before .before .before .args .piece .now in
     let s = l .inv .1 .1 .1 .1 in
     let f = stopped (take (l .n) (l .line)) p (l .i) (c .before .before .loop-test .taken) (c .if1 .taken) in
-    ((s .0 ∙ f .0, s .1 ∙ f .1), record { within = omega arith; onward = omega arith; inside = omega arith; past = λ e. omega arith })
+    ((s .0 ∙ f .0, s .1 ∙ f .1), record { within = omega arith; onward = omega arith; inside = omega arith; past = λ e. omega arith; whole = λ e. absurd (false≢true (sym e)) })
 
 slice-write-line : tie.Need-slice-write-line Inv-loop μ-loop
 slice-write-line c = search needs
@@ -85,7 +85,7 @@ returns-2 c =
     let p = c .before .before .args .piece .now in
     let s = l .inv .1 .1 .1 .1 in
     let e = drop-of-length-le p (c .loop-test .left) in
-    ((s .0 ∙ ap (endedIn (take (l .n) (l .line))) e, s .1 ∙ ap (heldAfter (take (l .n) (l .line))) e), record { within = omega arith; onward = omega arith; inside = omega arith; past = λ e. absurd (false≢true e) })
+    ((s .0 ∙ ap (endedIn (take (l .n) (l .line))) e, s .1 ∙ ap (heldAfter (take (l .n) (l .line))) e), record { within = omega arith; onward = omega arith; inside = omega arith; past = λ e. absurd (false≢true e); whole = λ e. omega arith })
 
 pub next-spec : {M : Type 1} → statement M
 next-spec =

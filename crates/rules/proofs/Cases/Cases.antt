@@ -1,7 +1,23 @@
 -- The situations of paper 01 hold of the rules: each is computed.
 use mathlib.Core.Path.{refl}
 use Rattle.rules.specs.Situations.{Starred, filled, toldA, toldB, toldC, toldD, toldE, toldF, toldG, toldH, toldI, toldJ, toldK, toldL}
-use Rattle.rules.specs.Corners.{Corners, twoZeros, ownWrite, toldStaleFirst, toldRefusedSettling, toldUnsighted, toldMoved, toldMovedStale, toldNeighbour, toldNeighbourSet, toldReadNone, toldReadNoneStale, toldReadNoneSets, toldOnlyLooked, mixed, dirtyAfter, readBeside, toldWriteNone, toldTurnedBack, toldStaysOpen, toldStillStale, toldReadsAgain, toldBegunAgain, toldStaleEnded, toldJustBegun, toldNumbers, toldArguments, toldLog, toldOverlap, toldTwoAppends, toldOtherFile, toldKnown, toldPlaced, toldMovedTwice, toldLastPlace, toldUntouched, toldPlacedUnsighted, toldFifteen, toldFifteenSet, toldInOrder, toldKnownOnce, toldSettledAlone, toldPlaces, toldNoPlaceYet, toldOctet, toldNothingGiven, toldNothingGivenStale, toldOwnEnd, toldOwnEndStale, toldFullRead, toldNoneWanted, toldBeyond, toldBeyondSet, toldDeferredEnd, toldNotRaised, toldWindow, toldMidnight, toldAlways, toldBadMinute, toldClosedFirst, toldNoByte, toldSetting, toldMeanwhile, toldTakenBack, toldOverwritten, toldAppendedAgain, toldClosedBack, toldEmptyGrant, toldRefusedBetween, closedAtStart, openedThen, heldAtStart, backTwice, toldOrderRefused, toldOrderStale, toldEachOther, toldChain, toldRaisedByTwo, toldClosedByte}
+use Rattle.rules.specs.Corners.{Corners, twoZeros, toldStaleFirst, toldRefusedSettling, toldUnsighted, toldMoved}
+use Rattle.rules.specs.Corners.{toldMovedStale, toldNeighbour, toldNeighbourSet, toldReadNone, toldReadNoneStale}
+use Rattle.rules.specs.Corners.{toldReadNoneSets, toldOnlyLooked, mixed, dirtyAfter, readBeside, toldWriteNone}
+use Rattle.rules.specs.Corners.{toldTurnedBack, toldStaysOpen, toldStillStale, toldReadsAgain, toldBegunAgain}
+use Rattle.rules.specs.Corners.{toldStaleEnded, toldJustBegun, toldNumbers, toldArguments, toldLog, toldOverlap}
+use Rattle.rules.specs.Corners.{toldTwoAppends, toldOtherFile, toldKnown, toldPlaced, toldMovedTwice, toldLastPlace}
+use Rattle.rules.specs.Corners.{toldUntouched, toldAtTheEnd, toldPlacedUnsighted, toldFifteen, toldFifteenSet, toldInOrder, toldKnownOnce}
+use Rattle.rules.specs.Corners.{toldSettledAlone, toldPlaces, toldNoPlaceYet, toldOctet, toldNothingGiven}
+use Rattle.rules.specs.Corners.{toldNothingGivenStale, toldOwnEnd, toldOwnEndStale, toldFullRead, toldNoneWanted, toldBeyond}
+use Rattle.rules.specs.Corners.{toldBeyondSet, ownWrite, toldDeferredEnd, toldNotRaised, toldPlacesOrder, toldPointerAlone}
+use Rattle.rules.specs.Corners.{toldWantedMore, toldLogShared, toldOtherLength, toldOtherLengthStale, toldStopsAlone}
+use Rattle.rules.specs.Corners.{halfway, standsSo, settledByThree}
+use Rattle.rules.specs.LaterCorners.{LaterCorners, toldWindow, toldMidnight, toldAlways, toldBadMinute, toldClosedFirst}
+use Rattle.rules.specs.LaterCorners.{toldNoByte, toldSetting, toldMeanwhile, closedAtStart, openedThen, toldTakenBack}
+use Rattle.rules.specs.LaterCorners.{toldOverwritten, toldAppendedAgain, toldClosedBack, toldEmptyGrant, toldRefusedBetween}
+use Rattle.rules.specs.LaterCorners.{heldAtStart, backTwice, toldOneOfThree, toldSevenOpen, toldSettersBack, twoWrites}
+use Rattle.rules.specs.LaterCorners.{ofThreeBytes, toldBestOrder, toldOrderRefused, toldOrderClosed, toldEachOther, toldChain, toldRaisedByTwo}
 use Rattle.rules.specs.Setup.{onPlain}
 use Rattle.rules.proofs.Cases.Opened.{opened}
 
@@ -24,7 +40,7 @@ starred =
 
 -- Situations k and l, and corners of the text.
 pub corners : Corners onPlain
-unfolding opened filled twoZeros ownWrite toldK toldL toldStaleFirst toldRefusedSettling toldUnsighted toldMoved toldMovedStale toldNeighbour toldNeighbourSet toldReadNone toldReadNoneStale toldReadNoneSets toldOnlyLooked mixed dirtyAfter readBeside toldWriteNone toldTurnedBack toldStaysOpen toldStillStale toldReadsAgain toldBegunAgain toldStaleEnded toldJustBegun toldNumbers toldArguments toldLog toldOverlap toldTwoAppends toldOtherFile toldKnown toldPlaced toldMovedTwice toldLastPlace toldUntouched toldPlacedUnsighted toldFifteen toldFifteenSet toldInOrder toldKnownOnce toldSettledAlone toldPlaces toldNoPlaceYet toldOctet toldNothingGiven toldNothingGivenStale toldOwnEnd toldOwnEndStale toldFullRead toldNoneWanted toldBeyond toldBeyondSet toldDeferredEnd toldNotRaised toldWindow toldMidnight toldAlways toldBadMinute toldClosedFirst toldNoByte toldSetting toldMeanwhile toldTakenBack toldOverwritten toldAppendedAgain toldClosedBack toldEmptyGrant toldRefusedBetween closedAtStart openedThen heldAtStart backTwice toldOrderRefused toldOrderStale toldEachOther toldChain toldRaisedByTwo toldClosedByte
+unfolding opened filled toldK toldL twoZeros toldStaleFirst toldRefusedSettling toldUnsighted toldMoved toldMovedStale toldNeighbour toldNeighbourSet toldReadNone toldReadNoneStale toldReadNoneSets toldOnlyLooked mixed dirtyAfter readBeside toldWriteNone toldTurnedBack toldStaysOpen toldStillStale toldReadsAgain toldBegunAgain toldStaleEnded toldJustBegun toldNumbers toldArguments toldLog toldOverlap toldTwoAppends toldOtherFile toldKnown toldPlaced toldMovedTwice toldLastPlace toldUntouched toldAtTheEnd toldPlacedUnsighted toldFifteen toldFifteenSet toldInOrder toldKnownOnce toldSettledAlone toldPlaces toldNoPlaceYet toldOctet toldNothingGiven toldNothingGivenStale toldOwnEnd toldOwnEndStale toldFullRead toldNoneWanted toldBeyond toldBeyondSet ownWrite toldDeferredEnd toldNotRaised toldPlacesOrder toldPointerAlone toldWantedMore toldLogShared toldOtherLength toldOtherLengthStale toldStopsAlone halfway standsSo settledByThree
 corners =
     record {
       k = (refl, refl);
@@ -61,6 +77,7 @@ corners =
       movedTwice = (refl, refl, refl, refl);
       lastPlace = refl;
       untouched = (refl, refl);
+      atTheEnd = refl;
       placedUnsighted = (refl, refl);
       fifteen = (refl, refl);
       fifteenSet = (refl, refl);
@@ -80,6 +97,21 @@ corners =
       beyondSet = (refl, refl, refl);
       deferredEnd = (refl, refl, refl, refl, refl);
       notRaised = (refl, refl);
+      placesOrder = refl;
+      pointerAlone = (refl, refl);
+      wantedMore = refl;
+      logShared = refl;
+      otherLength = (refl, refl);
+      otherLengthStale = (refl, refl, refl);
+      stopsAlone = refl;
+      stopsHalfway = (refl, refl, refl, refl);
+      threeSettled = (refl, refl, refl, refl, refl, refl, refl);
+    }
+
+pub later-corners : LaterCorners onPlain
+unfolding opened toldWindow toldMidnight toldAlways toldBadMinute toldClosedFirst toldNoByte toldSetting toldMeanwhile closedAtStart openedThen toldTakenBack toldOverwritten toldAppendedAgain toldClosedBack toldEmptyGrant toldRefusedBetween heldAtStart backTwice toldOneOfThree toldSevenOpen toldSettersBack twoWrites ofThreeBytes toldBestOrder toldOrderRefused toldOrderClosed toldEachOther toldChain toldRaisedByTwo
+later-corners =
+    record {
       window = (refl, refl);
       midnight = (refl, refl);
       alwaysOpen = refl;
@@ -96,10 +128,15 @@ corners =
       emptyGrant = (refl, refl);
       refusedBetween = (refl, refl);
       startGoesBack = (refl, refl, refl);
+      oneOfThree = refl;
+      sevenOpen = refl;
+      settersBack = (refl, refl);
+      kept = (refl, refl, refl, refl);
+      back = (refl, refl, refl, refl, refl);
+      best = refl;
       orderRefused = refl;
-      orderStale = refl;
+      orderClosed = refl;
       eachOther = refl;
       chain = refl;
       raisedByTwo = refl;
-      closedByte = refl;
     }

@@ -1,15 +1,14 @@
 -- What a step can say: an accepted one answers, a refused one leaves everything.
-use mathlib.Core.Bool.{Bool, true, false, cond, not, _&&_, false≢true}
+use mathlib.Core.Bool.{Bool, true, false, cond, _&&_}
 use mathlib.Core.List.{List}
 use mathlib.Core.Path.{_≡_, refl, subst}
-use borrow.Author.Tests.{leb-true, le-leb, lt-leb, eq-eqb}
+use borrow.Author.Tests.{leb-true}
 use native.Mathlib.Omega.{arith}
-use lib.Dec.{leb, ltb, eqb}
-use Prim.Native.Nat.{ℕ, _≤_, min}
-use Rattle.record.specs.Paper.{number, refusals, Said, plain, pointer, given, granted, pairs, ordered, refused}
+use lib.Dec.{leb, ltb}
+use Prim.Native.Nat.{ℕ, _≤_}
+use Rattle.record.specs.Paper.{number, Said, plain, pointer, given, granted, pairs, ordered, refused}
 use Rattle.record.specs.declared.outcomes.Refusal.the-variants.{Stale}
 use Rattle.ranges.proofs.Laws.{and-left, and-right}
-use Rattle.rules.specs.Demand1.{isNumber}
 use Rattle.rules.specs.Items.{fileLength, Values, Prog, done, ask, within, andThen, result}
 use Rattle.rules.specs.Messages.{Op, seek, write, getFilePointer, read}
 use Rattle.rules.specs.Steps.{Stepped, refuse, accept, check, orGivenBack, seekStep, writeStep, pointerStep, readSettled, readStep, step, turnedBack}
@@ -29,22 +28,16 @@ IsAnswer (refused n) = ⊥
 pub answer-not-refused : (a : Said) (n : ℕ) → IsAnswer a → a ≡ refused n → ⊥
 answer-not-refused a n h e = subst IsAnswer e h
 
+pub refused-same : (m n : ℕ) → refused m ≡ refused n → m ≡ n
+refused-same m n e = cc
+
 -- A number of no refusal (0), or of one that leaves everything: any but that of Stale.
 abbrev pub Leaving : ℕ → Type 0
-Leaving n = (isNumber n ≡ true) × (n ≡ number Stale → ⊥)
+Leaving n = n ≡ number Stale → ⊥
 
--- One that a call meets after 1 and 2, tested.
+-- One that a call meets after 1 and 2.
 abbrev pub Later : ℕ → Type 0
 Later n = (3 ≤ n) × Leaving n
-
-pub later : (n : ℕ) → leb 3 n && (isNumber n && not (eqb n (number Stale))) ≡ true → Later n
-later n e =
-    let f = and-right (leb 3 n) _ e in
-    (leb-true 3 n (and-left (leb 3 n) _ e), (and-left (isNumber n) _ f, λ g. other (eqb n (number Stale)) (and-right (isNumber n) _ f) (eq-eqb n (number Stale) g)))
-  where
-    other : (b : Bool) → not b ≡ true → b ≡ true → ⊥
-    other true e g = false≢true e
-    other false e g = false≢true g
 
 abbrev pub Right : Stepped → Type 0
 Right (refuse n) = Later n
@@ -59,69 +52,86 @@ Plainly (refuse n) = OfStep n
 Plainly (accept y a b) = IsAnswer a
 
 plainly-right : (s : Stepped) → Plainly s → Right s
-plainly-right (refuse n) h =
-    let low : leb n refusals ≡ true = le-leb n refusals (omega (arith, h .1)) in
-    let under : leb 19 n ≡ false = lt-leb 19 n (omega (arith, h .1)) in
-    (omega (arith, h .0), (rw (low, under) refl, λ e. omega (arith, h .1)))
+plainly-right (refuse n) h = (omega (arith, h .0), λ e. omega (arith, h .1))
 plainly-right (accept y a b) h = h
 
 of-step : (n : ℕ) → leb 6 n && leb n 12 ≡ true → OfStep n
 of-step n e = (leb-true 6 n (and-left (leb 6 n) _ e), leb-true n 12 (and-right (leb 6 n) _ e))
 
-abbrev pub Always : Prog Stepped → Type 0
-Always (done s) = Plainly s
-Always (ask i f) = (v : ℕ) → Always (f v)
-Always (within g p f) = (b : Bool) → Always (f b)
+-- Whatever is committed, a program of a step ends so: a refusal has the property P.
+module _ (P : ℕ → Type 0) where
+  abbrev pub EndsSo : Stepped → Type 0
+  EndsSo (refuse n) = P n
+  EndsSo (accept y a b) = IsAnswer a
 
-module _ {A : Type 0} where
-  always-then : (p : Prog A) (k : A → Prog Stepped) → ((a : A) → Always (k a)) → Always (andThen p k)
+  abbrev Always : Prog Stepped → Type 0
+  Always (done s) = EndsSo s
+  Always (ask i f) = (v : ℕ) → Always (f v)
+  Always (within g p f) = (b : Bool) → Always (f b)
+
+  always-then : {A : Type 0} → (p : Prog A) (k : A → Prog Stepped) → ((a : A) → Always (k a)) → Always (andThen p k)
   unfolding andThen
   always-then (done a) k h = h a
   always-then (ask i f) k h = λ v. always-then (f v) k h
   always-then (within g p f) k h = λ b. always-then (f b) k h
 
-always-check : (ok : Bool) (n : ℕ) (next : Prog Stepped) → OfStep n → Always next → Always (check ok n next)
-unfolding check
-always-check true n next h a = a
-always-check false n next h a = h
+  always-check : (ok : Bool) (n : ℕ) (next : Prog Stepped) → P n → Always next → Always (check ok n next)
+  unfolding check
+  always-check true n next h a = a
+  always-check false n next h a = h
 
-always-back : (next : Txn → Prog Stepped) → ((y : Txn) → Always (next y)) → (s : Settled) → Always (orGivenBack next s)
-unfolding orGivenBack
-always-back next h past = of-step 12 refl
-always-back next h (all y) = h y
+  always-back : (next : Txn → Prog Stepped) → P 12 → ((y : Txn) → Always (next y)) → (s : Settled) → Always (orGivenBack next s)
+  unfolding orGivenBack
+  always-back next twelve h past = twelve
+  always-back next twelve h (all y) = h y
 
-always-read : (fileOf : ℕ → ℕ) (d n : ℕ) (buffer : List ℕ) (y : Txn) → Always (readSettled fileOf d n buffer y)
-unfolding readSettled
-always-read fileOf d n buffer y = always-then _ _ (λ bytes. tt)
+  always-read : (fileOf : ℕ → ℕ) (d n : ℕ) (buffer : List ℕ) (y : Txn) → Always (readSettled fileOf d n buffer y)
+  unfolding readSettled
+  always-read fileOf d n buffer y = always-then _ _ (λ bytes. tt)
 
-always-step : (fileOf : ℕ → ℕ) (o : Op) (x : Txn) → Always (step fileOf o x)
-unfolding step seekStep writeStep pointerStep readStep
-always-step fileOf (seek d v) x = always-check _ 6 _ (of-step 6 refl) (always-check _ 8 _ (of-step 8 refl) tt)
-always-step fileOf (write d bytes) x =
-    always-check _ 6 _ (of-step 6 refl)
-    (always-check _ 9 _ (of-step 9 refl) (always-check _ 10 _ (of-step 10 refl) (always-check _ 11 _ (of-step 11 refl) tt)))
-always-step fileOf (getFilePointer d) x =
-    always-check _ 6 _ (of-step 6 refl) (always-then _ _ (λ s. always-back _ (λ y. tt) s))
-always-step fileOf (read d n buffer) x =
-    always-check _ 6 _ (of-step 6 refl)
-    (always-check _ 7 _ (of-step 7 refl) (always-then _ _ (λ s. always-back _ (always-read fileOf d n buffer) s)))
+  -- The numbers with which each call's step refuses have the property.
+  abbrev pub Numbers : Op → Type 0
+  Numbers (seek d v) = P 6 × P 8
+  Numbers (write d bytes) = P 6 × P 9 × P 10 × P 11
+  Numbers (getFilePointer d) = P 6 × P 12
+  Numbers (read d n buffer) = P 6 × P 7 × P 12
 
-always-result : (v : Values) (p : Prog Stepped) → Always p → Plainly (result v p)
-unfolding result
-always-result v (done s) h = h
-always-result v (ask i f) h = always-result v (f (v i)) (h (v i))
-always-result v (within g p f) h = chosen (ltb p (v (fileLength g))) (always-result v (f true) (h true)) (always-result v (f false) (h false))
-  where
-    chosen : (b : Bool) → Plainly (result v (f true)) → Plainly (result v (f false)) → Plainly (cond b (result v (f true)) (result v (f false)))
-    chosen true k l = k
-    chosen false k l = l
+  always-step : (fileOf : ℕ → ℕ) (o : Op) (x : Txn) → Numbers o → Always (step fileOf o x)
+  unfolding step seekStep writeStep pointerStep readStep
+  always-step fileOf (seek d v) x h = always-check _ 6 _ (h .0) (always-check _ 8 _ (h .1) tt)
+  always-step fileOf (write d bytes) x h =
+      always-check _ 6 _ (h .0) (always-check _ 9 _ (h .1) (always-check _ 10 _ (h .2) (always-check _ 11 _ (h .3) tt)))
+  always-step fileOf (getFilePointer d) x h =
+      always-check _ 6 _ (h .0) (always-then _ _ (λ s. always-back _ (h .1) (λ y. tt) s))
+  always-step fileOf (read d n buffer) x h =
+      always-check _ 6 _ (h .0)
+      (always-check _ 7 _ (h .1) (always-then _ _ (λ s. always-back _ (h .2) (always-read fileOf d n buffer) s)))
+
+  always-result : (v : Values) (p : Prog Stepped) → Always p → EndsSo (result v p)
+  unfolding result
+  always-result v (done s) h = h
+  always-result v (ask i f) h = always-result v (f (v i)) (h (v i))
+  always-result v (within g p f) h = chosen (ltb p (v (fileLength g))) (always-result v (f true) (h true)) (always-result v (f false) (h false))
+    where
+      chosen : (b : Bool) → EndsSo (result v (f true)) → EndsSo (result v (f false)) → EndsSo (cond b (result v (f true)) (result v (f false)))
+      chosen true k l = k
+      chosen false k l = l
+
+  pub ends-so : (fileOf : ℕ → ℕ) (o : Op) (x : Txn) (v : Values) → Numbers o → EndsSo (result v (step fileOf o x))
+  ends-so fileOf o x v h = always-result v (step fileOf o x) (always-step fileOf o x h)
 
 -- The step of a call.
+of-steps : (o : Op) → Numbers OfStep o
+of-steps (seek d v) = (of-step 6 refl, of-step 8 refl)
+of-steps (write d bytes) = (of-step 6 refl, of-step 9 refl, of-step 10 refl, of-step 11 refl)
+of-steps (getFilePointer d) = (of-step 6 refl, of-step 12 refl)
+of-steps (read d n buffer) = (of-step 6 refl, of-step 7 refl, of-step 12 refl)
+
 pub plain-step : (fileOf : ℕ → ℕ) (o : Op) (x : Txn) (v : Values) → Plainly (result v (step fileOf o x))
-plain-step fileOf o x v = always-result v (step fileOf o x) (always-step fileOf o x)
+plain-step fileOf o x v = ends-so OfStep fileOf o x v (of-steps o)
 
 -- .. turned back or not.
 pub right-step : (fileOf : ℕ → ℕ) (o : Op) (x : Txn) (v : Values) (stale : Bool) → Right (turnedBack stale o (result v (step fileOf o x)))
 right-step fileOf o x v stale =
-    turned-back Right stale o (result v (step fileOf o x)) (later 18 refl)
+    turned-back Right stale o (result v (step fileOf o x)) (omega arith, λ e. omega arith)
     (λ e. plainly-right (result v (step fileOf o x)) (plain-step fileOf o x v))

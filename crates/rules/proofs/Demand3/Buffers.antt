@@ -7,22 +7,25 @@ use lib.Dec.{leb, eqb}
 use lib.ListN.{getD, set}
 use native.Mathlib.Omega.{arith}
 use Prim.Native.Nat.{ℕ, zero, suc, _+_, _≤_}
-use Rattle.octets.specs.Marks.{hasMark, withMark, withoutMarks}
+use Rattle.octets.specs.Bits.{bit}
+use Rattle.octets.specs.Marks.{names, hasMark, withMark, withoutMarks}
 use Rattle.standings.specs.Table.{advance, pointerSettles, offsetOf}
 use Rattle.octets.proofs.MarkLaws.{has-without-marks}
 use Rattle.octets.proofs.TableLaws.{getD-tabulate}
 use Rattle.record.specs.declared.Transaction.{Transaction}
-use Rattle.record.specs.State.{noTransaction, begun, ended, withTransaction}
+use Rattle.record.specs.State.{transaction, noTransaction, begun, ended, withTransaction}
 use Rattle.record.specs.Paper.{Said, plain, pointer, granted, refused}
+use Rattle.ranges.specs.Ranges.{unless, admission}
+use Rattle.ranges.proofs.Laws.{shared-zero}
 use Rattle.rules.specs.Items.{Item, byte, offset, fileLength, Values, Prog, done, andThen, result, asked}
 use Rattle.rules.specs.Transactions.{Txn, settle, Settled, past, all, settling}
 use Rattle.rules.specs.Messages.{Op, seek, write, getFilePointer, read, bufferOf, Call, begin, on, commit, abort, places, setWindow, takeBack, bestOrder}
 use Rattle.rules.specs.Steps.{Stepped, refuse, accept, check, orGivenBack, seekStep, writeStep, pointerStep, step}
 use Rattle.rules.specs.Commits.{Setting, commitRefusal}
-use Rattle.rules.specs.Machine.{Machine, fileOf, values, txnOf}
-use Rattle.rules.specs.Calls.{Turn, answer, turnDown, passing, fresh, freshMachine, reset, beginTurn, abortTurn, logged, marked, served, stepTurn, afterCommit, commitGranted, commitDecided, commitTurn, admitted, call, placesTurn, windowTurn, takeBackTurn, orderTurn}
+use Rattle.rules.specs.Machine.{Machine, sizes, fileOf, values, txnOf, withTxn}
+use Rattle.rules.specs.Calls.{Turn, answer, turnDown, passing, fresh, freshStore, freshMachine, reset, beginTurn, abortTurn, logged, marked, served, stepTurn, afterCommit, commitGranted, commitDecided, commitTurn, admitted, call, placesTurn, windowTurn, takeBackTurn, orderTurn}
 use Rattle.rules.specs.Undo.{keepingFound, takenBack}
-use Rattle.rules.specs.Buffers.{isWrite, isCommit, isTakeBack, touchesMarks, Unmarked, Buffers}
+use Rattle.rules.specs.Buffers.{Unmarked, marksThree, marksLength, UnmarkedTells, Buffers}
 use Rattle.rules.proofs.Serial.Programs.{asked-andThen}
 use Rattle.rules.proofs.Demand3.Answers.{IsAnswer, answer-not-refused, Leaving}
 use Rattle.rules.proofs.Demand3.Refusals.{refused-same, admission-leaving, passing-zero, passing-stale}
@@ -43,11 +46,12 @@ module _ (part : Machine → List ℕ) where
       pick true = e
       pick false = refl
 
-served-logs : (t : ℕ) (o : Op) (m : Machine) (is : List Item) (s : Stepped) → isWrite (on t o) ≡ false → served t o m is s .after .logs ≡ m .logs
-unfolding served turnDown isWrite logged
+served-logs : (t : ℕ) (o : Op) (m : Machine) (is : List Item) (s : Stepped) → ((u d : ℕ) (bytes : List ℕ) → on t o ≡ on u (write d bytes) → ⊥)
+    → served t o m is s .after .logs ≡ m .logs
+unfolding served turnDown logged
 served-logs t (seek d v) m is (refuse n) e = refl
 served-logs t (seek d v) m is (accept y a b) e = refl
-served-logs t (write d bytes) m is s e = absurd (true≢false e)
+served-logs t (write d bytes) m is s e = absurd (e t d bytes refl)
 served-logs t (getFilePointer d) m is (refuse n) e = refl
 served-logs t (getFilePointer d) m is (accept y a b) e = refl
 served-logs t (read d n buffer) m is (refuse k) e = refl
@@ -63,7 +67,7 @@ unfolding reset
 decided-logs t x ss m zero = unfold commitDecided commitGranted keepingFound in refl
 decided-logs t x ss m (suc n) = refused-leaves (λ z. z .logs) t n x ss m refl
 
-call-logs : (c : Call) (m : Machine) → isWrite c ≡ false → call c m .after .logs ≡ m .logs
+call-logs : (c : Call) (m : Machine) → ((t d : ℕ) (bytes : List ℕ) → c ≡ on t (write d bytes) → ⊥) → call c m .after .logs ≡ m .logs
 unfolding call admitted beginTurn abortTurn stepTurn commitTurn answer reset
 call-logs (begin t) m e = passing-leaves (λ x. x .logs) _ [] m (beginTurn t m) refl
 call-logs (on t o) m e = passing-leaves (λ x. x .logs) _ (bufferOf o) m (stepTurn t o m) (served-logs t o m _ _ e)
@@ -74,15 +78,15 @@ call-logs (setWindow f start end) m e = passing-leaves (λ x. x .logs) _ [] m (w
 call-logs takeBack m e = passing-leaves (λ x. x .logs) _ [] m (takeBackTurn m) (unfold takeBackTurn takenBack in refl)
 call-logs (bestOrder ts minute budget) m e = passing-leaves (λ x. x .logs) _ [] m (orderTurn ts minute budget m) (unfold orderTurn in refl)
 
-call-files : (c : Call) (m : Machine) → isCommit c ≡ false → isTakeBack c ≡ false → call c m .after .files ≡ m .files
-unfolding call admitted beginTurn abortTurn stepTurn answer reset isCommit isTakeBack
+call-files : (c : Call) (m : Machine) → ((t minute : ℕ) → c ≡ commit t minute → ⊥) → (c ≡ takeBack → ⊥) → call c m .after .files ≡ m .files
+unfolding call admitted beginTurn abortTurn stepTurn answer reset
 call-files (begin t) m e k = passing-leaves (λ x. x .files) _ [] m (beginTurn t m) refl
 call-files (on t o) m e k = passing-leaves (λ x. x .files) _ (bufferOf o) m (stepTurn t o m) (served-files t o m _ _)
-call-files (commit t minute) m e k = absurd (true≢false e)
+call-files (commit t minute) m e k = absurd (e t minute refl)
 call-files (abort t) m e k = passing-leaves (λ x. x .files) _ [] m (abortTurn t m) refl
 call-files (places t f out) m e k = passing-leaves (λ x. x .files) _ out m (placesTurn t f out m) (unfold placesTurn in refl)
 call-files (setWindow f start end) m e k = passing-leaves (λ x. x .files) _ [] m (windowTurn f start end m) (unfold windowTurn in refl)
-call-files takeBack m e k = absurd (true≢false k)
+call-files takeBack m e k = absurd (k refl)
 call-files (bestOrder ts minute budget) m e k = passing-leaves (λ x. x .files) _ [] m (orderTurn ts minute budget m) (unfold orderTurn in refl)
 
 served-undo : (t : ℕ) (o : Op) (m : Machine) (is : List Item) (s : Stepped) → served t o m is s .after .undo ≡ m .undo
@@ -90,11 +94,11 @@ unfolding served turnDown
 served-undo t o m is (refuse n) = refl
 served-undo t o m is (accept y a b) = refl
 
-call-undo : (c : Call) (m : Machine) → isCommit c ≡ false → call c m .after .undo ≡ m .undo
-unfolding call admitted beginTurn abortTurn stepTurn answer reset isCommit
+call-undo : (c : Call) (m : Machine) → ((t minute : ℕ) → c ≡ commit t minute → ⊥) → call c m .after .undo ≡ m .undo
+unfolding call admitted beginTurn abortTurn stepTurn answer reset
 call-undo (begin t) m e = passing-leaves (λ x. x .undo) _ [] m (beginTurn t m) refl
 call-undo (on t o) m e = passing-leaves (λ x. x .undo) _ (bufferOf o) m (stepTurn t o m) (served-undo t o m _ _)
-call-undo (commit t minute) m e = absurd (true≢false e)
+call-undo (commit t minute) m e = absurd (e t minute refl)
 call-undo (abort t) m e = passing-leaves (λ x. x .undo) _ [] m (abortTurn t m) refl
 call-undo (places t f out) m e = passing-leaves (λ x. x .undo) _ out m (placesTurn t f out m) (unfold placesTurn in refl)
 call-undo (setWindow f start end) m e = passing-leaves (λ x. x .undo) _ [] m (windowTurn f start end m) (unfold windowTurn in refl)
@@ -129,8 +133,8 @@ module _ (t : ℕ) (v : Values) (marks : List ℕ) where
   unfolding asked marked
   done-marks s = refl
 
-  step-marks : (file : ℕ → ℕ) (o : Op) (x : Txn) → touchesMarks (on t o) ≡ false → marked t (asked v (step file o x)) marks ≡ marks
-  unfolding step seekStep writeStep pointerStep touchesMarks
+  step-marks : (file : ℕ → ℕ) (o : Op) (x : Txn) → ((d n : ℕ) (buffer : List ℕ) → o ≡ read d n buffer → ⊥) → marked t (asked v (step file o x)) marks ≡ marks
+  unfolding step seekStep writeStep pointerStep
   step-marks file (seek d n) x e = check-marks _ 6 _ (check-marks _ 8 _ (done-marks _))
   step-marks file (write d bytes) x e =
       check-marks _ 6 _ (check-marks _ 9 _ (check-marks _ 10 _ (check-marks _ 11 _ (done-marks _))))
@@ -149,25 +153,56 @@ module _ (t : ℕ) (v : Values) (marks : List ℕ) where
           ∙ marked-append t (asked v (settling ds x)) (asked v (orGivenBack next (result v (settling ds x)))) marks
           ∙ ap (marked t (asked v (orGivenBack next (result v (settling ds x))))) (settling-marks ds x)
           ∙ after (result v (settling ds x))
-  step-marks file (read d n buffer) x e = absurd (true≢false e)
+  step-marks file (read d n buffer) x e = absurd (e d n buffer refl)
 
 served-marks : (t : ℕ) (o : Op) (m : Machine) (is : List Item) (s : Stepped) → marked t is (m .marks) ≡ m .marks → served t o m is s .after .marks ≡ m .marks
 unfolding served turnDown
 served-marks t o m is (refuse n) e = refl
 served-marks t o m is (accept y a b) e = e
 
-call-marks : (c : Call) (m : Machine) → touchesMarks c ≡ false → call c m .after .marks ≡ m .marks
-unfolding call admitted stepTurn touchesMarks
-call-marks (begin t) m e = absurd (true≢false e)
-call-marks (on t o) m e =
+pub on-marks : (t : ℕ) (o : Op) (m : Machine) → ((d n : ℕ) (buffer : List ℕ) → o ≡ read d n buffer → ⊥) → call (on t o) m .after .marks ≡ m .marks
+unfolding call admitted stepTurn
+on-marks t o m e =
     passing-leaves (λ x. x .marks) _ (bufferOf o) m (stepTurn t o m)
     (served-marks t o m _ _ (step-marks t (values (m .store) (m .files)) (m .marks) (fileOf (m .store)) o (txnOf (m .store) (m .journal) (m .logs) t) e))
-call-marks (commit t minute) m e = absurd (true≢false e)
-call-marks (abort t) m e = absurd (true≢false e)
-call-marks (places t f out) m e = passing-leaves (λ x. x .marks) _ out m (placesTurn t f out m) (unfold placesTurn in refl)
-call-marks (setWindow f start end) m e = passing-leaves (λ x. x .marks) _ [] m (windowTurn f start end m) (unfold windowTurn answer in refl)
-call-marks takeBack m e = passing-leaves (λ x. x .marks) _ [] m (takeBackTurn m) (unfold takeBackTurn takenBack answer in refl)
-call-marks (bestOrder ts minute budget) m e = passing-leaves (λ x. x .marks) _ [] m (orderTurn ts minute budget m) (unfold orderTurn in refl)
+
+call-marks : (c : Call) (m : Machine) → ((t d n : ℕ) (buffer : List ℕ) → c ≡ on t (read d n buffer) → ⊥) → ((t : ℕ) → c ≡ begin t → ⊥)
+    → ((t minute : ℕ) → c ≡ commit t minute → ⊥) → ((t : ℕ) → c ≡ abort t → ⊥) → call c m .after .marks ≡ m .marks
+unfolding call admitted
+call-marks (begin t) m r b c a = absurd (b t refl)
+call-marks (on t o) m r b c a = on-marks t o m (λ d n buffer e. r t d n buffer (ap (on t) e))
+call-marks (commit t minute) m r b c a = absurd (c t minute refl)
+call-marks (abort t) m r b c a = absurd (a t refl)
+call-marks (places t f out) m r b c a = passing-leaves (λ x. x .marks) _ out m (placesTurn t f out m) (unfold placesTurn in refl)
+call-marks (setWindow f start end) m r b c a =
+    passing-leaves (λ x. x .marks) _ [] m (windowTurn f start end m) (unfold windowTurn answer in refl)
+call-marks takeBack m r b c a = passing-leaves (λ x. x .marks) _ [] m (takeBackTurn m) (unfold takeBackTurn takenBack answer in refl)
+call-marks (bestOrder ts minute budget) m r b c a =
+    passing-leaves (λ x. x .marks) _ [] m (orderTurn ts minute budget m) (unfold orderTurn in refl)
+
+-- The files of descriptors.
+served-numbers : (t : ℕ) (o : Op) (m : Machine) (is : List Item) (s : Stepped) → served t o m is s .after .store .filenumbers ≡ m .store .filenumbers
+unfolding served turnDown withTxn withTransaction
+served-numbers t o m is (refuse n) = refl
+served-numbers t o m is (accept y a b) = refl
+
+decided-numbers : (t : ℕ) (x : Txn) (ss : List Setting) (m : Machine) (n : ℕ) → commitDecided t x ss m n .after .store .filenumbers ≡ m .store .filenumbers
+unfolding reset withTransaction
+decided-numbers t x ss m zero = unfold commitDecided commitGranted keepingFound in refl
+decided-numbers t x ss m (suc n) = refused-leaves (λ z. z .store .filenumbers) t n x ss m refl
+
+call-numbers : (c : Call) (m : Machine) → call c m .after .store .filenumbers ≡ m .store .filenumbers
+unfolding call admitted beginTurn abortTurn stepTurn commitTurn answer reset withTransaction
+call-numbers (begin t) m = passing-leaves (λ x. x .store .filenumbers) _ [] m (beginTurn t m) refl
+call-numbers (on t o) m = passing-leaves (λ x. x .store .filenumbers) _ (bufferOf o) m (stepTurn t o m) (served-numbers t o m _ _)
+call-numbers (commit t minute) m = passing-leaves (λ x. x .store .filenumbers) _ [] m (commitTurn t minute m) (decided-numbers t _ _ m _)
+call-numbers (abort t) m = passing-leaves (λ x. x .store .filenumbers) _ [] m (abortTurn t m) refl
+call-numbers (places t f out) m = passing-leaves (λ x. x .store .filenumbers) _ out m (placesTurn t f out m) (unfold placesTurn in refl)
+call-numbers (setWindow f start end) m =
+    passing-leaves (λ x. x .store .filenumbers) _ [] m (windowTurn f start end m) (unfold windowTurn in refl)
+call-numbers takeBack m = passing-leaves (λ x. x .store .filenumbers) _ [] m (takeBackTurn m) (unfold takeBackTurn takenBack in refl)
+call-numbers (bestOrder ts minute budget) m =
+    passing-leaves (λ x. x .store .filenumbers) _ [] m (orderTurn ts minute budget m) (unfold orderTurn in refl)
 
 -- The marks of a transaction that is replaced, or committed.
 cleared : (t : ℕ) (marks : List ℕ) (q : ℕ) → hasMark (withoutMarks t marks) t q ≡ false
@@ -219,24 +254,43 @@ decided-stale t x ss m true false true placed e = let z : _≡_ {A = ℕ} 21 13 
 decided-stale t x ss m true false false true e = absurd (answer-not-refused _ 13 tt e)
 decided-stale t x ss m true false false false e = let z : _≡_ {A = ℕ} 12 13 = refused-same 12 13 e in absurd (omega arith)
 
+-- A granted Commit is of a number up to 7.
+granted-small : (m : Machine) (t minute n : ℕ) → call (commit t minute) m .reply .answer ≡ granted n → t ≤ 7
+unfolding call admitted admission
+granted-small m t minute n e =
+    let z = passing-zero (admission (sizes m) (m .store) (m .journal) t) [] m (commitTurn t minute m) (granted n) tt e in
+    let a = shared-zero (sizes m) (m .store) (m .journal) t (unless (transaction (m .store) t .begun) 4 0) z in
+    omega (arith, a .0 .small)
+
 pub buffers : (m : Machine) → Buffers m
-unfolding call admitted beginTurn abortTurn commitTurn answer begun ended fresh freshMachine
+unfolding call admitted beginTurn abortTurn commitTurn answer begun ended fresh freshMachine freshStore
 buffers m =
     record {
       logs = λ c. call-logs c m;
       freshLogs = λ numbers. passing-leaves (λ x. x .logs) _ [] m _ refl;
+      fileNumbers = λ c. call-numbers c m;
+      freshNumbers = λ numbers e. ap (λ (x : Machine). x .store .filenumbers) (answered _ m _ plain tt e);
       files = λ c. call-files c m;
       undo = λ c. call-undo c m;
       freshUndo = λ numbers. passing-leaves (λ x. x .undo) _ [] m _ refl;
       marks = λ c. call-marks c m;
-      begun = λ t l e. rw (answered _ m (beginTurn t m) plain tt e) (reset-cleared t begun m refl);
-      aborted = λ t l e. rw (answered _ m (abortTurn t m) plain tt e) (reset-cleared t ended m refl);
+      begun = λ t e. rw (answered _ m (beginTurn t m) plain tt e) (reset-cleared t begun m refl);
+      aborted = λ t e. rw (answered _ m (abortTurn t m) plain tt e) (reset-cleared t ended m refl);
       committed =
-          λ t minute n l e.
+          λ t minute n e.
+          let l = granted-small m t minute n e in
           rw (answered _ m (commitTurn t minute m) (granted n) tt e)
           (decided-cleared t _ _ m _ _ _ _ n l (sym (ap (λ (w : Turn). w .reply .answer) (answered-turn _ m (commitTurn t minute m) (granted n) tt e)) ∙ e));
       stale =
-          λ t minute l e.
+          λ t minute e.
           let z = passing-stale _ m (commitTurn t minute m) (admission-leaving _ (m .store) (m .journal) t) e in
           rw (ap (λ (w : Turn). w .after) z) (decided-stale t _ _ m _ _ _ _ (sym (ap (λ (w : Turn). w .reply .answer) z) ∙ e));
+    }
+
+pub unmarked-tells : UnmarkedTells
+unfolding marksThree marksLength freshStore hasMark names bit
+unmarked-tells =
+    record {
+      byte = λ h. true≢false (h .bytes 3);
+      length = λ h. let z : _≡_ {A = ℕ} 1 0 = h .lengths in omega arith;
     }

@@ -262,13 +262,12 @@ spared m sound t minute n e =
     record {
       bytes = λ a q i f. subst (Sparing (windowAt s) minute) f (among-spares (windowAt s) minute a (settingsOf m t) i sparing);
       kept =
-          λ f q l k c.
-          let e : (4096 * f + q) / 4096 ≡ f = omega arith in
-          byte-left (call (commit t minute) m .after) m (4096 * f + q)
-          (ap (λ (y : Values). y (byte (4096 * f + q))) left
-          ∙ landed-at (settingsOf m t) v (byte (4096 * f + q)) (not-touched (windowAt s) minute (4096 * f + q) (ap (isClosedAt (windowAt s) minute) e ∙ c) (settingsOf m t) sparing));
+          λ q c.
+          byte-left (call (commit t minute) m .after) m q
+          (ap (λ (y : Values). y (byte q)) left
+          ∙ landed-at (settingsOf m t) v (byte q) (not-touched (windowAt s) minute q c (settingsOf m t) sparing));
       length =
-          λ f l c.
+          λ f c.
           length-left (call (commit t minute) m .after) m f
           (ap (λ (y : Values). y (fileLength f)) left
           ∙ landed-at (settingsOf m t) v (fileLength f) (length-not-touched (windowAt s) minute (fileOf s) v f c x (p .none)));

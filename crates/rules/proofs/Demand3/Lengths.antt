@@ -17,14 +17,13 @@ use Rattle.ranges.proofs.Laws.{admitted-back, in-range, and-left, and-right}
 use Rattle.rules.specs.Items.{fileLength, Values, result, asked}
 use Rattle.rules.specs.Transactions.{Txn}
 use Rattle.rules.specs.Messages.{Op, bufferOf, Call, begin, on, commit, abort, places, setWindow, takeBack, bestOrder}
-use Rattle.rules.specs.Buffers.{isCommit, isTakeBack}
 use Rattle.rules.specs.Steps.{Stepped, refuse, accept, step, turnedBack}
 use Rattle.rules.specs.Commits.{settings, fits, landed, commitRefusal}
 use Rattle.rules.specs.Machine.{Machine, sizes, fileOf, values, txnOf}
 use Rattle.rules.specs.Undo.{takenBack}
 use Rattle.rules.specs.Calls.{turnDown, passing, takeBackTurn, call, callsAfter}
 use Rattle.rules.specs.Demand3.{FreshlyMade}
-use Rattle.rules.specs.Lengths.{ZeroBeyond, Longer, committedIn, LengthsHold, LengthsAlwaysHold}
+use Rattle.rules.specs.Lengths.{ZeroBeyond, Longer, committedIn, LengthsHold, LengthsAlwaysHold, firstBeyond, LengthsTell}
 use Rattle.rules.proofs.Serial.Sighted.{Held, Seat, vacant, held, Back, none, kept, noneHeld, returned, sightedReturn, sightedBack, Sighted, startSighted, turnedAway, SightedTurn, withSeat, telling, sightedBegin, sightedStepped, sightedOn, granting, sightedCommitted, sightedCommit, sightedAbort, sightedPlaces, windowed, sightedWindow, seated, sightedCall, sightedBestOrder}
 use Rattle.rules.proofs.Serial.Lengths.{commit-longer}
 use Rattle.rules.proofs.View.Shape.{heldBy, seat, backValues, backIn, view, Sound}
@@ -114,11 +113,12 @@ module _ (P : Values → Back → Type 0) (s : Sighted) (now : P (s .value) (s .
       pick true k = k refl
       pick false k = now
 
-  pub kept-call : (c : Call) → (isCommit c ≡ true → grantable ≡ true) → (isTakeBack c ≡ true → backable ≡ true) → At (sightedCall c s .after)
-  unfolding sightedCall isCommit isTakeBack
+  pub kept-call : (c : Call) → ((t minute : ℕ) → c ≡ commit t minute → grantable ≡ true) → (c ≡ takeBack → backable ≡ true)
+      → At (sightedCall c s .after)
+  unfolding sightedCall
   kept-call (begin t) gr bk = kept-seated t [] (sightedBegin t) (λ l. kept-begin t (s .seats t))
   kept-call (on t o) gr bk = kept-seated t (bufferOf o) (sightedOn t o) (λ l. kept-on t o (s .seats t))
-  kept-call (commit t minute) gr bk = kept-seated t [] (sightedCommit t minute) (λ l. kept-commit (gr refl) t minute l (s .seats t) refl)
+  kept-call (commit t minute) gr bk = kept-seated t [] (sightedCommit t minute) (λ l. kept-commit (gr t minute refl) t minute l (s .seats t) refl)
   kept-call (abort t) gr bk = kept-seated t [] (sightedAbort t) (λ l. kept-abort t (s .seats t))
   kept-call (places t f out) gr bk = kept-seated t out (sightedPlaces f out) (λ l. kept-places f out (s .seats t))
   kept-call (setWindow f start end) gr bk = kept-window f start end
@@ -146,17 +146,17 @@ module _ (m : Machine) (sound : Sound m) where
       → ((t : ℕ) (h : Held) → leb t 7 ≡ true → view m .seats t ≡ held h → fits (committedIn m) (h .txn) ≡ true
       → P (landed (settings (fileOf (m .store)) (committedIn m) (h .txn)) (committedIn m)) (kept (committedIn m)))
       → (backable ≡ true → (v : Values) → backIn m ≡ kept v → P v none)
-      → (c : Call) → (isTakeBack c ≡ true → backable ≡ true) → P (committedIn (call c m .after)) (backIn (call c m .after))
+      → (c : Call) → (c ≡ takeBack → backable ≡ true) → P (committedIn (call c m .after)) (backIn (call c m .after))
   unfolding view
   after-call P now backable then back c g =
       subst⁻¹ (λ (z : Sighted). P (z .value) (z .back)) (call-turn c m sound .1)
-      (kept-call P (view m) now true backable (λ e. then) back c (λ e. refl) g)
+      (kept-call P (view m) now true backable (λ e. then) back c (λ u n e. refl) g)
 
-  pub grows-call : (c : Call) → isTakeBack c ≡ false → Longer (committedIn m) (committedIn (call c m .after))
+  pub grows-call : (c : Call) → (c ≡ takeBack → ⊥) → Longer (committedIn m) (committedIn (call c m .after))
   grows-call c e =
       after-call (λ v b. Longer (committedIn m) v) (λ f. omega arith) false
       (λ t h l o e. commit-longer (fileOf (m .store)) (committedIn m) (h .txn)) (λ b. absurd (true≢false (sym b))) c
-      (λ b. absurd (true≢false (sym b ∙ e)))
+      (λ b. absurd (e b))
 
   -- While somebody is open, nothing goes back.
   opened-call : (t : ℕ) → t ≤ 7 → transaction (m .store) t .begun ≡ true → call takeBack m .after ≡ m
@@ -209,3 +209,11 @@ lengths-always-hold numbers m₀ made cs =
     hold-after cs m₀ (f .sound)
     (subst⁻¹ ZeroBeyond (ap (λ (s : Sighted). s .value) (f .same)) (λ g p l e k. refl))
     (subst⁻¹ ZeroBack (ap (λ (s : Sighted). s .back) (f .same)) tt)
+
+pub lengths-tell : LengthsTell
+unfolding firstBeyond
+lengths-tell =
+    record {
+      beyond = λ h. let z : _≡_ {A = ℕ} 1 0 = h 0 3 (omega arith) (omega arith) (omega arith) in absurd (omega arith);
+      shorter = λ h. let z = h 0 in absurd (omega arith);
+    }

@@ -1,29 +1,30 @@
 -- Whose marks a call leaves.
-use mathlib.Core.Bool.{Bool, true, false, cond, _&&_}
+use mathlib.Core.Bool.{Bool, true, false, cond, true≢false}
 use mathlib.Core.List.{List, [], _∷_, _++_}
 use mathlib.Core.Path.{_≡_, refl, sym, ap, _∙_, subst}
 use lib.Dec.{leb, eqb}
 use native.Mathlib.Omega.{arith}
-use borrow.Author.Tests.{leb-true, eqb-false}
+use borrow.Author.Tests.{leb-true}
 use Prim.Native.Nat.{ℕ, zero, suc, _<_}
 use Rattle.octets.specs.Marks.{hasMark, withoutMarks}
 use Rattle.record.specs.declared.Transaction.{Transaction}
 use Rattle.record.specs.State.{transaction, ended}
 use Rattle.ranges.specs.Ranges.{unless, admission}
-use Rattle.rules.specs.Messages.{Op, bufferOf, Call, begin, on, commit, abort, places, setWindow, takeBack, bestOrder}
+use Rattle.rules.specs.Messages.{Op, seek, write, getFilePointer, read, bufferOf, Call, begin, on, commit, abort, places, setWindow, takeBack, bestOrder}
 use Rattle.rules.specs.Steps.{Stepped, refuse, accept, turnedBack}
 use Rattle.rules.specs.Commits.{Setting}
 use Rattle.rules.specs.Transactions.{Txn}
 use Rattle.rules.specs.Machine.{Machine, sizes}
 use Rattle.rules.specs.Undo.{keepingFound, takenBack}
 use Rattle.rules.specs.Calls.{Turn, turnDown, passing, answer, reset, beginTurn, abortTurn, served, stepTurn, commitGranted, commitDecided, commitTurn, placesTurn, windowTurn, takeBackTurn, orderTurn, admitted, call, callsAfter}
-use Rattle.rules.specs.Buffers.{isCallOf, MarksLeft, MarksAlwaysLeft}
+use Rattle.rules.specs.Buffers.{MarksLeft, MarksAlwaysLeft}
 use Rattle.rules.proofs.View.Shape.{Sound}
 use Rattle.rules.proofs.View.Marks.{marked-other}
 use Rattle.rules.proofs.View.Endings.{unmarked-other}
 use Rattle.rules.proofs.View.Accepted.{sightings, sightings-in}
 use Rattle.rules.proofs.View.Admissions.{shared-is}
 use Rattle.rules.proofs.Demand3.Theorem.{calls-agree, fresh-facts}
+use Rattle.rules.proofs.Demand3.Buffers.{on-marks}
 
 module _ (m : Machine) (u q : ℕ) where
   -- The marks of transaction u are left.
@@ -67,17 +68,29 @@ module _ (m : Machine) (u q : ℕ) where
         pick true false k = refl
         pick true true k = k refl refl
 
-    call-left : (c : Call) → isCallOf u c ≡ false → Left (call c m .after)
-    unfolding call isCallOf beginTurn abortTurn answer stepTurn commitTurn placesTurn windowTurn takeBackTurn takenBack keepingFound admitted sightings
-    call-left (begin t) other = passing-left _ [] (beginTurn t m) (reset-left t _ (eqb-false u t other))
-    call-left (on t o) other = admitted-left t (bufferOf o) (stepTurn t o m) (λ small begun. served-left t o small begun (eqb-false u t other) _)
-    call-left (commit t minute) other = passing-left _ [] (commitTurn t minute m) (decided-left t _ _ _ (eqb-false u t other))
-    call-left (abort t) other = passing-left _ [] (abortTurn t m) (reset-left t ended (eqb-false u t other))
-    call-left (places t f out) other = passing-left _ out (placesTurn t f out m) refl
-    call-left (setWindow f start end) other = passing-left _ [] (windowTurn f start end m) refl
-    call-left takeBack other = passing-left _ [] (takeBackTurn m) refl
-    call-left (bestOrder ts minute budget) other = passing-left _ [] (orderTurn ts minute budget m) (unfold orderTurn in refl)
+    -- A call of u itself that is none of the four leaves them too.
+    on-left : (t : ℕ) (o : Op) → ((d n : ℕ) (buffer : List ℕ) → on t o ≡ on u (read d n buffer) → ⊥) → Left (call (on t o) m .after)
+    on-left t (seek d v) r = ap (λ (ms : List ℕ). hasMark ms u q) (on-marks t (seek d v) m (λ e n b k. true≢false cc))
+    on-left t (write d bytes) r = ap (λ (ms : List ℕ). hasMark ms u q) (on-marks t (write d bytes) m (λ e n b k. true≢false cc))
+    on-left t (getFilePointer d) r = ap (λ (ms : List ℕ). hasMark ms u q) (on-marks t (getFilePointer d) m (λ e n b k. true≢false cc))
+    on-left t (read d n buffer) r =
+        unfold call stepTurn sightings in
+        admitted-left t (bufferOf (read d n buffer)) (stepTurn t (read d n buffer) m)
+        (λ small begun. served-left t (read d n buffer) small begun (λ e. r d n buffer (ap (λ (k : ℕ). on k (read d n buffer)) (sym e))) _)
+
+    call-left : (c : Call) → ((d n : ℕ) (buffer : List ℕ) → c ≡ on u (read d n buffer) → ⊥) → (c ≡ begin u → ⊥)
+        → ((minute : ℕ) → c ≡ commit u minute → ⊥) → (c ≡ abort u → ⊥) → Left (call c m .after)
+    unfolding call beginTurn abortTurn answer commitTurn placesTurn windowTurn takeBackTurn takenBack admitted
+    call-left (begin t) r b c a = passing-left _ [] (beginTurn t m) (reset-left t _ (λ e. b (ap begin (sym e))))
+    call-left (on t o) r b c a = on-left t o r
+    call-left (commit t minute) r b c a =
+        passing-left _ [] (commitTurn t minute m) (decided-left t _ _ _ (λ e. c minute (ap (λ (k : ℕ). commit k minute) (sym e))))
+    call-left (abort t) r b c a = passing-left _ [] (abortTurn t m) (reset-left t ended (λ e. a (ap abort (sym e))))
+    call-left (places t f out) r b c a = passing-left _ out (placesTurn t f out m) refl
+    call-left (setWindow f start end) r b c a = passing-left _ [] (windowTurn f start end m) refl
+    call-left takeBack r b c a = passing-left _ [] (takeBackTurn m) refl
+    call-left (bestOrder ts minute budget) r b c a = passing-left _ [] (orderTurn ts minute budget m) (unfold orderTurn in refl)
 
 pub marks-always-left : MarksAlwaysLeft
-marks-always-left numbers m₀ made cs c u q other =
-    call-left (callsAfter cs m₀) u q (calls-agree cs m₀ (fresh-facts numbers m₀ made .sound) .sound) c other
+marks-always-left numbers m₀ made cs c u q =
+    call-left (callsAfter cs m₀) u q (calls-agree cs m₀ (fresh-facts numbers m₀ made .sound) .sound) c

@@ -18,29 +18,26 @@ use Rattle.rules.specs.Messages.{Op, bufferOf, bufferOfCall, Call, begin
 use Rattle.rules.specs.Ordering.{Asked, orderRefusal, orderReplied, orderReply}
 use Rattle.rules.specs.Machine.{Machine, sizes, fileOf, values, txnOf}
 use Rattle.rules.specs.Promises.{Meets}
-use Rattle.rules.specs.Demand1.{IsRefusal, Demand1On, Demand1, RefusedByCode, Demand1OfCode}
+use Rattle.rules.specs.Demand1.{Demand1On, Demand1, RefusedByCode, Demand1OfCode}
 use Rattle.rules.specs.Calls.{Turn, answer, turnDown, passing, fresh, reset, beginTurn, abortTurn, served, stepTurn, commitGranted, commitDecided, commitTurn, admitted, call, placesTurn, windowTurn, takeBackTurn, orderTurn, askedOf}
-use Rattle.rules.proofs.Demand3.Answers.{IsAnswer, answer-not-refused, Leaving, later as later-on, Right, right-step}
-
-pub refused-same : (m n : ℕ) → refused m ≡ refused n → m ≡ n
-refused-same m n e = cc
+use Rattle.rules.proofs.Demand3.Answers.{IsAnswer, answer-not-refused, Leaving, Right, right-step}
+pub use Rattle.rules.proofs.Demand3.Answers.{refused-same}
+use Rattle.rules.proofs.Demand3.Numbers.{knows-call, knows-fresh}
 
 -- A turn that leaves everything where it refuses with a number other than 13.
 pub record Leaves (m : Machine) (buffer : List ℕ) (w : Turn) : Type 0 where
   pub leaves : (n : ℕ) → w .reply .answer ≡ refused n → (n ≡ 13 → ⊥) → (w .after ≡ m) × (w .reply .buffer ≡ buffer)
-  pub known : (n : ℕ) → w .reply .answer ≡ refused n → IsRefusal n
 
 leaves-passing : (k : ℕ) (buffer : List ℕ) (m : Machine) (w : Turn) → Leaving k → Leaves m buffer w → Leaves m buffer (passing k buffer m w)
 unfolding passing turnDown
 leaves-passing zero buffer m w h l = l
 leaves-passing (suc k) buffer m w h l =
-    record { leaves = λ n e d. (refl, refl); known = λ n e. subst IsRefusal (refused-same (suc k) n e) (omega arith, h .0) }
+    record { leaves = λ n e d. (refl, refl) }
 
 leaves-answer : (m : Machine) (buffer : List ℕ) (w : Turn) → IsAnswer (w .reply .answer) → Leaves m buffer w
 leaves-answer m buffer w h =
     record {
       leaves = λ n e d. absurd (answer-not-refused (w .reply .answer) n h e);
-      known = λ n e. absurd (answer-not-refused (w .reply .answer) n h e);
     }
 
 leaves-served : (t : ℕ) (o : Op) (m : Machine) (is : List Item) (s : Stepped) → Right s → Leaves m (bufferOf o) (served t o m is s)
@@ -48,24 +45,22 @@ unfolding served turnDown
 leaves-served t o m is (refuse k) h =
     record {
       leaves = λ n e d. (refl, refl);
-      known = λ n e. subst IsRefusal (refused-same k n e) (omega (arith, h .0), h .1 .0);
     }
 leaves-served t o m is (accept y a b) h = leaves-answer m (bufferOf o) _ h
 
 leaves-decided : (t : ℕ) (x : Txn) (ss : List Setting) (m : Machine) (daily stale shut placed : Bool) → Leaves m [] (commitDecided t x ss m (commitRefusal daily stale shut placed))
 unfolding commitDecided commitRefusal commitGranted
 leaves-decided t x ss m false stale shut placed =
-    record { leaves = λ n e d. (refl, refl); known = λ n e. subst IsRefusal (refused-same 22 n e) (omega arith, refl) }
+    record { leaves = λ n e d. (refl, refl) }
 leaves-decided t x ss m true true shut placed =
     record {
       leaves = λ n e d. absurd (d (sym (refused-same 13 n e)));
-      known = λ n e. subst IsRefusal (refused-same 13 n e) (omega arith, refl);
     }
 leaves-decided t x ss m true false true placed =
-    record { leaves = λ n e d. (refl, refl); known = λ n e. subst IsRefusal (refused-same 21 n e) (omega arith, refl) }
+    record { leaves = λ n e d. (refl, refl) }
 leaves-decided t x ss m true false false true = leaves-answer m [] _ tt
 leaves-decided t x ss m true false false false =
-    record { leaves = λ n e d. (refl, refl); known = λ n e. subst IsRefusal (refused-same 12 n e) (omega arith, refl) }
+    record { leaves = λ n e d. (refl, refl) }
 
 -- The shared tests refuse with a number other than 13.
 unless-leaving : (b : Bool) (n later : ℕ) → Leaving n → Leaving later → Leaving (unless b n later)
@@ -76,32 +71,32 @@ unless-leaving false n later h l = h
 first-leaving : (z : Sizes) (s : Store) (j : List ℕ) (later : ℕ) → Leaving later → Leaving (firstTests z s j later)
 unfolding firstTests
 first-leaving z s j later h =
-    unless-leaving _ 1 _ (refl, λ e. omega arith) (unless-leaving _ 2 _ (refl, λ e. omega arith) h)
+    unless-leaving _ 1 _ (λ e. omega arith) (unless-leaving _ 2 _ (λ e. omega arith) h)
 
 shared-leaving : (z : Sizes) (s : Store) (j : List ℕ) (t later : ℕ) → Leaving later → Leaving (shared z s j t later)
 unfolding shared
-shared-leaving z s j t later h = first-leaving z s j _ (unless-leaving _ 3 _ (later-on 3 refl .1) h)
+shared-leaving z s j t later h = first-leaving z s j _ (unless-leaving _ 3 _ (λ e. omega arith) h)
 
 none-leaving : Leaving 0
-none-leaving = (refl, λ e. omega arith)
+none-leaving e = omega arith
 
 pub admission-leaving : (z : Sizes) (s : Store) (j : List ℕ) (t : ℕ) → Leaving (admission z s j t)
 unfolding admission
-admission-leaving z s j t = shared-leaving z s j t _ (unless-leaving _ 4 0 (later-on 4 refl .1) none-leaving)
+admission-leaving z s j t = shared-leaving z s j t _ (unless-leaving _ 4 0 (λ e. omega arith) none-leaving)
 
 begin-leaving : (z : Sizes) (s : Store) (j : List ℕ) (t : ℕ) → Leaving (admissionOfBegin z s j t)
 unfolding admissionOfBegin
-begin-leaving z s j t = shared-leaving z s j t _ (unless-leaving _ 5 0 (later-on 5 refl .1) none-leaving)
+begin-leaving z s j t = shared-leaving z s j t _ (unless-leaving _ 5 0 (λ e. omega arith) none-leaving)
 
 window-leaving : (z : Sizes) (s : Store) (j : List ℕ) (f start end : ℕ) → Leaving (admissionOfWindow z s j f start end)
 unfolding admissionOfWindow windowRefusal
 window-leaving z s j f start end =
-    first-leaving z s j _ (unless-leaving _ 6 _ (later-on 6 refl .1) (unless-leaving _ 22 0 (later-on 22 refl .1) none-leaving))
+    first-leaving z s j _ (unless-leaving _ 6 _ (λ e. omega arith) (unless-leaving _ 22 0 (λ e. omega arith) none-leaving))
 
 back-leaving : (z : Sizes) (s : Store) (j : List ℕ) → Leaving (admissionOfTakingBack z s j)
 unfolding admissionOfTakingBack
 back-leaving z s j =
-    first-leaving z s j _ (unless-leaving _ 23 _ (later-on 23 refl .1) (unless-leaving _ 24 0 (later-on 24 refl .1) none-leaving))
+    first-leaving z s j _ (unless-leaving _ 23 _ (λ e. omega arith) (unless-leaving _ 24 0 (λ e. omega arith) none-leaving))
 
 leaves-admitted : (t : ℕ) (buffer : List ℕ) (m : Machine) (w : Turn) → Leaves m buffer w → Leaves m buffer (admitted t buffer m w)
 unfolding admitted
@@ -113,38 +108,38 @@ leaves-admitted t buffer m w l =
 placed-leaving : (fileOf : ℕ → ℕ) (f : ℕ) (out : List ℕ) (x : Txn) → Leaving (placesRefusal fileOf f out x)
 unfolding placesRefusal
 placed-leaving fileOf f out x =
-    unless-leaving _ 6 _ (later-on 6 refl .1) (unless-leaving _ 15 _ (later-on 15 refl .1) (unless-leaving _ 16 0 (later-on 16 refl .1) none-leaving))
+    unless-leaving _ 6 _ (λ e. omega arith) (unless-leaving _ 15 _ (λ e. omega arith) (unless-leaving _ 16 0 (λ e. omega arith) none-leaving))
 
 leaves-placed : (m : Machine) (fileOf : ℕ → ℕ) (f : ℕ) (out : List ℕ) (x : Txn) (n : ℕ) → Leaving n
     → Leaves m out (record { reply = placesReply fileOf f out x n; after = m })
 unfolding placesReply
 leaves-placed m fileOf f out x zero h = leaves-answer m out _ tt
 leaves-placed m fileOf f out x (suc n) h =
-    record { leaves = λ k e d. (refl, refl); known = λ k e. subst IsRefusal (refused-same (suc n) k e) (omega arith, h .0) }
+    record { leaves = λ k e d. (refl, refl) }
 
 placed-not-13 : (fileOf : ℕ → ℕ) (f : ℕ) (out : List ℕ) (x : Txn) (n : ℕ) → Leaving n → placesReply fileOf f out x n .answer ≡ refused 13 → ⊥
 unfolding placesReply
 placed-not-13 fileOf f out x zero h e = answer-not-refused _ 13 tt e
-placed-not-13 fileOf f out x (suc n) h e = h .1 (refused-same (suc n) 13 e)
+placed-not-13 fileOf f out x (suc n) h e = h (refused-same (suc n) 13 e)
 
 -- F-14's.
 ordered-leaving : (a : Asked) (ts : List ℕ) (minute budget : ℕ) → Leaving (orderRefusal a ts minute budget)
 unfolding orderRefusal
 ordered-leaving a ts minute budget =
-    unless-leaving _ 26 _ (later-on 26 refl .1) (unless-leaving _ 3 _ (later-on 3 refl .1) (unless-leaving _ 4 _ (later-on 4 refl .1)
-    (unless-leaving _ 22 _ (later-on 22 refl .1) (unless-leaving _ 25 _ (later-on 25 refl .1) (unless-leaving _ 27 0 (later-on 27 refl .1) none-leaving)))))
+    unless-leaving _ 26 _ (λ e. omega arith) (unless-leaving _ 3 _ (λ e. omega arith) (unless-leaving _ 4 _ (λ e. omega arith)
+    (unless-leaving _ 22 _ (λ e. omega arith) (unless-leaving _ 25 _ (λ e. omega arith) (unless-leaving _ 27 0 (λ e. omega arith) none-leaving)))))
 
 leaves-ordered : (m : Machine) (a : Asked) (ts : List ℕ) (budget n : ℕ) → Leaving n
     → Leaves m [] (record { reply = orderReplied a ts budget n; after = m })
 unfolding orderReplied
 leaves-ordered m a ts budget zero h = leaves-answer m [] _ tt
 leaves-ordered m a ts budget (suc n) h =
-    record { leaves = λ k e d. (refl, refl); known = λ k e. subst IsRefusal (refused-same (suc n) k e) (omega arith, h .0) }
+    record { leaves = λ k e d. (refl, refl) }
 
 ordered-not-13 : (a : Asked) (ts : List ℕ) (budget n : ℕ) → Leaving n → orderReplied a ts budget n .answer ≡ refused 13 → ⊥
 unfolding orderReplied
 ordered-not-13 a ts budget zero h e = answer-not-refused _ 13 tt e
-ordered-not-13 a ts budget (suc n) h e = h .1 (refused-same (suc n) 13 e)
+ordered-not-13 a ts budget (suc n) h e = h (refused-same (suc n) 13 e)
 
 leaves-call : (c : Call) (m : Machine) → Leaves m (bufferOfCall c) (call c m)
 unfolding call bufferOfCall beginTurn abortTurn answer stepTurn commitTurn placesTurn placesOf windowTurn takeBackTurn orderTurn orderReply
@@ -171,11 +166,11 @@ leaves-call (bestOrder ts minute budget) m =
 not-13 : (k : ℕ) (buffer : List ℕ) (m : Machine) (w : Turn) → Leaving k → (w .reply .answer ≡ refused 13 → ⊥) → passing k buffer m w .reply .answer ≡ refused 13 → ⊥
 unfolding passing turnDown
 not-13 zero buffer m w h f e = f e
-not-13 (suc k) buffer m w h f e = h .1 (refused-same (suc k) 13 e)
+not-13 (suc k) buffer m w h f e = h (refused-same (suc k) 13 e)
 
 served-not-13 : (t : ℕ) (o : Op) (m : Machine) (is : List Item) (s : Stepped) → Right s → served t o m is s .reply .answer ≡ refused 13 → ⊥
 unfolding served turnDown
-served-not-13 t o m is (refuse k) h e = h .1 .1 (refused-same k 13 e)
+served-not-13 t o m is (refuse k) h e = h .1 (refused-same k 13 e)
 served-not-13 t o m is (accept y a b) h e = answer-not-refused a 13 h e
 
 decided-ends : (t : ℕ) (x : Txn) (ss : List Setting) (m : Machine) (daily stale shut placed : Bool) → commitDecided t x ss m (commitRefusal daily stale shut placed) .reply .answer ≡ refused 13 → commitDecided t x ss m (commitRefusal daily stale shut placed) .after ≡ reset t ended m
@@ -215,14 +210,14 @@ leaves-fresh : (numbers : List ℕ) (m : Machine) → Leaves m [] (fresh numbers
 unfolding fresh answer admissionOfFresh
 leaves-fresh numbers m =
     leaves-passing _ [] m _
-    (unless-leaving _ 1 _ (refl, λ e. omega arith) (unless-leaving _ 14 0 (later-on 14 refl .1) none-leaving))
+    (unless-leaving _ 1 _ (λ e. omega arith) (unless-leaving _ 14 0 (λ e. omega arith) none-leaving))
     (leaves-answer m [] _ tt)
 
 fresh-not-13 : (numbers : List ℕ) (m : Machine) (n : ℕ) → fresh numbers m .reply .answer ≡ refused n → n ≡ number Stale → ⊥
 unfolding fresh answer admissionOfFresh
 fresh-not-13 numbers m n e f =
     not-13 _ [] m _
-    (unless-leaving _ 1 _ (refl, λ e. omega arith) (unless-leaving _ 14 0 (later-on 14 refl .1) none-leaving))
+    (unless-leaving _ 1 _ (λ e. omega arith) (unless-leaving _ 14 0 (λ e. omega arith) none-leaving))
     (answer-not-refused _ 13 tt) (e ∙ ap refused f)
 
 -- A call that answers met no early refusal, and one refused with 13 met it in its own turn.
@@ -234,24 +229,33 @@ passing-zero (suc k) buffer m w a h e = absurd (answer-not-refused a (suc k) h (
 pub passing-stale : (k : ℕ) (m : Machine) (w : Turn) → Leaving k → passing k [] m w .reply .answer ≡ refused 13 → passing k [] m w ≡ w
 unfolding passing turnDown
 passing-stale zero m w h e = refl
-passing-stale (suc k) m w h e = absurd (h .1 (refused-same (suc k) 13 e))
+passing-stale (suc k) m w h e = absurd (h (refused-same (suc k) 13 e))
 
 pub demand1 : Demand1
 demand1 m =
     record {
-      known = λ c. leaves-call c m .known;
-      freshKnown = λ numbers. leaves-fresh numbers m .known;
+      known = λ c. knows-call c m;
+      freshKnown = λ numbers. knows-fresh numbers m;
       leaves = λ c. leaves-call c m .leaves;
       freshLeaves = λ numbers n e. leaves-fresh numbers m .leaves n e (fresh-not-13 numbers m n e) .0;
       ends = λ c. ends-call c m;
     }
 
 pub demand1-of-code : Demand1OfCode
-demand1-of-code c m o after reader n k e =
-    let f = sym (k .outcome) ∙ e in
-    let d = demand1 m in
+demand1-of-code =
     record {
-      known = d .known c n f;
-      leaves = λ h. let l = d .leaves c n f h in (k .machine ∙ l .0, k .reader ∙ l .1);
-      ends = λ h. let w = d .ends c (f ∙ ap refused h) in (w .0, w .1, w .2, k .machine ∙ w .3);
+      calls =
+          λ c m o after reader n k e.
+          let f = sym (k .outcome) ∙ e in
+          let d = demand1 m in
+          record {
+            known = d .known c n f;
+            leaves = λ h. let l = d .leaves c n f h in (k .machine ∙ l .0, k .reader ∙ l .1);
+            ends = λ h. let w = d .ends c (f ∙ ap refused h) in (w .0, w .1, w .2, k .machine ∙ w .3);
+          };
+      fresh =
+          λ numbers m o after n k e.
+          let f = sym (k .outcome) ∙ e in
+          let d = demand1 m in
+          (d .freshKnown numbers n f, k .machine ∙ d .freshLeaves numbers n f);
     }

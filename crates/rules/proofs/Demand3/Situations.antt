@@ -14,8 +14,9 @@ use Rattle.rules.specs.Demand3.{FreshlyMade}
 use Rattle.rules.specs.Setup.{numbers, freshNumbered, Seen, onPlain, onStore}
 use Rattle.rules.specs.Situations.{Starred}
 use Rattle.rules.specs.Corners.{Corners}
+use Rattle.rules.specs.LaterCorners.{LaterCorners}
 use Rattle.rules.proofs.Serial.Theorem.{again-left}
-use Rattle.rules.proofs.Cases.Cases.{starred, corners}
+use Rattle.rules.proofs.Cases.Cases.{starred, corners, later-corners}
 use Rattle.rules.proofs.Demand3.Theorem.{demand3}
 
 module _ (m : Machine) (made : FreshlyMade numbers m) where
@@ -34,3 +35,6 @@ module _ (m : Machine) (made : FreshlyMade numbers m) where
 
   pub corners-on-store : Corners (onStore m)
   corners-on-store = subst⁻¹ (λ (x : Seen). Corners x) same-seen corners
+
+  pub later-corners-on-store : LaterCorners (onStore m)
+  later-corners-on-store = subst⁻¹ (λ (x : Seen). LaterCorners x) same-seen later-corners

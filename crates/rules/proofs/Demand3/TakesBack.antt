@@ -18,7 +18,6 @@ use Rattle.rules.specs.Commits.{fits, commitRefusal}
 use Rattle.rules.specs.Windows.{forClosed}
 use Rattle.rules.specs.Machine.{Machine, values, txnOf}
 use Rattle.rules.specs.Calls.{call, callsAfter, callsReplies}
-use Rattle.rules.specs.Buffers.{isCommit}
 use Rattle.rules.specs.TakingBack.{SameCommitted, TakesBack}
 use Rattle.rules.proofs.Serial.Sighted.{Held, Seat, vacant, held, Back, none, kept, Sighted, turnedAway, telling, returned, withSeat, granting, sightedCommitted, sightedCommit, seated, noneHeld, sightedReturn, sightedBack, sightedCall}
 use Rattle.rules.proofs.View.Shape.{backIn, view, Sound}
@@ -61,19 +60,19 @@ module _ (w : Values) where
         pick false k = unfold turnedAway in now
 
     -- Any other call.
-    other-or : (c : Call) → isCommit c ≡ false → Or (sightedCall c s .after .back)
+    other-or : (c : Call) → ((t minute : ℕ) → c ≡ commit t minute → ⊥) → Or (sightedCall c s .after .back)
     other-or c e =
-        kept-call (λ v b. Or b) s now false true (λ g. absurd (true≢false (sym g))) (λ g v k. inr refl) c (λ k. absurd (true≢false (sym k ∙ e))) (λ k. refl)
+        kept-call (λ v b. Or b) s now false true (λ g. absurd (true≢false (sym g))) (λ g v k. inr refl) c (λ t minute k. absurd (e t minute k)) (λ k. refl)
 
     call-or : (c : Call) → isGrant (sightedCall c s .reply .answer) ≡ 0 → Or (sightedCall c s .after .back)
-    call-or (begin t) e = other-or (begin t) (unfold isCommit in refl)
-    call-or (on t o) e = other-or (on t o) (unfold isCommit in refl)
+    call-or (begin t) e = other-or (begin t) (λ u n k. true≢false cc)
+    call-or (on t o) e = other-or (on t o) (λ u n k. true≢false cc)
     call-or (commit t minute) e = commit-or t minute e
-    call-or (abort t) e = other-or (abort t) (unfold isCommit in refl)
-    call-or (places t f out) e = other-or (places t f out) (unfold isCommit in refl)
-    call-or (setWindow f start end) e = other-or (setWindow f start end) (unfold isCommit in refl)
-    call-or takeBack e = other-or takeBack (unfold isCommit in refl)
-    call-or (bestOrder ts minute budget) e = other-or (bestOrder ts minute budget) (unfold isCommit in refl)
+    call-or (abort t) e = other-or (abort t) (λ u n k. true≢false cc)
+    call-or (places t f out) e = other-or (places t f out) (λ u n k. true≢false cc)
+    call-or (setWindow f start end) e = other-or (setWindow f start end) (λ u n k. true≢false cc)
+    call-or takeBack e = other-or takeBack (λ u n k. true≢false cc)
+    call-or (bestOrder ts minute budget) e = other-or (bestOrder ts minute budget) (λ u n k. true≢false cc)
 
   -- A list of calls without a grant.
   calls-or : (cs : List Call) (m : Machine) → Sound m → Or (view m .back) → grantsAmong (callsReplies cs m) ≡ 0 → Or (view (callsAfter cs m) .back)

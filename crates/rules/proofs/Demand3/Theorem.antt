@@ -10,8 +10,6 @@ use native.Mathlib.Omega.{arith}
 use Prim.Native.Nat.{ℕ, zero, suc, _≤_, _<_}
 use Rattle.windows.specs.Hours.{Windows, freshWindows}
 use Rattle.octets.specs.Bits.{bitsOf}
-use Rattle.octets.specs.Marks.{contains}
-use Rattle.octets.proofs.SetLaws.{bits-lt, contains-bits}
 use Rattle.record.specs.State.{transaction}
 use Rattle.record.specs.Paper.{Said, plain, pointer, given, granted, pairs, ordered, refused, said}
 use Rattle.ranges.specs.Ranges.{admission, admissionOfFresh}
@@ -171,15 +169,17 @@ holds-from F v ws x good m₀ sound start cs =
       replies = a .replies ∙ ap (sightedReplies cs) start ∙ replies-same F v ws x good cs;
       openness = open-same m p same;
       staleness =
-          λ t minute r l o h.
+          λ t minute r o h.
           let e = turn (commit t minute) in
           subst⁻¹ (λ (x : Reply). (x .answer ≡ refused 13 → ⊥) ↔ (firstList r ≡ secondList p r)) e
           (store-commit F v ws x good cs t minute r o (λ k. h (ap (λ (x : Reply). x .answer) e ∙ k)) .passes);
       octet =
           λ t minute n g.
-          let b = becameStale t p (plainCall (commit t minute) p .after) in
-          let e = told-commit t minute p .octet n (sym (ap (λ (x : Reply). x .answer) (turn (commit t minute) ∙ ap (λ (τ : SightedTurn). τ .reply) (turn-same F v ws x good cs (commit t minute)))) ∙ g) in
-          (omega (arith, bits-lt b 8), λ u l. ap (λ (k : ℕ). contains k u) e ∙ contains-bits b 8 u l);
+          told-commit t minute p .octet n
+          (sym
+          (ap (λ (x : Reply). x .answer)
+          (turn (commit t minute) ∙ ap (λ (τ : SightedTurn). τ .reply) (turn-same F v ws x good cs (commit t minute))))
+          ∙ g);
       again = again-same F v ws x good cs;
       start = start-stays cs (startPlain F v ws x);
       left = ap (λ (s : Sighted). s .value) same ∙ sym (ap (λ (c : Committed). c .value) (again-left F v ws x good cs));

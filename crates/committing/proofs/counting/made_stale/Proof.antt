@@ -1,10 +1,11 @@
 -- `committing::counting::made_stale` meets its contract. Assumes nothing.
-use Rattle.committing.proofs.CommitRules.{ones-are}
+use native.Mathlib.Omega.{arith}
+use Rattle.committing.proofs.CommitRules.{ones-count, ones-are}
 use Rattle.committing.proofs.counting.made_stale.Statement.{statement}
 use Rattle.committing.proofs.counting.made_stale.Tie as tie
 
 returns : tie.Need-returns
-returns c = λ t minute m e. ones-are t m (c .args .octet) minute e
+returns c = (ones-count (c .args .octet) (omega arith), λ t minute m e. ones-are t m (c .args .octet) minute e)
 
 pub made-stale-spec : {M : Type 1} → statement M
 made-stale-spec = tie.close (tie.spec returns)

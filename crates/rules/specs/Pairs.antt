@@ -1,0 +1,27 @@
+-- Request F-9: "Show that each old arrangement and its new one name the same pairs of transaction and byte, and let all else rest on that
+-- fact." The first half is octets/specs/Marks.antt; this is the second: of its marks a store uses the pairs that they name, and nothing else.
+use mathlib.Core.Bool.{Bool}
+use mathlib.Core.List.{List}
+use mathlib.Core.Path.{_≡_}
+use lib.ListN.{length}
+use Prim.Native.Nat.{ℕ, _<_}
+use Rattle.octets.specs.Marks.{byByte, byTransaction, names, rearranged}
+use Rattle.rules.specs.Messages.{Call}
+use Rattle.rules.specs.Machine.{Machine, withMarking}
+use Rattle.rules.specs.Calls.{callsAfter}
+use Rattle.rules.specs.Demand3.{FreshlyMade}
+use Rattle.rules.specs.Age.{Alike}
+
+-- These pairs are those that the marks of a store name.
+abbrev pub Named : (ℕ → ℕ → Bool) → Machine → Type 0
+Named pairs m = (t q : ℕ) → t < 8 → pairs t q ≡ names byTransaction (m .marks) t q
+
+-- The store with other marks that name the same pairs answers every list of calls alike, and so does the store with the new arrangement
+-- of any old one that names them.
+pub record RestsOnPairs (m : Machine) : Type 0 where
+  pub marks :
+      (marks : List ℕ) → length marks ≡ 32768 → Named (names byTransaction marks) m → (cs : List Call) → Alike cs m (withMarking marks m)
+  pub old : (marks : List ℕ) → Named (names byByte marks) m → (cs : List Call) → Alike cs m (withMarking (rearranged marks) m)
+
+abbrev pub AlwaysRestsOnPairs : Type 0
+AlwaysRestsOnPairs = (numbers : List ℕ) (m₀ : Machine) → FreshlyMade numbers m₀ → (cs : List Call) → RestsOnPairs (callsAfter cs m₀)

@@ -1,18 +1,15 @@
--- From what the parser says of a line to what the line is answered; and bounds. Assumes nothing.
-use mathlib.Core.Bool.{Bool, true, false, cond}
+-- From what the parser says of a line to what the line is answered. Assumes nothing.
 use mathlib.Core.List.{List}
 use mathlib.Core.Path.{_≡_, refl, sym, ap, _∙_}
 use lib.ListN.{length, take, drop, length-drop}
 use lib.Seq.{take-all}
 use native.Mathlib.Omega.{arith}
-use Prim.Native.Nat.{ℕ, _+_, _-_, _*_, _<_}
+use Prim.Native.Nat.{ℕ, _-_}
 use Rattle.requests.specs.Performing.{Performs}
 use Rattle.grammar.specs.Grammar.{another, asks, parsed}
 use Rattle.grammar.specs.Parsing.{Parses, lineOf}
 use Rattle.grammar.specs.declared.Parsed.{Parsed}
 use Rattle.grammar.specs.declared.Parsed.the-variants.{Another, Asks}
-use Rattle.lines.specs.Lines.{Went}
-use Rattle.lines.specs.declared.Look.{Look}
 use Rattle.record.specs.Paper.{said, refused}
 use Rattle.record.specs.declared.outcomes.Outcome.{Outcome}
 use Rattle.requests.specs.declared.Request.{Request}
@@ -36,17 +33,3 @@ module _ (line : List ℕ) (r : Parsed) (p : Parses line r) where
         let n = length-drop start line in
         let all = take-all (length line - start) (drop start line) (omega arith) in
         rw (l, ← all) f
-
--- ---- bounds
-
--- what is left of a piece after a look, and one more while lines end: it falls with each look
-unfoldable pub left : Look → ℕ → ℕ
-left k size = 2 * (size - k .at) + cond (k .ended) 1 0
-
-pub falls : (k next : Look) (size : ℕ) → k .ended ≡ true → Went next (k .at) size → left next size < left k size
-unfolding left
-falls k next size e w = rw e (pick (next .ended) refl)
-  where
-    pick : (t : Bool) → next .ended ≡ t → 2 * (size - next .at) + cond (next .ended) 1 0 < 2 * (size - k .at) + 1
-    pick true f = rw f (omega (arith, w .inside, w .past f))
-    pick false f = rw f (omega (arith, w .inside, w .onward))

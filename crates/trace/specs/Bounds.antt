@@ -2,12 +2,25 @@
 use mathlib.Core.List.{List}
 use mathlib.Core.Path.{_≡_}
 use lib.ListN.{length}
-use Prim.Native.Nat.{ℕ, _≤_}
-use Rattle.trace.specs.declared.Course.{Course}
+use Prim.Native.Nat.{ℕ, _≤_, _<_}
+use Rattle.trace.specs.declared.answering.Course.{Course}
 
-pub record Running (c : Course) : Type 0 where
+-- Before a line is answered, in a piece of that size; and between pieces, when no output waits.
+pub record Running (c : Course) (size : ℕ) : Type 0 where
   pub held : c .held ≤ 129
   pub waiting : c .waiting ≤ 57000
+  pub inside : c .at ≤ size
+
+pub record Resting (c : Course) : Type 0 where
+  pub held : c .held ≤ 129
+  pub waiting : c .waiting ≡ 0
+
+-- After it: further on in the piece, with no more output than the buffer has.
+pub record Onward (c r : Course) (size room : ℕ) : Type 0 where
+  pub held : r .held ≤ 129
+  pub waiting : r .waiting ≤ room
+  pub inside : r .at ≤ size
+  pub past : c .at < size → c .at < r .at
 
 -- "The reader's buffer has 4,096 bytes."
 pub record Room (reader out : List ℕ) : Type 0 where

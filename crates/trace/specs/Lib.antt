@@ -1,4 +1,8 @@
 -- What a line is answered.
 pub mod Answers
+-- What lines are answered, one after the other.
+pub mod Transcript
+-- A whole run.
+pub mod WholeRun
 -- That what is kept fits its buffers.
 pub mod Bounds

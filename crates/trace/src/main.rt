@@ -1,105 +1,44 @@
 // Runs a trace: reads calls from standard input, a line each, performs them on a fresh store, and prints a line for
-// each to standard output. Lines, grammar, calls and replies have their libraries; here their bytes are moved. The
-// memory is the same for an input of any size.
-use grammar::Parsed;
-use libc::STDIN_FILENO;
-use libc::STDOUT_FILENO;
+// each to standard output. What fails is said on standard error. The memory is the same for an input of any size.
+mod answering;
+mod descriptors;
+
+use answering::Buffer;
+use answering::Course;
+use answering::Undo;
+use answering::ended;
+use answering::filled;
+use descriptors::lines_more;
+use descriptors::read_piece;
+use descriptors::write_out;
 use lines::KEPT;
 use numbers::BUFFER_BYTES;
 use numbers::FILE_BYTES;
 use octets::parts::part;
 use record::layout::NUMBERS;
 use record::layout::Record;
-use record::outcomes::Outcome;
-use record::outcomes::Refusal;
 ghost use mathlib.Core.Path.{_≡_};
-ghost use Prim.Native.Nat.{_≤_, _<_};
-ghost use lib.ListN.{length};
-ghost use Rattle.rules.specs.Promises.{handed, left};
-ghost use Rattle.trace.specs.Answers.{Answers, Told};
-ghost use Rattle.trace.specs.Bounds.{Running, Room};
+ghost use mathlib.Core.Bool.{true};
+ghost use mathlib.Core.List.{[]};
+ghost use Prim.Native.Nat.{ℕ, _≤_, _<_};
+ghost use lib.ListN.{length, take};
+ghost use Rattle.rules.specs.Demand3.{FreshlyMade};
+ghost use Rattle.rules.specs.Promises.{handed, left, machineOf};
+ghost use Rattle.trace.specs.Transcript.{modEight, under, atEnd};
+ghost use Rattle.trace.specs.Bounds.{Resting, Room};
 
-// When more output waits than this it is written, so that the longest line still fits in after what waits.
-const MOST: usize = 57000;
-
-// A store buffer, and that of a grant's old bytes.
-type Buffer = [u8; BUFFER_BYTES];
-
-type Undo = [u8; FILE_BYTES];
-
-// What is kept between lines beside the store: how many bytes of the line at hand are held, how many of the output
-// wait, and whether the run goes on.
-struct Course {
-    held: usize,
-    waiting: usize,
-    goes: bool,
-}
-
-// The answer to a line: 17, or what the call answers that it asks for.
-fn answered(
-    kept: &mut Record,
-    files: &mut Buffer,
-    logs: &mut Buffer,
-    marks: &mut Buffer,
-    undo: &mut Undo,
-    line: &[u8],
-    reader: &mut [u8],
-) -> Outcome
-    ensures { λ r. ⌜ Answers (now (line .entry)) (now (reader .entry)) (handed kept files logs marks undo)
-        r (left kept files logs marks undo) (now (reader .exit)) ⌝ }
-{
-    let p = grammar::parse(line);
-    let Parsed::Asks(q, start) = p else {
-        return Outcome::Refused(Refusal::BadLine);
-    };
-    requests::perform(kept, files, logs, marks, undo, q, &line[start..], reader)
-}
-
-// Answers a line, and prints what was answered after the output that waits.
-fn told(
-    mut c: Course,
-    kept: &mut Record,
-    files: &mut Buffer,
-    logs: &mut Buffer,
-    marks: &mut Buffer,
-    undo: &mut Undo,
-    line: &[u8],
-    reader: &mut [u8],
-    out: &mut [u8],
-) -> Course
-    requires { ⌜ Running c × Room (now reader) (now out) ⌝ }
-    ensures { λ r. ⌜ Told (now (line .entry)) (now (reader .entry)) (handed kept files logs marks undo)
-        (left kept files logs marks undo) (now (reader .exit))
-        (now (out .entry)) (c .waiting) (now (out .exit)) (r .waiting)
-        × ((r .waiting ≤ length (now (out .exit))) × (r .held ≡ c .held)) ⌝ }
-{
-    let o = answered(kept, files, logs, marks, undo, line, reader);
-    let waiting = printing::print(out, c.waiting, o, reader);
-    c.waiting = waiting;
-    c
-}
-
-// Writes what waits. A write that fails ends the run.
+// Writes what waits, and counts its lines. A write that fails is said, and ends the run.
 fn written(mut c: Course, out: &[u8]) -> Course
     requires { ⌜ c .waiting ≤ length (now out) ⌝ }
-    ensures { λ r. ⌜ (r .waiting ≡ 0) × (r .held ≡ c .held) ⌝ }
+    ensures { λ r. ⌜ (r .waiting ≡ 0) × ((r .held ≡ c .held) × (r .at ≡ c .at)) ⌝ }
 {
     let n = c.waiting;
-    let is_written = io::write_all(STDOUT_FILENO, &out[..n]);
+    let done = write_out(part(out, 0, n));
+    c.written = lines_more(part(out, 0, done), c.written);
     c.waiting = 0;
-    if !is_written {
+    if done < n {
         c.goes = false;
-    }
-    c
-}
-
-// Writes what waits where it is much.
-fn with_room(c: Course, out: &[u8]) -> Course
-    requires { ⌜ c .waiting ≤ length (now out) ⌝ }
-    ensures { λ r. ⌜ (r .waiting ≤ 57000) × (r .held ≡ c .held) ⌝ }
-{
-    if MOST < c.waiting {
-        return written(c, out);
+        descriptors::say_unwritten(c.written);
     }
     c
 }
@@ -117,65 +56,24 @@ fn taken(
     piece: &[u8],
     out: &mut [u8],
 ) -> Course
-    requires { ⌜ Running c × (Room (now reader) (now out) × (length (now line) ≡ 129)) ⌝ }
-    ensures { λ r. ⌜ Running r ⌝ }
+    requires { ⌜ Resting c × (Room (now reader) (now out) × (length (now line) ≡ 129)) ⌝ }
+    ensures { λ r. ⌜ Resting r × (r .goes ≡ true
+        → atEnd (under (handed kept files logs marks undo) (now (reader .entry))
+        (take (c .held) (now (line .entry))) (now (piece .entry)))
+        ≡ under (left kept files logs marks undo) (now (reader .exit)) (take (r .held) (now (line .exit))) []) ⌝ }
 {
-    let mut look = lines::next(line, c.held, piece, 0);
-    while look.ended {
-        let n = look.held;
-        let at = look.at;
-        c = told(
-            c,
-            kept,
-            files,
-            logs,
-            marks,
-            undo,
-            part(line, 0, n),
-            reader,
-            out,
-        );
-        c = with_room(c, out);
-        look = lines::next(line, 0, piece, at);
-    }
-    c.held = look.held;
-    c
-}
-
-// Answers the line that the end of the input ends, if there is one.
-fn ended(
-    c: Course,
-    kept: &mut Record,
-    files: &mut Buffer,
-    logs: &mut Buffer,
-    marks: &mut Buffer,
-    undo: &mut Undo,
-    line: &[u8],
-    reader: &mut [u8],
-    out: &mut [u8],
-) -> Course
-    requires { ⌜ Running c × (Room (now reader) (now out) × (length (now line) ≡ 129)) ⌝ }
-    ensures { λ r. ⌜ Running r ⌝ }
-{
-    let n = c.held;
-    if lines::is_line(part(line, 0, n)) {
-        let d = told(
-            c,
-            kept,
-            files,
-            logs,
-            marks,
-            undo,
-            part(line, 0, n),
-            reader,
-            out,
-        );
-        return written(d, out);
+    c.at = 0;
+    while c.at < piece.len() {
+        let d = filled(c, kept, files, logs, marks, undo, line, reader, piece, out);
+        c = written(d, out);
+        if !c.goes {
+            return c;
+        }
     }
     c
 }
 
-// Reads a piece and answers its lines.
+// Reads a piece and answers its lines; where the run goes on, those of a front part of what the input buffer holds.
 fn turn(
     mut c: Course,
     kept: &mut Record,
@@ -188,13 +86,16 @@ fn turn(
     input: &mut [u8],
     out: &mut [u8],
 ) -> Course
-    requires { ⌜ Running c × (Room (now reader) (now out) × (length (now line) ≡ 129)) ⌝ }
-    ensures { λ r. ⌜ Running r ⌝ }
+    requires { ⌜ Resting c × (Room (now reader) (now out) × (length (now line) ≡ 129)) ⌝ }
+    ensures { λ r. ⌜ Resting r × (r .goes ≡ true → (n : ℕ)
+        × (atEnd (under (handed kept files logs marks undo) (now (reader .entry))
+        (take (c .held) (now (line .entry))) (take n (now (input .exit))))
+        ≡ under (left kept files logs marks undo) (now (reader .exit)) (take (r .held) (now (line .exit))) [])) ⌝ }
 {
-    let got = libc::read(STDIN_FILENO, input);
+    let got = read_piece(input);
     if got > 0 {
         let n = io::count(got, input);
-        let d = taken(
+        return taken(
             c,
             kept,
             files,
@@ -206,12 +107,15 @@ fn turn(
             &input[..n],
             out,
         );
-        return written(d, out);
     }
     c.goes = false;
     if got == 0 {
-        return ended(c, kept, files, logs, marks, undo, line, reader, out);
+        let d = ended(c, kept, files, logs, marks, undo, line, reader, out);
+        c = written(d, out);
+        c.goes = false;
+        return c;
     }
+    descriptors::say_unread(c.written);
     c
 }
 
@@ -238,11 +142,15 @@ fn run(
     input: &mut [u8],
     out: &mut [u8],
 )
-    requires { ⌜ Room (now reader) (now out) × (length (now line) ≡ 129) ⌝ }
+    requires { ⌜ FreshlyMade modEight (machineOf (now kept) (now files) (now logs) (now marks) (now undo))
+        × (Room (now reader) (now out) × (length (now line) ≡ 129)) ⌝ }
 {
     let mut c = Course {
         held: 0,
+        at: 0,
         waiting: 0,
+        written: 0,
+        returned: false,
         goes: true,
     };
     let mut turns = u64::MAX;
@@ -250,10 +158,27 @@ fn run(
         c = turn(c, kept, files, logs, marks, undo, line, reader, input, out);
         turns = turns_left(turns, c.goes);
     }
+    if c.returned {
+        descriptors::say_returned();
+    }
 }
 
-// Descriptor d belongs to file d mod 8.
+// Makes the store fresh, descriptor d in file d mod 8.
+fn start(kept: &mut Record, files: &mut Buffer, logs: &Buffer, marks: &mut Buffer, undo: &Undo)
+    requires { ⌜ (length (now files) ≡ 32768) × ((length (now logs) ≡ 32768)
+        × ((length (now marks) ≡ 32768) × (length (now undo) ≡ 4096))) ⌝ }
+    ensures { λ r. ⌜ FreshlyMade modEight (left kept files logs marks undo) ⌝ }
+{
+    let list = [0u8, 1, 2, 3, 4, 5, 6, 7, 0, 1, 2, 3, 4, 5, 6, 7];
+    store::fresh(kept, files, logs, marks, undo, &list);
+}
+
+// Performs the trace, and with any argument only says how it is used.
 fn main() {
+    if 1 < os::arg_count() {
+        descriptors::say_use();
+        return;
+    }
     let mut kept = [0u16; NUMBERS];
     let mut files = [0u8; BUFFER_BYTES];
     let mut logs = [0u8; BUFFER_BYTES];
@@ -263,8 +188,7 @@ fn main() {
     let mut reader = io::buffer();
     let mut input = io::large_buffer();
     let mut out = io::large_buffer();
-    let list = [0u8, 1, 2, 3, 4, 5, 6, 7, 0, 1, 2, 3, 4, 5, 6, 7];
-    store::fresh(&mut kept, &mut files, &logs, &mut marks, &undo, &list);
+    start(&mut kept, &mut files, &logs, &mut marks, &undo);
     run(
         &mut kept,
         &mut files,

@@ -1,15 +1,15 @@
--- `run` meets its contract. The loop's invariant: what is kept fits its buffers, and these keep their lengths. Assumes nothing.
+-- `run` meets its contract. The loop's invariant: no output waits, and the buffers keep their lengths. Assumes nothing.
 use mathlib.Core.Path.{_≡_}
 use lib.ListN.{length}
 use native.Mathlib.Omega.{arith}
 use borrow.Author.Needs.{needs}
-use Rattle.trace.specs.Bounds.{Running, Room}
+use Rattle.trace.specs.Bounds.{Resting, Room}
 use Rattle.trace.proofs.run.Statement.{statement}
 use Rattle.trace.proofs.run.Tie as tie
 
 abbrev Inv-loop : tie.InvT-loop
 Inv-loop kept₀ files₀ logs₀ marks₀ undo₀ line₀ reader₀ input₀ out₀ c₀ turns₀ kept files logs marks undo line reader input out c turns =
-    Running c × Room reader out × (length line ≡ 129) × (length input ≡ length input₀)
+    Resting c × Room reader out × (length line ≡ 129) × (length input ≡ length input₀)
 
 abbrev μ-loop : tie.MeasureT-loop
 μ-loop kept₀ files₀ logs₀ marks₀ undo₀ line₀ reader₀ input₀ out₀ c₀ turns₀ kept files logs marks undo line reader input out c turns = turns
@@ -24,7 +24,7 @@ loop-again c =
     let turned = c .before .before .before .before .before .before .before .before .before in
     let i = turned .before .before .before .before .before .before .before .before .before .before .before .loop .inv in
     let k = turned .turn .kept in (
-      turned .turn .ensures,
+      turned .turn .ensures .0,
       record { readable = omega (arith, i .1 .readable, k); printable = omega (arith, i .1 .printable, k) },
       omega (arith, k, i .2),
       omega (arith, k, i .3),
@@ -41,6 +41,12 @@ run-spec =
     (λ c κs. search needs)
     (λ c. search needs)
     loop-again
+    (λ c κs. search needs)
+    (λ c. search needs)
+    (λ c. search needs)
+    (λ c. search needs)
+    (λ c. search needs)
+    (λ c. search needs)
     (λ c. search needs)
     (λ c. search needs)
     (λ c. search needs)

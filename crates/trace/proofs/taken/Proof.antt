@@ -1,50 +1,100 @@
--- `taken` meets its contract. The loop's invariant: what is kept fits its buffers, and these keep their lengths. Assumes nothing.
-use mathlib.Core.Path.{_≡_}
-use lib.ListN.{length}
+-- `taken` meets its contract. The loop's invariant: the end of the piece that is reached from here is the one that was reached from its
+-- start. Assumes nothing.
+use mathlib.Core.Bool.{false≢true}
+use mathlib.Core.Path.{_≡_, refl, sym, _∙_}
+use lib.ListN.{length, take, drop, drop-of-length-le}
 use native.Mathlib.Omega.{arith}
-use Prim.Native.Nat.{_≤_}
+use Prim.Native.Nat.{_-_, _≤_}
 use borrow.Author.Needs.{needs}
-use Rattle.trace.specs.Bounds.{Running, Room}
-use Rattle.trace.proofs.Laws.{left, falls}
+use Rattle.rules.specs.Promises.{machineOf}
+use Rattle.trace.specs.Bounds.{Resting, Room}
+use Rattle.trace.specs.Transcript.{under, atEnd}
+use Rattle.trace.proofs.Passing.{off, end-same, end-of}
 use Rattle.trace.proofs.taken.Statement.{statement}
 use Rattle.trace.proofs.taken.Tie as tie
 
 abbrev Inv-loop : tie.InvT-loop
-Inv-loop c₀ kept₀ files₀ logs₀ marks₀ undo₀ line₀ reader₀ piece out₀ look₀ c kept files logs marks undo line reader out look =
-    Running c × (look .held ≤ 129) × (look .at ≤ length piece) × Room reader out × (length line ≡ 129)
+Inv-loop c₀ kept₀ files₀ logs₀ marks₀ undo₀ line₀ reader₀ piece out₀ c kept files logs marks undo line reader out =
+    Resting c × (c .at ≤ length piece) × Room reader out × (length line ≡ 129)
+    × (atEnd (under (machineOf kept₀ files₀ logs₀ marks₀ undo₀) reader₀ (take (c₀ .held) line₀) piece)
+    ≡ atEnd (under (machineOf kept files logs marks undo) reader (take (c .held) line) (drop (c .at) piece)))
 
 abbrev μ-loop : tie.MeasureT-loop
-μ-loop c₀ kept₀ files₀ logs₀ marks₀ undo₀ line₀ reader₀ piece out₀ look₀ c kept files logs marks undo line reader out look = left look (length piece)
+μ-loop c₀ kept₀ files₀ logs₀ marks₀ undo₀ line₀ reader₀ piece out₀ c kept files logs marks undo line reader out = length piece - c .at
 
-told-requires : tie.Need-told-requires Inv-loop μ-loop
-told-requires c κs =
-    let i = c .before .before .before .before .before .before .before .before .before .before .loop .inv in
-    (i .0, record { readable = i .3 .readable; printable = i .3 .printable })
+loop-holds : tie.Need-loop-holds Inv-loop μ-loop
+loop-holds c =
+    let p = c .before .before .before .before .pre in
+    let room = p .1 .0 in (
+      record { held = p .0 .held; waiting = p .0 .waiting },
+      omega arith,
+      record { readable = room .readable; printable = room .printable },
+      p .1 .1,
+      refl,
+    )
 
-next-requires-2 : tie.Need-next-requires-2 Inv-loop μ-loop
-next-requires-2 c κs = let i = c .before .before .before .before .before .before .before .before .before .before .before .before .before .before .before .before .before .before .loop .inv in (i .4, (omega arith, i .2))
+filled-requires : tie.Need-filled-requires Inv-loop μ-loop
+filled-requires c κs =
+    let tested = c .before .before .before .before .before .before .before .before in
+    let i = tested .before .before .loop .inv in (
+      record { held = i .0 .held; waiting = i .0 .waiting },
+      (tested .if1 .taken, (record { readable = i .2 .readable; printable = i .2 .printable }, i .3)),
+    )
+
+written-requires : tie.Need-written-requires Inv-loop μ-loop
+written-requires c κs = c .before .before .before .before .before .before .before .filled .ensures .1 .waiting
+
+same-length : tie.Need-same-length Inv-loop μ-loop
+same-length c =
+    let filling = c .before .before .before .before .before .before .before .before .before .before in
+    let loop = filling .before .before .before .before .before .before .before .before .before .before .before in
+    omega (arith, filling .filled .kept, loop .loop .inv .3, loop .before .before .before .before .before .pre .1 .1)
+
+same-length-2 : tie.Need-same-length-2 Inv-loop μ-loop
+same-length-2 c =
+    let filling = c .before .before .before .before .before .before .before .before .before .before in
+    let loop = filling .before .before .before .before .before .before .before .before .before .before .before in
+    omega (arith, filling .filled .kept, loop .loop .inv .2 .readable, loop .before .before .before .before .before .pre .1 .0 .readable)
+
+same-length-3 : tie.Need-same-length-3 Inv-loop μ-loop
+same-length-3 c =
+    let filling = c .before .before .before .before .before .before .before .before .before .before in
+    let loop = filling .before .before .before .before .before .before .before .before .before .before .before in
+    omega (arith, filling .filled .kept, loop .loop .inv .2 .printable, loop .before .before .before .before .before .pre .1 .0 .printable)
+
+returns : tie.Need-returns Inv-loop μ-loop
+returns c =
+    let wrote = c .before .before .written .ensures in
+    let filled = c .before .before .before .before .before .before .before .before .before .before .filled .ensures in
+    let stops = off _ (c .if2 .taken) in
+    (record { held = omega (arith, wrote .1 .0, filled .1 .held); waiting = wrote .0 }, λ e. absurd (false≢true (sym stops ∙ e)))
 
 loop-less : tie.Need-loop-less Inv-loop μ-loop
-unfolding left
 loop-less c =
-    let next = c .before .before in
-    let tested = next .before .before .before .before .before .before .before .before .before .before .before .before .before .before .before .before .before .before in
-    falls (tested .before .loop .look) (next .next2 .result) _ (tested .loop-test .taken) (next .next2 .ensures .1)
+    let wrote = c .before .before .written .ensures in
+    let filling = c .before .before .before .before .before .before .before .before .before .before in
+    let within = filling .before .before .before .before .before .before .before .before .before .if1 .taken in
+    omega (arith, wrote .1 .1, within, filling .filled .ensures .1 .past within)
 
 loop-again : tie.Need-loop-again Inv-loop μ-loop
 loop-again c =
-    let next = c .before .before in
-    let roomy = next .before .before in
-    let told = roomy .before .before .before .before .before .before in
-    let i = told .before .before .before .before .before .before .before .before .before .before .before .loop .inv in
-    let k = told .told .kept in
-    let room = i .3 in (
-      record { held = omega (arith, roomy .with-room .ensures .1, told .told .ensures .1 .1, i .0 .held); waiting = roomy .with-room .ensures .0 },
-      next .next2 .ensures .1 .within,
-      next .next2 .ensures .1 .inside,
-      record { readable = omega (arith, room .readable, k); printable = omega (arith, room .printable, k) },
-      omega (arith, next .next2 .kept, i .4),
+    let wrote = c .before .before .written .ensures in
+    let filling = c .before .before .before .before .before .before .before .before .before .before in
+    let filled = filling .filled .ensures in
+    let k = filling .filled .kept in
+    let i = filling .before .before .before .before .before .before .before .before .before .before .before .loop .inv in (
+      record { held = omega (arith, wrote .1 .0, filled .1 .held); waiting = wrote .0 },
+      omega (arith, wrote .1 .1, filled .1 .inside),
+      record { readable = omega (arith, i .2 .readable, k); printable = omega (arith, i .2 .printable, k) },
+      omega (arith, i .3, k),
+      i .4 ∙ filled .0 .reaches ∙ end-same _ _ _ _ _ _ _ _ (wrote .1 .0) (wrote .1 .1),
     )
+
+returns-2 : tie.Need-returns-2 Inv-loop μ-loop
+returns-2 c =
+    let loop = c .before .before .loop in
+    let piece = c .before .before .before .before .before .before .before .args .piece .now in
+    (loop .inv .0, λ e. loop .inv .4 ∙ end-of _ _ _ _ (drop-of-length-le piece (c .if1 .left)))
 
 pub taken-spec : {M : Type 1} → statement M
 taken-spec =
@@ -52,15 +102,16 @@ taken-spec =
     (tie.spec
     Inv-loop
     μ-loop
-    (λ c κs. search needs)
-    (λ c. search needs)
-    (λ c κs. search needs)
-    told-requires
-    (λ c κs. search needs)
-    next-requires-2
+    loop-holds
+    filled-requires
+    written-requires
+    same-length
+    same-length-2
+    same-length-3
+    returns
     loop-less
     loop-again
     (λ c. search needs)
     (λ c. search needs)
     (λ c. search needs)
-    (λ c. search needs))
+    returns-2)

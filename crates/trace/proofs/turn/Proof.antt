@@ -1,14 +1,29 @@
 -- `turn` meets its contract. Assumes nothing.
+use mathlib.Core.Bool.{false≢true}
 use native.Mathlib.Omega.{arith}
 use borrow.Author.Needs.{needs}
 use Rattle.trace.proofs.turn.Statement.{statement}
 use Rattle.trace.proofs.turn.Tie as tie
 
-written-requires : tie.Need-written-requires
-written-requires c κs =
-    let took = c .before .before .before .before .before .before .before in
-    let start = took .before .before .before .before .before .before .before .before .before .before .before .before .before .before .before .before .before .before .before .before .before in
-    omega (arith, took .taken .ensures .waiting, took .taken .kept, start .pre .1 .0 .printable)
+returns : tie.Need-returns
+returns c =
+    let taking = c .before .before .before .before .before .before in
+    let counted = taking .before .before .before .before .before .before .before .before .before .before in
+    (taking .taken .ensures .0, λ e. (counted .count .result, taking .taken .ensures .1 e))
+
+returns-2 : tie.Need-returns-2
+returns-2 c =
+    let ending = c .before .before .before .before .before .before in
+    let tested = ending .before .before .before .before .before .before .before .before .before in
+    let start = tested .before .before .before .before .before .before .before .before .before .before in
+    let wrote = c .written .ensures in
+    let line = start .pre .0 .held in
+    (record { held = omega (arith, wrote .1 .0, ending .ended .ensures .1 .1, line); waiting = wrote .0 }, λ e. absurd (false≢true e))
+
+returns-3 : tie.Need-returns-3
+returns-3 c =
+    let start = c .before .before .before .before .before .before .before .before .before .before .before in
+    (record { held = start .pre .0 .held; waiting = start .pre .0 .waiting }, λ e. absurd (false≢true e))
 
 pub turn-spec : {M : Type 1} → statement M
 turn-spec =
@@ -19,17 +34,18 @@ turn-spec =
     (λ c. search needs)
     (λ c. search needs)
     (λ c κs. search needs)
-    written-requires
     (λ c. search needs)
     (λ c. search needs)
     (λ c. search needs)
     (λ c. search needs)
-    (λ c. search needs)
+    returns
+    (λ c κs. search needs)
     (λ c κs. search needs)
     (λ c. search needs)
     (λ c. search needs)
     (λ c. search needs)
     (λ c. search needs)
+    returns-2
+    (λ c κs. search needs)
     (λ c. search needs)
-    (λ c. search needs)
-    (λ c. search needs))
+    returns-3)

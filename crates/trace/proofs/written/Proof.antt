@@ -1,21 +1,29 @@
 -- `written` meets its contract. Assumes nothing.
-use mathlib.Core.Path.{sym}
+use mathlib.Core.Path.{_≡_, ap, _∙_}
+use lib.ListN.{length}
 use lib.Seq.{length-take-le}
+use native.Mathlib.Omega.{arith}
 use borrow.Author.Needs.{needs}
+use Rattle.octets.specs.Parts.{cut}
 use Rattle.trace.proofs.written.Statement.{statement}
 use Rattle.trace.proofs.written.Tie as tie
 
-slice-aggregate-write-all : tie.Need-slice-aggregate-write-all
-slice-aggregate-write-all c = sym (length-take-le (c .before .before .args .c .waiting) (c .before .before .args .out .now) (c .before .before .pre))
-
-write-all-requires : tie.Need-write-all-requires
-write-all-requires c κs = search needs
-
-returns : tie.Need-returns
-returns c = search needs
-
-returns-2 : tie.Need-returns-2
-returns-2 c = search needs
+part-requires-2 : tie.Need-part-requires-2
+unfolding cut
+part-requires-2 c κs =
+    let start = c .before .before .before in
+    let l : length (c .before .part .result .now) ≡ start .args .c .waiting =
+    ap length (c .before .part .ensures) ∙ length-take-le (start .args .c .waiting) (start .args .out .now) (start .pre) in
+    omega (arith, c .write-out .ensures, l, start .pre)
 
 pub written-spec : {M : Type 1} → statement M
-written-spec = tie.close (tie.spec slice-aggregate-write-all write-all-requires returns returns-2)
+written-spec =
+    tie.close
+    (tie.spec
+    (λ c κs. search needs)
+    (λ c κs. search needs)
+    part-requires-2
+    (λ c κs. search needs)
+    (λ c κs. search needs)
+    (λ c. search needs)
+    (λ c. search needs))

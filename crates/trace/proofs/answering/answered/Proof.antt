@@ -5,8 +5,8 @@ use borrow.Author.Needs.{needs}
 use Rattle.record.specs.Paper.{said}
 use Rattle.grammar.proofs.Laws.{starts-within}
 use Rattle.trace.proofs.Laws.{refused-line, asked-line}
-use Rattle.trace.proofs.answered.Statement.{statement}
-use Rattle.trace.proofs.answered.Tie as tie
+use Rattle.trace.proofs.answering.answered.Statement.{statement}
+use Rattle.trace.proofs.answering.answered.Tie as tie
 
 returns : tie.Need-returns
 unfolding said
@@ -27,7 +27,8 @@ returns-2 c =
     let performed = c .before .before in
     let told = performed .before .before .before .before .before .before .before .before .before in
     let parsed = told .before .before in
-    asked-line (parsed .before .before .before .args .line .now) _ (parsed .parse .ensures) _ _ (told .p .given .1) _ _ _ _ _ (performed .perform .ensures .0)
+    let line = parsed .before .before .before .args .line .now in
+    asked-line line _ (parsed .parse .ensures) _ _ (told .p .given .1) _ _ _ _ _ (performed .perform .ensures .0)
 
 pub answered-spec : {M : Type 1} → statement M
 answered-spec =

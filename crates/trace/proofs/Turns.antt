@@ -1,0 +1,82 @@
+-- A line that was answered as `answered` promises was answered by its turn, and its text is the turn's. Assumes nothing.
+use mathlib.Core.List.{List, [], _∷_, _++_, append-assoc, append-nil}
+use mathlib.Core.Path.{_≡_, refl, sym, ap, ap₂, _∙_}
+use lib.ListN.{length, take, drop, length-append}
+use lib.Seq.{take-append-seam, length-take-le}
+use native.Mathlib.Omega.{arith}
+use Prim.Native.Nat.{ℕ, _+_, _≤_}
+use Rattle.octets.specs.Parts.{pasted}
+use Rattle.requests.specs.Performing.{Unanswered}
+use Rattle.grammar.specs.Grammar.{Line, another, asks, parsed}
+use Rattle.printing.specs.Printed.{Put, printed}
+use Rattle.record.specs.Paper.{Said, said}
+use Rattle.record.specs.declared.outcomes.Outcome.{Outcome}
+use Rattle.requests.specs.declared.Request.{Request}
+use Rattle.requests.specs.declared.Request.the-variants.{Begin, Seek, Write, GetFilePointer, Read, Places}
+use Rattle.requests.specs.declared.Request.the-variants.{Commit, Abort, SetWindow, TakeBack}
+use Rattle.requests.specs.Requests.{callOf}
+use Rattle.rules.specs.Messages.{Reply, bufferOf, bufferOfCall}
+use Rattle.rules.specs.Machine.{Machine}
+use Rattle.trace.specs.Answers.{AnswersTo, Answers}
+use Rattle.trace.specs.Transcript.{storeAnswers, readerAfter, Kept, LineTurn, lineTurn, transcript, keptAfter, Answered}
+
+record Same (t : LineTurn Machine) (o : Outcome) (m′ : Machine) (reader′ : List ℕ) : Type 0 where
+  after : _≡_ {A = Kept Machine} (record { machine = m′; reader = reader′ }) (t .after)
+  reply : _≡_ {A = Reply} (record { answer = said o; buffer = reader′ }) (t .reply)
+
+abbrev pub keptIn : Machine → List ℕ → Kept Machine
+keptIn m reader = record { machine = m; reader = reader }
+
+abbrev replyIn : Said → List ℕ → Reply
+replyIn a buffer = record { answer = a; buffer = buffer }
+
+read-left : (q : Request) (bytes reader reader′ w : List ℕ) → Unanswered q reader reader′
+    → bufferOfCall (callOf q bytes reader′) ≡ w → reader′ ≡ readerAfter q reader w
+unfolding Unanswered callOf bufferOfCall bufferOf readerAfter
+read-left (Begin t) bytes reader reader′ w l e = l
+read-left (Seek t d v) bytes reader reader′ w l e = l
+read-left (Write t d) bytes reader reader′ w l e = l
+read-left (GetFilePointer t d) bytes reader reader′ w l e = l
+read-left (Read t d n) bytes reader reader′ w l e = e
+read-left (Places t f) bytes reader reader′ w l e = e
+read-left (Commit t minute) bytes reader reader′ w l e = l
+read-left (Abort t) bytes reader reader′ w l e = l
+read-left (SetWindow f start end) bytes reader reader′ w l e = l
+read-left TakeBack bytes reader reader′ w l e = l
+
+same-turn : (l : Line) (m : Machine) (reader : List ℕ) (o : Outcome) (m′ : Machine) (reader′ : List ℕ)
+    → AnswersTo l reader m o m′ reader′ → Same (lineTurn storeAnswers l (keptIn m reader)) o m′ reader′
+unfolding AnswersTo lineTurn
+same-turn another m reader o m′ reader′ h = record { after = ap₂ keptIn (h .1 .0) (h .1 .1); reply = ap₂ replyIn (h .0) (h .1 .1) }
+same-turn (asks q bytes) m reader o m′ reader′ h =
+    let e = read-left q bytes reader reader′ _ (h .unanswered) (h .meets .reader) in
+    record { after = ap₂ keptIn (h .meets .machine) e; reply = ap₂ replyIn (h .meets .outcome) e }
+
+-- what waits after text was put at its end
+put-text : (before : List ℕ) (at : ℕ) (text after : List ℕ) (next : ℕ) → at ≤ length before → Put before at text after next
+    → take next after ≡ take at before ++ text
+unfolding pasted
+put-text before at text after next h p =
+    let front = take at before ++ text in
+    let n = length-append (take at before) text in
+    let l = length-take-le at before h in
+    let e : next ≡ length front = omega (arith, p .end) in
+    ap₂ take e (p .bytes ∙ sym (append-assoc (take at before) text (drop (at + length text) before)))
+    ∙ take-append-seam front (drop (at + length text) before)
+
+pub told-line : (line reader : List ℕ) (m : Machine) (o : Outcome) (m′ : Machine) (reader′ : List ℕ)
+    → (before : List ℕ) (at : ℕ) (after : List ℕ) (next : ℕ) → Answers line reader m o m′ reader′
+    → Put before at (printed (record { answer = said o; buffer = reader′ })) after next
+    → at ≤ length before
+    → Answered (line ∷ []) (keptIn m reader) (take at before) (keptIn m′ reader′) (take next after)
+unfolding transcript keptAfter
+told-line line reader m o m′ reader′ before at after next a p h =
+    let s = same-turn (parsed line) m reader o m′ reader′ a in
+    let t = lineTurn storeAnswers (parsed line) (keptIn m reader) in
+    record {
+      says =
+          put-text before at (printed (replyIn (said o) reader′)) after next h p
+          ∙ ap (λ (r : Reply). take at before ++ printed r) (s .reply)
+          ∙ ap (λ (x : List ℕ). take at before ++ x) (sym (append-nil (printed (t .reply))));
+      keeps = s .after;
+    }

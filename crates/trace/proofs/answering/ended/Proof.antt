@@ -1,0 +1,47 @@
+-- `ended` meets its contract. Assumes nothing.
+use mathlib.Core.Path.{refl}
+use native.Mathlib.Omega.{arith}
+use borrow.Author.Needs.{needs}
+use Rattle.octets.specs.Parts.{cut}
+use Rattle.trace.proofs.Passing.{off, on, take-none, no-last-line, last-line}
+use Rattle.trace.proofs.answering.ended.Statement.{statement}
+use Rattle.trace.proofs.answering.ended.Tie as tie
+
+returns : tie.Need-returns
+unfolding cut
+returns c =
+    let tested = c .before in
+    let cutting = tested .before in
+    let start = cutting .before .before .before .before in
+    let none = start .pre .0 .waiting in
+    let no = off (tested .is-line .result) (c .if1 .taken) in
+    (no-last-line _ _ _ _ _ (cutting .part .ensures) (tested .is-line .ensures) no (take-none _ _ none), (omega (arith, none), refl))
+
+returns-2 : tie.Need-returns-2
+unfolding cut
+returns-2 c =
+    let told = c .before .before .before .before in
+    let again = told .before .before .before in
+    let branch = again .before .before .before .before .before .before in
+    let tested = branch .before in
+    let cutting = tested .before in
+    let start = cutting .before .before .before .before in
+    let none = start .pre .0 .waiting in
+    let yes = on (tested .is-line .result) (branch .if1 .left) in
+    let e = told .told .ensures in (
+      last-line _ _ _ _ (cutting .part .ensures) (tested .is-line .ensures) yes _ (take-none _ _ none) _ (again .part2 .ensures) _ _ (e .0),
+      (e .1 .0, e .1 .1 .0),
+    )
+
+pub ended-spec : {M : Type 1} → statement M
+ended-spec =
+    tie.close
+    (tie.spec
+    (λ c κs. search needs)
+    (λ c κs. search needs)
+    returns
+    (λ c κs. search needs)
+    (λ c κs. search needs)
+    (λ c. search needs)
+    (λ c. search needs)
+    returns-2)

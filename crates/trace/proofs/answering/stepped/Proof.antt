@@ -1,0 +1,65 @@
+-- `stepped` meets its contract. Assumes nothing.
+use mathlib.Core.Path.{ap}
+use lib.ListN.{length, drop, drop-of-length-le}
+use native.Mathlib.Omega.{arith}
+use borrow.Author.Needs.{needs}
+use Prim.Native.Nat.{ℕ, _≤_}
+use Rattle.octets.specs.Parts.{cut}
+use Rattle.trace.proofs.Passing.{off, on, take-none, held-passes, told-passes}
+use Rattle.trace.proofs.answering.stepped.Statement.{statement}
+use Rattle.trace.proofs.answering.stepped.Tie as tie
+
+returns : tie.Need-returns
+returns c =
+    let looked = c .before .before .before .before in
+    let start = looked .before .before .before .before .before .before in
+    let piece = start .args .piece .now in
+    let went = looked .next .ensures .1 in
+    let no = off (looked .next .result .ended) (c .if1 .taken) in
+    let whole = went .whole no in
+    let past : length piece ≤ looked .next .result .at = omega (arith, whole) in (
+      held-passes _ _ _ _ _ _ _ (looked .next .ensures .0) no (drop-of-length-le piece past),
+      record {
+        held = went .within;
+        waiting = omega (arith, start .pre .0 .waiting, start .pre .1 .0 .printable);
+        inside = went .inside;
+        past = λ h. omega (arith, whole, h);
+      },
+    )
+
+returns-2 : tie.Need-returns-2
+unfolding cut
+returns-2 c =
+    let told = c .before .before .before .before in
+    let cutting = told .before .before .before in
+    let tested = cutting .before .before .before .before .before .before .before in
+    let looked = tested .before .before .before .before in
+    let start = looked .before .before .before .before .before .before in
+    let piece = start .args .piece .now in
+    let went = looked .next .ensures .1 in
+    let e = told .told .ensures in
+    let yes = on (looked .next .result .ended) (tested .if1 .left) in
+    let past = went .past yes in (
+      told-passes _ _ _ _ _ _ _ (looked .next .ensures .0) yes _ (cutting .part .ensures) _ _ (e .0) _ _
+          (take-none _ _ (e .1 .1 .0)) (ap (λ (n : ℕ). drop n piece) (e .1 .1 .1)),
+      record {
+        held = omega (arith, e .1 .1 .0);
+        waiting = e .1 .0;
+        inside = omega (arith, went .inside, e .1 .1 .1);
+        past = λ h. omega (arith, past, e .1 .1 .1);
+      },
+    )
+
+pub stepped-spec : {M : Type 1} → statement M
+stepped-spec =
+    tie.close
+    (tie.spec
+    (λ c κs. search needs)
+    (λ c. search needs)
+    returns
+    (λ c κs. search needs)
+    (λ c κs. search needs)
+    (λ c. search needs)
+    (λ c. search needs)
+    (λ c. search needs)
+    returns-2)

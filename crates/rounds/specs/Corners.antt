@@ -52,6 +52,10 @@ appends i = asks 0 ∷ writes 0 i 1 ∷ []
 unfoldable pub adds : List ScriptCall
 adds = writes 0 0 1 ∷ []
 
+-- Writes byte i of the three at the front of the file of descriptor i, and reads it.
+unfoldable pub readsOwn : ℕ → List ScriptCall
+readsOwn i = seeks i 0 ∷ writes i i 1 ∷ seeks i 0 ∷ reads i 1 ∷ []
+
 pub record Corners : Type 0 where
   -- "Every script is over within as many rounds as there are scripts": n that all look at what each sets take n rounds.
   pub one : told [] 0 (appends 0 ∷ []) ≡ gives 0 (passed ∷ []) 1 reader
@@ -81,6 +85,10 @@ pub record Corners : Type 0 where
   pub later :
       told [] 0 ((writes 0 0 3 ∷ seeks 0 0 ∷ reads 0 2 ∷ seeks 0 2 ∷ reads 0 1 ∷ reads 0 4 ∷ []) ∷ [])
       ≡ gives 0 (failed 7 ∷ []) 0 (C ∷ B ∷ dot ∷ [])
+  -- "gives each one call in turn, in script order": of two Reads in one turn the second script's comes later; and one in a later turn comes
+  -- later, though its script comes first.
+  pub sameTurn : told [] 0 (readsOwn 0 ∷ readsOwn 1 ∷ []) ≡ gives 0 (passed ∷ passed ∷ []) 2 (B ∷ dot ∷ dot ∷ [])
+  pub laterTurn : told [] 0 ((seeks 0 9 ∷ readsOwn 0) ∷ readsOwn 1 ∷ []) ≡ gives 0 (passed ∷ passed ∷ []) 2 (A ∷ dot ∷ dot ∷ [])
   -- "19 when a transaction is open at the start", before 20.
   pub opened : told (begin 7 ∷ []) 0 ((writes 0 4 0 ∷ []) ∷ []) ≡ gives 19 (unfinished ∷ []) 0 reader
   -- "20 when there are more than 8 scripts": eight pass, nine do not, whatever stands in them.

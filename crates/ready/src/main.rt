@@ -44,30 +44,62 @@ fn tell(b: Best) {
     }
 }
 
-// Transaction t writes at its own place of the file, through its own descriptor.
+// Transaction t writes at a place of the file, through its own descriptor.
 fn writes(
     kept: &mut Record,
-    files: &Buffer,
+    files: &mut Buffer,
     logs: &mut Buffer,
-    marks: &Buffer,
-    undo: &Undo,
+    marks: &mut Buffer,
+    undo: &mut Undo,
     t: usize,
+    place: usize,
 ) {
-    store::seek(kept, files, logs, marks, undo, t, t, 4 * t);
+    store::seek(kept, files, logs, marks, undo, t, t, place);
     store::write(kept, files, logs, marks, undo, t, t, b"task");
 }
 
-// Transaction t reads to the end of the file, through another descriptor.
+// Transaction t reads to the end of the file, through descriptor d.
 fn reads(
     kept: &mut Record,
-    files: &Buffer,
-    logs: &Buffer,
+    files: &mut Buffer,
+    logs: &mut Buffer,
     marks: &mut Buffer,
-    undo: &Undo,
+    undo: &mut Undo,
     t: usize,
+    d: usize,
 ) {
     let mut reader = [0u8; 4];
-    store::read(kept, files, logs, marks, undo, t, 8 + t, 4, &mut reader);
+    store::read(kept, files, logs, marks, undo, t, d, 4, &mut reader);
+}
+
+// The three are begun, 0 and 1 write, 1 and 2 read.
+fn prepare(
+    kept: &mut Record,
+    files: &mut Buffer,
+    logs: &mut Buffer,
+    marks: &mut Buffer,
+    undo: &mut Undo,
+) {
+    store::begin(kept, files, logs, marks, undo, 0);
+    store::begin(kept, files, logs, marks, undo, 1);
+    store::begin(kept, files, logs, marks, undo, 2);
+    writes(kept, files, logs, marks, undo, 0, 0);
+    writes(kept, files, logs, marks, undo, 1, 4);
+    reads(kept, files, logs, marks, undo, 1, 9);
+    reads(kept, files, logs, marks, undo, 2, 10);
+}
+
+// Asks for the best order of the three, with a budget of so many orders.
+fn ask(
+    kept: &mut Record,
+    files: &mut Buffer,
+    logs: &mut Buffer,
+    marks: &mut Buffer,
+    undo: &mut Undo,
+    budget: usize,
+) {
+    let three = [0u8, 1, 2];
+    tell(best_order(kept, files, logs, marks, undo, &three, MINUTE, budget));
 }
 
 // A fresh store whose descriptors all belong to file 0.
@@ -76,17 +108,10 @@ fn main() {
     let mut files = [0u8; BUFFER_BYTES];
     let mut logs = [0u8; BUFFER_BYTES];
     let mut marks = [0u8; BUFFER_BYTES];
-    let undo = [0u8; FILE_BYTES];
+    let mut undo = [0u8; FILE_BYTES];
     store::fresh(&mut kept, &mut files, &logs, &mut marks, &undo, &[0u8; 16]);
-    store::begin(&mut kept, &files, &logs, &mut marks, &undo, 0);
-    store::begin(&mut kept, &files, &logs, &mut marks, &undo, 1);
-    store::begin(&mut kept, &files, &logs, &mut marks, &undo, 2);
-    writes(&mut kept, &files, &mut logs, &marks, &undo, 0);
-    writes(&mut kept, &files, &mut logs, &marks, &undo, 1);
-    reads(&mut kept, &files, &logs, &mut marks, &undo, 1);
-    reads(&mut kept, &files, &logs, &mut marks, &undo, 2);
-    let three = [0u8, 1, 2];
-    tell(best_order(&kept, &files, &logs, &marks, &undo, &three, MINUTE, 1));
-    tell(best_order(&kept, &files, &logs, &marks, &undo, &three, MINUTE, 3));
-    tell(best_order(&kept, &files, &logs, &marks, &undo, &three, MINUTE, 6));
+    prepare(&mut kept, &mut files, &mut logs, &mut marks, &mut undo);
+    ask(&mut kept, &mut files, &mut logs, &mut marks, &mut undo, 1);
+    ask(&mut kept, &mut files, &mut logs, &mut marks, &mut undo, 3);
+    ask(&mut kept, &mut files, &mut logs, &mut marks, &mut undo, 6);
 }

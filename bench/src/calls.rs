@@ -64,20 +64,13 @@ pub fn cases(r: usize) -> Vec<Case> {
     ]
 }
 
-/// A Seek while r records of 16 bytes are held of the last grant; and a grant of so many, taken back.
+/// A Seek while r records of 16 bytes are held of the last grant; and a grant of so many, from its Begin on, with its taking back.
 pub fn held(r: usize) -> [Case; 2] {
     let grant = |script: Script| script.begin(0).seek(0, 1, 0).times(r, |s| s.write(0, 1, LENGTH)).commit(0);
     let fresh = Script::default().fresh();
-    let granted = grant(Script::default());
     [
         case("Seek", grant(fresh.clone()).begin(0), Script::default().seek(0, 0, 48)),
-        Case {
-            name: "Taking back a grant",
-            setup: fresh,
-            with: granted.clone().take_back(),
-            without: Some(granted),
-            calls: 1,
-        },
+        case("Begin to Commit, and taking back", fresh, grant(Script::default()).take_back()),
     ]
 }
 

@@ -20,7 +20,8 @@ use Rattle.rules.specs.Windows.{isForClosed, forClosed}
 use Rattle.rules.specs.Transactions.{Write}
 use Rattle.rules.specs.Machine.{fileOf, writeAt, txnOf}
 use Rattle.laws.proofs.Shapes.{shaped}
-use Rattle.laws.proofs.Decoded.{Opened, decoded-length, some-tabulate}
+use Rattle.rules.proofs.View.Decode.{decoded-length}
+use Rattle.laws.proofs.Decoded.{Opened, some-tabulate}
 use Rattle.closing.specs.Closing.{OpenIn, closedFiles, recordHasByteFor, hasByteFor, hasByteForClosed}
 
 -- No record has a byte for a file of the empty octet.
@@ -67,14 +68,17 @@ module _ (kept : List ℕ) (t : ℕ) (o : OpenIn kept t) where
     unfolding hasByteFor forClosed txnOf isForClosed recordHasByteFor fileOf closedFiles writeAt
     closed-is minute =
         ap (someBelow (recordHasByteFor kept t (closedFiles kept minute))) (sym counts)
-        ∙ sym (some-tabulate test (writeAt (journalOf kept) logs t) (recordHasByteFor kept t (closedFiles kept minute)) (transaction (storeOf kept) t .used .records) each)
+        ∙ sym (some-tabulate test (writeAt (journalOf kept) logs t) (recordHasByteFor kept t (closedFiles kept minute))
+        (transaction (storeOf kept) t .used .records) each)
       where
         test : Write → Bool
         test = isForClosed (fileOf (storeOf kept)) (windowAt (storeOf kept)) minute
 
-        each : (k : ℕ) → k < transaction (storeOf kept) t .used .records → test (writeAt (journalOf kept) logs t k) ≡ recordHasByteFor kept t (closedFiles kept minute) k
+        each : (k : ℕ) → k < transaction (storeOf kept) t .used .records
+            → test (writeAt (journalOf kept) logs t k) ≡ recordHasByteFor kept t (closedFiles kept minute) k
         each k h =
             let d = writeRecordAt (journalOf kept) t k .descriptor in
             let in-count : k < count = omega (arith, counts) in
-            ap₂ (λ (n : ℕ) (b : Bool). ltb 0 n && b) (decoded-length (storeOf kept) (journalOf kept) logs t decoded k h)
+            ap₂ (λ (n : ℕ) (b : Bool). ltb 0 n && b)
+            (decoded-length (storeOf kept) (journalOf kept) logs t (decoded .size) (decoded .small) (decoded .ranges) k h)
             (sym (contains-bits (isClosedAt (windowAt (storeOf kept)) minute) 8 (getD (storeOf kept .filenumbers) d 0) (file-in d (descriptor-in k in-count))))

@@ -1,12 +1,12 @@
 -- The rules of Commit after each of its tests: no minute of the day, stale, closed, past the end, granted.
-use mathlib.Core.Bool.{Bool, true, false, cond, not, _&&_, _||_, true≢false}
+use mathlib.Core.Bool.{Bool, true, false, cond, _||_, true≢false}
 use mathlib.Core.List.{List, [], _++_}
 use mathlib.Core.Path.{_≡_, refl, sym, ap, ap₂, _∙_, subst}
 use lib.Count.{ones}
 use lib.Dec.{eqb}
 use lib.ListN.{length, getD, set, drop}
 use lib.Seq.{drop-cons, getD-at, getD-set-same, getD-set-other}
-use borrow.Author.Tests.{eqb-true, eqb-false}
+use borrow.Author.Tests.{eqb-true, eqb-false, eq-eqb}
 use native.Mathlib.Omega.{arith}
 use Prim.Native.Nat.{ℕ, zero, suc, _+_, _<_}
 use Rattle.windows.specs.Hours.{minuteIn}
@@ -22,7 +22,8 @@ use Rattle.record.specs.declared.Transaction.{Transaction}
 use Rattle.record.specs.declared.outcomes.Refusal.the-variants.{Stale}
 use Rattle.record.specs.declared.outcomes.Outcome.the-variants.{Granted, Refused}
 use Rattle.record.specs.State.{transaction, noTransaction, windowAt, ended, withStale, withOffsets, withLengths, withUndo, withTransactions, withTransaction}
-use Rattle.record.specs.Layout.{storeOf, journalOf, withStaleAt, resetAt, recordLength}
+use Rattle.record.specs.Layout.{storeOf, journalOf, recordLength}
+use Rattle.record.specs.Updates.{withStaleAt, resetAt}
 use Rattle.record.specs.Paper.{granted, refused, number, said}
 use Rattle.record.proofs.LayoutLaws.{transaction-of, length-with-stale, store-with-stale, journal-with-stale, store-reset, journal-reset}
 use Rattle.record.proofs.Filled.{filled, filled-set, filled-kept}
@@ -31,7 +32,8 @@ use Rattle.rules.specs.Windows.{forClosed}
 use Rattle.rules.specs.Commits.{Setting, commitRefusal}
 use Rattle.rules.specs.Messages.{commit}
 use Rattle.rules.specs.Machine.{Machine, lent, sizes, fileOf, txnOf}
-use Rattle.rules.specs.Calls.{Turn, turnDown, reset, passing, admitted, landFiles, landOffsets, landLengths, conflicts, staled, afterCommit, becomesStale, commitDecided, commitGranted, settingsOf, commitTurn, formerNumber, call}
+use Rattle.rules.specs.Calls.{Turn, turnDown, reset, passing, admitted, landFiles, landOffsets, landLengths, madeStale, afterCommit}
+use Rattle.rules.specs.Calls.{commitDecided, commitGranted, settingsOf, commitTurn, formerNumber, call}
 use Rattle.rules.specs.Undo.{keepingFound}
 use Rattle.rules.specs.Promises.{Meets, machineOf, LeftAsFound}
 use Rattle.laws.proofs.Shapes.{shaped}
@@ -92,7 +94,8 @@ stale-follows kept files logs marks undo after unmarked t w long small e r u = (
   rw (e, u) (record {
     outcome = refl;
     machine =
-        ap₂ (λ (s : Store) (j : List ℕ). lent s j files logs (withoutMarks t marks) undo) (ap storeOf r ∙ store-reset kept t long small false) (ap journalOf r ∙ journal-reset kept t long small false);
+        ap₂ (λ (s : Store) (j : List ℕ). lent s j files logs (withoutMarks t marks) undo)
+        (ap storeOf r ∙ store-reset kept t long small false) (ap journalOf r ∙ journal-reset kept t long small false);
     reader = refl;
   }),
   λ q f n. let same : Stale ≡ q = cc in absurd (n (ap number (sym same))),
@@ -116,7 +119,8 @@ module _ (octet : ℕ) (before kept : List ℕ) (u : ℕ) (few : u < 8) where
     stale-put has after e =
         let s = storeOf before in
         let eight = shaped before .transactions in
-        let same : transaction (staleFirst octet before u) u ≡ transaction s u = filled-next (staleIn octet s) (s .transactions) u noTransaction (omega arith) in
+        let same : transaction (staleFirst octet before u) u
+        ≡ transaction s u = filled-next (staleIn octet s) (s .transactions) u noTransaction (omega arith) in
         record {
           store =
               ap storeOf e
@@ -148,45 +152,48 @@ module _ (octet : ℕ) (before kept : List ℕ) (u : ℕ) (few : u < 8) where
 -- ---- a granted commit
 
 -- Only a transaction that goes stale is written anew.
-rewritten : (y : Transaction) (b c z : Bool) → y .stale ≡ z → cond (b && not z && c) (withStale true y) y ≡ withStale (z || (b && c)) y
-rewritten y b c z e = pick b c z (ap (λ (w : Bool). withStale w y) e)
+rewritten : (y : Transaction) (b z : Bool) → y .stale ≡ z → cond b (withStale true y) y ≡ withStale (z || b) y
+rewritten y b z e = pick b z (ap (λ (w : Bool). withStale w y) e)
   where
-    pick : (b c z : Bool) → y ≡ withStale z y → cond (b && not z && c) (withStale true y) y ≡ withStale (z || (b && c)) y
-    pick true c true k = k
-    pick false c true k = k
-    pick true true false k = refl
-    pick true false false k = k
-    pick false c false k = k
+    pick : (b z : Bool) → y ≡ withStale z y → cond b (withStale true y) y ≡ withStale (z || b) y
+    pick true true k = refl
+    pick true false k = refl
+    pick false true k = k
+    pick false false k = k
 
-module _ (s : Store) (marks : List ℕ) (ss : List Setting) (t octet : ℕ) (small : t < 8) (eight : length (s .transactions) ≡ 8)
-    (says : octet ≡ bitsOf (becomesStale t marks ss s) 8)
+module _ (m : Machine) (ss : List Setting) (t octet : ℕ) (small : t < 8) (eight : length (m .store .transactions) ≡ 8)
+    (says : octet ≡ bitsOf (madeStale t ss m) 8)
   where
     -- Transaction u, once t has ended and those of the octet are stale.
-    after-same : (u : ℕ) → u < 8 → let y = getD (set (s .transactions) t ended) u noTransaction in
-        cond (contains octet u) (withStale true y) y ≡ afterCommit t marks ss s u
-    unfolding becomesStale afterCommit staled
+    after-same : (u : ℕ) → u < 8 → let y = getD (set (m .store .transactions) t ended) u noTransaction in
+        cond (contains octet u) (withStale true y) y ≡ afterCommit t ss m u
+    unfolding afterCommit
     after-same u l =
-        rw (ap (λ (n : ℕ). contains n u) says ∙ contains-bits (becomesStale t marks ss s) 8 u l)
+        rw (ap (λ (n : ℕ). contains n u) says ∙ contains-bits (madeStale t ss m) 8 u l)
         (pick (eqb u t) refl)
       where
         y : Transaction
-        y = transaction s u
+        y = transaction (m .store) u
 
-        pick : (b : Bool) → eqb u t ≡ b → let x = getD (set (s .transactions) t ended) u noTransaction in
-            cond (not (eqb u t) && y .begun && not (y .stale) && conflicts marks u y ss) (withStale true x) x
-            ≡ cond (eqb u t) ended (withStale (y .stale || (y .begun && conflicts marks u y ss)) y)
+        own : u ≡ t → madeStale t ss m u ≡ false
+        own e = unfold madeStale in rw (eq-eqb u t e) refl
+
+        pick : (b : Bool) → eqb u t ≡ b → let x = getD (set (m .store .transactions) t ended) u noTransaction in
+            cond (madeStale t ss m u) (withStale true x) x ≡ cond (eqb u t) ended (withStale (y .stale || madeStale t ss m u) y)
         pick true e =
-            rw (e, eqb-true u t e) (getD-set-same (s .transactions) t ended noTransaction (omega arith))
+            rw (e, own (eqb-true u t e), eqb-true u t e) (getD-set-same (m .store .transactions) t ended noTransaction (omega arith))
         pick false e =
-            rw (e, getD-set-other (s .transactions) t u ended noTransaction (eqb-false u t e)) (rewritten y (y .begun) (conflicts marks u y ss) (y .stale) refl)
+            rw (e, getD-set-other (m .store .transactions) t u ended noTransaction (eqb-false u t e)) (rewritten y (madeStale t ss m u) (y .stale) refl)
 
-    transactions-are : tabulate (λ u. cond (contains octet u) (withStale true (getD (set (s .transactions) t ended) u noTransaction)) (getD (set (s .transactions) t ended) u noTransaction)) 8
-        ≡ tabulate (afterCommit t marks ss s) 8
+    transactions-are : tabulate
+        (λ u. cond (contains octet u) (withStale true (getD (set (m .store .transactions) t ended) u noTransaction))
+        (getD (set (m .store .transactions) t ended) u noTransaction)) 8
+        ≡ tabulate (afterCommit t ss m) 8
     transactions-are = table-same _ _ 8 after-same
 
 -- What the grant leaves, part by part.
 module _ (kept files logs marks undo : List ℕ) (t : ℕ) (x : Transaction) (can : CanGrant kept files logs marks undo t x)
-    (octet : ℕ) (says : (files logs : List ℕ) → length logs ≡ 32768 → octet ≡ staleBy kept files logs marks t)
+    (octet : ℕ) (says : (files logs undo : List ℕ) → length logs ≡ 32768 → octet ≡ staleBy (machineOf kept files logs marks undo) t)
     (lengths : List ℕ) (lengthsAre : lengths ≡ lengthsLandedIn kept t (x .used .records))
     (holding : List ℕ) (holds : GrantKept kept holding t (x .used))
     (raised : List ℕ) (raises : Means holding raised (withLengths lengths (storeOf holding)))
@@ -196,6 +203,9 @@ module _ (kept files logs marks undo : List ℕ) (t : ℕ) (x : Transaction) (ca
   where
     abbrev s : Store
     s = storeOf kept
+
+    abbrev m : Machine
+    m = machineOf kept files logs marks undo
 
     abbrev ss : List Setting
     ss = allSet s (journalOf kept) files logs t
@@ -238,7 +248,7 @@ module _ (kept files logs marks undo : List ℕ) (t : ℕ) (x : Transaction) (ca
 
     -- The store that keeps what the grant finds, as the rules have it.
     abbrev keeping : Machine
-    keeping = keepingFound (txnOf s (journalOf kept) logs t) (machineOf kept files logs marks undo)
+    keeping = keepingFound (txnOf s (journalOf kept) logs t) m
 
     bytes-own : lengthsBefore (journalOf kept) t (transaction s t .used .records) ≡ transaction s t .used .bytes
     bytes-own = subst (λ (y : Transaction). lengthsBefore (journalOf kept) t (y .used .records) ≡ y .used .bytes) (sym own-is) (can .bytes)
@@ -258,7 +268,7 @@ module _ (kept files logs marks undo : List ℕ) (t : ℕ) (x : Transaction) (ca
 
     -- A store with these offsets and lengths, and the transactions as they are after the commit.
     abbrev committed : List ℕ → List ℕ → Store → Store
-    committed os ls q = withOffsets os (withLengths ls (withTransactions (tabulate (afterCommit t marks ss s) 8) q))
+    committed os ls q = withOffsets os (withLengths ls (withTransactions (tabulate (afterCommit t ss m) 8) q))
 
     store-is : storeOf after ≡ committed (landOffsets ss (s .offsets)) (landLengths ss (s .lengths)) (keeping .store)
     unfolding withTransaction staleBy
@@ -266,14 +276,14 @@ module _ (kept files logs marks undo : List ℕ) (t : ℕ) (x : Transaction) (ca
         stales .store
         ∙ ap (withStaleIn octet) closed-is
         ∙ ap (λ (xs : List Transaction). withTransactions xs (withOffsetsOf x (withLengths lengths (withUndo held s))))
-        (transactions-are s marks ss t octet (can .lands .small) (shaped kept .transactions) (says files logs (can .logsLength)))
+        (transactions-are m ss t octet (can .lands .small) (shaped kept .transactions) (says files logs undo (can .logsLength)))
         ∙ ap₂ (λ (os ls : List ℕ). committed os ls (withUndo held s)) (sym offsets-is) (sym lengths-is)
         ∙ ap (committed (landOffsets ss (s .offsets)) (landLengths ss (s .lengths))) held-is
 
     pub granted-follows : (landed : List ℕ) → landed ≡ landFiles (bytesSetIn kept logs t (x .used .records)) files
         → (old : List ℕ) → old ≡ pasted undo 0 (oldBytesIn kept files logs t (x .used .records))
         → (unmarked : List ℕ) → unmarked ≡ withoutMarks t marks
-        → Meets (grantTurn t (machineOf kept files logs marks undo)) (Granted octet) (machineOf after landed logs unmarked old) []
+        → Meets (grantTurn t m) (Granted octet) (machineOf after landed logs unmarked old) []
         × LeftAsFound (Granted octet) kept after
     unfolding commitGranted keepingFound said staleBy
     granted-follows landed lands old olds unmarked ms =
@@ -287,7 +297,7 @@ module _ (kept files logs marks undo : List ℕ) (t : ℕ) (x : Transaction) (ca
         ∙ ap (pasted undo 0) (sym (old-are s (journalOf kept) files logs t)) in
         let noted = journal-is ∙ records-is in (
           record {
-            outcome = ap granted (says files logs (can .logsLength));
+            outcome = ap granted (says files logs undo (can .logsLength));
             machine = λ i. lent (store-is i) (noted i) (files-is i) logs (ms i) (old-is i);
             reader = refl;
           },
@@ -307,7 +317,7 @@ ones-count x h =
 
 module _ (t : ℕ) (m : Machine) (n : ℕ) where
   abbrev became : ℕ → Bool
-  became = becomesStale t (m .marks) (settingsOf m t) (m .store)
+  became = madeStale t (settingsOf m t) m
 
   decided-octet : (daily stale shut placed : Bool)
       → commitDecided t (txnOf (m .store) (m .journal) (m .logs) t) (settingsOf m t) m (commitRefusal daily stale shut placed) .reply .answer

@@ -23,9 +23,10 @@ use Rattle.record.proofs.LayoutLaws.{transaction-of, descriptor-of, standing-of
 use Rattle.standings.specs.Table.{isKnown, isTouched, finalOffset}
 use Rattle.rules.specs.Items.{offset, fileLength, Values}
 use Rattle.rules.specs.Transactions.{Txn}
-use Rattle.rules.specs.Commits.{Setting, stretch, byteSettings, setsOffset, offsetSettings, landedEnd, lengthSettings}
-use Rattle.rules.specs.Machine.{dataStart, fileOf, values, writeAt, txnOf}
-use Rattle.rules.specs.Calls.{hasSighted, conflicts, becomesStale}
+use Rattle.rules.specs.Commits.{Setting, bytesFrom, byteSettings, setsOffset, offsetSettings, landedEnd, lengthSettings}
+use Rattle.rules.specs.Machine.{Machine, dataStart, fileOf, values, writeAt, txnOf}
+use Rattle.rules.specs.Calls.{hasSighted, conflicts, madeStale}
+use Rattle.rules.specs.Promises.{machineOf}
 use Rattle.landing.specs.declared.writes.Landing.{Landing}
 use Rattle.landing.specs.Landing.{descriptorsOnly, bytesSet, bytesSetIn, landedReach, lengthsLandedIn, CanLandIn, LandsAs}
 use Rattle.landing.proofs.WriteLaws.{data-in, byte-count, set-more}
@@ -43,7 +44,14 @@ known-kind (suc zero) a b = refl
 known-kind (suc (suc zero)) a b = refl
 known-kind (suc (suc (suc zero))) a b = refl
 known-kind (suc (suc (suc (suc k)))) a b =
-    rw (ne-eqb (suc (suc (suc (suc k)))) 0 (λ p. omega arith), ne-eqb (suc (suc (suc (suc k)))) 1 (λ p. omega arith), ne-eqb (suc (suc (suc (suc k)))) 2 (λ p. omega arith), ne-eqb (suc (suc (suc (suc k)))) 3 (λ p. omega arith), lt-ltb 3 (suc (suc (suc (suc k)))) (omega arith))
+    rw (
+      ne-eqb (suc (suc (suc (suc k)))) 0 (λ p. omega arith),
+      ne-eqb (suc (suc (suc (suc k)))) 1 (λ p. omega arith),
+      ne-eqb
+          (suc (suc (suc (suc k)))) 2 (λ p. omega arith),
+      ne-eqb (suc (suc (suc (suc k)))) 3 (λ p. omega arith),
+      lt-ltb 3 (suc (suc (suc (suc k)))) (omega arith),
+    )
 
 pub stands-known : (kept : List ℕ) (u d k : ℕ) → d < 16 → k ≡ getD kept (base u + d) 0 → isKnown (standingAt (transactionOf kept u) d) ≡ ltb 3 k
 stands-known kept u d k few e =
@@ -66,8 +74,8 @@ module _ (marks : List ℕ) (u : ℕ) (y : Transaction) where
       ∙ sym (or-assoc (hasSighted marks u y (x .item)) (conflicts marks u y xs) (conflicts marks u y ys))
 
   -- Who has sighted one of the bytes of a stretch has a mark in it.
-  conflicts-stretch : (q : ℕ) (bs : List ℕ) → conflicts marks u y (stretch q bs) ≡ hasMarkIn marks u q (length bs)
-  unfolding conflicts stretch hasSighted
+  conflicts-stretch : (q : ℕ) (bs : List ℕ) → conflicts marks u y (bytesFrom q bs) ≡ hasMarkIn marks u q (length bs)
+  unfolding conflicts bytesFrom hasSighted
   conflicts-stretch q [] = sym (has-in-none marks u q)
   conflicts-stretch q (b ∷ bs) =
       ap (λ (c : Bool). hasMark marks u q || c) (conflicts-stretch (suc q) bs) ∙ sym (has-in-first marks u q (length bs))
@@ -116,8 +124,9 @@ module _ (kept marks : List ℕ) (watched : ℕ) where
       let bs = cut logs start (w .length) in
       let long : length bs ≡ w .length = length-cut logs start (w .length) (let e = lands .length in omega (arith, data-in can earlier, can .small)) in
       rw (set-more lands logs start refl)
-      (sighters-join (bytesSetIn kept logs t k) (stretch q bs) a b c sa
-      (λ u l. sb u l ∙ ap (λ (x : Bool). contains watched u && x) (ap (hasMarkIn marks u q) (sym long) ∙ sym (conflicts-stretch marks u (transactionOf kept u) q bs)))
+      (sighters-join (bytesSetIn kept logs t k) (bytesFrom q bs) a b c sa
+      (λ u l. sb u l ∙ ap (λ (x : Bool). contains watched u && x)
+      (ap (hasMarkIn marks u q) (sym long) ∙ sym (conflicts-stretch marks u (transactionOf kept u) q bs)))
       joins)
 
   -- ---- offsets
@@ -160,7 +169,8 @@ module _ (kept marks : List ℕ) (watched : ℕ) where
           pick true e = let l = ltb-true a b e in lt-ltb a (max a b) (omega arith)
           pick false e = let l = ltb-false a b e in le-ltb a (max a b) (omega arith)
 
-      raised-is : ltb (values (storeOf kept) files (fileLength f)) (reachOf kept files logs t n f) ≡ ltb (getD (storeOf kept .lengths) f 0) (getD (lengthsLandedIn kept t n) f 0)
+      raised-is : ltb (values (storeOf kept) files (fileLength f)) (reachOf kept files logs t n f)
+          ≡ ltb (getD (storeOf kept .lengths) f 0) (getD (lengthsLandedIn kept t n) f 0)
       unfolding values fileOf
       raised-is =
           let s = storeOf kept in
@@ -168,7 +178,8 @@ module _ (kept marks : List ℕ) (watched : ℕ) where
           sym
           (ap (ltb (getD (s .lengths) f 0)) (length-at (s .filenumbers) (s .offsets) j t (s .lengths) n f few)
           ∙ over-max (getD (s .lengths) f 0) (landedReach (s .filenumbers) (s .offsets) j t f n)
-          ∙ ap (ltb (getD (s .lengths) f 0)) (reach-is (s .filenumbers) (s .offsets) j t (values s files) (λ d. refl) logs f n (λ k h. byte-count can h logs size)))
+          ∙ ap (ltb (getD (s .lengths) f 0))
+          (reach-is (s .filenumbers) (s .offsets) j t (values s files) (λ d. refl) logs f n (λ k h. byte-count can h logs size)))
 
       module _ (length after : ℕ) (before : length ≡ getD (storeOf kept .lengths) f 0) (afterwards : after ≡ getD (lengthsLandedIn kept t n) f 0) where
         raised-so : ltb (values (storeOf kept) files (fileLength f)) (reachOf kept files logs t n f) ≡ ltb length after
@@ -186,18 +197,22 @@ module _ (kept marks : List ℕ) (watched : ℕ) where
             ∙ ap (λ (y : Bool). contains watched u && y) (sym (or-false (contains (transactionOf kept u .lengthmarks) f))))
             joins)
 
-        pub length-less : after ≤ length → (a : ℕ) → Sighters kept marks watched (raisedBelow kept files logs t n f) a → Sighters kept marks watched (raisedBelow kept files logs t n (f + 1)) a
+        pub length-less : after ≤ length → (a : ℕ) → Sighters kept marks watched (raisedBelow kept files logs t n f) a
+            → Sighters kept marks watched (raisedBelow kept files logs t n (f + 1)) a
         unfolding lengthSettings
         length-less h a sa = rw (add-one, raised-so ∙ le-ltb length after h, append-nil) sa
 
 -- ---- the octet
 
-module _ (kept files logs marks : List ℕ) (t : ℕ) where
+module _ (kept files logs marks undo : List ℕ) (t : ℕ) where
   abbrev committed : Values
   committed = values (storeOf kept) files
 
   abbrev all : List Setting
   all = allSet (storeOf kept) (journalOf kept) files logs t
+
+  abbrev m : Machine
+  m = machineOf kept files logs marks undo
 
   -- All that it sets, as the code goes over it.
   all-is : t < 8 → (used : Used) → used ≡ transactionOf kept t .used
@@ -206,20 +221,22 @@ module _ (kept files logs marks : List ℕ) (t : ℕ) where
   all-is small used e =
       let s = storeOf kept in
       settings-are s (journalOf kept) files logs t
-      ∙ ap (λ (x : Transaction). bytesSetIn kept logs t (x .used .records) ++ (offsetSettings committed (descriptorsOnly x) 16 ++ lengthsSetIn kept files logs t (x .used .records)))
+      ∙ ap (λ (x : Transaction). bytesSetIn kept logs t (x .used .records)
+      ++ (offsetSettings committed (descriptorsOnly x) 16 ++ lengthsSetIn kept files logs t (x .used .records)))
       (transaction-of kept t small)
       ∙ ap (λ (n : Used). bytesSetIn kept logs t (n .records) ++ (offsetsSetIn kept committed t ++ lengthsSetIn kept files logs t (n .records))) (sym e)
 
   module _ (watched : ℕ) (watches : watched ≡ bitsOf (isWatched kept t) 8) where
-    octet-is : (r : ℕ) → r < 256 → Sighters kept marks watched all r → r ≡ staleBy kept files logs marks t
-    unfolding staleBy becomesStale
+    octet-is : (r : ℕ) → r < 256 → Sighters kept marks watched all r → r ≡ staleBy m t
+    unfolding staleBy madeStale
     octet-is r small sees =
-        octets-same r (bitsOf (becomesStale t marks all (storeOf kept)) 8) small (bits-lt (becomesStale t marks all (storeOf kept)) 8)
+        octets-same r (bitsOf (madeStale t all m) 8) small (bits-lt (madeStale t all m) 8)
         (λ u l. sees u l
-        ∙ ap (λ (b : Bool). b && conflicts marks u (transactionOf kept u) all) (ap (λ (n : ℕ). contains n u) watches ∙ contains-bits (isWatched kept t) 8 u l)
+        ∙ ap (λ (b : Bool). b && conflicts marks u (transactionOf kept u) all)
+        (ap (λ (n : ℕ). contains n u) watches ∙ contains-bits (isWatched kept t) 8 u l)
         ∙ regroup (not (eqb u t)) (transactionOf kept u .begun) (not (transactionOf kept u .stale)) (conflicts marks u (transactionOf kept u) all)
         ∙ ap (λ (y : Transaction). not (eqb u t) && y .begun && not (y .stale) && conflicts marks u y all) (sym (transaction-of kept u l))
-        ∙ sym (contains-bits (becomesStale t marks all (storeOf kept)) 8 u l))
+        ∙ sym (contains-bits (madeStale t all m) 8 u l))
       where
         regroup : (a b c d : Bool) → (a && b && c) && d ≡ a && b && c && d
         regroup true true c d = refl
@@ -227,20 +244,23 @@ module _ (kept files logs marks : List ℕ) (t : ℕ) where
         regroup false b c d = refl
 
     -- Nobody is watched.
-    pub none-stale : watched ≡ 0 → 0 ≡ staleBy kept files logs marks t
+    pub none-stale : watched ≡ 0 → 0 ≡ staleBy m t
     none-stale e =
         octet-is 0 (omega arith)
-        (λ u l. contains-none u ∙ sym (ap (λ (n : ℕ). contains n u && conflicts marks u (transactionOf kept u) all) e ∙ ap (λ (b : Bool). b && conflicts marks u (transactionOf kept u) all) (contains-none u)))
+        (λ u l. contains-none u ∙ sym
+        (ap (λ (n : ℕ). contains n u && conflicts marks u (transactionOf kept u) all) e
+        ∙ ap (λ (b : Bool). b && conflicts marks u (transactionOf kept u) all) (contains-none u)))
 
     pub stale-is : t < 8 → (used : Used) → used ≡ transactionOf kept t .used → (a b c d r : ℕ)
         → Sighters kept marks watched (bytesSetIn kept logs t (used .records)) a
         → Sighters kept marks watched (offsetsSetIn kept committed t) b
         → Sighters kept marks watched (lengthsSetIn kept files logs t (used .records)) c
         → ((u : ℕ) → contains d u ≡ contains b u || contains c u) → ((u : ℕ) → contains r u ≡ contains a u || contains d u)
-        → r < 256 → r ≡ staleBy kept files logs marks t
+        → r < 256 → r ≡ staleBy m t
     stale-is small used e a b c d r sa sb sc later joins octet =
         octet-is r octet
         (rw (all-is small used e)
-        (sighters-join kept marks watched (bytesSetIn kept logs t (used .records)) (offsetsSetIn kept committed t ++ lengthsSetIn kept files logs t (used .records)) a d r sa
+        (sighters-join kept marks watched (bytesSetIn kept logs t (used .records))
+        (offsetsSetIn kept committed t ++ lengthsSetIn kept files logs t (used .records)) a d r sa
         (sighters-join kept marks watched (offsetsSetIn kept committed t) (lengthsSetIn kept files logs t (used .records)) b c d sb sc later)
         joins))

@@ -11,16 +11,14 @@ use Rattle.record.specs.State.{standingAt}
 use Rattle.record.specs.Layout.{transactionOf, storeOf, journalOf}
 use Rattle.standings.specs.Table.{isKnown}
 use Rattle.rules.specs.Items.{Values}
-use Rattle.rules.specs.Commits.{Setting, offsetSettings, lengthSettings, settings}
-use Rattle.rules.specs.Machine.{fileOf, values, writeAt, txnOf}
-use Rattle.rules.specs.Calls.{conflicts, becomesStale}
+use Rattle.rules.specs.Commits.{Setting, offsetSettings, lengthSettings}
+use Rattle.rules.specs.Machine.{Machine, fileOf, values, writeAt}
+use Rattle.rules.specs.Calls.{conflicts, madeStale, settingsOf}
 use Rattle.landing.specs.Landing.{descriptorsOnly}
 
--- The octet of those that would become stale by a commit of transaction t, as the rules say: "stale by it that were not so before".
-unfoldable pub staleBy : List ℕ → List ℕ → List ℕ → List ℕ → ℕ → ℕ
-staleBy kept files logs marks t =
-    let s = storeOf kept in
-    bitsOf (becomesStale t marks (settings (fileOf s) (values s files) (txnOf s (journalOf kept) logs t)) s) 8
+-- F-4's octet, as a Commit of transaction t would answer it now, were it granted.
+unfoldable pub staleBy : Machine → ℕ → ℕ
+staleBy m t = bitsOf (madeStale t (settingsOf m t) m) 8
 
 -- The transactions that a commit of t can make stale: every other one that is open and not stale.
 abbrev pub isWatched : List ℕ → ℕ → ℕ → Bool

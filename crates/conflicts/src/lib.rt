@@ -20,6 +20,7 @@ ghost use Prim.Native.Nat.{ℕ};
 ghost use lib.ListN.{length};
 ghost use Rattle.octets.specs.Bits.{bitsOf};
 ghost use Rattle.record.specs.Layout.{transactionOf};
+ghost use Rattle.rules.specs.Promises.{machineOf};
 ghost use Rattle.landing.specs.Landing.{CanLandIn};
 ghost use Rattle.conflicts.specs.Staling.{isWatched, staleBy};
 
@@ -38,12 +39,13 @@ fn watched(kept: &Record, t: usize) -> u8
     found
 }
 
-// The octet of those whom a commit of transaction t would make stale, granted or not: no byte of files or logs has a
-// part in it.
+// The octet of those whom a commit of transaction t would make stale, granted or not: no byte of files, logs or undo
+// has a part in it.
 pub fn stale_by<'a>(kept: &'a Record, marks: &'a [u8], t: usize) -> u8
-    requires { ⌜ CanLandIn (now kept) t (transactionOf (now kept) t .used .records) × (length (now marks) ≡ 32768) ⌝ }
-    ensures { λ r. ⌜ ((files logs : List ℕ) → length logs ≡ 32768
-        → r ≡ staleBy (now (kept .entry)) files logs (now (marks .entry)) t) ⌝ }
+    requires { ⌜ CanLandIn (now kept) t (transactionOf (now kept) t .used .records)
+        × (length (now marks) ≡ 32768) ⌝ }
+    ensures { λ r. ⌜ ((files logs undo : List ℕ) → length logs ≡ 32768
+        → r ≡ staleBy (machineOf (now (kept .entry)) files logs (now (marks .entry)) undo) t) ⌝ }
 {
     let watched = watched(kept, t);
     if watched == 0 {

@@ -1,6 +1,8 @@
 -- A step for the two walks of this crate, beside the logic's `Types/Run.antt`.
---     operand ! k refl     an operand that is a local or a written number is evaluated, where the cell of local i is entry k - 2 · i of the context, as it is once the locals are allocated.
--- So a line of a walk doesn't say which local is read, or whether a number stands there instead. That is the code's, and what it comes to is left to the contract's facts.
+-- operand ! k refl an operand that is a local or a written number is evaluated, where the cell of local i is entry k - 2 · i of the
+-- context, as it is once the locals are allocated.
+-- So a line of a walk doesn't say which local is read, or whether a number stands there instead. That is the code's, and what it comes to
+-- is left to the contract's facts.
 -- Assumes `Given`.
 use mathlib.Core.Path.{_≡_, sym, ap, subst}
 use Prim.Native.Nat.{ℕ, _-_, _*_, _^_}
@@ -37,11 +39,13 @@ module _ {M : Type 1} (𝓤 : URA M) (H : Heap 𝓤) (A : Atoms 𝓤) (Γ : List
 never : {M : Type 1} (𝓤 : URA M) (u v : Val) → Told 𝓤 u false v → ⊥
 never 𝓤 u v e = subst T (sym (ap (λ (s : Item 𝓤 × (Val × Bool)). s .1 .1) e)) tt
 
-module _ {M : Type 1} {𝓤 : URA M} {H : Heap 𝓤} {A : Atoms 𝓤} {K : Type 0} {W : Given 𝓤 H A} {Γ : List (Item 𝓤)} {E : Env 𝓤 H} (t : K) (k : ℕ) where
+module _ {M : Type 1} {𝓤 : URA M} {H : Heap 𝓤} {A : Atoms 𝓤} {K : Type 0} {W : Given 𝓤 H A} {Γ : List (Item 𝓤)} {E : Env 𝓤 H}
+    (t : K) (k : ℕ) where
   evaluates : (x : Operand) (v : Val) → Stands 𝓤 H A Γ E k x v → Opd K W Γ E x v
   evaluates (copy (place i [])) v e = load t (from t (stop t)) (look t (k - 2 * i) e)
   evaluates (copy (place i (s ∷ st))) v e = absurd (never 𝓤 v v e)
-  evaluates (int w m) v e = subst (λ (u : Val). Opd K W Γ E (int w m) u) (ap (λ (s : Item 𝓤 × (Val × Bool)). s .1 .0) e) (lit t (subst T (sym (ap (λ (s : Item 𝓤 × (Val × Bool)). s .1 .1) e)) tt))
+  evaluates (int w m) v e = subst (λ (u : Val). Opd K W Γ E (int w m) u) (ap (λ (s : Item 𝓤 × (Val × Bool)). s .1 .0) e)
+      (lit t (subst T (sym (ap (λ (s : Item 𝓤 × (Val × Bool)). s .1 .1) e)) tt))
   evaluates (intNeg w m) v e = absurd (never 𝓤 v v e)
   evaluates (intBig w m) v e = absurd (never 𝓤 v v e)
   evaluates (float f m) v e = absurd (never 𝓤 v v e)

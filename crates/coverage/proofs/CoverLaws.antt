@@ -59,7 +59,8 @@ module _ (j : Recorded) (t records : ℕ) (e : Extent) (r : Run) (run : RunOf j 
   unfolding coveredAt
   run-along q g l =
       let i : e .place + (q - e .place) ≡ q = omega arith in
-      ap (λ (x : ℕ). isRecord (supplier j t records (e .file) x)) (sym i) ∙ ap isRecord (run .same (q - e .place) (omega arith)) ∙ sym (ap isRecord (run .supplied))
+      ap (λ (x : ℕ). isRecord (supplier j t records (e .file) x)) (sym i) ∙ ap isRecord (run .same (q - e .place) (omega arith))
+      ∙ sym (ap isRecord (run .supplied))
 
   run-first : covered (e .place) ≡ logged
   run-first = run-along (e .place) (omega arith) (omega (arith, run .some))
@@ -75,7 +76,7 @@ module _ (j : Recorded) (t records : ℕ) (e : Extent) (r : Run) (run : RunOf j 
     -- the first place is covered
     pub first-covered-here : logged ≡ true → Upto covered false (e .place) (e .place)
     first-covered-here b =
-        record { start = omega arith; within = omega arith; same = λ q g l. absurd (omega arith); ended = λ l. run-first ∙ b }
+        record { start = omega arith; within = omega arith; same = λ q g l. absurd (omega arith); turned = λ l. run-first ∙ b }
 
     -- the first covered place comes after the run
     pub first-covered-after : logged ≡ false → Upto covered false (e .place) (e .place + r .length)
@@ -84,24 +85,26 @@ module _ (j : Recorded) (t records : ℕ) (e : Extent) (r : Run) (run : RunOf j 
           start = omega arith;
           within = omega (arith, run .within);
           same = λ q g l. run-along q g l ∙ b;
-          ended = λ l. run-then b (omega arith);
+          turned = λ l. run-then b (omega arith);
         }
 
   -- the walk over runs has come to this one, which is the file's
   pub first-clear-here : (p : ℕ) → p ≤ e .place → e .place ≤ 4096
       → ((q : ℕ) → p ≤ q → q < e .place → covered q ≡ true) → logged ≡ false → Upto covered true p (e .place)
-  first-clear-here p g l before b = record { start = g; within = l; same = before; ended = λ h. run-first ∙ b }
+  first-clear-here p g l before b = record { start = g; within = l; same = before; turned = λ h. run-first ∙ b }
 
   -- or a record's, and goes on
   pub first-clear-after : (p : ℕ)
-      → ((q : ℕ) → p ≤ q → q < e .place → covered q ≡ true) → logged ≡ true → (q : ℕ) → p ≤ q → q < e .place + r .length → covered q ≡ true
+      → ((q : ℕ) → p ≤ q → q < e .place → covered q ≡ true) → logged ≡ true → (q : ℕ) → p ≤ q → q < e .place + r .length
+      → covered q ≡ true
   first-clear-after p before b q g l = ⊎-elim (λ h. run-along q h l ∙ b) (λ h. before q g h) (le-or-lt (e .place) q)
 
 -- no place is left
 pub upto-end : (S : ℕ → Bool) (b : Bool) (p : ℕ) → p ≡ 4096 → Upto S b p p
-upto-end S b p e = record { start = omega arith; within = omega arith; same = λ q g l. absurd (omega arith); ended = λ l. absurd (omega arith) }
+upto-end S b p e = record { start = omega arith; within = omega arith; same = λ q g l. absurd (omega arith); turned = λ l. absurd (omega arith) }
 
-pub next-of : (S : ℕ → Bool) (p offset end n : ℕ) → Upto S false p offset → Upto S true offset end → n ≡ end - offset → NextOf S p (record { offset = offset; length = n })
+pub next-of : (S : ℕ → Bool) (p offset end n : ℕ) → Upto S false p offset → Upto S true offset end → n ≡ end - offset
+    → NextOf S p (record { offset = offset; length = n })
 next-of S p offset end n a b e =
     let q : end ≡ offset + n = omega (arith, b .start) in
     record { before = a; whole = subst (λ (x : ℕ). Upto S true offset x) q b }

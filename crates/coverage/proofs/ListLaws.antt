@@ -27,7 +27,8 @@ module _ (S : ℕ → Bool) (p : ℕ) (s : Stretch) (next : NextOf S p s) where
   next-end z = pick (next .before) (next .whole)
     where
       pick : Upto S false p (s .offset) → Upto S true (s .offset) (s .offset + s .length) → s .offset ≡ 4096
-      pick a b = ⊎-elim (λ h. omega (arith, a .within)) (λ h. absurd (false≢true (sym (b .ended (omega arith)) ∙ ap S (omega arith) ∙ a .ended h))) (le-or-lt 4096 (s .offset))
+      pick a b = ⊎-elim (λ h. omega (arith, a .within))
+          (λ h. absurd (false≢true (sym (b .turned (omega arith)) ∙ ap S (omega arith) ∙ a .turned h))) (le-or-lt 4096 (s .offset))
 
   next-bounds : (p ≤ s .offset) × (s .offset + s .length ≤ 4096)
   next-bounds = (next .before .start, next .whole .within)
@@ -51,7 +52,8 @@ module _ (S : ℕ → Bool) (p : ℕ) (s : Stretch) (next : NextOf S p s) where
       let e : 4096 - s .offset ≡ suc (s .length - 1) + (4096 - (s .offset + s .length)) = omega (arith, b .1) in
       reached
       ∙ ap (stretchesFrom S (s .offset)) e
-      ∙ stretch-first S (s .offset) (s .length - 1) (4096 - (s .offset + s .length)) (λ q a l. next .whole .same q a (omega arith)) (λ l. ap S (omega arith) ∙ next .whole .ended (omega arith))
+      ∙ stretch-first S (s .offset) (s .length - 1) (4096 - (s .offset + s .length)) (λ q a l. next .whole .same q a (omega arith))
+      (λ l. ap S (omega arith) ∙ next .whole .turned (omega arith))
       ∙ ap (λ (n : ℕ). stretch (s .offset) n ∷ stretchesFrom S (s .offset + n) (4096 - (s .offset + s .length))) (sym k)
 
 -- ---- the walk has come to place p, and the list so far is l
@@ -76,7 +78,10 @@ module _ (S : ℕ → Bool) (p : ℕ) (l : List listing.Stretch) (so : Listing S
 
     pub listing-more : (s .length ≡ 0 → ⊥) → Listing S (s .offset + s .length) (l ++ (asListed s ∷ []))
     listing-more h =
-        record { joins = append-assoc l (asListed s ∷ []) (rest S (s .offset + s .length)) ∙ ap (λ (r : List listing.Stretch). l ++ r) (sym (next-some S p s next h)) ∙ so .joins }
+        record {
+          joins = append-assoc l (asListed s ∷ []) (rest S (s .offset + s .length))
+              ∙ ap (λ (r : List listing.Stretch). l ++ r) (sym (next-some S p s next h)) ∙ so .joins;
+        }
 
     pub listing-room : (s .length ≡ 0 → ⊥) → 4 * length l + 4 ≤ 4 * length (stretchesOf S)
     listing-room h =
@@ -110,7 +115,8 @@ pair s = sixteen (s .offset) ++ sixteen (s .length)
 length-pair : (s : Stretch) → length (pair s) ≡ 4
 length-pair s = length-append (sixteen (s .offset)) (sixteen (s .length)) ∙ omega (arith, length-sixteen (s .offset), length-sixteen (s .length))
 
-pub pair-put : (out : List ℕ) (at : ℕ) (s : Stretch) → at + 4 ≤ length out → pasted (pasted out at (sixteen (s .offset))) (at + 2) (sixteen (s .length)) ≡ pasted out at (pair s)
+pub pair-put : (out : List ℕ) (at : ℕ) (s : Stretch) → at + 4 ≤ length out
+    → pasted (pasted out at (sixteen (s .offset))) (at + 2) (sixteen (s .length)) ≡ pasted out at (pair s)
 pair-put out at s h =
     ap (λ (n : ℕ). pasted (pasted out at (sixteen (s .offset))) (at + n) (sixteen (s .length))) (sym (length-sixteen (s .offset)))
     ∙ sym (pasted-append out at (sixteen (s .offset)) (sixteen (s .length)) (omega (arith, length-pair s)))

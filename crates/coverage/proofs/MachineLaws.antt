@@ -37,7 +37,8 @@ module _ (j : Recorded) (logs : List ℕ) (t f : ℕ) where
 
   unplaced-is : (n : ℕ) → unplaced file f (writes n) ≡ waitsIn j t n f
   unfolding unplaced waitsIn unplacedOn waitsOn writeAt
-  unplaced-is n = some-tabulate (unplacedOn file f) (writeAt (j .journal) logs t) (λ k. waitsOn (j .filenumbers) f (writeRecordAt (j .journal) t k)) n (λ k l. refl)
+  unplaced-is n = some-tabulate (unplacedOn file f) (writeAt (j .journal) logs t)
+      (λ k. waitsOn (j .filenumbers) f (writeRecordAt (j .journal) t k)) n (λ k l. refl)
 
   module _ (small : t < 8) (long : length logs ≡ 32768) where
     covers-is : (p k : ℕ) → lengthsBefore (j .journal) t (suc k) ≤ 4096
@@ -69,13 +70,16 @@ module _ (s : Store) (journal logs : List ℕ) (t f : ℕ) where
   unplaced-in = unplaced-is (recorded journal (s .filenumbers)) logs t f (transaction s t .used .records)
 
   module _ (small : t < 8) (long : length logs ≡ 32768) (range : TransactionInRange (transaction s t) journal t) where
-    covered-in : (p : ℕ) → covered (fileOf s) f (txnOf s journal logs t .writes) p ≡ coveredAt (recorded journal (s .filenumbers)) t (transaction s t .used .records) f p
+    covered-in : (p : ℕ) → covered (fileOf s) f (txnOf s journal logs t .writes) p
+        ≡ coveredAt (recorded journal (s .filenumbers)) t (transaction s t .used .records) f p
     unfolding txnOf fileOf
     covered-in p =
         covered-is (recorded journal (s .filenumbers)) logs t f small long (transaction s t .used .records) (omega (arith, range .total, range .bytes)) p
 
     -- the list of its writes is that of its write records
-    pub stretches-in : stretchesOf (covered (fileOf s) f (txnOf s journal logs t .writes)) ≡ stretchesOf (coveredAt (recorded journal (s .filenumbers)) t (transaction s t .used .records) f)
+    pub stretches-in : stretchesOf (covered (fileOf s) f (txnOf s journal logs t .writes))
+        ≡ stretchesOf (coveredAt (recorded journal (s .filenumbers)) t (transaction s t .used .records) f)
     unfolding stretchesOf
     stretches-in =
-        stretches-same (covered (fileOf s) f (txnOf s journal logs t .writes)) (coveredAt (recorded journal (s .filenumbers)) t (transaction s t .used .records) f) 0 4096 (λ p g l. covered-in p)
+        stretches-same (covered (fileOf s) f (txnOf s journal logs t .writes))
+        (coveredAt (recorded journal (s .filenumbers)) t (transaction s t .used .records) f) 0 4096 (λ p g l. covered-in p)

@@ -39,7 +39,8 @@ unfolding stretchesFrom
 from-length S p zero = omega arith
 from-length S p (suc n) = pick (S p) (from-length S (suc p) n)
   where
-    pick : (b : Bool) → length (stretchesFrom S (suc p) n) ≤ n → length (cond b (withPlace p (stretchesFrom S (suc p) n)) (stretchesFrom S (suc p) n)) ≤ suc n
+    pick : (b : Bool) → length (stretchesFrom S (suc p) n) ≤ n
+        → length (cond b (withPlace p (stretchesFrom S (suc p) n)) (stretchesFrom S (suc p) n)) ≤ suc n
     pick true h = omega (arith, with-length p (stretchesFrom S (suc p) n))
     pick false h = omega arith
 
@@ -58,7 +59,8 @@ module _ (t f : ℕ) (out : List ℕ) (m : Machine) (passes : admission (sizes m
   held = recorded (m .journal) (m .store .filenumbers)
 
   -- The reply, by the first test that refuses.
-  replied : (n : ℕ) → placesRefusal (fileOf (m .store)) f out txn ≡ n → call (places t f out) m ≡ record { reply = placesReply (fileOf (m .store)) f out txn n; after = m }
+  replied : (n : ℕ) → placesRefusal (fileOf (m .store)) f out txn ≡ n
+      → call (places t f out) m ≡ record { reply = placesReply (fileOf (m .store)) f out txn n; after = m }
   unfolding call admitted placesTurn placesOf
   replied n e =
       passing-on (admission (sizes m) (m .store) (m .journal) t) out m (placesTurn t f out m) passes

@@ -33,7 +33,7 @@ pub record Upto (S : ℕ → Bool) (b : Bool) (p r : ℕ) : Type 0 where
   pub start : p ≤ r
   pub within : r ≤ 4096
   pub same : (q : ℕ) → p ≤ q → q < r → S q ≡ b
-  pub ended : r < 4096 → S r ≡ not b
+  pub turned : r < 4096 → S r ≡ not b
 
 -- s is the first stretch of the set from place p on; it has length 0, and lies at the end of the file, where there is none.
 pub record NextOf (S : ℕ → Bool) (p : ℕ) (s : Stretch) : Type 0 where

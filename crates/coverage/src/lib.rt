@@ -147,7 +147,8 @@ fn put_number(out: &mut [u8], at: usize, n: usize)
 // A stretch as the pair of its offset and its length.
 fn put_pair(out: &mut [u8], at: usize, s: Stretch)
     requires { ⌜ (at + 4 ≤ length (now out)) × (s .offset < 65536) × (s .length < 65536) ⌝ }
-    ensures { λ _. ⌜ now (out .exit) ≡ pasted (now (out .entry)) at (sixteen (s .offset) ++ sixteen (s .length)) ⌝ }
+    ensures { λ _. ⌜ now (out .exit)
+        ≡ pasted (now (out .entry)) at (sixteen (s .offset) ++ sixteen (s .length)) ⌝ }
 {
     put_number(out, at, s.offset);
     put_number(out, at + 2, s.length);
@@ -157,7 +158,8 @@ fn put_pair(out: &mut [u8], at: usize, s: Stretch)
 fn write_stretches(kept: &Record, t: usize, used: Used, f: u16, out: &mut [u8])
     requires counted { ⌜ Counted (journalOf (now kept)) t used ⌝ }
     requires room { ⌜ 4 * length (stretchesIn (now kept) t used f) ≤ length (now out) ⌝ }
-    ensures { λ _. ⌜ now (out .exit) ≡ withPairs (stretchesIn (now (kept .entry)) t used f) (now (out .entry)) ⌝ }
+    ensures { λ _. ⌜ now (out .exit)
+        ≡ withPairs (stretchesIn (now (kept .entry)) t used f) (now (out .entry)) ⌝ }
 {
     let mut p = 0;
     let mut at = 0;

@@ -4,7 +4,11 @@ use Prim.Native.Nat.{ℕ, _≤_}
 use native.Mathlib.Omega.{arith}
 use Rattle.record.specs.Paper.{number}
 use Rattle.record.specs.declared.outcomes.Refusal.{Refusal}
-use Rattle.record.specs.declared.outcomes.Refusal.the-variants.{BufferLength, RecordRange, NoSuchTransaction, NotOpen, AlreadyOpen, NoSuchTarget, ReaderTooShort, SeekPastEnd, WritePastEnd, RecordsFull, LogFull, SettledPastEnd, Stale, NoSuchFile, NoPlaceYet, ListTooLong, BadLine, StaleReader, NotAtRest, ScriptRange, FileClosed, NoSuchMinute, StillOpen, NoGrant, NotReady, BadList, BadBudget}
+use Rattle.record.specs.declared.outcomes.Refusal.the-variants.{BufferLength, RecordRange, NoSuchTransaction, NotOpen, AlreadyOpen}
+use Rattle.record.specs.declared.outcomes.Refusal.the-variants.{NoSuchTarget, ReaderTooShort, SeekPastEnd, WritePastEnd, RecordsFull}
+use Rattle.record.specs.declared.outcomes.Refusal.the-variants.{LogFull, SettledPastEnd, Stale, NoSuchFile, NoPlaceYet, ListTooLong}
+use Rattle.record.specs.declared.outcomes.Refusal.the-variants.{BadLine, StaleReader, NotAtRest, ScriptRange, FileClosed, NoSuchMinute}
+use Rattle.record.specs.declared.outcomes.Refusal.the-variants.{StillOpen, NoGrant, NotReady, BadList, BadBudget}
 
 number-bound : (r : Refusal) → number r ≤ 27
 number-bound BufferLength = omega arith

@@ -263,7 +263,7 @@ pub fn of_state(kept: &Record, files: &[u8], logs: &[u8], marks: &[u8], undo: &[
 }
 
 // How a script ended: 0 where it was granted, otherwise the refusal's number.
-fn ended(e: Ended) -> u16 {
+fn end_number(e: Ended) -> u16 {
     let end = e.end;
     match end {
         End::Unfinished => 0,
@@ -282,7 +282,7 @@ fn ends_taken(h: usize, ends: [Ended; 8], n: usize) -> usize
     let mut k = 0;
     while k < scripts {
         let e = ends[k];
-        out = taken(out, ended(e));
+        out = taken(out, end_number(e));
         k += 1;
     }
     out

@@ -53,7 +53,8 @@ module _ (bytes : List ℕ) (minute : ℕ) (x : Scripts) (m : Machine) (buffer :
         → Gives (dispatch bytes minute x m buffer) (x .count) (record { outcome = Refused r; ends = replicate 8 noEnd; commits = 0 }) m buffer
     unfolding notStarted endOf said saidOf
     refused-gives r e =
-        subst⁻¹ (λ (d : Given Machine). Gives d (x .count) (record { outcome = Refused r; ends = replicate 8 noEnd; commits = 0 }) m buffer) (refused-is r e)
+        subst⁻¹ (λ (d : Given Machine). Gives d (x .count)
+        (record { outcome = Refused r; ends = replicate 8 noEnd; commits = 0 }) m buffer) (refused-is r e)
         (record {
           outcome = ap refused (number-suc r .1) ∙ sym (ap saidOf (number-suc r .1));
           ends = λ k l. ap (λ (a : Ended). endOf (a .end)) (getD-replicate 8 k noEnd noEnd l);

@@ -26,7 +26,8 @@ made lines counts n = record { lines = lines; counts = counts; count = n }
 
 pub no-calls : (lines : List Line) (n : ℕ) → NoCalls n (scriptsOf (made lines (replicate 8 0) n))
 unfolding scriptsOf
-no-calls lines n = record { count = refl; calls = λ k. ⊎-elim (λ l. List·getD-eq-default (replicate 8 0) 0 l) (λ l. getD-replicate 8 k 0 0 l) (le-or-lt 8 k) }
+no-calls lines n = record
+    { count = refl; calls = λ k. ⊎-elim (λ l. List·getD-eq-default (replicate 8 0) 0 l) (λ l. getD-replicate 8 k 0 0 l) (le-or-lt 8 k) }
 
 -- Nothing changes where k is above 7, or the script has more than sixteen calls.
 pub more-above : (k : ℕ) (c : CallOfScript) (x : SomeScripts) → 7 < k → OneMore k c x x
@@ -53,7 +54,8 @@ more-full k c x l =
       none = λ m. refl;
     }
 
-module _ (lines : List Line) (counts : List ℕ) (count k n : ℕ) (v : ScriptCall) (small : k < 8) (eight : length counts ≡ 8) (e : n ≡ getD counts k 0) where
+module _ (lines : List Line) (counts : List ℕ) (count k n : ℕ) (v : ScriptCall) (small : k < 8) (eight : length counts ≡ 8)
+    (e : n ≡ getD counts k 0) where
   raised : getD (set counts k (n + 1)) k 0 ≡ getD counts k 0 + 1
   raised = getD-set-same counts k (n + 1) 0 (omega arith) ∙ ap (λ (m : ℕ). m + 1) e
 
@@ -71,7 +73,8 @@ module _ (lines : List Line) (counts : List ℕ) (count k n : ℕ) (v : ScriptCa
       }
 
   pub more-added : n < 16 → length lines ≡ 128
-      → OneMore k (scriptCallOf v) (scriptsOf (made lines counts count)) (scriptsOf (made (set lines (16 * k + n) (record { call = v })) (set counts k (n + 1)) count))
+      → OneMore k (scriptCallOf v) (scriptsOf (made lines counts count))
+      (scriptsOf (made (set lines (16 * k + n) (record { call = v })) (set counts k (n + 1)) count))
   unfolding scriptsOf
   more-added q long =
       let added : List Line = set lines (16 * k + n) (record { call = v }) in

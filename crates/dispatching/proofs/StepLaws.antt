@@ -8,7 +8,7 @@ use lib.ListN.{set, length-set, replicate, getD-replicate}
 use lib.Seq.{getD-set-same, getD-set-other}
 use native.Mathlib.Numerals.{add-one}
 use native.Mathlib.Omega.{arith}
-use Prim.Native.Nat.{ℕ, zero, suc, _+_, _≤_, _<_}
+use Prim.Native.Nat.{ℕ, zero, suc, _+_, _<_}
 use Rattle.record.specs.declared.outcomes.Refusal.{Refusal}
 use Rattle.record.specs.declared.outcomes.Outcome.{Outcome}
 use Rattle.record.specs.Paper.{number, said}
@@ -19,7 +19,7 @@ use Rattle.ranges.proofs.Laws.{number-suc}
 use Rattle.requests.specs.declared.Request.{Request}
 use Rattle.requests.specs.Requests.{callOf}
 use Rattle.requests.specs.Performing.{Unanswered, Performs}
-use Rattle.rules.specs.Messages.{Call, begin, on, commit, abort, Reply, bufferOf, bufferOfCall}
+use Rattle.rules.specs.Messages.{Call, begin, on, commit, abort, Reply, bufferOf, bufferOfCall, afterAll}
 use Rattle.rules.specs.Transactions.{put}
 use Rattle.rules.specs.Machine.{Machine}
 use Rattle.rules.specs.Calls.{call, callsAfter}
@@ -27,7 +27,8 @@ use Rattle.rules.specs.Promises.{Meets}
 use Rattle.rules.proofs.Serial.Rerun.{put-same}
 use Rattle.rules.proofs.Serial.Invariant.{put-other}
 use Rattle.rounds.specs.Rounds.{ScriptCall, seeks, writes, asks, reads, Scripts, passed, goesOn, Work, nothingDone, withEnd, withReader, withCommit, withCall}
-use Rattle.rounds.specs.Rounds.{refusalIn, failing, orFailing, decided, opOf, readerAfter, begins, perform, turn, turns, passes, commitOne, commitAll, round, rounds}
+use Rattle.rounds.specs.Rounds.{refusalIn, failing, orFailing, decided, opOf, readerAfter, begins, perform, turn, turns, passes, commitOne}
+use Rattle.rounds.specs.Rounds.{commitAll, round, rounds}
 use Rattle.rounds.specs.Dispatch.{storeReply}
 use Rattle.dispatching.specs.declared.ends.End.{End}
 use Rattle.dispatching.specs.declared.ends.End.the-variants.{Failed}
@@ -37,12 +38,13 @@ use Rattle.dispatching.specs.Steps.{requestOf, bytesOf, Makes, Stands}
 
 -- One call more at the end of a list.
 calls-more : (cs : List Call) (c : Call) (m : Machine) → callsAfter (cs ++ (c ∷ [])) m ≡ call c (callsAfter cs m) .after
-unfolding callsAfter
+unfolding afterAll
 calls-more [] c m = refl
 calls-more (d ∷ cs) c m = calls-more cs c (call d m .after)
 
 -- Work that is equal stands as well.
-pub stands-as : (m₀ : Machine) (v w : Work) (m : Machine) (buffer : List ℕ) (es : List Ended) (n : ℕ) → v ≡ w → Stands m₀ w m buffer es n → Stands m₀ v m buffer es n
+pub stands-as : (m₀ : Machine) (v w : Work) (m : Machine) (buffer : List ℕ) (es : List Ended) (n : ℕ) → v ≡ w → Stands m₀ w m buffer es n
+    → Stands m₀ v m buffer es n
 stands-as m₀ v w m buffer es n e s = subst⁻¹ (λ (u : Work). Stands m₀ u m buffer es n) e s
 
 module _ (m₀ : Machine) (w : Work) (m : Machine) (buffer : List ℕ) (es : List Ended) (n : ℕ) (s : Stands m₀ w m buffer es n) where
@@ -97,7 +99,8 @@ pub stands-failed : (m₀ : Machine) (w : Work) (m : Machine) (buffer : List ℕ
     → Stands m₀ (failing k (number r) w) m′ buffer (set es k (record { end = Failed r })) n
 unfolding failing endOf
 stands-failed m₀ w m buffer es n s k r l m′ e =
-    stands-call m₀ (withEnd k (endOf (Failed r)) w) m buffer (set es k (record { end = Failed r })) n (stands-end m₀ w m buffer es n s k (Failed r) l) (abort k) m′ e
+    stands-call m₀ (withEnd k (endOf (Failed r)) w) m buffer (set es k (record { end = Failed r })) n
+    (stands-end m₀ w m buffer es n s k (Failed r) l) (abort k) m′ e
 
 -- ---- what a refusal comes to
 
@@ -144,7 +147,8 @@ pub makes-of : (k : ℕ) (l : ScriptCall) (bytes : List ℕ) (m : Machine) (buff
     → (q : Request) (part : List ℕ) (o : Outcome) → q ≡ requestOf k l → part ≡ bytesOf l bytes → gateNumber g ≡ refusalIn (said o)
     → Performs q part buffer m o m′ buffer′ → Makes k l bytes m buffer g m′ buffer′
 makes-of k l bytes m buffer g m′ buffer′ q part o e f h p =
-    pick l (subst (λ (b : List ℕ). Performs (requestOf k l) b buffer m o m′ buffer′) f (subst (λ (a : Request). Performs a part buffer m o m′ buffer′) e p))
+    pick l (subst (λ (b : List ℕ). Performs (requestOf k l) b buffer m o m′ buffer′) f
+    (subst (λ (a : Request). Performs a part buffer m o m′ buffer′) e p))
   where
     pick : (l : ScriptCall) → Performs (requestOf k l) (bytesOf l bytes) buffer m o m′ buffer′ → Makes k l bytes m buffer g m′ buffer′
     pick (seeks d v) p =
@@ -161,12 +165,15 @@ makes-of k l bytes m buffer g m′ buffer′ q part o e f h p =
         record { refusal = h ∙ ap refusalIn (p .meets .outcome); machine = p .meets .machine; reader = p .meets .reader }
 
 -- Whether call i of script k is due, as the code has tested it.
-pub turn-as : (bytes : List ℕ) (minute : ℕ) (x : Scripts) (i k : ℕ) (m₀ : Machine) (w : Work) (due : Bool) → due ≡ goesOn (w .ends k) && ltb i (x .script k .count)
+pub turn-as : (bytes : List ℕ) (minute : ℕ) (x : Scripts) (i k : ℕ) (m₀ : Machine) (w : Work) (due : Bool)
+    → due ≡ goesOn (w .ends k) && ltb i (x .script k .count)
     → turn (storeReply m₀) bytes minute x i k w ≡ cond due (perform (storeReply m₀) bytes minute x k (x .script k .call i) w) w
 unfolding turn
 turn-as bytes minute x i k m₀ w due e = ap (λ (b : Bool). cond b (perform (storeReply m₀) bytes minute x k (x .script k .call i) w) w) (sym e)
 
-module _ (bytes : List ℕ) (minute : ℕ) (x : Scripts) (k : ℕ) (line : ScriptCall) (m₀ : Machine) (w : Work) (m : Machine) (buffer : List ℕ) (es : List Ended) (n : ℕ) (s : Stands m₀ w m buffer es n) (g : Gate) (m₁ : Machine) (buffer₁ : List ℕ) (h : Makes k line bytes m buffer g m₁ buffer₁) where
+module _ (bytes : List ℕ) (minute : ℕ) (x : Scripts) (k : ℕ) (line : ScriptCall) (m₀ : Machine) (w : Work) (m : Machine) (buffer : List ℕ)
+    (es : List Ended) (n : ℕ) (s : Stands m₀ w m buffer es n) (g : Gate) (m₁ : Machine) (buffer₁ : List ℕ)
+    (h : Makes k line bytes m buffer g m₁ buffer₁) where
   abbrev made : Call
   made = on k (opOf bytes (w .reader) line)
 
@@ -201,14 +208,16 @@ module _ (bytes : List ℕ) (minute : ℕ) (x : Scripts) (k : ℕ) (line : Scrip
       → ((v : Work) → Stands m₀ v m₁ buffer₁ es n → Stands m₀ (orFailing k (gateNumber g) v) m₂ buffer₁ es₂ n)
       → Stands m₀ (cond due (perform (storeReply m₀) bytes minute x k line w) w) m₂ buffer₁ es₂ n
   turn-done due e m₂ es₂ f =
-      stands-as m₀ (cond due (perform (storeReply m₀) bytes minute x k line w) w) (orFailing k (gateNumber g) after) m₂ buffer₁ es₂ n (chosen due _ w e ∙ performed) (f after after-stands)
+      stands-as m₀ (cond due (perform (storeReply m₀) bytes minute x k line w) w) (orFailing k (gateNumber g) after) m₂ buffer₁ es₂ n
+      (chosen due _ w e ∙ performed) (f after after-stands)
 
 module _ (bytes : List ℕ) (minute : ℕ) (x : Scripts) (k : ℕ) (m₀ : Machine) (w : Work) where
   pub commit-over : goesOn (w .ends k) ≡ false → commitOne (storeReply m₀) bytes minute x k w ≡ w
   unfolding commitOne
   commit-over e = passed-over (goesOn (w .ends k)) _ w e
 
-  module _ (m : Machine) (buffer : List ℕ) (es : List Ended) (n : ℕ) (s : Stands m₀ w m buffer es n) (o : Outcome) (m₁ : Machine) (h : Meets (call (commit k minute) m) o m₁ []) (g : Gate) (r : gateNumber g ≡ refusalIn (said o)) where
+  module _ (m : Machine) (buffer : List ℕ) (es : List Ended) (n : ℕ) (s : Stands m₀ w m buffer es n) (o : Outcome) (m₁ : Machine)
+      (h : Meets (call (commit k minute) m) o m₁ []) (g : Gate) (r : gateNumber g ≡ refusalIn (said o)) where
     abbrev counted : Work
     counted = withCommit (withCall (commit k minute) w)
 
@@ -228,7 +237,8 @@ module _ (bytes : List ℕ) (minute : ℕ) (x : Scripts) (k : ℕ) (m₀ : Machi
         → ((v : Work) → Stands m₀ v m₁ buffer es (n + 1) → Stands m₀ (decided k (gateNumber g) v) m₂ buffer es₂ (n + 1))
         → Stands m₀ (commitOne (storeReply m₀) bytes minute x k w) m₂ buffer es₂ (n + 1)
     commit-done e m₂ es₂ f =
-        stands-as m₀ (commitOne (storeReply m₀) bytes minute x k w) (decided k (gateNumber g) counted) m₂ buffer es₂ (n + 1) (committed e) (f counted counted-stands)
+        stands-as m₀ (commitOne (storeReply m₀) bytes minute x k w) (decided k (gateNumber g) counted) m₂ buffer es₂ (n + 1) (committed e)
+        (f counted counted-stands)
 
 -- ---- loops: one more turn of each
 
@@ -243,11 +253,13 @@ module _ (replyTo : Call → List Call → Reply) (bytes : List ℕ) (minute : �
   unfolding turns
   turns-more i k w = rw add-one
 
-  pub passes-more : (i : ℕ) (w : Work) → passes replyTo bytes minute x (i + 1) w ≡ turns replyTo bytes minute x i (x .count) (passes replyTo bytes minute x i w)
+  pub passes-more : (i : ℕ) (w : Work)
+      → passes replyTo bytes minute x (i + 1) w ≡ turns replyTo bytes minute x i (x .count) (passes replyTo bytes minute x i w)
   unfolding passes
   passes-more i w = rw add-one
 
-  pub commits-more : (k : ℕ) (w : Work) → commitAll replyTo bytes minute x (k + 1) w ≡ commitOne replyTo bytes minute x k (commitAll replyTo bytes minute x k w)
+  pub commits-more : (k : ℕ) (w : Work)
+      → commitAll replyTo bytes minute x (k + 1) w ≡ commitOne replyTo bytes minute x k (commitAll replyTo bytes minute x k w)
   unfolding commitAll
   commits-more k w = rw add-one
 
@@ -257,7 +269,7 @@ module _ (replyTo : Call → List Call → Reply) (bytes : List ℕ) (minute : �
 
 -- Nothing is done yet.
 pub nothing-stands : (m : Machine) (buffer : List ℕ) → Stands m (nothingDone buffer) m buffer (replicate 8 noEnd) 0
-unfolding callsAfter endOf
+unfolding endOf afterAll
 nothing-stands m buffer =
     record {
       machine = refl;

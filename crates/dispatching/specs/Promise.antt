@@ -5,7 +5,7 @@ use denote.Ref.{now}
 use Prim.Native.Nat.{ℕ, zero, suc, _+_, _*_, _≤_, _<_}
 use Rattle.record.specs.Paper.{Said, plain, refused, said}
 use Rattle.rules.specs.Machine.{Machine}
-use Rattle.rules.specs.Promises.{Lent, handed, left, LeftAsFound}
+use Rattle.rules.specs.Promises.{Lent, handed, handedBack, LeftAsFound}
 use Rattle.rounds.specs.Rounds.{Scripts}
 use Rattle.rounds.specs.Dispatch.{Dispatched as Given, dispatch}
 use Rattle.dispatching.specs.declared.ends.Dispatched.{Dispatched}
@@ -30,5 +30,5 @@ pub record Gives (d : Given Machine) (n : ℕ) (a : Dispatched) (m : Machine) (b
 abbrev pub Dispatches : List ℕ → ℕ → Scripts → Lent → Lent → Lent → Lent → Lent → Dispatched → Lent → Type 0
 Dispatches bytes minute x kept files logs marks undo a reader =
     Gives (dispatch bytes minute x (handed kept files logs marks undo) (now (reader .entry))) (x .count) a
-    (left kept files logs marks undo) (now (reader .exit))
+    (handedBack kept files logs marks undo) (now (reader .exit))
     × LeftAsFound (a .outcome) (now (kept .entry)) (now (kept .exit))

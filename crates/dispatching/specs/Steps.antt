@@ -12,7 +12,7 @@ use Rattle.octets.specs.Parts.{cut}
 use Rattle.rules.specs.Messages.{on}
 use Rattle.rules.specs.Machine.{Machine}
 use Rattle.rules.specs.Calls.{call, callsAfter}
-use Rattle.rules.specs.Promises.{Lent, handed, left}
+use Rattle.rules.specs.Promises.{Lent, handed, handedBack}
 use Rattle.rounds.specs.Rounds.{ScriptCall, seeks, writes, asks, reads, Work, refusalIn, opOf, readerAfter}
 use Rattle.dispatching.specs.declared.ends.Ended.{Ended}
 use Rattle.dispatching.specs.Types.{endAt}
@@ -56,9 +56,9 @@ abbrev pub Steps : (Machine → Work → Work) → Lent → Lent → Lent → Le
 Steps f kept files logs marks undo reader es es′ =
     (commits : ℕ)
     → Carries f (handed kept files logs marks undo) (now (reader .entry)) es commits
-    (left kept files logs marks undo) (now (reader .exit)) es′ commits
+    (handedBack kept files logs marks undo) (now (reader .exit)) es′ commits
 
 abbrev pub StepsAside : (Machine → Work → Work) → Lent → Lent → Lent → Lent → Lent → List Ended → List Ended → Type 0
 StepsAside f kept files logs marks undo es es′ =
     (reader : List ℕ) (commits : ℕ)
-    → Carries f (handed kept files logs marks undo) reader es commits (left kept files logs marks undo) reader es′ commits
+    → Carries f (handed kept files logs marks undo) reader es commits (handedBack kept files logs marks undo) reader es′ commits

@@ -16,7 +16,7 @@ use Rattle.dispatching.specs.declared.ends.Ended.{Ended}
 
 -- ---- scripts
 
--- "each a Seek, Write, GetFilePointer or Read"
+-- 02, F-10: "each a Seek, Write, GetFilePointer or Read"
 unfoldable pub scriptCallOf : ScriptCall → CallOfScript
 scriptCallOf (Seek d v) = seeks d v
 scriptCallOf (Write d start n) = writes d start n
@@ -27,7 +27,7 @@ scriptCallOf (Read d n) = reads d n
 abbrev pub noLine : Line
 noLine = record { call = Seek 0 0 }
 
--- "up to 8 scripts of up to 16 calls": call i of script k stands at 16 k + i.
+-- F-10: "up to 8 scripts of up to 16 calls": call i of script k stands at 16 k + i.
 unfoldable pub scriptsOf : Scripts → SomeScripts
 scriptsOf s =
     record {
@@ -53,7 +53,7 @@ pub record OneMore (k : ℕ) (c : CallOfScript) (x y : SomeScripts) : Type 0 whe
 
 -- ---- ends
 
--- "for each script that it was granted or which refusal ended it", in the paper's numbers
+-- F-10: "for each script that it was granted or which refusal ended it", in the paper's numbers
 unfoldable pub endOf : End → EndOfScript
 endOf Unfinished = unfinished
 endOf Granted = passed

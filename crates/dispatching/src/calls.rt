@@ -10,7 +10,7 @@ ghost use mathlib.Core.Bool.{true};
 ghost use lib.ListN.{length};
 ghost use Rattle.record.specs.Paper.{said};
 ghost use Rattle.ranges.specs.Ranges.{gateNumber};
-ghost use Rattle.rules.specs.Promises.{handed, left};
+ghost use Rattle.rules.specs.Promises.{handed, handedBack};
 ghost use Rattle.rounds.specs.Rounds.{partIn, refusalIn};
 ghost use Rattle.dispatching.specs.Types.{scriptCallOf};
 ghost use Rattle.dispatching.specs.Steps.{requestOf, bytesOf, Makes};
@@ -70,7 +70,7 @@ pub fn make(
     requires { ⌜ partIn (length (now bytes)) (scriptCallOf call) ≡ true ⌝ }
     ensures { λ g. ⌜ Makes k (scriptCallOf call) (now (bytes .entry))
         (handed kept files logs marks undo) (now (reader .entry)) g
-        (left kept files logs marks undo) (now (reader .exit)) ⌝ }
+        (handedBack kept files logs marks undo) (now (reader .exit)) ⌝ }
 {
     let q = request_of(k, call);
     let part = bytes_of(call, bytes);

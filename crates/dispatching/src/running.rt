@@ -19,8 +19,9 @@ ghost use Prim.Native.Nat.{ℕ, _+_, _<_, _≤_};
 ghost use Rattle.record.specs.Paper.{number};
 ghost use Rattle.ranges.specs.Ranges.{gateNumber};
 ghost use Rattle.rules.specs.Messages.{begin};
-ghost use Rattle.rules.specs.Promises.{handed, left};
-ghost use Rattle.rounds.specs.Rounds.{Scripts as SomeScripts, partIn, scriptsIn, goesOn, withCall, failing, orFailing, decided};
+ghost use Rattle.rules.specs.Promises.{handed, handedBack};
+ghost use Rattle.rounds.specs.Rounds.{Scripts as SomeScripts, partIn, scriptsIn, goesOn, withCall};
+ghost use Rattle.rounds.specs.Rounds.{failing, orFailing, decided};
 ghost use Rattle.rounds.specs.Rounds.{begins, perform, turns, passes, commitOne, commitAll, round};
 ghost use Rattle.rounds.specs.Dispatch.{storeReply, onStore};
 ghost use Rattle.dispatching.specs.Types.{scriptCallOf, scriptsOf, endAt};
@@ -172,7 +173,8 @@ fn turn(
     reader: &mut [u8],
     ends: Ends,
 ) -> Ends
-    requires { ⌜ (t .script < 8) × (t .due ≡ true → partIn (length (now bytes)) (scriptCallOf (t .call)) ≡ true) ⌝ }
+    requires { ⌜ (t .script < 8)
+        × (t .due ≡ true → partIn (length (now bytes)) (scriptCallOf (t .call)) ≡ true) ⌝ }
     ensures { λ es. ⌜ ((minute : ℕ) (x : SomeScripts)
         → Steps (λ m w. cond (t .due)
         (perform (storeReply m) (now (bytes .entry)) minute x (t .script) (scriptCallOf (t .call)) w) w)
@@ -277,7 +279,7 @@ fn commit_one(
     ensures work { λ q. ⌜ ((bytes : List ℕ) (x : SomeScripts) (reader : List ℕ)
         → Carries (λ m. commitOne (storeReply m) bytes minute x k)
         (handed kept files logs marks undo) reader (p .ends) (p .commits)
-        (left kept files logs marks undo) reader (q .ends) (q .commits)) ⌝ }
+        (handedBack kept files logs marks undo) reader (q .ends) (q .commits)) ⌝ }
     ensures few { λ q. ⌜ q .commits ≤ p .commits + 1 ⌝ }
 {
     let ends = p.ends;
@@ -307,7 +309,7 @@ fn commit_all(
     ensures work { λ q. ⌜ ((bytes : List ℕ) (x : SomeScripts) (reader : List ℕ)
         → Carries (λ m. commitAll (storeReply m) bytes minute x count)
         (handed kept files logs marks undo) reader (p .ends) (p .commits)
-        (left kept files logs marks undo) reader (q .ends) (q .commits)) ⌝ }
+        (handedBack kept files logs marks undo) reader (q .ends) (q .commits)) ⌝ }
     ensures few { λ q. ⌜ q .commits ≤ p .commits + count ⌝ }
 {
     let mut out = p;
@@ -333,10 +335,11 @@ fn round(
     minute: usize,
     p: Progress,
 ) -> Progress
-    requires { ⌜ (scriptsIn (length (now bytes)) (scriptsOf scripts) ≡ true) × (p .commits + scripts .count ≤ 64) ⌝ }
+    requires { ⌜ (scriptsIn (length (now bytes)) (scriptsOf scripts) ≡ true)
+        × (p .commits + scripts .count ≤ 64) ⌝ }
     ensures work { λ q. ⌜ Carries (λ m. round (storeReply m) (now (bytes .entry)) minute (scriptsOf scripts))
         (handed kept files logs marks undo) (now (reader .entry)) (p .ends) (p .commits)
-        (left kept files logs marks undo) (now (reader .exit)) (q .ends) (q .commits) ⌝ }
+        (handedBack kept files logs marks undo) (now (reader .exit)) (q .ends) (q .commits) ⌝ }
     ensures few { λ q. ⌜ q .commits ≤ p .commits + scripts .count ⌝ }
 {
     let count = scripts.count;
@@ -366,7 +369,7 @@ pub fn run(
     ensures { λ p. ⌜ Stands (handed kept files logs marks undo)
         (onStore (now (bytes .entry)) minute (scriptsOf scripts)
         (handed kept files logs marks undo) (now (reader .entry)))
-        (left kept files logs marks undo) (now (reader .exit)) (p .ends) (p .commits) ⌝ }
+        (handedBack kept files logs marks undo) (now (reader .exit)) (p .ends) (p .commits) ⌝ }
 {
     let count = scripts.count;
     let e = Ended {

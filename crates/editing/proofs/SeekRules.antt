@@ -8,7 +8,8 @@ use lib.ListN.{set, length}
 use native.Mathlib.Omega.{arith}
 use Prim.Native.Nat.{ℕ, _≤_, _<_}
 use Rattle.record.specs.State.{transaction, standingAt, withDescriptors, withTransaction}
-use Rattle.record.specs.Layout.{transactionOf, storeOf, journalOf, withDescriptorAt, recordLength}
+use Rattle.record.specs.Layout.{transactionOf, storeOf, journalOf, recordLength}
+use Rattle.record.specs.Updates.{withDescriptorAt}
 use Rattle.record.proofs.LayoutLaws.{length-journal, transaction-of, store-with-descriptor, journal-with-descriptor}
 use Rattle.record.specs.Paper.{plain, said}
 use Rattle.record.specs.declared.outcomes.Outcome.the-variants.{Done}
@@ -37,12 +38,14 @@ module _ (t d v : ℕ) (m : Machine) (passes : admission (sizes m) (m .store) (m
   pub seek-past-end : d ≤ 15 → 4096 < v → call (on t (seek d v)) m ≡ turnDown 8 [] m
   unfolding step seekStep bufferOf
   seek-past-end h g =
-      on-refused t (seek d v) m passes (unfold turnsBack looks in refl) 8 (check-held (leb d 15) 6 _ (le-leb d 15 h) ∙ check-failed (leb v 4096) 8 _ (lt-leb v 4096 g))
+      on-refused t (seek d v) m passes (unfold turnsBack looks in refl) 8
+      (check-held (leb d 15) 6 _ (le-leb d 15 h) ∙ check-failed (leb v 4096) 8 _ (lt-leb v 4096 g))
 
   -- An accepted Seek sets the standing of d and makes d dirty, and nothing else.
   seek-meets : Opened (m .store) (m .journal) (m .logs) t → d ≤ 15 → v ≤ 4096
       → let x = transaction (m .store) t in
-      let after = withTransaction t (withDescriptors (set (x .descriptors) d (record { standing = afterSeek v (standingAt x d); dirty = true })) x) (m .store) in
+      let after = withTransaction t
+      (withDescriptors (set (x .descriptors) d (record { standing = afterSeek v (standingAt x d); dirty = true })) x) (m .store) in
       Meets (call (on t (seek d v)) m) Done (withStore after m) []
   unfolding step seekStep said txnOf logged
   seek-meets o h g =
@@ -66,7 +69,8 @@ module _ (t d v : ℕ) (kept files logs marks undo : List ℕ) (long : length ke
   abbrev handedOver : Machine
   handedOver = machineOf kept files logs marks undo
 
-  pub seek-follows : admission (sizes handedOver) (storeOf kept) (journalOf kept) t ≡ 0 → LetThrough handedOver t → transaction (storeOf kept) t .begun ≡ true
+  pub seek-follows : admission (sizes handedOver) (storeOf kept) (journalOf kept) t ≡ 0 → LetThrough handedOver t
+      → transaction (storeOf kept) t .begun ≡ true
       → (z y : Standing) → z ≡ standingAt (transactionOf kept t) d → y ≡ afterSeek v z
       → (after : List ℕ) → after ≡ withDescriptorAt kept t d (record { standing = y; dirty = true })
       → Meets (call (on t (seek d v)) handedOver) Done (machineOf after files logs marks undo) [] × LeftAsFound Done kept after

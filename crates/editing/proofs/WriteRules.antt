@@ -21,10 +21,12 @@ use Rattle.record.specs.declared.Store.{Store}
 use Rattle.record.specs.declared.journal.WriteRecord.{WriteRecord}
 use Rattle.record.specs.State.{transaction, standingAt, withUsed, withDescriptors, withTransaction}
 use Rattle.record.specs.Journal.{withRecordAt}
-use Rattle.record.specs.Layout.{transactionOf, storeOf, journalOf, withDescriptorAt, withUsedAt, recordLength}
+use Rattle.record.specs.Layout.{transactionOf, storeOf, journalOf, recordLength}
+use Rattle.record.specs.Updates.{withDescriptorAt, withUsedAt}
 use Rattle.record.specs.Paper.{plain, said, number}
 use Rattle.record.proofs.JournalLaws.{length-with-at}
-use Rattle.record.proofs.LayoutLaws.{length-journal, transaction-of, store-with-record, journal-with-record, store-with-used, journal-with-used, length-with-used, store-with-descriptor, journal-with-descriptor}
+use Rattle.record.proofs.LayoutLaws.{length-journal, transaction-of, store-with-record, journal-with-record, store-with-used}
+use Rattle.record.proofs.LayoutLaws.{journal-with-used, length-with-used, store-with-descriptor, journal-with-descriptor}
 use Rattle.ranges.specs.Ranges.{admission, unless, standingIn}
 use Rattle.ranges.proofs.Laws.{and-right, number-suc}
 use Rattle.rules.specs.Items.{Prog, done}
@@ -34,7 +36,8 @@ use Rattle.rules.specs.Machine.{Machine, lent, sizes, fileOf, txnOf, recordOf}
 use Rattle.rules.specs.Calls.{Turn, turnDown, logged, call}
 use Rattle.rules.specs.Promises.{Meets, machineOf, LeftAsFound}
 use Rattle.laws.proofs.Shapes.{shaped, eight, put-twice}
-use Rattle.laws.proofs.Decoded.{Opened, opened, decoded-count, decoded-total}
+use Rattle.rules.proofs.View.Decode.{decoded-count, decoded-total}
+use Rattle.laws.proofs.Decoded.{Opened, opened}
 use Rattle.laws.proofs.Encoded.{txn-written, writes-more}
 use Rattle.refusing.proofs.Turns.{LetThrough, on-refused, on-accepted, check-held, check-failed, done-follows}
 use Rattle.editing.specs.Writes.{writeRefusal, Room, storeWritten, journalWritten}
@@ -62,7 +65,8 @@ pub room-left : (place : Place) (used : Used) (n : ℕ) → writeRefusal place u
 unfolding writeRefusal
 room-left place used n e =
     let three =
-    three-held 9 10 11 (leb (placeNumber place + n) 4096) (leb (used .records + 1) 64) (leb (used .bytes + n) 4096) (omega arith) (omega arith) (omega arith) e in
+    three-held 9 10 11 (leb (placeNumber place + n) 4096) (leb (used .records + 1) 64) (leb (used .bytes + n) 4096) (omega arith)
+    (omega arith) (omega arith) e in
     let few = leb-true (used .records + 1) 64 (three .1) in
     record { file = leb-true _ 4096 (three .0); records = omega arith; log = leb-true _ 4096 (three .2) }
 
@@ -81,7 +85,8 @@ place-within (Known o) e = leb-true o 4096 e
 both-counters : (u : Used) (r b : ℕ) → u .records ≡ r → u .bytes ≡ b → u ≡ record { records = r; bytes = b }
 both-counters u r b e f = λ i. record { records = e i; bytes = f i }
 
-module _ (t d n : ℕ) (z : Standing) (used : Used) (kept : List ℕ) (long : length kept ≡ recordLength) (small : t < 8) (few : d < 16) (room : used .records < 64) where
+module _ (t d n : ℕ) (z : Standing) (used : Used) (kept : List ℕ) (long : length kept ≡ recordLength) (small : t < 8) (few : d < 16)
+    (room : used .records < 64) where
   pub write-put : (p : Place) (u : Used) (y : Standing) (one two three : List ℕ)
       → p ≡ writePlace z → one ≡ withRecordAt kept t (used .records) (record { descriptor = d; place = p; length = n })
       → u .records ≡ used .records + 1 → u .bytes ≡ used .bytes + n → two ≡ withUsedAt one t u
@@ -97,11 +102,13 @@ module _ (t d n : ℕ) (z : Standing) (used : Used) (kept : List ℕ) (long : le
       let long-two : length two ≡ recordLength = ap length is-two ∙ length-with-used one t long-one small u ∙ long-one in
       let store-two : storeOf two ≡ withTransaction t (withUsed u x) (storeOf kept) =
       ap storeOf is-two ∙ store-with-used one t long-one small u
-      ∙ ap (λ (s : Store). withTransaction t (withUsed u (transaction s t)) s) (ap storeOf is-one ∙ store-with-record kept long t (used .records) w (omega (arith, small)) room) in (
+      ∙ ap (λ (s : Store). withTransaction t (withUsed u (transaction s t)) s)
+      (ap storeOf is-one ∙ store-with-record kept long t (used .records) w (omega (arith, small)) room) in (
         ap storeOf is-three ∙ store-with-descriptor two t d q long-two small few
             ∙ ap (λ (s : Store). withTransaction t (described (transaction s t)) s) store-two
             ∙ put-twice (storeOf kept) t (withUsed u x) described (eight kept t small)
-            ∙ ap₂ (λ (v : Used) (e : Standing). withTransaction t (withUsed v (withDescriptors (set (x .descriptors) d (record { standing = e; dirty = true })) x)) (storeOf kept))
+            ∙ ap₂ (λ (v : Used) (e : Standing). withTransaction t
+            (withUsed v (withDescriptors (set (x .descriptors) d (record { standing = e; dirty = true })) x)) (storeOf kept))
             (both-counters u _ _ is-records is-bytes) is-y,
         ap journalOf is-three ∙ journal-with-descriptor two t d q long-two small few
             ∙ ap journalOf is-two ∙ journal-with-used one t long-one small u
@@ -132,7 +139,10 @@ module _ (t d : ℕ) (bytes : List ℕ) (m : Machine) (passes : admission (sizes
     unfolding step writeStep txnOf
     stepped =
         check-held (leb d 15) 6 _ (le-leb d 15 low)
-        ∙ rw (decoded-count (m .store) (m .journal) (m .logs) t o, decoded-total (m .store) (m .journal) (m .logs) t o)
+        ∙ rw (
+          decoded-count (m .store) (m .journal) (m .logs) t (o .size) (o .small) (o .ranges),
+          decoded-total (m .store) (m .journal) (m .logs) t (o .size) (o .small) (o .ranges),
+        )
 
     write-refused : (r : Refusal) → number r ≡ writeRefusal place used (length bytes) → call (on t (write d bytes)) m ≡ turnDown (number r) [] m
     unfolding bufferOf writeRefusal
@@ -140,7 +150,8 @@ module _ (t d : ℕ) (bytes : List ℕ) (m : Machine) (passes : admission (sizes
         on-refused t (write d bytes) m passes (unfold turnsBack looks in refl) (number r) (stepped ∙ three-refused 9 10 11 _ _ _ _ r e)
 
     module _ (room : Room place used (length bytes)) where
-      accepted : step (fileOf (m .store)) (write d bytes) (txnOf (m .store) (m .journal) (m .logs) t) ≡ done (accept (written d bytes (txnOf (m .store) (m .journal) (m .logs) t)) plain [])
+      accepted : step (fileOf (m .store)) (write d bytes) (txnOf (m .store) (m .journal) (m .logs) t)
+          ≡ done (accept (written d bytes (txnOf (m .store) (m .journal) (m .logs) t)) plain [])
       accepted =
           stepped
           ∙ check-held (leb (placeNumber place + length bytes) 4096) 9 _ (le-leb _ 4096 (room .file))
@@ -151,7 +162,8 @@ module _ (t d : ℕ) (bytes : List ℕ) (m : Machine) (passes : admission (sizes
       -- the log directly after the data used.
       write-meets : let z = standingAt (transaction (m .store) t) d in
           Meets (call (on t (write d bytes)) m) Done
-          (lent (storeWritten t d z used (length bytes) (m .store)) (journalWritten t d z used (length bytes) (m .journal)) (m .files) (pasted (m .logs) (4096 * t + used .bytes) bytes) (m .marks) (m .undo)) []
+          (lent (storeWritten t d z used (length bytes) (m .store)) (journalWritten t d z used (length bytes) (m .journal)) (m .files)
+          (pasted (m .logs) (4096 * t + used .bytes) bytes) (m .marks) (m .undo)) []
       unfolding said logged written recordOf txnOf storeWritten journalWritten
       write-meets =
           let y = txnOf (m .store) (m .journal) (m .logs) t in
@@ -202,7 +214,11 @@ module _ {t d : ℕ} {kept files logs marks undo : List ℕ} {z : Standing} {use
 
   pub write-follows : (bytes : List ℕ) → Room (writePlace z) used (length bytes)
       → (after filled : List ℕ) → filled ≡ pasted logs (4096 * t + used .bytes) bytes
-      → storeOf after ≡ storeWritten t d z used (length bytes) (storeOf kept) → journalOf after ≡ journalWritten t d z used (length bytes) (journalOf kept)
+      → storeOf after ≡ storeWritten t d z used (length bytes) (storeOf kept)
+      → journalOf after ≡ journalWritten t d z used (length bytes) (journalOf kept)
       → Meets (call (on t (write d bytes)) handedOver) Done (machineOf after files filled marks undo) [] × LeftAsFound Done kept after
-  write-follows bytes room after filled is-filled is-store is-journal =
-      (rw (is-store, is-journal, is-filled, is-standing, is-used) (write-meets t d bytes handedOver (a .passes) open-here (a .low) (rw (is-standing, is-used) at room)), done-follows kept after)
+  write-follows bytes room after filled is-filled is-store is-journal = (
+    rw (is-store, is-journal, is-filled, is-standing, is-used)
+        (write-meets t d bytes handedOver (a .passes) open-here (a .low) (rw (is-standing, is-used) at room)),
+    done-follows kept after,
+  )

@@ -80,7 +80,8 @@ pub fn write(
     d: usize,
     bytes: &[u8],
 ) -> Outcome
-    ensures { λ r. ⌜ Follows (call (Call.on t (Op.write d (now (bytes .entry))))) kept files logs marks undo r [] ⌝ }
+    ensures { λ r. ⌜ Follows (call (Call.on t (Op.write d (now (bytes .entry)))))
+        kept files logs marks undo r [] ⌝ }
 {
     let g = ranges::admit(kept, files.len(), logs.len(), marks.len(), undo.len(), t);
     if let Gate::Refused(r) = g {

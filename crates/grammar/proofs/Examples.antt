@@ -1,10 +1,10 @@
 -- The examples hold.
 use mathlib.Core.Path.{refl}
-use Rattle.grammar.specs.Grammar.{parsed, form, lettered, after, spaced, decimal, digits, isDigit, ends, writes}
+use Rattle.grammar.specs.Grammar.{parsed, form, lettered, after, spaced, frontDecimal, digits, isDigit, ends, writes}
 use Rattle.grammar.specs.Examples.{Examples, bytes}
 
 pub examples : Examples
-unfolding parsed form lettered after spaced decimal digits isDigit ends writes bytes
+unfolding parsed form lettered after spaced frontDecimal digits isDigit ends writes bytes
 examples =
     record {
       alone = (refl, refl, refl);

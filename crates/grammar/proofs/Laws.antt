@@ -15,8 +15,9 @@ use Rattle.grammar.specs.declared.Field.{Field}
 use Rattle.grammar.specs.declared.Field.the-variants.{Missing, Number}
 use Rattle.grammar.specs.declared.Parsed.{Parsed}
 use Rattle.grammar.specs.declared.Parsed.the-variants.{Another, Asks}
-use Rattle.grammar.specs.Parsing.{foundOf, lineOf, startOf, Reads, Parses}
-use Rattle.grammar.specs.Grammar.{Line, another, asks, Found, none, found, isDigit, worth, digits, decimal, spaced, after, writes, lettered, form, parsed}
+use Rattle.grammar.specs.Parsing.{numeralOf, lineOf, startOf, Reads, Parses}
+use Rattle.grammar.specs.Grammar.{Line, another, asks, Numeral, none, numeral, isDigit, worth, digits, frontDecimal, spaced, after}
+use Rattle.grammar.specs.Grammar.{writes, lettered, form, parsed}
 
 -- A digit lies between the bytes of 0 and 9.
 pub digit-bounds : (b : ℕ) → isDigit b ≡ true → (48 ≤ b) × (b ≤ 57)
@@ -53,18 +54,18 @@ suc-less : (n : ℕ) → suc n - 1 ≡ n
 suc-less n = omega arith
 
 -- The digits after a number, where no more may follow.
-pub digits-none : (n v : ℕ) (bytes : List ℕ) → n ≡ 0 → digits n v bytes ≡ found v bytes
+pub digits-none : (n v : ℕ) (bytes : List ℕ) → n ≡ 0 → digits n v bytes ≡ numeral v bytes
 unfolding digits
 digits-none n v bytes e = rw e
 
 -- The digits after a number, at the end of the line, at another byte and at a digit.
 module _ (line : List ℕ) (at v : ℕ) where
-  pub digits-end : (n : ℕ) → length line ≤ at → digits n v (drop at line) ≡ found v (drop at line)
+  pub digits-end : (n : ℕ) → length line ≤ at → digits n v (drop at line) ≡ numeral v (drop at line)
   unfolding digits
   digits-end zero h = refl
   digits-end (suc n) h = rw (drop-of-length-le line h)
 
-  pub digits-stop : (n : ℕ) → at < length line → isDigit (getD line at 0) ≡ false → digits n v (drop at line) ≡ found v (drop at line)
+  pub digits-stop : (n : ℕ) → at < length line → isDigit (getD line at 0) ≡ false → digits n v (drop at line) ≡ numeral v (drop at line)
   unfolding digits
   digits-stop zero h e = refl
   digits-stop (suc n) h e = rw (drop-cons line at 0 h, e)
@@ -81,17 +82,17 @@ module _ (line : List ℕ) (at v : ℕ) where
 
 -- A number, a space before it, and the space before a Write's bytes, at a place of the line.
 module _ (line : List ℕ) (at : ℕ) where
-  pub decimal-end : length line ≤ at → decimal (drop at line) ≡ none
-  unfolding decimal
+  pub decimal-end : length line ≤ at → frontDecimal (drop at line) ≡ none
+  unfolding frontDecimal
   decimal-end h = rw (drop-of-length-le line h)
 
-  pub decimal-other : at < length line → isDigit (getD line at 0) ≡ false → decimal (drop at line) ≡ none
-  unfolding decimal
+  pub decimal-other : at < length line → isDigit (getD line at 0) ≡ false → frontDecimal (drop at line) ≡ none
+  unfolding frontDecimal
   decimal-other h e = rw (drop-cons line at 0 h, e)
 
   pub decimal-digits : at < length line → isDigit (getD line at 0) ≡ true → (v : ℕ) → v ≡ worth (getD line at 0)
-      → decimal (drop at line) ≡ digits 4 v (drop (at + 1) line)
-  unfolding decimal
+      → frontDecimal (drop at line) ≡ digits 4 v (drop (at + 1) line)
+  unfolding frontDecimal
   decimal-digits h e v w = rw (drop-cons line at 0 h, e, add-one at, w)
 
   pub spaced-end : length line ≤ at → spaced (drop at line) ≡ none
@@ -102,7 +103,7 @@ module _ (line : List ℕ) (at : ℕ) where
   unfolding spaced
   spaced-other h e = rw (drop-cons line at 0 h, ne-eqb (getD line at 0) 32 e)
 
-  pub spaced-decimal : at < length line → getD line at 0 ≡ 32 → spaced (drop at line) ≡ decimal (drop (at + 1) line)
+  pub spaced-decimal : at < length line → getD line at 0 ≡ 32 → spaced (drop at line) ≡ frontDecimal (drop (at + 1) line)
   unfolding spaced
   spaced-decimal h e = rw (drop-cons line at 0 h, eq-eqb (getD line at 0) 32 e, add-one at)
 
@@ -148,20 +149,21 @@ unfolding parsed
 parsed-form line h = rw (le-leb (length line) 128 h)
 
 -- A letter of no form.
-pub lettered-other : (k t : ℕ) (bytes : List ℕ) → (k ≡ 66 → ⊥) → (k ≡ 67 → ⊥) → (k ≡ 65 → ⊥) → (k ≡ 80 → ⊥) → (k ≡ 83 → ⊥)
+pub lettered-other : (k t : ℕ) (bytes : List ℕ) → (k ≡ 66 → ⊥) → (k ≡ 67 → ⊥) → (k ≡ 65 → ⊥) → (k ≡ 80 → ⊥)
+    → (k ≡ 83 → ⊥)
     → (k ≡ 82 → ⊥) → (k ≡ 87 → ⊥) → lettered k t bytes ≡ another
 unfolding lettered
 lettered-other k t bytes b c a p s r w =
     rw (ne-eqb k 66 b, ne-eqb k 67 c, ne-eqb k 65 a, ne-eqb k 80 p, ne-eqb k 83 s, ne-eqb k 82 r, ne-eqb k 87 w)
 
 -- What comes of a number that was looked for and is f.
-module _ (line : List ℕ) (f : Field) (g : Found) (next : ℕ → List ℕ → Line) (h : foundOf line f ≡ g) where
+module _ (line : List ℕ) (f : Field) (g : Numeral) (next : ℕ → List ℕ → Line) (h : numeralOf line f ≡ g) where
   pub after-missing : f ≡ Missing → Reads line Another (after g next)
-  unfolding foundOf lineOf startOf after
+  unfolding numeralOf lineOf startOf after
   after-missing e = rw (← h, e) (record { means = refl; within = omega arith })
 
   pub after-number : (v end : ℕ) (r : Parsed) → f ≡ Number v end → Reads line r (next v (drop end line)) → Reads line r (after g next)
-  unfolding foundOf after
+  unfolding numeralOf after
   after-number v end r e t = rw (← h, e) t
 
 -- A line means what another definition says of it; it has another form.

@@ -17,7 +17,7 @@ abbrev pub line : String → Line
 line text = parsed (bytes text)
 
 pub record Examples : Type 0 where
-  -- "`B0` (Begin), `C0` (Commit), `A0` (Abort)"
+  -- 02, F-5: "`B0` (Begin), `C0` (Commit), `A0` (Abort)"
   pub alone :
       (line "B0" ≡ asks (Begin 0) []) × (line "C7" ≡ asks (Commit 7 0) []) × (line "A3" ≡ asks (Abort 3) [])
   -- "`P0 3` (GetFilePointer), `S0 3 17` (Seek), `R0 3 5` (Read)"

@@ -15,9 +15,9 @@ pub data Line : Type 0 where
   asks : Request → List ℕ → Line
 
 -- A number at the front of some bytes, with the bytes after it; or none.
-pub data Found : Type 0 where
-  none : Found
-  found : ℕ → List ℕ → Found
+pub data Numeral : Type 0 where
+  none : Numeral
+  numeral : ℕ → List ℕ → Numeral
 
 unfoldable pub isDigit : ℕ → Bool
 isDigit b = leb (code "0") b && leb b (code "9")
@@ -26,25 +26,25 @@ abbrev pub worth : ℕ → ℕ
 worth b = b - code "0"
 
 -- A number with the digits that follow it, at most n of them.
-unfoldable pub digits : ℕ → ℕ → List ℕ → Found
-digits zero v bytes = found v bytes
-digits (suc n) v [] = found v []
-digits (suc n) v (b ∷ bytes) = cond (isDigit b) (digits n (v * 10 + worth b) bytes) (found v (b ∷ bytes))
+unfoldable pub digits : ℕ → ℕ → List ℕ → Numeral
+digits zero v bytes = numeral v bytes
+digits (suc n) v [] = numeral v []
+digits (suc n) v (b ∷ bytes) = cond (isDigit b) (digits n (v * 10 + worth b) bytes) (numeral v (b ∷ bytes))
 
 -- "in decimal, 1 to 5 digits each": a sixth would stand where a space or the line's end has to.
-unfoldable pub decimal : List ℕ → Found
-decimal [] = none
-decimal (b ∷ bytes) = cond (isDigit b) (digits 4 (worth b) bytes) none
+unfoldable pub frontDecimal : List ℕ → Numeral
+frontDecimal [] = none
+frontDecimal (b ∷ bytes) = cond (isDigit b) (digits 4 (worth b) bytes) none
 
 -- "one space between": a space, then a number.
-unfoldable pub spaced : List ℕ → Found
+unfoldable pub spaced : List ℕ → Numeral
 spaced [] = none
-spaced (b ∷ bytes) = cond (eqb b (code " ")) (decimal bytes) none
+spaced (b ∷ bytes) = cond (eqb b (code " ")) (frontDecimal bytes) none
 
 -- What comes of the number and the bytes after it.
-unfoldable pub after : Found → (ℕ → List ℕ → Line) → Line
+unfoldable pub after : Numeral → (ℕ → List ℕ → Line) → Line
 after none next = another
-after (found v bytes) next = next v bytes
+after (numeral v bytes) next = next v bytes
 
 -- Nothing comes after it.
 unfoldable pub ends : Request → List ℕ → Line

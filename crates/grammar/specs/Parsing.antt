@@ -3,7 +3,7 @@ use mathlib.Core.List.{List}
 use mathlib.Core.Path.{_≡_}
 use lib.ListN.{length, drop}
 use Prim.Native.Nat.{ℕ, _≤_}
-use Rattle.grammar.specs.Grammar.{Line, another, asks, Found, none, found, parsed}
+use Rattle.grammar.specs.Grammar.{Line, another, asks, Numeral, none, numeral, parsed}
 use Rattle.grammar.specs.declared.Parsed.{Parsed}
 use Rattle.grammar.specs.declared.Parsed.the-variants.{Another, Asks}
 use Rattle.grammar.specs.declared.Field.{Field}
@@ -19,9 +19,9 @@ startOf Another = 0
 startOf (Asks q start) = start
 
 -- A number, and where the bytes after it start in a line.
-unfoldable pub foundOf : List ℕ → Field → Found
-foundOf line Missing = none
-foundOf line (Number n end) = found n (drop end line)
+unfoldable pub numeralOf : List ℕ → Field → Numeral
+numeralOf line Missing = none
+numeralOf line (Number n end) = numeral n (drop end line)
 
 -- The answer r is what is meant, and a Write's bytes lie in the line.
 pub record Reads (line : List ℕ) (r : Parsed) (meant : Line) : Type 0 where

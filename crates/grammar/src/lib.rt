@@ -6,7 +6,7 @@ ghost use lib.ListN.{drop};
 ghost use Prim.Native.Nat.{_≤_};
 ghost use Rattle.requests.specs.declared.Request.{Request};
 ghost use Rattle.grammar.specs.Grammar.{isDigit, worth, digits, spaced, after, ends, writes, lettered};
-ghost use Rattle.grammar.specs.Parsing.{foundOf, Reads, Parses};
+ghost use Rattle.grammar.specs.Parsing.{numeralOf, Reads, Parses};
 
 // The most bytes of a line, without its end.
 pub const LINE_BYTES: usize = 128;
@@ -46,7 +46,7 @@ fn worth(b: u8) -> usize
 // The number that up to four digits from a place on make of its first one.
 fn digits_from(line: &[u8], first: usize, from: usize) -> Field
     requires { ⌜ first ≤ 9 ⌝ }
-    ensures { λ r. ⌜ foundOf (now (line .entry)) r ≡ digits 4 first (drop from (now (line .entry))) ⌝ }
+    ensures { λ r. ⌜ numeralOf (now (line .entry)) r ≡ digits 4 first (drop from (now (line .entry))) ⌝ }
 {
     let mut number = first;
     let mut at = from;
@@ -68,7 +68,7 @@ fn digits_from(line: &[u8], first: usize, from: usize) -> Field
 
 // One space and a number of one to five digits.
 fn number_at(line: &[u8], at: usize) -> Field
-    ensures { λ r. ⌜ foundOf (now (line .entry)) r ≡ spaced (drop at (now (line .entry))) ⌝ }
+    ensures { λ r. ⌜ numeralOf (now (line .entry)) r ≡ spaced (drop at (now (line .entry))) ⌝ }
 {
     if line.len() <= at {
         return Field::Missing;
@@ -88,7 +88,7 @@ fn number_at(line: &[u8], at: usize) -> Field
 }
 
 // The request, where the line ends at that place.
-fn ended(q: Request, line: &[u8], at: usize) -> Parsed
+fn whole_line(q: Request, line: &[u8], at: usize) -> Parsed
     ensures { λ r. ⌜ Reads (now (line .entry)) r (ends q (drop at (now (line .entry)))) ⌝ }
 {
     if at < line.len() {
@@ -105,7 +105,7 @@ fn pointer_line(line: &[u8], t: usize) -> Parsed
     let Field::Number(d, at) = number_at(line, 2) else {
         return Parsed::Another;
     };
-    ended(Request::GetFilePointer(t, d), line, at)
+    whole_line(Request::GetFilePointer(t, d), line, at)
 }
 
 // `S0 3 17`, otherwise `R0 3 5`
@@ -121,9 +121,9 @@ fn seek_or_read_line(line: &[u8], t: usize, seeks: bool) -> Parsed
         return Parsed::Another;
     };
     if seeks {
-        return ended(Request::Seek(t, d, n), line, at);
+        return whole_line(Request::Seek(t, d, n), line, at);
     }
-    ended(Request::Read(t, d, n), line, at)
+    whole_line(Request::Read(t, d, n), line, at)
 }
 
 // `W0 3 ` and the bytes up to the line's end
@@ -148,9 +148,9 @@ fn by_letter(line: &[u8], letter: u8, t: usize) -> Parsed
     ensures { λ r. ⌜ Reads (now (line .entry)) r (lettered letter t (drop 2 (now (line .entry)))) ⌝ }
 {
     match letter {
-        b'B' => ended(Request::Begin(t), line, 2),
-        b'C' => ended(Request::Commit(t, TRACE_MINUTE), line, 2),
-        b'A' => ended(Request::Abort(t), line, 2),
+        b'B' => whole_line(Request::Begin(t), line, 2),
+        b'C' => whole_line(Request::Commit(t, TRACE_MINUTE), line, 2),
+        b'A' => whole_line(Request::Abort(t), line, 2),
         b'P' => pointer_line(line, t),
         b'S' => seek_or_read_line(line, t, true),
         b'R' => seek_or_read_line(line, t, false),

@@ -14,7 +14,8 @@ use Rattle.record.specs.declared.Store.{Store}
 use Rattle.record.specs.declared.journal.WriteRecord.{WriteRecord}
 use Rattle.record.specs.State.{withHeld, withUndo}
 use Rattle.record.specs.Journal.{grantStretch, writeRecordAt, withRecordAt}
-use Rattle.record.specs.Layout.{storeOf, journalOf, withHeldAt, withUndoUsedAt, withCommittedFound, recordLength}
+use Rattle.record.specs.Layout.{storeOf, journalOf, recordLength}
+use Rattle.record.specs.Updates.{withHeldAt, withUndoUsedAt, withCommittedFound}
 use Rattle.record.proofs.JournalLaws.{length-with-at, with-none, with-more, read-elsewhere}
 use Rattle.record.proofs.LayoutLaws.{length-journal, journal-with-record, store-with-record}
 use Rattle.record.proofs.UndoLaws.{length-with-held, store-with-held, journal-with-held}

@@ -20,7 +20,7 @@ use Rattle.standings.specs.declared.Place.the-variants.{At}
 use Rattle.standings.specs.Table.{isTouched, finalOffset}
 use Rattle.rules.specs.Items.{offset, Values}
 use Rattle.rules.specs.Transactions.{Txn, Write}
-use Rattle.rules.specs.Commits.{Setting, landsAt, stretch, byteSettings, setsOffset, offsetSettings, landedEnd, lengthSettings, settings, fits}
+use Rattle.rules.specs.Commits.{Setting, landsAt, bytesFrom, byteSettings, setsOffset, offsetSettings, landedEnd, lengthSettings, settings, fits}
 use Rattle.rules.specs.Steps.{total}
 use Rattle.rules.specs.Machine.{fileOf, values, writeAt, txnOf, noWrite}
 use Rattle.rules.specs.Undo.{landingOf, landingsOf, landedRecord}
@@ -30,24 +30,28 @@ use Rattle.rules.proofs.View.SettingsIn.{lands-in}
 use Rattle.laws.proofs.Decoded.{Opened, total-tabulate}
 use Rattle.landing.specs.Landing.{offsetsOnly, descriptorsOnly, placesFit, bytesSet, landedReach, lengthsLanded, RecordLands, CanLand}
 use Rattle.landing.specs.Keeping.{recordLanded}
-use Rattle.landing.proofs.Settings.{landed-append, offsets-append, lengths-append, bytes-set-none, bytes-raise-none, offsets-land-none, offsets-raise-none, lengths-land-none, lengths-set-none}
+use Rattle.landing.proofs.Settings.{landed-append, offsets-append, lengths-append, bytes-set-none, bytes-raise-none}
+use Rattle.landing.proofs.Settings.{offsets-land-none, offsets-raise-none, lengths-land-none, lengths-set-none}
 use Rattle.landing.proofs.WriteLaws.{byte-count}
 use Rattle.landing.proofs.OffsetLaws.{fits-at, offsetsSet}
 use Rattle.landing.proofs.LengthLaws.{lengths-table, reach-is}
 
 -- ---- what a commit sets goes by the committed offsets and the descriptors
 
-bytes-same : (F : ℕ → ℕ) (v w : Values) (ws : List Write) → ((d : ℕ) → v (offset d) ≡ w (offset d)) → byteSettings F v ws ≡ byteSettings F w ws
+bytes-same : (F : ℕ → ℕ) (v w : Values) (ws : List Write) → ((d : ℕ) → v (offset d) ≡ w (offset d))
+    → byteSettings F v ws ≡ byteSettings F w ws
 unfolding byteSettings
 bytes-same F v w [] h = refl
 bytes-same F v w (x ∷ ws) h =
-    ap₂ (λ (c : ℕ) (ss : List Setting). stretch (4096 * F (x .descriptor) + landsAt c (x .place)) (x .bytes) ++ ss) (h (x .descriptor)) (bytes-same F v w ws h)
+    ap₂ (λ (c : ℕ) (ss : List Setting). bytesFrom (4096 * F (x .descriptor) + landsAt c (x .place)) (x .bytes) ++ ss) (h (x .descriptor))
+    (bytes-same F v w ws h)
 
 offsets-same : (v w : Values) (x : Txn) → ((d : ℕ) → v (offset d) ≡ w (offset d)) → (n : ℕ) → offsetSettings v x n ≡ offsetSettings w x n
 unfolding offsetSettings
 offsets-same v w x h zero = refl
 offsets-same v w x h (suc d) =
-    ap₂ _++_ (offsets-same v w x h d) (ap (λ (c : ℕ). cond (setsOffset x d) (record { item = offset d; to = finalOffset c (x .standing d) } ∷ []) []) (h d))
+    ap₂ _++_ (offsets-same v w x h d)
+    (ap (λ (c : ℕ). cond (setsOffset x d) (record { item = offset d; to = finalOffset c (x .standing d) } ∷ []) []) (h d))
 
 -- ..and by no write.
 offsets-only : (v : Values) (x : Txn) (y : Transaction) → ((d : ℕ) → x .standing d ≡ standingAt y d) → ((d : ℕ) → x .dirty d ≡ dirtyAt y d)
@@ -55,7 +59,8 @@ offsets-only : (v : Values) (x : Txn) (y : Transaction) → ((d : ℕ) → x .st
 unfolding offsetSettings setsOffset
 offsets-only v x y h g zero = refl
 offsets-only v x y h g (suc d) =
-    ap₂ _++_ (offsets-only v x y h g d) (ap₂ (λ (z : Standing) (b : Bool). cond (b && isTouched z) (record { item = offset d; to = finalOffset (v (offset d)) z } ∷ []) []) (h d) (g d))
+    ap₂ _++_ (offsets-only v x y h g d)
+    (ap₂ (λ (z : Standing) (b : Bool). cond (b && isTouched z) (record { item = offset d; to = finalOffset (v (offset d)) z } ∷ []) []) (h d) (g d))
 
 -- ---- all that it sets: bytes, offsets, lengths
 
@@ -176,7 +181,11 @@ module _ (s : Store) (journal files logs : List ℕ) (t : ℕ) where
         let d = w .descriptor in
         let r = record-in (transaction s t) w e in
         let i : d < 16 = omega (arith, r .descriptor) in
-        record { descriptor = i; place = lands-in (getD (s .offsets) d 0) (standingAt (transaction s t) d) (w .place) (w .length) (fits-at s (transaction s t) fit d i) (r .place) }
+        record {
+          descriptor = i;
+          place = lands-in (getD (s .offsets) d 0) (standingAt (transaction s t) d) (w .place) (w .length)
+              (fits-at s (transaction s t) fit d i) (r .place);
+        }
 
     pub can-land : Opened s journal logs t → InRange s journal → CanLand (s .filenumbers) (s .offsets) journal t count
     can-land o r =

@@ -13,7 +13,8 @@ use Rattle.octets.proofs.TableLaws.{getD-tabulate}
 use Rattle.record.specs.declared.Store.{Store}
 use Rattle.record.specs.State.{withLengths}
 use Rattle.record.specs.Journal.{writeRecordAt}
-use Rattle.record.specs.Layout.{storeOf, journalOf, withLengthAt}
+use Rattle.record.specs.Layout.{storeOf, journalOf}
+use Rattle.record.specs.Updates.{withLengthAt}
 use Rattle.record.proofs.LayoutLaws.{store-with-length, journal-with-length}
 use Rattle.record.proofs.Filled.{filled, filled-none, filled-set, filled-kept, filled-all}
 use Rattle.rules.specs.Items.{offset, fileLength, Values}
@@ -72,7 +73,8 @@ module _ (filenumbers offsets journal : List ℕ) (t : ℕ) where
 
     -- One record more raises the length of its file.
     pub lengths-more : (k f end n : ℕ) → f < 8 → f ≡ getD filenumbers (writeRecordAt journal t k .descriptor) 0
-        → end ≡ writeEnd (landsAt (getD offsets (writeRecordAt journal t k .descriptor) 0) (writeRecordAt journal t k .place)) (writeRecordAt journal t k .length)
+        → end ≡ writeEnd (landsAt (getD offsets (writeRecordAt journal t k .descriptor) 0) (writeRecordAt journal t k .place))
+        (writeRecordAt journal t k .length)
         → n ≡ max (getD (lengthsLanded filenumbers offsets journal t lengths k) f 0) end
         → set (lengthsLanded filenumbers offsets journal t lengths k) f n ≡ lengthsLanded filenumbers offsets journal t lengths (k + 1)
     unfolding lengthsLanded

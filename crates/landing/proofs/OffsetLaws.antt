@@ -12,7 +12,8 @@ use Prim.Native.Nat.{ℕ, zero, suc, _+_, _-_, _≤_, _<_}
 use Rattle.record.specs.declared.Store.{Store}
 use Rattle.record.specs.declared.Transaction.{Transaction}
 use Rattle.record.specs.State.{standingAt, withOffsets}
-use Rattle.record.specs.Layout.{storeOf, journalOf, withOffsetAt}
+use Rattle.record.specs.Layout.{storeOf, journalOf}
+use Rattle.record.specs.Updates.{withOffsetAt}
 use Rattle.record.proofs.LayoutLaws.{store-with-offset, journal-with-offset}
 use Rattle.standings.specs.Table.{advance, finalOffset}
 use Rattle.ranges.specs.Below.{below}
@@ -62,7 +63,8 @@ module _ (x : Transaction) (offsets : List ℕ) where
   unfolding offsetSettings landOffsets landOffset offsetsOnly
   offsets-more d b e =
       rw (add-one, e)
-      (offsets-append (offsetSettings (offsetsOnly offsets) (descriptorsOnly x) d) (cond b (record { item = offset d; to = finalOffset (getD offsets d 0) (standingAt x d) } ∷ []) []) offsets
+      (offsets-append (offsetSettings (offsetsOnly offsets) (descriptorsOnly x) d)
+      (cond b (record { item = offset d; to = finalOffset (getD offsets d 0) (standingAt x d) } ∷ []) []) offsets
       ∙ pick b)
     where
       pick : (b : Bool) → landOffsets (cond b (record { item = offset d; to = finalOffset (getD offsets d 0) (standingAt x d) } ∷ []) []) (offsetsSet d)
@@ -70,7 +72,8 @@ module _ (x : Transaction) (offsets : List ℕ) where
       pick true = refl
       pick false = refl
 
-  offset-set : (d : ℕ) → setsOffset (descriptorsOnly x) d ≡ true → set (offsetsSet d) d (finalOffset (getD offsets d 0) (standingAt x d)) ≡ offsetsSet (d + 1)
+  offset-set : (d : ℕ) → setsOffset (descriptorsOnly x) d ≡ true
+      → set (offsetsSet d) d (finalOffset (getD offsets d 0) (standingAt x d)) ≡ offsetsSet (d + 1)
   offset-set d e = sym (offsets-more d true e)
 
   offset-kept : (d : ℕ) → setsOffset (descriptorsOnly x) d ≡ false → offsetsSet d ≡ offsetsSet (d + 1)
@@ -101,7 +104,8 @@ module _ (x : Transaction) (before kept : List ℕ) (d : ℕ) (few : d < 16)
     offset-still = ap (λ (s : Store). getD (s .offsets) d 0) (so .store) ∙ offset-later x (storeOf before .offsets) d d (omega arith)
 
     pub offset-put : setsOffset (descriptorsOnly x) d ≡ true
-        → (c n : ℕ) (after : List ℕ) → c ≡ getD (storeOf kept .offsets) d 0 → n ≡ finalOffset c (standingAt x d) → after ≡ withOffsetAt kept d n
+        → (c n : ℕ) (after : List ℕ) → c ≡ getD (storeOf kept .offsets) d 0 → n ≡ finalOffset c (standingAt x d)
+        → after ≡ withOffsetAt kept d n
         → Means before after (withOffsets (offsetsSet x (storeOf before .offsets) (d + 1)) (storeOf before))
     offset-put sets c n after reads final e =
         record {

@@ -7,7 +7,7 @@ use Prim.Native.Nat.{ℕ, zero, suc, _+_, _*_}
 use Rattle.standings.specs.Table.{finalOffset}
 use Rattle.rules.specs.Items.{offset, fileLength, Values}
 use Rattle.rules.specs.Transactions.{Txn, Write}
-use Rattle.rules.specs.Commits.{Setting, landsAt, stretch, byteSettings, setsOffset, offsetSettings, landedEnd, lengthSettings}
+use Rattle.rules.specs.Commits.{Setting, landsAt, bytesFrom, byteSettings, setsOffset, offsetSettings, landedEnd, lengthSettings}
 use Rattle.rules.specs.Calls.{landByte, landFiles, landOffset, landOffsets, landLength, landLengths}
 
 -- ---- in order
@@ -29,13 +29,13 @@ lengths-append (x ∷ xs) ys lengths = lengths-append xs ys (landLength (x .item
 
 -- ---- bytes land in the files alone
 
-stretch-sets-none : (q : ℕ) (bs offsets : List ℕ) → landOffsets (stretch q bs) offsets ≡ offsets
-unfolding landOffsets stretch landOffset
+stretch-sets-none : (q : ℕ) (bs offsets : List ℕ) → landOffsets (bytesFrom q bs) offsets ≡ offsets
+unfolding landOffsets bytesFrom landOffset
 stretch-sets-none q [] offsets = refl
 stretch-sets-none q (b ∷ bs) offsets = stretch-sets-none (suc q) bs offsets
 
-stretch-raises-none : (q : ℕ) (bs lengths : List ℕ) → landLengths (stretch q bs) lengths ≡ lengths
-unfolding landLengths stretch landLength
+stretch-raises-none : (q : ℕ) (bs lengths : List ℕ) → landLengths (bytesFrom q bs) lengths ≡ lengths
+unfolding landLengths bytesFrom landLength
 stretch-raises-none q [] lengths = refl
 stretch-raises-none q (b ∷ bs) lengths = stretch-raises-none (suc q) bs lengths
 
@@ -48,7 +48,7 @@ module _ (F : ℕ → ℕ) (v : Values) where
   unfolding byteSettings landOffsets
   bytes-set-none [] offsets = refl
   bytes-set-none (w ∷ ws) offsets =
-      offsets-append (stretch (from w) (w .bytes)) (byteSettings F v ws) offsets
+      offsets-append (bytesFrom (from w) (w .bytes)) (byteSettings F v ws) offsets
       ∙ ap (landOffsets (byteSettings F v ws)) (stretch-sets-none (from w) (w .bytes) offsets)
       ∙ bytes-set-none ws offsets
 
@@ -56,7 +56,7 @@ module _ (F : ℕ → ℕ) (v : Values) where
   unfolding byteSettings landLengths
   bytes-raise-none [] lengths = refl
   bytes-raise-none (w ∷ ws) lengths =
-      lengths-append (stretch (from w) (w .bytes)) (byteSettings F v ws) lengths
+      lengths-append (bytesFrom (from w) (w .bytes)) (byteSettings F v ws) lengths
       ∙ ap (landLengths (byteSettings F v ws)) (stretch-raises-none (from w) (w .bytes) lengths)
       ∙ bytes-raise-none ws lengths
 

@@ -15,7 +15,7 @@ use Rattle.ranges.specs.Below.{sum}
 use Rattle.ranges.specs.Ranges.{lengthsBefore}
 use Rattle.rules.specs.Items.{offset, Values}
 use Rattle.rules.specs.Transactions.{Write}
-use Rattle.rules.specs.Commits.{Setting, landsAt, stretch, byteSettings}
+use Rattle.rules.specs.Commits.{Setting, landsAt, bytesFrom, byteSettings}
 use Rattle.rules.specs.Machine.{dataStart, writeAt}
 use Rattle.rules.specs.Calls.{landByte, landFiles}
 use Rattle.rules.proofs.View.Tables.{sum-le}
@@ -69,26 +69,28 @@ module _ (kept : List ℕ) (k : ℕ) {t d : ℕ} {w : WriteRecord} (can : CanLan
           file = f ∙ ap (λ (e : ℕ). getD (s .filenumbers) e 0) descriptor-is;
           place = place;
           length = size;
-          number = omega (arith, can .numbers d descriptor-in);
+          fileIn = omega (arith, can .numbers d descriptor-in);
           inside = omega (arith, can .inside k (omega arith) .place);
         }
 
 -- ---- one record more
 
 bytes-append : (F : ℕ → ℕ) (v : Values) (ws : List Write) (w : Write)
-    → byteSettings F v (ws ++ (w ∷ [])) ≡ byteSettings F v ws ++ stretch (4096 * F (w .descriptor) + landsAt (v (offset (w .descriptor))) (w .place)) (w .bytes)
+    → byteSettings F v (ws ++ (w ∷ [])) ≡ byteSettings F v ws
+    ++ bytesFrom (4096 * F (w .descriptor) + landsAt (v (offset (w .descriptor))) (w .place)) (w .bytes)
 unfolding byteSettings
-bytes-append F v [] w = append-nil (stretch (4096 * F (w .descriptor) + landsAt (v (offset (w .descriptor))) (w .place)) (w .bytes))
+bytes-append F v [] w = append-nil (bytesFrom (4096 * F (w .descriptor) + landsAt (v (offset (w .descriptor))) (w .place)) (w .bytes))
 bytes-append F v (x ∷ ws) w = simp (bytes-append F v ws w, append-assoc)
 
-landed-stretch : (bs : List ℕ) (q : ℕ) (files : List ℕ) → landFiles (stretch q bs) files ≡ sets files q bs
-unfolding landFiles stretch landByte
+landed-stretch : (bs : List ℕ) (q : ℕ) (files : List ℕ) → landFiles (bytesFrom q bs) files ≡ sets files q bs
+unfolding landFiles bytesFrom landByte
 landed-stretch [] q files = refl
 landed-stretch (b ∷ bs) q files = landed-stretch bs (suc q) (set files q b)
 
-module _ {kept : List ℕ} {t k : ℕ} {w : Landing} (lands : LandsAs kept t k w) (logs : List ℕ) (start : ℕ) (starts : start ≡ dataStart (journalOf kept) t k) where
+module _ {kept : List ℕ} {t k : ℕ} {w : Landing} (lands : LandsAs kept t k w) (logs : List ℕ) (start : ℕ)
+    (starts : start ≡ dataStart (journalOf kept) t k) where
   pub set-more : bytesSetIn kept logs t (k + 1)
-      ≡ bytesSetIn kept logs t k ++ stretch (4096 * w .file + w .place) (cut logs start (w .length))
+      ≡ bytesSetIn kept logs t k ++ bytesFrom (4096 * w .file + w .place) (cut logs start (w .length))
   unfolding bytesSet tabulate writeAt offsetsOnly
   set-more =
       let s = storeOf kept in
@@ -111,8 +113,8 @@ module _ {kept : List ℕ} {t k : ℕ} {w : Landing} (lands : LandsAs kept t k w
       ∙ ap (pasted files q) i
       ∙ pasted-sets files q bs (rw (length-cut logs start (w .length) inLog) inFile)
       ∙ sym (landed-stretch bs q files)
-      ∙ ap (landFiles (stretch q bs)) e
-      ∙ sym (ap (λ (rs : List Setting). landFiles rs before) set-more ∙ landed-append (bytesSetIn kept logs t k) (stretch q bs) before)
+      ∙ ap (landFiles (bytesFrom q bs)) e
+      ∙ sym (ap (λ (rs : List Setting). landFiles rs before) set-more ∙ landed-append (bytesSetIn kept logs t k) (bytesFrom q bs) before)
 
 pub none-landed : (filenumbers offsets journal logs files : List ℕ) (t : ℕ) → files ≡ landFiles (bytesSet filenumbers offsets journal logs t 0) files
 unfolding bytesSet tabulate byteSettings landFiles

@@ -89,7 +89,7 @@ pub record LandsAs (kept : List ℕ) (t k : ℕ) (r : Landing) : Type 0 where
       let w = writeRecordAt (journalOf kept) t k in
       r .place ≡ landsAt (getD (storeOf kept .offsets) (w .descriptor) 0) (w .place)
   pub length : r .length ≡ writeRecordAt (journalOf kept) t k .length
-  pub number : r .file < 8
+  pub fileIn : r .file < 8
   pub inside : r .place + r .length ≤ 4096
 
 -- The numbers after mean the store s, with the journal of those before.

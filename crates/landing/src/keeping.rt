@@ -24,7 +24,8 @@ ghost use Rattle.landing.specs.Keeping.{recordLanded, RecordsKept, Grant
 fn landed_record(kept: &Record, t: usize, k: usize) -> WriteRecord
     requires { ⌜ (t < 8) × (k < 64) × RecordLands (storeOf (now kept) .offsets) (journalOf (now kept)) t k ⌝ }
     ensures { λ r. ⌜ r
-        ≡ recordLanded (storeOf (now (kept .entry)) .offsets) (writeRecordAt (journalOf (now (kept .entry))) t k) ⌝ }
+        ≡ recordLanded (storeOf (now (kept .entry)) .offsets)
+        (writeRecordAt (journalOf (now (kept .entry))) t k) ⌝ }
 {
     let w = record_at(kept, t, k);
     let p = w.place;

@@ -60,7 +60,8 @@ pub fn land_writes(
     t: usize,
     used: Used,
 )
-    requires { ⌜ CanLandIn (now kept) t (used .records) × (length (now files) ≡ 32768) × (length (now logs) ≡ 32768)
+    requires { ⌜ CanLandIn (now kept) t (used .records)
+        × (length (now files) ≡ 32768) × (length (now logs) ≡ 32768)
         × (length (now undo) ≡ 4096) ⌝ }
     ensures { λ _. ⌜ (now (files .exit)
         ≡ landFiles (bytesSetIn (now (kept .entry)) (now (logs .entry)) t (used .records)) (now (files .entry)))

@@ -6,7 +6,7 @@ use borrow.Author.Tests.{eq-eqb, ne-eqb}
 use lib.Dec.{eqb}
 use lib.ListN.{length, getD, set, length-append, List·getD-append}
 use lib.Seq.{getD-at}
-use Prim.Native.Nat.{ℕ, _+_, _-_, _<_}
+use Prim.Native.Nat.{ℕ, _+_, _<_}
 use Rattle.octets.specs.Parts.{tabulate}
 use Rattle.standings.specs.declared.Standing.{Standing}
 use Rattle.record.specs.declared.Descriptor.{Descriptor}
@@ -21,7 +21,9 @@ use Rattle.rules.specs.Transactions.{Write, put, dirtied}
 use Rattle.rules.specs.Steps.{written}
 use Rattle.rules.specs.Machine.{writeAt, recordOf, txnOf, noWrite, journalled, holding, lengthmarked, sightingLengths, withTxn}
 use Rattle.rules.proofs.View.Tables.{tabulate-getD, tabulate-set}
-use Rattle.laws.proofs.Decoded.{Opened, decoded-count, decoded-at, decoded-total, decoded-length, total-append}
+use Rattle.rules.proofs.View.Kept.{total-append}
+use Rattle.rules.proofs.View.Decode.{decoded-count, decoded-at, decoded-total, decoded-length}
+use Rattle.laws.proofs.Decoded.{Opened}
 
 -- ---- the descriptors of a transaction
 
@@ -48,30 +50,32 @@ module _ (s : Store) (journal logs : List ℕ) (t : ℕ) (o : Opened s journal l
   -- The record of a write that was read off a record is that record.
   record-own : (k : ℕ) → k < transaction s t .used .records → recordOf (writeAt journal logs t k) ≡ writeRecordAt journal t k
   unfolding recordOf writeAt
-  record-own k h = rw (decoded-length s journal logs t o k h)
+  record-own k h = rw (decoded-length s journal logs t (o .size) (o .small) (o .ranges) k h)
 
   pub writes-same : journalled t (txnOf s journal logs t .writes) journal ≡ journal
   unfolding journalled
   writes-same =
       let n = transaction s t .used .records in
-      rw (decoded-count s journal logs t o)
+      rw (decoded-count s journal logs t (o .size) (o .small) (o .ranges))
       (with-same journal t (λ k. recordOf (getD (txnOf s journal logs t .writes) k noWrite)) (writeRecordAt journal t) n
-      (λ k h. ap recordOf (decoded-at s journal logs t o k noWrite h) ∙ record-own k h)
+      (λ k h. ap recordOf (decoded-at s journal logs t (o .size) (o .small) (o .ranges) k h) ∙ record-own k h)
       ∙ with-own-records journal t n)
 
   -- One write more is one record more.
-  pub writes-more : (w : Write) → journalled t (txnOf s journal logs t .writes ++ (w ∷ [])) journal ≡ withRecordAt journal t (transaction s t .used .records) (recordOf w)
+  pub writes-more : (w : Write)
+      → journalled t (txnOf s journal logs t .writes ++ (w ∷ [])) journal ≡ withRecordAt journal t (transaction s t .used .records) (recordOf w)
   unfolding journalled
   writes-more w =
       let ws = txnOf s journal logs t .writes in
       let n = transaction s t .used .records in
       let f : ℕ → WriteRecord = λ k. recordOf (getD (ws ++ (w ∷ [])) k noWrite) in
-      let e = decoded-count s journal logs t o in
+      let e = decoded-count s journal logs t (o .size) (o .small) (o .ranges) in
       rw (length-append ws (w ∷ []), e)
       (with-more journal t f n
       ∙ ap₂ (λ (j : List ℕ) (v : WriteRecord). withRecordAt j t n v)
       (with-same journal t f (writeRecordAt journal t) n
-      (λ k h. ap recordOf (List·getD-append ws (w ∷ []) noWrite k (rw e h) ∙ decoded-at s journal logs t o k noWrite h) ∙ record-own k h)
+      (λ k h. ap recordOf (List·getD-append ws (w ∷ []) noWrite k (rw e h)
+      ∙ decoded-at s journal logs t (o .size) (o .small) (o .ranges) k h) ∙ record-own k h)
       ∙ with-own-records journal t n)
       (ap recordOf (getD-at ws w [] noWrite n e)))
 
@@ -82,7 +86,12 @@ module _ (s : Store) (journal logs : List ℕ) (t : ℕ) (o : Opened s journal l
       (withDescriptors (set (transaction s t .descriptors) d (record { standing = z; dirty = true })) (transaction s t)) s
   unfolding withTxn sightingLengths lengthmarked holding txnOf
   txn-dirtied d z h =
-      rw (decoded-count s journal logs t o, decoded-total s journal logs t o, put-descriptor (transaction s t) d z h (o .shape .descriptors t (o .small)))
+      rw (
+        decoded-count s journal logs t (o .size) (o .small) (o .ranges),
+        decoded-total s journal logs t (o .size) (o .small)
+            (o .ranges),
+        put-descriptor (transaction s t) d z h (o .shape .descriptors t (o .small)),
+      )
 
   -- One write more: its record, the counters, its descriptor.
   pub txn-written : (d : ℕ) (bytes : List ℕ) → d < 16
@@ -99,7 +108,7 @@ module _ (s : Store) (journal logs : List ℕ) (t : ℕ) (o : Opened s journal l
       rw (
         length-append (tabulate (writeAt journal logs t) n) (w ∷ []),
         total-append (tabulate (writeAt journal logs t) n) w,
-        decoded-count s journal logs t o,
-        decoded-total s journal logs t o,
+        decoded-count s journal logs t (o .size) (o .small) (o .ranges),
+        decoded-total s journal logs t (o .size) (o .small) (o .ranges),
         put-descriptor (transaction s t) d (afterWrite (length bytes) z) h (o .shape .descriptors t (o .small)),
       )

@@ -43,7 +43,8 @@ module _ (v : Values) where
       pick e false = refl
 
   -- Settling sights no byte.
-  pub marked-settling : (t : ℕ) (ds : List ℕ) (x : Txn) (is : List Item) (marks : List ℕ) → marked t (asked v (settling ds x) ++ is) marks ≡ marked t is marks
+  pub marked-settling : (t : ℕ) (ds : List ℕ) (x : Txn) (is : List Item) (marks : List ℕ)
+      → marked t (asked v (settling ds x) ++ is) marks ≡ marked t is marks
   unfolding settling asked marked
   marked-settling t [] x is marks = refl
   marked-settling t (d ∷ ds) x is marks =
@@ -171,22 +172,28 @@ module _ (v : Values) (p : ℕ → Bool) (x : Txn) where
   unfolding settleAll
   standing-kept n = rw (first-self p n)
 
-  one-more : (n : ℕ) → result v (settling (cond (p n) (n ∷ []) []) (settleAll (first p n) offsets x)) ≡ cond (fitsAt n) (all (settleAll (first p (suc n)) offsets x)) past
+  one-more : (n : ℕ) → result v (settling (cond (p n) (n ∷ []) []) (settleAll (first p n) offsets x))
+      ≡ cond (fitsAt n) (all (settleAll (first p (suc n)) offsets x)) past
   unfolding settling result
   one-more n = pick (p n) refl
     where
-      told : (b : Bool) → p n ≡ true → result v (cond b (done (all (settle n (offsets n) (settleAll (first p n) offsets x)))) (done past)) ≡ cond b (all (settleAll (first p (suc n)) offsets x)) past
+      told : (b : Bool) → p n ≡ true
+          → result v (cond b (done (all (settle n (offsets n) (settleAll (first p n) offsets x)))) (done past))
+          ≡ cond b (all (settleAll (first p (suc n)) offsets x)) past
       told true q = ap all (settle-more p offsets n q x)
       told false q = refl
 
-      pick : (b : Bool) → p n ≡ b → result v (settling (cond b (n ∷ []) []) (settleAll (first p n) offsets x)) ≡ cond (not b || leb (v (offset n) + advance (x .standing n)) 4096) (all (settleAll (first p (suc n)) offsets x)) past
+      pick : (b : Bool) → p n ≡ b
+          → result v (settling (cond b (n ∷ []) []) (settleAll (first p n) offsets x))
+          ≡ cond (not b || leb (v (offset n) + advance (x .standing n)) 4096) (all (settleAll (first p (suc n)) offsets x)) past
       pick true q = rw (standing-kept n) (told (leb (v (offset n) + advance (x .standing n)) 4096) q)
       pick false q = ap (λ (f : ℕ → Bool). all (settleAll f offsets x)) (first-skip p n q)
 
   none-yet : settleAll (first p 0) offsets x ≡ x
   unfolding settleAll
   none-yet =
-      ap₂ (λ (f : ℕ → Standing) (ws : List Write). record { standing = f; dirty = x .dirty; writes = ws }) (fun-ext (λ d. rw (nobody d))) (same (x .writes))
+      ap₂ (λ (f : ℕ → Standing) (ws : List Write). record { standing = f; dirty = x .dirty; writes = ws })
+      (fun-ext (λ d. rw (nobody d))) (same (x .writes))
     where
       nobody : (d : ℕ) → first p 0 d ≡ false
       nobody d = unfold first in rw (le-ltb d 0 (omega arith)) (and-false (p d))

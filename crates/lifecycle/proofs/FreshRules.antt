@@ -9,13 +9,14 @@ use Rattle.octets.specs.Parts.{tabulate}
 use Rattle.octets.proofs.PartLaws.{le-or-lt}
 use Rattle.octets.proofs.TableLaws.{table-same}
 use Rattle.record.specs.declared.outcomes.Outcome.the-variants.{Done}
-use Rattle.record.specs.Layout.{storeOf, journalOf, withFileNumbersAt, recordLength}
+use Rattle.record.specs.Layout.{storeOf, journalOf, recordLength}
+use Rattle.record.specs.Updates.{withFileNumbersAt}
 use Rattle.record.specs.Paper.{plain, said}
 use Rattle.record.proofs.LayoutLaws.{store-of-zeros, filed, store-with-files, journal-with-files}
 use Rattle.ranges.specs.Ranges.{admissionOfFresh}
 use Rattle.ranges.proofs.Laws.{admitted-fresh}
 use Rattle.rules.specs.Machine.{lent, sizes}
-use Rattle.rules.specs.Calls.{Turn, answer, fresh, freshStore, freshMachine}
+use Rattle.rules.specs.Calls.{Turn, answerWith, fresh, freshStore, freshMachine}
 use Rattle.rules.specs.Promises.{Meets, machineOf, LeftAsFound}
 use Rattle.rules.proofs.View.Tables.{tabulate-getD}
 use Rattle.refusing.proofs.Turns.{passing-on, done-follows}
@@ -32,7 +33,8 @@ zero-at : (n k : ℕ) → k < n → getD (zeros n) k 0 ≡ 0
 zero-at n k h = getD-replicate {A = ℕ} n k 0 0 h
 
 zero-anywhere : (k : ℕ) → getD (zeros recordLength) k 0 ≡ 0
-zero-anywhere k = ⊎-elim (λ h. List·getD-eq-default (zeros recordLength) 0 {n = k} (omega (arith, length-zeros recordLength))) (zero-at recordLength k) (le-or-lt recordLength k)
+zero-anywhere k = ⊎-elim (λ h. List·getD-eq-default (zeros recordLength) 0 {n = k} (omega (arith, length-zeros recordLength)))
+    (zero-at recordLength k) (le-or-lt recordLength k)
 
 -- A list as a table of its numbers.
 listed : (l : List ℕ) (n : ℕ) → length l ≡ n → tabulate (λ k. getD l k 0) n ≡ l
@@ -41,7 +43,8 @@ listed l n e = ap (λ (m : ℕ). tabulate (λ k. getD l k 0) m) (sym e) ∙ tabu
 journal-of-zeros : journalOf (zeros recordLength) ≡ zeros 1728
 unfolding journalOf
 journal-of-zeros =
-    table-same (λ k. getD (zeros recordLength) k 0) (λ k. getD (zeros 1728) k 0) 1728 (λ k h. zero-at recordLength k (omega arith) ∙ sym (zero-at 1728 k h))
+    table-same (λ k. getD (zeros recordLength) k 0) (λ k. getD (zeros 1728) k 0) 1728
+    (λ k h. zero-at recordLength k (omega arith) ∙ sym (zero-at 1728 k h))
     ∙ listed (zeros 1728) 1728 (length-zeros 1728)
 
 module _ (numbers : List ℕ) (sixteen : length numbers ≡ 16) where
@@ -64,10 +67,10 @@ pub fresh-follows : (numbers kept files logs marks undo : List ℕ) → admissio
     → (one after bytes sightings : List ℕ) → one ≡ replicate recordLength 0 → after ≡ withFileNumbersAt one (λ d. getD numbers d 0) 16
     → bytes ≡ replicate (length files) 0 → sightings ≡ replicate (length marks) 0
     → Meets (fresh numbers (machineOf kept files logs marks undo)) Done (machineOf after bytes logs sightings undo) [] × LeftAsFound Done kept after
-unfolding fresh answer freshMachine said
+unfolding fresh answerWith freshMachine said
 fresh-follows numbers kept files logs marks undo passes one after bytes sightings is-one is-after is-bytes is-sightings =
     let m = machineOf kept files logs marks undo in
-    let e = passing-on _ [] m (answer plain (freshMachine numbers logs undo)) passes in
+    let e = passing-on _ [] m (answerWith plain (freshMachine numbers logs undo)) passes in
     let a = admitted-fresh (sizes m) numbers passes in
     let put = is-after ∙ ap (λ (l : List ℕ). withFileNumbersAt l (λ d. getD numbers d 0) 16) is-one in
     let s = ap storeOf put ∙ fresh-store numbers (a .sixteen) in

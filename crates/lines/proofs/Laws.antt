@@ -9,7 +9,7 @@ use native.Mathlib.Numerals.{add-one}
 use native.Mathlib.Omega.{arith}
 use borrow.Author.Tests.{eq-eqb, ne-eqb, lt-ltb}
 use Prim.Native.Nat.{ℕ, _+_, _≤_, _<_}
-use Rattle.lines.specs.Lines.{ended, grown, lastLine, kept, endedIn, heldAfter, Found}
+use Rattle.lines.specs.Lines.{endedLine, grown, lastLine, kept, endedIn, heldAfter, NextLine}
 
 -- the same lines are found, and the same is held, from two places on
 abbrev pub Same : List ℕ → List ℕ → List ℕ → List ℕ → Type 0
@@ -23,7 +23,7 @@ from-byte p i h = drop-cons p i 0 h ∙ ap (λ (k : ℕ). getD p i 0 ∷ drop k 
 step : (t : Bool) (held p : List ℕ) (i : ℕ) → i < length p → eqb (getD p i 0) 10 ≡ t
     → (endedIn held (drop i p) ≡ cond t (held ∷ []) [] ++ endedIn (kept (cond t [] (held ++ (getD p i 0 ∷ [])))) (drop (i + 1) p))
     × (heldAfter held (drop i p) ≡ heldAfter (kept (cond t [] (held ++ (getD p i 0 ∷ [])))) (drop (i + 1) p))
-unfolding endedIn heldAfter ended grown
+unfolding endedIn heldAfter endedLine grown
 step t held p i h e =
     let x = getD p i 0 in
     let xs = drop (i + 1) p in (
@@ -36,8 +36,8 @@ pub passed : (held p : List ℕ) (i : ℕ) → i < length p → (getD p i 0 ≡ 
     → Same held (drop i p) (kept (held ++ (getD p i 0 ∷ []))) (drop (i + 1) p)
 passed held p i h other = step false held p i h (ne-eqb (getD p i 0) 10 other)
 
-pub stopped : (held p : List ℕ) (i : ℕ) → i < length p → getD p i 0 ≡ 10 → Found true held (drop i p) held (drop (i + 1) p)
-unfolding Found kept
+pub stopped : (held p : List ℕ) (i : ℕ) → i < length p → getD p i 0 ≡ 10 → NextLine true held (drop i p) held (drop (i + 1) p)
+unfolding NextLine kept
 stopped held p i h same = step true held p i h (eq-eqb (getD p i 0) 10 same)
 
 -- a byte joins what is held, or is let go

@@ -5,7 +5,7 @@ use mathlib.Core.List.{List, [], _∷_, _++_, map, append-assoc}
 use lib.Dec.{eqb}
 use lib.ListN.{take}
 use Prim.Native.Nat.{ℕ, zero, suc}
-use Rattle.lines.specs.Lines.{ended, grown, lastLine, linesFrom, linesOf, kept, endedIn, heldAfter, fromPieces, joined, PiecesAreTheWhole}
+use Rattle.lines.specs.Lines.{endedLine, grown, lastLine, linesFrom, linesOf, kept, endedIn, heldAfter, fromPieces, joined, PiecesAreTheWhole}
 
 -- ---- two pieces, one after the other
 
@@ -14,8 +14,8 @@ unfolding endedIn heldAfter
 ended-append held [] q = refl
 ended-append held (x ∷ p) q =
     let next = kept (grown x held) in
-    ap (λ (l : List (List ℕ)). ended x held ++ l) (ended-append next p q)
-    ∙ sym (append-assoc (ended x held) (endedIn next p) (endedIn (heldAfter next p) q))
+    ap (λ (l : List (List ℕ)). endedLine x held ++ l) (ended-append next p q)
+    ∙ sym (append-assoc (endedLine x held) (endedIn next p) (endedIn (heldAfter next p) q))
 
 held-append : (held p q : List ℕ) → heldAfter held (p ++ q) ≡ heldAfter (heldAfter held p) q
 unfolding heldAfter
@@ -55,8 +55,8 @@ unfolding kept lastLine
 kept-last [] = refl
 kept-last (x ∷ h) = refl
 
-kept-ended : (x : ℕ) (h : List ℕ) → ended x (kept h) ≡ map kept (ended x h)
-unfolding ended
+kept-ended : (x : ℕ) (h : List ℕ) → endedLine x (kept h) ≡ map kept (endedLine x h)
+unfolding endedLine
 kept-ended x h = pick (eqb x 10)
   where
     pick : (t : Bool) → _≡_ {A = List (List ℕ)} (cond t (kept h ∷ []) []) (map kept (cond t (h ∷ []) []))
@@ -71,10 +71,10 @@ whole : (h input : List ℕ) → lines (kept h) input ≡ map kept (linesFrom h 
 unfolding lines linesFrom endedIn heldAfter
 whole h [] = kept-last h
 whole h (x ∷ xs) =
-    append-assoc (ended x (kept h)) (endedIn (kept (grown x (kept h))) xs) (lastLine (heldAfter (kept (grown x (kept h))) xs))
+    append-assoc (endedLine x (kept h)) (endedIn (kept (grown x (kept h))) xs) (lastLine (heldAfter (kept (grown x (kept h))) xs))
     ∙ ap₂ (λ (a : List (List ℕ)) (b : List ℕ). a ++ (endedIn b xs ++ lastLine (heldAfter b xs))) (kept-ended x h) (kept-grown x h)
-    ∙ ap (λ (l : List (List ℕ)). map kept (ended x h) ++ l) (whole (grown x h) xs)
-    ∙ sym (map-append kept (ended x h) (linesFrom (grown x h) xs))
+    ∙ ap (λ (l : List (List ℕ)). map kept (endedLine x h) ++ l) (whole (grown x h) xs)
+    ∙ sym (map-append kept (endedLine x h) (linesFrom (grown x h) xs))
 
 pub pieces-are-the-whole : PiecesAreTheWhole
 unfolding linesOf kept

@@ -9,8 +9,8 @@ use Prim.Native.Nat.{ℕ, _≤_, _<_}
 use Rattle.lines.specs.declared.Look.{Look}
 
 -- The line that a byte of the input ends, if it does, and what is held of the line at hand after the byte.
-unfoldable pub ended : ℕ → List ℕ → List (List ℕ)
-ended x held = cond (eqb x 10) (held ∷ []) []
+unfoldable pub endedLine : ℕ → List ℕ → List (List ℕ)
+endedLine x held = cond (eqb x 10) (held ∷ []) []
 
 unfoldable pub grown : ℕ → List ℕ → List ℕ
 grown x held = cond (eqb x 10) [] (held ++ (x ∷ []))
@@ -22,7 +22,7 @@ lastLine (x ∷ xs) = (x ∷ xs) ∷ []
 
 unfoldable pub linesFrom : List ℕ → List ℕ → List (List ℕ)
 linesFrom held [] = lastLine held
-linesFrom held (x ∷ xs) = ended x held ++ linesFrom (grown x held) xs
+linesFrom held (x ∷ xs) = endedLine x held ++ linesFrom (grown x held) xs
 
 -- The lines of the whole input.
 unfoldable pub linesOf : List ℕ → List (List ℕ)
@@ -37,7 +37,7 @@ kept line = take 129 line
 -- The lines that end in a piece, and what is held after it, where held is what came before of the line at hand.
 unfoldable pub endedIn : List ℕ → List ℕ → List (List ℕ)
 endedIn held [] = []
-endedIn held (x ∷ xs) = ended x held ++ endedIn (kept (grown x held)) xs
+endedIn held (x ∷ xs) = endedLine x held ++ endedIn (kept (grown x held)) xs
 
 unfoldable pub heldAfter : List ℕ → List ℕ → List ℕ
 heldAfter held [] = held
@@ -58,14 +58,14 @@ PiecesAreTheWhole = (pieces : List (List ℕ)) → fromPieces [] pieces ≡ map 
 
 -- What a look for the next line end finds in a piece: the line that ends first, and the rest of the piece; or that no line ends in it,
 -- and what is held then.
-unfoldable pub Found : Bool → List ℕ → List ℕ → List ℕ → List ℕ → Type 0
-Found true held piece line rest = (endedIn held piece ≡ line ∷ endedIn [] rest) × (heldAfter held piece ≡ heldAfter [] rest)
-Found false held piece line rest = (endedIn held piece ≡ []) × (heldAfter held piece ≡ line)
+unfoldable pub NextLine : Bool → List ℕ → List ℕ → List ℕ → List ℕ → Type 0
+NextLine true held piece line rest = (endedIn held piece ≡ line ∷ endedIn [] rest) × (heldAfter held piece ≡ heldAfter [] rest)
+NextLine false held piece line rest = (endedIn held piece ≡ []) × (heldAfter held piece ≡ line)
 
 -- Where a look from `from` on ends in a piece of that size: past the line end that it found, or at the end of the piece.
 pub record Went (r : Look) (from size : ℕ) : Type 0 where
   pub within : r .held ≤ 129
   pub onward : from ≤ r .at
   pub inside : r .at ≤ size
-  pub past : r .ended ≡ true → from < r .at
-  pub whole : r .ended ≡ false → r .at ≡ size
+  pub past : r .complete ≡ true → from < r .at
+  pub whole : r .complete ≡ false → r .at ≡ size

@@ -5,14 +5,14 @@ ghost use mathlib.Core.Bool.{cond};
 ghost use mathlib.Core.List.{_∷_, []};
 ghost use Prim.Native.Nat.{_<_, _≤_};
 ghost use lib.ListN.{length, take, drop};
-ghost use Rattle.lines.specs.Lines.{Found, Went, lastLine};
+ghost use Rattle.lines.specs.Lines.{NextLine, Went, lastLine};
 
 pub const KEPT: usize = 129;
 
 // What a look for the next line end found: whether a line ended, how many bytes of it are held, and the place after it
 // in the piece.
 pub struct Look {
-    pub ended: bool,
+    pub complete: bool,
     pub held: usize,
     pub at: usize,
 }
@@ -21,7 +21,7 @@ pub struct Look {
 // line at hand.
 pub fn next(line: &mut [u8], held: usize, piece: &[u8], from: usize) -> Look
     requires { ⌜ (length (now line) ≡ 129) × ((held ≤ 129) × (from ≤ length (now piece))) ⌝ }
-    ensures { λ r. ⌜ Found (r .ended) (take held (now (line .entry))) (drop from (now (piece .entry)))
+    ensures { λ r. ⌜ NextLine (r .complete) (take held (now (line .entry))) (drop from (now (piece .entry)))
         (take (r .held) (now (line .exit))) (drop (r .at) (now (piece .entry)))
         × Went r from (length (now (piece .entry))) ⌝ }
 {
@@ -32,7 +32,7 @@ pub fn next(line: &mut [u8], held: usize, piece: &[u8], from: usize) -> Look
         i += 1;
         if b == b'\n' {
             return Look {
-                ended: true,
+                complete: true,
                 held: n,
                 at: i,
             };
@@ -43,7 +43,7 @@ pub fn next(line: &mut [u8], held: usize, piece: &[u8], from: usize) -> Look
         }
     }
     Look {
-        ended: false,
+        complete: false,
         held: n,
         at: i,
     }

@@ -13,8 +13,10 @@ use Rattle.counters.specs.declared.Used.{Used}
 use Rattle.record.specs.declared.Transaction.{Transaction}
 use Rattle.record.specs.declared.Store.{Store}
 use Rattle.record.specs.State.{transaction, standingAt, withDescriptors, withLengthmarks, withTransaction}
-use Rattle.record.specs.Layout.{transactionOf, storeOf, journalOf, withDescriptorAt, withLengthmarksAt, recordLength}
-use Rattle.record.proofs.LayoutLaws.{transaction-of, length-with-descriptor, store-with-descriptor, journal-with-descriptor, store-with-lengthmarks, journal-with-lengthmarks}
+use Rattle.record.specs.Layout.{transactionOf, storeOf, journalOf, recordLength}
+use Rattle.record.specs.Updates.{withDescriptorAt, withLengthmarksAt}
+use Rattle.record.proofs.LayoutLaws.{transaction-of, length-with-descriptor, store-with-descriptor, journal-with-descriptor}
+use Rattle.record.proofs.LayoutLaws.{store-with-lengthmarks, journal-with-lengthmarks}
 use Rattle.laws.proofs.Shapes.{eight, put-read, put-twice}
 use Rattle.runs.specs.declared.Extent.{Extent}
 use Rattle.runs.specs.Runs.{extent, recordedIn, lengthFor}
@@ -32,7 +34,8 @@ module _ (kept : List ℕ) (t d n : ℕ) (z : Standing) (e : Extent) (p : Movabl
         let x = transactionOf kept t in
         ap storeOf put
         ∙ store-with-descriptor kept t d (record { standing = y; dirty = true }) (p .long) (p .small) (p .few)
-        ∙ ap₂ (λ (w : Transaction) (v : Standing). withTransaction t (withDescriptors (set (w .descriptors) d (record { standing = v; dirty = true })) w) (storeOf kept))
+        ∙ ap₂ (λ (w : Transaction) (v : Standing). withTransaction t
+        (withDescriptors (set (w .descriptors) d (record { standing = v; dirty = true })) w) (storeOf kept))
         (transaction-of kept t (p .small)) (goes ∙ ap (afterRead (e .length)) (p .stands))
 
     journal-dirtied : journalOf after ≡ journalOf kept
@@ -48,7 +51,8 @@ module _ (kept : List ℕ) (t d n : ℕ) (z : Standing) (e : Extent) (p : Movabl
     moved-short h sighted m read is last marked =
         let long : length after ≡ recordLength = ap length put ∙ length-with-descriptor kept t d (record { standing = y; dirty = true }) ∙ p .long in
         let now-is : transactionOf after t ≡ dirtied (transactionOf kept t) =
-        sym (transaction-of after t (p .small)) ∙ ap (λ (s : Store). transaction s t) store-dirtied ∙ put-read (storeOf kept) t (dirtied (transactionOf kept t)) (eight kept t (p .small)) in
+        sym (transaction-of after t (p .small)) ∙ ap (λ (s : Store). transaction s t) store-dirtied
+        ∙ put-read (storeOf kept) t (dirtied (transactionOf kept t)) (eight kept t (p .small)) in
         record {
           store =
               rw (lt-ltb (e .length) n h)
@@ -63,7 +67,8 @@ module _ (kept : List ℕ) (t d n : ℕ) (z : Standing) (e : Extent) (p : Movabl
 
 -- The places as the code finds them, from what it reads off the record.
 pub places-are : (kept : List ℕ) (t d n : ℕ) (used : Used) (z : Standing) (f end : ℕ) (e : Extent)
-    → used ≡ transactionOf kept t .used → z ≡ standingAt (transactionOf kept t) d → f ≡ getD (storeOf kept .filenumbers) d 0 → end ≡ lengthFor kept t (used .records) f
+    → used ≡ transactionOf kept t .used → z ≡ standingAt (transactionOf kept t) d → f ≡ getD (storeOf kept .filenumbers) d 0
+    → end ≡ lengthFor kept t (used .records) f
     → e ≡ extent f (offsetOf z) (min n (end - offsetOf z)) → e ≡ placesFrom kept t d n
 places-are kept t d n used z f end e eu ez ef el ee = rw (ee, el, eu, ez, ef)
 

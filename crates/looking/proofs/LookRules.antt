@@ -47,7 +47,8 @@ pub may-look : (stale : Bool) (d n room : ℕ) → lookRefusal stale d n room �
 unfolding unless
 may-look stale d n room e = passed (leb d 15) stale (leb n room) refl refl refl e
   where
-    passed : (a b c : Bool) → leb d 15 ≡ a → stale ≡ b → leb n room ≡ c → unless a 6 (unless (not b) 18 (unless c 7 0)) ≡ 0 → MayLook stale d n room
+    passed : (a b c : Bool) → leb d 15 ≡ a → stale ≡ b → leb n room ≡ c → unless a 6 (unless (not b) 18 (unless c 7 0)) ≡ 0
+        → MayLook stale d n room
     passed false b c ea eb ec e = absurd (let f : _≡_ {A = ℕ} 6 0 = e in omega arith)
     passed true true c ea eb ec e = absurd (let f : _≡_ {A = ℕ} 18 0 = e in omega arith)
     passed true false false ea eb ec e = absurd (let f : _≡_ {A = ℕ} 7 0 = e in omega arith)
@@ -70,7 +71,8 @@ module _ (t : ℕ) (o : Op) (m : Machine) (passes : admission (sizes m) (m .stor
 
       refused : (a b c : Bool) → leb d 15 ≡ a → stale ≡ b → leb n room ≡ c → number r ≡ unless a 6 (unless (not b) 18 (unless c 7 0))
           → call (on t o) m ≡ turnDown (number r) (bufferOf o) m
-      refused false b c ea eb ec e = on-refused t o m passes (both false b ea eb ∙ and-false b) 6 (low ea) ∙ ap (λ (k : ℕ). turnDown k (bufferOf o) m) (sym e)
+      refused false b c ea eb ec e = on-refused t o m passes (both false b ea eb ∙ and-false b) 6 (low ea)
+          ∙ ap (λ (k : ℕ). turnDown k (bufferOf o) m) (sym e)
       refused true true c ea eb ec e = on-turned-back t o m passes (both true true ea eb) ∙ ap (λ (k : ℕ). turnDown k (bufferOf o) m) (sym e)
       refused true false false ea eb ec e =
           on-refused t o m passes (both true false ea eb) 7 (short ea ec) ∙ ap (λ (k : ℕ). turnDown k (bufferOf o) m) (sym e)
@@ -86,7 +88,8 @@ pub record Looking (kept files logs marks undo : List ℕ) (t d n room : ℕ) : 
   pub may : MayLook (transaction (storeOf kept) t .stale) d n room
 
 -- The gate speaks of the flag that the code has read.
-pub gate-says : (kept : List ℕ) (t : ℕ) → t < 8 → (stale : Bool) → stale ≡ transactionOf kept t .stale → (d n room k : ℕ) → k ≡ lookRefusal stale d n room
+pub gate-says : (kept : List ℕ) (t : ℕ) → t < 8 → (stale : Bool) → stale ≡ transactionOf kept t .stale → (d n room k : ℕ)
+    → k ≡ lookRefusal stale d n room
     → k ≡ lookRefusal (transaction (storeOf kept) t .stale) d n room
 gate-says kept t small stale own d n room k says =
     says ∙ ap (λ (b : Bool). lookRefusal b d n room) (own ∙ ap (λ (y : Transaction). y .stale) (sym (transaction-of kept t small)))
@@ -107,7 +110,8 @@ looking kept files logs marks undo t d n room long passes through begun may =
     }
 
 -- A call that was refused after settling had left the record alone.
-pub turned-left : (r : Refusal) (buffer kept files logs marks undo : List ℕ) (w : Turn) → w ≡ turnDown (number r) buffer (machineOf kept files logs marks undo)
+pub turned-left : (r : Refusal) (buffer kept files logs marks undo : List ℕ) (w : Turn)
+    → w ≡ turnDown (number r) buffer (machineOf kept files logs marks undo)
     → (now : List ℕ) → now ≡ kept → Meets w (Refused r) (machineOf now files logs marks undo) buffer × LeftAsFound (Refused r) kept now
 turned-left r buffer kept files logs marks undo w e now same = rw same (turned-follows r buffer kept files logs marks undo w e)
 

@@ -70,7 +70,8 @@ module _ (t d : ℕ) (m : Machine) (passes : admission (sizes m) (m .store) (m .
       (settling-pointer (m .store) (m .journal) (m .files) (m .logs) t d (omega arith)
       ∙ ap (λ (b : Bool). cond b (all (settledTxn (m .store) (m .journal) (m .logs) t choice)) past) e)
 
-  pointer-past : held .stale ≡ false → d ≤ 15 → allWithin choice (m .store .offsets) held ≡ false → call (on t (getFilePointer d)) m ≡ turnDown 12 [] m
+  pointer-past : held .stale ≡ false → d ≤ 15 → allWithin choice (m .store .offsets) held ≡ false
+      → call (on t (getFilePointer d)) m ≡ turnDown 12 [] m
   unfolding orGivenBack result served bufferOf
   pointer-past f h e =
       on-stepped t (getFilePointer d) m passes (not-stale (held .stale) (getFilePointer d) f)
@@ -106,7 +107,8 @@ module _ (t d : ℕ) (m : Machine) (passes : admission (sizes m) (m .store) (m .
       let x = txnOf (m .store) (m .journal) (m .logs) t in
       let ds = cond (pointerSettles (x .standing d)) (d ∷ []) [] in
       ap (λ (n : ℕ). withLengthmarks n held)
-      (ap (λ (p : Prog Stepped). lengthmarked (asked v p) (held .lengthmarks)) (check-held (leb d 15) 6 (andThen (settling ds x) (orGivenBack told)) (le-leb d 15 h))
+      (ap (λ (p : Prog Stepped). lengthmarked (asked v p) (held .lengthmarks))
+      (check-held (leb d 15) 6 (andThen (settling ds x) (orGivenBack told)) (le-leb d 15 h))
       ∙ ap (λ (is : List Item). lengthmarked is (held .lengthmarks)) (asked-andThen v (settling ds x) (orGivenBack told))
       ∙ lengths-settling v ds x (asked v (orGivenBack told (result v (settling ds x)))) (held .lengthmarks)
       ∙ told-lengths (result v (settling ds x)) (held .lengthmarks))
@@ -126,9 +128,11 @@ module _ (t d : ℕ) (m : Machine) (passes : admission (sizes m) (m .store) (m .
         machine =
             sym
             (ap (λ (w : Turn). w .after) w
-            ∙ ap₂ (λ (s : Store) (j : List ℕ). lent s j (m .files) (m .logs) (marked t (asked (values (m .store) (m .files)) (program t (getFilePointer d) m passes)) (m .marks)) (m .undo))
+            ∙ ap₂ (λ (s : Store) (j : List ℕ). lent s j (m .files) (m .logs)
+            (marked t (asked (values (m .store) (m .files)) (program t (getFilePointer d) m passes)) (m .marks)) (m .undo))
             (txn-settled (m .store) (m .journal) (m .logs) t o choice _ (lengths-kept h)) (journal-settled (m .store) (m .journal) (m .logs) t o choice)
-            ∙ ap (λ (l : List ℕ). lent (withTransaction t afterwards (m .store)) (settledJournal (m .store) (m .journal) t choice) (m .files) (m .logs) l (m .undo)) (marks-kept h));
+            ∙ ap (λ (l : List ℕ). lent (withTransaction t afterwards (m .store)) (settledJournal (m .store) (m .journal) t choice)
+            (m .files) (m .logs) l (m .undo)) (marks-kept h));
         reader = sym (ap (λ (w : Turn). w .reply .buffer) w);
       }
 
@@ -140,15 +144,17 @@ module _ {kept files logs marks undo : List ℕ} {t d : ℕ} (l : Looking kept f
   abbrev answered : Turn
   answered = call (on t (getFilePointer d)) (machineOf kept files logs marks undo)
 
-  pub past-follows : SettledTo verdict.Past → Meets answered (Refused SettledPastEnd) (machineOf now files logs marks undo) [] × LeftAsFound (Refused SettledPastEnd) kept now
+  pub past-follows : SettledTo verdict.Past
+      → Meets answered (Refused SettledPastEnd) (machineOf now files logs marks undo) [] × LeftAsFound (Refused SettledPastEnd) kept now
   past-follows s =
       turned-left SettledPastEnd [] kept files logs marks undo answered
-      (pointer-past t d (machineOf kept files logs marks undo) (l .passes) (l .may .fresh) (l .may .low) (verdict-past _ _ _ (sym (s .answer)))) now (s .refused refl)
+      (pointer-past t d (machineOf kept files logs marks undo) (l .passes) (l .may .fresh) (l .may .low)
+      (verdict-past _ _ _ (sym (s .verdict)))) now (s .refused refl)
 
   pub pointer-follows : SettledTo verdict.Settled → (a : ℕ) → a ≡ offsetOf (standingAt (transactionOf now t) d)
       → Meets answered (Offset a) (machineOf now files logs marks undo) [] × LeftAsFound (Offset a) kept now
   pointer-follows s a ea = (
     rw (ea, transaction-now (λ x. chosenByPointer x d) s (l .held .small), s .store refl, s .journal refl)
-        (meets t d (machineOf kept files logs marks undo) (l .passes) (l .held) (l .may .fresh) (l .may .low) (verdict-settled _ _ _ (sym (s .answer)))),
+        (meets t d (machineOf kept files logs marks undo) (l .passes) (l .held) (l .may .fresh) (l .may .low) (verdict-settled _ _ _ (sym (s .verdict)))),
     λ r e n. cc,
   )

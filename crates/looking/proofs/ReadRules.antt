@@ -29,7 +29,8 @@ use Rattle.rules.specs.Transactions.{Txn, Write, dirtied, Settled, past, all, s
 use Rattle.rules.specs.Reading.{fetch, placedEnd, ownEnd, lengthFor, gather}
 use Rattle.rules.specs.Messages.{read, bufferOf, on}
 use Rattle.rules.specs.Steps.{Stepped, accept, check, orGivenBack, step, readStep, readSettled, settledByRead, descriptorOf, looks}
-use Rattle.rules.specs.Machine.{Machine, lent, withStore, withJournal, withMarking, sizes, fileOf, values, txnOf, lengthmarked, sightingLengths, withTxn, journalled, writeAt, dataStart}
+use Rattle.rules.specs.Machine.{Machine, lent, withStore, withJournal, withMarking, sizes, fileOf, values, txnOf, lengthmarked}
+use Rattle.rules.specs.Machine.{sightingLengths, withTxn, journalled, writeAt, dataStart}
 use Rattle.rules.specs.Calls.{Turn, turnDown, marked, logged, served, call}
 use Rattle.rules.specs.Promises.{Meets, machineOf, LeftAsFound}
 use Rattle.rules.proofs.Serial.Programs.{result-andThen, asked-andThen, not-stale}
@@ -47,7 +48,8 @@ use Rattle.laws.proofs.Settling.{marked-settling, lengths-settling}
 use Rattle.settling.specs.declared.settle.Verdict.{Verdict}
 use Rattle.settling.specs.declared.settle.Verdict.the-variants as verdict
 use Rattle.settling.specs.Choices.{chosenByRead, settlesWithin, allWithin, settledTransaction}
-use Rattle.settling.proofs.Settled.{settledTxn, settledJournal, txn-settled-dirtied, journal-settled, descriptor-settled, data-settled, writes-settled, standing-settled}
+use Rattle.settling.proofs.Settled.{settledTxn, settledJournal, txn-settled-dirtied, journal-settled, descriptor-settled, data-settled}
+use Rattle.settling.proofs.Settled.{writes-settled, standing-settled}
 use Rattle.settling.proofs.ChoiceLaws.{verdict-past, verdict-settled}
 use Rattle.settling.proofs.Chosen.{settling-read}
 use Rattle.runs.specs.declared.Extent.{Extent}
@@ -74,7 +76,8 @@ settled-low c (Deferred a) e h = h
 settled-low c (Moved a o) e h = offset-low (Moved a o) e
 settled-low c (Known o) e h = offset-low (Known o) e
 
-chosen-low : (b : Bool) (c : ℕ) (z : Standing) → standingIn z ≡ true → not b || leb (c + advance z) 4096 ≡ true → offsetOf (cond b (settled c z) z) ≤ 4096
+chosen-low : (b : Bool) (c : ℕ) (z : Standing) → standingIn z ≡ true → not b || leb (c + advance z) 4096 ≡ true
+    → offsetOf (cond b (settled c z) z) ≤ 4096
 chosen-low true c z e h = settled-low c z e (leb-true (c + advance z) 4096 h)
 chosen-low false c z e h = offset-low z e
 
@@ -86,7 +89,8 @@ module _ (t d n : ℕ) (buffer : List ℕ) (m : Machine) (passes : admission (si
       look-refused t (read d n buffer) m passes d n (length buffer) refl refl (check-failed (leb d 15) 6 _)
       (λ low short. check-held (leb d 15) 6 _ low ∙ check-failed (leb n (length buffer)) 7 _ short)
 
-  module _ (o : Opened (m .store) (m .journal) (m .logs) t) (fresh : transaction (m .store) t .stale ≡ false) (low : d ≤ 15) (room : n ≤ length buffer) where
+  module _ (o : Opened (m .store) (m .journal) (m .logs) t) (fresh : transaction (m .store) t .stale ≡ false) (low : d ≤ 15)
+      (room : n ≤ length buffer) where
     -- Transaction t, the choice, the transaction afterwards, and its meaning.
     abbrev held : Transaction
     held = transaction (m .store) t
@@ -145,7 +149,7 @@ module _ (t d n : ℕ) (buffer : List ℕ) (m : Machine) (passes : admission (si
       f = getD (m .store .filenumbers) d 0
 
       abbrev end : ℕ
-      end = lengthFor (fileOf (m .store)) (fileOf (m .store) d) (meant .writes) v
+      end = lengthFor (fileOf (m .store)) (fileOf (m .store) d) (meant .writes) (v (fileLength (fileOf (m .store) d)))
 
       abbrev count : ℕ
       count = min n (end - from)
@@ -222,7 +226,8 @@ module _ (t d n : ℕ) (buffer : List ℕ) (m : Machine) (passes : admission (si
       accepted : call (on t (read d n buffer)) m
           ≡ record {
             reply = record { answer = given count; buffer = result v fetches ++ drop count buffer };
-            after = withStore (withTxn t finally sees (m .store)) (withJournal (journalled t (meant .writes) (m .journal)) (withMarking (marked t (asked v fetches) (m .marks)) m));
+            after = withStore (withTxn t finally sees (m .store))
+                (withJournal (journalled t (meant .writes) (m .journal)) (withMarking (marked t (asked v fetches) (m .marks)) m));
           }
       unfolding served logged orGivenBack
       accepted =
@@ -241,15 +246,20 @@ module _ (t d n : ℕ) (buffer : List ℕ) (m : Machine) (passes : admission (si
       meant-in : TxnIn meant
       meant-in =
           settling-kept v (settledByRead (fileOf (m .store)) d before) before meant (pieces (before .writes)) (settled-are 16 (omega arith))
-          (record { ranges = decoded-in (m .store) (m .journal) (m .logs) t (o .size) (o .small) (o .ranges) (o .shape .descriptors t (o .small)); same = refl })
+          (record {
+            ranges = decoded-in (m .store) (m .journal) (m .logs) t (o .size) (o .small) (o .ranges)
+                (o .shape .descriptors t (o .small));
+            same = refl;
+          })
           (settles-to true within)
           .ranges
         where
           settled-are : (k : ℕ) → k ≤ 16 → DescriptorsIn (settledByRead (fileOf (m .store)) d before)
-          settled-are k h = unfold settledByRead in those-in (λ e. readSettles (eqb (fileOf (m .store) e) (fileOf (m .store) d)) (eqb e d) (before .standing e)) 16 (omega arith)
+          settled-are k h = unfold settledByRead in those-in
+              (λ e. readSettles (eqb (fileOf (m .store) e) (fileOf (m .store) d)) (eqb e d) (before .standing e)) 16 (omega arith)
 
       end-low : end ≤ 4096
-      end-low = length-for (fileOf (m .store)) (fileOf (m .store) d) meant v (bounded (fileOf (m .store) d)) meant-in
+      end-low = length-for (fileOf (m .store)) (fileOf (m .store) d) meant (v (fileLength (fileOf (m .store) d))) (bounded (fileOf (m .store) d)) meant-in
 
       from-low : from ≤ 4096
       unfolding allWithin settlesWithin settleAll txnOf
@@ -268,14 +278,17 @@ module _ (t d n : ℕ) (buffer : List ℕ) (m : Machine) (passes : admission (si
       read-bytes : bytesOf placed t (held .used .records) (logPart (m .logs) t) (filePart (m .files) f) (extent f from count) ≡ result v fetches
       unfolding fileOf
       read-bytes =
-          bytes-are placed (m .logs) t (held .used .records) inside v (m .files) (λ q. unfold values in refl) (extent f from count) (let l = from-low in let k = end-low in omega arith)
+          bytes-are placed (m .logs) t (held .used .records) inside v (m .files) (λ q. unfold values in refl) (extent f from count)
+          (let l = from-low in let k = end-low in omega arith)
           ∙ ap (λ (ws : List Write). result v (fetch (fileOf (m .store)) ws f from count)) (writes-settled (m .store) (m .journal) (m .logs) t o choice)
 
-      read-marks : marksAfter placed t (held .used .records) (logPart (m .logs) t) (filePart (m .files) f) (extent f from count) (m .marks) ≡ marked t (asked v fetches) (m .marks)
+      read-marks : marksAfter placed t (held .used .records) (logPart (m .logs) t) (filePart (m .files) f) (extent f from count) (m .marks)
+          ≡ marked t (asked v fetches) (m .marks)
       unfolding fileOf
       read-marks =
           marks-are placed (m .logs) t (held .used .records) inside v (m .files) (λ q. unfold values in refl) (extent f from count) (m .marks)
-          ∙ ap (λ (ws : List Write). marked t (asked v (fetch (fileOf (m .store)) ws f from count)) (m .marks)) (writes-settled (m .store) (m .journal) (m .logs) t o choice)
+          ∙ ap (λ (ws : List Write). marked t (asked v (fetch (fileOf (m .store)) ws f from count)) (m .marks))
+          (writes-settled (m .store) (m .journal) (m .logs) t o choice)
 
       -- The same in the code's terms: of the record after settling.
       module _ (now : List ℕ) (stands : transactionOf now t ≡ afterwards) (es : storeOf now ≡ withTransaction t afterwards (m .store))
@@ -348,14 +361,15 @@ module _ (t d n : ℕ) (buffer : List ℕ) (m : Machine) (passes : admission (si
                       filesLength = through .lengths .files;
                       logsLength = through .lengths .logs;
                       marksLength = through .lengths .marks;
-                      number = rw files-now (let l = in-range (m .store) (m .journal) (through .ranges) .files d (omega arith) in omega arith);
+                      fileIn = rw files-now (let l = in-range (m .store) (m .journal) (through .ranges) .files d (omega arith) in omega arith);
                       places = omega (arith, from-low, end-low, ap (λ (e : Extent). e .place) places-are, ap (λ (e : Extent). e .length) places-are);
                     };
               }
 
           -- What was given, the marks, and the record at the end, are those of the rule.
           module _ (e : Extent) (ee : e ≡ extent f from count) where
-            bytes-given : bytesOf (recordedIn now) t (transactionOf now t .used .records) (logPart (m .logs) t) (filePart (m .files) (e .file)) e ++ drop (e .length) buffer
+            bytes-given : bytesOf (recordedIn now) t (transactionOf now t .used .records) (logPart (m .logs) t)
+                (filePart (m .files) (e .file)) e ++ drop (e .length) buffer
                 ≡ result v fetches ++ drop count buffer
             bytes-given = rw (recorded-now, used-now, ee) (ap (λ (l : List ℕ). l ++ drop count buffer) read-bytes)
 
@@ -393,7 +407,8 @@ module _ (t d n : ℕ) (buffer : List ℕ) (m : Machine) (passes : admission (si
               }
 
 -- The same of what the code has, once it may look: the record before settling and after.
-module _ {kept files logs marks undo : List ℕ} {t d n : ℕ} (buffer : List ℕ) (l : Looking kept files logs marks undo t d n (length buffer)) (now : List ℕ) where
+module _ {kept files logs marks undo : List ℕ} {t d n : ℕ} (buffer : List ℕ)
+    (l : Looking kept files logs marks undo t d n (length buffer)) (now : List ℕ) where
   abbrev SettledTo : Verdict → Type 0
   SettledTo = SettledAs (λ x. chosenByRead (storeOf kept .filenumbers) x d) t kept now
 
@@ -403,29 +418,34 @@ module _ {kept files logs marks undo : List ℕ} {t d n : ℕ} (buffer : List �
   abbrev answered : Turn
   answered = call (on t (read d n buffer)) machine
 
-  pub past-follows : SettledTo verdict.Past → Meets answered (Refused SettledPastEnd) (machineOf now files logs marks undo) buffer × LeftAsFound (Refused SettledPastEnd) kept now
+  pub past-follows : SettledTo verdict.Past
+      → Meets answered (Refused SettledPastEnd) (machineOf now files logs marks undo) buffer × LeftAsFound (Refused SettledPastEnd) kept now
   past-follows s =
       turned-left SettledPastEnd buffer kept files logs marks undo answered
-      (read-past t d n buffer machine (l .passes) (l .held) (l .may .fresh) (l .may .low) (l .may .roomy) (verdict-past _ _ _ (sym (s .answer)))) now (s .refused refl)
+      (read-past t d n buffer machine (l .passes) (l .held) (l .may .fresh) (l .may .low) (l .may .roomy)
+      (verdict-past _ _ _ (sym (s .verdict)))) now (s .refused refl)
 
   module _ (s : SettledTo verdict.Settled) where
     -- "lengths, at most 4,096"
     limits : (g : ℕ) → values (storeOf kept) files (fileLength g) ≤ 4096
     limits = length-in _ _ _ (l .held .shape .lengths) (in-range (storeOf kept) (journalOf kept) (l .through .ranges))
 
-    stands-now : let x = transaction (storeOf kept) t in transactionOf now t ≡ settledTransaction (chosenByRead (storeOf kept .filenumbers) x d) (storeOf kept .offsets) x
+    stands-now : let x = transaction (storeOf kept) t in transactionOf now t
+        ≡ settledTransaction (chosenByRead (storeOf kept .filenumbers) x d) (storeOf kept .offsets) x
     stands-now = transaction-now (λ x. chosenByRead (storeOf kept .filenumbers) x d) s (l .held .small)
 
     pub handed-on : Readable now files logs marks t d n buffer
     handed-on =
-        readable t d n buffer machine (l .passes) (l .held) (l .may .fresh) (l .may .low) (l .may .roomy) (verdict-settled _ _ _ (sym (s .answer))) limits now stands-now (s .store refl) (s .journal refl)
+        readable t d n buffer machine (l .passes) (l .held) (l .may .fresh) (l .may .low) (l .may .roomy)
+        (verdict-settled _ _ _ (sym (s .verdict))) limits now stands-now (s .store refl) (s .journal refl)
         (s .long) (l .through)
 
     pub read-follows : (r : ℕ) (after marksThen reader : List ℕ) → r ≡ placesFrom now t d n .length → MovedOn t d n (placesFrom now t d n) now after
         → Served t (placesFrom now t d n) now files logs marks buffer marksThen reader
         → Meets answered (Given r) (machineOf after files logs marksThen undo) reader × LeftAsFound (Given r) kept after
     read-follows r after marksThen reader er moved served = (
-      read-meets t d n buffer machine (l .passes) (l .held) (l .may .fresh) (l .may .low) (l .may .roomy) (verdict-settled _ _ _ (sym (s .answer))) limits now stands-now (s .store refl) (s .journal refl)
+      read-meets t d n buffer machine (l .passes) (l .held) (l .may .fresh) (l .may .low) (l .may .roomy)
+          (verdict-settled _ _ _ (sym (s .verdict))) limits now stands-now (s .store refl) (s .journal refl)
           r after marksThen reader er moved served,
       λ q e k. cc,
     )

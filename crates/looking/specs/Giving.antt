@@ -39,7 +39,7 @@ pub record Movable (kept : List ℕ) (t d : ℕ) (z : Standing) (e : Extent) : T
   pub small : t < 8
   pub few : d < 16
   pub stands : z ≡ standingAt (transactionOf kept t) d
-  pub number : e .file < 8
+  pub fileIn : e .file < 8
   pub places : offsetOf z + e .length ≤ 4096
 
 pub record MovedOn (t d n : ℕ) (e : Extent) (before after : List ℕ) : Type 0 where

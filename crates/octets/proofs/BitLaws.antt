@@ -4,7 +4,8 @@ use mathlib.Core.Bool.{Bool, true, false, cond, not, _||_, or-true, or-false}
 use mathlib.Core.List.{List}
 use mathlib.Core.Logic.{_⊎_, inl, inr, ⊎-elim}
 use Prim.Native.Nat.{ℕ, zero, suc, _+_, _-_, _*_, _^_, _/_, _%_, _≤_, _<_, max}
-use native.Mathlib.Nat.{zero-mul, one-mul, suc-mul, add-zero, add-suc, add-comm, max-zero, div-one, div-self, div-eq-of-lt, zero-div, mod-lt, mod-eq-of-lt, mul-mod-left, mul-add-mod-self-right, div-div-eq-div-mul, pow-suc, mul-comm}
+use native.Mathlib.Nat.{zero-mul, one-mul, suc-mul, add-zero, add-suc, add-comm, max-zero, div-one, div-self, div-eq-of-lt, zero-div}
+use native.Mathlib.Nat.{mod-lt, mod-eq-of-lt, mul-mod-left, mul-add-mod-self-right, div-div-eq-div-mul, pow-suc, mul-comm}
 use native.Mathlib.Numerals.{add-one}
 use native.Mathlib.Omega.{arith}
 use lib.Dec.{eqb}

@@ -14,7 +14,8 @@ use lib.Seq.{getD-set-same, getD-set-other, set-getD, set-set, set-out}
 use borrow.Author.Tests.{eqb-true, eqb-false, eq-eqb, ne-eqb, ltb-true, ltb-false, lt-ltb}
 use Rattle.octets.specs.Bits.{bit, withBit, span, cleared}
 use Rattle.octets.specs.Marks.{byTransaction, names, hasMark, withMark, withMarks, withoutMarks, hasMarkIn, contains}
-use Rattle.octets.proofs.BitLaws.{bit-zero, bit-with, with-lt, with-span, with-span-none, with-octet, some-none, some-more, some-octet, some-or, length-cleared, cleared-in, cleared-out}
+use Rattle.octets.proofs.BitLaws.{bit-zero, bit-with, with-lt, with-span, with-span-none, with-octet, some-none, some-more}
+use Rattle.octets.proofs.BitLaws.{some-octet, some-or, length-cleared, cleared-in, cleared-out}
 use Rattle.octets.proofs.PartLaws.{le-or-lt}
 
 -- ---- one mark more

@@ -8,7 +8,8 @@ use native.Mathlib.Nat.{add-assoc, suc-sub-suc, add-zero, zero-sub, sub-zero}
 use native.Mathlib.Omega.{arith}
 use lib.Dec.{leb}
 use lib.ListN.{length, take, drop, getD, set, length-append, length-take, length-drop, take-append-drop, List·getD-append}
-use lib.Seq.{length-take-le, take-nil, drop-cons, set-at, take-at, drop-at, take-take, drop-drop, take-add, drop-append-le, drop-append-add, getD-append-add, getD-take, getD-drop, ext-getD, append-snoc, sets, sets-eq}
+use lib.Seq.{length-take-le, take-nil, drop-cons, set-at, take-at, drop-at, take-take, drop-drop, take-add, drop-append-le, drop-append-add}
+use lib.Seq.{getD-append-add, getD-take, getD-drop, ext-getD, append-snoc, sets, sets-eq}
 use borrow.Rule.Slice.PartMut.{midOf, putMid, post-is}
 use borrow.Author.Tests.{leb-true, leb-false}
 use Rattle.octets.specs.Parts.{pasted, cut, filePart}
@@ -104,7 +105,8 @@ module _ (d : List ℕ) (at : ℕ) (s : List ℕ) (fits : at + length s ≤ leng
       let rest = drop (suc (at + length s)) d in
       ap (λ (l : List ℕ). set (take at d ++ (s ++ l)) (at + length s) v) (drop-cons d (at + length s) 0 h)
       ∙ ap (λ (l : List ℕ). set l (at + length s) v) (sym (append-assoc (take at d) s (getD d (at + length s) 0 ∷ rest)))
-      ∙ set-at (take at d ++ s) (getD d (at + length s) 0) rest v (at + length s) (length-append (take at d) s ∙ ap (λ (k : ℕ). k + length s) length-head)
+      ∙ set-at (take at d ++ s) (getD d (at + length s) 0) rest v (at + length s)
+      (length-append (take at d) s ∙ ap (λ (k : ℕ). k + length s) length-head)
       ∙ append-assoc (take at d) s (v ∷ rest)
       ∙ ap (λ (l : List ℕ). take at d ++ l) (sym (append-snoc s v rest))
       ∙ ap (λ (k : ℕ). take at d ++ ((s ++ (v ∷ [])) ++ drop k d)) e
@@ -112,7 +114,8 @@ module _ (d : List ℕ) (at : ℕ) (s : List ℕ) (fits : at + length s ≤ leng
 -- ---- parts of a buffer after a paste
 
 -- two buffers of one length that agree on a stretch have the same part there
-pub cut-same : (x y : List ℕ) (p n : ℕ) → length x ≡ length y → ((i : ℕ) → p ≤ i → i < p + n → getD x i 0 ≡ getD y i 0) → cut x p n ≡ cut y p n
+pub cut-same : (x y : List ℕ) (p n : ℕ) → length x ≡ length y → ((i : ℕ) → p ≤ i → i < p + n → getD x i 0 ≡ getD y i 0)
+    → cut x p n ≡ cut y p n
 cut-same x y p n e same =
     ext-getD 0 (cut x p n) (cut y p n) (lengths x p n ∙ ap (λ (k : ℕ). min n (k - p)) e ∙ sym (lengths y p n))
     (λ i h. let k : i < n = below i (rw (lengths x p n) at h) in

@@ -168,11 +168,13 @@ table = refl
 
 masked : (t u : ℕ) → t < 16 → u < 16 → bit u (65535 - 2 ^ t) ≡ cond (eqb u t) 0 1
 unfolding right
-masked t u ht hu = eqb-true (bit u (65535 - 2 ^ t)) (cond (eqb u t) 0 1) (holds-at (right t) 16 u (holds-at (λ (t : ℕ). holds (right t) 16) 16 t table ht) hu)
+masked t u ht hu = eqb-true (bit u (65535 - 2 ^ t)) (cond (eqb u t) 0 1)
+    (holds-at (right t) 16 u (holds-at (λ (t : ℕ). holds (right t) 16) 16 t table ht) hu)
 
 contains-without : (t x u : ℕ) → t < 16 → u < 16 → contains (withoutBit t x) u ≡ cond (eqb u t) false (contains x u)
 unfolding contains withoutBit
-contains-without t x u h g = ap (λ (b : ℕ). eqb b 1) (bit-and u x (65535 - 2 ^ t) ∙ ap (min (bit u x)) (masked t u h g)) ∙ pick (eqb u t) (bit u x) (bit-lt u x)
+contains-without t x u h g = ap (λ (b : ℕ). eqb b 1) (bit-and u x (65535 - 2 ^ t) ∙ ap (min (bit u x)) (masked t u h g))
+    ∙ pick (eqb u t) (bit u x) (bit-lt u x)
   where
     pick : (b : Bool) (y : ℕ) → y < 2 → eqb (min y (cond b 0 1)) 1 ≡ cond b false (eqb y 1)
     pick true zero l = refl

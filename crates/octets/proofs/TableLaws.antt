@@ -34,7 +34,8 @@ module _ {A : Type 0} where
       ap₂ (λ (l : List A) (a : A). l ++ (a ∷ [])) (table-same f g n (λ k l. h k (omega arith))) (h n (omega arith))
 
   -- A table that differs from another at one number.
-  pub table-set : (f g : ℕ → A) (n d : ℕ) (a : A) → d < n → g d ≡ a → ((k : ℕ) → k < n → (k ≡ d → ⊥) → g k ≡ f k) → tabulate g n ≡ set (tabulate f n) d a
+  pub table-set : (f g : ℕ → A) (n d : ℕ) (a : A) → d < n → g d ≡ a → ((k : ℕ) → k < n → (k ≡ d → ⊥) → g k ≡ f k)
+      → tabulate g n ≡ set (tabulate f n) d a
   table-set f g n d a h here other =
       ext-getD a (tabulate g n) (set (tabulate f n) d a) (length-tabulate g n ∙ sym (length-set (tabulate f n) d a ∙ length-tabulate f n))
       (λ k l. let m : k < n = rw length-tabulate at l in getD-tabulate g n k a m ∙ pick k m (eqb k d) refl)

@@ -29,13 +29,13 @@ names a marks t q = ltb q 32768 && eqb (bit (a .bitOf t q) (getD marks (a .octet
 -- Both arrangements, computed: transaction 3 and byte 17 of the files.
 pub record Arranged : Type 0 where
   pub old : (byByte .octetOf 3 17 ≡ 17) × (byByte .bitOf 3 17 ≡ 3)
-  -- "transaction t's starting at 4,096 × t, a bit for each file byte in the order of the file buffer, lowest bit first"
+  -- 02, F-9: "transaction t's starting at 4,096 × t, a bit for each file byte in the order of the file buffer, lowest bit first"
   pub new : (byTransaction .octetOf 3 17 ≡ 12290) × (byTransaction .bitOf 3 17 ≡ 1)
   pub lowestFirst :
       (names byTransaction (1 ∷ []) 0 0 ≡ true) × (names byTransaction (128 ∷ []) 0 7 ≡ true) × (names byTransaction (0 ∷ 1 ∷ []) 0 8 ≡ true)
   pub byPlace : (names byByte (0 ∷ 128 ∷ []) 7 1 ≡ true) × (names byByte (0 ∷ 128 ∷ []) 1 7 ≡ false)
 
--- "each old arrangement and its new one": octet i of the new one has the marks of transaction i / 4096 on the eight bytes from
+-- F-9, "each old arrangement and its new one": octet i of the new one has the marks of transaction i / 4096 on the eight bytes from
 -- 8 * (i % 4096) on.
 unfoldable pub rearranged : List ℕ → List ℕ
 rearranged marks = tabulate (λ i. bitsOf (λ k. names byByte marks (i / 4096) (8 * (i % 4096) + k)) 8) 32768
@@ -68,7 +68,7 @@ hasMarkIn marks t from (suc n) = hasMarkIn marks t from n || hasMark marks t (fr
 unfoldable pub contains : ℕ → ℕ → Bool
 contains octet t = eqb (bit t octet) 1
 
--- "Show that each old arrangement and its new one name the same pairs of transaction and byte".
+-- F-9: "Show that each old arrangement and its new one name the same pairs of transaction and byte".
 pub record SamePairs : Type 0 where
   pub size : (marks : List ℕ) → length (rearranged marks) ≡ 32768
   pub pairs : (marks : List ℕ) (t q : ℕ) → t < 8 → names byTransaction (rearranged marks) t q ≡ names byByte marks t q

@@ -47,7 +47,8 @@ fn mark_bits(marks: &mut [u8], t: usize, from: usize, n: usize)
 
 // The same for the bytes whose marks are n whole octets.
 fn mark_octets(marks: &mut [u8], t: usize, from: usize, n: usize)
-    requires { ⌜ (t < 8) × ((from + 8 * n ≤ 32768) × ((0 < n → from % 8 ≡ 0) × (length (now marks) ≡ 32768))) ⌝ }
+    requires { ⌜ (t < 8)
+        × ((from + 8 * n ≤ 32768) × ((0 < n → from % 8 ≡ 0) × (length (now marks) ≡ 32768))) ⌝ }
     ensures { λ _. ⌜ now (marks .exit) ≡ withMarks t from (8 * n) (now (marks .entry)) ⌝ }
 {
     let start = STRETCH * t + from / 8;
@@ -102,7 +103,8 @@ fn has_mark_in_bits(marks: &[u8], t: usize, from: usize, n: usize) -> bool
 
 // The same for the bytes whose marks are n whole octets.
 fn has_mark_in_octets(marks: &[u8], t: usize, from: usize, n: usize) -> bool
-    requires { ⌜ (t < 8) × ((from + 8 * n ≤ 32768) × ((0 < n → from % 8 ≡ 0) × (length (now marks) ≡ 32768))) ⌝ }
+    requires { ⌜ (t < 8)
+        × ((from + 8 * n ≤ 32768) × ((0 < n → from % 8 ≡ 0) × (length (now marks) ≡ 32768))) ⌝ }
     ensures { λ r. ⌜ r ≡ hasMarkIn (now (marks .entry)) t from (8 * n) ⌝ }
 {
     let start = STRETCH * t + from / 8;

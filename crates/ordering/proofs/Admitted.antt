@@ -30,7 +30,7 @@ use Rattle.laws.proofs.Decoded.{some-tabulate}
 use Rattle.landing.specs.Landing.{RecordLands, CanLandIn}
 use Rattle.closing.specs.Closing.{OpenIn}
 use Rattle.closing.proofs.ClosingLaws.{few, descriptor-in}
-use Rattle.ordering.specs.Computing.{unplacedIn, isReady, AllOpen, AllLand, refusalIn}
+use Rattle.ordering.specs.Computing.{unplacedIn, isReady, AllOpen, AllLand, listRefusal}
 use Rattle.ordering.proofs.ListLaws.{all-at, small-at}
 
 -- ---- tests that agree on the members of a list
@@ -71,8 +71,8 @@ chain true true c d b₄ e f b₆ g h =
     ap₂ (λ (x y : Bool). unless x 4 (unless b₄ 22 (unless y 25 (unless b₆ 27 0)))) (g refl) (h refl)
 
 pub refusal-is : (kept files logs marks undo ts : List ℕ) (minute budget : ℕ)
-    → refusalIn kept ts minute budget ≡ orderRefusal (askedOf minute (machineOf kept files logs marks undo)) ts minute budget
-unfolding refusalIn orderRefusal askedOf
+    → listRefusal kept ts minute budget ≡ orderRefusal (askedOf minute (machineOf kept files logs marks undo)) ts minute budget
+unfolding listRefusal orderRefusal askedOf
 refusal-is kept files logs marks undo ts minute budget =
     chain (isList ts) (allIn (λ t. leb t 7) ts) _ _ (minuteIn minute) _ _ (leb 1 budget && leb budget 40320)
     (λ e. all-same (λ t. leb t 7) _ _ (open-is kept files logs marks undo) ts e)
@@ -88,8 +88,8 @@ pub record ListIn (kept ts : List ℕ) (minute budget : ℕ) : Type 0 where
   pub ready : allIn (isReady kept) ts ≡ true
   pub affordable : leb 1 budget && leb budget 40320 ≡ true
 
-pub list-in : (kept ts : List ℕ) (minute budget : ℕ) → refusalIn kept ts minute budget ≡ 0 → ListIn kept ts minute budget
-unfolding refusalIn
+pub list-in : (kept ts : List ℕ) (minute budget : ℕ) → listRefusal kept ts minute budget ≡ 0 → ListIn kept ts minute budget
+unfolding listRefusal
 list-in kept ts minute budget e =
     let b = unless-zero (isList ts) 26 _ (omega arith) e in
     let c = unless-zero (allIn (λ t. leb t 7) ts) 3 _ (omega arith) (b .1) in

@@ -22,7 +22,9 @@ use Rattle.rules.specs.Messages.{commit, isGrant}
 use Rattle.rules.specs.Ordering.{grantsIn, hasUnplaced}
 use Rattle.rules.specs.Commits.{settings, landed, commitRefusal}
 use Rattle.rules.proofs.Serial.Lists.{or-left-false, or-right-false}
-use Rattle.rules.proofs.Serial.Sighted.{Held, Seat, vacant, held, Back, kept, Sighted, sighted, hit, SightedTurn, withSeat, turnedAway, touch, granting, sightedCommitted, sightedCommit, seated, sightedCommitCall, sightedCall, sightedAfter}
+use Rattle.rules.proofs.Serial.Sighted.{Held, Seat, vacant, held, Back, kept, Sighted, sighted, hit, SightedTurn, withSeat, turnedAway}
+use Rattle.rules.proofs.Serial.Sighted.{touch, granting, sightedCommitted, sightedCommit, seated, sightedCommitCall, sightedCall}
+use Rattle.rules.proofs.Serial.Sighted.{sightedAfter}
 use Rattle.rules.proofs.Demand3.Answers.{answer-not-refused}
 use Rattle.rules.proofs.Demand3.Refusals.{refused-same}
 use Rattle.ordering.specs.Table.{Pass, fitsAt, offsetsAfter, followOne, followAll}

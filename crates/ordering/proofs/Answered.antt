@@ -1,7 +1,7 @@
 -- What the code answers is the reply of the rules.
 use mathlib.Core.Bool.{Bool, cond, not, _&&_}
 use mathlib.Core.List.{List}
-use mathlib.Core.Path.{_≡_, refl, sym, ap, ap₂, _∙_}
+use mathlib.Core.Path.{_≡_, sym, ap, ap₂, _∙_}
 use lib.Dec.{eqb}
 use lib.ListN.{length}
 use Prim.Native.Nat.{ℕ, _-_, min}
@@ -17,14 +17,13 @@ use Rattle.rules.specs.Calls.{askedOf}
 use Rattle.rules.specs.Promises.{machineOf}
 use Rattle.closing.specs.Closing.{hasByteForClosed}
 use Rattle.ordering.specs.Table.{Asking}
-use Rattle.ordering.specs.Computing.{waitsIn, Tabled, grantsBy}
-use Rattle.ordering.specs.declared.best.Known.{Known}
+use Rattle.ordering.specs.Computing.{waitsIn, Tabled, grantsByTable}
 use Rattle.ordering.proofs.Admitted.{ListIn}
 use Rattle.ordering.proofs.Grading.{count-is, grants-are}
 use Rattle.ordering.proofs.BestLaws.{best-same, best-tried-most}
 
 module _ (kept files logs marks undo ts : List ℕ) (minute budget : ℕ) (a : Asking (machineOf kept files logs marks undo) ts minute budget)
-    (listed : ListIn kept ts minute budget) (table : List ℕ) (tabled : Tabled kept files logs marks ts table)
+    (listed : ListIn kept ts minute budget) (table : List ℕ) (tabled : Tabled (machineOf kept files logs marks undo) ts table)
     (shut : ℕ) (shutIs : shut ≡ bitsOf (λ t. transactionOf kept t .begun && hasByteForClosed kept logs t minute) 8)
     (placed : Bool) (placedIs : placed ≡ allIn (λ t. not (waitsIn kept t)) ts)
     (all : ℕ) (allIs : all ≡ factorial (length ts)) (tried : ℕ) (triedIs : tried ≡ min budget all) where
@@ -32,7 +31,7 @@ module _ (kept files logs marks undo ts : List ℕ) (minute budget : ℕ) (a : A
   asked = askedOf minute (machineOf kept files logs marks undo)
 
   abbrev G : List ℕ → ℕ
-  G = grantsBy kept (record { table = table; shut = shut; placed = placed })
+  G = grantsByTable kept (record { table = table; shut = shut; placed = placed })
 
   abbrev best : Rated
   best = bestTried (asked .grants) budget ts

@@ -1,12 +1,12 @@
 -- Order number i: factorials, a list whose numbers move up, and the order one number after the other.
 use mathlib.Core.List.{List, [], _∷_, _++_, append-nil}
 use mathlib.Core.Path.{_≡_, refl, sym, ap, ap₂, _∙_}
-use lib.ListN.{length, getD, set, take, drop, take-append-drop}
+use lib.ListN.{length, getD, set, take, drop, replicate, take-append-drop}
 use lib.Seq.{take-suc, take-suc-set, take-at, take-nil, append-snoc, drop-cons, set-at, getD-take, getD-drop, getD-append-add, length-take-le}
-use native.Mathlib.Nat.{le-of-suc-le-suc}
+use native.Mathlib.Nat.{zero-sub, sub-zero, suc-sub-suc, le-of-suc-le-suc}
 use native.Mathlib.Numerals.{add-one}
 use native.Mathlib.Omega.{arith}
-use Prim.Native.Nat.{ℕ, zero, suc, _+_, _*_, _/_, _%_, _≤_, _<_}
+use Prim.Native.Nat.{ℕ, zero, suc, _+_, _-_, _*_, _/_, _%_, _≤_, _<_}
 use Rattle.orders.specs.Orders.{without, factorial, orderAt}
 use Rattle.orders.proofs.Members.{length-without}
 
@@ -31,6 +31,20 @@ factorial-most (suc (suc (suc (suc (suc (suc zero)))))) l = omega arith
 factorial-most (suc (suc (suc (suc (suc (suc (suc zero))))))) l = omega arith
 factorial-most (suc (suc (suc (suc (suc (suc (suc (suc zero)))))))) l = omega arith
 factorial-most (suc (suc (suc (suc (suc (suc (suc (suc (suc n))))))))) l = absurd (omega arith)
+
+-- ---- zeros after the first numbers
+
+pub drop-zeros : (n m : ℕ) → let z : ℕ = 0 in drop n (replicate m z) ≡ replicate (m - n) z
+drop-zeros zero m = ap (λ (k : ℕ). replicate {A = ℕ} k 0) (sym (sub-zero m))
+drop-zeros (suc n) zero = ap (λ (k : ℕ). replicate {A = ℕ} k 0) (sym (zero-sub (suc n)))
+drop-zeros (suc n) (suc m) = drop-zeros n m ∙ ap (λ (k : ℕ). replicate {A = ℕ} k 0) (sym (suc-sub-suc m n))
+
+-- The first n numbers of an array, and zeros after them.
+pub padded-front : (n : ℕ) (xs : List ℕ) → n ≤ length xs → drop n xs ≡ replicate (8 - n) 0
+    → xs ≡ take n xs ++ replicate (8 - length (take n xs)) 0
+padded-front n xs l z =
+    sym (take-append-drop n xs)
+    ∙ ap (λ (ys : List ℕ). take n xs ++ ys) (z ∙ ap (λ (k : ℕ). replicate (8 - k) 0) (sym (length-take-le n xs l)))
 
 -- ---- a number taken out, those after it moved up
 

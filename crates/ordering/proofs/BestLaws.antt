@@ -50,7 +50,8 @@ module _ (G : List ℕ → ℕ) (ts : List ℕ) where
 -- ---- two that agree on every order of the list
 
 module _ (G H : List ℕ → ℕ) where
-  best-alike : (os : List (List ℕ)) (a : Rated) → ((i : ℕ) → i < length os → G (getD os i []) ≡ H (getD os i [])) → bestOf G a os ≡ bestOf H a os
+  best-alike : (os : List (List ℕ)) (a : Rated) → ((i : ℕ) → i < length os → G (getD os i []) ≡ H (getD os i []))
+      → bestOf G a os ≡ bestOf H a os
   unfolding bestOf
   best-alike [] a h = refl
   best-alike (o ∷ os) a h =

@@ -1,11 +1,11 @@
 -- The grants of an order, as the code has them, are those of the rules.
 use mathlib.Core.Bool.{Bool, true, false, cond, not, _&&_, _||_}
 use mathlib.Core.List.{List, [], _∷_}
-use mathlib.Core.Path.{_≡_, refl, sym, ap, ap₂, _∙_, subst}
+use mathlib.Core.Path.{_≡_, refl, sym, ap, ap₂, _∙_}
 use borrow.Author.Tests.{leb-true, eqb-true, eq-eqb}
 use lib.Bits.{bitOr}
 use lib.Dec.{leb, eqb}
-use lib.ListN.{length, getD}
+use lib.ListN.{getD}
 use native.Mathlib.Omega.{arith}
 use Prim.Native.Nat.{ℕ, _+_, _<_}
 use Rattle.octets.specs.Bits.{bitsOf}
@@ -14,23 +14,22 @@ use Rattle.octets.proofs.SetLaws.{contains-bits, contains-or}
 use Rattle.standings.specs.Table.{mayWait}
 use Rattle.record.specs.declared.Transaction.{Transaction}
 use Rattle.record.specs.State.{transaction, standingAt}
-use Rattle.record.specs.Layout.{transactionOf, storeOf, journalOf}
+use Rattle.record.specs.Layout.{transactionOf, storeOf}
 use Rattle.ranges.specs.Below.{someBelow}
-use Rattle.ranges.proofs.Laws.{and-left, and-right, first-zero}
+use Rattle.ranges.proofs.Laws.{and-left, and-right}
 use Rattle.orders.specs.Orders.{allIn, countIn, Arranges}
 use Rattle.orders.proofs.Distinct.{all-arranged}
 use Rattle.rules.specs.Transactions.{Txn}
 use Rattle.rules.specs.Commits.{setsOffset}
-use Rattle.rules.specs.Machine.{Machine, sizes, txnOf}
+use Rattle.rules.specs.Machine.{Machine, txnOf}
 use Rattle.rules.specs.Calls.{askedOf}
 use Rattle.rules.specs.Promises.{machineOf}
 use Rattle.rules.proofs.Serial.Ordering.{all-both}
 use Rattle.landing.specs.Landing.{descriptorsOnly}
 use Rattle.conflicts.specs.Staling.{staleBy}
 use Rattle.closing.specs.Closing.{hasByteForClosed}
-use Rattle.ordering.specs.Table.{txnIn, staledBy, closedIn, Pass, fitsAt, offsetsAfter, followOne, followAll, followed, waits, Short, passOne, passAll, Asking}
-use Rattle.ordering.specs.Computing.{waitsIn, row, Tabled, grantsPassing, descriptorsIn, grantsFollowing, grantsBy}
-use Rattle.ordering.specs.declared.best.Known.{Known}
+use Rattle.ordering.specs.Table.{txnIn, closedIn, Pass, fitsAt, offsetsAfter, followOne, followAll, followed, waits, Short, passOne, passAll, Asking}
+use Rattle.ordering.specs.Computing.{waitsIn, row, Tabled, grantsPassing, descriptorsIn, grantsFollowing, grantsByTable}
 use Rattle.ordering.proofs.ListLaws.{all-by}
 use Rattle.ordering.proofs.Admitted.{all-same, own, ListIn}
 use Rattle.ordering.proofs.TableLaw.{table-law}
@@ -80,7 +79,8 @@ module _ (ok : ℕ → Bool) (row₁ row₂ : ℕ → ℕ) (rows : (t : ℕ) →
         ap (followAll row₁ closed₁ txn₁ o) (follow-one-same t p (and-left (ok t) _ e))
         ∙ follow-same o (followOne row₂ closed₂ txn₂ t p) (and-right (ok t) _ e)
 
-pub count-same : (ok p q : ℕ → Bool) → ((t : ℕ) → ok t ≡ true → p t ≡ q t) → (ts : List ℕ) → allIn ok ts ≡ true → countIn p ts ≡ countIn q ts
+pub count-same : (ok p q : ℕ → Bool) → ((t : ℕ) → ok t ≡ true → p t ≡ q t) → (ts : List ℕ) → allIn ok ts ≡ true
+    → countIn p ts ≡ countIn q ts
 unfolding countIn allIn
 count-same ok p q h [] e = refl
 count-same ok p q h (t ∷ ts) e =
@@ -89,17 +89,17 @@ count-same ok p q h (t ∷ ts) e =
 -- ---- on a record, off what the code knows
 
 module _ (kept files logs marks undo ts : List ℕ) (minute budget : ℕ) (a : Asking (machineOf kept files logs marks undo) ts minute budget)
-    (listed : ListIn kept ts minute budget) (table : List ℕ) (tabled : Tabled kept files logs marks ts table)
+    (listed : ListIn kept ts minute budget) (table : List ℕ) (tabled : Tabled (machineOf kept files logs marks undo) ts table)
     (shut : ℕ) (shutIs : shut ≡ bitsOf (λ t. transactionOf kept t .begun && hasByteForClosed kept logs t minute) 8) where
   abbrev m : Machine
   m = machineOf kept files logs marks undo
 
   -- What is known of a member.
   member : ℕ → Bool
-  member t = leb t 7 && (transactionOf kept t .begun && eqb (row table t) (staledBy m t))
+  member t = leb t 7 && (transactionOf kept t .begun && eqb (row table t) (staleBy m t))
 
   members : allIn member ts ≡ true
-  unfolding member staledBy staleBy
+  unfolding member
   members =
       all-both (λ t. leb t 7) _ ts (listed .small)
       (all-both (λ t. transactionOf kept t .begun) _ ts (listed .begun)
@@ -114,9 +114,9 @@ module _ (kept files logs marks undo ts : List ℕ) (minute budget : ℕ) (a : A
     unfolding member
     begun = and-left (transactionOf kept t .begun) _ (and-right (leb t 7) _ e)
 
-    row-is : row table t ≡ staledBy m t
+    row-is : row table t ≡ staleBy m t
     unfolding member
-    row-is = eqb-true (row table t) (staledBy m t) (and-right (transactionOf kept t .begun) _ (and-right (leb t 7) _ e))
+    row-is = eqb-true (row table t) (staleBy m t) (and-right (transactionOf kept t .begun) _ (and-right (leb t 7) _ e))
 
     below-eight : t < 8
     below-eight = let l = leb-true t 7 small in omega arith
@@ -154,7 +154,7 @@ module _ (kept files logs marks undo ts : List ℕ) (minute budget : ℕ) (a : A
     passing-is : allIn (λ t. not (waitsIn kept t)) ts ≡ true → grantsPassing table shut o ≡ askedOf minute m .grants o
     unfolding grantsPassing closedIn
     passing-is w =
-        pass-like member (row table) (staledBy m) row-is o _ _ all-members
+        pass-like member (row table) (staleBy m) row-is o _ _ all-members
         (record {
           grants = refl;
           skipped = λ u e. shut-is u e ∙ sym (contains-bits (askedOf minute m .hasClosed) 8 u (below-eight u e));
@@ -167,12 +167,12 @@ module _ (kept files logs marks undo ts : List ℕ) (minute budget : ℕ) (a : A
     unfolding grantsFollowing followed
     following-is =
         ap (λ (p : Pass). p .grants)
-        (follow-same member (row table) (staledBy m) row-is (contains shut) (askedOf minute m .hasClosed) (descriptorsIn kept) (txnIn m)
+        (follow-same member (row table) (staleBy m) row-is (contains shut) (askedOf minute m .hasClosed) (descriptorsIn kept) (txnIn m)
         shut-is fit-is set-is o _ all-members)
         ∙ sym (table-law kept files logs marks undo ts minute budget a .grants o h)
 
     pub grants-are : (placed : Bool) → placed ≡ allIn (λ t. not (waitsIn kept t)) ts
-        → grantsBy kept (record { table = table; shut = shut; placed = placed }) o ≡ askedOf minute m .grants o
-    unfolding grantsBy
+        → grantsByTable kept (record { table = table; shut = shut; placed = placed }) o ≡ askedOf minute m .grants o
+    unfolding grantsByTable
     grants-are true e = passing-is (sym e)
     grants-are false e = following-is

@@ -13,7 +13,7 @@ use Rattle.rules.specs.Transactions.{Txn, Write}
 use Rattle.rules.specs.Reading.{writeEnd, farthest}
 use Rattle.rules.specs.Coverage.{someWrite, noPlace}
 use Rattle.rules.specs.Ordering.{hasUnplaced}
-use Rattle.rules.specs.Commits.{Setting, landsAt, stretch, byteSettings, setsOffset, offsetSettings, landedEnd, lengthSettings, settings, putItem, landed}
+use Rattle.rules.specs.Commits.{Setting, landsAt, bytesFrom, byteSettings, setsOffset, offsetSettings, landedEnd, lengthSettings, settings, putItem, landed}
 use Rattle.rules.proofs.Serial.Sighted.{Held, sighted, hit}
 use Rattle.rules.proofs.Serial.Lists.{same-true, or-left-false, or-right-false}
 
@@ -38,7 +38,7 @@ module _ (fileOf : ℕ → ℕ) (v w : Values) where
   unfolding byteSettings someWrite
   bytes-same [] p = refl
   bytes-same (x ∷ ws) p =
-      ap₂ (λ (k : ℕ) (l : List Setting). stretch (4096 * fileOf (x .descriptor) + k) (x .bytes) ++ l)
+      ap₂ (λ (k : ℕ) (l : List Setting). bytesFrom (4096 * fileOf (x .descriptor) + k) (x .bytes) ++ l)
       (lands-same (v (offset (x .descriptor))) (w (offset (x .descriptor))) (x .place) (or-left-false (noPlace (x .place)) _ p))
       (bytes-same ws (or-right-false (noPlace (x .place)) _ p))
 

@@ -14,15 +14,16 @@ use Rattle.standings.specs.Table.{advance, finalOffset}
 use Rattle.ranges.proofs.Laws.{below-same}
 use Rattle.rules.specs.Items.{offset, fileLength, same, Values}
 use Rattle.rules.specs.Transactions.{Txn, Write}
-use Rattle.rules.specs.Commits.{Setting, landsAt, stretch, byteSettings, setsOffset, offsetSettings, landedEnd, lengthSettings, settings, fits, putItem, landed}
+use Rattle.rules.specs.Commits.{Setting, landsAt, bytesFrom, byteSettings, setsOffset, offsetSettings, landedEnd, lengthSettings, settings}
+use Rattle.rules.specs.Commits.{fits, putItem, landed}
 use Rattle.rules.proofs.Serial.Lists.{touched, landed-at}
 use Rattle.rules.proofs.Serial.Lengths.{landed-append}
 use Rattle.rules.proofs.View.Zeros.{neither}
 use Rattle.ordering.specs.Table.{fitsAt, offsetsAfter}
 
 module _ (fileOf : ℕ → ℕ) (v : Values) (d : ℕ) where
-  stretch-no-offset : (q : ℕ) (bs : List ℕ) → touched (stretch q bs) (offset d) ≡ false
-  unfolding stretch touched same
+  stretch-no-offset : (q : ℕ) (bs : List ℕ) → touched (bytesFrom q bs) (offset d) ≡ false
+  unfolding bytesFrom touched same
   stretch-no-offset q [] = refl
   stretch-no-offset q (b ∷ bs) = stretch-no-offset (suc q) bs
 
@@ -31,7 +32,7 @@ module _ (fileOf : ℕ → ℕ) (v : Values) (d : ℕ) where
   bytes-no-offset [] = unfold touched in refl
   bytes-no-offset (w ∷ ws) =
       let q = 4096 * fileOf (w .descriptor) + landsAt (v (offset (w .descriptor))) (w .place) in
-      neither (stretch q (w .bytes)) (byteSettings fileOf v ws) (offset d) (stretch-no-offset q (w .bytes)) (bytes-no-offset ws)
+      neither (bytesFrom q (w .bytes)) (byteSettings fileOf v ws) (offset d) (stretch-no-offset q (w .bytes)) (bytes-no-offset ws)
 
   lengths-no-offset : (ws : List Write) (n : ℕ) → touched (lengthSettings fileOf v ws n) (offset d) ≡ false
   unfolding lengthSettings

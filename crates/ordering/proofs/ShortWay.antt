@@ -4,10 +4,9 @@ use mathlib.Core.List.{List, [], _∷_}
 use mathlib.Core.Path.{_≡_, refl, sym, ap, _∙_, subst}
 use borrow.Author.Tests.{le-leb, leb-true}
 use lib.Bits.{bitOr}
-use lib.ListN.{length, getD, take}
-use native.Mathlib.Nat.{le-of-suc-le-suc}
+use lib.ListN.{getD}
 use native.Mathlib.Omega.{arith}
-use Prim.Native.Nat.{ℕ, zero, suc, _+_, _≤_, _<_}
+use Prim.Native.Nat.{ℕ, _+_, _≤_, _<_}
 use Rattle.octets.specs.Marks.{contains}
 use Rattle.octets.proofs.SetLaws.{contains-or}
 use Rattle.octets.proofs.TableLaws.{getD-tabulate}
@@ -128,18 +127,3 @@ module _ (row : ℕ → ℕ) (closed : ℕ → Bool) (txn : ℕ → Txn) (ok : �
   short-way [] p q e a = sym (a .grants)
   short-way (t ∷ o) p q e a =
       short-way o (followOne row closed txn t p) (passOne row t q) (and-right (ok t) _ e) (alike-one t p q (and-left (ok t) _ e) a)
-
--- One more of an order.
-pub pass-more : (row : ℕ → ℕ) (o : List ℕ) (k : ℕ) (p : Short) → k < length o
-    → passAll row (take (suc k) o) p ≡ passOne row (getD o k 0) (passAll row (take k o) p)
-unfolding passAll
-pass-more row [] k p l = absurd (omega arith)
-pass-more row (t ∷ o) zero p l = refl
-pass-more row (t ∷ o) (suc k) p l = pass-more row o k (passOne row t p) (le-of-suc-le-suc l)
-
-pub follow-more : (row : ℕ → ℕ) (closed : ℕ → Bool) (txn : ℕ → Txn) (o : List ℕ) (k : ℕ) (p : Pass) → k < length o
-    → followAll row closed txn (take (suc k) o) p ≡ followOne row closed txn (getD o k 0) (followAll row closed txn (take k o) p)
-unfolding followAll
-follow-more row closed txn [] k p l = absurd (omega arith)
-follow-more row closed txn (t ∷ o) zero p l = refl
-follow-more row closed txn (t ∷ o) (suc k) p l = follow-more row closed txn o k (followOne row closed txn t p) (le-of-suc-le-suc l)

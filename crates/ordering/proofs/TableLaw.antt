@@ -2,12 +2,12 @@
 use mathlib.Core.Bool.{Bool, true, false, cond, not, _&&_, _||_, false≢true}
 use mathlib.Core.List.{List, [], _∷_, _++_}
 use mathlib.Core.Logic.{_↔_}
-use mathlib.Core.Path.{_≡_, refl, sym, ap, _∙_, subst, subst⁻¹}
+use mathlib.Core.Path.{_≡_, refl, sym, ap, _∙_, subst⁻¹}
 use borrow.Author.Tests.{leb-true}
 use lib.Dec.{leb, eqb}
 use lib.ListN.{length}
 use native.Mathlib.Omega.{arith}
-use Prim.Native.Nat.{ℕ, zero, suc, _+_, _<_}
+use Prim.Native.Nat.{ℕ, zero, suc, _<_}
 use Rattle.octets.specs.Marks.{contains}
 use Rattle.octets.proofs.SetLaws.{bits-none, contains-bits}
 use Rattle.windows.specs.Hours.{minuteIn, Windows}
@@ -25,7 +25,7 @@ use Rattle.record.specs.Paper.{ordered, refused}
 use Rattle.rules.specs.Messages.{commit, Reply}
 use Rattle.rules.specs.Ordering.{hasUnplaced, orderRefusal}
 use Rattle.rules.specs.Machine.{Machine, sizes, fileOf, values}
-use Rattle.rules.specs.Calls.{becomesStale, settingsOf, askedOf, turnDown, passing, orderTurn, call, callsAfter}
+use Rattle.rules.specs.Calls.{madeStale, settingsOf, askedOf, turnDown, passing, orderTurn, call, callsAfter}
 use Rattle.rules.specs.Promises.{machineOf}
 use Rattle.rules.proofs.Serial.Lists.{and-both, or-left-false, or-right-false}
 use Rattle.rules.proofs.Serial.Sighted.{vacant, held, hit, newlyStale, Sighted, sightedAsked, sightedCommitCall, sightedCall}
@@ -36,10 +36,11 @@ use Rattle.rules.proofs.Demand3.BestOrder.{best-order}
 use Rattle.rules.proofs.Demand3.Theorem.{call-turn, calls-agree}
 use Rattle.rules.proofs.Serial.Ordering.{all-both, Passed, passed}
 use Rattle.rules.proofs.View.Decode.{decoded-in}
-use Rattle.rules.proofs.View.Conflicts.{becomes-stale}
+use Rattle.rules.proofs.View.Conflicts.{made-stale}
 use Rattle.rules.proofs.View.OrderTurn.{seat-open, order-grants}
 use Rattle.laws.proofs.Shapes.{shaped}
-use Rattle.ordering.specs.Table.{txnIn, staledBy, closedIn, Pass, followed, waits, passAll, TableHolds, TableLaw, BestOrderOfAny}
+use Rattle.conflicts.specs.Staling.{staleBy}
+use Rattle.ordering.specs.Table.{txnIn, closedIn, Pass, followed, waits, passAll, TableHolds, TableLaw, BestOrderOfAny}
 use Rattle.ordering.proofs.Hits.{flagged}
 use Rattle.ordering.proofs.ShortWay.{short-way}
 use Rattle.ordering.proofs.Along.{Inv, grants-followed, stale-followed}
@@ -99,18 +100,18 @@ module _ (m : Machine) (sound : Sound m) (minute : ℕ) (daily : minuteIn minute
   fresh t e = or-left-false (transaction (m .store) t .stale) _ (neither t e)
 
   rows : (t u : ℕ) → ready minute m u ≡ true → eqb u t ≡ false
-      → contains (staledBy m t) u ≡ hit (settings F v (heldBy m t .txn)) (heldBy m u)
-  unfolding staledBy heldBy put newlyStale
+      → contains (staleBy m t) u ≡ hit (settings F v (heldBy m t .txn)) (heldBy m u)
+  unfolding staleBy heldBy put newlyStale
   rows t u e d =
       let ss = settingsOf m t in
-      contains-bits (becomesStale t (m .marks) ss (m .store)) 8 u (below-eight u e)
-      ∙ becomes-stale m t ss u (below-eight u e)
+      contains-bits (madeStale t ss m) 8 u (below-eight u e)
+      ∙ made-stale m t ss u (below-eight u e)
       ∙ ap (λ (a : Bool). newlyStale ss (cond a vacant (seat m u))) d
       ∙ ap (newlyStale ss) (seat-is u e)
       ∙ ap (λ (a : Bool). not a && hit ss (heldBy m u)) (fresh u e)
 
   begins : (o : List ℕ) → allIn (ready minute m) o ≡ true
-      → Inv F W minute v (heldBy m) (staledBy m) (ready minute m) daily small placed rows o v (seat m) start
+      → Inv F W minute v (heldBy m) (staleBy m) (ready minute m) daily small placed rows o v (seat m) start
   unfolding start values
   begins o e =
       record {
@@ -127,7 +128,7 @@ module _ (m : Machine) (sound : Sound m) (minute : ℕ) (daily : minuteIn minute
   grants-table o d e =
       let a = order-grants minute m sound o in
       let g =
-      grants-followed F W minute v (heldBy m) (staledBy m) (ready minute m) daily small placed rows
+      grants-followed F W minute v (heldBy m) (staleBy m) (ready minute m) daily small placed rows
       o v (backIn m) (seat m) start d e (begins o e) in
       omega arith
 
@@ -143,7 +144,7 @@ module _ (m : Machine) (sound : Sound m) (minute : ℕ) (daily : minuteIn minute
       call-turn (commit j minute) (callsAfter cs m) (a .sound) .0
       ∙ ap (λ (s : Sighted). sightedCommitCall j minute s .reply) (a .state) in
       subst⁻¹ (λ (x : Reply). (x .answer ≡ refused 13) ↔ (contains (followed minute m xs .stale) j ≡ true)) r
-      (stale-followed F W minute v (heldBy m) (staledBy m) (ready minute m) daily small placed rows
+      (stale-followed F W minute v (heldBy m) (staleBy m) (ready minute m) daily small placed rows
       xs ys j v (backIn m) (seat m) start d e (begins o e))
 
   -- Where none of them stands Deferred or Moved.
@@ -157,10 +158,10 @@ module _ (m : Machine) (sound : Sound m) (minute : ℕ) (daily : minuteIn minute
       decoded-in (m .store) (m .journal) (m .logs) t (sound .logs) l r (sound .shaped .descriptors t l) .standings
 
   short-table : (o : List ℕ) → allIn free o ≡ true
-      → followed minute m o .grants ≡ passAll (staledBy m) o (record { skipped = closedIn minute m; grants = 0 }) .grants
+      → followed minute m o .grants ≡ passAll (staleBy m) o (record { skipped = closedIn minute m; grants = 0 }) .grants
   unfolding followed free closedIn
   short-table o e =
-      short-way (staledBy m) (askedOf minute m .hasClosed) (txnIn m) free
+      short-way (staleBy m) (askedOf minute m .hasClosed) (txnIn m) free
       (λ t k. below-eight t (and-left (ready minute m t) _ k))
       (λ t k. not-true _ (and-right (ready minute m t) _ k))
       (λ t k. ranged t (and-left (ready minute m t) _ k))

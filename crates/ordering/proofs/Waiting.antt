@@ -3,14 +3,14 @@ use mathlib.Core.Bool.{Bool, true, false, cond, _&&_, _||_, or-true, false≢tru
 use mathlib.Core.List.{List, [], _∷_, map}
 use mathlib.Core.Path.{_≡_, refl, sym, ap, ap₂, _∙_, subst, subst⁻¹}
 use borrow.Author.Tests.{eqb-true, eq-eqb, le-leb}
-use lib.Dec.{leb, eqb, ltb}
+use lib.Dec.{leb, eqb}
 use lib.ListN.{length}
 use Prim.Native.Nat.{ℕ, zero, suc, _+_}
 use Rattle.standings.specs.declared.Standing.{Standing}
 use Rattle.standings.specs.declared.Standing.the-variants.{Untouched, Placed, Deferred, Moved, Known}
 use Rattle.standings.specs.Table.{afterSeek, afterWrite, afterRead, advance, settled, writePlace, mayWait, pointerSettles, offsetOf}
 use Rattle.laws.proofs.Decoded.{some-one-more}
-use Rattle.rules.specs.Items.{Item, fileLength, Values, Prog, done, ask, within, andThen, result}
+use Rattle.rules.specs.Items.{Item, fileLength, Values, Prog, done, ask, measure, andThen, result}
 use Rattle.rules.specs.Transactions.{Txn, Write, empty, put, dirtied, placedAt, placeWrite, settle, Settled, past, all, settling}
 use Rattle.rules.specs.Reading.{gather}
 use Rattle.rules.specs.Coverage.{someWrite, noPlace, unplacedOn, unplaced}
@@ -20,12 +20,16 @@ use Rattle.ranges.specs.Ranges.{windowRefusal}
 use Rattle.windows.specs.Hours.{Windows}
 use Rattle.rules.specs.Machine.{Machine}
 use Rattle.rules.specs.Calls.{callsAfter}
-use Rattle.rules.specs.Demand3.{FreshlyMade}
+use Rattle.rules.specs.Demand3OfStore.{FreshlyMade}
 use Rattle.rules.specs.Commits.{Setting}
 use Rattle.rules.specs.Ordering.{hasUnplaced}
 use Rattle.rules.specs.Messages.{Op, seek, write, getFilePointer, read, bufferOf, Call, begin, on, commit, abort, places, setWindow, takeBack, bestOrder}
-use Rattle.rules.specs.Steps.{Stepped, refuse, accept, check, orGivenBack, written, seekStep, writeStep, pointerStep, settledByRead, readSettled, readStep, step, turnsBack, turnedBack}
-use Rattle.rules.proofs.Serial.Sighted.{Held, Seat, vacant, held, Back, none, kept, Sighted, startSighted, SightedTurn, turnedAway, withSeat, telling, sightedBegin, sightedStepped, sightedOn, touch, granting, sightedCommitted, sightedCommit, sightedAbort, sightedPlaces, windowed, sightedWindow, noneHeld, returned, sightedReturn, sightedBack, seated, sightedBestOrder, sightedCall, sightedAfter}
+use Rattle.rules.specs.Steps.{Stepped, refuse, accept, check, orGivenBack, written, seekStep, writeStep, pointerStep, settledByRead}
+use Rattle.rules.specs.Steps.{readSettled, readStep, step, turnsBack, turnedBack}
+use Rattle.rules.proofs.Serial.Sighted.{Held, Seat, vacant, held, Back, none, kept, Sighted, startSighted, SightedTurn, turnedAway}
+use Rattle.rules.proofs.Serial.Sighted.{withSeat, telling, sightedBegin, sightedStepped, sightedOn, touch, granting, sightedCommitted}
+use Rattle.rules.proofs.Serial.Sighted.{sightedCommit, sightedAbort, sightedPlaces, windowed, sightedWindow, noneHeld, returned}
+use Rattle.rules.proofs.Serial.Sighted.{sightedReturn, sightedBack, seated, sightedBestOrder, sightedCall, sightedAfter}
 use Rattle.rules.proofs.View.Shape.{heldBy, view}
 use Rattle.rules.proofs.View.OrderTurn.{seat-open}
 use Rattle.rules.proofs.Demand3.Theorem.{calls-agree, fresh-facts}
@@ -36,25 +40,21 @@ use Rattle.ordering.specs.Table.{txnIn, waits, NeverWaits}
 module _ {A : Type 0} (P : A → Type 0) where
   abbrev Ever : Prog A → Type 0
   Ever (done a) = P a
-  Ever (ask i f) = (v : ℕ) → Ever (f v)
-  Ever (within g p f) = (b : Bool) → Ever (f b)
+  Ever (ask i g) = (n : ℕ) → Ever (g n)
+  Ever (measure f g) = (n : ℕ) → Ever (g n)
 
   ever-result : (v : Values) (p : Prog A) → Ever p → P (result v p)
   unfolding result
   ever-result v (done a) h = h
-  ever-result v (ask i f) h = ever-result v (f (v i)) (h (v i))
-  ever-result v (within g p f) h = pick (ltb p (v (fileLength g))) (ever-result v (f true) (h true)) (ever-result v (f false) (h false))
-    where
-      pick : (b : Bool) → P (result v (f true)) → P (result v (f false)) → P (cond b (result v (f true)) (result v (f false)))
-      pick true x y = x
-      pick false x y = y
+  ever-result v (ask i g) h = ever-result v (g (v i)) (h (v i))
+  ever-result v (measure f g) h = ever-result v (g (v (fileLength f))) (h (v (fileLength f)))
 
 module _ {A B : Type 0} (Q : A → Type 0) (P : B → Type 0) where
   ever-then : (p : Prog A) (k : A → Prog B) → Ever Q p → ((a : A) → Q a → Ever P (k a)) → Ever P (andThen p k)
   unfolding andThen
-  ever-then (done a) k h g = g a h
-  ever-then (ask i f) k h g = λ v. ever-then (f v) k (h v) g
-  ever-then (within q p f) k h g = λ b. ever-then (f b) k (h b) g
+  ever-then (done a) k h then = then a h
+  ever-then (ask i g) k h then = λ n. ever-then (g n) k (h n) then
+  ever-then (measure f g) k h then = λ n. ever-then (g n) k (h n) then
 
 -- ---- a descriptor that waits has a write that waits
 
@@ -184,8 +184,8 @@ given-back next h (all y) b = h y b
 
 anything : {A : Type 0} (p : Prog A) → Ever (λ (a : A). Unit {0}) p
 anything (done a) = tt
-anything (ask i f) = λ v. anything (f v)
-anything (within g p f) = λ b. anything (f b)
+anything (ask i g) = λ n. anything (g n)
+anything (measure f g) = λ n. anything (g n)
 
 backed-read : (fileOf : ℕ → ℕ) (d n : ℕ) (buffer : List ℕ) (y : Txn) → Backed y → Ever AfterStep (readSettled fileOf d n buffer y)
 unfolding readSettled

@@ -1,10 +1,10 @@
 -- What the code computes for F-14, read off the record.
-use mathlib.Core.Bool.{Bool, true, cond, not, _&&_, _||_}
-use mathlib.Core.List.{List, []}
+use mathlib.Core.Bool.{Bool, cond, not, _&&_, _||_}
+use mathlib.Core.List.{List, [], _++_}
 use mathlib.Core.Path.{_≡_}
 use lib.Dec.{leb}
-use lib.ListN.{length, getD, take}
-use Prim.Native.Nat.{ℕ, _<_}
+use lib.ListN.{length, getD, take, drop, replicate}
+use Prim.Native.Nat.{ℕ, _-_, _<_}
 use Rattle.windows.specs.Hours.{minuteIn}
 use Rattle.octets.specs.Marks.{contains}
 use Rattle.standings.specs.Table.{mayWait}
@@ -20,6 +20,7 @@ use Rattle.orders.specs.Orders.{allIn, bestTried, isList}
 use Rattle.rules.specs.Transactions.{Txn}
 use Rattle.rules.specs.Coverage.{noPlace}
 use Rattle.rules.specs.Ordering.{orderReply}
+use Rattle.rules.specs.Machine.{Machine}
 use Rattle.rules.specs.Calls.{askedOf}
 use Rattle.rules.specs.Promises.{machineOf}
 use Rattle.landing.specs.Landing.{descriptorsOnly, CanLandIn}
@@ -27,7 +28,7 @@ use Rattle.conflicts.specs.Staling.{staleBy}
 use Rattle.closing.specs.Closing.{OpenIn}
 use Rattle.ordering.specs.Table.{Pass, followOne, followAll, passAll, Asking}
 use Rattle.ordering.specs.declared.best.Known.{Known}
-use Rattle.ordering.specs.declared.best.Found.{Found}
+use Rattle.ordering.specs.declared.best.BestFound.{BestFound}
 use Rattle.ordering.specs.declared.following.Pass.{Pass as Followed}
 use Rattle.ordering.specs.declared.order_call.Best.{Best}
 
@@ -51,8 +52,8 @@ abbrev pub AllLand : List ℕ → List ℕ → Type 0
 AllLand kept ts = (k : ℕ) → k < length ts → CanLandIn kept (getD ts k 0) (transactionOf kept (getD ts k 0) .used .records)
 
 -- The refusals of rules/specs/Ordering.antt, read off the record.
-unfoldable pub refusalIn : List ℕ → List ℕ → ℕ → ℕ → ℕ
-refusalIn kept ts minute budget =
+unfoldable pub listRefusal : List ℕ → List ℕ → ℕ → ℕ → ℕ
+listRefusal kept ts minute budget =
     unless (isList ts) 26
     (unless (allIn (λ t. leb t 7) ts) 3
     (unless (allIn (λ t. transactionOf kept t .begun) ts) 4
@@ -63,9 +64,8 @@ refusalIn kept ts minute budget =
 -- ---- the table
 
 -- The table has the octet of each member.
-abbrev pub Tabled : List ℕ → List ℕ → List ℕ → List ℕ → List ℕ → List ℕ → Type 0
-Tabled kept files logs marks ts table =
-    (k : ℕ) → k < length ts → getD table (getD ts k 0) 0 ≡ staleBy kept files logs marks (getD ts k 0)
+abbrev pub Tabled : Machine → List ℕ → List ℕ → Type 0
+Tabled m ts table = (k : ℕ) → k < length ts → getD table (getD ts k 0) 0 ≡ staleBy m (getD ts k 0)
 
 abbrev pub row : List ℕ → ℕ → ℕ
 row table t = getD table t 0
@@ -90,15 +90,20 @@ grantsFollowing kept table shut o =
     followAll (row table) (contains shut) (descriptorsIn kept) o (record { stale = 0; offsets = storeOf kept .offsets; grants = 0 }) .grants
 
 -- The short way where nobody waits.
-unfoldable pub grantsBy : List ℕ → Known → List ℕ → ℕ
-grantsBy kept a o = cond (a .placed) (grantsPassing (a .table) (a .shut) o) (grantsFollowing kept (a .table) (a .shut) o)
+unfoldable pub grantsByTable : List ℕ → Known → List ℕ → ℕ
+grantsByTable kept a o = cond (a .placed) (grantsPassing (a .table) (a .shut) o) (grantsFollowing kept (a .table) (a .shut) o)
 
 -- ---- the answer
 
+-- After the first n numbers of an array of eight there are zeros.
+abbrev pub ZerosAfter : ℕ → List ℕ → Type 0
+ZerosAfter n xs = drop n xs ≡ replicate (8 - n) 0
+
 -- The best of those tried of a list of n.
-pub record BestIn (grantsIn : List ℕ → ℕ) (tried : ℕ) (ts : List ℕ) (n : ℕ) (r : Found) : Type 0 where
+pub record BestIn (grantsIn : List ℕ → ℕ) (tried : ℕ) (ts : List ℕ) (n : ℕ) (r : BestFound) : Type 0 where
   pub order : take n (r .order) ≡ bestTried grantsIn tried ts .order
   pub grants : r .grants ≡ bestTried grantsIn tried ts .grants
+  pub zeros : ZerosAfter n (r .order)
 
 -- "an order (as transaction numbers)": of a list of n; none with a refusal.
 unfoldable pub orderPart : Outcome → ℕ → List ℕ → List ℕ
@@ -112,6 +117,10 @@ orderPart (Refused r) n order = []
 
 abbrev pub orderIn : ℕ → Best → List ℕ
 orderIn n r = orderPart (r .outcome) n (r .order)
+
+-- The array is the order and zeros after it; with a refusal, zeros.
+abbrev pub Padded : ℕ → Best → Type 0
+Padded n r = r .order ≡ orderIn n r ++ replicate (8 - length (orderIn n r)) 0
 
 -- The reply of the rules, on any files, logs and undo buffer that go with it.
 abbrev pub Answers : List ℕ → List ℕ → List ℕ → ℕ → ℕ → Best → Type 0

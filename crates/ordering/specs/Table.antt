@@ -1,5 +1,5 @@
 -- Request F-14: the grants of an order without making a Commit. Whom a granted Commit makes stale can be read off what is committed at the
--- start: one octet for each transaction.
+-- start: one octet for each transaction, the table (`staleBy` of crate conflicts).
 use mathlib.Core.Bool.{Bool, true, false, cond, not, _||_}
 use mathlib.Core.List.{List, [], _∷_, _++_}
 use mathlib.Core.Logic.{_↔_}
@@ -23,18 +23,15 @@ use Rattle.rules.specs.Commits.{setsOffset}
 use Rattle.rules.specs.Messages.{Call, commit}
 use Rattle.rules.specs.Ordering.{hasUnplaced, orderRefusal}
 use Rattle.rules.specs.Machine.{Machine, sizes, txnOf}
-use Rattle.rules.specs.Calls.{becomesStale, settingsOf, askedOf, call, callsAfter}
+use Rattle.rules.specs.Calls.{askedOf, call, callsAfter}
 use Rattle.rules.specs.Promises.{machineOf}
-use Rattle.rules.specs.Demand3.{FreshlyMade}
+use Rattle.rules.specs.Demand3OfStore.{FreshlyMade}
 use Rattle.rules.specs.BestOrder.{commitsIn, BestOrderHolds}
+use Rattle.conflicts.specs.Staling.{staleBy}
 
 -- Transaction t as a machine holds it.
 abbrev pub txnIn : Machine → ℕ → Txn
 txnIn m t = txnOf (m .store) (m .journal) (m .logs) t
-
--- The table: F-4's octet, as a Commit of t would answer it now, were it granted.
-unfoldable pub staledBy : Machine → ℕ → ℕ
-staledBy m t = bitsOf (becomesStale t (m .marks) (settingsOf m t) (m .store)) 8
 
 -- The octet of those with a byte for a file closed at the minute: they are granted in no order, and make nobody stale.
 unfoldable pub closedIn : ℕ → Machine → ℕ
@@ -70,7 +67,7 @@ followAll row closed txn (t ∷ o) p = followAll row closed txn o (followOne row
 -- Of a machine, from its own offsets.
 unfoldable pub followed : ℕ → Machine → List ℕ → Pass
 followed minute m o =
-    followAll (staledBy m) (askedOf minute m .hasClosed) (txnIn m) o (record { stale = 0; offsets = m .store .offsets; grants = 0 })
+    followAll (staleBy m) (askedOf minute m .hasClosed) (txnIn m) o (record { stale = 0; offsets = m .store .offsets; grants = 0 })
 
 -- ---- the short way, where nobody stands Deferred or Moved: 12 cannot come
 
@@ -103,7 +100,7 @@ pub record TableHolds (m : Machine) (ts : List ℕ) (minute : ℕ) : Type 0 wher
   -- .. where no listed transaction stands Deferred or Moved.
   pub short :
       allIn (λ t. not (waits (txnIn m t))) ts ≡ true → (o : List ℕ) → Arranges ts o
-      → askedOf minute m .grants o ≡ passAll (staledBy m) o (record { skipped = closedIn minute m; grants = 0 }) .grants
+      → askedOf minute m .grants o ≡ passAll (staleBy m) o (record { skipped = closedIn minute m; grants = 0 }) .grants
   -- A Commit of j is refused with 13 exactly when some i granted before it has j in its octet.
   pub stale :
       (xs ys : List ℕ) (j : ℕ) → Arranges ts (xs ++ (j ∷ ys))

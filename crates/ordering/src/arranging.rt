@@ -4,6 +4,7 @@ ghost use mathlib.Core.Path.{_≡_};
 ghost use Prim.Native.Nat.{suc, _<_, _≤_};
 ghost use lib.ListN.{length, take};
 ghost use Rattle.orders.specs.Orders.{without, factorial, orderAt};
+ghost use Rattle.ordering.specs.Computing.{ZerosAfter};
 
 // How many orders a list of n has.
 pub fn factorial(n: usize) -> usize
@@ -22,7 +23,8 @@ pub fn factorial(n: usize) -> usize
 // The list's numbers, and zeros after them.
 pub fn numbers_of(list: &[u8]) -> [u8; TRANSACTIONS]
     requires { ⌜ length (now list) ≤ 8 ⌝ }
-    ensures { λ r. ⌜ take (length (now (list .entry))) r ≡ now (list .entry) ⌝ }
+    ensures { λ r. ⌜ (take (length (now (list .entry))) r ≡ now (list .entry))
+        × ZerosAfter (length (now (list .entry))) r ⌝ }
 {
     let mut numbers = [0u8; TRANSACTIONS];
     let mut k = 0;
@@ -47,11 +49,11 @@ fn removed(numbers: [u8; TRANSACTIONS], m: usize, q: usize) -> [u8; TRANSACTIONS
     rest
 }
 
-// Order number i of the first n numbers: the position of its first is the quotient by (n - 1)!, the rest numbers the
-// order of the others.
+// Order number i of the first n numbers, and zeros after it: the position of its first is the quotient by (n - 1)!, the
+// rest numbers the order of the others.
 pub fn order_at(numbers: [u8; TRANSACTIONS], n: usize, i: usize) -> [u8; TRANSACTIONS]
     requires { ⌜ (n ≤ 8) × (i < factorial n) ⌝ }
-    ensures { λ r. ⌜ take n r ≡ orderAt n i (take n numbers) ⌝ }
+    ensures { λ r. ⌜ (take n r ≡ orderAt n i (take n numbers)) × ZerosAfter n r ⌝ }
 {
     let mut order = [0u8; TRANSACTIONS];
     let mut rest = numbers;

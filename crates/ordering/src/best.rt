@@ -13,7 +13,7 @@ ghost use lib.Dec.{leb};
 ghost use lib.ListN.{length, take};
 ghost use Rattle.octets.specs.Marks.{contains as contained};
 ghost use Rattle.orders.specs.Orders.{allIn, countIn, factorial};
-ghost use Rattle.ordering.specs.Computing.{grantsBy, BestIn};
+ghost use Rattle.ordering.specs.Computing.{grantsByTable, BestIn, ZerosAfter};
 
 // What is known before any order is tried: the table of octets, the octet of those with a byte for a closed file, and
 // whether no listed transaction stands Deferred or Moved.
@@ -24,7 +24,7 @@ pub struct Known {
 }
 
 // An order and its grants.
-pub struct Found {
+pub struct BestFound {
     pub order: [u8; TRANSACTIONS],
     pub grants: u8,
 }
@@ -32,7 +32,7 @@ pub struct Found {
 // The grants of the order of n.
 fn grants_of(kept: &Record, known: Known, order: [u8; TRANSACTIONS], n: usize) -> u8
     requires { ⌜ (n ≤ 8) × (allIn (λ t. leb t 7) (take n order) ≡ true) ⌝ }
-    ensures { λ r. ⌜ r ≡ grantsBy (now (kept .entry)) known (take n order) ⌝ }
+    ensures { λ r. ⌜ r ≡ grantsByTable (now (kept .entry)) known (take n order) ⌝ }
 {
     let table = known.table;
     if known.placed {
@@ -48,9 +48,10 @@ pub fn best_of(
     numbers: [u8; TRANSACTIONS],
     n: usize,
     tried: usize,
-) -> Found
-    requires { ⌜ (n ≤ 8) × (tried ≤ factorial n) × (allIn (λ t. leb t 7) (take n numbers) ≡ true) ⌝ }
-    ensures { λ r. ⌜ BestIn (grantsBy (now (kept .entry)) known) tried (take n numbers) n r ⌝ }
+) -> BestFound
+    requires { ⌜ (n ≤ 8) × (tried ≤ factorial n) × (allIn (λ t. leb t 7) (take n numbers) ≡ true)
+        × ZerosAfter n numbers ⌝ }
+    ensures { λ r. ⌜ BestIn (grantsByTable (now (kept .entry)) known) tried (take n numbers) n r ⌝ }
 {
     let mut order = numbers;
     let mut grants = grants_of(kept, known, numbers, n);
@@ -64,7 +65,7 @@ pub fn best_of(
         }
         i += 1;
     }
-    Found { order, grants }
+    BestFound { order, grants }
 }
 
 // How many of the list are not in the octet.
@@ -83,7 +84,8 @@ fn count_outside(octet: u8, list: &[u8]) -> u8
     n
 }
 
-// The gap: 0 when all orders were tried, otherwise the count of those without a byte for a closed file, less the grants.
+// The gap: 0 when all orders were tried, otherwise the count of those without a byte for a closed file, less the
+// grants.
 pub fn gap_of(all: bool, shut: u8, list: &[u8], grants: u8) -> u8
     requires { ⌜ (length (now list) ≤ 8) × (allIn (λ t. leb t 7) (now list) ≡ true) ⌝ }
     ensures { λ r. ⌜ r ≡ cond all 0 (countIn (λ t. not (contained shut t)) (now (list .entry)) - grants) ⌝ }

@@ -1,6 +1,6 @@
-// The best order to commit in (paper 02, F-14). Whom a granted Commit would make stale is one octet for each transaction
-// (`table`); order number i is had from i (`arranging`); the grants of an order are a pass over these octets (`passing`),
-// and where Commit's placing has a part in them a longer one (`following`).
+// The best order to commit in (paper 02, F-14). Whom a granted Commit would make stale is one octet a transaction
+// (`table`); order number i is had from i (`arranging`); the grants of an order are a pass over these octets
+// (`passing`), and where Commit's placing has a part in them a longer one (`following`).
 mod arranging;
 mod best;
 mod following;

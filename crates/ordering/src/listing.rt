@@ -19,7 +19,7 @@ ghost use Rattle.record.specs.Layout.{storeOf, journalOf, transactionOf};
 ghost use Rattle.ranges.specs.Ranges.{storeIn, gateNumber};
 ghost use Rattle.orders.specs.Orders.{isIn, isList, allIn};
 ghost use Rattle.closing.specs.Closing.{OpenIn};
-ghost use Rattle.ordering.specs.Computing.{unplacedIn, isReady, AllOpen, refusalIn};
+ghost use Rattle.ordering.specs.Computing.{unplacedIn, isReady, AllOpen, listRefusal};
 
 // At most this many orders are tried: those of a list of eight.
 const MOST: usize = 40320;
@@ -143,7 +143,7 @@ fn is_budget(n: usize) -> bool
 // Refusals 26, 3, 4, 22, 25 and 27, on a record that has passed check 2.
 pub fn admit_list(kept: &Record, list: &[u8], minute: usize, budget: usize) -> Gate
     requires { ⌜ storeIn (storeOf (now kept)) (journalOf (now kept)) ≡ true ⌝ }
-    ensures { λ r. ⌜ gateNumber r ≡ refusalIn (now (kept .entry)) (now (list .entry)) minute budget ⌝ }
+    ensures { λ r. ⌜ gateNumber r ≡ listRefusal (now (kept .entry)) (now (list .entry)) minute budget ⌝ }
 {
     if !is_list(list) {
         return Gate::Refused(Refusal::BadList);

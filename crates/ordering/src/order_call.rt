@@ -15,29 +15,34 @@ use record::TRANSACTIONS;
 use record::layout::Record;
 use record::outcomes::Outcome;
 ghost use mathlib.Core.Bool.{true};
-ghost use mathlib.Core.List.{List};
 ghost use mathlib.Core.Path.{_≡_};
-ghost use Prim.Native.Nat.{ℕ};
 ghost use lib.ListN.{length};
 ghost use Rattle.record.specs.Layout.{storeOf, journalOf};
 ghost use Rattle.ranges.specs.Ranges.{storeIn};
 ghost use Rattle.rules.specs.Messages.{Call};
 ghost use Rattle.rules.specs.Calls.{call};
 ghost use Rattle.rules.specs.Promises.{Follows};
-ghost use Rattle.ordering.specs.Computing.{refusalIn, orderIn, Answers};
+ghost use Rattle.ordering.specs.Computing.{listRefusal, orderIn, Answers, Padded};
 
-// An order's grants, the gap and how many orders were tried, or a refusal; and the order: its first numbers, as many as
-// the list has.
+// An order's grants, the gap and how many orders were tried, or a refusal; and the order: as many numbers as the list
+// has, and zeros after them; with a refusal, zeros.
 pub struct Best {
     pub outcome: Outcome,
     pub order: [u8; TRANSACTIONS],
 }
 
 // The answer, once no test refuses.
-fn answer<'a>(kept: &'a Record, marks: &'a [u8], list: &'a [u8], minute: u16, budget: usize) -> Best
+fn best_by_table<'a>(
+    kept: &'a Record,
+    marks: &'a [u8],
+    list: &'a [u8],
+    minute: u16,
+    budget: usize,
+) -> Best
     requires { ⌜ (storeIn (storeOf (now kept)) (journalOf (now kept)) ≡ true) × (length (now marks) ≡ 32768)
-        × (refusalIn (now kept) (now list) minute budget ≡ 0) ⌝ }
-    ensures { λ r. ⌜ Answers (now (kept .entry)) (now (marks .entry)) (now (list .entry)) minute budget r ⌝ }
+        × (listRefusal (now kept) (now list) minute budget ≡ 0) ⌝ }
+    ensures { λ r. ⌜ Answers (now (kept .entry)) (now (marks .entry)) (now (list .entry)) minute budget r
+        × Padded (length (now (list .entry))) r ⌝ }
 {
     let table = octets_of(kept, marks, list);
     let shut = shut_of(kept, minute);
@@ -59,8 +64,8 @@ fn answer<'a>(kept: &'a Record, marks: &'a [u8], list: &'a [u8], minute: u16, bu
     }
 }
 
-// Given up to 8 different open transactions, a minute and a budget of 1 to 40,320 orders: refusals 1, 2, 26, 3, 4, 22, 25
-// and 27, then the earliest of the orders tried with the most grants. The store is unchanged.
+// Given up to 8 different open transactions, a minute and a budget of 1 to 40,320 orders: refusals 1, 2, 26, 3, 4, 22,
+// 25 and 27, then the earliest of the orders tried with the most grants. The store is unchanged.
 pub fn best_order<'a>(
     kept: &'a Record,
     files: &'a [u8],
@@ -72,7 +77,7 @@ pub fn best_order<'a>(
     budget: usize,
 ) -> Best
     ensures { λ r. ⌜ Follows (call (Call.bestOrder (now (list .entry)) minute budget)) kept files logs marks undo
-        (r .outcome) (orderIn (length (now (list .entry))) r) ⌝ }
+        (r .outcome) (orderIn (length (now (list .entry))) r) × Padded (length (now (list .entry))) r ⌝ }
 {
     let g = first_tests(kept, files.len(), logs.len(), marks.len(), undo.len());
     if let Gate::Refused(r) = g {
@@ -88,5 +93,5 @@ pub fn best_order<'a>(
             order: [0u8; TRANSACTIONS],
         };
     }
-    answer(kept, marks, list, minute as u16, budget)
+    best_by_table(kept, marks, list, minute as u16, budget)
 }

@@ -1,5 +1,5 @@
-// What is computed once: whom each listed Commit would make stale, who has a byte for a closed file, and whether Commit's
-// placing can have a part.
+// What is computed once: whom each listed Commit would make stale, who has a byte for a closed file, and whether
+// Commit's placing can have a part.
 use closing::has_byte_for_closed;
 use conflicts::stale_by;
 use numbers::wide_octet;
@@ -19,14 +19,15 @@ ghost use Rattle.octets.specs.Bits.{bitsOf};
 ghost use Rattle.record.specs.Layout.{storeOf, journalOf, transactionOf};
 ghost use Rattle.ranges.specs.Ranges.{storeIn};
 ghost use Rattle.orders.specs.Orders.{allIn};
+ghost use Rattle.rules.specs.Promises.{machineOf};
 ghost use Rattle.closing.specs.Closing.{hasByteForClosed};
 ghost use Rattle.ordering.specs.Computing.{AllLand, Tabled, waitsIn};
 
 // The octet that a granted Commit of each member would answer now; 0 for the others.
 pub fn octets_of<'a>(kept: &'a Record, marks: &'a [u8], list: &'a [u8]) -> [u8; TRANSACTIONS]
     requires { ⌜ AllLand (now kept) (now list) × (length (now marks) ≡ 32768) ⌝ }
-    ensures { λ r. ⌜ ((files logs : List ℕ) → length logs ≡ 32768
-        → Tabled (now (kept .entry)) files logs (now (marks .entry)) (now (list .entry)) r) ⌝ }
+    ensures { λ r. ⌜ ((files logs undo : List ℕ) → length logs ≡ 32768
+        → Tabled (machineOf (now (kept .entry)) files logs (now (marks .entry)) undo) (now (list .entry)) r) ⌝ }
 {
     let mut table = [0u8; TRANSACTIONS];
     let mut k = 0;
@@ -42,7 +43,8 @@ pub fn octets_of<'a>(kept: &'a Record, marks: &'a [u8], list: &'a [u8]) -> [u8; 
 fn is_shut(kept: &Record, t: usize, minute: u16) -> bool
     requires { ⌜ (storeIn (storeOf (now kept)) (journalOf (now kept)) ≡ true) × (t < 8) ⌝ }
     ensures { λ r. ⌜ ((logs : List ℕ) → length logs ≡ 32768
-        → r ≡ (transactionOf (now (kept .entry)) t .begun && hasByteForClosed (now (kept .entry)) logs t minute)) ⌝ }
+        → r ≡ (transactionOf (now (kept .entry)) t .begun
+        && hasByteForClosed (now (kept .entry)) logs t minute)) ⌝ }
 {
     if !is_begun(kept, t) {
         return false;

@@ -1,14 +1,17 @@
 -- Small examples are computed.
 use mathlib.Core.List.{List, [], _∷_}
-use mathlib.Core.Path.{_≡_, refl, ap}
+use mathlib.Core.Path.{refl, ap, _≡_}
 use lib.ListN.{getD}
 use native.Mathlib.Omega.{arith}
 use Prim.Native.Nat.{ℕ, zero, suc, _≤_, _<_}
 use Rattle.orders.specs.Orders.{without, chained, ordersOf, orders, triedOf, factorial, orderAt, better, bestOf, bestTried}
-use Rattle.orders.specs.Orders.{countIn, gapOf, isIn, distinct, isList, risingFrom, Computed}
+use Rattle.orders.specs.Orders.{countIn, gapOf, isIn, distinct, isList}
+use Rattle.orders.specs.Examples.{risingFrom, Computed}
 
 -- An answer at position 1 has more grants than that at 0; no other order of two is at another position.
-late : (p : ℕ) → p < 2 → _≡_ {A = List ℕ} (2 ∷ 1 ∷ []) (getD ((1 ∷ 2 ∷ []) ∷ (2 ∷ 1 ∷ []) ∷ []) p []) → ((i : ℕ) → i < p → 1 < 1) → ⊥
+late : (p : ℕ) → p < 2 → _≡_ {A = List ℕ} (2 ∷ 1 ∷ []) (getD ((1 ∷ 2 ∷ []) ∷ (2 ∷ 1 ∷ []) ∷ []) p [])
+    → ((i : ℕ) → i < p → 1 < 1)
+    → ⊥
 late zero l e h = let z : _≡_ {A = ℕ} 2 1 = ap (λ (o : List ℕ). getD o 0 0) e in omega arith
 late (suc p) l e h = let z = h 0 (omega arith) in omega arith
 

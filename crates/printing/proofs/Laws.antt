@@ -2,7 +2,7 @@
 use mathlib.Core.Path.{_≡_, refl, sym, ap, ap₂, _∙_}
 use mathlib.Core.Bool.{Bool, true, false, cond}
 use mathlib.Core.List.{List, [], _∷_, _++_}
-use Prim.Native.Nat.{ℕ, zero, suc, _+_, _-_, _*_, _/_, _%_, _^_, _≤_, _<_, min}
+use Prim.Native.Nat.{ℕ, zero, suc, _+_, _*_, _/_, _%_, _^_, _≤_, _<_, min}
 use native.Mathlib.Numerals.{add-one}
 use native.Mathlib.Omega.{arith}
 use lib.Dec.{ltb}
@@ -62,7 +62,8 @@ unfolding decimalBelow
 length-below zero n = omega arith
 length-below (suc k) n = pick (ltb n 10) (length-below k (n / 10))
   where
-    pick : (t : Bool) → length (decimalBelow k (n / 10)) ≤ k → length (cond t (glyph n ∷ []) (decimalBelow k (n / 10) ++ (glyph (n % 10) ∷ []))) ≤ suc k
+    pick : (t : Bool) → length (decimalBelow k (n / 10)) ≤ k
+        → length (cond t (glyph n ∷ []) (decimalBelow k (n / 10) ++ (glyph (n % 10) ∷ []))) ≤ suc k
     pick true h = omega arith
     pick false h = simp length-append (omega arith)
 

@@ -6,7 +6,7 @@ use Rattle.record.specs.Paper.{plain, pointer, given, granted, refused}
 use Rattle.rules.specs.Messages.{says}
 
 pub record Examples : Type 0 where
-  -- "`B0`, `W0 0 hi`, `P0 0`, `C0` give `ok`, `ok`, `ok 2`, `ok 0`"
+  -- 02, F-5: "`B0`, `W0 0 hi`, `P0 0`, `C0` give `ok`, `ok`, `ok 2`, `ok 0`"
   pub asked :
       (printed (says plain) ≡ 111 ∷ 107 ∷ 10 ∷ []) × (printed (says (pointer 2)) ≡ 111 ∷ 107 ∷ 32 ∷ 50 ∷ 10 ∷ [])
       × (printed (says (granted 0)) ≡ 111 ∷ 107 ∷ 32 ∷ 48 ∷ 10 ∷ [])

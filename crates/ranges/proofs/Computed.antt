@@ -4,12 +4,17 @@ use Rattle.windows.specs.Hours.{minuteIn}
 use Rattle.record.specs.State.{ended, begun}
 use Rattle.record.specs.Journal.{heldAs, held, writeRecordAt, withRecordAt, withRecords}
 use Rattle.ranges.specs.Below.{below, sum}
-use Rattle.ranges.specs.Ranges.{windowIn, standingIn, endsWithin, placeIn, recordIn, lengthsBefore, journalIn, transactionIn, tablesIn, placedIn, landedIn, grantPasses, undoIn, storeIn}
-use Rattle.ranges.specs.Ranges.{unless, sizesIn, firstTests, shared, admission, admissionOfBegin, admissionOfFresh, windowRefusal, admissionOfWindow, noneBegun, admissionOfTakingBack, admissionOfDispatch}
+use Rattle.ranges.specs.Ranges.{windowIn, standingIn, endsWithin, placeIn, recordIn, lengthsBefore, journalIn, transactionIn}
+use Rattle.ranges.specs.Ranges.{tablesIn, placedIn, landedIn, grantPasses, undoIn, storeIn}
+use Rattle.ranges.specs.Ranges.{unless, sizesIn, firstTests, shared, admission, admissionOfBegin, admissionOfFresh, windowRefusal}
+use Rattle.ranges.specs.Ranges.{admissionOfWindow, noneBegun, admissionOfTakingBack, admissionOfDispatch}
 use Rattle.ranges.specs.Forged.{forged, lengthened, windowed, opened, journal, granted, grantJournal, placed, first, deferred, Forged}
 
 pub forged-records : Forged
-unfolding ended begun heldAs held writeRecordAt withRecordAt withRecords below sum minuteIn windowIn standingIn endsWithin placeIn recordIn lengthsBefore journalIn transactionIn tablesIn placedIn landedIn grantPasses undoIn storeIn unless sizesIn firstTests shared admission admissionOfBegin admissionOfFresh windowRefusal admissionOfWindow noneBegun admissionOfTakingBack admissionOfDispatch forged lengthened windowed opened journal granted grantJournal placed first deferred
+unfolding ended begun heldAs held writeRecordAt withRecordAt withRecords below sum minuteIn windowIn standingIn endsWithin placeIn
+    recordIn lengthsBefore journalIn transactionIn tablesIn placedIn landedIn grantPasses undoIn storeIn unless sizesIn firstTests shared
+    admission admissionOfBegin admissionOfFresh windowRefusal admissionOfWindow noneBegun admissionOfTakingBack admissionOfDispatch forged
+    lengthened windowed opened journal granted grantJournal placed first deferred
 forged-records =
     record {
       file = (refl, refl);

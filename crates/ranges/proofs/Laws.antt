@@ -24,12 +24,19 @@ use Rattle.record.specs.State.{transaction, standingAt, windowAt}
 use Rattle.record.specs.Journal.{writeRecordAt, grantStretch}
 use Rattle.octets.proofs.PartLaws.{le-or-lt}
 use Rattle.ranges.specs.Below.{below, someBelow, sum}
-use Rattle.ranges.specs.Ranges.{standingIn, endsWithin, placeIn, recordIn, lengthsBefore, journalIn, transactionIn, windowIn, tablesIn, placedIn, landedIn, grantPasses, undoIn, storeIn, unless, Sizes, sizesIn, firstTests, shared, windowRefusal, admissionOfWindow, noneBegun, admissionOfTakingBack, admissionOfDispatch, admissionOfFresh, gateNumber}
+use Rattle.ranges.specs.Ranges.{standingIn, endsWithin, placeIn, recordIn, lengthsBefore, journalIn, transactionIn, windowIn}
+use Rattle.ranges.specs.Ranges.{tablesIn, placedIn, landedIn, grantPasses, undoIn, storeIn, unless, Sizes, sizesIn, firstTests}
+use Rattle.ranges.specs.Ranges.{shared, windowRefusal, admissionOfWindow, noneBegun, admissionOfTakingBack, admissionOfDispatch}
+use Rattle.ranges.specs.Ranges.{admissionOfFresh, gateNumber}
 use Rattle.ranges.specs.declared.Gate.{Gate}
 use Rattle.ranges.specs.declared.Gate.the-variants.{Pass, Refused}
 use Rattle.record.specs.Paper.{number}
 use Rattle.record.specs.declared.outcomes.Refusal.{Refusal}
-use Rattle.record.specs.declared.outcomes.Refusal.the-variants.{BufferLength, RecordRange, NoSuchTransaction, NotOpen, AlreadyOpen, NoSuchTarget, ReaderTooShort, SeekPastEnd, WritePastEnd, RecordsFull, LogFull, SettledPastEnd, Stale, NoSuchFile, NoPlaceYet, ListTooLong, BadLine, StaleReader, NotAtRest, ScriptRange, FileClosed, NoSuchMinute, StillOpen, NoGrant, NotReady, BadList, BadBudget}
+use Rattle.record.specs.declared.outcomes.Refusal.the-variants.{BufferLength, RecordRange, NoSuchTransaction, NotOpen, AlreadyOpen}
+use Rattle.record.specs.declared.outcomes.Refusal.the-variants.{NoSuchTarget, ReaderTooShort, SeekPastEnd, WritePastEnd, RecordsFull}
+use Rattle.record.specs.declared.outcomes.Refusal.the-variants.{LogFull, SettledPastEnd, Stale, NoSuchFile, NoPlaceYet, ListTooLong}
+use Rattle.record.specs.declared.outcomes.Refusal.the-variants.{BadLine, StaleReader, NotAtRest, ScriptRange, FileClosed, NoSuchMinute}
+use Rattle.record.specs.declared.outcomes.Refusal.the-variants.{StillOpen, NoGrant, NotReady, BadList, BadBudget}
 
 -- Tests joined by &&.
 pub and-left : (a b : Bool) → a && b ≡ true → a ≡ true
@@ -307,7 +314,8 @@ pub record AdmittedWindow (z : Sizes) (s : Store) (journal : List ℕ) (f start 
   pub small : f < 8
   pub minutes : minuteIn start && minuteIn end ≡ true
 
-pub admitted-window : (z : Sizes) (s : Store) (journal : List ℕ) (f start end : ℕ) → admissionOfWindow z s journal f start end ≡ 0 → AdmittedWindow z s journal f start end
+pub admitted-window : (z : Sizes) (s : Store) (journal : List ℕ) (f start end : ℕ) → admissionOfWindow z s journal f start end ≡ 0
+    → AdmittedWindow z s journal f start end
 unfolding admissionOfWindow windowRefusal
 admitted-window z s journal f start end e =
     let a = first-zero z s journal _ e in
@@ -338,7 +346,8 @@ pub record AdmittedDispatch (z : Sizes) (s : Store) (journal : List ℕ) (script
   pub idle : (t : ℕ) → t < 8 → transaction s t .begun ≡ false
   pub pass : scripts ≡ true
 
-pub admitted-dispatch : (z : Sizes) (s : Store) (journal : List ℕ) (scripts : Bool) → admissionOfDispatch z s journal scripts ≡ 0 → AdmittedDispatch z s journal scripts
+pub admitted-dispatch : (z : Sizes) (s : Store) (journal : List ℕ) (scripts : Bool) → admissionOfDispatch z s journal scripts ≡ 0
+    → AdmittedDispatch z s journal scripts
 unfolding admissionOfDispatch firstTests noneBegun
 admitted-dispatch z s journal scripts e =
     let a = unless-zero (sizesIn z) 1 _ (omega arith) e in
@@ -357,7 +366,12 @@ unfolding admissionOfFresh
 admitted-fresh z numbers e =
     let a = unless-zero (sizesIn z && eqb (length numbers) 16) 1 _ (omega arith) e in
     let b = unless-zero (below (λ d. leb (getD numbers d 0) 7) 16) 14 0 (omega arith) (a .1) in
-    record { lengths = lengths-in z (and-left _ (eqb (length numbers) 16) (a .0)); sixteen = eqb-true _ _ (and-right (sizesIn z) _ (a .0)); numbers = λ d l. leb-true _ _ (below-at (λ d. leb (getD numbers d 0) 7) 16 d (b .0) l) }
+    record {
+      lengths = lengths-in z (and-left _ (eqb (length numbers) 16) (a .0));
+      sixteen = eqb-true _ _
+          (and-right (sizesIn z) _ (a .0));
+      numbers = λ d l. leb-true _ _ (below-at (λ d. leb (getD numbers d 0) 7) 16 d (b .0) l);
+    }
 
 -- "in each open transaction": what the ranges say of transaction x with number t, begun.
 pub record TransactionInRange (x : Transaction) (journal : List ℕ) (t : ℕ) : Type 0 where
@@ -470,7 +484,8 @@ in-range s journal e =
     let offsets = below (λ d. leb (getD (s .offsets) d 0) 4096) 16 in
     let lengths = below (λ f. leb (getD (s .lengths) f 0) 4096) 8 in
     let windows = below (λ f. windowIn (windowAt s f)) 8 in
-    let last = and-three (files && offsets && lengths) windows (below (λ t. transactionIn (transaction s t) journal t) 8) (and-left (tablesIn s journal) (undoIn (s .undo) journal) e) in
+    let last = and-three (files && offsets && lengths) windows (below (λ t. transactionIn (transaction s t) journal t) 8)
+    (and-left (tablesIn s journal) (undoIn (s .undo) journal) e) in
     let first = and-three files offsets lengths (last .0) in
     record {
       files = λ d l. leb-true _ _ (below-at (λ d. leb (getD (s .filenumbers) d 0) 7) 16 d (first .0) l);
@@ -507,10 +522,6 @@ record-in x w e =
     let d = w .descriptor in
     let within = placeIn (standingAt x d) (w .place) (w .length) in
     record { descriptor = leb-true _ _ (and-left (leb d 15) within e); place = and-right (leb d 15) within e }
-
-record-in-intro : (x : Transaction) (w : WriteRecord) → RecordInRange x w → recordIn x w ≡ true
-unfolding recordIn
-record-in-intro x w r = and-both _ _ (le-leb _ _ (r .descriptor)) (r .place)
 
 -- A standing is in range where the numbers that it carries are.
 pub standing-numbers : (z : Standing) → standingIn z ≡ leb (advance z) 4096 && leb (offsetOf z) 4096

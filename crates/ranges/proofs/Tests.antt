@@ -22,7 +22,8 @@ use Rattle.record.specs.Layout.{standingOf, windowOf, transactionOf, storeOf, j
 use Rattle.record.proofs.LayoutLaws.{file-of, offset-of, length-of, window-of, transaction-of, found-offset-of, found-length-of}
 use Rattle.record.specs.Journal.{writeRecordAt}
 use Rattle.ranges.specs.Below.{below}
-use Rattle.ranges.specs.Ranges.{standingIn, endsWithin, placeIn, recordIn, lengthsBefore, journalIn, journalPasses, transactionIn, windowIn, tablesIn, placedIn, landedIn, grantPasses, undoIn, noneBegun}
+use Rattle.ranges.specs.Ranges.{standingIn, endsWithin, placeIn, recordIn, lengthsBefore, journalIn, journalPasses, transactionIn}
+use Rattle.ranges.specs.Ranges.{windowIn, tablesIn, placedIn, landedIn, grantPasses, undoIn, noneBegun}
 use Rattle.ranges.proofs.Laws.{and-left, and-true, below-same, below-both, below-sum, sum-zero, sum-more}
 
 and-false : (a : Bool) → a && false ≡ false
@@ -108,7 +109,8 @@ pub lengths-none : (journal : List ℕ) (t : ℕ) → 0 ≡ lengthsBefore journa
 unfolding lengthsBefore
 lengths-none journal t = sym (sum-zero _)
 
-pub lengths-more : (journal : List ℕ) (t n s v : ℕ) → s ≡ lengthsBefore journal t n → v ≡ writeRecordAt journal t n .length → s + v ≡ lengthsBefore journal t (n + 1)
+pub lengths-more : (journal : List ℕ) (t n s v : ℕ) → s ≡ lengthsBefore journal t n → v ≡ writeRecordAt journal t n .length
+    → s + v ≡ lengthsBefore journal t (n + 1)
 unfolding lengthsBefore
 lengths-more journal t n s v e f = rw (e, f) (sym (sum-more _ n))
 
@@ -170,7 +172,9 @@ module _ (x : Transaction) (journal : List ℕ) (t : ℕ) where
   closed-in e = or-closed (x .begun) _ e
 
   module _ (begun : x .begun ≡ true) where
-    begun-in : transactionIn x journal t ≡ leb (x .used .records) 64 && leb (x .used .bytes) 4096 && below (λ d. standingIn (standingAt x d)) 16 && journalPasses x journal t (x .used .records) (x .used .bytes)
+    begun-in : transactionIn x journal t
+        ≡ leb (x .used .records) 64 && leb (x .used .bytes) 4096 && below (λ d. standingIn (standingAt x d)) 16 && journalPasses x journal t
+        (x .used .records) (x .used .bytes)
     unfolding transactionIn journalIn journalPasses
     begun-in = or-begun (x .begun) _ begun ∙ turned (below (λ d. standingIn (standingAt x d)) 16) (leb (x .used .records) 64) _ _ (leb (x .used .bytes) 4096)
 
@@ -188,7 +192,8 @@ module _ (x : Transaction) (journal : List ℕ) (t : ℕ) where
         pub standings-fail : below (λ d. standingIn (standingAt x d)) 16 ≡ false → false ≡ transactionIn x journal t
         standings-fail e = sym (counted ∙ rw e)
 
-        pub records-decide : (r : Bool) → below (λ d. standingIn (standingAt x d)) 16 ≡ true → r ≡ journalPasses x journal t n m → r ≡ transactionIn x journal t
+        pub records-decide : (r : Bool) → below (λ d. standingIn (standingAt x d)) 16 ≡ true → r ≡ journalPasses x journal t n m
+            → r ≡ transactionIn x journal t
         records-decide r standings e = e ∙ sym (counted ∙ rw standings)
 
 -- ---- what is held of the last grant
@@ -198,7 +203,11 @@ found-decide : (r : List ℕ)
     → below (λ d. leb (getD (storeOf r .undo .offsets) d 0) 4096) 16 && below (λ f. leb (getD (storeOf r .undo .lengths) f 0) 4096) 8
     ≡ below (λ k. leb (getD r (2296 + k) 0) 4096) 24
 found-decide r =
-    rw (below-same (λ d. leb (getD (storeOf r .undo .offsets) d 0) 4096) found 16 (λ d h. rw (found-offset-of r d h)), below-same (λ f. leb (getD (storeOf r .undo .lengths) f 0) 4096) (λ k. found (16 + k)) 8 behind)
+    rw (
+      below-same (λ d. leb (getD (storeOf r .undo .offsets) d 0) 4096) found 16 (λ d h. rw (found-offset-of r d h)),
+      below-same
+          (λ f. leb (getD (storeOf r .undo .lengths) f 0) 4096) (λ k. found (16 + k)) 8 behind,
+    )
     (sym (below-sum found 16 8))
   where
     found : ℕ → Bool
@@ -224,7 +233,8 @@ module _ (r : List ℕ) where
     joined true false c d e = refl
     joined false b c d e = refl
 
-    held-in : undoIn undo (journalOf r) ≡ leb (undo .used .records) 64 && leb (undo .used .bytes) 4096 && found && grantPasses (journalOf r) (undo .used .records) (undo .used .bytes)
+    held-in : undoIn undo (journalOf r)
+        ≡ leb (undo .used .records) 64 && leb (undo .used .bytes) 4096 && found && grantPasses (journalOf r) (undo .used .records) (undo .used .bytes)
     unfolding undoIn
     held-in = or-begun (undo .held) _ held ∙ joined (leb (undo .used .records) 64) _ _ _ _ ∙ rw (found-decide r)
 
@@ -276,4 +286,14 @@ pub tables-numbers : (r : List ℕ) → tablesIn (storeOf r) (journalOf r)
     && below (λ k. leb (getD r (2280 + k) 0) 1439) 16 && below (λ t. transactionIn (transactionOf r t) (journalOf r) t) 8
 unfolding tablesIn
 tables-numbers r =
-    rw (below-same (λ d. leb (getD (storeOf r .filenumbers) d 0) 7) (λ k. leb (getD r (2240 + k) 0) 7) 16 (λ d h. rw (file-of r d h)), below-same (λ d. leb (getD (storeOf r .offsets) d 0) 4096) (λ k. leb (getD r (2256 + k) 0) 4096) 16 (λ d h. rw (offset-of r d h)), below-same (λ f. leb (getD (storeOf r .lengths) f 0) 4096) (λ k. leb (getD r (2272 + k) 0) 4096) 8 (λ f h. rw (length-of r f h)), windows-decide r, below-same (λ t. transactionIn (transaction (storeOf r) t) (journalOf r) t) (λ t. transactionIn (transactionOf r t) (journalOf r) t) 8 (λ t h. rw (transaction-of r t h)))
+    rw (
+      below-same (λ d. leb (getD (storeOf r .filenumbers) d 0) 7) (λ k. leb (getD r (2240 + k) 0) 7) 16
+          (λ d h. rw (file-of r d h)),
+      below-same (λ d. leb (getD (storeOf r .offsets) d 0) 4096) (λ k. leb (getD r (2256 + k) 0) 4096) 16
+          (λ d h. rw (offset-of r d h)),
+      below-same (λ f. leb (getD (storeOf r .lengths) f 0) 4096) (λ k. leb (getD r (2272 + k) 0) 4096) 8
+          (λ f h. rw (length-of r f h)),
+      windows-decide r,
+      below-same (λ t. transactionIn (transaction (storeOf r) t) (journalOf r) t)
+          (λ t. transactionIn (transactionOf r t) (journalOf r) t) 8 (λ t h. rw (transaction-of r t h)),
+    )

@@ -150,7 +150,8 @@ fn records_in(kept: &Record, t: usize, records: usize, bytes: usize) -> bool
 // Transaction t is in range.
 fn transaction_in(kept: &Record, t: usize) -> bool
     requires { ⌜ t < 8 ⌝ }
-    ensures { λ r. ⌜ r ≡ transactionIn (transactionOf (now (kept .entry)) t) (journalOf (now (kept .entry))) t ⌝ }
+    ensures { λ r. ⌜ r
+        ≡ transactionIn (transactionOf (now (kept .entry)) t) (journalOf (now (kept .entry))) t ⌝ }
 {
     if !is_begun(kept, t) {
         return true;
@@ -288,7 +289,8 @@ fn sizes_in(files: usize, logs: usize, marks: usize, undo: usize) -> bool
 // Refusals 1 and 2, for every call but Fresh. files, logs, marks and undo are the lengths of the lent buffers.
 pub fn first_tests(kept: &Record, files: usize, logs: usize, marks: usize, undo: usize) -> Gate
     ensures gate { λ r. ⌜ gateNumber r
-        ≡ firstTests (sized files logs marks undo) (storeOf (now (kept .entry))) (journalOf (now (kept .entry))) 0 ⌝ }
+        ≡ firstTests (sized files logs marks undo)
+        (storeOf (now (kept .entry))) (journalOf (now (kept .entry))) 0 ⌝ }
     ensures long { λ _. ⌜ length (now (kept .entry)) ≡ recordLength ⌝ }
 {
     length_of(kept);
@@ -329,7 +331,8 @@ pub fn admit_window(
     end: usize,
 ) -> Gate
     ensures gate { λ r. ⌜ gateNumber r
-        ≡ admissionOfWindow (sized files logs marks undo) (storeOf (now (kept .entry))) (journalOf (now (kept .entry)))
+        ≡ admissionOfWindow (sized files logs marks undo)
+        (storeOf (now (kept .entry))) (journalOf (now (kept .entry)))
         f start end ⌝ }
     ensures long { λ _. ⌜ length (now (kept .entry)) ≡ recordLength ⌝ }
 {

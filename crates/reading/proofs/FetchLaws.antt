@@ -55,7 +55,8 @@ module _ (v : Values) (fileOf : ℕ → ℕ) (ws : List Write) (f : ℕ) where
       let g : suc p + m ≡ p + suc m = omega arith in
       ap (λ (k : ℕ). result v (fetch fileOf ws f p k)) e
       ∙ result-suc p (m + n)
-      ∙ ap (λ (l : List ℕ). result v (one p) ∷ l) (result-split (suc p) m n ∙ ap (λ (k : ℕ). result v (fetch fileOf ws f (suc p) m) ++ result v (fetch fileOf ws f k n)) g)
+      ∙ ap (λ (l : List ℕ). result v (one p) ∷ l)
+      (result-split (suc p) m n ∙ ap (λ (k : ℕ). result v (fetch fileOf ws f (suc p) m) ++ result v (fetch fileOf ws f k n)) g)
       ∙ ap (λ (l : List ℕ). l ++ result v (fetch fileOf ws f (p + suc m) n)) (sym (result-suc p m))
 
   asked-split : (p m n : ℕ) → asked v (fetch fileOf ws f p (m + n)) ≡ asked v (fetch fileOf ws f p m) ++ asked v (fetch fileOf ws f (p + m) n)
@@ -66,7 +67,8 @@ module _ (v : Values) (fileOf : ℕ → ℕ) (ws : List Write) (f : ℕ) where
       let g : suc p + m ≡ p + suc m = omega arith in
       ap (λ (k : ℕ). asked v (fetch fileOf ws f p k)) e
       ∙ asked-suc p (m + n)
-      ∙ ap (λ (l : List Item). asked v (one p) ++ l) (asked-split (suc p) m n ∙ ap (λ (k : ℕ). asked v (fetch fileOf ws f (suc p) m) ++ asked v (fetch fileOf ws f k n)) g)
+      ∙ ap (λ (l : List Item). asked v (one p) ++ l)
+      (asked-split (suc p) m n ∙ ap (λ (k : ℕ). asked v (fetch fileOf ws f (suc p) m) ++ asked v (fetch fileOf ws f k n)) g)
       ∙ sym (append-assoc (asked v (one p)) (asked v (fetch fileOf ws f (suc p) m)) (asked v (fetch fileOf ws f (p + suc m) n)))
       ∙ ap (λ (l : List Item). l ++ asked v (fetch fileOf ws f (p + suc m) n)) (sym (asked-suc p m))
 
@@ -172,7 +174,8 @@ module _ (v : Values) (fileOf : ℕ → ℕ) (ws : List Write) (f t : ℕ) where
   marked-run p zero marks each = sym (with-marks-none t (4096 * f + p) marks)
   marked-run p (suc n) marks each =
       let q = 4096 * f + p in
-      let first : asked v (one v fileOf ws f p) ≡ byte q ∷ [] = ap (λ (k : ℕ). asked v (one v fileOf ws f k)) (sym (add-zero p)) ∙ each 0 (omega arith) ∙ ap (λ (k : ℕ). byte (4096 * f + k) ∷ []) (add-zero p) in
+      let first : asked v (one v fileOf ws f p) ≡ byte q ∷ [] = ap (λ (k : ℕ). asked v (one v fileOf ws f k)) (sym (add-zero p))
+      ∙ each 0 (omega arith) ∙ ap (λ (k : ℕ). byte (4096 * f + k) ∷ []) (add-zero p) in
       ap (λ (l : List Item). marked t l marks) (asked-suc v fileOf ws f p n ∙ ap (λ (l : List Item). l ++ asked v (fetch fileOf ws f (suc p) n)) first)
       ∙ marked-run (suc p) n (withMark t q marks) (λ i l. moved i (each (suc i) (omega arith)))
       ∙ ap (λ (k : ℕ). withMarks t k n (withMark t q marks)) (add-suc (4096 * f) p)
@@ -197,13 +200,15 @@ module _ (j : Recorded) (t records : ℕ) (log file : List ℕ) (inside : length
   supplied : (f p : ℕ) (s : Supplier) → supplier j t records f p ≡ s → ofOne f p ≡ bring (sourceOf (j .journal) log t p s) (4096 * f + p)
   supplied f p s e = ap (λ (x : Source). bring x (4096 * f + p)) (latest-is j log t f p records inside ∙ ap (sourceOf (j .journal) log t p) e)
 
-  by-file : (f p : ℕ) → supplier j t records f p ≡ File → (result (fileValues f file) (ofOne f p) ≡ getD file p 0) × (asked (fileValues f file) (ofOne f p) ≡ byte (4096 * f + p) ∷ [])
+  by-file : (f p : ℕ) → supplier j t records f p ≡ File
+      → (result (fileValues f file) (ofOne f p) ≡ getD file p 0) × (asked (fileValues f file) (ofOne f p) ≡ byte (4096 * f + p) ∷ [])
   unfolding sourceOf bring result asked fileValues
   by-file f p e =
       let g : 4096 * f + p - 4096 * f ≡ p = omega arith in
       (ap (result (fileValues f file)) (supplied f p File e) ∙ ap (λ (k : ℕ). getD file k 0) g, ap (asked (fileValues f file)) (supplied f p File e))
 
-  by-record : (f p k : ℕ) → supplier j t records f p ≡ Record k → (result (fileValues f file) (ofOne f p) ≡ getD log (standsAt (j .journal) t p (Record k)) 0) × (asked (fileValues f file) (ofOne f p) ≡ [])
+  by-record : (f p k : ℕ) → supplier j t records f p ≡ Record k
+      → (result (fileValues f file) (ofOne f p) ≡ getD log (standsAt (j .journal) t p (Record k)) 0) × (asked (fileValues f file) (ofOne f p) ≡ [])
   unfolding sourceOf bring result asked
   by-record f p k e = (ap (result (fileValues f file)) (supplied f p (Record k) e), ap (asked (fileValues f file)) (supplied f p (Record k) e))
 
@@ -241,7 +246,8 @@ module _ (j : Recorded) (t records : ℕ) (log file : List ℕ) (inside : length
     unfolding chosen bytesOf fetching
     run-bytes = pick (supplier j t records f p) refl
       where
-        part : (at : ℕ) (src : List ℕ) → at + r .length ≤ length src → ((i : ℕ) → i < r .length → result (fileValues f file) (ofOne f (p + i)) ≡ getD src (at + i) 0)
+        part : (at : ℕ) (src : List ℕ) → at + r .length ≤ length src
+            → ((i : ℕ) → i < r .length → result (fileValues f file) (ofOne f (p + i)) ≡ getD src (at + i) 0)
             → bytesOf j t records log file its ≡ cut src at (r .length)
         part at src = result-run (fileValues f file) (λ d. getD (j .filenumbers) d 0) (tabulate (writeIn (j .journal) log t) records) f p at (r .length) src
 
@@ -264,7 +270,8 @@ module _ (j : Recorded) (t records : ℕ) (log file : List ℕ) (inside : length
         pick File s = absurd (false≢true (sym (is-file s .0) ∙ b))
         pick (Record k) s =
             ap (λ (l : List Item). marked t l marks)
-            (asked-run (fileValues f file) (λ d. getD (j .filenumbers) d 0) (tabulate (writeIn (j .journal) log t) records) f p (r .length) (λ i l. by-record f (p + i) k (run .same i l ∙ s) .1))
+            (asked-run (fileValues f file) (λ d. getD (j .filenumbers) d 0) (tabulate (writeIn (j .journal) log t) records) f p (r .length)
+            (λ i l. by-record f (p + i) k (run .same i l ∙ s) .1))
 
     pub run-marks : (marks : List ℕ) → logged ≡ false → (from n : ℕ) → from ≡ 4096 * f + p → n ≡ r .length
         → withMarks t from n marks ≡ marksAfter j t records log file its marks
@@ -302,7 +309,8 @@ module _ (j : Recorded) (t records : ℕ) (log file : List ℕ) (f p : ℕ) wher
     bytes-none = pasted-none reader 0
 
     -- d is the buffer after m bytes; n more come from place q
-    pub bytes-more : (m n q : ℕ) (d : List ℕ) → d ≡ pasted reader 0 (bytes p m) → q ≡ p + m → m + n ≤ length reader → pasted d m (bytes q n) ≡ pasted reader 0 (bytes p (m + n))
+    pub bytes-more : (m n q : ℕ) (d : List ℕ) → d ≡ pasted reader 0 (bytes p m) → q ≡ p + m → m + n ≤ length reader
+        → pasted d m (bytes q n) ≡ pasted reader 0 (bytes p (m + n))
     unfolding bytesOf fetching
     bytes-more m n q d before next h =
         let x = bytes p m in

@@ -32,7 +32,8 @@ module _ (journal logs : List ℕ) (t : ℕ) where
   writes-are n h = tabulate-same _ _ n (λ k l. write-is k (omega (arith, data-upto journal t k n l)))
 
 -- v are committed values with these bytes
-module _ (j : Recorded) (logs : List ℕ) (t n : ℕ) (inside : lengthsBefore (j .journal) t n ≤ 4096) (v : Values) (files : List ℕ) (known : (q : ℕ) → v (byte q) ≡ getD files q 0) (e : Extent) where
+module _ (j : Recorded) (logs : List ℕ) (t n : ℕ) (inside : lengthsBefore (j .journal) t n ≤ 4096) (v : Values) (files : List ℕ)
+    (known : (q : ℕ) → v (byte q) ≡ getD files q 0) (e : Extent) where
   abbrev fetches : List Write → Values → List ℕ
   fetches ws v = result v (fetch (λ d. getD (j .filenumbers) d 0) ws (e .file) (e .place) (e .length))
 
@@ -48,7 +49,8 @@ module _ (j : Recorded) (logs : List ℕ) (t n : ℕ) (inside : lengthsBefore (j
   bytes-are h =
       ap (λ (ws : List Write). fetches ws part) (writes-are (j .journal) logs t n inside)
       ∙ result-same part v (λ d. getD (j .filenumbers) d 0) (tabulate (writeAt (j .journal) logs t) n) (e .file) (e .place) (e .length)
-      (λ i l. ap (λ (k : ℕ). getD (filePart files (e .file)) k 0) (omega arith) ∙ getD-cut files (4096 * e .file) 4096 (e .place + i) 0 (omega arith) ∙ sym (known (4096 * e .file + (e .place + i))))
+      (λ i l. ap (λ (k : ℕ). getD (filePart files (e .file)) k 0) (omega arith)
+      ∙ getD-cut files (4096 * e .file) 4096 (e .place + i) 0 (omega arith) ∙ sym (known (4096 * e .file + (e .place + i))))
 
   pub marks-are : (marks : List ℕ)
       → marksAfter j t n (logPart logs t) (filePart files (e .file)) e marks ≡ marked t (asks (tabulate (writeAt (j .journal) logs t) n) v) marks

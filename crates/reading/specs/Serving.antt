@@ -72,7 +72,7 @@ pub record Handed (kept file log marks : List ℕ) (t : ℕ) (u : Used) (e : Ext
   pub fileLength : length file ≡ 4096
   pub logLength : length log ≡ 4096
   pub marksLength : length marks ≡ 32768
-  pub number : e .file < 8
+  pub fileIn : e .file < 8
   pub places : e .place + e .length ≤ 4096
 
 -- The same with whole buffers.
@@ -81,5 +81,5 @@ pub record HandedWhole (kept files logs marks : List ℕ) (t : ℕ) (u : Used) (
   pub filesLength : length files ≡ 32768
   pub logsLength : length logs ≡ 32768
   pub marksLength : length marks ≡ 32768
-  pub number : e .file < 8
+  pub fileIn : e .file < 8
   pub places : e .place + e .length ≤ 4096

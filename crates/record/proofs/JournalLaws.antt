@@ -20,7 +20,8 @@ use Rattle.record.specs.Journal.{holder, heldAs, held, writeRecordAt, wi
 -- ---- three numbers and a record
 
 -- A record as three numbers, and back.
-held-place : (d : ℕ) (place : Place) (n : ℕ) → d < 16 → held (holder d place) (placeNumber place) n ≡ record { descriptor = d; place = place; length = n }
+held-place : (d : ℕ) (place : Place) (n : ℕ) → d < 16
+    → held (holder d place) (placeNumber place) n ≡ record { descriptor = d; place = place; length = n }
 unfolding held heldAs
 held-place d (At p) n h = rw (lt-ltb d 16 h)
 held-place d (After a) n h = rw (le-ltb (16 + d) 16 (omega arith), let e : 16 + d - 16 ≡ d = omega arith in e)
@@ -83,12 +84,14 @@ module _ (journal : List ℕ) (t k : ℕ) where
         let c = set b (i + 2) (w .length) in
         let la : length a ≡ 1728 = length-set journal i h ∙ long in
         let lb : length b ≡ 1728 = length-set a (i + 1) p ∙ la in
-        let e : getD c i 0 ≡ h = getD-set-other b (i + 2) i (w .length) 0 (λ q. omega arith) ∙ getD-set-other a (i + 1) i p 0 (λ q. omega arith) ∙ getD-set-same journal i h 0 (omega arith) in
+        let e : getD c i 0 ≡ h = getD-set-other b (i + 2) i (w .length) 0 (λ q. omega arith)
+        ∙ getD-set-other a (i + 1) i p 0 (λ q. omega arith) ∙ getD-set-same journal i h 0 (omega arith) in
         let f : getD c (i + 1) 0 ≡ p = getD-set-other b (i + 2) (i + 1) (w .length) 0 (λ q. omega arith) ∙ getD-set-same a (i + 1) p 0 (omega arith) in
         let g : getD c (i + 2) 0 ≡ w .length = getD-set-same b (i + 2) (w .length) 0 (omega arith) in
         rw (e, f, g) (held-record w low)
 
-    at-other : (u j : ℕ) → u < 9 → j < 64 → (64 * u + j ≡ 64 * t + k → ⊥) → writeRecordAt (withRecordAt journal t k w) u j ≡ writeRecordAt journal u j
+    at-other : (u j : ℕ) → u < 9 → j < 64 → (64 * u + j ≡ 64 * t + k → ⊥)
+        → writeRecordAt (withRecordAt journal t k w) u j ≡ writeRecordAt journal u j
     unfolding withRecordAt writeRecordAt
     at-other u j m l ne =
         let i = 3 * (64 * t + k) in
@@ -98,9 +101,12 @@ module _ (journal : List ℕ) (t k : ℕ) where
         let a = set journal i h in
         let b = set a (i + 1) p in
         let c = set b (i + 2) (w .length) in
-        let e : getD c n 0 ≡ getD journal n 0 = getD-set-other b (i + 2) n (w .length) 0 (λ q. omega arith) ∙ getD-set-other a (i + 1) n p 0 (λ q. omega arith) ∙ getD-set-other journal i n h 0 (λ q. ne (omega arith)) in
-        let f : getD c (n + 1) 0 ≡ getD journal (n + 1) 0 = getD-set-other b (i + 2) (n + 1) (w .length) 0 (λ q. omega arith) ∙ getD-set-other a (i + 1) (n + 1) p 0 (λ q. ne (omega arith)) ∙ getD-set-other journal i (n + 1) h 0 (λ q. omega arith) in
-        let g : getD c (n + 2) 0 ≡ getD journal (n + 2) 0 = getD-set-other b (i + 2) (n + 2) (w .length) 0 (λ q. ne (omega arith)) ∙ getD-set-other a (i + 1) (n + 2) p 0 (λ q. omega arith) ∙ getD-set-other journal i (n + 2) h 0 (λ q. omega arith) in
+        let e : getD c n 0 ≡ getD journal n 0 = getD-set-other b (i + 2) n (w .length) 0 (λ q. omega arith)
+        ∙ getD-set-other a (i + 1) n p 0 (λ q. omega arith) ∙ getD-set-other journal i n h 0 (λ q. ne (omega arith)) in
+        let f : getD c (n + 1) 0 ≡ getD journal (n + 1) 0 = getD-set-other b (i + 2) (n + 1) (w .length) 0 (λ q. omega arith)
+        ∙ getD-set-other a (i + 1) (n + 1) p 0 (λ q. ne (omega arith)) ∙ getD-set-other journal i (n + 1) h 0 (λ q. omega arith) in
+        let g : getD c (n + 2) 0 ≡ getD journal (n + 2) 0 = getD-set-other b (i + 2) (n + 2) (w .length) 0 (λ q. ne (omega arith))
+        ∙ getD-set-other a (i + 1) (n + 2) p 0 (λ q. omega arith) ∙ getD-set-other journal i (n + 2) h 0 (λ q. omega arith) in
         rw (e, f, g)
 
 -- ---- the first records of a transaction: none, one more, the same ones, its own
@@ -131,7 +137,8 @@ module _ (journal : List ℕ) (t : ℕ) where
 
   module _ (f : ℕ → WriteRecord) (long : length journal ≡ 1728) (small : t < 9) where
     -- What is read elsewhere, past the records written or in another transaction.
-    pub read-past : (n u j : ℕ) → n ≤ 64 → u < 9 → j < 64 → ((k : ℕ) → k < n → 64 * u + j ≡ 64 * t + k → ⊥) → writeRecordAt (withRecords journal t f n) u j ≡ writeRecordAt journal u j
+    pub read-past : (n u j : ℕ) → n ≤ 64 → u < 9 → j < 64 → ((k : ℕ) → k < n → 64 * u + j ≡ 64 * t + k → ⊥)
+        → writeRecordAt (withRecords journal t f n) u j ≡ writeRecordAt journal u j
     unfolding withRecords
     read-past zero u j few m l ne = refl
     read-past (suc n) u j few m l ne =
@@ -149,9 +156,11 @@ module _ (journal : List ℕ) (t : ℕ) where
     read-own (suc n) k few h low =
         ⊎-elim
         (λ e. rw e (at-same (withRecords journal t f n) t n (f n) (length-with f n ∙ long) small (omega arith) (rw e at low)))
-        (λ l. at-other (withRecords journal t f n) t n (f n) (length-with f n ∙ long) small (omega arith) t k small (omega arith) (λ q. omega arith) ∙ read-own n k (omega arith) l low)
+        (λ l. at-other (withRecords journal t f n) t n (f n) (length-with f n ∙ long) small (omega arith) t k small (omega arith)
+        (λ q. omega arith) ∙ read-own n k (omega arith) l low)
         (eq-or-lt-of-le (le-of-suc-le-suc h))
 
     -- The records of another transaction.
-    pub read-elsewhere : (n u j : ℕ) → n ≤ 64 → u < 9 → j < 64 → (u ≡ t → ⊥) → writeRecordAt (withRecords journal t f n) u j ≡ writeRecordAt journal u j
+    pub read-elsewhere : (n u j : ℕ) → n ≤ 64 → u < 9 → j < 64 → (u ≡ t → ⊥)
+        → writeRecordAt (withRecords journal t f n) u j ≡ writeRecordAt journal u j
     read-elsewhere n u j few m l other = read-past n u j few m l (λ k h q. other (omega arith))

@@ -26,9 +26,13 @@ use Rattle.record.specs.declared.Descriptor.{Descriptor}
 use Rattle.record.specs.declared.Transaction.{Transaction}
 use Rattle.record.specs.declared.Store.{Store}
 use Rattle.record.specs.declared.journal.WriteRecord.{WriteRecord}
-use Rattle.record.specs.State.{ended, noTransaction, noDescriptor, transaction, standingAt, withTransaction, withBegun, withStale, withLengthmarks, withDescriptors, withUsed, withOffsets, withLengths, withWindows, windowAt, noUndo}
+use Rattle.record.specs.State.{ended, noTransaction, noDescriptor, transaction, standingAt, withTransaction, withBegun, withStale}
+use Rattle.record.specs.State.{withLengthmarks, withDescriptors, withUsed, withOffsets, withLengths, withWindows, windowAt, noUndo}
 use Rattle.record.specs.Journal.{holder, writeRecordAt, withRecordAt}
-use Rattle.record.specs.Layout.{standingOf, isSet, base, descriptorOf, usedOf, transactionOf, storeOf, journalOf, kind, first, second, flag, withDescriptorAt, withChosenAt, withUsedAt, withStaleAt, withLengthmarksAt, zeroedFrom, resetAt, withFileNumberAt, withFileNumbersAt, withOffsetAt, withLengthAt, windowOf, withWindowAt, undoOf, recordLength}
+use Rattle.record.specs.Layout.{standingOf, isSet, base, descriptorOf, usedOf, transactionOf, storeOf, journalOf, windowOf, undoOf, recordLength}
+use Rattle.record.specs.Updates.{kind, first, second, flag, withDescriptorAt, withChosenAt, withUsedAt, withStaleAt}
+use Rattle.record.specs.Updates.{withLengthmarksAt, zeroedFrom, resetAt, withFileNumberAt, withFileNumbersAt, withOffsetAt}
+use Rattle.record.specs.Updates.{withLengthAt, withWindowAt}
 use Rattle.standings.specs.Table.{placeNumber}
 use Rattle.record.proofs.Filled.{filled, filled-none, filled-set, filled-kept, filled-all}
 
@@ -55,7 +59,8 @@ module _ (r : List ℕ) where
   unfolding transactionOf
   descriptor-of t d h = getD-tabulate (descriptorOf r t) 16 d noDescriptor h
 
-  pub standing-of : (t d : ℕ) → d < 16 → standingAt (transactionOf r t) d ≡ standingOf (getD r (base t + d) 0) (getD r (base t + d + 16) 0) (getD r (base t + d + 32) 0)
+  pub standing-of : (t d : ℕ) → d < 16
+      → standingAt (transactionOf r t) d ≡ standingOf (getD r (base t + d) 0) (getD r (base t + d + 16) 0) (getD r (base t + d + 32) 0)
   unfolding descriptorOf
   standing-of t d h = ap (λ (q : Descriptor). q .standing) (descriptor-of t d h)
 
@@ -100,7 +105,14 @@ module _ (r s : List ℕ) where
   pub undo-same : Agree 2296 27 → undoOf s ≡ undoOf r
   unfolding undoOf
   undo-same e =
-      rw (e 2320 (omega arith) (omega arith), e 2321 (omega arith) (omega arith), e 2322 (omega arith) (omega arith), column-same 2296 16 (λ j a b. e j a (omega arith)), column-same 2312 8 (λ j a b. e j (omega arith) (omega arith)))
+      rw (
+        e 2320 (omega arith) (omega arith),
+        e 2321 (omega arith) (omega arith),
+        e 2322 (omega arith) (omega arith),
+        column-same 2296 16
+            (λ j a b. e j a (omega arith)),
+        column-same 2312 8 (λ j a b. e j (omega arith) (omega arith)),
+      )
 
   pub windows-same : Agree 2280 16 → tabulate (windowOf s) 8 ≡ tabulate (windowOf r) 8
   unfolding windowOf
@@ -111,13 +123,27 @@ module _ (r s : List ℕ) where
   unfolding descriptorOf
   descriptors-same t e dirty =
       table-same _ _ 16
-      (λ d h. rw (e (base t + d) (omega arith) (omega arith), e (base t + d + 16) (omega arith) (omega arith), e (base t + d + 32) (omega arith) (omega arith), dirty))
+      (λ d h. rw (
+        e (base t + d) (omega arith) (omega arith),
+        e (base t + d + 16) (omega arith) (omega arith),
+        e (base t + d + 32)
+            (omega arith) (omega arith),
+        dirty,
+      ))
 
   transaction-same : (t : ℕ) → Agree (base t) 64 → transactionOf s t ≡ transactionOf r t
   unfolding transactionOf usedOf
   transaction-same t e =
       let same : (k : ℕ) → k < 64 → getD s (base t + k) 0 ≡ getD r (base t + k) 0 = λ k h. e (base t + k) (omega arith) (omega arith) in
-      rw (same 48 (omega arith), same 49 (omega arith), same 50 (omega arith), same 52 (omega arith), same 53 (omega arith), descriptors-same t (λ j a b. e j a (omega arith)) (same 51 (omega arith)))
+      rw (
+        same 48 (omega arith),
+        same 49 (omega arith),
+        same 50 (omega arith),
+        same 52 (omega arith),
+        same 53
+            (omega arith),
+        descriptors-same t (λ j a b. e j a (omega arith)) (same 51 (omega arith)),
+      )
 
   pub transactions-same : Agree 1728 512 → tabulate (transactionOf s) 8 ≡ tabulate (transactionOf r) 8
   transactions-same e = table-same _ _ 8 (λ t h. transaction-same t (λ j a b. e j (omega arith) (omega arith)))
@@ -134,17 +160,29 @@ module _ (r s : List ℕ) where
     store-block : (y : Transaction) → transactionOf s t ≡ y → storeOf s ≡ withTransaction t y (storeOf r)
     unfolding storeOf withTransaction
     store-block y own =
-        rw (column-same 2240 16 (λ j a b. outside j (inr (omega arith))), column-same 2256 16 (λ j a b. outside j (inr (omega arith))), column-same 2272 8 (λ j a b. outside j (inr (omega arith))), windows-same (λ j a b. outside j (inr (omega arith))), undo-same (λ j a b. outside j (inr (omega arith))), table-set (transactionOf r) (transactionOf s) 8 t y small own (λ u l. other-transaction u))
+        rw (
+          column-same 2240 16 (λ j a b. outside j (inr (omega arith))),
+          column-same 2256 16
+              (λ j a b. outside j (inr (omega arith))),
+          column-same 2272 8 (λ j a b. outside j (inr (omega arith))),
+          windows-same
+              (λ j a b. outside j (inr (omega arith))),
+          undo-same (λ j a b. outside j (inr (omega arith))),
+          table-set (transactionOf r)
+              (transactionOf s) 8 t y small own (λ u l. other-transaction u),
+        )
 
     -- The transaction became f of what it was.
-    store-by : (f : Transaction → Transaction) → transactionOf s t ≡ f (transactionOf r t) → storeOf s ≡ withTransaction t (f (transaction (storeOf r) t)) (storeOf r)
+    store-by : (f : Transaction → Transaction) → transactionOf s t ≡ f (transactionOf r t)
+        → storeOf s ≡ withTransaction t (f (transaction (storeOf r) t)) (storeOf r)
     store-by f own = store-block (f (transaction (storeOf r) t)) (own ∙ ap f (sym (transaction-of r t small)))
 
     journal-block : journalOf s ≡ journalOf r
     journal-block = journal-same (λ j a b. outside j (inl (omega arith)))
 
 -- A number outside a column of m numbers from `at` on was put.
-pub column-left : (r : List ℕ) (i n at m : ℕ) → (i < at) ⊎ (at + m ≤ i) → tabulate (λ k. getD (set r i n) (at + k) 0) m ≡ tabulate (λ k. getD r (at + k) 0) m
+pub column-left : (r : List ℕ) (i n at m : ℕ) → (i < at) ⊎ (at + m ≤ i)
+    → tabulate (λ k. getD (set r i n) (at + k) 0) m ≡ tabulate (λ k. getD r (at + k) 0) m
 column-left r i n at m w = column-same r (set r i n) at m (λ j a b. getD-set-other r i j n 0 (λ p. ⊎-elim (λ h. omega arith) (λ h. omega arith) w))
 
 windows-left : (r : List ℕ) (i n : ℕ) → i < 2280 → tabulate (windowOf (set r i n)) 8 ≡ tabulate (windowOf r) 8
@@ -225,14 +263,24 @@ module _ (r : List ℕ) (t d : ℕ) (q : Descriptor) where
         let a = set r (base t + d) (kind z) in
         let b = set a (base t + d + 16) (first z) in
         let c = set b (base t + d + 32) (second z) in
-        let lc : length c ≡ recordLength = length-set b (base t + d + 32) (second z) ∙ length-set a (base t + d + 16) (first z) ∙ length-set r (base t + d) (kind z) ∙ long in
+        let lc : length c ≡ recordLength = length-set b (base t + d + 32) (second z) ∙ length-set a (base t + d + 16) (first z)
+        ∙ length-set r (base t + d) (kind z) ∙ long in
         getD-set-same c (base t + 51) (withBitAs d (q .dirty) (getD r (base t + 51) 0)) 0 (omega arith)
 
     -- The descriptor that was put, and another of the same transaction.
     same-descriptor : descriptorOf (withDescriptorAt r t d q) t d ≡ q
     unfolding descriptorOf
     same-descriptor =
-        rw (own-kind, own-first, own-second, own-dirty, standing-back (q .standing), contains-put d (q .dirty) (getD r (base t + 51) 0) d few few, eq-eqb d d refl)
+        rw (
+          own-kind,
+          own-first,
+          own-second,
+          own-dirty,
+          standing-back (q .standing),
+          contains-put d (q .dirty)
+              (getD r (base t + 51) 0) d few few,
+          eq-eqb d d refl,
+        )
 
     other-descriptor : (e : ℕ) → e < 16 → (e ≡ d → ⊥) → descriptorOf (withDescriptorAt r t d q) t e ≡ descriptorOf r t e
     unfolding descriptorOf
@@ -256,9 +304,19 @@ module _ (r : List ℕ) (t d : ℕ) (q : Descriptor) where
         let s = withDescriptorAt r t d q in
         let kept : (k : ℕ) → 48 ≤ k → (k ≡ 51 → ⊥) → getD s (base t + k) 0 ≡ getD r (base t + k) 0 =
         λ k h ne. number-kept (base t + k) (λ p. omega arith) (λ p. omega arith) (λ p. omega arith) (λ p. ne (omega arith)) in
-        rw (kept 48 (omega arith) (λ p. omega arith), kept 49 (omega arith) (λ p. omega arith), kept 50 (omega arith) (λ p. omega arith), kept 52 (omega arith) (λ p. omega arith), kept 53 (omega arith) (λ p. omega arith), table-set (descriptorOf r t) (descriptorOf s t) 16 d q few same-descriptor other-descriptor)
+        rw (
+          kept 48 (omega arith) (λ p. omega arith),
+          kept 49 (omega arith) (λ p. omega arith),
+          kept 50 (omega arith)
+              (λ p. omega arith),
+          kept 52 (omega arith) (λ p. omega arith),
+          kept 53 (omega arith) (λ p. omega arith),
+          table-set
+              (descriptorOf r t) (descriptorOf s t) 16 d q few same-descriptor other-descriptor,
+        )
 
-    pub store-with-descriptor : let x = transaction (storeOf r) t in storeOf (withDescriptorAt r t d q) ≡ withTransaction t (withDescriptors (set (x .descriptors) d q) x) (storeOf r)
+    pub store-with-descriptor : let x = transaction (storeOf r) t in storeOf (withDescriptorAt r t d q)
+        ≡ withTransaction t (withDescriptors (set (x .descriptors) d q) x) (storeOf r)
     store-with-descriptor = store-by r (withDescriptorAt r t d q) t small outside-kept (λ x. withDescriptors (set (x .descriptors) d q) x) with-descriptor
 
     pub journal-with-descriptor : journalOf (withDescriptorAt r t d q) ≡ journalOf r
@@ -314,28 +372,48 @@ module _ (r : List ℕ) (t : ℕ) (chosen : ℕ → Bool) (f : ℕ → Descripto
           (with-descriptor s t n (f n) (length-with-chosen n ∙ long) small (omega arith)
           ∙ ap (λ (x : Transaction). withDescriptors (set (x .descriptors) n (f n)) x) e
           ∙ ap (λ (ds : List Descriptor). withDescriptors ds (transactionOf r t)) (rw add-one at (filled-set f xs n (f n) (omega arith) refl)))
-          (λ p. e ∙ ap (λ (ds : List Descriptor). withDescriptors ds (transactionOf r t)) (rw add-one at (filled-kept f xs n noDescriptor (omega arith) (same n (omega arith) p ∙ sym (descriptor-of r t n (omega arith))))))
+          (λ p. e ∙ ap (λ (ds : List Descriptor). withDescriptors ds (transactionOf r t))
+          (rw add-one at (filled-kept f xs n noDescriptor (omega arith) (same n (omega arith) p ∙ sym (descriptor-of r t n (omega arith))))))
 
-      pub store-with-chosen : storeOf (withChosenAt r t chosen f 16) ≡ withTransaction t (withDescriptors (tabulate f 16) (transaction (storeOf r) t)) (storeOf r)
+      pub store-with-chosen : storeOf (withChosenAt r t chosen f 16)
+          ≡ withTransaction t (withDescriptors (tabulate f 16) (transaction (storeOf r) t)) (storeOf r)
       store-with-chosen =
           let l = sixteen in
           store-by r (withChosenAt r t chosen f 16) t small (outside-chosen 16 (omega arith)) (withDescriptors (tabulate f 16))
-          (with-first 16 (omega arith) ∙ ap (λ (ds : List Descriptor). withDescriptors ds (transactionOf r t)) (filled-all f (transactionOf r t .descriptors) 16 (omega arith)))
+          (with-first 16 (omega arith)
+          ∙ ap (λ (ds : List Descriptor). withDescriptors ds (transactionOf r t)) (filled-all f (transactionOf r t .descriptors) 16 (omega arith)))
 
 -- ---- the two counters, the flags, the lengths sighted
 
 -- Number k of transaction t was put, which is no descriptor's.
-module _ (r : List ℕ) (t : ℕ) (long : length r ≡ recordLength) (small : t < 8) (k n : ℕ) (past : 48 ≤ k) (few : k < 64) (clean : k ≡ 51 → ⊥) where
+module _ (r : List ℕ) (t : ℕ) (long : length r ≡ recordLength) (small : t < 8) (k n : ℕ) (past : 48 ≤ k) (few : k < 64)
+    (clean : k ≡ 51 → ⊥) where
   outside-number : AgreeBut r (set r (base t + k) n) t
   outside-number j w = getD-set-other r (base t + k) j n 0 (⊎-elim (λ h p. omega arith) (λ h p. omega arith) w)
 
   abbrev after : ℕ → ℕ
   after j = cond (eqb j k) n (getD r (base t + j) 0)
 
-  with-number : transactionOf (set r (base t + k) n) t ≡ record { begun = isSet (after 48); stale = isSet (after 49); lengthmarks = after 50; used = record { records = after 52; bytes = after 53 }; descriptors = transactionOf r t .descriptors }
+  with-number : transactionOf (set r (base t + k) n) t
+      ≡ record {
+        begun = isSet (after 48);
+        stale = isSet
+            (after 49);
+        lengthmarks = after 50;
+        used = record { records = after 52; bytes = after 53 };
+        descriptors = transactionOf r t .descriptors;
+      }
   unfolding transactionOf usedOf
   with-number =
-      rw (number-at 48, number-at 49, number-at 50, number-at 52, number-at 53, descriptors-same r (set r (base t + k) n) t (λ j a b. getD-set-other r (base t + k) j n 0 (λ p. omega arith)) (getD-set-other r (base t + k) (base t + 51) n 0 (λ p. clean (omega arith))))
+      rw (
+        number-at 48,
+        number-at 49,
+        number-at 50,
+        number-at 52,
+        number-at 53,
+        descriptors-same r (set r (base t + k) n) t
+            (λ j a b. getD-set-other r (base t + k) j n 0 (λ p. omega arith)) (getD-set-other r (base t + k) (base t + 51) n 0 (λ p. clean (omega arith))),
+      )
     where
       number-by : (j : ℕ) (b : Bool) → eqb j k ≡ b → getD (set r (base t + k) n) (base t + j) 0 ≡ cond b n (getD r (base t + j) 0)
       number-by j true e = let q = eqb-true j k e in rw q (getD-set-same r (base t + k) n 0 (omega arith))
@@ -363,7 +441,8 @@ module _ (r : List ℕ) (t : ℕ) (long : length r ≡ recordLength) (small : t 
     unfolding transactionOf usedOf withUsedAt
     with-used =
         with-number (set r (base t + 52) (u .records)) t recorded small 53 (u .bytes) (omega arith) (omega arith) (λ p. omega arith)
-        ∙ ap (λ (x : Transaction). withUsed (record { records = x .used .records; bytes = u .bytes }) x) (with-number r t long small 52 (u .records) (omega arith) (omega arith) (λ p. omega arith))
+        ∙ ap (λ (x : Transaction). withUsed (record { records = x .used .records; bytes = u .bytes }) x)
+        (with-number r t long small 52 (u .records) (omega arith) (omega arith) (λ p. omega arith))
 
     pub store-with-used : storeOf (withUsedAt r t u) ≡ withTransaction t (withUsed u (transaction (storeOf r) t)) (storeOf r)
     store-with-used = store-by r (withUsedAt r t u) t small outside-used (withUsed u) with-used
@@ -424,7 +503,16 @@ module _ (r : List ℕ) where
   transaction-of-zeros : (t : ℕ) → ((k : ℕ) → k < 54 → getD r (base t + k) 0 ≡ 0) → transactionOf r t ≡ ended
   unfolding transactionOf usedOf descriptorOf standingOf ended
   transaction-of-zeros t none =
-      rw (none 48 (omega arith), none 49 (omega arith), none 50 (omega arith), none 52 (omega arith), none 53 (omega arith), table-same (descriptorOf r t) (λ _. noDescriptor) 16 (λ d h. rw (none d (omega arith), none 51 (omega arith), none-dirty d h)), sixteen-of noDescriptor)
+      rw (
+        none 48 (omega arith),
+        none 49 (omega arith),
+        none 50 (omega arith),
+        none 52 (omega arith),
+        none 53 (omega arith),
+        table-same
+            (descriptorOf r t) (λ _. noDescriptor) 16 (λ d h. rw (none d (omega arith), none 51 (omega arith), none-dirty d h)),
+        sixteen-of noDescriptor,
+      )
 
   windows-of-zeros : ((j : ℕ) → getD r j 0 ≡ 0) → tabulate (windowOf r) 8 ≡ replicate 8 freshWindow
   unfolding windowOf
@@ -433,14 +521,42 @@ module _ (r : List ℕ) where
   undo-of-zeros : ((j : ℕ) → getD r j 0 ≡ 0) → undoOf r ≡ noUndo
   unfolding undoOf
   undo-of-zeros none =
-      rw (none 2320, none 2321, none 2322, table-same (λ d. getD r (2296 + d) 0) (λ _. 0) 16 (λ d h. none (2296 + d)), table-same (λ f. getD r (2312 + f) 0) (λ _. 0) 8 (λ f h. none (2312 + f)), sixteen-of {A = ℕ} 0, eight-of {A = ℕ} 0)
+      rw (
+        none 2320,
+        none 2321,
+        none 2322,
+        table-same (λ d. getD r (2296 + d) 0) (λ _. 0) 16 (λ d h. none (2296 + d)),
+        table-same
+            (λ f. getD r (2312 + f) 0) (λ _. 0) 8 (λ f h. none (2312 + f)),
+        sixteen-of {A = ℕ} 0,
+        eight-of {A = ℕ} 0,
+      )
 
   pub store-of-zeros : ((j : ℕ) → getD r j 0 ≡ 0)
-      → storeOf r ≡ record { filenumbers = replicate 16 0; offsets = replicate 16 0; lengths = replicate 8 0; windows = replicate 8 freshWindow; undo = noUndo; transactions = replicate 8 ended }
+      → storeOf r ≡ record {
+        filenumbers = replicate 16 0;
+        offsets = replicate 16 0;
+        lengths = replicate 8 0;
+        windows = replicate 8
+            freshWindow;
+        undo = noUndo;
+        transactions = replicate 8 ended;
+      }
   unfolding storeOf
   store-of-zeros none =
       let zeros : (at m : ℕ) → tabulate (λ k. getD r (at + k) 0) m ≡ tabulate (λ _. 0) m = λ at m. table-same _ _ m (λ k h. none (at + k)) in
-      rw (zeros 2240 16, zeros 2256 16, zeros 2272 8, windows-of-zeros none, undo-of-zeros none, table-same (transactionOf r) (λ _. ended) 8 (λ t h. transaction-of-zeros t (λ k l. none (base t + k))), sixteen-of {A = ℕ} 0, eight-of {A = ℕ} 0, eight-of ended)
+      rw (
+        zeros 2240 16,
+        zeros 2256 16,
+        zeros 2272 8,
+        windows-of-zeros none,
+        undo-of-zeros none,
+        table-same (transactionOf r) (λ _. ended) 8
+            (λ t h. transaction-of-zeros t (λ k l. none (base t + k))),
+        sixteen-of {A = ℕ} 0,
+        eight-of {A = ℕ} 0,
+        eight-of ended,
+      )
 
 module _ (r : List ℕ) (i : ℕ) where
   length-zeroed : (n : ℕ) → length (zeroedFrom r i n) ≡ length r
@@ -511,28 +627,54 @@ module _ (r : List ℕ) (long : length r ≡ recordLength) where
     journal-past = journal-same r (set r i n) (λ j a b. getD-set-other r i j n 0 (λ p. omega arith))
 
   -- A column of m numbers from `at` on, of which number k was put.
-  pub column-set : (at m k n : ℕ) → k < m → at + m ≤ recordLength → tabulate (λ d. getD (set r (at + k) n) (at + d) 0) m ≡ set (tabulate (λ d. getD r (at + d) 0) m) k n
+  pub column-set : (at m k n : ℕ) → k < m → at + m ≤ recordLength
+      → tabulate (λ d. getD (set r (at + k) n) (at + d) 0) m ≡ set (tabulate (λ d. getD r (at + d) 0) m) k n
   column-set at m k n h l =
-      table-set (λ d. getD r (at + d) 0) (λ d. getD (set r (at + k) n) (at + d) 0) m k n h (getD-set-same r (at + k) n 0 (omega arith)) (λ d f ne. getD-set-other r (at + k) (at + d) n 0 (λ p. ne (omega arith)))
+      table-set (λ d. getD r (at + d) 0) (λ d. getD (set r (at + k) n) (at + d) 0) m k n h (getD-set-same r (at + k) n 0 (omega arith))
+      (λ d f ne. getD-set-other r (at + k) (at + d) n 0 (λ p. ne (omega arith)))
 
   module _ (k n : ℕ) where
     pub store-with-offset : k < 16 → storeOf (withOffsetAt r k n) ≡ withOffsets (set (storeOf r .offsets) k n) (storeOf r)
     unfolding storeOf
     store-with-offset h =
         let i = 2256 + k in
-        rw (transactions-past i n (omega arith), column-left r i n 2240 16 (inr (omega arith)), column-left r i n 2272 8 (inl (omega arith)), windows-left r i n (omega arith), undo-left r i n (omega arith), column-set 2256 16 k n h (omega arith))
+        rw (
+          transactions-past i n (omega arith),
+          column-left r i n 2240 16 (inr (omega arith)),
+          column-left r i n 2272 8
+              (inl (omega arith)),
+          windows-left r i n (omega arith),
+          undo-left r i n (omega arith),
+          column-set 2256 16 k n h (omega arith),
+        )
 
     pub store-with-length : k < 8 → storeOf (withLengthAt r k n) ≡ withLengths (set (storeOf r .lengths) k n) (storeOf r)
     unfolding storeOf
     store-with-length h =
         let i = 2272 + k in
-        rw (transactions-past i n (omega arith), column-left r i n 2240 16 (inr (omega arith)), column-left r i n 2256 16 (inr (omega arith)), windows-left r i n (omega arith), undo-left r i n (omega arith), column-set 2272 8 k n h (omega arith))
+        rw (
+          transactions-past i n (omega arith),
+          column-left r i n 2240 16 (inr (omega arith)),
+          column-left r i n 2256 16
+              (inr (omega arith)),
+          windows-left r i n (omega arith),
+          undo-left r i n (omega arith),
+          column-set 2272 8 k n h (omega arith),
+        )
 
     store-with-file : k < 16 → let s = storeOf r in storeOf (withFileNumberAt r k n) ≡ filed (set (s .filenumbers) k n) s
     unfolding storeOf
     store-with-file h =
         let i = 2240 + k in
-        rw (transactions-past i n (omega arith), column-left r i n 2256 16 (inl (omega arith)), column-left r i n 2272 8 (inl (omega arith)), windows-left r i n (omega arith), undo-left r i n (omega arith), column-set 2240 16 k n h (omega arith))
+        rw (
+          transactions-past i n (omega arith),
+          column-left r i n 2256 16 (inl (omega arith)),
+          column-left r i n 2272 8
+              (inl (omega arith)),
+          windows-left r i n (omega arith),
+          undo-left r i n (omega arith),
+          column-set 2240 16 k n h (omega arith),
+        )
 
     journal-with-file : journalOf (withFileNumberAt r k n) ≡ journalOf r
     journal-with-file = journal-past (2240 + k) n (omega arith)
@@ -557,7 +699,12 @@ module _ (r : List ℕ) (long : length r ≡ recordLength) where
     own-window h =
         let a = set r (2280 + f) (w .start) in
         let la : length a ≡ recordLength = length-set r (2280 + f) (w .start) ∙ long in
-        rw (getD-set-other a (2288 + f) (2280 + f) (w .end) 0 (λ p. omega arith), getD-set-same r (2280 + f) (w .start) 0 (omega arith), getD-set-same a (2288 + f) (w .end) 0 (omega arith))
+        rw (
+          getD-set-other a (2288 + f) (2280 + f) (w .end) 0 (λ p. omega arith),
+          getD-set-same r (2280 + f) (w .start) 0
+              (omega arith),
+          getD-set-same a (2288 + f) (w .end) 0 (omega arith),
+        )
 
     other-window : f < 8 → (g : ℕ) → g < 8 → (g ≡ f → ⊥) → windowOf (withWindowAt r f w) g ≡ windowOf r g
     unfolding windowOf
@@ -568,7 +715,17 @@ module _ (r : List ℕ) (long : length r ≡ recordLength) where
     unfolding storeOf
     store-with-window h =
         let s = withWindowAt r f w in
-        rw (transactions-same r s (before-windows 1728 512 (omega arith)), column-same r s 2240 16 (before-windows 2240 16 (omega arith)), column-same r s 2256 16 (before-windows 2256 16 (omega arith)), column-same r s 2272 8 (before-windows 2272 8 (omega arith)), undo-same r s (λ j a b. window-kept j (λ p. omega arith) (λ p. omega arith)), table-set (windowOf r) (windowOf s) 8 f w h (own-window h) (other-window h))
+        rw (
+          transactions-same r s (before-windows 1728 512 (omega arith)),
+          column-same r s 2240 16
+              (before-windows 2240 16 (omega arith)),
+          column-same r s 2256 16 (before-windows 2256 16 (omega arith)),
+          column-same r s 2272 8
+              (before-windows 2272 8 (omega arith)),
+          undo-same r s (λ j a b. window-kept j (λ p. omega arith) (λ p. omega arith)),
+          table-set
+              (windowOf r) (windowOf s) 8 f w h (own-window h) (other-window h),
+        )
 
     pub journal-with-window : journalOf (withWindowAt r f w) ≡ journalOf r
     journal-with-window = journal-same r (withWindowAt r f w) (before-windows 0 1728 (omega arith))
@@ -613,7 +770,16 @@ module _ (r : List ℕ) (long : length r ≡ recordLength) where
   store-set : (s : List ℕ) (i n : ℕ) → i < 1728 → storeOf (set s i n) ≡ storeOf s
   unfolding storeOf
   store-set s i n h =
-      rw (column-left s i n 2240 16 (inl (omega arith)), column-left s i n 2256 16 (inl (omega arith)), column-left s i n 2272 8 (inl (omega arith)), windows-left s i n (omega arith), undo-left s i n (omega arith), transactions-same s (set s i n) (λ j a b. getD-set-other s i j n 0 (λ p. omega arith)))
+      rw (
+        column-left s i n 2240 16 (inl (omega arith)),
+        column-left s i n 2256 16 (inl (omega arith)),
+        column-left s i n 2272 8
+            (inl (omega arith)),
+        windows-left s i n (omega arith),
+        undo-left s i n (omega arith),
+        transactions-same s (set s i n)
+            (λ j a b. getD-set-other s i j n 0 (λ p. omega arith)),
+      )
 
   module _ (t k : ℕ) (w : WriteRecord) (small : t < 9) (few : k < 64) where
     pub journal-with-record : journalOf (withRecordAt r t k w) ≡ withRecordAt (journalOf r) t k w
@@ -634,4 +800,5 @@ module _ (r : List ℕ) (long : length r ≡ recordLength) where
         let i = 3 * (64 * t + k) in
         let a = set r i (holder (w .descriptor) (w .place)) in
         let b = set a (i + 1) (placeNumber (w .place)) in
-        store-set b (i + 2) (w .length) (omega arith) ∙ store-set a (i + 1) (placeNumber (w .place)) (omega arith) ∙ store-set r i (holder (w .descriptor) (w .place)) (omega arith)
+        store-set b (i + 2) (w .length) (omega arith) ∙ store-set a (i + 1) (placeNumber (w .place)) (omega arith)
+        ∙ store-set r i (holder (w .descriptor) (w .place)) (omega arith)

@@ -13,8 +13,9 @@ use Rattle.octets.proofs.TableLaws.{table-same}
 use Rattle.counters.specs.declared.Used.{Used}
 use Rattle.record.specs.declared.Undo.{Undo}
 use Rattle.record.specs.State.{withOffsets, withLengths, withHeld, withUndo}
-use Rattle.record.specs.Layout.{flag, undoOf, storeOf, journalOf, withHeldAt, withUndoUsedAt, withFoundOffsetAt, withFoundLengthAt, copiedTo, withCommittedFound, withFoundCommitted, recordLength}
-use Rattle.record.proofs.LayoutLaws.{Agree, journal-same, column-same, windows-same, transactions-same, undo-same, flag-back, column-set, column-left}
+use Rattle.record.specs.Layout.{undoOf, storeOf, journalOf, recordLength}
+use Rattle.record.specs.Updates.{flag, withHeldAt, withUndoUsedAt, copiedTo, withCommittedFound, withFoundCommitted}
+use Rattle.record.proofs.LayoutLaws.{Agree, journal-same, column-same, windows-same, transactions-same, undo-same, flag-back, column-left}
 
 -- Two records that agree on the numbers before those of the last grant.
 module _ (r s : List ℕ) (before : Agree r s 0 2296) where
@@ -22,7 +23,16 @@ module _ (r s : List ℕ) (before : Agree r s 0 2296) where
   unfolding storeOf
   store-before u e =
       let first : (at n : ℕ) → at + n ≤ 2296 → Agree r s at n = λ at n l j a b. before j (omega arith) (omega arith) in
-      rw (column-same r s 2240 16 (first 2240 16 (omega arith)), column-same r s 2256 16 (first 2256 16 (omega arith)), column-same r s 2272 8 (first 2272 8 (omega arith)), windows-same r s (first 2280 16 (omega arith)), transactions-same r s (first 1728 512 (omega arith)), e)
+      rw (
+        column-same r s 2240 16 (first 2240 16 (omega arith)),
+        column-same r s 2256 16
+            (first 2256 16 (omega arith)),
+        column-same r s 2272 8 (first 2272 8 (omega arith)),
+        windows-same r s
+            (first 2280 16 (omega arith)),
+        transactions-same r s (first 1728 512 (omega arith)),
+        e,
+      )
 
   journal-before : journalOf s ≡ journalOf r
   journal-before = journal-same r s (λ j a b. before j (omega arith) (omega arith))
@@ -41,7 +51,16 @@ module _ (r : List ℕ) (long : length r ≡ recordLength) where
     unfolding undoOf
     own-held =
         let n = flag b in
-        rw (getD-set-same r 2320 n 0 (omega arith), flag-back b, getD-set-other r 2320 2321 n 0 (λ p. omega arith), getD-set-other r 2320 2322 n 0 (λ p. omega arith), column-left r 2320 n 2296 16 (inr (omega arith)), column-left r 2320 n 2312 8 (inr (omega arith)))
+        rw (
+          getD-set-same r 2320 n 0 (omega arith),
+          flag-back b,
+          getD-set-other r 2320 2321 n 0
+              (λ p. omega arith),
+          getD-set-other r 2320 2322 n 0 (λ p. omega arith),
+          column-left r 2320 n 2296 16
+              (inr (omega arith)),
+          column-left r 2320 n 2312 8 (inr (omega arith)),
+        )
 
     pub store-with-held : storeOf (withHeldAt r b) ≡ withUndo (withHeld b (storeOf r .undo)) (storeOf r)
     unfolding storeOf
@@ -73,41 +92,29 @@ module _ (r : List ℕ) (long : length r ≡ recordLength) where
         let s = with-records in
         let l = long-records in
         let m = u .bytes in
-        rw (getD-set-other s 2322 2320 m 0 (λ p. omega arith), getD-set-other r 2321 2320 (u .records) 0 (λ p. omega arith), getD-set-other s 2322 2321 m 0 (λ p. omega arith), getD-set-same r 2321 (u .records) 0 (omega arith), getD-set-same s 2322 m 0 (omega arith), column-left s 2322 m 2296 16 (inr (omega arith)), column-left r 2321 (u .records) 2296 16 (inr (omega arith)), column-left s 2322 m 2312 8 (inr (omega arith)), column-left r 2321 (u .records) 2312 8 (inr (omega arith)))
+        rw (
+          getD-set-other s 2322 2320 m 0 (λ p. omega arith),
+          getD-set-other r 2321 2320 (u .records) 0
+              (λ p. omega arith),
+          getD-set-other s 2322 2321 m 0 (λ p. omega arith),
+          getD-set-same r 2321 (u .records) 0
+              (omega arith),
+          getD-set-same s 2322 m 0 (omega arith),
+          column-left s 2322 m 2296 16 (inr (omega arith)),
+          column-left r 2321
+              (u .records) 2296 16 (inr (omega arith)),
+          column-left s 2322 m 2312 8 (inr (omega arith)),
+          column-left r 2321
+              (u .records) 2312 8 (inr (omega arith)),
+        )
 
-    pub store-with-undo-used : let x = storeOf r .undo in storeOf (withUndoUsedAt r u) ≡ withUndo (record { held = x .held; used = u; offsets = x .offsets; lengths = x .lengths }) (storeOf r)
+    pub store-with-undo-used : let x = storeOf r .undo in storeOf (withUndoUsedAt r u)
+        ≡ withUndo (record { held = x .held; used = u; offsets = x .offsets; lengths = x .lengths }) (storeOf r)
     unfolding storeOf
     store-with-undo-used = store-before r (withUndoUsedAt r u) before-counters (with-counters (undoOf r)) own-counters
 
     pub journal-with-undo-used : journalOf (withUndoUsedAt r u) ≡ journalOf r
     journal-with-undo-used = journal-before r (withUndoUsedAt r u) before-counters
-
-  module _ (k n : ℕ) where
-    own-offset : k < 16 → let x = undoOf r in undoOf (withFoundOffsetAt r k n) ≡ record { held = x .held; used = x .used; offsets = set (x .offsets) k n; lengths = x .lengths }
-    unfolding undoOf
-    own-offset h =
-        let i = 2296 + k in
-        rw (getD-set-other r i 2320 n 0 (λ p. omega arith), getD-set-other r i 2321 n 0 (λ p. omega arith), getD-set-other r i 2322 n 0 (λ p. omega arith), column-set r long 2296 16 k n h (omega arith), column-left r i n 2312 8 (inl (omega arith)))
-
-    pub store-with-found-offset : k < 16 → let x = storeOf r .undo in storeOf (withFoundOffsetAt r k n) ≡ withUndo (record { held = x .held; used = x .used; offsets = set (x .offsets) k n; lengths = x .lengths }) (storeOf r)
-    unfolding storeOf
-    store-with-found-offset h = store-before r (withFoundOffsetAt r k n) (before-put (2296 + k) n (omega arith)) _ (own-offset h)
-
-    pub journal-with-found-offset : journalOf (withFoundOffsetAt r k n) ≡ journalOf r
-    journal-with-found-offset = journal-before r (withFoundOffsetAt r k n) (before-put (2296 + k) n (omega arith))
-
-    own-length : k < 8 → let x = undoOf r in undoOf (withFoundLengthAt r k n) ≡ record { held = x .held; used = x .used; offsets = x .offsets; lengths = set (x .lengths) k n }
-    unfolding undoOf
-    own-length h =
-        let i = 2312 + k in
-        rw (getD-set-other r i 2320 n 0 (λ p. omega arith), getD-set-other r i 2321 n 0 (λ p. omega arith), getD-set-other r i 2322 n 0 (λ p. omega arith), column-left r i n 2296 16 (inr (omega arith)), column-set r long 2312 8 k n h (omega arith))
-
-    pub store-with-found-length : k < 8 → let x = storeOf r .undo in storeOf (withFoundLengthAt r k n) ≡ withUndo (record { held = x .held; used = x .used; offsets = x .offsets; lengths = set (x .lengths) k n }) (storeOf r)
-    unfolding storeOf
-    store-with-found-length h = store-before r (withFoundLengthAt r k n) (before-put (2312 + k) n (omega arith)) _ (own-length h)
-
-    pub journal-with-found-length : journalOf (withFoundLengthAt r k n) ≡ journalOf r
-    journal-with-found-length = journal-before r (withFoundLengthAt r k n) (before-put (2312 + k) n (omega arith))
 
 -- ---- all 24 offsets and lengths, copied
 
@@ -127,15 +134,18 @@ module _ (r : List ℕ) (from to : ℕ) where
       ∙ copied-other n j (⊎-elim inl (λ h. inr (omega arith)) w)
 
   -- The copies, where the two stretches have no number in common.
-  copied-own : (n k : ℕ) → (from + n ≤ to) ⊎ (to + n ≤ from) → to + n ≤ length r → k < n → getD (copiedTo r from to n) (to + k) 0 ≡ getD r (from + k) 0
+  copied-own : (n k : ℕ) → (from + n ≤ to) ⊎ (to + n ≤ from) → to + n ≤ length r → k < n
+      → getD (copiedTo r from to n) (to + k) 0 ≡ getD r (from + k) 0
   unfolding copiedTo
   copied-own zero k apart fit h = absurd (not-suc-le-zero h)
   copied-own (suc n) k apart fit h =
       let s = copiedTo r from to n in
       let l = length-copied n in
       ⊎-elim
-      (λ e. rw e (getD-set-same s (to + n) (getD s (from + n) 0) 0 (omega arith) ∙ copied-other n (from + n) (⊎-elim (λ a. inl (omega arith)) (λ a. inr (omega arith)) apart)))
-      (λ b. getD-set-other s (to + n) (to + k) (getD s (from + n) 0) 0 (λ p. omega arith) ∙ copied-own n k (⊎-elim (λ a. inl (omega arith)) (λ a. inr (omega arith)) apart) (omega arith) b)
+      (λ e. rw e (getD-set-same s (to + n) (getD s (from + n) 0) 0 (omega arith)
+      ∙ copied-other n (from + n) (⊎-elim (λ a. inl (omega arith)) (λ a. inr (omega arith)) apart)))
+      (λ b. getD-set-other s (to + n) (to + k) (getD s (from + n) 0) 0 (λ p. omega arith)
+      ∙ copied-own n k (⊎-elim (λ a. inl (omega arith)) (λ a. inr (omega arith)) apart) (omega arith) b)
       (eq-or-lt-of-le (le-of-suc-le-suc h))
 
   -- A column of m of the copies, from `a` on, and the column from `b` on that it was copied from.
@@ -149,16 +159,32 @@ module _ (r : List ℕ) (from to : ℕ) where
       rw (e, f) (copied-own n (at + k) apart fit (omega arith)))
 
 module _ (r : List ℕ) (long : length r ≡ recordLength) where
-  own-found : undoOf (withCommittedFound r) ≡ record { held = undoOf r .held; used = undoOf r .used; offsets = tabulate (λ d. getD r (2256 + d) 0) 16; lengths = tabulate (λ f. getD r (2272 + f) 0) 8 }
+  own-found : undoOf (withCommittedFound r)
+      ≡ record {
+        held = undoOf r .held;
+        used = undoOf r .used;
+        offsets = tabulate (λ d. getD r (2256 + d) 0) 16;
+        lengths = tabulate
+            (λ f. getD r (2272 + f) 0) 8;
+      }
   unfolding undoOf
   own-found =
       let left : (j : ℕ) → 2320 ≤ j → getD (withCommittedFound r) j 0 ≡ getD r j 0 = λ j l. copied-other r 2256 2296 24 j (inr l) in
-      rw (left 2320 (omega arith), left 2321 (omega arith), left 2322 (omega arith), column-copied r 2256 2296 24 2296 2256 0 16 (inl (omega arith)) (omega arith) refl refl (omega arith), column-copied r 2256 2296 24 2312 2272 16 8 (inl (omega arith)) (omega arith) refl refl (omega arith))
+      rw (
+        left 2320 (omega arith),
+        left 2321 (omega arith),
+        left 2322 (omega arith),
+        column-copied r 2256 2296 24 2296 2256 0 16
+            (inl (omega arith)) (omega arith) refl refl (omega arith),
+        column-copied r 2256 2296 24 2312 2272 16 8 (inl (omega arith))
+            (omega arith) refl refl (omega arith),
+      )
 
   before-found : Agree r (withCommittedFound r) 0 2296
   before-found j a b = copied-other r 2256 2296 24 j (inl b)
 
-  pub store-with-committed-found : let s = storeOf r in storeOf (withCommittedFound r) ≡ withUndo (record { held = s .undo .held; used = s .undo .used; offsets = s .offsets; lengths = s .lengths }) s
+  pub store-with-committed-found : let s = storeOf r in storeOf (withCommittedFound r)
+      ≡ withUndo (record { held = s .undo .held; used = s .undo .used; offsets = s .offsets; lengths = s .lengths }) s
   unfolding storeOf
   store-with-committed-found = store-before r (withCommittedFound r) before-found _ own-found
 
@@ -171,7 +197,17 @@ module _ (r : List ℕ) (long : length r ≡ recordLength) where
       let s = withFoundCommitted r in
       let left : (at n : ℕ) → (at + n ≤ 2256) ⊎ (2280 ≤ at) → Agree r s at n =
       λ at n w j a b. copied-other r 2296 2256 24 j (⊎-elim (λ l. inl (omega arith)) (λ l. inr (omega arith)) w) in
-      rw (column-same r s 2240 16 (left 2240 16 (inl (omega arith))), windows-same r s (left 2280 16 (inr (omega arith))), undo-same r s (left 2296 27 (inr (omega arith))), transactions-same r s (left 1728 512 (inl (omega arith))), column-copied r 2296 2256 24 2256 2296 0 16 (inr (omega arith)) (omega arith) refl refl (omega arith), column-copied r 2296 2256 24 2272 2312 16 8 (inr (omega arith)) (omega arith) refl refl (omega arith))
+      rw (
+        column-same r s 2240 16 (left 2240 16 (inl (omega arith))),
+        windows-same r s (left 2280 16 (inr (omega arith))),
+        undo-same r s
+            (left 2296 27 (inr (omega arith))),
+        transactions-same r s
+            (left 1728 512 (inl (omega arith))),
+        column-copied r 2296 2256 24 2256 2296 0 16 (inr (omega arith)) (omega arith) refl refl
+            (omega arith),
+        column-copied r 2296 2256 24 2272 2312 16 8 (inr (omega arith)) (omega arith) refl refl (omega arith),
+      )
 
   pub journal-with-found-committed : journalOf (withFoundCommitted r) ≡ journalOf r
   journal-with-found-committed = journal-same r (withFoundCommitted r) (λ j a b. copied-other r 2296 2256 24 j (inl (omega arith)))

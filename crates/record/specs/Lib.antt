@@ -2,3 +2,4 @@ pub mod Paper
 pub mod State
 pub mod Journal
 pub mod Layout
+pub mod Updates

@@ -71,61 +71,24 @@ noUndo = record { held = false; used = record { records = 0; bytes = 0 }; offset
 abbrev pub withHeld : Bool → Undo → Undo
 withHeld b u = record { held = b; used = u .used; offsets = u .offsets; lengths = u .lengths }
 
--- A store with another value in one field.
+-- A store of these parts, and one with another value in one field.
+abbrev pub storeWith : List ℕ → List ℕ → List ℕ → List Window → Undo → List Transaction → Store
+storeWith ns os ls ws u xs = record { filenumbers = ns; offsets = os; lengths = ls; windows = ws; undo = u; transactions = xs }
+
 abbrev pub withOffsets : List ℕ → Store → Store
-withOffsets os s =
-    record {
-      filenumbers = s .filenumbers;
-      offsets = os;
-      lengths = s .lengths;
-      windows = s .windows;
-      undo = s .undo;
-      transactions = s .transactions;
-    }
+withOffsets os s = storeWith (s .filenumbers) os (s .lengths) (s .windows) (s .undo) (s .transactions)
 
 abbrev pub withLengths : List ℕ → Store → Store
-withLengths ls s =
-    record {
-      filenumbers = s .filenumbers;
-      offsets = s .offsets;
-      lengths = ls;
-      windows = s .windows;
-      undo = s .undo;
-      transactions = s .transactions;
-    }
+withLengths ls s = storeWith (s .filenumbers) (s .offsets) ls (s .windows) (s .undo) (s .transactions)
 
 abbrev pub withWindows : List Window → Store → Store
-withWindows ws s =
-    record {
-      filenumbers = s .filenumbers;
-      offsets = s .offsets;
-      lengths = s .lengths;
-      windows = ws;
-      undo = s .undo;
-      transactions = s .transactions;
-    }
+withWindows ws s = storeWith (s .filenumbers) (s .offsets) (s .lengths) ws (s .undo) (s .transactions)
 
 abbrev pub withUndo : Undo → Store → Store
-withUndo u s =
-    record {
-      filenumbers = s .filenumbers;
-      offsets = s .offsets;
-      lengths = s .lengths;
-      windows = s .windows;
-      undo = u;
-      transactions = s .transactions;
-    }
+withUndo u s = storeWith (s .filenumbers) (s .offsets) (s .lengths) (s .windows) u (s .transactions)
 
 abbrev pub withTransactions : List Transaction → Store → Store
-withTransactions xs s =
-    record {
-      filenumbers = s .filenumbers;
-      offsets = s .offsets;
-      lengths = s .lengths;
-      windows = s .windows;
-      undo = s .undo;
-      transactions = xs;
-    }
+withTransactions xs s = storeWith (s .filenumbers) (s .offsets) (s .lengths) (s .windows) (s .undo) xs
 
 -- The window of file f.
 abbrev pub windowAt : Store → ℕ → Window

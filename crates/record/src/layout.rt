@@ -14,14 +14,16 @@ ghost use mathlib.Core.Path.{_≡_};
 ghost use Prim.Native.Nat.{_+_, _<_, _≤_};
 ghost use lib.ListN.{length, getD};
 ghost use Rattle.record.specs.State.{standingAt, noDescriptor, windowAt};
-ghost use Rattle.record.specs.Layout.{standingOf, base, kind, first, second, flag};
+ghost use Rattle.record.specs.Layout.{standingOf, base};
+ghost use Rattle.record.specs.Updates.{kind, first, second, flag};
 ghost use Rattle.record.specs.Layout.{descriptorOf, transactionOf, storeOf};
-ghost use Rattle.record.specs.Layout.{withDescriptorAt, withChosenAt, withUsedAt, resetAt};
-ghost use Rattle.record.specs.Layout.{withStaleAt, withLengthmarksAt};
-ghost use Rattle.record.specs.Layout.{withFileNumberAt, withFileNumbersAt};
-ghost use Rattle.record.specs.Layout.{withOffsetAt, withLengthAt, withWindowAt};
-ghost use Rattle.record.specs.Layout.{withHeldAt, withUndoUsedAt, withFoundOffsetAt, withFoundLengthAt};
-ghost use Rattle.record.specs.Layout.{copiedTo, withCommittedFound, withFoundCommitted, recordLength};
+ghost use Rattle.record.specs.Updates.{withDescriptorAt, withChosenAt, withUsedAt, resetAt};
+ghost use Rattle.record.specs.Updates.{withStaleAt, withLengthmarksAt};
+ghost use Rattle.record.specs.Updates.{withFileNumberAt, withFileNumbersAt};
+ghost use Rattle.record.specs.Updates.{withOffsetAt, withLengthAt, withWindowAt};
+ghost use Rattle.record.specs.Updates.{withHeldAt, withUndoUsedAt, withFoundOffsetAt, withFoundLengthAt};
+ghost use Rattle.record.specs.Layout.{recordLength};
+ghost use Rattle.record.specs.Updates.{copiedTo, withCommittedFound, withFoundCommitted};
 
 // How many numbers a record has.
 pub const NUMBERS: usize = 2323;

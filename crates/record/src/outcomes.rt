@@ -75,8 +75,8 @@ impl Refusal {
 }
 
 // The result of a call: plain, an offset, a count of bytes given, the octet of those that a granted Commit made stale
-// (bit t, worth 2 to the power t, for transaction t), a count of pairs, an order's grants with the gap and the number of
-// orders tried, or a refusal.
+// (bit t, worth 2 to the power t, for transaction t), a count of pairs, an order's grants with the gap and the number
+// of orders tried, or a refusal.
 pub enum Outcome {
     Done,
     Offset(u16),

@@ -22,7 +22,7 @@ use Rattle.rules.specs.Transactions.{Txn}
 use Rattle.rules.specs.Messages.{Op, bufferOf, on}
 use Rattle.rules.specs.Steps.{Stepped, refuse, accept, check, step, turnsBack, turnedBack}
 use Rattle.rules.specs.Machine.{Machine, withStore, withJournal, withLogs, withMarking, sizes, fileOf, values, txnOf, withTxn, journalled}
-use Rattle.rules.specs.Calls.{Turn, answer, turnDown, reset, passing, admitted, marked, logged, served, stepTurn, call}
+use Rattle.rules.specs.Calls.{Turn, answerWith, turnDown, reset, passing, admitted, marked, logged, served, stepTurn, call}
 use Rattle.rules.specs.Promises.{Meets, machineOf, LeftAsFound}
 
 -- ---- the shared tests
@@ -50,11 +50,13 @@ module _ (g : Gate) (n : ℕ) (says : gateNumber g ≡ n) where
 
 -- What the gate says of tests 1 to 3 holds before any later test.
 module _ (g : Gate) (m : Machine) (t : ℕ) (says : gateNumber g ≡ sharedWith m t 0) where
-  pub gate-refused : (later : ℕ) (r : Refusal) (buffer : List ℕ) (next : Turn) → g ≡ GateRefused r → passing (sharedWith m t later) buffer m next ≡ turnDown (number r) buffer m
+  pub gate-refused : (later : ℕ) (r : Refusal) (buffer : List ℕ) (next : Turn) → g ≡ GateRefused r
+      → passing (sharedWith m t later) buffer m next ≡ turnDown (number r) buffer m
   unfolding gateNumber
   gate-refused later r buffer next e =
       let n = number-suc r in
-      ap (λ (k : ℕ). passing k buffer m next) (shared-refused (sizes m) (m .store) (m .journal) t later (number r) (sym (ap gateNumber e) ∙ says) (let q = n .1 in omega arith))
+      ap (λ (k : ℕ). passing k buffer m next)
+      (shared-refused (sizes m) (m .store) (m .journal) t later (number r) (sym (ap gateNumber e) ∙ says) (let q = n .1 in omega arith))
       ∙ passing-number r buffer m next
 
   pub gate-passed : g ≡ Pass → sharedWith m t 0 ≡ 0
@@ -99,7 +101,8 @@ unfolding passing
 passing-on n buffer m next e = rw e
 
 -- A call that was turned down and left the record alone, where the rules turn it down.
-pub turned-follows : (r : Refusal) (buffer kept files logs marks undo : List ℕ) (w : Turn) → w ≡ turnDown (number r) buffer (machineOf kept files logs marks undo)
+pub turned-follows : (r : Refusal) (buffer kept files logs marks undo : List ℕ) (w : Turn)
+    → w ≡ turnDown (number r) buffer (machineOf kept files logs marks undo)
     → Meets w (Refused r) (machineOf kept files logs marks undo) buffer × LeftAsFound (Refused r) kept kept
 unfolding turnDown said
 turned-follows r buffer kept files logs marks undo w e =
@@ -111,10 +114,10 @@ done-follows before after r e n = cc
 
 -- ---- Begin and Abort: a transaction replaced, its marks cleared
 
-pub reset-meets : (t : ℕ) (x : Transaction) (m : Machine) (w : Turn) → w ≡ answer plain (reset t x m)
+pub reset-meets : (t : ℕ) (x : Transaction) (m : Machine) (w : Turn) → w ≡ answerWith plain (reset t x m)
     → (s : Store) (marks : List ℕ) → s ≡ withTransaction t x (m .store) → marks ≡ withoutMarks t (m .marks)
     → Meets w Done (withStore s (withMarking marks m)) []
-unfolding answer reset said
+unfolding answerWith reset said
 reset-meets t x m w e s marks f g =
     rw (e, f) (record { outcome = refl; machine = ap (λ (l : List ℕ). withStore (withTransaction t x (m .store)) (withMarking l m)) g; reader = refl })
 
@@ -157,7 +160,8 @@ module _ (t : ℕ) (o : Op) (m : Machine) (passes : admission (sizes m) (m .stor
     -- A step that asks for nothing and refuses, or accepts.
     pub on-refused : (n : ℕ) → program ≡ done (refuse n) → call (on t o) m ≡ turnDown n (bufferOf o) m
     unfolding served result
-    on-refused n e = on-stepped ∙ ap (λ (p : Prog Stepped). served t o m (asked (values (m .store) (m .files)) p) (result (values (m .store) (m .files)) p)) e
+    on-refused n e = on-stepped
+        ∙ ap (λ (p : Prog Stepped). served t o m (asked (values (m .store) (m .files)) p) (result (values (m .store) (m .files)) p)) e
 
     pub on-accepted : (y : Txn) (a : Said) (buffer : List ℕ) → program ≡ done (accept y a buffer)
         → call (on t o) m

@@ -10,7 +10,7 @@ use Rattle.requests.specs.Requests.{callOf}
 use Rattle.rules.specs.Messages.{bufferOfCall}
 use Rattle.rules.specs.Machine.{Machine}
 use Rattle.rules.specs.Calls.{call}
-use Rattle.rules.specs.Promises.{Meets, Lent, handed, left, LeftAsFound}
+use Rattle.rules.specs.Promises.{Meets, Lent, handed, handedBack, LeftAsFound}
 
 -- The buffer for an answer before and after: Read and Places answer in it, any other call leaves it.
 unfoldable pub Unanswered : Request → List ℕ → List ℕ → Type 0
@@ -34,5 +34,5 @@ pub record Performs (q : Request) (bytes reader : List ℕ) (m : Machine) (o : O
 -- The same of lent arrays; and a refusal other than 13 leaves the record number by number.
 abbrev pub Performed : Request → List ℕ → Lent → Lent → Lent → Lent → Lent → Outcome → Lent → Type 0
 Performed q bytes kept files logs marks undo o reader =
-    Performs q bytes (now (reader .entry)) (handed kept files logs marks undo) o (left kept files logs marks undo) (now (reader .exit))
+    Performs q bytes (now (reader .entry)) (handed kept files logs marks undo) o (handedBack kept files logs marks undo) (now (reader .exit))
     × LeftAsFound o (now (kept .entry)) (now (kept .exit))

@@ -8,7 +8,10 @@ use Rattle.rounds.specs.Corners as Told
 use Rattle.rounds.specs.Corners.{Corners}
 
 pub corners : Corners
-unfolding opened Parts.tabulate Parts.cut Rounds.partIn Rounds.scriptIn Rounds.scriptsIn Rounds.goesOn Rounds.refusalIn Rounds.failing Rounds.orFailing Rounds.decided Rounds.opOf Rounds.readerAfter Rounds.begins Rounds.perform Rounds.turn Rounds.turns Rounds.passes Rounds.commitOne Rounds.commitAll Rounds.round Rounds.rounds Rounds.dispatched Dispatch.onPlain Dispatch.reported Dispatch.notStarted Dispatch.plainDispatch Told.scriptOf Told.scriptsOf Told.bytes Told.reader Told.told Told.left Told.appends Told.adds Told.readsOwn
+unfolding opened Parts.tabulate Parts.cut Rounds.partIn Rounds.scriptIn Rounds.scriptsIn Rounds.goesOn Rounds.refusalIn Rounds.failing
+    Rounds.orFailing Rounds.decided Rounds.opOf Rounds.readerAfter Rounds.begins Rounds.perform Rounds.turn Rounds.turns Rounds.passes
+    Rounds.commitOne Rounds.commitAll Rounds.round Rounds.rounds Rounds.dispatched Dispatch.onPlain Dispatch.reported Dispatch.notStarted
+    Dispatch.plainDispatch Told.scriptOf Told.scriptsOf Told.bytes Told.reader Told.told Told.bytesLeft Told.appends Told.adds Told.readsOwn
 corners =
     record {
       one = refl;

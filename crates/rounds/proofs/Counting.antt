@@ -12,7 +12,8 @@ use Rattle.rules.specs.Messages.{Call, begin, commit, Reply}
 use Rattle.rules.specs.Transactions.{put}
 use Rattle.rules.proofs.Serial.Rerun.{put-same}
 use Rattle.rules.proofs.Serial.Invariant.{put-other}
-use Rattle.rounds.specs.Rounds.{Scripts, End, passed, failed, goesOn, Work, nothingDone, withCommit, withCall, refusalIn, failing, orFailing, decided, begins, perform, turn, turns, passes, commitOne, commitAll, round, rounds}
+use Rattle.rounds.specs.Rounds.{Scripts, End, passed, failed, goesOn, Work, nothingDone, withCommit, withCall, refusalIn, failing}
+use Rattle.rounds.specs.Rounds.{orFailing, decided, begins, perform, turn, turns, passes, commitOne, commitAll, round, rounds}
 use Rattle.rounds.proofs.Phases.{Laws, Sides, Rest, Given, AtRest, before, all-given, round-rests}
 
 -- ---- how many go on

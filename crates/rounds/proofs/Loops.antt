@@ -4,14 +4,14 @@ use mathlib.Core.List.{List, [], _∷_, _++_}
 use mathlib.Core.Path.{_≡_, refl, ap}
 use native.Mathlib.Omega.{arith}
 use Prim.Native.Nat.{ℕ, suc, _+_}
-use Rattle.rules.specs.Messages.{Call, begin, Reply}
+use Rattle.rules.specs.Messages.{Call, begin, Reply, afterAll}
 use Rattle.rules.specs.Machine.{Machine}
 use Rattle.rules.specs.Calls.{call, callsAfter}
 use Rattle.rounds.specs.Rounds.{Scripts, goesOn, Work, withCall, begins, turn, turns, passes, commitOne, commitAll, round, rounds}
 
 -- The store after one call more.
 pub after-call : (cs : List Call) (c : Call) (m : Machine) → callsAfter (cs ++ (c ∷ [])) m ≡ call c (callsAfter cs m) .after
-unfolding callsAfter
+unfolding afterAll
 after-call [] c m = refl
 after-call (d ∷ cs) c m = after-call cs c (call d m .after)
 
@@ -19,19 +19,11 @@ next : (k : ℕ) → k + 1 ≡ suc k
 next k = omega arith
 
 module _ (replyTo : Call → List Call → Reply) (bytes : List ℕ) (minute : ℕ) (x : Scripts) (w : Work) where
-  pub begins-none : begins replyTo bytes minute x 0 w ≡ w
-  unfolding begins
-  begins-none = refl
-
   pub begins-more : (k : ℕ)
       → begins replyTo bytes minute x (k + 1) w
       ≡ cond (goesOn (begins replyTo bytes minute x k w .ends k)) (withCall (begin k) (begins replyTo bytes minute x k w)) (begins replyTo bytes minute x k w)
   unfolding begins
   begins-more k = ap (λ (n : ℕ). begins replyTo bytes minute x n w) (next k)
-
-  pub turns-none : (i : ℕ) → turns replyTo bytes minute x i 0 w ≡ w
-  unfolding turns
-  turns-none i = refl
 
   pub turns-more : (i k : ℕ) → turns replyTo bytes minute x i (k + 1) w ≡ turn replyTo bytes minute x i k (turns replyTo bytes minute x i k w)
   unfolding turns
@@ -45,17 +37,9 @@ module _ (replyTo : Call → List Call → Reply) (bytes : List ℕ) (minute : �
   unfolding passes
   passes-more i = ap (λ (n : ℕ). passes replyTo bytes minute x n w) (next i)
 
-  pub commits-none : commitAll replyTo bytes minute x 0 w ≡ w
-  unfolding commitAll
-  commits-none = refl
-
   pub commits-more : (k : ℕ) → commitAll replyTo bytes minute x (k + 1) w ≡ commitOne replyTo bytes minute x k (commitAll replyTo bytes minute x k w)
   unfolding commitAll
   commits-more k = ap (λ (n : ℕ). commitAll replyTo bytes minute x n w) (next k)
-
-  pub rounds-none : rounds replyTo bytes minute x 0 w ≡ w
-  unfolding rounds
-  rounds-none = refl
 
   pub rounds-more : (j : ℕ) → rounds replyTo bytes minute x (j + 1) w ≡ round replyTo bytes minute x (rounds replyTo bytes minute x j w)
   unfolding rounds

@@ -5,6 +5,7 @@ use mathlib.Core.Logic.{_⊎_, inl, inr, ⊎-elim}
 use mathlib.Core.Path.{_≡_, refl, sym, ap, ap₂, _∙_, subst, subst⁻¹}
 use borrow.Author.Tests.{le-leb, eqb-true, eqb-false, ne-eqb, eq-eqb}
 use lib.Dec.{leb, eqb}
+use lib.ListN.{replicate}
 use native.Mathlib.Omega.{arith}
 use Prim.Native.Nat.{ℕ, zero, suc, _+_, _≤_, _<_, min}
 use Rattle.octets.specs.Parts.{tabulate}
@@ -12,27 +13,30 @@ use Rattle.octets.proofs.PartLaws.{le-or-lt}
 use Rattle.windows.specs.Hours.{freshWindows}
 use Rattle.record.specs.Paper.{Said, plain, pointer, given, granted, pairs, ordered, refused}
 use Rattle.rules.specs.Transactions.{put}
-use Rattle.rules.specs.Messages.{Op, bufferOf, Call, begin, on, commit, abort, Reply}
+use Rattle.rules.specs.Messages.{Op, bufferOf, Call, begin, on, commit, abort, Reply, isGrant, afterAll}
 use Rattle.rules.specs.Steps.{Stepped, refuse, accept}
 use Rattle.rules.specs.Sightings.{Entry}
-use Rattle.rules.specs.Plain.{Accepted, Running, Slot, closed, running, Plain, withWindows, isStale, PlainTurn, turnedDown, withSlot, answering, plainBegin, plainStepped, plainOn, grant, plainCommitted, plainCommit, plainAbort, numbered, plainCall, plainAfter}
-use Rattle.rules.specs.Grants.{Grant, grantAt, ifGranted, grantedBy, Serial, adding, serialBy, serialFrom, serialOf}
+use Rattle.rules.specs.Plain.{Accepted, Running, Slot, closed, running, Plain, withWindows, isStale, PlainTurn, turnedDown, withSlot}
+use Rattle.rules.specs.Plain.{answering, plainBegin, plainStepped, plainOn, grant, plainCommitted, plainCommit, plainAbort, numbered}
+use Rattle.rules.specs.Plain.{plainCall, plainAfter}
+use Rattle.rules.specs.Grants.{Grant, grantedBy, Serial, adding, serialBy, serialFrom, serialOf}
 use Rattle.rules.proofs.Serial.Rerun.{put-same}
 use Rattle.rules.proofs.Serial.Invariant.{put-other}
 use Rattle.rules.proofs.Demand3.Answers.{Right, right-step}
-use Rattle.rounds.specs.Rounds.{ScriptCall, seeks, writes, asks, reads, Scripts, End, unfinished, passed, failed, goesOn, Work, nothingDone, refusalIn, opOf}
+use Rattle.rounds.specs.Rounds.{ScriptCall, seeks, writes, asks, reads, Scripts, End, unfinished, passed, failed, goesOn, Work}
+use Rattle.rounds.specs.Rounds.{nothingDone, refusalIn, opOf}
 use Rattle.rounds.specs.Dispatch.{plainReply, bare, IsScript, EveryScript, none, more, timesIn, timesOf}
 use Rattle.rounds.proofs.Phases.{Quiet, begins-it, calls-it, aborts-it, Laws, AtRest}
 use Rattle.rounds.proofs.OnSighted.{answer-none}
 
 after-one : (cs : List Call) (c : Call) (p : Plain) → plainAfter (cs ++ (c ∷ [])) p ≡ plainCall c (plainAfter cs p) .after
-unfolding plainAfter
+unfolding afterAll
 after-one [] c p = refl
 after-one (d ∷ cs) c p = after-one cs c (plainCall d p .after)
 
 serial-from-one : (cs : List Call) (c : Call) (p : Plain) (s : Serial)
     → serialFrom (cs ++ (c ∷ [])) p s ≡ serialBy c (plainAfter cs p) (serialFrom cs p s)
-unfolding serialFrom plainAfter
+unfolding serialFrom afterAll
 serial-from-one [] c p s = refl
 serial-from-one (d ∷ cs) c p s = serial-from-one cs c (plainCall d p .after) (serialBy d p s)
 
@@ -41,6 +45,17 @@ unfolding serialOf
 serial-one cs c p = serial-from-one cs c p _
 
 -- ---- one call
+
+-- A refusal is no grant.
+no-grant : (a : Said) (n : ℕ) → refusalIn a ≡ suc n → isGrant a ≡ 0
+unfolding isGrant refusalIn
+no-grant plain n e = refl
+no-grant (pointer o) n e = refl
+no-grant (given m) n e = refl
+no-grant (granted m) n e = absurd (omega (arith, e))
+no-grant (pairs m) n e = refl
+no-grant (ordered grants gap tried) n e = refl
+no-grant (refused m) n e = refl
 
 module _ (t : ℕ) (p : Plain) where
   -- What a call of an open transaction gives: a refusal, and nothing changes; or it is added to its calls.
@@ -103,31 +118,25 @@ module _ (t : ℕ) (p : Plain) where
       pick false f = refl
 
   -- The grant of a granted one, and none of another.
-  if-granted : (r : Running) (n : ℕ) (gs : List Grant) → refusalIn (plainCommitted t r p n .reply .answer) ≡ 0
-      → ifGranted (plainCommitted t r p n .reply .answer) gs ≡ gs
-  unfolding plainCommitted answering refusalIn ifGranted
-  if-granted r zero gs e = refl
-  if-granted r (suc n) gs e = absurd (omega (arith, e))
+  module _ (minute : ℕ) where
+    if-granted : (r : Running) (n : ℕ) → refusalIn (plainCommitted t r p n .reply .answer) ≡ 0
+        → grantedBy t minute (plainCommitted t r p n .reply .answer) (running r) ≡ record { txnNumber = t; minute = minute; calls = r .calls } ∷ []
+    unfolding plainCommitted answering refusalIn grantedBy isGrant
+    if-granted r zero e = refl
+    if-granted r (suc n) e = absurd (omega (arith, e))
 
-  module _ (small : leb t 7 ≡ true) (minute : ℕ) where
-    granted-one : (r : Running) → p .slots t ≡ running r → refusalIn (plainCall (commit t minute) p .reply .answer) ≡ 0
-        → grantedBy t minute p ≡ record { number = t; minute = minute; calls = r .calls } ∷ []
-    unfolding grantedBy grantAt
-    granted-one r e f =
+    granted-one : leb t 7 ≡ true → (r : Running) → p .slots t ≡ running r → refusalIn (plainCall (commit t minute) p .reply .answer) ≡ 0
+        → grantedBy t minute (plainCall (commit t minute) p .reply .answer) (p .slots t)
+        ≡ record { txnNumber = t; minute = minute; calls = r .calls } ∷ []
+    granted-one small r e f =
         let c = commit-call small minute r e in
-        ap (λ (τ : PlainTurn). ifGranted (τ .reply .answer) (grantAt t minute (p .slots t))) (c .1)
-        ∙ if-granted r (c .0) (grantAt t minute (p .slots t)) (sym (ap (λ (τ : PlainTurn). refusalIn (τ .reply .answer)) (c .1)) ∙ f)
-        ∙ ap (grantAt t minute) e
+        ap₂ (λ (τ : PlainTurn) (z : Slot). grantedBy t minute (τ .reply .answer) z) (c .1) e
+        ∙ if-granted r (c .0) (sym (ap (λ (τ : PlainTurn). refusalIn (τ .reply .answer)) (c .1)) ∙ f)
 
-  not-granted : (a : Said) (n : ℕ) (gs : List Grant) → refusalIn a ≡ suc n → ifGranted a gs ≡ []
-  unfolding ifGranted refusalIn
-  not-granted plain n gs e = refl
-  not-granted (pointer o) n gs e = refl
-  not-granted (given m) n gs e = refl
-  not-granted (granted m) n gs e = absurd (omega (arith, e))
-  not-granted (pairs m) n gs e = refl
-  not-granted (ordered grants gap tried) n gs e = refl
-  not-granted (refused m) n gs e = refl
+    not-granted : (a : Said) (n : ℕ) (z : Slot) → refusalIn a ≡ suc n → grantedBy t minute a z ≡ []
+    unfolding grantedBy
+    not-granted a n closed e = refl
+    not-granted a n (running r) e = ap (λ (k : ℕ). replicate k (record { txnNumber = t; minute = minute; calls = r .calls })) (no-grant a n e)
 
   -- ---- the others
 
@@ -227,7 +236,7 @@ unfolding timesIn
 times-append k [] hs = omega arith
 times-append k (g ∷ gs) hs = omega (arith, times-append k gs hs)
 
-times-one : (k : ℕ) (g : Grant) → timesIn k (g ∷ []) ≡ cond (eqb (g .number) k) 1 0
+times-one : (k : ℕ) (g : Grant) → timesIn k (g ∷ []) ≡ cond (eqb (g .txnNumber) k) 1 0
 unfolding timesIn
 times-one k g = omega arith
 
@@ -261,34 +270,36 @@ module _ (bytes : List ℕ) (minute : ℕ) (x : Scripts) where
           ∙ sym (ap (λ (i : ℕ). timesOf (put k (failed n) e i)) f ∙ ap timesOf (put-same k (failed n) e) ∙ (unfold timesOf in refl))
       pick j false q = sym (ap timesOf (put-other k (failed n) e j (eqb-false j k q)))
 
-  granted-passed : (start : Plain) (s : Serial) (e : ℕ → End) (g : Grant) → IsScript bytes minute x g → goesOn (e (g .number)) ≡ true
+  granted-passed : (start : Plain) (s : Serial) (e : ℕ → End) (g : Grant) → IsScript bytes minute x g → goesOn (e (g .txnNumber)) ≡ true
       → Granted start s e
-      → Granted start (adding (g ∷ []) s) (put (g .number) passed e)
+      → Granted start (adding (g ∷ []) s) (put (g .txnNumber) passed e)
   unfolding adding
   granted-passed start s e g i h old =
       record {
         from = old .from;
         every = every-append bytes minute x g (s .grants) (old .every) i;
         once = λ j l. times-append j (s .grants) (g ∷ []) ∙ ap₂ (λ (a b : ℕ). a + b) (old .once j l) (times-one j g)
-            ∙ pick j (eqb j (g .number)) refl;
+            ∙ pick j (eqb j (g .txnNumber)) refl;
       }
     where
-      pick : (j : ℕ) (b : Bool) → eqb j (g .number) ≡ b
-          → timesOf (e j) + cond (eqb (g .number) j) 1 0 ≡ timesOf (put (g .number) passed e j)
+      pick : (j : ℕ) (b : Bool) → eqb j (g .txnNumber) ≡ b
+          → timesOf (e j) + cond (eqb (g .txnNumber) j) 1 0 ≡ timesOf (put (g .txnNumber) passed e j)
       pick j true q =
-          let f : j ≡ g .number = eqb-true j (g .number) q in
+          let f : j ≡ g .txnNumber = eqb-true j (g .txnNumber) q in
           let one : timesOf passed ≡ 1 = unfold timesOf in refl in
-          ap₂ (λ (a : ℕ) (b : Bool). a + cond b 1 0) (ap (λ (i : ℕ). timesOf (e i)) f ∙ times-going (e (g .number)) h) (eq-eqb (g .number) j (sym f))
-          ∙ sym (ap (λ (i : ℕ). timesOf (put (g .number) passed e i)) f ∙ ap timesOf (put-same (g .number) passed e) ∙ one)
+          ap₂ (λ (a : ℕ) (b : Bool). a + cond b 1 0) (ap (λ (i : ℕ). timesOf (e i)) f ∙ times-going (e (g .txnNumber)) h)
+          (eq-eqb (g .txnNumber) j (sym f))
+          ∙ sym (ap (λ (i : ℕ). timesOf (put (g .txnNumber) passed e i)) f ∙ ap timesOf (put-same (g .txnNumber) passed e) ∙ one)
       pick j false q =
-          let f : j ≡ g .number → ⊥ = eqb-false j (g .number) q in
+          let f : j ≡ g .txnNumber → ⊥ = eqb-false j (g .txnNumber) q in
           let z : timesOf (e j) + 0 ≡ timesOf (e j) = omega arith in
-          ap (λ (b : Bool). timesOf (e j) + cond b 1 0) (ne-eqb (g .number) j (λ r. f (sym r))) ∙ z
-          ∙ sym (ap timesOf (put-other (g .number) passed e j f))
+          ap (λ (b : Bool). timesOf (e j) + cond b 1 0) (ne-eqb (g .txnNumber) j (λ r. f (sym r))) ∙ z
+          ∙ sym (ap timesOf (put-other (g .txnNumber) passed e j f))
 
 -- ---- the laws
 
-module _ (p₀ : Plain) (bytes : List ℕ) (minute : ℕ) (x : Scripts) (few : x .count ≤ 8) (short : (k : ℕ) → k < x .count → x .script k .count ≤ 16) where
+module _ (p₀ : Plain) (bytes : List ℕ) (minute : ℕ) (x : Scripts) (few : x .count ≤ 8)
+    (short : (k : ℕ) → k < x .count → x .script k .count ≤ 16) where
   abbrev slotAfter : ℕ → List Call → Slot
   slotAfter k cs = plainAfter cs p₀ .slots k
 
@@ -326,7 +337,8 @@ module _ (p₀ : Plain) (bytes : List ℕ) (minute : ℕ) (x : Scripts) (few : x
   beyond-quiet k c cs l q h j m = then-slot j c cs _ (same-quiet k (plainAfter cs p₀) j (λ f. omega arith) c q ∙ h j m)
 
   beyond-commit : (k : ℕ) (cs : List Call) → k < x .count
-      → ((j : ℕ) → x .count ≤ j → slotAfter j cs ≡ closed) → (j : ℕ) → x .count ≤ j → slotAfter j (cs ++ (commit k minute ∷ [])) ≡ closed
+      → ((j : ℕ) → x .count ≤ j → slotAfter j cs ≡ closed) → (j : ℕ) → x .count ≤ j
+      → slotAfter j (cs ++ (commit k minute ∷ [])) ≡ closed
   beyond-commit k cs l h j m = then-slot j (commit k minute) cs _ (same-other-commit k (plainAfter cs p₀) j (λ f. omega arith) minute ∙ h j m)
 
   quiet-serial : (k : ℕ) (c : Call) (cs : List Call) → Quiet k c → serialOf (cs ++ (c ∷ [])) p₀ ≡ serialOf cs p₀
@@ -343,22 +355,24 @@ module _ (p₀ : Plain) (bytes : List ℕ) (minute : ℕ) (x : Scripts) (few : x
       }
 
   kept-fails : (k n : ℕ) (cs : List Call) (e : ℕ → End) → goesOn (e k) ≡ true → Kept cs e → Kept cs (put k (failed n) e)
-  kept-fails k n cs e h g = record { granted = granted-failed bytes minute x (withWindows freshWindows p₀) (serialOf cs p₀) e k n h (g .granted); beyond = g .beyond }
+  kept-fails k n cs e h g = record
+      { granted = granted-failed bytes minute x (withWindows freshWindows p₀) (serialOf cs p₀) e k n h (g .granted); beyond = g .beyond }
 
   -- The serial order after a Commit.
-  commit-serial : (k : ℕ) (cs : List Call) (gs : List Grant) → grantedBy k minute (plainAfter cs p₀) ≡ gs
+  commit-serial : (k : ℕ) (cs : List Call) (gs : List Grant)
+      → grantedBy k minute (plainReply p₀ (commit k minute) cs .answer) (plainAfter cs p₀ .slots k) ≡ gs
       → serialOf (cs ++ (commit k minute ∷ [])) p₀ ≡ adding gs (serialOf cs p₀)
   unfolding serialBy
   commit-serial k cs gs e = serial-one cs (commit k minute) p₀ ∙ ap (λ (hs : List Grant). adding hs (serialOf cs p₀)) e
 
   kept-not : (k n : ℕ) (cs : List Call) (e : ℕ → End) → k < x .count → refusalIn (plainReply p₀ (commit k minute) cs .answer) ≡ suc n
       → Kept cs e → Kept (cs ++ (commit k minute ∷ [])) e
-  unfolding adding grantedBy
+  unfolding adding
   kept-not k n cs e l f h =
       record {
         granted =
             subst⁻¹ (λ (s : Serial). Granted bytes minute x (withWindows freshWindows p₀) s e)
-            (commit-serial k cs [] (not-granted k p₀ (plainReply p₀ (commit k minute) cs .answer) n _ f)) (h .granted);
+            (commit-serial k cs [] (not-granted k p₀ minute (plainReply p₀ (commit k minute) cs .answer) n _ f)) (h .granted);
         beyond = beyond-commit k cs l (h .beyond);
       }
 
@@ -366,12 +380,13 @@ module _ (p₀ : Plain) (bytes : List ℕ) (minute : ℕ) (x : Scripts) (few : x
       → refusalIn (plainReply p₀ (commit k minute) cs .answer) ≡ 0 → goesOn (e k) ≡ true
       → Kept cs e → Kept (cs ++ (commit k minute ∷ [])) (put k passed e)
   kept-one k cs e l g f h old =
-      let one : Grant = record { number = k; minute = minute; calls = g .0 .calls } in
+      let one : Grant = record { txnNumber = k; minute = minute; calls = g .0 .calls } in
       record {
         granted =
             subst⁻¹ (λ (s : Serial). Granted bytes minute x (withWindows freshWindows p₀) s (put k passed e))
-            (commit-serial k cs (one ∷ []) (granted-one k (plainAfter cs p₀) (small k l) minute (g .0) (g .1) f))
-            (granted-passed bytes minute x (withWindows freshWindows p₀) (serialOf cs p₀) e one (record { small = l; atMinute = refl; calls = g .2 }) h (old .granted));
+            (commit-serial k cs (one ∷ []) (granted-one k (plainAfter cs p₀) minute (small k l) (g .0) (g .1) f))
+            (granted-passed bytes minute x (withWindows freshWindows p₀) (serialOf cs p₀) e one
+            (record { small = l; atMinute = refl; calls = g .2 }) h (old .granted));
         beyond = beyond-commit k cs l (old .beyond);
       }
 
@@ -415,7 +430,8 @@ module _ (p₀ : Plain) (bytes : List ℕ) (minute : ℕ) (x : Scripts) (few : x
               g .0,
               then-slot k (commit k minute) cs _
                   (ap (λ (τ : PlainTurn). τ .after .slots k) (c .1)
-                  ∙ ap (λ (p : Plain). p .slots k) (committed-left k (plainAfter cs p₀) (g .0) (c .0) n (sym (ap (λ (τ : PlainTurn). refusalIn (τ .reply .answer)) (c .1)) ∙ e) f)
+                  ∙ ap (λ (p : Plain). p .slots k)
+                  (committed-left k (plainAfter cs p₀) (g .0) (c .0) n (sym (ap (λ (τ : PlainTurn). refusalIn (τ .reply .answer)) (c .1)) ∙ e) f)
                   ∙ g .1),
               g .2,
             );
@@ -436,7 +452,7 @@ module _ (p₀ : Plain) (bytes : List ℕ) (minute : ℕ) (x : Scripts) (few : x
 
   pub plain-rests : (reader : List ℕ) → ((j : ℕ) → p₀ .slots j ≡ closed)
       → AtRest (plainReply p₀) bytes minute x plain-laws (nothingDone reader)
-  unfolding plain-laws plainAfter serialOf serialFrom timesIn timesOf
+  unfolding plain-laws serialOf serialFrom timesIn timesOf afterAll
   plain-rests reader h =
       record {
         below = λ j l. h j;

@@ -15,7 +15,9 @@ use Rattle.rules.specs.Steps.{Stepped, refuse, accept, step}
 use Rattle.rules.specs.Commits.{Setting, commitRefusal}
 use Rattle.rules.proofs.Serial.Rerun.{put-same}
 use Rattle.rules.proofs.Serial.Invariant.{put-other}
-use Rattle.rules.proofs.Serial.Sighted.{Held, Seat, vacant, held, Sighted, SightedTurn, turnedAway, withSeat, telling, sightedBegin, sightedStepped, sightedOn, touch, granting, sightedCommitted, sightedCommit, sightedAbort, seated, sightedCall, sightedAfter, sightedReplies}
+use Rattle.rules.proofs.Serial.Sighted.{Held, Seat, vacant, held, Sighted, SightedTurn, turnedAway, withSeat, telling, sightedBegin}
+use Rattle.rules.proofs.Serial.Sighted.{sightedStepped, sightedOn, touch, granting, sightedCommitted, sightedCommit, sightedAbort, seated}
+use Rattle.rules.proofs.Serial.Sighted.{sightedCall, sightedAfter, sightedReplies}
 use Rattle.rules.proofs.Demand3.Answers.{IsAnswer, Right, right-step, OfStep, Plainly, plain-step}
 use Rattle.rules.proofs.Serial.Programs.{not-turned-back}
 use Rattle.rounds.specs.Rounds.{Scripts, End, unfinished, passed, failed, Work, nothingDone, refusalIn}
@@ -317,7 +319,11 @@ module _ (s₀ : Sighted) (bytes : List ℕ) (minute : ℕ) (x : Scripts) (few :
   kept-answer : (c : Call) (cs : List Call) (e : ℕ → End) → MayBe (refusalIn (sightedReply s₀ c cs .answer)) → Kept cs e
       → Kept (cs ++ (c ∷ [])) e
   kept-answer c cs e h old =
-      record { ends = old .ends; answers = subst⁻¹ Answered (replies-one cs c s₀) (answered-more (sightedReplies cs s₀) (sightedReply s₀ c cs) (old .answers) h) }
+      record {
+        ends = old .ends;
+        answers = subst⁻¹ Answered (replies-one cs c s₀)
+            (answered-more (sightedReplies cs s₀) (sightedReply s₀ c cs) (old .answers) h);
+      }
 
   kept-end : (k n : ℕ) (c : Call) (cs : List Call) (e : ℕ → End) → refusalIn (sightedReply s₀ c cs .answer) ≡ suc n → EndsScript (suc n)
       → Kept cs e → Kept (cs ++ (c ∷ [])) (put k (failed (suc n)) e)
@@ -334,7 +340,8 @@ module _ (s₀ : Sighted) (bytes : List ℕ) (minute : ℕ) (x : Scripts) (few :
         kept = Kept;
         begun = λ k cs l e. let b = begin-seat k (sightedAfter cs s₀) (small k l) e in (b .0, then-seat k (begin k) cs _ (b .1), b .2);
         accepted = λ k i reader cs l m g e.
-            ⊎-elim (λ f. absurd (f .0 e)) (λ f. (f .1, then-seat k _ cs _ (f .2), f .3 ∙ g .2)) (served-call k (sightedAfter cs s₀) (small k l) _ (g .0) (g .1));
+            ⊎-elim (λ f. absurd (f .0 e)) (λ f. (f .1, then-seat k _ cs _ (f .2), f .3 ∙ g .2))
+            (served-call k (sightedAfter cs s₀) (small k l) _ (g .0) (g .1));
         turnedDown = λ k i n o cs l g e.
             ⊎-elim (λ f. (g .0, then-seat k _ cs _ (ap (λ (s : Sighted). s .seats k) (f .1) ∙ g .1), g .2)) (λ f. absurd (omega (arith, e, f .0)))
             (served-call k (sightedAfter cs s₀) (small k l) o (g .0) (g .1));
@@ -349,7 +356,8 @@ module _ (s₀ : Sighted) (bytes : List ℕ) (minute : ℕ) (x : Scripts) (few :
               g .0,
               then-seat k (commit k minute) cs _
                   (ap (λ (τ : SightedTurn). τ .after .seats k) (c .3)
-                  ∙ ap (λ (s : Sighted). s .seats k) (committed-left k (sightedAfter cs s₀) (g .0) _ n (sym (ap (λ (τ : SightedTurn). refusalIn (τ .reply .answer)) (c .3)) ∙ e) f)
+                  ∙ ap (λ (s : Sighted). s .seats k)
+                  (committed-left k (sightedAfter cs s₀) (g .0) _ n (sym (ap (λ (τ : SightedTurn). refusalIn (τ .reply .answer)) (c .3)) ∙ e) f)
                   ∙ g .1),
               tt,
             );
@@ -372,7 +380,8 @@ module _ (s₀ : Sighted) (bytes : List ℕ) (minute : ℕ) (x : Scripts) (few :
         kept-refused = λ k n cs e l g f d h.
             let c = commit-call k (sightedAfter cs s₀) (small k l) minute (g .0) (g .1) in
             kept-end k n (commit k minute) cs e f
-            (committed-refused k (sightedAfter cs s₀) (g .0) (c .0) (g .0 .stale) (c .1) (c .2) n (sym (ap (λ (τ : SightedTurn). refusalIn (τ .reply .answer)) (c .3)) ∙ f) d);
+            (committed-refused k (sightedAfter cs s₀) (g .0) (c .0) (g .0 .stale) (c .1) (c .2) n
+            (sym (ap (λ (τ : SightedTurn). refusalIn (τ .reply .answer)) (c .3)) ∙ f) d);
       }
     where
       ended : (k : ℕ) (cs : List Call) → k < x .count → Open any k cs
@@ -392,7 +401,8 @@ module _ (s₀ : Sighted) (bytes : List ℕ) (minute : ℕ) (x : Scripts) (few :
   sighted-first k cs l g e =
       let c = commit-call k (sightedAfter cs s₀) (small k l) minute (g .0) (g .1) in
       committed-first k (sightedAfter cs s₀) (g .0) (c .0) (c .1) (c .2)
-      (sym (ap (λ (τ : SightedTurn). refusalIn (τ .reply .answer)) (c .3 ∙ ap (λ (b : Bool). sightedCommitted k (g .0) (sightedAfter cs s₀) (commitRefusal (c .0) b (c .1) (c .2))) (g .2))) ∙ e)
+      (sym (ap (λ (τ : SightedTurn). refusalIn (τ .reply .answer))
+      (c .3 ∙ ap (λ (b : Bool). sightedCommitted k (g .0) (sightedAfter cs s₀) (commitRefusal (c .0) b (c .1) (c .2))) (g .2))) ∙ e)
 
   pub sighted-rests : (reader : List ℕ) → ((j : ℕ) → s₀ .seats j ≡ vacant)
       → AtRest (sightedReply s₀) bytes minute x sighted-laws (nothingDone reader)

@@ -12,7 +12,9 @@ use Rattle.rules.specs.Messages.{Op, Call, begin, on, commit, abort, Reply}
 use Rattle.rules.specs.Transactions.{put}
 use Rattle.rules.proofs.Serial.Rerun.{put-same}
 use Rattle.rules.proofs.Serial.Invariant.{put-other}
-use Rattle.rounds.specs.Rounds.{Scripts, End, passed, failed, goesOn, Work, withEnd, withReader, withCommit, withCall, refusalIn, failing, orFailing, decided, opOf, begins, perform, turn, turns, passes, commitOne, commitAll, round, rounds}
+use Rattle.rounds.specs.Rounds.{Scripts, End, passed, failed, goesOn, Work, withEnd, withReader, withCommit, withCall, refusalIn}
+use Rattle.rounds.specs.Rounds.{failing, orFailing, decided, opOf, begins, perform, turn, turns, passes, commitOne, commitAll, round}
+use Rattle.rounds.specs.Rounds.{rounds}
 
 -- The calls of transaction k that grant nothing.
 pub data Quiet (k : ℕ) : Call → Type 0 where
@@ -171,7 +173,8 @@ module _ (replyTo : Call → List Call → Reply) (bytes : List ℕ) (minute : �
 
   -- ---- a call
 
-  module _ (i k : ℕ) (w : Work) (l : k < x .count) (s : Sides (Given (suc i)) (Given i) k w) (e : goesOn (w .ends k) ≡ true) (m : i < x .script k .count) where
+  module _ (i k : ℕ) (w : Work) (l : k < x .count) (s : Sides (Given (suc i)) (Given i) k w) (e : goesOn (w .ends k) ≡ true)
+      (m : i < x .script k .count) where
     abbrev asked : Call
     asked = on k (opOf bytes (w .reader) (x .script k .call i))
 
@@ -269,7 +272,8 @@ module _ (replyTo : Call → List Call → Reply) (bytes : List ℕ) (minute : �
   commit-step k w l s = pick (goesOn (w .ends k)) refl
     where
       pick : (b : Bool) → goesOn (w .ends k) ≡ b
-          → Sides Rest Ready (suc k) (cond b (decided k (refusalIn (replyTo (commit k minute) (w .made) .answer)) (withCommit (withCall (commit k minute) w))) w)
+          → Sides Rest Ready (suc k)
+          (cond b (decided k (refusalIn (replyTo (commit k minute) (w .made) .answer)) (withCommit (withCall (commit k minute) w))) w)
       pick true e = decided-sides k w l s e _ refl
       pick false e = sides-same Rest Ready k w s (subst (λ (b : Bool). Ready b k (w .made)) e (s .above k (omega arith) l))
 

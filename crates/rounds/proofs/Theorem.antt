@@ -29,7 +29,9 @@ use Rattle.rules.proofs.Demand3.Theorem.{calls-agree}
 use Rattle.rules.proofs.Demand3.Age.{at-rest-sound, resting-start, resting-holds}
 use Rattle.laws.proofs.Shapes.{shaped}
 use Rattle.rounds.specs.Rounds.{Scripts, scriptIn, scriptsIn, failed, goesOn, Work, nothingDone, rounds, dispatched}
-use Rattle.rounds.specs.Dispatch.{storeReply, plainReply, onStore, onPlain, Dispatched, reported, notStarted, dispatch, plainDispatch, Demand1Dispatched, IsDispatchRefusal, EndsScript, Answered, Dispatches, plainOf, DispatchHolds, DispatchHoldsAtRest, FewCommits, SameDispatch}
+use Rattle.rounds.specs.Dispatch.{storeReply, plainReply, onStore, onPlain, Dispatched, reported, notStarted, dispatch, plainDispatch}
+use Rattle.rounds.specs.Dispatch.{Demand1Dispatched, IsDispatchRefusal, EndsScript, Answered, Dispatches, plainOf, DispatchHolds}
+use Rattle.rounds.specs.Dispatch.{DispatchHoldsAtRest, FewCommits, SameDispatch}
 use Rattle.rounds.proofs.Follows.{sightedReply, store-sighted, store-plain, twins-after, Resting, resting-twins}
 use Rattle.rounds.proofs.Phases.{Laws, AtRest as Rests, rounds-rest}
 use Rattle.rounds.proofs.Counting.{rounds-over, rounds-few, rounds-stop}

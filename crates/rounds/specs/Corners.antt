@@ -41,8 +41,8 @@ told cs minute xs =
     gives (r .refusal) (tabulate (r .ends) (length xs)) (r .commits) (r .reader)
 
 -- The first n bytes of file 0 after it.
-unfoldable pub left : List (List ScriptCall) → ℕ → List ℕ
-left xs n = beginning (plainDispatch bytes 0 (scriptsOf xs) freshNumbered reader .after .committed .value) 0 n
+unfoldable pub bytesLeft : List (List ScriptCall) → ℕ → List ℕ
+bytesLeft xs n = beginning (plainDispatch bytes 0 (scriptsOf xs) freshNumbered reader .after .committed .value) 0 n
 
 -- Asks for the pointer of descriptor 0, and writes byte i of the three there.
 unfoldable pub appends : ℕ → List ScriptCall
@@ -64,7 +64,7 @@ pub record Corners : Type 0 where
   -- "so at most 36 commits for eight": as many, where they are eight such.
   pub mostCommits : told [] 0 (replicate 8 (appends 0)) ≡ gives 0 (replicate 8 passed) 36 reader
   -- "in grant order"
-  pub inOrder : left (appends 0 ∷ appends 1 ∷ appends 2 ∷ []) 4 ≡ A ∷ B ∷ C ∷ 0 ∷ []
+  pub inOrder : bytesLeft (appends 0 ∷ appends 1 ∷ appends 2 ∷ []) 4 ≡ A ∷ B ∷ C ∷ 0 ∷ []
   -- No scripts: no round. A script without calls commits.
   pub noScript : told [] 0 [] ≡ gives 0 [] 0 reader
   pub noCall : told [] 0 ([] ∷ []) ≡ gives 0 (passed ∷ []) 1 reader
@@ -73,7 +73,7 @@ pub record Corners : Type 0 where
       told [] 0 ((asks 16 ∷ []) ∷ (seeks 0 4097 ∷ []) ∷ (reads 0 4 ∷ []) ∷ appends 0 ∷ [])
       ≡ gives 0 (failed 6 ∷ failed 8 ∷ failed 7 ∷ passed ∷ []) 1 reader
   -- .. "aborting it if still open": its write does not land.
-  pub aborted : left ((writes 0 1 1 ∷ asks 16 ∷ []) ∷ appends 0 ∷ []) 2 ≡ A ∷ 0 ∷ []
+  pub aborted : bytesLeft ((writes 0 1 1 ∷ asks 16 ∷ []) ∷ appends 0 ∷ []) 2 ≡ A ∷ 0 ∷ []
   -- At Commit: 12, by the offset that the first one set.
   pub atCommit : told [] 0 ((seeks 0 4096 ∷ []) ∷ adds ∷ []) ≡ gives 0 (passed ∷ failed 12 ∷ []) 2 reader
   -- F-11: 21 for a closed file; "22 when a minute is above 1,439, .. also in each of the dispatcher's".

@@ -18,6 +18,7 @@ use Rattle.rules.specs.Promises.{machineOf}
 use Rattle.rules.specs.Plain.{Accepted, Plain, startPlain, withWindows, noneRunning, plainCall, plainAfter}
 use Rattle.rules.specs.Grants.{Grant, serialOf}
 use Rattle.rules.specs.Demand3.{Holds}
+use Rattle.rules.specs.Demand3OfStore.{theStore}
 use Rattle.rules.specs.Age.{AtRest, earlierIn}
 use Rattle.rounds.specs.Rounds.{Scripts, scriptsIn, End, unfinished, passed, failed, goesOn, Work, nothingDone, refusalIn, opOf}
 use Rattle.rounds.specs.Rounds.{rounds, dispatched}
@@ -96,11 +97,11 @@ bare (read d n buffer) = read d n []
 
 -- A grant is script k's: it has the number k, the minute, and all calls of the script, in order.
 pub record IsScript (bytes : List ℕ) (minute : ℕ) (x : Scripts) (g : Grant) : Type 0 where
-  pub small : g .number < x .count
+  pub small : g .txnNumber < x .count
   pub atMinute : g .minute ≡ minute
   pub calls :
       map (λ (a : Accepted). bare (a .op)) (g .calls)
-      ≡ tabulate (λ i. opOf bytes [] (x .script (g .number) .call i)) (x .script (g .number) .count)
+      ≡ tabulate (λ i. opOf bytes [] (x .script (g .txnNumber) .call i)) (x .script (g .txnNumber) .count)
 
 pub data EveryScript (bytes : List ℕ) (minute : ℕ) (x : Scripts) : List Grant → Type 0 where
   none : EveryScript bytes minute x []
@@ -109,7 +110,7 @@ pub data EveryScript (bytes : List ℕ) (minute : ℕ) (x : Scripts) : List Gran
 -- How many of these grants have number k; and how many a script with this end is to have.
 unfoldable pub timesIn : ℕ → List Grant → ℕ
 timesIn k [] = 0
-timesIn k (g ∷ gs) = cond (eqb (g .number) k) 1 0 + timesIn k gs
+timesIn k (g ∷ gs) = cond (eqb (g .txnNumber) k) 1 0 + timesIn k gs
 
 unfoldable pub timesOf : End → ℕ
 timesOf unfinished = 0
@@ -147,7 +148,7 @@ module _ (bytes : List ℕ) (minute : ℕ) (x : Scripts) (m : Machine) (p : Plai
     pub same : work ≡ onPlain bytes minute x p reader
     -- "The committed files, offsets and lengths after it are those of the granted scripts alone in grant order": demand 3 of that list of
     -- calls, from what the dispatcher found (F-11: "the serial order runs with Fresh's windows"), whatever that holds to take back.
-    pub serial : Holds m p (work .made) (callsAfter (work .made) m) (plainAfter (work .made) p)
+    pub serial : Holds theStore m p (work .made) (callsAfter (work .made) m) (plainAfter (work .made) p)
     pub start : serialOf (work .made) p .start ≡ withWindows freshWindows p
     -- Its grants are the scripts that were granted, each once, at the minute and with all its calls.
     pub scripts : EveryScript bytes minute x grants

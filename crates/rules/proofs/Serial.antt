@@ -17,4 +17,5 @@ pub mod Shut
 pub mod Sighted
 pub mod Sound
 pub mod Starts
+pub mod Steady
 pub mod Theorem

@@ -7,11 +7,12 @@ use Prim.Native.Nat.{ℕ, _≤_}
 use Rattle.record.specs.State.{transaction, withOffsets, withLengths, withWindows, withUndo, windowAt}
 use Rattle.record.specs.Journal.{grantStretch, writeRecordAt, withRecords}
 use Rattle.rules.specs.Messages.{Call}
-use Rattle.rules.specs.Machine.{Machine, withStore, withJournal, withFiles, fileOf, values}
+use Rattle.rules.specs.Machine.{Machine, withStore, withJournal, withFiles, withLogs, withMarking, fileOf, values}
 use Rattle.rules.specs.Undo.{takenBack}
 use Rattle.rules.specs.Calls.{freshStore, freshMachine, callsAfter, callsReplies}
 use Rattle.rules.specs.Plain.{Earlier, nothing, found, startPlain, plainAfter}
-use Rattle.rules.specs.Demand3.{FreshlyMade, Holds}
+use Rattle.rules.specs.Demand3.{Holds}
+use Rattle.rules.specs.Demand3OfStore.{FreshlyMade, theStore}
 
 -- A store that calls have led to from a fresh one, however many, and in which nothing is open now.
 pub record AtRest (m : Machine) : Type 0 where
@@ -48,10 +49,17 @@ pub record Alike (cs : List Call) (m n : Machine) : Type 0 where
 abbrev pub Ageless : Type 0
 Ageless = (m : Machine) → AtRest m → (logs : List ℕ) → length logs ≡ 32768 → (cs : List Call) → Alike cs m (rejuvenated m logs)
 
+-- To keep a store at rest while its program is down, the record, the files and the bytes on which the last grant landed are enough: with any
+-- other logs and marks of their length it answers alike.
+abbrev pub Reloads : Type 0
+Reloads =
+    (m : Machine) → AtRest m → (logs marks : List ℕ) → length logs ≡ 32768 → length marks ≡ 32768
+    → (cs : List Call) → Alike cs m (withLogs logs (withMarking marks m))
+
 -- Demand 3 from any store at rest, Fresh's being one: the plain machine starts with what is committed there, with the windows, and with
 -- what the store would go back to.
 abbrev pub Demand3AtRest : Type 0
 Demand3AtRest =
     (m : Machine) → AtRest m → (cs : List Call)
     → let p = startPlain (fileOf (m .store)) (values (m .store) (m .files)) (windowAt (m .store)) (earlierIn m) in
-    Holds m p cs (callsAfter cs m) (plainAfter cs p)
+    Holds theStore m p cs (callsAfter cs m) (plainAfter cs p)

@@ -8,7 +8,7 @@ use Rattle.orders.specs.Orders.{triedOf, factorial, Arranges, Earliest}
 use Rattle.rules.specs.Messages.{Call, commit, bestOrder, grantsAmong}
 use Rattle.rules.specs.Machine.{Machine}
 use Rattle.rules.specs.Calls.{call, callsAfter, callsReplies}
-use Rattle.rules.specs.Demand3.{FreshlyMade}
+use Rattle.rules.specs.Demand3OfStore.{FreshlyMade}
 
 -- The Commits of an order at the minute, and how many of them are granted, made one after the other: "how many grants Commit would give
 -- in it".

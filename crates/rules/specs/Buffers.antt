@@ -1,32 +1,21 @@
 -- Which calls touch which buffer and the files of descriptors, on any record and any buffers; and whose marks a call leaves, in every store reached from Fresh.
 use mathlib.Core.Bool.{false}
-use mathlib.Core.List.{List, [], _∷_}
+use mathlib.Core.List.{List}
 use mathlib.Core.Path.{_≡_}
 use Prim.Native.Nat.{ℕ}
 use Rattle.octets.specs.Marks.{hasMark}
 use Rattle.record.specs.declared.outcomes.Refusal.the-variants.{Stale}
 use Rattle.record.specs.Paper.{number, plain, granted, refused}
-use Rattle.record.specs.State.{transaction, begun, withLengthmarks, withTransactions}
+use Rattle.record.specs.State.{transaction, begun}
 use Rattle.rules.specs.Messages.{write, read, Call, begin, on, commit, abort, takeBack}
-use Rattle.rules.specs.Machine.{Machine, lent}
-use Rattle.rules.specs.Calls.{freshStore, fresh, call, callsAfter}
-use Rattle.rules.specs.Demand3.{FreshlyMade}
+use Rattle.rules.specs.Machine.{Machine}
+use Rattle.rules.specs.Calls.{fresh, call, callsAfter}
+use Rattle.rules.specs.Demand3OfStore.{FreshlyMade}
 
 -- Transaction t has no mark, and has sighted no length.
 pub record Unmarked (t : ℕ) (m : Machine) : Type 0 where
   pub bytes : (q : ℕ) → hasMark (m .marks) t q ≡ false
   pub lengths : transaction (m .store) t .lengthmarks ≡ 0
-
--- Not so where byte 3 is marked, and not where a length is.
-unfoldable pub marksThree : Machine
-marksThree = lent (freshStore []) [] [] [] (8 ∷ []) []
-
-unfoldable pub marksLength : Machine
-marksLength = lent (withTransactions (withLengthmarks 1 begun ∷ []) (freshStore [])) [] [] [] [] []
-
-pub record UnmarkedTells : Type 0 where
-  pub byte : Unmarked 0 marksThree → ⊥
-  pub length : Unmarked 0 marksLength → ⊥
 
 pub record Buffers (m : Machine) : Type 0 where
   -- "A Write puts its bytes in its log directly after the data used. No other call touches a log byte."

@@ -13,7 +13,7 @@ use Rattle.record.specs.declared.Store.{Store}
 use Rattle.record.specs.declared.Transaction.{Transaction}
 use Rattle.record.specs.declared.outcomes.Refusal.the-variants.{Stale}
 use Rattle.record.specs.State.{transaction, standingAt, windowAt, ended, begun, withStale, noUndo}
-use Rattle.record.specs.State.{withOffsets, withLengths, withWindows, withTransactions, withTransaction}
+use Rattle.record.specs.State.{withWindows, withTransaction}
 use Rattle.record.specs.Paper.{number, Said, plain, granted, refused}
 use Rattle.ranges.specs.Below.{guarded, isNone}
 use Rattle.ranges.specs.Ranges.{firstTests, admission, admissionOfBegin, admissionOfFresh, admissionOfWindow, admissionOfTakingBack}
@@ -27,7 +27,8 @@ use Rattle.rules.specs.Windows.{forClosed}
 use Rattle.rules.specs.Ordering.{grantsIn, hasUnplaced, Asked, orderReply}
 use Rattle.rules.specs.Commits.{Setting, settings, fits, commitRefusal}
 use Rattle.rules.specs.Messages.{Call, begin, on, commit, abort, places, setWindow, takeBack, bestOrder, Reply}
-use Rattle.rules.specs.Machine.{Machine, lent, withStore, withJournal, withFiles, withLogs, withMarking, sizes}
+use Rattle.rules.specs.Messages.{Answering, repliesTo, afterAll}
+use Rattle.rules.specs.Machine.{Machine, lent, withStore, withMarking, sizes}
 use Rattle.rules.specs.Machine.{fileOf, values, txnOf, withTxn, journalled}
 use Rattle.rules.specs.Undo.{keepingFound, takenBack}
 
@@ -36,8 +37,8 @@ pub record Turn : Type 0 where
   pub reply : Reply
   pub after : Machine
 
-unfoldable pub answer : Said → Machine → Turn
-answer a m = record { reply = record { answer = a; buffer = [] }; after = m }
+unfoldable pub answerWith : Said → Machine → Turn
+answerWith a m = record { reply = record { answer = a; buffer = [] }; after = m }
 
 -- A refusal leaves "everything", the reader's buffer too.
 unfoldable pub turnDown : ℕ → List ℕ → Machine → Turn
@@ -67,7 +68,7 @@ freshMachine numbers logs undo = lent (freshStore numbers) (replicate 1728 0) (r
 unfoldable pub fresh : List ℕ → Machine → Turn
 fresh numbers m =
     passing (admissionOfFresh (sizes m) numbers) [] m
-    (answer plain (freshMachine numbers (m .logs) (m .undo)))
+    (answerWith plain (freshMachine numbers (m .logs) (m .undo)))
 
 -- Transaction t replaced, and its marks cleared.
 unfoldable pub reset : ℕ → Transaction → Machine → Machine
@@ -75,12 +76,12 @@ reset t x m = withMarking (withoutMarks t (m .marks)) (withStore (withTransactio
 
 -- "Begin gives an empty log, sixteen Untouched descriptors, no marks, not stale."
 unfoldable pub beginTurn : ℕ → Machine → Turn
-beginTurn t m = answer plain (reset t begun m)
+beginTurn t m = answerWith plain (reset t begun m)
 
 -- "Abort drops log and marks. However it ends, an ended transaction has an empty log, sixteen Untouched descriptors and is not
 -- stale; the log bytes stay."
 unfoldable pub abortTurn : ℕ → Machine → Turn
-abortTurn t m = answer plain (reset t ended m)
+abortTurn t m = answerWith plain (reset t ended m)
 
 -- 02, F-9: "a bit for each file byte in the order of the file buffer", set where transaction t has sighted it: the marks after sightings.
 unfoldable pub marked : ℕ → List Item → List ℕ → List ℕ
@@ -103,10 +104,14 @@ served t o m is (accept y a buffer) =
     record {
       reply = record { answer = a; buffer = buffer };
       after =
-          withStore (withTxn t y is (m .store))
-          (withJournal (journalled t (y .writes) (m .journal))
-          (withLogs (logged t o (m .store) (m .logs))
-          (withMarking (marked t is (m .marks)) m)));
+          record {
+            store = withTxn t y is (m .store);
+            journal = journalled t (y .writes) (m .journal);
+            files = m .files;
+            logs = logged t o (m .store) (m .logs);
+            marks = marked t is (m .marks);
+            undo = m .undo;
+          };
     }
 
 unfoldable pub stepTurn : ℕ → Op → Machine → Turn
@@ -156,34 +161,43 @@ unfoldable pub conflicts : List ℕ → ℕ → Transaction → List Setting →
 conflicts marks u x [] = false
 conflicts marks u x (s ∷ ss) = hasSighted marks u x (s .item) || conflicts marks u x ss
 
--- "Every other open transaction that has sighted a byte or offset just set is stale from then on."
-unfoldable pub staled : List ℕ → List Setting → ℕ → Transaction → Transaction
-staled marks ss u x = withStale (x .stale || (x .begun && conflicts marks u x ss)) x
+-- "Every other open transaction that has sighted a byte or offset just set is stale from then on": whether a granted Commit of t, which sets
+-- ss, makes u stale that was not so before.
+unfoldable pub madeStale : ℕ → List Setting → Machine → ℕ → Bool
+madeStale t ss m u =
+    let x = transaction (m .store) u in
+    not (eqb u t) && x .begun && not (x .stale) && conflicts (m .marks) u x ss
 
--- Transaction u after a granted Commit of t, which ends.
-unfoldable pub afterCommit : ℕ → List ℕ → List Setting → Store → ℕ → Transaction
-afterCommit t marks ss s u = cond (eqb u t) ended (staled marks ss u (transaction s u))
-
--- Those that became "stale by it that were not so before".
-unfoldable pub becomesStale : ℕ → List ℕ → List Setting → Store → ℕ → Bool
-becomesStale t marks ss s u =
-    let x = transaction s u in
-    not (eqb u t) && x .begun && not (x .stale) && conflicts marks u x ss
+-- Transaction u after it; t has ended.
+unfoldable pub afterCommit : ℕ → List Setting → Machine → ℕ → Transaction
+afterCommit t ss m u =
+    let x = transaction (m .store) u in
+    cond (eqb u t) ended (withStale (x .stale || madeStale t ss m u) x)
 
 -- F-4: "an octet with bit t (worth 2 to the power t) for each transaction that this commit made stale and that was not so before"
 unfoldable pub commitGranted : ℕ → Txn → List Setting → Machine → Turn
 commitGranted t x ss m =
     let s = m .store in
-    let n = keepingFound x m in
+    let keeping = keepingFound x m in
     record {
-      reply = record { answer = granted (bitsOf (becomesStale t (m .marks) ss s) 8); buffer = [] };
+      reply = record { answer = granted (bitsOf (madeStale t ss m) 8); buffer = [] };
       after =
-          withStore
-          (withOffsets (landOffsets ss (s .offsets))
-          (withLengths (landLengths ss (s .lengths))
-          (withTransactions (tabulate (afterCommit t (m .marks) ss s) 8) (n .store))))
-          (withFiles (landFiles ss (m .files))
-          (withMarking (withoutMarks t (m .marks)) n));
+          record {
+            store =
+                record {
+                  filenumbers = s .filenumbers;
+                  offsets = landOffsets ss (s .offsets);
+                  lengths = landLengths ss (s .lengths);
+                  windows = s .windows;
+                  undo = keeping .store .undo;
+                  transactions = tabulate (afterCommit t ss m) 8;
+                };
+            journal = keeping .journal;
+            files = landFiles ss (m .files);
+            logs = m .logs;
+            marks = withoutMarks t (m .marks);
+            undo = keeping .undo;
+          };
     }
 
 -- 13: "it ends as at Abort". 12: "everything, the transaction open". F-11: "A Commit refused with 21 or 22 keeps its transaction open."
@@ -210,7 +224,7 @@ commitTurn t minute m =
 -- "Commit answers how many became stale by it that were not so before": the former number. F-4: "The old number is the count of ones in
 -- that octet."
 unfoldable pub formerNumber : ℕ → Machine → ℕ
-formerNumber t m = countOf (becomesStale t (m .marks) (settingsOf m t) (m .store)) 8
+formerNumber t m = countOf (madeStale t (settingsOf m t) m) 8
 
 -- F-1: "A new call lists, for one open transaction and one file, the places its writes cover"; "a new call changes only what its
 -- request says": nothing but the buffer for the list.
@@ -221,16 +235,16 @@ placesTurn t f out m =
 -- 02, F-11: "A call sets a window", and changes nothing else.
 unfoldable pub windowTurn : ℕ → ℕ → ℕ → Machine → Turn
 windowTurn f start end m =
-    answer plain (withStore (withWindows (set (m .store .windows) f (window start end)) (m .store)) m)
+    answerWith plain (withStore (withWindows (set (m .store .windows) f (window start end)) (m .store)) m)
 
 -- The shared tests, 1 to 4, on what a caller lends.
 unfoldable pub admitted : ℕ → List ℕ → Machine → Turn → Turn
 admitted t buffer m next =
     passing (admission (sizes m) (m .store) (m .journal) t) buffer m next
 
--- 02, F-13: the call takes the last grant back, and "a new call changes only what its request says".
+-- 02, F-13: the call takes the last grant back, and as every new call "changes only what its request says" (F-1).
 unfoldable pub takeBackTurn : Machine → Turn
-takeBackTurn m = answer plain (takenBack m)
+takeBackTurn m = answerWith plain (takenBack m)
 
 -- A Commit with its shared tests.
 abbrev pub commitCall : ℕ → ℕ → Machine → Turn
@@ -248,7 +262,7 @@ askedOf minute m =
       grants = λ o. grantsIn (λ t n. commitCall t minute n .reply) (λ t n. commitCall t minute n .after) o m;
     }
 
--- "the store is unchanged"
+-- F-14: "the store is unchanged"
 unfoldable pub orderTurn : List ℕ → ℕ → ℕ → Machine → Turn
 orderTurn ts minute budget m = record { reply = orderReply (askedOf minute m) ts minute budget; after = m }
 
@@ -265,11 +279,12 @@ call (setWindow f start end) m =
 call takeBack m = passing (admissionOfTakingBack (sizes m) (m .store) (m .journal)) [] m (takeBackTurn m)
 call (bestOrder ts minute budget) m = passing (firstTests (sizes m) (m .store) (m .journal) 0) [] m (orderTurn ts minute budget m)
 
--- A list of calls: the store after it, and its replies.
-unfoldable pub callsAfter : List Call → Machine → Machine
-callsAfter [] m = m
-callsAfter (c ∷ cs) m = callsAfter cs (call c m .after)
+abbrev pub storeAnswers : Answering Machine
+storeAnswers = record { reply = λ c m. call c m .reply; next = λ c m. call c m .after }
 
-unfoldable pub callsReplies : List Call → Machine → List Reply
-callsReplies [] m = []
-callsReplies (c ∷ cs) m = call c m .reply ∷ callsReplies cs (call c m .after)
+-- A list of calls: the store after it, and its replies.
+abbrev pub callsAfter : List Call → Machine → Machine
+callsAfter cs m = afterAll storeAnswers cs m
+
+abbrev pub callsReplies : List Call → Machine → List Reply
+callsReplies cs m = repliesTo storeAnswers cs m

@@ -12,7 +12,7 @@ use Rattle.rules.specs.Messages.{Call, commit}
 use Rattle.rules.specs.Commits.{Setting}
 use Rattle.rules.specs.Machine.{Machine}
 use Rattle.rules.specs.Calls.{settingsOf, call, callsAfter}
-use Rattle.rules.specs.Demand3.{FreshlyMade}
+use Rattle.rules.specs.Demand3OfStore.{FreshlyMade}
 
 -- A setting is among those of a list.
 pub data Among (x : Setting) : List Setting → Type 0 where

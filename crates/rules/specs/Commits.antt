@@ -22,14 +22,14 @@ unfoldable pub landsAt : ℕ → Place → ℕ
 landsAt c (At p) = p
 landsAt c (After a) = c + a
 
-unfoldable pub stretch : ℕ → List ℕ → List Setting
-stretch q [] = []
-stretch q (b ∷ bs) = record { item = byte q; to = b } ∷ stretch (suc q) bs
+unfoldable pub bytesFrom : ℕ → List ℕ → List Setting
+bytesFrom q [] = []
+bytesFrom q (b ∷ bs) = record { item = byte q; to = b } ∷ bytesFrom (suc q) bs
 
 unfoldable pub byteSettings : (ℕ → ℕ) → Values → List Write → List Setting
 byteSettings fileOf v [] = []
 byteSettings fileOf v (w ∷ ws) =
-    stretch (4096 * fileOf (w .descriptor) + landsAt (v (offset (w .descriptor))) (w .place)) (w .bytes)
+    bytesFrom (4096 * fileOf (w .descriptor) + landsAt (v (offset (w .descriptor))) (w .place)) (w .bytes)
     ++ byteSettings fileOf v ws
 
 -- "Then the offset of every descriptor not Untouched is set (EndTransaction in the notes)"; 02, F-2: "Commit sets the offset of a
@@ -48,7 +48,7 @@ offsetSettings v x (suc d) =
 unfoldable pub landedEnd : (ℕ → ℕ) → Values → ℕ → List Write → ℕ
 landedEnd fileOf v f ws = farthest fileOf f (λ w. writeEnd (landsAt (v (offset (w .descriptor))) (w .place)) (length (w .bytes))) ws
 
--- "a commit that raises a length sets it", and no other does: the lengths of the first n files.
+-- F-8: "a commit that raises a length sets it", and no other does: the lengths of the first n files.
 unfoldable pub lengthSettings : (ℕ → ℕ) → Values → List Write → ℕ → List Setting
 lengthSettings fileOf v ws zero = []
 lengthSettings fileOf v ws (suc f) =

@@ -21,7 +21,7 @@ use Rattle.rules.specs.Reading.{ownEnd}
 use Rattle.rules.specs.Steps.{Stepped, refuse, accept, step}
 use Rattle.rules.specs.Commits.{settings, fits}
 use Rattle.rules.specs.Machine.{Machine, lent}
-use Rattle.rules.specs.Calls.{freshStore, afterCommit, becomesStale, settingsOf, formerNumber}
+use Rattle.rules.specs.Calls.{freshStore, madeStale, afterCommit, settingsOf, formerNumber}
 use Rattle.rules.specs.Lone.{Lone, lone}
 use Rattle.rules.specs.Setup.{Seen, Exchange, _⇒_, commits, callsOf, Goes, formerNumbers, sighted, committedBytes, beginning}
 use Rattle.rules.specs.Setup.{sightingsOf, gives, refusesWith, lists, begins, A, B, C, X, Y, Z, dot}
@@ -50,7 +50,7 @@ toldStaleFirst =
     ∷ commits 0 ⇒ says (refused 4)
     ∷ []
 
--- "A refusal 12 tells the caller something about an offset and makes no sighting": T1 sights nothing by two of them.
+-- "a refusal 12 tells the caller something about an offset and makes no sighting": T1 sights nothing by two of them.
 unfoldable pub toldRefusedSettling : List Exchange
 toldRefusedSettling =
     begins
@@ -70,7 +70,7 @@ toldUnsighted =
     ∷ commits 1 ⇒ says (granted 0)
     ∷ []
 
--- "It settles every descriptor of d's file that stands Deferred or Moved": 8 stands Moved when T0 reads through 0. "Moved becomes
+-- "it settles every descriptor of d's file that stands Deferred or Moved": 8 stands Moved when T0 reads through 0. "Moved becomes
 -- Known at its own offset."
 unfoldable pub toldMoved : List Exchange
 toldMoved =
@@ -163,7 +163,7 @@ dirtyAfter (accept y a buffer) d = y .dirty d
 unfoldable pub readBeside : Stepped
 readBeside = result (λ i. 0) (step (λ d. 0) (read 1 0 []) (mixed (Deferred 1) false))
 
--- A Write of 0 bytes makes an Untouched descriptor Deferred: "the offset of every descriptor not Untouched is set"; "setting to the
+-- A Write of 0 bytes makes an Untouched descriptor Deferred: "the offset of every descriptor not Untouched is set"; "Setting to the
 -- same value counts".
 unfoldable pub toldWriteNone : List Exchange
 toldWriteNone =
@@ -204,7 +204,7 @@ toldTurnedBack =
     ∷ places 0 3 (replicate 4 dot) ⇒ lists 1 (0 ∷ 7 ∷ 0 ∷ 1 ∷ [])
     ∷ []
 
--- "it stays open until Commit or Abort": T0 is stale by byte 0. "How many became stale by it that were not so before": T2's commit makes no
+-- "it stays open until Commit or Abort": T0 is stale by byte 0. "how many became stale by it that were not so before": T2's commit makes no
 -- other stale.
 unfoldable pub toldStaysOpen : List Exchange
 toldStaysOpen =
@@ -738,7 +738,7 @@ settledByThree =
     lent (withTransactions ts (freshStore [])) [] [] [] [] []
 
 abbrev pub staleAfter : ℕ → Bool
-staleAfter u = afterCommit 0 [] (settingsOf settledByThree 0) (settledByThree .store) u .stale
+staleAfter u = afterCommit 0 (settingsOf settledByThree 0) settledByThree u .stale
 
 -- What situations k and l and the corners come to, together.
 pub record Corners (x : Seen) : Type 0 where
@@ -863,4 +863,4 @@ pub record Corners (x : Seen) : Type 0 where
   -- "Every other open transaction that has sighted .. is stale from then on", and the answer has those "not so before": 7 alone.
   pub threeSettled :
       (staleAfter 0 ≡ false) × (staleAfter 1 ≡ false) × (staleAfter 2 ≡ true) × (staleAfter 3 ≡ false) × (staleAfter 7 ≡ true)
-      × (bitsOf (becomesStale 0 [] (settingsOf settledByThree 0) (settledByThree .store)) 8 ≡ 128) × (formerNumber 0 settledByThree ≡ 1)
+      × (bitsOf (madeStale 0 (settingsOf settledByThree 0) settledByThree) 8 ≡ 128) × (formerNumber 0 settledByThree ≡ 1)

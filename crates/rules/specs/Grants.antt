@@ -1,33 +1,23 @@
 -- The granted transactions of a list of calls, and the list of calls that runs them again alone.
 use mathlib.Core.List.{List, [], _∷_, _++_, map}
+use lib.ListN.{replicate}
 use Prim.Native.Nat.{ℕ}
 use Rattle.windows.specs.Hours.{freshWindows}
 use Rattle.record.specs.Paper.{Said, plain, pointer, given, granted, pairs, ordered, refused}
-use Rattle.rules.specs.Messages.{Call, begin, on, commit, abort, places, setWindow, takeBack, bestOrder, Reply, says}
+use Rattle.rules.specs.Messages.{Call, begin, on, commit, abort, places, setWindow, takeBack, bestOrder, Reply, says, isGrant}
 use Rattle.rules.specs.Plain.{Accepted, Slot, closed, running, Plain, withWindows, plainCall}
 
 -- A granted transaction: its number, its Commit's minute, and "the accepted Seeks, Writes, GetFilePointers and Reads since its Begin".
 pub record Grant : Type 0 where
-  pub number : ℕ
+  pub txnNumber : ℕ
   pub minute : ℕ
   pub calls : List Accepted
 
-unfoldable pub grantAt : ℕ → ℕ → Slot → List Grant
-grantAt t minute closed = []
-grantAt t minute (running r) = record { number = t; minute = minute; calls = r .calls } ∷ []
-
--- "A call is accepted when it returns no refusal; a Commit is then granted."
-unfoldable pub ifGranted : Said → List Grant → List Grant
-ifGranted plain gs = []
-ifGranted (pointer o) gs = []
-ifGranted (given n) gs = []
-ifGranted (granted n) gs = gs
-ifGranted (pairs n) gs = []
-ifGranted (ordered grants gap tried) gs = []
-ifGranted (refused n) gs = []
-
-unfoldable pub grantedBy : ℕ → ℕ → Plain → List Grant
-grantedBy t minute p = ifGranted (plainCall (commit t minute) p .reply .answer) (grantAt t minute (p .slots t))
+-- The grant of t, where its Commit at the minute has the answer of one and the transaction was open; otherwise none. "A call is accepted when
+-- it returns no refusal; a Commit is then granted."
+unfoldable pub grantedBy : ℕ → ℕ → Said → Slot → List Grant
+grantedBy t minute a closed = []
+grantedBy t minute a (running r) = replicate (isGrant a) (record { txnNumber = t; minute = minute; calls = r .calls })
 
 -- What the serial order is made of: the machine that it starts from, and the grants, "in the order of their grants".
 pub record Serial : Type 0 where
@@ -56,7 +46,7 @@ ifDone (pairs n) a b = b
 ifDone (ordered grants gap tried) a b = b
 ifDone (refused n) a b = b
 
--- After one more call, on machine p; and after a list of calls.
+-- With further grants at the end; after one more call, on machine p; and after a list of calls.
 unfoldable pub adding : List Grant → Serial → Serial
 adding [] s = s
 adding (g ∷ gs) s = record { start = s .start; grants = s .grants ++ (g ∷ gs) }
@@ -64,7 +54,7 @@ adding (g ∷ gs) s = record { start = s .start; grants = s .grants ++ (g ∷ gs
 unfoldable pub serialBy : Call → Plain → Serial → Serial
 serialBy (begin t) p s = s
 serialBy (on t o) p s = s
-serialBy (commit t minute) p s = adding (grantedBy t minute p) s
+serialBy (commit t minute) p s = adding (grantedBy t minute (plainCall (commit t minute) p .reply .answer) (p .slots t)) s
 serialBy (abort t) p s = s
 serialBy (places t f out) p s = s
 serialBy (setWindow f start end) p s = s
@@ -82,7 +72,7 @@ serialOf cs p = serialFrom cs p (record { start = withWindows freshWindows p; gr
 -- "the granted ones are run alone from the state of Fresh, in the order of their grants, with their accepted calls and then their
 -- granted Commit, each on what the one before left": a list of calls, in which each is begun when the one before has ended.
 unfoldable pub againOf : Grant → List Call
-againOf g = begin (g .number) ∷ (map (λ a. on (g .number) (a .op)) (g .calls) ++ (commit (g .number) (g .minute) ∷ []))
+againOf g = begin (g .txnNumber) ∷ (map (λ a. on (g .txnNumber) (a .op)) (g .calls) ++ (commit (g .txnNumber) (g .minute) ∷ []))
 
 unfoldable pub rerun : List Grant → List Call
 rerun [] = []

@@ -1,6 +1,6 @@
 -- Corners of requests F-11, F-13 and F-14: each one's calls and the replies expected, in order. They start as the situations do.
 use mathlib.Core.Bool.{true, false}
-use mathlib.Core.List.{List, [], _∷_, _++_}
+use mathlib.Core.List.{List, [], _∷_, _++_, map}
 use mathlib.Core.Path.{_≡_}
 use lib.ListN.{length, replicate}
 use Rattle.standings.specs.declared.Standing.the-variants.{Untouched}
@@ -143,8 +143,8 @@ toldMeanwhile =
     ∷ commit 0 5 ⇒ says (granted 0)
     ∷ []
 
--- "the serial order runs with Fresh's windows": file 0 is closed at the start, is opened, and T0 is granted; run again from the windows
--- found it would be refused with 21.
+-- "the serial order runs with Fresh's windows", and each grant at its minute: file 0 is closed at the start, is opened, and T0 is granted;
+-- run again from the windows found it would be refused with 21.
 unfoldable pub closedAtStart : Plain
 closedAtStart = startPlain (λ d. 0) (λ i. 0) (λ f. window 1 2) nothing
 
@@ -440,7 +440,7 @@ pub record LaterCorners (x : Seen) : Type 0 where
   pub meanwhile : Goes x toldMeanwhile
   pub freshWindows :
       let s = serialOf openedThen closedAtStart in
-      (length (s .grants) ≡ 1) × (plainReplies (rerun (s .grants)) (s .start) ≡ sameReplies (s .grants))
+      (map (λ g. g .minute) (s .grants) ≡ 5 ∷ []) × (plainReplies (rerun (s .grants)) (s .start) ≡ sameReplies (s .grants))
   pub takenBack :
       Goes x toldTakenBack
       × (beginning (x .value (callsOf toldTakenBack)) 0 2 ≡ 0 ∷ 0 ∷ [])

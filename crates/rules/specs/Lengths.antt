@@ -1,26 +1,19 @@
 -- Request F-8, "Files with a length": what holds of the lengths of every store reached from Fresh.
-use mathlib.Core.Bool.{true, cond}
+use mathlib.Core.Bool.{true}
 use mathlib.Core.List.{List}
 use mathlib.Core.Path.{_≡_}
-use lib.Dec.{eqb}
 use Prim.Native.Nat.{ℕ, _+_, _*_, _≤_, _<_}
 use Rattle.record.specs.State.{transaction}
-use Rattle.rules.specs.Items.{byte, offset, fileLength, Values}
+use Rattle.rules.specs.Items.{byte, fileLength, Values}
 use Rattle.rules.specs.Messages.{Call, takeBack}
 use Rattle.rules.specs.Machine.{Machine, values}
 use Rattle.rules.specs.Undo.{takenBack}
 use Rattle.rules.specs.Calls.{call, callsAfter}
-use Rattle.rules.specs.Demand3.{FreshlyMade}
+use Rattle.rules.specs.Demand3OfStore.{FreshlyMade}
 
 -- Beyond its committed length every byte of a file is 0.
 abbrev pub ZeroBeyond : Values → Type 0
 ZeroBeyond v = (f p : ℕ) → f < 8 → v (fileLength f) ≤ p → p < 4096 → v (byte (4096 * f + p)) ≡ 0
-
--- The first byte beyond is one of them: values in which it alone is not 0 are none of these.
-unfoldable pub firstBeyond : Values
-firstBeyond (byte q) = cond (eqb q 3) 1 0
-firstBeyond (offset d) = 0
-firstBeyond (fileLength f) = 3
 
 -- No length is shorter in the second values than in the first.
 abbrev pub Longer : Values → Values → Type 0
@@ -41,11 +34,6 @@ pub record LengthsHold (m : Machine) : Type 0 where
   -- nothing.
   pub grows : (c : Call) → (c ≡ takeBack → ⊥) → Longer (committedIn m) (committedIn (call c m .after))
   pub opened : (t : ℕ) → t ≤ 7 → transaction (m .store) t .begun ≡ true → call takeBack m .after ≡ m
-
--- What these say is false of some values: of those above, and of lengths that shrink.
-pub record LengthsTell : Type 0 where
-  pub beyond : ZeroBeyond firstBeyond → ⊥
-  pub shorter : Longer (λ i. 1) (λ i. 0) → ⊥
 
 abbrev pub LengthsAlwaysHold : Type 0
 LengthsAlwaysHold = (numbers : List ℕ) (m₀ : Machine) → FreshlyMade numbers m₀ → (cs : List Call) → LengthsHold (callsAfter cs m₀)

@@ -16,20 +16,22 @@ pub mod Coverage
 pub mod Windows
 -- The best order to commit in (paper 02, F-14; the orders of a list are orders/specs/Orders.antt).
 pub mod Ordering
+-- The plain machine: sightings with their setters, the lone run, the machine, its grants and their second run; and demand 3, the claim
+-- about a store that is compared with it. Up to here nothing is said of a record or of buffers.
+pub mod Sightings
+pub mod Lone
+pub mod Plain
+pub mod Grants
+pub mod Demand3
 -- The store: the record and its buffers, what a grant keeps and how it goes back (paper 02, F-13), the rules of the twelve calls, and
 -- how promises cite them.
 pub mod Machine
 pub mod Undo
 pub mod Calls
 pub mod Promises
--- The plain machine: sightings with their setters, the lone run, the machine, its grants and their second run.
-pub mod Sightings
-pub mod Lone
-pub mod Plain
-pub mod Grants
--- The statements.
+-- The statements about it.
 pub mod Demand1
-pub mod Demand3
+pub mod Demand3OfStore
 pub mod Age
 pub mod Pairs
 pub mod Buffers
@@ -38,7 +40,8 @@ pub mod Closed
 pub mod Splitting
 pub mod TakingBack
 pub mod BestOrder
--- The situations, and corners of both papers.
+-- What the statements are false of; the situations, and corners of both papers.
+pub mod Counterexamples
 pub mod Setup
 pub mod Situations
 pub mod Corners

@@ -15,7 +15,7 @@ use Rattle.rules.specs.Items.{Item, byte, offset, fileLength, Values}
 use Rattle.rules.specs.Transactions.{Txn, Write}
 use Rattle.rules.specs.Steps.{total}
 
--- The record (store and journal), and "these three, files, logs and marks, are the store buffers; every call takes all three"; 02, F-13:
+-- The record (store and journal), and "These three, files, logs and marks, are the store buffers; every call takes all three"; 02, F-13:
 -- "a fourth store buffer, of 4,096 bytes and lent as the three are".
 pub record Machine : Type 0 where
   pub store : Store

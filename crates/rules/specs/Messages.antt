@@ -50,6 +50,21 @@ pub record Reply : Type 0 where
 abbrev pub says : Said → Reply
 says a = record { answer = a; buffer = [] }
 
+-- What answers calls, S being what it holds: its reply to a call, and what it holds after it. The plain machine does, and so does the store.
+pub record Answering (S : Type 0) : Type 0 where
+  pub reply : Call → S → Reply
+  pub next : Call → S → S
+
+-- A list of calls: the replies, and what is held after it.
+module _ {S : Type 0} (a : Answering S) where
+  unfoldable pub repliesTo : List Call → S → List Reply
+  repliesTo [] s = []
+  repliesTo (c ∷ cs) s = a .reply c s ∷ repliesTo cs (a .next c s)
+
+  unfoldable pub afterAll : List Call → S → S
+  afterAll [] s = s
+  afterAll (c ∷ cs) s = afterAll cs (a .next c s)
+
 -- How many of these replies are grants.
 unfoldable pub isGrant : Said → ℕ
 isGrant plain = 0

@@ -9,7 +9,7 @@ use Rattle.octets.specs.Marks.{byByte, byTransaction, names, rearranged}
 use Rattle.rules.specs.Messages.{Call}
 use Rattle.rules.specs.Machine.{Machine, withMarking}
 use Rattle.rules.specs.Calls.{callsAfter}
-use Rattle.rules.specs.Demand3.{FreshlyMade}
+use Rattle.rules.specs.Demand3OfStore.{FreshlyMade}
 use Rattle.rules.specs.Age.{Alike}
 
 -- These pairs are those that the marks of a store name.

@@ -1,4 +1,4 @@
--- The plain machine of demand 3, as paper 01 words it. "It has no marks and looks at nothing in the store's record or buffers."
+-- The plain machine of demand 3, as paper 01 words it, and what 02's requests add to it. "It has no marks and looks at nothing in the store's record or buffers."
 use mathlib.Core.Bool.{Bool, true, false, cond, not, _&&_, _||_}
 use mathlib.Core.List.{List, [], _∷_, _++_, map}
 use lib.Dec.{leb, eqb}
@@ -10,6 +10,7 @@ use Rattle.record.specs.Paper.{number, Said, plain, granted, refused}
 use Rattle.ranges.specs.Below.{guarded, isNone, below}
 use Rattle.ranges.specs.Ranges.{windowRefusal}
 use Rattle.rules.specs.Messages.{Op, bufferOf, Call, begin, on, commit, abort, places, setWindow, takeBack, bestOrder, Reply}
+use Rattle.rules.specs.Messages.{Answering, repliesTo, afterAll}
 use Rattle.rules.specs.Items.{Values, result, asked}
 use Rattle.rules.specs.Transactions.{Txn, Write, empty, put}
 use Rattle.rules.specs.Steps.{Stepped, refuse, accept, step, turnedBack}
@@ -58,17 +59,14 @@ pub record Plain : Type 0 where
   pub earlier : Earlier
   pub slots : ℕ → Slot
 
+-- A machine of these parts.
+abbrev pub plainWith : (ℕ → ℕ) → Committed → ℕ → Windows → Earlier → (ℕ → Slot) → Plain
+plainWith fileOf c n windows earlier slots =
+    record { fileOf = fileOf; committed = c; grants = n; windows = windows; earlier = earlier; slots = slots }
+
 -- The machine with these committed values, these windows, this to go back to, and nothing open, counting its grants from here on.
 unfoldable pub startPlain : (ℕ → ℕ) → Values → Windows → Earlier → Plain
-startPlain fileOf v windows earlier =
-    record {
-      fileOf = fileOf;
-      committed = record { value = v; setter = λ i. 0 };
-      grants = 0;
-      windows = windows;
-      earlier = earlier;
-      slots = λ t. closed;
-    }
+startPlain fileOf v windows earlier = plainWith fileOf (record { value = v; setter = λ i. 0 }) 0 windows earlier (λ t. closed)
 
 -- "starts with the files, each descriptor's file, the offsets and the setters that an accepted Fresh gives"; 02, F-8: "Lengths join what
 -- the plain machine holds". F-11: "Fresh sets all to 0 and 0."
@@ -78,7 +76,7 @@ freshPlain fileOf = startPlain fileOf (λ i. 0) freshWindows nothing
 unfoldable pub ops : List Accepted → List Op
 ops = map (λ a. a .op)
 
--- "The first list of an open transaction is the sightings that the machine holds for it. The second is the sightings of its
+-- "the first list of an open transaction is the sightings that the machine holds for it. The second is the sightings of its
 -- accepted calls run alone on the committed files, offsets and setters that the machine holds then."
 unfoldable pub firstList : Running → List Entry
 firstList r = r .seen
@@ -95,48 +93,24 @@ pub record PlainTurn : Type 0 where
   pub reply : Reply
   pub after : Plain
 
--- "Any other refused call changes nothing."
+-- "Any other refused call changes nothing".
 unfoldable pub turnedDown : ℕ → List ℕ → Plain → PlainTurn
 turnedDown n buffer p = record { reply = record { answer = refused n; buffer = buffer }; after = p }
 
--- The machine with another transaction as number t, or with what a grant leaves committed.
+-- The machine with another transaction as number t; and after a grant that leaves c committed, one grant more, with what it found kept.
 unfoldable pub withSlot : ℕ → Slot → Plain → Plain
-withSlot t s p =
-    record {
-      fileOf = p .fileOf;
-      committed = p .committed;
-      grants = p .grants;
-      windows = p .windows;
-      earlier = p .earlier;
-      slots = put t s (p .slots);
-    }
+withSlot t s p = plainWith (p .fileOf) (p .committed) (p .grants) (p .windows) (p .earlier) (put t s (p .slots))
 
 abbrev pub withGrant : Committed → Plain → Plain
-withGrant c p =
-    record {
-      fileOf = p .fileOf;
-      committed = c;
-      grants = p .grants + 1;
-      windows = p .windows;
-      earlier = found (p .committed) (p .grants);
-      slots = p .slots;
-    }
+withGrant c p = plainWith (p .fileOf) c (p .grants + 1) (p .windows) (found (p .committed) (p .grants)) (p .slots)
 
 -- 02, F-11: "setting one changes nothing else in it".
 abbrev pub withWindows : Windows → Plain → Plain
-withWindows windows p =
-    record {
-      fileOf = p .fileOf;
-      committed = p .committed;
-      grants = p .grants;
-      windows = windows;
-      earlier = p .earlier;
-      slots = p .slots;
-    }
+withWindows windows p = plainWith (p .fileOf) (p .committed) (p .grants) windows (p .earlier) (p .slots)
 
 -- F-13: "until it goes back to them", "whatever the windows", which stay.
 abbrev pub goneBack : Committed → ℕ → Plain → Plain
-goneBack c n p = record { fileOf = p .fileOf; committed = c; grants = n; windows = p .windows; earlier = nothing; slots = p .slots }
+goneBack c n p = plainWith (p .fileOf) c n (p .windows) nothing (p .slots)
 
 unfoldable pub answering : Said → Plain → PlainTurn
 answering a p = record { reply = record { answer = a; buffer = [] }; after = p }
@@ -157,10 +131,9 @@ plainStepped t o r es p (accept y answer buffer) =
 unfoldable pub plainOn : ℕ → Op → Slot → Plain → PlainTurn
 plainOn t o closed p = turnedDown 4 (bufferOf o) p
 plainOn t o (running r) p =
-    plainStepped t o r
-    (entries (p .committed .setter) (asked (p .committed .value) (step (p .fileOf) o (r .txn))))
-    p
-    (turnedBack (isStale p r) o (result (p .committed .value) (step (p .fileOf) o (r .txn))))
+    let v = p .committed .value in
+    let s = step (p .fileOf) o (r .txn) in
+    plainStepped t o r (entries (p .committed .setter) (asked v s)) p (turnedBack (isStale p r) o (result v s))
 
 -- What a granted Commit leaves, as grant number n: it "lands the writes, sets the offsets and makes the count the setter of all it
 -- set".
@@ -242,7 +215,7 @@ plainTakeBack p = guarded (λ n. turnedDown n [] p) (noneRunning p) 23 (goBack (
 abbrev pub plainCommitCall : ℕ → ℕ → Plain → PlainTurn
 plainCommitCall t minute p = numbered t [] (plainCommit t minute) p
 
--- 02, F-14, "for the plain machine too": it answers from what it holds, and changes nothing.
+-- 02, F-14, "for the plain machine too" (F-1's words): it answers from what it holds, and changes nothing.
 unfoldable pub writesIn : Slot → List Write
 writesIn closed = []
 writesIn (running r) = r .txn .writes
@@ -269,11 +242,12 @@ plainCall (setWindow f start end) p = plainSetWindow f start end p
 plainCall takeBack p = plainTakeBack p
 plainCall (bestOrder ts minute budget) p = plainBestOrder ts minute budget p
 
--- A list of calls: the machine after it, and its replies.
-unfoldable pub plainAfter : List Call → Plain → Plain
-plainAfter [] p = p
-plainAfter (c ∷ cs) p = plainAfter cs (plainCall c p .after)
+abbrev pub plainAnswers : Answering Plain
+plainAnswers = record { reply = λ c p. plainCall c p .reply; next = λ c p. plainCall c p .after }
 
-unfoldable pub plainReplies : List Call → Plain → List Reply
-plainReplies [] p = []
-plainReplies (c ∷ cs) p = plainCall c p .reply ∷ plainReplies cs (plainCall c p .after)
+-- A list of calls: the machine after it, and its replies.
+abbrev pub plainAfter : List Call → Plain → Plain
+plainAfter cs p = afterAll plainAnswers cs p
+
+abbrev pub plainReplies : List Call → Plain → List Reply
+plainReplies cs p = repliesTo plainAnswers cs p

@@ -32,8 +32,8 @@ abbrev pub handed : Lent → Lent → Lent → Lent → Lent → Machine
 handed kept files logs marks undo =
     machineOf (now (kept .entry)) (now (files .entry)) (now (logs .entry)) (now (marks .entry)) (now (undo .entry))
 
-abbrev pub left : Lent → Lent → Lent → Lent → Lent → Machine
-left kept files logs marks undo =
+abbrev pub handedBack : Lent → Lent → Lent → Lent → Lent → Machine
+handedBack kept files logs marks undo =
     machineOf (now (kept .exit)) (now (files .exit)) (now (logs .exit)) (now (marks .exit)) (now (undo .exit))
 
 -- A refusal other than 13 leaves the record number by number, not only in what it means.
@@ -43,5 +43,5 @@ LeftAsFound o before after = (r : Refusal) → o ≡ Refused r → (number r ≡
 -- The promise of a call: on what it is handed it answers o, and leaves record, buffers and reader's buffer, as the rule says.
 abbrev pub Follows : (Machine → Turn) → Lent → Lent → Lent → Lent → Lent → Outcome → List ℕ → Type 0
 Follows rule kept files logs marks undo o reader =
-    Meets (rule (handed kept files logs marks undo)) o (left kept files logs marks undo) reader
+    Meets (rule (handed kept files logs marks undo)) o (handedBack kept files logs marks undo) reader
     × LeftAsFound o (now (kept .entry)) (now (kept .exit))

@@ -1,13 +1,12 @@
 -- Paper 01, "Reading", and where a Read stops (02, F-8).
 use mathlib.Core.Bool.{Bool, true, false, cond, _&&_}
-use mathlib.Core.List.{List, [], _∷_, _++_}
-use mathlib.Core.Path.{_≡_}
+use mathlib.Core.List.{List, [], _∷_}
 use lib.Dec.{leb, ltb, eqb}
 use lib.ListN.{length, getD}
 use Prim.Native.Nat.{ℕ, zero, suc, _+_, _-_, _*_, min, max}
 use Rattle.standings.specs.declared.Place.{Place}
 use Rattle.standings.specs.declared.Place.the-variants.{At, After}
-use Rattle.rules.specs.Items.{Prog, done, ask, within, andThen, byte, fileLength, Values, result, asked}
+use Rattle.rules.specs.Items.{Prog, done, ask, measure, andThen, byte, fileLength}
 use Rattle.rules.specs.Transactions.{Write}
 
 -- Where a byte comes from: an own write, or the file.
@@ -33,7 +32,7 @@ unfoldable pub orElse : Source → Source → Source
 orElse (own b) s = own b
 orElse file s = s
 
--- "Each byte is that of the transaction's own latest write over the place, in call order, otherwise the committed byte."
+-- "Each byte is that of the transaction's own latest write over the place, in call order, otherwise the committed byte".
 unfoldable pub latest : (ℕ → ℕ) → ℕ → ℕ → List Write → Source
 latest fileOf f p [] = file
 latest fileOf f p (w ∷ ws) = orElse (latest fileOf f p ws) (supplies fileOf f p w)
@@ -70,34 +69,19 @@ unfoldable pub ownEnd : (ℕ → ℕ) → ℕ → List Write → ℕ
 ownEnd fileOf f ws = farthest fileOf f (λ w. placedEnd (w .place) (length (w .bytes))) ws
 
 -- "A transaction's length is the largest of the committed one and the ends of its own placed writes of at least one byte."
-unfoldable pub lengthFor : (ℕ → ℕ) → ℕ → List Write → Values → ℕ
-lengthFor fileOf f ws v = max (v (fileLength f)) (ownEnd fileOf f ws)
+unfoldable pub lengthFor : (ℕ → ℕ) → ℕ → List Write → ℕ → ℕ
+lengthFor fileOf f ws committed = max committed (ownEnd fileOf f ws)
 
--- Whether place p lies below it: short of an own write's end it does, and nothing is asked.
-unfoldable pub reaches : Bool → ℕ → ℕ → Prog Bool
-reaches true f p = done true
-reaches false f p = within f p (λ b. done b)
+-- 02, F-8: "A Read that gave fewer bytes than wanted sights the length, listed after its bytes"
+unfoldable pub lengthSighted : Bool → ℕ → List ℕ → Prog (List ℕ)
+lengthSighted true f bytes = ask (fileLength f) (λ committed. done bytes)
+lengthSighted false f bytes = done bytes
 
--- At most n bytes of file f from place p on: "Read stops there and gives nothing from beyond it." "Bytes between an old end and a
--- write come from the file."
+-- The bytes that a Read of n bytes of file f from place p on gives: the smaller of n and the transaction's length less the place.
+-- "Read stops there and gives nothing from beyond it." "Bytes between an old end and a write come from the file".
 unfoldable pub gather : (ℕ → ℕ) → List Write → ℕ → ℕ → ℕ → Prog (List ℕ)
-gather fileOf ws f p zero = done []
-gather fileOf ws f p (suc n) =
-    andThen (reaches (ltb p (ownEnd fileOf f ws)) f p)
-    (λ there.
-    cond there
-    (andThen (bring (latest fileOf f p ws) (4096 * f + p)) (λ b. andThen (gather fileOf ws f (suc p) n) (λ bs. done (b ∷ bs))))
-    (done []))
-
--- What it comes to: the smaller of n and the transaction's length less the place, "bytes by place", and "a Read that gave fewer bytes
--- than wanted sights the length, listed after its bytes".
-pub record Gathers (fileOf : ℕ → ℕ) (ws : List Write) (f p n : ℕ) (v : Values) : Type 0 where
-  pub bytes : result v (gather fileOf ws f p n) ≡ result v (fetch fileOf ws f p (min n (lengthFor fileOf f ws v - p)))
-  pub sightings :
-      asked v (gather fileOf ws f p n)
-      ≡ asked v (fetch fileOf ws f p (min n (lengthFor fileOf f ws v - p)))
-      ++ cond (ltb (min n (lengthFor fileOf f ws v - p)) n) (fileLength f ∷ []) []
-
--- F-8: "Read stops there", for every transaction, file, place and count.
-abbrev pub ReadStops : Type 0
-ReadStops = (fileOf : ℕ → ℕ) (ws : List Write) (f p n : ℕ) (v : Values) → Gathers fileOf ws f p n v
+gather fileOf ws f p n =
+    measure f
+    (λ committed.
+    let m = min n (lengthFor fileOf f ws committed - p) in
+    andThen (fetch fileOf ws f p m) (lengthSighted (ltb m n) f))

@@ -13,7 +13,7 @@ use Rattle.rules.specs.Plain.{Slot, closed, running, Plain, freshPlain, 
 use Rattle.rules.specs.Machine.{Machine, values}
 use Rattle.rules.specs.Calls.{callsReplies, callsAfter}
 
--- "Descriptor d belongs to file d mod 8, so 0 and 8 share file 0. Each situation starts at its own Fresh."
+-- "Descriptor d belongs to file d mod 8, so 0 and 8 share file 0. Each situation starts at its own Fresh".
 unfoldable pub numbers : List ℕ
 numbers = 0 ∷ 1 ∷ 2 ∷ 3 ∷ 4 ∷ 5 ∷ 6 ∷ 7 ∷ 0 ∷ 1 ∷ 2 ∷ 3 ∷ 4 ∷ 5 ∷ 6 ∷ 7 ∷ []
 

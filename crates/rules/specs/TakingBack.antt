@@ -7,7 +7,7 @@ use Rattle.record.specs.Paper.{plain, granted}
 use Rattle.rules.specs.Messages.{Call, commit, takeBack, grantsAmong}
 use Rattle.rules.specs.Machine.{Machine}
 use Rattle.rules.specs.Calls.{call, callsAfter, callsReplies}
-use Rattle.rules.specs.Demand3.{FreshlyMade}
+use Rattle.rules.specs.Demand3OfStore.{FreshlyMade}
 
 -- The files, offsets and lengths of the second store are those of the first.
 pub record SameCommitted (m n : Machine) : Type 0 where

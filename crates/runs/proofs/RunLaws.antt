@@ -29,7 +29,8 @@ use Rattle.runs.specs.declared.Extent.{Extent}
 use Rattle.runs.specs.declared.Run.{Run}
 use Rattle.runs.specs.declared.Supplier.{Supplier}
 use Rattle.runs.specs.declared.Supplier.the-variants.{File, Record}
-use Rattle.runs.specs.Runs.{extent, Recorded, covers, coveredBy, newest, supplier, standsAt, Counted, GapOf, LatestWrite, RunOf, writeIn, sourceOf, recordEnd, reach}
+use Rattle.runs.specs.Runs.{extent, Recorded, covers, coveredBy, newest, supplier, standsAt, Counted, GapOf, LatestWrite, RunOf}
+use Rattle.runs.specs.Runs.{writeIn, sourceOf, recordEnd, reach}
 
 -- ---- what a write record covers
 
@@ -86,7 +87,8 @@ module _ (filenumbers : List ℕ) (w : WriteRecord) (e : Extent) where
 
   pub gap-unplaced : (a : ℕ) → w .place ≡ After a → GapOf filenumbers w e (e .length)
   unfolding covers over
-  gap-unplaced a q = gap-all (λ i. ap (λ (x : Place). ofFile filenumbers (e .file) 0 w && over x (w .length) (e .place + i)) q ∙ and-false (ofFile filenumbers (e .file) 0 w))
+  gap-unplaced a q = gap-all
+      (λ i. ap (λ (x : Place). ofFile filenumbers (e .file) 0 w && over x (w .length) (e .place + i)) q ∙ and-false (ofFile filenumbers (e .file) 0 w))
 
   pub gap-other-file : (getD filenumbers (w .descriptor) 0 ≡ e .file → ⊥) → GapOf filenumbers w e (e .length)
   unfolding covers
@@ -96,7 +98,8 @@ module _ (filenumbers : List ℕ) (w : WriteRecord) (e : Extent) where
   gap-before h = gap-all (λ i. outside filenumbers (e .file) (e .place + i) w (inr (omega arith)))
 
   pub gap-empty : w .length ≡ 0 → GapOf filenumbers w e (e .length)
-  gap-empty z = gap-all (λ i. outside filenumbers (e .file) (e .place + i) w (⊎-elim (λ h. inr (omega arith)) (λ h. inl h) (le-or-lt (startOf w) (e .place + i))))
+  gap-empty z = gap-all (λ i. outside filenumbers (e .file) (e .place + i) w
+      (⊎-elim (λ h. inr (omega arith)) (λ h. inl h) (le-or-lt (startOf w) (e .place + i))))
 
   module _ (p : ℕ) (placed : w .place ≡ At p) (there : getD filenumbers (w .descriptor) 0 ≡ e .file) where
     inside : (i : ℕ) → p ≤ i → i < p + w .length → covers filenumbers (e .file) i w ≡ true
@@ -128,7 +131,8 @@ unfolding newest
 newest-is c zero k e = let z : _≡_ {A = ℕ} 0 1 = cc in absurd (omega arith)
 newest-is c (suc n) k e = pick (c n) refl (sym (newest-suc c n) ∙ e) (newest-is c n k)
   where
-    pick : (b : Bool) → c n ≡ b → cond b (Record n) (newest c n) ≡ Record k → (newest c n ≡ Record k → (k < n) × (c k ≡ true)) → (k < suc n) × (c k ≡ true)
+    pick : (b : Bool) → c n ≡ b → cond b (Record n) (newest c n) ≡ Record k → (newest c n ≡ Record k → (k < n) × (c k ≡ true))
+        → (k < suc n) × (c k ≡ true)
     pick true q e ih = let s : n ≡ k = cc in (omega arith, ap c (sym s) ∙ q)
     pick false q e ih = let r = ih e in (omega arith, r .1)
 
@@ -194,14 +198,16 @@ module _ (j : Recorded) (t records : ℕ) (e : Extent) where
 
   module _ (k n : ℕ) (w : Walked j t records e (suc k) n) where
     -- one record more, which leaves g of the places
-    pub walked-more : (g r : ℕ) → g ≡ r → 1 ≤ g → GapOf (j .filenumbers) (theirs j t k) (extent (e .file) (e .place) n) r → Walked j t records e k g
+    pub walked-more : (g r : ℕ) → g ≡ r → 1 ≤ g → GapOf (j .filenumbers) (theirs j t k) (extent (e .file) (e .place) n) r
+        → Walked j t records e k g
     walked-more g r a h p =
         let q : GapOf (j .filenumbers) (theirs j t k) (extent (e .file) (e .place) n) g = rw a p in
         record {
           some = h;
           within = omega (arith, w .within, q .within);
           same = λ i l. w .same i (omega (arith, q .within)) ∙ supplier-older j t (e .file) k (e .place + i) (q .clear i l);
-          ended = λ l. ⊎-elim (λ s. old s (q .within) l) (λ s. (k, omega arith, w .same g s ∙ supplier-this j t (e .file) k (e .place + g) (q .met s))) (le-or-lt n g);
+          ended = λ l. ⊎-elim (λ s. old s (q .within) l)
+              (λ s. (k, omega arith, w .same g s ∙ supplier-this j t (e .file) k (e .place + g) (q .met s))) (le-or-lt n g);
         }
       where
         old : n ≤ g → g ≤ n → g < e .length → (m : ℕ) × (k ≤ m) × by g m
@@ -211,7 +217,8 @@ module _ (j : Recorded) (t records : ℕ) (e : Extent) where
             (o .0, omega (arith, o .1), ap (λ (i : ℕ). supplier j t records (e .file) (e .place + i)) same ∙ o .2)
 
     -- the record covers the first place where it leaves none
-    pub gap-covers : (g : ℕ) → g ≡ 0 → GapOf (j .filenumbers) (theirs j t k) (extent (e .file) (e .place) n) g → covers (j .filenumbers) (e .file) (e .place) (theirs j t k) ≡ true
+    pub gap-covers : (g : ℕ) → g ≡ 0 → GapOf (j .filenumbers) (theirs j t k) (extent (e .file) (e .place) n) g
+        → covers (j .filenumbers) (e .file) (e .place) (theirs j t k) ≡ true
     gap-covers g z q = ap (λ (i : ℕ). covers (j .filenumbers) (e .file) i (theirs j t k)) (omega arith) ∙ q .met (omega (arith, w .some))
 
     module _ (first : covers (j .filenumbers) (e .file) (e .place) (theirs j t k) ≡ true) where
@@ -230,7 +237,9 @@ module _ (j : Recorded) (t records : ℕ) (e : Extent) where
 
       past-end : (i : ℕ) → i < n → e .place + i ≡ x + z → by i k → ⊥
       past-end i l q s =
-          let o = supplier-is j t (e .file) k (e .place + i) k (sym (w .same i l ∙ supplier-older j t (e .file) k (e .place + i) (outside (j .filenumbers) (e .file) (e .place + i) (theirs j t k) (inr (omega arith)))) ∙ s) in
+          let o = supplier-is j t (e .file) k (e .place + i) k
+          (sym (w .same i l ∙ supplier-older j t (e .file) k (e .place + i)
+          (outside (j .filenumbers) (e .file) (e .place + i) (theirs j t k) (inr (omega arith)))) ∙ s) in
           omega (arith, o .0)
 
       newer : n < e .length → by n k → ⊥
@@ -240,13 +249,16 @@ module _ (j : Recorded) (t records : ℕ) (e : Extent) where
       supplied i l h =
           w .same i l
           ∙ supplier-this j t (e .file) k (e .place + i)
-          (covers-along (j .filenumbers) (e .file) (e .place) (theirs j t k) first (e .place + i) (omega (arith, covers-in (j .filenumbers) (e .file) (e .place) (theirs j t k) first .0)) h)
+          (covers-along (j .filenumbers) (e .file) (e .place) (theirs j t k) first (e .place + i)
+          (omega (arith, covers-in (j .filenumbers) (e .file) (e .place) (theirs j t k) first .0)) h)
 
-      pub walked-found : (r : Run) → r .supplier ≡ Record k → r .at ≡ lengthsBefore (j .journal) t k + (e .place - x) → r .length ≡ min n (x + z - e .place) → RunOf j t records e r
+      pub walked-found : (r : Run) → r .supplier ≡ Record k → r .at ≡ lengthsBefore (j .journal) t k + (e .place - x)
+          → r .length ≡ min n (x + z - e .place) → RunOf j t records e r
       unfolding standsAt
       walked-found r b d q =
           let g = covers-in (j .filenumbers) (e .file) (e .place) (theirs j t k) first in
-          let on : (i : ℕ) → r .length ≡ i → supplier j t records (e .file) (e .place + r .length) ≡ supplier j t records (e .file) (e .place) → by i k =
+          let on : (i : ℕ) → r .length ≡ i
+          → supplier j t records (e .file) (e .place + r .length) ≡ supplier j t records (e .file) (e .place) → by i k =
           λ i a s. ap (λ (i : ℕ). supplier j t records (e .file) (e .place + i)) (sym a) ∙ s ∙ here in
           record {
             supplied = b ∙ sym here;
@@ -297,7 +309,8 @@ unfolding orElse
 orElse-file (own b) = refl
 orElse-file file = refl
 
-latest-append : (fileOf : ℕ → ℕ) (f p : ℕ) (xs ys : List Write) → latest fileOf f p (xs ++ ys) ≡ orElse (latest fileOf f p ys) (latest fileOf f p xs)
+latest-append : (fileOf : ℕ → ℕ) (f p : ℕ) (xs ys : List Write)
+    → latest fileOf f p (xs ++ ys) ≡ orElse (latest fileOf f p ys) (latest fileOf f p xs)
 unfolding latest
 latest-append fileOf f p [] ys = sym (orElse-file (latest fileOf f p ys))
 latest-append fileOf f p (x ∷ xs) ys =
@@ -309,12 +322,14 @@ unfolding lengthsBefore sum
 data-suc journal t k = refl
 
 -- back from record k to the one before it
-pub data-back : (journal : List ℕ) (t k : ℕ) → 0 < k → lengthsBefore journal t k ≡ lengthsBefore journal t (k - 1) + writeRecordAt journal t (k - 1) .length
+pub data-back : (journal : List ℕ) (t k : ℕ) → 0 < k
+    → lengthsBefore journal t k ≡ lengthsBefore journal t (k - 1) + writeRecordAt journal t (k - 1) .length
 data-back journal t k h = let e : k ≡ suc (k - 1) = omega arith in ap (lengthsBefore journal t) e ∙ data-suc journal t (k - 1)
 
 module _ (j : Recorded) (log : List ℕ) (t f p : ℕ) where
   supplies-is : (k : ℕ) → lengthsBefore (j .journal) t (suc k) ≤ length log
-      → supplies (λ d. getD (j .filenumbers) d 0) f p (writeIn (j .journal) log t k) ≡ cond (covers (j .filenumbers) f p (theirs j t k)) (sourceOf (j .journal) log t p (Record k)) file
+      → supplies (λ d. getD (j .filenumbers) d 0) f p (writeIn (j .journal) log t k)
+      ≡ cond (covers (j .filenumbers) f p (theirs j t k)) (sourceOf (j .journal) log t p (Record k)) file
   unfolding supplies writeIn covers sourceOf standsAt
   supplies-is k h =
       ap (λ (n : ℕ). cond (eqb (getD (j .filenumbers) (w .descriptor) 0) f && over (w .place) n p) (own (byteAt (w .place) bytes p)) file) long
@@ -379,7 +394,8 @@ data-upto journal t k (suc n) h = ⊎-elim (λ g. omega (arith, data-suc journal
     same : n < suc k → lengthsBefore journal t (suc k) ≤ lengthsBefore journal t (suc n)
     same g = let e : suc k ≡ suc n = omega arith in rw e (omega arith)
 
-module _ (j : Recorded) (t records : ℕ) (e : Extent) (r : Run) (run : RunOf j t records e r) (k : ℕ) (s : supplier j t records (e .file) (e .place) ≡ Record k) where
+module _ (j : Recorded) (t records : ℕ) (e : Extent) (r : Run) (run : RunOf j t records e r) (k : ℕ)
+    (s : supplier j t records (e .file) (e .place) ≡ Record k) where
   -- the record that supplies a run covers each of its places
   run-covers : (i : ℕ) → i < r .length → (k < records) × (covers (j .filenumbers) (e .file) (e .place + i) (theirs j t k) ≡ true)
   run-covers i l = supplier-is j t (e .file) records (e .place + i) k (run .same i l ∙ s)
@@ -451,7 +467,8 @@ module _ (filenumbers : List ℕ) (f : ℕ) (w : WriteRecord) where
   write-some p zero h = absurd (omega arith)
   write-some p (suc n) h = refl
 
-  pub end-placed : (p : ℕ) → w .place ≡ At p → getD filenumbers (w .descriptor) 0 ≡ f → 0 < w .length → p + w .length ≡ recordEnd filenumbers f w
+  pub end-placed : (p : ℕ) → w .place ≡ At p → getD filenumbers (w .descriptor) 0 ≡ f → 0 < w .length
+      → p + w .length ≡ recordEnd filenumbers f w
   unfolding recordEnd placedEnd
   end-placed p e g h = rw (e, eq-eqb (getD filenumbers (w .descriptor) 0) f g) (write-some p (w .length) h)
 
@@ -466,7 +483,8 @@ module _ (j : Recorded) (t f n : ℕ) where
 
   -- The same of the writes.
   pub reach-is : (g : ℕ → Write) (c : ℕ)
-      → ((k : ℕ) → k < c → recordEnd (j .filenumbers) f (writeRecordAt (j .journal) t k) ≡ cond (eqb (getD (j .filenumbers) (g k .descriptor) 0) f) (placedEnd (g k .place) (length (g k .bytes))) 0)
+      → ((k : ℕ) → k < c → recordEnd (j .filenumbers) f (writeRecordAt (j .journal) t k)
+      ≡ cond (eqb (getD (j .filenumbers) (g k .descriptor) 0) f) (placedEnd (g k .place) (length (g k .bytes))) 0)
       → reach j t f n c ≡ max n (ownEnd (λ d. getD (j .filenumbers) d 0) f (tabulate g c))
   unfolding reach tabulate ownEnd farthest
   reach-is g zero h = omega arith

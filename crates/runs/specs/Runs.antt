@@ -83,7 +83,7 @@ pub record LatestWrite (j : Recorded) (t records f p : ℕ) (found : Supplier) (
   -- none is found exactly when no record covers it
   pub none : found ≡ File → (k : ℕ) → k < records → coveredBy j t f p k ≡ false
   pub onlyNone : ((k : ℕ) → k < records → coveredBy j t f p k ≡ false) → found ≡ File
-  -- how many records were looked at: "that one and all newer ones, or all when there is none"
+  -- how many records were looked at, 02, F-3: "that one and all newer ones, or all when there is none"
   pub thatAndNewer : (k : ℕ) → found ≡ Record k → looked ≡ records - k
   pub all : found ≡ File → looked ≡ records
   -- its byte is that of the latest write as the rules have it, whatever the log
@@ -94,7 +94,7 @@ pub record LatestWrite (j : Recorded) (t records f p : ℕ) (found : Supplier) (
 abbrev pub LatestAt : Recorded → ℕ → ℕ → Extent → Run → Type 0
 LatestAt j t records e r = LatestWrite j t records (e .file) (e .place) (r .supplier) (r .looked)
 
--- "the ends of its own placed writes of at least one byte": where a write record ends in file f.
+-- 02, F-8: "the ends of its own placed writes of at least one byte": where a write record ends in file f.
 unfoldable pub recordEnd : List ℕ → ℕ → WriteRecord → ℕ
 recordEnd filenumbers f w = cond (eqb (getD filenumbers (w .descriptor) 0) f) (placedEnd (w .place) (w .length)) 0
 
@@ -103,7 +103,7 @@ unfoldable pub reach : Recorded → ℕ → ℕ → ℕ → ℕ → ℕ
 reach j t f n zero = n
 reach j t f n (suc k) = max (reach j t f n k) (recordEnd (j .filenumbers) f (writeRecordAt (j .journal) t k))
 
--- "A transaction's length is the largest of the committed one and the ends": that of file f for transaction t with so many records.
+-- F-8: "A transaction's length is the largest of the committed one and the ends": that of file f for transaction t with so many records.
 abbrev pub lengthFor : List ℕ → ℕ → ℕ → ℕ → ℕ
 lengthFor kept t records f = reach (recordedIn kept) t f (getD (storeOf kept .lengths) f 0) records
 
@@ -122,7 +122,7 @@ pub record GapOf (filenumbers : List ℕ) (w : WriteRecord) (e : Extent) (r : �
   pub clear : (i : ℕ) → i < r → covers filenumbers (e .file) (e .place + i) w ≡ false
   pub met : r < e .length → covers filenumbers (e .file) (e .place + r) w ≡ true
 
--- "The longest stretch from its place on that one write record supplies, or that the file supplies": at the front of these places.
+-- "the longest stretch from its place on that one write record supplies, or that the file supplies": at the front of these places.
 pub record RunOf (j : Recorded) (t records : ℕ) (e : Extent) (r : Run) : Type 0 where
   pub supplied : r .supplier ≡ supplier j t records (e .file) (e .place)
   pub start : r .at ≡ standsAt (j .journal) t (e .place) (supplier j t records (e .file) (e .place))

@@ -42,11 +42,14 @@ module _ (chosen : List Bool) (offsets : List ℕ) (x : Transaction) where
   module _ (n : ℕ) (h : n < length (x .descriptors)) where
     -- one more that is chosen
     pub settled-more : getD chosen n false ≡ true
-        → withDescriptors (set (settledFront chosen offsets x n .descriptors) n (record { standing = settled (getD offsets n 0) (standingAt x n); dirty = dirtyAt x n })) x
+        → withDescriptors (set (settledFront chosen offsets x n .descriptors) n
+        (record { standing = settled (getD offsets n 0) (standingAt x n); dirty = dirtyAt x n })) x
         ≡ settledFront chosen offsets x (n + 1)
     unfolding settledDescriptor
     settled-more e =
-        ap (λ (ds : List Descriptor). withDescriptors ds x) (filled-set (settledDescriptor chosen offsets x) (x .descriptors) n (record { standing = settled (getD offsets n 0) (standingAt x n); dirty = dirtyAt x n }) h (rw e))
+        ap (λ (ds : List Descriptor). withDescriptors ds x)
+        (filled-set (settledDescriptor chosen offsets x) (x .descriptors) n
+        (record { standing = settled (getD offsets n 0) (standingAt x n); dirty = dirtyAt x n }) h (rw e))
 
     -- one more that is not
     pub settled-kept : getD chosen n false ≡ false → settledFront chosen offsets x n ≡ settledFront chosen offsets x (n + 1)
@@ -64,7 +67,8 @@ module _ (chosen : List Bool) (offsets : List ℕ) (x : Transaction) where
   unfolding settlesWithin
   within-settled n h = rw (le-leb (getD offsets n 0 + advance (standingAt x n)) 4096 h) (or-true (not (getD chosen n false)))
 
-  pub within-past : (n : ℕ) → getD chosen n false ≡ true → 4096 < getD offsets n 0 + advance (standingAt x n) → settlesWithin chosen offsets x n ≡ false
+  pub within-past : (n : ℕ) → getD chosen n false ≡ true → 4096 < getD offsets n 0 + advance (standingAt x n)
+      → settlesWithin chosen offsets x n ≡ false
   unfolding settlesWithin
   within-past n e h = rw (e, lt-leb (getD offsets n 0 + advance (standingAt x n)) 4096 h)
 
@@ -100,6 +104,7 @@ module _ (chosen : List Bool) (offsets : List ℕ) (x : Transaction) where
       pick true q = refl
       pick false q = cc
 
-  pub transaction-settled : settlingOf chosen offsets x .verdict ≡ Settled → settlingOf chosen offsets x .transaction ≡ settledTransaction chosen offsets x
+  pub transaction-settled : settlingOf chosen offsets x .verdict ≡ Settled
+      → settlingOf chosen offsets x .transaction ≡ settledTransaction chosen offsets x
   unfolding settlingOf verdict
   transaction-settled e = ap (λ (b : Bool). verdict b .transaction) (verdict-settled e)

@@ -43,7 +43,8 @@ module _ (s : Store) (journal files logs : List ℕ) (t : ℕ) where
   unfolding values txnOf allWithin settlesWithin
   settling-chosen p none =
       settled-together (values s files) p (txnOf s journal logs t) 16 none
-      ∙ ap (λ (f : ℕ → Bool). cond (below (fitsAt (values s files) f (txnOf s journal logs t)) 16) (all (settleAll f (λ d. getD (s .offsets) d 0) (txnOf s journal logs t))) past)
+      ∙ ap (λ (f : ℕ → Bool). cond (below (fitsAt (values s files) f (txnOf s journal logs t)) 16)
+      (all (settleAll f (λ d. getD (s .offsets) d 0) (txnOf s journal logs t))) past)
       (table-choice p 16 none)
 
   -- GetFilePointer on d.

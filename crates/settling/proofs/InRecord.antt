@@ -11,7 +11,8 @@ use Rattle.record.specs.declared.Descriptor.{Descriptor}
 use Rattle.record.specs.declared.Transaction.{Transaction}
 use Rattle.record.specs.declared.Store.{Store}
 use Rattle.record.specs.State.{transaction, noDescriptor, noTransaction, withDescriptors, withTransaction}
-use Rattle.record.specs.Layout.{descriptorOf, transactionOf, storeOf, journalOf, withChosenAt}
+use Rattle.record.specs.Layout.{descriptorOf, transactionOf, storeOf, journalOf}
+use Rattle.record.specs.Updates.{withChosenAt}
 use Rattle.record.proofs.LayoutLaws.{transaction-of, descriptor-of, length-with-chosen, store-with-chosen, journal-with-chosen}
 use Rattle.laws.proofs.Shapes.{sixteen-descriptors}
 use Rattle.settling.specs.declared.settle.Verdict.the-variants.{Settled, Past}
@@ -39,12 +40,13 @@ module _ (chosen : List Bool) (t : ℕ) (before : List ℕ) (ready : Placeable b
       let e = settling-none chosen offsets x none (sixteen-descriptors before t) in
       let settled : settlingOf chosen offsets x .verdict ≡ Settled = ap (λ (r : Settling). r .verdict) e in
       record {
-        answer = sym settled;
+        verdict = sym settled;
         refused = λ v. refl;
         store =
             λ v.
             sym own-again
-            ∙ ap (λ (y : Transaction). withTransaction t y (storeOf before)) (sym (ap (λ (r : Settling). r .transaction) e) ∙ transaction-settled chosen offsets x settled);
+            ∙ ap (λ (y : Transaction). withTransaction t y (storeOf before))
+            (sym (ap (λ (r : Settling). r .transaction) e) ∙ transaction-settled chosen offsets x settled);
         journal = λ v. placed-kept chosen t before (ready .long) (x .used .records) (ready .descriptors) none .journal;
         long = ready .long;
       }
@@ -52,7 +54,14 @@ module _ (chosen : List Bool) (t : ℕ) (before : List ℕ) (ready : Placeable b
   module _ (r : Settling) (answer : r ≡ settlingOf chosen offsets x) where
     -- One of the chosen would come past the end.
     pub past-settled : r .verdict ≡ Past → SettledIn chosen t x before before Past
-    past-settled e = record { answer = sym e ∙ ap (λ (r : Settling). r .verdict) answer; refused = λ v. refl; store = λ v. cc; journal = λ v. cc; long = ready .long }
+    past-settled e = record {
+      verdict = sym e
+          ∙ ap (λ (r : Settling). r .verdict) answer;
+      refused = λ v. refl;
+      store = λ v. cc;
+      journal = λ v. cc;
+      long = ready .long;
+    }
 
     -- All of them were settled, the write records placed, and the descriptors put back.
     module _ (settled : r .verdict ≡ Settled) (placed after : List ℕ) (p : PlacedIn chosen t (x .used .records) before placed) where
@@ -65,7 +74,8 @@ module _ (chosen : List Bool) (t : ℕ) (before : List ℕ) (ready : Placeable b
       then-is : (e : ℕ) → e < 16 → then e ≡ settledDescriptor chosen offsets x e
       unfolding settledTransaction
       then-is e h =
-          ap (λ (y : Transaction). getD (y .descriptors) e noDescriptor) (ap (λ (r : Settling). r .transaction) answer ∙ transaction-settled chosen offsets x (sym verdict-is))
+          ap (λ (y : Transaction). getD (y .descriptors) e noDescriptor)
+          (ap (λ (r : Settling). r .transaction) answer ∙ transaction-settled chosen offsets x (sym verdict-is))
           ∙ getD-tabulate (settledDescriptor chosen offsets x) 16 e noDescriptor h
 
       own-placed : transaction (storeOf placed) t ≡ x
@@ -84,14 +94,15 @@ module _ (chosen : List Bool) (t : ℕ) (before : List ℕ) (ready : Placeable b
       unfolding settledTransaction
       all-settled put =
           record {
-            answer = verdict-is;
+            verdict = verdict-is;
             refused = λ v. cc;
             store =
                 λ v.
                 ap storeOf put
                 ∙ store-with-chosen placed t (λ e. getD chosen e false) then (p .long) (ready .small) not-chosen
                 ∙ ap₂ (λ (y : Transaction) (s : Store). withTransaction t (withDescriptors (tabulate then 16) y) s) own-placed (p .store)
-                ∙ ap (λ (ds : List Descriptor). withTransaction t (withDescriptors ds x) (storeOf before)) (table-same then (settledDescriptor chosen offsets x) 16 then-is);
+                ∙ ap (λ (ds : List Descriptor). withTransaction t (withDescriptors ds x) (storeOf before))
+                (table-same then (settledDescriptor chosen offsets x) 16 then-is);
             journal = λ v. ap journalOf put ∙ journal-with-chosen placed t (λ e. getD chosen e false) then (p .long) (ready .small) ∙ p .journal;
             long = ap length put ∙ length-with-chosen placed t (λ e. getD chosen e false) then 16 ∙ p .long;
           }

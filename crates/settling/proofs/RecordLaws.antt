@@ -21,7 +21,8 @@ module _ (chosen : List Bool) (offsets : List ℕ) (w : WriteRecord) where
   -- It stays as it is where it had a place,
   pub after-placed : (p : ℕ) → w .place ≡ At p → recordAfter chosen offsets w ≡ w
   unfolding recordAfter
-  after-placed p e = ap (λ (q : Place). record { descriptor = w .descriptor; place = q; length = w .length }) (pick (w .place) (getD chosen (w .descriptor) false) e)
+  after-placed p e = ap (λ (q : Place). record { descriptor = w .descriptor; place = q; length = w .length })
+      (pick (w .place) (getD chosen (w .descriptor) false) e)
     where
       pick : (q : Place) (b : Bool) → q ≡ At p → cond b (placedAt (getD offsets (w .descriptor) 0) q) q ≡ q
       pick q true e = unfold placedAt in rw e
@@ -47,7 +48,8 @@ module _ (chosen : List Bool) (t : ℕ) (before : List ℕ) (long : length befor
   placed-none = record { journal = sym (with-none (journalOf before) t _); store = refl; long = long }
 
   -- Where nothing is chosen, nothing changes.
-  pub placed-kept : (n : ℕ) → ((k : ℕ) → k < n → writeRecordAt (journalOf before) t k .descriptor < 16) → ((e : ℕ) → e < 16 → getD chosen e false ≡ false)
+  pub placed-kept : (n : ℕ) → ((k : ℕ) → k < n → writeRecordAt (journalOf before) t k .descriptor < 16)
+      → ((e : ℕ) → e < 16 → getD chosen e false ≡ false)
       → PlacedIn chosen t n before before
   unfolding placedRecords
   placed-kept n low none =
@@ -80,10 +82,12 @@ module _ (chosen : List Bool) (t k : ℕ) (before now : List ℕ) (placed : Plac
           → withRecordAt (journalOf now) t k w ≡ placedRecords chosen (storeOf before .offsets) (journalOf before) t (k + 1)
       unfolding placedRecords
       journal-more w e =
-          ap₂ (λ (j : List ℕ) (w : WriteRecord). withRecordAt j t k w) (placed .journal) (sym e ∙ ap (recordAfter chosen (storeOf before .offsets)) (read ∙ next-record))
+          ap₂ (λ (j : List ℕ) (w : WriteRecord). withRecordAt j t k w) (placed .journal)
+          (sym e ∙ ap (recordAfter chosen (storeOf before .offsets)) (read ∙ next-record))
           ∙ sym (with-more (journalOf before) t _ k)
 
-      pub one-placed : (w : WriteRecord) → after ≡ withRecordAt now t k w → recordAfter chosen (storeOf before .offsets) r ≡ w → PlacedIn chosen t (k + 1) before after
+      pub one-placed : (w : WriteRecord) → after ≡ withRecordAt now t k w → recordAfter chosen (storeOf before .offsets) r ≡ w
+          → PlacedIn chosen t (k + 1) before after
       one-placed w put e =
           record {
             journal = ap journalOf put ∙ journal-with-record now (placed .long) t k w small few ∙ journal-more w e;

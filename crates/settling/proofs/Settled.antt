@@ -26,7 +26,8 @@ use Rattle.rules.specs.Steps.{total}
 use Rattle.rules.specs.Machine.{dataStart, writeAt, recordOf, txnOf, noWrite, journalled, holding, sightingLengths, withTxn}
 use Rattle.laws.specs.Settling.{placeAll, settleAll}
 use Rattle.rules.proofs.View.Tables.{tabulate-same, tabulate-set, map-tabulate}
-use Rattle.laws.proofs.Decoded.{Opened, decoded-length, decoded-total, total-tabulate}
+use Rattle.rules.proofs.View.Decode.{decoded-length, decoded-total}
+use Rattle.laws.proofs.Decoded.{Opened, total-tabulate}
 use Rattle.settling.specs.Choices.{settledDescriptor, settledTransaction}
 use Rattle.settling.specs.Records.{recordAfter, placedRecords, Placeable}
 
@@ -38,7 +39,8 @@ module _ (s : Store) (journal logs : List ℕ) (t : ℕ) (o : Opened s journal l
       omega (arith, record-in (transaction s t) (writeRecordAt journal t k) (o .ranges .writes k h) .descriptor)
 
 module _ (kept logs : List ℕ) (t : ℕ) (o : Opened (storeOf kept) (journalOf kept) logs t) where
-  pub placeable : (n : ℕ) → n ≡ transaction (storeOf kept) t .used .records → length kept ≡ recordLength → ((e : ℕ) → e < 16 → getD (storeOf kept .offsets) e 0 ≤ 4096) → Placeable kept t n
+  pub placeable : (n : ℕ) → n ≡ transaction (storeOf kept) t .used .records → length kept ≡ recordLength
+      → ((e : ℕ) → e < 16 → getD (storeOf kept .offsets) e 0 ≤ 4096) → Placeable kept t n
   placeable n e long low =
       record {
         long = long;
@@ -86,15 +88,16 @@ module _ (s : Store) (journal logs : List ℕ) (t : ℕ) (o : Opened s journal l
       ap total writes-table
       ∙ total-tabulate thenAt (transaction s t .used .records)
       ∙ sym (total-tabulate (writeAt journal logs t) (transaction s t .used .records))
-      ∙ decoded (decoded-total s journal logs t o)
+      ∙ decoded (decoded-total s journal logs t (o .size) (o .small) (o .ranges))
     where
-      decoded : total (txnOf s journal logs t .writes) ≡ transaction s t .used .bytes → total (tabulate (writeAt journal logs t) (transaction s t .used .records)) ≡ transaction s t .used .bytes
+      decoded : total (txnOf s journal logs t .writes) ≡ transaction s t .used .bytes
+          → total (tabulate (writeAt journal logs t) (transaction s t .used .records)) ≡ transaction s t .used .bytes
       decoded e = unfold txnOf in e
 
   -- The record of a write that was placed is its record, placed.
   record-then : (k : ℕ) → k < transaction s t .used .records → recordOf (thenAt k) ≡ recordAfter chosen (s .offsets) (writeRecordAt journal t k)
   unfolding recordOf thenAt placeAll recordAfter writeAt
-  record-then k h = rw (decoded-length s journal logs t o k h)
+  record-then k h = rw (decoded-length s journal logs t (o .size) (o .small) (o .ranges) k h)
 
   pub journal-settled : journalled t (settledTxn s journal logs t chosen .writes) journal ≡ settledJournal s journal t chosen
   unfolding journalled placedRecords count
@@ -105,7 +108,8 @@ module _ (s : Store) (journal logs : List ℕ) (t : ℕ) (o : Opened s journal l
       (λ k h. ap recordOf (getD-tabulate thenAt n k noWrite h) ∙ record-then k h))
 
   -- A meaning with these writes, whatever its descriptors, that sighted these items.
-  put-back : (is : List Item) (f : ℕ → Standing) (g : ℕ → Bool) (l : List Descriptor) → tabulate (λ d. record { standing = f d; dirty = g d }) 16 ≡ l
+  put-back : (is : List Item) (f : ℕ → Standing) (g : ℕ → Bool) (l : List Descriptor)
+      → tabulate (λ d. record { standing = f d; dirty = g d }) 16 ≡ l
       → withTxn t (withDirty g (withStandings f (settledTxn s journal logs t chosen))) is s
       ≡ withTransaction t (withDescriptors l (sightingLengths is (transaction s t))) s
   unfolding withTxn holding sightingLengths
@@ -120,7 +124,8 @@ module _ (s : Store) (journal logs : List ℕ) (t : ℕ) (o : Opened s journal l
       ∙ ap (λ (x : Transaction). withTransaction t (withDescriptors (tabulate (settledDescriptor chosen (s .offsets) (transaction s t)) 16) x) s) none
 
   -- The standing of a descriptor afterwards.
-  pub standing-settled : (d : ℕ) → d < 16 → standingAt (settledTransaction chosen (s .offsets) (transaction s t)) d ≡ settledTxn s journal logs t chosen .standing d
+  pub standing-settled : (d : ℕ) → d < 16
+      → standingAt (settledTransaction chosen (s .offsets) (transaction s t)) d ≡ settledTxn s journal logs t chosen .standing d
   unfolding settleAll txnOf settledTransaction settledDescriptor
   standing-settled d h =
       ap (λ (q : Descriptor). q .standing) (getD-tabulate (settledDescriptor chosen (s .offsets) (transaction s t)) 16 d noDescriptor h)
@@ -136,7 +141,11 @@ module _ (s : Store) (journal logs : List ℕ) (t : ℕ) (o : Opened s journal l
       put-back is (put d z (settledTxn s journal logs t chosen .standing)) (put d true (dirtyAt (transaction s t))) _
       (unfold put in
       tabulate-set (settledDescriptor chosen (s .offsets) (transaction s t))
-      (λ e. record { standing = cond (eqb e d) z (settledTxn s journal logs t chosen .standing e); dirty = cond (eqb e d) true (dirtyAt (transaction s t) e) }) 16 d
+      (λ e. record {
+        standing = cond (eqb e d) z (settledTxn s journal logs t chosen .standing e);
+        dirty = cond (eqb e d) true
+            (dirtyAt (transaction s t) e);
+      }) 16 d
       (record { standing = z; dirty = true }) h (rw (eq-eqb d d refl)) (λ e ne. rw (ne-eqb e d ne)))
 
   -- The write records read back from the new journal.
@@ -167,11 +176,19 @@ module _ (s : Store) (journal logs : List ℕ) (t : ℕ) (o : Opened s journal l
   write-settled k h =
       rw (record-settled k h, data-settled k (omega arith)) (placed (writeRecordAt journal t k) (4096 * t + lengthsBefore journal t k))
     where
-      placed : (w : WriteRecord) (n : ℕ) → record { descriptor = recordAfter chosen (s .offsets) w .descriptor; place = recordAfter chosen (s .offsets) w .place; bytes = cut logs n (recordAfter chosen (s .offsets) w .length) }
-          ≡ placeAll (λ e. getD chosen e false) (λ e. getD (s .offsets) e 0) (record { descriptor = w .descriptor; place = w .place; bytes = cut logs n (w .length) })
+      placed : (w : WriteRecord) (n : ℕ)
+          → record {
+            descriptor = recordAfter chosen (s .offsets) w .descriptor;
+            place = recordAfter chosen
+                (s .offsets) w .place;
+            bytes = cut logs n (recordAfter chosen (s .offsets) w .length);
+          }
+          ≡ placeAll (λ e. getD chosen e false) (λ e. getD (s .offsets) e 0)
+          (record { descriptor = w .descriptor; place = w .place; bytes = cut logs n (w .length) })
       placed w n = unfold placeAll recordAfter in refl
 
-  pub writes-settled : tabulate (writeAt (settledJournal s journal t chosen) logs t) (transaction s t .used .records) ≡ settledTxn s journal logs t chosen .writes
+  pub writes-settled : tabulate (writeAt (settledJournal s journal t chosen) logs t) (transaction s t .used .records)
+      ≡ settledTxn s journal logs t chosen .writes
   unfolding count
   writes-settled =
       tabulate-same (writeAt (settledJournal s journal t chosen) logs t) thenAt (transaction s t .used .records) write-settled ∙ sym writes-table

@@ -14,7 +14,7 @@ use Rattle.settling.specs.Records.{placedRecords}
 
 -- x is transaction t before; all of its chosen descriptors are settled and its write records placed, or the record is left alone.
 pub record SettledIn (chosen : List Bool) (t : ℕ) (x : Transaction) (before after : List ℕ) (v : Verdict) : Type 0 where
-  pub answer : v ≡ settlingOf chosen (storeOf before .offsets) x .verdict
+  pub verdict : v ≡ settlingOf chosen (storeOf before .offsets) x .verdict
   pub refused : v ≡ Past → after ≡ before
   pub store : v ≡ Settled → storeOf after ≡ withTransaction t (settledTransaction chosen (storeOf before .offsets) x) (storeOf before)
   pub journal : v ≡ Settled → journalOf after ≡ placedRecords chosen (storeOf before .offsets) (journalOf before) t (x .used .records)

@@ -6,7 +6,7 @@ use Rattle.standings.specs.declared.Standing.the-variants.{Untouched, Pl
 use Rattle.standings.specs.declared.Place.{Place}
 use Rattle.standings.specs.declared.Place.the-variants.{At, After}
 
--- The column "Seek v": "a standing that carries an offset takes v at a Seek".
+-- The column "Seek v": "A standing that carries an offset takes v at a Seek".
 unfoldable pub afterSeek : ℕ → Standing → Standing
 afterSeek v Untouched = Placed v
 afterSeek v (Placed o) = Placed v
@@ -14,7 +14,7 @@ afterSeek v (Deferred a) = Moved a v
 afterSeek v (Moved a o) = Moved a v
 afterSeek v (Known o) = Known v
 
--- The column "Write n": "n more at a Write"; "the advance counts the bytes written before any Seek".
+-- The column "Write n": "n more at a Write"; "The advance counts the bytes written before any Seek".
 unfoldable pub afterWrite : ℕ → Standing → Standing
 afterWrite n Untouched = Deferred n
 afterWrite n (Placed o) = Placed (o + n)
@@ -96,7 +96,7 @@ finalOffset c (Deferred a) = c + a
 finalOffset c (Moved a o) = o
 finalOffset c (Known o) = o
 
--- A descriptor's offset was sighted exactly where it stands Known (paper 01: "a sighting is an offset that was settled").
+-- A descriptor's offset was sighted exactly where it stands Known (paper 01: "A sighting is an offset that was settled").
 abbrev pub isKnown : Standing → Bool
 isKnown Untouched = false
 isKnown (Placed o) = false

@@ -2,7 +2,8 @@
 ghost use mathlib.Core.Path.{_≡_};
 ghost use Prim.Native.Nat.{_+_, _≤_};
 ghost use Rattle.standings.specs.Table.{afterSeek, afterWrite, afterRead, pointerSettles, readSettles, advance};
-ghost use Rattle.standings.specs.Table.{settled, offsetOf, writePlace, isTouched, finalOffset, isKnown, mayWait};
+ghost use Rattle.standings.specs.Table.{settled, offsetOf, writePlace, isTouched};
+ghost use Rattle.standings.specs.Table.{finalOffset, isKnown, mayWait};
 ghost use Rattle.standings.specs.Table.{placeNumber};
 
 // Paper 01's five standings. Each carries the numbers named there and no others.

@@ -5,10 +5,12 @@ use mathlib.Core.Path.{_≡_, refl, sym, ap, ap₂, subst, subst⁻¹, _∙_}
 use lib.ListN.{take, drop}
 use Prim.Native.Nat.{ℕ}
 use Rattle.grammar.specs.Grammar.{parsed}
-use Rattle.lines.specs.Lines.{lastLine, endedIn, heldAfter, Found}
+use Rattle.lines.specs.Lines.{lastLine, endedIn, heldAfter, NextLine}
 use Rattle.printing.specs.Printed.{printed}
 use Rattle.rules.specs.Machine.{Machine}
-use Rattle.trace.specs.Transcript.{Answering, storeAnswers, Kept, lineTurn, transcript, keptAfter}
+use Rattle.trace.specs.Transcript.{Kept, lineTurn, transcript, keptAfter}
+use Rattle.rules.specs.Messages.{Answering}
+use Rattle.rules.specs.Calls.{storeAnswers}
 use Rattle.trace.specs.Transcript.{Answered, Under, under, toCome, atEnd, Passes}
 
 -- a test with `!`
@@ -49,9 +51,9 @@ unfolding keptAfter
 kept-more line ls k = refl
 
 -- no line ends in the rest of the piece
-pub held-passes : (t : Bool) (k : Kept Machine) (held rest line rest′ waiting : List ℕ) → Found t held rest line rest′ → t ≡ false
+pub held-passes : (t : Bool) (k : Kept Machine) (held rest line rest′ waiting : List ℕ) → NextLine t held rest line rest′ → t ≡ false
     → rest′ ≡ [] → Passes (in-piece k held rest) waiting (in-piece k line rest′) waiting
-unfolding Found toCome atEnd
+unfolding NextLine toCome atEnd
 held-passes true k held rest line rest′ waiting f t e = absurd (false≢true (sym t))
 held-passes false k held rest line rest′ waiting f t e =
     let none : endedIn held rest ≡ endedIn line rest′ = f .0 ∙ sym (none-in line rest′ e) in
@@ -64,9 +66,9 @@ held-passes false k held rest line rest′ waiting f t e =
 
 -- the line that ends next was answered
 told-line-passes : (k : Kept Machine) (held rest line rest′ waiting : List ℕ) (k′ : Kept Machine) (waiting′ : List ℕ)
-    → Found true held rest line rest′ → Answered (line ∷ []) k waiting k′ waiting′
+    → NextLine true held rest line rest′ → Answered (line ∷ []) k waiting k′ waiting′
     → Passes (in-piece k held rest) waiting (in-piece k′ [] rest′) waiting′
-unfolding Found toCome atEnd
+unfolding NextLine toCome atEnd
 told-line-passes k held rest line rest′ waiting k′ waiting′ f a =
     let ls = endedIn [] rest′ in
     let one = transcript storeAnswers (line ∷ []) k in
@@ -84,11 +86,11 @@ told-line-passes k held rest line rest′ waiting k′ waiting′ f a =
     }
 
 -- as the code has it: the line is a part of the buffer, and nothing is held after it
-pub told-passes : (t : Bool) (k : Kept Machine) (held rest line rest′ waiting : List ℕ) → Found t held rest line rest′ → t ≡ true
+pub told-passes : (t : Bool) (k : Kept Machine) (held rest line rest′ waiting : List ℕ) → NextLine t held rest line rest′ → t ≡ true
     → (given : List ℕ) → given ≡ line → (k′ : Kept Machine) (waiting′ : List ℕ) → Answered (given ∷ []) k waiting k′ waiting′
     → (held′ last : List ℕ) → held′ ≡ [] → last ≡ rest′ → Passes (in-piece k held rest) waiting (in-piece k′ held′ last) waiting′
 told-passes t k held rest line rest′ waiting f y given g k′ waiting′ a held′ last h l =
-    let f′ : Found true held rest line rest′ = subst (λ (b : Bool). Found b held rest line rest′) y f in
+    let f′ : NextLine true held rest line rest′ = subst (λ (b : Bool). NextLine b held rest line rest′) y f in
     let a′ : Answered (line ∷ []) k waiting k′ waiting′ = subst (λ (x : List ℕ). Answered (x ∷ []) k waiting k′ waiting′) g a in
     subst⁻¹ (λ (x : List ℕ). Passes (in-piece k held rest) waiting (in-piece k′ x last) waiting′) h
     (subst⁻¹ (λ (x : List ℕ). Passes (in-piece k held rest) waiting (in-piece k′ [] x) waiting′) l

@@ -8,7 +8,7 @@ use Rattle.record.specs.Paper.{plain}
 use Rattle.ranges.specs.Below.{below}
 use Rattle.ranges.specs.Ranges.{sized, sizesIn, unless, admissionOfFresh}
 use Rattle.rules.specs.Machine.{Machine, sizes}
-use Rattle.rules.specs.Calls.{answer, passing, fresh, freshMachine}
+use Rattle.rules.specs.Calls.{answerWith, passing, fresh, freshMachine}
 use Rattle.trace.specs.Transcript.{modEight}
 
 passes : admissionOfFresh (sized 32768 32768 32768 4096) modEight ≡ 0
@@ -17,9 +17,9 @@ passes = refl
 
 pub fresh-accepts : (m : Machine) → length (m .files) ≡ 32768 → length (m .logs) ≡ 32768 → length (m .marks) ≡ 32768
     → length (m .undo) ≡ 4096 → fresh modEight m .reply .answer ≡ plain
-unfolding fresh passing answer
+unfolding fresh passing answerWith
 fresh-accepts m f l k u =
-    let next = answer plain (freshMachine modEight (m .logs) (m .undo)) in
+    let next = answerWith plain (freshMachine modEight (m .logs) (m .undo)) in
     let e : admissionOfFresh (sizes m) modEight ≡ 0 =
     ap₂ (λ (x y : ℕ). admissionOfFresh (sized x y (length (m .marks)) (length (m .undo))) modEight) f l
     ∙ ap₂ (λ (x y : ℕ). admissionOfFresh (sized 32768 32768 x y) modEight) k u

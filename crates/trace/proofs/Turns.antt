@@ -1,6 +1,6 @@
 -- A line that was answered as `answered` promises was answered by its turn, and its text is the turn's. Assumes nothing.
 use mathlib.Core.List.{List, [], _∷_, _++_, append-assoc, append-nil}
-use mathlib.Core.Path.{_≡_, refl, sym, ap, ap₂, _∙_}
+use mathlib.Core.Path.{_≡_, sym, ap, ap₂, _∙_}
 use lib.ListN.{length, take, drop, length-append}
 use lib.Seq.{take-append-seam, length-take-le}
 use native.Mathlib.Omega.{arith}
@@ -18,7 +18,8 @@ use Rattle.requests.specs.Requests.{callOf}
 use Rattle.rules.specs.Messages.{Reply, bufferOf, bufferOfCall}
 use Rattle.rules.specs.Machine.{Machine}
 use Rattle.trace.specs.Answers.{AnswersTo, Answers}
-use Rattle.trace.specs.Transcript.{storeAnswers, readerAfter, Kept, LineTurn, lineTurn, transcript, keptAfter, Answered}
+use Rattle.trace.specs.Transcript.{readerAfter, Kept, LineTurn, lineTurn, transcript, keptAfter, Answered}
+use Rattle.rules.specs.Calls.{storeAnswers}
 
 record Same (t : LineTurn Machine) (o : Outcome) (m′ : Machine) (reader′ : List ℕ) : Type 0 where
   after : _≡_ {A = Kept Machine} (record { machine = m′; reader = reader′ }) (t .after)

@@ -4,18 +4,21 @@ use mathlib.Core.Path.{_≡_, refl, sym, ap, ap₂, _∙_}
 use lib.ListN.{getD}
 use Prim.Native.Nat.{ℕ}
 use Rattle.grammar.specs.Grammar.{Line, another, asks, parsed}
-use Rattle.lines.specs.Lines.{linesOf, kept, endedIn, heldAfter, lastLine, fromPieces, joined}
+use Rattle.lines.specs.Lines.{linesOf, kept, endedIn, heldAfter, fromPieces, joined}
 use Rattle.lines.proofs.Pieces.{pieces-are-the-whole}
 use Rattle.printing.specs.Printed.{printed}
 use Rattle.record.specs.Paper.{refused}
 use Rattle.requests.specs.Requests.{callOf}
-use Rattle.rules.specs.Messages.{Call, Reply}
+use Rattle.rules.specs.Messages.{Call, Reply, afterAll, repliesTo}
 use Rattle.rules.specs.Machine.{Machine}
 use Rattle.rules.specs.Calls.{call, callsAfter, callsReplies}
 use Rattle.rules.specs.Plain.{Plain, freshPlain, plainCall, plainAfter, plainReplies}
-use Rattle.rules.specs.Demand3.{FreshlyMade}
+use Rattle.rules.specs.Demand3OfStore.{FreshlyMade}
 use Rattle.rules.proofs.Demand3.Theorem.{demand3}
-use Rattle.trace.specs.Transcript.{modEight, Answering, storeAnswers, plainAnswers, readerAfter, Kept, LineTurn}
+use Rattle.trace.specs.Transcript.{modEight, readerAfter, Kept, LineTurn}
+use Rattle.rules.specs.Messages.{Answering}
+use Rattle.rules.specs.Calls.{storeAnswers}
+use Rattle.rules.specs.Plain.{plainAnswers}
 use Rattle.trace.specs.Transcript.{lineTurn, transcript, Under, toCome, atEnd}
 use Rattle.trace.specs.WholeRun.{PutOut, Leg, Legs, inputOf, outputOf, WholeRun}
 use Rattle.trace.proofs.Kept.{kept-is-enough}
@@ -80,23 +83,23 @@ lastReply r (x ∷ xs) = lastReply x xs
 
 store-last : (cs : List Call) (c : Call) (m : Machine) (r : Reply)
     → lastReply r (callsReplies (cs ++ (c ∷ [])) m) ≡ call c (callsAfter cs m) .reply
-unfolding lastReply callsReplies callsAfter
+unfolding lastReply afterAll repliesTo
 store-last [] c m r = refl
 store-last (x ∷ cs) c m r = store-last cs c (call x m .after) (call x m .reply)
 
 plain-last : (cs : List Call) (c : Call) (p : Plain) (r : Reply)
     → lastReply r (plainReplies (cs ++ (c ∷ [])) p) ≡ plainCall c (plainAfter cs p) .reply
-unfolding lastReply plainReplies plainAfter
+unfolding lastReply afterAll repliesTo
 plain-last [] c p r = refl
 plain-last (x ∷ cs) c p r = plain-last cs c (plainCall x p .after) (plainCall x p .reply)
 
 store-more : (cs : List Call) (c : Call) (m : Machine) → callsAfter (cs ++ (c ∷ [])) m ≡ call c (callsAfter cs m) .after
-unfolding callsAfter
+unfolding afterAll
 store-more [] c m = refl
 store-more (x ∷ cs) c m = store-more cs c (call x m .after)
 
 plain-more : (cs : List Call) (c : Call) (p : Plain) → plainAfter (cs ++ (c ∷ [])) p ≡ plainCall c (plainAfter cs p) .after
-unfolding plainAfter
+unfolding afterAll
 plain-more [] c p = refl
 plain-more (x ∷ cs) c p = plain-more cs c (plainCall x p .after)
 
@@ -149,7 +152,7 @@ module _ (m₀ : Machine) (made : FreshlyMade modEight m₀) where
   same-text (l ∷ ls) cs reader = same-line (parsed l) ls (same-text ls) cs reader
 
 pub whole-run : WholeRun
-unfolding p₀ callsAfter plainAfter
+unfolding p₀ afterAll
 whole-run m made reader legs last h =
     let k : Kept Machine = record { machine = m; reader = reader } in
     let text =

@@ -6,7 +6,7 @@ use Prim.Native.Nat.{ℕ, _≤_, _<_}
 use Rattle.trace.specs.declared.answering.Course.{Course}
 
 -- Before a line is answered, in a piece of that size; and between pieces, when no output waits.
-pub record Running (c : Course) (size : ℕ) : Type 0 where
+pub record CourseIn (c : Course) (size : ℕ) : Type 0 where
   pub held : c .held ≤ 129
   pub waiting : c .waiting ≤ 57000
   pub inside : c .at ≤ size
@@ -22,7 +22,7 @@ pub record Onward (c r : Course) (size room : ℕ) : Type 0 where
   pub inside : r .at ≤ size
   pub past : c .at < size → c .at < r .at
 
--- "The reader's buffer has 4,096 bytes."
+-- 02, F-5: "The reader's buffer has 4,096 bytes."
 pub record Room (reader out : List ℕ) : Type 0 where
   pub readable : length reader ≡ 4096
   pub printable : length out ≡ 65536

@@ -12,25 +12,13 @@ use Rattle.requests.specs.declared.Request.{Request}
 use Rattle.requests.specs.declared.Request.the-variants.{Begin, Seek, Write, GetFilePointer, Read, Places}
 use Rattle.requests.specs.declared.Request.the-variants.{Commit, Abort, SetWindow, TakeBack}
 use Rattle.requests.specs.Requests.{callOf}
-use Rattle.rules.specs.Messages.{Call, Reply}
+use Rattle.rules.specs.Messages.{Reply, Answering}
 use Rattle.rules.specs.Machine.{Machine}
-use Rattle.rules.specs.Calls.{call}
-use Rattle.rules.specs.Plain.{Plain, plainCall}
+use Rattle.rules.specs.Calls.{storeAnswers}
 
 -- "descriptor d in file d mod 8"
 unfoldable pub modEight : List ℕ
 modEight = tabulate (λ d. d % 8) 16
-
--- What answers calls: its reply to a call, and what it is after it. The store by its rules, and 01's plain machine.
-pub record Answering (S : Type 0) : Type 0 where
-  pub reply : Call → S → Reply
-  pub next : Call → S → S
-
-abbrev pub storeAnswers : Answering Machine
-storeAnswers = record { reply = λ c m. call c m .reply; next = λ c m. call c m .after }
-
-abbrev pub plainAnswers : Answering Plain
-plainAnswers = record { reply = λ c p. plainCall c p .reply; next = λ c p. plainCall c p .after }
 
 -- The reader's buffer after a request whose call left `after` in it: Read and Places answer there, any other leaves it.
 unfoldable pub readerAfter : Request → List ℕ → List ℕ → List ℕ

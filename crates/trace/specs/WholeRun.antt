@@ -7,8 +7,25 @@ use Prim.Native.Nat.{ℕ}
 use Rattle.lines.specs.Lines.{linesOf, lastLine, joined}
 use Rattle.rules.specs.Machine.{Machine}
 use Rattle.rules.specs.Plain.{freshPlain}
-use Rattle.rules.specs.Demand3.{FreshlyMade}
-use Rattle.trace.specs.Transcript.{modEight, Kept, storeAnswers, plainAnswers, transcript, Answered, Under, Passes}
+use Rattle.rules.specs.Demand3OfStore.{FreshlyMade}
+use Rattle.trace.specs.Transcript.{modEight, Kept, transcript, Answered}
+use Rattle.rules.specs.Calls.{storeAnswers}
+use Rattle.rules.specs.Plain.{plainAnswers}
+use Rattle.trace.specs.Transcript.{Under, under, atEnd, Passes}
+
+-- Where pieces of input lead, one after the other.
+unfoldable pub through : Under → List (List ℕ) → Under
+through u [] = u
+through u (piece ∷ pieces) = through (atEnd (record { kept = u .kept; held = u .held; rest = piece })) pieces
+
+-- Some pieces of input lead to u from a fresh store with nothing held. Each turn of the program asks this of what it is handed: the store,
+-- the reader's buffer and what is held of a line. That the pieces are those that were read is not said: reading is outside.
+pub record Reached (u : Under) : Type 0 where
+  pub store : Machine
+  pub made : FreshlyMade modEight store
+  pub reader : List ℕ
+  pub pieces : List (List ℕ)
+  pub there : through (under store reader [] []) pieces ≡ u
 
 -- The texts put out one after the other, each as `filled` promises of what waits, with none waiting before it.
 unfoldable pub PutOut : Under → List (List ℕ) → Under → Type 0
@@ -20,7 +37,7 @@ pub record Leg : Type 0 where
   pub piece : List ℕ
   pub texts : List (List ℕ)
 
--- Pieces one after the other, each on what the one before left; last, the text that `ended` promises at the end of the input.
+-- Pieces one after the other, each on what the one before left; last, the text that `last_line` promises at the end of the input.
 unfoldable pub Legs : List ℕ → Kept Machine → List Leg → List ℕ → Type 0
 Legs held k [] last = (k′ : Kept Machine) × Answered (lastLine held) k [] k′ last
 Legs held k (x ∷ xs) last =

@@ -11,10 +11,10 @@ ghost use mathlib.Core.List.{_∷_, []};
 ghost use Prim.Native.Nat.{_≤_, _<_};
 ghost use lib.ListN.{length, take, drop};
 ghost use Rattle.lines.specs.Lines.{lastLine};
-ghost use Rattle.rules.specs.Promises.{handed, left};
+ghost use Rattle.rules.specs.Promises.{handed, handedBack};
 ghost use Rattle.trace.specs.Answers.{Answers};
 ghost use Rattle.trace.specs.Transcript.{Answered, Passes, under};
-ghost use Rattle.trace.specs.Bounds.{Running, Onward, Resting, Room};
+ghost use Rattle.trace.specs.Bounds.{CourseIn, Onward, Resting, Room};
 
 // When more output waits than this it is written, so that the longest line still fits in after what waits.
 const MOST: usize = 57000;
@@ -47,7 +47,7 @@ fn answered(
     reader: &mut [u8],
 ) -> Outcome
     ensures { λ r. ⌜ Answers (now (line .entry)) (now (reader .entry)) (handed kept files logs marks undo)
-        r (left kept files logs marks undo) (now (reader .exit)) ⌝ }
+        r (handedBack kept files logs marks undo) (now (reader .exit)) ⌝ }
 {
     let p = grammar::parse(line);
     let Parsed::Asks(q, start) = p else {
@@ -90,7 +90,7 @@ fn told(
     ensures { λ r. ⌜ Answered (now (line .entry) ∷ [])
         (record { machine = handed kept files logs marks undo; reader = now (reader .entry) })
         (take (c .waiting) (now (out .entry)))
-        (record { machine = left kept files logs marks undo; reader = now (reader .exit) })
+        (record { machine = handedBack kept files logs marks undo; reader = now (reader .exit) })
         (take (r .waiting) (now (out .exit)))
         × ((r .waiting ≤ length (now (out .exit))) × ((r .held ≡ c .held) × (r .at ≡ c .at))) ⌝ }
 {
@@ -114,12 +114,12 @@ fn stepped(
     piece: &[u8],
     out: &mut [u8],
 ) -> Course
-    requires { ⌜ Running c (length (now piece)) × (Room (now reader) (now out) × (length (now line) ≡ 129)) ⌝ }
+    requires { ⌜ CourseIn c (length (now piece)) × (Room (now reader) (now out) × (length (now line) ≡ 129)) ⌝ }
     ensures { λ r. ⌜ Passes
         (under (handed kept files logs marks undo) (now (reader .entry))
         (take (c .held) (now (line .entry))) (drop (c .at) (now (piece .entry))))
         (take (c .waiting) (now (out .entry)))
-        (under (left kept files logs marks undo) (now (reader .exit))
+        (under (handedBack kept files logs marks undo) (now (reader .exit))
         (take (r .held) (now (line .exit))) (drop (r .at) (now (piece .entry))))
         (take (r .waiting) (now (out .exit)))
         × Onward c r (length (now (piece .entry))) (length (now (out .exit))) ⌝ }
@@ -128,7 +128,7 @@ fn stepped(
     let n = look.held;
     c.held = n;
     c.at = look.at;
-    if !look.ended {
+    if !look.complete {
         return c;
     }
     c.held = 0;
@@ -164,7 +164,7 @@ pub fn filled(
         (under (handed kept files logs marks undo) (now (reader .entry))
         (take (c .held) (now (line .entry))) (drop (c .at) (now (piece .entry))))
         []
-        (under (left kept files logs marks undo) (now (reader .exit))
+        (under (handedBack kept files logs marks undo) (now (reader .exit))
         (take (r .held) (now (line .exit))) (drop (r .at) (now (piece .entry))))
         (take (r .waiting) (now (out .exit)))
         × Onward c r (length (now (piece .entry))) (length (now (out .exit))) ⌝ }
@@ -179,7 +179,7 @@ pub fn filled(
 }
 
 // Answers the line that the end of the input ends, if there is one.
-pub fn ended(
+pub fn last_line(
     c: Course,
     kept: &mut Record,
     files: &mut Buffer,
@@ -194,7 +194,7 @@ pub fn ended(
     ensures { λ r. ⌜ Answered (lastLine (take (c .held) (now (line .entry))))
         (record { machine = handed kept files logs marks undo; reader = now (reader .entry) })
         []
-        (record { machine = left kept files logs marks undo; reader = now (reader .exit) })
+        (record { machine = handedBack kept files logs marks undo; reader = now (reader .exit) })
         (take (r .waiting) (now (out .exit)))
         × ((r .waiting ≤ length (now (out .exit))) × (r .held ≡ c .held)) ⌝ }
 {

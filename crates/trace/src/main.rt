@@ -6,8 +6,8 @@ mod descriptors;
 use answering::Buffer;
 use answering::Course;
 use answering::Undo;
-use answering::ended;
 use answering::filled;
+use answering::last_line;
 use descriptors::lines_more;
 use descriptors::read_piece;
 use descriptors::write_out;
@@ -18,13 +18,14 @@ use octets::parts::part;
 use record::layout::NUMBERS;
 use record::layout::Record;
 ghost use mathlib.Core.Path.{_≡_};
-ghost use mathlib.Core.Bool.{true};
+ghost use mathlib.Core.Bool.{true, false};
 ghost use mathlib.Core.List.{[]};
 ghost use Prim.Native.Nat.{ℕ, _≤_, _<_};
 ghost use lib.ListN.{length, take};
-ghost use Rattle.rules.specs.Demand3.{FreshlyMade};
-ghost use Rattle.rules.specs.Promises.{handed, left, machineOf};
+ghost use Rattle.rules.specs.Demand3OfStore.{FreshlyMade};
+ghost use Rattle.rules.specs.Promises.{handed, handedBack, machineOf};
 ghost use Rattle.trace.specs.Transcript.{modEight, under, atEnd};
+ghost use Rattle.trace.specs.WholeRun.{Reached};
 ghost use Rattle.trace.specs.Bounds.{Resting, Room};
 
 // Writes what waits, and counts its lines. A write that fails is said, and ends the run.
@@ -60,7 +61,8 @@ fn taken(
     ensures { λ r. ⌜ Resting r × (r .goes ≡ true
         → atEnd (under (handed kept files logs marks undo) (now (reader .entry))
         (take (c .held) (now (line .entry))) (now (piece .entry)))
-        ≡ under (left kept files logs marks undo) (now (reader .exit)) (take (r .held) (now (line .exit))) []) ⌝ }
+        ≡ under (handedBack kept files logs marks undo) (now (reader .exit))
+        (take (r .held) (now (line .exit))) []) ⌝ }
 {
     c.at = 0;
     while c.at < piece.len() {
@@ -86,11 +88,14 @@ fn turn(
     input: &mut [u8],
     out: &mut [u8],
 ) -> Course
-    requires { ⌜ Resting c × (Room (now reader) (now out) × (length (now line) ≡ 129)) ⌝ }
+    requires { ⌜ Resting c × (Room (now reader) (now out) × ((length (now line) ≡ 129)
+        × Reached (under (machineOf (now kept) (now files) (now logs) (now marks) (now undo)) (now reader)
+        (take (c .held) (now line)) []))) ⌝ }
     ensures { λ r. ⌜ Resting r × (r .goes ≡ true → (n : ℕ)
         × (atEnd (under (handed kept files logs marks undo) (now (reader .entry))
         (take (c .held) (now (line .entry))) (take n (now (input .exit))))
-        ≡ under (left kept files logs marks undo) (now (reader .exit)) (take (r .held) (now (line .exit))) [])) ⌝ }
+        ≡ under (handedBack kept files logs marks undo) (now (reader .exit))
+        (take (r .held) (now (line .exit))) [])) ⌝ }
 {
     let got = read_piece(input);
     if got > 0 {
@@ -110,7 +115,7 @@ fn turn(
     }
     c.goes = false;
     if got == 0 {
-        let d = ended(c, kept, files, logs, marks, undo, line, reader, out);
+        let d = last_line(c, kept, files, logs, marks, undo, line, reader, out);
         c = written(d, out);
         c.goes = false;
         return c;
@@ -122,7 +127,7 @@ fn turn(
 // How many turns are left after one: none where the run does not go on.
 fn turns_left(turns: u64, goes: bool) -> u64
     requires { ⌜ 0 < turns ⌝ }
-    ensures { λ r. ⌜ r < turns ⌝ }
+    ensures { λ r. ⌜ (r < turns) × (goes ≡ false → r ≡ 0) ⌝ }
 {
     if goes {
         return turns - 1;
@@ -167,7 +172,7 @@ fn run(
 fn start(kept: &mut Record, files: &mut Buffer, logs: &Buffer, marks: &mut Buffer, undo: &Undo)
     requires { ⌜ (length (now files) ≡ 32768) × ((length (now logs) ≡ 32768)
         × ((length (now marks) ≡ 32768) × (length (now undo) ≡ 4096))) ⌝ }
-    ensures { λ r. ⌜ FreshlyMade modEight (left kept files logs marks undo) ⌝ }
+    ensures { λ r. ⌜ FreshlyMade modEight (handedBack kept files logs marks undo) ⌝ }
 {
     let list = [0u8, 1, 2, 3, 4, 5, 6, 7, 0, 1, 2, 3, 4, 5, 6, 7];
     store::fresh(kept, files, logs, marks, undo, &list);

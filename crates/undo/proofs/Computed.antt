@@ -6,4 +6,11 @@ use Rattle.undo.specs.OldBytes.{landAll, oldBytes, putBack, overlapping,
 
 pub computed : Computed
 unfolding cut pasted landAll oldBytes putBack overlapping twice
-computed = record { inside = ((omega arith, (omega arith, tt)), (omega arith, (omega arith, tt)), λ h. let z = h .0 in omega arith); files = refl; old = refl; back = refl; values = refl }
+computed = record {
+  inside = ((omega arith, (omega arith, tt)), (omega arith, (omega arith, tt)), λ h. let z = h .0 in omega arith);
+  files
+      = refl;
+  old = refl;
+  back = refl;
+  values = refl;
+}

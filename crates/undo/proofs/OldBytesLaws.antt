@@ -86,7 +86,8 @@ unfolding oldBytes
 old-joined at a b ws buffer h =
     let l = length-append a b in
     let fits : at + length a ≤ length buffer = omega arith in
-    sym (append-assoc (cut buffer at (length a)) (cut (pasted buffer at a) (at + length a) (length b)) (oldBytes ws (pasted (pasted buffer at a) (at + length a) b)))
+    sym (append-assoc (cut buffer at (length a)) (cut (pasted buffer at a) (at + length a) (length b))
+    (oldBytes ws (pasted (pasted buffer at a) (at + length a) b)))
     ∙ ap₂ (λ (old next : List ℕ). old ++ oldBytes ws next)
     (ap (λ (o : List ℕ). cut buffer at (length a) ++ o) (cut-pasted-after buffer at a fits (at + length a) (length b) (omega arith))
     ∙ sym (cut-add buffer at (length a) (length b))

@@ -15,7 +15,7 @@ use Rattle.undo.proofs.OldBytesLaws.{spanned, spanned-last, back-last}
 use Rattle.rules.specs.Machine.{fileOf}
 use Rattle.rules.specs.Undo.{spanOfRecord, landedOn}
 use Rattle.rules.proofs.View.Tables.{sum-le}
-use Rattle.undoing.specs.declared.bytes_back.Landed.{Landed}
+use Rattle.landing.specs.declared.writes.Landing.{Landing}
 use Rattle.undoing.specs.Landed.{landedAs}
 
 spanned-table : (f : ℕ → Span) (n : ℕ) → spanned (tabulate f n) ≡ sum (λ k. f k .length) n
@@ -42,12 +42,12 @@ module _ (s : Store) (journal : List ℕ) where
 
 -- Of the first n writes the last, write k: where its old bytes end, and that it goes back before the others.
 module _ (s : Store) (journal : List ℕ) (k n : ℕ) (next : suc k ≡ n) where
-  pub lengths-next : (w : Landed) → w ≡ landedAs s (writeRecordAt journal grantStretch k)
+  pub lengths-next : (w : Landing) → w ≡ landedAs s (writeRecordAt journal grantStretch k)
       → lengthsBefore journal grantStretch n ≡ lengthsBefore journal grantStretch k + w .length
   unfolding lengthsBefore sum landedAs
   lengths-next w found = rw (found, sym next) refl
 
-  pub back-next : (w : Landed) → w ≡ landedAs s (writeRecordAt journal grantStretch k)
+  pub back-next : (w : Landing) → w ≡ landedAs s (writeRecordAt journal grantStretch k)
       → (start : ℕ) → start ≡ lengthsBefore journal grantStretch k
       → (old buffer bytes after : List ℕ) → bytes ≡ cut old start (w .length)
       → after ≡ pasted buffer (4096 * w .file + w .place) bytes
@@ -57,8 +57,8 @@ module _ (s : Store) (journal : List ℕ) (k n : ℕ) (next : suc k ≡ n) where
       let ss = firstSpans s journal k in
       let last = spanOfRecord s (writeRecordAt journal grantStretch k) in
       let part : cut old start (w .length) ≡ cut old (spanned ss) (last .length) =
-      ap₂ (λ (from : ℕ) (x : Landed). cut old from (x .length)) (starts ∙ sym (spanned-first s journal k)) found in
-      ap (putBack ss old) (e ∙ ap₂ (λ (x : Landed) (bs : List ℕ). pasted buffer (4096 * x .file + x .place) bs) found (b ∙ part))
+      ap₂ (λ (from : ℕ) (x : Landing). cut old from (x .length)) (starts ∙ sym (spanned-first s journal k)) found in
+      ap (putBack ss old) (e ∙ ap₂ (λ (x : Landing) (bs : List ℕ). pasted buffer (4096 * x .file + x .place) bs) found (b ∙ part))
       ∙ sym (back-last ss last old buffer)
       ∙ ap (λ (m : ℕ). putBack (firstSpans s journal m) old buffer) next
 
@@ -71,7 +71,7 @@ module _ (s : Store) (journal : List ℕ) (ranges : storeIn s journal ≡ true) 
     pub descriptor-in : writeRecordAt journal grantStretch k .descriptor < 16
     descriptor-in = omega (arith, landed-in _ (grant-in .writes k earlier) .0)
 
-    pub inside : (w : Landed) → w ≡ landedAs s (writeRecordAt journal grantStretch k)
+    pub inside : (w : Landing) → w ≡ landedAs s (writeRecordAt journal grantStretch k)
         → (w .file < 8) × (w .place + w .length ≤ 4096)
     unfolding landedAs fileOf
     inside w found =

@@ -7,7 +7,8 @@ use Prim.Native.Nat.{ℕ}
 use Rattle.record.specs.declared.Store.{Store}
 use Rattle.record.specs.declared.outcomes.Outcome.the-variants.{Done}
 use Rattle.record.specs.State.{withHeld, withUndo}
-use Rattle.record.specs.Layout.{recordLength, storeOf, journalOf, withHeldAt, withFoundCommitted}
+use Rattle.record.specs.Layout.{recordLength, storeOf, journalOf}
+use Rattle.record.specs.Updates.{withHeldAt, withFoundCommitted}
 use Rattle.record.specs.Paper.{said}
 use Rattle.record.proofs.UndoLaws.{length-copied, store-with-held, journal-with-held}
 use Rattle.record.proofs.UndoLaws.{store-with-found-committed, journal-with-found-committed}
@@ -16,7 +17,7 @@ use Rattle.undo.specs.OldBytes.{putBack}
 use Rattle.rules.specs.Messages.{takeBack}
 use Rattle.rules.specs.Machine.{Machine, lent, sizes}
 use Rattle.rules.specs.Undo.{landedOn, takenBack}
-use Rattle.rules.specs.Calls.{answer, takeBackTurn, call}
+use Rattle.rules.specs.Calls.{answerWith, takeBackTurn, call}
 use Rattle.rules.specs.Promises.{Meets, machineOf, LeftAsFound}
 use Rattle.refusing.proofs.Turns.{passing-on, done-follows}
 
@@ -45,7 +46,7 @@ module _ (kept files logs marks undo : List ℕ) (long : length kept ≡ recordL
         → (bytes : List ℕ) → bytes ≡ putBack (landedOn (storeOf kept) (journalOf kept)) undo files
         → Meets (call takeBack (machineOf kept files logs marks undo)) Done (machineOf after bytes logs marks undo) []
         × LeftAsFound Done kept after
-    unfolding call takeBackTurn takenBack answer said
+    unfolding call takeBackTurn takenBack answerWith said
     back-follows passes bytes e =
         let m = machineOf kept files logs marks undo in (
           rw (passing-on (testsOf m) [] m (takeBackTurn m) passes) (record {

@@ -4,7 +4,7 @@ use Rattle.standings.specs.Table.{placeNumber}
 use Rattle.record.specs.declared.Store.{Store}
 use Rattle.record.specs.declared.journal.WriteRecord.{WriteRecord}
 use Rattle.rules.specs.Machine.{fileOf}
-use Rattle.undoing.specs.declared.bytes_back.Landed.{Landed}
+use Rattle.landing.specs.declared.writes.Landing.{Landing}
 
-unfoldable pub landedAs : Store → WriteRecord → Landed
+unfoldable pub landedAs : Store → WriteRecord → Landing
 landedAs s w = record { file = fileOf s (w .descriptor); place = placeNumber (w .place); length = w .length }

@@ -1,4 +1,5 @@
 // The bytes on which the last grant landed go back.
+use landing::writes::Landing;
 use numbers::wide;
 use octets::parts;
 use record::journal::GRANT;
@@ -17,22 +18,15 @@ ghost use Rattle.undo.specs.OldBytes.{putBack};
 ghost use Rattle.rules.specs.Undo.{landedOn};
 ghost use Rattle.undoing.specs.Landed.{landedAs};
 
-// Where a write of the last grant landed: in which file, from which place of it on, and how many bytes.
-struct Landed {
-    pub file: usize,
-    pub place: usize,
-    pub length: usize,
-}
-
 // Where write k of the last grant landed.
-fn landed_at(kept: &Record, k: usize) -> Landed
+fn landed_at(kept: &Record, k: usize) -> Landing
     requires { ⌜ (k < 64) × (writeRecordAt (journalOf (now kept)) grantStretch k .descriptor < 16) ⌝ }
     ensures { λ r. ⌜ r ≡ landedAs (storeOf (now (kept .entry)))
         (writeRecordAt (journalOf (now (kept .entry))) grantStretch k) ⌝ }
 {
     let w = record_at(kept, GRANT, k);
     let p = w.place;
-    Landed {
+    Landing {
         file: wide(file_at(kept, wide(w.descriptor))),
         place: wide(p.number()),
         length: wide(w.length),
@@ -41,7 +35,8 @@ fn landed_at(kept: &Record, k: usize) -> Landed
 
 // Puts the old bytes back into the files, from the last write to the first.
 pub fn put_bytes_back(kept: &Record, files: &mut [u8], undo: &[u8])
-    requires { ⌜ (storeIn (storeOf (now kept)) (journalOf (now kept)) ≡ true) × (storeOf (now kept) .undo .held ≡ true)
+    requires { ⌜ (storeIn (storeOf (now kept)) (journalOf (now kept)) ≡ true)
+        × (storeOf (now kept) .undo .held ≡ true)
         × (length (now files) ≡ 32768) × (length (now undo) ≡ 4096) ⌝ }
     ensures { λ _. ⌜ now (files .exit) ≡
         putBack (landedOn (storeOf (now (kept .entry))) (journalOf (now (kept .entry)))) (now (undo .entry))

@@ -25,6 +25,7 @@ module _ (w : Window) (minute : ℕ) where
       always true e q = refl
       always false e q = let m = leb-false (w .start) minute e in lt-ltb minute (w .end) (omega arith)
 
-      pick : (b : Bool) → eqb (w .start) (w .end) ≡ b → leb (w .start) minute || ltb minute (w .end) ≡ b || (leb (w .start) minute || ltb minute (w .end))
+      pick : (b : Bool) → eqb (w .start) (w .end) ≡ b
+          → leb (w .start) minute || ltb minute (w .end) ≡ b || (leb (w .start) minute || ltb minute (w .end))
       pick true e = always (leb (w .start) minute) refl (eqb-true (w .start) (w .end) e)
       pick false e = refl

@@ -13,7 +13,7 @@ use record::layout::NUMBERS;
 use record::layout::Record;
 ghost use Prim.Native.Nat.{_<_};
 ghost use Rattle.digests.specs.Bounds.{Digest};
-ghost use Rattle.workload.specs.Bounds.{Running};
+ghost use Rattle.workload.specs.Bounds.{CourseBound};
 
 const CALLS: usize = 300000;
 
@@ -58,8 +58,8 @@ fn counts_after(counts: [usize; COUNTS], came: Came) -> [usize; COUNTS] {
 
 // The course after a call.
 fn course_after(mut c: Course, g: Generated, came: Came, reader: &[u8]) -> Course
-    requires { ⌜ Running c ⌝ }
-    ensures { λ r. ⌜ Running r ⌝ }
+    requires { ⌜ CourseBound c ⌝ }
+    ensures { λ r. ⌜ CourseBound r ⌝ }
 {
     let open = c.open;
     let sought = c.sought;
@@ -123,8 +123,8 @@ fn turn(
     bytes: &mut [u8],
     reader: &mut [u8],
 ) -> Course
-    requires { ⌜ Running c × (i < 300000) ⌝ }
-    ensures { λ r. ⌜ Running r ⌝ }
+    requires { ⌜ CourseBound c × (i < 300000) ⌝ }
+    ensures { λ r. ⌜ CourseBound r ⌝ }
 {
     let drawn = generator::draw(c.last);
     let numbers = drawn.numbers;

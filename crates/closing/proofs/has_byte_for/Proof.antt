@@ -30,7 +30,8 @@ record-at-requires : tie.Need-record-at-requires Inv-loop μ-loop
 record-at-requires c κs =
     let at-loop = c .before .before in
     let start = at-loop .before .before in
-    let n : at-loop .before .used-at .result .records ≡ transactionOf (start .args .kept .now) (start .args .t) .used .records = ap (λ (u : Used). u .records) (at-loop .before .used-at .ensures) in
+    let n : at-loop .before .used-at .result .records
+    ≡ transactionOf (start .args .kept .now) (start .args .t) .used .records = ap (λ (u : Used). u .records) (at-loop .before .used-at .ensures) in
     (omega (arith, start .pre .small), omega (arith, few (start .args .kept .now) (start .args .t) (start .pre), n, c .if1 .taken))
 
 -- A record that was read: its descriptor is one of the sixteen.
@@ -43,8 +44,10 @@ start-of c = loop-of c .before .before
 descriptor : (c : tie.After-record-at Inv-loop μ-loop) → c .record-at .result .descriptor < 16
 descriptor c =
     let start = start-of c in
-    let n : loop-of c .before .used-at .result .records ≡ transactionOf (start .args .kept .now) (start .args .t) .used .records = ap (λ (u : Used). u .records) (loop-of c .before .used-at .ensures) in
-    rw (c .record-at .ensures) (descriptor-in (start .args .kept .now) (start .args .t) (start .pre) (loop-of c .loop .k) (omega (arith, n, c .before .if1 .taken)))
+    let n : loop-of c .before .used-at .result .records
+    ≡ transactionOf (start .args .kept .now) (start .args .t) .used .records = ap (λ (u : Used). u .records) (loop-of c .before .used-at .ensures) in
+    rw (c .record-at .ensures)
+    (descriptor-in (start .args .kept .now) (start .args .t) (start .pre) (loop-of c .loop .k) (omega (arith, n, c .before .if1 .taken)))
 
 file-at-requires : tie.Need-file-at-requires Inv-loop μ-loop
 file-at-requires c κs = omega (arith, descriptor (c .before), c .wide .ensures .0)
@@ -56,7 +59,8 @@ read-of c = c .before .before .before
 file-is : (c : tie.After-wide2 Inv-loop μ-loop)
     → c .wide2 .result ≡ getD (storeOf (start-of (read-of c) .args .kept .now) .filenumbers) (read-of c .record-at .result .descriptor) 0
 file-is c =
-    c .wide2 .ensures .0 ∙ c .before .file-at .ensures ∙ ap (λ (d : ℕ). getD (storeOf (start-of (read-of c) .args .kept .now) .filenumbers) d 0) (c .before .before .wide .ensures .0)
+    c .wide2 .ensures .0 ∙ c .before .file-at .ensures
+    ∙ ap (λ (d : ℕ). getD (storeOf (start-of (read-of c) .args .kept .now) .filenumbers) d 0) (c .before .before .wide .ensures .0)
 
 contains-requires : tie.Need-contains-requires Inv-loop μ-loop
 contains-requires c κs =
@@ -77,7 +81,8 @@ unfolding recordHasByteFor
 this c =
     let read = read-of (kept-of c) in
     let a = start-of read .args in
-    ap (λ (w : WriteRecord). ltb 0 (w .length) && contains (a .octet) (getD (storeOf (a .kept .now) .filenumbers) (w .descriptor) 0)) (sym (read .record-at .ensures))
+    ap (λ (w : WriteRecord). ltb 0 (w .length) && contains (a .octet) (getD (storeOf (a .kept .now) .filenumbers) (w .descriptor) 0))
+    (sym (read .record-at .ensures))
     ∙ ap (λ (b : Bool). ltb 0 (read .record-at .result .length) && b) (sym (c .contains .ensures ∙ ap (contains (a .octet)) (file-is (kept-of c))))
 
 returns : tie.Need-returns Inv-loop μ-loop
@@ -86,22 +91,29 @@ returns c =
     let read = read-of (kept-of (c .before)) in
     let at-loop = loop-of read in
     let start = start-of read in
-    let n : at-loop .before .used-at .result .records ≡ transactionOf (start .args .kept .now) (start .args .t) .used .records = ap (λ (u : Used). u .records) (at-loop .before .used-at .ensures) in
-    sym (some-found (testing start) (transactionOf (start .args .kept .now) (start .args .t) .used .records) (at-loop .loop .k) (omega (arith, n, read .before .if1 .taken)) (this (c .before) ∙ c .if2 .taken))
+    let n : at-loop .before .used-at .result .records
+    ≡ transactionOf (start .args .kept .now) (start .args .t) .used .records = ap (λ (u : Used). u .records) (at-loop .before .used-at .ensures) in
+    sym (some-found (testing start) (transactionOf (start .args .kept .now) (start .args .t) .used .records) (at-loop .loop .k)
+    (omega (arith, n, read .before .if1 .taken)) (this (c .before) ∙ c .if2 .taken))
 
 loop-again : tie.Need-loop-again Inv-loop μ-loop
 loop-again c =
     let read = read-of (kept-of (c .before)) in
-    let at-loop = loop-of read in
-    (omega (arith, read .before .if1 .taken), some-more (testing (start-of read)) (at-loop .loop .k) (at-loop .loop .inv .1) (this (c .before) ∙ c .if2 .left))
+    let at-loop = loop-of read in (
+      omega (arith, read .before .if1 .taken),
+      some-more (testing (start-of read)) (at-loop .loop .k) (at-loop .loop .inv .1)
+          (this (c .before) ∙ c .if2 .left),
+    )
 
 returns-2 : tie.Need-returns-2 Inv-loop μ-loop
 unfolding hasByteFor
 returns-2 c =
     let at-loop = c .before .before in
     let start = at-loop .before .before in
-    let n : at-loop .before .used-at .result .records ≡ transactionOf (start .args .kept .now) (start .args .t) .used .records = ap (λ (u : Used). u .records) (at-loop .before .used-at .ensures) in
-    let all : at-loop .loop .k ≡ transactionOf (start .args .kept .now) (start .args .t) .used .records = omega (arith, n, c .if1 .left, at-loop .loop .inv .0) in
+    let n : at-loop .before .used-at .result .records
+    ≡ transactionOf (start .args .kept .now) (start .args .t) .used .records = ap (λ (u : Used). u .records) (at-loop .before .used-at .ensures) in
+    let all : at-loop .loop .k
+    ≡ transactionOf (start .args .kept .now) (start .args .t) .used .records = omega (arith, n, c .if1 .left, at-loop .loop .inv .0) in
     sym (ap (someBelow (testing start)) (sym all) ∙ at-loop .loop .inv .1)
 
 pub has-byte-for-spec : {M : Type 1} → statement M

@@ -7,9 +7,9 @@ use Rattle.conflicts.proofs.stale_by.Statement.{statement}
 use Rattle.conflicts.proofs.stale_by.Tie as tie
 
 returns : tie.Need-returns
-returns c = λ files logs size.
+returns c = λ files logs undo size.
     let a = c .before .before .before .args in
-    none-stale (a .kept .now) files logs (a .marks .now) (a .t) _ (c .before .watched .ensures) (c .if1 .taken)
+    none-stale (a .kept .now) files logs (a .marks .now) undo (a .t) _ (c .before .watched .ensures) (c .if1 .taken)
 
 used-at-requires : tie.Need-used-at-requires
 used-at-requires c κs = c .before .before .before .pre .0 .small
@@ -21,15 +21,16 @@ length-sighters-requires : tie.Need-length-sighters-requires
 length-sighters-requires c κs = byte-sighters-requires (c .before .before) κs .0
 
 returns-2 : tie.Need-returns-2
-returns-2 c = λ files logs size.
+returns-2 c = λ files logs undo size.
     let at-watched = c .before .before .before .before .before .before .before in
     let start = at-watched .before .before in
     let a = start .args in
     let kept = a .kept .now in
     let marks = a .marks .now in
-    stale-is kept files logs marks (a .t) _ (at-watched .watched .ensures) (start .pre .0 .small)
+    stale-is kept files logs marks undo (a .t) _ (at-watched .watched .ensures) (start .pre .0 .small)
     _ (c .before .before .before .before .before .used-at .ensures) _ _ _ _ _
-    (c .before .before .before .before .byte-sighters .ensures logs size) (c .before .before .before .offset-sighters .ensures marks (values (storeOf kept) files))
+    (c .before .before .before .before .byte-sighters .ensures logs size)
+    (c .before .before .before .offset-sighters .ensures marks (values (storeOf kept) files))
     (c .before .before .length-sighters .ensures files logs marks size) (c .before .joined .ensures) (c .joined2 .ensures) (search needs)
 
 pub stale-by-spec : {M : Type 1} → statement M

@@ -14,7 +14,8 @@ use Rattle.coverage.proofs.count_stretches.Statement.{statement}
 use Rattle.coverage.proofs.count_stretches.Tie as tie
 
 abbrev Inv-loop : tie.InvT-loop
-Inv-loop kept t used f p₀ n₀ p n = (p ≤ 4096) × (n ≤ p) × (l : List Listed) × (length l ≡ n) × Listing (coveredAt (recordedIn kept) t (used .records) f) p l
+Inv-loop kept t used f p₀ n₀ p n = (p ≤ 4096) × (n ≤ p) × (l : List Listed) × (length l ≡ n)
+    × Listing (coveredAt (recordedIn kept) t (used .records) f) p l
 
 abbrev μ-loop : tie.MeasureT-loop
 μ-loop kept t used f p₀ n₀ p n = 4096 - p

@@ -40,7 +40,8 @@ returns c =
     let a = s .args in
     let l = c .before .before .before .before .loop in
     let r = c .before .before .latest-write in
-    first-clear-here (lent s) (a .t) (a .used .records) (extent (a .f) (l .q) (4096 - l .q)) (r .result) (r .ensures .1) (a .p) (l .inv .0) (l .inv .1) (l .inv .2) (sym (c .before .is-record .ensures) ∙ not-true _ (c .if1 .taken))
+    first-clear-here (lent s) (a .t) (a .used .records) (extent (a .f) (l .q) (4096 - l .q)) (r .result) (r .ensures .1) (a .p) (l .inv .0)
+    (l .inv .1) (l .inv .2) (sym (c .before .is-record .ensures) ∙ not-true _ (c .if1 .taken))
 
 add-q : tie.Need-add-q Inv-loop μ-loop
 add-q c = search needs
@@ -56,13 +57,14 @@ loop-again c =
     let r = c .before .before .before .latest-write in (
       omega arith,
       omega (arith, r .ensures .1 .within),
-      first-clear-after (lent s) (a .t) (a .used .records) (extent (a .f) (l .q) (4096 - l .q)) (r .result) (r .ensures .1) (a .p) (l .inv .2) (sym (c .before .before .is-record .ensures) ∙ not-false _ (c .before .if1 .left)),
+      first-clear-after (lent s) (a .t) (a .used .records) (extent (a .f) (l .q) (4096 - l .q)) (r .result) (r .ensures .1) (a .p)
+          (l .inv .2) (sym (c .before .before .is-record .ensures) ∙ not-false _ (c .before .if1 .left)),
     )
 
 returns-2 : tie.Need-returns-2 Inv-loop μ-loop
 returns-2 c =
     let l = c .before .loop in
-    record { start = l .inv .0; within = l .inv .1; same = l .inv .2; ended = λ h. absurd (omega arith) }
+    record { start = l .inv .0; within = l .inv .1; same = l .inv .2; turned = λ h. absurd (omega arith) }
 
 pub first-clear-spec : {M : Type 1} → statement M
 first-clear-spec =

@@ -38,7 +38,8 @@ returns-2 c =
     let s = c .before .before .before .before in
     let a = s .args in
     let r = c .before .before .latest-write in
-    first-covered-here (lent s) (a .t) (a .used .records) (extent (a .f) (a .p) (4096 - a .p)) (r .result) (r .ensures .1) refl (omega arith) (sym (c .before .is-record .ensures) ∙ c .if2 .taken)
+    first-covered-here (lent s) (a .t) (a .used .records) (extent (a .f) (a .p) (4096 - a .p)) (r .result) (r .ensures .1) refl
+    (omega arith) (sym (c .before .is-record .ensures) ∙ c .if2 .taken)
 
 add-result : tie.Need-add-result
 add-result c = search needs
@@ -48,7 +49,8 @@ returns-3 c =
     let s = c .before .before .before .before .before in
     let a = s .args in
     let r = c .before .before .before .latest-write in
-    first-covered-after (lent s) (a .t) (a .used .records) (extent (a .f) (a .p) (4096 - a .p)) (r .result) (r .ensures .1) refl (omega arith) (sym (c .before .before .is-record .ensures) ∙ c .before .if2 .left)
+    first-covered-after (lent s) (a .t) (a .used .records) (extent (a .f) (a .p) (4096 - a .p)) (r .result) (r .ensures .1) refl
+    (omega arith) (sym (c .before .before .is-record .ensures) ∙ c .before .if2 .left)
 
 pub first-covered-spec : {M : Type 1} → statement M
 first-covered-spec =

@@ -44,7 +44,8 @@ returns-3 : tie.Need-returns-3
 returns-3 c =
     let there = c .before .before in
     let s = there .before .before .before in
-    sym (waits-here (numbers s) (s .args .f) (s .args .w) (sym (file-is (there .before)) ∙ there .if1 .left) _ (c .enum-told2 .given .1) ∙ unplaced-has-none _)
+    sym (waits-here (numbers s) (s .args .f) (s .args .w) (sym (file-is (there .before)) ∙ there .if1 .left) _
+    (c .enum-told2 .given .1) ∙ unplaced-has-none _)
 
 pub waits-spec : {M : Type 1} → statement M
 waits-spec =

@@ -11,7 +11,8 @@ use Rattle.octets.specs.Parts.{pasted}
 use Rattle.rules.specs.Coverage.{encoded, withPairs, stretchesOf, Stretch as Listed}
 use Rattle.runs.specs.Runs.{recordedIn}
 use Rattle.coverage.specs.Covering.{coveredAt}
-use Rattle.coverage.proofs.ListLaws.{Listing, asListed, listing-none, listing-end, listing-all, listing-more, listing-room, length-snoc, pair, pairs-none, pairs-more, pairs-all}
+use Rattle.coverage.proofs.ListLaws.{Listing, asListed, listing-none, listing-end, listing-all, listing-more, listing-room}
+use Rattle.coverage.proofs.ListLaws.{length-snoc, pair, pairs-none, pairs-more, pairs-all}
 use Rattle.coverage.proofs.write_stretches.Statement.{statement}
 use Rattle.coverage.proofs.write_stretches.Tie as tie
 
@@ -57,7 +58,8 @@ returns c =
     let n = found .next-stretch in
     l .inv .5
     ∙ pairs-all (s .args .out .now) (l .inv .2)
-    ∙ ap (λ (m : List Listed). withPairs m (s .args .out .now)) (listing-all (covering s) (l .p) (l .inv .2) (l .inv .4) (n .result) (n .ensures) (c .if1 .taken))
+    ∙ ap (λ (m : List Listed). withPairs m (s .args .out .now))
+    (listing-all (covering s) (l .p) (l .inv .2) (l .inv .4) (n .result) (n .ensures) (c .if1 .taken))
 
 -- The list has a stretch more than those written.
 room : (c : tie.Else1 Inv-loop μ-loop) → let found = c .before .before in

@@ -5,14 +5,14 @@ use Rattle.grammar.proofs.Laws.{lettered-other, other}
 use Rattle.grammar.proofs.by_letter.Statement.{statement}
 use Rattle.grammar.proofs.by_letter.Tie as tie
 
-ended-requires : tie.Need-ended-requires
-ended-requires c κs = search needs
+whole-line-requires : tie.Need-whole-line-requires
+whole-line-requires c κs = search needs
 
-ended-requires-2 : tie.Need-ended-requires-2
-ended-requires-2 c κs = search needs
+whole-line-requires-2 : tie.Need-whole-line-requires-2
+whole-line-requires-2 c κs = search needs
 
-ended-requires-3 : tie.Need-ended-requires-3
-ended-requires-3 c κs = search needs
+whole-line-requires-3 : tie.Need-whole-line-requires-3
+whole-line-requires-3 c κs = search needs
 
 pointer-line-requires : tie.Need-pointer-line-requires
 pointer-line-requires c κs = search needs
@@ -28,15 +28,15 @@ write-line-requires c κs = search needs
 
 returns : tie.Need-returns
 unfolding lettered
-returns c = rw (c .before .match .keys1) (c .ended .ensures)
+returns c = rw (c .before .match .keys1) (c .whole-line .ensures)
 
 returns-2 : tie.Need-returns-2
 unfolding lettered
-returns-2 c = rw (c .before .match .keys2) (c .ended2 .ensures)
+returns-2 c = rw (c .before .match .keys2) (c .whole-line2 .ensures)
 
 returns-3 : tie.Need-returns-3
 unfolding lettered
-returns-3 c = rw (c .before .match .keys3) (c .ended3 .ensures)
+returns-3 c = rw (c .before .match .keys3) (c .whole-line3 .ensures)
 
 returns-4 : tie.Need-returns-4
 unfolding lettered
@@ -55,15 +55,16 @@ unfolding lettered
 returns-7 c = rw (c .before .match .keys7) (c .write-line .ensures)
 
 returns-8 : tie.Need-returns-8
-returns-8 c = other _ _ (lettered-other _ _ _ (c .match .rest .0 .0 .0 .0 .0 .0 .1) (c .match .rest .0 .0 .0 .0 .0 .1) (c .match .rest .0 .0 .0 .0 .1) (c .match .rest .0 .0 .0 .1) (c .match .rest .0 .0 .1) (c .match .rest .0 .1) (c .match .rest .1))
+returns-8 c = other _ _ (lettered-other _ _ _ (c .match .rest .0 .0 .0 .0 .0 .0 .1) (c .match .rest .0 .0 .0 .0 .0 .1)
+    (c .match .rest .0 .0 .0 .0 .1) (c .match .rest .0 .0 .0 .1) (c .match .rest .0 .0 .1) (c .match .rest .0 .1) (c .match .rest .1))
 
 pub by-letter-spec : {M : Type 1} → statement M
 by-letter-spec =
     tie.close
     (tie.spec
-    ended-requires
-    ended-requires-2
-    ended-requires-3
+    whole-line-requires
+    whole-line-requires-2
+    whole-line-requires-3
     pointer-line-requires
     seek-or-read-line-requires
     seek-or-read-line-requires-2

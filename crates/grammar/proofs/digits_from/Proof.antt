@@ -6,7 +6,7 @@ use lib.ListN.{drop}
 use borrow.Author.Needs.{needs}
 use Rattle.ranges.proofs.Laws.{failed, held}
 use Rattle.grammar.specs.Grammar.{worth, digits}
-use Rattle.grammar.specs.Parsing.{foundOf}
+use Rattle.grammar.specs.Parsing.{numeralOf}
 use Rattle.grammar.proofs.Laws.{most, most-more, most-small, digits-none, digits-end, digits-stop, digits-more}
 use Rattle.grammar.proofs.digits_from.Statement.{statement}
 use Rattle.grammar.proofs.digits_from.Tie as tie
@@ -23,7 +23,7 @@ unfolding most
 loop-holds c = (omega arith, omega arith, refl)
 
 returns : tie.Need-returns Inv-loop μ-loop
-unfolding foundOf
+unfolding numeralOf
 returns c = sym (c .before .before .loop .inv .2 ∙ digits-end _ _ _ _ (c .if1 .taken))
 
 shared-slice-read-b : tie.Need-shared-slice-read-b Inv-loop μ-loop
@@ -33,8 +33,9 @@ is-digit-requires : tie.Need-is-digit-requires Inv-loop μ-loop
 is-digit-requires c κs = search needs
 
 returns-2 : tie.Need-returns-2 Inv-loop μ-loop
-unfolding foundOf
-returns-2 c = sym (c .before .before .before .before .before .loop .inv .2 ∙ digits-stop _ _ _ _ (c .before .before .before .if1 .left) (failed (c .before .is-digit .ensures) (c .if2 .taken)))
+unfolding numeralOf
+returns-2 c = sym (c .before .before .before .before .before .loop .inv .2
+    ∙ digits-stop _ _ _ _ (c .before .before .before .if1 .left) (failed (c .before .is-digit .ensures) (c .if2 .taken)))
 
 mul-number : tie.Need-mul-number Inv-loop μ-loop
 mul-number c = omega (arith, most-small _ _ (c .before .before .before .before .before .loop .inv .1) (c .before .before .before .before .before .loop .inv .0))
@@ -43,7 +44,11 @@ worth-requires : tie.Need-worth-requires Inv-loop μ-loop
 worth-requires c κs = held (c .before .is-digit .ensures) (c .if2 .left)
 
 add-number : tie.Need-add-number Inv-loop μ-loop
-add-number c = omega (arith, most-small _ _ (c .before .before .before .before .before .before .loop .inv .1) (c .before .before .before .before .before .before .loop .inv .0))
+add-number c = omega (
+  arith,
+  most-small _ _ (c .before .before .before .before .before .before .loop .inv .1)
+      (c .before .before .before .before .before .before .loop .inv .0),
+)
 
 add-at : tie.Need-add-at Inv-loop μ-loop
 add-at c = search needs
@@ -57,12 +62,16 @@ loop-less c = omega arith
 loop-again : tie.Need-loop-again Inv-loop μ-loop
 loop-again c = (
   omega arith,
-  most-more _ _ (c .before .before .before .before .before .before .loop .inv .1) _ (omega arith) (c .before .before .before .before .before .before .loop .inv .0) (c .worth .ensures .1),
-  rw (c .worth .ensures .0) (c .before .before .before .before .before .before .loop .inv .2 ∙ digits-more _ _ _ _ (omega arith) (c .before .before .before .before .if1 .left) (held (c .before .before .is-digit .ensures) (c .before .if2 .left))),
+  most-more _ _ (c .before .before .before .before .before .before .loop .inv .1) _ (omega arith)
+      (c .before .before .before .before .before .before .loop .inv .0) (c .worth .ensures .1),
+  rw (c .worth .ensures .0)
+      (c .before .before .before .before .before .before .loop .inv .2
+      ∙ digits-more _ _ _ _ (omega arith) (c .before .before .before .before .if1 .left)
+      (held (c .before .before .is-digit .ensures) (c .before .if2 .left))),
 )
 
 returns-3 : tie.Need-returns-3 Inv-loop μ-loop
-unfolding foundOf
+unfolding numeralOf
 returns-3 c = sym (c .before .loop .inv .2 ∙ digits-none _ _ _ (omega arith))
 
 pub digits-from-spec : {M : Type 1} → statement M

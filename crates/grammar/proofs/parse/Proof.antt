@@ -19,7 +19,8 @@ is-digit-requires : tie.Need-is-digit-requires
 is-digit-requires c κs = search needs
 
 returns-3 : tie.Need-returns-3
-returns-3 c = other _ _ (parsed-form _ (c .before .before .before .before .if1 .left) ∙ form-other _ (c .before .before .before .if2 .left) (failed (c .before .is-digit .ensures) (c .if3 .taken)))
+returns-3 c = other _ _ (parsed-form _ (c .before .before .before .before .if1 .left)
+    ∙ form-other _ (c .before .before .before .if2 .left) (failed (c .before .is-digit .ensures) (c .if3 .taken)))
 
 shared-slice-read-by-letter : tie.Need-shared-slice-read-by-letter
 shared-slice-read-by-letter c = search needs
@@ -31,7 +32,11 @@ by-letter-requires : tie.Need-by-letter-requires
 by-letter-requires c κs = search needs
 
 returns-4 : tie.Need-returns-4
-returns-4 c = as-meant _ _ _ _ (parsed-form _ (c .before .before .before .before .before .before .before .if1 .left) ∙ form-digit _ (c .before .before .before .before .before .before .if2 .left) (held (c .before .before .before .before .is-digit .ensures) (c .before .before .before .if3 .left)) _ (c .before .worth .ensures .0)) (c .by-letter .ensures)
+returns-4 c = as-meant _ _ _ _
+    (parsed-form _ (c .before .before .before .before .before .before .before .if1 .left)
+    ∙ form-digit _ (c .before .before .before .before .before .before .if2 .left)
+    (held (c .before .before .before .before .is-digit .ensures) (c .before .before .before .if3 .left)) _ (c .before .worth .ensures .0))
+    (c .by-letter .ensures)
 
 pub parse-spec : {M : Type 1} → statement M
 parse-spec =

@@ -16,12 +16,12 @@ enum-told c = search needs
 returns : tie.Need-returns
 returns c = after-missing _ _ _ _ (c .before .before .number-at .ensures) (c .enum-told .given .1)
 
-ended-requires : tie.Need-ended-requires
-ended-requires c κs = search needs
+whole-line-requires : tie.Need-whole-line-requires
+whole-line-requires c κs = search needs
 
 returns-2 : tie.Need-returns-2
-returns-2 c = after-number _ _ _ _ (c .before .before .before .before .number-at .ensures) _ _ _ (c .before .before .d .given .1) (c .ended .ensures)
+returns-2 c = after-number _ _ _ _ (c .before .before .before .before .number-at .ensures) _ _ _ (c .before .before .d .given .1) (c .whole-line .ensures)
 
 pub pointer-line-spec : {M : Type 1} → statement M
 pointer-line-spec =
-    tie.close (tie.spec number-at-requires enum-known-d enum-told returns ended-requires returns-2)
+    tie.close (tie.spec number-at-requires enum-known-d enum-told returns whole-line-requires returns-2)

@@ -26,19 +26,26 @@ enum-told-2 : tie.Need-enum-told-2
 enum-told-2 c = search needs
 
 returns-2 : tie.Need-returns-2
-returns-2 c = after-number _ _ _ _ (c .before .before .before .before .before .before .number-at .ensures) _ _ _ (c .before .before .before .before .d .given .1) (after-missing _ _ _ _ (c .before .before .number-at2 .ensures) (c .enum-told2 .given .1))
+returns-2 c = after-number _ _ _ _ (c .before .before .before .before .before .before .number-at .ensures) _ _ _
+    (c .before .before .before .before .d .given .1) (after-missing _ _ _ _ (c .before .before .number-at2 .ensures) (c .enum-told2 .given .1))
 
-ended-requires : tie.Need-ended-requires
-ended-requires c κs = search needs
+whole-line-requires : tie.Need-whole-line-requires
+whole-line-requires c κs = search needs
 
 returns-3 : tie.Need-returns-3
-returns-3 c = after-number _ _ _ _ (c .before .before .before .before .before .before .before .before .before .number-at .ensures) _ _ _ (c .before .before .before .before .before .before .before .d .given .1) (after-number _ _ _ _ (c .before .before .before .before .before .number-at2 .ensures) _ _ _ (c .before .before .before .n .given .1) (rw (c .before .if1 .taken) (c .ended .ensures)))
+returns-3 c = after-number _ _ _ _ (c .before .before .before .before .before .before .before .before .before .number-at .ensures) _ _ _
+    (c .before .before .before .before .before .before .before .d .given .1)
+    (after-number _ _ _ _ (c .before .before .before .before .before .number-at2 .ensures) _ _ _ (c .before .before .before .n .given .1)
+    (rw (c .before .if1 .taken) (c .whole-line .ensures)))
 
-ended-requires-2 : tie.Need-ended-requires-2
-ended-requires-2 c κs = search needs
+whole-line-requires-2 : tie.Need-whole-line-requires-2
+whole-line-requires-2 c κs = search needs
 
 returns-4 : tie.Need-returns-4
-returns-4 c = after-number _ _ _ _ (c .before .before .before .before .before .before .before .before .before .number-at .ensures) _ _ _ (c .before .before .before .before .before .before .before .d .given .1) (after-number _ _ _ _ (c .before .before .before .before .before .number-at2 .ensures) _ _ _ (c .before .before .before .n .given .1) (rw (c .before .if1 .left) (c .ended2 .ensures)))
+returns-4 c = after-number _ _ _ _ (c .before .before .before .before .before .before .before .before .before .number-at .ensures) _ _ _
+    (c .before .before .before .before .before .before .before .d .given .1)
+    (after-number _ _ _ _ (c .before .before .before .before .before .number-at2 .ensures) _ _ _ (c .before .before .before .n .given .1)
+    (rw (c .before .if1 .left) (c .whole-line2 .ensures)))
 
 pub seek-or-read-line-spec : {M : Type 1} → statement M
 seek-or-read-line-spec =
@@ -52,7 +59,7 @@ seek-or-read-line-spec =
     enum-known-n
     enum-told-2
     returns-2
-    ended-requires
+    whole-line-requires
     returns-3
-    ended-requires-2
+    whole-line-requires-2
     returns-4)

@@ -20,20 +20,24 @@ returns : tie.Need-returns
 returns c = after-missing _ _ _ _ (c .before .before .number-at .ensures) (c .enum-told .given .1)
 
 returns-2 : tie.Need-returns-2
-returns-2 c = after-number _ _ _ _ (c .before .before .before .before .number-at .ensures) _ _ _ (c .before .before .d .given .1) (other _ _ (writes-end _ _ _ (c .if1 .taken)))
+returns-2 c = after-number _ _ _ _ (c .before .before .before .before .number-at .ensures) _ _ _ (c .before .before .d .given .1)
+    (other _ _ (writes-end _ _ _ (c .if1 .taken)))
 
 shared-slice-read-if2 : tie.Need-shared-slice-read-if2
 shared-slice-read-if2 c = search needs
 
 returns-3 : tie.Need-returns-3
-returns-3 c = after-number _ _ _ _ (c .before .before .before .before .before .before .number-at .ensures) _ _ _ (c .before .before .before .before .d .given .1) (other _ _ (writes-other _ _ _ (c .before .before .if1 .left) (c .if2 .taken)))
+returns-3 c = after-number _ _ _ _ (c .before .before .before .before .before .before .number-at .ensures) _ _ _
+    (c .before .before .before .before .d .given .1) (other _ _ (writes-other _ _ _ (c .before .before .if1 .left) (c .if2 .taken)))
 
 add-t6 : tie.Need-add-t6
 add-t6 c = search needs
 
 returns-4 : tie.Need-returns-4
 unfolding lineOf startOf
-returns-4 c = after-number _ _ _ _ (c .before .before .before .before .before .before .number-at .ensures) _ _ _ (c .before .before .before .before .d .given .1) (record { means = sym (writes-space _ _ _ (c .before .before .if1 .left) (c .if2 .left)); within = omega arith })
+returns-4 c = after-number _ _ _ _ (c .before .before .before .before .before .before .number-at .ensures) _ _ _
+    (c .before .before .before .before .d .given .1)
+    (record { means = sym (writes-space _ _ _ (c .before .before .if1 .left) (c .if2 .left)); within = omega arith })
 
 pub write-line-spec : {M : Type 1} → statement M
 write-line-spec =

@@ -46,8 +46,11 @@ returns c =
 minutes : (c : tie.After-enum-told) → let a = start-of c .args in (a .start ≤ 1439) × (a .end ≤ 1439)
 minutes c =
     let a = start-of c .args in
-    let both = admits c .minutes in
-    (minute-most (a .start) (and-left (minuteIn (a .start)) (minuteIn (a .end)) both), minute-most (a .end) (and-right (minuteIn (a .start)) (minuteIn (a .end)) both))
+    let both = admits c .minutes in (
+      minute-most (a .start) (and-left (minuteIn (a .start)) (minuteIn (a .end)) both),
+      minute-most (a .end)
+          (and-right (minuteIn (a .start)) (minuteIn (a .end)) both),
+    )
 
 cast-t17 : tie.Need-cast-t17
 cast-t17 c = let l = minutes c in search needs
@@ -62,7 +65,8 @@ returns-2 : tie.Need-returns-2
 returns-2 c =
     let told = c .before .before in
     let a = start-of told .args in
-    window-follows (a .f) (a .start) (a .end) _ _ _ _ _ (told .before .before .admit-window .ensures .1) (admits told .small) (passed told) _ (c .put-window .ensures)
+    window-follows (a .f) (a .start) (a .end) _ _ _ _ _ (told .before .before .admit-window .ensures .1) (admits told .small)
+    (passed told) _ (c .put-window .ensures)
 
 pub set-window-spec : {M : Type 1} → statement M
 set-window-spec =

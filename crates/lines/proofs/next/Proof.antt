@@ -7,14 +7,15 @@ use Prim.Native.Nat.{ℕ, _+_, _-_, _≤_, _<_}
 use native.Mathlib.Omega.{arith}
 use lib.ListN.{length, take, drop, getD, length-set, drop-of-length-le}
 use borrow.Author.Needs.{needs}
-use Rattle.lines.specs.Lines.{Found, endedIn, heldAfter}
+use Rattle.lines.specs.Lines.{NextLine, endedIn, heldAfter}
 use Rattle.lines.proofs.Laws.{Same, passed, stopped, joins, let-go}
 use Rattle.lines.proofs.next.Statement.{statement}
 use Rattle.lines.proofs.next.Tie as tie
 
 abbrev Inv-loop : tie.InvT-loop
 Inv-loop line₀ held piece from n₀ i₀ line n i =
-    (n ≤ 129) × ((from ≤ i) × ((i ≤ length piece) × ((length line ≡ 129) × Same (take held line₀) (drop from piece) (take n line) (drop i piece))))
+    (n ≤ 129) × ((from ≤ i) × ((i ≤ length piece)
+    × ((length line ≡ 129) × Same (take held line₀) (drop from piece) (take n line) (drop i piece))))
 
 abbrev μ-loop : tie.MeasureT-loop
 μ-loop line₀ held piece from n₀ i₀ line n i = length piece - i
@@ -32,13 +33,16 @@ same-length : tie.Need-same-length Inv-loop μ-loop
 same-length c = omega arith
 
 returns : tie.Need-returns Inv-loop μ-loop
-unfolding Found
+unfolding NextLine
 returns c =
     let l = c .before .before .before .loop in
     let p = c .before .before .before .before .args .piece .now in
     let s = l .inv .1 .1 .1 .1 in
-    let f = stopped (take (l .n) (l .line)) p (l .i) (c .before .before .loop-test .taken) (c .if1 .taken) in
-    ((s .0 ∙ f .0, s .1 ∙ f .1), record { within = omega arith; onward = omega arith; inside = omega arith; past = λ e. omega arith; whole = λ e. absurd (false≢true (sym e)) })
+    let f = stopped (take (l .n) (l .line)) p (l .i) (c .before .before .loop-test .taken) (c .if1 .taken) in (
+      (s .0 ∙ f .0, s .1 ∙ f .1),
+      record
+          { within = omega arith; onward = omega arith; inside = omega arith; past = λ e. omega arith; whole = λ e. absurd (false≢true (sym e)) },
+    )
 
 slice-write-line : tie.Need-slice-write-line Inv-loop μ-loop
 slice-write-line c = search needs
@@ -58,8 +62,23 @@ loop-again c =
     let h : l .i < length p = c .before .before .before .loop-test .taken in
     let q = passed (take (l .n) (l .line)) p (l .i) h (c .before .if1 .left) in
     let j = joins (l .line) (l .n) b (c .if2 .taken) (l .inv .1 .1 .1 .0) in
-    let z = length-set (l .line) (l .n) b in
-    (omega arith, (omega arith, (omega arith, (z ∙ l .inv .1 .1 .1 .0, (s .0 ∙ q .0 ∙ ap (λ (x : List ℕ). endedIn x (drop (l .i + 1) p)) j, s .1 ∙ q .1 ∙ ap (λ (x : List ℕ). heldAfter x (drop (l .i + 1) p)) j)))))
+    let z = length-set (l .line) (l .n) b in (
+      omega arith,
+      (
+        omega arith,
+        (
+          omega arith,
+          (
+            z ∙ l .inv .1 .1 .1 .0,
+            (
+              s .0 ∙ q .0 ∙ ap (λ (x : List ℕ). endedIn x (drop (l .i + 1) p)) j,
+              s .1 ∙ q .1
+                  ∙ ap (λ (x : List ℕ). heldAfter x (drop (l .i + 1) p)) j,
+            ),
+          ),
+        ),
+      ),
+    )
 
 loop-less-2 : tie.Need-loop-less-2 Inv-loop μ-loop
 loop-less-2 c = search needs
@@ -72,20 +91,38 @@ loop-again-2 c =
     let s = l .inv .1 .1 .1 .1 in
     let h : l .i < length p = c .before .before .before .loop-test .taken in
     let q = passed (take (l .n) (l .line)) p (l .i) h (c .before .if1 .left) in
-    let j = let-go (l .line) (l .n) b (l .inv .0) (c .if2 .left) (l .inv .1 .1 .1 .0) in
-    (omega arith, (omega arith, (omega arith, (l .inv .1 .1 .1 .0, (s .0 ∙ q .0 ∙ ap (λ (x : List ℕ). endedIn x (drop (l .i + 1) p)) j, s .1 ∙ q .1 ∙ ap (λ (x : List ℕ). heldAfter x (drop (l .i + 1) p)) j)))))
+    let j = let-go (l .line) (l .n) b (l .inv .0) (c .if2 .left) (l .inv .1 .1 .1 .0) in (
+      omega arith,
+      (
+        omega arith,
+        (
+          omega arith,
+          (
+            l .inv .1 .1 .1 .0,
+            (
+              s .0 ∙ q .0 ∙ ap (λ (x : List ℕ). endedIn x (drop (l .i + 1) p)) j,
+              s .1 ∙ q .1
+                  ∙ ap (λ (x : List ℕ). heldAfter x (drop (l .i + 1) p)) j,
+            ),
+          ),
+        ),
+      ),
+    )
 
 same-length-2 : tie.Need-same-length-2 Inv-loop μ-loop
 same-length-2 c = omega arith
 
 returns-2 : tie.Need-returns-2 Inv-loop μ-loop
-unfolding Found endedIn heldAfter
+unfolding NextLine endedIn heldAfter
 returns-2 c =
     let l = c .before .loop in
     let p = c .before .before .args .piece .now in
     let s = l .inv .1 .1 .1 .1 in
-    let e = drop-of-length-le p (c .loop-test .left) in
-    ((s .0 ∙ ap (endedIn (take (l .n) (l .line))) e, s .1 ∙ ap (heldAfter (take (l .n) (l .line))) e), record { within = omega arith; onward = omega arith; inside = omega arith; past = λ e. absurd (false≢true e); whole = λ e. omega arith })
+    let e = drop-of-length-le p (c .loop-test .left) in (
+      (s .0 ∙ ap (endedIn (take (l .n) (l .line))) e, s .1 ∙ ap (heldAfter (take (l .n) (l .line))) e),
+      record
+          { within = omega arith; onward = omega arith; inside = omega arith; past = λ e. absurd (false≢true e); whole = λ e. omega arith },
+    )
 
 pub next-spec : {M : Type 1} → statement M
 next-spec =

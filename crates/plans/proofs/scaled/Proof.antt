@@ -1,7 +1,7 @@
 -- `scaled` meets its contract.
 use native.Mathlib.Omega.{arith}
 use native.Mathlib.Nat.{mul-le-mul-right, le-of-lt}
-use borrow.Author.Needs.{needs, scaled-fits}
+use borrow.Author.Needs.{scaled-fits}
 use Rattle.plans.proofs.scaled.Statement.{statement}
 use Rattle.plans.proofs.scaled.Tie as tie
 

@@ -1,13 +1,13 @@
 -- `put_decimal` meets its contract; its measure is the number. Assumes nothing.
 use mathlib.Core.Path.{ap}
 use mathlib.Core.List.{[], _∷_}
-use Prim.Native.Nat.{_+_, _/_}
+use Prim.Native.Nat.{_/_, _<_}
 use native.Mathlib.Omega.{arith}
 use lib.ListN.{length, length-append}
 use Rattle.printing.specs.Printed.{decimal, glyph}
 use Rattle.printing.proofs.Laws.{then, decimal-digit, decimal-more}
 use borrow.Author.Needs.{needs}
-use Prim.Native.Nat.{ℕ, _<_}
+use Prim.Native.Nat.{ℕ}
 use borrow.Fn.Kinds.{In}
 use borrow.Fn.PlainCycle.{Measures, is, falls, and}
 use Rattle.printing.proofs.put_decimal.Reads as put-decimal
@@ -57,7 +57,8 @@ put-decimal-put-byte-requires : (t : ℕ) → put-decimal-lts.Need-put-byte-requ
   put-decimal-below t,
   put-decimal.Post,
 ) (put-decimal-at t) put-decimal.Post
-put-decimal-put-byte-requires t c κs = let l = ap length (decimal-digit (c .before .before .before .before .args .n) (c .before .before .if1 .taken)) in omega (arith, l, c .before .before .before .before .pre .1)
+put-decimal-put-byte-requires t c κs = let l = ap length
+    (decimal-digit (c .before .before .before .before .args .n) (c .before .before .if1 .taken)) in omega (arith, l, c .before .before .before .before .pre .1)
 
 put-decimal-same-length : (t : ℕ) → put-decimal-lts.Need-same-length (
   glyph-reads.Asked,
@@ -77,7 +78,11 @@ put-decimal-returns : (t : ℕ) → put-decimal-lts.Need-returns (
   put-decimal-below t,
   put-decimal.Post,
 ) (put-decimal-at t) put-decimal.Post
-put-decimal-returns t c = rw (decimal-digit (c .before .before .before .before .before .before .before .args .n) (c .before .before .before .before .before .if1 .taken), ← c .before .before .before .glyph .ensures) (c .before .before .put-byte .ensures)
+put-decimal-returns t c = rw (
+  decimal-digit (c .before .before .before .before .before .before .before .args .n)
+      (c .before .before .before .before .before .if1 .taken),
+  ← c .before .before .before .glyph .ensures,
+) (c .before .before .put-byte .ensures)
 
 put-decimal-put-decimal-requires : (t : ℕ) → put-decimal-lts.Need-put-decimal-requires (
   glyph-reads.Asked,
@@ -122,8 +127,14 @@ put-decimal-put-byte-requires-2 : (t : ℕ) → put-decimal-lts.Need-put-byte-re
 ) (put-decimal-at t) put-decimal.Post
 put-decimal-put-byte-requires-2 t c κs =
     let n = c .before .before .before .before .before .before .before .before .args .n in
-    let l = ap length (decimal-more n (c .before .before .before .before .before .before .if1 .left) (c .before .before .before .before .before .before .before .before .fits .n .fits)) in
-    omega (arith, simp length-append at l, c .before .before .before .before .before .before .before .before .pre .1, c .before .before .before .before .put-decimal .ensures .end)
+    let l = ap length (decimal-more n (c .before .before .before .before .before .before .if1 .left)
+    (c .before .before .before .before .before .before .before .before .fits .n .fits)) in
+    omega (
+      arith,
+      simp length-append at l,
+      c .before .before .before .before .before .before .before .before .pre .1,
+      c .before .before .before .before .put-decimal .ensures .end,
+    )
 
 put-decimal-same-length-2 : (t : ℕ) → put-decimal-lts.Need-same-length-2 (
   glyph-reads.Asked,
@@ -145,9 +156,17 @@ put-decimal-returns-2 : (t : ℕ) → put-decimal-lts.Need-returns-2 (
 ) (put-decimal-at t) put-decimal.Post
 put-decimal-returns-2 t c =
     let n = c .before .before .before .before .before .before .before .before .before .before .before .args .n in
-    let e = decimal-more n (c .before .before .before .before .before .before .before .before .before .if1 .left) (c .before .before .before .before .before .before .before .before .before .before .before .fits .n .fits) in
+    let e = decimal-more n (c .before .before .before .before .before .before .before .before .before .if1 .left)
+    (c .before .before .before .before .before .before .before .before .before .before .before .fits .n .fits) in
     let l = ap length e in
-    rw (e, ← c .before .before .before .glyph2 .ensures) (then (decimal (n / 10)) (c .before .before .before .glyph2 .result ∷ []) (omega (arith, simp length-append at l, c .before .before .before .before .before .before .before .before .before .before .before .pre .1)) (c .before .before .before .before .before .before .before .put-decimal .ensures) (c .before .before .put-byte2 .ensures))
+    rw (e, ← c .before .before .before .glyph2 .ensures)
+    (then (decimal (n / 10)) (c .before .before .before .glyph2 .result ∷ [])
+    (omega (
+      arith,
+      simp length-append at l,
+      c .before .before .before .before .before .before .before .before .before .before .before .pre .1,
+    ))
+    (c .before .before .before .before .before .before .before .put-decimal .ensures) (c .before .before .put-byte2 .ensures))
 
 pub +put-decimal-spec : {M : Type 1} → statement M
 +put-decimal-spec = close μ-put-decimal λ t. put-decimal-lts.spec (

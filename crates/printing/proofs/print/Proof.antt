@@ -13,7 +13,13 @@ put-answer-requires c κs = search needs
 
 put-byte-requires : tie.Need-put-byte-requires
 put-byte-requires c κs =
-    omega (arith, length-spelled (said (c .before .before .before .before .before .before .before .args .o)) (c .before .before .before .before .before .before .before .args .reader .now), c .before .before .before .put-answer .ensures .end, c .before .before .before .before .before .before .before .pre)
+    omega (
+      arith,
+      length-spelled (said (c .before .before .before .before .before .before .before .args .o))
+          (c .before .before .before .before .before .before .before .args .reader .now),
+      c .before .before .before .put-answer .ensures .end,
+      c .before .before .before .before .before .before .before .pre,
+    )
 
 same-length : tie.Need-same-length
 same-length c = search needs
@@ -21,10 +27,21 @@ same-length c = search needs
 returns : tie.Need-returns
 unfolding printed
 returns c =
-    let text = spelled (said (c .before .before .before .before .before .before .before .before .before .before .args .o)) (c .before .before .before .before .before .before .before .before .before .before .args .reader .now) in
-    let l = length-spelled (said (c .before .before .before .before .before .before .before .before .before .before .args .o)) (c .before .before .before .before .before .before .before .before .before .before .args .reader .now) in
-    let put = then text (10 ∷ []) (omega (arith, l, c .before .before .before .before .before .before .before .before .before .before .pre)) (c .before .before .before .before .before .before .put-answer .ensures) (c .before .before .put-byte .ensures) in
-    (put, omega (arith, l, c .before .before .before .before .before .before .before .before .before .before .pre, c .before .before .before .before .before .before .put-answer .ensures .end, c .before .before .put-byte .ensures .end))
+    let text = spelled (said (c .before .before .before .before .before .before .before .before .before .before .args .o))
+    (c .before .before .before .before .before .before .before .before .before .before .args .reader .now) in
+    let l = length-spelled (said (c .before .before .before .before .before .before .before .before .before .before .args .o))
+    (c .before .before .before .before .before .before .before .before .before .before .args .reader .now) in
+    let put = then text (10 ∷ []) (omega (arith, l, c .before .before .before .before .before .before .before .before .before .before .pre))
+    (c .before .before .before .before .before .before .put-answer .ensures) (c .before .before .put-byte .ensures) in (
+      put,
+      omega (
+        arith,
+        l,
+        c .before .before .before .before .before .before .before .before .before .before .pre,
+        c .before .before .before .before .before .before .put-answer .ensures .end,
+        c .before .before .put-byte .ensures .end,
+      ),
+    )
 
 pub print-spec : {M : Type 1} → statement M
 print-spec = tie.close (tie.spec put-answer-requires put-byte-requires same-length returns)

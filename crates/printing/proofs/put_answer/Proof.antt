@@ -108,7 +108,8 @@ same-length-7 c = search needs
 
 returns-7 : tie.Need-returns-7
 unfolding spelled said
-returns-7 c = rw (c .before .before .before .before .before .before .o6 .given .1, ← c .before .before .before .number .ensures) (c .before .before .put-decimal .ensures)
+returns-7 c = rw (c .before .before .before .before .before .before .o6 .given .1, ← c .before .before .before .number .ensures)
+    (c .before .before .put-decimal .ensures)
 
 pub put-answer-spec : {M : Type 1} → statement M
 put-answer-spec =

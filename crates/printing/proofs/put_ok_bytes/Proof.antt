@@ -14,7 +14,8 @@ same-length : tie.Need-same-length
 same-length c = search needs
 
 returns : tie.Need-returns
-returns c = rw (bytes-none (c .before .before .before .before .before .before .before .args .bytes .now) (c .if1 .taken)) (c .before .before .before .put-ok .ensures)
+returns c = rw (bytes-none (c .before .before .before .before .before .before .before .args .bytes .now) (c .if1 .taken))
+    (c .before .before .before .put-ok .ensures)
 
 put-byte-requires : tie.Need-put-byte-requires
 put-byte-requires c κs = search needs
@@ -31,7 +32,10 @@ returns-2 c =
     let fits = c .before .before .before .before .before .before .before .before .before .before .before .before .before .before .before .pre in
     let l = length-pairs bs in
     rw (bytes-some bs (c .before .before .before .before .before .before .before .before .if1 .left))
-    (then (ok ++ (32 ∷ [])) (hexPairs bs) (omega arith) (then ok (32 ∷ []) (omega arith) (c .before .before .before .before .before .before .before .before .before .before .before .put-ok .ensures) (c .before .before .before .before .before .before .put-byte .ensures)) (c .before .before .put-pairs .ensures))
+    (then (ok ++ (32 ∷ [])) (hexPairs bs) (omega arith)
+    (then ok (32 ∷ []) (omega arith)
+    (c .before .before .before .before .before .before .before .before .before .before .before .put-ok .ensures)
+    (c .before .before .before .before .before .before .put-byte .ensures)) (c .before .before .put-pairs .ensures))
 
 pub put-ok-bytes-spec : {M : Type 1} → statement M
 put-ok-bytes-spec =

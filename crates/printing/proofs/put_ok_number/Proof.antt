@@ -15,7 +15,13 @@ put-byte-requires c κs = search needs
 
 put-decimal-requires : tie.Need-put-decimal-requires
 put-decimal-requires c κs =
-    omega (arith, length-decimal (c .before .before .before .before .before .before .before .before .before .before .args .n), c .before .before .before .put-byte .ensures .end, c .before .before .before .before .before .before .before .put-ok .ensures .end)
+    omega (
+      arith,
+      length-decimal
+          (c .before .before .before .before .before .before .before .before .before .before .args .n),
+      c .before .before .before .put-byte .ensures .end,
+      c .before .before .before .before .before .before .before .put-ok .ensures .end,
+    )
 
 same-length : tie.Need-same-length
 same-length c = search needs
@@ -26,7 +32,10 @@ returns c =
     let n = c .before .before .before .before .before .before .before .before .before .before .before .before .before .args .n in
     let fits = c .before .before .before .before .before .before .before .before .before .before .before .before .before .pre in
     let l = length-decimal n in
-    then (ok ++ (32 ∷ [])) (decimal n) (omega arith) (then ok (32 ∷ []) (omega arith) (c .before .before .before .before .before .before .before .before .before .before .put-ok .ensures) (c .before .before .before .before .before .before .put-byte .ensures)) (c .before .before .put-decimal .ensures)
+    then (ok ++ (32 ∷ [])) (decimal n) (omega arith)
+    (then ok (32 ∷ []) (omega arith)
+    (c .before .before .before .before .before .before .before .before .before .before .put-ok .ensures)
+    (c .before .before .before .before .before .before .put-byte .ensures)) (c .before .before .put-decimal .ensures)
 
 pub put-ok-number-spec : {M : Type 1} → statement M
 put-ok-number-spec =

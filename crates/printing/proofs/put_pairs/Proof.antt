@@ -32,7 +32,13 @@ put-byte-requires : tie.Need-put-byte-requires Inv-loop μ-loop
 put-byte-requires c κs =
     let bs = c .before .before .before .before .before .before .before .args .bytes .now in
     let i = c .before .before .before .before .loop .i in
-    omega (arith, c .before .before .before .before .loop .inv .1 .0 .end, length-pairs (take i bs), length-take-le i bs (c .before .before .before .before .loop .inv .0))
+    omega (
+      arith,
+      c .before .before .before .before .loop .inv .1 .0 .end,
+      length-pairs (take i bs),
+      length-take-le i bs
+          (c .before .before .before .before .loop .inv .0),
+    )
 
 glyph-requires-2 : tie.Need-glyph-requires-2 Inv-loop μ-loop
 glyph-requires-2 c κs = search needs
@@ -41,7 +47,14 @@ put-byte-requires-2 : tie.Need-put-byte-requires-2 Inv-loop μ-loop
 put-byte-requires-2 c κs =
     let bs = c .before .before .before .before .before .before .before .before .before .before .before .before .args .bytes .now in
     let i = c .before .before .before .before .before .before .before .before .before .loop .i in
-    omega (arith, c .before .before .before .before .before .before .before .before .before .loop .inv .1 .0 .end, c .before .before .before .before .put-byte .ensures .end, length-pairs (take i bs), length-take-le i bs (c .before .before .before .before .before .before .before .before .before .loop .inv .0))
+    omega (
+      arith,
+      c .before .before .before .before .before .before .before .before .before .loop .inv .1 .0 .end,
+      c .before .before .before .before .put-byte .ensures .end,
+      length-pairs (take i bs),
+      length-take-le i bs
+          (c .before .before .before .before .before .before .before .before .before .loop .inv .0),
+    )
 
 add-i : tie.Need-add-i Inv-loop μ-loop
 add-i c = search needs
@@ -53,7 +66,10 @@ loop-again : tie.Need-loop-again Inv-loop μ-loop
 loop-again c =
     let l = c .before .before .before .before .before .before .before .before .before .before .before .before .loop in
     let bs = c .before .before .before .before .before .before .before .before .before .before .before .before .before .before .before .args .bytes .now in
-    let fits : c .before .before .before .before .before .before .before .before .before .before .before .before .before .before .before .args .at + 2 * length bs ≤ length (c .before .before .before .before .before .before .before .before .before .before .before .before .before .before .before .args .out .now) = c .before .before .before .before .before .before .before .before .before .before .before .before .before .before .before .pre in
+    let fits : c .before .before .before .before .before .before .before .before .before .before .before .before .before .before .before
+    .args .at + 2 * length bs ≤ length (c .before .before .before .before .before .before .before .before .before .before .before
+    .before .before .before .before .args .out .now) = c .before .before .before .before .before .before .before .before .before .before
+    .before .before .before .before .before .pre in
     let h : l .i < length bs = c .before .before .before .before .before .before .before .before .before .before .before .loop-test .taken in
     let n = length-pairs (take (l .i) bs) in
     let m = length-take-le (l .i) bs (l .inv .0) in
@@ -62,8 +78,19 @@ loop-again c =
     let y = c .before .before .before .glyph2 .result in
     let e = length-append s (x ∷ []) in
     let first = then s (x ∷ []) (omega arith) (l .inv .1 .0) (c .before .before .before .before .before .before .before .put-byte .ensures) in
-    let both = then (s ++ (x ∷ [])) (y ∷ []) (omega arith) first (c .before .before .put-byte2 .ensures) in
-    (omega arith, (rw (pairs-more bs (l .i) h, ← c .before .before .before .before .before .before .before .before .glyph .ensures, ← c .before .before .before .glyph2 .ensures) both, omega arith))
+    let both = then (s ++ (x ∷ [])) (y ∷ []) (omega arith) first (c .before .before .put-byte2 .ensures) in (
+      omega arith,
+      (
+        rw (
+          pairs-more bs
+              (l .i) h,
+          ← c .before .before .before .before .before .before .before .before .glyph .ensures,
+          ←
+              c .before .before .before .glyph2 .ensures,
+        ) both,
+        omega arith,
+      ),
+    )
 
 same-length : tie.Need-same-length Inv-loop μ-loop
 same-length c = search needs

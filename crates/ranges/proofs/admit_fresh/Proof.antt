@@ -22,11 +22,21 @@ files-in-requires c κs = search needs
 
 returns-3 : tie.Need-returns-3
 unfolding unless admissionOfFresh gateNumber
-returns-3 c = simp (held (c .before .before .before .before .sizes-in .ensures) (c .before .before .before .if1 .left), eq-eqb _ _ (c .before .before .if2 .left), failed (c .before .files-in .ensures) (c .if3 .taken))
+returns-3 c = simp (
+  held (c .before .before .before .before .sizes-in .ensures) (c .before .before .before .if1 .left),
+  eq-eqb _ _
+      (c .before .before .if2 .left),
+  failed (c .before .files-in .ensures) (c .if3 .taken),
+)
 
 returns-4 : tie.Need-returns-4
 unfolding unless admissionOfFresh gateNumber
-returns-4 c = simp (held (c .before .before .before .before .sizes-in .ensures) (c .before .before .before .if1 .left), eq-eqb _ _ (c .before .before .if2 .left), held (c .before .files-in .ensures) (c .if3 .left))
+returns-4 c = simp (
+  held (c .before .before .before .before .sizes-in .ensures) (c .before .before .before .if1 .left),
+  eq-eqb _ _
+      (c .before .before .if2 .left),
+  held (c .before .files-in .ensures) (c .if3 .left),
+)
 
 pub admit-fresh-spec : {M : Type 1} → statement M
 admit-fresh-spec =

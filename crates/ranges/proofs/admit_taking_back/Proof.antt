@@ -25,16 +25,22 @@ unfolding gateNumber admissionOfTakingBack unless
 returns-3 c =
     let at-idle = c .before .before in
     let at-gate = at-idle .before .before in
-    let gate = at-gate .before .before .first-tests .ensures in
-    (gate-after _ _ _ _ (gate .0) _ 24 (at-gate .enum-told .given .1) (simp (held (at-idle .before .none-begun .ensures) (at-idle .if1 .left), failed (c .before .is-held .ensures) (c .if2 .taken))), gate .1)
+    let gate = at-gate .before .before .first-tests .ensures in (
+      gate-after _ _ _ _ (gate .0) _ 24 (at-gate .enum-told .given .1)
+          (simp (held (at-idle .before .none-begun .ensures) (at-idle .if1 .left), failed (c .before .is-held .ensures) (c .if2 .taken))),
+      gate .1,
+    )
 
 returns-4 : tie.Need-returns-4
 unfolding gateNumber admissionOfTakingBack unless
 returns-4 c =
     let at-idle = c .before .before in
     let at-gate = at-idle .before .before in
-    let gate = at-gate .before .before .first-tests .ensures in
-    (gate-after _ _ _ _ (gate .0) _ 0 (at-gate .enum-told .given .1) (simp (held (at-idle .before .none-begun .ensures) (at-idle .if1 .left), held (c .before .is-held .ensures) (c .if2 .left))), gate .1)
+    let gate = at-gate .before .before .first-tests .ensures in (
+      gate-after _ _ _ _ (gate .0) _ 0 (at-gate .enum-told .given .1)
+          (simp (held (at-idle .before .none-begun .ensures) (at-idle .if1 .left), held (c .before .is-held .ensures) (c .if2 .left))),
+      gate .1,
+    )
 
 pub admit-taking-back-spec : {M : Type 1} → statement M
 admit-taking-back-spec =

@@ -24,8 +24,11 @@ returns-3 : tie.Need-returns-3
 unfolding gateNumber admissionOfWindow windowRefusal unless
 returns-3 c =
     let at-file = c .before .before in
-    let gate = at-file .before .before .before .first-tests .ensures in
-    (gate-after _ _ _ _ (gate .0) _ 22 (at-file .before .enum-told .given .1) (simp (le-leb _ _ (at-file .if1 .left), failed (c .before .minute-in .ensures) (c .if2 .taken))), gate .1)
+    let gate = at-file .before .before .before .first-tests .ensures in (
+      gate-after _ _ _ _ (gate .0) _ 22 (at-file .before .enum-told .given .1)
+          (simp (le-leb _ _ (at-file .if1 .left), failed (c .before .minute-in .ensures) (c .if2 .taken))),
+      gate .1,
+    )
 
 -- An end above 1,439.
 returns-4 : tie.Need-returns-4
@@ -33,16 +36,32 @@ unfolding gateNumber admissionOfWindow windowRefusal unless
 returns-4 c =
     let at-start = c .before .before in
     let at-file = at-start .before .before in
-    let gate = at-file .before .before .before .first-tests .ensures in
-    (gate-after _ _ _ _ (gate .0) _ 22 (at-file .before .enum-told .given .1) (simp (le-leb _ _ (at-file .if1 .left), held (at-start .before .minute-in .ensures) (at-start .if2 .left), failed (c .before .minute-in2 .ensures) (c .if3 .taken))), gate .1)
+    let gate = at-file .before .before .before .first-tests .ensures in (
+      gate-after _ _ _ _ (gate .0) _ 22 (at-file .before .enum-told .given .1)
+          (simp (
+            le-leb _ _ (at-file .if1 .left),
+            held (at-start .before .minute-in .ensures) (at-start .if2 .left),
+            failed
+                (c .before .minute-in2 .ensures) (c .if3 .taken),
+          )),
+      gate .1,
+    )
 
 returns-5 : tie.Need-returns-5
 unfolding gateNumber admissionOfWindow windowRefusal unless
 returns-5 c =
     let at-start = c .before .before in
     let at-file = at-start .before .before in
-    let gate = at-file .before .before .before .first-tests .ensures in
-    (gate-after _ _ _ _ (gate .0) _ 0 (at-file .before .enum-told .given .1) (simp (le-leb _ _ (at-file .if1 .left), held (at-start .before .minute-in .ensures) (at-start .if2 .left), held (c .before .minute-in2 .ensures) (c .if3 .left))), gate .1)
+    let gate = at-file .before .before .before .first-tests .ensures in (
+      gate-after _ _ _ _ (gate .0) _ 0 (at-file .before .enum-told .given .1)
+          (simp (
+            le-leb _ _ (at-file .if1 .left),
+            held (at-start .before .minute-in .ensures) (at-start .if2 .left),
+            held
+                (c .before .minute-in2 .ensures) (c .if3 .left),
+          )),
+      gate .1,
+    )
 
 pub admit-window-spec : {M : Type 1} → statement M
 admit-window-spec =

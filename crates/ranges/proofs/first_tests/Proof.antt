@@ -26,14 +26,20 @@ store-in-requires c κs = search needs
 returns-2 : tie.Need-returns-2
 unfolding gateNumber
 returns-2 c =
-    let l : length (c .before .before .before .before .before .before .args .kept .now) ≡ recordLength = search needs in
-    (first-ranges _ _ _ _ (held (c .before .before .before .sizes-in .ensures) (c .before .before .if1 .left)) (failed (c .before .store-in .ensures) (c .if2 .taken)), l)
+    let l : length (c .before .before .before .before .before .before .args .kept .now) ≡ recordLength = search needs in (
+      first-ranges _ _ _ _ (held (c .before .before .before .sizes-in .ensures) (c .before .before .if1 .left))
+          (failed (c .before .store-in .ensures) (c .if2 .taken)),
+      l,
+    )
 
 returns-3 : tie.Need-returns-3
 unfolding gateNumber
 returns-3 c =
-    let l : length (c .before .before .before .before .before .before .args .kept .now) ≡ recordLength = search needs in
-    (sym (first-later _ _ _ _ (held (c .before .before .before .sizes-in .ensures) (c .before .before .if1 .left)) (held (c .before .store-in .ensures) (c .if2 .left))), l)
+    let l : length (c .before .before .before .before .before .before .args .kept .now) ≡ recordLength = search needs in (
+      sym (first-later _ _ _ _ (held (c .before .before .before .sizes-in .ensures) (c .before .before .if1 .left))
+          (held (c .before .store-in .ensures) (c .if2 .left))),
+      l,
+    )
 
 pub first-tests-spec : {M : Type 1} → statement M
 first-tests-spec =

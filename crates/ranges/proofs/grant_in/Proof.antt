@@ -16,7 +16,8 @@ use Rattle.ranges.proofs.grant_in.Statement.{statement}
 use Rattle.ranges.proofs.grant_in.Tie as tie
 
 abbrev Inv-loop : tie.InvT-loop
-Inv-loop kept records size sum₀ k₀ sum k = (k ≤ records) × (below (λ j. landedIn (writeRecordAt (journalOf kept) grantStretch j)) k ≡ true) × (sum ≡ lengthsBefore (journalOf kept) grantStretch k) × (sum ≤ 65535 * k)
+Inv-loop kept records size sum₀ k₀ sum k = (k ≤ records) × (below (λ j. landedIn (writeRecordAt (journalOf kept) grantStretch j)) k ≡ true)
+    × (sum ≡ lengthsBefore (journalOf kept) grantStretch k) × (sum ≤ 65535 * k)
 
 abbrev μ-loop : tie.MeasureT-loop
 μ-loop kept records size sum₀ k₀ sum k = records - k

@@ -29,7 +29,8 @@ may-wait-requires c κs = search needs
 returns : tie.Need-returns
 returns c =
     let start = c .before .before .before .before .before .before .before in
-    after-fails (start .args .z) (start .args .place) (start .args .n) (c .before .before .enum-told2 .given .1) (start .pre) (c .before .may-wait .ensures) (c .if1 .taken)
+    after-fails (start .args .z) (start .args .place) (start .args .n) (c .before .before .enum-told2 .given .1) (start .pre)
+    (c .before .may-wait .ensures) (c .if1 .taken)
 
 advance-requires : tie.Need-advance-requires
 advance-requires c κs = search needs
@@ -40,12 +41,17 @@ wide-requires-3 c κs = search needs
 returns-2 : tie.Need-returns-2
 returns-2 c =
     let start = c .before .before .before .before .before in
-    at-decides (start .args .z) (start .args .place) (start .args .n) _ _ (c .enum-told .given .1) (c .before .before .before .wide .ensures .0 ∙ c .before .before .before .before .number .ensures) (c .before .before .wide2 .ensures .0)
+    at-decides (start .args .z) (start .args .place) (start .args .n) _ _ (c .enum-told .given .1)
+    (c .before .before .before .wide .ensures .0 ∙ c .before .before .before .before .number .ensures) (c .before .before .wide2 .ensures .0)
 
 returns-3 : tie.Need-returns-3
 returns-3 c =
     let start = c .before .before .before .before .before .before .before .before .before in
-    after-decides (start .args .z) (start .args .place) (start .args .n) (c .before .before .before .before .enum-told2 .given .1) (start .pre) (c .before .before .before .may-wait .ensures) _ _ _ (c .before .before .if1 .left) (c .before .before .before .before .before .before .before .wide .ensures .0 ∙ c .before .before .before .before .before .before .before .before .number .ensures) (c .before .before .before .before .before .before .wide2 .ensures .0) (c .wide3 .ensures .0 ∙ c .before .advance .ensures)
+    after-decides (start .args .z) (start .args .place) (start .args .n) (c .before .before .before .before .enum-told2 .given .1)
+    (start .pre) (c .before .before .before .may-wait .ensures) _ _ _ (c .before .before .if1 .left)
+    (c .before .before .before .before .before .before .before .wide .ensures .0
+    ∙ c .before .before .before .before .before .before .before .before .number .ensures)
+    (c .before .before .before .before .before .before .wide2 .ensures .0) (c .wide3 .ensures .0 ∙ c .before .advance .ensures)
 
 pub place-in-spec : {M : Type 1} → statement M
 place-in-spec =

@@ -8,7 +8,8 @@ use Rattle.ranges.proofs.placed_in.Tie as tie
 returns : tie.Need-returns
 returns c =
     let start = c .before .before .before .before .before in
-    placed-decides (start .args .place) (start .args .n) _ _ (c .enum-told .given .1) (c .before .before .before .wide .ensures .0 ∙ c .before .before .before .before .number .ensures) (c .before .before .wide2 .ensures .0)
+    placed-decides (start .args .place) (start .args .n) _ _ (c .enum-told .given .1)
+    (c .before .before .before .wide .ensures .0 ∙ c .before .before .before .before .number .ensures) (c .before .before .wide2 .ensures .0)
 
 returns-2 : tie.Need-returns-2
 returns-2 c = unplaced-out _ _ (c .enum-told2 .given .1)

@@ -16,7 +16,9 @@ use Rattle.ranges.proofs.records_in.Statement.{statement}
 use Rattle.ranges.proofs.records_in.Tie as tie
 
 abbrev Inv-loop : tie.InvT-loop
-Inv-loop kept t records bytes sum₀ k₀ sum k = (k ≤ records) × (below (λ j. recordIn (transactionOf kept t) (writeRecordAt (journalOf kept) t j)) k ≡ true) × (sum ≡ lengthsBefore (journalOf kept) t k) × (sum ≤ 65535 * k)
+Inv-loop kept t records bytes sum₀ k₀ sum k = (k ≤ records)
+    × (below (λ j. recordIn (transactionOf kept t) (writeRecordAt (journalOf kept) t j)) k ≡ true)
+    × (sum ≡ lengthsBefore (journalOf kept) t k) × (sum ≤ 65535 * k)
 
 abbrev μ-loop : tie.MeasureT-loop
 μ-loop kept t records bytes sum₀ k₀ sum k = records - k
@@ -34,7 +36,8 @@ returns : tie.Need-returns Inv-loop μ-loop
 unfolding journalPasses
 returns c =
     let i = c .before .before .before .before .loop in
-    and-fails _ _ (below-fails _ (i .k) _ (omega arith) (descriptor-out _ _ _ (c .before .before .record-at .ensures) _ (c .before .wide .ensures .0) (c .if1 .taken)))
+    and-fails _ _ (below-fails _ (i .k) _ (omega arith)
+    (descriptor-out _ _ _ (c .before .before .record-at .ensures) _ (c .before .wide .ensures .0) (c .if1 .taken)))
 
 standing-at-requires : tie.Need-standing-at-requires Inv-loop μ-loop
 standing-at-requires c κs = search needs
@@ -49,7 +52,8 @@ unfolding journalPasses
 returns-2 c =
     let i = c .before .before .before .before .before .before .before .loop in
     and-fails _ _ (below-fails _ (i .k) _ (omega arith)
-    (place-out _ _ _ (c .before .before .before .before .before .record-at .ensures) _ (c .before .before .before .before .wide .ensures .0) (omega arith) _ (c .before .before .standing-at .ensures) _ (c .before .place-in .ensures) (c .if2 .taken)))
+    (place-out _ _ _ (c .before .before .before .before .before .record-at .ensures) _ (c .before .before .before .before .wide .ensures .0)
+    (omega arith) _ (c .before .before .standing-at .ensures) _ (c .before .place-in .ensures) (c .if2 .taken)))
 
 wide-requires-2 : tie.Need-wide-requires-2 Inv-loop μ-loop
 wide-requires-2 c κs = search needs
@@ -69,7 +73,8 @@ loop-again c =
     let w = c .before .before .before .before .before .before .record-at .ensures in (
       omega arith,
       below-more _ _ (i .inv .1)
-          (record-passes _ _ _ w _ (c .before .before .before .before .before .wide .ensures .0) (omega arith) _ (c .before .before .before .standing-at .ensures) _ (c .before .before .place-in .ensures) (c .before .if2 .left)),
+          (record-passes _ _ _ w _ (c .before .before .before .before .before .wide .ensures .0) (omega arith) _
+          (c .before .before .before .standing-at .ensures) _ (c .before .before .place-in .ensures) (c .before .if2 .left)),
       lengths-more _ _ _ _ _ (i .inv .2) (c .wide2 .ensures .0 ∙ ap (λ (v : WriteRecord). v .length) w),
       omega arith,
     )

@@ -43,7 +43,13 @@ loop-again : tie.Need-loop-again Inv-loop μ-loop
 loop-again c =
     let l = c .before .before .before .before .before .loop in
     let a = c .before .before .before .before .before .before .args in
-    let e = rw (c .before .second-at .ensures, c .before .before .first-at .ensures, c .before .before .before .kind-at .ensures, ← standing-of (a .kept .now) (a .t) (l .d) (omega arith)) at (c .numbers-in .ensures) in
+    let e = rw (
+      c .before .second-at .ensures,
+      c .before .before .first-at .ensures,
+      c .before .before .before .kind-at .ensures,
+      ←
+          standing-of (a .kept .now) (a .t) (l .d) (omega arith),
+    ) at (c .numbers-in .ensures) in
     (omega arith, one-more _ _ _ _ (l .inv .1) e)
 
 returns : tie.Need-returns Inv-loop μ-loop

@@ -21,10 +21,14 @@ wide-requires : tie.Need-wide-requires
 wide-requires c κs = search needs
 
 returns-2 : tie.Need-returns-2
-returns-2 c = records-fail _ _ _ (held (c .before .before .before .before .is-begun .ensures) (c .before .before .before .if1 .left)) _ (ap (λ (u : Used). u .records) (c .before .before .used-at .ensures)) (c .if2 .taken)
+returns-2 c = records-fail _ _ _ (held (c .before .before .before .before .is-begun .ensures) (c .before .before .before .if1 .left)) _
+    (ap (λ (u : Used). u .records) (c .before .before .used-at .ensures)) (c .if2 .taken)
 
 returns-3 : tie.Need-returns-3
-returns-3 c = bytes-fail _ _ _ (held (c .before .before .before .before .before .is-begun .ensures) (c .before .before .before .before .if1 .left)) _ _ (ap (λ (u : Used). u .records) (c .before .before .before .used-at .ensures)) (c .before .before .wide .ensures .0 ∙ ap (λ (u : Used). u .bytes) (c .before .before .before .used-at .ensures)) (c .before .if2 .left) (c .if3 .taken)
+returns-3 c = bytes-fail _ _ _
+    (held (c .before .before .before .before .before .is-begun .ensures) (c .before .before .before .before .if1 .left)) _ _
+    (ap (λ (u : Used). u .records) (c .before .before .before .used-at .ensures))
+    (c .before .before .wide .ensures .0 ∙ ap (λ (u : Used). u .bytes) (c .before .before .before .used-at .ensures)) (c .before .if2 .left) (c .if3 .taken)
 
 standings-in-requires : tie.Need-standings-in-requires
 standings-in-requires c κs = search needs
@@ -32,7 +36,9 @@ standings-in-requires c κs = search needs
 returns-4 : tie.Need-returns-4
 returns-4 c =
     let i = c .before .before in
-    standings-fail _ _ _ (held (i .before .before .before .before .before .is-begun .ensures) (i .before .before .before .before .if1 .left)) _ _ (ap (λ (u : Used). u .records) (i .before .before .before .used-at .ensures)) (i .before .before .wide .ensures .0 ∙ ap (λ (u : Used). u .bytes) (i .before .before .before .used-at .ensures)) (i .before .if2 .left) (i .if3 .left)
+    standings-fail _ _ _ (held (i .before .before .before .before .before .is-begun .ensures)
+    (i .before .before .before .before .if1 .left)) _ _ (ap (λ (u : Used). u .records) (i .before .before .before .used-at .ensures))
+    (i .before .before .wide .ensures .0 ∙ ap (λ (u : Used). u .bytes) (i .before .before .before .used-at .ensures)) (i .before .if2 .left) (i .if3 .left)
     (failed (c .before .standings-in .ensures) (c .if4 .taken))
 
 records-in-requires : tie.Need-records-in-requires
@@ -41,7 +47,9 @@ records-in-requires c κs = (omega arith, omega arith, held (c .before .standing
 returns-5 : tie.Need-returns-5
 returns-5 c =
     let i = c .before .before .before in
-    records-decide _ _ _ (held (i .before .before .before .before .before .is-begun .ensures) (i .before .before .before .before .if1 .left)) _ _ (ap (λ (u : Used). u .records) (i .before .before .before .used-at .ensures)) (i .before .before .wide .ensures .0 ∙ ap (λ (u : Used). u .bytes) (i .before .before .before .used-at .ensures)) (i .before .if2 .left) (i .if3 .left)
+    records-decide _ _ _ (held (i .before .before .before .before .before .is-begun .ensures)
+    (i .before .before .before .before .if1 .left)) _ _ (ap (λ (u : Used). u .records) (i .before .before .before .used-at .ensures))
+    (i .before .before .wide .ensures .0 ∙ ap (λ (u : Used). u .bytes) (i .before .before .before .used-at .ensures)) (i .before .if2 .left) (i .if3 .left)
     _ (held (c .before .before .standings-in .ensures) (c .before .if4 .left)) (c .records-in .ensures)
 
 pub transaction-in-spec : {M : Type 1} → statement M

@@ -13,20 +13,25 @@ returns c = nothing-held _ (failed (c .before .is-held .ensures) (c .if1 .taken)
 returns-2 : tie.Need-returns-2
 returns-2 c =
     let at-used = c .before .before in
-    grant-records-fail _ (held (at-used .before .before .is-held .ensures) (at-used .before .if1 .left)) _ (ap (λ (u : Used). u .records) (at-used .undo-used .ensures)) (c .if2 .taken)
+    grant-records-fail _ (held (at-used .before .before .is-held .ensures) (at-used .before .if1 .left)) _
+    (ap (λ (u : Used). u .records) (at-used .undo-used .ensures)) (c .if2 .taken)
 
 returns-3 : tie.Need-returns-3
 returns-3 c =
     let at-size = c .before .before in
     let at-used = at-size .before in
-    grant-bytes-fail _ (held (at-used .before .before .is-held .ensures) (at-used .before .if1 .left)) _ _ (ap (λ (u : Used). u .records) (at-used .undo-used .ensures)) (at-size .wide .ensures .0 ∙ ap (λ (u : Used). u .bytes) (at-used .undo-used .ensures)) (c .before .if2 .left) (c .if3 .taken)
+    grant-bytes-fail _ (held (at-used .before .before .is-held .ensures) (at-used .before .if1 .left)) _ _
+    (ap (λ (u : Used). u .records) (at-used .undo-used .ensures))
+    (at-size .wide .ensures .0 ∙ ap (λ (u : Used). u .bytes) (at-used .undo-used .ensures)) (c .before .if2 .left) (c .if3 .taken)
 
 returns-4 : tie.Need-returns-4
 returns-4 c =
     let at-fits = c .before .before in
     let at-size = at-fits .before .before in
     let at-used = at-size .before in
-    found-fails _ (held (at-used .before .before .is-held .ensures) (at-used .before .if1 .left)) _ _ (ap (λ (u : Used). u .records) (at-used .undo-used .ensures)) (at-size .wide .ensures .0 ∙ ap (λ (u : Used). u .bytes) (at-used .undo-used .ensures)) (at-fits .before .if2 .left) (at-fits .if3 .left)
+    found-fails _ (held (at-used .before .before .is-held .ensures) (at-used .before .if1 .left)) _ _
+    (ap (λ (u : Used). u .records) (at-used .undo-used .ensures))
+    (at-size .wide .ensures .0 ∙ ap (λ (u : Used). u .bytes) (at-used .undo-used .ensures)) (at-fits .before .if2 .left) (at-fits .if3 .left)
     (failed (c .before .at-most .ensures) (c .if4 .taken))
 
 returns-5 : tie.Need-returns-5
@@ -34,7 +39,9 @@ returns-5 c =
     let at-fits = c .before .before .before in
     let at-size = at-fits .before .before in
     let at-used = at-size .before in
-    grant-decides _ (held (at-used .before .before .is-held .ensures) (at-used .before .if1 .left)) _ _ (ap (λ (u : Used). u .records) (at-used .undo-used .ensures)) (at-size .wide .ensures .0 ∙ ap (λ (u : Used). u .bytes) (at-used .undo-used .ensures)) (at-fits .before .if2 .left) (at-fits .if3 .left)
+    grant-decides _ (held (at-used .before .before .is-held .ensures) (at-used .before .if1 .left)) _ _
+    (ap (λ (u : Used). u .records) (at-used .undo-used .ensures))
+    (at-size .wide .ensures .0 ∙ ap (λ (u : Used). u .bytes) (at-used .undo-used .ensures)) (at-fits .before .if2 .left) (at-fits .if3 .left)
     _ (held (c .before .before .at-most .ensures) (c .before .if4 .left)) (c .grant-in .ensures)
 
 pub undo-in-spec : {M : Type 1} → statement M

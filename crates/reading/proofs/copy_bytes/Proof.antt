@@ -46,10 +46,10 @@ copy-runs-requires c κs =
     let h = s .pre .0 in (
       record {
         counted = h .counted;
-        fileLength = ap length (file-is (parted .before)) ∙ length-file (a .files .now) (a .e .file) (h .filesLength) (h .number);
+        fileLength = ap length (file-is (parted .before)) ∙ length-file (a .files .now) (a .e .file) (h .filesLength) (h .fileIn);
         logLength = ap length (parted .part .ensures) ∙ length-cut (a .logs .now) (4096 * a .t) 4096 (omega (arith, h .logsLength, h .counted .small));
         marksLength = h .marksLength;
-        number = h .number;
+        fileIn = h .fileIn;
         places = h .places;
       },
       s .pre .1,

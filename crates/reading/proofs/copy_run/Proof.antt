@@ -70,7 +70,8 @@ copy-to-requires c κs =
     let s = start-of (found (c .before)) in
     let a = s .args in
     let r = found (c .before) .latest-write in
-    let l = ap length (bytes-are (c .before)) ∙ length-bytes (lent s) (a .t) (a .used .records) (a .log .now) (a .file .now) (a .e .file) (a .e .place) (r .result .length) in
+    let l = ap length (bytes-are (c .before))
+    ∙ length-bytes (lent s) (a .t) (a .used .records) (a .log .now) (a .file .now) (a .e .file) (a .e .place) (r .result .length) in
     omega (arith, l, r .ensures .1 .within, s .pre .1 .1)
 
 same-length : tie.Need-same-length
@@ -88,7 +89,8 @@ returns c =
       r .ensures .1,
       (
         copied .copy-to .ensures ∙ ap (pasted (a .reader .now) (a .at)) (bytes-are cut-out),
-        sym (run-shields (lent s) (a .t) (a .used .records) (a .log .now) (a .file .now) (inside s) (a .e) (r .result) (r .ensures .1) (within s) (a .marks .now) own),
+        sym (run-shields (lent s) (a .t) (a .used .records) (a .log .now) (a .file .now) (inside s) (a .e) (r .result) (r .ensures .1)
+            (within s) (a .marks .now) own),
       ),
     )
 
@@ -125,7 +127,8 @@ returns-2 c =
       (
         copied .copy-to .ensures ∙ ap (pasted (a .reader .now) (a .at)) (bytes-are cut-out),
         marked .mark .ensures
-            ∙ run-marks (lent s) (a .t) (a .used .records) (a .log .now) (a .file .now) (inside s) (a .e) (r .result) (r .ensures .1) (within s) (a .marks .now) by-file _ _
+            ∙ run-marks (lent s) (a .t) (a .used .records) (a .log .now) (a .file .now) (inside s) (a .e) (r .result) (r .ensures .1)
+            (within s) (a .marks .now) by-file _ _
             (omega (arith, widened .wide .ensures .0)) (omega arith),
       ),
     )

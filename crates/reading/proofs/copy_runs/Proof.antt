@@ -56,7 +56,7 @@ copy-run-requires c κs =
         fileLength = h .fileLength;
         logLength = h .logLength;
         marksLength = l .inv .1 ∙ h .marksLength;
-        number = h .number;
+        fileIn = h .fileIn;
         places = omega (arith, h .places, l .inv .0);
       },
       (omega arith, omega (arith, s .pre .1, l .inv .2)),
@@ -85,10 +85,12 @@ loop-again c =
       r .kept .1 .1 .1 .0 ∙ l .inv .1,
       r .kept .1 .1 .1 .1 .1 .1 .1 .0 ∙ l .inv .2,
       r .ensures .1 .0
-          ∙ bytes-more (lent s) (a .t) (a .used .records) (a .log .now) (a .file .now) (a .e .file) (a .e .place) (a .reader .now) (l .i) (r .result .length) _ _
+          ∙ bytes-more (lent s) (a .t) (a .used .records) (a .log .now) (a .file .now) (a .e .file) (a .e .place) (a .reader .now) (l .i)
+          (r .result .length) _ _
           (l .inv .3) (omega arith) (omega (arith, r .ensures .0 .within, s .pre .1)),
       r .ensures .1 .1
-          ∙ marks-more (lent s) (a .t) (a .used .records) (a .log .now) (a .file .now) (a .e .file) (a .e .place) (a .marks .now) (l .i) (r .result .length) _ _
+          ∙ marks-more (lent s) (a .t) (a .used .records) (a .log .now) (a .file .now) (a .e .file) (a .e .place) (a .marks .now)
+          (l .i) (r .result .length) _ _
           (l .inv .4) (omega arith),
     )
 
@@ -106,9 +108,11 @@ returns c =
     let l = at-loop .loop in
     let q : l .i ≡ a .e .length = omega arith in (
       l .inv .3
-          ∙ ap (λ (n : ℕ). pasted (a .reader .now) 0 (bytesOf (lent s) (a .t) (a .used .records) (a .log .now) (a .file .now) (extent (a .e .file) (a .e .place) n))) q
+          ∙ ap (λ (n : ℕ). pasted (a .reader .now) 0
+          (bytesOf (lent s) (a .t) (a .used .records) (a .log .now) (a .file .now) (extent (a .e .file) (a .e .place) n))) q
           ∙ bytes-all (lent s) (a .t) (a .used .records) (a .log .now) (a .file .now) (a .e .file) (a .e .place) (a .reader .now) (a .e .length),
-      l .inv .4 ∙ ap (λ (n : ℕ). marksAfter (lent s) (a .t) (a .used .records) (a .log .now) (a .file .now) (extent (a .e .file) (a .e .place) n) (a .marks .now)) q,
+      l .inv .4 ∙ ap (λ (n : ℕ). marksAfter (lent s) (a .t) (a .used .records) (a .log .now) (a .file .now)
+          (extent (a .e .file) (a .e .place) n) (a .marks .now)) q,
     )
 
 pub copy-runs-spec : {M : Type 1} → statement M

@@ -12,71 +12,101 @@ returns : tie.Need-returns
 unfolding callOf bufferOfCall bufferOf Unanswered
 returns c =
     let called = c .before .before in
-    let met = called .begin .ensures in
-    (performs-as _ _ _ _ _ _ _ _ (called .before .before .before .before .before .before .before .q .given .1) (record { meets = met .0; unanswered = refl }), met .1)
+    let met = called .begin .ensures in (
+      performs-as _ _ _ _ _ _ _ _ (called .before .before .before .before .before .before .before .q .given .1)
+          (record { meets = met .0; unanswered = refl }),
+      met .1,
+    )
 
 returns-2 : tie.Need-returns-2
 unfolding callOf bufferOfCall bufferOf Unanswered
 returns-2 c =
     let called = c in
-    let met = called .seek .ensures in
-    (performs-as _ _ _ _ _ _ _ _ (called .before .before .before .before .before .before .before .q2 .given .1) (record { meets = met .0; unanswered = refl }), met .1)
+    let met = called .seek .ensures in (
+      performs-as _ _ _ _ _ _ _ _ (called .before .before .before .before .before .before .before .q2 .given .1)
+          (record { meets = met .0; unanswered = refl }),
+      met .1,
+    )
 
 returns-3 : tie.Need-returns-3
 unfolding callOf bufferOfCall bufferOf Unanswered
 returns-3 c =
     let called = c .before .before in
-    let met = called .write .ensures in
-    (performs-as _ _ _ _ _ _ _ _ (called .before .before .before .before .before .before .before .q3 .given .1) (record { meets = met .0; unanswered = refl }), met .1)
+    let met = called .write .ensures in (
+      performs-as _ _ _ _ _ _ _ _ (called .before .before .before .before .before .before .before .q3 .given .1)
+          (record { meets = met .0; unanswered = refl }),
+      met .1,
+    )
 
 returns-4 : tie.Need-returns-4
 unfolding callOf bufferOfCall bufferOf Unanswered
 returns-4 c =
     let called = c in
-    let met = called .get-file-pointer .ensures in
-    (performs-as _ _ _ _ _ _ _ _ (called .before .before .before .before .before .before .before .q4 .given .1) (record { meets = met .0; unanswered = refl }), met .1)
+    let met = called .get-file-pointer .ensures in (
+      performs-as _ _ _ _ _ _ _ _ (called .before .before .before .before .before .before .before .q4 .given .1)
+          (record { meets = met .0; unanswered = refl }),
+      met .1,
+    )
 
 returns-5 : tie.Need-returns-5
 unfolding callOf bufferOfCall bufferOf Unanswered
 returns-5 c =
     let called = c .before .before .before .before in
-    let met = called .read .ensures in
-    (performs-as _ _ _ _ _ _ _ _ (called .before .before .before .before .before .before .before .before .q5 .given .1) (record { meets = met .0; unanswered = tt }), met .1)
+    let met = called .read .ensures in (
+      performs-as _ _ _ _ _ _ _ _ (called .before .before .before .before .before .before .before .before .q5 .given .1)
+          (record { meets = met .0; unanswered = tt }),
+      met .1,
+    )
 
 returns-6 : tie.Need-returns-6
 unfolding callOf bufferOfCall bufferOf Unanswered
 returns-6 c =
     let called = c .before .before in
-    let met = called .places .ensures in
-    (performs-as _ _ _ _ _ _ _ _ (called .before .before .before .before .before .before .before .before .q6 .given .1) (record { meets = met .0; unanswered = tt }), met .1)
+    let met = called .places .ensures in (
+      performs-as _ _ _ _ _ _ _ _ (called .before .before .before .before .before .before .before .before .q6 .given .1)
+          (record { meets = met .0; unanswered = tt }),
+      met .1,
+    )
 
 returns-7 : tie.Need-returns-7
 unfolding callOf bufferOfCall bufferOf Unanswered
 returns-7 c =
     let called = c .before .before .before .before .before .before in
-    let met = called .commit .ensures in
-    (performs-as _ _ _ _ _ _ _ _ (called .before .before .before .before .before .before .before .q7 .given .1) (record { meets = met .0; unanswered = refl }), met .1)
+    let met = called .commit .ensures in (
+      performs-as _ _ _ _ _ _ _ _ (called .before .before .before .before .before .before .before .q7 .given .1)
+          (record { meets = met .0; unanswered = refl }),
+      met .1,
+    )
 
 returns-8 : tie.Need-returns-8
 unfolding callOf bufferOfCall bufferOf Unanswered
 returns-8 c =
     let called = c .before .before in
-    let met = called .abort .ensures in
-    (performs-as _ _ _ _ _ _ _ _ (called .before .before .before .before .before .before .before .q8 .given .1) (record { meets = met .0; unanswered = refl }), met .1)
+    let met = called .abort .ensures in (
+      performs-as _ _ _ _ _ _ _ _ (called .before .before .before .before .before .before .before .q8 .given .1)
+          (record { meets = met .0; unanswered = refl }),
+      met .1,
+    )
 
 returns-9 : tie.Need-returns-9
 unfolding callOf bufferOfCall bufferOf Unanswered
 returns-9 c =
     let called = c in
-    let met = called .set-window .ensures in
-    (performs-as _ _ _ _ _ _ _ _ (called .before .before .before .before .before .before .before .q9 .given .1) (record { meets = met .0; unanswered = refl }), met .1)
+    let met = called .set-window .ensures in (
+      performs-as _ _ _ _ _ _ _ _ (called .before .before .before .before .before .before .before .q9 .given .1)
+          (record { meets = met .0; unanswered = refl }),
+      met .1,
+    )
 
 returns-10 : tie.Need-returns-10
 unfolding callOf bufferOfCall bufferOf Unanswered
 returns-10 c =
     let called = c .before .before in
-    let met = called .take-back .ensures in
-    (performs-as _ _ _ _ _ _ _ _ (called .before .before .before .before .before .before .enum-told .given .1) (record { meets = met .0; unanswered = refl }), met .1)
+    let met = called .take-back .ensures in (
+      performs-as _ _ _ _ _ _ _ _ (called .before .before .before .before .before .before .enum-told .given .1)
+          (record { meets = met .0; unanswered = refl }),
+      met .1,
+    )
 
 pub perform-spec : {M : Type 1} → statement M
 perform-spec =

@@ -40,7 +40,14 @@ starred =
 
 -- Situations k and l, and corners of the text.
 pub corners : Corners onPlain
-unfolding opened filled toldK toldL twoZeros toldStaleFirst toldRefusedSettling toldUnsighted toldMoved toldMovedStale toldNeighbour toldNeighbourSet toldReadNone toldReadNoneStale toldReadNoneSets toldOnlyLooked mixed dirtyAfter readBeside toldWriteNone toldTurnedBack toldStaysOpen toldStillStale toldReadsAgain toldBegunAgain toldStaleEnded toldJustBegun toldNumbers toldArguments toldLog toldOverlap toldTwoAppends toldOtherFile toldKnown toldPlaced toldMovedTwice toldLastPlace toldUntouched toldAtTheEnd toldPlacedUnsighted toldFifteen toldFifteenSet toldInOrder toldKnownOnce toldSettledAlone toldPlaces toldNoPlaceYet toldOctet toldNothingGiven toldNothingGivenStale toldOwnEnd toldOwnEndStale toldFullRead toldNoneWanted toldBeyond toldBeyondSet ownWrite toldDeferredEnd toldNotRaised toldPlacesOrder toldPointerAlone toldWantedMore toldLogShared toldOtherLength toldOtherLengthStale toldStopsAlone halfway standsSo settledByThree
+unfolding opened filled toldK toldL twoZeros toldStaleFirst toldRefusedSettling toldUnsighted toldMoved toldMovedStale toldNeighbour
+    toldNeighbourSet toldReadNone toldReadNoneStale toldReadNoneSets toldOnlyLooked mixed dirtyAfter readBeside toldWriteNone toldTurnedBack
+    toldStaysOpen toldStillStale toldReadsAgain toldBegunAgain toldStaleEnded toldJustBegun toldNumbers toldArguments toldLog toldOverlap
+    toldTwoAppends toldOtherFile toldKnown toldPlaced toldMovedTwice toldLastPlace toldUntouched toldAtTheEnd toldPlacedUnsighted
+    toldFifteen toldFifteenSet toldInOrder toldKnownOnce toldSettledAlone toldPlaces toldNoPlaceYet toldOctet toldNothingGiven
+    toldNothingGivenStale toldOwnEnd toldOwnEndStale toldFullRead toldNoneWanted toldBeyond toldBeyondSet ownWrite toldDeferredEnd
+    toldNotRaised toldPlacesOrder toldPointerAlone toldWantedMore toldLogShared toldOtherLength toldOtherLengthStale toldStopsAlone halfway
+    standsSo settledByThree
 corners =
     record {
       k = (refl, refl);
@@ -109,7 +116,10 @@ corners =
     }
 
 pub later-corners : LaterCorners onPlain
-unfolding opened toldWindow toldMidnight toldAlways toldBadMinute toldClosedFirst toldNoByte toldSetting toldMeanwhile closedAtStart openedThen toldTakenBack toldOverwritten toldAppendedAgain toldClosedBack toldEmptyGrant toldRefusedBetween heldAtStart backTwice toldOneOfThree toldSevenOpen toldSettersBack twoWrites ofThreeBytes toldBestOrder toldOrderRefused toldOrderClosed toldEachOther toldChain toldRaisedByTwo
+unfolding opened toldWindow toldMidnight toldAlways toldBadMinute toldClosedFirst toldNoByte toldSetting toldMeanwhile closedAtStart
+    openedThen toldTakenBack toldOverwritten toldAppendedAgain toldClosedBack toldEmptyGrant toldRefusedBetween heldAtStart backTwice
+    toldOneOfThree toldSevenOpen toldSettersBack twoWrites ofThreeBytes toldBestOrder toldOrderRefused toldOrderClosed toldEachOther
+    toldChain toldRaisedByTwo
 later-corners =
     record {
       window = (refl, refl);

@@ -7,7 +7,8 @@ use Rattle.standings.specs.declared.Place.{Place}
 use Rattle.standings.specs.declared.Place.the-variants.{At, After}
 use Rattle.rules.specs.Transactions.{Write}
 use Rattle.rules.specs.Reading.{over}
-use Rattle.rules.specs.Coverage.{someWrite, coversPlace, covered, noPlace, unplacedOn, unplaced, stretch, withPlace, stretchesFrom, stretchesOf, sixteen, encoded}
+use Rattle.rules.specs.Coverage.{someWrite, coversPlace, covered, noPlace, unplacedOn, unplaced, stretch, withPlace, stretchesFrom}
+use Rattle.rules.specs.Coverage.{stretchesOf, sixteen, encoded}
 
 -- Each descriptor's file is its own number; a write through descriptor 0 of so many bytes.
 abbrev own : ℕ → ℕ
@@ -18,7 +19,8 @@ wrote q bytes = record { descriptor = 0; place = q; bytes = bytes }
 
 -- 2 bytes at 7, 3 at 2, 2 at 5, which touches, and none at 12, in that order: 2 to 8 are one stretch; and 1 at 14.
 abbrev few : List Write
-few = wrote (At 7) (1 ∷ (1 ∷ [])) ∷ (wrote (At 2) (1 ∷ (1 ∷ (1 ∷ []))) ∷ (wrote (At 5) (1 ∷ (1 ∷ [])) ∷ (wrote (At 12) [] ∷ (wrote (At 14) (1 ∷ []) ∷ []))))
+few = wrote (At 7) (1 ∷ (1 ∷ []))
+    ∷ (wrote (At 2) (1 ∷ (1 ∷ (1 ∷ []))) ∷ (wrote (At 5) (1 ∷ (1 ∷ [])) ∷ (wrote (At 12) [] ∷ (wrote (At 14) (1 ∷ []) ∷ []))))
 
 joins : stretchesOf (covered own 0 few) ≡ stretch 2 7 ∷ (stretch 14 1 ∷ [])
 unfolding someWrite coversPlace covered over withPlace stretchesFrom stretchesOf

@@ -52,11 +52,13 @@ weaker b c (s ∷ l) x h = (omega (arith, x .0), x .1, x .2)
 
 -- ---- one set of places has one list
 
-module _ (b : ℕ) (s t : Stretch) (l m : List Stretch) (x : ProperFrom b (s ∷ l)) (y : ProperFrom b (t ∷ m)) (same : (p : ℕ) → listed (s ∷ l) p ≡ listed (t ∷ m) p) where
+module _ (b : ℕ) (s t : Stretch) (l m : List Stretch) (x : ProperFrom b (s ∷ l)) (y : ProperFrom b (t ∷ m))
+    (same : (p : ℕ) → listed (s ∷ l) p ≡ listed (t ∷ m) p) where
   first-not-below : t .offset ≤ s .offset
   first-not-below =
       ⊎-elim (λ h. h)
-      (λ h. absurd (false≢true (sym (clear h) ∙ sym (same (s .offset)) ∙ listed-here s l (s .offset) (in-it s (s .offset) (omega arith) (omega (arith, x .1))))))
+      (λ h. absurd (false≢true (sym (clear h) ∙ sym (same (s .offset))
+      ∙ listed-here s l (s .offset) (in-it s (s .offset) (omega arith) (omega (arith, x .1))))))
       (le-or-lt (t .offset) (s .offset))
     where
       clear : s .offset < t .offset → listed (t ∷ m) (s .offset) ≡ false
@@ -127,15 +129,18 @@ with-here p [] x = unfold withPlace in listed-here (stretch p 1) [] p (in-it (st
 with-here p (s ∷ l) x = pick (eqb (s .offset) (suc p)) refl
   where
     pick : (b : Bool) → eqb (s .offset) (suc p) ≡ b → listed (withPlace p (s ∷ l)) p ≡ true
-    pick true e = rw (with-joined p s l (eqb-true (s .offset) (suc p) e)) (listed-here (stretch p (suc (s .length))) l p (in-it (stretch p (suc (s .length))) p (omega arith) (omega arith)))
-    pick false e = rw (with-apart p (s ∷ l) (apart p s l x (eqb-false (s .offset) (suc p) e))) (listed-here (stretch p 1) (s ∷ l) p (in-it (stretch p 1) p (omega arith) (omega arith)))
+    pick true e = rw (with-joined p s l (eqb-true (s .offset) (suc p) e))
+        (listed-here (stretch p (suc (s .length))) l p (in-it (stretch p (suc (s .length))) p (omega arith) (omega arith)))
+    pick false e = rw (with-apart p (s ∷ l) (apart p s l x (eqb-false (s .offset) (suc p) e)))
+        (listed-here (stretch p 1) (s ∷ l) p (in-it (stretch p 1) p (omega arith) (omega arith)))
 
 -- a place other than p lies in p's own stretch of n + 1 places exactly when it lies in that of the n places after p
 other-in : (p n q : ℕ) → (q ≡ p → ⊥) → inStretch (stretch p (suc n)) q ≡ inStretch (stretch (suc p) n) q
 other-in p n q ne = ⊎-elim below above (le-or-lt q p)
   where
     below : q ≤ p → inStretch (stretch p (suc n)) q ≡ inStretch (stretch (suc p) n) q
-    below h = before-it (stretch p (suc n)) q (⊎-elim (λ g. absurd (ne (omega arith))) (λ g. g) (le-or-lt p q)) ∙ sym (before-it (stretch (suc p) n) q (omega arith))
+    below h = before-it (stretch p (suc n)) q (⊎-elim (λ g. absurd (ne (omega arith))) (λ g. g) (le-or-lt p q))
+        ∙ sym (before-it (stretch (suc p) n) q (omega arith))
 
     above : p < q → inStretch (stretch p (suc n)) q ≡ inStretch (stretch (suc p) n) q
     above h =
@@ -144,7 +149,8 @@ other-in p n q ne = ⊎-elim below above (le-or-lt q p)
         (le-or-lt (p + suc n) q)
 
 other-one : (p q : ℕ) → (q ≡ p → ⊥) → inStretch (stretch p 1) q ≡ false
-other-one p q ne = ⊎-elim (λ h. before-it (stretch p 1) q (⊎-elim (λ g. absurd (ne (omega arith))) (λ g. g) (le-or-lt p q))) (λ h. after-it (stretch p 1) q (omega arith)) (le-or-lt q p)
+other-one p q ne = ⊎-elim (λ h. before-it (stretch p 1) q (⊎-elim (λ g. absurd (ne (omega arith))) (λ g. g) (le-or-lt p q)))
+    (λ h. after-it (stretch p 1) q (omega arith)) (le-or-lt q p)
 
 with-other : (p q : ℕ) (l : List Stretch) → ProperFrom (suc p) l → (q ≡ p → ⊥) → listed (withPlace p l) q ≡ listed l q
 with-other p q [] x ne = unfold withPlace in listed-later (stretch p 1) [] q (other-one p q ne)
@@ -186,7 +192,8 @@ listed-first S p n = pick (S p) refl
   where
     pick : (b : Bool) → S p ≡ b → listed (stretchesFrom S p (suc n)) p ≡ S p
     pick true e = ap (λ (r : List Stretch). listed r p) (from-in S p n e) ∙ with-here p (stretchesFrom S (suc p) n) (proper-from S (suc p) n) ∙ sym e
-    pick false e = ap (λ (r : List Stretch). listed r p) (from-out S p n e) ∙ listed-before (suc p) p (stretchesFrom S (suc p) n) (proper-from S (suc p) n) (omega arith) ∙ sym e
+    pick false e = ap (λ (r : List Stretch). listed r p) (from-out S p n e)
+        ∙ listed-before (suc p) p (stretchesFrom S (suc p) n) (proper-from S (suc p) n) (omega arith) ∙ sym e
 
 -- and its others
 listed-other : (S : ℕ → Bool) (p n q : ℕ) → (q ≡ p → ⊥) → listed (stretchesFrom S p (suc n)) q ≡ listed (stretchesFrom S (suc p) n) q
@@ -218,7 +225,8 @@ stretches-same S T p (suc n) same = rw (stretches-same S T (suc p) n (λ q g l. 
 -- ---- how the list begins
 
 -- places that are not in the set
-pub skipped : (S : ℕ → Bool) (p k n : ℕ) → ((q : ℕ) → p ≤ q → q < p + k → S q ≡ false) → stretchesFrom S p (k + n) ≡ stretchesFrom S (p + k) n
+pub skipped : (S : ℕ → Bool) (p k n : ℕ) → ((q : ℕ) → p ≤ q → q < p + k → S q ≡ false)
+    → stretchesFrom S p (k + n) ≡ stretchesFrom S (p + k) n
 skipped S p zero n out = ap₂ (stretchesFrom S) (sym (add-zero p)) (zero-add n)
 skipped S p (suc k) n out =
     let e : suc k + n ≡ suc (k + n) = omega arith in

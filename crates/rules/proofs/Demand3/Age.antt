@@ -14,12 +14,13 @@ use Rattle.record.proofs.JournalLaws.{length-with, read-own}
 use Rattle.ranges.proofs.Laws.{in-range, in-range-intro, landed-in}
 use Rattle.rules.specs.Items.{Values, Item, byte, offset, fileLength}
 use Rattle.rules.specs.Messages.{Call}
-use Rattle.rules.specs.Machine.{Machine, fileOf, values}
+use Rattle.rules.specs.Machine.{Machine, withLogs, withMarking, fileOf, values}
 use Rattle.rules.specs.Undo.{takenBack}
 use Rattle.rules.specs.Plain.{nothing, found, startPlain, plainAfter}
 use Rattle.rules.specs.Calls.{freshStore, freshMachine, callsAfter}
 use Rattle.rules.specs.Demand3.{Holds}
-use Rattle.rules.specs.Age.{AtRest, rejuvenated, earlierIn, Ageless, Demand3AtRest}
+use Rattle.rules.specs.Demand3OfStore.{theStore}
+use Rattle.rules.specs.Age.{AtRest, rejuvenated, earlierIn, Alike, Ageless, Reloads, Demand3AtRest}
 use Rattle.rules.proofs.Serial.Invariant.{GoodEarlier}
 use Rattle.rules.proofs.Serial.FirstHalf.{backOf}
 use Rattle.rules.proofs.Serial.Sighted.{Seat, vacant, Back, none, kept, Sighted, startSighted, sightedAfter, sightedReplies}
@@ -59,7 +60,8 @@ module _ (m : Machine) (s : Sound m) (logs : List ℕ) (size : length logs ≡ 3
   young-grant h k l =
       let r = in-range (m .store) (m .journal) (s .inRange) .undo h in
       let w = landed-in (writeRecordAt (m .journal) grantStretch k) (r .writes k l) in
-      read-own (replicate 1728 0) grantStretch (writeRecordAt (m .journal) grantStretch) (length-replicate 1728 zero) (omega arith) records k (r .records) l (omega (arith, w .0))
+      read-own (replicate 1728 0) grantStretch (writeRecordAt (m .journal) grantStretch) (length-replicate 1728 zero)
+      (omega arith) records k (r .records) l (omega (arith, w .0))
 
   young-long : length young-journal ≡ 1728
   young-long = length-with (replicate 1728 0) grantStretch (writeRecordAt (m .journal) grantStretch) records ∙ length-replicate 1728 zero
@@ -107,7 +109,8 @@ module _ (m : Machine) (s : Sound m) (logs : List ℕ) (size : length logs ≡ 3
   same-back = back-same m (rejuvenated m logs) young-grant refl refl refl refl
 
   same-start : startSighted (fileOf (m .store)) (values (m .store) (m .files)) (windowAt (m .store)) (backIn m)
-      ≡ startSighted (fileOf (rejuvenated m logs .store)) (values (rejuvenated m logs .store) (rejuvenated m logs .files)) (windowAt (rejuvenated m logs .store)) (backIn (rejuvenated m logs))
+      ≡ startSighted (fileOf (rejuvenated m logs .store)) (values (rejuvenated m logs .store) (rejuvenated m logs .files))
+      (windowAt (rejuvenated m logs .store)) (backIn (rejuvenated m logs))
   unfolding rejuvenated freshStore freshMachine fileOf
   same-start = ap₂ (λ (v : Values) (b : Back). startSighted (fileOf (m .store)) v (windowAt (m .store)) b) (fun-ext each) (sym same-back)
     where
@@ -116,19 +119,35 @@ module _ (m : Machine) (s : Sound m) (logs : List ℕ) (size : length logs ≡ 3
       each (offset d) = unfold values in refl
       each (fileLength f) = unfold values in refl
 
-pub ageless : Ageless
+-- Two sound stores that stand for the same store without buffers answer alike.
+alike : (m n : Machine) → Sound m → Sound n → view m ≡ view n → (cs : List Call) → Alike cs m n
 unfolding view
-ageless m rest logs size cs =
-    let s = at-rest-sound m rest in
-    let n = rejuvenated m logs in
-    let e : view m ≡ view n =
-    resting-view m (rest .closed) ∙ same-start m s logs size ∙ sym (resting-view n (young-closed m s logs size)) in
+alike m n s t e cs =
     let a = calls-agree cs m s in
-    let b = calls-agree cs n (young-sound m s logs size) in
+    let b = calls-agree cs n t in
     record {
       replies = a .replies ∙ ap (sightedReplies cs) e ∙ sym (b .replies);
       left = ap (λ (x : Sighted). x .value) (a .state ∙ ap (sightedAfter cs) e ∙ sym (b .state));
     }
+
+pub ageless : Ageless
+ageless m rest logs size =
+    let s = at-rest-sound m rest in
+    let n = rejuvenated m logs in
+    alike m n s (young-sound m s logs size)
+    (resting-view m (rest .closed) ∙ same-start m s logs size ∙ sym (resting-view n (young-closed m s logs size)))
+
+-- With nothing open nobody looks at logs and marks.
+pub reloads : Reloads
+reloads m rest logs marks size wide =
+    let s = at-rest-sound m rest in
+    let n = withLogs logs (withMarking marks m) in
+    alike m n s
+    (record { shaped = s .shaped; journal = s .journal; files = s .files; logs = size; marks = wide; undo = s .undo; inRange = s .inRange })
+    (resting-view m (rest .closed)
+    ∙ ap (λ (b : Back). startSighted (fileOf (m .store)) (values (m .store) (m .files)) (windowAt (m .store)) b)
+    (sym (back-same m n (λ h k l. refl) refl refl refl refl))
+    ∙ sym (resting-view n (rest .closed)))
 
 -- What the plain machine starts with to go back to.
 pub earlier-good : (m : Machine) → GoodEarlier (earlierIn m)
@@ -160,7 +179,7 @@ module _ (m : Machine) (sound : Sound m) (closed : (t : ℕ) → t ≤ 7 → tra
   pub resting-holds :
       (cs : List Call)
       → let p = startPlain (fileOf (m .store)) (values (m .store) (m .files)) (windowAt (m .store)) (earlierIn m) in
-      Holds m p cs (callsAfter cs m) (plainAfter cs p)
+      Holds theStore m p cs (callsAfter cs m) (plainAfter cs p)
   resting-holds cs =
       holds-from (fileOf (m .store)) (values (m .store) (m .files)) (windowAt (m .store)) (earlierIn m) (earlier-good m) m sound resting-start cs
 

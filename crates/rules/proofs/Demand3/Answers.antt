@@ -1,15 +1,15 @@
 -- What a step can say: an accepted one answers, a refused one leaves everything.
-use mathlib.Core.Bool.{Bool, true, false, cond, _&&_}
+use mathlib.Core.Bool.{Bool, true, false, _&&_}
 use mathlib.Core.List.{List}
 use mathlib.Core.Path.{_≡_, refl, subst}
 use borrow.Author.Tests.{leb-true}
 use native.Mathlib.Omega.{arith}
-use lib.Dec.{leb, ltb}
+use lib.Dec.{leb}
 use Prim.Native.Nat.{ℕ, _≤_}
 use Rattle.record.specs.Paper.{number, Said, plain, pointer, given, granted, pairs, ordered, refused}
 use Rattle.record.specs.declared.outcomes.Refusal.the-variants.{Stale}
 use Rattle.ranges.proofs.Laws.{and-left, and-right}
-use Rattle.rules.specs.Items.{fileLength, Values, Prog, done, ask, within, andThen, result}
+use Rattle.rules.specs.Items.{fileLength, Values, Prog, done, ask, measure, andThen, result}
 use Rattle.rules.specs.Messages.{Op, seek, write, getFilePointer, read}
 use Rattle.rules.specs.Steps.{Stepped, refuse, accept, check, orGivenBack, seekStep, writeStep, pointerStep, readSettled, readStep, step, turnedBack}
 use Rattle.rules.specs.Transactions.{Txn, Settled, past, all}
@@ -66,14 +66,14 @@ module _ (P : ℕ → Type 0) where
 
   abbrev Always : Prog Stepped → Type 0
   Always (done s) = EndsSo s
-  Always (ask i f) = (v : ℕ) → Always (f v)
-  Always (within g p f) = (b : Bool) → Always (f b)
+  Always (ask i g) = (n : ℕ) → Always (g n)
+  Always (measure f g) = (n : ℕ) → Always (g n)
 
   always-then : {A : Type 0} → (p : Prog A) (k : A → Prog Stepped) → ((a : A) → Always (k a)) → Always (andThen p k)
   unfolding andThen
   always-then (done a) k h = h a
-  always-then (ask i f) k h = λ v. always-then (f v) k h
-  always-then (within g p f) k h = λ b. always-then (f b) k h
+  always-then (ask i g) k h = λ n. always-then (g n) k h
+  always-then (measure f g) k h = λ n. always-then (g n) k h
 
   always-check : (ok : Bool) (n : ℕ) (next : Prog Stepped) → P n → Always next → Always (check ok n next)
   unfolding check
@@ -110,12 +110,8 @@ module _ (P : ℕ → Type 0) where
   always-result : (v : Values) (p : Prog Stepped) → Always p → EndsSo (result v p)
   unfolding result
   always-result v (done s) h = h
-  always-result v (ask i f) h = always-result v (f (v i)) (h (v i))
-  always-result v (within g p f) h = chosen (ltb p (v (fileLength g))) (always-result v (f true) (h true)) (always-result v (f false) (h false))
-    where
-      chosen : (b : Bool) → EndsSo (result v (f true)) → EndsSo (result v (f false)) → EndsSo (cond b (result v (f true)) (result v (f false)))
-      chosen true k l = k
-      chosen false k l = l
+  always-result v (ask i g) h = always-result v (g (v i)) (h (v i))
+  always-result v (measure f g) h = always-result v (g (v (fileLength f))) (h (v (fileLength f)))
 
   pub ends-so : (fileOf : ℕ → ℕ) (o : Op) (x : Txn) (v : Values) → Numbers o → EndsSo (result v (step fileOf o x))
   ends-so fileOf o x v h = always-result v (step fileOf o x) (always-step fileOf o x h)

@@ -6,14 +6,14 @@ use borrow.Author.Tests.{leb-true, eq-eqb}
 use lib.Dec.{leb}
 use lib.ListN.{length}
 use native.Mathlib.Omega.{arith}
-use Prim.Native.Nat.{ℕ, zero, suc, _+_, _-_, _≤_}
+use Prim.Native.Nat.{ℕ, zero, suc, _+_, _≤_}
 use Rattle.record.specs.State.{transaction}
 use Rattle.record.specs.Paper.{Said, plain, pointer, given, granted, pairs, ordered, refused}
 use Rattle.ranges.proofs.Laws.{and-left}
 use Rattle.orders.specs.Orders.{orders, triedOf, factorial, Rated, bestTried, countIn, gapOf, Earliest}
 use Rattle.orders.proofs.Numbered.{many-orders, orders-of}
 use Rattle.orders.proofs.Best.{best-is-earliest, best-arranges, none-better}
-use Rattle.rules.specs.Messages.{commit, isGrant, grantsAmong}
+use Rattle.rules.specs.Messages.{commit, isGrant, grantsAmong, repliesTo}
 use Rattle.rules.specs.Ordering.{grantsIn, Asked, orderRefusal, orderReplied, orderReply}
 use Rattle.rules.specs.Machine.{Machine}
 use Rattle.rules.specs.Calls.{passing, commitCall, askedOf, orderTurn, call, callsAfter, callsReplies}
@@ -31,7 +31,7 @@ use Rattle.rules.proofs.Demand3.Theorem.{calls-agree, fresh-facts}
 made : (minute : ℕ) (o : List ℕ) (m : Machine)
     → grantsIn (λ t n. commitCall t minute n .reply) (λ t n. commitCall t minute n .after) o m
     ≡ grantsAmong (callsReplies (map (λ t. commit t minute) o) m)
-unfolding grantsIn callsReplies grantsAmong call
+unfolding grantsIn grantsAmong call repliesTo
 made minute [] m = refl
 made minute (t ∷ o) m = ap (λ (n : ℕ). isGrant (commitCall t minute m .reply .answer) + n) (made minute o (commitCall t minute m .after))
 

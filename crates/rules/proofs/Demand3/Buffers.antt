@@ -19,15 +19,19 @@ use Rattle.ranges.specs.Ranges.{unless, admission}
 use Rattle.ranges.proofs.Laws.{shared-zero}
 use Rattle.rules.specs.Items.{Item, byte, offset, fileLength, Values, Prog, done, andThen, result, asked}
 use Rattle.rules.specs.Transactions.{Txn, settle, Settled, past, all, settling}
-use Rattle.rules.specs.Messages.{Op, seek, write, getFilePointer, read, bufferOf, Call, begin, on, commit, abort, places, setWindow, takeBack, bestOrder}
+use Rattle.rules.specs.Messages.{Op, seek, write, getFilePointer, read, bufferOf, Call, begin, on, commit, abort, places}
+use Rattle.rules.specs.Messages.{setWindow, takeBack, bestOrder}
 use Rattle.rules.specs.Steps.{Stepped, refuse, accept, check, orGivenBack, seekStep, writeStep, pointerStep, step}
 use Rattle.rules.specs.Commits.{Setting, commitRefusal}
 use Rattle.rules.specs.Machine.{Machine, sizes, fileOf, values, txnOf, withTxn}
-use Rattle.rules.specs.Calls.{Turn, answer, turnDown, passing, fresh, freshStore, freshMachine, reset, beginTurn, abortTurn, logged, marked, served, stepTurn, afterCommit, commitGranted, commitDecided, commitTurn, admitted, call, placesTurn, windowTurn, takeBackTurn, orderTurn}
+use Rattle.rules.specs.Calls.{Turn, answerWith, turnDown, passing, fresh, freshStore, freshMachine, reset, beginTurn, abortTurn}
+use Rattle.rules.specs.Calls.{logged, marked, served, stepTurn, afterCommit, commitGranted, commitDecided, commitTurn, admitted, call}
+use Rattle.rules.specs.Calls.{placesTurn, windowTurn, takeBackTurn, orderTurn}
 use Rattle.rules.specs.Undo.{keepingFound, takenBack}
-use Rattle.rules.specs.Buffers.{Unmarked, marksThree, marksLength, UnmarkedTells, Buffers}
+use Rattle.rules.specs.Buffers.{Unmarked, Buffers}
+use Rattle.rules.specs.Counterexamples.{marksThree, marksLength, UnmarkedTells}
 use Rattle.rules.proofs.Serial.Programs.{asked-andThen}
-use Rattle.rules.proofs.Demand3.Answers.{IsAnswer, answer-not-refused, Leaving}
+use Rattle.rules.proofs.Demand3.Answers.{IsAnswer, answer-not-refused}
 use Rattle.rules.proofs.Demand3.Refusals.{refused-same, admission-leaving, passing-zero, passing-stale}
 
 -- A buffer that a call's own turn leaves is left by the call.
@@ -38,7 +42,8 @@ module _ (part : Machine → List ℕ) where
   passing-leaves (suc k) buffer m w e = refl
 
   -- A Commit that is not granted leaves it, if an ending does.
-  refused-leaves : (t n : ℕ) (x : Txn) (ss : List Setting) (m : Machine) → part (reset t ended m) ≡ part m → part (commitDecided t x ss m (suc n) .after) ≡ part m
+  refused-leaves : (t n : ℕ) (x : Txn) (ss : List Setting) (m : Machine) → part (reset t ended m) ≡ part m
+      → part (commitDecided t x ss m (suc n) .after) ≡ part m
   unfolding commitDecided
   refused-leaves t n x ss m e = pick (eqb (suc n) 13)
     where
@@ -68,7 +73,7 @@ decided-logs t x ss m zero = unfold commitDecided commitGranted keepingFound in 
 decided-logs t x ss m (suc n) = refused-leaves (λ z. z .logs) t n x ss m refl
 
 call-logs : (c : Call) (m : Machine) → ((t d : ℕ) (bytes : List ℕ) → c ≡ on t (write d bytes) → ⊥) → call c m .after .logs ≡ m .logs
-unfolding call admitted beginTurn abortTurn stepTurn commitTurn answer reset
+unfolding call admitted beginTurn abortTurn stepTurn commitTurn answerWith reset
 call-logs (begin t) m e = passing-leaves (λ x. x .logs) _ [] m (beginTurn t m) refl
 call-logs (on t o) m e = passing-leaves (λ x. x .logs) _ (bufferOf o) m (stepTurn t o m) (served-logs t o m _ _ e)
 call-logs (commit t minute) m e = passing-leaves (λ x. x .logs) _ [] m (commitTurn t minute m) (decided-logs t _ _ m _)
@@ -78,8 +83,9 @@ call-logs (setWindow f start end) m e = passing-leaves (λ x. x .logs) _ [] m (w
 call-logs takeBack m e = passing-leaves (λ x. x .logs) _ [] m (takeBackTurn m) (unfold takeBackTurn takenBack in refl)
 call-logs (bestOrder ts minute budget) m e = passing-leaves (λ x. x .logs) _ [] m (orderTurn ts minute budget m) (unfold orderTurn in refl)
 
-call-files : (c : Call) (m : Machine) → ((t minute : ℕ) → c ≡ commit t minute → ⊥) → (c ≡ takeBack → ⊥) → call c m .after .files ≡ m .files
-unfolding call admitted beginTurn abortTurn stepTurn answer reset
+call-files : (c : Call) (m : Machine) → ((t minute : ℕ) → c ≡ commit t minute → ⊥) → (c ≡ takeBack → ⊥)
+    → call c m .after .files ≡ m .files
+unfolding call admitted beginTurn abortTurn stepTurn answerWith reset
 call-files (begin t) m e k = passing-leaves (λ x. x .files) _ [] m (beginTurn t m) refl
 call-files (on t o) m e k = passing-leaves (λ x. x .files) _ (bufferOf o) m (stepTurn t o m) (served-files t o m _ _)
 call-files (commit t minute) m e k = absurd (e t minute refl)
@@ -95,7 +101,7 @@ served-undo t o m is (refuse n) = refl
 served-undo t o m is (accept y a b) = refl
 
 call-undo : (c : Call) (m : Machine) → ((t minute : ℕ) → c ≡ commit t minute → ⊥) → call c m .after .undo ≡ m .undo
-unfolding call admitted beginTurn abortTurn stepTurn answer reset
+unfolding call admitted beginTurn abortTurn stepTurn answerWith reset
 call-undo (begin t) m e = passing-leaves (λ x. x .undo) _ [] m (beginTurn t m) refl
 call-undo (on t o) m e = passing-leaves (λ x. x .undo) _ (bufferOf o) m (stepTurn t o m) (served-undo t o m _ _)
 call-undo (commit t minute) m e = absurd (e t minute refl)
@@ -133,7 +139,8 @@ module _ (t : ℕ) (v : Values) (marks : List ℕ) where
   unfolding asked marked
   done-marks s = refl
 
-  step-marks : (file : ℕ → ℕ) (o : Op) (x : Txn) → ((d n : ℕ) (buffer : List ℕ) → o ≡ read d n buffer → ⊥) → marked t (asked v (step file o x)) marks ≡ marks
+  step-marks : (file : ℕ → ℕ) (o : Op) (x : Txn) → ((d n : ℕ) (buffer : List ℕ) → o ≡ read d n buffer → ⊥)
+      → marked t (asked v (step file o x)) marks ≡ marks
   unfolding step seekStep writeStep pointerStep
   step-marks file (seek d n) x e = check-marks _ 6 _ (check-marks _ 8 _ (done-marks _))
   step-marks file (write d bytes) x e =
@@ -155,12 +162,14 @@ module _ (t : ℕ) (v : Values) (marks : List ℕ) where
           ∙ after (result v (settling ds x))
   step-marks file (read d n buffer) x e = absurd (e d n buffer refl)
 
-served-marks : (t : ℕ) (o : Op) (m : Machine) (is : List Item) (s : Stepped) → marked t is (m .marks) ≡ m .marks → served t o m is s .after .marks ≡ m .marks
+served-marks : (t : ℕ) (o : Op) (m : Machine) (is : List Item) (s : Stepped) → marked t is (m .marks) ≡ m .marks
+    → served t o m is s .after .marks ≡ m .marks
 unfolding served turnDown
 served-marks t o m is (refuse n) e = refl
 served-marks t o m is (accept y a b) e = e
 
-pub on-marks : (t : ℕ) (o : Op) (m : Machine) → ((d n : ℕ) (buffer : List ℕ) → o ≡ read d n buffer → ⊥) → call (on t o) m .after .marks ≡ m .marks
+pub on-marks : (t : ℕ) (o : Op) (m : Machine) → ((d n : ℕ) (buffer : List ℕ) → o ≡ read d n buffer → ⊥)
+    → call (on t o) m .after .marks ≡ m .marks
 unfolding call admitted stepTurn
 on-marks t o m e =
     passing-leaves (λ x. x .marks) _ (bufferOf o) m (stepTurn t o m)
@@ -175,8 +184,8 @@ call-marks (commit t minute) m r b c a = absurd (c t minute refl)
 call-marks (abort t) m r b c a = absurd (a t refl)
 call-marks (places t f out) m r b c a = passing-leaves (λ x. x .marks) _ out m (placesTurn t f out m) (unfold placesTurn in refl)
 call-marks (setWindow f start end) m r b c a =
-    passing-leaves (λ x. x .marks) _ [] m (windowTurn f start end m) (unfold windowTurn answer in refl)
-call-marks takeBack m r b c a = passing-leaves (λ x. x .marks) _ [] m (takeBackTurn m) (unfold takeBackTurn takenBack answer in refl)
+    passing-leaves (λ x. x .marks) _ [] m (windowTurn f start end m) (unfold windowTurn answerWith in refl)
+call-marks takeBack m r b c a = passing-leaves (λ x. x .marks) _ [] m (takeBackTurn m) (unfold takeBackTurn takenBack answerWith in refl)
 call-marks (bestOrder ts minute budget) m r b c a =
     passing-leaves (λ x. x .marks) _ [] m (orderTurn ts minute budget m) (unfold orderTurn in refl)
 
@@ -186,13 +195,14 @@ unfolding served turnDown withTxn withTransaction
 served-numbers t o m is (refuse n) = refl
 served-numbers t o m is (accept y a b) = refl
 
-decided-numbers : (t : ℕ) (x : Txn) (ss : List Setting) (m : Machine) (n : ℕ) → commitDecided t x ss m n .after .store .filenumbers ≡ m .store .filenumbers
+decided-numbers : (t : ℕ) (x : Txn) (ss : List Setting) (m : Machine) (n : ℕ)
+    → commitDecided t x ss m n .after .store .filenumbers ≡ m .store .filenumbers
 unfolding reset withTransaction
 decided-numbers t x ss m zero = unfold commitDecided commitGranted keepingFound in refl
 decided-numbers t x ss m (suc n) = refused-leaves (λ z. z .store .filenumbers) t n x ss m refl
 
 call-numbers : (c : Call) (m : Machine) → call c m .after .store .filenumbers ≡ m .store .filenumbers
-unfolding call admitted beginTurn abortTurn stepTurn commitTurn answer reset withTransaction
+unfolding call admitted beginTurn abortTurn stepTurn commitTurn answerWith reset withTransaction
 call-numbers (begin t) m = passing-leaves (λ x. x .store .filenumbers) _ [] m (beginTurn t m) refl
 call-numbers (on t o) m = passing-leaves (λ x. x .store .filenumbers) _ (bufferOf o) m (stepTurn t o m) (served-numbers t o m _ _)
 call-numbers (commit t minute) m = passing-leaves (λ x. x .store .filenumbers) _ [] m (commitTurn t minute m) (decided-numbers t _ _ m _)
@@ -224,7 +234,7 @@ granted-cleared t x ss m l =
     record {
       bytes = cleared t (m .marks);
       lengths =
-          ap (λ (x : Transaction). x .lengthmarks) (getD-tabulate (afterCommit t (m .marks) ss (m .store)) 8 t noTransaction (omega arith))
+          ap (λ (x : Transaction). x .lengthmarks) (getD-tabulate (afterCommit t ss m) 8 t noTransaction (omega arith))
           ∙ rw (eq-eqb t t refl);
     }
 
@@ -237,7 +247,8 @@ answered : (k : ℕ) (m : Machine) (w : Turn) (a : Said) → IsAnswer a → pass
 answered k m w a h e = ap (λ (x : Turn). x .after) (answered-turn k m w a h e)
 
 decided-cleared : (t : ℕ) (x : Txn) (ss : List Setting) (m : Machine) (daily stale shut placed : Bool) (n : ℕ) → t ≤ 7
-    → commitDecided t x ss m (commitRefusal daily stale shut placed) .reply .answer ≡ granted n → Unmarked t (commitDecided t x ss m (commitRefusal daily stale shut placed) .after)
+    → commitDecided t x ss m (commitRefusal daily stale shut placed) .reply .answer ≡ granted n
+    → Unmarked t (commitDecided t x ss m (commitRefusal daily stale shut placed) .after)
 unfolding commitDecided commitRefusal
 decided-cleared t x ss m false stale shut placed n l e = absurd (answer-not-refused (granted n) 22 tt (sym e))
 decided-cleared t x ss m true true shut placed n l e = absurd (answer-not-refused (granted n) 13 tt (sym e))
@@ -246,7 +257,8 @@ decided-cleared t x ss m true false false true n l e = granted-cleared t x ss m 
 decided-cleared t x ss m true false false false n l e = absurd (answer-not-refused (granted n) 12 tt (sym e))
 
 decided-stale : (t : ℕ) (x : Txn) (ss : List Setting) (m : Machine) (daily stale shut placed : Bool)
-    → commitDecided t x ss m (commitRefusal daily stale shut placed) .reply .answer ≡ refused 13 → Unmarked t (commitDecided t x ss m (commitRefusal daily stale shut placed) .after)
+    → commitDecided t x ss m (commitRefusal daily stale shut placed) .reply .answer ≡ refused 13
+    → Unmarked t (commitDecided t x ss m (commitRefusal daily stale shut placed) .after)
 unfolding commitDecided commitRefusal commitGranted ended
 decided-stale t x ss m false stale shut placed e = let z : _≡_ {A = ℕ} 22 13 = refused-same 22 13 e in absurd (omega arith)
 decided-stale t x ss m true true shut placed e = reset-cleared t ended m refl
@@ -263,7 +275,7 @@ granted-small m t minute n e =
     omega (arith, a .0 .small)
 
 pub buffers : (m : Machine) → Buffers m
-unfolding call admitted beginTurn abortTurn commitTurn answer begun ended fresh freshMachine freshStore
+unfolding call admitted beginTurn abortTurn commitTurn answerWith begun ended fresh freshMachine freshStore
 buffers m =
     record {
       logs = λ c. call-logs c m;

@@ -18,7 +18,8 @@ use Rattle.rules.specs.Transactions.{Txn, Write}
 use Rattle.rules.specs.Reading.{writeEnd, farthest}
 use Rattle.rules.specs.Coverage.{someWrite}
 use Rattle.rules.specs.Windows.{isForClosed, forClosed}
-use Rattle.rules.specs.Commits.{Setting, landsAt, stretch, byteSettings, setsOffset, offsetSettings, landedEnd, lengthSettings, settings, fits, landed, commitRefusal}
+use Rattle.rules.specs.Commits.{Setting, landsAt, bytesFrom, byteSettings, setsOffset, offsetSettings, landedEnd, lengthSettings}
+use Rattle.rules.specs.Commits.{settings, fits, landed, commitRefusal}
 use Rattle.rules.specs.Messages.{commit}
 use Rattle.rules.specs.Machine.{Machine, sizes, fileOf, values, txnOf, noWrite}
 use Rattle.rules.specs.Calls.{Turn, passing, commitGranted, commitDecided, settingsOf, commitTurn, admitted, call, callsAfter}
@@ -55,8 +56,8 @@ module _ (ws : Windows) (minute : ℕ) where
 
   -- The bytes of a write in file g.
   stretch-spares : (g q : ℕ) (bs : List ℕ) → 4096 * g ≤ q → q + length bs ≤ 4096 * g + 4096
-      → (0 < length bs → isClosedAt ws minute g ≡ false) → AllSparing (stretch q bs)
-  unfolding stretch
+      → (0 < length bs → isClosedAt ws minute g ≡ false) → AllSparing (bytesFrom q bs)
+  unfolding bytesFrom
   stretch-spares g q [] l k h = tt
   stretch-spares g q (b ∷ bs) l k h =
       let e : q / 4096 ≡ g = omega arith in
@@ -75,11 +76,12 @@ module _ (ws : Windows) (minute : ℕ) where
         let k = lands-in (v (offset d)) (y .standing d) (w .place) (length (w .bytes)) (fits-at file v y files ranges fit d (i .descriptor)) (i .place) in
         let o = or-left-false (isForClosed file ws minute w) (someWrite (isForClosed file ws minute) us) e in
         let r = or-right-false (isForClosed file ws minute w) (someWrite (isForClosed file ws minute) us) e in
-        every-append (λ (s : Setting). Sparing (s .item)) (stretch (4096 * file d + a) (w .bytes)) (byteSettings file v us)
+        every-append (λ (s : Setting). Sparing (s .item)) (bytesFrom (4096 * file d + a) (w .bytes)) (byteSettings file v us)
         (stretch-spares (file d) (4096 * file d + a) (w .bytes) (omega arith) (omega arith) (λ l. opened (length (w .bytes)) l (unfold isForClosed in o)))
         (bytes-spare us (λ k l. h (suc k) (suc-le-suc l)) r)
       where
-        opened : (n : ℕ) → 0 < n → (ltb 0 n && isClosedAt ws minute (file (w .descriptor))) ≡ false → isClosedAt ws minute (file (w .descriptor)) ≡ false
+        opened : (n : ℕ) → 0 < n → (ltb 0 n && isClosedAt ws minute (file (w .descriptor))) ≡ false
+            → isClosedAt ws minute (file (w .descriptor)) ≡ false
         opened n l q = rw (lt-ltb 0 n l) at q
 
     offsets-spare : (n : ℕ) → AllSparing (offsetSettings v y n)
@@ -96,7 +98,8 @@ module _ (ws : Windows) (minute : ℕ) where
     unfolding lengthSettings
     lengths-spare us zero = tt
     lengths-spare us (suc f) =
-        every-append (λ (s : Setting). Sparing (s .item)) (lengthSettings file v us f) _ (lengths-spare us f) (pick (ltb (v (fileLength f)) (landedEnd file v f us)))
+        every-append (λ (s : Setting). Sparing (s .item)) (lengthSettings file v us f) _ (lengths-spare us f)
+        (pick (ltb (v (fileLength f)) (landedEnd file v f us)))
       where
         pick : (b : Bool) → AllSparing (cond b (record { item = fileLength f; to = landedEnd file v f us } ∷ []) [])
         pick true = (tt, tt)
@@ -138,7 +141,8 @@ module _ (ws : Windows) (minute : ℕ) where
         pick a (eqb (file (w .descriptor)) f) refl (unfold isForClosed in o) in
         omega arith
       where
-        pick : (a : ℕ) (b : Bool) → eqb (file (w .descriptor)) f ≡ b → (ltb 0 (length (w .bytes)) && isClosedAt ws minute (file (w .descriptor))) ≡ false
+        pick : (a : ℕ) (b : Bool) → eqb (file (w .descriptor)) f ≡ b
+            → (ltb 0 (length (w .bytes)) && isClosedAt ws minute (file (w .descriptor))) ≡ false
             → cond b (writeEnd a (length (w .bytes))) 0 ≡ 0
         pick a true e q =
             let c : isClosedAt ws minute (file (w .descriptor)) ≡ true = ap (isClosedAt ws minute) (eqb-true (file (w .descriptor)) f e) ∙ shut in
@@ -146,8 +150,8 @@ module _ (ws : Windows) (minute : ℕ) where
         pick a false e q = refl
 
     module _ (y : Txn) (none : forClosed file ws minute (y .writes) ≡ false) where
-      stretch-no-length : (q : ℕ) (bs : List ℕ) → touched (stretch q bs) (fileLength f) ≡ false
-      unfolding stretch touched same
+      stretch-no-length : (q : ℕ) (bs : List ℕ) → touched (bytesFrom q bs) (fileLength f) ≡ false
+      unfolding bytesFrom touched same
       stretch-no-length q [] = refl
       stretch-no-length q (b ∷ bs) = stretch-no-length (suc q) bs
 
@@ -156,7 +160,7 @@ module _ (ws : Windows) (minute : ℕ) where
       bytes-no-length [] = unfold touched in refl
       bytes-no-length (w ∷ us) =
           let q = 4096 * file (w .descriptor) + landsAt (v (offset (w .descriptor))) (w .place) in
-          neither (stretch q (w .bytes)) (byteSettings file v us) (fileLength f) (stretch-no-length q (w .bytes)) (bytes-no-length us)
+          neither (bytesFrom q (w .bytes)) (byteSettings file v us) (fileLength f) (stretch-no-length q (w .bytes)) (bytes-no-length us)
 
       offsets-no-length : (n : ℕ) → touched (offsetSettings v y n) (fileLength f) ≡ false
       unfolding offsetSettings
@@ -165,7 +169,8 @@ module _ (ws : Windows) (minute : ℕ) where
           neither (offsetSettings v y d) (cond (setsOffset y d) (record { item = offset d; to = finalOffset (v (offset d)) (y .standing d) } ∷ []) [])
           (fileLength f) (offsets-no-length d) (pick (setsOffset y d))
         where
-          pick : (b : Bool) → touched (cond b (record { item = offset d; to = finalOffset (v (offset d)) (y .standing d) } ∷ []) []) (fileLength f) ≡ false
+          pick : (b : Bool) → touched (cond b (record { item = offset d; to = finalOffset (v (offset d)) (y .standing d) } ∷ []) [])
+              (fileLength f) ≡ false
           pick true = unfold touched same in refl
           pick false = unfold touched in refl
 
@@ -183,12 +188,16 @@ module _ (ws : Windows) (minute : ℕ) where
           pick false e = unfold touched in refl
 
           last : (b : Bool) → eqb g f ≡ b
-              → touched (cond (ltb (v (fileLength g)) (landedEnd file v g (y .writes))) (record { item = fileLength g; to = landedEnd file v g (y .writes) } ∷ []) []) (fileLength f) ≡ false
+              → touched (cond (ltb (v (fileLength g)) (landedEnd file v g (y .writes)))
+              (record { item = fileLength g; to = landedEnd file v g (y .writes) } ∷ []) []) (fileLength f) ≡ false
           last false e = pick (ltb (v (fileLength g)) (landedEnd file v g (y .writes))) e
           last true e =
-              let z : landedEnd file v g (y .writes) ≡ 0 = ap (λ (h : ℕ). landedEnd file v h (y .writes)) (eqb-true g f e) ∙ ends-nowhere (y .writes) none in
-              let l : ltb (v (fileLength g)) (landedEnd file v g (y .writes)) ≡ false = ap (ltb (v (fileLength g))) z ∙ le-ltb (v (fileLength g)) 0 (omega arith) in
-              ap (λ (b : Bool). touched (cond b (record { item = fileLength g; to = landedEnd file v g (y .writes) } ∷ []) []) (fileLength f)) l ∙ (unfold touched in refl)
+              let z : landedEnd file v g (y .writes) ≡ 0 = ap (λ (h : ℕ). landedEnd file v h (y .writes)) (eqb-true g f e)
+              ∙ ends-nowhere (y .writes) none in
+              let l : ltb (v (fileLength g)) (landedEnd file v g (y .writes)) ≡ false = ap (ltb (v (fileLength g))) z
+              ∙ le-ltb (v (fileLength g)) 0 (omega arith) in
+              ap (λ (b : Bool). touched (cond b (record { item = fileLength g; to = landedEnd file v g (y .writes) } ∷ []) [])
+              (fileLength f)) l ∙ (unfold touched in refl)
 
       length-not-touched : touched (settings file v y) (fileLength f) ≡ false
       unfolding settings
@@ -238,7 +247,8 @@ passed m t minute n e =
     }
 
 -- Equal committed values, in the buffers.
-byte-left : (n m : Machine) (q : ℕ) → values (n .store) (n .files) (byte q) ≡ values (m .store) (m .files) (byte q) → getD (n .files) q 0 ≡ getD (m .files) q 0
+byte-left : (n m : Machine) (q : ℕ) → values (n .store) (n .files) (byte q) ≡ values (m .store) (m .files) (byte q)
+    → getD (n .files) q 0 ≡ getD (m .files) q 0
 unfolding values
 byte-left n m q e = e
 
@@ -254,7 +264,8 @@ spared m sound t minute n e =
     let v = values s (m .files) in
     let x = txnOf s (m .journal) (m .logs) t in
     let r = in-range s (m .journal) (sound .inRange) in
-    let ranges = decoded-in s (m .journal) (m .logs) t (sound .logs) (p .small) (r .transactions t (p .small) (p .begun)) (sound .shaped .descriptors t (p .small)) in
+    let ranges = decoded-in s (m .journal) (m .logs) t (sound .logs) (p .small) (r .transactions t (p .small) (p .begun))
+    (sound .shaped .descriptors t (p .small)) in
     let sparing = settings-spare (windowAt s) minute (fileOf s) v x (unfold fileOf in r .files) ranges (p .fit) (p .none) in
     let left : values (call (commit t minute) m .after .store) (call (commit t minute) m .after .files) ≡ landed (settingsOf m t) v =
     ap (λ (y : Machine). values (y .store) (y .files)) (p .leaves)

@@ -2,9 +2,8 @@
 use mathlib.Core.Bool.{Bool, true, false, cond, _&&_, true≢false}
 use mathlib.Core.List.{List, [], _∷_}
 use mathlib.Core.Path.{_≡_, refl, sym, ap, _∙_, subst, subst⁻¹}
-use borrow.Author.Tests.{leb-true, le-leb}
-use lib.Dec.{leb, eqb}
-use lib.ListN.{getD}
+use borrow.Author.Tests.{leb-true}
+use lib.Dec.{leb}
 use native.Mathlib.Omega.{arith}
 use Prim.Native.Nat.{ℕ, zero, suc, _≤_, _<_}
 use Rattle.windows.specs.Hours.{minuteIn}
@@ -13,18 +12,20 @@ use Rattle.ranges.specs.Below.{guarded, isNone}
 use Rattle.ranges.specs.Ranges.{windowRefusal, admissionOfTakingBack}
 use Rattle.rules.specs.Windows.{forClosed}
 use Rattle.record.specs.State.{transaction}
-use Rattle.ranges.proofs.Laws.{admitted-back, in-range, and-left, and-right}
+use Rattle.ranges.proofs.Laws.{admitted-back, in-range, and-right}
 use Rattle.rules.specs.Items.{fileLength, Values, result, asked}
-use Rattle.rules.specs.Transactions.{Txn}
-use Rattle.rules.specs.Messages.{Op, bufferOf, Call, begin, on, commit, abort, places, setWindow, takeBack, bestOrder}
+use Rattle.rules.specs.Messages.{Op, bufferOf, Call, begin, on, commit, abort, places, setWindow, takeBack, bestOrder, afterAll}
 use Rattle.rules.specs.Steps.{Stepped, refuse, accept, step, turnedBack}
 use Rattle.rules.specs.Commits.{settings, fits, landed, commitRefusal}
-use Rattle.rules.specs.Machine.{Machine, sizes, fileOf, values, txnOf}
+use Rattle.rules.specs.Machine.{Machine, sizes, fileOf, txnOf}
 use Rattle.rules.specs.Undo.{takenBack}
 use Rattle.rules.specs.Calls.{turnDown, passing, takeBackTurn, call, callsAfter}
-use Rattle.rules.specs.Demand3.{FreshlyMade}
-use Rattle.rules.specs.Lengths.{ZeroBeyond, Longer, committedIn, LengthsHold, LengthsAlwaysHold, firstBeyond, LengthsTell}
-use Rattle.rules.proofs.Serial.Sighted.{Held, Seat, vacant, held, Back, none, kept, noneHeld, returned, sightedReturn, sightedBack, Sighted, startSighted, turnedAway, SightedTurn, withSeat, telling, sightedBegin, sightedStepped, sightedOn, granting, sightedCommitted, sightedCommit, sightedAbort, sightedPlaces, windowed, sightedWindow, seated, sightedCall, sightedBestOrder}
+use Rattle.rules.specs.Lengths.{ZeroBeyond, Longer, committedIn, LengthsHold, LengthsAlwaysHold}
+use Rattle.rules.specs.Counterexamples.{firstBeyond, LengthsTell}
+use Rattle.rules.proofs.Serial.Sighted.{Held, Seat, vacant, held, Back, none, kept, noneHeld, returned, sightedReturn, sightedBack}
+use Rattle.rules.proofs.Serial.Sighted.{Sighted, startSighted, turnedAway, SightedTurn, withSeat, telling, sightedBegin}
+use Rattle.rules.proofs.Serial.Sighted.{sightedStepped, sightedOn, granting, sightedCommitted, sightedCommit, sightedAbort}
+use Rattle.rules.proofs.Serial.Sighted.{sightedPlaces, windowed, sightedWindow, seated, sightedCall, sightedBestOrder}
 use Rattle.rules.proofs.Serial.Lengths.{commit-longer}
 use Rattle.rules.proofs.View.Shape.{heldBy, seat, backValues, backIn, view, Sound}
 use Rattle.rules.proofs.View.Back.{back-values}
@@ -58,7 +59,8 @@ module _ (P : Values → Back → Type 0) (s : Sighted) (now : P (s .value) (s .
   kept-on t o vacant = now
   kept-on t o (held h) = kept-stepped t o h (turnedBack (h .stale) o (result (s .value) (step (s .fileOf) o (h .txn))))
 
-  kept-committed : (t : ℕ) (h : Held) → leb t 7 ≡ true → s .seats t ≡ held h → (daily stale shut placed : Bool) → fits (s .value) (h .txn) ≡ placed → grantable ≡ true
+  kept-committed : (t : ℕ) (h : Held) → leb t 7 ≡ true → s .seats t ≡ held h → (daily stale shut placed : Bool)
+      → fits (s .value) (h .txn) ≡ placed → grantable ≡ true
       → At (sightedCommitted t h s (commitRefusal daily stale shut placed) .after)
   unfolding sightedCommitted commitRefusal granting withSeat
   kept-committed t h l o false stale shut placed e g = now
@@ -196,7 +198,7 @@ module _ (m : Machine) (sound : Sound m) where
   hold-now zeros backs = record { zeros = zeros; zerosHeld = zeros-held backs; limit = limit-now; grows = grows-call; opened = opened-call }
 
 hold-after : (cs : List Call) (m : Machine) → Sound m → ZeroBeyond (committedIn m) → ZeroBack (backIn m) → LengthsHold (callsAfter cs m)
-unfolding callsAfter
+unfolding afterAll
 hold-after [] m sound zeros backs = hold-now m sound zeros backs
 hold-after (c ∷ cs) m sound zeros backs =
     let z = zeros-call m sound zeros backs c in

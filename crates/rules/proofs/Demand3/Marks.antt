@@ -1,23 +1,25 @@
 -- Whose marks a call leaves.
 use mathlib.Core.Bool.{Bool, true, false, cond, true≢false}
-use mathlib.Core.List.{List, [], _∷_, _++_}
-use mathlib.Core.Path.{_≡_, refl, sym, ap, _∙_, subst}
+use mathlib.Core.List.{List, []}
+use mathlib.Core.Path.{_≡_, refl, sym, ap, subst}
 use lib.Dec.{leb, eqb}
 use native.Mathlib.Omega.{arith}
 use borrow.Author.Tests.{leb-true}
 use Prim.Native.Nat.{ℕ, zero, suc, _<_}
-use Rattle.octets.specs.Marks.{hasMark, withoutMarks}
+use Rattle.octets.specs.Marks.{hasMark}
 use Rattle.record.specs.declared.Transaction.{Transaction}
 use Rattle.record.specs.State.{transaction, ended}
 use Rattle.ranges.specs.Ranges.{unless, admission}
-use Rattle.rules.specs.Messages.{Op, seek, write, getFilePointer, read, bufferOf, Call, begin, on, commit, abort, places, setWindow, takeBack, bestOrder}
-use Rattle.rules.specs.Steps.{Stepped, refuse, accept, turnedBack}
+use Rattle.rules.specs.Messages.{Op, seek, write, getFilePointer, read, bufferOf, Call, begin, on, commit, abort, places}
+use Rattle.rules.specs.Messages.{setWindow, takeBack, bestOrder}
+use Rattle.rules.specs.Steps.{Stepped, refuse, accept}
 use Rattle.rules.specs.Commits.{Setting}
 use Rattle.rules.specs.Transactions.{Txn}
-use Rattle.rules.specs.Machine.{Machine, sizes}
+use Rattle.rules.specs.Machine.{Machine}
 use Rattle.rules.specs.Undo.{keepingFound, takenBack}
-use Rattle.rules.specs.Calls.{Turn, turnDown, passing, answer, reset, beginTurn, abortTurn, served, stepTurn, commitGranted, commitDecided, commitTurn, placesTurn, windowTurn, takeBackTurn, orderTurn, admitted, call, callsAfter}
-use Rattle.rules.specs.Buffers.{MarksLeft, MarksAlwaysLeft}
+use Rattle.rules.specs.Calls.{Turn, turnDown, passing, answerWith, reset, beginTurn, abortTurn, served, stepTurn, commitGranted}
+use Rattle.rules.specs.Calls.{commitDecided, commitTurn, placesTurn, windowTurn, takeBackTurn, orderTurn, admitted, call, callsAfter}
+use Rattle.rules.specs.Buffers.{MarksAlwaysLeft}
 use Rattle.rules.proofs.View.Shape.{Sound}
 use Rattle.rules.proofs.View.Marks.{marked-other}
 use Rattle.rules.proofs.View.Endings.{unmarked-other}
@@ -50,14 +52,16 @@ module _ (m : Machine) (u q : ℕ) where
       pick false = refl
 
   module _ (sound : Sound m) where
-    served-left : (t : ℕ) (o : Op) → t < 8 → transaction (m .store) t .begun ≡ true → (u ≡ t → ⊥) → (s : Stepped) → Left (served t o m (sightings m t o) s .after)
+    served-left : (t : ℕ) (o : Op) → t < 8 → transaction (m .store) t .begun ≡ true → (u ≡ t → ⊥) → (s : Stepped)
+        → Left (served t o m (sightings m t o) s .after)
     unfolding served turnDown
     served-left t o small begun other (refuse n) = refl
     served-left t o small begun other (accept y a b) =
         marked-other t u (sightings m t o) (m .marks) small (sound .marks) (sightings-in m t o sound small begun) other q
 
     -- A call of an open transaction, on a sound store.
-    admitted-left : (t : ℕ) (buffer : List ℕ) (w : Turn) → (t < 8 → transaction (m .store) t .begun ≡ true → Left (w .after)) → Left (admitted t buffer m w .after)
+    admitted-left : (t : ℕ) (buffer : List ℕ) (w : Turn) → (t < 8 → transaction (m .store) t .begun ≡ true → Left (w .after))
+        → Left (admitted t buffer m w .after)
     unfolding admitted admission unless passing turnDown
     admitted-left t buffer w h =
         subst (λ (n : ℕ). Left (passing n buffer m w .after)) (sym (shared-is m t sound (unless (transaction (m .store) t .begun) 4 0)))
@@ -80,7 +84,7 @@ module _ (m : Machine) (u q : ℕ) where
 
     call-left : (c : Call) → ((d n : ℕ) (buffer : List ℕ) → c ≡ on u (read d n buffer) → ⊥) → (c ≡ begin u → ⊥)
         → ((minute : ℕ) → c ≡ commit u minute → ⊥) → (c ≡ abort u → ⊥) → Left (call c m .after)
-    unfolding call beginTurn abortTurn answer commitTurn placesTurn windowTurn takeBackTurn takenBack admitted
+    unfolding call beginTurn abortTurn answerWith commitTurn placesTurn windowTurn takeBackTurn takenBack admitted
     call-left (begin t) r b c a = passing-left _ [] (beginTurn t m) (reset-left t _ (λ e. b (ap begin (sym e))))
     call-left (on t o) r b c a = on-left t o r
     call-left (commit t minute) r b c a =

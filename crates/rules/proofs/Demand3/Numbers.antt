@@ -1,24 +1,26 @@
 -- Demand 1: each call refuses with the numbers of its own row, and with no others.
-use mathlib.Core.Bool.{Bool, true, false, not}
+use mathlib.Core.Bool.{Bool, true, false}
 use mathlib.Core.List.{List, [], _∷_}
 use mathlib.Core.Path.{_≡_, refl, sym, subst}
 use native.Mathlib.Omega.{arith}
 use Prim.Native.Nat.{ℕ, zero, suc}
 use Rattle.record.specs.declared.Store.{Store}
-use Rattle.record.specs.State.{transaction}
 use Rattle.record.specs.Paper.{Said, refused}
-use Rattle.ranges.specs.Ranges.{Sizes, unless, firstTests, shared, windowRefusal, admissionOfWindow, admissionOfTakingBack, admission, admissionOfBegin, admissionOfFresh}
+use Rattle.ranges.specs.Ranges.{Sizes, unless, firstTests, shared, windowRefusal, admissionOfWindow, admissionOfTakingBack, admission}
+use Rattle.ranges.specs.Ranges.{admissionOfBegin, admissionOfFresh}
 use Rattle.orders.specs.Orders.{isIn}
 use Rattle.rules.specs.Items.{Item, Values, result}
 use Rattle.rules.specs.Transactions.{Txn}
 use Rattle.rules.specs.Coverage.{placesRefusal, placesReply, placesOf}
 use Rattle.rules.specs.Steps.{Stepped, refuse, accept, step, looks, turnsBack, turnedBack}
 use Rattle.rules.specs.Commits.{Setting, commitRefusal}
-use Rattle.rules.specs.Messages.{Op, seek, write, getFilePointer, read, bufferOf, Call, begin, on, commit, abort, places, setWindow, takeBack, bestOrder}
+use Rattle.rules.specs.Messages.{Op, seek, write, getFilePointer, read, bufferOf, Call, begin, on, commit, abort, places}
+use Rattle.rules.specs.Messages.{setWindow, takeBack, bestOrder}
 use Rattle.rules.specs.Ordering.{Asked, orderRefusal, orderReplied, orderReply}
 use Rattle.rules.specs.Machine.{Machine, sizes, fileOf, values, txnOf}
 use Rattle.rules.specs.Demand1.{refusalsOf, refusalsOfFresh}
-use Rattle.rules.specs.Calls.{Turn, answer, turnDown, passing, fresh, beginTurn, abortTurn, served, stepTurn, commitGranted, commitDecided, commitTurn, admitted, call, placesTurn, windowTurn, takeBackTurn, orderTurn, askedOf}
+use Rattle.rules.specs.Calls.{Turn, answerWith, turnDown, passing, fresh, beginTurn, abortTurn, served, stepTurn, commitGranted}
+use Rattle.rules.specs.Calls.{commitDecided, commitTurn, admitted, call, placesTurn, windowTurn, takeBackTurn, orderTurn, askedOf}
 use Rattle.rules.proofs.Serial.Programs.{turned-back}
 use Rattle.rules.proofs.Demand3.Answers.{IsAnswer, answer-not-refused, refused-same, EndsSo, Numbers, ends-so}
 
@@ -50,7 +52,8 @@ knows-passing ns zero buffer m w h l = l
 knows-passing ns (suc k) buffer m w h l = knows-refused ns (suc k) (h k refl)
 
 -- The shared tests.
-among-first : (rest : List ℕ) (z : Sizes) (s : Store) (j : List ℕ) (later : ℕ) → Among (1 ∷ 2 ∷ rest) later → Among (1 ∷ 2 ∷ rest) (firstTests z s j later)
+among-first : (rest : List ℕ) (z : Sizes) (s : Store) (j : List ℕ) (later : ℕ) → Among (1 ∷ 2 ∷ rest) later
+    → Among (1 ∷ 2 ∷ rest) (firstTests z s j later)
 unfolding firstTests isIn
 among-first rest z s j later l =
     let ns : List ℕ = 1 ∷ 2 ∷ rest in
@@ -121,7 +124,8 @@ knows-on t o m =
     subst (λ (ns : List ℕ). Knows ns (admitted t (bufferOf o) m (stepTurn t o m) .reply .answer)) (row-is t o)
     (knows-admitted (ownRow o) t (bufferOf o) m (stepTurn t o m)
     (subst (λ (ns : List ℕ). Knows ns (stepTurn t o m .reply .answer)) (sym (row-is t o))
-    (knows-served (refusalsOf (on t o)) t o m _ _ (step-knows t (fileOf (m .store)) (txnOf (m .store) (m .journal) (m .logs) t) (values (m .store) (m .files)) _ o))))
+    (knows-served (refusalsOf (on t o)) t o m _ _
+    (step-knows t (fileOf (m .store)) (txnOf (m .store) (m .journal) (m .logs) t) (values (m .store) (m .files)) _ o))))
 
 -- Commit.
 abbrev ofCommit : List ℕ
@@ -137,7 +141,8 @@ knows-decided t x ss m true false false true = knows-answer ofCommit _ tt
 knows-decided t x ss m true false false false = knows-refused ofCommit 12 refl
 
 -- F-1's call, and F-14's.
-knows-placed : (ns : List ℕ) (fileOf : ℕ → ℕ) (f : ℕ) (out : List ℕ) (x : Txn) (n : ℕ) → Among ns n → Knows ns (placesReply fileOf f out x n .answer)
+knows-placed : (ns : List ℕ) (fileOf : ℕ → ℕ) (f : ℕ) (out : List ℕ) (x : Txn) (n : ℕ) → Among ns n
+    → Knows ns (placesReply fileOf f out x n .answer)
 unfolding placesReply
 knows-placed ns fileOf f out x zero h = knows-answer ns _ tt
 knows-placed ns fileOf f out x (suc n) h = knows-refused ns (suc n) (h n refl)
@@ -148,7 +153,8 @@ knows-ordered ns a ts budget zero h = knows-answer ns _ tt
 knows-ordered ns a ts budget (suc n) h = knows-refused ns (suc n) (h n refl)
 
 pub knows-call : (c : Call) (m : Machine) → Knows (refusalsOf c) (call c m .reply .answer)
-unfolding call refusalsOf isIn beginTurn abortTurn answer commitTurn placesTurn placesOf placesRefusal windowTurn takeBackTurn orderTurn orderReply orderRefusal admissionOfBegin admissionOfWindow windowRefusal admissionOfTakingBack
+unfolding call refusalsOf isIn beginTurn abortTurn answerWith commitTurn placesTurn placesOf placesRefusal windowTurn takeBackTurn
+    orderTurn orderReply orderRefusal admissionOfBegin admissionOfWindow windowRefusal admissionOfTakingBack
 knows-call (begin t) m =
     let ns : List ℕ = 1 ∷ 2 ∷ 3 ∷ 5 ∷ [] in
     knows-passing ns _ [] m (beginTurn t m)
@@ -181,7 +187,7 @@ knows-call (bestOrder ts minute budget) m =
     (among-unless ns _ 25 _ refl (among-unless ns _ 27 0 refl (among-none ns))))))))
 
 pub knows-fresh : (numbers : List ℕ) (m : Machine) → Knows refusalsOfFresh (fresh numbers m .reply .answer)
-unfolding fresh answer admissionOfFresh isIn
+unfolding fresh answerWith admissionOfFresh isIn
 knows-fresh numbers m =
     let ns : List ℕ = refusalsOfFresh in
     knows-passing ns _ [] m _ (among-unless ns _ 1 _ refl (among-unless ns _ 14 0 refl (among-none ns))) (knows-answer ns _ tt)

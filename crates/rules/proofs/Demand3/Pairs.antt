@@ -12,10 +12,10 @@ use Rattle.octets.proofs.Rearranged.{same-pairs}
 use Rattle.record.specs.State.{transaction, windowAt}
 use Rattle.rules.specs.Items.{Item, byte, offset, fileLength, Values}
 use Rattle.rules.specs.Messages.{Call}
-use Rattle.rules.specs.Machine.{Machine, withMarking, fileOf, values, txnOf}
+use Rattle.rules.specs.Machine.{Machine, withMarking, fileOf, values}
 use Rattle.rules.specs.Calls.{callsAfter}
 use Rattle.rules.specs.Age.{Alike}
-use Rattle.rules.specs.Pairs.{Named, RestsOnPairs, AlwaysRestsOnPairs}
+use Rattle.rules.specs.Pairs.{Named, AlwaysRestsOnPairs}
 use Rattle.rules.proofs.Serial.Sighted.{Held, Seat, vacant, held, none, kept, Sighted, sightedAfter, sightedReplies}
 use Rattle.rules.proofs.View.Shape.{heldBy, seat, backValues, backIn, view, Sound}
 use Rattle.rules.proofs.Demand3.Theorem.{calls-agree, fresh-facts}
@@ -43,7 +43,8 @@ module _ (m : Machine) (sound : Sound m) (marks : List ℕ) (size : length marks
   unfolding seat
   same-seat t = pick (leb t 7) (transaction (m .store) t .begun) (λ e. let l = leb-true t 7 e in same-held t (omega arith))
     where
-      pick : (b c : Bool) → (b ≡ true → heldBy other t ≡ heldBy m t) → cond (b && c) (held (heldBy other t)) vacant ≡ cond (b && c) (held (heldBy m t)) vacant
+      pick : (b c : Bool) → (b ≡ true → heldBy other t ≡ heldBy m t)
+          → cond (b && c) (held (heldBy other t)) vacant ≡ cond (b && c) (held (heldBy m t)) vacant
       pick false c h = refl
       pick true false h = refl
       pick true true h = ap held (h refl)

@@ -2,16 +2,14 @@
 use Rattle.windows.specs.Hours.{minuteIn}
 use Rattle.rules.specs.Transactions.{Txn}
 use Rattle.rules.specs.Coverage.{placesRefusal, placesReply, placesOf}
-use mathlib.Core.Bool.{Bool, true, false, cond, not, _&&_}
+use mathlib.Core.Bool.{Bool, true, false, not, _&&_}
 use mathlib.Core.List.{List, []}
-use mathlib.Core.Path.{_≡_, refl, sym, ap, _∙_, subst, subst⁻¹}
-use borrow.Author.Tests.{eq-eqb}
+use mathlib.Core.Path.{_≡_, refl, subst, subst⁻¹}
 use lib.Dec.{leb}
-use lib.ListN.{length}
 use native.Mathlib.Omega.{arith}
 use Prim.Native.Nat.{ℕ, zero, suc, _≤_}
 use Rattle.record.specs.State.{transaction}
-use Rattle.record.specs.Paper.{Said, plain, refused}
+use Rattle.record.specs.Paper.{Said, refused}
 use Rattle.ranges.specs.Ranges.{unless, windowRefusal, admission, admissionOfBegin, admissionOfWindow, noneBegun, admissionOfTakingBack}
 use Rattle.rules.specs.Items.{Item}
 use Rattle.rules.specs.Messages.{Op, bufferOf, places, setWindow, takeBack, bestOrder}
@@ -20,7 +18,8 @@ use Rattle.rules.specs.Steps.{Stepped, refuse, accept}
 use Rattle.rules.specs.Commits.{Setting, commitRefusal}
 use Rattle.rules.specs.Messages.{Call, begin, on, commit, abort}
 use Rattle.rules.specs.Machine.{Machine, fileOf, values, txnOf}
-use Rattle.rules.specs.Calls.{Turn, answer, turnDown, passing, beginTurn, abortTurn, served, stepTurn, commitGranted, commitDecided, commitTurn, admitted, call, placesTurn, windowTurn, takeBackTurn, askedOf, orderTurn}
+use Rattle.rules.specs.Calls.{Turn, answerWith, turnDown, passing, beginTurn, abortTurn, served, stepTurn, commitGranted}
+use Rattle.rules.specs.Calls.{commitDecided, commitTurn, admitted, call, placesTurn, windowTurn, takeBackTurn, askedOf, orderTurn}
 use Rattle.rules.proofs.View.Shape.{Sound}
 use Rattle.rules.proofs.View.Admissions.{first-is, shared-is}
 use Rattle.rules.proofs.Demand3.Answers.{IsAnswer, answer-not-refused, Right, right-step}
@@ -33,7 +32,8 @@ Late a = (n : ℕ) → a ≡ refused n → 3 ≤ n
 late-answer : (a : Said) → IsAnswer a → Late a
 late-answer a h = λ n e. absurd (answer-not-refused a n h e)
 
-late-passing : (k : ℕ) (buffer : List ℕ) (m : Machine) (w : Turn) → ((j : ℕ) → k ≡ suc j → 3 ≤ k) → Late (w .reply .answer) → Late (passing k buffer m w .reply .answer)
+late-passing : (k : ℕ) (buffer : List ℕ) (m : Machine) (w : Turn) → ((j : ℕ) → k ≡ suc j → 3 ≤ k) → Late (w .reply .answer)
+    → Late (passing k buffer m w .reply .answer)
 unfolding passing turnDown
 late-passing zero buffer m w h l = l
 late-passing (suc k) buffer m w h l = λ n e. subst (λ (j : ℕ). 3 ≤ j) (refused-same (suc k) n e) (h k refl)
@@ -43,7 +43,8 @@ unfolding served turnDown
 late-served t o m is (refuse k) h = λ n e. let z : k ≡ n = refused-same k n e in omega (arith, h .0)
 late-served t o m is (accept y a b) h = late-answer _ h
 
-late-decided : (t : ℕ) (x : Txn) (ss : List Setting) (m : Machine) (daily stale shut placed : Bool) → Late (commitDecided t x ss m (commitRefusal daily stale shut placed) .reply .answer)
+late-decided : (t : ℕ) (x : Txn) (ss : List Setting) (m : Machine) (daily stale shut placed : Bool)
+    → Late (commitDecided t x ss m (commitRefusal daily stale shut placed) .reply .answer)
 unfolding commitDecided commitRefusal commitGranted
 late-decided t x ss m false stale shut placed = λ n e. let z : 22 ≡ n = refused-same 22 n e in omega arith
 late-decided t x ss m true true shut placed = λ n e. let z : 13 ≡ n = refused-same 13 n e in omega arith
@@ -67,7 +68,7 @@ module _ (m : Machine) (sound : Sound m) (t : ℕ) where
       l
 
   late-begin : Late (call (begin t) m .reply .answer)
-  unfolding call beginTurn answer admissionOfBegin
+  unfolding call beginTurn answerWith admissionOfBegin
   late-begin =
       late-passing _ [] m (beginTurn t m)
       (subst⁻¹ (λ (k : ℕ). (j : ℕ) → k ≡ suc j → 3 ≤ k) (shared-is m t sound (unless (not (transaction (m .store) t .begun)) 5 0))
@@ -91,11 +92,12 @@ late-placed fileOf f out x (suc k) h = λ n e. subst (λ (j : ℕ). 3 ≤ j) (re
 places-late : (fileOf : ℕ → ℕ) (f : ℕ) (out : List ℕ) (x : Txn) → AtLeast3 (placesRefusal fileOf f out x)
 unfolding placesRefusal AtLeast3
 places-late fileOf f out x =
-    late-one _ 6 _ (omega arith) (late-one _ 15 _ (omega arith) (late-one _ 16 0 (omega arith) (λ j e. absurd (let z : _≡_ {A = ℕ} 0 (suc j) = e in omega arith))))
+    late-one _ 6 _ (omega arith)
+    (late-one _ 15 _ (omega arith) (late-one _ 16 0 (omega arith) (λ j e. absurd (let z : _≡_ {A = ℕ} 0 (suc j) = e in omega arith))))
 
 -- F-11's.
 late-window : (m : Machine) → Sound m → (f start end : ℕ) → Late (call (setWindow f start end) m .reply .answer)
-unfolding call windowTurn answer admissionOfWindow windowRefusal AtLeast3
+unfolding call windowTurn answerWith admissionOfWindow windowRefusal AtLeast3
 late-window m s f start end =
     late-passing _ [] m (windowTurn f start end m)
     (subst⁻¹ AtLeast3 (first-is m (unless (leb f 7) 6 (unless (minuteIn start && minuteIn end) 22 0)) s)
@@ -104,7 +106,7 @@ late-window m s f start end =
 
 -- F-13's.
 late-back : (m : Machine) → Sound m → Late (call takeBack m .reply .answer)
-unfolding call takeBackTurn answer admissionOfTakingBack AtLeast3
+unfolding call takeBackTurn answerWith admissionOfTakingBack AtLeast3
 late-back m s =
     late-passing _ [] m (takeBackTurn m)
     (subst⁻¹ AtLeast3 (first-is m (unless (noneBegun (m .store)) 23 (unless (m .store .undo .held) 24 0)) s)
@@ -131,7 +133,7 @@ late-order m s ts minute budget =
     (late-ordered (askedOf minute m) ts budget _ (order-late (askedOf minute m) ts minute budget))
 
 late-call : (c : Call) (m : Machine) → Sound m → Late (call c m .reply .answer)
-unfolding call abortTurn answer stepTurn commitTurn placesTurn placesOf
+unfolding call abortTurn answerWith stepTurn commitTurn placesTurn placesOf
 late-call (begin t) m s = late-begin m s t
 late-call (on t o) m s =
     late-admitted m s t (bufferOf o) (stepTurn t o m)

@@ -1,25 +1,27 @@
 -- Demand 1: what a refused call leaves.
 use Rattle.rules.specs.Transactions.{Txn}
 use Rattle.rules.specs.Coverage.{placesRefusal, placesReply, placesOf}
-use mathlib.Core.Bool.{Bool, true, false, cond}
+use mathlib.Core.Bool.{Bool, true, false}
 use mathlib.Core.List.{List, []}
-use mathlib.Core.Path.{_≡_, refl, sym, ap, _∙_, subst}
+use mathlib.Core.Path.{_≡_, refl, sym, ap, _∙_}
 use native.Mathlib.Omega.{arith}
-use Prim.Native.Nat.{ℕ, zero, suc, _≤_}
+use Prim.Native.Nat.{ℕ, zero, suc}
 use Rattle.record.specs.declared.Store.{Store}
-use Rattle.record.specs.State.{transaction, ended}
+use Rattle.record.specs.State.{ended}
 use Rattle.record.specs.declared.outcomes.Refusal.the-variants.{Stale}
-use Rattle.record.specs.Paper.{number, Said, said, plain, granted, refused}
-use Rattle.ranges.specs.Ranges.{Sizes, unless, firstTests, shared, windowRefusal, admissionOfWindow, admissionOfTakingBack, admission, admissionOfBegin, admissionOfFresh}
-use Rattle.rules.specs.Items.{Item, result, asked}
-use Rattle.rules.specs.Steps.{Stepped, refuse, accept, step}
-use Rattle.rules.specs.Commits.{Setting, settings, fits, commitRefusal}
-use Rattle.rules.specs.Messages.{Op, bufferOf, bufferOfCall, Call, begin, on, commit, abort, Reply, places, setWindow, takeBack, bestOrder}
+use Rattle.record.specs.Paper.{number, Said, refused}
+use Rattle.ranges.specs.Ranges.{Sizes, unless, firstTests, shared, windowRefusal, admissionOfWindow, admissionOfTakingBack, admission}
+use Rattle.ranges.specs.Ranges.{admissionOfBegin, admissionOfFresh}
+use Rattle.rules.specs.Items.{Item}
+use Rattle.rules.specs.Steps.{Stepped, refuse, accept}
+use Rattle.rules.specs.Commits.{Setting, commitRefusal}
+use Rattle.rules.specs.Messages.{Op, bufferOf, bufferOfCall, Call, begin, on, commit, abort, places, setWindow, takeBack, bestOrder}
 use Rattle.rules.specs.Ordering.{Asked, orderRefusal, orderReplied, orderReply}
 use Rattle.rules.specs.Machine.{Machine, sizes, fileOf, values, txnOf}
-use Rattle.rules.specs.Promises.{Meets}
-use Rattle.rules.specs.Demand1.{Demand1On, Demand1, RefusedByCode, Demand1OfCode}
-use Rattle.rules.specs.Calls.{Turn, answer, turnDown, passing, fresh, reset, beginTurn, abortTurn, served, stepTurn, commitGranted, commitDecided, commitTurn, admitted, call, placesTurn, windowTurn, takeBackTurn, orderTurn, askedOf}
+use Rattle.rules.specs.Demand1.{Demand1, Demand1OfCode}
+use Rattle.rules.specs.Calls.{Turn, answerWith, turnDown, passing, fresh, reset, beginTurn, abortTurn, served, stepTurn}
+use Rattle.rules.specs.Calls.{commitGranted, commitDecided, commitTurn, admitted, call, placesTurn, windowTurn, takeBackTurn}
+use Rattle.rules.specs.Calls.{orderTurn, askedOf}
 use Rattle.rules.proofs.Demand3.Answers.{IsAnswer, answer-not-refused, Leaving, Right, right-step}
 pub use Rattle.rules.proofs.Demand3.Answers.{refused-same}
 use Rattle.rules.proofs.Demand3.Numbers.{knows-call, knows-fresh}
@@ -48,7 +50,8 @@ leaves-served t o m is (refuse k) h =
     }
 leaves-served t o m is (accept y a b) h = leaves-answer m (bufferOf o) _ h
 
-leaves-decided : (t : ℕ) (x : Txn) (ss : List Setting) (m : Machine) (daily stale shut placed : Bool) → Leaves m [] (commitDecided t x ss m (commitRefusal daily stale shut placed))
+leaves-decided : (t : ℕ) (x : Txn) (ss : List Setting) (m : Machine) (daily stale shut placed : Bool)
+    → Leaves m [] (commitDecided t x ss m (commitRefusal daily stale shut placed))
 unfolding commitDecided commitRefusal commitGranted
 leaves-decided t x ss m false stale shut placed =
     record { leaves = λ n e d. (refl, refl) }
@@ -117,7 +120,8 @@ leaves-placed m fileOf f out x zero h = leaves-answer m out _ tt
 leaves-placed m fileOf f out x (suc n) h =
     record { leaves = λ k e d. (refl, refl) }
 
-placed-not-13 : (fileOf : ℕ → ℕ) (f : ℕ) (out : List ℕ) (x : Txn) (n : ℕ) → Leaving n → placesReply fileOf f out x n .answer ≡ refused 13 → ⊥
+placed-not-13 : (fileOf : ℕ → ℕ) (f : ℕ) (out : List ℕ) (x : Txn) (n : ℕ) → Leaving n
+    → placesReply fileOf f out x n .answer ≡ refused 13 → ⊥
 unfolding placesReply
 placed-not-13 fileOf f out x zero h e = answer-not-refused _ 13 tt e
 placed-not-13 fileOf f out x (suc n) h e = h (refused-same (suc n) 13 e)
@@ -142,7 +146,7 @@ ordered-not-13 a ts budget zero h e = answer-not-refused _ 13 tt e
 ordered-not-13 a ts budget (suc n) h e = h (refused-same (suc n) 13 e)
 
 leaves-call : (c : Call) (m : Machine) → Leaves m (bufferOfCall c) (call c m)
-unfolding call bufferOfCall beginTurn abortTurn answer stepTurn commitTurn placesTurn placesOf windowTurn takeBackTurn orderTurn orderReply
+unfolding call bufferOfCall beginTurn abortTurn answerWith stepTurn commitTurn placesTurn placesOf windowTurn takeBackTurn orderTurn orderReply
 leaves-call (begin t) m =
     leaves-passing (admissionOfBegin (sizes m) (m .store) (m .journal) t) [] m _
     (begin-leaving (sizes m) (m .store) (m .journal) t) (leaves-answer m [] _ tt)
@@ -163,7 +167,8 @@ leaves-call (bestOrder ts minute budget) m =
     (leaves-ordered m (askedOf minute m) ts budget _ (ordered-leaving (askedOf minute m) ts minute budget))
 
 -- A refusal 13 is a Commit's, which then leaves what an Abort leaves.
-not-13 : (k : ℕ) (buffer : List ℕ) (m : Machine) (w : Turn) → Leaving k → (w .reply .answer ≡ refused 13 → ⊥) → passing k buffer m w .reply .answer ≡ refused 13 → ⊥
+not-13 : (k : ℕ) (buffer : List ℕ) (m : Machine) (w : Turn) → Leaving k → (w .reply .answer ≡ refused 13 → ⊥)
+    → passing k buffer m w .reply .answer ≡ refused 13 → ⊥
 unfolding passing turnDown
 not-13 zero buffer m w h f e = f e
 not-13 (suc k) buffer m w h f e = h (refused-same (suc k) 13 e)
@@ -173,7 +178,9 @@ unfolding served turnDown
 served-not-13 t o m is (refuse k) h e = h .1 (refused-same k 13 e)
 served-not-13 t o m is (accept y a b) h e = answer-not-refused a 13 h e
 
-decided-ends : (t : ℕ) (x : Txn) (ss : List Setting) (m : Machine) (daily stale shut placed : Bool) → commitDecided t x ss m (commitRefusal daily stale shut placed) .reply .answer ≡ refused 13 → commitDecided t x ss m (commitRefusal daily stale shut placed) .after ≡ reset t ended m
+decided-ends : (t : ℕ) (x : Txn) (ss : List Setting) (m : Machine) (daily stale shut placed : Bool)
+    → commitDecided t x ss m (commitRefusal daily stale shut placed) .reply .answer ≡ refused 13
+    → commitDecided t x ss m (commitRefusal daily stale shut placed) .after ≡ reset t ended m
 unfolding commitDecided commitRefusal commitGranted
 decided-ends t x ss m false stale shut placed e = let z : _≡_ {A = ℕ} 22 13 = refused-same 22 13 e in absurd (omega arith)
 decided-ends t x ss m true true shut placed e = refl
@@ -181,40 +188,48 @@ decided-ends t x ss m true false true placed e = let z : _≡_ {A = ℕ} 21 13 =
 decided-ends t x ss m true false false true e = absurd (answer-not-refused _ 13 tt e)
 decided-ends t x ss m true false false false e = let z : _≡_ {A = ℕ} 12 13 = refused-same 12 13 e in absurd (omega arith)
 
-passing-ends : (k : ℕ) (m : Machine) (w z : Turn) → (w .reply .answer ≡ refused 13 → w .after ≡ z .after) → passing k [] m w .reply .answer ≡ refused 13 → passing k [] m w .after ≡ passing k [] m z .after
+passing-ends : (k : ℕ) (m : Machine) (w z : Turn) → (w .reply .answer ≡ refused 13 → w .after ≡ z .after)
+    → passing k [] m w .reply .answer ≡ refused 13 → passing k [] m w .after ≡ passing k [] m z .after
 unfolding passing turnDown
 passing-ends zero m w z f e = f e
 passing-ends (suc k) m w z f e = refl
 
-ends-call : (c : Call) (m : Machine) → call c m .reply .answer ≡ refused 13 → (t : ℕ) × (minute : ℕ) × (c ≡ commit t minute) × (call c m .after ≡ call (abort t) m .after)
-unfolding call beginTurn abortTurn answer stepTurn commitTurn admitted placesTurn placesOf windowTurn takeBackTurn orderTurn orderReply
+ends-call : (c : Call) (m : Machine) → call c m .reply .answer ≡ refused 13
+    → (t : ℕ) × (minute : ℕ) × (c ≡ commit t minute) × (call c m .after ≡ call (abort t) m .after)
+unfolding call beginTurn abortTurn answerWith stepTurn commitTurn admitted placesTurn placesOf windowTurn takeBackTurn orderTurn orderReply
 ends-call (begin t) m e =
-    absurd (not-13 (admissionOfBegin (sizes m) (m .store) (m .journal) t) [] m _ (begin-leaving (sizes m) (m .store) (m .journal) t) (answer-not-refused _ 13 tt) e)
+    absurd (not-13 (admissionOfBegin (sizes m) (m .store) (m .journal) t) [] m _ (begin-leaving (sizes m) (m .store) (m .journal) t)
+    (answer-not-refused _ 13 tt) e)
 ends-call (on t o) m e =
-    absurd (not-13 (admission (sizes m) (m .store) (m .journal) t) (bufferOf o) m _ (admission-leaving (sizes m) (m .store) (m .journal) t) (served-not-13 t o m _ _ (right-step (fileOf (m .store)) o (txnOf (m .store) (m .journal) (m .logs) t) (values (m .store) (m .files)) _)) e)
+    absurd (not-13 (admission (sizes m) (m .store) (m .journal) t) (bufferOf o) m _ (admission-leaving (sizes m) (m .store) (m .journal) t)
+    (served-not-13 t o m _ _ (right-step (fileOf (m .store)) o (txnOf (m .store) (m .journal) (m .logs) t) (values (m .store) (m .files)) _)) e)
 ends-call (commit t minute) m e =
     (t, minute, refl, passing-ends (admission (sizes m) (m .store) (m .journal) t) m _ _ (decided-ends t _ _ m _ _ _ _) e)
 ends-call (abort t) m e =
-    absurd (not-13 (admission (sizes m) (m .store) (m .journal) t) [] m _ (admission-leaving (sizes m) (m .store) (m .journal) t) (answer-not-refused _ 13 tt) e)
+    absurd (not-13 (admission (sizes m) (m .store) (m .journal) t) [] m _ (admission-leaving (sizes m) (m .store) (m .journal) t)
+    (answer-not-refused _ 13 tt) e)
 ends-call (places t f out) m e =
-    absurd (not-13 (admission (sizes m) (m .store) (m .journal) t) out m _ (admission-leaving (sizes m) (m .store) (m .journal) t) (placed-not-13 _ f out _ _ (placed-leaving _ f out _)) e)
+    absurd (not-13 (admission (sizes m) (m .store) (m .journal) t) out m _ (admission-leaving (sizes m) (m .store) (m .journal) t)
+    (placed-not-13 _ f out _ _ (placed-leaving _ f out _)) e)
 ends-call (setWindow f start end) m e =
-    absurd (not-13 (admissionOfWindow (sizes m) (m .store) (m .journal) f start end) [] m _ (window-leaving (sizes m) (m .store) (m .journal) f start end) (answer-not-refused _ 13 tt) e)
+    absurd (not-13 (admissionOfWindow (sizes m) (m .store) (m .journal) f start end) [] m _
+    (window-leaving (sizes m) (m .store) (m .journal) f start end) (answer-not-refused _ 13 tt) e)
 ends-call takeBack m e =
-    absurd (not-13 (admissionOfTakingBack (sizes m) (m .store) (m .journal)) [] m _ (back-leaving (sizes m) (m .store) (m .journal)) (answer-not-refused _ 13 tt) e)
+    absurd (not-13 (admissionOfTakingBack (sizes m) (m .store) (m .journal)) [] m _ (back-leaving (sizes m) (m .store) (m .journal))
+    (answer-not-refused _ 13 tt) e)
 ends-call (bestOrder ts minute budget) m e =
     absurd (not-13 (firstTests (sizes m) (m .store) (m .journal) 0) [] m _ (first-leaving (sizes m) (m .store) (m .journal) 0 none-leaving)
     (ordered-not-13 (askedOf minute m) ts budget _ (ordered-leaving (askedOf minute m) ts minute budget)) e)
 
 leaves-fresh : (numbers : List ℕ) (m : Machine) → Leaves m [] (fresh numbers m)
-unfolding fresh answer admissionOfFresh
+unfolding fresh answerWith admissionOfFresh
 leaves-fresh numbers m =
     leaves-passing _ [] m _
     (unless-leaving _ 1 _ (λ e. omega arith) (unless-leaving _ 14 0 (λ e. omega arith) none-leaving))
     (leaves-answer m [] _ tt)
 
 fresh-not-13 : (numbers : List ℕ) (m : Machine) (n : ℕ) → fresh numbers m .reply .answer ≡ refused n → n ≡ number Stale → ⊥
-unfolding fresh answer admissionOfFresh
+unfolding fresh answerWith admissionOfFresh
 fresh-not-13 numbers m n e f =
     not-13 _ [] m _
     (unless-leaving _ 1 _ (λ e. omega arith) (unless-leaving _ 14 0 (λ e. omega arith) none-leaving))

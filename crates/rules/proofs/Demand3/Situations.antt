@@ -1,16 +1,14 @@
 -- The situations and the corners hold of every freshly made store: by demand 3 its replies and values are the plain machine's.
 use mathlib.Core.List.{List}
-use mathlib.Core.Path.{_≡_, sym, ap, _∙_, fun-ext, subst⁻¹}
-use Prim.Native.Nat.{ℕ}
+use mathlib.Core.Path.{_≡_, ap, _∙_, subst⁻¹}
 use lib.ListN.{getD}
 use Rattle.windows.specs.Hours.{freshWindows}
-use Rattle.rules.specs.Items.{Values}
-use Rattle.rules.specs.Messages.{Call, Reply}
+use Rattle.rules.specs.Messages.{Call}
 use Rattle.rules.specs.Sightings.{Committed}
-use Rattle.rules.specs.Plain.{nothing, freshPlain, plainAfter, plainReplies}
+use Rattle.rules.specs.Plain.{nothing, freshPlain, plainAfter}
 use Rattle.rules.specs.Machine.{Machine, values}
-use Rattle.rules.specs.Calls.{callsAfter, callsReplies}
-use Rattle.rules.specs.Demand3.{FreshlyMade}
+use Rattle.rules.specs.Calls.{callsAfter}
+use Rattle.rules.specs.Demand3OfStore.{FreshlyMade}
 use Rattle.rules.specs.Setup.{numbers, freshNumbered, Seen, onPlain, onStore}
 use Rattle.rules.specs.Situations.{Starred}
 use Rattle.rules.specs.Corners.{Corners}
@@ -23,7 +21,8 @@ module _ (m : Machine) (made : FreshlyMade numbers m) where
   same-values :
       (cs : List Call)
       → values (callsAfter cs m .store) (callsAfter cs m .files) ≡ plainAfter cs (freshPlain (λ d. getD numbers d 0)) .committed .value
-  same-values cs = demand3 numbers m made cs .left ∙ ap (λ (c : Committed). c .value) (again-left (λ d. getD numbers d 0) (λ i. 0) freshWindows nothing tt cs)
+  same-values cs = demand3 numbers m made cs .left
+      ∙ ap (λ (c : Committed). c .value) (again-left (λ d. getD numbers d 0) (λ i. 0) freshWindows nothing tt cs)
 
   same-seen : onStore m ≡ onPlain
   unfolding onStore onPlain freshNumbered

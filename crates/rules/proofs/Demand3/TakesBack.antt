@@ -13,13 +13,15 @@ use Rattle.record.specs.Paper.{plain}
 use Rattle.ranges.specs.Below.{guarded}
 use Rattle.ranges.proofs.Laws.{in-range}
 use Rattle.rules.specs.Items.{byte, offset, fileLength, Values}
-use Rattle.rules.specs.Messages.{Call, begin, on, commit, abort, places, setWindow, takeBack, bestOrder, Reply, isGrant, grantsAmong}
+use Rattle.rules.specs.Messages.{Call, begin, on, commit, abort, places, setWindow, takeBack, bestOrder, Reply, isGrant, grantsAmong, afterAll, repliesTo}
 use Rattle.rules.specs.Commits.{fits, commitRefusal}
 use Rattle.rules.specs.Windows.{forClosed}
 use Rattle.rules.specs.Machine.{Machine, values, txnOf}
 use Rattle.rules.specs.Calls.{call, callsAfter, callsReplies}
 use Rattle.rules.specs.TakingBack.{SameCommitted, TakesBack}
-use Rattle.rules.proofs.Serial.Sighted.{Held, Seat, vacant, held, Back, none, kept, Sighted, turnedAway, telling, returned, withSeat, granting, sightedCommitted, sightedCommit, seated, noneHeld, sightedReturn, sightedBack, sightedCall}
+use Rattle.rules.proofs.Serial.Sighted.{Held, Seat, vacant, held, Back, none, kept, Sighted, turnedAway, telling, returned, withSeat}
+use Rattle.rules.proofs.Serial.Sighted.{granting, sightedCommitted, sightedCommit, seated, noneHeld, sightedReturn, sightedBack}
+use Rattle.rules.proofs.Serial.Sighted.{sightedCall}
 use Rattle.rules.proofs.View.Shape.{backIn, view, Sound}
 use Rattle.rules.proofs.View.Decode.{decoded-in}
 use Rattle.rules.proofs.View.Grants.{granted-kept}
@@ -62,7 +64,8 @@ module _ (w : Values) where
     -- Any other call.
     other-or : (c : Call) → ((t minute : ℕ) → c ≡ commit t minute → ⊥) → Or (sightedCall c s .after .back)
     other-or c e =
-        kept-call (λ v b. Or b) s now false true (λ g. absurd (true≢false (sym g))) (λ g v k. inr refl) c (λ t minute k. absurd (e t minute k)) (λ k. refl)
+        kept-call (λ v b. Or b) s now false true (λ g. absurd (true≢false (sym g))) (λ g v k. inr refl) c
+        (λ t minute k. absurd (e t minute k)) (λ k. refl)
 
     call-or : (c : Call) → isGrant (sightedCall c s .reply .answer) ≡ 0 → Or (sightedCall c s .after .back)
     call-or (begin t) e = other-or (begin t) (λ u n k. true≢false cc)
@@ -76,7 +79,7 @@ module _ (w : Values) where
 
   -- A list of calls without a grant.
   calls-or : (cs : List Call) (m : Machine) → Sound m → Or (view m .back) → grantsAmong (callsReplies cs m) ≡ 0 → Or (view (callsAfter cs m) .back)
-  unfolding callsAfter callsReplies grantsAmong
+  unfolding grantsAmong afterAll repliesTo
   calls-or [] m sound now e = now
   calls-or (c ∷ cs) m sound now e =
       let a = call-turn c m sound in
@@ -142,7 +145,8 @@ takes-back numbers m₀ made xs ys t minute n g none-granted taken =
     let r = in-range (before .store) (before .journal) (sound .inRange) in
     let x = txnOf (before .store) (before .journal) (before .logs) t in
     let ranges =
-    decoded-in (before .store) (before .journal) (before .logs) t (sound .logs) (p .small) (r .transactions t (p .small) (p .begun)) (sound .shaped .descriptors t (p .small)) in
+    decoded-in (before .store) (before .journal) (before .logs) t (sound .logs) (p .small) (r .transactions t (p .small) (p .begun))
+    (sound .shaped .descriptors t (p .small)) in
     let after = call (commit t minute) before .after in
     let after-sound = call-turn (commit t minute) before sound .2 in
     let kept-there : backIn after ≡ kept v = ap backIn (p .leaves) ∙ granted-kept before t x (p .small) sound ranges (p .fit) in

@@ -1,29 +1,30 @@
 -- Demand 3: the rules on records and buffers, and the code that keeps its promises.
-use mathlib.Core.Bool.{Bool, true, false, cond, _&&_, and-true, and-false}
+use mathlib.Core.Bool.{Bool, true, false, cond, _&&_}
 use mathlib.Core.List.{List, [], _∷_, map}
 use mathlib.Core.Logic.{_↔_}
 use mathlib.Core.Path.{_≡_, refl, sym, ap, ap₂, _∙_, subst, subst⁻¹}
 use borrow.Author.Tests.{le-leb}
-use lib.Dec.{leb, eqb}
-use lib.ListN.{length, getD}
-use native.Mathlib.Omega.{arith}
-use Prim.Native.Nat.{ℕ, zero, suc, _≤_, _<_}
+use lib.Dec.{leb}
+use lib.ListN.{getD}
+use Prim.Native.Nat.{ℕ, zero, suc, _≤_}
 use Rattle.windows.specs.Hours.{Windows, freshWindows}
 use Rattle.octets.specs.Bits.{bitsOf}
 use Rattle.record.specs.State.{transaction}
-use Rattle.record.specs.Paper.{Said, plain, pointer, given, granted, pairs, ordered, refused, said}
-use Rattle.ranges.specs.Ranges.{admission, admissionOfFresh}
-use Rattle.ranges.proofs.Laws.{AdmittedFresh, admitted-fresh}
-use Rattle.rules.specs.Commits.{fits, commitRefusal}
-use Rattle.rules.specs.Messages.{Op, Call, begin, on, commit, abort, Reply, places, setWindow, takeBack, bestOrder}
-use Rattle.rules.specs.Steps.{looks}
-use Rattle.rules.specs.Plain.{isRunning, Earlier, nothing, Slot, closed, running, Running, Plain, startPlain, freshPlain, isStale, PlainTurn, turnedDown, answering, grant, becameStale, plainCommitted, plainCommit, numbered, plainCall, plainAfter, plainReplies, firstList, secondList}
+use Rattle.record.specs.Paper.{Said, plain, pointer, given, granted, pairs, ordered, refused}
+use Rattle.ranges.specs.Ranges.{admissionOfFresh}
+use Rattle.ranges.proofs.Laws.{admitted-fresh}
+use Rattle.rules.specs.Commits.{commitRefusal}
+use Rattle.rules.specs.Messages.{Call, begin, on, commit, abort, Reply, places, setWindow, takeBack, bestOrder, afterAll, repliesTo}
+use Rattle.rules.specs.Plain.{isRunning, Earlier, nothing, Slot, closed, running, Running, Plain, startPlain, freshPlain, PlainTurn}
+use Rattle.rules.specs.Plain.{turnedDown, answering, becameStale, plainCommitted, plainCommit, numbered, plainCall, plainAfter}
+use Rattle.rules.specs.Plain.{firstList, secondList}
 use Rattle.rules.specs.Items.{Values}
 use Rattle.rules.specs.Sightings.{Committed}
-use Rattle.rules.specs.Machine.{Machine, sizes, values}
-use Rattle.rules.specs.Calls.{Turn, answer, turnDown, passing, freshMachine, fresh, call, callsAfter, callsReplies}
+use Rattle.rules.specs.Machine.{Machine, sizes}
+use Rattle.rules.specs.Calls.{Turn, answerWith, turnDown, passing, freshMachine, fresh, call, callsAfter, callsReplies}
 use Rattle.rules.specs.Promises.{Meets}
-use Rattle.rules.specs.Demand3.{FreshlyMade, IsAccepted, OneMoment, Holds, Demand3, Made, Linked, lastOf, replyOf, CodeHolds, Demand3OfCode}
+use Rattle.rules.specs.Demand3.{IsAccepted, OneMoment, Holds}
+use Rattle.rules.specs.Demand3OfStore.{FreshlyMade, theStore, Demand3, Made, Linked, lastOf, madeReply, Demand3OfCode}
 use Rattle.rules.proofs.Serial.Sighted.{Held, Seat, vacant, held, none, Sighted, startSighted, SightedTurn, sightedCall, sightedAfter, sightedReplies}
 use Rattle.rules.proofs.Serial.FirstHalf.{backOf, abs, absTurn, seatOf}
 use Rattle.rules.proofs.Serial.Starts.{start-stays}
@@ -37,7 +38,7 @@ use Rattle.rules.proofs.View.WindowTurn.{window-turn}
 use Rattle.rules.proofs.View.BackTurn.{back-turn}
 use Rattle.rules.proofs.View.OrderTurn.{order-turn}
 use Rattle.rules.proofs.View.FreshView.{fresh-sound, fresh-view}
-use Rattle.rules.proofs.Demand3.Answers.{IsAnswer, answer-not-refused}
+use Rattle.rules.proofs.Demand3.Answers.{answer-not-refused}
 use Rattle.rules.proofs.Demand3.Ranges.{never-early}
 
 -- Every call agrees with that of the store without its buffers.
@@ -58,7 +59,7 @@ pub record Agree (cs : List Call) (m : Machine) : Type 0 where
   pub sound : Sound (callsAfter cs m)
 
 pub calls-agree : (cs : List Call) (m : Machine) → Sound m → Agree cs m
-unfolding callsReplies callsAfter sightedReplies sightedAfter
+unfolding sightedReplies sightedAfter afterAll repliesTo
 calls-agree [] m s = record { replies = refl; state = refl; sound = s }
 calls-agree (c ∷ cs) m s =
     let a = call-turn c m s in
@@ -80,15 +81,17 @@ pub record FreshFacts (numbers : List ℕ) (m : Machine) : Type 0 where
   pub same : view m ≡ startSighted (λ d. getD numbers d 0) (λ i. 0) freshWindows none
 
 pub fresh-facts : (numbers : List ℕ) (m : Machine) → FreshlyMade numbers m → FreshFacts numbers m
-unfolding fresh answer passing
+unfolding fresh answerWith passing
 fresh-facts numbers m f =
     let b = f .before in
     let k = admissionOfFresh (sizes b) numbers in
-    let z : k ≡ 0 = fresh-passed k b (answer plain (freshMachine numbers (b .logs) (b .undo))) (f .accepted) in
+    let z : k ≡ 0 = fresh-passed k b (answerWith plain (freshMachine numbers (b .logs) (b .undo))) (f .accepted) in
     let a = admitted-fresh (sizes b) numbers z in
-    let e : m ≡ freshMachine numbers (b .logs) (b .undo) = f .left ∙ ap (λ (n : ℕ). passing n [] b (answer plain (freshMachine numbers (b .logs) (b .undo))) .after) z in
+    let e : m ≡ freshMachine numbers (b .logs) (b .undo) = f .gave
+    ∙ ap (λ (n : ℕ). passing n [] b (answerWith plain (freshMachine numbers (b .logs) (b .undo))) .after) z in
     record {
-      sound = subst⁻¹ (λ (x : Machine). Sound x) e (fresh-sound numbers (b .logs) (b .undo) (a .sixteen) (a .numbers) (a .lengths .logs) (a .lengths .undo));
+      sound = subst⁻¹ (λ (x : Machine). Sound x) e
+          (fresh-sound numbers (b .logs) (b .undo) (a .sixteen) (a .numbers) (a .lengths .logs) (a .lengths .undo));
       same = ap view e ∙ fresh-view numbers (b .logs) (b .undo);
     }
 
@@ -154,8 +157,9 @@ unfolding plainCall numbered
 told-commit t minute p = told (leb t 7) t minute p
 
 -- Demand 3 from a sound store that stands for the store without buffers with these committed values, these windows and nothing open.
-pub holds-from : (F : ℕ → ℕ) (v : Values) (ws : Windows) (x : Earlier) → GoodEarlier x → (m₀ : Machine) → Sound m₀ → view m₀ ≡ startSighted F v ws (backOf x)
-    → (cs : List Call) → Holds m₀ (startPlain F v ws x) cs (callsAfter cs m₀) (plainAfter cs (startPlain F v ws x))
+pub holds-from : (F : ℕ → ℕ) (v : Values) (ws : Windows) (x : Earlier) → GoodEarlier x → (m₀ : Machine) → Sound m₀
+    → view m₀ ≡ startSighted F v ws (backOf x)
+    → (cs : List Call) → Holds theStore m₀ (startPlain F v ws x) cs (callsAfter cs m₀) (plainAfter cs (startPlain F v ws x))
 unfolding view abs absTurn
 holds-from F v ws x good m₀ sound start cs =
     let a = calls-agree cs m₀ sound in
@@ -197,15 +201,15 @@ demand3 numbers m₀ made cs =
 
 -- Calls of the code that keep their promises are calls of the rules.
 pub record LinkedFacts (m : Machine) (xs : List Made) : Type 0 where
-  pub replies : map replyOf xs ≡ callsReplies (map (λ x. x .made) xs) m
+  pub replies : map madeReply xs ≡ callsReplies (map (λ x. x .made) xs) m
   pub last : lastOf m xs ≡ callsAfter (map (λ x. x .made) xs) m
 
-reply-same : (w : Turn) (x : Made) → Meets w (x .outcome) (x .kept) (x .reader) → replyOf x ≡ w .reply
-unfolding replyOf
+reply-same : (w : Turn) (x : Made) → Meets w (x .outcome) (x .kept) (x .reader) → madeReply x ≡ w .reply
+unfolding madeReply
 reply-same w x k = λ i. record { answer = k .outcome i; buffer = k .reader i }
 
 linked-facts : (xs : List Made) (m : Machine) → Linked m xs → LinkedFacts m xs
-unfolding Linked lastOf callsReplies callsAfter
+unfolding Linked lastOf afterAll repliesTo
 linked-facts [] m l = record { replies = refl; last = refl }
 linked-facts (x ∷ xs) m l =
     let r = linked-facts xs (x .kept) (l .1) in
@@ -223,17 +227,18 @@ demand3-of-code numbers before o m₀ k accepted xs linked =
     record {
       before = before;
       accepted = sym (k .outcome) ∙ accepted;
-      left = k .machine;
+      gave = k .machine;
     } in
     let cs = map (λ (x : Made). x .made) xs in
     let l = linked-facts xs m₀ linked in
     let h = demand3 numbers m₀ made cs in
     let p₀ : Plain = freshPlain (λ d. getD numbers d 0) in
-    let code : Holds m₀ p₀ cs (lastOf m₀ xs) (plainAfter cs p₀) = subst⁻¹ (λ (m : Machine). Holds m₀ p₀ cs m (plainAfter cs p₀)) (l .last) h in
+    let code : Holds theStore m₀ p₀ cs (lastOf m₀ xs) (plainAfter cs p₀) = subst⁻¹
+    (λ (m : Machine). Holds theStore m₀ p₀ cs m (plainAfter cs p₀)) (l .last) h in
     record {
       replies = l .replies ∙ h .replies;
       holds = code;
       moment = λ x t o made meets look accepted.
-          let e : replyOf x ≡ call (on t o) (lastOf m₀ xs) .reply = reply-same _ x meets ∙ ap (λ (c : Call). call c (lastOf m₀ xs) .reply) made in
+          let e : madeReply x ≡ call (on t o) (lastOf m₀ xs) .reply = reply-same _ x meets ∙ ap (λ (c : Call). call c (lastOf m₀ xs) .reply) made in
           subst⁻¹ (OneMoment (plainAfter cs p₀) t o) e (code .moment t o look (subst IsAccepted e accepted));
     }

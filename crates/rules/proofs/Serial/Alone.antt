@@ -1,5 +1,5 @@
 -- The serial order as lone runs: a proof device. The statement runs the granted ones again as a list of calls (Rerun.antt).
-use mathlib.Core.Bool.{Bool, true}
+use mathlib.Core.Bool.{true}
 use mathlib.Core.List.{List, [], _∷_, map}
 use mathlib.Core.Path.{_≡_}
 use lib.Dec.{leb}
@@ -25,7 +25,7 @@ serially fileOf n (g ∷ gs) c = serially fileOf (n + 1) gs (committing fileOf (
 -- "meet no refusal, give the same answers and bytes": each gets through all its calls with the replies that it had, and its Commit
 -- is not refused (alone it is not stale, and with Fresh's windows no file is closed, so by 22 or 12 at most).
 pub record SameAgain (fileOf : ℕ → ℕ) (c : Committed) (g : Grant) : Type 0 where
-  pub small : leb (g .number) 7 ≡ true
+  pub small : leb (g .txnNumber) 7 ≡ true
   pub daily : minuteIn (g .minute) ≡ true
   pub through : again fileOf c (g .calls) .through ≡ true
   pub replies : again fileOf c (g .calls) .replies ≡ map (λ a. a .reply) (g .calls)

@@ -1,6 +1,6 @@
 -- What a Commit's answer tells of the two lists of its transaction.
 use mathlib.Core.Bool.{Bool, true, false, cond, not, true≢false, false≢true}
-use mathlib.Core.List.{List, []}
+use mathlib.Core.List.{[]}
 use mathlib.Core.Logic.{_↔_}
 use mathlib.Core.Path.{_≡_, refl, sym, ap, ap₂, _∙_}
 use borrow.Author.Tests.{not-false}
@@ -13,7 +13,8 @@ use Rattle.rules.specs.Windows.{forClosed}
 use Rattle.rules.specs.Messages.{commit}
 use Rattle.rules.specs.Commits.{fits, commitRefusal}
 use Rattle.rules.specs.Sightings.{sameEntries}
-use Rattle.rules.specs.Plain.{Running, Slot, running, Plain, firstList, secondList, isStale, PlainTurn, turnedDown, answering, plainCommitted, plainCommit, numbered, plainCall}
+use Rattle.rules.specs.Plain.{Running, Slot, running, Plain, firstList, secondList, isStale, PlainTurn, turnedDown, answering}
+use Rattle.rules.specs.Plain.{plainCommitted, plainCommit, numbered, plainCall}
 use Rattle.rules.proofs.Serial.Lists.{sameEntries-true, sameEntries-of}
 
 -- A transaction is stale to the machine exactly where its two lists differ.
@@ -52,7 +53,8 @@ module _ (t minute : ℕ) (r : Running) (p : Plain) where
   unfolding plainCall numbered plainCommit
   commit-turn l o = ap₂ (λ (b : Bool) (s : Slot). cond b (plainCommit t minute s p) (turnedDown 3 [] p)) l o
 
-  answer-22 : (daily stale shut placed : Bool) → daily ≡ false → plainCommitted t r p (commitRefusal daily stale shut placed) .reply .answer ≡ refused 22
+  answer-22 : (daily stale shut placed : Bool) → daily ≡ false
+      → plainCommitted t r p (commitRefusal daily stale shut placed) .reply .answer ≡ refused 22
   unfolding plainCommitted commitRefusal
   answer-22 true stale shut placed e = absurd (true≢false e)
   answer-22 false stale shut placed e = refl
@@ -82,10 +84,13 @@ module _ (t minute : ℕ) (r : Running) (p : Plain) where
     where
       chosen : (b : Bool) → minuteIn minute ≡ b → minuteIn minute ≡ true
       chosen true e = e
-      chosen false e = absurd (h (ap (λ (τ : PlainTurn). τ .reply .answer) (commit-turn l o) ∙ answer-22 (minuteIn minute) (isStale p r) shutTo (fits (p .committed .value) (r .txn)) e))
+      chosen false e = absurd (h
+          (ap (λ (τ : PlainTurn). τ .reply .answer) (commit-turn l o)
+          ∙ answer-22 (minuteIn minute) (isStale p r) shutTo (fits (p .committed .value) (r .txn)) e))
 
   stale-answer :
-      leb t 7 ≡ true → p .slots t ≡ running r → minuteIn minute ≡ true → isStale p r ≡ true → plainCall (commit t minute) p .reply .answer ≡ refused 13
+      leb t 7 ≡ true → p .slots t ≡ running r → minuteIn minute ≡ true → isStale p r ≡ true
+      → plainCall (commit t minute) p .reply .answer ≡ refused 13
   stale-answer l o d e =
       ap (λ (τ : PlainTurn). τ .reply .answer) (commit-turn l o)
       ∙ answer-13 (minuteIn minute) (isStale p r) shutTo (fits (p .committed .value) (r .txn)) d e

@@ -4,7 +4,7 @@ use mathlib.Core.Bool.{Bool, true, false, cond, not, _&&_, _||_, and-true}
 use mathlib.Core.List.{List, [], _∷_, _++_}
 use mathlib.Core.Path.{_≡_, refl, sym, ap, ap₂, _∙_, fun-ext}
 use lib.Dec.{eqb, leb}
-use Prim.Native.Nat.{ℕ, zero, suc, _+_}
+use Prim.Native.Nat.{ℕ, zero, suc}
 use Rattle.windows.specs.Hours.{minuteIn, window, Windows}
 use Rattle.octets.specs.Bits.{bitsOf}
 use Rattle.record.specs.Paper.{Said, plain, granted, refused}
@@ -13,15 +13,24 @@ use Rattle.ranges.specs.Ranges.{windowRefusal}
 use Rattle.rules.specs.Windows.{forClosed}
 use Rattle.rules.specs.Items.{Item, Values, byte, offset, fileLength, result, asked}
 use Rattle.rules.specs.Transactions.{Txn, Write, empty, put}
-use Rattle.rules.specs.Messages.{Op, bufferOf, places, setWindow, takeBack, bestOrder}
+use Rattle.rules.specs.Messages.{Op, bufferOf, places, setWindow, takeBack, bestOrder, afterAll, repliesTo}
 use Rattle.rules.specs.Ordering.{hasUnplaced}
-use Rattle.rules.specs.Steps.{Stepped, refuse, accept, step, turnedBack}
+use Rattle.rules.specs.Steps.{Stepped, refuse, accept, step}
 use Rattle.rules.specs.Commits.{settings, fits, landed, commitRefusal}
 use Rattle.rules.specs.Messages.{Call, begin, on, commit, abort, Reply}
 use Rattle.rules.specs.Sightings.{sameEntries, entries, Committed}
-use Rattle.rules.specs.Plain.{Running, Slot, closed, running, Plain, Earlier, nothing, found, isRunning, noneRunning, goneBack, goBack, plainTakeBack, withWindows, plainSetWindow, startPlain, ops, firstList, secondList, isStale, PlainTurn, turnedDown, withSlot, answering, plainBegin, plainStepped, plainOn, committing, grant, equalSlot, staleSlot, becameStale, plainCommitted, plainCommit, plainAbort, numbered, plainCall, plainAfter, plainReplies, plainPlaces, plainCommitCall, writesIn, plainAsked, plainBestOrder}
+use Rattle.rules.specs.Plain.{Running, Slot, closed, running, Plain, Earlier, nothing, found, isRunning, noneRunning, goneBack}
+use Rattle.rules.specs.Plain.{goBack, plainTakeBack, withWindows, plainSetWindow, startPlain, ops, firstList, secondList, isStale}
+use Rattle.rules.specs.Plain.{PlainTurn, turnedDown, withSlot, answering, plainBegin, plainStepped, plainOn, committing, grant}
+use Rattle.rules.specs.Plain.{equalSlot, staleSlot, becameStale, plainCommitted, plainCommit, plainAbort, numbered, plainCall}
+use Rattle.rules.specs.Plain.{plainAfter, plainReplies, plainPlaces, plainCommitCall, writesIn, plainAsked, plainBestOrder}
 use Rattle.rules.specs.Lone.{lone}
-use Rattle.rules.proofs.Serial.Sighted.{Held, Seat, vacant, held, Back, none, kept, isHeld, noneHeld, returned, sightedReturn, sightedBack, Sighted, startSighted, sighted, among, hit, markAll, lengthAll, SightedTurn, turnedAway, withSeat, telling, sightedBegin, sightedStepped, sightedOn, touch, newlyStale, granting, sightedCommitted, sightedCommit, sightedAbort, windowed, sightedWindow, seated, sightedCall, sightedAfter, sightedReplies, sightedPlaces, sightedCommitCall, staleSeat, writesSeat, sightedAsked, sightedBestOrder}
+use Rattle.rules.proofs.Serial.Sighted.{Held, Seat, vacant, held, Back, none, kept, isHeld, noneHeld, returned, sightedReturn}
+use Rattle.rules.proofs.Serial.Sighted.{sightedBack, Sighted, startSighted, sighted, among, hit, markAll, lengthAll, SightedTurn}
+use Rattle.rules.proofs.Serial.Sighted.{turnedAway, withSeat, telling, sightedBegin, sightedStepped, sightedOn, touch, newlyStale}
+use Rattle.rules.proofs.Serial.Sighted.{granting, sightedCommitted, sightedCommit, sightedAbort, windowed, sightedWindow, seated}
+use Rattle.rules.proofs.Serial.Sighted.{sightedCall, sightedAfter, sightedReplies, sightedPlaces, sightedCommitCall, staleSeat}
+use Rattle.rules.proofs.Serial.Sighted.{writesSeat, sightedAsked, sightedBestOrder}
 use Rattle.rules.proofs.Serial.Programs.{among-append, turned-back}
 use Rattle.rules.proofs.Serial.Lists.{items, current, current-entries, current-append, anyTouched, hit-is, markAll-at, lengthAll-at, current-after}
 use Rattle.rules.proofs.Serial.Sound.{Sound, seen-old, lists-same, sound-more, sound-granted, items-more, extended}
@@ -30,7 +39,13 @@ use Rattle.rules.proofs.Serial.Invariant.{SoundSlot, Good, put-keeps, a
 
 -- The store of a plain machine: a byte is marked where it was sighted, and a transaction is stale where its two lists differ.
 unfoldable pub heldOf : Plain → Running → Held
-heldOf p r = record { txn = r .txn; marked = λ q. among (byte q) (items (r .seen)); lengths = λ f. among (fileLength f) (items (r .seen)); stale = isStale p r }
+heldOf p r = record {
+  txn = r .txn;
+  marked = λ q. among (byte q) (items (r .seen));
+  lengths = λ f. among (fileLength f)
+      (items (r .seen));
+  stale = isStale p r;
+}
 
 unfoldable pub seatOf : Plain → Slot → Seat
 seatOf p closed = vacant
@@ -104,7 +119,8 @@ module _ (t : ℕ) (r : Running) (p : Plain) where
   unfolding touch seatOf SoundSlot heldOf
   touch-is closed h = refl
   touch-is (running q) h =
-      ap (λ (b : Bool). held (record { txn = q .txn; marked = λ k. among (byte k) (items (q .seen)); lengths = λ f. among (fileLength f) (items (q .seen)); stale = b })) (stale-after q h)
+      ap (λ (b : Bool). held (record
+      { txn = q .txn; marked = λ k. among (byte k) (items (q .seen)); lengths = λ f. among (fileLength f) (items (q .seen)); stale = b })) (stale-after q h)
 
   newly-is :
       (s : Slot)
@@ -149,7 +165,8 @@ abs-slot t s p =
 -- Each call: what it gives on a slot, and on that slot's seat.
 module _ (p : Plain) (g : Good p) where
   same-begin : (t : ℕ) (s : Slot) → sightedBegin t (seatOf p s) (abs p) ≡ absTurn (plainBegin t s p)
-  unfolding sightedBegin seatOf plainBegin absTurn telling answering turnedAway turnedDown heldOf items among isStale firstList secondList sameEntries lone ops
+  unfolding sightedBegin seatOf plainBegin absTurn telling answering turnedAway turnedDown heldOf items among isStale firstList
+      secondList sameEntries lone ops
   same-begin t closed =
       ap (λ (a : Sighted). record { reply = record { answer = plain; buffer = [] }; after = a })
       (abs-slot t (running (record { txn = empty; calls = []; seen = [] })) p)
@@ -313,7 +330,11 @@ module _ (p : Plain) (g : Good p) where
           → guarded (λ k. turnedAway k [] (abs p)) (isNone n) n (telling plain (windowed f start end (abs p)))
           ≡ absTurn (guarded (λ k. turnedDown k [] p) (isNone n) n (answering plain (withWindows ws p)))
       chosen zero =
-          ap (λ (g : ℕ → Seat). record { reply = record { answer = plain; buffer = [] }; after = record { fileOf = p .fileOf; value = p .committed .value; windows = ws; back = backOf (p .earlier); seats = g } })
+          ap (λ (g : ℕ → Seat). record {
+            reply = record { answer = plain; buffer = [] };
+            after = record
+                { fileOf = p .fileOf; value = p .committed .value; windows = ws; back = backOf (p .earlier); seats = g };
+          })
           seats-same
       chosen (suc n) = refl
 
@@ -373,10 +394,12 @@ module _ (minute : ℕ) where
   Stands s p = Good p × (s ≡ abs p)
 
   committed : (t : ℕ) (s : Sighted) (p : Plain) → Stands s p
-      → (sightedCommitCall t minute s .reply ≡ plainCommitCall t minute p .reply) × Stands (sightedCommitCall t minute s .after) (plainCommitCall t minute p .after)
+      → (sightedCommitCall t minute s .reply ≡ plainCommitCall t minute p .reply)
+      × Stands (sightedCommitCall t minute s .after) (plainCommitCall t minute p .after)
   unfolding absTurn
   committed t s p h =
-      let e : sightedCommitCall t minute s ≡ absTurn (plainCommitCall t minute p) = ap (sightedCommitCall t minute) (h .1) ∙ commit-same t minute p (h .0) in
+      let e : sightedCommitCall t minute s ≡ absTurn (plainCommitCall t minute p) = ap (sightedCommitCall t minute) (h .1)
+      ∙ commit-same t minute p (h .0) in
       (ap (λ (τ : SightedTurn). τ .reply) e, ((unfold plainCall in good-call (commit t minute) p (h .0)), ap (λ (τ : SightedTurn). τ .after) e))
 
   agreed : (p : Plain) → Good p → Agreed (sightedAsked minute (abs p)) (plainAsked minute p)
@@ -403,7 +426,8 @@ module _ (minute : ℕ) where
       written closed = unfold seatOf writesSeat writesIn in refl
       written (running r) = unfold seatOf heldOf writesSeat writesIn in refl
 
-  same-order : (p : Plain) → Good p → (ts : List ℕ) (budget : ℕ) → sightedBestOrder ts minute budget (abs p) ≡ absTurn (plainBestOrder ts minute budget p)
+  same-order : (p : Plain) → Good p → (ts : List ℕ) (budget : ℕ)
+      → sightedBestOrder ts minute budget (abs p) ≡ absTurn (plainBestOrder ts minute budget p)
   unfolding sightedBestOrder plainBestOrder absTurn
   same-order p g ts budget =
       ap (λ (y : Reply). record { reply = y; after = abs p }) (reply-same (sightedAsked minute (abs p)) (plainAsked minute p) (agreed p g) ts budget minute)
@@ -421,13 +445,13 @@ same-call takeBack p g = same-back p g
 same-call (bestOrder ts minute budget) p g = same-order minute p g ts budget
 
 pub same-after : (cs : List Call) (p : Plain) → Good p → sightedAfter cs (abs p) ≡ abs (plainAfter cs p)
-unfolding sightedAfter plainAfter absTurn
+unfolding sightedAfter absTurn afterAll
 same-after [] p g = refl
 same-after (c ∷ cs) p g =
     ap (λ (τ : SightedTurn). sightedAfter cs (τ .after)) (same-call c p g) ∙ same-after cs (plainCall c p .after) (good-call c p g)
 
 pub same-replies : (cs : List Call) (p : Plain) → Good p → sightedReplies cs (abs p) ≡ plainReplies cs p
-unfolding sightedReplies plainReplies absTurn
+unfolding sightedReplies absTurn repliesTo
 same-replies [] p g = refl
 same-replies (c ∷ cs) p g =
     ap (λ (τ : SightedTurn). τ .reply ∷ sightedReplies cs (τ .after)) (same-call c p g)

@@ -16,12 +16,15 @@ use Rattle.ranges.specs.Ranges.{windowRefusal}
 use Rattle.rules.specs.Windows.{forClosed}
 use Rattle.rules.specs.Items.{Item, Values, result, asked}
 use Rattle.rules.specs.Transactions.{put}
-use Rattle.rules.specs.Messages.{Op, bufferOf, places, setWindow, takeBack, bestOrder}
-use Rattle.rules.specs.Steps.{Stepped, refuse, accept, step, turnedBack}
+use Rattle.rules.specs.Messages.{Op, bufferOf, places, setWindow, takeBack, bestOrder, afterAll}
+use Rattle.rules.specs.Steps.{Stepped, refuse, accept, step}
 use Rattle.rules.specs.Commits.{settings, fits, commitRefusal}
 use Rattle.rules.specs.Messages.{Call, begin, on, commit, abort}
 use Rattle.rules.specs.Sightings.{entries, Committed}
-use Rattle.rules.specs.Plain.{Running, Slot, closed, running, Plain, Earlier, nothing, found, isRunning, noneRunning, goneBack, goBack, plainTakeBack, withWindows, plainSetWindow, plainBestOrder, startPlain, isStale, PlainTurn, turnedDown, withSlot, answering, plainBegin, plainStepped, plainOn, committing, grant, plainCommitted, plainCommit, plainAbort, numbered, plainCall, plainAfter, plainPlaces}
+use Rattle.rules.specs.Plain.{Running, Slot, closed, running, Plain, Earlier, nothing, found, isRunning, noneRunning, goneBack}
+use Rattle.rules.specs.Plain.{goBack, plainTakeBack, withWindows, plainSetWindow, plainBestOrder, startPlain, isStale, PlainTurn}
+use Rattle.rules.specs.Plain.{turnedDown, withSlot, answering, plainBegin, plainStepped, plainOn, committing, grant, plainCommitted}
+use Rattle.rules.specs.Plain.{plainCommit, plainAbort, numbered, plainCall, plainAfter, plainPlaces}
 use Rattle.rules.proofs.Serial.Programs.{turned-back}
 use Rattle.rules.proofs.Serial.Lists.{touched, setBy-at}
 use Rattle.rules.proofs.Serial.Sound.{Sound, sound-begun, sound-more, sound-granted}
@@ -190,7 +193,8 @@ good-window : (f start end : ℕ) (p : Plain) → Good p → Good (plainSetWindo
 unfolding plainSetWindow turnedDown answering
 good-window f start end p g = chosen (windowRefusal f start end)
   where
-    chosen : (n : ℕ) → Good (guarded (λ k. turnedDown k [] p) (isNone n) n (answering plain (withWindows (put f (window start end) (p .windows)) p)) .after)
+    chosen : (n : ℕ) → Good (guarded (λ k. turnedDown k [] p) (isNone n) n
+        (answering plain (withWindows (put f (window start end) (p .windows)) p)) .after)
     chosen zero = record { setters = g .setters; sound = g .sound; above = g .above; earlier = g .earlier }
     chosen (suc n) = g
 
@@ -241,6 +245,6 @@ good-call takeBack p g = good-taken p g
 good-call (bestOrder ts minute budget) p g = unfold plainBestOrder in g
 
 pub good-after : (cs : List Call) (p : Plain) → Good p → Good (plainAfter cs p)
-unfolding plainAfter
+unfolding afterAll
 good-after [] p g = g
 good-after (c ∷ cs) p g = good-after cs (plainCall c p .after) (good-call c p g)

@@ -5,16 +5,17 @@ use mathlib.Core.Path.{_≡_, refl, ap, sym, _∙_}
 use borrow.Author.Tests.{eqb-true}
 use lib.Dec.{eqb, leb, ltb}
 use lib.ListN.{length}
-use Prim.Native.Nat.{ℕ, zero, suc, _+_, _*_}
+use Prim.Native.Nat.{ℕ, zero, suc, _+_, _-_, _*_, min}
 use Rattle.standings.specs.declared.Standing.{Standing}
 use Rattle.standings.specs.declared.Standing.the-variants.{Untouched, Placed, Deferred, Moved, Known}
 use Rattle.record.specs.Paper.{Said}
-use Rattle.rules.specs.Items.{offset, fileLength, same, Values, Prog, done, within, andThen, result, asked}
+use Rattle.rules.specs.Items.{offset, fileLength, same, Values, Prog, done, andThen, result, asked}
 use Rattle.standings.specs.Table.{isKnown, settled, advance, afterSeek, afterWrite, afterRead, pointerSettles, readSettles, offsetOf}
 use Rattle.rules.specs.Transactions.{Txn, Write, put, settle, those, Settled, past, all, settling}
-use Rattle.rules.specs.Reading.{Source, own, file, bring, latest, ownEnd, reaches, gather}
+use Rattle.rules.specs.Reading.{Source, own, file, bring, latest, fetch, lengthFor, lengthSighted, gather}
 use Rattle.rules.specs.Messages.{Op, seek, write, getFilePointer, read}
-use Rattle.rules.specs.Steps.{Stepped, accept, check, orGivenBack, written, seekStep, writeStep, pointerStep, settledByRead, readSettled, readStep, step}
+use Rattle.rules.specs.Steps.{Stepped, accept, check, orGivenBack, written, seekStep, writeStep, pointerStep, settledByRead}
+use Rattle.rules.specs.Steps.{readSettled, readStep, step}
 use Rattle.rules.proofs.Serial.Sighted.{among}
 use Rattle.rules.proofs.Serial.Programs.{result-andThen, among-andThen, none-andThen}
 
@@ -156,37 +157,26 @@ unfolding bring asked among same
 bring-among v d (own b) q = refl
 bring-among v d file q = refl
 
-reaches-among : (v : Values) (d : ℕ) (own : Bool) (f p : ℕ) → among (offset d) (asked v (reaches own f p)) ≡ false
-unfolding reaches asked among same
-reaches-among v d true f p = refl
-reaches-among v d false f p = pick (ltb p (v (fileLength f)))
-  where
-    pick : (b : Bool) → among (offset d) (cond b [] (fileLength f ∷ [])) ≡ false
-    pick true = refl
-    pick false = refl
+fetch-among : (v : Values) (d : ℕ) (fileOf : ℕ → ℕ) (ws : List Write) (f p n : ℕ)
+    → among (offset d) (asked v (fetch fileOf ws f p n)) ≡ false
+unfolding fetch asked among
+fetch-among v d fileOf ws f p zero = refl
+fetch-among v d fileOf ws f p (suc n) =
+    none-andThen v (offset d) (bring (latest fileOf f p ws) (4096 * f + p)) _ (bring-among v d (latest fileOf f p ws) (4096 * f + p))
+    (λ b. none-andThen v (offset d) (fetch fileOf ws f (suc p) n) _ (fetch-among v d fileOf ws f (suc p) n) (λ bs. refl))
+
+-- Nor is a length.
+sighted-among : (v : Values) (d : ℕ) (b : Bool) (f : ℕ) (bytes : List ℕ) → among (offset d) (asked v (lengthSighted b f bytes)) ≡ false
+unfolding lengthSighted asked among same
+sighted-among v d true f bytes = refl
+sighted-among v d false f bytes = refl
 
 gather-among : (v : Values) (d : ℕ) (fileOf : ℕ → ℕ) (ws : List Write) (f p n : ℕ)
     → among (offset d) (asked v (gather fileOf ws f p n)) ≡ false
-unfolding gather asked among
-gather-among v d fileOf ws f p zero = refl
-gather-among v d fileOf ws f p (suc n) =
-    none-andThen v (offset d) (reaches (ltb p (ownEnd fileOf f ws)) f p) _ (reaches-among v d (ltb p (ownEnd fileOf f ws)) f p)
-    (more (gather-among v d fileOf ws f (suc p) n))
-  where
-    rest : Prog (List ℕ)
-    rest = gather fileOf ws f (suc p) n
-
-    more : among (offset d) (asked v rest) ≡ false → (there : Bool)
-        → among (offset d)
-        (asked v
-        (cond there
-        (andThen (bring (latest fileOf f p ws) (4096 * f + p)) (λ b. andThen rest (λ bs. done (b ∷ bs))))
-        (done [])))
-        ≡ false
-    more h true =
-        none-andThen v (offset d) (bring (latest fileOf f p ws) (4096 * f + p)) _ (bring-among v d (latest fileOf f p ws) (4096 * f + p))
-        (λ b. none-andThen v (offset d) rest _ h (λ bs. refl))
-    more h false = refl
+unfolding gather asked
+gather-among v d fileOf ws f p n =
+    let m = min n (lengthFor fileOf f ws (v (fileLength f)) - p) in
+    none-andThen v (offset d) (fetch fileOf ws f p m) (lengthSighted (ltb m n) f) (fetch-among v d fileOf ws f p m) (sighted-among v d (ltb m n) f)
 
 module _ (v : Values) where
   -- What known-step says, of a program that starts at transaction x.

@@ -2,7 +2,7 @@
 use mathlib.Core.Bool.{Bool, true, false, cond}
 use mathlib.Core.List.{List, [], _∷_, _++_}
 use mathlib.Core.Logic.{⊎-elim}
-use mathlib.Core.Path.{_≡_, refl, sym, ap, _∙_}
+use mathlib.Core.Path.{_≡_, refl}
 use borrow.Author.Tests.{ltb-true, ltb-false, eqb-true, eq-eqb, ne-eqb}
 use lib.Dec.{ltb, eqb}
 use native.Mathlib.Nat.{eq-or-lt-of-le, le-of-suc-le-suc, not-suc-le-zero}
@@ -11,7 +11,8 @@ use Prim.Native.Nat.{ℕ, zero, suc, _+_, _*_, _≤_, _<_}
 use Rattle.rules.specs.Items.{Item, byte, offset, fileLength, same, Values}
 use Rattle.standings.specs.Table.{finalOffset}
 use Rattle.rules.specs.Transactions.{Txn, Write}
-use Rattle.rules.specs.Commits.{Setting, landsAt, stretch, byteSettings, setsOffset, offsetSettings, landedEnd, lengthSettings, settings, putItem, landed}
+use Rattle.rules.specs.Commits.{Setting, landsAt, bytesFrom, byteSettings, setsOffset, offsetSettings, landedEnd, lengthSettings}
+use Rattle.rules.specs.Commits.{settings, putItem, landed}
 use Rattle.rules.specs.Lengths.{Longer}
 use Rattle.rules.proofs.Serial.Programs.{Every, every-append}
 
@@ -43,8 +44,8 @@ module _ (fileOf : ℕ → ℕ) (v : Values) where
   growing-append : (ss rs : List Setting) → Growing v ss → Growing v rs → Growing v (ss ++ rs)
   growing-append ss rs h k = every-append (λ (s : Setting). Keeping v (s .item) (s .to)) ss rs h k
 
-  growing-stretch : (q : ℕ) (bs : List ℕ) → Growing v (stretch q bs)
-  unfolding stretch
+  growing-stretch : (q : ℕ) (bs : List ℕ) → Growing v (bytesFrom q bs)
+  unfolding bytesFrom
   growing-stretch q [] = tt
   growing-stretch q (b ∷ bs) = (tt, growing-stretch (suc q) bs)
 
@@ -53,7 +54,7 @@ module _ (fileOf : ℕ → ℕ) (v : Values) where
   growing-bytes [] = tt
   growing-bytes (w ∷ ws) =
       let q = 4096 * fileOf (w .descriptor) + landsAt (v (offset (w .descriptor))) (w .place) in
-      growing-append (stretch q (w .bytes)) (byteSettings fileOf v ws) (growing-stretch q (w .bytes)) (growing-bytes ws)
+      growing-append (bytesFrom q (w .bytes)) (byteSettings fileOf v ws) (growing-stretch q (w .bytes)) (growing-bytes ws)
 
   growing-offsets : (x : Txn) (n : ℕ) → Growing v (offsetSettings v x n)
   unfolding offsetSettings
@@ -92,7 +93,8 @@ module _ (fileOf : ℕ → ℕ) (v : Values) where
   landed-append (s ∷ ss) rs w = landed-append ss rs (putItem (s .item) (s .to) w)
 
   -- The length of a file that writes reach is no less than where they end.
-  raised : (ws : List Write) (n f : ℕ) (w : Values) → Longer v w → f < n → landedEnd fileOf v f ws ≤ landed (lengthSettings fileOf v ws n) w (fileLength f)
+  raised : (ws : List Write) (n f : ℕ) (w : Values) → Longer v w → f < n
+      → landedEnd fileOf v f ws ≤ landed (lengthSettings fileOf v ws n) w (fileLength f)
   unfolding lengthSettings
   raised ws zero f w l h = absurd (not-suc-le-zero h)
   raised ws (suc n) f w l h =

@@ -1,18 +1,18 @@
 -- F-7: what an accepted Read or GetFilePointer gave is what the lone run gives at that moment. One that is accepted is not stale, so its
 -- entries are current, and the lone run up to it is the recorded one.
-use mathlib.Core.Bool.{Bool, true, false, cond, _&&_}
-use mathlib.Core.List.{List, [], _∷_, _++_, map}
+use mathlib.Core.Bool.{Bool, true, false, cond}
+use mathlib.Core.List.{List, map}
 use mathlib.Core.Path.{_≡_, refl, ap, _∙_, subst⁻¹}
 use lib.Dec.{leb}
 use Prim.Native.Nat.{ℕ}
-use Rattle.record.specs.Paper.{Said, refused}
 use Rattle.rules.specs.Items.{done, result, asked}
 use Rattle.rules.specs.Transactions.{Txn, empty}
-use Rattle.rules.specs.Messages.{Op, seek, write, getFilePointer, read, bufferOf, on, Reply}
-use Rattle.rules.specs.Steps.{Stepped, refuse, accept, check, seekStep, writeStep, pointerStep, readStep, step, descriptorOf, looks, turnsBack, turnedBack}
+use Rattle.rules.specs.Messages.{Op, seek, write, getFilePointer, read, bufferOf, on}
+use Rattle.rules.specs.Steps.{Stepped, refuse, accept, check, seekStep, writeStep, pointerStep, readStep, step, descriptorOf, looks}
+use Rattle.rules.specs.Steps.{turnsBack, turnedBack}
 use Rattle.rules.specs.Sightings.{Entry, entries}
-use Rattle.rules.specs.Lone.{Lone, lone}
-use Rattle.rules.specs.Plain.{Running, Slot, closed, running, Plain, ops, isStale, PlainTurn, turnedDown, plainStepped, plainOn, numbered, plainCall}
+use Rattle.rules.specs.Lone.{Lone}
+use Rattle.rules.specs.Plain.{Running, Slot, closed, running, Plain, ops, isStale, turnedDown, plainStepped, plainOn, numbered, plainCall}
 use Rattle.rules.specs.Demand3.{IsAccepted, upTo, OneMoment}
 use Rattle.rules.proofs.Serial.Programs.{not-turned-back}
 use Rattle.rules.proofs.Serial.Lone.{lone-more}

@@ -5,22 +5,23 @@ use mathlib.Core.List.{List, [], _∷_, _++_, map, map-append, append-nil, appen
 use mathlib.Core.Path.{_≡_, refl, sym, ap, ap₂, _∙_, fun-ext}
 use borrow.Author.Tests.{eqb-true, eq-eqb}
 use lib.Dec.{leb, eqb}
-use native.Mathlib.Omega.{arith}
-use Prim.Native.Nat.{ℕ, zero, suc, _+_}
+use Prim.Native.Nat.{ℕ, _+_}
 use Rattle.windows.specs.Hours.{minuteIn, freshWindows, isOpenAt, isClosedAt}
 use Rattle.octets.specs.Bits.{bitsOf}
 use Rattle.octets.proofs.SetLaws.{bits-none}
 use Rattle.record.specs.Paper.{Said, plain, granted}
 use Rattle.rules.specs.Coverage.{someWrite}
 use Rattle.rules.specs.Windows.{isForClosed, forClosed}
-use Rattle.rules.specs.Messages.{Op, bufferOf, Call, begin, on, commit, Reply, says}
+use Rattle.rules.specs.Messages.{Op, bufferOf, Call, begin, on, commit, Reply, says, afterAll, repliesTo}
 use Rattle.rules.specs.Items.{result, asked}
 use Rattle.rules.specs.Transactions.{Txn, Write, empty, put}
-use Rattle.rules.specs.Steps.{Stepped, refuse, accept, step, turnedBack}
+use Rattle.rules.specs.Steps.{Stepped, refuse, accept, step}
 use Rattle.rules.specs.Commits.{fits, commitRefusal}
-use Rattle.rules.specs.Sightings.{Entry, Committed, entries}
+use Rattle.rules.specs.Sightings.{Entry, entries}
 use Rattle.rules.specs.Lone.{Lone, stopped, prepend, goOn, lone}
-use Rattle.rules.specs.Plain.{Accepted, Running, justBegun, afterCall, Slot, closed, running, Plain, ops, firstList, secondList, isStale, PlainTurn, turnedDown, withSlot, withGrant, answering, plainBegin, plainStepped, plainOn, committing, grant, equalSlot, staleSlot, becameStale, plainCommitted, plainCommit, numbered, plainCall, plainAfter, plainReplies}
+use Rattle.rules.specs.Plain.{Accepted, Running, justBegun, afterCall, Slot, closed, running, Plain, ops, firstList, secondList}
+use Rattle.rules.specs.Plain.{isStale, PlainTurn, turnedDown, withSlot, answering, plainBegin, plainStepped, plainOn, committing}
+use Rattle.rules.specs.Plain.{grant, equalSlot, staleSlot, becameStale, plainCommitted, numbered, plainCall, plainAfter, plainReplies}
 use Rattle.rules.specs.Grants.{Grant, againOf, rerun, repliesOf, sameReplies}
 use Rattle.rules.proofs.Serial.Programs.{not-turned-back}
 use Rattle.rules.proofs.Serial.Lone.{lone-more}
@@ -30,12 +31,12 @@ use Rattle.rules.proofs.Serial.Commits.{stale-exactly, commit-turn}
 -- ---- one list of calls after another
 
 replies-append : (cs ds : List Call) (p : Plain) → plainReplies (cs ++ ds) p ≡ plainReplies cs p ++ plainReplies ds (plainAfter cs p)
-unfolding plainReplies plainAfter
+unfolding afterAll repliesTo
 replies-append [] ds p = refl
 replies-append (c ∷ cs) ds p = ap (λ (rs : List Reply). plainCall c p .reply ∷ rs) (replies-append cs ds (plainCall c p .after))
 
 after-append : (cs ds : List Call) (p : Plain) → plainAfter (cs ++ ds) p ≡ plainAfter ds (plainAfter cs p)
-unfolding plainAfter
+unfolding afterAll
 after-append [] ds p = refl
 after-append (c ∷ cs) ds p = after-append cs ds (plainCall c p .after)
 
@@ -65,13 +66,16 @@ module _ {A : Type 0} (t : ℕ) where
 slot-own : (t : ℕ) (s : Slot) (p : Plain) → p .slots t ≡ s → withSlot t s p ≡ p
 unfolding withSlot
 slot-own t s p e =
-    ap (λ (f : ℕ → Slot). record { fileOf = p .fileOf; committed = p .committed; grants = p .grants; windows = p .windows; earlier = p .earlier; slots = f })
+    ap (λ (f : ℕ → Slot). record
+    { fileOf = p .fileOf; committed = p .committed; grants = p .grants; windows = p .windows; earlier = p .earlier; slots = f })
     (ap (λ (x : Slot). put t x (p .slots)) (sym e) ∙ put-own t (p .slots))
 
 slot-twice : (t : ℕ) (s r : Slot) (p : Plain) → withSlot t s (withSlot t r p) ≡ withSlot t s p
 unfolding withSlot
 slot-twice t s r p =
-    ap (λ (f : ℕ → Slot). record { fileOf = p .fileOf; committed = p .committed; grants = p .grants; windows = p .windows; earlier = p .earlier; slots = f }) (put-twice t s r (p .slots))
+    ap (λ (f : ℕ → Slot). record
+    { fileOf = p .fileOf; committed = p .committed; grants = p .grants; windows = p .windows; earlier = p .earlier; slots = f })
+    (put-twice t s r (p .slots))
 
 -- ---- the accepted calls of one transaction
 
@@ -136,12 +140,13 @@ module _ (t : ℕ) (small : leb t 7 ≡ true) where
 
   -- One accepted call more, before those that the rest of the lone run gives.
   run-step : (a : Accepted) (xs : List Accepted) (r : Running) (p : Plain) (es : List Entry) (rest : Txn → Lone) (s : Stepped)
-      → ((y : Txn) (answer : Said) (buffer : List ℕ) → s ≡ accept y answer buffer → rest y .through ≡ true → rest y .replies ≡ map (λ b. b .reply) xs
+      → ((y : Txn) (answer : Said) (buffer : List ℕ) → s ≡ accept y answer buffer → rest y .through ≡ true
+      → rest y .replies ≡ map (λ b. b .reply) xs
       → Ran t xs (afterCall y a es r) (withSlot t (running (afterCall y a es r)) p) (rest y))
       → plainCall (on t (a .op)) p ≡ plainStepped t (a .op) r es p s
       → goOn rest (r .txn) es s .through ≡ true → goOn rest (r .txn) es s .replies ≡ a .reply ∷ map (λ b. b .reply) xs
       → Ran t (a ∷ xs) r p (goOn rest (r .txn) es s)
-  unfolding goOn stopped prepend plainStepped plainReplies plainAfter
+  unfolding goOn stopped prepend plainStepped afterAll repliesTo
   run-step a xs r p es rest (refuse n) next q h g = absurd (false≢true h)
   run-step a xs r p es rest (accept y answer buffer) next q h g =
       let k = heads _ (a .reply) _ _ g in
@@ -164,7 +169,7 @@ module _ (t : ℕ) (small : leb t 7 ≡ true) where
       → lone (p .fileOf) (p .committed) (ops xs) (r .txn) .through ≡ true
       → lone (p .fileOf) (p .committed) (ops xs) (r .txn) .replies ≡ map (λ a. a .reply) xs
       → Ran t xs r p (lone (p .fileOf) (p .committed) (ops xs) (r .txn))
-  unfolding plainReplies plainAfter lone ops withSlot
+  unfolding lone ops withSlot afterAll repliesTo
   run-on [] r p e rs f h g =
       record {
         replies = refl;
@@ -228,7 +233,8 @@ ran-on : (t : ℕ) (p : Plain) (xs : List Accepted) → leb t 7 ≡ true
     → lone (p .fileOf) (p .committed) (ops xs) empty .replies ≡ map (λ a. a .reply) xs
     → Ran t xs justBegun (withSlot t (running justBegun) p) (lone (p .fileOf) (p .committed) (ops xs) empty)
 unfolding withSlot
-ran-on t p xs small h g = run-on t small xs justBegun (withSlot t (running justBegun) p) (put-same t (running justBegun) (p .slots)) [] (unfold lone ops in refl) h g
+ran-on t p xs small h g = run-on t small xs justBegun (withSlot t (running justBegun) p) (put-same t (running justBegun) (p .slots)) []
+    (unfold lone ops in refl) h g
 
 -- What it leaves.
 module _ (t : ℕ) (p : Plain) (r : Running) where
@@ -237,15 +243,18 @@ module _ (t : ℕ) (p : Plain) (r : Running) where
 
   idle-after : Idle p → Idle (grant t r ready)
   unfolding grant withSlot
-  idle-after none u = ap (λ (f : ℕ → Slot). put t closed f u) (put-twice t (running r) (running justBegun) (p .slots)) ∙ put-closed t (running r) (p .slots) none u
+  idle-after none u = ap (λ (f : ℕ → Slot). put t closed f u) (put-twice t (running r) (running justBegun) (p .slots))
+      ∙ put-closed t (running r) (p .slots) none u
 
-  granted-turn : (minute : ℕ) → leb t 7 ≡ true → minuteIn minute ≡ true → p .windows ≡ freshWindows → Idle p → r .seen ≡ lone (p .fileOf) (p .committed) (ops (r .calls)) empty .seen
+  granted-turn : (minute : ℕ) → leb t 7 ≡ true → minuteIn minute ≡ true → p .windows ≡ freshWindows → Idle p
+      → r .seen ≡ lone (p .fileOf) (p .committed) (ops (r .calls)) empty .seen
       → fits (p .committed .value) (r .txn) ≡ true
       → plainCall (commit t minute) ready ≡ record { reply = says (granted 0); after = grant t r ready }
   unfolding withSlot firstList secondList
   granted-turn minute small daily always none same fit =
       commit-turn t minute r ready small (put-same t (running r) _)
-      ∙ ap₂ (λ (d s : Bool). plainCommitted t r ready (commitRefusal d s (forClosed (p .fileOf) (p .windows) minute (r .txn .writes)) (fits (p .committed .value) (r .txn))))
+      ∙ ap₂ (λ (d s : Bool). plainCommitted t r ready
+      (commitRefusal d s (forClosed (p .fileOf) (p .windows) minute (r .txn .writes)) (fits (p .committed .value) (r .txn))))
       daily (stale-exactly ready r .1 same)
       ∙ ap₂ (λ (c f : Bool). plainCommitted t r ready (commitRefusal true false c f))
       (ap (λ ws. forClosed (p .fileOf) ws minute (r .txn .writes)) always ∙ never-closed (p .fileOf) minute (r .txn .writes)) fit
@@ -268,9 +277,9 @@ pub record Done (g : Grant) (p : Plain) : Type 0 where
   pub committed : end .committed ≡ committing (p .fileOf) (p .grants + 1) (again (p .fileOf) (p .committed) (g .calls) .txn) (p .committed)
 
 done-again : (g : Grant) (p : Plain) → p .windows ≡ freshWindows → Idle p → SameAgain (p .fileOf) (p .committed) g → Done g p
-unfolding againOf repliesOf again plainReplies plainAfter
+unfolding againOf repliesOf again afterAll repliesTo
 done-again g p always none s =
-    let t = g .number in
+    let t = g .txnNumber in
     let minute = g .minute in
     let l = lone (p .fileOf) (p .committed) (ops (g .calls)) empty in
     let q = withSlot t (running justBegun) p in
@@ -307,7 +316,7 @@ pub record Reran (gs : List Grant) (p : Plain) : Type 0 where
   pub left : plainAfter (rerun gs) p .committed ≡ serially (p .fileOf) (p .grants) gs (p .committed)
 
 pub reran : (gs : List Grant) (p : Plain) → p .windows ≡ freshWindows → Idle p → AllSame (p .fileOf) (p .grants) gs (p .committed) → Reran gs p
-unfolding rerun sameReplies serially AllSame plainReplies plainAfter
+unfolding rerun sameReplies serially AllSame afterAll repliesTo
 reran [] p always none s = record { replies = refl; left = refl }
 reran (g ∷ gs) p always none s =
     let d = done-again g p always none (s .0) in

@@ -9,20 +9,23 @@ use borrow.Author.Tests.{not-false}
 use lib.Dec.{leb}
 use Prim.Native.Nat.{ℕ, zero, suc, _+_}
 use Rattle.windows.specs.Hours.{minuteIn, window, Windows, freshWindows}
-use Rattle.record.specs.Paper.{plain}
+use Rattle.record.specs.Paper.{plain, refused}
 use Rattle.ranges.specs.Below.{guarded, isNone}
 use Rattle.ranges.specs.Ranges.{windowRefusal}
 use Rattle.rules.specs.Windows.{forClosed}
 use Rattle.rules.specs.Items.{result, asked}
 use Rattle.rules.specs.Transactions.{Txn, empty, put}
-use Rattle.rules.specs.Messages.{Op, bufferOf, places, setWindow, takeBack, bestOrder}
+use Rattle.rules.specs.Messages.{Op, bufferOf, places, setWindow, takeBack, bestOrder, afterAll}
 use Rattle.rules.specs.Steps.{Stepped, refuse, accept, step, turnedBack}
 use Rattle.rules.specs.Commits.{fits, commitRefusal}
-use Rattle.rules.specs.Messages.{Call, begin, on, commit, abort, Reply}
+use Rattle.rules.specs.Messages.{Call, begin, on, commit, abort, Reply, isGrant}
 use Rattle.rules.specs.Sightings.{Entry, entries, Committed}
-use Rattle.rules.specs.Plain.{Accepted, Running, Slot, closed, running, Plain, Earlier, nothing, found, isRunning, noneRunning, goneBack, goBack, plainTakeBack, withWindows, plainSetWindow, plainBestOrder, ops, isStale, PlainTurn, turnedDown, withSlot, answering, plainBegin, plainStepped, plainOn, committing, grant, plainCommitted, plainCommit, plainAbort, numbered, plainCall, plainAfter, plainPlaces}
+use Rattle.rules.specs.Plain.{Running, Slot, closed, running, Plain, Earlier, nothing, found, isRunning, noneRunning, goneBack}
+use Rattle.rules.specs.Plain.{goBack, plainTakeBack, withWindows, plainSetWindow, plainBestOrder, ops, isStale, PlainTurn, turnedDown}
+use Rattle.rules.specs.Plain.{withSlot, answering, plainBegin, plainStepped, plainOn, committing, grant, plainCommitted, plainCommit}
+use Rattle.rules.specs.Plain.{plainAbort, numbered, plainCall, plainAfter, plainPlaces}
 use Rattle.rules.specs.Lone.{Lone, lone}
-use Rattle.rules.specs.Grants.{Grant, grantAt, ifGranted, grantedBy, Serial, butLast, droppedFrom, ifDone, adding, serialBy, serialFrom, serialOf}
+use Rattle.rules.specs.Grants.{Grant, grantedBy, Serial, butLast, droppedFrom, ifDone, adding, serialBy, serialFrom, serialOf}
 use Rattle.rules.proofs.Serial.Alone.{again, serially, SameAgain, AllSame}
 use Rattle.rules.proofs.Serial.Lists.{current, current-is}
 use Rattle.rules.proofs.Serial.Sound.{Sound, recorded, alone-now}
@@ -49,7 +52,11 @@ pub data Turned (p : Plain) (s : Serial) : PlainTurn → Serial → Type 0 where
   kept :
       (reply : Reply) (windows : Windows) (slots : ℕ → Slot)
       → Turned p s
-      (record { reply = reply; after = record { fileOf = p .fileOf; committed = p .committed; grants = p .grants; windows = windows; earlier = p .earlier; slots = slots } })
+      (record {
+        reply = reply;
+        after = record
+            { fileOf = p .fileOf; committed = p .committed; grants = p .grants; windows = windows; earlier = p .earlier; slots = slots };
+      })
       s
   grants :
       (t minute : ℕ) (r : Running) (reply : Reply)
@@ -57,7 +64,7 @@ pub data Turned (p : Plain) (s : Serial) : PlainTurn → Serial → Type 0 where
       → p .slots t ≡ running r
       → isStale p r ≡ false
       → fits (p .committed .value) (r .txn) ≡ true
-      → Turned p s (record { reply = reply; after = grant t r p }) (adding (record { number = t; minute = minute; calls = r .calls } ∷ []) s)
+      → Turned p s (record { reply = reply; after = grant t r p }) (adding (record { txnNumber = t; minute = minute; calls = r .calls } ∷ []) s)
   undone :
       (c : Committed) (n : ℕ) (reply : Reply)
       → p .earlier ≡ found c n
@@ -94,8 +101,8 @@ module _ (p : Plain) (s : Serial) where
       → isStale p r ≡ stale
       → fits (p .committed .value) (r .txn) ≡ placed
       → Turned p s (plainCommitted t r p (commitRefusal daily stale shut placed))
-      (adding (ifGranted (plainCommitted t r p (commitRefusal daily stale shut placed) .reply .answer) (record { number = t; minute = minute; calls = r .calls } ∷ [])) s)
-  unfolding plainCommitted commitRefusal ifGranted answering withSlot adding
+      (adding (grantedBy t minute (plainCommitted t r p (commitRefusal daily stale shut placed) .reply .answer) (running r)) s)
+  unfolding plainCommitted commitRefusal grantedBy isGrant answering withSlot adding
   turned-committed t minute r o false stale shut placed d e f = kept _ _ _
   turned-committed t minute r o true true shut placed d e f = kept _ _ _
   turned-committed t minute r o true false true placed d e f = kept _ _ _
@@ -105,12 +112,17 @@ module _ (p : Plain) (s : Serial) where
   turned-commit :
       (t minute : ℕ) (z : Slot)
       → p .slots t ≡ z
-      → Turned p s (plainCommit t minute z p) (adding (ifGranted (plainCommit t minute z p .reply .answer) (grantAt t minute z)) s)
-  unfolding plainCommit turnedDown ifGranted grantAt adding
+      → Turned p s (plainCommit t minute z p) (adding (grantedBy t minute (plainCommit t minute z p .reply .answer) z) s)
+  unfolding plainCommit turnedDown grantedBy adding
   turned-commit t minute closed o = kept _ _ _
   turned-commit t minute (running r) o =
       turned-committed t minute r o (minuteIn minute) (isStale p r) (forClosed (p .fileOf) (p .windows) minute (r .txn .writes))
       (fits (p .committed .value) (r .txn)) refl refl refl
+
+  turned-refused : (t minute n : ℕ) (z : Slot) → Turned p s (turnedDown n [] p) (adding (grantedBy t minute (refused n) z) s)
+  unfolding turnedDown grantedBy isGrant adding
+  turned-refused t minute n closed = kept _ _ _
+  turned-refused t minute n (running r) = kept _ _ _
 
   turned-abort : (t : ℕ) (z : Slot) → Turned p s (plainAbort t z p) s
   unfolding plainAbort turnedDown answering withSlot
@@ -126,7 +138,8 @@ module _ (p : Plain) (s : Serial) where
   unfolding plainSetWindow turnedDown answering
   turned-window f start end = chosen (windowRefusal f start end)
     where
-      chosen : (n : ℕ) → Turned p s (guarded (λ k. turnedDown k [] p) (isNone n) n (answering plain (withWindows (put f (window start end) (p .windows)) p))) s
+      chosen : (n : ℕ) → Turned p s
+          (guarded (λ k. turnedDown k [] p) (isNone n) n (answering plain (withWindows (put f (window start end) (p .windows)) p))) s
       chosen zero = kept _ _ _
       chosen (suc n) = kept _ _ _
 
@@ -143,7 +156,8 @@ module _ (p : Plain) (s : Serial) where
       chosen true = h
       chosen false = k
 
-  turned-return : (x : Earlier) → p .earlier ≡ x → noneRunning p ≡ true → Turned p s (goBack x p) (ifDone (goBack x p .reply .answer) (droppedFrom (s .start) (s .grants)) s)
+  turned-return : (x : Earlier) → p .earlier ≡ x → noneRunning p ≡ true
+      → Turned p s (goBack x p) (ifDone (goBack x p .reply .answer) (droppedFrom (s .start) (s .grants)) s)
   unfolding goBack turnedDown answering ifDone
   turned-return nothing q e = kept _ _ _
   turned-return (found c n) q e = undone c n _ q e
@@ -159,13 +173,13 @@ module _ (p : Plain) (s : Serial) where
       chosen false e = unfold turnedDown ifDone in kept _ _ _
 
   pub turned : (c : Call) → Turned p s (plainCall c p) (serialBy c p s)
-  unfolding plainCall serialBy grantedBy turnedDown ifGranted adding
+  unfolding plainCall serialBy turnedDown
   turned (begin t) = turned-numbered (λ τ. Turned p s τ s) t [] (plainBegin t) (turned-begin t (p .slots t)) (kept _ _ _)
   turned (on t o) = turned-numbered (λ τ. Turned p s τ s) t (bufferOf o) (plainOn t o) (turned-on t o (p .slots t)) (kept _ _ _)
   turned (commit t minute) =
-      turned-numbered (λ τ. Turned p s τ (adding (ifGranted (τ .reply .answer) (grantAt t minute (p .slots t))) s)) t [] (plainCommit t minute)
+      turned-numbered (λ τ. Turned p s τ (adding (grantedBy t minute (τ .reply .answer) (p .slots t)) s)) t [] (plainCommit t minute)
       (turned-commit t minute (p .slots t) refl)
-      (kept _ _ _)
+      (turned-refused t minute 3 (p .slots t))
   turned (abort t) = turned-numbered (λ τ. Turned p s τ s) t [] (plainAbort t) (turned-abort t (p .slots t)) (kept _ _ _)
   turned (places t f out) = turned-numbered (λ τ. Turned p s τ s) t out (plainPlaces f out) (turned-places f out (p .slots t)) (kept _ _ _)
   turned (setWindow f start end) = turned-window f start end
@@ -180,7 +194,7 @@ files-turn p s τ z (grants t minute r reply d o e f) = refl
 files-turn p s τ z (undone c n reply q e) = refl
 
 pub files-kept : (cs : List Call) (p : Plain) → plainAfter cs p .fileOf ≡ p .fileOf
-unfolding plainAfter
+unfolding afterAll
 files-kept [] p = refl
 files-kept (c ∷ cs) p =
     let s : Serial = record { start = p; grants = [] } in
@@ -194,7 +208,7 @@ module _ (p : Plain) where
       → Sound (p .fileOf) (p .committed) (p .grants) r
       → isStale p r ≡ false
       → fits (p .committed .value) (r .txn) ≡ true
-      → SameAgain (p .fileOf) (p .committed) (record { number = t; minute = minute; calls = r .calls })
+      → SameAgain (p .fileOf) (p .committed) (record { txnNumber = t; minute = minute; calls = r .calls })
   unfolding again
   granted-again t minute r small d s e f =
       let l = alone-recorded p r s e in
@@ -294,10 +308,10 @@ module _ (p : Plain) (g : Good p) where
       → p .slots t ≡ running r
       → isStale p r ≡ false
       → fits (p .committed .value) (r .txn) ≡ true
-      → InOrder (adding (record { number = t; minute = minute; calls = r .calls } ∷ []) s) (grant t r p)
+      → InOrder (adding (record { txnNumber = t; minute = minute; calls = r .calls } ∷ []) s) (grant t r p)
   unfolding grant withSlot adding again
   granted-last s t minute r i d o e f =
-      let h : Grant = record { number = t; minute = minute; calls = r .calls } in
+      let h : Grant = record { txnNumber = t; minute = minute; calls = r .calls } in
       let sound = sound-at p g t r o in
       let start = s .start in
       let small = open-number p g t r o in
@@ -365,7 +379,7 @@ in-order-turn p g s τ z (grants t minute r reply d o e f) i = granted-last p g 
 in-order-turn p g s τ z (undone c n reply q e) i = taken-last p (s .start) (s .grants) c n i q
 
 pub in-order : (cs : List Call) (p : Plain) → Good p → (s : Serial) → InOrder s p → InOrder (serialFrom cs p s) (plainAfter cs p)
-unfolding serialFrom plainAfter
+unfolding serialFrom afterAll
 in-order [] p g s i = i
 in-order (c ∷ cs) p g s i =
     in-order cs (plainCall c p .after) (good-call c p g) (serialBy c p s) (in-order-turn p g s (plainCall c p) (serialBy c p s) (turned p s c) i)

@@ -12,7 +12,8 @@ use Rattle.rules.specs.Ordering.{grantsIn}
 use Rattle.rules.specs.Windows.{forClosed}
 use Rattle.rules.specs.Transactions.{put}
 use Rattle.rules.specs.Commits.{Setting, settings, fits, commitRefusal}
-use Rattle.rules.proofs.Serial.Sighted.{Held, Seat, vacant, held, Sighted, SightedTurn, isHeld, writesSeat, withSeat, turnedAway, touch, granting, sightedCommitted, sightedCommit, seated, sightedCommitCall}
+use Rattle.rules.proofs.Serial.Sighted.{Held, Seat, vacant, held, Sighted, SightedTurn, isHeld, writesSeat, withSeat, turnedAway}
+use Rattle.rules.proofs.Serial.Sighted.{touch, granting, sightedCommitted, sightedCommit, seated, sightedCommitCall}
 
 module _ (minute : ℕ) where
   -- Whether a seat may be granted, at these files and windows.

@@ -4,7 +4,7 @@
 use Rattle.windows.specs.Hours.{minuteIn, window, Windows}
 use Rattle.rules.specs.Coverage.{placesOf}
 use mathlib.Core.Bool.{Bool, true, false, cond, not, _&&_, _||_}
-use mathlib.Core.List.{List, [], _∷_, _++_}
+use mathlib.Core.List.{List, [], _∷_}
 use lib.Dec.{leb, eqb}
 use Prim.Native.Nat.{ℕ, zero, suc}
 use Rattle.octets.specs.Bits.{bitsOf}
@@ -13,7 +13,7 @@ use Rattle.record.specs.Paper.{number, Said, plain, granted, refused}
 use Rattle.ranges.specs.Below.{guarded, isNone, below}
 use Rattle.ranges.specs.Ranges.{windowRefusal}
 use Rattle.rules.specs.Windows.{forClosed}
-use Rattle.rules.specs.Items.{Item, byte, offset, fileLength, same, Values, Prog, result, asked}
+use Rattle.rules.specs.Items.{Item, byte, offset, fileLength, same, Values, result, asked}
 use Rattle.standings.specs.Table.{isKnown}
 use Rattle.rules.specs.Transactions.{Txn, Write, empty, put}
 use Rattle.rules.specs.Messages.{Op, bufferOf, places, setWindow, takeBack, bestOrder}

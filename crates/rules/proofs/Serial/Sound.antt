@@ -8,7 +8,7 @@ use lib.Dec.{eqb}
 use native.Mathlib.Omega.{arith}
 use Prim.Native.Nat.{ℕ, _+_, _≤_}
 use Rattle.record.specs.Paper.{Said}
-use Rattle.rules.specs.Items.{Item, offset, fileLength, Values, result, asked}
+use Rattle.rules.specs.Items.{Item, offset, Values, result, asked}
 use Rattle.standings.specs.Table.{isKnown}
 use Rattle.rules.specs.Transactions.{Txn, empty}
 use Rattle.rules.specs.Messages.{Op}
@@ -16,14 +16,16 @@ use Rattle.rules.specs.Steps.{accept, step}
 use Rattle.rules.specs.Commits.{Setting, settings, landed, setBy}
 use Rattle.rules.specs.Messages.{Reply}
 use Rattle.rules.specs.Sightings.{Entry, sameEntries, entries, Committed}
-use Rattle.rules.specs.Plain.{Accepted, Running, ops, committing, grant}
+use Rattle.rules.specs.Plain.{Accepted, Running, ops, committing}
 use Rattle.rules.specs.Lone.{Lone, lone}
 use Rattle.rules.specs.Lengths.{Longer}
 use Rattle.rules.proofs.Serial.Sighted.{among}
-use Rattle.rules.proofs.Serial.Programs.{Every, every-append, every-left, every-right, among-append, agree-result, agree-asked}
+use Rattle.rules.proofs.Serial.Programs.{Every, every-append, every-left, every-right, among-append}
+use Rattle.rules.proofs.Serial.Steady.{Steady, steady-step}
 use Rattle.rules.proofs.Serial.Lengths.{commit-longer}
 use Rattle.rules.proofs.Serial.Known.{known-step}
-use Rattle.rules.proofs.Serial.Lists.{iff-same, and-left, and-right, sameEntries-true, sameEntries-of, items, items-entries, items-append, entries-append, current, current-is, touched, setBy-at, landed-at}
+use Rattle.rules.proofs.Serial.Lists.{iff-same, and-left, and-right, sameEntries-true, sameEntries-of, items, items-entries}
+use Rattle.rules.proofs.Serial.Lists.{items-append, entries-append, current, current-is, touched, setBy-at, landed-at}
 use Rattle.rules.proofs.Serial.Lone.{lone-more, lone-current}
 
 -- A sighting with the value that was sighted. The machine holds no values: they are in the proof alone.
@@ -52,11 +54,13 @@ recorded r s = record { through = true; txn = r .txn; replies = map (λ a. a .re
 pub record Sound (fileOf : ℕ → ℕ) (c : Committed) (n : ℕ) (r : Running) : Type 0 where
   pub sightings : List Sighting
   pub listed : r .seen ≡ map entryOf sightings
-  pub alone : (k : Committed) → Longer (c .value) (k .value) → Agrees (k .value) sightings → lone fileOf k (ops (r .calls)) empty ≡ recorded r (k .setter)
+  pub alone : (k : Committed) → Longer (c .value) (k .value) → Agrees (k .value) sightings
+      → lone fileOf k (ops (r .calls)) empty ≡ recorded r (k .setter)
   pub recent : Every (Recent c n) sightings
   pub known : (d : ℕ) → isKnown (r .txn .standing d) ≡ among (offset d) (items (r .seen))
 
-every-map : {A B : Type 0} (P : A → Type 0) (Q : B → Type 0) (f : A → B) → ((a : A) → P a → Q (f a)) → (xs : List A) → Every P xs → Every Q (map f xs)
+every-map : {A B : Type 0} (P : A → Type 0) (Q : B → Type 0) (f : A → B) → ((a : A) → P a → Q (f a)) → (xs : List A) → Every P xs
+    → Every Q (map f xs)
 every-map P Q f h [] e = tt
 every-map P Q f h (x ∷ xs) e = (h x (e .0), every-map P Q f h xs (e .1))
 
@@ -145,21 +149,23 @@ module _ (fileOf : ℕ → ℕ) (c : Committed) (n : ℕ) (r : Running) (s : Sou
       → Agrees (k .value) (s .sightings ++ sightingsOf c (asked (c .value) (step fileOf o (r .txn))))
       → lone fileOf k (ops (extended r o y answer buffer (entries (c .setter) (asked (c .value) (step fileOf o (r .txn)))) .calls)) empty
       ≡ recorded (extended r o y answer buffer (entries (c .setter) (asked (c .value) (step fileOf o (r .txn))))) (k .setter)
-  unfolding ops recorded
+  unfolding ops recorded Steady
   more-alone o y answer buffer e k l a =
       let now = asked (c .value) (step fileOf o (r .txn)) in
       let reply : Reply = record { answer = answer; buffer = buffer } in
-      let same-values = sightings-agree c (k .value) now (every-right (λ (g : Sighting). k .value (g .item) ≡ g .value) (s .sightings) (sightingsOf c now) a) in
+      let same-values = sightings-agree c (k .value) now
+      (every-right (λ (g : Sighting). k .value (g .item) ≡ g .value) (s .sightings) (sightingsOf c now) a) in
+      let steady = steady-step (c .value) (k .value) l fileOf o (r .txn) same-values in
       ap (λ (os : List Op). lone fileOf k os empty) (map-append (λ (x : Accepted). x .op) (r .calls) (record { op = o; reply = reply } ∷ []))
       ∙ lone-more fileOf k (ops (r .calls)) o empty (r .txn) y answer buffer (map (λ x. x .reply) (r .calls))
       (entries (k .setter) (items (r .seen)))
       (s .alone k l (every-left (λ (g : Sighting). k .value (g .item) ≡ g .value) (s .sightings) (sightingsOf c now) a))
-      (agree-result (c .value) (k .value) l (step fileOf o (r .txn)) same-values ∙ e)
+      (steady .0 ∙ e)
       ∙ ap₂
       (λ (rs : List Reply) (es : List Entry). record { through = true; txn = y; replies = rs; seen = es })
       (sym (map-append (λ (x : Accepted). x .reply) (r .calls) (record { op = o; reply = reply } ∷ [])))
       (ap (λ (is : List Item). entries (k .setter) (items (r .seen)) ++ entries (k .setter) is)
-      (agree-asked (c .value) (k .value) l (step fileOf o (r .txn)) same-values)
+      (steady .1)
       ∙ sym (entries-append (k .setter) (items (r .seen)) now)
       ∙ ap (entries (k .setter)) (sym (items-more (c .setter) (r .seen) now)))
 

@@ -32,7 +32,8 @@ unfolding droppedFrom
 dropped start [] p c n e h = absurd (nothing-found c n (sym h ∙ e))
 dropped start (g ∷ gs) p c n e h = (refl, stays-nothing (butLast (g ∷ gs)) (goneBack c n p) refl)
 
-starts-turn : (p : Plain) (s : Serial) (τ : PlainTurn) (z : Serial) → Turned p s τ z → Stays (s .grants) p → (z .start ≡ s .start) × Stays (z .grants) (τ .after)
+starts-turn : (p : Plain) (s : Serial) (τ : PlainTurn) (z : Serial) → Turned p s τ z → Stays (s .grants) p
+    → (z .start ≡ s .start) × Stays (z .grants) (τ .after)
 unfolding adding
 starts-turn p s τ z (kept reply windows slots) h = (refl, stays-same (s .grants) p (τ .after) refl h)
 starts-turn p s τ z (grants t minute r reply d o e f) h = (refl, stays-more (s .grants) _ (grant t r p))

@@ -1,33 +1,24 @@
 -- Demand 3 between the store without its buffers and the plain machine, for every list of calls from Fresh.
-use mathlib.Core.Bool.{Bool, true, false, cond, not, true≢false, false≢true}
-use mathlib.Core.List.{List, [], map}
-use mathlib.Core.Logic.{_↔_}
-use mathlib.Core.Path.{_≡_, refl, sym, ap, ap₂, _∙_, subst}
-use borrow.Author.Tests.{not-false}
-use lib.Dec.{leb}
-use native.Mathlib.Omega.{arith}
+use mathlib.Core.Bool.{true}
+use mathlib.Core.List.{List}
+use mathlib.Core.Path.{_≡_, refl, sym, ap, _∙_, subst}
 use Prim.Native.Nat.{ℕ}
 use Rattle.windows.specs.Hours.{Windows}
-use Rattle.record.specs.Paper.{Said, plain, pointer, given, granted, refused}
+use Rattle.record.specs.Paper.{refused}
 use Rattle.rules.specs.Items.{Values}
-use Rattle.rules.specs.Transactions.{empty}
-use Rattle.rules.specs.Commits.{fits, commitRefusal}
 use Rattle.rules.specs.Messages.{Op, Call, on, commit}
 use Rattle.rules.specs.Steps.{looks}
 use Rattle.rules.specs.Demand3.{IsAccepted, OneMoment}
-use Rattle.rules.specs.Sightings.{sameEntries}
-use Rattle.rules.specs.Plain.{Running, Slot, running, Plain, Earlier, startPlain, ops, firstList, secondList, isStale, PlainTurn, turnedDown, answering, plainCommitted, plainCommit, numbered, plainCall, plainAfter, plainReplies}
-use Rattle.rules.specs.Lone.{lone}
+use Rattle.rules.specs.Plain.{Running, running, Plain, Earlier, startPlain, plainCall, plainAfter, plainReplies}
 use Rattle.rules.specs.Grants.{serialOf, rerun, sameReplies}
 use Rattle.rules.proofs.Serial.Alone.{serially, AllSame}
 use Rattle.rules.proofs.Serial.Sighted.{startSighted, SightedTurn, sightedCall, sightedAfter, sightedReplies}
 use Rattle.rules.proofs.Serial.Commits.{Tells, commit-tells, daily-commit}
 use Rattle.rules.proofs.Serial.Rerun.{Reran, reran}
-use Rattle.rules.proofs.Serial.Sound.{recorded}
-use Rattle.rules.proofs.Serial.Invariant.{Good, GoodEarlier, good-start, good-after, sound-at, open-number}
+use Rattle.rules.proofs.Serial.Invariant.{Good, GoodEarlier, good-start, good-after, open-number}
 use Rattle.rules.proofs.Serial.FirstHalf.{backOf, abs, abs-start, absTurn, same-call, same-after, same-replies}
 use Rattle.rules.proofs.Serial.Moments.{plain-moment}
-use Rattle.rules.proofs.Serial.SecondHalf.{files-kept, InOrder, in-order-from, alone-recorded}
+use Rattle.rules.proofs.Serial.SecondHalf.{InOrder, in-order-from}
 
 module _ (fileOf : ℕ → ℕ) (v : Values) (ws : Windows) (e : Earlier) (h : GoodEarlier e) (cs : List Call) where
   -- The machine after the list of calls.
@@ -80,7 +71,8 @@ module _ (fileOf : ℕ → ℕ) (v : Values) (ws : Windows) (e : Earlier) (h : G
   reran-again =
       let i = in-serial in
       reran (serialOf cs (startPlain fileOf v ws e) .grants) (serialOf cs (startPlain fileOf v ws e) .start) (i .windows) (i .idle)
-      (subst (λ (f : ℕ → ℕ). AllSame f (serialOf cs (startPlain fileOf v ws e) .start .grants) (serialOf cs (startPlain fileOf v ws e) .grants) (serialOf cs (startPlain fileOf v ws e) .start .committed))
+      (subst (λ (f : ℕ → ℕ). AllSame f (serialOf cs (startPlain fileOf v ws e) .start .grants)
+      (serialOf cs (startPlain fileOf v ws e) .grants) (serialOf cs (startPlain fileOf v ws e) .start .committed))
       (sym (i .files)) (i .same))
 
   pub again-same :
@@ -96,21 +88,7 @@ module _ (fileOf : ℕ → ℕ) (v : Values) (ws : Windows) (e : Earlier) (h : G
       let s = serialOf cs (startPlain fileOf v ws e) in
       reran-again .left ∙ ap (λ (f : ℕ → ℕ). serially f (s .start .grants) (s .grants) (s .start .committed)) (i .files) ∙ i .left
 
-  -- An open transaction that is not stale, run alone on the committed state: it gets through its accepted calls, with the
-  -- recorded replies, and stands and has written as recorded.
-  pub alone-same :
-      (t : ℕ) (r : Running)
-      → reached .slots t ≡ running r
-      → isStale reached r ≡ false
-      → lone (reached .fileOf) (reached .committed) (ops (r .calls)) empty
-      ≡ record { through = true; txn = r .txn; replies = map (λ a. a .reply) (r .calls); seen = r .seen }
-  alone-same t r o e = alone-recorded reached r (sound-at reached reached-good t r o) e
-
   -- What an accepted Read or GetFilePointer gives is what its transaction gives alone at that moment.
-  pub moment-same : (t : ℕ) (o : Op) → looks o ≡ true → IsAccepted (plainCall (on t o) reached .reply) → OneMoment reached t o (plainCall (on t o) reached .reply)
+  pub moment-same : (t : ℕ) (o : Op) → looks o ≡ true → IsAccepted (plainCall (on t o) reached .reply)
+      → OneMoment reached t o (plainCall (on t o) reached .reply)
   moment-same t o = plain-moment reached reached-good t o
-
-  -- Every descriptor's file stays the one that Fresh was given.
-  pub files-same : reached .fileOf ≡ fileOf
-  unfolding startPlain
-  files-same = files-kept cs (startPlain fileOf v ws e)

@@ -2,20 +2,21 @@
 use mathlib.Core.Bool.{Bool, true, false, cond, false≢true}
 use mathlib.Core.List.{List, [], _∷_, _++_, map}
 use mathlib.Core.Logic.{_⊎_, inl, inr}
-use mathlib.Core.Path.{_≡_, refl, sym, ap, ap₂, _∙_, subst⁻¹}
+use mathlib.Core.Path.{_≡_, refl, sym, ap, ap₂, _∙_, subst⁻¹, fun-ext}
 use borrow.Author.Tests.{leb-true, le-leb}
 use lib.Dec.{leb, ltb}
 use lib.ListN.{length, drop}
 use native.Mathlib.Omega.{arith}
-use Prim.Native.Nat.{ℕ, zero, suc, _+_, _*_}
+use Prim.Native.Nat.{ℕ, zero, suc, _+_, _-_, _*_, min, max}
 use Rattle.standings.specs.declared.Standing.{Standing}
 use Rattle.standings.specs.Table.{advance, settled, afterSeek, afterWrite, afterRead, writePlace, offsetOf, pointerSettles, placeNumber}
 use Rattle.record.specs.Paper.{Said, plain, pointer, given}
-use Rattle.rules.specs.Items.{Item, offset, Values, Prog, done, andThen, result, asked}
+use Rattle.rules.specs.Items.{Item, offset, Values, Prog, done, measure, andThen, result, asked}
 use Rattle.rules.specs.Messages.{Op, seek, write, getFilePointer, read}
 use Rattle.rules.specs.Transactions.{Txn, Write, put, placeWrite, settle, dirtied, Settled, past, all, settling}
-use Rattle.rules.specs.Reading.{Source, ownEnd, latest, bring, reaches, gather}
-use Rattle.rules.specs.Steps.{Stepped, refuse, accept, check, orGivenBack, total, written, seekStep, writeStep, pointerStep, settledByRead, readSettled, readStep, step}
+use Rattle.rules.specs.Reading.{Source, bring, fetch, lengthFor, lengthSighted, gather}
+use Rattle.rules.specs.Steps.{Stepped, refuse, accept, check, orGivenBack, total, written, seekStep, writeStep, pointerStep}
+use Rattle.rules.specs.Steps.{settledByRead, readSettled, readStep, step}
 use Rattle.rules.specs.Splitting.{through, Split, SplitTxn}
 use Rattle.rules.proofs.Serial.Programs.{result-andThen, asked-andThen}
 use Rattle.rules.proofs.Splitting.Writes.{latest-split, own-end-split, placed-split, more-split, one-more, total-split}
@@ -50,7 +51,8 @@ module _ (v : Values) where
   asks-none false n p e = refl
 
   -- The test of 10, which the second passes where the first does, before what asks for nothing.
-  checks-ten : (ok more : Bool) (p q : Prog Stepped) → (ok ≡ true → more ≡ true) → asked v q ≡ [] → InStep v p q → InStep v (check ok 10 p) (check more 10 q)
+  checks-ten : (ok more : Bool) (p q : Prog Stepped) → (ok ≡ true → more ≡ true) → asked v q ≡ [] → InStep v p q
+      → InStep v (check ok 10 p) (check more 10 q)
   unfolding check asked result
   checks-ten true true p q m e h = h
   checks-ten true false p q m e h = absurd (false≢true (m refl))
@@ -137,7 +139,8 @@ module _ (v : Values) where
         let then = given-back (result v p) (result v q) (both .1) in
         record {
           sightings =
-              asked-andThen v p (orGivenBack k) ∙ ap₂ (λ (l m : List Item). l ++ m) (both .0) (then .sightings) ∙ sym (asked-andThen v q (orGivenBack k));
+              asked-andThen v p (orGivenBack k) ∙ ap₂ (λ (l m : List Item). l ++ m) (both .0) (then .sightings)
+              ∙ sym (asked-andThen v q (orGivenBack k));
           comes =
               subst⁻¹ (λ (z : Stepped). Beside z (result v (andThen q (orGivenBack k)))) (result-andThen v p (orGivenBack k))
               (subst⁻¹ (λ (z : Stepped). Beside (result v (orGivenBack k (result v p))) z) (result-andThen v q (orGivenBack k)) (then .comes));
@@ -145,23 +148,28 @@ module _ (v : Values) where
 
 -- ---- Read
 
+fetch-split : (fileOf : ℕ → ℕ) (f : ℕ) (xs ys : List Write) → Split xs ys → (n p : ℕ) → fetch fileOf xs f p n ≡ fetch fileOf ys f p n
+unfolding fetch
+fetch-split fileOf f xs ys s zero p = refl
+fetch-split fileOf f xs ys s (suc n) p =
+    ap₂ (λ (source : Source) (rest : Prog (List ℕ)). andThen (bring source (4096 * f + p)) (λ b. andThen rest (λ bs. done (b ∷ bs))))
+    (latest-split fileOf f p xs ys s) (fetch-split fileOf f xs ys s n (suc p))
+
 gather-split : (fileOf : ℕ → ℕ) (f : ℕ) (xs ys : List Write) → Split xs ys → (n p : ℕ) → gather fileOf xs f p n ≡ gather fileOf ys f p n
-unfolding gather
-gather-split fileOf f xs ys s zero p = refl
-gather-split fileOf f xs ys s (suc n) p =
-    let from : ℕ → Source → Prog (List ℕ) → Prog (List ℕ) =
-    λ end source rest.
-    andThen (reaches (ltb p end) f p)
-    (λ there. cond there (andThen (bring source (4096 * f + p)) (λ b. andThen rest (λ bs. done (b ∷ bs)))) (done [])) in
-    ap₂ (λ (end : ℕ) (source : Source). from end source (gather fileOf xs f (suc p) n)) (own-end-split fileOf f xs ys s) (latest-split fileOf f p xs ys s)
-    ∙ ap (from (ownEnd fileOf f ys) (latest fileOf f p ys)) (gather-split fileOf f xs ys s n (suc p))
+unfolding gather lengthFor
+gather-split fileOf f xs ys s n p =
+    let given : (ℕ → Prog (List ℕ)) → ℕ → Prog (List ℕ) =
+    λ fetched end.
+    measure f (λ committed. andThen (fetched (min n (max committed end - p))) (lengthSighted (ltb (min n (max committed end - p)) n) f)) in
+    ap₂ given (fun-ext (λ m. fetch-split fileOf f xs ys s m p)) (own-end-split fileOf f xs ys s)
 
 module _ (v : Values) (fileOf : ℕ → ℕ) (d n : ℕ) (buffer : List ℕ) where
   reads : (f : ℕ → Standing) (g : ℕ → Bool) (xs ys : List Write) → Split xs ys
       → InStep v (readSettled fileOf d n buffer (txn f g xs)) (readSettled fileOf d n buffer (txn f g ys))
   unfolding readSettled
   reads f g xs ys s =
-      subst⁻¹ (λ (p : Prog (List ℕ)). InStep v (andThen p (gives xs)) (andThen bytes (gives ys))) (gather-split fileOf (fileOf d) xs ys s n (offsetOf (f d)))
+      subst⁻¹ (λ (p : Prog (List ℕ)). InStep v (andThen p (gives xs)) (andThen bytes (gives ys)))
+      (gather-split fileOf (fileOf d) xs ys s n (offsetOf (f d)))
       (record {
         sightings =
             asked-andThen v bytes (gives xs)
@@ -194,7 +202,8 @@ step-split fileOf v f g xs ys s (getFilePointer d) =
     unfold pointerStep in
     checks v (leb d 15) 6 _ _
     (settles v (λ y. done (accept y (pointer (offsetOf (y .standing d))) []))
-    (λ f′ g′ xs′ ys′ s′. accepts v f′ g′ xs′ ys′ (pointer (offsetOf (f′ d))) [] s′) (cond (pointerSettles (f d)) (d ∷ []) []) f g xs ys s)
+    (λ f′ g′ xs′ ys′ s′. accepts v f′ g′ xs′ ys′ (pointer (offsetOf (f′ d))) [] s′)
+    (cond (pointerSettles (f d)) (d ∷ []) []) f g xs ys s)
 step-split fileOf v f g xs ys s (read d n buffer) =
     unfold readStep settledByRead in
     checks v (leb d 15) 6 _ _

@@ -23,7 +23,8 @@ use Rattle.rules.specs.Commits.{Setting, setsOffset, offsetSettings, set
 use Rattle.rules.specs.Splitting.{further, through, Split, SplitTxn, Accepts, Moment, AcceptsAll, stop, next, SameStep, SameCommit, SplitsAlike}
 use Rattle.rules.proofs.Serial.Rerun.{put-same, put-twice}
 use Rattle.rules.proofs.View.Kept.{total-append}
-use Rattle.rules.proofs.Splitting.Writes.{adds-up, covered-split, unplaced-split, closed-split, byte-settings-split, length-settings-split, old-split, last-split}
+use Rattle.rules.proofs.Splitting.Writes.{adds-up, covered-split, unplaced-split, closed-split, byte-settings-split}
+use Rattle.rules.proofs.Splitting.Writes.{length-settings-split, old-split, last-split}
 use Rattle.rules.proofs.Splitting.Steps.{txn, Beside, InStep, write-asks, step-split}
 
 -- Two transactions with a split have the same standings and dirty descriptors.
@@ -155,12 +156,14 @@ module _ (fileOf : ℕ → ℕ) where
       record {
         accepted =
             λ x′ r is h.
-            let c : Beside (accept x′ (r .answer) (r .buffer)) (result v (step fileOf o y)) = subst (λ (z : Stepped). Beside z (result v (step fileOf o y))) (h .leads) (both .comes) in
+            let c : Beside (accept x′ (r .answer) (r .buffer)) (result v (step fileOf o y)) = subst
+            (λ (z : Stepped). Beside z (result v (step fileOf o y))) (h .leads) (both .comes) in
             (c .0, record { leads = c .1; sights = sym (both .sightings) ∙ h .sights }, c .2);
         refused = λ n e. subst (λ (z : Stepped). Beside z (result v (step fileOf o y))) e (both .comes);
       }
 
-  same-list : (ns : List Moment) (x y x′ : Txn) → SplitTxn x y → AcceptsAll fileOf x ns x′ → (y′ : Txn) × AcceptsAll fileOf y ns y′ × SplitTxn x′ y′
+  same-list : (ns : List Moment) (x y x′ : Txn) → SplitTxn x y → AcceptsAll fileOf x ns x′
+      → (y′ : Txn) × AcceptsAll fileOf y ns y′ × SplitTxn x′ y′
   same-list ns x y x′ s (stop z) = (y, stop y, s)
   same-list ns x y x′ s (next x₀ x₁ z n ms h rest) =
       let one = same-step (n .value) (n .op) x y s .accepted x₁ (n .reply) (n .sightings) h in
@@ -184,7 +187,8 @@ module _ (fileOf : ℕ → ℕ) where
     unfolding offsetSettings setsOffset
     offsets-same zero = refl
     offsets-same (suc d) =
-        ap (λ (l : List Setting). l ++ cond (g d && isTouched (f d)) (record { item = offset d; to = finalOffset (v (offset d)) (f d) } ∷ []) []) (offsets-same d)
+        ap (λ (l : List Setting). l
+        ++ cond (g d && isTouched (f d)) (record { item = offset d; to = finalOffset (v (offset d)) (f d) } ∷ []) []) (offsets-same d)
 
     settings-same : settings fileOf v (txn f g xs) ≡ settings fileOf v (txn f g ys)
     unfolding settings

@@ -26,7 +26,7 @@ use Rattle.rules.specs.Reading.{Source, own, file, over, byteAt, supplie
 use Rattle.rules.specs.Steps.{total}
 use Rattle.rules.specs.Coverage.{someWrite, coversPlace, covered, noPlace, unplacedOn, unplaced}
 use Rattle.rules.specs.Windows.{isForClosed, forClosed}
-use Rattle.rules.specs.Commits.{Setting, landsAt, stretch, byteSettings, landedEnd, lengthSettings}
+use Rattle.rules.specs.Commits.{Setting, landsAt, bytesFrom, byteSettings, landedEnd, lengthSettings}
 use Rattle.rules.specs.Undo.{landingOf, landingsOf}
 use Rattle.rules.specs.Splitting.{further, AddsUp, through, Split, here, there}
 
@@ -88,7 +88,8 @@ module _ (fileOf : ℕ → ℕ) (f p : ℕ) where
   supplies-joined d q a b = of-file (eqb (fileOf d) f) q
     where
       at-place : (q : Place)
-          → orElse (cond (over (further (length a) q) (length b) p) (own (byteAt (further (length a) q) b p)) file) (cond (over q (length a) p) (own (byteAt q a p)) file)
+          → orElse (cond (over (further (length a) q) (length b) p) (own (byteAt (further (length a) q) b p)) file)
+          (cond (over q (length a) p) (own (byteAt q a p)) file)
           ≡ cond (over q (length (a ++ b)) p) (own (byteAt q (a ++ b) p)) file
       at-place (At q) = unfold further in bytes-joined q a b p (le-or-lt q p) (le-or-lt (q + length a) p) (le-or-lt (q + length a + length b) p)
       at-place (After n) = unfold orElse over further in refl
@@ -133,7 +134,8 @@ module _ (fileOf : ℕ → ℕ) (f : ℕ) where
 
       either : (x : Source) (w : Write) → (isOwn x || coversPlace fileOf f p w) ≡ isOwn (orElse x (supplies fileOf f p w))
       either (own n) w = unfold isOwn orElse in refl
-      either file w = unfold isOwn orElse coversPlace supplies in chosen (eqb (fileOf (w .descriptor)) f && over (w .place) (length (w .bytes)) p) (byteAt (w .place) (w .bytes) p)
+      either file w = unfold isOwn orElse coversPlace supplies in chosen
+          (eqb (fileOf (w .descriptor)) f && over (w .place) (length (w .bytes)) p) (byteAt (w .place) (w .bytes) p)
 
   pub covered-split : (p : ℕ) (xs ys : List Write) → Split xs ys → covered fileOf f xs p ≡ covered fileOf f ys p
   covered-split p xs ys s = covered-own p xs ∙ ap isOwn (latest-split fileOf f p xs ys s) ∙ sym (covered-own p ys)
@@ -215,13 +217,13 @@ unfolding landsAt further
 lands-further c n (At p) = refl
 lands-further c n (After a) = sym (adding c a n)
 
-stretch-append : (q : ℕ) (a b : List ℕ) → stretch q (a ++ b) ≡ stretch q a ++ stretch (q + length a) b
-unfolding stretch
-stretch-append q [] b = let e : q ≡ q + 0 = omega arith in ap (λ (k : ℕ). stretch k b) e
+stretch-append : (q : ℕ) (a b : List ℕ) → bytesFrom q (a ++ b) ≡ bytesFrom q a ++ bytesFrom (q + length a) b
+unfolding bytesFrom
+stretch-append q [] b = let e : q ≡ q + 0 = omega arith in ap (λ (k : ℕ). bytesFrom k b) e
 stretch-append q (x ∷ a) b =
     let e : suc q + length a ≡ q + suc (length a) = omega arith in
     ap (λ (l : List Setting). record { item = byte q; to = x } ∷ l)
-    (stretch-append (suc q) a b ∙ ap (λ (k : ℕ). stretch (suc q) a ++ stretch k b) e)
+    (stretch-append (suc q) a b ∙ ap (λ (k : ℕ). bytesFrom (suc q) a ++ bytesFrom k b) e)
 
 old-after : (w : Landing) (ws vs : List Landing) (files : List ℕ) → let next = pasted files (w .at) (w .bytes) in
     oldBytes ws next ≡ oldBytes vs next → oldBytes (w ∷ ws) files ≡ oldBytes (w ∷ vs) files
@@ -239,11 +241,11 @@ module _ (fileOf : ℕ → ℕ) (v : Values) where
   unfolding byteSettings
   byte-settings-split xs ys (here d q a b ws) =
       let p = 4096 * fileOf d + landsAt (v (offset d)) q in
-      ap (λ (k : ℕ). stretch p a ++ (stretch k b ++ byteSettings fileOf v ws)) (lands-behind d q (length a))
-      ∙ sym (append-assoc (stretch p a) (stretch (p + length a) b) (byteSettings fileOf v ws))
+      ap (λ (k : ℕ). bytesFrom p a ++ (bytesFrom k b ++ byteSettings fileOf v ws)) (lands-behind d q (length a))
+      ∙ sym (append-assoc (bytesFrom p a) (bytesFrom (p + length a) b) (byteSettings fileOf v ws))
       ∙ ap (λ (l : List Setting). l ++ byteSettings fileOf v ws) (sym (stretch-append p a b))
   byte-settings-split xs ys (there w ws vs s) =
-      ap (λ (l : List Setting). stretch (4096 * fileOf (w .descriptor) + landsAt (v (offset (w .descriptor))) (w .place)) (w .bytes) ++ l)
+      ap (λ (l : List Setting). bytesFrom (4096 * fileOf (w .descriptor) + landsAt (v (offset (w .descriptor))) (w .place)) (w .bytes) ++ l)
       (byte-settings-split ws vs s)
 
   -- They land on the same bytes.

@@ -20,7 +20,8 @@ use Rattle.rules.specs.Items.{Item, byte, offset, fileLength, Values, re
 use Rattle.rules.specs.Transactions.{Txn, put}
 use Rattle.rules.specs.Messages.{Op}
 use Rattle.rules.specs.Steps.{accept, step}
-use Rattle.rules.specs.Machine.{Machine, withStore, withJournal, withLogs, withMarking, fileOf, values, txnOf, withTxn, journalled, holding, sightingLengths}
+use Rattle.rules.specs.Machine.{Machine, withStore, withJournal, withLogs, withMarking, fileOf, values, txnOf, withTxn, journalled}
+use Rattle.rules.specs.Machine.{holding, sightingLengths}
 use Rattle.record.specs.State.{withTransaction}
 use Rattle.rules.specs.Calls.{marked, logged}
 use Rattle.rules.proofs.Serial.Sighted.{Held, vacant, held, markAll, lengthAll, withSeat}
@@ -44,7 +45,8 @@ file-in s journal size r d = ⊎-elim beyond (r .files d) (le-or-lt 16 d)
     beyond l = rw (List·getD-eq-default (s .filenumbers) 0 {n = d} (omega arith)) (omega arith)
 
 -- "lengths, at most 4,096", of every number.
-pub length-in : (s : Store) (journal files : List ℕ) → length (s .lengths) ≡ 8 → InRange s journal → (f : ℕ) → values s files (fileLength f) ≤ 4096
+pub length-in : (s : Store) (journal files : List ℕ) → length (s .lengths) ≡ 8 → InRange s journal → (f : ℕ)
+    → values s files (fileLength f) ≤ 4096
 unfolding values
 length-in s journal files size r f = ⊎-elim beyond (r .lengths f) (le-or-lt 8 f)
   where
@@ -141,7 +143,8 @@ module _ (m : Machine) (t : ℕ) (o : Op) (sound : Sound m) (small : t < 8) (beg
         let h = own-transaction (m .store) (m .journal) t y (sightings m t o) (sound .shaped) (sound .journal) small (kept .ranges) in
         λ i.
         record {
-          txn = encoded (m .store) (m .journal) t y (sightings m t o) (sound .shaped) (sound .journal) small (kept .ranges) (logged t o (m .store) (m .logs)) carries i;
+          txn = encoded (m .store) (m .journal) t y (sightings m t o) (sound .shaped) (sound .journal) small (kept .ranges)
+              (logged t o (m .store) (m .logs)) carries i;
           marked = marked-own t (sightings m t o) (m .marks) small (sound .marks) sightings-in i;
           lengths =
               (ap (λ (z : Transaction). contains (z .lengthmarks)) h ∙ lengths-own (sightings m t o) (transaction (m .store) t .lengthmarks)) i;
@@ -159,7 +162,8 @@ module _ (m : Machine) (t : ℕ) (o : Op) (sound : Sound m) (small : t < 8) (beg
     other-seat : (u : ℕ) → (u ≡ t → ⊥) → seat after u ≡ seat m u
     unfolding seat machineAfter heldBy withTxn withTransaction
     other-seat u other =
-        ap (λ (z : Transaction). cond (leb u 7 && z .begun) (held (heldBy after u)) vacant) (getD-set-other (m .store .transactions) t u (holding y (sightingLengths (sightings m t o) (transaction (m .store) t))) noTransaction other)
+        ap (λ (z : Transaction). cond (leb u 7 && z .begun) (held (heldBy after u)) vacant)
+        (getD-set-other (m .store .transactions) t u (holding y (sightingLengths (sightings m t o) (transaction (m .store) t))) noTransaction other)
         ∙ seat-same (leb u 7 && transaction (m .store) u .begun) (heldBy after u) (heldBy m u)
         (λ q.
         let l = leb-true u 7 (and-left (leb u 7) (transaction (m .store) u .begun) q) in
@@ -168,7 +172,8 @@ module _ (m : Machine) (t : ℕ) (o : Op) (sound : Sound m) (small : t < 8) (beg
         λ i.
         record {
           txn =
-              txn-same (withTxn t y (sightings m t o) (m .store)) (journalled t (y .writes) (m .journal)) (m .store) (m .journal) u same t (logged t o (m .store) (m .logs)) (m .logs) apart (sound .logs) other (omega arith) r i;
+              txn-same (withTxn t y (sightings m t o) (m .store)) (journalled t (y .writes) (m .journal)) (m .store) (m .journal) u same t
+              (logged t o (m .store) (m .logs)) (m .logs) apart (sound .logs) other (omega arith) r i;
           marked = λ p. marked-other t u (sightings m t o) (m .marks) small (sound .marks) sightings-in other p i;
           lengths = contains (same .transaction i .lengthmarks);
           stale = same .transaction i .stale;
@@ -193,7 +198,8 @@ module _ (m : Machine) (t : ℕ) (o : Op) (sound : Sound m) (small : t < 8) (beg
     pub view-after : view after ≡ withSeat t (held new) (view m)
     unfolding view withSeat machineAfter fileOf withTxn withTransaction
     view-after =
-        let b = back-same m after (grant-same (m .store) (m .journal) t y (sightings m t o) (sound .shaped) (sound .journal) small (kept .ranges) range) refl refl refl refl in
+        let b = back-same m after
+        (grant-same (m .store) (m .journal) t y (sightings m t o) (sound .shaped) (sound .journal) small (kept .ranges) range) refl refl refl refl in
         λ i.
         record {
           fileOf = fileOf (m .store);

@@ -18,7 +18,7 @@ use Rattle.rules.proofs.View.Shape.{TxnIn}
 use Rattle.rules.proofs.View.Marks.{ItemsIn}
 use Rattle.rules.proofs.View.Chosen.{DescriptorsIn, one-in, those-in}
 use Rattle.rules.proofs.View.Ends.{length-for}
-use Rattle.rules.proofs.View.Kept.{pieces, Kept, settling-kept}
+use Rattle.rules.proofs.View.Kept.{pieces, settling-kept}
 
 items-append : (is js : List Item) → ItemsIn is → ItemsIn js → ItemsIn (is ++ js)
 items-append [] js h g = g
@@ -83,8 +83,8 @@ module _ (v : Values) (bounded : (f : ℕ) → v (fileLength f) ≤ 4096) where
     asks-gather : (y : Txn) (f p n : ℕ) → f ≤ 7 → TxnIn y → AsksIn (gather fileOf (y .writes) f p n)
     unfolding AsksIn
     asks-gather y f p n hf h =
-        let m = min n (lengthFor fileOf f (y .writes) v - p) in
-        let l = length-for fileOf f y v (bounded f) h in
+        let m = min n (lengthFor fileOf f (y .writes) (v (fileLength f)) - p) in
+        let l = length-for fileOf f y (v (fileLength f)) (bounded f) h in
         rw (read-stops fileOf (y .writes) f p n v .sightings)
         (items-append (asked v (fetch fileOf (y .writes) f p m)) _ (asks-fetch (y .writes) f p m hf (omega arith)) (pick (ltb m n)))
       where

@@ -53,7 +53,8 @@ module _ (m n : Machine) (same : SameGrant (m .store .undo) (n .journal) (m .jou
   unfolding landedOn spanOfRecord fileOf
   landed-same h =
       rw (u, numbers)
-      (tabulate-same {A = Span} (λ k. spanOfRecord (m .store) (writeRecordAt (n .journal) grantStretch k)) (λ k. spanOfRecord (m .store) (writeRecordAt (m .journal) grantStretch k)) (m .store .undo .used .records)
+      (tabulate-same {A = Span} (λ k. spanOfRecord (m .store) (writeRecordAt (n .journal) grantStretch k))
+      (λ k. spanOfRecord (m .store) (writeRecordAt (m .journal) grantStretch k)) (m .store .undo .used .records)
       (λ k l. ap (spanOfRecord (m .store)) (same h k l)))
 
   values-same : m .store .undo .held ≡ true → (i : Item) → backValues n i ≡ backValues m i

@@ -17,8 +17,9 @@ use Rattle.undo.proofs.OldBytesLaws.{length-back}
 use Rattle.rules.specs.Messages.{takeBack}
 use Rattle.rules.specs.Machine.{Machine, fileOf, values, txnOf}
 use Rattle.rules.specs.Undo.{spanOfRecord, landedOn, takenBack}
-use Rattle.rules.specs.Calls.{answer, turnDown, passing, takeBackTurn, call}
-use Rattle.rules.proofs.Serial.Sighted.{Seat, vacant, held, none, kept, isHeld, noneHeld, returned, turnedAway, telling, sightedReturn, sightedBack, sightedCall}
+use Rattle.rules.specs.Calls.{answerWith, turnDown, passing, takeBackTurn, call}
+use Rattle.rules.proofs.Serial.Sighted.{Seat, vacant, held, none, kept, isHeld, noneHeld, returned, turnedAway, telling}
+use Rattle.rules.proofs.Serial.Sighted.{sightedReturn, sightedBack, sightedCall}
 use Rattle.rules.proofs.View.Shape.{heldBy, seat, backValues, backIn, view, Sound}
 use Rattle.rules.proofs.View.Back.{back-values}
 use Rattle.rules.proofs.View.Admissions.{Agrees, first-is}
@@ -107,7 +108,7 @@ module _ (m : Machine) (sound : Sound m) where
   takes : (b c : Bool) → m .store .undo .held ≡ c
       → Agrees (passing (unless b 23 (unless c 24 0)) [] m (takeBackTurn m))
       (guarded (λ k. turnedAway k [] (view m)) b 23 (sightedReturn (cond c (kept (backValues m)) none) (view m)))
-  unfolding unless passing turnDown turnedAway sightedReturn telling takeBackTurn answer
+  unfolding unless passing turnDown turnedAway sightedReturn telling takeBackTurn answerWith
   takes false c e = (refl, refl, sound)
   takes true false e = (refl, refl, sound)
   takes true true e = (refl, back-view, back-sound e)

@@ -1,7 +1,7 @@
 -- Who has sighted what a commit sets: the flags and the octet of a granted Commit.
 use mathlib.Core.Bool.{Bool, true, false, cond, not, _&&_, _||_}
 use mathlib.Core.List.{List, [], _∷_}
-use mathlib.Core.Path.{_≡_, refl, ap, ap₂}
+use mathlib.Core.Path.{_≡_, refl, ap₂}
 use lib.Dec.{eqb}
 use Prim.Native.Nat.{ℕ, _<_}
 use native.Mathlib.Omega.{arith}
@@ -13,7 +13,7 @@ use Rattle.rules.specs.Items.{Item, byte, offset, fileLength}
 use Rattle.rules.specs.Transactions.{put}
 use Rattle.rules.specs.Commits.{Setting}
 use Rattle.rules.specs.Machine.{Machine, txnOf}
-use Rattle.rules.specs.Calls.{hasSighted, conflicts, becomesStale}
+use Rattle.rules.specs.Calls.{hasSighted, conflicts, madeStale}
 use Rattle.rules.proofs.Serial.Sighted.{vacant, held, sighted, hit, newlyStale}
 use Rattle.rules.proofs.View.Shape.{heldBy, seat}
 
@@ -30,14 +30,27 @@ module _ (m : Machine) (u : ℕ) where
   conflicts-hit (x ∷ ss) = ap₂ _||_ (sighted-same (x .item)) (conflicts-hit ss)
 
 module _ (m : Machine) (t : ℕ) (ss : List Setting) where
-  pub becomes-stale : (u : ℕ) → u < 8 → becomesStale t (m .marks) ss (m .store) u ≡ newlyStale ss (put t vacant (seat m) u)
-  unfolding becomesStale newlyStale put seat heldBy
-  becomes-stale u l = rw (le-leb u 7 (omega arith), conflicts-hit m u ss) (pick (eqb u t) (transaction (m .store) u .begun))
+  pub made-stale : (u : ℕ) → u < 8 → madeStale t ss m u ≡ newlyStale ss (put t vacant (seat m) u)
+  unfolding madeStale newlyStale put seat heldBy
+  made-stale u l = rw (le-leb u 7 (omega arith), conflicts-hit m u ss) (pick (eqb u t) (transaction (m .store) u .begun))
     where
-      pick : (b c : Bool) → (not b && c && not (transaction (m .store) u .stale) && hit ss (heldBy m u)) ≡ newlyStale ss (cond b vacant (cond c (held (heldBy m u)) vacant))
+      pick : (b c : Bool) → (not b && c && not (transaction (m .store) u .stale) && hit ss (heldBy m u))
+          ≡ newlyStale ss (cond b vacant (cond c (held (heldBy m u)) vacant))
       pick true c = refl
       pick false true = refl
       pick false false = refl
 
-  pub octet-same : bitsOf (becomesStale t (m .marks) ss (m .store)) 8 ≡ bitsOf (λ u. newlyStale ss (put t vacant (seat m) u)) 8
-  octet-same = bits-same (becomesStale t (m .marks) ss (m .store)) (λ u. newlyStale ss (put t vacant (seat m) u)) 8 becomes-stale
+  pub octet-same : bitsOf (madeStale t ss m) 8 ≡ bitsOf (λ u. newlyStale ss (put t vacant (seat m) u)) 8
+  octet-same = bits-same (madeStale t ss m) (λ u. newlyStale ss (put t vacant (seat m) u)) 8 made-stale
+
+  -- The flag of another transaction after the commit: it was stale, or is open and has sighted what is set.
+  pub stale-after : (u : ℕ) → eqb u t ≡ false → let x = transaction (m .store) u in
+      x .stale || madeStale t ss m u ≡ x .stale || (x .begun && conflicts (m .marks) u x ss)
+  unfolding madeStale
+  stale-after u e =
+      let x = transaction (m .store) u in rw e (pick (x .stale) (x .begun))
+    where
+      pick : (z b : Bool) → let c = conflicts (m .marks) u (transaction (m .store) u) ss in z || (b && not z && c) ≡ z || (b && c)
+      pick true b = refl
+      pick false true = refl
+      pick false false = refl

@@ -40,7 +40,8 @@ total-pieces [] = refl
 total-pieces (w ∷ ws) =
     ap (λ (n : ℕ). length (w .bytes) + n) (total-pieces ws) ∙ sym (sum-first (λ j. length (getD (pieces (w ∷ ws)) j [])) (length (pieces ws)))
 
-module _ (s : Store) (journal logs : List ℕ) (t : ℕ) (size : length logs ≡ 32768) (small : t < 8) (r : TransactionInRange (transaction s t) journal t) where
+module _ (s : Store) (journal logs : List ℕ) (t : ℕ) (size : length logs ≡ 32768) (small : t < 8)
+    (r : TransactionInRange (transaction s t) journal t) where
   -- The length of write record k, and how many there are.
   abbrev pub len : ℕ → ℕ
   len k = writeRecordAt journal t k .length
@@ -52,30 +53,30 @@ module _ (s : Store) (journal logs : List ℕ) (t : ℕ) (size : length logs ≡
   unfolding lengthsBefore sum
   data-fits k h = omega (arith, sum-le len (suc k) count h, r .total, r .bytes)
 
-  length-bytes : (k : ℕ) → k < count → length (writeAt journal logs t k .bytes) ≡ len k
+  pub decoded-length : (k : ℕ) → k < count → length (writeAt journal logs t k .bytes) ≡ len k
   unfolding writeAt dataStart
-  length-bytes k h = length-cut logs (4096 * t + lengthsBefore journal t k) (len k) (omega (arith, data-fits k h))
+  decoded-length k h = length-cut logs (4096 * t + lengthsBefore journal t k) (len k) (omega (arith, data-fits k h))
 
-  written-at : (k : ℕ) → k < count → getD (txnOf s journal logs t .writes) k noWrite ≡ writeAt journal logs t k
+  pub decoded-at : (k : ℕ) → k < count → getD (txnOf s journal logs t .writes) k noWrite ≡ writeAt journal logs t k
   unfolding txnOf
-  written-at k h = getD-tabulate (writeAt journal logs t) count k noWrite h
+  decoded-at k h = getD-tabulate (writeAt journal logs t) count k noWrite h
 
   piece-at : (k : ℕ) → k < count → getD (pieces (txnOf s journal logs t .writes)) k [] ≡ writeAt journal logs t k .bytes
   piece-at k h =
-      List·getD-map (λ (w : Write). w .bytes) (txnOf s journal logs t .writes) k noWrite ∙ ap (λ (w : Write). w .bytes) (written-at k h)
+      List·getD-map (λ (w : Write). w .bytes) (txnOf s journal logs t .writes) k noWrite ∙ ap (λ (w : Write). w .bytes) (decoded-at k h)
 
   data-before : (k : ℕ) → k ≤ count → dataBefore (pieces (txnOf s journal logs t .writes)) k ≡ lengthsBefore journal t k
   unfolding lengthsBefore
   data-before k h =
       sum-same (λ j. length (getD (pieces (txnOf s journal logs t .writes)) j [])) len k
-      (λ j g. ap length (piece-at j (omega arith)) ∙ length-bytes j (omega arith))
+      (λ j g. ap length (piece-at j (omega arith)) ∙ decoded-length j (omega arith))
 
-  length-writes : length (txnOf s journal logs t .writes) ≡ count
+  pub decoded-count : length (txnOf s journal logs t .writes) ≡ count
   unfolding txnOf
-  length-writes = length-tabulate (writeAt journal logs t) count
+  decoded-count = length-tabulate (writeAt journal logs t) count
 
   length-pieces : length (pieces (txnOf s journal logs t .writes)) ≡ count
-  length-pieces = length-map (txnOf s journal logs t .writes) (λ w. w .bytes) ∙ length-writes
+  length-pieces = length-map (txnOf s journal logs t .writes) (λ w. w .bytes) ∙ decoded-count
 
   -- "their lengths adding to the data used"
   pub decoded-total : total (txnOf s journal logs t .writes) ≡ transaction s t .used .bytes
@@ -89,7 +90,7 @@ module _ (s : Store) (journal logs : List ℕ) (t : ℕ) (size : length logs ≡
   unfolding writeAt dataStart
   decoded-carries k h =
       let g : k < count = rw length-pieces at h in
-      rw (piece-at k g, length-bytes k g, data-before k (omega arith)) refl
+      rw (piece-at k g, decoded-length k g, data-before k (omega arith)) refl
 
   write-in : (k : ℕ) → k < count → WriteIn (txnOf s journal logs t) (writeAt journal logs t k)
   unfolding writeAt txnOf recordIn
@@ -99,7 +100,7 @@ module _ (s : Store) (journal logs : List ℕ) (t : ℕ) (size : length logs ≡
       let low = leb-true e 15 (and-left _ (placeIn (standingAt (transaction s t) e) (w .place) (w .length)) (r .writes k h)) in
       record {
         descriptor = omega arith;
-        place = rw (length-bytes k h) (and-right (leb e 15) _ (r .writes k h));
+        place = rw (decoded-length k h) (and-right (leb e 15) _ (r .writes k h));
       }
 
   untouched : length (transaction s t .descriptors) ≡ 16 → (d : ℕ) → 16 ≤ d → txnOf s journal logs t .standing d ≡ Untouched
@@ -117,9 +118,9 @@ module _ (s : Store) (journal logs : List ℕ) (t : ℕ) (size : length logs ≡
         standings = λ d. ⊎-elim (λ h. rw (untouched sixteen d h)) (known d) (le-or-lt 16 d);
         above = untouched sixteen;
         clean = clean sixteen;
-        records = rw length-writes (r .records);
+        records = rw decoded-count (r .records);
         bytes = rw decoded-total (r .bytes);
-        writes = λ k h. let g : k < count = rw length-writes at h in rw (written-at k g) (write-in k g);
+        writes = λ k h. let g : k < count = rw decoded-count at h in rw (decoded-at k g) (write-in k g);
       }
     where
       known : (d : ℕ) → d < 16 → standingIn (txnOf s journal logs t .standing d) ≡ true

@@ -1,13 +1,12 @@
 -- The record after transaction t has become y: it means y there, and what it meant everywhere else; it stays in range.
 use mathlib.Core.Bool.{true}
-use mathlib.Core.List.{List, [], map}
+use mathlib.Core.List.{List, []}
 use mathlib.Core.Logic.{⊎-elim}
 use mathlib.Core.Path.{_≡_, sym, ap, ap₂, _∙_, fun-ext}
 use borrow.Author.Tests.{le-leb}
 use lib.Dec.{leb}
 use lib.ListN.{length, getD, length-map, length-set, List·getD-map, List·getD-eq-default}
 use lib.Seq.{getD-set-same, getD-set-other}
-use native.Mathlib.Nat.{eq-or-lt-of-le}
 use native.Mathlib.Omega.{arith}
 use Prim.Native.Nat.{ℕ, _+_, _*_, _≤_, _<_}
 use Rattle.octets.specs.Parts.{cut, tabulate}
@@ -20,7 +19,6 @@ use Rattle.record.specs.declared.journal.WriteRecord.{WriteRecord}
 use Rattle.record.specs.State.{transaction, standingAt, dirtyAt, noDescriptor, noTransaction}
 use Rattle.record.specs.Journal.{grantStretch, writeRecordAt}
 use Rattle.record.proofs.JournalLaws.{length-with, read-own, read-elsewhere}
-use Rattle.ranges.specs.Below.{sum}
 use Rattle.ranges.specs.Ranges.{standingIn, recordIn, lengthsBefore, storeIn}
 use Rattle.ranges.proofs.Laws.{and-both, sum-same, TransactionInRange, InRange, in-range, in-range-intro}
 use Rattle.rules.specs.Items.{Item}
@@ -29,13 +27,14 @@ use Rattle.rules.specs.Steps.{total}
 use Rattle.rules.specs.Machine.{dataStart, writeAt, recordOf, txnOf, noWrite, journalled, holding, sightingLengths, withTxn}
 use Rattle.record.specs.State.{withTransaction}
 use Rattle.rules.proofs.View.Shape.{Shaped, TxnIn}
-use Rattle.rules.proofs.View.Tables.{same-or-not, tabulate-same, tabulate-getD, getD-map}
+use Rattle.rules.proofs.View.Tables.{same-or-not, tabulate-same, tabulate-getD}
 use Rattle.rules.proofs.View.Kept.{pieces}
 use Rattle.rules.proofs.View.Decode.{dataBefore, Carries, total-pieces}
 use Rattle.rules.proofs.View.Back.{SameGrant, undo-same}
 use Rattle.rules.proofs.View.Others.{SameAt, range-same}
 
-module _ (s : Store) (journal : List ℕ) (t : ℕ) (y : Txn) (is : List Item) (shaped : Shaped s) (long : length journal ≡ 1728) (small : t < 8) (h : TxnIn y) where
+module _ (s : Store) (journal : List ℕ) (t : ℕ) (y : Txn) (is : List Item) (shaped : Shaped s) (long : length journal ≡ 1728)
+    (small : t < 8) (h : TxnIn y) where
   abbrev after-journal : List ℕ
   after-journal = journalled t (y .writes) journal
 
@@ -161,7 +160,8 @@ module _ (s : Store) (journal : List ℕ) (t : ℕ) (y : Txn) (is : List Item) (
   other-same u m other =
       record {
         transaction = getD-set-other (s .transactions) t u (holding y (sightingLengths is (transaction s t))) noTransaction other;
-        records = λ k l. read-elsewhere journal t (λ j. recordOf (getD (y .writes) j noWrite)) long (omega arith) (length (y .writes)) u k (h .records) (omega arith) l other;
+        records = λ k l. read-elsewhere journal t (λ j. recordOf (getD (y .writes) j noWrite)) long (omega arith) (length (y .writes)) u k
+            (h .records) (omega arith) l other;
       }
 
   pub grant-same : InRange s journal → SameGrant (s .undo) after-journal journal
@@ -180,11 +180,13 @@ module _ (s : Store) (journal : List ℕ) (t : ℕ) (y : Txn) (is : List Item) (
         offsets = unfold withTxn withTransaction in in-range s journal e .offsets;
         lengths = unfold withTxn withTransaction in in-range s journal e .lengths;
         windows = unfold withTxn withTransaction in in-range s journal e .windows;
-        undo = unfold withTxn withTransaction in (λ b. undo-same (s .undo) after-journal journal (grant-same (in-range s journal e)) b (in-range s journal e .undo b));
+        undo = unfold withTxn withTransaction
+            in (λ b. undo-same (s .undo) after-journal journal (grant-same (in-range s journal e)) b (in-range s journal e .undo b));
         transactions = λ u l b. ⊎-elim (λ same. rw same own-range) (elsewhere u l b) (same-or-not u t);
       })
     where
-      elsewhere : (u : ℕ) → u < 8 → transaction (withTxn t y is s) u .begun ≡ true → (u ≡ t → ⊥) → TransactionInRange (transaction (withTxn t y is s) u) after-journal u
+      elsewhere : (u : ℕ) → u < 8 → transaction (withTxn t y is s) u .begun ≡ true → (u ≡ t → ⊥)
+          → TransactionInRange (transaction (withTxn t y is s) u) after-journal u
       elsewhere u l b ne =
           let same = other-same u l ne in
           range-same (withTxn t y is s) after-journal s journal u same

@@ -14,8 +14,9 @@ use Rattle.rules.specs.Commits.{fits, commitRefusal}
 use Rattle.rules.specs.Windows.{forClosed}
 use Rattle.rules.specs.Messages.{begin, commit, abort, places}
 use Rattle.rules.specs.Machine.{Machine, fileOf, values, txnOf}
-use Rattle.rules.specs.Calls.{answer, turnDown, passing, beginTurn, abortTurn, commitDecided, settingsOf, commitTurn, call, placesTurn}
-use Rattle.rules.proofs.Serial.Sighted.{vacant, held, turnedAway, telling, sightedBegin, sightedCommitted, sightedCommit, sightedAbort, seated, sightedCall, sightedPlaces}
+use Rattle.rules.specs.Calls.{answerWith, turnDown, passing, beginTurn, abortTurn, commitDecided, settingsOf, commitTurn, call, placesTurn}
+use Rattle.rules.proofs.Serial.Sighted.{vacant, held, turnedAway, telling, sightedBegin, sightedCommitted, sightedCommit}
+use Rattle.rules.proofs.Serial.Sighted.{sightedAbort, seated, sightedCall, sightedPlaces}
 use Rattle.rules.proofs.View.Shape.{heldBy, seat, view, Sound}
 use Rattle.rules.proofs.View.Decode.{decoded-in}
 use Rattle.rules.proofs.View.Admissions.{Agrees, shared-is, admitted-agrees}
@@ -28,7 +29,7 @@ module _ (m : Machine) (t : ℕ) (sound : Sound m) where
   begins : (b c : Bool) → leb t 7 ≡ b
       → Agrees (passing (unless b 3 (unless (not c) 5 0)) [] m (beginTurn t m))
       (cond b (sightedBegin t (cond (b && c) (held (heldBy m t)) vacant) (view m)) (turnedAway 3 [] (view m)))
-  unfolding unless passing turnDown turnedAway sightedBegin beginTurn answer telling begun ended
+  unfolding unless passing turnDown turnedAway sightedBegin beginTurn answerWith telling begun ended
   begins false c e = (refl, refl, sound)
   begins true true e = (refl, refl, sound)
   begins true false e =
@@ -43,7 +44,7 @@ module _ (m : Machine) (t : ℕ) (sound : Sound m) where
       (begins (leb t 7) (transaction (m .store) t .begun) refl)
 
   abort-next : t < 8 → Agrees (abortTurn t m) (sightedAbort t (held (heldBy m t)) (view m))
-  unfolding abortTurn answer sightedAbort telling ended
+  unfolding abortTurn answerWith sightedAbort telling ended
   abort-next l = (refl, reset-view t ended m l ended-bare sound, reset-sound t ended m l ended-bare sound)
 
   pub abort-turn : Agrees (call (abort t) m) (sightedCall (abort t) (view m))
@@ -58,8 +59,10 @@ module _ (m : Machine) (t : ℕ) (sound : Sound m) where
       listed = unfold placesTurn sightedPlaces heldBy view in (refl, refl, sound)
 
   -- 22, 13, 21, 12, or granted.
-  decides : t < 8 → TxnIn (txnOf (m .store) (m .journal) (m .logs) t) → (daily p shut q : Bool) → fits (values (m .store) (m .files)) (txnOf (m .store) (m .journal) (m .logs) t) ≡ q
-      → Agrees (commitDecided t (txnOf (m .store) (m .journal) (m .logs) t) (settingsOf m t) m (commitRefusal daily p shut q)) (sightedCommitted t (heldBy m t) (view m) (commitRefusal daily p shut q))
+  decides : t < 8 → TxnIn (txnOf (m .store) (m .journal) (m .logs) t) → (daily p shut q : Bool)
+      → fits (values (m .store) (m .files)) (txnOf (m .store) (m .journal) (m .logs) t) ≡ q
+      → Agrees (commitDecided t (txnOf (m .store) (m .journal) (m .logs) t) (settingsOf m t) m (commitRefusal daily p shut q))
+      (sightedCommitted t (heldBy m t) (view m) (commitRefusal daily p shut q))
   unfolding commitRefusal commitDecided sightedCommitted heldBy view ended
   decides l h false p shut q e = (refl, refl, sound)
   decides l h true true shut q e = (refl, reset-view t ended m l ended-bare sound, reset-sound t ended m l ended-bare sound)

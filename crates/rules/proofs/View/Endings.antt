@@ -64,7 +64,8 @@ module _ (t : ℕ) (offsets lengths : List ℕ) (ts : List Transaction) (files :
         logs = sound .logs;
         marks = length-without-marks t (m .marks) ∙ sound .marks;
         undo = sound .undo;
-        inRange = in-range-intro (renewed offsets lengths ts (m .store)) (m .journal) (renewed-in offsets lengths ts (m .store) (m .journal) carried h k (in-range (m .store) (m .journal) (sound .inRange)));
+        inRange = in-range-intro (renewed offsets lengths ts (m .store)) (m .journal)
+            (renewed-in offsets lengths ts (m .store) (m .journal) carried h k (in-range (m .store) (m .journal) (sound .inRange)));
       }
 
   -- Another transaction that is alike keeps what it holds.

@@ -6,16 +6,15 @@ use borrow.Author.Tests.{leb-true}
 use lib.Dec.{eqb}
 use lib.ListN.{length, getD}
 use native.Mathlib.Omega.{arith}
-use Prim.Native.Nat.{ℕ, zero, suc, _+_, _-_, _≤_, _<_, min, max, suc-le-suc}
+use Prim.Native.Nat.{ℕ, zero, suc, _+_, _≤_, _<_, max, suc-le-suc}
 use Rattle.standings.specs.declared.Standing.{Standing}
 use Rattle.standings.specs.declared.Place.{Place}
 use Rattle.standings.specs.declared.Place.the-variants.{At, After}
 use Rattle.ranges.specs.Ranges.{placeIn}
-use Rattle.rules.specs.Items.{fileLength, Values}
 use Rattle.rules.specs.Transactions.{Txn, Write}
 use Rattle.rules.specs.Reading.{writeEnd, placedEnd, farthest, ownEnd, lengthFor}
 use Rattle.rules.specs.Machine.{noWrite}
-use Rattle.rules.proofs.View.Shape.{WriteIn, TxnIn}
+use Rattle.rules.proofs.View.Shape.{TxnIn}
 
 pub write-end : (p n : ℕ) → p + n ≤ 4096 → writeEnd p n ≤ 4096
 unfolding writeEnd
@@ -48,9 +47,10 @@ own-end fileOf f y h =
     farthest-in fileOf f (λ w. placedEnd (w .place) (length (w .bytes))) (y .writes)
     (λ k l. let w = getD (y .writes) k noWrite in placed-end (y .standing (w .descriptor)) (w .place) (length (w .bytes)) (h .writes k l .place))
 
-pub length-for : (fileOf : ℕ → ℕ) (f : ℕ) (y : Txn) (v : Values) → v (fileLength f) ≤ 4096 → TxnIn y → lengthFor fileOf f (y .writes) v ≤ 4096
+pub length-for : (fileOf : ℕ → ℕ) (f : ℕ) (y : Txn) (committed : ℕ) → committed ≤ 4096 → TxnIn y
+    → lengthFor fileOf f (y .writes) committed ≤ 4096
 unfolding lengthFor
-length-for fileOf f y v l h = let e = own-end fileOf f y h in omega arith
+length-for fileOf f y committed l h = let e = own-end fileOf f y h in omega arith
 
 -- The farthest end with one write more.
 pub farthest-last : (fileOf : ℕ → ℕ) (f : ℕ) (end : Write → ℕ) (ws : List Write) (w : Write)

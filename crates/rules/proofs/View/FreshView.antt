@@ -87,7 +87,8 @@ module _ (numbers : List ℕ) (logs old : List ℕ) where
         transactions = λ u l b. absurd (true≢false (sym b ∙ ap (λ (x : Transaction). x .begun) (ended-at u l)));
       }
 
-  pub fresh-sound : length numbers ≡ 16 → ((d : ℕ) → d < 16 → getD numbers d 0 ≤ 7) → length logs ≡ 32768 → length old ≡ 4096 → Sound (freshMachine numbers logs old)
+  pub fresh-sound : length numbers ≡ 16 → ((d : ℕ) → d < 16 → getD numbers d 0 ≤ 7) → length logs ≡ 32768 → length old ≡ 4096
+      → Sound (freshMachine numbers logs old)
   unfolding freshMachine
   fresh-sound e h g k =
       record {

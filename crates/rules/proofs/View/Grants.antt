@@ -1,18 +1,17 @@
 -- A granted Commit: the octet, the landed files and offsets, the flags of the others, and the store stays sound.
-use mathlib.Core.Bool.{Bool, true, false, cond, not, _&&_, _||_}
+use mathlib.Core.Bool.{Bool, true, false, cond, _&&_, _||_}
 use mathlib.Core.List.{List, []}
 use mathlib.Core.Logic.{_⊎_, inl, inr}
 use mathlib.Core.Path.{_≡_, refl, sym, ap, _∙_, fun-ext, subst}
 use lib.Dec.{eqb}
 use lib.ListN.{getD}
 use Prim.Native.Nat.{ℕ, _≤_, _<_}
-use native.Mathlib.Omega.{arith}
 use borrow.Author.Tests.{eqb-true, eqb-false, eq-eqb, ne-eqb}
 use Rattle.octets.proofs.PartLaws.{le-or-lt}
 use Rattle.octets.specs.Parts.{tabulate}
 use Rattle.octets.proofs.TableLaws.{length-tabulate, getD-tabulate}
 use Rattle.record.specs.declared.Transaction.{Transaction}
-use Rattle.record.specs.State.{transaction, noTransaction, ended, windowAt}
+use Rattle.record.specs.State.{transaction, noTransaction, ended, windowAt, withStale}
 use Rattle.record.specs.Paper.{granted}
 use Rattle.ranges.proofs.Laws.{in-range}
 use Rattle.rules.specs.Transactions.{put}
@@ -22,7 +21,7 @@ use Rattle.rules.specs.Transactions.{Txn}
 use Rattle.rules.specs.Commits.{Setting, landed, settings, fits}
 use Rattle.rules.specs.Machine.{Machine, fileOf, values}
 use Rattle.rules.specs.Undo.{keepingFound}
-use Rattle.rules.specs.Calls.{Turn, landFiles, landOffsets, landLengths, conflicts, staled, afterCommit, becomesStale, commitGranted}
+use Rattle.rules.specs.Calls.{Turn, landFiles, landOffsets, landLengths, conflicts, madeStale, afterCommit, commitGranted}
 use Rattle.rules.proofs.Serial.Sighted.{Seat, vacant, held, kept, touch, newlyStale, granting}
 use Rattle.rules.proofs.View.Shape.{heldBy, seat, backValues, backIn, view, Sound, TxnIn}
 use Rattle.rules.proofs.View.Renewed.{ended-bare, Alike, Carried, same-values}
@@ -30,40 +29,43 @@ use Rattle.rules.proofs.View.Endings.{ending, staleAs, seat-in, seat-ou
 use Rattle.rules.proofs.View.SettingsIn.{AllIn, settings-in}
 use Rattle.rules.proofs.View.Keeping.{keeping-sound, keeping-seat, files-back}
 use Rattle.rules.proofs.View.Landing.{length-files, length-offsets, length-lengths, limit-landed, limit-lengths, all-landed}
-use Rattle.rules.proofs.View.Conflicts.{conflicts-hit, octet-same}
+use Rattle.rules.proofs.View.Conflicts.{conflicts-hit, octet-same, stale-after}
 
 -- A granted Commit on a store that keeps what it found already.
 unfoldable pub grantedOn : ℕ → List Setting → Machine → Turn
 grantedOn t ss m =
     let s = m .store in
     record {
-      reply = record { answer = granted (bitsOf (becomesStale t (m .marks) ss s) 8); buffer = [] };
-      after = ending t (landOffsets ss (s .offsets)) (landLengths ss (s .lengths)) (tabulate (afterCommit t (m .marks) ss s) 8) (landFiles ss (m .files)) m;
+      reply = record { answer = granted (bitsOf (madeStale t ss m) 8); buffer = [] };
+      after = ending t (landOffsets ss (s .offsets)) (landLengths ss (s .lengths)) (tabulate (afterCommit t ss m) 8) (landFiles ss (m .files)) m;
     }
 
 pub kept-first : (t : ℕ) (x : Txn) (ss : List Setting) (m : Machine) → commitGranted t x ss m ≡ grantedOn t ss (keepingFound x m)
-unfolding commitGranted grantedOn keepingFound afterCommit becomesStale
+unfolding commitGranted grantedOn keepingFound afterCommit madeStale
 kept-first t x ss m = refl
 
 module _ (m : Machine) (t : ℕ) (ss : List Setting) where
   ts : List Transaction
-  ts = tabulate (afterCommit t (m .marks) ss (m .store)) 8
+  ts = tabulate (afterCommit t ss m) 8
 
   after : Machine
   after = ending t (landOffsets ss (m .store .offsets)) (landLengths ss (m .store .lengths)) ts (landFiles ss (m .files)) m
 
-  at-commit : (u : ℕ) → u < 8 → (b : Bool) → eqb u t ≡ b
-      → getD ts u noTransaction ≡ cond b ended (staled (m .marks) ss u (transaction (m .store) u))
-  unfolding ts afterCommit
-  at-commit u l b e = getD-tabulate (afterCommit t (m .marks) ss (m .store)) 8 u noTransaction l ∙ rw e
+  -- The flag of u after it.
+  abbrev flag : ℕ → Bool
+  flag u = transaction (m .store) u .stale || madeStale t ss m u
 
-  staled-alike : (u : ℕ) (y : Transaction) → y ≡ staled (m .marks) ss u (transaction (m .store) u) → Alike (transaction (m .store) u) y
-  unfolding staled
-  staled-alike u y e = rw e (record { begun = refl; lengthmarks = refl; used = refl; descriptors = refl })
+  at-commit : (u : ℕ) → u < 8 → (b : Bool) → eqb u t ≡ b
+      → getD ts u noTransaction ≡ cond b ended (withStale (flag u) (transaction (m .store) u))
+  unfolding ts afterCommit
+  at-commit u l b e = getD-tabulate (afterCommit t ss m) 8 u noTransaction l ∙ rw e
+
+  flagged-alike : (u : ℕ) (y : Transaction) → y ≡ withStale (flag u) (transaction (m .store) u) → Alike (transaction (m .store) u) y
+  flagged-alike u y e = rw e (record { begun = refl; lengthmarks = refl; used = refl; descriptors = refl })
 
   carried : (u : ℕ) → u < 8 → (b : Bool) → eqb u t ≡ b → Carried (transaction (m .store) u) (getD ts u noTransaction)
   carried u l true e = inr (rw (at-commit u l true e) ended-bare)
-  carried u l false e = inl (staled-alike u (getD ts u noTransaction) (at-commit u l false e))
+  carried u l false e = inl (flagged-alike u (getD ts u noTransaction) (at-commit u l false e))
 
   -- ---- seats
 
@@ -83,12 +85,14 @@ module _ (m : Machine) (t : ℕ) (ss : List Setting) where
 
   module _ (small : t < 8) where
     other-seat : (u : ℕ) → (u ≡ t → ⊥) → (8 ≤ u) ⊎ (u < 8) → seat after u ≡ touch ss (seat m u)
-    unfolding after staled touch
+    unfolding after touch
     other-seat u h (inl l) = seat-out after u l ∙ ap (touch ss) (sym (seat-out m u l))
     other-seat u h (inr l) =
         let e = at-commit u l false (ne-eqb u t h) in
-        ending-seat t (landOffsets ss (m .store .offsets)) (landLengths ss (m .store .lengths)) ts (landFiles ss (m .files)) m u l h (staled-alike u (getD ts u noTransaction) e)
+        ending-seat t (landOffsets ss (m .store .offsets)) (landLengths ss (m .store .lengths)) ts (landFiles ss (m .files)) m u l h
+        (flagged-alike u (getD ts u noTransaction) e)
         ∙ ap (λ (y : Transaction). cond (transaction (m .store) u .begun) (held (staleAs (heldBy m u) (y .stale))) vacant) e
+        ∙ ap (λ (b : Bool). cond (transaction (m .store) u .begun) (held (staleAs (heldBy m u) b)) vacant) (stale-after m t ss u (ne-eqb u t h))
         ∙ touched u (transaction (m .store) u .begun)
         ∙ ap (touch ss) (sym (seat-in m u (transaction (m .store) u .begun) (heldBy m u) l refl refl))
 
@@ -102,12 +106,13 @@ module _ (m : Machine) (t : ℕ) (ss : List Setting) where
       unfolding grantedOn after ts
       on-sound =
           let r = in-range (m .store) (m .journal) (sound .inRange) in
-          ending-sound t (landOffsets ss (m .store .offsets)) (landLengths ss (m .store .lengths)) ts (landFiles ss (m .files)) m sound (λ u l. carried u l (eqb u t) refl)
+          ending-sound t (landOffsets ss (m .store .offsets)) (landLengths ss (m .store .lengths)) ts (landFiles ss (m .files)) m sound
+          (λ u l. carried u l (eqb u t) refl)
           (length-offsets ss (m .store .offsets) ∙ sound .shaped .offsets)
           (limit-landed ss (m .store .offsets) inside (sound .shaped .offsets) (r .offsets))
           (length-lengths ss (m .store .lengths) ∙ sound .shaped .lengths)
           (limit-lengths ss (m .store .lengths) inside (sound .shaped .lengths) (r .lengths))
-          (length-tabulate (afterCommit t (m .marks) ss (m .store)) 8)
+          (length-tabulate (afterCommit t ss m) 8)
           (length-files ss (m .files) ∙ sound .files)
 
       on-seats : _≡_ {A = ℕ → Seat} (seat (grantedOn t ss m .after)) (λ u. touch ss (put t vacant (seat m) u))
@@ -198,4 +203,5 @@ module _ (m : Machine) (t : ℕ) (x : Txn) (small : t < 8) (sound : Sound m) (ra
   granted-reply =
       ap (λ (τ : Turn). τ .reply) (kept-first t x mine m)
       ∙ on-reply first t mine
-      ∙ (unfold granting view in ap (λ (f : ℕ → Seat). record { answer = granted (bitsOf (λ u. newlyStale mine (put t vacant f u)) 8); buffer = [] }) first-seats)
+      ∙ (unfold granting view in ap
+      (λ (f : ℕ → Seat). record { answer = granted (bitsOf (λ u. newlyStale mine (put t vacant f u)) 8); buffer = [] }) first-seats)

@@ -24,7 +24,7 @@ use Rattle.rules.specs.Items.{offset, fileLength, Values}
 use Rattle.rules.specs.Transactions.{Txn, Write}
 use Rattle.rules.specs.Steps.{total}
 use Rattle.rules.specs.Undo.{landingOf, landingsOf, landedRecord, keepingFound, spanOfRecord, landedOn}
-use Rattle.rules.specs.Commits.{Setting, landsAt, stretch, byteSettings, setsOffset, offsetSettings, landedEnd, lengthSettings, settings, fits}
+use Rattle.rules.specs.Commits.{Setting, landsAt, bytesFrom, byteSettings, setsOffset, offsetSettings, landedEnd, lengthSettings, settings, fits}
 use Rattle.rules.specs.Machine.{Machine, fileOf, values, noWrite}
 use Rattle.rules.specs.Calls.{landByte, landFiles}
 use Rattle.rules.proofs.Serial.Sighted.{vacant, held}
@@ -45,8 +45,8 @@ unfolding landFiles
 land-append [] rs files = refl
 land-append (s ∷ ss) rs files = land-append ss rs (landByte (s .item) (s .to) files)
 
-land-stretch : (q : ℕ) (bs files : List ℕ) → landFiles (stretch q bs) files ≡ sets files q bs
-unfolding landFiles stretch landByte
+land-stretch : (q : ℕ) (bs files : List ℕ) → landFiles (bytesFrom q bs) files ≡ sets files q bs
+unfolding landFiles bytesFrom landByte
 land-stretch q [] files = refl
 land-stretch q (b ∷ bs) files = land-stretch (suc q) bs (set files q b)
 
@@ -59,7 +59,7 @@ module _ (F : ℕ → ℕ) (v : Values) where
   land-bytes [] files h = unfold landFiles in refl
   land-bytes (w ∷ ws) files h =
       let q = 4096 * F (w .descriptor) + landsAt (v (offset (w .descriptor))) (w .place) in
-      land-append (stretch q (w .bytes)) (byteSettings F v ws) files
+      land-append (bytesFrom q (w .bytes)) (byteSettings F v ws) files
       ∙ ap (landFiles (byteSettings F v ws)) (land-stretch q (w .bytes) files ∙ sym (pasted-sets files q (w .bytes) (h .0)))
       ∙ land-bytes ws (pasted files q (w .bytes)) (rw (length-pasted files q (w .bytes) (h .0)) (h .1))
 
@@ -71,7 +71,8 @@ module _ (F : ℕ → ℕ) (v : Values) where
       ∙ pick (setsOffset x d) ∙ land-offsets x d files
     where
       pick : (b : Bool)
-          → landFiles (cond b (record { item = offset d; to = finalOffset (v (offset d)) (x .standing d) } ∷ []) []) (landFiles (offsetSettings v x d) files)
+          → landFiles (cond b (record { item = offset d; to = finalOffset (v (offset d)) (x .standing d) } ∷ []) [])
+          (landFiles (offsetSettings v x d) files)
           ≡ landFiles (offsetSettings v x d) files
       pick true = unfold landFiles landByte in refl
       pick false = unfold landFiles in refl
@@ -90,7 +91,8 @@ module _ (F : ℕ → ℕ) (v : Values) where
       pick true = unfold landFiles landByte in refl
       pick false = unfold landFiles in refl
 
-  land-all : (x : Txn) (files : List ℕ) → Lands (length files) (x .writes) → landFiles (settings F v x) files ≡ landAll (landingsOf F v (x .writes)) files
+  land-all : (x : Txn) (files : List ℕ) → Lands (length files) (x .writes)
+      → landFiles (settings F v x) files ≡ landAll (landingsOf F v (x .writes)) files
   unfolding settings
   land-all x files h =
       land-append (byteSettings F v (x .writes)) (offsetSettings v x 16 ++ lengthSettings F v (x .writes) 8) files
@@ -259,13 +261,15 @@ module _ (m : Machine) (x : Txn) (sound : Sound m) (ranges : TxnIn x) (fit : fit
 
   -- ---- and back again
 
-  noted-span : (s : Store) → s .filenumbers ≡ m .store .filenumbers → (k : ℕ) → spanOfRecord s (noted k) ≡ spanOf (landingOf F v (getD ws k noWrite))
+  noted-span : (s : Store) → s .filenumbers ≡ m .store .filenumbers → (k : ℕ)
+      → spanOfRecord s (noted k) ≡ spanOf (landingOf F v (getD ws k noWrite))
   unfolding spanOfRecord landedRecord landingOf fileOf
   noted-span s e k =
       let w = getD ws k noWrite in
       ap (λ (ns : List ℕ). spanAt (4096 * getD ns (w .descriptor) 0 + landsAt (v (offset (w .descriptor))) (w .place)) (length (w .bytes))) e
 
-  landed-is : (s : Store) → s .filenumbers ≡ m .store .filenumbers → s .undo .used .records ≡ length ws → landedOn s written ≡ map spanOf (landingsOf F v ws)
+  landed-is : (s : Store) → s .filenumbers ≡ m .store .filenumbers → s .undo .used .records ≡ length ws
+      → landedOn s written ≡ map spanOf (landingsOf F v ws)
   unfolding landedOn
   landed-is s e f =
       ap (tabulate (λ k. spanOfRecord s (writeRecordAt written grantStretch k))) f

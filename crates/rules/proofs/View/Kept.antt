@@ -17,7 +17,8 @@ use Rattle.standings.specs.Table.{advance, settled, afterSeek, afterWrite, afte
 use Rattle.rules.specs.Transactions.{Txn, Write, put, withWrites, dirtied, placedAt, placeWrite, settle, those, Settled, past, all, settling}
 use Rattle.rules.specs.Reading.{gather}
 use Rattle.rules.specs.Messages.{Op, seek, write, getFilePointer, read}
-use Rattle.rules.specs.Steps.{Stepped, accept, check, orGivenBack, total, written, seekStep, writeStep, pointerStep, settledByRead, readSettled, readStep, step}
+use Rattle.rules.specs.Steps.{Stepped, accept, check, orGivenBack, total, written, seekStep, writeStep, pointerStep, settledByRead}
+use Rattle.rules.specs.Steps.{readSettled, readStep, step}
 use Rattle.rules.proofs.Serial.Programs.{result-andThen}
 use Rattle.rules.proofs.Serial.Gathers.{length-gather}
 use Rattle.rules.proofs.View.Shape.{WriteIn, TxnIn}
@@ -25,7 +26,8 @@ use Rattle.rules.proofs.View.Ends.{length-for}
 use Rattle.rules.specs.Machine.{noWrite}
 use Rattle.rules.proofs.View.Tables.{every-snoc, getD-map}
 use Rattle.rules.proofs.View.Chosen.{DescriptorsIn, one-in, those-in}
-use Rattle.rules.proofs.View.StandingRanges.{EndsKept, seek-in, write-in, read-in, settled-in, seek-ends, write-ends, read-ends, place-kept, place-settled, place-written}
+use Rattle.rules.proofs.View.StandingRanges.{EndsKept, seek-in, write-in, read-in, settled-in, seek-ends, write-ends, read-ends}
+use Rattle.rules.proofs.View.StandingRanges.{place-kept, place-settled, place-written}
 
 -- The bytes of writes, which the log holds one after the other.
 abbrev pub pieces : List Write → List (List ℕ)
@@ -37,7 +39,8 @@ total-append [] w = omega arith
 total-append (x ∷ ws) w = let e = total-append ws w in omega arith
 
 -- What holds at every descriptor but one, and of the new value there.
-put-case : {A : Type 0} (P : ℕ → A → Type 0) (d : ℕ) (z : A) (f : ℕ → A) → P d z → ((e : ℕ) → (e ≡ d → ⊥) → P e (f e)) → (e : ℕ) → P e (put d z f e)
+put-case : {A : Type 0} (P : ℕ → A → Type 0) (d : ℕ) (z : A) (f : ℕ → A) → P d z → ((e : ℕ) → (e ≡ d → ⊥) → P e (f e)) → (e : ℕ)
+    → P e (put d z f e)
 unfolding put
 put-case P d z f here elsewhere e = pick (eqb e d) refl
   where
@@ -140,7 +143,8 @@ pub record Kept (ps : List (List ℕ)) (y : Txn) : Type 0 where
   pub ranges : TxnIn y
   pub same : pieces (y .writes) ≡ ps
 
-pub settling-kept : (v : Values) (ds : List ℕ) (x y : Txn) (ps : List (List ℕ)) → DescriptorsIn ds → Kept ps x → result v (settling ds x) ≡ all y → Kept ps y
+pub settling-kept : (v : Values) (ds : List ℕ) (x y : Txn) (ps : List (List ℕ)) → DescriptorsIn ds → Kept ps x
+    → result v (settling ds x) ≡ all y → Kept ps y
 unfolding settling result settle
 settling-kept v [] x y ps low h e = let q : y ≡ x = cc in rw q h
 settling-kept v (d ∷ ds) x y ps low h e =
@@ -231,13 +235,14 @@ module _ (v : Values) (bounded : (f : ℕ) → v (fileLength f) ≤ 4096) where
         same = map-append (λ w. w .bytes) (x .writes) (w ∷ []);
       })))))
 
-  ends-read : (ps : List (List ℕ)) (fileOf : ℕ → ℕ) (d n : ℕ) (buffer : List ℕ) (y : Txn) → d < 16 → Kept ps y → Ends ps (readSettled fileOf d n buffer y)
+  ends-read : (ps : List (List ℕ)) (fileOf : ℕ → ℕ) (d n : ℕ) (buffer : List ℕ) (y : Txn) → d < 16 → Kept ps y
+      → Ends ps (readSettled fileOf d n buffer y)
   unfolding readSettled
   ends-read ps fileOf d n buffer y low h =
       let p = gather fileOf (y .writes) (fileOf d) (offsetOf (y .standing d)) n in
       let m = length (result v p) in
       let e = length-gather fileOf (y .writes) (fileOf d) (offsetOf (y .standing d)) n v in
-      let l = length-for fileOf (fileOf d) y v (bounded (fileOf d)) (h .ranges) in
+      let l = length-for fileOf (fileOf d) y (v (fileLength (fileOf d))) (bounded (fileOf d)) (h .ranges) in
       ends-andThen ps p _
       (ends-done ps (dirtied d (afterRead m (y .standing d)) y) _ _
       (record {
@@ -263,7 +268,8 @@ module _ (v : Values) (bounded : (f : ℕ) → v (fileLength f) ≤ 4096) where
       (those-in (λ e. readSettles (eqb (fileOf e) (fileOf d)) (eqb e d) (x .standing e)) 16 (omega arith)) (record { ranges = h; same = refl })
       (λ y k. ends-read _ fileOf d n buffer y (omega arith) k)))
 
-pub step-kept : (fileOf : ℕ → ℕ) (v : Values) → ((f : ℕ) → v (fileLength f) ≤ 4096) → (o : Op) (x y : Txn) (a : Said) (b : List ℕ) → TxnIn x → result v (step fileOf o x) ≡ accept y a b
+pub step-kept : (fileOf : ℕ → ℕ) (v : Values) → ((f : ℕ) → v (fileLength f) ≤ 4096) → (o : Op) (x y : Txn) (a : Said) (b : List ℕ) → TxnIn x
+    → result v (step fileOf o x) ≡ accept y a b
     → Kept (piecesAfter o (pieces (x .writes))) y
 unfolding Ends
 step-kept fileOf v bounded o x y a b h e = ends-step v bounded fileOf o x h y a b e

@@ -106,7 +106,8 @@ limit-lengths (x ∷ ss) lengths a e r =
 -- ---- values
 
 module _ (ts : List Transaction) (s : Store) where
-  one-landed : (offsets lengths files : List ℕ) → length offsets ≡ 16 → length lengths ≡ 8 → length files ≡ 32768 → (n : ℕ) (i : Item) → SetIn i n → (j : Item)
+  one-landed : (offsets lengths files : List ℕ) → length offsets ≡ 16 → length lengths ≡ 8 → length files ≡ 32768
+      → (n : ℕ) (i : Item) → SetIn i n → (j : Item)
       → values (renewed (landOffset i n offsets) (landLength i n lengths) ts s) (landByte i n files) j
       ≡ putItem i n (values (renewed offsets lengths ts s) files) j
   unfolding values putItem landByte same landOffset landLength
@@ -120,7 +121,8 @@ module _ (ts : List Transaction) (s : Store) where
   one-landed offsets lengths files e g f n (fileLength j) h (offset d) = refl
   one-landed offsets lengths files e g f n (fileLength j) h (fileLength k) = getD-set lengths j n k (omega arith)
 
-  pub all-landed : (ss : List Setting) (offsets lengths files : List ℕ) → AllIn ss → length offsets ≡ 16 → length lengths ≡ 8 → length files ≡ 32768
+  pub all-landed : (ss : List Setting) (offsets lengths files : List ℕ) → AllIn ss → length offsets ≡ 16 → length lengths ≡ 8
+      → length files ≡ 32768
       → values (renewed (landOffsets ss offsets) (landLengths ss lengths) ts s) (landFiles ss files)
       ≡ landed ss (values (renewed offsets lengths ts s) files)
   unfolding landOffsets landLengths landFiles landed

@@ -1,5 +1,5 @@
 -- The marks after sightings: transaction t's at the bytes sighted, and no other's.
-use mathlib.Core.Bool.{Bool, true, false, cond, _&&_, _||_}
+use mathlib.Core.Bool.{Bool, true, false, cond, _||_}
 use mathlib.Core.List.{List, [], _∷_}
 use mathlib.Core.Path.{_≡_, refl, ap, _∙_, fun-ext}
 use borrow.Author.Tests.{eq-eqb, ne-eqb}

@@ -8,7 +8,8 @@ use Rattle.record.specs.State.{transaction}
 use Rattle.rules.specs.Messages.{bestOrder}
 use Rattle.rules.specs.Machine.{Machine, fileOf}
 use Rattle.rules.specs.Calls.{passing, commitCall, askedOf, orderTurn, call}
-use Rattle.rules.proofs.Serial.Sighted.{vacant, held, isHeld, Sighted, staleSeat, writesSeat, sightedCommitCall, sightedAsked, sightedBestOrder, sightedCall}
+use Rattle.rules.proofs.Serial.Sighted.{vacant, held, isHeld, Sighted, staleSeat, writesSeat, sightedCommitCall, sightedAsked}
+use Rattle.rules.proofs.Serial.Sighted.{sightedBestOrder, sightedCall}
 use Rattle.rules.proofs.Serial.Ordering.{grants-same, Agreed, reply-same}
 use Rattle.rules.proofs.View.Shape.{heldBy, seat, view, Sound}
 use Rattle.rules.proofs.View.Admissions.{Agrees, first-is}

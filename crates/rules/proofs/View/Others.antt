@@ -13,7 +13,6 @@ use Rattle.record.specs.declared.Transaction.{Transaction}
 use Rattle.record.specs.declared.journal.WriteRecord.{WriteRecord}
 use Rattle.record.specs.State.{transaction, standingAt, dirtyAt, noTransaction}
 use Rattle.record.specs.Journal.{writeRecordAt}
-use Rattle.ranges.specs.Below.{sum}
 use Rattle.ranges.specs.Ranges.{recordIn, lengthsBefore}
 use Rattle.ranges.proofs.Laws.{sum-same, TransactionInRange}
 use Rattle.rules.specs.Machine.{dataStart, writeAt, txnOf}
@@ -48,7 +47,8 @@ module _ (r : Store) (written : List ℕ) (s : Store) (journal : List ℕ) (u : 
   lengths-same : (k : ℕ) → k ≤ 64 → lengthsBefore written u k ≡ lengthsBefore journal u k
   unfolding lengthsBefore
   lengths-same k h =
-      sum-same (λ j. writeRecordAt written u j .length) (λ j. writeRecordAt journal u j .length) k (λ j g. ap (λ (w : WriteRecord). w .length) (same .records j (omega arith)))
+      sum-same (λ j. writeRecordAt written u j .length) (λ j. writeRecordAt journal u j .length) k
+      (λ j g. ap (λ (w : WriteRecord). w .length) (same .records j (omega arith)))
 
   pub range-same : TransactionInRange (transaction s u) journal u → TransactionInRange (transaction r u) written u
   range-same h =
@@ -61,7 +61,8 @@ module _ (r : Store) (written : List ℕ) (s : Store) (journal : List ℕ) (u : 
         writes = λ k l. ap (recordIn (transaction s u)) (same .records k (omega (arith, h .records))) ∙ h .writes k l;
       })
 
-  module _ (t : ℕ) (kept logs : List ℕ) (apart : LogsApart t kept logs) (size : length logs ≡ 32768) (other : u ≡ t → ⊥) (small : u < 8) (h : TransactionInRange (transaction s u) journal u) where
+  module _ (t : ℕ) (kept logs : List ℕ) (apart : LogsApart t kept logs) (size : length logs ≡ 32768) (other : u ≡ t → ⊥) (small : u < 8)
+      (h : TransactionInRange (transaction s u) journal u) where
     write-same : (k : ℕ) → k < transaction s u .used .records → writeAt written kept u k ≡ writeAt journal logs u k
     unfolding writeAt dataStart
     write-same k l =

@@ -96,7 +96,8 @@ module _ (offsets lengths : List ℕ) (ts : List Transaction) (s : Store) (journ
       }
 
   -- It stands for the same writes and standings.
-  pub alike-txn : (logs : List ℕ) → Alike (transaction s u) (getD ts u noTransaction) → txnOf (renewed offsets lengths ts s) journal logs u ≡ txnOf s journal logs u
+  pub alike-txn : (logs : List ℕ) → Alike (transaction s u) (getD ts u noTransaction)
+      → txnOf (renewed offsets lengths ts s) journal logs u ≡ txnOf s journal logs u
   unfolding txnOf writeAt dataStart
   alike-txn logs a = rw (a .descriptors, a .used)
 
@@ -116,8 +117,10 @@ carried-length : (x y : Transaction) → Carried x y → length (x .descriptors)
 carried-length x y (inl a) e = ap length (a .descriptors) ∙ e
 carried-length x y (inr b) e = ap length (b .descriptors) ∙ length-replicate 16 noDescriptor
 
-module _ (offsets lengths : List ℕ) (ts : List Transaction) (s : Store) (journal : List ℕ) (carried : (u : ℕ) → u < 8 → Carried (transaction s u) (getD ts u noTransaction)) where
-  pub renewed-in : ((d : ℕ) → d < 16 → getD offsets d 0 ≤ 4096) → ((f : ℕ) → f < 8 → getD lengths f 0 ≤ 4096) → InRange s journal → InRange (renewed offsets lengths ts s) journal
+module _ (offsets lengths : List ℕ) (ts : List Transaction) (s : Store) (journal : List ℕ)
+    (carried : (u : ℕ) → u < 8 → Carried (transaction s u) (getD ts u noTransaction)) where
+  pub renewed-in : ((d : ℕ) → d < 16 → getD offsets d 0 ≤ 4096) → ((f : ℕ) → f < 8 → getD lengths f 0 ≤ 4096) → InRange s journal
+      → InRange (renewed offsets lengths ts s) journal
   renewed-in h k r =
       record {
         files = r .files;

@@ -16,7 +16,7 @@ use Rattle.ranges.proofs.Laws.{and-right, below-at}
 use Rattle.rules.specs.Items.{Item, byte, offset, fileLength, Values}
 use Rattle.standings.specs.Table.{advance, isTouched, finalOffset}
 use Rattle.rules.specs.Transactions.{Txn, Write}
-use Rattle.rules.specs.Commits.{Setting, landsAt, stretch, byteSettings, setsOffset, offsetSettings, landedEnd, lengthSettings, settings, fits}
+use Rattle.rules.specs.Commits.{Setting, landsAt, bytesFrom, byteSettings, setsOffset, offsetSettings, landedEnd, lengthSettings, settings, fits}
 use Rattle.rules.specs.Reading.{writeEnd}
 use Rattle.rules.proofs.View.Shape.{WriteIn, TxnIn}
 use Rattle.rules.proofs.View.Ends.{write-end, farthest-in}
@@ -38,8 +38,8 @@ all-append (x ∷ ss) rs a b = (a .0, all-append ss rs (a .1) b)
 
 -- ---- bytes
 
-stretch-in : (q : ℕ) (bs : List ℕ) → q + length bs ≤ 32768 → AllIn (stretch q bs)
-unfolding stretch
+stretch-in : (q : ℕ) (bs : List ℕ) → q + length bs ≤ 32768 → AllIn (bytesFrom q bs)
+unfolding bytesFrom
 stretch-in q [] h = tt
 stretch-in q (b ∷ bs) h = (omega arith, stretch-in (suc q) bs (omega arith))
 
@@ -82,7 +82,7 @@ module _ (fileOf : ℕ → ℕ) (v : Values) (y : Txn) (files : (d : ℕ) → d 
       let d = w .descriptor in
       let f = files d (i .descriptor) in
       let g = lands-in (v (offset d)) (y .standing d) (w .place) (length (w .bytes)) (fits-at d (i .descriptor)) (i .place) in
-      all-append (stretch (4096 * fileOf d + landsAt (v (offset d)) (w .place)) (w .bytes)) (byteSettings fileOf v ws)
+      all-append (bytesFrom (4096 * fileOf d + landsAt (v (offset d)) (w .place)) (w .bytes)) (byteSettings fileOf v ws)
       (stretch-in (4096 * fileOf d + landsAt (v (offset d)) (w .place)) (w .bytes) (omega arith))
       (bytes-in ws (λ k l. h (suc k) (suc-le-suc l)))
 

@@ -1,16 +1,12 @@
 -- The abstract store that a record and its buffers stand for, and what is known of every store reached from Fresh.
-use mathlib.Core.Bool.{Bool, true, false, cond, _&&_}
-use mathlib.Core.List.{List, [], _∷_}
+use mathlib.Core.Bool.{true, false, cond, _&&_}
 use mathlib.Core.Path.{_≡_}
 use lib.Dec.{leb}
 use lib.ListN.{length, getD}
-use Prim.Native.Nat.{ℕ, _+_, _≤_, _<_}
+use Prim.Native.Nat.{ℕ, _≤_, _<_}
 use Rattle.octets.specs.Marks.{hasMark, contains}
-use Rattle.standings.specs.declared.Standing.{Standing}
 use Rattle.standings.specs.declared.Standing.the-variants.{Untouched}
 use Rattle.record.specs.declared.Store.{Store}
-use Rattle.standings.specs.declared.Place.{Place}
-use Rattle.standings.specs.declared.Place.the-variants.{At}
 use Rattle.record.specs.State.{transaction, windowAt}
 use Rattle.ranges.specs.Ranges.{standingIn, placeIn, storeIn}
 use Rattle.undo.specs.OldBytes.{putBack}

@@ -97,7 +97,8 @@ ends-le (Moved a o) end e = leb-true end a e
 ends-le (Known o) end e = absurd (false≢true e)
 
 -- A write that settling places, under any standing.
-pub place-settled : (c : ℕ) (z y : Standing) (p : Place) (n : ℕ) → c + advance z ≤ 4096 → placeIn z p n ≡ true → placeIn y (placedAt c p) n ≡ true
+pub place-settled : (c : ℕ) (z y : Standing) (p : Place) (n : ℕ) → c + advance z ≤ 4096 → placeIn z p n ≡ true
+    → placeIn y (placedAt c p) n ≡ true
 unfolding placeIn placedAt
 place-settled c z y (At p) n h e = e
 place-settled c z y (After a) n h e =

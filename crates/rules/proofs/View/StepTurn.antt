@@ -6,7 +6,7 @@ use Prim.Native.Nat.{ℕ, _<_}
 use Rattle.record.specs.State.{transaction}
 use Rattle.rules.specs.Items.{result}
 use Rattle.rules.specs.Messages.{Op, bufferOf}
-use Rattle.rules.specs.Steps.{Stepped, refuse, accept, step, turnedBack}
+use Rattle.rules.specs.Steps.{Stepped, refuse, accept, step}
 use Rattle.rules.specs.Messages.{on}
 use Rattle.rules.specs.Machine.{Machine, fileOf, values, txnOf}
 use Rattle.rules.specs.Calls.{turnDown, served, stepTurn, call}

@@ -2,16 +2,15 @@
 use mathlib.Core.Bool.{Bool, true, false}
 use mathlib.Core.List.{List, [], _∷_, _++_, map, map-append}
 use mathlib.Core.Logic.{_⊎_, inl, inr, ⊎-elim}
-use mathlib.Core.Path.{_≡_, refl, sym, ap, _∙_}
+use mathlib.Core.Path.{_≡_, refl, ap, _∙_}
 use borrow.Author.Tests.{eqb-true, eqb-false}
 use lib.Dec.{eqb}
 use lib.ListN.{length, getD, set}
-use lib.Seq.{ext-getD, set-getD}
+use lib.Seq.{ext-getD}
 use native.Mathlib.Nat.{eq-or-lt-of-le, le-of-suc-le-suc, not-suc-le-zero}
 use native.Mathlib.Omega.{arith}
 use Prim.Native.Nat.{ℕ, zero, suc, _+_, _≤_, _<_}
-use Rattle.octets.specs.Parts.{pasted, tabulate}
-use Rattle.octets.proofs.PartLaws.{pasted-none, pasted-more}
+use Rattle.octets.specs.Parts.{tabulate}
 use Rattle.octets.proofs.TableLaws.{length-tabulate, getD-tabulate, table-same, table-set}
 use Rattle.ranges.specs.Below.{sum}
 
@@ -34,7 +33,8 @@ module _ {A : Type 0} where
       (λ k h. getD-tabulate (λ i. getD l i z) (length l) k z (rw length-tabulate at h))
 
   -- A table that differs from another at one number.
-  pub tabulate-set : (f g : ℕ → A) (n d : ℕ) (a : A) → d < n → g d ≡ a → ((k : ℕ) → (k ≡ d → ⊥) → g k ≡ f k) → tabulate g n ≡ set (tabulate f n) d a
+  pub tabulate-set : (f g : ℕ → A) (n d : ℕ) (a : A) → d < n → g d ≡ a → ((k : ℕ) → (k ≡ d → ⊥) → g k ≡ f k)
+      → tabulate g n ≡ set (tabulate f n) d a
   tabulate-set f g n d a h here other = table-set f g n d a h here (λ k _ q. other k q)
 
   -- What holds of every element of a list and of one more holds of every element of the longer list.
@@ -55,18 +55,6 @@ pub map-tabulate : {A B : Type 0} (g : A → B) (f : ℕ → A) (n : ℕ) → ma
 unfolding tabulate
 map-tabulate g f zero = refl
 map-tabulate g f (suc n) = map-append g (tabulate f n) (f n ∷ []) ∙ ap (λ (l : List _). l ++ (g (f n) ∷ [])) (map-tabulate g f n)
-
--- A list with its own elements pasted over them.
-pub pasted-own : (l : List ℕ) (at n : ℕ) → at + n ≤ length l → pasted l at (tabulate (λ k. getD l (at + k) 0) n) ≡ l
-unfolding tabulate
-pasted-own l at zero h = pasted-none l at
-pasted-own l at (suc n) h =
-    let f : ℕ → ℕ = λ k. getD l (at + k) 0 in
-    let e = length-tabulate f n in
-    sym (pasted-more l at (tabulate f n) (omega arith) (f n) (omega arith))
-    ∙ ap (λ (k : ℕ). set (pasted l at (tabulate f n)) (at + k) (f n)) e
-    ∙ ap (λ (m : List ℕ). set m (at + n) (f n)) (pasted-own l at n (omega arith))
-    ∙ set-getD l (at + n) 0
 
 module _ (f : ℕ → ℕ) where
   -- A sum, taken from its first number on.

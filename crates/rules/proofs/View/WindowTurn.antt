@@ -19,7 +19,7 @@ use Rattle.rules.specs.Items.{Item, byte, offset, fileLength}
 use Rattle.rules.specs.Transactions.{put}
 use Rattle.rules.specs.Messages.{setWindow}
 use Rattle.rules.specs.Machine.{Machine, sizes, withStore, fileOf, values, txnOf}
-use Rattle.rules.specs.Calls.{answer, turnDown, passing, windowTurn, call}
+use Rattle.rules.specs.Calls.{answerWith, turnDown, passing, windowTurn, call}
 use Rattle.rules.proofs.Serial.Sighted.{turnedAway, telling, windowed, sightedWindow, sightedCall}
 use Rattle.rules.proofs.View.Shape.{heldBy, seat, view, Sound}
 use Rattle.rules.proofs.View.Back.{back-same}
@@ -99,8 +99,9 @@ module _ (m : Machine) (f start end : ℕ) (sound : Sound m) where
 
   -- 6, 22, or set.
   sets : (n : ℕ) → admissionOfWindow (sizes m) (m .store) (m .journal) f start end ≡ n
-      → Agrees (passing n [] m (windowTurn f start end m)) (guarded (λ k. turnedAway k [] (view m)) (isNone n) n (telling plain (windowed f start end (view m))))
-  unfolding passing turnDown turnedAway windowTurn answer telling
+      → Agrees (passing n [] m (windowTurn f start end m))
+      (guarded (λ k. turnedAway k [] (view m)) (isNone n) n (telling plain (windowed f start end (view m))))
+  unfolding passing turnDown turnedAway windowTurn answerWith telling
   sets zero e =
       let a = admitted-window (sizes m) (m .store) (m .journal) f start end e in
       let i : windowIn w ≡ true = unfold windowIn in a .minutes in

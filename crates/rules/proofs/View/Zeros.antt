@@ -2,17 +2,17 @@
 use mathlib.Core.Bool.{Bool, true, false, cond, _||_}
 use mathlib.Core.List.{List, [], _∷_, _++_}
 use mathlib.Core.Path.{_≡_, refl, ap, ap₂, _∙_}
-use mathlib.Core.Bool.{or-assoc}
 use borrow.Author.Tests.{ne-eqb, eq-eqb}
-use lib.Dec.{eqb, ltb}
+use lib.Dec.{ltb}
 use lib.ListN.{length, getD}
 use native.Mathlib.Omega.{arith}
 use Prim.Native.Nat.{ℕ, zero, suc, _+_, _*_, _≤_, _<_, max, suc-le-suc}
-use Rattle.standings.specs.Table.{advance, finalOffset}
+use Rattle.standings.specs.Table.{finalOffset}
 use Rattle.rules.specs.Items.{Item, byte, offset, fileLength, same, Values}
 use Rattle.rules.specs.Transactions.{Txn, Write}
 use Rattle.rules.specs.Reading.{writeEnd, farthest}
-use Rattle.rules.specs.Commits.{Setting, landsAt, stretch, byteSettings, setsOffset, offsetSettings, landedEnd, lengthSettings, settings, fits, landed}
+use Rattle.rules.specs.Commits.{Setting, landsAt, bytesFrom, byteSettings, setsOffset, offsetSettings, landedEnd}
+use Rattle.rules.specs.Commits.{lengthSettings, settings, fits, landed}
 use Rattle.rules.specs.Machine.{noWrite}
 use Rattle.rules.specs.Lengths.{ZeroBeyond}
 use Rattle.rules.proofs.Serial.Lists.{touched, landed-at}
@@ -34,8 +34,8 @@ pub neither : (ss rs : List Setting) (j : Item) → touched ss j ≡ false → t
 neither ss rs j e f = touched-append ss rs j ∙ ap₂ (λ (a b : Bool). a || b) e f
 
 -- A byte before or after a stretch.
-stretch-off : (a : ℕ) (bs : List ℕ) (q : ℕ) → (a ≤ q → q < a + length bs → ⊥) → touched (stretch a bs) (byte q) ≡ false
-unfolding stretch touched same
+stretch-off : (a : ℕ) (bs : List ℕ) (q : ℕ) → (a ≤ q → q < a + length bs → ⊥) → touched (bytesFrom a bs) (byte q) ≡ false
+unfolding bytesFrom touched same
 stretch-off a [] q h = refl
 stretch-off a (b ∷ bs) q h =
     rw (ne-eqb a q (λ e. h (omega arith) (omega arith))) (stretch-off (suc a) bs q (λ l k. h (omega arith) (omega arith)))
@@ -46,7 +46,8 @@ unfolding writeEnd
 in-write a zero p l k = absurd (omega arith)
 in-write a (suc n) p l k = k
 
-module _ (fileOf : ℕ → ℕ) (v : Values) (y : Txn) (files : (d : ℕ) → d < 16 → fileOf d ≤ 7) (ranges : TxnIn y) (fit : fits v y ≡ true) (f p : ℕ) (small : p < 4096) where
+module _ (fileOf : ℕ → ℕ) (v : Values) (y : Txn) (files : (d : ℕ) → d < 16 → fileOf d ≤ 7) (ranges : TxnIn y) (fit : fits v y ≡ true)
+    (f p : ℕ) (small : p < 4096) where
   abbrev place : Write → ℕ
   place w = landsAt (v (offset (w .descriptor))) (w .place)
 
@@ -64,7 +65,7 @@ module _ (fileOf : ℕ → ℕ) (v : Values) (y : Txn) (files : (d : ℕ) → d 
       let g = files d (i .descriptor) in
       let a = place w in
       let k = lands-in (v (offset d)) (y .standing d) (w .place) (length (w .bytes)) (fits-at fileOf v y files ranges fit d (i .descriptor)) (i .place) in
-      neither (stretch (4096 * fileOf d + a) (w .bytes)) (byteSettings fileOf v ws) (byte (4096 * f + p))
+      neither (bytesFrom (4096 * fileOf d + a) (w .bytes)) (byteSettings fileOf v ws) (byte (4096 * f + p))
       (stretch-off (4096 * fileOf d + a) (w .bytes) (4096 * f + p)
       (λ m n.
       let same-file : fileOf d ≡ f = omega arith in
@@ -81,7 +82,8 @@ module _ (fileOf : ℕ → ℕ) (v : Values) (y : Txn) (files : (d : ℕ) → d 
       neither (offsetSettings v y d) (cond (setsOffset y d) (record { item = offset d; to = finalOffset (v (offset d)) (y .standing d) } ∷ []) [])
       (byte (4096 * f + p)) (offsets-off d) (pick (setsOffset y d))
     where
-      pick : (b : Bool) → touched (cond b (record { item = offset d; to = finalOffset (v (offset d)) (y .standing d) } ∷ []) []) (byte (4096 * f + p)) ≡ false
+      pick : (b : Bool) → touched (cond b (record { item = offset d; to = finalOffset (v (offset d)) (y .standing d) } ∷ []) [])
+          (byte (4096 * f + p)) ≡ false
       pick true = unfold touched same in refl
       pick false = unfold touched in refl
 

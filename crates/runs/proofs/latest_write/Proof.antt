@@ -19,7 +19,8 @@ use Rattle.runs.proofs.latest_write.Tie as tie
 
 abbrev Inv-loop : tie.InvT-loop
 Inv-loop kept t used e left₀ start₀ length₀ left start length =
-    (left ≤ used .records) × (start ≤ start₀) × (lengthsBefore (journalOf kept) t left ≡ start) × Walked (recordedIn kept) t (used .records) e left length
+    (left ≤ used .records) × (start ≤ start₀) × (lengthsBefore (journalOf kept) t left ≡ start)
+    × Walked (recordedIn kept) t (used .records) e left length
 
 abbrev μ-loop : tie.MeasureT-loop
 μ-loop kept t used e left₀ start₀ length₀ left start length = left
@@ -100,7 +101,8 @@ gap-is : (c : tie.After-gap Inv-loop μ-loop) → let turn = c .before .before .
 gap-is c =
     let turn = c .before .before .before in
     let a = start-of turn .args in
-    subst (λ (w : WriteRecord). GapOf (storeOf (a .kept .now) .filenumbers) w (extent (a .e .file) (a .e .place) (turn .before .loop .length)) (c .gap .result))
+    subst (λ (w : WriteRecord). GapOf (storeOf (a .kept .now) .filenumbers) w
+    (extent (a .e .file) (a .e .place) (turn .before .loop .length)) (c .gap .result))
     (newest-left (c .before .before)) (c .gap .ensures)
 
 -- The record covers the first place where the gap is 0.
@@ -163,7 +165,13 @@ returns c =
     let l = turn .before .loop in
     let records = s .args .used .records in
     let r : Run =
-    record { supplier = Record (l .left - 1); looked = records - (l .left - 1); at = l .start - sized w .wide2 .result + (s .args .e .place - w .wide3 .result); length = c .smaller .result } in
+    record {
+      supplier = Record
+          (l .left - 1);
+      looked = records - (l .left - 1);
+      at = l .start - sized w .wide2 .result + (s .args .e .place - w .wide3 .result);
+      length = c .smaller .result;
+    } in
     let run : RunOf (lent s) (s .args .t) records (s .args .e) r =
     walked-found (lent s) (s .args .t) records (s .args .e) (number-of turn) (l .length) (walked turn) (first (w .before .before)) r refl
     (omega (arith, data-step (sized w), start-is w)) (omega (arith, c .smaller .ensures, start-is w, size-is (sized w))) in (

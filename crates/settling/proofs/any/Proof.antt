@@ -15,7 +15,9 @@ neither : (a b : Bool) → a || b ≡ false → (a ≡ false) × (b ≡ false)
 neither true b e = absurd (let z : _≡_ {A = ℕ} 0 1 = cc in omega arith)
 neither false b e = (refl, e)
 
-none-more : (p : ℕ → Bool) (n : ℕ) (a : Bool) → (a ≡ false → (k : ℕ) → k < n → p k ≡ false) → a || p n ≡ false → (k : ℕ) → k < n + 1 → p k ≡ false
+none-more : (p : ℕ → Bool) (n : ℕ) (a : Bool) → (a ≡ false → (k : ℕ) → k < n → p k ≡ false) → a || p n ≡ false → (k : ℕ)
+    → k < n + 1
+    → p k ≡ false
 none-more p n a none e k h =
     let w = neither a (p n) e in
     ⊎-elim (λ q. ap p q ∙ w .1) (λ l. none (w .0) k l) (eq-or-lt-of-le (le-of-suc-le-suc (rw add-one at h)))

@@ -1,8 +1,15 @@
--- `run` meets its contract. The loop's invariant: no output waits, and the buffers keep their lengths. Assumes nothing.
-use mathlib.Core.Path.{_≡_}
-use lib.ListN.{length}
+-- `run` meets its contract. The loop's invariant: no output waits, the buffers keep their lengths, and while turns are left the store is
+-- where the pieces so far led. Assumes nothing.
+use mathlib.Core.List.{[]}
+use mathlib.Core.Path.{_≡_, refl}
+use lib.ListN.{length, take}
+use Prim.Native.Nat.{_<_}
 use native.Mathlib.Omega.{arith}
 use borrow.Author.Needs.{needs}
+use Rattle.rules.specs.Promises.{machineOf}
+use Rattle.trace.specs.Transcript.{under}
+use Rattle.trace.specs.WholeRun.{Reached}
+use Rattle.trace.proofs.Reaching.{reached-first, reached-more, goes-on}
 use Rattle.trace.specs.Bounds.{Resting, Room}
 use Rattle.trace.proofs.run.Statement.{statement}
 use Rattle.trace.proofs.run.Tie as tie
@@ -10,24 +17,40 @@ use Rattle.trace.proofs.run.Tie as tie
 abbrev Inv-loop : tie.InvT-loop
 Inv-loop kept₀ files₀ logs₀ marks₀ undo₀ line₀ reader₀ input₀ out₀ c₀ turns₀ kept files logs marks undo line reader input out c turns =
     Resting c × Room reader out × (length line ≡ 129) × (length input ≡ length input₀)
+    × (0 < turns → Reached (under (machineOf kept files logs marks undo) reader (take (c .held) line) []))
 
 abbrev μ-loop : tie.MeasureT-loop
-μ-loop kept₀ files₀ logs₀ marks₀ undo₀ line₀ reader₀ input₀ out₀ c₀ turns₀ kept files logs marks undo line reader input out c turns = turns
+μ-loop kept₀ files₀ logs₀ marks₀ undo₀ line₀ reader₀ input₀ out₀ c₀ turns₀ kept files logs marks undo line reader input out c turns
+    = turns
+
+loop-holds : tie.Need-loop-holds Inv-loop μ-loop
+loop-holds c =
+    let p = c .before .before .before .before .pre in (
+      record { held = omega arith; waiting = refl },
+      record { readable = p .1 .0 .readable; printable = p .1 .0 .printable },
+      p .1 .1,
+      refl,
+      λ h. reached-first _ _ (p .0),
+    )
 
 turn-requires : tie.Need-turn-requires Inv-loop μ-loop
 turn-requires c κs =
-    let i = c .before .before .before .before .before .before .before .before .before .before .loop .inv in
-    (i .0, (record { readable = i .1 .readable; printable = i .1 .printable }, i .2))
+    let tested = c .before .before .before .before .before .before .before .before .before in
+    let i = tested .before .loop .inv in
+    (i .0, (record { readable = i .1 .readable; printable = i .1 .printable }, (i .2, i .4 (tested .loop-test .taken))))
 
 loop-again : tie.Need-loop-again Inv-loop μ-loop
 loop-again c =
     let turned = c .before .before .before .before .before .before .before .before .before in
-    let i = turned .before .before .before .before .before .before .before .before .before .before .before .loop .inv in
-    let k = turned .turn .kept in (
-      turned .turn .ensures .0,
+    let tested = turned .before .before .before .before .before .before .before .before .before .before in
+    let i = tested .before .loop .inv in
+    let k = turned .turn .kept in
+    let t = turned .turn .ensures in (
+      t .0,
       record { readable = omega (arith, i .1 .readable, k); printable = omega (arith, i .1 .printable, k) },
       omega (arith, k, i .2),
       omega (arith, k, i .3),
+      λ h. reached-more _ _ _ _ _ (i .4 (tested .loop-test .taken)) (t .1 (goes-on _ _ (c .turns-left .ensures .1) h) .1),
     )
 
 pub run-spec : {M : Type 1} → statement M
@@ -36,7 +59,7 @@ run-spec =
     (tie.spec
     Inv-loop
     μ-loop
-    (λ c. search needs)
+    loop-holds
     turn-requires
     (λ c κs. search needs)
     (λ c. search needs)

@@ -11,7 +11,7 @@ unfolding modEight tabulate
 returns c =
     let start = c .before .before .before .before .before .before .before in
     let p = start .pre in
-    record { before = _; accepted = fresh-accepts _ (p .0) (p .1 .0) (p .1 .1 .0) (p .1 .1 .1); left = c .fresh .ensures .0 .machine }
+    record { before = _; accepted = fresh-accepts _ (p .0) (p .1 .0) (p .1 .1 .0) (p .1 .1 .1); gave = c .fresh .ensures .0 .machine }
 
 pub start-spec : {M : Type 1} → statement M
 start-spec = tie.close (tie.spec (λ c. search needs) (λ c κs. search needs) returns)

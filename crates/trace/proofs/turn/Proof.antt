@@ -18,7 +18,7 @@ returns-2 c =
     let start = tested .before .before .before .before .before .before .before .before .before .before in
     let wrote = c .written .ensures in
     let line = start .pre .0 .held in
-    (record { held = omega (arith, wrote .1 .0, ending .ended .ensures .1 .1, line); waiting = wrote .0 }, λ e. absurd (false≢true e))
+    (record { held = omega (arith, wrote .1 .0, ending .last-line .ensures .1 .1, line); waiting = wrote .0 }, λ e. absurd (false≢true e))
 
 returns-3 : tie.Need-returns-3
 returns-3 c =

@@ -1,4 +1,4 @@
-use Rattle.workload.specs.Bounds.{Running}
+use Rattle.workload.specs.Bounds.{CourseBound}
 use lib.ListN.{length}
 use Prim.Native.Nat.{_-_, _≤_}
 use mathlib.Core.Path.{_≡_}
@@ -8,7 +8,7 @@ use Rattle.workload.proofs.run.Tie as tie
 
 abbrev Inv-loop : tie.InvT-loop
 Inv-loop kept₀ files₀ logs₀ marks₀ undo₀ bytes₀ reader₀ c₀ i₀ kept files logs marks undo bytes reader c i =
-    Running c × (i ≤ 300000) × (length bytes ≡ length bytes₀) × (length reader ≡ length reader₀)
+    CourseBound c × (i ≤ 300000) × (length bytes ≡ length bytes₀) × (length reader ≡ length reader₀)
 
 abbrev μ-loop : tie.MeasureT-loop
 μ-loop kept₀ files₀ logs₀ marks₀ undo₀ bytes₀ reader₀ c₀ i₀ kept files logs marks undo bytes reader c i =

@@ -5,7 +5,8 @@ use Rattle.workload.proofs.turn.Tie as tie
 
 course-after-requires : tie.Need-course-after-requires
 course-after-requires c κs =
-    let drawn = c .before .before .before .before .before .before .before .before .before .before .before .before .before .before .before .before .before .before .before in
+    let drawn = c .before .before .before .before .before .before .before .before .before .before .before .before .before .before
+    .before .before .before .before .before in
     let start = drawn .before .before .before in
     (drawn .draw .ensures, start .pre .0 .1)
 

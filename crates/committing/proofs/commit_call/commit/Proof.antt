@@ -20,7 +20,8 @@ use Rattle.laws.proofs.Decoded.{opened}
 use Rattle.landing.specs.Landing.{placesFit, CanLandIn}
 use Rattle.landing.proofs.Landed.{can-land}
 use Rattle.closing.specs.Closing.{hasByteForClosed}
-use Rattle.refusing.proofs.Turns.{LetThrough, sharedWith, gate-refused, gate-passed, gate-let-through, is-open, is-closed, admission-open, admitted-closed, turned-follows}
+use Rattle.refusing.proofs.Turns.{LetThrough, sharedWith, gate-refused, gate-passed, gate-let-through, is-open, is-closed, admission-open}
+use Rattle.refusing.proofs.Turns.{admitted-closed, turned-follows}
 use Rattle.committing.proofs.CommitRules.{commit-on, commit-no-minute, commit-stale, commit-closed, commit-past, commit-granted, stale-follows}
 use Rattle.committing.proofs.commit_call.commit.Statement.{statement}
 use Rattle.committing.proofs.commit_call.commit.Tie as tie
@@ -135,7 +136,8 @@ returns-4 c =
     let start = start-of told in
     let stale = ap (λ (x : Transaction). x .stale) (own (open-at day)) ∙ at-unmark .before .before .if3 .taken in
     stale-follows _ _ _ (start .args .marks .now) _ _ _ (start .args .t) _ (told .before .before .admit .ensures .1) (let-through told .small)
-    (on-turn (open-at day) ∙ commit-stale (start .args .t) (start .args .minute) (machine start) (daily day) stale) (c .reset .ensures) (at-unmark .unmark .ensures)
+    (on-turn (open-at day) ∙ commit-stale (start .args .t) (start .args .minute) (machine start) (daily day) stale) (c .reset .ensures)
+    (at-unmark .unmark .ensures)
 
 -- 21
 cast-has-byte-for-closed : tie.Need-cast-has-byte-for-closed
@@ -152,7 +154,8 @@ has-byte-for-closed-requires c κs =
     record {
       ranges = let-through told .ranges;
       small = let-through told .small;
-      begun = ap (λ (x : Transaction). x .begun) (sym (transaction-of (start .args .kept .now) (start .args .t) (let-through told .small))) ∙ begun open-here;
+      begun = ap (λ (x : Transaction). x .begun)
+          (sym (transaction-of (start .args .kept .now) (start .args .t) (let-through told .small))) ∙ begun open-here;
     }
 
 returns-5 : tie.Need-returns-5
@@ -184,7 +187,8 @@ returns-6 c =
 abbrev unlocked-of : tie.Else5 → tie.Else4
 unlocked-of c = c .before .before .before
 
-fit : (c : tie.Else5) → let start = start-of (told-of (fresh-at (unlocked-at (unlocked-of c)))) in placesFit (machine start .store) (transaction (machine start .store) (start .args .t)) ≡ true
+fit : (c : tie.Else5) → let start = start-of (told-of (fresh-at (unlocked-at (unlocked-of c)))) in placesFit (machine start .store)
+    (transaction (machine start .store) (start .args .t)) ≡ true
 fit c =
     let open-here = fresh-at (unlocked-at (unlocked-of c)) in
     ap (placesFit (machine (start-of (told-of open-here)) .store)) (own open-here) ∙ held (c .before .places-fit .ensures) (c .if5 .left)
@@ -220,7 +224,9 @@ returns-7 c =
     let unlocked-here = unlocked-of fits in
     let fresh-here = unlocked-at unlocked-here in
     let start = start-of (told-of (fresh-at fresh-here)) in
-    rw (on-turn (fresh-at fresh-here) ∙ commit-granted (start .args .t) (start .args .minute) (machine start) (daily (fresh-here .before)) (fresh fresh-here) (unlocked unlocked-here) (fit fits))
+    rw (on-turn (fresh-at fresh-here)
+    ∙ commit-granted (start .args .t) (start .args .minute) (machine start) (daily (fresh-here .before)) (fresh fresh-here)
+    (unlocked unlocked-here) (fit fits))
     (at-grant .grant .ensures)
 
 pub commit-spec : {M : Type 1} → statement M

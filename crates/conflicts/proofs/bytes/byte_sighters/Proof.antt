@@ -29,7 +29,7 @@ landing-at-requires c κs = can-first (c .before .before .before .pre .0) (c .lo
 markers-requires : tie.Need-markers-requires Inv-loop μ-loop
 markers-requires c κs =
     let lands = c .before .before .landing-at .ensures in
-    (omega (arith, lands .number, lands .inside), c .before .before .before .before .before .before .pre .1)
+    (omega (arith, lands .fileIn, lands .inside), c .before .before .before .before .before .before .pre .1)
 
 loop-again : tie.Need-loop-again Inv-loop μ-loop
 loop-again c =
@@ -55,7 +55,7 @@ byte-sighters-spec =
     μ-loop
     loop-holds
     landing-at-requires
-    (λ c. omega (arith, c .before .landing-at .ensures .number))
+    (λ c. omega (arith, c .before .landing-at .ensures .fileIn))
     (λ c. omega (arith, c .before .before .landing-at .ensures))
     markers-requires
     (λ c κs. search needs)

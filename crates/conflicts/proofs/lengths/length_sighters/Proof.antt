@@ -38,12 +38,14 @@ loop-again c =
     ⊎-elim
     (λ w. (
       omega arith,
-      λ n files logs marks can e size. length-more (a .kept .now) marks (a .watched) files logs (a .t) n can size (l .f) few _ _ (c .before .length-at .ensures) (now-at n e)
+      λ n files logs marks can e size. length-more (a .kept .now) marks (a .watched) files logs (a .t) n can size (l .f) few _ _
+          (c .before .length-at .ensures) (now-at n e)
           (w .0 .taken) _ _ _ (l .inv .1 n files logs marks can e size) (w .1 .ensures) (λ u. ap (λ (k : ℕ). contains k u) (w .3) ∙ w .2 .ensures u),
     ))
     (λ w. (
       omega arith,
-      λ n files logs marks can e size. rw (w .1) (length-less (a .kept .now) marks (a .watched) files logs (a .t) n can size (l .f) few _ _ (c .before .length-at .ensures) (now-at n e)
+      λ n files logs marks can e size. rw (w .1)
+          (length-less (a .kept .now) marks (a .watched) files logs (a .t) n can size (l .f) few _ _ (c .before .length-at .ensures) (now-at n e)
           (w .0 .left) _ (l .inv .1 n files logs marks can e size)),
     ))
     (c .if1 .came)
@@ -52,7 +54,8 @@ returns : tie.Need-returns Inv-loop μ-loop
 returns c =
     let start = c .before .before .before in
     let e : c .before .loop .f ≡ 8 = omega arith in
-    λ files logs marks size. rw e at (c .before .loop .inv .1 (start .args .used .records) files logs marks (start .pre) (c .before .before .lengths-after .ensures) size)
+    λ files logs marks size. rw e at
+    (c .before .loop .inv .1 (start .args .used .records) files logs marks (start .pre) (c .before .before .lengths-after .ensures) size)
 
 pub length-sighters-spec : {M : Type 1} → statement M
 length-sighters-spec =

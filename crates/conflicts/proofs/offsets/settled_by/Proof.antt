@@ -28,7 +28,8 @@ loop-again c =
     let a = at-loop .before .args in
     let l = at-loop .loop in
     let p = knowsOffset (a .kept .now) (a .watched) (a .d) in
-    let test = sym (ap₂ _&&_ (c .before .before .contains .ensures) (sym (stands-known (a .kept .now) (l .u) (a .d) _ (at-loop .before .pre) (c .before .kind-at .ensures)))) in
+    let test = sym (ap₂ _&&_ (c .before .before .contains .ensures)
+    (sym (stands-known (a .kept .now) (l .u) (a .d) _ (at-loop .before .pre) (c .before .kind-at .ensures)))) in
     ⊎-elim (λ w. (omega arith, w .2 ∙ w .1 .ensures ∙ gathered p (l .found) (l .u) (l .inv .1) (test ∙ w .0 .taken)))
     (λ w. (omega arith, w .1 ∙ passed-by p (l .found) (l .u) (l .inv .1) (test ∙ w .0 .left))) (c .if1 .came)
 

@@ -15,7 +15,8 @@ use Rattle.rules.specs.Calls.{call, admitted, placesTurn}
 use Rattle.rules.specs.Promises.{machineOf}
 use Rattle.laws.proofs.Shapes.{shaped}
 use Rattle.laws.proofs.Decoded.{Opened, opened}
-use Rattle.refusing.proofs.Turns.{LetThrough, sharedWith, gate-refused, gate-passed, gate-let-through, is-open, is-closed, admission-open, admitted-closed, turned-follows}
+use Rattle.refusing.proofs.Turns.{LetThrough, sharedWith, gate-refused, gate-passed, gate-let-through, is-open, is-closed, admission-open}
+use Rattle.refusing.proofs.Turns.{admitted-closed, turned-follows}
 use Rattle.runs.specs.Runs.{recordedIn, Counted}
 use Rattle.runs.proofs.RunLaws.{counted}
 use Rattle.coverage.specs.Covering.{coveredAt}
@@ -124,7 +125,8 @@ returns-4 c =
     let start = first (went-on read) in
     let out = start .args .out .now in
     turned-follows NoPlaceYet out _ _ _ _ _ _
-    (places-waiting (start .args .t) (start .args .f) out (machine start) (admits (went-on read)) (read .before .if2 .left) _ (ap (λ (u : Used). u .records) (used-is read))
+    (places-waiting (start .args .t) (start .args .f) out (machine start) (admits (went-on read)) (read .before .if2 .left) _
+    (ap (λ (u : Used). u .records) (used-is read))
     (sym (c .before .waiting .ensures) ∙ c .if3 .taken))
 
 -- Each of its writes on the file has a place.
@@ -144,7 +146,8 @@ returns-5 c =
     let start = first (went-on read) in
     let out = start .args .out .now in
     turned-follows ListTooLong out _ _ _ _ _ _
-    (places-too-long (start .args .t) (start .args .f) out (machine start) (admits (went-on read)) (read .before .if2 .left) _ (ap (λ (u : Used). u .records) (used-is read))
+    (places-too-long (start .args .t) (start .args .f) out (machine start) (admits (went-on read)) (read .before .if2 .left) _
+    (ap (λ (u : Used). u .records) (used-is read))
     (open-here (went-on read)) (sym (placed-of n .waiting .ensures) ∙ n .before .if3 .left) (omega (arith, c .if4 .taken, n .count-stretches .ensures)))
 
 write-stretches-requires : tie.Need-write-stretches-requires
@@ -168,7 +171,8 @@ returns-6 c =
     let start = first (went-on read) in
     let out = start .args .out .now in (
       rw (c .before .before .write-stretches .ensures)
-          (places-meets (start .args .t) (start .args .f) out (machine start) (admits (went-on read)) (read .before .if2 .left) _ (ap (λ (u : Used). u .records) (used-is read))
+          (places-meets (start .args .t) (start .args .f) out (machine start) (admits (went-on read)) (read .before .if2 .left) _
+          (ap (λ (u : Used). u .records) (used-is read))
           (open-here (went-on read)) (sym (placed-of n .waiting .ensures) ∙ n .before .if3 .left)
           (omega (arith, c .before .before .before .before .if4 .left, n .count-stretches .ensures)) _ (n .count-stretches .ensures)),
       λ r e h. refl,

@@ -14,7 +14,9 @@ use Rattle.dispatching.proofs.calls.bytes_of.Tie as tie
 
 part-requires : tie.Need-part-requires
 unfolding partIn scriptCallOf
-part-requires c κs = leb-true _ _ (sym (ap (λ (l : ScriptCall). partIn (length (c .before .before .before .before .args .bytes .now)) (scriptCallOf l)) (c .before .call .given .1)) ∙ c .before .before .before .before .pre)
+part-requires c κs = leb-true _ _
+    (sym (ap (λ (l : ScriptCall). partIn (length (c .before .before .before .before .args .bytes .now)) (scriptCallOf l))
+    (c .before .call .given .1)) ∙ c .before .before .before .before .pre)
 
 lent : (l v : ScriptCall) (bytes : List ℕ) → l ≡ v → bytesOf (scriptCallOf v) bytes ≡ bytesOf (scriptCallOf l) bytes
 lent l v bytes e = ap (λ (a : ScriptCall). bytesOf (scriptCallOf a) bytes) (sym e)

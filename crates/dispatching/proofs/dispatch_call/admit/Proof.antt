@@ -13,7 +13,8 @@ returns-2 : tie.Need-returns-2
 unfolding gateNumber admissionOfDispatch unless
 returns-2 c =
     let at-gate = c .before .before in
-    gate-after _ _ _ _ (at-gate .before .before .first-tests .ensures .0) _ 19 (at-gate .enum-told .given .1) (simp (failed (c .before .none-begun .ensures) (c .if1 .taken)))
+    gate-after _ _ _ _ (at-gate .before .before .first-tests .ensures .0) _ 19 (at-gate .enum-told .given .1)
+    (simp (failed (c .before .none-begun .ensures) (c .if1 .taken)))
 
 returns-3 : tie.Need-returns-3
 unfolding gateNumber admissionOfDispatch unless

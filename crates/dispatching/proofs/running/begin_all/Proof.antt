@@ -18,7 +18,8 @@ Inv-loop kept₀ files logs marks₀ undo ends count k₀ kept marks k =
     (k ≤ count)
     × (length marks ≡ length marks₀)
     × ((bytes : List ℕ) (minute : ℕ) (x : Scripts) (reader : List ℕ) (n : ℕ)
-    → Carries (λ m. begins (storeReply m) bytes minute x k) (machineOf kept₀ files logs marks₀ undo) reader ends n (machineOf kept files logs marks undo) reader ends n)
+    → Carries (λ m. begins (storeReply m) bytes minute x k) (machineOf kept₀ files logs marks₀ undo) reader ends n
+    (machineOf kept files logs marks undo) reader ends n)
 
 abbrev μ-loop : tie.MeasureT-loop
 μ-loop kept₀ files logs marks₀ undo ends count k₀ kept marks k = count - k

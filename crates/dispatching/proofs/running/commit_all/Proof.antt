@@ -39,7 +39,8 @@ loop-again c =
       search needs,
       search needs,
       λ bytes x reader m₀ w s.
-          stands-as m₀ _ _ _ reader _ _ (commits-more (storeReply m₀) bytes _ x (l .k) w) (done .commit-one .ensures .0 bytes x reader m₀ _ (l .inv .5 bytes x reader m₀ w s)),
+          stands-as m₀ _ _ _ reader _ _ (commits-more (storeReply m₀) bytes _ x (l .k) w)
+          (done .commit-one .ensures .0 bytes x reader m₀ _ (l .inv .5 bytes x reader m₀ w s)),
     )
 
 returns : tie.Need-returns Inv-loop μ-loop

@@ -7,7 +7,8 @@ use Rattle.dispatching.proofs.running.fail.Tie as tie
 returns : tie.Need-returns
 returns c =
     let start = c .before .before .before .before .before .before .before .before .before in
-    λ reader commits m₀ w s. stands-failed m₀ w _ reader _ commits s (start .args .k) (start .args .r) (start .pre) _ (c .before .before .abort .ensures .0 .machine)
+    λ reader commits m₀ w s. stands-failed m₀ w _ reader _ commits s (start .args .k) (start .args .r) (start .pre) _
+    (c .before .before .abort .ensures .0 .machine)
 
 pub fail-spec : {M : Type 1} → statement M
 fail-spec = tie.close (tie.spec

@@ -16,7 +16,8 @@ use Rattle.dispatching.proofs.running.passes.Tie as tie
 abbrev Inv-loop : tie.InvT-loop
 Inv-loop kept₀ files₀ logs₀ marks₀ undo₀ scripts bytes reader₀ out₀ i₀ kept files logs marks undo reader out i =
     (i ≤ 16)
-    × (length files ≡ length files₀) × (length logs ≡ length logs₀) × (length marks ≡ length marks₀) × (length undo ≡ length undo₀) × (length reader ≡ length reader₀)
+    × (length files ≡ length files₀) × (length logs ≡ length logs₀) × (length marks ≡ length marks₀) × (length undo ≡ length undo₀)
+    × (length reader ≡ length reader₀)
     × ((minute n : ℕ)
     → Carries (λ m. passes (storeReply m) bytes minute (scriptsOf scripts) i) (machineOf kept₀ files₀ logs₀ marks₀ undo₀) reader₀ out₀ n
     (machineOf kept files logs marks undo) reader out n)
@@ -49,7 +50,8 @@ returns c =
     let a = c .before .before .before .before .before .before .before .before .args in
     let e : l .i ≡ 16 = omega arith in
     λ minute n m₀ w s.
-    stands-as m₀ _ _ _ _ _ n (ap (λ (i : ℕ). passes (storeReply m₀) (a .bytes .now) minute (scriptsOf (a .scripts)) i w) (sym e)) (l .inv .6 minute n m₀ w s)
+    stands-as m₀ _ _ _ _ _ n (ap (λ (i : ℕ). passes (storeReply m₀) (a .bytes .now) minute (scriptsOf (a .scripts)) i w) (sym e))
+    (l .inv .6 minute n m₀ w s)
 
 pub passes-spec : {M : Type 1} → statement M
 passes-spec =

@@ -10,7 +10,10 @@ begin-all-requires : tie.Need-begin-all-requires
 begin-all-requires c κs = scripts-eight _ _ (c .before .before .before .before .before .before .before .before .before .before .before .before .pre .0)
 
 commit-all-requires : tie.Need-commit-all-requires
-commit-all-requires c κs = let start = c .before .before .before .before .before .before .before .before .before .before .before .before .before .before .before .before .before .before .before .before .before .before .before .before .before .before .before .before .before .before .before .before .before .before .before .before .before in (scripts-eight _ _ (start .pre .0), start .pre .1)
+commit-all-requires c κs = let start
+    = c .before .before .before .before .before .before .before .before .before .before .before .before .before .before .before .before
+    .before .before .before .before .before .before .before .before .before .before .before .before .before .before .before .before
+    .before .before .before .before .before in (scripts-eight _ _ (start .pre .0), start .pre .1)
 
 returns : tie.Need-returns
 unfolding round scriptsOf

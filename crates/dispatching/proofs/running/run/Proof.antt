@@ -19,8 +19,10 @@ Inv-loop kept₀ files₀ logs₀ marks₀ undo₀ scripts bytes reader₀ minut
     let m = machineOf kept₀ files₀ logs₀ marks₀ undo₀ in
     (j ≤ count)
     × (p .commits ≤ 8 * j)
-    × (length files ≡ length files₀) × (length logs ≡ length logs₀) × (length marks ≡ length marks₀) × (length undo ≡ length undo₀) × (length reader ≡ length reader₀)
-    × Stands m (rounds (storeReply m) bytes minute (scriptsOf scripts) j (nothingDone reader₀)) (machineOf kept files logs marks undo) reader (p .ends) (p .commits)
+    × (length files ≡ length files₀) × (length logs ≡ length logs₀) × (length marks ≡ length marks₀) × (length undo ≡ length undo₀)
+    × (length reader ≡ length reader₀)
+    × Stands m (rounds (storeReply m) bytes minute (scriptsOf scripts) j (nothingDone reader₀))
+    (machineOf kept files logs marks undo) reader (p .ends) (p .commits)
 
 abbrev μ-loop : tie.MeasureT-loop
 μ-loop kept₀ files₀ logs₀ marks₀ undo₀ scripts bytes reader₀ minute count p₀ j₀ kept files logs marks undo reader p j = count - j
@@ -37,13 +39,17 @@ round-requires c κs =
     (start .pre, omega (arith, few, l .inv .1, c .before .before .before .before .before .before .loop-test .taken))
 
 add-j : tie.Need-add-j Inv-loop μ-loop
-add-j c = let few = scripts-eight _ _ (c .before .before .before .before .before .before .before .before .before .before .before .before .before .before .before .before .before .before .before .before .before .before .before .before .before .pre) in search needs
+add-j c = let few = scripts-eight _ _
+    (c .before .before .before .before .before .before .before .before .before .before .before .before .before .before .before .before
+    .before .before .before .before .before .before .before .before .before .pre) in search needs
 
 loop-again : tie.Need-loop-again Inv-loop μ-loop
 loop-again c =
     let done = c .before .before .before .before .before .before .before .before .before .before in
     let l = done .before .before .before .before .before .before .before .before .loop in
-    let few = scripts-eight _ _ (c .before .before .before .before .before .before .before .before .before .before .before .before .before .before .before .before .before .before .before .before .before .before .before .before .before .pre) in
+    let few = scripts-eight _ _
+    (c .before .before .before .before .before .before .before .before .before .before .before .before .before .before .before .before
+    .before .before .before .before .before .before .before .before .before .pre) in
     let more = done .round .ensures in (
       omega arith,
       omega (arith, few, l .inv .1, more .1),
@@ -62,7 +68,8 @@ returns c =
     let a = c .before .before .before .before .before .before .before .before .args in
     let m = machineOf (a .kept .now) (a .files .now) (a .logs .now) (a .marks .now) (a .undo .now) in
     let e : l .j ≡ a .scripts .count = omega arith in
-    stands-as m _ _ _ _ _ _ (ap (λ (j : ℕ). rounds (storeReply m) (a .bytes .now) (a .minute) (scriptsOf (a .scripts)) j (nothingDone (a .reader .now))) (sym e)) (l .inv .7)
+    stands-as m _ _ _ _ _ _ (ap
+    (λ (j : ℕ). rounds (storeReply m) (a .bytes .now) (a .minute) (scriptsOf (a .scripts)) j (nothingDone (a .reader .now))) (sym e)) (l .inv .7)
 
 pub run-spec : {M : Type 1} → statement M
 run-spec =

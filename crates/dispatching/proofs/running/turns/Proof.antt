@@ -22,7 +22,8 @@ abbrev Inv-loop : tie.InvT-loop
 Inv-loop kept₀ files₀ logs₀ marks₀ undo₀ bytes reader₀ i scripts count out₀ k₀ kept files logs marks undo reader out k =
     (k ≤ count)
     × (count ≤ 8)
-    × (length files ≡ length files₀) × (length logs ≡ length logs₀) × (length marks ≡ length marks₀) × (length undo ≡ length undo₀) × (length reader ≡ length reader₀)
+    × (length files ≡ length files₀) × (length logs ≡ length logs₀) × (length marks ≡ length marks₀) × (length undo ≡ length undo₀)
+    × (length reader ≡ length reader₀)
     × ((minute n : ℕ)
     → Carries (λ m. turns (storeReply m) bytes minute (scriptsOf scripts) i k) (machineOf kept₀ files₀ logs₀ marks₀ undo₀) reader₀ out₀ n
     (machineOf kept files logs marks undo) reader out n)
@@ -32,14 +33,25 @@ abbrev μ-loop : tie.MeasureT-loop
 
 loop-holds : tie.Need-loop-holds Inv-loop μ-loop
 unfolding turns
-loop-holds c = (omega arith, scripts-eight _ _ (c .before .before .before .before .before .before .pre .0), refl, refl, refl, refl, refl, λ minute n m₀ w s. s)
+loop-holds c = (
+  omega arith,
+  scripts-eight _ _
+      (c .before .before .before .before .before .before .pre .0),
+  refl,
+  refl,
+  refl,
+  refl,
+  refl,
+  λ minute n m₀ w s. s,
+)
 
 turn-requires : tie.Need-turn-requires Inv-loop μ-loop
 turn-requires c κs =
     let tested = c .before .before .before .before .before .before .before .before .before in
     let start = c .before .before .before .before .before .before .before .before .before .before .before .before .before .before .before .before .before in (
       omega (arith, tested .before .loop .inv .1, tested .loop-test .taken),
-      λ e. call-in _ _ (start .pre .0) _ _ (tested .loop-test .taken) (ltb-true _ _ (and-right (c .before .before .before .before .before .before .before .before .goes-on .result) _ e)),
+      λ e. call-in _ _ (start .pre .0) _ _ (tested .loop-test .taken)
+          (ltb-true _ _ (and-right (c .before .before .before .before .before .before .before .before .goes-on .result) _ e)),
     )
 
 loop-again : tie.Need-loop-again Inv-loop μ-loop
@@ -48,7 +60,8 @@ loop-again c =
     let turned = c .before .before .before .before .before .before .before .before .before .before in
     let asked = turned .before .before .before .before .before .before .before .before .before in
     let l = asked .before .before .loop in
-    let a = c .before .before .before .before .before .before .before .before .before .before .before .before .before .before .before .before .before .before .before .before .before .before .before .before .before .before .before .before .args in (
+    let a = c .before .before .before .before .before .before .before .before .before .before .before .before .before .before .before
+    .before .before .before .before .before .before .before .before .before .before .before .before .before .args in (
       omega arith,
       l .inv .1,
       search needs,
@@ -61,7 +74,8 @@ loop-again c =
           let t = l .inv .7 minute n m₀ w s in
           let tested = asked .goes-on .ensures ∙ ap goesOn (t .ends (l .k) (omega (arith, l .inv .1, asked .before .loop-test .taken))) in
           stands-as m₀ _ _ _ _ _ n
-          (turns-more (storeReply m₀) _ minute _ _ (l .k) w ∙ turn-as _ minute (scriptsOf (a .t6)) (a .i) (l .k) m₀ v _ (ap (λ (b : Bool). b && ltb (a .i) (getD (a .t6 .counts) (l .k) 0)) tested))
+          (turns-more (storeReply m₀) _ minute _ _ (l .k) w
+          ∙ turn-as _ minute (scriptsOf (a .t6)) (a .i) (l .k) m₀ v _ (ap (λ (b : Bool). b && ltb (a .i) (getD (a .t6 .counts) (l .k) 0)) tested))
           (turned .turn .ensures minute (scriptsOf (a .t6)) n m₀ v t),
     )
 
@@ -71,7 +85,8 @@ returns c =
     let a = c .before .before .before .before .before .before .before .before .args in
     let e : l .k ≡ a .t6 .count = omega arith in
     λ minute n m₀ w s.
-    stands-as m₀ _ _ _ _ _ n (ap (λ (k : ℕ). turns (storeReply m₀) (a .bytes .now) minute (scriptsOf (a .t6)) (a .i) k w) (sym e)) (l .inv .7 minute n m₀ w s)
+    stands-as m₀ _ _ _ _ _ n (ap (λ (k : ℕ). turns (storeReply m₀) (a .bytes .now) minute (scriptsOf (a .t6)) (a .i) k w) (sym e))
+    (l .inv .7 minute n m₀ w s)
 
 pub turns-spec : {M : Type 1} → statement M
 turns-spec =

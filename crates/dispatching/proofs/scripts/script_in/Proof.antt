@@ -25,7 +25,8 @@ returns c = sym (counted-over _ 16 _ _ refl (c .if1 .taken))
 returns-2 : tie.Need-returns-2 Inv-loop μ-loop
 unfolding scriptIn scriptsOf
 returns-2 c =
-    sym (counted-fails _ 16 _ _ refl (c .before .before .before .before .loop .i) (c .before .before .before .loop-test .taken) (failed (c .before .part-in .ensures) (c .if2 .taken)))
+    sym (counted-fails _ 16 _ _ refl (c .before .before .before .before .loop .i) (c .before .before .before .loop-test .taken)
+    (failed (c .before .part-in .ensures) (c .if2 .taken)))
 
 loop-again : tie.Need-loop-again Inv-loop μ-loop
 unfolding scriptsOf

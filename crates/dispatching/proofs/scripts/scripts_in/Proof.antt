@@ -25,7 +25,8 @@ returns c = sym (counted-over _ 8 _ _ refl (c .if1 .taken))
 returns-2 : tie.Need-returns-2 Inv-loop μ-loop
 unfolding scriptsIn scriptsOf
 returns-2 c =
-    sym (counted-fails _ 8 _ _ refl (c .before .before .before .loop .k) (c .before .before .loop-test .taken) (failed (c .before .script-in .ensures) (c .if2 .taken)))
+    sym (counted-fails _ 8 _ _ refl (c .before .before .before .loop .k) (c .before .before .loop-test .taken)
+    (failed (c .before .script-in .ensures) (c .if2 .taken)))
 
 loop-again : tie.Need-loop-again Inv-loop μ-loop
 loop-again c = (omega arith, below-more _ _ (c .before .before .before .loop .inv .1) (held (c .before .script-in .ensures) (c .if2 .left)))

@@ -11,7 +11,8 @@ use Rattle.rules.specs.Messages.{Op, bufferOf}
 use Rattle.rules.specs.Machine.{Machine, sizes}
 use Rattle.rules.specs.Calls.{call, admitted, stepTurn}
 use Rattle.rules.specs.Promises.{machineOf}
-use Rattle.refusing.proofs.Turns.{LetThrough, sharedWith, gate-refused, gate-passed, gate-let-through, is-open, is-closed, admission-open, admitted-closed, turned-follows}
+use Rattle.refusing.proofs.Turns.{LetThrough, sharedWith, gate-refused, gate-passed, gate-let-through, is-open, is-closed, admission-open}
+use Rattle.refusing.proofs.Turns.{admitted-closed, turned-follows}
 use Rattle.editing.proofs.SeekRules.{seek-no-descriptor, seek-past-end, seek-follows}
 use Rattle.editing.proofs.seek_call.seek.Statement.{statement}
 use Rattle.editing.proofs.seek_call.seek.Tie as tie
@@ -54,7 +55,8 @@ returns c =
     let start = c .before .before .before .before .before .before .before .before .before in
     let m = machine start in
     let o = Op.seek (start .args .d) (start .args .v) in
-    let e = gate-refused _ m (start .args .t) (c .before .before .before .admit .ensures .0) _ _ (bufferOf o) (stepTurn (start .args .t) o m) (c .before .g .given .1) in
+    let e = gate-refused _ m (start .args .t) (c .before .before .before .admit .ensures .0) _ _ (bufferOf o)
+    (stepTurn (start .args .t) o m) (c .before .g .given .1) in
     turned-follows _ (bufferOf o) _ _ _ _ _ _ e
 
 enum-told : tie.Need-enum-told
@@ -76,12 +78,14 @@ returns-2 c =
 returns-3 : tie.Need-returns-3
 returns-3 c =
     let start = start-of (c .before .before .before .before) in
-    turned-follows NoSuchTarget [] _ _ _ _ _ _ (seek-no-descriptor (start .args .t) (start .args .d) (start .args .v) (machine start) (admits (c .before)) (c .if2 .taken))
+    turned-follows NoSuchTarget [] _ _ _ _ _ _
+    (seek-no-descriptor (start .args .t) (start .args .d) (start .args .v) (machine start) (admits (c .before)) (c .if2 .taken))
 
 returns-4 : tie.Need-returns-4
 returns-4 c =
     let start = start-of (c .before .before .before .before .before) in
-    turned-follows SeekPastEnd [] _ _ _ _ _ _ (seek-past-end (start .args .t) (start .args .d) (start .args .v) (machine start) (admits (c .before .before)) (c .before .if2 .left) (c .if3 .taken))
+    turned-follows SeekPastEnd [] _ _ _ _ _ _
+    (seek-past-end (start .args .t) (start .args .d) (start .args .v) (machine start) (admits (c .before .before)) (c .before .if2 .left) (c .if3 .taken))
 
 standing-at-requires : tie.Need-standing-at-requires
 standing-at-requires c κs = (let-through (c .before .before .before .before .before .before) .small, omega arith)
@@ -100,8 +104,10 @@ returns-5 c =
     let open-here = c .before .before .before .before .before .before .before in
     let told = open-here .before .before .before in
     let start = start-of told in
-    seek-follows (start .args .t) (start .args .d) (start .args .v) _ _ _ _ _ (told .before .before .admit .ensures .1) (c .before .before .before .before .before .before .if2 .left) (c .before .before .before .before .before .if3 .left)
-    (admits open-here) (let-through told) (begun open-here) _ _ (c .before .before .before .standing-at .ensures) (c .before .before .after-seek .ensures) _ (c .put-descriptor .ensures)
+    seek-follows (start .args .t) (start .args .d) (start .args .v) _ _ _ _ _ (told .before .before .admit .ensures .1)
+    (c .before .before .before .before .before .before .if2 .left) (c .before .before .before .before .before .if3 .left)
+    (admits open-here) (let-through told) (begun open-here) _ _ (c .before .before .before .standing-at .ensures)
+    (c .before .before .after-seek .ensures) _ (c .put-descriptor .ensures)
 
 pub seek-spec : {M : Type 1} → statement M
 seek-spec =

@@ -10,7 +10,8 @@ returns c =
     let start = counted .before .before .before .before .before .before in
     let a = start .args in
     write-put (a .t) (a .d) (a .n) (a .z) (a .u) (a .kept .now) (start .pre .0 .0) (start .pre .0 .1) (start .pre .0 .2) (start .pre .1 .records) _ _ _ _ _ _
-    (counted .before .before .before .before .before .write-place .ensures) (counted .before .before .before .put-record .ensures) (counted .before .appended .ensures .0) (counted .before .appended .ensures .1) (counted .put-used .ensures)
+    (counted .before .before .before .before .before .write-place .ensures) (counted .before .before .before .put-record .ensures)
+    (counted .before .appended .ensures .0) (counted .before .appended .ensures .1) (counted .put-used .ensures)
     (c .before .before .after-write .ensures) (c .put-descriptor .ensures)
 
 pub put-write-spec : {M : Type 1} → statement M

@@ -38,13 +38,23 @@ returns-3 : tie.Need-returns-3
 unfolding gateNumber unless writeRefusal
 returns-3 c =
     let a = c .before .before .before .before .before .before .before .args in
-    rw (le-leb (placeNumber (a .place) + a .n) 4096 (omega arith), le-leb (a .used .records + 1) 64 (omega arith), lt-leb (a .used .bytes + a .n) 4096 (omega arith))
+    rw (
+      le-leb (placeNumber (a .place) + a .n) 4096 (omega arith),
+      le-leb (a .used .records + 1) 64 (omega arith),
+      lt-leb
+          (a .used .bytes + a .n) 4096 (omega arith),
+    )
 
 returns-4 : tie.Need-returns-4
 unfolding gateNumber unless writeRefusal
 returns-4 c =
     let a = c .before .before .before .before .before .before .before .args in
-    rw (le-leb (placeNumber (a .place) + a .n) 4096 (omega arith), le-leb (a .used .records + 1) 64 (omega arith), le-leb (a .used .bytes + a .n) 4096 (omega arith))
+    rw (
+      le-leb (placeNumber (a .place) + a .n) 4096 (omega arith),
+      le-leb (a .used .records + 1) 64 (omega arith),
+      le-leb
+          (a .used .bytes + a .n) 4096 (omega arith),
+    )
 
 pub room-spec : {M : Type 1} → statement M
 room-spec =

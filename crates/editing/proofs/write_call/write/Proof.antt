@@ -15,7 +15,8 @@ use Rattle.rules.specs.Messages.{Op, bufferOf}
 use Rattle.rules.specs.Machine.{Machine, sizes}
 use Rattle.rules.specs.Calls.{call, admitted, stepTurn}
 use Rattle.rules.specs.Promises.{machineOf}
-use Rattle.refusing.proofs.Turns.{LetThrough, sharedWith, gate-refused, gate-passed, gate-let-through, gate-number, gate-zero, is-open, is-closed, admission-open, admitted-closed, turned-follows}
+use Rattle.refusing.proofs.Turns.{LetThrough, sharedWith, gate-refused, gate-passed, gate-let-through, gate-number, gate-zero, is-open}
+use Rattle.refusing.proofs.Turns.{is-closed, admission-open, admitted-closed, turned-follows}
 use Rattle.editing.specs.Writes.{writeRefusal, Room}
 use Rattle.editing.proofs.WriteRules.{Reached, room-left, numbers-within, write-no-descriptor, write-no-room, write-follows}
 use Rattle.editing.proofs.write_call.write.Statement.{statement}
@@ -59,7 +60,8 @@ abbrev begin-of : tie.After-write-place → tie.Start
 begin-of c = start-of (told-at (open-at c))
 
 reached : (c : tie.After-write-place) → let a = begin-of c .args in
-    Reached (a .t) (a .d) (a .kept .now) (a .files .now) (a .logs .now) (a .marks .now) (a .undo .now) (c .before .before .before .standing-at .result) (c .before .used-at .result)
+    Reached (a .t) (a .d) (a .kept .now) (a .files .now) (a .logs .now) (a .marks .now) (a .undo .now)
+    (c .before .before .before .standing-at .result) (c .before .used-at .result)
 reached c =
     record {
       low = c .before .before .before .before .before .if2 .left;
@@ -71,7 +73,9 @@ reached c =
     }
 
 refusal : (c : tie.After-room) → let place = c .before in
-    gateNumber (c .room .result) ≡ writeRefusal (writePlace (place .before .before .before .standing-at .result)) (place .before .used-at .result) (length (begin-of place .args .bytes .now))
+    gateNumber (c .room .result)
+    ≡ writeRefusal (writePlace (place .before .before .before .standing-at .result)) (place .before .used-at .result)
+    (length (begin-of place .args .bytes .now))
 refusal c = rw (c .before .write-place .ensures) at (c .room .ensures)
 
 -- There is room for the write.
@@ -97,7 +101,8 @@ returns c =
     let start = c .before .before .before .before .before .before .before .before .before .before in
     let m = machine start in
     let o = Op.write (start .args .d) (start .args .bytes .now) in
-    let e = gate-refused _ m (start .args .t) (c .before .before .before .admit .ensures .0) _ _ (bufferOf o) (stepTurn (start .args .t) o m) (c .before .g .given .1) in
+    let e = gate-refused _ m (start .args .t) (c .before .before .before .admit .ensures .0) _ _ (bufferOf o)
+    (stepTurn (start .args .t) o m) (c .before .g .given .1) in
     turned-follows _ (bufferOf o) _ _ _ _ _ _ e
 
 enum-told : tie.Need-enum-told
@@ -119,7 +124,8 @@ returns-2 c =
 returns-3 : tie.Need-returns-3
 returns-3 c =
     let start = start-of (told-at (c .before)) in
-    turned-follows NoSuchTarget [] _ _ _ _ _ _ (write-no-descriptor (start .args .t) (start .args .d) (start .args .bytes .now) (machine start) (admits (c .before)) (c .if2 .taken))
+    turned-follows NoSuchTarget [] _ _ _ _ _ _
+    (write-no-descriptor (start .args .t) (start .args .d) (start .args .bytes .now) (machine start) (admits (c .before)) (c .if2 .taken))
 
 standing-at-requires : tie.Need-standing-at-requires
 standing-at-requires c κs = (let-through (told-at (c .before .before)) .small, omega arith)
@@ -140,7 +146,8 @@ returns-4 : tie.Need-returns-4
 returns-4 c =
     let place = c .before .before .before .before in
     let r = c .before .h .given .0 .0 in
-    turned-follows r [] _ _ _ _ _ _ (write-no-room (reached place) (begin-of place .args .bytes .now) r (gate-number _ _ (refusal (c .before .before .before)) r (c .before .h .given .1)))
+    turned-follows r [] _ _ _ _ _ _
+    (write-no-room (reached place) (begin-of place .args .bytes .now) r (gate-number _ _ (refusal (c .before .before .before)) r (c .before .h .given .1)))
 
 enum-told-2 : tie.Need-enum-told-2
 enum-told-2 c = search needs
@@ -165,8 +172,15 @@ cast-put-write c = omega (arith, room-of (c .before .before .before .before .bef
 put-write-requires : tie.Need-put-write-requires
 put-write-requires c κs =
     let told = c .before .before .before .before .before .before in
-    let place = place-at told in
-    ((told-at (open-at place) .before .before .admit .ensures .1, small told, omega (arith, place .before .before .before .before .before .if2 .left)), room-of told)
+    let place = place-at told in (
+      (
+        told-at (open-at place) .before .before .admit .ensures .1,
+        small told,
+        omega
+            (arith, place .before .before .before .before .before .if2 .left),
+      ),
+      room-of told,
+    )
 
 same-length : tie.Need-same-length
 same-length c = search needs
@@ -177,7 +191,9 @@ returns-5 c =
     let place = place-at told in
     let a = begin-of place .args in
     write-follows (reached place) (a .bytes .now) (room-of told) _ _
-    (c .before .before .before .before .copy-to .ensures ∙ ap (λ (n : ℕ). pasted (a .logs .now) (4096 * a .t + n) (a .bytes .now)) (c .before .before .before .before .before .wide .ensures .0)) (c .put-write .ensures .0) (c .put-write .ensures .1)
+    (c .before .before .before .before .copy-to .ensures
+    ∙ ap (λ (n : ℕ). pasted (a .logs .now) (4096 * a .t + n) (a .bytes .now))
+    (c .before .before .before .before .before .wide .ensures .0)) (c .put-write .ensures .0) (c .put-write .ensures .1)
 
 pub write-spec : {M : Type 1} → statement M
 write-spec =

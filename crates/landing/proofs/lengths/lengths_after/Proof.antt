@@ -22,8 +22,8 @@ abbrev μ-loop : tie.MeasureT-loop
 μ-loop kept t records out₀ k₀ out k = records - k
 
 -- The turn's record lands in one of the eight files.
-number : (c : tie.After-landing-at Inv-loop μ-loop) → c .landing-at .result .file < 8
-number c = c .landing-at .ensures .number
+file-in : (c : tie.After-landing-at Inv-loop μ-loop) → c .landing-at .result .file < 8
+file-in c = c .landing-at .ensures .fileIn
 
 loop-holds : tie.Need-loop-holds Inv-loop μ-loop
 loop-holds c =
@@ -56,9 +56,10 @@ loop-again c =
       omega (arith, landing .before .loop-test .taken),
       ap (λ (xs : List ℕ). set xs f (c .larger .result)) (l .inv .1)
           ∙ lengths-more (s .filenumbers) (s .offsets) (journalOf kept) (start .args .t) (s .lengths) (l .k) f (at-end .write-end .result) (c .larger .result)
-          (number landing) (lands .file)
+          (file-in landing) (lands .file)
           (at-end .write-end .ensures ∙ ap₂ writeEnd (lands .place) (lands .length))
-          (c .larger .ensures ∙ ap (λ (n : ℕ). max n (at-end .write-end .result)) (c .before .wide .ensures .0 ∙ ap (λ (xs : List ℕ). getD xs f 0) (l .inv .1))),
+          (c .larger .ensures ∙ ap (λ (n : ℕ). max n (at-end .write-end .result))
+          (c .before .wide .ensures .0 ∙ ap (λ (xs : List ℕ). getD xs f 0) (l .inv .1))),
     )
 
 returns : tie.Need-returns Inv-loop μ-loop
@@ -77,13 +78,13 @@ lengths-after-spec =
     loop-holds
     landing-at-requires
     write-end-requires
-    (λ c. omega (arith, number (c .before)))
-    (λ c. number (c .before))
+    (λ c. omega (arith, file-in (c .before)))
+    (λ c. file-in (c .before))
     (λ c κs. search needs)
     (λ c κs. search needs)
     cast-out
-    (λ c. omega (arith, number (c .before .before .before)))
-    (λ c. number (c .before .before .before))
+    (λ c. omega (arith, file-in (c .before .before .before)))
+    (λ c. file-in (c .before .before .before))
     (λ c. search needs)
     (λ c. search needs)
     loop-again

@@ -31,7 +31,8 @@ returns : tie.Need-returns Inv-loop μ-loop
 returns c =
     let at-offset = c .before .before in
     let a = at-offset .before .before .before .before .args in
-    sym (placed-not (storeOf (a .kept .now)) (a .t2) (at-offset .before .before .before .loop .d) _ _ (at-offset .offset-at .ensures) (limit at-offset) (c .before .advance .ensures) (omega arith) (c .if1 .taken))
+    sym (placed-not (storeOf (a .kept .now)) (a .t2) (at-offset .before .before .before .loop .d) _ _ (at-offset .offset-at .ensures)
+    (limit at-offset) (c .before .advance .ensures) (omega arith) (c .if1 .taken))
 
 loop-again : tie.Need-loop-again Inv-loop μ-loop
 loop-again c =

@@ -36,7 +36,13 @@ final-offset-requires c κs =
     let start = at-loop .before in
     let d = at-loop .loop .d in
     let few : d < 16 = omega arith in
-    omega (arith, fits-at (storeOf (start .args .kept .now)) (start .args .t2) (start .pre .1) d few, c .before .offset-at .ensures, offset-still (start .args .t2) _ _ d few (at-loop .loop .inv .1))
+    omega (
+      arith,
+      fits-at (storeOf (start .args .kept .now)) (start .args .t2)
+          (start .pre .1) d few,
+      c .before .offset-at .ensures,
+      offset-still (start .args .t2) _ _ d few (at-loop .loop .inv .1),
+    )
 
 loop-again : tie.Need-loop-again Inv-loop μ-loop
 unfolding setsOffset

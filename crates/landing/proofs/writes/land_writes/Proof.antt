@@ -49,7 +49,7 @@ in-logs c = let pre = start-of c .pre in omega (arith, in-log c, pre .0 .small, 
 
 in-file : (c : tie.After-landing-at Inv-loop μ-loop)
     → let w = c .landing-at .result in 4096 * w .file + w .place + w .length ≤ length (loop-of c .loop .files)
-in-file c = let lands = c .landing-at .ensures in omega (arith, lands .number, lands .inside, loop-of c .loop .inv .3)
+in-file c = let lands = c .landing-at .ensures in omega (arith, lands .fileIn, lands .inside, loop-of c .loop .inv .3)
 
 loop-holds : tie.Need-loop-holds Inv-loop μ-loop
 loop-holds c =
@@ -75,7 +75,7 @@ land-requires c κs =
     let landing = c .before .before .before .before .before .before .before .before in
     let lands = landing .landing-at .ensures in
     let e = ap length (c .part2 .ensures) ∙ length-cut _ _ _ (in-logs landing) in
-    (loop-of landing .loop .inv .3, (lands .number, omega (arith, lands .inside)))
+    (loop-of landing .loop .inv .3, (lands .fileIn, omega (arith, lands .inside)))
 
 loop-again : tie.Need-loop-again Inv-loop μ-loop
 loop-again c =
@@ -116,8 +116,8 @@ land-writes-spec =
     (λ c. omega (arith, c .before .before .before .pre .0 .small))
     loop-holds
     landing-at-requires
-    (λ c. omega (arith, c .before .before .landing-at .ensures .number))
-    (λ c. omega (arith, c .before .before .landing-at .ensures .number, c .before .before .landing-at .ensures .inside))
+    (λ c. omega (arith, c .before .before .landing-at .ensures .fileIn))
+    (λ c. omega (arith, c .before .before .landing-at .ensures .fileIn, c .before .before .landing-at .ensures .inside))
     (λ c κs. in-file (c .before .before))
     copy-to-requires
     add-part-2

@@ -10,7 +10,8 @@ use Rattle.ranges.specs.Ranges.{admission}
 use Rattle.rules.specs.Machine.{Machine}
 use Rattle.rules.specs.Calls.{call, admitted, abortTurn}
 use Rattle.rules.specs.Promises.{machineOf}
-use Rattle.refusing.proofs.Turns.{LetThrough, sharedWith, gate-refused, gate-passed, gate-let-through, is-open, is-closed, admission-open, admitted-closed, passing-on, turned-follows}
+use Rattle.refusing.proofs.Turns.{LetThrough, sharedWith, gate-refused, gate-passed, gate-let-through, is-open, is-closed, admission-open}
+use Rattle.refusing.proofs.Turns.{admitted-closed, passing-on, turned-follows}
 use Rattle.lifecycle.proofs.ResetRules.{reset-follows}
 use Rattle.lifecycle.proofs.abort_call.abort.Statement.{statement}
 use Rattle.lifecycle.proofs.abort_call.abort.Tie as tie
@@ -64,7 +65,8 @@ returns-3 c =
     let m = machine (start-of told) in
     let begun = is-open (a .kept .now) (a .t) (let-through told .small) (open-here .before .is-begun .ensures) (open-here .if1 .left) in
     let e = passing-on _ [] m (abortTurn (a .t) m) (admission-open m (a .t) (passed told) begun) in
-    reset-follows (a .t) false _ _ _ _ _ (told .before .before .admit .ensures .1) (let-through told .small) _ e _ _ (c .reset .ensures) (c .before .before .before .before .unmark .ensures)
+    reset-follows (a .t) false _ _ _ _ _ (told .before .before .admit .ensures .1) (let-through told .small) _ e _ _ (c .reset .ensures)
+    (c .before .before .before .before .unmark .ensures)
 
 pub abort-spec : {M : Type 1} → statement M
 abort-spec =

@@ -13,7 +13,8 @@ use Rattle.ranges.specs.Ranges.{admissionOfBegin}
 use Rattle.rules.specs.Machine.{Machine}
 use Rattle.rules.specs.Calls.{call, passing, beginTurn}
 use Rattle.rules.specs.Promises.{machineOf}
-use Rattle.refusing.proofs.Turns.{LetThrough, sharedWith, gate-refused, gate-passed, gate-let-through, begin-of-open, begin-of-closed, passing-on, turned-follows}
+use Rattle.refusing.proofs.Turns.{LetThrough, sharedWith, gate-refused, gate-passed, gate-let-through, begin-of-open, begin-of-closed}
+use Rattle.refusing.proofs.Turns.{passing-on, turned-follows}
 use Rattle.lifecycle.proofs.ResetRules.{reset-follows}
 use Rattle.lifecycle.proofs.begin_call.begin.Statement.{statement}
 use Rattle.lifecycle.proofs.begin_call.begin.Tie as tie
@@ -33,7 +34,8 @@ let-through : (c : tie.After-enum-told) → LetThrough (machine (start-of c)) (s
 let-through c = gate-let-through _ (machine (start-of c)) (start-of c .args .t) (c .before .before .admit .ensures .0) (c .enum-told .given .1)
 
 -- Whether the transaction is open, as it was read.
-is-begun : (c : tie.After-is-begun) → let start = start-of (c .before .before) in transaction (machine start .store) (start .args .t) .begun ≡ c .is-begun .result
+is-begun : (c : tie.After-is-begun)
+    → let start = start-of (c .before .before) in transaction (machine start .store) (start .args .t) .begun ≡ c .is-begun .result
 is-begun c =
     let told = c .before .before in
     let a = start-of told .args in
@@ -73,7 +75,8 @@ returns-3 c =
     let t = start-of told .args .t in
     let m = machine (start-of told) in
     let e = passing-on _ [] m (beginTurn t m) (begin-of-closed m t (passed told) (is-begun (closed .before) ∙ closed .if1 .left)) in
-    reset-follows t true _ _ _ _ _ (told .before .before .admit .ensures .1) (let-through told .small) _ e _ _ (c .reset .ensures) (c .before .before .before .before .unmark .ensures)
+    reset-follows t true _ _ _ _ _ (told .before .before .admit .ensures .1) (let-through told .small) _ e _ _ (c .reset .ensures)
+    (c .before .before .before .before .unmark .ensures)
 
 pub begin-spec : {M : Type 1} → statement M
 begin-spec =

@@ -7,7 +7,7 @@ use Rattle.record.specs.Paper.{plain}
 use Rattle.ranges.specs.Ranges.{admissionOfFresh}
 use Rattle.ranges.proofs.Laws.{admitted-fresh}
 use Rattle.rules.specs.Machine.{Machine, sizes}
-use Rattle.rules.specs.Calls.{answer, passing, fresh, freshMachine}
+use Rattle.rules.specs.Calls.{answerWith, passing, fresh, freshMachine}
 use Rattle.rules.specs.Promises.{machineOf}
 use Rattle.refusing.proofs.Turns.{gate-number, gate-zero, passing-number, turned-follows}
 use Rattle.lifecycle.proofs.FreshRules.{fresh-follows}
@@ -32,7 +32,7 @@ returns c =
     let m = machine start in
     let r = c .before .g .given .0 .0 in
     let e = gate-number _ _ (c .before .before .before .admit-fresh .ensures) r (c .before .g .given .1) in
-    let next = answer plain (freshMachine (start .args .numbers .now) (m .logs) (m .undo)) in
+    let next = answerWith plain (freshMachine (start .args .numbers .now) (m .logs) (m .undo)) in
     turned-follows r [] _ _ _ _ _ _ (ap (λ (n : ℕ). passing n [] m next) (sym e) ∙ passing-number r [] m next)
 
 put-files-requires : tie.Need-put-files-requires
@@ -45,7 +45,8 @@ returns-2 c =
     let put = c .before .before .before .before .before .before .before .before in
     let told = put .before .before .before .before in
     fresh-follows (start-of told .args .numbers .now) _ _ _ _ _ (passed told) _ _ _ _
-    (put .before .before .clear .ensures) (put .put-files .ensures) (c .before .before .before .before .before .before .zero .ensures) (c .before .before .zero2 .ensures)
+    (put .before .before .clear .ensures) (put .put-files .ensures) (c .before .before .before .before .before .before .zero .ensures)
+    (c .before .before .zero2 .ensures)
 
 pub fresh-spec : {M : Type 1} → statement M
 fresh-spec =

@@ -15,7 +15,8 @@ use Rattle.rules.specs.Calls.{call, admitted, stepTurn}
 use Rattle.rules.specs.Promises.{machineOf}
 use Rattle.settling.specs.declared.settle.Verdict.{Verdict}
 use Rattle.settling.specs.Choices.{chosenByPointer}
-use Rattle.refusing.proofs.Turns.{LetThrough, sharedWith, gate-refused, gate-passed, gate-let-through, gate-number, gate-zero, is-open, is-closed, admission-open, admitted-closed, turned-follows}
+use Rattle.refusing.proofs.Turns.{LetThrough, sharedWith, gate-refused, gate-passed, gate-let-through, gate-number, gate-zero, is-open}
+use Rattle.refusing.proofs.Turns.{is-closed, admission-open, admitted-closed, turned-follows}
 use Rattle.looking.proofs.LookRules.{lookRefusal, Looking, gate-says, looking, ready, SettledAs, settled-as}
 use Rattle.looking.proofs.PointerRules.{pointer-refused, past-follows, pointer-follows}
 use Rattle.looking.proofs.pointer_call.get_file_pointer.Statement.{statement}
@@ -56,14 +57,17 @@ open-of c = c .before .before .before
 abbrev first : tie.After-may-look → tie.Start
 first c = start-of (told-of (open-of c))
 
-says : (c : tie.After-may-look) → let a = first c .args in gateNumber (c .may-look .result) ≡ lookRefusal (transaction (storeOf (a .kept .now)) (a .t) .stale) (a .d) 0 0
+says : (c : tie.After-may-look)
+    → let a = first c .args in gateNumber (c .may-look .result) ≡ lookRefusal (transaction (storeOf (a .kept .now)) (a .t) .stale) (a .d) 0 0
 says c = gate-says _ _ (let-through (told-of (open-of c)) .small) _ (c .before .is-stale .ensures) (first c .args .d) 0 0 _ (c .may-look .ensures)
 
-looks : (c : tie.After-enum-told2) → let a = first (c .before .before) .args in Looking (a .kept .now) (a .files .now) (a .logs .now) (a .marks .now) (a .undo .now) (a .t) (a .d) 0 0
+looks : (c : tie.After-enum-told2)
+    → let a = first (c .before .before) .args in Looking (a .kept .now) (a .files .now) (a .logs .now) (a .marks .now) (a .undo .now) (a .t) (a .d) 0 0
 looks c =
     let open-here = open-of (c .before .before) in
     let told = told-of open-here in
-    looking _ _ _ _ _ _ _ _ _ (told .before .before .admit .ensures .1) (admits open-here) (let-through told) (begun open-here) (gate-zero _ _ (says (c .before .before)) (c .enum-told2 .given .1))
+    looking _ _ _ _ _ _ _ _ _ (told .before .before .admit .ensures .1) (admits open-here) (let-through told) (begun open-here)
+    (gate-zero _ _ (says (c .before .before)) (c .enum-told2 .given .1))
 
 -- What settling told.
 abbrev look-of : tie.After-settle-chosen → tie.After-enum-told2
@@ -96,7 +100,8 @@ returns-2 c =
     let start = start-of told in
     let o = Op.getFilePointer (start .args .d) in
     let closed = is-closed (start .args .kept .now) (start .args .t) (let-through told .small) (c .before .is-begun .ensures) (c .if1 .taken) in
-    turned-follows NotOpen [] _ _ _ _ _ _ (admitted-closed (machine start) (start .args .t) (passed told) closed [] (stepTurn (start .args .t) o (machine start)))
+    turned-follows NotOpen [] _ _ _ _ _ _
+    (admitted-closed (machine start) (start .args .t) (passed told) closed [] (stepTurn (start .args .t) o (machine start)))
 
 is-stale-requires : tie.Need-is-stale-requires
 is-stale-requires c κs = let-through (told-of (c .before)) .small
@@ -131,7 +136,8 @@ returns-5 : tie.Need-returns-5
 returns-5 c =
     let told = c .before .before .before in
     let called = told .before .before in
-    pointer-follows (looks (look-of called)) _ (settled called _ (told .enum-told3 .given .1)) _ (c .offset .ensures ∙ ap offsetOf (c .before .standing-at .ensures))
+    pointer-follows (looks (look-of called)) _ (settled called _ (told .enum-told3 .given .1)) _
+    (c .offset .ensures ∙ ap offsetOf (c .before .standing-at .ensures))
 
 pub get-file-pointer-spec : {M : Type 1} → statement M
 get-file-pointer-spec =

@@ -13,7 +13,9 @@ returns c =
     let put = sighted .before .before .before .before in
     let start = put .before .before .before .before in
     moved-short _ _ _ _ _ _ (start .pre) _ (put .before .before .after-read .ensures) _ (put .put-descriptor .ensures) (sighted .before .before .if1 .taken)
-    _ _ (sighted .lengthmarks-at .ensures) (c .before .added .ensures ∙ ap (λ (f : ℕ). withBit f (sighted .lengthmarks-at .result)) (c .before .before .wide .ensures .0)) _ (c .put-lengthmarks .ensures)
+    _ _ (sighted .lengthmarks-at .ensures)
+    (c .before .added .ensures ∙ ap (λ (f : ℕ). withBit f (sighted .lengthmarks-at .result)) (c .before .before .wide .ensures .0)) _
+    (c .put-lengthmarks .ensures)
 
 returns-2 : tie.Need-returns-2
 returns-2 c =

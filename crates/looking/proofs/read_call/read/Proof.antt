@@ -14,7 +14,8 @@ use Rattle.rules.specs.Calls.{call, admitted, stepTurn}
 use Rattle.rules.specs.Promises.{machineOf}
 use Rattle.settling.specs.declared.settle.Verdict.{Verdict}
 use Rattle.settling.specs.Choices.{chosenByRead}
-use Rattle.refusing.proofs.Turns.{LetThrough, sharedWith, gate-refused, gate-passed, gate-let-through, gate-number, gate-zero, is-open, is-closed, admission-open, admitted-closed, turned-follows}
+use Rattle.refusing.proofs.Turns.{LetThrough, sharedWith, gate-refused, gate-passed, gate-let-through, gate-number, gate-zero, is-open}
+use Rattle.refusing.proofs.Turns.{is-closed, admission-open, admitted-closed, turned-follows}
 use Rattle.looking.proofs.LookRules.{lookRefusal, Looking, gate-says, looking, ready, SettledAs, settled-as}
 use Rattle.looking.proofs.ReadRules.{read-refused, past-follows, handed-on, read-follows}
 use Rattle.looking.proofs.read_call.read.Statement.{statement}
@@ -55,14 +56,20 @@ open-of c = c .before .before .before
 abbrev first : tie.After-may-look → tie.Start
 first c = start-of (told-of (open-of c))
 
-says : (c : tie.After-may-look) → let a = first c .args in gateNumber (c .may-look .result) ≡ lookRefusal (transaction (storeOf (a .kept .now)) (a .t) .stale) (a .d) (a .n) (length (a .reader .now))
-says c = gate-says _ _ (let-through (told-of (open-of c)) .small) _ (c .before .is-stale .ensures) (first c .args .d) (first c .args .n) _ _ (c .may-look .ensures)
+says : (c : tie.After-may-look)
+    → let a = first c .args in gateNumber (c .may-look .result)
+    ≡ lookRefusal (transaction (storeOf (a .kept .now)) (a .t) .stale) (a .d) (a .n) (length (a .reader .now))
+says c = gate-says _ _ (let-through (told-of (open-of c)) .small) _ (c .before .is-stale .ensures) (first c .args .d) (first c .args .n) _ _
+    (c .may-look .ensures)
 
-looks : (c : tie.After-enum-told2) → let a = first (c .before .before) .args in Looking (a .kept .now) (a .files .now) (a .logs .now) (a .marks .now) (a .undo .now) (a .t) (a .d) (a .n) (length (a .reader .now))
+looks : (c : tie.After-enum-told2)
+    → let a = first (c .before .before) .args in Looking (a .kept .now) (a .files .now) (a .logs .now) (a .marks .now) (a .undo .now) (a .t)
+    (a .d) (a .n) (length (a .reader .now))
 looks c =
     let open-here = open-of (c .before .before) in
     let told = told-of open-here in
-    looking _ _ _ _ _ _ _ _ _ (told .before .before .admit .ensures .1) (admits open-here) (let-through told) (begun open-here) (gate-zero _ _ (says (c .before .before)) (c .enum-told2 .given .1))
+    looking _ _ _ _ _ _ _ _ _ (told .before .before .admit .ensures .1) (admits open-here) (let-through told) (begun open-here)
+    (gate-zero _ _ (says (c .before .before)) (c .enum-told2 .given .1))
 
 -- What settling told.
 abbrev look-of : tie.After-settle-chosen → tie.After-enum-told2
@@ -95,7 +102,8 @@ returns-2 c =
     let start = start-of told in
     let o = Op.read (start .args .d) (start .args .n) (start .args .reader .now) in
     let closed = is-closed (start .args .kept .now) (start .args .t) (let-through told .small) (c .before .is-begun .ensures) (c .if1 .taken) in
-    turned-follows NotOpen (bufferOf o) _ _ _ _ _ _ (admitted-closed (machine start) (start .args .t) (passed told) closed (bufferOf o) (stepTurn (start .args .t) o (machine start)))
+    turned-follows NotOpen (bufferOf o) _ _ _ _ _ _
+    (admitted-closed (machine start) (start .args .t) (passed told) closed (bufferOf o) (stepTurn (start .args .t) o (machine start)))
 
 is-stale-requires : tie.Need-is-stale-requires
 is-stale-requires c κs = let-through (told-of (c .before)) .small
@@ -106,7 +114,8 @@ returns-3 c =
     let start = first looked in
     let r = c .before .h .given .0 .0 in
     turned-follows r (start .args .reader .now) _ _ _ _ _ _
-    (read-refused (start .args .t) (start .args .d) (start .args .n) (start .args .reader .now) (machine start) (admits (open-of looked)) r (gate-number _ _ (says looked) r (c .before .h .given .1)))
+    (read-refused (start .args .t) (start .args .d) (start .args .n) (start .args .reader .now) (machine start) (admits (open-of looked)) r
+    (gate-number _ _ (says looked) r (c .before .h .given .1)))
 
 chosen-by-read-requires : tie.Need-chosen-by-read-requires
 chosen-by-read-requires c κs =

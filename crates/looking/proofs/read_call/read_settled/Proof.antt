@@ -20,14 +20,15 @@ used-of c = c .before .before .before .before .before .before .before
 given : (c : tie.After-places-given) → let a = start-of (used-of c) .args in c .places-given .result ≡ placesFrom (a .kept .now) (a .t) (a .d) (a .n)
 given c =
     let filed = c .before .before .before in
-    places-are _ _ _ _ _ _ _ _ _ (used-of c .used-at .ensures) (filed .before .before .standing-at .ensures) (filed .file-at .ensures) (c .before .length-for .ensures) (c .places-given .ensures)
+    places-are _ _ _ _ _ _ _ _ _ (used-of c .used-at .ensures) (filed .before .before .standing-at .ensures) (filed .file-at .ensures)
+    (c .before .length-for .ensures) (c .places-given .ensures)
 
 length-for-requires : tie.Need-length-for-requires
 length-for-requires c κs =
     let filed = c .before in
     let used = filed .before .before .before .before in
     let p = start-of used .pre in
-    (rw (used .used-at .ensures) (p .handed .counted), rw (filed .file-at .ensures) (p .handed .number))
+    (rw (used .used-at .ensures) (p .handed .counted), rw (filed .file-at .ensures) (p .handed .fileIn))
 
 copy-bytes-requires : tie.Need-copy-bytes-requires
 copy-bytes-requires c κs =
@@ -49,7 +50,7 @@ put-read-requires c κs =
       small = p .handed .counted .small;
       few = p .few;
       stands = stood .standing-at .ensures;
-      number = rw (given e) (p .handed .number);
+      fileIn = rw (given e) (p .handed .fileIn);
       places = omega (arith, p .handed .places, ap (λ (e : Extent). e .length) (given e), ap offsetOf (stood .standing-at .ensures));
     }
 

@@ -53,7 +53,8 @@ returns c =
     c .before .before .mark-bits2 .ensures
     ∙ ap (withMarks (a .t) (a .from + done) (a .n - done))
     (c .before .before .before .before .before .before .mark-octets .ensures
-    ∙ ap (withMarks (a .t) (a .from + head) (8 * whole)) (c .before .before .before .before .before .before .before .before .before .before .mark-bits .ensures))
+    ∙ ap (withMarks (a .t) (a .from + head) (8 * whole))
+    (c .before .before .before .before .before .before .before .before .before .before .mark-bits .ensures))
     ∙ with-marks-parts (a .t) (a .from) (a .n) head whole (a .marks .now) (omega arith)
 
 pub mark-spec : {M : Type 1} → statement M

@@ -30,7 +30,8 @@ same-length c = search needs
 returns : tie.Need-returns
 returns c =
     let a = c .before .before .before .before .before .before .args in
-    pasted-lent (a .files .now) (4096 * a .f) 4096 (a .at) (a .src .now) (c .before .before .copy-to .last .0) (omega arith) (omega arith) (c .before .before .copy-to .ensures)
+    pasted-lent (a .files .now) (4096 * a .f) 4096 (a .at) (a .src .now) (c .before .before .copy-to .last .0) (omega arith) (omega arith)
+    (c .before .before .copy-to .ensures)
 
 pub land-spec : {M : Type 1} → statement M
 land-spec =

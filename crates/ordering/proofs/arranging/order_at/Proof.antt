@@ -1,22 +1,23 @@
 -- `ordering::arranging::order_at` meets its contract. The loop's invariant: the first k numbers of the order are found, and the
--- others are order number `left` of those that rest.
-use mathlib.Core.List.{List, _++_}
+-- others are order number `left` of those that rest; after its first n numbers the array is as at first.
+use mathlib.Core.List.{_++_}
 use mathlib.Core.Path.{_≡_, refl, sym, ap, _∙_, subst}
 use borrow.Author.Needs.{needs}
-use lib.ListN.{length, getD, set, take, length-set}
+use lib.ListN.{length, getD, set, take, drop, length-set}
+use lib.Seq.{drop-set-lt}
 use native.Mathlib.Nat.{mod-lt}
 use native.Mathlib.Omega.{arith}
 use Prim.Native.Nat.{ℕ, suc, _+_, _-_, _/_, _%_, _≤_, _<_}
 use Rattle.orders.specs.Orders.{factorial, orderAt}
 use Rattle.orders.proofs.Numbered.{positive, quotient}
-use Rattle.ordering.proofs.ArrangeLaws.{order-more, order-none}
+use Rattle.ordering.proofs.ArrangeLaws.{drop-zeros, order-more, order-none}
 use Rattle.ordering.proofs.arranging.order_at.Statement.{statement}
 use Rattle.ordering.proofs.arranging.order_at.Tie as tie
 
 abbrev Inv-loop : tie.InvT-loop
 Inv-loop n i order₀ rest₀ left₀ k₀ order rest left k =
     (k ≤ n) × (left < factorial (n - k)) × (length order ≡ 8)
-    × (take k order ++ orderAt (n - k) left (take (n - k) rest) ≡ orderAt n i (take n rest₀))
+    × (take k order ++ orderAt (n - k) left (take (n - k) rest) ≡ orderAt n i (take n rest₀)) × (drop n order ≡ drop n order₀)
 
 abbrev μ-loop : tie.MeasureT-loop
 μ-loop n i order₀ rest₀ left₀ k₀ order rest left k = n - k
@@ -29,6 +30,7 @@ loop-holds c =
       subst (λ (x : ℕ). a .i < factorial x) (sym e) (c .pre .1),
       refl,
       ap (λ (x : ℕ). orderAt x (a .i) (take x (a .numbers))) e,
+      refl,
     )
 
 -- How many rest after this one.
@@ -61,9 +63,11 @@ loop-again c =
       subst (λ (x : ℕ). l .left % f < x) (at-f .factorial .ensures ∙ ap factorial (sym e)) (mod-lt (l .left) (some at-f)),
       length-set (l .order) (l .k) (getD (l .rest) (l .left / f) 0) ∙ l .inv .2,
       ap (λ (x : ℕ). take (l .k + 1) (set (l .order) (l .k) (getD (l .rest) (l .left / f) 0)) ++ orderAt x (l .left % f) (take x (c .removed .result))) e
-          ∙ order-more (l .order) (l .rest) (c .removed .result) (l .k) m (l .left) f (omega arith) (at-f .factorial .ensures) (c .removed .ensures) (position at-f)
+          ∙ order-more (l .order) (l .rest) (c .removed .result) (l .k) m (l .left) f (omega arith) (at-f .factorial .ensures)
+          (c .removed .ensures) (position at-f)
           ∙ ap (λ (x : ℕ). take (l .k) (l .order) ++ orderAt x (l .left) (take x (l .rest))) (sym (one-less (at-f .before)))
           ∙ l .inv .3,
+      drop-set-lt (a .n) (l .order) (l .k) (getD (l .rest) (l .left / f) 0) (omega arith) ∙ l .inv .4,
     )
 
 returns : tie.Need-returns Inv-loop μ-loop
@@ -71,11 +75,13 @@ returns c =
     let l = c .before .loop in
     let a = c .before .before .args in
     let e : l .k ≡ a .n = omega arith in
-    let z : a .n - l .k ≡ 0 = omega arith in
-    ap (λ (x : ℕ). take x (l .order)) (sym e)
-    ∙ sym (order-none (take (l .k) (l .order)) (take 0 (l .rest)) (l .left))
-    ∙ ap (λ (x : ℕ). take (l .k) (l .order) ++ orderAt x (l .left) (take x (l .rest))) (sym z)
-    ∙ l .inv .3
+    let z : a .n - l .k ≡ 0 = omega arith in (
+      ap (λ (x : ℕ). take x (l .order)) (sym e)
+          ∙ sym (order-none (take (l .k) (l .order)) (take 0 (l .rest)) (l .left))
+          ∙ ap (λ (x : ℕ). take (l .k) (l .order) ++ orderAt x (l .left) (take x (l .rest))) (sym z)
+          ∙ l .inv .3,
+      l .inv .4 ∙ drop-zeros (a .n) 8,
+    )
 
 pub order-at-spec : {M : Type 1} → statement M
 order-at-spec =

@@ -1,6 +1,6 @@
 -- `ordering::arranging::removed` meets its contract. The loop's invariant: the numbers up to j have moved up.
 use mathlib.Core.List.{List}
-use mathlib.Core.Path.{_≡_, refl, sym, ap, _∙_}
+use mathlib.Core.Path.{_≡_, sym, ap, _∙_}
 use borrow.Author.Needs.{needs}
 use lib.ListN.{length, getD, set, take}
 use native.Mathlib.Omega.{arith}

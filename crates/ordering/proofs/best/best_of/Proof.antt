@@ -1,25 +1,25 @@
--- `ordering::best::best_of` meets its contract. The loop's invariant: the best of the first i orders.
-use mathlib.Core.Bool.{Bool, true}
+-- `ordering::best::best_of` meets its contract. The loop's invariant: the best of the first i orders, and zeros after it.
+use mathlib.Core.Bool.{true}
 use mathlib.Core.List.{List}
 use mathlib.Core.Logic.{⊎-elim}
 use mathlib.Core.Path.{_≡_, refl, sym, ap, _∙_, subst}
 use borrow.Author.Needs.{needs}
 use lib.Dec.{leb}
-use lib.ListN.{length, take}
+use lib.ListN.{length, take, drop}
 use lib.Seq.{length-take-le}
 use native.Mathlib.Omega.{arith}
-use Prim.Native.Nat.{ℕ, _+_, _-_, _≤_, _<_}
-use Rattle.orders.specs.Orders.{factorial, orderAt, Rated, bestOf, bestTried, triedOf, allIn}
+use Prim.Native.Nat.{ℕ, _-_, _≤_, _<_}
+use Rattle.orders.specs.Orders.{factorial, orderAt, bestOf, bestTried, triedOf, allIn}
 use Rattle.orders.proofs.Distinct.{all-arranged}
-use Rattle.ordering.specs.Computing.{grantsBy}
+use Rattle.ordering.specs.Computing.{grantsByTable, ZerosAfter}
 use Rattle.ordering.proofs.BestLaws.{order-arranges, bestFirst, takes-it, leaves-it}
 use Rattle.ordering.proofs.best.best_of.Statement.{statement}
 use Rattle.ordering.proofs.best.best_of.Tie as tie
 
 abbrev Inv-loop : tie.InvT-loop
 Inv-loop kept known numbers n tried order₀ grants₀ i₀ order grants i =
-    let best = bestFirst (grantsBy kept known) (take n numbers) i in
-    (i ≤ tried) × (length (take n numbers) ≡ n) × (take n order ≡ best .order) × (grants ≡ best .grants)
+    let best = bestFirst (grantsByTable kept known) (take n numbers) i in
+    (i ≤ tried) × (length (take n numbers) ≡ n) × (take n order ≡ best .order) × (grants ≡ best .grants) × ZerosAfter n order
 
 abbrev μ-loop : tie.MeasureT-loop
 μ-loop kept known numbers n tried order₀ grants₀ i₀ order grants i = tried - i
@@ -29,7 +29,7 @@ unfolding bestOf
 loop-holds c =
     let a = c .before .args in
     let long : length (a .numbers) ≡ 8 = search needs in
-    (omega arith, length-take-le (a .n) (a .numbers) (omega arith), refl, c .grants-of .ensures)
+    (omega arith, length-take-le (a .n) (a .numbers) (omega arith), refl, c .grants-of .ensures, c .before .pre .3)
 
 -- The order is one of those that the list has.
 within : (c : tie.In-loop Inv-loop μ-loop) → let a = c .before .before .before .args in c .before .loop .i < factorial (a .n)
@@ -40,7 +40,7 @@ order-is : (c : tie.After-order-at Inv-loop μ-loop) → let a = c .before .befo
 order-is c =
     let l = c .before .before .loop in
     let a = c .before .before .before .before .args in
-    c .order-at .ensures ∙ ap (λ (n : ℕ). orderAt n (l .i) (take (a .n) (a .numbers))) (sym (l .inv .1))
+    c .order-at .ensures .0 ∙ ap (λ (n : ℕ). orderAt n (l .i) (take (a .n) (a .numbers))) (sym (l .inv .1))
 
 inside : (c : tie.After-order-at Inv-loop μ-loop) → let a = c .before .before .before .before .args in
     c .before .before .loop .i < factorial (length (take (a .n) (a .numbers)))
@@ -62,17 +62,25 @@ loop-again c =
     let read = c .before .before in
     let l = read .before .before .loop in
     let a = read .before .before .before .before .args in
-    let G = grantsBy (a .kept .now) (a .known) in
+    let G = grantsByTable (a .kept .now) (a .known) in
     let ts = take (a .n) (a .numbers) in
     let next = take (a .n) (read .order-at .result) in
     let more = c .before .grants-of2 .result in
     ⊎-elim
     (λ w.
-    let e = takes-it G ts (l .i) (inside read) (take (a .n) (l .order)) (l .grants) (l .inv .2) (l .inv .3) next more (order-is read) (c .before .grants-of2 .ensures) (w .0 .taken) in
-    (omega (arith, read .before .loop-test .taken), l .inv .1, ap (take (a .n)) (w .1) ∙ e .0, w .2 ∙ e .1))
+    let e = takes-it G ts (l .i) (inside read) (take (a .n) (l .order)) (l .grants) (l .inv .2) (l .inv .3) next more (order-is read)
+    (c .before .grants-of2 .ensures) (w .0 .taken) in (
+      omega (arith, read .before .loop-test .taken),
+      l .inv .1,
+      ap (take (a .n)) (w .1) ∙ e .0,
+      w .2 ∙ e .1,
+      ap (drop (a .n)) (w .1)
+          ∙ read .order-at .ensures .1,
+    ))
     (λ w.
-    let e = leaves-it G ts (l .i) (inside read) (take (a .n) (l .order)) (l .grants) (l .inv .2) (l .inv .3) next more (order-is read) (c .before .grants-of2 .ensures) (w .0 .left) in
-    (omega (arith, read .before .loop-test .taken), l .inv .1, ap (take (a .n)) (w .1) ∙ e .0, w .2 ∙ e .1))
+    let e = leaves-it G ts (l .i) (inside read) (take (a .n) (l .order)) (l .grants) (l .inv .2) (l .inv .3) next more (order-is read)
+    (c .before .grants-of2 .ensures) (w .0 .left) in
+    (omega (arith, read .before .loop-test .taken), l .inv .1, ap (take (a .n)) (w .1) ∙ e .0, w .2 ∙ e .1, ap (drop (a .n)) (w .1) ∙ l .inv .4))
     (c .if1 .came)
 
 returns : tie.Need-returns Inv-loop μ-loop
@@ -80,11 +88,12 @@ unfolding bestTried triedOf
 returns c =
     let l = c .before .loop in
     let a = c .before .before .before .args in
-    let best = bestFirst (grantsBy (a .kept .now) (a .known)) (take (a .n) (a .numbers)) in
+    let best = bestFirst (grantsByTable (a .kept .now) (a .known)) (take (a .n) (a .numbers)) in
     let e : l .i ≡ a .tried = omega arith in
     record {
       order = l .inv .2 ∙ ap (λ (i : ℕ). best i .order) e;
       grants = l .inv .3 ∙ ap (λ (i : ℕ). best i .grants) e;
+      zeros = l .inv .4;
     }
 
 pub best-of-spec : {M : Type 1} → statement M

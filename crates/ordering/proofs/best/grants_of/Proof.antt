@@ -1,13 +1,13 @@
 -- `ordering::best::grants_of` meets its contract.
 use mathlib.Core.Bool.{Bool, cond}
-use mathlib.Core.Path.{_≡_, sym, ap, _∙_}
+use mathlib.Core.Path.{sym, ap, _∙_}
 use lib.ListN.{take}
-use Rattle.ordering.specs.Computing.{grantsPassing, grantsFollowing, grantsBy}
+use Rattle.ordering.specs.Computing.{grantsPassing, grantsFollowing, grantsByTable}
 use Rattle.ordering.proofs.best.grants_of.Statement.{statement}
 use Rattle.ordering.proofs.best.grants_of.Tie as tie
 
 returns : tie.Need-returns
-unfolding grantsBy
+unfolding grantsByTable
 returns c =
     let a = c .before .before .before .args in
     let o = take (a .n) (a .order) in
@@ -17,7 +17,7 @@ returns c =
     (c .before .if1 .taken))
 
 returns-2 : tie.Need-returns-2
-unfolding grantsBy
+unfolding grantsByTable
 returns-2 c =
     let a = c .before .before .before .args in
     let o = take (a .n) (a .order) in

@@ -1,9 +1,8 @@
 -- `ordering::following::followed` meets its contract.
-use mathlib.Core.Bool.{Bool, true, false}
+use mathlib.Core.Bool.{true, false}
 use mathlib.Core.List.{List}
 use mathlib.Core.Path.{_≡_, refl, sym, ap, _∙_}
 use borrow.Author.Needs.{needs}
-use native.Mathlib.Omega.{arith}
 use lib.Bits.{bitOr}
 use Prim.Native.Nat.{ℕ, _+_}
 use Rattle.octets.specs.Marks.{contains}

@@ -2,13 +2,12 @@
 use mathlib.Core.Bool.{Bool, true, false, cond, _&&_}
 use mathlib.Core.List.{List}
 use mathlib.Core.Logic.{⊎-elim}
-use mathlib.Core.Path.{_≡_, refl, sym, ap, ap₂, _∙_, subst}
+use mathlib.Core.Path.{_≡_, sym, ap, _∙_}
 use borrow.Author.Needs.{needs}
 use borrow.Author.Tests.{leb-true}
 use lib.ListN.{length, getD, set}
 use native.Mathlib.Omega.{arith}
 use Prim.Native.Nat.{ℕ, _+_, _-_, _≤_, _<_}
-use Rattle.standings.specs.declared.Standing.{Standing}
 use Rattle.standings.specs.Table.{advance, isTouched, finalOffset}
 use Rattle.record.specs.declared.Descriptor.{Descriptor}
 use Rattle.record.proofs.LayoutLaws.{descriptor-of}
@@ -94,7 +93,8 @@ loop-again c =
           ∙ filled-set (offset-after x (a .t3)) (a .t3) (l .d) (w .1 .result) (omega arith)
           (set-so x (a .t3) (l .d) (w .1 .result) (sets-is read ∙ w .0 .taken)
           (w .1 .ensures ∙ ap (finalOffset (getD (a .t3) (l .d) 0)) (standing-is read))))
-          (λ w. w .1 ∙ l .inv .1 ∙ filled-kept (offset-after x (a .t3)) (a .t3) (l .d) 0 (omega arith) (left-so x (a .t3) (l .d) (sets-is read ∙ w .0 .left)))
+          (λ w. w .1 ∙ l .inv .1 ∙ filled-kept (offset-after x (a .t3)) (a .t3) (l .d) 0 (omega arith)
+          (left-so x (a .t3) (l .d) (sets-is read ∙ w .0 .left)))
           (c .if1 .came),
       l .inv .2,
     )

@@ -1,16 +1,14 @@
 -- `ordering::listing::admit_list` meets its contract.
-use mathlib.Core.Bool.{Bool, true, false, _&&_}
-use mathlib.Core.List.{List}
-use mathlib.Core.Path.{_≡_, refl, sym, ap, _∙_}
+use mathlib.Core.Bool.{true}
+use mathlib.Core.Path.{_≡_, refl}
 use borrow.Author.Needs.{needs}
 use lib.Dec.{leb}
-use Prim.Native.Nat.{ℕ}
 use Rattle.windows.specs.Hours.{minuteIn}
 use Rattle.record.specs.Layout.{transactionOf}
 use Rattle.ranges.specs.Ranges.{unless, gateNumber}
 use Rattle.ranges.proofs.Laws.{failed, held}
 use Rattle.orders.specs.Orders.{isList, allIn}
-use Rattle.ordering.specs.Computing.{isReady, AllOpen, refusalIn}
+use Rattle.ordering.specs.Computing.{AllOpen, listRefusal}
 use Rattle.ordering.proofs.ListLaws.{all-at, small-at}
 use Rattle.ordering.proofs.listing.admit_list.Statement.{statement}
 use Rattle.ordering.proofs.listing.admit_list.Tie as tie
@@ -51,28 +49,28 @@ all-open-of c k l =
 -- ---- the refusals
 
 returns : tie.Need-returns
-unfolding gateNumber refusalIn unless
+unfolding gateNumber listRefusal unless
 returns c = rw (failed (c .before .is-list .ensures) (c .if1 .taken)) refl
 
 returns-2 : tie.Need-returns-2
-unfolding gateNumber refusalIn unless
+unfolding gateNumber listRefusal unless
 returns-2 c = rw (is-list-of (c .before .before), failed (c .before .all-small .ensures) (c .if2 .taken)) refl
 
 returns-3 : tie.Need-returns-3
-unfolding gateNumber refusalIn unless
+unfolding gateNumber listRefusal unless
 returns-3 c =
     let b = c .before .before in
     rw (is-list-of (b .before .before), small-of b, failed (c .before .all-open .ensures) (c .if3 .taken)) refl
 
 returns-4 : tie.Need-returns-4
-unfolding gateNumber refusalIn unless
+unfolding gateNumber listRefusal unless
 returns-4 c =
     let d = c .before .before in
     let b = small-before d in
     rw (is-list-of (b .before .before), small-of b, open-of d, failed (c .before .minute-in .ensures) (c .if4 .taken)) refl
 
 returns-5 : tie.Need-returns-5
-unfolding gateNumber refusalIn unless
+unfolding gateNumber listRefusal unless
 returns-5 c =
     let e = c .before .before in
     let d = open-before e in
@@ -80,22 +78,38 @@ returns-5 c =
     rw (is-list-of (b .before .before), small-of b, open-of d, minute-of e, failed (c .before .all-ready .ensures) (c .if5 .taken)) refl
 
 returns-6 : tie.Need-returns-6
-unfolding gateNumber refusalIn unless
+unfolding gateNumber listRefusal unless
 returns-6 c =
     let f = c .before .before in
     let e = f .before .before in
     let d = open-before e in
     let b = small-before d in
-    rw (is-list-of (b .before .before), small-of b, open-of d, minute-of e, held (f .before .all-ready .ensures) (f .if5 .left), failed (c .before .is-budget .ensures) (c .if6 .taken)) refl
+    rw (
+      is-list-of (b .before .before),
+      small-of b,
+      open-of d,
+      minute-of e,
+      held (f .before .all-ready .ensures) (f .if5 .left),
+      failed
+          (c .before .is-budget .ensures) (c .if6 .taken),
+    ) refl
 
 returns-7 : tie.Need-returns-7
-unfolding gateNumber refusalIn unless
+unfolding gateNumber listRefusal unless
 returns-7 c =
     let f = c .before .before in
     let e = f .before .before in
     let d = open-before e in
     let b = small-before d in
-    rw (is-list-of (b .before .before), small-of b, open-of d, minute-of e, held (f .before .all-ready .ensures) (f .if5 .left), held (c .before .is-budget .ensures) (c .if6 .left)) refl
+    rw (
+      is-list-of (b .before .before),
+      small-of b,
+      open-of d,
+      minute-of e,
+      held (f .before .all-ready .ensures) (f .if5 .left),
+      held
+          (c .before .is-budget .ensures) (c .if6 .left),
+    ) refl
 
 pub admit-list-spec : {M : Type 1} → statement M
 admit-list-spec =

@@ -1,6 +1,6 @@
 -- `ordering::listing::is_ready` meets its contract.
 use mathlib.Core.Bool.{Bool, not, _||_}
-use mathlib.Core.Path.{_≡_, sym, ap, ap₂, _∙_}
+use mathlib.Core.Path.{sym, ap, ap₂, _∙_}
 use borrow.Author.Needs.{needs}
 use Rattle.ordering.specs.Computing.{unplacedIn, isReady}
 use Rattle.ordering.proofs.listing.is_ready.Statement.{statement}

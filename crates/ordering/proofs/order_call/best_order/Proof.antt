@@ -1,5 +1,5 @@
 -- `ordering::order_call::best_order` meets its contract.
-use mathlib.Core.List.{List, []}
+use mathlib.Core.List.{[]}
 use mathlib.Core.Path.{_≡_, refl, sym, _∙_}
 use borrow.Author.Needs.{needs}
 use native.Mathlib.Omega.{arith}
@@ -10,7 +10,7 @@ use Rattle.rules.specs.Machine.{Machine, sizes}
 use Rattle.rules.specs.Promises.{machineOf}
 use Rattle.refusing.proofs.Turns.{gate-number, gate-zero, turned-follows}
 use Rattle.ordering.specs.Table.{Asking}
-use Rattle.ordering.specs.Computing.{refusalIn, orderPart}
+use Rattle.ordering.specs.Computing.{listRefusal, orderPart}
 use Rattle.ordering.proofs.Admitted.{refusal-is, list-in}
 use Rattle.ordering.proofs.CallRules.{first-refused, then-refused, answered-meets}
 use Rattle.ordering.proofs.order_call.best_order.Statement.{statement}
@@ -31,7 +31,7 @@ passed c = gate-zero _ _ (c .before .before .first-tests .ensures .0) (c .enum-t
 abbrev told-of : tie.After-enum-told2 → tie.After-enum-told
 told-of c = c .before .before .before
 
-admitted : (c : tie.After-enum-told2) → let a = start-of (told-of c) .args in refusalIn (a .kept .now) (a .list .now) (a .minute) (a .budget) ≡ 0
+admitted : (c : tie.After-enum-told2) → let a = start-of (told-of c) .args in listRefusal (a .kept .now) (a .list .now) (a .minute) (a .budget) ≡ 0
 admitted c = gate-zero _ _ (c .before .before .admit-list .ensures) (c .enum-told2 .given .1)
 
 asking : (c : tie.After-enum-told2) → let s = start-of (told-of c) in Asking (machine s) (s .args .list .now) (s .args .minute) (s .args .budget)
@@ -39,7 +39,8 @@ asking c =
     let a = start-of (told-of c) .args in
     record {
       admitted = passed (told-of c);
-      passed = sym (refusal-is (a .kept .now) (a .files .now) (a .logs .now) (a .marks .now) (a .undo .now) (a .list .now) (a .minute) (a .budget)) ∙ admitted c;
+      passed = sym (refusal-is (a .kept .now) (a .files .now) (a .logs .now) (a .marks .now) (a .undo .now) (a .list .now) (a .minute)
+          (a .budget)) ∙ admitted c;
     }
 
 returns : tie.Need-returns
@@ -48,9 +49,11 @@ returns c =
     let gate = c .before .before .before in
     let start = gate .before .before .before .before .before .before in
     let a = start .args in
-    let r = c .before .g .given .0 .0 in
-    turned-follows r [] _ _ _ _ _ _
-    (first-refused (machine start) (a .list .now) (a .minute) (a .budget) r (gate-number _ _ (gate .first-tests .ensures .0) r (c .before .g .given .1)))
+    let r = c .before .g .given .0 .0 in (
+      turned-follows r [] _ _ _ _ _ _
+          (first-refused (machine start) (a .list .now) (a .minute) (a .budget) r (gate-number _ _ (gate .first-tests .ensures .0) r (c .before .g .given .1))),
+      refl,
+    )
 
 returns-2 : tie.Need-returns-2
 unfolding orderPart
@@ -59,22 +62,24 @@ returns-2 c =
     let told = gate .before in
     let start = start-of told in
     let a = start .args in
-    let r = c .before .h .given .0 .0 in
-    turned-follows r [] _ _ _ _ _ _
-    (then-refused (machine start) (a .list .now) (a .minute) (a .budget) (passed told) r
-    (gate-number _ _ (gate .admit-list .ensures) r (c .before .h .given .1)
-    ∙ refusal-is (a .kept .now) (a .files .now) (a .logs .now) (a .marks .now) (a .undo .now) (a .list .now) (a .minute) (a .budget)))
+    let r = c .before .h .given .0 .0 in (
+      turned-follows r [] _ _ _ _ _ _
+          (then-refused (machine start) (a .list .now) (a .minute) (a .budget) (passed told) r
+          (gate-number _ _ (gate .admit-list .ensures) r (c .before .h .given .1)
+          ∙ refusal-is (a .kept .now) (a .files .now) (a .logs .now) (a .marks .now) (a .undo .now) (a .list .now) (a .minute) (a .budget))),
+      refl,
+    )
 
 admit-list-requires : tie.Need-admit-list-requires
 admit-list-requires c κs = first-zero _ _ _ 0 (passed c) .1
 
-cast-answer : tie.Need-cast-answer
-cast-answer c =
+cast-best-by-table : tie.Need-cast-best-by-table
+cast-best-by-table c =
     let a = start-of (told-of c) .args in
     omega (arith, minute-most (a .minute) (list-in (a .kept .now) (a .list .now) (a .minute) (a .budget) (admitted c) .daily))
 
-answer-requires : tie.Need-answer-requires
-answer-requires c κs =
+best-by-table-requires : tie.Need-best-by-table-requires
+best-by-table-requires c κs =
     let e = first-zero _ _ _ 0 (passed (told-of c)) in
     (e .1, e .0 .marks, admitted c)
 
@@ -83,8 +88,8 @@ returns-3 c =
     let told = told-of (c .before) in
     let start = start-of told in
     let a = start .args in
-    let e = c .answer .ensures (a .files .now) (a .logs .now) (a .undo .now) (asking (c .before)) in
-    (answered-meets (machine start) (a .list .now) (a .minute) (a .budget) (passed told) _ _ (e .0) (e .1), λ r f n. refl)
+    let e = c .best-by-table .ensures .0 (a .files .now) (a .logs .now) (a .undo .now) (asking (c .before)) in
+    ((answered-meets (machine start) (a .list .now) (a .minute) (a .budget) (passed told) _ _ (e .0) (e .1), λ r f n. refl), c .best-by-table .ensures .1)
 
 pub best-order-spec : {M : Type 1} → statement M
 best-order-spec =
@@ -98,6 +103,6 @@ best-order-spec =
     (λ c. search needs)
     returns-2
     (λ c. search needs)
-    cast-answer
-    answer-requires
+    cast-best-by-table
+    best-by-table-requires
     returns-3)

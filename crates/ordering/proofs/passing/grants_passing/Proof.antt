@@ -1,6 +1,4 @@
 -- `ordering::passing::grants_passing` meets its contract. The loop's invariant: what is left to pass is the rest of the order.
-use mathlib.Core.Bool.{Bool, true, false, not}
-use mathlib.Core.List.{List}
 use mathlib.Core.Logic.{⊎-elim}
 use mathlib.Core.Path.{_≡_, refl, sym, ap, ap₂, _∙_}
 use borrow.Author.Needs.{needs}

@@ -1,6 +1,6 @@
 -- `ordering::table::is_shut` meets its contract.
 use mathlib.Core.Bool.{Bool, _&&_}
-use mathlib.Core.Path.{_≡_, sym, ap, _∙_}
+use mathlib.Core.Path.{sym, ap, _∙_}
 use borrow.Author.Needs.{needs}
 use Rattle.ranges.proofs.Laws.{failed, held}
 use Rattle.closing.specs.Closing.{hasByteForClosed}

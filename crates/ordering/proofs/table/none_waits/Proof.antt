@@ -4,7 +4,7 @@ use mathlib.Core.Bool.{not}
 use borrow.Author.Needs.{needs}
 use lib.ListN.{length, getD}
 use native.Mathlib.Omega.{arith}
-use Prim.Native.Nat.{ℕ, _-_, _≤_}
+use Prim.Native.Nat.{_-_, _≤_}
 use Rattle.ordering.specs.Computing.{waitsIn}
 use Rattle.ordering.proofs.ListLaws.{AllLeft, all-fails, all-more, all-done, small-at}
 use Rattle.ordering.proofs.table.none_waits.Statement.{statement}

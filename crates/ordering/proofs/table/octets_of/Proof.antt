@@ -1,11 +1,12 @@
 -- `ordering::table::octets_of` meets its contract. The loop's invariant: the members passed have their octets.
 use mathlib.Core.List.{List}
-use mathlib.Core.Path.{_≡_, refl, sym, ap, _∙_, subst}
+use mathlib.Core.Path.{_≡_, refl, sym, _∙_, subst}
 use borrow.Author.Needs.{needs}
-use lib.ListN.{length, getD, length-set}
+use lib.ListN.{length, length-set}
 use native.Mathlib.Omega.{arith}
 use Prim.Native.Nat.{ℕ, _-_, _≤_, _<_}
 use Rattle.record.specs.Layout.{transactionOf}
+use Rattle.rules.specs.Promises.{machineOf}
 use Rattle.landing.specs.Landing.{CanLandIn}
 use Rattle.conflicts.specs.Staling.{staleBy}
 use Rattle.ordering.proofs.TableLoops.{FilledFor, filled-for-more}
@@ -15,13 +16,13 @@ use Rattle.ordering.proofs.table.octets_of.Tie as tie
 abbrev Inv-loop : tie.InvT-loop
 Inv-loop kept marks list table₀ k₀ table k =
     (k ≤ length list) × (length table ≡ 8)
-    × ((files logs : List ℕ) → length logs ≡ 32768 → FilledFor (staleBy kept files logs marks) list table k)
+    × ((files logs undo : List ℕ) → length logs ≡ 32768 → FilledFor (staleBy (machineOf kept files logs marks undo)) list table k)
 
 abbrev μ-loop : tie.MeasureT-loop
 μ-loop kept marks list table₀ k₀ table k = length list - k
 
 loop-holds : tie.Need-loop-holds Inv-loop μ-loop
-loop-holds c = (omega arith, refl, λ files logs long j l. absurd (omega arith))
+loop-holds c = (omega arith, refl, λ files logs undo long j l. absurd (omega arith))
 
 -- The member that was read, whose writes land.
 abbrev loop-of : tie.After-wide-octet Inv-loop μ-loop → tie.At-loop Inv-loop μ-loop
@@ -47,14 +48,14 @@ loop-again c =
     let a = start-of read .args in (
       omega arith,
       length-set (l .table) _ _ ∙ l .inv .1,
-      λ files logs long.
-          filled-for-more (staleBy (a .kept .now) files logs (a .marks .now)) (a .list .now) (l .table) (l .k) (read .wide-octet .result)
-          (c .stale-by .result) (omega (arith, small read, l .inv .1)) (read .wide-octet .ensures .0) (c .stale-by .ensures files logs long)
-          (l .inv .2 files logs long),
+      λ files logs undo long.
+          filled-for-more (staleBy (machineOf (a .kept .now) files logs (a .marks .now) undo)) (a .list .now) (l .table) (l .k) (read .wide-octet .result)
+          (c .stale-by .result) (omega (arith, small read, l .inv .1)) (read .wide-octet .ensures .0) (c .stale-by .ensures files logs undo long)
+          (l .inv .2 files logs undo long),
     )
 
 returns : tie.Need-returns Inv-loop μ-loop
-returns c files logs long k l = c .before .loop .inv .2 files logs long k (omega arith)
+returns c files logs undo long k l = c .before .loop .inv .2 files logs undo long k (omega arith)
 
 pub octets-of-spec : {M : Type 1} → statement M
 octets-of-spec =

@@ -40,7 +40,8 @@ loop-again c =
     let i = c .before .loop .inv in (
       omega arith,
       i .1,
-      ap (λ (l : List ℕ). set l (c .before .loop .i) 0) (i .2) ∙ fill-more (c .before .loop .i) 0 (c .before .before .before .before .before .args .kept .now) (omega arith),
+      ap (λ (l : List ℕ). set l (c .before .loop .i) 0) (i .2)
+          ∙ fill-more (c .before .loop .i) 0 (c .before .before .before .before .before .args .kept .now) (omega arith),
     )
 
 returns : tie.Need-returns Inv-loop μ-loop

@@ -4,7 +4,7 @@ use Prim.Native.Nat.{_-_, _≤_}
 use native.Mathlib.Numerals.{add-one}
 use native.Mathlib.Omega.{arith}
 use borrow.Author.Needs.{needs}
-use Rattle.record.specs.Layout.{copiedTo}
+use Rattle.record.specs.Updates.{copiedTo}
 use Rattle.record.proofs.layout.copy_numbers.Statement.{statement}
 use Rattle.record.proofs.layout.copy_numbers.Tie as tie
 

@@ -8,7 +8,7 @@ use native.Mathlib.Numerals.{add-one}
 use native.Mathlib.Omega.{arith}
 use borrow.Author.Needs.{needs}
 use Rattle.record.specs.State.{noDescriptor}
-use Rattle.record.specs.Layout.{withChosenAt}
+use Rattle.record.specs.Updates.{withChosenAt}
 use Rattle.record.proofs.layout.put_chosen.Statement.{statement}
 use Rattle.record.proofs.layout.put_chosen.Tie as tie
 

@@ -1,5 +1,5 @@
 -- `record::layout::put_descriptor` meets its contract.
-use Rattle.record.specs.Layout.{withDescriptorAt}
+use Rattle.record.specs.Updates.{withDescriptorAt}
 use borrow.Author.Needs.{needs}
 use Rattle.record.proofs.layout.put_descriptor.Statement.{statement}
 use Rattle.record.proofs.layout.put_descriptor.Tie as tie

@@ -5,7 +5,7 @@ use Prim.Native.Nat.{_-_, _≤_}
 use native.Mathlib.Numerals.{add-one}
 use native.Mathlib.Omega.{arith}
 use borrow.Author.Needs.{needs}
-use Rattle.record.specs.Layout.{withFileNumbersAt}
+use Rattle.record.specs.Updates.{withFileNumbersAt}
 use Rattle.record.proofs.layout.put_files.Statement.{statement}
 use Rattle.record.proofs.layout.put_files.Tie as tie
 

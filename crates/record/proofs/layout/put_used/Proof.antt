@@ -1,5 +1,5 @@
 -- `record::layout::put_used` meets its contract.
-use Rattle.record.specs.Layout.{withUsedAt}
+use Rattle.record.specs.Updates.{withUsedAt}
 use mathlib.Core.Path.{refl}
 use borrow.Author.Needs.{needs}
 use Rattle.record.proofs.layout.put_used.Statement.{statement}

@@ -4,7 +4,7 @@ use Prim.Native.Nat.{_-_, _≤_}
 use native.Mathlib.Numerals.{add-one}
 use native.Mathlib.Omega.{arith}
 use borrow.Author.Needs.{needs}
-use Rattle.record.specs.Layout.{zeroedFrom, resetAt}
+use Rattle.record.specs.Updates.{zeroedFrom, resetAt}
 use Rattle.record.proofs.layout.reset.Statement.{statement}
 use Rattle.record.proofs.layout.reset.Tie as tie
 

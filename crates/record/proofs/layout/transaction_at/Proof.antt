@@ -4,7 +4,13 @@ use Rattle.record.proofs.layout.transaction_at.Statement.{statement}
 use Rattle.record.proofs.layout.transaction_at.Tie as tie
 
 returns : tie.Need-returns
-returns c = rw (c .descriptors-at .ensures, c .before .used-at .ensures, c .before .before .lengthmarks-at .ensures, c .before .before .before .is-stale .ensures, c .before .before .before .before .is-begun .ensures)
+returns c = rw (
+  c .descriptors-at .ensures,
+  c .before .used-at .ensures,
+  c .before .before .lengthmarks-at .ensures,
+  c .before .before .before .is-stale .ensures,
+  c .before .before .before .before .is-begun .ensures,
+)
 
 pub transaction-at-spec : {M : Type 1} → statement M
 transaction-at-spec =

@@ -34,7 +34,8 @@ few c = omega (arith, start-of c .pre .few)
 small : (c : tie.After-record-at Inv-loop μ-loop) → start-of c .args .t < 9
 small c = omega (arith, start-of c .pre .small)
 
-looked-at : (c : tie.After-record-at Inv-loop μ-loop) → c .record-at .result ≡ writeRecordAt (journalOf (start-of c .args .kept .now)) (start-of c .args .t) (at c)
+looked-at : (c : tie.After-record-at Inv-loop μ-loop)
+    → c .record-at .result ≡ writeRecordAt (journalOf (start-of c .args .kept .now)) (start-of c .args .t) (at c)
 looked-at c =
     let l = c .before .before .before .loop in
     c .record-at .ensures ∙ next-record _ _ _ _ _ (l .inv .1) (small c) (few c)
@@ -89,7 +90,8 @@ loop-again c =
     let placed = one-placed _ _ _ _ _ so-far (small looked) (few looked) w (looked .record-at .ensures) in (
       omega arith,
       ⊎-elim
-          (λ v. placed _ _ (v .9 ∙ v .8 .ensures) (after-settled _ _ w _ (v .3 .ensures .0) _ (v .1 .given .1) (v .4 .taken) _ (v .6 .ensures ∙ offset-kept _ _ _ _ _ so-far _)))
+          (λ v. placed _ _ (v .9 ∙ v .8 .ensures)
+          (after-settled _ _ w _ (v .3 .ensures .0) _ (v .1 .given .1) (v .4 .taken) _ (v .6 .ensures ∙ offset-kept _ _ _ _ _ so-far _)))
           (⊎-elim
           (λ v. kept _ (v .5) (after-kept _ _ w _ (v .3 .ensures .0) (v .4 .left)))
           (λ v. kept _ (v .2) (after-placed _ _ w _ (v .1 .given .1))))

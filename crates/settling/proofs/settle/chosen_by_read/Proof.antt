@@ -34,7 +34,8 @@ loop-again c =
       ap (λ (l : List Bool). set l e (c .read-settles .result)) (at-loop .loop .inv .1)
           ∙ filled-set _ (replicate 16 false) e (c .read-settles .result) (omega arith)
           (c .read-settles .ensures
-          ∙ ap₂ (λ (f g : ℕ). readSettles (eqb f g) (eqb e (a .d)) (c .before .before .standing-at .result)) (c .before .file-at2 .ensures) (at-loop .before .file-at .ensures)
+          ∙ ap₂ (λ (f g : ℕ). readSettles (eqb f g) (eqb e (a .d)) (c .before .before .standing-at .result)) (c .before .file-at2 .ensures)
+          (at-loop .before .file-at .ensures)
           ∙ ap (readSettles _ (eqb e (a .d))) (c .before .before .standing-at .ensures)),
     )
 

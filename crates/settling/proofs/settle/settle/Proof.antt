@@ -48,7 +48,8 @@ returns c =
     let e = at-loop .loop .e in
     rw
     (below-fails (settlesWithin (a .t3) offsets (a .t2)) e 16 (omega arith)
-    (within-past (a .t3) offsets (a .t2) e (looked .before .before .if1 .taken) (omega (arith, c .before .advance .ensures, looked .offset-at .ensures, low looked))))
+    (within-past (a .t3) offsets (a .t2) e (looked .before .before .if1 .taken)
+    (omega (arith, c .before .advance .ensures, looked .offset-at .ensures, low looked))))
 
 settled-requires : tie.Need-settled-requires Inv-loop μ-loop
 settled-requires c κs = omega (arith, c .before .advance .ensures, low (c .before .before))

@@ -1,4 +1,3 @@
-use Prim.Native.Nat.{_-_}
 use native.Mathlib.Omega.{arith}
 use borrow.Author.Needs.{needs}
 use Rattle.grammar.proofs.Laws.{starts-within}
@@ -18,10 +17,18 @@ returns : tie.Need-returns
 returns c = search needs
 
 sub-perform : tie.Need-sub-perform
-sub-perform c = omega (arith, starts-within _ _ (c .before .before .before .before .before .before .before .before .parse .ensures) _ _ (c .before .before .before .before .before .before .p .given .1))
+sub-perform c = omega (
+  arith,
+  starts-within _ _ (c .before .before .before .before .before .before .before .before .parse .ensures) _ _
+      (c .before .before .before .before .before .before .p .given .1),
+)
 
 part-perform-start : tie.Need-part-perform-start
-part-perform-start c = omega (arith, starts-within _ _ (c .before .before .before .before .before .before .before .before .parse .ensures) _ _ (c .before .before .before .before .before .before .p .given .1))
+part-perform-start c = omega (
+  arith,
+  starts-within _ _ (c .before .before .before .before .before .before .before .before .parse .ensures) _ _
+      (c .before .before .before .before .before .before .p .given .1),
+)
 
 part-perform-end : tie.Need-part-perform-end
 part-perform-end c = search needs

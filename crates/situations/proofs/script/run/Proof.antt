@@ -5,7 +5,8 @@ use Rattle.situations.proofs.script.run.Statement.{statement}
 use Rattle.situations.proofs.script.run.Tie as tie
 
 abbrev Inv-loop : tie.InvT-loop
-Inv-loop kept₀ files₀ logs₀ marks₀ undo₀ calls replies ok₀ i₀ j₀ kept files logs marks undo ok i j = (i ≤ length calls) × (j ≤ length replies)
+Inv-loop kept₀ files₀ logs₀ marks₀ undo₀ calls replies ok₀ i₀ j₀ kept files logs marks undo ok i j = (i ≤ length calls)
+    × (j ≤ length replies)
 
 abbrev μ-loop : tie.MeasureT-loop
 μ-loop kept₀ files₀ logs₀ marks₀ undo₀ calls replies ok₀ i₀ j₀ kept files logs marks undo ok i j = length calls - i

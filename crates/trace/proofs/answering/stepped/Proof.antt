@@ -15,7 +15,7 @@ returns c =
     let start = looked .before .before .before .before .before .before in
     let piece = start .args .piece .now in
     let went = looked .next .ensures .1 in
-    let no = off (looked .next .result .ended) (c .if1 .taken) in
+    let no = off (looked .next .result .complete) (c .if1 .taken) in
     let whole = went .whole no in
     let past : length piece ≤ looked .next .result .at = omega (arith, whole) in (
       held-passes _ _ _ _ _ _ _ (looked .next .ensures .0) no (drop-of-length-le piece past),
@@ -38,7 +38,7 @@ returns-2 c =
     let piece = start .args .piece .now in
     let went = looked .next .ensures .1 in
     let e = told .told .ensures in
-    let yes = on (looked .next .result .ended) (tested .if1 .left) in
+    let yes = on (looked .next .result .complete) (tested .if1 .left) in
     let past = went .past yes in (
       told-passes _ _ _ _ _ _ _ (looked .next .ensures .0) yes _ (cutting .part .ensures) _ _ (e .0) _ _
           (take-none _ _ (e .1 .1 .0)) (ap (λ (n : ℕ). drop n piece) (e .1 .1 .1)),

@@ -6,8 +6,8 @@ use lib.Seq.{drop-cons, drop-length}
 use borrow.Author.Needs.{needs}
 use Rattle.grammar.specs.Grammar.{ends}
 use Rattle.grammar.specs.Parsing.{lineOf, startOf}
-use Rattle.grammar.proofs.ended.Statement.{statement}
-use Rattle.grammar.proofs.ended.Tie as tie
+use Rattle.grammar.proofs.whole_line.Statement.{statement}
+use Rattle.grammar.proofs.whole_line.Tie as tie
 
 returns : tie.Need-returns
 unfolding ends lineOf startOf
@@ -17,5 +17,5 @@ returns-2 : tie.Need-returns-2
 unfolding ends lineOf startOf
 returns-2 c = record { means = rw (drop-of-length-le _ (c .if1 .left), drop-length); within = omega arith }
 
-pub ended-spec : {M : Type 1} → statement M
-ended-spec = tie.close (tie.spec returns returns-2)
+pub whole-line-spec : {M : Type 1} → statement M
+whole-line-spec = tie.close (tie.spec returns returns-2)

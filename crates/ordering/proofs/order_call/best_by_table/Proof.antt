@@ -1,22 +1,22 @@
--- `ordering::order_call::answer` meets its contract.
+-- `ordering::order_call::best_by_table` meets its contract.
 use mathlib.Core.Bool.{true}
 use mathlib.Core.List.{List}
-use mathlib.Core.Path.{_≡_, sym, ap, subst, _∙_}
+use mathlib.Core.Path.{_≡_, sym, subst, _∙_}
 use borrow.Author.Needs.{needs}
 use lib.Dec.{leb}
-use lib.ListN.{length, take}
+use lib.ListN.{length, length-map}
 use native.Mathlib.Omega.{arith}
-use Prim.Native.Nat.{ℕ, _≤_, min}
+use Prim.Native.Nat.{ℕ, _≤_}
 use Rattle.record.specs.Paper.{said}
 use Rattle.ranges.proofs.Laws.{first-zero}
 use Rattle.orders.specs.Orders.{factorial, allIn}
-use Rattle.ordering.specs.Computing.{orderPart, grantsBy, BestIn}
+use Rattle.ordering.specs.Computing.{orderPart, grantsByTable, BestIn}
 use Rattle.ordering.specs.declared.best.Known.{Known}
-use Rattle.ordering.proofs.ArrangeLaws.{factorial-most}
+use Rattle.ordering.proofs.ArrangeLaws.{factorial-most, padded-front}
 use Rattle.ordering.proofs.Admitted.{ListIn, list-in, few-listed, land-all}
 use Rattle.ordering.proofs.Answered.{answer-is, buffer-is}
-use Rattle.ordering.proofs.order_call.answer.Statement.{statement}
-use Rattle.ordering.proofs.order_call.answer.Tie as tie
+use Rattle.ordering.proofs.order_call.best_by_table.Statement.{statement}
+use Rattle.ordering.proofs.order_call.best_by_table.Tie as tie
 
 listed : (c : tie.Start) → let a = c .args in ListIn (a .kept .now) (a .list .now) (a .minute) (a .budget)
 listed c = list-in (c .args .kept .now) (c .args .list .now) (c .args .minute) (c .args .budget) (c .pre .2)
@@ -42,7 +42,8 @@ best-of-requires c κs =
     let start = start-of c in (
       few start,
       tried-few c,
-      subst (λ (ts : List ℕ). allIn (λ t. leb t 7) ts ≡ true) (sym (c .numbers-of .ensures)) (listed start .small),
+      subst (λ (ts : List ℕ). allIn (λ t. leb t 7) ts ≡ true) (sym (c .numbers-of .ensures .0)) (listed start .small),
+      c .numbers-of .ensures .1,
     )
 
 gap-of-requires : tie.Need-gap-of-requires
@@ -56,7 +57,7 @@ cast-tried c =
 
 returns : tie.Need-returns
 unfolding said orderPart
-returns c files logs undo asking =
+returns c =
     let gap = c .before in
     let best = gap .before in
     let numbered = best .before in
@@ -68,21 +69,26 @@ returns c files logs undo asking =
     let start = start-of numbered in
     let a = start .args in
     let ts = a .list .now in
-    let long = first-zero _ _ _ 0 (asking .admitted) .0 .logs in
     let known : Known = record { table = octets .octets-of .result; shut = shut .shut-of .result; placed = none .none-waits .result } in
-    let found : BestIn (grantsBy (a .kept .now) known) (small .smaller .result) ts (length ts) (best .best-of .result) =
-    subst (λ (xs : List ℕ). BestIn (grantsBy (a .kept .now) known) (small .smaller .result) xs (length ts) (best .best-of .result))
-    (numbered .numbers-of .ensures) (best .best-of .ensures) in (
-      answer-is (a .kept .now) files logs (a .marks .now) undo ts (a .minute) (a .budget) asking (listed start)
-          _ (octets .octets-of .ensures files logs long) _ (shut .shut-of .ensures logs long) _ (none .none-waits .ensures)
-          _ (all .factorial .ensures) _ (small .smaller .ensures) _ _ (found .grants) (gap .gap-of .ensures),
-      buffer-is (a .kept .now) files logs (a .marks .now) undo ts (a .minute) (a .budget) asking (listed start)
-          _ (octets .octets-of .ensures files logs long) _ (shut .shut-of .ensures logs long) _ (none .none-waits .ensures)
-          _ (all .factorial .ensures) _ (small .smaller .ensures) _ (found .order),
+    let found : BestIn (grantsByTable (a .kept .now) known) (small .smaller .result) ts (length ts) (best .best-of .result) =
+    subst (λ (xs : List ℕ). BestIn (grantsByTable (a .kept .now) known) (small .smaller .result) xs (length ts) (best .best-of .result))
+    (numbered .numbers-of .ensures .0) (best .best-of .ensures) in
+    let eight : length (best .best-of .result .order) ≡ 8 = sym (length-map (best .best-of .result .order) _) ∙ best .best-of .ok .1 .1 .0 .1 .0 .1 in
+    let in-eight = few start in (
+      (λ files logs undo asking.
+          let long = first-zero _ _ _ 0 (asking .admitted) .0 .logs in (
+            answer-is (a .kept .now) files logs (a .marks .now) undo ts (a .minute) (a .budget) asking (listed start)
+                _ (octets .octets-of .ensures files logs undo long) _ (shut .shut-of .ensures logs long) _ (none .none-waits .ensures)
+                _ (all .factorial .ensures) _ (small .smaller .ensures) _ _ (found .grants) (gap .gap-of .ensures),
+            buffer-is (a .kept .now) files logs (a .marks .now) undo ts (a .minute) (a .budget) asking (listed start)
+                _ (octets .octets-of .ensures files logs undo long) _ (shut .shut-of .ensures logs long) _ (none .none-waits .ensures)
+                _ (all .factorial .ensures) _ (small .smaller .ensures) _ (found .order),
+          )),
+      padded-front (length ts) (best .best-of .result .order) (omega (arith, eight, in-eight)) (found .zeros),
     )
 
-pub answer-spec : {M : Type 1} → statement M
-answer-spec =
+pub best-by-table-spec : {M : Type 1} → statement M
+best-by-table-spec =
     tie.close
     (tie.spec
     octets-of-requires

@@ -4,8 +4,8 @@ use native.Mathlib.Omega.{arith}
 use borrow.Author.Needs.{needs}
 use Rattle.octets.specs.Parts.{cut}
 use Rattle.trace.proofs.Passing.{off, on, take-none, no-last-line, last-line}
-use Rattle.trace.proofs.answering.ended.Statement.{statement}
-use Rattle.trace.proofs.answering.ended.Tie as tie
+use Rattle.trace.proofs.answering.last_line.Statement.{statement}
+use Rattle.trace.proofs.answering.last_line.Tie as tie
 
 returns : tie.Need-returns
 unfolding cut
@@ -33,8 +33,8 @@ returns-2 c =
       (e .1 .0, e .1 .1 .0),
     )
 
-pub ended-spec : {M : Type 1} → statement M
-ended-spec =
+pub last-line-spec : {M : Type 1} → statement M
+last-line-spec =
     tie.close
     (tie.spec
     (λ c κs. search needs)

@@ -169,6 +169,17 @@ mod tests {
     }
 
     #[test]
+    fn the_sample_opens_the_trace_that_the_store_is_tested_with() {
+        let sample = include_str!("../../samples/afternoon.trace");
+        let shown = include_str!("../../samples/afternoon.txt");
+        let tested: &[u8] = include_bytes!("../../crates/trace/stdin");
+        let stored = include_str!("../../crates/trace/stdout");
+        assert!(tested.starts_with(sample.as_bytes()) && stored.starts_with(shown));
+        assert_eq!(printed(sample.as_bytes()), shown);
+        assert_eq!(printed(tested), stored);
+    }
+
+    #[test]
     fn lines_and_their_ends() {
         assert_eq!(printed(b""), "");
         assert_eq!(printed(b"\n"), "17\n");

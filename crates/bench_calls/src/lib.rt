@@ -28,7 +28,7 @@ fn wide(x: u8) -> usize
     x as usize
 }
 
-fn number(low: u8, high: u8) -> usize {
+fn sixteen_bits(low: u8, high: u8) -> usize {
     wide(low) + 256 * wide(high)
 }
 
@@ -40,8 +40,8 @@ fn step_at(script: &[u8], at: usize) -> Step
         kind: script[at],
         t: wide(script[at + 1]),
         d: wide(script[at + 2]),
-        n: number(script[at + 4], script[at + 5]),
-        from: number(script[at + 6], script[at + 7]),
+        n: sixteen_bits(script[at + 4], script[at + 5]),
+        from: sixteen_bits(script[at + 6], script[at + 7]),
     }
 }
 

@@ -9,7 +9,7 @@ use crate::saving::Saved;
 use crate::saving::Undo;
 use crate::saving::load;
 use crate::saving::save;
-use crate::telling::answer;
+use crate::telling::end_line;
 use crate::telling::offset;
 use crate::telling::print;
 use crate::telling::print_number;
@@ -74,7 +74,7 @@ fn commit(
     let r = refusal(store::commit(kept, files, logs, marks, undo, t, MINUTE));
     print_number(b"commit ", t as u64);
     print(b": ");
-    answer(b"granted\n", r);
+    end_line(b"granted\n", r);
     r == Refusal::Stale.number()
 }
 
@@ -204,7 +204,7 @@ fn go_on(kept: &mut Record, files: &mut Buffer, logs: &Buffer, marks: &mut Buffe
     ask(kept, files, logs, marks, undo);
     let r = refusal(store::take_back(kept, files, logs, marks, undo));
     print(b"taking back: ");
-    answer(b"done\n", r);
+    end_line(b"done\n", r);
     tell_end_of_log(offset_at(kept, LOG));
 }
 

@@ -38,7 +38,7 @@ fn failure(end: End) -> u8 {
 }
 
 // Ends a line: with this text where r is 0, and else with the refusal r.
-pub fn answer(text: &[u8], r: u8) {
+pub fn end_line(text: &[u8], r: u8) {
     if r == 0 {
         print(text);
         return;
@@ -54,7 +54,7 @@ fn tell_end(d: Dispatched, k: usize) {
         let end = e.end;
         print_number(b"script ", k as u64);
         print(b": ");
-        answer(b"granted\n", failure(end));
+        end_line(b"granted\n", failure(end));
     }
 }
 
@@ -63,7 +63,7 @@ pub fn tell_ends(d: Dispatched) {
     let o = d.outcome;
     let r = refusal(o);
     print(b"dispatcher: ");
-    answer(b"done\n", r);
+    end_line(b"done\n", r);
     if r > 0 {
         return;
     }

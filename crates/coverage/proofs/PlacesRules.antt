@@ -10,7 +10,8 @@ use Prim.Native.Nat.{ℕ, zero, suc, _*_, _≤_, _<_}
 use Rattle.record.specs.State.{transaction}
 use Rattle.record.specs.Paper.{pairs, said}
 use Rattle.record.specs.declared.outcomes.Outcome.the-variants.{Pairs}
-use Rattle.ranges.specs.Ranges.{admission, unless}
+use Rattle.ranges.specs.Ranges.{admission}
+use Rattle.ranges.specs.Below.{unless}
 use Rattle.rules.specs.Transactions.{Txn}
 use Rattle.rules.specs.Messages.{places}
 use Rattle.rules.specs.Machine.{Machine, sizes, fileOf, txnOf}

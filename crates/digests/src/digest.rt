@@ -330,6 +330,6 @@ pub fn reply_taken(h: usize, o: Outcome, buffer: &[u8]) -> usize
     ensures { λ r. ⌜ Digest r ⌝ }
 {
     let code = outcomes::code(o);
-    let number = outcomes::number(o);
+    let number = outcomes::outcome_number(o);
     octets_taken(taken(taken(h, code), number), buffer)
 }

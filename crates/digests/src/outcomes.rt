@@ -21,7 +21,7 @@ pub fn code(o: Outcome) -> u16 {
 }
 
 // The number answered, 0 where there is none.
-pub fn number(o: Outcome) -> u16 {
+pub fn outcome_number(o: Outcome) -> u16 {
     match o {
         Outcome::Done => 0,
         Outcome::Offset(n) => n,

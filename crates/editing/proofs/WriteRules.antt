@@ -27,7 +27,8 @@ use Rattle.record.specs.Paper.{plain, said, number}
 use Rattle.record.proofs.JournalLaws.{length-with-at}
 use Rattle.record.proofs.LayoutLaws.{length-journal, transaction-of, store-with-record, journal-with-record, store-with-used}
 use Rattle.record.proofs.LayoutLaws.{journal-with-used, length-with-used, store-with-descriptor, journal-with-descriptor}
-use Rattle.ranges.specs.Ranges.{admission, unless, standingIn}
+use Rattle.ranges.specs.Ranges.{admission, standingIn}
+use Rattle.ranges.specs.Below.{unless}
 use Rattle.ranges.proofs.Laws.{and-right, number-suc}
 use Rattle.rules.specs.Items.{Prog, done}
 use Rattle.rules.specs.Messages.{write, bufferOf, on}

@@ -11,7 +11,7 @@ use Rattle.standings.specs.Table.{placeNumber, writePlace, afterWrite}
 use Rattle.record.specs.declared.Store.{Store}
 use Rattle.record.specs.State.{transaction, withUsed, withDescriptors, withTransaction}
 use Rattle.record.specs.Journal.{withRecordAt}
-use Rattle.ranges.specs.Ranges.{unless}
+use Rattle.ranges.specs.Below.{unless}
 
 -- Refusals 9 to 11 for a write of n bytes; 0 stands for none.
 unfoldable pub writeRefusal : Place → Used → ℕ → ℕ

@@ -690,7 +690,7 @@ fn window_end(start: usize, r: [usize; 12]) -> usize {
     minute(r[5] % 16, r[6])
 }
 
-fn number(kind: usize, mode: usize, class: usize, value: usize) -> usize {
+fn argument(kind: usize, mode: usize, class: usize, value: usize) -> usize {
     match kind {
         SEEK => seek_to(mode, class, value),
         WRITE => write_length(mode, class, value),
@@ -1007,7 +1007,7 @@ fn call_from(r: [usize; 12], mode: usize, chosen: Chosen, open: [bool; 8]) -> Ge
     let k = chosen.kind;
     let t = chosen.transaction;
     let class = r[3] % 16;
-    let n = number(k, mode, class, r[4]);
+    let n = argument(k, mode, class, r[4]);
     let d = damaged(k, r);
     let list = list(r);
     let plan = planned(r);

@@ -9,7 +9,8 @@ use native.Mathlib.Numerals.{add-one}
 use native.Mathlib.Omega.{arith}
 use borrow.Author.Tests.{eq-eqb, ne-eqb, lt-ltb}
 use Prim.Native.Nat.{ℕ, _+_, _≤_, _<_}
-use Rattle.lines.specs.Lines.{endedLine, grown, lastLine, kept, endedIn, heldAfter, NextLine}
+use Rattle.lines.specs.Lines.{endedLine, grown, lastLine, kept, endedIn, heldAfter}
+use Rattle.lines.specs.Looks.{NextLine}
 
 -- the same lines are found, and the same is held, from two places on
 abbrev pub Same : List ℕ → List ℕ → List ℕ → List ℕ → Type 0

@@ -1,12 +1,11 @@
 -- The lines of a trace. Paper 02, F-5: "A line ends at the byte 10, the last one also at the end of the input, where an empty rest is no
 -- line."
 use mathlib.Core.Path.{_≡_}
-use mathlib.Core.Bool.{Bool, true, false, cond}
+use mathlib.Core.Bool.{cond}
 use mathlib.Core.List.{List, [], _∷_, _++_, map}
 use lib.Dec.{eqb}
 use lib.ListN.{take}
-use Prim.Native.Nat.{ℕ, _≤_, _<_}
-use Rattle.lines.specs.declared.Look.{Look}
+use Prim.Native.Nat.{ℕ}
 
 -- The line that a byte of the input ends, if it does, and what is held of the line at hand after the byte.
 unfoldable pub endedLine : ℕ → List ℕ → List (List ℕ)
@@ -55,17 +54,3 @@ joined (piece ∷ pieces) = piece ++ joined pieces
 -- Proved in proofs/Pieces.antt: wherever the input is cut, the lines are those of the whole.
 abbrev pub PiecesAreTheWhole : Type 0
 PiecesAreTheWhole = (pieces : List (List ℕ)) → fromPieces [] pieces ≡ map kept (linesOf (joined pieces))
-
--- What a look for the next line end finds in a piece: the line that ends first, and the rest of the piece; or that no line ends in it,
--- and what is held then.
-unfoldable pub NextLine : Bool → List ℕ → List ℕ → List ℕ → List ℕ → Type 0
-NextLine true held piece line rest = (endedIn held piece ≡ line ∷ endedIn [] rest) × (heldAfter held piece ≡ heldAfter [] rest)
-NextLine false held piece line rest = (endedIn held piece ≡ []) × (heldAfter held piece ≡ line)
-
--- Where a look from `from` on ends in a piece of that size: past the line end that it found, or at the end of the piece.
-pub record Went (r : Look) (from size : ℕ) : Type 0 where
-  pub within : r .held ≤ 129
-  pub onward : from ≤ r .at
-  pub inside : r .at ≤ size
-  pub past : r .complete ≡ true → from < r .at
-  pub whole : r .complete ≡ false → r .at ≡ size

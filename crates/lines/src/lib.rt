@@ -5,7 +5,8 @@ ghost use mathlib.Core.Bool.{cond};
 ghost use mathlib.Core.List.{_∷_, []};
 ghost use Prim.Native.Nat.{_<_, _≤_};
 ghost use lib.ListN.{length, take, drop};
-ghost use Rattle.lines.specs.Lines.{NextLine, Went, lastLine};
+ghost use Rattle.lines.specs.Lines.{lastLine};
+ghost use Rattle.lines.specs.Looks.{NextLine, Went};
 
 pub const KEPT: usize = 129;
 

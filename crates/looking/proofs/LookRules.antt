@@ -15,7 +15,8 @@ use Rattle.record.specs.State.{transaction}
 use Rattle.record.specs.Layout.{transactionOf, storeOf, journalOf, recordLength}
 use Rattle.record.proofs.LayoutLaws.{length-journal, transaction-of}
 use Rattle.record.specs.Paper.{number}
-use Rattle.ranges.specs.Ranges.{unless, admission}
+use Rattle.ranges.specs.Ranges.{admission}
+use Rattle.ranges.specs.Below.{unless}
 use Rattle.rules.specs.Items.{done}
 use Rattle.rules.specs.Messages.{Op, bufferOf, on}
 use Rattle.rules.specs.Steps.{refuse, descriptorOf, looks, turnsBack}

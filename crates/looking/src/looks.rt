@@ -4,7 +4,8 @@ use record::outcomes::Refusal;
 ghost use mathlib.Core.Bool.{not};
 ghost use mathlib.Core.Path.{_≡_};
 ghost use lib.Dec.{leb};
-ghost use Rattle.ranges.specs.Ranges.{gateNumber, unless};
+ghost use Rattle.ranges.specs.Ranges.{gateNumber};
+ghost use Rattle.ranges.specs.Below.{unless};
 
 // Refusals 6, 18 and 7 of a call that looks through descriptor d at n bytes, the reader's buffer having room for so
 // many. GetFilePointer looks at none.

@@ -9,7 +9,8 @@ use lib.ListN.{length, getD}
 use lib.Seq.{ext-getD}
 use borrow.Author.Tests.{ltb-true, lt-ltb}
 use Rattle.octets.specs.Bits.{bit, bitsOf}
-use Rattle.octets.specs.Marks.{byByte, byTransaction, names, rearranged, hasMark, withMark, withoutMarks, contains, Arranged, SamePairs}
+use Rattle.octets.specs.Marks.{byByte, byTransaction, names, rearranged, hasMark, withMark, withoutMarks, contains, SamePairs}
+use Rattle.octets.specs.Examples.{Arranged}
 use Rattle.octets.proofs.MarkLaws.{has-with-mark, has-without-marks}
 use Rattle.octets.proofs.SetLaws.{contains-bits, octets-same}
 use Rattle.octets.proofs.TableLaws.{length-tabulate, getD-tabulate}

@@ -1,3 +1,4 @@
 pub mod Parts
 pub mod Bits
 pub mod Marks
+pub mod Examples

@@ -1,6 +1,6 @@
 -- Marks by meaning: which transaction has marked which byte of the files. Above this crate nothing else is known of them.
-use mathlib.Core.Bool.{Bool, true, false, not, _&&_, _||_}
-use mathlib.Core.List.{List, [], _∷_}
+use mathlib.Core.Bool.{Bool, false, not, _&&_, _||_}
+use mathlib.Core.List.{List}
 use mathlib.Core.Path.{_≡_}
 use lib.Dec.{eqb, ltb}
 use lib.ListN.{length, getD, set}
@@ -25,15 +25,6 @@ byTransaction = record { octetOf = λ t q. 4096 * t + q / 8; bitOf = λ t q. q %
 -- The pairs of transaction and byte that marks name: one of the 32,768 bytes, whose bit is set.
 unfoldable pub names : Arrangement → List ℕ → ℕ → ℕ → Bool
 names a marks t q = ltb q 32768 && eqb (bit (a .bitOf t q) (getD marks (a .octetOf t q) 0)) 1
-
--- Both arrangements, computed: transaction 3 and byte 17 of the files.
-pub record Arranged : Type 0 where
-  pub old : (byByte .octetOf 3 17 ≡ 17) × (byByte .bitOf 3 17 ≡ 3)
-  -- 02, F-9: "transaction t's starting at 4,096 × t, a bit for each file byte in the order of the file buffer, lowest bit first"
-  pub new : (byTransaction .octetOf 3 17 ≡ 12290) × (byTransaction .bitOf 3 17 ≡ 1)
-  pub lowestFirst :
-      (names byTransaction (1 ∷ []) 0 0 ≡ true) × (names byTransaction (128 ∷ []) 0 7 ≡ true) × (names byTransaction (0 ∷ 1 ∷ []) 0 8 ≡ true)
-  pub byPlace : (names byByte (0 ∷ 128 ∷ []) 7 1 ≡ true) × (names byByte (0 ∷ 128 ∷ []) 1 7 ≡ false)
 
 -- F-9, "each old arrangement and its new one": octet i of the new one has the marks of transaction i / 4096 on the eight bytes from
 -- 8 * (i % 4096) on.

@@ -16,8 +16,8 @@ use Rattle.record.specs.State.{transaction, standingAt}
 use Rattle.record.specs.Journal.{writeRecordAt}
 use Rattle.record.specs.Layout.{transactionOf, storeOf, journalOf}
 use Rattle.record.proofs.LayoutLaws.{transaction-of}
-use Rattle.ranges.specs.Below.{someBelow}
-use Rattle.ranges.specs.Ranges.{placeIn, lengthsBefore, storeIn, unless}
+use Rattle.ranges.specs.Below.{someBelow, unless}
+use Rattle.ranges.specs.Ranges.{placeIn, lengthsBefore, storeIn}
 use Rattle.ranges.proofs.Laws.{and-left, and-right, some-found, unless-zero, TransactionInRange, in-range, record-in}
 use Rattle.orders.specs.Orders.{allIn, isList}
 use Rattle.rules.specs.Coverage.{noPlace}

@@ -14,8 +14,7 @@ use Rattle.record.specs.State.{standingAt}
 use Rattle.record.specs.Journal.{writeRecordAt}
 use Rattle.record.specs.Layout.{storeOf, journalOf, transactionOf}
 use Rattle.record.specs.Paper.{said}
-use Rattle.ranges.specs.Below.{someBelow}
-use Rattle.ranges.specs.Ranges.{unless}
+use Rattle.ranges.specs.Below.{someBelow, unless}
 use Rattle.orders.specs.Orders.{allIn, bestTried, isList}
 use Rattle.rules.specs.Transactions.{Txn}
 use Rattle.rules.specs.Coverage.{noPlace}

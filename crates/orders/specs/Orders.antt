@@ -97,7 +97,7 @@ isList ts = leb 1 (length ts) && leb (length ts) 8 && distinct ts
 
 -- ---- what is proved
 
--- An order of a list is any list with the same members: each as often as there.
+-- An order of a list is any list with the same members: each as often as there. (False of `notAnOrder`: Examples.antt.)
 abbrev pub Arranges : List ℕ → List ℕ → Type 0
 Arranges ts o = (t : ℕ) → countIn (eqb t) o ≡ countIn (eqb t) ts
 
@@ -116,7 +116,7 @@ pub record OrdersOf (ts : List ℕ) : Type 0 where
   -- "The number of orders tried is in the result, never above the budget."
   pub tried : (budget : ℕ) → length (triedOf budget ts) ≤ budget
 
--- "the answer is the earliest of those tried with the most grants"
+-- "the answer is the earliest of those tried with the most grants" (False of `tooLate` and `tooFew`: Examples.antt.)
 pub record Earliest (grantsIn : List ℕ → ℕ) (os : List (List ℕ)) (a : Rated) : Type 0 where
   pub position : ℕ
   pub inside : position < length os

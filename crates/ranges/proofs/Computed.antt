@@ -3,10 +3,10 @@ use mathlib.Core.Path.{refl}
 use Rattle.windows.specs.Hours.{minuteIn}
 use Rattle.record.specs.State.{ended, begun}
 use Rattle.record.specs.Journal.{heldAs, held, writeRecordAt, withRecordAt, withRecords}
-use Rattle.ranges.specs.Below.{below, sum}
+use Rattle.ranges.specs.Below.{below, sum, unless}
 use Rattle.ranges.specs.Ranges.{windowIn, standingIn, endsWithin, placeIn, recordIn, lengthsBefore, journalIn, transactionIn}
 use Rattle.ranges.specs.Ranges.{tablesIn, placedIn, landedIn, grantPasses, undoIn, storeIn}
-use Rattle.ranges.specs.Ranges.{unless, sizesIn, firstTests, shared, admission, admissionOfBegin, admissionOfFresh, windowRefusal}
+use Rattle.ranges.specs.Ranges.{sizesIn, firstTests, shared, admission, admissionOfBegin, admissionOfFresh, windowRefusal}
 use Rattle.ranges.specs.Ranges.{admissionOfWindow, noneBegun, admissionOfTakingBack, admissionOfDispatch}
 use Rattle.ranges.specs.Forged.{forged, lengthened, windowed, opened, journal, granted, grantJournal, placed, first, deferred, Forged}
 

@@ -23,9 +23,9 @@ use Rattle.record.specs.declared.journal.WriteRecord.{WriteRecord}
 use Rattle.record.specs.State.{transaction, standingAt, windowAt}
 use Rattle.record.specs.Journal.{writeRecordAt, grantStretch}
 use Rattle.octets.proofs.PartLaws.{le-or-lt}
-use Rattle.ranges.specs.Below.{below, someBelow, sum}
+use Rattle.ranges.specs.Below.{below, someBelow, sum, unless}
 use Rattle.ranges.specs.Ranges.{standingIn, endsWithin, placeIn, recordIn, lengthsBefore, journalIn, transactionIn, windowIn}
-use Rattle.ranges.specs.Ranges.{tablesIn, placedIn, landedIn, grantPasses, undoIn, storeIn, unless, Sizes, sizesIn, firstTests}
+use Rattle.ranges.specs.Ranges.{tablesIn, placedIn, landedIn, grantPasses, undoIn, storeIn, Sizes, sizesIn, firstTests}
 use Rattle.ranges.specs.Ranges.{shared, windowRefusal, admissionOfWindow, noneBegun, admissionOfTakingBack, admissionOfDispatch}
 use Rattle.ranges.specs.Ranges.{admissionOfFresh, gateNumber}
 use Rattle.ranges.specs.declared.Gate.{Gate}

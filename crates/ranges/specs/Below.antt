@@ -13,6 +13,10 @@ abbrev pub isNone : ℕ → Bool
 isNone zero = true
 isNone (suc n) = false
 
+-- The number of a refusal when a test fails, otherwise what the later tests say; 0 stands for none.
+unfoldable pub unless : Bool → ℕ → ℕ → ℕ
+unless ok n later = guarded (λ k. k) ok n later
+
 unfoldable pub below : (ℕ → Bool) → ℕ → Bool
 below p zero = true
 below p (suc n) = below p n && p n

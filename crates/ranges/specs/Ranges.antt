@@ -19,7 +19,7 @@ use Rattle.record.specs.Journal.{writeRecordAt, grantStretch}
 use Rattle.record.specs.Paper.{number}
 use Rattle.ranges.specs.declared.Gate.{Gate}
 use Rattle.ranges.specs.declared.Gate.the-variants.{Pass, Refused}
-use Rattle.ranges.specs.Below.{guarded, below, sum}
+use Rattle.ranges.specs.Below.{unless, below, sum}
 
 -- "offsets and advances of standings at most 4,096"
 unfoldable pub standingIn : Standing → Bool
@@ -107,10 +107,6 @@ undoIn u journal =
 -- All of check 2.
 unfoldable pub storeIn : Store → List ℕ → Bool
 storeIn s journal = tablesIn s journal && undoIn (s .undo) journal
-
--- The number of a refusal when a test fails, otherwise what the later tests say; 0 stands for none.
-unfoldable pub unless : Bool → ℕ → ℕ → ℕ
-unless ok n later = guarded (λ k. k) ok n later
 
 -- The lengths of the store buffers.
 pub record Sizes : Type 0 where

@@ -15,7 +15,8 @@ use Rattle.record.specs.Paper.{Said, plain, number, said}
 use Rattle.octets.specs.Marks.{withoutMarks}
 use Rattle.ranges.specs.declared.Gate.{Gate}
 use Rattle.ranges.specs.declared.Gate.the-variants.{Pass, Refused as GateRefused}
-use Rattle.ranges.specs.Ranges.{unless, shared, admission, admissionOfBegin, gateNumber}
+use Rattle.ranges.specs.Ranges.{shared, admission, admissionOfBegin, gateNumber}
+use Rattle.ranges.specs.Below.{unless}
 use Rattle.ranges.proofs.Laws.{failed, held, number-suc, Admitted, shared-zero, shared-passed, shared-refused}
 use Rattle.rules.specs.Items.{Prog, done, result, asked}
 use Rattle.rules.specs.Transactions.{Txn}

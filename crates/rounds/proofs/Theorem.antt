@@ -12,8 +12,8 @@ use Rattle.octets.proofs.TableLaws.{length-tabulate}
 use Rattle.windows.specs.Hours.{freshWindows}
 use Rattle.record.specs.State.{transaction, windowAt}
 use Rattle.record.specs.Layout.{journalOf}
-use Rattle.ranges.specs.Below.{guarded, isNone}
-use Rattle.ranges.specs.Ranges.{unless, firstTests, sizesIn, storeIn, noneBegun, admissionOfDispatch}
+use Rattle.ranges.specs.Below.{guarded, isNone, unless}
+use Rattle.ranges.specs.Ranges.{firstTests, sizesIn, storeIn, noneBegun, admissionOfDispatch}
 use Rattle.ranges.proofs.Laws.{and-left, and-right, below-at, below-same, AdmittedDispatch, admitted-dispatch}
 use Rattle.rules.specs.Messages.{Call, Reply}
 use Rattle.rules.specs.Machine.{Machine, sizes, fileOf, values}

@@ -7,8 +7,8 @@ use lib.Dec.{eqb}
 use lib.ListN.{length}
 use Prim.Native.Nat.{ℕ, _+_, _*_, _≤_, _<_}
 use Rattle.octets.specs.Parts.{tabulate}
-use Rattle.ranges.specs.Below.{guarded, isNone}
-use Rattle.ranges.specs.Ranges.{admissionOfDispatch, unless}
+use Rattle.ranges.specs.Below.{guarded, isNone, unless}
+use Rattle.ranges.specs.Ranges.{admissionOfDispatch}
 use Rattle.record.specs.State.{transaction, windowAt}
 use Rattle.windows.specs.Hours.{freshWindows}
 use Rattle.rules.specs.Messages.{Op, seek, write, getFilePointer, read, Call, Reply}

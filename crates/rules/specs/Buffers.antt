@@ -12,7 +12,7 @@ use Rattle.rules.specs.Machine.{Machine}
 use Rattle.rules.specs.Calls.{fresh, call, callsAfter}
 use Rattle.rules.specs.Demand3OfStore.{FreshlyMade}
 
--- Transaction t has no mark, and has sighted no length.
+-- Transaction t has no mark, and has sighted no length. (False of `marksThree` and `marksLength`: Counterexamples.antt.)
 pub record Unmarked (t : ℕ) (m : Machine) : Type 0 where
   pub bytes : (q : ℕ) → hasMark (m .marks) t q ≡ false
   pub lengths : transaction (m .store) t .lengthmarks ≡ 0

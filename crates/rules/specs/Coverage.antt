@@ -8,8 +8,7 @@ use Prim.Native.Nat.{ℕ, zero, suc, _+_, _*_, _/_, _%_, _≤_}
 use Rattle.standings.specs.declared.Place.{Place}
 use Rattle.standings.specs.declared.Place.the-variants.{At, After}
 use Rattle.record.specs.Paper.{pairs, refused}
-use Rattle.ranges.specs.Below.{guarded, isNone}
-use Rattle.ranges.specs.Ranges.{unless}
+use Rattle.ranges.specs.Below.{guarded, isNone, unless}
 use Rattle.rules.specs.Messages.{Reply}
 use Rattle.rules.specs.Transactions.{Txn, Write}
 use Rattle.rules.specs.Reading.{over}

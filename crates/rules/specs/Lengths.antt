@@ -11,11 +11,11 @@ use Rattle.rules.specs.Undo.{takenBack}
 use Rattle.rules.specs.Calls.{call, callsAfter}
 use Rattle.rules.specs.Demand3OfStore.{FreshlyMade}
 
--- Beyond its committed length every byte of a file is 0.
+-- Beyond its committed length every byte of a file is 0. (False of `firstBeyond`: Counterexamples.antt.)
 abbrev pub ZeroBeyond : Values → Type 0
 ZeroBeyond v = (f p : ℕ) → f < 8 → v (fileLength f) ≤ p → p < 4096 → v (byte (4096 * f + p)) ≡ 0
 
--- No length is shorter in the second values than in the first.
+-- No length is shorter in the second values than in the first. (False of 1 and 0 there.)
 abbrev pub Longer : Values → Values → Type 0
 Longer v w = (f : ℕ) → v (fileLength f) ≤ w (fileLength f)
 

@@ -7,8 +7,7 @@ use lib.ListN.{length}
 use Prim.Native.Nat.{ℕ, _+_}
 use Rattle.windows.specs.Hours.{minuteIn}
 use Rattle.record.specs.Paper.{ordered, refused}
-use Rattle.ranges.specs.Below.{guarded, isNone}
-use Rattle.ranges.specs.Ranges.{unless}
+use Rattle.ranges.specs.Below.{guarded, isNone, unless}
 use Rattle.orders.specs.Orders.{triedOf, bestTried, allIn, gapOf, isList}
 use Rattle.rules.specs.Transactions.{Write}
 use Rattle.rules.specs.Coverage.{someWrite, noPlace}

@@ -1,4 +1,5 @@
--- The plain machine of demand 3, as paper 01 words it, and what 02's requests add to it. "It has no marks and looks at nothing in the store's record or buffers."
+-- The plain machine of demand 3, as paper 01 words it, and what 02's requests add to it. "It has no marks and looks at nothing in the
+-- store's record or buffers."
 use mathlib.Core.Bool.{Bool, true, false, cond, not, _&&_, _||_}
 use mathlib.Core.List.{List, [], _∷_, _++_, map}
 use lib.Dec.{leb, eqb}

@@ -5,7 +5,8 @@ use mathlib.Core.Path.{_≡_, refl, sym, ap, ap₂, subst, subst⁻¹, _∙_}
 use lib.ListN.{take, drop}
 use Prim.Native.Nat.{ℕ}
 use Rattle.grammar.specs.Grammar.{parsed}
-use Rattle.lines.specs.Lines.{lastLine, endedIn, heldAfter, NextLine}
+use Rattle.lines.specs.Lines.{lastLine, endedIn, heldAfter}
+use Rattle.lines.specs.Looks.{NextLine}
 use Rattle.printing.specs.Printed.{printed}
 use Rattle.rules.specs.Machine.{Machine}
 use Rattle.trace.specs.Transcript.{Kept, lineTurn, transcript, keptAfter}

@@ -5,8 +5,8 @@ use lib.ListN.{length}
 use Prim.Native.Nat.{ℕ}
 use Rattle.octets.specs.Parts.{tabulate}
 use Rattle.record.specs.Paper.{plain}
-use Rattle.ranges.specs.Below.{below}
-use Rattle.ranges.specs.Ranges.{sized, sizesIn, unless, admissionOfFresh}
+use Rattle.ranges.specs.Below.{below, unless}
+use Rattle.ranges.specs.Ranges.{sized, sizesIn, admissionOfFresh}
 use Rattle.rules.specs.Machine.{Machine, sizes}
 use Rattle.rules.specs.Calls.{answerWith, passing, fresh, freshMachine}
 use Rattle.trace.specs.Transcript.{modEight}

@@ -1,6 +1,7 @@
 -- The hours of specs/, computed.
 use mathlib.Core.Path.{refl}
-use Rattle.windows.specs.Hours.{minuteIn, isOpenAt, Hours}
+use Rattle.windows.specs.Hours.{minuteIn, isOpenAt}
+use Rattle.windows.specs.Examples.{Hours}
 
 hours : Hours
 unfolding minuteIn isOpenAt

@@ -1,6 +1,5 @@
 -- Request F-11, "Hours in which a file may change".
-use mathlib.Core.Bool.{Bool, true, false, cond, not, _&&_, _||_}
-use mathlib.Core.Path.{_≡_}
+use mathlib.Core.Bool.{Bool, cond, not, _&&_, _||_}
 use lib.Dec.{leb, ltb, eqb}
 use Prim.Native.Nat.{ℕ}
 use Rattle.windows.specs.declared.Window.{Window}
@@ -33,21 +32,3 @@ isOpenAt w minute =
 -- "a file that is closed at its minute"
 unfoldable pub isClosedAt : Windows → ℕ → ℕ → Bool
 isClosedAt windows minute f = not (isOpenAt (windows f) minute)
-
--- These words, computed: the last minute of the day, and each end of a window.
-pub record Hours : Type 0 where
-  pub minutes : (minuteIn 1439 ≡ true) × (minuteIn 1440 ≡ false)
-  -- "start in, end out"
-  pub day :
-      (isOpenAt (window 600 1439) 599 ≡ false) × (isOpenAt (window 600 1439) 600 ≡ true)
-      × (isOpenAt (window 600 1439) 1438 ≡ true) × (isOpenAt (window 600 1439) 1439 ≡ false)
-  -- "a start above the end runs over midnight"
-  pub night :
-      (isOpenAt (window 1380 60) 1379 ≡ false) × (isOpenAt (window 1380 60) 1380 ≡ true) × (isOpenAt (window 1380 60) 1439 ≡ true)
-      × (isOpenAt (window 1380 60) 0 ≡ true) × (isOpenAt (window 1380 60) 59 ≡ true) × (isOpenAt (window 1380 60) 60 ≡ false)
-  -- "Fresh sets all to 0 and 0", which "mean always open".
-  pub fresh :
-      (freshWindow .start ≡ 0) × (freshWindow .end ≡ 0) × (isOpenAt freshWindow 0 ≡ true) × (isOpenAt freshWindow 1439 ≡ true)
-  -- "equal ones mean always open"
-  pub always :
-      (isOpenAt (window 720 720) 719 ≡ true) × (isOpenAt (window 720 720) 720 ≡ true) × (isOpenAt (window 720 720) 721 ≡ true)

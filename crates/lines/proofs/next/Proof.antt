@@ -7,7 +7,8 @@ use Prim.Native.Nat.{ℕ, _+_, _-_, _≤_, _<_}
 use native.Mathlib.Omega.{arith}
 use lib.ListN.{length, take, drop, getD, length-set, drop-of-length-le}
 use borrow.Author.Needs.{needs}
-use Rattle.lines.specs.Lines.{NextLine, endedIn, heldAfter}
+use Rattle.lines.specs.Lines.{endedIn, heldAfter}
+use Rattle.lines.specs.Looks.{NextLine}
 use Rattle.lines.proofs.Laws.{Same, passed, stopped, joins, let-go}
 use Rattle.lines.proofs.next.Statement.{statement}
 use Rattle.lines.proofs.next.Tie as tie

@@ -2,7 +2,8 @@
 use borrow.Author.Tests.{eq-eqb, ne-eqb}
 use Rattle.ranges.proofs.Laws.{failed, held}
 use borrow.Author.Needs.{needs}
-use Rattle.ranges.specs.Ranges.{unless, admissionOfFresh, gateNumber}
+use Rattle.ranges.specs.Ranges.{admissionOfFresh, gateNumber}
+use Rattle.ranges.specs.Below.{unless}
 use Rattle.ranges.proofs.admit_fresh.Statement.{statement}
 use Rattle.ranges.proofs.admit_fresh.Tie as tie
 

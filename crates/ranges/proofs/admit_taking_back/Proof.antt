@@ -1,6 +1,7 @@
 -- `ranges::admit_taking_back` meets its contract.
 use borrow.Author.Needs.{needs}
-use Rattle.ranges.specs.Ranges.{unless, admissionOfTakingBack, gateNumber}
+use Rattle.ranges.specs.Ranges.{admissionOfTakingBack, gateNumber}
+use Rattle.ranges.specs.Below.{unless}
 use Rattle.ranges.proofs.Laws.{failed, held, gate-before, gate-after}
 use Rattle.ranges.proofs.admit_taking_back.Statement.{statement}
 use Rattle.ranges.proofs.admit_taking_back.Tie as tie

@@ -1,7 +1,8 @@
 -- `ranges::admit_window` meets its contract.
 use borrow.Author.Tests.{le-leb, lt-leb}
 use borrow.Author.Needs.{needs}
-use Rattle.ranges.specs.Ranges.{unless, windowRefusal, admissionOfWindow, gateNumber}
+use Rattle.ranges.specs.Ranges.{windowRefusal, admissionOfWindow, gateNumber}
+use Rattle.ranges.specs.Below.{unless}
 use Rattle.ranges.proofs.Laws.{failed, held, gate-before, gate-after}
 use Rattle.ranges.proofs.admit_window.Statement.{statement}
 use Rattle.ranges.proofs.admit_window.Tie as tie

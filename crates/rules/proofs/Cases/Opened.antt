@@ -35,7 +35,7 @@ unfolding Below.below Bits.bit Bits.bitsOf Bits.countOf Marks.contains Items.sam
     Reading.supplies Reading.orElse Reading.latest Reading.bring Reading.fetch Reading.writeEnd Reading.placedEnd Reading.farthest
     Reading.ownEnd Reading.lengthFor Reading.lengthSighted Reading.gather Messages.bufferOf Steps.check Steps.orGivenBack Steps.total
     Steps.written Steps.seekStep Steps.writeStep Steps.pointerStep Steps.settledByRead Steps.readSettled Steps.readStep Steps.step
-    Steps.descriptorOf Steps.looks Steps.turnsBack Steps.turnedBack Ranges.unless Ranges.windowRefusal Hours.minuteIn Hours.isOpenAt
+    Steps.descriptorOf Steps.looks Steps.turnsBack Steps.turnedBack Below.unless Ranges.windowRefusal Hours.minuteIn Hours.isOpenAt
     Hours.isClosedAt Windows.isForClosed Windows.forClosed Coverage.someWrite Coverage.coversPlace Coverage.covered Coverage.noPlace
     Coverage.unplacedOn Coverage.unplaced Coverage.withPlace Coverage.stretchesFrom Coverage.stretchesOf Coverage.sixteen Coverage.encoded
     Coverage.placesRefusal Coverage.placesReply Coverage.placesOf Commits.landsAt Commits.bytesFrom Commits.byteSettings Commits.setsOffset

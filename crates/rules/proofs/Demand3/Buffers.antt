@@ -15,7 +15,8 @@ use Rattle.octets.proofs.TableLaws.{getD-tabulate}
 use Rattle.record.specs.declared.Transaction.{Transaction}
 use Rattle.record.specs.State.{transaction, noTransaction, begun, ended, withTransaction}
 use Rattle.record.specs.Paper.{Said, plain, pointer, granted, refused}
-use Rattle.ranges.specs.Ranges.{unless, admission}
+use Rattle.ranges.specs.Ranges.{admission}
+use Rattle.ranges.specs.Below.{unless}
 use Rattle.ranges.proofs.Laws.{shared-zero}
 use Rattle.rules.specs.Items.{Item, byte, offset, fileLength, Values, Prog, done, andThen, result, asked}
 use Rattle.rules.specs.Transactions.{Txn, settle, Settled, past, all, settling}

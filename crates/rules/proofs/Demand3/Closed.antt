@@ -11,7 +11,8 @@ use Rattle.windows.specs.Hours.{Windows, isClosedAt}
 use Rattle.record.specs.State.{transaction, windowAt}
 use Rattle.record.specs.Paper.{granted}
 use Rattle.standings.specs.Table.{finalOffset}
-use Rattle.ranges.specs.Ranges.{unless, admission}
+use Rattle.ranges.specs.Ranges.{admission}
+use Rattle.ranges.specs.Below.{unless}
 use Rattle.ranges.proofs.Laws.{in-range, shared-zero}
 use Rattle.rules.specs.Items.{Item, byte, offset, fileLength, same, Values}
 use Rattle.rules.specs.Transactions.{Txn, Write}

@@ -9,7 +9,8 @@ use Prim.Native.Nat.{ℕ, zero, suc, _<_}
 use Rattle.octets.specs.Marks.{hasMark}
 use Rattle.record.specs.declared.Transaction.{Transaction}
 use Rattle.record.specs.State.{transaction, ended}
-use Rattle.ranges.specs.Ranges.{unless, admission}
+use Rattle.ranges.specs.Ranges.{admission}
+use Rattle.ranges.specs.Below.{unless}
 use Rattle.rules.specs.Messages.{Op, seek, write, getFilePointer, read, bufferOf, Call, begin, on, commit, abort, places}
 use Rattle.rules.specs.Messages.{setWindow, takeBack, bestOrder}
 use Rattle.rules.specs.Steps.{Stepped, refuse, accept}

@@ -6,7 +6,8 @@ use native.Mathlib.Omega.{arith}
 use Prim.Native.Nat.{ℕ, zero, suc}
 use Rattle.record.specs.declared.Store.{Store}
 use Rattle.record.specs.Paper.{Said, refused}
-use Rattle.ranges.specs.Ranges.{Sizes, unless, firstTests, shared, windowRefusal, admissionOfWindow, admissionOfTakingBack, admission}
+use Rattle.ranges.specs.Ranges.{Sizes, firstTests, shared, windowRefusal, admissionOfWindow, admissionOfTakingBack, admission}
+use Rattle.ranges.specs.Below.{unless}
 use Rattle.ranges.specs.Ranges.{admissionOfBegin, admissionOfFresh}
 use Rattle.orders.specs.Orders.{isIn}
 use Rattle.rules.specs.Items.{Item, Values, result}

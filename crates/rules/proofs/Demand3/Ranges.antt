@@ -10,7 +10,8 @@ use native.Mathlib.Omega.{arith}
 use Prim.Native.Nat.{ℕ, zero, suc, _≤_}
 use Rattle.record.specs.State.{transaction}
 use Rattle.record.specs.Paper.{Said, refused}
-use Rattle.ranges.specs.Ranges.{unless, windowRefusal, admission, admissionOfBegin, admissionOfWindow, noneBegun, admissionOfTakingBack}
+use Rattle.ranges.specs.Ranges.{windowRefusal, admission, admissionOfBegin, admissionOfWindow, noneBegun, admissionOfTakingBack}
+use Rattle.ranges.specs.Below.{unless}
 use Rattle.rules.specs.Items.{Item}
 use Rattle.rules.specs.Messages.{Op, bufferOf, places, setWindow, takeBack, bestOrder}
 use Rattle.rules.specs.Ordering.{Asked, orderRefusal, orderReplied, orderReply}

@@ -10,7 +10,8 @@ use Rattle.record.specs.declared.Store.{Store}
 use Rattle.record.specs.State.{ended}
 use Rattle.record.specs.declared.outcomes.Refusal.the-variants.{Stale}
 use Rattle.record.specs.Paper.{number, Said, refused}
-use Rattle.ranges.specs.Ranges.{Sizes, unless, firstTests, shared, windowRefusal, admissionOfWindow, admissionOfTakingBack, admission}
+use Rattle.ranges.specs.Ranges.{Sizes, firstTests, shared, windowRefusal, admissionOfWindow, admissionOfTakingBack, admission}
+use Rattle.ranges.specs.Below.{unless}
 use Rattle.ranges.specs.Ranges.{admissionOfBegin, admissionOfFresh}
 use Rattle.rules.specs.Items.{Item}
 use Rattle.rules.specs.Steps.{Stepped, refuse, accept}

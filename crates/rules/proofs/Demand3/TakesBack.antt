@@ -13,7 +13,8 @@ use Rattle.record.specs.Paper.{plain}
 use Rattle.ranges.specs.Below.{guarded}
 use Rattle.ranges.proofs.Laws.{in-range}
 use Rattle.rules.specs.Items.{byte, offset, fileLength, Values}
-use Rattle.rules.specs.Messages.{Call, begin, on, commit, abort, places, setWindow, takeBack, bestOrder, Reply, isGrant, grantsAmong, afterAll, repliesTo}
+use Rattle.rules.specs.Messages.{Call, begin, on, commit, abort, places, setWindow, takeBack, bestOrder, Reply, isGrant}
+use Rattle.rules.specs.Messages.{grantsAmong, afterAll, repliesTo}
 use Rattle.rules.specs.Commits.{fits, commitRefusal}
 use Rattle.rules.specs.Windows.{forClosed}
 use Rattle.rules.specs.Machine.{Machine, values, txnOf}

@@ -8,8 +8,7 @@ use native.Mathlib.Omega.{arith}
 use Prim.Native.Nat.{ℕ, _+_, _-_}
 use Rattle.windows.specs.Hours.{minuteIn}
 use Rattle.record.specs.Paper.{ordered, refused}
-use Rattle.ranges.specs.Below.{guarded, isNone}
-use Rattle.ranges.specs.Ranges.{unless}
+use Rattle.ranges.specs.Below.{guarded, isNone, unless}
 use Rattle.ranges.proofs.Laws.{and-left, and-right, unless-zero}
 use Rattle.orders.specs.Orders.{Rated, orders, triedOf, bestTried, countIn, allIn, gapOf, isList}
 use Rattle.rules.specs.Messages.{Reply, says, isGrant}

@@ -12,8 +12,7 @@ use Rattle.standings.specs.declared.Place.{Place}
 use Rattle.standings.specs.declared.Place.the-variants.{At, After}
 use Rattle.standings.specs.Table.{afterWrite, writePlace, placeNumber, isTouched, finalOffset}
 use Rattle.record.specs.Paper.{Said, plain, pairs, refused}
-use Rattle.ranges.specs.Below.{guarded, isNone}
-use Rattle.ranges.specs.Ranges.{unless}
+use Rattle.ranges.specs.Below.{guarded, isNone, unless}
 use Rattle.rules.specs.Items.{Item, offset, Values, Prog, result}
 use Rattle.rules.specs.Messages.{Op, write, Reply}
 use Rattle.rules.specs.Transactions.{Txn, Write, put}

@@ -7,7 +7,8 @@ use Prim.Native.Nat.{ℕ, _<_}
 use native.Mathlib.Omega.{arith}
 use borrow.Author.Tests.{leb-true}
 use Rattle.record.specs.State.{transaction}
-use Rattle.ranges.specs.Ranges.{unless, sizesIn, firstTests, shared, admission}
+use Rattle.ranges.specs.Ranges.{sizesIn, firstTests, shared, admission}
+use Rattle.ranges.specs.Below.{unless}
 use Rattle.rules.specs.Machine.{Machine, sizes}
 use Rattle.rules.specs.Calls.{Turn, turnDown, passing, admitted}
 use Rattle.rules.proofs.Serial.Sighted.{Seat, vacant, held, Sighted, SightedTurn, turnedAway, seated}

@@ -9,8 +9,8 @@ use borrow.Author.Tests.{le-leb}
 use Rattle.octets.specs.Parts.{tabulate}
 use Rattle.record.specs.State.{transaction, windowAt}
 use Rattle.record.specs.Journal.{grantStretch, writeRecordAt}
-use Rattle.ranges.specs.Below.{guarded}
-use Rattle.ranges.specs.Ranges.{unless, noneBegun, admissionOfTakingBack}
+use Rattle.ranges.specs.Below.{guarded, unless}
+use Rattle.ranges.specs.Ranges.{noneBegun, admissionOfTakingBack}
 use Rattle.ranges.proofs.Laws.{InRange, in-range, in-range-intro, landed-in, below-same}
 use Rattle.undo.specs.OldBytes.{Span, Inside}
 use Rattle.undo.proofs.OldBytesLaws.{length-back}

@@ -8,7 +8,8 @@ use native.Mathlib.Omega.{arith}
 use borrow.Author.Tests.{leb-true}
 use Rattle.windows.specs.Hours.{minuteIn}
 use Rattle.record.specs.State.{transaction, windowAt, ended, begun}
-use Rattle.ranges.specs.Ranges.{unless, admissionOfBegin}
+use Rattle.ranges.specs.Ranges.{admissionOfBegin}
+use Rattle.ranges.specs.Below.{unless}
 use Rattle.ranges.proofs.Laws.{in-range}
 use Rattle.rules.specs.Commits.{fits, commitRefusal}
 use Rattle.rules.specs.Windows.{forClosed}

@@ -1,5 +1,6 @@
 -- `dispatch_call::admit` meets its contract.
-use Rattle.ranges.specs.Ranges.{unless, admissionOfDispatch, gateNumber}
+use Rattle.ranges.specs.Ranges.{admissionOfDispatch, gateNumber}
+use Rattle.ranges.specs.Below.{unless}
 use Rattle.ranges.proofs.Laws.{failed, held, gate-before, gate-after}
 use borrow.Author.Needs.{needs}
 use Rattle.dispatching.proofs.dispatch_call.admit.Statement.{statement}

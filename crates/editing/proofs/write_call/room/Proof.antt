@@ -4,7 +4,8 @@ use borrow.Author.Tests.{le-leb, lt-leb}
 use native.Mathlib.Omega.{arith}
 use Prim.Native.Nat.{_+_}
 use Rattle.standings.specs.Table.{placeNumber}
-use Rattle.ranges.specs.Ranges.{gateNumber, unless}
+use Rattle.ranges.specs.Ranges.{gateNumber}
+use Rattle.ranges.specs.Below.{unless}
 use Rattle.editing.specs.Writes.{writeRefusal}
 use Rattle.editing.proofs.write_call.room.Statement.{statement}
 use Rattle.editing.proofs.write_call.room.Tie as tie

@@ -1,6 +1,7 @@
 -- `may_look` meets its contract: each answer by the tests that led there.
 use borrow.Author.Tests.{le-leb, lt-leb}
-use Rattle.ranges.specs.Ranges.{gateNumber, unless}
+use Rattle.ranges.specs.Ranges.{gateNumber}
+use Rattle.ranges.specs.Below.{unless}
 use Rattle.looking.proofs.looks.may_look.Statement.{statement}
 use Rattle.looking.proofs.looks.may_look.Tie as tie
 

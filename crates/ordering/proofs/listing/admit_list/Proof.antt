@@ -5,7 +5,8 @@ use borrow.Author.Needs.{needs}
 use lib.Dec.{leb}
 use Rattle.windows.specs.Hours.{minuteIn}
 use Rattle.record.specs.Layout.{transactionOf}
-use Rattle.ranges.specs.Ranges.{unless, gateNumber}
+use Rattle.ranges.specs.Ranges.{gateNumber}
+use Rattle.ranges.specs.Below.{unless}
 use Rattle.ranges.proofs.Laws.{failed, held}
 use Rattle.orders.specs.Orders.{isList, allIn}
 use Rattle.ordering.specs.Computing.{AllOpen, listRefusal}

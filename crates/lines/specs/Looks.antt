@@ -1,0 +1,21 @@
+-- What the code promises of a look for the next line end.
+use mathlib.Core.Bool.{Bool, true, false}
+use mathlib.Core.List.{List, [], _∷_}
+use mathlib.Core.Path.{_≡_}
+use Prim.Native.Nat.{ℕ, _≤_, _<_}
+use Rattle.lines.specs.declared.Look.{Look}
+use Rattle.lines.specs.Lines.{endedIn, heldAfter}
+
+-- What a look for the next line end finds in a piece: the line that ends first, and the rest of the piece; or that no line ends in it,
+-- and what is held then.
+unfoldable pub NextLine : Bool → List ℕ → List ℕ → List ℕ → List ℕ → Type 0
+NextLine true held piece line rest = (endedIn held piece ≡ line ∷ endedIn [] rest) × (heldAfter held piece ≡ heldAfter [] rest)
+NextLine false held piece line rest = (endedIn held piece ≡ []) × (heldAfter held piece ≡ line)
+
+-- Where a look from `from` on ends in a piece of that size: past the line end that it found, or at the end of the piece.
+pub record Went (r : Look) (from size : ℕ) : Type 0 where
+  pub within : r .held ≤ 129
+  pub onward : from ≤ r .at
+  pub inside : r .at ≤ size
+  pub past : r .complete ≡ true → from < r .at
+  pub whole : r .complete ≡ false → r .at ≡ size

@@ -1,6 +1,7 @@
 // A broadcast channel on one store. Two loggers append to the as-run log, and neither waits. An editor repeats the
 // playlist's first entry, and begins again when another task was quicker. Tasks whose calls are ready go to the
-// dispatcher. Then the store is saved; a later run loads it, and takes the last grant back.
+// dispatcher. Then the store is saved, while the editor has an entry written and not committed; a later run loads it,
+// and takes the last grant back, which nobody who is open prevents.
 mod saving;
 mod telling;
 
@@ -232,5 +233,15 @@ fn main() {
     edit(&mut kept, &mut files, &mut logs, &mut marks, &mut undo);
     run(&mut kept, &mut files, &mut logs, &mut marks, &mut undo);
     tell_end_of_log(offset_at(&kept, LOG));
+    append(
+        &mut kept,
+        &files,
+        &mut logs,
+        &mut marks,
+        &undo,
+        EDITOR,
+        PLAYLIST,
+        b"credits\n",
+    );
     restart(save(&kept, &files, &undo));
 }

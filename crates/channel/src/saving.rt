@@ -1,11 +1,13 @@
-// What is kept of a store, and how it comes back. While nothing is open, record, files and the bytes on which the last
-// grant landed are all of it: the record has file numbers, offsets, lengths, windows and what is held of that grant.
-// Logs and marks belong to open transactions, and are new after a load.
+// What is kept of a store, whatever is open, and how it comes back. Record, files and the bytes on which the last grant
+// landed are all that is committed: the record has file numbers, offsets, lengths, windows and what is held of that
+// grant. Transactions that are open end, as at Abort; their logs and marks are new after a load.
 use numbers::BUFFER_BYTES;
 use numbers::FILE_BYTES;
 use record::layout::NUMBERS;
 use record::layout::Record;
+use store::end_all;
 ghost use mathlib.Core.Path.{_≡_};
+ghost use Rattle.rules.specs.Recovery.{EndsAll};
 
 // A store buffer, and that of a grant's old bytes.
 pub type Buffer = [u8; BUFFER_BYTES];
@@ -18,12 +20,13 @@ pub struct Saved {
     pub undo: [u8; FILE_BYTES],
 }
 
-// What a later run needs. To be called while nothing is open.
+// What a later run needs. Every transaction is ended in the copy; in the store itself what is open stays open.
 pub fn save(kept: &Record, files: &Buffer, undo: &Undo) -> Saved
-    ensures { λ s. ⌜ (s .kept ≡ now (kept .entry)) × (s .files ≡ now (files .entry))
+    ensures { λ s. ⌜ EndsAll (now (kept .entry)) (s .kept) × (s .files ≡ now (files .entry))
         × (s .undo ≡ now (undo .entry)) ⌝ }
 {
-    let k = *kept;
+    let mut k = *kept;
+    end_all(&mut k);
     let f = *files;
     let u = *undo;
     Saved {

@@ -1,2 +1,3 @@
+pub mod EndRules
 pub mod FreshRules
 pub mod ResetRules

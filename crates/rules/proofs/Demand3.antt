@@ -9,6 +9,7 @@ pub mod Marks
 pub mod Numbers
 pub mod Pairs
 pub mod Ranges
+pub mod Recovery
 pub mod Refusals
 pub mod Situations
 pub mod Theorem

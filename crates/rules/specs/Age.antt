@@ -13,14 +13,17 @@ use Rattle.rules.specs.Calls.{freshStore, freshMachine, callsAfter, call
 use Rattle.rules.specs.Plain.{Earlier, nothing, found, startPlain, plainAfter}
 use Rattle.rules.specs.Demand3.{Holds}
 use Rattle.rules.specs.Demand3OfStore.{FreshlyMade, theStore}
+use Rattle.rules.specs.TakingBack.{SameCommitted}
+use Rattle.rules.specs.Recovery.{recovered, Run, runsAfter, abortAll, callsOfRuns}
 
--- A store that calls have led to from a fresh one, however many, and in which nothing is open now.
+-- A store that runs and calls have led to from a fresh one, however many, and in which nothing is open now.
 pub record AtRest (m : Machine) : Type 0 where
   pub numbers : List ℕ
   pub first : Machine
   pub made : FreshlyMade numbers first
+  pub runs : List Run
   pub calls : List Call
-  pub reached : m ≡ callsAfter calls first
+  pub reached : m ≡ callsAfter calls (runsAfter runs first)
   pub closed : (t : ℕ) → t ≤ 7 → transaction (m .store) t .begun ≡ false
 
 -- One made fresh, with other logs, and given the same files, offsets, lengths and windows, and the same grant to take back: its write
@@ -55,6 +58,31 @@ abbrev pub Reloads : Type 0
 Reloads =
     (m : Machine) → AtRest m → (logs marks : List ℕ) → length logs ≡ 32768 → length marks ≡ 32768
     → (cs : List Call) → Alike cs m (withLogs logs (withMarking marks m))
+
+-- To keep a running store, the record with every transaction ended, the files and those bytes are enough.
+pub record GoesOn (m₀ : Machine) (rs : List Run) : Type 0 where
+  -- However often its program goes down, it answers every further list of calls as one that never did, on which every transaction was
+  -- aborted instead.
+  pub alike : (cs : List Call) → Alike cs (callsAfter (callsOfRuns rs) m₀) (runsAfter rs m₀)
+  -- It is at rest, so all that is claimed of stores at rest goes on from what is committed in it.
+  pub rests : AtRest (runsAfter rs m₀)
+
+abbrev pub Recovers : Type 0
+Recovers = (numbers : List ℕ) (m₀ : Machine) → FreshlyMade numbers m₀ → (rs : List Run) → GoesOn m₀ rs
+
+-- Nothing that was granted is lost: the second store has the files, offsets, lengths and windows of the first, and its grant to take back.
+pub record NothingLost (m n : Machine) : Type 0 where
+  pub committed : SameCommitted m n
+  pub windows : n .store .windows ≡ m .store .windows
+  pub earlier : earlierIn n ≡ earlierIn m
+
+-- So it is, at any moment of any store, where it goes down, and where every transaction is aborted instead.
+pub record Survives (m : Machine) (logs marks : List ℕ) : Type 0 where
+  pub recovering : NothingLost m (recovered logs marks m)
+  pub aborting : NothingLost m (callsAfter abortAll m)
+
+abbrev pub AlwaysSurvives : Type 0
+AlwaysSurvives = (m : Machine) (logs marks : List ℕ) → Survives m logs marks
 
 -- Demand 3 from any store at rest, Fresh's being one: the plain machine starts with what is committed there, with the windows, and with
 -- what the store would go back to.

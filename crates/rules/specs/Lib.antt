@@ -32,6 +32,7 @@ pub mod Promises
 -- The statements about it.
 pub mod Demand1
 pub mod Demand3OfStore
+pub mod Recovery
 pub mod Age
 pub mod Pairs
 pub mod Buffers

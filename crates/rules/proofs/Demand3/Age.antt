@@ -1,51 +1,50 @@
 -- "No condition reads the store's age": a store at rest stands for the same store without buffers as a young one with its files,
 -- offsets, lengths and windows, so both answer alike.
 use mathlib.Core.Bool.{Bool, true, false, cond, true≢false}
-use mathlib.Core.List.{List}
-use mathlib.Core.Logic.{_⊎_, inl, inr}
+use mathlib.Core.List.{List, [], _∷_}
 use mathlib.Core.Path.{_≡_, refl, sym, ap, ap₂, _∙_, fun-ext, subst⁻¹}
-use lib.ListN.{length, replicate, length-replicate}
-use Prim.Native.Nat.{ℕ, zero, _≤_, _<_}
+use lib.ListN.{length, set, replicate, length-replicate}
+use Prim.Native.Nat.{ℕ, zero, suc, _≤_}
 use native.Mathlib.Omega.{arith}
-use Rattle.octets.proofs.PartLaws.{le-or-lt}
-use Rattle.record.specs.State.{transaction, windowAt}
+use Rattle.octets.specs.Parts.{tabulate}
+use Rattle.octets.specs.Marks.{withoutMarks}
+use Rattle.record.specs.declared.Transaction.{Transaction}
+use Rattle.record.specs.State.{transaction, windowAt, ended, withTransaction, withTransactions}
 use Rattle.record.specs.Journal.{grantStretch, writeRecordAt, withRecords}
 use Rattle.record.proofs.JournalLaws.{length-with, read-own}
+use Rattle.ranges.specs.Below.{isNone}
+use Rattle.ranges.specs.Ranges.{admission}
 use Rattle.ranges.proofs.Laws.{in-range, in-range-intro, landed-in}
 use Rattle.rules.specs.Items.{Values, Item, byte, offset, fileLength}
-use Rattle.rules.specs.Messages.{Call}
-use Rattle.rules.specs.Machine.{Machine, withLogs, withMarking, fileOf, values}
-use Rattle.rules.specs.Undo.{takenBack}
+use Rattle.rules.specs.Messages.{Call, abort, afterAll}
+use Rattle.rules.specs.Machine.{Machine, withStore, withLogs, withMarking, sizes, fileOf, values}
+use Rattle.rules.specs.Undo.{landedOn, spanOfRecord, takenBack}
 use Rattle.rules.specs.Plain.{nothing, found, startPlain, plainAfter}
-use Rattle.rules.specs.Calls.{freshStore, freshMachine, callsAfter}
+use Rattle.rules.specs.Calls.{answerWith, turnDown, passing, freshStore, freshMachine, reset, abortTurn, admitted, call, callsAfter}
 use Rattle.rules.specs.Demand3.{Holds}
-use Rattle.rules.specs.Demand3OfStore.{theStore}
-use Rattle.rules.specs.Age.{AtRest, rejuvenated, earlierIn, Alike, Ageless, Reloads, Demand3AtRest}
+use Rattle.rules.specs.Demand3OfStore.{FreshlyMade, theStore}
+use Rattle.rules.specs.Recovery.{allEnded, recovered, Run, runsAfter, abortAll, callsOfRuns}
+use Rattle.rules.specs.Age.{AtRest, rejuvenated, earlierIn, Alike, Ageless, Reloads, Recovers, NothingLost, AlwaysSurvives, Demand3AtRest}
 use Rattle.rules.proofs.Serial.Invariant.{GoodEarlier}
 use Rattle.rules.proofs.Serial.FirstHalf.{backOf}
-use Rattle.rules.proofs.Serial.Sighted.{Seat, vacant, Back, none, kept, Sighted, startSighted, sightedAfter, sightedReplies}
-use Rattle.rules.proofs.View.Shape.{heldBy, seat, backValues, backIn, view, Sound}
+use Rattle.rules.proofs.Serial.Sighted.{Back, none, kept, Sighted, startSighted, sightedAfter, sightedReplies}
+use Rattle.rules.proofs.View.Shape.{backValues, backIn, view, Sound}
 use Rattle.rules.proofs.View.Back.{SameGrant, undo-same, back-same, back-values}
-use Rattle.rules.proofs.View.Endings.{seat-in, seat-out}
 use Rattle.rules.proofs.View.FreshView.{fresh-sound, closed-at}
 use Rattle.rules.proofs.Demand3.Theorem.{calls-agree, fresh-facts, holds-from}
+use Rattle.rules.proofs.Demand3.Recovery.{resting-view, Twins, calls-append, runs-twins, runs-closed}
 
--- What a store with nothing open stands for.
-module _ (m : Machine) (closed : (t : ℕ) → t ≤ 7 → transaction (m .store) t .begun ≡ false) where
-  no-seat : (u : ℕ) → (8 ≤ u) ⊎ (u < 8) → seat m u ≡ vacant
-  no-seat u (inl l) = seat-out m u l
-  no-seat u (inr l) = seat-in m u false (heldBy m u) l (closed u (omega arith)) refl
-
-  pub resting-view : view m ≡ startSighted (fileOf (m .store)) (values (m .store) (m .files)) (windowAt (m .store)) (backIn m)
-  unfolding view startSighted
-  resting-view =
-      let e : _≡_ {A = ℕ → Seat} (seat m) (λ u. vacant) = fun-ext (λ u. no-seat u (le-or-lt 8 u)) in
-      λ i. record { fileOf = fileOf (m .store); value = values (m .store) (m .files); windows = windowAt (m .store); back = backIn m; seats = e i }
+-- A fresh store after runs, and after their calls.
+runs-from-fresh : (numbers : List ℕ) (m₀ : Machine) → FreshlyMade numbers m₀ → (rs : List Run)
+    → Twins (callsAfter (callsOfRuns rs) m₀) (runsAfter rs m₀)
+runs-from-fresh numbers m₀ made rs =
+    let s = fresh-facts numbers m₀ made .sound in
+    runs-twins rs m₀ m₀ (record { first = s; second = s; same = refl })
 
 pub at-rest-sound : (m : Machine) → AtRest m → Sound m
 at-rest-sound m r =
     subst⁻¹ (λ (x : Machine). Sound x) (r .reached)
-    (calls-agree (r .calls) (r .first) (fresh-facts (r .numbers) (r .first) (r .made) .sound) .sound)
+    (calls-agree (r .calls) (runsAfter (r .runs) (r .first)) (runs-from-fresh (r .numbers) (r .first) (r .made) (r .runs) .second) .sound)
 
 -- The young store is sound too, has nothing open and the same committed values.
 module _ (m : Machine) (s : Sound m) (logs : List ℕ) (size : length logs ≡ 32768) where
@@ -148,6 +147,81 @@ reloads m rest logs marks size wide =
     ∙ ap (λ (b : Back). startSighted (fileOf (m .store)) (values (m .store) (m .files)) (windowAt (m .store)) b)
     (sym (back-same m n (λ h k l. refl) refl refl refl refl))
     ∙ sym (resting-view n (rest .closed)))
+
+pub recovers : Recovers
+unfolding afterAll
+recovers numbers m₀ made rs =
+    let w = runs-from-fresh numbers m₀ made rs in
+    record {
+      alike = alike (callsAfter (callsOfRuns rs) m₀) (runsAfter rs m₀) (w .first) (w .second) (w .same);
+      rests =
+          record {
+            numbers = numbers;
+            first = m₀;
+            made = made;
+            runs = rs;
+            calls = [];
+            reached = refl;
+            closed = runs-closed rs m₀ (fresh-facts numbers m₀ made .closed);
+          };
+    }
+
+-- With other transactions, logs and marks nothing is lost.
+lent-kept : (xs : List Transaction) (logs marks : List ℕ) (m : Machine)
+    → NothingLost m (withLogs logs (withMarking marks (withStore (withTransactions xs (m .store)) m)))
+unfolding earlierIn
+lent-kept xs logs marks m =
+    record {
+      committed = record { files = refl; offsets = refl; lengths = refl };
+      windows = refl;
+      earlier =
+          ap (λ (v : Values). cond (m .store .undo .held) (found (record { value = v; setter = λ i. 0 }) 0) nothing) (fun-ext each);
+    }
+  where
+    n : Machine
+    n = takenBack (withLogs logs (withMarking marks (withStore (withTransactions xs (m .store)) m)))
+
+    each : (i : Item) → values (n .store) (n .files) i ≡ values (takenBack m .store) (takenBack m .files) i
+    each (byte q) = unfold values takenBack landedOn spanOfRecord fileOf in refl
+    each (offset d) = unfold values takenBack in refl
+    each (fileLength f) = unfold values takenBack in refl
+
+lost-then : (m n k : Machine) → NothingLost m n → NothingLost n k → NothingLost m k
+lost-then m n k a b =
+    record {
+      committed =
+          record {
+            files = b .committed .files ∙ a .committed .files;
+            offsets = b .committed .offsets ∙ a .committed .offsets;
+            lengths = b .committed .lengths ∙ a .committed .lengths;
+          };
+      windows = b .windows ∙ a .windows;
+      earlier = b .earlier ∙ a .earlier;
+    }
+
+abort-kept : (t : ℕ) (m : Machine) → NothingLost m (call (abort t) m .after)
+unfolding call admitted passing
+abort-kept t m = pick (isNone (admission (sizes m) (m .store) (m .journal) t))
+  where
+    pick : (b : Bool) → NothingLost m (cond b (abortTurn t m) (turnDown (admission (sizes m) (m .store) (m .journal) t) [] m) .after)
+    pick true = unfold abortTurn answerWith reset withTransaction in lent-kept (set (m .store .transactions) t ended) (m .logs) (withoutMarks t (m .marks)) m
+    pick false = unfold turnDown in lent-kept (m .store .transactions) (m .logs) (m .marks) m
+
+aborts-kept : (n : ℕ) (m : Machine) → NothingLost m (callsAfter (tabulate abort n) m)
+unfolding tabulate afterAll
+aborts-kept zero m = lent-kept (m .store .transactions) (m .logs) (m .marks) m
+aborts-kept (suc n) m =
+    let k = callsAfter (tabulate abort n) m in
+    subst⁻¹ (λ (x : Machine). NothingLost m x) (calls-append (tabulate abort n) (abort n ∷ []) m)
+    (lost-then m k (call (abort n) k .after) (aborts-kept n m) (abort-kept n k))
+
+pub survives : AlwaysSurvives
+unfolding abortAll
+survives m logs marks =
+    record {
+      recovering = unfold recovered allEnded in lent-kept (replicate 8 ended) logs marks m;
+      aborting = aborts-kept 8 m;
+    }
 
 -- What the plain machine starts with to go back to.
 pub earlier-good : (m : Machine) → GoodEarlier (earlierIn m)

@@ -6,6 +6,7 @@ use mathlib.Core.Path.{_≡_, refl, sym, ap, ap₂, _∙_, subst, subst⁻¹}
 use borrow.Author.Tests.{le-leb}
 use lib.Dec.{leb}
 use lib.ListN.{getD}
+use native.Mathlib.Omega.{arith}
 use Prim.Native.Nat.{ℕ, zero, suc, _≤_}
 use Rattle.windows.specs.Hours.{Windows, freshWindows}
 use Rattle.octets.specs.Bits.{bitsOf}
@@ -37,7 +38,7 @@ use Rattle.rules.proofs.Serial.Invariant.{GoodEarlier}
 use Rattle.rules.proofs.View.WindowTurn.{window-turn}
 use Rattle.rules.proofs.View.BackTurn.{back-turn}
 use Rattle.rules.proofs.View.OrderTurn.{order-turn}
-use Rattle.rules.proofs.View.FreshView.{fresh-sound, fresh-view}
+use Rattle.rules.proofs.View.FreshView.{fresh-sound, fresh-view, closed-at}
 use Rattle.rules.proofs.Demand3.Answers.{answer-not-refused}
 use Rattle.rules.proofs.Demand3.Ranges.{never-early}
 
@@ -79,6 +80,7 @@ fresh-passed (suc k) m w e = absurd (answer-not-refused plain (suc k) tt (sym e)
 pub record FreshFacts (numbers : List ℕ) (m : Machine) : Type 0 where
   pub sound : Sound m
   pub same : view m ≡ startSighted (λ d. getD numbers d 0) (λ i. 0) freshWindows none
+  pub closed : (t : ℕ) → t ≤ 7 → transaction (m .store) t .begun ≡ false
 
 pub fresh-facts : (numbers : List ℕ) (m : Machine) → FreshlyMade numbers m → FreshFacts numbers m
 unfolding fresh answerWith passing
@@ -93,6 +95,9 @@ fresh-facts numbers m f =
       sound = subst⁻¹ (λ (x : Machine). Sound x) e
           (fresh-sound numbers (b .logs) (b .undo) (a .sixteen) (a .numbers) (a .lengths .logs) (a .lengths .undo));
       same = ap view e ∙ fresh-view numbers (b .logs) (b .undo);
+      closed =
+          λ t l.
+          ap (λ (x : Machine). transaction (x .store) t .begun) e ∙ closed-at numbers (b .logs) (b .undo) t (omega arith);
     }
 
 -- Whether a seat is taken.

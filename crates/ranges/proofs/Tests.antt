@@ -1,5 +1,5 @@
 -- What each test of src/lib.rt decides, in the order in which they are made.
-use mathlib.Core.Bool.{Bool, true, false, not, _&&_, _||_}
+use mathlib.Core.Bool.{Bool, true, false, not, _&&_, _||_, false≢true}
 use mathlib.Core.List.{List}
 use mathlib.Core.Path.{_≡_, refl, sym, ap, _∙_}
 use native.Mathlib.Numerals.{add-one}
@@ -18,8 +18,8 @@ use Rattle.record.specs.declared.Undo.{Undo}
 use Rattle.record.specs.declared.journal.WriteRecord.{WriteRecord}
 use Rattle.record.specs.State.{transaction, standingAt, windowAt}
 use Rattle.windows.specs.Hours.{minuteIn}
-use Rattle.record.specs.Layout.{standingOf, windowOf, transactionOf, storeOf, journalOf}
-use Rattle.record.proofs.LayoutLaws.{file-of, offset-of, length-of, window-of, transaction-of, found-offset-of, found-length-of}
+use Rattle.record.specs.Layout.{base, standingOf, windowOf, transactionOf, storeOf, journalOf}
+use Rattle.record.proofs.LayoutLaws.{standing-of, file-of, offset-of, length-of, window-of, transaction-of, found-offset-of, found-length-of}
 use Rattle.record.specs.Journal.{writeRecordAt}
 use Rattle.ranges.specs.Below.{below}
 use Rattle.ranges.specs.Ranges.{standingIn, endsWithin, placeIn, recordIn, lengthsBefore, journalIn, journalPasses, transactionIn}
@@ -53,6 +53,15 @@ numbers-decide (suc (suc (suc (suc k)))) a b =
     let n = suc (suc (suc (suc k))) in
     rw (ne-eqb n 0 (λ p. omega arith), ne-eqb n 1 (λ p. omega arith), ne-eqb n 2 (λ p. omega arith), ne-eqb n 3 (λ p. omega arith)) (and-true (leb a 4096))
 
+-- The first numbers, then the second ones.
+pub standings-decide : (r : List ℕ) (t : ℕ)
+    → below (λ d. eqb (getD r (base t + d) 0) 0 || leb (getD r (base t + d + 16) 0) 4096) 16
+    && below (λ d. not (eqb (getD r (base t + d) 0) 3) || leb (getD r (base t + d + 32) 0) 4096) 16
+    ≡ below (λ d. standingIn (standingAt (transactionOf r t) d)) 16
+standings-decide r t =
+    below-both _ _ 16
+    ∙ below-same _ _ 16 (λ d h. numbers-decide _ _ _ ∙ ap standingIn (sym (standing-of r t d h)))
+
 -- ---- a write record
 
 -- A number at most a is at most 4,096, where a is.
@@ -70,6 +79,33 @@ within-waits (Placed o) e h = and-false (leb e 4096)
 within-waits (Deferred a) e h = both-under e a h
 within-waits (Moved a o) e h = both-under e a (and-left (leb a 4096) (leb o 4096) h)
 within-waits (Known o) e h = and-false (leb e 4096)
+
+-- A record may wait under it, and then its first number is its advance.
+pub kind-waits : (k a b : ℕ) → (eqb k 2 || eqb k 3) ≡ mayWait (standingOf k a b)
+unfolding standingOf
+kind-waits zero a b = refl
+kind-waits (suc zero) a b = refl
+kind-waits (suc (suc zero)) a b = refl
+kind-waits (suc (suc (suc zero))) a b = refl
+kind-waits (suc (suc (suc (suc k)))) a b =
+    let n = suc (suc (suc (suc k))) in
+    rw (ne-eqb n 0 (λ p. omega arith), ne-eqb n 1 (λ p. omega arith), ne-eqb n 2 (λ p. omega arith), ne-eqb n 3 (λ p. omega arith))
+
+pub first-waits : (k a b : ℕ) → (eqb k 2 || eqb k 3) ≡ true → a ≡ advance (standingOf k a b)
+unfolding standingOf
+first-waits zero a b h = absurd (false≢true h)
+first-waits (suc zero) a b h = absurd (false≢true h)
+first-waits (suc (suc zero)) a b h = refl
+first-waits (suc (suc (suc zero))) a b h = refl
+first-waits (suc (suc (suc (suc k)))) a b h =
+    let n = suc (suc (suc (suc k))) in
+    absurd (false≢true (rw (ne-eqb n 2 (λ p. omega arith), ne-eqb n 3 (λ p. omega arith)) at h))
+
+-- The standing whose three numbers were read.
+pub standing-told : (r : List ℕ) (t d k a b : ℕ) → d < 16
+    → k ≡ getD r (base t + d) 0 → a ≡ getD r (base t + d + 16) 0 → b ≡ getD r (base t + d + 32) 0
+    → standingOf k a b ≡ standingAt (transactionOf r t) d
+standing-told r t d k a b h is-k is-a is-b = rw (is-k, is-a, is-b) (sym (standing-of r t d h))
 
 -- A write of n bytes at q: it ends at k + m.
 module _ (z : Standing) (q : Place) (n : ℕ) where

@@ -24,21 +24,19 @@ use record::layout::is_held;
 use record::layout::kind_at;
 use record::layout::length_of;
 use record::layout::second_at;
-use record::layout::standing_at;
 use record::layout::undo_used;
 use record::layout::used_at;
 use record::outcomes::Refusal;
 use standings::Place;
-use standings::Standing;
 use windows::LAST_MINUTE;
 use windows::minute_in;
 ghost use mathlib.Core.Path.{_≡_};
-ghost use mathlib.Core.Bool.{true};
-ghost use lib.Dec.{leb};
+ghost use mathlib.Core.Bool.{true, not, _||_};
+ghost use lib.Dec.{leb, eqb};
 ghost use lib.ListN.{getD, length};
 ghost use Prim.Native.Nat.{_+_, _<_, _≤_};
 ghost use Rattle.record.specs.State.{standingAt};
-ghost use Rattle.record.specs.Layout.{standingOf, transactionOf, storeOf, journalOf, recordLength};
+ghost use Rattle.record.specs.Layout.{base, standingOf, transactionOf, storeOf, journalOf, recordLength};
 ghost use Rattle.ranges.specs.Below.{below};
 ghost use Rattle.ranges.specs.Ranges.{standingIn, placeIn, journalPasses, transactionIn, tablesIn};
 ghost use Rattle.ranges.specs.Ranges.{placedIn, grantPasses, undoIn, storeIn, sized, sizesIn, noneBegun};
@@ -80,43 +78,66 @@ fn at_most(kept: &Record, from: usize, n: usize, most: u16) -> bool
     good
 }
 
-// The standing in three numbers is in range: those that it carries are at most 4,096, and the others are not looked at.
-fn numbers_in(k: u16, a: u16, b: u16) -> bool
-    ensures { λ r. ⌜ r ≡ standingIn (standingOf k a b) ⌝ }
-{
-    ((k == 0) | (a <= FILE_END)) & ((k != 3) | (b <= FILE_END))
-}
-
-// The standings of transaction t are in range. No branch: it goes over all of them.
-fn standings_in(kept: &Record, t: usize) -> bool
+// The first number of each standing of transaction t is in range, where the standing carries it. No branch: it goes over
+// all of them.
+fn firsts_in(kept: &Record, t: usize) -> bool
     requires { ⌜ t < 8 ⌝ }
-    ensures { λ r. ⌜ r ≡ below (λ d. standingIn (standingAt (transactionOf (now (kept .entry)) t) d)) 16 ⌝ }
+    ensures { λ r. ⌜ r ≡ below (λ d. eqb (getD (now (kept .entry)) (base t + d) 0) 0
+        || leb (getD (now (kept .entry)) (base t + d + 16) 0) 4096) 16 ⌝ }
 {
     let mut good = true;
     let mut d = 0;
     while d < DESCRIPTORS {
         let k = kind_at(kept, t, d);
         let a = first_at(kept, t, d);
-        let b = second_at(kept, t, d);
-        good = good & numbers_in(k, a, b);
+        good = good & ((k == 0) | (a <= FILE_END));
         d += 1;
     }
     good
 }
 
-// A write of n bytes is in range at that place, under its descriptor's standing.
-fn place_in(z: Standing, place: Place, n: u16) -> bool
-    requires { ⌜ standingIn z ≡ true ⌝ }
-    ensures { λ r. ⌜ r ≡ placeIn z place n ⌝ }
+// The same of the second numbers. One loop for both takes LLVM twice as many instructions.
+fn seconds_in(kept: &Record, t: usize) -> bool
+    requires { ⌜ t < 8 ⌝ }
+    ensures { λ r. ⌜ r ≡ below (λ d. not (eqb (getD (now (kept .entry)) (base t + d) 0) 3)
+        || leb (getD (now (kept .entry)) (base t + d + 32) 0) 4096) 16 ⌝ }
+{
+    let mut good = true;
+    let mut d = 0;
+    while d < DESCRIPTORS {
+        let k = kind_at(kept, t, d);
+        let b = second_at(kept, t, d);
+        good = good & ((k != 3) | (b <= FILE_END));
+        d += 1;
+    }
+    good
+}
+
+// The standings of transaction t are in range: the numbers that they carry are at most 4,096, and the others are not
+// looked at.
+fn standings_in(kept: &Record, t: usize) -> bool
+    requires { ⌜ t < 8 ⌝ }
+    ensures { λ r. ⌜ r ≡ below (λ d. standingIn (standingAt (transactionOf (now (kept .entry)) t) d)) 16 ⌝ }
+{
+    let firsts = firsts_in(kept, t);
+    let seconds = seconds_in(kept, t);
+    firsts & seconds
+}
+
+// A write of n bytes is in range at that place, under its descriptor's standing, which is told in its three numbers: so
+// none has to be taken apart.
+fn place_in(k: u16, a: u16, b: u16, place: Place, n: u16) -> bool
+    requires { ⌜ standingIn (standingOf k a b) ≡ true ⌝ }
+    ensures { λ r. ⌜ r ≡ placeIn (standingOf k a b) place n ⌝ }
 {
     let end = wide(place.number()) + wide(n);
     match place {
         Place::At(_) => end <= FILE_BYTES,
         Place::After(_) => {
-            if !z.may_wait() {
+            if !((k == 2) | (k == 3)) {
                 return false;
             }
-            end <= wide(z.advance())
+            end <= wide(a)
         }
     }
 }
@@ -137,8 +158,10 @@ fn records_in(kept: &Record, t: usize, records: usize, bytes: usize) -> bool
             return false;
         }
         let place = w.place;
-        let z = standing_at(kept, t, d);
-        if !place_in(z, place, w.length) {
+        let z = kind_at(kept, t, d);
+        let a = first_at(kept, t, d);
+        let b = second_at(kept, t, d);
+        if !place_in(z, a, b, place, w.length) {
             return false;
         }
         sum += wide(w.length);

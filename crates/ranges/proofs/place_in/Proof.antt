@@ -1,7 +1,9 @@
 -- `ranges::place_in` meets its contract.
 use mathlib.Core.Path.{_∙_}
 use borrow.Author.Needs.{needs}
-use Rattle.ranges.proofs.Tests.{at-decides, after-fails, after-decides}
+use borrow.Author.Tests.{not-false}
+use Rattle.record.specs.Layout.{standingOf}
+use Rattle.ranges.proofs.Tests.{kind-waits, first-waits, at-decides, after-fails, after-decides}
 use Rattle.ranges.proofs.place_in.Statement.{statement}
 use Rattle.ranges.proofs.place_in.Tie as tie
 
@@ -23,35 +25,30 @@ enum-told c = search needs
 enum-told-2 : tie.Need-enum-told-2
 enum-told-2 c = search needs
 
-may-wait-requires : tie.Need-may-wait-requires
-may-wait-requires c κs = search needs
-
 returns : tie.Need-returns
 returns c =
-    let start = c .before .before .before .before .before .before .before in
-    after-fails (start .args .z) (start .args .place) (start .args .n) (c .before .before .enum-told2 .given .1) (start .pre)
-    (c .before .may-wait .ensures) (c .if1 .taken)
-
-advance-requires : tie.Need-advance-requires
-advance-requires c κs = search needs
+    let a = c .before .before .before .before .before .before .args in
+    after-fails (standingOf (a .k) (a .a) (a .b)) (a .place) (a .n) (c .before .enum-told2 .given .1)
+    (c .before .before .before .before .before .before .pre) (kind-waits (a .k) (a .a) (a .b)) (c .if1 .taken)
 
 wide-requires-3 : tie.Need-wide-requires-3
 wide-requires-3 c κs = search needs
 
 returns-2 : tie.Need-returns-2
 returns-2 c =
-    let start = c .before .before .before .before .before in
-    at-decides (start .args .z) (start .args .place) (start .args .n) _ _ (c .enum-told .given .1)
+    let a = c .before .before .before .before .before .args in
+    at-decides (standingOf (a .k) (a .a) (a .b)) (a .place) (a .n) _ _ (c .enum-told .given .1)
     (c .before .before .before .wide .ensures .0 ∙ c .before .before .before .before .number .ensures) (c .before .before .wide2 .ensures .0)
 
 returns-3 : tie.Need-returns-3
 returns-3 c =
-    let start = c .before .before .before .before .before .before .before .before .before in
-    after-decides (start .args .z) (start .args .place) (start .args .n) (c .before .before .before .before .enum-told2 .given .1)
-    (start .pre) (c .before .before .before .may-wait .ensures) _ _ _ (c .before .before .if1 .left)
-    (c .before .before .before .before .before .before .before .wide .ensures .0
-    ∙ c .before .before .before .before .before .before .before .before .number .ensures)
-    (c .before .before .before .before .before .before .wide2 .ensures .0) (c .wide3 .ensures .0 ∙ c .before .advance .ensures)
+    let start = c .before .before .before .before .before .before .before in
+    let a = start .args in
+    after-decides (standingOf (a .k) (a .a) (a .b)) (a .place) (a .n) (c .before .before .enum-told2 .given .1)
+    (start .pre) (kind-waits (a .k) (a .a) (a .b)) _ _ _ (c .before .if1 .left)
+    (c .before .before .before .before .before .wide .ensures .0 ∙ c .before .before .before .before .before .before .number .ensures)
+    (c .before .before .before .before .wide2 .ensures .0)
+    (c .wide3 .ensures .0 ∙ first-waits (a .k) (a .a) (a .b) (not-false _ (c .before .if1 .left)))
 
 pub place-in-spec : {M : Type 1} → statement M
 place-in-spec =
@@ -63,9 +60,7 @@ place-in-spec =
     add-end
     enum-told
     enum-told-2
-    may-wait-requires
     returns
-    advance-requires
     wide-requires-3
     returns-2
     returns-3)

@@ -8,7 +8,7 @@ use mathlib.Core.Bool.{true}
 use mathlib.Core.Path.{ap, _∙_, _≡_}
 use lib.Dec.{eqb}
 use Rattle.ranges.proofs.Laws.{below-zero, below-more, below-at, below-fails}
-use Rattle.ranges.proofs.Tests.{descriptor-out, place-out, record-passes, lengths-none, lengths-more, and-fails, and-last}
+use Rattle.ranges.proofs.Tests.{standing-told, descriptor-out, place-out, record-passes, lengths-none, lengths-more, and-fails, and-last}
 use Prim.Native.Nat.{_-_, _*_, _≤_}
 use native.Mathlib.Omega.{arith}
 use borrow.Author.Needs.{needs}
@@ -39,21 +39,35 @@ returns c =
     and-fails _ _ (below-fails _ (i .k) _ (omega arith)
     (descriptor-out _ _ _ (c .before .before .record-at .ensures) _ (c .before .wide .ensures .0) (c .if1 .taken)))
 
-standing-at-requires : tie.Need-standing-at-requires Inv-loop μ-loop
-standing-at-requires c κs = search needs
+kind-at-requires : tie.Need-kind-at-requires Inv-loop μ-loop
+kind-at-requires c κs = search needs
+
+first-at-requires : tie.Need-first-at-requires Inv-loop μ-loop
+first-at-requires c κs = search needs
+
+second-at-requires : tie.Need-second-at-requires Inv-loop μ-loop
+second-at-requires c κs = search needs
 
 place-in-requires : tie.Need-place-in-requires Inv-loop μ-loop
 place-in-requires c κs =
-    let start = c .before .before .before .before .before .before in
-    rw (c .standing-at .ensures) (below-at _ 16 (c .before .before .wide .result) (start .pre .2) (omega arith))
+    let start = c .before .before .before .before .before .before .before .before in
+    let d = c .before .before .before .before .wide .result in
+    rw (standing-told (start .args .kept .now) (start .args .t) d _ _ _ (omega arith)
+    (c .before .before .kind-at .ensures) (c .before .first-at .ensures) (c .second-at .ensures))
+    (below-at _ 16 d (start .pre .2) (omega arith))
 
 returns-2 : tie.Need-returns-2 Inv-loop μ-loop
 unfolding journalPasses
 returns-2 c =
-    let i = c .before .before .before .before .before .before .before .loop in
+    let i = c .before .before .before .before .before .before .before .before .before .loop in
+    let start = c .before .before .before .before .before .before .before .before .before .before in
+    let d = c .before .before .before .before .before .before .wide .result in
+    let z = standing-told (start .args .kept .now) (start .args .t) d _ _ _ (omega arith)
+    (c .before .before .before .before .kind-at .ensures) (c .before .before .before .first-at .ensures) (c .before .before .second-at .ensures) in
     and-fails _ _ (below-fails _ (i .k) _ (omega arith)
-    (place-out _ _ _ (c .before .before .before .before .before .record-at .ensures) _ (c .before .before .before .before .wide .ensures .0)
-    (omega arith) _ (c .before .before .standing-at .ensures) _ (c .before .place-in .ensures) (c .if2 .taken)))
+    (place-out _ _ _ (c .before .before .before .before .before .before .before .record-at .ensures) _
+    (c .before .before .before .before .before .before .wide .ensures .0)
+    (omega arith) _ z _ (c .before .place-in .ensures) (c .if2 .taken)))
 
 wide-requires-2 : tie.Need-wide-requires-2 Inv-loop μ-loop
 wide-requires-2 c κs = search needs
@@ -69,12 +83,17 @@ loop-less c = search needs
 
 loop-again : tie.Need-loop-again Inv-loop μ-loop
 loop-again c =
-    let i = c .before .before .before .before .before .before .before .before .loop in
-    let w = c .before .before .before .before .before .before .record-at .ensures in (
+    let i = c .before .before .before .before .before .before .before .before .before .before .loop in
+    let start = c .before .before .before .before .before .before .before .before .before .before .before in
+    let w = c .before .before .before .before .before .before .before .before .record-at .ensures in
+    let d = c .before .before .before .before .before .before .before .wide .result in
+    let z = standing-told (start .args .kept .now) (start .args .t) d _ _ _ (omega arith)
+    (c .before .before .before .before .before .kind-at .ensures) (c .before .before .before .before .first-at .ensures)
+    (c .before .before .before .second-at .ensures) in (
       omega arith,
       below-more _ _ (i .inv .1)
-          (record-passes _ _ _ w _ (c .before .before .before .before .before .wide .ensures .0) (omega arith) _
-          (c .before .before .before .standing-at .ensures) _ (c .before .before .place-in .ensures) (c .before .if2 .left)),
+          (record-passes _ _ _ w _ (c .before .before .before .before .before .before .before .wide .ensures .0) (omega arith) _
+          z _ (c .before .before .place-in .ensures) (c .before .if2 .left)),
       lengths-more _ _ _ _ _ (i .inv .2) (c .wide2 .ensures .0 ∙ ap (λ (v : WriteRecord). v .length) w),
       omega arith,
     )
@@ -96,7 +115,9 @@ records-in-spec =
     record-at-requires
     wide-requires
     returns
-    standing-at-requires
+    kind-at-requires
+    first-at-requires
+    second-at-requires
     place-in-requires
     returns-2
     wide-requires-2

@@ -1,10 +1,11 @@
 -- The examples hold.
 use mathlib.Core.Path.{refl}
-use Rattle.grammar.specs.Grammar.{parsed, form, lettered, after, spaced, frontDecimal, digits, isDigit, ends, writes}
+use Rattle.grammar.specs.Grammar.{parsed, form, lettered, after, ends, writes}
+use Rattle.numerals.specs.Decimal.{spacedNumber, frontNumber, frontWithin, fitting, digits, isDigit}
 use Rattle.grammar.specs.Examples.{Examples, bytes}
 
 pub examples : Examples
-unfolding parsed form lettered after spaced frontDecimal digits isDigit ends writes bytes
+unfolding parsed form lettered after spacedNumber frontNumber frontWithin fitting digits isDigit ends writes bytes
 examples =
     record {
       alone = (refl, refl, refl);

@@ -4,121 +4,34 @@ use mathlib.Core.List.{List, [], _∷_}
 use mathlib.Core.Path.{_≡_, refl, sym, ap}
 use native.Mathlib.Numerals.{add-one}
 use native.Mathlib.Omega.{arith}
-use lib.Dec.{leb}
 use lib.ListN.{length, drop, getD, drop-of-length-le}
 use lib.Seq.{drop-cons}
-use borrow.Author.Tests.{leb-true, le-leb, lt-leb, eq-eqb, ne-eqb}
-use Prim.Native.Nat.{ℕ, zero, suc, _+_, _-_, _*_, _≤_, _<_}
-use Rattle.ranges.proofs.Laws.{and-left, and-right}
+use borrow.Author.Tests.{le-leb, lt-leb, eq-eqb, ne-eqb}
+use Prim.Native.Nat.{ℕ, _+_, _≤_, _<_}
 use Rattle.requests.specs.declared.Request.{Request}
-use Rattle.grammar.specs.declared.Field.{Field}
-use Rattle.grammar.specs.declared.Field.the-variants.{Missing, Number}
+use Rattle.numerals.specs.Decimal.{Numeral, isDigit, worth}
+use Rattle.numerals.specs.declared.Field.{Field}
+use Rattle.numerals.specs.declared.Field.the-variants.{Missing, Number}
+use Rattle.numerals.specs.Fields.{numeralOf}
 use Rattle.grammar.specs.declared.Parsed.{Parsed}
 use Rattle.grammar.specs.declared.Parsed.the-variants.{Another, Asks}
-use Rattle.grammar.specs.Parsing.{numeralOf, lineOf, startOf, Reads, Parses}
-use Rattle.grammar.specs.Grammar.{Line, another, asks, Numeral, none, numeral, isDigit, worth, digits, frontDecimal, spaced, after}
+use Rattle.grammar.specs.Parsing.{lineOf, startOf, Reads, Parses}
+use Rattle.grammar.specs.Grammar.{Line, another, asks, after}
 use Rattle.grammar.specs.Grammar.{writes, lettered, form, parsed}
 
--- A digit lies between the bytes of 0 and 9.
-pub digit-bounds : (b : ℕ) → isDigit b ≡ true → (48 ≤ b) × (b ≤ 57)
-unfolding isDigit
-digit-bounds b e =
-    (leb-true 48 b (and-left (leb 48 b) (leb b 57) e), leb-true b 57 (and-right (leb 48 b) (leb b 57) e))
+-- The space before a Write's bytes, at a place of the line.
+module _ (line : List ℕ) (at : ℕ) (q : Request) where
+  pub writes-end : length line ≤ at → writes q (drop at line) ≡ another
+  unfolding writes
+  writes-end h = rw (drop-of-length-le line h)
 
--- The largest number that a first digit and n more make.
-unfoldable pub most : ℕ → ℕ
-most zero = 9
-most (suc n) = most n * 10 + 9
+  pub writes-other : at < length line → (getD line at 0 ≡ 32 → ⊥) → writes q (drop at line) ≡ another
+  unfolding writes
+  writes-other h e = rw (drop-cons line at 0 h, ne-eqb (getD line at 0) 32 e)
 
-most-five : (n : ℕ) → n ≤ 4 → most n ≤ 99999
-unfolding most
-most-five zero l = omega arith
-most-five (suc zero) l = omega arith
-most-five (suc (suc zero)) l = omega arith
-most-five (suc (suc (suc zero))) l = omega arith
-most-five (suc (suc (suc (suc zero)))) l = omega arith
-most-five (suc (suc (suc (suc (suc n))))) l = let e : ⊥ = omega arith in elim e [ ]
-
--- A number whose next digits, of at most four, number `left`: it is small, and stays within its bound with one digit more.
-module _ (left v : ℕ) (h : v ≤ most (4 - left)) where
-  pub most-small : left ≤ 4 → v ≤ 99999
-  most-small l = omega (arith, most-five (4 - left) (omega arith))
-
-  pub most-more : (d : ℕ) → 0 < left → left ≤ 4 → d ≤ 9 → v * 10 + d ≤ most (4 - (left - 1))
-  unfolding most
-  most-more d p l e =
-      let s : 4 - (left - 1) ≡ suc (4 - left) = omega arith in
-      rw s (omega arith)
-
-suc-less : (n : ℕ) → suc n - 1 ≡ n
-suc-less n = omega arith
-
--- The digits after a number, where no more may follow.
-pub digits-none : (n v : ℕ) (bytes : List ℕ) → n ≡ 0 → digits n v bytes ≡ numeral v bytes
-unfolding digits
-digits-none n v bytes e = rw e
-
--- The digits after a number, at the end of the line, at another byte and at a digit.
-module _ (line : List ℕ) (at v : ℕ) where
-  pub digits-end : (n : ℕ) → length line ≤ at → digits n v (drop at line) ≡ numeral v (drop at line)
-  unfolding digits
-  digits-end zero h = refl
-  digits-end (suc n) h = rw (drop-of-length-le line h)
-
-  pub digits-stop : (n : ℕ) → at < length line → isDigit (getD line at 0) ≡ false → digits n v (drop at line) ≡ numeral v (drop at line)
-  unfolding digits
-  digits-stop zero h e = refl
-  digits-stop (suc n) h e = rw (drop-cons line at 0 h, e)
-
-  pub digits-more : (n : ℕ) → 0 < n → at < length line → isDigit (getD line at 0) ≡ true
-      → digits n v (drop at line) ≡ digits (n - 1) (v * 10 + worth (getD line at 0)) (drop (at + 1) line)
-  unfolding digits
-  digits-more zero p h e = elim (absurd p) [ ]
-    where
-      absurd : 0 < 0 → ⊥
-      absurd p = omega arith
-  digits-more (suc n) p h e =
-      rw (drop-cons line at 0 h, e, add-one at) (ap (λ (k : ℕ). digits k (v * 10 + worth (getD line at 0)) (drop (suc at) line)) (sym (suc-less n)))
-
--- A number, a space before it, and the space before a Write's bytes, at a place of the line.
-module _ (line : List ℕ) (at : ℕ) where
-  pub decimal-end : length line ≤ at → frontDecimal (drop at line) ≡ none
-  unfolding frontDecimal
-  decimal-end h = rw (drop-of-length-le line h)
-
-  pub decimal-other : at < length line → isDigit (getD line at 0) ≡ false → frontDecimal (drop at line) ≡ none
-  unfolding frontDecimal
-  decimal-other h e = rw (drop-cons line at 0 h, e)
-
-  pub decimal-digits : at < length line → isDigit (getD line at 0) ≡ true → (v : ℕ) → v ≡ worth (getD line at 0)
-      → frontDecimal (drop at line) ≡ digits 4 v (drop (at + 1) line)
-  unfolding frontDecimal
-  decimal-digits h e v w = rw (drop-cons line at 0 h, e, add-one at, w)
-
-  pub spaced-end : length line ≤ at → spaced (drop at line) ≡ none
-  unfolding spaced
-  spaced-end h = rw (drop-of-length-le line h)
-
-  pub spaced-other : at < length line → (getD line at 0 ≡ 32 → ⊥) → spaced (drop at line) ≡ none
-  unfolding spaced
-  spaced-other h e = rw (drop-cons line at 0 h, ne-eqb (getD line at 0) 32 e)
-
-  pub spaced-decimal : at < length line → getD line at 0 ≡ 32 → spaced (drop at line) ≡ frontDecimal (drop (at + 1) line)
-  unfolding spaced
-  spaced-decimal h e = rw (drop-cons line at 0 h, eq-eqb (getD line at 0) 32 e, add-one at)
-
-  module _ (q : Request) where
-    pub writes-end : length line ≤ at → writes q (drop at line) ≡ another
-    unfolding writes
-    writes-end h = rw (drop-of-length-le line h)
-
-    pub writes-other : at < length line → (getD line at 0 ≡ 32 → ⊥) → writes q (drop at line) ≡ another
-    unfolding writes
-    writes-other h e = rw (drop-cons line at 0 h, ne-eqb (getD line at 0) 32 e)
-
-    pub writes-space : at < length line → getD line at 0 ≡ 32 → writes q (drop at line) ≡ asks q (drop (at + 1) line)
-    unfolding writes
-    writes-space h e = rw (drop-cons line at 0 h, eq-eqb (getD line at 0) 32 e, add-one at)
+  pub writes-space : at < length line → getD line at 0 ≡ 32 → writes q (drop at line) ≡ asks q (drop (at + 1) line)
+  unfolding writes
+  writes-space h e = rw (drop-cons line at 0 h, eq-eqb (getD line at 0) 32 e, add-one at)
 
 -- The letter and the transaction of a line.
 pub form-short : (line : List ℕ) → length line < 2 → form line ≡ another

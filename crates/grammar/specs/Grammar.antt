@@ -1,10 +1,11 @@
 -- The form of a line of a trace (paper 02, F-5): from its bytes, without its end, to a call or to another form.
-use mathlib.Core.Bool.{Bool, cond, _&&_}
+use mathlib.Core.Bool.{cond}
 use mathlib.Core.List.{List, [], _∷_}
 use lib.Dec.{eqb, leb}
 use lib.ListN.{length}
 use Prim.Native.Char.{code}
-use Prim.Native.Nat.{ℕ, zero, suc, _+_, _-_, _*_}
+use Prim.Native.Nat.{ℕ}
+use Rattle.numerals.specs.Decimal.{Numeral, none, numeral, isDigit, worth, spacedNumber}
 use Rattle.requests.specs.declared.Request.{Request}
 use Rattle.requests.specs.declared.Request.the-variants.{Begin, Commit, Abort, GetFilePointer, Seek, Read, Write}
 
@@ -14,32 +15,9 @@ pub data Line : Type 0 where
   another : Line
   asks : Request → List ℕ → Line
 
--- A number at the front of some bytes, with the bytes after it; or none.
-pub data Numeral : Type 0 where
-  none : Numeral
-  numeral : ℕ → List ℕ → Numeral
-
-unfoldable pub isDigit : ℕ → Bool
-isDigit b = leb (code "0") b && leb b (code "9")
-
-abbrev pub worth : ℕ → ℕ
-worth b = b - code "0"
-
--- A number with the digits that follow it, at most n of them.
-unfoldable pub digits : ℕ → ℕ → List ℕ → Numeral
-digits zero v bytes = numeral v bytes
-digits (suc n) v [] = numeral v []
-digits (suc n) v (b ∷ bytes) = cond (isDigit b) (digits n (v * 10 + worth b) bytes) (numeral v (b ∷ bytes))
-
--- "in decimal, 1 to 5 digits each": a sixth would stand where a space or the line's end has to.
-unfoldable pub frontDecimal : List ℕ → Numeral
-frontDecimal [] = none
-frontDecimal (b ∷ bytes) = cond (isDigit b) (digits 4 (worth b) bytes) none
-
--- "one space between": a space, then a number.
-unfoldable pub spaced : List ℕ → Numeral
-spaced [] = none
-spaced (b ∷ bytes) = cond (eqb b (code " ")) (frontDecimal bytes) none
+-- "one space between", and a number "in decimal, 1 to 5 digits each": a sixth would stand where a space or the line's end has to.
+abbrev pub spaced : List ℕ → Numeral
+spaced bytes = spacedNumber 4 bytes
 
 -- What comes of the number and the bytes after it.
 unfoldable pub after : Numeral → (ℕ → List ℕ → Line) → Line

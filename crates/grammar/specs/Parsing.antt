@@ -3,11 +3,9 @@ use mathlib.Core.List.{List}
 use mathlib.Core.Path.{_≡_}
 use lib.ListN.{length, drop}
 use Prim.Native.Nat.{ℕ, _≤_}
-use Rattle.grammar.specs.Grammar.{Line, another, asks, Numeral, none, numeral, parsed}
+use Rattle.grammar.specs.Grammar.{Line, another, asks, parsed}
 use Rattle.grammar.specs.declared.Parsed.{Parsed}
 use Rattle.grammar.specs.declared.Parsed.the-variants.{Another, Asks}
-use Rattle.grammar.specs.declared.Field.{Field}
-use Rattle.grammar.specs.declared.Field.the-variants.{Missing, Number}
 
 -- A request, and where the bytes of a Write start in a line.
 unfoldable pub lineOf : List ℕ → Parsed → Line
@@ -17,11 +15,6 @@ lineOf line (Asks q start) = asks q (drop start line)
 unfoldable pub startOf : Parsed → ℕ
 startOf Another = 0
 startOf (Asks q start) = start
-
--- A number, and where the bytes after it start in a line.
-unfoldable pub numeralOf : List ℕ → Field → Numeral
-numeralOf line Missing = none
-numeralOf line (Number n end) = numeral n (drop end line)
 
 -- The answer r is what is meant, and a Write's bytes lie in the line.
 pub record Reads (line : List ℕ) (r : Parsed) (meant : Line) : Type 0 where

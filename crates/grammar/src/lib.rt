@@ -1,12 +1,14 @@
 // The lines of a trace (paper 02, F-5): what a line asks. specs/Grammar.antt says which form a line has.
+use numerals::Field;
+use numerals::is_digit;
+use numerals::spaced_at;
+use numerals::worth;
 use requests::Request;
-ghost use mathlib.Core.Bool.{true, cond};
-ghost use mathlib.Core.Path.{_≡_};
+ghost use mathlib.Core.Bool.{cond};
 ghost use lib.ListN.{drop};
-ghost use Prim.Native.Nat.{_≤_};
 ghost use Rattle.requests.specs.declared.Request.{Request};
-ghost use Rattle.grammar.specs.Grammar.{isDigit, worth, digits, spaced, after, ends, writes, lettered};
-ghost use Rattle.grammar.specs.Parsing.{numeralOf, Reads, Parses};
+ghost use Rattle.grammar.specs.Grammar.{spaced, after, ends, writes, lettered};
+ghost use Rattle.grammar.specs.Parsing.{Reads, Parses};
 
 // The most bytes of a line, without its end.
 pub const LINE_BYTES: usize = 128;
@@ -21,71 +23,8 @@ pub enum Parsed {
     Asks(Request, usize),
 }
 
-// A number, and where the bytes after it start; or no number.
-enum Field {
-    Missing,
-    Number(usize, usize),
-}
-
-fn is_digit(b: u8) -> bool
-    ensures { λ r. ⌜ r ≡ isDigit b ⌝ }
-{
-    if b < b'0' {
-        return false;
-    }
-    b <= b'9'
-}
-
-fn worth(b: u8) -> usize
-    requires { ⌜ isDigit b ≡ true ⌝ }
-    ensures { λ r. ⌜ (r ≡ worth b) × (r ≤ 9) ⌝ }
-{
-    (b - b'0') as usize
-}
-
-// The number that up to four digits from a place on make of its first one.
-fn digits_from(line: &[u8], first: usize, from: usize) -> Field
-    requires { ⌜ first ≤ 9 ⌝ }
-    ensures { λ r. ⌜ numeralOf (now (line .entry)) r ≡ digits 4 first (drop from (now (line .entry))) ⌝ }
-{
-    let mut number = first;
-    let mut at = from;
-    let mut left: usize = 4;
-    while 0 < left {
-        if line.len() <= at {
-            return Field::Number(number, at);
-        }
-        let b = line[at];
-        if !is_digit(b) {
-            return Field::Number(number, at);
-        }
-        number = number * 10 + worth(b);
-        at += 1;
-        left -= 1;
-    }
-    Field::Number(number, at)
-}
-
-// One space and a number of one to five digits.
-fn number_at(line: &[u8], at: usize) -> Field
-    ensures { λ r. ⌜ numeralOf (now (line .entry)) r ≡ spaced (drop at (now (line .entry))) ⌝ }
-{
-    if line.len() <= at {
-        return Field::Missing;
-    }
-    if line[at] != b' ' {
-        return Field::Missing;
-    }
-    let from = at + 1;
-    if line.len() <= from {
-        return Field::Missing;
-    }
-    let b = line[from];
-    if !is_digit(b) {
-        return Field::Missing;
-    }
-    digits_from(line, worth(b), from + 1)
-}
+// The most digits of a number after its first.
+const FURTHER: usize = 4;
 
 // The request, where the line ends at that place.
 fn whole_line(q: Request, line: &[u8], at: usize) -> Parsed
@@ -102,7 +41,7 @@ fn pointer_line(line: &[u8], t: usize) -> Parsed
     ensures { λ r. ⌜ Reads (now (line .entry)) r
         (after (spaced (drop 2 (now (line .entry)))) (λ d. ends (Request.GetFilePointer t d))) ⌝ }
 {
-    let Field::Number(d, at) = number_at(line, 2) else {
+    let Field::Number(d, at) = spaced_at(line, 2, FURTHER) else {
         return Parsed::Another;
     };
     whole_line(Request::GetFilePointer(t, d), line, at)
@@ -114,10 +53,10 @@ fn seek_or_read_line(line: &[u8], t: usize, seeks: bool) -> Parsed
         (after (spaced (drop 2 (now (line .entry))))
         (λ d rest. after (spaced rest) (λ n. ends (cond seeks (Request.Seek t d n) (Request.Read t d n))))) ⌝ }
 {
-    let Field::Number(d, second) = number_at(line, 2) else {
+    let Field::Number(d, second) = spaced_at(line, 2, FURTHER) else {
         return Parsed::Another;
     };
-    let Field::Number(n, at) = number_at(line, second) else {
+    let Field::Number(n, at) = spaced_at(line, second, FURTHER) else {
         return Parsed::Another;
     };
     if seeks {
@@ -131,7 +70,7 @@ fn write_line(line: &[u8], t: usize) -> Parsed
     ensures { λ r. ⌜ Reads (now (line .entry)) r
         (after (spaced (drop 2 (now (line .entry)))) (λ d. writes (Request.Write t d))) ⌝ }
 {
-    let Field::Number(d, at) = number_at(line, 2) else {
+    let Field::Number(d, at) = spaced_at(line, 2, FURTHER) else {
         return Parsed::Another;
     };
     if line.len() <= at {

@@ -1,32 +1,17 @@
 -- What a trace prints for a reply. Paper 02, F-5: "It prints for each line the two bytes ok, with a space and the answer where there is
 -- one (P offset, C octet, both decimal; R bytes as lower-case hexadecimal pairs without spaces; an empty Read prints ok alone), or the
 -- refusal number, and then the byte 10."
-use mathlib.Core.Path.{_≡_}
-use mathlib.Core.Bool.{cond}
 use mathlib.Core.List.{List, [], _∷_, _++_}
-use lib.Dec.{ltb}
-use lib.ListN.{length, take}
-use Prim.Native.Nat.{ℕ, zero, suc, _+_, _/_, _%_}
-use Rattle.octets.specs.Parts.{pasted}
+use lib.ListN.{take}
+use Prim.Native.Nat.{ℕ}
+use Rattle.numerals.specs.Decimal.{decimalBelow}
+use Rattle.numerals.specs.Pairs.{hexPairs}
 use Rattle.record.specs.Paper.{Said, plain, pointer, given, granted, pairs, ordered, refused}
 use Rattle.rules.specs.Messages.{Reply}
 
--- The character of a digit below 16: `0` to `9`, then `a` to `f`.
-abbrev pub glyph : ℕ → ℕ
-glyph d = cond (ltb d 10) (48 + d) (87 + d)
-
--- A number below 10 ^ k in decimal, without zeros in front; and one below 100,000, as every number that is printed.
-unfoldable pub decimalBelow : ℕ → ℕ → List ℕ
-decimalBelow zero n = []
-decimalBelow (suc k) n = cond (ltb n 10) (glyph n ∷ []) (decimalBelow k (n / 10) ++ (glyph (n % 10) ∷ []))
-
+-- A number below 100,000, as every number that is printed.
 unfoldable pub decimal : ℕ → List ℕ
 decimal n = decimalBelow 5 n
-
--- "lower-case hexadecimal pairs without spaces"
-unfoldable pub hexPairs : List ℕ → List ℕ
-hexPairs [] = []
-hexPairs (b ∷ bs) = glyph (b / 16) ∷ glyph (b % 16) ∷ hexPairs bs
 
 -- "the two bytes ok, with a space and the answer where there is one": a number; bytes, of which none are no answer.
 abbrev pub ok : List ℕ
@@ -53,8 +38,3 @@ spelled (refused n) buffer = decimal n
 -- "and then the byte 10"
 unfoldable pub printed : Reply → List ℕ
 printed r = spelled (r .answer) (r .buffer) ++ (10 ∷ [])
-
--- The text was put into a buffer at a place, the rest of the buffer left, and next is the place after it.
-pub record Put (before : List ℕ) (at : ℕ) (text after : List ℕ) (next : ℕ) : Type 0 where
-  pub bytes : after ≡ pasted before at text
-  pub end : next ≡ at + length text

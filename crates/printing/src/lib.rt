@@ -1,59 +1,22 @@
 // The line that a trace prints for a reply, put into a lent buffer. Each function answers the place after what it put.
+use numerals::put_byte;
+use numerals::put_number;
+use numerals::put_pairs;
 use octets::parts::copy_to;
 use record::outcomes::Outcome;
-ghost use mathlib.Core.Path.{_≡_};
-ghost use mathlib.Core.List.{_∷_, []};
-ghost use Prim.Native.Nat.{_+_, _*_, _<_, _≤_};
+ghost use Prim.Native.Nat.{_+_, _*_, _≤_};
 ghost use lib.ListN.{length, take};
 ghost use Rattle.record.specs.Paper.{said};
-ghost use Rattle.printing.specs.Printed.{Put, glyph as glyphOf, decimal, hexPairs, ok as okText, okNumber};
+ghost use Rattle.printing.specs.Printed.{decimal, ok as okText, okNumber};
+ghost use Rattle.numerals.specs.Put.{Put};
 ghost use Rattle.printing.specs.Printed.{okBytes, spelled, printed};
 
-fn put_byte(out: &mut [u8], at: usize, b: u8) -> usize
-    requires { ⌜ at < length (now out) ⌝ }
-    ensures { λ r. ⌜ Put (now (out .entry)) at (b ∷ []) (now (out .exit)) r ⌝ }
-{
-    out[at] = b;
-    at + 1
-}
-
-// The character of a digit.
-fn glyph(d: u8) -> u8
-    requires { ⌜ d < 16 ⌝ }
-    ensures { λ r. ⌜ r ≡ glyphOf d ⌝ }
-{
-    if d < 10 {
-        return 48 + d;
-    }
-    87 + d
-}
-
-// A number in decimal, its front digits first.
+// A number in decimal.
 fn put_decimal(out: &mut [u8], at: usize, n: u16) -> usize
     requires { ⌜ at + length (decimal n) ≤ length (now out) ⌝ }
     ensures { λ r. ⌜ Put (now (out .entry)) at (decimal n) (now (out .exit)) r ⌝ }
 {
-    if n < 10 {
-        return put_byte(out, at, glyph(n as u8));
-    }
-    let next = put_decimal(out, at, n / 10);
-    put_byte(out, next, glyph((n % 10) as u8))
-}
-
-// Bytes as pairs of hexadecimal digits.
-fn put_pairs(out: &mut [u8], at: usize, bytes: &[u8]) -> usize
-    requires { ⌜ at + 2 * length (now bytes) ≤ length (now out) ⌝ }
-    ensures { λ r. ⌜ Put (now (out .entry)) at (hexPairs (now (bytes .entry))) (now (out .exit)) r ⌝ }
-{
-    let mut next = at;
-    let mut i = 0;
-    while i < bytes.len() {
-        let b = bytes[i];
-        next = put_byte(out, next, glyph(b / 16));
-        next = put_byte(out, next, glyph(b % 16));
-        i += 1;
-    }
-    next
+    put_number(out, at, numbers::wide(n))
 }
 
 // The two bytes ok.

@@ -8,7 +8,8 @@ use Prim.Native.Nat.{ℕ, _+_, _≤_}
 use Rattle.octets.specs.Parts.{pasted}
 use Rattle.requests.specs.Performing.{Unanswered}
 use Rattle.grammar.specs.Grammar.{Line, another, asks, parsed}
-use Rattle.printing.specs.Printed.{Put, printed}
+use Rattle.numerals.specs.Put.{Put}
+use Rattle.printing.specs.Printed.{printed}
 use Rattle.record.specs.Paper.{Said, said}
 use Rattle.record.specs.declared.outcomes.Outcome.{Outcome}
 use Rattle.requests.specs.declared.Request.{Request}

@@ -4,8 +4,8 @@ use Rattle.grammar.proofs.Laws.{after-missing, after-number}
 use Rattle.grammar.proofs.seek_or_read_line.Statement.{statement}
 use Rattle.grammar.proofs.seek_or_read_line.Tie as tie
 
-number-at-requires : tie.Need-number-at-requires
-number-at-requires c κs = search needs
+spaced-at-requires : tie.Need-spaced-at-requires
+spaced-at-requires c κs = search needs
 
 enum-known-d : tie.Need-enum-known-d
 enum-known-d c = search needs
@@ -14,10 +14,10 @@ enum-told : tie.Need-enum-told
 enum-told c = search needs
 
 returns : tie.Need-returns
-returns c = after-missing _ _ _ _ (c .before .before .number-at .ensures) (c .enum-told .given .1)
+returns c = after-missing _ _ _ _ (c .before .before .spaced-at .ensures) (c .enum-told .given .1)
 
-number-at-requires-2 : tie.Need-number-at-requires-2
-number-at-requires-2 c κs = search needs
+spaced-at-requires-2 : tie.Need-spaced-at-requires-2
+spaced-at-requires-2 c κs = search needs
 
 enum-known-n : tie.Need-enum-known-n
 enum-known-n c = search needs
@@ -26,36 +26,36 @@ enum-told-2 : tie.Need-enum-told-2
 enum-told-2 c = search needs
 
 returns-2 : tie.Need-returns-2
-returns-2 c = after-number _ _ _ _ (c .before .before .before .before .before .before .number-at .ensures) _ _ _
-    (c .before .before .before .before .d .given .1) (after-missing _ _ _ _ (c .before .before .number-at2 .ensures) (c .enum-told2 .given .1))
+returns-2 c = after-number _ _ _ _ (c .before .before .before .before .before .before .spaced-at .ensures) _ _ _
+    (c .before .before .before .before .d .given .1) (after-missing _ _ _ _ (c .before .before .spaced-at2 .ensures) (c .enum-told2 .given .1))
 
 whole-line-requires : tie.Need-whole-line-requires
 whole-line-requires c κs = search needs
 
 returns-3 : tie.Need-returns-3
-returns-3 c = after-number _ _ _ _ (c .before .before .before .before .before .before .before .before .before .number-at .ensures) _ _ _
+returns-3 c = after-number _ _ _ _ (c .before .before .before .before .before .before .before .before .before .spaced-at .ensures) _ _ _
     (c .before .before .before .before .before .before .before .d .given .1)
-    (after-number _ _ _ _ (c .before .before .before .before .before .number-at2 .ensures) _ _ _ (c .before .before .before .n .given .1)
+    (after-number _ _ _ _ (c .before .before .before .before .before .spaced-at2 .ensures) _ _ _ (c .before .before .before .n .given .1)
     (rw (c .before .if1 .taken) (c .whole-line .ensures)))
 
 whole-line-requires-2 : tie.Need-whole-line-requires-2
 whole-line-requires-2 c κs = search needs
 
 returns-4 : tie.Need-returns-4
-returns-4 c = after-number _ _ _ _ (c .before .before .before .before .before .before .before .before .before .number-at .ensures) _ _ _
+returns-4 c = after-number _ _ _ _ (c .before .before .before .before .before .before .before .before .before .spaced-at .ensures) _ _ _
     (c .before .before .before .before .before .before .before .d .given .1)
-    (after-number _ _ _ _ (c .before .before .before .before .before .number-at2 .ensures) _ _ _ (c .before .before .before .n .given .1)
+    (after-number _ _ _ _ (c .before .before .before .before .before .spaced-at2 .ensures) _ _ _ (c .before .before .before .n .given .1)
     (rw (c .before .if1 .left) (c .whole-line2 .ensures)))
 
 pub seek-or-read-line-spec : {M : Type 1} → statement M
 seek-or-read-line-spec =
     tie.close
     (tie.spec
-    number-at-requires
+    spaced-at-requires
     enum-known-d
     enum-told
     returns
-    number-at-requires-2
+    spaced-at-requires-2
     enum-known-n
     enum-told-2
     returns-2

@@ -7,8 +7,8 @@ use Rattle.grammar.proofs.Laws.{writes-end, writes-other, writes-space,
 use Rattle.grammar.proofs.write_line.Statement.{statement}
 use Rattle.grammar.proofs.write_line.Tie as tie
 
-number-at-requires : tie.Need-number-at-requires
-number-at-requires c κs = search needs
+spaced-at-requires : tie.Need-spaced-at-requires
+spaced-at-requires c κs = search needs
 
 enum-known-d : tie.Need-enum-known-d
 enum-known-d c = search needs
@@ -17,17 +17,17 @@ enum-told : tie.Need-enum-told
 enum-told c = search needs
 
 returns : tie.Need-returns
-returns c = after-missing _ _ _ _ (c .before .before .number-at .ensures) (c .enum-told .given .1)
+returns c = after-missing _ _ _ _ (c .before .before .spaced-at .ensures) (c .enum-told .given .1)
 
 returns-2 : tie.Need-returns-2
-returns-2 c = after-number _ _ _ _ (c .before .before .before .before .number-at .ensures) _ _ _ (c .before .before .d .given .1)
+returns-2 c = after-number _ _ _ _ (c .before .before .before .before .spaced-at .ensures) _ _ _ (c .before .before .d .given .1)
     (other _ _ (writes-end _ _ _ (c .if1 .taken)))
 
 shared-slice-read-if2 : tie.Need-shared-slice-read-if2
 shared-slice-read-if2 c = search needs
 
 returns-3 : tie.Need-returns-3
-returns-3 c = after-number _ _ _ _ (c .before .before .before .before .before .before .number-at .ensures) _ _ _
+returns-3 c = after-number _ _ _ _ (c .before .before .before .before .before .before .spaced-at .ensures) _ _ _
     (c .before .before .before .before .d .given .1) (other _ _ (writes-other _ _ _ (c .before .before .if1 .left) (c .if2 .taken)))
 
 add-t6 : tie.Need-add-t6
@@ -35,7 +35,7 @@ add-t6 c = search needs
 
 returns-4 : tie.Need-returns-4
 unfolding lineOf startOf
-returns-4 c = after-number _ _ _ _ (c .before .before .before .before .before .before .number-at .ensures) _ _ _
+returns-4 c = after-number _ _ _ _ (c .before .before .before .before .before .before .spaced-at .ensures) _ _ _
     (c .before .before .before .before .d .given .1)
     (record { means = sym (writes-space _ _ _ (c .before .before .if1 .left) (c .if2 .left)); within = omega arith })
 
@@ -43,7 +43,7 @@ pub write-line-spec : {M : Type 1} → statement M
 write-line-spec =
     tie.close
     (tie.spec
-    number-at-requires
+    spaced-at-requires
     enum-known-d
     enum-told
     returns

@@ -3,7 +3,8 @@ use mathlib.Core.List.{[], _∷_}
 use native.Mathlib.Omega.{arith}
 use Rattle.record.specs.Paper.{said}
 use Rattle.printing.specs.Printed.{printed, spelled}
-use Rattle.printing.proofs.Laws.{then, length-spelled}
+use Rattle.numerals.proofs.PutLaws.{then}
+use Rattle.printing.proofs.Laws.{length-spelled}
 use borrow.Author.Needs.{needs}
 use Rattle.printing.proofs.print.Statement.{statement}
 use Rattle.printing.proofs.print.Tie as tie

@@ -3,7 +3,7 @@ use mathlib.Core.Path.{_≡_, sym, ap, _∙_}
 use native.Mathlib.Omega.{arith}
 use Prim.Native.Nat.{ℕ, min}
 use lib.ListN.{length, take, length-take}
-use Rattle.printing.proofs.Laws.{take-within}
+use Rattle.numerals.proofs.PutLaws.{take-within}
 use borrow.Author.Needs.{needs}
 use Rattle.printing.proofs.put_given.Statement.{statement}
 use Rattle.printing.proofs.put_given.Tie as tie

@@ -1,8 +1,10 @@
 -- `put_ok_bytes` meets its contract. Assumes nothing.
 use mathlib.Core.List.{[], _∷_, _++_}
 use native.Mathlib.Omega.{arith}
-use Rattle.printing.specs.Printed.{ok, hexPairs}
-use Rattle.printing.proofs.Laws.{then, length-pairs, bytes-none, bytes-some}
+use Rattle.numerals.specs.Pairs.{hexPairs}
+use Rattle.printing.specs.Printed.{ok}
+use Rattle.numerals.proofs.PutLaws.{then, length-pairs}
+use Rattle.printing.proofs.Laws.{bytes-none, bytes-some}
 use borrow.Author.Needs.{needs}
 use Rattle.printing.proofs.put_ok_bytes.Statement.{statement}
 use Rattle.printing.proofs.put_ok_bytes.Tie as tie

@@ -2,7 +2,8 @@
 use mathlib.Core.List.{[], _∷_, _++_}
 use native.Mathlib.Omega.{arith}
 use Rattle.printing.specs.Printed.{ok, okNumber, decimal}
-use Rattle.printing.proofs.Laws.{then, length-decimal}
+use Rattle.numerals.proofs.PutLaws.{then}
+use Rattle.printing.proofs.Laws.{length-decimal}
 use borrow.Author.Needs.{needs}
 use Rattle.printing.proofs.put_ok_number.Statement.{statement}
 use Rattle.printing.proofs.put_ok_number.Tie as tie

@@ -1,0 +1,8 @@
+-- What specs/ states of a call log.
+use Rattle.calllog.specs.Statements.{CallLogHolds}
+use Rattle.calllog.proofs.RoundTrip.{back, fresh-back}
+use Rattle.calllog.proofs.Clipping.{clipped}
+use Rattle.calllog.proofs.Traces.{traces}
+
+pub call-log-holds : CallLogHolds
+call-log-holds = record { back = back; freshBack = fresh-back; clipped = clipped; traces = traces }

@@ -1,0 +1,10 @@
+pub mod RoundTrip
+pub mod Clipping
+pub mod Holds
+pub mod Texts
+pub mod Traces
+pub mod Again
+pub mod Recorder
+pub mod ReadingLaws
+pub mod Examples
+pub mod Rooms

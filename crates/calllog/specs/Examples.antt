@@ -1,0 +1,36 @@
+-- Lines of a call log, and what they say.
+use mathlib.Core.List.{List, [], _∷_}
+use mathlib.Core.Path.{_≡_}
+use lib.ListN.{replicate}
+use Prim.Native.String.{String}
+use Rattle.grammar.specs.Examples.{bytes}
+use Rattle.rules.specs.Messages.{begin, on, commit, abort, places, setWindow, takeBack, bestOrder, seek, write, getFilePointer, read}
+use Rattle.calllog.specs.Log.{Entry, another, comment, fresh, calls, lineOf, callIn}
+
+abbrev pub line : String → Entry
+line text = callIn (bytes text)
+
+pub record Examples : Type 0 where
+  pub started : line "F 0 1 2 3 4 5 6 7 0 1 2 3 4 5 6 7" ≡ fresh (0 ∷ 1 ∷ 2 ∷ 3 ∷ 4 ∷ 5 ∷ 6 ∷ 7 ∷ 0 ∷ 1 ∷ 2 ∷ 3 ∷ 4 ∷ 5 ∷ 6 ∷ 7 ∷ [])
+  pub committed :
+      (line "C0 600" ≡ calls (commit 0 600)) × (line "C0" ≡ calls (commit 0 0)) × (line "C0 600 1" ≡ another)
+      × (line "C 0" ≡ another)
+  pub written :
+      (line "X0 3 68690a" ≡ calls (on 0 (write 3 (104 ∷ 105 ∷ 10 ∷ [])))) × (line "W0 3 hi" ≡ calls (on 0 (write 3 (104 ∷ 105 ∷ []))))
+      × (line "X0 3 " ≡ calls (on 0 (write 3 []))) × (line "X0 3" ≡ calls (on 0 (write 3 []))) × (line "X0 3 6" ≡ another)
+      × (line "X0 3 6A" ≡ another) × (line "W0 3" ≡ another)
+  pub looked :
+      (line "R0 3 5 64" ≡ calls (on 0 (read 3 5 (replicate 64 0)))) × (line "L0 2 64" ≡ calls (places 0 2 (replicate 64 0)))
+      × (line "L0 2" ≡ another) × (line "P0 3" ≡ calls (on 0 (getFilePointer 3)))
+  pub others :
+      (line "H2 480 1320" ≡ calls (setWindow 2 480 1320)) × (line "U" ≡ calls takeBack) × (line "U0" ≡ another)
+      × (line "O 600 40320 2 0 1" ≡ calls (bestOrder (2 ∷ 0 ∷ 1 ∷ []) 600 40320)) × (line "O 600" ≡ another)
+  pub silent : (line "# 14:02 jingle" ≡ comment) × (line "" ≡ another)
+  -- Numbers of 64 bits; zeros in front are read, and are not printed.
+  pub wide :
+      (line "B18446744073709551615" ≡ calls (begin 18446744073709551615)) × (line "B18446744073709551616" ≡ another)
+      × (line "B00000000000000000007" ≡ calls (begin 7)) × (line "B000000000000000000007" ≡ another)
+  pub printed :
+      (lineOf (on 0 (write 3 (104 ∷ 105 ∷ 10 ∷ []))) ≡ bytes "X0 3 68690a") × (lineOf (commit 0 600) ≡ bytes "C0 600")
+      × (lineOf (on 18446744073709551615 (seek 0 100)) ≡ bytes "S18446744073709551615 0 100") × (lineOf takeBack ≡ bytes "U")
+      × (lineOf (bestOrder (2 ∷ 0 ∷ 1 ∷ []) 600 40320) ≡ bytes "O 600 40320 2 0 1")

@@ -1,0 +1,12 @@
+-- The lines of a call log.
+pub mod Log
+-- What is proved of them.
+pub mod Statements
+-- The lines of requests.
+pub mod Recorded
+-- What a call shows, and that a log runs again alike.
+pub mod Replays
+-- What the reader's answers stand for.
+pub mod Reading
+-- Lines and what they say.
+pub mod Examples

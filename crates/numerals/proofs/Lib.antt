@@ -1,0 +1,4 @@
+pub mod Decimals
+pub mod PairLaws
+pub mod PutLaws
+pub mod ReadLaws

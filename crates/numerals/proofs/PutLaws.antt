@@ -1,0 +1,133 @@
+-- Laws of `Put` and of the texts that are put.
+use mathlib.Core.Path.{_≡_, refl, sym, ap, ap₂, _∙_}
+use mathlib.Core.Bool.{Bool, true, false, cond}
+use mathlib.Core.List.{List, [], _∷_, _++_, append-assoc}
+use Prim.Native.Nat.{ℕ, zero, suc, _+_, _*_, _/_, _%_, _^_, _≤_, _<_, min}
+use native.Mathlib.Numerals.{add-one}
+use native.Mathlib.Omega.{arith}
+use lib.Dec.{ltb}
+use lib.ListN.{length, take, getD, set, length-append}
+use lib.Seq.{take-suc, take-all, append-snoc}
+use borrow.Author.Tests.{lt-ltb, le-ltb, ltb-true, ltb-false}
+use Rattle.octets.specs.Parts.{pasted}
+use Rattle.octets.proofs.PartLaws.{pasted-append, pasted-none, pasted-more, length-pasted}
+use Rattle.numerals.specs.Decimal.{glyph, decimalBelow, past, numberText, spacedTexts}
+use Rattle.numerals.specs.Pairs.{hexPairs}
+use Rattle.numerals.specs.Put.{Put}
+
+-- ---- a text that is put
+
+-- one text, and the next directly after it
+pub then : {b m a : List ℕ} {at e f : ℕ} (s t : List ℕ) → at + length s + length t ≤ length b → Put b at s m e → Put m e t a f
+    → Put b at (s ++ t) a f
+then {b} {m} {a} {at} {e} {f} s t fits p q =
+    let l = length-append s t in
+    record {
+      bytes = q .bytes ∙ ap₂ (λ (x : List ℕ) (k : ℕ). pasted x k t) (p .bytes) (p .end) ∙ sym (pasted-append b at s t (omega arith));
+      end = omega (arith, q .end, p .end);
+    }
+
+pub kept : {b a : List ℕ} {at e : ℕ} (s : List ℕ) → at + length s ≤ length b → Put b at s a e → length a ≡ length b
+kept {b} {a} {at} s fits p = ap length (p .bytes) ∙ length-pasted b at s fits
+
+pub nothing : (b : List ℕ) (at : ℕ) → Put b at [] b at
+nothing b at = record { bytes = sym (pasted-none b at); end = omega arith }
+
+pub one : (b : List ℕ) (at v : ℕ) → at < length b → Put b at (v ∷ []) (set b at v) (at + 1)
+one b at v h = record { bytes = stored; end = omega arith }
+  where
+    stored : set b at v ≡ pasted b at (v ∷ [])
+    stored =
+        let z : at + 0 ≡ at = omega arith in
+        ap₂ (λ (x : List ℕ) (k : ℕ). set x k v) (sym (pasted-none b at)) (sym z) ∙ pasted-more b at [] (omega arith) v (omega arith)
+
+-- ---- decimal
+
+-- room for more digits changes nothing
+pub below-same : (k m n : ℕ) → k ≤ m → n < 10 ^ suc k → decimalBelow (suc k) n ≡ decimalBelow (suc m) n
+unfolding decimalBelow
+below-same zero m n l h = rw (lt-ltb n 10 (omega arith))
+below-same (suc k) zero n l h = absurd (omega arith)
+below-same (suc k) (suc m) n l h =
+    ap (λ (l : List ℕ). cond (ltb n 10) (glyph n ∷ []) (l ++ (glyph (n % 10) ∷ []))) (below-same k m (n / 10) (omega arith) (omega arith))
+
+pub number-digit : (n : ℕ) → n < 10 → numberText n ≡ glyph n ∷ []
+unfolding numberText decimalBelow
+number-digit n h = rw (lt-ltb n 10 h)
+
+pub number-more : (n : ℕ) → 10 ≤ n → n < past → numberText n ≡ numberText (n / 10) ++ (glyph (n % 10) ∷ [])
+unfolding numberText decimalBelow
+number-more n g h =
+    rw (le-ltb n 10 g) (ap (λ (l : List ℕ). l ++ (glyph (n % 10) ∷ [])) (below-same 18 19 (n / 10) (omega arith) (omega arith)))
+
+pub length-below : (k n : ℕ) → length (decimalBelow k n) ≤ k
+unfolding decimalBelow
+length-below zero n = omega arith
+length-below (suc k) n = pick (ltb n 10) (length-below k (n / 10))
+  where
+    pick : (t : Bool) → length (decimalBelow k (n / 10)) ≤ k
+        → length (cond t (glyph n ∷ []) (decimalBelow k (n / 10) ++ (glyph (n % 10) ∷ []))) ≤ suc k
+    pick true h = omega arith
+    pick false h = simp length-append (omega arith)
+
+pub length-number : (n : ℕ) → length (numberText n) ≤ 20
+unfolding numberText
+length-number n = length-below 20 n
+
+-- ---- hexadecimal pairs
+
+pub length-pairs : (bs : List ℕ) → length (hexPairs bs) ≡ 2 * length bs
+unfolding hexPairs
+length-pairs [] = refl
+length-pairs (b ∷ bs) = omega (arith, length-pairs bs)
+
+pairs-append : (xs ys : List ℕ) → hexPairs (xs ++ ys) ≡ hexPairs xs ++ hexPairs ys
+unfolding hexPairs
+pairs-append [] ys = refl
+pairs-append (x ∷ xs) ys = ap (λ (l : List ℕ). glyph (x / 16) ∷ glyph (x % 16) ∷ l) (pairs-append xs ys)
+
+-- one byte more
+pub pairs-more : (bs : List ℕ) (i : ℕ) → i < length bs
+    → hexPairs (take (i + 1) bs) ≡ (hexPairs (take i bs) ++ (glyph (getD bs i 0 / 16) ∷ [])) ++ (glyph (getD bs i 0 % 16) ∷ [])
+unfolding hexPairs
+pairs-more bs i h =
+    let b = getD bs i 0 in
+    ap (λ (k : ℕ). hexPairs (take k bs)) (add-one i)
+    ∙ ap hexPairs (take-suc bs i 0 h)
+    ∙ pairs-append (take i bs) (b ∷ [])
+    ∙ sym (append-snoc (hexPairs (take i bs)) (glyph (b / 16)) (glyph (b % 16) ∷ []))
+
+-- The front of a list, at most all of it.
+pub take-within : (n : ℕ) (l : List ℕ) → take (min n (length l)) l ≡ take n l
+take-within n l = pick (ltb n (length l)) refl
+  where
+    pick : (t : Bool) → ltb n (length l) ≡ t → take (min n (length l)) l ≡ take n l
+    pick true e =
+        let h = ltb-true n (length l) e in
+        let m : min n (length l) ≡ n = omega arith in ap (λ (k : ℕ). take k l) m
+    pick false e =
+        let h = ltb-false n (length l) e in
+        let m : min n (length l) ≡ length l = omega arith in
+        ap (λ (k : ℕ). take k l) m ∙ take-all (length l) l (omega arith) ∙ sym (take-all n l h)
+
+-- ---- numbers behind spaces
+
+pub append-none : (xs : List ℕ) → xs ++ [] ≡ xs
+append-none [] = refl
+append-none (x ∷ xs) = ap (λ (l : List ℕ). x ∷ l) (append-none xs)
+
+pub texts-snoc : (ns : List ℕ) (m : ℕ) → spacedTexts (ns ++ (m ∷ [])) ≡ spacedTexts ns ++ (32 ∷ numberText m)
+unfolding spacedTexts
+texts-snoc [] m = ap (λ (l : List ℕ). 32 ∷ l) (append-none (numberText m))
+texts-snoc (n ∷ ns) m =
+    ap (λ (l : List ℕ). 32 ∷ (numberText n ++ l)) (texts-snoc ns m)
+    ∙ ap (λ (l : List ℕ). 32 ∷ l) (sym (append-assoc (numberText n) (spacedTexts ns) (32 ∷ numberText m)))
+
+pub length-texts : (ns : List ℕ) → length (spacedTexts ns) ≤ 21 * length ns
+unfolding spacedTexts
+length-texts [] = omega arith
+length-texts (n ∷ ns) = omega (arith, length-append (numberText n) (spacedTexts ns), length-number n, length-texts ns)
+
+-- one number more
+pub texts-more : (ns : List ℕ) (i : ℕ) → i < length ns → spacedTexts (take (i + 1) ns) ≡ spacedTexts (take i ns) ++ (32 ∷ numberText (getD ns i 0))
+texts-more ns i h = ap (λ (k : ℕ). spacedTexts (take k ns)) (add-one i) ∙ ap spacedTexts (take-suc ns i 0 h) ∙ texts-snoc (take i ns) (getD ns i 0)

@@ -13,3 +13,4 @@ pub mod Along
 pub mod ShortWay
 pub mod TableLaw
 pub mod Waiting
+pub mod Computed

@@ -1,6 +1,6 @@
 -- What the code computes for F-14, read off the record.
 use mathlib.Core.Bool.{Bool, cond, not, _&&_, _||_}
-use mathlib.Core.List.{List, [], _++_}
+use mathlib.Core.List.{List}
 use mathlib.Core.Path.{_≡_}
 use lib.Dec.{leb}
 use lib.ListN.{length, getD, take, drop, replicate}
@@ -8,8 +8,6 @@ use Prim.Native.Nat.{ℕ, _-_, _<_}
 use Rattle.windows.specs.Hours.{minuteIn}
 use Rattle.octets.specs.Marks.{contains}
 use Rattle.standings.specs.Table.{mayWait}
-use Rattle.record.specs.declared.outcomes.Outcome.{Outcome}
-use Rattle.record.specs.declared.outcomes.Outcome.the-variants.{Done, Offset, Given, Granted, Pairs, Ordered, Refused}
 use Rattle.record.specs.State.{standingAt}
 use Rattle.record.specs.Journal.{writeRecordAt}
 use Rattle.record.specs.Layout.{storeOf, journalOf, transactionOf}
@@ -25,6 +23,7 @@ use Rattle.rules.specs.Promises.{machineOf}
 use Rattle.landing.specs.Landing.{descriptorsOnly, CanLandIn}
 use Rattle.conflicts.specs.Staling.{staleBy}
 use Rattle.closing.specs.Closing.{OpenIn}
+use Rattle.ordering.specs.Answer.{orderIn}
 use Rattle.ordering.specs.Table.{Pass, followOne, followAll, passAll, Asking}
 use Rattle.ordering.specs.declared.best.Known.{Known}
 use Rattle.ordering.specs.declared.best.BestFound.{BestFound}
@@ -103,23 +102,6 @@ pub record BestIn (grantsIn : List ℕ → ℕ) (tried : ℕ) (ts : List ℕ) (n
   pub order : take n (r .order) ≡ bestTried grantsIn tried ts .order
   pub grants : r .grants ≡ bestTried grantsIn tried ts .grants
   pub zeros : ZerosAfter n (r .order)
-
--- "an order (as transaction numbers)": of a list of n; none with a refusal.
-unfoldable pub orderPart : Outcome → ℕ → List ℕ → List ℕ
-orderPart Done n order = []
-orderPart (Offset o) n order = []
-orderPart (Given k) n order = []
-orderPart (Granted k) n order = []
-orderPart (Pairs k) n order = []
-orderPart (Ordered grants gap tried) n order = take n order
-orderPart (Refused r) n order = []
-
-abbrev pub orderIn : ℕ → Best → List ℕ
-orderIn n r = orderPart (r .outcome) n (r .order)
-
--- The array is the order and zeros after it; with a refusal, zeros.
-abbrev pub Padded : ℕ → Best → Type 0
-Padded n r = r .order ≡ orderIn n r ++ replicate (8 - length (orderIn n r)) 0
 
 -- The reply of the rules, on any files, logs and undo buffer that go with it.
 abbrev pub Answers : List ℕ → List ℕ → List ℕ → ℕ → ℕ → Best → Type 0

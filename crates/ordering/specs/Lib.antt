@@ -1,2 +1,4 @@
+pub mod Answer
+pub mod Examples
 pub mod Table
 pub mod Computing

@@ -22,7 +22,8 @@ ghost use Rattle.ranges.specs.Ranges.{storeIn};
 ghost use Rattle.rules.specs.Messages.{Call};
 ghost use Rattle.rules.specs.Calls.{call};
 ghost use Rattle.rules.specs.Promises.{Follows};
-ghost use Rattle.ordering.specs.Computing.{listRefusal, orderIn, Answers, Padded};
+ghost use Rattle.ordering.specs.Answer.{orderIn, Padded};
+ghost use Rattle.ordering.specs.Computing.{listRefusal, Answers};
 
 // An order's grants, the gap and how many orders were tried, or a refusal; and the order: as many numbers as the list
 // has, and zeros after them; with a refusal, zeros.

@@ -10,7 +10,8 @@ use Prim.Native.Nat.{ℕ, _≤_}
 use Rattle.record.specs.Paper.{said}
 use Rattle.ranges.proofs.Laws.{first-zero}
 use Rattle.orders.specs.Orders.{factorial, allIn}
-use Rattle.ordering.specs.Computing.{orderPart, grantsByTable, BestIn}
+use Rattle.ordering.specs.Answer.{orderPart}
+use Rattle.ordering.specs.Computing.{grantsByTable, BestIn}
 use Rattle.ordering.specs.declared.best.Known.{Known}
 use Rattle.ordering.proofs.ArrangeLaws.{factorial-most, padded-front}
 use Rattle.ordering.proofs.Admitted.{ListIn, list-in, few-listed, land-all}

@@ -10,7 +10,8 @@ use Rattle.rules.specs.Machine.{Machine, sizes}
 use Rattle.rules.specs.Promises.{machineOf}
 use Rattle.refusing.proofs.Turns.{gate-number, gate-zero, turned-follows}
 use Rattle.ordering.specs.Table.{Asking}
-use Rattle.ordering.specs.Computing.{listRefusal, orderPart}
+use Rattle.ordering.specs.Answer.{orderPart}
+use Rattle.ordering.specs.Computing.{listRefusal}
 use Rattle.ordering.proofs.Admitted.{refusal-is, list-in}
 use Rattle.ordering.proofs.CallRules.{first-refused, then-refused, answered-meets}
 use Rattle.ordering.proofs.order_call.best_order.Statement.{statement}

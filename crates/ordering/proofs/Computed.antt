@@ -1,5 +1,5 @@
 -- Small examples are computed.
-use mathlib.Core.List.{List, [], _∷_, _++_}
+use mathlib.Core.List.{List, _++_}
 use mathlib.Core.Path.{_≡_, refl, ap, _∙_}
 use lib.ListN.{length, getD, replicate}
 use native.Mathlib.Omega.{arith}

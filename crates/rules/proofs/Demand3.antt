@@ -6,7 +6,6 @@ pub mod Buffers
 pub mod Closed
 pub mod Lengths
 pub mod Marks
-pub mod Numbers
 pub mod Pairs
 pub mod Ranges
 pub mod Recovery
@@ -14,3 +13,4 @@ pub mod Refusals
 pub mod Situations
 pub mod Theorem
 pub mod TakesBack
+pub mod Tests

@@ -1,8 +1,9 @@
 -- Demand 1, beside its wording: "Every call .. ends in its result or one of fourteen refusals (02 adds more), each under its written
 -- condition only. A refusal changes no buffer and no record, save that a commit refused as stale (13) ends its transaction as an abort
--- does." (The conditions are those of the rules: ranges/specs/Ranges.antt, Steps.antt, Commits.antt, Coverage.antt, Ordering.antt.)
+-- does." (The written conditions, in the order in which they are tested, are Tests.antt.)
 use mathlib.Core.Bool.{true}
-use mathlib.Core.List.{List, [], _∷_}
+use mathlib.Core.List.{List, [], _∷_, map}
+use mathlib.Core.Option.{some}
 use mathlib.Core.Path.{_≡_}
 use Prim.Native.Nat.{ℕ}
 use Rattle.record.specs.declared.outcomes.Refusal.the-variants.{Stale}
@@ -14,6 +15,7 @@ use Rattle.rules.specs.Messages.{bestOrder, bufferOfCall}
 use Rattle.rules.specs.Machine.{Machine}
 use Rattle.rules.specs.Calls.{fresh, call}
 use Rattle.rules.specs.Promises.{Meets}
+use Rattle.rules.specs.Tests.{firstFailing, refusalIn, testsOf, freshTests}
 
 -- The refusals of each call, in the order of its tests. (The dispatcher's are rounds/specs/Dispatch.antt.)
 unfoldable pub refusalsOf : Call → List ℕ
@@ -34,6 +36,13 @@ refusalsOfFresh = 1 ∷ 14 ∷ []
 
 -- On any record and any buffers m, with any numbers.
 pub record Demand1On (m : Machine) : Type 0 where
+  -- "each under its written condition only": a call is refused with the number of the first of its tests that fails, and is not refused
+  -- where all pass.
+  pub first : (c : Call) → refusalIn (call c m .reply .answer) ≡ firstFailing (testsOf c m)
+  pub freshFirst : (numbers : List ℕ) → refusalIn (fresh numbers m .reply .answer) ≡ firstFailing (freshTests numbers m)
+  -- The numbers of the tests are the call's row, in order, and no others.
+  pub rows : (c : Call) → map (λ x. x .number) (testsOf c m) ≡ refusalsOf c
+  pub freshRow : (numbers : List ℕ) → map (λ x. x .number) (freshTests numbers m) ≡ refusalsOfFresh
   -- "one of fourteen refusals (02 adds more)": one of the call's own.
   pub known : (c : Call) (n : ℕ) → call c m .reply .answer ≡ refused n → isIn n (refusalsOf c) ≡ true
   pub freshKnown : (numbers : List ℕ) (n : ℕ) → fresh numbers m .reply .answer ≡ refused n → isIn n refusalsOfFresh ≡ true
@@ -53,11 +62,19 @@ Demand1 = (m : Machine) → Demand1On m
 
 -- Demand 1 about the code: a call that kept its promise, with outcome o, and left record, buffers and reader's buffer.
 pub record RefusedByCode (c : Call) (m : Machine) (n : ℕ) (after : Machine) (reader : List ℕ) : Type 0 where
+  pub first : firstFailing (testsOf c m) ≡ some n
   pub known : isIn n (refusalsOf c) ≡ true
   pub leaves : (n ≡ number Stale → ⊥) → (after ≡ m) × (reader ≡ bufferOfCall c)
   pub ends : n ≡ number Stale → (t : ℕ) × (minute : ℕ) × (c ≡ commit t minute) × (after ≡ call (abort t) m .after)
 
 pub record Demand1OfCode : Type 0 where
+  -- Of every call, refused or not.
+  pub first :
+      (c : Call) (m : Machine) (o : Outcome) (after : Machine) (reader : List ℕ)
+      → Meets (call c m) o after reader → refusalIn (said o) ≡ firstFailing (testsOf c m)
+  pub freshFirst :
+      (numbers : List ℕ) (m : Machine) (o : Outcome) (after : Machine)
+      → Meets (fresh numbers m) o after [] → refusalIn (said o) ≡ firstFailing (freshTests numbers m)
   pub calls :
       (c : Call) (m : Machine) (o : Outcome) (after : Machine) (reader : List ℕ) (n : ℕ)
       → Meets (call c m) o after reader → said o ≡ refused n → RefusedByCode c m n after reader

@@ -29,7 +29,8 @@ pub mod Machine
 pub mod Undo
 pub mod Calls
 pub mod Promises
--- The statements about it.
+-- The statements about it. (The tests of each call in their order are demand 1's.)
+pub mod Tests
 pub mod Demand1
 pub mod Demand3OfStore
 pub mod Recovery

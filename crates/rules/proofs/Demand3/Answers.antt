@@ -60,7 +60,7 @@ of-step n e = (leb-true 6 n (and-left (leb 6 n) _ e), leb-true n 12 (and-right (
 
 -- Whatever is committed, a program of a step ends so: a refusal has the property P.
 module _ (P : ℕ → Type 0) where
-  abbrev pub EndsSo : Stepped → Type 0
+  abbrev EndsSo : Stepped → Type 0
   EndsSo (refuse n) = P n
   EndsSo (accept y a b) = IsAnswer a
 
@@ -90,7 +90,7 @@ module _ (P : ℕ → Type 0) where
   always-read fileOf d n buffer y = always-then _ _ (λ bytes. tt)
 
   -- The numbers with which each call's step refuses have the property.
-  abbrev pub Numbers : Op → Type 0
+  abbrev Numbers : Op → Type 0
   Numbers (seek d v) = P 6 × P 8
   Numbers (write d bytes) = P 6 × P 9 × P 10 × P 11
   Numbers (getFilePointer d) = P 6 × P 12
@@ -113,7 +113,7 @@ module _ (P : ℕ → Type 0) where
   always-result v (ask i g) h = always-result v (g (v i)) (h (v i))
   always-result v (measure f g) h = always-result v (g (v (fileLength f))) (h (v (fileLength f)))
 
-  pub ends-so : (fileOf : ℕ → ℕ) (o : Op) (x : Txn) (v : Values) → Numbers o → EndsSo (result v (step fileOf o x))
+  ends-so : (fileOf : ℕ → ℕ) (o : Op) (x : Txn) (v : Values) → Numbers o → EndsSo (result v (step fileOf o x))
   ends-so fileOf o x v h = always-result v (step fileOf o x) (always-step fileOf o x h)
 
 -- The step of a call.

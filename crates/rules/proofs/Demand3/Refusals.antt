@@ -19,13 +19,14 @@ use Rattle.rules.specs.Commits.{Setting, commitRefusal}
 use Rattle.rules.specs.Messages.{Op, bufferOf, bufferOfCall, Call, begin, on, commit, abort, places, setWindow, takeBack, bestOrder}
 use Rattle.rules.specs.Ordering.{Asked, orderRefusal, orderReplied, orderReply}
 use Rattle.rules.specs.Machine.{Machine, sizes, fileOf, values, txnOf}
+use Rattle.rules.specs.Tests.{refusalIn}
 use Rattle.rules.specs.Demand1.{Demand1, Demand1OfCode}
 use Rattle.rules.specs.Calls.{Turn, answerWith, turnDown, passing, fresh, reset, beginTurn, abortTurn, served, stepTurn}
 use Rattle.rules.specs.Calls.{commitGranted, commitDecided, commitTurn, admitted, call, placesTurn, windowTurn, takeBackTurn}
 use Rattle.rules.specs.Calls.{orderTurn, askedOf}
 use Rattle.rules.proofs.Demand3.Answers.{IsAnswer, answer-not-refused, Leaving, Right, right-step}
 pub use Rattle.rules.proofs.Demand3.Answers.{refused-same}
-use Rattle.rules.proofs.Demand3.Numbers.{knows-call, knows-fresh}
+use Rattle.rules.proofs.Demand3.Tests.{call-says, fresh-says, rows, fresh-row, call-known, fresh-known}
 
 -- A turn that leaves everything where it refuses with a number other than 13.
 pub record Leaves (m : Machine) (buffer : List ℕ) (w : Turn) : Type 0 where
@@ -250,21 +251,29 @@ passing-stale (suc k) m w h e = absurd (h (refused-same (suc k) 13 e))
 pub demand1 : Demand1
 demand1 m =
     record {
-      known = λ c. knows-call c m;
-      freshKnown = λ numbers. knows-fresh numbers m;
+      first = λ c. call-says c m;
+      freshFirst = λ numbers. fresh-says numbers m;
+      rows = λ c. rows c m;
+      freshRow = λ numbers. fresh-row numbers m;
+      known = λ c. call-known c m;
+      freshKnown = λ numbers. fresh-known numbers m;
       leaves = λ c. leaves-call c m .leaves;
       freshLeaves = λ numbers n e. leaves-fresh numbers m .leaves n e (fresh-not-13 numbers m n e) .0;
       ends = λ c. ends-call c m;
     }
 
 pub demand1-of-code : Demand1OfCode
+unfolding refusalIn
 demand1-of-code =
     record {
+      first = λ c m o after reader k. ap refusalIn (k .outcome) ∙ demand1 m .first c;
+      freshFirst = λ numbers m o after k. ap refusalIn (k .outcome) ∙ demand1 m .freshFirst numbers;
       calls =
           λ c m o after reader n k e.
           let f = sym (k .outcome) ∙ e in
           let d = demand1 m in
           record {
+            first = sym (d .first c) ∙ ap refusalIn f;
             known = d .known c n f;
             leaves = λ h. let l = d .leaves c n f h in (k .machine ∙ l .0, k .reader ∙ l .1);
             ends = λ h. let w = d .ends c (f ∙ ap refused h) in (w .0, w .1, w .2, k .machine ∙ w .3);

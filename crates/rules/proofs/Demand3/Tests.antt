@@ -1,194 +1,329 @@
--- Demand 1: each call refuses with the numbers of its own row, and with no others.
-use mathlib.Core.Bool.{Bool, true, false}
-use mathlib.Core.List.{List, [], _∷_}
-use mathlib.Core.Path.{_≡_, refl, sym, subst}
+-- Demand 1: a call is refused with the number of the first of its tests that fails, and with no other.
+use mathlib.Core.Bool.{Bool, true, false, cond, not, _&&_, _||_, or-true}
+use mathlib.Core.List.{List, [], _∷_, _++_, map}
+use mathlib.Core.Option.{Option, none, some, Option·some-injective}
+use mathlib.Core.Path.{_≡_, refl, sym, ap, ap₂, _∙_, subst}
+use borrow.Author.Tests.{eq-eqb}
+use lib.Dec.{leb, eqb}
 use native.Mathlib.Omega.{arith}
-use Prim.Native.Nat.{ℕ, zero, suc}
-use Rattle.record.specs.declared.Store.{Store}
-use Rattle.record.specs.Paper.{Said, refused}
-use Rattle.ranges.specs.Ranges.{Sizes, firstTests, shared, windowRefusal, admissionOfWindow, admissionOfTakingBack, admission}
+use lib.ListN.{length}
+use Prim.Native.Nat.{ℕ, zero, suc, _+_, _*_, _<_}
+use Rattle.windows.specs.Hours.{minuteIn}
+use Rattle.standings.specs.declared.Standing.{Standing}
+use Rattle.standings.specs.Table.{advance, pointerSettles, offsetOf}
+use Rattle.record.specs.State.{transaction}
+use Rattle.record.specs.Paper.{Said, plain, pointer, refused}
+use Rattle.ranges.specs.Ranges.{firstTests, shared, admission, admissionOfBegin, windowRefusal, admissionOfWindow, admissionOfTakingBack}
+use Rattle.ranges.specs.Ranges.{admissionOfFresh}
 use Rattle.ranges.specs.Below.{unless}
-use Rattle.ranges.specs.Ranges.{admissionOfBegin, admissionOfFresh}
-use Rattle.orders.specs.Orders.{isIn}
-use Rattle.rules.specs.Items.{Item, Values, result}
-use Rattle.rules.specs.Transactions.{Txn}
-use Rattle.rules.specs.Coverage.{placesRefusal, placesReply, placesOf}
-use Rattle.rules.specs.Steps.{Stepped, refuse, accept, step, looks, turnsBack, turnedBack}
+use Rattle.orders.specs.Orders.{isIn, allIn, isList}
+use Rattle.rules.specs.Items.{Item, offset, Values, Prog, done, andThen, result}
+use Rattle.rules.specs.Transactions.{Txn, settle, those, Settled, past, all, settling}
+use Rattle.rules.specs.Coverage.{covered, unplaced, stretchesOf, placesRefusal, placesReply, placesOf}
+use Rattle.rules.specs.Reading.{gather}
+use Rattle.rules.specs.Steps.{Stepped, refuse, accept, check, orGivenBack, seekStep, writeStep, pointerStep, settledByRead, readSettled}
+use Rattle.rules.specs.Steps.{readStep, step, looks, descriptorOf, turnsBack, turnedBack}
 use Rattle.rules.specs.Commits.{Setting, commitRefusal}
 use Rattle.rules.specs.Messages.{Op, seek, write, getFilePointer, read, bufferOf, Call, begin, on, commit, abort, places}
 use Rattle.rules.specs.Messages.{setWindow, takeBack, bestOrder}
 use Rattle.rules.specs.Ordering.{Asked, orderRefusal, orderReplied, orderReply}
 use Rattle.rules.specs.Machine.{Machine, sizes, fileOf, values, txnOf}
-use Rattle.rules.specs.Demand1.{refusalsOf, refusalsOfFresh}
-use Rattle.rules.specs.Calls.{Turn, answerWith, turnDown, passing, fresh, beginTurn, abortTurn, served, stepTurn, commitGranted}
+use Rattle.rules.specs.Calls.{Turn, answerWith, turnDown, passing, freshMachine, fresh, beginTurn, abortTurn, served, stepTurn, commitGranted}
 use Rattle.rules.specs.Calls.{commitDecided, commitTurn, admitted, call, placesTurn, windowTurn, takeBackTurn, orderTurn, askedOf}
-use Rattle.rules.proofs.Serial.Programs.{turned-back}
-use Rattle.rules.proofs.Demand3.Answers.{IsAnswer, answer-not-refused, refused-same, EndsSo, Numbers, ends-so}
+use Rattle.rules.specs.Tests.{Test, test, firstFailing, refusalIn, firstTwo, firstFour, settles, stepTests, testsOf, freshTests}
+use Rattle.rules.specs.Demand1.{refusalsOf, refusalsOfFresh}
+use Rattle.rules.proofs.Serial.Programs.{result-andThen, Every, every-append}
+use Rattle.rules.proofs.Serial.Invariant.{put-other}
 
--- A refusal, if it is one, is in the list; and a number of tests is 0 or in the list.
-abbrev Knows : List ℕ → Said → Type 0
-Knows ns a = (n : ℕ) → a ≡ refused n → isIn n ns ≡ true
+-- ---- chains of tests
 
-abbrev Among : List ℕ → ℕ → Type 0
-Among ns k = (j : ℕ) → k ≡ suc j → isIn k ns ≡ true
+-- An answer is no refusal.
+nothing-fails : refusalIn plain ≡ firstFailing []
+unfolding refusalIn firstFailing
+nothing-fails = refl
 
-knows-answer : (ns : List ℕ) (a : Said) → IsAnswer a → Knows ns a
-knows-answer ns a h = λ n e. absurd (answer-not-refused a n h e)
+-- Where refusals are numbers and 0 stands for none, one test in front.
+module _ (says : ℕ → Said) (refuses : (n : ℕ) → says (suc n) ≡ refused (suc n)) where
+  in-front : (ok : Bool) (n later : ℕ) (tests : List Test) → refusalIn (says later) ≡ firstFailing tests
+      → refusalIn (says (unless ok (suc n) later)) ≡ firstFailing (test (suc n) ok ∷ tests)
+  unfolding unless firstFailing refusalIn
+  in-front true n later tests e = e
+  in-front false n later tests e = ap refusalIn (refuses n)
 
-knows-refused : (ns : List ℕ) (k : ℕ) → isIn k ns ≡ true → Knows ns (refused k)
-knows-refused ns k h = λ n e. subst (λ (j : ℕ). isIn j ns ≡ true) (refused-same k n e) h
+  two-in-front : (m : Machine) (later : ℕ) (tests : List Test) → refusalIn (says later) ≡ firstFailing tests
+      → refusalIn (says (firstTests (sizes m) (m .store) (m .journal) later)) ≡ firstFailing (firstTwo m tests)
+  unfolding firstTests firstTwo
+  two-in-front m later tests e = in-front _ 0 _ _ (in-front _ 1 later tests e)
 
-among-none : (ns : List ℕ) → Among ns 0
-among-none ns = λ j e. absurd (let z : _≡_ {A = ℕ} 0 (suc j) = e in omega arith)
+module _ (buffer : List ℕ) (m : Machine) (w : Turn) where
+  abbrev says : ℕ → Said
+  says k = passing k buffer m w .reply .answer
 
-among-unless : (ns : List ℕ) (b : Bool) (n later : ℕ) → isIn n ns ≡ true → Among ns later → Among ns (unless b n later)
-unfolding unless
-among-unless ns true n later h l = l
-among-unless ns false n later h l = λ j e. h
+  pub passing-refuses : (n : ℕ) → says (suc n) ≡ refused (suc n)
+  unfolding passing turnDown
+  passing-refuses n = refl
 
-knows-passing : (ns : List ℕ) (k : ℕ) (buffer : List ℕ) (m : Machine) (w : Turn) → Among ns k → Knows ns (w .reply .answer)
-    → Knows ns (passing k buffer m w .reply .answer)
-unfolding passing turnDown
-knows-passing ns zero buffer m w h l = l
-knows-passing ns (suc k) buffer m w h l = knows-refused ns (suc k) (h k refl)
+  four-in-front : (t : ℕ) (tests : List Test) → refusalIn (w .reply .answer) ≡ firstFailing tests
+      → refusalIn (admitted t buffer m w .reply .answer) ≡ firstFailing (firstFour t m tests)
+  unfolding admitted admission shared firstFour passing
+  four-in-front t tests e =
+      two-in-front says passing-refuses m _ _ (in-front says passing-refuses _ 2 _ _ (in-front says passing-refuses _ 3 0 tests e))
 
--- The shared tests.
-among-first : (rest : List ℕ) (z : Sizes) (s : Store) (j : List ℕ) (later : ℕ) → Among (1 ∷ 2 ∷ rest) later
-    → Among (1 ∷ 2 ∷ rest) (firstTests z s j later)
-unfolding firstTests isIn
-among-first rest z s j later l =
-    let ns : List ℕ = 1 ∷ 2 ∷ rest in
-    among-unless ns _ 1 _ refl (among-unless ns _ 2 _ refl l)
+-- ---- Seek, Write, GetFilePointer and Read
 
-among-shared : (rest : List ℕ) (z : Sizes) (s : Store) (j : List ℕ) (t later : ℕ) → Among (1 ∷ 2 ∷ 3 ∷ rest) later
-    → Among (1 ∷ 2 ∷ 3 ∷ rest) (shared z s j t later)
-unfolding shared isIn
-among-shared rest z s j t later l =
-    let ns : List ℕ = 1 ∷ 2 ∷ 3 ∷ rest in
-    among-first (3 ∷ rest) z s j _ (among-unless ns _ 3 _ refl l)
+stepSays : Stepped → Option ℕ
+stepSays (refuse n) = some n
+stepSays (accept y a b) = refusalIn a
 
-knows-admitted : (rest : List ℕ) (t : ℕ) (buffer : List ℕ) (m : Machine) (w : Turn) → Knows (1 ∷ 2 ∷ 3 ∷ 4 ∷ rest) (w .reply .answer)
-    → Knows (1 ∷ 2 ∷ 3 ∷ 4 ∷ rest) (admitted t buffer m w .reply .answer)
-unfolding admitted admission isIn
-knows-admitted rest t buffer m w l =
-    let ns : List ℕ = 1 ∷ 2 ∷ 3 ∷ 4 ∷ rest in
-    knows-passing ns _ buffer m w
-    (among-shared (4 ∷ rest) (sizes m) (m .store) (m .journal) t _ (among-unless ns _ 4 0 refl (among-none ns))) l
+served-says : (t : ℕ) (o : Op) (m : Machine) (is : List Item) (s : Stepped) → refusalIn (served t o m is s .reply .answer) ≡ stepSays s
+unfolding served turnDown stepSays refusalIn
+served-says t o m is (refuse n) = refl
+served-says t o m is (accept y a b) = refl
 
--- Seek, Write, GetFilePointer and Read.
-knows-served : (ns : List ℕ) (t : ℕ) (o : Op) (m : Machine) (is : List Item) (s : Stepped) → EndsSo (λ n. isIn n ns ≡ true) s
-    → Knows ns (served t o m is s .reply .answer)
-unfolding served turnDown
-knows-served ns t o m is (refuse k) h = knows-refused ns k h
-knows-served ns t o m is (accept y a b) h = knows-answer ns a h
+-- A list of descriptors without a repeat.
+abbrev Apart : ℕ → List ℕ → Type 0
+Apart d = Every (λ (e : ℕ). e ≡ d → ⊥)
 
-own-numbers : (t : ℕ) (o : Op) → Numbers (λ n. isIn n (refusalsOf (on t o)) ≡ true) o
-unfolding refusalsOf isIn
-own-numbers t (seek d v) = (refl, refl)
-own-numbers t (write d bytes) = (refl, refl, refl, refl)
-own-numbers t (getFilePointer d) = (refl, refl)
-own-numbers t (read d n buffer) = (refl, refl, refl)
+abbrev Distinct : List ℕ → Type 0
+Distinct [] = Unit {0}
+Distinct (d ∷ ds) = Apart d ds × Distinct ds
 
-module _ (t : ℕ) (f : ℕ → ℕ) (x : Txn) (v : Values) (stale : Bool) where
-  abbrev Row : Op → ℕ → Type 0
-  Row o n = isIn n (refusalsOf (on t o)) ≡ true
+-- One number more, or none.
+module _ (P : ℕ → Type 0) (n : ℕ) (h : P n) where
+  one-more : (b : Bool) → Every P (cond b (n ∷ []) [])
+  one-more true = (h, tt)
+  one-more false = tt
 
-  -- 18 is a number of those that look.
-  step-knows : (o : Op) → EndsSo (Row o) (turnedBack stale o (result v (step f o x)))
-  unfolding refusalsOf isIn turnedBack turnsBack looks
-  step-knows (seek d n) = ends-so (Row (seek d n)) f (seek d n) x v (own-numbers t (seek d n))
-  step-knows (write d bytes) = ends-so (Row (write d bytes)) f (write d bytes) x v (own-numbers t (write d bytes))
-  step-knows (getFilePointer d) =
-      turned-back (EndsSo (Row (getFilePointer d))) stale (getFilePointer d) _ refl
-      (λ e. ends-so (Row (getFilePointer d)) f (getFilePointer d) x v (own-numbers t (getFilePointer d)))
-  step-knows (read d n buffer) =
-      turned-back (EndsSo (Row (read d n buffer))) stale (read d n buffer) _ refl
-      (λ e. ends-so (Row (read d n buffer)) f (read d n buffer) x v (own-numbers t (read d n buffer)))
+distinct-more : (b : Bool) (n : ℕ) (ds : List ℕ) → Every (λ (e : ℕ). e < n) ds → Distinct ds → Distinct (ds ++ cond b (n ∷ []) [])
+distinct-more true n [] h g = (tt, tt)
+distinct-more false n [] h g = tt
+distinct-more b n (d ∷ ds) h g = (
+  every-append (λ (e : ℕ). e ≡ d → ⊥) ds (cond b (n ∷ []) []) (g .0) (one-more (λ (e : ℕ). e ≡ d → ⊥) n (λ q. omega (arith, h .0)) b),
+  distinct-more b n ds (h .1) (g .1),
+)
 
--- The rows of the four begin with the shared numbers.
-ownRow : Op → List ℕ
-ownRow (seek d v) = 6 ∷ 8 ∷ []
-ownRow (write d bytes) = 6 ∷ 9 ∷ 10 ∷ 11 ∷ []
-ownRow (getFilePointer d) = 6 ∷ 18 ∷ 12 ∷ []
-ownRow (read d n buffer) = 6 ∷ 18 ∷ 7 ∷ 12 ∷ []
+raised : (n : ℕ) (ds : List ℕ) → Every (λ (e : ℕ). e < n) ds → Every (λ (e : ℕ). e < suc n) ds
+raised n [] h = tt
+raised n (d ∷ ds) h = (omega (arith, h .0), raised n ds (h .1))
 
-row-is : (t : ℕ) (o : Op) → 1 ∷ 2 ∷ 3 ∷ 4 ∷ ownRow o ≡ refusalsOf (on t o)
-unfolding refusalsOf ownRow
-row-is t (seek d v) = refl
-row-is t (write d bytes) = refl
-row-is t (getFilePointer d) = refl
-row-is t (read d n buffer) = refl
+those-below : (p : ℕ → Bool) (n : ℕ) → Every (λ (e : ℕ). e < n) (those p n)
+unfolding those
+those-below p zero = tt
+those-below p (suc n) =
+    every-append (λ (e : ℕ). e < suc n) (those p n) (cond (p n) (n ∷ []) []) (raised n (those p n) (those-below p n))
+    (one-more (λ (e : ℕ). e < suc n) n (omega arith) (p n))
 
-knows-on : (t : ℕ) (o : Op) (m : Machine) → Knows (refusalsOf (on t o)) (call (on t o) m .reply .answer)
-unfolding call stepTurn
-knows-on t o m =
-    subst (λ (ns : List ℕ). Knows ns (admitted t (bufferOf o) m (stepTurn t o m) .reply .answer)) (row-is t o)
-    (knows-admitted (ownRow o) t (bufferOf o) m (stepTurn t o m)
-    (subst (λ (ns : List ℕ). Knows ns (stepTurn t o m .reply .answer)) (sym (row-is t o))
-    (knows-served (refusalsOf (on t o)) t o m _ _
-    (step-knows t (fileOf (m .store)) (txnOf (m .store) (m .journal) (m .logs) t) (values (m .store) (m .files)) _ o))))
+those-distinct : (p : ℕ → Bool) (n : ℕ) → Distinct (those p n)
+unfolding those
+those-distinct p zero = tt
+those-distinct p (suc n) = distinct-more (p n) n (those p n) (those-below p n) (those-distinct p n)
 
--- Commit.
-abbrev ofCommit : List ℕ
-ofCommit = 1 ∷ 2 ∷ 3 ∷ 4 ∷ 22 ∷ 13 ∷ 21 ∷ 12 ∷ []
+-- Whether settling passes.
+ends : Settled → Bool
+ends past = false
+ends (all y) = true
 
-knows-decided : (t : ℕ) (x : Txn) (ss : List Setting) (m : Machine) (daily stale shut placed : Bool)
-    → Knows ofCommit (commitDecided t x ss m (commitRefusal daily stale shut placed) .reply .answer)
-unfolding commitDecided commitRefusal commitGranted isIn
-knows-decided t x ss m false stale shut placed = knows-refused ofCommit 22 refl
-knows-decided t x ss m true true shut placed = knows-refused ofCommit 13 refl
-knows-decided t x ss m true false true placed = knows-refused ofCommit 21 refl
-knows-decided t x ss m true false false true = knows-answer ofCommit _ tt
-knows-decided t x ss m true false false false = knows-refused ofCommit 12 refl
+module _ (v : Values) where
+  same-settles : (d c : ℕ) (x : Txn) (ds : List ℕ) → Apart d ds → settles v (settle d c x) ds ≡ settles v x ds
+  unfolding settles allIn settle
+  same-settles d c x [] h = refl
+  same-settles d c x (e ∷ ds) h =
+      ap₂ (λ (z : Standing) (b : Bool). leb (v (offset e) + advance z) 4096 && b) (put-other d _ (x .standing) e (h .0)) (same-settles d c x ds (h .1))
 
--- F-1's call, and F-14's.
-knows-placed : (ns : List ℕ) (fileOf : ℕ → ℕ) (f : ℕ) (out : List ℕ) (x : Txn) (n : ℕ) → Among ns n
-    → Knows ns (placesReply fileOf f out x n .answer)
+  settling-ends : (ds : List ℕ) (x : Txn) → Distinct ds → ends (result v (settling ds x)) ≡ settles v x ds
+  unfolding settling settles allIn result ends
+  settling-ends [] x h = refl
+  settling-ends (d ∷ ds) x h =
+      pick (leb (v (offset d) + advance (x .standing d)) 4096)
+      (settling-ends ds (settle d (v (offset d)) x) (h .1) ∙ same-settles d (v (offset d)) x ds (h .0))
+    where
+      pick : (b : Bool) → ends (result v (settling ds (settle d (v (offset d)) x))) ≡ settles v x ds
+          → ends (result v (cond b (settling ds (settle d (v (offset d)) x)) (done past))) ≡ (b && settles v x ds)
+      pick true e = e
+      pick false e = refl
+
+  done-says : (y : Txn) (b : List ℕ) → stepSays (result v (done (accept y plain b))) ≡ firstFailing []
+  unfolding result stepSays
+  done-says y b = nothing-fails
+
+  check-says : (ok : Bool) (n : ℕ) (next : Prog Stepped) (tests : List Test) → stepSays (result v next) ≡ firstFailing tests
+      → stepSays (result v (check ok n next)) ≡ firstFailing (test n ok ∷ tests)
+  unfolding check result stepSays firstFailing
+  check-says true n next tests e = e
+  check-says false n next tests e = refl
+
+  -- 6 and 18 of a call that looks.
+  look-says : (stale ok : Bool) (next : Prog Stepped) (tests : List Test) → stepSays (result v next) ≡ firstFailing tests
+      → stepSays (cond (true && stale && ok) (refuse 18) (result v (check ok 6 next)))
+      ≡ firstFailing (test 6 ok ∷ test 18 (not stale) ∷ tests)
+  unfolding check result stepSays firstFailing
+  look-says true true next tests e = refl
+  look-says true false next tests e = refl
+  look-says false true next tests e = e
+  look-says false false next tests e = refl
+
+  back-says : (next : Txn → Prog Stepped) → ((y : Txn) → stepSays (result v (next y)) ≡ none) → (s : Settled)
+      → stepSays (result v (orGivenBack next s)) ≡ firstFailing (test 12 (ends s) ∷ [])
+  unfolding orGivenBack result stepSays firstFailing ends
+  back-says next h past = refl
+  back-says next h (all y) = h y
+
+  settling-says : (ds : List ℕ) (x : Txn) (next : Txn → Prog Stepped) → Distinct ds → ((y : Txn) → stepSays (result v (next y)) ≡ none)
+      → stepSays (result v (andThen (settling ds x) (orGivenBack next))) ≡ firstFailing (test 12 (settles v x ds) ∷ [])
+  settling-says ds x next h g =
+      ap stepSays (result-andThen v (settling ds x) (orGivenBack next))
+      ∙ back-says next g (result v (settling ds x))
+      ∙ ap (λ (b : Bool). firstFailing (test 12 b ∷ [])) (settling-ends ds x h)
+
+  pointer-distinct : (b : Bool) (d : ℕ) → Distinct (cond b (d ∷ []) [])
+  pointer-distinct true d = (tt, tt)
+  pointer-distinct false d = tt
+
+  pointer-says : (d : ℕ) (y : Txn) → stepSays (result v (done (accept y (pointer (offsetOf (y .standing d))) []))) ≡ none
+  unfolding result stepSays refusalIn
+  pointer-says d y = refl
+
+  read-says : (f : ℕ → ℕ) (d n : ℕ) (buffer : List ℕ) (y : Txn) → stepSays (result v (readSettled f d n buffer y)) ≡ none
+  unfolding readSettled result stepSays refusalIn
+  read-says f d n buffer y = ap stepSays (result-andThen v (gather f (y .writes) (f d) _ n) _)
+
+step-says : (t : ℕ) (o : Op) (m : Machine)
+    → stepSays (turnedBack (transaction (m .store) t .stale) o
+    (result (values (m .store) (m .files)) (step (fileOf (m .store)) o (txnOf (m .store) (m .journal) (m .logs) t))))
+    ≡ firstFailing (stepTests t o m)
+unfolding step seekStep writeStep pointerStep readStep settledByRead stepTests turnedBack turnsBack looks descriptorOf
+step-says t (seek d n) m = let v = values (m .store) (m .files) in check-says v _ 6 _ _ (check-says v _ 8 _ _ (done-says v _ []))
+step-says t (write d bytes) m =
+    let v = values (m .store) (m .files) in
+    check-says v _ 6 _ _ (check-says v _ 9 _ _ (check-says v _ 10 _ _ (check-says v _ 11 _ _ (done-says v _ []))))
+step-says t (getFilePointer d) m =
+    let v = values (m .store) (m .files) in
+    let x = txnOf (m .store) (m .journal) (m .logs) t in
+    let ds = cond (pointerSettles (x .standing d)) (d ∷ []) [] in
+    look-says v (transaction (m .store) t .stale) _ _ _ (settling-says v ds x _ (pointer-distinct v (pointerSettles (x .standing d)) d) (pointer-says v d))
+step-says t (read d n buffer) m =
+    let v = values (m .store) (m .files) in
+    let f = fileOf (m .store) in
+    let x = txnOf (m .store) (m .journal) (m .logs) t in
+    look-says v (transaction (m .store) t .stale) _ _ _ (check-says v (leb n (length buffer)) 7 _ _
+    (settling-says v (settledByRead f d x) x (readSettled f d n buffer) (those-distinct _ 16) (read-says v f d n buffer)))
+
+-- ---- the other calls
+
+decided-says : (t : ℕ) (x : Txn) (ss : List Setting) (m : Machine) (daily stale shut placed : Bool)
+    → refusalIn (commitDecided t x ss m (commitRefusal daily stale shut placed) .reply .answer)
+    ≡ firstFailing (test 22 daily ∷ test 13 (not stale) ∷ test 21 (not shut) ∷ test 12 placed ∷ [])
+unfolding commitDecided commitRefusal commitGranted refusalIn firstFailing
+decided-says t x ss m false stale shut placed = refl
+decided-says t x ss m true true shut placed = refl
+decided-says t x ss m true false true placed = refl
+decided-says t x ss m true false false true = refl
+decided-says t x ss m true false false false = refl
+
+places-refuses : (f : ℕ → ℕ) (g : ℕ) (out : List ℕ) (x : Txn) (n : ℕ) → placesReply f g out x (suc n) .answer ≡ refused (suc n)
 unfolding placesReply
-knows-placed ns fileOf f out x zero h = knows-answer ns _ tt
-knows-placed ns fileOf f out x (suc n) h = knows-refused ns (suc n) (h n refl)
+places-refuses f g out x n = refl
 
-knows-ordered : (ns : List ℕ) (a : Asked) (ts : List ℕ) (budget n : ℕ) → Among ns n → Knows ns (orderReplied a ts budget n .answer)
+order-refuses : (a : Asked) (ts : List ℕ) (budget n : ℕ) → orderReplied a ts budget (suc n) .answer ≡ refused (suc n)
 unfolding orderReplied
-knows-ordered ns a ts budget zero h = knows-answer ns _ tt
-knows-ordered ns a ts budget (suc n) h = knows-refused ns (suc n) (h n refl)
+order-refuses a ts budget n = refl
 
-pub knows-call : (c : Call) (m : Machine) → Knows (refusalsOf c) (call c m .reply .answer)
-unfolding call refusalsOf isIn beginTurn abortTurn answerWith commitTurn placesTurn placesOf placesRefusal windowTurn takeBackTurn
-    orderTurn orderReply orderRefusal admissionOfBegin admissionOfWindow windowRefusal admissionOfTakingBack
-knows-call (begin t) m =
-    let ns : List ℕ = 1 ∷ 2 ∷ 3 ∷ 5 ∷ [] in
-    knows-passing ns _ [] m (beginTurn t m)
-    (among-shared (5 ∷ []) (sizes m) (m .store) (m .journal) t _ (among-unless ns _ 5 0 refl (among-none ns))) (knows-answer ns _ tt)
-knows-call (on t o) m = knows-on t o m
-knows-call (commit t minute) m = knows-admitted (22 ∷ 13 ∷ 21 ∷ 12 ∷ []) t [] m (commitTurn t minute m) (knows-decided t _ _ m _ _ _ _)
-knows-call (abort t) m =
-    let ns : List ℕ = 1 ∷ 2 ∷ 3 ∷ 4 ∷ [] in
-    knows-admitted [] t [] m (abortTurn t m) (knows-answer ns _ tt)
-knows-call (places t f out) m =
-    let ns : List ℕ = 1 ∷ 2 ∷ 3 ∷ 4 ∷ 6 ∷ 15 ∷ 16 ∷ [] in
-    knows-admitted (6 ∷ 15 ∷ 16 ∷ []) t out m (placesTurn t f out m)
-    (knows-placed ns _ f out _ _ (among-unless ns _ 6 _ refl (among-unless ns _ 15 _ refl (among-unless ns _ 16 0 refl (among-none ns)))))
-knows-call (setWindow f start end) m =
-    let ns : List ℕ = 1 ∷ 2 ∷ 6 ∷ 22 ∷ [] in
-    knows-passing ns _ [] m (windowTurn f start end m)
-    (among-first (6 ∷ 22 ∷ []) (sizes m) (m .store) (m .journal) _ (among-unless ns _ 6 _ refl (among-unless ns _ 22 0 refl (among-none ns))))
-    (knows-answer ns _ tt)
-knows-call takeBack m =
-    let ns : List ℕ = 1 ∷ 2 ∷ 23 ∷ 24 ∷ [] in
-    knows-passing ns _ [] m (takeBackTurn m)
-    (among-first (23 ∷ 24 ∷ []) (sizes m) (m .store) (m .journal) _ (among-unless ns _ 23 _ refl (among-unless ns _ 24 0 refl (among-none ns))))
-    (knows-answer ns _ tt)
-knows-call (bestOrder ts minute budget) m =
-    let ns : List ℕ = 1 ∷ 2 ∷ 26 ∷ 3 ∷ 4 ∷ 22 ∷ 25 ∷ 27 ∷ [] in
-    knows-passing ns _ [] m (orderTurn ts minute budget m)
-    (among-first (26 ∷ 3 ∷ 4 ∷ 22 ∷ 25 ∷ 27 ∷ []) (sizes m) (m .store) (m .journal) 0 (among-none ns))
-    (knows-ordered ns (askedOf minute m) ts budget _
-    (among-unless ns _ 26 _ refl (among-unless ns _ 3 _ refl (among-unless ns _ 4 _ refl (among-unless ns _ 22 _ refl
-    (among-unless ns _ 25 _ refl (among-unless ns _ 27 0 refl (among-none ns))))))))
+places-says : (f : ℕ → ℕ) (g : ℕ) (out : List ℕ) (x : Txn) → refusalIn (placesOf f g out x .answer)
+    ≡ firstFailing (test 6 (leb g 7) ∷ test 15 (not (unplaced f g (x .writes)))
+    ∷ test 16 (leb (4 * length (stretchesOf (covered f g (x .writes)))) (length out)) ∷ [])
+unfolding placesOf placesRefusal
+places-says f g out x =
+    let says : ℕ → Said = λ n. placesReply f g out x n .answer in
+    let h = places-refuses f g out x in
+    in-front says h _ 5 _ _ (in-front says h _ 14 _ _ (in-front says h _ 15 0 [] (unfold placesReply refusalIn firstFailing in refl)))
 
-pub knows-fresh : (numbers : List ℕ) (m : Machine) → Knows refusalsOfFresh (fresh numbers m .reply .answer)
-unfolding fresh answerWith admissionOfFresh isIn
-knows-fresh numbers m =
-    let ns : List ℕ = refusalsOfFresh in
-    knows-passing ns _ [] m _ (among-unless ns _ 1 _ refl (among-unless ns _ 14 0 refl (among-none ns))) (knows-answer ns _ tt)
+order-says : (a : Asked) (ts : List ℕ) (minute budget : ℕ) → refusalIn (orderReply a ts minute budget .answer)
+    ≡ firstFailing (test 26 (isList ts) ∷ test 3 (allIn (λ t. leb t 7) ts) ∷ test 4 (allIn (a .isOpen) ts) ∷ test 22 (minuteIn minute)
+    ∷ test 25 (allIn (λ t. not (a .notReady t)) ts) ∷ test 27 (leb 1 budget && leb budget 40320) ∷ [])
+unfolding orderReply orderRefusal
+order-says a ts minute budget =
+    let says : ℕ → Said = λ n. orderReplied a ts budget n .answer in
+    let h = order-refuses a ts budget in
+    in-front says h _ 25 _ _ (in-front says h _ 2 _ _ (in-front says h _ 3 _ _ (in-front says h _ 21 _ _ (in-front says h _ 24 _ _
+    (in-front says h _ 26 0 [] (unfold orderReplied refusalIn firstFailing in refl))))))
+
+pub call-says : (c : Call) (m : Machine) → refusalIn (call c m .reply .answer) ≡ firstFailing (testsOf c m)
+unfolding call testsOf beginTurn abortTurn answerWith stepTurn commitTurn placesTurn windowTurn takeBackTurn orderTurn admissionOfBegin shared
+    admissionOfWindow windowRefusal admissionOfTakingBack passing
+call-says (begin t) m =
+    let says : ℕ → Said = λ k. passing k [] m (beginTurn t m) .reply .answer in
+    let h = passing-refuses [] m (beginTurn t m) in
+    two-in-front says h m _ _ (in-front says h _ 2 _ _ (in-front says h _ 4 0 [] nothing-fails))
+call-says (on t o) m = four-in-front (bufferOf o) m (stepTurn t o m) t _ (served-says t o m _ _ ∙ step-says t o m)
+call-says (commit t minute) m = four-in-front [] m (commitTurn t minute m) t _ (decided-says t _ _ m _ _ _ _)
+call-says (abort t) m = four-in-front [] m (abortTurn t m) t [] nothing-fails
+call-says (places t f out) m = four-in-front out m (placesTurn t f out m) t _ (places-says _ f out _)
+call-says (setWindow f start end) m =
+    let says : ℕ → Said = λ k. passing k [] m (windowTurn f start end m) .reply .answer in
+    let h = passing-refuses [] m (windowTurn f start end m) in
+    two-in-front says h m _ _ (in-front says h _ 5 _ _ (in-front says h _ 21 0 [] nothing-fails))
+call-says takeBack m =
+    let says : ℕ → Said = λ k. passing k [] m (takeBackTurn m) .reply .answer in
+    let h = passing-refuses [] m (takeBackTurn m) in
+    two-in-front says h m _ _ (in-front says h _ 22 _ _ (in-front says h _ 23 0 [] nothing-fails))
+call-says (bestOrder ts minute budget) m =
+    let says : ℕ → Said = λ k. passing k [] m (orderTurn ts minute budget m) .reply .answer in
+    two-in-front says (passing-refuses [] m (orderTurn ts minute budget m)) m 0 _ (order-says (askedOf minute m) ts minute budget)
+
+pub fresh-says : (numbers : List ℕ) (m : Machine) → refusalIn (fresh numbers m .reply .answer) ≡ firstFailing (freshTests numbers m)
+unfolding fresh freshTests admissionOfFresh answerWith passing
+fresh-says numbers m =
+    let w = answerWith plain (freshMachine numbers (m .logs) (m .undo)) in
+    let says : ℕ → Said = λ k. passing k [] m w .reply .answer in
+    let h = passing-refuses [] m w in
+    in-front says h _ 0 _ _ (in-front says h _ 13 0 [] nothing-fails)
+
+-- ---- the rows
+
+pub rows : (c : Call) (m : Machine) → map (λ (x : Test). x .number) (testsOf c m) ≡ refusalsOf c
+unfolding testsOf stepTests firstFour firstTwo refusalsOf
+rows (begin t) m = refl
+rows (on t (seek d v)) m = refl
+rows (on t (write d bytes)) m = refl
+rows (on t (getFilePointer d)) m = refl
+rows (on t (read d n buffer)) m = refl
+rows (commit t minute) m = refl
+rows (abort t) m = refl
+rows (places t f out) m = refl
+rows (setWindow f start end) m = refl
+rows takeBack m = refl
+rows (bestOrder ts minute budget) m = refl
+
+pub fresh-row : (numbers : List ℕ) (m : Machine) → map (λ (x : Test). x .number) (freshTests numbers m) ≡ refusalsOfFresh
+unfolding freshTests
+fresh-row numbers m = refl
+
+-- The first that fails is one of them.
+abbrev IsSome : Option ℕ → Type 0
+IsSome none = ⊥
+IsSome (some n) = Unit {0}
+
+none-not-some : (n : ℕ) → _≡_ {A = Option ℕ} none (some n) → ⊥
+none-not-some n e = subst IsSome (sym e) tt
+
+first-is-in : (tests : List Test) (n : ℕ) → firstFailing tests ≡ some n → isIn n (map (λ (x : Test). x .number) tests) ≡ true
+unfolding firstFailing isIn
+first-is-in [] n e = absurd (none-not-some n e)
+first-is-in (x ∷ tests) n e = pick (x .passes) e (first-is-in tests n)
+  where
+    pick : (b : Bool) → cond b (firstFailing tests) (some (x .number)) ≡ some n
+        → (firstFailing tests ≡ some n → isIn n (map (λ (y : Test). y .number) tests) ≡ true)
+        → (eqb n (x .number) || isIn n (map (λ (y : Test). y .number) tests)) ≡ true
+    pick true e r = ap (λ (b : Bool). eqb n (x .number) || b) (r e) ∙ or-true (eqb n (x .number))
+    pick false e r = ap (λ (b : Bool). b || isIn n (map (λ (y : Test). y .number) tests)) (eq-eqb n (x .number) (sym (Option·some-injective (x .number) n e)))
+
+pub call-known : (c : Call) (m : Machine) (n : ℕ) → call c m .reply .answer ≡ refused n → isIn n (refusalsOf c) ≡ true
+unfolding refusalIn
+call-known c m n e =
+    subst (λ (ns : List ℕ). isIn n ns ≡ true) (rows c m) (first-is-in (testsOf c m) n (sym (call-says c m) ∙ ap refusalIn e))
+
+pub fresh-known : (numbers : List ℕ) (m : Machine) (n : ℕ) → fresh numbers m .reply .answer ≡ refused n → isIn n refusalsOfFresh ≡ true
+unfolding refusalIn
+fresh-known numbers m n e =
+    subst (λ (ns : List ℕ). isIn n ns ≡ true) (fresh-row numbers m)
+    (first-is-in (freshTests numbers m) n (sym (fresh-says numbers m) ∙ ap refusalIn e))

@@ -8,11 +8,10 @@ use Rattle.windows.specs.Hours.{isClosedAt}
 use Rattle.record.specs.State.{windowAt}
 use Rattle.record.specs.Paper.{granted}
 use Rattle.rules.specs.Items.{byte}
-use Rattle.rules.specs.Messages.{Call, commit}
+use Rattle.rules.specs.Messages.{commit}
 use Rattle.rules.specs.Commits.{Setting}
 use Rattle.rules.specs.Machine.{Machine}
-use Rattle.rules.specs.Calls.{settingsOf, call, callsAfter}
-use Rattle.rules.specs.Demand3OfStore.{FreshlyMade}
+use Rattle.rules.specs.Calls.{settingsOf, call}
 
 -- A setting is among those of a list.
 pub data Among (x : Setting) : List Setting → Type 0 where
@@ -31,7 +30,6 @@ pub record Spared (m : Machine) (t minute : ℕ) : Type 0 where
       (f : ℕ) → isClosedAt (windowAt (m .store)) minute f ≡ true
       → getD (call (commit t minute) m .after .store .lengths) f 0 ≡ getD (m .store .lengths) f 0
 
+-- Of any record and any buffers: a grant has passed 1 and 2.
 abbrev pub ClosedSpared : Type 0
-ClosedSpared =
-    (numbers : List ℕ) (m₀ : Machine) → FreshlyMade numbers m₀ → (cs : List Call) (t minute n : ℕ)
-    → call (commit t minute) (callsAfter cs m₀) .reply .answer ≡ granted n → Spared (callsAfter cs m₀) t minute
+ClosedSpared = (m : Machine) (t minute n : ℕ) → call (commit t minute) m .reply .answer ≡ granted n → Spared m t minute

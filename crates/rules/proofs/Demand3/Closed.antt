@@ -2,9 +2,10 @@
 use mathlib.Core.Bool.{Bool, true, false, cond, _&&_, _||_, true≢false}
 use mathlib.Core.List.{List, [], _∷_, _++_}
 use mathlib.Core.Path.{_≡_, refl, sym, ap, _∙_, subst}
-use borrow.Author.Tests.{eqb-true, lt-ltb, le-ltb}
+use borrow.Author.Tests.{eqb-true, eq-eqb, lt-ltb, le-ltb}
 use lib.Dec.{eqb, ltb}
 use lib.ListN.{length, getD}
+use lib.Seq.{getD-set-other}
 use native.Mathlib.Omega.{arith}
 use Prim.Native.Nat.{ℕ, zero, suc, _+_, _*_, _/_, _≤_, _<_, suc-le-suc}
 use Rattle.windows.specs.Hours.{Windows, isClosedAt}
@@ -13,29 +14,28 @@ use Rattle.record.specs.Paper.{granted}
 use Rattle.standings.specs.Table.{finalOffset}
 use Rattle.ranges.specs.Ranges.{admission}
 use Rattle.ranges.specs.Below.{unless}
-use Rattle.ranges.proofs.Laws.{in-range, shared-zero}
+use Rattle.ranges.proofs.Laws.{Admitted, in-range, shared-zero}
 use Rattle.rules.specs.Items.{Item, byte, offset, fileLength, same, Values}
 use Rattle.rules.specs.Transactions.{Txn, Write}
 use Rattle.rules.specs.Reading.{writeEnd, farthest}
 use Rattle.rules.specs.Coverage.{someWrite}
 use Rattle.rules.specs.Windows.{isForClosed, forClosed}
 use Rattle.rules.specs.Commits.{Setting, landsAt, bytesFrom, byteSettings, setsOffset, offsetSettings, landedEnd, lengthSettings}
-use Rattle.rules.specs.Commits.{settings, fits, landed, commitRefusal}
+use Rattle.rules.specs.Commits.{settings, fits, commitRefusal}
 use Rattle.rules.specs.Messages.{commit}
 use Rattle.rules.specs.Machine.{Machine, sizes, fileOf, values, txnOf, noWrite}
-use Rattle.rules.specs.Calls.{Turn, passing, commitGranted, commitDecided, settingsOf, commitTurn, admitted, call, callsAfter}
-use Rattle.rules.specs.Closed.{Among, first, later, Spared, ClosedSpared}
+use Rattle.rules.specs.Calls.{Turn, passing, landByte, landFiles, landLength, landLengths, commitGranted, commitDecided, settingsOf}
+use Rattle.rules.specs.Calls.{commitTurn, admitted, call}
+use Rattle.rules.specs.Closed.{Among, first, later, ClosedSpared}
 use Rattle.rules.proofs.Serial.Programs.{Every, every-append}
-use Rattle.rules.proofs.Serial.Lists.{touched, landed-at, same-true, or-left-false, or-right-false}
-use Rattle.rules.proofs.View.Shape.{Sound, WriteIn, TxnIn}
-use Rattle.rules.proofs.View.Decode.{decoded-in}
+use Rattle.rules.proofs.Serial.Lists.{touched, same-true, or-left-false, or-right-false}
+use Rattle.rules.proofs.View.Shape.{WriteIn}
+use Rattle.rules.proofs.View.Decode.{decoded-writes}
 use Rattle.rules.proofs.View.SettingsIn.{lands-in, fits-at}
-use Rattle.rules.proofs.View.Grants.{granted-values}
 use Rattle.rules.proofs.View.Zeros.{neither}
 use Rattle.rules.proofs.Demand3.Answers.{answer-not-refused}
 use Rattle.rules.proofs.Demand3.Refusals.{passing-zero}
 use Rattle.rules.proofs.Demand3.Buffers.{answered-turn}
-use Rattle.rules.proofs.Demand3.Theorem.{calls-agree, fresh-facts}
 
 -- A write of no byte ends nowhere.
 no-bytes : (a n : ℕ) → (ltb 0 n && true) ≡ false → writeEnd a n ≡ 0
@@ -65,7 +65,7 @@ module _ (ws : Windows) (minute : ℕ) where
       let c = h (omega arith) in
       (rw e c, stretch-spares g (suc q) bs (omega arith) (omega arith) (λ m. c))
 
-  module _ (file : ℕ → ℕ) (v : Values) (y : Txn) (files : (d : ℕ) → d < 16 → file d ≤ 7) (ranges : TxnIn y) (fit : fits v y ≡ true) where
+  module _ (file : ℕ → ℕ) (v : Values) (y : Txn) (fit : fits v y ≡ true) where
     bytes-spare : (us : List Write) → ((k : ℕ) → k < length us → WriteIn y (getD us k noWrite)) → forClosed file ws minute us ≡ false
         → AllSparing (byteSettings file v us)
     unfolding byteSettings forClosed someWrite
@@ -74,7 +74,7 @@ module _ (ws : Windows) (minute : ℕ) where
         let i = h 0 (omega arith) in
         let d = w .descriptor in
         let a = landsAt (v (offset d)) (w .place) in
-        let k = lands-in (v (offset d)) (y .standing d) (w .place) (length (w .bytes)) (fits-at file v y files ranges fit d (i .descriptor)) (i .place) in
+        let k = lands-in (v (offset d)) (y .standing d) (w .place) (length (w .bytes)) (fits-at v y fit d (i .descriptor)) (i .place) in
         let o = or-left-false (isForClosed file ws minute w) (someWrite (isForClosed file ws minute) us) e in
         let r = or-right-false (isForClosed file ws minute w) (someWrite (isForClosed file ws minute) us) e in
         every-append (λ (s : Setting). Sparing (s .item)) (bytesFrom (4096 * file d + a) (w .bytes)) (byteSettings file v us)
@@ -106,10 +106,11 @@ module _ (ws : Windows) (minute : ℕ) where
         pick true = (tt, tt)
         pick false = tt
 
-    settings-spare : forClosed file ws minute (y .writes) ≡ false → AllSparing (settings file v y)
+    settings-spare : ((k : ℕ) → k < length (y .writes) → WriteIn y (getD (y .writes) k noWrite)) → forClosed file ws minute (y .writes) ≡ false
+        → AllSparing (settings file v y)
     unfolding settings
-    settings-spare e =
-        every-append (λ (s : Setting). Sparing (s .item)) (byteSettings file v (y .writes)) _ (bytes-spare (y .writes) (ranges .writes) e)
+    settings-spare h e =
+        every-append (λ (s : Setting). Sparing (s .item)) (byteSettings file v (y .writes)) _ (bytes-spare (y .writes) h e)
         (every-append (λ (s : Setting). Sparing (s .item)) (offsetSettings v y 16) _ (offsets-spare 16) (lengths-spare (y .writes) 8))
 
   -- One among them.
@@ -210,7 +211,7 @@ module _ (ws : Windows) (minute : ℕ) where
 
 -- Its tests passed, and it leaves what the settings leave.
 pub record Passed (m : Machine) (t minute : ℕ) : Type 0 where
-  pub small : t < 8
+  pub admitted : Admitted (sizes m) (m .store) (m .journal) t
   pub begun : transaction (m .store) t .begun ≡ true
   pub none : forClosed (fileOf (m .store)) (windowAt (m .store)) minute (txnOf (m .store) (m .journal) (m .logs) t .writes) ≡ false
   pub fit : fits (values (m .store) (m .files)) (txnOf (m .store) (m .journal) (m .logs) t) ≡ true
@@ -240,51 +241,58 @@ passed m t minute n e =
     let w : passing k [] m (commitTurn t minute m) ≡ commitTurn t minute m = answered-turn k m (commitTurn t minute m) (granted n) tt e in
     let d = decided-granted t (txnOf (m .store) (m .journal) (m .logs) t) (settingsOf m t) m _ _ _ _ n (sym (ap (λ (x : Turn). x .reply .answer) w) ∙ e) in
     record {
-      small = a .0 .small;
+      admitted = a .0;
       begun = is-open (transaction (m .store) t .begun) (a .1);
       none = d .0;
       fit = d .1;
       leaves = ap (λ (x : Turn). x .after) w ∙ d .2;
     }
 
--- Equal committed values, in the buffers.
-byte-left : (n m : Machine) (q : ℕ) → values (n .store) (n .files) (byte q) ≡ values (m .store) (m .files) (byte q)
-    → getD (n .files) q 0 ≡ getD (m .files) q 0
-unfolding values
-byte-left n m q e = e
+-- What is not touched is left where the settings land, in lists of any length.
+files-left : (q : ℕ) (ss : List Setting) (files : List ℕ) → touched ss (byte q) ≡ false → getD (landFiles ss files) q 0 ≡ getD files q 0
+unfolding landFiles landByte touched same
+files-left q [] files h = refl
+files-left q (s ∷ ss) files h =
+    files-left q ss (landByte (s .item) (s .to) files) (or-right-false (same (s .item) (byte q)) (touched ss (byte q)) h)
+    ∙ one (s .item) (or-left-false (same (s .item) (byte q)) (touched ss (byte q)) h)
+  where
+    one : (i : Item) → same i (byte q) ≡ false → getD (landByte i (s .to) files) q 0 ≡ getD files q 0
+    one (byte p) e = getD-set-other files p q (s .to) 0 (λ f. absurd (true≢false (sym (eq-eqb p q (sym f)) ∙ e)))
+    one (offset d) e = refl
+    one (fileLength f) e = refl
 
-length-left : (n m : Machine) (f : ℕ) → values (n .store) (n .files) (fileLength f) ≡ values (m .store) (m .files) (fileLength f)
-    → getD (n .store .lengths) f 0 ≡ getD (m .store .lengths) f 0
-unfolding values
-length-left n m f e = e
-
-spared : (m : Machine) → Sound m → (t minute n : ℕ) → call (commit t minute) m .reply .answer ≡ granted n → Spared m t minute
-spared m sound t minute n e =
-    let p = passed m t minute n e in
-    let s = m .store in
-    let v = values s (m .files) in
-    let x = txnOf s (m .journal) (m .logs) t in
-    let r = in-range s (m .journal) (sound .inRange) in
-    let ranges = decoded-in s (m .journal) (m .logs) t (sound .logs) (p .small) (r .transactions t (p .small) (p .begun))
-    (sound .shaped .descriptors t (p .small)) in
-    let sparing = settings-spare (windowAt s) minute (fileOf s) v x (unfold fileOf in r .files) ranges (p .fit) (p .none) in
-    let left : values (call (commit t minute) m .after .store) (call (commit t minute) m .after .files) ≡ landed (settingsOf m t) v =
-    ap (λ (y : Machine). values (y .store) (y .files)) (p .leaves)
-    ∙ granted-values m t x (p .small) sound ranges (p .fit) in
-    record {
-      bytes = λ a q i f. subst (Sparing (windowAt s) minute) f (among-spares (windowAt s) minute a (settingsOf m t) i sparing);
-      kept =
-          λ q c.
-          byte-left (call (commit t minute) m .after) m q
-          (ap (λ (y : Values). y (byte q)) left
-          ∙ landed-at (settingsOf m t) v (byte q) (not-touched (windowAt s) minute q c (settingsOf m t) sparing));
-      length =
-          λ f c.
-          length-left (call (commit t minute) m .after) m f
-          (ap (λ (y : Values). y (fileLength f)) left
-          ∙ landed-at (settingsOf m t) v (fileLength f) (length-not-touched (windowAt s) minute (fileOf s) v f c x (p .none)));
-    }
+lengths-left : (f : ℕ) (ss : List Setting) (lengths : List ℕ) → touched ss (fileLength f) ≡ false
+    → getD (landLengths ss lengths) f 0 ≡ getD lengths f 0
+unfolding landLengths landLength touched same
+lengths-left f [] lengths h = refl
+lengths-left f (s ∷ ss) lengths h =
+    lengths-left f ss (landLength (s .item) (s .to) lengths) (or-right-false (same (s .item) (fileLength f)) (touched ss (fileLength f)) h)
+    ∙ one (s .item) (or-left-false (same (s .item) (fileLength f)) (touched ss (fileLength f)) h)
+  where
+    one : (i : Item) → same i (fileLength f) ≡ false → getD (landLength i (s .to) lengths) f 0 ≡ getD lengths f 0
+    one (byte q) e = refl
+    one (offset d) e = refl
+    one (fileLength g) e = getD-set-other lengths g f (s .to) 0 (λ h. absurd (true≢false (sym (eq-eqb g f (sym h)) ∙ e)))
 
 pub closed-spared : ClosedSpared
-closed-spared numbers m₀ made cs t minute n e =
-    spared (callsAfter cs m₀) (calls-agree cs m₀ (fresh-facts numbers m₀ made .sound) .sound) t minute n e
+unfolding commitGranted
+closed-spared m t minute n e =
+    let p = passed m t minute n e in
+    let s = m .store in
+    let a = p .admitted in
+    let ws = windowAt s in
+    let x = txnOf s (m .journal) (m .logs) t in
+    let r = in-range s (m .journal) (a .ranges) .transactions t (a .small) (p .begun) in
+    let sparing = settings-spare ws minute (fileOf s) (values s (m .files)) x (p .fit)
+    (decoded-writes s (m .journal) (m .logs) t (a .lengths .logs) (a .small) r) (p .none) in
+    record {
+      bytes = λ b q i f. subst (Sparing ws minute) f (among-spares ws minute b (settingsOf m t) i sparing);
+      kept =
+          λ q c.
+          ap (λ (y : Machine). getD (y .files) q 0) (p .leaves)
+          ∙ files-left q (settingsOf m t) (m .files) (not-touched ws minute q c (settingsOf m t) sparing);
+      length =
+          λ f c.
+          ap (λ (y : Machine). getD (y .store .lengths) f 0) (p .leaves)
+          ∙ lengths-left f (settingsOf m t) (s .lengths) (length-not-touched ws minute (fileOf s) (values s (m .files)) f c x (p .none));
+    }

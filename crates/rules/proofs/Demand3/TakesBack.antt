@@ -146,11 +146,11 @@ takes-back numbers m₀ made xs ys t minute n g none-granted taken =
     let r = in-range (before .store) (before .journal) (sound .inRange) in
     let x = txnOf (before .store) (before .journal) (before .logs) t in
     let ranges =
-    decoded-in (before .store) (before .journal) (before .logs) t (sound .logs) (p .small) (r .transactions t (p .small) (p .begun))
-    (sound .shaped .descriptors t (p .small)) in
+    decoded-in (before .store) (before .journal) (before .logs) t (sound .logs) (p .admitted .small) (r .transactions t (p .admitted .small) (p .begun))
+    (sound .shaped .descriptors t (p .admitted .small)) in
     let after = call (commit t minute) before .after in
     let after-sound = call-turn (commit t minute) before sound .2 in
-    let kept-there : backIn after ≡ kept v = ap backIn (p .leaves) ∙ granted-kept before t x (p .small) sound ranges (p .fit) in
+    let kept-there : backIn after ≡ kept v = ap backIn (p .leaves) ∙ granted-kept before t x (p .admitted .small) sound ranges (p .fit) in
     let m = callsAfter ys after in
     let m-sound = calls-agree ys after after-sound .sound in
     let or-there = calls-or v ys after after-sound (or-start after v kept-there) none-granted in

@@ -103,6 +103,10 @@ module _ (s : Store) (journal logs : List ℕ) (t : ℕ) (size : length logs ≡
         place = rw (decoded-length k h) (and-right (leb e 15) _ (r .writes k h));
       }
 
+  pub decoded-writes : (k : ℕ) → k < length (txnOf s journal logs t .writes)
+      → WriteIn (txnOf s journal logs t) (getD (txnOf s journal logs t .writes) k noWrite)
+  decoded-writes k h = let g : k < count = rw decoded-count at h in rw (decoded-at k g) (write-in k g)
+
   untouched : length (transaction s t .descriptors) ≡ 16 → (d : ℕ) → 16 ≤ d → txnOf s journal logs t .standing d ≡ Untouched
   unfolding txnOf
   untouched sixteen d h = ap (λ (x : Descriptor). x .standing) (List·getD-eq-default (transaction s t .descriptors) noDescriptor (omega arith))
@@ -120,7 +124,7 @@ module _ (s : Store) (journal logs : List ℕ) (t : ℕ) (size : length logs ≡
         clean = clean sixteen;
         records = rw decoded-count (r .records);
         bytes = rw decoded-total (r .bytes);
-        writes = λ k h. let g : k < count = rw decoded-count at h in rw (decoded-at k g) (write-in k g);
+        writes = decoded-writes;
       }
     where
       known : (d : ℕ) → d < 16 → standingIn (txnOf s journal logs t .standing d) ≡ true

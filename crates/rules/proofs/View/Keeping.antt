@@ -140,7 +140,7 @@ module _ (m : Machine) (x : Txn) (sound : Sound m) (ranges : TxnIn x) (fit : fit
   ends : (w : Write) → WriteIn x w → landsAt (v (offset (w .descriptor))) (w .place) + length (w .bytes) ≤ 4096
   ends w i =
       lands-in (v (offset (w .descriptor))) (x .standing (w .descriptor)) (w .place) (length (w .bytes))
-      (fits-at F v x files-in ranges fit (w .descriptor) (i .descriptor)) (i .place)
+      (fits-at v x fit (w .descriptor) (i .descriptor)) (i .place)
 
   inside-of : (us : List Write) → ((k : ℕ) → k < length us → WriteIn x (getD us k noWrite)) → Lands F v (length (m .files)) us
   unfolding landingOf

@@ -69,11 +69,12 @@ final-in c (Known o) s h e = leb-true o 4096 e
 
 -- ---- a transaction in range whose placing fits
 
-module _ (fileOf : ℕ → ℕ) (v : Values) (y : Txn) (files : (d : ℕ) → d < 16 → fileOf d ≤ 7) (ranges : TxnIn y) (fit : fits v y ≡ true) where
-  pub fits-at : (d : ℕ) → d < 16 → v (offset d) + advance (y .standing d) ≤ 4096
-  unfolding fits
-  fits-at d l = leb-true (v (offset d) + advance (y .standing d)) 4096 (below-at (λ e. leb (v (offset e) + advance (y .standing e)) 4096) 16 d fit l)
+pub fits-at : (v : Values) (y : Txn) → fits v y ≡ true → (d : ℕ) → d < 16 → v (offset d) + advance (y .standing d) ≤ 4096
+unfolding fits
+fits-at v y fit d l =
+    leb-true (v (offset d) + advance (y .standing d)) 4096 (below-at (λ e. leb (v (offset e) + advance (y .standing e)) 4096) 16 d fit l)
 
+module _ (fileOf : ℕ → ℕ) (v : Values) (y : Txn) (files : (d : ℕ) → d < 16 → fileOf d ≤ 7) (ranges : TxnIn y) (fit : fits v y ≡ true) where
   bytes-in : (ws : List Write) → ((k : ℕ) → k < length ws → WriteIn y (getD ws k noWrite)) → AllIn (byteSettings fileOf v ws)
   unfolding byteSettings
   bytes-in [] h = tt
@@ -81,7 +82,7 @@ module _ (fileOf : ℕ → ℕ) (v : Values) (y : Txn) (files : (d : ℕ) → d 
       let i = h 0 (omega arith) in
       let d = w .descriptor in
       let f = files d (i .descriptor) in
-      let g = lands-in (v (offset d)) (y .standing d) (w .place) (length (w .bytes)) (fits-at d (i .descriptor)) (i .place) in
+      let g = lands-in (v (offset d)) (y .standing d) (w .place) (length (w .bytes)) (fits-at v y fit d (i .descriptor)) (i .place) in
       all-append (bytesFrom (4096 * fileOf d + landsAt (v (offset d)) (w .place)) (w .bytes)) (byteSettings fileOf v ws)
       (stretch-in (4096 * fileOf d + landsAt (v (offset d)) (w .place)) (w .bytes) (omega arith))
       (bytes-in ws (λ k l. h (suc k) (suc-le-suc l)))
@@ -89,7 +90,7 @@ module _ (fileOf : ℕ → ℕ) (v : Values) (y : Txn) (files : (d : ℕ) → d 
   one-in : (d : ℕ) → d < 16 → (b : Bool) → setsOffset y d ≡ b
       → AllIn (cond b (record { item = offset d; to = finalOffset (v (offset d)) (y .standing d) } ∷ []) [])
   unfolding setsOffset
-  one-in d l true e = ((l, final-in (v (offset d)) (y .standing d) (and-right (y .dirty d) _ e) (fits-at d l) (ranges .standings d)), tt)
+  one-in d l true e = ((l, final-in (v (offset d)) (y .standing d) (and-right (y .dirty d) _ e) (fits-at v y fit d l) (ranges .standings d)), tt)
   one-in d l false e = tt
 
   offsets-in : (n : ℕ) → n ≤ 16 → AllIn (offsetSettings v y n)
@@ -107,7 +108,7 @@ module _ (fileOf : ℕ → ℕ) (v : Values) (y : Txn) (files : (d : ℕ) → d 
       let w = getD (y .writes) k noWrite in
       let i = ranges .writes k l in
       write-end (landsAt (v (offset (w .descriptor))) (w .place)) (length (w .bytes))
-      (lands-in (v (offset (w .descriptor))) (y .standing (w .descriptor)) (w .place) (length (w .bytes)) (fits-at (w .descriptor) (i .descriptor)) (i .place)))
+      (lands-in (v (offset (w .descriptor))) (y .standing (w .descriptor)) (w .place) (length (w .bytes)) (fits-at v y fit (w .descriptor) (i .descriptor)) (i .place)))
 
   lengths-in : (n : ℕ) → n ≤ 8 → AllIn (lengthSettings fileOf v (y .writes) n)
   unfolding lengthSettings

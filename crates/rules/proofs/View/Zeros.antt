@@ -64,7 +64,7 @@ module _ (fileOf : ℕ → ℕ) (v : Values) (y : Txn) (files : (d : ℕ) → d 
       let d = w .descriptor in
       let g = files d (i .descriptor) in
       let a = place w in
-      let k = lands-in (v (offset d)) (y .standing d) (w .place) (length (w .bytes)) (fits-at fileOf v y files ranges fit d (i .descriptor)) (i .place) in
+      let k = lands-in (v (offset d)) (y .standing d) (w .place) (length (w .bytes)) (fits-at v y fit d (i .descriptor)) (i .place) in
       neither (bytesFrom (4096 * fileOf d + a) (w .bytes)) (byteSettings fileOf v ws) (byte (4096 * f + p))
       (stretch-off (4096 * fileOf d + a) (w .bytes) (4096 * f + p)
       (λ m n.

@@ -77,7 +77,8 @@ pub fn land_writes(
         let f = w.file;
         let place = w.place;
         let size = w.length;
-        parts::copy_to(undo, done, parts::part(files, FILE_BYTES * f + place, size));
+        let file = parts::file_part(files, f);
+        parts::copy_to(undo, done, parts::part(file, place, size));
         parts::land(files, f, place, parts::part(logs, log + done, size));
         done += size;
         k += 1;

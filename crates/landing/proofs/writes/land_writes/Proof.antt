@@ -1,11 +1,12 @@
 -- `landing::writes::land_writes` meets its contract. The loop's invariant: the files are those of the records landed so far, and the
 -- bytes that these landed on stand at the front of the undo buffer.
+use mathlib.Core.List.{List}
 use mathlib.Core.Path.{_≡_, sym, ap, _∙_}
 use lib.ListN.{length}
 use Prim.Native.Nat.{ℕ, _+_, _-_, _*_, _≤_}
 use native.Mathlib.Omega.{arith}
-use Rattle.octets.specs.Parts.{pasted}
-use Rattle.octets.proofs.PartLaws.{length-cut}
+use Rattle.octets.specs.Parts.{pasted, cut, filePart}
+use Rattle.octets.proofs.PartLaws.{length-cut, cut-cut, length-file}
 use Rattle.record.specs.Layout.{journalOf}
 use Rattle.rules.specs.Machine.{dataStart}
 use Rattle.rules.specs.Calls.{landFiles}
@@ -59,20 +60,44 @@ loop-holds c =
 landing-at-requires : tie.Need-landing-at-requires Inv-loop μ-loop
 landing-at-requires c κs = can-first (c .before .before .before .before .before .pre .0) (c .loop-test .taken)
 
+-- The bytes on which it lands are a part of its file's.
+file-part-requires : tie.Need-file-part-requires Inv-loop μ-loop
+file-part-requires c κs = let landing = c .before in (loop-of landing .loop .inv .3, landing .landing-at .ensures .fileIn)
+
+part-requires : tie.Need-part-requires Inv-loop μ-loop
+part-requires c κs =
+    let landing = c .before .before .before in
+    let lands = landing .landing-at .ensures in
+    let e = ap length (c .before .file-part .ensures) ∙ length-file _ _ (loop-of landing .loop .inv .3) (lands .fileIn) in
+    omega (arith, lands .inside)
+
+abbrev landing-of : tie.After-part Inv-loop μ-loop → tie.After-landing-at Inv-loop μ-loop
+landing-of c = c .before .before .before .before
+
+old-part : (c : tie.After-part Inv-loop μ-loop)
+    → let w = landing-of c .landing-at .result in
+    c .part .result .now ≡ cut (loop-of (landing-of c) .loop .files) (4096 * w .file + w .place) (w .length)
+unfolding filePart
+old-part c =
+    let w = landing-of c .landing-at .result in
+    c .part .ensures
+    ∙ ap (λ (l : List ℕ). cut l (w .place) (w .length)) (c .before .before .file-part .ensures)
+    ∙ cut-cut (loop-of (landing-of c) .loop .files) (4096 * w .file) 4096 (w .place) (w .length) (landing-of c .landing-at .ensures .inside)
+
 copy-to-requires : tie.Need-copy-to-requires Inv-loop μ-loop
 copy-to-requires c κs =
-    let landing = c .before .before .before in
-    let e = ap length (c .part .ensures) ∙ length-cut _ _ _ (in-file landing) in
+    let landing = landing-of c in
+    let e = ap length (old-part c) ∙ length-cut _ _ _ (in-file landing) in
     omega (arith, in-log landing, loop-of landing .loop .inv .5)
 
-add-part-2 : tie.Need-add-part-2 Inv-loop μ-loop
-add-part-2 c =
-    let landing = c .before .before .before .before .before .before .before in
+add-part : tie.Need-add-part Inv-loop μ-loop
+add-part c =
+    let landing = c .before .before .before .before .before .before .before .before in
     omega (arith, in-log landing, start-of landing .pre .0 .small)
 
 land-requires : tie.Need-land-requires Inv-loop μ-loop
 land-requires c κs =
-    let landing = c .before .before .before .before .before .before .before .before in
+    let landing = c .before .before .before .before .before .before .before .before .before in
     let lands = landing .landing-at .ensures in
     let e = ap length (c .part2 .ensures) ∙ length-cut _ _ _ (in-logs landing) in
     (loop-of landing .loop .inv .3, (lands .fileIn, omega (arith, lands .inside)))
@@ -81,7 +106,7 @@ loop-again : tie.Need-loop-again Inv-loop μ-loop
 loop-again c =
     let landed = c .before .before in
     let copied = landed .before .before .before .before .before in
-    let landing = copied .before .before .before .before in
+    let landing = landing-of (copied .before) in
     let start = start-of landing in
     let a = start .args in
     let l = loop-of landing .loop in
@@ -94,7 +119,7 @@ loop-again c =
       landed .land .kept .0 ∙ l .inv .3,
       old-more lands (a .logs .now) _ (l .inv .2) (in-logs landing) (l .inv .4)
           (in-file landing) (omega (arith, in-log landing, start .pre .3))
-          _ _ _ _ (copied .before .part .ensures) (copied .copy-to .ensures) (landed .before .part2 .ensures) (landed .land .ensures),
+          _ _ _ _ (old-part (copied .before)) (copied .copy-to .ensures) (landed .before .part2 .ensures) (landed .land .ensures),
       copied .copy-to .kept .0 ∙ l .inv .5,
     )
 
@@ -116,14 +141,13 @@ land-writes-spec =
     (λ c. omega (arith, c .before .before .before .pre .0 .small))
     loop-holds
     landing-at-requires
-    (λ c. omega (arith, c .before .before .landing-at .ensures .fileIn))
-    (λ c. omega (arith, c .before .before .landing-at .ensures .fileIn, c .before .before .landing-at .ensures .inside))
-    (λ c κs. in-file (c .before .before))
+    file-part-requires
+    part-requires
     copy-to-requires
-    add-part-2
-    (λ c κs. in-logs (c .before .before .before .before .before .before .before))
+    add-part
+    (λ c κs. in-logs (c .before .before .before .before .before .before .before .before))
     land-requires
-    (λ c. omega (arith, in-log (c .before .before .before .before .before .before .before .before .before .before .before)))
+    (λ c. omega (arith, in-log (c .before .before .before .before .before .before .before .before .before .before .before .before)))
     (λ c. search needs)
     (λ c. search needs)
     loop-again

@@ -26,7 +26,7 @@ committedIn m = values (m .store) (m .files)
 pub record LengthsHold (m : Machine) : Type 0 where
   -- "Bytes between an old end and a write come from the file, and are 0 in every store reached from Fresh."
   pub zeros : ZeroBeyond (committedIn m)
-  -- The same of the values to which F-13's taking back would go.
+  -- They are 0 too in the values to which F-13's taking back would go.
   pub zerosHeld : m .store .undo .held ≡ true → ZeroBeyond (committedIn (takenBack m))
   -- "Each file gets a committed length, 0 to 4,096"
   pub limit : (f : ℕ) → committedIn m (fileLength f) ≤ 4096

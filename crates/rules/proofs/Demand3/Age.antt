@@ -32,7 +32,7 @@ use Rattle.rules.proofs.View.Shape.{backValues, backIn, view, Sound}
 use Rattle.rules.proofs.View.Back.{SameGrant, undo-same, back-same, back-values}
 use Rattle.rules.proofs.View.FreshView.{fresh-sound, closed-at}
 use Rattle.rules.proofs.Demand3.Theorem.{calls-agree, fresh-facts, holds-from}
-use Rattle.rules.proofs.Demand3.Recovery.{resting-view, Twins, calls-append, runs-twins, runs-closed}
+use Rattle.rules.proofs.Demand3.Recovery.{resting-view, recovered-sound, recovered-view, Twins, calls-append, runs-twins, runs-closed}
 
 -- A fresh store after runs, and after their calls.
 runs-from-fresh : (numbers : List ℕ) (m₀ : Machine) → FreshlyMade numbers m₀ → (rs : List Run)
@@ -136,17 +136,24 @@ ageless m rest logs size =
     alike m n s (young-sound m s logs size)
     (resting-view m (rest .closed) ∙ same-start m s logs size ∙ sym (resting-view n (young-closed m s logs size)))
 
--- With nothing open nobody looks at logs and marks.
+-- With nothing open nobody looks at logs, marks and what is left of ended transactions.
 pub reloads : Reloads
-reloads m rest logs marks size wide =
+reloads m rest logs marks size wide cs =
     let s = at-rest-sound m rest in
     let n = withLogs logs (withMarking marks m) in
-    alike m n s
-    (record { shaped = s .shaped; journal = s .journal; files = s .files; logs = size; marks = wide; undo = s .undo; inRange = s .inRange })
-    (resting-view m (rest .closed)
-    ∙ ap (λ (b : Back). startSighted (fileOf (m .store)) (values (m .store) (m .files)) (windowAt (m .store)) b)
-    (sym (back-same m n (λ h k l. refl) refl refl refl refl))
-    ∙ sym (resting-view n (rest .closed)))
+    record {
+      ended =
+          alike m (recovered logs marks m) s (recovered-sound logs marks m s size wide)
+          (resting-view m (rest .closed) ∙ sym (recovered-view logs marks m)) cs;
+      asItLies =
+          alike m n s
+          (record { shaped = s .shaped; journal = s .journal; files = s .files; logs = size; marks = wide; undo = s .undo; inRange = s .inRange })
+          (resting-view m (rest .closed)
+          ∙ ap (λ (b : Back). startSighted (fileOf (m .store)) (values (m .store) (m .files)) (windowAt (m .store)) b)
+          (sym (back-same m n (λ h k l. refl) refl refl refl refl))
+          ∙ sym (resting-view n (rest .closed)))
+          cs;
+    }
 
 pub recovers : Recovers
 unfolding afterAll

@@ -51,7 +51,7 @@ module _ (logs marks : List ℕ) (m : Machine) where
   unfolding recovered ended
   recovered-closed t l = ap (λ (x : Transaction). x .begun) (ended-at t (omega arith))
 
-  recovered-sound : Sound m → length logs ≡ 32768 → length marks ≡ 32768 → Sound (recovered logs marks m)
+  pub recovered-sound : Sound m → length logs ≡ 32768 → length marks ≡ 32768 → Sound (recovered logs marks m)
   unfolding recovered allEnded ended
   recovered-sound s size wide =
       let r = in-range (m .store) (m .journal) (s .inRange) in
@@ -84,7 +84,7 @@ module _ (logs marks : List ℕ) (m : Machine) where
             });
       }
 
-  recovered-view : view (recovered logs marks m)
+  pub recovered-view : view (recovered logs marks m)
       ≡ startSighted (fileOf (m .store)) (values (m .store) (m .files)) (windowAt (m .store)) (backIn m)
   unfolding recovered allEnded fileOf
   recovered-view =

@@ -1,1 +1,2 @@
 pub mod OldBytes
+pub mod Examples

@@ -19,8 +19,7 @@ use Rattle.ranges.specs.Below.{guarded, isNone, someBelow}
 use Rattle.ranges.specs.Ranges.{windowRefusal}
 use Rattle.windows.specs.Hours.{Windows}
 use Rattle.rules.specs.Machine.{Machine}
-use Rattle.rules.specs.Calls.{callsAfter}
-use Rattle.rules.specs.Demand3OfStore.{FreshlyMade}
+use Rattle.rules.specs.Recovery.{runsAfter, Reached}
 use Rattle.rules.specs.Commits.{Setting}
 use Rattle.rules.specs.Ordering.{hasUnplaced}
 use Rattle.rules.specs.Messages.{Op, seek, write, getFilePointer, read, bufferOf, Call, begin, on, commit, abort, places, setWindow, takeBack, bestOrder}
@@ -33,6 +32,7 @@ use Rattle.rules.proofs.Serial.Sighted.{sightedReturn, sightedBack, seated, sig
 use Rattle.rules.proofs.View.Shape.{heldBy, view}
 use Rattle.rules.proofs.View.OrderTurn.{seat-open}
 use Rattle.rules.proofs.Demand3.Theorem.{calls-agree, fresh-facts}
+use Rattle.rules.proofs.Demand3.Recovery.{resting-view, runs-from-fresh, runs-closed}
 use Rattle.ordering.specs.Table.{txnIn, waits, NeverWaits}
 
 -- ---- what holds of every result of a program
@@ -363,16 +363,18 @@ backed-start : (F : ℕ → ℕ) (v : Values) (ws : Windows) (x : Back) → Back
 unfolding startSighted
 backed-start F v ws x = λ u. tt
 
-backed-view : (numbers : List ℕ) (m₀ : Machine) → FreshlyMade numbers m₀ → (cs : List Call) → BackedAll (view (callsAfter cs m₀))
-backed-view numbers m₀ made cs =
-    let f = fresh-facts numbers m₀ made in
-    let e = calls-agree cs m₀ (f .sound) .state ∙ ap (sightedAfter cs) (f .same) in
-    subst⁻¹ (λ (s : Sighted). BackedAll s) e (backed-after cs _ (backed-start _ _ _ _))
+-- After runs nothing is open, and calls keep it.
+backed-view : (m : Machine) → Reached m → BackedAll (view m)
+backed-view m r =
+    let n = runsAfter (r .runs) (r .first) in
+    let sound = runs-from-fresh (r .numbers) (r .first) (r .made) (r .runs) .second in
+    let closed = runs-closed (r .runs) (r .first) (fresh-facts (r .numbers) (r .first) (r .made) .closed) in
+    let e = ap view (r .by) ∙ calls-agree (r .calls) n sound .state ∙ ap (sightedAfter (r .calls)) (resting-view n closed) in
+    subst⁻¹ (λ (s : Sighted). BackedAll s) e (backed-after (r .calls) _ (backed-start _ _ _ _))
 
 pub never-waits : NeverWaits
 unfolding view heldBy
-never-waits numbers m₀ made cs t l begun e =
-    let m = callsAfter cs m₀ in
+never-waits m r t l begun e =
     let b : BackedSeat (held (heldBy m t)) =
-    subst BackedSeat (seat-open m t (rw (le-leb t 7 l, begun) refl)) (backed-view numbers m₀ made cs t) in
+    subst BackedSeat (seat-open m t (rw (le-leb t 7 l, begun) refl)) (backed-view m r t) in
     not-waiting (txnIn m t) b e

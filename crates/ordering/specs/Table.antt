@@ -20,12 +20,12 @@ use Rattle.ranges.specs.Ranges.{firstTests}
 use Rattle.orders.specs.Orders.{allIn, Arranges}
 use Rattle.rules.specs.Transactions.{Txn}
 use Rattle.rules.specs.Commits.{setsOffset}
-use Rattle.rules.specs.Messages.{Call, commit}
+use Rattle.rules.specs.Messages.{commit}
 use Rattle.rules.specs.Ordering.{hasUnplaced, orderRefusal}
 use Rattle.rules.specs.Machine.{Machine, sizes, txnOf}
 use Rattle.rules.specs.Calls.{askedOf, call, callsAfter}
 use Rattle.rules.specs.Promises.{machineOf}
-use Rattle.rules.specs.Demand3OfStore.{FreshlyMade}
+use Rattle.rules.specs.Recovery.{Reached}
 use Rattle.rules.specs.BestOrder.{commitsIn, BestOrderHolds}
 use Rattle.conflicts.specs.Staling.{staleBy}
 
@@ -120,6 +120,5 @@ BestOrderOfAny = (kept files logs marks undo : List ℕ) → BestOrderHolds (mac
 -- place.
 abbrev pub NeverWaits : Type 0
 NeverWaits =
-    (numbers : List ℕ) (m₀ : Machine) → FreshlyMade numbers m₀ → (cs : List Call) (t : ℕ) → t ≤ 7
-    → let m = callsAfter cs m₀ in
-    transaction (m .store) t .begun ≡ true → hasUnplaced (txnIn m t .writes) ≡ false → waits (txnIn m t) ≡ false
+    (m : Machine) → Reached m → (t : ℕ) → t ≤ 7
+    → transaction (m .store) t .begun ≡ true → hasUnplaced (txnIn m t .writes) ≡ false → waits (txnIn m t) ≡ false

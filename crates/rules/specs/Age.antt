@@ -14,16 +14,11 @@ use Rattle.rules.specs.Plain.{Earlier, nothing, found, startPlain, plain
 use Rattle.rules.specs.Demand3.{Holds}
 use Rattle.rules.specs.Demand3OfStore.{FreshlyMade, theStore}
 use Rattle.rules.specs.TakingBack.{SameCommitted}
-use Rattle.rules.specs.Recovery.{recovered, Run, runsAfter, abortAll, callsOfRuns}
+use Rattle.rules.specs.Recovery.{recovered, Run, runsAfter, Reached, abortAll, callsOfRuns}
 
 -- A store that runs and calls have led to from a fresh one, however many, and in which nothing is open now.
 pub record AtRest (m : Machine) : Type 0 where
-  pub numbers : List ℕ
-  pub first : Machine
-  pub made : FreshlyMade numbers first
-  pub runs : List Run
-  pub calls : List Call
-  pub reached : m ≡ callsAfter calls (runsAfter runs first)
+  pub reached : Reached m
   pub closed : (t : ℕ) → t ≤ 7 → transaction (m .store) t .begun ≡ false
 
 -- One made fresh, with other logs, and given the same files, offsets, lengths and windows, and the same grant to take back: its write

@@ -1,4 +1,5 @@
--- Which calls touch which buffer and the files of descriptors, on any record and any buffers; and whose marks a call leaves, in every store reached from Fresh.
+-- Which calls touch which buffer and the files of descriptors, on any record and any buffers; and whose marks a call leaves, in every store
+-- reached from Fresh.
 use mathlib.Core.Bool.{false}
 use mathlib.Core.List.{List}
 use mathlib.Core.Path.{_≡_}
@@ -9,8 +10,8 @@ use Rattle.record.specs.Paper.{number, plain, granted, refused}
 use Rattle.record.specs.State.{transaction, begun}
 use Rattle.rules.specs.Messages.{write, read, Call, begin, on, commit, abort, takeBack}
 use Rattle.rules.specs.Machine.{Machine}
-use Rattle.rules.specs.Calls.{fresh, call, callsAfter}
-use Rattle.rules.specs.Demand3OfStore.{FreshlyMade}
+use Rattle.rules.specs.Calls.{fresh, call}
+use Rattle.rules.specs.Recovery.{Reached}
 
 -- Transaction t has no mark, and has sighted no length. (False of `marksThree` and `marksLength`: Counterexamples.antt.)
 pub record Unmarked (t : ℕ) (m : Machine) : Type 0 where
@@ -50,4 +51,4 @@ MarksLeft m =
     → ((minute : ℕ) → c ≡ commit u minute → ⊥) → (c ≡ abort u → ⊥) → hasMark (call c m .after .marks) u q ≡ hasMark (m .marks) u q
 
 abbrev pub MarksAlwaysLeft : Type 0
-MarksAlwaysLeft = (numbers : List ℕ) (m₀ : Machine) → FreshlyMade numbers m₀ → (cs : List Call) → MarksLeft (callsAfter cs m₀)
+MarksAlwaysLeft = (m : Machine) → Reached m → MarksLeft m

@@ -1,6 +1,6 @@
--- Request F-8, "Files with a length": what holds of the lengths of every store reached from Fresh.
+-- Request F-8, "Files with a length": what holds of the lengths of every store reached from Fresh, also where its
+-- program went down.
 use mathlib.Core.Bool.{true}
-use mathlib.Core.List.{List}
 use mathlib.Core.Path.{_≡_}
 use Prim.Native.Nat.{ℕ, _+_, _*_, _≤_, _<_}
 use Rattle.record.specs.State.{transaction}
@@ -8,8 +8,8 @@ use Rattle.rules.specs.Items.{byte, fileLength, Values}
 use Rattle.rules.specs.Messages.{Call, takeBack}
 use Rattle.rules.specs.Machine.{Machine, values}
 use Rattle.rules.specs.Undo.{takenBack}
-use Rattle.rules.specs.Calls.{call, callsAfter}
-use Rattle.rules.specs.Demand3OfStore.{FreshlyMade}
+use Rattle.rules.specs.Calls.{call}
+use Rattle.rules.specs.Recovery.{Reached}
 
 -- Beyond its committed length every byte of a file is 0. (False of `firstBeyond`: Counterexamples.antt.)
 abbrev pub ZeroBeyond : Values → Type 0
@@ -36,4 +36,4 @@ pub record LengthsHold (m : Machine) : Type 0 where
   pub opened : (t : ℕ) → t ≤ 7 → transaction (m .store) t .begun ≡ true → call takeBack m .after ≡ m
 
 abbrev pub LengthsAlwaysHold : Type 0
-LengthsAlwaysHold = (numbers : List ℕ) (m₀ : Machine) → FreshlyMade numbers m₀ → (cs : List Call) → LengthsHold (callsAfter cs m₀)
+LengthsAlwaysHold = (m : Machine) → Reached m → LengthsHold m

@@ -8,8 +8,7 @@ use Prim.Native.Nat.{ℕ, _<_}
 use Rattle.octets.specs.Marks.{byByte, byTransaction, names, rearranged}
 use Rattle.rules.specs.Messages.{Call}
 use Rattle.rules.specs.Machine.{Machine, withMarking}
-use Rattle.rules.specs.Calls.{callsAfter}
-use Rattle.rules.specs.Demand3OfStore.{FreshlyMade}
+use Rattle.rules.specs.Recovery.{Reached}
 use Rattle.rules.specs.Age.{Alike}
 
 -- These pairs are those that the marks of a store name.
@@ -24,4 +23,4 @@ pub record RestsOnPairs (m : Machine) : Type 0 where
   pub old : (marks : List ℕ) → Named (names byByte marks) m → (cs : List Call) → Alike cs m (withMarking (rearranged marks) m)
 
 abbrev pub AlwaysRestsOnPairs : Type 0
-AlwaysRestsOnPairs = (numbers : List ℕ) (m₀ : Machine) → FreshlyMade numbers m₀ → (cs : List Call) → RestsOnPairs (callsAfter cs m₀)
+AlwaysRestsOnPairs = (m : Machine) → Reached m → RestsOnPairs m

@@ -11,6 +11,7 @@ use Rattle.rules.specs.Messages.{Call, abort}
 use Rattle.rules.specs.Machine.{Machine, withStore, withLogs, withMarking}
 use Rattle.rules.specs.Calls.{callsAfter}
 use Rattle.rules.specs.Promises.{machineOf}
+use Rattle.rules.specs.Demand3OfStore.{FreshlyMade}
 
 -- Every transaction as one that has ended; all else as before.
 unfoldable pub allEnded : Store → Store
@@ -43,6 +44,15 @@ pub record Run : Type 0 where
 unfoldable pub runsAfter : List Run → Machine → Machine
 runsAfter [] m = m
 runsAfter (r ∷ rs) m = runsAfter rs (recovered (r .logs) (r .marks) (callsAfter (r .calls) m))
+
+-- A store that runs and then a list of calls have led to from a fresh one, however many.
+pub record Reached (m : Machine) : Type 0 where
+  pub numbers : List ℕ
+  pub first : Machine
+  pub made : FreshlyMade numbers first
+  pub runs : List Run
+  pub calls : List Call
+  pub by : m ≡ callsAfter calls (runsAfter runs first)
 
 -- The calls of one that never goes down: at the end of each run every transaction is aborted. (Where it is not open, that is refused and
 -- changes nothing.)

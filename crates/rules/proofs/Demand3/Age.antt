@@ -22,8 +22,8 @@ use Rattle.rules.specs.Undo.{landedOn, spanOfRecord, takenBack}
 use Rattle.rules.specs.Plain.{nothing, found, startPlain, plainAfter}
 use Rattle.rules.specs.Calls.{answerWith, turnDown, passing, freshStore, freshMachine, reset, abortTurn, admitted, call, callsAfter}
 use Rattle.rules.specs.Demand3.{Holds}
-use Rattle.rules.specs.Demand3OfStore.{FreshlyMade, theStore}
-use Rattle.rules.specs.Recovery.{allEnded, recovered, Run, runsAfter, abortAll, callsOfRuns}
+use Rattle.rules.specs.Demand3OfStore.{theStore}
+use Rattle.rules.specs.Recovery.{allEnded, recovered, runsAfter, abortAll, callsOfRuns}
 use Rattle.rules.specs.Age.{AtRest, rejuvenated, earlierIn, Alike, Ageless, Reloads, Recovers, NothingLost, AlwaysSurvives, Demand3AtRest}
 use Rattle.rules.proofs.Serial.Invariant.{GoodEarlier}
 use Rattle.rules.proofs.Serial.FirstHalf.{backOf}
@@ -32,19 +32,10 @@ use Rattle.rules.proofs.View.Shape.{backValues, backIn, view, Sound}
 use Rattle.rules.proofs.View.Back.{SameGrant, undo-same, back-same, back-values}
 use Rattle.rules.proofs.View.FreshView.{fresh-sound, closed-at}
 use Rattle.rules.proofs.Demand3.Theorem.{calls-agree, fresh-facts, holds-from}
-use Rattle.rules.proofs.Demand3.Recovery.{resting-view, recovered-sound, recovered-view, Twins, calls-append, runs-twins, runs-closed}
-
--- A fresh store after runs, and after their calls.
-runs-from-fresh : (numbers : List ℕ) (m₀ : Machine) → FreshlyMade numbers m₀ → (rs : List Run)
-    → Twins (callsAfter (callsOfRuns rs) m₀) (runsAfter rs m₀)
-runs-from-fresh numbers m₀ made rs =
-    let s = fresh-facts numbers m₀ made .sound in
-    runs-twins rs m₀ m₀ (record { first = s; second = s; same = refl })
+use Rattle.rules.proofs.Demand3.Recovery.{resting-view, recovered-sound, recovered-view, calls-append, runs-from-fresh, reached-sound, runs-closed}
 
 pub at-rest-sound : (m : Machine) → AtRest m → Sound m
-at-rest-sound m r =
-    subst⁻¹ (λ (x : Machine). Sound x) (r .reached)
-    (calls-agree (r .calls) (runsAfter (r .runs) (r .first)) (runs-from-fresh (r .numbers) (r .first) (r .made) (r .runs) .second) .sound)
+at-rest-sound m r = reached-sound m (r .reached)
 
 -- The young store is sound too, has nothing open and the same committed values.
 module _ (m : Machine) (s : Sound m) (logs : List ℕ) (size : length logs ≡ 32768) where
@@ -163,12 +154,7 @@ recovers numbers m₀ made rs =
       alike = alike (callsAfter (callsOfRuns rs) m₀) (runsAfter rs m₀) (w .first) (w .second) (w .same);
       rests =
           record {
-            numbers = numbers;
-            first = m₀;
-            made = made;
-            runs = rs;
-            calls = [];
-            reached = refl;
+            reached = record { numbers = numbers; first = m₀; made = made; runs = rs; calls = []; by = refl };
             closed = runs-closed rs m₀ (fresh-facts numbers m₀ made .closed);
           };
     }

@@ -20,6 +20,7 @@ use Rattle.rules.specs.Commits.{settings, fits, landed, commitRefusal}
 use Rattle.rules.specs.Machine.{Machine, sizes, fileOf, txnOf}
 use Rattle.rules.specs.Undo.{takenBack}
 use Rattle.rules.specs.Calls.{turnDown, passing, takeBackTurn, call, callsAfter}
+use Rattle.rules.specs.Recovery.{recovered, Run, runsAfter}
 use Rattle.rules.specs.Lengths.{ZeroBeyond, Longer, committedIn, LengthsHold, LengthsAlwaysHold}
 use Rattle.rules.specs.Counterexamples.{firstBeyond, LengthsTell}
 use Rattle.rules.proofs.Serial.Sighted.{Held, Seat, vacant, held, Back, none, kept, noneHeld, returned, sightedReturn, sightedBack}
@@ -32,7 +33,8 @@ use Rattle.rules.proofs.View.Back.{back-values}
 use Rattle.rules.proofs.View.Decode.{decoded-in}
 use Rattle.rules.proofs.View.Accepted.{length-in}
 use Rattle.rules.proofs.View.Zeros.{zero-granted}
-use Rattle.rules.proofs.Demand3.Theorem.{call-turn, fresh-facts}
+use Rattle.rules.proofs.Demand3.Theorem.{call-turn, calls-agree, fresh-facts}
+use Rattle.rules.proofs.Demand3.Recovery.{recovered-sound, recovered-view, runs-from-fresh}
 
 -- What holds of the committed values, and of those that a granted Commit leaves, holds after every call.
 module _ (P : Values → Back → Type 0) (s : Sighted) (now : P (s .value) (s .back)) (grantable backable : Bool)
@@ -204,13 +206,38 @@ hold-after (c ∷ cs) m sound zeros backs =
     let z = zeros-call m sound zeros backs c in
     hold-after cs (call c m .after) (call-turn c m sound .2) (z .0) (z .1)
 
+-- Over calls and over runs.
+abbrev Zeros : Machine → Type 0
+Zeros m = ZeroBeyond (committedIn m) × ZeroBack (backIn m)
+
+calls-zeros : (cs : List Call) (m : Machine) → Sound m → Zeros m → Zeros (callsAfter cs m)
+unfolding afterAll
+calls-zeros [] m sound z = z
+calls-zeros (c ∷ cs) m sound z = calls-zeros cs (call c m .after) (call-turn c m sound .2) (zeros-call m sound (z .0) (z .1) c)
+
+recovered-zeros : (logs marks : List ℕ) (m : Machine) → Zeros m → Zeros (recovered logs marks m)
+unfolding view startSighted
+recovered-zeros logs marks m z = subst⁻¹ (λ (s : Sighted). ZeroBeyond (s .value) × ZeroBack (s .back)) (recovered-view logs marks m) z
+
+runs-zeros : (rs : List Run) (m : Machine) → Sound m → Zeros m → Zeros (runsAfter rs m)
+unfolding runsAfter
+runs-zeros [] m sound z = z
+runs-zeros (r ∷ rs) m sound z =
+    let k = callsAfter (r .calls) m in
+    runs-zeros rs (recovered (r .logs) (r .marks) k)
+    (recovered-sound (r .logs) (r .marks) k (calls-agree (r .calls) m sound .sound) (r .logsLength) (r .marksLength))
+    (recovered-zeros (r .logs) (r .marks) k (calls-zeros (r .calls) m sound z))
+
 pub lengths-always-hold : LengthsAlwaysHold
 unfolding view startSighted
-lengths-always-hold numbers m₀ made cs =
-    let f = fresh-facts numbers m₀ made in
-    hold-after cs m₀ (f .sound)
-    (subst⁻¹ ZeroBeyond (ap (λ (s : Sighted). s .value) (f .same)) (λ g p l e k. refl))
-    (subst⁻¹ ZeroBack (ap (λ (s : Sighted). s .back) (f .same)) tt)
+lengths-always-hold m r =
+    let f = fresh-facts (r .numbers) (r .first) (r .made) in
+    let z = runs-zeros (r .runs) (r .first) (f .sound) (
+      subst⁻¹ ZeroBeyond (ap (λ (s : Sighted). s .value) (f .same)) (λ g p l e k. refl),
+      subst⁻¹ ZeroBack (ap (λ (s : Sighted). s .back) (f .same)) tt,
+    ) in
+    subst⁻¹ LengthsHold (r .by)
+    (hold-after (r .calls) (runsAfter (r .runs) (r .first)) (runs-from-fresh (r .numbers) (r .first) (r .made) (r .runs) .second) (z .0) (z .1))
 
 pub lengths-tell : LengthsTell
 unfolding firstBeyond

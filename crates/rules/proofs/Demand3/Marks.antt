@@ -19,14 +19,14 @@ use Rattle.rules.specs.Transactions.{Txn}
 use Rattle.rules.specs.Machine.{Machine}
 use Rattle.rules.specs.Undo.{keepingFound, takenBack}
 use Rattle.rules.specs.Calls.{Turn, turnDown, passing, answerWith, reset, beginTurn, abortTurn, served, stepTurn, commitGranted}
-use Rattle.rules.specs.Calls.{commitDecided, commitTurn, placesTurn, windowTurn, takeBackTurn, orderTurn, admitted, call, callsAfter}
+use Rattle.rules.specs.Calls.{commitDecided, commitTurn, placesTurn, windowTurn, takeBackTurn, orderTurn, admitted, call}
 use Rattle.rules.specs.Buffers.{MarksAlwaysLeft}
 use Rattle.rules.proofs.View.Shape.{Sound}
 use Rattle.rules.proofs.View.Marks.{marked-other}
 use Rattle.rules.proofs.View.Endings.{unmarked-other}
 use Rattle.rules.proofs.View.Accepted.{sightings, sightings-in}
 use Rattle.rules.proofs.View.Admissions.{shared-is}
-use Rattle.rules.proofs.Demand3.Theorem.{calls-agree, fresh-facts}
+use Rattle.rules.proofs.Demand3.Recovery.{reached-sound}
 use Rattle.rules.proofs.Demand3.Buffers.{on-marks}
 
 module _ (m : Machine) (u q : ℕ) where
@@ -97,5 +97,4 @@ module _ (m : Machine) (u q : ℕ) where
     call-left (bestOrder ts minute budget) r b c a = passing-left _ [] (orderTurn ts minute budget m) (unfold orderTurn in refl)
 
 pub marks-always-left : MarksAlwaysLeft
-marks-always-left numbers m₀ made cs c u q =
-    call-left (callsAfter cs m₀) u q (calls-agree cs m₀ (fresh-facts numbers m₀ made .sound) .sound) c
+marks-always-left m r c u q = call-left m u q (reached-sound m r) c

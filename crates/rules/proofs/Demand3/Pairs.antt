@@ -13,12 +13,12 @@ use Rattle.record.specs.State.{transaction, windowAt}
 use Rattle.rules.specs.Items.{Item, byte, offset, fileLength, Values}
 use Rattle.rules.specs.Messages.{Call}
 use Rattle.rules.specs.Machine.{Machine, withMarking, fileOf, values}
-use Rattle.rules.specs.Calls.{callsAfter}
 use Rattle.rules.specs.Age.{Alike}
 use Rattle.rules.specs.Pairs.{Named, AlwaysRestsOnPairs}
 use Rattle.rules.proofs.Serial.Sighted.{Held, Seat, vacant, held, none, kept, Sighted, sightedAfter, sightedReplies}
 use Rattle.rules.proofs.View.Shape.{heldBy, seat, backValues, backIn, view, Sound}
-use Rattle.rules.proofs.Demand3.Theorem.{calls-agree, fresh-facts}
+use Rattle.rules.proofs.Demand3.Theorem.{calls-agree}
+use Rattle.rules.proofs.Demand3.Recovery.{reached-sound}
 
 module _ (m : Machine) (sound : Sound m) (marks : List ℕ) (size : length marks ≡ 32768) (named : Named (names byTransaction marks) m) where
   abbrev other : Machine
@@ -91,9 +91,8 @@ module _ (m : Machine) (sound : Sound m) (marks : List ℕ) (size : length marks
       }
 
 pub always-rests-on-pairs : AlwaysRestsOnPairs
-always-rests-on-pairs numbers m₀ made cs =
-    let m = callsAfter cs m₀ in
-    let sound = calls-agree cs m₀ (fresh-facts numbers m₀ made .sound) .sound in
+always-rests-on-pairs m r =
+    let sound = reached-sound m r in
     record {
       marks = same-pairs-alike m sound;
       old =

@@ -20,13 +20,14 @@ use Rattle.rules.specs.Transactions.{put}
 use Rattle.rules.specs.Messages.{Call, abort, afterAll}
 use Rattle.rules.specs.Machine.{Machine, lent, fileOf, values}
 use Rattle.rules.specs.Calls.{storeAnswers, callsAfter}
-use Rattle.rules.specs.Recovery.{allEnded, recovered, RecoversByCode, Run, runsAfter, abortAll, callsOfRuns}
+use Rattle.rules.specs.Recovery.{allEnded, recovered, RecoversByCode, Run, runsAfter, Reached, abortAll, callsOfRuns}
+use Rattle.rules.specs.Demand3OfStore.{FreshlyMade}
 use Rattle.rules.proofs.Serial.Sighted.{Seat, vacant, held, Back, Sighted, startSighted, withSeat, telling, turnedAway, seated}
 use Rattle.rules.proofs.Serial.Sighted.{sightedAbort, sightedCall, sightedAfter}
 use Rattle.rules.proofs.View.Shape.{heldBy, seat, backIn, view, Sound}
 use Rattle.rules.proofs.View.Back.{back-same}
 use Rattle.rules.proofs.View.Endings.{seat-in, seat-out}
-use Rattle.rules.proofs.Demand3.Theorem.{calls-agree}
+use Rattle.rules.proofs.Demand3.Theorem.{calls-agree, fresh-facts}
 
 -- What a store with nothing open stands for.
 module _ (m : Machine) (closed : (t : ℕ) → t ≤ 7 → transaction (m .store) t .begun ≡ false) where
@@ -215,6 +216,18 @@ runs-twins (r ∷ rs) m n w =
     calls-append (r .calls) (abortAll ++ callsOfRuns rs) m ∙ calls-append abortAll (callsOfRuns rs) k in
     let l = recovered (r .logs) (r .marks) (callsAfter (r .calls) n) in
     subst⁻¹ (λ (x : Machine). Twins x (runsAfter rs l)) e (runs-twins rs (callsAfter abortAll k) l (run-twins r m n w))
+
+-- A fresh store after runs, and after their calls.
+pub runs-from-fresh : (numbers : List ℕ) (m₀ : Machine) → FreshlyMade numbers m₀ → (rs : List Run)
+    → Twins (callsAfter (callsOfRuns rs) m₀) (runsAfter rs m₀)
+runs-from-fresh numbers m₀ made rs =
+    let s = fresh-facts numbers m₀ made .sound in
+    runs-twins rs m₀ m₀ (record { first = s; second = s; same = refl })
+
+pub reached-sound : (m : Machine) → Reached m → Sound m
+reached-sound m r =
+    subst⁻¹ (λ (x : Machine). Sound x) (r .by)
+    (calls-agree (r .calls) (runsAfter (r .runs) (r .first)) (runs-from-fresh (r .numbers) (r .first) (r .made) (r .runs) .second) .sound)
 
 -- Nothing is open after runs where nothing was before.
 pub runs-closed : (rs : List Run) (m : Machine) → ((t : ℕ) → t ≤ 7 → transaction (m .store) t .begun ≡ false)

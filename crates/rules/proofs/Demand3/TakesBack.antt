@@ -19,15 +19,17 @@ use Rattle.rules.specs.Commits.{fits, commitRefusal}
 use Rattle.rules.specs.Windows.{forClosed}
 use Rattle.rules.specs.Machine.{Machine, values, txnOf}
 use Rattle.rules.specs.Calls.{call, callsAfter, callsReplies}
-use Rattle.rules.specs.TakingBack.{SameCommitted, TakesBack}
+use Rattle.rules.specs.Recovery.{recovered, Run, runsAfter}
+use Rattle.rules.specs.TakingBack.{SameCommitted, grantsInRuns, TakesBack}
 use Rattle.rules.proofs.Serial.Sighted.{Held, Seat, vacant, held, Back, none, kept, Sighted, turnedAway, telling, returned, withSeat}
 use Rattle.rules.proofs.Serial.Sighted.{granting, sightedCommitted, sightedCommit, seated, noneHeld, sightedReturn, sightedBack}
-use Rattle.rules.proofs.Serial.Sighted.{sightedCall}
+use Rattle.rules.proofs.Serial.Sighted.{sightedCall, startSighted}
 use Rattle.rules.proofs.View.Shape.{backIn, view, Sound}
 use Rattle.rules.proofs.View.Decode.{decoded-in}
 use Rattle.rules.proofs.View.Grants.{granted-kept}
 use Rattle.rules.proofs.Demand3.Answers.{answer-not-refused}
-use Rattle.rules.proofs.Demand3.Theorem.{call-turn, calls-agree, fresh-facts}
+use Rattle.rules.proofs.Demand3.Theorem.{call-turn, calls-agree}
+use Rattle.rules.proofs.Demand3.Recovery.{recovered-sound, recovered-view, reached-sound}
 use Rattle.rules.proofs.Demand3.Lengths.{kept-call}
 use Rattle.rules.proofs.Demand3.Closed.{passed}
 
@@ -89,6 +91,22 @@ module _ (w : Values) where
       calls-or cs (call c m .after) (a .2)
       (subst⁻¹ (λ (s : Sighted). Or (s .back)) (a .1) (call-or (view m) now c (sym (ap (λ (r : Reply). isGrant (r .answer)) (a .0)) ∙ first))) rest
 
+  -- Runs without one.
+  recovered-or : (logs marks : List ℕ) (m : Machine) → Or (view m .back) → Or (view (recovered logs marks m) .back)
+  unfolding view startSighted
+  recovered-or logs marks m now = subst⁻¹ (λ (s : Sighted). Or (s .back)) (recovered-view logs marks m) now
+
+  runs-or : (rs : List Run) (m : Machine) → Sound m → Or (view m .back) → grantsInRuns rs m ≡ 0 → Sound (runsAfter rs m) × Or (view (runsAfter rs m) .back)
+  unfolding grantsInRuns runsAfter
+  runs-or [] m sound now e = (sound, now)
+  runs-or (r ∷ rs) m sound now e =
+      let k = callsAfter (r .calls) m in
+      let first : grantsAmong (callsReplies (r .calls) m) ≡ 0 = omega arith in
+      let rest : grantsInRuns rs (recovered (r .logs) (r .marks) k) ≡ 0 = omega arith in
+      runs-or rs (recovered (r .logs) (r .marks) k)
+      (recovered-sound (r .logs) (r .marks) k (calls-agree (r .calls) m sound .sound) (r .logsLength) (r .marksLength))
+      (recovered-or (r .logs) (r .marks) k (calls-or (r .calls) m sound now first)) rest
+
   kept-same : (v : Values) → Or (kept v) → v ≡ w
   kept-same v (inl e) = ap first e
     where
@@ -138,9 +156,8 @@ unfolding sightedCall
 back-taken w s now e = back-or w s now e
 
 pub takes-back : TakesBack
-takes-back numbers m₀ made xs ys t minute n g none-granted taken =
-    let before = callsAfter xs m₀ in
-    let sound = calls-agree xs m₀ (fresh-facts numbers m₀ made .sound) .sound in
+takes-back before reached rs ys t minute n g none-in-runs none-granted taken =
+    let sound = reached-sound before reached in
     let v = values (before .store) (before .files) in
     let p = passed before t minute n g in
     let r = in-range (before .store) (before .journal) (sound .inRange) in
@@ -151,9 +168,11 @@ takes-back numbers m₀ made xs ys t minute n g none-granted taken =
     let after = call (commit t minute) before .after in
     let after-sound = call-turn (commit t minute) before sound .2 in
     let kept-there : backIn after ≡ kept v = ap backIn (p .leaves) ∙ granted-kept before t x (p .admitted .small) sound ranges (p .fit) in
-    let m = callsAfter ys after in
-    let m-sound = calls-agree ys after after-sound .sound in
-    let or-there = calls-or v ys after after-sound (or-start after v kept-there) none-granted in
+    let run = runs-or v rs after after-sound (or-start after v kept-there) none-in-runs in
+    let found = runsAfter rs after in
+    let m = callsAfter ys found in
+    let m-sound = calls-agree ys found (run .0) .sound in
+    let or-there = calls-or v ys found (run .0) (run .1) none-granted in
     let a = call-turn takeBack m m-sound in
     same-committed before (call takeBack m .after) sound (a .2)
     (value-of (call takeBack m .after) _ (a .1)

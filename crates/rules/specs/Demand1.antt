@@ -15,7 +15,7 @@ use Rattle.rules.specs.Messages.{bestOrder, bufferOfCall}
 use Rattle.rules.specs.Machine.{Machine}
 use Rattle.rules.specs.Calls.{fresh, call}
 use Rattle.rules.specs.Promises.{Meets}
-use Rattle.rules.specs.Tests.{firstFailing, refusalIn, testsOf, freshTests}
+use Rattle.rules.specs.Tests.{firstFailing, refusalGiven, testsOf, freshTests}
 
 -- The refusals of each call, in the order of its tests. (The dispatcher's are rounds/specs/Dispatch.antt.)
 unfoldable pub refusalsOf : Call → List ℕ
@@ -38,8 +38,8 @@ refusalsOfFresh = 1 ∷ 14 ∷ []
 pub record Demand1On (m : Machine) : Type 0 where
   -- "each under its written condition only": a call is refused with the number of the first of its tests that fails, and is not refused
   -- where all pass.
-  pub first : (c : Call) → refusalIn (call c m .reply .answer) ≡ firstFailing (testsOf c m)
-  pub freshFirst : (numbers : List ℕ) → refusalIn (fresh numbers m .reply .answer) ≡ firstFailing (freshTests numbers m)
+  pub first : (c : Call) → refusalGiven (call c m .reply .answer) ≡ firstFailing (testsOf c m)
+  pub freshFirst : (numbers : List ℕ) → refusalGiven (fresh numbers m .reply .answer) ≡ firstFailing (freshTests numbers m)
   -- The numbers of the tests are the call's row, in order, and no others.
   pub rows : (c : Call) → map (λ x. x .number) (testsOf c m) ≡ refusalsOf c
   pub freshRow : (numbers : List ℕ) → map (λ x. x .number) (freshTests numbers m) ≡ refusalsOfFresh
@@ -71,10 +71,10 @@ pub record Demand1OfCode : Type 0 where
   -- Of every call, refused or not.
   pub first :
       (c : Call) (m : Machine) (o : Outcome) (after : Machine) (reader : List ℕ)
-      → Meets (call c m) o after reader → refusalIn (said o) ≡ firstFailing (testsOf c m)
+      → Meets (call c m) o after reader → refusalGiven (said o) ≡ firstFailing (testsOf c m)
   pub freshFirst :
       (numbers : List ℕ) (m : Machine) (o : Outcome) (after : Machine)
-      → Meets (fresh numbers m) o after [] → refusalIn (said o) ≡ firstFailing (freshTests numbers m)
+      → Meets (fresh numbers m) o after [] → refusalGiven (said o) ≡ firstFailing (freshTests numbers m)
   pub calls :
       (c : Call) (m : Machine) (o : Outcome) (after : Machine) (reader : List ℕ) (n : ℕ)
       → Meets (call c m) o after reader → said o ≡ refused n → RefusedByCode c m n after reader

@@ -38,14 +38,14 @@ firstFailing [] = none
 firstFailing (x ∷ xs) = cond (x .passes) (firstFailing xs) (some (x .number))
 
 -- The number of a refusal, if an answer is one.
-unfoldable pub refusalIn : Said → Option ℕ
-refusalIn plain = none
-refusalIn (pointer o) = none
-refusalIn (given n) = none
-refusalIn (granted n) = none
-refusalIn (pairs n) = none
-refusalIn (ordered grants gap tried) = none
-refusalIn (refused n) = some n
+unfoldable pub refusalGiven : Said → Option ℕ
+refusalGiven plain = none
+refusalGiven (pointer o) = none
+refusalGiven (given n) = none
+refusalGiven (granted n) = none
+refusalGiven (pairs n) = none
+refusalGiven (ordered grants gap tried) = none
+refusalGiven (refused n) = some n
 
 -- 1: "a store buffer .. has another length". 2: "the store record breaks a range". Then the later ones.
 unfoldable pub firstTwo : Machine → List Test → List Test

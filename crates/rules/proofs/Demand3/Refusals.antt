@@ -19,7 +19,7 @@ use Rattle.rules.specs.Commits.{Setting, commitRefusal}
 use Rattle.rules.specs.Messages.{Op, bufferOf, bufferOfCall, Call, begin, on, commit, abort, places, setWindow, takeBack, bestOrder}
 use Rattle.rules.specs.Ordering.{Asked, orderRefusal, orderReplied, orderReply}
 use Rattle.rules.specs.Machine.{Machine, sizes, fileOf, values, txnOf}
-use Rattle.rules.specs.Tests.{refusalIn}
+use Rattle.rules.specs.Tests.{refusalGiven}
 use Rattle.rules.specs.Demand1.{Demand1, Demand1OfCode}
 use Rattle.rules.specs.Calls.{Turn, answerWith, turnDown, passing, fresh, reset, beginTurn, abortTurn, served, stepTurn}
 use Rattle.rules.specs.Calls.{commitGranted, commitDecided, commitTurn, admitted, call, placesTurn, windowTurn, takeBackTurn}
@@ -263,17 +263,17 @@ demand1 m =
     }
 
 pub demand1-of-code : Demand1OfCode
-unfolding refusalIn
+unfolding refusalGiven
 demand1-of-code =
     record {
-      first = λ c m o after reader k. ap refusalIn (k .outcome) ∙ demand1 m .first c;
-      freshFirst = λ numbers m o after k. ap refusalIn (k .outcome) ∙ demand1 m .freshFirst numbers;
+      first = λ c m o after reader k. ap refusalGiven (k .outcome) ∙ demand1 m .first c;
+      freshFirst = λ numbers m o after k. ap refusalGiven (k .outcome) ∙ demand1 m .freshFirst numbers;
       calls =
           λ c m o after reader n k e.
           let f = sym (k .outcome) ∙ e in
           let d = demand1 m in
           record {
-            first = sym (d .first c) ∙ ap refusalIn f;
+            first = sym (d .first c) ∙ ap refusalGiven f;
             known = d .known c n f;
             leaves = λ h. let l = d .leaves c n f h in (k .machine ∙ l .0, k .reader ∙ l .1);
             ends = λ h. let w = d .ends c (f ∙ ap refused h) in (w .0, w .1, w .2, k .machine ∙ w .3);

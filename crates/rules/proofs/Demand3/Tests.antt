@@ -30,7 +30,7 @@ use Rattle.rules.specs.Ordering.{Asked, orderRefusal, orderReplied, orde
 use Rattle.rules.specs.Machine.{Machine, sizes, fileOf, values, txnOf}
 use Rattle.rules.specs.Calls.{Turn, answerWith, turnDown, passing, freshMachine, fresh, beginTurn, abortTurn, served, stepTurn, commitGranted}
 use Rattle.rules.specs.Calls.{commitDecided, commitTurn, admitted, call, placesTurn, windowTurn, takeBackTurn, orderTurn, askedOf}
-use Rattle.rules.specs.Tests.{Test, test, firstFailing, refusalIn, firstTwo, firstFour, settles, stepTests, testsOf, freshTests}
+use Rattle.rules.specs.Tests.{Test, test, firstFailing, refusalGiven, firstTwo, firstFour, settles, stepTests, testsOf, freshTests}
 use Rattle.rules.specs.Demand1.{refusalsOf, refusalsOfFresh}
 use Rattle.rules.proofs.Serial.Programs.{result-andThen, Every, every-append}
 use Rattle.rules.proofs.Serial.Invariant.{put-other}
@@ -38,20 +38,20 @@ use Rattle.rules.proofs.Serial.Invariant.{put-other}
 -- ---- chains of tests
 
 -- An answer is no refusal.
-nothing-fails : refusalIn plain ≡ firstFailing []
-unfolding refusalIn firstFailing
+nothing-fails : refusalGiven plain ≡ firstFailing []
+unfolding refusalGiven firstFailing
 nothing-fails = refl
 
 -- Where refusals are numbers and 0 stands for none, one test in front.
 module _ (says : ℕ → Said) (refuses : (n : ℕ) → says (suc n) ≡ refused (suc n)) where
-  in-front : (ok : Bool) (n later : ℕ) (tests : List Test) → refusalIn (says later) ≡ firstFailing tests
-      → refusalIn (says (unless ok (suc n) later)) ≡ firstFailing (test (suc n) ok ∷ tests)
-  unfolding unless firstFailing refusalIn
+  in-front : (ok : Bool) (n later : ℕ) (tests : List Test) → refusalGiven (says later) ≡ firstFailing tests
+      → refusalGiven (says (unless ok (suc n) later)) ≡ firstFailing (test (suc n) ok ∷ tests)
+  unfolding unless firstFailing refusalGiven
   in-front true n later tests e = e
-  in-front false n later tests e = ap refusalIn (refuses n)
+  in-front false n later tests e = ap refusalGiven (refuses n)
 
-  two-in-front : (m : Machine) (later : ℕ) (tests : List Test) → refusalIn (says later) ≡ firstFailing tests
-      → refusalIn (says (firstTests (sizes m) (m .store) (m .journal) later)) ≡ firstFailing (firstTwo m tests)
+  two-in-front : (m : Machine) (later : ℕ) (tests : List Test) → refusalGiven (says later) ≡ firstFailing tests
+      → refusalGiven (says (firstTests (sizes m) (m .store) (m .journal) later)) ≡ firstFailing (firstTwo m tests)
   unfolding firstTests firstTwo
   two-in-front m later tests e = in-front _ 0 _ _ (in-front _ 1 later tests e)
 
@@ -63,8 +63,8 @@ module _ (buffer : List ℕ) (m : Machine) (w : Turn) where
   unfolding passing turnDown
   passing-refuses n = refl
 
-  four-in-front : (t : ℕ) (tests : List Test) → refusalIn (w .reply .answer) ≡ firstFailing tests
-      → refusalIn (admitted t buffer m w .reply .answer) ≡ firstFailing (firstFour t m tests)
+  four-in-front : (t : ℕ) (tests : List Test) → refusalGiven (w .reply .answer) ≡ firstFailing tests
+      → refusalGiven (admitted t buffer m w .reply .answer) ≡ firstFailing (firstFour t m tests)
   unfolding admitted admission shared firstFour passing
   four-in-front t tests e =
       two-in-front says passing-refuses m _ _ (in-front says passing-refuses _ 2 _ _ (in-front says passing-refuses _ 3 0 tests e))
@@ -73,10 +73,10 @@ module _ (buffer : List ℕ) (m : Machine) (w : Turn) where
 
 stepSays : Stepped → Option ℕ
 stepSays (refuse n) = some n
-stepSays (accept y a b) = refusalIn a
+stepSays (accept y a b) = refusalGiven a
 
-served-says : (t : ℕ) (o : Op) (m : Machine) (is : List Item) (s : Stepped) → refusalIn (served t o m is s .reply .answer) ≡ stepSays s
-unfolding served turnDown stepSays refusalIn
+served-says : (t : ℕ) (o : Op) (m : Machine) (is : List Item) (s : Stepped) → refusalGiven (served t o m is s .reply .answer) ≡ stepSays s
+unfolding served turnDown stepSays refusalGiven
 served-says t o m is (refuse n) = refl
 served-says t o m is (accept y a b) = refl
 
@@ -180,11 +180,11 @@ module _ (v : Values) where
   pointer-distinct false d = tt
 
   pointer-says : (d : ℕ) (y : Txn) → stepSays (result v (done (accept y (pointer (offsetOf (y .standing d))) []))) ≡ none
-  unfolding result stepSays refusalIn
+  unfolding result stepSays refusalGiven
   pointer-says d y = refl
 
   read-says : (f : ℕ → ℕ) (d n : ℕ) (buffer : List ℕ) (y : Txn) → stepSays (result v (readSettled f d n buffer y)) ≡ none
-  unfolding readSettled result stepSays refusalIn
+  unfolding readSettled result stepSays refusalGiven
   read-says f d n buffer y = ap stepSays (result-andThen v (gather f (y .writes) (f d) _ n) _)
 
 step-says : (t : ℕ) (o : Op) (m : Machine)
@@ -211,9 +211,9 @@ step-says t (read d n buffer) m =
 -- ---- the other calls
 
 decided-says : (t : ℕ) (x : Txn) (ss : List Setting) (m : Machine) (daily stale shut placed : Bool)
-    → refusalIn (commitDecided t x ss m (commitRefusal daily stale shut placed) .reply .answer)
+    → refusalGiven (commitDecided t x ss m (commitRefusal daily stale shut placed) .reply .answer)
     ≡ firstFailing (test 22 daily ∷ test 13 (not stale) ∷ test 21 (not shut) ∷ test 12 placed ∷ [])
-unfolding commitDecided commitRefusal commitGranted refusalIn firstFailing
+unfolding commitDecided commitRefusal commitGranted refusalGiven firstFailing
 decided-says t x ss m false stale shut placed = refl
 decided-says t x ss m true true shut placed = refl
 decided-says t x ss m true false true placed = refl
@@ -228,16 +228,16 @@ order-refuses : (a : Asked) (ts : List ℕ) (budget n : ℕ) → orderReplied a 
 unfolding orderReplied
 order-refuses a ts budget n = refl
 
-places-says : (f : ℕ → ℕ) (g : ℕ) (out : List ℕ) (x : Txn) → refusalIn (placesOf f g out x .answer)
+places-says : (f : ℕ → ℕ) (g : ℕ) (out : List ℕ) (x : Txn) → refusalGiven (placesOf f g out x .answer)
     ≡ firstFailing (test 6 (leb g 7) ∷ test 15 (not (unplaced f g (x .writes)))
     ∷ test 16 (leb (4 * length (stretchesOf (covered f g (x .writes)))) (length out)) ∷ [])
 unfolding placesOf placesRefusal
 places-says f g out x =
     let says : ℕ → Said = λ n. placesReply f g out x n .answer in
     let h = places-refuses f g out x in
-    in-front says h _ 5 _ _ (in-front says h _ 14 _ _ (in-front says h _ 15 0 [] (unfold placesReply refusalIn firstFailing in refl)))
+    in-front says h _ 5 _ _ (in-front says h _ 14 _ _ (in-front says h _ 15 0 [] (unfold placesReply refusalGiven firstFailing in refl)))
 
-order-says : (a : Asked) (ts : List ℕ) (minute budget : ℕ) → refusalIn (orderReply a ts minute budget .answer)
+order-says : (a : Asked) (ts : List ℕ) (minute budget : ℕ) → refusalGiven (orderReply a ts minute budget .answer)
     ≡ firstFailing (test 26 (isList ts) ∷ test 3 (allIn (λ t. leb t 7) ts) ∷ test 4 (allIn (a .isOpen) ts) ∷ test 22 (minuteIn minute)
     ∷ test 25 (allIn (λ t. not (a .notReady t)) ts) ∷ test 27 (leb 1 budget && leb budget 40320) ∷ [])
 unfolding orderReply orderRefusal
@@ -245,9 +245,9 @@ order-says a ts minute budget =
     let says : ℕ → Said = λ n. orderReplied a ts budget n .answer in
     let h = order-refuses a ts budget in
     in-front says h _ 25 _ _ (in-front says h _ 2 _ _ (in-front says h _ 3 _ _ (in-front says h _ 21 _ _ (in-front says h _ 24 _ _
-    (in-front says h _ 26 0 [] (unfold orderReplied refusalIn firstFailing in refl))))))
+    (in-front says h _ 26 0 [] (unfold orderReplied refusalGiven firstFailing in refl))))))
 
-pub call-says : (c : Call) (m : Machine) → refusalIn (call c m .reply .answer) ≡ firstFailing (testsOf c m)
+pub call-says : (c : Call) (m : Machine) → refusalGiven (call c m .reply .answer) ≡ firstFailing (testsOf c m)
 unfolding call testsOf beginTurn abortTurn answerWith stepTurn commitTurn placesTurn windowTurn takeBackTurn orderTurn admissionOfBegin shared
     admissionOfWindow windowRefusal admissionOfTakingBack passing
 call-says (begin t) m =
@@ -270,7 +270,7 @@ call-says (bestOrder ts minute budget) m =
     let says : ℕ → Said = λ k. passing k [] m (orderTurn ts minute budget m) .reply .answer in
     two-in-front says (passing-refuses [] m (orderTurn ts minute budget m)) m 0 _ (order-says (askedOf minute m) ts minute budget)
 
-pub fresh-says : (numbers : List ℕ) (m : Machine) → refusalIn (fresh numbers m .reply .answer) ≡ firstFailing (freshTests numbers m)
+pub fresh-says : (numbers : List ℕ) (m : Machine) → refusalGiven (fresh numbers m .reply .answer) ≡ firstFailing (freshTests numbers m)
 unfolding fresh freshTests admissionOfFresh answerWith passing
 fresh-says numbers m =
     let w = answerWith plain (freshMachine numbers (m .logs) (m .undo)) in
@@ -318,12 +318,12 @@ first-is-in (x ∷ tests) n e = pick (x .passes) e (first-is-in tests n)
     pick false e r = ap (λ (b : Bool). b || isIn n (map (λ (y : Test). y .number) tests)) (eq-eqb n (x .number) (sym (Option·some-injective (x .number) n e)))
 
 pub call-known : (c : Call) (m : Machine) (n : ℕ) → call c m .reply .answer ≡ refused n → isIn n (refusalsOf c) ≡ true
-unfolding refusalIn
+unfolding refusalGiven
 call-known c m n e =
-    subst (λ (ns : List ℕ). isIn n ns ≡ true) (rows c m) (first-is-in (testsOf c m) n (sym (call-says c m) ∙ ap refusalIn e))
+    subst (λ (ns : List ℕ). isIn n ns ≡ true) (rows c m) (first-is-in (testsOf c m) n (sym (call-says c m) ∙ ap refusalGiven e))
 
 pub fresh-known : (numbers : List ℕ) (m : Machine) (n : ℕ) → fresh numbers m .reply .answer ≡ refused n → isIn n refusalsOfFresh ≡ true
-unfolding refusalIn
+unfolding refusalGiven
 fresh-known numbers m n e =
     subst (λ (ns : List ℕ). isIn n ns ≡ true) (fresh-row numbers m)
-    (first-is-in (freshTests numbers m) n (sym (fresh-says numbers m) ∙ ap refusalIn e))
+    (first-is-in (freshTests numbers m) n (sym (fresh-says numbers m) ∙ ap refusalGiven e))

@@ -7,7 +7,8 @@ use Rattle.record.specs.declared.outcomes.Outcome.{Outcome}
 use Rattle.record.specs.declared.outcomes.Outcome.the-variants.{Done, Offset, Given, Granted, Pairs, Ordered, Refused}
 use Rattle.ordering.specs.declared.order_call.Best.{Best}
 
--- "answer an order (as transaction numbers)": for a list of n the first n numbers of the array; none with a refusal.
+-- "answer an order (as transaction numbers)": for a list of n the first n numbers of the array; none with a
+-- refusal.
 unfoldable pub orderPart : Outcome → ℕ → List ℕ → List ℕ
 orderPart Done n order = []
 orderPart (Offset o) n order = []

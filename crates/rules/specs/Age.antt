@@ -47,8 +47,8 @@ pub record Alike (cs : List Call) (m n : Machine) : Type 0 where
 abbrev pub Ageless : Type 0
 Ageless = (m : Machine) → AtRest m → (logs : List ℕ) → length logs ≡ 32768 → (cs : List Call) → Alike cs m (rejuvenated m logs)
 
--- To keep a running store while its program is down, the record with every transaction ended, the files and the bytes on which the last
--- grant landed are enough.
+-- To keep a running store while its program is down, the record with every transaction ended, the files and
+-- the bytes on which the last grant landed are enough.
 pub record GoesOn (m₀ : Machine) (rs : List Run) : Type 0 where
   -- However often its program goes down, it answers every further list of calls as one that never did, on which every transaction was
   -- aborted instead.
@@ -59,8 +59,8 @@ pub record GoesOn (m₀ : Machine) (rs : List Run) : Type 0 where
 abbrev pub Recovers : Type 0
 Recovers = (numbers : List ℕ) (m₀ : Machine) → FreshlyMade numbers m₀ → (rs : List Run) → GoesOn m₀ rs
 
--- The case of a store at rest: it goes on as the store that was saved would have, with any other logs and marks of their length; and so it
--- does where its record was saved as it lies.
+-- The case of a store at rest: it goes on as the store that was saved would have, with any other logs and
+-- marks of their length; and so it does where its record was saved as it lies.
 pub record LoadedAlike (m : Machine) (logs marks : List ℕ) (cs : List Call) : Type 0 where
   pub ended : Alike cs m (recovered logs marks m)
   pub asItLies : Alike cs m (withLogs logs (withMarking marks m))

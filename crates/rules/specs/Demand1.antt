@@ -1,6 +1,7 @@
--- Demand 1, beside its wording: "Every call .. ends in its result or one of fourteen refusals (02 adds more), each under its written
--- condition only. A refusal changes no buffer and no record, save that a commit refused as stale (13) ends its transaction as an abort
--- does." (The written conditions, in the order in which they are tested, are Tests.antt.)
+-- Demand 1, beside its wording: "Every call .. ends in its result or one of fourteen refusals (02 adds more),
+-- each under its written condition only. A refusal changes no buffer and no record, save that a commit
+-- refused as stale (13) ends its transaction as an abort does." (The written conditions, in the order in
+-- which they are tested, are Tests.antt.)
 use mathlib.Core.Bool.{true}
 use mathlib.Core.List.{List, [], _∷_, map}
 use mathlib.Core.Option.{some}
@@ -36,8 +37,8 @@ refusalsOfFresh = 1 ∷ 14 ∷ []
 
 -- On any record and any buffers m, with any numbers.
 pub record Demand1On (m : Machine) : Type 0 where
-  -- "each under its written condition only": a call is refused with the number of the first of its tests that fails, and is not refused
-  -- where all pass.
+  -- "each under its written condition only": a call is refused with the number of the first of its tests that
+  -- fails, and is not refused where all pass.
   pub first : (c : Call) → refusalGiven (call c m .reply .answer) ≡ firstFailing (testsOf c m)
   pub freshFirst : (numbers : List ℕ) → refusalGiven (fresh numbers m .reply .answer) ≡ firstFailing (freshTests numbers m)
   -- The numbers of the tests are the call's row, in order, and no others.

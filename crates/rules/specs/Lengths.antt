@@ -1,5 +1,5 @@
--- Request F-8, "Files with a length": what holds of the lengths of every store reached from Fresh, also where its
--- program went down.
+-- Request F-8, "Files with a length": what holds of the lengths of every store reached from Fresh, also where
+-- its program went down.
 use mathlib.Core.Bool.{true}
 use mathlib.Core.Path.{_≡_}
 use Prim.Native.Nat.{ℕ, _+_, _*_, _≤_, _<_}

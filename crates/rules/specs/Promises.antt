@@ -19,9 +19,10 @@ pub record Meets (w : Turn) (o : Outcome) (m : Machine) (atReader : List ℕ) : 
   pub machine : m ≡ w .after
   pub reader : atReader ≡ w .reply .buffer
 
--- The machine that a record of numbers and the four buffers mean (record/specs/Layout.antt). Promises are about it. Of the record of a call
--- that is not refused they do not fix what means nothing: the ten spare numbers of a transaction, the numbers that a standing does not
--- carry, which code above the last stands for it (a kind above 3 is Known), and which number other than 1 for a flag that is not set.
+-- The machine that a record of numbers and the four buffers mean (record/specs/Layout.antt). Promises are
+-- about it. Of the record of a call that is not refused they do not fix what means nothing (the ten spare
+-- numbers of a transaction, the numbers that a standing does not carry), nor which of several codes stands for
+-- one meaning (a kind above 3 is Known; a flag whose number is not 1 is not set).
 abbrev pub machineOf : List ℕ → List ℕ → List ℕ → List ℕ → List ℕ → Machine
 machineOf kept files logs marks undo = lent (storeOf kept) (journalOf kept) files logs marks undo
 

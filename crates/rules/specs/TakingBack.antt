@@ -21,8 +21,8 @@ grantsInRuns [] m = 0
 grantsInRuns (r ∷ rs) m =
     grantsAmong (callsReplies (r .calls) m) + grantsInRuns rs (recovered (r .logs) (r .marks) (callsAfter (r .calls) m))
 
--- After any calls a Commit is granted; further calls ys, among which no Commit is granted, lead to an accepted taking back. The program may
--- go down meanwhile: runs rs without a grant stand before ys.
+-- After any calls a Commit is granted; further calls ys, among which no Commit is granted, lead to an
+-- accepted taking back. The program may go down meanwhile: runs rs without a grant stand before ys.
 abbrev pub TakesBack : Type 0
 TakesBack =
     (before : Machine) → Reached before → (rs : List Run) (ys : List Call) (t minute n : ℕ)

@@ -1,5 +1,6 @@
--- Paper 01, "What a turned-down call brings": the tests of each call in their order, on any record and any buffers. "Checked in this order,
--- save that 13 comes before 12"; 02 says of each later number where it stands.
+-- Paper 01, "What a turned-down call brings": the tests of each call in their order, on any record and any
+-- buffers. "Checked in this order, save that 13 comes before 12"; 02 says of each later number where it
+-- stands.
 use mathlib.Core.Bool.{Bool, cond, not, _&&_}
 use mathlib.Core.List.{List, [], _∷_}
 use mathlib.Core.Option.{Option, none, some}
@@ -59,8 +60,8 @@ firstFour t m later = firstTwo m (test 3 (leb t 7) ∷ test 4 (transaction (m .s
 unfoldable pub settles : Values → Txn → List ℕ → Bool
 settles v x ds = allIn (λ d. leb (v (offset d) + advance (x .standing d)) 4096) ds
 
--- Those of Seek, Write, GetFilePointer and Read after 4. 9: "Write whose offset, or advance while Deferred or Untouched (0), plus length is
--- above 4,096". F-6: "18 when the transaction is stale, after 6 and before 7".
+-- The tests of Seek, Write, GetFilePointer and Read after 4. 9: "Write whose offset, or advance while Deferred or
+-- Untouched (0), plus length is above 4,096". F-6: "18 when the transaction is stale, after 6 and before 7".
 unfoldable pub stepTests : ℕ → Op → Machine → List Test
 stepTests t (seek d n) m = test 6 (leb d 15) ∷ test 8 (leb n 4096) ∷ []
 stepTests t (write d bytes) m =
@@ -84,9 +85,9 @@ stepTests t (read d n buffer) m =
     ∷ test 12 (settles (values (m .store) (m .files)) x (settledByRead (fileOf (m .store)) d x))
     ∷ []
 
--- 5: "Begin of one already open". F-11: 21 "after 13 and before 12", 22 "after 4 in Commit" and "after the file number (6) when setting".
--- F-1: 15 "after 4 and a file number above 7 (which is 6); 16 .. last". F-13: 23 "after 2", 24 "after 23". F-14: 26 "before 3", 25 "after 4
--- and 22", 27 "last".
+-- 5: "Begin of one already open". F-11: 21 "after 13 and before 12", 22 "after 4 in Commit" and "after the
+-- file number (6) when setting". F-1: 15 "after 4 and a file number above 7 (which is 6); 16 .. last". F-13:
+-- 23 "after 2", 24 "after 23". F-14: 26 "before 3", 25 "after 4 and 22", 27 "last".
 unfoldable pub testsOf : Call → Machine → List Test
 testsOf (begin t) m = firstTwo m (test 3 (leb t 7) ∷ test 5 (not (transaction (m .store) t .begun)) ∷ [])
 testsOf (on t o) m = firstFour t m (stepTests t o m)

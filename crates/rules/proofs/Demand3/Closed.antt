@@ -106,8 +106,8 @@ module _ (ws : Windows) (minute : ℕ) where
         pick true = (tt, tt)
         pick false = tt
 
-    settings-spare : ((k : ℕ) → k < length (y .writes) → WriteIn y (getD (y .writes) k noWrite)) → forClosed file ws minute (y .writes) ≡ false
-        → AllSparing (settings file v y)
+    settings-spare : ((k : ℕ) → k < length (y .writes) → WriteIn y (getD (y .writes) k noWrite))
+        → forClosed file ws minute (y .writes) ≡ false → AllSparing (settings file v y)
     unfolding settings
     settings-spare h e =
         every-append (λ (s : Setting). Sparing (s .item)) (byteSettings file v (y .writes)) _ (bytes-spare (y .writes) h e)
@@ -294,5 +294,6 @@ closed-spared m t minute n e =
       length =
           λ f c.
           ap (λ (y : Machine). getD (y .store .lengths) f 0) (p .leaves)
-          ∙ lengths-left f (settingsOf m t) (s .lengths) (length-not-touched ws minute (fileOf s) (values s (m .files)) f c x (p .none));
+          ∙ lengths-left f (settingsOf m t) (s .lengths)
+          (length-not-touched ws minute (fileOf s) (values s (m .files)) f c x (p .none));
     }

@@ -237,7 +237,8 @@ lengths-always-hold m r =
       subst⁻¹ ZeroBack (ap (λ (s : Sighted). s .back) (f .same)) tt,
     ) in
     subst⁻¹ LengthsHold (r .by)
-    (hold-after (r .calls) (runsAfter (r .runs) (r .first)) (runs-from-fresh (r .numbers) (r .first) (r .made) (r .runs) .second) (z .0) (z .1))
+    (hold-after (r .calls) (runsAfter (r .runs) (r .first)) (runs-from-fresh (r .numbers) (r .first) (r .made) (r .runs) .second)
+    (z .0) (z .1))
 
 pub lengths-tell : LengthsTell
 unfolding firstBeyond

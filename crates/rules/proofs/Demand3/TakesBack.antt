@@ -96,7 +96,8 @@ module _ (w : Values) where
   unfolding view startSighted
   recovered-or logs marks m now = subst⁻¹ (λ (s : Sighted). Or (s .back)) (recovered-view logs marks m) now
 
-  runs-or : (rs : List Run) (m : Machine) → Sound m → Or (view m .back) → grantsInRuns rs m ≡ 0 → Sound (runsAfter rs m) × Or (view (runsAfter rs m) .back)
+  runs-or : (rs : List Run) (m : Machine) → Sound m → Or (view m .back) → grantsInRuns rs m ≡ 0
+      → Sound (runsAfter rs m) × Or (view (runsAfter rs m) .back)
   unfolding grantsInRuns runsAfter
   runs-or [] m sound now e = (sound, now)
   runs-or (r ∷ rs) m sound now e =

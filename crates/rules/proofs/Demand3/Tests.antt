@@ -13,24 +13,26 @@ use Rattle.standings.specs.declared.Standing.{Standing}
 use Rattle.standings.specs.Table.{advance, pointerSettles, offsetOf}
 use Rattle.record.specs.State.{transaction}
 use Rattle.record.specs.Paper.{Said, plain, pointer, refused}
-use Rattle.ranges.specs.Ranges.{firstTests, shared, admission, admissionOfBegin, windowRefusal, admissionOfWindow, admissionOfTakingBack}
-use Rattle.ranges.specs.Ranges.{admissionOfFresh}
+use Rattle.ranges.specs.Ranges.{firstTests, shared, admission, admissionOfBegin, admissionOfFresh, windowRefusal}
+use Rattle.ranges.specs.Ranges.{admissionOfWindow, admissionOfTakingBack}
 use Rattle.ranges.specs.Below.{unless}
 use Rattle.orders.specs.Orders.{isIn, allIn, isList}
 use Rattle.rules.specs.Items.{Item, offset, Values, Prog, done, andThen, result}
 use Rattle.rules.specs.Transactions.{Txn, settle, those, Settled, past, all, settling}
 use Rattle.rules.specs.Coverage.{covered, unplaced, stretchesOf, placesRefusal, placesReply, placesOf}
 use Rattle.rules.specs.Reading.{gather}
-use Rattle.rules.specs.Steps.{Stepped, refuse, accept, check, orGivenBack, seekStep, writeStep, pointerStep, settledByRead, readSettled}
-use Rattle.rules.specs.Steps.{readStep, step, looks, descriptorOf, turnsBack, turnedBack}
+use Rattle.rules.specs.Steps.{Stepped, refuse, accept, check, orGivenBack, seekStep, writeStep, pointerStep}
+use Rattle.rules.specs.Steps.{settledByRead, readSettled, readStep, step, looks, descriptorOf, turnsBack, turnedBack}
 use Rattle.rules.specs.Commits.{Setting, commitRefusal}
 use Rattle.rules.specs.Messages.{Op, seek, write, getFilePointer, read, bufferOf, Call, begin, on, commit, abort, places}
 use Rattle.rules.specs.Messages.{setWindow, takeBack, bestOrder}
 use Rattle.rules.specs.Ordering.{Asked, orderRefusal, orderReplied, orderReply}
 use Rattle.rules.specs.Machine.{Machine, sizes, fileOf, values, txnOf}
-use Rattle.rules.specs.Calls.{Turn, answerWith, turnDown, passing, freshMachine, fresh, beginTurn, abortTurn, served, stepTurn, commitGranted}
-use Rattle.rules.specs.Calls.{commitDecided, commitTurn, admitted, call, placesTurn, windowTurn, takeBackTurn, orderTurn, askedOf}
-use Rattle.rules.specs.Tests.{Test, test, firstFailing, refusalGiven, firstTwo, firstFour, settles, stepTests, testsOf, freshTests}
+use Rattle.rules.specs.Calls.{Turn, answerWith, turnDown, passing, freshMachine, fresh, beginTurn, abortTurn, served}
+use Rattle.rules.specs.Calls.{stepTurn, commitGranted, commitDecided, commitTurn, admitted, call, placesTurn, windowTurn}
+use Rattle.rules.specs.Calls.{takeBackTurn, orderTurn, askedOf}
+use Rattle.rules.specs.Tests.{Test, test, firstFailing, refusalGiven, firstTwo, firstFour, settles, stepTests}
+use Rattle.rules.specs.Tests.{testsOf, freshTests}
 use Rattle.rules.specs.Demand1.{refusalsOf, refusalsOfFresh}
 use Rattle.rules.proofs.Serial.Programs.{result-andThen, Every, every-append}
 use Rattle.rules.proofs.Serial.Invariant.{put-other}
@@ -67,7 +69,8 @@ module _ (buffer : List ℕ) (m : Machine) (w : Turn) where
       → refusalGiven (admitted t buffer m w .reply .answer) ≡ firstFailing (firstFour t m tests)
   unfolding admitted admission shared firstFour passing
   four-in-front t tests e =
-      two-in-front says passing-refuses m _ _ (in-front says passing-refuses _ 2 _ _ (in-front says passing-refuses _ 3 0 tests e))
+      let h = passing-refuses in
+      two-in-front says h m _ _ (in-front says h _ 2 _ _ (in-front says h _ 3 0 tests e))
 
 -- ---- Seek, Write, GetFilePointer and Read
 
@@ -75,7 +78,8 @@ stepSays : Stepped → Option ℕ
 stepSays (refuse n) = some n
 stepSays (accept y a b) = refusalGiven a
 
-served-says : (t : ℕ) (o : Op) (m : Machine) (is : List Item) (s : Stepped) → refusalGiven (served t o m is s .reply .answer) ≡ stepSays s
+served-says : (t : ℕ) (o : Op) (m : Machine) (is : List Item) (s : Stepped)
+    → refusalGiven (served t o m is s .reply .answer) ≡ stepSays s
 unfolding served turnDown stepSays refusalGiven
 served-says t o m is (refuse n) = refl
 served-says t o m is (accept y a b) = refl
@@ -128,7 +132,8 @@ module _ (v : Values) where
   unfolding settles allIn settle
   same-settles d c x [] h = refl
   same-settles d c x (e ∷ ds) h =
-      ap₂ (λ (z : Standing) (b : Bool). leb (v (offset e) + advance z) 4096 && b) (put-other d _ (x .standing) e (h .0)) (same-settles d c x ds (h .1))
+      ap₂ (λ (z : Standing) (b : Bool). leb (v (offset e) + advance z) 4096 && b) (put-other d _ (x .standing) e (h .0))
+      (same-settles d c x ds (h .1))
 
   settling-ends : (ds : List ℕ) (x : Txn) → Distinct ds → ends (result v (settling ds x)) ≡ settles v x ds
   unfolding settling settles allIn result ends
@@ -168,7 +173,8 @@ module _ (v : Values) where
   back-says next h past = refl
   back-says next h (all y) = h y
 
-  settling-says : (ds : List ℕ) (x : Txn) (next : Txn → Prog Stepped) → Distinct ds → ((y : Txn) → stepSays (result v (next y)) ≡ none)
+  settling-says : (ds : List ℕ) (x : Txn) (next : Txn → Prog Stepped) → Distinct ds
+      → ((y : Txn) → stepSays (result v (next y)) ≡ none)
       → stepSays (result v (andThen (settling ds x) (orGivenBack next))) ≡ firstFailing (test 12 (settles v x ds) ∷ [])
   settling-says ds x next h g =
       ap stepSays (result-andThen v (settling ds x) (orGivenBack next))
@@ -200,7 +206,8 @@ step-says t (getFilePointer d) m =
     let v = values (m .store) (m .files) in
     let x = txnOf (m .store) (m .journal) (m .logs) t in
     let ds = cond (pointerSettles (x .standing d)) (d ∷ []) [] in
-    look-says v (transaction (m .store) t .stale) _ _ _ (settling-says v ds x _ (pointer-distinct v (pointerSettles (x .standing d)) d) (pointer-says v d))
+    look-says v (transaction (m .store) t .stale) _ _ _
+    (settling-says v ds x _ (pointer-distinct v (pointerSettles (x .standing d)) d) (pointer-says v d))
 step-says t (read d n buffer) m =
     let v = values (m .store) (m .files) in
     let f = fileOf (m .store) in
@@ -235,11 +242,12 @@ unfolding placesOf placesRefusal
 places-says f g out x =
     let says : ℕ → Said = λ n. placesReply f g out x n .answer in
     let h = places-refuses f g out x in
-    in-front says h _ 5 _ _ (in-front says h _ 14 _ _ (in-front says h _ 15 0 [] (unfold placesReply refusalGiven firstFailing in refl)))
+    in-front says h _ 5 _ _ (in-front says h _ 14 _ _
+    (in-front says h _ 15 0 [] (unfold placesReply refusalGiven firstFailing in refl)))
 
 order-says : (a : Asked) (ts : List ℕ) (minute budget : ℕ) → refusalGiven (orderReply a ts minute budget .answer)
-    ≡ firstFailing (test 26 (isList ts) ∷ test 3 (allIn (λ t. leb t 7) ts) ∷ test 4 (allIn (a .isOpen) ts) ∷ test 22 (minuteIn minute)
-    ∷ test 25 (allIn (λ t. not (a .notReady t)) ts) ∷ test 27 (leb 1 budget && leb budget 40320) ∷ [])
+    ≡ firstFailing (test 26 (isList ts) ∷ test 3 (allIn (λ t. leb t 7) ts) ∷ test 4 (allIn (a .isOpen) ts)
+    ∷ test 22 (minuteIn minute) ∷ test 25 (allIn (λ t. not (a .notReady t)) ts) ∷ test 27 (leb 1 budget && leb budget 40320) ∷ [])
 unfolding orderReply orderRefusal
 order-says a ts minute budget =
     let says : ℕ → Said = λ n. orderReplied a ts budget n .answer in
@@ -248,8 +256,8 @@ order-says a ts minute budget =
     (in-front says h _ 26 0 [] (unfold orderReplied refusalGiven firstFailing in refl))))))
 
 pub call-says : (c : Call) (m : Machine) → refusalGiven (call c m .reply .answer) ≡ firstFailing (testsOf c m)
-unfolding call testsOf beginTurn abortTurn answerWith stepTurn commitTurn placesTurn windowTurn takeBackTurn orderTurn admissionOfBegin shared
-    admissionOfWindow windowRefusal admissionOfTakingBack passing
+unfolding call testsOf beginTurn abortTurn answerWith stepTurn commitTurn placesTurn windowTurn takeBackTurn orderTurn
+    admissionOfBegin shared admissionOfWindow windowRefusal admissionOfTakingBack passing
 call-says (begin t) m =
     let says : ℕ → Said = λ k. passing k [] m (beginTurn t m) .reply .answer in
     let h = passing-refuses [] m (beginTurn t m) in
@@ -270,7 +278,8 @@ call-says (bestOrder ts minute budget) m =
     let says : ℕ → Said = λ k. passing k [] m (orderTurn ts minute budget m) .reply .answer in
     two-in-front says (passing-refuses [] m (orderTurn ts minute budget m)) m 0 _ (order-says (askedOf minute m) ts minute budget)
 
-pub fresh-says : (numbers : List ℕ) (m : Machine) → refusalGiven (fresh numbers m .reply .answer) ≡ firstFailing (freshTests numbers m)
+pub fresh-says : (numbers : List ℕ) (m : Machine)
+    → refusalGiven (fresh numbers m .reply .answer) ≡ firstFailing (freshTests numbers m)
 unfolding fresh freshTests admissionOfFresh answerWith passing
 fresh-says numbers m =
     let w = answerWith plain (freshMachine numbers (m .logs) (m .undo)) in
@@ -315,14 +324,17 @@ first-is-in (x ∷ tests) n e = pick (x .passes) e (first-is-in tests n)
         → (firstFailing tests ≡ some n → isIn n (map (λ (y : Test). y .number) tests) ≡ true)
         → (eqb n (x .number) || isIn n (map (λ (y : Test). y .number) tests)) ≡ true
     pick true e r = ap (λ (b : Bool). eqb n (x .number) || b) (r e) ∙ or-true (eqb n (x .number))
-    pick false e r = ap (λ (b : Bool). b || isIn n (map (λ (y : Test). y .number) tests)) (eq-eqb n (x .number) (sym (Option·some-injective (x .number) n e)))
+    pick false e r =
+        ap (λ (b : Bool). b || isIn n (map (λ (y : Test). y .number) tests))
+        (eq-eqb n (x .number) (sym (Option·some-injective (x .number) n e)))
 
 pub call-known : (c : Call) (m : Machine) (n : ℕ) → call c m .reply .answer ≡ refused n → isIn n (refusalsOf c) ≡ true
 unfolding refusalGiven
 call-known c m n e =
     subst (λ (ns : List ℕ). isIn n ns ≡ true) (rows c m) (first-is-in (testsOf c m) n (sym (call-says c m) ∙ ap refusalGiven e))
 
-pub fresh-known : (numbers : List ℕ) (m : Machine) (n : ℕ) → fresh numbers m .reply .answer ≡ refused n → isIn n refusalsOfFresh ≡ true
+pub fresh-known : (numbers : List ℕ) (m : Machine) (n : ℕ) → fresh numbers m .reply .answer ≡ refused n
+    → isIn n refusalsOfFresh ≡ true
 unfolding refusalGiven
 fresh-known numbers m n e =
     subst (λ (ns : List ℕ). isIn n ns ≡ true) (fresh-row numbers m)

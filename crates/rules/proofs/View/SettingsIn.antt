@@ -108,7 +108,8 @@ module _ (fileOf : ℕ → ℕ) (v : Values) (y : Txn) (files : (d : ℕ) → d 
       let w = getD (y .writes) k noWrite in
       let i = ranges .writes k l in
       write-end (landsAt (v (offset (w .descriptor))) (w .place)) (length (w .bytes))
-      (lands-in (v (offset (w .descriptor))) (y .standing (w .descriptor)) (w .place) (length (w .bytes)) (fits-at v y fit (w .descriptor) (i .descriptor)) (i .place)))
+      (lands-in (v (offset (w .descriptor))) (y .standing (w .descriptor)) (w .place) (length (w .bytes))
+      (fits-at v y fit (w .descriptor) (i .descriptor)) (i .place)))
 
   lengths-in : (n : ℕ) → n ≤ 8 → AllIn (lengthSettings fileOf v (y .writes) n)
   unfolding lengthSettings

@@ -82,7 +82,8 @@ old-part c =
     let w = landing-of c .landing-at .result in
     c .part .ensures
     ∙ ap (λ (l : List ℕ). cut l (w .place) (w .length)) (c .before .before .file-part .ensures)
-    ∙ cut-cut (loop-of (landing-of c) .loop .files) (4096 * w .file) 4096 (w .place) (w .length) (landing-of c .landing-at .ensures .inside)
+    ∙ cut-cut (loop-of (landing-of c) .loop .files) (4096 * w .file) 4096 (w .place) (w .length)
+    (landing-of c .landing-at .ensures .inside)
 
 copy-to-requires : tie.Need-copy-to-requires Inv-loop μ-loop
 copy-to-requires c κs =

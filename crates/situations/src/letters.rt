@@ -3,7 +3,6 @@
 // and k a first commit fills file 0 with zeros.
 use crate::script::Buffer;
 use crate::script::Undo;
-use crate::script::names;
 use crate::script::run;
 use crate::script::sighted_alone;
 use crate::script::stands;
@@ -21,10 +20,10 @@ pub fn a(
     undo: &mut Undo,
 ) -> bool {
     let calls = b"W0 0 AB\nW1 0 CD\nC1\nC0\n";
-    let replies = b"ok\nok\nok 0\nok 0\n";
+    let replies = b"ok\nok\nok 0 0\nok 0 0\n";
     let begun = start(kept, files, logs, marks, undo);
     let ran = run(kept, files, logs, marks, undo, calls, replies);
-    begun & ran & names(0, 0) & stands(kept, files, b"CDAB", 4)
+    begun & ran & stands(kept, files, b"CDAB", 4)
 }
 
 // T0 GetFilePointer on 0: 0. T1 writes A on 0, commits: 1. Commit T0: 13.
@@ -36,10 +35,10 @@ pub fn b(
     undo: &mut Undo,
 ) -> bool {
     let calls = b"P0 0\nW1 0 A\nC1\nC0\n";
-    let replies = b"ok 0\nok\nok 1\n13\n";
+    let replies = b"ok 0\nok\nok 1 1\n13\n";
     let begun = start(kept, files, logs, marks, undo);
     let ran = run(kept, files, logs, marks, undo, calls, replies);
-    begun & ran & names(1, 1) & stands(kept, files, b"A\0", 1)
+    begun & ran & stands(kept, files, b"A\0", 1)
 }
 
 // T0 on 0: Seek 0, write AB, Seek 0, read 2: AB. T1 on 8: Seek 0, write XY, commit: 0. T0 commits; file begins AB.
@@ -51,12 +50,12 @@ pub fn c(
     undo: &mut Undo,
 ) -> bool {
     let calls = b"S0 0 0\nW0 0 AB\nS0 0 0\nR0 0 2\nS1 8 0\nW1 8 XY\nC1\n";
-    let replies = b"ok\nok\nok\nok 4142\nok\nok\nok 0\n";
+    let replies = b"ok\nok\nok\nok 4142\nok\nok\nok 0 0\n";
     let begun = start(kept, files, logs, marks, undo);
     let ran = run(kept, files, logs, marks, undo, calls, replies);
     let set = stands(kept, files, b"XY", 0);
-    let passed = run(kept, files, logs, marks, undo, b"C0\n", b"ok 0\n");
-    begun & ran & set & passed & names(0, 0) & stands(kept, files, b"AB", 2)
+    let passed = run(kept, files, logs, marks, undo, b"C0\n", b"ok 0 0\n");
+    begun & ran & set & passed & stands(kept, files, b"AB", 2)
 }
 
 // As c, but T0 reads 3 and T1 writes Z at 2: T1 answers 1, T0 13.
@@ -68,10 +67,10 @@ fn shown(
     undo: &mut Undo,
 ) -> bool {
     let calls = b"S0 0 0\nW0 0 AB\nS0 0 0\nR0 0 3\nS1 8 2\nW1 8 Z\nC1\nC0\n";
-    let replies = b"ok\nok\nok\nok 414200\nok\nok\nok 1\n13\n";
+    let replies = b"ok\nok\nok\nok 414200\nok\nok\nok 1 1\n13\n";
     let begun = start_filled(kept, files, logs, marks, undo);
     let ran = run(kept, files, logs, marks, undo, calls, replies);
-    begun & ran & names(1, 1) & stands(kept, files, b"\0\0Z\0", FILE_END)
+    begun & ran & stands(kept, files, b"\0\0Z\0", FILE_END)
 }
 
 // With Z at 3: 0, and T0 passes.
@@ -83,10 +82,10 @@ fn not_shown(
     undo: &mut Undo,
 ) -> bool {
     let calls = b"S0 0 0\nW0 0 AB\nS0 0 0\nR0 0 3\nS1 8 3\nW1 8 Z\nC1\nC0\n";
-    let replies = b"ok\nok\nok\nok 414200\nok\nok\nok 0\nok 0\n";
+    let replies = b"ok\nok\nok\nok 414200\nok\nok\nok 0 0\nok 0 0\n";
     let begun = start_filled(kept, files, logs, marks, undo);
     let ran = run(kept, files, logs, marks, undo, calls, replies);
-    begun & ran & names(0, 0) & stands(kept, files, b"AB\0Z", 3)
+    begun & ran & stands(kept, files, b"AB\0Z", 3)
 }
 
 // As c, but T0 reads 3 and T1 writes Z at 2: T1 answers 1, T0 13. With Z at 3: 0, and T0 passes.
@@ -109,10 +108,10 @@ pub fn e(
     undo: &mut Undo,
 ) -> bool {
     let calls = b"S0 0 0\nR0 0 1\nS1 8 0\nW1 8 \0\nC1\nC0\n";
-    let replies = b"ok\nok 00\nok\nok\nok 1\n13\n";
+    let replies = b"ok\nok 00\nok\nok\nok 1 1\n13\n";
     let begun = start_filled(kept, files, logs, marks, undo);
     let ran = run(kept, files, logs, marks, undo, calls, replies);
-    begun & ran & names(1, 1) & stands(kept, files, b"\0\0", FILE_END)
+    begun & ran & stands(kept, files, b"\0\0", FILE_END)
 }
 
 // T0 on 0: write A, Seek 0, read 1: A. T1 on 0: Seek 5, commit: 1. T0 13.
@@ -124,10 +123,10 @@ pub fn f(
     undo: &mut Undo,
 ) -> bool {
     let calls = b"W0 0 A\nS0 0 0\nR0 0 1\nS1 0 5\nC1\nC0\n";
-    let replies = b"ok\nok\nok 41\nok\nok 1\n13\n";
+    let replies = b"ok\nok\nok 41\nok\nok 1 1\n13\n";
     let begun = start(kept, files, logs, marks, undo);
     let ran = run(kept, files, logs, marks, undo, calls, replies);
-    begun & ran & names(1, 1) & stands(kept, files, b"\0", 5)
+    begun & ran & stands(kept, files, b"\0", 5)
 }
 
 // T0 writes Q on 8; on 0 Seek 0, read 1: Q; one sighting, the offset of 8.
@@ -161,7 +160,7 @@ pub fn h(
         marks,
         undo,
         b"S0 0 4096\nC0\nW1 0 A\nC1\n",
-        b"ok\nok 0\nok\n12\n",
+        b"ok\nok 0 0\nok\n12\n",
     );
     let left = stands(kept, files, b"\0", FILE_END);
     let passed = run(
@@ -171,9 +170,9 @@ pub fn h(
         marks,
         undo,
         b"S2 0 0\nC2\nC1\n",
-        b"ok\nok 0\nok 0\n",
+        b"ok\nok 0 0\nok 0 0\n",
     );
-    begun & refused & left & passed & names(0, 0) & stands(kept, files, b"A\0", 1)
+    begun & refused & left & passed & stands(kept, files, b"A\0", 1)
 }
 
 // T0 on 0: write A, Seek 9, GetFilePointer 9. T1 on 0: Seek 4, commit: 0. T0 commits: A at 4, offset 9.
@@ -185,10 +184,10 @@ pub fn i(
     undo: &mut Undo,
 ) -> bool {
     let calls = b"W0 0 A\nS0 0 9\nP0 0\nS1 0 4\nC1\nC0\n";
-    let replies = b"ok\nok\nok 9\nok\nok 0\nok 0\n";
+    let replies = b"ok\nok\nok 9\nok\nok 0 0\nok 0 0\n";
     let begun = start(kept, files, logs, marks, undo);
     let ran = run(kept, files, logs, marks, undo, calls, replies);
-    begun & ran & names(0, 0) & stands(kept, files, b"\0\0\0\0A\0", 9)
+    begun & ran & stands(kept, files, b"\0\0\0\0A\0", 9)
 }
 
 // T0 and T1 each GetFilePointer on 0. Both commits answer 0.
@@ -200,10 +199,10 @@ pub fn j(
     undo: &mut Undo,
 ) -> bool {
     let calls = b"P0 0\nP1 0\nC0\nC1\n";
-    let replies = b"ok 0\nok 0\nok 0\nok 0\n";
+    let replies = b"ok 0\nok 0\nok 0 0\nok 0 0\n";
     let begun = start(kept, files, logs, marks, undo);
     let ran = run(kept, files, logs, marks, undo, calls, replies);
-    begun & ran & names(0, 0) & stands(kept, files, b"\0", 0)
+    begun & ran & stands(kept, files, b"\0", 0)
 }
 
 // Seek 4,096 passes, 4,097 is 8. At 4,096 a write of 1 is 9, of 0 passes. From 4,095 a read of 2 gives 1.

@@ -7,6 +7,7 @@ use octets::parts;
 use record::layout::Record;
 use record::layout::offset_at;
 use record::layout::standing_at;
+use record::outcomes::Outcome;
 use requests::Request;
 ghost use Prim.Native.Nat.{_≤_};
 ghost use lib.ListN.{length};
@@ -31,7 +32,40 @@ fn line_end(text: &[u8], from: usize) -> usize
     i
 }
 
-// The call of a line answers as the reply says, which has its line end.
+// The answer is plain.
+fn is_done(o: Outcome) -> bool {
+    if let Outcome::Done = o {
+        return true;
+    }
+    false
+}
+
+// Behind the n bytes of a granted commit's line: the number of those that its octet names, at most 8. Answers
+// how many bytes the line has then; of another outcome it stays as it is.
+fn with_number(out: &mut [u8], n: usize, o: Outcome) -> usize
+    requires { ⌜ n ≤ length (now out) ⌝ }
+    ensures { λ r. ⌜ r ≤ length (now (out .exit)) ⌝ }
+{
+    let Outcome::Granted(octet) = o else {
+        return n;
+    };
+    let number = store::made_stale(octet);
+    if n == 0 {
+        return 0;
+    }
+    if out.len() < n + 2 {
+        return 0;
+    }
+    if 8 < number {
+        return 0;
+    }
+    let end = [b' ', b'0' + number as u8, b'\n'];
+    parts::copy_to(out, n - 1, &end);
+    n + 2
+}
+
+// The call of a line answers as the reply says, which has its line end. Where a commit is granted, the reply
+// has the octet and beside it the number of those that it names.
 fn answers(
     kept: &mut Record,
     files: &mut Buffer,
@@ -58,6 +92,7 @@ fn answers(
         &mut reader,
     );
     let n = printing::print(&mut out, 0, o, &reader);
+    let n = with_number(&mut out, n, o);
     check::same(parts::part(&out, 0, n), reply)
 }
 
@@ -93,19 +128,20 @@ pub fn start(
     undo: &mut Undo,
 ) -> bool {
     let list = [0u8, 1, 2, 3, 4, 5, 6, 7, 0, 1, 2, 3, 4, 5, 6, 7];
-    store::fresh(kept, files, logs, marks, undo, &list);
-    run(
-        kept,
-        files,
-        logs,
-        marks,
-        undo,
-        b"B0\nB1\nB2\n",
-        b"ok\nok\nok\n",
-    )
+    let made = is_done(store::fresh(kept, files, logs, marks, undo, &list));
+    made
+        & run(
+            kept,
+            files,
+            logs,
+            marks,
+            undo,
+            b"B0\nB1\nB2\n",
+            b"ok\nok\nok\n",
+        )
 }
 
-// The same with "a first commit that fills the file with zeros": T7's, through descriptor 0.
+// A start with "a first commit that fills the file with zeros": T7's, through descriptor 0.
 pub fn start_filled(
     kept: &mut Record,
     files: &mut Buffer,
@@ -116,7 +152,7 @@ pub fn start_filled(
     let begun = start(kept, files, logs, marks, undo)
         & run(kept, files, logs, marks, undo, b"B7\n", b"ok\n");
     let write = Request::Write(7, 0);
-    requests::perform(
+    let written = is_done(requests::perform(
         kept,
         files,
         logs,
@@ -125,8 +161,8 @@ pub fn start_filled(
         write,
         &[0u8; FILE_BYTES],
         &mut [],
-    );
-    begun & run(kept, files, logs, marks, undo, b"C7\n", b"ok 0\n")
+    ));
+    begun & written & run(kept, files, logs, marks, undo, b"C7\n", b"ok 0 0\n")
 }
 
 // File 0 begins so, and the committed offset of descriptor 0 is n.
@@ -148,9 +184,4 @@ pub fn sighted_alone(kept: &Record, marks: &Buffer, d: usize) -> bool {
         i += 1;
     }
     ok
-}
-
-// That many are named by the octet of a commit.
-pub fn names(octet: u8, number: u32) -> bool {
-    store::made_stale(octet) == number
 }

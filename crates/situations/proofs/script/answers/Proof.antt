@@ -48,6 +48,12 @@ slice-aggregate-print-2 c = search needs
 print-requires : tie.Need-print-requires
 print-requires c κs = search needs
 
+slice-aggregate-with-number : tie.Need-slice-aggregate-with-number
+slice-aggregate-with-number c = search needs
+
+with-number-requires : tie.Need-with-number-requires
+with-number-requires c κs = search needs
+
 slice-aggregate-part : tie.Need-slice-aggregate-part
 slice-aggregate-part c = search needs
 
@@ -76,6 +82,8 @@ answers-spec =
     slice-aggregate-print
     slice-aggregate-print-2
     print-requires
+    slice-aggregate-with-number
+    with-number-requires
     slice-aggregate-part
     part-requires
     same-requires

@@ -17,7 +17,7 @@ use Rattle.rules.specs.Undo.{keepingFound, takenBack}
 use Rattle.rules.specs.Calls.{freshStore}
 use Rattle.rules.specs.Plain.{Plain, nothing, found, startPlain, plainReplies}
 use Rattle.rules.specs.Grants.{serialOf, rerun, sameReplies}
-use Rattle.rules.specs.Setup.{Seen, Exchange, _⇒_, commits, callsOf, Goes, sighted, beginning}
+use Rattle.rules.specs.Setup.{Seen, Exchange, _gets_, commits, callsOf, Goes, sighted, beginning}
 use Rattle.rules.specs.Setup.{sightingsOf, gives, proposes, begins, A, B, C, X, Y, Z, dot}
 
 -- 02, F-11: "start in, end out", at minute 1,439 as at every other; 22 "when a minute is above 1,439". T0's Commit stays open until it is
@@ -25,55 +25,55 @@ use Rattle.rules.specs.Setup.{sightingsOf, gives, proposes, begins, A, B
 unfoldable pub toldWindow : List Exchange
 toldWindow =
     begins
-    ++ setWindow 0 600 1439 ⇒ says plain
-    ∷ on 0 (seek 0 0) ⇒ says plain
-    ∷ on 0 (write 0 (A ∷ [])) ⇒ says plain
-    ∷ commit 0 1440 ⇒ says (refused 22)
-    ∷ commit 0 1439 ⇒ says (refused 21)
-    ∷ commit 0 599 ⇒ says (refused 21)
-    ∷ on 0 (write 0 (B ∷ [])) ⇒ says plain
-    ∷ commit 0 600 ⇒ says (granted 0)
-    ∷ begin 0 ⇒ says plain
-    ∷ on 0 (write 8 (C ∷ [])) ⇒ says plain
-    ∷ commit 0 1438 ⇒ says (granted 0)
-    ∷ commit 1 1440 ⇒ says (refused 22)
-    ∷ commit 1 1439 ⇒ says (granted 0)
-    ∷ commit 1 1440 ⇒ says (refused 4)
-    ∷ commit 8 1440 ⇒ says (refused 3)
+    ++ setWindow 0 600 1439 gets says plain
+    ∷ on 0 (seek 0 0) gets says plain
+    ∷ on 0 (write 0 (A ∷ [])) gets says plain
+    ∷ commit 0 1440 gets says (refused 22)
+    ∷ commit 0 1439 gets says (refused 21)
+    ∷ commit 0 599 gets says (refused 21)
+    ∷ on 0 (write 0 (B ∷ [])) gets says plain
+    ∷ commit 0 600 gets says (granted 0)
+    ∷ begin 0 gets says plain
+    ∷ on 0 (write 8 (C ∷ [])) gets says plain
+    ∷ commit 0 1438 gets says (granted 0)
+    ∷ commit 1 1440 gets says (refused 22)
+    ∷ commit 1 1439 gets says (granted 0)
+    ∷ commit 1 1440 gets says (refused 4)
+    ∷ commit 8 1440 gets says (refused 3)
     ∷ []
 
 -- "a start above the end runs over midnight": from 1,380 to 59, on both sides and at both ends.
 unfoldable pub toldMidnight : List Exchange
 toldMidnight =
     begins
-    ++ setWindow 0 1380 60 ⇒ says plain
-    ∷ on 0 (write 0 (A ∷ [])) ⇒ says plain
-    ∷ on 1 (write 8 (B ∷ [])) ⇒ says plain
-    ∷ on 2 (write 0 (C ∷ [])) ⇒ says plain
-    ∷ commit 0 60 ⇒ says (refused 21)
-    ∷ commit 0 1379 ⇒ says (refused 21)
-    ∷ commit 0 1380 ⇒ says (granted 0)
-    ∷ commit 1 1439 ⇒ says (granted 0)
-    ∷ commit 2 0 ⇒ says (granted 0)
-    ∷ begin 0 ⇒ says plain
-    ∷ on 0 (write 0 (X ∷ [])) ⇒ says plain
-    ∷ commit 0 59 ⇒ says (granted 0)
+    ++ setWindow 0 1380 60 gets says plain
+    ∷ on 0 (write 0 (A ∷ [])) gets says plain
+    ∷ on 1 (write 8 (B ∷ [])) gets says plain
+    ∷ on 2 (write 0 (C ∷ [])) gets says plain
+    ∷ commit 0 60 gets says (refused 21)
+    ∷ commit 0 1379 gets says (refused 21)
+    ∷ commit 0 1380 gets says (granted 0)
+    ∷ commit 1 1439 gets says (granted 0)
+    ∷ commit 2 0 gets says (granted 0)
+    ∷ begin 0 gets says plain
+    ∷ on 0 (write 0 (X ∷ [])) gets says plain
+    ∷ commit 0 59 gets says (granted 0)
     ∷ []
 
 -- "equal ones mean always open", and each file has its own window: T1 writes to file 1, which nobody closed.
 unfoldable pub toldAlways : List Exchange
 toldAlways =
     begins
-    ++ setWindow 0 720 720 ⇒ says plain
-    ∷ on 0 (write 0 (A ∷ [])) ⇒ says plain
-    ∷ on 1 (write 1 (B ∷ [])) ⇒ says plain
-    ∷ on 2 (write 8 (C ∷ [])) ⇒ says plain
-    ∷ commit 0 720 ⇒ says (granted 0)
-    ∷ setWindow 0 1 2 ⇒ says plain
-    ∷ commit 1 720 ⇒ says (granted 0)
-    ∷ commit 2 720 ⇒ says (refused 21)
-    ∷ setWindow 0 1439 1439 ⇒ says plain
-    ∷ commit 2 719 ⇒ says (granted 0)
+    ++ setWindow 0 720 720 gets says plain
+    ∷ on 0 (write 0 (A ∷ [])) gets says plain
+    ∷ on 1 (write 1 (B ∷ [])) gets says plain
+    ∷ on 2 (write 8 (C ∷ [])) gets says plain
+    ∷ commit 0 720 gets says (granted 0)
+    ∷ setWindow 0 1 2 gets says plain
+    ∷ commit 1 720 gets says (granted 0)
+    ∷ commit 2 720 gets says (refused 21)
+    ∷ setWindow 0 1439 1439 gets says plain
+    ∷ commit 2 719 gets says (granted 0)
     ∷ []
 
 -- 22 "after 4 in Commit", before 13: T0 is stale, is refused with 22, and is open and stale still: "A Commit refused with 21 or 22 keeps
@@ -81,66 +81,66 @@ toldAlways =
 unfoldable pub toldBadMinute : List Exchange
 toldBadMinute =
     begins
-    ++ on 0 (getFilePointer 0) ⇒ says (pointer 0)
-    ∷ on 0 (write 0 (A ∷ [])) ⇒ says plain
-    ∷ on 1 (seek 0 5) ⇒ says plain
-    ∷ commits 1 ⇒ says (granted 1)
-    ∷ setWindow 0 1 2 ⇒ says plain
-    ∷ commit 0 1440 ⇒ says (refused 22)
-    ∷ on 0 (getFilePointer 0) ⇒ says (refused 18)
-    ∷ commit 0 3 ⇒ says (refused 13)
-    ∷ commit 0 3 ⇒ says (refused 4)
+    ++ on 0 (getFilePointer 0) gets says (pointer 0)
+    ∷ on 0 (write 0 (A ∷ [])) gets says plain
+    ∷ on 1 (seek 0 5) gets says plain
+    ∷ commits 1 gets says (granted 1)
+    ∷ setWindow 0 1 2 gets says plain
+    ∷ commit 0 1440 gets says (refused 22)
+    ∷ on 0 (getFilePointer 0) gets says (refused 18)
+    ∷ commit 0 3 gets says (refused 13)
+    ∷ commit 0 3 gets says (refused 4)
     ∷ []
 
 -- 21 "before 12": T1's append goes past the file's end. It has no place yet and is looked at all the same.
 unfoldable pub toldClosedFirst : List Exchange
 toldClosedFirst =
     begins
-    ++ on 0 (seek 0 4096) ⇒ says plain
-    ∷ commits 0 ⇒ says (granted 0)
-    ∷ on 1 (write 0 (A ∷ [])) ⇒ says plain
-    ∷ setWindow 0 1 2 ⇒ says plain
-    ∷ commit 1 3 ⇒ says (refused 21)
-    ∷ commit 1 1 ⇒ says (refused 12)
-    ∷ commit 1 3 ⇒ says (refused 21)
+    ++ on 0 (seek 0 4096) gets says plain
+    ∷ commits 0 gets says (granted 0)
+    ∷ on 1 (write 0 (A ∷ [])) gets says plain
+    ∷ setWindow 0 1 2 gets says plain
+    ∷ commit 1 3 gets says (refused 21)
+    ∷ commit 1 1 gets says (refused 12)
+    ∷ commit 1 3 gets says (refused 21)
     ∷ []
 
 -- "21 when a byte would go to a closed file": a write of 0 bytes passes, and so does an offset set in a closed file.
 unfoldable pub toldNoByte : List Exchange
 toldNoByte =
     begins
-    ++ setWindow 0 1 2 ⇒ says plain
-    ∷ on 0 (seek 0 9) ⇒ says plain
-    ∷ on 0 (write 0 []) ⇒ says plain
-    ∷ commit 0 3 ⇒ says (granted 0)
+    ++ setWindow 0 1 2 gets says plain
+    ∷ on 0 (seek 0 9) gets says plain
+    ∷ on 0 (write 0 []) gets says plain
+    ∷ commit 0 3 gets says (granted 0)
     ∷ []
 
 -- Setting: 6 before 22, 22 for the start and for the end. A refused one sets nothing.
 unfoldable pub toldSetting : List Exchange
 toldSetting =
     begins
-    ++ setWindow 8 1440 1440 ⇒ says (refused 6)
-    ∷ setWindow 0 1440 2 ⇒ says (refused 22)
-    ∷ setWindow 0 1 1440 ⇒ says (refused 22)
-    ∷ on 0 (write 0 (A ∷ [])) ⇒ says plain
-    ∷ commit 0 3 ⇒ says (granted 0)
-    ∷ setWindow 7 1439 0 ⇒ says plain
-    ∷ on 1 (write 15 (A ∷ [])) ⇒ says plain
-    ∷ commit 1 0 ⇒ says (refused 21)
-    ∷ commit 1 1439 ⇒ says (granted 0)
+    ++ setWindow 8 1440 1440 gets says (refused 6)
+    ∷ setWindow 0 1440 2 gets says (refused 22)
+    ∷ setWindow 0 1 1440 gets says (refused 22)
+    ∷ on 0 (write 0 (A ∷ [])) gets says plain
+    ∷ commit 0 3 gets says (granted 0)
+    ∷ setWindow 7 1439 0 gets says plain
+    ∷ on 1 (write 15 (A ∷ [])) gets says plain
+    ∷ commit 1 0 gets says (refused 21)
+    ∷ commit 1 1439 gets says (granted 0)
     ∷ []
 
 -- A window set while T0 is open counts at its Commit, and makes nobody stale.
 unfoldable pub toldMeanwhile : List Exchange
 toldMeanwhile =
     begins
-    ++ on 0 (getFilePointer 0) ⇒ says (pointer 0)
-    ∷ on 0 (write 0 (A ∷ [])) ⇒ says plain
-    ∷ setWindow 0 600 700 ⇒ says plain
-    ∷ on 0 (getFilePointer 0) ⇒ says (pointer 1)
-    ∷ commit 0 5 ⇒ says (refused 21)
-    ∷ setWindow 0 0 0 ⇒ says plain
-    ∷ commit 0 5 ⇒ says (granted 0)
+    ++ on 0 (getFilePointer 0) gets says (pointer 0)
+    ∷ on 0 (write 0 (A ∷ [])) gets says plain
+    ∷ setWindow 0 600 700 gets says plain
+    ∷ on 0 (getFilePointer 0) gets says (pointer 1)
+    ∷ commit 0 5 gets says (refused 21)
+    ∷ setWindow 0 0 0 gets says plain
+    ∷ commit 0 5 gets says (granted 0)
     ∷ []
 
 -- "the serial order runs with Fresh's windows", and each grant at its minute: file 0 is closed at the start, is opened, and T0 is granted;
@@ -155,87 +155,87 @@ openedThen = setWindow 0 0 0 ∷ begin 0 ∷ on 0 (write 0 (A ∷ [])) ∷ commi
 -- offset and length.
 unfoldable pub toldTakenBack : List Exchange
 toldTakenBack =
-    takeBack ⇒ says (refused 24)
-    ∷ begin 0 ⇒ says plain
-    ∷ on 0 (seek 0 0) ⇒ says plain
-    ∷ on 0 (write 0 (A ∷ B ∷ [])) ⇒ says plain
-    ∷ on 0 (seek 0 1) ⇒ says plain
-    ∷ on 0 (write 0 (C ∷ [])) ⇒ says plain
-    ∷ takeBack ⇒ says (refused 23)
-    ∷ commits 0 ⇒ says (granted 0)
-    ∷ takeBack ⇒ says plain
-    ∷ takeBack ⇒ says (refused 24)
+    takeBack gets says (refused 24)
+    ∷ begin 0 gets says plain
+    ∷ on 0 (seek 0 0) gets says plain
+    ∷ on 0 (write 0 (A ∷ B ∷ [])) gets says plain
+    ∷ on 0 (seek 0 1) gets says plain
+    ∷ on 0 (write 0 (C ∷ [])) gets says plain
+    ∷ takeBack gets says (refused 23)
+    ∷ commits 0 gets says (granted 0)
+    ∷ takeBack gets says plain
+    ∷ takeBack gets says (refused 24)
     ∷ []
 
 -- The same before it is taken back.
 unfoldable pub toldOverwritten : List Exchange
 toldOverwritten =
-    begin 0 ⇒ says plain
-    ∷ on 0 (write 0 (A ∷ B ∷ [])) ⇒ says plain
-    ∷ on 0 (seek 0 1) ⇒ says plain
-    ∷ on 0 (write 0 (C ∷ [])) ⇒ says plain
-    ∷ commits 0 ⇒ says (granted 0)
+    begin 0 gets says plain
+    ∷ on 0 (write 0 (A ∷ B ∷ [])) gets says plain
+    ∷ on 0 (seek 0 1) gets says plain
+    ∷ on 0 (write 0 (C ∷ [])) gets says plain
+    ∷ commits 0 gets says (granted 0)
     ∷ []
 
 -- An append that was taken back, and another: after an Abort, and a Commit refused with 22 of one that is then aborted.
 unfoldable pub toldAppendedAgain : List Exchange
 toldAppendedAgain =
-    begin 0 ⇒ says plain
-    ∷ on 0 (write 0 (A ∷ [])) ⇒ says plain
-    ∷ commits 0 ⇒ says (granted 0)
-    ∷ begin 1 ⇒ says plain
-    ∷ on 1 (write 0 (B ∷ [])) ⇒ says plain
-    ∷ commit 1 1440 ⇒ says (refused 22)
-    ∷ abort 1 ⇒ says plain
-    ∷ takeBack ⇒ says plain
-    ∷ begin 0 ⇒ says plain
-    ∷ on 0 (write 0 (C ∷ [])) ⇒ says plain
-    ∷ commits 0 ⇒ says (granted 0)
+    begin 0 gets says plain
+    ∷ on 0 (write 0 (A ∷ [])) gets says plain
+    ∷ commits 0 gets says (granted 0)
+    ∷ begin 1 gets says plain
+    ∷ on 1 (write 0 (B ∷ [])) gets says plain
+    ∷ commit 1 1440 gets says (refused 22)
+    ∷ abort 1 gets says plain
+    ∷ takeBack gets says plain
+    ∷ begin 0 gets says plain
+    ∷ on 0 (write 0 (C ∷ [])) gets says plain
+    ∷ commits 0 gets says (granted 0)
     ∷ []
 
 -- "whatever the windows": the file is closed by then, and stays so.
 unfoldable pub toldClosedBack : List Exchange
 toldClosedBack =
-    begin 0 ⇒ says plain
-    ∷ on 0 (write 0 (A ∷ [])) ⇒ says plain
-    ∷ commits 0 ⇒ says (granted 0)
-    ∷ setWindow 0 1 2 ⇒ says plain
-    ∷ takeBack ⇒ says plain
-    ∷ begin 0 ⇒ says plain
-    ∷ on 0 (write 0 (B ∷ [])) ⇒ says plain
-    ∷ commits 0 ⇒ says (refused 21)
+    begin 0 gets says plain
+    ∷ on 0 (write 0 (A ∷ [])) gets says plain
+    ∷ commits 0 gets says (granted 0)
+    ∷ setWindow 0 1 2 gets says plain
+    ∷ takeBack gets says plain
+    ∷ begin 0 gets says plain
+    ∷ on 0 (write 0 (B ∷ [])) gets says plain
+    ∷ commits 0 gets says (refused 21)
     ∷ []
 
 -- A grant with nothing in it is a grant: it can be taken back, and the one before it no longer.
 unfoldable pub toldEmptyGrant : List Exchange
 toldEmptyGrant =
-    begin 0 ⇒ says plain
-    ∷ on 0 (write 0 (A ∷ [])) ⇒ says plain
-    ∷ commits 0 ⇒ says (granted 0)
-    ∷ begin 0 ⇒ says plain
-    ∷ commits 0 ⇒ says (granted 0)
-    ∷ takeBack ⇒ says plain
-    ∷ takeBack ⇒ says (refused 24)
+    begin 0 gets says plain
+    ∷ on 0 (write 0 (A ∷ [])) gets says plain
+    ∷ commits 0 gets says (granted 0)
+    ∷ begin 0 gets says plain
+    ∷ commits 0 gets says (granted 0)
+    ∷ takeBack gets says plain
+    ∷ takeBack gets says (refused 24)
     ∷ []
 
 -- Commits refused with 13, 12 and 21 leave what is held; 23 while one is open, stale or not. T0's grant set an offset; it goes back.
 unfoldable pub toldRefusedBetween : List Exchange
 toldRefusedBetween =
-    begin 0 ⇒ says plain
-    ∷ begin 1 ⇒ says plain
-    ∷ on 0 (seek 0 4096) ⇒ says plain
-    ∷ on 1 (getFilePointer 0) ⇒ says (pointer 0)
-    ∷ commits 0 ⇒ says (granted 2)
-    ∷ takeBack ⇒ says (refused 23)
-    ∷ commits 1 ⇒ says (refused 13)
-    ∷ begin 1 ⇒ says plain
-    ∷ on 1 (write 0 (A ∷ [])) ⇒ says plain
-    ∷ commits 1 ⇒ says (refused 12)
-    ∷ setWindow 0 1 2 ⇒ says plain
-    ∷ commits 1 ⇒ says (refused 21)
-    ∷ takeBack ⇒ says (refused 23)
-    ∷ abort 1 ⇒ says plain
-    ∷ takeBack ⇒ says plain
+    begin 0 gets says plain
+    ∷ begin 1 gets says plain
+    ∷ on 0 (seek 0 4096) gets says plain
+    ∷ on 1 (getFilePointer 0) gets says (pointer 0)
+    ∷ commits 0 gets says (granted 2)
+    ∷ takeBack gets says (refused 23)
+    ∷ commits 1 gets says (refused 13)
+    ∷ begin 1 gets says plain
+    ∷ on 1 (write 0 (A ∷ [])) gets says plain
+    ∷ commits 1 gets says (refused 12)
+    ∷ setWindow 0 1 2 gets says plain
+    ∷ commits 1 gets says (refused 21)
+    ∷ takeBack gets says (refused 23)
+    ∷ abort 1 gets says plain
+    ∷ takeBack gets says plain
     ∷ []
 
 -- "serial order is then over the grants not taken back": a machine that starts with 7s to go back to, and a list that takes back more
@@ -250,48 +250,48 @@ backTwice = takeBack ∷ begin 0 ∷ commit 0 0 ∷ begin 1 ∷ on 1 (seek 0 1) 
 unfoldable pub toldOneOfThree : List Exchange
 toldOneOfThree =
     begins
-    ++ setWindow 0 1 2 ⇒ says plain
-    ∷ on 0 (write 1 (A ∷ [])) ⇒ says plain
-    ∷ on 0 (write 8 (B ∷ [])) ⇒ says plain
-    ∷ on 0 (write 1 (C ∷ [])) ⇒ says plain
-    ∷ on 1 (write 0 (A ∷ [])) ⇒ says plain
-    ∷ on 1 (write 1 (B ∷ [])) ⇒ says plain
-    ∷ on 2 (write 1 (A ∷ [])) ⇒ says plain
-    ∷ on 2 (write 0 (B ∷ [])) ⇒ says plain
-    ∷ commit 0 0 ⇒ says (refused 21)
-    ∷ commit 1 0 ⇒ says (refused 21)
-    ∷ commit 2 0 ⇒ says (refused 21)
+    ++ setWindow 0 1 2 gets says plain
+    ∷ on 0 (write 1 (A ∷ [])) gets says plain
+    ∷ on 0 (write 8 (B ∷ [])) gets says plain
+    ∷ on 0 (write 1 (C ∷ [])) gets says plain
+    ∷ on 1 (write 0 (A ∷ [])) gets says plain
+    ∷ on 1 (write 1 (B ∷ [])) gets says plain
+    ∷ on 2 (write 1 (A ∷ [])) gets says plain
+    ∷ on 2 (write 0 (B ∷ [])) gets says plain
+    ∷ commit 0 0 gets says (refused 21)
+    ∷ commit 1 0 gets says (refused 21)
+    ∷ commit 2 0 gets says (refused 21)
     ∷ []
 
 -- 23 whichever is open: 7, the last of them; and 23 comes before 24.
 unfoldable pub toldSevenOpen : List Exchange
 toldSevenOpen =
-    begin 7 ⇒ says plain
-    ∷ takeBack ⇒ says (refused 23)
-    ∷ commits 7 ⇒ says (granted 0)
-    ∷ begin 7 ⇒ says plain
-    ∷ takeBack ⇒ says (refused 23)
-    ∷ abort 7 ⇒ says plain
-    ∷ takeBack ⇒ says plain
+    begin 7 gets says plain
+    ∷ takeBack gets says (refused 23)
+    ∷ commits 7 gets says (granted 0)
+    ∷ begin 7 gets says plain
+    ∷ takeBack gets says (refused 23)
+    ∷ abort 7 gets says plain
+    ∷ takeBack gets says plain
     ∷ []
 
 -- "The plain machine keeps the files, offsets, lengths, setters and count of grants that the last grant found until it goes back to them":
 -- the second grant is taken back, so that the offset is again set by the first, and the next grant is again the second.
 unfoldable pub toldSettersBack : List Exchange
 toldSettersBack =
-    begin 0 ⇒ says plain
-    ∷ on 0 (write 0 (A ∷ [])) ⇒ says plain
-    ∷ commits 0 ⇒ says (granted 0)
-    ∷ begin 0 ⇒ says plain
-    ∷ on 0 (write 0 (B ∷ [])) ⇒ says plain
-    ∷ commits 0 ⇒ says (granted 0)
-    ∷ takeBack ⇒ says plain
-    ∷ begin 1 ⇒ says plain
-    ∷ on 1 (getFilePointer 0) ⇒ says (pointer 1)
-    ∷ begin 0 ⇒ says plain
-    ∷ on 0 (seek 1 3) ⇒ says plain
-    ∷ commits 0 ⇒ says (granted 0)
-    ∷ on 1 (getFilePointer 1) ⇒ says (pointer 3)
+    begin 0 gets says plain
+    ∷ on 0 (write 0 (A ∷ [])) gets says plain
+    ∷ commits 0 gets says (granted 0)
+    ∷ begin 0 gets says plain
+    ∷ on 0 (write 0 (B ∷ [])) gets says plain
+    ∷ commits 0 gets says (granted 0)
+    ∷ takeBack gets says plain
+    ∷ begin 1 gets says plain
+    ∷ on 1 (getFilePointer 0) gets says (pointer 1)
+    ∷ begin 0 gets says plain
+    ∷ on 0 (seek 1 3) gets says plain
+    ∷ commits 0 gets says (granted 0)
+    ∷ on 1 (getFilePointer 1) gets says (pointer 3)
     ∷ []
 
 -- A store, forged, of three bytes, and what a grant of two writes keeps of it: AB at place 0, and C, which lies after the offset 1 of
@@ -323,17 +323,17 @@ keptBack = takenBack (withFiles (A ∷ C ∷ Z ∷ []) (withStore (withOffsets [
 unfoldable pub toldBestOrder : List Exchange
 toldBestOrder =
     begins
-    ++ on 0 (getFilePointer 0) ⇒ says (pointer 0)
-    ∷ on 1 (seek 0 3) ⇒ says plain
-    ∷ bestOrder (1 ∷ 0 ∷ 2 ∷ []) 0 1 ⇒ proposes 2 1 1 (1 ∷ 0 ∷ 2 ∷ [])
-    ∷ bestOrder (1 ∷ 0 ∷ 2 ∷ []) 0 2 ⇒ proposes 2 1 2 (1 ∷ 0 ∷ 2 ∷ [])
-    ∷ bestOrder (1 ∷ 0 ∷ 2 ∷ []) 0 3 ⇒ proposes 3 0 3 (0 ∷ 1 ∷ 2 ∷ [])
-    ∷ bestOrder (1 ∷ 0 ∷ 2 ∷ []) 0 40320 ⇒ proposes 3 0 6 (0 ∷ 1 ∷ 2 ∷ [])
-    ∷ bestOrder (1 ∷ 0 ∷ []) 0 2 ⇒ proposes 2 0 2 (0 ∷ 1 ∷ [])
-    ∷ bestOrder (0 ∷ []) 1439 1 ⇒ proposes 1 0 1 (0 ∷ [])
-    ∷ commits 2 ⇒ says (granted 0)
-    ∷ commits 1 ⇒ says (granted 1)
-    ∷ commits 0 ⇒ says (refused 13)
+    ++ on 0 (getFilePointer 0) gets says (pointer 0)
+    ∷ on 1 (seek 0 3) gets says plain
+    ∷ bestOrder (1 ∷ 0 ∷ 2 ∷ []) 0 1 gets proposes 2 1 1 (1 ∷ 0 ∷ 2 ∷ [])
+    ∷ bestOrder (1 ∷ 0 ∷ 2 ∷ []) 0 2 gets proposes 2 1 2 (1 ∷ 0 ∷ 2 ∷ [])
+    ∷ bestOrder (1 ∷ 0 ∷ 2 ∷ []) 0 3 gets proposes 3 0 3 (0 ∷ 1 ∷ 2 ∷ [])
+    ∷ bestOrder (1 ∷ 0 ∷ 2 ∷ []) 0 40320 gets proposes 3 0 6 (0 ∷ 1 ∷ 2 ∷ [])
+    ∷ bestOrder (1 ∷ 0 ∷ []) 0 2 gets proposes 2 0 2 (0 ∷ 1 ∷ [])
+    ∷ bestOrder (0 ∷ []) 1439 1 gets proposes 1 0 1 (0 ∷ [])
+    ∷ commits 2 gets says (granted 0)
+    ∷ commits 1 gets says (granted 1)
+    ∷ commits 0 gets says (refused 13)
     ∷ []
 
 -- "26 when the list is empty, over 8 or has a repeat, before 3"; 3 for any before 4 for any; "25 .. after 4 and 22"; "27 .. last". T0 is
@@ -341,27 +341,27 @@ toldBestOrder =
 unfoldable pub toldOrderRefused : List Exchange
 toldOrderRefused =
     begins
-    ++ on 0 (getFilePointer 0) ⇒ says (pointer 0)
-    ∷ on 2 (seek 0 3) ⇒ says plain
-    ∷ commits 2 ⇒ says (granted 1)
-    ∷ begin 2 ⇒ says plain
-    ∷ on 1 (write 1 []) ⇒ says plain
-    ∷ bestOrder [] 1440 0 ⇒ says (refused 26)
-    ∷ bestOrder (8 ∷ 8 ∷ []) 1440 0 ⇒ says (refused 26)
-    ∷ bestOrder (0 ∷ 1 ∷ 2 ∷ 3 ∷ 4 ∷ 5 ∷ 6 ∷ 7 ∷ 8 ∷ []) 1440 0 ⇒ says (refused 26)
-    ∷ bestOrder (3 ∷ 8 ∷ []) 1440 0 ⇒ says (refused 3)
-    ∷ bestOrder (0 ∷ 3 ∷ []) 1440 0 ⇒ says (refused 4)
-    ∷ bestOrder (2 ∷ 0 ∷ []) 1440 0 ⇒ says (refused 22)
-    ∷ bestOrder (2 ∷ 0 ∷ []) 0 0 ⇒ says (refused 25)
-    ∷ bestOrder (2 ∷ 1 ∷ []) 0 0 ⇒ says (refused 25)
-    ∷ bestOrder (2 ∷ []) 0 0 ⇒ says (refused 27)
-    ∷ bestOrder (2 ∷ []) 0 40321 ⇒ says (refused 27)
-    ∷ bestOrder (2 ∷ []) 0 40320 ⇒ proposes 1 0 1 (2 ∷ [])
-    ∷ on 1 (getFilePointer 1) ⇒ says (pointer 0)
-    ∷ bestOrder (2 ∷ 1 ∷ []) 0 1 ⇒ proposes 2 0 1 (2 ∷ 1 ∷ [])
-    ∷ bestOrder (7 ∷ []) 0 1 ⇒ says (refused 4)
-    ∷ begin 7 ⇒ says plain
-    ∷ bestOrder (7 ∷ []) 0 1 ⇒ proposes 1 0 1 (7 ∷ [])
+    ++ on 0 (getFilePointer 0) gets says (pointer 0)
+    ∷ on 2 (seek 0 3) gets says plain
+    ∷ commits 2 gets says (granted 1)
+    ∷ begin 2 gets says plain
+    ∷ on 1 (write 1 []) gets says plain
+    ∷ bestOrder [] 1440 0 gets says (refused 26)
+    ∷ bestOrder (8 ∷ 8 ∷ []) 1440 0 gets says (refused 26)
+    ∷ bestOrder (0 ∷ 1 ∷ 2 ∷ 3 ∷ 4 ∷ 5 ∷ 6 ∷ 7 ∷ 8 ∷ []) 1440 0 gets says (refused 26)
+    ∷ bestOrder (3 ∷ 8 ∷ []) 1440 0 gets says (refused 3)
+    ∷ bestOrder (0 ∷ 3 ∷ []) 1440 0 gets says (refused 4)
+    ∷ bestOrder (2 ∷ 0 ∷ []) 1440 0 gets says (refused 22)
+    ∷ bestOrder (2 ∷ 0 ∷ []) 0 0 gets says (refused 25)
+    ∷ bestOrder (2 ∷ 1 ∷ []) 0 0 gets says (refused 25)
+    ∷ bestOrder (2 ∷ []) 0 0 gets says (refused 27)
+    ∷ bestOrder (2 ∷ []) 0 40321 gets says (refused 27)
+    ∷ bestOrder (2 ∷ []) 0 40320 gets proposes 1 0 1 (2 ∷ [])
+    ∷ on 1 (getFilePointer 1) gets says (pointer 0)
+    ∷ bestOrder (2 ∷ 1 ∷ []) 0 1 gets proposes 2 0 1 (2 ∷ 1 ∷ [])
+    ∷ bestOrder (7 ∷ []) 0 1 gets says (refused 4)
+    ∷ begin 7 gets says plain
+    ∷ bestOrder (7 ∷ []) 0 1 gets proposes 1 0 1 (7 ∷ [])
     ∷ []
 
 -- "the count of those transactions that have no byte for a file closed at the minute, less the grants": T1 has one at minute 0, is tried
@@ -369,15 +369,15 @@ toldOrderRefused =
 unfoldable pub toldOrderClosed : List Exchange
 toldOrderClosed =
     begins
-    ++ setWindow 1 1 2 ⇒ says plain
-    ∷ on 0 (getFilePointer 0) ⇒ says (pointer 0)
-    ∷ on 1 (seek 0 3) ⇒ says plain
-    ∷ on 1 (seek 9 0) ⇒ says plain
-    ∷ on 1 (write 9 (A ∷ [])) ⇒ says plain
-    ∷ on 2 (seek 0 4) ⇒ says plain
-    ∷ bestOrder (1 ∷ 0 ∷ []) 0 1 ⇒ proposes 1 0 1 (1 ∷ 0 ∷ [])
-    ∷ bestOrder (1 ∷ 0 ∷ []) 1 1 ⇒ proposes 1 1 1 (1 ∷ 0 ∷ [])
-    ∷ bestOrder (1 ∷ 0 ∷ []) 1 2 ⇒ proposes 2 0 2 (0 ∷ 1 ∷ [])
+    ++ setWindow 1 1 2 gets says plain
+    ∷ on 0 (getFilePointer 0) gets says (pointer 0)
+    ∷ on 1 (seek 0 3) gets says plain
+    ∷ on 1 (seek 9 0) gets says plain
+    ∷ on 1 (write 9 (A ∷ [])) gets says plain
+    ∷ on 2 (seek 0 4) gets says plain
+    ∷ bestOrder (1 ∷ 0 ∷ []) 0 1 gets proposes 1 0 1 (1 ∷ 0 ∷ [])
+    ∷ bestOrder (1 ∷ 0 ∷ []) 1 1 gets proposes 1 1 1 (1 ∷ 0 ∷ [])
+    ∷ bestOrder (1 ∷ 0 ∷ []) 1 2 gets proposes 2 0 2 (0 ∷ 1 ∷ [])
     ∷ []
 
 -- T0 and T1 turn each other stale. A budget of 1 tries the given order alone and leaves a gap; two are all. T2 is open, has a write without
@@ -385,14 +385,14 @@ toldOrderClosed =
 unfoldable pub toldEachOther : List Exchange
 toldEachOther =
     begins
-    ++ on 0 (getFilePointer 0) ⇒ says (pointer 0)
-    ∷ on 0 (seek 0 1) ⇒ says plain
-    ∷ on 1 (getFilePointer 0) ⇒ says (pointer 0)
-    ∷ on 1 (seek 0 2) ⇒ says plain
-    ∷ on 2 (write 0 (A ∷ [])) ⇒ says plain
-    ∷ bestOrder (1 ∷ 0 ∷ []) 0 1 ⇒ proposes 1 1 1 (1 ∷ 0 ∷ [])
-    ∷ bestOrder (1 ∷ 0 ∷ []) 0 2 ⇒ proposes 1 0 2 (1 ∷ 0 ∷ [])
-    ∷ commits 0 ⇒ says (granted 2)
+    ++ on 0 (getFilePointer 0) gets says (pointer 0)
+    ∷ on 0 (seek 0 1) gets says plain
+    ∷ on 1 (getFilePointer 0) gets says (pointer 0)
+    ∷ on 1 (seek 0 2) gets says plain
+    ∷ on 2 (write 0 (A ∷ [])) gets says plain
+    ∷ bestOrder (1 ∷ 0 ∷ []) 0 1 gets proposes 1 1 1 (1 ∷ 0 ∷ [])
+    ∷ bestOrder (1 ∷ 0 ∷ []) 0 2 gets proposes 1 0 2 (1 ∷ 0 ∷ [])
+    ∷ commits 0 gets says (granted 2)
     ∷ []
 
 -- A chain: T1 has sighted what T0 sets, T2 what T1 sets. Only the last of the six orders, the given one from its end, has all granted; one
@@ -400,32 +400,32 @@ toldEachOther =
 unfoldable pub toldChain : List Exchange
 toldChain =
     begins
-    ++ on 0 (seek 0 1) ⇒ says plain
-    ∷ on 1 (getFilePointer 0) ⇒ says (pointer 0)
-    ∷ on 1 (seek 1 1) ⇒ says plain
-    ∷ on 2 (getFilePointer 1) ⇒ says (pointer 0)
-    ∷ bestOrder (0 ∷ 1 ∷ 2 ∷ []) 0 5 ⇒ proposes 2 1 5 (0 ∷ 1 ∷ 2 ∷ [])
-    ∷ bestOrder (0 ∷ 1 ∷ 2 ∷ []) 0 6 ⇒ proposes 3 0 6 (2 ∷ 1 ∷ 0 ∷ [])
-    ∷ commits 2 ⇒ says (granted 0)
-    ∷ commits 1 ⇒ says (granted 0)
-    ∷ commits 0 ⇒ says (granted 0)
+    ++ on 0 (seek 0 1) gets says plain
+    ∷ on 1 (getFilePointer 0) gets says (pointer 0)
+    ∷ on 1 (seek 1 1) gets says plain
+    ∷ on 2 (getFilePointer 1) gets says (pointer 0)
+    ∷ bestOrder (0 ∷ 1 ∷ 2 ∷ []) 0 5 gets proposes 2 1 5 (0 ∷ 1 ∷ 2 ∷ [])
+    ∷ bestOrder (0 ∷ 1 ∷ 2 ∷ []) 0 6 gets proposes 3 0 6 (2 ∷ 1 ∷ 0 ∷ [])
+    ∷ commits 2 gets says (granted 0)
+    ∷ commits 1 gets says (granted 0)
+    ∷ commits 0 gets says (granted 0)
     ∷ []
 
 -- T0 has sighted the length of file 0, which T1 and T2 would both raise; after T1's grant T2 no longer does, but T0 is stale by then.
 unfoldable pub toldRaisedByTwo : List Exchange
 toldRaisedByTwo =
     begins
-    ++ on 0 (seek 0 0) ⇒ says plain
-    ∷ on 0 (read 0 1 (dot ∷ [])) ⇒ gives 0 (dot ∷ [])
-    ∷ on 1 (seek 8 3) ⇒ says plain
-    ∷ on 1 (write 8 (A ∷ [])) ⇒ says plain
-    ∷ on 2 (seek 8 2) ⇒ says plain
-    ∷ on 2 (write 8 (B ∷ [])) ⇒ says plain
-    ∷ bestOrder (1 ∷ 2 ∷ 0 ∷ []) 0 4 ⇒ proposes 2 1 4 (1 ∷ 2 ∷ 0 ∷ [])
-    ∷ bestOrder (1 ∷ 2 ∷ 0 ∷ []) 0 6 ⇒ proposes 3 0 6 (0 ∷ 1 ∷ 2 ∷ [])
-    ∷ commits 1 ⇒ says (granted 1)
-    ∷ commits 2 ⇒ says (granted 0)
-    ∷ commits 0 ⇒ says (refused 13)
+    ++ on 0 (seek 0 0) gets says plain
+    ∷ on 0 (read 0 1 (dot ∷ [])) gets gives 0 (dot ∷ [])
+    ∷ on 1 (seek 8 3) gets says plain
+    ∷ on 1 (write 8 (A ∷ [])) gets says plain
+    ∷ on 2 (seek 8 2) gets says plain
+    ∷ on 2 (write 8 (B ∷ [])) gets says plain
+    ∷ bestOrder (1 ∷ 2 ∷ 0 ∷ []) 0 4 gets proposes 2 1 4 (1 ∷ 2 ∷ 0 ∷ [])
+    ∷ bestOrder (1 ∷ 2 ∷ 0 ∷ []) 0 6 gets proposes 3 0 6 (0 ∷ 1 ∷ 2 ∷ [])
+    ∷ commits 1 gets says (granted 1)
+    ∷ commits 2 gets says (granted 0)
+    ∷ commits 0 gets says (refused 13)
     ∷ []
 
 -- What they come to, together.

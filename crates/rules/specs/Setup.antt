@@ -37,9 +37,9 @@ pub record Exchange : Type 0 where
   pub call : Call
   pub reply : Reply
 
-infix 90 _⇒_
-abbrev pub _⇒_ : Call → Reply → Exchange
-c ⇒ r = record { call = c; reply = r }
+infix 90 _gets_
+abbrev pub _gets_ : Call → Reply → Exchange
+c gets r = record { call = c; reply = r }
 
 unfoldable pub callsOf : List Exchange → List Call
 callsOf = map (λ e. e .call)
@@ -64,7 +64,7 @@ formerNumbers (e ∷ es) = formerIn (e .reply .answer) ++ formerNumbers es
 
 -- "T0 to T2 are begun."
 unfoldable pub begins : List Exchange
-begins = begin 0 ⇒ says plain ∷ begin 1 ⇒ says plain ∷ begin 2 ⇒ says plain ∷ []
+begins = begin 0 gets says plain ∷ begin 1 gets says plain ∷ begin 2 gets says plain ∷ []
 
 -- Commit of t at minute 0: Fresh's windows are open at every minute, so where none is set it tells nothing.
 abbrev pub commits : ℕ → Call

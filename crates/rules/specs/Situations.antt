@@ -6,49 +6,49 @@ use Prim.Native.Nat.{ℕ}
 use Rattle.record.specs.Paper.{plain, pointer, granted, refused}
 use Rattle.rules.specs.Items.{offset}
 use Rattle.rules.specs.Messages.{seek, write, getFilePointer, read, begin, on, Reply, says}
-use Rattle.rules.specs.Setup.{Seen, Exchange, _⇒_, commits, callsOf, Goes, formerNumbers, sighted, beginning, sightingsOf, gives}
+use Rattle.rules.specs.Setup.{Seen, Exchange, _gets_, commits, callsOf, Goes, formerNumbers, sighted, beginning, sightingsOf, gives}
 use Rattle.rules.specs.Setup.{begins, A, B, C, D, Q, X, Y, Z, dot}
 
 -- 02, F-8: "Situations d, e and k get a first commit that fills the file with zeros": T7's, through descriptor 0.
 unfoldable pub filled : List Exchange
 filled =
-    begin 7 ⇒ says plain
-    ∷ on 7 (write 0 (replicate 4096 0)) ⇒ says plain
-    ∷ commits 7 ⇒ says (granted 0)
+    begin 7 gets says plain
+    ∷ on 7 (write 0 (replicate 4096 0)) gets says plain
+    ∷ commits 7 gets says (granted 0)
     ∷ []
 
 -- a "T0 writes AB, T1 writes CD, both on 0. Commit T1, T0: both answer 0. File 0 begins CDAB, offset 4."
 unfoldable pub toldA : List Exchange
 toldA =
     begins
-    ++ on 0 (write 0 (A ∷ B ∷ [])) ⇒ says plain
-    ∷ on 1 (write 0 (C ∷ D ∷ [])) ⇒ says plain
-    ∷ commits 1 ⇒ says (granted 0)
-    ∷ commits 0 ⇒ says (granted 0)
+    ++ on 0 (write 0 (A ∷ B ∷ [])) gets says plain
+    ∷ on 1 (write 0 (C ∷ D ∷ [])) gets says plain
+    ∷ commits 1 gets says (granted 0)
+    ∷ commits 0 gets says (granted 0)
     ∷ []
 
 -- b "T0 GetFilePointer on 0: 0. T1 writes A on 0, commits: 1. Commit T0: 13."
 unfoldable pub toldB : List Exchange
 toldB =
     begins
-    ++ on 0 (getFilePointer 0) ⇒ says (pointer 0)
-    ∷ on 1 (write 0 (A ∷ [])) ⇒ says plain
-    ∷ commits 1 ⇒ says (granted 1)
-    ∷ commits 0 ⇒ says (refused 13)
+    ++ on 0 (getFilePointer 0) gets says (pointer 0)
+    ∷ on 1 (write 0 (A ∷ [])) gets says plain
+    ∷ commits 1 gets says (granted 1)
+    ∷ commits 0 gets says (refused 13)
     ∷ []
 
 -- c "T0 on 0: Seek 0, write AB, Seek 0, read 2: AB. T1 on 8: Seek 0, write XY, commit: 0. T0 commits; file begins AB."
 unfoldable pub toldC : List Exchange
 toldC =
     begins
-    ++ on 0 (seek 0 0) ⇒ says plain
-    ∷ on 0 (write 0 (A ∷ B ∷ [])) ⇒ says plain
-    ∷ on 0 (seek 0 0) ⇒ says plain
-    ∷ on 0 (read 0 2 (dot ∷ dot ∷ dot ∷ [])) ⇒ gives 2 (A ∷ B ∷ dot ∷ [])
-    ∷ on 1 (seek 8 0) ⇒ says plain
-    ∷ on 1 (write 8 (X ∷ Y ∷ [])) ⇒ says plain
-    ∷ commits 1 ⇒ says (granted 0)
-    ∷ commits 0 ⇒ says (granted 0)
+    ++ on 0 (seek 0 0) gets says plain
+    ∷ on 0 (write 0 (A ∷ B ∷ [])) gets says plain
+    ∷ on 0 (seek 0 0) gets says plain
+    ∷ on 0 (read 0 2 (dot ∷ dot ∷ dot ∷ [])) gets gives 2 (A ∷ B ∷ dot ∷ [])
+    ∷ on 1 (seek 8 0) gets says plain
+    ∷ on 1 (write 8 (X ∷ Y ∷ [])) gets says plain
+    ∷ commits 1 gets says (granted 0)
+    ∷ commits 0 gets says (granted 0)
     ∷ []
 
 -- d "As c, but T0 reads 3 and T1 writes Z at 2: T1 answers 1, T0 13. With Z at 3: 0, and T0 passes." The place of Z is p.
@@ -56,14 +56,14 @@ unfoldable pub toldD : ℕ → Reply → Reply → List Exchange
 toldD p ofT1 ofT0 =
     filled
     ++ begins
-    ++ on 0 (seek 0 0) ⇒ says plain
-    ∷ on 0 (write 0 (A ∷ B ∷ [])) ⇒ says plain
-    ∷ on 0 (seek 0 0) ⇒ says plain
-    ∷ on 0 (read 0 3 (dot ∷ dot ∷ dot ∷ [])) ⇒ gives 3 (A ∷ B ∷ 0 ∷ [])
-    ∷ on 1 (seek 8 p) ⇒ says plain
-    ∷ on 1 (write 8 (Z ∷ [])) ⇒ says plain
-    ∷ commits 1 ⇒ ofT1
-    ∷ commits 0 ⇒ ofT0
+    ++ on 0 (seek 0 0) gets says plain
+    ∷ on 0 (write 0 (A ∷ B ∷ [])) gets says plain
+    ∷ on 0 (seek 0 0) gets says plain
+    ∷ on 0 (read 0 3 (dot ∷ dot ∷ dot ∷ [])) gets gives 3 (A ∷ B ∷ 0 ∷ [])
+    ∷ on 1 (seek 8 p) gets says plain
+    ∷ on 1 (write 8 (Z ∷ [])) gets says plain
+    ∷ commits 1 gets ofT1
+    ∷ commits 0 gets ofT0
     ∷ []
 
 -- e "T0 on 0: Seek 0, read 1. T1 writes byte 0 with value 0 on 8 after Seek 0: commit 1, T0 13."
@@ -71,68 +71,68 @@ unfoldable pub toldE : List Exchange
 toldE =
     filled
     ++ begins
-    ++ on 0 (seek 0 0) ⇒ says plain
-    ∷ on 0 (read 0 1 (dot ∷ [])) ⇒ gives 1 (0 ∷ [])
-    ∷ on 1 (seek 8 0) ⇒ says plain
-    ∷ on 1 (write 8 (0 ∷ [])) ⇒ says plain
-    ∷ commits 1 ⇒ says (granted 1)
-    ∷ commits 0 ⇒ says (refused 13)
+    ++ on 0 (seek 0 0) gets says plain
+    ∷ on 0 (read 0 1 (dot ∷ [])) gets gives 1 (0 ∷ [])
+    ∷ on 1 (seek 8 0) gets says plain
+    ∷ on 1 (write 8 (0 ∷ [])) gets says plain
+    ∷ commits 1 gets says (granted 1)
+    ∷ commits 0 gets says (refused 13)
     ∷ []
 
 -- f "T0 on 0: write A, Seek 0, read 1: A. T1 on 0: Seek 5, commit: 1. T0 13."
 unfoldable pub toldF : List Exchange
 toldF =
     begins
-    ++ on 0 (write 0 (A ∷ [])) ⇒ says plain
-    ∷ on 0 (seek 0 0) ⇒ says plain
-    ∷ on 0 (read 0 1 (dot ∷ [])) ⇒ gives 1 (A ∷ [])
-    ∷ on 1 (seek 0 5) ⇒ says plain
-    ∷ commits 1 ⇒ says (granted 1)
-    ∷ commits 0 ⇒ says (refused 13)
+    ++ on 0 (write 0 (A ∷ [])) gets says plain
+    ∷ on 0 (seek 0 0) gets says plain
+    ∷ on 0 (read 0 1 (dot ∷ [])) gets gives 1 (A ∷ [])
+    ∷ on 1 (seek 0 5) gets says plain
+    ∷ commits 1 gets says (granted 1)
+    ∷ commits 0 gets says (refused 13)
     ∷ []
 
 -- g "T0 writes Q on 8; on 0 Seek 0, read 1: Q; one sighting, the offset of 8."
 unfoldable pub toldG : List Exchange
 toldG =
     begins
-    ++ on 0 (write 8 (Q ∷ [])) ⇒ says plain
-    ∷ on 0 (seek 0 0) ⇒ says plain
-    ∷ on 0 (read 0 1 (dot ∷ [])) ⇒ gives 1 (Q ∷ [])
+    ++ on 0 (write 8 (Q ∷ [])) gets says plain
+    ∷ on 0 (seek 0 0) gets says plain
+    ∷ on 0 (read 0 1 (dot ∷ [])) gets gives 1 (Q ∷ [])
     ∷ []
 
 -- h "T0 Seek 4,096 on 0, commit. T1 writes A on 0, commit: 12. T2 Seek 0, commit. T1 commits: A at 0, offset 1."
 unfoldable pub toldH : List Exchange
 toldH =
     begins
-    ++ on 0 (seek 0 4096) ⇒ says plain
-    ∷ commits 0 ⇒ says (granted 0)
-    ∷ on 1 (write 0 (A ∷ [])) ⇒ says plain
-    ∷ commits 1 ⇒ says (refused 12)
-    ∷ on 2 (seek 0 0) ⇒ says plain
-    ∷ commits 2 ⇒ says (granted 0)
-    ∷ commits 1 ⇒ says (granted 0)
+    ++ on 0 (seek 0 4096) gets says plain
+    ∷ commits 0 gets says (granted 0)
+    ∷ on 1 (write 0 (A ∷ [])) gets says plain
+    ∷ commits 1 gets says (refused 12)
+    ∷ on 2 (seek 0 0) gets says plain
+    ∷ commits 2 gets says (granted 0)
+    ∷ commits 1 gets says (granted 0)
     ∷ []
 
 -- i "T0 on 0: write A, Seek 9, GetFilePointer 9. T1 on 0: Seek 4, commit: 0. T0 commits: A at 4, offset 9."
 unfoldable pub toldI : List Exchange
 toldI =
     begins
-    ++ on 0 (write 0 (A ∷ [])) ⇒ says plain
-    ∷ on 0 (seek 0 9) ⇒ says plain
-    ∷ on 0 (getFilePointer 0) ⇒ says (pointer 9)
-    ∷ on 1 (seek 0 4) ⇒ says plain
-    ∷ commits 1 ⇒ says (granted 0)
-    ∷ commits 0 ⇒ says (granted 0)
+    ++ on 0 (write 0 (A ∷ [])) gets says plain
+    ∷ on 0 (seek 0 9) gets says plain
+    ∷ on 0 (getFilePointer 0) gets says (pointer 9)
+    ∷ on 1 (seek 0 4) gets says plain
+    ∷ commits 1 gets says (granted 0)
+    ∷ commits 0 gets says (granted 0)
     ∷ []
 
 -- j "T0 and T1 each GetFilePointer on 0."; 02, F-2: "In j both commits answer 0."
 unfoldable pub toldJ : List Exchange
 toldJ =
     begins
-    ++ on 0 (getFilePointer 0) ⇒ says (pointer 0)
-    ∷ on 1 (getFilePointer 0) ⇒ says (pointer 0)
-    ∷ commits 0 ⇒ says (granted 0)
-    ∷ commits 1 ⇒ says (granted 0)
+    ++ on 0 (getFilePointer 0) gets says (pointer 0)
+    ∷ on 1 (getFilePointer 0) gets says (pointer 0)
+    ∷ commits 0 gets says (granted 0)
+    ∷ commits 1 gets says (granted 0)
     ∷ []
 
 -- k "Seek 4,096 passes, 4,097 is 8. At 4,096 a write of 1 is 9, of 0 passes. From 4,095 a read of 2 gives 1."
@@ -140,22 +140,22 @@ unfoldable pub toldK : List Exchange
 toldK =
     filled
     ++ begins
-    ++ on 0 (seek 0 4096) ⇒ says plain
-    ∷ on 0 (seek 0 4097) ⇒ says (refused 8)
-    ∷ on 0 (write 0 (A ∷ [])) ⇒ says (refused 9)
-    ∷ on 0 (write 0 []) ⇒ says plain
-    ∷ on 0 (seek 0 4095) ⇒ says plain
-    ∷ on 0 (read 0 2 (dot ∷ dot ∷ [])) ⇒ gives 1 (0 ∷ dot ∷ [])
+    ++ on 0 (seek 0 4096) gets says plain
+    ∷ on 0 (seek 0 4097) gets says (refused 8)
+    ∷ on 0 (write 0 (A ∷ [])) gets says (refused 9)
+    ∷ on 0 (write 0 []) gets says plain
+    ∷ on 0 (seek 0 4095) gets says plain
+    ∷ on 0 (read 0 2 (dot ∷ dot ∷ [])) gets gives 1 (0 ∷ dot ∷ [])
     ∷ []
 
 -- l "64 writes of 0 bytes pass, the 65th is 10; one that also runs past the end is 9."
 unfoldable pub toldL : List Exchange
 toldL =
     begins
-    ++ replicate 64 (on 0 (write 0 []) ⇒ says plain)
-    ++ on 0 (write 0 []) ⇒ says (refused 10)
-    ∷ on 0 (seek 0 4096) ⇒ says plain
-    ∷ on 0 (write 0 (A ∷ [])) ⇒ says (refused 9)
+    ++ replicate 64 (on 0 (write 0 []) gets says plain)
+    ++ on 0 (write 0 []) gets says (refused 10)
+    ∷ on 0 (seek 0 4096) gets says plain
+    ∷ on 0 (write 0 (A ∷ [])) gets says (refused 9)
     ∷ []
 
 -- What the starred situations come to, together; F-4: "the situations give the octet beside their number".

@@ -5,6 +5,7 @@ use mathlib.Core.List.{List, []}
 use mathlib.Core.Path.{_≡_}
 use lib.ListN.{set, replicate}
 use Prim.Native.Nat.{ℕ, zero, suc}
+use Rattle.windows.specs.declared.Window.{Window}
 use Rattle.windows.specs.Hours.{window, freshWindow}
 use Rattle.standings.specs.declared.Standing.{Standing}
 use Rattle.standings.specs.declared.Standing.the-variants.{Untouched, Placed, Deferred, Moved, Known}
@@ -14,7 +15,7 @@ use Rattle.record.specs.declared.Store.{Store}
 use Rattle.record.specs.declared.journal.WriteRecord.{WriteRecord}
 use Rattle.record.specs.State.{noDescriptor, ended, begun, withUsed, withDescriptors, withBegun, withLengths, withWindows, withUndo, noUndo}
 use Rattle.record.specs.Journal.{grantStretch, withRecords}
-use Rattle.ranges.specs.Ranges.{storeIn, Sizes, sized, sizesIn, shared, admission, admissionOfBegin, admissionOfFresh}
+use Rattle.ranges.specs.Ranges.{recordIn, landedIn, storeIn, Sizes, sized, sizesIn, shared, admission, admissionOfBegin, admissionOfFresh}
 use Rattle.ranges.specs.Ranges.{admissionOfWindow, admissionOfTakingBack, admissionOfDispatch}
 
 -- A store whose transaction 7 is x, with the file number of descriptor 15 and the offset of descriptor 15.
@@ -49,13 +50,13 @@ journal f n = withRecords (replicate 1728 0) 7 f n
 
 -- A store that holds a grant or not, with that many records and bytes; the offset that it found of descriptor 15, the length of file 7.
 unfoldable pub granted : Bool → ℕ → ℕ → ℕ → ℕ → Store
-granted held records bytes offset length =
+granted held records bytes offset n =
     withUndo
     (record {
       held = held;
       used = record { records = records; bytes = bytes };
       offsets = set (replicate 16 0) 15 offset;
-      lengths = set (replicate 8 0) 7 length;
+      lengths = set (replicate 8 0) 7 n;
     })
     (forged 0 0 ended)
 
@@ -74,6 +75,43 @@ first n (suc k) = record { descriptor = 15; place = At 0; length = 1 }
 unfoldable pub deferred : ℕ → ℕ → ℕ → WriteRecord
 deferred d n k = record { descriptor = d; place = After 0; length = n }
 
+-- A record of n bytes at place p behind one of 0 bytes, and in front of one.
+unfoldable pub behind : ℕ → ℕ → ℕ → WriteRecord
+behind p n zero = placed 0 0 0
+behind p n (suc k) = placed p n k
+
+unfoldable pub ahead : ℕ → ℕ → ℕ → WriteRecord
+ahead p n zero = placed p n 0
+ahead p n (suc k) = placed 0 0 k
+
+-- A store with the file number and the offset of descriptor 0, the length and the window of file 0, and transaction 0.
+unfoldable pub inFront : ℕ → ℕ → ℕ → Window → Transaction → Store
+inFront file offset n w x =
+    record {
+      filenumbers = set (replicate 16 0) 0 file;
+      offsets = set (replicate 16 0) 0 offset;
+      lengths = set (replicate 8 0) 0 n;
+      windows = set (replicate 8 freshWindow) 0 w;
+      undo = noUndo;
+      transactions = set (replicate 8 ended) 0 x;
+    }
+
+-- An open transaction whose descriptor 0 stands so.
+unfoldable pub standsFirst : Standing → Transaction
+standsFirst z = withDescriptors (set (replicate 16 noDescriptor) 0 (record { standing = z; dirty = false })) begun
+
+-- One with the offset that a grant found of descriptor 0, and the length that it found of file 0.
+unfoldable pub foundInFront : ℕ → ℕ → Store
+foundInFront offset n =
+    withUndo
+    (record {
+      held = true;
+      used = record { records = 0; bytes = 0 };
+      offsets = set (replicate 16 0) 0 offset;
+      lengths = set (replicate 8 0) 0 n;
+    })
+    (forged 0 0 ended)
+
 -- Store buffers of the right lengths; a store within the ranges, in which 7 is open and nothing is held of a grant, and one that holds one.
 abbrev pub whole : Sizes
 whole = sized 32768 32768 32768 4096
@@ -90,9 +128,9 @@ pub record Forged : Type 0 where
   -- "committed offsets at most 4,096"
   pub offset : (storeIn (forged 0 4096 ended) [] ≡ true) × (storeIn (forged 0 4097 ended) [] ≡ false)
   -- 02, F-8: "Check 2 covers lengths, at most 4,096."
-  pub length : (storeIn (lengthened 4096) [] ≡ true) × (storeIn (lengthened 4097) [] ≡ false)
+  pub fileLength : (storeIn (lengthened 4096) [] ≡ true) × (storeIn (lengthened 4097) [] ≡ false)
   -- 02, F-11: "start and end minute, 0 to 1,439"; "Check 2 covers the windows."
-  pub window :
+  pub windows :
       (storeIn (windowed 1439 1439) [] ≡ true) × (storeIn (windowed 1440 0) [] ≡ false) × (storeIn (windowed 0 1440) [] ≡ false)
   -- "offsets and advances of standings at most 4,096"
   pub standings :
@@ -119,9 +157,39 @@ pub record Forged : Type 0 where
   pub unplaced :
       (storeIn (forged 0 0 (opened (Moved 3 0) 1 3)) (journal (deferred 15 3) 1) ≡ true)
       × (storeIn (forged 0 0 (opened (Deferred 2) 1 3)) (journal (deferred 15 3) 1) ≡ false)
+      × (storeIn (forged 0 0 (opened (Moved 2 9) 1 3)) (journal (deferred 15 3) 1) ≡ false)
       × (storeIn (forged 0 0 (opened (Known 3) 1 3)) (journal (deferred 15 3) 1) ≡ false)
       × (storeIn (forged 0 0 (opened (Placed 3) 1 3)) (journal (deferred 15 3) 1) ≡ false)
       × (storeIn (forged 0 0 (opened Untouched 1 3)) (journal (deferred 15 3) 1) ≡ false)
+  -- Of one record: its descriptor is "at most 15", in a log and in what is held of a grant; its "advance plus length at most 4,096",
+  -- whatever the standing.
+  pub oneRecord :
+      (recordIn begun (record { descriptor = 15; place = At 0; length = 0 }) ≡ true)
+      × (recordIn begun (record { descriptor = 16; place = At 0; length = 0 }) ≡ false)
+      × (landedIn (record { descriptor = 15; place = At 0; length = 0 }) ≡ true)
+      × (landedIn (record { descriptor = 16; place = At 0; length = 0 }) ≡ false)
+      × (recordIn (opened (Deferred 4097) 0 0) (deferred 15 4096 0) ≡ true)
+      × (recordIn (opened (Deferred 4097) 0 0) (deferred 15 4097 0) ≡ false)
+  -- Not the last alone: descriptor 0, file 0, transaction 0.
+  pub inFirst :
+      (storeIn (inFront 7 4096 4096 (window 1439 1439) (standsFirst (Moved 4096 4096))) [] ≡ true)
+      × (storeIn (inFront 8 0 0 freshWindow ended) [] ≡ false)
+      × (storeIn (inFront 0 4097 0 freshWindow ended) [] ≡ false)
+      × (storeIn (inFront 0 0 4097 freshWindow ended) [] ≡ false)
+      × (storeIn (inFront 0 0 0 (window 1440 0) ended) [] ≡ false)
+      × (storeIn (inFront 0 0 0 freshWindow (standsFirst (Placed 4097))) [] ≡ false)
+  pub foundInFirst :
+      (storeIn (foundInFront 4096 4096) [] ≡ true) × (storeIn (foundInFront 4097 0) [] ≡ false)
+      × (storeIn (foundInFront 0 4097) [] ≡ false)
+  -- Each of the records, the second and the first of two.
+  pub inEach :
+      (storeIn (forged 0 0 (opened Untouched 2 4095)) (journal (behind 1 4095) 2) ≡ true)
+      × (storeIn (forged 0 0 (opened Untouched 2 4096)) (journal (behind 1 4096) 2) ≡ false)
+      × (storeIn (forged 0 0 (opened Untouched 2 4096)) (journal (ahead 1 4096) 2) ≡ false)
+  pub grantInEach :
+      (storeIn (granted true 2 4095 0 0) (grantJournal (behind 1 4095) 2) ≡ true)
+      × (storeIn (granted true 2 4096 0 0) (grantJournal (behind 1 4096) 2) ≡ false)
+      × (storeIn (granted true 2 4096 0 0) (grantJournal (ahead 1 4096) 2) ≡ false)
   -- "in each open transaction": what lies about in a closed one passes.
   pub closed : storeIn (forged 0 0 (withBegun false (opened (Known 9999) 200 9999))) [] ≡ true
   -- 02, F-13: "Check 2 covers what the record holds for this as it covers a log's placed records, offsets and lengths."
@@ -173,10 +241,12 @@ pub record Forged : Type 0 where
   -- 02, F-13: "23 when any transaction is open, after 2; 24 .., after 23."
   pub backOrder :
       (admissionOfTakingBack (sized 0 0 0 0) (forged 8 0 begun) [] ≡ 1) × (admissionOfTakingBack whole (forged 8 0 begun) [] ≡ 2)
-      × (admissionOfTakingBack whole sevenOpen [] ≡ 23) × (admissionOfTakingBack whole (nothingOpen false) [] ≡ 24)
+      × (admissionOfTakingBack whole sevenOpen [] ≡ 23)
+      × (admissionOfTakingBack whole (inFront 0 0 0 freshWindow begun) [] ≡ 23) × (admissionOfTakingBack whole (nothingOpen false) [] ≡ 24)
       × (admissionOfTakingBack whole (nothingOpen true) [] ≡ 0)
   -- 02, F-10: "19 when a transaction is open at the start, after 2; 20 when .., after 19."
   pub dispatchOrder :
       (admissionOfDispatch (sized 0 0 0 0) (forged 8 0 begun) [] false ≡ 1) × (admissionOfDispatch whole (forged 8 0 begun) [] false ≡ 2)
-      × (admissionOfDispatch whole sevenOpen [] false ≡ 19) × (admissionOfDispatch whole (nothingOpen false) [] false ≡ 20)
+      × (admissionOfDispatch whole sevenOpen [] false ≡ 19)
+      × (admissionOfDispatch whole (inFront 0 0 0 freshWindow begun) [] false ≡ 19) × (admissionOfDispatch whole (nothingOpen false) [] false ≡ 20)
       × (admissionOfDispatch whole (nothingOpen false) [] true ≡ 0)

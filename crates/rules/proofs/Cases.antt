@@ -1,3 +1,4 @@
 -- The situations of paper 01.
 pub mod Cases
 pub mod Opened
+pub mod Tells

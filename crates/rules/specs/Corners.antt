@@ -12,7 +12,7 @@ use Rattle.standings.specs.declared.Standing.the-variants.{Untouched, Placed, D
 use Rattle.standings.specs.declared.Place.{Place}
 use Rattle.standings.specs.declared.Place.the-variants.{At, After}
 use Rattle.record.specs.declared.Transaction.{Transaction}
-use Rattle.record.specs.State.{begun, withBegun, withStale, withDescriptors, withTransactions}
+use Rattle.record.specs.State.{ended, begun, withBegun, withStale, withDescriptors, withTransactions}
 use Rattle.record.specs.Paper.{plain, pointer, granted, refused}
 use Rattle.rules.specs.Items.{byte, offset, fileLength, result}
 use Rattle.rules.specs.Messages.{seek, write, getFilePointer, read, begin, on, abort, places, says}
@@ -863,4 +863,5 @@ pub record Corners (x : Seen) : Type 0 where
   -- "Every other open transaction that has sighted .. is stale from then on", and the answer has those "not so before": 7 alone.
   pub threeSettled :
       (staleAfter 0 ≡ false) × (staleAfter 1 ≡ false) × (staleAfter 2 ≡ true) × (staleAfter 3 ≡ false) × (staleAfter 7 ≡ true)
+      × (afterCommit 0 (settingsOf settledByThree 0) settledByThree 0 ≡ ended)
       × (bitsOf (madeStale 0 (settingsOf settledByThree 0) settledByThree) 8 ≡ 128) × (formerNumber 0 settledByThree ≡ 1)

@@ -42,9 +42,9 @@ pub mod Closed
 pub mod Splitting
 pub mod TakingBack
 pub mod BestOrder
--- What the statements are false of; the situations, and corners of both papers.
-pub mod Counterexamples
+-- The situations, and corners of both papers; what the statements are false of.
 pub mod Setup
 pub mod Situations
 pub mod Corners
 pub mod LaterCorners
+pub mod Counterexamples

@@ -18,6 +18,7 @@ use Rattle.rules.specs.LaterCorners.{toldNoByte, toldSetting, toldMeanwh
 use Rattle.rules.specs.LaterCorners.{toldOverwritten, toldAppendedAgain, toldClosedBack, toldEmptyGrant, toldRefusedBetween}
 use Rattle.rules.specs.LaterCorners.{heldAtStart, backTwice, toldOneOfThree, toldSevenOpen, toldSettersBack, twoWrites}
 use Rattle.rules.specs.LaterCorners.{ofThreeBytes, toldBestOrder, toldOrderRefused, toldOrderClosed, toldEachOther, toldChain, toldRaisedByTwo}
+use Rattle.rules.specs.LaterCorners.{toldOneOfList, toldOnlyGrantsCount, toldLookedBetween}
 use Rattle.rules.specs.Setup.{onPlain}
 use Rattle.rules.proofs.Cases.Opened.{opened}
 
@@ -112,14 +113,14 @@ corners =
       otherLengthStale = (refl, refl, refl);
       stopsAlone = refl;
       stopsHalfway = (refl, refl, refl, refl);
-      threeSettled = (refl, refl, refl, refl, refl, refl, refl);
+      threeSettled = (refl, refl, refl, refl, refl, refl, refl, refl);
     }
 
 pub later-corners : LaterCorners onPlain
 unfolding opened toldWindow toldMidnight toldAlways toldBadMinute toldClosedFirst toldNoByte toldSetting toldMeanwhile closedAtStart
     openedThen toldTakenBack toldOverwritten toldAppendedAgain toldClosedBack toldEmptyGrant toldRefusedBetween heldAtStart backTwice
     toldOneOfThree toldSevenOpen toldSettersBack twoWrites ofThreeBytes toldBestOrder toldOrderRefused toldOrderClosed toldEachOther
-    toldChain toldRaisedByTwo
+    toldChain toldRaisedByTwo toldOneOfList toldOnlyGrantsCount toldLookedBetween
 later-corners =
     record {
       window = (refl, refl);
@@ -149,4 +150,7 @@ later-corners =
       eachOther = refl;
       chain = refl;
       raisedByTwo = refl;
+      oneOfList = refl;
+      onlyGrantsCount = (refl, refl);
+      lookedBetween = (refl, refl);
     }

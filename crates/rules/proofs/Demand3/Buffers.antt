@@ -1,19 +1,22 @@
 -- Which calls touch which buffer.
 use mathlib.Core.Bool.{Bool, true, false, cond, true≢false}
 use mathlib.Core.List.{List, [], _∷_, _++_}
-use mathlib.Core.Path.{_≡_, refl, sym, ap, _∙_}
+use mathlib.Core.Path.{_≡_, refl, sym, ap, _∙_, subst⁻¹}
 use borrow.Author.Tests.{eq-eqb}
 use lib.Dec.{leb, eqb}
-use lib.ListN.{getD, set}
+use lib.ListN.{getD, set, replicate}
 use native.Mathlib.Omega.{arith}
-use Prim.Native.Nat.{ℕ, zero, suc, _+_, _≤_}
+use Prim.Native.Nat.{ℕ, zero, suc, _+_, _*_, _≤_}
 use Rattle.octets.specs.Bits.{bit}
 use Rattle.octets.specs.Marks.{names, hasMark, withMark, withoutMarks}
+use Rattle.octets.specs.Parts.{pasted, tabulate}
+use Rattle.windows.specs.Hours.{freshWindow}
 use Rattle.standings.specs.Table.{advance, pointerSettles, offsetOf}
 use Rattle.octets.proofs.MarkLaws.{has-without-marks}
 use Rattle.octets.proofs.TableLaws.{getD-tabulate}
+use Rattle.record.specs.declared.Descriptor.{Descriptor}
 use Rattle.record.specs.declared.Transaction.{Transaction}
-use Rattle.record.specs.State.{transaction, noTransaction, begun, ended, withTransaction}
+use Rattle.record.specs.State.{transaction, noDescriptor, noTransaction, begun, ended, withBegun, withTransaction}
 use Rattle.record.specs.Paper.{Said, plain, pointer, granted, refused}
 use Rattle.ranges.specs.Ranges.{admission}
 use Rattle.ranges.specs.Below.{unless}
@@ -29,14 +32,13 @@ use Rattle.rules.specs.Calls.{Turn, answerWith, turnDown, passing, fresh
 use Rattle.rules.specs.Calls.{logged, marked, served, stepTurn, afterCommit, commitGranted, commitDecided, commitTurn, admitted, call}
 use Rattle.rules.specs.Calls.{placesTurn, windowTurn, takeBackTurn, orderTurn}
 use Rattle.rules.specs.Undo.{keepingFound, takenBack}
-use Rattle.rules.specs.Buffers.{Unmarked, Buffers}
-use Rattle.rules.specs.Counterexamples.{marksThree, marksLength, UnmarkedTells}
+use Rattle.rules.specs.Buffers.{Emptied, Vacant, AllZero, Buffers}
 use Rattle.rules.proofs.Serial.Programs.{asked-andThen}
 use Rattle.rules.proofs.Demand3.Answers.{IsAnswer, answer-not-refused}
 use Rattle.rules.proofs.Demand3.Refusals.{refused-same, admission-leaving, passing-zero, passing-stale}
 
 -- A buffer that a call's own turn leaves is left by the call.
-module _ (part : Machine → List ℕ) where
+module _ {A : Type 0} (part : Machine → A) where
   passing-leaves : (k : ℕ) (buffer : List ℕ) (m : Machine) (w : Turn) → part (w .after) ≡ part m → part (passing k buffer m w .after) ≡ part m
   unfolding passing turnDown
   passing-leaves zero buffer m w e = e
@@ -219,24 +221,70 @@ call-numbers (bestOrder ts minute budget) m =
 cleared : (t : ℕ) (marks : List ℕ) (q : ℕ) → hasMark (withoutMarks t marks) t q ≡ false
 cleared t marks q = has-without-marks t t q marks ∙ rw (eq-eqb t t refl)
 
--- The lengths that it has sighted.
-replaced : (t : ℕ) (x : Transaction) (ts : List Transaction) → x .lengthmarks ≡ 0 → getD (set ts t x) t noTransaction .lengthmarks ≡ 0
-replaced t x [] e = refl
+-- A transaction that has sighted no length, and has nothing in it.
+abbrev Blank : Transaction → Type 0
+Blank x = (x .lengthmarks ≡ 0) × Emptied x
+
+module _ {A : Type 0} (a : A) where
+  all-same : (n i : ℕ) → getD (replicate n a) i a ≡ a
+  all-same zero i = refl
+  all-same (suc n) zero = refl
+  all-same (suc n) (suc i) = all-same n i
+
+blank-none : Blank noTransaction
+blank-none = (refl, record { records = refl; bytes = refl; untouched = λ d. refl; clean = λ d. refl; notStale = refl })
+
+blank-ended : (isOpen : Bool) → Blank (withBegun isOpen ended)
+unfolding ended
+blank-ended isOpen =
+    let same = all-same noDescriptor 16 in (
+      refl,
+      record {
+        records = refl;
+        bytes = refl;
+        untouched = λ d. ap (λ (q : Descriptor). q .standing) (same d);
+        clean = λ d. ap (λ (q : Descriptor). q .dirty) (same d);
+        notStale = refl;
+      },
+    )
+
+replaced : (t : ℕ) (x : Transaction) (ts : List Transaction) → Blank x → Blank (getD (set ts t x) t noTransaction)
+replaced t x [] e = blank-none
 replaced zero x (y ∷ ts) e = e
 replaced (suc t) x (y ∷ ts) e = replaced t x ts e
 
-reset-cleared : (t : ℕ) (x : Transaction) (m : Machine) → x .lengthmarks ≡ 0 → Unmarked t (reset t x m)
+reset-cleared : (t : ℕ) (x : Transaction) (m : Machine) → Blank x → Vacant t (reset t x m)
 unfolding reset withTransaction
-reset-cleared t x m e = record { bytes = cleared t (m .marks); lengths = replaced t x (m .store .transactions) e }
+reset-cleared t x m e =
+    let b = replaced t x (m .store .transactions) e in
+    (record { bytes = cleared t (m .marks); lengths = b .0 }, b .1)
 
-granted-cleared : (t : ℕ) (x : Txn) (ss : List Setting) (m : Machine) → t ≤ 7 → Unmarked t (commitGranted t x ss m .after)
+granted-cleared : (t : ℕ) (x : Txn) (ss : List Setting) (m : Machine) → t ≤ 7 → Vacant t (commitGranted t x ss m .after)
 unfolding commitGranted keepingFound afterCommit ended
 granted-cleared t x ss m l =
+    let e : getD (tabulate (afterCommit t ss m) 8) t noTransaction ≡ ended =
+    getD-tabulate (afterCommit t ss m) 8 t noTransaction (omega arith) ∙ rw (eq-eqb t t refl) in
+    let b = subst⁻¹ Blank e (blank-ended false) in
+    (record { bytes = cleared t (m .marks); lengths = b .0 }, b .1)
+
+-- What Fresh gives.
+closed-all : (n t : ℕ) → getD (replicate n ended) t noTransaction .begun ≡ false
+unfolding ended
+closed-all zero t = refl
+closed-all (suc n) zero = refl
+closed-all (suc n) (suc t) = closed-all n t
+
+fresh-zeros : (numbers logs undo : List ℕ) → AllZero (freshMachine numbers logs undo)
+unfolding freshMachine freshStore
+fresh-zeros numbers logs undo =
     record {
-      bytes = cleared t (m .marks);
-      lengths =
-          ap (λ (x : Transaction). x .lengthmarks) (getD-tabulate (afterCommit t ss m) 8 t noTransaction (omega arith))
-          ∙ rw (eq-eqb t t refl);
+      bytes = refl;
+      marks = refl;
+      offsets = refl;
+      lengths = refl;
+      windows = all-same freshWindow 8;
+      closed = closed-all 8;
+      nothingHeld = refl;
     }
 
 -- An answered call's turn is its own.
@@ -247,9 +295,23 @@ answered-turn k m w a h e = ap (λ (n : ℕ). passing n [] m w) (passing-zero k 
 answered : (k : ℕ) (m : Machine) (w : Turn) (a : Said) → IsAnswer a → passing k [] m w .reply .answer ≡ a → passing k [] m w .after ≡ w .after
 answered k m w a h e = ap (λ (x : Turn). x .after) (answered-turn k m w a h e)
 
+-- Where an accepted Write puts its bytes.
+served-written : (t d : ℕ) (bytes : List ℕ) (m : Machine) (is : List Item) (s : Stepped) → served t (write d bytes) m is s .reply .answer ≡ plain
+    → served t (write d bytes) m is s .after .logs ≡ pasted (m .logs) (4096 * t + transaction (m .store) t .used .bytes) bytes
+unfolding served turnDown logged
+served-written t d bytes m is (refuse n) e = absurd (answer-not-refused plain n tt (sym e))
+served-written t d bytes m is (accept y a b) e = refl
+
+call-written : (m : Machine) (t d : ℕ) (bytes : List ℕ) → call (on t (write d bytes)) m .reply .answer ≡ plain
+    → call (on t (write d bytes)) m .after .logs ≡ pasted (m .logs) (4096 * t + transaction (m .store) t .used .bytes) bytes
+unfolding call admitted bufferOf stepTurn
+call-written m t d bytes e =
+    let z = answered-turn _ m (stepTurn t (write d bytes) m) plain tt e in
+    rw (ap (λ (w : Turn). w .after) z) (served-written t d bytes m _ _ (sym (ap (λ (w : Turn). w .reply .answer) z) ∙ e))
+
 decided-cleared : (t : ℕ) (x : Txn) (ss : List Setting) (m : Machine) (daily stale shut placed : Bool) (n : ℕ) → t ≤ 7
     → commitDecided t x ss m (commitRefusal daily stale shut placed) .reply .answer ≡ granted n
-    → Unmarked t (commitDecided t x ss m (commitRefusal daily stale shut placed) .after)
+    → Vacant t (commitDecided t x ss m (commitRefusal daily stale shut placed) .after)
 unfolding commitDecided commitRefusal
 decided-cleared t x ss m false stale shut placed n l e = absurd (answer-not-refused (granted n) 22 tt (sym e))
 decided-cleared t x ss m true true shut placed n l e = absurd (answer-not-refused (granted n) 13 tt (sym e))
@@ -259,10 +321,10 @@ decided-cleared t x ss m true false false false n l e = absurd (answer-not-refus
 
 decided-stale : (t : ℕ) (x : Txn) (ss : List Setting) (m : Machine) (daily stale shut placed : Bool)
     → commitDecided t x ss m (commitRefusal daily stale shut placed) .reply .answer ≡ refused 13
-    → Unmarked t (commitDecided t x ss m (commitRefusal daily stale shut placed) .after)
+    → Vacant t (commitDecided t x ss m (commitRefusal daily stale shut placed) .after)
 unfolding commitDecided commitRefusal commitGranted ended
 decided-stale t x ss m false stale shut placed e = let z : _≡_ {A = ℕ} 22 13 = refused-same 22 13 e in absurd (omega arith)
-decided-stale t x ss m true true shut placed e = reset-cleared t ended m refl
+decided-stale t x ss m true true shut placed e = reset-cleared t ended m (blank-ended false)
 decided-stale t x ss m true false true placed e = let z : _≡_ {A = ℕ} 21 13 = refused-same 21 13 e in absurd (omega arith)
 decided-stale t x ss m true false false true e = absurd (answer-not-refused _ 13 tt e)
 decided-stale t x ss m true false false false e = let z : _≡_ {A = ℕ} 12 13 = refused-same 12 13 e in absurd (omega arith)
@@ -280,15 +342,18 @@ unfolding call admitted beginTurn abortTurn commitTurn answerWith begun ended fr
 buffers m =
     record {
       logs = λ c. call-logs c m;
+      written = call-written m;
+      freshZeros = λ numbers e. subst⁻¹ AllZero (answered _ m _ plain tt e) (fresh-zeros numbers (m .logs) (m .undo));
       freshLogs = λ numbers. passing-leaves (λ x. x .logs) _ [] m _ refl;
       fileNumbers = λ c. call-numbers c m;
       freshNumbers = λ numbers e. ap (λ (x : Machine). x .store .filenumbers) (answered _ m _ plain tt e);
       files = λ c. call-files c m;
       undo = λ c. call-undo c m;
       freshUndo = λ numbers. passing-leaves (λ x. x .undo) _ [] m _ refl;
+      listing = λ t f out. passing-leaves (λ x. x) _ out m (placesTurn t f out m) (unfold placesTurn in refl);
       marks = λ c. call-marks c m;
-      begun = λ t e. rw (answered _ m (beginTurn t m) plain tt e) (reset-cleared t begun m refl);
-      aborted = λ t e. rw (answered _ m (abortTurn t m) plain tt e) (reset-cleared t ended m refl);
+      begun = λ t e. rw (answered _ m (beginTurn t m) plain tt e) (reset-cleared t begun m (unfold begun in blank-ended true));
+      aborted = λ t e. rw (answered _ m (abortTurn t m) plain tt e) (reset-cleared t ended m (blank-ended false));
       committed =
           λ t minute n e.
           let l = granted-small m t minute n e in
@@ -298,12 +363,4 @@ buffers m =
           λ t minute e.
           let z = passing-stale _ m (commitTurn t minute m) (admission-leaving _ (m .store) (m .journal) t) e in
           rw (ap (λ (w : Turn). w .after) z) (decided-stale t _ _ m _ _ _ _ (sym (ap (λ (w : Turn). w .reply .answer) z) ∙ e));
-    }
-
-pub unmarked-tells : UnmarkedTells
-unfolding marksThree marksLength freshStore hasMark names bit
-unmarked-tells =
-    record {
-      byte = λ h. true≢false (h .bytes 3);
-      length = λ h. let z : _≡_ {A = ℕ} 1 0 = h .lengths in omega arith;
     }

@@ -12,7 +12,9 @@ use Rattle.standings.specs.declared.Standing.the-variants.{Untouched, Placed, D
 use Rattle.standings.specs.declared.Place.{Place}
 use Rattle.standings.specs.declared.Place.the-variants.{At, After}
 use Rattle.record.specs.declared.Transaction.{Transaction}
-use Rattle.record.specs.State.{ended, begun, withBegun, withStale, withDescriptors, withTransactions}
+use Rattle.record.specs.declared.journal.WriteRecord.{WriteRecord}
+use Rattle.record.specs.State.{ended, begun, withBegun, withStale, withUsed, withDescriptors, withTransactions}
+use Rattle.record.specs.Journal.{withRecordAt}
 use Rattle.record.specs.Paper.{plain, pointer, granted, refused}
 use Rattle.rules.specs.Items.{byte, offset, fileLength, result}
 use Rattle.rules.specs.Messages.{seek, write, getFilePointer, read, begin, on, abort, places, says}
@@ -20,7 +22,7 @@ use Rattle.rules.specs.Transactions.{Txn, Write, empty}
 use Rattle.rules.specs.Reading.{ownEnd}
 use Rattle.rules.specs.Steps.{Stepped, refuse, accept, step}
 use Rattle.rules.specs.Commits.{settings, fits}
-use Rattle.rules.specs.Machine.{Machine, lent}
+use Rattle.rules.specs.Machine.{Machine, lent, txnOf}
 use Rattle.rules.specs.Calls.{freshStore, madeStale, afterCommit, settingsOf, formerNumber}
 use Rattle.rules.specs.Lone.{Lone, lone}
 use Rattle.rules.specs.Setup.{Seen, Exchange, _gets_, commits, callsOf, Goes, formerNumbers, sighted, committedBytes, beginning}
@@ -519,31 +521,34 @@ toldPlaces =
 unfoldable pub toldNoPlaceYet : List Exchange
 toldNoPlaceYet =
     begins
-    ++ on 0 (write 0 (A ∷ [])) gets says plain
-    ∷ on 1 (write 8 []) gets says plain
-    ∷ places 3 8 [] gets says (refused 4)
-    ∷ places 0 8 [] gets says (refused 6)
-    ∷ places 0 0 [] gets says (refused 15)
-    ∷ places 1 0 [] gets says (refused 15)
-    ∷ places 1 1 [] gets lists 0 []
-    ∷ on 0 (getFilePointer 0) gets says (pointer 1)
-    ∷ places 0 0 (replicate 4 dot) gets lists 1 (0 ∷ 0 ∷ 0 ∷ 1 ∷ [])
+    ++ on 0 (write 0 (A ∷ [])) ⇒ says plain
+    ∷ on 1 (write 8 []) ⇒ says plain
+    ∷ places 3 8 [] ⇒ says (refused 4)
+    ∷ places 0 8 [] ⇒ says (refused 6)
+    ∷ places 0 0 [] ⇒ says (refused 15)
+    ∷ places 1 0 [] ⇒ says (refused 15)
+    ∷ places 1 1 [] ⇒ lists 0 []
+    ∷ places 0 7 [] ⇒ lists 0 []
+    ∷ on 0 (getFilePointer 0) ⇒ says (pointer 1)
+    ∷ places 0 0 (replicate 4 dot) ⇒ lists 1 (0 ∷ 0 ∷ 0 ∷ 1 ∷ [])
     ∷ []
 
--- F-4, "bit t (worth 2 to the power t) for each transaction that this commit made stale and that was not so before": 1 and 2, and then 0
--- alone, as those two were stale before.
+-- F-4, "bit t (worth 2 to the power t) for each transaction that this commit made stale and that was not so before": 1, 2 and 7, and then 0
+-- alone, as those three were stale before.
 unfoldable pub toldOctet : List Exchange
 toldOctet =
     begins
-    ++ on 1 (getFilePointer 0) gets says (pointer 0)
-    ∷ on 2 (getFilePointer 0) gets says (pointer 0)
-    ∷ on 0 (seek 0 3) gets says plain
-    ∷ commits 0 gets says (granted 6)
-    ∷ begin 0 gets says plain
-    ∷ on 0 (getFilePointer 0) gets says (pointer 3)
-    ∷ begin 7 gets says plain
-    ∷ on 7 (seek 0 4) gets says plain
-    ∷ commits 7 gets says (granted 1)
+    ++ begin 7 ⇒ says plain
+    ∷ on 1 (getFilePointer 0) ⇒ says (pointer 0)
+    ∷ on 2 (getFilePointer 0) ⇒ says (pointer 0)
+    ∷ on 7 (getFilePointer 0) ⇒ says (pointer 0)
+    ∷ on 0 (seek 0 3) ⇒ says plain
+    ∷ commits 0 ⇒ says (granted 134)
+    ∷ begin 0 ⇒ says plain
+    ∷ on 0 (getFilePointer 0) ⇒ says (pointer 3)
+    ∷ begin 3 ⇒ says plain
+    ∷ on 3 (seek 0 4) ⇒ says plain
+    ∷ commits 3 ⇒ says (granted 1)
     ∷ []
 
 -- F-8: "A Read that gave fewer bytes than wanted sights the length": T0's gives nothing. T1 writes from place 1 on, so that the length is 2
@@ -740,6 +745,15 @@ settledByThree =
 abbrev pub staleAfter : ℕ → Bool
 staleAfter u = afterCommit 0 (settingsOf settledByThree 0) settledByThree u .stale
 
+-- A store, forged: transaction 1 has two writes, of one byte and of two. "transaction t's part starting at 4,096 × t": its log starts
+-- behind that of 0, and the data of the second write lie behind those of the first.
+unfoldable pub loggedByOne : Machine
+loggedByOne =
+    let first : WriteRecord = record { descriptor = 2; place = At 5; length = 1 } in
+    let second : WriteRecord = record { descriptor = 3; place = After 7; length = 2 } in
+    lent (withTransactions (ended ∷ withUsed (record { records = 2; bytes = 3 }) begun ∷ []) (freshStore []))
+    (withRecordAt (withRecordAt (replicate 1728 0) 1 0 first) 1 1 second) [] (replicate 4096 dot ++ A ∷ B ∷ C ∷ dot ∷ []) [] []
+
 -- What situations k and l and the corners come to, together.
 pub record Corners (x : Seen) : Type 0 where
   pub k : Goes x toldK × (sightingsOf (callsOf toldK) 0 ≡ sighted (byte 4095) 1 ∷ sighted (fileLength 0) 1 ∷ [])
@@ -814,7 +828,7 @@ pub record Corners (x : Seen) : Type 0 where
       × (x .value (callsOf toldSettledAlone) (offset 1) ≡ 5)
   pub listedPlaces : Goes x toldPlaces × (sightingsOf (callsOf toldPlaces) 0 ≡ [])
   pub noPlaceYet : Goes x toldNoPlaceYet
-  pub octet : Goes x toldOctet × (formerNumbers toldOctet ≡ 2 ∷ 1 ∷ [])
+  pub octet : Goes x toldOctet × (formerNumbers toldOctet ≡ 3 ∷ 1 ∷ [])
   pub nothingGiven : Goes x toldNothingGiven × (sightingsOf (callsOf toldNothingGiven) 0 ≡ sighted (fileLength 0) 0 ∷ [])
   pub nothingGivenStale :
       Goes x toldNothingGivenStale
@@ -865,3 +879,8 @@ pub record Corners (x : Seen) : Type 0 where
       (staleAfter 0 ≡ false) × (staleAfter 1 ≡ false) × (staleAfter 2 ≡ true) × (staleAfter 3 ≡ false) × (staleAfter 7 ≡ true)
       × (afterCommit 0 (settingsOf settledByThree 0) settledByThree 0 ≡ ended)
       × (bitsOf (madeStale 0 (settingsOf settledByThree 0) settledByThree) 8 ≡ 128) × (formerNumber 0 settledByThree ≡ 1)
+  pub logPart :
+      txnOf (loggedByOne .store) (loggedByOne .journal) (loggedByOne .logs) 1 .writes
+      ≡ record { descriptor = 2; place = At 5; bytes = A ∷ [] }
+      ∷ record { descriptor = 3; place = After 7; bytes = B ∷ C ∷ [] }
+      ∷ []

@@ -3,6 +3,7 @@ use mathlib.Core.Bool.{true, false}
 use mathlib.Core.List.{List, [], _∷_, _++_, map}
 use mathlib.Core.Path.{_≡_}
 use lib.ListN.{length, replicate}
+use Prim.Native.Nat.{ℕ}
 use Rattle.standings.specs.declared.Standing.the-variants.{Untouched}
 use Rattle.standings.specs.declared.Place.the-variants.{At, After}
 use Rattle.windows.specs.Hours.{window}
@@ -294,8 +295,8 @@ toldSettersBack =
     ∷ on 1 (getFilePointer 1) gets says (pointer 3)
     ∷ []
 
--- A store, forged, of three bytes, and what a grant of two writes keeps of it: AB at place 0, and C, which lies after the offset 1 of
--- descriptor 1. The fourth buffer holds the bytes on which each landed, from its front; the rest of it is left.
+-- A store, forged, with three bytes in file 1, and what a grant of two writes keeps of it: AB at place 0, and C, which lies after the
+-- offset 1 of descriptor 1. The fourth buffer holds the bytes on which each landed, from its front; the rest of it is left.
 unfoldable pub twoWrites : Txn
 twoWrites =
     record {
@@ -305,17 +306,20 @@ twoWrites =
           record { descriptor = 0; place = At 0; bytes = A ∷ B ∷ [] } ∷ record { descriptor = 1; place = After 0; bytes = C ∷ [] } ∷ [];
     }
 
+unfoldable pub inFileOne : List ℕ → List ℕ
+inFileOne bytes = replicate 4096 dot ++ bytes
+
 unfoldable pub ofThreeBytes : Machine
 ofThreeBytes =
-    lent (withOffsets (0 ∷ 1 ∷ []) (withLengths (3 ∷ []) (freshStore (0 ∷ 0 ∷ [])))) (replicate 1728 0) (X ∷ Y ∷ Z ∷ []) [] []
-    (dot ∷ dot ∷ dot ∷ dot ∷ [])
+    lent (withOffsets (0 ∷ 1 ∷ []) (withLengths (0 ∷ 3 ∷ []) (freshStore (1 ∷ 1 ∷ [])))) (replicate 1728 0)
+    (inFileOne (X ∷ Y ∷ Z ∷ [])) [] [] (dot ∷ dot ∷ dot ∷ dot ∷ [])
 
 abbrev pub keptOf : Machine
 keptOf = keepingFound twoWrites ofThreeBytes
 
 -- Once the writes have landed, offsets and lengths too, and all is taken back.
 abbrev pub keptBack : Machine
-keptBack = takenBack (withFiles (A ∷ C ∷ Z ∷ []) (withStore (withOffsets [] (withLengths [] (keptOf .store))) keptOf))
+keptBack = takenBack (withFiles (inFileOne (A ∷ C ∷ Z ∷ [])) (withStore (withOffsets [] (withLengths [] (keptOf .store))) keptOf))
 
 -- 02, F-14: T0 has sighted the offset that T1 sets, so that both are granted only where T0 comes first; T2 stands by itself. "Orders are
 -- tried by ascending positions in the given list, the given order first, until the budget or the orders run out; the answer is the
@@ -517,12 +521,12 @@ pub record LaterCorners (x : Seen) : Type 0 where
   pub settersBack :
       Goes x toldSettersBack × (sightingsOf (callsOf toldSettersBack) 1 ≡ sighted (offset 0) 1 ∷ sighted (offset 1) 2 ∷ [])
   pub kept :
-      (keptOf .undo ≡ X ∷ Y ∷ B ∷ dot ∷ []) × (keptOf .files ≡ X ∷ Y ∷ Z ∷ [])
+      (keptOf .undo ≡ X ∷ Y ∷ B ∷ dot ∷ []) × (keptOf .files ≡ inFileOne (X ∷ Y ∷ Z ∷ []))
       × (keptOf .store .undo
-      ≡ record { held = true; used = record { records = 2; bytes = 3 }; offsets = 0 ∷ 1 ∷ []; lengths = 3 ∷ [] })
+      ≡ record { held = true; used = record { records = 2; bytes = 3 }; offsets = 0 ∷ 1 ∷ []; lengths = 0 ∷ 3 ∷ [] })
       × (writeRecordAt (keptOf .journal) grantStretch 1 ≡ record { descriptor = 1; place = At 1; length = 1 })
   pub back :
-      (keptBack .files ≡ X ∷ Y ∷ Z ∷ []) × (keptBack .store .offsets ≡ 0 ∷ 1 ∷ []) × (keptBack .store .lengths ≡ 3 ∷ [])
+      (keptBack .files ≡ inFileOne (X ∷ Y ∷ Z ∷ [])) × (keptBack .store .offsets ≡ 0 ∷ 1 ∷ []) × (keptBack .store .lengths ≡ 0 ∷ 3 ∷ [])
       × (keptBack .store .undo .held ≡ false) × (keptBack .undo ≡ X ∷ Y ∷ B ∷ dot ∷ [])
   pub best : Goes x toldBestOrder
   pub orderRefused : Goes x toldOrderRefused

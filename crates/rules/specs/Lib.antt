@@ -47,4 +47,5 @@ pub mod Setup
 pub mod Situations
 pub mod Corners
 pub mod LaterCorners
+pub mod Stretches
 pub mod Counterexamples

@@ -12,12 +12,12 @@ use Rattle.rules.specs.Corners.{toldSettledAlone, toldPlaces, toldNoPlac
 use Rattle.rules.specs.Corners.{toldNothingGivenStale, toldOwnEnd, toldOwnEndStale, toldFullRead, toldNoneWanted, toldBeyond}
 use Rattle.rules.specs.Corners.{toldBeyondSet, ownWrite, toldDeferredEnd, toldNotRaised, toldPlacesOrder, toldPointerAlone}
 use Rattle.rules.specs.Corners.{toldWantedMore, toldLogShared, toldOtherLength, toldOtherLengthStale, toldStopsAlone}
-use Rattle.rules.specs.Corners.{halfway, standsSo, settledByThree}
+use Rattle.rules.specs.Corners.{halfway, standsSo, settledByThree, loggedByOne}
 use Rattle.rules.specs.LaterCorners.{LaterCorners, toldWindow, toldMidnight, toldAlways, toldBadMinute, toldClosedFirst}
 use Rattle.rules.specs.LaterCorners.{toldNoByte, toldSetting, toldMeanwhile, closedAtStart, openedThen, toldTakenBack}
 use Rattle.rules.specs.LaterCorners.{toldOverwritten, toldAppendedAgain, toldClosedBack, toldEmptyGrant, toldRefusedBetween}
 use Rattle.rules.specs.LaterCorners.{heldAtStart, backTwice, toldOneOfThree, toldSevenOpen, toldSettersBack, twoWrites}
-use Rattle.rules.specs.LaterCorners.{ofThreeBytes, toldBestOrder, toldOrderRefused, toldOrderClosed, toldEachOther, toldChain, toldRaisedByTwo}
+use Rattle.rules.specs.LaterCorners.{inFileOne, ofThreeBytes, toldBestOrder, toldOrderRefused, toldOrderClosed, toldEachOther, toldChain, toldRaisedByTwo}
 use Rattle.rules.specs.LaterCorners.{toldOneOfList, toldOnlyGrantsCount, toldLookedBetween}
 use Rattle.rules.specs.Setup.{onPlain}
 use Rattle.rules.proofs.Cases.Opened.{opened}
@@ -48,7 +48,7 @@ unfolding opened filled toldK toldL twoZeros toldStaleFirst toldRefusedSettling 
     toldFifteen toldFifteenSet toldInOrder toldKnownOnce toldSettledAlone toldPlaces toldNoPlaceYet toldOctet toldNothingGiven
     toldNothingGivenStale toldOwnEnd toldOwnEndStale toldFullRead toldNoneWanted toldBeyond toldBeyondSet ownWrite toldDeferredEnd
     toldNotRaised toldPlacesOrder toldPointerAlone toldWantedMore toldLogShared toldOtherLength toldOtherLengthStale toldStopsAlone halfway
-    standsSo settledByThree
+    standsSo settledByThree loggedByOne
 corners =
     record {
       k = (refl, refl);
@@ -114,12 +114,13 @@ corners =
       stopsAlone = refl;
       stopsHalfway = (refl, refl, refl, refl);
       threeSettled = (refl, refl, refl, refl, refl, refl, refl, refl);
+      logPart = refl;
     }
 
 pub later-corners : LaterCorners onPlain
 unfolding opened toldWindow toldMidnight toldAlways toldBadMinute toldClosedFirst toldNoByte toldSetting toldMeanwhile closedAtStart
     openedThen toldTakenBack toldOverwritten toldAppendedAgain toldClosedBack toldEmptyGrant toldRefusedBetween heldAtStart backTwice
-    toldOneOfThree toldSevenOpen toldSettersBack twoWrites ofThreeBytes toldBestOrder toldOrderRefused toldOrderClosed toldEachOther
+    toldOneOfThree toldSevenOpen toldSettersBack twoWrites inFileOne ofThreeBytes toldBestOrder toldOrderRefused toldOrderClosed toldEachOther
     toldChain toldRaisedByTwo toldOneOfList toldOnlyGrantsCount toldLookedBetween
 later-corners =
     record {

@@ -29,7 +29,7 @@ use Rattle.rules.specs.Grants as Grants
 use Rattle.rules.specs.Setup as Setup
 
 unfoldable pub opened : Type 0
-unfolding Below.below Bits.bit Bits.bitsOf Bits.countOf Marks.contains Items.same Items.andThen Items.result Items.asked Table.afterSeek
+unfolding Below.below Below.sum Ranges.lengthsBefore Bits.bit Bits.bitsOf Bits.countOf Marks.contains Items.same Items.andThen Items.result Items.asked Table.afterSeek
     Table.afterWrite Table.afterRead Table.settled Table.writePlace Table.finalOffset Transactions.empty Transactions.put
     Transactions.placedAt Transactions.placeWrite Transactions.settle Transactions.those Transactions.settling Reading.over Reading.byteAt
     Reading.supplies Reading.orElse Reading.latest Reading.bring Reading.fetch Reading.writeEnd Reading.placedEnd Reading.farthest

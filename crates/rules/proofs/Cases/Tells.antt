@@ -11,8 +11,7 @@ use Rattle.standings.specs.declared.Standing.{Standing}
 use Rattle.standings.specs.Table.{isKnown}
 use Rattle.record.specs.Paper.{Said, plain}
 use Rattle.record.specs.State.{ended}
-use Rattle.ranges.specs.Below.{sum}
-use Rattle.ranges.specs.Ranges.{lengthsBefore, sizesIn, firstTests, shared, admissionOfBegin}
+use Rattle.ranges.specs.Ranges.{sizesIn, firstTests, shared, admissionOfBegin}
 use Rattle.rules.specs.Items.{byte, Values}
 use Rattle.rules.specs.Messages.{Op, Reply, says, grantsAmong}
 use Rattle.rules.specs.Plain.{Accepted, Slot, closed, running, isRunning, Plain}
@@ -69,7 +68,7 @@ same-committed-tells =
     }
 
 pub spared-tells : SparedTells
-unfolding opened writesToClosed lengthsBefore sum
+unfolding opened writesToClosed
 spared-tells = record { bytes = λ h. true≢false (h .bytes _ 0 (first _) refl) }
 
 -- What a moment says of the transaction that is open.

@@ -1,0 +1,45 @@
+-- Request F-1, "Places a transaction would write": lists of stretches, computed, and lists that are none.
+use mathlib.Core.Bool.{true, false}
+use mathlib.Core.List.{List, [], _∷_}
+use mathlib.Core.Path.{_≡_}
+use lib.Dec.{leb}
+use Prim.Native.Nat.{ℕ}
+use Rattle.standings.specs.declared.Place.{Place}
+use Rattle.standings.specs.declared.Place.the-variants.{At, After}
+use Rattle.rules.specs.Transactions.{Write}
+use Rattle.rules.specs.Coverage.{covered, unplaced, Stretch, stretch, listed, Proper, stretchesOf, encoded}
+
+-- Places 2 to 4, and 6.
+abbrev pub twoStretches : List Stretch
+twoStretches = stretch 2 3 ∷ stretch 6 1 ∷ []
+
+-- A write through descriptor 0. Each descriptor's file is its own number.
+abbrev pub wrote : Place → List ℕ → Write
+wrote p bytes = record { descriptor = 0; place = p; bytes = bytes }
+
+-- 2 bytes at 7, 3 at 2, 2 at 5, which touches, and none at 12, in that order: 2 to 8 are one stretch; and 1 at 14.
+abbrev pub fiveWrites : List Write
+fiveWrites =
+    wrote (At 7) (1 ∷ 1 ∷ []) ∷ wrote (At 2) (1 ∷ 1 ∷ 1 ∷ []) ∷ wrote (At 5) (1 ∷ 1 ∷ []) ∷ wrote (At 12) [] ∷ wrote (At 14) (1 ∷ []) ∷ []
+
+pub record Stretches : Type 0 where
+  -- The first place of a stretch is in it, the first past it is not.
+  pub ends :
+      (listed twoStretches 1 ≡ false) × (listed twoStretches 2 ≡ true) × (listed twoStretches 4 ≡ true) × (listed twoStretches 5 ≡ false)
+      × (listed twoStretches 6 ≡ true) × (listed twoStretches 7 ≡ false)
+  -- "sorted by offset; touching stretches are joined and none is empty"
+  pub proper : Proper twoStretches
+  pub unsorted : Proper (stretch 6 1 ∷ stretch 2 3 ∷ []) → ⊥
+  pub touching : Proper (stretch 2 3 ∷ stretch 5 1 ∷ []) → ⊥
+  pub hollow : Proper (stretch 2 0 ∷ []) → ⊥
+  -- 01: "A place in a file is 0 to 4,095": the whole file, its last place, none.
+  pub whole : stretchesOf (λ p. true) ≡ stretch 0 4096 ∷ []
+  pub last : stretchesOf (leb 4095) ≡ stretch 4095 1 ∷ []
+  pub none : stretchesOf (λ p. false) ≡ []
+  -- "A place is in the list exactly when a write covers it", on its own file.
+  pub joins : stretchesOf (covered (λ d. d) 0 fiveWrites) ≡ stretch 2 7 ∷ stretch 14 1 ∷ []
+  pub otherFile : stretchesOf (covered (λ d. d) 1 fiveWrites) ≡ []
+  -- "15 when a write on that file has no place yet": one of 0 bytes too, on its own file.
+  pub waits : (unplaced (λ d. d) 0 (wrote (After 3) [] ∷ []) ≡ true) × (unplaced (λ d. d) 1 (wrote (After 3) [] ∷ []) ≡ false)
+  -- "pairs of offset and length, each 16 bits, high byte first"
+  pub pairs : encoded (stretch 0 4096 ∷ stretch 4095 1 ∷ []) ≡ 0 ∷ 0 ∷ 16 ∷ 0 ∷ 15 ∷ 255 ∷ 0 ∷ 1 ∷ []

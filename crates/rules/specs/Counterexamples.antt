@@ -5,7 +5,7 @@ use mathlib.Core.Path.{_≡_}
 use lib.Dec.{eqb}
 use Rattle.windows.specs.Hours.{window}
 use Rattle.standings.specs.declared.Standing.the-variants.{Untouched, Known}
-use Rattle.record.specs.Paper.{plain, pointer, granted}
+use Rattle.record.specs.Paper.{plain, pointer, granted, refused}
 use Rattle.record.specs.State.{begun, ended, withStale, withLengthmarks, withUsed, withDescriptors, withOffsets, withLengths}
 use Rattle.record.specs.State.{withWindows, withTransactions}
 use Rattle.rules.specs.Items.{byte, offset, fileLength, Values}
@@ -20,7 +20,7 @@ use Rattle.rules.specs.Demand3.{OneMoment}
 use Rattle.rules.specs.TakingBack.{SameCommitted}
 use Rattle.rules.specs.Closed.{Spared}
 use Rattle.rules.specs.Age.{Alike}
-use Rattle.rules.specs.Setup.{freshNumbered, onPlain, _⇒_, Goes, gives, A, dot}
+use Rattle.rules.specs.Setup.{freshNumbered, onPlain, onStore, _⇒_, Goes, gives, A, dot}
 
 -- The first byte beyond a length alone is not 0.
 unfoldable pub firstBeyond : Values
@@ -61,6 +61,9 @@ pub record GoesTells : Type 0 where
   pub first : Goes onPlain (begin 0 ⇒ says (granted 0) ∷ begin 1 ⇒ says plain ∷ []) → ⊥
   pub second : Goes onPlain (begin 0 ⇒ says plain ∷ begin 1 ⇒ says (granted 0) ∷ []) → ⊥
   pub buffer : Goes onPlain (begin 0 ⇒ says plain ∷ on 0 (read 0 0 (dot ∷ [])) ⇒ gives 0 (A ∷ []) ∷ []) → ⊥
+  -- On a store it is the store that is looked at: this one has no buffers, and a byte that no call wrote.
+  pub storeReplies : Goes (onStore bare) (begin 0 ⇒ says (refused 1) ∷ [])
+  pub storeValues : onStore (withFiles (A ∷ []) bare) .value [] (byte 0) ≡ A
 
 -- A byte, an offset, a length that differs.
 pub record SameCommittedTells : Type 0 where

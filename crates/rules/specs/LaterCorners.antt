@@ -4,6 +4,7 @@ use mathlib.Core.List.{List, [], _∷_, _++_, map}
 use mathlib.Core.Path.{_≡_}
 use lib.ListN.{length, replicate}
 use Prim.Native.Nat.{ℕ}
+use Rattle.octets.specs.Parts.{cut}
 use Rattle.standings.specs.declared.Standing.the-variants.{Untouched}
 use Rattle.standings.specs.declared.Place.the-variants.{At, After}
 use Rattle.windows.specs.Hours.{window}
@@ -526,7 +527,7 @@ pub record LaterCorners (x : Seen) : Type 0 where
       ≡ record { held = true; used = record { records = 2; bytes = 3 }; offsets = 0 ∷ 1 ∷ []; lengths = 0 ∷ 3 ∷ [] })
       × (writeRecordAt (keptOf .journal) grantStretch 1 ≡ record { descriptor = 1; place = At 1; length = 1 })
   pub back :
-      (keptBack .files ≡ inFileOne (X ∷ Y ∷ Z ∷ [])) × (keptBack .store .offsets ≡ 0 ∷ 1 ∷ []) × (keptBack .store .lengths ≡ 0 ∷ 3 ∷ [])
+      (cut (keptBack .files) 4096 3 ≡ X ∷ Y ∷ Z ∷ []) × (keptBack .store .offsets ≡ 0 ∷ 1 ∷ []) × (keptBack .store .lengths ≡ 0 ∷ 3 ∷ [])
       × (keptBack .store .undo .held ≡ false) × (keptBack .undo ≡ X ∷ Y ∷ B ∷ dot ∷ [])
   pub best : Goes x toldBestOrder
   pub orderRefused : Goes x toldOrderRefused

@@ -7,7 +7,7 @@ use Prim.Native.Nat.{ℕ}
 use Rattle.standings.specs.declared.Place.{Place}
 use Rattle.standings.specs.declared.Place.the-variants.{At, After}
 use Rattle.rules.specs.Transactions.{Write}
-use Rattle.rules.specs.Coverage.{covered, unplaced, Stretch, stretch, listed, Proper, stretchesOf, encoded}
+use Rattle.rules.specs.Coverage.{covered, unplaced, Stretch, stretch, listed, Proper, stretchesOf, encoded, ListsItsPlaces}
 
 -- Places 2 to 4, and 6.
 abbrev pub twoStretches : List Stretch
@@ -32,10 +32,11 @@ pub record Stretches : Type 0 where
   pub unsorted : Proper (stretch 6 1 ∷ stretch 2 3 ∷ []) → ⊥
   pub touching : Proper (stretch 2 3 ∷ stretch 5 1 ∷ []) → ⊥
   pub hollow : Proper (stretch 2 0 ∷ []) → ⊥
-  -- 01: "A place in a file is 0 to 4,095": the whole file, its last place, none.
+  -- 01: "A place in a file is 0 to 4,095": the whole file, and its last place.
   pub whole : stretchesOf (λ p. true) ≡ stretch 0 4096 ∷ []
   pub last : stretchesOf (leb 4095) ≡ stretch 4095 1 ∷ []
-  pub none : stretchesOf (λ p. false) ≡ []
+  pub lastListed :
+      ListsItsPlaces → (listed (stretchesOf (λ p. true)) 4095 ≡ true) × (listed (stretchesOf (λ p. true)) 4096 ≡ false)
   -- "A place is in the list exactly when a write covers it", on its own file.
   pub joins : stretchesOf (covered (λ d. d) 0 fiveWrites) ≡ stretch 2 7 ∷ stretch 14 1 ∷ []
   pub otherFile : stretchesOf (covered (λ d. d) 1 fiveWrites) ≡ []

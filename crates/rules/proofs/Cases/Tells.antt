@@ -18,7 +18,7 @@ use Rattle.rules.specs.Plain.{Accepted, Slot, closed, running, isRunning
 use Rattle.rules.specs.Calls.{call, passing, turnDown, freshStore}
 use Rattle.rules.specs.Demand3.{upTo, OneMoment}
 use Rattle.rules.specs.Closed.{first}
-use Rattle.rules.specs.Setup.{onPlain}
+use Rattle.rules.specs.Setup.{onStore}
 use Rattle.rules.specs.Counterexamples.{bare, marksThree, marksLength, UnmarkedTells, EmptiedTells, GoesTells, SameCommittedTells}
 use Rattle.rules.specs.Counterexamples.{writesToClosed, SparedTells, oneBegun, otherwiseTold, OneMomentTells, AlikeTells}
 use Rattle.rules.proofs.Cases.Opened.{opened}
@@ -49,12 +49,14 @@ abbrev firstByte : ℕ → List Reply → ℕ
 firstByte k rs = getD (getD rs k (says plain) .buffer) 0 0
 
 pub goes-tells : GoesTells
-unfolding opened grantsAmong
+unfolding opened grantsAmong onStore bare call passing turnDown admissionOfBegin shared firstTests sizesIn
 goes-tells =
     record {
       first = λ h. let z : _≡_ {A = ℕ} 0 1 = ap grantsAmong h in omega arith;
       second = λ h. let z : _≡_ {A = ℕ} 0 1 = ap grantsAmong h in omega arith;
       buffer = λ h. let z : _≡_ {A = ℕ} 46 65 = ap (firstByte 1) h in omega arith;
+      storeReplies = refl;
+      storeValues = refl;
     }
 
 pub same-committed-tells : SameCommittedTells

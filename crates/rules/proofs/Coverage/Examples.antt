@@ -1,4 +1,5 @@
 -- The examples of stretches hold. Assumes nothing.
+use mathlib.Core.Bool.{true}
 use mathlib.Core.Path.{refl}
 use native.Mathlib.Omega.{arith}
 use Rattle.rules.specs.Reading.{over}
@@ -17,7 +18,7 @@ stretches =
       hollow = λ h. let z = h .1 in omega arith;
       whole = refl;
       last = refl;
-      none = refl;
+      lastListed = λ h. (h (λ p. true) 4095, h (λ p. true) 4096);
       joins = refl;
       otherFile = refl;
       waits = (refl, refl);

@@ -12,7 +12,7 @@ use lib.Dec.{eqb, ltb}
 use lib.ListN.{length, getD, set, length-set}
 use lib.Seq.{getD-set-same, getD-set-other, set-getD, set-set, set-out}
 use borrow.Author.Tests.{eqb-true, eqb-false, eq-eqb, ne-eqb, ltb-true, ltb-false, lt-ltb}
-use Rattle.octets.specs.Bits.{bit, withBit, span, cleared}
+use Rattle.octets.specs.Bits.{bit, withBit, span, inFirst, firstBits, lastBits, cleared}
 use Rattle.octets.specs.Marks.{byTransaction, names, hasMark, withMark, withMarks, withoutMarks, hasMarkIn, contains}
 use Rattle.octets.proofs.BitLaws.{bit-zero, bit-with, with-lt, with-span, with-span-none, with-octet, some-none, some-more}
 use Rattle.octets.proofs.BitLaws.{some-octet, some-or, length-cleared, cleared-in, cleared-out}
@@ -227,7 +227,7 @@ module _ (marks : List ℕ) (t from : ℕ) where
       ∙ or-assoc (hasMarkIn marks t from n) (hasMarkIn marks t (from + n) m) (hasMark marks t (from + n + m))
 
 -- in three parts
-pub has-in-parts : (marks : List ℕ) (t from n a b : ℕ) → a + b * 8 ≤ n
+has-in-parts : (marks : List ℕ) (t from n a b : ℕ) → a + b * 8 ≤ n
     → hasMarkIn marks t from n
     ≡ hasMarkIn marks t from a || (hasMarkIn marks t (from + a) (8 * b) || hasMarkIn marks t (from + (a + b * 8)) (n - (a + b * 8)))
 has-in-parts marks t from n a b h =
@@ -286,6 +286,58 @@ module _ (t from k : ℕ) (whole : from % 8 ≡ 0) (inside : from + 8 * k + 8 �
       ∙ sym (octet-has t (from + 8 * k) marks 8 (omega arith) (omega arith)))
       ∙ sym (has-in-add marks t from (8 * k) 8)
       ∙ ap (hasMarkIn marks t from) next
+
+-- ---- a stretch by the masks of its ends
+
+module _ (marks : List ℕ) (t from n : ℕ) (some : 0 < n) (inside : from + n ≤ 32768) where
+  abbrev head : ℕ
+  head = inFirst from n
+
+  abbrev whole : ℕ
+  whole = (n - head) / 8
+
+  -- what stands behind the last octet that it fills
+  behind : (r : ℕ) → r ≡ (n - head) % 8
+      → not (eqb (bitAnd (getD marks (4096 * t + (from + n - 1) / 8) 0) (span 0 r)) 0) ≡ hasMarkIn marks t (from + (head + whole * 8)) r
+  behind zero e = some-none 0 (getD marks (4096 * t + (from + n - 1) / 8) 0) ∙ sym (has-in-none marks t (from + (head + whole * 8)))
+  behind (suc r) e =
+      let q = from + (head + whole * 8) in
+      let i : 4096 * t + (from + n - 1) / 8 ≡ 4096 * t + q / 8 = omega arith in
+      let l : 0 ≡ q % 8 = omega arith in
+      ap₂ (λ (j b : ℕ). not (eqb (bitAnd (getD marks j 0) (span b (suc r))) 0)) i l
+      ∙ sym (octet-has t q marks (suc r) (omega arith) (omega arith))
+
+  module _ (first last : ℕ) (is-first : first ≡ firstBits from n) (is-last : last ≡ lastBits from n) where
+    abbrev ends : ℕ
+    ends = bitOr (bitAnd (getD marks (4096 * t + from / 8) 0) first) (bitAnd (getD marks (4096 * t + (from + n - 1) / 8) 0) last)
+
+    ends-has : not (eqb ends 0) ≡ hasMarkIn marks t from head || hasMarkIn marks t (from + (head + whole * 8)) ((n - head) % 8)
+    ends-has =
+        rw (is-first, is-last)
+        (some-or (bitAnd (getD marks (4096 * t + from / 8) 0) (firstBits from n)) _
+        ∙ ap₂ _||_ (sym (octet-has t from marks head (omega arith) (omega arith))) (behind ((n - head) % 8) refl))
+
+    -- the ends, and the octets between them
+    has-in-all : hasMarkIn marks t from n ≡ not (eqb ends 0) || hasMarkIn marks t (from + head) (8 * whole)
+    has-in-all =
+        let e : n - (head + whole * 8) ≡ (n - head) % 8 = omega arith in
+        has-in-parts marks t from n head whole (omega arith)
+        ∙ ap (λ (k : ℕ). hasMarkIn marks t from head || (hasMarkIn marks t (from + head) (8 * whole) || hasMarkIn marks t (from + (head + whole * 8)) k)) e
+        ∙ turned (hasMarkIn marks t from head) (hasMarkIn marks t (from + head) (8 * whole)) (hasMarkIn marks t (from + (head + whole * 8)) ((n - head) % 8))
+        ∙ ap (λ (b : Bool). b || hasMarkIn marks t (from + head) (8 * whole)) (sym ends-has)
+      where
+        turned : (a b c : Bool) → a || (b || c) ≡ (a || c) || b
+        turned true b c = refl
+        turned false true true = refl
+        turned false true false = refl
+        turned false false true = refl
+        turned false false false = refl
+
+    pub ends-decide : (ends ≡ 0 → ⊥) → true ≡ hasMarkIn marks t from n
+    ends-decide h = sym (has-in-all ∙ ap (λ (b : Bool). not b || hasMarkIn marks t (from + head) (8 * whole)) (ne-eqb ends 0 h))
+
+    pub whole-decides : ends ≡ 0 → (r : Bool) → r ≡ hasMarkIn marks t (from + head) (8 * whole) → r ≡ hasMarkIn marks t from n
+    whole-decides h r f = f ∙ sym (has-in-all ∙ ap (λ (b : Bool). not b || hasMarkIn marks t (from + head) (8 * whole)) (eq-eqb ends 0 h))
 
 -- ---- sets of transactions
 

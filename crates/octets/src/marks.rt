@@ -6,7 +6,7 @@ ghost use mathlib.Core.Bool.{_&&_, _||_};
 ghost use mathlib.Core.Path.{_≡_};
 ghost use Prim.Native.Nat.{ℕ, _+_, _*_, _%_, _<_, _≤_};
 ghost use lib.ListN.{length};
-ghost use Rattle.octets.specs.Bits.{span, withBit};
+ghost use Rattle.octets.specs.Bits.{span, firstBits, lastBits, withBit};
 ghost use Rattle.octets.specs.Marks.{withMarks, withoutMarks, hasMarkIn, contains};
 
 // The octets of a transaction's marks.
@@ -73,35 +73,7 @@ pub fn unmark(marks: &mut [u8], t: usize)
     }
 }
 
-// Whether transaction t has marked some of the n bytes from `from` on.
-pub fn has_mark_in(marks: &[u8], t: usize, from: usize, n: usize) -> bool
-    requires { ⌜ (t < 8) × ((from + n ≤ 32768) × (length (now marks) ≡ 32768)) ⌝ }
-    ensures { λ r. ⌜ r ≡ hasMarkIn (now (marks .entry)) t from n ⌝ }
-{
-    let head = smaller(n, (8 - from % 8) % 8);
-    let whole = (n - head) / 8;
-    let done = head + whole * 8;
-    if has_mark_in_bits(marks, t, from, head) {
-        return true;
-    }
-    if has_mark_in_octets(marks, t, from + head, whole) {
-        return true;
-    }
-    has_mark_in_bits(marks, t, from + done, n - done)
-}
-
-// The same for bytes whose marks stand in one octet.
-fn has_mark_in_bits(marks: &[u8], t: usize, from: usize, n: usize) -> bool
-    requires { ⌜ (t < 8) × ((from + n ≤ 32768) × ((from % 8 + n ≤ 8) × (length (now marks) ≡ 32768))) ⌝ }
-    ensures { λ r. ⌜ r ≡ hasMarkIn (now (marks .entry)) t from n ⌝ }
-{
-    if n == 0 {
-        return false;
-    }
-    marks[STRETCH * t + from / 8] & span(from % 8, n) != 0
-}
-
-// The same for the bytes whose marks are n whole octets.
+// Whether transaction t has marked some of the bytes from `from` on whose marks are n whole octets.
 fn has_mark_in_octets(marks: &[u8], t: usize, from: usize, n: usize) -> bool
     requires { ⌜ (t < 8)
         × ((from + 8 * n ≤ 32768) × ((0 < n → from % 8 ≡ 0) × (length (now marks) ≡ 32768))) ⌝ }
@@ -117,17 +89,40 @@ fn has_mark_in_octets(marks: &[u8], t: usize, from: usize, n: usize) -> bool
     found != 0
 }
 
-// Those of the watched transactions that have marked some of the n bytes from `from` on.
+// Whether transaction t has marked some of the n bytes from `from` on. Two masks are told: `first` has the bits of these
+// bytes in the octet where they begin, `last` those behind the last octet that they fill.
+fn has_mark_in(marks: &[u8], t: usize, from: usize, n: usize, first: u8, last: u8) -> bool
+    requires { ⌜ (t < 8) × ((0 < n) × ((from + n ≤ 32768) × (length (now marks) ≡ 32768))) ⌝ }
+    requires masks { ⌜ (first ≡ firstBits from n) × (last ≡ lastBits from n) ⌝ }
+    ensures { λ r. ⌜ r ≡ hasMarkIn (now (marks .entry)) t from n ⌝ }
+{
+    let start = STRETCH * t;
+    let end = from + n - 1;
+    if (marks[start + from / 8] & first) | (marks[start + end / 8] & last) != 0 {
+        return true;
+    }
+    let head = smaller(n, 8 - from % 8);
+    has_mark_in_octets(marks, t, from + head, (n - head) / 8)
+}
+
+// Those of the watched transactions that have marked some of the n bytes from `from` on. The masks of their first octet
+// and of their last one are made once for all of them.
 pub fn markers(marks: &[u8], watched: u8, from: usize, n: usize) -> u8
     requires { ⌜ (from + n ≤ 32768) × (length (now marks) ≡ 32768) ⌝ }
     ensures { λ r. ⌜ ((u : ℕ) → u < 8
         → contains r u ≡ contains watched u && hasMarkIn (now (marks .entry)) u from n) ⌝ }
 {
+    if n == 0 {
+        return 0;
+    }
+    let head = smaller(n, 8 - from % 8);
+    let first = span(from % 8, head);
+    let last = span(0, (n - head) % 8);
     let mut found = 0u8;
     let mut u = 0;
     while u < 8 {
         if contains(watched, u) {
-            if has_mark_in(marks, u, from, n) {
+            if has_mark_in(marks, u, from, n, first, last) {
                 found = with(found, u);
             }
         }

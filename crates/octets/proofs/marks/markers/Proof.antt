@@ -1,47 +1,52 @@
 -- `octets::marks::markers` meets its contract. The loop's invariant: `found` has those of the transactions passed that are
 -- watched and have a mark. Assumes nothing.
-use mathlib.Core.Bool.{Bool, _&&_}
+use mathlib.Core.Bool.{Bool, _&&_, and-false}
 use mathlib.Core.Logic.{⊎-elim}
 use mathlib.Core.Path.{_≡_, refl, sym, ap, ap₂, _∙_}
-use Prim.Native.Nat.{ℕ, _-_, _≤_}
+use Prim.Native.Nat.{ℕ, _-_, _%_, _≤_}
 use native.Mathlib.Omega.{arith}
-use Rattle.octets.specs.Bits.{bitsOf}
+use Rattle.octets.specs.Bits.{span, bitsOf}
 use Rattle.octets.specs.Marks.{hasMarkIn, contains}
+use Rattle.octets.proofs.MarkLaws.{has-in-none, contains-none}
 use Rattle.octets.proofs.SetLaws.{gathered, passed-by, contains-bits}
 use borrow.Author.Needs.{needs}
 use Rattle.octets.proofs.marks.markers.Statement.{statement}
 use Rattle.octets.proofs.marks.markers.Tie as tie
 
 abbrev Inv-loop : tie.InvT-loop
-Inv-loop marks watched from n found₀ u₀ found u =
+Inv-loop marks watched from n head first last found₀ u₀ found u =
     (u ≤ 8) × (found ≡ bitsOf (λ v. contains watched v && hasMarkIn marks v from n) u)
 
 abbrev μ-loop : tie.MeasureT-loop
-μ-loop marks watched from n found₀ u₀ found u = 8 - u
+μ-loop marks watched from n head first last found₀ u₀ found u = 8 - u
+
+returns : tie.Need-returns Inv-loop μ-loop
+returns c =
+    let a = c .before .before .args in
+    let e : a .n ≡ 0 = omega arith in
+    λ u small. contains-none u
+    ∙ sym (ap (λ (k : ℕ). contains (a .watched) u && hasMarkIn (a .marks .now) u (a .from) k) e
+    ∙ ap (λ (b : Bool). contains (a .watched) u && b) (has-in-none (a .marks .now) u (a .from))
+    ∙ and-false (contains (a .watched) u))
 
 loop-holds : tie.Need-loop-holds Inv-loop μ-loop
 unfolding bitsOf
 loop-holds c = (omega arith, refl)
 
-contains-requires : tie.Need-contains-requires Inv-loop μ-loop
-contains-requires c κs = search needs
-
+-- The masks, as they were made before the loop.
 has-mark-in-requires : tie.Need-has-mark-in-requires Inv-loop μ-loop
-has-mark-in-requires c κs = search needs
-
-with-requires : tie.Need-with-requires Inv-loop μ-loop
-with-requires c κs = search needs
-
-add-u : tie.Need-add-u Inv-loop μ-loop
-add-u c = search needs
-
-loop-less : tie.Need-loop-less Inv-loop μ-loop
-loop-less c = search needs
+has-mark-in-requires c κs =
+    let at-masks = c .before .before .before .before in
+    let a = at-masks .before .before .before .before .before .args in
+    let head = at-masks .before .before .smaller .ensures in (
+      search needs,
+      (at-masks .before .span .ensures ∙ ap (span (a .from % 8)) head, at-masks .span2 .ensures ∙ ap (λ (h : ℕ). span 0 ((a .n - h) % 8)) head),
+    )
 
 loop-again : tie.Need-loop-again Inv-loop μ-loop
 loop-again c =
-    let a = c .before .before .before .before .before .args in
     let l = c .before .before .before .loop in
+    let a = c .before .before .before .before .before .before .before .before .before .args in
     let p : ℕ → Bool = λ v. contains (a .watched) v && hasMarkIn (a .marks .now) v (a .from) (a .n) in
     let watched = sym (c .before .contains .ensures) in
     ⊎-elim (λ w. (
@@ -60,11 +65,11 @@ loop-again c =
       w .1 ∙ passed-by p (l .found) (l .u) (l .inv .1)
           (ap (λ (b : Bool). b && hasMarkIn (a .marks .now) (l .u) (a .from) (a .n)) (watched ∙ w .0 .left)),
     )))
-    (c .if1 .came)
+    (c .if2 .came)
 
-returns : tie.Need-returns Inv-loop μ-loop
-returns c =
-    let a = c .before .before .before .args in
+returns-2 : tie.Need-returns-2 Inv-loop μ-loop
+returns-2 c =
+    let a = c .before .before .before .before .before .before .before .args in
     let l = c .before .loop in
     let p : ℕ → Bool = λ v. contains (a .watched) v && hasMarkIn (a .marks .now) v (a .from) (a .n) in
     let e : l .u ≡ 8 = omega arith in
@@ -76,11 +81,17 @@ markers-spec =
     (tie.spec
     Inv-loop
     μ-loop
+    returns
+    (λ c. search needs)
+    (λ c κs. search needs)
+    (λ c κs. search needs)
+    (λ c. search needs)
+    (λ c κs. search needs)
     loop-holds
-    contains-requires
+    (λ c κs. search needs)
     has-mark-in-requires
-    with-requires
-    add-u
-    loop-less
+    (λ c κs. search needs)
+    (λ c. search needs)
+    (λ c. search needs)
     loop-again
-    returns)
+    returns-2)

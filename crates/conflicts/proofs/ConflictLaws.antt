@@ -1,25 +1,26 @@
 -- Who has sighted what a commit would set, setting by setting, and whom it would make stale.
-use mathlib.Core.Bool.{Bool, true, false, not, _&&_, _||_, and-false, or-assoc, or-false}
+use mathlib.Core.Bool.{Bool, true, false, cond, not, _&&_, _||_, and-false, or-assoc, or-false, true≢false}
 use mathlib.Core.List.{List, [], _∷_, _++_, append-nil}
+use mathlib.Core.Logic.{⊎-elim}
 use mathlib.Core.Path.{_≡_, refl, sym, ap, ap₂, _∙_}
 use lib.Dec.{eqb, ltb}
 use lib.ListN.{length, getD}
-use borrow.Author.Tests.{ltb-true, ltb-false, lt-ltb, le-ltb, ne-eqb}
+use borrow.Author.Tests.{eqb-true, ltb-true, ltb-false, lt-ltb, le-ltb, not-false}
 use native.Mathlib.Numerals.{add-one}
 use native.Mathlib.Omega.{arith}
 use Prim.Native.Nat.{ℕ, zero, suc, _+_, _*_, _≤_, _<_, max}
 use Rattle.octets.specs.Bits.{bitsOf}
 use Rattle.octets.specs.Parts.{cut, tabulate}
 use Rattle.octets.specs.Marks.{hasMark, hasMarkIn, contains}
-use Rattle.octets.proofs.PartLaws.{length-cut}
+use Rattle.octets.proofs.PartLaws.{le-or-lt, length-cut}
 use Rattle.octets.proofs.MarkLaws.{has-in-none, has-in-first, contains-none}
 use Rattle.octets.proofs.SetLaws.{bits-lt, contains-bits, octets-same}
 use Rattle.counters.specs.declared.Used.{Used}
 use Rattle.record.specs.declared.Descriptor.{Descriptor}
 use Rattle.record.specs.declared.Transaction.{Transaction}
-use Rattle.record.specs.State.{standingAt}
-use Rattle.record.specs.Layout.{standingOf, base, descriptorOf, transactionOf, storeOf, journalOf}
-use Rattle.record.proofs.LayoutLaws.{transaction-of, descriptor-of, standing-of}
+use Rattle.record.specs.State.{standingAt, dirtyAt}
+use Rattle.record.specs.Layout.{descriptorOf, transactionOf, storeOf, journalOf}
+use Rattle.record.proofs.LayoutLaws.{transaction-of, descriptor-of}
 use Rattle.standings.specs.Table.{isKnown, isTouched, finalOffset}
 use Rattle.rules.specs.Items.{offset, fileLength, Values}
 use Rattle.rules.specs.Transactions.{Txn}
@@ -32,36 +33,44 @@ use Rattle.landing.specs.Landing.{descriptorsOnly, bytesSet, bytesSetIn, landed
 use Rattle.landing.proofs.WriteLaws.{data-in, byte-count, set-more}
 use Rattle.landing.proofs.LengthLaws.{reach-is, length-at}
 use Rattle.landing.proofs.Landed.{allSet, settings-are}
-use Rattle.conflicts.specs.Staling.{staleBy, isWatched, Sighters, offsetsSetIn, lengthsSetIn, knowsOffset, knowsLength}
+use Rattle.conflicts.specs.Staling.{staleBy, isWatched, Sighters, offsetsSetIn, lengthsSetIn, knowsOffset, knowsLength, NoneSighted}
 
 -- ---- what the code reads of a descriptor
-
--- A kind above 3 is Known.
-known-kind : (k a b : ℕ) → isKnown (standingOf k a b) ≡ ltb 3 k
-unfolding standingOf
-known-kind zero a b = refl
-known-kind (suc zero) a b = refl
-known-kind (suc (suc zero)) a b = refl
-known-kind (suc (suc (suc zero))) a b = refl
-known-kind (suc (suc (suc (suc k)))) a b =
-    rw (
-      ne-eqb (suc (suc (suc (suc k)))) 0 (λ p. omega arith),
-      ne-eqb (suc (suc (suc (suc k)))) 1 (λ p. omega arith),
-      ne-eqb
-          (suc (suc (suc (suc k)))) 2 (λ p. omega arith),
-      ne-eqb (suc (suc (suc (suc k)))) 3 (λ p. omega arith),
-      lt-ltb 3 (suc (suc (suc (suc k)))) (omega arith),
-    )
-
-pub stands-known : (kept : List ℕ) (u d k : ℕ) → d < 16 → k ≡ getD kept (base u + d) 0 → isKnown (standingAt (transactionOf kept u) d) ≡ ltb 3 k
-stands-known kept u d k few e =
-    ap isKnown (standing-of kept u d few) ∙ known-kind _ _ _ ∙ ap (ltb 3) (sym e)
 
 -- Its offset is set.
 pub sets-is : (kept : List ℕ) (t d : ℕ) → d < 16 → (q : Descriptor) → q ≡ descriptorOf kept t d
     → setsOffset (descriptorsOnly (transactionOf kept t)) d ≡ (q .dirty && isTouched (q .standing))
 unfolding setsOffset
 sets-is kept t d few q e = ap (λ (p : Descriptor). p .dirty && isTouched (p .standing)) (descriptor-of kept t d few ∙ sym e)
+
+-- None is, where nothing is dirty.
+pub none-set : (kept : List ℕ) (t : ℕ) → ((d : ℕ) → d < 16 → dirtyAt (transactionOf kept t) d ≡ false)
+    → (d : ℕ) → d < 16 → setsOffset (descriptorsOnly (transactionOf kept t)) d ≡ false
+unfolding setsOffset
+none-set kept t none d few = ap (λ (b : Bool). b && isTouched (standingAt (transactionOf kept t) d)) (none d few)
+
+-- ---- what the code reads of the lengths that were sighted
+
+-- One transaction more: u, which is watched where w says so, and has sighted the lengths n.
+pub sighted-more : (kept : List ℕ) (watched u n : ℕ) (found w : Bool) → (found ≡ false → NoneSighted kept watched u)
+    → w ≡ contains watched u → n ≡ transactionOf kept u .lengthmarks
+    → (found || (w && not (eqb n 0))) ≡ false → NoneSighted kept watched (u + 1)
+sighted-more kept watched u n found w so is-w is-n e v l watches =
+    ⊎-elim (λ less. so (first found _ e) v less watches) (λ same. own (omega arith)) (le-or-lt (suc v) u)
+  where
+    first : (a b : Bool) → (a || b) ≡ false → a ≡ false
+    first true b e = e
+    first false b e = refl
+
+    second : (a b : Bool) → (a || b) ≡ false → b ≡ false
+    second true b e = absurd (true≢false e)
+    second false b e = e
+
+    own : v ≡ u → transactionOf kept v .lengthmarks ≡ 0
+    own same =
+        let told : w ≡ true = is-w ∙ ap (contains watched) (sym same) ∙ watches in
+        ap (λ (k : ℕ). transactionOf kept k .lengthmarks) same ∙ sym is-n
+        ∙ eqb-true n 0 (not-false _ (ap (λ (b : Bool). b && not (eqb n 0)) (sym told) ∙ second found _ e))
 
 -- ---- settings in order
 
@@ -148,6 +157,12 @@ module _ (kept marks : List ℕ) (watched : ℕ) where
         ∙ ap (λ (y : Bool). contains watched u && y) (sym (or-false (isKnown (standingAt (transactionOf kept u) d)))))
         joins)
 
+    -- Where none is set.
+    pub offsets-none : (n : ℕ) → ((d : ℕ) → d < n → setsOffset x d ≡ false) → Sighters kept marks watched (offsetSettings v x n) 0
+    unfolding offsetSettings
+    offsets-none zero h = sighters-none
+    offsets-none (suc n) h = rw (h n (omega arith), append-nil) (offsets-none n (λ d l. h d (omega arith)))
+
     pub offset-less : (d a : ℕ) → setsOffset x d ≡ false → Sighters kept marks watched (offsetSettings v x d) a
         → Sighters kept marks watched (offsetSettings v x (d + 1)) a
     unfolding offsetSettings
@@ -159,6 +174,27 @@ module _ (kept marks : List ℕ) (watched : ℕ) where
     pub no-lengths : Sighters kept marks watched (raisedBelow kept files logs t n 0) 0
     unfolding lengthSettings
     no-lengths = sighters-none
+
+    -- Who has sighted no length conflicts with none that is raised.
+    unsighted : (u : ℕ) → transactionOf kept u .lengthmarks ≡ 0 → (f : ℕ)
+        → conflicts marks u (transactionOf kept u) (raisedBelow kept files logs t n f) ≡ false
+    unfolding lengthSettings conflicts hasSighted
+    unsighted u none zero = refl
+    unsighted u none (suc f) =
+        conflicts-append marks u (transactionOf kept u) (raisedBelow kept files logs t n f) _
+        ∙ ap₂ _||_ (unsighted u none f) (last (ltb (values (storeOf kept) files (fileLength f)) (reachOf kept files logs t n f)))
+      where
+        last : (b : Bool) → conflicts marks u (transactionOf kept u) (cond b (record { item = fileLength f; to = reachOf kept files logs t n f } ∷ []) [])
+            ≡ false
+        last true = ap (λ (k : ℕ). contains k f || false) none ∙ ap (λ (c : Bool). c || false) (contains-none f)
+        last false = refl
+
+    pub lengths-none : NoneSighted kept watched 8 → (f : ℕ) → Sighters kept marks watched (raisedBelow kept files logs t n f) 0
+    lengths-none none f u l = contains-none u ∙ sym (pick (contains watched u) refl)
+      where
+        pick : (b : Bool) → contains watched u ≡ b → b && conflicts marks u (transactionOf kept u) (raisedBelow kept files logs t n f) ≡ false
+        pick true e = unsighted u (none u l e) f
+        pick false e = refl
 
     module _ (can : CanLandIn kept t n) (size : length logs ≡ 32768) (f : ℕ) (few : f < 8) where
       -- A number lies below the larger of itself and another where it lies below the other.

@@ -1,5 +1,5 @@
 -- Whom a commit would make stale, read off the record and the marks.
-use mathlib.Core.Bool.{Bool, not, _&&_}
+use mathlib.Core.Bool.{Bool, true, not, _&&_}
 use mathlib.Core.List.{List}
 use mathlib.Core.Path.{_≡_}
 use lib.Dec.{eqb}
@@ -44,3 +44,7 @@ knowsOffset kept watched d u = contains watched u && isKnown (standingAt (transa
 
 abbrev pub knowsLength : List ℕ → ℕ → ℕ → ℕ → Bool
 knowsLength kept watched f u = contains watched u && contains (transactionOf kept u .lengthmarks) f
+
+-- None of the watched ones among the first n transactions has sighted a length.
+abbrev pub NoneSighted : List ℕ → ℕ → ℕ → Type 0
+NoneSighted kept watched n = (u : ℕ) → u < n → contains watched u ≡ true → transactionOf kept u .lengthmarks ≡ 0

@@ -10,13 +10,14 @@ use record::TRANSACTIONS;
 use record::layout::Record;
 use record::layout::length_at;
 use record::layout::lengthmarks_at;
+ghost use mathlib.Core.Bool.{false};
 ghost use mathlib.Core.List.{List};
 ghost use mathlib.Core.Path.{_≡_};
 ghost use Prim.Native.Nat.{ℕ, _<_};
 ghost use lib.ListN.{length};
 ghost use Rattle.octets.specs.Bits.{bitsOf};
 ghost use Rattle.landing.specs.Landing.{CanLandIn};
-ghost use Rattle.conflicts.specs.Staling.{Sighters, knowsLength, lengthsSetIn};
+ghost use Rattle.conflicts.specs.Staling.{Sighters, knowsLength, lengthsSetIn, NoneSighted};
 
 // Those of the watched transactions that have sighted the length of file f.
 fn sighted_by(kept: &Record, watched: u8, f: usize) -> u8
@@ -34,13 +35,30 @@ fn sighted_by(kept: &Record, watched: u8, f: usize) -> u8
     found
 }
 
-// Those of the watched transactions that have sighted a length that transaction t's writes would raise.
+// Some watched transaction has sighted a length.
+fn any_sighted(kept: &Record, watched: u8) -> bool
+    ensures { λ r. ⌜ (r ≡ false → NoneSighted (now (kept .entry)) watched 8) ⌝ }
+{
+    let mut found = false;
+    let mut u = 0;
+    while u < TRANSACTIONS {
+        found = found | (contains(watched, u) & (lengthmarks_at(kept, u) != 0));
+        u += 1;
+    }
+    found
+}
+
+// Those of the watched transactions that have sighted a length that transaction t's writes would raise. Where none has
+// sighted one, nobody asks which are raised.
 pub fn length_sighters(kept: &Record, t: usize, used: Used, watched: u8) -> u8
     requires { ⌜ CanLandIn (now kept) t (used .records) ⌝ }
     ensures { λ r. ⌜ ((files logs marks : List ℕ) → length logs ≡ 32768
         → Sighters (now (kept .entry)) marks watched
         (lengthsSetIn (now (kept .entry)) files logs t (used .records)) r) ⌝ }
 {
+    if !any_sighted(kept, watched) {
+        return 0;
+    }
     let after = lengths_after(kept, t, used);
     let mut found = 0u8;
     let mut f = 0;

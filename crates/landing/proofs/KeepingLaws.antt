@@ -176,7 +176,7 @@ module _ {before : List ℕ} {t n : ℕ} (can : CanLandIn before t n) where
 pub grant-kept : (before one two three four : List ℕ) (t : ℕ) (used : Used) → RecordsKept before one t (used .records)
     → two ≡ withCommittedFound one → three ≡ withUndoUsedAt two used → four ≡ withHeldAt three true → GrantKept before four t used
 grant-kept before one two three four t used so a b c =
-    let l2 : length two ≡ recordLength = ap length a ∙ length-copied one 2256 2296 24 ∙ so .long in
+    let l2 : length two ≡ recordLength = ap length a ∙ length-copied one _ _ _ ∙ so .long in
     let l3 : length three ≡ recordLength = ap length b ∙ length-with-undo-used two l2 used ∙ l2 in
     let s2 = ap storeOf a ∙ store-with-committed-found one (so .long) ∙ ap found (so .store) in
     let s3 = ap storeOf b ∙ store-with-undo-used two l2 used ∙ ap counted s2 in

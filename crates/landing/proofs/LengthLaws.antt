@@ -138,5 +138,5 @@ module _ (before kept after : List ℕ) (g : ℕ → ℕ) (f : ℕ) (few : f < 8
             ∙ ap (λ (ls : List ℕ). withLengths ls (storeOf before))
             (filled-set g (storeOf before .lengths) f (g f) (omega (arith, shaped before .lengths)) refl);
         journal = ap journalOf e ∙ journal-with-length kept (so .long) f (g f) ∙ so .journal;
-        long = ap length e ∙ length-set kept (2272 + f) (g f) ∙ so .long;
+        long = ap length e ∙ length-set kept _ (g f) ∙ so .long;
       }

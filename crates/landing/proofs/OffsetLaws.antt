@@ -117,7 +117,7 @@ module _ (x : Transaction) (before kept : List ℕ) (d : ℕ) (few : d < 16)
               (final ∙ ap (λ (k : ℕ). finalOffset k (standingAt x d)) (reads ∙ offset-still))
               ∙ ap (λ (os : List ℕ). withOffsets os (storeOf before)) (offset-set x (storeOf before .offsets) d sets);
           journal = ap journalOf e ∙ journal-with-offset kept (so .long) d n ∙ so .journal;
-          long = ap length e ∙ length-set kept (2256 + d) n ∙ so .long;
+          long = ap length e ∙ length-set kept _ n ∙ so .long;
         }
 
     pub offset-left : setsOffset (descriptorsOnly x) d ≡ false → (after : List ℕ) → after ≡ kept

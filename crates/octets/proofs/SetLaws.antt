@@ -10,8 +10,10 @@ use native.Mathlib.Nat.{one-mul, eq-or-lt-of-le, le-of-suc-le-suc, not-suc-le-ze
 use native.Mathlib.Omega.{arith}
 use borrow.Author.Tests.{eqb-true, eqb-false, eq-eqb, ne-eqb}
 use Prim.Native.Nat.{ℕ, zero, suc, _+_, _-_, _^_, _/_, _%_, _≤_, _<_, min, max}
+use Rattle.octets.specs.Below.{below}
 use Rattle.octets.specs.Bits.{bit, withBit, withoutBit, withBitAs, bitsOf, countOf}
 use Rattle.octets.specs.Marks.{contains}
+use Rattle.octets.proofs.BelowLaws.{below-at}
 use Rattle.octets.proofs.BitLaws.{bit-lt, bit-above, bits-equal, bit-or, bit-with}
 use Rattle.octets.proofs.PartLaws.{le-or-lt}
 
@@ -143,33 +145,18 @@ bit-and u a b =
     ∙ mul-add-mod-self-right (bitAnd (x / 2) (y / 2)) 2 (min (x % 2) (y % 2))
     ∙ mod-eq-of-lt small
 
--- a test that holds of every number below n
-holds : (ℕ → Bool) → ℕ → Bool
-holds p zero = true
-holds p (suc n) = p n && holds p n
-
-holds-at : (p : ℕ → Bool) (n k : ℕ) → holds p n ≡ true → k < n → p k ≡ true
-unfolding holds
-holds-at p zero k e h = absurd (not-suc-le-zero h)
-holds-at p (suc n) k e h = both (p n) refl e (λ q. holds-at p n k q) (eq-or-lt-of-le (le-of-suc-le-suc h))
-  where
-    both : (b : Bool) → p n ≡ b → (b && holds p n) ≡ true → (holds p n ≡ true → k < n → p k ≡ true) → (k ≡ n) ⊎ (k < n) → p k ≡ true
-    both true q e below (inl same) = ap p same ∙ q
-    both true q e below (inr less) = below e less
-    both false q e below w = absurd (false≢true e)
-
 -- the mask that clears bit t of sixteen has every other bit
 right : ℕ → ℕ → Bool
 right t u = eqb (bit u (65535 - 2 ^ t)) (cond (eqb u t) 0 1)
 
-table : holds (λ (t : ℕ). holds (right t) 16) 16 ≡ true
-unfolding bit holds right
+table : below (λ (t : ℕ). below (right t) 16) 16 ≡ true
+unfolding bit below right
 table = refl
 
 masked : (t u : ℕ) → t < 16 → u < 16 → bit u (65535 - 2 ^ t) ≡ cond (eqb u t) 0 1
 unfolding right
 masked t u ht hu = eqb-true (bit u (65535 - 2 ^ t)) (cond (eqb u t) 0 1)
-    (holds-at (right t) 16 u (holds-at (λ (t : ℕ). holds (right t) 16) 16 t table ht) hu)
+    (below-at (right t) 16 u (below-at (λ (t : ℕ). below (right t) 16) 16 t table ht) hu)
 
 contains-without : (t x u : ℕ) → t < 16 → u < 16 → contains (withoutBit t x) u ≡ cond (eqb u t) false (contains x u)
 unfolding contains withoutBit

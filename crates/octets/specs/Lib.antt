@@ -1,3 +1,4 @@
+pub mod Below
 pub mod Parts
 pub mod Bits
 pub mod Marks

@@ -12,55 +12,32 @@ use Rattle.standings.specs.declared.Standing.{Standing}
 use Rattle.standings.specs.declared.Standing.the-variants.{Untouched, Placed, Deferred, Moved, Known}
 use Rattle.standings.specs.declared.Place.{Place}
 use Rattle.standings.specs.declared.Place.the-variants.{At, After}
-use Rattle.standings.specs.Table.{advance, mayWait, placeNumber}
+use Rattle.standings.specs.Table.{advance, offsetOf, mayWait, placeNumber}
 use Rattle.record.specs.declared.Transaction.{Transaction}
 use Rattle.record.specs.declared.Undo.{Undo}
+use Rattle.record.specs.declared.Store.{Store}
 use Rattle.record.specs.declared.journal.WriteRecord.{WriteRecord}
 use Rattle.record.specs.State.{transaction, standingAt, windowAt}
 use Rattle.windows.specs.Hours.{minuteIn}
-use Rattle.record.specs.Layout.{base, standingOf, windowOf, transactionOf, storeOf, journalOf}
-use Rattle.record.proofs.LayoutLaws.{standing-of, file-of, offset-of, length-of, window-of, transaction-of, found-offset-of, found-length-of}
-use Rattle.record.specs.Journal.{writeRecordAt}
+use Rattle.record.specs.Layout.{transactionOf, storeOf, journalOf}
+use Rattle.record.proofs.LayoutLaws.{transaction-of}
+use Rattle.record.specs.Journal.{writeRecordAt, placeEndsBy, endsBy}
 use Rattle.ranges.specs.Below.{below}
 use Rattle.ranges.specs.Ranges.{standingIn, endsWithin, placeIn, recordIn, lengthsBefore, journalIn, journalPasses, transactionIn}
 use Rattle.ranges.specs.Ranges.{windowIn, tablesIn, placedIn, landedIn, grantPasses, undoIn, noneBegun}
-use Rattle.ranges.proofs.Laws.{and-left, and-true, below-same, below-both, below-sum, sum-zero, sum-more}
+use Rattle.ranges.proofs.Laws.{and-left, and-true, below-at, below-same, sum-zero, sum-more, standing-numbers}
 
 and-false : (a : Bool) → a && false ≡ false
 and-false true = refl
 and-false false = refl
 
--- ---- tests without a branch
+-- ---- standings
 
-pub one-more : (p : ℕ → Bool) (i : ℕ) (b q : Bool) → b ≡ below p i → q ≡ p i → b && q ≡ below p (i + 1)
-unfolding below
-one-more p i b q e f = rw (e, f, add-one)
-
-pub none-yet : (p : ℕ → Bool) → true ≡ below p 0
-unfolding below
-none-yet p = refl
-
--- ---- a standing
-
--- Of its three numbers those that it carries are looked at.
-pub numbers-decide : (k a b : ℕ) → (eqb k 0 || leb a 4096) && (not (eqb k 3) || leb b 4096) ≡ standingIn (standingOf k a b)
-unfolding standingIn standingOf
-numbers-decide zero a b = refl
-numbers-decide (suc zero) a b = and-true (leb a 4096)
-numbers-decide (suc (suc zero)) a b = and-true (leb a 4096)
-numbers-decide (suc (suc (suc zero))) a b = refl
-numbers-decide (suc (suc (suc (suc k)))) a b =
-    let n = suc (suc (suc (suc k))) in
-    rw (ne-eqb n 0 (λ p. omega arith), ne-eqb n 1 (λ p. omega arith), ne-eqb n 2 (λ p. omega arith), ne-eqb n 3 (λ p. omega arith)) (and-true (leb a 4096))
-
--- The first numbers, then the second ones.
+-- The numbers that they carry are those of the range.
 pub standings-decide : (r : List ℕ) (t : ℕ)
-    → below (λ d. eqb (getD r (base t + d) 0) 0 || leb (getD r (base t + d + 16) 0) 4096) 16
-    && below (λ d. not (eqb (getD r (base t + d) 0) 3) || leb (getD r (base t + d + 32) 0) 4096) 16
+    → below (λ d. leb (advance (standingAt (transactionOf r t) d)) 4096 && leb (offsetOf (standingAt (transactionOf r t) d)) 4096) 16
     ≡ below (λ d. standingIn (standingAt (transactionOf r t) d)) 16
-standings-decide r t =
-    below-both _ _ 16
-    ∙ below-same _ _ 16 (λ d h. numbers-decide _ _ _ ∙ ap standingIn (sym (standing-of r t d h)))
+standings-decide r t = below-same _ _ 16 (λ d h. sym (standing-numbers (standingAt (transactionOf r t) d)))
 
 -- ---- a write record
 
@@ -80,66 +57,24 @@ within-waits (Deferred a) e h = both-under e a h
 within-waits (Moved a o) e h = both-under e a (and-left (leb a 4096) (leb o 4096) h)
 within-waits (Known o) e h = and-false (leb e 4096)
 
--- A record may wait under it, and then its first number is its advance.
-pub kind-waits : (k a b : ℕ) → (eqb k 2 || eqb k 3) ≡ mayWait (standingOf k a b)
-unfolding standingOf
-kind-waits zero a b = refl
-kind-waits (suc zero) a b = refl
-kind-waits (suc (suc zero)) a b = refl
-kind-waits (suc (suc (suc zero))) a b = refl
-kind-waits (suc (suc (suc (suc k)))) a b =
-    let n = suc (suc (suc (suc k))) in
-    rw (ne-eqb n 0 (λ p. omega arith), ne-eqb n 1 (λ p. omega arith), ne-eqb n 2 (λ p. omega arith), ne-eqb n 3 (λ p. omega arith))
+-- Where the standings are in range, a record in range ends by 4,096 or where it may.
+place-ends : (z : Standing) (q : Place) (n : ℕ) → standingIn z ≡ true → placeEndsBy 4096 z q n ≡ placeIn z q n
+unfolding placeEndsBy placeIn
+place-ends z (At p) n h = refl
+place-ends z (After a) n h = sym (within-waits z (a + n) h)
 
-pub first-waits : (k a b : ℕ) → (eqb k 2 || eqb k 3) ≡ true → a ≡ advance (standingOf k a b)
-unfolding standingOf
-first-waits zero a b h = absurd (false≢true h)
-first-waits (suc zero) a b h = absurd (false≢true h)
-first-waits (suc (suc zero)) a b h = refl
-first-waits (suc (suc (suc zero))) a b h = refl
-first-waits (suc (suc (suc (suc k)))) a b h =
-    let n = suc (suc (suc (suc k))) in
-    absurd (false≢true (rw (ne-eqb n 2 (λ p. omega arith), ne-eqb n 3 (λ p. omega arith)) at h))
+pub record-decides : (x : Transaction) (w : WriteRecord) → below (λ d. standingIn (standingAt x d)) 16 ≡ true → endsBy 4096 x w ≡ recordIn x w
+unfolding endsBy recordIn
+record-decides x w all = low (leb (w .descriptor) 15) refl
+  where
+    z : Standing
+    z = standingAt x (w .descriptor)
 
--- The standing whose three numbers were read.
-pub standing-told : (r : List ℕ) (t d k a b : ℕ) → d < 16
-    → k ≡ getD r (base t + d) 0 → a ≡ getD r (base t + d + 16) 0 → b ≡ getD r (base t + d + 32) 0
-    → standingOf k a b ≡ standingAt (transactionOf r t) d
-standing-told r t d k a b h is-k is-a is-b = rw (is-k, is-a, is-b) (sym (standing-of r t d h))
-
--- A write of n bytes at q: it ends at k + m.
-module _ (z : Standing) (q : Place) (n : ℕ) where
-  pub at-decides : {p : ℕ} (k m : ℕ) → q ≡ At p → k ≡ placeNumber q → m ≡ n → leb (k + m) 4096 ≡ placeIn z q n
-  unfolding placeIn
-  at-decides k m is-at is-k is-m = rw (is-k, is-m, is-at)
-
-  module _ {a : ℕ} (is-after : q ≡ After a) (inside : standingIn z ≡ true) {r : Bool} (waits : r ≡ mayWait z) where
-    after-in : placeIn z q n ≡ r && leb (a + n) (advance z)
-    unfolding placeIn
-    after-in = rw (is-after, waits) (within-waits z (a + n) inside)
-
-    pub after-fails : not r ≡ true → false ≡ placeIn z q n
-    after-fails h = sym (after-in ∙ rw (not-true r h))
-
-    pub after-decides : (k m b : ℕ) → not r ≡ false → k ≡ placeNumber q → m ≡ n → b ≡ advance z → leb (k + m) b ≡ placeIn z q n
-    after-decides k m b h is-k is-m is-b = sym (after-in ∙ rw (not-false r h, is-k, is-m, is-after, is-b))
-
--- Record w, read from the journal, and its descriptor's number d.
-module _ (x : Transaction) (w v : WriteRecord) (is-v : w ≡ v) (d : ℕ) (is-d : d ≡ w .descriptor) where
-  pub descriptor-out : 15 < d → recordIn x v ≡ false
-  unfolding recordIn
-  descriptor-out l = rw (← is-v, ← is-d, lt-leb d 15 l)
-
-  module _ (low : d ≤ 15) (z : Standing) (is-z : z ≡ standingAt x d) (r : Bool) (is-r : r ≡ placeIn z (w .place) (w .length)) where
-    place-decides : recordIn x v ≡ r
-    unfolding recordIn
-    place-decides = rw (← is-v, ← is-d, le-leb d 15 low, is-r, is-z)
-
-    pub place-out : not r ≡ true → recordIn x v ≡ false
-    place-out h = place-decides ∙ not-true _ h
-
-    pub record-passes : not r ≡ false → recordIn x v ≡ true
-    record-passes h = place-decides ∙ not-false _ h
+    low : (b : Bool) → leb (w .descriptor) 15 ≡ b → b && placeEndsBy 4096 z (w .place) (w .length) ≡ b && placeIn z (w .place) (w .length)
+    low true e =
+        let l = leb-true (w .descriptor) 15 e in
+        place-ends z (w .place) (w .length) (below-at (λ d. standingIn (standingAt x d)) 16 (w .descriptor) all (omega arith))
+    low false e = refl
 
 pub lengths-none : (journal : List ℕ) (t : ℕ) → 0 ≡ lengthsBefore journal t 0
 unfolding lengthsBefore
@@ -234,30 +169,12 @@ module _ (x : Transaction) (journal : List ℕ) (t : ℕ) where
 
 -- ---- what is held of the last grant
 
--- The offsets and the lengths that it found, in the record's own numbers.
-found-decide : (r : List ℕ)
-    → below (λ d. leb (getD (storeOf r .undo .offsets) d 0) 4096) 16 && below (λ f. leb (getD (storeOf r .undo .lengths) f 0) 4096) 8
-    ≡ below (λ k. leb (getD r (2296 + k) 0) 4096) 24
-found-decide r =
-    rw (
-      below-same (λ d. leb (getD (storeOf r .undo .offsets) d 0) 4096) found 16 (λ d h. rw (found-offset-of r d h)),
-      below-same
-          (λ f. leb (getD (storeOf r .undo .lengths) f 0) 4096) (λ k. found (16 + k)) 8 behind,
-    )
-    (sym (below-sum found 16 8))
-  where
-    found : ℕ → Bool
-    found k = leb (getD r (2296 + k) 0) 4096
-
-    behind : (f : ℕ) → f < 8 → leb (getD (storeOf r .undo .lengths) f 0) 4096 ≡ found (16 + f)
-    behind f h = let e : 2296 + (16 + f) ≡ 2312 + f = omega arith in rw (found-length-of r f h, e)
-
 module _ (r : List ℕ) where
   abbrev undo : Undo
   undo = storeOf r .undo
 
   abbrev found : Bool
-  found = below (λ k. leb (getD r (2296 + k) 0) 4096) 24
+  found = below (λ d. leb (getD (undo .offsets) d 0) 4096) 16 && below (λ f. leb (getD (undo .lengths) f 0) 4096) 8
 
   pub nothing-held : undo .held ≡ false → true ≡ undoIn undo (journalOf r)
   unfolding undoIn
@@ -272,7 +189,7 @@ module _ (r : List ℕ) where
     held-in : undoIn undo (journalOf r)
         ≡ leb (undo .used .records) 64 && leb (undo .used .bytes) 4096 && found && grantPasses (journalOf r) (undo .used .records) (undo .used .bytes)
     unfolding undoIn
-    held-in = or-begun (undo .held) _ held ∙ joined (leb (undo .used .records) 64) _ _ _ _ ∙ rw (found-decide r)
+    held-in = or-begun (undo .held) _ held ∙ joined (leb (undo .used .records) 64) _ _ _ _
 
     pub grant-records-fail : (n : ℕ) → n ≡ undo .used .records → 64 < n → false ≡ undoIn undo (journalOf r)
     grant-records-fail n e l = sym (held-in ∙ rw (lt-leb (undo .used .records) 64 (rw e at l)))
@@ -298,38 +215,21 @@ pub none-decides : (r : List ℕ) → below (λ t. not (transactionOf r t .begun
 unfolding noneBegun
 none-decides r = below-same _ _ 8 (λ t h. rw (transaction-of r t h))
 
--- The windows in the record's own numbers: the starts, and behind them the ends.
-windows-decide : (r : List ℕ) → below (λ f. windowIn (windowAt (storeOf r) f)) 8 ≡ below (λ k. leb (getD r (2280 + k) 0) 1439) 16
-windows-decide r =
-    below-same (λ f. windowIn (windowAt (storeOf r) f)) (λ f. starts f && ends f) 8 (λ f h. ap windowIn (window-of r f h) ∙ both f)
-    ∙ sym (below-sum starts 8 8 ∙ ap (λ (b : Bool). below starts 8 && b) (below-same (λ k. starts (8 + k)) ends 8 behind) ∙ below-both starts ends 8)
-  where
-    starts : ℕ → Bool
-    starts k = leb (getD r (2280 + k) 0) 1439
+-- The starts and ends of the windows are minutes.
+windows-decide : (s : Store) → below (λ f. leb (windowAt s f .start) 1439 && leb (windowAt s f .end) 1439) 8 ≡ below (λ f. windowIn (windowAt s f)) 8
+unfolding windowIn minuteIn
+windows-decide s = refl
 
-    ends : ℕ → Bool
-    ends k = leb (getD r (2288 + k) 0) 1439
-
-    behind : (k : ℕ) → k < 8 → starts (8 + k) ≡ ends k
-    behind k h = let e : 2280 + (8 + k) ≡ 2288 + k = omega arith in ap (λ (i : ℕ). leb (getD r i 0) 1439) e
-
-    both : (f : ℕ) → windowIn (windowOf r f) ≡ starts f && ends f
-    both f = unfold windowIn windowOf minuteIn in refl
-
--- Check 2 in the record's own numbers, but for what is held of the last grant.
-pub tables-numbers : (r : List ℕ) → tablesIn (storeOf r) (journalOf r)
-    ≡ below (λ k. leb (getD r (2240 + k) 0) 7) 16 && below (λ k. leb (getD r (2256 + k) 0) 4096) 16 && below (λ k. leb (getD r (2272 + k) 0) 4096) 8
-    && below (λ k. leb (getD r (2280 + k) 0) 1439) 16 && below (λ t. transactionIn (transactionOf r t) (journalOf r) t) 8
+-- Check 2, read by name, but for what is held of the last grant.
+pub tables-decide : (r : List ℕ) → tablesIn (storeOf r) (journalOf r)
+    ≡ below (λ d. leb (getD (storeOf r .filenumbers) d 0) 7) 16 && below (λ d. leb (getD (storeOf r .offsets) d 0) 4096) 16
+    && below (λ f. leb (getD (storeOf r .lengths) f 0) 4096) 8
+    && below (λ f. leb (windowAt (storeOf r) f .start) 1439 && leb (windowAt (storeOf r) f .end) 1439) 8
+    && below (λ t. transactionIn (transactionOf r t) (journalOf r) t) 8
 unfolding tablesIn
-tables-numbers r =
+tables-decide r =
     rw (
-      below-same (λ d. leb (getD (storeOf r .filenumbers) d 0) 7) (λ k. leb (getD r (2240 + k) 0) 7) 16
-          (λ d h. rw (file-of r d h)),
-      below-same (λ d. leb (getD (storeOf r .offsets) d 0) 4096) (λ k. leb (getD r (2256 + k) 0) 4096) 16
-          (λ d h. rw (offset-of r d h)),
-      below-same (λ f. leb (getD (storeOf r .lengths) f 0) 4096) (λ k. leb (getD r (2272 + k) 0) 4096) 8
-          (λ f h. rw (length-of r f h)),
-      windows-decide r,
+      windows-decide (storeOf r),
       below-same (λ t. transactionIn (transaction (storeOf r) t) (journalOf r) t)
           (λ t. transactionIn (transactionOf r t) (journalOf r) t) 8 (λ t h. rw (transaction-of r t h)),
     )

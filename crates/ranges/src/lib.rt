@@ -6,39 +6,37 @@ use numbers::FILE_BYTES;
 use numbers::FILE_END;
 use numbers::wide;
 use record::DESCRIPTORS;
-use record::FILES;
 use record::TRANSACTIONS;
 use record::journal::GRANT;
 use record::journal::RECORDS;
+use record::journal::ends_by;
 use record::journal::record_at;
-use record::layout::FILE_NUMBERS_AT;
-use record::layout::FOUND;
-use record::layout::FOUND_AT;
-use record::layout::LENGTHS_AT;
-use record::layout::OFFSETS_AT;
+use record::journal::record_length;
 use record::layout::Record;
-use record::layout::STARTS_AT;
-use record::layout::first_at;
 use record::layout::is_begun;
 use record::layout::is_held;
-use record::layout::kind_at;
 use record::layout::length_of;
-use record::layout::second_at;
 use record::layout::undo_used;
 use record::layout::used_at;
 use record::outcomes::Refusal;
+use record::readers::files_at_most;
+use record::readers::found_at_most;
+use record::readers::lengths_at_most;
+use record::readers::offsets_at_most;
+use record::readers::standings_at_most;
+use record::readers::windows_at_most;
 use standings::Place;
 use windows::LAST_MINUTE;
 use windows::minute_in;
 ghost use mathlib.Core.Path.{_≡_};
-ghost use mathlib.Core.Bool.{true, not, _||_};
-ghost use lib.Dec.{leb, eqb};
+ghost use mathlib.Core.Bool.{true};
+ghost use lib.Dec.{leb};
 ghost use lib.ListN.{getD, length};
-ghost use Prim.Native.Nat.{_+_, _<_, _≤_};
+ghost use Prim.Native.Nat.{_<_, _≤_};
 ghost use Rattle.record.specs.State.{standingAt};
-ghost use Rattle.record.specs.Layout.{base, standingOf, transactionOf, storeOf, journalOf, recordLength};
+ghost use Rattle.record.specs.Layout.{transactionOf, storeOf, journalOf, recordLength};
 ghost use Rattle.ranges.specs.Below.{below};
-ghost use Rattle.ranges.specs.Ranges.{standingIn, placeIn, journalPasses, transactionIn, tablesIn};
+ghost use Rattle.ranges.specs.Ranges.{standingIn, journalPasses, transactionIn, tablesIn};
 ghost use Rattle.ranges.specs.Ranges.{placedIn, grantPasses, undoIn, storeIn, sized, sizesIn, noneBegun};
 ghost use Rattle.ranges.specs.Ranges.{firstTests, shared, admissionOfWindow, admissionOfTakingBack};
 ghost use Rattle.ranges.specs.Ranges.{admissionOfFresh, gateNumber};
@@ -64,84 +62,6 @@ fn files_in(files: &[u8]) -> bool
     true
 }
 
-// The record's n numbers from `from` on are at most `most`. No branch: it goes over all of them.
-fn at_most(kept: &Record, from: usize, n: usize, most: u16) -> bool
-    requires { ⌜ from + n ≤ recordLength ⌝ }
-    ensures { λ r. ⌜ r ≡ below (λ k. leb (getD (now (kept .entry)) (from + k) 0) most) n ⌝ }
-{
-    let mut good = true;
-    let mut k = 0;
-    while k < n {
-        good = good & (kept[from + k] <= most);
-        k += 1;
-    }
-    good
-}
-
-// The first number of each standing of transaction t is in range, where the standing carries it. No branch: it goes over
-// all of them.
-fn firsts_in(kept: &Record, t: usize) -> bool
-    requires { ⌜ t < 8 ⌝ }
-    ensures { λ r. ⌜ r ≡ below (λ d. eqb (getD (now (kept .entry)) (base t + d) 0) 0
-        || leb (getD (now (kept .entry)) (base t + d + 16) 0) 4096) 16 ⌝ }
-{
-    let mut good = true;
-    let mut d = 0;
-    while d < DESCRIPTORS {
-        let k = kind_at(kept, t, d);
-        let a = first_at(kept, t, d);
-        good = good & ((k == 0) | (a <= FILE_END));
-        d += 1;
-    }
-    good
-}
-
-// The same of the second numbers. One loop for both takes LLVM twice as many instructions.
-fn seconds_in(kept: &Record, t: usize) -> bool
-    requires { ⌜ t < 8 ⌝ }
-    ensures { λ r. ⌜ r ≡ below (λ d. not (eqb (getD (now (kept .entry)) (base t + d) 0) 3)
-        || leb (getD (now (kept .entry)) (base t + d + 32) 0) 4096) 16 ⌝ }
-{
-    let mut good = true;
-    let mut d = 0;
-    while d < DESCRIPTORS {
-        let k = kind_at(kept, t, d);
-        let b = second_at(kept, t, d);
-        good = good & ((k != 3) | (b <= FILE_END));
-        d += 1;
-    }
-    good
-}
-
-// The standings of transaction t are in range: the numbers that they carry are at most 4,096, and the others are not
-// looked at.
-fn standings_in(kept: &Record, t: usize) -> bool
-    requires { ⌜ t < 8 ⌝ }
-    ensures { λ r. ⌜ r ≡ below (λ d. standingIn (standingAt (transactionOf (now (kept .entry)) t) d)) 16 ⌝ }
-{
-    let firsts = firsts_in(kept, t);
-    let seconds = seconds_in(kept, t);
-    firsts & seconds
-}
-
-// A write of n bytes is in range at that place, under its descriptor's standing, which is told in its three numbers: so
-// none has to be taken apart.
-fn place_in(k: u16, a: u16, b: u16, place: Place, n: u16) -> bool
-    requires { ⌜ standingIn (standingOf k a b) ≡ true ⌝ }
-    ensures { λ r. ⌜ r ≡ placeIn (standingOf k a b) place n ⌝ }
-{
-    let end = wide(place.number()) + wide(n);
-    match place {
-        Place::At(_) => end <= FILE_BYTES,
-        Place::After(_) => {
-            if !((k == 2) | (k == 3)) {
-                return false;
-            }
-            end <= wide(a)
-        }
-    }
-}
-
 // The first records of transaction t are in range, and their lengths add to bytes.
 fn records_in(kept: &Record, t: usize, records: usize, bytes: usize) -> bool
     requires { ⌜ (t < 8) × (records ≤ 64)
@@ -152,19 +72,10 @@ fn records_in(kept: &Record, t: usize, records: usize, bytes: usize) -> bool
     let mut sum = 0;
     let mut k = 0;
     while k < records {
-        let w = record_at(kept, t, k);
-        let d = wide(w.descriptor);
-        if 15 < d {
+        if !ends_by(kept, t, k, FILE_BYTES) {
             return false;
         }
-        let place = w.place;
-        let z = kind_at(kept, t, d);
-        let a = first_at(kept, t, d);
-        let b = second_at(kept, t, d);
-        if !place_in(z, a, b, place, w.length) {
-            return false;
-        }
-        sum += wide(w.length);
+        sum += wide(record_length(kept, t, k));
         k += 1;
     }
     sum == bytes
@@ -188,7 +99,7 @@ fn transaction_in(kept: &Record, t: usize) -> bool
     if bytes > FILE_BYTES {
         return false;
     }
-    if !standings_in(kept, t) {
+    if !standings_at_most(kept, t, FILE_END) {
         return false;
     }
     records_in(kept, t, records, bytes)
@@ -213,16 +124,16 @@ fn transactions_in(kept: &Record) -> bool
 fn tables_in(kept: &Record) -> bool
     ensures { λ r. ⌜ r ≡ tablesIn (storeOf (now (kept .entry))) (journalOf (now (kept .entry))) ⌝ }
 {
-    if !at_most(kept, FILE_NUMBERS_AT, DESCRIPTORS, 7) {
+    if !files_at_most(kept, 7) {
         return false;
     }
-    if !at_most(kept, OFFSETS_AT, DESCRIPTORS, FILE_END) {
+    if !offsets_at_most(kept, FILE_END) {
         return false;
     }
-    if !at_most(kept, LENGTHS_AT, FILES, FILE_END) {
+    if !lengths_at_most(kept, FILE_END) {
         return false;
     }
-    if !at_most(kept, STARTS_AT, FILES + FILES, LAST_MINUTE) {
+    if !windows_at_most(kept, LAST_MINUTE) {
         return false;
     }
     transactions_in(kept)
@@ -277,7 +188,7 @@ fn undo_in(kept: &Record) -> bool
     if size > FILE_BYTES {
         return false;
     }
-    if !at_most(kept, FOUND_AT, FOUND, FILE_END) {
+    if !found_at_most(kept, FILE_END) {
         return false;
     }
     grant_in(kept, records, size)

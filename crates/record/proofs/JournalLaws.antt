@@ -47,7 +47,7 @@ module _ (h p n : ℕ) where
       pick true = refl
       pick false = refl
 
-  length-held : held h p n .length ≡ n
+  pub length-held : held h p n .length ≡ n
   unfolding held heldAs
   length-held = pick (ltb h 16)
     where

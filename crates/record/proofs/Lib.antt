@@ -2,4 +2,4 @@ pub mod JournalLaws
 pub mod LayoutLaws
 pub mod UndoLaws
 pub mod Filled
-pub mod Examples
+mod ReaderLaws

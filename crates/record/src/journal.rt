@@ -5,12 +5,14 @@
 use crate::layout::NUMBERS;
 use crate::layout::Record;
 use crate::layout::length_of;
+use crate::readers::may_wait_to;
+use numbers::wide;
 use standings::Place;
 ghost use mathlib.Core.Path.{_≡_};
 ghost use Prim.Native.Nat.{_<_};
 ghost use lib.ListN.{replicate};
-ghost use Rattle.record.specs.Journal.{holder, writeRecordAt, withRecordAt};
-ghost use Rattle.record.specs.Layout.{journalOf, recordLength};
+ghost use Rattle.record.specs.Journal.{holder, writeRecordAt, withRecordAt, endsBy};
+ghost use Rattle.record.specs.Layout.{journalOf, transactionOf, recordLength};
 
 pub const RECORDS: usize = 64;
 
@@ -45,6 +47,33 @@ pub fn record_at(kept: &Record, t: usize, k: usize) -> WriteRecord
         place: Place::After(p),
         length,
     }
+}
+
+// Write record k of transaction t has a descriptor, and ends at most at `most` or, while it has no place, within the
+// advance under which it waits. No record is made for it.
+pub fn ends_by(kept: &Record, t: usize, k: usize, most: usize) -> bool
+    requires { ⌜ (t < 8) × (k < 64) ⌝ }
+    ensures { λ r. ⌜ r ≡ endsBy most (transactionOf (now (kept .entry)) t)
+        (writeRecordAt (journalOf (now (kept .entry))) t k) ⌝ }
+{
+    let i = 3 * (RECORDS * t + k);
+    let h = wide(kept[i]);
+    let end = wide(kept[i + 1]) + wide(kept[i + 2]);
+    if h < 16 {
+        return end <= most;
+    }
+    if 31 < h {
+        return false;
+    }
+    may_wait_to(kept, t, h - 16, end)
+}
+
+// The length of write record k of stretch t.
+pub fn record_length(kept: &Record, t: usize, k: usize) -> u16
+    requires { ⌜ (t < 9) × (k < 64) ⌝ }
+    ensures { λ r. ⌜ r ≡ writeRecordAt (journalOf (now (kept .entry))) t k .length ⌝ }
+{
+    kept[3 * (RECORDS * t + k) + 2]
 }
 
 // The descriptor's number as the journal holds it.

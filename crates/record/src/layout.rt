@@ -1,9 +1,26 @@
-// How the record lies in its numbers: the journal, eight transactions, file numbers, committed offsets, committed
-// lengths, windows, and what is held of the last grant. Only this module, `journal` and specs/Layout.antt know that;
-// everybody else reads and writes by name.
+// The record's meaning, read from its numbers and put into them by name.
 use crate::DESCRIPTORS;
 use crate::Descriptor;
+use crate::FILES;
 use crate::Transaction;
+use crate::positions::DEFERRED;
+use crate::positions::ENDS_AT;
+use crate::positions::FILE_NUMBERS_AT;
+use crate::positions::FOUND_AT;
+use crate::positions::FOUND_LENGTHS_AT;
+use crate::positions::HELD_AT;
+use crate::positions::KNOWN;
+use crate::positions::LENGTHS_AT;
+use crate::positions::MOVED;
+use crate::positions::OFFSETS_AT;
+use crate::positions::PLACED;
+use crate::positions::STARTS_AT;
+use crate::positions::TRANSACTION;
+use crate::positions::TRANSACTIONS_AT;
+use crate::positions::UNTOUCHED;
+use crate::positions::first_at;
+use crate::positions::kind_at;
+use crate::positions::second_at;
 use counters::Used;
 use numbers::wide;
 use octets::sets;
@@ -14,7 +31,7 @@ ghost use mathlib.Core.Path.{_≡_};
 ghost use Prim.Native.Nat.{_+_, _<_, _≤_};
 ghost use lib.ListN.{length, getD};
 ghost use Rattle.record.specs.State.{standingAt, noDescriptor, windowAt};
-ghost use Rattle.record.specs.Layout.{standingOf, base};
+ghost use Rattle.record.specs.Layout.{standingOf};
 ghost use Rattle.record.specs.Updates.{kind, first, second, flag};
 ghost use Rattle.record.specs.Layout.{descriptorOf, transactionOf, storeOf};
 ghost use Rattle.record.specs.Updates.{withDescriptorAt, withChosenAt, withUsedAt, resetAt};
@@ -31,33 +48,11 @@ pub const NUMBERS: usize = 2323;
 // The record, as a caller keeps it and lends it to every call.
 pub type Record = [u16; NUMBERS];
 
-// A transaction's numbers, how many of them are looked at, and where they stand.
-const TRANSACTION: usize = 64;
-
-const LOOKED_AT: usize = 54;
-
-const TRANSACTIONS_AT: usize = 1728;
-
-// Where the file numbers, the committed offsets, the committed lengths, the starts of the windows and behind them their
-// ends, the offsets that the last grant found and behind them the lengths stand, for a test that goes over all of them.
-pub const FILE_NUMBERS_AT: usize = 2240;
-
-pub const OFFSETS_AT: usize = 2256;
-
-pub const LENGTHS_AT: usize = 2272;
-
-pub const STARTS_AT: usize = 2280;
-
-const ENDS_AT: usize = 2288;
-
-pub const FOUND_AT: usize = 2296;
-
 // How many numbers the last grant found: sixteen offsets, eight lengths.
-pub const FOUND: usize = 24;
+pub const FOUND: usize = DESCRIPTORS + FILES;
 
-const FOUND_LENGTHS_AT: usize = 2312;
-
-const HELD_AT: usize = 2320;
+// How many numbers of a transaction are looked at.
+const LOOKED_AT: usize = 54;
 
 // How many numbers were lent, which the array's type alone does not tell a proof.
 pub fn length_of(kept: &[u16]) -> usize
@@ -71,16 +66,16 @@ pub fn length_of(kept: &[u16]) -> usize
 fn standing_of(k: u16, a: u16, b: u16) -> Standing
     ensures { λ r. ⌜ r ≡ standingOf k a b ⌝ }
 {
-    if k == 0 {
+    if k == UNTOUCHED {
         return Standing::Untouched;
     }
-    if k == 1 {
+    if k == PLACED {
         return Standing::Placed(a);
     }
-    if k == 2 {
+    if k == DEFERRED {
         return Standing::Deferred(a);
     }
-    if k == 3 {
+    if k == MOVED {
         return Standing::Moved {
             advance: a,
             offset: b,
@@ -93,11 +88,11 @@ fn kind_of(z: Standing) -> u16
     ensures { λ r. ⌜ r ≡ kind z ⌝ }
 {
     match z {
-        Standing::Untouched => 0,
-        Standing::Placed(_) => 1,
-        Standing::Deferred(_) => 2,
-        Standing::Moved { .. } => 3,
-        Standing::Known(_) => 4,
+        Standing::Untouched => UNTOUCHED,
+        Standing::Placed(_) => PLACED,
+        Standing::Deferred(_) => DEFERRED,
+        Standing::Moved { .. } => MOVED,
+        Standing::Known(_) => KNOWN,
     }
 }
 
@@ -165,28 +160,6 @@ pub fn used_at(kept: &Record, t: usize) -> Used
     let records = wide(kept[base + 52]);
     let bytes = kept[base + 53];
     Used { records, bytes }
-}
-
-// The three numbers of a standing, for a test that does not take it apart.
-pub fn kind_at(kept: &Record, t: usize, d: usize) -> u16
-    requires { ⌜ (t < 8) × (d < 16) ⌝ }
-    ensures { λ r. ⌜ r ≡ getD (now (kept .entry)) (base t + d) 0 ⌝ }
-{
-    kept[TRANSACTIONS_AT + TRANSACTION * t + d]
-}
-
-pub fn first_at(kept: &Record, t: usize, d: usize) -> u16
-    requires { ⌜ (t < 8) × (d < 16) ⌝ }
-    ensures { λ r. ⌜ r ≡ getD (now (kept .entry)) (base t + d + 16) 0 ⌝ }
-{
-    kept[TRANSACTIONS_AT + TRANSACTION * t + d + 16]
-}
-
-pub fn second_at(kept: &Record, t: usize, d: usize) -> u16
-    requires { ⌜ (t < 8) × (d < 16) ⌝ }
-    ensures { λ r. ⌜ r ≡ getD (now (kept .entry)) (base t + d + 32) 0 ⌝ }
-{
-    kept[TRANSACTIONS_AT + TRANSACTION * t + d + 32]
 }
 
 // The standing of descriptor d in transaction t.

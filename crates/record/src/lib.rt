@@ -1,8 +1,11 @@
 // The store record: what a caller keeps between calls, beside the four lent buffers. It is one lent array of numbers:
-// `layout` reads and writes what they mean, in the forms below, and `journal` the write records among them.
+// `layout` reads and writes what they mean, in the forms below, `journal` the write records among them, and `readers`
+// tests it.
 pub mod journal;
 pub mod layout;
 pub mod outcomes;
+mod positions;
+pub mod readers;
 
 use counters::Used;
 use standings::Standing;

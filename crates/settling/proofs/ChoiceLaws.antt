@@ -1,18 +1,17 @@
 -- Laws for the loops of settling: one choice among many, and a transaction of which the first descriptors are settled.
-use mathlib.Core.Bool.{Bool, true, false, cond, not, _&&_, _||_, or-true}
+use mathlib.Core.Bool.{Bool, true, false, cond, not, _&&_, or-true}
 use mathlib.Core.List.{List}
 use mathlib.Core.Path.{_≡_, refl, sym, ap, _∙_}
 use lib.Dec.{eqb}
 use lib.ListN.{length, getD, set, replicate}
 use native.Mathlib.Omega.{arith}
 use borrow.Author.Tests.{le-leb, lt-leb, eq-eqb, ne-eqb}
-use Prim.Native.Nat.{ℕ, zero, suc, _+_, _≤_, _<_}
+use Prim.Native.Nat.{ℕ, _+_, _≤_, _<_}
 use Rattle.octets.specs.Parts.{tabulate}
 use Rattle.record.specs.declared.Descriptor.{Descriptor}
 use Rattle.record.specs.declared.Transaction.{Transaction}
 use Rattle.record.specs.State.{standingAt, dirtyAt, noDescriptor, withDescriptors}
-use Rattle.record.specs.Layout.{standingOf}
-use Rattle.standings.specs.Table.{advance, settled, readSettles}
+use Rattle.standings.specs.Table.{advance, settled}
 use Rattle.rules.proofs.View.Tables.{tabulate-same, tabulate-set, tabulate-getD}
 use Rattle.ranges.proofs.Laws.{below-all}
 use Rattle.record.proofs.Filled.{filled, filled-none, filled-all, filled-set, filled-kept}
@@ -26,20 +25,6 @@ unfolding tabulate
 one-chosen d b h =
     sym
     (tabulate-set (λ e. false) (λ e. eqb e d && b) 16 d b h (rw (eq-eqb d d refl)) (λ e ne. rw (ne-eqb e d ne)))
-
--- The column "Read", by the kind of a standing.
-pub kind-decides : (k a b : ℕ) (f i : Bool)
-    → (((eqb k 2 || eqb k 3) && f) || (eqb k 0 && i)) ≡ readSettles f i (standingOf k a b)
-unfolding standingOf
-kind-decides zero a b f i = refl
-kind-decides (suc zero) a b f i = refl
-kind-decides (suc (suc zero)) a b true i = refl
-kind-decides (suc (suc zero)) a b false i = refl
-kind-decides (suc (suc (suc zero))) a b true i = refl
-kind-decides (suc (suc (suc zero))) a b false i = refl
-kind-decides (suc (suc (suc (suc k)))) a b f i =
-    let n = suc (suc (suc (suc k))) in
-    rw (ne-eqb n 0 (λ p. omega arith), ne-eqb n 1 (λ p. omega arith), ne-eqb n 2 (λ p. omega arith), ne-eqb n 3 (λ p. omega arith))
 
 -- The transaction with its first n descriptors settled where chosen.
 abbrev pub settledFront : List Bool → List ℕ → Transaction → ℕ → Transaction

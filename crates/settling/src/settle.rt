@@ -5,14 +5,13 @@ use record::Descriptor;
 use record::Transaction;
 use record::layout::Record;
 use record::layout::file_at;
-use record::layout::kind_at;
 use record::layout::offset_at;
 use record::layout::standing_at;
+use record::readers::read_settles_at;
 ghost use mathlib.Core.Path.{_≡_};
 ghost use Prim.Native.Nat.{ℕ, _≤_, _<_};
 ghost use lib.ListN.{length, getD};
-ghost use Rattle.standings.specs.Table.{readSettles};
-ghost use Rattle.record.specs.Layout.{standingOf, transactionOf, storeOf};
+ghost use Rattle.record.specs.Layout.{transactionOf, storeOf};
 ghost use Rattle.settling.specs.Choices.{chosenByRead, chosenByPointer, settlingOf};
 
 // Whether every chosen descriptor could be settled.
@@ -27,14 +26,6 @@ pub struct Settling {
     pub transaction: Transaction,
 }
 
-// The column "Read", by the kind of a standing: no branch. of_file: it is a descriptor of the file that is read; is_it:
-// it is the descriptor that is read through.
-fn kind_settles(k: u16, of_file: bool, is_it: bool) -> bool
-    ensures { λ r. ⌜ ((a b : ℕ) → r ≡ readSettles «of_file» «is_it» (standingOf k a b)) ⌝ }
-{
-    (((k == 2) | (k == 3)) & of_file) | ((k == 0) & is_it)
-}
-
 // The descriptors that a Read through d settles in transaction t.
 pub fn chosen_by_read(kept: &Record, t: usize, d: usize) -> [bool; DESCRIPTORS]
     requires { ⌜ (t < 8) × (d < 16) ⌝ }
@@ -45,8 +36,7 @@ pub fn chosen_by_read(kept: &Record, t: usize, d: usize) -> [bool; DESCRIPTORS]
     let f = file_at(kept, d);
     let mut e = 0;
     while e < DESCRIPTORS {
-        let k = kind_at(kept, t, e);
-        chosen[e] = kind_settles(k, file_at(kept, e) == f, e == d);
+        chosen[e] = read_settles_at(kept, t, e, file_at(kept, e) == f, e == d);
         e += 1;
     }
     chosen

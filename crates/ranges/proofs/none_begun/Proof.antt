@@ -6,7 +6,8 @@ use native.Mathlib.Omega.{arith}
 use borrow.Author.Needs.{needs}
 use Rattle.record.specs.Layout.{transactionOf}
 use Rattle.ranges.specs.Below.{below}
-use Rattle.ranges.proofs.Tests.{none-yet, one-more, none-decides}
+use Rattle.ranges.proofs.Tests.{none-decides}
+use Rattle.octets.proofs.BelowLaws.{none-yet, one-more}
 use Rattle.ranges.proofs.none_begun.Statement.{statement}
 use Rattle.ranges.proofs.none_begun.Tie as tie
 

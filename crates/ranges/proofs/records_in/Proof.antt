@@ -3,12 +3,11 @@ use Rattle.ranges.specs.Below.{below}
 use Rattle.ranges.specs.Ranges.{recordIn, lengthsBefore, journalPasses}
 use Rattle.record.specs.Layout.{transactionOf, journalOf}
 use Rattle.record.specs.Journal.{writeRecordAt}
-use Rattle.record.specs.declared.journal.WriteRecord.{WriteRecord}
 use mathlib.Core.Bool.{true}
 use mathlib.Core.Path.{ap, _∙_, _≡_}
 use lib.Dec.{eqb}
-use Rattle.ranges.proofs.Laws.{below-zero, below-more, below-at, below-fails}
-use Rattle.ranges.proofs.Tests.{standing-told, descriptor-out, place-out, record-passes, lengths-none, lengths-more, and-fails, and-last}
+use Rattle.ranges.proofs.Laws.{failed, held, below-zero, below-more, below-fails}
+use Rattle.ranges.proofs.Tests.{record-decides, lengths-none, lengths-more, and-fails, and-last}
 use Prim.Native.Nat.{_-_, _*_, _≤_}
 use native.Mathlib.Omega.{arith}
 use borrow.Author.Needs.{needs}
@@ -26,81 +25,32 @@ abbrev μ-loop : tie.MeasureT-loop
 loop-holds : tie.Need-loop-holds Inv-loop μ-loop
 loop-holds c = (omega arith, below-zero _, lengths-none _ _, omega arith)
 
-record-at-requires : tie.Need-record-at-requires Inv-loop μ-loop
-record-at-requires c κs = search needs
-
-wide-requires : tie.Need-wide-requires Inv-loop μ-loop
-wide-requires c κs = search needs
-
 returns : tie.Need-returns Inv-loop μ-loop
 unfolding journalPasses
 returns c =
-    let i = c .before .before .before .before .loop in
-    and-fails _ _ (below-fails _ (i .k) _ (omega arith)
-    (descriptor-out _ _ _ (c .before .before .record-at .ensures) _ (c .before .wide .ensures .0) (c .if1 .taken)))
+    let at-loop = c .before .before .before in
+    let a = at-loop .before .args in
+    let k = at-loop .loop .k in
+    let w = writeRecordAt (journalOf (a .kept .now)) (a .t) k in
+    and-fails _ _ (below-fails _ k _ (omega arith)
+    (failed (c .before .ends-by .ensures ∙ record-decides (transactionOf (a .kept .now) (a .t)) w (at-loop .before .pre .2)) (c .if1 .taken)))
 
-kind-at-requires : tie.Need-kind-at-requires Inv-loop μ-loop
-kind-at-requires c κs = search needs
-
-first-at-requires : tie.Need-first-at-requires Inv-loop μ-loop
-first-at-requires c κs = search needs
-
-second-at-requires : tie.Need-second-at-requires Inv-loop μ-loop
-second-at-requires c κs = search needs
-
-place-in-requires : tie.Need-place-in-requires Inv-loop μ-loop
-place-in-requires c κs =
-    let start = c .before .before .before .before .before .before .before .before in
-    let d = c .before .before .before .before .wide .result in
-    rw (standing-told (start .args .kept .now) (start .args .t) d _ _ _ (omega arith)
-    (c .before .before .kind-at .ensures) (c .before .first-at .ensures) (c .second-at .ensures))
-    (below-at _ 16 d (start .pre .2) (omega arith))
+loop-again : tie.Need-loop-again Inv-loop μ-loop
+loop-again c =
+    let at-test = c .before .before in
+    let at-loop = at-test .before .before .before in
+    let a = at-loop .before .args in
+    let w = writeRecordAt (journalOf (a .kept .now)) (a .t) (at-loop .loop .k) in (
+      omega arith,
+      below-more _ _ (at-loop .loop .inv .1)
+          (held (at-test .before .ends-by .ensures ∙ record-decides (transactionOf (a .kept .now) (a .t)) w (at-loop .before .pre .2)) (at-test .if1 .left)),
+      lengths-more _ _ _ _ _ (at-loop .loop .inv .2) (c .wide .ensures .0 ∙ c .before .record-length .ensures),
+      omega arith,
+    )
 
 returns-2 : tie.Need-returns-2 Inv-loop μ-loop
 unfolding journalPasses
 returns-2 c =
-    let i = c .before .before .before .before .before .before .before .before .before .loop in
-    let start = c .before .before .before .before .before .before .before .before .before .before in
-    let d = c .before .before .before .before .before .before .wide .result in
-    let z = standing-told (start .args .kept .now) (start .args .t) d _ _ _ (omega arith)
-    (c .before .before .before .before .kind-at .ensures) (c .before .before .before .first-at .ensures) (c .before .before .second-at .ensures) in
-    and-fails _ _ (below-fails _ (i .k) _ (omega arith)
-    (place-out _ _ _ (c .before .before .before .before .before .before .before .record-at .ensures) _
-    (c .before .before .before .before .before .before .wide .ensures .0)
-    (omega arith) _ z _ (c .before .place-in .ensures) (c .if2 .taken)))
-
-wide-requires-2 : tie.Need-wide-requires-2 Inv-loop μ-loop
-wide-requires-2 c κs = search needs
-
-add-sum : tie.Need-add-sum Inv-loop μ-loop
-add-sum c = search needs
-
-add-k : tie.Need-add-k Inv-loop μ-loop
-add-k c = search needs
-
-loop-less : tie.Need-loop-less Inv-loop μ-loop
-loop-less c = search needs
-
-loop-again : tie.Need-loop-again Inv-loop μ-loop
-loop-again c =
-    let i = c .before .before .before .before .before .before .before .before .before .before .loop in
-    let start = c .before .before .before .before .before .before .before .before .before .before .before in
-    let w = c .before .before .before .before .before .before .before .before .record-at .ensures in
-    let d = c .before .before .before .before .before .before .before .wide .result in
-    let z = standing-told (start .args .kept .now) (start .args .t) d _ _ _ (omega arith)
-    (c .before .before .before .before .before .kind-at .ensures) (c .before .before .before .before .first-at .ensures)
-    (c .before .before .before .second-at .ensures) in (
-      omega arith,
-      below-more _ _ (i .inv .1)
-          (record-passes _ _ _ w _ (c .before .before .before .before .before .before .before .wide .ensures .0) (omega arith) _
-          z _ (c .before .before .place-in .ensures) (c .before .if2 .left)),
-      lengths-more _ _ _ _ _ (i .inv .2) (c .wide2 .ensures .0 ∙ ap (λ (v : WriteRecord). v .length) w),
-      omega arith,
-    )
-
-returns-3 : tie.Need-returns-3 Inv-loop μ-loop
-unfolding journalPasses
-returns-3 c =
     let i = c .before .loop in
     let e : i .k ≡ c .before .before .args .records = omega arith in
     and-last _ _ _ (rw e at (i .inv .1)) (ap (λ n. eqb n (c .before .before .args .bytes)) (rw e at (i .inv .2)))
@@ -112,17 +62,12 @@ records-in-spec =
     Inv-loop
     μ-loop
     loop-holds
-    record-at-requires
-    wide-requires
+    (λ c κs. search needs)
     returns
-    kind-at-requires
-    first-at-requires
-    second-at-requires
-    place-in-requires
-    returns-2
-    wide-requires-2
-    add-sum
-    add-k
-    loop-less
+    (λ c κs. search needs)
+    (λ c κs. search needs)
+    (λ c. search needs)
+    (λ c. search needs)
+    (λ c. search needs)
     loop-again
-    returns-3)
+    returns-2)

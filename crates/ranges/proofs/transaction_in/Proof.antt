@@ -2,7 +2,7 @@
 use mathlib.Core.Path.{ap, _∙_}
 use Rattle.counters.specs.declared.Used.{Used}
 use Rattle.ranges.proofs.Laws.{failed, held}
-use Rattle.ranges.proofs.Tests.{closed-in, records-fail, bytes-fail, standings-fail, records-decide}
+use Rattle.ranges.proofs.Tests.{standings-decide, closed-in, records-fail, bytes-fail, standings-fail, records-decide}
 use native.Mathlib.Omega.{arith}
 use borrow.Author.Needs.{needs}
 use Rattle.ranges.proofs.transaction_in.Statement.{statement}
@@ -30,8 +30,8 @@ returns-3 c = bytes-fail _ _ _
     (ap (λ (u : Used). u .records) (c .before .before .before .used-at .ensures))
     (c .before .before .wide .ensures .0 ∙ ap (λ (u : Used). u .bytes) (c .before .before .before .used-at .ensures)) (c .before .if2 .left) (c .if3 .taken)
 
-standings-in-requires : tie.Need-standings-in-requires
-standings-in-requires c κs = search needs
+standings-at-most-requires : tie.Need-standings-at-most-requires
+standings-at-most-requires c κs = search needs
 
 returns-4 : tie.Need-returns-4
 returns-4 c =
@@ -39,10 +39,10 @@ returns-4 c =
     standings-fail _ _ _ (held (i .before .before .before .before .before .is-begun .ensures)
     (i .before .before .before .before .if1 .left)) _ _ (ap (λ (u : Used). u .records) (i .before .before .before .used-at .ensures))
     (i .before .before .wide .ensures .0 ∙ ap (λ (u : Used). u .bytes) (i .before .before .before .used-at .ensures)) (i .before .if2 .left) (i .if3 .left)
-    (failed (c .before .standings-in .ensures) (c .if4 .taken))
+    (failed (c .before .standings-at-most .ensures ∙ standings-decide _ _) (c .if4 .taken))
 
 records-in-requires : tie.Need-records-in-requires
-records-in-requires c κs = (omega arith, omega arith, held (c .before .standings-in .ensures) (c .if4 .left))
+records-in-requires c κs = (omega arith, omega arith, held (c .before .standings-at-most .ensures ∙ standings-decide _ _) (c .if4 .left))
 
 returns-5 : tie.Need-returns-5
 returns-5 c =
@@ -50,7 +50,7 @@ returns-5 c =
     records-decide _ _ _ (held (i .before .before .before .before .before .is-begun .ensures)
     (i .before .before .before .before .if1 .left)) _ _ (ap (λ (u : Used). u .records) (i .before .before .before .used-at .ensures))
     (i .before .before .wide .ensures .0 ∙ ap (λ (u : Used). u .bytes) (i .before .before .before .used-at .ensures)) (i .before .if2 .left) (i .if3 .left)
-    _ (held (c .before .before .standings-in .ensures) (c .before .if4 .left)) (c .records-in .ensures)
+    _ (held (c .before .before .standings-at-most .ensures ∙ standings-decide _ _) (c .before .if4 .left)) (c .records-in .ensures)
 
 pub transaction-in-spec : {M : Type 1} → statement M
 transaction-in-spec =
@@ -62,7 +62,7 @@ transaction-in-spec =
     wide-requires
     returns-2
     returns-3
-    standings-in-requires
+    standings-at-most-requires
     returns-4
     records-in-requires
     returns-5)

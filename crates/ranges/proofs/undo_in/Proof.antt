@@ -32,7 +32,7 @@ returns-4 c =
     found-fails _ (held (at-used .before .before .is-held .ensures) (at-used .before .if1 .left)) _ _
     (ap (λ (u : Used). u .records) (at-used .undo-used .ensures))
     (at-size .wide .ensures .0 ∙ ap (λ (u : Used). u .bytes) (at-used .undo-used .ensures)) (at-fits .before .if2 .left) (at-fits .if3 .left)
-    (failed (c .before .at-most .ensures) (c .if4 .taken))
+    (failed (c .before .found-at-most .ensures) (c .if4 .taken))
 
 returns-5 : tie.Need-returns-5
 returns-5 c =
@@ -42,7 +42,7 @@ returns-5 c =
     grant-decides _ (held (at-used .before .before .is-held .ensures) (at-used .before .if1 .left)) _ _
     (ap (λ (u : Used). u .records) (at-used .undo-used .ensures))
     (at-size .wide .ensures .0 ∙ ap (λ (u : Used). u .bytes) (at-used .undo-used .ensures)) (at-fits .before .if2 .left) (at-fits .if3 .left)
-    _ (held (c .before .before .at-most .ensures) (c .before .if4 .left)) (c .grant-in .ensures)
+    _ (held (c .before .before .found-at-most .ensures) (c .before .if4 .left)) (c .grant-in .ensures)
 
 pub undo-in-spec : {M : Type 1} → statement M
 undo-in-spec =

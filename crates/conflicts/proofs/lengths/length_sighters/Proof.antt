@@ -9,8 +9,9 @@ use native.Mathlib.Omega.{arith}
 use Rattle.octets.specs.Marks.{contains}
 use Rattle.landing.specs.Landing.{CanLandIn, lengthsLandedIn}
 use Rattle.conflicts.specs.Staling.{Sighters}
-use Rattle.conflicts.proofs.ConflictLaws.{raisedBelow, no-lengths, length-more, length-less}
+use Rattle.conflicts.proofs.ConflictLaws.{raisedBelow, no-lengths, lengths-none, length-more, length-less}
 use borrow.Author.Needs.{needs}
+use borrow.Author.Tests.{not-true}
 use Rattle.conflicts.proofs.lengths.length_sighters.Statement.{statement}
 use Rattle.conflicts.proofs.lengths.length_sighters.Tie as tie
 
@@ -23,13 +24,19 @@ Inv-loop kept t watched after found₀ f₀ found f =
 abbrev μ-loop : tie.MeasureT-loop
 μ-loop kept t watched after found₀ f₀ found f = 8 - f
 
+returns : tie.Need-returns Inv-loop μ-loop
+returns c =
+    let a = c .before .before .args in
+    λ files logs marks size. lengths-none (a .kept .now) marks (a .watched) files logs (a .t) (a .used .records)
+    (c .before .any-sighted .ensures (not-true _ (c .if1 .taken))) 8
+
 loop-holds : tie.Need-loop-holds Inv-loop μ-loop
-loop-holds c = let a = c .before .args in (omega arith, λ n files logs marks can e size. no-lengths (a .kept .now) marks (a .watched) files logs (a .t) n)
+loop-holds c = let a = c .before .before .before .args in (omega arith, λ n files logs marks can e size. no-lengths (a .kept .now) marks (a .watched) files logs (a .t) n)
 
 loop-again : tie.Need-loop-again Inv-loop μ-loop
 loop-again c =
     let at-loop = c .before .before .before in
-    let a = at-loop .before .before .args in
+    let a = at-loop .before .before .before .before .args in
     let l = at-loop .loop in
     let few : l .f < 8 = omega arith in
     let now-at : (n : ℕ) → at-loop .before .lengths-after .result ≡ lengthsLandedIn (a .kept .now) (a .t) n
@@ -48,11 +55,11 @@ loop-again c =
           (length-less (a .kept .now) marks (a .watched) files logs (a .t) n can size (l .f) few _ _ (c .before .length-at .ensures) (now-at n e)
           (w .0 .left) _ (l .inv .1 n files logs marks can e size)),
     ))
-    (c .if1 .came)
+    (c .if2 .came)
 
-returns : tie.Need-returns Inv-loop μ-loop
-returns c =
-    let start = c .before .before .before in
+returns-2 : tie.Need-returns-2 Inv-loop μ-loop
+returns-2 c =
+    let start = c .before .before .before .before .before in
     let e : c .before .loop .f ≡ 8 = omega arith in
     λ files logs marks size. rw e at
     (c .before .loop .inv .1 (start .args .used .records) files logs marks (start .pre) (c .before .before .lengths-after .ensures) size)
@@ -64,6 +71,8 @@ length-sighters-spec =
     Inv-loop
     μ-loop
     (λ c κs. search needs)
+    returns
+    (λ c κs. search needs)
     loop-holds
     (λ c κs. search needs)
     (λ c. search needs)
@@ -73,4 +82,4 @@ length-sighters-spec =
     (λ c. search needs)
     (λ c. search needs)
     loop-again
-    returns)
+    returns-2)

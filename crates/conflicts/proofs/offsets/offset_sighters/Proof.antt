@@ -11,8 +11,9 @@ use Rattle.rules.specs.Items.{Values}
 use Rattle.rules.specs.Commits.{offsetSettings}
 use Rattle.landing.specs.Landing.{descriptorsOnly}
 use Rattle.conflicts.specs.Staling.{Sighters}
-use Rattle.conflicts.proofs.ConflictLaws.{sets-is, no-offsets, offset-more, offset-less}
+use Rattle.conflicts.proofs.ConflictLaws.{sets-is, none-set, no-offsets, offsets-none, offset-more, offset-less}
 use borrow.Author.Needs.{needs}
+use borrow.Author.Tests.{not-true}
 use Rattle.conflicts.proofs.offsets.offset_sighters.Statement.{statement}
 use Rattle.conflicts.proofs.offsets.offset_sighters.Tie as tie
 
@@ -24,13 +25,20 @@ Inv-loop kept t watched found₀ d₀ found d =
 abbrev μ-loop : tie.MeasureT-loop
 μ-loop kept t watched found₀ d₀ found d = 16 - d
 
+returns : tie.Need-returns Inv-loop μ-loop
+returns c =
+    let a = c .before .before .args in
+    let kept = a .kept .now in
+    λ marks v. offsets-none kept marks (a .watched) v (descriptorsOnly (transactionOf kept (a .t))) 16
+    (none-set kept (a .t) (c .before .any-dirty .ensures (not-true _ (c .if1 .taken))))
+
 loop-holds : tie.Need-loop-holds Inv-loop μ-loop
-loop-holds c = let a = c .args in (omega arith, λ marks v. no-offsets (a .kept .now) marks (a .watched) v _)
+loop-holds c = let a = c .before .before .args in (omega arith, λ marks v. no-offsets (a .kept .now) marks (a .watched) v _)
 
 loop-again : tie.Need-loop-again Inv-loop μ-loop
 loop-again c =
     let at-loop = c .before .before .before .before in
-    let a = at-loop .before .args in
+    let a = at-loop .before .before .before .args in
     let l = at-loop .loop in
     let x = descriptorsOnly (transactionOf (a .kept .now) (a .t)) in
     let few : l .d < 16 = omega arith in
@@ -42,10 +50,10 @@ loop-again c =
           (λ u. ap (λ (n : ℕ). contains n u) (w .3) ∙ w .2 .ensures u),
     ))
     (λ w. (omega arith, λ marks v. rw (w .1) (offset-less (a .kept .now) marks (a .watched) v x (l .d) _ (sets ∙ w .0 .left) (l .inv .1 marks v))))
-    (c .if1 .came)
+    (c .if2 .came)
 
-returns : tie.Need-returns Inv-loop μ-loop
-returns c =
+returns-2 : tie.Need-returns-2 Inv-loop μ-loop
+returns-2 c =
     let e : c .before .loop .d ≡ 16 = omega arith in
     rw e at (c .before .loop .inv .1)
 
@@ -55,6 +63,8 @@ offset-sighters-spec =
     (tie.spec
     Inv-loop
     μ-loop
+    (λ c κs. search needs)
+    returns
     loop-holds
     (λ c κs. search needs)
     (λ c κs. search needs)
@@ -63,4 +73,4 @@ offset-sighters-spec =
     (λ c. search needs)
     (λ c. search needs)
     loop-again
-    returns)
+    returns-2)

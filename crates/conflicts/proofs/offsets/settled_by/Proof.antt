@@ -7,7 +7,6 @@ use native.Mathlib.Omega.{arith}
 use Rattle.octets.specs.Bits.{bitsOf}
 use Rattle.octets.proofs.SetLaws.{gathered, passed-by}
 use Rattle.conflicts.specs.Staling.{knowsOffset}
-use Rattle.conflicts.proofs.ConflictLaws.{stands-known}
 use borrow.Author.Needs.{needs}
 use Rattle.conflicts.proofs.offsets.settled_by.Statement.{statement}
 use Rattle.conflicts.proofs.offsets.settled_by.Tie as tie
@@ -28,8 +27,7 @@ loop-again c =
     let a = at-loop .before .args in
     let l = at-loop .loop in
     let p = knowsOffset (a .kept .now) (a .watched) (a .d) in
-    let test = sym (ap₂ _&&_ (c .before .before .contains .ensures)
-    (sym (stands-known (a .kept .now) (l .u) (a .d) _ (at-loop .before .pre) (c .before .kind-at .ensures)))) in
+    let test = sym (ap₂ _&&_ (c .before .before .contains .ensures) (c .before .is-known-at .ensures)) in
     ⊎-elim (λ w. (omega arith, w .2 ∙ w .1 .ensures ∙ gathered p (l .found) (l .u) (l .inv .1) (test ∙ w .0 .taken)))
     (λ w. (omega arith, w .1 ∙ passed-by p (l .found) (l .u) (l .inv .1) (test ∙ w .0 .left))) (c .if1 .came)
 

@@ -11,7 +11,7 @@ use Rattle.standings.specs.Table.{advance}
 use Rattle.record.specs.State.{standingAt}
 use Rattle.record.specs.Layout.{transactionOf}
 use Rattle.ranges.specs.Below.{below}
-use Rattle.ranges.proofs.Tests.{none-yet, one-more}
+use Rattle.octets.proofs.BelowLaws.{none-yet, one-more}
 use Rattle.ordering.specs.Table.{fitsAt}
 use Rattle.ordering.proofs.following.fits.Statement.{statement}
 use Rattle.ordering.proofs.following.fits.Tie as tie

@@ -3,14 +3,13 @@ use mathlib.Core.Bool.{Bool, false}
 use mathlib.Core.List.{List}
 use mathlib.Core.Path.{_≡_, sym, ap, ap₂, _∙_}
 use lib.Dec.{eqb}
-use lib.ListN.{set, replicate, getD}
+use lib.ListN.{set, replicate}
 use native.Mathlib.Omega.{arith}
 use borrow.Author.Needs.{needs}
-use Prim.Native.Nat.{ℕ, _+_, _-_, _≤_}
+use Prim.Native.Nat.{ℕ, _-_, _≤_}
 use Rattle.standings.specs.Table.{readSettles}
 use Rattle.record.specs.State.{standingAt}
-use Rattle.record.specs.Layout.{base, transactionOf, storeOf}
-use Rattle.record.proofs.LayoutLaws.{standing-of}
+use Rattle.record.specs.Layout.{transactionOf, storeOf}
 use Rattle.record.proofs.Filled.{filled, filled-none, filled-all, filled-set}
 use Rattle.settling.specs.Choices.{settlesForRead, chosenByRead}
 use Rattle.settling.proofs.settle.chosen_by_read.Statement.{statement}
@@ -29,16 +28,13 @@ loop-holds c = (omega arith, sym (filled-none _ (replicate 16 false)))
 loop-again : tie.Need-loop-again Inv-loop μ-loop
 unfolding settlesForRead
 loop-again c =
-    let at-loop = c .before .before .before .before in
+    let at-loop = c .before .before .before in
     let a = at-loop .before .before .args in
-    let e = at-loop .loop .e in
-    let chosen =
-    rw (c .before .before .kind-at .ensures, ← standing-of (a .kept .now) (a .t) e (omega arith)) at
-    (c .kind-settles .ensures (getD (a .kept .now) (base (a .t) + e + 16) 0) (getD (a .kept .now) (base (a .t) + e + 32) 0)) in (
+    let e = at-loop .loop .e in (
       omega arith,
-      ap (λ (l : List Bool). set l e (c .kind-settles .result)) (at-loop .loop .inv .1)
-          ∙ filled-set _ (replicate 16 false) e (c .kind-settles .result) (omega arith)
-          (chosen
+      ap (λ (l : List Bool). set l e (c .read-settles-at .result)) (at-loop .loop .inv .1)
+          ∙ filled-set _ (replicate 16 false) e (c .read-settles-at .result) (omega arith)
+          (c .read-settles-at .ensures
           ∙ ap₂ (λ (f g : ℕ). readSettles (eqb f g) (eqb e (a .d)) (standingAt (transactionOf (a .kept .now) (a .t)) e)) (c .before .file-at2 .ensures)
           (at-loop .before .file-at .ensures)),
     )
@@ -60,7 +56,6 @@ chosen-by-read-spec =
     μ-loop
     (λ c κs. search needs)
     loop-holds
-    (λ c κs. search needs)
     (λ c κs. search needs)
     (λ c κs. search needs)
     (λ c. search needs)

@@ -1,14 +1,14 @@
--- `ranges::at_most` meets its contract.
-use Rattle.ranges.proofs.Tests.{none-yet, one-more}
-use Rattle.ranges.specs.Below.{below}
+-- `record::readers::at_most` meets its contract.
+use Rattle.octets.proofs.BelowLaws.{none-yet, one-more}
+use Rattle.octets.specs.Below.{below}
 use lib.Dec.{leb}
 use lib.ListN.{getD}
 use mathlib.Core.Path.{refl, _≡_}
 use Prim.Native.Nat.{_+_, _-_, _≤_}
 use native.Mathlib.Omega.{arith}
 use borrow.Author.Needs.{needs}
-use Rattle.ranges.proofs.at_most.Statement.{statement}
-use Rattle.ranges.proofs.at_most.Tie as tie
+use Rattle.record.proofs.readers.at_most.Statement.{statement}
+use Rattle.record.proofs.readers.at_most.Tie as tie
 
 abbrev Inv-loop : tie.InvT-loop
 Inv-loop kept from n most good₀ k₀ good k = (k ≤ n) × (good ≡ below (λ j. leb (getD kept (from + j) 0) most) k)

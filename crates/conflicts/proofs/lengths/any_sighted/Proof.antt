@@ -1,0 +1,45 @@
+-- `conflicts::lengths::any_sighted` meets its contract. The loop's invariant: where none is found, none of the transactions passed has
+-- sighted a length.
+use mathlib.Core.Bool.{false}
+use mathlib.Core.Path.{_≡_}
+use Prim.Native.Nat.{_-_, _≤_}
+use native.Mathlib.Omega.{arith}
+use borrow.Author.Needs.{needs}
+use Rattle.conflicts.specs.Staling.{NoneSighted}
+use Rattle.conflicts.proofs.ConflictLaws.{sighted-more}
+use Rattle.conflicts.proofs.lengths.any_sighted.Statement.{statement}
+use Rattle.conflicts.proofs.lengths.any_sighted.Tie as tie
+
+abbrev Inv-loop : tie.InvT-loop
+Inv-loop kept watched found₀ u₀ found u = (u ≤ 8) × (found ≡ false → NoneSighted kept watched u)
+
+abbrev μ-loop : tie.MeasureT-loop
+μ-loop kept watched found₀ u₀ found u = 8 - u
+
+loop-holds : tie.Need-loop-holds Inv-loop μ-loop
+loop-holds c = (omega arith, λ e u l. absurd (omega arith))
+
+loop-again : tie.Need-loop-again Inv-loop μ-loop
+loop-again c =
+    let l = c .before .before .before .loop in
+    let a = c .before .before .before .before .args in
+    (omega arith, sighted-more (a .kept .now) (a .watched) (l .u) _ _ _ (l .inv .1) (c .before .contains .ensures) (c .lengthmarks-at .ensures))
+
+returns : tie.Need-returns Inv-loop μ-loop
+returns c =
+    let e : c .before .loop .u ≡ 8 = omega arith in
+    rw e at (c .before .loop .inv .1)
+
+pub any-sighted-spec : {M : Type 1} → statement M
+any-sighted-spec =
+    tie.close
+    (tie.spec
+    Inv-loop
+    μ-loop
+    loop-holds
+    (λ c κs. search needs)
+    (λ c κs. search needs)
+    (λ c. search needs)
+    (λ c. search needs)
+    loop-again
+    returns)

@@ -184,7 +184,8 @@ module _ (kept marks : List ℕ) (watched : ℕ) where
         conflicts-append marks u (transactionOf kept u) (raisedBelow kept files logs t n f) _
         ∙ ap₂ _||_ (unsighted u none f) (last (ltb (values (storeOf kept) files (fileLength f)) (reachOf kept files logs t n f)))
       where
-        last : (b : Bool) → conflicts marks u (transactionOf kept u) (cond b (record { item = fileLength f; to = reachOf kept files logs t n f } ∷ []) [])
+        last : (b : Bool)
+            → conflicts marks u (transactionOf kept u) (cond b (record { item = fileLength f; to = reachOf kept files logs t n f } ∷ []) [])
             ≡ false
         last true = ap (λ (k : ℕ). contains k f || false) none ∙ ap (λ (c : Bool). c || false) (contains-none f)
         last false = refl
@@ -192,7 +193,8 @@ module _ (kept marks : List ℕ) (watched : ℕ) where
     pub lengths-none : NoneSighted kept watched 8 → (f : ℕ) → Sighters kept marks watched (raisedBelow kept files logs t n f) 0
     lengths-none none f u l = contains-none u ∙ sym (pick (contains watched u) refl)
       where
-        pick : (b : Bool) → contains watched u ≡ b → b && conflicts marks u (transactionOf kept u) (raisedBelow kept files logs t n f) ≡ false
+        pick : (b : Bool) → contains watched u ≡ b
+            → b && conflicts marks u (transactionOf kept u) (raisedBelow kept files logs t n f) ≡ false
         pick true e = unsighted u (none u l e) f
         pick false e = refl
 

@@ -35,7 +35,7 @@ fn sighted_by(kept: &Record, watched: u8, f: usize) -> u8
     found
 }
 
-// Some watched transaction has sighted a length.
+// Whether a watched transaction may have sighted a length: where this says no, none has.
 fn any_sighted(kept: &Record, watched: u8) -> bool
     ensures { λ r. ⌜ (r ≡ false → NoneSighted (now (kept .entry)) watched 8) ⌝ }
 {
@@ -49,7 +49,7 @@ fn any_sighted(kept: &Record, watched: u8) -> bool
 }
 
 // Those of the watched transactions that have sighted a length that transaction t's writes would raise. Where none has
-// sighted one, nobody asks which are raised.
+// sighted any, the lengths are not computed.
 pub fn length_sighters(kept: &Record, t: usize, used: Used, watched: u8) -> u8
     requires { ⌜ CanLandIn (now kept) t (used .records) ⌝ }
     ensures { λ r. ⌜ ((files logs marks : List ℕ) → length logs ≡ 32768

@@ -87,7 +87,8 @@ pub below-sum : (p : ℕ → Bool) (m n : ℕ) → below p (m + n) ≡ below p m
 unfolding below
 below-sum p m zero = simp unary-clauses (sym (and-true (below p m)))
 below-sum p m (suc n) =
-    simp unary-clauses (ap (λ (b : Bool). b && p (m + n)) (below-sum p m n) ∙ and-assoc (below p m) (below (λ k. p (m + k)) n) (p (m + n)))
+    simp unary-clauses
+    (ap (λ (b : Bool). b && p (m + n)) (below-sum p m n) ∙ and-assoc (below p m) (below (λ k. p (m + k)) n) (p (m + n)))
 
 -- A test of some number below a bound.
 module _ (p : ℕ → Bool) where
@@ -103,7 +104,8 @@ module _ (p : ℕ → Bool) where
   unfolding someBelow
   some-found zero i l e = absurd (omega arith)
   some-found (suc n) i l e =
-      ⊎-elim (λ h. rw (some-found n i h e)) (λ h. let s : n ≡ i = omega arith in or-right (someBelow p n) (p n) (ap p s ∙ e)) (le-or-lt (suc i) n)
+      ⊎-elim (λ h. rw (some-found n i h e))
+      (λ h. let s : n ≡ i = omega arith in or-right (someBelow p n) (p n) (ap p s ∙ e)) (le-or-lt (suc i) n)
     where
       or-right : (a b : Bool) → b ≡ true → (a || b) ≡ true
       or-right true b q = refl

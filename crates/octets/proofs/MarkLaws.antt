@@ -12,7 +12,7 @@ use lib.Dec.{eqb, ltb}
 use lib.ListN.{length, getD, set, length-set}
 use lib.Seq.{getD-set-same, getD-set-other, set-getD, set-set, set-out}
 use borrow.Author.Tests.{eqb-true, eqb-false, eq-eqb, ne-eqb, ltb-true, ltb-false, lt-ltb}
-use Rattle.octets.specs.Bits.{bit, withBit, span, inFirst, firstBits, lastBits, cleared}
+use Rattle.octets.specs.Bits.{bit, withBit, span, inFirst, between, firstBits, lastBits, cleared}
 use Rattle.octets.specs.Marks.{byTransaction, names, hasMark, withMark, withMarks, withoutMarks, hasMarkIn, contains}
 use Rattle.octets.proofs.BitLaws.{bit-zero, bit-with, with-lt, with-span, with-span-none, with-octet, some-none, some-more}
 use Rattle.octets.proofs.BitLaws.{some-octet, some-or, length-cleared, cleared-in, cleared-out}
@@ -294,37 +294,46 @@ module _ (marks : List ℕ) (t from n : ℕ) (some : 0 < n) (inside : from + n �
   head = inFirst from n
 
   abbrev whole : ℕ
-  whole = (n - head) / 8
+  whole = between from n
 
-  -- what stands behind the last octet that it fills
-  behind : (r : ℕ) → r ≡ (n - head) % 8
-      → not (eqb (bitAnd (getD marks (4096 * t + (from + n - 1) / 8) 0) (span 0 r)) 0) ≡ hasMarkIn marks t (from + (head + whole * 8)) r
-  behind zero e = some-none 0 (getD marks (4096 * t + (from + n - 1) / 8) 0) ∙ sym (has-in-none marks t (from + (head + whole * 8)))
-  behind (suc r) e =
+  abbrev i : ℕ
+  i = 4096 * t + (from + n - 1) / 8
+
+  -- the last octet, where that is another than the first
+  in-last : (r : ℕ) → r ≡ n - head - 8 * whole
+      → not (eqb (bitAnd (getD marks i 0) (span 0 r)) 0) ≡ hasMarkIn marks t (from + (head + whole * 8)) r
+  in-last zero e = some-none 0 (getD marks i 0) ∙ sym (has-in-none marks t (from + (head + whole * 8)))
+  in-last (suc r) e =
       let q = from + (head + whole * 8) in
-      let i : 4096 * t + (from + n - 1) / 8 ≡ 4096 * t + q / 8 = omega arith in
-      let l : 0 ≡ q % 8 = omega arith in
-      ap₂ (λ (j b : ℕ). not (eqb (bitAnd (getD marks j 0) (span b (suc r))) 0)) i l
+      let there : i ≡ 4096 * t + q / 8 = omega arith in
+      let low : 0 ≡ q % 8 = omega arith in
+      ap₂ (λ (j b : ℕ). not (eqb (bitAnd (getD marks j 0) (span b (suc r))) 0)) there low
       ∙ sym (octet-has t q marks (suc r) (omega arith) (omega arith))
 
   module _ (first last : ℕ) (is-first : first ≡ firstBits from n) (is-last : last ≡ lastBits from n) where
     abbrev ends : ℕ
-    ends = bitOr (bitAnd (getD marks (4096 * t + from / 8) 0) first) (bitAnd (getD marks (4096 * t + (from + n - 1) / 8) 0) last)
+    ends = bitOr (bitAnd (getD marks (4096 * t + from / 8) 0) first) (bitAnd (getD marks i 0) last)
 
-    ends-has : not (eqb ends 0) ≡ hasMarkIn marks t from head || hasMarkIn marks t (from + (head + whole * 8)) ((n - head) % 8)
+    abbrev wholeHas : Bool
+    wholeHas = hasMarkIn marks t (from + head) (8 * whole)
+
+    abbrev lastHas : ℕ → Bool
+    lastHas r = hasMarkIn marks t (from + (head + whole * 8)) r
+
+    ends-has : not (eqb ends 0) ≡ hasMarkIn marks t from head || lastHas (n - head - 8 * whole)
     ends-has =
         rw (is-first, is-last)
         (some-or (bitAnd (getD marks (4096 * t + from / 8) 0) (firstBits from n)) _
-        ∙ ap₂ _||_ (sym (octet-has t from marks head (omega arith) (omega arith))) (behind ((n - head) % 8) refl))
+        ∙ ap₂ _||_ (sym (octet-has t from marks head (omega arith) (omega arith))) (in-last (n - head - 8 * whole) refl))
 
     -- the ends, and the octets between them
-    has-in-all : hasMarkIn marks t from n ≡ not (eqb ends 0) || hasMarkIn marks t (from + head) (8 * whole)
+    has-in-all : hasMarkIn marks t from n ≡ not (eqb ends 0) || wholeHas
     has-in-all =
-        let e : n - (head + whole * 8) ≡ (n - head) % 8 = omega arith in
+        let e : n - (head + whole * 8) ≡ n - head - 8 * whole = omega arith in
         has-in-parts marks t from n head whole (omega arith)
-        ∙ ap (λ (k : ℕ). hasMarkIn marks t from head || (hasMarkIn marks t (from + head) (8 * whole) || hasMarkIn marks t (from + (head + whole * 8)) k)) e
-        ∙ turned (hasMarkIn marks t from head) (hasMarkIn marks t (from + head) (8 * whole)) (hasMarkIn marks t (from + (head + whole * 8)) ((n - head) % 8))
-        ∙ ap (λ (b : Bool). b || hasMarkIn marks t (from + head) (8 * whole)) (sym ends-has)
+        ∙ ap (λ (k : ℕ). hasMarkIn marks t from head || (wholeHas || lastHas k)) e
+        ∙ turned (hasMarkIn marks t from head) wholeHas (lastHas (n - head - 8 * whole))
+        ∙ ap (λ (b : Bool). b || wholeHas) (sym ends-has)
       where
         turned : (a b c : Bool) → a || (b || c) ≡ (a || c) || b
         turned true b c = refl
@@ -334,10 +343,10 @@ module _ (marks : List ℕ) (t from n : ℕ) (some : 0 < n) (inside : from + n �
         turned false false false = refl
 
     pub ends-decide : (ends ≡ 0 → ⊥) → true ≡ hasMarkIn marks t from n
-    ends-decide h = sym (has-in-all ∙ ap (λ (b : Bool). not b || hasMarkIn marks t (from + head) (8 * whole)) (ne-eqb ends 0 h))
+    ends-decide h = sym (has-in-all ∙ ap (λ (b : Bool). not b || wholeHas) (ne-eqb ends 0 h))
 
-    pub whole-decides : ends ≡ 0 → (r : Bool) → r ≡ hasMarkIn marks t (from + head) (8 * whole) → r ≡ hasMarkIn marks t from n
-    whole-decides h r f = f ∙ sym (has-in-all ∙ ap (λ (b : Bool). not b || hasMarkIn marks t (from + head) (8 * whole)) (eq-eqb ends 0 h))
+    pub whole-decides : ends ≡ 0 → (r : Bool) → r ≡ wholeHas → r ≡ hasMarkIn marks t from n
+    whole-decides h r f = f ∙ sym (has-in-all ∙ ap (λ (b : Bool). not b || wholeHas) (eq-eqb ends 0 h))
 
 -- ---- sets of transactions
 

@@ -1,6 +1,6 @@
 -- Bits of octets, and a stretch of octets that is cleared.
 use mathlib.Core.Bool.{Bool, cond}
-use Prim.Native.Nat.{ℕ, zero, suc, _+_, _-_, _^_, _/_, _%_, min}
+use Prim.Native.Nat.{ℕ, zero, suc, _+_, _-_, _*_, _^_, _/_, _%_, min}
 use mathlib.Core.List.{List}
 use lib.Bits.{bitOr, bitAnd}
 use lib.ListN.{set}
@@ -24,16 +24,19 @@ withBitAs t b x = cond b (withBit t x) (withoutBit t x)
 unfoldable pub span : ℕ → ℕ → ℕ
 span low n = 2 ^ (low + n) - 2 ^ low
 
--- the n bits from bit `from` of a row of octets on: how many stand in the octet of the first one; those, as a number; and those that stand
--- behind the last octet that they fill, as a number
+-- the n bits from bit `from` of a row of octets on: how many stand in the first of their octets, and how many octets are between it and the
+-- last; those of the first octet, and those of the last where that is another
 abbrev pub inFirst : ℕ → ℕ → ℕ
 inFirst from n = min n (8 - from % 8)
+
+abbrev pub between : ℕ → ℕ → ℕ
+between from n = (n - inFirst from n - 1) / 8
 
 abbrev pub firstBits : ℕ → ℕ → ℕ
 firstBits from n = span (from % 8) (inFirst from n)
 
 abbrev pub lastBits : ℕ → ℕ → ℕ
-lastBits from n = span 0 ((n - inFirst from n) % 8)
+lastBits from n = span 0 (n - inFirst from n - 8 * between from n)
 
 -- those of the first n numbers that pass a test, as the bits of a number: bit u, worth 2 to the power u, for u; and how many they are
 unfoldable pub bitsOf : (ℕ → Bool) → ℕ → ℕ

@@ -1,12 +1,13 @@
 // Marks: eight stretches of 4,096 octets, transaction t's from octet 4,096 × t on, a bit for each byte of the files in
 // their order, lowest bit first. A set of transactions is an octet too.
 use crate::sets;
+use numbers::over;
 use numbers::smaller;
 ghost use mathlib.Core.Bool.{_&&_, _||_};
 ghost use mathlib.Core.Path.{_≡_};
 ghost use Prim.Native.Nat.{ℕ, _+_, _*_, _%_, _<_, _≤_};
 ghost use lib.ListN.{length};
-ghost use Rattle.octets.specs.Bits.{span, firstBits, lastBits, withBit};
+ghost use Rattle.octets.specs.Bits.{span, between, firstBits, lastBits, withBit};
 ghost use Rattle.octets.specs.Marks.{withMarks, withoutMarks, hasMarkIn, contains};
 
 // The octets of a transaction's marks.
@@ -89,8 +90,16 @@ fn has_mark_in_octets(marks: &[u8], t: usize, from: usize, n: usize) -> bool
     found != 0
 }
 
-// Whether transaction t has marked some of the n bytes from `from` on. Two masks are told: `first` has the bits of these
-// bytes in the octet where they begin, `last` those behind the last octet that they fill.
+// How many whole octets stand between the first and the last of those that hold the marks of n bytes from `from` on.
+fn between(from: usize, n: usize) -> usize
+    ensures { λ r. ⌜ r ≡ between from n ⌝ }
+{
+    let head = smaller(n, 8 - from % 8);
+    over(n - head, 1) / 8
+}
+
+// Whether transaction t has marked some of the n bytes from `from` on. Two masks are told: the bits of these bytes in
+// the first of their octets, and in the last, where that is another.
 fn has_mark_in(marks: &[u8], t: usize, from: usize, n: usize, first: u8, last: u8) -> bool
     requires { ⌜ (t < 8) × ((0 < n) × ((from + n ≤ 32768) × (length (now marks) ≡ 32768))) ⌝ }
     requires masks { ⌜ (first ≡ firstBits from n) × (last ≡ lastBits from n) ⌝ }
@@ -102,7 +111,7 @@ fn has_mark_in(marks: &[u8], t: usize, from: usize, n: usize, first: u8, last: u
         return true;
     }
     let head = smaller(n, 8 - from % 8);
-    has_mark_in_octets(marks, t, from + head, (n - head) / 8)
+    has_mark_in_octets(marks, t, from + head, between(from, n))
 }
 
 // Those of the watched transactions that have marked some of the n bytes from `from` on. The masks of their first octet
@@ -117,7 +126,7 @@ pub fn markers(marks: &[u8], watched: u8, from: usize, n: usize) -> u8
     }
     let head = smaller(n, 8 - from % 8);
     let first = span(from % 8, head);
-    let last = span(0, (n - head) % 8);
+    let last = span(0, n - head - 8 * between(from, n));
     let mut found = 0u8;
     let mut u = 0;
     while u < 8 {

@@ -21,7 +21,8 @@ use Rattle.record.specs.State.{transaction, standingAt, windowAt}
 use Rattle.windows.specs.Hours.{minuteIn}
 use Rattle.record.specs.Layout.{transactionOf, storeOf, journalOf}
 use Rattle.record.proofs.LayoutLaws.{transaction-of}
-use Rattle.record.specs.Journal.{writeRecordAt, placeEndsBy, endsBy}
+use Rattle.record.specs.Journal.{writeRecordAt}
+use Rattle.record.specs.Ends.{placeEndsBy, endsBy}
 use Rattle.ranges.specs.Below.{below}
 use Rattle.ranges.specs.Ranges.{standingIn, endsWithin, placeIn, recordIn, lengthsBefore, journalIn, journalPasses, transactionIn}
 use Rattle.ranges.specs.Ranges.{windowIn, tablesIn, placedIn, landedIn, grantPasses, undoIn, noneBegun}
@@ -35,7 +36,7 @@ and-false false = refl
 
 -- The numbers that they carry are those of the range.
 pub standings-decide : (r : List ℕ) (t : ℕ)
-    → below (λ d. leb (advance (standingAt (transactionOf r t) d)) 4096 && leb (offsetOf (standingAt (transactionOf r t) d)) 4096) 16
+    → below (λ d. let z = standingAt (transactionOf r t) d in leb (advance z) 4096 && leb (offsetOf z) 4096) 16
     ≡ below (λ d. standingIn (standingAt (transactionOf r t) d)) 16
 standings-decide r t = below-same _ _ 16 (λ d h. sym (standing-numbers (standingAt (transactionOf r t) d)))
 
@@ -63,14 +64,16 @@ unfolding placeEndsBy placeIn
 place-ends z (At p) n h = refl
 place-ends z (After a) n h = sym (within-waits z (a + n) h)
 
-pub record-decides : (x : Transaction) (w : WriteRecord) → below (λ d. standingIn (standingAt x d)) 16 ≡ true → endsBy 4096 x w ≡ recordIn x w
+pub record-decides : (x : Transaction) (w : WriteRecord) → below (λ d. standingIn (standingAt x d)) 16 ≡ true
+    → endsBy 4096 x w ≡ recordIn x w
 unfolding endsBy recordIn
 record-decides x w all = low (leb (w .descriptor) 15) refl
   where
     z : Standing
     z = standingAt x (w .descriptor)
 
-    low : (b : Bool) → leb (w .descriptor) 15 ≡ b → b && placeEndsBy 4096 z (w .place) (w .length) ≡ b && placeIn z (w .place) (w .length)
+    low : (b : Bool) → leb (w .descriptor) 15 ≡ b
+        → b && placeEndsBy 4096 z (w .place) (w .length) ≡ b && placeIn z (w .place) (w .length)
     low true e =
         let l = leb-true (w .descriptor) 15 e in
         place-ends z (w .place) (w .length) (below-at (λ d. standingIn (standingAt x d)) 16 (w .descriptor) all (omega arith))
@@ -216,7 +219,8 @@ unfolding noneBegun
 none-decides r = below-same _ _ 8 (λ t h. rw (transaction-of r t h))
 
 -- The starts and ends of the windows are minutes.
-windows-decide : (s : Store) → below (λ f. leb (windowAt s f .start) 1439 && leb (windowAt s f .end) 1439) 8 ≡ below (λ f. windowIn (windowAt s f)) 8
+windows-decide : (s : Store)
+    → below (λ f. leb (windowAt s f .start) 1439 && leb (windowAt s f .end) 1439) 8 ≡ below (λ f. windowIn (windowAt s f)) 8
 unfolding windowIn minuteIn
 windows-decide s = refl
 

@@ -17,7 +17,8 @@ use Rattle.standings.specs.Table.{readSettles, advance, offsetOf, isKnown, mayW
 use Rattle.record.specs.declared.Descriptor.{Descriptor}
 use Rattle.record.specs.declared.Transaction.{Transaction}
 use Rattle.record.specs.declared.journal.WriteRecord.{WriteRecord}
-use Rattle.record.specs.Journal.{heldAs, held, writeRecordAt, endsBy, placeEndsBy}
+use Rattle.record.specs.Journal.{heldAs, held, writeRecordAt}
+use Rattle.record.specs.Ends.{placeEndsBy, endsBy}
 use Rattle.record.specs.State.{standingAt, dirtyAt, windowAt}
 use Rattle.record.specs.Layout.{base, standingOf, windowOf, descriptorOf, transactionOf, storeOf, journalOf}
 use Rattle.record.proofs.JournalLaws.{length-held}
@@ -31,19 +32,22 @@ module _ (k : ℕ) where
   abbrev high : ℕ
   high = suc (suc (suc (suc k)))
 
+  other : (n : ℕ) → n < 4 → eqb high n ≡ false
+  other n l = ne-eqb high n (λ p. omega arith)
+
   high-known : (a b : ℕ) → standingOf high a b ≡ Known a
   unfolding standingOf
   high-known a b =
-      rw (ne-eqb high 0 (λ p. omega arith), ne-eqb high 1 (λ p. omega arith), ne-eqb high 2 (λ p. omega arith), ne-eqb high 3 (λ p. omega arith))
+      rw (other 0 (omega arith), other 1 (omega arith), other 2 (omega arith), other 3 (omega arith))
 
   high-waits : (eqb high 2 || eqb high 3) ≡ false
-  high-waits = rw (ne-eqb high 2 (λ p. omega arith), ne-eqb high 3 (λ p. omega arith))
+  high-waits = rw (other 2 (omega arith), other 3 (omega arith))
 
   high-settles : (f i : Bool) → (((eqb high 2 || eqb high 3) && f) || (eqb high 0 && i)) ≡ false
-  high-settles f i = rw (high-waits, ne-eqb high 0 (λ p. omega arith))
+  high-settles f i = rw (high-waits, other 0 (omega arith))
 
   high-carried : (x y : Bool) → (eqb high 0 || x) && (not (eqb high 3) || y) ≡ x
-  high-carried x y = rw (ne-eqb high 0 (λ p. omega arith), ne-eqb high 3 (λ p. omega arith)) (and-true x)
+  high-carried x y = rw (other 0 (omega arith), other 3 (omega arith)) (and-true x)
 
 known-kind : (k a b : ℕ) → ltb 3 k ≡ isKnown (standingOf k a b)
 unfolding standingOf
@@ -70,11 +74,13 @@ waits-kind (suc zero) a b e = refl
 waits-kind (suc (suc zero)) a b e = refl
 waits-kind (suc (suc (suc zero))) a b e = refl
 waits-kind (suc (suc (suc (suc k)))) a b e =
-    ap (λ (w : Bool). w && leb e a) (high-waits k) ∙ sym (ap (λ (z : Standing). mayWait z && leb e (advance z)) (high-known k a b))
+    ap (λ (w : Bool). w && leb e a) (high-waits k)
+    ∙ sym (ap (λ (z : Standing). mayWait z && leb e (advance z)) (high-known k a b))
 
 -- Of its three numbers those that it carries are looked at.
 carried-kind : (k a b m : ℕ)
-    → (eqb k 0 || leb a m) && (not (eqb k 3) || leb b m) ≡ leb (advance (standingOf k a b)) m && leb (offsetOf (standingOf k a b)) m
+    → (eqb k 0 || leb a m) && (not (eqb k 3) || leb b m)
+    ≡ leb (advance (standingOf k a b)) m && leb (offsetOf (standingOf k a b)) m
 unfolding standingOf
 carried-kind zero a b m = sym (rw (le-leb 0 m (omega arith)))
 carried-kind (suc zero) a b m = and-true (leb a m) ∙ sym (rw (le-leb 0 m (omega arith)))
@@ -89,7 +95,8 @@ module _ (r : List ℕ) (t d : ℕ) (few : d < 16) (n : ℕ) (is-n : n ≡ getD 
   pub known-decides : ltb 3 n ≡ isKnown (standingAt (transactionOf r t) d)
   known-decides = ap (ltb 3) is-n ∙ known-kind _ _ _ ∙ sym (ap isKnown (standing-of r t d few))
 
-  pub settles-decides : (f i : Bool) → (((eqb n 2 || eqb n 3) && f) || (eqb n 0 && i)) ≡ readSettles f i (standingAt (transactionOf r t) d)
+  pub settles-decides : (f i : Bool)
+      → (((eqb n 2 || eqb n 3) && f) || (eqb n 0 && i)) ≡ readSettles f i (standingAt (transactionOf r t) d)
   settles-decides f i = rw is-n (settles-kind _ _ _ f i ∙ sym (ap (readSettles f i) (standing-of r t d few)))
 
   pub waits-decides : (a e : ℕ) → a ≡ getD r (base t + d + 16) 0
@@ -111,7 +118,8 @@ carried-decide r t m =
     ∙ below-same _ _ 16
     (λ d h. carried-kind _ _ _ m ∙ sym (ap (λ (z : Standing). leb (advance z) m && leb (offsetOf z) m) (standing-of r t d h)))
 
-pub none-dirty : (r : List ℕ) (t : ℕ) → not (eqb (getD r (base t + 51) 0) 0) ≡ false → (d : ℕ) → d < 16 → dirtyAt (transactionOf r t) d ≡ false
+pub none-dirty : (r : List ℕ) (t : ℕ) → not (eqb (getD r (base t + 51) 0) 0) ≡ false
+    → (d : ℕ) → d < 16 → dirtyAt (transactionOf r t) d ≡ false
 unfolding descriptorOf
 none-dirty r t none d few =
     ap (λ (q : Descriptor). q .dirty) (descriptor-of r t d few)
@@ -148,8 +156,8 @@ module _ (r : List ℕ) (t k : ℕ) (small : t < 9) (few : k < 64) where
     unfolding endsBy held heldAs
     no-descriptor l = sym (ap (endsBy m x) told ∙ rw (le-ltb h 16 (omega arith), lt-leb (h - 16) 15 (omega arith)))
 
-    pub waiting-ends : 16 ≤ h → h ≤ 31 → (b : Bool) → b ≡ mayWait (standingAt x (h - 16)) && leb e (advance (standingAt x (h - 16)))
-        → b ≡ endsBy m x w
+    pub waiting-ends : 16 ≤ h → h ≤ 31 → (b : Bool)
+        → b ≡ mayWait (standingAt x (h - 16)) && leb e (advance (standingAt x (h - 16))) → b ≡ endsBy m x w
     unfolding endsBy placeEndsBy held heldAs
     waiting-ends l u b is-b = is-b ∙ sym (ap (endsBy m x) told ∙ rw (le-ltb h 16 l, le-leb (h - 16) 15 (omega arith), is-e))
 

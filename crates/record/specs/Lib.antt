@@ -3,4 +3,4 @@ pub mod State
 pub mod Journal
 pub mod Layout
 pub mod Updates
-pub mod Examples
+pub mod Ends

@@ -11,7 +11,8 @@ use standings::Place;
 ghost use mathlib.Core.Path.{_≡_};
 ghost use Prim.Native.Nat.{_<_};
 ghost use lib.ListN.{replicate};
-ghost use Rattle.record.specs.Journal.{holder, writeRecordAt, withRecordAt, endsBy};
+ghost use Rattle.record.specs.Journal.{holder, writeRecordAt, withRecordAt};
+ghost use Rattle.record.specs.Ends.{endsBy};
 ghost use Rattle.record.specs.Layout.{journalOf, transactionOf, recordLength};
 
 pub const RECORDS: usize = 64;

@@ -108,7 +108,7 @@ pub fn standings_at_most(kept: &Record, t: usize, most: u16) -> bool
     firsts & seconds
 }
 
-// Some descriptor is dirty in transaction t.
+// Whether a descriptor of transaction t may be dirty: where this says no, none is.
 pub fn any_dirty(kept: &Record, t: usize) -> bool
     requires { ⌜ t < 8 ⌝ }
     ensures { λ r. ⌜ (r ≡ false → (d : ℕ) → d < 16 → dirtyAt (transactionOf (now (kept .entry)) t) d ≡ false) ⌝ }

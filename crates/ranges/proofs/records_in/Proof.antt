@@ -31,19 +31,21 @@ returns c =
     let at-loop = c .before .before .before in
     let a = at-loop .before .args in
     let k = at-loop .loop .k in
+    let x = transactionOf (a .kept .now) (a .t) in
     let w = writeRecordAt (journalOf (a .kept .now)) (a .t) k in
     and-fails _ _ (below-fails _ k _ (omega arith)
-    (failed (c .before .ends-by .ensures ∙ record-decides (transactionOf (a .kept .now) (a .t)) w (at-loop .before .pre .2)) (c .if1 .taken)))
+    (failed (c .before .ends-by .ensures ∙ record-decides x w (at-loop .before .pre .2)) (c .if1 .taken)))
 
 loop-again : tie.Need-loop-again Inv-loop μ-loop
 loop-again c =
     let at-test = c .before .before in
     let at-loop = at-test .before .before .before in
     let a = at-loop .before .args in
+    let x = transactionOf (a .kept .now) (a .t) in
     let w = writeRecordAt (journalOf (a .kept .now)) (a .t) (at-loop .loop .k) in (
       omega arith,
       below-more _ _ (at-loop .loop .inv .1)
-          (held (at-test .before .ends-by .ensures ∙ record-decides (transactionOf (a .kept .now) (a .t)) w (at-loop .before .pre .2)) (at-test .if1 .left)),
+          (held (at-test .before .ends-by .ensures ∙ record-decides x w (at-loop .before .pre .2)) (at-test .if1 .left)),
       lengths-more _ _ _ _ _ (at-loop .loop .inv .2) (c .wide .ensures .0 ∙ c .before .record-length .ensures),
       omega arith,
     )

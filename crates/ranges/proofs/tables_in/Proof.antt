@@ -10,14 +10,18 @@ files-at-most-requires : tie.Need-files-at-most-requires
 files-at-most-requires c κs = search needs
 
 returns : tie.Need-returns
-returns c = sym (tables-decide (c .before .before .args .kept .now) ∙ simp (failed (c .before .files-at-most .ensures) (c .if1 .taken)))
+returns c =
+    sym (tables-decide (c .before .before .args .kept .now) ∙ simp (failed (c .before .files-at-most .ensures) (c .if1 .taken)))
 
 offsets-at-most-requires : tie.Need-offsets-at-most-requires
 offsets-at-most-requires c κs = search needs
 
 returns-2 : tie.Need-returns-2
 returns-2 c = sym (tables-decide (c .before .before .before .before .args .kept .now)
-    ∙ simp (held (c .before .before .before .files-at-most .ensures) (c .before .before .if1 .left), failed (c .before .offsets-at-most .ensures) (c .if2 .taken)))
+    ∙ simp (
+      held (c .before .before .before .files-at-most .ensures) (c .before .before .if1 .left),
+      failed (c .before .offsets-at-most .ensures) (c .if2 .taken),
+    ))
 
 lengths-at-most-requires : tie.Need-lengths-at-most-requires
 lengths-at-most-requires c κs = search needs

@@ -42,7 +42,8 @@ returns-4 c =
     (failed (c .before .standings-at-most .ensures ∙ standings-decide _ _) (c .if4 .taken))
 
 records-in-requires : tie.Need-records-in-requires
-records-in-requires c κs = (omega arith, omega arith, held (c .before .standings-at-most .ensures ∙ standings-decide _ _) (c .if4 .left))
+records-in-requires c κs =
+    (omega arith, omega arith, held (c .before .standings-at-most .ensures ∙ standings-decide _ _) (c .if4 .left))
 
 returns-5 : tie.Need-returns-5
 returns-5 c =

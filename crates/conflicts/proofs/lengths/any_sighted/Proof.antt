@@ -23,7 +23,8 @@ loop-again : tie.Need-loop-again Inv-loop μ-loop
 loop-again c =
     let l = c .before .before .before .loop in
     let a = c .before .before .before .before .args in
-    (omega arith, sighted-more (a .kept .now) (a .watched) (l .u) _ _ _ (l .inv .1) (c .before .contains .ensures) (c .lengthmarks-at .ensures))
+    let test = c .before .contains .ensures in
+    (omega arith, sighted-more (a .kept .now) (a .watched) (l .u) _ _ _ (l .inv .1) test (c .lengthmarks-at .ensures))
 
 returns : tie.Need-returns Inv-loop μ-loop
 returns c =

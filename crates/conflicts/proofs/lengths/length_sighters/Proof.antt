@@ -31,7 +31,9 @@ returns c =
     (c .before .any-sighted .ensures (not-true _ (c .if1 .taken))) 8
 
 loop-holds : tie.Need-loop-holds Inv-loop μ-loop
-loop-holds c = let a = c .before .before .before .args in (omega arith, λ n files logs marks can e size. no-lengths (a .kept .now) marks (a .watched) files logs (a .t) n)
+loop-holds c =
+    let a = c .before .before .before .args in
+    (omega arith, λ n files logs marks can e size. no-lengths (a .kept .now) marks (a .watched) files logs (a .t) n)
 
 loop-again : tie.Need-loop-again Inv-loop μ-loop
 loop-again c =

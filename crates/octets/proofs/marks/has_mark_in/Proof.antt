@@ -1,6 +1,6 @@
 -- `octets::marks::has_mark_in` meets its contract. Assumes nothing.
-use mathlib.Core.Path.{ap, _∙_}
-use Prim.Native.Nat.{ℕ, _+_, _-_, _*_, _/_}
+use mathlib.Core.Path.{ap₂, _∙_}
+use Prim.Native.Nat.{ℕ, _+_, _*_}
 use native.Mathlib.Omega.{arith}
 use Rattle.octets.specs.Marks.{hasMarkIn}
 use Rattle.octets.proofs.MarkLaws.{ends-decide, whole-decides}
@@ -12,15 +12,19 @@ returns : tie.Need-returns
 returns c =
     let start = c .before .before .before .before in
     let a = start .args in
-    ends-decide (a .marks .now) (a .t) (a .from) (a .n) (omega arith) (omega arith) _ _ (start .pre .1 .0) (start .pre .1 .1) (c .if1 .taken)
+    ends-decide (a .marks .now) (a .t) (a .from) (a .n) (omega arith) (omega arith) _ _ (start .pre .1 .0) (start .pre .1 .1)
+    (c .if1 .taken)
 
 returns-2 : tie.Need-returns-2
 returns-2 c =
-    let start = c .before .before .before .before .before .before in
+    let at-test = c .before .before .before in
+    let start = at-test .before .before .before .before in
     let a = start .args in
     let xs = a .marks .now in
-    whole-decides xs (a .t) (a .from) (a .n) (omega arith) (omega arith) _ _ (start .pre .1 .0) (start .pre .1 .1) (c .before .before .if1 .left) _
-    (c .has-mark-in-octets .ensures ∙ ap (λ (h : ℕ). hasMarkIn xs (a .t) (a .from + h) (8 * ((a .n - h) / 8))) (c .before .smaller .ensures))
+    whole-decides xs (a .t) (a .from) (a .n) (omega arith) (omega arith) _ _ (start .pre .1 .0) (start .pre .1 .1)
+    (at-test .if1 .left) _
+    (c .has-mark-in-octets .ensures
+    ∙ ap₂ (λ (h m : ℕ). hasMarkIn xs (a .t) (a .from + h) (8 * m)) (c .before .before .smaller .ensures) (c .before .between .ensures))
 
 pub has-mark-in-spec : {M : Type 1} → statement M
 has-mark-in-spec =

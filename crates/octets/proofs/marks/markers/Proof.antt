@@ -3,7 +3,7 @@
 use mathlib.Core.Bool.{Bool, _&&_, and-false}
 use mathlib.Core.Logic.{⊎-elim}
 use mathlib.Core.Path.{_≡_, refl, sym, ap, ap₂, _∙_}
-use Prim.Native.Nat.{ℕ, _-_, _%_, _≤_}
+use Prim.Native.Nat.{ℕ, _+_, _-_, _*_, _/_, _%_, _≤_, _<_}
 use native.Mathlib.Omega.{arith}
 use Rattle.octets.specs.Bits.{span, bitsOf}
 use Rattle.octets.specs.Marks.{hasMarkIn, contains}
@@ -33,20 +33,38 @@ loop-holds : tie.Need-loop-holds Inv-loop μ-loop
 unfolding bitsOf
 loop-holds c = (omega arith, refl)
 
+-- The last octet has eight bits.
+eight : (m b : ℕ) → b ≡ (m - 1) / 8 → 0 + (m - 8 * b) ≤ 8
+eight m b e = omega arith
+
+span-requires-2 : tie.Need-span-requires-2 Inv-loop μ-loop
+span-requires-2 c κs =
+    let a = c .before .before .before .before .before .args in
+    eight _ _ (c .between .ensures ∙ ap (λ (h : ℕ). (a .n - h - 1) / 8) (sym (c .before .before .smaller .ensures)))
+
+positive : (n : ℕ) → (n ≡ 0 → ⊥) → 0 < n
+positive n h = omega arith
+
 -- The masks, as they were made before the loop.
 has-mark-in-requires : tie.Need-has-mark-in-requires Inv-loop μ-loop
 has-mark-in-requires c κs =
-    let at-masks = c .before .before .before .before in
-    let a = at-masks .before .before .before .before .before .args in
-    let head = at-masks .before .before .smaller .ensures in (
-      search needs,
-      (at-masks .before .span .ensures ∙ ap (span (a .from % 8)) head, at-masks .span2 .ensures ∙ ap (λ (h : ℕ). span 0 ((a .n - h) % 8)) head),
+    let at-last = c .before .before .before .before in
+    let at-first = at-last .before .before in
+    let start = at-first .before .before .before .before in
+    let a = start .args in
+    let head = at-first .before .smaller .ensures in
+    let some = positive _ (at-first .before .before .if1 .left) in (
+      (omega (arith, c .before .before .loop-test .taken), (some, (start .pre .0, start .pre .1))),
+      (
+        at-first .span .ensures ∙ ap (span (a .from % 8)) head,
+        at-last .span2 .ensures ∙ ap₂ (λ (h m : ℕ). span 0 (a .n - h - 8 * m)) head (at-last .before .between .ensures),
+      ),
     )
 
 loop-again : tie.Need-loop-again Inv-loop μ-loop
 loop-again c =
     let l = c .before .before .before .loop in
-    let a = c .before .before .before .before .before .before .before .before .before .args in
+    let a = c .before .before .before .before .before .before .before .before .before .before .args in
     let p : ℕ → Bool = λ v. contains (a .watched) v && hasMarkIn (a .marks .now) v (a .from) (a .n) in
     let watched = sym (c .before .contains .ensures) in
     ⊎-elim (λ w. (
@@ -69,7 +87,7 @@ loop-again c =
 
 returns-2 : tie.Need-returns-2 Inv-loop μ-loop
 returns-2 c =
-    let a = c .before .before .before .before .before .before .before .args in
+    let a = c .before .before .before .before .before .before .before .before .args in
     let l = c .before .loop in
     let p : ℕ → Bool = λ v. contains (a .watched) v && hasMarkIn (a .marks .now) v (a .from) (a .n) in
     let e : l .u ≡ 8 = omega arith in
@@ -87,6 +105,9 @@ markers-spec =
     (λ c κs. search needs)
     (λ c. search needs)
     (λ c κs. search needs)
+    (λ c. search needs)
+    (λ c. search needs)
+    span-requires-2
     loop-holds
     (λ c κs. search needs)
     has-mark-in-requires

@@ -23,8 +23,8 @@ returns-3 : tie.Need-returns-3
 returns-3 c =
     let at-end = c .before .before .before in
     waiting-ends _ _ _ (omega arith) (omega arith) _ _ _ (at-end .before .before .before .before .wide .ensures .0)
-    (ap₂ _+_ (at-end .before .before .wide2 .ensures .0) (at-end .wide3 .ensures .0)) (c .before .before .if1 .left) (c .before .if2 .left) _
-    (c .may-wait-to .ensures)
+    (ap₂ _+_ (at-end .before .before .wide2 .ensures .0) (at-end .wide3 .ensures .0))
+    (c .before .before .if1 .left) (c .before .if2 .left) _ (c .may-wait-to .ensures)
 
 pub ends-by-spec : {M : Type 1} → statement M
 ends-by-spec =

@@ -8,4 +8,12 @@ returns : tie.Need-returns
 returns c = none-dirty _ _
 
 pub any-dirty-spec : {M : Type 1} → statement M
-any-dirty-spec = tie.close (tie.spec (λ c. search needs) (λ c. search needs) (λ c. search needs) (λ c. search needs) (λ c. search needs) returns)
+any-dirty-spec =
+    tie.close
+    (tie.spec
+    (λ c. search needs)
+    (λ c. search needs)
+    (λ c. search needs)
+    (λ c. search needs)
+    (λ c. search needs)
+    returns)

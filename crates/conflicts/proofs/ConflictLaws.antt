@@ -1,5 +1,5 @@
 -- Who has sighted what a commit would set, setting by setting, and whom it would make stale.
-use mathlib.Core.Bool.{Bool, true, false, cond, not, _&&_, _||_, and-false, or-assoc, or-false, true≢false}
+use mathlib.Core.Bool.{Bool, true, false, cond, not, _&&_, _||_, and-false, or-assoc, or-false}
 use mathlib.Core.List.{List, [], _∷_, _++_, append-nil}
 use mathlib.Core.Logic.{⊎-elim}
 use mathlib.Core.Path.{_≡_, refl, sym, ap, ap₂, _∙_}
@@ -52,25 +52,16 @@ none-set kept t none d few = ap (λ (b : Bool). b && isTouched (standingAt (tran
 -- ---- what the code reads of the lengths that were sighted
 
 -- One transaction more: u, which is watched where w says so, and has sighted the lengths n.
-pub sighted-more : (kept : List ℕ) (watched u n : ℕ) (found w : Bool) → (found ≡ false → NoneSighted kept watched u)
-    → w ≡ contains watched u → n ≡ transactionOf kept u .lengthmarks
-    → (found || (w && not (eqb n 0))) ≡ false → NoneSighted kept watched (u + 1)
-sighted-more kept watched u n found w so is-w is-n e v l watches =
-    ⊎-elim (λ less. so (first found _ e) v less watches) (λ same. own (omega arith)) (le-or-lt (suc v) u)
+pub sighted-more : (kept : List ℕ) (watched u n : ℕ) (w : Bool) → NoneSighted kept watched u
+    → w ≡ contains watched u → n ≡ transactionOf kept u .lengthmarks → w && not (eqb n 0) ≡ false → NoneSighted kept watched (u + 1)
+sighted-more kept watched u n w so is-w is-n e v l watches =
+    ⊎-elim (λ less. so v less watches) (λ same. own (omega arith)) (le-or-lt (suc v) u)
   where
-    first : (a b : Bool) → (a || b) ≡ false → a ≡ false
-    first true b e = e
-    first false b e = refl
-
-    second : (a b : Bool) → (a || b) ≡ false → b ≡ false
-    second true b e = absurd (true≢false e)
-    second false b e = e
-
     own : v ≡ u → transactionOf kept v .lengthmarks ≡ 0
     own same =
         let told : w ≡ true = is-w ∙ ap (contains watched) (sym same) ∙ watches in
         ap (λ (k : ℕ). transactionOf kept k .lengthmarks) same ∙ sym is-n
-        ∙ eqb-true n 0 (not-false _ (ap (λ (b : Bool). b && not (eqb n 0)) (sym told) ∙ second found _ e))
+        ∙ eqb-true n 0 (not-false _ (ap (λ (b : Bool). b && not (eqb n 0)) (sym told) ∙ e))
 
 -- ---- settings in order
 

@@ -39,13 +39,14 @@ fn sighted_by(kept: &Record, watched: u8, f: usize) -> u8
 fn any_sighted(kept: &Record, watched: u8) -> bool
     ensures { λ r. ⌜ (r ≡ false → NoneSighted (now (kept .entry)) watched 8) ⌝ }
 {
-    let mut found = false;
     let mut u = 0;
     while u < TRANSACTIONS {
-        found = found | (contains(watched, u) & (lengthmarks_at(kept, u) != 0));
+        if contains(watched, u) & (lengthmarks_at(kept, u) != 0) {
+            return true;
+        }
         u += 1;
     }
-    found
+    false
 }
 
 // Those of the watched transactions that have sighted a length that transaction t's writes would raise. Where none has

@@ -38,5 +38,6 @@ corners =
       part = refl;
       past = refl;
       pastEmpty = refl;
+      beyond = (refl, refl, refl);
       takenBack = (refl, refl);
     }

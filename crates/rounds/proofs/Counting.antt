@@ -255,6 +255,18 @@ module _ (replyTo : Call → List Call → Reply) (bytes : List ℕ) (minute : �
         ∙ ap (commitAll replyTo bytes minute x (x .count)) (idle-passes 16)
         ∙ idle-commits (x .count) (omega arith)
 
+  -- Where every script is over after j rounds, further ones change nothing.
+  pub rounds-idle : (j : ℕ) (w : Work)
+      → ((k : ℕ) → k < x .count → goesOn (rounds replyTo bytes minute x j w .ends k) ≡ false)
+      → (i : ℕ) → rounds replyTo bytes minute x (i + j) w ≡ rounds replyTo bytes minute x j w
+  unfolding rounds
+  rounds-idle j w over zero = let e : 0 + j ≡ j = omega arith in ap (λ (a : ℕ). rounds replyTo bytes minute x a w) e
+  rounds-idle j w over (suc i) =
+      let e : suc i + j ≡ suc (i + j) = omega arith in
+      ap (λ (a : ℕ). rounds replyTo bytes minute x a w) e
+      ∙ ap (round replyTo bytes minute x) (rounds-idle j w over i)
+      ∙ idle-round (rounds replyTo bytes minute x j w) over
+
 -- ---- numbers
 
 -- The sum of the numbers up to n.
@@ -394,8 +406,4 @@ module _ (replyTo : Call → List Call → Reply) (bytes : List ℕ) (minute : �
 
     pub rounds-stop : (j : ℕ)
         → rounds replyTo bytes minute x (j + x .count) (nothingDone reader) ≡ rounds replyTo bytes minute x (x .count) (nothingDone reader)
-    unfolding rounds
-    rounds-stop zero = let e : 0 + x .count ≡ x .count = omega arith in ap go e
-    rounds-stop (suc j) =
-        let e : suc j + x .count ≡ suc (j + x .count) = omega arith in
-        ap go e ∙ ap (round replyTo bytes minute x) (rounds-stop j) ∙ idle-round replyTo bytes minute x (go (x .count)) rounds-over
+    rounds-stop = rounds-idle replyTo bytes minute x (x .count) (nothingDone reader) rounds-over

@@ -3,6 +3,7 @@ pub mod Phases
 pub mod Counting
 pub mod OnSighted
 pub mod OnPlain
+pub mod Same
 pub mod Theorem
 pub mod Loops
 pub mod Corners

@@ -1,5 +1,5 @@
 -- What is proved of the dispatcher.
-use mathlib.Core.Bool.{Bool, true, false, not}
+use mathlib.Core.Bool.{Bool, true, false}
 use mathlib.Core.List.{List}
 use mathlib.Core.Logic.{inl, inr}
 use mathlib.Core.Path.{_≡_, refl, sym, ap, _∙_, subst⁻¹}
@@ -7,32 +7,32 @@ use borrow.Author.Tests.{leb-true}
 use lib.Dec.{leb}
 use lib.ListN.{length}
 use native.Mathlib.Omega.{arith}
-use Prim.Native.Nat.{ℕ, zero, suc, _+_, _*_, _≤_, _<_}
+use Prim.Native.Nat.{ℕ, _+_, _*_, _≤_, _<_}
 use Rattle.octets.proofs.TableLaws.{length-tabulate}
 use Rattle.windows.specs.Hours.{freshWindows}
 use Rattle.record.specs.State.{transaction, windowAt}
 use Rattle.record.specs.Layout.{journalOf}
-use Rattle.ranges.specs.Below.{guarded, isNone, unless}
+use Rattle.ranges.specs.Below.{unless}
 use Rattle.ranges.specs.Ranges.{firstTests, sizesIn, storeIn, noneBegun, admissionOfDispatch}
-use Rattle.ranges.proofs.Laws.{and-left, and-right, below-at, below-same, AdmittedDispatch, admitted-dispatch}
+use Rattle.ranges.proofs.Laws.{and-left, and-right, below-at, AdmittedDispatch, admitted-dispatch}
 use Rattle.rules.specs.Messages.{Call, Reply}
 use Rattle.rules.specs.Machine.{Machine, sizes, fileOf, values}
 use Rattle.rules.specs.Calls.{callsAfter, callsReplies}
 use Rattle.rules.specs.Promises.{machineOf}
-use Rattle.rules.specs.Plain.{closed, Plain, startPlain, withWindows, isRunning, noneRunning, plainAfter}
+use Rattle.rules.specs.Plain.{closed, startPlain, withWindows, isRunning, plainAfter}
 use Rattle.rules.specs.Grants.{serialOf}
 use Rattle.rules.specs.Age.{AtRest, earlierIn}
 use Rattle.rules.proofs.Serial.Sighted.{Sighted, startSighted, sightedReplies}
 use Rattle.rules.proofs.Serial.FirstHalf.{backOf}
-use Rattle.rules.proofs.View.Admissions.{first-is}
 use Rattle.rules.proofs.Demand3.Theorem.{calls-agree}
 use Rattle.rules.proofs.Demand3.Age.{at-rest-sound, resting-start, resting-holds}
 use Rattle.laws.proofs.Shapes.{shaped}
 use Rattle.rounds.specs.Rounds.{Scripts, scriptIn, scriptsIn, failed, goesOn, Work, nothingDone, rounds, dispatched}
-use Rattle.rounds.specs.Dispatch.{storeReply, plainReply, onStore, onPlain, Dispatched, reported, notStarted, dispatch, plainDispatch}
-use Rattle.rounds.specs.Dispatch.{Demand1Dispatched, IsDispatchRefusal, EndsScript, Answered, Dispatches, plainOf, DispatchHolds}
+use Rattle.rounds.specs.Dispatch.{storeReply, plainReply, onStore, onPlain, dispatch}
+use Rattle.rounds.specs.Dispatch.{Demand1Dispatched, IsDispatchRefusal, EndsScript, Answered, PlainToo, Dispatches, plainOf, DispatchHolds}
 use Rattle.rounds.specs.Dispatch.{DispatchHoldsAtRest, FewCommits, SameDispatch}
-use Rattle.rounds.proofs.Follows.{sightedReply, store-sighted, store-plain, twins-after, Resting, resting-twins}
+use Rattle.rounds.proofs.Follows.{sightedReply, store-sighted, twins-after, Resting, resting-twins}
+use Rattle.rounds.proofs.Same.{left-by, commits-of, gate, refusal-is, plain-too}
 use Rattle.rounds.proofs.Phases.{Laws, AtRest as Rests, rounds-rest}
 use Rattle.rounds.proofs.Counting.{rounds-over, rounds-few, rounds-stop}
 use Rattle.rounds.proofs.OnSighted.{sighted-laws, sighted-first, sighted-rests, Known, Kept, sighted-kept}
@@ -115,10 +115,16 @@ module _ (m : Machine) (r : Resting m) (bytes : List ℕ) (minute : ℕ) (x : Sc
       ∙ rounds-stop (sightedReply bare) bytes minute x laws (sighted-first bare bytes minute x few) reader bare-rests j
       ∙ sym (store-bare (x .count))
 
-  same-work : onStore bytes minute x m reader ≡ onPlain bytes minute x (plainOf m) reader
-  unfolding onStore onPlain
-  same-work =
-      ap (λ (f : Call → List Call → Reply). dispatched f bytes minute x reader) (store-plain m (plainOf m) (resting-twins m r))
+  not-running : isRunning closed ≡ false
+  unfolding isRunning
+  not-running = refl
+
+  none-open : (t : ℕ) → t ≤ 7 → transaction (m .store) t .begun ≡ isRunning (plainOf m .slots t)
+  unfolding startPlain
+  none-open t l = r .closed t l ∙ sym not-running
+
+  too : PlainToo bytes minute x m (plainOf m) reader
+  too = plain-too bytes minute x m (plainOf m) reader (resting-twins m r) none-open
 
   -- The grants, by the plain machine.
   abbrev plainLaws : Laws (plainReply (plainOf m)) bytes minute x
@@ -136,17 +142,13 @@ module _ (m : Machine) (r : Resting m) (bytes : List ℕ) (minute : ℕ) (x : Sc
 
   store-granted : Grants (onStore bytes minute x m reader)
   store-granted =
-      subst⁻¹ Grants same-work
+      subst⁻¹ Grants (too .work)
       (plain-granted (plainOf m) bytes minute x few short _ plain-ends)
 
   all-closed : (j : ℕ) → plainAfter (onStore bytes minute x m reader .made) (plainOf m) .slots j ≡ closed
   all-closed j =
-      ap (λ (w : Work). plainAfter (w .made) (plainOf m) .slots j) same-work
+      ap (λ (w : Work). plainAfter (w .made) (plainOf m) .slots j) (too .work)
       ∙ plain-closed (plainOf m) bytes minute x few short _ plain-ends j
-
-  not-running : isRunning closed ≡ false
-  unfolding isRunning
-  not-running = refl
 
   pub resting-dispatches : Dispatches bytes minute x m (plainOf m) reader
   resting-dispatches =
@@ -157,7 +159,7 @@ module _ (m : Machine) (r : Resting m) (bytes : List ℕ) (minute : ℕ) (x : Sc
         refusals = store-known;
         answers = store-answers;
         few = store-few;
-        same = same-work;
+        plainToo = too;
         serial = h;
         start = store-granted .from;
         scripts = store-granted .every;
@@ -165,42 +167,8 @@ module _ (m : Machine) (r : Resting m) (bytes : List ℕ) (minute : ℕ) (x : Sc
         closed = λ t l. h .openness t l ∙ ap isRunning (all-closed t) ∙ not-running;
       }
 
--- ---- the tests before it
+-- ---- demand 1
 
--- A dispatcher that starts where its tests pass: its refusal is theirs.
-module _ {M : Type 0} (m : M) (reader : List ℕ) (work : Work) (after : M) where
-  abbrev ifPassed : ℕ → Dispatched M
-  ifPassed n = guarded (notStarted m reader) (isNone n) n (reported work after)
-
-  refusal-of : (n : ℕ) → ifPassed n .refusal ≡ n
-  unfolding reported notStarted
-  refusal-of zero = refl
-  refusal-of (suc n) = refl
-
-  left-by : (n : ℕ) → (n ≡ 0 → ⊥) → (ifPassed n .after ≡ m) × (ifPassed n .reader ≡ reader)
-  unfolding notStarted
-  left-by zero h = absurd (h refl)
-  left-by (suc n) h = (refl, refl)
-
-  commits-of : (n bound : ℕ) → (n ≡ 0 → 2 * work .commits ≤ bound) → 2 * ifPassed n .commits ≤ bound
-  unfolding reported notStarted
-  commits-of zero bound h = h refl
-  commits-of (suc n) bound h = omega arith
-
-module _ (bytes : List ℕ) (minute : ℕ) (x : Scripts) (m : Machine) (reader : List ℕ) where
-  abbrev gate : ℕ
-  gate = admissionOfDispatch (sizes m) (m .store) (m .journal) (scriptsIn (length bytes) x)
-
-  pub refusal-is : dispatch bytes minute x m reader .refusal ≡ gate
-  unfolding dispatch
-  refusal-is = refusal-of m reader _ _ gate
-
-plain-refusal-is : (bytes : List ℕ) (minute : ℕ) (x : Scripts) (p : Plain) (reader : List ℕ)
-    → plainDispatch bytes minute x p reader .refusal ≡ unless (noneRunning p) 19 (unless (scriptsIn (length bytes) x) 20 0)
-unfolding plainDispatch
-plain-refusal-is bytes minute x p reader = refusal-of p reader _ _ (unless (noneRunning p) 19 (unless (scriptsIn (length bytes) x) 20 0))
-
--- Demand 1.
 gate-known : (a b c d : Bool) → (unless a 1 (unless b 2 (unless c 19 (unless d 20 0))) ≡ 0 → ⊥)
     → IsDispatchRefusal (unless a 1 (unless b 2 (unless c 19 (unless d 20 0))))
 unfolding unless
@@ -274,25 +242,8 @@ at-rest m r = record { sound = at-rest-sound m r; closed = r .closed }
 pub dispatch-holds-at-rest : DispatchHoldsAtRest
 dispatch-holds-at-rest m r bytes minute x reader e = resting-dispatches m (at-rest m r) bytes minute x reader e
 
--- Nobody is open in the store where nobody is on the plain machine.
-none-same : (m : Machine) (p : Plain) → ((t : ℕ) → t ≤ 7 → transaction (m .store) t .begun ≡ isRunning (p .slots t))
-    → noneBegun (m .store) ≡ noneRunning p
-unfolding noneBegun noneRunning
-none-same m p h = below-same _ _ 8 (λ t l. ap not (h t (omega arith)))
-
 pub same-dispatch : SameDispatch
-unfolding onStore onPlain admissionOfDispatch
 same-dispatch m r cs bytes minute x reader =
     let rest = at-rest m r in
-    let t = twins-after m (plainOf m) (resting-twins m rest) cs in
-    let n = callsAfter cs m in
-    let p = plainAfter cs (plainOf m) in
-    record {
-      refusal =
-          refusal-is bytes minute x n reader
-          ∙ first-is n (unless (noneBegun (n .store)) 19 (unless (scriptsIn (length bytes) x) 20 0)) (t .sound)
-          ∙ ap (λ (b : Bool). unless b 19 (unless (scriptsIn (length bytes) x) 20 0))
-          (none-same n p (resting-holds m (rest .sound) (rest .closed) cs .openness))
-          ∙ sym (plain-refusal-is bytes minute x p reader);
-      work = ap (λ (f : Call → List Call → Reply). dispatched f bytes minute x reader) (store-plain n p t);
-    }
+    plain-too bytes minute x (callsAfter cs m) (plainAfter cs (plainOf m)) reader (twins-after m (plainOf m) (resting-twins m rest) cs)
+    (resting-holds m (rest .sound) (rest .closed) cs .openness)

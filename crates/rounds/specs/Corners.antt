@@ -2,7 +2,7 @@
 use mathlib.Core.List.{List, [], _∷_, _++_}
 use mathlib.Core.Path.{_≡_}
 use lib.ListN.{length, getD, replicate}
-use Prim.Native.Nat.{ℕ}
+use Prim.Native.Nat.{ℕ, _*_}
 use Rattle.octets.specs.Parts.{tabulate}
 use Rattle.record.specs.Paper.{plain}
 use Rattle.rules.specs.Messages.{Call, begin, setWindow, takeBack, says}
@@ -38,7 +38,7 @@ reader = dot ∷ dot ∷ dot ∷ []
 unfoldable pub told : List Call → ℕ → List (List ScriptCall) → Gives
 told cs minute xs =
     let r = plainDispatch bytes minute (scriptsOf xs) (plainAfter cs freshNumbered) reader in
-    gives (r .refusal) (tabulate (r .ends) (length xs)) (r .commits) (r .reader)
+    record { refusal = r .refusal; ends = tabulate (r .ends) (length xs); commits = r .commits; reader = r .reader }
 
 -- The first n bytes of file 0 after it.
 unfoldable pub bytesLeft : List (List ScriptCall) → ℕ → List ℕ
@@ -101,6 +101,11 @@ pub record Corners : Type 0 where
   pub part : told [] 0 ((writes 0 1 2 ∷ writes 0 3 0 ∷ []) ∷ []) ≡ gives 0 (passed ∷ []) 1 reader
   pub past : told [] 0 ((writes 0 2 2 ∷ []) ∷ []) ≡ gives 20 (unfinished ∷ []) 0 reader
   pub pastEmpty : told [] 0 ((asks 16 ∷ writes 0 4 0 ∷ []) ∷ []) ≡ gives 20 (unfinished ∷ []) 0 reader
+  -- Neither a call beyond a script's count nor a script beyond the number of scripts is looked at: here calls that would not pass 20, in
+  -- scripts that would not either.
+  pub beyond :
+      let r = plainDispatch bytes 0 (record { count = 1; script = λ k. record { count = 17 * k; call = λ i. writes 0 4 0 } }) freshNumbered reader in
+      (r .refusal ≡ 0) × (r .ends 0 ≡ passed) × (r .commits ≡ 1)
   -- F-13: the grant that is taken back is its last one.
   pub takenBack :
       let p = plainDispatch bytes 0 (scriptsOf (appends 0 ∷ appends 1 ∷ [])) freshNumbered reader .after in

@@ -127,6 +127,21 @@ unfoldable pub Answered : List Reply → Type 0
 Answered [] = Unit {0}
 Answered (r ∷ rs) = ((refusalIn (r .answer) ≡ 0) ⊎ ((refusalIn (r .answer) ≡ 13) ⊎ EndsScript (refusalIn (r .answer)))) × Answered rs
 
+-- ---- on the plain machine too
+
+-- What the dispatcher gives on a store and on the plain machine is the same, and so are the committed files, offsets and lengths after it.
+pub record SameGiven (d : Dispatched Machine) (e : Dispatched Plain) : Type 0 where
+  pub refusal : d .refusal ≡ e .refusal
+  pub ends : d .ends ≡ e .ends
+  pub commits : d .commits ≡ e .commits
+  pub reader : d .reader ≡ e .reader
+  pub committed : values (d .after .store) (d .after .files) ≡ e .after .committed .value
+
+-- On a store m and on the plain machine p it gives the same, and makes the same calls.
+pub record PlainToo (bytes : List ℕ) (minute : ℕ) (x : Scripts) (m : Machine) (p : Plain) (reader : List ℕ) : Type 0 where
+  pub given : SameGiven (dispatch bytes minute x m reader) (plainDispatch bytes minute x p reader)
+  pub work : onStore bytes minute x m reader ≡ onPlain bytes minute x p reader
+
 -- From a store m with nothing open, whose plain machine is p, with scripts that pass 20: what the dispatcher does, and its grants in order.
 module _ (bytes : List ℕ) (minute : ℕ) (x : Scripts) (m : Machine) (p : Plain) (reader : List ℕ) where
   abbrev pub work : Work
@@ -144,8 +159,8 @@ module _ (bytes : List ℕ) (minute : ℕ) (x : Scripts) (m : Machine) (p : Plai
     pub answers : Answered (callsReplies (work .made) m)
     -- "so at most 36 commits for eight"; 01: "at most n(n+1)/2".
     pub few : 2 * work .commits ≤ x .count * (x .count + 1)
-    -- The plain machine makes the same calls, with the same ends, bytes and count.
-    pub same : work ≡ onPlain bytes minute x p reader
+    -- On the plain machine too.
+    pub plainToo : PlainToo bytes minute x m p reader
     -- "The committed files, offsets and lengths after it are those of the granted scripts alone in grant order": demand 3 of that list of
     -- calls, from what the dispatcher found (F-11: "the serial order runs with Fresh's windows"), whatever that holds to take back.
     pub serial : Holds theStore m p (work .made) (callsAfter (work .made) m) (plainAfter (work .made) p)
@@ -179,12 +194,7 @@ FewCommits =
     (kept files logs marks undo : List ℕ) (bytes : List ℕ) (minute : ℕ) (x : Scripts) (reader : List ℕ)
     → 2 * dispatch bytes minute x (machineOf kept files logs marks undo) reader .commits ≤ x .count * (x .count + 1)
 
--- On the plain machine too: after any list of calls from any store at rest it gives the dispatcher's refusals, 19 and 20, and makes the
--- same calls.
-pub record PlainToo (bytes : List ℕ) (minute : ℕ) (x : Scripts) (m : Machine) (p : Plain) (reader : List ℕ) : Type 0 where
-  pub refusal : dispatch bytes minute x m reader .refusal ≡ plainDispatch bytes minute x p reader .refusal
-  pub work : onStore bytes minute x m reader ≡ onPlain bytes minute x p reader
-
+-- After any list of calls from any store at rest, refused or not.
 abbrev pub SameDispatch : Type 0
 SameDispatch =
     (m : Machine) → AtRest m → (cs : List Call) (bytes : List ℕ) (minute : ℕ) (x : Scripts) (reader : List ℕ)

@@ -32,7 +32,7 @@ pub record Scripts : Type 0 where
 -- "20 when there are more than 8 scripts, one is over 16 calls, or a Write's part runs past the data buffer", which has n bytes.
 unfoldable pub partIn : ℕ → ScriptCall → Bool
 partIn n (seeks d v) = true
-partIn n (writes d start length) = leb (start + length) n
+partIn n (writes d start size) = leb (start + size) n
 partIn n (asks d) = true
 partIn n (reads d m) = true
 

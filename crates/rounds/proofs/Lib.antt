@@ -7,3 +7,4 @@ pub mod Same
 pub mod Theorem
 pub mod Loops
 pub mod Corners
+pub mod Counterexamples

@@ -2,3 +2,5 @@
 pub mod Rounds
 pub mod Dispatch
 pub mod Corners
+-- Values of which the predicates of Dispatch are false.
+pub mod Counterexamples

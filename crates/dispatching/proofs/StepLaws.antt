@@ -1,21 +1,22 @@
 -- What the steps of the code come to: each law takes what stands before a step to what stands after it.
-use mathlib.Core.Bool.{Bool, true, false, cond, _&&_}
+use mathlib.Core.Bool.{Bool, true, false, cond, not, _&&_}
 use mathlib.Core.List.{List, [], _∷_, _++_}
 use mathlib.Core.Path.{_≡_, refl, sym, ap, _∙_, subst, subst⁻¹}
-use borrow.Author.Tests.{eqb-true, eqb-false, ne-eqb}
+use borrow.Author.Tests.{eqb-true, eqb-false, ne-eqb, not-true}
 use lib.Dec.{eqb, ltb}
 use lib.ListN.{set, length-set, replicate, getD-replicate}
 use lib.Seq.{getD-set-same, getD-set-other}
 use native.Mathlib.Numerals.{add-one}
 use native.Mathlib.Omega.{arith}
-use Prim.Native.Nat.{ℕ, zero, suc, _+_, _<_}
+use Prim.Native.Nat.{ℕ, zero, suc, _+_, _-_, _≤_, _<_}
 use Rattle.record.specs.declared.outcomes.Refusal.{Refusal}
 use Rattle.record.specs.declared.outcomes.Outcome.{Outcome}
 use Rattle.record.specs.Paper.{number, said}
 use Rattle.ranges.specs.declared.Gate.{Gate}
 use Rattle.ranges.specs.declared.Gate.the-variants.{Pass, Refused}
+use Rattle.ranges.specs.Below.{below}
 use Rattle.ranges.specs.Ranges.{gateNumber}
-use Rattle.ranges.proofs.Laws.{number-suc}
+use Rattle.ranges.proofs.Laws.{number-suc, below-at}
 use Rattle.requests.specs.declared.Request.{Request}
 use Rattle.requests.specs.Requests.{callOf}
 use Rattle.requests.specs.Performing.{Unanswered, Performs}
@@ -30,6 +31,7 @@ use Rattle.rounds.specs.Rounds.{ScriptCall, seeks, writes, asks, reads, Scripts
 use Rattle.rounds.specs.Rounds.{refusalIn, failing, orFailing, decided, opOf, readerAfter, begins, perform, turn, turns, passes, commitOne}
 use Rattle.rounds.specs.Rounds.{commitAll, round, rounds}
 use Rattle.rounds.specs.Dispatch.{storeReply}
+use Rattle.rounds.proofs.Counting.{rounds-idle}
 use Rattle.dispatching.specs.declared.ends.End.{End}
 use Rattle.dispatching.specs.declared.ends.End.the-variants.{Failed}
 use Rattle.dispatching.specs.declared.ends.Ended.{Ended}
@@ -266,6 +268,18 @@ module _ (replyTo : Call → List Call → Reply) (bytes : List ℕ) (minute : �
   pub rounds-more : (j : ℕ) (w : Work) → rounds replyTo bytes minute x (j + 1) w ≡ round replyTo bytes minute x (rounds replyTo bytes minute x j w)
   unfolding rounds
   rounds-more j w = rw add-one
+
+-- Where every script is over after j rounds, all rounds are made.
+pub rounds-stopped : (m₀ : Machine) (bytes : List ℕ) (minute : ℕ) (x : Scripts) (j : ℕ) (w : Work) (m : Machine) (buffer : List ℕ)
+    (es : List Ended) (n : ℕ) → Stands m₀ (rounds (storeReply m₀) bytes minute x j w) m buffer es n → x .count ≤ 8 → j ≤ x .count
+    → below (λ k. not (goesOn (endAt es k))) (x .count) ≡ true
+    → Stands m₀ (rounds (storeReply m₀) bytes minute x (x .count) w) m buffer es n
+rounds-stopped m₀ bytes minute x j w m buffer es n s few l over =
+    let e : x .count ≡ (x .count - j) + j = omega arith in
+    stands-as m₀ _ _ m buffer es n
+    (ap (λ (i : ℕ). rounds (storeReply m₀) bytes minute x i w) e
+    ∙ rounds-idle (storeReply m₀) bytes minute x j w
+    (λ k h. sym (ap goesOn (s .ends k (omega arith))) ∙ not-true _ (below-at (λ i. not (goesOn (endAt es i))) (x .count) k over h)) (x .count - j)) s
 
 -- Nothing is done yet.
 pub nothing-stands : (m : Machine) (buffer : List ℕ) → Stands m (nothingDone buffer) m buffer (replicate 8 noEnd) 0

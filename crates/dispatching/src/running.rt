@@ -13,16 +13,17 @@ use record::layout::Record;
 use record::outcomes::Refusal;
 ghost use mathlib.Core.List.{List};
 ghost use mathlib.Core.Path.{_≡_};
-ghost use mathlib.Core.Bool.{true, cond};
+ghost use mathlib.Core.Bool.{true, cond, not};
 ghost use lib.ListN.{length};
 ghost use Prim.Native.Nat.{ℕ, _+_, _<_, _≤_};
 ghost use Rattle.record.specs.Paper.{number};
+ghost use Rattle.ranges.specs.Below.{below};
 ghost use Rattle.ranges.specs.Ranges.{gateNumber};
 ghost use Rattle.rules.specs.Messages.{begin};
 ghost use Rattle.rules.specs.Promises.{handed, handedBack};
 ghost use Rattle.rounds.specs.Rounds.{Scripts as SomeScripts, partIn, scriptsIn, goesOn, withCall};
 ghost use Rattle.rounds.specs.Rounds.{failing, orFailing, decided};
-ghost use Rattle.rounds.specs.Rounds.{begins, perform, turns, passes, commitOne, commitAll, round};
+ghost use Rattle.rounds.specs.Rounds.{begins, perform, passes, commitOne, commitAll, round};
 ghost use Rattle.rounds.specs.Dispatch.{storeReply, onStore};
 ghost use Rattle.dispatching.specs.Types.{scriptCallOf, scriptsOf, endAt};
 ghost use Rattle.dispatching.specs.Steps.{Stands, Carries, Steps, StepsAside};
@@ -52,6 +53,21 @@ fn goes_on(ends: Ends, k: usize) -> bool
         End::Granted => false,
         End::Failed(_) => false,
     }
+}
+
+// Every script below n is over.
+fn all_over(ends: Ends, n: usize) -> bool
+    requires { ⌜ n ≤ 8 ⌝ }
+    ensures { λ r. ⌜ r ≡ below (λ k. not (goesOn (endAt ends k))) n ⌝ }
+{
+    let mut k = 0;
+    while k < n {
+        if goes_on(ends, k) {
+            return false;
+        }
+        k += 1;
+    }
+    true
 }
 
 // Script k fails with the refusal, and is aborted: it is still open.
@@ -189,44 +205,7 @@ fn turn(
     answered(kept, files, logs, marks, undo, ends, k, g)
 }
 
-// Call i of each script that has one and goes on, in order.
-fn turns(
-    kept: &mut Record,
-    files: &mut [u8],
-    logs: &mut [u8],
-    marks: &mut [u8],
-    undo: &mut [u8],
-    scripts: Scripts,
-    bytes: &[u8],
-    reader: &mut [u8],
-    ends: Ends,
-    i: usize,
-) -> Ends
-    requires { ⌜ (scriptsIn (length (now bytes)) (scriptsOf scripts) ≡ true) × (i < 16) ⌝ }
-    ensures { λ es. ⌜ ((minute : ℕ)
-        → Steps (λ m. turns (storeReply m) (now (bytes .entry)) minute (scriptsOf scripts) i (scripts .count))
-        kept files logs marks undo reader ends es) ⌝ }
-{
-    let count = scripts.count;
-    let mut out = ends;
-    let mut k = 0;
-    while k < count {
-        let due = goes_on(out, k) & (i < scripts.counts[k]);
-        let line = scripts.lines[CALLS * k + i];
-        let call = line.call;
-        let t = Next {
-            script: k,
-            due: due,
-            call: call,
-        };
-        let next = turn(kept, files, logs, marks, undo, t, bytes, reader, out);
-        out = next;
-        k += 1;
-    }
-    out
-}
-
-// The calls of a round, one of each script in turn, until none has a call left.
+// The calls of a round: call i of each script k that has one and goes on, in order, for each i in turn.
 fn passes(
     kept: &mut Record,
     files: &mut [u8],
@@ -243,23 +222,27 @@ fn passes(
         → Steps (λ m. passes (storeReply m) (now (bytes .entry)) minute (scriptsOf scripts) 16)
         kept files logs marks undo reader ends es) ⌝ }
 {
+    let count = scripts.count;
     let mut out = ends;
     let mut i = 0;
+    let mut k = 0;
     while i < CALLS {
-        let next = turns(
-            kept,
-            files,
-            logs,
-            marks,
-            undo,
-            scripts,
-            bytes,
-            reader,
-            out,
-            i,
-        );
-        out = next;
-        i += 1;
+        if k < count {
+            let due = goes_on(out, k) & (i < scripts.counts[k]);
+            let line = scripts.lines[CALLS * k + i];
+            let call = line.call;
+            let t = Next {
+                script: k,
+                due: due,
+                call: call,
+            };
+            let next = turn(kept, files, logs, marks, undo, t, bytes, reader, out);
+            out = next;
+            k += 1;
+        } else {
+            i += 1;
+            k = 0;
+        }
     }
     out
 }
@@ -353,7 +336,7 @@ fn round(
     commit_all(kept, files, logs, marks, undo, q, count, minute)
 }
 
-// As many rounds as there are scripts: each is over by then.
+// Rounds until every script is over. That is within as many as there are scripts.
 pub fn run(
     kept: &mut Record,
     files: &mut [u8],
@@ -381,6 +364,10 @@ pub fn run(
     };
     let mut j = 0;
     while j < count {
+        let ends = p.ends;
+        if all_over(ends, count) {
+            return p;
+        }
         let next = round(
             kept,
             files,

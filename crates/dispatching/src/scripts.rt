@@ -1,8 +1,7 @@
 // Scripts of calls, by value, and the test that they pass before any call of theirs is made (refusal 20).
 ghost use mathlib.Core.Path.{_≡_};
 ghost use mathlib.Core.Bool.{true};
-ghost use Prim.Native.Nat.{_<_};
-ghost use Rattle.rounds.specs.Rounds.{partIn, scriptIn, scriptsIn};
+ghost use Rattle.rounds.specs.Rounds.{partIn, scriptsIn};
 ghost use Rattle.dispatching.specs.Types.{scriptCallOf, scriptsOf, NoCalls, OneMore};
 
 // How many scripts there are at most, and how many calls each has at most.
@@ -83,28 +82,8 @@ fn part_in(call: ScriptCall, n: usize) -> bool
     }
 }
 
-// Script k has at most sixteen calls, and the parts of its Writes lie within a data buffer of n bytes.
-fn script_in(scripts: Scripts, k: usize, n: usize) -> bool
-    requires { ⌜ k < 8 ⌝ }
-    ensures { λ r. ⌜ r ≡ scriptIn n (scriptsOf scripts .script k) ⌝ }
-{
-    let calls = scripts.counts[k];
-    if calls > CALLS {
-        return false;
-    }
-    let mut i = 0;
-    while i < calls {
-        let line = scripts.lines[CALLS * k + i];
-        let call = line.call;
-        if !part_in(call, n) {
-            return false;
-        }
-        i += 1;
-    }
-    true
-}
-
-// There are at most eight scripts, and each is in range.
+// There are at most eight scripts, each has at most sixteen calls, and the parts of their Writes lie within a data
+// buffer of n bytes: call i of script k, for each k in turn.
 pub fn scripts_in(scripts: Scripts, n: usize) -> bool
     ensures { λ r. ⌜ r ≡ scriptsIn n (scriptsOf scripts) ⌝ }
 {
@@ -113,11 +92,23 @@ pub fn scripts_in(scripts: Scripts, n: usize) -> bool
         return false;
     }
     let mut k = 0;
+    let mut i = 0;
     while k < count {
-        if !script_in(scripts, k, n) {
+        let calls = scripts.counts[k];
+        if calls > CALLS {
             return false;
         }
-        k += 1;
+        if i < calls {
+            let line = scripts.lines[CALLS * k + i];
+            let call = line.call;
+            if !part_in(call, n) {
+                return false;
+            }
+            i += 1;
+        } else {
+            k += 1;
+            i = 0;
+        }
     }
     true
 }

@@ -1,5 +1,5 @@
 -- `running::run` meets its contract. The loop's invariant: what stands is the work of the rounds below j.
-use mathlib.Core.Path.{_≡_, refl, sym, ap}
+use mathlib.Core.Path.{_≡_, refl, sym, ap, _∙_}
 use lib.ListN.{length}
 use native.Mathlib.Omega.{arith}
 use Prim.Native.Nat.{ℕ, _-_, _*_, _≤_}
@@ -10,7 +10,7 @@ use Rattle.rounds.specs.Dispatch.{storeReply, onStore}
 use Rattle.dispatching.specs.Types.{scriptsOf}
 use Rattle.dispatching.specs.Steps.{Stands}
 use Rattle.dispatching.proofs.ScriptLaws.{scripts-eight}
-use Rattle.dispatching.proofs.StepLaws.{stands-as, rounds-more, nothing-stands}
+use Rattle.dispatching.proofs.StepLaws.{stands-as, rounds-more, rounds-stopped, nothing-stands}
 use Rattle.dispatching.proofs.running.run.Statement.{statement}
 use Rattle.dispatching.proofs.running.run.Tie as tie
 
@@ -31,27 +31,41 @@ loop-holds : tie.Need-loop-holds Inv-loop μ-loop
 unfolding rounds
 loop-holds c = (omega arith, omega arith, refl, refl, refl, refl, refl, nothing-stands _ _)
 
+all-over-requires : tie.Need-all-over-requires Inv-loop μ-loop
+all-over-requires c κs = scripts-eight _ _ (c .before .before .before .before .before .before .before .before .before .pre)
+
+returns : tie.Need-returns Inv-loop μ-loop
+unfolding onStore dispatched scriptsOf
+returns c =
+    let asked = c .before in
+    let l = asked .before .before .before .loop in
+    let start = asked .before .before .before .before .before .before .before .before .before .before in
+    let a = start .args in
+    let m = machineOf (a .kept .now) (a .files .now) (a .logs .now) (a .marks .now) (a .undo .now) in
+    rounds-stopped m _ _ (scriptsOf (a .scripts)) (l .j) _ _ _ _ _ (l .inv .7)
+    (scripts-eight (length (a .bytes .now)) (a .scripts) (start .pre)) (l .inv .0)
+    (sym (asked .all-over .ensures) ∙ c .if1 .taken)
+
 round-requires : tie.Need-round-requires Inv-loop μ-loop
 round-requires c κs =
-    let start = c .before .before .before .before .before .before .before .before .before .before .before .before .before .before in
+    let tested = c .before .before .before .before .before .before .before .before .before in
+    let start = tested .before .before .before .before .before .before .before .before in
     let few = scripts-eight _ _ (start .pre) in
-    let l = c .before .before .before .before .before .before .before .loop in
-    (start .pre, omega (arith, few, l .inv .1, c .before .before .before .before .before .before .loop-test .taken))
+    (start .pre, omega (arith, few, tested .before .loop .inv .1, tested .loop-test .taken))
 
 add-j : tie.Need-add-j Inv-loop μ-loop
 add-j c = let few = scripts-eight _ _
     (c .before .before .before .before .before .before .before .before .before .before .before .before .before .before .before .before
-    .before .before .before .before .before .before .before .before .before .pre) in search needs
+    .before .before .before .before .before .before .before .before .before .before .before .before .pre) in search needs
 
 loop-again : tie.Need-loop-again Inv-loop μ-loop
 loop-again c =
     let done = c .before .before .before .before .before .before .before .before .before .before in
-    let l = done .before .before .before .before .before .before .before .before .loop in
-    let few = scripts-eight _ _
-    (c .before .before .before .before .before .before .before .before .before .before .before .before .before .before .before .before
-    .before .before .before .before .before .before .before .before .before .pre) in
+    let tested = done .before .before .before .before .before .before .before .before .before .before in
+    let l = tested .before .loop in
+    let few = scripts-eight _ _ (tested .before .before .before .before .before .before .before .before .pre) in
     let more = done .round .ensures in (
-      omega arith,
+      omega (arith, tested .loop-test .taken),
       omega (arith, few, l .inv .1, more .1),
       search needs,
       search needs,
@@ -61,9 +75,9 @@ loop-again c =
       stands-as _ _ _ _ _ _ _ (rounds-more _ _ _ _ (l .j) _) (more .0 _ _ (l .inv .7)),
     )
 
-returns : tie.Need-returns Inv-loop μ-loop
+returns-2 : tie.Need-returns-2 Inv-loop μ-loop
 unfolding onStore dispatched scriptsOf
-returns c =
+returns-2 c =
     let l = c .before .loop in
     let a = c .before .before .before .before .before .before .before .before .args in
     let m = machineOf (a .kept .now) (a .files .now) (a .logs .now) (a .marks .now) (a .undo .now) in
@@ -78,6 +92,13 @@ run-spec =
     Inv-loop
     μ-loop
     loop-holds
+    all-over-requires
+    (λ c. c .before .before .before .before .loop .inv .2)
+    (λ c. c .before .before .before .before .loop .inv .3)
+    (λ c. c .before .before .before .before .loop .inv .4)
+    (λ c. c .before .before .before .before .loop .inv .5)
+    (λ c. c .before .before .before .before .loop .inv .6)
+    returns
     round-requires
     add-j
     (λ c. search needs)
@@ -87,4 +108,4 @@ run-spec =
     (λ c. c .before .loop .inv .4)
     (λ c. c .before .loop .inv .5)
     (λ c. c .before .loop .inv .6)
-    returns)
+    returns-2)

@@ -1,3 +1,4 @@
 pub mod ScriptLaws
 pub mod StepLaws
 pub mod DispatchLaws
+pub mod Examples

@@ -23,6 +23,7 @@ corners =
       noCall = refl;
       failing = refl;
       aborted = refl;
+      nothingOpen = refl;
       atCommit = refl;
       closed = refl;
       badMinute = refl;

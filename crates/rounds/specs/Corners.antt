@@ -74,6 +74,9 @@ pub record Corners : Type 0 where
       ≡ gives 0 (failed 6 ∷ failed 8 ∷ failed 7 ∷ passed ∷ []) 1 reader
   -- .. "aborting it if still open": its write does not land.
   pub aborted : bytesLeft ((writes 0 1 1 ∷ asks 16 ∷ []) ∷ appends 0 ∷ []) 2 ≡ A ∷ 0 ∷ []
+  -- .. and nothing is open after it, so that the last grant can be taken back.
+  pub nothingOpen :
+      plainCall takeBack (plainDispatch bytes 0 (scriptsOf ((asks 16 ∷ []) ∷ appends 0 ∷ [])) freshNumbered reader .after) .reply ≡ says plain
   -- At Commit: 12, by the offset that the first one set.
   pub atCommit : told [] 0 ((seeks 0 4096 ∷ []) ∷ adds ∷ []) ≡ gives 0 (passed ∷ failed 12 ∷ []) 2 reader
   -- F-11: 21 for a closed file; "22 when a minute is above 1,439, .. also in each of the dispatcher's".

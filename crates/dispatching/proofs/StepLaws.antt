@@ -270,16 +270,18 @@ module _ (replyTo : Call → List Call → Reply) (bytes : List ℕ) (minute : �
   rounds-more j w = rw add-one
 
 -- Where every script is over after j rounds, all rounds are made.
-pub rounds-stopped : (m₀ : Machine) (bytes : List ℕ) (minute : ℕ) (x : Scripts) (j : ℕ) (w : Work) (m : Machine) (buffer : List ℕ)
-    (es : List Ended) (n : ℕ) → Stands m₀ (rounds (storeReply m₀) bytes minute x j w) m buffer es n → x .count ≤ 8 → j ≤ x .count
-    → below (λ k. not (goesOn (endAt es k))) (x .count) ≡ true
+pub rounds-stopped : (m₀ : Machine) (bytes : List ℕ) (minute : ℕ) (x : Scripts) (j : ℕ) (w : Work) (m : Machine)
+    (buffer : List ℕ) (es : List Ended) (n : ℕ) → Stands m₀ (rounds (storeReply m₀) bytes minute x j w) m buffer es n
+    → x .count ≤ 8 → j ≤ x .count → below (λ k. not (goesOn (endAt es k))) (x .count) ≡ true
     → Stands m₀ (rounds (storeReply m₀) bytes minute x (x .count) w) m buffer es n
 rounds-stopped m₀ bytes minute x j w m buffer es n s few l over =
     let e : x .count ≡ (x .count - j) + j = omega arith in
     stands-as m₀ _ _ m buffer es n
     (ap (λ (i : ℕ). rounds (storeReply m₀) bytes minute x i w) e
     ∙ rounds-idle (storeReply m₀) bytes minute x j w
-    (λ k h. sym (ap goesOn (s .ends k (omega arith))) ∙ not-true _ (below-at (λ i. not (goesOn (endAt es i))) (x .count) k over h)) (x .count - j)) s
+    (λ k h. sym (ap goesOn (s .ends k (omega arith)))
+    ∙ not-true _ (below-at (λ i. not (goesOn (endAt es i))) (x .count) k over h))
+    (x .count - j)) s
 
 -- Nothing is done yet.
 pub nothing-stands : (m : Machine) (buffer : List ℕ) → Stands m (nothingDone buffer) m buffer (replicate 8 noEnd) 0

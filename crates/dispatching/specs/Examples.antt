@@ -5,24 +5,28 @@ use lib.ListN.{replicate}
 use Prim.Native.Nat.{ℕ}
 use Rattle.record.specs.declared.outcomes.Refusal.the-variants.{SettledPastEnd}
 use Rattle.record.specs.Paper.{plain, refused}
-use Rattle.rounds.specs.Rounds.{Scripts as SomeScripts, seeks, writes, asks, reads, unfinished, passed, failed}
-use Rattle.dispatching.specs.declared.scripts.ScriptCall.the-variants.{Seek, Write, GetFilePointer, Read}
+use Rattle.rounds.specs.Rounds.{seeks, writes, asks, reads, unfinished, passed, failed}
+use Rattle.rounds.specs.Rounds.{Scripts as SomeScripts}
+use Rattle.dispatching.specs.declared.scripts.ScriptCall.the-variants.{Seek, Write}
+use Rattle.dispatching.specs.declared.scripts.ScriptCall.the-variants.{GetFilePointer, Read}
 use Rattle.dispatching.specs.declared.scripts.Scripts.{Scripts}
 use Rattle.dispatching.specs.declared.ends.End.the-variants.{Unfinished, Granted, Failed}
-use Rattle.dispatching.specs.Types.{scriptCallOf, noLine, scriptsOf, NoCalls, OneMore, endOf, endAt, noEnd}
+use Rattle.dispatching.specs.Types.{scriptCallOf, noLine, scriptsOf, NoCalls, OneMore}
+use Rattle.dispatching.specs.Types.{endOf, endAt, noEnd}
 use Rattle.dispatching.specs.Promise.{saidOf}
 
 -- Three scripts, of none, two and no calls; the second call of script 1 is line 17.
 unfoldable pub threeScripts : Scripts
 threeScripts =
     record {
-      lines = replicate 16 noLine ++ (record { call = Write 1 2 3 } ∷ record { call = GetFilePointer 5 } ∷ []);
+      lines = replicate 16 noLine ++ record { call = Write 1 2 3 } ∷ record { call = GetFilePointer 5 } ∷ [];
       counts = 0 ∷ 2 ∷ 0 ∷ [];
       count = 3;
     }
 
 pub record Examples : Type 0 where
-  -- A call names its descriptor first; then stand Seek's offset, the start and the length of a Write's part, and Read's count.
+  -- A call names its descriptor first; then stand Seek's offset, the start and length of a Write's part, and
+  -- Read's count.
   pub seek : scriptCallOf (Seek 1 2) ≡ seeks 1 2
   pub write : scriptCallOf (Write 1 2 3) ≡ writes 1 2 3
   pub getFilePointer : scriptCallOf (GetFilePointer 1) ≡ asks 1
@@ -30,7 +34,8 @@ pub record Examples : Type 0 where
   -- "call i of script k is line 16 k + i"
   pub count : scriptsOf threeScripts .count ≡ 3
   pub counts : (scriptsOf threeScripts .script 0 .count ≡ 0) × (scriptsOf threeScripts .script 1 .count ≡ 2)
-  pub calls : (scriptsOf threeScripts .script 1 .call 0 ≡ writes 1 2 3) × (scriptsOf threeScripts .script 1 .call 1 ≡ asks 5)
+  pub first : scriptsOf threeScripts .script 1 .call 0 ≡ writes 1 2 3
+  pub next : scriptsOf threeScripts .script 1 .call 1 ≡ asks 5
   -- Unfinished, granted and failed are three.
   pub going : endOf Unfinished ≡ unfinished
   pub granted : endOf Granted ≡ passed
@@ -47,7 +52,7 @@ pub record ScriptsTell : Type 0 where
   -- One script is not two, and one with a call is not without.
   pub oneScript : NoCalls 2 (alike 1 0) → ⊥
   pub oneCall : NoCalls 1 (alike 1 1) → ⊥
-  -- One more call for script 0 is not the same, not another call, and none more for script 1.
+  -- One more call for script 0: the scripts are not as before, the call is no other, script 1 has none more.
   pub same : OneMore 0 (asks 0) (alike 2 0) (alike 2 0) → ⊥
   pub other : OneMore 0 (asks 1) (alike 1 0) (alike 1 1) → ⊥
   pub both : OneMore 0 (asks 0) (alike 2 0) (alike 2 1) → ⊥

@@ -82,8 +82,8 @@ fn part_in(call: ScriptCall, n: usize) -> bool
     }
 }
 
-// There are at most eight scripts, each has at most sixteen calls, and the parts of their Writes lie within a data
-// buffer of n bytes: call i of script k, for each k in turn.
+// There are at most eight scripts, each has at most sixteen calls, and the parts of their Writes lie within a
+// data buffer of n bytes: call i of script k, for each k in turn.
 pub fn scripts_in(scripts: Scripts, n: usize) -> bool
     ensures { λ r. ⌜ r ≡ scriptsIn n (scriptsOf scripts) ⌝ }
 {

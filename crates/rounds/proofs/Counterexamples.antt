@@ -9,7 +9,8 @@ use Rattle.octets.specs.Parts as Parts
 use Rattle.rules.specs.Messages.{Op, seek, write, getFilePointer, read}
 use Rattle.rules.specs.Grants.{Grant}
 use Rattle.rounds.specs.Rounds as Rounds
-use Rattle.rounds.specs.Dispatch.{IsDispatchRefusal, bare, IsScript, EveryScript, more, timesIn, timesOf, EndsScript, Answered}
+use Rattle.rounds.specs.Dispatch.{IsDispatchRefusal, EndsScript, Answered}
+use Rattle.rounds.specs.Dispatch.{bare, IsScript, EveryScript, more, timesIn, timesOf}
 use Rattle.rounds.specs.Corners.{scriptOf, scriptsOf, bytes, appends}
 use Rattle.rounds.specs.Counterexamples.{RefusalsTell, two, grantOf, asksAndWrites, ScriptsTell}
 
@@ -75,7 +76,8 @@ not-every : (f : Grant) → EveryScript bytes 0 two (f ∷ grantOf 2 0 [] ∷ []
 not-every f (more g gs s (more h hs t r)) = no-third t
 
 pub scripts-tell : ScriptsTell
-unfolding Parts.tabulate Parts.cut Rounds.opOf bare timesIn timesOf scriptOf scriptsOf bytes appends two asksAndWrites writtenFirst
+unfolding Parts.tabulate Parts.cut Rounds.opOf bare timesIn timesOf scriptOf scriptsOf bytes appends two asksAndWrites
+    writtenFirst
 scripts-tell =
     record {
       second = record { small = omega arith; atMinute = refl; calls = refl };

@@ -18,7 +18,8 @@ use Rattle.rules.proofs.Serial.FirstHalf.{abs}
 use Rattle.rules.proofs.View.Shape.{view}
 use Rattle.rules.proofs.View.Admissions.{first-is}
 use Rattle.rounds.specs.Rounds.{Scripts, scriptsIn, Work, dispatched}
-use Rattle.rounds.specs.Dispatch.{onStore, onPlain, Dispatched, reported, notStarted, dispatch, plainDispatch, SameGiven, PlainToo}
+use Rattle.rounds.specs.Dispatch.{onStore, onPlain, Dispatched, reported, notStarted, dispatch, plainDispatch}
+use Rattle.rounds.specs.Dispatch.{SameGiven, PlainToo}
 use Rattle.rounds.proofs.Follows.{Twins, store-plain, twins-after}
 
 -- ---- the tests before it
@@ -75,7 +76,8 @@ module _ (bytes : List ℕ) (minute : ℕ) (x : Scripts) (m : Machine) (p : Plai
   same-passed : (w : Work) (n : ℕ) → SameGiven (byStore w n) (byPlain w n)
   unfolding reported notStarted
   same-passed w zero =
-      record { refusal = refl; ends = refl; commits = refl; reader = refl; committed = same-committed _ _ (twins-after m p t (w .made)) }
+      let u = twins-after m p t (w .made) in
+      record { refusal = refl; ends = refl; commits = refl; reader = refl; committed = same-committed _ _ u }
   same-passed w (suc n) = record { refusal = refl; ends = refl; commits = refl; reader = refl; committed = same-committed m p t }
 
   abbrev plainGate : ℕ

@@ -29,8 +29,8 @@ use Rattle.rules.proofs.Demand3.Age.{at-rest-sound, resting-start, resting-hold
 use Rattle.laws.proofs.Shapes.{shaped}
 use Rattle.rounds.specs.Rounds.{Scripts, scriptIn, scriptsIn, failed, goesOn, Work, nothingDone, rounds, dispatched}
 use Rattle.rounds.specs.Dispatch.{storeReply, plainReply, onStore, onPlain, dispatch}
-use Rattle.rounds.specs.Dispatch.{Demand1Dispatched, IsDispatchRefusal, EndsScript, Answered, PlainToo, Dispatches, plainOf, DispatchHolds}
-use Rattle.rounds.specs.Dispatch.{DispatchHoldsAtRest, FewCommits, SameDispatch}
+use Rattle.rounds.specs.Dispatch.{Demand1Dispatched, IsDispatchRefusal, EndsScript, Answered, PlainToo, Dispatches, plainOf}
+use Rattle.rounds.specs.Dispatch.{DispatchHolds, DispatchHoldsAtRest, FewCommits, SameDispatch}
 use Rattle.rounds.proofs.Follows.{sightedReply, store-sighted, twins-after, Resting, resting-twins}
 use Rattle.rounds.proofs.Same.{left-by, commits-of, gate, refusal-is, plain-too}
 use Rattle.rounds.proofs.Phases.{Laws, AtRest as Rests, rounds-rest}
@@ -245,5 +245,6 @@ dispatch-holds-at-rest m r bytes minute x reader e = resting-dispatches m (at-re
 pub same-dispatch : SameDispatch
 same-dispatch m r cs bytes minute x reader =
     let rest = at-rest m r in
-    plain-too bytes minute x (callsAfter cs m) (plainAfter cs (plainOf m)) reader (twins-after m (plainOf m) (resting-twins m rest) cs)
+    let p = plainOf m in
+    plain-too bytes minute x (callsAfter cs m) (plainAfter cs p) reader (twins-after m p (resting-twins m rest) cs)
     (resting-holds m (rest .sound) (rest .closed) cs .openness)

@@ -38,7 +38,8 @@ reader = dot ∷ dot ∷ dot ∷ []
 unfoldable pub told : List Call → ℕ → List (List ScriptCall) → Gives
 told cs minute xs =
     let r = plainDispatch bytes minute (scriptsOf xs) (plainAfter cs freshNumbered) reader in
-    record { refusal = r .refusal; ends = tabulate (r .ends) (length xs); commits = r .commits; reader = r .reader }
+    let ends = tabulate (r .ends) (length xs) in
+    record { refusal = r .refusal; ends = ends; commits = r .commits; reader = r .reader }
 
 -- The first n bytes of file 0 after it.
 unfoldable pub bytesLeft : List (List ScriptCall) → ℕ → List ℕ
@@ -74,9 +75,11 @@ pub record Corners : Type 0 where
       ≡ gives 0 (failed 6 ∷ failed 8 ∷ failed 7 ∷ passed ∷ []) 1 reader
   -- .. "aborting it if still open": its write does not land.
   pub aborted : bytesLeft ((writes 0 1 1 ∷ asks 16 ∷ []) ∷ appends 0 ∷ []) 2 ≡ A ∷ 0 ∷ []
-  -- .. and nothing is open after it, so that the last grant can be taken back.
+  -- "aborting it if still open": after a script that fails nothing is open, and the last grant can be taken back.
   pub nothingOpen :
-      plainCall takeBack (plainDispatch bytes 0 (scriptsOf ((asks 16 ∷ []) ∷ appends 0 ∷ [])) freshNumbered reader .after) .reply ≡ says plain
+      let x = scriptsOf ((asks 16 ∷ []) ∷ appends 0 ∷ []) in
+      let p = plainDispatch bytes 0 x freshNumbered reader .after in
+      plainCall takeBack p .reply ≡ says plain
   -- At Commit: 12, by the offset that the first one set.
   pub atCommit : told [] 0 ((seeks 0 4096 ∷ []) ∷ adds ∷ []) ≡ gives 0 (passed ∷ failed 12 ∷ []) 2 reader
   -- F-11: 21 for a closed file; "22 when a minute is above 1,439, .. also in each of the dispatcher's".
@@ -104,10 +107,12 @@ pub record Corners : Type 0 where
   pub part : told [] 0 ((writes 0 1 2 ∷ writes 0 3 0 ∷ []) ∷ []) ≡ gives 0 (passed ∷ []) 1 reader
   pub past : told [] 0 ((writes 0 2 2 ∷ []) ∷ []) ≡ gives 20 (unfinished ∷ []) 0 reader
   pub pastEmpty : told [] 0 ((asks 16 ∷ writes 0 4 0 ∷ []) ∷ []) ≡ gives 20 (unfinished ∷ []) 0 reader
-  -- Neither a call beyond a script's count nor a script beyond the number of scripts is looked at: here calls that would not pass 20, in
-  -- scripts that would not either.
+  -- Neither a call beyond a script's count nor a script beyond the number of scripts is looked at: here calls
+  -- that would not pass 20, in scripts that would not either.
   pub beyond :
-      let r = plainDispatch bytes 0 (record { count = 1; script = λ k. record { count = 17 * k; call = λ i. writes 0 4 0 } }) freshNumbered reader in
+      let s : ℕ → Script = λ k. record { count = 17 * k; call = λ i. writes 0 4 0 } in
+      let x : Scripts = record { count = 1; script = s } in
+      let r = plainDispatch bytes 0 x freshNumbered reader in
       (r .refusal ≡ 0) × (r .ends 0 ≡ passed) × (r .commits ≡ 1)
   -- F-13: the grant that is taken back is its last one.
   pub takenBack :

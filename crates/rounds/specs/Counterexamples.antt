@@ -1,4 +1,4 @@
--- Values of which the predicates of Dispatch.antt are false, and what its small definitions come to: they say something.
+-- Values of which the predicates of Dispatch.antt are false, and what its small definitions come to.
 use mathlib.Core.List.{List, [], _∷_, map}
 use mathlib.Core.Logic.{_⊎_}
 use mathlib.Core.Path.{_≡_}
@@ -8,14 +8,15 @@ use Rattle.rules.specs.Messages.{Op, seek, write, getFilePointer, read, says}
 use Rattle.rules.specs.Grants.{Grant}
 use Rattle.rules.specs.Setup.{A, B}
 use Rattle.rounds.specs.Rounds.{Scripts, unfinished, passed, failed}
-use Rattle.rounds.specs.Dispatch.{IsDispatchRefusal, bare, IsScript, EveryScript, timesIn, timesOf, EndsScript, Answered}
+use Rattle.rounds.specs.Dispatch.{IsDispatchRefusal, EndsScript, Answered}
+use Rattle.rounds.specs.Dispatch.{bare, IsScript, EveryScript, timesIn, timesOf}
 use Rattle.rounds.specs.Corners.{scriptsOf, bytes, appends}
 
--- Every other number is no refusal of the dispatcher; and none that ends a script, 13 among them.
+-- No other number is a refusal of the dispatcher, and no other ends a script: 13 does not.
 pub record RefusalsTell : Type 0 where
   pub ofDispatch : (n : ℕ) → (n ≡ 0) ⊎ (((3 ≤ n) × (n ≤ 18)) ⊎ (21 ≤ n)) → IsDispatchRefusal n → ⊥
   pub ending : (n : ℕ) → (n ≤ 5) ⊎ (((13 ≤ n) × (n ≤ 20)) ⊎ (23 ≤ n)) → EndsScript n → ⊥
-  -- Not 5 and not 18: of the first reply, or of a later one.
+  -- A call of a script is not answered with 5 or 18, be it the first or a later one.
   pub first : Answered (says (refused 5) ∷ []) → ⊥
   pub later : Answered (says plain ∷ says (refused 18) ∷ []) → ⊥
 
@@ -25,7 +26,8 @@ two = scriptsOf (appends 0 ∷ appends 1 ∷ [])
 
 -- A grant with these calls.
 abbrev pub grantOf : ℕ → ℕ → List Op → Grant
-grantOf t minute os = record { txnNumber = t; minute = minute; calls = map (λ o. record { op = o; reply = says plain }) os }
+grantOf t minute os =
+    record { txnNumber = t; minute = minute; calls = map (λ o. record { op = o; reply = says plain }) os }
 
 -- The calls of the second script.
 unfoldable pub asksAndWrites : List Op
@@ -33,18 +35,19 @@ asksAndWrites = getFilePointer 0 ∷ write 0 (B ∷ []) ∷ []
 
 pub record ScriptsTell : Type 0 where
   pub second : IsScript bytes 0 two (grantOf 1 0 asksAndWrites)
-  -- There is no third script; another minute; the calls of the second are not the first's; one fewer; another order.
+  -- Not a script's: a grant of a third of two, one at another minute, one with another script's calls, one
+  -- with a call fewer, one in another order.
   pub third : IsScript bytes 0 two (grantOf 2 0 []) → ⊥
   pub minute : IsScript bytes 0 two (grantOf 1 1 asksAndWrites) → ⊥
   pub other : IsScript bytes 0 two (grantOf 0 0 asksAndWrites) → ⊥
   pub fewer : IsScript bytes 0 two (grantOf 1 0 (getFilePointer 0 ∷ [])) → ⊥
   pub order : IsScript bytes 0 two (grantOf 1 0 (write 0 (B ∷ []) ∷ getFilePointer 0 ∷ [])) → ⊥
-  -- Every one of a list is a script, not the first alone.
+  -- Each grant of a list is a script's, not the first alone.
   pub every : EveryScript bytes 0 two (grantOf 1 0 asksAndWrites ∷ grantOf 2 0 [] ∷ []) → ⊥
   -- Of a call only a Read's buffer is left out.
   pub calls :
-      (bare (seek 1 2) ≡ seek 1 2) × (bare (write 1 (A ∷ B ∷ [])) ≡ write 1 (A ∷ B ∷ [])) × (bare (getFilePointer 1) ≡ getFilePointer 1)
-      × (bare (read 1 2 (A ∷ [])) ≡ read 1 2 [])
+      (bare (seek 1 2) ≡ seek 1 2) × (bare (write 1 (A ∷ B ∷ [])) ≡ write 1 (A ∷ B ∷ []))
+      × (bare (getFilePointer 1) ≡ getFilePointer 1) × (bare (read 1 2 (A ∷ [])) ≡ read 1 2 [])
   -- How often: of three grants two are the second script's; a granted script has one, any other none.
   pub times : timesIn 1 (grantOf 1 0 [] ∷ grantOf 0 0 [] ∷ grantOf 1 0 [] ∷ []) ≡ 2
   pub ended : (timesOf unfinished ≡ 0) × (timesOf passed ≡ 1) × (timesOf (failed 1) ≡ 0)

@@ -129,7 +129,8 @@ Answered (r ∷ rs) = ((refusalIn (r .answer) ≡ 0) ⊎ ((refusalIn (r .answer)
 
 -- ---- on the plain machine too
 
--- What the dispatcher gives on a store and on the plain machine is the same, and so are the committed files, offsets and lengths after it.
+-- What the dispatcher gives on a store and on the plain machine is the same, and so are the committed files,
+-- offsets and lengths after it.
 pub record SameGiven (d : Dispatched Machine) (e : Dispatched Plain) : Type 0 where
   pub refusal : d .refusal ≡ e .refusal
   pub ends : d .ends ≡ e .ends
@@ -138,7 +139,8 @@ pub record SameGiven (d : Dispatched Machine) (e : Dispatched Plain) : Type 0 wh
   pub committed : values (d .after .store) (d .after .files) ≡ e .after .committed .value
 
 -- On a store m and on the plain machine p it gives the same, and makes the same calls.
-pub record PlainToo (bytes : List ℕ) (minute : ℕ) (x : Scripts) (m : Machine) (p : Plain) (reader : List ℕ) : Type 0 where
+pub record PlainToo (bytes : List ℕ) (minute : ℕ) (x : Scripts) (m : Machine) (p : Plain) (reader : List ℕ)
+    : Type 0 where
   pub given : SameGiven (dispatch bytes minute x m reader) (plainDispatch bytes minute x p reader)
   pub work : onStore bytes minute x m reader ≡ onPlain bytes minute x p reader
 

@@ -163,6 +163,7 @@ module _ (replyTo : Call → List Call → Reply) (bytes : List ℕ) (minute : �
   rounds zero w = w
   rounds (suc j) w = round (rounds j w)
 
-  -- "Every script is over within as many rounds as there are scripts": so many are run. Where all are over before, the rest change nothing.
+  -- "Every script is over within as many rounds as there are scripts": so many are run. Where all are over
+  -- before, the rest change nothing.
   unfoldable pub dispatched : List ℕ → Work
   dispatched reader = rounds (x .count) (nothingDone reader)

@@ -20,7 +20,9 @@ abbrev μ-loop : tie.MeasureT-loop
 returns : tie.Need-returns Inv-loop μ-loop
 returns c =
     let asked = c .before in
-    sym (below-fails _ (asked .before .before .loop .k) _ (asked .before .loop-test .taken) (ap not (sym (asked .goes-on .ensures) ∙ c .if1 .taken)))
+    let tested = asked .before in
+    let goes = sym (asked .goes-on .ensures) ∙ c .if1 .taken in
+    sym (below-fails _ (tested .before .loop .k) _ (tested .loop-test .taken) (ap not goes))
 
 loop-again : tie.Need-loop-again Inv-loop μ-loop
 loop-again c =

@@ -1,4 +1,5 @@
--- `running::passes` meets its contract. The loop's invariant: the calls below i of every script are made, and call i of those below k.
+-- `running::passes` meets its contract. The loop's invariant: the calls below i of every script are made, and call i of those
+-- below k.
 use mathlib.Core.Bool.{Bool, _&&_}
 use mathlib.Core.Path.{_≡_, refl, sym, ap, _∙_}
 use borrow.Author.Tests.{ltb-true}
@@ -25,7 +26,8 @@ Inv-loop kept₀ files₀ logs₀ marks₀ undo₀ bytes reader₀ scripts count
     × (length reader ≡ length reader₀)
     × ((minute n : ℕ)
     → Carries
-    (λ m w. turns (storeReply m) bytes minute (scriptsOf scripts) i k (passes (storeReply m) bytes minute (scriptsOf scripts) i w))
+    (λ m w. turns (storeReply m) bytes minute (scriptsOf scripts) i k
+    (passes (storeReply m) bytes minute (scriptsOf scripts) i w))
     (machineOf kept₀ files₀ logs₀ marks₀ undo₀) reader₀ out₀ n
     (machineOf kept files logs marks undo) reader out n)
 

@@ -1,4 +1,4 @@
--- `scripts::scripts_in` meets its contract. The loop's invariant: the scripts below k are in range, and so are the calls below i of
+-- `scripts::scripts_in` meets its contract. The loop's invariant: the scripts below k are in range, and the calls below i of
 -- script k.
 use mathlib.Core.Bool.{true}
 use mathlib.Core.Path.{_≡_, refl, sym}
@@ -31,7 +31,8 @@ returns-2 : tie.Need-returns-2 Inv-loop μ-loop
 unfolding scriptsIn scriptIn scriptsOf
 returns-2 c =
     let tested = c .before .before in
-    sym (counted-fails _ 8 _ _ refl (tested .before .loop .k) (tested .loop-test .taken) (counted-over _ 16 _ _ refl (c .if2 .taken)))
+    sym (counted-fails _ 8 _ _ refl (tested .before .loop .k) (tested .loop-test .taken)
+    (counted-over _ 16 _ _ refl (c .if2 .taken)))
 
 returns-3 : tie.Need-returns-3 Inv-loop μ-loop
 unfolding scriptsIn scriptIn scriptsOf
@@ -39,7 +40,8 @@ returns-3 c =
     let had = c .before .before .before in
     let tested = had .before .before .before in
     sym (counted-fails _ 8 _ _ refl (tested .before .loop .k) (tested .loop-test .taken)
-    (counted-fails _ 16 _ _ refl (tested .before .loop .i) (had .if3 .taken) (failed (c .before .part-in .ensures) (c .if4 .taken))))
+    (counted-fails _ 16 _ _ refl (tested .before .loop .i) (had .if3 .taken)
+    (failed (c .before .part-in .ensures) (c .if4 .taken))))
 
 loop-again : tie.Need-loop-again Inv-loop μ-loop
 unfolding scriptsOf

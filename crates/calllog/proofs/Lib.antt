@@ -1,10 +1,15 @@
 pub mod RoundTrip
 pub mod Clipping
+pub mod Cutting
 pub mod Holds
 pub mod Texts
 pub mod Traces
 pub mod Again
 pub mod Recorder
+pub mod Replayed
 pub mod ReadingLaws
+pub mod Printable
+pub mod WriteTexts
+pub mod AnswerTexts
 pub mod Examples
 pub mod Rooms

@@ -1,32 +1,34 @@
 -- Laws of what a line of numbers asks, by how many they are.
-use mathlib.Core.Bool.{Bool, true, false, cond}
+use mathlib.Core.Bool.{Bool, true, false, cond, _&&_}
 use mathlib.Core.List.{List, [], _∷_, _++_}
 use mathlib.Core.Path.{_≡_, refl, sym, ap, _∙_}
 use Prim.Native.Nat.{ℕ, zero, suc, _+_, _-_, _≤_, _<_}
 use native.Mathlib.Omega.{arith}
-use lib.Dec.{leb}
+use lib.Dec.{leb, ltb}
 use lib.ListN.{length, take, drop, getD, drop-of-length-le}
 use lib.Seq.{length-take-le, drop-cons, take-at}
 use native.Mathlib.Numerals.{add-one}
-use borrow.Author.Tests.{ne-eqb, eq-eqb}
+use borrow.Author.Tests.{ne-eqb, eq-eqb, le-leb, lt-leb, lt-ltb, le-ltb}
 use Rattle.octets.specs.Parts.{pasted}
-use Rattle.numerals.specs.Decimal.{Numeral, Values, atMost, frontNumber, further, numbersIn, thenValues}
+use Rattle.numerals.specs.Decimal.{Numeral, Values, unread, values, before, atMost, frontNumber, further, numbersIn, thenValues}
 use Rattle.numerals.specs.Pairs.{pairsIn}
 use Rattle.numerals.specs.Fields.{numeralOf, valuesOf, countOf}
 use Rattle.numerals.specs.declared.Field.{Field}
 use Rattle.numerals.specs.declared.Field.the-variants.{Missing, Number}
 use Rattle.numerals.specs.declared.Count.{Count}
 use Rattle.numerals.specs.declared.Count.the-variants.{Unread, Many}
-use Rattle.rules.specs.Messages.{on, write}
-use Rattle.calllog.specs.Log.{Entry, another, comment, calls, next, last, lastOr, asked, listed, ordering, whole, onNumber, isListing}
-use Rattle.calllog.specs.Log.{pairsBehind, textBehind, written, lettered, callIn, mostWritten, mostNumbers}
-use Rattle.calllog.specs.Reading.{entryOf, listedBy, writtenBy, Says}
+use Rattle.rules.specs.Messages.{on, write, bestOrder}
+use Rattle.calllog.specs.Log.{Entry, another, comment, expects, calls, next, last, lastOr, asked, ordering, whole, onNumber}
+use Rattle.calllog.specs.Log.{octets, ofOctets, numbersOnly, expected, pairsBehind, textBehind, written, lettered, entryIn, callIn}
+use Rattle.calllog.specs.Log.{mostWritten, mostNumbers, longest}
+use Rattle.calllog.specs.Octets.{octetsIn}
+use Rattle.calllog.specs.Reading.{entryOf, writtenBy, Says}
 use Rattle.calllog.specs.declared.parsing.Line.{Line}
-use Rattle.calllog.specs.declared.parsing.Line.the-variants.{Another, Comment, Fresh, Asks, Order}
+use Rattle.calllog.specs.declared.parsing.Line.the-variants.{Another}
 
-pub other : (numbers bytes : List ℕ) (meant : Entry) → meant ≡ another → Says Another numbers bytes meant
-unfolding entryOf listedBy writtenBy
-other numbers bytes meant e = record { means = sym e; list = omega arith; bytes = omega arith }
+pub other : (bytes : List ℕ) (meant : Entry) → meant ≡ another → Says Another bytes meant
+unfolding entryOf writtenBy
+other bytes meant e = record { means = sym e; bytes = omega arith }
 
 -- The numbers of a list of so many, and lists of another length.
 module _ (ns : List ℕ) where
@@ -63,6 +65,12 @@ module _ (ns : List ℕ) where
       go (a ∷ b ∷ []) h = absurd (omega arith)
       go (a ∷ b ∷ c ∷ []) h = absurd (omega arith)
       go (a ∷ b ∷ c ∷ d ∷ l) h = refl
+
+getD-take : (l : List ℕ) (i n : ℕ) → i < n → getD (take n l) i 0 ≡ getD l i 0
+getD-take l i zero h = absurd (omega arith)
+getD-take [] i (suc n) h = refl
+getD-take (a ∷ l) zero (suc n) h = refl
+getD-take (a ∷ l) (suc i) (suc n) h = getD-take l i n (omega arith)
 
 -- Lists of another length.
 not-one : (f : ℕ → Entry) (l : List ℕ) → (length l ≡ 1 → ⊥) → next (λ a. last (f a)) l ≡ another
@@ -122,15 +130,28 @@ module _ (n : ℕ) (ns : List ℕ) (h : n ≤ length ns) where
 
 -- A letter of no line of numbers.
 pub asked-other : (k : ℕ) (l : List ℕ) → (k ≡ 66 → ⊥) → (k ≡ 67 → ⊥) → (k ≡ 65 → ⊥) → (k ≡ 80 → ⊥) → (k ≡ 83 → ⊥) → (k ≡ 82 → ⊥)
-    → (k ≡ 76 → ⊥) → (k ≡ 72 → ⊥) → asked k l ≡ another
+    → (k ≡ 76 → ⊥) → (k ≡ 72 → ⊥) → (k ≡ 85 → ⊥) → (k ≡ 86 → ⊥) → (k ≡ 70 → ⊥) → (k ≡ 79 → ⊥) → asked k l ≡ another
 unfolding asked
-asked-other k l b c a p s r o h =
-    rw (ne-eqb k 66 b, ne-eqb k 67 c, ne-eqb k 65 a, ne-eqb k 80 p, ne-eqb k 83 s, ne-eqb k 82 r, ne-eqb k 76 o, ne-eqb k 72 h)
+asked-other k l b c a p s r o h u v f i =
+    rw (
+      ne-eqb k 66 b,
+      ne-eqb k 67 c,
+      ne-eqb k 65 a,
+      ne-eqb k 80 p,
+      ne-eqb k 83 s,
+      ne-eqb k 82 r,
+      ne-eqb k 76 o,
+      ne-eqb k 72 h,
+      ne-eqb k 85 u,
+      ne-eqb k 86 v,
+      ne-eqb k 70 f,
+      ne-eqb k 79 i,
+    )
 
 -- ---- answers of the readers of numbers and pairs
 
-pub as-meant : (r : Line) (numbers bytes : List ℕ) (meant said : Entry) → meant ≡ said → Says r numbers bytes said → Says r numbers bytes meant
-as-meant r numbers bytes meant said e h = rw e h
+pub as-meant : (r : Line) (bytes : List ℕ) (meant said : Entry) → meant ≡ said → Says r bytes said → Says r bytes meant
+as-meant r bytes meant said e h = rw e h
 
 module _ (c : Count) (buffer : List ℕ) (v : Values) (f : List ℕ → Entry) (h : valuesOf c buffer ≡ v) where
   pub counted-unread : c ≡ Unread → whole f v ≡ another
@@ -140,6 +161,13 @@ module _ (c : Count) (buffer : List ℕ) (v : Values) (f : List ℕ → Entry) (
   pub counted-many : (n : ℕ) → c ≡ Many n → whole f v ≡ f (take n buffer)
   unfolding valuesOf whole
   counted-many n e = rw (← h, e)
+
+pub whole-none : (f : List ℕ → Entry) (v : Values) → v ≡ values [] → whole f v ≡ f []
+unfolding whole
+whole-none f v e = rw e
+
+pub whole-as : (f : List ℕ → Entry) (v w : Values) → v ≡ w → whole f v ≡ whole f w
+whole-as f v w e = ap (whole f) e
 
 pub many-within : (c : Count) (n k : ℕ) → countOf c ≤ k → c ≡ Many n → n ≤ k
 unfolding countOf
@@ -164,10 +192,6 @@ not-none e n ns h g = go (take n ns) (λ z. g (sym (length-take-le n ns h) ∙ z
     go [] g = absurd (g refl)
     go (a ∷ l) g = refl
 
-pub listed-order : (k : ℕ) (l : List ℕ) → (k ≡ 70 → ⊥) → (k ≡ 85 → ⊥) → listed k l ≡ ordering l
-unfolding listed
-listed-order k l f u = rw (ne-eqb k 70 f, ne-eqb k 85 u)
-
 pub short-order : (n : ℕ) (ns : List ℕ) → n ≤ length ns → n < 2 → ordering (take n ns) ≡ another
 unfolding ordering next
 short-order n ns h l = go (take n ns) (omega (arith, length-take-le n ns h))
@@ -176,6 +200,73 @@ short-order n ns h l = go (take n ns) (omega (arith, length-take-le n ns h))
     go [] h = refl
     go (a ∷ []) h = refl
     go (a ∷ b ∷ l) h = absurd (omega arith)
+
+pub order-of : (ns : List ℕ) (n : ℕ) → n ≤ length ns → 2 ≤ n
+    → ordering (take n ns)
+    ≡ ofOctets (drop 2 (take n ns)) (calls (bestOrder (drop 2 (take n ns)) (getD ns 0 0) (getD ns 1 0)))
+unfolding ordering next
+order-of ns zero h g = absurd (omega arith)
+order-of ns (suc zero) h g = absurd (omega arith)
+order-of [] (suc (suc n)) h g = absurd (omega arith)
+order-of (a ∷ []) (suc (suc n)) h g = absurd (omega arith)
+order-of (a ∷ b ∷ ns) (suc (suc n)) h g = refl
+
+-- ---- octets
+
+before-if : (n : ℕ) (ns : List ℕ) (b : Bool) → before n (cond b (values ns) unread) ≡ cond b (values (n ∷ ns)) unread
+unfolding before
+before-if n ns true = refl
+before-if n ns false = refl
+
+octets-read : (l : List ℕ) → octetsIn l ≡ cond (octets l) (values l) unread
+unfolding octetsIn octets
+octets-read [] = refl
+octets-read (n ∷ ns) = pick (ltb n 256) (octets-read ns)
+  where
+    pick : (b : Bool) → octetsIn ns ≡ cond (octets ns) (values ns) unread
+        → cond b (before n (octetsIn ns)) unread ≡ cond (b && octets ns) (values (n ∷ ns)) unread
+    pick true e = ap (before n) e ∙ before-if n ns (octets ns)
+    pick false e = refl
+
+unlike : (ns : List ℕ) → unread ≡ values ns → ⊥
+unlike ns e = let z : _≡_ {A = ℕ} 0 1 = cc in omega arith
+
+module _ (l : List ℕ) (c : Count) (buffer : List ℕ) (h : valuesOf c buffer ≡ octetsIn l) where
+  pub no-octets : c ≡ Unread → (e : Entry) → ofOctets l e ≡ another
+  unfolding valuesOf
+  no-octets u e = pick (octets l) (ap (λ (x : Count). valuesOf x buffer) (sym u) ∙ h ∙ octets-read l)
+    where
+      pick : (b : Bool) → unread ≡ cond b (values l) unread → cond b e another ≡ another
+      pick true q = absurd (unlike l q)
+      pick false q = refl
+
+  pub all-octets : (k : ℕ) → c ≡ Many k → (f : List ℕ → Entry) → f (take k buffer) ≡ ofOctets l (f l)
+  unfolding valuesOf
+  all-octets k m f = pick (octets l) (ap (λ (x : Count). valuesOf x buffer) (sym m) ∙ h ∙ octets-read l)
+    where
+      pick : (b : Bool) → values (take k buffer) ≡ cond b (values l) unread → f (take k buffer) ≡ cond b (f l) another
+      pick true q = let e : take k buffer ≡ l = cc in ap f e
+      pick false q = absurd (unlike (take k buffer) (sym q))
+
+pub octets-end : (l : List ℕ) (i n : ℕ) → n ≤ i → n ≤ length l → octetsIn (drop i (take n l)) ≡ values []
+unfolding octetsIn
+octets-end l i n g h =
+    let k = length-take-le n l h in
+    let small : length (take n l) ≤ i = omega arith in
+    ap octetsIn (drop-of-length-le (take n l) small)
+
+pub octets-over : (l : List ℕ) (i n : ℕ) → i < n → n ≤ length l → 255 < getD l i 0 → octetsIn (drop i (take n l)) ≡ unread
+unfolding octetsIn
+octets-over l i n g h v =
+    let k = length-take-le n l h in
+    rw (drop-cons (take n l) i 0 (omega arith), getD-take l i n g, le-ltb (getD l i 0) 256 (omega arith))
+
+pub octets-more : (l : List ℕ) (i n : ℕ) → i < n → n ≤ length l → getD l i 0 ≤ 255
+    → octetsIn (drop i (take n l)) ≡ before (getD l i 0) (octetsIn (drop (i + 1) (take n l)))
+unfolding octetsIn
+octets-more l i n g h v =
+    let k = length-take-le n l h in
+    rw (drop-cons (take n l) i 0 (omega arith), getD-take l i n g, lt-ltb (getD l i 0) 256 (omega arith), add-one i)
 
 -- ---- bytes behind two numbers
 
@@ -213,48 +304,84 @@ front-pasted buffer text n h = take-at text (drop (0 + length text) buffer) n h
 pub copied : (x buffer text : List ℕ) (n : ℕ) → x ≡ pasted buffer 0 text → length text ≡ n → take n x ≡ text
 copied x buffer text n e h = ap (take n) e ∙ front-pasted buffer text n h
 
+-- ---- the numbers of a line
+
+pub only-none : (line : List ℕ) → length line < 2 → numbersOnly (drop 1 line) ≡ values []
+unfolding numbersOnly
+only-none [] h = refl
+only-none (k ∷ []) h = refl
+only-none (k ∷ b ∷ bytes) h = absurd (omega arith)
+
+pub only-some : (line : List ℕ) → 2 ≤ length line
+    → numbersOnly (drop 1 line) ≡ thenValues (frontNumber further (drop 1 line)) (numbersIn mostNumbers)
+unfolding numbersOnly
+only-some [] h = absurd (omega arith)
+only-some (k ∷ []) h = absurd (omega arith)
+only-some (k ∷ b ∷ bytes) h = refl
+
 -- ---- the letter of a line
 
-pub call-none : (line : List ℕ) → length line ≡ 0 → callIn line ≡ another
-unfolding callIn
+pub call-none : (line : List ℕ) → length line ≡ 0 → entryIn line ≡ comment
+unfolding entryIn
 call-none [] h = refl
 call-none (k ∷ bytes) h = absurd (omega arith)
 
-call-letter : (line : List ℕ) → (length line ≡ 0 → ⊥) → callIn line ≡ lettered (getD line 0 0) (drop 1 line)
-unfolding callIn
+call-letter : (line : List ℕ) → (length line ≡ 0 → ⊥) → entryIn line ≡ lettered (getD line 0 0) (drop 1 line)
+unfolding entryIn
 call-letter [] h = absurd (h refl)
 call-letter (k ∷ bytes) h = refl
 
 module _ (line : List ℕ) (some : length line ≡ 0 → ⊥) where
-  pub call-comment : getD line 0 0 ≡ 35 → callIn line ≡ comment
+  pub call-comment : getD line 0 0 ≡ 35 → entryIn line ≡ comment
   unfolding lettered
   call-comment e = call-letter line some ∙ rw e
 
-  pub call-pairs : getD line 0 0 ≡ 88 → callIn line ≡ written pairsBehind (drop 1 line)
+  pub call-expects : getD line 0 0 ≡ 61 → entryIn line ≡ expected (drop 1 line)
+  unfolding lettered
+  call-expects e = call-letter line some ∙ rw e
+
+  pub call-pairs : getD line 0 0 ≡ 88 → entryIn line ≡ written pairsBehind (drop 1 line)
   unfolding lettered
   call-pairs e = call-letter line some ∙ rw e
 
   pub call-text : getD line 0 0 ≡ 87
-      → callIn line ≡ cond (leb (length (drop 1 line)) 127) (written textBehind (drop 1 line)) another
+      → entryIn line ≡ cond (leb (length (drop 1 line)) 127) (written textBehind (drop 1 line)) another
   unfolding lettered
   call-text e = call-letter line some ∙ rw e
 
-  pub call-fresh : getD line 0 0 ≡ 70 → callIn line ≡ whole (listed (getD line 0 0)) (numbersIn mostNumbers (drop 1 line))
-  unfolding lettered isListing
-  call-fresh e = call-letter line some ∙ rw e
-
-  pub call-back : getD line 0 0 ≡ 85 → callIn line ≡ whole (listed (getD line 0 0)) (numbersIn mostNumbers (drop 1 line))
-  unfolding lettered isListing
-  call-back e = call-letter line some ∙ rw e
-
-  pub call-order : getD line 0 0 ≡ 79 → callIn line ≡ whole (listed (getD line 0 0)) (numbersIn mostNumbers (drop 1 line))
-  unfolding lettered isListing
-  call-order e = call-letter line some ∙ rw e
-
-  pub call-asked : (getD line 0 0 ≡ 35 → ⊥) → (getD line 0 0 ≡ 88 → ⊥) → (getD line 0 0 ≡ 87 → ⊥) → (getD line 0 0 ≡ 70 → ⊥)
-      → (getD line 0 0 ≡ 85 → ⊥) → (getD line 0 0 ≡ 79 → ⊥)
-      → callIn line ≡ whole (asked (getD line 0 0)) (thenValues (frontNumber further (drop 1 line)) (numbersIn mostNumbers))
-  unfolding lettered isListing
-  call-asked c x w f u o =
+  pub call-asked : (getD line 0 0 ≡ 35 → ⊥) → (getD line 0 0 ≡ 61 → ⊥) → (getD line 0 0 ≡ 88 → ⊥) → (getD line 0 0 ≡ 87 → ⊥)
+      → entryIn line ≡ whole (asked (getD line 0 0)) (numbersOnly (drop 1 line))
+  unfolding lettered
+  call-asked c x p w =
       let k = getD line 0 0 in
-      call-letter line some ∙ rw (ne-eqb k 35 c, ne-eqb k 88 x, ne-eqb k 87 w, ne-eqb k 70 f, ne-eqb k 85 u, ne-eqb k 79 o)
+      call-letter line some ∙ rw (ne-eqb k 35 c, ne-eqb k 61 x, ne-eqb k 88 p, ne-eqb k 87 w)
+
+-- ---- an answer's line
+
+pub expects-none : (line : List ℕ) → length line < 2 → expected (drop 1 line) ≡ another
+unfolding expected
+expects-none [] h = refl
+expects-none (k ∷ []) h = refl
+expects-none (k ∷ b ∷ bytes) h = absurd (omega arith)
+
+pub expects-other : (line : List ℕ) → 2 ≤ length line → (getD line 1 0 ≡ 32 → ⊥) → expected (drop 1 line) ≡ another
+unfolding expected
+expects-other [] h e = refl
+expects-other (k ∷ []) h e = refl
+expects-other (k ∷ b ∷ bytes) h e = rw (ne-eqb b 32 e)
+
+pub expects-text : (line : List ℕ) → 2 ≤ length line → getD line 1 0 ≡ 32 → expected (drop 1 line) ≡ expects
+unfolding expected
+expects-text [] h e = absurd (omega arith)
+expects-text (k ∷ []) h e = absurd (omega arith)
+expects-text (k ∷ b ∷ bytes) h e = rw (eq-eqb b 32 e)
+
+-- ---- the length of a line
+
+pub too-long : (line : List ℕ) → longest < length line → callIn line ≡ another
+unfolding callIn
+too-long line h = rw (lt-leb (length line) longest h)
+
+pub within : (line : List ℕ) → length line ≤ longest → callIn line ≡ entryIn line
+unfolding callIn
+within line h = rw (le-leb (length line) longest h)

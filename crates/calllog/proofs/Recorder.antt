@@ -24,13 +24,13 @@ use Rattle.calllog.proofs.Clipping.{clipped}
 use Rattle.calllog.proofs.Again.{same-turn, admitted-alike, read-alike, places-alike, blanked, blanked-all}
 use Rattle.calllog.proofs.Rooms.{roomy, roomless, made-sound}
 
-all-taken : (m n : ℕ) (l : List ℕ) → AllBelow m l → AllBelow m (take n l)
+pub all-taken : (m n : ℕ) (l : List ℕ) → AllBelow m l → AllBelow m (take n l)
 unfolding AllBelow
 all-taken m zero l h = tt
 all-taken m (suc n) [] h = tt
 all-taken m (suc n) (x ∷ l) h = (h .0, all-taken m n l (h .1))
 
-alike-then : {x y z : Turn} → Alike x y → Alike y z → Alike x z
+pub alike-then : {x y z : Turn} → Alike x y → Alike y z → Alike x z
 alike-then h k = record { after = h .after ∙ k .after; answer = h .answer ∙ k .answer; shows = h .shows ∙ k .shows }
 
 module _ (bytes reader : List ℕ) where
@@ -56,7 +56,7 @@ module _ (bytes reader : List ℕ) where
   loggable (SetWindow f start end) h b = record { numbers = h; few = omega arith; bytes = tt; short = omega arith }
   loggable TakeBack h b = record { numbers = h; few = omega arith; bytes = tt; short = omega arith }
 
-  fronted : (t d : ℕ) (m : Machine) → call (on t (write d front)) m ≡ call (on t (write d bytes)) m
+  pub fronted : (t d : ℕ) (m : Machine) → call (on t (write d front)) m ≡ call (on t (write d bytes)) m
   fronted t d m = pick (leb (length bytes) mostWritten) refl
     where
       pick : (b : Bool) → leb (length bytes) mostWritten ≡ b → call (on t (write d front)) m ≡ call (on t (write d bytes)) m

@@ -17,7 +17,8 @@ use Rattle.requests.specs.Requests.{callOf}
 use Rattle.rules.specs.Messages.{Call, begin, on, commit, abort, seek, write, getFilePointer, read}
 use Rattle.grammar.specs.Grammar.{Line, another, asks, spaced, after, ends, writes, lettered, form, parsed}
 use Rattle.calllog.specs.Log as log
-use Rattle.calllog.specs.Log.{Entry, calls, callIn, whole, asked, next, last, lastOr, isListing, onNumber, written, textBehind, mostNumbers, traceRoom}
+use Rattle.calllog.specs.Log.{Entry, calls, callIn, whole, asked, next, last, lastOr, numbersOnly, entryIn, onNumber, written, textBehind, mostNumbers, traceRoom}
+use Rattle.calllog.proofs.ReadingLaws.{within}
 
 -- ---- a number of few digits among those of more
 
@@ -154,30 +155,30 @@ writes-told p q (b ∷ rest) bs e = pick (eqb b 32) refl e
 
 module _ (q : Request) (bs : List ℕ) where
   abbrev Same : ℕ → ℕ → List ℕ → Type 0
-  Same k t bytes = callIn (k ∷ t ∷ bytes) ≡ calls (callOf q bs (replicate traceRoom 0))
+  Same k t bytes = log.lettered k (t ∷ bytes) ≡ calls (callOf q bs (replicate traceRoom 0))
 
   module _ (t : ℕ) (bytes : List ℕ) (digit : isDigit t ≡ true) where
     begin-line : ends (Begin (worth t)) bytes ≡ asks q bs → Same 66 t bytes
-    unfolding callIn log.lettered isListing whole asked next last callOf
+    unfolding log.lettered numbersOnly whole asked next last callOf
     begin-line e = let told = ends-told _ q bytes bs e in rw (told .0, told .1, one-value t digit)
 
     commit-line : ends (Commit (worth t) 0) bytes ≡ asks q bs → Same 67 t bytes
-    unfolding callIn log.lettered isListing whole asked next lastOr callOf
+    unfolding log.lettered numbersOnly whole asked next lastOr callOf
     commit-line e = let told = ends-told _ q bytes bs e in rw (told .0, told .1, one-value t digit)
 
     abort-line : ends (Abort (worth t)) bytes ≡ asks q bs → Same 65 t bytes
-    unfolding callIn log.lettered isListing whole asked next last callOf
+    unfolding log.lettered numbersOnly whole asked next last callOf
     abort-line e = let told = ends-told _ q bytes bs e in rw (told .0, told .1, one-value t digit)
 
     pointer-line : after (spaced bytes) (λ d. ends (GetFilePointer (worth t) d)) ≡ asks q bs → Same 80 t bytes
-    unfolding callIn log.lettered isListing whole asked next last callOf
+    unfolding log.lettered numbersOnly whole asked next last callOf
     pointer-line e =
         let d = after-told (spaced bytes) _ q bs e in
         let told = ends-told _ q (d .rest) bs (d .so) in
         rw (told .1, two-values t digit bytes (d .number) (d .is ∙ ap (numeral (d .number)) (told .0)))
 
     seek-line : after (spaced bytes) (λ d rest. after (spaced rest) (λ v. ends (Seek (worth t) d v))) ≡ asks q bs → Same 83 t bytes
-    unfolding callIn log.lettered isListing whole asked next last callOf
+    unfolding log.lettered numbersOnly whole asked next last callOf
     seek-line e =
         let d = after-told (spaced bytes) _ q bs e in
         let v = after-told (spaced (d .rest)) _ q bs (d .so) in
@@ -185,7 +186,7 @@ module _ (q : Request) (bs : List ℕ) where
         rw (told .1, three-values t digit bytes (d .number) (d .rest) (v .number) (d .is) (v .is ∙ ap (numeral (v .number)) (told .0)))
 
     read-line : after (spaced bytes) (λ d rest. after (spaced rest) (λ n. ends (Read (worth t) d n))) ≡ asks q bs → Same 82 t bytes
-    unfolding callIn log.lettered isListing whole asked next lastOr callOf
+    unfolding log.lettered numbersOnly whole asked next lastOr callOf
     read-line e =
         let d = after-told (spaced bytes) _ q bs e in
         let v = after-told (spaced (d .rest)) _ q bs (d .so) in
@@ -193,7 +194,7 @@ module _ (q : Request) (bs : List ℕ) where
         rw (told .1, three-values t digit bytes (d .number) (d .rest) (v .number) (d .is) (v .is ∙ ap (numeral (v .number)) (told .0)))
 
     write-line : length bytes ≤ 126 → after (spaced bytes) (λ d. writes (Write (worth t) d)) ≡ asks q bs → Same 87 t bytes
-    unfolding callIn log.lettered written onNumber textBehind callOf Stops isDigit
+    unfolding log.lettered written onNumber textBehind callOf Stops isDigit
     write-line l e =
         let d = after-told (spaced bytes) _ q bs e in
         let told = writes-told _ q (d .rest) bs (d .so) in
@@ -225,13 +226,14 @@ lettered-same q bs k t bytes d l e =
 
 form-same : (line : List ℕ) (q : Request) (bs : List ℕ) → length line ≤ 128 → form line ≡ asks q bs
     → callIn line ≡ calls (callOf q bs (replicate traceRoom 0))
-unfolding form
+unfolding form entryIn
 form-same [] q bs l e = absurd (never q bs e)
 form-same (k ∷ []) q bs l e = absurd (never q bs e)
 form-same (k ∷ t ∷ bytes) q bs l e = pick (isDigit t) refl e
   where
-    pick : (b : Bool) → isDigit t ≡ b → cond b (lettered k (worth t) bytes) another ≡ asks q bs → Same q bs k t bytes
-    pick true d e = lettered-same q bs k t bytes d (omega arith) e
+    pick : (b : Bool) → isDigit t ≡ b → cond b (lettered k (worth t) bytes) another ≡ asks q bs
+        → callIn (k ∷ t ∷ bytes) ≡ calls (callOf q bs (replicate traceRoom 0))
+    pick true d e = within (k ∷ t ∷ bytes) (omega arith) ∙ lettered-same q bs k t bytes d (omega arith) e
     pick false d e = absurd (never q bs e)
 
 pub traces : (line : List ℕ) (q : Request) (bs : List ℕ) → parsed line ≡ asks q bs → callIn line ≡ calls (callOf q bs (replicate traceRoom 0))

@@ -8,5 +8,11 @@ pub mod Recorded
 pub mod Replays
 -- What the reader's answers stand for.
 pub mod Reading
+-- A list of numbers as octets.
+pub mod Octets
 -- Lines and what they say.
 pub mod Examples
+-- The lines of answers.
+pub mod Answers
+-- What a replay does, and that it does what was recorded.
+pub mod Replaying

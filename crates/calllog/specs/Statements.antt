@@ -8,12 +8,12 @@ use Rattle.grammar.specs.Grammar.{asks, parsed}
 use Rattle.requests.specs.declared.Request.{Request}
 use Rattle.requests.specs.Requests.{callOf}
 use Rattle.rules.specs.Machine.{Machine}
-use Rattle.rules.specs.Calls.{call}
+use Rattle.rules.specs.Calls.{call, fresh as freshTurn}
 use Rattle.rules.specs.Messages.{Call, begin, on, commit, abort, places, setWindow, takeBack, bestOrder}
 use Rattle.rules.specs.Messages.{Op, seek, write, getFilePointer, read}
-use Rattle.calllog.specs.Log.{Entry, calls, fresh, lineOf, freshLine, callIn, mostNumbers, mostWritten}
+use Rattle.calllog.specs.Log.{Entry, calls, fresh, lineOf, freshLine, callIn, mostNumbers, mostWritten, mostFiles, mostOrdered}
 
--- The numbers of a call, with the length of the buffer for its answer; and its bytes.
+-- The numbers of a call, with the length of the buffer for its answer; and its bytes, or the octets of an order.
 unfoldable pub numbersOfOp : ℕ → Op → List ℕ
 numbersOfOp t (seek d v) = t ∷ d ∷ v ∷ []
 numbersOfOp t (write d bytes) = t ∷ d ∷ []
@@ -44,7 +44,7 @@ bytesOf (abort t) = []
 bytesOf (places t f out) = []
 bytesOf (setWindow f start end) = []
 bytesOf takeBack = []
-bytesOf (bestOrder ts minute budget) = []
+bytesOf (bestOrder ts minute budget) = ts
 
 -- A call that a log can hold: its numbers have 64 bits, its bytes 8, and there are not too many of them.
 pub record Loggable (c : Call) : Type 0 where
@@ -73,10 +73,15 @@ blank (bestOrder ts minute budget) = bestOrder ts minute budget
 pub record CallLogHolds : Type 0 where
   -- A call's line is read as that call.
   pub back : (c : Call) → Loggable c → callIn (lineOf c) ≡ calls (blank c)
-  pub freshBack : (files : List ℕ) → length files ≤ mostNumbers → AllBelow past files → callIn (freshLine files) ≡ fresh files
+  pub freshBack : (files : List ℕ) → length files ≤ mostNumbers → AllBelow 256 files → callIn (freshLine files) ≡ fresh files
   -- A Write of more bytes than a line holds is refused, and leaves the store, as one of its first 4,097.
   pub clipped : (t d : ℕ) (bytes : List ℕ) (m : Machine) → mostWritten ≤ length bytes
       → call (on t (write d bytes)) m ≡ call (on t (write d (take mostWritten bytes))) m
+  -- Fresh with more than 17 file numbers, and an order of more than 15 transactions, are refused as with their first ones.
+  pub freshCut : (files : List ℕ) (m : Machine) → freshTurn (take mostFiles files) m ≡ freshTurn files m
+  pub orderCut :
+      (ts : List ℕ) (minute budget : ℕ) (m : Machine)
+      → call (bestOrder (take mostOrdered ts) minute budget) m ≡ call (bestOrder ts minute budget) m
   -- A line of a trace says the same in a call log.
   pub traces :
       (line : List ℕ) (q : Request) (bytes : List ℕ) → parsed line ≡ asks q bytes

@@ -1,29 +1,40 @@
 // A call log: calls as lines of text, for a record of a run that can be run again.
+mod answers;
 mod parsing;
 
+pub use answers::put_reply;
 use numerals::put_byte;
+use numerals::put_joined;
 use numerals::put_list;
 use numerals::put_number;
 use numerals::put_pairs;
 use numerals::put_spaced;
+use octets::parts::copy_to;
+pub use parsing::LONGEST;
 pub use parsing::Line;
 pub use parsing::parse;
 use requests::Request;
+ghost use mathlib.Core.Bool.{_&&_};
 ghost use mathlib.Core.Path.{_≡_};
+ghost use lib.Dec.{leb};
 ghost use mathlib.Core.List.{_∷_, [], _++_};
 ghost use Prim.Native.Nat.{_+_, _≤_};
 ghost use lib.ListN.{length, take};
-ghost use Rattle.numerals.specs.Pairs.{hexPairs};
 ghost use Rattle.numerals.specs.Put.{Put};
-ghost use Rattle.calllog.specs.Log.{numbered, lineOf, freshLine};
+ghost use Rattle.calllog.specs.Log.{numbered, printable, writeLine, lineOf, freshLine};
 ghost use Rattle.rules.specs.Messages.{Call};
 ghost use Rattle.calllog.specs.Recorded.{requestLine, recorded};
 
 // The most bytes of a Write in a line; one of more is refused as this one is.
 const MOST_WRITTEN: usize = 4097;
 
-// The most numbers of a line behind a space.
-const MOST_NUMBERS: usize = 17;
+// The most file numbers of Fresh in a line, and the most transactions of an order; one of more is refused as these are.
+const MOST_FILES: usize = 17;
+
+const MOST_ORDERED: usize = 15;
+
+// The most bytes of a line, without its end, in which a Write's bytes stand as they are.
+const TEXT_LINE: usize = 128;
 
 // The most bytes of a line, with its end.
 pub const LINE_BYTES: usize = 8238;
@@ -61,16 +72,57 @@ fn put_four(out: &mut [u8], letter: u8, a: usize, b: usize, c: usize, d: usize) 
     put_spaced(out, next, d)
 }
 
-// A Write, with its bytes as hexadecimal pairs.
-fn put_write(out: &mut [u8], t: usize, d: usize, bytes: &[u8]) -> usize
-    requires { ⌜ 8238 ≤ length (now out) ⌝ }
-    ensures { λ r. ⌜ Put (now (out .entry)) 0
-        (numbered 88 (t ∷ d ∷ []) ++ (32 ∷ hexPairs (take 4097 (now (bytes .entry))))) (now (out .exit)) r ⌝ }
+// Whether a terminal shows every byte.
+fn is_printable(bytes: &[u8]) -> bool
+    ensures { λ r. ⌜ r ≡ printable (now (bytes .entry)) ⌝ }
 {
-    let next = put_two(out, b'X', t, d);
-    let next = put_byte(out, next, b' ');
+    let mut i = 0;
+    while i < bytes.len() {
+        let b = bytes[i];
+        if b < b' ' {
+            return false;
+        }
+        if b'~' < b {
+            return false;
+        }
+        i += 1;
+    }
+    true
+}
+
+// Whether the bytes of a Write stand as they are in a line that they end at that place.
+fn is_text(bytes: &[u8], after: usize) -> bool
+    ensures { λ r. ⌜ r ≡ leb after 128 && printable (now (bytes .entry)) ⌝ }
+{
+    if TEXT_LINE < after {
+        return false;
+    }
+    is_printable(bytes)
+}
+
+// A Write: printable bytes as they are where the line is short, otherwise as hexadecimal pairs.
+fn put_write(out: &mut [u8], t: usize, d: usize, bytes: &[u8]) -> usize
+    requires { ⌜ (8238 ≤ length (now out)) × (length (now bytes) ≤ 4097) ⌝ }
+    ensures { λ r. ⌜ Put (now (out .entry)) 0 (writeLine t d (now (bytes .entry))) (now (out .exit)) r ⌝ }
+{
+    let end = put_two(out, b'W', t, d);
+    let next = put_byte(out, end, b' ');
+    let after = next + bytes.len();
+    if is_text(bytes, after) {
+        copy_to(out, next, bytes);
+        return after;
+    }
+    put_byte(out, 0, b'X');
+    put_pairs(out, next, bytes)
+}
+
+// A Write of the front of its bytes.
+fn put_front(out: &mut [u8], t: usize, d: usize, bytes: &[u8]) -> usize
+    requires { ⌜ 8238 ≤ length (now out) ⌝ }
+    ensures { λ r. ⌜ Put (now (out .entry)) 0 (writeLine t d (take 4097 (now (bytes .entry)))) (now (out .exit)) r ⌝ }
+{
     let end = numbers::smaller(MOST_WRITTEN, bytes.len());
-    put_pairs(out, next, &bytes[..end])
+    put_write(out, t, d, &bytes[..end])
 }
 
 // The line of a request with the bytes of a Write and the length of the buffer for an answer, without its end.
@@ -81,7 +133,7 @@ fn put_request(out: &mut [u8], q: Request, bytes: &[u8], room: usize) -> usize
     match q {
         Request::Begin(t) => put_one(out, b'B', t),
         Request::Seek(t, d, v) => put_three(out, b'S', t, d, v),
-        Request::Write(t, d) => put_write(out, t, d, bytes),
+        Request::Write(t, d) => put_front(out, t, d, bytes),
         Request::GetFilePointer(t, d) => put_two(out, b'P', t, d),
         Request::Read(t, d, n) => put_four(out, b'R', t, d, n, room),
         Request::Places(t, f) => put_three(out, b'L', t, f, room),
@@ -107,8 +159,8 @@ pub fn put_fresh(out: &mut [u8], files: &[u8]) -> usize
     ensures { λ r. ⌜ Put (now (out .entry)) 0 (freshLine (take 17 (now (files .entry))) ++ (10 ∷ [])) (now (out .exit)) r ⌝ }
 {
     let next = put_byte(out, 0, b'F');
-    let end = numbers::smaller(MOST_NUMBERS, files.len());
-    let next = put_list(out, next, &files[..end]);
+    let end = numbers::smaller(MOST_FILES, files.len());
+    let next = put_joined(out, next, &files[..end]);
     put_byte(out, next, b'\n')
 }
 
@@ -118,10 +170,8 @@ pub fn put_order(out: &mut [u8], list: &[u8], minute: usize, budget: usize) -> u
     ensures { λ r. ⌜ Put (now (out .entry)) 0
         (lineOf (Call.bestOrder (take 15 (now (list .entry))) minute budget) ++ (10 ∷ [])) (now (out .exit)) r ⌝ }
 {
-    let next = put_byte(out, 0, b'O');
-    let next = put_spaced(out, next, minute);
-    let next = put_spaced(out, next, budget);
-    let end = numbers::smaller(15, list.len());
+    let next = put_two(out, b'O', minute, budget);
+    let end = numbers::smaller(MOST_ORDERED, list.len());
     let next = put_list(out, next, &list[..end]);
     put_byte(out, next, b'\n')
 }

@@ -5,7 +5,6 @@ use numerals::joined_numbers;
 use numerals::number_at;
 use numerals::pairs_at;
 use numerals::spaced_at;
-use numerals::spaced_numbers;
 use octets::parts::copy_to;
 use requests::Request;
 ghost use mathlib.Core.Bool.{cond};
@@ -13,19 +12,29 @@ ghost use mathlib.Core.Path.{_≡_};
 ghost use lib.Dec.{leb};
 ghost use Prim.Native.Nat.{_≤_};
 ghost use lib.ListN.{length, take, drop};
-ghost use Rattle.calllog.specs.Log.{another, asked, listed, whole, callIn, written as writtenIn, pairsBehind, textBehind};
-ghost use Rattle.numerals.specs.Decimal.{frontNumber, numbersIn, thenValues};
-ghost use Rattle.calllog.specs.Reading.{Says, Tells, Lists, Writes};
+ghost use Rattle.calllog.specs.Log.{another, asked, whole, callIn, entryIn, written as writtenIn};
+ghost use Rattle.calllog.specs.Log.{pairsBehind, textBehind, expected, numbersOnly};
+ghost use Rattle.calllog.specs.Log.{ofOctets, fresh, ordering};
+ghost use Rattle.calllog.specs.Octets.{octetsIn};
+ghost use Rattle.calllog.specs.Reading.{Says, Tells};
+ghost use Rattle.numerals.specs.Fields.{Collects};
 
-// What a line says: Fresh, with so many file numbers; a request, with so many bytes of a Write and the length of the
-// buffer for an answer; the best order, of so many numbers. Numbers and bytes lie at the front of lent buffers.
+// What a line says: another form; nothing; the answer of the call before, which stands behind `= `; a version; Fresh,
+// with so many file numbers; a request, with so many bytes of a Write and the length of the buffer for an answer; the
+// best order, with its minute, its budget and so many transactions. File numbers, bytes and transactions lie at the
+// front of a lent buffer.
 pub enum Line {
     Another,
     Comment,
+    Expects,
+    Version(usize),
     Fresh(usize),
     Asks(Request, usize, usize),
-    Order(usize),
+    Order(usize, usize, usize),
 }
+
+// The most bytes of a line, without its end.
+pub const LONGEST: usize = 8237;
 
 // The length of the buffer for an answer where the line of a Read names none.
 const TRACE_ROOM: usize = 4096;
@@ -36,7 +45,7 @@ const FURTHER: usize = 19;
 // `B0`, `A0`, `P0 3`, `S0 3 17`, `H2 480 1320`: each with just its numbers.
 fn begin_line(numbers: &[usize], n: usize) -> Line
     requires { ⌜ n ≤ length (now numbers) ⌝ }
-    ensures { λ r. ⌜ Tells r (now (numbers .entry)) (asked 66 (take n (now (numbers .entry)))) ⌝ }
+    ensures { λ r. ⌜ Tells r (asked 66 (take n (now (numbers .entry)))) ⌝ }
 {
     if n == 1 {
         return Line::Asks(Request::Begin(numbers[0]), 0, 0);
@@ -46,7 +55,7 @@ fn begin_line(numbers: &[usize], n: usize) -> Line
 
 fn abort_line(numbers: &[usize], n: usize) -> Line
     requires { ⌜ n ≤ length (now numbers) ⌝ }
-    ensures { λ r. ⌜ Tells r (now (numbers .entry)) (asked 65 (take n (now (numbers .entry)))) ⌝ }
+    ensures { λ r. ⌜ Tells r (asked 65 (take n (now (numbers .entry)))) ⌝ }
 {
     if n == 1 {
         return Line::Asks(Request::Abort(numbers[0]), 0, 0);
@@ -56,7 +65,7 @@ fn abort_line(numbers: &[usize], n: usize) -> Line
 
 fn pointer_line(numbers: &[usize], n: usize) -> Line
     requires { ⌜ n ≤ length (now numbers) ⌝ }
-    ensures { λ r. ⌜ Tells r (now (numbers .entry)) (asked 80 (take n (now (numbers .entry)))) ⌝ }
+    ensures { λ r. ⌜ Tells r (asked 80 (take n (now (numbers .entry)))) ⌝ }
 {
     if n == 2 {
         return Line::Asks(Request::GetFilePointer(numbers[0], numbers[1]), 0, 0);
@@ -66,7 +75,7 @@ fn pointer_line(numbers: &[usize], n: usize) -> Line
 
 fn seek_line(numbers: &[usize], n: usize) -> Line
     requires { ⌜ n ≤ length (now numbers) ⌝ }
-    ensures { λ r. ⌜ Tells r (now (numbers .entry)) (asked 83 (take n (now (numbers .entry)))) ⌝ }
+    ensures { λ r. ⌜ Tells r (asked 83 (take n (now (numbers .entry)))) ⌝ }
 {
     if n == 3 {
         return Line::Asks(Request::Seek(numbers[0], numbers[1], numbers[2]), 0, 0);
@@ -76,7 +85,7 @@ fn seek_line(numbers: &[usize], n: usize) -> Line
 
 fn window_line(numbers: &[usize], n: usize) -> Line
     requires { ⌜ n ≤ length (now numbers) ⌝ }
-    ensures { λ r. ⌜ Tells r (now (numbers .entry)) (asked 72 (take n (now (numbers .entry)))) ⌝ }
+    ensures { λ r. ⌜ Tells r (asked 72 (take n (now (numbers .entry)))) ⌝ }
 {
     if n == 3 {
         return Line::Asks(Request::SetWindow(numbers[0], numbers[1], numbers[2]), 0, 0);
@@ -87,7 +96,7 @@ fn window_line(numbers: &[usize], n: usize) -> Line
 // `L0 2 64`
 fn places_line(numbers: &[usize], n: usize) -> Line
     requires { ⌜ n ≤ length (now numbers) ⌝ }
-    ensures { λ r. ⌜ Tells r (now (numbers .entry)) (asked 76 (take n (now (numbers .entry)))) ⌝ }
+    ensures { λ r. ⌜ Tells r (asked 76 (take n (now (numbers .entry)))) ⌝ }
 {
     if n == 3 {
         return Line::Asks(Request::Places(numbers[0], numbers[1]), 0, numbers[2]);
@@ -98,7 +107,7 @@ fn places_line(numbers: &[usize], n: usize) -> Line
 // `C0 600`, or `C0` at minute 0
 fn commit_line(numbers: &[usize], n: usize) -> Line
     requires { ⌜ n ≤ length (now numbers) ⌝ }
-    ensures { λ r. ⌜ Tells r (now (numbers .entry)) (asked 67 (take n (now (numbers .entry)))) ⌝ }
+    ensures { λ r. ⌜ Tells r (asked 67 (take n (now (numbers .entry)))) ⌝ }
 {
     if n == 1 {
         return Line::Asks(Request::Commit(numbers[0], 0), 0, 0);
@@ -112,7 +121,7 @@ fn commit_line(numbers: &[usize], n: usize) -> Line
 // `R0 3 5 64`, or `R0 3 5`
 fn read_line(numbers: &[usize], n: usize) -> Line
     requires { ⌜ n ≤ length (now numbers) ⌝ }
-    ensures { λ r. ⌜ Tells r (now (numbers .entry)) (asked 82 (take n (now (numbers .entry)))) ⌝ }
+    ensures { λ r. ⌜ Tells r (asked 82 (take n (now (numbers .entry)))) ⌝ }
 {
     if n == 3 {
         return Line::Asks(
@@ -131,10 +140,32 @@ fn read_line(numbers: &[usize], n: usize) -> Line
     Line::Another
 }
 
+// `U`
+fn undo_line(numbers: &[usize], n: usize) -> Line
+    requires { ⌜ n ≤ length (now numbers) ⌝ }
+    ensures { λ r. ⌜ Tells r (asked 85 (take n (now (numbers .entry)))) ⌝ }
+{
+    if n == 0 {
+        return Line::Asks(Request::TakeBack, 0, 0);
+    }
+    Line::Another
+}
+
+// `V1`
+fn version_line(numbers: &[usize], n: usize) -> Line
+    requires { ⌜ n ≤ length (now numbers) ⌝ }
+    ensures { λ r. ⌜ Tells r (asked 86 (take n (now (numbers .entry)))) ⌝ }
+{
+    if n == 1 {
+        return Line::Version(numbers[0]);
+    }
+    Line::Another
+}
+
 // The line of a letter with n numbers.
 fn by_letter(letter: u8, numbers: &[usize], n: usize) -> Line
-    requires { ⌜ n ≤ length (now numbers) ⌝ }
-    ensures { λ r. ⌜ Tells r (now (numbers .entry)) (asked letter (take n (now (numbers .entry)))) ⌝ }
+    requires { ⌜ (n ≤ length (now numbers)) × ((letter ≡ 70 → ⊥) × (letter ≡ 79 → ⊥)) ⌝ }
+    ensures { λ r. ⌜ Tells r (asked letter (take n (now (numbers .entry)))) ⌝ }
 {
     match letter {
         b'B' => begin_line(numbers, n),
@@ -145,56 +176,90 @@ fn by_letter(letter: u8, numbers: &[usize], n: usize) -> Line
         b'R' => read_line(numbers, n),
         b'L' => places_line(numbers, n),
         b'H' => window_line(numbers, n),
+        b'U' => undo_line(numbers, n),
+        b'V' => version_line(numbers, n),
         _ => Line::Another,
     }
 }
 
-// A letter with its numbers, the first directly behind it.
-fn joined_line(line: &[u8], letter: u8, numbers: &mut [usize]) -> Line
-    requires { ⌜ 18 ≤ length (now numbers) ⌝ }
-    ensures { λ r. ⌜ Tells r (now (numbers .exit))
-        (whole (asked letter) (thenValues (frontNumber 19 (drop 1 (now (line .entry)))) (numbersIn 17))) ⌝ }
+// Numbers as octets, from place `from` up to place n of a list, put to a buffer's front; or one is above 255.
+fn octets_of(numbers: &[usize], from: usize, n: usize, bytes: &mut [u8]) -> Count
+    requires { ⌜ (from ≤ n) × ((n ≤ length (now numbers)) × (n ≤ length (now bytes))) ⌝ }
+    ensures { λ r. ⌜ Collects (now (bytes .entry)) r (now (bytes .exit))
+        (octetsIn (drop from (take n (now (numbers .entry))))) ⌝ }
 {
-    let Count::Many(n) = joined_numbers(line, 1, numbers) else {
-        return Line::Another;
-    };
-    by_letter(letter, numbers, n)
+    let mut i = from;
+    let mut k = 0;
+    while i < n {
+        let v = numbers[i];
+        if 255 < v {
+            return Count::Unread;
+        }
+        bytes[k] = v as u8;
+        i += 1;
+        k += 1;
+    }
+    Count::Many(k)
 }
 
-// `F 0 1 2 ..`, `U`, `O 600 40320 2 0 1`, with n numbers.
-fn by_list(letter: u8, n: usize) -> Line
-    ensures { λ r. ⌜ Lists r n letter ⌝ }
+// `F0 1 2 ..`
+fn fresh_line(numbers: &[usize], n: usize, bytes: &mut [u8]) -> Line
+    requires { ⌜ (n ≤ length (now numbers)) × (n ≤ length (now bytes)) ⌝ }
+    ensures { λ r. ⌜ Says r (now (bytes .exit))
+        (ofOctets (take n (now (numbers .entry))) (fresh (take n (now (numbers .entry))))) ⌝ }
 {
-    if letter == b'F' {
-        return Line::Fresh(n);
-    }
-    if letter == b'U' {
-        if n == 0 {
-            return Line::Asks(Request::TakeBack, 0, 0);
-        }
+    let Count::Many(k) = octets_of(numbers, 0, n, bytes) else {
         return Line::Another;
-    }
+    };
+    Line::Fresh(k)
+}
+
+// `O600 40320 2 0 1`
+fn order_line(numbers: &[usize], n: usize, bytes: &mut [u8]) -> Line
+    requires { ⌜ (n ≤ length (now numbers)) × (n ≤ length (now bytes)) ⌝ }
+    ensures { λ r. ⌜ Says r (now (bytes .exit)) (ordering (take n (now (numbers .entry)))) ⌝ }
+{
     if n < 2 {
         return Line::Another;
     }
-    Line::Order(n)
-}
-
-// A letter with its numbers, each behind one space.
-fn listing_line(line: &[u8], letter: u8, numbers: &mut [usize]) -> Line
-    requires { ⌜ 18 ≤ length (now numbers) ⌝ }
-    ensures { λ r. ⌜ Tells r (now (numbers .exit)) (whole (listed letter) (numbersIn 17 (drop 1 (now (line .entry))))) ⌝ }
-{
-    let Count::Many(n) = spaced_numbers(line, 1, numbers) else {
+    let Count::Many(k) = octets_of(numbers, 2, n, bytes) else {
         return Line::Another;
     };
-    by_list(letter, n)
+    Line::Order(numbers[0], numbers[1], k)
+}
+
+// The line of a letter with n numbers, of which those of a list go to a buffer's front.
+fn with_list(letter: u8, numbers: &[usize], n: usize, bytes: &mut [u8]) -> Line
+    requires { ⌜ (n ≤ length (now numbers)) × (n ≤ length (now bytes)) ⌝ }
+    ensures { λ r. ⌜ Says r (now (bytes .exit)) (asked letter (take n (now (numbers .entry)))) ⌝ }
+{
+    if letter == b'F' {
+        return fresh_line(numbers, n, bytes);
+    }
+    if letter == b'O' {
+        return order_line(numbers, n, bytes);
+    }
+    by_letter(letter, numbers, n)
+}
+
+// A letter with its numbers, the first directly behind it.
+fn joined_line(line: &[u8], letter: u8, numbers: &mut [usize], bytes: &mut [u8]) -> Line
+    requires { ⌜ (length (now numbers) ≡ 18) × (length (now bytes) ≡ 4097) ⌝ }
+    ensures { λ r. ⌜ Says r (now (bytes .exit)) (whole (asked letter) (numbersOnly (drop 1 (now (line .entry))))) ⌝ }
+{
+    if line.len() < 2 {
+        return with_list(letter, numbers, 0, bytes);
+    }
+    let Count::Many(n) = joined_numbers(line, 1, numbers) else {
+        return Line::Another;
+    };
+    with_list(letter, numbers, n, bytes)
 }
 
 // The bytes of a Write as pairs, from a place on.
 fn pairs_behind(line: &[u8], at: usize, t: usize, d: usize, bytes: &mut [u8]) -> Line
     requires { ⌜ length (now bytes) ≡ 4097 ⌝ }
-    ensures { λ r. ⌜ Writes r (now (bytes .exit)) (pairsBehind t d (drop at (now (line .entry)))) ⌝ }
+    ensures { λ r. ⌜ Says r (now (bytes .exit)) (pairsBehind t d (drop at (now (line .entry)))) ⌝ }
 {
     if line.len() <= at {
         return Line::Asks(Request::Write(t, d), 0, 0);
@@ -211,7 +276,7 @@ fn pairs_behind(line: &[u8], at: usize, t: usize, d: usize, bytes: &mut [u8]) ->
 // `X0 3 68690a`
 fn pairs_line(line: &[u8], bytes: &mut [u8]) -> Line
     requires { ⌜ length (now bytes) ≡ 4097 ⌝ }
-    ensures { λ r. ⌜ Writes r (now (bytes .exit)) (writtenIn pairsBehind (drop 1 (now (line .entry)))) ⌝ }
+    ensures { λ r. ⌜ Says r (now (bytes .exit)) (writtenIn pairsBehind (drop 1 (now (line .entry)))) ⌝ }
 {
     let Field::Number(t, second) = number_at(line, 1, FURTHER) else {
         return Line::Another;
@@ -225,7 +290,7 @@ fn pairs_line(line: &[u8], bytes: &mut [u8]) -> Line
 // The bytes of a Write as they are, from a place on.
 fn text_behind(line: &[u8], at: usize, t: usize, d: usize, bytes: &mut [u8]) -> Line
     requires { ⌜ (length (now bytes) ≡ 4097) × (length (now line) ≤ 128) ⌝ }
-    ensures { λ r. ⌜ Writes r (now (bytes .exit)) (textBehind t d (drop at (now (line .entry)))) ⌝ }
+    ensures { λ r. ⌜ Says r (now (bytes .exit)) (textBehind t d (drop at (now (line .entry)))) ⌝ }
 {
     if line.len() <= at {
         return Line::Another;
@@ -242,7 +307,7 @@ fn text_behind(line: &[u8], at: usize, t: usize, d: usize, bytes: &mut [u8]) -> 
 // `W0 3 hi`
 fn text_line(line: &[u8], bytes: &mut [u8]) -> Line
     requires { ⌜ (length (now bytes) ≡ 4097) × (length (now line) ≤ 128) ⌝ }
-    ensures { λ r. ⌜ Writes r (now (bytes .exit)) (writtenIn textBehind (drop 1 (now (line .entry)))) ⌝ }
+    ensures { λ r. ⌜ Says r (now (bytes .exit)) (writtenIn textBehind (drop 1 (now (line .entry)))) ⌝ }
 {
     let Field::Number(t, second) = number_at(line, 1, FURTHER) else {
         return Line::Another;
@@ -256,7 +321,7 @@ fn text_line(line: &[u8], bytes: &mut [u8]) -> Line
 // .. in a line of at most 128 bytes.
 fn short_text_line(line: &[u8], bytes: &mut [u8]) -> Line
     requires { ⌜ length (now bytes) ≡ 4097 ⌝ }
-    ensures { λ r. ⌜ Writes r (now (bytes .exit))
+    ensures { λ r. ⌜ Says r (now (bytes .exit))
         (cond (leb (length (drop 1 (now (line .entry)))) 127) (writtenIn textBehind (drop 1 (now (line .entry)))) another) ⌝ }
 {
     if 128 < line.len() {
@@ -265,22 +330,44 @@ fn short_text_line(line: &[u8], bytes: &mut [u8]) -> Line
     text_line(line, bytes)
 }
 
-// What a line says. It comes without its end.
-pub fn parse(line: &[u8], numbers: &mut [usize], bytes: &mut [u8]) -> Line
-    requires { ⌜ (18 ≤ length (now numbers)) × (length (now bytes) ≡ 4097) ⌝ }
-    ensures { λ r. ⌜ Says r (now (numbers .exit)) (now (bytes .exit)) (callIn (now (line .entry))) ⌝ }
+// `= ok 2`
+fn answer_line(line: &[u8]) -> Line
+    ensures { λ r. ⌜ Tells r (expected (drop 1 (now (line .entry)))) ⌝ }
+{
+    if line.len() < 2 {
+        return Line::Another;
+    }
+    if line[1] != b' ' {
+        return Line::Another;
+    }
+    Line::Expects
+}
+
+// What a line says, whatever its length.
+fn entry_line(line: &[u8], numbers: &mut [usize], bytes: &mut [u8]) -> Line
+    requires { ⌜ (length (now numbers) ≡ 18) × (length (now bytes) ≡ 4097) ⌝ }
+    ensures { λ r. ⌜ Says r (now (bytes .exit)) (entryIn (now (line .entry))) ⌝ }
 {
     if line.len() == 0 {
-        return Line::Another;
+        return Line::Comment;
     }
     let letter = line[0];
     match letter {
         b'#' => Line::Comment,
+        b'=' => answer_line(line),
         b'X' => pairs_line(line, bytes),
         b'W' => short_text_line(line, bytes),
-        b'F' => listing_line(line, letter, numbers),
-        b'U' => listing_line(line, letter, numbers),
-        b'O' => listing_line(line, letter, numbers),
-        _ => joined_line(line, letter, numbers),
+        _ => joined_line(line, letter, numbers, bytes),
     }
+}
+
+// What a line says. It comes without its end.
+pub fn parse(line: &[u8], numbers: &mut [usize], bytes: &mut [u8]) -> Line
+    requires { ⌜ (length (now numbers) ≡ 18) × (length (now bytes) ≡ 4097) ⌝ }
+    ensures { λ r. ⌜ Says r (now (bytes .exit)) (callIn (now (line .entry))) ⌝ }
+{
+    if LONGEST < line.len() {
+        return Line::Another;
+    }
+    entry_line(line, numbers, bytes)
 }

@@ -2,10 +2,10 @@
 use mathlib.Core.Path.{refl}
 use Rattle.grammar.specs.Grammar.{parsed, form, lettered, after, ends, writes}
 use Rattle.numerals.specs.Decimal.{spacedNumber, frontNumber, frontWithin, fitting, digits, isDigit}
-use Rattle.grammar.specs.Examples.{Examples, bytes}
+use Rattle.grammar.specs.Examples.{Examples, bytes, isForm, firsts}
 
 pub examples : Examples
-unfolding parsed form lettered after spacedNumber frontNumber frontWithin fitting digits isDigit ends writes bytes
+unfolding parsed form lettered after spacedNumber frontNumber frontWithin fitting digits isDigit ends writes bytes isForm firsts
 examples =
     record {
       alone = (refl, refl, refl);
@@ -16,5 +16,7 @@ examples =
       digits = (refl, refl, refl, refl, refl, refl, refl);
       spaces = (refl, refl, refl, refl, refl);
       others = (refl, refl, refl, refl, refl);
+      noDigits = (refl, refl, refl, refl, refl, refl);
+      letters = refl;
       longest = (refl, refl);
     }

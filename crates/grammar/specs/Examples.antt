@@ -1,9 +1,10 @@
 -- Lines, and what they ask.
+use mathlib.Core.Bool.{Bool, true, false, cond, _||_}
 use mathlib.Core.List.{List, [], _∷_, _++_}
 use mathlib.Core.Path.{_≡_}
 use lib.ListN.{replicate}
 use Prim.Native.Char.{code}
-use Prim.Native.Nat.{ℕ}
+use Prim.Native.Nat.{ℕ, zero, suc}
 use Prim.Native.String.{String, [] as none, _∷_ as _then_}
 use Rattle.requests.specs.declared.Request.the-variants.{Begin, Commit, Abort, GetFilePointer, Seek, Read, Write}
 use Rattle.grammar.specs.Grammar.{Line, another, asks, parsed}
@@ -15,6 +16,17 @@ bytes (c then text) = code c ∷ bytes text
 
 abbrev pub line : String → Line
 line text = parsed (bytes text)
+
+-- Of the bytes below n those that make a line of a form with one of these behind them: the transaction alone; a descriptor too; a number too.
+unfoldable pub isForm : Line → Bool
+isForm another = false
+isForm (asks q bytes) = true
+
+unfoldable pub firsts : ℕ → List ℕ
+firsts zero = []
+firsts (suc k) =
+    firsts k
+    ++ cond (isForm (parsed (k ∷ bytes "0")) || isForm (parsed (k ∷ bytes "0 3")) || isForm (parsed (k ∷ bytes "0 3 5"))) (k ∷ []) []
 
 pub record Examples : Type 0 where
   -- 02, F-5: "`B0` (Begin), `C0` (Commit), `A0` (Abort)"
@@ -43,6 +55,12 @@ pub record Examples : Type 0 where
       (line "P0  3" ≡ another) × (line "S0 3  17" ≡ another) × (line "P03" ≡ another) × (line "P0 3 " ≡ another) × (line "B0 " ≡ another)
   -- A byte 13 before the line's end is no part of these; nor is an empty line or another letter a form.
   pub others : (line "B0\r" ≡ another) × (line "P0 3\r" ≡ another) × (line "" ≡ another) × (line "b0" ≡ another) × (line "F0" ≡ another)
+  -- The bytes beside `0` and `9` are no digits: as a transaction, in a number, at its front.
+  pub noDigits :
+      (line "B/" ≡ another) × (line "B:" ≡ another) × (line "P0 3/" ≡ another) × (line "P0 3:" ≡ another) × (line "P0 /" ≡ another)
+      × (line "P0 :" ≡ another)
+  -- Of the 256 bytes seven are letters of a form.
+  pub letters : firsts 256 ≡ bytes "ABCPRSW"
   -- "longer than 128 bytes without its line end": 128 pass.
   pub longest :
       (parsed (bytes "W0 0 " ++ replicate 123 0) ≡ asks (Write 0 0) (replicate 123 0))

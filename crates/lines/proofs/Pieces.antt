@@ -9,31 +9,31 @@ use Rattle.lines.specs.Lines.{endedLine, grown, lastLine, linesFrom, lin
 
 -- ---- two pieces, one after the other
 
-ended-append : (held p q : List ℕ) → endedIn held (p ++ q) ≡ endedIn held p ++ endedIn (heldAfter held p) q
+ended-append : (m : ℕ) (held p q : List ℕ) → endedIn m held (p ++ q) ≡ endedIn m held p ++ endedIn m (heldAfter m held p) q
 unfolding endedIn heldAfter
-ended-append held [] q = refl
-ended-append held (x ∷ p) q =
-    let next = kept (grown x held) in
-    ap (λ (l : List (List ℕ)). endedLine x held ++ l) (ended-append next p q)
-    ∙ sym (append-assoc (endedLine x held) (endedIn next p) (endedIn (heldAfter next p) q))
+ended-append m held [] q = refl
+ended-append m held (x ∷ p) q =
+    let next = kept m (grown x held) in
+    ap (λ (l : List (List ℕ)). endedLine x held ++ l) (ended-append m next p q)
+    ∙ sym (append-assoc (endedLine x held) (endedIn m next p) (endedIn m (heldAfter m next p) q))
 
-held-append : (held p q : List ℕ) → heldAfter held (p ++ q) ≡ heldAfter (heldAfter held p) q
+held-append : (m : ℕ) (held p q : List ℕ) → heldAfter m held (p ++ q) ≡ heldAfter m (heldAfter m held p) q
 unfolding heldAfter
-held-append held [] q = refl
-held-append held (x ∷ p) q = held-append (kept (grown x held)) p q
+held-append m held [] q = refl
+held-append m held (x ∷ p) q = held-append m (kept m (grown x held)) p q
 
 -- all lines of an input in one piece
-lines : List ℕ → List ℕ → List (List ℕ)
-lines held input = endedIn held input ++ lastLine (heldAfter held input)
+lines : ℕ → List ℕ → List ℕ → List (List ℕ)
+lines m held input = endedIn m held input ++ lastLine (heldAfter m held input)
 
-pieces-lines : (held : List ℕ) (pieces : List (List ℕ)) → fromPieces held pieces ≡ lines held (joined pieces)
+pieces-lines : (m : ℕ) (held : List ℕ) (pieces : List (List ℕ)) → fromPieces m held pieces ≡ lines m held (joined pieces)
 unfolding fromPieces joined lines endedIn heldAfter
-pieces-lines held [] = refl
-pieces-lines held (p ∷ ps) =
-    let next = heldAfter held p in
-    ap (λ (l : List (List ℕ)). endedIn held p ++ l) (pieces-lines next ps)
-    ∙ sym (append-assoc (endedIn held p) (endedIn next (joined ps)) (lastLine (heldAfter next (joined ps))))
-    ∙ sym (ap₂ (λ (a : List (List ℕ)) (b : List ℕ). a ++ lastLine b) (ended-append held p (joined ps)) (held-append held p (joined ps)))
+pieces-lines m held [] = refl
+pieces-lines m held (p ∷ ps) =
+    let next = heldAfter m held p in
+    ap (λ (l : List (List ℕ)). endedIn m held p ++ l) (pieces-lines m next ps)
+    ∙ sym (append-assoc (endedIn m held p) (endedIn m next (joined ps)) (lastLine (heldAfter m next (joined ps))))
+    ∙ sym (ap₂ (λ (a : List (List ℕ)) (b : List ℕ). a ++ lastLine b) (ended-append m held p (joined ps)) (held-append m held p (joined ps)))
 
 -- ---- what is kept of a line
 
@@ -42,24 +42,24 @@ take-again zero h s = refl
 take-again (suc n) [] s = refl
 take-again (suc n) (x ∷ h) s = ap (λ (l : List ℕ). x ∷ l) (take-again n h s)
 
-kept-grown : (x : ℕ) (h : List ℕ) → kept (grown x (kept h)) ≡ kept (grown x h)
+kept-grown : (m : ℕ) (x : ℕ) (h : List ℕ) → kept m (grown x (kept m h)) ≡ kept m (grown x h)
 unfolding kept grown
-kept-grown x h = pick (eqb x 10)
+kept-grown m x h = pick (eqb x 10)
   where
-    pick : (t : Bool) → take 129 (cond t [] (take 129 h ++ (x ∷ []))) ≡ take 129 (cond t [] (h ++ (x ∷ [])))
+    pick : (t : Bool) → take (suc m) (cond t [] (take (suc m) h ++ (x ∷ []))) ≡ take (suc m) (cond t [] (h ++ (x ∷ [])))
     pick true = refl
-    pick false = take-again 129 h (x ∷ [])
+    pick false = take-again (suc m) h (x ∷ [])
 
-kept-last : (h : List ℕ) → lastLine (kept h) ≡ map kept (lastLine h)
+kept-last : (m : ℕ) (h : List ℕ) → lastLine (kept m h) ≡ map (kept m) (lastLine h)
 unfolding kept lastLine
-kept-last [] = refl
-kept-last (x ∷ h) = refl
+kept-last m [] = refl
+kept-last m (x ∷ h) = refl
 
-kept-ended : (x : ℕ) (h : List ℕ) → endedLine x (kept h) ≡ map kept (endedLine x h)
+kept-ended : (m : ℕ) (x : ℕ) (h : List ℕ) → endedLine x (kept m h) ≡ map (kept m) (endedLine x h)
 unfolding endedLine
-kept-ended x h = pick (eqb x 10)
+kept-ended m x h = pick (eqb x 10)
   where
-    pick : (t : Bool) → _≡_ {A = List (List ℕ)} (cond t (kept h ∷ []) []) (map kept (cond t (h ∷ []) []))
+    pick : (t : Bool) → _≡_ {A = List (List ℕ)} (cond t (kept m h ∷ []) []) (map (kept m) (cond t (h ∷ []) []))
     pick true = refl
     pick false = refl
 
@@ -67,15 +67,15 @@ map-append : (f : List ℕ → List ℕ) (a b : List (List ℕ)) → map f (a ++
 map-append f [] b = refl
 map-append f (x ∷ a) b = ap (λ (l : List (List ℕ)). f x ∷ l) (map-append f a b)
 
-whole : (h input : List ℕ) → lines (kept h) input ≡ map kept (linesFrom h input)
+whole : (m : ℕ) (h input : List ℕ) → lines m (kept m h) input ≡ map (kept m) (linesFrom h input)
 unfolding lines linesFrom endedIn heldAfter
-whole h [] = kept-last h
-whole h (x ∷ xs) =
-    append-assoc (endedLine x (kept h)) (endedIn (kept (grown x (kept h))) xs) (lastLine (heldAfter (kept (grown x (kept h))) xs))
-    ∙ ap₂ (λ (a : List (List ℕ)) (b : List ℕ). a ++ (endedIn b xs ++ lastLine (heldAfter b xs))) (kept-ended x h) (kept-grown x h)
-    ∙ ap (λ (l : List (List ℕ)). map kept (endedLine x h) ++ l) (whole (grown x h) xs)
-    ∙ sym (map-append kept (endedLine x h) (linesFrom (grown x h) xs))
+whole m h [] = kept-last m h
+whole m h (x ∷ xs) =
+    append-assoc (endedLine x (kept m h)) (endedIn m (kept m (grown x (kept m h))) xs) (lastLine (heldAfter m (kept m (grown x (kept m h))) xs))
+    ∙ ap₂ (λ (a : List (List ℕ)) (b : List ℕ). a ++ (endedIn m b xs ++ lastLine (heldAfter m b xs))) (kept-ended m x h) (kept-grown m x h)
+    ∙ ap (λ (l : List (List ℕ)). map (kept m) (endedLine x h) ++ l) (whole m (grown x h) xs)
+    ∙ sym (map-append (kept m) (endedLine x h) (linesFrom (grown x h) xs))
 
 pub pieces-are-the-whole : PiecesAreTheWhole
 unfolding linesOf kept
-pieces-are-the-whole pieces = pieces-lines [] pieces ∙ whole [] (joined pieces)
+pieces-are-the-whole m pieces = pieces-lines m [] pieces ∙ whole m [] (joined pieces)

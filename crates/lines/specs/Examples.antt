@@ -9,4 +9,4 @@ pub record Examples : Type 0 where
       (linesOf [] ≡ []) × (linesOf (10 ∷ []) ≡ [] ∷ []) × (linesOf (65 ∷ 10 ∷ 66 ∷ []) ≡ (65 ∷ []) ∷ (66 ∷ []) ∷ [])
       × (linesOf (65 ∷ 10 ∷ 66 ∷ 10 ∷ []) ≡ (65 ∷ []) ∷ (66 ∷ []) ∷ [])
   -- A line end inside a piece, and a line over two pieces.
-  pub pieces : fromPieces [] ((65 ∷ 10 ∷ 66 ∷ []) ∷ (67 ∷ 10 ∷ []) ∷ []) ≡ (65 ∷ []) ∷ (66 ∷ 67 ∷ []) ∷ []
+  pub pieces : fromPieces 128 [] ((65 ∷ 10 ∷ 66 ∷ []) ∷ (67 ∷ 10 ∷ []) ∷ []) ≡ (65 ∷ []) ∷ (66 ∷ 67 ∷ []) ∷ []

@@ -5,7 +5,7 @@ use mathlib.Core.Bool.{cond}
 use mathlib.Core.List.{List, [], _∷_, _++_, map}
 use lib.Dec.{eqb}
 use lib.ListN.{take}
-use Prim.Native.Nat.{ℕ}
+use Prim.Native.Nat.{ℕ, suc}
 
 -- The line that a byte of the input ends, if it does, and what is held of the line at hand after the byte.
 unfoldable pub endedLine : ℕ → List ℕ → List (List ℕ)
@@ -29,23 +29,23 @@ linesOf input = linesFrom [] input
 
 -- ---- input that comes in pieces
 
--- What is kept of a line: 129 bytes, which show that it is "longer than 128 bytes without its line end".
-unfoldable pub kept : List ℕ → List ℕ
-kept line = take 129 line
+-- What is kept of a line that may have `most` bytes: one byte more, which shows that it is "longer .. without its line end".
+unfoldable pub kept : ℕ → List ℕ → List ℕ
+kept most line = take (suc most) line
 
 -- The lines that end in a piece, and what is held after it, where held is what came before of the line at hand.
-unfoldable pub endedIn : List ℕ → List ℕ → List (List ℕ)
-endedIn held [] = []
-endedIn held (x ∷ xs) = endedLine x held ++ endedIn (kept (grown x held)) xs
+unfoldable pub endedIn : ℕ → List ℕ → List ℕ → List (List ℕ)
+endedIn most held [] = []
+endedIn most held (x ∷ xs) = endedLine x held ++ endedIn most (kept most (grown x held)) xs
 
-unfoldable pub heldAfter : List ℕ → List ℕ → List ℕ
-heldAfter held [] = held
-heldAfter held (x ∷ xs) = heldAfter (kept (grown x held)) xs
+unfoldable pub heldAfter : ℕ → List ℕ → List ℕ → List ℕ
+heldAfter most held [] = held
+heldAfter most held (x ∷ xs) = heldAfter most (kept most (grown x held)) xs
 
 -- The lines of all pieces.
-unfoldable pub fromPieces : List ℕ → List (List ℕ) → List (List ℕ)
-fromPieces held [] = lastLine held
-fromPieces held (piece ∷ pieces) = endedIn held piece ++ fromPieces (heldAfter held piece) pieces
+unfoldable pub fromPieces : ℕ → List ℕ → List (List ℕ) → List (List ℕ)
+fromPieces most held [] = lastLine held
+fromPieces most held (piece ∷ pieces) = endedIn most held piece ++ fromPieces most (heldAfter most held piece) pieces
 
 unfoldable pub joined : List (List ℕ) → List ℕ
 joined [] = []
@@ -53,4 +53,4 @@ joined (piece ∷ pieces) = piece ++ joined pieces
 
 -- Proved in proofs/Pieces.antt: wherever the input is cut, the lines are those of the whole.
 abbrev pub PiecesAreTheWhole : Type 0
-PiecesAreTheWhole = (pieces : List (List ℕ)) → fromPieces [] pieces ≡ map kept (linesOf (joined pieces))
+PiecesAreTheWhole = (most : ℕ) (pieces : List (List ℕ)) → fromPieces most [] pieces ≡ map (kept most) (linesOf (joined pieces))

@@ -2,19 +2,21 @@
 use mathlib.Core.Bool.{Bool, true, false}
 use mathlib.Core.List.{List, [], _∷_}
 use mathlib.Core.Path.{_≡_}
-use Prim.Native.Nat.{ℕ, _≤_, _<_}
+use Prim.Native.Nat.{ℕ, suc, _≤_, _<_}
 use Rattle.lines.specs.declared.Look.{Look}
 use Rattle.lines.specs.Lines.{endedIn, heldAfter}
 
 -- What a look for the next line end finds in a piece: the line that ends first, and the rest of the piece; or that no line ends in it,
 -- and what is held then.
-unfoldable pub NextLine : Bool → List ℕ → List ℕ → List ℕ → List ℕ → Type 0
-NextLine true held piece line rest = (endedIn held piece ≡ line ∷ endedIn [] rest) × (heldAfter held piece ≡ heldAfter [] rest)
-NextLine false held piece line rest = (endedIn held piece ≡ []) × (heldAfter held piece ≡ line)
+unfoldable pub NextLine : ℕ → Bool → List ℕ → List ℕ → List ℕ → List ℕ → Type 0
+NextLine most true held piece line rest =
+    (endedIn most held piece ≡ line ∷ endedIn most [] rest) × (heldAfter most held piece ≡ heldAfter most [] rest)
+NextLine most false held piece line rest = (endedIn most held piece ≡ []) × (heldAfter most held piece ≡ line)
 
--- Where a look from `from` on ends in a piece of that size: past the line end that it found, or at the end of the piece.
-pub record Went (r : Look) (from size : ℕ) : Type 0 where
-  pub within : r .held ≤ 129
+-- Where a look from `from` on ends in a piece of that size: past the line end that it found, or at the end of the piece. At most one
+-- byte more is held than a line may have.
+pub record Went (most : ℕ) (r : Look) (from size : ℕ) : Type 0 where
+  pub within : r .held ≤ suc most
   pub onward : from ≤ r .at
   pub inside : r .at ≤ size
   pub past : r .complete ≡ true → from < r .at

@@ -1,14 +1,12 @@
-// The lines of an input that comes in pieces. Of the line at hand the first KEPT bytes are held in a lent buffer of as
-// many, so that a line of any length passes through; that is one byte more than a line may have.
+// The lines of an input that comes in pieces. Of the line at hand as many bytes are held in a lent buffer as it has, so
+// that a line of any length passes through; that is to be one byte more than a line may have.
 ghost use mathlib.Core.Path.{_≡_};
 ghost use mathlib.Core.Bool.{cond};
 ghost use mathlib.Core.List.{_∷_, []};
-ghost use Prim.Native.Nat.{_<_, _≤_};
+ghost use Prim.Native.Nat.{_-_, _<_, _≤_};
 ghost use lib.ListN.{length, take, drop};
 ghost use Rattle.lines.specs.Lines.{lastLine};
 ghost use Rattle.lines.specs.Looks.{NextLine, Went};
-
-pub const KEPT: usize = 129;
 
 // What a look for the next line end found: whether a line ended, how many bytes of it are held, and the place after it
 // in the piece.
@@ -21,10 +19,10 @@ pub struct Look {
 // Looks for the next line end in the piece, from `from` on. The bytes on the way there join the `held` bytes of the
 // line at hand.
 pub fn next(line: &mut [u8], held: usize, piece: &[u8], from: usize) -> Look
-    requires { ⌜ (length (now line) ≡ 129) × ((held ≤ 129) × (from ≤ length (now piece))) ⌝ }
-    ensures { λ r. ⌜ NextLine (r .complete) (take held (now (line .entry))) (drop from (now (piece .entry)))
+    requires { ⌜ (1 ≤ length (now line)) × ((held ≤ length (now line)) × (from ≤ length (now piece))) ⌝ }
+    ensures { λ r. ⌜ NextLine (length (now (line .entry)) - 1) (r .complete) (take held (now (line .entry))) (drop from (now (piece .entry)))
         (take (r .held) (now (line .exit))) (drop (r .at) (now (piece .entry)))
-        × Went r from (length (now (piece .entry))) ⌝ }
+        × Went (length (now (line .entry)) - 1) r from (length (now (piece .entry))) ⌝ }
 {
     let mut n = held;
     let mut i = from;
@@ -38,7 +36,7 @@ pub fn next(line: &mut [u8], held: usize, piece: &[u8], from: usize) -> Look
                 at: i,
             };
         }
-        if n < KEPT {
+        if n < line.len() {
             line[n] = b;
             n += 1;
         }

@@ -2,16 +2,16 @@
 use mathlib.Core.Path.{_≡_, refl, sym, ap, ap₂, _∙_}
 use mathlib.Core.Bool.{Bool, true, false, cond}
 use mathlib.Core.List.{List, [], _∷_, _++_, append-assoc}
-use Prim.Native.Nat.{ℕ, zero, suc, _+_, _*_, _/_, _%_, _^_, _≤_, _<_, min}
+use Prim.Native.Nat.{ℕ, zero, suc, _+_, _-_, _*_, _/_, _%_, _^_, _≤_, _<_, min}
 use native.Mathlib.Numerals.{add-one}
 use native.Mathlib.Omega.{arith}
 use lib.Dec.{ltb}
-use lib.ListN.{length, take, getD, set, length-append}
+use lib.ListN.{length, take, drop, getD, set, length-append, length-drop}
 use lib.Seq.{take-suc, take-all, append-snoc}
 use borrow.Author.Tests.{lt-ltb, le-ltb, ltb-true, ltb-false}
 use Rattle.octets.specs.Parts.{pasted}
 use Rattle.octets.proofs.PartLaws.{pasted-append, pasted-none, pasted-more, length-pasted}
-use Rattle.numerals.specs.Decimal.{glyph, decimalBelow, past, numberText, spacedTexts}
+use Rattle.numerals.specs.Decimal.{glyph, decimalBelow, past, numberText, spacedTexts, joinedTexts}
 use Rattle.numerals.specs.Pairs.{hexPairs}
 use Rattle.numerals.specs.Put.{Put}
 
@@ -131,3 +131,34 @@ length-texts (n ∷ ns) = omega (arith, length-append (numberText n) (spacedText
 -- one number more
 pub texts-more : (ns : List ℕ) (i : ℕ) → i < length ns → spacedTexts (take (i + 1) ns) ≡ spacedTexts (take i ns) ++ (32 ∷ numberText (getD ns i 0))
 texts-more ns i h = ap (λ (k : ℕ). spacedTexts (take k ns)) (add-one i) ∙ ap spacedTexts (take-suc ns i 0 h) ∙ texts-snoc (take i ns) (getD ns i 0)
+
+-- ---- numbers with one space between
+
+pub put-none : (b l : List ℕ) (at : ℕ) → length l ≡ 0 → Put b at (joinedTexts l) b at
+unfolding joinedTexts
+put-none b [] at h = nothing b at
+put-none b (n ∷ l) at h = absurd (omega arith)
+
+pub some-length : (l : List ℕ) → (length l ≡ 0 → ⊥) → 1 ≤ length l
+some-length [] h = absurd (h refl)
+some-length (n ∷ l) h = omega arith
+
+pub joined-first : (l : List ℕ) → (length l ≡ 0 → ⊥) → joinedTexts l ≡ numberText (getD l 0 0) ++ spacedTexts (drop 1 l)
+unfolding joinedTexts
+joined-first [] h = absurd (h refl)
+joined-first (n ∷ l) h = refl
+
+pub put-joined : {b m a : List ℕ} {at e f : ℕ} (l : List ℕ) (x : ℕ) → (length l ≡ 0 → ⊥) → at + 21 * length l ≤ length b → x ≡ getD l 0 0
+    → Put b at (numberText x) m e → Put m e (spacedTexts (take (length l - 1) (drop 1 l))) a f → Put b at (joinedTexts l) a f
+put-joined {b} {m} {a} {at} {e} {f} l x some fits is p q =
+    let n = length-drop 1 l in
+    let s = length-number x in
+    let t = length-texts (drop 1 l) in
+    let full : take (length l - 1) (drop 1 l) ≡ drop 1 l = take-all (length l - 1) (drop 1 l) (omega arith) in
+    let k = some-length l some in
+    rw (joined-first l some, ← is) (then (numberText x) (spacedTexts (drop 1 l)) (omega arith) p (rw full at q))
+
+pub length-joined-texts : (ns : List ℕ) → length (joinedTexts ns) ≤ 21 * length ns
+unfolding joinedTexts
+length-joined-texts [] = omega arith
+length-joined-texts (n ∷ ns) = omega (arith, length-append (numberText n) (spacedTexts ns), length-number n, length-texts ns)

@@ -31,6 +31,11 @@ unfoldable pub spacedTexts : List ℕ → List ℕ
 spacedTexts [] = []
 spacedTexts (n ∷ ns) = 32 ∷ (numberText n ++ spacedTexts ns)
 
+-- Numbers with one space between.
+unfoldable pub joinedTexts : List ℕ → List ℕ
+joinedTexts [] = []
+joinedTexts (n ∷ ns) = numberText n ++ spacedTexts ns
+
 -- ---- read
 
 -- A number at the front of some bytes, with the bytes after it; or none.

@@ -5,7 +5,7 @@ ghost use mathlib.Core.List.{_∷_, []};
 ghost use Prim.Native.Nat.{_+_, _*_, _<_, _≤_};
 ghost use mathlib.Core.Bool.{true};
 ghost use lib.ListN.{length, take, drop};
-ghost use Rattle.numerals.specs.Decimal.{glyph as glyphOf, numberText, spacedTexts};
+ghost use Rattle.numerals.specs.Decimal.{glyph as glyphOf, numberText, spacedTexts, joinedTexts};
 ghost use Rattle.numerals.specs.Decimal.{isDigit, worth, digits, fitting, frontNumber, spacedNumber};
 ghost use Rattle.numerals.specs.Decimal.{thenValues, numbersIn, ahead, atMost};
 ghost use Rattle.numerals.specs.Pairs.{isHex, hexWorth, pairsIn};
@@ -87,6 +87,18 @@ pub fn put_list(out: &mut [u8], at: usize, list: &[u8]) -> usize
         i += 1;
     }
     next
+}
+
+// Octets in decimal with one space between.
+pub fn put_joined(out: &mut [u8], at: usize, list: &[u8]) -> usize
+    requires { ⌜ at + 21 * length (now list) ≤ length (now out) ⌝ }
+    ensures { λ r. ⌜ Put (now (out .entry)) at (joinedTexts (now (list .entry))) (now (out .exit)) r ⌝ }
+{
+    if list.len() == 0 {
+        return at;
+    }
+    let next = put_number(out, at, wide(list[0]));
+    put_list(out, next, &list[1..])
 }
 
 // A number, and where the bytes after it start; or no number that fits.
@@ -199,14 +211,6 @@ fn numbers_from(line: &[u8], from: usize, buffer: &mut [usize], first: usize, mo
         at = end;
     }
     Count::Many(n)
-}
-
-// Up to 17 numbers, each behind one space, from a place on.
-pub fn spaced_numbers(line: &[u8], from: usize, buffer: &mut [usize]) -> Count
-    requires { ⌜ 18 ≤ length (now buffer) ⌝ }
-    ensures { λ r. ⌜ Collects (now (buffer .entry)) r (now (buffer .exit)) (numbersIn 17 (drop from (now (line .entry)))) ⌝ }
-{
-    numbers_from(line, from, buffer, 0, 17)
 }
 
 // A number at a place, and up to 17 more, each behind one space.

@@ -1,3 +1,3 @@
 -- Laws of what is printed, for this crate's proofs; `Examples` has the examples of specs/, computed.
-mod Laws
+pub mod Laws
 pub mod Examples

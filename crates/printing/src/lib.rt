@@ -20,7 +20,7 @@ fn put_decimal(out: &mut [u8], at: usize, n: u16) -> usize
 }
 
 // The two bytes ok.
-fn put_ok(out: &mut [u8], at: usize) -> usize
+pub fn put_ok(out: &mut [u8], at: usize) -> usize
     requires { ⌜ at + 2 ≤ length (now out) ⌝ }
     ensures { λ r. ⌜ Put (now (out .entry)) at okText (now (out .exit)) r ⌝ }
 {
@@ -61,7 +61,7 @@ fn put_given(out: &mut [u8], at: usize, n: u16, reader: &[u8]) -> usize
 }
 
 // What was answered, without the line's end.
-fn put_answer(out: &mut [u8], at: usize, o: Outcome, reader: &[u8]) -> usize
+pub fn put_answer(out: &mut [u8], at: usize, o: Outcome, reader: &[u8]) -> usize
     requires { ⌜ at + 8 + 2 * length (now reader) ≤ length (now out) ⌝ }
     ensures { λ r. ⌜ Put (now (out .entry)) at (spelled (said o) (now (reader .entry))) (now (out .exit)) r ⌝ }
 {

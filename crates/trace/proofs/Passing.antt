@@ -3,7 +3,7 @@ use mathlib.Core.Bool.{Bool, true, false, cond, not, false≢true}
 use mathlib.Core.List.{List, [], _∷_, _++_, append-assoc}
 use mathlib.Core.Path.{_≡_, refl, sym, ap, ap₂, subst, subst⁻¹, _∙_}
 use lib.ListN.{take, drop}
-use Prim.Native.Nat.{ℕ}
+use Prim.Native.Nat.{ℕ, _-_}
 use Rattle.grammar.specs.Grammar.{parsed}
 use Rattle.lines.specs.Lines.{lastLine, endedIn, heldAfter}
 use Rattle.lines.specs.Looks.{NextLine}
@@ -38,26 +38,31 @@ transcript-append a (l ∷ ls) rest k =
 abbrev in-piece : Kept Machine → List ℕ → List ℕ → Under
 in-piece k held rest = record { kept = k; held = held; rest = rest }
 
-none-in : (held rest : List ℕ) → rest ≡ [] → endedIn held rest ≡ []
+none-in : (held rest : List ℕ) → rest ≡ [] → endedIn 128 held rest ≡ []
 unfolding endedIn
-none-in held rest e = ap (endedIn held) e
+none-in held rest e = ap (endedIn 128 held) e
 
-held-in : (held rest : List ℕ) → rest ≡ [] → heldAfter held rest ≡ held
+held-in : (held rest : List ℕ) → rest ≡ [] → heldAfter 128 held rest ≡ held
 unfolding heldAfter
-held-in held rest e = ap (heldAfter held) e
+held-in held rest e = ap (heldAfter 128 held) e
 
 kept-more : (line : List ℕ) (ls : List (List ℕ)) (k : Kept Machine)
     → keptAfter storeAnswers (line ∷ ls) k ≡ keptAfter storeAnswers ls (keptAfter storeAnswers (line ∷ []) k)
 unfolding keptAfter
 kept-more line ls k = refl
 
+-- a buffer of 129 bytes holds what is kept of a line of 128
+pub of-129 : (n : ℕ) (t : Bool) (held rest line rest′ : List ℕ) → n ≡ 129 → NextLine (n - 1) t held rest line rest′
+    → NextLine 128 t held rest line rest′
+of-129 n t held rest line rest′ e f = subst (λ (k : ℕ). NextLine (k - 1) t held rest line rest′) e f
+
 -- no line ends in the rest of the piece
-pub held-passes : (t : Bool) (k : Kept Machine) (held rest line rest′ waiting : List ℕ) → NextLine t held rest line rest′ → t ≡ false
+pub held-passes : (t : Bool) (k : Kept Machine) (held rest line rest′ waiting : List ℕ) → NextLine 128 t held rest line rest′ → t ≡ false
     → rest′ ≡ [] → Passes (in-piece k held rest) waiting (in-piece k line rest′) waiting
 unfolding NextLine toCome atEnd
 held-passes true k held rest line rest′ waiting f t e = absurd (false≢true (sym t))
 held-passes false k held rest line rest′ waiting f t e =
-    let none : endedIn held rest ≡ endedIn line rest′ = f .0 ∙ sym (none-in line rest′ e) in
+    let none : endedIn 128 held rest ≡ endedIn 128 line rest′ = f .0 ∙ sym (none-in line rest′ e) in
     record {
       says = ap (λ (ls : List (List ℕ)). waiting ++ transcript storeAnswers ls k) none;
       reaches =
@@ -67,11 +72,11 @@ held-passes false k held rest line rest′ waiting f t e =
 
 -- the line that ends next was answered
 told-line-passes : (k : Kept Machine) (held rest line rest′ waiting : List ℕ) (k′ : Kept Machine) (waiting′ : List ℕ)
-    → NextLine true held rest line rest′ → Answered (line ∷ []) k waiting k′ waiting′
+    → NextLine 128 true held rest line rest′ → Answered (line ∷ []) k waiting k′ waiting′
     → Passes (in-piece k held rest) waiting (in-piece k′ [] rest′) waiting′
 unfolding NextLine toCome atEnd
 told-line-passes k held rest line rest′ waiting k′ waiting′ f a =
-    let ls = endedIn [] rest′ in
+    let ls = endedIn 128 [] rest′ in
     let one = transcript storeAnswers (line ∷ []) k in
     let more = transcript storeAnswers ls (keptAfter storeAnswers (line ∷ []) k) in
     record {
@@ -82,16 +87,16 @@ told-line-passes k held rest line rest′ waiting k′ waiting′ f a =
           ∙ ap₂ (λ (x : List ℕ) (j : Kept Machine). x ++ transcript storeAnswers ls j) (sym (a .says)) (sym (a .keeps));
       reaches =
           ap₂ (λ (x : List (List ℕ)) (h : List ℕ). in-piece (keptAfter storeAnswers x k) h []) (f .0) (f .1)
-          ∙ ap (λ (j : Kept Machine). in-piece j (heldAfter [] rest′) [])
+          ∙ ap (λ (j : Kept Machine). in-piece j (heldAfter 128 [] rest′) [])
           (kept-more line ls k ∙ ap (keptAfter storeAnswers ls) (sym (a .keeps)));
     }
 
 -- as the code has it: the line is a part of the buffer, and nothing is held after it
-pub told-passes : (t : Bool) (k : Kept Machine) (held rest line rest′ waiting : List ℕ) → NextLine t held rest line rest′ → t ≡ true
+pub told-passes : (t : Bool) (k : Kept Machine) (held rest line rest′ waiting : List ℕ) → NextLine 128 t held rest line rest′ → t ≡ true
     → (given : List ℕ) → given ≡ line → (k′ : Kept Machine) (waiting′ : List ℕ) → Answered (given ∷ []) k waiting k′ waiting′
     → (held′ last : List ℕ) → held′ ≡ [] → last ≡ rest′ → Passes (in-piece k held rest) waiting (in-piece k′ held′ last) waiting′
 told-passes t k held rest line rest′ waiting f y given g k′ waiting′ a held′ last h l =
-    let f′ : NextLine true held rest line rest′ = subst (λ (b : Bool). NextLine b held rest line rest′) y f in
+    let f′ : NextLine 128 true held rest line rest′ = subst (λ (b : Bool). NextLine 128 b held rest line rest′) y f in
     let a′ : Answered (line ∷ []) k waiting k′ waiting′ = subst (λ (x : List ℕ). Answered (x ∷ []) k waiting k′ waiting′) g a in
     subst⁻¹ (λ (x : List ℕ). Passes (in-piece k held rest) waiting (in-piece k′ x last) waiting′) h
     (subst⁻¹ (λ (x : List ℕ). Passes (in-piece k held rest) waiting (in-piece k′ [] x) waiting′) l
@@ -106,12 +111,12 @@ passes-on u v w a b c p q = record { says = p .says ∙ q .says; reaches = p .re
 -- nothing is to come where nothing of the piece is left
 pub none-to-come : (u : Under) → u .rest ≡ [] → toCome u ≡ []
 unfolding toCome transcript endedIn
-none-to-come u e = ap (λ (r : List ℕ). transcript storeAnswers (endedIn (u .held) r) (u .kept)) e
+none-to-come u e = ap (λ (r : List ℕ). transcript storeAnswers (endedIn 128 (u .held) r) (u .kept)) e
 
 pub end-reached : (u : Under) → u .rest ≡ [] → atEnd u ≡ u
 unfolding atEnd keptAfter endedIn heldAfter
 end-reached u e =
-    ap (λ (r : List ℕ). in-piece (keptAfter storeAnswers (endedIn (u .held) r) (u .kept)) (heldAfter (u .held) r) []) e
+    ap (λ (r : List ℕ). in-piece (keptAfter storeAnswers (endedIn 128 (u .held) r) (u .kept)) (heldAfter 128 (u .held) r) []) e
     ∙ ap (λ (r : List ℕ). in-piece (u .kept) (u .held) r) (sym e)
 
 pub end-same : (m : Machine) (reader line piece : List ℕ) (h h′ a a′ : ℕ) → h′ ≡ h → a′ ≡ a

@@ -50,13 +50,13 @@ pieces-joined [] = refl
 pieces-joined (x ∷ xs) = ap (λ (r : List ℕ). x .piece ++ r) (pieces-joined xs)
 
 legs-text : (held : List ℕ) (k : Kept Machine) (xs : List Leg) (last : List ℕ) → Legs held k xs last
-    → outputOf xs ++ last ≡ transcript storeAnswers (fromPieces held (pieces xs)) k
+    → outputOf xs ++ last ≡ transcript storeAnswers (fromPieces 128 held (pieces xs)) k
 unfolding Legs outputOf pieces fromPieces toCome atEnd
 legs-text held k [] last h = h .1 .says
 legs-text held k (x ∷ xs) last h =
     let w = h .0 in
     let g = put-out (record { kept = k; held = held; rest = x .piece }) (x .texts) w (h .1 .1 .0) in
-    let ls = endedIn held (x .piece) in
+    let ls = endedIn 128 held (x .piece) in
     let text : joined (x .texts) ≡ transcript storeAnswers ls k =
     sym (append-nil (joined (x .texts)))
     ∙ ap (λ (r : List ℕ). joined (x .texts) ++ r) (sym (none-to-come w (h .1 .0)))
@@ -64,15 +64,15 @@ legs-text held k (x ∷ xs) last h =
     let end : atEnd (record { kept = k; held = held; rest = x .piece }) ≡ w = g .reaches ∙ end-reached w (h .1 .0) in
     append-assoc (joined (x .texts)) (outputOf xs) last
     ∙ ap₂ (λ (a b : List ℕ). a ++ b) text (legs-text (w .held) (w .kept) xs last (h .1 .1 .1))
-    ∙ ap (λ (v : Under). transcript storeAnswers ls k ++ transcript storeAnswers (fromPieces (v .held) (pieces xs)) (v .kept)) (sym end)
-    ∙ sym (transcript-append storeAnswers ls (fromPieces (heldAfter held (x .piece)) (pieces xs)) k)
+    ∙ ap (λ (v : Under). transcript storeAnswers ls k ++ transcript storeAnswers (fromPieces 128 (v .held) (pieces xs)) (v .kept)) (sym end)
+    ∙ sym (transcript-append storeAnswers ls (fromPieces 128 (heldAfter 128 held (x .piece)) (pieces xs)) k)
 
-kept-lines : (ls : List (List ℕ)) (k : Kept Machine) → transcript storeAnswers (map kept ls) k ≡ transcript storeAnswers ls k
+kept-lines : (ls : List (List ℕ)) (k : Kept Machine) → transcript storeAnswers (map (kept 128) ls) k ≡ transcript storeAnswers ls k
 unfolding transcript
 kept-lines [] k = refl
 kept-lines (l ∷ ls) k =
     let turn : Line → LineTurn Machine = λ p. lineTurn storeAnswers p k in
-    ap (λ (p : Line). printed (turn p .reply) ++ transcript storeAnswers (map kept ls) (turn p .after)) (kept-is-enough l)
+    ap (λ (p : Line). printed (turn p .reply) ++ transcript storeAnswers (map (kept 128) ls) (turn p .after)) (kept-is-enough l)
     ∙ ap (λ (x : List ℕ). printed (turn (parsed l) .reply) ++ x) (kept-lines ls (turn (parsed l) .after))
 
 -- ---- on the plain machine
@@ -157,7 +157,7 @@ whole-run m made reader legs last h =
     let k : Kept Machine = record { machine = m; reader = reader } in
     let text =
     legs-text [] k legs last h
-    ∙ ap (λ (ls : List (List ℕ)). transcript storeAnswers ls k) (pieces-are-the-whole (pieces legs))
+    ∙ ap (λ (ls : List (List ℕ)). transcript storeAnswers ls k) (pieces-are-the-whole 128 (pieces legs))
     ∙ kept-lines (linesOf (joined (pieces legs))) k
     ∙ ap (λ (input : List ℕ). transcript storeAnswers (linesOf input) k) (pieces-joined legs) in
     record { onStore = text; onPlain = text ∙ same-text m made (linesOf (inputOf legs)) [] reader }

@@ -6,3 +6,5 @@ pub mod Transcript
 pub mod WholeRun
 -- That what is kept fits its buffers.
 pub mod Bounds
+-- Traces and what they print.
+pub mod Examples

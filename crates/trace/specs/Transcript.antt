@@ -82,13 +82,13 @@ under m reader held rest = record { kept = record { machine = m; reader = reader
 
 -- The text that the rest of the piece is to be answered, and where its end is reached.
 unfoldable pub toCome : Under → List ℕ
-toCome u = transcript storeAnswers (endedIn (u .held) (u .rest)) (u .kept)
+toCome u = transcript storeAnswers (endedIn 128 (u .held) (u .rest)) (u .kept)
 
 unfoldable pub atEnd : Under → Under
 atEnd u =
     record {
-      kept = keptAfter storeAnswers (endedIn (u .held) (u .rest)) (u .kept);
-      held = heldAfter (u .held) (u .rest);
+      kept = keptAfter storeAnswers (endedIn 128 (u .held) (u .rest)) (u .kept);
+      held = heldAfter 128 (u .held) (u .rest);
       rest = [];
     }
 

@@ -11,7 +11,6 @@ use answering::last_line;
 use descriptors::lines_more;
 use descriptors::read_piece;
 use descriptors::write_out;
-use lines::KEPT;
 use numbers::BUFFER_BYTES;
 use numbers::FILE_BYTES;
 use octets::parts::part;
@@ -27,6 +26,9 @@ ghost use Rattle.rules.specs.Promises.{handed, handedBack, machineOf};
 ghost use Rattle.trace.specs.Transcript.{modEight, under, atEnd};
 ghost use Rattle.trace.specs.WholeRun.{Reached};
 ghost use Rattle.trace.specs.Bounds.{Resting, Room};
+
+// The bytes that are held of a line: one more than it may have.
+const KEPT: usize = 129;
 
 // Writes what waits, and counts its lines. A write that fails is said, and ends the run.
 fn written(mut c: Course, out: &[u8]) -> Course

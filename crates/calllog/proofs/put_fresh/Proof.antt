@@ -5,17 +5,17 @@ use Prim.Native.Nat.{ℕ, min}
 use native.Mathlib.Omega.{arith}
 use lib.ListN.{length, take, length-take, length-append}
 use borrow.Author.Needs.{needs}
-use Rattle.numerals.specs.Decimal.{numberText, spacedTexts}
-use Rattle.numerals.proofs.PutLaws.{then, length-number, length-texts, take-within}
+use Rattle.numerals.specs.Decimal.{joinedTexts}
+use Rattle.numerals.proofs.PutLaws.{then, length-number, length-joined-texts, take-within}
 use Rattle.calllog.specs.Log.{freshLine}
 use Rattle.calllog.proofs.put_fresh.Statement.{statement}
 use Rattle.calllog.proofs.put_fresh.Tie as tie
 
-slice-aggregate-put-list : tie.Need-slice-aggregate-put-list
-slice-aggregate-put-list c = omega (arith, length-take (c .before .before .smaller .result) (c .before .before .before .before .before .before .before .before .before .args .files .now), c .before .before .smaller .ensures)
+slice-aggregate-put-joined : tie.Need-slice-aggregate-put-joined
+slice-aggregate-put-joined c = omega (arith, length-take (c .before .before .smaller .result) (c .before .before .before .before .before .before .before .before .before .args .files .now), c .before .before .smaller .ensures)
 
-put-list-requires : tie.Need-put-list-requires
-put-list-requires c κs = omega (
+put-joined-requires : tie.Need-put-joined-requires
+put-joined-requires c κs = omega (
   arith,
   length-take (c .before .before .smaller .result) (c .before .before .before .before .before .before .before .before .before .args .files .now),
   c .before .before .smaller .ensures,
@@ -28,11 +28,11 @@ put-byte-requires-2 c κs =
     let t = take (c .before .before .before .before .before .before .smaller .result) (c .before .before .before .before .before .before .before .before .before .before .before .before .before .args .files .now) in
     omega (
       arith,
-      length-texts t,
+      length-joined-texts t,
       length-take (c .before .before .before .before .before .before .smaller .result) (c .before .before .before .before .before .before .before .before .before .before .before .before .before .args .files .now),
       c .before .before .before .before .before .before .smaller .ensures,
       c .before .before .before .before .before .before .before .before .before .put-byte .ensures .end,
-      c .before .before .before .put-list .ensures .end,
+      c .before .before .before .put-joined .ensures .end,
       c .before .before .before .before .before .before .before .before .before .before .before .before .before .pre,
     )
 
@@ -43,12 +43,12 @@ returns c =
     let fs = start .args .files .now in
     let n = c .before .before .before .before .before .before .before .before .before .smaller .result in
     let e : n ≡ min 17 (length fs) = omega (arith, c .before .before .before .before .before .before .before .before .before .smaller .ensures) in
-    let l = length-texts (take n fs) in
+    let l = length-joined-texts (take n fs) in
     let q = length-take n fs in
     let fits = start .pre in
     rw (sym (ap (λ (k : ℕ). take k fs) e ∙ take-within 17 fs))
-    (then (70 ∷ spacedTexts (take n fs)) (10 ∷ []) (omega arith)
-    (then (70 ∷ []) (spacedTexts (take n fs)) (omega arith) (c .before .before .before .before .before .before .before .before .before .before .before .before .put-byte .ensures) (c .before .before .before .before .before .before .put-list .ensures))
+    (then (70 ∷ joinedTexts (take n fs)) (10 ∷ []) (omega arith)
+    (then (70 ∷ []) (joinedTexts (take n fs)) (omega arith) (c .before .before .before .before .before .before .before .before .before .before .before .before .put-byte .ensures) (c .before .before .before .before .before .before .put-joined .ensures))
     (c .before .before .put-byte2 .ensures))
 
 pub put-fresh-spec : {M : Type 1} → statement M
@@ -57,8 +57,8 @@ put-fresh-spec =
     (tie.spec
     (λ c κs. search needs)
     (λ c κs. search needs)
-    slice-aggregate-put-list
-    put-list-requires
+    slice-aggregate-put-joined
+    put-joined-requires
     put-byte-requires-2
     (λ c. search needs)
     returns)

@@ -2,7 +2,7 @@
 use lib.ListN.{length-replicate}
 use Prim.Native.Nat.{ℕ}
 use borrow.Author.Needs.{needs}
-use Rattle.numerals.specs.Decimal.{spacedTexts}
+use Rattle.numerals.specs.Decimal.{joinedTexts}
 use Rattle.requests.specs.Requests.{callOf}
 use Rattle.calllog.specs.Log.{lineOf, opLine}
 use Rattle.calllog.specs.Recorded.{requestLine}
@@ -24,8 +24,8 @@ put-three-requires c κs = search needs
 enum-known-q-3 : tie.Need-enum-known-q-3
 enum-known-q-3 c = search needs
 
-put-write-requires : tie.Need-put-write-requires
-put-write-requires c κs = search needs
+put-front-requires : tie.Need-put-front-requires
+put-front-requires c κs = search needs
 
 enum-known-q-4 : tie.Need-enum-known-q-4
 enum-known-q-4 c = search needs
@@ -73,70 +73,70 @@ same-length : tie.Need-same-length
 same-length c = search needs
 
 returns : tie.Need-returns
-unfolding requestLine lineOf opLine callOf spacedTexts
+unfolding requestLine lineOf opLine callOf joinedTexts
 returns c = rw (c .before .before .before .before .before .q .given .1) (c .before .before .put-one .ensures)
 
 same-length-2 : tie.Need-same-length-2
 same-length-2 c = search needs
 
 returns-2 : tie.Need-returns-2
-unfolding requestLine lineOf opLine callOf spacedTexts
+unfolding requestLine lineOf opLine callOf joinedTexts
 returns-2 c = rw (c .before .before .before .before .before .q2 .given .1) (c .before .before .put-three .ensures)
 
 same-length-3 : tie.Need-same-length-3
 same-length-3 c = search needs
 
 returns-3 : tie.Need-returns-3
-unfolding requestLine lineOf opLine callOf spacedTexts
-returns-3 c = rw (c .before .before .before .before .before .q3 .given .1) (c .before .before .put-write .ensures)
+unfolding requestLine lineOf opLine callOf joinedTexts
+returns-3 c = rw (c .before .before .before .before .before .q3 .given .1) (c .before .before .put-front .ensures)
 
 same-length-4 : tie.Need-same-length-4
 same-length-4 c = search needs
 
 returns-4 : tie.Need-returns-4
-unfolding requestLine lineOf opLine callOf spacedTexts
+unfolding requestLine lineOf opLine callOf joinedTexts
 returns-4 c = rw (c .before .before .before .before .before .q4 .given .1) (c .before .before .put-two .ensures)
 
 same-length-5 : tie.Need-same-length-5
 same-length-5 c = search needs
 
 returns-5 : tie.Need-returns-5
-unfolding requestLine lineOf opLine callOf spacedTexts
+unfolding requestLine lineOf opLine callOf joinedTexts
 returns-5 c = rw (c .before .before .before .before .before .q5 .given .1, length-replicate {A = ℕ} (c .before .before .before .before .before .before .before .before .before .args .room) 0) (c .before .before .put-four .ensures)
 
 same-length-6 : tie.Need-same-length-6
 same-length-6 c = search needs
 
 returns-6 : tie.Need-returns-6
-unfolding requestLine lineOf opLine callOf spacedTexts
+unfolding requestLine lineOf opLine callOf joinedTexts
 returns-6 c = rw (c .before .before .before .before .before .q6 .given .1, length-replicate {A = ℕ} (c .before .before .before .before .before .before .before .before .before .args .room) 0) (c .before .before .put-three2 .ensures)
 
 same-length-7 : tie.Need-same-length-7
 same-length-7 c = search needs
 
 returns-7 : tie.Need-returns-7
-unfolding requestLine lineOf opLine callOf spacedTexts
+unfolding requestLine lineOf opLine callOf joinedTexts
 returns-7 c = rw (c .before .before .before .before .before .q7 .given .1) (c .before .before .put-two2 .ensures)
 
 same-length-8 : tie.Need-same-length-8
 same-length-8 c = search needs
 
 returns-8 : tie.Need-returns-8
-unfolding requestLine lineOf opLine callOf spacedTexts
+unfolding requestLine lineOf opLine callOf joinedTexts
 returns-8 c = rw (c .before .before .before .before .before .q8 .given .1) (c .before .before .put-one2 .ensures)
 
 same-length-9 : tie.Need-same-length-9
 same-length-9 c = search needs
 
 returns-9 : tie.Need-returns-9
-unfolding requestLine lineOf opLine callOf spacedTexts
+unfolding requestLine lineOf opLine callOf joinedTexts
 returns-9 c = rw (c .before .before .before .before .before .q9 .given .1) (c .before .before .put-three3 .ensures)
 
 same-length-10 : tie.Need-same-length-10
 same-length-10 c = search needs
 
 returns-10 : tie.Need-returns-10
-unfolding requestLine lineOf opLine callOf spacedTexts
+unfolding requestLine lineOf opLine callOf joinedTexts
 returns-10 c = rw (c .before .before .before .before .enum-told .given .1) (c .before .before .put-byte .ensures)
 
 pub put-request-spec : {M : Type 1} → statement M
@@ -148,7 +148,7 @@ put-request-spec =
     enum-known-q-2
     put-three-requires
     enum-known-q-3
-    put-write-requires
+    put-front-requires
     enum-known-q-4
     put-two-requires
     enum-known-q-5

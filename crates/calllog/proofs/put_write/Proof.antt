@@ -1,76 +1,59 @@
--- Two numbers, one space, and the pairs of the bytes' front.
-use mathlib.Core.List.{[], _∷_, _++_}
-use mathlib.Core.Path.{_≡_, sym, ap, _∙_}
-use Prim.Native.Nat.{ℕ, min}
+-- Two numbers and a space; then the text, or another letter and the pairs.
+use mathlib.Core.Path.{_≡_, refl, sym, ap, _∙_}
 use native.Mathlib.Omega.{arith}
-use lib.ListN.{length, take, length-take, length-append}
 use borrow.Author.Needs.{needs}
-use Rattle.numerals.specs.Pairs.{hexPairs}
-use Rattle.numerals.proofs.PutLaws.{then, length-pairs, take-within}
-use Rattle.calllog.specs.Log.{joined, numbered}
-use Rattle.calllog.proofs.Texts.{behind-space, length-joined}
+use mathlib.Core.List.{[], _∷_, _++_}
+use lib.ListN.{length, length-append}
+use Rattle.numerals.proofs.PutLaws.{length-pairs}
+use Rattle.calllog.proofs.Texts.{length-joined}
+use Rattle.calllog.proofs.WriteTexts.{put-space, put-text, put-other}
 use Rattle.calllog.proofs.put_write.Statement.{statement}
 use Rattle.calllog.proofs.put_write.Tie as tie
-
-put-two-requires : tie.Need-put-two-requires
-put-two-requires c κs = search needs
 
 put-byte-requires : tie.Need-put-byte-requires
 put-byte-requires c κs =
     let start = c .before .before .before .before .before .before .before in
-    omega (arith, length-joined (start .args .t) (start .args .d ∷ []), c .before .before .before .put-two .ensures .end, start .pre)
+    omega (arith, length-joined (start .args .t) (start .args .d ∷ []), c .before .before .before .put-two .ensures .end, start .pre .0)
 
-smaller-requires : tie.Need-smaller-requires
-smaller-requires c κs = search needs
+add-after : tie.Need-add-after
+add-after c =
+    let start = c .before .before .before .before .before .before .before .before .before .before in
+    omega (arith, length-joined (start .args .t) (start .args .d ∷ []), c .before .before .before .before .before .before .put-two .ensures .end, c .before .before .put-byte .ensures .end, start .pre .1)
 
-slice-aggregate-put-pairs : tie.Need-slice-aggregate-put-pairs
-slice-aggregate-put-pairs c = omega (
-  arith,
-  length-take (c .before .before .smaller .result) (c .before .before .before .before .before .before .before .before .before .before .before .before .before .args .bytes .now),
-  c .before .before .smaller .ensures,
-)
-
-put-pairs-requires : tie.Need-put-pairs-requires
-put-pairs-requires c κs =
+copy-to-requires : tie.Need-copy-to-requires
+copy-to-requires c κs =
     let start = c .before .before .before .before .before .before .before .before .before .before .before .before .before in
-    omega (
-      arith,
-      length-joined (start .args .t) (start .args .d ∷ []),
-      c .before .before .before .before .before .before .before .before .before .put-two .ensures .end,
-      c .before .before .before .before .before .put-byte .ensures .end,
-      length-take (c .before .before .smaller .result) (start .args .bytes .now),
-      c .before .before .smaller .ensures,
-      start .pre,
-    )
-
-same-length : tie.Need-same-length
-same-length c = search needs
+    omega (arith, length-joined (start .args .t) (start .args .d ∷ []), c .before .before .before .before .before .before .before .before .before .put-two .ensures .end, c .before .before .before .before .before .put-byte .ensures .end, start .pre .0, start .pre .1)
 
 returns : tie.Need-returns
 returns c =
     let start = c .before .before .before .before .before .before .before .before .before .before .before .before .before .before .before .before in
-    let bs = start .args .bytes .now in
-    let ns = start .args .t ∷ start .args .d ∷ [] in
-    let n = c .before .before .before .before .before .smaller .result in
-    let e : n ≡ min 4097 (length bs) = omega (arith, c .before .before .before .before .before .smaller .ensures) in
-    let l = length-joined (start .args .t) (start .args .d ∷ []) in
-    let p = length-pairs (take n bs) in
-    let q = length-take n bs in
-    let s = length-append (joined ns) (32 ∷ []) in
-    let fits = start .pre in
-    rw (sym (ap (λ (k : ℕ). take k bs) e ∙ take-within 4097 bs), behind-space (numbered 88 ns) (hexPairs (take n bs)))
-    (then (numbered 88 ns ++ (32 ∷ [])) (hexPairs (take n bs)) (omega arith)
-    (then (numbered 88 ns) (32 ∷ []) (omega arith) (c .before .before .before .before .before .before .before .before .before .before .before .before .put-two .ensures) (c .before .before .before .before .before .before .before .before .put-byte .ensures))
-    (c .before .before .put-pairs .ensures))
+    let spaced = put-space _ _ _ (start .pre .0) (c .before .before .before .before .before .before .before .before .before .before .before .before .put-two .ensures) (c .before .before .before .before .before .before .before .before .put-byte .ensures) in
+    put-text (start .args .t) (start .args .d) (start .args .bytes .now) (start .pre .0) (start .pre .1) spaced (c .before .before .copy-to .ensures) (sym (c .before .before .before .before .before .is-text .ensures) ∙ c .before .before .before .before .if1 .taken)
+
+put-pairs-requires : tie.Need-put-pairs-requires
+put-pairs-requires c κs =
+    let start = c .before .before .before .before .before .before .before .before .before .before .before .before .before .before .before .before .before in
+    omega (arith, length-joined (start .args .t) (start .args .d ∷ []), c .before .before .before .before .before .before .before .before .before .before .before .before .before .put-two .ensures .end, c .before .before .before .before .before .before .before .before .before .put-byte .ensures .end, start .pre .0, start .pre .1)
+
+returns-2 : tie.Need-returns-2
+returns-2 c =
+    let start = c .before .before .before .before .before .before .before .before .before .before .before .before .before .before .before .before .before .before .before .before in
+    let spaced = put-space _ _ _ (start .pre .0) (c .before .before .before .before .before .before .before .before .before .before .before .before .before .before .before .before .put-two .ensures) (c .before .before .before .before .before .before .before .before .before .before .before .before .put-byte .ensures) in
+    put-other (start .args .t) (start .args .d) (start .args .bytes .now) (start .pre .0) (start .pre .1) spaced (c .before .before .before .before .before .before .put-byte2 .ensures) (c .before .before .put-pairs .ensures) (sym (c .before .before .before .before .before .before .before .before .before .is-text .ensures) ∙ c .before .before .before .before .before .before .before .before .if1 .left)
 
 pub put-write-spec : {M : Type 1} → statement M
 put-write-spec =
     tie.close
     (tie.spec
-    put-two-requires
+    (λ c κs. search needs)
     put-byte-requires
-    smaller-requires
-    slice-aggregate-put-pairs
+    add-after
+    (λ c κs. search needs)
+    copy-to-requires
+    (λ c. search needs)
+    returns
+    (λ c κs. search needs)
     put-pairs-requires
-    same-length
-    returns)
+    (λ c. search needs)
+    returns-2)

@@ -15,14 +15,14 @@ use Rattle.lines.proofs.next.Tie as tie
 
 abbrev Inv-loop : tie.InvT-loop
 Inv-loop line₀ held piece from n₀ i₀ line n i =
-    (n ≤ 129) × ((from ≤ i) × ((i ≤ length piece)
-    × ((length line ≡ 129) × Same (take held line₀) (drop from piece) (take n line) (drop i piece))))
+    (n ≤ length line₀) × ((from ≤ i) × ((i ≤ length piece)
+    × ((length line ≡ length line₀) × Same (length line₀ - 1) (take held line₀) (drop from piece) (take n line) (drop i piece))))
 
 abbrev μ-loop : tie.MeasureT-loop
 μ-loop line₀ held piece from n₀ i₀ line n i = length piece - i
 
 loop-holds : tie.Need-loop-holds Inv-loop μ-loop
-loop-holds c = (omega arith, (omega arith, (omega arith, (c .pre .0, (refl, refl)))))
+loop-holds c = (omega arith, (omega arith, (omega arith, (refl, (refl, refl)))))
 
 shared-slice-read-b : tie.Need-shared-slice-read-b Inv-loop μ-loop
 shared-slice-read-b c = search needs
@@ -38,8 +38,9 @@ unfolding NextLine
 returns c =
     let l = c .before .before .before .loop in
     let p = c .before .before .before .before .args .piece .now in
+    let most = length (c .before .before .before .before .args .line .now) - 1 in
     let s = l .inv .1 .1 .1 .1 in
-    let f = stopped (take (l .n) (l .line)) p (l .i) (c .before .before .loop-test .taken) (c .if1 .taken) in (
+    let f = stopped most (take (l .n) (l .line)) p (l .i) (c .before .before .loop-test .taken) (c .if1 .taken) in (
       (s .0 ∙ f .0, s .1 ∙ f .1),
       record
           { within = omega arith; onward = omega arith; inside = omega arith; past = λ e. omega arith; whole = λ e. absurd (false≢true (sym e)) },
@@ -58,11 +59,13 @@ loop-again : tie.Need-loop-again Inv-loop μ-loop
 loop-again c =
     let l = c .before .before .before .before .loop in
     let p = c .before .before .before .before .before .args .piece .now in
+    let most = length (c .before .before .before .before .before .args .line .now) - 1 in
     let b = getD p (l .i) 0 in
     let s = l .inv .1 .1 .1 .1 in
     let h : l .i < length p = c .before .before .before .loop-test .taken in
-    let q = passed (take (l .n) (l .line)) p (l .i) h (c .before .if1 .left) in
-    let j = joins (l .line) (l .n) b (c .if2 .taken) (l .inv .1 .1 .1 .0) in
+    let q = passed most (take (l .n) (l .line)) p (l .i) h (c .before .if1 .left) in
+    let same = l .inv .1 .1 .1 .0 in
+    let j = joins (l .line) (l .n) b most (omega (arith, same, c .before .before .before .before .before .pre .0)) (c .if2 .taken) in
     let z = length-set (l .line) (l .n) b in (
       omega arith,
       (
@@ -72,9 +75,9 @@ loop-again c =
           (
             z ∙ l .inv .1 .1 .1 .0,
             (
-              s .0 ∙ q .0 ∙ ap (λ (x : List ℕ). endedIn x (drop (l .i + 1) p)) j,
+              s .0 ∙ q .0 ∙ ap (λ (x : List ℕ). endedIn most x (drop (l .i + 1) p)) j,
               s .1 ∙ q .1
-                  ∙ ap (λ (x : List ℕ). heldAfter x (drop (l .i + 1) p)) j,
+                  ∙ ap (λ (x : List ℕ). heldAfter most x (drop (l .i + 1) p)) j,
             ),
           ),
         ),
@@ -88,11 +91,13 @@ loop-again-2 : tie.Need-loop-again-2 Inv-loop μ-loop
 loop-again-2 c =
     let l = c .before .before .before .before .loop in
     let p = c .before .before .before .before .before .args .piece .now in
+    let most = length (c .before .before .before .before .before .args .line .now) - 1 in
     let b = getD p (l .i) 0 in
     let s = l .inv .1 .1 .1 .1 in
     let h : l .i < length p = c .before .before .before .loop-test .taken in
-    let q = passed (take (l .n) (l .line)) p (l .i) h (c .before .if1 .left) in
-    let j = let-go (l .line) (l .n) b (l .inv .0) (c .if2 .left) (l .inv .1 .1 .1 .0) in (
+    let q = passed most (take (l .n) (l .line)) p (l .i) h (c .before .if1 .left) in
+    let same = l .inv .1 .1 .1 .0 in
+    let j = let-go (l .line) (l .n) b most (omega (arith, same, c .before .before .before .before .before .pre .0)) (omega (arith, same, l .inv .0)) (c .if2 .left) in (
       omega arith,
       (
         omega arith,
@@ -101,9 +106,9 @@ loop-again-2 c =
           (
             l .inv .1 .1 .1 .0,
             (
-              s .0 ∙ q .0 ∙ ap (λ (x : List ℕ). endedIn x (drop (l .i + 1) p)) j,
+              s .0 ∙ q .0 ∙ ap (λ (x : List ℕ). endedIn most x (drop (l .i + 1) p)) j,
               s .1 ∙ q .1
-                  ∙ ap (λ (x : List ℕ). heldAfter x (drop (l .i + 1) p)) j,
+                  ∙ ap (λ (x : List ℕ). heldAfter most x (drop (l .i + 1) p)) j,
             ),
           ),
         ),
@@ -118,9 +123,10 @@ unfolding NextLine endedIn heldAfter
 returns-2 c =
     let l = c .before .loop in
     let p = c .before .before .args .piece .now in
+    let most = length (c .before .before .args .line .now) - 1 in
     let s = l .inv .1 .1 .1 .1 in
     let e = drop-of-length-le p (c .loop-test .left) in (
-      (s .0 ∙ ap (endedIn (take (l .n) (l .line))) e, s .1 ∙ ap (heldAfter (take (l .n) (l .line))) e),
+      (s .0 ∙ ap (endedIn most (take (l .n) (l .line))) e, s .1 ∙ ap (heldAfter most (take (l .n) (l .line))) e),
       record
           { within = omega arith; onward = omega arith; inside = omega arith; past = λ e. absurd (false≢true e); whole = λ e. omega arith },
     )

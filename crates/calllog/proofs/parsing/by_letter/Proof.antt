@@ -6,7 +6,7 @@ use borrow.Author.Needs.{needs}
 use Rattle.requests.specs.Requests.{callOf}
 use Rattle.rules.specs.Messages.{Call, begin, on, commit, abort, places, setWindow, seek, getFilePointer, read}
 use Rattle.calllog.specs.Log.{calls, asked, next, last, lastOr}
-use Rattle.calllog.specs.Reading.{entryOf, listedBy, writtenBy}
+use Rattle.calllog.specs.Reading.{entryOf, writtenBy}
 use Rattle.calllog.proofs.ReadingLaws.{other, asked-other}
 use Rattle.calllog.proofs.parsing.by_letter.Statement.{statement}
 use Rattle.calllog.proofs.parsing.by_letter.Tie as tie
@@ -36,15 +36,25 @@ returns-8 : tie.Need-returns-8
 returns-8 c bytes = rw (c .before .match .keys8) (c .window-line .ensures bytes)
 
 returns-9 : tie.Need-returns-9
-returns-9 c bytes =
+returns-9 c bytes = rw (c .before .match .keys9) (c .undo-line .ensures bytes)
+
+returns-10 : tie.Need-returns-10
+returns-10 c bytes = rw (c .before .match .keys10) (c .version-line .ensures bytes)
+
+returns-11 : tie.Need-returns-11
+returns-11 c bytes =
     let rest = c .match .rest in
-    other _ bytes _ (asked-other _ _ (rest .0 .0 .0 .0 .0 .0 .0 .1) (rest .0 .0 .0 .0 .0 .0 .1) (rest .0 .0 .0 .0 .0 .1) (rest .0 .0 .0 .0 .1) (rest .0 .0 .0 .1)
-    (rest .0 .0 .1) (rest .0 .1) (rest .1))
+    let letters = c .before .before .pre .1 in
+    other bytes _ (asked-other _ _ (rest .0 .0 .0 .0 .0 .0 .0 .0 .0 .1) (rest .0 .0 .0 .0 .0 .0 .0 .0 .1) (rest .0 .0 .0 .0 .0 .0 .0 .1)
+    (rest .0 .0 .0 .0 .0 .0 .1) (rest .0 .0 .0 .0 .0 .1) (rest .0 .0 .0 .0 .1) (rest .0 .0 .0 .1) (rest .0 .0 .1) (rest .0 .1) (rest .1)
+    (letters .0) (letters .1))
 
 pub by-letter-spec : {M : Type 1} → statement M
 by-letter-spec =
     tie.close
     (tie.spec
+    (λ c κs. search needs)
+    (λ c κs. search needs)
     (λ c κs. search needs)
     (λ c κs. search needs)
     (λ c κs. search needs)
@@ -61,4 +71,6 @@ by-letter-spec =
     returns-6
     returns-7
     returns-8
-    returns-9)
+    returns-9
+    returns-10
+    returns-11)

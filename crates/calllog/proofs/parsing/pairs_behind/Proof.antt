@@ -6,34 +6,33 @@ use borrow.Author.Needs.{needs}
 use borrow.Author.Tests.{le-leb, lt-leb}
 use Rattle.requests.specs.Requests.{callOf}
 use Rattle.rules.specs.Messages.{Call, on, write, takeBack}
-use Rattle.calllog.specs.Log.{calls, last, listed, written}
-use Rattle.calllog.specs.Reading.{entryOf, listedBy, writtenBy}
+use Rattle.calllog.specs.Log.{calls, last, written}
+use Rattle.calllog.specs.Reading.{entryOf, writtenBy}
 use Rattle.calllog.proofs.ReadingLaws.{other, as-meant, counted-unread, counted-many, many-within, pairs-none, pairs-no-space, pairs-space}
 use Rattle.calllog.proofs.parsing.pairs_behind.Statement.{statement}
 use Rattle.calllog.proofs.parsing.pairs_behind.Tie as tie
 
 returns : tie.Need-returns
-unfolding entryOf listedBy writtenBy callOf
-returns c numbers = record { means = sym (pairs-none _ _ _ _ (c .if1 .taken)); list = omega arith; bytes = omega arith }
+unfolding entryOf writtenBy callOf
+returns c = record { means = sym (pairs-none _ _ _ _ (c .if1 .taken)); bytes = omega arith }
 
 returns-2 : tie.Need-returns-2
-returns-2 c numbers = other numbers _ _ (pairs-no-space _ _ _ _ (c .before .before .if1 .left) (c .if2 .taken))
+returns-2 c = other _ _ (pairs-no-space _ _ _ _ (c .before .before .if1 .left) (c .if2 .taken))
 
 returns-3 : tie.Need-returns-3
-returns-3 c numbers =
-    other numbers _ _
+returns-3 c =
+    other _ _
     (pairs-space _ _ _ _ (c .before .before .before .before .before .before .before .before .if1 .left) (c .before .before .before .before .before .before .if2 .left)
     ∙ counted-unread _ _ _ _ (rw (c .before .before .before .before .before .before .before .before .before .before .before .pre) at (c .before .before .before .before .pairs-at .ensures .means)) (c .enum-told .given .1))
 
 returns-4 : tie.Need-returns-4
-unfolding entryOf listedBy writtenBy callOf
-returns-4 c numbers =
+unfolding entryOf writtenBy callOf
+returns-4 c =
     let e = c .before .before .before .before .before .pairs-at .ensures in
     record {
       means =
           sym (pairs-space _ _ _ _ (c .before .before .before .before .before .before .before .before .before .if1 .left) (c .before .before .before .before .before .before .before .if2 .left)
           ∙ counted-many _ _ _ _ (rw (c .before .before .before .before .before .before .before .before .before .before .before .before .pre) at (e .means)) _ (c .before .n .given .1));
-      list = omega arith;
       bytes = many-within _ _ _ (e .within) (c .before .n .given .1);
     }
 

@@ -6,21 +6,21 @@ use borrow.Author.Needs.{needs}
 use borrow.Author.Tests.{le-leb, lt-leb}
 use Rattle.requests.specs.Requests.{callOf}
 use Rattle.rules.specs.Messages.{Call, on, write, takeBack}
-use Rattle.calllog.specs.Log.{calls, last, listed, written}
-use Rattle.calllog.specs.Reading.{entryOf, listedBy, writtenBy}
+use Rattle.calllog.specs.Log.{calls, last, written}
+use Rattle.calllog.specs.Reading.{entryOf, writtenBy}
 use Rattle.calllog.proofs.ReadingLaws.{other, as-meant}
 use Rattle.calllog.proofs.parsing.short_text_line.Statement.{statement}
 use Rattle.calllog.proofs.parsing.short_text_line.Tie as tie
 
 returns : tie.Need-returns
-returns c numbers =
+returns c =
     let line = c .before .before .before .args .line .now in
-    other numbers _ _ (rw (lt-leb (length (drop 1 line)) 127 (omega (arith, length-drop 1 line, c .if1 .taken))))
+    other _ _ (rw (lt-leb (length (drop 1 line)) 127 (omega (arith, length-drop 1 line, c .if1 .taken))))
 
 returns-2 : tie.Need-returns-2
-returns-2 c numbers =
+returns-2 c =
     let line = c .before .before .before .before .before .before .before .args .line .now in
-    rw (le-leb (length (drop 1 line)) 127 (omega (arith, length-drop 1 line, c .before .before .before .before .if1 .left))) (c .before .before .text-line .ensures numbers)
+    rw (le-leb (length (drop 1 line)) 127 (omega (arith, length-drop 1 line, c .before .before .before .before .if1 .left))) (c .before .before .text-line .ensures)
 
 pub short-text-line-spec : {M : Type 1} → statement M
 short-text-line-spec = tie.close (tie.spec returns (λ c κs. search needs) (λ c. search needs) returns-2)

@@ -9,21 +9,21 @@ use borrow.Author.Needs.{needs}
 use borrow.Author.Tests.{le-leb, lt-leb}
 use Rattle.requests.specs.Requests.{callOf}
 use Rattle.rules.specs.Messages.{Call, on, write, takeBack}
-use Rattle.calllog.specs.Log.{calls, last, listed, written}
-use Rattle.calllog.specs.Reading.{entryOf, listedBy, writtenBy}
+use Rattle.calllog.specs.Log.{calls, last, written}
+use Rattle.calllog.specs.Reading.{entryOf, writtenBy}
 use Rattle.calllog.proofs.ReadingLaws.{other, as-meant, text-none, text-no-space, text-space, copied}
 use Rattle.calllog.proofs.parsing.text_behind.Statement.{statement}
 use Rattle.calllog.proofs.parsing.text_behind.Tie as tie
 
 returns : tie.Need-returns
-returns c numbers = other numbers _ _ (text-none _ _ _ _ (c .if1 .taken))
+returns c = other _ _ (text-none _ _ _ _ (c .if1 .taken))
 
 returns-2 : tie.Need-returns-2
-returns-2 c numbers = other numbers _ _ (text-no-space _ _ _ _ (c .before .before .if1 .left) (c .if2 .taken))
+returns-2 c = other _ _ (text-no-space _ _ _ _ (c .before .before .if1 .left) (c .if2 .taken))
 
 returns-3 : tie.Need-returns-3
-unfolding entryOf listedBy writtenBy callOf
-returns-3 c numbers =
+unfolding entryOf writtenBy callOf
+returns-3 c =
     let start = c .before .before .before .before .before .before .before .before .before .before in
     let line = start .args .line .now in
     let from = start .args .at + 1 in
@@ -36,7 +36,6 @@ returns-3 c numbers =
           (copied _ _ _ n (c .before .before .copy-to .ensures) (omega (arith, length-take n text, length-drop from line))
           ∙ take-all n text (omega (arith, length-drop from line)))
           ∙ sym (text-space _ _ _ _ (c .before .before .before .before .before .before .before .if1 .left) (c .before .before .before .before .before .if2 .left));
-      list = omega arith;
       bytes = omega (arith, k, start .pre .0, start .pre .1);
     }
 

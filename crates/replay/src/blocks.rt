@@ -1,0 +1,64 @@
+// A saved block: the record as little-endian numbers of 16 bits, then the files, the logs, the marks and a grant's old
+// bytes, as a caller holds them.
+use crate::answering::Buffer;
+use crate::answering::Undo;
+use numbers::BUFFER_BYTES;
+use numbers::FILE_BYTES;
+use record::layout::NUMBERS;
+use record::layout::Record;
+
+// The bytes of the record in a block.
+const RECORD_BYTES: usize = 4646;
+
+// Puts the numbers of a block into the record.
+fn put_numbers(kept: &mut Record, bytes: &[u8; RECORD_BYTES]) {
+    let mut i = 0;
+    while i < NUMBERS {
+        kept[i] = bytes[2 * i] as u16 + bytes[2 * i + 1] as u16 * 256;
+        i += 1;
+    }
+}
+
+// Reads a block from an open file: whether it has just the bytes of one.
+fn read_block(
+    fd: i32,
+    kept: &mut Record,
+    files: &mut Buffer,
+    logs: &mut Buffer,
+    marks: &mut Buffer,
+    undo: &mut Undo,
+) -> bool {
+    let mut bytes = [0u8; RECORD_BYTES];
+    let mut more = [0u8; 1];
+    let a = io::read_full(fd, &mut bytes);
+    let b = io::read_full(fd, files);
+    let c = io::read_full(fd, logs);
+    let d = io::read_full(fd, marks);
+    let e = io::read_full(fd, undo);
+    let f = io::read_full(fd, &mut more);
+    put_numbers(kept, &bytes);
+    let front = (a == RECORD_BYTES) & (b == BUFFER_BYTES) & (c == BUFFER_BYTES);
+    front & (d == BUFFER_BYTES) & (e == FILE_BYTES) & (f == 0)
+}
+
+// Reads the block that the path names. Otherwise says so.
+pub fn load(
+    path: &[u8],
+    kept: &mut Record,
+    files: &mut Buffer,
+    logs: &mut Buffer,
+    marks: &mut Buffer,
+    undo: &mut Undo,
+) -> bool {
+    let fd = os::open_read(path);
+    if fd < 0 {
+        crate::stdio::say_no_block(path);
+        return false;
+    }
+    let whole = read_block(fd, kept, files, logs, marks, undo);
+    libc::close(fd);
+    if !whole {
+        crate::stdio::say_no_block(path);
+    }
+    whole
+}

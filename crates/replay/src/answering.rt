@@ -5,8 +5,8 @@ use numbers::BUFFER_BYTES;
 use numbers::FILE_BYTES;
 use numbers::smaller;
 use numerals::put_byte;
-use octets::parts::copy_to;
 use octets::parts::part;
+use record::TRANSACTIONS;
 use record::layout::Record;
 use record::outcomes::Outcome;
 use record::outcomes::Refusal;
@@ -55,7 +55,7 @@ pub struct Progress {
 }
 
 // What a call answered, and how many bytes of the reader's buffer are the call's.
-pub struct Answer {
+pub struct Response {
     pub outcome: Outcome,
     pub size: usize,
 }
@@ -84,15 +84,26 @@ fn perform_request(
     bytes: &[u8],
     room: usize,
     reader: &mut [u8],
-) -> Answer
+) -> Response
     requires { ⌜ length (now reader) ≡ 4097 ⌝ }
     ensures { λ r. ⌜ r .size ≤ 4097 ⌝ }
 {
     let n = smaller(room, WRITTEN);
     let o = requests::perform(kept, files, logs, marks, undo, clipped(q, room), bytes, &mut reader[..n]);
-    Answer {
+    Response {
         outcome: o,
         size: n,
+    }
+}
+
+// Puts an order to the front of the reader's buffer.
+fn put_order(reader: &mut [u8], order: [u8; TRANSACTIONS])
+    requires { ⌜ 8 ≤ length (now reader) ⌝ }
+{
+    let mut i = 0;
+    while i < TRANSACTIONS {
+        reader[i] = order[i];
+        i += 1;
     }
 }
 
@@ -106,17 +117,17 @@ fn perform_order(
     minute: usize,
     budget: usize,
     reader: &mut [u8],
-) -> Answer
+) -> Response
     requires { ⌜ length (now reader) ≡ 4097 ⌝ }
     ensures { λ r. ⌜ r .size ≤ 4097 ⌝ }
 {
     let best = ordering::best_order(kept, files, logs, marks, undo, list, minute, budget);
     let o = best.outcome;
     let order = best.order;
-    copy_to(reader, 0, &order);
-    Answer {
+    put_order(reader, order);
+    Response {
         outcome: o,
-        size: smaller(list.len(), 8),
+        size: smaller(list.len(), TRANSACTIONS),
     }
 }
 
@@ -130,14 +141,14 @@ fn perform_line(
     said: Line,
     bytes: &[u8],
     reader: &mut [u8],
-) -> Answer
+) -> Response
     requires { ⌜ (length (now bytes) ≡ 4097) × (length (now reader) ≡ 4097) ⌝ }
     ensures { λ r. ⌜ r .size ≤ 4097 ⌝ }
 {
     match said {
         Line::Fresh(n) => {
             let o = store::fresh(kept, files, logs, marks, undo, part(bytes, 0, smaller(n, WRITTEN)));
-            Answer {
+            Response {
                 outcome: o,
                 size: 0,
             }
@@ -164,7 +175,7 @@ fn perform_line(
             budget,
             reader,
         ),
-        _ => Answer {
+        _ => Response {
             outcome: Outcome::Refused(Refusal::BadLine),
             size: 0,
         },
@@ -282,6 +293,35 @@ fn ends_returned(line: &[u8]) -> bool {
     line[n - 1] == b'\r'
 }
 
+// Does what a line says.
+fn act(
+    p: Progress,
+    kept: &mut Record,
+    files: &mut Buffer,
+    logs: &mut Buffer,
+    marks: &mut Buffer,
+    undo: &mut Undo,
+    said: Line,
+    line: &[u8],
+    bytes: &[u8],
+    reader: &mut [u8],
+    out: &mut [u8],
+) -> Progress
+    requires { ⌜ (p .waiting ≤ 40000) × (AnswerIn p × Rooms (now bytes) (now reader) (now out)) ⌝ }
+    ensures { λ r. ⌜ Told p r ⌝ }
+{
+    match said {
+        Line::Comment => p,
+        Line::Expects => expect(p, line, out),
+        Line::Version(v) => take_version(p, v),
+        Line::Another => {
+            let q = note_malformed(p, line);
+            answer(q, kept, files, logs, marks, undo, said, bytes, reader, out)
+        }
+        _ => answer(p, kept, files, logs, marks, undo, said, bytes, reader, out),
+    }
+}
+
 // Performs a line; after another version none.
 fn take_line(
     mut p: Progress,
@@ -305,18 +345,7 @@ fn take_line(
     }
     p.lines = counted(p.lines);
     let said = calllog::parse(line, numbers, bytes);
-    match said {
-        Line::Comment => p,
-        Line::Expects => expect(p, line, out),
-        Line::Version(v) => take_version(p, v),
-        Line::Another => {
-            let q = note_malformed(p, line);
-            answer(q, kept, files, logs, marks, undo, said, bytes, reader, out)
-        }
-        Line::Fresh(_) => answer(p, kept, files, logs, marks, undo, said, bytes, reader, out),
-        Line::Asks(_, _, _) => answer(p, kept, files, logs, marks, undo, said, bytes, reader, out),
-        Line::Order(_, _, _) => answer(p, kept, files, logs, marks, undo, said, bytes, reader, out),
-    }
+    act(p, kept, files, logs, marks, undo, said, line, bytes, reader, out)
 }
 
 // Performs the line that ends next in the piece, or holds the rest of the piece.

@@ -10,11 +10,16 @@ use record::layout::Record;
 // The bytes of the record in a block.
 const RECORD_BYTES: usize = 4646;
 
+// A number of 16 bits, its low byte first.
+fn word(low: u8, high: u8) -> u16 {
+    low as u16 + high as u16 * 256
+}
+
 // Puts the numbers of a block into the record.
 fn put_numbers(kept: &mut Record, bytes: &[u8; RECORD_BYTES]) {
     let mut i = 0;
     while i < NUMBERS {
-        kept[i] = bytes[2 * i] as u16 + bytes[2 * i + 1] as u16 * 256;
+        kept[i] = word(bytes[2 * i], bytes[2 * i + 1]);
         i += 1;
     }
 }

@@ -22,11 +22,11 @@ use record::layout::Record;
 ghost use mathlib.Core.Path.{_≡_};
 ghost use Prim.Native.Nat.{_≤_, _<_};
 ghost use lib.ListN.{length};
-ghost use Rattle.replay.specs.Bounds.{Resting, Rooms};
+ghost use Rattle.replay.specs.Bounds.{AnswerIn, Resting, Rooms};
 
 // Writes what waits, and counts its lines. A write that fails is said, and ends the run.
 fn flush(mut p: Progress, out: &[u8]) -> Progress
-    requires { ⌜ (p .waiting ≤ length (now out)) × (p .held ≤ 8238) ⌝ }
+    requires { ⌜ (p .waiting ≤ length (now out)) × ((p .held ≤ 8238) × AnswerIn p) ⌝ }
     ensures { λ r. ⌜ Resting r × (r .at ≡ p .at) ⌝ }
 {
     let n = p.waiting;
@@ -130,13 +130,21 @@ fn tell(p: Progress) {
 }
 
 // Performs the whole input. Nothing says that it ends, so the turns are counted down from a number that no run uses up.
-fn run(kept: &mut Record, files: &mut Buffer, logs: &mut Buffer, marks: &mut Buffer, undo: &mut Undo) {
-    let mut line = [0u8; LINE_BYTES];
-    let mut numbers = [0usize; NUMBERS_READ];
-    let mut bytes = [0u8; WRITTEN];
-    let mut reader = [0u8; WRITTEN];
-    let mut out = [0u8; OUTPUT];
-    let mut input = io::large_buffer();
+fn run(
+    kept: &mut Record,
+    files: &mut Buffer,
+    logs: &mut Buffer,
+    marks: &mut Buffer,
+    undo: &mut Undo,
+    line: &mut [u8],
+    numbers: &mut [usize],
+    bytes: &mut [u8],
+    reader: &mut [u8],
+    input: &mut [u8],
+    out: &mut [u8],
+)
+    requires { ⌜ (length (now line) ≡ 8238) × ((length (now numbers) ≡ 18) × Rooms (now bytes) (now reader) (now out)) ⌝ }
+{
     let mut p = Progress {
         held: 0,
         at: 0,
@@ -154,20 +162,7 @@ fn run(kept: &mut Record, files: &mut Buffer, logs: &mut Buffer, marks: &mut Buf
     };
     let mut turns = u64::MAX;
     while 0 < turns {
-        p = turn(
-            p,
-            kept,
-            files,
-            logs,
-            marks,
-            undo,
-            &mut line,
-            &mut numbers,
-            &mut bytes,
-            &mut reader,
-            &mut input,
-            &mut out,
-        );
+        p = turn(p, kept, files, logs, marks, undo, line, numbers, bytes, reader, input, out);
         turns = turns_left(turns, p.goes);
     }
     tell(p);
@@ -201,7 +196,26 @@ fn main() {
     let mut logs = [0u8; BUFFER_BYTES];
     let mut marks = [0u8; BUFFER_BYTES];
     let mut undo = [0u8; FILE_BYTES];
-    if prepare(&mut kept, &mut files, &mut logs, &mut marks, &mut undo) {
-        run(&mut kept, &mut files, &mut logs, &mut marks, &mut undo);
+    if !prepare(&mut kept, &mut files, &mut logs, &mut marks, &mut undo) {
+        return;
     }
+    let mut line = [0u8; LINE_BYTES];
+    let mut numbers = [0usize; NUMBERS_READ];
+    let mut bytes = [0u8; WRITTEN];
+    let mut reader = [0u8; WRITTEN];
+    let mut out = [0u8; OUTPUT];
+    let mut input = io::large_buffer();
+    run(
+        &mut kept,
+        &mut files,
+        &mut logs,
+        &mut marks,
+        &mut undo,
+        &mut line,
+        &mut numbers,
+        &mut bytes,
+        &mut reader,
+        &mut input,
+        &mut out,
+    );
 }

@@ -149,9 +149,10 @@ module _ (text : List ℕ) (k : Kept) (rest : List (List ℕ)) (go : k .ended �
       one : length (expectation text) ≤ longest
           → (textOf (expectation text ∷ rest) k ≡ textOf rest k) × (keptAfter (expectation text ∷ rest) k ≡ keptAfter rest k)
       one l =
-          unfold textOf keptAfter silent in
-          (ap (λ (p : Printed). p .text ++ textOf rest (p .after)) (agrees text k go same l),
-            ap (λ (p : Printed). keptAfter rest (p .after)) (agrees text k go same l))
+          unfold textOf keptAfter silent in (
+            ap (λ (p : Printed). p .text ++ textOf rest (p .after)) (agrees text k go same l),
+            ap (λ (p : Printed). keptAfter rest (p .after)) (agrees text k go same l),
+          )
 
       pick : (b : Bool) → leb (length (expectation text)) longest ≡ b
           → (textOf (cond b (expectation text ∷ []) [] ++ rest) k ≡ textOf rest k)

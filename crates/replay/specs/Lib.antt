@@ -1,2 +1,4 @@
 -- That what is kept fits its buffers.
 pub mod Bounds
+-- How differences from a log are counted.
+pub mod Counting

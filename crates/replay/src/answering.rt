@@ -14,6 +14,8 @@ use requests::Request;
 ghost use mathlib.Core.Path.{_≡_};
 ghost use Prim.Native.Nat.{_+_, _≤_, _<_};
 ghost use lib.ListN.{length};
+ghost use Rattle.calllog.specs.Answers.{sameBytes};
+ghost use Rattle.replay.specs.Counting.{oneMore, Counted};
 ghost use Rattle.replay.specs.Bounds.{ProgressIn, Onward, Resting, Told, AnswerIn, Rooms};
 
 // When more output waits than this it is written, so that the longest answer still fits in after what waits.
@@ -89,7 +91,16 @@ fn perform_request(
     ensures { λ r. ⌜ r .size ≤ 4097 ⌝ }
 {
     let n = smaller(room, WRITTEN);
-    let o = requests::perform(kept, files, logs, marks, undo, clipped(q, room), bytes, &mut reader[..n]);
+    let o = requests::perform(
+        kept,
+        files,
+        logs,
+        marks,
+        undo,
+        clipped(q, room),
+        bytes,
+        &mut reader[..n],
+    );
     Response {
         outcome: o,
         size: n,
@@ -147,7 +158,14 @@ fn perform_line(
 {
     match said {
         Line::Fresh(n) => {
-            let o = store::fresh(kept, files, logs, marks, undo, part(bytes, 0, smaller(n, WRITTEN)));
+            let o = store::fresh(
+                kept,
+                files,
+                logs,
+                marks,
+                undo,
+                part(bytes, 0, smaller(n, WRITTEN)),
+            );
             Response {
                 outcome: o,
                 size: 0,
@@ -183,7 +201,9 @@ fn perform_line(
 }
 
 // A count and one more, as far as it goes.
-fn counted(n: u64) -> u64 {
+fn counted(n: u64) -> u64
+    ensures { λ r. ⌜ r ≡ oneMore n ⌝ }
+{
     if n < u64::MAX {
         return n + 1;
     }
@@ -198,7 +218,9 @@ fn first_at(count: u64, noted: u64, line: u64) -> u64 {
     noted
 }
 
-fn is_same(a: &[u8], b: &[u8]) -> bool {
+fn is_same(a: &[u8], b: &[u8]) -> bool
+    ensures { λ r. ⌜ r ≡ sameBytes (now (a .entry)) (now (b .entry)) ⌝ }
+{
     if a.len() != b.len() {
         return false;
     }
@@ -239,8 +261,20 @@ fn answer(
     p
 }
 
+// Compares an answer of the log with the one that was printed last.
+fn expect(mut p: Progress, text: &[u8], answer: &[u8]) -> Progress
+    ensures { λ r. ⌜ Counted p r (now (text .entry)) (now (answer .entry)) ⌝ }
+{
+    if is_same(text, answer) {
+        return p;
+    }
+    p.differing_at = first_at(p.differing, p.differing_at, p.lines);
+    p.differing = counted(p.differing);
+    p
+}
+
 // Compares the answer behind `= ` with the one that was printed last.
-fn expect(mut p: Progress, line: &[u8], out: &[u8]) -> Progress
+fn expect_line(p: Progress, line: &[u8], out: &[u8]) -> Progress
     requires { ⌜ (p .waiting ≤ 40000) × (AnswerIn p × (length (now out) ≡ 131072)) ⌝ }
     ensures { λ r. ⌜ Told p r ⌝ }
 {
@@ -250,12 +284,7 @@ fn expect(mut p: Progress, line: &[u8], out: &[u8]) -> Progress
     let from = p.from;
     let size = p.end - from;
     let text = line.len() - 2;
-    if is_same(part(line, 2, text), part(out, from, size)) {
-        return p;
-    }
-    p.differing_at = first_at(p.differing, p.differing_at, p.lines);
-    p.differing = counted(p.differing);
-    p
+    expect(p, part(line, 2, text), part(out, from, size))
 }
 
 // Another version ends the run, and is said.
@@ -312,7 +341,7 @@ fn act(
 {
     match said {
         Line::Comment => p,
-        Line::Expects => expect(p, line, out),
+        Line::Expects => expect_line(p, line, out),
         Line::Version(v) => take_version(p, v),
         Line::Another => {
             let q = note_malformed(p, line);
@@ -345,7 +374,19 @@ fn take_line(
     }
     p.lines = counted(p.lines);
     let said = calllog::parse(line, numbers, bytes);
-    act(p, kept, files, logs, marks, undo, said, line, bytes, reader, out)
+    act(
+        p,
+        kept,
+        files,
+        logs,
+        marks,
+        undo,
+        said,
+        line,
+        bytes,
+        reader,
+        out,
+    )
 }
 
 // Performs the line that ends next in the piece, or holds the rest of the piece.
@@ -375,7 +416,19 @@ fn step(
         return p;
     }
     p.held = 0;
-    take_line(p, kept, files, logs, marks, undo, part(line, 0, n), numbers, bytes, reader, out)
+    take_line(
+        p,
+        kept,
+        files,
+        logs,
+        marks,
+        undo,
+        part(line, 0, n),
+        numbers,
+        bytes,
+        reader,
+        out,
+    )
 }
 
 // Performs lines of the piece until much output waits, or nothing of the piece is left.
@@ -401,7 +454,20 @@ pub fn replay_piece(
         if MOST < p.waiting {
             return p;
         }
-        p = step(p, kept, files, logs, marks, undo, line, numbers, bytes, reader, piece, out);
+        p = step(
+            p,
+            kept,
+            files,
+            logs,
+            marks,
+            undo,
+            line,
+            numbers,
+            bytes,
+            reader,
+            piece,
+            out,
+        );
     }
     p
 }
@@ -428,5 +494,17 @@ pub fn last_line(
     if !lines::is_line(part(line, 0, n)) {
         return p;
     }
-    take_line(p, kept, files, logs, marks, undo, part(line, 0, n), numbers, bytes, reader, out)
+    take_line(
+        p,
+        kept,
+        files,
+        logs,
+        marks,
+        undo,
+        part(line, 0, n),
+        numbers,
+        bytes,
+        reader,
+        out,
+    )
 }

@@ -61,7 +61,20 @@ fn take_piece(
 {
     p.at = 0;
     while p.at < piece.len() {
-        let q = replay_piece(p, kept, files, logs, marks, undo, line, numbers, bytes, reader, piece, out);
+        let q = replay_piece(
+            p,
+            kept,
+            files,
+            logs,
+            marks,
+            undo,
+            line,
+            numbers,
+            bytes,
+            reader,
+            piece,
+            out,
+        );
         p = flush(q, out);
         if !p.goes {
             return p;
@@ -92,10 +105,35 @@ fn turn(
     let got = stdio::read_piece(input);
     if got > 0 {
         let n = io::count(got, input);
-        return take_piece(p, kept, files, logs, marks, undo, line, numbers, bytes, reader, &input[..n], out);
+        return take_piece(
+            p,
+            kept,
+            files,
+            logs,
+            marks,
+            undo,
+            line,
+            numbers,
+            bytes,
+            reader,
+            &input[..n],
+            out,
+        );
     }
     if got == 0 {
-        let q = last_line(p, kept, files, logs, marks, undo, line, numbers, bytes, reader, out);
+        let q = last_line(
+            p,
+            kept,
+            files,
+            logs,
+            marks,
+            undo,
+            line,
+            numbers,
+            bytes,
+            reader,
+            out,
+        );
         p = flush(q, out);
         p.goes = false;
         return p;
@@ -162,7 +200,20 @@ fn run(
     };
     let mut turns = u64::MAX;
     while 0 < turns {
-        p = turn(p, kept, files, logs, marks, undo, line, numbers, bytes, reader, input, out);
+        p = turn(
+            p,
+            kept,
+            files,
+            logs,
+            marks,
+            undo,
+            line,
+            numbers,
+            bytes,
+            reader,
+            input,
+            out,
+        );
         turns = turns_left(turns, p.goes);
     }
     tell(p);
@@ -175,14 +226,27 @@ fn start(kept: &mut Record, files: &mut Buffer, logs: &Buffer, marks: &mut Buffe
 }
 
 // Makes the store fresh, or reads the block that the argument names: whether there is a store.
-fn prepare(kept: &mut Record, files: &mut Buffer, logs: &mut Buffer, marks: &mut Buffer, undo: &mut Undo) -> bool {
+fn prepare(
+    kept: &mut Record,
+    files: &mut Buffer,
+    logs: &mut Buffer,
+    marks: &mut Buffer,
+    undo: &mut Undo,
+) -> bool {
     if os::arg_count() < 2 {
         start(kept, files, logs, marks, undo);
         return true;
     }
     let mut path = io::buffer();
     let n = os::arg(1, &mut path);
-    blocks::load(part(&path, 0, numbers::smaller(n, 4096)), kept, files, logs, marks, undo)
+    blocks::load(
+        part(&path, 0, numbers::smaller(n, 4096)),
+        kept,
+        files,
+        logs,
+        marks,
+        undo,
+    )
 }
 
 // Replays the log, and with more than one argument only says how it is used.

@@ -121,7 +121,10 @@ pub fn say_malformed(count: u64, first: u64) {
 // Says how many answers differed from those in the log, and where the first stood.
 pub fn say_differing(count: u64, first: u64) {
     say_number(b"replay: ", count);
-    say_number(b" answers differ from those in the log, the first at line ", first);
+    say_number(
+        b" answers differ from those in the log, the first at line ",
+        first,
+    );
     say(b"\n");
 }
 
@@ -140,6 +143,8 @@ pub fn say_no_block(path: &[u8]) {
 // Says how the program is used.
 pub fn say_use() {
     say(b"replay [BLOCK] <log >answers\n");
-    say(b"It performs the calls of a log, a line each, on a fresh store or on a saved block, and prints a line for each.\n");
+    say(
+        b"It performs the calls of a log, a line each, on a fresh store or on a saved block, and prints a line for each.\n",
+    );
     say(b"docs/CALLLOG.md has the lines.\n");
 }

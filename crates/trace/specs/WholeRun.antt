@@ -1,5 +1,6 @@
 -- A whole run. Paper 02, F-5: "A program reads standard input over a fresh store, descriptor d in file d mod 8." What the operating system
--- reads and writes is outside: pieces of input come in, texts go out.
+-- reads and writes is outside: pieces of input come in, texts are handed over to be written. The theorem binds what the functions hand over;
+-- whether `written` writes it no contract says, and one that writes nothing would keep every contract.
 use mathlib.Core.List.{List, [], _∷_, _++_}
 use mathlib.Core.Path.{_≡_}
 use lib.ListN.{getD}
@@ -52,7 +53,7 @@ unfoldable pub outputOf : List Leg → List ℕ
 outputOf [] = []
 outputOf (x ∷ xs) = joined (x .texts) ++ outputOf xs
 
--- Proved in proofs/WholeRun.antt: on the store that `start` promises, what is put out is the text of the lines of the input, however it
+-- Proved in proofs/WholeRun.antt: on the store that `start` promises, what is handed over to be written is the text of the lines of the input, however it
 -- was cut; on the store, and on 01's plain machine (demand 3).
 pub record Whole (m : Machine) (reader : List ℕ) (legs : List Leg) (last : List ℕ) : Type 0 where
   pub onStore : outputOf legs ++ last ≡ transcript storeAnswers (linesOf (inputOf legs)) (record { machine = m; reader = reader })

@@ -30,7 +30,8 @@ ghost use Rattle.trace.specs.Bounds.{Resting, Room};
 // The bytes that are held of a line: one more than it may have.
 const KEPT: usize = 129;
 
-// Writes what waits, and counts its lines. A write that fails is said, and ends the run.
+// Writes what waits, and counts its lines. A write that fails is said, and ends the run. No contract can say what is
+// written: the theorem of a whole run binds what is handed over here.
 fn written(mut c: Course, out: &[u8]) -> Course
     requires { ⌜ c .waiting ≤ length (now out) ⌝ }
     ensures { λ r. ⌜ (r .waiting ≡ 0) × ((r .held ≡ c .held) × (r .at ≡ c .at)) ⌝ }

@@ -133,6 +133,12 @@ impl Generator {
         Generator { x: SEED, made: 0, open: [false; 8], sought: [false; 8] }
     }
 
+    /// Another stream for each seed. It begins with the phase, and so in the mode, that the seed picks.
+    pub fn seeded(seed: u64) -> Generator {
+        let spread = seed % 2147483647 * 69621;
+        Generator { x: 1 + spread % 2147483646, made: PHASE * (seed % (8 * MODES)), ..Generator::new() }
+    }
+
     pub fn next_call(&mut self) -> Request {
         let mut r = [0; DRAWS];
         for draw in &mut r {

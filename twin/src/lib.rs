@@ -2,14 +2,19 @@
 //! buffers, the plain machine of demand 3, a generator of calls, and the means to run the two side by side.
 
 pub mod best;
+pub mod block;
 pub mod call;
+pub mod calllog;
 pub mod digest;
 pub mod dispatch;
 pub mod forge;
 pub mod generator;
+pub mod logs;
 pub mod marks;
 pub mod pair;
 pub mod plain;
+pub mod recorder;
+pub mod replay;
 pub mod request;
 pub mod scripts;
 pub mod split;
@@ -22,5 +27,7 @@ pub mod vectors;
 
 #[cfg(test)]
 mod corners;
+#[cfg(test)]
+mod logged;
 #[cfg(test)]
 mod situations;

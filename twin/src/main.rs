@@ -4,13 +4,18 @@
 //! each outcome was met instead. A disagreement ends the program with a panic that names the call. `twin --vectors FILE..`
 //! makes the calls of lists instead (see vectors.rs), and says of each file whether all replies agree. `twin --trace` makes
 //! the calls of a trace that it reads from standard input (see trace.rs); `twin --make-trace SEED N` prints one of N lines.
+//! `twin --replay [BLOCK]` replays a call log from standard input (see replay.rs) on a fresh store, or on that of a saved block;
+//! `twin --make-log SEED N` prints one of N calls, `twin --make-lines SEED N` prints N lines that are nearly right.
 
-use std::io::{self, Write};
+use std::io::{self, BufRead, Write};
 use std::process::ExitCode;
 
+use twin::block;
 use twin::digest::{self, Digest};
 use twin::generator::Generator;
+use twin::logs;
 use twin::pair::Pair;
+use twin::replay;
 use twin::tally::Tally;
 use twin::trace;
 use twin::traces;
@@ -20,14 +25,31 @@ const CALLS: u64 = 300_000;
 const LINE_EVERY: u64 = 1000;
 const SIGHTINGS_EVERY: u64 = 100;
 
-struct Options {
-    stats: bool,
-    trace: bool,
-    /// The seed of a trace to print.
-    made_trace: Option<u64>,
-    calls: u64,
-    /// Files of lists to run instead of the stream.
-    vectors: Option<Vec<String>>,
+const USAGE: &str = "usage: twin [--stats] [N] | twin --vectors FILE.. | twin --trace | twin --make-trace SEED N
+       twin --replay [BLOCK] | twin --make-log SEED N | twin --make-lines SEED N";
+
+/// What the program is asked for.
+enum Task {
+    Stream {
+        stats: bool,
+        calls: u64,
+    },
+    Vectors(Vec<String>),
+    Trace,
+    MakeTrace {
+        seed: u64,
+        lines: u64,
+    },
+    /// The replay of a call log, from a saved block where a file is named.
+    Replay(Option<String>),
+    MakeLog {
+        seed: u64,
+        calls: u64,
+    },
+    MakeLines {
+        seed: u64,
+        lines: u64,
+    },
 }
 
 /// Says at which call it was that the program panicked.
@@ -42,17 +64,12 @@ impl Drop for CallNumber {
 }
 
 fn main() -> ExitCode {
-    let Some(options) = options() else {
-        eprintln!("usage: twin [--stats] [N] | twin --vectors FILE.. | twin --trace | twin --make-trace SEED N");
+    let arguments: Vec<String> = std::env::args().skip(1).collect();
+    let Some(task) = task(&arguments) else {
+        eprintln!("{USAGE}");
         return ExitCode::from(2);
     };
-    let ended = match &options.vectors {
-        Some(files) => run_vectors(files),
-        None if options.trace => run_trace().map(|()| true),
-        None if options.made_trace.is_some() => make_trace(&options).map(|()| true),
-        None => run(&options).map(|()| true),
-    };
-    match ended {
+    match perform(task) {
         Ok(true) => ExitCode::SUCCESS,
         Ok(false) => ExitCode::FAILURE,
         Err(error) => {
@@ -62,55 +79,78 @@ fn main() -> ExitCode {
     }
 }
 
-fn options() -> Option<Options> {
-    let mut options = Options { stats: false, trace: false, made_trace: None, calls: CALLS, vectors: None };
-    let mut arguments = std::env::args().skip(1);
-    while let Some(argument) = arguments.next() {
-        match argument.as_str() {
-            "--stats" => options.stats = true,
-            "--trace" => options.trace = true,
-            "--make-trace" => options.made_trace = Some(arguments.next()?.parse().ok()?),
-            "--vectors" => options.vectors = Some(arguments.by_ref().collect()),
-            calls => options.calls = calls.parse().ok()?,
-        }
-    }
-    let no_file = options.vectors.as_ref().is_some_and(|files| files.is_empty());
-    (!no_file).then_some(options)
+fn task(arguments: &[String]) -> Option<Task> {
+    let words: Vec<&str> = arguments.iter().map(String::as_str).collect();
+    Some(match words[..] {
+        [] => Task::Stream { stats: false, calls: CALLS },
+        ["--stats"] => Task::Stream { stats: true, calls: CALLS },
+        ["--stats", calls] => Task::Stream { stats: true, calls: calls.parse().ok()? },
+        ["--vectors", _, ..] => Task::Vectors(arguments[1..].to_vec()),
+        ["--trace"] => Task::Trace,
+        ["--make-trace", seed, lines] => Task::MakeTrace { seed: seed.parse().ok()?, lines: lines.parse().ok()? },
+        ["--replay"] => Task::Replay(None),
+        ["--replay", block] => Task::Replay(Some(block.to_string())),
+        ["--make-log", seed, calls] => Task::MakeLog { seed: seed.parse().ok()?, calls: calls.parse().ok()? },
+        ["--make-lines", seed, lines] => Task::MakeLines { seed: seed.parse().ok()?, lines: lines.parse().ok()? },
+        [calls] => Task::Stream { stats: false, calls: calls.parse().ok()? },
+        _ => return None,
+    })
+}
+
+/// Is all well?
+fn perform(task: Task) -> io::Result<bool> {
+    // Some tens of kilobytes are read and written at a time.
+    let mut input = io::BufReader::with_capacity(1 << 16, io::stdin().lock());
+    let mut out = io::BufWriter::with_capacity(1 << 16, io::stdout().lock());
+    match task {
+        Task::Stream { stats, calls } => run(&mut out, stats, calls),
+        Task::Vectors(files) => return run_vectors(&mut out, &files),
+        Task::Trace => trace::run(&mut input, &mut out),
+        Task::MakeTrace { seed, lines } => traces::write(&mut out, seed, lines),
+        Task::Replay(block) => return run_replay(&mut input, &mut out, block),
+        Task::MakeLog { seed, calls } => logs::write(&mut out, seed, calls).map(|_| ()),
+        Task::MakeLines { seed, lines } => logs::write_lines(&mut out, seed, lines),
+    }?;
+    Ok(true)
 }
 
 /// Says of each file how many lists it has and where they disagree. Do all agree?
-fn run_vectors(files: &[String]) -> io::Result<bool> {
+fn run_vectors(out: &mut impl Write, files: &[String]) -> io::Result<bool> {
     let mut agree = true;
     for file in files {
         let report = vectors::run(&std::fs::read_to_string(file)?);
         let good = report.lists - report.disagreements.len();
-        println!("{file}: {} calls, {good} of {} lists agree", report.calls, report.lists);
+        writeln!(out, "{file}: {} calls, {good} of {} lists agree", report.calls, report.lists)?;
         for disagreement in &report.disagreements {
-            println!("  {disagreement}");
+            writeln!(out, "  {disagreement}")?;
         }
         agree = agree && report.disagreements.is_empty();
     }
+    out.flush()?;
     Ok(agree)
 }
 
-/// Reads and writes some tens of kilobytes at a time.
-fn run_trace() -> io::Result<()> {
-    let mut input = io::BufReader::with_capacity(1 << 16, io::stdin().lock());
-    let mut out = io::BufWriter::with_capacity(1 << 16, io::stdout().lock());
-    trace::run(&mut input, &mut out)
+/// Does every answer in the log agree, and is its version known?
+fn run_replay(input: &mut impl BufRead, out: &mut impl Write, block: Option<String>) -> io::Result<bool> {
+    let state = match block {
+        None => replay::fresh(),
+        Some(file) => {
+            let block = std::fs::read(&file)?;
+            let other = || io::Error::other(format!("{file} has another length than a block, 107,046 bytes"));
+            block::decode(&block).ok_or_else(other)?
+        }
+    };
+    let report = replay::run(state, input, out)?.report;
+    report.write("twin", &mut io::stderr().lock())?;
+    Ok(report.differences.count == 0 && report.unknown_version.is_none())
 }
 
-fn make_trace(options: &Options) -> io::Result<()> {
-    let mut out = io::BufWriter::with_capacity(1 << 16, io::stdout().lock());
-    traces::write(&mut out, options.made_trace.unwrap_or_default(), options.calls)
-}
-
-fn run(options: &Options) -> io::Result<()> {
-    let mut out = io::stdout().lock();
+/// Makes calls on both sides, and prints a line after every thousand, or in the end how often each outcome was met.
+fn run(out: &mut impl Write, stats: bool, calls: u64) -> io::Result<()> {
     let mut generator = Generator::new();
     let mut pair = Pair::new();
     let mut answers = Digest::default();
-    for made in 1..=options.calls {
+    for made in 1..=calls {
         let _number = CallNumber(made);
         let request = generator.next_call();
         let reply = pair.call(&request.call(), Some(&request.damage));
@@ -121,15 +161,16 @@ fn run(options: &Options) -> io::Result<()> {
         }
         if made % LINE_EVERY == 0 {
             pair.check_serial_order();
-            if !options.stats {
-                write_line(&mut out, made, &pair, answers)?;
+            if !stats {
+                write_line(out, made, &pair, answers)?;
+                out.flush()?;
             }
         }
     }
     pair.check_at_rest();
-    if options.stats {
-        writeln!(out, "calls {}", options.calls)?;
-        pair.tally.write(&mut out)?;
+    if stats {
+        writeln!(out, "calls {calls}")?;
+        pair.tally.write(out)?;
         writeln!(out, "writes in two parts {}", pair.split.writes)?;
         writeln!(out, "two parts without room {}", pair.split.renewed)?;
     }

@@ -39,14 +39,14 @@ struct Trace {
 pub fn run(input: &mut impl BufRead, out: &mut impl Write) -> io::Result<()> {
     let mut trace = Trace::new();
     let mut line = Vec::with_capacity(LONGEST + 1);
-    while next_line(input, &mut line)? {
+    while next_line(input, &mut line, LONGEST)? {
         trace.answer(&line, out)?;
     }
     out.flush()
 }
 
-/// Takes the next line from the input, without its end, or its first `LONGEST` + 1 bytes. Is there one?
-fn next_line(input: &mut impl BufRead, line: &mut Vec<u8>) -> io::Result<bool> {
+/// Takes the next line from the input, without its end, or its first `longest` + 1 bytes. Is there one?
+pub fn next_line(input: &mut impl BufRead, line: &mut Vec<u8>, longest: usize) -> io::Result<bool> {
     line.clear();
     loop {
         let waiting = input.fill_buf()?;
@@ -55,7 +55,7 @@ fn next_line(input: &mut impl BufRead, line: &mut Vec<u8>) -> io::Result<bool> {
         }
         let end = waiting.iter().position(|&byte| byte == LINE_END);
         let part = &waiting[..end.unwrap_or(waiting.len())];
-        let room = LONGEST + 1 - line.len();
+        let room = longest + 1 - line.len();
         line.extend_from_slice(&part[..part.len().min(room)]);
         let taken = part.len() + usize::from(end.is_some());
         input.consume(taken);
@@ -63,6 +63,11 @@ fn next_line(input: &mut impl BufRead, line: &mut Vec<u8>) -> io::Result<bool> {
             return Ok(true);
         }
     }
+}
+
+/// Is it a line of a trace, which is not answered 17?
+pub fn accepts(line: &[u8]) -> bool {
+    parse(line).is_some()
 }
 
 /// The transaction and what is asked of it; none where the line has another form or is too long.

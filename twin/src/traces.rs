@@ -3,10 +3,14 @@
 use std::io::{self, Write};
 
 /// The recurrence of the stream of calls (generator.rs), from a seed.
-struct Draws(u64);
+pub struct Draws(u64);
 
 impl Draws {
-    fn below(&mut self, n: u64) -> u64 {
+    pub fn new(seed: u64) -> Draws {
+        Draws(1 + seed % 2147483646)
+    }
+
+    pub fn below(&mut self, n: u64) -> u64 {
         self.0 = 48271 * self.0 % 2147483647;
         self.0 % n
     }
@@ -17,7 +21,7 @@ type Open = [bool; 8];
 
 /// Writes a trace of so many lines. The last has no line end.
 pub fn write(out: &mut impl Write, seed: u64, lines: u64) -> io::Result<()> {
-    let mut draws = Draws(1 + seed % 2147483646);
+    let mut draws = Draws::new(seed);
     let mut open: Open = [false; 8];
     for made in 0..lines {
         if made > 0 {
@@ -95,7 +99,7 @@ fn size(draws: &mut Draws, most: u64) -> u64 {
 }
 
 /// Any byte but a line end.
-fn byte(draws: &mut Draws) -> u8 {
+pub fn byte(draws: &mut Draws) -> u8 {
     match draws.below(256) as u8 {
         10 => 13,
         byte => byte,
@@ -103,7 +107,7 @@ fn byte(draws: &mut Draws) -> u8 {
 }
 
 /// One small change, after which a line may have another form.
-fn spoil(draws: &mut Draws, line: &mut Vec<u8>) {
+pub fn spoil(draws: &mut Draws, line: &mut Vec<u8>) {
     let at = draws.below(line.len() as u64 + 1) as usize;
     match draws.below(8) {
         0 => line.insert(at, b' '),

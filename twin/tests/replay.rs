@@ -15,6 +15,8 @@ use twin::block;
 use twin::logs;
 use twin::replay;
 use twin::state::State;
+use twin::trace;
+use twin::traces;
 
 const LISTS: u64 = 10_000;
 /// Logs that the lists are put into, one after another.
@@ -124,6 +126,35 @@ fn nearly_right_lines() {
         logs::write_lines(&mut log, seed, RUN.min(lines - RUN * seed)).expect("memory is written");
         check(&format!("lines of seed {seed}"), &proved(&program, None, &log), &twins(replay::fresh(), &log));
     }
+}
+
+/// What F-5 accepts of a trace is answered as a trace.
+#[test]
+fn traces_are_logs() {
+    let Some(program) = program() else { return };
+    for seed in 0..20 {
+        let mut made = Vec::new();
+        traces::write(&mut made, seed, 20_000).expect("memory is written");
+        let accepted = made.split(|&byte| byte == b'\n').filter(|line| trace::accepts(line));
+        let log: Vec<u8> = accepted.flat_map(|line| [line, b"\n"].concat()).collect();
+        let mut answers = Vec::new();
+        trace::run(&mut &log[..], &mut answers).expect("memory is read and written");
+        let traced = Printed { answers, sentences: String::new() };
+        check(&format!("the trace of seed {seed}"), &proved(&program, None, &log), &traced);
+    }
+}
+
+/// What is stored of the program is the twin's, and every answer in its input agrees.
+#[test]
+fn the_stored_output() {
+    let folder = Path::new(env!("CARGO_MANIFEST_DIR")).join("../crates/replay");
+    let (Ok(log), Ok(answers)) = (fs::read(folder.join("stdin")), fs::read(folder.join("stdout"))) else {
+        let said = writeln!(io::stderr(), "skipped: there is no input and output in {}", folder.display());
+        return said.expect("standard error is written");
+    };
+    let twins = twins(replay::fresh(), &log);
+    check("the stored output", &Printed { answers, sentences: twins.sentences.clone() }, &twins);
+    assert!(!twins.sentences.contains("differ"), "{}", twins.sentences);
 }
 
 #[test]

@@ -56,6 +56,12 @@ fn a_replay_is_recorded_alike() {
     }
 }
 
+#[test]
+fn the_sample_agrees() {
+    let report = replayed(include_bytes!("../../samples/evening.log")).0.report;
+    assert!(report.is_silent(), "{report:?}");
+}
+
 /// The log that docs/CALLLOG.md begins with: the first indented lines, up to the column of the explanations.
 #[test]
 fn the_example_of_the_page() {

@@ -1,17 +1,25 @@
 // Scripts of store calls, run over a record and buffers that bench/ lends. A script is a list of steps of eight
-// octets: the kind of call, its transaction, its descriptor, an octet that is not looked at, and two numbers, low
-// octet first: how many octets (or the offset of a Seek), and where they start in `data`.
+// octets: the kind of call, its transaction, its descriptor (or file), an octet that is not looked at, and two numbers,
+// low octet first: how many octets (or the offset of a Seek, the minute of a Commit, the start of a window), and where
+// they start in `data` (or the end of a window).
+use dispatching::scripts::ScriptCall;
+use dispatching::scripts::Scripts;
 use octets::parts;
 use record::layout::Record;
+use record::layout::length_at;
+use record::layout::offset_at;
 use record::outcomes::Outcome;
 use requests::Request;
-ghost use Prim.Native.Nat.{_+_, _≤_};
+ghost use Prim.Native.Nat.{_+_, _<_, _≤_};
 ghost use lib.ListN.{length};
 
 const STEP: usize = 8;
 
-// The minute of every Commit.
+// The minute for which an order is asked, and at which scripts are dispatched.
 const MINUTE: usize = 0;
+
+// How many octets the line of a call takes at most.
+const LINE: usize = 8238;
 
 // One step, its numbers widened.
 struct Step {
@@ -56,7 +64,7 @@ fn named<'a>(data: &'a [u8], from: usize, n: usize) -> &'a [u8] {
     parts::part(data, from, n)
 }
 
-// The call of a step that is no Fresh. A kind above 8 is an Abort too.
+// The call of a step that is no Fresh. A kind above 10 is an Abort too.
 fn request(s: Step) -> Request {
     let kind = s.kind;
     match kind {
@@ -65,8 +73,10 @@ fn request(s: Step) -> Request {
         3 => Request::Write(s.t, s.d),
         4 => Request::GetFilePointer(s.t, s.d),
         5 => Request::Read(s.t, s.d, s.n),
-        6 => Request::Commit(s.t, MINUTE),
+        6 => Request::Commit(s.t, s.n),
         8 => Request::TakeBack,
+        9 => Request::Places(s.t, s.d),
+        10 => Request::SetWindow(s.d, s.n, s.from),
         _ => Request::Abort(s.t),
     }
 }
@@ -206,4 +216,132 @@ pub extern "C" fn bench_calls_order<'a>(
         sum = std::num::wrapping_add_u64(sum, answered(o));
     }
     sum
+}
+
+// Four more calls for script k, on descriptor k: Seek, Write of 16 octets, Seek, Read of them.
+fn with_task(scripts: Scripts, k: usize) -> Scripts {
+    let scripts = scripts.then(k, ScriptCall::Seek(k, 0));
+    let scripts = scripts.then(k, ScriptCall::Write(k, 0, 16));
+    let scripts = scripts.then(k, ScriptCall::Seek(k, 0));
+    scripts.then(k, ScriptCall::Read(k, 16))
+}
+
+// Eight scripts of four calls.
+fn tasks() -> Scripts {
+    let mut scripts = Scripts::new(8);
+    let mut k = 0;
+    while k < 8 {
+        scripts = with_task(scripts, k);
+        k += 1;
+    }
+    scripts
+}
+
+// Has eight scripts of four calls dispatched so many times. Answers the sum of the Commits made.
+#[no_mangle]
+pub extern "C" fn bench_calls_dispatch(
+    kept: &mut Record,
+    files: &mut [u8],
+    logs: &mut [u8],
+    marks: &mut [u8],
+    undo: &mut [u8],
+    data: &[u8],
+    reader: &mut [u8],
+    rounds: usize,
+) -> u64 {
+    let scripts = tasks();
+    let mut sum = 0;
+    let mut i = 0;
+    while i < rounds {
+        i += 1;
+        let d = dispatching::dispatch(
+            kept,
+            files,
+            logs,
+            marks,
+            undo,
+            scripts,
+            data,
+            reader,
+            MINUTE,
+        );
+        sum = std::num::wrapping_add_u64(sum, d.commits as u64);
+    }
+    sum
+}
+
+// Puts the line that a call log has for the call of a step to the front of `out`, and answers its length.
+fn put_line(out: &mut [u8], s: Step, data: &[u8], room: usize) -> usize
+    requires { ⌜ 8238 ≤ length (now out) ⌝ }
+{
+    let bytes = named(data, s.from, s.n);
+    if s.kind == 0 {
+        return calllog::put_fresh(out, bytes);
+    }
+    calllog::put_call(out, request(s), bytes, room)
+}
+
+// Puts the line of each step of the script to the front of `out`, one over the other, and answers the sum of their
+// lengths, modulo 2 to the power 64.
+fn put_lines(script: &[u8], data: &[u8], out: &mut [u8], room: usize) -> u64
+    requires { ⌜ 8238 ≤ length (now out) ⌝ }
+{
+    let mut sum = 0;
+    let mut start = 0;
+    while STEP <= script.len() - start {
+        let s = step_at(script, start);
+        start += STEP;
+        let n = put_line(out, s, data, room);
+        sum = std::num::wrapping_add_u64(sum, n as u64);
+    }
+    sum
+}
+
+// Puts the lines of the script's calls so many rounds, for a reader's buffer of `room` octets. Answers the sum of their
+// lengths, or 0 where `out` is shorter than a line may be.
+#[no_mangle]
+pub extern "C" fn bench_calls_lines(
+    script: &[u8],
+    data: &[u8],
+    out: &mut [u8],
+    room: usize,
+    rounds: usize,
+) -> u64 {
+    if out.len() < LINE {
+        return 0;
+    }
+    let mut sum = 0;
+    let mut i = 0;
+    while i < rounds {
+        i += 1;
+        sum = std::num::wrapping_add_u64(sum, put_lines(script, data, out, room));
+    }
+    sum
+}
+
+// The offset of descriptor i or, from 16 on, the length of file i - 16.
+fn committed_at(kept: &Record, i: usize) -> u16
+    requires { ⌜ i < 24 ⌝ }
+{
+    if i < 16 {
+        return offset_at(kept, i);
+    }
+    length_at(kept, i - 16)
+}
+
+// Puts n at i, if there is room.
+fn note_number(out: &mut [u16], i: usize, n: u16) {
+    if i < out.len() {
+        out[i] = n;
+    }
+}
+
+// Puts the sixteen committed offsets and behind them the eight lengths, as far as `out` has room.
+#[no_mangle]
+pub extern "C" fn bench_calls_committed(kept: &Record, out: &mut [u16]) {
+    let mut i = 0;
+    while i < 24 {
+        note_number(out, i, committed_at(kept, i));
+        i += 1;
+    }
 }

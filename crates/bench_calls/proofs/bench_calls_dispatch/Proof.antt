@@ -1,0 +1,36 @@
+-- `bench_calls_dispatch` meets its contract. The loop goes over the rounds.
+use lib.ListN.{length}
+use Prim.Native.Nat.{_-_, _≤_}
+use mathlib.Core.Path.{_≡_}
+use borrow.Author.Needs.{needs}
+use Rattle.bench_calls.proofs.bench_calls_dispatch.Statement.{statement}
+use Rattle.bench_calls.proofs.bench_calls_dispatch.Tie as tie
+
+abbrev Inv-loop : tie.InvT-loop
+Inv-loop kept₀ files₀ logs₀ marks₀ undo₀ «data» reader₀ rounds scripts sum₀ i₀ kept files logs marks undo reader sum i =
+    (i ≤ rounds) × (length files ≡ length files₀) × (length logs ≡ length logs₀) × (length marks ≡ length marks₀)
+    × (length undo ≡ length undo₀) × (length reader ≡ length reader₀)
+
+abbrev μ-loop : tie.MeasureT-loop
+μ-loop kept₀ files₀ logs₀ marks₀ undo₀ «data» reader₀ rounds scripts sum₀ i₀ kept files logs marks undo reader sum i =
+    rounds - i
+
+pub bench-calls-dispatch-spec : {M : Type 1} → statement M
+bench-calls-dispatch-spec =
+    tie.close
+    (tie.spec
+    Inv-loop
+    μ-loop
+    (λ c κs. search needs)
+    (λ c. search needs)
+    (λ c. search needs)
+    (λ c κs. search needs)
+    (λ c κs. search needs)
+    (λ c. search needs)
+    (λ c. search needs)
+    (λ c. search needs)
+    (λ c. search needs)
+    (λ c. search needs)
+    (λ c. search needs)
+    (λ c. search needs)
+    (λ c. search needs))

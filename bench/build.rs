@@ -1,9 +1,16 @@
-//! Links the archive that `rt staticlib bench_calls` writes.
+//! Links the archive that `rt staticlib bench_calls` writes, and the store by hand in C, compiled by gcc.
+
+use std::path::Path;
+use std::process::Command;
 
 fn main() {
-    let archives =
-        std::path::Path::new("../target/staticlib").canonicalize().expect("rt staticlib bench_calls comes first");
+    let archives = Path::new("../target/staticlib").canonicalize().expect("rt staticlib bench_calls comes first");
     println!("cargo:rustc-link-search=native={}", archives.display());
     println!("cargo:rustc-link-lib=static=bench_calls");
     println!("cargo:rerun-if-changed={}", archives.join("libbench_calls.a").display());
+    let object = Path::new(&std::env::var("OUT_DIR").expect("cargo sets it")).join("store.o");
+    let gcc = Command::new("gcc").args(["-O3", "-Wall", "-Wextra", "-c", "c/store.c", "-o"]).arg(&object).status();
+    assert!(gcc.is_ok_and(|status| status.success()), "gcc compiles c/store.c");
+    println!("cargo:rustc-link-arg={}", object.display());
+    println!("cargo:rerun-if-changed=c/store.c");
 }

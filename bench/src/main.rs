@@ -1,16 +1,23 @@
-//! One table: the proved store against the imperative twin, memcpy, and other stores on a day on air; its cost by age; and the
-//! program `trace` beside the twin's.
+//! Tables in markdown: the proved store against the imperative twin, the same store by hand in C, memcpy, and other stores on a day on
+//! air; its cost by age; the program `trace` beside the twin's; and every target with what was seen. The status is 0 where all are met.
 //!
 //!     bench            the full measurement, some minutes
 //!     bench --short    a trial of everything, some seconds: its figures mean little
-//!     bench --only WHICH ROUNDS CASE R     one case alone, for a profiler: WHICH is proved or twin, CASE counts from 0
+//!     bench --only WHICH ROUNDS CASE R     one case alone, for a profiler: WHICH is proved, twin or c, CASE counts from 0
 //!     bench --day WHICH DAYS               days on air alone, for a profiler
+//!     bench --agree SCRIPTS                the comparison of the three stores alone
 
+mod agree;
+mod air;
 mod calls;
 mod day;
+mod ffi;
 #[cfg(feature = "lmdb")]
 mod lmdb;
 mod peers;
+mod placed;
+mod plain;
+mod report;
 #[cfg(feature = "rocksdb")]
 mod rocksdb;
 mod script;
@@ -19,24 +26,27 @@ mod sqlite;
 mod stores;
 mod traces;
 
-use day::Tally;
-use peers::{Order, Peer};
+use calls::{Case, Cost};
+use report::{compared, grouped, head, row, Report};
 use script::Script;
-use std::time::Instant;
-use stores::{Buffers, Which, GRANTED, STALE};
+use std::process::{Command, ExitCode};
+use stores::{Stored, Which};
 
 /// How long to measure.
 pub struct Effort {
+    /// How many random scripts are compared before.
+    scripts: usize,
     /// How often everything is run; the least time counts.
     pub sweeps: usize,
     pub nanoseconds: f64,
-    ticks: usize,
-    day_nanoseconds: f64,
+    pub ticks: usize,
+    pub day_nanoseconds: f64,
     rounds_by_age: usize,
     trace_lines: u64,
 }
 
 const FULL: Effort = Effort {
+    scripts: 200,
     sweeps: 40,
     nanoseconds: 2e6,
     ticks: 60_000,
@@ -45,6 +55,7 @@ const FULL: Effort = Effort {
     trace_lines: 1_000_000,
 };
 const SHORT: Effort = Effort {
+    scripts: 10,
     sweeps: 3,
     nanoseconds: 3e5,
     ticks: 6_000,
@@ -53,176 +64,86 @@ const SHORT: Effort = Effort {
     trace_lines: 100_000,
 };
 
-fn row(figure: &str, proved: &str, compared: &str, ratio: f64, target: &str, met: Option<bool>) {
-    let met = met.map_or("", |met| if met { "yes" } else { "NO" });
-    println!("| {figure} | {proved} | {compared} | {ratio:.2} | {target} | {met} |");
-}
-
 fn nanoseconds(number: f64) -> String {
-    format!("{number:.0} ns")
+    format!("{} ns", grouped(number))
 }
 
-/// The calls, then Read and Write of 4,096 bytes against memcpy.
-fn table_of_calls(effort: &Effort) {
-    let counts = [0, 8, 64];
-    let mut cases: Vec<calls::Case> = counts.into_iter().flat_map(calls::cases).collect();
-    let each = cases.len() / counts.len();
+fn median(mut numbers: Vec<f64>) -> f64 {
+    numbers.sort_by(f64::total_cmp);
+    (numbers[(numbers.len() - 1) / 2] + numbers[numbers.len() / 2]) / 2.0
+}
+
+const COUNTS: [usize; 3] = [0, 8, 64];
+
+/// The calls, and the calls that are seldom, dear or refused.
+fn table_of_calls(effort: &Effort, report: &mut Report) {
+    let common: Vec<Case> = COUNTS.into_iter().flat_map(calls::cases).collect();
+    let count = common.len();
+    let mut cases = common;
+    cases.extend(calls::seeks());
+    cases.extend(COUNTS.into_iter().flat_map(calls::held));
+    cases.extend(calls::places());
+    cases.extend(calls::hours());
+    cases.extend(calls::refused());
+    cases.extend(calls::worst());
+    let rows = cases.len();
     cases.extend(calls::sized(4096));
     cases.extend(calls::sized(0));
-    cases.extend(counts.into_iter().flat_map(calls::held));
     let costs = calls::measure(&cases, effort);
-    let (of_calls, sized) = costs.split_at(each * counts.len());
-    for (i, (case, cost)) in cases.iter().zip(of_calls).enumerate() {
-        let ratio = cost.proved / cost.twin;
-        let figure = format!("{}; 8 open, {} records each", case.name, counts[i / each]);
-        let twin = format!("twin {}", nanoseconds(cost.twin));
-        row(&figure, &nanoseconds(cost.proved), &twin, ratio, "≤ 1.3", Some(ratio <= 1.3));
+    let columns = ["Call", "Beside", "Proved store", "Twin", "Of the twin's", "By hand in C", "Of C's"];
+    head(&format!("Calls: the {count} rows of the median"), &columns);
+    for (i, (case, cost)) in cases.iter().zip(&costs[..rows]).enumerate() {
+        if i == count {
+            head("Calls that are seldom, dear or refused", &columns);
+        }
+        row_of_call(case, cost);
     }
-    let mut ratios: Vec<f64> = of_calls.iter().map(|cost| cost.proved / cost.twin).collect();
-    ratios.sort_by(f64::total_cmp);
-    let median = (ratios[(ratios.len() - 1) / 2] + ratios[ratios.len() / 2]) / 2.0;
-    row("The median of these", "", "", median, "≤ 0.95", Some(median <= 0.95));
-    for (i, (case, cost)) in cases.iter().zip(&costs).skip(of_calls.len() + 4).enumerate() {
-        let figure = format!("{}; {} records held", case.name, counts[i / 2]);
-        let twin = format!("twin {}", nanoseconds(cost.twin));
-        row(&figure, &nanoseconds(cost.proved), &twin, cost.proved / cost.twin, "", None);
-    }
+    let ratios = |costs: &[Cost]| -> Vec<f64> { costs.iter().map(|cost| cost.proved / cost.twin).collect() };
+    let worst = ratios(&costs[..rows]).into_iter().fold(0.0, f64::max);
+    report.at_most(&format!("each of {rows} rows beside the twin"), worst, 0.95);
+    report.at_most(&format!("the median of the first {count} rows beside the twin"), median(ratios(&costs[..count])), 0.7);
+    table_of_copies(&costs[rows..], effort, report);
+}
+
+fn row_of_call(case: &Case, cost: &Cost) {
+    let ratio = |other: f64| format!("{:.2}", cost.proved / other);
+    let [proved, twin, c] = [cost.proved, cost.twin, cost.c].map(nanoseconds);
+    row(&[&case.name, &case.beside, &proved, &twin, &ratio(cost.twin), &c, &ratio(cost.c)]);
+}
+
+/// Read and Write of 4,096 bytes against memcpy and the same call with 0 bytes.
+fn table_of_copies(sized: &[Cost], effort: &Effort, report: &mut Report) {
+    head("Copies", &["Figure", "Store", "Compared with", "Ratio"]);
     let memcpy = calls::memcpy(4096, effort);
     for (i, name) in ["Read", "Write"].into_iter().enumerate() {
         let (whole, fixed) = (sized[i], sized[i + 2]);
-        for (whose, whole, fixed) in [("", whole.proved, fixed.proved), (", the twin's", whole.twin, fixed.twin)] {
+        let stores = [("proved", whole.proved, fixed.proved), ("twin", whole.twin, fixed.twin), ("C", whole.c, fixed.c)];
+        for (whose, whole, fixed) in stores {
             let ratio = whole / (memcpy + fixed);
-            let figure = format!("{name} of 4,096 bytes{whose}; 8 open, 0 records each");
-            let compared = format!("memcpy {memcpy:.0} ns + {name} of 0 bytes {fixed:.0} ns");
-            let met = whose.is_empty().then_some(ratio <= 1.5);
-            row(&figure, &nanoseconds(whole), &compared, ratio, if whose.is_empty() { "≤ 1.5" } else { "" }, met);
+            let figure = format!("{name} of 4,096 bytes, {whose}; 8 open, 0 records each");
+            let other = format!("memcpy {} + {name} of 0 bytes {}", nanoseconds(memcpy), nanoseconds(fixed));
+            compared(&figure, &nanoseconds(whole), &other, ratio);
+            if whose == "proved" {
+                report.at_most(&format!("{name} of 4,096 bytes beside memcpy and {name} of 0 bytes"), ratio, 1.5);
+            }
         }
     }
 }
 
-fn table_of_orders(effort: &Effort) {
-    let cost = calls::all_orders(effort);
-    let said = |milliseconds: f64| format!("{milliseconds:.1} ms");
-    let twin = format!("twin, each order committed on copies, {}", said(cost.twin));
-    row("The best of all 40,320 orders of eight", &said(cost.proved), &twin, cost.proved / cost.twin, "", None);
-}
-
-/// Commits a second and the tally of a day.
-struct Aired {
-    name: String,
-    rate: f64,
-    tally: Tally,
-}
-
-impl Aired {
-    fn say(&self) -> String {
-        let Tally { granted, refused, granted_by_machine } = self.tally;
-        format!("{:.0}/s ({granted} granted, {refused} refused, {granted_by_machine} of these granted by the plain machine)", self.rate)
-    }
-}
-
-/// A store or a peer on air: `days(n)` runs n days and answers the nanoseconds.
-struct OnAir<'a> {
-    name: String,
-    tally: Tally,
-    count: usize,
-    least: f64,
-    days: Box<dyn FnMut(usize) -> f64 + 'a>,
-}
-
-impl<'a> OnAir<'a> {
-    fn new(name: String, tally: Tally, effort: &Effort, mut days: impl FnMut(usize) -> f64 + 'a) -> OnAir<'a> {
-        let mut count = 1;
-        while days(count) < effort.day_nanoseconds {
-            count *= 2;
-        }
-        OnAir { name, tally, count, least: f64::MAX, days: Box::new(days) }
-    }
-
-    fn sweep(&mut self) {
-        self.least = self.least.min((self.days)(self.count));
-    }
-
-    fn aired(&self) -> Aired {
-        let rate = 1e9 * (self.tally.granted * self.count) as f64 / self.least;
-        Aired { name: self.name.clone(), rate, tally: self.tally }
-    }
-}
-
-fn air_store<'a>(which: Which, name: &str, day: &'a Script, machine: &[u8], effort: &Effort) -> OnAir<'a> {
-    let mut lent = Buffers::new(day.len());
-    lent.run(which, &Script::default(), day, 1);
-    assert!(lent.said == machine, "{name}: an outcome differs from the plain machine's");
-    let first = lent.said.clone();
-    let tally = day::tally(day, machine, |i| first[i] == GRANTED);
-    let stale = first.iter().filter(|&&code| code == STALE).count();
-    assert_eq!(stale, tally.refused, "{name}: every refused Commit is a stale one");
-    OnAir::new(name.to_string(), tally, effort, move |days| {
-        let spent = lent.run(which, &Script::default(), day, days);
-        assert!(lent.said == first, "a later day differs from the first");
-        spent
-    })
-}
-
-#[allow(dead_code)]
-fn air_peer<'a, P: Peer + 'a>(
-    mut peer: P,
-    name: &str,
-    order: Order,
-    day: &Script,
-    machine: &[u8],
-    effort: &Effort,
-) -> OnAir<'a> {
-    let steps = peers::steps(day);
-    let data = Buffers::new(0).data;
-    let mut granted = vec![false; steps.len()];
-    peers::run(&mut peer, &steps, order, &data, &mut granted);
-    let tally = day::tally(day, machine, |i| granted[i]);
-    let how = if order == Order::Serial { "one after another" } else { "interleaved" };
-    OnAir::new(format!("{name}, {how}"), tally, effort, move |days| {
-        let start = Instant::now();
-        for _ in 0..days {
-            peers::run(&mut peer, &steps, order, &data, &mut granted);
-        }
-        start.elapsed().as_nanos() as f64
-    })
-}
-
-fn table_of_day(effort: &Effort) {
-    let day = day::day(effort.ticks);
-    let machine = day::machine_says(&day, &Buffers::new(0));
-    let mut all = vec![
-        air_store(Which::Proved, "proved store", &day, &machine, effort),
-        air_store(Which::Twin, "twin", &day, &machine, effort),
-    ];
-    #[allow(unused_variables)]
-    for order in [Order::Serial, Order::Interleaved] {
-        #[cfg(feature = "sqlite")]
-        all.push(air_peer(sqlite::Sqlite::new(order), "SQLite", order, &day, &machine, effort));
-        #[cfg(feature = "lmdb")]
-        all.push(air_peer(lmdb::Lmdb::new(), "LMDB", order, &day, &machine, effort));
-        #[cfg(feature = "rocksdb")]
-        all.push(air_peer(rocksdb::RocksDb::new(), "RocksDB", order, &day, &machine, effort));
-    }
-    for _ in 0..effort.sweeps.min(15) {
-        all.iter_mut().for_each(OnAir::sweep);
-    }
-    let aired: Vec<Aired> = all.iter().map(OnAir::aired).collect();
-    let (proved, twin, peers) = (&aired[0], &aired[1], &aired[2..]);
-    let said = |other: &Aired| format!("{} {}", other.name, other.say());
-    let day_of = format!("Day on air, {} commits in {} calls", day::commits(&day), day.len());
-    let ratio = proved.rate / twin.rate;
-    row(&day_of, &proved.say(), &said(twin), ratio, "≥ 1.25", Some(ratio >= 1.25));
-    for peer in peers {
-        let ratio = proved.rate / peer.rate;
-        let ahead = peer.name == "LMDB, one after another";
-        let (target, met) = if ahead { ("> 1", Some(ratio > 1.0)) } else { ("", None) };
-        row("Day on air", &format!("{:.0}/s", proved.rate), &said(peer), ratio, target, met);
-    }
-    let wrong = proved.tally.granted_by_machine;
-    let refused = format!("{wrong} of {} refused commits", proved.tally.refused);
-    let met = if wrong == 0 { "yes" } else { "NO" };
-    println!("| Day on air: refused, but granted by the plain machine | {refused} | | | 0 | {met} |");
+/// What is made of calls: the dispatcher and the best order.
+fn table_of_many(effort: &Effort, report: &mut Report) {
+    head("Dispatcher and best order", &["Figure", "Proved store", "Compared with", "Ratio"]);
+    let [proved, by_hand] = calls::dispatch(Which::Proved, effort);
+    let [twin, _] = calls::dispatch(Which::Twin, effort);
+    let figure = "Eight scripts of four calls by the dispatcher, a call";
+    compared(figure, &nanoseconds(proved), &format!("the same calls by hand {}", nanoseconds(by_hand)), proved / by_hand);
+    compared("", "", &format!("the twin's dispatcher {}", nanoseconds(twin)), proved / twin);
+    report.at_most("dispatcher beside the same calls by hand", proved / by_hand, 1.3);
+    let orders = calls::all_orders(Which::Proved, 4, effort.sweeps.min(10));
+    let twin = calls::all_orders(Which::Twin, 1, effort.sweeps.min(2));
+    let other = format!("twin, each order committed on copies, {twin:.1} ms");
+    compared("The best of all 40,320 orders of eight", &format!("{orders:.2} ms"), &other, orders / twin);
+    report.at_most("all 40,320 orders, milliseconds", orders, 3.3);
 }
 
 /// A thousand commits a round, the log rewound five times.
@@ -230,89 +151,104 @@ fn by_age(rounds: usize) -> Vec<i64> {
     let append = |s: Script| s.begin(0).write(0, 0, 16).commit(0);
     let stretch = |s: Script| append(s.begin(0).seek(0, 0, 0).write(0, 0, 16).commit(0)).times(198, append);
     let body = Script::default().times(5, stretch);
-    let mut lent = Buffers::new(body.len());
+    let mut stored = Stored::new(Which::Proved, body.len());
     let mut stamps = vec![0; rounds + 1];
-    lent.run_proved(&Script::default().fresh(), &body, rounds + 1, &mut stamps);
-    assert!(lent.said.iter().all(|&code| code < 10), "a commit was refused");
+    stored.pass(&Script::default().fresh().octets, 1);
+    stored.pass_stamped(&body.octets, rounds + 1, &mut stamps);
+    assert!(stored.lent.said.iter().all(|&code| code < 10), "a commit was refused");
     stamps
 }
 
-fn table_of_ages(effort: &Effort) {
+/// The quickest of some stretches counts: what else the machine does only adds to a stretch.
+fn table_of_ages(effort: &Effort, report: &mut Report) {
     let rounds = effort.rounds_by_age;
+    eprintln!("bench: {} commits on one store", grouped(1e3 * rounds as f64));
     let stamps = by_age(rounds);
-    let cost = |from: usize| (stamps[from + 100] - stamps[from]) as f64 * 1000.0 / 100_000.0;
-    let (first, last) = (cost(0), cost(rounds - 100));
-    let windows: Vec<f64> = (0..rounds / 100).map(|i| cost(100 * i)).collect();
-    let least = windows.iter().copied().fold(f64::MAX, f64::min);
-    let most = windows.iter().copied().fold(0.0, f64::max);
-    let figure = format!("Begin, Write of 16 bytes, Commit: the last 100,000 of {} commits", rounds * 1000);
-    let compared = format!("the first 100,000: {first:.0} ns (any 100,000: {least:.0} to {most:.0} ns)");
-    row(&figure, &nanoseconds(last), &compared, last / first, "flat (≤ 1.1)", Some(last <= 1.1 * first));
-    // The quickest of some stretches: what else the machine does only adds to a stretch.
-    let some = windows.len().div_ceil(10);
+    let stretch = |i: usize| (stamps[100 * i + 100] - stamps[100 * i]) as f64 * 1000.0 / 100_000.0;
+    let stretches: Vec<f64> = (0..rounds / 100).map(stretch).collect();
+    let some = stretches.len().div_ceil(10);
     let quickest = |part: &[f64]| part.iter().copied().fold(f64::MAX, f64::min);
-    let (first, last) = (quickest(&windows[..some]), quickest(&windows[windows.len() - some..]));
-    let figure = format!("The same: the quickest 100,000 of the last {some} stretches");
-    let compared = format!("the quickest of the first {some} stretches: {first:.0} ns");
-    row(&figure, &nanoseconds(last), &compared, last / first, "flat (≤ 1.1)", Some(last <= 1.1 * first));
+    let (first, last) = (quickest(&stretches[..some]), quickest(&stretches[stretches.len() - some..]));
+    let most = stretches.iter().copied().fold(0.0, f64::max);
+    head("Age", &["Figure", "Last", "First", "Ratio"]);
+    let figure = format!("Begin, Write, Commit: {} commits, the quickest 100,000 of a tenth", grouped(1e3 * rounds as f64));
+    let said = format!("{} (the slowest of all: {})", nanoseconds(first), nanoseconds(most));
+    compared(&figure, &nanoseconds(last), &said, last / first);
+    report.at_most("cost flat in age: the last tenth beside the first", last / first, 1.1);
 }
 
-fn table_of_traces(effort: &Effort) {
-    let lines = effort.trace_lines;
-    let rates = traces::measure(lines, effort.sweeps.min(15)).expect("both programs run, and target/ can be written");
+fn table_of_traces(effort: &Effort, report: &mut Report) {
+    let rates = traces::measure(effort.trace_lines, effort.sweeps.min(15)).expect("the programs run, and target/ can be written");
     let ratio = rates.proved / rates.twin;
-    let said = |rate: f64| format!("{rate:.0} lines/s");
-    let figure = format!("A trace of {lines} lines");
-    row(&figure, &said(rates.proved), &format!("twin {}", said(rates.twin)), ratio, "≥ 0.8", Some(ratio >= 0.8));
+    let said = |rate: f64| format!("{} lines/s", grouped(rate));
+    head("Traces", &["Figure", "Proved store", "Compared with", "Ratio"]);
+    let figure = format!("A trace of {} lines", grouped(effort.trace_lines as f64));
+    compared(&figure, &said(rates.proved), &format!("twin {}", said(rates.twin)), ratio);
+    report.at_least("lines a second of a trace beside the twin's", ratio, 0.8);
 }
 
-/// One case alone, for a profiler.
-fn only(words: &[String]) {
-    let which = if words[0] == "twin" { Which::Twin } else { Which::Proved };
-    let number = |i: usize| words[i].parse::<usize>().expect("a number");
-    let case = &calls::cases(number(3))[number(2)];
-    let spent = case.run(which, true, number(1));
-    println!("{}: {} rounds, {spent:.0} ns in all", case.name, number(1));
+/// The first line that a program prints about itself.
+fn version(words: &[&str]) -> String {
+    let output = Command::new(words[0]).args(&words[1..]).output();
+    let text = output.map(|output| String::from_utf8_lossy(&output.stdout).into_owned()).unwrap_or_default();
+    text.lines().next().unwrap_or("not here").to_string()
 }
 
-/// Days on air alone, for a profiler.
-fn days_only(words: &[String]) {
-    let which = if words[0] == "twin" { Which::Twin } else { Which::Proved };
-    let day = day::day(SHORT.ticks);
-    let days = words[1].parse().expect("a number");
-    let spent = Buffers::new(day.len()).run(which, &Script::default(), &day, days);
-    println!("{days} days of {} calls, {spent:.0} ns in all", day.len());
-}
-
-fn versions() {
-    #[cfg(feature = "sqlite")]
-    println!("SQLite {}.", sqlite::version());
-    #[cfg(feature = "lmdb")]
-    println!("LMDB {}.", lmdb::version());
+fn processor() -> String {
+    let text = std::fs::read_to_string("/proc/cpuinfo").unwrap_or_default();
+    let models: Vec<&str> = text.lines().filter(|line| line.starts_with("model name")).collect();
+    let model = models.first().and_then(|line| line.split(": ").nth(1)).unwrap_or("unknown");
+    format!("{model}, {} processors", models.len())
 }
 
 fn load() -> String {
     std::fs::read_to_string("/proc/loadavg").unwrap_or_default().split(' ').take(3).collect::<Vec<_>>().join(" ")
 }
 
-fn main() {
+fn peers_versions() -> String {
+    #[allow(unused_mut)]
+    let mut all: Vec<String> = Vec::new();
+    #[cfg(feature = "sqlite")]
+    all.push(format!("SQLite {}", sqlite::version()));
+    #[cfg(feature = "lmdb")]
+    all.push(format!("LMDB {}", lmdb::version()));
+    #[cfg(feature = "rocksdb")]
+    all.push(format!("RocksDB {}", rocksdb::version()));
+    all.join(", ")
+}
+
+fn environment() {
+    println!("- Processor: {}. Load averages before: {}.", processor(), load());
+    println!("- {}; {}; {}.", version(&["rustc", "--version"]), version(&["gcc", "--version"]), version(&["rt", "version"]));
+    println!("- Peers: {}.", peers_versions());
+}
+
+fn tables(effort: &Effort) -> ExitCode {
+    let mut report = Report::default();
+    environment();
+    let met = agree::check(effort.scripts);
+    println!("- Compared before, call by call: {} calls on all three stores; {met} different outcomes.", grouped(301.0 * effort.scripts as f64));
+    table_of_calls(effort, &mut report);
+    table_of_many(effort, &mut report);
+    air::table(effort, &mut report);
+    table_of_ages(effort, &mut report);
+    table_of_traces(effort, &mut report);
+    println!("\nLoad averages after: {}.", load());
+    report.close()
+}
+
+fn main() -> ExitCode {
     let words: Vec<String> = std::env::args().skip(1).collect();
-    if words.first().is_some_and(|word| word == "--only") {
-        return only(&words[1..]);
+    let number = |i: usize| words[i].parse::<usize>().expect("a number");
+    match words.first().map(String::as_str) {
+        Some("--only") => {
+            let case = &calls::cases(number(4))[number(3)];
+            println!("{}: {:.0} ns in all", case.name, case.run(Which::named(&words[1]), true, number(2)));
+        }
+        Some("--day") => air::days_only(Which::named(&words[1]), SHORT.ticks, number(2)),
+        Some("--agree") => println!("{} different outcomes", agree::check(number(1))),
+        Some("--short") => return tables(&SHORT),
+        _ => return tables(&FULL),
     }
-    if words.first().is_some_and(|word| word == "--day") {
-        return days_only(&words[1..]);
-    }
-    let effort = if words.iter().any(|word| word == "--short") { SHORT } else { FULL };
-    let before = load();
-    println!("| Figure | Proved store | Compared with | Ratio | Target | Met |");
-    println!("|---|---|---|---|---|---|");
-    table_of_calls(&effort);
-    table_of_orders(&effort);
-    table_of_day(&effort);
-    table_of_ages(&effort);
-    table_of_traces(&effort);
-    println!();
-    println!("Load averages before: {before}; after: {}.", load());
-    versions();
+    ExitCode::SUCCESS
 }

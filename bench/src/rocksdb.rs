@@ -62,6 +62,13 @@ pub struct RocksDb {
     txns: [*mut c_void; 8],
 }
 
+/// By the name of the library that is loaded: its C functions do not tell.
+pub fn version() -> String {
+    let maps = std::fs::read_to_string("/proc/self/maps").unwrap_or_default();
+    let version = maps.split_whitespace().find_map(|word| word.split_once("librocksdb.so."));
+    version.map_or("of unknown version".to_string(), |(_, version)| version.to_string())
+}
+
 impl RocksDb {
     pub fn new() -> RocksDb {
         let mut error = null_mut();

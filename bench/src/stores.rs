@@ -1,211 +1,230 @@
-//! The two stores under one script: the proved one, through the archive of the crate `bench_calls`, and the imperative twin.
+//! The three stores under one script: the proved one, through the archive of the crate `bench_calls`; the twin; and the one by hand in C.
 
+use crate::ffi::{self, Numbers, COMMITTED};
+use crate::placed::Placed;
 use crate::script::{self, Script, Step};
 use std::time::Instant;
-use twin::call::{Refusal, ORDERS};
+use twin::call::{Refusal, ScriptAction, ScriptStep, ORDERS};
 use twin::store::{Lent, Store, BUFFER, DESCRIPTORS, SPAN};
 
-/// How many numbers the record of the proved store has.
-const NUMBERS: usize = 2323;
-
-extern "C" {
-    fn bench_calls_run(
-        kept: *mut u16,
-        files: *mut u8,
-        files_len: usize,
-        logs: *mut u8,
-        logs_len: usize,
-        marks: *mut u8,
-        marks_len: usize,
-        undo: *mut u8,
-        undo_len: usize,
-        script: *const u8,
-        script_len: usize,
-        data: *const u8,
-        data_len: usize,
-        reader: *mut u8,
-        reader_len: usize,
-        said: *mut u8,
-        said_len: usize,
-        stamps: *mut i64,
-        stamps_len: usize,
-        rounds: usize,
-    ) -> u64;
-
-    fn bench_calls_order(
-        kept: *const u16,
-        files: *const u8,
-        files_len: usize,
-        logs: *const u8,
-        logs_len: usize,
-        marks: *const u8,
-        marks_len: usize,
-        undo: *const u8,
-        undo_len: usize,
-        list: *const u8,
-        list_len: usize,
-        budget: usize,
-        rounds: usize,
-    ) -> u64;
-}
-
-#[derive(Clone, Copy, PartialEq)]
+#[derive(Clone, Copy, PartialEq, Debug)]
 pub enum Which {
     Proved,
     Twin,
+    C,
 }
 
-/// What a store is lent, and what a run leaves.
-#[derive(Clone, PartialEq)]
+pub const ALL: [Which; 3] = [Which::Proved, Which::Twin, Which::C];
+
+impl Which {
+    pub fn name(self) -> &'static str {
+        match self {
+            Which::Proved => "proved store",
+            Which::Twin => "twin",
+            Which::C => "store by hand in C",
+        }
+    }
+
+    pub fn named(word: &str) -> Which {
+        match word {
+            "proved" => Which::Proved,
+            "twin" => Which::Twin,
+            "c" => Which::C,
+            _ => panic!("proved, twin or c"),
+        }
+    }
+}
+
+/// What a store is lent beside its record.
 pub struct Buffers {
-    pub files: Vec<u8>,
-    pub logs: Vec<u8>,
-    pub marks: Vec<u8>,
-    pub undo: Vec<u8>,
-    pub data: Vec<u8>,
-    pub reader: Vec<u8>,
-    /// The code of each step's outcome in the last pass; see `code`.
+    pub files: Placed,
+    pub logs: Placed,
+    pub marks: Placed,
+    pub undo: Placed,
+    pub data: Placed,
+    pub reader: Placed,
+    /// The code of each step's outcome in the last pass; see `call`.
     pub said: Vec<u8>,
-    /// The sum of all the numbers answered.
-    pub sum: u64,
 }
-
-pub const GRANTED: u8 = 3;
-pub const STALE: u8 = 23;
 
 impl Buffers {
     /// Descriptor d belongs to file d mod 8, save that 2 to 5 belong to file 2.
     pub fn new(said: usize) -> Buffers {
         let mut data: Vec<u8> = (0..DESCRIPTORS as u8).map(|d| if (2..6).contains(&d) { 2 } else { d % 8 }).collect();
         data.extend((0..8192u32).map(|i| (i * 7 + 1) as u8));
-        let buffer = vec![0; BUFFER];
         Buffers {
-            files: buffer.clone(),
-            logs: buffer.clone(),
-            marks: buffer,
-            undo: vec![0; SPAN],
-            data,
-            reader: vec![0; 4096],
+            files: Placed::zeros(BUFFER, 0),
+            logs: Placed::zeros(BUFFER, 640),
+            marks: Placed::zeros(BUFFER, 1280),
+            undo: Placed::zeros(SPAN, 1920),
+            data: Placed::bytes(&data, 2560),
+            reader: Placed::zeros(SPAN, 3200),
             said: vec![0; said],
-            sum: 0,
         }
+    }
+
+    fn bytes(&self) -> [&[u8]; 7] {
+        [&self.files, &self.logs, &self.marks, &self.undo, &self.data, &self.reader, &self.said]
+    }
+
+    /// The store buffers for the twin, and data, reader and said.
+    fn lend(&mut self) -> (Lent<'_>, &[u8], &mut [u8], &mut [u8]) {
+        let Buffers { files, logs, marks, undo, data, reader, said } = self;
+        (Lent { files, logs, marks, undo }, data, reader, said)
+    }
+}
+
+impl PartialEq for Buffers {
+    fn eq(&self, other: &Buffers) -> bool {
+        self.bytes() == other.bytes()
+    }
+}
+
+enum Record {
+    Proved(Box<Numbers>),
+    Twin(Box<Store>),
+    C(Box<Numbers>),
+}
+
+/// A store: its record, what it is lent, and the sum of the numbers that its calls have answered.
+pub struct Stored {
+    record: Record,
+    pub lent: Buffers,
+    pub sum: u64,
+}
+
+pub const GRANTED: u8 = 3;
+pub const STALE: u8 = 23;
+
+impl Stored {
+    pub fn new(which: Which, said: usize) -> Stored {
+        let record = match which {
+            Which::Proved => Record::Proved(Numbers::all(0)),
+            Which::Twin => Record::Twin(Box::new(Store::new([0; DESCRIPTORS]))),
+            Which::C => Record::C(Numbers::all(0)),
+        };
+        Stored { record, lent: Buffers::new(said), sum: 0 }
     }
 
     /// Runs `setup` once, then `body` so many rounds. Answers the nanoseconds that it took.
-    pub fn run(&mut self, which: Which, setup: &Script, body: &Script, rounds: usize) -> f64 {
+    pub fn run(&mut self, setup: &Script, body: &Script, rounds: usize) -> f64 {
         let start = Instant::now();
-        match which {
-            Which::Proved => self.run_proved(setup, body, rounds, &mut []),
-            Which::Twin => self.run_twin(setup, body, rounds),
-        }
+        self.pass(&setup.octets, 1);
+        self.pass(&body.octets, rounds);
         start.elapsed().as_nanos() as f64
     }
 
-    /// `stamps` gets the processor time in microseconds before each round.
-    pub fn run_proved(&mut self, setup: &Script, body: &Script, rounds: usize, stamps: &mut [i64]) {
-        let mut kept = [0; NUMBERS];
-        let sum = self.rounds_proved(&mut kept, setup, 1, &mut []);
-        self.sum = sum.wrapping_add(self.rounds_proved(&mut kept, body, rounds, stamps));
+    /// Runs the steps so many rounds.
+    #[inline]
+    pub fn pass(&mut self, octets: &[u8], rounds: usize) {
+        self.pass_stamped(octets, rounds, &mut []);
     }
 
-    fn rounds_proved(&mut self, kept: &mut [u16; NUMBERS], script: &Script, rounds: usize, stamps: &mut [i64]) -> u64 {
-        // The callee takes the record as a pointer and each slice as a pointer and a length; it has no precondition.
-        unsafe {
-            bench_calls_run(
-                kept.as_mut_ptr(),
-                self.files.as_mut_ptr(),
-                self.files.len(),
-                self.logs.as_mut_ptr(),
-                self.logs.len(),
-                self.marks.as_mut_ptr(),
-                self.marks.len(),
-                self.undo.as_mut_ptr(),
-                self.undo.len(),
-                script.octets.as_ptr(),
-                script.octets.len(),
-                self.data.as_ptr(),
-                self.data.len(),
-                self.reader.as_mut_ptr(),
-                self.reader.len(),
-                self.said.as_mut_ptr(),
-                self.said.len(),
-                stamps.as_mut_ptr(),
-                stamps.len(),
-                rounds,
-            )
+    /// `stamps` gets the processor time in microseconds before each round, of the proved store alone.
+    pub fn pass_stamped(&mut self, octets: &[u8], rounds: usize, stamps: &mut [i64]) {
+        let sum = match &mut self.record {
+            Record::Proved(kept) => ffi::run(ffi::bench_calls_run, kept, &mut self.lent, octets, rounds, stamps),
+            Record::Twin(store) => pass_twin(store, &mut self.lent, octets, rounds),
+            Record::C(kept) => ffi::run(ffi::c_store_run, kept, &mut self.lent, octets, rounds, stamps),
+        };
+        self.sum = self.sum.wrapping_add(sum);
+    }
+
+    /// The sixteen committed offsets and the eight lengths.
+    pub fn committed(&self) -> [u16; COMMITTED] {
+        match &self.record {
+            Record::Proved(kept) => ffi::committed_proved(kept),
+            Record::C(kept) => ffi::committed_c(kept),
+            Record::Twin(store) => {
+                let mut out = [0; COMMITTED];
+                out[..DESCRIPTORS].copy_from_slice(&store.offsets);
+                out[DESCRIPTORS..].copy_from_slice(&store.lengths);
+                out
+            }
         }
     }
 
-    /// After `setup`, the best order of all eight transactions is asked for so many times, each time with a budget of all orders.
-    /// Answers the nanoseconds that it took, and the sum of the grants.
-    pub fn best_order(&mut self, which: Which, setup: &Script, rounds: usize) -> (f64, u64) {
-        match which {
-            Which::Proved => self.best_order_proved(setup, rounds),
-            Which::Twin => self.best_order_twin(setup, rounds),
+    /// Sets every number of a record that lies in numbers to 65,535.
+    pub fn spoil(&mut self) {
+        if let Record::Proved(kept) | Record::C(kept) = &mut self.record {
+            *kept = Numbers::all(u16::MAX);
         }
     }
 
-    fn best_order_proved(&mut self, setup: &Script, rounds: usize) -> (f64, u64) {
-        let mut kept = [0; NUMBERS];
-        self.rounds_proved(&mut kept, setup, 1, &mut []);
-        let list: [u8; 8] = [0, 1, 2, 3, 4, 5, 6, 7];
+    /// Asks so many times for the best order of all eight transactions, each time with a budget of all orders. Answers the nanoseconds
+    /// that it took, and the sum of the grants. The store in C has none.
+    pub fn best_order(&mut self, rounds: usize) -> (f64, u64) {
         let start = Instant::now();
-        // The callee takes the record as a pointer and each slice as a pointer and a length; it has no precondition.
-        let sum = unsafe {
-            bench_calls_order(
-                kept.as_ptr(),
-                self.files.as_ptr(),
-                self.files.len(),
-                self.logs.as_ptr(),
-                self.logs.len(),
-                self.marks.as_ptr(),
-                self.marks.len(),
-                self.undo.as_ptr(),
-                self.undo.len(),
-                list.as_ptr(),
-                list.len(),
-                ORDERS,
-                rounds,
-            )
+        let sum = match &mut self.record {
+            Record::Proved(kept) => ffi::order(kept, &self.lent, rounds),
+            Record::Twin(store) => best_order_twin(store, &mut self.lent, rounds),
+            Record::C(_) => 0,
         };
         (start.elapsed().as_nanos() as f64, sum)
     }
 
-    fn best_order_twin(&mut self, setup: &Script, rounds: usize) -> (f64, u64) {
-        let mut store = Store::new([0; DESCRIPTORS]);
-        self.pass(&mut store, &setup.octets);
-        let lent = Lent { files: &mut self.files, logs: &mut self.logs, marks: &mut self.marks, undo: &mut self.undo };
+    /// Has eight scripts of four calls dispatched so many times. Answers the nanoseconds that it took, and the sum of the Commits. The
+    /// store in C has no dispatcher.
+    pub fn dispatch(&mut self, rounds: usize) -> (f64, u64) {
         let start = Instant::now();
-        let grants = |_| store.best(&lent, &[0, 1, 2, 3, 4, 5, 6, 7], script::MINUTE, ORDERS).expect("an order").grants as u64;
-        let sum = (0..rounds).map(grants).sum();
+        let sum = match &mut self.record {
+            Record::Proved(kept) => ffi::dispatch(kept, &mut self.lent, rounds),
+            Record::Twin(store) => dispatch_twin(store, &mut self.lent, rounds),
+            Record::C(_) => 0,
+        };
         (start.elapsed().as_nanos() as f64, sum)
-    }
-
-    #[inline(never)]
-    fn run_twin(&mut self, setup: &Script, body: &Script, rounds: usize) {
-        self.sum = 0;
-        let mut store = Store::new([0; DESCRIPTORS]);
-        self.pass(&mut store, &setup.octets);
-        for _ in 0..rounds {
-            self.pass(&mut store, &body.octets);
-        }
-    }
-
-    fn pass(&mut self, store: &mut Store, octets: &[u8]) {
-        let mut lent = Lent { files: &mut self.files, logs: &mut self.logs, marks: &mut self.marks, undo: &mut self.undo };
-        for (i, step) in octets.chunks_exact(8).enumerate() {
-            let c = Step::at(step);
-            let (code, number) = call(store, &mut lent, c, &self.data, &mut self.reader);
-            self.sum = self.sum.wrapping_add(number);
-            if i < self.said.len() {
-                self.said[i] = code;
-            }
-        }
     }
 }
 
-/// A call of the twin: its outcome's code (0 done, 1 an offset, 2 a count of bytes, 3 granted, 10 more than a refusal's number in the
-/// table), and the number that it answers.
+impl PartialEq for Stored {
+    fn eq(&self, other: &Stored) -> bool {
+        self.lent == other.lent && self.sum == other.sum && self.committed() == other.committed()
+    }
+}
+
+fn best_order_twin(store: &Store, buffers: &mut Buffers, rounds: usize) -> u64 {
+    let (lent, ..) = buffers.lend();
+    let list = [0, 1, 2, 3, 4, 5, 6, 7];
+    (0..rounds).map(|_| store.best(&lent, &list, 0, ORDERS).expect("an order").grants as u64).sum()
+}
+
+fn dispatch_twin(store: &mut Store, buffers: &mut Buffers, rounds: usize) -> u64 {
+    let (mut lent, data, reader, _) = buffers.lend();
+    let data = &data[script::BYTES..];
+    let scripts: Vec<Vec<ScriptStep>> = (0..8).map(task).collect();
+    let commits = |_| u64::from(store.dispatch(&mut lent, &scripts, data, reader, 0).expect("all run").commits);
+    (0..rounds).map(commits).sum()
+}
+
+/// The four calls of script k, as in the crate `bench_calls`.
+fn task(k: usize) -> Vec<ScriptStep> {
+    let actions = [
+        ScriptAction::Seek { to: 0 },
+        ScriptAction::Write { start: 0, length: 16 },
+        ScriptAction::Seek { to: 0 },
+        ScriptAction::Read { count: 16 },
+    ];
+    actions.into_iter().map(|action| ScriptStep { descriptor: k, action }).collect()
+}
+
+#[inline(never)]
+fn pass_twin(store: &mut Store, buffers: &mut Buffers, octets: &[u8], rounds: usize) -> u64 {
+    let (mut lent, data, reader, said) = buffers.lend();
+    let mut sum = 0u64;
+    for _ in 0..rounds {
+        for (i, step) in octets.chunks_exact(8).enumerate() {
+            let (code, number) = call(store, &mut lent, Step::at(step), data, reader);
+            sum = sum.wrapping_add(number);
+            if i < said.len() {
+                said[i] = code;
+            }
+        }
+    }
+    sum
+}
+
+/// A call of the twin: its outcome's code (0 done, 1 an offset, 2 a count of bytes, 3 granted, 4 a count of pairs, 10 more than a
+/// refusal's number in the table), and the number that it answers.
 fn call(store: &mut Store, lent: &mut Lent, c: Step, data: &[u8], reader: &mut [u8]) -> (u8, u64) {
     let bytes = data.get(c.from..c.from + c.n).unwrap_or(data);
     match c.kind {
@@ -215,10 +234,11 @@ fn call(store: &mut Store, lent: &mut Lent, c: Step, data: &[u8], reader: &mut [
         script::WRITE => answer(0, store.write(lent, c.t, c.d, bytes).map(|()| 0)),
         script::POINTER => answer(1, store.get_file_pointer(lent, c.t, c.d).map(u64::from)),
         script::READ => answer(2, store.read(lent, c.t, c.d, c.n, reader).map(u64::from)),
-        script::COMMIT => answer(GRANTED, store.commit(lent, c.t, script::MINUTE).map(u64::from)),
-        script::ABORT => answer(0, store.abort(lent, c.t).map(|()| 0)),
+        script::COMMIT => answer(GRANTED, store.commit(lent, c.t, c.n).map(u64::from)),
         script::TAKE_BACK => answer(0, store.undo(lent).map(|()| 0)),
-        _ => (0, 0),
+        script::PLACES => answer(4, store.places(lent, c.t, c.d, reader).map(u64::from)),
+        script::SET_WINDOW => answer(0, store.set_window(lent, c.d, c.n, c.from).map(|()| 0)),
+        _ => answer(0, store.abort(lent, c.t).map(|()| 0)),
     }
 }
 

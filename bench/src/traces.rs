@@ -1,5 +1,6 @@
 //! Lines a second of the program `trace` and of the twin's, each a process of its own, on one generated trace.
 
+use crate::report::progress;
 use std::fs::File;
 use std::io::{BufWriter, Result};
 use std::process::{Command, Stdio};
@@ -22,10 +23,11 @@ fn program(words: &[&str]) -> Result<Command> {
     Ok(command)
 }
 
+/// What a program remarks on standard error was shown before.
 fn seconds(words: &[&str]) -> Result<f64> {
     let mut command = program(words)?;
     let start = Instant::now();
-    let status = command.stdout(Stdio::null()).status()?;
+    let status = command.stdout(Stdio::null()).stderr(Stdio::null()).status()?;
     assert!(status.success(), "{} ended with {status}", words[0]);
     Ok(start.elapsed().as_secs_f64())
 }
@@ -33,10 +35,11 @@ fn seconds(words: &[&str]) -> Result<f64> {
 /// Both must print the same. The two run in turn, and the least time of each counts.
 pub fn measure(lines: u64, sweeps: usize) -> Result<Rates> {
     twin::traces::write(&mut BufWriter::new(File::create(TRACE)?), SEED, lines)?;
-    let printed = |words: &[&str]| program(words)?.output().map(|output| output.stdout);
+    let printed = |words: &[&str]| program(words)?.stderr(Stdio::inherit()).output().map(|output| output.stdout);
     assert!(printed(&PROVED)? == printed(&TWIN)?, "the traces differ");
     let mut least = [f64::MAX; 2];
-    for _ in 0..sweeps {
+    for sweep in 0..sweeps {
+        progress("traces, sweeps", sweep + 1, sweeps);
         least[0] = least[0].min(seconds(&PROVED)?);
         least[1] = least[1].min(seconds(&TWIN)?);
     }

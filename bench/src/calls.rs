@@ -27,6 +27,12 @@ pub struct Cost {
     pub c: f64,
 }
 
+impl Cost {
+    pub fn ratio(&self) -> f64 {
+        self.proved / self.twin
+    }
+}
+
 const LENGTH: usize = 16;
 
 /// The first `open` transactions, each with r deferred records of 16 bytes through descriptor 1. Before them the file of descriptor 0 is
@@ -100,7 +106,7 @@ fn apart(script: Script, t: usize, count: usize) -> Script {
 /// Places of 1, 8 and 64 stretches.
 pub fn places() -> Vec<Case> {
     let places = |r: usize| {
-        let name = format!("Places, {r} stretches");
+        let name = format!("Places, {r} stretch{}", if r == 1 { "" } else { "es" });
         case(&name, beside(8, 0), apart(opened(8, 0), 0, r), Script::default().places(0, 0))
     };
     [1, 8, 64].into_iter().map(places).collect()
@@ -116,25 +122,27 @@ pub fn hours() -> Vec<Case> {
     ]
 }
 
-/// Calls that are refused. The last one is granted to another transaction before, and so is timed with that one's calls.
+/// Calls that are refused. A Commit that is stale is timed from its Begin on, less the calls of the other that is quicker.
 pub fn refused() -> Vec<Case> {
     let refused = |name: &str, setup: Script, with: Script, number: u8| Case {
         refusal: Some(number),
         ..case(&format!("{name}, refused with {number}"), beside(8, 0), setup, with)
     };
+    let one = Script::default;
     let closed = opened(8, 0).window(0, 600, 700).seek(0, 0, 0).write(0, 0, LENGTH);
     let stale = opened(7, 0).pointer(0, 0).begin(7).seek(7, 0, 5).commit(7).begin(7);
-    let rival = Script::default().begin(0).pointer(0, 0).begin(1).seek(1, 0, 0).commit(1).commit(0);
-    let mut cases = vec![
-        refused("Begin", opened(8, 0), Script::default().begin(0), 5),
-        refused("Seek", opened(8, 0), Script::default().seek(0, 0, 4097), 8),
-        refused("Write of 16 bytes", opened(8, 0).seek(0, 0, 4096), Script::default().write(0, 0, LENGTH), 9),
-        refused("Commit of 16 bytes into a closed file", closed, Script::default().commit_at(0, 5), 21),
-        refused("Read of 16 bytes", stale, Script::default().read(0, 0, LENGTH), 18),
-    ];
-    let name = "Two looks, a Commit, the other's Commit";
-    cases.push(Case { beside: beside(0, 0), ..refused(name, Script::default().fresh(), rival, 13) });
-    cases
+    let other = |script: Script| script.begin(6).seek(6, 0, 0).commit(6);
+    let turned_back = other(one().begin(7).pointer(7, 0)).commit(7);
+    let quicker =
+        Case { without: Some(other(one())), ..refused("Begin, GetFilePointer, Commit", opened(6, 0), turned_back, 13) };
+    vec![
+        refused("Begin", opened(8, 0), one().begin(0), 5),
+        refused("Seek", opened(8, 0), one().seek(0, 0, 4097), 8),
+        refused("Write of 16 bytes", opened(8, 0).seek(0, 0, 4096), one().write(0, 0, LENGTH), 9),
+        refused("Commit of 16 bytes into a closed file", closed, one().commit_at(0, 5), 21),
+        refused("Read of 16 bytes", stale, one().read(0, 0, LENGTH), 18),
+        quicker,
+    ]
 }
 
 /// The dearest Read and the dearest Commit, while seven others have read another whole file and have 64 records each: a Read of 4,096
@@ -147,7 +155,8 @@ pub fn worst() -> [Case; 2] {
     let written = Script::default().begin(7).seek(7, 0, 0).times(64, |s| s.write(7, 0, 64));
     let reads = sought.clone().read(7, 0, 4096);
     let own = apart(others.clone().begin(7), 7, 64);
-    let (of_read, of_commit) = ("Read of 4,096 bytes over 64 own bytes apart", "Commit of 64 records of 64 bytes, less an Abort");
+    let (of_read, of_commit) =
+        ("Read of 4,096 bytes over 64 own bytes apart", "Commit of 64 records of 64 bytes, less an Abort");
     [
         Case { without: Some(sought), ..case(of_read, beside(8, 64), own, reads) },
         Case { without: Some(written.clone().abort(7)), ..case(of_commit, beside(8, 64), others, written.commit(7)) },
@@ -162,20 +171,22 @@ pub fn sized(n: usize) -> [Case; 2] {
 impl Case {
     /// The same answers and bytes from all, and nothing refused but what is meant to be.
     pub fn check(&self) {
-        let without = self.without.as_ref().unwrap_or(&self.with);
-        for (script, rounds) in [(&self.with, 0), (without, 3), (&self.with, 3)] {
+        let before = self.without.as_ref().map(|without| (without, 3, None));
+        for (script, rounds, refusal) in
+            [(&self.with, 0, None), (&self.with, 3, self.refusal)].into_iter().chain(before)
+        {
             let [proved, twin, c] = ALL.map(|which| {
                 let mut stored = Stored::new(which, self.setup.len().max(script.len()));
                 stored.run(&self.setup, script, rounds);
                 stored
             });
             assert!(proved == twin && c == twin, "{}: the stores differ", self.name);
-            let code = |number: u8| 10 + number;
-            if rounds == 0 || self.refusal.is_none() {
-                assert!(twin.lent.said.iter().all(|&code| code < 10), "{}: a call was refused", self.name);
-            } else {
-                let said = twin.lent.said[script.len() - 1];
-                assert_eq!(Some(said), self.refusal.map(code), "{}: the last call is refused", self.name);
+            let said = &twin.lent.said;
+            match refusal {
+                None => assert!(said.iter().all(|&code| code < 10), "{}: a call was refused", self.name),
+                Some(number) => {
+                    assert_eq!(said[script.len() - 1], 10 + number, "{}: the last call's refusal", self.name)
+                }
             }
         }
     }

@@ -133,14 +133,7 @@ extern "C" {
     fn c_store_committed(kept: *const u16, out: *mut u16);
 }
 
-pub fn run(
-    run: Run,
-    kept: &mut Numbers,
-    lent: &mut Buffers,
-    octets: &[u8],
-    rounds: usize,
-    stamps: &mut [i64],
-) -> u64 {
+pub fn run(run: Run, kept: &mut Numbers, lent: &mut Buffers, octets: &[u8], rounds: usize, stamps: &mut [i64]) -> u64 {
     unsafe {
         run(
             kept.0.as_mut_ptr(),

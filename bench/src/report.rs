@@ -45,8 +45,8 @@ pub fn progress(what: &str, done: usize, all: usize) {
 
 /// 1234567 as 1,234,567.
 pub fn grouped(number: f64) -> String {
-    let digits = format!("{number:.0}");
-    let mut out = String::new();
+    let digits = format!("{:.0}", number.abs());
+    let mut out = String::from(if number <= -0.5 { "-" } else { "" });
     for (i, digit) in digits.chars().enumerate() {
         if i > 0 && (digits.len() - i).is_multiple_of(3) {
             out.push(',');

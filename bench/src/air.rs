@@ -152,6 +152,7 @@ impl Day {
     }
 
     /// The peers whose libraries are here, one after another and interleaved.
+    #[allow(unused_mut, unused_variables)]
     fn peers(&self, effort: &Effort) -> Vec<OnAir<'_>> {
         let mut all = vec![self.peer(Plain::default(), "plain arrays, a mutex a transaction", Order::Serial, effort)];
         for order in [Order::Serial, Order::Interleaved] {

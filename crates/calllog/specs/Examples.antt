@@ -1,10 +1,10 @@
 -- Lines of a call log, and what they say.
-use mathlib.Core.List.{List, [], _∷_}
+use mathlib.Core.List.{[], _∷_}
 use mathlib.Core.Path.{_≡_}
 use lib.ListN.{replicate}
 use Prim.Native.String.{String}
 use Rattle.grammar.specs.Examples.{bytes}
-use Rattle.rules.specs.Messages.{begin, on, commit, abort, places, setWindow, takeBack, bestOrder, seek, write, getFilePointer, read}
+use Rattle.rules.specs.Messages.{begin, on, commit, places, setWindow, takeBack, bestOrder, seek, write, getFilePointer, read}
 use Rattle.calllog.specs.Log.{Entry, another, comment, expects, version, fresh, calls, lineOf, callIn}
 
 abbrev pub line : String → Entry

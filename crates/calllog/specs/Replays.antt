@@ -1,7 +1,7 @@
 -- A call log runs again alike: what a call shows of the buffer for its answer, and what its line may leave out.
-use mathlib.Core.List.{List, [], _∷_, map}
+use mathlib.Core.List.{List, [], map}
 use mathlib.Core.Path.{_≡_}
-use lib.ListN.{length, replicate, take}
+use lib.ListN.{length, take}
 use Prim.Native.Nat.{ℕ, _*_, _≤_, _<_, min}
 use Rattle.record.specs.Paper.{Said, plain, pointer, given, granted, pairs, ordered, refused}
 use Rattle.requests.specs.declared.Request.{Request}
@@ -11,7 +11,7 @@ use Rattle.rules.specs.Machine.{Machine}
 use Rattle.rules.specs.Calls.{call, Turn, callsAfter, callsReplies}
 use Rattle.rules.specs.Demand3OfStore.{FreshlyMade}
 use Rattle.rules.specs.Messages.{Call, Reply, on, read}
-use Rattle.calllog.specs.Log.{callIn, calls, mostWritten}
+use Rattle.calllog.specs.Log.{callIn, calls}
 use Rattle.calllog.specs.Recorded.{requestLine}
 use Rattle.calllog.specs.Statements.{blank, numbersOf}
 

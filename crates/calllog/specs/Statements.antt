@@ -2,7 +2,7 @@
 use mathlib.Core.List.{List, [], _∷_}
 use mathlib.Core.Path.{_≡_}
 use lib.ListN.{length, replicate, take}
-use Prim.Native.Nat.{ℕ, _≤_, _<_}
+use Prim.Native.Nat.{ℕ, _≤_}
 use Rattle.numerals.specs.Decimal.{past, AllBelow}
 use Rattle.grammar.specs.Grammar.{asks, parsed}
 use Rattle.requests.specs.declared.Request.{Request}
@@ -11,7 +11,7 @@ use Rattle.rules.specs.Machine.{Machine}
 use Rattle.rules.specs.Calls.{call, fresh as freshTurn}
 use Rattle.rules.specs.Messages.{Call, begin, on, commit, abort, places, setWindow, takeBack, bestOrder}
 use Rattle.rules.specs.Messages.{Op, seek, write, getFilePointer, read}
-use Rattle.calllog.specs.Log.{Entry, calls, fresh, lineOf, freshLine, callIn, mostNumbers, mostWritten, mostFiles, mostOrdered}
+use Rattle.calllog.specs.Log.{calls, fresh, lineOf, freshLine, callIn, mostNumbers, mostWritten, mostFiles, mostOrdered}
 
 -- The numbers of a call, with the length of the buffer for its answer; and its bytes, or the octets of an order.
 unfoldable pub numbersOfOp : ℕ → Op → List ℕ

@@ -1,7 +1,6 @@
 -- The call of each request, computed: T 7, descriptor 3, the bytes 65 and 66, a buffer of one byte 46.
-use mathlib.Core.List.{List, [], _∷_}
+use mathlib.Core.List.{[], _∷_}
 use mathlib.Core.Path.{_≡_}
-use Prim.Native.Nat.{ℕ}
 use Rattle.rules.specs.Messages.{Call, begin, on, commit, abort, places, setWindow, takeBack, seek, write, getFilePointer, read}
 use Rattle.requests.specs.declared.Request.{Request}
 use Rattle.requests.specs.declared.Request.the-variants.{Begin, Seek, Write, GetFilePointer, Read, Places, Commit, Abort, SetWindow, TakeBack}

@@ -1,6 +1,6 @@
 -- Traces and what they print, computed from the definitions on the plain machine from Fresh (`WholeRun` has the store's equal to it). Four
 -- bytes are enough of a reader's buffer here.
-use mathlib.Core.List.{List, [], _∷_}
+use mathlib.Core.List.{List}
 use mathlib.Core.Path.{_≡_}
 use lib.ListN.{getD, replicate}
 use Prim.Native.Nat.{ℕ}

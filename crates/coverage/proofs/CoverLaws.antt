@@ -1,22 +1,23 @@
 -- What the walks over write records tell: which records have no place yet, and which places of a run are covered. Assumes nothing.
-use mathlib.Core.Bool.{Bool, true, false}
+use mathlib.Core.Bool.{Bool, true, false, cond, _||_, or-false, or-true}
 use mathlib.Core.List.{List}
 use mathlib.Core.Logic.{⊎-elim}
 use mathlib.Core.Path.{_≡_, refl, sym, ap, subst, _∙_}
 use lib.ListN.{getD}
-use Prim.Native.Nat.{ℕ, _+_, _-_, _≤_, _<_}
+use Prim.Native.Nat.{ℕ, suc, _+_, _-_, _≤_, _<_}
 use native.Mathlib.Omega.{arith}
 use borrow.Author.Tests.{eq-eqb, ne-eqb}
 use Rattle.octets.proofs.PartLaws.{le-or-lt}
 use Rattle.standings.specs.declared.Place.{Place}
 use Rattle.standings.specs.declared.Place.the-variants.{At, After}
 use Rattle.record.specs.declared.journal.WriteRecord.{WriteRecord}
+use Rattle.record.specs.Journal.{writeRecordAt}
 use Rattle.rules.specs.Coverage.{noPlace}
 use Rattle.runs.specs.declared.Extent.{Extent}
 use Rattle.runs.specs.declared.Run.{Run}
 use Rattle.runs.specs.declared.Supplier.{Supplier}
 use Rattle.runs.specs.declared.Supplier.the-variants.{File, Record}
-use Rattle.runs.specs.Runs.{Recorded, supplier, isRecord, RunOf}
+use Rattle.runs.specs.Runs.{Recorded, covers, newest, supplier, isRecord, RunOf}
 use Rattle.coverage.specs.Covering.{coveredAt, waitsOn, Upto, NextOf}
 
 -- ---- a write record that has no place yet
@@ -37,6 +38,17 @@ placed-has p = refl
 pub unplaced-has-none : (a : ℕ) → noPlace (After a) ≡ true
 unfolding noPlace
 unplaced-has-none a = refl
+
+-- ---- one record more
+
+pub covered-more : (j : Recorded) (t k f q : ℕ)
+    → coveredAt j t (suc k) f q ≡ (coveredAt j t k f q || covers (j .filenumbers) f q (writeRecordAt (j .journal) t k))
+unfolding coveredAt supplier newest
+covered-more j t k f q = pick (covers (j .filenumbers) f q (writeRecordAt (j .journal) t k))
+  where
+    pick : (b : Bool) → isRecord (cond b (Record k) (supplier j t k f q)) ≡ (coveredAt j t k f q || b)
+    pick true = sym (or-true (coveredAt j t k f q))
+    pick false = sym (or-false (coveredAt j t k f q))
 
 -- ---- a run
 

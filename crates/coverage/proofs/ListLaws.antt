@@ -3,11 +3,13 @@ use mathlib.Core.Bool.{Bool, true, false, false≢true}
 use mathlib.Core.List.{List, [], _∷_, _++_, append-assoc, append-nil}
 use mathlib.Core.Logic.{⊎-elim}
 use mathlib.Core.Path.{_≡_, refl, sym, ap, _∙_}
-use lib.ListN.{length, drop, set, length-append}
-use Prim.Native.Nat.{ℕ, suc, _+_, _-_, _*_, _/_, _%_, _≤_}
+use lib.ListN.{getD, length, drop, set, length-append}
+use lib.Seq.{ext-getD}
+use Prim.Native.Nat.{ℕ, suc, _+_, _-_, _*_, _/_, _%_, _≤_, _<_}
 use native.Mathlib.Omega.{arith}
 use Rattle.octets.specs.Parts.{pasted}
-use Rattle.octets.proofs.PartLaws.{le-or-lt, pasted-none, pasted-more, pasted-append}
+use Rattle.octets.proofs.PartLaws.{le-or-lt, length-pasted, pasted-none, pasted-before, pasted-in, pasted-after}
+use Rattle.octets.proofs.PartLaws.{pasted-more, pasted-append}
 use Rattle.rules.specs.Coverage.{stretch, stretchesFrom, stretchesOf, sixteen, encoded, withPairs}
 use Rattle.rules.specs.Coverage as listing
 use Rattle.rules.proofs.Coverage.Stretches.{skipped, stretch-first}
@@ -93,6 +95,39 @@ length-snoc l s = length-append l (s ∷ [])
 
 -- ---- the bytes
 
+module _ (d : List ℕ) (at : ℕ) (s t : List ℕ) (fits : at + length s ≤ length d) (same : length s ≡ length t) where
+  -- what was pasted is pasted over
+  pub pasted-twice : pasted (pasted d at s) at t ≡ pasted d at t
+  pasted-twice =
+      ext-getD 0 (pasted (pasted d at s) at t) (pasted d at t)
+      (length-pasted (pasted d at s) at t again ∙ kept ∙ sym (length-pasted d at t new))
+      (λ i h. ⊎-elim (λ g. ⊎-elim (past i) (λ l. within i g l) (le-or-lt (at + length t) i)) (before i) (le-or-lt at i))
+    where
+      kept : length (pasted d at s) ≡ length d
+      kept = length-pasted d at s fits
+
+      again : at + length t ≤ length (pasted d at s)
+      again = omega (arith, kept)
+
+      new : at + length t ≤ length d
+      new = omega arith
+
+      before : (i : ℕ) → i < at → getD (pasted (pasted d at s) at t) i 0 ≡ getD (pasted d at t) i 0
+      before i g =
+          pasted-before (pasted d at s) at t again i 0 g ∙ pasted-before d at s fits i 0 g ∙ sym (pasted-before d at t new i 0 g)
+
+      past : (i : ℕ) → at + length t ≤ i → getD (pasted (pasted d at s) at t) i 0 ≡ getD (pasted d at t) i 0
+      past i g =
+          pasted-after (pasted d at s) at t again i 0 g ∙ pasted-after d at s fits i 0 (omega arith) ∙ sym (pasted-after d at t new i 0 g)
+
+      within : (i : ℕ) → at ≤ i → i < at + length t → getD (pasted (pasted d at s) at t) i 0 ≡ getD (pasted d at t) i 0
+      within i g l =
+          let e : i ≡ at + (i - at) = omega arith in
+          ap (λ (k : ℕ). getD (pasted (pasted d at s) at t) k 0) e
+          ∙ pasted-in (pasted d at s) at t again (i - at) 0 (omega arith)
+          ∙ sym (pasted-in d at t new (i - at) 0 (omega arith))
+          ∙ ap (λ (k : ℕ). getD (pasted d at t) k 0) (sym e)
+
 pub number-put : (out : List ℕ) (at n : ℕ) → at + 2 ≤ length out → set (set out at (n / 256)) (at + 1) (n % 256) ≡ pasted out at (sixteen n)
 unfolding sixteen
 number-put out at n h =
@@ -112,7 +147,7 @@ length-sixteen n = refl
 abbrev pub pair : Stretch → List ℕ
 pair s = sixteen (s .offset) ++ sixteen (s .length)
 
-length-pair : (s : Stretch) → length (pair s) ≡ 4
+pub length-pair : (s : Stretch) → length (pair s) ≡ 4
 length-pair s = length-append (sixteen (s .offset)) (sixteen (s .length)) ∙ omega (arith, length-sixteen (s .offset), length-sixteen (s .length))
 
 pub pair-put : (out : List ℕ) (at : ℕ) (s : Stretch) → at + 4 ≤ length out
@@ -128,7 +163,7 @@ encoded-snoc (x ∷ l) s =
     ap (λ (r : List ℕ). (sixteen (x .offset) ++ sixteen (x .length)) ++ r) (encoded-snoc l s)
     ∙ sym (append-assoc (sixteen (x .offset) ++ sixteen (x .length)) (encoded l) (pair s))
 
-length-encoded : (l : List listing.Stretch) → length (encoded l) ≡ 4 * length l
+pub length-encoded : (l : List listing.Stretch) → length (encoded l) ≡ 4 * length l
 unfolding encoded
 length-encoded [] = refl
 length-encoded (x ∷ l) =

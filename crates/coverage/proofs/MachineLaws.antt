@@ -1,17 +1,20 @@
 -- The places that a transaction's write records cover are those that its writes cover, and the same of writes without a place. Assumes
 -- nothing.
-use mathlib.Core.Bool.{Bool, true, false, cond, _&&_, _||_, or-false, or-true}
+use mathlib.Core.Bool.{_&&_, _||_}
 use mathlib.Core.List.{List}
-use mathlib.Core.Path.{_≡_, refl, ap, ap₂, _∙_}
+use mathlib.Core.Path.{_≡_, refl, sym, ap, ap₂, _∙_}
 use lib.Dec.{eqb}
 use lib.ListN.{getD, length}
 use Prim.Native.Nat.{ℕ, zero, suc, _+_, _*_, _≤_, _<_}
 use native.Mathlib.Omega.{arith}
+use borrow.Author.Tests.{leb-true}
+use Rattle.standings.specs.declared.Place.{Place}
 use Rattle.record.specs.declared.Store.{Store}
-use Rattle.record.specs.State.{transaction}
+use Rattle.record.specs.declared.Transaction.{Transaction}
+use Rattle.record.specs.State.{transaction, standingAt}
 use Rattle.record.specs.Journal.{writeRecordAt}
-use Rattle.ranges.specs.Ranges.{lengthsBefore}
-use Rattle.ranges.proofs.Laws.{TransactionInRange}
+use Rattle.ranges.specs.Ranges.{lengthsBefore, placeIn}
+use Rattle.ranges.proofs.Laws.{TransactionInRange, record-in}
 use Rattle.octets.proofs.PartLaws.{length-cut}
 use Rattle.octets.specs.Parts.{tabulate}
 use Rattle.rules.specs.Transactions.{Write}
@@ -20,10 +23,11 @@ use Rattle.rules.specs.Machine.{fileOf, dataStart, writeAt, txnOf}
 use Rattle.rules.specs.Coverage.{someWrite, coversPlace, covered, unplacedOn, unplaced, stretchesOf}
 use Rattle.rules.proofs.Coverage.Stretches.{stretches-same}
 use Rattle.laws.proofs.Decoded.{some-one-more, some-tabulate}
-use Rattle.runs.specs.declared.Supplier.the-variants.{Record}
-use Rattle.runs.specs.Runs.{Recorded, recorded, covers, newest, supplier, isRecord}
+use Rattle.runs.specs.Runs.{Recorded, recorded, covers, newest, supplier}
 use Rattle.runs.proofs.RunLaws.{data-suc}
 use Rattle.coverage.specs.Covering.{coveredAt, waitsOn, waitsIn}
+use Rattle.coverage.specs.Ascending.{WithinFile}
+use Rattle.coverage.proofs.CoverLaws.{covered-more}
 
 -- ---- the first n writes
 
@@ -55,13 +59,18 @@ module _ (j : Recorded) (logs : List ℕ) (t f : ℕ) where
     covered-is (suc n) h p =
         some-one-more (coversPlace file f p) (writes n) (writeAt (j .journal) logs t n)
         ∙ ap₂ _||_ (covered-is n (omega (arith, data-suc (j .journal) t n)) p) (covers-is p n h)
-        ∙ pick (covers (j .filenumbers) f p (writeRecordAt (j .journal) t n))
-      where
-        pick : (b : Bool) → (coveredAt j t n f p || b) ≡ isRecord (cond b (Record n) (supplier j t n f p))
-        pick true = or-true (coveredAt j t n f p)
-        pick false = or-false (coveredAt j t n f p)
+        ∙ sym (covered-more j t n f p)
 
 -- ---- a transaction of the store
+
+-- "its place or advance plus length at most 4,096"
+pub within-file : (x : Transaction) (journal filenumbers : List ℕ) (t : ℕ) → TransactionInRange x journal t
+    → WithinFile (recorded journal filenumbers) t (x .used .records)
+unfolding placeIn
+within-file x journal filenumbers t range k p l e =
+    let w = writeRecordAt journal t k in
+    let z = standingAt x (w .descriptor) in
+    leb-true (p + w .length) 4096 (ap (λ (q : Place). placeIn z q (w .length)) (sym e) ∙ record-in x w (range .writes k l) .place)
 
 module _ (s : Store) (journal logs : List ℕ) (t f : ℕ) where
   -- "a write on that file has no place yet"

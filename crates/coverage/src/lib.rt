@@ -1,5 +1,7 @@
 // The places of a file that a transaction's write records cover, as a list of stretches; and whether one of its records
-// on the file has no place yet. Each stretch is found by walks over the records, and no table of places is made.
+// on the file has no place yet. Where the records do not ascend (ascending.rt), each stretch is found by walks over
+// them, and no table of places is made.
+mod ascending;
 mod places_call;
 
 use counters::Used;

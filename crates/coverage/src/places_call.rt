@@ -1,7 +1,8 @@
 // The call that lists the places a transaction would write (paper 02, F-1).
-use crate::count_stretches;
-use crate::waiting;
-use crate::write_stretches;
+use crate::ascending::count;
+use crate::ascending::is_waiting;
+use crate::ascending::sweep_records;
+use crate::ascending::write;
 use ranges::Gate;
 use record::layout::Record;
 use record::layout::is_begun;
@@ -39,13 +40,14 @@ pub fn places(
     }
     let used = used_at(kept, t);
     let file = f as u16;
-    if waiting(kept, t, used, file) {
+    let s = sweep_records(kept, t, used, file);
+    if is_waiting(kept, t, used, file, s) {
         return Outcome::Refused(Refusal::NoPlaceYet);
     }
-    let n = count_stretches(kept, t, used, file);
+    let n = count(kept, t, used, file, s);
     if out.len() / 4 < n {
         return Outcome::Refused(Refusal::ListTooLong);
     }
-    write_stretches(kept, t, used, file, out);
+    write(kept, t, used, file, s, out);
     Outcome::Pairs(n as u16)
 }

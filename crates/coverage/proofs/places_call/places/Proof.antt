@@ -20,6 +20,8 @@ use Rattle.refusing.proofs.Turns.{admitted-closed, turned-follows}
 use Rattle.runs.specs.Runs.{recordedIn, Counted}
 use Rattle.runs.proofs.RunLaws.{counted}
 use Rattle.coverage.specs.Covering.{coveredAt}
+use Rattle.coverage.specs.Ascending.{WithinFile}
+use Rattle.coverage.proofs.MachineLaws.{within-file}
 use Rattle.coverage.proofs.PlacesRules.{stretches-few, places-no-file, places-waiting, places-too-long, places-meets}
 use Rattle.coverage.proofs.places_call.places.Statement.{statement}
 use Rattle.coverage.proofs.places_call.places.Tie as tie
@@ -72,6 +74,13 @@ in-counts c =
     subst (λ (u : Used). Counted (machine s .journal) (s .args .t) u) (sym (used-is c))
     (counted (transaction (machine s .store) (s .args .t)) (machine s .journal) (s .args .t) (o .small) (o .ranges))
 
+in-file : (c : tie.After-used-at) → let a = first (went-on c) .args in WithinFile (recordedIn (a .kept .now)) (a .t) (c .used-at .result .records)
+in-file c =
+    let s = first (went-on c) in
+    let m = machine s in
+    subst (λ (u : Used). WithinFile (recordedIn (s .args .kept .now)) (s .args .t) (u .records)) (sym (used-is c))
+    (within-file (transaction (m .store) (s .args .t)) (m .journal) (m .store .filenumbers) (s .args .t) (open-here (went-on c) .ranges))
+
 admit-requires : tie.Need-admit-requires
 admit-requires c κs = search needs
 
@@ -116,28 +125,33 @@ used-at-requires c κs = let-through (told-of (c .before)) .small
 cast-file : tie.Need-cast-file
 cast-file c = search needs
 
-waiting-requires : tie.Need-waiting-requires
-waiting-requires c κs = in-counts c
+sweep-records-requires : tie.Need-sweep-records-requires
+sweep-records-requires c κs = in-counts c
+
+is-waiting-requires : tie.Need-is-waiting-requires
+is-waiting-requires c κs = (in-counts (c .before), c .sweep-records .ensures)
 
 returns-4 : tie.Need-returns-4
 returns-4 c =
-    let read = c .before .before in
+    let read = c .before .before .before in
     let start = first (went-on read) in
     let out = start .args .out .now in
     turned-follows NoPlaceYet out _ _ _ _ _ _
     (places-waiting (start .args .t) (start .args .f) out (machine start) (admits (went-on read)) (read .before .if2 .left) _
     (ap (λ (u : Used). u .records) (used-is read))
-    (sym (c .before .waiting .ensures) ∙ c .if3 .taken))
+    (sym (c .before .is-waiting .ensures) ∙ c .if3 .taken))
 
 -- Each of its writes on the file has a place.
-abbrev placed-of : tie.After-count-stretches → tie.After-waiting
+abbrev placed-of : tie.After-count → tie.After-is-waiting
 placed-of c = c .before .before
 
-abbrev read-of : tie.After-count-stretches → tie.After-used-at
-read-of c = placed-of c .before
+abbrev read-of : tie.After-count → tie.After-used-at
+read-of c = placed-of c .before .before
 
-count-stretches-requires : tie.Need-count-stretches-requires
-count-stretches-requires c κs = in-counts (c .before .before)
+count-requires : tie.Need-count-requires
+count-requires c κs =
+    let swept = c .before .before in
+    ((in-counts (swept .before), in-file (swept .before)), swept .sweep-records .ensures)
 
 returns-5 : tie.Need-returns-5
 returns-5 c =
@@ -148,18 +162,19 @@ returns-5 c =
     turned-follows ListTooLong out _ _ _ _ _ _
     (places-too-long (start .args .t) (start .args .f) out (machine start) (admits (went-on read)) (read .before .if2 .left) _
     (ap (λ (u : Used). u .records) (used-is read))
-    (open-here (went-on read)) (sym (placed-of n .waiting .ensures) ∙ n .before .if3 .left) (omega (arith, c .if4 .taken, n .count-stretches .ensures)))
+    (open-here (went-on read)) (sym (placed-of n .is-waiting .ensures) ∙ n .before .if3 .left) (omega (arith, c .if4 .taken, n .count .ensures)))
 
-write-stretches-requires : tie.Need-write-stretches-requires
-write-stretches-requires c κs =
+write-requires : tie.Need-write-requires
+write-requires c κs =
     let n = c .before .before in
-    (in-counts (read-of n), omega (arith, c .before .if4 .left, n .count-stretches .ensures))
+    let read = read-of n in
+    ((in-counts read, in-file read), (placed-of n .before .sweep-records .ensures, omega (arith, c .before .if4 .left, n .count .ensures)))
 
-cast-t28 : tie.Need-cast-t28
-cast-t28 c =
+cast-t29 : tie.Need-cast-t29
+cast-t29 c =
     let n = c .before .before .before .before .before in
     let a = first (went-on (read-of n)) .args in
-    omega (arith, n .count-stretches .ensures, stretches-few (coveredAt (recordedIn (a .kept .now)) (a .t) (read-of n .used-at .result .records) (a .f)))
+    omega (arith, n .count .ensures, stretches-few (coveredAt (recordedIn (a .kept .now)) (a .t) (read-of n .used-at .result .records) (a .f)))
 
 same-length : tie.Need-same-length
 same-length c = search needs
@@ -170,11 +185,11 @@ returns-6 c =
     let read = read-of n in
     let start = first (went-on read) in
     let out = start .args .out .now in (
-      rw (c .before .before .write-stretches .ensures)
+      rw (c .before .before .write .ensures)
           (places-meets (start .args .t) (start .args .f) out (machine start) (admits (went-on read)) (read .before .if2 .left) _
           (ap (λ (u : Used). u .records) (used-is read))
-          (open-here (went-on read)) (sym (placed-of n .waiting .ensures) ∙ n .before .if3 .left)
-          (omega (arith, c .before .before .before .before .if4 .left, n .count-stretches .ensures)) _ (n .count-stretches .ensures)),
+          (open-here (went-on read)) (sym (placed-of n .is-waiting .ensures) ∙ n .before .if3 .left)
+          (omega (arith, c .before .before .before .before .if4 .left, n .count .ensures)) _ (n .count .ensures)),
       λ r e h. refl,
     )
 
@@ -191,11 +206,12 @@ places-spec =
     returns-3
     used-at-requires
     cast-file
-    waiting-requires
+    sweep-records-requires
+    is-waiting-requires
     returns-4
-    count-stretches-requires
+    count-requires
     returns-5
-    write-stretches-requires
-    cast-t28
+    write-requires
+    cast-t29
     same-length
     returns-6)

@@ -113,7 +113,7 @@ unfolding encoded sixteen
 length-encoded [] = refl
 length-encoded (s ∷ l) = omega (arith, length-encoded l)
 
-reply-alike : (file : ℕ → ℕ) (f : ℕ) (b c : List ℕ) (x : Txn) (m : Machine) (n : ℕ)
+pub reply-alike : (file : ℕ → ℕ) (f : ℕ) (b c : List ℕ) (x : Txn) (m : Machine) (n : ℕ)
     → Alike (record { reply = placesReply file f b x n; after = m }) (record { reply = placesReply file f c x n; after = m })
 unfolding placesReply shown
 reply-alike file f b c x m n = pick (isNone n)

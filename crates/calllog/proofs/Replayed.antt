@@ -45,7 +45,7 @@ text-shown (pairs n) b = ap (λ (l : List ℕ). ok ++ spacedTexts (wordsOf l)) (
 text-shown (ordered grants gap tried) b = refl
 text-shown (refused n) b = refl
 
-same-text : (x y : Turn) → Alike x y → replyText (x .reply) ≡ replyText (y .reply)
+pub same-text : (x y : Turn) → Alike x y → replyText (x .reply) ≡ replyText (y .reply)
 same-text x y h =
     sym (text-shown (x .reply .answer) (x .reply .buffer))
     ∙ ap₂ answerText (h .answer) (h .shows)

@@ -115,7 +115,7 @@ refused-alike b c m x y true false h = record { after = refl; answer = refl; sho
 refused-alike b c m x y true true h = h refl refl
 
 module _ (m : Machine) (t : ℕ) (sound : Sound m) where
-  admitted-open : (b c : List ℕ) (x y : Turn) → (t < 8 → transaction (m .store) t .begun ≡ true → Alike x y)
+  pub admitted-open : (b c : List ℕ) (x y : Turn) → (t < 8 → transaction (m .store) t .begun ≡ true → Alike x y)
       → Alike (admitted t b m x) (admitted t c m y)
   unfolding admitted admission
   admitted-open b c x y h =

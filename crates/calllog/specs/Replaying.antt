@@ -2,7 +2,7 @@
 use mathlib.Core.Bool.{Bool, false, cond, not}
 use mathlib.Core.List.{List, [], _∷_, _++_}
 use mathlib.Core.Path.{_≡_}
-use lib.Dec.{eqb, leb}
+use lib.Dec.{eqb, leb, ltb}
 use lib.ListN.{length, take, drop}
 use Prim.Native.Nat.{ℕ, suc, _+_}
 use Rattle.numerals.specs.Decimal.{past, AllBelow}
@@ -26,6 +26,10 @@ pub record Kept : Type 0 where
   pub malformed : ℕ
   pub differing : ℕ
   pub ended : Bool
+
+-- One more, as far as 64 bits go.
+unfoldable pub oneMore : ℕ → ℕ
+oneMore n = cond (ltb n 18446744073709551615) (suc n) n
 
 -- The text that a line prints, and what is kept after it.
 pub record Printed : Type 0 where
@@ -59,7 +63,7 @@ malformedLine k =
           record {
             machine = k .machine;
             answer = replyText (says (refused 17));
-            malformed = suc (k .malformed);
+            malformed = oneMore (k .malformed);
             differing = k .differing;
             ended = k .ended;
           };
@@ -72,7 +76,7 @@ compared text k =
       machine = k .machine;
       answer = k .answer;
       malformed = k .malformed;
-      differing = cond (sameBytes text (k .answer)) (k .differing) (suc (k .differing));
+      differing = cond (sameBytes text (k .answer)) (k .differing) (oneMore (k .differing));
       ended = k .ended;
     }
 

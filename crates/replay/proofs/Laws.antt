@@ -13,7 +13,7 @@ use Rattle.octets.specs.Parts.{cut}
 use Rattle.numerals.specs.Put.{Put}
 use Rattle.record.specs.Paper.{Said}
 use Rattle.calllog.specs.Answers.{answerText, sameBytes}
-use Rattle.replay.specs.Counting.{oneMore}
+use Rattle.calllog.specs.Replaying.{oneMore}
 use Rattle.calllog.proofs.AnswerTexts.{length-answer}
 
 -- a test with `!`

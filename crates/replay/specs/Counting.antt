@@ -2,19 +2,17 @@
 use mathlib.Core.Bool.{cond}
 use mathlib.Core.List.{List}
 use mathlib.Core.Path.{_≡_}
-use lib.Dec.{ltb}
-use Prim.Native.Nat.{ℕ, suc}
+use Prim.Native.Nat.{ℕ}
 use Rattle.calllog.specs.Answers.{sameBytes}
+use Rattle.calllog.specs.Replaying.{oneMore}
 use Rattle.replay.specs.declared.answering.Progress.{Progress}
-
--- One more, as far as 64 bits go.
-unfoldable pub oneMore : ℕ → ℕ
-oneMore n = cond (ltb n 18446744073709551615) (suc n) n
 
 -- After an answer of the log was compared with the one that was printed last: a difference is counted, and nothing else changes that a line
 -- needs.
 pub record Counted (p r : Progress) (text answer : List ℕ) : Type 0 where
   pub differing : r .differing ≡ cond (sameBytes text answer) (p .differing) (oneMore (p .differing))
+  pub malformed : r .malformed ≡ p .malformed
+  pub goes : r .goes ≡ p .goes
   pub held : r .held ≡ p .held
   pub at : r .at ≡ p .at
   pub waiting : r .waiting ≡ p .waiting

@@ -5,17 +5,29 @@ use numbers::BUFFER_BYTES;
 use numbers::FILE_BYTES;
 use numbers::smaller;
 use numerals::put_byte;
+use octets::parts::copy_to;
 use octets::parts::part;
 use record::TRANSACTIONS;
 use record::layout::Record;
 use record::outcomes::Outcome;
 use record::outcomes::Refusal;
 use requests::Request;
+ghost use mathlib.Core.Bool.{true};
 ghost use mathlib.Core.Path.{_≡_};
 ghost use Prim.Native.Nat.{_+_, _≤_, _<_};
-ghost use lib.ListN.{length};
+ghost use lib.ListN.{length, take, drop, replicate};
 ghost use Rattle.calllog.specs.Answers.{sameBytes};
-ghost use Rattle.replay.specs.Counting.{oneMore, Counted};
+ghost use Rattle.calllog.specs.Reading.{entryOf};
+ghost use Rattle.calllog.specs.Replaying.{oneMore, answered, entryTurn, lineTurn};
+ghost use Rattle.octets.specs.Parts.{pasted};
+ghost use Rattle.record.specs.Paper.{refused, said};
+ghost use Rattle.requests.specs.Requests.{callOf};
+ghost use Rattle.rules.specs.Calls.{call};
+ghost use Rattle.rules.specs.Messages.{Call};
+ghost use Rattle.rules.specs.Promises.{handed, handedBack};
+ghost use Rattle.replay.specs.Performing.{clippedTo, answerSize, orderSize, turnOf, Replies};
+ghost use Rattle.replay.specs.Counting.{Counted};
+ghost use Rattle.replay.specs.Turns.{keptIn, Took, Compared, Versioned, Noted};
 ghost use Rattle.replay.specs.Bounds.{ProgressIn, Onward, Resting, Told, AnswerIn, Rooms};
 
 // When more output waits than this it is written, so that the longest answer still fits in after what waits.
@@ -56,7 +68,7 @@ pub struct Progress {
     pub goes: bool,
 }
 
-// What a call answered, and how many bytes of the reader's buffer are the call's.
+// What a call answered, and how many bytes of the reader's buffer are the answer's.
 pub struct Response {
     pub outcome: Outcome,
     pub size: usize,
@@ -64,7 +76,9 @@ pub struct Response {
 
 // A Read of more bytes than the reader's buffer of this program holds, though the call's own holds them, is one of as
 // many bytes as it holds: no file has more.
-fn clipped(q: Request, room: usize) -> Request {
+fn clipped(q: Request, room: usize) -> Request
+    ensures { λ r. ⌜ r ≡ clippedTo room q ⌝ }
+{
     match q {
         Request::Read(t, d, n) => {
             if n <= room {
@@ -72,7 +86,33 @@ fn clipped(q: Request, room: usize) -> Request {
             }
             Request::Read(t, d, n)
         }
-        _ => q,
+        Request::Begin(_) => q,
+        Request::Seek(_, _, _) => q,
+        Request::Write(_, _) => q,
+        Request::GetFilePointer(_, _) => q,
+        Request::Places(_, _) => q,
+        Request::Commit(_, _) => q,
+        Request::Abort(_) => q,
+        Request::SetWindow(_, _, _) => q,
+        Request::TakeBack => q,
+    }
+}
+
+// How many bytes of the reader's buffer a call of the request answers in, if that has n.
+fn answer_size(q: Request, n: usize) -> usize
+    ensures { λ r. ⌜ r ≡ answerSize q n ⌝ }
+{
+    match q {
+        Request::Read(_, _, _) => n,
+        Request::Places(_, _) => n,
+        Request::Begin(_) => 0,
+        Request::Seek(_, _, _) => 0,
+        Request::Write(_, _) => 0,
+        Request::GetFilePointer(_, _) => 0,
+        Request::Commit(_, _) => 0,
+        Request::Abort(_) => 0,
+        Request::SetWindow(_, _, _) => 0,
+        Request::TakeBack => 0,
     }
 }
 
@@ -88,9 +128,12 @@ fn perform_request(
     reader: &mut [u8],
 ) -> Response
     requires { ⌜ length (now reader) ≡ 4097 ⌝ }
-    ensures { λ r. ⌜ r .size ≤ 4097 ⌝ }
+    ensures { λ r. ⌜ (r .size ≤ 4097)
+        × Replies (call (callOf q (now (bytes .entry)) (replicate room 0)) (handed kept files logs marks undo))
+        (r .outcome) (handedBack kept files logs marks undo) (take (r .size) (now (reader .exit))) ⌝ }
 {
     let n = smaller(room, WRITTEN);
+    let size = answer_size(q, n);
     let o = requests::perform(
         kept,
         files,
@@ -101,20 +144,29 @@ fn perform_request(
         bytes,
         &mut reader[..n],
     );
-    Response {
-        outcome: o,
-        size: n,
-    }
+    Response { outcome: o, size }
 }
 
 // Puts an order to the front of the reader's buffer.
 fn put_order(reader: &mut [u8], order: [u8; TRANSACTIONS])
     requires { ⌜ 8 ≤ length (now reader) ⌝ }
+    ensures { λ _. ⌜ (length order ≡ 8) × (now (reader .exit) ≡ pasted (now (reader .entry)) 0 order) ⌝ }
 {
-    let mut i = 0;
-    while i < TRANSACTIONS {
-        reader[i] = order[i];
-        i += 1;
+    copy_to(reader, 0, &order);
+}
+
+// How many bytes of an order of n transactions are answered.
+fn order_size(o: Outcome, n: usize) -> usize
+    ensures { λ r. ⌜ r ≡ orderSize o n ⌝ }
+{
+    match o {
+        Outcome::Ordered(_, _, _) => smaller(n, TRANSACTIONS),
+        Outcome::Done => 0,
+        Outcome::Offset(_) => 0,
+        Outcome::Given(_) => 0,
+        Outcome::Granted(_) => 0,
+        Outcome::Pairs(_) => 0,
+        Outcome::Refused(_) => 0,
     }
 }
 
@@ -130,15 +182,25 @@ fn perform_order(
     reader: &mut [u8],
 ) -> Response
     requires { ⌜ length (now reader) ≡ 4097 ⌝ }
-    ensures { λ r. ⌜ r .size ≤ 4097 ⌝ }
+    ensures { λ r. ⌜ (r .size ≤ 4097)
+        × Replies (call (Call.bestOrder (now (list .entry)) minute budget) (handed kept files logs marks undo))
+        (r .outcome) (handedBack kept files logs marks undo) (take (r .size) (now (reader .exit))) ⌝ }
 {
     let best = ordering::best_order(kept, files, logs, marks, undo, list, minute, budget);
     let o = best.outcome;
     let order = best.order;
     put_order(reader, order);
+    let size = order_size(o, list.len());
+    Response { outcome: o, size }
+}
+
+// What is answered to a line that is no call.
+fn no_call() -> Response
+    ensures { λ r. ⌜ (r .size ≡ 0) × (said (r .outcome) ≡ refused 17) ⌝ }
+{
     Response {
-        outcome: o,
-        size: smaller(list.len(), TRANSACTIONS),
+        outcome: Outcome::Refused(Refusal::BadLine),
+        size: 0,
     }
 }
 
@@ -154,7 +216,9 @@ fn perform_line(
     reader: &mut [u8],
 ) -> Response
     requires { ⌜ (length (now bytes) ≡ 4097) × (length (now reader) ≡ 4097) ⌝ }
-    ensures { λ r. ⌜ r .size ≤ 4097 ⌝ }
+    ensures { λ r. ⌜ (r .size ≤ 4097)
+        × Replies (turnOf (entryOf said (now (bytes .entry))) (handed kept files logs marks undo))
+        (r .outcome) (handedBack kept files logs marks undo) (take (r .size) (now (reader .exit))) ⌝ }
 {
     match said {
         Line::Fresh(n) => {
@@ -193,10 +257,10 @@ fn perform_line(
             budget,
             reader,
         ),
-        _ => Response {
-            outcome: Outcome::Refused(Refusal::BadLine),
-            size: 0,
-        },
+        Line::Another => no_call(),
+        Line::Comment => no_call(),
+        Line::Expects => no_call(),
+        Line::Version(_) => no_call(),
     }
 }
 
@@ -248,7 +312,12 @@ fn answer(
     out: &mut [u8],
 ) -> Progress
     requires { ⌜ (p .waiting ≤ 40000) × Rooms (now bytes) (now reader) (now out) ⌝ }
-    ensures { λ r. ⌜ Told p r ⌝ }
+    ensures { λ r. ⌜ Told p r × Took
+        (answered (turnOf (entryOf said (now (bytes .entry))) (handed kept files logs marks undo))
+        (keptIn p (handed kept files logs marks undo) (now (out .entry))))
+        (take (p .waiting) (now (out .entry)))
+        (keptIn r (handedBack kept files logs marks undo) (now (out .exit)))
+        (take (r .waiting) (now (out .exit))) ⌝ }
 {
     let a = perform_line(kept, files, logs, marks, undo, said, bytes, reader);
     let n = a.size;
@@ -276,33 +345,32 @@ fn expect(mut p: Progress, text: &[u8], answer: &[u8]) -> Progress
 // Compares the answer behind `= ` with the one that was printed last.
 fn expect_line(p: Progress, line: &[u8], out: &[u8]) -> Progress
     requires { ⌜ (p .waiting ≤ 40000) × (AnswerIn p × (length (now out) ≡ 131072)) ⌝ }
-    ensures { λ r. ⌜ Told p r ⌝ }
+    ensures { λ r. ⌜ Told p r × Compared p r (drop 2 (now (line .entry))) (now (out .entry)) ⌝ }
 {
-    if line.len() < 2 {
-        return p;
-    }
     let from = p.from;
     let size = p.end - from;
-    let text = line.len() - 2;
-    expect(p, part(line, 2, text), part(out, from, size))
+    let start = smaller(2, line.len());
+    let text = line.len() - start;
+    expect(p, part(line, start, text), part(out, from, size))
 }
 
 // Another version ends the run, and is said.
 fn take_version(mut p: Progress, version: usize) -> Progress
-    requires { ⌜ (p .waiting ≤ 40000) × AnswerIn p ⌝ }
-    ensures { λ r. ⌜ Told p r ⌝ }
+    requires { ⌜ (p .waiting ≤ 40000) × (AnswerIn p × (p .goes ≡ true)) ⌝ }
+    ensures { λ r. ⌜ Told p r × Versioned p r version ⌝ }
 {
-    if version != VERSION {
-        p.goes = false;
-        crate::stdio::say_version(version as u64, p.lines);
+    if version == VERSION {
+        return p;
     }
+    p.goes = false;
+    crate::stdio::say_version(version as u64, p.lines);
     p
 }
 
 // Counts a line of another form, and notes whether it ends in byte 13.
 fn note_malformed(mut p: Progress, line: &[u8]) -> Progress
     requires { ⌜ (p .waiting ≤ 40000) × AnswerIn p ⌝ }
-    ensures { λ r. ⌜ (Told p r) × (r .waiting ≡ p .waiting) ⌝ }
+    ensures { λ r. ⌜ Told p r × Noted p r ⌝ }
 {
     p.malformed_at = first_at(p.malformed, p.malformed_at, p.lines);
     p.malformed = counted(p.malformed);
@@ -336,8 +404,14 @@ fn act(
     reader: &mut [u8],
     out: &mut [u8],
 ) -> Progress
-    requires { ⌜ (p .waiting ≤ 40000) × (AnswerIn p × Rooms (now bytes) (now reader) (now out)) ⌝ }
-    ensures { λ r. ⌜ Told p r ⌝ }
+    requires { ⌜ (p .waiting ≤ 40000) × (AnswerIn p × ((p .goes ≡ true)
+        × Rooms (now bytes) (now reader) (now out))) ⌝ }
+    ensures { λ r. ⌜ Told p r × Took
+        (entryTurn (now (line .entry)) (entryOf said (now (bytes .entry)))
+        (keptIn p (handed kept files logs marks undo) (now (out .entry))))
+        (take (p .waiting) (now (out .entry)))
+        (keptIn r (handedBack kept files logs marks undo) (now (out .exit)))
+        (take (r .waiting) (now (out .exit))) ⌝ }
 {
     match said {
         Line::Comment => p,
@@ -347,7 +421,9 @@ fn act(
             let q = note_malformed(p, line);
             answer(q, kept, files, logs, marks, undo, said, bytes, reader, out)
         }
-        _ => answer(p, kept, files, logs, marks, undo, said, bytes, reader, out),
+        Line::Fresh(_) => answer(p, kept, files, logs, marks, undo, said, bytes, reader, out),
+        Line::Asks(_, _, _) => answer(p, kept, files, logs, marks, undo, said, bytes, reader, out),
+        Line::Order(_, _, _) => answer(p, kept, files, logs, marks, undo, said, bytes, reader, out),
     }
 }
 
@@ -367,7 +443,11 @@ fn take_line(
 ) -> Progress
     requires { ⌜ (p .waiting ≤ 40000) × (AnswerIn p × ((length (now numbers) ≡ 18)
         × Rooms (now bytes) (now reader) (now out))) ⌝ }
-    ensures { λ r. ⌜ Told p r ⌝ }
+    ensures { λ r. ⌜ Told p r × Took
+        (lineTurn (now (line .entry)) (keptIn p (handed kept files logs marks undo) (now (out .entry))))
+        (take (p .waiting) (now (out .entry)))
+        (keptIn r (handedBack kept files logs marks undo) (now (out .exit)))
+        (take (r .waiting) (now (out .exit))) ⌝ }
 {
     if !p.goes {
         return p;

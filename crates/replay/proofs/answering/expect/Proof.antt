@@ -9,6 +9,8 @@ returns : tie.Need-returns
 returns c =
     record {
       differing = same-count _ _ _ (c .before .is-same .ensures) (c .if1 .taken);
+      malformed = refl;
+      goes = refl;
       held = refl;
       at = refl;
       waiting = refl;
@@ -20,6 +22,8 @@ returns-2 : tie.Need-returns-2
 returns-2 c =
     record {
       differing = other-count _ _ _ _ (c .before .before .before .is-same .ensures) (c .before .before .if1 .left) (c .counted .ensures);
+      malformed = refl;
+      goes = refl;
       held = refl;
       at = refl;
       waiting = refl;

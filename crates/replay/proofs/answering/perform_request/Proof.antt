@@ -1,20 +1,27 @@
 -- `perform_request` meets its contract. Assumes nothing.
-use mathlib.Core.Path.{_≡_, refl, sym, ap, _∙_}
-use mathlib.Core.Bool.{true, false, false≢true}
 use Prim.Native.Nat.{ℕ, _+_, _-_, _*_, _≤_, _<_}
-use native.Mathlib.Omega.{arith}
-use lib.ListN.{length, take, length-take}
-use lib.Seq.{length-take-le}
 use borrow.Author.Needs.{needs}
-use Rattle.octets.specs.Parts.{cut}
-use Rattle.replay.specs.Bounds.{AnswerIn, ProgressIn, Resting, Onward, Told, Rooms}
-use Rattle.replay.proofs.Laws.{off, on, part-short, reply-end}
+use lib.ListN.{length, take, length-take}
+use mathlib.Core.Path.{_≡_, refl, sym, ap, _∙_}
+use native.Mathlib.Omega.{arith}
+use Rattle.replay.proofs.Performing.{request-replies, size-within}
 use Rattle.replay.proofs.answering.perform_request.Statement.{statement}
 use Rattle.replay.proofs.answering.perform_request.Tie as tie
 
 slice-aggregate-perform : tie.Need-slice-aggregate-perform
-slice-aggregate-perform c =
-    omega (arith, length-take (c .before .before .before .before .before .before .before .smaller .result) (c .before .before .before .before .before .before .before .before .before .before .args .reader .now), c .before .before .before .before .before .before .before .smaller .ensures, c .before .before .before .before .before .before .before .before .before .before .pre)
+slice-aggregate-perform c = omega (arith, length-take (c .before .before .before .before .before .before .before .before .smaller .result) (c .before .before .before .before .before .before .before .before .before .before .before .args .reader .now), c .before .before .before .before .before .before .before .before .smaller .ensures, c .before .before .before .before .before .before .before .before .before .before .before .pre)
+
+returns : tie.Need-returns
+returns c =
+    let start = c .before .before .before .before .before .before .before .before .before .before .before .before .before .before in
+    let a = start .args in
+    let n = c .before .before .before .before .before .before .before .before .before .before .before .smaller .ensures in
+    let part = length-take (c .before .before .before .before .before .before .before .before .before .before .before .smaller .result) (a .reader .now) in
+    let o = c .before .before .perform in
+    let size = c .before .before .before .before .before .before .before .before .before .before .answer-size .ensures in (
+      size-within _ _ _ size (omega (arith, n)),
+      request-replies _ _ _ _ _ _ _ _ _ _ _ _ _ _ _ _ (c .before .before .before .before .clipped .ensures) size n (omega (arith, part, n, start .pre)) (omega (arith, o .kept, part, n, start .pre)) (o .ensures .0),
+    )
 
 pub perform-request-spec : {M : Type 1} → statement M
 perform-request-spec =
@@ -22,8 +29,9 @@ perform-request-spec =
     (tie.spec
     (λ c κs. search needs)
     (λ c κs. search needs)
+    (λ c κs. search needs)
     (λ c. search needs)
     slice-aggregate-perform
     (λ c κs. search needs)
     (λ c. search needs)
-    (λ c. search needs))
+    returns)

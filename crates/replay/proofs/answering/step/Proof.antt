@@ -44,7 +44,7 @@ same-length-2 c =
 returns-2 : tie.Need-returns-2
 returns-2 c =
     let went = c .before .before .before .before .before .before .before .before .before .before .before .before .before .before .before .before .before .before .before .before .before .before .before .before .next .ensures .1 in
-    let t = c .before .before .before .before .before .before .before .before .take-line .ensures in
+    let t = c .before .before .before .before .before .before .before .before .take-line .ensures .0 in
     let past = went .past (on (c .before .before .before .before .before .before .before .before .before .before .before .before .before .before .before .before .before .before .before .before .before .before .before .before .next .result .complete) (c .before .before .before .before .before .before .before .before .before .before .before .before .before .before .before .before .before .before .before .before .if1 .left)) in
     record {
       held = omega (arith, t .held);

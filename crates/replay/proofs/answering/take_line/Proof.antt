@@ -1,0 +1,43 @@
+-- `take_line` meets its contract. Assumes nothing.
+use borrow.Author.Needs.{needs}
+use mathlib.Core.Path.{_≡_, refl, sym, ap, _∙_}
+use native.Mathlib.Omega.{arith}
+use Rattle.replay.proofs.Laws.{off, on}
+use Rattle.replay.proofs.TurnLaws.{ended-took, line-took}
+use Rattle.replay.proofs.answering.take_line.Statement.{statement}
+use Rattle.replay.proofs.answering.take_line.Tie as tie
+
+returns : tie.Need-returns
+returns c =
+    let start = c .before .before .before .before .before .before .before in (
+      record { held = refl; at = refl; waiting = omega (arith, start .pre .0); answer = start .pre .1 .0 },
+      ended-took _ (start .args .p) _ _ (off _ (c .if1 .taken)),
+    )
+
+act-requires : tie.Need-act-requires
+act-requires c κs =
+    let start = c .before .before .before .before .before .before .before .before .before .before .before .before .before .before .before .before .before .before .before .before .before .before .before in
+    let p = start .pre in
+    (p .0, (record { starts = p .1 .0 .starts; ends = p .1 .0 .ends }, (on _ (c .before .before .before .before .before .before .before .before .before .before .before .before .before .before .before .before .if1 .left), search needs)))
+
+returns-2 : tie.Need-returns-2
+returns-2 c =
+    let start = c .before .before .before .before .before .before .before .before .before .before .before .before .before .before .before .before .before .before .before .before .before .before .before .before .before .before .before .before in
+    let t = c .before .before .before .before .act .ensures in (
+      record { held = t .0 .held; at = t .0 .at; waiting = t .0 .waiting; answer = t .0 .answer },
+      line-took (start .args .line .now) _ _ (start .args .p) _ _ _ _ (on _ (c .before .before .before .before .before .before .before .before .before .before .before .before .before .before .before .before .before .before .before .before .before .if1 .left)) (c .before .before .before .before .before .before .before .before .before .before .before .before .before .before .before .before .before .parse .ensures .means) (t .1),
+    )
+
+pub take-line-spec : {M : Type 1} → statement M
+take-line-spec =
+    tie.close
+    (tie.spec
+    returns
+    (λ c κs. search needs)
+    (λ c κs. search needs)
+    act-requires
+    (λ c. search needs)
+    (λ c. search needs)
+    (λ c. search needs)
+    (λ c. search needs)
+    returns-2)

@@ -11,11 +11,13 @@ use Rattle.standings.specs.declared.Place.{Place}
 use Rattle.standings.specs.declared.Place.the-variants.{At, After}
 use Rattle.rules.specs.Transactions.{Write}
 use Rattle.rules.specs.Reading.{over}
-use Rattle.rules.specs.Coverage.{Stretch, stretch, withPlace, stretchesFrom, stretchesOf, someWrite, coversPlace, covered}
+use Rattle.rules.specs.Coverage.{Stretch, stretch, withPlace, stretchesFrom}
+use Rattle.rules.specs.Coverage.{stretchesOf, someWrite, coversPlace, covered}
 
 -- ---- a stretch ends where its set does
 
-joined-length : (p : ℕ) (l : List Stretch) → length (withPlace p (withPlace (suc p) l)) ≡ length (withPlace (suc p) l)
+joined-length : (p : ℕ) (l : List Stretch)
+    → length (withPlace p (withPlace (suc p) l)) ≡ length (withPlace (suc p) l)
 unfolding withPlace
 joined-length p [] = rw (eq-eqb (suc p) (suc p) refl)
 joined-length p (s ∷ l) = pick (eqb (s .offset) (suc (suc p)))
@@ -31,7 +33,8 @@ unfolding withPlace
 with-length p [] = omega arith
 with-length p (s ∷ l) = pick (eqb (s .offset) (suc p))
   where
-    pick : (b : Bool) → length (cond b (stretch p (suc (s .length)) ∷ l) (stretch p 1 ∷ (s ∷ l))) ≤ suc (suc (length l))
+    pick : (b : Bool)
+        → length (cond b (stretch p (suc (s .length)) ∷ l) (stretch p 1 ∷ (s ∷ l))) ≤ suc (suc (length l))
     pick true = omega arith
     pick false = omega arith
 
@@ -42,7 +45,8 @@ countFrom E p (suc n) = cond (E p) (suc (countFrom E (suc p) n)) (countFrom E (s
 
 one-more : (s s′ e : Bool) (p : ℕ) (l : List Stretch) (c : ℕ) → (s ≡ true → s′ ≡ false → e ≡ true)
     → length (cond s′ (withPlace (suc p) l) l) ≤ suc c
-    → length (cond s (withPlace p (cond s′ (withPlace (suc p) l) l)) (cond s′ (withPlace (suc p) l) l)) ≤ suc (cond e (suc c) c)
+    → length (cond s (withPlace p (cond s′ (withPlace (suc p) l) l)) (cond s′ (withPlace (suc p) l) l)) ≤ suc
+    (cond e (suc c) c)
 one-more false s′ true p l c h k = omega (arith, k)
 one-more false s′ false p l c h k = k
 one-more true true true p l c h k = omega (arith, k, joined-length p l)
@@ -62,7 +66,8 @@ module _ (S E : ℕ → Bool) (ends : (q : ℕ) → S q ≡ true → S (suc q) �
       pick false true = omega arith
       pick false false = omega arith
   few-from p (suc (suc n)) =
-      one-more (S p) (S (suc p)) (E p) p (stretchesFrom S (suc (suc p)) n) (countFrom E (suc p) (suc n)) (ends p) (few-from (suc p) (suc n))
+      one-more (S p) (S (suc p)) (E p) p (stretchesFrom S (suc (suc p)) n) (countFrom E (suc p) (suc n))
+      (ends p) (few-from (suc p) (suc n))
 
 -- ---- each write ends once
 
@@ -82,7 +87,8 @@ once e p zero = omega arith
 once e p (suc n) = pick (once e (suc p) n) (eqb (suc p) e) refl
   where
     pick : countFrom (λ q. eqb (suc q) e) (suc p) n ≤ 1 → (b : Bool) → eqb (suc p) e ≡ b
-        → cond b (suc (countFrom (λ q. eqb (suc q) e) (suc p) n)) (countFrom (λ q. eqb (suc q) e) (suc p) n) ≤ 1
+        → cond b (suc (countFrom (λ q. eqb (suc q) e) (suc p) n))
+        (countFrom (λ q. eqb (suc q) e) (suc p) n) ≤ 1
     pick h true x = omega (arith, no-later e (suc p) n (omega (arith, eqb-true (suc p) e x)))
     pick h false x = h
 
@@ -91,7 +97,8 @@ unfolding countFrom
 either t u p zero = omega arith
 either t u p (suc n) = pick (t p) (u p) _ _ _ (either t u (suc p) n)
   where
-    pick : (a b : Bool) (c x y : ℕ) → c ≤ x + y → cond (a || b) (suc c) c ≤ cond a (suc x) x + cond b (suc y) y
+    pick : (a b : Bool) (c x y : ℕ) → c ≤ x + y
+        → cond (a || b) (suc c) c ≤ cond a (suc x) x + cond b (suc y) y
     pick true true c x y h = omega (arith, h)
     pick true false c x y h = omega (arith, h)
     pick false true c x y h = omega (arith, h)
@@ -110,13 +117,15 @@ and-both : (a b : Bool) → (a && b) ≡ true → (a ≡ true) × (b ≡ true)
 and-both true b e = (refl, e)
 and-both false b e = absurd (false≢true e)
 
-over-end : (l : Place) (n q : ℕ) → over l n q ≡ true → over l n (suc q) ≡ false → eqb (suc q) (endAt l n) ≡ true
+over-end : (l : Place) (n q : ℕ) → over l n q ≡ true → over l n (suc q) ≡ false
+    → eqb (suc q) (endAt l n) ≡ true
 unfolding over endAt
 over-end (At a) n q ins out =
     let y = and-both (leb a q) (ltb q (a + n)) ins in
     let g = leb-true a q (y .0) in
     let l = ltb-true q (a + n) (y .1) in
-    pick (ltb (suc q) (a + n)) refl (sym (ap (λ (b : Bool). b && ltb (suc q) (a + n)) (le-leb a (suc q) (omega arith))) ∙ out) l
+    pick (ltb (suc q) (a + n)) refl
+    (sym (ap (λ (b : Bool). b && ltb (suc q) (a + n)) (le-leb a (suc q) (omega arith))) ∙ out) l
   where
     pick : (b : Bool) → ltb (suc q) (a + n) ≡ b → b ≡ false → q < a + n → eqb (suc q) (a + n) ≡ true
     pick true e x l = absurd (false≢true (sym x))
@@ -132,29 +141,44 @@ either-ends false b false d true y h k e g = refl
 either-ends false b false d false y h k e g = k e g
 
 module _ (file : ℕ → ℕ) (f : ℕ) where
-  write-end : (w : Write) (q : ℕ) → coversPlace file f q w ≡ true → coversPlace file f (suc q) w ≡ false → endsAt q w ≡ true
+  write-end : (w : Write) (q : ℕ) → coversPlace file f q w ≡ true → coversPlace file f (suc q) w ≡ false
+      → endsAt q w ≡ true
   unfolding coversPlace
   write-end w q ins out = pick (eqb (file (w .descriptor)) f) ins out
     where
-      pick : (b : Bool) → (b && over (w .place) (length (w .bytes)) q) ≡ true → (b && over (w .place) (length (w .bytes)) (suc q)) ≡ false
+      pick : (b : Bool) → (b && over (w .place) (length (w .bytes)) q) ≡ true
+          → (b && over (w .place) (length (w .bytes)) (suc q)) ≡ false
           → endsAt q w ≡ true
       pick true ins out = over-end (w .place) (length (w .bytes)) q ins out
       pick false ins out = absurd (false≢true ins)
 
-  some-end : (ws : List Write) (q : ℕ) → covered file f ws q ≡ true → covered file f ws (suc q) ≡ false → someWrite (endsAt q) ws ≡ true
+  some-end : (ws : List Write) (q : ℕ) → covered file f ws q ≡ true → covered file f ws (suc q) ≡ false
+      → someWrite (endsAt q) ws ≡ true
   unfolding covered someWrite
   some-end [] q ins out = absurd (false≢true ins)
   some-end (w ∷ ws) q ins out =
-      either-ends (coversPlace file f q w) (covered file f ws q) (coversPlace file f (suc q) w) (covered file f ws (suc q)) _ _
+      either-ends (coversPlace file f q w) (covered file f ws q) (coversPlace file f (suc q) w)
+      (covered file f ws (suc q)) _ _
       (write-end w q) (some-end ws q) ins out
 
   few-ends : (ws : List Write) (p n : ℕ) → countFrom (λ q. someWrite (endsAt q) ws) p n ≤ length ws
   unfolding someWrite
   few-ends [] p n = omega (arith, none-at p n)
   few-ends (w ∷ ws) p n =
-      omega (arith, either (λ q. endsAt q w) (λ q. someWrite (endsAt q) ws) p n, once (endAt (w .place) (length (w .bytes))) p n, few-ends ws p n)
+      omega (
+        arith,
+        either (λ q. endsAt q w) (λ q. someWrite (endsAt q) ws) p n,
+        once
+            (endAt (w .place) (length (w .bytes))) p n,
+        few-ends ws p n,
+      )
 
   pub few-stretches : (ws : List Write) → length (stretchesOf (covered file f ws)) ≤ suc (length ws)
   unfolding stretchesOf
   few-stretches ws =
-      omega (arith, few-from (covered file f ws) (λ q. someWrite (endsAt q) ws) (some-end ws) 0 4096, few-ends ws 0 4096)
+      omega (
+        arith,
+        few-from (covered file f ws) (λ q. someWrite (endsAt q) ws)
+            (some-end ws) 0 4096,
+        few-ends ws 0 4096,
+      )

@@ -21,9 +21,11 @@ use Rattle.rules.specs.Messages.{says}
 use Rattle.calllog.specs.Answers.{answerText, replyText, sameBytes}
 use Rattle.calllog.specs.Log.{Entry, another, callIn}
 use Rattle.calllog.specs.Reading.{entryOf}
-use Rattle.calllog.specs.Replaying.{Kept, Printed, silent, answered, malformedLine, compared, versioned, entryTurn, lineTurn, oneMore}
+use Rattle.calllog.specs.Replaying.{Kept, Printed, silent, answered, malformedLine}
+use Rattle.calllog.specs.Replaying.{compared, versioned, entryTurn, lineTurn, oneMore}
 use Rattle.calllog.specs.declared.parsing.Line.{Line}
-use Rattle.calllog.specs.declared.parsing.Line.the-variants.{Another, Comment, Expects, Version, Fresh, Asks, Order}
+use Rattle.calllog.specs.declared.parsing.Line.the-variants.{Another, Comment, Expects}
+use Rattle.calllog.specs.declared.parsing.Line.the-variants.{Version, Fresh, Asks, Order}
 use Rattle.replay.specs.Counting.{Counted}
 use Rattle.replay.specs.Performing.{turnOf, Replies}
 use Rattle.replay.specs.Turns.{keptIn, Took, Compared, Versioned, Noted}
@@ -32,7 +34,8 @@ use Rattle.replay.specs.declared.answering.Progress.{Progress}
 -- ---- texts
 
 -- what waits after a text was put at its end
-put-text : (before : List ℕ) (at : ℕ) (text after : List ℕ) (next : ℕ) → at ≤ length before → Put before at text after next
+put-text : (before : List ℕ) (at : ℕ) (text after : List ℕ) (next : ℕ) → at ≤ length before
+    → Put before at text after next
     → take next after ≡ take at before ++ text
 unfolding pasted
 put-text before at text after next h p =
@@ -43,7 +46,8 @@ put-text before at text after next h p =
     ap₂ take e (p .bytes ∙ sym (append-assoc (take at before) text (drop (at + length text) before)))
     ∙ take-append-seam front (drop (at + length text) before)
 
-module _ (out mid after : List ℕ) (from end next : ℕ) (text : List ℕ) (fits : from + length text + 1 ≤ length out)
+module _ (out mid after : List ℕ) (from end next : ℕ) (text : List ℕ)
+    (fits : from + length text + 1 ≤ length out)
     (a : Put out from text mid end) (b : Put mid end (10 ∷ []) after next) where
   line-waits : take next after ≡ take from out ++ (text ++ (10 ∷ []))
   line-waits = put-text out from (text ++ (10 ∷ [])) after next (omega arith) (then text (10 ∷ []) fits a b)
@@ -53,7 +57,8 @@ module _ (out mid after : List ℕ) (from end next : ℕ) (text : List ℕ) (fit
       let e : end - from ≡ length text = omega (arith, a .end) in
       let l = kept text (omega arith) a in
       ap₂ (λ (l : List ℕ) (n : ℕ). cut l from n) (b .bytes) e
-      ∙ cut-pasted-before mid end (10 ∷ []) (omega (arith, a .end, l)) from (length text) (omega (arith, a .end))
+      ∙ cut-pasted-before mid end (10 ∷ []) (omega (arith, a .end, l)) from (length text)
+      (omega (arith, a .end))
       ∙ ap (λ (l : List ℕ). cut l from (length text)) (a .bytes)
       ∙ cut-pasted out from text (omega arith)
 
@@ -63,17 +68,21 @@ abbrev keeping : Machine → List ℕ → ℕ → ℕ → Bool → Kept
 keeping m answer malformed differing ended =
     record { machine = m; answer = answer; malformed = malformed; differing = differing; ended = ended }
 
-same-kept : (m : Machine) (a b : List ℕ) (n k i j : ℕ) (s t : Bool) → a ≡ b → n ≡ k → i ≡ j → s ≡ t → keeping m a n i s ≡ keeping m b k j t
+same-kept : (m : Machine) (a b : List ℕ) (n k i j : ℕ) (s t : Bool) → a ≡ b → n ≡ k → i ≡ j → s ≡ t
+    → keeping m a n i s ≡ keeping m b k j t
 same-kept m a b n k i j s t p q r u =
     ap₂ (λ (x : List ℕ) (y : ℕ). keeping m x y i s) p q ∙ ap₂ (λ (x : ℕ) (y : Bool). keeping m b k x y) r u
 
 -- ---- an answer is printed
 
-pub answered-took : (w : Turn) (p : Progress) (m m′ : Machine) (o : Outcome) (reader buffer out mid after : List ℕ) (n end next : ℕ)
-    → p .waiting + length (answerText (said o) buffer) + 1 ≤ length out → buffer ≡ cut reader 0 n → Replies w o m′ (take n reader)
+pub answered-took : (w : Turn) (p : Progress) (m m′ : Machine) (o : Outcome)
+    (reader buffer out mid after : List ℕ) (n end next : ℕ)
+    → p .waiting + length (answerText (said o) buffer) + 1 ≤ length out → buffer ≡ cut reader 0 n
+    → Replies w o m′ (take n reader)
     → Put out (p .waiting) (answerText (said o) buffer) mid end → Put mid end (10 ∷ []) after next
     → Took (answered w (keptIn p m out)) (take (p .waiting) out)
-    (keeping m′ (cut after (p .waiting) (end - p .waiting)) (p .malformed) (p .differing) (not (p .goes))) (take next after)
+    (keeping m′ (cut after (p .waiting) (end - p .waiting)) (p .malformed) (p .differing) (not (p .goes)))
+    (take next after)
 unfolding answered cut
 answered-took w p m m′ o reader buffer out mid after n end next fits is h a b =
     let text = answerText (said o) buffer in
@@ -83,7 +92,8 @@ answered-took w p m m′ o reader buffer out mid after n end next fits is h a b 
           line-waits out mid after (p .waiting) end next text fits a b
           ∙ ap (λ (t : List ℕ). take (p .waiting) out ++ (t ++ (10 ∷ []))) same;
       keeps =
-          ap₂ (λ (x : Machine) (t : List ℕ). keeping x t (p .malformed) (p .differing) (not (p .goes))) (h .machine)
+          ap₂ (λ (x : Machine) (t : List ℕ). keeping x t (p .malformed) (p .differing) (not (p .goes)))
+          (h .machine)
           (answer-stands out mid after (p .waiting) end next text fits a b ∙ same);
     }
 
@@ -106,18 +116,21 @@ behind-two l s n is size = pick (leb 2 (length l)) refl
         let two : drop 2 l ≡ [] = drop-of-length-le l short in
         ap (take n) none ∙ take-all n [] (omega arith) ∙ sym two
 
-pub counted-here : (p r : Progress) (x text y answer : List ℕ) → x ≡ text → y ≡ answer → Counted p r x y → Counted p r text answer
+pub counted-here : (p r : Progress) (x text y answer : List ℕ) → x ≡ text → y ≡ answer → Counted p r x y
+    → Counted p r text answer
 counted-here p r x text y answer e f h =
     subst (λ (t : List ℕ). Counted p r t answer) e (subst (λ (a : List ℕ). Counted p r x a) f h)
 
-pub counted-compared : (p r : Progress) (text out : List ℕ) → Counted p r text (cut out (p .from) (p .end - p .from)) → Compared p r text out
+pub counted-compared : (p r : Progress) (text out : List ℕ)
+    → Counted p r text (cut out (p .from) (p .end - p .from)) → Compared p r text out
 unfolding compared
 counted-compared p r text out h =
     record {
       waiting = h .waiting;
       keeps =
           λ m. same-kept m _ _ _ _ _ _ _ _
-          (ap₂ (λ (i k : ℕ). cut out i (k - i)) (h .starts) (h .ends)) (h .malformed) (h .differing) (ap not (h .goes));
+          (ap₂ (λ (i k : ℕ). cut out i (k - i)) (h .starts) (h .ends)) (h .malformed) (h .differing)
+          (ap not (h .goes));
     }
 
 -- ---- a version
@@ -125,16 +138,22 @@ counted-compared p r text out h =
 pub known-version : (p : Progress) (v : ℕ) → p .goes ≡ true → v ≡ 1 → Versioned p p v
 unfolding versioned
 known-version p v go e =
-    record { waiting = refl; keeps = λ m out. same-kept m _ _ _ _ _ _ _ _ refl refl refl (ap not (go ∙ sym (eq-eqb v 1 e))) }
+    record {
+      waiting = refl;
+      keeps = λ m out. same-kept m _ _ _ _ _ _ _ _ refl refl refl
+          (ap not (go ∙ sym (eq-eqb v 1 e)));
+    }
 
-pub other-version : (p r : Progress) (v : ℕ) → (v ≡ 1 → ⊥) → r .waiting ≡ p .waiting → r .from ≡ p .from → r .end ≡ p .end
+pub other-version : (p r : Progress) (v : ℕ) → (v ≡ 1 → ⊥) → r .waiting ≡ p .waiting → r .from ≡ p .from
+    → r .end ≡ p .end
     → r .malformed ≡ p .malformed → r .differing ≡ p .differing → r .goes ≡ false → Versioned p r v
 unfolding versioned
 other-version p r v e w f n i d g =
     record {
       waiting = w;
       keeps =
-          λ m out. same-kept m _ _ _ _ _ _ _ _ (ap₂ (λ (i k : ℕ). cut out i (k - i)) f n) i d (ap not (g ∙ sym (ne-eqb v 1 e)));
+          λ m out. same-kept m _ _ _ _ _ _ _ _ (ap₂ (λ (i k : ℕ). cut out i (k - i)) f n) i d (ap not (g
+          ∙ sym (ne-eqb v 1 e)));
     }
 
 -- ---- a line
@@ -151,13 +170,16 @@ counted-took p q m out k waiting n t =
     }
 
 module _ (line bytes : List ℕ) (l : Line) (p : Progress) (m : Machine) (out : List ℕ) where
-  pub comment-took : l ≡ Comment → Took (entryTurn line (entryOf l bytes) (keptIn p m out)) (take (p .waiting) out) (keptIn p m out) (take (p .waiting) out)
+  pub comment-took : l ≡ Comment
+      → Took (entryTurn line (entryOf l bytes) (keptIn p m out)) (take (p .waiting) out) (keptIn p m out)
+      (take (p .waiting) out)
   unfolding entryTurn entryOf silent
   comment-took e = rw e (record { says = sym (append-nil (take (p .waiting) out)); keeps = refl })
 
   module _ (r : Progress) where
     pub expects-took : l ≡ Expects → Compared p r (drop 2 line) out
-        → Took (entryTurn line (entryOf l bytes) (keptIn p m out)) (take (p .waiting) out) (keptIn r m out) (take (r .waiting) out)
+        → Took (entryTurn line (entryOf l bytes) (keptIn p m out)) (take (p .waiting) out) (keptIn r m out)
+        (take (r .waiting) out)
     unfolding entryTurn entryOf silent
     expects-took e h =
         rw e
@@ -167,7 +189,8 @@ module _ (line bytes : List ℕ) (l : Line) (p : Progress) (m : Machine) (out : 
         })
 
     pub version-took : (v : ℕ) → l ≡ Version v → Versioned p r v
-        → Took (entryTurn line (entryOf l bytes) (keptIn p m out)) (take (p .waiting) out) (keptIn r m out) (take (r .waiting) out)
+        → Took (entryTurn line (entryOf l bytes) (keptIn p m out)) (take (p .waiting) out) (keptIn r m out)
+        (take (r .waiting) out)
     unfolding entryTurn entryOf silent
     version-took v e h =
         rw e
@@ -185,7 +208,8 @@ module _ (line bytes : List ℕ) (l : Line) (p : Progress) (m : Machine) (out : 
     another-took q e n t =
         rw e
         (counted-took p q m out k waiting n
-        (subst (λ (x : Line). Took (answered (turnOf (entryOf x bytes) m) (keptIn q m out)) (take (q .waiting) out) k waiting) e t))
+        (subst (λ (x : Line). Took (answered (turnOf (entryOf x bytes) m) (keptIn q m out))
+        (take (q .waiting) out) k waiting) e t))
 
     abbrev Answered : Type 0
     Answered = Took (answered (turnOf (entryOf l bytes) m) (keptIn p m out)) (take (p .waiting) out) k waiting
@@ -206,12 +230,14 @@ module _ (line bytes : List ℕ) (l : Line) (p : Progress) (m : Machine) (out : 
     order-took minute budget n e t = rw e (rw e at t)
 
     -- a line while the run goes on
-    pub line-took : p .goes ≡ true → entryOf l bytes ≡ callIn line → Taken → Took (lineTurn line (keptIn p m out)) (take (p .waiting) out) k waiting
+    pub line-took : p .goes ≡ true → entryOf l bytes ≡ callIn line → Taken
+        → Took (lineTurn line (keptIn p m out)) (take (p .waiting) out) k waiting
     unfolding lineTurn
     line-took go means t =
         subst (λ (w : Printed). Took w (take (p .waiting) out) k waiting)
         (sym (ap (λ (b : Bool). cond (not b) (silent (keptIn p m out)) (entryTurn line (callIn line) (keptIn p m out))) go))
-        (subst (λ (x : Entry). Took (entryTurn line x (keptIn p m out)) (take (p .waiting) out) k waiting) means t)
+        (subst (λ (x : Entry). Took (entryTurn line x (keptIn p m out))
+        (take (p .waiting) out) k waiting) means t)
 
 -- a line after another version
 pub ended-took : (line : List ℕ) (p : Progress) (m : Machine) (out : List ℕ) → p .goes ≡ false

@@ -7,7 +7,8 @@ use Rattle.calllog.specs.Answers.{sameBytes}
 use Rattle.calllog.specs.Replaying.{oneMore}
 use Rattle.replay.specs.declared.answering.Progress.{Progress}
 
--- After an answer of the log was compared with the one that was printed last: a difference is counted, and nothing else changes that a line
+-- After an answer of the log was compared with the one that was printed last: a difference is counted, and
+-- nothing else changes that a line
 -- needs.
 pub record Counted (p r : Progress) (text answer : List ℕ) : Type 0 where
   pub differing : r .differing ≡ cond (sameBytes text answer) (p .differing) (oneMore (p .differing))

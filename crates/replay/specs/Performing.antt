@@ -6,9 +6,11 @@ use lib.Dec.{leb}
 use Prim.Native.Nat.{ℕ, min}
 use Rattle.record.specs.Paper.{refused, said}
 use Rattle.record.specs.declared.outcomes.Outcome.{Outcome}
-use Rattle.record.specs.declared.outcomes.Outcome.the-variants.{Done, Offset, Given, Granted, Pairs, Ordered, Refused}
+use Rattle.record.specs.declared.outcomes.Outcome.the-variants.{Done, Offset, Given}
+use Rattle.record.specs.declared.outcomes.Outcome.the-variants.{Granted, Pairs, Ordered, Refused}
 use Rattle.requests.specs.declared.Request.{Request}
-use Rattle.requests.specs.declared.Request.the-variants.{Begin, Seek, Write, GetFilePointer, Read, Places, Commit, Abort, SetWindow, TakeBack}
+use Rattle.requests.specs.declared.Request.the-variants.{Begin, Seek, Write, GetFilePointer, Read}
+use Rattle.requests.specs.declared.Request.the-variants.{Places, Commit, Abort, SetWindow, TakeBack}
 use Rattle.rules.specs.Machine.{Machine}
 use Rattle.rules.specs.Messages.{says}
 use Rattle.rules.specs.Calls.{Turn, call, fresh as freshTurn}
@@ -60,7 +62,8 @@ turnOf (version v) m = record { reply = says (refused 17); after = m }
 turnOf (fresh files) m = freshTurn files m
 turnOf (calls c) m = call c m
 
--- The outcome, with those bytes of the reader's buffer, reads as a turn's reply, and record and buffers are those that the turn leaves.
+-- The outcome, with those bytes of the reader's buffer, reads as a turn's reply, and record and buffers are
+-- those that the turn leaves.
 pub record Replies (w : Turn) (o : Outcome) (m : Machine) (buffer : List ℕ) : Type 0 where
   pub text : answerText (said o) buffer ≡ replyText (w .reply)
   pub machine : m ≡ w .after

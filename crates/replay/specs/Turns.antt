@@ -1,4 +1,5 @@
--- That the program does with a line what the definition of a replay says (`lineTurn` of calllog/specs/Replaying.antt).
+-- That the program does with a line what the definition of a replay says (`lineTurn` of
+-- calllog/specs/Replaying.antt).
 use mathlib.Core.Bool.{not}
 use mathlib.Core.List.{List, _++_}
 use mathlib.Core.Path.{_≡_}
@@ -8,7 +9,8 @@ use Rattle.rules.specs.Machine.{Machine}
 use Rattle.calllog.specs.Replaying.{Kept, Printed, compared, versioned, oneMore}
 use Rattle.replay.specs.declared.answering.Progress.{Progress}
 
--- What the definition keeps from line to line, as the program has it: record and buffers m, and the answer that was printed last in the
+-- What the definition keeps from line to line, as the program has it: record and buffers m, and the answer
+-- that was printed last in the
 -- output buffer.
 abbrev pub keptIn : Progress → Machine → List ℕ → Kept
 keptIn p m out =

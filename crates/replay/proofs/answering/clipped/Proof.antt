@@ -7,11 +7,16 @@ use Rattle.replay.proofs.answering.clipped.Tie as tie
 
 returns : tie.Need-returns
 unfolding clippedTo
-returns c = clipped-read _ _ _ _ _ (c .before .before .before .q .given .1) (c .before .if1 .taken) _ (c .smaller .ensures)
+returns c =
+    let at-if1 = c .before in
+    let at-q = at-if1 .before .before in
+    clipped-read _ _ _ _ _ (at-q .q .given .1) (at-if1 .if1 .taken) _ (c .smaller .ensures)
 
 returns-2 : tie.Need-returns-2
 unfolding clippedTo
-returns-2 c = kept-read _ _ _ _ _ (c .before .before .q .given .1) (c .if1 .left)
+returns-2 c =
+    let at-q = c .before .before in
+    kept-read _ _ _ _ _ (at-q .q .given .1) (c .if1 .left)
 
 returns-3 : tie.Need-returns-3
 unfolding clippedTo

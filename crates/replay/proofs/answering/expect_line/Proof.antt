@@ -8,15 +8,22 @@ use Rattle.replay.proofs.answering.expect_line.Tie as tie
 
 returns : tie.Need-returns
 returns c =
-    let start = c .before .before .before .before .before .before .before in
+    let at-part2 = c .before in
+    let at-part = at-part2 .before in
+    let at-smaller = at-part .before in
+    let start = at-smaller .before .before .before .before in
     let e = c .expect .ensures in
-    let text = c .before .before .part .ensures ∙ behind-two _ _ _ (c .before .before .before .smaller .ensures) refl in
-    let h = counted-here _ _ _ _ _ _ text (c .before .part2 .ensures) e in (
+    let text = at-part .part .ensures ∙ behind-two _ _ _ (at-smaller .smaller .ensures) refl in
+    let h = counted-here _ _ _ _ _ _ text (at-part2 .part2 .ensures) e in (
       record {
         held = e .held;
         at = e .at;
         waiting = omega (arith, e .waiting, start .pre .0);
-        answer = record { starts = omega (arith, e .starts, e .ends, start .pre .1 .0 .starts); ends = omega (arith, e .ends, start .pre .1 .0 .ends) };
+        answer = record {
+          starts = omega (arith, e .starts, e .ends, start .pre .1 .0 .starts);
+          ends = omega
+              (arith, e .ends, start .pre .1 .0 .ends);
+        };
       },
       counted-compared _ _ _ _ h,
     )

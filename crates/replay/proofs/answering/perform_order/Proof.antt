@@ -7,7 +7,11 @@ use Rattle.replay.proofs.answering.perform_order.Statement.{statement}
 use Rattle.replay.proofs.answering.perform_order.Tie as tie
 
 returns : tie.Need-returns
-returns c = order-replies _ _ _ _ _ _ _ _ (c .before .before .before .put-order .ensures .0) (c .before .before .before .put-order .ensures .1) (c .order-size .ensures) (c .before .before .before .before .before .before .best-order .ensures .0 .0)
+returns c =
+    let at-put-order = c .before .before .before in
+    let at-best-order = at-put-order .before .before .before in
+    order-replies _ _ _ _ _ _ _ _ (at-put-order .put-order .ensures .0) (at-put-order .put-order .ensures .1)
+    (c .order-size .ensures) (at-best-order .best-order .ensures .0 .0)
 
 pub perform-order-spec : {M : Type 1} → statement M
 perform-order-spec =

@@ -9,18 +9,32 @@ use Rattle.replay.proofs.answering.perform_request.Statement.{statement
 use Rattle.replay.proofs.answering.perform_request.Tie as tie
 
 slice-aggregate-perform : tie.Need-slice-aggregate-perform
-slice-aggregate-perform c = omega (arith, length-take (c .before .before .before .before .before .before .before .before .smaller .result) (c .before .before .before .before .before .before .before .before .before .before .before .args .reader .now), c .before .before .before .before .before .before .before .before .smaller .ensures, c .before .before .before .before .before .before .before .before .before .before .before .pre)
+slice-aggregate-perform c =
+    let at-smaller = c .before .before .before .before .before .before .before .before in
+    let start = at-smaller .before .before .before in
+    omega (
+      arith,
+      length-take (at-smaller .smaller .result)
+          (start .args .reader .now),
+      at-smaller .smaller .ensures,
+      start .pre,
+    )
 
 returns : tie.Need-returns
 returns c =
-    let start = c .before .before .before .before .before .before .before .before .before .before .before .before .before .before in
+    let at-perform = c .before .before in
+    let at-clipped = at-perform .before .before in
+    let at-answer-size = at-clipped .before .before .before .before .before .before in
+    let at-smaller = at-answer-size .before in
+    let start = at-smaller .before .before .before in
     let a = start .args in
-    let n = c .before .before .before .before .before .before .before .before .before .before .before .smaller .ensures in
-    let part = length-take (c .before .before .before .before .before .before .before .before .before .before .before .smaller .result) (a .reader .now) in
-    let o = c .before .before .perform in
-    let size = c .before .before .before .before .before .before .before .before .before .before .answer-size .ensures in (
+    let n = at-smaller .smaller .ensures in
+    let part = length-take (at-smaller .smaller .result) (a .reader .now) in
+    let o = at-perform .perform in
+    let size = at-answer-size .answer-size .ensures in (
       size-within _ _ _ size (omega (arith, n)),
-      request-replies _ _ _ _ _ _ _ _ _ _ _ _ _ _ _ _ (c .before .before .before .before .clipped .ensures) size n (omega (arith, part, n, start .pre)) (omega (arith, o .kept, part, n, start .pre)) (o .ensures .0),
+      request-replies _ _ _ _ _ _ _ _ _ _ _ _ _ _ _ _ (at-clipped .clipped .ensures) size n
+          (omega (arith, part, n, start .pre)) (omega (arith, o .kept, part, n, start .pre)) (o .ensures .0),
     )
 
 pub perform-request-spec : {M : Type 1} → statement M

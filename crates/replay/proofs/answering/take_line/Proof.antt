@@ -16,16 +16,32 @@ returns c =
 
 act-requires : tie.Need-act-requires
 act-requires c κs =
-    let start = c .before .before .before .before .before .before .before .before .before .before .before .before .before .before .before .before .before .before .before .before .before .before .before in
+    let parsed = c .before .before .before .before .before .before .before .before .before .before .before .before in
+    let tested = parsed .before .before .before .before in
+    let start = tested .before .before .before .before .before .before .before in
     let p = start .pre in
-    (p .0, (record { starts = p .1 .0 .starts; ends = p .1 .0 .ends }, (on _ (c .before .before .before .before .before .before .before .before .before .before .before .before .before .before .before .before .if1 .left), search needs)))
+    let a = p .1 .0 in
+    let r = p .1 .1 .1 in (
+      p .0,
+      (
+        record { starts = a .starts; ends = a .ends },
+        (
+          on _ (tested .if1 .left),
+          record { written = omega (arith, r .written, parsed .parse .kept); readable = r .readable; printable = r .printable },
+        ),
+      ),
+    )
 
 returns-2 : tie.Need-returns-2
 returns-2 c =
-    let start = c .before .before .before .before .before .before .before .before .before .before .before .before .before .before .before .before .before .before .before .before .before .before .before .before .before .before .before .before in
-    let t = c .before .before .before .before .act .ensures in (
+    let at-act = c .before .before .before .before in
+    let at-parse = at-act .before .before .before .before .before .before .before .before .before .before .before .before .before in
+    let at-if1 = at-parse .before .before .before .before in
+    let start = at-if1 .before .before .before .before .before .before .before in
+    let t = at-act .act .ensures in (
       record { held = t .0 .held; at = t .0 .at; waiting = t .0 .waiting; answer = t .0 .answer },
-      line-took (start .args .line .now) _ _ (start .args .p) _ _ _ _ (on _ (c .before .before .before .before .before .before .before .before .before .before .before .before .before .before .before .before .before .before .before .before .before .if1 .left)) (c .before .before .before .before .before .before .before .before .before .before .before .before .before .before .before .before .before .parse .ensures .means) (t .1),
+      line-took (start .args .line .now) _ _ (start .args .p) _ _ _ _ (on _ (at-if1 .if1 .left))
+          (at-parse .parse .ensures .means) (t .1),
     )
 
 pub take-line-spec : {M : Type 1} → statement M

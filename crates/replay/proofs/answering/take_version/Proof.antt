@@ -15,10 +15,17 @@ returns c =
 
 returns-2 : tie.Need-returns-2
 returns-2 c =
-    let start = c .before .before in
+    let at-if1 = c .before in
+    let start = at-if1 .before in
     let a = start .pre .1 .0 in (
-      record { held = refl; at = refl; waiting = omega (arith, start .pre .0); answer = record { starts = a .starts; ends = a .ends } },
-      other-version (start .args .p) _ _ (c .before .if1 .left) refl refl refl refl refl refl,
+      record {
+        held = refl;
+        at = refl;
+        waiting = omega
+            (arith, start .pre .0);
+        answer = record { starts = a .starts; ends = a .ends };
+      },
+      other-version (start .args .p) _ _ (at-if1 .if1 .left) refl refl refl refl refl refl,
     )
 
 pub take-version-spec : {M : Type 1} → statement M

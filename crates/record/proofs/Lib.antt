@@ -3,3 +3,4 @@ pub mod LayoutLaws
 pub mod UndoLaws
 pub mod Filled
 mod ReaderLaws
+pub mod Examples

@@ -3,4 +3,5 @@ pub mod State
 pub mod Journal
 pub mod Layout
 pub mod Updates
+pub mod Examples
 pub mod Ends

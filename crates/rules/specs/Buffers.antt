@@ -1,5 +1,5 @@
--- Which calls touch which buffer and the files of descriptors, and what Fresh, Begin and the end of a transaction leave, on any record and
--- any buffers; and whose marks a call leaves, in every store reached from Fresh.
+-- Which calls touch which buffer and the files of descriptors, and what Fresh, Begin and the end of a transaction
+-- leave, on any record and any buffers; and whose marks a call leaves, in every store reached from Fresh.
 use mathlib.Core.Bool.{false}
 use mathlib.Core.List.{List}
 use mathlib.Core.Path.{_≡_}

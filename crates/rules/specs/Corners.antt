@@ -521,16 +521,16 @@ toldPlaces =
 unfoldable pub toldNoPlaceYet : List Exchange
 toldNoPlaceYet =
     begins
-    ++ on 0 (write 0 (A ∷ [])) ⇒ says plain
-    ∷ on 1 (write 8 []) ⇒ says plain
-    ∷ places 3 8 [] ⇒ says (refused 4)
-    ∷ places 0 8 [] ⇒ says (refused 6)
-    ∷ places 0 0 [] ⇒ says (refused 15)
-    ∷ places 1 0 [] ⇒ says (refused 15)
-    ∷ places 1 1 [] ⇒ lists 0 []
-    ∷ places 0 7 [] ⇒ lists 0 []
-    ∷ on 0 (getFilePointer 0) ⇒ says (pointer 1)
-    ∷ places 0 0 (replicate 4 dot) ⇒ lists 1 (0 ∷ 0 ∷ 0 ∷ 1 ∷ [])
+    ++ on 0 (write 0 (A ∷ [])) gets says plain
+    ∷ on 1 (write 8 []) gets says plain
+    ∷ places 3 8 [] gets says (refused 4)
+    ∷ places 0 8 [] gets says (refused 6)
+    ∷ places 0 0 [] gets says (refused 15)
+    ∷ places 1 0 [] gets says (refused 15)
+    ∷ places 1 1 [] gets lists 0 []
+    ∷ places 0 7 [] gets lists 0 []
+    ∷ on 0 (getFilePointer 0) gets says (pointer 1)
+    ∷ places 0 0 (replicate 4 dot) gets lists 1 (0 ∷ 0 ∷ 0 ∷ 1 ∷ [])
     ∷ []
 
 -- F-4, "bit t (worth 2 to the power t) for each transaction that this commit made stale and that was not so before": 1, 2 and 7, and then 0
@@ -538,17 +538,17 @@ toldNoPlaceYet =
 unfoldable pub toldOctet : List Exchange
 toldOctet =
     begins
-    ++ begin 7 ⇒ says plain
-    ∷ on 1 (getFilePointer 0) ⇒ says (pointer 0)
-    ∷ on 2 (getFilePointer 0) ⇒ says (pointer 0)
-    ∷ on 7 (getFilePointer 0) ⇒ says (pointer 0)
-    ∷ on 0 (seek 0 3) ⇒ says plain
-    ∷ commits 0 ⇒ says (granted 134)
-    ∷ begin 0 ⇒ says plain
-    ∷ on 0 (getFilePointer 0) ⇒ says (pointer 3)
-    ∷ begin 3 ⇒ says plain
-    ∷ on 3 (seek 0 4) ⇒ says plain
-    ∷ commits 3 ⇒ says (granted 1)
+    ++ begin 7 gets says plain
+    ∷ on 1 (getFilePointer 0) gets says (pointer 0)
+    ∷ on 2 (getFilePointer 0) gets says (pointer 0)
+    ∷ on 7 (getFilePointer 0) gets says (pointer 0)
+    ∷ on 0 (seek 0 3) gets says plain
+    ∷ commits 0 gets says (granted 134)
+    ∷ begin 0 gets says plain
+    ∷ on 0 (getFilePointer 0) gets says (pointer 3)
+    ∷ begin 3 gets says plain
+    ∷ on 3 (seek 0 4) gets says plain
+    ∷ commits 3 gets says (granted 1)
     ∷ []
 
 -- F-8: "A Read that gave fewer bytes than wanted sights the length": T0's gives nothing. T1 writes from place 1 on, so that the length is 2

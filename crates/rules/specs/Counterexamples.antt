@@ -20,7 +20,7 @@ use Rattle.rules.specs.Demand3.{OneMoment}
 use Rattle.rules.specs.TakingBack.{SameCommitted}
 use Rattle.rules.specs.Closed.{Spared}
 use Rattle.rules.specs.Age.{Alike}
-use Rattle.rules.specs.Setup.{freshNumbered, onPlain, onStore, _⇒_, Goes, gives, A, dot}
+use Rattle.rules.specs.Setup.{freshNumbered, onPlain, onStore, _gets_, Goes, gives, A, dot}
 
 -- The first byte beyond a length alone is not 0.
 unfoldable pub firstBeyond : Values
@@ -58,11 +58,11 @@ pub record EmptiedTells : Type 0 where
 
 -- The first reply, the second, and the buffer of the second are not those that the calls give.
 pub record GoesTells : Type 0 where
-  pub first : Goes onPlain (begin 0 ⇒ says (granted 0) ∷ begin 1 ⇒ says plain ∷ []) → ⊥
-  pub second : Goes onPlain (begin 0 ⇒ says plain ∷ begin 1 ⇒ says (granted 0) ∷ []) → ⊥
-  pub buffer : Goes onPlain (begin 0 ⇒ says plain ∷ on 0 (read 0 0 (dot ∷ [])) ⇒ gives 0 (A ∷ []) ∷ []) → ⊥
+  pub first : Goes onPlain (begin 0 gets says (granted 0) ∷ begin 1 gets says plain ∷ []) → ⊥
+  pub second : Goes onPlain (begin 0 gets says plain ∷ begin 1 gets says (granted 0) ∷ []) → ⊥
+  pub buffer : Goes onPlain (begin 0 gets says plain ∷ on 0 (read 0 0 (dot ∷ [])) gets gives 0 (A ∷ []) ∷ []) → ⊥
   -- On a store it is the store that is looked at: this one has no buffers, and a byte that no call wrote.
-  pub storeReplies : Goes (onStore bare) (begin 0 ⇒ says (refused 1) ∷ [])
+  pub storeReplies : Goes (onStore bare) (begin 0 gets says (refused 1) ∷ [])
   pub storeValues : onStore (withFiles (A ∷ []) bare) .value [] (byte 0) ≡ A
 
 -- A byte, an offset, a length that differs.

@@ -19,7 +19,7 @@ use Rattle.rules.specs.Undo.{keepingFound, takenBack}
 use Rattle.rules.specs.Calls.{freshStore}
 use Rattle.rules.specs.Plain.{Plain, nothing, found, startPlain, plainReplies}
 use Rattle.rules.specs.Grants.{serialOf, rerun, sameReplies}
-use Rattle.rules.specs.Setup.{Seen, Exchange, _⇒_, commits, callsOf, Goes, sighted, beginning}
+use Rattle.rules.specs.Setup.{Seen, Exchange, _gets_, commits, callsOf, Goes, sighted, beginning}
 use Rattle.rules.specs.Setup.{sightingsOf, gives, lists, proposes, begins, A, B, C, X, Y, Z, dot}
 
 -- 02, F-11: "start in, end out", at minute 1,439 as at every other; 22 "when a minute is above 1,439". T0's Commit stays open until it is
@@ -438,53 +438,53 @@ toldRaisedByTwo =
 unfoldable pub toldOneOfList : List Exchange
 toldOneOfList =
     begins
-    ++ on 0 (getFilePointer 0) ⇒ says (pointer 0)
-    ∷ on 2 (seek 0 3) ⇒ says plain
-    ∷ commits 2 ⇒ says (granted 1)
-    ∷ begin 2 ⇒ says plain
-    ∷ on 1 (seek 1 0) ⇒ says plain
-    ∷ on 1 (write 1 (A ∷ [])) ⇒ says plain
-    ∷ on 1 (write 2 []) ⇒ says plain
-    ∷ on 1 (write 1 (B ∷ [])) ⇒ says plain
-    ∷ bestOrder (8 ∷ 2 ∷ []) 0 1 ⇒ says (refused 3)
-    ∷ bestOrder (3 ∷ 2 ∷ []) 0 1 ⇒ says (refused 4)
-    ∷ bestOrder (0 ∷ 2 ∷ []) 0 1 ⇒ says (refused 25)
-    ∷ bestOrder (1 ∷ 2 ∷ []) 0 1 ⇒ says (refused 25)
+    ++ on 0 (getFilePointer 0) gets says (pointer 0)
+    ∷ on 2 (seek 0 3) gets says plain
+    ∷ commits 2 gets says (granted 1)
+    ∷ begin 2 gets says plain
+    ∷ on 1 (seek 1 0) gets says plain
+    ∷ on 1 (write 1 (A ∷ [])) gets says plain
+    ∷ on 1 (write 2 []) gets says plain
+    ∷ on 1 (write 1 (B ∷ [])) gets says plain
+    ∷ bestOrder (8 ∷ 2 ∷ []) 0 1 gets says (refused 3)
+    ∷ bestOrder (3 ∷ 2 ∷ []) 0 1 gets says (refused 4)
+    ∷ bestOrder (0 ∷ 2 ∷ []) 0 1 gets says (refused 25)
+    ∷ bestOrder (1 ∷ 2 ∷ []) 0 1 gets says (refused 25)
     ∷ []
 
 -- 01: "A granted Commit raises the count": neither the setting of a window nor an Abort nor a Commit refused with 13 or 22 does.
 unfoldable pub toldOnlyGrantsCount : List Exchange
 toldOnlyGrantsCount =
     begins
-    ++ setWindow 7 0 0 ⇒ says plain
-    ∷ on 1 (getFilePointer 0) ⇒ says (pointer 0)
-    ∷ on 0 (seek 0 5) ⇒ says plain
-    ∷ commits 0 ⇒ says (granted 2)
-    ∷ setWindow 7 0 0 ⇒ says plain
-    ∷ abort 2 ⇒ says plain
-    ∷ commit 1 1440 ⇒ says (refused 22)
-    ∷ commits 1 ⇒ says (refused 13)
-    ∷ begin 0 ⇒ says plain
-    ∷ on 0 (seek 1 3) ⇒ says plain
-    ∷ commits 0 ⇒ says (granted 0)
-    ∷ begin 1 ⇒ says plain
-    ∷ on 1 (getFilePointer 0) ⇒ says (pointer 5)
-    ∷ on 1 (getFilePointer 1) ⇒ says (pointer 3)
+    ++ setWindow 7 0 0 gets says plain
+    ∷ on 1 (getFilePointer 0) gets says (pointer 0)
+    ∷ on 0 (seek 0 5) gets says plain
+    ∷ commits 0 gets says (granted 2)
+    ∷ setWindow 7 0 0 gets says plain
+    ∷ abort 2 gets says plain
+    ∷ commit 1 1440 gets says (refused 22)
+    ∷ commits 1 gets says (refused 13)
+    ∷ begin 0 gets says plain
+    ∷ on 0 (seek 1 3) gets says plain
+    ∷ commits 0 gets says (granted 0)
+    ∷ begin 1 gets says plain
+    ∷ on 1 (getFilePointer 0) gets says (pointer 5)
+    ∷ on 1 (getFilePointer 1) gets says (pointer 3)
     ∷ []
 
 -- F-1, "a new call changes only what its request says": after a list of places, a look and an order the grant can be taken back.
 unfoldable pub toldLookedBetween : List Exchange
 toldLookedBetween =
-    begin 0 ⇒ says plain
-    ∷ on 0 (write 0 (A ∷ [])) ⇒ says plain
-    ∷ commits 0 ⇒ says (granted 0)
-    ∷ begin 1 ⇒ says plain
-    ∷ places 1 0 [] ⇒ lists 0 []
-    ∷ on 1 (getFilePointer 0) ⇒ says (pointer 1)
-    ∷ on 1 (read 0 0 []) ⇒ gives 0 []
-    ∷ bestOrder (1 ∷ []) 0 1 ⇒ proposes 1 0 1 (1 ∷ [])
-    ∷ abort 1 ⇒ says plain
-    ∷ takeBack ⇒ says plain
+    begin 0 gets says plain
+    ∷ on 0 (write 0 (A ∷ [])) gets says plain
+    ∷ commits 0 gets says (granted 0)
+    ∷ begin 1 gets says plain
+    ∷ places 1 0 [] gets lists 0 []
+    ∷ on 1 (getFilePointer 0) gets says (pointer 1)
+    ∷ on 1 (read 0 0 []) gets gives 0 []
+    ∷ bestOrder (1 ∷ []) 0 1 gets proposes 1 0 1 (1 ∷ [])
+    ∷ abort 1 gets says plain
+    ∷ takeBack gets says plain
     ∷ []
 
 -- What they come to, together.

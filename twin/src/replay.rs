@@ -20,6 +20,8 @@ pub struct Found {
 pub struct Report {
     /// Lines of another form, and lines too long.
     pub others: Found,
+    /// Does one of another form, not one too long, end in byte 13?
+    pub returned: bool,
     /// Answers in the log that are not those of the replay.
     pub differences: Found,
     /// The line that ended the run, and the version that it names.
@@ -58,6 +60,9 @@ impl Report {
         let Found { count, first } = self.others;
         if count > 0 {
             writeln!(out, "{program}: {count} lines of another form (17), the first is line {first}")?;
+        }
+        if self.returned {
+            writeln!(out, "{program}: lines of another form (17) end in byte 13: a line ends in byte 10 alone")?;
         }
         let Found { count, first } = self.differences;
         if count > 0 {
@@ -109,6 +114,7 @@ impl Replay {
             }
             Line::Other => {
                 self.report.others.add(self.lines);
+                self.report.returned |= line.len() <= LONGEST && line.ends_with(b"\r");
                 self.print(Refusal::BadLine.number().to_string().into_bytes(), out)?;
             }
         }

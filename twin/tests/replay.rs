@@ -144,7 +144,7 @@ fn traces_are_logs() {
     }
 }
 
-/// What is stored of the program is the twin's, and every answer in its input agrees.
+/// What is stored of the program is the twin's, and every answer in its input agrees but the one that is wrong on purpose.
 #[test]
 fn the_stored_output() {
     let folder = Path::new(env!("CARGO_MANIFEST_DIR")).join("../crates/replay");
@@ -154,7 +154,7 @@ fn the_stored_output() {
     };
     let twins = twins(replay::fresh(), &log);
     check("the stored output", &Printed { answers, sentences: twins.sentences.clone() }, &twins);
-    assert!(!twins.sentences.contains("differ"), "{}", twins.sentences);
+    assert!(twins.sentences.contains("\n1 answers differ"), "{}", twins.sentences);
 }
 
 #[test]

@@ -11,6 +11,7 @@ use crate::positions::FOUND_LENGTHS_AT;
 use crate::positions::HELD_AT;
 use crate::positions::KNOWN;
 use crate::positions::LENGTHS_AT;
+use crate::positions::LOOKED_AT;
 use crate::positions::MOVED;
 use crate::positions::OFFSETS_AT;
 use crate::positions::PLACED;
@@ -50,9 +51,6 @@ pub type Record = [u16; NUMBERS];
 
 // How many numbers the last grant found: sixteen offsets, eight lengths.
 pub const FOUND: usize = DESCRIPTORS + FILES;
-
-// How many numbers of a transaction are looked at.
-const LOOKED_AT: usize = 54;
 
 // How many numbers were lent, which the array's type alone does not tell a proof.
 pub fn length_of(kept: &[u16]) -> usize

@@ -8,6 +8,8 @@ mod positions;
 pub mod readers;
 
 use counters::Used;
+pub use positions::OFFSETS_AT;
+pub use positions::SPARE_AT;
 use standings::Standing;
 use windows::Window;
 ghost use mathlib.Core.Bool.{_&&_};

@@ -1,34 +1,43 @@
 // Where each number of the record stands: the journal, eight transactions, file numbers, committed offsets, committed
-// lengths, windows, and what is held of the last grant (specs/Layout.antt). This module is private. In this crate
-// `layout`, `readers` and `journal` use it; every other crate reads and writes by name.
+// lengths, windows, and what is held of the last grant (specs/Layout.antt). This module is private: in this crate
+// `layout`, `readers` and `journal` use it, and every other crate reads and writes by name. Two places are named to the
+// outside, for whoever tests what a call must leave alone: the committed offsets, and a number that nothing carries.
+use crate::DESCRIPTORS;
+use crate::FILES;
+use crate::TRANSACTIONS;
 use crate::layout::Record;
 ghost use mathlib.Core.Path.{_≡_};
 ghost use Prim.Native.Nat.{_+_, _<_};
 ghost use lib.ListN.{getD};
 ghost use Rattle.record.specs.Layout.{base};
 
-// A transaction's numbers: how many, and where those of the first one stand.
+// A transaction's numbers: how many, how many of them are looked at, and where those of the first one stand.
 pub const TRANSACTION: usize = 64;
+
+pub const LOOKED_AT: usize = 54;
 
 pub const TRANSACTIONS_AT: usize = 1728;
 
-pub const FILE_NUMBERS_AT: usize = 2240;
+// The first number of transaction 0 that is not looked at.
+pub const SPARE_AT: usize = TRANSACTIONS_AT + LOOKED_AT;
 
-pub const OFFSETS_AT: usize = 2256;
+pub const FILE_NUMBERS_AT: usize = TRANSACTIONS_AT + TRANSACTIONS * TRANSACTION;
 
-pub const LENGTHS_AT: usize = 2272;
+pub const OFFSETS_AT: usize = FILE_NUMBERS_AT + DESCRIPTORS;
+
+pub const LENGTHS_AT: usize = OFFSETS_AT + DESCRIPTORS;
 
 // The starts of the windows, and behind them their ends.
-pub const STARTS_AT: usize = 2280;
+pub const STARTS_AT: usize = LENGTHS_AT + FILES;
 
-pub const ENDS_AT: usize = 2288;
+pub const ENDS_AT: usize = STARTS_AT + FILES;
 
 // The offsets that the last grant found, and behind them the lengths.
-pub const FOUND_AT: usize = 2296;
+pub const FOUND_AT: usize = ENDS_AT + FILES;
 
-pub const FOUND_LENGTHS_AT: usize = 2312;
+pub const FOUND_LENGTHS_AT: usize = FOUND_AT + DESCRIPTORS;
 
-pub const HELD_AT: usize = 2320;
+pub const HELD_AT: usize = FOUND_LENGTHS_AT + FILES;
 
 // The kinds of standings. A number above MOVED is Known.
 pub const UNTOUCHED: u16 = 0;

@@ -99,10 +99,6 @@ gives n buffer = record { answer = given n; buffer = buffer }
 abbrev pub lists : ℕ → List ℕ → Reply
 lists n buffer = record { answer = pairs n; buffer = buffer }
 
--- The reply of a call that answers an order, its grants, the gap and how many were tried.
-abbrev pub proposes : ℕ → ℕ → ℕ → List ℕ → Reply
-proposes grants gap tried order = record { answer = ordered grants gap tried; buffer = order }
-
 -- The reply of a refused Read or list of places, with the buffer.
 abbrev pub refusesWith : ℕ → List ℕ → Reply
 refusesWith n buffer = record { answer = refused n; buffer = buffer }

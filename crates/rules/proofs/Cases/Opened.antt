@@ -12,8 +12,6 @@ use Rattle.rules.specs.Steps as Steps
 use Rattle.rules.specs.Commits as Commits
 use Rattle.rules.specs.Coverage as Coverage
 use Rattle.rules.specs.Windows as Windows
-use Rattle.rules.specs.Ordering as Ordering
-use Rattle.orders.specs.Orders as Orders
 use Rattle.octets.specs.Parts as Parts
 use Rattle.undo.specs.OldBytes as OldBytes
 use Rattle.record.specs.State as State
@@ -29,30 +27,29 @@ use Rattle.rules.specs.Grants as Grants
 use Rattle.rules.specs.Setup as Setup
 
 unfoldable pub opened : Type 0
-unfolding Below.below Below.sum Ranges.lengthsBefore Bits.bit Bits.bitsOf Bits.countOf Marks.contains Items.same Items.andThen Items.result Items.asked Table.afterSeek
-    Table.afterWrite Table.afterRead Table.settled Table.writePlace Table.finalOffset Transactions.empty Transactions.put
-    Transactions.placedAt Transactions.placeWrite Transactions.settle Transactions.those Transactions.settling Reading.over Reading.byteAt
-    Reading.supplies Reading.orElse Reading.latest Reading.bring Reading.fetch Reading.writeEnd Reading.placedEnd Reading.farthest
-    Reading.ownEnd Reading.lengthFor Reading.lengthSighted Reading.gather Messages.bufferOf Steps.check Steps.orGivenBack Steps.total
-    Steps.written Steps.seekStep Steps.writeStep Steps.pointerStep Steps.settledByRead Steps.readSettled Steps.readStep Steps.step
-    Steps.descriptorOf Steps.looks Steps.turnsBack Steps.turnedBack Below.unless Ranges.windowRefusal Hours.minuteIn Hours.isOpenAt
-    Hours.isClosedAt Windows.isForClosed Windows.forClosed Coverage.someWrite Coverage.coversPlace Coverage.covered Coverage.noPlace
-    Coverage.unplacedOn Coverage.unplaced Coverage.withPlace Coverage.stretchesFrom Coverage.stretchesOf Coverage.sixteen Coverage.encoded
-    Coverage.placesRefusal Coverage.placesReply Coverage.placesOf Commits.landsAt Commits.bytesFrom Commits.byteSettings Commits.setsOffset
-    Commits.offsetSettings Commits.landedEnd Commits.lengthSettings Commits.settings Commits.fits Commits.putItem Commits.landed
-    Commits.setBy Commits.commitRefusal Sightings.sameEntry Sightings.sameEntries Sightings.entries Plain.startPlain Plain.ops
-    Plain.firstList Plain.secondList Plain.isStale Plain.turnedDown Plain.withSlot Plain.answering Plain.plainBegin Plain.plainStepped
-    Plain.plainOn Plain.committing Plain.grant Plain.equalSlot Plain.staleSlot Plain.becameStale Plain.plainCommitted Plain.plainCommit
-    Plain.plainAbort Plain.plainPlaces Plain.plainSetWindow Plain.numbered Plain.plainCall Messages.repliesTo Messages.afterAll
-    Plain.isRunning Plain.noneRunning Plain.goBack Plain.plainTakeBack Lone.stopped Lone.prepend Lone.goOn Lone.lone Grants.grantedBy
-    Grants.againOf Grants.rerun Grants.repliesOf Grants.sameReplies Grants.serialOf Grants.serialFrom Grants.serialBy Grants.adding
-    Grants.droppedFrom Grants.butLast Grants.ifDone Setup.numbers Setup.freshNumbered Setup.onPlain Setup.committedBytes Setup.beginning
-    Setup.seenIn Setup.sightingsOf Setup.formerIn Setup.formerNumbers Setup.begins Setup.callsOf Orders.without Orders.chained
-    Orders.ordersOf Orders.orders Orders.triedOf Orders.better Orders.bestOf Orders.bestTried Orders.countIn Orders.allIn Orders.gapOf
-    Orders.isIn Orders.distinct Orders.isList Ordering.grantsIn Ordering.hasUnplaced Ordering.orderRefusal Ordering.orderReplied
-    Ordering.orderReply Plain.writesIn Plain.plainAsked Plain.plainBestOrder Messages.isGrant Parts.tabulate Parts.cut Parts.pasted
-    OldBytes.oldBytes OldBytes.putBack State.begun State.ended Journal.heldAs Journal.held Journal.writeRecordAt Journal.withRecordAt
-    Journal.withRecords Machine.fileOf Machine.values Machine.writeAt Machine.dataStart Machine.txnOf Undo.landingOf Undo.landedRecord
-    Undo.keepingFound Undo.spanOfRecord Undo.landedOn Undo.takenBack Calls.freshStore Calls.hasSighted Calls.conflicts Calls.madeStale
-    Calls.afterCommit Calls.formerNumber
+unfolding Below.below Below.sum Ranges.lengthsBefore Bits.bit Bits.bitsOf Bits.countOf Marks.contains Items.same Items.andThen
+    Items.result Items.asked Table.afterSeek Table.afterWrite Table.afterRead Table.settled Table.writePlace Table.finalOffset
+    Transactions.empty Transactions.put Transactions.placedAt Transactions.placeWrite Transactions.settle Transactions.those
+    Transactions.settling Reading.over Reading.byteAt Reading.supplies Reading.orElse Reading.latest Reading.bring Reading.fetch
+    Reading.writeEnd Reading.placedEnd Reading.farthest Reading.ownEnd Reading.lengthFor Reading.lengthSighted Reading.gather
+    Messages.bufferOf Steps.check Steps.orGivenBack Steps.total Steps.written Steps.seekStep Steps.writeStep Steps.pointerStep
+    Steps.settledByRead Steps.readSettled Steps.readStep Steps.step Steps.descriptorOf Steps.looks Steps.turnsBack
+    Steps.turnedBack Below.unless Ranges.windowRefusal Hours.minuteIn Hours.isOpenAt Hours.isClosedAt Windows.isForClosed
+    Windows.forClosed Coverage.someWrite Coverage.coversPlace Coverage.covered Coverage.noPlace Coverage.unplacedOn
+    Coverage.unplaced Coverage.withPlace Coverage.stretchesFrom Coverage.stretchesOf Coverage.sixteen Coverage.encoded
+    Coverage.placesRefusal Coverage.placesReply Coverage.placesOf Commits.landsAt Commits.bytesFrom Commits.byteSettings
+    Commits.setsOffset Commits.offsetSettings Commits.landedEnd Commits.lengthSettings Commits.settings Commits.fits
+    Commits.putItem Commits.landed Commits.setBy Commits.commitRefusal Sightings.sameEntry Sightings.sameEntries Sightings.entries
+    Plain.startPlain Plain.ops Plain.firstList Plain.secondList Plain.isStale Plain.turnedDown Plain.withSlot Plain.answering
+    Plain.plainBegin Plain.plainStepped Plain.plainOn Plain.committing Plain.grant Plain.equalSlot Plain.staleSlot
+    Plain.becameStale Plain.plainCommitted Plain.plainCommit Plain.plainAbort Plain.plainPlaces Plain.plainSetWindow
+    Plain.numbered Plain.plainCall Messages.repliesTo Messages.afterAll Plain.isRunning Plain.noneRunning Plain.goBack
+    Plain.plainTakeBack Lone.stopped Lone.prepend Lone.goOn Lone.lone Grants.grantedBy Grants.againOf Grants.rerun
+    Grants.repliesOf Grants.sameReplies Grants.serialOf Grants.serialFrom Grants.serialBy Grants.adding Grants.droppedFrom
+    Grants.butLast Grants.ifDone Setup.numbers Setup.freshNumbered Setup.onPlain Setup.committedBytes Setup.beginning Setup.seenIn
+    Setup.sightingsOf Setup.formerIn Setup.formerNumbers Setup.begins Setup.callsOf Messages.isGrant Parts.tabulate Parts.cut
+    Parts.pasted OldBytes.oldBytes OldBytes.putBack State.begun State.ended Journal.heldAs Journal.held Journal.writeRecordAt
+    Journal.withRecordAt Journal.withRecords Machine.fileOf Machine.values Machine.writeAt Machine.dataStart Machine.txnOf
+    Undo.landingOf Undo.landedRecord Undo.keepingFound Undo.spanOfRecord Undo.landedOn Undo.takenBack Calls.freshStore
+    Calls.hasSighted Calls.conflicts Calls.madeStale Calls.afterCommit Calls.formerNumber
 opened = Unit {0}

@@ -7,6 +7,7 @@ pub mod Traces
 pub mod Again
 pub mod Recorder
 pub mod Replayed
+pub mod Kept
 pub mod ReadingLaws
 pub mod Printable
 pub mod WriteTexts

@@ -7,6 +7,7 @@ use native.Mathlib.Omega.{arith}
 use lib.Dec.{eqb, leb}
 use lib.ListN.{length, take, drop, length-take}
 use borrow.Author.Tests.{leb-true, eq-eqb}
+use Rattle.lines.specs.Programs.{transcript, keptAfter}
 use Rattle.numerals.specs.Decimal.{past, AllBelow, spacedTexts}
 use Rattle.printing.specs.Printed.{ok, spelled, okBytes, okNumber}
 use Rattle.record.specs.Paper.{Said, plain, pointer, given, granted, pairs, ordered, refused}
@@ -19,7 +20,7 @@ use Rattle.calllog.specs.Log.{longest, mostWritten, mostFiles, mostOrder
 use Rattle.calllog.specs.Answers.{wordsOf, answerText, replyText, expectation, sameBytes}
 use Rattle.calllog.specs.Statements.{numbersOf, numbersOfOp, bytesOf, bytesOfOp, Loggable, blank}
 use Rattle.calllog.specs.Replays.{shown, shownBy, Alike}
-use Rattle.calllog.specs.Replaying.{Kept, Printed, silent, answered, compared, entryTurn, lineTurn, textOf, keptAfter}
+use Rattle.calllog.specs.Replaying.{Kept, Printed, silent, answered, compared, entryTurn, lineTurn, replaying}
 use Rattle.calllog.specs.Replaying.{Event, starts, makes, eventTurn, frontOp, front, eventLine, answerLines, recordedLines}
 use Rattle.calllog.specs.Replaying.{answersOf, eventsAfter, Typed, AllTyped, Replayed}
 use Rattle.calllog.proofs.RoundTrip.{back, fresh-back}
@@ -136,37 +137,37 @@ agrees text k go same l = rw (go, expects-line text l, same, same-as-itself text
 -- ---- whole lists
 
 record Same (es : List Event) (k : Kept) : Type 0 where
-  text : textOf (recordedLines es (k .machine)) k ≡ answersOf es (k .machine)
-  machine : keptAfter (recordedLines es (k .machine)) k .machine ≡ eventsAfter es (k .machine)
-  differing : keptAfter (recordedLines es (k .machine)) k .differing ≡ k .differing
-  malformed : keptAfter (recordedLines es (k .machine)) k .malformed ≡ k .malformed
+  text : transcript replaying (recordedLines es (k .machine)) k ≡ answersOf es (k .machine)
+  machine : keptAfter replaying (recordedLines es (k .machine)) k .machine ≡ eventsAfter es (k .machine)
+  differing : keptAfter replaying (recordedLines es (k .machine)) k .differing ≡ k .differing
+  malformed : keptAfter replaying (recordedLines es (k .machine)) k .malformed ≡ k .malformed
 
 module _ (text : List ℕ) (k : Kept) (rest : List (List ℕ)) (go : k .ended ≡ false) (same : k .answer ≡ text) where
-  past-answer : (textOf (answerLines text ++ rest) k ≡ textOf rest k) × (keptAfter (answerLines text ++ rest) k ≡ keptAfter rest k)
+  past-answer : (transcript replaying (answerLines text ++ rest) k ≡ transcript replaying rest k) × (keptAfter replaying (answerLines text ++ rest) k ≡ keptAfter replaying rest k)
   unfolding answerLines
   past-answer = pick (leb (length (expectation text)) longest) refl
     where
       one : length (expectation text) ≤ longest
-          → (textOf (expectation text ∷ rest) k ≡ textOf rest k) × (keptAfter (expectation text ∷ rest) k ≡ keptAfter rest k)
+          → (transcript replaying (expectation text ∷ rest) k ≡ transcript replaying rest k) × (keptAfter replaying (expectation text ∷ rest) k ≡ keptAfter replaying rest k)
       one l =
-          unfold textOf keptAfter silent in (
-            ap (λ (p : Printed). p .text ++ textOf rest (p .after)) (agrees text k go same l),
-            ap (λ (p : Printed). keptAfter rest (p .after)) (agrees text k go same l),
+          unfold transcript keptAfter silent in (
+            ap (λ (p : Printed). p .text ++ transcript replaying rest (p .after)) (agrees text k go same l),
+            ap (λ (p : Printed). keptAfter replaying rest (p .after)) (agrees text k go same l),
           )
 
       pick : (b : Bool) → leb (length (expectation text)) longest ≡ b
-          → (textOf (cond b (expectation text ∷ []) [] ++ rest) k ≡ textOf rest k)
-          × (keptAfter (cond b (expectation text ∷ []) [] ++ rest) k ≡ keptAfter rest k)
+          → (transcript replaying (cond b (expectation text ∷ []) [] ++ rest) k ≡ transcript replaying rest k)
+          × (keptAfter replaying (cond b (expectation text ∷ []) [] ++ rest) k ≡ keptAfter replaying rest k)
       pick true e = one (leb-true (length (expectation text)) longest e)
       pick false e = (refl, refl)
 
 same-none : (k : Kept) → Same [] k
-unfolding recordedLines textOf keptAfter answersOf eventsAfter
+unfolding recordedLines transcript keptAfter answersOf eventsAfter
 same-none k = record { text = refl; machine = refl; differing = refl; malformed = refl }
 
 same-more : (e : Event) (es : List Event) (k : Kept) → Typed e → k .ended ≡ false → Same es (answered (eventTurn e (k .machine)) k .after)
     → Same (e ∷ es) k
-unfolding recordedLines textOf keptAfter answersOf eventsAfter answered
+unfolding recordedLines transcript keptAfter answersOf eventsAfter answered
 same-more e es k h go ih =
     let w = eventTurn e (k .machine) in
     let text = replyText (w .reply) in
@@ -174,11 +175,11 @@ same-more e es k h go ih =
     let rest = recordedLines es (w .after) in
     let first = line-of-event e k h go in
     let past = past-answer text after rest go refl in
-    let kept : keptAfter (eventLine e ∷ (answerLines text ++ rest)) k ≡ keptAfter rest after =
-    ap (λ (p : Printed). keptAfter (answerLines text ++ rest) (p .after)) first ∙ past .1 in
+    let kept : keptAfter replaying (eventLine e ∷ (answerLines text ++ rest)) k ≡ keptAfter replaying rest after =
+    ap (λ (p : Printed). keptAfter replaying (answerLines text ++ rest) (p .after)) first ∙ past .1 in
     record {
       text =
-          ap (λ (p : Printed). p .text ++ textOf (answerLines text ++ rest) (p .after)) first
+          ap (λ (p : Printed). p .text ++ transcript replaying (answerLines text ++ rest) (p .after)) first
           ∙ ap (λ (l : List ℕ). (text ++ (10 ∷ [])) ++ l) (past .0 ∙ ih .text);
       machine = ap (λ (x : Kept). x .machine) kept ∙ ih .machine;
       differing = ap (λ (x : Kept). x .differing) kept ∙ ih .differing;

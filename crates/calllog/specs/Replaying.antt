@@ -6,6 +6,7 @@ use lib.Dec.{eqb, leb, ltb}
 use lib.ListN.{length, take, drop}
 use Prim.Native.Nat.{ℕ, suc, _+_}
 use Rattle.numerals.specs.Decimal.{past, AllBelow}
+use Rattle.lines.specs.Programs.{LineProgram, transcript, keptAfter}
 use Rattle.record.specs.Paper.{refused}
 use Rattle.rules.specs.Machine.{Machine}
 use Rattle.rules.specs.Calls.{call, Turn, fresh as freshTurn}
@@ -102,14 +103,13 @@ entryTurn line (calls c) k = answered (call c (k .machine)) k
 unfoldable pub lineTurn : List ℕ → Kept → Printed
 lineTurn line k = cond (k .ended) (silent k) (entryTurn line (callIn line) k)
 
--- The text of lines, and what is kept after them.
-unfoldable pub textOf : List (List ℕ) → Kept → List ℕ
-textOf [] k = []
-textOf (l ∷ ls) k = lineTurn l k .text ++ textOf ls (lineTurn l k .after)
+-- What a replay does with lines.
+abbrev pub replaying : LineProgram Kept
+replaying = record { text = λ line k. lineTurn line k .text; next = λ line k. lineTurn line k .after; most = longest }
 
-unfoldable pub keptAfter : List (List ℕ) → Kept → Kept
-keptAfter [] k = k
-keptAfter (l ∷ ls) k = keptAfter ls (lineTurn l k .after)
+-- What is kept before the first line.
+abbrev pub keptFirst : Machine → Kept
+keptFirst m = record { machine = m; answer = []; malformed = 0; differing = 0; ended = false }
 
 -- ---- what is recorded
 
@@ -177,11 +177,11 @@ AllTyped (e ∷ es) = Typed e × AllTyped es
 -- From any record and buffers, freshly made or saved: the replay of the recorded lines prints the answers that the events had, counts no
 -- difference and no line of another form, and leaves the record and buffers that they left.
 pub record Replayed : Type 0 where
-  pub text : (es : List Event) (k : Kept) → AllTyped es → k .ended ≡ false → textOf (recordedLines es (k .machine)) k ≡ answersOf es (k .machine)
+  pub text : (es : List Event) (k : Kept) → AllTyped es → k .ended ≡ false → transcript replaying (recordedLines es (k .machine)) k ≡ answersOf es (k .machine)
   pub machine :
       (es : List Event) (k : Kept) → AllTyped es → k .ended ≡ false
-      → keptAfter (recordedLines es (k .machine)) k .machine ≡ eventsAfter es (k .machine)
+      → keptAfter replaying (recordedLines es (k .machine)) k .machine ≡ eventsAfter es (k .machine)
   pub differing :
-      (es : List Event) (k : Kept) → AllTyped es → k .ended ≡ false → keptAfter (recordedLines es (k .machine)) k .differing ≡ k .differing
+      (es : List Event) (k : Kept) → AllTyped es → k .ended ≡ false → keptAfter replaying (recordedLines es (k .machine)) k .differing ≡ k .differing
   pub malformed :
-      (es : List Event) (k : Kept) → AllTyped es → k .ended ≡ false → keptAfter (recordedLines es (k .machine)) k .malformed ≡ k .malformed
+      (es : List Event) (k : Kept) → AllTyped es → k .ended ≡ false → keptAfter replaying (recordedLines es (k .machine)) k .malformed ≡ k .malformed

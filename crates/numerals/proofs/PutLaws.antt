@@ -7,7 +7,7 @@ use native.Mathlib.Numerals.{add-one}
 use native.Mathlib.Omega.{arith}
 use lib.Dec.{ltb}
 use lib.ListN.{length, take, drop, getD, set, length-append, length-drop}
-use lib.Seq.{take-suc, take-all, append-snoc}
+use lib.Seq.{take-suc, take-all, take-append-seam, length-take-le, append-snoc}
 use borrow.Author.Tests.{lt-ltb, le-ltb, ltb-true, ltb-false}
 use Rattle.octets.specs.Parts.{pasted}
 use Rattle.octets.proofs.PartLaws.{pasted-append, pasted-none, pasted-more, length-pasted}
@@ -40,6 +40,18 @@ one b at v h = record { bytes = stored; end = omega arith }
     stored =
         let z : at + 0 ≡ at = omega arith in
         ap₂ (λ (x : List ℕ) (k : ℕ). set x k v) (sym (pasted-none b at)) (sym z) ∙ pasted-more b at [] (omega arith) v (omega arith)
+
+-- what stands in front of the end of a text that was put
+pub put-text : (before : List ℕ) (at : ℕ) (text after : List ℕ) (next : ℕ) → at ≤ length before → Put before at text after next
+    → take next after ≡ take at before ++ text
+unfolding pasted
+put-text before at text after next h p =
+    let front = take at before ++ text in
+    let n = length-append (take at before) text in
+    let l = length-take-le at before h in
+    let e : next ≡ length front = omega (arith, p .end) in
+    ap₂ take e (p .bytes ∙ sym (append-assoc (take at before) text (drop (at + length text) before)))
+    ∙ take-append-seam front (drop (at + length text) before)
 
 -- ---- decimal
 

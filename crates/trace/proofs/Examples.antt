@@ -8,7 +8,8 @@ use Rattle.grammar.specs.Grammar.{parsed, form, lettered, after, ends, writes}
 use Rattle.grammar.specs.Examples.{bytes}
 use Rattle.lines.specs.Lines.{linesOf, linesFrom, lastLine, endedLine, grown}
 use Rattle.printing.specs.Printed.{printed, spelled, okNumber, okBytes, decimal}
-use Rattle.trace.specs.Transcript.{modEight, readerAfter, lineTurn, transcript}
+use Rattle.lines.specs.Programs.{transcript}
+use Rattle.trace.specs.Transcript.{modEight, readerAfter, lineTurn}
 use Rattle.trace.specs.Examples.{Examples}
 
 pub examples : Examples

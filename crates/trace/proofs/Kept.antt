@@ -8,17 +8,21 @@ use lib.Seq.{take-all, length-take-le}
 use borrow.Author.Tests.{leb-true, leb-false, lt-leb}
 use native.Mathlib.Omega.{arith}
 use Prim.Native.Nat.{ℕ, _<_}
-use Rattle.grammar.specs.Grammar.{another, parsed, form}
+use Rattle.grammar.specs.Grammar.{Line, another, parsed, form}
 use Rattle.lines.specs.Lines.{kept}
-use Rattle.trace.specs.Answers.{KeptIsEnough}
+use Rattle.lines.specs.Programs.{KeptIsEnough}
+use Rattle.rules.specs.Messages.{Answering}
+use Rattle.printing.specs.Printed.{printed}
+use Rattle.trace.specs.Answers.{KeptLine}
+use Rattle.trace.specs.Transcript.{lineTurn, tracing}
 
 too-long : (line : List ℕ) → 128 < length line → parsed line ≡ another
 unfolding parsed
 too-long line h = ap (λ (t : Bool). cond t (form line) another) (lt-leb (length line) 128 h)
 
-pub kept-is-enough : KeptIsEnough
+pub kept-line : KeptLine
 unfolding kept
-kept-is-enough line = pick (leb (length line) 128) refl
+kept-line line = pick (leb (length line) 128) refl
   where
     pick : (t : Bool) → leb (length line) 128 ≡ t → parsed (take 129 line) ≡ parsed line
     pick true e = let h = leb-true (length line) 128 e in ap parsed (take-all 129 line (omega arith))
@@ -26,3 +30,10 @@ kept-is-enough line = pick (leb (length line) 128) refl
         let h = leb-false (length line) 128 e in
         let l = length-take-le 129 line (omega arith) in
         too-long (take 129 line) (omega arith) ∙ sym (too-long line h)
+
+pub kept-is-enough : {S : Type 0} (a : Answering S) → KeptIsEnough (tracing a)
+kept-is-enough a =
+    record {
+      text = λ line k. ap (λ (l : Line). printed (lineTurn a l k .reply)) (kept-line line);
+      next = λ line k. ap (λ (l : Line). lineTurn a l k .after) (kept-line line);
+    }

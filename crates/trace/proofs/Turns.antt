@@ -1,14 +1,12 @@
 -- A line that was answered as `answered` promises was answered by its turn, and its text is the turn's. Assumes nothing.
-use mathlib.Core.List.{List, [], _∷_, _++_, append-assoc, append-nil}
+use mathlib.Core.List.{List, [], _∷_, _++_, append-nil}
 use mathlib.Core.Path.{_≡_, sym, ap, ap₂, _∙_}
-use lib.ListN.{length, take, drop, length-append}
-use lib.Seq.{take-append-seam, length-take-le}
-use native.Mathlib.Omega.{arith}
-use Prim.Native.Nat.{ℕ, _+_, _≤_}
-use Rattle.octets.specs.Parts.{pasted}
+use lib.ListN.{length, take}
+use Prim.Native.Nat.{ℕ, _≤_}
 use Rattle.requests.specs.Performing.{Unanswered}
 use Rattle.grammar.specs.Grammar.{Line, another, asks, parsed}
 use Rattle.numerals.specs.Put.{Put}
+use Rattle.numerals.proofs.PutLaws.{put-text}
 use Rattle.printing.specs.Printed.{printed}
 use Rattle.record.specs.Paper.{Said, said}
 use Rattle.record.specs.declared.outcomes.Outcome.{Outcome}
@@ -19,7 +17,8 @@ use Rattle.requests.specs.Requests.{callOf}
 use Rattle.rules.specs.Messages.{Reply, bufferOf, bufferOfCall}
 use Rattle.rules.specs.Machine.{Machine}
 use Rattle.trace.specs.Answers.{AnswersTo, Answers}
-use Rattle.trace.specs.Transcript.{readerAfter, Kept, LineTurn, lineTurn, transcript, keptAfter, Answered}
+use Rattle.lines.specs.Programs.{transcript, keptAfter, Answered}
+use Rattle.trace.specs.Transcript.{readerAfter, Kept, LineTurn, lineTurn, storeTrace}
 use Rattle.rules.specs.Calls.{storeAnswers}
 
 record Same (t : LineTurn Machine) (o : Outcome) (m′ : Machine) (reader′ : List ℕ) : Type 0 where
@@ -54,23 +53,11 @@ same-turn (asks q bytes) m reader o m′ reader′ h =
     let e = read-left q bytes reader reader′ _ (h .unanswered) (h .meets .reader) in
     record { after = ap₂ keptIn (h .meets .machine) e; reply = ap₂ replyIn (h .meets .outcome) e }
 
--- what waits after text was put at its end
-put-text : (before : List ℕ) (at : ℕ) (text after : List ℕ) (next : ℕ) → at ≤ length before → Put before at text after next
-    → take next after ≡ take at before ++ text
-unfolding pasted
-put-text before at text after next h p =
-    let front = take at before ++ text in
-    let n = length-append (take at before) text in
-    let l = length-take-le at before h in
-    let e : next ≡ length front = omega (arith, p .end) in
-    ap₂ take e (p .bytes ∙ sym (append-assoc (take at before) text (drop (at + length text) before)))
-    ∙ take-append-seam front (drop (at + length text) before)
-
 pub told-line : (line reader : List ℕ) (m : Machine) (o : Outcome) (m′ : Machine) (reader′ : List ℕ)
     → (before : List ℕ) (at : ℕ) (after : List ℕ) (next : ℕ) → Answers line reader m o m′ reader′
     → Put before at (printed (record { answer = said o; buffer = reader′ })) after next
     → at ≤ length before
-    → Answered (line ∷ []) (keptIn m reader) (take at before) (keptIn m′ reader′) (take next after)
+    → Answered storeTrace (line ∷ []) (keptIn m reader) (take at before) (keptIn m′ reader′) (take next after)
 unfolding transcript keptAfter
 told-line line reader m o m′ reader′ before at after next a p h =
     let s = same-turn (parsed line) m reader o m′ reader′ a in

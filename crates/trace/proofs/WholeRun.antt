@@ -1,11 +1,13 @@
 -- What a whole run puts out is the text of the lines of its input, on the store and on the plain machine. Assumes nothing.
-use mathlib.Core.List.{List, [], _∷_, _++_, map, append-assoc, append-nil}
-use mathlib.Core.Path.{_≡_, refl, sym, ap, ap₂, _∙_}
+use mathlib.Core.List.{List, [], _∷_, _++_}
+use mathlib.Core.Path.{_≡_, refl, sym, ap, _∙_}
 use lib.ListN.{getD}
 use Prim.Native.Nat.{ℕ}
 use Rattle.grammar.specs.Grammar.{Line, another, asks, parsed}
-use Rattle.lines.specs.Lines.{linesOf, kept, endedIn, heldAfter, fromPieces, joined}
-use Rattle.lines.proofs.Pieces.{pieces-are-the-whole}
+use Rattle.lines.specs.Lines.{linesOf}
+use Rattle.lines.specs.Programs.{transcript}
+use Rattle.lines.specs.WholeRun.{inputOf}
+use Rattle.lines.proofs.WholeRun.{whole-run as whole-lines}
 use Rattle.printing.specs.Printed.{printed}
 use Rattle.record.specs.Paper.{refused}
 use Rattle.requests.specs.Requests.{callOf}
@@ -19,63 +21,9 @@ use Rattle.trace.specs.Transcript.{modEight, readerAfter, Kept, LineTurn
 use Rattle.rules.specs.Messages.{Answering}
 use Rattle.rules.specs.Calls.{storeAnswers}
 use Rattle.rules.specs.Plain.{plainAnswers}
-use Rattle.trace.specs.Transcript.{lineTurn, transcript, Under, toCome, atEnd}
-use Rattle.trace.specs.WholeRun.{PutOut, Leg, Legs, inputOf, outputOf, WholeRun}
+use Rattle.trace.specs.Transcript.{lineTurn, tracing, storeTrace}
+use Rattle.trace.specs.WholeRun.{WholeRun}
 use Rattle.trace.proofs.Kept.{kept-is-enough}
-use Rattle.trace.proofs.Passing.{transcript-append, none-to-come, end-reached}
-
--- ---- on the store
-
-record Got (u : Under) (texts : List (List ℕ)) (w : Under) : Type 0 where
-  says : toCome u ≡ joined texts ++ toCome w
-  reaches : atEnd u ≡ atEnd w
-
-put-out : (u : Under) (texts : List (List ℕ)) (w : Under) → PutOut u texts w → Got u texts w
-unfolding PutOut joined
-put-out u [] w e = record { says = ap toCome e; reaches = ap atEnd e }
-put-out u (text ∷ texts) w p =
-    let v = p .0 in
-    let g = put-out v texts w (p .1 .1) in
-    record {
-      says = p .1 .0 .says ∙ ap (λ (x : List ℕ). text ++ x) (g .says) ∙ sym (append-assoc text (joined texts) (toCome w));
-      reaches = p .1 .0 .reaches ∙ g .reaches;
-    }
-
-pieces : List Leg → List (List ℕ)
-pieces xs = map (λ x. x .piece) xs
-
-pieces-joined : (xs : List Leg) → joined (pieces xs) ≡ inputOf xs
-unfolding pieces joined inputOf
-pieces-joined [] = refl
-pieces-joined (x ∷ xs) = ap (λ (r : List ℕ). x .piece ++ r) (pieces-joined xs)
-
-legs-text : (held : List ℕ) (k : Kept Machine) (xs : List Leg) (last : List ℕ) → Legs held k xs last
-    → outputOf xs ++ last ≡ transcript storeAnswers (fromPieces 128 held (pieces xs)) k
-unfolding Legs outputOf pieces fromPieces toCome atEnd
-legs-text held k [] last h = h .1 .says
-legs-text held k (x ∷ xs) last h =
-    let w = h .0 in
-    let g = put-out (record { kept = k; held = held; rest = x .piece }) (x .texts) w (h .1 .1 .0) in
-    let ls = endedIn 128 held (x .piece) in
-    let text : joined (x .texts) ≡ transcript storeAnswers ls k =
-    sym (append-nil (joined (x .texts)))
-    ∙ ap (λ (r : List ℕ). joined (x .texts) ++ r) (sym (none-to-come w (h .1 .0)))
-    ∙ sym (g .says) in
-    let end : atEnd (record { kept = k; held = held; rest = x .piece }) ≡ w = g .reaches ∙ end-reached w (h .1 .0) in
-    append-assoc (joined (x .texts)) (outputOf xs) last
-    ∙ ap₂ (λ (a b : List ℕ). a ++ b) text (legs-text (w .held) (w .kept) xs last (h .1 .1 .1))
-    ∙ ap (λ (v : Under). transcript storeAnswers ls k ++ transcript storeAnswers (fromPieces 128 (v .held) (pieces xs)) (v .kept)) (sym end)
-    ∙ sym (transcript-append storeAnswers ls (fromPieces 128 (heldAfter 128 held (x .piece)) (pieces xs)) k)
-
-kept-lines : (ls : List (List ℕ)) (k : Kept Machine) → transcript storeAnswers (map (kept 128) ls) k ≡ transcript storeAnswers ls k
-unfolding transcript
-kept-lines [] k = refl
-kept-lines (l ∷ ls) k =
-    let turn : Line → LineTurn Machine = λ p. lineTurn storeAnswers p k in
-    ap (λ (p : Line). printed (turn p .reply) ++ transcript storeAnswers (map (kept 128) ls) (turn p .after)) (kept-is-enough l)
-    ∙ ap (λ (x : List ℕ). printed (turn (parsed l) .reply) ++ x) (kept-lines ls (turn (parsed l) .after))
-
--- ---- on the plain machine
 
 lastReply : Reply → List Reply → Reply
 lastReply r [] = r
@@ -125,10 +73,10 @@ module _ (m₀ : Machine) (made : FreshlyMade modEight m₀) where
   abbrev SameText : List (List ℕ) → Type 0
   SameText ls =
       (cs : List Call) (reader : List ℕ)
-      → transcript storeAnswers ls (onStore cs reader) ≡ transcript plainAnswers ls (onPlain cs reader)
+      → transcript storeTrace ls (onStore cs reader) ≡ transcript (tracing plainAnswers) ls (onPlain cs reader)
 
   text-by : {S : Type 0} → Answering S → List (List ℕ) → LineTurn S → List ℕ
-  text-by a ls t = printed (t .reply) ++ transcript a ls (t .after)
+  text-by a ls t = printed (t .reply) ++ transcript (tracing a) ls (t .after)
 
   same-line : (l : Line) (ls : List (List ℕ)) → SameText ls → (cs : List Call) (reader : List ℕ)
       → text-by storeAnswers ls (lineTurn storeAnswers l (onStore cs reader))
@@ -141,10 +89,10 @@ module _ (m₀ : Machine) (made : FreshlyMade modEight m₀) where
       let after = plainCall c (plainAfter cs p₀) .after in
       let left : Reply → List ℕ = λ r. readerAfter q reader (r .buffer) in
       let shown : Reply → List ℕ = λ r. printed (record { answer = r .answer; buffer = left r }) in
-      ap (λ (m : Machine). shown s ++ transcript storeAnswers ls (record { machine = m; reader = left s })) (sym (store-more cs c m₀))
+      ap (λ (m : Machine). shown s ++ transcript storeTrace ls (record { machine = m; reader = left s })) (sym (store-more cs c m₀))
       ∙ ap (λ (x : List ℕ). shown s ++ x) (more (cs ++ (c ∷ [])) (left s))
-      ∙ ap (λ (p : Plain). shown s ++ transcript plainAnswers ls (record { machine = p; reader = left s })) (plain-more cs c p₀)
-      ∙ ap (λ (r : Reply). shown r ++ transcript plainAnswers ls (record { machine = after; reader = left r })) (same-reply cs c)
+      ∙ ap (λ (p : Plain). shown s ++ transcript (tracing plainAnswers) ls (record { machine = p; reader = left s })) (plain-more cs c p₀)
+      ∙ ap (λ (r : Reply). shown r ++ transcript (tracing plainAnswers) ls (record { machine = after; reader = left r })) (same-reply cs c)
 
   same-text : (ls : List (List ℕ)) → SameText ls
   unfolding transcript text-by
@@ -153,11 +101,6 @@ module _ (m₀ : Machine) (made : FreshlyMade modEight m₀) where
 
 pub whole-run : WholeRun
 unfolding p₀ afterAll
-whole-run m made reader legs last h =
-    let k : Kept Machine = record { machine = m; reader = reader } in
-    let text =
-    legs-text [] k legs last h
-    ∙ ap (λ (ls : List (List ℕ)). transcript storeAnswers ls k) (pieces-are-the-whole 128 (pieces legs))
-    ∙ kept-lines (linesOf (joined (pieces legs))) k
-    ∙ ap (λ (input : List ℕ). transcript storeAnswers (linesOf input) k) (pieces-joined legs) in
+whole-run m made reader legs last k h =
+    let text = whole-lines storeTrace (kept-is-enough storeAnswers) (record { machine = m; reader = reader }) legs last k h .says in
     record { onStore = text; onPlain = text ∙ same-text m made (linesOf (inputOf legs)) [] reader }

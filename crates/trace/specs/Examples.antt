@@ -8,11 +8,12 @@ use Prim.Native.String.{String}
 use Rattle.grammar.specs.Examples.{bytes}
 use Rattle.lines.specs.Lines.{linesOf}
 use Rattle.rules.specs.Plain.{freshPlain, plainAnswers}
-use Rattle.trace.specs.Transcript.{modEight, transcript}
+use Rattle.lines.specs.Programs.{transcript}
+use Rattle.trace.specs.Transcript.{modEight, tracing}
 
 abbrev pub prints : String → List ℕ
 prints text =
-    transcript plainAnswers (linesOf (bytes text)) (record { machine = freshPlain (λ d. getD modEight d 0); reader = replicate 4 0 })
+    transcript (tracing plainAnswers) (linesOf (bytes text)) (record { machine = freshPlain (λ d. getD modEight d 0); reader = replicate 4 0 })
 
 pub record Examples : Type 0 where
   -- 02, F-5: "`B0`, `W0 0 hi`, `P0 0`, `C0` give `ok`, `ok`, `ok 2`, `ok 0`"

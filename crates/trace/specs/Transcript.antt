@@ -1,10 +1,9 @@
 -- What a trace prints for lines, one after the other. Paper 02, F-5: "A program reads standard input over a fresh store, descriptor d in
 -- file d mod 8"; "It prints for each line .. , and then the byte 10"; "17, once for the whole line, .. ; the run goes on."
-use mathlib.Core.List.{List, [], _∷_, _++_}
-use mathlib.Core.Path.{_≡_}
+use mathlib.Core.List.{List}
 use Prim.Native.Nat.{ℕ, _%_}
 use Rattle.grammar.specs.Grammar.{Line, another, asks, parsed}
-use Rattle.lines.specs.Lines.{endedIn, heldAfter}
+use Rattle.lines.specs.Programs.{LineProgram, Under, within}
 use Rattle.octets.specs.Parts.{tabulate}
 use Rattle.printing.specs.Printed.{printed}
 use Rattle.record.specs.Paper.{refused}
@@ -55,44 +54,21 @@ module _ {S : Type 0} (a : Answering S) where
         after = record { machine = a .next c (k .machine); reader = reader };
       }
 
-  -- The text of lines, and what is kept after them.
-  unfoldable pub transcript : List (List ℕ) → Kept S → List ℕ
-  transcript [] k = []
-  transcript (l ∷ ls) k = let t = lineTurn (parsed l) k in printed (t .reply) ++ transcript ls (t .after)
-
-  unfoldable pub keptAfter : List (List ℕ) → Kept S → Kept S
-  keptAfter [] k = k
-  keptAfter (l ∷ ls) k = keptAfter ls (lineTurn (parsed l) k .after)
+  -- What a trace does with lines: a line of more than 128 bytes without its end has another form.
+  abbrev pub tracing : LineProgram (Kept S)
+  tracing =
+      record {
+        text = λ line k. printed (lineTurn (parsed line) k .reply);
+        next = λ line k. lineTurn (parsed line) k .after;
+        most = 128;
+      }
 
 -- ---- what the functions promise
 
--- Lines were answered from k on: to the output that waits their text was added, and k′ is kept.
-pub record Answered (lines : List (List ℕ)) (k : Kept Machine) (waiting : List ℕ) (k′ : Kept Machine) (waiting′ : List ℕ) : Type 0 where
-  pub says : waiting′ ≡ waiting ++ transcript storeAnswers lines k
-  pub keeps : k′ ≡ keptAfter storeAnswers lines k
+-- The trace that the program runs, on record and buffers.
+abbrev pub storeTrace : LineProgram (Kept Machine)
+storeTrace = tracing storeAnswers
 
--- In the middle of a piece of input: what is kept, what is held of the line at hand, and the rest of the piece.
-pub record Under : Type 0 where
-  pub kept : Kept Machine
-  pub held : List ℕ
-  pub rest : List ℕ
-
-abbrev pub under : Machine → List ℕ → List ℕ → List ℕ → Under
-under m reader held rest = record { kept = record { machine = m; reader = reader }; held = held; rest = rest }
-
--- The text that the rest of the piece is to be answered, and where its end is reached.
-unfoldable pub toCome : Under → List ℕ
-toCome u = transcript storeAnswers (endedIn 128 (u .held) (u .rest)) (u .kept)
-
-unfoldable pub atEnd : Under → Under
-atEnd u =
-    record {
-      kept = keptAfter storeAnswers (endedIn 128 (u .held) (u .rest)) (u .kept);
-      held = heldAfter 128 (u .held) (u .rest);
-      rest = [];
-    }
-
--- From u to v some lines were answered: what waits and what is to come make the same text as before, and the same end is reached.
-pub record Passes (u : Under) (waiting : List ℕ) (v : Under) (waiting′ : List ℕ) : Type 0 where
-  pub says : waiting ++ toCome u ≡ waiting′ ++ toCome v
-  pub reaches : atEnd u ≡ atEnd v
+-- In the middle of a piece of input, as the program has it.
+abbrev pub under : Machine → List ℕ → List ℕ → List ℕ → Under (Kept Machine)
+under m reader held rest = within (record { machine = m; reader = reader }) held rest

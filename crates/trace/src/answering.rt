@@ -13,7 +13,8 @@ ghost use lib.ListN.{length, take, drop};
 ghost use Rattle.lines.specs.Lines.{lastLine};
 ghost use Rattle.rules.specs.Promises.{handed, handedBack};
 ghost use Rattle.trace.specs.Answers.{Answers};
-ghost use Rattle.trace.specs.Transcript.{Answered, Passes, under};
+ghost use Rattle.lines.specs.Programs.{Answered, Passes};
+ghost use Rattle.trace.specs.Transcript.{storeTrace, under};
 ghost use Rattle.trace.specs.Bounds.{CourseIn, Onward, Resting, Room};
 
 // When more output waits than this it is written, so that the longest line still fits in after what waits.
@@ -26,7 +27,7 @@ pub type Undo = [u8; FILE_BYTES];
 
 // What is kept between lines beside the store: how many bytes of the line at hand are held, the place in the piece, how
 // many bytes of the output wait, and how many lines of it were written; whether a line of another form ended in byte
-// 13, and whether the run goes on.
+// 13, whether the run goes on, and whether it came to the end of the input with all that it answered written.
 pub struct Course {
     pub held: usize,
     pub at: usize,
@@ -34,6 +35,7 @@ pub struct Course {
     pub written: u64,
     pub returned: bool,
     pub goes: bool,
+    pub complete: bool,
 }
 
 // The answer to a line: 17, or what the call answers that it asks for.
@@ -87,7 +89,7 @@ fn told(
     out: &mut [u8],
 ) -> Course
     requires { ⌜ (c .waiting ≤ 57000) × Room (now reader) (now out) ⌝ }
-    ensures { λ r. ⌜ Answered (now (line .entry) ∷ [])
+    ensures { λ r. ⌜ Answered storeTrace (now (line .entry) ∷ [])
         (record { machine = handed kept files logs marks undo; reader = now (reader .entry) })
         (take (c .waiting) (now (out .entry)))
         (record { machine = handedBack kept files logs marks undo; reader = now (reader .exit) })
@@ -115,7 +117,7 @@ fn stepped(
     out: &mut [u8],
 ) -> Course
     requires { ⌜ CourseIn c (length (now piece)) × (Room (now reader) (now out) × (length (now line) ≡ 129)) ⌝ }
-    ensures { λ r. ⌜ Passes
+    ensures { λ r. ⌜ Passes storeTrace
         (under (handed kept files logs marks undo) (now (reader .entry))
         (take (c .held) (now (line .entry))) (drop (c .at) (now (piece .entry))))
         (take (c .waiting) (now (out .entry)))
@@ -160,7 +162,7 @@ pub fn filled(
 ) -> Course
     requires { ⌜ Resting c × ((c .at < length (now piece))
         × (Room (now reader) (now out) × (length (now line) ≡ 129))) ⌝ }
-    ensures { λ r. ⌜ Passes
+    ensures { λ r. ⌜ Passes storeTrace
         (under (handed kept files logs marks undo) (now (reader .entry))
         (take (c .held) (now (line .entry))) (drop (c .at) (now (piece .entry))))
         []
@@ -191,7 +193,7 @@ pub fn last_line(
     out: &mut [u8],
 ) -> Course
     requires { ⌜ Resting c × (Room (now reader) (now out) × (length (now line) ≡ 129)) ⌝ }
-    ensures { λ r. ⌜ Answered (lastLine (take (c .held) (now (line .entry))))
+    ensures { λ r. ⌜ Answered storeTrace (lastLine (take (c .held) (now (line .entry))))
         (record { machine = handed kept files logs marks undo; reader = now (reader .entry) })
         []
         (record { machine = handedBack kept files logs marks undo; reader = now (reader .exit) })

@@ -18,13 +18,16 @@ use record::layout::NUMBERS;
 use record::layout::Record;
 ghost use mathlib.Core.Path.{_≡_};
 ghost use mathlib.Core.Bool.{true, false};
-ghost use mathlib.Core.List.{[]};
+ghost use mathlib.Core.List.{List, []};
 ghost use Prim.Native.Nat.{ℕ, _≤_, _<_};
 ghost use lib.ListN.{length, take};
 ghost use Rattle.rules.specs.Demand3OfStore.{FreshlyMade};
 ghost use Rattle.rules.specs.Promises.{handed, handedBack, machineOf};
-ghost use Rattle.trace.specs.Transcript.{modEight, under, atEnd};
-ghost use Rattle.trace.specs.WholeRun.{Reached};
+ghost use Rattle.lines.specs.Lines.{lastLine};
+ghost use Rattle.lines.specs.Programs.{Answered, atEnd};
+ghost use Rattle.lines.specs.WholeRun.{Ran};
+ghost use Rattle.trace.specs.Transcript.{modEight, storeTrace, under};
+ghost use Rattle.trace.specs.WholeRun.{ReachedFresh};
 ghost use Rattle.trace.specs.Bounds.{Resting, Room};
 
 // The bytes that are held of a line: one more than it may have.
@@ -62,7 +65,7 @@ fn taken(
 ) -> Course
     requires { ⌜ Resting c × (Room (now reader) (now out) × (length (now line) ≡ 129)) ⌝ }
     ensures { λ r. ⌜ Resting r × (r .goes ≡ true
-        → atEnd (under (handed kept files logs marks undo) (now (reader .entry))
+        → atEnd storeTrace (under (handed kept files logs marks undo) (now (reader .entry))
         (take (c .held) (now (line .entry))) (now (piece .entry)))
         ≡ under (handedBack kept files logs marks undo) (now (reader .exit))
         (take (r .held) (now (line .exit))) []) ⌝ }
@@ -92,18 +95,24 @@ fn turn(
     out: &mut [u8],
 ) -> Course
     requires { ⌜ Resting c × (Room (now reader) (now out) × ((length (now line) ≡ 129)
-        × Reached (under (machineOf (now kept) (now files) (now logs) (now marks) (now undo)) (now reader)
+        × ReachedFresh (under (machineOf (now kept) (now files) (now logs) (now marks) (now undo)) (now reader)
         (take (c .held) (now line)) []))) ⌝ }
     ensures { λ r. ⌜ Resting r × (r .goes ≡ true → (n : ℕ)
-        × (atEnd (under (handed kept files logs marks undo) (now (reader .entry))
+        × (atEnd storeTrace (under (handed kept files logs marks undo) (now (reader .entry))
         (take (c .held) (now (line .entry))) (take n (now (input .exit))))
         ≡ under (handedBack kept files logs marks undo) (now (reader .exit))
-        (take (r .held) (now (line .exit))) [])) ⌝ }
+        (take (r .held) (now (line .exit))) []))
+        × (r .complete ≡ true → (text : List ℕ) × Answered storeTrace (lastLine (take (c .held) (now (line .entry))))
+        (record { machine = handed kept files logs marks undo; reader = now (reader .entry) })
+        []
+        (record { machine = handedBack kept files logs marks undo; reader = now (reader .exit) })
+        text) ⌝ }
 {
+    c.complete = false;
     let got = read_piece(input);
     if got > 0 {
         let n = io::count(got, input);
-        return taken(
+        let mut d = taken(
             c,
             kept,
             files,
@@ -115,14 +124,17 @@ fn turn(
             &input[..n],
             out,
         );
+        d.complete = false;
+        return d;
     }
-    c.goes = false;
     if got == 0 {
         let d = last_line(c, kept, files, logs, marks, undo, line, reader, out);
         c = written(d, out);
+        c.complete = c.goes;
         c.goes = false;
         return c;
     }
+    c.goes = false;
     descriptors::say_unread(c.written);
     c
 }
@@ -149,9 +161,12 @@ fn run(
     reader: &mut [u8],
     input: &mut [u8],
     out: &mut [u8],
-)
+) -> Course
     requires { ⌜ FreshlyMade modEight (machineOf (now kept) (now files) (now logs) (now marks) (now undo))
         × (Room (now reader) (now out) × (length (now line) ≡ 129)) ⌝ }
+    ensures { λ r. ⌜ (r .complete ≡ true → Ran storeTrace
+        (record { machine = handed kept files logs marks undo; reader = now (reader .entry) })
+        (record { machine = handedBack kept files logs marks undo; reader = now (reader .exit) })) ⌝ }
 {
     let mut c = Course {
         held: 0,
@@ -160,15 +175,14 @@ fn run(
         written: 0,
         returned: false,
         goes: true,
+        complete: false,
     };
     let mut turns = u64::MAX;
     while 0 < turns {
         c = turn(c, kept, files, logs, marks, undo, line, reader, input, out);
         turns = turns_left(turns, c.goes);
     }
-    if c.returned {
-        descriptors::say_returned();
-    }
+    c
 }
 
 // Makes the store fresh, descriptor d in file d mod 8.
@@ -197,7 +211,7 @@ fn main() {
     let mut input = io::large_buffer();
     let mut out = io::large_buffer();
     start(&mut kept, &mut files, &logs, &mut marks, &undo);
-    run(
+    let c = run(
         &mut kept,
         &mut files,
         &mut logs,
@@ -208,4 +222,7 @@ fn main() {
         &mut input,
         &mut out,
     );
+    if c.returned {
+        descriptors::say_returned();
+    }
 }

@@ -28,4 +28,6 @@ main-spec =
     (λ c. search needs)
     (λ c. search needs)
     run-requires
+    (λ c κs. search needs)
+    (λ c. search needs)
     (λ c. search needs))

@@ -1,5 +1,6 @@
 -- `run` meets its contract. The loop's invariant: no output waits, the buffers keep their lengths, and while turns are left the store is
 -- where the pieces so far led. Assumes nothing.
+use mathlib.Core.Bool.{true, false≢true}
 use mathlib.Core.List.{[]}
 use mathlib.Core.Path.{_≡_, refl}
 use lib.ListN.{length, take}
@@ -7,9 +8,11 @@ use Prim.Native.Nat.{_<_}
 use native.Mathlib.Omega.{arith}
 use borrow.Author.Needs.{needs}
 use Rattle.rules.specs.Promises.{machineOf}
-use Rattle.trace.specs.Transcript.{under}
-use Rattle.trace.specs.WholeRun.{Reached}
-use Rattle.trace.proofs.Reaching.{reached-first, reached-more, goes-on}
+use Rattle.rules.specs.Calls.{storeAnswers}
+use Rattle.lines.specs.WholeRun.{Reached, Ran}
+use Rattle.lines.proofs.WholeRun.{reached-first, reached-more, goes-on, ran}
+use Rattle.trace.specs.Transcript.{storeTrace, under}
+use Rattle.trace.proofs.Kept.{kept-is-enough}
 use Rattle.trace.specs.Bounds.{Resting, Room}
 use Rattle.trace.proofs.run.Statement.{statement}
 use Rattle.trace.proofs.run.Tie as tie
@@ -17,7 +20,12 @@ use Rattle.trace.proofs.run.Tie as tie
 abbrev Inv-loop : tie.InvT-loop
 Inv-loop kept₀ files₀ logs₀ marks₀ undo₀ line₀ reader₀ input₀ out₀ c₀ turns₀ kept files logs marks undo line reader input out c turns =
     Resting c × Room reader out × (length line ≡ 129) × (length input ≡ length input₀)
-    × (0 < turns → Reached (under (machineOf kept files logs marks undo) reader (take (c .held) line) []))
+    × (0 < turns
+    → Reached storeTrace (record { machine = machineOf kept₀ files₀ logs₀ marks₀ undo₀; reader = reader₀ })
+    (under (machineOf kept files logs marks undo) reader (take (c .held) line) []))
+    × (c .complete ≡ true
+    → Ran storeTrace (record { machine = machineOf kept₀ files₀ logs₀ marks₀ undo₀; reader = reader₀ })
+    (record { machine = machineOf kept files logs marks undo; reader = reader }))
 
 abbrev μ-loop : tie.MeasureT-loop
 μ-loop kept₀ files₀ logs₀ marks₀ undo₀ line₀ reader₀ input₀ out₀ c₀ turns₀ kept files logs marks undo line reader input out c turns
@@ -30,14 +38,22 @@ loop-holds c =
       record { readable = p .1 .0 .readable; printable = p .1 .0 .printable },
       p .1 .1,
       refl,
-      λ h. reached-first _ _ (p .0),
+      λ h. reached-first storeTrace _,
+      λ h. absurd (false≢true h),
     )
 
 turn-requires : tie.Need-turn-requires Inv-loop μ-loop
 turn-requires c κs =
     let tested = c .before .before .before .before .before .before .before .before .before in
-    let i = tested .before .loop .inv in
-    (i .0, (record { readable = i .1 .readable; printable = i .1 .printable }, (i .2, i .4 (tested .loop-test .taken))))
+    let loop = tested .before in
+    let i = loop .loop .inv in
+    let made = loop .before .before .before .before .before .pre .0 in (
+      i .0,
+      (
+        record { readable = i .1 .readable; printable = i .1 .printable },
+        (i .2, record { store = _; made = made; reader = _; reached = i .4 (tested .loop-test .taken) }),
+      ),
+    )
 
 loop-again : tie.Need-loop-again Inv-loop μ-loop
 loop-again c =
@@ -45,13 +61,18 @@ loop-again c =
     let tested = turned .before .before .before .before .before .before .before .before .before .before in
     let i = tested .before .loop .inv in
     let k = turned .turn .kept in
-    let t = turned .turn .ensures in (
+    let t = turned .turn .ensures in
+    let before = i .4 (tested .loop-test .taken) in (
       t .0,
       record { readable = omega (arith, i .1 .readable, k); printable = omega (arith, i .1 .printable, k) },
       omega (arith, k, i .2),
       omega (arith, k, i .3),
-      λ h. reached-more _ _ _ _ _ (i .4 (tested .loop-test .taken)) (t .1 (goes-on _ _ (c .turns-left .ensures .1) h) .1),
+      λ h. reached-more storeTrace _ _ _ _ _ before (t .1 (goes-on _ _ (c .turns-left .ensures .1) h) .1),
+      λ h. ran storeTrace (kept-is-enough storeAnswers) _ _ _ _ _ before (t .2 h .1),
     )
+
+returns : tie.Need-returns Inv-loop μ-loop
+returns c = c .before .loop .inv .5
 
 pub run-spec : {M : Type 1} → statement M
 run-spec =
@@ -64,14 +85,8 @@ run-spec =
     (λ c κs. search needs)
     (λ c. search needs)
     loop-again
-    (λ c κs. search needs)
     (λ c. search needs)
     (λ c. search needs)
     (λ c. search needs)
     (λ c. search needs)
-    (λ c. search needs)
-    (λ c. search needs)
-    (λ c. search needs)
-    (λ c. search needs)
-    (λ c. search needs)
-    (λ c. search needs))
+    returns)

@@ -8,16 +8,17 @@ use Prim.Native.Nat.{_-_, _≤_}
 use borrow.Author.Needs.{needs}
 use Rattle.rules.specs.Promises.{machineOf}
 use Rattle.trace.specs.Bounds.{Resting, Room}
-use Rattle.trace.specs.Transcript.{under, atEnd}
-use Rattle.trace.proofs.Passing.{off, end-same, end-of}
+use Rattle.lines.specs.Programs.{atEnd}
+use Rattle.trace.specs.Transcript.{storeTrace, under}
+use Rattle.lines.proofs.Passing.{off, end-same, end-of}
 use Rattle.trace.proofs.taken.Statement.{statement}
 use Rattle.trace.proofs.taken.Tie as tie
 
 abbrev Inv-loop : tie.InvT-loop
 Inv-loop c₀ kept₀ files₀ logs₀ marks₀ undo₀ line₀ reader₀ piece out₀ c kept files logs marks undo line reader out =
     Resting c × (c .at ≤ length piece) × Room reader out × (length line ≡ 129)
-    × (atEnd (under (machineOf kept₀ files₀ logs₀ marks₀ undo₀) reader₀ (take (c₀ .held) line₀) piece)
-    ≡ atEnd (under (machineOf kept files logs marks undo) reader (take (c .held) line) (drop (c .at) piece)))
+    × (atEnd storeTrace (under (machineOf kept₀ files₀ logs₀ marks₀ undo₀) reader₀ (take (c₀ .held) line₀) piece)
+    ≡ atEnd storeTrace (under (machineOf kept files logs marks undo) reader (take (c .held) line) (drop (c .at) piece)))
 
 abbrev μ-loop : tie.MeasureT-loop
 μ-loop c₀ kept₀ files₀ logs₀ marks₀ undo₀ line₀ reader₀ piece out₀ c kept files logs marks undo line reader out = length piece - c .at
@@ -87,14 +88,14 @@ loop-again c =
       omega (arith, wrote .1 .1, filled .1 .inside),
       record { readable = omega (arith, i .2 .readable, k); printable = omega (arith, i .2 .printable, k) },
       omega (arith, i .3, k),
-      i .4 ∙ filled .0 .reaches ∙ end-same _ _ _ _ _ _ _ _ (wrote .1 .0) (wrote .1 .1),
+      i .4 ∙ filled .0 .reaches ∙ end-same storeTrace _ _ _ _ _ _ _ _ refl (wrote .1 .0) (wrote .1 .1),
     )
 
 returns-2 : tie.Need-returns-2 Inv-loop μ-loop
 returns-2 c =
     let loop = c .before .before .loop in
     let piece = c .before .before .before .before .before .before .before .args .piece .now in
-    (loop .inv .0, λ e. loop .inv .4 ∙ end-of _ _ _ _ (drop-of-length-le piece (c .if1 .left)))
+    (loop .inv .0, λ e. loop .inv .4 ∙ end-of storeTrace _ _ _ (drop-of-length-le piece (c .if1 .left)))
 
 pub taken-spec : {M : Type 1} → statement M
 taken-spec =

@@ -9,7 +9,11 @@ returns : tie.Need-returns
 returns c =
     let taking = c .before .before .before .before .before .before in
     let counted = taking .before .before .before .before .before .before .before .before .before .before in
-    (taking .taken .ensures .0, λ e. (counted .count .result, taking .taken .ensures .1 e))
+    let resting = taking .taken .ensures .0 in (
+      record { held = resting .held; waiting = resting .waiting },
+      λ e. (counted .count .result, taking .taken .ensures .1 e),
+      λ e. absurd (false≢true e),
+    )
 
 returns-2 : tie.Need-returns-2
 returns-2 c =
@@ -18,12 +22,20 @@ returns-2 c =
     let start = tested .before .before .before .before .before .before .before .before .before .before in
     let wrote = c .written .ensures in
     let line = start .pre .0 .held in
-    (record { held = omega (arith, wrote .1 .0, ending .last-line .ensures .1 .1, line); waiting = wrote .0 }, λ e. absurd (false≢true e))
+    let last = ending .last-line .ensures in (
+      record { held = omega (arith, wrote .1 .0, last .1 .1, line); waiting = wrote .0 },
+      λ e. absurd (false≢true e),
+      λ e. (_, last .0),
+    )
 
 returns-3 : tie.Need-returns-3
 returns-3 c =
     let start = c .before .before .before .before .before .before .before .before .before .before .before in
-    (record { held = start .pre .0 .held; waiting = start .pre .0 .waiting }, λ e. absurd (false≢true e))
+    (
+      record { held = start .pre .0 .held; waiting = start .pre .0 .waiting },
+      λ e. absurd (false≢true e),
+      λ e. absurd (false≢true e),
+    )
 
 pub turn-spec : {M : Type 1} → statement M
 turn-spec =

@@ -8,8 +8,9 @@ use Prim.Native.Nat.{_-_, _*_, _≤_}
 use borrow.Author.Needs.{needs}
 use Rattle.rules.specs.Promises.{machineOf}
 use Rattle.trace.specs.Bounds.{Room}
-use Rattle.trace.specs.Transcript.{under, Passes}
-use Rattle.trace.proofs.Passing.{take-none, passes-none, passes-on}
+use Rattle.lines.specs.Programs.{Passes}
+use Rattle.trace.specs.Transcript.{storeTrace, under}
+use Rattle.lines.proofs.Passing.{take-none, passes-none, passes-on}
 use Rattle.trace.proofs.answering.filled.Statement.{statement}
 use Rattle.trace.proofs.answering.filled.Tie as tie
 
@@ -17,7 +18,7 @@ abbrev Inv-loop : tie.InvT-loop
 Inv-loop c₀ kept₀ files₀ logs₀ marks₀ undo₀ line₀ reader₀ piece out₀ c kept files logs marks undo line reader out =
     (c .held ≤ 129) × (c .at ≤ length piece) × (c₀ .at ≤ c .at) × (c .waiting ≤ 65536 * (c .at - c₀ .at)) × (c .waiting ≤ 65536)
     × Room reader out × (length line ≡ 129)
-    × Passes (under (machineOf kept₀ files₀ logs₀ marks₀ undo₀) reader₀ (take (c₀ .held) line₀) (drop (c₀ .at) piece)) []
+    × Passes storeTrace (under (machineOf kept₀ files₀ logs₀ marks₀ undo₀) reader₀ (take (c₀ .held) line₀) (drop (c₀ .at) piece)) []
     (under (machineOf kept files logs marks undo) reader (take (c .held) line) (drop (c .at) piece)) (take (c .waiting) out)
 
 abbrev μ-loop : tie.MeasureT-loop
@@ -36,7 +37,7 @@ loop-holds c =
       omega (arith, none),
       record { readable = room .readable; printable = room .printable },
       p .1 .1 .1,
-      passes-none _ _ (take-none _ _ none),
+      passes-none storeTrace _ _ (take-none _ _ none),
     )
 
 returns : tie.Need-returns Inv-loop μ-loop
@@ -75,7 +76,7 @@ loop-again c =
       omega (arith, s .1 .waiting, i .5 .printable, k),
       record { readable = omega (arith, i .5 .readable, k); printable = omega (arith, i .5 .printable, k) },
       omega (arith, i .6, k),
-      passes-on _ _ _ _ _ _ (i .7) (s .0),
+      passes-on storeTrace _ _ _ _ _ _ (i .7) (s .0),
     )
 
 returns-2 : tie.Need-returns-2 Inv-loop μ-loop

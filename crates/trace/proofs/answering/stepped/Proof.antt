@@ -5,7 +5,8 @@ use native.Mathlib.Omega.{arith}
 use borrow.Author.Needs.{needs}
 use Prim.Native.Nat.{ℕ, _≤_}
 use Rattle.octets.specs.Parts.{cut}
-use Rattle.trace.proofs.Passing.{off, on, take-none, of-129, held-passes, told-passes}
+use Rattle.lines.proofs.Passing.{off, on, take-none, of-room, held-passes, told-passes}
+use Rattle.trace.specs.Transcript.{storeTrace}
 use Rattle.trace.proofs.answering.stepped.Statement.{statement}
 use Rattle.trace.proofs.answering.stepped.Tie as tie
 
@@ -24,7 +25,7 @@ returns c =
     let no = off (looked .next .result .complete) (c .if1 .taken) in
     let whole = went .whole no in
     let past : length piece ≤ looked .next .result .at = omega (arith, whole) in (
-      held-passes _ _ _ _ _ _ _ (of-129 _ _ _ _ _ _ (start .pre .1 .1) (looked .next .ensures .0)) no (drop-of-length-le piece past),
+      held-passes storeTrace _ _ _ _ _ _ _ (of-room storeTrace _ _ _ _ _ _ (start .pre .1 .1) (looked .next .ensures .0)) no (drop-of-length-le piece past),
       record {
         held = omega (arith, went .within, start .pre .1 .1);
         waiting = omega (arith, start .pre .0 .waiting, start .pre .1 .0 .printable);
@@ -46,7 +47,7 @@ returns-2 c =
     let e = told .told .ensures in
     let yes = on (looked .next .result .complete) (tested .if1 .left) in
     let past = went .past yes in (
-      told-passes _ _ _ _ _ _ _ (of-129 _ _ _ _ _ _ (start .pre .1 .1) (looked .next .ensures .0)) yes _ (cutting .part .ensures) _ _ (e .0) _ _
+      told-passes storeTrace _ _ _ _ _ _ _ (of-room storeTrace _ _ _ _ _ _ (start .pre .1 .1) (looked .next .ensures .0)) yes _ (cutting .part .ensures) _ _ (e .0) _ _
           (take-none _ _ (e .1 .1 .0)) (ap (λ (n : ℕ). drop n piece) (e .1 .1 .1)),
       record {
         held = omega (arith, e .1 .1 .0);

@@ -1,77 +1,72 @@
 -- Laws for this crate's proofs. Assumes nothing.
-use mathlib.Core.Bool.{Bool, true, false, cond, not, _&&_, false≢true}
-use mathlib.Core.List.{List, [], _∷_}
-use mathlib.Core.Path.{_≡_, refl, sym, ap, _∙_}
-use lib.Dec.{eqb}
-use lib.ListN.{length, take, drop, getD, length-take, drop-of-length-le}
-use lib.Seq.{drop-cons}
-use borrow.Author.Tests.{lt-ltb, le-ltb, ne-eqb, eq-eqb}
-use native.Mathlib.Numerals.{add-one}
+use mathlib.Core.Bool.{Bool, true, false, not, _&&_, false≢true}
+use mathlib.Core.List.{List, [], _∷_, _++_, append-nil}
+use mathlib.Core.Path.{_≡_, refl, sym, ap, ap₂, _∙_}
+use lib.ListN.{length, take, drop, length-take}
 use native.Mathlib.Omega.{arith}
-use Prim.Native.Nat.{ℕ, _+_, _*_, _≤_, _<_}
+use Prim.Native.Nat.{ℕ, _-_, _≤_}
 use Rattle.octets.specs.Parts.{cut}
-use Rattle.numerals.specs.Put.{Put}
-use Rattle.record.specs.Paper.{Said}
-use Rattle.calllog.specs.Answers.{answerText, sameBytes}
-use Rattle.calllog.specs.Replaying.{oneMore}
-use Rattle.calllog.proofs.AnswerTexts.{length-answer}
-
--- a test with `!`
-pub off : (t : Bool) → not t ≡ true → t ≡ false
-off true e = absurd (false≢true e)
-off false e = refl
-
-pub on : (t : Bool) → not t ≡ false → t ≡ true
-on true e = refl
-on false e = absurd (false≢true (sym e))
+use Rattle.rules.specs.Machine.{Machine}
+use Rattle.calllog.specs.Replaying.{Kept, lineTurn, replaying}
+use Rattle.calllog.proofs.Kept.{ended-answered}
+use Rattle.lines.specs.Lines.{lastLine}
+use Rattle.lines.specs.Programs.{transcript, keptAfter, Answered, Under, within, atEnd}
+use Rattle.lines.proofs.Passing.{end-of}
+use Rattle.replay_lines.specs.Bounds.{AnswerIn}
+use Rattle.replay_lines.specs.Turns.{keptIn, Took}
+use Rattle.replay_lines.specs.declared.answering.Progress.{Progress}
+use Rattle.replay.specs.Bounds.{Flushed, Resting}
+use Rattle.replay.specs.WholeRun.{Ends}
 
 -- a part of a buffer
 pub part-short : (x : List ℕ) (at n : ℕ) (l : List ℕ) → x ≡ cut l at n → length x ≤ n
 unfolding cut
 part-short x at n l e = omega (arith, ap length e, length-take n (drop at l))
 
--- the end of an answer's text
-pub reply-end : {b m : List ℕ} {at e : ℕ} (a : Said) (x : List ℕ) → Put b at (answerText a x) m e → (at ≤ e) × (e ≤ at + 65 + 21 * length x)
-reply-end a x p = (omega (arith, p .end), omega (arith, length-answer a x, p .end))
+pub both : (a b : Bool) → (a && b) ≡ true → (a ≡ true) × (b ≡ true)
+both true b e = (refl, e)
+both false b e = absurd (false≢true e)
 
--- ---- counting
+-- a line that was taken was answered
+pub took-line : (line : List ℕ) (k : Kept) (waiting : List ℕ) (k′ : Kept) (waiting′ : List ℕ) → Took (lineTurn line k) waiting k′ waiting′
+    → Answered replaying (line ∷ []) k waiting k′ waiting′
+unfolding transcript keptAfter
+took-line line k waiting k′ waiting′ t =
+    record {
+      says = t .says ∙ ap (λ (x : List ℕ). waiting ++ x) (sym (append-nil (lineTurn line k .text)));
+      keeps = t .keeps;
+    }
 
-pub one-more : (n : ℕ) → n < 18446744073709551615 → n + 1 ≡ oneMore n
-unfolding oneMore
-one-more n h = rw (lt-ltb n 18446744073709551615 h) (add-one n)
-
-pub no-more : (n : ℕ) → 18446744073709551615 ≤ n → n ≡ oneMore n
-unfolding oneMore
-no-more n h = rw (le-ltb n 18446744073709551615 h)
-
--- ---- bytes that are the same
-
-pub same-length-only : (a b : List ℕ) → (length a ≡ length b → ⊥) → sameBytes a b ≡ false
-unfolding sameBytes
-same-length-only [] [] h = absurd (h refl)
-same-length-only [] (y ∷ b) h = refl
-same-length-only (x ∷ a) [] h = refl
-same-length-only (x ∷ a) (y ∷ b) h = rw (same-length-only a b (λ e. h (omega (arith, e)))) (and-false (eqb x y))
+-- what is written stays kept
+pub kept-flushed : (p r : Progress) (m : Machine) (out : List ℕ) → Flushed p r → keptIn r m out ≡ keptIn p m out
+kept-flushed p r m out f =
+    ap₂ (λ (x : List ℕ) (y : ℕ). keeping x y (r .differing) (r .ended)) (ap₂ (λ (i k : ℕ). cut out i (k - i)) (f .starts) (f .ends)) (f .malformed)
+    ∙ ap₂ (λ (x : ℕ) (y : Bool). keeping (cut out (p .from) (p .end - p .from)) (p .malformed) x y) (f .differing) (f .ended)
   where
-    and-false : (t : Bool) → (t && false) ≡ false
-    and-false true = refl
-    and-false false = refl
+    keeping : List ℕ → ℕ → ℕ → Bool → Kept
+    keeping answer malformed differing ended =
+        record { machine = m; answer = answer; malformed = malformed; differing = differing; ended = ended }
 
-module _ (a b : List ℕ) (i : ℕ) (l : length a ≡ length b) where
-  pub same-end : length a ≤ i → sameBytes (drop i a) (drop i b) ≡ true
-  unfolding sameBytes
-  same-end h = let k : length b ≤ i = omega arith in rw (drop-of-length-le a h, drop-of-length-le b k)
+pub answered-flushed : (ls : List (List ℕ)) (k : Kept) (q p : Progress) (m : Machine) (out text : List ℕ) → Flushed q p
+    → Answered replaying ls k [] (keptIn q m out) text → Answered replaying ls k [] (keptIn p m out) text
+answered-flushed ls k q p m out text f a = record { says = a .says; keeps = kept-flushed q p m out f ∙ a .keeps }
 
-  pub same-other : i < length a → (getD a i 0 ≡ getD b i 0 → ⊥) → sameBytes (drop i a) (drop i b) ≡ false
-  unfolding sameBytes
-  same-other h e = rw (drop-cons a i 0 h, drop-cons b i 0 (omega arith), ne-eqb (getD a i 0) (getD b i 0) e)
+pub rests : (q p : Progress) → Flushed q p → q .held ≤ 8238 → AnswerIn q → Resting p
+rests q p f h a =
+    record {
+      held = omega (arith, f .held, h);
+      waiting = f .waiting;
+      answer = record { starts = omega (arith, f .starts, f .ends, a .starts); ends = omega (arith, f .ends, a .ends) };
+    }
 
-  pub same-more : i < length a → getD a i 0 ≡ getD b i 0 → sameBytes (drop i a) (drop i b) ≡ sameBytes (drop (i + 1) a) (drop (i + 1) b)
-  unfolding sameBytes
-  same-more h e = rw (drop-cons a i 0 h, drop-cons b i 0 (omega arith), eq-eqb (getD a i 0) (getD b i 0) e, add-one i)
+-- ---- the end of a run
 
-pub same-count : (t s : Bool) (n : ℕ) → t ≡ s → t ≡ true → n ≡ cond s n (oneMore n)
-same-count t s n e h = sym (ap (λ (b : Bool). cond b n (oneMore n)) (sym e ∙ h))
+-- at the end of the input
+pub input-ends : (k : Kept) (held rest text : List ℕ) (k′ : Kept) → rest ≡ [] → Answered replaying (lastLine held) k [] k′ text
+    → Ends (within k held rest) k′
+input-ends k held rest text k′ e a =
+    record { text = text; answered = rw (end-of replaying k held rest e) a }
 
-pub other-count : (t s : Bool) (n m : ℕ) → t ≡ s → t ≡ false → m ≡ oneMore n → m ≡ cond s n (oneMore n)
-other-count t s n m e h q = q ∙ sym (ap (λ (b : Bool). cond b n (oneMore n)) (sym e ∙ h))
+-- after another version
+pub version-ends : (u : Under Kept) (k : Kept) (held : List ℕ) → atEnd replaying u ≡ within k held [] → k .ended ≡ true → Ends u k
+version-ends u k held e go = record { text = []; answered = rw e (ended-answered (lastLine held) k go) }

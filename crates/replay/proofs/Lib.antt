@@ -1,8 +1,4 @@
--- Laws for this crate's proofs.
+-- Laws for this crate's proofs. `WholeRun` has the statement of specs/, proved.
 mod Laws
--- Places has few pairs.
-mod Listing
--- The reader's buffer serves for every call.
-mod Performing
--- A line comes to what the definition says.
-mod TurnLaws
+mod BlockLaws
+pub mod WholeRun

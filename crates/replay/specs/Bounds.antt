@@ -1,14 +1,8 @@
--- What is kept between lines, and the buffers that it has to fit.
-use mathlib.Core.List.{List}
+-- What is kept between lines of a piece.
 use mathlib.Core.Path.{_≡_}
-use lib.ListN.{length}
 use Prim.Native.Nat.{ℕ, _≤_, _<_}
-use Rattle.replay.specs.declared.answering.Progress.{Progress}
-
--- The answer that was printed last lies in the output buffer.
-pub record AnswerIn (p : Progress) : Type 0 where
-  pub starts : p .from ≤ p .end
-  pub ends : p .end ≤ 131072
+use Rattle.replay_lines.specs.Bounds.{AnswerIn}
+use Rattle.replay_lines.specs.declared.answering.Progress.{Progress}
 
 -- Before a line is performed, in a piece of that size; and between pieces, when no output waits.
 pub record ProgressIn (p : Progress) (size : ℕ) : Type 0 where
@@ -30,14 +24,13 @@ pub record Onward (p r : Progress) (size : ℕ) : Type 0 where
   pub past : p .at < size → p .at < r .at
   pub answer : AnswerIn r
 
--- After a line: as many bytes held, the same place in the piece.
-pub record Told (p r : Progress) : Type 0 where
+-- After output was written: none waits, and what a line needs stays.
+pub record Flushed (p r : Progress) : Type 0 where
   pub held : r .held ≡ p .held
   pub at : r .at ≡ p .at
-  pub waiting : r .waiting ≤ 131072
-  pub answer : AnswerIn r
-
-pub record Rooms (bytes reader out : List ℕ) : Type 0 where
-  pub written : length bytes ≡ 4097
-  pub readable : length reader ≡ 4097
-  pub printable : length out ≡ 131072
+  pub waiting : r .waiting ≡ 0
+  pub starts : r .from ≡ p .from
+  pub ends : r .end ≡ p .end
+  pub malformed : r .malformed ≡ p .malformed
+  pub differing : r .differing ≡ p .differing
+  pub ended : r .ended ≡ p .ended

@@ -1,8 +1,6 @@
 -- That what is kept fits its buffers.
 pub mod Bounds
--- How differences from a log are counted.
-pub mod Counting
--- What performing a line promises.
-pub mod Performing
--- That a line comes to what the definition says.
-pub mod Turns
+-- A whole run.
+pub mod WholeRun
+-- The record in a saved block.
+pub mod Blocks

@@ -1,22 +1,31 @@
 // A saved block: the record as little-endian numbers of 16 bits, then the files, the logs, the marks and a grant's old
 // bytes, as a caller holds them.
-use crate::answering::Buffer;
-use crate::answering::Undo;
 use numbers::BUFFER_BYTES;
 use numbers::FILE_BYTES;
 use record::layout::NUMBERS;
 use record::layout::Record;
+use replay_lines::answering::Buffer;
+use replay_lines::answering::Undo;
+ghost use mathlib.Core.Path.{_≡_};
+ghost use Prim.Native.Nat.{_+_, _*_};
+ghost use lib.ListN.{length};
+ghost use Rattle.replay.specs.Blocks.{recordOf};
 
 // The bytes of the record in a block.
 const RECORD_BYTES: usize = 4646;
 
 // A number of 16 bits, its low byte first.
-fn word(low: u8, high: u8) -> u16 {
+fn word(low: u8, high: u8) -> u16
+    ensures { λ r. ⌜ r ≡ low + high * 256 ⌝ }
+{
     low as u16 + high as u16 * 256
 }
 
 // Puts the numbers of a block into the record.
-fn put_numbers(kept: &mut Record, bytes: &[u8; RECORD_BYTES]) {
+fn put_numbers(kept: &mut [u16], bytes: &[u8])
+    requires { ⌜ (length (now kept) ≡ 2323) × (length (now bytes) ≡ 4646) ⌝ }
+    ensures { λ _. ⌜ now (kept .exit) ≡ recordOf (now (bytes .entry)) ⌝ }
+{
     let mut i = 0;
     while i < NUMBERS {
         kept[i] = word(bytes[2 * i], bytes[2 * i + 1]);

@@ -5,12 +5,6 @@ mod answering;
 mod blocks;
 mod stdio;
 
-use answering::Buffer;
-use answering::NUMBERS_READ;
-use answering::OUTPUT;
-use answering::Progress;
-use answering::Undo;
-use answering::WRITTEN;
 use answering::last_line;
 use answering::replay_piece;
 use calllog::LINE_BYTES;
@@ -19,15 +13,30 @@ use numbers::FILE_BYTES;
 use octets::parts::part;
 use record::layout::NUMBERS;
 use record::layout::Record;
+use replay_lines::answering::Buffer;
+use replay_lines::answering::OUTPUT;
+use replay_lines::answering::Progress;
+use replay_lines::answering::Undo;
+use replay_lines::answering::WRITTEN;
 ghost use mathlib.Core.Path.{_≡_};
-ghost use Prim.Native.Nat.{_≤_, _<_};
-ghost use lib.ListN.{length};
-ghost use Rattle.replay.specs.Bounds.{AnswerIn, Resting, Rooms};
+ghost use mathlib.Core.Bool.{true, false};
+ghost use mathlib.Core.List.{[]};
+ghost use Prim.Native.Nat.{ℕ, _≤_, _<_};
+ghost use lib.ListN.{length, take};
+ghost use Rattle.calllog.specs.Replaying.{replaying, keptFirst};
+ghost use Rattle.lines.specs.Programs.{atEnd, within};
+ghost use Rattle.lines.specs.WholeRun.{Ran};
+ghost use Rattle.replay_lines.specs.Bounds.{Rooms};
+ghost use Rattle.replay_lines.specs.Turns.{keptIn};
+ghost use Rattle.rules.specs.Promises.{handed, handedBack, machineOf};
+ghost use Rattle.replay.specs.Bounds.{Resting, Flushed};
+ghost use Rattle.replay.specs.WholeRun.{ReachedFrom, Ends};
 
-// Writes what waits, and counts its lines. A write that fails is said, and ends the run.
+// Writes what waits, and counts its lines. A write that fails is said, and ends the run. No contract can say what is
+// written: the theorem of a whole run binds what is handed over here.
 fn flush(mut p: Progress, out: &[u8]) -> Progress
-    requires { ⌜ (p .waiting ≤ length (now out)) × ((p .held ≤ 8238) × AnswerIn p) ⌝ }
-    ensures { λ r. ⌜ Resting r × (r .at ≡ p .at) ⌝ }
+    requires { ⌜ p .waiting ≤ length (now out) ⌝ }
+    ensures { λ r. ⌜ Flushed p r ⌝ }
 {
     let n = p.waiting;
     let done = stdio::write_out(part(out, 0, n));
@@ -49,32 +58,21 @@ fn take_piece(
     marks: &mut Buffer,
     undo: &mut Undo,
     line: &mut [u8],
-    numbers: &mut [usize],
     bytes: &mut [u8],
     reader: &mut [u8],
     piece: &[u8],
     out: &mut [u8],
 ) -> Progress
-    requires { ⌜ Resting p × ((length (now line) ≡ 8238) × ((length (now numbers) ≡ 18)
-        × Rooms (now bytes) (now reader) (now out))) ⌝ }
-    ensures { λ r. ⌜ Resting r ⌝ }
+    requires { ⌜ Resting p × ((length (now line) ≡ 8238) × Rooms (now bytes) (now reader) (now out)) ⌝ }
+    ensures { λ r. ⌜ Resting r × (r .goes ≡ true
+        → atEnd replaying (within (keptIn p (handed kept files logs marks undo) (now (out .entry)))
+        (take (p .held) (now (line .entry))) (now (piece .entry)))
+        ≡ within (keptIn r (handedBack kept files logs marks undo) (now (out .exit)))
+        (take (r .held) (now (line .exit))) []) ⌝ }
 {
     p.at = 0;
     while p.at < piece.len() {
-        let q = replay_piece(
-            p,
-            kept,
-            files,
-            logs,
-            marks,
-            undo,
-            line,
-            numbers,
-            bytes,
-            reader,
-            piece,
-            out,
-        );
+        let q = replay_piece(p, kept, files, logs, marks, undo, line, bytes, reader, piece, out);
         p = flush(q, out);
         if !p.goes {
             return p;
@@ -83,7 +81,8 @@ fn take_piece(
     p
 }
 
-// Reads a piece and performs its lines; at the end of the input the last one.
+// Reads a piece and performs its lines; at the end of the input the last one. Another version ends the run as the end
+// of the input does.
 fn turn(
     mut p: Progress,
     kept: &mut Record,
@@ -92,20 +91,29 @@ fn turn(
     marks: &mut Buffer,
     undo: &mut Undo,
     line: &mut [u8],
-    numbers: &mut [usize],
     bytes: &mut [u8],
     reader: &mut [u8],
     input: &mut [u8],
     out: &mut [u8],
 ) -> Progress
-    requires { ⌜ Resting p × ((length (now line) ≡ 8238) × ((length (now numbers) ≡ 18)
-        × Rooms (now bytes) (now reader) (now out))) ⌝ }
-    ensures { λ r. ⌜ Resting r ⌝ }
+    requires { ⌜ Resting p × ((length (now line) ≡ 8238) × (Rooms (now bytes) (now reader) (now out)
+        × ReachedFrom (within (keptIn p (machineOf (now kept) (now files) (now logs) (now marks) (now undo)) (now out))
+        (take (p .held) (now line)) []))) ⌝ }
+    ensures { λ r. ⌜ Resting r × (r .goes ≡ true → (n : ℕ)
+        × (atEnd replaying (within (keptIn p (handed kept files logs marks undo) (now (out .entry)))
+        (take (p .held) (now (line .entry))) (take n (now (input .exit))))
+        ≡ within (keptIn r (handedBack kept files logs marks undo) (now (out .exit)))
+        (take (r .held) (now (line .exit))) []))
+        × (r .complete ≡ true → (n : ℕ)
+        × Ends (within (keptIn p (handed kept files logs marks undo) (now (out .entry)))
+        (take (p .held) (now (line .entry))) (take n (now (input .exit))))
+        (keptIn r (handedBack kept files logs marks undo) (now (out .exit)))) ⌝ }
 {
+    p.complete = false;
     let got = stdio::read_piece(input);
     if got > 0 {
         let n = io::count(got, input);
-        return take_piece(
+        let mut q = take_piece(
             p,
             kept,
             files,
@@ -113,28 +121,21 @@ fn turn(
             marks,
             undo,
             line,
-            numbers,
             bytes,
             reader,
             &input[..n],
             out,
         );
+        let goes = q.goes;
+        let ended = q.ended;
+        q.complete = goes & ended;
+        q.goes = goes & !ended;
+        return q;
     }
     if got == 0 {
-        let q = last_line(
-            p,
-            kept,
-            files,
-            logs,
-            marks,
-            undo,
-            line,
-            numbers,
-            bytes,
-            reader,
-            out,
-        );
+        let q = last_line(p, kept, files, logs, marks, undo, line, bytes, reader, out);
         p = flush(q, out);
+        p.complete = p.goes;
         p.goes = false;
         return p;
     }
@@ -146,7 +147,7 @@ fn turn(
 // How many turns are left after one: none where the run does not go on.
 fn turns_left(turns: u64, goes: bool) -> u64
     requires { ⌜ 0 < turns ⌝ }
-    ensures { λ r. ⌜ r < turns ⌝ }
+    ensures { λ r. ⌜ (r < turns) × (goes ≡ false → r ≡ 0) ⌝ }
 {
     if goes {
         return turns - 1;
@@ -156,6 +157,9 @@ fn turns_left(turns: u64, goes: bool) -> u64
 
 // Says what the run came to, where that is worth a sentence.
 fn tell(p: Progress) {
+    if p.ended {
+        stdio::say_version(p.version as u64, p.lines);
+    }
     if 0 < p.malformed {
         stdio::say_malformed(p.malformed, p.malformed_at);
     }
@@ -175,13 +179,14 @@ fn run(
     marks: &mut Buffer,
     undo: &mut Undo,
     line: &mut [u8],
-    numbers: &mut [usize],
     bytes: &mut [u8],
     reader: &mut [u8],
     input: &mut [u8],
     out: &mut [u8],
-)
-    requires { ⌜ (length (now line) ≡ 8238) × ((length (now numbers) ≡ 18) × Rooms (now bytes) (now reader) (now out)) ⌝ }
+) -> Progress
+    requires { ⌜ (length (now line) ≡ 8238) × Rooms (now bytes) (now reader) (now out) ⌝ }
+    ensures { λ r. ⌜ (r .complete ≡ true → Ran replaying (keptFirst (handed kept files logs marks undo))
+        (keptIn r (handedBack kept files logs marks undo) (now (out .exit)))) ⌝ }
 {
     let mut p = Progress {
         held: 0,
@@ -196,27 +201,17 @@ fn run(
         differing: 0,
         differing_at: 0,
         returned: false,
+        ended: false,
+        version: 0,
         goes: true,
+        complete: false,
     };
     let mut turns = u64::MAX;
     while 0 < turns {
-        p = turn(
-            p,
-            kept,
-            files,
-            logs,
-            marks,
-            undo,
-            line,
-            numbers,
-            bytes,
-            reader,
-            input,
-            out,
-        );
+        p = turn(p, kept, files, logs, marks, undo, line, bytes, reader, input, out);
         turns = turns_left(turns, p.goes);
     }
-    tell(p);
+    p
 }
 
 // Makes the store fresh, descriptor d in file d mod 8.
@@ -264,22 +259,21 @@ fn main() {
         return;
     }
     let mut line = [0u8; LINE_BYTES];
-    let mut numbers = [0usize; NUMBERS_READ];
     let mut bytes = [0u8; WRITTEN];
     let mut reader = [0u8; WRITTEN];
     let mut out = [0u8; OUTPUT];
     let mut input = io::large_buffer();
-    run(
+    let p = run(
         &mut kept,
         &mut files,
         &mut logs,
         &mut marks,
         &mut undo,
         &mut line,
-        &mut numbers,
         &mut bytes,
         &mut reader,
         &mut input,
         &mut out,
     );
+    tell(p);
 }

@@ -1,52 +1,89 @@
--- `run` meets its contract. The loop's invariant: no output waits, and the buffers keep their lengths. Assumes nothing.
+-- `run` meets its contract. The loop's invariant: no output waits, the buffers keep their lengths, and while turns are left record, buffers
+-- and counts are where the pieces so far led. Assumes nothing.
+use mathlib.Core.Bool.{true, false≢true}
+use mathlib.Core.List.{[]}
 use mathlib.Core.Path.{_≡_, refl}
-use lib.ListN.{length}
+use lib.ListN.{length, take}
+use Prim.Native.Nat.{_<_}
 use native.Mathlib.Omega.{arith}
 use borrow.Author.Needs.{needs}
-use Rattle.replay.specs.Bounds.{Resting, Rooms}
+use Rattle.octets.specs.Parts.{cut}
+use Rattle.rules.specs.Promises.{machineOf}
+use Rattle.calllog.specs.Replaying.{replaying, keptFirst}
+use Rattle.lines.specs.Programs.{within}
+use Rattle.lines.specs.WholeRun.{Reached, Ran}
+use Rattle.lines.proofs.WholeRun.{reached-first, reached-more, goes-on}
+use Rattle.replay_lines.specs.Bounds.{Rooms}
+use Rattle.replay_lines.specs.Turns.{keptIn}
+use Rattle.replay.specs.Bounds.{Resting}
+use Rattle.replay.proofs.WholeRun.{ran-to-end}
 use Rattle.replay.proofs.run.Statement.{statement}
 use Rattle.replay.proofs.run.Tie as tie
 
 abbrev Inv-loop : tie.InvT-loop
-Inv-loop kept₀ files₀ logs₀ marks₀ undo₀ line₀ numbers₀ bytes₀ reader₀ input₀ out₀ p₀ turns₀ kept files logs marks undo line numbers bytes reader input out p turns =
-    Resting p × (length line ≡ 8238) × (length numbers ≡ 18) × Rooms bytes reader out × (length input ≡ length input₀)
+Inv-loop kept₀ files₀ logs₀ marks₀ undo₀ line₀ bytes₀ reader₀ input₀ out₀ p₀ turns₀ kept files logs marks undo line bytes reader input out p turns =
+    Resting p × (length line ≡ 8238) × Rooms bytes reader out × (length input ≡ length input₀)
+    × (0 < turns
+    → Reached replaying (keptFirst (machineOf kept₀ files₀ logs₀ marks₀ undo₀))
+    (within (keptIn p (machineOf kept files logs marks undo) out) (take (p .held) line) []))
+    × (p .complete ≡ true
+    → Ran replaying (keptFirst (machineOf kept₀ files₀ logs₀ marks₀ undo₀)) (keptIn p (machineOf kept files logs marks undo) out))
 
 abbrev μ-loop : tie.MeasureT-loop
-μ-loop kept₀ files₀ logs₀ marks₀ undo₀ line₀ numbers₀ bytes₀ reader₀ input₀ out₀ p₀ turns₀ kept files logs marks undo line numbers bytes reader input out p turns =
+μ-loop kept₀ files₀ logs₀ marks₀ undo₀ line₀ bytes₀ reader₀ input₀ out₀ p₀ turns₀ kept files logs marks undo line bytes reader input out p turns =
     turns
 
 loop-holds : tie.Need-loop-holds Inv-loop μ-loop
+unfolding cut
 loop-holds c =
-    let p = c .before .before .before .before .before .before .pre in
-    let r = p .1 .1 in (
+    let p = c .before .before .before .before .before .pre in
+    let r = p .1 in (
       record { held = omega arith; waiting = refl; answer = record { starts = omega arith; ends = omega arith } },
       p .0,
-      p .1 .0,
       record { written = r .written; readable = r .readable; printable = r .printable },
       refl,
+      λ h. reached-first replaying _,
+      λ h. absurd (false≢true h),
     )
 
 turn-requires : tie.Need-turn-requires Inv-loop μ-loop
 turn-requires c κs =
-    let i = c .before .before .before .before .before .before .before .before .before .before .before .before .loop .inv in
-    let r = i .3 in
-    (i .0, (i .1, (i .2, record { written = r .written; readable = r .readable; printable = r .printable })))
+    let tested = c .before .before .before .before .before .before .before .before .before .before in
+    let i = tested .before .loop .inv in
+    let a = i .0 .answer in
+    let r = i .2 in (
+      i .0,
+      (
+        i .1,
+        (
+          record { written = r .written; readable = r .readable; printable = r .printable },
+          record { machine = _; reached = i .4 (tested .loop-test .taken) },
+        ),
+      ),
+    )
 
 loop-again : tie.Need-loop-again Inv-loop μ-loop
 loop-again c =
-    let turned = c .before .before .before .before .before .before .before .before .before .before .before .before .before in
-    let i = turned .before .before .before .before .before .before .before .before .before .before .before .before .before .loop .inv in
-    let k = turned .turn .kept in (
-      turned .turn .ensures,
+    let turned = c .before .before .before .before .before .before .before .before .before .before .before in
+    let tested = turned .before .before .before .before .before .before .before .before .before .before .before in
+    let i = tested .before .loop .inv in
+    let k = turned .turn .kept in
+    let t = turned .turn .ensures in
+    let before = i .4 (tested .loop-test .taken) in (
+      t .0,
       omega (arith, i .1, k),
-      omega (arith, i .2, k),
       record {
-        written = omega (arith, i .3 .written, k);
-        readable = omega (arith, i .3 .readable, k);
-        printable = omega (arith, i .3 .printable, k);
+        written = omega (arith, i .2 .written, k);
+        readable = omega (arith, i .2 .readable, k);
+        printable = omega (arith, i .2 .printable, k);
       },
-      omega (arith, i .4, k),
+      omega (arith, i .3, k),
+      λ h. reached-more replaying _ _ _ _ _ before (t .1 (goes-on _ _ (c .turns-left .ensures .1) h) .1),
+      λ h. ran-to-end _ _ _ _ _ before (t .2 h .1),
     )
+
+returns : tie.Need-returns Inv-loop μ-loop
+returns c = c .before .loop .inv .5
 
 pub run-spec : {M : Type 1} → statement M
 run-spec =
@@ -59,11 +96,9 @@ run-spec =
     (λ c κs. search needs)
     (λ c. search needs)
     loop-again
-    (λ c κs. search needs)
     (λ c. search needs)
     (λ c. search needs)
     (λ c. search needs)
     (λ c. search needs)
     (λ c. search needs)
-    (λ c. search needs)
-    (λ c. search needs))
+    returns)

@@ -1,30 +1,77 @@
 -- `turn` meets its contract. Assumes nothing.
-use mathlib.Core.Path.{_≡_, refl, sym, ap, _∙_}
-use mathlib.Core.Bool.{true, false, false≢true}
-use Prim.Native.Nat.{ℕ, _+_, _-_, _*_, _≤_, _<_}
+use mathlib.Core.Bool.{not, false≢true}
+use mathlib.Core.Path.{refl}
 use native.Mathlib.Omega.{arith}
-use lib.ListN.{length, take, length-take}
-use lib.Seq.{length-take-le}
 use borrow.Author.Needs.{needs}
-use Rattle.octets.specs.Parts.{cut}
-use Rattle.replay.specs.Bounds.{AnswerIn, ProgressIn, Resting, Onward, Told, Rooms}
-use Rattle.replay.proofs.Laws.{off, on, part-short, reply-end}
+use Rattle.replay.proofs.Laws.{both, rests, answered-flushed, input-ends, version-ends}
 use Rattle.replay.proofs.turn.Statement.{statement}
 use Rattle.replay.proofs.turn.Tie as tie
 
-same-length-5 : tie.Need-same-length-5
-same-length-5 c =
-    omega (arith, c .before .before .before .before .before .before .before .before .before .before .before .before .before .before .before .before .before .before .before .before .before .before .before .before .before .before .before .read-piece .kept)
+take-piece-requires : tie.Need-take-piece-requires
+take-piece-requires c κs =
+    let p = c .before .before .before .before .before .before .before .before .before .before .before .before .before .before .before .before .before .before .before .before .before .before .pre in
+    let a = p .0 .answer in
+    let r = p .1 .1 .0 in (
+      record { held = p .0 .held; waiting = p .0 .waiting; answer = record { starts = a .starts; ends = a .ends } },
+      (p .1 .0, record { written = r .written; readable = r .readable; printable = r .printable }),
+    )
+
+last-line-requires : tie.Need-last-line-requires
+last-line-requires c κs =
+    let p = c .before .before .before .before .before .before .before .before .before .before .before .before .before .before .before .before .before .before .before .before .pre in
+    let a = p .0 .answer in
+    let r = p .1 .1 .0 in (
+      record { held = p .0 .held; waiting = p .0 .waiting; answer = record { starts = a .starts; ends = a .ends } },
+      (p .1 .0, record { written = r .written; readable = r .readable; printable = r .printable }),
+    )
+
+same-length-4 : tie.Need-same-length-4
+same-length-4 c = let read = c .before .before .before .before .before .before .before .before .before .before .before .before .before .before .before .before .before .before .before .before .before .before .before .before in omega (arith, read .read-piece .kept)
+
+same-length-9 : tie.Need-same-length-9
+same-length-9 c = let read = c .before .before .before .before .before .before .before .before .before .before .before .before .before .before .before .before .before .before .before .before .before .before in omega (arith, read .read-piece .kept)
 
 flush-requires : tie.Need-flush-requires
 flush-requires c κs =
-    let e = c .before .before .before .before .before .before .before .before .before .last-line .ensures in
-    let p = c .before .before .before .before .before .before .before .before .before .before .before .before .before .before .before .before .before .before .before .before .before .before .before .before .before .before .before .before .before .before .before .before .pre in
-    (omega (arith, e .waiting, p .1 .1 .1 .printable, c .before .before .before .before .before .before .before .before .before .last-line .kept), (omega (arith, e .held, p .0 .held), e .answer))
+    let ending = c .before .before .before .before .before .before .before in
+    let start = ending .before .before .before .before .before .before .before .before .before .before .before .before .before .before .before .before .before .before .before .before .before in
+    omega (arith, ending .last-line .ensures .1 .waiting, start .pre .1 .1 .0 .printable, ending .last-line .kept)
 
-same-length-11 : tie.Need-same-length-11
-same-length-11 c =
-    omega (arith, c .before .before .before .before .before .before .before .before .before .before .before .before .before .before .before .before .before .before .before .before .before .before .before .before .before .read-piece .kept)
+returns : tie.Need-returns
+returns c =
+    let taking = c .before .before .before .before .before .before .before .before in
+    let counted = taking .before .before .before .before .before .before .before .before .before .before .before in
+    let q = taking .take-piece .result in
+    let t = taking .take-piece .ensures in
+    let a = t .0 .answer in (
+      record { held = t .0 .held; waiting = t .0 .waiting; answer = record { starts = a .starts; ends = a .ends } },
+      λ e. (counted .count .result, t .1 (both (q .goes) (not (q .ended)) e .0)),
+      λ e. (counted .count .result, version-ends _ _ _ (t .1 (both (q .goes) (q .ended) e .0)) (both (q .goes) (q .ended) e .1)),
+    )
+
+returns-2 : tie.Need-returns-2
+returns-2 c =
+    let wrote = c in
+    let ending = wrote .before .before .before .before .before .before .before .before in
+    let start = ending .before .before .before .before .before .before .before .before .before .before .before .before .before .before .before .before .before .before .before .before .before in
+    let f = wrote .flush .ensures in
+    let l = ending .last-line .ensures in
+    let r = rests _ _ f (omega (arith, l .1 .held, start .pre .0 .held)) (l .1 .answer) in
+    let a = r .answer in (
+      record { held = r .held; waiting = r .waiting; answer = record { starts = a .starts; ends = a .ends } },
+      λ e. absurd (false≢true e),
+      λ e. (0, input-ends _ _ _ _ _ refl (answered-flushed _ _ _ _ _ _ _ f (l .0))),
+    )
+
+returns-3 : tie.Need-returns-3
+returns-3 c =
+    let start = c .before .before .before .before .before .before .before .before .before .before .before .before in
+    let p = start .pre .0 in
+    let a = p .answer in (
+      record { held = p .held; waiting = p .waiting; answer = record { starts = a .starts; ends = a .ends } },
+      λ e. absurd (false≢true e),
+      λ e. absurd (false≢true e),
+    )
 
 pub turn-spec : {M : Type 1} → statement M
 turn-spec =
@@ -34,23 +81,21 @@ turn-spec =
     (λ c κs. search needs)
     (λ c. search needs)
     (λ c. search needs)
-    (λ c κs. search needs)
+    take-piece-requires
     (λ c. search needs)
     (λ c. search needs)
     (λ c. search needs)
+    same-length-4
     (λ c. search needs)
-    same-length-5
-    (λ c. search needs)
-    (λ c. search needs)
-    (λ c κs. search needs)
+    returns
+    last-line-requires
     flush-requires
     (λ c. search needs)
     (λ c. search needs)
     (λ c. search needs)
+    same-length-9
     (λ c. search needs)
-    same-length-11
-    (λ c. search needs)
-    (λ c. search needs)
+    returns-2
     (λ c κs. search needs)
     (λ c. search needs)
-    (λ c. search needs))
+    returns-3)

@@ -1,58 +1,76 @@
 -- `step` meets its contract. Assumes nothing.
-use mathlib.Core.Path.{_≡_, refl, sym, ap, _∙_}
-use mathlib.Core.Bool.{true, false, false≢true}
-use Prim.Native.Nat.{ℕ, _+_, _-_, _*_, _≤_, _<_}
+use mathlib.Core.Path.{ap}
+use lib.ListN.{length, drop, drop-of-length-le}
 use native.Mathlib.Omega.{arith}
-use lib.ListN.{length, take, length-take}
-use lib.Seq.{length-take-le}
 use borrow.Author.Needs.{needs}
+use Prim.Native.Nat.{ℕ, _≤_}
 use Rattle.octets.specs.Parts.{cut}
-use Rattle.replay.specs.Bounds.{AnswerIn, ProgressIn, Resting, Onward, Told, Rooms}
-use Rattle.replay.proofs.Laws.{off, on, part-short, reply-end}
+use Rattle.calllog.specs.Replaying.{replaying}
+use Rattle.lines.proofs.Passing.{off, on, take-none, of-room, held-passes, told-passes}
+use Rattle.replay.proofs.Laws.{took-line}
 use Rattle.replay.proofs.answering.step.Statement.{statement}
 use Rattle.replay.proofs.answering.step.Tie as tie
 
 returns : tie.Need-returns
 returns c =
-    let went = c .before .before .before .before .next .ensures .1 in
-    let start = c .before .before .before .before .before .before .before .before .before .before .before .before in
-    let whole = went .whole (off (c .before .before .before .before .next .result .complete) (c .if1 .taken)) in
-    record {
-      held = omega (arith, went .within, start .pre .1 .0);
-      waiting = omega (arith, start .pre .0 .waiting);
-      inside = went .inside;
-      past = λ h. omega (arith, whole, h);
-      answer = record { starts = start .pre .0 .answer .starts; ends = start .pre .0 .answer .ends };
-    }
+    let looked = c .before .before .before .before in
+    let start = looked .before .before .before .before .before .before .before in
+    let piece = start .args .piece .now in
+    let went = looked .next .ensures .1 in
+    let no = off (looked .next .result .complete) (c .if1 .taken) in
+    let whole = went .whole no in
+    let past : length piece ≤ looked .next .result .at = omega (arith, whole) in
+    let a = start .pre .0 .answer in (
+      held-passes replaying _ _ _ _ _ _ _ (of-room replaying _ _ _ _ _ _ (start .pre .1 .0) (looked .next .ensures .0)) no
+          (drop-of-length-le piece past),
+      record {
+        held = omega (arith, went .within, start .pre .1 .0);
+        waiting = omega (arith, start .pre .0 .waiting);
+        inside = went .inside;
+        past = λ h. omega (arith, whole, h);
+        answer = record { starts = a .starts; ends = a .ends };
+      },
+    )
 
 take-line-requires : tie.Need-take-line-requires
 take-line-requires c κs =
-    let p = c .before .before .before .before .before .before .before .before .before .before .before .before .before .before .before .before .before .before .before .before .before .before .before .pre in
+    let p = c .before .before .before .before .before .before .before .before .before .before .before .before .before .before .before .before .before .before .before .before .before .pre in
     let a = p .0 .answer in
-    let r = p .1 .1 .1 in (
+    let r = p .1 .1 in (
       p .0 .waiting,
       (
         record { starts = a .starts; ends = a .ends },
-        (p .1 .1 .0, record { written = r .written; readable = r .readable; printable = r .printable }),
+        record { written = r .written; readable = r .readable; printable = r .printable },
       ),
     )
 
 same-length-2 : tie.Need-same-length-2
-same-length-2 c =
-    omega (arith, c .before .before .before .before .before .before .before .before .before .before .before .before .before .before .before .before .before .before .before .before .before .before .before .before .next .kept)
+same-length-2 c = let looked = c .before .before .before .before .before .before .before .before .before .before .before .before .before .before .before .before .before .before .before .before .before in omega (arith, looked .next .kept)
 
 returns-2 : tie.Need-returns-2
+unfolding cut
 returns-2 c =
-    let went = c .before .before .before .before .before .before .before .before .before .before .before .before .before .before .before .before .before .before .before .before .before .before .before .before .next .ensures .1 in
-    let t = c .before .before .before .before .before .before .before .before .take-line .ensures .0 in
-    let past = went .past (on (c .before .before .before .before .before .before .before .before .before .before .before .before .before .before .before .before .before .before .before .before .before .before .before .before .next .result .complete) (c .before .before .before .before .before .before .before .before .before .before .before .before .before .before .before .before .before .before .before .before .if1 .left)) in
-    record {
-      held = omega (arith, t .held);
-      waiting = t .waiting;
-      inside = omega (arith, went .inside, t .at);
-      past = λ h. omega (arith, past, t .at);
-      answer = t .answer;
-    }
+    let took = c .before .before .before .before .before .before in
+    let cutting = took .before .before .before .before in
+    let tested = cutting .before .before .before .before .before .before .before in
+    let looked = tested .before .before .before .before in
+    let start = looked .before .before .before .before .before .before .before in
+    let piece = start .args .piece .now in
+    let went = looked .next .ensures .1 in
+    let t = took .take-line .ensures in
+    let yes = on (looked .next .result .complete) (tested .if1 .left) in
+    let past = went .past yes in (
+      told-passes replaying _ _ _ _ _ _ _ (of-room replaying _ _ _ _ _ _ (start .pre .1 .0) (looked .next .ensures .0)) yes _
+          (cutting .part .ensures) _ _ (took-line _ _ _ _ _ (t .1)) _ _ (take-none _ _ (t .0 .held))
+          (ap (λ (n : ℕ). drop n piece) (t .0 .at)),
+      record {
+        held = omega (arith, t .0 .held);
+        waiting = t .0 .waiting;
+        inside = omega (arith, went .inside, t .0 .at);
+        past = λ h. omega (arith, past, t .0 .at);
+        answer = t .0 .answer;
+      },
+    )
 
 pub step-spec : {M : Type 1} → statement M
 step-spec =
@@ -64,7 +82,6 @@ step-spec =
     (λ c κs. search needs)
     take-line-requires
     same-length-2
-    (λ c. search needs)
     (λ c. search needs)
     (λ c. search needs)
     (λ c. search needs)

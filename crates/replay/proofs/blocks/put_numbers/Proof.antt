@@ -1,53 +1,44 @@
--- Places in the record and in the bytes stay inside. Assumes nothing.
+-- The loop's invariant: the front of the record has the numbers so far. Assumes nothing.
+use mathlib.Core.Path.{_≡_, refl, _∙_}
+use lib.ListN.{length, take, length-set}
+use native.Mathlib.Omega.{arith}
 use Prim.Native.Nat.{_-_, _≤_}
 use borrow.Author.Needs.{needs}
+use Rattle.octets.specs.Parts.{tabulate}
+use Rattle.replay.specs.Blocks.{wordAt}
+use Rattle.replay.proofs.BlockLaws.{word-more, words-all}
 use Rattle.replay.proofs.blocks.put_numbers.Statement.{statement}
 use Rattle.replay.proofs.blocks.put_numbers.Tie as tie
 
 abbrev Inv-loop : tie.InvT-loop
-Inv-loop kept₀ bytes i₀ kept i = i ≤ 2323
+Inv-loop kept₀ bytes i₀ kept i = (i ≤ 2323) × (length kept ≡ 2323) × (take i kept ≡ tabulate (wordAt bytes) i)
 
 abbrev μ-loop : tie.MeasureT-loop
 μ-loop kept₀ bytes i₀ kept i = 2323 - i
 
 loop-holds : tie.Need-loop-holds Inv-loop μ-loop
-loop-holds c = search needs
-
-mul-word : tie.Need-mul-word Inv-loop μ-loop
-mul-word c = search needs
-
-element-copy-out-word : tie.Need-element-copy-out-word Inv-loop μ-loop
-element-copy-out-word c = search needs
-
-mul-word-2 : tie.Need-mul-word-2 Inv-loop μ-loop
-mul-word-2 c = search needs
-
-add-word : tie.Need-add-word Inv-loop μ-loop
-add-word c = search needs
-
-element-copy-out-word-2 : tie.Need-element-copy-out-word-2 Inv-loop μ-loop
-element-copy-out-word-2 c = search needs
-
-word-requires : tie.Need-word-requires Inv-loop μ-loop
-word-requires c κs = search needs
-
-mul-kept : tie.Need-mul-kept Inv-loop μ-loop
-mul-kept c = search needs
-
-element-write-kept : tie.Need-element-write-kept Inv-loop μ-loop
-element-write-kept c = search needs
-
-add-i : tie.Need-add-i Inv-loop μ-loop
-add-i c = search needs
-
-loop-less : tie.Need-loop-less Inv-loop μ-loop
-loop-less c = search needs
+unfolding tabulate
+loop-holds c = (omega arith, c .before .before .pre .0, refl)
 
 loop-again : tie.Need-loop-again Inv-loop μ-loop
-loop-again c = search needs
+unfolding wordAt
+loop-again c =
+    let tested = c .before .before .before in
+    let at-loop = tested .before in
+    let start = at-loop .before .before .before in
+    let loop = at-loop .loop in
+    let i = loop .inv in (
+      omega (arith, tested .loop-test .taken),
+      length-set (loop .kept) (loop .i) (c .word .result) ∙ i .1,
+      word-more (start .args .bytes .now) (loop .kept) (loop .i) (i .2) (c .word .result) (omega (arith, tested .loop-test .taken, i .1)) (c .word .ensures),
+    )
 
 returns : tie.Need-returns Inv-loop μ-loop
-returns c = search needs
+returns c =
+    let i = c .before .loop .inv in
+    let loop = c .before .loop in
+    let start = c .before .before .before .before in
+    words-all (start .args .bytes .now) (loop .kept) (loop .i) (i .2) (omega (arith, c .loop-test .left, i .0)) (i .1)
 
 pub put-numbers-spec : {M : Type 1} → statement M
 put-numbers-spec =
@@ -56,15 +47,16 @@ put-numbers-spec =
     Inv-loop
     μ-loop
     loop-holds
-    mul-word
-    element-copy-out-word
-    mul-word-2
-    add-word
-    element-copy-out-word-2
-    word-requires
-    mul-kept
-    element-write-kept
-    add-i
-    loop-less
+    (λ c. search needs)
+    (λ c. search needs)
+    (λ c. search needs)
+    (λ c. search needs)
+    (λ c. search needs)
+    (λ c κs. search needs)
+    (λ c. search needs)
+    (λ c. search needs)
+    (λ c. search needs)
+    (λ c. search needs)
     loop-again
+    (λ c. search needs)
     returns)

@@ -1,0 +1,2 @@
+// What the program replay does with a line of a log.
+pub mod answering;

@@ -105,7 +105,8 @@ lineTurn line k = cond (k .ended) (silent k) (entryTurn line (callIn line) k)
 
 -- What a replay does with lines.
 abbrev pub replaying : LineProgram Kept
-replaying = record { text = λ line k. lineTurn line k .text; next = λ line k. lineTurn line k .after; most = longest }
+replaying =
+    record { text = λ line k. lineTurn line k .text; next = λ line k. lineTurn line k .after; most = longest }
 
 -- What is kept before the first line.
 abbrev pub keptFirst : Machine → Kept

@@ -4,7 +4,8 @@ use mathlib.Core.Path.{_≡_}
 use Prim.Native.Nat.{ℕ}
 use Rattle.lines.specs.Lines.{kept, endedIn, heldAfter}
 
--- A program that works line by line (a Mealy machine): what it prints for a line, what it keeps after it, and the most bytes of a line.
+-- A program that works line by line (a Mealy machine): what it prints for a line, what it keeps after it, and the
+-- most bytes of a line.
 pub record LineProgram (K : Type 0) : Type 0 where
   pub text : List ℕ → K → List ℕ
   pub next : List ℕ → K → K
@@ -28,11 +29,12 @@ module _ {K : Type 0} (p : LineProgram K) where
 -- ---- what the functions of a program promise
 
 -- Lines were answered from k on: to the output that waits their text was added, and k′ is kept.
-pub record Answered {K : Type 0} (p : LineProgram K) (lines : List (List ℕ)) (k : K) (waiting : List ℕ) (k′ : K) (waiting′ : List ℕ) : Type 0 where
+pub record Answered {K : Type 0} (p : LineProgram K) (lines : List (List ℕ)) (k : K) (waiting : List ℕ)
+    (k′ : K) (waiting′ : List ℕ) : Type 0 where
   pub says : waiting′ ≡ waiting ++ transcript p lines k
   pub keeps : k′ ≡ keptAfter p lines k
 
--- In the middle of a piece of input: what is kept, what is held of the line at hand, and the rest of the piece.
+-- In the middle of a piece of input: what is kept, what is held of the line at hand, and the piece's rest.
 pub record Under (K : Type 0) : Type 0 where
   pub kept : K
   pub held : List ℕ
@@ -54,7 +56,9 @@ module _ {K : Type 0} (p : LineProgram K) where
         rest = [];
       }
 
--- From u to v some lines were answered: what waits and what is to come make the same text as before, and the same end is reached.
-pub record Passes {K : Type 0} (p : LineProgram K) (u : Under K) (waiting : List ℕ) (v : Under K) (waiting′ : List ℕ) : Type 0 where
+-- From u to v some lines were answered: what waits and what is to come make the same text as before, and the
+-- same end is reached.
+pub record Passes {K : Type 0} (p : LineProgram K) (u : Under K) (waiting : List ℕ)
+    (v : Under K) (waiting′ : List ℕ) : Type 0 where
   pub says : waiting ++ toCome p u ≡ waiting′ ++ toCome p v
   pub reaches : atEnd p u ≡ atEnd p v

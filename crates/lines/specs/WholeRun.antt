@@ -1,11 +1,12 @@
--- A whole run of a program that works line by line. What the operating system reads and writes is outside: pieces of input come in, texts
--- are handed over to be written. The theorem binds what the functions hand over; whether it is written no contract says, and a function that
--- writes nothing would keep every contract.
+-- A whole run of a program that works line by line. What the operating system reads and writes is outside: pieces
+-- of input come in, texts are handed over to be written. The theorem binds what the functions hand over; whether
+-- it is written no contract says, and a function that writes nothing would keep every contract.
 use mathlib.Core.List.{List, [], _∷_, _++_}
 use mathlib.Core.Path.{_≡_}
 use Prim.Native.Nat.{ℕ}
 use Rattle.lines.specs.Lines.{linesOf, lastLine, joined}
-use Rattle.lines.specs.Programs.{LineProgram, Under, within, Passes, Answered, atEnd, transcript, keptAfter}
+use Rattle.lines.specs.Programs.{LineProgram, Under, within, Passes, Answered, atEnd}
+use Rattle.lines.specs.Programs.{transcript, keptAfter}
 
 -- A piece of input, and the texts put out for it, until nothing of it is left.
 pub record Leg : Type 0 where
@@ -31,13 +32,16 @@ module _ {K : Type 0} (p : LineProgram K) where
   PutOut u [] w = u ≡ w
   PutOut u (text ∷ texts) w = (v : Under K) × (Passes p u [] v text × PutOut v texts w)
 
-  -- Pieces one after the other, each on what the one before left; last, the text of the line that the end of the input ends. k′ is kept then.
+  -- Pieces one after the other, each on what the one before left; last, the text of the line that the end of the
+  -- input ends. k′ is kept then.
   unfoldable pub Legs : List ℕ → K → List Leg → List ℕ → K → Type 0
   Legs held k [] last k′ = Answered p (lastLine held) k [] k′ last
   Legs held k (x ∷ xs) last k′ =
-      (w : Under K) × ((w .rest ≡ []) × (PutOut (within k held (x .piece)) (x .texts) w × Legs (w .held) (w .kept) xs last k′))
+      (w : Under K)
+      × ((w .rest ≡ []) × (PutOut (within k held (x .piece)) (x .texts) w × Legs (w .held) (w .kept) xs last k′))
 
--- Some pieces of input lead from k, with nothing held, to u. That the pieces are those that were read is not said: reading is outside.
+-- Some pieces of input lead from k, with nothing held, to u. That the pieces are those that were read is not said:
+-- reading is outside.
 pub record Reached {K : Type 0} (p : LineProgram K) (k : K) (u : Under K) : Type 0 where
   pub pieces : List (List ℕ)
   pub there : through p (within k [] []) pieces ≡ u
@@ -47,11 +51,14 @@ pub record Ran {K : Type 0} (p : LineProgram K) (k k′ : K) : Type 0 where
   pub input : List ℕ
   pub keeps : k′ ≡ keptAfter p (linesOf input) k
 
--- Proved in proofs/WholeRun.antt of each program that takes what is kept of a line as the whole line: what is handed over to be written is the
--- text of the lines of the input, however it was cut, and what is kept at the end is what these lines leave.
-pub record Whole {K : Type 0} (p : LineProgram K) (k : K) (legs : List Leg) (last : List ℕ) (k′ : K) : Type 0 where
+-- Proved in proofs/WholeRun.antt of each program that takes what is kept of a line as the whole line: what is
+-- handed over to be written is the text of the lines of the input, however it was cut, and what is kept at the end
+-- is what these lines leave.
+pub record Whole {K : Type 0} (p : LineProgram K) (k : K) (legs : List Leg) (last : List ℕ)
+    (k′ : K) : Type 0 where
   pub says : outputOf legs ++ last ≡ transcript p (linesOf (inputOf legs)) k
   pub keeps : k′ ≡ keptAfter p (linesOf (inputOf legs)) k
 
 abbrev pub WholeRun : {K : Type 0} → LineProgram K → Type 0
-WholeRun {K} p = (k : K) (legs : List Leg) (last : List ℕ) (k′ : K) → Legs p [] k legs last k′ → Whole p k legs last k′
+WholeRun {K} p =
+    (k : K) (legs : List Leg) (last : List ℕ) (k′ : K) → Legs p [] k legs last k′ → Whole p k legs last k′

@@ -96,7 +96,19 @@ pub fn replay_piece(
         if MOST < p.waiting {
             return p;
         }
-        p = step(p, kept, files, logs, marks, undo, line, bytes, reader, piece, out);
+        p = step(
+            p,
+            kept,
+            files,
+            logs,
+            marks,
+            undo,
+            line,
+            bytes,
+            reader,
+            piece,
+            out,
+        );
     }
     p
 }

@@ -72,7 +72,19 @@ fn take_piece(
 {
     p.at = 0;
     while p.at < piece.len() {
-        let q = replay_piece(p, kept, files, logs, marks, undo, line, bytes, reader, piece, out);
+        let q = replay_piece(
+            p,
+            kept,
+            files,
+            logs,
+            marks,
+            undo,
+            line,
+            bytes,
+            reader,
+            piece,
+            out,
+        );
         p = flush(q, out);
         if !p.goes {
             return p;
@@ -208,7 +220,19 @@ fn run(
     };
     let mut turns = u64::MAX;
     while 0 < turns {
-        p = turn(p, kept, files, logs, marks, undo, line, bytes, reader, input, out);
+        p = turn(
+            p,
+            kept,
+            files,
+            logs,
+            marks,
+            undo,
+            line,
+            bytes,
+            reader,
+            input,
+            out,
+        );
         turns = turns_left(turns, p.goes);
     }
     p

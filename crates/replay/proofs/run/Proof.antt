@@ -1,5 +1,5 @@
--- `run` meets its contract. The loop's invariant: no output waits, the buffers keep their lengths, and while turns are left record, buffers
--- and counts are where the pieces so far led. Assumes nothing.
+-- `run` meets its contract. The loop's invariant: no output waits, the buffers keep their lengths, and while turns are
+-- left record, buffers and counts are where the pieces so far led. Assumes nothing.
 use mathlib.Core.Bool.{true, false≢true}
 use mathlib.Core.List.{[]}
 use mathlib.Core.Path.{_≡_, refl}
@@ -50,7 +50,6 @@ turn-requires : tie.Need-turn-requires Inv-loop μ-loop
 turn-requires c κs =
     let tested = c .before .before .before .before .before .before .before .before .before .before in
     let i = tested .before .loop .inv in
-    let a = i .0 .answer in
     let r = i .2 in (
       i .0,
       (

@@ -1,5 +1,5 @@
--- `take_piece` meets its contract. The loop's invariant: the end of the piece that is reached from here is the one that was reached from its
--- start. Assumes nothing.
+-- `take_piece` meets its contract. The loop's invariant: the end of the piece that is reached from here is the
+-- one that was reached from its start. Assumes nothing.
 use mathlib.Core.Bool.{false≢true}
 use mathlib.Core.Path.{_≡_, refl, sym, _∙_}
 use lib.ListN.{length, take, drop, drop-of-length-le}
@@ -92,7 +92,8 @@ returns c =
     let wrote = c .before .before in
     let went = wrote .before .before .before .before .before .before .before .before .before .before in
     let stops = off _ (c .if2 .taken) in
-    (rests _ _ (wrote .flush .ensures) (went .replay-piece .ensures .1 .held) (went .replay-piece .ensures .1 .answer), λ e. absurd (false≢true (sym stops ∙ e)))
+    let e = went .replay-piece .ensures in
+    (rests _ _ (wrote .flush .ensures) (e .1 .held) (e .1 .answer), λ e. absurd (false≢true (sym stops ∙ e)))
 
 loop-less : tie.Need-loop-less Inv-loop μ-loop
 loop-less c =

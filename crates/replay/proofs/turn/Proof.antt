@@ -9,7 +9,8 @@ use Rattle.replay.proofs.turn.Tie as tie
 
 take-piece-requires : tie.Need-take-piece-requires
 take-piece-requires c κs =
-    let p = c .before .before .before .before .before .before .before .before .before .before .before .before .before .before .before .before .before .before .before .before .before .before .pre in
+    let tested = c .before .before .before .before .before .before .before .before .before .before .before .before in
+    let p = tested .before .before .before .before .before .before .before .before .before .before .pre in
     let a = p .0 .answer in
     let r = p .1 .1 .0 in (
       record { held = p .0 .held; waiting = p .0 .waiting; answer = record { starts = a .starts; ends = a .ends } },
@@ -18,7 +19,8 @@ take-piece-requires c κs =
 
 last-line-requires : tie.Need-last-line-requires
 last-line-requires c κs =
-    let p = c .before .before .before .before .before .before .before .before .before .before .before .before .before .before .before .before .before .before .before .before .pre in
+    let tested = c .before .before .before .before .before .before .before .before .before .before in
+    let p = tested .before .before .before .before .before .before .before .before .before .before .pre in
     let a = p .0 .answer in
     let r = p .1 .1 .0 in (
       record { held = p .0 .held; waiting = p .0 .waiting; answer = record { starts = a .starts; ends = a .ends } },
@@ -26,15 +28,22 @@ last-line-requires c κs =
     )
 
 same-length-4 : tie.Need-same-length-4
-same-length-4 c = let read = c .before .before .before .before .before .before .before .before .before .before .before .before .before .before .before .before .before .before .before .before .before .before .before .before in omega (arith, read .read-piece .kept)
+same-length-4 c =
+    let tested = c .before .before .before .before .before .before .before .before .before .before .before .before .before .before .before .before .before .before .before .before .before in
+    let read = tested .before .before .before in
+    omega (arith, read .read-piece .kept)
 
 same-length-9 : tie.Need-same-length-9
-same-length-9 c = let read = c .before .before .before .before .before .before .before .before .before .before .before .before .before .before .before .before .before .before .before .before .before .before in omega (arith, read .read-piece .kept)
+same-length-9 c =
+    let tested = c .before .before .before .before .before .before .before .before .before .before .before .before .before .before .before .before .before .before .before in
+    let read = tested .before .before .before in
+    omega (arith, read .read-piece .kept)
 
 flush-requires : tie.Need-flush-requires
 flush-requires c κs =
     let ending = c .before .before .before .before .before .before .before in
-    let start = ending .before .before .before .before .before .before .before .before .before .before .before .before .before .before .before .before .before .before .before .before .before in
+    let tested = ending .before .before .before .before .before .before .before .before .before .before .before in
+    let start = tested .before .before .before .before .before .before .before .before .before .before in
     omega (arith, ending .last-line .ensures .1 .waiting, start .pre .1 .1 .0 .printable, ending .last-line .kept)
 
 returns : tie.Need-returns
@@ -46,14 +55,17 @@ returns c =
     let a = t .0 .answer in (
       record { held = t .0 .held; waiting = t .0 .waiting; answer = record { starts = a .starts; ends = a .ends } },
       λ e. (counted .count .result, t .1 (both (q .goes) (not (q .ended)) e .0)),
-      λ e. (counted .count .result, version-ends _ _ _ (t .1 (both (q .goes) (q .ended) e .0)) (both (q .goes) (q .ended) e .1)),
+      λ e.
+          let b = both (q .goes) (q .ended) e in
+          (counted .count .result, version-ends _ _ _ (t .1 (b .0)) (b .1)),
     )
 
 returns-2 : tie.Need-returns-2
 returns-2 c =
     let wrote = c in
     let ending = wrote .before .before .before .before .before .before .before .before in
-    let start = ending .before .before .before .before .before .before .before .before .before .before .before .before .before .before .before .before .before .before .before .before .before in
+    let tested = ending .before .before .before .before .before .before .before .before .before .before .before in
+    let start = tested .before .before .before .before .before .before .before .before .before .before in
     let f = wrote .flush .ensures in
     let l = ending .last-line .ensures in
     let r = rests _ _ f (omega (arith, l .1 .held, start .pre .0 .held)) (l .1 .answer) in

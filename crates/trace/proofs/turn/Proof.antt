@@ -30,8 +30,7 @@ returns-2 c =
 
 returns-3 : tie.Need-returns-3
 returns-3 c =
-    let start = c .before .before .before .before .before .before .before .before .before .before .before in
-    (
+    let start = c .before .before .before .before .before .before .before .before .before .before .before in (
       record { held = start .pre .0 .held; waiting = start .pre .0 .waiting },
       λ e. absurd (false≢true e),
       λ e. absurd (false≢true e),

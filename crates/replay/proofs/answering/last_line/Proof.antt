@@ -34,8 +34,8 @@ returns-2 c =
     let none = start .pre .0 .waiting in
     let yes = on (tested .is-line .result) (branch .if1 .left) in
     let t = took .take-line .ensures in (
-      last-line replaying _ _ _ _ (cutting .part .ensures) (tested .is-line .ensures) yes _ (take-none _ _ none) _ (again .part2 .ensures) _ _
-          (took-line _ _ _ _ _ (t .1)),
+      last-line replaying _ _ _ _ (cutting .part .ensures) (tested .is-line .ensures) yes _ (take-none _ _ none) _
+          (again .part2 .ensures) _ _ (took-line _ _ _ _ _ (t .1)),
       record { held = t .0 .held; at = t .0 .at; waiting = t .0 .waiting; answer = t .0 .answer },
     )
 

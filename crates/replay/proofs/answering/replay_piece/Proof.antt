@@ -1,5 +1,5 @@
--- `replay_piece` meets its contract. The loop's invariant: what waits and what is to come make the text that was to come at the start, and
--- more waits only when the place in the piece has moved on. Assumes nothing.
+-- `replay_piece` meets its contract. The loop's invariant: what waits and what is to come make the text that was to
+-- come at the start, and more waits only when the place in the piece has moved on. Assumes nothing.
 use mathlib.Core.List.{[]}
 use mathlib.Core.Path.{_≡_}
 use lib.ListN.{length, take, drop}
@@ -17,10 +17,12 @@ use Rattle.replay.proofs.answering.replay_piece.Tie as tie
 
 abbrev Inv-loop : tie.InvT-loop
 Inv-loop p₀ kept₀ files₀ logs₀ marks₀ undo₀ line₀ bytes₀ reader₀ piece out₀ p kept files logs marks undo line bytes reader out =
-    (p .held ≤ 8238) × (p .at ≤ length piece) × (p₀ .at ≤ p .at) × (p .waiting ≤ 131072 * (p .at - p₀ .at)) × (p .waiting ≤ 131072)
-    × AnswerIn p × (length line ≡ 8238) × Rooms bytes reader out
-    × Passes replaying (within (keptIn p₀ (machineOf kept₀ files₀ logs₀ marks₀ undo₀) out₀) (take (p₀ .held) line₀) (drop (p₀ .at) piece)) []
-    (within (keptIn p (machineOf kept files logs marks undo) out) (take (p .held) line) (drop (p .at) piece)) (take (p .waiting) out)
+    (p .held ≤ 8238) × (p .at ≤ length piece) × (p₀ .at ≤ p .at) × (p .waiting ≤ 131072 * (p .at - p₀ .at))
+    × (p .waiting ≤ 131072) × AnswerIn p × (length line ≡ 8238) × Rooms bytes reader out
+    × Passes replaying
+    (within (keptIn p₀ (machineOf kept₀ files₀ logs₀ marks₀ undo₀) out₀) (take (p₀ .held) line₀) (drop (p₀ .at) piece)) []
+    (within (keptIn p (machineOf kept files logs marks undo) out) (take (p .held) line) (drop (p .at) piece))
+    (take (p .waiting) out)
 
 abbrev μ-loop : tie.MeasureT-loop
 μ-loop p₀ kept₀ files₀ logs₀ marks₀ undo₀ line₀ bytes₀ reader₀ piece out₀ p kept files logs marks undo line bytes reader out =

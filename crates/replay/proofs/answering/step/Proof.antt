@@ -34,7 +34,8 @@ returns c =
 
 take-line-requires : tie.Need-take-line-requires
 take-line-requires c κs =
-    let p = c .before .before .before .before .before .before .before .before .before .before .before .before .before .before .before .before .before .before .before .before .before .pre in
+    let tested = c .before .before .before .before .before .before .before .before .before .before in
+    let p = tested .before .before .before .before .before .before .before .before .before .before .before .pre in
     let a = p .0 .answer in
     let r = p .1 .1 in (
       p .0 .waiting,
@@ -45,7 +46,10 @@ take-line-requires c κs =
     )
 
 same-length-2 : tie.Need-same-length-2
-same-length-2 c = let looked = c .before .before .before .before .before .before .before .before .before .before .before .before .before .before .before .before .before .before .before .before .before in omega (arith, looked .next .kept)
+same-length-2 c =
+    let tested = c .before .before .before .before .before .before .before .before .before .before .before .before .before .before .before .before .before in
+    let looked = tested .before .before .before .before in
+    omega (arith, looked .next .kept)
 
 returns-2 : tie.Need-returns-2
 unfolding cut

@@ -1,21 +1,22 @@
 -- Laws for this crate's proofs. Assumes nothing.
-use mathlib.Core.Bool.{Bool, true, false, not, _&&_, false≢true}
-use mathlib.Core.List.{List, [], _∷_, _++_, append-nil}
-use mathlib.Core.Path.{_≡_, refl, sym, ap, ap₂, _∙_}
-use lib.ListN.{length, take, drop, length-take}
+use mathlib.Core.Bool.{Bool, true, false, _&&_, false≢true}
+use mathlib.Core.List.{List, []}
+use mathlib.Core.Path.{_≡_, refl, ap, ap₂, _∙_}
+use lib.ListN.{length, drop, length-take}
 use native.Mathlib.Omega.{arith}
 use Prim.Native.Nat.{ℕ, _-_, _≤_}
 use Rattle.octets.specs.Parts.{cut}
 use Rattle.rules.specs.Machine.{Machine}
-use Rattle.calllog.specs.Replaying.{Kept, lineTurn, replaying}
+use Rattle.calllog.specs.Replaying.{Kept, replaying}
 use Rattle.calllog.proofs.Kept.{ended-answered}
 use Rattle.lines.specs.Lines.{lastLine}
-use Rattle.lines.specs.Programs.{transcript, keptAfter, Answered, Under, within, atEnd}
+use Rattle.lines.specs.Programs.{Answered, Under, within, atEnd}
 use Rattle.lines.proofs.Passing.{end-of}
 use Rattle.replay_lines.specs.Bounds.{AnswerIn}
-use Rattle.replay_lines.specs.Turns.{keptIn, Took}
+use Rattle.replay_lines.specs.Turns.{keptIn}
 use Rattle.replay_lines.specs.declared.answering.Progress.{Progress}
-use Rattle.replay.specs.Bounds.{Flushed, Resting}
+use Rattle.replay_pieces.specs.Bounds.{Resting}
+use Rattle.replay.specs.Bounds.{Flushed}
 use Rattle.replay.specs.WholeRun.{Ends}
 
 -- a part of a buffer
@@ -26,16 +27,6 @@ part-short x at n l e = omega (arith, ap length e, length-take n (drop at l))
 pub both : (a b : Bool) → (a && b) ≡ true → (a ≡ true) × (b ≡ true)
 both true b e = (refl, e)
 both false b e = absurd (false≢true e)
-
--- a line that was taken was answered
-pub took-line : (line : List ℕ) (k : Kept) (waiting : List ℕ) (k′ : Kept) (waiting′ : List ℕ) → Took (lineTurn line k) waiting k′ waiting′
-    → Answered replaying (line ∷ []) k waiting k′ waiting′
-unfolding transcript keptAfter
-took-line line k waiting k′ waiting′ t =
-    record {
-      says = t .says ∙ ap (λ (x : List ℕ). waiting ++ x) (sym (append-nil (lineTurn line k .text)));
-      keeps = t .keeps;
-    }
 
 -- what is written stays kept
 pub kept-flushed : (p r : Progress) (m : Machine) (out : List ℕ) → Flushed p r → keptIn r m out ≡ keptIn p m out

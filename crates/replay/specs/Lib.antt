@@ -1,4 +1,4 @@
--- That what is kept fits its buffers.
+-- What stays where output is written.
 pub mod Bounds
 -- A whole run.
 pub mod WholeRun

@@ -1,12 +1,9 @@
 // Replays a call log: reads its lines from standard input, performs the calls on a fresh store, or on a saved block that
 // the argument names, and prints a line for each to standard output. What differs from the log, lines of another form
 // and what fails are said on standard error. The memory is the same for an input of any size.
-mod answering;
 mod blocks;
 mod stdio;
 
-use answering::last_line;
-use answering::replay_piece;
 use calllog::LINE_BYTES;
 use numbers::BUFFER_BYTES;
 use numbers::FILE_BYTES;
@@ -18,6 +15,8 @@ use replay_lines::answering::OUTPUT;
 use replay_lines::answering::Progress;
 use replay_lines::answering::Undo;
 use replay_lines::answering::WRITTEN;
+use replay_pieces::last_line;
+use replay_pieces::replay_piece;
 ghost use mathlib.Core.Path.{_≡_};
 ghost use mathlib.Core.Bool.{true, false};
 ghost use mathlib.Core.List.{[]};
@@ -29,7 +28,8 @@ ghost use Rattle.lines.specs.WholeRun.{Ran};
 ghost use Rattle.replay_lines.specs.Bounds.{Rooms};
 ghost use Rattle.replay_lines.specs.Turns.{keptIn};
 ghost use Rattle.rules.specs.Promises.{handed, handedBack, machineOf};
-ghost use Rattle.replay.specs.Bounds.{Resting, Flushed};
+ghost use Rattle.replay_pieces.specs.Bounds.{Resting};
+ghost use Rattle.replay.specs.Bounds.{Flushed};
 ghost use Rattle.replay.specs.WholeRun.{ReachedFrom, Ends};
 
 // Writes what waits, and counts its lines. A write that fails is said, and ends the run. No contract can say what is

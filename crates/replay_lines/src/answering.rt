@@ -223,41 +223,21 @@ fn perform_line(
 {
     match said {
         Line::Fresh(n) => {
-            let o = store::fresh(
-                kept,
-                files,
-                logs,
-                marks,
-                undo,
-                part(bytes, 0, smaller(n, WRITTEN)),
-            );
+            let list = part(bytes, 0, smaller(n, WRITTEN));
+            let o = store::fresh(kept, files, logs, marks, undo, list);
             Response {
                 outcome: o,
                 size: 0,
             }
         }
-        Line::Asks(q, n, room) => perform_request(
-            kept,
-            files,
-            logs,
-            marks,
-            undo,
-            q,
-            part(bytes, 0, smaller(n, WRITTEN)),
-            room,
-            reader,
-        ),
-        Line::Order(minute, budget, n) => perform_order(
-            kept,
-            files,
-            logs,
-            marks,
-            undo,
-            part(bytes, 0, smaller(n, WRITTEN)),
-            minute,
-            budget,
-            reader,
-        ),
+        Line::Asks(q, n, room) => {
+            let list = part(bytes, 0, smaller(n, WRITTEN));
+            perform_request(kept, files, logs, marks, undo, q, list, room, reader)
+        }
+        Line::Order(minute, budget, n) => {
+            let list = part(bytes, 0, smaller(n, WRITTEN));
+            perform_order(kept, files, logs, marks, undo, list, minute, budget, reader)
+        }
         Line::Another => no_call(),
         Line::Comment => no_call(),
         Line::Expects => no_call(),

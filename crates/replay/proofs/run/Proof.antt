@@ -15,7 +15,7 @@ use Rattle.lines.specs.WholeRun.{Reached, Ran}
 use Rattle.lines.proofs.WholeRun.{reached-first, reached-more, goes-on}
 use Rattle.replay_lines.specs.Bounds.{Rooms}
 use Rattle.replay_lines.specs.Turns.{keptIn}
-use Rattle.replay.specs.Bounds.{Resting}
+use Rattle.replay_pieces.specs.Bounds.{Resting}
 use Rattle.replay.proofs.WholeRun.{ran-to-end}
 use Rattle.replay.proofs.run.Statement.{statement}
 use Rattle.replay.proofs.run.Tie as tie

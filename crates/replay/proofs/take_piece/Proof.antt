@@ -12,7 +12,7 @@ use Rattle.lines.specs.Programs.{atEnd, within}
 use Rattle.lines.proofs.Passing.{off, end-same, end-of}
 use Rattle.replay_lines.specs.Bounds.{Rooms}
 use Rattle.replay_lines.specs.Turns.{keptIn}
-use Rattle.replay.specs.Bounds.{Resting}
+use Rattle.replay_pieces.specs.Bounds.{Resting}
 use Rattle.replay.proofs.Laws.{kept-flushed, rests}
 use Rattle.replay.proofs.take_piece.Statement.{statement}
 use Rattle.replay.proofs.take_piece.Tie as tie

@@ -10,9 +10,9 @@ use Rattle.replay_lines.proofs.answering.perform_line.Tie as tie
 
 returns : tie.Need-returns
 returns c =
-    let at-part = c .before in
+    let at-part = c .before .before .before .before .before .before .before .before in
     let at-smaller = at-part .before in
-    let at-said = at-smaller .before .before .before .before .before .before .before .before .before in
+    let at-said = at-smaller .before .before in
     let start = at-said .before .before .before .before in
     fresh-replies _ (start .args .bytes .now) (start .args .reader .now) _ _ _ _ _ _ (start .pre .0)
     (at-smaller .smaller .ensures) (at-part .part .ensures) (at-said .said .given .1) (c .fresh .ensures .0)
@@ -20,9 +20,9 @@ returns c =
 returns-2 : tie.Need-returns-2
 returns-2 c =
     let at-perform-request = c .before .before in
-    let at-part2 = at-perform-request .before .before in
+    let at-part2 = at-perform-request .before .before .before .before .before .before .before in
     let at-smaller2 = at-part2 .before in
-    let at-said2 = at-smaller2 .before .before .before .before .before .before .before in
+    let at-said2 = at-smaller2 .before .before in
     let start = at-said2 .before .before .before .before in
     asks-replies _ (start .args .bytes .now) _ _ _ _ _ _ _ (start .pre .0) (at-smaller2 .smaller2 .ensures)
     (at-part2 .part2 .ensures) _ _ _ (at-said2 .said2 .given .1)
@@ -31,9 +31,9 @@ returns-2 c =
 returns-3 : tie.Need-returns-3
 returns-3 c =
     let at-perform-order = c .before .before in
-    let at-part3 = at-perform-order .before .before in
+    let at-part3 = at-perform-order .before .before .before .before .before .before .before in
     let at-smaller3 = at-part3 .before in
-    let at-said3 = at-smaller3 .before .before .before .before .before .before .before in
+    let at-said3 = at-smaller3 .before .before in
     let start = at-said3 .before .before .before .before in
     order-line-replies _ (start .args .bytes .now) _ _ _ _ _ _ _ (start .pre .0)
     (at-smaller3 .smaller3 .ensures) (at-part3 .part3 .ensures) _ _ _ (at-said3 .said3 .given .1)

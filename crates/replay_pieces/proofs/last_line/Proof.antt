@@ -5,9 +5,9 @@ use borrow.Author.Needs.{needs}
 use Rattle.octets.specs.Parts.{cut}
 use Rattle.calllog.specs.Replaying.{replaying}
 use Rattle.lines.proofs.Passing.{off, on, take-none, no-last-line, last-line}
-use Rattle.replay.proofs.Laws.{took-line}
-use Rattle.replay.proofs.answering.last_line.Statement.{statement}
-use Rattle.replay.proofs.answering.last_line.Tie as tie
+use Rattle.replay_pieces.proofs.Laws.{took-line}
+use Rattle.replay_pieces.proofs.last_line.Statement.{statement}
+use Rattle.replay_pieces.proofs.last_line.Tie as tie
 
 returns : tie.Need-returns
 unfolding cut

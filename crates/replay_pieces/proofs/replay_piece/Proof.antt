@@ -12,8 +12,8 @@ use Rattle.lines.specs.Programs.{Passes, within}
 use Rattle.lines.proofs.Passing.{take-none, passes-none, passes-on}
 use Rattle.replay_lines.specs.Bounds.{AnswerIn, Rooms}
 use Rattle.replay_lines.specs.Turns.{keptIn}
-use Rattle.replay.proofs.answering.replay_piece.Statement.{statement}
-use Rattle.replay.proofs.answering.replay_piece.Tie as tie
+use Rattle.replay_pieces.proofs.replay_piece.Statement.{statement}
+use Rattle.replay_pieces.proofs.replay_piece.Tie as tie
 
 abbrev Inv-loop : tie.InvT-loop
 Inv-loop p₀ kept₀ files₀ logs₀ marks₀ undo₀ line₀ bytes₀ reader₀ piece out₀ p kept files logs marks undo line bytes reader out =

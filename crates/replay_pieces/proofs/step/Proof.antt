@@ -7,9 +7,9 @@ use Prim.Native.Nat.{ℕ, _≤_}
 use Rattle.octets.specs.Parts.{cut}
 use Rattle.calllog.specs.Replaying.{replaying}
 use Rattle.lines.proofs.Passing.{off, on, take-none, of-room, held-passes, told-passes}
-use Rattle.replay.proofs.Laws.{took-line}
-use Rattle.replay.proofs.answering.step.Statement.{statement}
-use Rattle.replay.proofs.answering.step.Tie as tie
+use Rattle.replay_pieces.proofs.Laws.{took-line}
+use Rattle.replay_pieces.proofs.step.Statement.{statement}
+use Rattle.replay_pieces.proofs.step.Tie as tie
 
 returns : tie.Need-returns
 returns c =

@@ -15,7 +15,7 @@ ghost use Rattle.lines.specs.Programs.{Answered, Passes, within};
 ghost use Rattle.replay_lines.specs.Bounds.{Told, Rooms};
 ghost use Rattle.replay_lines.specs.Turns.{keptIn};
 ghost use Rattle.rules.specs.Promises.{handed, handedBack};
-ghost use Rattle.replay.specs.Bounds.{ProgressIn, Onward, Resting};
+ghost use Rattle.replay_pieces.specs.Bounds.{ProgressIn, Onward, Resting};
 
 // When more output waits than this it is written, so that the longest answer still fits in after what waits.
 const MOST: usize = 40000;

@@ -1,0 +1,2 @@
+-- That what is kept fits its buffers.
+pub mod Bounds

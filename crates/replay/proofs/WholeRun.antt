@@ -1,10 +1,10 @@
 -- What a whole run puts out is the text of the lines of its input. Assumes nothing.
 use mathlib.Core.List.{List, []}
-use mathlib.Core.Path.{_≡_, refl}
+use mathlib.Core.Path.{refl}
 use Prim.Native.Nat.{ℕ}
 use Rattle.calllog.specs.Replaying.{Kept, replaying}
 use Rattle.calllog.proofs.Kept.{kept-is-enough}
-use Rattle.lines.specs.Programs.{Under, within, atEnd}
+use Rattle.lines.specs.Programs.{within, atEnd}
 use Rattle.lines.specs.WholeRun.{Reached, Ran}
 use Rattle.lines.proofs.WholeRun.{whole-run, reached-more, ran}
 use Rattle.replay.specs.WholeRun.{Ends, ReplayWholeRun}

@@ -1,14 +1,13 @@
 -- The reader's buffer of the program serves for every call. Assumes nothing.
 use mathlib.Core.Bool.{Bool, true, false, cond}
-use mathlib.Core.List.{List, [], _∷_, _++_}
+use mathlib.Core.List.{List, [], _++_}
 use mathlib.Core.Path.{_≡_, refl, sym, ap, ap₂, _∙_, subst}
 use lib.Dec.{leb}
-use lib.ListN.{length, take, drop, replicate, length-take, length-replicate}
+use lib.ListN.{length, take, drop, replicate, length-replicate}
 use lib.Seq.{take-append-seam, take-append-le}
 use borrow.Author.Tests.{leb-true, leb-false, le-leb, lt-leb}
 use native.Mathlib.Omega.{arith}
 use Prim.Native.Nat.{ℕ, zero, suc, _+_, _-_, _*_, _≤_, _<_, min}
-use Rattle.record.specs.State.{transaction}
 use Rattle.record.specs.Paper.{Said, refused, said}
 use Rattle.record.specs.declared.outcomes.Outcome.the-variants.{Done, Offset, Given}
 use Rattle.record.specs.declared.outcomes.Outcome.the-variants.{Granted, Pairs, Ordered, Refused}
@@ -23,7 +22,6 @@ use Rattle.record.specs.declared.outcomes.Outcome.{Outcome}
 use Rattle.record.proofs.LayoutLaws.{length-journal}
 use Rattle.laws.proofs.Shapes.{shaped}
 use Rattle.ranges.specs.Ranges.{admission}
-use Rattle.ranges.specs.Below.{unless}
 use Rattle.ranges.proofs.Laws.{shared-zero, in-range}
 use Rattle.requests.specs.declared.Request.{Request}
 use Rattle.requests.specs.declared.Request.the-variants.{Begin, Seek, Write, GetFilePointer, Read}
@@ -32,12 +30,12 @@ use Rattle.requests.specs.Requests.{callOf}
 use Rattle.requests.specs.Performing.{Performs}
 use Rattle.rules.specs.Machine.{Machine, sizes, txnOf, fileOf}
 use Rattle.rules.specs.Messages.{on, read, places, bestOrder, says, bufferOf, bufferOfCall}
-use Rattle.rules.specs.Coverage.{covered, stretchesOf, placesRefusal, placesReply, placesOf}
+use Rattle.rules.specs.Coverage.{covered, stretchesOf, placesRefusal, placesOf}
 use Rattle.rules.specs.Calls.{Turn, call, turnDown, passing, admitted, placesTurn, fresh as freshTurn}
 use Rattle.rules.specs.Promises.{machineOf, Meets}
 use Rattle.rules.proofs.View.Shape.{Sound}
 use Rattle.rules.proofs.View.Decode.{decoded-in}
-use Rattle.calllog.specs.Answers.{answerText, replyText}
+use Rattle.calllog.specs.Answers.{answerText}
 use Rattle.calllog.specs.Replays.{Alike, shown}
 use Rattle.calllog.proofs.Again.{same-turn, admitted-alike, read-alike, reply-alike}
 use Rattle.calllog.proofs.Replayed.{same-text}

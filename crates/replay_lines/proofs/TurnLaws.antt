@@ -2,12 +2,12 @@
 use mathlib.Core.Bool.{Bool, true, false, cond, not}
 use mathlib.Core.List.{List, [], _∷_, _++_, append-nil}
 use mathlib.Core.Path.{_≡_, refl, sym, ap, ap₂, _∙_, subst}
-use lib.Dec.{eqb, leb}
+use lib.Dec.{leb}
 use lib.ListN.{length, take, drop, length-drop, drop-of-length-le}
 use lib.Seq.{take-all}
 use borrow.Author.Tests.{eq-eqb, ne-eqb, leb-true, leb-false}
 use native.Mathlib.Omega.{arith}
-use Prim.Native.Nat.{ℕ, _+_, _-_, _≤_, _<_, min}
+use Prim.Native.Nat.{ℕ, _+_, _-_, _≤_, min}
 use Rattle.octets.specs.Parts.{cut}
 use Rattle.octets.proofs.PartLaws.{cut-pasted, cut-pasted-before}
 use Rattle.numerals.specs.Put.{Put}
@@ -18,11 +18,11 @@ use Rattle.requests.specs.declared.Request.{Request}
 use Rattle.rules.specs.Machine.{Machine}
 use Rattle.rules.specs.Calls.{Turn}
 use Rattle.rules.specs.Messages.{says}
-use Rattle.calllog.specs.Answers.{answerText, replyText, sameBytes}
+use Rattle.calllog.specs.Answers.{answerText, replyText}
 use Rattle.calllog.specs.Log.{Entry, another, callIn}
 use Rattle.calllog.specs.Reading.{entryOf}
 use Rattle.calllog.specs.Replaying.{Kept, Printed, silent, answered, malformedLine}
-use Rattle.calllog.specs.Replaying.{compared, versioned, entryTurn, lineTurn, oneMore}
+use Rattle.calllog.specs.Replaying.{compared, versioned, entryTurn, lineTurn}
 use Rattle.calllog.specs.declared.parsing.Line.{Line}
 use Rattle.calllog.specs.declared.parsing.Line.the-variants.{Another, Comment, Expects}
 use Rattle.calllog.specs.declared.parsing.Line.the-variants.{Version, Fresh, Asks, Order}

@@ -7,7 +7,7 @@ use replay_lines::answering::Undo;
 use replay_lines::answering::take_line;
 ghost use mathlib.Core.Path.{_≡_};
 ghost use mathlib.Core.List.{[]};
-ghost use Prim.Native.Nat.{_≤_, _<_};
+ghost use Prim.Native.Nat.{_<_};
 ghost use lib.ListN.{length, take, drop};
 ghost use Rattle.calllog.specs.Replaying.{replaying};
 ghost use Rattle.lines.specs.Lines.{lastLine};

@@ -5,7 +5,6 @@ use mathlib.Core.Path.{_≡_, refl, sym, _∙_}
 use lib.ListN.{length, take, drop, drop-of-length-le}
 use native.Mathlib.Omega.{arith}
 use Prim.Native.Nat.{_-_, _≤_}
-use borrow.Author.Needs.{needs}
 use Rattle.rules.specs.Promises.{machineOf}
 use Rattle.calllog.specs.Replaying.{replaying}
 use Rattle.lines.specs.Programs.{atEnd, within}

@@ -1,6 +1,6 @@
 -- `act` meets its contract. Assumes nothing.
 use borrow.Author.Needs.{needs}
-use mathlib.Core.Path.{_≡_, refl, sym, ap, _∙_}
+use mathlib.Core.Path.{refl, _∙_}
 use native.Mathlib.Omega.{arith}
 use Rattle.replay_lines.proofs.TurnLaws.{comment-took, expects-took, version-took}
 use Rattle.replay_lines.proofs.TurnLaws.{another-took, fresh-took, asks-took, order-took}

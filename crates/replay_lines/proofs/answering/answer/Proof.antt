@@ -1,8 +1,7 @@
 -- `answer` meets its contract. Assumes nothing.
-use Prim.Native.Nat.{ℕ, _+_, _-_, _*_, _≤_, _<_}
+use Prim.Native.Nat.{_-_}
 use borrow.Author.Needs.{needs}
-use lib.ListN.{length, take, length-take}
-use mathlib.Core.Path.{_≡_, refl, sym, ap, _∙_}
+use mathlib.Core.Path.{refl}
 use native.Mathlib.Omega.{arith}
 use Rattle.replay_lines.proofs.Laws.{part-short, reply-end}
 use Rattle.replay_lines.proofs.TurnLaws.{answered-took}

@@ -1,6 +1,6 @@
 -- `expect_line` meets its contract. Assumes nothing.
 use borrow.Author.Needs.{needs}
-use mathlib.Core.Path.{_≡_, refl, sym, ap, _∙_}
+use mathlib.Core.Path.{refl, _∙_}
 use native.Mathlib.Omega.{arith}
 use Rattle.replay_lines.proofs.TurnLaws.{behind-two, counted-here, counted-compared}
 use Rattle.replay_lines.proofs.answering.expect_line.Statement.{statement}

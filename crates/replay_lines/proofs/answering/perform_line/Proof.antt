@@ -1,7 +1,5 @@
 -- `perform_line` meets its contract. Assumes nothing.
 use borrow.Author.Needs.{needs}
-use mathlib.Core.Path.{_≡_, refl, sym, ap, _∙_}
-use native.Mathlib.Omega.{arith}
 use Rattle.replay_lines.proofs.Performing.{fresh-replies, asks-replies, order-line-replies}
 use Rattle.replay_lines.proofs.Performing.{another-replies, comment-replies}
 use Rattle.replay_lines.proofs.Performing.{expects-replies, version-replies}

@@ -1,7 +1,5 @@
 -- `perform_order` meets its contract. Assumes nothing.
 use borrow.Author.Needs.{needs}
-use mathlib.Core.Path.{_≡_, refl, sym, ap, _∙_}
-use native.Mathlib.Omega.{arith}
 use Rattle.replay_lines.proofs.Performing.{order-replies}
 use Rattle.replay_lines.proofs.answering.perform_order.Statement.{statement}
 use Rattle.replay_lines.proofs.answering.perform_order.Tie as tie

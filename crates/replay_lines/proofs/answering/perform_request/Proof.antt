@@ -1,8 +1,7 @@
 -- `perform_request` meets its contract. Assumes nothing.
-use Prim.Native.Nat.{ℕ, _+_, _-_, _*_, _≤_, _<_}
+use Prim.Native.Nat.{_-_}
 use borrow.Author.Needs.{needs}
-use lib.ListN.{length, take, length-take}
-use mathlib.Core.Path.{_≡_, refl, sym, ap, _∙_}
+use lib.ListN.{length-take}
 use native.Mathlib.Omega.{arith}
 use Rattle.replay_lines.proofs.Performing.{request-replies, size-within}
 use Rattle.replay_lines.proofs.answering.perform_request.Statement.{statement}

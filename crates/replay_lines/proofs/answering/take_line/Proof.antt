@@ -1,6 +1,6 @@
 -- `take_line` meets its contract. Assumes nothing.
 use borrow.Author.Needs.{needs}
-use mathlib.Core.Path.{_≡_, refl, sym, ap, _∙_}
+use mathlib.Core.Path.{refl}
 use native.Mathlib.Omega.{arith}
 use Rattle.replay_lines.proofs.TurnLaws.{ended-took, line-took}
 use Rattle.replay_lines.proofs.answering.take_line.Statement.{statement}

@@ -1,6 +1,5 @@
 -- `take_version` meets its contract. Assumes nothing.
-use borrow.Author.Needs.{needs}
-use mathlib.Core.Path.{_≡_, refl, sym, ap, _∙_}
+use mathlib.Core.Path.{refl}
 use native.Mathlib.Omega.{arith}
 use Rattle.replay_lines.proofs.TurnLaws.{known-version, other-version}
 use Rattle.replay_lines.proofs.answering.take_version.Statement.{statement}

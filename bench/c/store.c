@@ -42,10 +42,10 @@ typedef struct {
 typedef unsigned answer;
 enum { DONE = 0, REFUSED = 0x10000 };
 
-// The numbers of README's table of refusals.
+// The numbers of the table of refusals in docs/GUIDE.md.
 enum refusal {
     BUFFER_LENGTH = 1, RECORD_RANGE, NO_SUCH_TRANSACTION, NOT_OPEN, ALREADY_OPEN, NO_SUCH_TARGET, READER_TOO_SHORT, SEEK_PAST_END,
-    WRITE_PAST_END, RECORDS_FULL, LOG_FULL, SETTLED_PAST_END, STALE, NO_SUCH_FILE, NO_PLACE_YET, LIST_TOO_LONG, STALE_READER = 18,
+    WRITE_PAST_END, RECORDS_FULL, LOG_FULL, APPEND_PAST_END, STALE, NO_SUCH_FILE, NO_PLACE_YET, LIST_TOO_LONG, STALE_READER = 18,
     FILE_CLOSED = 21, NO_SUCH_MINUTE, STILL_OPEN, NO_GRANT
 };
 
@@ -238,7 +238,7 @@ static inline unsigned offset_of(const Store *s, size_t t, size_t d) { return s-
 static inline answer get_file_pointer(Lent *l, size_t t, size_t d) {
     PASS(check_look(l, t, d));
     Store *s = l->store;
-    if (!s->offset[t][d] && s->advance[t][d] != KNOWN && !settle(s, t, 1u << d)) REFUSE(SETTLED_PAST_END);
+    if (!s->offset[t][d] && s->advance[t][d] != KNOWN && !settle(s, t, 1u << d)) REFUSE(APPEND_PAST_END);
     return offset_of(s, t, d);
 }
 
@@ -312,7 +312,7 @@ static inline answer read_bytes(Lent *l, size_t t, size_t d, size_t n, u8 *reade
     if (n > room) REFUSE(READER_TOO_SHORT);
     Store *s = l->store;
     set chosen = settled_by_read(s, t, d);
-    if (chosen && !settle(s, t, chosen)) REFUSE(SETTLED_PAST_END);
+    if (chosen && !settle(s, t, chosen)) REFUSE(APPEND_PAST_END);
     unsigned f = s->file[d], place = offset_of(s, t, d), length = length_of(s, t, f);
     unsigned given = length > place ? length - place : 0;
     if (given > n) given = n;
@@ -375,7 +375,7 @@ static inline int is_open_at(const Store *s, unsigned f, unsigned minute) {
     return s->start[f] < s->end[f] ? begun & before_end : s->start[f] == s->end[f] || (begun | before_end);
 }
 
-static inline int hours_pass(const Store *s, size_t t, unsigned minute) {
+static inline int windows_pass(const Store *s, size_t t, unsigned minute) {
     for (const Record *r = s->log[t], *last = r + s->records[t]; r < last; r++)
         if (r->length && !is_open_at(s, s->file[r->descriptor % DESCRIPTORS], minute)) return 0;
     return 1;
@@ -466,8 +466,8 @@ static inline answer commit(Lent *l, size_t t, size_t minute) {
         reset(l, t, 0);
         REFUSE(STALE);
     }
-    if (!hours_pass(s, t, minute)) REFUSE(FILE_CLOSED);
-    if (!advances_fit(s, t)) REFUSE(SETTLED_PAST_END);
+    if (!windows_pass(s, t, minute)) REFUSE(FILE_CLOSED);
+    if (!advances_fit(s, t)) REFUSE(APPEND_PAST_END);
     memcpy(s->found, s->committed, sizeof s->found);
     memcpy(s->found_length, s->length, sizeof s->found_length);
     Landing landing = {watched_by(s, t), 0, 0};

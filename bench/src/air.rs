@@ -1,4 +1,4 @@
-//! The day on air: the three stores, the proved one with the lock that its README asks for, and what else a user can take.
+//! The day on air: the three stores, the proved one with the lock that the guide asks for, and what else a user can take.
 
 use crate::calls::least;
 use crate::day::{self, Tally};

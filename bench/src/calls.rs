@@ -86,12 +86,12 @@ pub fn seeks() -> Vec<Case> {
     [1, 2, 4].into_iter().map(seek).collect()
 }
 
-/// A Seek while r records of 16 bytes are held of the last grant; and a grant of so many, from its Begin on, with its taking back.
+/// A Seek while r records of 16 bytes are held of the last grant; and a grant of so many, from its Begin on, with its undo.
 pub fn held(r: usize) -> [Case; 2] {
     let grant = |script: Script| script.begin(0).seek(0, 1, 0).times(r, |s| s.write(0, 1, LENGTH)).commit(0);
     let fresh = Script::default().fresh();
     let seek = Script::default().seek(0, 0, 48);
-    let name = format!("Begin, Seek, {r} Writes of 16 bytes, Commit, taking back");
+    let name = format!("Begin, Seek, {r} Writes of 16 bytes, Commit, undo");
     [
         case("Seek", format!("1 open, {r} records of the last grant held"), grant(fresh.clone()).begin(0), seek),
         case(&name, "0 open".to_string(), fresh, grant(Script::default()).take_back()),
@@ -103,17 +103,17 @@ fn apart(script: Script, t: usize, count: usize) -> Script {
     (0..count).fold(script, |script, i| script.seek(t, 0, 64 * i + 32).write(t, 0, 1))
 }
 
-/// Places of 1, 8 and 64 stretches.
+/// Places of 1, 8 and 64 intervals.
 pub fn places() -> Vec<Case> {
     let places = |r: usize| {
-        let name = format!("Places, {r} stretch{}", if r == 1 { "" } else { "es" });
+        let name = format!("Places, {r} interval{}", if r == 1 { "" } else { "s" });
         case(&name, beside(8, 0), apart(opened(8, 0), 0, r), Script::default().places(0, 0))
     };
     [1, 8, 64].into_iter().map(places).collect()
 }
 
 /// A window that is set, and a Commit into a file that is open from 600 to 700.
-pub fn hours() -> Vec<Case> {
+pub fn windows() -> Vec<Case> {
     let setup = opened(7, 0).window(0, 600, 700);
     let begun = Script::default().begin(7).seek(7, 0, 0).write(7, 0, LENGTH);
     vec![

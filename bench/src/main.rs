@@ -83,7 +83,7 @@ fn table_of_calls(effort: &Effort, report: &mut Report) {
     cases.extend(calls::seeks());
     cases.extend(COUNTS.into_iter().flat_map(calls::held));
     cases.extend(calls::places());
-    cases.extend(calls::hours());
+    cases.extend(calls::windows());
     cases.extend(calls::refused());
     cases.extend(calls::worst());
     let rows = cases.len();

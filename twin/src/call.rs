@@ -177,7 +177,7 @@ pub enum Refusal {
     WritePastEnd = 9,
     RecordsFull = 10,
     LogFull = 11,
-    SettledPastEnd = 12,
+    AppendPastEnd = 12,
     Stale = 13,
     NoSuchFile = 14,
     NoPlaceYet = 15,

@@ -258,7 +258,7 @@ fn committed_from(standing: Standing, acted: u16) -> Result<u16, Refusal> {
 fn a_forged_record_may_hold_any_mixture() {
     assert_eq!(committed_from(Standing::Deferred(2), 8), Ok(9));
     assert_eq!(committed_from(Standing::Deferred(2), 65527), Ok(7));
-    assert_eq!(committed_from(Standing::Deferred(4090), 0), Err(Refusal::SettledPastEnd));
+    assert_eq!(committed_from(Standing::Deferred(4090), 0), Err(Refusal::AppendPastEnd));
     assert_eq!(committed_from(Standing::Untouched, 8), Ok(7));
     assert_eq!(committed_from(Standing::Placed(1), 0), Ok(7));
     assert_eq!(committed_from(Standing::Known(1), 8), Ok(1));

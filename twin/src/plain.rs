@@ -350,7 +350,7 @@ impl Course {
             Standing::Deferred { advance } | Standing::Moved { advance, .. }
                 if committed.offsets[d] + advance > FILE_BYTES =>
             {
-                Err(Refusal::SettledPastEnd)
+                Err(Refusal::AppendPastEnd)
             }
             _ => Ok(()),
         }

@@ -164,7 +164,7 @@ fn h_a_commit_without_room_stays_open() {
     seek(&mut pair, 0, 0, 4096);
     assert_eq!(granted(&mut pair, 0), (0, 0));
     write(&mut pair, 1, 0, b"A");
-    assert_eq!(refused_commit(&mut pair, 1), Refusal::SettledPastEnd);
+    assert_eq!(refused_commit(&mut pair, 1), Refusal::AppendPastEnd);
     seek(&mut pair, 2, 0, 0);
     assert_eq!((granted(&mut pair, 2), granted(&mut pair, 1)), ((0, 0), (0, 0)));
     assert_eq!((pair.state.buffers.files[0], pair.state.store.offsets[0]), (b'A', 1));

@@ -588,7 +588,7 @@ impl Store {
         for (d, standing) in self.transactions[t].standings.iter().enumerate() {
             let advance = standing.waiting().unwrap_or(0);
             if chosen >> d & 1 == 1 && self.offsets[d] + advance > SPAN_16 {
-                return Err(Refusal::SettledPastEnd);
+                return Err(Refusal::AppendPastEnd);
             }
         }
         Ok(())

@@ -13,7 +13,7 @@ const MINUTE: usize = 0;
 
 /// What a line asks of its transaction; the first number is a descriptor.
 #[derive(Clone, Copy, Debug, PartialEq, Eq)]
-enum Form<'a> {
+pub enum Form<'a> {
     Begin,
     Commit,
     Abort,
@@ -71,7 +71,7 @@ pub fn accepts(line: &[u8]) -> bool {
 }
 
 /// The transaction and what is asked of it; none where the line has another form or is too long.
-fn parse(line: &[u8]) -> Option<(usize, Form<'_>)> {
+pub fn parse(line: &[u8]) -> Option<(usize, Form<'_>)> {
     let [letter, digit, rest @ ..] = line else { return None };
     if line.len() > LONGEST || !digit.is_ascii_digit() {
         return None;

@@ -1,15 +1,15 @@
-// Scripts of store calls, run over a record and buffers that bench/ lends. A script is a list of steps of eight
-// octets: the kind of call, its transaction, its descriptor (or file), an octet that is not looked at, and two numbers,
-// low octet first: how many octets (or the offset of a Seek, the minute of a Commit, the start of a window), and where
-// they start in `data` (or the end of a window).
-use dispatching::scripts::ScriptCall;
-use dispatching::scripts::Scripts;
-use octets::parts;
-use record::layout::Record;
-use record::layout::length_at;
-use record::layout::offset_at;
-use record::outcomes::Outcome;
+// Scripts of store calls, run over a record and buffers that bench/ lends. A script is a list of steps of
+// eight octets: the kind of call, its transaction, its descriptor (or file), an octet that is not looked at,
+// and two numbers, low octet first: how many octets (or the offset of a Seek, the minute of a Commit, the
+// start of a window), and where they start in `data` (or the end of a window).
+use buffers::parts;
+use dispatcher::scripts::ScriptCall;
+use dispatcher::scripts::Scripts;
 use requests::Request;
+use state::layout::State;
+use state::layout::length_at;
+use state::layout::offset_at;
+use state::outcomes::Outcome;
 ghost use Prim.Native.Nat.{_+_, _<_, _≤_};
 ghost use lib.ListN.{length};
 
@@ -74,7 +74,7 @@ fn request(s: Step) -> Request {
         4 => Request::GetFilePointer(s.t, s.d),
         5 => Request::Read(s.t, s.d, s.n),
         6 => Request::Commit(s.t, s.n),
-        8 => Request::TakeBack,
+        8 => Request::UndoCommit,
         9 => Request::Places(s.t, s.d),
         10 => Request::SetWindow(s.d, s.n, s.from),
         _ => Request::Abort(s.t),
@@ -83,7 +83,7 @@ fn request(s: Step) -> Request {
 
 // Makes the call of a step. Kind 0 is Fresh.
 fn made(
-    kept: &mut Record,
+    state: &mut State,
     files: &mut [u8],
     logs: &mut [u8],
     marks: &mut [u8],
@@ -94,13 +94,13 @@ fn made(
 ) -> Outcome {
     let bytes = named(data, s.from, s.n);
     if s.kind == 0 {
-        return store::fresh(kept, files, logs, marks, undo, bytes);
+        return store::fresh(state, files, logs, marks, undo, bytes);
     }
-    requests::perform(kept, files, logs, marks, undo, request(s), bytes, reader)
+    requests::perform(state, files, logs, marks, undo, request(s), bytes, reader)
 }
 
-// An outcome as one octet: 0 done, 1 an offset, 2 a count of bytes, 3 granted, 4 a count of pairs, 6 an order, and 10
-// more than a refusal's number.
+// An outcome as one octet: 0 done, 1 an offset, 2 a count of bytes, 3 granted, 4 a count of pairs, 6 an
+// order, and 10 more than a refusal's number.
 fn code(o: Outcome) -> u8 {
     match o {
         Outcome::Done => 0,
@@ -140,10 +140,10 @@ fn stamp(stamps: &mut [i64], i: usize) {
     }
 }
 
-// Runs the script once. The code of each step's outcome goes to `said`, as far as it has room. Answers the sum of the
-// numbers that the calls answered, modulo 2 to the power 64.
+// Runs the script once. The code of each step's outcome goes to `said`, as far as it has room. Answers the
+// sum of the numbers that the calls answered, modulo 2 to the power 64.
 fn pass(
-    kept: &mut Record,
+    state: &mut State,
     files: &mut [u8],
     logs: &mut [u8],
     marks: &mut [u8],
@@ -161,18 +161,18 @@ fn pass(
         let s = step_at(script, start);
         start += STEP;
         i += 1;
-        let o = made(kept, files, logs, marks, undo, s, data, reader);
+        let o = made(state, files, logs, marks, undo, s, data, reader);
         sum = std::num::wrapping_add_u64(sum, answered(o));
         note(said, at, code(o));
     }
     sum
 }
 
-// Runs the script so many rounds. The processor time in microseconds before each round goes to `stamps`, as far as it
-// has room. Answers the sum of the numbers that the calls answered.
+// Runs the script so many rounds. The processor time in microseconds before each round goes to `stamps`, as
+// far as it has room. Answers the sum of the numbers that the calls answered.
 #[no_mangle]
 pub extern "C" fn bench_calls_run(
-    kept: &mut Record,
+    state: &mut State,
     files: &mut [u8],
     logs: &mut [u8],
     marks: &mut [u8],
@@ -189,7 +189,7 @@ pub extern "C" fn bench_calls_run(
     while i < rounds {
         stamp(stamps, i);
         i += 1;
-        let told = pass(kept, files, logs, marks, undo, script, data, reader, said);
+        let told = pass(state, files, logs, marks, undo, script, data, reader, said);
         sum = std::num::wrapping_add_u64(sum, told);
     }
     sum
@@ -198,7 +198,7 @@ pub extern "C" fn bench_calls_run(
 // Asks so many times for the best order of the transactions listed. Answers the sum of the grants.
 #[no_mangle]
 pub extern "C" fn bench_calls_order<'a>(
-    kept: &'a Record,
+    state: &'a State,
     files: &'a [u8],
     logs: &'a [u8],
     marks: &'a [u8],
@@ -211,7 +211,7 @@ pub extern "C" fn bench_calls_order<'a>(
     let mut i = 0;
     while i < rounds {
         i += 1;
-        let b = ordering::best_order(kept, files, logs, marks, undo, list, MINUTE, budget);
+        let b = call_order::best_order(state, files, logs, marks, undo, list, MINUTE, budget);
         let o = b.outcome;
         sum = std::num::wrapping_add_u64(sum, answered(o));
     }
@@ -240,7 +240,7 @@ fn tasks() -> Scripts {
 // Has eight scripts of four calls dispatched so many times. Answers the sum of the Commits made.
 #[no_mangle]
 pub extern "C" fn bench_calls_dispatch(
-    kept: &mut Record,
+    state: &mut State,
     files: &mut [u8],
     logs: &mut [u8],
     marks: &mut [u8],
@@ -254,8 +254,8 @@ pub extern "C" fn bench_calls_dispatch(
     let mut i = 0;
     while i < rounds {
         i += 1;
-        let d = dispatching::dispatch(
-            kept,
+        let d = dispatcher::dispatch(
+            state,
             files,
             logs,
             marks,
@@ -276,13 +276,13 @@ fn put_line(out: &mut [u8], s: Step, data: &[u8], room: usize) -> usize
 {
     let bytes = named(data, s.from, s.n);
     if s.kind == 0 {
-        return calllog::put_fresh(out, bytes);
+        return text_log::put_fresh(out, bytes);
     }
-    calllog::put_call(out, request(s), bytes, room)
+    text_log::put_call(out, request(s), bytes, room)
 }
 
-// Puts the line of each step of the script to the front of `out`, one over the other, and answers the sum of their
-// lengths, modulo 2 to the power 64.
+// Puts the line of each step of the script to the front of `out`, one over the other, and answers the sum of
+// their lengths, modulo 2 to the power 64.
 fn put_lines(script: &[u8], data: &[u8], out: &mut [u8], room: usize) -> u64
     requires { ⌜ 8238 ≤ length (now out) ⌝ }
 {
@@ -297,8 +297,8 @@ fn put_lines(script: &[u8], data: &[u8], out: &mut [u8], room: usize) -> u64
     sum
 }
 
-// Puts the lines of the script's calls so many rounds, for a reader's buffer of `room` octets. Answers the sum of their
-// lengths, or 0 where `out` is shorter than a line may be.
+// Puts the lines of the script's calls so many rounds, for a reader's buffer of `room` octets. Answers the
+// sum of their lengths, or 0 where `out` is shorter than a line may be.
 #[no_mangle]
 pub extern "C" fn bench_calls_lines(
     script: &[u8],
@@ -320,13 +320,13 @@ pub extern "C" fn bench_calls_lines(
 }
 
 // The offset of descriptor i or, from 16 on, the length of file i - 16.
-fn committed_at(kept: &Record, i: usize) -> u16
+fn committed_at(state: &State, i: usize) -> u16
     requires { ⌜ i < 24 ⌝ }
 {
     if i < 16 {
-        return offset_at(kept, i);
+        return offset_at(state, i);
     }
-    length_at(kept, i - 16)
+    length_at(state, i - 16)
 }
 
 // Puts n at i, if there is room.
@@ -338,10 +338,10 @@ fn note_number(out: &mut [u16], i: usize, n: u16) {
 
 // Puts the sixteen committed offsets and behind them the eight lengths, as far as `out` has room.
 #[no_mangle]
-pub extern "C" fn bench_calls_committed(kept: &Record, out: &mut [u16]) {
+pub extern "C" fn bench_calls_committed(state: &State, out: &mut [u16]) {
     let mut i = 0;
     while i < 24 {
-        note_number(out, i, committed_at(kept, i));
+        note_number(out, i, committed_at(state, i));
         i += 1;
     }
 }

@@ -1,7 +1,8 @@
 -- What both walks of this crate need of the two counters, and of two `ensures` clauses.
 --     used r k     the counters r and k
 --     pair-fits    what whoever makes them owes: each fits its width
--- says-both a goal P ∗ (⌜φ⌝ ∗ ⌜ψ⌝), as two `ensures` clauses make: both are shown, and P is left. It is `denote.Triple.Walked`'s `says`,
+-- says-both a goal P ∗ (⌜φ⌝ ∗ ⌜ψ⌝), as two `ensures` clauses make: both are shown, and P is left. It is `denote.Triple.Walked`'s
+-- `says`,
 -- twice
 -- Assumes nothing; `says-both` takes `Given`.
 use mathlib.Core.Path.{refl}

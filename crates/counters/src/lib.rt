@@ -2,15 +2,17 @@
 
 ghost use mathlib.Core.Path.{_≡_};
 ghost use Prim.Native.Nat.{_+_, _≤_};
+ghost use Rattle.limits.specs.Limits.{recordCount, logBytes};
 
 pub struct Used {
     pub records: usize,
     pub bytes: u16,
 }
 
-// "In a log the two counters, records used and data bytes used, move forward together": by one record and by n bytes.
+// "In a log the two counters, records used and data bytes used, move forward together": by one record and by
+// n bytes.
 pub fn append(u: &mut Used, n: u16)
-    requires { ⌜ (now u .records ≤ 64) × (now u .bytes + n ≤ 4096) ⌝ }
+    requires { ⌜ (now u .records ≤ recordCount) × (now u .bytes + n ≤ logBytes) ⌝ }
     ensures records { λ _. ⌜ now (u .exit) .records ≡ now (u .entry) .records + 1 ⌝ }
     ensures bytes { λ _. ⌜ now (u .exit) .bytes ≡ now (u .entry) .bytes + n ⌝ }
 {
@@ -18,9 +20,10 @@ pub fn append(u: &mut Used, n: u16)
     u.bytes = u.bytes + n;
 }
 
-// The counters after a write of n bytes. It is the one lender of a `Used`; whoever calls it needs no walk by hand.
+// The counters after a write of n bytes. It is the one lender of a `Used`; whoever calls it needs no walk by
+// hand.
 pub fn appended(u: Used, n: u16) -> Used
-    requires { ⌜ (u .records ≤ 64) × (u .bytes + n ≤ 4096) ⌝ }
+    requires { ⌜ (u .records ≤ recordCount) × (u .bytes + n ≤ logBytes) ⌝ }
     ensures records { λ r. ⌜ r .records ≡ u .records + 1 ⌝ }
     ensures bytes { λ r. ⌜ r .bytes ≡ u .bytes + n ⌝ }
 {

@@ -6,18 +6,19 @@ use lib.Seq.{take-all, take-suc-set}
 use native.Mathlib.Numerals.{add-one}
 use native.Mathlib.Omega.{arith}
 use Prim.Native.Nat.{ℕ, _+_, _<_}
-use Rattle.octets.specs.Parts.{tabulate}
-use Rattle.replay.specs.Blocks.{wordAt, recordOf}
+use Rattle.buffers.specs.Parts.{tabulate}
+use Rattle.replay.specs.Blocks.{blockWordAt, stateOfBlock}
 
-module _ (bytes kept : List ℕ) (i : ℕ) (front : take i kept ≡ tabulate (wordAt bytes) i) where
-  pub word-more : (v : ℕ) → i < length kept → v ≡ wordAt bytes i → take (i + 1) (set kept i v) ≡ tabulate (wordAt bytes) (i + 1)
+module _ (bytes state : List ℕ) (i : ℕ) (front : take i state ≡ tabulate (blockWordAt bytes) i) where
+  pub word-more : (v : ℕ) → i < length state → v ≡ blockWordAt bytes i → take (i + 1) (set state i v)
+      ≡ tabulate (blockWordAt bytes) (i + 1)
   unfolding tabulate
   word-more v h q =
-      ap (λ (k : ℕ). take k (set kept i v)) (add-one i)
-      ∙ take-suc-set kept i v h
+      ap (λ (k : ℕ). take k (set state i v)) (add-one i)
+      ∙ take-suc-set state i v h
       ∙ ap₂ (λ (l : List ℕ) (x : ℕ). l ++ (x ∷ [])) front q
-      ∙ sym (ap (tabulate (wordAt bytes)) (add-one i))
+      ∙ sym (ap (tabulate (blockWordAt bytes)) (add-one i))
 
-  pub words-all : i ≡ 2323 → length kept ≡ 2323 → kept ≡ recordOf bytes
-  unfolding recordOf
-  words-all e l = sym (take-all i kept (omega arith)) ∙ front ∙ ap (tabulate (wordAt bytes)) e
+  pub words-all : i ≡ 2323 → length state ≡ 2323 → state ≡ stateOfBlock bytes
+  unfolding stateOfBlock
+  words-all e l = sym (take-all i state (omega arith)) ∙ front ∙ ap (tabulate (blockWordAt bytes)) e

@@ -1,9 +1,9 @@
 -- What stays where output is written.
 use mathlib.Core.Path.{_≡_}
-use Rattle.replay_lines.specs.declared.answering.Progress.{Progress}
+use Rattle.text_replay.specs.declared.answering.ReplayProgress.{ReplayProgress}
 
 -- After output was written: none waits, and what a line needs stays.
-pub record Flushed (p r : Progress) : Type 0 where
+pub record Flushed (p r : ReplayProgress) : Type 0 where
   pub held : r .held ≡ p .held
   pub at : r .at ≡ p .at
   pub waiting : r .waiting ≡ 0

@@ -1,28 +1,29 @@
--- A whole run of a replay. What is said of any program that works line by line is in lines/specs/WholeRun.antt,
--- what a replay does with a line in calllog/specs/Replaying.antt; whether `flush` writes what is handed over to it
+-- A whole run of a replay. What is said of any program that works line by line is in
+-- text_lines/specs/WholeRun.antt, what a replay does with a line in text_log/specs/Replay.antt; whether
+-- `flush` writes what is handed over to it
 -- no contract says.
 use mathlib.Core.List.{List, []}
 use Prim.Native.Nat.{ℕ}
-use Rattle.calllog.specs.Replaying.{Kept, replaying, keptFirst}
-use Rattle.lines.specs.Lines.{lastLine}
-use Rattle.lines.specs.Programs.{Under, Answered, atEnd}
-use Rattle.lines.specs.WholeRun.{Reached, WholeRun}
-use Rattle.rules.specs.Machine.{Machine}
+use Rattle.text_log.specs.Replay.{ReplayState, replaying, keptFirst}
+use Rattle.text_lines.specs.Lines.{lastLine}
+use Rattle.text_lines.specs.Programs.{Under, Answered, atEnd}
+use Rattle.text_lines.specs.WholeRun.{PiecesReach, WholeRun}
+use Rattle.spec.specs.Machine.{Machine}
 
--- Some pieces of input lead to u from record and buffers, freshly made or saved. Each turn of the program asks this
--- of what it is handed.
-pub record ReachedFrom (u : Under Kept) : Type 0 where
+-- Some pieces of input lead to u from record and buffers, freshly made or saved. Each turn of the program
+-- asks this of what it is handed.
+pub record ReachedFrom (u : Under ReplayState) : Type 0 where
   pub machine : Machine
-  pub reached : Reached replaying (keptFirst machine) u
+  pub reached : PiecesReach replaying (keptFirst machine) u
 
--- The run ends with the piece that u is in: k is kept after the line that the end of the input ends. After another
--- version nothing comes of that line.
-pub record Ends (u : Under Kept) (k : Kept) : Type 0 where
+-- The run ends with the piece that u is in: k is kept after the line that the end of the input ends. After
+-- another version nothing comes of that line.
+pub record RunEnds (u : Under ReplayState) (k : ReplayState) : Type 0 where
   pub text : List ℕ
   pub answered : Answered replaying (lastLine (atEnd replaying u .held)) (atEnd replaying u .kept) [] k text
 
--- Proved in proofs/WholeRun.antt: what is handed over to be written is the text of the lines of the input, however
--- it was cut, from any record and buffers; and the counts of differences and of lines of another form are those of
--- the definition.
+-- Proved in proofs/WholeRun.antt: what is handed over to be written is the text of the lines of the input,
+-- however it was cut, from any record and buffers; and the counts of differences and of lines of another form
+-- are those of the definition.
 abbrev pub ReplayWholeRun : Type 0
 ReplayWholeRun = WholeRun replaying

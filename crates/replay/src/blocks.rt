@@ -1,15 +1,15 @@
-// A saved block: the record as little-endian numbers of 16 bits, then the files, the logs, the marks and a grant's old
-// bytes, as a caller holds them.
-use numbers::BUFFER_BYTES;
-use numbers::FILE_BYTES;
-use record::layout::NUMBERS;
-use record::layout::Record;
-use replay_lines::answering::Buffer;
-use replay_lines::answering::Undo;
+// A saved block: the record as little-endian numbers of 16 bits, then the files, the logs, the marks and a
+// grant's old bytes, as a caller holds them.
+use limits::BUFFER_BYTES;
+use limits::FILE_BYTES;
+use state::layout::STATE_LEN;
+use state::layout::State;
+use text_replay::answering::Buffer;
+use text_replay::answering::UndoLog;
 ghost use mathlib.Core.Path.{_≡_};
 ghost use Prim.Native.Nat.{_+_, _*_};
 ghost use lib.ListN.{length};
-ghost use Rattle.replay.specs.Blocks.{recordOf};
+ghost use Rattle.replay.specs.Blocks.{stateOfBlock};
 
 // The bytes of the record in a block.
 const RECORD_BYTES: usize = 4646;
@@ -22,13 +22,13 @@ fn word(low: u8, high: u8) -> u16
 }
 
 // Puts the numbers of a block into the record.
-fn put_numbers(kept: &mut [u16], bytes: &[u8])
-    requires { ⌜ (length (now kept) ≡ 2323) × (length (now bytes) ≡ 4646) ⌝ }
-    ensures { λ _. ⌜ now (kept .exit) ≡ recordOf (now (bytes .entry)) ⌝ }
+fn put_numbers(state: &mut [u16], bytes: &[u8])
+    requires { ⌜ (length (now state) ≡ 2323) × (length (now bytes) ≡ 4646) ⌝ }
+    ensures { λ _. ⌜ now (state .exit) ≡ stateOfBlock (now (bytes .entry)) ⌝ }
 {
     let mut i = 0;
-    while i < NUMBERS {
-        kept[i] = word(bytes[2 * i], bytes[2 * i + 1]);
+    while i < STATE_LEN {
+        state[i] = word(bytes[2 * i], bytes[2 * i + 1]);
         i += 1;
     }
 }
@@ -36,11 +36,11 @@ fn put_numbers(kept: &mut [u16], bytes: &[u8])
 // Reads a block from an open file: whether it has just the bytes of one.
 fn read_block(
     fd: i32,
-    kept: &mut Record,
+    state: &mut State,
     files: &mut Buffer,
     logs: &mut Buffer,
     marks: &mut Buffer,
-    undo: &mut Undo,
+    undo: &mut UndoLog,
 ) -> bool {
     let mut bytes = [0u8; RECORD_BYTES];
     let mut more = [0u8; 1];
@@ -50,26 +50,26 @@ fn read_block(
     let d = io::read_full(fd, marks);
     let e = io::read_full(fd, undo);
     let f = io::read_full(fd, &mut more);
-    put_numbers(kept, &bytes);
+    put_numbers(state, &bytes);
     let front = (a == RECORD_BYTES) & (b == BUFFER_BYTES) & (c == BUFFER_BYTES);
     front & (d == BUFFER_BYTES) & (e == FILE_BYTES) & (f == 0)
 }
 
 // Reads the block that the path names. Otherwise says so.
-pub fn load(
+pub fn load_block(
     path: &[u8],
-    kept: &mut Record,
+    state: &mut State,
     files: &mut Buffer,
     logs: &mut Buffer,
     marks: &mut Buffer,
-    undo: &mut Undo,
+    undo: &mut UndoLog,
 ) -> bool {
     let fd = os::open_read(path);
     if fd < 0 {
         crate::stdio::say_no_block(path);
         return false;
     }
-    let whole = read_block(fd, kept, files, logs, marks, undo);
+    let whole = read_block(fd, state, files, logs, marks, undo);
     libc::close(fd);
     if !whole {
         crate::stdio::say_no_block(path);

@@ -1,40 +1,41 @@
-// Replays a call log: reads its lines from standard input, performs the calls on a fresh store, or on a saved block that
-// the argument names, and prints a line for each to standard output. What differs from the log, lines of another form
-// and what fails are said on standard error. The memory is the same for an input of any size.
+// Replays a call log: reads its lines from standard input, performs the calls on a fresh store, or on a saved
+// block that the argument names, and prints a line for each to standard output. What differs from the log,
+// lines of another form and what fails are said on standard error. The memory is the same for an input of any
+// size.
 mod blocks;
 mod stdio;
 
-use calllog::LINE_BYTES;
-use numbers::BUFFER_BYTES;
-use numbers::FILE_BYTES;
-use octets::parts::part;
-use record::layout::NUMBERS;
-use record::layout::Record;
-use replay_lines::answering::Buffer;
-use replay_lines::answering::OUTPUT;
-use replay_lines::answering::Progress;
-use replay_lines::answering::Undo;
-use replay_lines::answering::WRITTEN;
-use replay_pieces::last_line;
-use replay_pieces::replay_piece;
+use buffers::parts::part;
+use limits::BUFFER_BYTES;
+use limits::FILE_BYTES;
+use state::layout::STATE_LEN;
+use state::layout::State;
+use text_log::LOG_LINE_BYTES;
+use text_replay::answering::Buffer;
+use text_replay::answering::OUTPUT;
+use text_replay::answering::ReplayProgress;
+use text_replay::answering::UndoLog;
+use text_replay::answering::WRITTEN;
+use text_replay_pieces::last_line;
+use text_replay_pieces::replay_piece;
 ghost use mathlib.Core.Path.{_≡_};
 ghost use mathlib.Core.Bool.{true, false};
 ghost use mathlib.Core.List.{[]};
 ghost use Prim.Native.Nat.{ℕ, _≤_, _<_};
 ghost use lib.ListN.{length, take};
-ghost use Rattle.calllog.specs.Replaying.{replaying, keptFirst};
-ghost use Rattle.lines.specs.Programs.{atEnd, within};
-ghost use Rattle.lines.specs.WholeRun.{Ran};
-ghost use Rattle.replay_lines.specs.Bounds.{Rooms};
-ghost use Rattle.replay_lines.specs.Turns.{keptIn};
-ghost use Rattle.rules.specs.Promises.{handed, handedBack, machineOf};
-ghost use Rattle.replay_pieces.specs.Bounds.{Resting};
+ghost use Rattle.text_log.specs.Replay.{replaying, keptFirst};
+ghost use Rattle.text_lines.specs.Programs.{atEnd, within};
+ghost use Rattle.text_lines.specs.WholeRun.{LinesLead};
+ghost use Rattle.text_replay.specs.Bounds.{Rooms};
+ghost use Rattle.text_replay.specs.Turns.{replayStateIn};
+ghost use Rattle.spec.specs.Promises.{handed, handedBack, machineOf};
+ghost use Rattle.text_replay_pieces.specs.Bounds.{Resting};
 ghost use Rattle.replay.specs.Bounds.{Flushed};
-ghost use Rattle.replay.specs.WholeRun.{ReachedFrom, Ends};
+ghost use Rattle.replay.specs.WholeRun.{ReachedFrom, RunEnds};
 
-// Writes what waits, and counts its lines. A write that fails is said, and ends the run. No contract can say what is
-// written: the theorem of a whole run binds what is handed over here.
-fn flush(mut p: Progress, out: &[u8]) -> Progress
+// Writes what waits, and counts its lines. A write that fails is said, and ends the run. No contract can say
+// what is written: the theorem of a whole run binds what is handed over here.
+fn flush(mut p: ReplayProgress, out: &[u8]) -> ReplayProgress
     requires { ⌜ p .waiting ≤ length (now out) ⌝ }
     ensures { λ r. ⌜ Flushed p r ⌝ }
 {
@@ -51,30 +52,30 @@ fn flush(mut p: Progress, out: &[u8]) -> Progress
 
 // Performs the lines that end in the piece, and holds the rest.
 fn take_piece(
-    mut p: Progress,
-    kept: &mut Record,
+    mut p: ReplayProgress,
+    state: &mut State,
     files: &mut Buffer,
     logs: &mut Buffer,
     marks: &mut Buffer,
-    undo: &mut Undo,
+    undo: &mut UndoLog,
     line: &mut [u8],
     bytes: &mut [u8],
     reader: &mut [u8],
     piece: &[u8],
     out: &mut [u8],
-) -> Progress
+) -> ReplayProgress
     requires { ⌜ Resting p × ((length (now line) ≡ 8238) × Rooms (now bytes) (now reader) (now out)) ⌝ }
     ensures { λ r. ⌜ Resting r × (r .goes ≡ true
-        → atEnd replaying (within (keptIn p (handed kept files logs marks undo) (now (out .entry)))
+        → atEnd replaying (within (replayStateIn p (handed state files logs marks undo) (now (out .entry)))
         (take (p .held) (now (line .entry))) (now (piece .entry)))
-        ≡ within (keptIn r (handedBack kept files logs marks undo) (now (out .exit)))
+        ≡ within (replayStateIn r (handedBack state files logs marks undo) (now (out .exit)))
         (take (r .held) (now (line .exit))) []) ⌝ }
 {
     p.at = 0;
     while p.at < piece.len() {
         let q = replay_piece(
             p,
-            kept,
+            state,
             files,
             logs,
             marks,
@@ -93,33 +94,33 @@ fn take_piece(
     p
 }
 
-// Reads a piece and performs its lines; at the end of the input the last one. Another version ends the run as the end
-// of the input does.
+// Reads a piece and performs its lines; at the end of the input the last one. Another version ends the run as
+// the end of the input does.
 fn turn(
-    mut p: Progress,
-    kept: &mut Record,
+    mut p: ReplayProgress,
+    state: &mut State,
     files: &mut Buffer,
     logs: &mut Buffer,
     marks: &mut Buffer,
-    undo: &mut Undo,
+    undo: &mut UndoLog,
     line: &mut [u8],
     bytes: &mut [u8],
     reader: &mut [u8],
     input: &mut [u8],
     out: &mut [u8],
-) -> Progress
+) -> ReplayProgress
     requires { ⌜ Resting p × ((length (now line) ≡ 8238) × (Rooms (now bytes) (now reader) (now out)
-        × ReachedFrom (within (keptIn p (machineOf (now kept) (now files) (now logs) (now marks) (now undo)) (now out))
+        × ReachedFrom (within (replayStateIn p (machineOf (now state) (now files) (now logs) (now marks) (now undo)) (now out))
         (take (p .held) (now line)) []))) ⌝ }
     ensures { λ r. ⌜ Resting r × (r .goes ≡ true → (n : ℕ)
-        × (atEnd replaying (within (keptIn p (handed kept files logs marks undo) (now (out .entry)))
+        × (atEnd replaying (within (replayStateIn p (handed state files logs marks undo) (now (out .entry)))
         (take (p .held) (now (line .entry))) (take n (now (input .exit))))
-        ≡ within (keptIn r (handedBack kept files logs marks undo) (now (out .exit)))
+        ≡ within (replayStateIn r (handedBack state files logs marks undo) (now (out .exit)))
         (take (r .held) (now (line .exit))) []))
         × (r .complete ≡ true → (n : ℕ)
-        × Ends (within (keptIn p (handed kept files logs marks undo) (now (out .entry)))
+        × RunEnds (within (replayStateIn p (handed state files logs marks undo) (now (out .entry)))
         (take (p .held) (now (line .entry))) (take n (now (input .exit))))
-        (keptIn r (handedBack kept files logs marks undo) (now (out .exit)))) ⌝ }
+        (replayStateIn r (handedBack state files logs marks undo) (now (out .exit)))) ⌝ }
 {
     p.complete = false;
     let got = stdio::read_piece(input);
@@ -127,7 +128,7 @@ fn turn(
         let n = io::count(got, input);
         let mut q = take_piece(
             p,
-            kept,
+            state,
             files,
             logs,
             marks,
@@ -145,7 +146,7 @@ fn turn(
         return q;
     }
     if got == 0 {
-        let q = last_line(p, kept, files, logs, marks, undo, line, bytes, reader, out);
+        let q = last_line(p, state, files, logs, marks, undo, line, bytes, reader, out);
         p = flush(q, out);
         p.complete = p.goes;
         p.goes = false;
@@ -168,7 +169,7 @@ fn turns_left(turns: u64, goes: bool) -> u64
 }
 
 // Says what the run came to, where that is worth a sentence.
-fn tell(p: Progress) {
+fn tell(p: ReplayProgress) {
     if p.ended {
         stdio::say_version(p.version as u64, p.lines);
     }
@@ -183,24 +184,25 @@ fn tell(p: Progress) {
     }
 }
 
-// Performs the whole input. Nothing says that it ends, so the turns are counted down from a number that no run uses up.
+// Performs the whole input. Nothing says that it ends, so the turns are counted down from a number that no
+// run uses up.
 fn run(
-    kept: &mut Record,
+    state: &mut State,
     files: &mut Buffer,
     logs: &mut Buffer,
     marks: &mut Buffer,
-    undo: &mut Undo,
+    undo: &mut UndoLog,
     line: &mut [u8],
     bytes: &mut [u8],
     reader: &mut [u8],
     input: &mut [u8],
     out: &mut [u8],
-) -> Progress
+) -> ReplayProgress
     requires { ⌜ (length (now line) ≡ 8238) × Rooms (now bytes) (now reader) (now out) ⌝ }
-    ensures { λ r. ⌜ (r .complete ≡ true → Ran replaying (keptFirst (handed kept files logs marks undo))
-        (keptIn r (handedBack kept files logs marks undo) (now (out .exit)))) ⌝ }
+    ensures { λ r. ⌜ (r .complete ≡ true → LinesLead replaying (keptFirst (handed state files logs marks undo))
+        (replayStateIn r (handedBack state files logs marks undo) (now (out .exit)))) ⌝ }
 {
-    let mut p = Progress {
+    let mut p = ReplayProgress {
         held: 0,
         at: 0,
         waiting: 0,
@@ -222,7 +224,7 @@ fn run(
     while 0 < turns {
         p = turn(
             p,
-            kept,
+            state,
             files,
             logs,
             marks,
@@ -239,28 +241,28 @@ fn run(
 }
 
 // Makes the store fresh, descriptor d in file d mod 8.
-fn start(kept: &mut Record, files: &mut Buffer, logs: &Buffer, marks: &mut Buffer, undo: &Undo) {
+fn start(state: &mut State, files: &mut Buffer, logs: &Buffer, marks: &mut Buffer, undo: &UndoLog) {
     let list = [0u8, 1, 2, 3, 4, 5, 6, 7, 0, 1, 2, 3, 4, 5, 6, 7];
-    store::fresh(kept, files, logs, marks, undo, &list);
+    store::fresh(state, files, logs, marks, undo, &list);
 }
 
 // Makes the store fresh, or reads the block that the argument names: whether there is a store.
 fn prepare(
-    kept: &mut Record,
+    state: &mut State,
     files: &mut Buffer,
     logs: &mut Buffer,
     marks: &mut Buffer,
-    undo: &mut Undo,
+    undo: &mut UndoLog,
 ) -> bool {
     if os::arg_count() < 2 {
-        start(kept, files, logs, marks, undo);
+        start(state, files, logs, marks, undo);
         return true;
     }
     let mut path = io::buffer();
     let n = os::arg(1, &mut path);
-    blocks::load(
-        part(&path, 0, numbers::smaller(n, 4096)),
-        kept,
+    blocks::load_block(
+        part(&path, 0, limits::smaller(n, 4096)),
+        state,
         files,
         logs,
         marks,
@@ -274,21 +276,21 @@ fn main() {
         stdio::say_use();
         return;
     }
-    let mut kept = [0u16; NUMBERS];
+    let mut state = [0u16; STATE_LEN];
     let mut files = [0u8; BUFFER_BYTES];
     let mut logs = [0u8; BUFFER_BYTES];
     let mut marks = [0u8; BUFFER_BYTES];
     let mut undo = [0u8; FILE_BYTES];
-    if !prepare(&mut kept, &mut files, &mut logs, &mut marks, &mut undo) {
+    if !prepare(&mut state, &mut files, &mut logs, &mut marks, &mut undo) {
         return;
     }
-    let mut line = [0u8; LINE_BYTES];
+    let mut line = [0u8; LOG_LINE_BYTES];
     let mut bytes = [0u8; WRITTEN];
     let mut reader = [0u8; WRITTEN];
     let mut out = [0u8; OUTPUT];
     let mut input = io::large_buffer();
     let p = run(
-        &mut kept,
+        &mut state,
         &mut files,
         &mut logs,
         &mut marks,

@@ -18,8 +18,8 @@ fn is_worth_another() -> bool {
     true
 }
 
-// Reads from standard input: what libc::read answers, which is tried again while it would block. The tries are counted
-// down from a number that no run uses up.
+// Reads from standard input: what libc::read answers, which is tried again while it would block. The tries
+// are counted down from a number that no run uses up.
 pub fn read_piece(input: &mut [u8]) -> isize {
     let mut tries = u64::MAX;
     while 0 < tries {
@@ -43,8 +43,8 @@ fn write_some(bytes: &[u8]) -> usize
     io::count(got, bytes)
 }
 
-// Writes to standard output, and tries again while it would block: how many of the bytes it took, not all where a write
-// failed.
+// Writes to standard output, and tries again while it would block: how many of the bytes it took, not all
+// where a write failed.
 pub fn write_out(bytes: &[u8]) -> usize
     ensures { λ r. ⌜ r ≤ length (now (bytes .entry)) ⌝ }
 {

@@ -2,9 +2,9 @@
 use mathlib.Core.List.{List}
 use mathlib.Core.Path.{_≡_}
 use Prim.Native.Nat.{ℕ}
-use Rattle.record.specs.declared.outcomes.Outcome.{Outcome}
+use Rattle.state.specs.declared.outcomes.Outcome.{Outcome}
 use Rattle.requests.specs.declared.Request.{Request}
-use Rattle.rules.specs.Machine.{Machine}
+use Rattle.spec.specs.Machine.{Machine}
 use Rattle.requests.specs.Performing.{Performs}
 
 pub performs-as : (q p : Request) (bytes reader : List ℕ) (m : Machine) (o : Outcome) (m′ : Machine) (reader′ : List ℕ)

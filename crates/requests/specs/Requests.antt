@@ -1,9 +1,11 @@
 -- The calls that requests stand for.
 use mathlib.Core.List.{List}
 use Prim.Native.Nat.{ℕ}
-use Rattle.rules.specs.Messages.{Call, begin, on, commit, abort, places, setWindow, takeBack, seek, write, getFilePointer, read}
+use Rattle.spec.specs.Messages.{Call, begin, on, commit, abort, places, setWindow, undoCommit, seek, write}
+use Rattle.spec.specs.Messages.{getFilePointer, read}
 use Rattle.requests.specs.declared.Request.{Request}
-use Rattle.requests.specs.declared.Request.the-variants.{Begin, Seek, Write, GetFilePointer, Read, Places, Commit, Abort, SetWindow, TakeBack}
+use Rattle.requests.specs.declared.Request.the-variants.{Begin, Seek, Write, GetFilePointer, Read}
+use Rattle.requests.specs.declared.Request.the-variants.{Places, Commit, Abort, SetWindow, UndoCommit}
 
 -- The call of a request, with the bytes of a Write and the buffer for an answer.
 unfoldable pub callOf : Request → List ℕ → List ℕ → Call
@@ -16,4 +18,4 @@ callOf (Places t f) bytes reader = places t f reader
 callOf (Commit t minute) bytes reader = commit t minute
 callOf (Abort t) bytes reader = abort t
 callOf (SetWindow f start end) bytes reader = setWindow f start end
-callOf TakeBack bytes reader = takeBack
+callOf UndoCommit bytes reader = undoCommit

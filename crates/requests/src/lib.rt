@@ -1,11 +1,11 @@
 // Calls as data, and how one is performed on the store.
-use record::layout::Record;
-use record::outcomes::Outcome;
+use state::layout::State;
+use state::outcomes::Outcome;
 ghost use Rattle.requests.specs.Performing.{Performed};
 
-// A call: its kind with its numbers. Each but the last two names its transaction, then its descriptor (Places its
-// file); last stands Seek's offset, Read's count or Commit's minute. SetWindow names its file, then start and end. A
-// Write's bytes and the buffer for an answer are lent beside it.
+// A call: its kind with its numbers. Each but the last two names its transaction, then its descriptor (Places
+// its file); last stands Seek's offset, Read's count or Commit's minute. SetWindow names its file, then start
+// and end. A Write's bytes and the buffer for an answer are lent beside it.
 pub enum Request {
     Begin(usize),
     Seek(usize, usize, usize),
@@ -16,29 +16,29 @@ pub enum Request {
     Commit(usize, usize),
     Abort(usize),
     SetWindow(usize, usize, usize),
-    TakeBack,
+    UndoCommit,
 }
 
-// Performs the call of the request. A Write takes its bytes from `bytes`, Read and Places answer in `reader`; the
-// others use neither.
+// Performs the call of the request. A Write takes its bytes from `bytes`, Read and Places answer in `reader`;
+// the others use neither.
 pub fn perform(
-    kept: &mut Record,
+    state: &mut State,
     files: &mut [u8],
     logs: &mut [u8],
     marks: &mut [u8],
     undo: &mut [u8],
-    q: Request,
+    request: Request,
     bytes: &[u8],
     reader: &mut [u8],
 ) -> Outcome
-    ensures { λ r. ⌜ Performed q (now (bytes .entry)) kept files logs marks undo r reader ⌝ }
+    ensures { λ r. ⌜ Performed request (now (bytes .entry)) state files logs marks undo r reader ⌝ }
 {
-    match q {
-        Request::Begin(t) => store::begin(kept, files, logs, marks, undo, t),
-        Request::Seek(t, d, v) => store::seek(kept, files, logs, marks, undo, t, d, v),
-        Request::Write(t, d) => store::write(kept, files, logs, marks, undo, t, d, bytes),
+    match request {
+        Request::Begin(t) => store::begin(state, files, logs, marks, undo, t),
+        Request::Seek(t, d, v) => store::seek(state, files, logs, marks, undo, t, d, v),
+        Request::Write(t, d) => store::write(state, files, logs, marks, undo, t, d, bytes),
         Request::GetFilePointer(t, d) => store::get_file_pointer(
-            kept,
+            state,
             files,
             logs,
             marks,
@@ -46,12 +46,12 @@ pub fn perform(
             t,
             d,
         ),
-        Request::Read(t, d, n) => store::read(kept, files, logs, marks, undo, t, d, n, reader),
-        Request::Places(t, f) => store::places(kept, files, logs, marks, undo, t, f, reader),
-        Request::Commit(t, minute) => store::commit(kept, files, logs, marks, undo, t, minute),
-        Request::Abort(t) => store::abort(kept, files, logs, marks, undo, t),
+        Request::Read(t, d, n) => store::read(state, files, logs, marks, undo, t, d, n, reader),
+        Request::Places(t, f) => store::places(state, files, logs, marks, undo, t, f, reader),
+        Request::Commit(t, minute) => store::commit(state, files, logs, marks, undo, t, minute),
+        Request::Abort(t) => store::abort(state, files, logs, marks, undo, t),
         Request::SetWindow(f, start, end) => store::set_window(
-            kept,
+            state,
             files,
             logs,
             marks,
@@ -60,6 +60,6 @@ pub fn perform(
             start,
             end,
         ),
-        Request::TakeBack => store::take_back(kept, files, logs, marks, undo),
+        Request::UndoCommit => store::undo_commit(state, files, logs, marks, undo),
     }
 }

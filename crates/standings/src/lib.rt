@@ -1,7 +1,10 @@
-// The standing of a descriptor in a transaction, and the table of standings: a method for each of its columns.
+// The standing of a descriptor in a transaction, and the table of standings: a method for each of its
+// columns.
 ghost use mathlib.Core.Path.{_≡_};
 ghost use Prim.Native.Nat.{_+_, _≤_};
-ghost use Rattle.standings.specs.Table.{afterSeek, afterWrite, afterRead, pointerSettles, readSettles, advance};
+ghost use Rattle.limits.specs.Limits.{fileBytes};
+ghost use Rattle.standings.specs.Table.{afterSeek, afterWrite, afterRead, pointerSettles, readSettles};
+ghost use Rattle.standings.specs.Table.{advance};
 ghost use Rattle.standings.specs.Table.{settled, offsetOf, writePlace, isTouched};
 ghost use Rattle.standings.specs.Table.{finalOffset, isKnown, mayWait};
 ghost use Rattle.standings.specs.Table.{placeNumber};
@@ -35,7 +38,7 @@ impl Standing {
     }
 
     pub fn after_write(self, n: u16) -> Standing
-        requires { ⌜ placeNumber (writePlace self) + n ≤ 4096 ⌝ }
+        requires { ⌜ placeNumber (writePlace self) + n ≤ fileBytes ⌝ }
         ensures { λ r. ⌜ r ≡ afterWrite n self ⌝ }
     {
         match self {
@@ -51,7 +54,7 @@ impl Standing {
     }
 
     pub fn after_read(self, n: u16) -> Standing
-        requires { ⌜ offsetOf self + n ≤ 4096 ⌝ }
+        requires { ⌜ offsetOf self + n ≤ fileBytes ⌝ }
         ensures { λ r. ⌜ r ≡ afterRead n self ⌝ }
     {
         match self {
@@ -68,7 +71,7 @@ impl Standing {
 
     // The standing settled at committed offset c.
     pub fn settled(self, c: u16) -> Standing
-        requires { ⌜ c + advance self ≤ 4096 ⌝ }
+        requires { ⌜ c + advance self ≤ fileBytes ⌝ }
         ensures { λ r. ⌜ r ≡ settled c self ⌝ }
     {
         match self {
@@ -158,7 +161,7 @@ impl Standing {
 
     // The offset that a commit sets, from committed offset c.
     pub fn final_offset(self, c: u16) -> u16
-        requires { ⌜ c + advance self ≤ 4096 ⌝ }
+        requires { ⌜ c + advance self ≤ fileBytes ⌝ }
         ensures { λ r. ⌜ r ≡ finalOffset c self ⌝ }
     {
         match self {

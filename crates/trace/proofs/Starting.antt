@@ -3,12 +3,12 @@ use mathlib.Core.List.{[]}
 use mathlib.Core.Path.{_≡_, refl, ap, ap₂, _∙_}
 use lib.ListN.{length}
 use Prim.Native.Nat.{ℕ}
-use Rattle.octets.specs.Parts.{tabulate}
-use Rattle.record.specs.Paper.{plain}
-use Rattle.ranges.specs.Below.{below, unless}
-use Rattle.ranges.specs.Ranges.{sized, sizesIn, admissionOfFresh}
-use Rattle.rules.specs.Machine.{Machine, sizes}
-use Rattle.rules.specs.Calls.{answerWith, passing, fresh, freshMachine}
+use Rattle.buffers.specs.Parts.{tabulate}
+use Rattle.state.specs.Outcomes.{doneAnswer}
+use Rattle.admission.specs.FirstRefusal.{below, unless}
+use Rattle.admission.specs.Admission.{sized, sizesIn, admissionOfFresh}
+use Rattle.spec.specs.Machine.{Machine, sizes}
+use Rattle.spec.specs.Calls.{answerWith, passing, fresh, freshMachine}
 use Rattle.trace.specs.Transcript.{modEight}
 
 passes : admissionOfFresh (sized 32768 32768 32768 4096) modEight ≡ 0
@@ -16,10 +16,10 @@ unfolding admissionOfFresh sizesIn modEight tabulate below unless
 passes = refl
 
 pub fresh-accepts : (m : Machine) → length (m .files) ≡ 32768 → length (m .logs) ≡ 32768 → length (m .marks) ≡ 32768
-    → length (m .undo) ≡ 4096 → fresh modEight m .reply .answer ≡ plain
+    → length (m .undo) ≡ 4096 → fresh modEight m .reply .answer ≡ doneAnswer
 unfolding fresh passing answerWith
 fresh-accepts m f l k u =
-    let next = answerWith plain (freshMachine modEight (m .logs) (m .undo)) in
+    let next = answerWith doneAnswer (freshMachine modEight (m .logs) (m .undo)) in
     let e : admissionOfFresh (sizes m) modEight ≡ 0 =
     ap₂ (λ (x y : ℕ). admissionOfFresh (sized x y (length (m .marks)) (length (m .undo))) modEight) f l
     ∙ ap₂ (λ (x y : ℕ). admissionOfFresh (sized 32768 32768 x y) modEight) k u

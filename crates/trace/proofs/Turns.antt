@@ -1,39 +1,39 @@
--- A line that was answered as `answered` promises was answered by its turn, and its text is the turn's. Assumes nothing.
+-- A line that was answered as `answer` promises was answered by its turn, and its text is the turn's. Assumes nothing.
 use mathlib.Core.List.{List, [], _∷_, _++_, append-nil}
 use mathlib.Core.Path.{_≡_, sym, ap, ap₂, _∙_}
 use lib.ListN.{length, take}
 use Prim.Native.Nat.{ℕ, _≤_}
 use Rattle.requests.specs.Performing.{Unanswered}
-use Rattle.grammar.specs.Grammar.{Line, another, asks, parsed}
-use Rattle.numerals.specs.Put.{Put}
-use Rattle.numerals.proofs.PutLaws.{put-text}
-use Rattle.printing.specs.Printed.{printed}
-use Rattle.record.specs.Paper.{Said, said}
-use Rattle.record.specs.declared.outcomes.Outcome.{Outcome}
+use Rattle.text_trace.specs.Grammar.{Line, another, asks, parsed}
+use Rattle.text_numerals.specs.Put.{Put}
+use Rattle.text_numerals.proofs.PutLaws.{put-text}
+use Rattle.text_answers.specs.Printed.{printed}
+use Rattle.state.specs.Outcomes.{Said, said}
+use Rattle.state.specs.declared.outcomes.Outcome.{Outcome}
 use Rattle.requests.specs.declared.Request.{Request}
 use Rattle.requests.specs.declared.Request.the-variants.{Begin, Seek, Write, GetFilePointer, Read, Places}
-use Rattle.requests.specs.declared.Request.the-variants.{Commit, Abort, SetWindow, TakeBack}
+use Rattle.requests.specs.declared.Request.the-variants.{Commit, Abort, SetWindow, UndoCommit}
 use Rattle.requests.specs.Requests.{callOf}
-use Rattle.rules.specs.Messages.{Reply, bufferOf, bufferOfCall}
-use Rattle.rules.specs.Machine.{Machine}
+use Rattle.spec.specs.Messages.{Reply, bufferOf, bufferOfCall}
+use Rattle.spec.specs.Machine.{Machine}
 use Rattle.trace.specs.Answers.{AnswersTo, Answers}
-use Rattle.lines.specs.Programs.{transcript, keptAfter, Answered}
-use Rattle.trace.specs.Transcript.{readerAfter, Kept, LineTurn, lineTurn, storeTrace}
-use Rattle.rules.specs.Calls.{storeAnswers}
+use Rattle.text_lines.specs.Programs.{transcript, stateAfter, Answered}
+use Rattle.trace.specs.Transcript.{readerAfterLine, TraceState, LineTurn, lineTurn, storeTrace}
+use Rattle.spec.specs.Calls.{storeAnswers}
 
 record Same (t : LineTurn Machine) (o : Outcome) (m′ : Machine) (reader′ : List ℕ) : Type 0 where
-  after : _≡_ {A = Kept Machine} (record { machine = m′; reader = reader′ }) (t .after)
+  after : _≡_ {A = TraceState Machine} (record { machine = m′; reader = reader′ }) (t .after)
   reply : _≡_ {A = Reply} (record { answer = said o; buffer = reader′ }) (t .reply)
 
-abbrev pub keptIn : Machine → List ℕ → Kept Machine
-keptIn m reader = record { machine = m; reader = reader }
+abbrev pub traceStateIn : Machine → List ℕ → TraceState Machine
+traceStateIn m reader = record { machine = m; reader = reader }
 
 abbrev replyIn : Said → List ℕ → Reply
 replyIn a buffer = record { answer = a; buffer = buffer }
 
 read-left : (q : Request) (bytes reader reader′ w : List ℕ) → Unanswered q reader reader′
-    → bufferOfCall (callOf q bytes reader′) ≡ w → reader′ ≡ readerAfter q reader w
-unfolding Unanswered callOf bufferOfCall bufferOf readerAfter
+    → bufferOfCall (callOf q bytes reader′) ≡ w → reader′ ≡ readerAfterLine q reader w
+unfolding Unanswered callOf bufferOfCall bufferOf readerAfterLine
 read-left (Begin t) bytes reader reader′ w l e = l
 read-left (Seek t d v) bytes reader reader′ w l e = l
 read-left (Write t d) bytes reader reader′ w l e = l
@@ -43,25 +43,28 @@ read-left (Places t f) bytes reader reader′ w l e = e
 read-left (Commit t minute) bytes reader reader′ w l e = l
 read-left (Abort t) bytes reader reader′ w l e = l
 read-left (SetWindow f start end) bytes reader reader′ w l e = l
-read-left TakeBack bytes reader reader′ w l e = l
+read-left UndoCommit bytes reader reader′ w l e = l
 
 same-turn : (l : Line) (m : Machine) (reader : List ℕ) (o : Outcome) (m′ : Machine) (reader′ : List ℕ)
-    → AnswersTo l reader m o m′ reader′ → Same (lineTurn storeAnswers l (keptIn m reader)) o m′ reader′
+    → AnswersTo l reader m o m′ reader′ → Same (lineTurn storeAnswers l (traceStateIn m reader)) o m′ reader′
 unfolding AnswersTo lineTurn
-same-turn another m reader o m′ reader′ h = record { after = ap₂ keptIn (h .1 .0) (h .1 .1); reply = ap₂ replyIn (h .0) (h .1 .1) }
+same-turn another m reader o m′ reader′ h = record {
+  after = ap₂ traceStateIn (h .1 .0) (h .1 .1);
+  reply = ap₂ replyIn (h .0) (h .1 .1);
+}
 same-turn (asks q bytes) m reader o m′ reader′ h =
     let e = read-left q bytes reader reader′ _ (h .unanswered) (h .meets .reader) in
-    record { after = ap₂ keptIn (h .meets .machine) e; reply = ap₂ replyIn (h .meets .outcome) e }
+    record { after = ap₂ traceStateIn (h .meets .machine) e; reply = ap₂ replyIn (h .meets .outcome) e }
 
-pub told-line : (line reader : List ℕ) (m : Machine) (o : Outcome) (m′ : Machine) (reader′ : List ℕ)
+pub answer-line : (line reader : List ℕ) (m : Machine) (o : Outcome) (m′ : Machine) (reader′ : List ℕ)
     → (before : List ℕ) (at : ℕ) (after : List ℕ) (next : ℕ) → Answers line reader m o m′ reader′
     → Put before at (printed (record { answer = said o; buffer = reader′ })) after next
     → at ≤ length before
-    → Answered storeTrace (line ∷ []) (keptIn m reader) (take at before) (keptIn m′ reader′) (take next after)
-unfolding transcript keptAfter
-told-line line reader m o m′ reader′ before at after next a p h =
+    → Answered storeTrace (line ∷ []) (traceStateIn m reader) (take at before) (traceStateIn m′ reader′) (take next after)
+unfolding transcript stateAfter
+answer-line line reader m o m′ reader′ before at after next a p h =
     let s = same-turn (parsed line) m reader o m′ reader′ a in
-    let t = lineTurn storeAnswers (parsed line) (keptIn m reader) in
+    let t = lineTurn storeAnswers (parsed line) (traceStateIn m reader) in
     record {
       says =
           put-text before at (printed (replyIn (said o) reader′)) after next h p

@@ -3,27 +3,27 @@ use mathlib.Core.List.{List, [], _∷_, _++_}
 use mathlib.Core.Path.{_≡_, refl, sym, ap, _∙_}
 use lib.ListN.{getD}
 use Prim.Native.Nat.{ℕ}
-use Rattle.grammar.specs.Grammar.{Line, another, asks, parsed}
-use Rattle.lines.specs.Lines.{linesOf}
-use Rattle.lines.specs.Programs.{transcript}
-use Rattle.lines.specs.WholeRun.{inputOf}
-use Rattle.lines.proofs.WholeRun.{whole-run as whole-lines}
-use Rattle.printing.specs.Printed.{printed}
-use Rattle.record.specs.Paper.{refused}
+use Rattle.text_trace.specs.Grammar.{Line, another, asks, parsed}
+use Rattle.text_lines.specs.Lines.{linesOf}
+use Rattle.text_lines.specs.Programs.{transcript}
+use Rattle.text_lines.specs.WholeRun.{inputOf}
+use Rattle.text_lines.proofs.WholeRun.{whole-run as whole-lines}
+use Rattle.text_answers.specs.Printed.{printed}
+use Rattle.state.specs.Outcomes.{refused}
 use Rattle.requests.specs.Requests.{callOf}
-use Rattle.rules.specs.Messages.{Call, Reply, afterAll, repliesTo}
-use Rattle.rules.specs.Machine.{Machine}
-use Rattle.rules.specs.Calls.{call, callsAfter, callsReplies}
-use Rattle.rules.specs.Plain.{Plain, freshPlain, plainCall, plainAfter, plainReplies}
-use Rattle.rules.specs.Demand3OfStore.{FreshlyMade}
-use Rattle.rules.proofs.Demand3.Theorem.{demand3}
-use Rattle.trace.specs.Transcript.{modEight, readerAfter, Kept, LineTurn}
-use Rattle.rules.specs.Messages.{Answering}
-use Rattle.rules.specs.Calls.{storeAnswers}
-use Rattle.rules.specs.Plain.{plainAnswers}
+use Rattle.spec.specs.Messages.{Call, Reply, afterAll, repliesTo}
+use Rattle.spec.specs.Machine.{Machine}
+use Rattle.spec.specs.Calls.{call, callsAfter, callsReplies}
+use Rattle.spec.specs.Plain.{Plain, freshPlain, plainCall, plainAfter, plainReplies}
+use Rattle.spec.specs.SerializabilityOfStore.{FreshlyMade}
+use Rattle.spec.proofs.Theorems.Serializability.{serializability}
+use Rattle.trace.specs.Transcript.{modEight, readerAfterLine, TraceState, LineTurn}
+use Rattle.spec.specs.Messages.{Answering}
+use Rattle.spec.specs.Calls.{storeAnswers}
+use Rattle.spec.specs.Plain.{plainAnswers}
 use Rattle.trace.specs.Transcript.{lineTurn, tracing, storeTrace}
-use Rattle.trace.specs.WholeRun.{WholeRun}
-use Rattle.trace.proofs.Kept.{kept-is-enough}
+use Rattle.trace.specs.WholeRun.{TraceWholeRun}
+use Rattle.trace.proofs.TruncatedLines.{trace-truncated-is-enough}
 
 lastReply : Reply → List Reply → Reply
 lastReply r [] = r
@@ -60,13 +60,13 @@ module _ (m₀ : Machine) (made : FreshlyMade modEight m₀) where
   same-reply cs c =
       let r = call c m₀ .reply in
       sym (store-last cs c m₀ r)
-      ∙ ap (lastReply r) (demand3 modEight m₀ made (cs ++ (c ∷ [])) .replies)
+      ∙ ap (lastReply r) (serializability modEight m₀ made (cs ++ (c ∷ [])) .replies)
       ∙ plain-last cs c p₀ r
 
-  abbrev onStore : List Call → List ℕ → Kept Machine
+  abbrev onStore : List Call → List ℕ → TraceState Machine
   onStore cs reader = record { machine = callsAfter cs m₀; reader = reader }
 
-  abbrev onPlain : List Call → List ℕ → Kept Plain
+  abbrev onPlain : List Call → List ℕ → TraceState Plain
   onPlain cs reader = record { machine = plainAfter cs p₀; reader = reader }
 
   -- after the same calls, the same lines have the same text
@@ -82,25 +82,30 @@ module _ (m₀ : Machine) (made : FreshlyMade modEight m₀) where
       → text-by storeAnswers ls (lineTurn storeAnswers l (onStore cs reader))
       ≡ text-by plainAnswers ls (lineTurn plainAnswers l (onPlain cs reader))
   unfolding lineTurn text-by
-  same-line another ls more cs reader = ap (λ (x : List ℕ). printed (record { answer = refused 17; buffer = reader }) ++ x) (more cs reader)
+  same-line another ls more cs reader = ap (λ (x : List ℕ). printed (record { answer = refused 17; buffer = reader }) ++ x)
+      (more cs reader)
   same-line (asks q bytes) ls more cs reader =
       let c = callOf q bytes reader in
       let s = call c (callsAfter cs m₀) .reply in
       let after = plainCall c (plainAfter cs p₀) .after in
-      let left : Reply → List ℕ = λ r. readerAfter q reader (r .buffer) in
+      let left : Reply → List ℕ = λ r. readerAfterLine q reader (r .buffer) in
       let shown : Reply → List ℕ = λ r. printed (record { answer = r .answer; buffer = left r }) in
-      ap (λ (m : Machine). shown s ++ transcript storeTrace ls (record { machine = m; reader = left s })) (sym (store-more cs c m₀))
+      ap (λ (m : Machine). shown s ++ transcript storeTrace ls (record { machine = m; reader = left s }))
+      (sym (store-more cs c m₀))
       ∙ ap (λ (x : List ℕ). shown s ++ x) (more (cs ++ (c ∷ [])) (left s))
-      ∙ ap (λ (p : Plain). shown s ++ transcript (tracing plainAnswers) ls (record { machine = p; reader = left s })) (plain-more cs c p₀)
-      ∙ ap (λ (r : Reply). shown r ++ transcript (tracing plainAnswers) ls (record { machine = after; reader = left r })) (same-reply cs c)
+      ∙ ap (λ (p : Plain). shown s ++ transcript (tracing plainAnswers) ls (record { machine = p; reader = left s }))
+      (plain-more cs c p₀)
+      ∙ ap (λ (r : Reply). shown r ++ transcript (tracing plainAnswers) ls (record { machine = after; reader = left r }))
+      (same-reply cs c)
 
   same-text : (ls : List (List ℕ)) → SameText ls
   unfolding transcript text-by
   same-text [] cs reader = refl
   same-text (l ∷ ls) cs reader = same-line (parsed l) ls (same-text ls) cs reader
 
-pub whole-run : WholeRun
+pub whole-run : TraceWholeRun
 unfolding p₀ afterAll
 whole-run m made reader legs last k h =
-    let text = whole-lines storeTrace (kept-is-enough storeAnswers) (record { machine = m; reader = reader }) legs last k h .says in
+    let text = whole-lines storeTrace (trace-truncated-is-enough storeAnswers) (record { machine = m; reader = reader }) legs last
+    k h .says in
     record { onStore = text; onPlain = text ∙ same-text m made (linesOf (inputOf legs)) [] reader }

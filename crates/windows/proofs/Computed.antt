@@ -1,11 +1,11 @@
 -- The hours of specs/, computed.
 use mathlib.Core.Path.{refl}
-use Rattle.windows.specs.Hours.{minuteIn, isOpenAt}
-use Rattle.windows.specs.Examples.{Hours}
+use Rattle.windows.specs.Windows.{minuteIn, isOpenAt}
+use Rattle.windows.specs.Examples.{WindowExamples}
 
-hours : Hours
+window-examples : WindowExamples
 unfolding minuteIn isOpenAt
-hours =
+window-examples =
     record {
       minutes = (refl, refl);
       day = (refl, refl, refl, refl);

@@ -1,2 +1,2 @@
-pub mod Hours
+pub mod Windows
 pub mod Examples

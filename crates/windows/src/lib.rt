@@ -1,12 +1,10 @@
 // The hours in which a file may change.
+use limits::LAST_MINUTE;
 ghost use mathlib.Core.Path.{_≡_};
-ghost use Rattle.windows.specs.Hours.{minuteIn, isOpenAt};
+ghost use Rattle.windows.specs.Windows.{minuteIn, isOpenAt};
 
-// The last minute of a day.
-pub const LAST_MINUTE: u16 = 1439;
-
-// The window of a file: from minute start on, before minute end. A start above the end runs over midnight; equal ones
-// mean always open.
+// The window of a file: from minute start on, before minute end. A start above the end runs over midnight;
+// equal ones mean always open.
 pub struct Window {
     pub start: u16,
     pub end: u16,
@@ -19,8 +17,8 @@ pub fn minute_in(n: usize) -> bool
     n <= LAST_MINUTE as usize
 }
 
-// Whether the minute lies in the window. An equal start and end want no test: every minute is at that one or later, or
-// before it.
+// Whether the minute lies in the window. An equal start and end want no test: every minute is at that one or
+// later, or before it.
 pub fn is_open(w: Window, minute: u16) -> bool
     ensures { λ r. ⌜ r ≡ isOpenAt w minute ⌝ }
 {

@@ -240,7 +240,7 @@ fn without_room_on_a_forged_record() {
     }
     store.offsets[3] = 4000;
     store.transactions[0].standings[3] = Standing::Deferred(97);
-    assert_eq!(store.clone().commit(&mut buffers.lend(), 0, 0), Err(Refusal::SettledPastEnd));
+    assert_eq!(store.clone().commit(&mut buffers.lend(), 0, 0), Err(Refusal::AppendPastEnd));
     let best = store.best(&buffers.lend(), &[0, 1], 0, 1).expect("it is ready");
     assert_eq!((best.order(), best.grants, best.gap, best.tried), ([0, 1].as_slice(), 1, 1, 1));
     // One that moves the offset makes room for it.

@@ -7,10 +7,10 @@ use Rattle.bench_calls.proofs.bench_calls_committed.Statement.{statemen
 use Rattle.bench_calls.proofs.bench_calls_committed.Tie as tie
 
 abbrev Inv-loop : tie.InvT-loop
-Inv-loop kept out₀ i₀ out i = (i ≤ 24) × (length out ≡ length out₀)
+Inv-loop state out₀ i₀ out i = (i ≤ 24) × (length out ≡ length out₀)
 
 abbrev μ-loop : tie.MeasureT-loop
-μ-loop kept out₀ i₀ out i = 24 - i
+μ-loop state out₀ i₀ out i = 24 - i
 
 pub bench-calls-committed-spec : {M : Type 1} → statement M
 bench-calls-committed-spec =

@@ -7,12 +7,12 @@ use Rattle.bench_calls.proofs.bench_calls_dispatch.Statement.{statement
 use Rattle.bench_calls.proofs.bench_calls_dispatch.Tie as tie
 
 abbrev Inv-loop : tie.InvT-loop
-Inv-loop kept₀ files₀ logs₀ marks₀ undo₀ «data» reader₀ rounds scripts sum₀ i₀ kept files logs marks undo reader sum i =
+Inv-loop state₀ files₀ logs₀ marks₀ undo₀ «data» reader₀ rounds scripts sum₀ i₀ state files logs marks undo reader sum i =
     (i ≤ rounds) × (length files ≡ length files₀) × (length logs ≡ length logs₀) × (length marks ≡ length marks₀)
     × (length undo ≡ length undo₀) × (length reader ≡ length reader₀)
 
 abbrev μ-loop : tie.MeasureT-loop
-μ-loop kept₀ files₀ logs₀ marks₀ undo₀ «data» reader₀ rounds scripts sum₀ i₀ kept files logs marks undo reader sum i =
+μ-loop state₀ files₀ logs₀ marks₀ undo₀ «data» reader₀ rounds scripts sum₀ i₀ state files logs marks undo reader sum i =
     rounds - i
 
 pub bench-calls-dispatch-spec : {M : Type 1} → statement M

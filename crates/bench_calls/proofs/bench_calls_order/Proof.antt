@@ -5,10 +5,10 @@ use Rattle.bench_calls.proofs.bench_calls_order.Statement.{statement}
 use Rattle.bench_calls.proofs.bench_calls_order.Tie as tie
 
 abbrev Inv-loop : tie.InvT-loop
-Inv-loop kept files logs marks undo list budget rounds sum₀ i₀ sum i = i ≤ rounds
+Inv-loop state files logs marks undo list budget rounds sum₀ i₀ sum i = i ≤ rounds
 
 abbrev μ-loop : tie.MeasureT-loop
-μ-loop kept files logs marks undo list budget rounds sum₀ i₀ sum i = rounds - i
+μ-loop state files logs marks undo list budget rounds sum₀ i₀ sum i = rounds - i
 
 pub bench-calls-order-spec : {M : Type 1} → statement M
 bench-calls-order-spec =

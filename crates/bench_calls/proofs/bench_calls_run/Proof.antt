@@ -6,13 +6,15 @@ use Rattle.bench_calls.proofs.bench_calls_run.Statement.{statement}
 use Rattle.bench_calls.proofs.bench_calls_run.Tie as tie
 
 abbrev Inv-loop : tie.InvT-loop
-Inv-loop kept₀ files₀ logs₀ marks₀ undo₀ script «data» reader₀ said₀ stamps₀ rounds sum₀ i₀ kept files logs marks undo reader said
+Inv-loop state₀ files₀ logs₀ marks₀ undo₀ script «data» reader₀ said₀ stamps₀ rounds sum₀ i₀ state files logs marks undo reader
+    said
     stamps sum i =
     (i ≤ rounds) × (length files ≡ length files₀) × (length logs ≡ length logs₀) × (length marks ≡ length marks₀)
-    × (length undo ≡ length undo₀) × (length reader ≡ length reader₀) × (length said ≡ length said₀) × (length stamps ≡ length stamps₀)
+    × (length undo ≡ length undo₀) × (length reader ≡ length reader₀) × (length said ≡ length said₀)
+    × (length stamps ≡ length stamps₀)
 
 abbrev μ-loop : tie.MeasureT-loop
-μ-loop kept₀ files₀ logs₀ marks₀ undo₀ script «data» reader₀ said₀ stamps₀ rounds sum₀ i₀ kept files logs marks undo reader said
+μ-loop state₀ files₀ logs₀ marks₀ undo₀ script «data» reader₀ said₀ stamps₀ rounds sum₀ i₀ state files logs marks undo reader said
     stamps sum i =
     rounds - i
 

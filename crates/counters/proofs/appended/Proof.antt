@@ -1,8 +1,10 @@
--- `counters::appended`, the one lender, meets its contract: a walk of its MIR, by hand. All that it knows of `append` is that it meets its contract.
--- The loan follows the logic's Denote/Examples/Nested/Bounded/Caller.antt, with `lends-ref` and `ref-back` of Denote/Lend.antt; the call
+-- `counters::appended`, the one lender, meets its contract: a walk of its MIR, by hand. All that it knows of `append` is that it
+-- meets its contract.
+-- The loan follows the logic's Denote/Examples/Nested/Bounded/Caller.antt, with `lends-ref` and `ref-back` of Denote/Lend.antt;
+-- the call
 -- follows `via` of examples/percent, and what the callee ensured of the last value `put_next` of examples/writer.
 --     1. enter, allocate the six locals, pass u and n; copy u into v; v's address into the reference's local
---     2. lend: v's cell and what its counters own make a `Used` in memory (`lay`), which is lent for a new lifetime ν, under a name δ
+-- 2. lend: v's cell and what its counters own make a `Used` in memory (`lay`), which is lent for a new lifetime ν, under a name δ
 --     3. call `append`, with ν's token and the reference
 --     4. what it ensured: v's last counters z, one more and n more than u's; its unit is stored
 --     5. take back: ν is ended, and v's cell is had again, at z (`lift`)
@@ -25,9 +27,11 @@ use prog.Wp.{Heap, Calls, Loops, WpFn, Tables}
 use ghost.Atoms.{Atoms, sem}
 use contract.Monad.{Fun, fact}
 use contract.Running.{givenOf, tables, tablesOf}
-use types.Kit.{Given, ‵, raw, _⊛_, some, later, _$_, _∵_, !, qed, by, move, keep, drop, use1, use2, use3, split, join, pick, fsplit, fjoin}
+use types.Kit.{Given, ‵, raw, _⊛_, some, later, _$_, _∵_, !, qed, by, move, keep, drop, use1, use2, use3, split, join, pick}
+use types.Kit.{fsplit, fjoin}
 use types.Kit.{fpick, fpack, suffices, frame, await, done}
-use types.Run.{look, init, forget, stop, from, addr, of-opd, and-then, no-more, assigns, land, returns, enter, alloc1, alloc0, params1}
+use types.Run.{look, init, forget, stop, from, addr, of-opd, and-then, no-more, assigns, land, returns, enter, alloc1, alloc0}
+use types.Run.{params1}
 use types.Run.{pass1, pass0, free1, free0}
 use types.SemTy.{Body}
 use types.Tokens.{lft-new, lft-end}
@@ -73,18 +77,23 @@ Append 𝓤 H A mem run = tripleOf 𝓤 H A append.signature (append.spec 𝓤 H
 
 -- a local's cell, beside what counters that fit own, is a `Used` in memory; and back
 module _ {M : Type 1} (𝓤 : URA M) (H : Heap 𝓤) (A : Atoms 𝓤) (W : Given 𝓤 H A) (h : Used) (l : ℕ) where
-  lay : Is T.the-row h (T′.lowered h ∷ []) → ent 𝓤 (H .at fullShare T′.mir l 0 (T′.lowered h)) (sem 𝓤 H A (partAt T.the-row fullShare h l 0))
+  lay : Is T.the-row h (T′.lowered h ∷ []) → ent 𝓤 (H .at fullShare T′.mir l 0 (T′.lowered h))
+      (sem 𝓤 H A (partAt T.the-row fullShare h l 0))
   unfolding partOf
-  lay is = qed W (‵ (fat fullShare T′.mir l 0 (T′.lowered h)) ∷ []) ∵ use1 W (‵ (cellAt fullShare (T.the-row .mir) (T′.lowered h ∷ []) l 0))
+  lay is = qed W (‵ (fat fullShare T′.mir l 0 (T′.lowered h)) ∷ []) ∵ use1 W
+      (‵ (cellAt fullShare (T.the-row .mir) (T′.lowered h ∷ []) l 0))
       (W .laws .at-raw fullShare T′.mir l 0 (T′.lowered h)) $
       owned ! T.the-row (Is T.the-row) ((LL.makes T.the-type T′.the-plain) 𝓤 H A) h _ is $ move ! (1 ∷ 0 ∷ []) $ fjoin ! $
-      fpack ! (List Val) (λ vs. fsep (cellAt fullShare (T.the-row .mir) vs l 0) (T.the-row .own h vs)) (T′.lowered h ∷ []) $ done !
+      fpack ! (List Val) (λ vs. fsep (cellAt fullShare (T.the-row .mir) vs l 0) (T.the-row .own h vs)) (T′.lowered h ∷ []) $ done
+      !
 
   lift : ent 𝓤 (sem 𝓤 H A (partAt T.the-row fullShare h l 0)) (H .at fullShare T′.mir l 0 (T′.lowered h))
   unfolding partOf
   lift = qed W (‵ (partAt T.the-row fullShare h l 0) ∷ []) ∵ fpick ! (λ vs. fsplit ! $
-      spelt ! T.the-row (Is T.the-row) (shows 𝓤 H A T.the-row) (LL.vals T.the-type T′.the-laws) (LL.tells T.the-type T′.the-laws) fullShare h vs l 0 $
-      use1 W (‵ (fat fullShare T′.mir l 0 (T′.lowered h))) (W .laws .raw-at fullShare T′.mir l 0 (T′.lowered h)) $ keep ! (0 ∷ []) $ done !)
+      spelt ! T.the-row (Is T.the-row) (shows 𝓤 H A T.the-row) (LL.vals T.the-type T′.the-laws) (LL.tells T.the-type T′.the-laws)
+      fullShare h vs l 0 $
+      use1 W (‵ (fat fullShare T′.mir l 0 (T′.lowered h))) (W .laws .raw-at fullShare T′.mir l 0 (T′.lowered h)) $ keep ! (0 ∷ [])
+      $ done !)
 
 module _ {M : Type 1} (𝓤 : URA M) (H : Heap 𝓤) (A : Atoms 𝓤) (W : Given 𝓤 H A) (at-mem : Memory → SProp 𝓤) (run : Routine → Fun 𝓤)
     (h : Used) (n : ℕ) (is : Is T.the-row h (T′.lowered h ∷ [])) (fn : n < 2 ^ 16) where
@@ -95,7 +104,8 @@ module _ {M : Type 1} (𝓤 : URA M) (H : Heap 𝓤) (A : Atoms 𝓤) (W : Given
   Post = walkOf 𝓤 H A appended.ended stayed (appended.clauses 𝓤 H A at-mem run) .post ((tt, tt, tt, (h, (n, tt)), at), tt)
 
   -- the exit, at counters r and k that are one more and n more
-  exits : (r k : ℕ) → r < 2 ^ 64 → k < 2 ^ 16 → r ≡ h .records + 1 → k ≡ h .bytes + n → ent 𝓤 (emp 𝓤) (Post (T′.lowered (used r k)))
+  exits : (r k : ℕ) → r < 2 ^ 64 → k < 2 ^ 16 → r ≡ h .records + 1 → k ≡ h .bytes + n
+      → ent 𝓤 (emp 𝓤) (Post (T′.lowered (used r k)))
   exits r k fr fk er ek =
       qed W [] ∵
       suffices ! _ (ends-at 𝓤 H A appended.ended stayed (appended.clauses 𝓤 H A at-mem run) W ((tt, tt, tt, (h, (n, tt)), at), tt)
@@ -114,31 +124,38 @@ module _ {M : Type 1} (𝓤 : URA M) (H : Heap 𝓤) (A : Atoms 𝓤) (W : Given
 
   -- what `append` asks: the token, the reference, n, and its `requires`
   goes : (ν l : ℕ) (δ : GName) → (h .records ≤ 64) × (h .bytes + n ≤ 4096)
-      → ent 𝓤 (sep 𝓤 (A .lft (ν ∷ []) fullShare) (sem 𝓤 H A (MutRef (named 0) (ν ∷ []) T.the-row .own (lent l δ) (vptr l 0 ∷ []))))
+      → ent 𝓤 (sep 𝓤 (A .lft (ν ∷ []) fullShare)
+      (sem 𝓤 H A (MutRef (named 0) (ν ∷ []) T.the-row .own (lent l δ) (vptr l 0 ∷ []))))
       (Append 𝓤 H A at-mem run .pre (to-append ν l δ))
   goes ν l δ ok =
-      qed W (‵ (flft (ν ∷ []) fullShare) ∷ ‵ (MutRef (named 0) (ν ∷ []) T.the-row .own (lent l δ) (vptr l 0 ∷ [])) ∷ []) ∵ says ! ok $
+      qed W (‵ (flft (ν ∷ []) fullShare) ∷ ‵ (MutRef (named 0) (ν ∷ []) T.the-row .own (lent l δ) (vptr l 0 ∷ [])) ∷ []) ∵ says !
+      ok $
       nothing ! $ move ! (1 ∷ 0 ∷ []) $ join ! $ frame ! $
       nothing ! $ owned ! u16 (Is u16) (uint-makes 𝓤 H A W w16) n _ (refl, fn) $ fjoin ! $ move ! (1 ∷ 0 ∷ []) $ fjoin ! $ done !
 
-  module _ (C : Calls 𝓤 H) (Λ : Loops 𝓤 H) (fm : FmC 𝓤 H (W .laws) C) (known : Triple 𝓤 (C #counters·append) (Append 𝓤 H A at-mem run)) where
+  module _ (C : Calls 𝓤 H) (Λ : Loops 𝓤 H) (fm : FmC 𝓤 H (W .laws) C)
+      (known : Triple 𝓤 (C #counters·append) (Append 𝓤 H A at-mem run)) where
     walk : Holds (hasTy T′.mir (T′.lowered h)) × WT (T′.lowered h) → (h .records ≤ 64) × (h .bytes + n ≤ 4096)
-        → ent 𝓤 (onEntry 𝓤 H A appended.signature tt tt (h, (n, tt)) at) (WpFn 𝓤 H C Λ code.function (T′.lowered h ∷ vint w16 n ∷ []) Post)
+        → ent 𝓤 (onEntry 𝓤 H A appended.signature tt tt (h, (n, tt)) at)
+        (WpFn 𝓤 H C Λ code.function (T′.lowered h ∷ vint w16 n ∷ []) Post)
     walk wt ok =
         -- 1. local i stands at 10 - 2 · i
         qed W (‵ ftrue ∷ ‵ (owns (T.the-row ∷ u16 ∷ []) (h, (n, tt)) at) ∷ []) ∵ enter ! C Λ code.function
         (T′.lowered h ∷ vint w16 n ∷ []) _ $
         alloc1 ! (λ l₀. alloc1 ! (λ l₁. alloc1 !
         (λ l₂. alloc1 ! (λ l₃. alloc1 !
-        (λ l₄. alloc1 ! (λ l₅. alloc0 ! $ params1 ! $ pass1 ! (init ! 8 refl wt) $ pass1 ! (init ! 6 refl (tt, record { fits = fn })) $ pass0 ! $
+        (λ l₄. alloc1 ! (λ l₅. alloc0 ! $ params1 ! $ pass1 ! (init ! 8 refl wt) $ pass1 !
+        (init ! 6 refl (tt, record { fits = fn })) $ pass0 ! $
         assigns ! (of-opd ! (operand ! 10 refl)) (from ! (stop !)) (init ! 4 refl wt) $
         assigns ! (addr ! (from ! (stop !))) (from ! (stop !)) (init ! 0 refl (tt, tt)) $
         -- 2. [what the reference owns; the lender's part; ν's token; _5; …; _4; …; _3's end; _2; …; _1; …; room for _0; …]
-        move ! (4 ∷ []) $ use1 W (‵ (partAt T.the-row fullShare h l₃ 0)) (lay 𝓤 H A W h l₃ is) $ lft-new ! tt (λ ν. move ! (1 ∷ []) $
+        move ! (4 ∷ []) $ use1 W (‵ (partAt T.the-row fullShare h l₃ 0)) (lay 𝓤 H A W h l₃ is) $ lft-new ! tt
+        (λ ν. move ! (1 ∷ []) $
         use1 W (later (some (λ (δ : GName). ‵ (MutRef (named 0) (ν ∷ []) T.the-row .own (lent l₃ δ) (vptr l₃ 0 ∷ [])) ⊛ ‵
         (flent (ν ∷ []) (Body (mem T.the-row) l₃ 0 δ)))))
         (lends-ref 𝓤 H A W T.the-row (named 0) (ν ∷ []) h l₃ 0) $ await ! tt $ pick ! (λ δ. split ! $
-        -- 3. [what `append` asks; _5; …; _4; …; the lender's part in v's place; …; _2; …; _1; …; room for _0; …]: local i stands at 11 - 2 · i
+        -- 3. [what `append` asks; _5; …; _4; …; the lender's part in v's place; …; _2; …; _1; …; room for _0; …]: local i stands
+        -- at 11 - 2 · i
         move ! (2 ∷ 0 ∷ []) $ use2 W (raw (Append 𝓤 H A at-mem run .pre (to-append ν l₃ δ))) (goes ν l₃ δ ok) $ move !
         (0 ∷ 2 ∷ 3 ∷ 4 ∷ 5 ∷ 1 ∷ []) $
         calls-at ! fm (Append 𝓤 H A at-mem run) known (to-append ν l₃ δ)
@@ -156,20 +173,25 @@ module _ {M : Type 1} (𝓤 : URA M) (H : Heap 𝓤) (A : Atoms 𝓤) (W : Given
         -- 5. the cell goes back to v's place: local i stands at 10 - 2 · i
         split ! $ lft-end ! tt $ move ! (0 ∷ 8 ∷ 2 ∷ []) $ use3 W (later (‵ (partAt T.the-row fullShare (z .0) l₃ 0)))
         (ref-back 𝓤 H A W T.the-row (ν ∷ []) δ (z .0) l₃ 0) $ await ! tt $
-        move ! (1 ∷ 2 ∷ []) $ drop ! $ drop ! $ use1 W (‵ (fat fullShare T′.mir l₃ 0 (T′.lowered (z .0)))) (lift 𝓤 H A W (z .0) l₃) $ move !
+        move ! (1 ∷ 2 ∷ []) $ drop ! $ drop ! $ use1 W (‵ (fat fullShare T′.mir l₃ 0 (T′.lowered (z .0))))
+        (lift 𝓤 H A W (z .0) l₃) $ move !
         (1 ∷ 2 ∷ 3 ∷ 4 ∷ 0 ∷ []) $
         -- 6.
-        assigns ! (of-opd ! (operand ! 10 refl)) (from ! (stop !)) (init ! 10 refl (tt, (record { fits = omega arith }, (record { fits = omega arith }, tt)))) $
-        returns ! (look ! 10 refl) $ forget ! 0 refl $ forget ! 2 refl $ forget ! 4 refl $ forget ! 6 refl $ forget ! 8 refl $ forget ! 10 refl $
+        assigns ! (of-opd ! (operand ! 10 refl)) (from ! (stop !))
+        (init ! 10 refl (tt, (record { fits = omega arith }, (record { fits = omega arith }, tt)))) $
+        returns ! (look ! 10 refl) $ forget ! 0 refl $ forget ! 2 refl $ forget ! 4 refl $ forget ! 6 refl $ forget ! 8 refl $
+        forget ! 10 refl $
         move ! (10 ∷ 11 ∷ []) $ free1 ! $ move ! (8 ∷ 9 ∷ []) $ free1 ! $ move ! (6 ∷ 7 ∷ []) $ free1 ! $ move !
         (4 ∷ 5 ∷ []) $ free1 ! $ move ! (2 ∷ 3 ∷ []) $ free1 ! $ free1 ! $ free0 ! $
         keep ! [] $ by ! (exits _ _ (omega arith) (omega arith) (omega arith) (omega arith))))))))))))))))
 
-module _ {M : Type 1} (𝓤 : URA M) (H : Heap 𝓤) (A : Atoms 𝓤) (W : Given 𝓤 H A) (mem : Memory → SProp 𝓤) (run : Routine → Fun 𝓤) where
+module _ {M : Type 1} (𝓤 : URA M) (H : Heap 𝓤) (A : Atoms 𝓤) (W : Given 𝓤 H A) (mem : Memory → SProp 𝓤)
+    (run : Routine → Fun 𝓤) where
   appended-walks : (C : Calls 𝓤 H) (Λ : Loops 𝓤 H) → FmC 𝓤 H (W .laws) C → Triple 𝓤 (C #counters·append) (Append 𝓤 H A mem run)
       → Walks 𝓤 H A appended.ended stayed (WpFn 𝓤 H C Λ code.function) (appended.clauses 𝓤 H A mem run)
   appended-walks C Λ fm known = walked 𝓤 H A appended.ended stayed (appended.clauses 𝓤 H A mem run) (WpFn 𝓤 H C Λ code.function)
-      (λ κs. (LL.vals T.the-type T′.the-laws, (uint-vals w16, tt))) (λ κs. (LL.tells T.the-type T′.the-laws, (uint-tells w16, tt)))
+      (λ κs. (LL.vals T.the-type T′.the-laws, (uint-vals w16, tt)))
+      (λ κs. (LL.tells T.the-type T′.the-laws, (uint-tells w16, tt)))
       (λ κs qs bounds a _ are. needs 𝓤 _ _
       (λ ok. walk 𝓤 H A W mem run (a .0) (a .1 .0) (are .0) (are .1 .0 .1) C Λ fm known
       (LL.lawful T.the-type T′.the-laws 𝓤 H A W .typed (a .0) _ (are .0) .0) ok))

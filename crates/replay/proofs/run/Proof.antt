@@ -7,30 +7,33 @@ use lib.ListN.{length, take}
 use Prim.Native.Nat.{_<_}
 use native.Mathlib.Omega.{arith}
 use borrow.Author.Needs.{needs}
-use Rattle.octets.specs.Parts.{cut}
-use Rattle.rules.specs.Promises.{machineOf}
-use Rattle.calllog.specs.Replaying.{replaying, keptFirst}
-use Rattle.lines.specs.Programs.{within}
-use Rattle.lines.specs.WholeRun.{Reached, Ran}
-use Rattle.lines.proofs.WholeRun.{reached-first, reached-more, goes-on}
-use Rattle.replay_lines.specs.Bounds.{Rooms}
-use Rattle.replay_lines.specs.Turns.{keptIn}
-use Rattle.replay_pieces.specs.Bounds.{Resting}
+use Rattle.buffers.specs.Parts.{cut}
+use Rattle.spec.specs.Promises.{machineOf}
+use Rattle.text_log.specs.Replay.{replaying, keptFirst}
+use Rattle.text_lines.specs.Programs.{within}
+use Rattle.text_lines.specs.WholeRun.{PiecesReach, LinesLead}
+use Rattle.text_lines.proofs.WholeRun.{reached-first, reached-more, goes-on}
+use Rattle.text_replay.specs.Bounds.{Rooms}
+use Rattle.text_replay.specs.Turns.{replayStateIn}
+use Rattle.text_replay_pieces.specs.Bounds.{Resting}
 use Rattle.replay.proofs.WholeRun.{ran-to-end}
 use Rattle.replay.proofs.run.Statement.{statement}
 use Rattle.replay.proofs.run.Tie as tie
 
 abbrev Inv-loop : tie.InvT-loop
-Inv-loop kept₀ files₀ logs₀ marks₀ undo₀ line₀ bytes₀ reader₀ input₀ out₀ p₀ turns₀ kept files logs marks undo line bytes reader input out p turns =
+Inv-loop state₀ files₀ logs₀ marks₀ undo₀ line₀ bytes₀ reader₀ input₀ out₀ p₀ turns₀ state files logs marks undo line bytes reader
+    input out p turns =
     Resting p × (length line ≡ 8238) × Rooms bytes reader out × (length input ≡ length input₀)
     × (0 < turns
-    → Reached replaying (keptFirst (machineOf kept₀ files₀ logs₀ marks₀ undo₀))
-    (within (keptIn p (machineOf kept files logs marks undo) out) (take (p .held) line) []))
+    → PiecesReach replaying (keptFirst (machineOf state₀ files₀ logs₀ marks₀ undo₀))
+    (within (replayStateIn p (machineOf state files logs marks undo) out) (take (p .held) line) []))
     × (p .complete ≡ true
-    → Ran replaying (keptFirst (machineOf kept₀ files₀ logs₀ marks₀ undo₀)) (keptIn p (machineOf kept files logs marks undo) out))
+    → LinesLead replaying (keptFirst (machineOf state₀ files₀ logs₀ marks₀ undo₀))
+    (replayStateIn p (machineOf state files logs marks undo) out))
 
 abbrev μ-loop : tie.MeasureT-loop
-μ-loop kept₀ files₀ logs₀ marks₀ undo₀ line₀ bytes₀ reader₀ input₀ out₀ p₀ turns₀ kept files logs marks undo line bytes reader input out p turns =
+μ-loop state₀ files₀ logs₀ marks₀ undo₀ line₀ bytes₀ reader₀ input₀ out₀ p₀ turns₀ state files logs marks undo line bytes reader
+    input out p turns =
     turns
 
 loop-holds : tie.Need-loop-holds Inv-loop μ-loop

@@ -5,25 +5,26 @@ use mathlib.Core.Path.{_≡_, refl, sym, _∙_}
 use lib.ListN.{length, take, drop, drop-of-length-le}
 use native.Mathlib.Omega.{arith}
 use Prim.Native.Nat.{_-_, _≤_}
-use Rattle.rules.specs.Promises.{machineOf}
-use Rattle.calllog.specs.Replaying.{replaying}
-use Rattle.lines.specs.Programs.{atEnd, within}
-use Rattle.lines.proofs.Passing.{off, end-same, end-of}
-use Rattle.replay_lines.specs.Bounds.{Rooms}
-use Rattle.replay_lines.specs.Turns.{keptIn}
-use Rattle.replay_pieces.specs.Bounds.{Resting}
+use Rattle.spec.specs.Promises.{machineOf}
+use Rattle.text_log.specs.Replay.{replaying}
+use Rattle.text_lines.specs.Programs.{atEnd, within}
+use Rattle.text_lines.proofs.Passing.{off, end-same, end-of}
+use Rattle.text_replay.specs.Bounds.{Rooms}
+use Rattle.text_replay.specs.Turns.{replayStateIn}
+use Rattle.text_replay_pieces.specs.Bounds.{Resting}
 use Rattle.replay.proofs.Laws.{kept-flushed, rests}
 use Rattle.replay.proofs.take_piece.Statement.{statement}
 use Rattle.replay.proofs.take_piece.Tie as tie
 
 abbrev Inv-loop : tie.InvT-loop
-Inv-loop p₀ kept₀ files₀ logs₀ marks₀ undo₀ line₀ bytes₀ reader₀ piece out₀ p kept files logs marks undo line bytes reader out =
+Inv-loop p₀ state₀ files₀ logs₀ marks₀ undo₀ line₀ bytes₀ reader₀ piece out₀ p state files logs marks undo line bytes reader out =
     Resting p × (p .at ≤ length piece) × (length line ≡ 8238) × Rooms bytes reader out
-    × (atEnd replaying (within (keptIn p₀ (machineOf kept₀ files₀ logs₀ marks₀ undo₀) out₀) (take (p₀ .held) line₀) piece)
-    ≡ atEnd replaying (within (keptIn p (machineOf kept files logs marks undo) out) (take (p .held) line) (drop (p .at) piece)))
+    × (atEnd replaying (within (replayStateIn p₀ (machineOf state₀ files₀ logs₀ marks₀ undo₀) out₀) (take (p₀ .held) line₀) piece)
+    ≡ atEnd replaying (within (replayStateIn p (machineOf state files logs marks undo) out) (take (p .held) line)
+    (drop (p .at) piece)))
 
 abbrev μ-loop : tie.MeasureT-loop
-μ-loop p₀ kept₀ files₀ logs₀ marks₀ undo₀ line₀ bytes₀ reader₀ piece out₀ p kept files logs marks undo line bytes reader out =
+μ-loop p₀ state₀ files₀ logs₀ marks₀ undo₀ line₀ bytes₀ reader₀ piece out₀ p state files logs marks undo line bytes reader out =
     length piece - p .at
 
 loop-holds : tie.Need-loop-holds Inv-loop μ-loop

@@ -29,13 +29,15 @@ last-line-requires c κs =
 
 same-length-4 : tie.Need-same-length-4
 same-length-4 c =
-    let tested = c .before .before .before .before .before .before .before .before .before .before .before .before .before .before .before .before .before .before .before .before .before in
+    let tested = c .before .before .before .before .before .before .before .before .before .before .before .before .before .before
+    .before .before .before .before .before .before .before in
     let read = tested .before .before .before in
     omega (arith, read .read-piece .kept)
 
 same-length-9 : tie.Need-same-length-9
 same-length-9 c =
-    let tested = c .before .before .before .before .before .before .before .before .before .before .before .before .before .before .before .before .before .before .before in
+    let tested = c .before .before .before .before .before .before .before .before .before .before .before .before .before .before
+    .before .before .before .before .before in
     let read = tested .before .before .before in
     omega (arith, read .read-piece .kept)
 

@@ -1,7 +1,7 @@
 -- In each arm the request is the arm's, and its call's promise is what is promised.
 use mathlib.Core.Path.{refl}
 use borrow.Author.Needs.{needs}
-use Rattle.rules.specs.Messages.{bufferOf, bufferOfCall}
+use Rattle.spec.specs.Messages.{bufferOf, bufferOfCall}
 use Rattle.requests.specs.Requests.{callOf}
 use Rattle.requests.specs.Performing.{Unanswered}
 use Rattle.requests.proofs.Laws.{performs-as}
@@ -13,7 +13,7 @@ unfolding callOf bufferOfCall bufferOf Unanswered
 returns c =
     let called = c .before .before in
     let met = called .begin .ensures in (
-      performs-as _ _ _ _ _ _ _ _ (called .before .before .before .before .before .before .before .q .given .1)
+      performs-as _ _ _ _ _ _ _ _ (called .before .before .before .before .before .before .before .request .given .1)
           (record { meets = met .0; unanswered = refl }),
       met .1,
     )
@@ -23,7 +23,7 @@ unfolding callOf bufferOfCall bufferOf Unanswered
 returns-2 c =
     let called = c in
     let met = called .seek .ensures in (
-      performs-as _ _ _ _ _ _ _ _ (called .before .before .before .before .before .before .before .q2 .given .1)
+      performs-as _ _ _ _ _ _ _ _ (called .before .before .before .before .before .before .before .request2 .given .1)
           (record { meets = met .0; unanswered = refl }),
       met .1,
     )
@@ -33,7 +33,7 @@ unfolding callOf bufferOfCall bufferOf Unanswered
 returns-3 c =
     let called = c .before .before in
     let met = called .write .ensures in (
-      performs-as _ _ _ _ _ _ _ _ (called .before .before .before .before .before .before .before .q3 .given .1)
+      performs-as _ _ _ _ _ _ _ _ (called .before .before .before .before .before .before .before .request3 .given .1)
           (record { meets = met .0; unanswered = refl }),
       met .1,
     )
@@ -43,7 +43,7 @@ unfolding callOf bufferOfCall bufferOf Unanswered
 returns-4 c =
     let called = c in
     let met = called .get-file-pointer .ensures in (
-      performs-as _ _ _ _ _ _ _ _ (called .before .before .before .before .before .before .before .q4 .given .1)
+      performs-as _ _ _ _ _ _ _ _ (called .before .before .before .before .before .before .before .request4 .given .1)
           (record { meets = met .0; unanswered = refl }),
       met .1,
     )
@@ -53,7 +53,7 @@ unfolding callOf bufferOfCall bufferOf Unanswered
 returns-5 c =
     let called = c .before .before .before .before in
     let met = called .read .ensures in (
-      performs-as _ _ _ _ _ _ _ _ (called .before .before .before .before .before .before .before .before .q5 .given .1)
+      performs-as _ _ _ _ _ _ _ _ (called .before .before .before .before .before .before .before .before .request5 .given .1)
           (record { meets = met .0; unanswered = tt }),
       met .1,
     )
@@ -63,7 +63,7 @@ unfolding callOf bufferOfCall bufferOf Unanswered
 returns-6 c =
     let called = c .before .before in
     let met = called .places .ensures in (
-      performs-as _ _ _ _ _ _ _ _ (called .before .before .before .before .before .before .before .before .q6 .given .1)
+      performs-as _ _ _ _ _ _ _ _ (called .before .before .before .before .before .before .before .before .request6 .given .1)
           (record { meets = met .0; unanswered = tt }),
       met .1,
     )
@@ -73,7 +73,7 @@ unfolding callOf bufferOfCall bufferOf Unanswered
 returns-7 c =
     let called = c .before .before .before .before .before .before in
     let met = called .commit .ensures in (
-      performs-as _ _ _ _ _ _ _ _ (called .before .before .before .before .before .before .before .q7 .given .1)
+      performs-as _ _ _ _ _ _ _ _ (called .before .before .before .before .before .before .before .request7 .given .1)
           (record { meets = met .0; unanswered = refl }),
       met .1,
     )
@@ -83,7 +83,7 @@ unfolding callOf bufferOfCall bufferOf Unanswered
 returns-8 c =
     let called = c .before .before in
     let met = called .abort .ensures in (
-      performs-as _ _ _ _ _ _ _ _ (called .before .before .before .before .before .before .before .q8 .given .1)
+      performs-as _ _ _ _ _ _ _ _ (called .before .before .before .before .before .before .before .request8 .given .1)
           (record { meets = met .0; unanswered = refl }),
       met .1,
     )
@@ -93,7 +93,7 @@ unfolding callOf bufferOfCall bufferOf Unanswered
 returns-9 c =
     let called = c in
     let met = called .set-window .ensures in (
-      performs-as _ _ _ _ _ _ _ _ (called .before .before .before .before .before .before .before .q9 .given .1)
+      performs-as _ _ _ _ _ _ _ _ (called .before .before .before .before .before .before .before .request9 .given .1)
           (record { meets = met .0; unanswered = refl }),
       met .1,
     )
@@ -102,7 +102,7 @@ returns-10 : tie.Need-returns-10
 unfolding callOf bufferOfCall bufferOf Unanswered
 returns-10 c =
     let called = c .before .before in
-    let met = called .take-back .ensures in (
+    let met = called .undo-commit .ensures in (
       performs-as _ _ _ _ _ _ _ _ (called .before .before .before .before .before .before .enum-told .given .1)
           (record { meets = met .0; unanswered = refl }),
       met .1,

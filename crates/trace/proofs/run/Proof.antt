@@ -1,5 +1,5 @@
--- `run` meets its contract. The loop's invariant: no output waits, the buffers keep their lengths, and while turns are left the store is
--- where the pieces so far led. Assumes nothing.
+-- `run` meets its contract. The loop's invariant: no output waits, the buffers keep their lengths, and while turns are left the
+-- store is where the pieces so far led. Assumes nothing.
 use mathlib.Core.Bool.{true, false≢true}
 use mathlib.Core.List.{[]}
 use mathlib.Core.Path.{_≡_, refl}
@@ -7,28 +7,30 @@ use lib.ListN.{length, take}
 use Prim.Native.Nat.{_<_}
 use native.Mathlib.Omega.{arith}
 use borrow.Author.Needs.{needs}
-use Rattle.rules.specs.Promises.{machineOf}
-use Rattle.rules.specs.Calls.{storeAnswers}
-use Rattle.lines.specs.WholeRun.{Reached, Ran}
-use Rattle.lines.proofs.WholeRun.{reached-first, reached-more, goes-on, ran}
+use Rattle.spec.specs.Promises.{machineOf}
+use Rattle.spec.specs.Calls.{storeAnswers}
+use Rattle.text_lines.specs.WholeRun.{PiecesReach, LinesLead}
+use Rattle.text_lines.proofs.WholeRun.{reached-first, reached-more, goes-on, ran}
 use Rattle.trace.specs.Transcript.{storeTrace, under}
-use Rattle.trace.proofs.Kept.{kept-is-enough}
-use Rattle.trace.specs.Bounds.{Resting, Room}
+use Rattle.trace.proofs.TruncatedLines.{trace-truncated-is-enough}
+use Rattle.trace.specs.Bounds.{TraceResting, TraceRoom}
 use Rattle.trace.proofs.run.Statement.{statement}
 use Rattle.trace.proofs.run.Tie as tie
 
 abbrev Inv-loop : tie.InvT-loop
-Inv-loop kept₀ files₀ logs₀ marks₀ undo₀ line₀ reader₀ input₀ out₀ c₀ turns₀ kept files logs marks undo line reader input out c turns =
-    Resting c × Room reader out × (length line ≡ 129) × (length input ≡ length input₀)
+Inv-loop state₀ files₀ logs₀ marks₀ undo₀ line₀ reader₀ input₀ out₀ progress₀ turns₀ state files logs marks undo line reader input
+    out progress turns =
+    TraceResting progress × TraceRoom reader out × (length line ≡ 129) × (length input ≡ length input₀)
     × (0 < turns
-    → Reached storeTrace (record { machine = machineOf kept₀ files₀ logs₀ marks₀ undo₀; reader = reader₀ })
-    (under (machineOf kept files logs marks undo) reader (take (c .held) line) []))
-    × (c .complete ≡ true
-    → Ran storeTrace (record { machine = machineOf kept₀ files₀ logs₀ marks₀ undo₀; reader = reader₀ })
-    (record { machine = machineOf kept files logs marks undo; reader = reader }))
+    → PiecesReach storeTrace (record { machine = machineOf state₀ files₀ logs₀ marks₀ undo₀; reader = reader₀ })
+    (under (machineOf state files logs marks undo) reader (take (progress .held) line) []))
+    × (progress .complete ≡ true
+    → LinesLead storeTrace (record { machine = machineOf state₀ files₀ logs₀ marks₀ undo₀; reader = reader₀ })
+    (record { machine = machineOf state files logs marks undo; reader = reader }))
 
 abbrev μ-loop : tie.MeasureT-loop
-μ-loop kept₀ files₀ logs₀ marks₀ undo₀ line₀ reader₀ input₀ out₀ c₀ turns₀ kept files logs marks undo line reader input out c turns
+μ-loop state₀ files₀ logs₀ marks₀ undo₀ line₀ reader₀ input₀ out₀ progress₀ turns₀ state files logs marks undo line reader input
+    out progress turns
     = turns
 
 loop-holds : tie.Need-loop-holds Inv-loop μ-loop
@@ -68,7 +70,7 @@ loop-again c =
       omega (arith, k, i .2),
       omega (arith, k, i .3),
       λ h. reached-more storeTrace _ _ _ _ _ before (t .1 (goes-on _ _ (c .turns-left .ensures .1) h) .1),
-      λ h. ran storeTrace (kept-is-enough storeAnswers) _ _ _ _ _ before (t .2 h .1),
+      λ h. ran storeTrace (trace-truncated-is-enough storeAnswers) _ _ _ _ _ before (t .2 h .1),
     )
 
 returns : tie.Need-returns Inv-loop μ-loop

@@ -9,9 +9,9 @@ returns : tie.Need-returns
 returns c =
     let taking = c .before .before .before .before .before .before in
     let counted = taking .before .before .before .before .before .before .before .before .before .before in
-    let resting = taking .taken .ensures .0 in (
+    let resting = taking .take-piece .ensures .0 in (
       record { held = resting .held; waiting = resting .waiting },
-      λ e. (counted .count .result, taking .taken .ensures .1 e),
+      λ e. (counted .count .result, taking .take-piece .ensures .1 e),
       λ e. absurd (false≢true e),
     )
 
@@ -20,7 +20,7 @@ returns-2 c =
     let ending = c .before .before .before .before .before .before in
     let tested = ending .before .before .before .before .before .before .before .before .before in
     let start = tested .before .before .before .before .before .before .before .before .before .before in
-    let wrote = c .written .ensures in
+    let wrote = c .flush .ensures in
     let line = start .pre .0 .held in
     let last = ending .last-line .ensures in (
       record { held = omega (arith, wrote .1 .0, last .1 .1, line); waiting = wrote .0 },

@@ -1,5 +1,5 @@
 -- `windows::is_open` meets its contract.
-use Rattle.windows.proofs.HoursLaws.{by-day, by-night}
+use Rattle.windows.proofs.WindowLaws.{by-day, by-night}
 use Rattle.windows.proofs.is_open.Statement.{statement}
 use Rattle.windows.proofs.is_open.Tie as tie
 

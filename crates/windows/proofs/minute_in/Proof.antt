@@ -1,7 +1,7 @@
 -- `windows::minute_in` meets its contract.
 use mathlib.Core.Path.{refl}
 use borrow.Author.Needs.{needs}
-use Rattle.windows.specs.Hours.{minuteIn}
+use Rattle.windows.specs.Windows.{minuteIn}
 use Rattle.windows.proofs.minute_in.Statement.{statement}
 use Rattle.windows.proofs.minute_in.Tie as tie
 

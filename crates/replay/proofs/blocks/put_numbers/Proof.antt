@@ -4,24 +4,24 @@ use lib.ListN.{length, take, length-set}
 use native.Mathlib.Omega.{arith}
 use Prim.Native.Nat.{_-_, _≤_}
 use borrow.Author.Needs.{needs}
-use Rattle.octets.specs.Parts.{tabulate}
-use Rattle.replay.specs.Blocks.{wordAt}
+use Rattle.buffers.specs.Parts.{tabulate}
+use Rattle.replay.specs.Blocks.{blockWordAt}
 use Rattle.replay.proofs.BlockLaws.{word-more, words-all}
 use Rattle.replay.proofs.blocks.put_numbers.Statement.{statement}
 use Rattle.replay.proofs.blocks.put_numbers.Tie as tie
 
 abbrev Inv-loop : tie.InvT-loop
-Inv-loop kept₀ bytes i₀ kept i = (i ≤ 2323) × (length kept ≡ 2323) × (take i kept ≡ tabulate (wordAt bytes) i)
+Inv-loop state₀ bytes i₀ state i = (i ≤ 2323) × (length state ≡ 2323) × (take i state ≡ tabulate (blockWordAt bytes) i)
 
 abbrev μ-loop : tie.MeasureT-loop
-μ-loop kept₀ bytes i₀ kept i = 2323 - i
+μ-loop state₀ bytes i₀ state i = 2323 - i
 
 loop-holds : tie.Need-loop-holds Inv-loop μ-loop
 unfolding tabulate
 loop-holds c = (omega arith, c .before .before .pre .0, refl)
 
 loop-again : tie.Need-loop-again Inv-loop μ-loop
-unfolding wordAt
+unfolding blockWordAt
 loop-again c =
     let tested = c .before .before .before in
     let at-loop = tested .before in
@@ -29,8 +29,9 @@ loop-again c =
     let loop = at-loop .loop in
     let i = loop .inv in (
       omega (arith, tested .loop-test .taken),
-      length-set (loop .kept) (loop .i) (c .word .result) ∙ i .1,
-      word-more (start .args .bytes .now) (loop .kept) (loop .i) (i .2) (c .word .result) (omega (arith, tested .loop-test .taken, i .1)) (c .word .ensures),
+      length-set (loop .state) (loop .i) (c .word .result) ∙ i .1,
+      word-more (start .args .bytes .now) (loop .state) (loop .i) (i .2) (c .word .result)
+          (omega (arith, tested .loop-test .taken, i .1)) (c .word .ensures),
     )
 
 returns : tie.Need-returns Inv-loop μ-loop
@@ -38,7 +39,7 @@ returns c =
     let i = c .before .loop .inv in
     let loop = c .before .loop in
     let start = c .before .before .before .before in
-    words-all (start .args .bytes .now) (loop .kept) (loop .i) (i .2) (omega (arith, c .loop-test .left, i .0)) (i .1)
+    words-all (start .args .bytes .now) (loop .state) (loop .i) (i .2) (omega (arith, c .loop-test .left, i .0)) (i .1)
 
 pub put-numbers-spec : {M : Type 1} → statement M
 put-numbers-spec =

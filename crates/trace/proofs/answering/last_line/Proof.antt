@@ -2,8 +2,8 @@
 use mathlib.Core.Path.{refl}
 use native.Mathlib.Omega.{arith}
 use borrow.Author.Needs.{needs}
-use Rattle.octets.specs.Parts.{cut}
-use Rattle.lines.proofs.Passing.{off, on, take-none, no-last-line, last-line}
+use Rattle.buffers.specs.Parts.{cut}
+use Rattle.text_lines.proofs.Passing.{off, on, take-none, no-last-line, last-line}
 use Rattle.trace.specs.Transcript.{storeTrace}
 use Rattle.trace.proofs.answering.last_line.Statement.{statement}
 use Rattle.trace.proofs.answering.last_line.Tie as tie
@@ -15,8 +15,10 @@ returns c =
     let cutting = tested .before in
     let start = cutting .before .before .before .before in
     let none = start .pre .0 .waiting in
-    let no = off (tested .is-line .result) (c .if1 .taken) in
-    (no-last-line storeTrace _ _ _ _ _ (cutting .part .ensures) (tested .is-line .ensures) no (take-none _ _ none), (omega (arith, none), refl))
+    let no = off (tested .is-line .result) (c .if1 .taken) in (
+      no-last-line storeTrace _ _ _ _ _ (cutting .part .ensures) (tested .is-line .ensures) no (take-none _ _ none),
+      (omega (arith, none), refl),
+    )
 
 returns-2 : tie.Need-returns-2
 unfolding cut
@@ -29,8 +31,9 @@ returns-2 c =
     let start = cutting .before .before .before .before in
     let none = start .pre .0 .waiting in
     let yes = on (tested .is-line .result) (branch .if1 .left) in
-    let e = told .told .ensures in (
-      last-line storeTrace _ _ _ _ (cutting .part .ensures) (tested .is-line .ensures) yes _ (take-none _ _ none) _ (again .part2 .ensures) _ _ (e .0),
+    let e = told .answer-line .ensures in (
+      last-line storeTrace _ _ _ _ (cutting .part .ensures) (tested .is-line .ensures) yes _ (take-none _ _ none) _
+          (again .part2 .ensures) _ _ (e .0),
       (e .1 .0, e .1 .1 .0),
     )
 

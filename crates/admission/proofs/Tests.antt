@@ -1,0 +1,253 @@
+-- What each test of src/lib.rt decides, in the order in which they are made.
+use mathlib.Core.Bool.{Bool, true, false, not, _&&_, _||_, false≢true}
+use mathlib.Core.List.{List}
+use mathlib.Core.Path.{_≡_, refl, sym, ap, _∙_}
+use native.Mathlib.Numerals.{add-one}
+use lib.ListN.{getD}
+use lib.Dec.{leb, eqb}
+use Prim.Native.Nat.{ℕ, zero, suc, _+_, _≤_, _<_}
+use native.Mathlib.Omega.{arith}
+use borrow.Author.Tests.{ne-eqb, leb-true, le-leb, lt-leb, not-true, not-false}
+use Rattle.standings.specs.declared.Standing.{Standing}
+use Rattle.standings.specs.declared.Standing.the-variants.{Untouched, Placed, Deferred, Moved, Known}
+use Rattle.standings.specs.declared.Place.{Place}
+use Rattle.standings.specs.declared.Place.the-variants.{At, After}
+use Rattle.standings.specs.Table.{advance, offsetOf, mayWait, placeNumber}
+use Rattle.state.specs.declared.Transaction.{Transaction}
+use Rattle.state.specs.declared.Undo.{Undo}
+use Rattle.state.specs.declared.StoreMeaning.{StoreMeaning}
+use Rattle.state.specs.declared.journal.WriteRecord.{WriteRecord}
+use Rattle.state.specs.StoreMeaning.{transaction, standingAt, windowAt}
+use Rattle.windows.specs.Windows.{minuteIn}
+use Rattle.state.specs.Layout.{transactionOf, storeOf, journalOf}
+use Rattle.state.proofs.LayoutLaws.{transaction-of}
+use Rattle.state.specs.Journal.{writeRecordAt}
+use Rattle.state.specs.WriteEnds.{placeEndsBy, endsBy}
+use Rattle.admission.specs.FirstRefusal.{below}
+use Rattle.admission.specs.Admission.{standingIn, endsWithin, placeIn, recordIn, lengthsBefore, journalIn, journalPasses}
+use Rattle.admission.specs.Admission.{transactionIn}
+use Rattle.admission.specs.Admission.{windowIn, tablesIn, placedIn, landedIn, grantPasses, undoIn, noneBegun}
+use Rattle.admission.proofs.Laws.{and-left, and-true, below-at, below-same, sum-zero, sum-more, standing-numbers}
+
+and-false : (a : Bool) → a && false ≡ false
+and-false true = refl
+and-false false = refl
+
+-- ---- standings
+
+-- The numbers that they carry are those of the range.
+pub standings-decide : (r : List ℕ) (t : ℕ)
+    → below (λ d. let z = standingAt (transactionOf r t) d in leb (advance z) 4096 && leb (offsetOf z) 4096) 16
+    ≡ below (λ d. standingIn (standingAt (transactionOf r t) d)) 16
+standings-decide r t = below-same _ _ 16 (λ d h. sym (standing-numbers (standingAt (transactionOf r t) d)))
+
+-- ---- a write record
+
+-- A number at most a is at most 4,096, where a is.
+both-under : (e a : ℕ) → leb a 4096 ≡ true → leb e 4096 && leb e a ≡ leb e a
+both-under e a h = pick (leb e a) refl
+  where
+    pick : (b : Bool) → leb e a ≡ b → leb e 4096 && b ≡ b
+    pick true q = let l = leb-true a 4096 h in let m = leb-true e a q in rw (le-leb e 4096 (omega arith))
+    pick false q = and-false (leb e 4096)
+
+within-waits : (z : Standing) (e : ℕ) → standingIn z ≡ true → leb e 4096 && endsWithin z e ≡ mayWait z && leb e (advance z)
+unfolding standingIn endsWithin
+within-waits Untouched e h = and-false (leb e 4096)
+within-waits (Placed o) e h = and-false (leb e 4096)
+within-waits (Deferred a) e h = both-under e a h
+within-waits (Moved a o) e h = both-under e a (and-left (leb a 4096) (leb o 4096) h)
+within-waits (Known o) e h = and-false (leb e 4096)
+
+-- Where the standings are in range, a record in range ends by 4,096 or where it may.
+place-ends : (z : Standing) (q : Place) (n : ℕ) → standingIn z ≡ true → placeEndsBy 4096 z q n ≡ placeIn z q n
+unfolding placeEndsBy placeIn
+place-ends z (At p) n h = refl
+place-ends z (After a) n h = sym (within-waits z (a + n) h)
+
+pub record-decides : (x : Transaction) (w : WriteRecord) → below (λ d. standingIn (standingAt x d)) 16 ≡ true
+    → endsBy 4096 x w ≡ recordIn x w
+unfolding endsBy recordIn
+record-decides x w all = low (leb (w .descriptor) 15) refl
+  where
+    z : Standing
+    z = standingAt x (w .descriptor)
+
+    low : (b : Bool) → leb (w .descriptor) 15 ≡ b
+        → b && placeEndsBy 4096 z (w .place) (w .length) ≡ b && placeIn z (w .place) (w .length)
+    low true e =
+        let l = leb-true (w .descriptor) 15 e in
+        place-ends z (w .place) (w .length) (below-at (λ d. standingIn (standingAt x d)) 16 (w .descriptor) all (omega arith))
+    low false e = refl
+
+pub lengths-none : (journal : List ℕ) (t : ℕ) → 0 ≡ lengthsBefore journal t 0
+unfolding lengthsBefore
+lengths-none journal t = sym (sum-zero _)
+
+pub lengths-more : (journal : List ℕ) (t n s v : ℕ) → s ≡ lengthsBefore journal t n → v ≡ writeRecordAt journal t n .length
+    → s + v ≡ lengthsBefore journal t (n + 1)
+unfolding lengthsBefore
+lengths-more journal t n s v e f = rw (e, f) (sym (sum-more _ n))
+
+-- ---- a write record of the last grant
+
+module _ (q : Place) (n : ℕ) where
+  pub placed-decides : {p : ℕ} (k m : ℕ) → q ≡ At p → k ≡ placeNumber q → m ≡ n → leb (k + m) 4096 ≡ placedIn q n
+  unfolding placedIn
+  placed-decides k m is-at is-k is-m = rw (is-k, is-m, is-at)
+
+  pub unplaced-out : {a : ℕ} → q ≡ After a → false ≡ placedIn q n
+  unfolding placedIn
+  unplaced-out is-after = rw is-after
+
+-- Record w, read from the journal.
+module _ (w v : WriteRecord) (is-v : w ≡ v) where
+  pub high-out : 15 < w .descriptor → landedIn v ≡ false
+  unfolding landedIn
+  high-out l = rw (← is-v, lt-leb (w .descriptor) 15 l)
+
+  module _ (low : w .descriptor ≤ 15) (r : Bool) (is-r : r ≡ placedIn (w .place) (w .length)) where
+    landed-decides : landedIn v ≡ r
+    unfolding landedIn
+    landed-decides = rw (← is-v, le-leb (w .descriptor) 15 low, is-r)
+
+    pub landed-out : not r ≡ true → landedIn v ≡ false
+    landed-out h = landed-decides ∙ not-true _ h
+
+    pub landed-passes : not r ≡ false → landedIn v ≡ true
+    landed-passes h = landed-decides ∙ not-false _ h
+
+-- The last two tests of a journal, joined.
+pub and-fails : (a b : Bool) → a ≡ false → false ≡ a && b
+and-fails a b e = rw e
+
+pub and-last : (a b c : Bool) → a ≡ true → b ≡ c → b ≡ a && c
+and-last a b c e f = rw (e, f)
+
+-- ---- a transaction
+
+-- The tests of a begun transaction, in the order in which they are made.
+turned : (s r j e u : Bool) → s && (r && j && e && u) ≡ r && u && s && (j && e)
+turned true true j e true = and-true (j && e)
+turned true true j e false = and-false (j && e)
+turned true false j e u = refl
+turned false true j e true = refl
+turned false true j e false = refl
+turned false false j e u = refl
+
+or-closed : (b q : Bool) → b ≡ false → true ≡ not b || q
+or-closed b q e = rw e
+
+or-begun : (b q : Bool) → b ≡ true → not b || q ≡ q
+or-begun b q e = rw e
+
+module _ (x : Transaction) (journal : List ℕ) (t : ℕ) where
+  pub closed-in : x .begun ≡ false → true ≡ transactionIn x journal t
+  unfolding transactionIn
+  closed-in e = or-closed (x .begun) _ e
+
+  module _ (begun : x .begun ≡ true) where
+    begun-in : transactionIn x journal t
+        ≡ leb (x .used .records) 64 && leb (x .used .bytes) 4096 && below (λ d. standingIn (standingAt x d)) 16
+        && journalPasses x journal t
+        (x .used .records) (x .used .bytes)
+    unfolding transactionIn journalIn journalPasses
+    begun-in = or-begun (x .begun) _ begun ∙ turned (below (λ d. standingIn (standingAt x d)) 16) (leb (x .used .records) 64) _ _
+        (leb (x .used .bytes) 4096)
+
+    pub records-fail : (n : ℕ) → n ≡ x .used .records → 64 < n → false ≡ transactionIn x journal t
+    records-fail n e l = sym (begun-in ∙ rw (lt-leb (x .used .records) 64 (rw e at l)))
+
+    module _ (n m : ℕ) (is-n : n ≡ x .used .records) (is-m : m ≡ x .used .bytes) (few : n ≤ 64) where
+      pub bytes-fail : 4096 < m → false ≡ transactionIn x journal t
+      bytes-fail l = sym (begun-in ∙ rw (
+        le-leb (x .used .records) 64 (rw is-n at few),
+        lt-leb (x .used .bytes) 4096 (rw is-m at l),
+      ))
+
+      module _ (fits : m ≤ 4096) where
+        counted : transactionIn x journal t ≡ below (λ d. standingIn (standingAt x d)) 16 && journalPasses x journal t n m
+        counted = rw (is-n, is-m) (begun-in ∙ rw (
+          le-leb (x .used .records) 64 (rw is-n at few),
+          le-leb (x .used .bytes) 4096 (rw is-m at fits),
+        ))
+
+        pub standings-fail : below (λ d. standingIn (standingAt x d)) 16 ≡ false → false ≡ transactionIn x journal t
+        standings-fail e = sym (counted ∙ rw e)
+
+        pub records-decide : (r : Bool) → below (λ d. standingIn (standingAt x d)) 16 ≡ true → r ≡ journalPasses x journal t n m
+            → r ≡ transactionIn x journal t
+        records-decide r standings e = e ∙ sym (counted ∙ rw standings)
+
+-- ---- what is held of the last grant
+
+module _ (r : List ℕ) where
+  abbrev undo : Undo
+  undo = storeOf r .undo
+
+  abbrev found : Bool
+  found = below (λ d. leb (getD (undo .offsets) d 0) 4096) 16 && below (λ f. leb (getD (undo .lengths) f 0) 4096) 8
+
+  pub nothing-held : undo .held ≡ false → true ≡ undoIn undo (journalOf r)
+  unfolding undoIn
+  nothing-held e = or-closed (undo .held) _ e
+
+  module _ (held : undo .held ≡ true) where
+    joined : (a b c d e : Bool) → a && b && c && d && e ≡ a && b && (c && d) && e
+    joined true true c d e = refl
+    joined true false c d e = refl
+    joined false b c d e = refl
+
+    held-in : undoIn undo (journalOf r)
+        ≡ leb (undo .used .records) 64 && leb (undo .used .bytes) 4096 && found
+        && grantPasses (journalOf r) (undo .used .records) (undo .used .bytes)
+    unfolding undoIn
+    held-in = or-begun (undo .held) _ held ∙ joined (leb (undo .used .records) 64) _ _ _ _
+
+    pub grant-records-fail : (n : ℕ) → n ≡ undo .used .records → 64 < n → false ≡ undoIn undo (journalOf r)
+    grant-records-fail n e l = sym (held-in ∙ rw (lt-leb (undo .used .records) 64 (rw e at l)))
+
+    module _ (n m : ℕ) (is-n : n ≡ undo .used .records) (is-m : m ≡ undo .used .bytes) (few : n ≤ 64) where
+      pub grant-bytes-fail : 4096 < m → false ≡ undoIn undo (journalOf r)
+      grant-bytes-fail l = sym (held-in ∙ rw (
+        le-leb (undo .used .records) 64 (rw is-n at few),
+        lt-leb (undo .used .bytes) 4096 (rw is-m at l),
+      ))
+
+      module _ (fits : m ≤ 4096) where
+        grant-counted : undoIn undo (journalOf r) ≡ found && grantPasses (journalOf r) n m
+        grant-counted = rw (is-n, is-m) (held-in
+            ∙ rw (le-leb (undo .used .records) 64 (rw is-n at few), le-leb (undo .used .bytes) 4096 (rw is-m at fits)))
+
+        pub found-fails : found ≡ false → false ≡ undoIn undo (journalOf r)
+        found-fails e = sym (grant-counted ∙ rw e)
+
+        pub grant-decides : (b : Bool) → found ≡ true → b ≡ grantPasses (journalOf r) n m → b ≡ undoIn undo (journalOf r)
+        grant-decides b all e = e ∙ sym (grant-counted ∙ rw all)
+
+-- ---- the whole record
+
+-- No transaction is open, read by name.
+pub none-decides : (r : List ℕ) → below (λ t. not (transactionOf r t .begun)) 8 ≡ noneBegun (storeOf r)
+unfolding noneBegun
+none-decides r = below-same _ _ 8 (λ t h. rw (transaction-of r t h))
+
+-- The starts and ends of the windows are minutes.
+windows-decide : (s : StoreMeaning)
+    → below (λ f. leb (windowAt s f .start) 1439 && leb (windowAt s f .end) 1439) 8 ≡ below (λ f. windowIn (windowAt s f)) 8
+unfolding windowIn minuteIn
+windows-decide s = refl
+
+-- Check 2, read by name, but for what is held of the last grant.
+pub tables-decide : (r : List ℕ) → tablesIn (storeOf r) (journalOf r)
+    ≡ below (λ d. leb (getD (storeOf r .filenumbers) d 0) 7) 16 && below (λ d. leb (getD (storeOf r .offsets) d 0) 4096) 16
+    && below (λ f. leb (getD (storeOf r .lengths) f 0) 4096) 8
+    && below (λ f. leb (windowAt (storeOf r) f .start) 1439 && leb (windowAt (storeOf r) f .end) 1439) 8
+    && below (λ t. transactionIn (transactionOf r t) (journalOf r) t) 8
+unfolding tablesIn
+tables-decide r =
+    rw (
+      windows-decide (storeOf r),
+      below-same (λ t. transactionIn (transaction (storeOf r) t) (journalOf r) t)
+          (λ t. transactionIn (transactionOf r t) (journalOf r) t) 8 (λ t h. rw (transaction-of r t h)),
+    )

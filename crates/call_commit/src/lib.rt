@@ -1,0 +1,8 @@
+// The call that sets: Commit (`commit_call`), and what it does once it is granted (`granting`); how many its
+// octet names (`count_stale`).
+mod commit_call;
+mod count_stale;
+mod granting;
+
+pub use commit_call::commit;
+pub use count_stale::made_stale;

@@ -1,0 +1,41 @@
+-- `read_call::put_read` meets its contract.
+use mathlib.Core.Path.{_∙_, ap}
+use borrow.Author.Needs.{needs}
+use Prim.Native.Nat.{ℕ}
+use Rattle.buffers.specs.Bits.{withBit}
+use Rattle.call_read.proofs.GivingLaws.{moved-full, moved-short}
+use Rattle.call_read.proofs.read_call.put_read.Statement.{statement}
+use Rattle.call_read.proofs.read_call.put_read.Tie as tie
+
+returns : tie.Need-returns
+returns c =
+    let sighted = c .before .before .before .before in
+    let put = sighted .before .before .before .before in
+    let start = put .before .before .before .before in
+    moved-short _ _ _ _ _ _ (start .pre) _ (put .before .before .after-read .ensures) _ (put .put-descriptor .ensures)
+    (sighted .before .before .if1 .taken)
+    _ _ (sighted .lengthmarks-at .ensures)
+    (c .before .added .ensures ∙ ap (λ (f : ℕ). withBit f (sighted .lengthmarks-at .result))
+    (c .before .before .wide .ensures .0)) _
+    (c .put-lengthmarks .ensures)
+
+returns-2 : tie.Need-returns-2
+returns-2 c =
+    let put = c .before .before in
+    let start = put .before .before .before .before in
+    moved-full _ _ _ _ _ _ (start .pre) _ (put .before .before .after-read .ensures) _ (put .put-descriptor .ensures)
+    (c .if1 .left)
+
+pub put-read-spec : {M : Type 1} → statement M
+put-read-spec =
+    tie.close
+    (tie.spec
+    (λ c. search needs)
+    (λ c κs. search needs)
+    (λ c κs. search needs)
+    (λ c κs. search needs)
+    (λ c κs. search needs)
+    (λ c κs. search needs)
+    (λ c κs. search needs)
+    returns
+    returns-2)

@@ -1,0 +1,95 @@
+-- `read_call::read_settled` meets its contract.
+use mathlib.Core.Path.{_≡_, ap}
+use native.Mathlib.Omega.{arith}
+use borrow.Author.Needs.{needs}
+use Rattle.standings.specs.Table.{offsetOf}
+use Rattle.read_lookup.specs.declared.Extent.{Extent}
+use Rattle.call_read.specs.ReadCall.{placesFrom}
+use Rattle.call_read.proofs.GivingLaws.{places-are, handed-as, given-as}
+use Rattle.call_read.proofs.read_call.read_settled.Statement.{statement}
+use Rattle.call_read.proofs.read_call.read_settled.Tie as tie
+
+-- What is read off the record before the bytes are copied.
+abbrev start-of : tie.After-used-at → tie.Start
+start-of c = c .before .before .before .before .before .before
+
+abbrev used-of : tie.After-places-given → tie.After-used-at
+used-of c = c .before .before .before .before .before .before .before
+
+-- These places are given.
+given : (c : tie.After-places-given) → let a = start-of (used-of c) .args in c .places-given .result
+    ≡ placesFrom (a .state .now) (a .t) (a .d) (a .n)
+given c =
+    let filed = c .before .before .before in
+    places-are _ _ _ _ _ _ _ _ _ (used-of c .used-at .ensures) (filed .before .before .standing-at .ensures)
+    (filed .file-at .ensures)
+    (c .before .length-for .ensures) (c .places-given .ensures)
+
+length-for-requires : tie.Need-length-for-requires
+length-for-requires c κs =
+    let filed = c .before in
+    let used = filed .before .before .before .before in
+    let p = start-of used .pre in
+    (rw (used .used-at .ensures) (p .handed .counted), rw (filed .file-at .ensures) (p .handed .fileIn))
+
+copy-bytes-requires : tie.Need-copy-bytes-requires
+copy-bytes-requires c κs =
+    let e = c .before .before .before in
+    let p = start-of (used-of e) .pre in (
+      handed-as _ _ _ _ _ _ _ _ (used-of e .used-at .ensures) (given e) (p .handed),
+      omega (arith, p .room, ap (λ (e : Extent). e .length) (given e)),
+    )
+
+-- The bytes are copied.
+abbrev places-of : tie.After-copy-bytes → tie.After-places-given
+places-of c = c .before .before .before .before
+
+put-read-requires : tie.Need-put-read-requires
+put-read-requires c κs =
+    let e = places-of (c .before .before .before .before .before) in
+    let p = start-of (used-of e) .pre in
+    let stood = e .before .before .before .before .before in
+    record {
+      long = p .long;
+      small = p .handed .counted .small;
+      few = p .few;
+      stands = stood .standing-at .ensures;
+      fileIn = rw (given e) (p .handed .fileIn);
+      places = omega (
+        arith,
+        p .handed .places,
+        ap (λ (e : Extent). e .length) (given e),
+        ap offsetOf (stood .standing-at .ensures),
+      );
+    }
+
+cast-result : tie.Need-cast-result
+cast-result c =
+    let e = places-of (c .before .before .before .before .before .before .before) in
+    omega (arith, start-of (used-of e) .pre .handed .places, ap (λ (e : Extent). e .length) (given e))
+
+returns : tie.Need-returns
+returns c =
+    let copied = c .before .before .before .before .before .before .before in
+    let e = places-of copied in (
+      ap (λ (e : Extent). e .length) (given e),
+      rw (given e) at (c .before .put-read .ensures),
+      given-as _ _ _ _ _ _ _ _ (used-of e .used-at .ensures) (given e) _ _ _ (copied .copy-bytes .ensures .0)
+          (copied .copy-bytes .ensures .1),
+    )
+
+pub read-settled-spec : {M : Type 1} → statement M
+read-settled-spec =
+    tie.close
+    (tie.spec
+    (λ c κs. search needs)
+    (λ c κs. search needs)
+    (λ c κs. search needs)
+    length-for-requires
+    (λ c κs. search needs)
+    copy-bytes-requires
+    put-read-requires
+    cast-result
+    (λ c. search needs)
+    (λ c. search needs)
+    returns)

@@ -1,0 +1,85 @@
+-- The bytes of the last grant go back, write record by write record from the last to the first.
+use mathlib.Core.Bool.{true}
+use mathlib.Core.List.{List}
+use mathlib.Core.Path.{_≡_, refl, sym, ap, ap₂, _∙_}
+use native.Mathlib.Omega.{arith}
+use Prim.Native.Nat.{ℕ, zero, suc, _+_, _*_, _≤_, _<_}
+use Rattle.buffers.specs.Parts.{pasted, cut, tabulate}
+use Rattle.state.specs.declared.StoreMeaning.{StoreMeaning}
+use Rattle.state.specs.Journal.{lastGrant, writeRecordAt}
+use Rattle.admission.specs.FirstRefusal.{sum}
+use Rattle.admission.specs.Admission.{lengthsBefore, storeIn}
+use Rattle.admission.proofs.Laws.{UndoInRange, in-range, landed-in}
+use Rattle.spec_undo.specs.OldBytes.{Span, restored}
+use Rattle.spec_undo.proofs.OldBytesLaws.{spanned, spanned-last, back-last}
+use Rattle.spec.specs.Machine.{fileOf}
+use Rattle.spec.specs.Undo.{spanOfRecord, landedOn}
+use Rattle.spec.proofs.Refinement.IndexedLists.{sum-le}
+use Rattle.commit_apply.specs.declared.writes.LandedWrite.{LandedWrite}
+use Rattle.call_undo.specs.LandedWrites.{landedAs}
+
+spanned-table : (f : ℕ → Span) (n : ℕ) → spanned (tabulate f n) ≡ sum (λ k. f k .length) n
+unfolding tabulate sum
+spanned-table f zero = refl
+spanned-table f (suc n) = let e = spanned-table f n in spanned-last (tabulate f n) (f n) ∙ omega arith
+
+-- The spans of the last grant's first k writes: all, none, and how many bytes they have together.
+module _ (s : StoreMeaning) (journal : List ℕ) where
+  abbrev pub firstSpans : ℕ → List Span
+  firstSpans k = tabulate (λ j. spanOfRecord s (writeRecordAt journal lastGrant j)) k
+
+  pub all-spans : firstSpans (s .undo .used .records) ≡ landedOn s journal
+  unfolding landedOn
+  all-spans = refl
+
+  pub none-left : (old buffer : List ℕ) → restored (firstSpans 0) old buffer ≡ buffer
+  unfolding restored tabulate
+  none-left old buffer = refl
+
+  spanned-first : (k : ℕ) → spanned (firstSpans k) ≡ lengthsBefore journal lastGrant k
+  unfolding spanOfRecord lengthsBefore
+  spanned-first k = spanned-table (λ j. spanOfRecord s (writeRecordAt journal lastGrant j)) k
+
+-- Of the first n writes the last, write k: where its old bytes end, and that it goes back before the others.
+module _ (s : StoreMeaning) (journal : List ℕ) (k n : ℕ) (next : suc k ≡ n) where
+  pub lengths-next : (w : LandedWrite) → w ≡ landedAs s (writeRecordAt journal lastGrant k)
+      → lengthsBefore journal lastGrant n ≡ lengthsBefore journal lastGrant k + w .length
+  unfolding lengthsBefore sum landedAs
+  lengths-next w found = rw (found, sym next) refl
+
+  pub back-next : (w : LandedWrite) → w ≡ landedAs s (writeRecordAt journal lastGrant k)
+      → (start : ℕ) → start ≡ lengthsBefore journal lastGrant k
+      → (old buffer bytes after : List ℕ) → bytes ≡ cut old start (w .length)
+      → after ≡ pasted buffer (4096 * w .file + w .place) bytes
+      → restored (firstSpans s journal k) old after ≡ restored (firstSpans s journal n) old buffer
+  unfolding tabulate spanOfRecord landedAs
+  back-next w found start starts old buffer bytes after b e =
+      let ss = firstSpans s journal k in
+      let last = spanOfRecord s (writeRecordAt journal lastGrant k) in
+      let part : cut old start (w .length) ≡ cut old (spanned ss) (last .length) =
+      ap₂ (λ (from : ℕ) (x : LandedWrite). cut old from (x .length)) (starts ∙ sym (spanned-first s journal k)) found in
+      ap (restored ss old) (e ∙ ap₂ (λ (x : LandedWrite) (bs : List ℕ). pasted buffer (4096 * x .file + x .place) bs) found
+      (b ∙ part))
+      ∙ sym (back-last ss last old buffer)
+      ∙ ap (λ (m : ℕ). restored (firstSpans s journal m) old buffer) next
+
+-- What the ranges say of a grant that is held, and of its write k.
+module _ (s : StoreMeaning) (journal : List ℕ) (ranges : storeIn s journal ≡ true) (held : s .undo .held ≡ true) where
+  pub grant-in : UndoInRange (s .undo) journal
+  grant-in = in-range s journal ranges .undo held
+
+  module _ (k : ℕ) (earlier : k < s .undo .used .records) where
+    pub descriptor-in : writeRecordAt journal lastGrant k .descriptor < 16
+    descriptor-in = omega (arith, landed-in _ (grant-in .writes k earlier) .0)
+
+    pub inside : (w : LandedWrite) → w ≡ landedAs s (writeRecordAt journal lastGrant k)
+        → (w .file < 8) × (w .place + w .length ≤ 4096)
+    unfolding landedAs fileOf
+    inside w found =
+        rw found (omega (arith, in-range s journal ranges .files _ descriptor-in), landed-in _ (grant-in .writes k earlier) .1)
+
+  pub lengths-in : (n : ℕ) → n ≤ s .undo .used .records → lengthsBefore journal lastGrant n ≤ 4096
+  unfolding lengthsBefore
+  lengths-in n l =
+      let most = sum-le (λ j. writeRecordAt journal lastGrant j .length) n (s .undo .used .records) l in
+      omega (arith, grant-in .total, grant-in .bytes)

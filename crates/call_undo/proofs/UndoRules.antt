@@ -1,0 +1,60 @@
+-- The rule of taking back after its tests.
+use mathlib.Core.Bool.{false}
+use mathlib.Core.List.{List, []}
+use mathlib.Core.Path.{_≡_, refl, ap, _∙_}
+use lib.ListN.{length}
+use Prim.Native.Nat.{ℕ}
+use Rattle.state.specs.declared.StoreMeaning.{StoreMeaning}
+use Rattle.state.specs.declared.outcomes.Outcome.the-variants.{Done}
+use Rattle.state.specs.StoreMeaning.{withHeld, withUndo}
+use Rattle.state.specs.Layout.{stateLength, storeOf, journalOf}
+use Rattle.state.specs.Updates.{withHeldAt, withFoundCommitted}
+use Rattle.state.specs.Outcomes.{said}
+use Rattle.state.proofs.UndoLaws.{length-copied, store-with-held, journal-with-held}
+use Rattle.state.proofs.UndoLaws.{store-with-found-committed, journal-with-found-committed}
+use Rattle.admission.specs.Admission.{admissionOfUndo}
+use Rattle.spec_undo.specs.OldBytes.{restored}
+use Rattle.spec.specs.Messages.{undoCommit}
+use Rattle.spec.specs.Machine.{Machine, lent, sizes}
+use Rattle.spec.specs.Undo.{landedOn, undone}
+use Rattle.spec.specs.Calls.{answerWith, undoTurn, call}
+use Rattle.spec.specs.Promises.{Meets, machineOf, LeftAsFound}
+use Rattle.refinement.proofs.TurnLaws.{passing-on, done-follows}
+
+-- What its tests say of a machine.
+abbrev pub undo-tests : Machine → ℕ
+undo-tests m = admissionOfUndo (sizes m) (m .store) (m .journal)
+
+module _ (state files logs marks undo : List ℕ) (long : length state ≡ stateLength) where
+  -- The record with what the grant found as the committed offsets and lengths, then with no grant held.
+  module _ (found after : List ℕ) (first : found ≡ withFoundCommitted state) (then : after ≡ withHeldAt found false) where
+    found-long : length found ≡ stateLength
+    found-long = ap length first ∙ length-copied state _ _ _ ∙ long
+
+    store-back : storeOf after ≡ undone (machineOf state files logs marks undo) .store
+    unfolding undone
+    store-back =
+        ap storeOf then
+        ∙ store-with-held found found-long false
+        ∙ ap (λ (s : StoreMeaning). withUndo (withHeld false (s .undo)) s)
+        (ap storeOf first ∙ store-with-found-committed state long)
+
+    journal-back : journalOf after ≡ journalOf state
+    journal-back =
+        ap journalOf then ∙ journal-with-held found found-long false ∙ ap journalOf first
+        ∙ journal-with-found-committed state long
+
+    pub undo-follows : undo-tests (machineOf state files logs marks undo) ≡ 0
+        → (bytes : List ℕ) → bytes ≡ restored (landedOn (storeOf state) (journalOf state)) undo files
+        → Meets (call undoCommit (machineOf state files logs marks undo)) Done (machineOf after bytes logs marks undo) []
+        × LeftAsFound Done state after
+    unfolding call undoTurn undone answerWith said
+    undo-follows passes bytes e =
+        let m = machineOf state files logs marks undo in (
+          rw (passing-on (undo-tests m) [] m (undoTurn m) passes) (record {
+            outcome = refl;
+            machine = λ i. lent (store-back i) (journal-back i) (e i) logs marks undo;
+            reader = refl;
+          }),
+          done-follows state after,
+        )

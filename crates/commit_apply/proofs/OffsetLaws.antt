@@ -1,0 +1,134 @@
+-- Commit's placing, and the offsets that it sets, descriptor by descriptor.
+use mathlib.Core.Bool.{Bool, true, false, cond}
+use mathlib.Core.List.{List, [], _∷_}
+use mathlib.Core.Path.{_≡_, refl, sym, ap, _∙_}
+use lib.Dec.{leb}
+use lib.ListN.{length, getD, set, length-set}
+use lib.Seq.{getD-set-other}
+use borrow.Author.Tests.{le-leb, lt-leb, leb-true}
+use native.Mathlib.Numerals.{add-one}
+use native.Mathlib.Omega.{arith}
+use Prim.Native.Nat.{ℕ, zero, suc, _+_, _-_, _≤_, _<_}
+use Rattle.state.specs.declared.StoreMeaning.{StoreMeaning}
+use Rattle.state.specs.declared.Transaction.{Transaction}
+use Rattle.state.specs.StoreMeaning.{standingAt, withOffsets}
+use Rattle.state.specs.Layout.{storeOf, journalOf}
+use Rattle.state.specs.Updates.{withOffsetAt}
+use Rattle.state.proofs.LayoutLaws.{store-with-offset, journal-with-offset}
+use Rattle.standings.specs.Table.{advance, finalOffset}
+use Rattle.admission.specs.FirstRefusal.{below}
+use Rattle.admission.proofs.Laws.{below-at, below-fails}
+use Rattle.spec.specs.Items.{offset}
+use Rattle.spec.specs.Commits.{setsOffset, offsetSettings, fits}
+use Rattle.spec.specs.Calls.{landOffset, landOffsets}
+use Rattle.commit_apply.specs.Apply.{offsetsOnly, descriptorsOnly, placesFit, Means}
+use Rattle.commit_apply.proofs.Settings.{offsets-append}
+
+-- ---- placing
+
+-- Descriptor d's advance fits behind its committed offset.
+abbrev pub offsetFitsAt : StoreMeaning → Transaction → ℕ → Bool
+offsetFitsAt s x d = leb (getD (s .offsets) d 0 + advance (standingAt x d)) 4096
+
+module _ (s : StoreMeaning) (x : Transaction) where
+  pub placed-all : below (offsetFitsAt s x) 16 ≡ true → placesFit s x ≡ true
+  unfolding fits offsetsOnly
+  placed-all e = e
+
+  module _ (d c a : ℕ) (committed : c ≡ getD (s .offsets) d 0) (limit : c ≤ 4096) (e : a ≡ advance (standingAt x d)) where
+    pub placed-not : d < 16 → 4096 - c < a → placesFit s x ≡ false
+    unfolding fits offsetsOnly
+    placed-not l h = below-fails (offsetFitsAt s x) d 16 l
+        (lt-leb (getD (s .offsets) d 0 + advance (standingAt x d)) 4096 (omega arith))
+
+    pub fits-so : a ≤ 4096 - c → offsetFitsAt s x d ≡ true
+    fits-so h = le-leb (getD (s .offsets) d 0 + advance (standingAt x d)) 4096 (omega arith)
+
+  pub fits-at : placesFit s x ≡ true → (d : ℕ) → d < 16 → getD (s .offsets) d 0 + advance (standingAt x d) ≤ 4096
+  unfolding fits offsetsOnly
+  fits-at e d l = leb-true (getD (s .offsets) d 0 + advance (standingAt x d)) 4096 (below-at (offsetFitsAt s x) 16 d e l)
+
+-- ---- the offsets
+
+module _ (x : Transaction) (offsets : List ℕ) where
+  -- The committed offsets once those of the first n descriptors are set.
+  abbrev pub offsetsSet : ℕ → List ℕ
+  offsetsSet n = landOffsets (offsetSettings (offsetsOnly offsets) (descriptorsOnly x) n) offsets
+
+  pub offsets-none : offsetsSet 0 ≡ offsets
+  unfolding offsetSettings landOffsets
+  offsets-none = refl
+
+  offsets-more : (d : ℕ) (b : Bool) → setsOffset (descriptorsOnly x) d ≡ b
+      → offsetsSet (d + 1) ≡ cond b (set (offsetsSet d) d (finalOffset (getD offsets d 0) (standingAt x d))) (offsetsSet d)
+  unfolding offsetSettings landOffsets landOffset offsetsOnly
+  offsets-more d b e =
+      rw (add-one, e)
+      (offsets-append (offsetSettings (offsetsOnly offsets) (descriptorsOnly x) d)
+      (cond b (record { item = offset d; to = finalOffset (getD offsets d 0) (standingAt x d) } ∷ []) []) offsets
+      ∙ pick b)
+    where
+      pick : (b : Bool) → landOffsets (cond b (record { item = offset d; to = finalOffset (getD offsets d 0) (standingAt x d) }
+          ∷ []) []) (offsetsSet d)
+          ≡ cond b (set (offsetsSet d) d (finalOffset (getD offsets d 0) (standingAt x d))) (offsetsSet d)
+      pick true = refl
+      pick false = refl
+
+  offset-set : (d : ℕ) → setsOffset (descriptorsOnly x) d ≡ true
+      → set (offsetsSet d) d (finalOffset (getD offsets d 0) (standingAt x d)) ≡ offsetsSet (d + 1)
+  offset-set d e = sym (offsets-more d true e)
+
+  offset-preserved : (d : ℕ) → setsOffset (descriptorsOnly x) d ≡ false → offsetsSet d ≡ offsetsSet (d + 1)
+  offset-preserved d e = sym (offsets-more d false e)
+
+  -- Those of later descriptors are still as they were.
+  offset-later : (n d : ℕ) → n ≤ d → getD (offsetsSet n) d 0 ≡ getD offsets d 0
+  unfolding offsetSettings landOffsets
+  offset-later zero d h = refl
+  offset-later (suc n) d h =
+      ap (λ (i : ℕ). getD (offsetsSet i) d 0) (sym (add-one n))
+      ∙ pick (setsOffset (descriptorsOnly x) n) refl
+      ∙ offset-later n d (omega arith)
+    where
+      pick : (b : Bool) → setsOffset (descriptorsOnly x) n ≡ b → getD (offsetsSet (n + 1)) d 0 ≡ getD (offsetsSet n) d 0
+      pick true e =
+          ap (λ (l : List ℕ). getD l d 0) (offsets-more n true e)
+          ∙ getD-set-other (offsetsSet n) n d (finalOffset (getD offsets n 0) (standingAt x n)) 0 (λ p. omega arith)
+      pick false e = ap (λ (l : List ℕ). getD l d 0) (offsets-more n false e)
+
+-- ---- and put into a record
+
+module _ (x : Transaction) (before state : List ℕ) (d : ℕ) (few : d < 16)
+    (so : Means before state (withOffsets (offsetsSet x (storeOf before .offsets) d) (storeOf before)))
+  where
+    -- The committed offset that is read is still the one that stood there before.
+    pub offset-still : getD (storeOf state .offsets) d 0 ≡ getD (storeOf before .offsets) d 0
+    offset-still = ap (λ (s : StoreMeaning). getD (s .offsets) d 0) (so .store)
+        ∙ offset-later x (storeOf before .offsets) d d (omega arith)
+
+    pub offset-put : setsOffset (descriptorsOnly x) d ≡ true
+        → (c n : ℕ) (after : List ℕ) → c ≡ getD (storeOf state .offsets) d 0 → n ≡ finalOffset c (standingAt x d)
+        → after ≡ withOffsetAt state d n
+        → Means before after (withOffsets (offsetsSet x (storeOf before .offsets) (d + 1)) (storeOf before))
+    offset-put sets c n after reads final e =
+        record {
+          store =
+              ap storeOf e
+              ∙ store-with-offset state (so .long) d n few
+              ∙ ap (λ (s : StoreMeaning). withOffsets (set (s .offsets) d n) s) (so .store)
+              ∙ ap (λ (k : ℕ). withOffsets (set (offsetsSet x (storeOf before .offsets) d) d k) (storeOf before))
+              (final ∙ ap (λ (k : ℕ). finalOffset k (standingAt x d)) (reads ∙ offset-still))
+              ∙ ap (λ (os : List ℕ). withOffsets os (storeOf before)) (offset-set x (storeOf before .offsets) d sets);
+          journal = ap journalOf e ∙ journal-with-offset state (so .long) d n ∙ so .journal;
+          long = ap length e ∙ length-set state _ n ∙ so .long;
+        }
+
+    pub offset-left : setsOffset (descriptorsOnly x) d ≡ false → (after : List ℕ) → after ≡ state
+        → Means before after (withOffsets (offsetsSet x (storeOf before .offsets) (d + 1)) (storeOf before))
+    offset-left sets after e =
+        record {
+          store = ap storeOf e ∙ so .store ∙ ap (λ (os : List ℕ). withOffsets os (storeOf before))
+              (offset-preserved x (storeOf before .offsets) d sets);
+          journal = ap journalOf e ∙ so .journal;
+          long = ap length e ∙ so .long;
+        }

@@ -1,0 +1,97 @@
+-- `commit_apply::lengths::lengths_after` meets its contract. The loop's invariant: the lengths are those of the records landed so
+-- far.
+use mathlib.Core.List.{List}
+use mathlib.Core.Path.{_≡_, ap, ap₂, _∙_}
+use lib.ListN.{length, getD, set}
+use Prim.Native.Nat.{ℕ, _-_, _≤_, _<_, max}
+use native.Mathlib.Omega.{arith}
+use Rattle.state.specs.Layout.{storeOf, journalOf}
+use Rattle.spec.specs.Reading.{writeEnd}
+use Rattle.spec.proofs.Refinement.WriteEnds.{write-end}
+use Rattle.refinement.proofs.Shapes.{shaped}
+use Rattle.commit_apply.specs.Apply.{lengthsLandedIn}
+use Rattle.commit_apply.proofs.WriteLaws.{can-first}
+use Rattle.commit_apply.proofs.LengthLaws.{lengths-none, lengths-more}
+use borrow.Author.Needs.{needs}
+use Rattle.commit_apply.proofs.lengths.lengths_after.Statement.{statement}
+use Rattle.commit_apply.proofs.lengths.lengths_after.Tie as tie
+
+abbrev Inv-loop : tie.InvT-loop
+Inv-loop state t records out₀ k₀ out k = (k ≤ records) × (out ≡ lengthsLandedIn state t k)
+
+abbrev μ-loop : tie.MeasureT-loop
+μ-loop state t records out₀ k₀ out k = records - k
+
+-- The turn's record lands in one of the eight files.
+file-in : (c : tie.After-landing-at Inv-loop μ-loop) → c .landing-at .result .file < 8
+file-in c = c .landing-at .ensures .fileIn
+
+loop-holds : tie.Need-loop-holds Inv-loop μ-loop
+loop-holds c =
+    let state = c .before .args .state .now in
+    let s = storeOf state in (
+      omega arith,
+      c .lengths-at .ensures ∙ lengths-none (s .filenumbers) (s .offsets) (journalOf state) _ (s .lengths)
+          (shaped state .lengths),
+    )
+
+landing-at-requires : tie.Need-landing-at-requires Inv-loop μ-loop
+landing-at-requires c κs = can-first (c .before .before .before .pre) (c .loop-test .taken)
+
+write-end-requires : tie.Need-write-end-requires Inv-loop μ-loop
+write-end-requires c κs = c .landing-at .ensures .inside
+
+cast-out : tie.Need-cast-out Inv-loop μ-loop
+cast-out c =
+    let at-end = c .before .before in
+    let end : at-end .write-end .result ≤ 4096 = rw (at-end .write-end .ensures)
+    (write-end _ _ (at-end .before .landing-at .ensures .inside)) in
+    omega (arith, c .larger .ensures, c .before .wide .ensures .1, end)
+
+loop-again : tie.Need-loop-again Inv-loop μ-loop
+loop-again c =
+    let at-end = c .before .before in
+    let landing = at-end .before in
+    let l = landing .before .before .loop in
+    let start = landing .before .before .before .before in
+    let state = start .args .state .now in
+    let s = storeOf state in
+    let lands = landing .landing-at .ensures in
+    let f = landing .landing-at .result .file in (
+      omega (arith, landing .before .loop-test .taken),
+      ap (λ (xs : List ℕ). set xs f (c .larger .result)) (l .inv .1)
+          ∙ lengths-more (s .filenumbers) (s .offsets) (journalOf state) (start .args .t) (s .lengths) (l .k) f
+          (at-end .write-end .result) (c .larger .result)
+          (file-in landing) (lands .file)
+          (at-end .write-end .ensures ∙ ap₂ writeEnd (lands .place) (lands .length))
+          (c .larger .ensures ∙ ap (λ (n : ℕ). max n (at-end .write-end .result))
+          (c .before .wide .ensures .0 ∙ ap (λ (xs : List ℕ). getD xs f 0) (l .inv .1))),
+    )
+
+returns : tie.Need-returns Inv-loop μ-loop
+returns c =
+    let a = c .before .before .before .args in
+    let e : c .before .loop .k ≡ a .used .records = omega (arith, c .loop-test .left) in
+    c .before .loop .inv .1 ∙ ap (lengthsLandedIn (a .state .now) (a .t)) e
+
+pub lengths-after-spec : {M : Type 1} → statement M
+lengths-after-spec =
+    tie.close
+    (tie.spec
+    Inv-loop
+    μ-loop
+    (λ c κs. search needs)
+    loop-holds
+    landing-at-requires
+    write-end-requires
+    (λ c. omega (arith, file-in (c .before)))
+    (λ c. file-in (c .before))
+    (λ c κs. search needs)
+    (λ c κs. search needs)
+    cast-out
+    (λ c. omega (arith, file-in (c .before .before .before)))
+    (λ c. file-in (c .before .before .before))
+    (λ c. search needs)
+    (λ c. search needs)
+    loop-again
+    returns)

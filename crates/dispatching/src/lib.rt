@@ -1,9 +1,0 @@
-// The dispatcher (`dispatch_call`): rounds of calls (`running`, `calls`) until each script is over. Beside it stand the
-// types of what it takes (`scripts`) and of what it answers (`ends`).
-mod calls;
-mod dispatch_call;
-pub mod ends;
-mod running;
-pub mod scripts;
-
-pub use dispatch_call::dispatch;

@@ -1,6 +1,0 @@
-// What a commit lands: the bytes of its writes (`writes`), the committed lengths (`lengths`), the committed offsets
-// (`offsets`); and what the record keeps of it (`keeping`).
-pub mod keeping;
-pub mod lengths;
-pub mod offsets;
-pub mod writes;

@@ -1,4 +1,0 @@
-pub mod Shapes
-pub mod Decoded
-pub mod Encoded
-pub mod Settling

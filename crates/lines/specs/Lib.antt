@@ -1,7 +1,0 @@
-pub mod Lines
-pub mod Looks
--- What a program prints that works line by line.
-pub mod Programs
--- A whole run of it.
-pub mod WholeRun
-pub mod Examples

@@ -1,5 +1,0 @@
--- Laws of the two calls: their rules after each of their tests.
-pub mod LookRules
-pub mod PointerRules
-pub mod ReadRules
-pub mod GivingLaws

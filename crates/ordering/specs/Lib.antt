@@ -1,4 +1,0 @@
-pub mod Answer
-pub mod Examples
-pub mod Table
-pub mod Computing

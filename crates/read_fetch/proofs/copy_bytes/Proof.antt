@@ -1,0 +1,92 @@
+-- `read_fetch::copy_bytes` meets its contract. Assumes nothing.
+use mathlib.Core.List.{List, _++_}
+use mathlib.Core.Path.{_≡_, ap, ap₂, _∙_}
+use Prim.Native.Nat.{ℕ, _*_}
+use native.Mathlib.Omega.{arith}
+use lib.ListN.{length, drop}
+use Rattle.buffers.specs.Parts.{filePart}
+use Rattle.buffers.proofs.PartLaws.{length-cut, length-file}
+use Rattle.read_lookup.specs.Lookup.{Recorded, recordedIn}
+use Rattle.read_fetch.specs.Fetch.{bytesRead, marksAfter, logPart}
+use borrow.Author.Needs.{needs}
+use Rattle.read_fetch.proofs.copy_bytes.Statement.{statement}
+use Rattle.read_fetch.proofs.copy_bytes.Tie as tie
+
+abbrev lent : tie.Start → Recorded
+lent c = recordedIn (c .args .state .now)
+
+abbrev start-of : tie.After-file-part → tie.Start
+start-of c = c .before .before .before .before .before .before
+
+-- The parts that are passed on.
+file-is : (c : tie.After-file-part) → c .file-part .result .now
+    ≡ filePart (start-of c .args .files .now) (start-of c .args .e .file)
+file-is c = c .file-part .ensures ∙ ap (filePart (start-of c .args .files .now)) (c .before .wide .ensures .0)
+
+log-is : (c : tie.After-part) → c .part .result .now
+    ≡ logPart (start-of (c .before) .args .logs .now) (start-of (c .before) .args .t)
+unfolding logPart
+log-is c = c .part .ensures
+
+wide-requires : tie.Need-wide-requires
+wide-requires c κs = search needs
+
+file-part-requires : tie.Need-file-part-requires
+file-part-requires c κs = search needs
+
+mul-part : tie.Need-mul-part
+mul-part c = search needs
+
+part-requires : tie.Need-part-requires
+part-requires c κs = search needs
+
+copy-runs-requires : tie.Need-copy-runs-requires
+copy-runs-requires c κs =
+    let parted = c .before .before in
+    let s = start-of (parted .before) in
+    let a = s .args in
+    let h = s .pre .0 in (
+      record {
+        counted = h .counted;
+        fileLength = ap length (file-is (parted .before)) ∙ length-file (a .files .now) (a .e .file) (h .filesLength) (h .fileIn);
+        logLength = ap length (parted .part .ensures)
+            ∙ length-cut (a .logs .now) (4096 * a .t) 4096 (omega (arith, h .logsLength, h .counted .small));
+        marksLength = h .marksLength;
+        fileIn = h .fileIn;
+        places = h .places;
+      },
+      s .pre .1,
+    )
+
+same-length : tie.Need-same-length
+same-length c = search needs
+
+same-length-2 : tie.Need-same-length-2
+same-length-2 c = search needs
+
+returns : tie.Need-returns
+returns c =
+    let copied = c .before .before .before .before in
+    let parted = copied .before .before .before in
+    let s = start-of (parted .before) in
+    let a = s .args in
+    let r = copied .copy-runs in
+    let l = log-is parted in
+    let f = file-is (parted .before) in (
+      r .ensures .0 ∙ ap₂ (λ (x y : List ℕ). bytesRead (lent s) (a .t) (a .used .records) x y (a .e)
+          ++ drop (a .e .length) (a .reader .now)) l f,
+      r .ensures .1 ∙ ap₂ (λ (x y : List ℕ). marksAfter (lent s) (a .t) (a .used .records) x y (a .e) (a .marks .now)) l f,
+    )
+
+pub copy-bytes-spec : {M : Type 1} → statement M
+copy-bytes-spec =
+    tie.close
+    (tie.spec
+    wide-requires
+    file-part-requires
+    mul-part
+    part-requires
+    copy-runs-requires
+    same-length
+    same-length-2
+    returns)

@@ -1,0 +1,66 @@
+-- `settle_call::chosen_by_read` meets its contract. The loop's invariant: the choices below `e` are made.
+use mathlib.Core.Bool.{Bool, false}
+use mathlib.Core.List.{List}
+use mathlib.Core.Path.{_≡_, sym, ap, ap₂, _∙_}
+use lib.Dec.{eqb}
+use lib.ListN.{set, replicate}
+use native.Mathlib.Omega.{arith}
+use borrow.Author.Needs.{needs}
+use Prim.Native.Nat.{ℕ, _-_, _≤_}
+use Rattle.standings.specs.Table.{readSettles}
+use Rattle.state.specs.StoreMeaning.{standingAt}
+use Rattle.state.specs.Layout.{transactionOf, storeOf}
+use Rattle.state.proofs.Filled.{filled, filled-none, filled-all, filled-set}
+use Rattle.read_settle.specs.Choices.{settlesForRead, chosenByRead}
+use Rattle.read_settle.proofs.settle_call.chosen_by_read.Statement.{statement}
+use Rattle.read_settle.proofs.settle_call.chosen_by_read.Tie as tie
+
+abbrev Inv-loop : tie.InvT-loop
+Inv-loop state t d chosen₀ f e₀ chosen e =
+    (e ≤ 16) × (chosen ≡ filled (settlesForRead (storeOf state .filenumbers) (transactionOf state t) d) (replicate 16 false) e)
+
+abbrev μ-loop : tie.MeasureT-loop
+μ-loop state t d chosen₀ f e₀ chosen e = 16 - e
+
+loop-holds : tie.Need-loop-holds Inv-loop μ-loop
+loop-holds c = (omega arith, sym (filled-none _ (replicate 16 false)))
+
+loop-again : tie.Need-loop-again Inv-loop μ-loop
+unfolding settlesForRead
+loop-again c =
+    let at-loop = c .before .before .before in
+    let a = at-loop .before .before .args in
+    let e = at-loop .loop .e in (
+      omega arith,
+      ap (λ (l : List Bool). set l e (c .read-settles-at .result)) (at-loop .loop .inv .1)
+          ∙ filled-set _ (replicate 16 false) e (c .read-settles-at .result) (omega arith)
+          (c .read-settles-at .ensures
+          ∙ ap₂ (λ (f g : ℕ). readSettles (eqb f g) (eqb e (a .d)) (standingAt (transactionOf (a .state .now) (a .t)) e))
+          (c .before .file-at2 .ensures)
+          (at-loop .before .file-at .ensures)),
+    )
+
+returns : tie.Need-returns Inv-loop μ-loop
+unfolding chosenByRead
+returns c =
+    let l = c .before .loop in
+    let e : l .e ≡ 16 = omega arith in
+    l .inv .1
+    ∙ ap (filled _ (replicate 16 false)) e
+    ∙ filled-all _ (replicate 16 false) 16 (omega arith)
+
+pub chosen-by-read-spec : {M : Type 1} → statement M
+chosen-by-read-spec =
+    tie.close
+    (tie.spec
+    Inv-loop
+    μ-loop
+    (λ c κs. search needs)
+    loop-holds
+    (λ c κs. search needs)
+    (λ c κs. search needs)
+    (λ c. search needs)
+    (λ c. search needs)
+    (λ c. search needs)
+    loop-again
+    returns)

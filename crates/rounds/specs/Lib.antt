@@ -1,6 +1,0 @@
--- The rounds, over any machine that replies to calls; and on the store and the plain machine, with the statements.
-pub mod Rounds
-pub mod Dispatch
-pub mod Corners
--- Values of which the predicates of Dispatch are false.
-pub mod Counterexamples

@@ -1,0 +1,91 @@
+-- The store after transaction t has been reset or committed: other offsets, lengths, transactions and files, and the marks of t
+-- cleared.
+use mathlib.Core.Bool.{Bool, false, cond}
+use mathlib.Core.List.{List}
+use mathlib.Core.Path.{_≡_, refl, _∙_, fun-ext}
+use lib.ListN.{length, getD}
+use Prim.Native.Nat.{ℕ, _≤_, _<_}
+use native.Mathlib.Omega.{arith}
+use borrow.Author.Tests.{le-leb, lt-leb, ne-eqb, eq-eqb}
+use Rattle.buffers.specs.Marks.{hasMark, withoutMarks, contains}
+use Rattle.buffers.proofs.MarkLaws.{length-without-marks, has-without-marks}
+use Rattle.state.specs.declared.Transaction.{Transaction}
+use Rattle.state.specs.StoreMeaning.{transaction, noTransaction}
+use Rattle.admission.proofs.Laws.{in-range, in-range-intro}
+use Rattle.spec.specs.Machine.{Machine, withStore, withFiles, withMarking}
+use Rattle.spec.proofs.Abstract.AbstractStore.{UndoSaved, vacant, held}
+use Rattle.spec.proofs.Refinement.Relation.{heldBy, seat, Sound}
+use Rattle.spec.proofs.Refinement.OtherCommitted.{renewed, AlikeElsewhere, Carried, alike-txn, renewed-in, renewed-shaped}
+
+abbrev pub ending : ℕ → List ℕ → List ℕ → List Transaction → List ℕ → Machine → Machine
+ending t offsets lengths ts files m =
+    withStore (renewed offsets lengths ts (m .store)) (withFiles files (withMarking (withoutMarks t (m .marks)) m))
+
+-- What a transaction holds, stale or not.
+abbrev pub staleAs : UndoSaved → Bool → UndoSaved
+staleAs h b = record { txn = h .txn; marked = h .marked; lengths = h .lengths; stale = b }
+
+-- ---- seats
+
+pub seat-in : (m : Machine) (u : ℕ) (b : Bool) (h : UndoSaved) → u < 8 → transaction (m .store) u .begun ≡ b → heldBy m u ≡ h
+    → seat m u ≡ cond b (held h) vacant
+unfolding seat
+seat-in m u b h l e f = rw (le-leb u 7 (omega arith), e, f)
+
+pub seat-out : (m : Machine) (u : ℕ) → 8 ≤ u → seat m u ≡ vacant
+unfolding seat
+seat-out m u l = rw (lt-leb u 7 (omega arith))
+
+-- ---- marks
+
+module _ (t : ℕ) (marks : List ℕ) where
+  pub unmarked-own : (q : ℕ) → hasMark (withoutMarks t marks) t q ≡ false
+  unmarked-own q = has-without-marks t t q marks ∙ rw (eq-eqb t t refl)
+
+  pub unmarked-other : (u q : ℕ) → (u ≡ t → ⊥) → hasMark (withoutMarks t marks) u q ≡ hasMark marks u q
+  unmarked-other u q other = has-without-marks t u q marks ∙ rw (ne-eqb u t other)
+
+-- ---- the whole
+
+module _ (t : ℕ) (offsets lengths : List ℕ) (ts : List Transaction) (files : List ℕ) (m : Machine) where
+  pub ending-sound : Sound m
+      → ((u : ℕ) → u < 8 → Carried (transaction (m .store) u) (getD ts u noTransaction))
+      → length offsets ≡ 16
+      → ((d : ℕ) → d < 16 → getD offsets d 0 ≤ 4096)
+      → length lengths ≡ 8
+      → ((f : ℕ) → f < 8 → getD lengths f 0 ≤ 4096)
+      → length ts ≡ 8
+      → length files ≡ 32768
+      → Sound (ending t offsets lengths ts files m)
+  ending-sound sound carried e h j k f g =
+      record {
+        shaped = renewed-shaped offsets lengths ts (m .store) (m .journal) carried e j f (sound .shaped);
+        journal = sound .journal;
+        files = g;
+        logs = sound .logs;
+        marks = length-without-marks t (m .marks) ∙ sound .marks;
+        undo = sound .undo;
+        inRange = in-range-intro (renewed offsets lengths ts (m .store)) (m .journal)
+            (renewed-in offsets lengths ts (m .store) (m .journal) carried h k
+            (in-range (m .store) (m .journal) (sound .inRange)));
+      }
+
+  -- Another transaction that is alike keeps what it holds.
+  pub ending-held : (u : ℕ) → (u ≡ t → ⊥) → AlikeElsewhere (transaction (m .store) u) (getD ts u noTransaction)
+      → heldBy (ending t offsets lengths ts files m) u
+      ≡ staleAs (heldBy m u) (getD ts u noTransaction .stale)
+  unfolding heldBy
+  ending-held u other a =
+      let e = alike-txn offsets lengths ts (m .store) (m .journal) u (m .logs) a in
+      let f : hasMark (withoutMarks t (m .marks)) u
+      ≡ hasMark (m .marks) u = fun-ext (λ q. unmarked-other t (m .marks) u q other) in
+      λ i. record { txn = e i; marked = f i; lengths = contains (a .lengthmarks i); stale = getD ts u noTransaction .stale }
+
+  pub ending-seat : (u : ℕ) → u < 8 → (u ≡ t → ⊥) → AlikeElsewhere (transaction (m .store) u) (getD ts u noTransaction)
+      → seat (ending t offsets lengths ts files m) u
+      ≡ cond (transaction (m .store) u .begun)
+      (held (staleAs (heldBy m u) (getD ts u noTransaction .stale))) vacant
+  ending-seat u l other a =
+      seat-in (ending t offsets lengths ts files m) u (transaction (m .store) u .begun)
+      (staleAs (heldBy m u) (getD ts u noTransaction .stale))
+      l (a .begun) (ending-held u other a)

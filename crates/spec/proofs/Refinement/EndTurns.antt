@@ -1,0 +1,92 @@
+-- Begin, Commit and Abort on records and buffers are those of the abstract store, and keep the store sound.
+use mathlib.Core.Bool.{Bool, true, false, cond, not, _&&_}
+use mathlib.Core.List.{List, []}
+use mathlib.Core.Path.{_≡_, refl, sym, subst}
+use lib.Dec.{leb}
+use Prim.Native.Nat.{ℕ, _<_}
+use native.Mathlib.Omega.{arith}
+use borrow.Author.Tests.{leb-true}
+use Rattle.windows.specs.Windows.{minuteIn}
+use Rattle.state.specs.StoreMeaning.{transaction, windowAt, ended, begun}
+use Rattle.admission.specs.Admission.{admissionOfBegin}
+use Rattle.admission.specs.FirstRefusal.{unless}
+use Rattle.admission.proofs.Laws.{in-range}
+use Rattle.spec.specs.Commits.{fits, commitRefusal}
+use Rattle.spec.specs.Windows.{forClosed}
+use Rattle.spec.specs.Messages.{begin, commit, abort, places}
+use Rattle.spec.specs.Machine.{Machine, fileOf, values, txnOf}
+use Rattle.spec.specs.Calls.{answerWith, refuseTurn, passing, beginTurn, abortTurn, commitDecided, settingsOf, commitTurn}
+use Rattle.spec.specs.Calls.{call, placesTurn}
+use Rattle.spec.proofs.Abstract.AbstractStore.{vacant, held, turnedAway, telling, abstractBegin, abstractCommitted}
+use Rattle.spec.proofs.Abstract.AbstractStore.{abstractCommit}
+use Rattle.spec.proofs.Abstract.AbstractStore.{abstractAbort, seated, abstractCall, abstractPlaces}
+use Rattle.spec.proofs.Refinement.Relation.{heldBy, seat, view, Sound}
+use Rattle.spec.proofs.Refinement.Decode.{decoded-in}
+use Rattle.spec.proofs.Refinement.Admissions.{Agrees, shared-is, admitted-agrees}
+use Rattle.spec.proofs.Refinement.OtherCommitted.{ended-bare, begun-bare}
+use Rattle.spec.proofs.Refinement.Resets.{reset-sound, reset-view}
+use Rattle.spec.proofs.Refinement.Relation.{TxnIn}
+use Rattle.spec.proofs.Refinement.Grants.{granted-sound, granted-view, granted-reply}
+
+module _ (m : Machine) (t : ℕ) (sound : Sound m) where
+  begins : (b c : Bool) → leb t 7 ≡ b
+      → Agrees (passing (unless b 3 (unless (not c) 5 0)) [] m (beginTurn t m))
+      (cond b (abstractBegin t (cond (b && c) (held (heldBy m t)) vacant) (view m)) (turnedAway 3 [] (view m)))
+  unfolding unless passing refuseTurn turnedAway abstractBegin beginTurn answerWith telling begun ended
+  begins false c e = (refl, refl, sound)
+  begins true true e = (refl, refl, sound)
+  begins true false e =
+      let l = leb-true t 7 e in
+      (refl, reset-view t begun m (omega arith) begun-bare sound, reset-sound t begun m (omega arith) begun-bare sound)
+
+  pub begin-turn : Agrees (call (begin t) m) (abstractCall (begin t) (view m))
+  unfolding call abstractCall seated view seat admissionOfBegin
+  begin-turn =
+      subst (λ (n : ℕ). Agrees (passing n [] m (beginTurn t m)) (abstractCall (begin t) (view m)))
+      (sym (shared-is m t sound (unless (not (transaction (m .store) t .begun)) 5 0)))
+      (begins (leb t 7) (transaction (m .store) t .begun) refl)
+
+  abort-next : t < 8 → Agrees (abortTurn t m) (abstractAbort t (held (heldBy m t)) (view m))
+  unfolding abortTurn answerWith abstractAbort telling ended
+  abort-next l = (refl, reset-view t ended m l ended-bare sound, reset-sound t ended m l ended-bare sound)
+
+  pub abort-turn : Agrees (call (abort t) m) (abstractCall (abort t) (view m))
+  unfolding call abstractCall abstractAbort
+  abort-turn = admitted-agrees m t sound [] (abortTurn t m) (abstractAbort t) refl (λ l b. abort-next l)
+
+  pub places-turn : (f : ℕ) (out : List ℕ) → Agrees (call (places t f out) m) (abstractCall (places t f out) (view m))
+  unfolding call abstractCall abstractPlaces
+  places-turn f out = admitted-agrees m t sound out (placesTurn t f out m) (abstractPlaces f out) refl (λ l b. listed)
+    where
+      listed : Agrees (placesTurn t f out m) (abstractPlaces f out (held (heldBy m t)) (view m))
+      listed = unfold placesTurn abstractPlaces heldBy view in (refl, refl, sound)
+
+  -- 22, 13, 21, 12, or granted.
+  decides : t < 8 → TxnIn (txnOf (m .store) (m .journal) (m .logs) t) → (daily p shut q : Bool)
+      → fits (values (m .store) (m .files)) (txnOf (m .store) (m .journal) (m .logs) t) ≡ q
+      → Agrees (commitDecided t (txnOf (m .store) (m .journal) (m .logs) t) (settingsOf m t) m (commitRefusal daily p shut q))
+      (abstractCommitted t (heldBy m t) (view m) (commitRefusal daily p shut q))
+  unfolding commitRefusal commitDecided abstractCommitted heldBy view ended
+  decides l h false p shut q e = (refl, refl, sound)
+  decides l h true true shut q e = (refl, reset-view t ended m l ended-bare sound, reset-sound t ended m l ended-bare sound)
+  decides l h true false true q e = (refl, refl, sound)
+  decides l h true false false false e = (refl, refl, sound)
+  decides l h true false false true e =
+      let x = txnOf (m .store) (m .journal) (m .logs) t in
+      (granted-reply m t x l sound h e, granted-view m t x l sound h e, granted-sound m t x l sound h e)
+
+  commit-next : (minute : ℕ) → t < 8 → transaction (m .store) t .begun ≡ true
+      → Agrees (commitTurn t minute m) (abstractCommit t minute (held (heldBy m t)) (view m))
+  unfolding commitTurn abstractCommit heldBy view fileOf
+  commit-next minute l b =
+      let r = in-range (m .store) (m .journal) (sound .inRange) in
+      let v = values (m .store) (m .files) in
+      let x = txnOf (m .store) (m .journal) (m .logs) t in
+      decides l (decoded-in (m .store) (m .journal) (m .logs) t (sound .logs) l (r .transactions t l b)
+      (sound .shaped .descriptors t l))
+      (minuteIn minute) (transaction (m .store) t .stale) (forClosed (fileOf (m .store)) (windowAt (m .store)) minute (x .writes))
+      (fits v x) refl
+
+  pub commit-turn : (minute : ℕ) → Agrees (call (commit t minute) m) (abstractCall (commit t minute) (view m))
+  unfolding call abstractCall abstractCommit
+  commit-turn minute = admitted-agrees m t sound [] (commitTurn t minute m) (abstractCommit t minute) refl (commit-next minute)

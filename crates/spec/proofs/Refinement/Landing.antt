@@ -1,0 +1,137 @@
+-- Landing settings in the files buffer and in the committed offsets and lengths is landing them in the committed values.
+use mathlib.Core.Bool.{Bool, true, false, cond}
+use mathlib.Core.List.{List, [], _∷_}
+use mathlib.Core.Path.{_≡_, refl, ap, _∙_, fun-ext}
+use lib.Dec.{eqb}
+use lib.ListN.{length, getD, set, length-set}
+use lib.Seq.{getD-set-same, getD-set-other}
+use Prim.Native.Nat.{ℕ, _≤_, _<_}
+use native.Mathlib.Omega.{arith}
+use borrow.Author.Tests.{eqb-true, eqb-false}
+use Rattle.state.specs.declared.Transaction.{Transaction}
+use Rattle.state.specs.declared.StoreMeaning.{StoreMeaning}
+use Rattle.spec.specs.Items.{Item, byte, offset, fileLength, same}
+use Rattle.spec.specs.Commits.{Setting, putItem, landed}
+use Rattle.spec.specs.Machine.{values}
+use Rattle.spec.specs.Calls.{landByte, landFiles, landOffset, landOffsets, landLength, landLengths}
+use Rattle.spec.proofs.Refinement.OtherCommitted.{renewed}
+use Rattle.spec.proofs.Refinement.SettingsIn.{SetIn, AllIn}
+
+getD-set : (l : List ℕ) (i : ℕ) (n k : ℕ) → i < length l → getD (set l i n) k 0 ≡ cond (eqb k i) n (getD l k 0)
+getD-set l i n k h = pick (eqb k i) refl
+  where
+    pick : (b : Bool) → eqb k i ≡ b → getD (set l i n) k 0 ≡ cond b n (getD l k 0)
+    pick true e = rw (eqb-true k i e) (getD-set-same l i n 0 h)
+    pick false e = getD-set-other l i k n 0 (eqb-false k i e)
+
+-- ---- lengths
+
+length-byte : (i : Item) (n : ℕ) (files : List ℕ) → length (landByte i n files) ≡ length files
+unfolding landByte
+length-byte (byte q) n files = length-set files q n
+length-byte (offset d) n files = refl
+length-byte (fileLength f) n files = refl
+
+length-offset : (i : Item) (n : ℕ) (offsets : List ℕ) → length (landOffset i n offsets) ≡ length offsets
+unfolding landOffset
+length-offset (byte q) n offsets = refl
+length-offset (offset d) n offsets = length-set offsets d n
+length-offset (fileLength f) n offsets = refl
+
+length-length : (i : Item) (n : ℕ) (lengths : List ℕ) → length (landLength i n lengths) ≡ length lengths
+unfolding landLength
+length-length (byte q) n lengths = refl
+length-length (offset d) n lengths = refl
+length-length (fileLength f) n lengths = length-set lengths f n
+
+pub length-files : (ss : List Setting) (files : List ℕ) → length (landFiles ss files) ≡ length files
+unfolding landFiles
+length-files [] files = refl
+length-files (x ∷ ss) files = length-files ss (landByte (x .item) (x .to) files) ∙ length-byte (x .item) (x .to) files
+
+pub length-offsets : (ss : List Setting) (offsets : List ℕ) → length (landOffsets ss offsets) ≡ length offsets
+unfolding landOffsets
+length-offsets [] offsets = refl
+length-offsets (x ∷ ss) offsets = length-offsets ss (landOffset (x .item) (x .to) offsets)
+    ∙ length-offset (x .item) (x .to) offsets
+
+pub length-lengths : (ss : List Setting) (lengths : List ℕ) → length (landLengths ss lengths) ≡ length lengths
+unfolding landLengths
+length-lengths [] lengths = refl
+length-lengths (x ∷ ss) lengths = length-lengths ss (landLength (x .item) (x .to) lengths)
+    ∙ length-length (x .item) (x .to) lengths
+
+-- ---- ranges
+
+limit-one : (i : Item) (n : ℕ) (offsets : List ℕ) → SetIn i n → length offsets ≡ 16
+    → ((d : ℕ) → d < 16 → getD offsets d 0 ≤ 4096)
+    → (d : ℕ) → d < 16 → getD (landOffset i n offsets) d 0 ≤ 4096
+unfolding landOffset
+limit-one (byte q) n offsets h e r d l = r d l
+limit-one (fileLength f) n offsets h e r d l = r d l
+limit-one (offset c) n offsets h e r d l = rw (getD-set offsets c n d (omega arith)) (pick (eqb d c))
+  where
+    pick : (b : Bool) → cond b n (getD offsets d 0) ≤ 4096
+    pick true = h .1
+    pick false = r d l
+
+pub limit-landed : (ss : List Setting) (offsets : List ℕ) → AllIn ss → length offsets ≡ 16
+    → ((d : ℕ) → d < 16 → getD offsets d 0 ≤ 4096)
+    → (d : ℕ) → d < 16 → getD (landOffsets ss offsets) d 0 ≤ 4096
+unfolding landOffsets
+limit-landed [] offsets a e r = r
+limit-landed (x ∷ ss) offsets a e r =
+    limit-landed ss (landOffset (x .item) (x .to) offsets) (a .1) (length-offset (x .item) (x .to) offsets ∙ e)
+    (limit-one (x .item) (x .to) offsets (a .0) e r)
+
+length-one : (i : Item) (n : ℕ) (lengths : List ℕ) → SetIn i n → length lengths ≡ 8
+    → ((f : ℕ) → f < 8 → getD lengths f 0 ≤ 4096)
+    → (f : ℕ) → f < 8 → getD (landLength i n lengths) f 0 ≤ 4096
+unfolding landLength
+length-one (byte q) n lengths h e r f l = r f l
+length-one (offset d) n lengths h e r f l = r f l
+length-one (fileLength g) n lengths h e r f l = rw (getD-set lengths g n f (omega arith)) (pick (eqb f g))
+  where
+    pick : (b : Bool) → cond b n (getD lengths f 0) ≤ 4096
+    pick true = h .1
+    pick false = r f l
+
+pub limit-lengths : (ss : List Setting) (lengths : List ℕ) → AllIn ss → length lengths ≡ 8
+    → ((f : ℕ) → f < 8 → getD lengths f 0 ≤ 4096)
+    → (f : ℕ) → f < 8 → getD (landLengths ss lengths) f 0 ≤ 4096
+unfolding landLengths
+limit-lengths [] lengths a e r = r
+limit-lengths (x ∷ ss) lengths a e r =
+    limit-lengths ss (landLength (x .item) (x .to) lengths) (a .1) (length-length (x .item) (x .to) lengths ∙ e)
+    (length-one (x .item) (x .to) lengths (a .0) e r)
+
+-- ---- values
+
+module _ (ts : List Transaction) (s : StoreMeaning) where
+  one-landed : (offsets lengths files : List ℕ) → length offsets ≡ 16 → length lengths ≡ 8 → length files ≡ 32768
+      → (n : ℕ) (i : Item) → SetIn i n → (j : Item)
+      → values (renewed (landOffset i n offsets) (landLength i n lengths) ts s) (landByte i n files) j
+      ≡ putItem i n (values (renewed offsets lengths ts s) files) j
+  unfolding values putItem landByte same landOffset landLength
+  one-landed offsets lengths files e g f n (byte q) h (byte p) = getD-set files q n p (omega arith)
+  one-landed offsets lengths files e g f n (byte q) h (offset d) = refl
+  one-landed offsets lengths files e g f n (byte q) h (fileLength k) = refl
+  one-landed offsets lengths files e g f n (offset c) h (byte p) = refl
+  one-landed offsets lengths files e g f n (offset c) h (offset d) = getD-set offsets c n d (omega arith)
+  one-landed offsets lengths files e g f n (offset c) h (fileLength k) = refl
+  one-landed offsets lengths files e g f n (fileLength j) h (byte p) = refl
+  one-landed offsets lengths files e g f n (fileLength j) h (offset d) = refl
+  one-landed offsets lengths files e g f n (fileLength j) h (fileLength k) = getD-set lengths j n k (omega arith)
+
+  pub all-landed : (ss : List Setting) (offsets lengths files : List ℕ) → AllIn ss → length offsets ≡ 16 → length lengths ≡ 8
+      → length files ≡ 32768
+      → values (renewed (landOffsets ss offsets) (landLengths ss lengths) ts s) (landFiles ss files)
+      ≡ landed ss (values (renewed offsets lengths ts s) files)
+  unfolding landOffsets landLengths landFiles landed
+  all-landed [] offsets lengths files a e g f = refl
+  all-landed (x ∷ ss) offsets lengths files a e g f =
+      all-landed ss (landOffset (x .item) (x .to) offsets) (landLength (x .item) (x .to) lengths)
+      (landByte (x .item) (x .to) files) (a .1)
+      (length-offset (x .item) (x .to) offsets ∙ e) (length-length (x .item) (x .to) lengths ∙ g)
+      (length-byte (x .item) (x .to) files ∙ f)
+      ∙ ap (landed ss) (fun-ext (one-landed offsets lengths files e g f (x .to) (x .item) (a .0)))

@@ -1,0 +1,71 @@
+-- F-14's call on records and buffers is that of the abstract store.
+use mathlib.Core.Bool.{Bool, true, false, cond, _&&_}
+use mathlib.Core.List.{List, []}
+use mathlib.Core.Path.{_≡_, refl, sym, ap, _∙_, fun-ext, subst}
+use lib.Dec.{leb}
+use Prim.Native.Nat.{ℕ}
+use Rattle.state.specs.StoreMeaning.{transaction}
+use Rattle.spec.specs.Messages.{bestOrder}
+use Rattle.spec.specs.Machine.{Machine, fileOf}
+use Rattle.spec.specs.Calls.{passing, commitCall, askedOf, orderTurn, call}
+use Rattle.spec.proofs.Abstract.AbstractStore.{vacant, held, isHeld, Abstract, staleSeat, writesSeat, abstractCommitCall}
+use Rattle.spec.proofs.Abstract.AbstractStore.{abstractAsked}
+use Rattle.spec.proofs.Abstract.AbstractStore.{abstractBestOrder, abstractCall}
+use Rattle.spec.proofs.Abstract.Ordering.{grants-same, Agreed, reply-same}
+use Rattle.spec.proofs.Refinement.Relation.{heldBy, seat, view, Sound}
+use Rattle.spec.proofs.Refinement.Admissions.{Agrees, first-is}
+use Rattle.spec.proofs.Refinement.EndTurns.{commit-turn}
+
+pub seat-open : (m : Machine) (t : ℕ) → leb t 7 && transaction (m .store) t .begun ≡ true → seat m t ≡ held (heldBy m t)
+unfolding seat
+seat-open m t e = rw e
+
+open-is : (m : Machine) (t : ℕ) → leb t 7 ≡ true → transaction (m .store) t .begun ≡ isHeld (seat m t)
+unfolding seat
+open-is m t e = rw e (pick (transaction (m .store) t .begun))
+  where
+    pick : (b : Bool) → b ≡ isHeld (cond b (held (heldBy m t)) vacant)
+    pick true = unfold isHeld in refl
+    pick false = unfold isHeld in refl
+
+-- The Commits of an order.
+module _ (minute : ℕ) where
+  abbrev Stands : Machine → Abstract → Type 0
+  Stands m s = Sound m × (view m ≡ s)
+
+  pub commit-agrees : (t : ℕ) (m : Machine) → Sound m → Agrees (commitCall t minute m) (abstractCommitCall t minute (view m))
+  commit-agrees t m sound = unfold call abstractCall in commit-turn m t sound minute
+
+  step : (t : ℕ) (m : Machine) (s : Abstract) → Stands m s
+      → (commitCall t minute m .reply ≡ abstractCommitCall t minute s .reply)
+      × Stands (commitCall t minute m .after) (abstractCommitCall t minute s .after)
+  step t m s h =
+      let a = commit-agrees t m (h .0) in (
+        a .0 ∙ ap (λ (x : Abstract). abstractCommitCall t minute x .reply) (h .1),
+        (a .2, a .1 ∙ ap (λ (x : Abstract). abstractCommitCall t minute x .after) (h .1)),
+      )
+
+  pub order-grants : (m : Machine) → Sound m → (o : List ℕ) → askedOf minute m .grants o ≡ abstractAsked minute (view m) .grants o
+  unfolding askedOf abstractAsked
+  order-grants m sound o =
+      grants-same (λ t n. commitCall t minute n .reply) (λ t n. commitCall t minute n .after)
+      (λ t x. abstractCommitCall t minute x .reply) (λ t x. abstractCommitCall t minute x .after) Stands step o m (view m)
+      (sound, refl)
+
+  pub agreed : (m : Machine) → Sound m → Agreed (askedOf minute m) (abstractAsked minute (view m))
+  unfolding askedOf abstractAsked view
+  agreed m sound =
+      record {
+        isOpen = open-is m;
+        notReady = λ t e. rw (seat-open m t e) (unfold staleSeat writesSeat heldBy in refl);
+        hasClosed = λ t e. rw (seat-open m t e) (unfold writesSeat heldBy fileOf in refl);
+        grants = fun-ext (order-grants m sound);
+      }
+
+  pub order-turn : (m : Machine) → Sound m → (ts : List ℕ) (budget : ℕ)
+      → Agrees (call (bestOrder ts minute budget) m) (abstractCall (bestOrder ts minute budget) (view m))
+  unfolding call abstractCall abstractBestOrder orderTurn passing
+  order-turn m sound ts budget =
+      subst (λ (n : ℕ). Agrees (passing n [] m (orderTurn ts minute budget m)) (abstractBestOrder ts minute budget (view m)))
+      (sym (first-is m 0 sound))
+      (reply-same (askedOf minute m) (abstractAsked minute (view m)) (agreed m sound) ts budget minute, refl, sound)

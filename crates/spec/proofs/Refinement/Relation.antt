@@ -1,0 +1,83 @@
+-- The abstract store that a record and its buffers stand for, and what is known of every store reached from Fresh.
+use mathlib.Core.Bool.{true, false, cond, _&&_}
+use mathlib.Core.Path.{_≡_}
+use lib.Dec.{leb}
+use lib.ListN.{length, getD}
+use Prim.Native.Nat.{ℕ, _≤_, _<_}
+use Rattle.buffers.specs.Marks.{hasMark, contains}
+use Rattle.standings.specs.declared.Standing.the-variants.{Untouched}
+use Rattle.state.specs.declared.StoreMeaning.{StoreMeaning}
+use Rattle.state.specs.StoreMeaning.{transaction, windowAt}
+use Rattle.admission.specs.Admission.{standingIn, placeIn, storeIn}
+use Rattle.spec_undo.specs.OldBytes.{restored}
+use Rattle.spec.specs.Items.{byte, offset, fileLength, Values}
+use Rattle.spec.specs.Undo.{landedOn}
+use Rattle.spec.specs.Transactions.{Txn, Write}
+use Rattle.spec.specs.Steps.{total}
+use Rattle.spec.specs.Machine.{Machine, fileOf, values, txnOf, noWrite}
+use Rattle.spec.proofs.Abstract.AbstractStore.{UndoSaved, Seat, vacant, held, Saved, none, preserved, Abstract}
+
+unfoldable pub heldBy : Machine → ℕ → UndoSaved
+heldBy m u =
+    record {
+      txn = txnOf (m .store) (m .journal) (m .logs) u;
+      marked = hasMark (m .marks) u;
+      lengths = contains (transaction (m .store) u .lengthmarks);
+      stale = transaction (m .store) u .stale;
+    }
+
+unfoldable pub seat : Machine → ℕ → Seat
+seat m u = cond (leb u 7 && transaction (m .store) u .begun) (held (heldBy m u)) vacant
+
+-- The values that the last grant found, as the store holds them; and whether it holds any.
+unfoldable pub backValues : Machine → Values
+backValues m (byte q) = getD (restored (landedOn (m .store) (m .journal)) (m .undo) (m .files)) q 0
+backValues m (offset d) = getD (m .store .undo .offsets) d 0
+backValues m (fileLength f) = getD (m .store .undo .lengths) f 0
+
+unfoldable pub backIn : Machine → Saved
+backIn m = cond (m .store .undo .held) (preserved (backValues m)) none
+
+unfoldable pub view : Machine → Abstract
+view m =
+    record {
+      fileOf = fileOf (m .store);
+      value = values (m .store) (m .files);
+      windows = windowAt (m .store);
+      back = backIn m;
+      seats = seat m;
+    }
+
+-- The lengths that the record's types give its arrays.
+pub record Shaped (s : StoreMeaning) : Type 0 where
+  pub files : length (s .filenumbers) ≡ 16
+  pub offsets : length (s .offsets) ≡ 16
+  pub lengths : length (s .lengths) ≡ 8
+  pub windows : length (s .windows) ≡ 8
+  pub foundOffsets : length (s .undo .offsets) ≡ 16
+  pub foundLengths : length (s .undo .lengths) ≡ 8
+  pub transactions : length (s .transactions) ≡ 8
+  pub descriptors : (t : ℕ) → t < 8 → length (transaction s t .descriptors) ≡ 16
+
+-- A store that meets neither 1 nor 2.
+pub record Sound (m : Machine) : Type 0 where
+  pub shaped : Shaped (m .store)
+  pub journal : length (m .journal) ≡ 1728
+  pub files : length (m .files) ≡ 32768
+  pub logs : length (m .logs) ≡ 32768
+  pub marks : length (m .marks) ≡ 32768
+  pub undo : length (m .undo) ≡ 4096
+  pub inRange : storeIn (m .store) (m .journal) ≡ true
+
+-- Check 2 for one transaction as it is meant.
+pub record WriteIn (y : Txn) (w : Write) : Type 0 where
+  pub descriptor : w .descriptor < 16
+  pub place : placeIn (y .standing (w .descriptor)) (w .place) (length (w .bytes)) ≡ true
+
+pub record TxnIn (y : Txn) : Type 0 where
+  pub standings : (d : ℕ) → standingIn (y .standing d) ≡ true
+  pub above : (d : ℕ) → 16 ≤ d → y .standing d ≡ Untouched
+  pub clean : (d : ℕ) → 16 ≤ d → y .dirty d ≡ false
+  pub records : length (y .writes) ≤ 64
+  pub bytes : total (y .writes) ≤ 4096
+  pub writes : (k : ℕ) → k < length (y .writes) → WriteIn y (getD (y .writes) k noWrite)

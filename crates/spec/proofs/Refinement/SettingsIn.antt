@@ -1,0 +1,143 @@
+-- All that a granted commit sets lies inside the files buffer, or is the offset of a descriptor or the length of a file and at
+-- most 4,096.
+use mathlib.Core.Bool.{Bool, true, false, cond, false≢true}
+use mathlib.Core.List.{List, [], _∷_, _++_}
+use mathlib.Core.Path.{_≡_, refl}
+use lib.Dec.{leb, ltb}
+use lib.ListN.{length, getD}
+use Prim.Native.Nat.{ℕ, zero, suc, _+_, _*_, _≤_, _<_, suc-le-suc}
+use native.Mathlib.Omega.{arith}
+use borrow.Author.Tests.{leb-true}
+use Rattle.standings.specs.declared.Standing.{Standing}
+use Rattle.standings.specs.declared.Standing.the-variants.{Untouched, Placed, Deferred, Moved, Known}
+use Rattle.standings.specs.declared.Place.{Place}
+use Rattle.standings.specs.declared.Place.the-variants.{At, After}
+use Rattle.admission.specs.Admission.{standingIn, endsWithin, placeIn}
+use Rattle.admission.proofs.Laws.{and-right, below-at}
+use Rattle.spec.specs.Items.{Item, byte, offset, fileLength, Values}
+use Rattle.standings.specs.Table.{advance, isTouched, finalOffset}
+use Rattle.spec.specs.Transactions.{Txn, Write}
+use Rattle.spec.specs.Commits.{Setting, landsAt, bytesFrom, byteSettings, setsOffset, offsetSettings, landedEnd}
+use Rattle.spec.specs.Commits.{lengthSettings, settings, fits}
+use Rattle.spec.specs.Reading.{writeEnd}
+use Rattle.spec.proofs.Refinement.Relation.{WriteIn, TxnIn}
+use Rattle.spec.proofs.Refinement.WriteEnds.{write-end, farthest-in}
+use Rattle.spec.specs.Machine.{noWrite}
+
+-- Where an item may lie, and what it may be set to.
+abbrev pub SetIn : Item → ℕ → Type 0
+SetIn (byte q) n = q < 32768
+SetIn (offset d) n = (d < 16) × (n ≤ 4096)
+SetIn (fileLength f) n = (f < 8) × (n ≤ 4096)
+
+abbrev pub AllIn : List Setting → Type 0
+AllIn [] = Unit {0}
+AllIn (x ∷ ss) = SetIn (x .item) (x .to) × AllIn ss
+
+all-append : (ss rs : List Setting) → AllIn ss → AllIn rs → AllIn (ss ++ rs)
+all-append [] rs a b = b
+all-append (x ∷ ss) rs a b = (a .0, all-append ss rs (a .1) b)
+
+-- ---- bytes
+
+interval-in : (q : ℕ) (bs : List ℕ) → q + length bs ≤ 32768 → AllIn (bytesFrom q bs)
+unfolding bytesFrom
+interval-in q [] h = tt
+interval-in q (b ∷ bs) h = (omega arith, interval-in (suc q) bs (omega arith))
+
+-- A write without a place ends within the advance of its descriptor.
+ends-within : (z : Standing) (end : ℕ) → endsWithin z end ≡ true → end ≤ advance z
+unfolding endsWithin
+ends-within Untouched end e = absurd (false≢true e)
+ends-within (Placed o) end e = absurd (false≢true e)
+ends-within (Deferred a) end e = leb-true end a e
+ends-within (Moved a o) end e = leb-true end a e
+ends-within (Known o) end e = absurd (false≢true e)
+
+pub lands-in : (c : ℕ) (z : Standing) (p : Place) (n : ℕ) → c + advance z ≤ 4096 → placeIn z p n ≡ true → landsAt c p + n ≤ 4096
+unfolding placeIn landsAt
+lands-in c z (At p) n h e = leb-true (p + n) 4096 e
+lands-in c z (After a) n h e = let f = ends-within z (a + n) (and-right (leb (a + n) 4096) (endsWithin z (a + n)) e) in omega
+    arith
+
+-- ---- offsets
+
+final-in : (c : ℕ) (z : Standing) → isTouched z ≡ true → c + advance z ≤ 4096 → standingIn z ≡ true → finalOffset c z ≤ 4096
+unfolding standingIn finalOffset
+final-in c Untouched s h e = absurd (false≢true s)
+final-in c (Placed o) s h e = leb-true o 4096 e
+final-in c (Deferred a) s h e = h
+final-in c (Moved a o) s h e = leb-true o 4096 (and-right (leb a 4096) (leb o 4096) e)
+final-in c (Known o) s h e = leb-true o 4096 e
+
+-- ---- a transaction in range whose placing fits
+
+pub fits-at : (v : Values) (y : Txn) → fits v y ≡ true → (d : ℕ) → d < 16 → v (offset d) + advance (y .standing d) ≤ 4096
+unfolding fits
+fits-at v y fit d l =
+    leb-true (v (offset d) + advance (y .standing d)) 4096
+    (below-at (λ e. leb (v (offset e) + advance (y .standing e)) 4096) 16 d fit l)
+
+module _ (fileOf : ℕ → ℕ) (v : Values) (y : Txn) (files : (d : ℕ) → d < 16 → fileOf d ≤ 7) (ranges : TxnIn y)
+    (fit : fits v y ≡ true) where
+  bytes-in : (ws : List Write) → ((k : ℕ) → k < length ws → WriteIn y (getD ws k noWrite)) → AllIn (byteSettings fileOf v ws)
+  unfolding byteSettings
+  bytes-in [] h = tt
+  bytes-in (w ∷ ws) h =
+      let i = h 0 (omega arith) in
+      let d = w .descriptor in
+      let f = files d (i .descriptor) in
+      let g = lands-in (v (offset d)) (y .standing d) (w .place) (length (w .bytes)) (fits-at v y fit d (i .descriptor))
+      (i .place) in
+      all-append (bytesFrom (4096 * fileOf d + landsAt (v (offset d)) (w .place)) (w .bytes)) (byteSettings fileOf v ws)
+      (interval-in (4096 * fileOf d + landsAt (v (offset d)) (w .place)) (w .bytes) (omega arith))
+      (bytes-in ws (λ k l. h (suc k) (suc-le-suc l)))
+
+  one-in : (d : ℕ) → d < 16 → (b : Bool) → setsOffset y d ≡ b
+      → AllIn (cond b (record { item = offset d; to = finalOffset (v (offset d)) (y .standing d) } ∷ []) [])
+  unfolding setsOffset
+  one-in d l true e = (
+    (
+      l,
+      final-in (v (offset d)) (y .standing d) (and-right (y .dirty d) _ e) (fits-at v y fit d l)
+          (ranges .standings d),
+    ),
+    tt,
+  )
+  one-in d l false e = tt
+
+  offsets-in : (n : ℕ) → n ≤ 16 → AllIn (offsetSettings v y n)
+  unfolding offsetSettings
+  offsets-in zero h = tt
+  offsets-in (suc n) h =
+      all-append (offsetSettings v y n) (cond (setsOffset y n)
+      (record { item = offset n; to = finalOffset (v (offset n)) (y .standing n) } ∷ []) [])
+      (offsets-in n (omega arith)) (one-in n (omega arith) (setsOffset y n) refl)
+
+  landed-end : (f : ℕ) → landedEnd fileOf v f (y .writes) ≤ 4096
+  unfolding landedEnd
+  landed-end f =
+      farthest-in fileOf f (λ w. writeEnd (landsAt (v (offset (w .descriptor))) (w .place)) (length (w .bytes))) (y .writes)
+      (λ k l.
+      let w = getD (y .writes) k noWrite in
+      let i = ranges .writes k l in
+      write-end (landsAt (v (offset (w .descriptor))) (w .place)) (length (w .bytes))
+      (lands-in (v (offset (w .descriptor))) (y .standing (w .descriptor)) (w .place) (length (w .bytes))
+      (fits-at v y fit (w .descriptor) (i .descriptor)) (i .place)))
+
+  lengths-in : (n : ℕ) → n ≤ 8 → AllIn (lengthSettings fileOf v (y .writes) n)
+  unfolding lengthSettings
+  lengths-in zero h = tt
+  lengths-in (suc f) h =
+      all-append (lengthSettings fileOf v (y .writes) f) _ (lengths-in f (omega arith))
+      (pick (ltb (v (fileLength f)) (landedEnd fileOf v f (y .writes))))
+    where
+      pick : (b : Bool) → AllIn (cond b (record { item = fileLength f; to = landedEnd fileOf v f (y .writes) } ∷ []) [])
+      pick true = ((omega arith, landed-end f), tt)
+      pick false = tt
+
+  pub settings-in : AllIn (settings fileOf v y)
+  unfolding settings
+  settings-in =
+      all-append (byteSettings fileOf v (y .writes)) _ (bytes-in (y .writes) (ranges .writes))
+      (all-append (offsetSettings v y 16) _ (offsets-in 16 (omega arith)) (lengths-in 8 (omega arith)))

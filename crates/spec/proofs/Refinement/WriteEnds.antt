@@ -1,0 +1,61 @@
+-- Where the writes of a transaction in range end: no later than the file.
+use mathlib.Core.Bool.{Bool, true, false, cond}
+use mathlib.Core.List.{List, [], _∷_, _++_}
+use mathlib.Core.Path.{_≡_}
+use borrow.Author.Tests.{leb-true}
+use lib.Dec.{eqb}
+use lib.ListN.{length, getD}
+use native.Mathlib.Omega.{arith}
+use Prim.Native.Nat.{ℕ, zero, suc, _+_, _≤_, _<_, max, suc-le-suc}
+use Rattle.standings.specs.declared.Standing.{Standing}
+use Rattle.standings.specs.declared.Place.{Place}
+use Rattle.standings.specs.declared.Place.the-variants.{At, After}
+use Rattle.admission.specs.Admission.{placeIn}
+use Rattle.spec.specs.Transactions.{Txn, Write}
+use Rattle.spec.specs.Reading.{writeEnd, placedEnd, farthest, ownEnd, lengthFor}
+use Rattle.spec.specs.Machine.{noWrite}
+use Rattle.spec.proofs.Refinement.Relation.{TxnIn}
+
+pub write-end : (p n : ℕ) → p + n ≤ 4096 → writeEnd p n ≤ 4096
+unfolding writeEnd
+write-end p zero h = omega arith
+write-end p (suc n) h = h
+
+-- If no write ends past the file, neither does the farthest.
+pub farthest-in : (fileOf : ℕ → ℕ) (f : ℕ) (end : Write → ℕ) (ws : List Write)
+    → ((k : ℕ) → k < length ws → end (getD ws k noWrite) ≤ 4096) → farthest fileOf f end ws ≤ 4096
+unfolding farthest
+farthest-in fileOf f end [] h = omega arith
+farthest-in fileOf f end (w ∷ ws) h =
+    let later = farthest-in fileOf f end ws (λ k l. h (suc k) (suc-le-suc l)) in
+    let here = pick (eqb (fileOf (w .descriptor)) f) in
+    omega arith
+  where
+    pick : (b : Bool) → cond b (end w) 0 ≤ 4096
+    pick true = h 0 (omega arith)
+    pick false = omega arith
+
+placed-end : (z : Standing) (place : Place) (n : ℕ) → placeIn z place n ≡ true → placedEnd place n ≤ 4096
+unfolding placedEnd placeIn
+placed-end z (At p) n e = write-end p n (leb-true (p + n) 4096 e)
+placed-end z (After a) n e = omega arith
+
+-- The transaction's own writes, and its length.
+own-end : (fileOf : ℕ → ℕ) (f : ℕ) (y : Txn) → TxnIn y → ownEnd fileOf f (y .writes) ≤ 4096
+unfolding ownEnd
+own-end fileOf f y h =
+    farthest-in fileOf f (λ w. placedEnd (w .place) (length (w .bytes))) (y .writes)
+    (λ k l. let w = getD (y .writes) k noWrite in placed-end (y .standing (w .descriptor)) (w .place) (length (w .bytes))
+    (h .writes k l .place))
+
+pub length-for : (fileOf : ℕ → ℕ) (f : ℕ) (y : Txn) (committed : ℕ) → committed ≤ 4096 → TxnIn y
+    → lengthFor fileOf f (y .writes) committed ≤ 4096
+unfolding lengthFor
+length-for fileOf f y committed l h = let e = own-end fileOf f y h in omega arith
+
+-- The farthest end with one write more.
+pub farthest-last : (fileOf : ℕ → ℕ) (f : ℕ) (end : Write → ℕ) (ws : List Write) (w : Write)
+    → farthest fileOf f end (ws ++ (w ∷ [])) ≡ max (farthest fileOf f end ws) (cond (eqb (fileOf (w .descriptor)) f) (end w) 0)
+unfolding farthest
+farthest-last fileOf f end [] w = omega arith
+farthest-last fileOf f end (x ∷ ws) w = let e = farthest-last fileOf f end ws w in omega arith

@@ -1,0 +1,110 @@
+-- F-9: stores whose marks name the same pairs stand for the same store without buffers, so both answer alike.
+use mathlib.Core.Bool.{Bool, true, false, cond, _&&_}
+use mathlib.Core.List.{List}
+use mathlib.Core.Path.{_≡_, refl, sym, ap, _∙_, fun-ext}
+use borrow.Author.Tests.{leb-true}
+use lib.Dec.{leb}
+use lib.ListN.{length}
+use native.Mathlib.Omega.{arith}
+use Prim.Native.Nat.{ℕ, _<_}
+use Rattle.buffers.specs.Marks.{byTransaction, names, rearranged, hasMark}
+use Rattle.buffers.proofs.Rearranged.{same-pairs}
+use Rattle.state.specs.StoreMeaning.{transaction, windowAt}
+use Rattle.spec.specs.Items.{Item, byte, offset, fileLength, Values}
+use Rattle.spec.specs.Messages.{Call}
+use Rattle.spec.specs.Machine.{Machine, withMarking, fileOf, values}
+use Rattle.spec.specs.Age.{Alike}
+use Rattle.spec.specs.MarkPairs.{Named, AlwaysRestsOnPairs}
+use Rattle.spec.proofs.Abstract.AbstractStore.{UndoSaved, Seat, vacant, held, none, preserved, Abstract, abstractAfter}
+use Rattle.spec.proofs.Abstract.AbstractStore.{abstractReplies}
+use Rattle.spec.proofs.Refinement.Relation.{heldBy, seat, backValues, backIn, view, Sound}
+use Rattle.spec.proofs.Theorems.Serializability.{calls-agree}
+use Rattle.spec.proofs.Theorems.Recovery.{reached-sound}
+
+module _ (m : Machine) (sound : Sound m) (marks : List ℕ) (size : length marks ≡ 32768)
+    (named : Named (names byTransaction marks) m) where
+  abbrev other : Machine
+  other = withMarking marks m
+
+  same-held : (t : ℕ) → t < 8 → heldBy other t ≡ heldBy m t
+  unfolding heldBy hasMark
+  same-held t small =
+      let e : _≡_ {A = ℕ → Bool} (names byTransaction marks t) (names byTransaction (m .marks) t) = fun-ext
+      (λ q. named t q small) in
+      ap (λ (p : ℕ → Bool). heldSo p) e
+    where
+      heldSo : (ℕ → Bool) → UndoSaved
+      heldSo p =
+          record {
+            txn = heldBy m t .txn;
+            marked = p;
+            lengths = heldBy m t .lengths;
+            stale = heldBy m t .stale;
+          }
+
+  same-seat : (t : ℕ) → seat other t ≡ seat m t
+  unfolding seat
+  same-seat t = pick (leb t 7) (transaction (m .store) t .begun) (λ e. let l = leb-true t 7 e in same-held t (omega arith))
+    where
+      pick : (b c : Bool) → (b ≡ true → heldBy other t ≡ heldBy m t)
+          → cond (b && c) (held (heldBy other t)) vacant ≡ cond (b && c) (held (heldBy m t)) vacant
+      pick false c h = refl
+      pick true false h = refl
+      pick true true h = ap held (h refl)
+
+  same-found : (i : Item) → backValues other i ≡ backValues m i
+  unfolding backValues
+  same-found (byte q) = refl
+  same-found (offset d) = refl
+  same-found (fileLength f) = refl
+
+  same-back : backIn other ≡ backIn m
+  unfolding backIn
+  same-back =
+      let e : _≡_ {A = Values} (backValues other) (backValues m) = fun-ext same-found in
+      ap (λ (v : Values). cond (m .store .undo .held) (preserved v) none) e
+
+  same-view : view other ≡ view m
+  unfolding view
+  same-view =
+      let e : _≡_ {A = ℕ → Seat} (seat other) (seat m) = fun-ext same-seat in
+      λ i.
+      record {
+        fileOf = fileOf (m .store);
+        value = values (m .store) (m .files);
+        windows = windowAt (m .store);
+        back = same-back i;
+        seats = e i;
+      }
+
+  other-sound : Sound other
+  other-sound =
+      record {
+        shaped = sound .shaped;
+        journal = sound .journal;
+        files = sound .files;
+        logs = sound .logs;
+        marks = size;
+        undo = sound .undo;
+        inRange = sound .inRange;
+      }
+
+  pub same-pairs-alike : (cs : List Call) → Alike cs m other
+  unfolding view
+  same-pairs-alike cs =
+      let a = calls-agree cs m sound in
+      let b = calls-agree cs other other-sound in
+      record {
+        replies = a .replies ∙ ap (abstractReplies cs) (sym same-view) ∙ sym (b .replies);
+        left = ap (λ (x : Abstract). x .value) (a .state ∙ ap (abstractAfter cs) (sym same-view) ∙ sym (b .state));
+      }
+
+pub always-rests-on-pairs : AlwaysRestsOnPairs
+always-rests-on-pairs m r =
+    let sound = reached-sound m r in
+    record {
+      marks = same-pairs-alike m sound;
+      old =
+          λ marks named. same-pairs-alike m sound (rearranged marks) (same-pairs .size marks)
+          (λ t q l. same-pairs .pairs marks t q l ∙ named t q l);
+    }

@@ -1,0 +1,307 @@
+-- The rules of the calls on the record and the buffers: outcome, record, files, logs, marks, undo and
+-- reader's buffer, for every input. The promises of the code cite these.
+use mathlib.Core.Bool.{Bool, false, cond, not, _&&_, _||_}
+use mathlib.Core.List.{List, [], _∷_}
+use lib.Dec.{eqb}
+use lib.ListN.{set, replicate}
+use Prim.Native.Nat.{ℕ, zero, suc, _+_, _*_}
+use Rattle.limits.specs.Limits.{fileCount, bufferBytes, descriptorCount, transactionCount, logBytes}
+use Rattle.windows.specs.Windows.{minuteIn, window, freshWindow}
+use Rattle.buffers.specs.Parts.{pasted, tabulate}
+use Rattle.buffers.specs.Bits.{bitsOf, countOf}
+use Rattle.buffers.specs.Marks.{hasMark, withMark, withoutMarks, contains}
+use Rattle.state.specs.declared.StoreMeaning.{StoreMeaning}
+use Rattle.state.specs.declared.Transaction.{Transaction}
+use Rattle.state.specs.declared.outcomes.Refusal.the-variants.{Stale}
+use Rattle.state.specs.StoreMeaning.{transaction, standingAt, windowAt, ended, begun, withStale, noUndo}
+use Rattle.state.specs.StoreMeaning.{withWindows, withTransaction}
+use Rattle.state.specs.Journal.{journalLength}
+use Rattle.state.specs.Outcomes.{number, Said, doneAnswer, granted, refused}
+use Rattle.admission.specs.FirstRefusal.{guarded, isNone}
+use Rattle.admission.specs.Admission.{firstTests, admission, admissionOfBegin, admissionOfFresh}
+use Rattle.admission.specs.Admission.{admissionOfWindow, admissionOfUndo}
+use Rattle.spec.specs.Items.{Item, byte, offset, fileLength, result, asked}
+use Rattle.spec.specs.Transactions.{Txn, Write}
+use Rattle.standings.specs.Table.{isKnown}
+use Rattle.spec.specs.Messages.{Op, seek, write, getFilePointer, read, bufferOf}
+use Rattle.spec.specs.Steps.{Stepped, refuse, accept, step, refusedStale}
+use Rattle.spec.specs.Places.{placesOf}
+use Rattle.spec.specs.Windows.{forClosed}
+use Rattle.spec.specs.OrderReply.{grantsIn, hasUnplaced, Asked, orderReply}
+use Rattle.spec.specs.Commits.{Setting, settings, fits, commitRefusal}
+use Rattle.spec.specs.Messages.{Call, begin, on, commit, abort, places, setWindow, undoCommit}
+use Rattle.spec.specs.Messages.{bestOrder, Reply}
+use Rattle.spec.specs.Messages.{Answering, repliesTo, afterAll}
+use Rattle.spec.specs.Machine.{Machine, lent, withStore, withMarking, sizes}
+use Rattle.spec.specs.Machine.{fileOf, values, txnOf, withTxn, journalled}
+use Rattle.spec.specs.Undo.{savingUndo, undone}
+
+-- A call's reply, and the store after it.
+pub record Turn : Type 0 where
+  pub reply : Reply
+  pub after : Machine
+
+unfoldable pub answerWith : Said → Machine → Turn
+answerWith a m = record { reply = record { answer = a; buffer = [] }; after = m }
+
+-- A refusal leaves "everything" [R-16.1], the reader's buffer too.
+unfoldable pub refuseTurn : ℕ → List ℕ → Machine → Turn
+refuseTurn n buffer m = record { reply = record { answer = refused n; buffer = buffer }; after = m }
+
+-- Goes on where no earlier test refuses (0), otherwise turns the call down with the number.
+unfoldable pub passing : ℕ → List ℕ → Machine → Turn → Turn
+passing n buffer m next = guarded (λ k. refuseTurn k buffer m) (isNone n) n next
+
+-- "Every file byte, mark and offset is 0, nothing is open; the log buffer is left as found." [R-1.6] 02, F-8:
+-- a length is "0 when fresh" [R-1.1]. F-11: "Fresh sets all to 0 and 0." [R-11.2] F-13: nothing is held of a
+-- grant, "and Fresh leaves all of it" [R-12.3], the fourth buffer.
+unfoldable pub freshStore : List ℕ → StoreMeaning
+freshStore numbers =
+    record {
+      filenumbers = numbers;
+      offsets = replicate descriptorCount 0;
+      lengths = replicate fileCount 0;
+      windows = replicate fileCount freshWindow;
+      undo = noUndo;
+      transactions = replicate transactionCount ended;
+    }
+
+unfoldable pub freshMachine : List ℕ → List ℕ → List ℕ → Machine
+freshMachine numbers logs undo =
+    lent (freshStore numbers) (replicate journalLength 0) (replicate bufferBytes 0) logs
+    (replicate bufferBytes 0) undo
+
+-- "Fresh takes 16 file numbers and the record at hand, which a refused Fresh hands back." [R-1.6]
+unfoldable pub fresh : List ℕ → Machine → Turn
+fresh numbers m =
+    passing (admissionOfFresh (sizes m) numbers) [] m
+    (answerWith doneAnswer (freshMachine numbers (m .logs) (m .undo)))
+
+-- Transaction t replaced, and its marks cleared.
+unfoldable pub reset : ℕ → Transaction → Machine → Machine
+reset t x m = withMarking (withoutMarks t (m .marks)) (withStore (withTransaction t x (m .store)) m)
+
+-- "Begin gives an empty log, sixteen Untouched descriptors, no marks, not stale." [R-1.7]
+unfoldable pub beginTurn : ℕ → Machine → Turn
+beginTurn t m = answerWith doneAnswer (reset t begun m)
+
+-- "Abort drops log and marks. However it ends, an ended transaction has an empty log, sixteen Untouched
+-- descriptors and is not stale; the log bytes stay." [R-10.1]
+unfoldable pub abortTurn : ℕ → Machine → Turn
+abortTurn t m = answerWith doneAnswer (reset t ended m)
+
+-- 02, F-9: "a bit for each file byte in the order of the file buffer" [R-2.3], set where transaction t has
+-- sighted it: the marks after sightings.
+unfoldable pub marked : ℕ → List Item → List ℕ → List ℕ
+marked t [] marks = marks
+marked t (byte q ∷ is) marks = marked t is (withMark t q marks)
+marked t (offset d ∷ is) marks = marked t is marks
+marked t (fileLength f ∷ is) marks = marked t is marks
+
+-- "A Write puts its bytes in its log directly after the data used. No other call touches a log byte." [R-2.2]
+unfoldable pub logged : ℕ → Op → StoreMeaning → List ℕ → List ℕ
+logged t (seek d v) s logs = logs
+logged t (write d bytes) s logs = pasted logs (logBytes * t + transaction s t .used .bytes) bytes
+logged t (getFilePointer d) s logs = logs
+logged t (read d n buffer) s logs = logs
+
+-- Seek, Write, GetFilePointer and Read: an accepted step's transaction is put back, its sightings are marked.
+unfoldable pub served : ℕ → Op → Machine → List Item → Stepped → Turn
+served t o m is (refuse n) = refuseTurn n (bufferOf o) m
+served t o m is (accept y a buffer) =
+    record {
+      reply = record { answer = a; buffer = buffer };
+      after =
+          record {
+            store = withTxn t y is (m .store);
+            journal = journalled t (y .writes) (m .journal);
+            files = m .files;
+            logs = logged t o (m .store) (m .logs);
+            marks = marked t is (m .marks);
+            undo = m .undo;
+          };
+    }
+
+unfoldable pub stepTurn : ℕ → Op → Machine → Turn
+stepTurn t o m =
+    let v = values (m .store) (m .files) in
+    let p = step (fileOf (m .store)) o (txnOf (m .store) (m .journal) (m .logs) t) in
+    served t o m (asked v p) (refusedStale (transaction (m .store) t .stale) o (result v p))
+
+-- Settings put into the files buffer, into the committed offsets, and into the committed lengths.
+unfoldable pub landByte : Item → ℕ → List ℕ → List ℕ
+landByte (byte q) n files = set files q n
+landByte (offset d) n files = files
+landByte (fileLength f) n files = files
+
+unfoldable pub landFiles : List Setting → List ℕ → List ℕ
+landFiles [] files = files
+landFiles (s ∷ ss) files = landFiles ss (landByte (s .item) (s .to) files)
+
+unfoldable pub landOffset : Item → ℕ → List ℕ → List ℕ
+landOffset (byte q) n offsets = offsets
+landOffset (offset d) n offsets = set offsets d n
+landOffset (fileLength f) n offsets = offsets
+
+unfoldable pub landOffsets : List Setting → List ℕ → List ℕ
+landOffsets [] offsets = offsets
+landOffsets (s ∷ ss) offsets = landOffsets ss (landOffset (s .item) (s .to) offsets)
+
+unfoldable pub landLength : Item → ℕ → List ℕ → List ℕ
+landLength (byte q) n lengths = lengths
+landLength (offset d) n lengths = lengths
+landLength (fileLength f) n lengths = set lengths f n
+
+unfoldable pub landLengths : List Setting → List ℕ → List ℕ
+landLengths [] lengths = lengths
+landLengths (s ∷ ss) lengths = landLengths ss (landLength (s .item) (s .to) lengths)
+
+-- Whether transaction u, as x, has sighted an item: a marked byte, the offset of a descriptor that stands
+-- Known, or a length whose bit is set.
+unfoldable pub hasSighted : List ℕ → ℕ → Transaction → Item → Bool
+hasSighted marks u x (byte q) = hasMark marks u q
+hasSighted marks u x (offset d) = isKnown (standingAt x d)
+hasSighted marks u x (fileLength f) = contains (x .lengthmarks) f
+
+-- "has sighted a byte or offset just set" [R-8.1]; 02, F-8: "a commit that raises a length sets it, and every
+-- other open transaction that has sighted it is stale from then on" [R-7.4].
+unfoldable pub conflicts : List ℕ → ℕ → Transaction → List Setting → Bool
+conflicts marks u x [] = false
+conflicts marks u x (s ∷ ss) = hasSighted marks u x (s .item) || conflicts marks u x ss
+
+-- "Every other open transaction that has sighted a byte or offset just set is stale from then on" [R-8.1]:
+-- whether a granted Commit of t, which sets ss, makes u stale that was not so before.
+unfoldable pub madeStale : ℕ → List Setting → Machine → ℕ → Bool
+madeStale t ss m u =
+    let x = transaction (m .store) u in
+    not (eqb u t) && x .begun && not (x .stale) && conflicts (m .marks) u x ss
+
+-- Transaction u after it; t has ended.
+unfoldable pub afterCommit : ℕ → List Setting → Machine → ℕ → Transaction
+afterCommit t ss m u =
+    let x = transaction (m .store) u in
+    cond (eqb u t) ended (withStale (x .stale || madeStale t ss m u) x)
+
+-- F-4: "an octet with bit t (worth 2 to the power t) for each transaction that this commit made stale and
+-- that was not so before" [R-9.9]
+unfoldable pub commitGranted : ℕ → Txn → List Setting → Machine → Turn
+commitGranted t x ss m =
+    let s = m .store in
+    let keeping = savingUndo x m in
+    record {
+      reply = record { answer = granted (bitsOf (madeStale t ss m) transactionCount); buffer = [] };
+      after =
+          record {
+            store =
+                record {
+                  filenumbers = s .filenumbers;
+                  offsets = landOffsets ss (s .offsets);
+                  lengths = landLengths ss (s .lengths);
+                  windows = s .windows;
+                  undo = keeping .store .undo;
+                  transactions = tabulate (afterCommit t ss m) transactionCount;
+                };
+            journal = keeping .journal;
+            files = landFiles ss (m .files);
+            logs = m .logs;
+            marks = withoutMarks t (m .marks);
+            undo = keeping .undo;
+          };
+    }
+
+-- 13: "it ends as at Abort" [R-9.2]. 12: "everything, the transaction open" [R-16.1]. F-11: "A Commit refused
+-- with 21 or 22 keeps its transaction open." [R-9.1]
+unfoldable pub commitDecided : ℕ → Txn → List Setting → Machine → ℕ → Turn
+commitDecided t x ss m zero = commitGranted t x ss m
+commitDecided t x ss m (suc n) =
+    record {
+      reply = record { answer = refused (suc n); buffer = [] };
+      after = cond (eqb (suc n) (number Stale)) (reset t ended m) m;
+    }
+
+-- What a Commit of t sets if it is granted.
+abbrev pub settingsOf : Machine → ℕ → List Setting
+settingsOf m t = settings (fileOf (m .store)) (values (m .store) (m .files))
+    (txnOf (m .store) (m .journal) (m .logs) t)
+
+unfoldable pub commitTurn : ℕ → ℕ → Machine → Turn
+commitTurn t minute m =
+    let s = m .store in
+    let x = txnOf s (m .journal) (m .logs) t in
+    let shut = forClosed (fileOf s) (windowAt s) minute (x .writes) in
+    commitDecided t x (settingsOf m t) m
+    (commitRefusal (minuteIn minute) (transaction s t .stale) shut (fits (values s (m .files)) x))
+
+-- "Commit answers how many became stale by it that were not so before" [R-9.9]: the former number. F-4: "The
+-- old number is the count of ones in that octet." [R-9.9]
+unfoldable pub formerNumber : ℕ → Machine → ℕ
+formerNumber t m = countOf (madeStale t (settingsOf m t) m) transactionCount
+
+-- F-1: "A new call lists, for one open transaction and one file, the places its writes cover" [R-15.1]; "a
+-- new call changes only what its request says" [R-1.8]: nothing but the buffer for the list.
+unfoldable pub placesTurn : ℕ → ℕ → List ℕ → Machine → Turn
+placesTurn t f out m =
+    record {
+      reply = placesOf (fileOf (m .store)) f out (txnOf (m .store) (m .journal) (m .logs) t);
+      after = m;
+    }
+
+-- 02, F-11: "A call sets a window" [R-11.2], and changes nothing else.
+unfoldable pub windowTurn : ℕ → ℕ → ℕ → Machine → Turn
+windowTurn f start end m =
+    answerWith doneAnswer (withStore (withWindows (set (m .store .windows) f (window start end)) (m .store)) m)
+
+-- The shared tests, 1 to 4, on what a caller lends.
+unfoldable pub admitted : ℕ → List ℕ → Machine → Turn → Turn
+admitted t buffer m next =
+    passing (admission (sizes m) (m .store) (m .journal) t) buffer m next
+
+-- 02, F-13: the call takes the last grant back, and as every new call "changes only what its request says"
+-- [R-1.8] (F-1).
+unfoldable pub undoTurn : Machine → Turn
+undoTurn m = answerWith doneAnswer (undone m)
+
+-- A Commit with its shared tests.
+abbrev pub commitCall : ℕ → ℕ → Machine → Turn
+commitCall t minute m = admitted t [] m (commitTurn t minute m)
+
+-- 02, F-14: what the store is asked at the minute; the Commits of an order are made on this record and these
+-- buffers.
+unfoldable pub askedOf : ℕ → Machine → Asked
+askedOf minute m =
+    let s = m .store in
+    let writes : ℕ → List Write = λ t. txnOf s (m .journal) (m .logs) t .writes in
+    record {
+      isOpen = λ t. transaction s t .begun;
+      notReady = λ t. transaction s t .stale || hasUnplaced (writes t);
+      hasClosed = λ t. forClosed (fileOf s) (windowAt s) minute (writes t);
+      grants = λ o. grantsIn (λ t n. commitCall t minute n .reply) (λ t n. commitCall t minute n .after) o m;
+    }
+
+-- F-14: "the store is unchanged" [R-14.1]
+unfoldable pub orderTurn : List ℕ → ℕ → ℕ → Machine → Turn
+orderTurn ts minute budget m = record { reply = orderReply (askedOf minute m) ts minute budget; after = m }
+
+-- The calls of demand 3, and those of F-1, F-11, F-13 and F-14.
+unfoldable pub call : Call → Machine → Turn
+call (begin t) m =
+    passing (admissionOfBegin (sizes m) (m .store) (m .journal) t) [] m (beginTurn t m)
+call (on t o) m = admitted t (bufferOf o) m (stepTurn t o m)
+call (commit t minute) m = commitCall t minute m
+call (abort t) m = admitted t [] m (abortTurn t m)
+call (places t f out) m = admitted t out m (placesTurn t f out m)
+call (setWindow f start end) m =
+    passing (admissionOfWindow (sizes m) (m .store) (m .journal) f start end) [] m (windowTurn f start end m)
+call undoCommit m = passing (admissionOfUndo (sizes m) (m .store) (m .journal)) [] m (undoTurn m)
+call (bestOrder ts minute budget) m = passing (firstTests (sizes m) (m .store) (m .journal) 0) [] m
+    (orderTurn ts minute budget m)
+
+abbrev pub storeAnswers : Answering Machine
+storeAnswers = record { reply = λ c m. call c m .reply; next = λ c m. call c m .after }
+
+-- A list of calls: the store after it, and its replies.
+abbrev pub callsAfter : List Call → Machine → Machine
+callsAfter cs m = afterAll storeAnswers cs m
+
+abbrev pub callsReplies : List Call → Machine → List Reply
+callsReplies cs m = repliesTo storeAnswers cs m

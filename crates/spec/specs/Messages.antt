@@ -1,0 +1,84 @@
+-- Calls and replies as data. Demand 3 speaks of lists of them.
+use mathlib.Core.List.{List, [], _∷_}
+use Prim.Native.Nat.{ℕ, _+_}
+use Rattle.state.specs.Outcomes.{Said, doneAnswer, pointer, given, granted, pairs, ordered, refused}
+
+-- The calls of one transaction, with their arguments: a Write's bytes, a Read's count and the reader's
+-- buffer.
+pub data Op : Type 0 where
+  seek : ℕ → ℕ → Op
+  write : ℕ → List ℕ → Op
+  getFilePointer : ℕ → Op
+  read : ℕ → ℕ → List ℕ → Op
+
+-- "Begin, Seek, Write, GetFilePointer, Read, Commit and Abort calls" [R-1.8], each with its transaction
+-- number; and F-1's, with a file and the buffer for the list. 02, F-11: "Commit takes the minute" [R-9.1],
+-- and "A call sets a window" [R-11.2]: a file, its start and its end. F-13, "every list of demand 3, which
+-- may from now on hold this call" [R-18.3]: the last grant is taken back. F-14: "up to 8 different open
+-- transactions, a minute and a budget" [R-14.1].
+pub data Call : Type 0 where
+  begin : ℕ → Call
+  on : ℕ → Op → Call
+  commit : ℕ → ℕ → Call
+  abort : ℕ → Call
+  places : ℕ → ℕ → List ℕ → Call
+  setWindow : ℕ → ℕ → ℕ → Call
+  undoCommit : Call
+  bestOrder : List ℕ → ℕ → ℕ → Call
+
+-- The reader's buffer of a call, or that for its list; empty where it has none.
+unfoldable pub bufferOf : Op → List ℕ
+bufferOf (seek d v) = []
+bufferOf (write d bytes) = []
+bufferOf (getFilePointer d) = []
+bufferOf (read d n buffer) = buffer
+
+unfoldable pub bufferOfCall : Call → List ℕ
+bufferOfCall (begin t) = []
+bufferOfCall (on t o) = bufferOf o
+bufferOfCall (commit t minute) = []
+bufferOfCall (abort t) = []
+bufferOfCall (places t f out) = out
+bufferOfCall (setWindow f start end) = []
+bufferOfCall undoCommit = []
+bufferOfCall (bestOrder ts minute budget) = []
+
+-- What a call gives: its answer, and the reader's buffer after it (empty where it has none); F-14's answer
+-- has its order there.
+pub record Reply : Type 0 where
+  pub answer : Said
+  pub buffer : List ℕ
+
+-- A reply with no reader's buffer.
+abbrev pub says : Said → Reply
+says a = record { answer = a; buffer = [] }
+
+-- What answers calls, S being what it holds: its reply to a call, and what it holds after it. The plain
+-- machine does, and so does the store.
+pub record Answering (S : Type 0) : Type 0 where
+  pub reply : Call → S → Reply
+  pub next : Call → S → S
+
+-- A list of calls: the replies, and what is held after it.
+module _ {S : Type 0} (a : Answering S) where
+  unfoldable pub repliesTo : List Call → S → List Reply
+  repliesTo [] s = []
+  repliesTo (c ∷ cs) s = a .reply c s ∷ repliesTo cs (a .next c s)
+
+  unfoldable pub afterAll : List Call → S → S
+  afterAll [] s = s
+  afterAll (c ∷ cs) s = afterAll cs (a .next c s)
+
+-- How many of these replies are grants.
+unfoldable pub isGrant : Said → ℕ
+isGrant doneAnswer = 0
+isGrant (pointer o) = 0
+isGrant (given n) = 0
+isGrant (granted n) = 1
+isGrant (pairs n) = 0
+isGrant (ordered grants gap tried) = 0
+isGrant (refused n) = 0
+
+unfoldable pub grantsAmong : List Reply → ℕ
+grantsAmong [] = 0
+grantsAmong (r ∷ rs) = isGrant (r .answer) + grantsAmong rs

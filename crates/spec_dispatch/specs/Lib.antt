@@ -1,0 +1,7 @@
+-- The rounds, over any machine that replies to calls; and on the store and the plain machine, with the
+-- statements.
+pub mod Rounds
+pub mod Dispatch
+pub mod DispatchEdgeCases
+-- Values of which the predicates of Dispatch are false.
+pub mod DispatchCounterexamples

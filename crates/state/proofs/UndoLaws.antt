@@ -1,0 +1,220 @@
+-- What the record means after something was put into what it holds of the last grant, or went back from there.
+use mathlib.Core.Bool.{Bool}
+use mathlib.Core.List.{List}
+use mathlib.Core.Logic.{_⊎_, inl, inr, ⊎-elim}
+use mathlib.Core.Path.{_≡_, refl, _∙_}
+use lib.ListN.{getD, set, length, length-set}
+use lib.Seq.{getD-set-same, getD-set-other}
+use native.Mathlib.Nat.{eq-or-lt-of-le, le-of-suc-le-suc, not-suc-le-zero}
+use native.Mathlib.Omega.{arith}
+use Prim.Native.Nat.{ℕ, zero, suc, _+_, _≤_, _<_}
+use Rattle.buffers.specs.Parts.{tabulate}
+use Rattle.buffers.proofs.TableLaws.{table-same}
+use Rattle.counters.specs.declared.Used.{Used}
+use Rattle.state.specs.declared.Undo.{Undo}
+use Rattle.state.specs.StoreMeaning.{withOffsets, withLengths, withHeld, withUndo}
+use Rattle.state.specs.Layout.{undoOf, storeOf, journalOf, stateLength}
+use Rattle.state.specs.Updates.{flagNumber, withHeldAt, withUndoUsedAt, copiedTo, withCommittedFound, withFoundCommitted}
+use Rattle.state.proofs.LayoutLaws.{Agree, journal-same, column-same, windows-same, transactions-same, undo-same}
+use Rattle.state.proofs.LayoutLaws.{flag-back, column-left}
+
+-- Two records that agree on the numbers before those of the last grant.
+module _ (r s : List ℕ) (before : Agree r s 0 2296) where
+  store-before : (u : Undo) → undoOf s ≡ u → storeOf s ≡ withUndo u (storeOf r)
+  unfolding storeOf
+  store-before u e =
+      let first : (at n : ℕ) → at + n ≤ 2296 → Agree r s at n = λ at n l j a b. before j (omega arith) (omega arith) in
+      rw (
+        column-same r s 2240 16 (first 2240 16 (omega arith)),
+        column-same r s 2256 16
+            (first 2256 16 (omega arith)),
+        column-same r s 2272 8 (first 2272 8 (omega arith)),
+        windows-same r s
+            (first 2280 16 (omega arith)),
+        transactions-same r s (first 1728 512 (omega arith)),
+        e,
+      )
+
+  journal-before : journalOf s ≡ journalOf r
+  journal-before = journal-same r s (λ j a b. before j (omega arith) (omega arith))
+
+-- ---- one number, or the two counters
+
+module _ (r : List ℕ) (long : length r ≡ stateLength) where
+  before-put : (i n : ℕ) → 2296 ≤ i → Agree r (set r i n) 0 2296
+  before-put i n past j a b = getD-set-other r i j n 0 (λ p. omega arith)
+
+  module _ (b : Bool) where
+    pub length-with-held : length (withHeldAt r b) ≡ length r
+    length-with-held = length-set r 2320 (flagNumber b)
+
+    own-held : undoOf (withHeldAt r b) ≡ withHeld b (undoOf r)
+    unfolding undoOf
+    own-held =
+        let n = flagNumber b in
+        rw (
+          getD-set-same r 2320 n 0 (omega arith),
+          flag-back b,
+          getD-set-other r 2320 2321 n 0
+              (λ p. omega arith),
+          getD-set-other r 2320 2322 n 0 (λ p. omega arith),
+          column-left r 2320 n 2296 16
+              (inr (omega arith)),
+          column-left r 2320 n 2312 8 (inr (omega arith)),
+        )
+
+    pub store-with-held : storeOf (withHeldAt r b) ≡ withUndo (withHeld b (storeOf r .undo)) (storeOf r)
+    unfolding storeOf
+    store-with-held = store-before r (withHeldAt r b) (before-put 2320 (flagNumber b) (omega arith)) (withHeld b (undoOf r))
+        own-held
+
+    pub journal-with-held : journalOf (withHeldAt r b) ≡ journalOf r
+    journal-with-held = journal-before r (withHeldAt r b) (before-put 2320 (flagNumber b) (omega arith))
+
+  module _ (u : Used) where
+    abbrev with-records : List ℕ
+    with-records = set r 2321 (u .records)
+
+    pub length-with-undo-used : length (withUndoUsedAt r u) ≡ length r
+    length-with-undo-used = simp length-set
+
+    long-records : length with-records ≡ stateLength
+    long-records = length-set r 2321 (u .records) ∙ long
+
+    before-counters : Agree r (withUndoUsedAt r u) 0 2296
+    before-counters j a b =
+        getD-set-other with-records 2322 j (u .bytes) 0 (λ p. omega arith)
+        ∙ getD-set-other r 2321 j (u .records) 0 (λ p. omega arith)
+
+    abbrev with-counters : Undo → Undo
+    with-counters x = record { held = x .held; used = u; offsets = x .offsets; lengths = x .lengths }
+
+    own-counters : undoOf (withUndoUsedAt r u) ≡ with-counters (undoOf r)
+    unfolding undoOf
+    own-counters =
+        let s = with-records in
+        let l = long-records in
+        let m = u .bytes in
+        rw (
+          getD-set-other s 2322 2320 m 0 (λ p. omega arith),
+          getD-set-other r 2321 2320 (u .records) 0
+              (λ p. omega arith),
+          getD-set-other s 2322 2321 m 0 (λ p. omega arith),
+          getD-set-same r 2321 (u .records) 0
+              (omega arith),
+          getD-set-same s 2322 m 0 (omega arith),
+          column-left s 2322 m 2296 16 (inr (omega arith)),
+          column-left r 2321
+              (u .records) 2296 16 (inr (omega arith)),
+          column-left s 2322 m 2312 8 (inr (omega arith)),
+          column-left r 2321
+              (u .records) 2312 8 (inr (omega arith)),
+        )
+
+    pub store-with-undo-used : let x = storeOf r .undo in storeOf (withUndoUsedAt r u)
+        ≡ withUndo (record { held = x .held; used = u; offsets = x .offsets; lengths = x .lengths }) (storeOf r)
+    unfolding storeOf
+    store-with-undo-used = store-before r (withUndoUsedAt r u) before-counters (with-counters (undoOf r)) own-counters
+
+    pub journal-with-undo-used : journalOf (withUndoUsedAt r u) ≡ journalOf r
+    journal-with-undo-used = journal-before r (withUndoUsedAt r u) before-counters
+
+-- ---- all 24 offsets and lengths, copied
+
+module _ (r : List ℕ) (from to : ℕ) where
+  pub length-copied : (n : ℕ) → length (copiedTo r from to n) ≡ length r
+  unfolding copiedTo
+  length-copied zero = refl
+  length-copied (suc n) = let s = copiedTo r from to n in length-set s (to + n) (getD s (from + n) 0) ∙ length-copied n
+
+  -- A number that is none of the copies.
+  copied-other : (n j : ℕ) → (j < to) ⊎ (to + n ≤ j) → getD (copiedTo r from to n) j 0 ≡ getD r j 0
+  unfolding copiedTo
+  copied-other zero j w = refl
+  copied-other (suc n) j w =
+      let s = copiedTo r from to n in
+      getD-set-other s (to + n) j (getD s (from + n) 0) 0 (⊎-elim (λ h p. omega arith) (λ h p. omega arith) w)
+      ∙ copied-other n j (⊎-elim inl (λ h. inr (omega arith)) w)
+
+  -- The copies, where the two stretches have no number in common.
+  copied-own : (n k : ℕ) → (from + n ≤ to) ⊎ (to + n ≤ from) → to + n ≤ length r → k < n
+      → getD (copiedTo r from to n) (to + k) 0 ≡ getD r (from + k) 0
+  unfolding copiedTo
+  copied-own zero k apart fit h = absurd (not-suc-le-zero h)
+  copied-own (suc n) k apart fit h =
+      let s = copiedTo r from to n in
+      let l = length-copied n in
+      ⊎-elim
+      (λ e. rw e (getD-set-same s (to + n) (getD s (from + n) 0) 0 (omega arith)
+      ∙ copied-other n (from + n) (⊎-elim (λ a. inl (omega arith)) (λ a. inr (omega arith)) apart)))
+      (λ b. getD-set-other s (to + n) (to + k) (getD s (from + n) 0) 0 (λ p. omega arith)
+      ∙ copied-own n k (⊎-elim (λ a. inl (omega arith)) (λ a. inr (omega arith)) apart) (omega arith) b)
+      (eq-or-lt-of-le (le-of-suc-le-suc h))
+
+  -- A column of m of the copies, from `a` on, and the column from `b` on that it was copied from.
+  column-copied : (n a b at m : ℕ) → (from + n ≤ to) ⊎ (to + n ≤ from) → to + n ≤ length r → a ≡ to + at → b ≡ from + at → at
+      + m ≤ n
+      → tabulate (λ k. getD (copiedTo r from to n) (a + k) 0) m ≡ tabulate (λ k. getD r (b + k) 0) m
+  column-copied n a b at m apart fit ea eb l =
+      table-same _ _ m
+      (λ k h.
+      let e : a + k ≡ to + (at + k) = omega arith in
+      let f : b + k ≡ from + (at + k) = omega arith in
+      rw (e, f) (copied-own n (at + k) apart fit (omega arith)))
+
+module _ (r : List ℕ) (long : length r ≡ stateLength) where
+  own-found : undoOf (withCommittedFound r)
+      ≡ record {
+        held = undoOf r .held;
+        used = undoOf r .used;
+        offsets = tabulate (λ d. getD r (2256 + d) 0) 16;
+        lengths = tabulate
+            (λ f. getD r (2272 + f) 0) 8;
+      }
+  unfolding undoOf
+  own-found =
+      let left : (j : ℕ) → 2320 ≤ j → getD (withCommittedFound r) j 0
+      ≡ getD r j 0 = λ j l. copied-other r 2256 2296 24 j (inr l) in
+      rw (
+        left 2320 (omega arith),
+        left 2321 (omega arith),
+        left 2322 (omega arith),
+        column-copied r 2256 2296 24 2296 2256 0 16
+            (inl (omega arith)) (omega arith) refl refl (omega arith),
+        column-copied r 2256 2296 24 2312 2272 16 8 (inl (omega arith))
+            (omega arith) refl refl (omega arith),
+      )
+
+  before-found : Agree r (withCommittedFound r) 0 2296
+  before-found j a b = copied-other r 2256 2296 24 j (inl b)
+
+  pub store-with-committed-found : let s = storeOf r in storeOf (withCommittedFound r)
+      ≡ withUndo (record { held = s .undo .held; used = s .undo .used; offsets = s .offsets; lengths = s .lengths }) s
+  unfolding storeOf
+  store-with-committed-found = store-before r (withCommittedFound r) before-found _ own-found
+
+  pub journal-with-committed-found : journalOf (withCommittedFound r) ≡ journalOf r
+  journal-with-committed-found = journal-before r (withCommittedFound r) before-found
+
+  pub store-with-found-committed : let s = storeOf r in storeOf (withFoundCommitted r)
+      ≡ withOffsets (s .undo .offsets) (withLengths (s .undo .lengths) s)
+  unfolding storeOf undoOf
+  store-with-found-committed =
+      let s = withFoundCommitted r in
+      let left : (at n : ℕ) → (at + n ≤ 2256) ⊎ (2280 ≤ at) → Agree r s at n =
+      λ at n w j a b. copied-other r 2296 2256 24 j (⊎-elim (λ l. inl (omega arith)) (λ l. inr (omega arith)) w) in
+      rw (
+        column-same r s 2240 16 (left 2240 16 (inl (omega arith))),
+        windows-same r s (left 2280 16 (inr (omega arith))),
+        undo-same r s
+            (left 2296 27 (inr (omega arith))),
+        transactions-same r s
+            (left 1728 512 (inl (omega arith))),
+        column-copied r 2296 2256 24 2256 2296 0 16 (inr (omega arith)) (omega arith) refl refl
+            (omega arith),
+        column-copied r 2296 2256 24 2272 2312 16 8 (inr (omega arith)) (omega arith) refl refl (omega arith),
+      )
+
+  pub journal-with-found-committed : journalOf (withFoundCommitted r) ≡ journalOf r
+  journal-with-found-committed = journal-same r (withFoundCommitted r)
+      (λ j a b. copied-other r 2296 2256 24 j (inl (omega arith)))

@@ -1,0 +1,50 @@
+-- `state::layout::put_files` meets its contract.
+use mathlib.Core.Path.{_≡_, refl, _∙_}
+use lib.ListN.{getD}
+use Prim.Native.Nat.{_-_, _≤_}
+use native.Mathlib.Numerals.{add-one}
+use native.Mathlib.Omega.{arith}
+use borrow.Author.Needs.{needs}
+use Rattle.state.specs.Updates.{withFileNumbersAt}
+use Rattle.state.proofs.layout.put_files.Statement.{statement}
+use Rattle.state.proofs.layout.put_files.Tie as tie
+
+abbrev Inv-loop : tie.InvT-loop
+Inv-loop state₀ numbers d₀ state d = (d ≤ 16) × (state ≡ withFileNumbersAt state₀ (λ e. getD numbers e 0) d)
+
+abbrev μ-loop : tie.MeasureT-loop
+μ-loop state₀ numbers d₀ state d = 16 - d
+
+loop-holds : tie.Need-loop-holds Inv-loop μ-loop
+unfolding withFileNumbersAt
+loop-holds c = (omega arith, refl)
+
+cast-put-file : tie.Need-cast-put-file Inv-loop μ-loop
+cast-put-file c = omega (arith, c .shared-slice-known2 .given (c .before .before .before .loop .d))
+
+loop-again : tie.Need-loop-again Inv-loop μ-loop
+unfolding withFileNumbersAt
+loop-again c =
+    let l = c .before .before .before .before .loop in
+    (omega arith, c .put-file .ensures ∙ rw (l .inv .1, add-one))
+
+returns : tie.Need-returns Inv-loop μ-loop
+returns c =
+    let l = c .before .loop in
+    let e : l .d ≡ 16 = omega arith in
+    rw e at (l .inv .1)
+
+pub put-files-spec : {M : Type 1} → statement M
+put-files-spec =
+    tie.close
+    (tie.spec
+    Inv-loop
+    μ-loop
+    loop-holds
+    (λ c. search needs)
+    cast-put-file
+    (λ c κs. search needs)
+    (λ c. search needs)
+    (λ c. search needs)
+    loop-again
+    returns)

@@ -1,0 +1,53 @@
+-- `state::layout::reset` meets its contract.
+use mathlib.Core.Path.{_≡_, refl}
+use Prim.Native.Nat.{_-_, _≤_}
+use native.Mathlib.Numerals.{add-one}
+use native.Mathlib.Omega.{arith}
+use borrow.Author.Needs.{needs}
+use Rattle.state.specs.Updates.{zeroedFrom, resetAt}
+use Rattle.state.proofs.layout.reset.Statement.{statement}
+use Rattle.state.proofs.layout.reset.Tie as tie
+
+abbrev Inv-loop : tie.InvT-loop
+Inv-loop state₀ t begun base i₀ state i = (i ≤ 54) × (state ≡ zeroedFrom state₀ base i)
+
+abbrev μ-loop : tie.MeasureT-loop
+μ-loop state₀ t begun base i₀ state i = 54 - i
+
+loop-holds : tie.Need-loop-holds Inv-loop μ-loop
+unfolding zeroedFrom
+loop-holds c = (omega arith, refl)
+
+loop-again : tie.Need-loop-again Inv-loop μ-loop
+unfolding zeroedFrom
+loop-again c =
+    let l = c .before .loop in
+    (omega arith, rw (l .inv .1, add-one))
+
+returns : tie.Need-returns Inv-loop μ-loop
+unfolding resetAt
+returns c =
+    let l = c .before .before .loop in
+    let e : l .i ≡ 54 = omega arith in
+    rw (c .flag-of .ensures, l .inv .1, e)
+
+pub reset-spec : {M : Type 1} → statement M
+reset-spec =
+    tie.close
+    (tie.spec
+    Inv-loop
+    μ-loop
+    (λ c. search needs)
+    (λ c. search needs)
+    loop-holds
+    (λ c. search needs)
+    (λ c. search needs)
+    (λ c. search needs)
+    (λ c. search needs)
+    (λ c. search needs)
+    loop-again
+    (λ c κs. search needs)
+    (λ c. search needs)
+    (λ c. search needs)
+    (λ c. search needs)
+    returns)

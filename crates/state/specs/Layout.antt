@@ -1,0 +1,165 @@
+-- The record as a caller lends it, a list of numbers, and what they mean. Nothing but this and Updates.antt
+-- knows how they are laid out:
+--     0       the journal (Journal.antt)
+-- 1728    the transactions, 64 numbers each: the kinds of its sixteen standings, their first numbers, their
+-- second numbers; then
+-- begun, stale, the lengths sighted, the dirty descriptors as bits, records used, bytes used, and ten that
+-- are not looked at
+--     2240    the file numbers of the sixteen descriptors
+--     2256    their committed offsets
+--     2272    the committed lengths of the eight files
+--     2280    the starts of their windows
+--     2288    the ends of their windows
+--     2296    the offsets that the last grant found
+--     2312    the lengths that it found
+--     2320    whether it is held, its write records, its bytes
+use mathlib.Core.Bool.{Bool, cond}
+use mathlib.Core.List.{List}
+use lib.Dec.{eqb}
+use lib.ListN.{getD}
+use Prim.Native.Nat.{ℕ, _+_, _*_}
+use Rattle.limits.specs.Limits.{fileCount, descriptorCount, transactionCount}
+use Rattle.buffers.specs.Parts.{tabulate}
+use Rattle.buffers.specs.Marks.{contains}
+use Rattle.counters.specs.declared.Used.{Used}
+use Rattle.windows.specs.declared.Window.{Window}
+use Rattle.windows.specs.Windows.{window}
+use Rattle.standings.specs.declared.Standing.{Standing}
+use Rattle.standings.specs.declared.Standing.the-variants.{Untouched, Placed, Deferred, Moved, Known}
+use Rattle.state.specs.declared.Descriptor.{Descriptor}
+use Rattle.state.specs.declared.Transaction.{Transaction}
+use Rattle.state.specs.declared.Undo.{Undo}
+use Rattle.state.specs.declared.StoreMeaning.{StoreMeaning}
+use Rattle.state.specs.Journal.{journalLength}
+
+-- Where each part starts, as the sum of what stands before it.
+abbrev pub transactionsAt : ℕ
+transactionsAt = journalLength
+
+-- How many numbers a transaction has, looked at or not.
+abbrev pub transactionLength : ℕ
+transactionLength = 64
+
+abbrev pub fileNumbersAt : ℕ
+fileNumbersAt = transactionsAt + transactionLength * transactionCount
+
+abbrev pub offsetsAt : ℕ
+offsetsAt = fileNumbersAt + descriptorCount
+
+abbrev pub lengthsAt : ℕ
+lengthsAt = offsetsAt + descriptorCount
+
+abbrev pub startsAt : ℕ
+startsAt = lengthsAt + fileCount
+
+abbrev pub endsAt : ℕ
+endsAt = startsAt + fileCount
+
+abbrev pub foundOffsetsAt : ℕ
+foundOffsetsAt = endsAt + fileCount
+
+abbrev pub foundLengthsAt : ℕ
+foundLengthsAt = foundOffsetsAt + descriptorCount
+
+abbrev pub heldAt : ℕ
+heldAt = foundLengthsAt + fileCount
+
+-- How many numbers a record has: the one place that says so.
+abbrev pub stateLength : ℕ
+stateLength = heldAt + 3
+
+-- Where each stands among a transaction's numbers, behind the kinds of its standings;
+-- and how many are looked at.
+abbrev pub firstSlot : ℕ
+firstSlot = descriptorCount
+
+abbrev pub secondSlot : ℕ
+secondSlot = firstSlot + descriptorCount
+
+abbrev pub begunSlot : ℕ
+begunSlot = secondSlot + descriptorCount
+
+abbrev pub staleFlagSlot : ℕ
+staleFlagSlot = begunSlot + 1
+
+abbrev pub lengthmarksSlot : ℕ
+lengthmarksSlot = begunSlot + 2
+
+abbrev pub dirtySlot : ℕ
+dirtySlot = begunSlot + 3
+
+abbrev pub recordsSlot : ℕ
+recordsSlot = begunSlot + 4
+
+abbrev pub bytesSlot : ℕ
+bytesSlot = begunSlot + 5
+
+abbrev pub lookedAtCount : ℕ
+lookedAtCount = begunSlot + 6
+
+-- ---- what numbers mean: every number means something, and none is cut
+
+-- Three numbers as a standing: its kind, the first number that it carries, the second. A kind above 3 is
+-- Known; what a standing does not carry is not looked at.
+unfoldable pub standingOf : ℕ → ℕ → ℕ → Standing
+standingOf k a b =
+    cond (eqb k 0) Untouched (cond (eqb k 1) (Placed a)
+    (cond (eqb k 2) (Deferred a) (cond (eqb k 3) (Moved a b) (Known a))))
+
+-- A flag is set where its number is 1.
+abbrev pub isSet : ℕ → Bool
+isSet n = eqb n 1
+
+-- The first number of transaction t.
+abbrev pub base : ℕ → ℕ
+base t = transactionsAt + transactionLength * t
+
+unfoldable pub descriptorOf : List ℕ → ℕ → ℕ → Descriptor
+descriptorOf r t d =
+    record {
+      standing = standingOf (getD r (base t + d) 0) (getD r (base t + d + firstSlot) 0)
+          (getD r (base t + d + secondSlot) 0);
+      dirty = contains (getD r (base t + dirtySlot) 0) d;
+    }
+
+unfoldable pub usedOf : List ℕ → ℕ → Used
+usedOf r t = record { records = getD r (base t + recordsSlot) 0; bytes = getD r (base t + bytesSlot) 0 }
+
+unfoldable pub transactionOf : List ℕ → ℕ → Transaction
+transactionOf r t =
+    record {
+      begun = isSet (getD r (base t + begunSlot) 0);
+      stale = isSet (getD r (base t + staleFlagSlot) 0);
+      lengthmarks = getD r (base t + lengthmarksSlot) 0;
+      used = usedOf r t;
+      descriptors = tabulate (descriptorOf r t) descriptorCount;
+    }
+
+unfoldable pub windowOf : List ℕ → ℕ → Window
+windowOf r f = window (getD r (startsAt + f) 0) (getD r (endsAt + f) 0)
+
+-- 02, F-13: "the last grant's old .. offsets and lengths are held .. in the record" [R-12.2], beside stretch
+-- 8 of the journal and its counters.
+unfoldable pub undoOf : List ℕ → Undo
+undoOf r =
+    record {
+      held = isSet (getD r heldAt 0);
+      used = record { records = getD r (heldAt + 1) 0; bytes = getD r (heldAt + 2) 0 };
+      offsets = tabulate (λ d. getD r (foundOffsetsAt + d) 0) descriptorCount;
+      lengths = tabulate (λ f. getD r (foundLengthsAt + f) 0) fileCount;
+    }
+
+-- The record's meaning, in two parts.
+unfoldable pub storeOf : List ℕ → StoreMeaning
+storeOf r =
+    record {
+      filenumbers = tabulate (λ d. getD r (fileNumbersAt + d) 0) descriptorCount;
+      offsets = tabulate (λ d. getD r (offsetsAt + d) 0) descriptorCount;
+      lengths = tabulate (λ f. getD r (lengthsAt + f) 0) fileCount;
+      windows = tabulate (windowOf r) fileCount;
+      undo = undoOf r;
+      transactions = tabulate (transactionOf r) transactionCount;
+    }
+
+unfoldable pub journalOf : List ℕ → List ℕ
+journalOf r = tabulate (λ i. getD r i 0) journalLength

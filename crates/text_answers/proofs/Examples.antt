@@ -1,0 +1,10 @@
+-- The examples of specs/, computed.
+use mathlib.Core.Path.{refl}
+use Rattle.text_answers.specs.Examples.{AnswerExamples}
+use Rattle.text_answers.specs.Printed.{printed, spelled, okNumber, okBytes, decimal}
+use Rattle.text_numerals.specs.Decimal.{decimalBelow}
+use Rattle.text_numerals.specs.Pairs.{hexPairs}
+
+pub answer-examples : AnswerExamples
+unfolding printed spelled okNumber okBytes decimal decimalBelow hexPairs
+answer-examples = record { asked = (refl, refl, refl); numbers = (refl, refl, refl, refl); bytes = (refl, refl) }

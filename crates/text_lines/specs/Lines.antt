@@ -1,0 +1,60 @@
+-- The lines of a trace. Paper 02, F-5: "A line ends at the byte 10, the last one also at the end of the
+-- input, where an empty rest is no line." [R-19.3]
+use mathlib.Core.Path.{_≡_}
+use mathlib.Core.Bool.{cond}
+use mathlib.Core.List.{List, [], _∷_, _++_, map}
+use lib.Dec.{eqb}
+use lib.ListN.{take}
+use Prim.Native.Nat.{ℕ, suc}
+
+-- The line that a byte of the input ends, if it does, and what is held of the line at hand after the byte.
+unfoldable pub endedLine : ℕ → List ℕ → List (List ℕ)
+endedLine x held = cond (eqb x 10) (held ∷ []) []
+
+unfoldable pub grown : ℕ → List ℕ → List ℕ
+grown x held = cond (eqb x 10) [] (held ++ (x ∷ []))
+
+-- "the last one also at the end of the input, where an empty rest is no line" [R-19.3]
+unfoldable pub lastLine : List ℕ → List (List ℕ)
+lastLine [] = []
+lastLine (x ∷ xs) = (x ∷ xs) ∷ []
+
+unfoldable pub linesFrom : List ℕ → List ℕ → List (List ℕ)
+linesFrom held [] = lastLine held
+linesFrom held (x ∷ xs) = endedLine x held ++ linesFrom (grown x held) xs
+
+-- The lines of the whole input.
+unfoldable pub linesOf : List ℕ → List (List ℕ)
+linesOf input = linesFrom [] input
+
+-- ---- input that comes in pieces
+
+-- What is kept of a line that may have `most` bytes: one byte more, which shows that it is "longer .. without
+-- its line end" [R-19.5].
+unfoldable pub truncated : ℕ → List ℕ → List ℕ
+truncated most line = take (suc most) line
+
+-- The lines that end in a piece, and what is held after it, where held is what came before of the line at
+-- hand.
+unfoldable pub completedIn : ℕ → List ℕ → List ℕ → List (List ℕ)
+completedIn most held [] = []
+completedIn most held (x ∷ xs) = endedLine x held ++ completedIn most (truncated most (grown x held)) xs
+
+unfoldable pub pendingAfter : ℕ → List ℕ → List ℕ → List ℕ
+pendingAfter most held [] = held
+pendingAfter most held (x ∷ xs) = pendingAfter most (truncated most (grown x held)) xs
+
+-- The lines of all pieces.
+unfoldable pub fromPieces : ℕ → List ℕ → List (List ℕ) → List (List ℕ)
+fromPieces most held [] = lastLine held
+fromPieces most held (piece ∷ pieces) = completedIn most held piece
+    ++ fromPieces most (pendingAfter most held piece) pieces
+
+unfoldable pub joinedPieces : List (List ℕ) → List ℕ
+joinedPieces [] = []
+joinedPieces (piece ∷ pieces) = piece ++ joinedPieces pieces
+
+-- Proved in proofs/Pieces.antt: wherever the input is cut, the lines are those of the whole.
+abbrev pub PiecesAreTheWhole : Type 0
+PiecesAreTheWhole = (most : ℕ) (pieces : List (List ℕ)) → fromPieces most [] pieces
+    ≡ map (truncated most) (linesOf (joinedPieces pieces))

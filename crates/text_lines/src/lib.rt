@@ -1,0 +1,56 @@
+// The lines of an input that comes in pieces. Of the line at hand as many bytes are held in a lent buffer as
+// it has, so that a line of any length passes through; that is to be one byte more than a line may have.
+ghost use mathlib.Core.Path.{_≡_};
+ghost use mathlib.Core.Bool.{cond};
+ghost use mathlib.Core.List.{_∷_, []};
+ghost use Prim.Native.Nat.{_-_, _<_, _≤_};
+ghost use lib.ListN.{length, take, drop};
+ghost use Rattle.text_lines.specs.Lines.{lastLine};
+ghost use Rattle.text_lines.specs.Scans.{NextLine, Went};
+
+// What a look for the next line end found: whether a line ended, how many bytes of it are held, and the place
+// after it in the piece.
+pub struct Scan {
+    pub complete: bool,
+    pub held: usize,
+    pub at: usize,
+}
+
+// Looks for the next line end in the piece, from `from` on. The bytes on the way there join the `held` bytes
+// of the line at hand.
+pub fn next_line(line: &mut [u8], held: usize, piece: &[u8], from: usize) -> Scan
+    requires { ⌜ (1 ≤ length (now line)) × ((held ≤ length (now line)) × (from ≤ length (now piece))) ⌝ }
+    ensures { λ r. ⌜ NextLine (length (now (line .entry)) - 1) (r .complete) (take held (now (line .entry))) (drop from (now (piece .entry)))
+        (take (r .held) (now (line .exit))) (drop (r .at) (now (piece .entry)))
+        × Went (length (now (line .entry)) - 1) r from (length (now (piece .entry))) ⌝ }
+{
+    let mut n = held;
+    let mut i = from;
+    while i < piece.len() {
+        let b = piece[i];
+        i += 1;
+        if b == b'\n' {
+            return Scan {
+                complete: true,
+                held: n,
+                at: i,
+            };
+        }
+        if n < line.len() {
+            line[n] = b;
+            n += 1;
+        }
+    }
+    Scan {
+        complete: false,
+        held: n,
+        at: i,
+    }
+}
+
+// Whether what is held at the end of the input is a line.
+pub fn is_line(rest: &[u8]) -> bool
+    ensures { λ r. ⌜ lastLine (now (rest .entry)) ≡ cond r (now (rest .entry) ∷ []) [] ⌝ }
+{
+    0 < rest.len()
+}

@@ -1,0 +1,10 @@
+-- What specs/ states of a call log.
+use Rattle.text_log.specs.Statements.{CallLogHolds}
+use Rattle.text_log.proofs.RoundTrip.{back, fresh-back}
+use Rattle.text_log.proofs.Clipping.{clipped}
+use Rattle.text_log.proofs.Cutting.{fresh-cut, order-cut}
+use Rattle.text_log.proofs.Traces.{traces}
+
+pub call-log-holds : CallLogHolds
+call-log-holds =
+    record { back = back; freshBack = fresh-back; clipped = clipped; freshCut = fresh-cut; orderCut = order-cut; traces = traces }

@@ -1,0 +1,22 @@
+-- `perform_order` meets its contract. Assumes nothing.
+use borrow.Author.Needs.{needs}
+use Rattle.text_replay.proofs.Performing.{order-replies}
+use Rattle.text_replay.proofs.answering.perform_order.Statement.{statement}
+use Rattle.text_replay.proofs.answering.perform_order.Tie as tie
+
+returns : tie.Need-returns
+returns c =
+    let at-put-order = c .before .before .before in
+    let at-best-order = at-put-order .before .before .before in
+    order-replies _ _ _ _ _ _ _ _ (at-put-order .put-order .ensures .0) (at-put-order .put-order .ensures .1)
+    (c .order-size .ensures) (at-best-order .best-order .ensures .0 .0)
+
+pub perform-order-spec : {M : Type 1} → statement M
+perform-order-spec =
+    tie.close
+    (tie.spec
+    (λ c κs. search needs)
+    (λ c κs. search needs)
+    (λ c κs. search needs)
+    (λ c. search needs)
+    returns)

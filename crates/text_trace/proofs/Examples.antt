@@ -1,0 +1,23 @@
+-- The examples hold.
+use mathlib.Core.Path.{refl}
+use Rattle.text_trace.specs.Grammar.{parsed, form, lettered, after, ends, writes}
+use Rattle.text_numerals.specs.Decimal.{spacedNumber, frontNumber, frontWithin, fitting, digits, isDigit}
+use Rattle.text_trace.specs.Examples.{TraceLineExamples, bytesOfText, isForm, firsts}
+
+pub trace-line-examples : TraceLineExamples
+unfolding parsed form lettered after spacedNumber frontNumber frontWithin fitting digits isDigit ends writes bytesOfText isForm
+    firsts
+trace-line-examples =
+    record {
+      alone = (refl, refl, refl);
+      numbered = (refl, refl, refl);
+      written = (refl, refl, refl, refl);
+      unwritten = (refl, refl, refl);
+      transactions = (refl, refl, refl, refl, refl);
+      digits = (refl, refl, refl, refl, refl, refl, refl);
+      spaces = (refl, refl, refl, refl, refl);
+      others = (refl, refl, refl, refl, refl);
+      noDigits = (refl, refl, refl, refl, refl, refl);
+      letters = refl;
+      longest = (refl, refl);
+    }

@@ -1,2 +1,0 @@
-pub mod BackLaws
-pub mod BackRules

@@ -1,0 +1,7 @@
+pub mod ImageLaws
+pub mod Layouts
+pub mod Columns
+pub mod WriteRecords
+pub mod Rejuvenated
+pub mod Back
+pub mod Holds

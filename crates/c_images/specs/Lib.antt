@@ -1,0 +1,3 @@
+pub mod ImageCalls
+pub mod LayoutOne
+pub mod ImagesHold

@@ -1,0 +1,82 @@
+// Images for programs in other languages: saving what is committed, loading it, the check alone; and the
+// number of the record's layout. Arrays cross as plain pointers, the image as three: numbers, files, old
+// bytes.
+mod loading;
+mod saving;
+
+use c_codes::code;
+use images::Numbers;
+use state::layout::State;
+ghost use mathlib.Core.List.{[]};
+ghost use mathlib.Core.Path.{_≡_};
+ghost use Rattle.spec.specs.Promises.{handed};
+ghost use Rattle.c_codes.specs.Codes.{AnswersAsCode};
+ghost use Rattle.c_images.specs.ImageCalls.{checkRule, loadRule, SavedImage};
+ghost use Rattle.c_images.specs.LayoutOne.{layoutNumber};
+
+// A store buffer: the files, the logs or the marks.
+pub type Buffer = [u8; 32768];
+
+// The bytes on which the last grant landed.
+pub type Old = [u8; 4096];
+
+// Check 2 alone.
+#[no_mangle]
+pub extern "C" fn luzhanem_parts_check(
+    state: &State,
+    files: &Buffer,
+    logs: &Buffer,
+    marks: &Buffer,
+    undo: &Old,
+) -> i32
+    ensures { λ r. ⌜ AnswersAsCode checkRule state files logs marks undo r [] ⌝ }
+{
+    code(saving::check_state(state, files, logs, marks, undo))
+}
+
+// Saves what is committed, whatever is open.
+#[no_mangle]
+pub extern "C" fn luzhanem_parts_save(
+    state: &State,
+    files: &Buffer,
+    logs: &Buffer,
+    marks: &Buffer,
+    undo: &Old,
+    numbers: &mut Numbers,
+    bytes: &mut Buffer,
+    old: &mut Old,
+) -> i32
+    ensures { λ r. ⌜ AnswersAsCode checkRule state files logs marks undo r []
+        × SavedImage (handed state files logs marks undo) numbers bytes old ⌝ }
+{
+    let o = saving::save_image(state, files, logs, marks, undo, numbers, bytes, old);
+    code(o)
+}
+
+// Makes the store the young one of the image.
+#[no_mangle]
+pub extern "C" fn luzhanem_parts_load(
+    state: &mut State,
+    files: &mut Buffer,
+    logs: &Buffer,
+    marks: &mut Buffer,
+    undo: &mut Old,
+    numbers: &Numbers,
+    bytes: &Buffer,
+    old: &Old,
+) -> i32
+    ensures { λ r. ⌜ AnswersAsCode
+        (loadRule (now (numbers .entry)) (now (bytes .entry)) (now (old .entry)))
+        state files logs marks undo r [] ⌝ }
+{
+    let o = loading::load_image(state, files, logs, marks, undo, numbers, bytes, old);
+    code(o)
+}
+
+// The number of the record's layout. A copy of the raw parts fits one layout only.
+#[no_mangle]
+pub extern "C" fn luzhanem_parts_layout() -> i32
+    ensures { λ r. ⌜ r ≡ layoutNumber ⌝ }
+{
+    1
+}

@@ -1,0 +1,381 @@
+-- The record of an image's numbers means what they say.
+use mathlib.Core.Bool.{Bool, true, false}
+use mathlib.Core.List.{List, []}
+use mathlib.Core.Logic.{_⊎_, inl, inr, ⊎-elim}
+use mathlib.Core.Path.{_≡_, refl, sym, ap, _∙_}
+use borrow.Author.Tests.{eqb-true, eqb-false}
+use lib.Dec.{eqb}
+use lib.ListN.{getD, set, length, length-set, replicate, length-replicate, getD-replicate, List·getD-eq-default}
+use lib.Seq.{getD-set-same, getD-set-other, set-out}
+use native.Mathlib.Nat.{suc-add, eq-or-lt-of-le, le-of-suc-le-suc, not-suc-le-zero}
+use native.Mathlib.Omega.{arith}
+use Prim.Native.Nat.{ℕ, zero, suc, _+_, _-_, _*_, _≤_, _<_, min}
+use Rattle.buffers.specs.Parts.{tabulate}
+use Rattle.buffers.proofs.PartLaws.{le-or-lt}
+use Rattle.buffers.proofs.TableLaws.{table-same}
+use Rattle.windows.specs.Windows.{window}
+use Rattle.state.specs.declared.StoreMeaning.{StoreMeaning}
+use Rattle.state.specs.declared.Undo.{Undo}
+use Rattle.state.specs.declared.journal.WriteRecord.{WriteRecord}
+use Rattle.state.specs.StoreMeaning.{ended}
+use Rattle.standings.specs.Table.{placeNumber}
+use Rattle.spec.proofs.Refinement.IndexedLists.{tabulate-getD}
+use Rattle.state.specs.Journal.{lastGrant, withRecordAt, withRecords}
+use Rattle.state.specs.Layout.{storeOf, undoOf, windowOf, transactionOf, journalOf, stateLength, isSet}
+use Rattle.state.specs.Updates.{flagNumber}
+use Rattle.state.proofs.LayoutLaws.{flag-back, store-of-zeros, transactions-same, journal-same, journal-with-record}
+use Rattle.state.proofs.LayoutLaws.{store-with-record}
+use Rattle.state.proofs.JournalLaws.{length-with, length-with-at}
+use Rattle.images.specs.Images.{recordFrom, undoFrom, storeFrom, journalFrom}
+use Rattle.images.specs.Young.{withEach, putDescriptor, putFile, withLastGrant, Young}
+
+-- ---- what is put one after the other
+
+module _ (put : ℕ → List ℕ → List ℕ) (same : (n : ℕ) (r : List ℕ) → length (put n r) ≡ length r) where
+  pub length-each : (n : ℕ) (r : List ℕ) → length (withEach put n r) ≡ length r
+  unfolding withEach
+  length-each zero r = refl
+  length-each (suc n) r = same n (withEach put n r) ∙ length-each n r
+
+  -- A number that none of them puts, and one that the k-th alone puts.
+  module _ (j : ℕ) where
+    pub each-other : (n : ℕ) → ((k : ℕ) (r : List ℕ) → k < n → getD (put k r) j 0 ≡ getD r j 0) → (r : List ℕ)
+        → getD (withEach put n r) j 0 ≡ getD r j 0
+    unfolding withEach
+    each-other zero left r = refl
+    each-other (suc n) left r = left n (withEach put n r) (omega arith) ∙ each-other n (λ k s h. left k s (omega arith)) r
+
+    pub each-own : (n k v long : ℕ) → k < n → ((r : List ℕ) → length r ≡ long → getD (put k r) j 0 ≡ v)
+        → ((i : ℕ) (r : List ℕ) → i < n → (i ≡ k → ⊥) → getD (put i r) j 0 ≡ getD r j 0) → (r : List ℕ) → length r ≡ long
+        → getD (withEach put n r) j 0 ≡ v
+    unfolding withEach
+    each-own zero k v long h own left r l = absurd (not-suc-le-zero h)
+    each-own (suc n) k v long h own left r l =
+        ⊎-elim
+        (λ e. ap (λ (i : ℕ). getD (put i (withEach put n r)) j 0) (sym e) ∙ own (withEach put n r) (length-each n r ∙ l))
+        (λ m. left n (withEach put n r) (omega arith) (λ q. omega arith)
+        ∙ each-own n k v long m own (λ i s a b. left i s (omega arith) b) r l)
+        (eq-or-lt-of-le (le-of-suc-le-suc h))
+
+-- ---- the numbers of descriptors
+
+module _ (w : ℕ → ℕ) where
+  abbrev putDescriptor-0 : ℕ → List ℕ → List ℕ
+  putDescriptor-0 d r = set r (2240 + d) (w (1 + d))
+
+  abbrev putDescriptor-1 : ℕ → List ℕ → List ℕ
+  putDescriptor-1 d r = set (putDescriptor-0 d r) (2256 + d) (w (17 + d))
+
+  length-descriptor : (d : ℕ) (r : List ℕ) → length (putDescriptor w d r) ≡ length r
+  unfolding putDescriptor
+  length-descriptor d r = simp length-set
+
+  descriptor-other : (d j : ℕ) (r : List ℕ) → (j ≡ 2240 + d → ⊥) → (j ≡ 2256 + d → ⊥) → (j ≡ 2296 + d → ⊥)
+      → getD (putDescriptor w d r) j 0 ≡ getD r j 0
+  unfolding putDescriptor
+  descriptor-other d j r n0 n1 n2 =
+      getD-set-other (putDescriptor-1 d r) (2296 + d) j (w (60 + d)) 0 n2
+      ∙ getD-set-other (putDescriptor-0 d r) (2256 + d) j (w (17 + d)) 0 n1
+      ∙ getD-set-other r (2240 + d) j (w (1 + d)) 0 n0
+
+  own-file : (d : ℕ) → d < 16 → (r : List ℕ) → length r ≡ stateLength → getD (putDescriptor w d r) (2240 + d) 0 ≡ w (1 + d)
+  unfolding putDescriptor
+  own-file d h r l =
+      getD-set-other (putDescriptor-1 d r) (2296 + d) (2240 + d) (w (60 + d)) 0 (λ p. omega arith)
+      ∙ getD-set-other (putDescriptor-0 d r) (2256 + d) (2240 + d) (w (17 + d)) 0 (λ p. omega arith)
+      ∙ getD-set-same r (2240 + d) (w (1 + d)) 0 (omega arith)
+
+  own-offset : (d : ℕ) → d < 16 → (r : List ℕ) → length r ≡ stateLength → getD (putDescriptor w d r) (2256 + d) 0 ≡ w (17 + d)
+  unfolding putDescriptor
+  own-offset d h r l =
+      getD-set-other (putDescriptor-1 d r) (2296 + d) (2256 + d) (w (60 + d)) 0 (λ p. omega arith)
+      ∙ getD-set-same (putDescriptor-0 d r) (2256 + d) (w (17 + d)) 0 (let e : length
+      (putDescriptor-0 d r) ≡ length r = simp length-set in omega arith)
+
+  own-found-offset : (d : ℕ) → d < 16 → (r : List ℕ) → length r ≡ stateLength → getD (putDescriptor w d r) (2296 + d) 0 ≡ w
+      (60 + d)
+  unfolding putDescriptor
+  own-found-offset d h r l =
+      getD-set-same (putDescriptor-1 d r) (2296 + d) (w (60 + d)) 0 (let e : length
+      (putDescriptor-1 d r) ≡ length r = simp length-set in omega arith)
+
+-- ---- the numbers of files
+
+module _ (w : ℕ → ℕ) where
+  abbrev putFile-0 : ℕ → List ℕ → List ℕ
+  putFile-0 f r = set r (2272 + f) (w (33 + f))
+
+  abbrev putFile-1 : ℕ → List ℕ → List ℕ
+  putFile-1 f r = set (putFile-0 f r) (2280 + f) (w (41 + f))
+
+  abbrev putFile-2 : ℕ → List ℕ → List ℕ
+  putFile-2 f r = set (putFile-1 f r) (2288 + f) (w (49 + f))
+
+  length-of-file : (f : ℕ) (r : List ℕ) → length (putFile w f r) ≡ length r
+  unfolding putFile
+  length-of-file f r = simp length-set
+
+  of-file-other : (f j : ℕ) (r : List ℕ) → (j ≡ 2272 + f → ⊥) → (j ≡ 2280 + f → ⊥) → (j ≡ 2288 + f → ⊥) → (j ≡ 2312 + f → ⊥)
+      → getD (putFile w f r) j 0 ≡ getD r j 0
+  unfolding putFile
+  of-file-other f j r n0 n1 n2 n3 =
+      getD-set-other (putFile-2 f r) (2312 + f) j (w (76 + f)) 0 n3
+      ∙ getD-set-other (putFile-1 f r) (2288 + f) j (w (49 + f)) 0 n2
+      ∙ getD-set-other (putFile-0 f r) (2280 + f) j (w (41 + f)) 0 n1
+      ∙ getD-set-other r (2272 + f) j (w (33 + f)) 0 n0
+
+  own-length : (f : ℕ) → f < 8 → (r : List ℕ) → length r ≡ stateLength → getD (putFile w f r) (2272 + f) 0 ≡ w (33 + f)
+  unfolding putFile
+  own-length f h r l =
+      getD-set-other (putFile-2 f r) (2312 + f) (2272 + f) (w (76 + f)) 0 (λ p. omega arith)
+      ∙ getD-set-other (putFile-1 f r) (2288 + f) (2272 + f) (w (49 + f)) 0 (λ p. omega arith)
+      ∙ getD-set-other (putFile-0 f r) (2280 + f) (2272 + f) (w (41 + f)) 0 (λ p. omega arith)
+      ∙ getD-set-same r (2272 + f) (w (33 + f)) 0 (omega arith)
+
+  own-start : (f : ℕ) → f < 8 → (r : List ℕ) → length r ≡ stateLength → getD (putFile w f r) (2280 + f) 0 ≡ w (41 + f)
+  unfolding putFile
+  own-start f h r l =
+      getD-set-other (putFile-2 f r) (2312 + f) (2280 + f) (w (76 + f)) 0 (λ p. omega arith)
+      ∙ getD-set-other (putFile-1 f r) (2288 + f) (2280 + f) (w (49 + f)) 0 (λ p. omega arith)
+      ∙ getD-set-same (putFile-0 f r) (2280 + f) (w (41 + f)) 0 (let e : length (putFile-0 f r) ≡ length r = simp length-set in
+      omega arith)
+
+  own-end : (f : ℕ) → f < 8 → (r : List ℕ) → length r ≡ stateLength → getD (putFile w f r) (2288 + f) 0 ≡ w (49 + f)
+  unfolding putFile
+  own-end f h r l =
+      getD-set-other (putFile-2 f r) (2312 + f) (2288 + f) (w (76 + f)) 0 (λ p. omega arith)
+      ∙ getD-set-same (putFile-1 f r) (2288 + f) (w (49 + f)) 0 (let e : length (putFile-1 f r) ≡ length r = simp length-set in
+      omega arith)
+
+  own-found-length : (f : ℕ) → f < 8 → (r : List ℕ) → length r ≡ stateLength → getD (putFile w f r) (2312 + f) 0 ≡ w (76 + f)
+  unfolding putFile
+  own-found-length f h r l =
+      getD-set-same (putFile-2 f r) (2312 + f) (w (76 + f)) 0 (let e : length (putFile-2 f r) ≡ length r = simp length-set in
+      omega arith)
+
+-- ---- the whole record
+
+abbrev zeros : ℕ → List ℕ
+zeros n = replicate n 0
+
+length-zeros : (n : ℕ) → length (zeros n) ≡ n
+length-zeros n = length-replicate {A = ℕ} n 0
+
+zero-at : (n k : ℕ) → k < n → getD (zeros n) k 0 ≡ 0
+zero-at n k h = getD-replicate {A = ℕ} n k 0 0 h
+
+zero-anywhere : (k : ℕ) → getD (zeros stateLength) k 0 ≡ 0
+zero-anywhere k =
+    ⊎-elim (λ h. List·getD-eq-default (zeros stateLength) 0 {n = k} (omega (arith, length-zeros stateLength)))
+    (zero-at stateLength k) (le-or-lt stateLength k)
+
+module _ (w : ℕ → ℕ) where
+  abbrev described : List ℕ
+  described = withEach (putDescriptor w) 16 (zeros stateLength)
+
+  abbrev filed : List ℕ
+  filed = withEach (putFile w) 8 described
+
+  abbrev pub granted : List ℕ
+  granted = withLastGrant w filed
+
+  long-described : length described ≡ stateLength
+  long-described = length-each (putDescriptor w) (length-descriptor w) 16 (zeros stateLength) ∙ length-zeros stateLength
+
+  long-filed : length filed ≡ stateLength
+  long-filed = length-each (putFile w) (length-of-file w) 8 described ∙ long-described
+
+  pub long-granted : length granted ≡ stateLength
+  unfolding withLastGrant
+  long-granted = simp length-set long-filed
+
+  -- A number before those of the grant.
+  before-grant : (j : ℕ) → j < 2320 → getD granted j 0 ≡ getD filed j 0
+  unfolding withLastGrant
+  before-grant j h =
+      let a = set filed 2320 (flagNumber (isSet (w 57))) in
+      getD-set-other (set a 2321 (w 58)) 2322 j (w 59) 0 (λ p. omega arith)
+      ∙ getD-set-other a 2321 j (w 58) 0 (λ p. omega arith)
+      ∙ getD-set-other filed 2320 j (flagNumber (isSet (w 57))) 0 (λ p. omega arith)
+
+  -- A number that is none of the files' ones.
+  past-files : (j : ℕ) → (j < 2272) ⊎ ((2296 ≤ j) × (j < 2312)) → getD filed j 0 ≡ getD described j 0
+  past-files j away =
+      each-other (putFile w) (length-of-file w) j 8
+      (λ k r h. ⊎-elim
+      (λ a. of-file-other w k j r (λ p. omega arith) (λ p. omega arith) (λ p. omega arith) (λ p. omega arith))
+      (λ a. let b = a .0 in let e = a .1 in
+      of-file-other w k j r (λ p. omega arith) (λ p. omega arith) (λ p. omega arith) (λ p. omega arith)) away)
+      described
+
+  untouched : (j : ℕ) → j < 2240 → getD granted j 0 ≡ getD (zeros stateLength) j 0
+  untouched j h =
+      before-grant j (omega arith) ∙ past-files j (inl (omega arith))
+      ∙ each-other (putDescriptor w) (length-descriptor w) j 16
+      (λ k r l. descriptor-other w k j r (λ p. omega arith) (λ p. omega arith) (λ p. omega arith)) (zeros stateLength)
+
+  at-file : (d : ℕ) → d < 16 → getD granted (2240 + d) 0 ≡ w (1 + d)
+  at-file d h =
+      before-grant (2240 + d) (omega arith) ∙ past-files (2240 + d) (inl (omega arith))
+      ∙ each-own (putDescriptor w) (length-descriptor w) (2240 + d) 16 d (w (1 + d)) stateLength h (own-file w d h)
+      (λ i r a b. descriptor-other w i (2240 + d) r (λ p. b (omega arith)) (λ p. omega arith) (λ p. omega arith))
+      (zeros stateLength) (length-zeros stateLength)
+
+  at-offset : (d : ℕ) → d < 16 → getD granted (2256 + d) 0 ≡ w (17 + d)
+  at-offset d h =
+      before-grant (2256 + d) (omega arith) ∙ past-files (2256 + d) (inl (omega arith))
+      ∙ each-own (putDescriptor w) (length-descriptor w) (2256 + d) 16 d (w (17 + d)) stateLength h (own-offset w d h)
+      (λ i r a b. descriptor-other w i (2256 + d) r (λ p. omega arith) (λ p. b (omega arith)) (λ p. omega arith))
+      (zeros stateLength) (length-zeros stateLength)
+
+  at-found-offset : (d : ℕ) → d < 16 → getD granted (2296 + d) 0 ≡ w (60 + d)
+  at-found-offset d h =
+      before-grant (2296 + d) (omega arith) ∙ past-files (2296 + d) (inr (omega arith, omega arith))
+      ∙ each-own (putDescriptor w) (length-descriptor w) (2296 + d) 16 d (w (60 + d)) stateLength h (own-found-offset w d h)
+      (λ i r a b. descriptor-other w i (2296 + d) r (λ p. omega arith) (λ p. omega arith) (λ p. b (omega arith)))
+      (zeros stateLength) (length-zeros stateLength)
+
+  at-length : (f : ℕ) → f < 8 → getD granted (2272 + f) 0 ≡ w (33 + f)
+  at-length f h =
+      before-grant (2272 + f) (omega arith)
+      ∙ each-own (putFile w) (length-of-file w) (2272 + f) 8 f (w (33 + f)) stateLength h (own-length w f h)
+      (λ i r a b. of-file-other w i (2272 + f) r (λ p. b (omega arith)) (λ p. omega arith) (λ p. omega arith) (λ p. omega arith))
+      described long-described
+
+  at-start : (f : ℕ) → f < 8 → getD granted (2280 + f) 0 ≡ w (41 + f)
+  at-start f h =
+      before-grant (2280 + f) (omega arith)
+      ∙ each-own (putFile w) (length-of-file w) (2280 + f) 8 f (w (41 + f)) stateLength h (own-start w f h)
+      (λ i r a b. of-file-other w i (2280 + f) r (λ p. omega arith) (λ p. b (omega arith)) (λ p. omega arith) (λ p. omega arith))
+      described long-described
+
+  at-end : (f : ℕ) → f < 8 → getD granted (2288 + f) 0 ≡ w (49 + f)
+  at-end f h =
+      before-grant (2288 + f) (omega arith)
+      ∙ each-own (putFile w) (length-of-file w) (2288 + f) 8 f (w (49 + f)) stateLength h (own-end w f h)
+      (λ i r a b. of-file-other w i (2288 + f) r (λ p. omega arith) (λ p. omega arith) (λ p. b (omega arith)) (λ p. omega arith))
+      described long-described
+
+  at-found-length : (f : ℕ) → f < 8 → getD granted (2312 + f) 0 ≡ w (76 + f)
+  at-found-length f h =
+      before-grant (2312 + f) (omega arith)
+      ∙ each-own (putFile w) (length-of-file w) (2312 + f) 8 f (w (76 + f)) stateLength h (own-found-length w f h)
+      (λ i r a b. of-file-other w i (2312 + f) r (λ p. omega arith) (λ p. omega arith) (λ p. omega arith) (λ p. b (omega arith)))
+      described long-described
+
+  undo-granted : undoOf granted ≡ undoFrom w
+  unfolding undoOf undoFrom withLastGrant
+  undo-granted =
+      let l = long-filed in
+      let n = flagNumber (isSet (w 57)) in
+      let a = set filed 2320 n in
+      let b = set a 2321 (w 58) in
+      let la : length a ≡ length filed = length-set filed 2320 n in
+      let lb : length b ≡ length filed = length-set a 2321 (w 58) ∙ la in
+      let held : isSet (getD (set b 2322 (w 59)) 2320 0) ≡ isSet (w 57) =
+      ap isSet (getD-set-other b 2322 2320 (w 59) 0 (λ p. omega arith) ∙ getD-set-other a 2321 2320 (w 58) 0 (λ p. omega arith)
+      ∙ getD-set-same filed 2320 n 0 (omega arith)) ∙ flag-back (isSet (w 57)) in
+      let records : getD (set b 2322 (w 59)) 2321 0 ≡ w 58 =
+      getD-set-other b 2322 2321 (w 59) 0 (λ p. omega arith) ∙ getD-set-same a 2321 (w 58) 0 (omega arith) in
+      let bytes : getD (set b 2322 (w 59)) 2322 0 ≡ w 59 = getD-set-same b 2322 (w 59) 0 (omega arith) in
+      let offsets : tabulate (λ d. getD granted (2296 + d) 0) 16 ≡ tabulate (λ d. w
+      (60 + d)) 16 = table-same _ _ 16 at-found-offset in
+      let lengths : tabulate (λ f. getD granted (2312 + f) 0) 8 ≡ tabulate (λ f. w
+      (76 + f)) 8 = table-same _ _ 8 at-found-length in
+      λ i. record {
+        held = held i;
+        used = record { records = records i; bytes = bytes i };
+        offsets = offsets i;
+        lengths = lengths i;
+      }
+
+  none-begun : tabulate (transactionOf granted) 8 ≡ replicate 8 ended
+  unfolding storeOf
+  none-begun =
+      transactions-same (zeros stateLength) granted (λ j a b. untouched j (omega arith))
+      ∙ ap (λ (s : StoreMeaning). s .transactions) (store-of-zeros (zeros stateLength) zero-anywhere)
+
+  pub store-granted : storeOf granted ≡ storeFrom w
+  unfolding storeOf storeFrom windowOf
+  store-granted =
+      let files : tabulate (λ d. getD granted (2240 + d) 0) 16 ≡ tabulate (λ d. w (1 + d)) 16 = table-same _ _ 16 at-file in
+      let offsets : tabulate (λ d. getD granted (2256 + d) 0) 16 ≡ tabulate (λ d. w (17 + d)) 16 = table-same _ _ 16 at-offset in
+      let lengths : tabulate (λ f. getD granted (2272 + f) 0) 8 ≡ tabulate (λ f. w (33 + f)) 8 = table-same _ _ 8 at-length in
+      let windows : tabulate (windowOf granted) 8 ≡ tabulate (λ f. window (w (41 + f)) (w (49 + f))) 8 =
+      table-same _ _ 8 (λ f h i. window (at-start f h i) (at-end f h i)) in
+      λ i. record {
+        filenumbers = files i;
+        offsets = offsets i;
+        lengths = lengths i;
+        windows = windows i;
+        undo = undo-granted i;
+        transactions = none-begun i;
+      }
+
+  pub journal-granted : journalOf granted ≡ zeros 1728
+  unfolding journalOf
+  journal-granted =
+      table-same (λ k. getD granted k 0) (λ k. getD (zeros 1728) k 0) 1728
+      (λ k h. untouched k (omega arith) ∙ zero-anywhere k ∙ sym (zero-at 1728 k h))
+      ∙ ap (λ (n : ℕ). tabulate (λ k. getD (zeros 1728) k 0) n) (sym (length-zeros 1728)) ∙ tabulate-getD (zeros 1728) 0
+
+-- ---- the write records
+
+module _ (f : ℕ → WriteRecord) where
+  -- In the record as in its journal.
+  journal-records : (r : List ℕ) → length r ≡ stateLength → (n : ℕ) → n ≤ 64
+      → (storeOf (withRecords r lastGrant f n) ≡ storeOf r)
+      × (journalOf (withRecords r lastGrant f n) ≡ withRecords (journalOf r) lastGrant f n)
+  unfolding withRecords
+  journal-records r l zero h = (refl, refl)
+  journal-records r l (suc n) h =
+      let s = withRecords r lastGrant f n in
+      let long : length s ≡ stateLength = length-with r lastGrant f n ∙ l in
+      let before = journal-records r l n (omega arith) in (
+        store-with-record s long lastGrant n (f n) (omega arith) (omega arith) ∙ before .0,
+        journal-with-record s long lastGrant n (f n) (omega arith) (omega arith)
+            ∙ ap (λ (j : List ℕ). withRecordAt j lastGrant n (f n)) (before .1),
+      )
+
+  module _ (journal : List ℕ) (long : length journal ≡ 1728) where
+    -- There is no record past the 64th.
+    past-last : (l : List ℕ) (k : ℕ) (x : WriteRecord) → length l ≡ 1728 → 64 ≤ k → withRecordAt l lastGrant k x ≡ l
+    unfolding withRecordAt
+    past-last l k x e h =
+        let i = 3 * (64 * lastGrant + k) in
+        ap (λ (t : List ℕ). set (set t (i + 1) (placeNumber (x .place))) (i + 2) (x .length)) (set-out l i _ (omega arith))
+        ∙ ap (λ (t : List ℕ). set t (i + 2) (x .length)) (set-out l (i + 1) _ (omega arith)) ∙ set-out l (i + 2) _ (omega arith)
+
+    all-of-them : (m : ℕ) → withRecords journal lastGrant f (m + 64) ≡ withRecords journal lastGrant f 64
+    unfolding withRecords
+    all-of-them zero = refl
+    all-of-them (suc m) =
+        ap (withRecords journal lastGrant f) (suc-add m 64)
+        ∙ past-last (withRecords journal lastGrant f (m + 64)) (m + 64) (f (m + 64)) (length-with journal lastGrant f
+        (m + 64) ∙ long)
+        (omega arith) ∙ all-of-them m
+
+    pub records-cut : (n : ℕ) → withRecords journal lastGrant f (min n 64) ≡ withRecords journal lastGrant f n
+    records-cut n =
+        ⊎-elim
+        (λ h. let e : min n 64 ≡ n = omega arith in rw e)
+        (λ h. let e : min n 64 ≡ 64 = omega arith in
+        let q : n ≡ (n - 64) + 64 = omega arith in
+        rw e (sym (all-of-them (n - 64)) ∙ ap (withRecords journal lastGrant f) (sym q)))
+        (le-or-lt n 64)
+
+module _ (w : ℕ → ℕ) where
+  abbrev built : List ℕ
+  built = withRecords (granted w) lastGrant (recordFrom w) (min (w 58) 64)
+
+  pub young-built : Young w built
+  unfolding journalFrom
+  young-built =
+      let j = journal-records (recordFrom w) (granted w) (long-granted w) (min (w 58) 64) (omega arith) in
+      record {
+        long = length-with (granted w) lastGrant (recordFrom w) (min (w 58) 64) ∙ long-granted w;
+        store = j .0 ∙ store-granted w;
+        journal =
+            j .1 ∙ ap (λ (l : List ℕ). withRecords l lastGrant (recordFrom w) (min (w 58) 64)) (journal-granted w)
+            ∙ records-cut (recordFrom w) (zeros 1728) (length-zeros 1728) (w 58);
+      }

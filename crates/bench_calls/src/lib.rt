@@ -1,7 +1,7 @@
-// Scripts of store calls, run over a record and buffers that bench/ lends. A script is a list of steps of
-// eight octets: the kind of call, its transaction, its descriptor (or file), an octet that is not looked at,
-// and two numbers, low octet first: how many octets (or the offset of a Seek, the minute of a Commit, the
-// start of a window), and where they start in `data` (or the end of a window).
+// Scripts of store calls, run over a state and buffers that bench/ lends. A script is a list of steps of
+// eight octets: the kind of call, its transaction, its descriptor (or file), an unused octet, and two
+// numbers, low octet first: how many octets (or the offset of a Seek, the minute of a Commit, the start of a
+// window), and where they start in `data` (or the end of a window).
 use buffers::parts;
 use dispatcher::scripts::ScriptCall;
 use dispatcher::scripts::Scripts;
@@ -237,7 +237,7 @@ fn tasks() -> Scripts {
     scripts
 }
 
-// Has eight scripts of four calls dispatched so many times. Answers the sum of the Commits made.
+// Dispatches eight scripts of four calls so many times. Answers the sum of the Commits made.
 #[no_mangle]
 pub extern "C" fn bench_calls_dispatch(
     state: &mut State,

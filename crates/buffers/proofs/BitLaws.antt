@@ -1,4 +1,4 @@
--- The laws of bits, and of a stretch of octets that is cleared. Assumes nothing.
+-- The laws of bits, and of a range of octets that is cleared. Assumes nothing.
 use mathlib.Core.Path.{_≡_, refl, sym, ap, ap₂, _∙_}
 use mathlib.Core.Bool.{Bool, true, false, cond, not, _||_, or-true, or-false}
 use mathlib.Core.List.{List}
@@ -183,7 +183,7 @@ some-or a b = pick (eqb a 0) refl (eqb b 0) refl
     pick true e false f = ap not (ne-eqb (bitOr a b) 0 (λ g. eqb-false b 0 f (omega (arith, or-add-and a b, and-le-l a b))))
     pick false e y f = ap not (ne-eqb (bitOr a b) 0 (λ g. eqb-false a 0 e (omega (arith, or-add-and a b, and-le-r a b))))
 
--- ---- a stretch that is cleared
+-- ---- a range that is cleared
 
 pub cleared-none : (from : ℕ) (xs : List ℕ) → cleared from 0 xs ≡ xs
 unfolding cleared

@@ -93,7 +93,7 @@ has-with-mark t q u p marks small there size = inside (ltb p 32768) refl
         let h = ltb-false p 32768 e in
         sym (rw (ne-eqb p q (λ f. omega arith)) (or-false (eqb u t && false) ∙ and-false (eqb u t)))
 
--- ---- a stretch of marks more
+-- ---- a range of marks more
 
 module _ (t from : ℕ) where
   pub with-marks-none : (marks : List ℕ) → withMarks t from 0 marks ≡ marks
@@ -105,7 +105,7 @@ module _ (t from : ℕ) where
   length-with-marks zero marks = refl
   length-with-marks (suc n) marks = length-with-mark t (from + n) (withMarks t from n marks) ∙ length-with-marks n marks
 
-  -- the stretch directly after it, too
+  -- the range directly after it, too
   with-marks-add : (n m : ℕ) (marks : List ℕ) → withMarks t (from + n) m (withMarks t from n marks)
       ≡ withMarks t from (n + m) marks
   unfolding withMarks
@@ -226,14 +226,14 @@ octets-with-marks t from zero marks octets = octets
 octets-with-marks t from (suc n) marks octets =
     octets-with-mark t (from + n) (withMarks t from n marks) (octets-with-marks t from n marks octets)
 
--- ---- a mark somewhere in a stretch
+-- ---- a mark somewhere in a range
 
 module _ (marks : List ℕ) (t from : ℕ) where
   pub has-in-none : hasMarkIn marks t from 0 ≡ false
   unfolding hasMarkIn
   has-in-none = refl
 
-  -- in one stretch or in the stretch directly after it
+  -- in one range or in the range directly after it
   has-in-add : (n m : ℕ) → hasMarkIn marks t from (n + m) ≡ hasMarkIn marks t from n || hasMarkIn marks t (from + n) m
   unfolding hasMarkIn
   has-in-add n zero = ap (hasMarkIn marks t from) (add-zero n) ∙ sym (or-false (hasMarkIn marks t from n))
@@ -290,7 +290,7 @@ module _ (t from k : ℕ) (whole : from % 8 ≡ 0) (inside : from + 8 * k + 8 �
       ∙ with-marks-add t from (8 * k) 8 marks
       ∙ ap (λ (n : ℕ). withMarks t from n marks) next
 
-  -- octet k is looked at
+  -- octet k is read
   pub octets-has : (marks : List ℕ) (found : ℕ) → getD marks (4096 * t + from / 8 + k) 0 < 256
       → not (eqb found 0) ≡ hasMarkIn marks t from (8 * k)
       → not (eqb (bitOr found (getD marks (4096 * t + from / 8 + k) 0)) 0) ≡ hasMarkIn marks t from (8 * (k + 1))
@@ -305,7 +305,7 @@ module _ (t from k : ℕ) (whole : from % 8 ≡ 0) (inside : from + 8 * k + 8 �
       ∙ sym (has-in-add marks t from (8 * k) 8)
       ∙ ap (hasMarkIn marks t from) next
 
--- ---- a stretch by the masks of its ends
+-- ---- a range by the masks of its ends
 
 module _ (marks : List ℕ) (t from n : ℕ) (some : 0 < n) (inside : from + n ≤ 32768) where
   abbrev head : ℕ

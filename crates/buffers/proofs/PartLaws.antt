@@ -114,7 +114,7 @@ module _ (d : List ℕ) (at : ℕ) (s : List ℕ) (fits : at + length s ≤ leng
 
 -- ---- parts of a buffer after a paste
 
--- two buffers of one length that agree on a stretch have the same part there
+-- two buffers of one length that agree on a range have the same part there
 pub cut-same : (x y : List ℕ) (p n : ℕ) → length x ≡ length y → ((i : ℕ) → p ≤ i → i < p + n → getD x i 0 ≡ getD y i 0)
     → cut x p n ≡ cut y p n
 cut-same x y p n e same =

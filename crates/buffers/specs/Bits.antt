@@ -1,4 +1,4 @@
--- Bits of octets, and a stretch of octets that is cleared.
+-- Bits of octets, and a range of octets that is cleared.
 use mathlib.Core.Bool.{Bool, cond}
 use Prim.Native.Nat.{ℕ, zero, suc, _+_, _-_, _*_, _^_, _/_, _%_, min}
 use mathlib.Core.List.{List}

@@ -1,5 +1,5 @@
--- Marks by meaning: which transaction has marked which byte of the files. Above this crate nothing else is
--- known of them.
+-- Marks, the read sets of bytes, by meaning: which transaction has marked which byte of the files. Above this
+-- crate nothing else is known of them.
 use mathlib.Core.Bool.{Bool, false, not, _&&_, _||_}
 use mathlib.Core.List.{List}
 use mathlib.Core.Path.{_≡_}
@@ -46,12 +46,12 @@ withMark t q marks =
     let i = byTransaction .octetOf t q in
     set marks i (withBit (byTransaction .bitOf t q) (getD marks i 0))
 
--- The marks once it has marked the n bytes from `from` on.
+-- The marks once transaction t has marked the n bytes from `from` on.
 unfoldable pub withMarks : ℕ → ℕ → ℕ → List ℕ → List ℕ
 withMarks t from zero marks = marks
 withMarks t from (suc n) marks = withMark t (from + n) (withMarks t from n marks)
 
--- The marks with those of transaction t cleared: its stretch.
+-- The marks with those of transaction t cleared: all its octets.
 unfoldable pub withoutMarks : ℕ → List ℕ → List ℕ
 withoutMarks t marks = cleared (markOctets * t) markOctets marks
 

@@ -1,5 +1,5 @@
-// Marks: eight stretches of 4,096 octets, transaction t's from octet 4,096 × t on, a bit for each byte of the
-// files in their order, lowest bit first.
+// Marks, the read sets of bytes: 4,096 octets for each of eight transactions, transaction t's from octet
+// 4,096 × t on, a bit for each byte of the files in their order, lowest bit first.
 use crate::transaction_sets::contains;
 use crate::transaction_sets::with;
 use limits::MARK_OCTETS;
@@ -35,7 +35,7 @@ pub fn mark(marks: &mut [u8], t: usize, from: usize, n: usize)
     mark_bits(marks, t, from + done, n - done);
 }
 
-// The same for bytes whose marks stand in one octet.
+// Transaction t marks n bytes whose marks stand in one octet.
 fn mark_bits(marks: &mut [u8], t: usize, from: usize, n: usize)
     requires { ⌜ (t < transactionCount)
         × ((from + n ≤ bufferBytes) × ((from % 8 + n ≤ 8) × (length (now marks) ≡ bufferBytes))) ⌝ }
@@ -48,7 +48,7 @@ fn mark_bits(marks: &mut [u8], t: usize, from: usize, n: usize)
     marks[i] = marks[i] | span(from % 8, n);
 }
 
-// The same for the bytes whose marks are n whole octets.
+// Transaction t marks the bytes whose marks are n whole octets.
 fn mark_octets(marks: &mut [u8], t: usize, from: usize, n: usize)
     requires { ⌜ (t < transactionCount)
         × ((from + 8 * n ≤ bufferBytes) × ((0 < n → from % 8 ≡ 0) × (length (now marks) ≡ bufferBytes))) ⌝ }
@@ -101,7 +101,7 @@ fn between(from: usize, n: usize) -> usize
     over(n - head, 1) / 8
 }
 
-// Whether transaction t has marked some of the n bytes from `from` on. Two masks are told: the bits of these
+// Whether transaction t has marked some of the n bytes from `from` on. Two masks are given: the bits of these
 // bytes in the first of their octets, and in the last, where that is another.
 fn has_mark_in(marks: &[u8], t: usize, from: usize, n: usize, first: u8, last: u8) -> bool
     requires { ⌜ (t < transactionCount)

@@ -251,7 +251,7 @@ module _ (state files logs marks undo : List ℕ) (t : ℕ) (x : Transaction) (c
     offsets-is : landOffsets ss (s .offsets) ≡ withOffsetsOf x s .offsets
     offsets-is = offsets-are s (journalOf state) files logs t ∙ ap (λ (y : Transaction). offsetsSet y (s .offsets) 16) own-is
 
-    -- Its writes land, as the transaction in the record has them.
+    -- Its writes land, as the transaction in the state has them.
     lands-own : CanLandIn state t (transaction s t .used .records)
     lands-own = subst (λ (y : Transaction). CanLandIn state t (y .used .records)) (sym own-is) (can .lands)
 

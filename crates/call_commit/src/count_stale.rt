@@ -1,4 +1,4 @@
-// The number that stands behind the octet of a granted commit.
+// How many transactions the octet of a granted commit names.
 ghost use mathlib.Core.Path.{_≡_};
 ghost use Prim.Native.Nat.{ℕ};
 ghost use Rattle.limits.specs.Limits.{transactionCount};

@@ -35,10 +35,10 @@ fn put_stale_in(state: &mut State, octet: u8)
     }
 }
 
-// Grants the commit of transaction t, which is x: lands its writes in call order, keeps what they landed on
-// and what it found, raises lengths, sets its offsets and ends it. Every other open transaction that has
-// sighted a byte, offset or length just set is stale from then on; the answer is the octet of those that were
-// not so before.
+// Grants the commit of transaction t, which is x: lands its writes in call order, saves the undo log (the
+// bytes that they overwrite, and the offsets and lengths before), raises lengths, sets its offsets and ends
+// it. Every other open transaction that has sighted a byte, offset or length just set is stale from then on;
+// the answer is the octet of those that were not so before.
 pub fn grant(
     state: &mut State,
     files: &mut [u8],

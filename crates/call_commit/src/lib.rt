@@ -1,5 +1,5 @@
-// The call that sets: Commit (`commit_call`), and what it does once it is granted (`granting`); how many its
-// octet names (`count_stale`).
+// Commit (`commit_call`), what it does once it is granted (`granting`), and how many transactions its octet
+// names (`count_stale`).
 mod commit_call;
 mod count_stale;
 mod granting;

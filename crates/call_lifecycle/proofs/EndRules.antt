@@ -1,4 +1,4 @@
--- A record whose first transactions are ended one after the other.
+-- A state whose first transactions are ended one after the other.
 use mathlib.Core.Bool.{false}
 use mathlib.Core.List.{List}
 use mathlib.Core.Path.{_≡_, refl, sym, ap, _∙_}

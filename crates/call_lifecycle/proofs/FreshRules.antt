@@ -21,7 +21,7 @@ use Rattle.spec.specs.Promises.{Meets, machineOf, LeftAsFound}
 use Rattle.spec.proofs.Refinement.IndexedLists.{tabulate-getD}
 use Rattle.refinement.proofs.TurnLaws.{passing-on, done-follows}
 
--- ---- a record of zeros, and the file numbers in it
+-- ---- a state of zeros, and the file numbers in it
 
 abbrev zeros : ℕ → List ℕ
 zeros n = replicate n 0

@@ -1,12 +1,12 @@
-// Ending every transaction, in a record alone.
+// Ends every transaction of a state, without its buffers.
 use state::TRANSACTIONS;
 use state::layout::State;
 use state::layout::length_of;
 use state::layout::reset;
 ghost use Rattle.spec.specs.Recovery.{EndsAll};
 
-// Ends every transaction, as Abort does, and needs no buffer for it: for a copy of the record that is to be
-// saved, whatever is open. Files, offsets, lengths, windows and the last grant stay.
+// Ends every transaction as Abort does, on the state alone: for a copy that is saved while transactions are
+// open. Files, offsets, lengths, windows and the last grant stay.
 pub fn end_all(state: &mut State)
     ensures { λ _. ⌜ EndsAll (now (state .entry)) (now (state .exit)) ⌝ }
 {

@@ -22,8 +22,8 @@ fn zero(buffer: &mut [u8])
 }
 
 // Makes the store fresh: descriptor d belongs to file numbers[d], every file byte, mark, offset and length is
-// 0, every window is 0 and 0 (always open), nothing is open, the journal is empty, and no grant is held that
-// could be taken back. Logs and old bytes are left as found. Refuses 1, then 14; the record then stays.
+// 0, every window is 0 and 0 (always open), nothing is open, the journal is empty, and there is no grant to
+// undo. Logs and the undo log are left as found. Refuses with 1, then with 14; the state then stays.
 pub fn fresh(
     state: &mut State,
     files: &mut [u8],

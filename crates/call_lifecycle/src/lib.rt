@@ -1,5 +1,4 @@
-// The calls that open and drop: Fresh, Begin and Abort; and the ending of all transactions in a record that
-// is saved.
+// Fresh, Begin and Abort; and `end_all`, which ends every transaction in a state that is saved.
 mod abort_call;
 mod begin_call;
 mod end_all_call;

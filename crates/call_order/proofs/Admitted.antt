@@ -1,4 +1,4 @@
--- What the code reads off the record of a list is what the rules say of it; and what an admitted list tells.
+-- What the code reads off the state of a list is what the rules say of it; and what an admitted list tells.
 use mathlib.Core.Bool.{Bool, true, false, not, _&&_, _||_, true≢false}
 use mathlib.Core.List.{List, [], _∷_}
 use mathlib.Core.Path.{_≡_, refl, sym, ap, ap₂, _∙_, subst}

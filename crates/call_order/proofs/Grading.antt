@@ -87,7 +87,7 @@ count-same ok p q h [] e = refl
 count-same ok p q h (t ∷ ts) e =
     ap₂ (λ (b : Bool) (n : ℕ). cond b 1 0 + n) (h t (and-left (ok t) _ e)) (count-same ok p q h ts (and-right (ok t) _ e))
 
--- ---- on a record, off what the code knows
+-- ---- on a state, off what the code knows
 
 module _ (state files logs marks undo ts : List ℕ) (minute budget : ℕ)
     (a : Asking (machineOf state files logs marks undo) ts minute budget)

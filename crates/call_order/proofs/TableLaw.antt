@@ -1,4 +1,4 @@
--- The table's law, on every record and buffers.
+-- The table's law, on every state and buffers.
 use mathlib.Core.Bool.{Bool, true, false, cond, not, _&&_, _||_, false≢true}
 use mathlib.Core.List.{List, [], _∷_, _++_}
 use mathlib.Core.Logic.{_↔_}
@@ -177,7 +177,7 @@ module _ (m : Machine) (sound : Sound m) (minute : ℕ) (daily : minuteIn minute
         low = in-range (m .store) (m .journal) (sound .inRange) .offsets;
       })
 
--- ---- on every record
+-- ---- on every state
 
 -- One that meets neither 1 nor 2.
 sound-preserved : (state files logs marks undo : List ℕ)
@@ -230,7 +230,7 @@ table-law state files logs marks undo ts minute budget a =
     table-holds (machineOf state files logs marks undo) (sound-preserved state files logs marks undo (a .admitted)) ts minute
     budget (a .passed)
 
--- A record that meets 1 or 2 has no answer, and is left.
+-- A state that meets 1 or 2 has no answer, and is left.
 refused-holds : (m : Machine) (n : ℕ) → firstTests (sizes m) (m .store) (m .journal) 0 ≡ suc n → BestOrderHolds m
 unfolding call passing refuseTurn
 refused-holds m n z =

@@ -1,6 +1,6 @@
 -- Request F-14: the grants of an order without making a Commit. Whom a granted Commit makes stale can be read
 -- off what is committed at the start: one octet for each transaction, the table (`staleBy` of crate
--- conflicts).
+-- commit_conflicts).
 use mathlib.Core.Bool.{Bool, true, false, cond, not, _||_}
 use mathlib.Core.List.{List, [], _∷_, _++_}
 use mathlib.Core.Logic.{_↔_}
@@ -83,7 +83,7 @@ followed minute m o =
 unfoldable pub waits : Txn → Bool
 waits x = someBelow (λ d. mayWait (x .standing d)) descriptorCount
 
--- Skipped is who has a byte for a closed file, or was made stale.
+-- `skipped` has who has a byte for a closed file, or was made stale.
 pub record Short : Type 0 where
   pub skipped : ℕ
   pub grants : ℕ
@@ -98,13 +98,13 @@ passAll row (t ∷ o) p = passAll row o (passOne row t p)
 
 -- ---- the law
 
--- A record and buffers that meet neither 1 nor 2, and a list, a minute and a budget that meet none of 26, 3,
+-- A state and buffers that meet neither 1 nor 2, and a list, a minute and a budget that meet none of 26, 3,
 -- 4, 22, 25 and 27.
 pub record Asking (m : Machine) (ts : List ℕ) (minute budget : ℕ) : Type 0 where
   pub admitted : firstTests (sizes m) (m .store) (m .journal) 0 ≡ 0
   pub passed : orderRefusal (askedOf minute m) ts minute budget ≡ 0
 
--- In any order, on any record.
+-- In any order, on any state.
 pub record TableHolds (m : Machine) (ts : List ℕ) (minute : ℕ) : Type 0 where
   -- "how many grants Commit would give in it" [R-14.1]
   pub grants : (o : List ℕ) → Arranges ts o → askedOf minute m .grants o ≡ followed minute m o .grants
@@ -124,7 +124,7 @@ TableLaw =
     → Asking (machineOf state files logs marks undo) ts minute budget
     → TableHolds (machineOf state files logs marks undo) ts minute
 
--- What spec/specs/BestOrder.antt says of the answer, on any record and buffers.
+-- What spec/specs/BestOrder.antt says of the answer, on any state and buffers.
 abbrev pub BestOrderOfAny : Type 0
 BestOrderOfAny = (state files logs marks undo : List ℕ)
     → BestOrderHolds (machineOf state files logs marks undo)

@@ -1,4 +1,4 @@
--- What the code computes for F-14, read off the record.
+-- What the code computes for F-14, read off the state.
 use mathlib.Core.Bool.{Bool, cond, not, _&&_, _||_}
 use mathlib.Core.List.{List}
 use mathlib.Core.Path.{_≡_}
@@ -52,7 +52,7 @@ abbrev pub AllLand : List ℕ → List ℕ → Type 0
 AllLand state ts = (k : ℕ) → k < length ts
     → CanLandIn state (getD ts k 0) (transactionOf state (getD ts k 0) .used .records)
 
--- The refusals of spec/specs/OrderReply.antt, read off the record.
+-- The refusals of spec/specs/OrderReply.antt, read off the state.
 unfoldable pub listRefusal : List ℕ → List ℕ → ℕ → ℕ → ℕ
 listRefusal state ts minute budget =
     unless (isList ts) 26

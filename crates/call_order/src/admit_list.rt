@@ -143,7 +143,7 @@ fn is_budget(n: usize) -> bool
     (1 <= n) & (n <= MOST_ORDERS)
 }
 
-// Refusals 26, 3, 4, 22, 25 and 27, on a record that has passed check 2.
+// Refusals 26, 3, 4, 22, 25 and 27, on a valid state (01's check 2).
 pub fn admit_list(state: &State, list: &[u8], minute: usize, budget: usize) -> Gate
     requires { ⌜ storeIn (storeOf (now state)) (journalOf (now state)) ≡ true ⌝ }
     ensures { λ r. ⌜ gateNumber r ≡ listRefusal (now (state .entry)) (now (list .entry)) minute budget ⌝ }

@@ -1,6 +1,7 @@
-// The best order to commit in (paper 02, F-14). Whom a granted Commit would make stale is one octet a
-// transaction (`table`); order number i is had from i (`permutation`); the grants of an order are a pass over
-// these octets (`pass`), and where Commit's placing has a part in them a longer one (`follow`).
+// The best order to commit in (paper 02, F-14). One octet for each transaction has those whom its granted
+// Commit would make stale (`table`). Permutation i is decoded from i in the factorial number system
+// (`permutation`). One pass over these octets counts the grants of an order (`pass`); a longer one does where
+// Commit's placing has a part in them (`follow`).
 mod admit_list;
 mod best;
 mod follow;

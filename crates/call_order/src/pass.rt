@@ -11,7 +11,8 @@ ghost use Rattle.limits.specs.Limits.{transactionCount, lastTransaction};
 ghost use Rattle.spec_orders.specs.Orders.{allIn};
 ghost use Rattle.call_order.specs.OrderTable.{grantsPassing};
 
-// The grants of the order of n, off the table of octets: skipped is who is shut, or was made stale.
+// The grants of the order of n, off the table of octets: `skipped` has who has a byte for a closed file, or
+// was made stale.
 pub fn grants_passing(
     table: [u8; TRANSACTIONS],
     closed: u8,

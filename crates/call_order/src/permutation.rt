@@ -1,4 +1,4 @@
-// The orders of a list by number.
+// The permutations of a list, by number.
 use state::TRANSACTIONS;
 ghost use mathlib.Core.Path.{_≡_};
 ghost use Prim.Native.Nat.{suc, _<_, _≤_};
@@ -50,8 +50,8 @@ fn removed(numbers: [u8; TRANSACTIONS], m: usize, q: usize) -> [u8; TRANSACTIONS
     rest
 }
 
-// Order number i of the first n numbers, and zeros after it: the position of its first is the quotient by (n
-// - 1)!, the rest numbers the order of the others.
+// Permutation i of the first n numbers, and zeros after it, decoded in the factorial number system: the
+// position of its first is the quotient by (n - 1)!, the remainder numbers the permutation of the others.
 pub fn order_at(numbers: [u8; TRANSACTIONS], n: usize, i: usize) -> [u8; TRANSACTIONS]
     requires { ⌜ (n ≤ transactionCount) × (i < factorial n) ⌝ }
     ensures { λ r. ⌜ (take n r ≡ orderAt n i (take n numbers)) × ZerosAfter n r ⌝ }

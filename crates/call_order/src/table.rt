@@ -53,7 +53,7 @@ fn is_closed(state: &State, t: usize, minute: u16) -> bool
     has_byte_for_closed(state, t, minute)
 }
 
-// The octet of those.
+// The transactions that have a byte for a file closed at the minute, as a bit set.
 pub fn closed_of(state: &State, minute: u16) -> u8
     requires { ⌜ storeIn (storeOf (now state)) (journalOf (now state)) ≡ true ⌝ }
     ensures { λ r. ⌜ ((logs : List ℕ) → length logs ≡ bufferBytes → r ≡ bitsOf (λ t.

@@ -1,4 +1,4 @@
--- Write records that come in ascending order: the pass over them meets the stretches of the list, in its order. Assumes nothing.
+-- Write records that come in ascending order: the pass over them meets the intervals of the list, in its order. Assumes nothing.
 use mathlib.Core.Bool.{Bool, true, false, cond, _&&_, and-false, false≢true}
 use mathlib.Core.List.{List, []}
 use mathlib.Core.Logic.{⊎-elim}
@@ -122,7 +122,7 @@ module _ (j : Recorded) (t f : ℕ) where
   swept-few zero = unfold sweptIn in omega arith
   swept-few (suc k) = omega (arith, swept-few k, swept-keeps k .2)
 
-  -- after k of n records that ascend: the order holds, and stretches are no more
+  -- after k of n records that ascend: the order holds, and intervals are no more
   abbrev OnTheWay : ℕ → ℕ → Type 0
   OnTheWay n k = (sweptIn j t f k .ascending ≡ true) × (sweptIn j t f k .stretches ≤ sweptIn j t f n .stretches)
 

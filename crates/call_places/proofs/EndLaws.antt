@@ -1,4 +1,4 @@
--- A list of stretches that goes on at its end, and the list of a set with places more past it. Assumes nothing.
+-- A list of intervals that goes on at its end, and the list of a set with places more past it. Assumes nothing.
 use mathlib.Core.Bool.{Bool, true, false, _&&_, _||_, and-false, or-false, or-true, or-assoc}
 use mathlib.Core.List.{List, [], _∷_, _++_}
 use mathlib.Core.Logic.{⊎-elim}
@@ -15,7 +15,7 @@ use Rattle.spec.specs.Places.{Interval, interval, intervalEnd, inInterval, list
 use Rattle.spec.proofs.Places.IntervalLaws.{intervals-same}
 use Rattle.spec.proofs.Places.PlacesLaws.{lists-its-places, is-proper, the-one-list}
 
--- ---- a stretch at the end of a list
+-- ---- a interval at the end of a list
 
 pub in-below : (s : Interval) (q : ℕ) → inInterval s q ≡ true → q < intervalEnd s
 unfolding inInterval
@@ -127,7 +127,7 @@ module _ (S T : ℕ → Bool) where
         (λ q e. before q (and-right (ltb q 4096) (S q) (sym (lists-its-places S q) ∙ e))))
         (λ q. listed-snoc (intervalsOf S) (interval a n) q)
 
-    -- they go on with its last stretch
+    -- they go on with its last interval
     pub list-joined : (l : List Interval) (p m : ℕ) → p + m ≡ a → intervalsOf S ≡ l ++ (interval p m ∷ [])
         → intervalsOf T ≡ l ++ (interval p (m + n) ∷ [])
     list-joined l p m e so =

@@ -1,4 +1,4 @@
--- The list of a set of places, stretch by stretch, and its bytes. Assumes nothing.
+-- The list of a set of places, interval by interval, and its bytes. Assumes nothing.
 use mathlib.Core.Bool.{Bool, true, false, false≢true}
 use mathlib.Core.List.{List, [], _∷_, _++_, append-assoc, append-nil}
 use mathlib.Core.Logic.{⊎-elim}
@@ -24,7 +24,7 @@ abbrev pub list-rest : (ℕ → Bool) → ℕ → List listing.Interval
 list-rest S p = intervalsFrom S p (4096 - p)
 
 module _ (S : ℕ → Bool) (p : ℕ) (s : PlaceInterval) (next : NextOf S p s) where
-  -- a stretch of length 0 lies at the end of the file
+  -- a interval of length 0 lies at the end of the file
   next-end : s .length ≡ 0 → s .offset ≡ 4096
   next-end z = pick (next .before) (next .whole)
     where
@@ -152,7 +152,7 @@ length-sixteen : (n : ℕ) → length (sixteen n) ≡ 2
 unfolding sixteen
 length-sixteen n = refl
 
--- The pair of a stretch.
+-- The pair of a interval.
 abbrev pub pair : PlaceInterval → List ℕ
 pair s = sixteen (s .offset) ++ sixteen (s .length)
 

@@ -1,4 +1,4 @@
--- The places that a transaction's write records cover are those that its writes cover, and the same of writes without a place.
+-- The places that a transaction's write records cover are those that its writes cover, and so are the writes without a place.
 -- Assumes nothing.
 use mathlib.Core.Bool.{_&&_, _||_}
 use mathlib.Core.List.{List}

@@ -25,7 +25,7 @@ use Rattle.read_lookup.specs.Lookup.{Recorded, recorded}
 use Rattle.call_places.specs.PlacesCall.{coveredAt, waitsOnFile}
 use Rattle.call_places.proofs.MachineLaws.{unplaced-in, intervals-in}
 
--- ---- the list has no more stretches than there are places
+-- ---- the list has no more intervals than there are places
 
 with-length : (p : ℕ) (l : List Interval) → length (withPlace p l) ≤ suc (length l)
 unfolding withPlace

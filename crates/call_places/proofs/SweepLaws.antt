@@ -24,11 +24,11 @@ use Rattle.call_places.proofs.EndLaws.{in-below, over-in, in-none, end-
 
 -- ---- what a pass has met
 
--- One list is another, or has a stretch more.
+-- One list is another, or has a interval more.
 abbrev pub Over : List Interval → List Interval → Type 0
 Over m l = (m ≡ l) ⊎ ((s : Interval) × (m ≡ l ++ (s ∷ [])))
 
--- The last stretch, and those before it.
+-- The last interval, and those before it.
 pub record Last (S : ℕ → Bool) (s : Sweep) : Type 0 where
   pub earlier : List Interval
   pub some : suc (s .offset) < s .next
@@ -113,7 +113,7 @@ module _ (S T : ℕ → Bool) (s : Sweep) (so : Swept S s) where
           over = λ g. inr (interval (s .offset) m, w .joins);
         }
 
--- What n bytes at place p bring; b says whether they begin another stretch.
+-- What n bytes at place p bring; b says whether they begin another interval.
 abbrev pub sweep-placed : Sweep → ℕ → ℕ → Bool → Sweep
 sweep-placed s p n b = cond b (record { ascending = s .ascending; stretches = s .stretches + 1; offset = p; next = p + n + 1 })
     (record { ascending = s .ascending && eqb (s .next) (p + 1); stretches = s .stretches; offset = s .offset; next = p + n + 1 })
@@ -149,7 +149,7 @@ module _ (S T : ℕ → Bool) (s : Sweep) where
           step-place p n (end-positive n (eqb-false n 0 e)) (within p refl)
           (λ q. more q ∙ ap (λ (b : Bool). S q || b) (over-in p n q)) so a
 
--- ---- the pair of the last stretch
+-- ---- the pair of the last interval
 
 module _ (s : Sweep) (out : List ℕ) where
   pub last-none : s .next ≡ 0 → out ≡ withLast s out
@@ -162,7 +162,7 @@ module _ (s : Sweep) (out : List ℕ) where
   last-some h = rw (ne-eqb (s .next) 0 h)
 
 module _ (S T : ℕ → Bool) (s : Sweep) (step : Step S T s) (out : List ℕ) (room : 4 * length (intervalsOf T) ≤ length out) where
-  -- the last stretch is new, or takes the place of the one that it lengthens
+  -- the last interval is new, or takes the place of the one that it lengthens
   last-put : (h : 1 ≤ s .next) → withLast s (pasted out 0 (encoded (intervalsOf S))) ≡ pasted out 0 (encoded (intervalsOf T))
   last-put h =
       sym (last-some s (pasted out 0 (encoded (intervalsOf S))) (λ z. omega arith))

@@ -20,7 +20,7 @@ use Rattle.call_places.specs.declared.ascending.Sweep.{Sweep}
 abbrev pub unswept : Sweep
 unswept = record { ascending = true; stretches = 0; offset = 0; next = 0 }
 
--- n bytes at place p begin another stretch, or go on with the last one, which must end there.
+-- n bytes at place p begin another interval, or go on with the last one, which must end there.
 unfoldable pub sweptPlace : Sweep → ℕ → ℕ → Sweep
 sweptPlace s p n =
     cond (leb (s .next) p)
@@ -53,7 +53,7 @@ abbrev pub WithinFile : Recorded → ℕ → ℕ → Type 0
 WithinFile j t records = (k p : ℕ) → k < records → writeRecordAt (j .journal) t k .place ≡ At p
     → p + writeRecordAt (j .journal) t k .length ≤ fileBytes
 
--- A buffer with the pair of the last stretch at its place.
+-- A buffer with the pair of the last interval at its place.
 unfoldable pub withLast : Sweep → List ℕ → List ℕ
 withLast s out =
     cond (eqb (s .next) 0) out

@@ -19,7 +19,7 @@ use Rattle.call_places.specs.declared.PlaceInterval.{PlaceInterval}
 unfoldable pub coveredAt : Recorded → ℕ → ℕ → ℕ → ℕ → Bool
 coveredAt j t records f p = isRecord (supplier j t records f p)
 
--- The list of the places that those of a record cover.
+-- The list of the places that the write records of a state cover.
 abbrev pub intervalsIn : List ℕ → ℕ → Used → ℕ → List Listed
 intervalsIn state t u f = intervalsOf (coveredAt (recordedIn state) t (u .records) f)
 
@@ -39,7 +39,7 @@ pub record Upto (S : ℕ → Bool) (b : Bool) (p r : ℕ) : Type 0 where
   pub same : (q : ℕ) → p ≤ q → q < r → S q ≡ b
   pub turned : r < fileBytes → S r ≡ not b
 
--- s is the first stretch of the set from place p on; it has length 0, and lies at the end of the file, where
+-- s is the first interval of the set from place p on; it has length 0, and lies at the end of the file, where
 -- there is none.
 pub record NextOf (S : ℕ → Bool) (p : ℕ) (s : PlaceInterval) : Type 0 where
   pub before : Upto S false p (s .offset)

@@ -1,5 +1,5 @@
 // The list of places where a file's write records come in ascending order, as loggers and editors write: each
-// starts where the one before it ends, or later. One pass counts the stretches, a second writes the pairs.
+// starts where the one before it ends, or later. One pass counts the intervals, a second writes the pairs.
 use crate::PlaceInterval;
 use crate::count_intervals;
 use crate::put_pair;
@@ -24,8 +24,8 @@ ghost use Rattle.call_places.specs.PlacesCall.{intervalsIn, waitsOnFile}
 ghost use Rattle.call_places.specs.Ascending.{unswept, sweptPlace, sweptRecord, sweptIn};
 ghost use Rattle.call_places.specs.Ascending.{WithinFile, withLast};
 
-// What a pass has met: whether the file's records ascend, each with a place; how many stretches they make;
-// where the last stretch starts; and the first place at which another could start, one past its end.
+// What a pass has met: whether the file's records ascend, each with a place; how many intervals they make;
+// where the last interval starts; and the first place at which another could start, one past its end.
 pub struct Sweep {
     pub ascending: bool,
     pub stretches: usize,
@@ -33,7 +33,7 @@ pub struct Sweep {
     pub next: usize,
 }
 
-// The pass goes over n bytes at place p: they begin another stretch, lengthen the last, or come too early.
+// The pass goes over n bytes at place p: they begin another interval, lengthen the last, or come too early.
 fn sweep_place(s: Sweep, p: usize, n: usize) -> Sweep
     requires { ⌜ (s .stretches < 65536) × (p < 65536) × (n < 65536) ⌝ }
     ensures { λ r. ⌜ r ≡ sweptPlace s p n ⌝ }
@@ -106,7 +106,7 @@ pub fn sweep_records(state: &State, t: usize, used: Used, f: u16) -> Sweep
     s
 }
 
-// Writes the pair of the last stretch that a pass has met at its place in the list.
+// Writes the pair of the last interval that a pass has met at its place in the list.
 fn put_last(out: &mut [u8], s: Sweep)
     requires { ⌜ (4 * (s .stretches) ≤ length (now out)) × (s .next ≤ fileBytes + 1) ⌝ }
     requires last { ⌜ (1 ≤ s .next → (1 ≤ s .stretches) × (suc (s .offset) ≤ s .next)) ⌝ }
@@ -153,7 +153,7 @@ pub fn is_waiting(state: &State, t: usize, used: Used, f: u16, s: Sweep) -> bool
     waiting(state, t, used, f)
 }
 
-// How many stretches the list has.
+// How many intervals the list has.
 pub fn count(state: &State, t: usize, used: Used, f: u16, s: Sweep) -> usize
     requires counted { ⌜ CountedRecords (journalOf (now state)) t used
         × WithinFile (recordedIn (now state)) t (used .records) ⌝ }

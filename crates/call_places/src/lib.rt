@@ -1,5 +1,5 @@
-// The places of a file that a transaction's write records cover, as a list of stretches; and whether one of
-// its records on the file has no place yet. Where the records do not ascend (ascending.rt), each stretch is
+// The places of a file that a transaction's write records cover, as a list of intervals; and whether one of
+// its records on the file has no place yet. Where the records do not ascend (ascending.rt), each interval is
 // found by walks over them, and no table of places is made.
 mod ascending;
 mod places_call;
@@ -109,7 +109,7 @@ fn first_clear(state: &State, t: usize, used: Used, f: u16, p: usize) -> usize
     q
 }
 
-// The first stretch of covered places from p on; one of length 0 where there is none.
+// The first interval of covered places from p on; one of length 0 where there is none.
 fn next_interval(state: &State, t: usize, used: Used, f: u16, p: usize) -> PlaceInterval
     requires { ⌜ CountedRecords (journalOf (now state)) t used × (p ≤ fileBytes) ⌝ }
     ensures { λ r. ⌜ NextOf (coveredAt (recordedIn (now (state .entry))) t (used .records) f) p r ⌝ }
@@ -122,7 +122,7 @@ fn next_interval(state: &State, t: usize, used: Used, f: u16, p: usize) -> Place
     }
 }
 
-// How many stretches the list has.
+// How many intervals the list has.
 fn count_intervals(state: &State, t: usize, used: Used, f: u16) -> usize
     requires { ⌜ CountedRecords (journalOf (now state)) t used ⌝ }
     ensures { λ r. ⌜ r ≡ length (intervalsIn (now (state .entry)) t used f) ⌝ }
@@ -149,7 +149,7 @@ fn put_number(out: &mut [u8], at: usize, n: usize)
     out[at + 1] = (n % 256) as u8;
 }
 
-// A stretch as the pair of its offset and its length.
+// A interval as the pair of its offset and its length.
 fn put_pair(out: &mut [u8], at: usize, s: PlaceInterval)
     requires { ⌜ (at + 4 ≤ length (now out)) × (s .offset < 65536) × (s .length < 65536) ⌝ }
     ensures { λ _. ⌜ now (out .exit)

@@ -14,7 +14,7 @@ ghost use Rattle.spec.specs.Messages.{Call};
 ghost use Rattle.spec.specs.Calls.{call};
 ghost use Rattle.spec.specs.Promises.{Follows};
 
-// Lists the stretches of file f that the writes of transaction t cover, as pairs at the front of out, and
+// Lists the intervals of file f that the writes of transaction t cover, as pairs at the front of out, and
 // answers how many they are. Whether they fit is decided before a byte is written.
 pub fn places(
     state: &State,

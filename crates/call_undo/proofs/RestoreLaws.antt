@@ -1,4 +1,4 @@
--- The bytes of the last grant go back, write record by write record from the last to the first.
+-- The bytes that the last grant overwrote are restored, write record by write record from the last to the first.
 use mathlib.Core.Bool.{true}
 use mathlib.Core.List.{List}
 use mathlib.Core.Path.{_≡_, refl, sym, ap, ap₂, _∙_}

@@ -1,4 +1,4 @@
--- The rule of taking back after its tests.
+-- The rule of undo after its tests.
 use mathlib.Core.Bool.{false}
 use mathlib.Core.List.{List, []}
 use mathlib.Core.Path.{_≡_, refl, ap, _∙_}
@@ -26,7 +26,7 @@ abbrev pub undo-tests : Machine → ℕ
 undo-tests m = admissionOfUndo (sizes m) (m .store) (m .journal)
 
 module _ (state files logs marks undo : List ℕ) (long : length state ≡ stateLength) where
-  -- The record with what the grant found as the committed offsets and lengths, then with no grant held.
+  -- The state with what the grant found as the committed offsets and lengths, then with no grant to undo.
   module _ (found after : List ℕ) (first : found ≡ withFoundCommitted state) (then : after ≡ withHeldAt found false) where
     found-long : length found ≡ stateLength
     found-long = ap length first ∙ length-copied state _ _ _ ∙ long

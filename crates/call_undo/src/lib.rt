@@ -1,4 +1,4 @@
-// The call that takes the last grant back (paper 02, F-13).
+// Undo of the last commit (paper 02, F-13: taking back).
 mod restore;
 mod undo_call;
 

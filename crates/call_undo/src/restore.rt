@@ -1,4 +1,4 @@
-// The bytes on which the last grant landed go back.
+// Restores the bytes that the last grant overwrote.
 use buffers::parts;
 use commit_apply::writes::LandedWrite;
 use limits::wide;

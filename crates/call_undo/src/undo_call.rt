@@ -1,4 +1,4 @@
-// Taking back.
+// Undo of the last commit.
 use crate::restore::restore_bytes;
 use admission::Gate;
 use state::layout::State;
@@ -10,8 +10,8 @@ ghost use Rattle.spec.specs.Messages.{Call};
 ghost use Rattle.spec.specs.Calls.{call};
 ghost use Rattle.spec.specs.Promises.{Follows};
 
-// Takes the last grant back: files, committed offsets and committed lengths are again as that grant found
-// them, and no grant is held. Journal, logs, marks, windows and the old bytes stay. Refusals 1 and 2, then
+// Undoes the last grant: files, committed offsets and committed lengths are again as that grant found them,
+// and there is no grant to undo. Journal, logs, marks, windows and the undo log stay. Refusals 1 and 2, then
 // 23, then 24.
 pub fn undo_commit(
     state: &mut State,

@@ -154,7 +154,7 @@ module _ (s : StoreMeaning) (journal files logs : List ℕ) (t : ℕ) where
         (λ f. max (getD (s .lengths) f 0) (landedReach (s .filenumbers) (s .offsets) journal t f count)) 8
         (λ f l. ap (max (getD (s .lengths) f 0)) (sym (reach-same f)))
 
-    -- What is kept of them: their records, and how many records and bytes there are.
+    -- What is saved of them: their records, and how many records and bytes there are.
     preserved-is : (k : ℕ) → k < count → recordLanded (s .offsets) (writeRecordAt journal t k)
         ≡ landedRecord v (getD (x .writes) k noWrite)
     unfolding txnOf recordLanded landedRecord writeAt values

@@ -133,7 +133,7 @@ module _ (F : ℕ → ℕ) (v : Values) (ws : List Write) where
       lengths-filled lengths e h 8 (omega arith)
       ∙ filled-all (λ f. max (getD lengths f 0) (landedEnd F v f ws)) lengths 8 (omega arith)
 
--- ---- the lengths put into a record, one after another
+-- ---- the lengths put into a state, one after another
 
 module _ (before state after : List ℕ) (g : ℕ → ℕ) (f : ℕ) (few : f < 8) where
   pub length-put : Means before state (withLengths (filled g (storeOf before .lengths) f) (storeOf before)) → after

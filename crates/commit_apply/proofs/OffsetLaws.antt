@@ -96,7 +96,7 @@ module _ (x : Transaction) (offsets : List ℕ) where
           ∙ getD-set-other (offsetsSet n) n d (finalOffset (getD offsets n 0) (standingAt x n)) 0 (λ p. omega arith)
       pick false e = ap (λ (l : List ℕ). getD l d 0) (offsets-more n false e)
 
--- ---- and put into a record
+-- ---- and put into a state
 
 module _ (x : Transaction) (before state : List ℕ) (d : ℕ) (few : d < 16)
     (so : Means before state (withOffsets (offsetsSet x (storeOf before .offsets) d) (storeOf before)))

@@ -1,4 +1,4 @@
--- What is kept of the writes that a commit lands, write record by write record: the bytes that they land on, and their records.
+-- What is saved of the writes that a commit lands, write record by write record: the bytes that they land on, and their records.
 use mathlib.Core.Bool.{true}
 use mathlib.Core.List.{List, [], _∷_, _++_, map-append}
 use mathlib.Core.Path.{_≡_, refl, sym, ap, ap₂, _∙_}
@@ -130,7 +130,7 @@ module _ {offsets journal : List ℕ} {t k d : ℕ} {w : WriteRecord} (lands : R
       landed-is = ap₂ (λ (r : WriteRecord) (q : ℕ). record { descriptor = r .descriptor; place = At q; length = r .length }) found
           place-is
 
--- Record k as it is kept.
+-- Write record k as it is saved.
 abbrev noted : List ℕ → ℕ → ℕ → WriteRecord
 noted before t k = recordLanded (storeOf before .offsets) (writeRecordAt (journalOf before) t k)
 

@@ -1,5 +1,5 @@
--- What a commit lands, read off the journal, the logs and the record's two arrays of descriptors; and the
--- same off a record of numbers.
+-- What a commit lands, read off the journal, the logs and the state's two arrays of descriptors; and the same
+-- off the state's numbers.
 use mathlib.Core.Bool.{Bool, cond}
 use mathlib.Core.List.{List, []}
 use mathlib.Core.Path.{_≡_}
@@ -71,7 +71,7 @@ abbrev pub lengthsLandedIn : List ℕ → ℕ → ℕ → List ℕ
 lengthsLandedIn state t n =
     let s = storeOf state in lengthsLanded (s .filenumbers) (s .offsets) (journalOf state) t (s .lengths) n
 
--- Record k of transaction t lands inside a file.
+-- Write record k of transaction t lands inside a file.
 pub record RecordLands (offsets journal : List ℕ) (t k : ℕ) : Type 0 where
   pub descriptor : writeRecordAt journal t k .descriptor < descriptorCount
   pub place :
@@ -89,7 +89,7 @@ pub record CanLand (filenumbers offsets journal : List ℕ) (t n : ℕ) : Type 0
 abbrev pub CanLandIn : List ℕ → ℕ → ℕ → Type 0
 CanLandIn state t n = CanLand (storeOf state .filenumbers) (storeOf state .offsets) (journalOf state) t n
 
--- Record k of transaction t lands as r says, inside a file.
+-- Write record k of transaction t lands as r says, inside a file.
 pub record LandsAs (state : List ℕ) (t k : ℕ) (r : LandedWrite) : Type 0 where
   pub file : r .file ≡ getD (storeOf state .filenumbers) (writeRecordAt (journalOf state) t k .descriptor) 0
   pub place :
@@ -105,6 +105,6 @@ pub record Means (before after : List ℕ) (s : StoreMeaning) : Type 0 where
   pub journal : journalOf after ≡ journalOf before
   pub long : length after ≡ stateLength
 
--- What a function does to the meaning of the record that it is lent: its store becomes f of what it was.
+-- What a function does to the meaning of the state that it is lent: its store becomes f of what it was.
 abbrev pub Becomes : Lent → (StoreMeaning → StoreMeaning) → Type 0
 Becomes state f = Means (now (state .entry)) (now (state .exit)) (f (storeOf (now (state .entry))))

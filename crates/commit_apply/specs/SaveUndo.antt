@@ -1,5 +1,5 @@
--- Request F-13, "Taking back the last grant" [R-12.1]: what is kept of the writes that a commit lands, read
--- off the journal, the logs and the record's two arrays of descriptors.
+-- Request F-13, "Taking back the last grant" [R-12.1]: what is saved of the writes that a commit lands, read
+-- off the journal, the logs and the state's two arrays of descriptors.
 use mathlib.Core.Bool.{true}
 use mathlib.Core.List.{List}
 use mathlib.Core.Path.{_≡_}
@@ -41,13 +41,13 @@ preservedRecords state t n =
     let journal = journalOf state in
     withRecords journal lastGrant (λ k. recordLanded (storeOf state .offsets) (writeRecordAt journal t k)) n
 
--- The record with them, and all else as it was.
+-- The state with them, and all else as it was.
 pub record RecordsPreserved (before after : List ℕ) (t n : ℕ) : Type 0 where
   pub journal : journalOf after ≡ preservedRecords before t n
   pub store : storeOf after ≡ storeOf before
   pub long : length after ≡ stateLength
 
--- The record with all that is held of a grant of transaction t, which used so much of its log.
+-- The state with all that is saved of a grant of transaction t, which used so much of its log.
 pub record GrantPreserved (before after : List ℕ) (t : ℕ) (used : Used) : Type 0 where
   pub journal : journalOf after ≡ preservedRecords before t (used .records)
   pub store :

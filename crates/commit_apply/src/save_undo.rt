@@ -1,4 +1,4 @@
-// What the record keeps of a grant for taking it back.
+// What the state saves of a grant so that it can be undone.
 use crate::writes::lands_at;
 use counters::Used;
 use limits::wide;
@@ -39,7 +39,7 @@ fn landed_record(state: &State, t: usize, k: usize) -> WriteRecord
     }
 }
 
-// Keeps transaction t's write records as those of the last grant.
+// Saves transaction t's write records as those of the last grant.
 fn save_records(state: &mut State, t: usize, used: Used)
     requires { ⌜ (length (now state) ≡ stateLength) × CanLandIn (now state) t (used .records) ⌝ }
     ensures { λ _. ⌜ RecordsPreserved (now (state .entry)) (now (state .exit)) t (used .records) ⌝ }
@@ -53,7 +53,7 @@ fn save_records(state: &mut State, t: usize, used: Used)
     }
 }
 
-// Keeps what a grant of transaction t lands, and the offsets and lengths that it finds.
+// Saves what a grant of transaction t lands, and the offsets and lengths that it finds.
 pub fn save_undo(state: &mut State, t: usize, used: Used)
     requires { ⌜ (length (now state) ≡ stateLength) × CanLandIn (now state) t (used .records) ⌝ }
     ensures { λ _. ⌜ GrantPreserved (now (state .entry)) (now (state .exit)) t used ⌝ }

@@ -75,7 +75,7 @@ module _ (marks : List ℕ) (u : ℕ) (y : Transaction) where
       ap (λ (b : Bool). hasSighted marks u y (x .item) || b) (conflicts-append xs ys)
       ∙ sym (or-assoc (hasSighted marks u y (x .item)) (conflicts marks u y xs) (conflicts marks u y ys))
 
-  -- Who has sighted one of the bytes of a stretch has a mark in it.
+  -- Who has sighted one of the bytes of a range has a mark in it.
   conflicts-interval : (q : ℕ) (bs : List ℕ) → conflicts marks u y (bytesFrom q bs) ≡ hasMarkIn marks u q (length bs)
   unfolding conflicts bytesFrom hasSighted
   conflicts-interval q [] = sym (has-in-none marks u q)

@@ -1,4 +1,4 @@
--- Whom a commit would make stale, read off the record and the marks.
+-- Whom a commit would make stale, read off the state and the marks.
 use mathlib.Core.Bool.{Bool, true, not, _&&_}
 use mathlib.Core.List.{List}
 use mathlib.Core.Path.{_≡_}

@@ -36,7 +36,7 @@ fn sighted_by(state: &State, watched: u8, f: usize) -> u8
     found
 }
 
-// Whether a watched transaction may have sighted a length: where this says no, none has.
+// A quick test: if it is false, no watched transaction has sighted a length.
 fn any_sighted(state: &State, watched: u8) -> bool
     ensures { λ r. ⌜ (r ≡ false → NoneSighted (now (state .entry)) watched transactionCount) ⌝ }
 {

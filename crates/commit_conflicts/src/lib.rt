@@ -40,8 +40,8 @@ fn watched(state: &State, t: usize) -> u8
     found
 }
 
-// The octet of those whom a commit of transaction t would make stale, granted or not: no byte of files, logs
-// or undo has a part in it.
+// The transactions that a commit of t would make stale, granted or not, as a bit set. No byte of files, logs
+// or undo log has a part in it.
 pub fn stale_by<'a>(state: &'a State, marks: &'a [u8], t: usize) -> u8
     requires { ⌜ CanLandIn (now state) t (transactionOf (now state) t .used .records)
         × (length (now marks) ≡ bufferBytes) ⌝ }

@@ -1,4 +1,4 @@
--- What the code reads off the record is what the rules say of a transaction's writes.
+-- What the code reads off the state is what the rules say of a transaction's writes.
 use mathlib.Core.Bool.{Bool, false, _&&_, and-false}
 use mathlib.Core.List.{List}
 use mathlib.Core.Path.{_≡_, refl, sym, ap, ap₂, _∙_}
@@ -39,7 +39,7 @@ module _ (state : List ℕ) (t : ℕ) (o : OpenIn state t) where
   same : transaction (storeOf state) t ≡ transactionOf state t
   same = transaction-of state t (o .small)
 
-  -- What check 2 says of it.
+  -- What state validity says of it.
   in-ranges : TransactionInRange (transaction (storeOf state) t) (journalOf state) t
   in-ranges = in-range (storeOf state) (journalOf state) (o .ranges) .transactions t (o .small)
       (ap (λ (x : Transaction). x .begun) same ∙ o .begun)

@@ -1,5 +1,5 @@
 -- The files that are closed at a minute, and whether a transaction has a byte for one of them, read off the
--- record.
+-- state.
 use mathlib.Core.Bool.{Bool, true, _&&_}
 use mathlib.Core.List.{List}
 use mathlib.Core.Path.{_≡_}
@@ -18,7 +18,7 @@ use Rattle.admission.specs.Admission.{storeIn}
 use Rattle.spec.specs.Windows.{forClosed}
 use Rattle.spec.specs.Machine.{fileOf, txnOf}
 
--- The record has passed check 2, and transaction t is open.
+-- The state is valid (01's check 2), and transaction t is open.
 pub record OpenIn (state : List ℕ) (t : ℕ) : Type 0 where
   pub ranges : storeIn (storeOf state) (journalOf state) ≡ true
   pub small : t < transactionCount

@@ -1,7 +1,8 @@
 // A broadcast channel on one store. Two loggers append to the as-run log, and neither waits. An editor
 // repeats the playlist's first entry, and begins again when another task was quicker. Tasks whose calls are
 // ready go to the dispatcher. Then the store is saved, while the editor has an entry written and not
-// committed; a later run loads it, and takes the last grant back, which nobody who is open prevents.
+// committed; a later run loads it, and undoes the last grant: no transaction is open then that could prevent
+// it.
 mod printing;
 mod saving;
 
@@ -49,8 +50,7 @@ const ENTRY: usize = 8;
 
 const TRIES: usize = 3;
 
-// Begins transaction t and writes through descriptor d. Since t has not looked where d stands, this is an
-// append.
+// Begins transaction t and writes through descriptor d. Since t has not read d's offset, this is an append.
 fn append(
     state: &mut State,
     files: &Buffer,
@@ -208,7 +208,7 @@ fn ask(state: &mut State, files: &Buffer, logs: &Buffer, marks: &mut Buffer, und
     tell_end_of_log(n);
 }
 
-// A later run's work: the log ends where it did. The last grant, that of script 2, is taken back.
+// A later run's work: the log ends where it did. The last grant, that of script 2, is undone.
 fn go_on(state: &mut State, files: &mut Buffer, logs: &Buffer, marks: &mut Buffer, undo: &UndoLog) {
     ask(state, files, logs, marks, undo);
     let r = refusal(store::undo_commit(state, files, logs, marks, undo));

@@ -1,7 +1,6 @@
-// What is kept of a store, whatever is open, and how it comes back. Record, files and the bytes on which the
-// last grant landed are all that is committed: the record has file numbers, offsets, lengths, windows and
-// what is held of that grant. Transactions that are open end, as at Abort; their logs and marks are new after
-// a load.
+// Saves a store while transactions are open, and loads it. State, files and undo log are all that is
+// committed: the state has file numbers, offsets, lengths, windows and the write records of the last grant.
+// Open transactions end as at Abort; after a load logs and marks are new.
 use store::BUFFER_BYTES;
 use store::Buffer;
 use store::FILE_BYTES;

@@ -12,7 +12,7 @@ use Rattle.spec_dispatch.specs.Dispatch.{Dispatched as Given, dispatch}
 use Rattle.dispatcher.specs.declared.ends.Dispatched.{Dispatched}
 use Rattle.dispatcher.specs.Types.{endAt}
 
--- Its outcome: plain, or a refusal.
+-- Its outcome: done, or a refusal.
 unfoldable pub saidOf : ℕ → Said
 saidOf zero = doneAnswer
 saidOf (suc n) = refused (suc n)
@@ -28,7 +28,7 @@ pub record GivesDispatch (d : Given Machine) (n : ℕ) (a : Dispatched) (m : Mac
   pub machine : m ≡ d .after
   pub reader : buffer ≡ d .reader
 
--- The promise of the dispatcher, with these bytes, at this minute; and a refusal leaves the record number by
+-- The promise of the dispatcher, with these bytes, at this minute; and a refusal leaves the state number by
 -- number.
 abbrev pub Dispatches : List ℕ → ℕ → Scripts → Lent → Lent → Lent → Lent → Lent → Dispatched → Lent → Type 0
 Dispatches bytes minute x state files logs marks undo a reader =

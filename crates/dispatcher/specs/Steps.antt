@@ -1,4 +1,4 @@
--- What the steps of the dispatcher promise: the code's progress, record and buffers stand as the rounds' work
+-- What the steps of the dispatcher promise: the code's progress, state and buffers stand as the rounds' work
 -- says.
 use mathlib.Core.List.{List}
 use mathlib.Core.Path.{_≡_}

@@ -39,7 +39,7 @@ pub const SCRIPT_CALLS: usize = 16;
 // The last minute of a day.
 pub const LAST_MINUTE: u16 = 1439;
 
-// The bytes of the undo buffer.
+// The bytes of the undo log.
 pub const UNDO_BYTES: usize = 4096;
 
 // The largest budget of orders.

@@ -174,7 +174,7 @@ lengths-fetch v fileOf ws f p (suc m) is n =
     ∙ lengths-fetch v fileOf ws f (suc p) m is n
 
 module _ (v : Values) (fileOf : ℕ → ℕ) (ws : List Write) (f t : ℕ) where
-  -- where the file supplies each byte, the stretch is marked
+  -- where the file supplies each byte, the interval is marked
   marked-run : (p n : ℕ) (marks : List ℕ) → ((i : ℕ) → i < n → asked v (one v fileOf ws f (p + i)) ≡ byte (4096 * f + (p + i))
       ∷ [])
       → marked t (asked v (fetch fileOf ws f p n)) marks ≡ withMarks t (4096 * f + p) n marks

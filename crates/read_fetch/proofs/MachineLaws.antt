@@ -1,4 +1,4 @@
--- A fetch on the parts that the code hands over is the fetch on the record and the whole buffers. Assumes nothing.
+-- A fetch on the parts that the code hands over is the fetch on the state and the whole buffers. Assumes nothing.
 use mathlib.Core.List.{List}
 use mathlib.Core.Path.{_≡_, sym, ap, _∙_}
 use lib.ListN.{getD}

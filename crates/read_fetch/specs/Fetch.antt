@@ -44,7 +44,7 @@ logPart logs t = cut logs (logBytes * t) logBytes
 abbrev pub runExtent : Extent → Run → Extent
 runExtent e r = extent (e .file) (e .place) (r .length)
 
--- The reader's buffer and the marks after, of what a function is lent: the record with the parts of the
+-- The reader's buffer and the marks after, of what a function is lent: the state with the parts of the
 -- buffers, or with the whole of them. The bytes are pasted from a place of the reader's buffer on, or are its
 -- front.
 abbrev pub pastedFrom : Lent → Lent → Lent → ℕ → Used → Extent → Lent → ℕ → List ℕ
@@ -83,7 +83,7 @@ pub record Handed (state file log marks : List ℕ) (t : ℕ) (u : Used) (e : Ex
   pub fileIn : e .file < fileCount
   pub places : e .place + e .length ≤ fileBytes
 
--- The same with whole buffers.
+-- What the callers hand over with whole buffers.
 pub record HandedWhole (state files logs marks : List ℕ) (t : ℕ) (u : Used) (e : Extent) : Type 0 where
   pub counted : CountedRecords (journalOf state) t u
   pub filesLength : length files ≡ bufferBytes

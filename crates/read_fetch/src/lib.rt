@@ -76,8 +76,8 @@ fn copy_runs<'a>(
     }
 }
 
-// The same on the whole buffers: the file's part of the files and the transaction's part of the logs are
-// passed on.
+// Fetches from the whole buffers: passes on the file's part of the files and the transaction's part of the
+// logs.
 pub fn copy_bytes<'a>(
     state: &'a State,
     files: &'a [u8],

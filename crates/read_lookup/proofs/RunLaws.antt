@@ -451,7 +451,7 @@ module _ (j : Recorded) (t records : ℕ) (e : Extent) (r : Run) (run : RunOf j 
   unfolding standsAt
   run-along i = let g = run-inside in omega (arith, starts, g .1)
 
--- ---- what check 2 tells of a transaction's write records
+-- ---- what state validity says of a transaction's write records
 
 pub records-counted : (x : Transaction) (journal : List ℕ) (t : ℕ) → t < 8 → TransactionInRange x journal t
     → CountedRecords journal t (x .used)

@@ -33,7 +33,7 @@ pub record Recorded : Type 0 where
 abbrev pub recorded : List ℕ → List ℕ → Recorded
 recorded journal filenumbers = record { journal = journal; filenumbers = filenumbers }
 
--- A record's own.
+-- Those of a state.
 abbrev pub recordedIn : List ℕ → Recorded
 recordedIn state = recorded (journalOf state) (storeOf state .filenumbers)
 
@@ -41,7 +41,7 @@ recordedIn state = recorded (journalOf state) (storeOf state .filenumbers)
 unfoldable pub covers : List ℕ → ℕ → ℕ → WriteRecord → Bool
 covers filenumbers f p w = eqb (getD filenumbers (w .descriptor) 0) f && liesOver (w .place) (w .length) p
 
--- Whether record k of transaction t does.
+-- Whether write record k of transaction t covers it.
 abbrev pub coveredBy : Recorded → ℕ → ℕ → ℕ → ℕ → Bool
 coveredBy j t f p k = covers (j .filenumbers) f p (writeRecordAt (j .journal) t k)
 
@@ -90,8 +90,8 @@ pub record LatestWrite (j : Recorded) (t records f p : ℕ) (found : Supplier) (
   -- none is found exactly when no record covers it
   pub none : found ≡ File → (k : ℕ) → k < records → coveredBy j t f p k ≡ false
   pub onlyNone : ((k : ℕ) → k < records → coveredBy j t f p k ≡ false) → found ≡ File
-  -- how many records were looked at, 02, F-3: "that one and all newer ones, or all when there is none"
-  -- [R-6.6]
+  -- how many write records the walk visited, 02, F-3: "that one and all newer ones, or all when there is
+  -- none" [R-6.6]
   pub thatAndNewer : (k : ℕ) → found ≡ Record k → looked ≡ records - k
   pub all : found ≡ File → looked ≡ records
   -- its byte is that of the latest write as the rules have it, whatever the log
@@ -99,7 +99,7 @@ pub record LatestWrite (j : Recorded) (t records f p : ℕ) (found : Supplier) (
       → latest (λ d. getD (j .filenumbers) d 0) f p (tabulate (writeIn (j .journal) log t) records)
       ≡ sourceOf (j .journal) log t p found
 
--- The same for the first of these places, of a run.
+-- The latest write over the first of these places, of a run.
 abbrev pub LatestAt : Recorded → ℕ → ℕ → Extent → Run → Type 0
 LatestAt j t records e r = LatestWrite j t records (e .file) (e .place) (r .supplier) (r .looked)
 
@@ -119,8 +119,8 @@ reach j t f n (suc k) = max (reach j t f n k) (recordEnd (j .filenumbers) f (wri
 abbrev pub lengthSeen : List ℕ → ℕ → ℕ → ℕ → ℕ
 lengthSeen state t records f = reach (recordedIn state) t f (getD (storeOf state .lengths) f 0) records
 
--- What check 2 says of the write records of transaction t: "records at most 64, their lengths adding to the
--- data used, at most 4,096; each record's descriptor at most 15" [R-16.4].
+-- What state validity (01's check 2) says of the write records of transaction t: "records at most 64, their
+-- lengths adding to the data used, at most 4,096; each record's descriptor at most 15" [R-16.4].
 pub record CountedRecords (journal : List ℕ) (t : ℕ) (u : Used) : Type 0 where
   pub small : t < transactionCount
   pub records : u .records ≤ recordCount

@@ -1,5 +1,5 @@
-// The latest write over a place of a file, and the run from the place on: the longest stretch that one write
-// record supplies, or that the file supplies. And where a file ends for a transaction.
+// The latest write over a place of a file, and the run from the place on: the longest interval that one write
+// record supplies, or that the file supplies. Also where a file ends for a transaction.
 use counters::Used;
 use limits::larger;
 use limits::smaller;
@@ -41,7 +41,7 @@ impl Supplier {
     }
 }
 
-// A run: who supplies it, how many write records were looked at to find that, where its bytes start in the
+// A run: who supplies it, how many write records the walk visited to find that, where its bytes start in the
 // log or in the file, and how many they are.
 pub struct Run {
     pub supplier: Supplier,
@@ -78,8 +78,8 @@ fn gap(state: &State, w: WriteRecord, e: Extent) -> usize
 
 // The latest write over the first of the places, and the longest run at their front. Corollary 2 of the
 // notes: "Otherwise, a sees the most recent precedessor in OP_{T_i} ." The walk goes from the newest record
-// back and stops at the first that covers the place. On its way it keeps where the data of the records looked
-// at start in the log, and how many places come before those that they cover.
+// back and stops at the first that covers the place. On its way it tracks where the data of the visited
+// records start in the log, and how many places come before those that they cover.
 pub fn latest_write(state: &State, t: usize, used: Used, e: Extent) -> Run
     requires { ⌜ CountedRecords (journalOf (now state)) t used × (1 ≤ e .length) ⌝ }
     ensures latest { λ r. ⌜ LatestAt (recordedIn (now (state .entry))) t (used .records) e r ⌝ }

@@ -1,4 +1,4 @@
--- A transaction put back into the record: as it was, with one descriptor changed, with one write more.
+-- A transaction put back into the state: as it was, with one descriptor changed, with one write more.
 use mathlib.Core.Bool.{true, cond}
 use mathlib.Core.List.{List, [], _∷_, _++_}
 use mathlib.Core.Path.{_≡_, refl, sym, ap, ap₂, _∙_}
@@ -50,7 +50,7 @@ put-descriptor x d z h e =
 -- ---- a whole transaction
 
 module _ (s : StoreMeaning) (journal logs : List ℕ) (t : ℕ) (o : Opened s journal logs t) where
-  -- The record of a write that was read off a record is that record.
+  -- The write record of a write that was read off a write record is that write record.
   record-own : (k : ℕ) → k < transaction s t .used .records → recordOf (writeAt journal logs t k) ≡ writeRecordAt journal t k
   unfolding recordOf writeAt
   record-own k h = rw (decoded-length s journal logs t (o .size) (o .small) (o .ranges) k h)

@@ -1,4 +1,4 @@
--- What a record of numbers means has the lengths that 01 gives its arrays.
+-- What a state's numbers mean has the lengths that 01 gives its arrays.
 use mathlib.Core.Path.{_≡_, ap, _∙_}
 use mathlib.Core.List.{List}
 use lib.ListN.{length}

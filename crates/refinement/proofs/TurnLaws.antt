@@ -105,7 +105,7 @@ pub passing-on : (n : ℕ) (buffer : List ℕ) (m : Machine) (next : Turn) → n
 unfolding passing
 passing-on n buffer m next e = rw e
 
--- A call that was turned down and left the record alone, where the rules turn it down.
+-- A call that was refused and left the state alone, where the rules refuse it.
 pub turned-follows : (r : Refusal) (buffer state files logs marks undo : List ℕ) (w : Turn)
     → w ≡ refuseTurn (number r) buffer (machineOf state files logs marks undo)
     → Meets w (Refused r) (machineOf state files logs marks undo) buffer × LeftAsFound (Refused r) state state
@@ -153,7 +153,7 @@ module _ (t : ℕ) (o : Op) (m : Machine) (passes : admission (sizes m) (m .stor
   unfolding call admitted stepTurn
   on-turn = passing-on (admission (sizes m) (m .store) (m .journal) t) (bufferOf o) m (stepTurn t o m) passes
 
-  -- A call that looks, of a stale transaction.
+  -- A read call of a stale transaction.
   pub on-turned-back : refusesStale stale o ≡ true → call (on t o) m ≡ refuseTurn 18 (bufferOf o) m
   unfolding refusedStale served
   on-turned-back e =

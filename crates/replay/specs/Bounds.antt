@@ -2,7 +2,7 @@
 use mathlib.Core.Path.{_≡_}
 use Rattle.text_replay.specs.declared.answering.ReplayProgress.{ReplayProgress}
 
--- After output was written: none waits, and what a line needs stays.
+-- After output was written: none is pending, and what a line needs stays.
 pub record Flushed (p r : ReplayProgress) : Type 0 where
   pub held : r .held ≡ p .held
   pub at : r .at ≡ p .at

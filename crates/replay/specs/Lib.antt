@@ -2,5 +2,5 @@
 pub mod Bounds
 -- A whole run.
 pub mod WholeRun
--- The record in a saved block.
+-- The state in a saved block.
 pub mod Blocks

@@ -1,7 +1,7 @@
 // Replays a call log: reads its lines from standard input, performs the calls on a fresh store, or on a saved
-// block that the argument names, and prints a line for each to standard output. What differs from the log,
-// lines of another form and what fails are said on standard error. The memory is the same for an input of any
-// size.
+// block that the argument names, and prints a line for each to standard output. Differences from the log,
+// lines of another form and failures are reported on standard error. The memory is the same for an input of
+// any size.
 mod blocks;
 mod stdio;
 
@@ -33,8 +33,8 @@ ghost use Rattle.text_replay_pieces.specs.Bounds.{Resting};
 ghost use Rattle.replay.specs.Bounds.{Flushed};
 ghost use Rattle.replay.specs.WholeRun.{ReachedFrom, RunEnds};
 
-// Writes what waits, and counts its lines. A write that fails is said, and ends the run. No contract can say
-// what is written: the theorem of a whole run binds what is handed over here.
+// Writes the pending output, and counts its lines. A write that fails is reported, and ends the run. No
+// contract can say what is written: the theorem of a whole run binds what is handed over here.
 fn flush(mut p: ReplayProgress, out: &[u8]) -> ReplayProgress
     requires { ⌜ p .waiting ≤ length (now out) ⌝ }
     ensures { λ r. ⌜ Flushed p r ⌝ }
@@ -50,7 +50,7 @@ fn flush(mut p: ReplayProgress, out: &[u8]) -> ReplayProgress
     p
 }
 
-// Performs the lines that end in the piece, and holds the rest.
+// Performs the lines that end in the piece, and buffers the rest.
 fn take_piece(
     mut p: ReplayProgress,
     state: &mut State,

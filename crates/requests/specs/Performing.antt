@@ -33,7 +33,7 @@ pub record Performs (q : Request) (bytes reader : List ℕ) (m : Machine) (o : O
   pub meets : Meets (call (callOf q bytes reader) m) o m′ (bufferOfCall (callOf q bytes reader′))
   pub unanswered : Unanswered q reader reader′
 
--- The same of lent arrays; and a refusal other than 13 leaves the record number by number.
+-- The promise of a call on lent arrays; a refusal other than 13 leaves the state number by number.
 abbrev pub Performed : Request → List ℕ → Lent → Lent → Lent → Lent → Lent → Outcome → Lent → Type 0
 Performed q bytes state files logs marks undo o reader =
     Performs q bytes (now (reader .entry)) (handed state files logs marks undo) o

@@ -1,2 +1,2 @@
-// The meaning of the store: definitions in specs/, and the theorem of demand 3 about them in proofs/. No
-// code.
+// The meaning of the store: definitions in specs/, and the theorems about them (Serializability, Refusals) in
+// proofs/. No code.

@@ -1,4 +1,4 @@
--- The corners hold: each is computed.
+-- The edge cases hold: each is computed.
 use mathlib.Core.Path.{refl}
 use Rattle.buffers.specs.Parts as Parts
 use Rattle.spec.proofs.Examples.Opened.{opened}

@@ -131,7 +131,7 @@ module _ (m : Machine) (r : WorkResting m) (bytes : List ℕ) (minute : ℕ) (x 
   too : PlainToo bytes minute x m (plainOf m) reader
   too = plain-too bytes minute x m (plainOf m) reader (resting-twins m r) none-open
 
-  -- The grants, by the plain machine.
+  -- The grants, by the reference model.
   abbrev plainLaws : Laws (plainReply (plainOf m)) bytes minute x
   plainLaws = plain-laws (plainOf m) bytes minute x few short
 
@@ -172,7 +172,7 @@ module _ (m : Machine) (r : WorkResting m) (bytes : List ℕ) (minute : ℕ) (x 
         closed = λ t l. h .openness t l ∙ ap isRunning (all-closed t) ∙ not-running;
       }
 
--- ---- demand 1
+-- ---- refusals (demand 1)
 
 gate-known : (a b c d : Bool) → (unless a 1 (unless b 2 (unless c 19 (unless d 20 0))) ≡ 0 → ⊥)
     → IsDispatchRefusal (unless a 1 (unless b 2 (unless c 19 (unless d 20 0))))
@@ -200,7 +200,7 @@ refusals-of-dispatch bytes minute x m reader =
         → (dispatch bytes minute x m reader .after ≡ m) × (dispatch bytes minute x m reader .reader ≡ reader)
     leaves = unfold dispatch in left-by m reader _ _ (gate bytes minute x m reader)
 
--- ---- on any record and any buffers
+-- ---- on any state and any buffers
 
 module _ (state files logs marks undo bytes : List ℕ) (minute : ℕ) (x : Scripts) (reader : List ℕ) where
   abbrev found : Machine

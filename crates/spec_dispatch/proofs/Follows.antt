@@ -1,4 +1,4 @@
--- Store, store without buffers and plain machine make the same calls, since they reply alike to every list of calls.
+-- Store, abstract store and reference model make the same calls, since they reply alike to every list of calls.
 use mathlib.Core.Bool.{false}
 use mathlib.Core.List.{List}
 use mathlib.Core.Path.{_≡_, ap, _∙_, fun-ext}
@@ -27,7 +27,7 @@ store-abstract m s =
     let a = calls-agree cs m s in
     call-turn c (callsAfter cs m) (a .sound) .0 ∙ ap (λ (z : Abstract). abstractCall c z .reply) (a .state)))
 
--- A store, and the plain machine that it stands for.
+-- A store, and the reference model that it stands for.
 pub record TwinWork (m : Machine) (p : Plain) : Type 0 where
   pub sound : Sound m
   pub good : Good p

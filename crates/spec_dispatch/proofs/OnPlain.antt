@@ -1,4 +1,4 @@
--- The laws of rounds on the plain machine: which calls each open transaction has had, and whose grants there were.
+-- The laws of rounds on the reference model: which calls each open transaction has had, and whose grants there were.
 use mathlib.Core.Bool.{Bool, true, false, cond, true≢false}
 use mathlib.Core.List.{List, [], _∷_, _++_, map, map-append}
 use mathlib.Core.Logic.{_⊎_, inl, inr, ⊎-elim}

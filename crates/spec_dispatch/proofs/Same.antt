@@ -1,4 +1,4 @@
--- The tests before the dispatcher; and that it gives on the plain machine what it gives on the store.
+-- The tests before the dispatcher; and that it gives on the reference model what it gives on the store.
 use mathlib.Core.Bool.{Bool, not}
 use mathlib.Core.List.{List}
 use mathlib.Core.Path.{_≡_, refl, ap, _∙_, subst}
@@ -53,13 +53,13 @@ module _ (bytes : List ℕ) (minute : ℕ) (x : Scripts) (m : Machine) (reader :
   unfolding dispatch
   refusal-is = refusal-of m reader _ _ gate
 
--- ---- on the plain machine too
+-- ---- on the reference model too
 
 same-committed : (m : Machine) (p : Plain) → TwinWork m p → values (m .store) (m .files) ≡ p .committed .value
 unfolding view abs
 same-committed m p t = ap (λ (z : Abstract). z .value) (t .same)
 
--- Nobody is open in the store where nobody is on the plain machine.
+-- Nobody is open in the store where nobody is on the reference model.
 none-same : (m : Machine) (p : Plain) → ((t : ℕ) → t ≤ 7 → transaction (m .store) t .begun ≡ isRunning (p .slots t))
     → noneBegun (m .store) ≡ noneRunning p
 unfolding noneBegun noneRunning

@@ -1,5 +1,5 @@
--- Request F-13, "Taking back the last grant" [R-12.1]: the bytes on which writes landed in a buffer, and how
--- they go back.
+-- Request F-13, "Taking back the last grant" [R-12.1]: the bytes that writes overwrite in a buffer, and how
+-- they are restored.
 use mathlib.Core.List.{List, [], _∷_, _++_, map}
 use mathlib.Core.Path.{_≡_}
 use lib.ListN.{length, take, drop}

@@ -1,2 +1,2 @@
-// The bytes on which writes landed, and how they go back: definitions in specs/, and their law in proofs/. No
-// code.
+// The undo log: the bytes that writes overwrite, and how they are restored. Definitions in specs/, and their
+// law in proofs/. No code.

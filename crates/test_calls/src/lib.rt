@@ -190,12 +190,12 @@ const WEIGHTS: [usize; 130] = [
     240,
 ];
 
-// What is wrong with the buffers or the record lent to a call; short and forgery are 0 where nothing is.
+// What is wrong with the buffers or the state lent to a call; short and forgery are 0 where nothing is.
 pub struct Damage {
     // 1, 2, 3, 4: of the files, logs, marks, undo buffer only the first length bytes are lent.
     pub short: usize,
     pub length: usize,
-    // 1 to 27: the call gets a record out of its ranges.
+    // 1 to 27: the call gets a state that is not valid.
     pub forgery: usize,
     pub transaction: usize,
     pub index: usize,
@@ -398,7 +398,7 @@ struct Chosen {
 }
 
 // A call on a transaction that is guessed closed: a Begin or, in the quiet mode while none is guessed open,
-// as often a taking back or a dispatcher.
+// as often an undo or a dispatcher.
 fn opening(mode: usize, t: usize, first: usize, r: usize) -> Chosen {
     let mut kind = BEGIN;
     if (mode == QUIET) & (first == 8) {
@@ -415,7 +415,7 @@ fn opening(mode: usize, t: usize, first: usize, r: usize) -> Chosen {
     }
 }
 
-// A taking back or a dispatcher while one is guessed open: that one's Commit or Abort.
+// An undo or a dispatcher while one is guessed open: that one's Commit or Abort.
 fn ending(first: usize, r: usize) -> Chosen {
     if r % 4 == 0 {
         return Chosen {
@@ -468,7 +468,7 @@ fn guess_after_request(guess: [bool; 8], request: Request, t: usize) -> [bool; 8
     out
 }
 
-// The same after a request whose transaction may be none.
+// The transactions that are guessed open after a request whose transaction may be none.
 fn guess_after_asked(guess: [bool; 8], request: Request, t: usize) -> [bool; 8] {
     if 7 < t {
         return guess;
@@ -744,7 +744,7 @@ fn short(class: usize, r: usize) -> usize {
     0
 }
 
-// How many bytes store buffer `which` has: the fourth holds the old bytes of a grant.
+// How many bytes store buffer `which` has: the fourth is the undo log.
 fn whole(which: usize) -> usize
     ensures { λ r. ⌜ 0 < r ⌝ }
 {
@@ -762,7 +762,7 @@ fn short_length(which: usize, r: usize) -> usize {
     r / 2 % n
 }
 
-// Which forgery the record gets. Fresh looks at no record.
+// Which forgery the state gets. Fresh reads no state.
 fn forgery(kind: usize, class: usize, r: usize) -> usize {
     if kind == FRESH {
         return 0;

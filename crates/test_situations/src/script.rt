@@ -1,4 +1,4 @@
-// Calls as lines of a trace, held to the lines that they have to be answered.
+// Calls as lines of a trace, compared with the lines that they have to be answered.
 use buffers::parts;
 use limits::BUFFER_BYTES;
 use limits::FILE_BYTES;
@@ -12,7 +12,7 @@ use text_trace::Parsed;
 ghost use Prim.Native.Nat.{_≤_};
 ghost use lib.ListN.{length};
 
-// A store buffer, and that of a grant's old bytes.
+// A store buffer, and the undo log.
 pub type Buffer = [u8; BUFFER_BYTES];
 
 pub type UndoLog = [u8; FILE_BYTES];
@@ -32,7 +32,7 @@ fn line_end(text: &[u8], from: usize) -> usize
     i
 }
 
-// The answer is plain.
+// The outcome is Done: no number, no refusal.
 fn is_done(o: Outcome) -> bool {
     if let Outcome::Done = o {
         return true;
@@ -174,7 +174,7 @@ pub fn start_filled(
     begun & written & run_lines(state, files, logs, marks, undo, b"C7\n", b"ok 0 0\n")
 }
 
-// File 0 begins so, and the committed offset of descriptor 0 is n.
+// File 0 begins with these bytes, and the committed offset of descriptor 0 is n.
 pub fn stands(state: &State, files: &[u8], front: &[u8], n: u16) -> bool {
     let size = front.len();
     if files.len() < size {

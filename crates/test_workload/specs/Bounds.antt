@@ -1,4 +1,4 @@
--- The ranges of what a run keeps.
+-- The ranges of what a run carries from call to call.
 use Prim.Native.Nat.{_<_}
 use Rattle.test_digest.specs.Bounds.{Digest}
 use Rattle.test_workload.specs.declared.WorkloadProgress.{WorkloadProgress}

@@ -1,5 +1,5 @@
 // Runs a fixed stream of 300,000 calls on the store, with good and bad numbers, short buffers and forged
-// records. After every thousand it prints how many calls were made, how often each answer and each refusal
+// states. After every thousand it prints how many calls were made, how often each answer and each refusal
 // came, the digest of the state and that of all answers.
 
 use limits::BUFFER_BYTES;
@@ -17,12 +17,12 @@ ghost use Rattle.test_workload.specs.Bounds.{WorkloadBound};
 
 const CALLS: usize = 300000;
 
-// A store buffer, and that of a grant's old bytes.
+// A store buffer, and the undo log.
 type Buffer = [u8; BUFFER_BYTES];
 
 type UndoLog = [u8; FILE_BYTES];
 
-// What a run keeps between calls, beside the store.
+// What a run carries from call to call, beside the store.
 struct WorkloadProgress {
     last: usize,
     open: [bool; 8],
@@ -56,7 +56,7 @@ fn counts_after(counts: [usize; COUNTS], came: Performance) -> [usize; COUNTS] {
     outcomes::counted(counts, o)
 }
 
-// The course after a call.
+// The progress after a call.
 fn progress_after(
     mut c: WorkloadProgress,
     g: Generated,
@@ -79,7 +79,7 @@ fn progress_after(
     c
 }
 
-// What a call comes to on a copy of the record in which a number is out of range.
+// What a call comes to on a copy of the state in which a number is out of range.
 fn on_forged(
     mut copy: State,
     files: &mut Buffer,

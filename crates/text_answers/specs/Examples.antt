@@ -1,4 +1,4 @@
--- Replies and their lines: the request's, and corners.
+-- Replies and their lines: the request's, and edge cases.
 use mathlib.Core.List.{[], _∷_}
 use mathlib.Core.Path.{_≡_}
 use Rattle.text_answers.specs.Printed.{printed}

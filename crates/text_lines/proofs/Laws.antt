@@ -1,4 +1,4 @@
--- Laws of one look for a line end. Assumes nothing.
+-- Laws of one scan for a line end. Assumes nothing.
 use mathlib.Core.Path.{_≡_, refl, sym, ap, _∙_}
 use mathlib.Core.Bool.{Bool, true, false, cond}
 use mathlib.Core.List.{List, [], _∷_, _++_}

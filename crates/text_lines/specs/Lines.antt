@@ -7,7 +7,7 @@ use lib.Dec.{eqb}
 use lib.ListN.{take}
 use Prim.Native.Nat.{ℕ, suc}
 
--- The line that a byte of the input ends, if it does, and what is held of the line at hand after the byte.
+-- The line that a byte of the input ends, if it does, and what is pending of the current line after the byte.
 unfoldable pub endedLine : ℕ → List ℕ → List (List ℕ)
 endedLine x held = cond (eqb x 10) (held ∷ []) []
 
@@ -29,13 +29,13 @@ linesOf input = linesFrom [] input
 
 -- ---- input that comes in pieces
 
--- What is kept of a line that may have `most` bytes: one byte more, which shows that it is "longer .. without
--- its line end" [R-19.5].
+-- A line that may have `most` bytes, truncated: one byte more, which shows that it is "longer .. without its
+-- line end" [R-19.5].
 unfoldable pub truncated : ℕ → List ℕ → List ℕ
 truncated most line = take (suc most) line
 
--- The lines that end in a piece, and what is held after it, where held is what came before of the line at
--- hand.
+-- The lines that end in a piece, and what is pending after it, where `held` is what came before of the
+-- current line.
 unfoldable pub completedIn : ℕ → List ℕ → List ℕ → List (List ℕ)
 completedIn most held [] = []
 completedIn most held (x ∷ xs) = endedLine x held ++ completedIn most (truncated most (grown x held)) xs

@@ -1,4 +1,4 @@
--- What the code promises of a look for the next line end.
+-- What the code promises of a scan for the next line end.
 use mathlib.Core.Bool.{Bool, true, false}
 use mathlib.Core.List.{List, [], _∷_}
 use mathlib.Core.Path.{_≡_}
@@ -6,8 +6,8 @@ use Prim.Native.Nat.{ℕ, suc, _≤_, _<_}
 use Rattle.text_lines.specs.declared.Scan.{Scan}
 use Rattle.text_lines.specs.Lines.{completedIn, pendingAfter}
 
--- What a look for the next line end finds in a piece: the line that ends first, and the rest of the piece; or
--- that no line ends in it, and what is held then.
+-- What a scan for the next line end finds in a piece: the line that ends first, and the rest of the piece; or
+-- that no line ends in it, and what is pending then.
 unfoldable pub NextLine : ℕ → Bool → List ℕ → List ℕ → List ℕ → List ℕ → Type 0
 NextLine most true held piece line rest =
     (completedIn most held piece ≡ line ∷ completedIn most [] rest)
@@ -15,8 +15,8 @@ NextLine most true held piece line rest =
 NextLine most false held piece line rest = (completedIn most held piece ≡ [])
     × (pendingAfter most held piece ≡ line)
 
--- Where a look from `from` on ends in a piece of that size: past the line end that it found, or at the end of
--- the piece. At most one byte more is held than a line may have.
+-- Where a scan from `from` on ends in a piece of that size: past the line end that it found, or at the end of
+-- the piece. At most one byte more is pending than a line may have.
 pub record Went (most : ℕ) (r : Scan) (from size : ℕ) : Type 0 where
   pub within : r .held ≤ suc most
   pub onward : from ≤ r .at

@@ -28,13 +28,13 @@ module _ {K : Type 0} (p : LineProgram K) where
   throughPieces u [] = u
   throughPieces u (piece ∷ pieces) = throughPieces (atEnd p (within (u .kept) (u .held) piece)) pieces
 
-  -- The texts put out one after the other, each with none waiting before it.
+  -- The texts put out one after the other, each with none pending before it.
   unfoldable pub PutOut : Under K → List (List ℕ) → Under K → Type 0
   PutOut u [] w = u ≡ w
   PutOut u (text ∷ texts) w = (v : Under K) × (Passes p u [] v text × PutOut v texts w)
 
   -- Pieces one after the other, each on what the one before left; last, the text of the line that the end of
-  -- the input ends. k′ is kept then.
+  -- the input ends. k′ is the state then.
   unfoldable pub Legs : List ℕ → K → List Leg → List ℕ → K → Type 0
   Legs held k [] last k′ = Answered p (lastLine held) k [] k′ last
   Legs held k (x ∷ xs) last k′ =
@@ -42,8 +42,8 @@ module _ {K : Type 0} (p : LineProgram K) where
       × ((w .rest ≡ []) × (PutOut (within k held (x .piece)) (x .texts) w
       × Legs (w .held) (w .kept) xs last k′))
 
--- Some pieces of input lead from k, with nothing held, to u. That the pieces are those that were read is not
--- said: reading is outside.
+-- Some pieces of input lead from k, with nothing pending, to u. That the pieces are those that were read is
+-- not said: reading is outside.
 pub record PiecesReach {K : Type 0} (p : LineProgram K) (k : K) (u : Under K) : Type 0 where
   pub pieces : List (List ℕ)
   pub there : throughPieces p (within k [] []) pieces ≡ u
@@ -53,9 +53,9 @@ pub record LinesLead {K : Type 0} (p : LineProgram K) (k k′ : K) : Type 0 wher
   pub input : List ℕ
   pub keeps : k′ ≡ stateAfter p (linesOf input) k
 
--- Proved in proofs/WholeRun.antt of each program that takes what is kept of a line as the whole line: what is
--- handed over to be written is the text of the lines of the input, however it was cut, and what is kept at
--- the end is what these lines leave.
+-- Proved in proofs/WholeRun.antt of each program that takes a truncated line as the whole line: what is
+-- handed over to be written is the text of the lines of the input, however it was cut, and the state at the
+-- end is what these lines leave.
 pub record Whole {K : Type 0} (p : LineProgram K) (k : K) (legs : List Leg) (last : List ℕ)
     (k′ : K) : Type 0 where
   pub says : outputOf legs ++ last ≡ transcript p (linesOf (inputOf legs)) k

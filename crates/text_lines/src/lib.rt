@@ -1,5 +1,6 @@
-// The lines of an input that comes in pieces. Of the line at hand as many bytes are held in a lent buffer as
-// it has, so that a line of any length passes through; that is to be one byte more than a line may have.
+// The lines of an input that comes in pieces. As many bytes of the current line as a lent buffer has room for
+// are pending in it, so that a line of any length passes through. The buffer has one byte more than a line
+// may have.
 ghost use mathlib.Core.Path.{_≡_};
 ghost use mathlib.Core.Bool.{cond};
 ghost use mathlib.Core.List.{_∷_, []};
@@ -8,16 +9,16 @@ ghost use lib.ListN.{length, take, drop};
 ghost use Rattle.text_lines.specs.Lines.{lastLine};
 ghost use Rattle.text_lines.specs.Scans.{NextLine, Went};
 
-// What a look for the next line end found: whether a line ended, how many bytes of it are held, and the place
-// after it in the piece.
+// What a scan for the next line end found: whether a line ended, how many bytes of it are pending, and the
+// place after it in the piece.
 pub struct Scan {
     pub complete: bool,
     pub held: usize,
     pub at: usize,
 }
 
-// Looks for the next line end in the piece, from `from` on. The bytes on the way there join the `held` bytes
-// of the line at hand.
+// Scans the piece for the next line end, from `from` on. The bytes up to it join the `held` pending bytes of
+// the current line.
 pub fn next_line(line: &mut [u8], held: usize, piece: &[u8], from: usize) -> Scan
     requires { ⌜ (1 ≤ length (now line)) × ((held ≤ length (now line)) × (from ≤ length (now piece))) ⌝ }
     ensures { λ r. ⌜ NextLine (length (now (line .entry)) - 1) (r .complete) (take held (now (line .entry))) (drop from (now (piece .entry)))
@@ -48,7 +49,7 @@ pub fn next_line(line: &mut [u8], held: usize, piece: &[u8], from: usize) -> Sca
     }
 }
 
-// Whether what is held at the end of the input is a line.
+// True if the bytes pending at the end of the input are a line.
 pub fn is_line(rest: &[u8]) -> bool
     ensures { λ r. ⌜ lastLine (now (rest .entry)) ≡ cond r (now (rest .entry) ∷ []) [] ⌝ }
 {

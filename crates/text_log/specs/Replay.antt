@@ -21,9 +21,9 @@ use Rattle.text_log.specs.Statements.{numbersOf, bytesOfCall}
 
 -- ---- what lines do
 
--- What is kept from line to line: record and buffers, the answer that was printed last, how many lines had
--- another form, how many `=` lines differed from the answer before them, and whether another version ended
--- the run.
+-- The replay's state from line to line: the store's state and buffers, the answer that was printed last, how
+-- many lines had another form, how many `=` lines differed from the answer before them, and whether another
+-- version ended the run.
 pub record ReplayState : Type 0 where
   pub machine : Machine
   pub answer : List ℕ
@@ -35,7 +35,7 @@ pub record ReplayState : Type 0 where
 unfoldable pub oneMore : ℕ → ℕ
 oneMore n = cond (ltb n 18446744073709551615) (suc n) n
 
--- The text that a line prints, and what is kept after it.
+-- The text that a line prints, and the replay's state after it.
 pub record Printed : Type 0 where
   pub text : List ℕ
   pub after : ReplayState
@@ -111,7 +111,7 @@ abbrev pub replaying : LineProgram ReplayState
 replaying =
     record { text = λ line k. lineTurn line k .text; next = λ line k. lineTurn line k .after; most = longest }
 
--- What is kept before the first line.
+-- The replay's state before the first line.
 abbrev pub keptFirst : Machine → ReplayState
 keptFirst m = record { machine = m; answer = []; malformed = 0; differing = 0; ended = false }
 
@@ -178,9 +178,9 @@ AllTyped (e ∷ es) = Typed e × AllTyped es
 
 -- ---- proved in proofs/Replayed.antt
 
--- From any record and buffers, freshly made or saved: the replay of the recorded lines prints the answers
--- that the events had, counts no difference and no line of another form, and leaves the record and buffers
--- that they left.
+-- From any state and buffers, freshly made or saved: the replay of the recorded lines prints the answers that
+-- the events had, counts no difference and no line of another form, and leaves the state and buffers that
+-- they left.
 pub record Replayed : Type 0 where
   pub text : (es : List Event) (k : ReplayState) → AllTyped es → k .ended ≡ false
       → transcript replaying (recordedLines es (k .machine)) k ≡ answersOf es (k .machine)

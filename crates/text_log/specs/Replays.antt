@@ -1,5 +1,5 @@
--- A call log runs again alike: what a call shows of the buffer for its answer, and what its line may leave
--- out.
+-- A call log can be run again, with the same effect: what a call shows of the buffer for its answer, and what
+-- its line may leave out.
 use mathlib.Core.List.{List, [], map}
 use mathlib.Core.Path.{_≡_}
 use lib.ListN.{length, take}

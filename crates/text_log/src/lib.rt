@@ -1,4 +1,4 @@
-// A call log: calls as lines of text, for a record of a run that can be run again.
+// A call log: calls as lines of text, so that a recorded run can be run again.
 mod answers;
 mod parsing;
 

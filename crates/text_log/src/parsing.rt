@@ -319,7 +319,7 @@ fn text_line(line: &[u8], bytes: &mut [u8]) -> ParsedEntry
     text_behind(line, at, t, d, bytes)
 }
 
-// .. in a line of at most 128 bytes.
+// `W0 3 hi`, in a line of at most 128 bytes.
 fn short_text_line(line: &[u8], bytes: &mut [u8]) -> ParsedEntry
     requires { ⌜ length (now bytes) ≡ 4097 ⌝ }
     ensures { λ r. ⌜ Says r (now (bytes .exit))

@@ -115,7 +115,7 @@ module _ (more : ℕ) (line : List ℕ) (at : ℕ) where
   unfolding spacedNumber
   spaced-number h e = rw (drop-cons line at 0 h, eq-eqb (getD line at 0) 32 e, add-one at)
 
--- What a reader's answer says of the number that it looked for.
+-- What a reader's answer says of the number that it reads.
 module _ (line : List ℕ) (f : Field) (g : Numeral) (h : numeralOf line f ≡ g) where
   pub field-missing : f ≡ Missing → g ≡ none
   unfolding numeralOf

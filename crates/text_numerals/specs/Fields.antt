@@ -23,7 +23,7 @@ unfoldable pub numberCount : Count → ℕ
 numberCount Unread = 0
 numberCount (Many n) = n
 
--- The values in the buffer are those that are meant, and they lie in it; its length is kept.
+-- The values in the buffer are those that are meant, and they lie in it; its length stays.
 pub record Collects (before : List ℕ) (r : Count) (buffer : List ℕ) (meant : NumberList) : Type 0 where
   pub means : valuesOf r buffer ≡ meant
   pub within : numberCount r ≤ length buffer

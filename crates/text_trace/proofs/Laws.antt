@@ -69,7 +69,7 @@ unfolding lettered
 lettered-other k t bytes b c a p s r w =
     rw (ne-eqb k 66 b, ne-eqb k 67 c, ne-eqb k 65 a, ne-eqb k 80 p, ne-eqb k 83 s, ne-eqb k 82 r, ne-eqb k 87 w)
 
--- What comes of a number that was looked for and is f.
+-- What comes of a number that was read and is f.
 module _ (line : List ℕ) (f : Field) (g : Numeral) (next : ℕ → List ℕ → Line) (h : numeralOf line f ≡ g) where
   pub after-missing : f ≡ Missing → Reads line Another (after g next)
   unfolding numeralOf parsedLine startOf after

@@ -1,4 +1,4 @@
--- What a whole run puts out is the text of the lines of its input, on the store and on the plain machine. Assumes nothing.
+-- What a whole run puts out is the text of the lines of its input, on the store and on the reference model. Assumes nothing.
 use mathlib.Core.List.{List, [], _∷_, _++_}
 use mathlib.Core.Path.{_≡_, refl, sym, ap, _∙_}
 use lib.ListN.{getD}

@@ -1,11 +1,11 @@
--- What is kept between lines, and the buffers that it has to fit.
+-- The progress of a run, and the buffers that it has to fit.
 use mathlib.Core.List.{List}
 use mathlib.Core.Path.{_≡_}
 use lib.ListN.{length}
 use Prim.Native.Nat.{ℕ, _≤_, _<_}
 use Rattle.trace.specs.declared.answering.TraceProgress.{TraceProgress}
 
--- Before a line is answered, in a piece of that size; and between pieces, when no output waits.
+-- Before a line is answered, in a piece of that size; and between pieces, when no output is pending.
 pub record TraceProgressIn (c : TraceProgress) (size : ℕ) : Type 0 where
   pub held : c .held ≤ 129
   pub waiting : c .waiting ≤ 57000

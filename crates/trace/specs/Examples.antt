@@ -1,4 +1,4 @@
--- Traces and what they print, computed from the definitions on the plain machine from Fresh (`WholeRun` has
+-- Traces and what they print, computed from the definitions on the reference model from Fresh (`WholeRun` has
 -- the store's equal to it). Four bytes are enough of a reader's buffer here.
 use mathlib.Core.List.{List}
 use mathlib.Core.Path.{_≡_}

@@ -4,7 +4,7 @@ pub mod Answers
 pub mod Transcript
 -- A whole run.
 pub mod WholeRun
--- That what is kept fits its buffers.
+-- That the progress of a run fits its buffers.
 pub mod Bounds
 -- Traces and what they print.
 pub mod Examples

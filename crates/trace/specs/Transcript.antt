@@ -35,7 +35,7 @@ readerAfterLine (Abort t) before after = before
 readerAfterLine (SetWindow f start end) before after = before
 readerAfterLine UndoCommit before after = before
 
--- What is kept from line to line.
+-- The trace's state from line to line.
 pub record TraceState (S : Type 0) : Type 0 where
   pub machine : S
   pub reader : List ℕ
@@ -45,7 +45,7 @@ pub record LineTurn (S : Type 0) : Type 0 where
   pub after : TraceState S
 
 module _ {S : Type 0} (a : Answering S) where
-  -- One line: what is replied, and what is kept after it.
+  -- One line: what is replied, and the trace's state after it.
   unfoldable pub lineTurn : Line → TraceState S → LineTurn S
   lineTurn another k = record { reply = record { answer = refused 17; buffer = k .reader }; after = k }
   lineTurn (asks q bytes) k =
@@ -68,7 +68,7 @@ module _ {S : Type 0} (a : Answering S) where
 
 -- ---- what the functions promise
 
--- The trace that the program runs, on record and buffers.
+-- The trace that the program runs, on state and buffers.
 abbrev pub storeTrace : LineProgram (TraceState Machine)
 storeTrace = tracing storeAnswers
 

@@ -13,8 +13,8 @@ use Rattle.spec.specs.Plain.{freshPlain, plainAnswers}
 use Rattle.spec.specs.SerializabilityOfStore.{FreshlyMade}
 use Rattle.trace.specs.Transcript.{modEight, TraceState, tracing, storeTrace}
 
--- Some pieces of input lead to u from a fresh store with nothing held. Each turn of the program asks this of
--- what it is handed: the store, the reader's buffer and what is held of a line.
+-- Some pieces of input lead to u from a fresh store with nothing pending. Each turn of the program asks this
+-- of what it is handed: the store, the reader's buffer and what is pending of a line.
 pub record ReachedFresh (u : Under (TraceState Machine)) : Type 0 where
   pub store : Machine
   pub made : FreshlyMade modEight store
@@ -22,7 +22,8 @@ pub record ReachedFresh (u : Under (TraceState Machine)) : Type 0 where
   pub reached : PiecesReach storeTrace (record { machine = store; reader = reader }) u
 
 -- Proved in proofs/WholeRun.antt: on the store that `start` promises, what is handed over to be written is
--- the text of the lines of the input, however it was cut; on the store, and on 01's plain machine (demand 3).
+-- the text of the lines of the input, however it was cut; on the store, and on the reference model
+-- (Serializability).
 pub record TraceWhole (m : Machine) (reader : List ℕ) (legs : List Leg) (last : List ℕ) : Type 0 where
   pub onStore : outputOf legs ++ last ≡ transcript storeTrace (linesOf (inputOf legs))
       (record { machine = m; reader = reader })

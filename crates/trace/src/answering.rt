@@ -1,4 +1,4 @@
-// The lines of a piece of input are answered, and what is answered waits in the output buffer.
+// Answers the lines of a piece of input. Answers are pending in the output buffer until they are written.
 use buffers::parts::part;
 use limits::BUFFER_BYTES;
 use limits::UNDO_BYTES;
@@ -17,18 +17,18 @@ ghost use Rattle.text_lines.specs.Programs.{Answered, Passes};
 ghost use Rattle.trace.specs.Transcript.{storeTrace, under};
 ghost use Rattle.trace.specs.Bounds.{TraceProgressIn, TraceOnward, TraceResting, TraceRoom};
 
-// When more output waits than this it is written, so that the longest line still fits in after what waits.
+// Output is written when more than this is pending, so that the longest line still fits behind it.
 const MOST: usize = 57000;
 
-// A store buffer, and that of a grant's old bytes.
+// A store buffer, and the undo log.
 pub type Buffer = [u8; BUFFER_BYTES];
 
 pub type UndoLog = [u8; UNDO_BYTES];
 
-// What is kept between lines beside the store: how many bytes of the line at hand are held, the place in the
-// piece, how many bytes of the output wait, and how many lines of it were written; whether a line of another
-// form ended in byte 13, whether the run goes on, and whether it came to the end of the input with all that
-// it answered written.
+// The progress of a run, beside the store: how many bytes of the current line are pending, the place in the
+// piece, how many bytes of output are pending, and how many lines of it were written; whether a line of
+// another form ended in byte 13, whether the run goes on, and whether it came to the end of the input with
+// all that it answered written.
 pub struct TraceProgress {
     pub held: usize,
     pub at: usize,
@@ -59,7 +59,7 @@ fn answer(
     requests::perform(state, files, logs, marks, undo, q, &line[start..], reader)
 }
 
-// Whether a line was refused with 17 that ends in byte 13, and not for its length.
+// True if a malformed line ends in CR: the input probably has CRLF line ends.
 fn is_returned(line: &[u8], o: Outcome) -> bool {
     let Outcome::Refused(r) = o else {
         return false;
@@ -77,7 +77,7 @@ fn is_returned(line: &[u8], o: Outcome) -> bool {
     line[n - 1] == b'\r'
 }
 
-// Answers a line, and prints what was answered after the output that waits.
+// Answers a line, and prints what was answered after the pending output.
 fn answer_line(
     mut progress: TraceProgress,
     state: &mut State,
@@ -104,7 +104,7 @@ fn answer_line(
     progress
 }
 
-// Answers the line that ends next in the piece, or holds the rest of the piece.
+// Answers the line that ends next in the piece, or buffers the rest of the piece.
 fn step(
     mut progress: TraceProgress,
     state: &mut State,
@@ -148,7 +148,7 @@ fn step(
     )
 }
 
-// Answers lines of the piece until much output waits, or nothing of the piece is left.
+// Answers lines of the piece until much output is pending, or nothing of the piece is left.
 pub fn fill(
     mut progress: TraceProgress,
     state: &mut State,

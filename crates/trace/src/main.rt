@@ -1,6 +1,6 @@
 // Runs a trace: reads calls from standard input, a line each, performs them on a fresh store, and prints a
-// line for each to standard output. What fails is said on standard error. The memory is the same for an input
-// of any size.
+// line for each to standard output. Failures are reported on standard error. The memory is the same for an
+// input of any size.
 mod answering;
 mod stdio;
 
@@ -32,11 +32,11 @@ ghost use Rattle.trace.specs.Transcript.{modEight, storeTrace, under};
 ghost use Rattle.trace.specs.WholeRun.{ReachedFresh};
 ghost use Rattle.trace.specs.Bounds.{TraceResting, TraceRoom};
 
-// The bytes that are held of a line: one more than it may have.
+// The bytes buffered of a line: one more than it may have.
 const KEPT: usize = 129;
 
-// Writes what waits, and counts its lines. A write that fails is said, and ends the run. No contract can say
-// what is written: the theorem of a whole run binds what is handed over here.
+// Writes the pending output, and counts its lines. A write that fails is reported, and ends the run. No
+// contract can say what is written: the theorem of a whole run binds what is handed over here.
 fn flush(mut progress: TraceProgress, out: &[u8]) -> TraceProgress
     requires { ⌜ progress .waiting ≤ length (now out) ⌝ }
     ensures { λ r. ⌜ (r .waiting ≡ 0) × ((r .held ≡ progress .held) × (r .at ≡ progress .at)) ⌝ }
@@ -52,7 +52,7 @@ fn flush(mut progress: TraceProgress, out: &[u8]) -> TraceProgress
     progress
 }
 
-// Answers the lines that end in the piece, and holds the rest.
+// Answers the lines that end in the piece, and buffers the rest.
 fn take_piece(
     mut progress: TraceProgress,
     state: &mut State,

@@ -1,4 +1,4 @@
--- The hours of specs/, computed.
+-- The windows of specs/, computed.
 use mathlib.Core.Path.{refl}
 use Rattle.windows.specs.Windows.{minuteIn, isOpenAt}
 use Rattle.windows.specs.Examples.{WindowExamples}

@@ -1,4 +1,4 @@
--- Request F-11, "Hours in which a file may change" [R-11.1].
+-- Request F-11, "Hours in which a file may change" [R-11.1]: the window of a file.
 use mathlib.Core.Bool.{Bool, cond, not, _&&_, _||_}
 use lib.Dec.{leb, ltb, eqb}
 use Prim.Native.Nat.{ℕ}

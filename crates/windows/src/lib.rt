@@ -1,4 +1,4 @@
-// The hours in which a file may change.
+// Windows: the minutes of the day in which a file may change.
 use limits::LAST_MINUTE;
 ghost use mathlib.Core.Path.{_≡_};
 ghost use Rattle.windows.specs.Windows.{minuteIn, isOpenAt};
@@ -17,8 +17,8 @@ pub fn minute_in(n: usize) -> bool
     n <= LAST_MINUTE as usize
 }
 
-// Whether the minute lies in the window. An equal start and end want no test: every minute is at that one or
-// later, or before it.
+// Whether the minute lies in the window. An equal start and end need no test of their own: every minute is at
+// that one or later, or before it.
 pub fn is_open(w: Window, minute: u16) -> bool
     ensures { λ r. ⌜ r ≡ isOpenAt w minute ⌝ }
 {

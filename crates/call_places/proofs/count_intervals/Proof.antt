@@ -1,4 +1,4 @@
--- `call_places::count_intervals` meets its contract. The loop's invariant: n stretches and those from p on are the list. Assumes
+-- `call_places::count_intervals` meets its contract. The loop's invariant: n intervals and those from p on are the list. Assumes
 -- nothing.
 use mathlib.Core.Bool.{Bool}
 use mathlib.Core.List.{List, [], _∷_, _++_}

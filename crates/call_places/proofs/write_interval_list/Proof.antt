@@ -1,4 +1,4 @@
--- `call_places::write_interval_list` meets its contract. The loop's invariant: some stretches and those from p on are the list,
+-- `call_places::write_interval_list` meets its contract. The loop's invariant: some intervals and those from p on are the list,
 -- and the pairs of the former are written. Assumes nothing.
 use mathlib.Core.Bool.{Bool}
 use mathlib.Core.List.{List, [], _∷_, _++_}
@@ -44,7 +44,7 @@ next-interval-requires c κs = search needs
 same-length : tie.Need-same-length Inv-loop μ-loop
 same-length c = search needs
 
--- A turn of the loop, in which the next stretch was found.
+-- A turn of the loop, in which the next interval was found.
 abbrev loop-of : tie.After-next-interval Inv-loop μ-loop → tie.At-loop Inv-loop μ-loop
 loop-of c = c .before .before
 
@@ -62,7 +62,7 @@ returns c =
     ∙ ap (λ (m : List Listed). withPairs m (s .args .out .now))
     (listing-all (covering s) (l .p) (l .inv .2) (l .inv .4) (n .result) (n .ensures) (c .if1 .taken))
 
--- The list has a stretch more than those written.
+-- The list has a interval more than those written.
 room : (c : tie.Else1 Inv-loop μ-loop) → let found = c .before .before in
     4 * length (loop-of found .loop .inv .2) + 4 ≤ 4 * length (intervalsOf (covering (start-of found)))
 room c =

@@ -1,5 +1,5 @@
--- `run` meets its contract. The loop's invariant: no output waits, the buffers keep their lengths, and while turns are
--- left record, buffers and counts are where the pieces so far led. Assumes nothing.
+-- `run` meets its contract. The loop's invariant: no output waits, the buffers keep their lengths, and while turns are left
+-- state, buffers and counts are where the pieces so far led. Assumes nothing.
 use mathlib.Core.Bool.{true, false≢true}
 use mathlib.Core.List.{[]}
 use mathlib.Core.Path.{_≡_, refl}

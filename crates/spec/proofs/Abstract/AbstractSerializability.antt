@@ -1,4 +1,4 @@
--- Demand 3 between the store without its buffers and the plain machine, for every list of calls from Fresh.
+-- Serializability between the abstract store and the reference model, for every list of calls from Fresh.
 use mathlib.Core.Bool.{true}
 use mathlib.Core.List.{List}
 use mathlib.Core.Path.{_≡_, refl, sym, ap, _∙_, subst}
@@ -66,7 +66,7 @@ module _ (fileOf : ℕ → ℕ) (v : Values) (ws : Windows) (e : Earlier) (h : G
       (machine-commit t minute r o (λ k. h (ap (λ (τ : AbstractTurn). τ .reply .answer) e ∙ k)))
 
   -- "the granted ones are run alone .., in the order of their grants": each meets no refusal and gives the same answers and
-  -- bytes, and together they leave the files and offsets of the machine. Those that were taken back are left out.
+  -- bytes, and together they leave the files and offsets of the machine. Those that were undone are left out.
   in-serial : InOrder (serialOf cs (startPlain fileOf v ws e)) (plainAfter cs (startPlain fileOf v ws e))
   unfolding startPlain
   in-serial = in-order-from cs (startPlain fileOf v ws e) (good-start fileOf v ws e h) (λ u. refl)

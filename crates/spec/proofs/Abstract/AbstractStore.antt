@@ -1,6 +1,6 @@
--- The store without its buffers, for the proof of demand 3: committed values, windows, and for each open transaction what it is,
--- the bytes and the lengths that it has sighted, and whether it is stale. Nothing here has to be believed: the store's rules are
--- shown equal to it, and it to the plain machine.
+-- The abstract store, which has no buffers, for the proof of serializability: committed values, windows, and for each open
+-- transaction what it is, the bytes and the lengths that it has sighted, and whether it is stale. Nothing here has to be
+-- believed: the store's rules are shown equal to it, and it to the reference model.
 use Rattle.windows.specs.Windows.{minuteIn, window, Windows}
 use Rattle.spec.specs.Places.{placesOf}
 use mathlib.Core.Bool.{Bool, true, false, cond, not, _&&_, _||_}
@@ -32,7 +32,7 @@ pub data Seat : Type 0 where
   vacant : Seat
   held : UndoSaved → Seat
 
--- 02, F-13: the values that the last grant found, as long as it can be taken back.
+-- 02, F-13: the values that the last grant found, as long as it can be undone.
 pub data Saved : Type 0 where
   none : Saved
   preserved : Values → Saved

@@ -1,4 +1,5 @@
--- The serial order as lone runs: a proof device. The statement runs the granted ones again as a list of calls (Rerun.antt).
+-- The serial order as runs in isolation: a proof device. The statement runs the granted ones again as a list of calls
+-- (Rerun.antt).
 use mathlib.Core.Bool.{true}
 use mathlib.Core.List.{List, [], _∷_, map}
 use mathlib.Core.Path.{_≡_}

@@ -1,4 +1,4 @@
--- Laws of the lone run.
+-- Laws of the run in isolation (01's run in isolation).
 use mathlib.Core.Bool.{Bool, true, false}
 use mathlib.Core.List.{List, [], _∷_, _++_, append-nil, append-assoc}
 use mathlib.Core.Path.{_≡_, refl, sym, ap, _∙_}
@@ -82,7 +82,7 @@ module _ (fileOf : ℕ → ℕ) (c : Committed) where
       })
       (append-nil (entries (c .setter) (asked (c .value) (step fileOf o y))))
 
-  -- The entries of a lone run carry the setters of the committed state that it runs on, also where it stops.
+  -- The entries of a run in isolation carry the setters of the committed state that it runs on, also where it stops.
   goOn-current :
       (rest : Txn → Lone) (x : Txn) (es : List Entry)
       → current (c .setter) es ≡ true

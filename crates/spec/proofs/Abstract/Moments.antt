@@ -1,5 +1,5 @@
--- F-7: what an accepted Read or GetFilePointer gave is what the lone run gives at that moment. One that is accepted is not stale,
--- so its entries are current, and the lone run up to it is the recorded one.
+-- F-7: what an accepted Read or GetFilePointer gave is what the run in isolation gives at that moment. One that is accepted is
+-- not stale, so its entries are current, and the run in isolation up to it is the recorded one.
 use mathlib.Core.Bool.{Bool, true, false, cond}
 use mathlib.Core.List.{List, map}
 use mathlib.Core.Path.{_≡_, refl, ap, _∙_, subst⁻¹}

@@ -1,4 +1,4 @@
--- The invariant of the plain machine, and that every call keeps it.
+-- The invariant of the reference model, and that every call keeps it.
 use mathlib.Core.Bool.{Bool, true, false, cond, not, false≢true}
 use mathlib.Core.Logic.{⊎-elim}
 use Rattle.buffers.proofs.PartLaws.{le-or-lt}

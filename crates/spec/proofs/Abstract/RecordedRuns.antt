@@ -1,5 +1,5 @@
--- The invariant of an open transaction of the plain machine: its lone run is the recorded one, unless an item that it sighted was
--- set since.
+-- The invariant of an open transaction of the reference model: its run in isolation is the recorded one, unless an item that it
+-- sighted was set since.
 use mathlib.Core.Bool.{Bool, true, false, cond, _||_}
 use mathlib.Core.List.{List, [], _∷_, _++_, map, map-append}
 use mathlib.Core.Path.{_≡_, refl, sym, ap, ap₂, _∙_, subst}
@@ -48,7 +48,7 @@ pub record Recent (c : Committed) (n : ℕ) (g : Sighting) : Type 0 where
   pub old : g .setter ≤ n
   pub kept : c .setter (g .item) ≡ g .setter → c .value (g .item) ≡ g .value
 
--- What the machine recorded of a transaction, as a lone run on a state with those setters.
+-- What the machine recorded of a transaction, as a run in isolation on a state with those setters.
 unfoldable pub recorded-run : Running → Values → Lone
 recorded-run r s = record {
   through = true;
@@ -92,7 +92,7 @@ module _ (fileOf : ℕ → ℕ) (c : Committed) (n : ℕ) (r : Running) (s : Sou
     agrees-now gs (h .1) (and-right (eqb (c .setter (g .item)) (g .setter)) (current (c .setter) (map entryOf gs)) e),
   )
 
-  -- The lone run of a transaction whose setters are current is the recorded one.
+  -- The run in isolation of a transaction whose setters are current is the recorded one.
   pub alone-now : current (c .setter) (r .seen) ≡ true → lone fileOf c (ops (r .calls)) empty ≡ recorded-run r (c .setter)
   alone-now e =
       s .alone c (λ f. omega arith) (agrees-now (s .sightings) (s .recent)

@@ -1,5 +1,5 @@
--- The granted transactions run again, as a list of calls on the plain machine: each accepted call gives what it gave in the lone
--- run, and each Commit is granted.
+-- The granted transactions run again, as a list of calls on the reference model: each accepted call gives what it gave in the run
+-- in isolation, and each Commit is granted.
 use mathlib.Core.Bool.{Bool, true, false, cond, not, _&&_, and-false, false≢true}
 use mathlib.Core.List.{List, [], _∷_, _++_, map, map-append, append-nil, append-assoc}
 use mathlib.Core.Path.{_≡_, refl, sym, ap, ap₂, _∙_, fun-ext}
@@ -83,7 +83,7 @@ slot-twice t s r p =
 
 -- ---- the accepted calls of one transaction
 
--- What the lone run leaves of it, on the machine.
+-- What the run in isolation leaves of it, on the machine.
 abbrev pub after-run : List Accepted → Running → Lone → Running
 after-run xs r l = record { txn = l .txn; calls = r .calls ++ xs; seen = r .seen ++ l .seen }
 
@@ -109,7 +109,7 @@ tails a b xs bs e = ap rest e
     rest [] = []
     rest (x ∷ xs) = xs
 
--- The lone run of what the machine holds of a transaction is what it holds.
+-- The run in isolation of what the machine holds of a transaction is what it holds.
 abbrev pub Faithful : Plain → Running → List Reply → Type 0
 Faithful p r rs =
     lone (p .fileOf) (p .committed) (ops (r .calls)) empty ≡ record { through = true; txn = r .txn; replies = rs; seen = r .seen }
@@ -142,7 +142,7 @@ module _ (t : ℕ) (small : leb t 7 ≡ true) where
       ∙ ap (plainStepped t o r (entries (p .committed .setter) (asked (p .committed .value) (step (p .fileOf) o (r .txn)))) p)
       (not-refused-stale (isStale p r) o (result (p .committed .value) (step (p .fileOf) o (r .txn))) f)
 
-  -- One accepted call more, before those that the rest of the lone run gives.
+  -- One accepted call more, before those that the rest of the run in isolation gives.
   run-step : (a : Accepted) (xs : List Accepted) (r : Running) (p : Plain) (es : List Entry) (rest : Txn → Lone) (s : Stepped)
       → ((y : Txn) (answer : Said) (buffer : List ℕ) → s ≡ accept y answer buffer → rest y .through ≡ true
       → rest y .replies ≡ map (λ b. b .reply) xs

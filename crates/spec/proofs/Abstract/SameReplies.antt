@@ -1,5 +1,5 @@
--- First half of demand 3: the store without its buffers is a function of the plain machine, and every call gives the same reply
--- on both.
+-- First half of serializability: the abstract store is a function of the reference model, and every call gives the same reply on
+-- both.
 use mathlib.Core.Bool.{Bool, true, false, cond, not, _&&_, _||_, and-true}
 use mathlib.Core.List.{List, [], _∷_, _++_}
 use mathlib.Core.Path.{_≡_, refl, sym, ap, ap₂, _∙_, fun-ext}
@@ -48,7 +48,7 @@ use Rattle.spec.proofs.Abstract.RecordedRuns.{extended}
 use Rattle.spec.proofs.Abstract.Ordering.{grants-same, Agreed, reply-same}
 use Rattle.spec.proofs.Abstract.PlainInvariant.{SoundSlot, Good, all-closed, good-call}
 
--- The store of a plain machine: a byte is marked where it was sighted, and a transaction is stale where its two lists differ.
+-- The store of a reference model: a byte is marked where it was sighted, and a transaction is stale where its two lists differ.
 unfoldable pub heldOf : Plain → Running → UndoSaved
 heldOf p r = record {
   txn = r .txn;
@@ -436,7 +436,7 @@ module _ (p : Plain) (g : Good p) where
       chosen true = h
       chosen false = refl
 
--- F-14: what the store is asked and what the plain machine is asked.
+-- F-14: what the store is asked and what the reference model is asked.
 commit-same : (t minute : ℕ) (p : Plain) → Good p → abstractCommitCall t minute (abs p) ≡ absTurn (plainCommitCall t minute p)
 commit-same t minute p g = same-numbered p g t [] (abstractCommit t minute) (plainCommit t minute)
     (same-commit p g t minute (p .slots t))
@@ -488,7 +488,7 @@ module _ (minute : ℕ) where
       ap (λ (y : Reply). record { reply = y; after = abs p })
       (reply-same (abstractAsked minute (abs p)) (plainAsked minute p) (agreed p g) ts budget minute)
 
--- The store's turn is that of the plain machine, for every call.
+-- The store's turn is that of the reference model, for every call.
 pub same-call : (c : Call) (p : Plain) → Good p → abstractCall c (abs p) ≡ absTurn (plainCall c p)
 unfolding abstractCall plainCall
 same-call (begin t) p g = same-numbered p g t [] (abstractBegin t) (plainBegin t) (same-begin p g t (p .slots t))

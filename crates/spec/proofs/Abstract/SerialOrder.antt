@@ -1,5 +1,5 @@
--- Second half of demand 3: the granted transactions, run again alone in the order of their grants, do the same and leave the
--- same.
+-- Second half of serializability: the granted transactions, run again alone in the order of their grants, do the same and leave
+-- the same.
 use mathlib.Core.Bool.{Bool, true, false, cond, not}
 use native.Mathlib.Omega.{arith}
 use lib.ListN.{length}
@@ -37,7 +37,7 @@ use Rattle.spec.proofs.Abstract.RecordedRuns.{SoundRun, recorded-run, a
 use Rattle.spec.proofs.Abstract.PlainInvariant.{Good, sound-at, open-number, good-call}
 use Rattle.spec.proofs.Abstract.SameReplies.{stale-is}
 
--- An open transaction that is not stale: its lone run on the committed state is the recorded one.
+-- An open transaction that is not stale: its run in isolation on the committed state is the recorded one.
 pub alone-recorded :
     (p : Plain) (r : Running)
     → SoundRun (p .fileOf) (p .committed) (p .grants) r
@@ -83,7 +83,7 @@ pub data Turned (p : Plain) (s : Serial) : PlainTurn → Serial → Type 0 where
       → noneRunning p ≡ true
       → Turned p s (record { reply = reply; after = plainRestored c n p }) (droppedFrom (s .start) (s .grants))
 
--- A taking back, accepted or not.
+-- An undo, accepted or not.
 abbrev Taken : Plain → Serial → PlainTurn → Type 0
 Taken p s τ = Turned p s τ (ifDone (τ .reply .answer) (droppedFrom (s .start) (s .grants)) s)
 
@@ -297,8 +297,8 @@ module _ (fileOf : ℕ → ℕ) where
         ap (λ (l : List Grant). start .grants + length l) e,
       )
 
--- The granted ones that were not taken back do the same again, and leave the machine's committed state; and where it can go back,
--- the run without the last of them leaves that.
+-- The granted ones that were not undone do the same again, and leave the machine's committed state; and where it can go back, the
+-- run without the last of them leaves that.
 pub record InOrder (s : Serial) (p : Plain) : Type 0 where
   pub files : s .start .fileOf ≡ p .fileOf
   pub windows : s .start .windows ≡ freshWindows

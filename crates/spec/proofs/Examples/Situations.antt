@@ -34,7 +34,7 @@ starred =
       j = (refl, refl);
     }
 
--- Situations k and l, and corners of the text that no program shows.
+-- Situations k and l, and edge cases of the text that no program shows.
 pub edge-cases : EdgeCases onPlain
 unfolding opened filled expectedK expectedL twoZeros expectedRefusedSettling expectedMoved expectedNeighbour expectedReadNone
     mixed dirtyAfter readBeside

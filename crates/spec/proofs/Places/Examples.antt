@@ -1,4 +1,4 @@
--- The examples of stretches hold. Assumes nothing.
+-- The examples of intervals hold. Assumes nothing.
 use mathlib.Core.Bool.{true}
 use mathlib.Core.Path.{refl}
 use native.Mathlib.Omega.{arith}

@@ -1,4 +1,4 @@
--- The laws of lists of stretches: which places lie in them, when two are equal, and how the list of a set of places begins.
+-- The laws of lists of intervals: which places lie in them, when two are equal, and how the list of a set of places begins.
 -- Assumes nothing.
 use mathlib.Core.Bool.{Bool, true, false, _||_, and-false, false≢true}
 use mathlib.Core.List.{List, [], _∷_}
@@ -12,7 +12,7 @@ use borrow.Author.Tests.{lt-ltb, le-ltb, le-leb, lt-leb, eq-eqb, ne-eqb, eqb-tru
 use Rattle.buffers.proofs.PartLaws.{le-or-lt}
 use Rattle.spec.specs.Places.{Interval, interval, intervalEnd, inInterval, listed, ProperFrom, withPlace, intervalsFrom}
 
--- ---- which places lie in a stretch
+-- ---- which places lie in a interval
 
 module _ (s : Interval) (p : ℕ) where
   in-it : s .offset ≤ p → p < intervalEnd s → inInterval s p ≡ true
@@ -149,7 +149,7 @@ with-here p (s ∷ l) x = pick (eqb (s .offset) (suc p)) refl
     pick false e = rw (with-apart p (s ∷ l) (apart p s l x (eqb-false (s .offset) (suc p) e)))
         (listed-here (interval p 1) (s ∷ l) p (in-it (interval p 1) p (omega arith) (omega arith)))
 
--- a place other than p lies in p's own stretch of n + 1 places exactly when it lies in that of the n places after p
+-- a place other than p lies in p's own interval of n + 1 places exactly when it lies in that of the n places after p
 other-in : (p n q : ℕ) → (q ≡ p → ⊥) → inInterval (interval p (suc n)) q ≡ inInterval (interval (suc p) n) q
 other-in p n q ne = ⊎-elim below above (le-or-lt q p)
   where
@@ -265,7 +265,7 @@ starts-after : (S : ℕ → Bool) (p n : ℕ) → (0 < n → S p ≡ false) → 
 starts-after S p zero out = unfold intervalsFrom in tt
 starts-after S p (suc n) out = rw (from-out S p n (out (omega arith))) (proper-from S (suc p) n)
 
--- a longest stretch at the front
+-- a longest interval at the front
 pub interval-first : (S : ℕ → Bool) (p k n : ℕ) → ((q : ℕ) → p ≤ q → q < p + suc k → S q ≡ true) → (0 < n → S (p + suc k) ≡ false)
     → intervalsFrom S p (suc k + n) ≡ interval p (suc k) ∷ intervalsFrom S (p + suc k) n
 interval-first S p zero n within ended =

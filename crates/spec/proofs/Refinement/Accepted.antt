@@ -1,4 +1,4 @@
--- An accepted step on a store in range: what the record and the buffers mean after it, and that they stay in range.
+-- An accepted step on a store in range: what the state and the buffers mean after it, and that they stay in range.
 use mathlib.Core.Bool.{Bool, true, false, cond, _&&_}
 use mathlib.Core.List.{List}
 use mathlib.Core.Logic.{⊎-elim}

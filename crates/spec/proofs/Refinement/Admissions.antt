@@ -14,7 +14,7 @@ use Rattle.spec.specs.Calls.{Turn, refuseTurn, passing, admitted}
 use Rattle.spec.proofs.Abstract.AbstractStore.{Seat, vacant, held, Abstract, AbstractTurn, turnedAway, seated}
 use Rattle.spec.proofs.Refinement.Relation.{heldBy, seat, view, Sound}
 
--- A call on a record and buffers answers as the same call on the abstract store, leaves what stands for the same, and keeps the
+-- A call on a state and buffers answers as the same call on the abstract store, leaves what stands for the same, and keeps the
 -- store sound.
 abbrev pub Agrees : Turn → AbstractTurn → Type 0
 Agrees a b = (a .reply ≡ b .reply) × (view (a .after) ≡ b .after) × Sound (a .after)

@@ -1,4 +1,4 @@
--- A transaction as the record and the logs hold it: in range, and its writes' bytes one after the other in its log.
+-- A transaction as the state and the logs hold it: in range, and its writes' bytes one after the other in its log.
 use mathlib.Core.Bool.{true, false}
 use mathlib.Core.List.{List, [], _∷_}
 use mathlib.Core.Logic.{⊎-elim}

@@ -1,4 +1,4 @@
--- The record after transaction t has become y: it means y there, and what it meant everywhere else; it stays in range.
+-- The state after transaction t has become y: it means y there, and what it meant everywhere else; it stays in range.
 use mathlib.Core.Bool.{true}
 use mathlib.Core.List.{List, []}
 use mathlib.Core.Logic.{⊎-elim}
@@ -119,7 +119,7 @@ module _ (s : StoreMeaning) (journal : List ℕ) (t : ℕ) (y : Txn) (is : List 
             (ap₂ (λ (a b : ℕ). cut logs (4096 * t + a) b) (own-data k (omega arith)) (own-length k l) ∙ bytes) i;
       }
 
-  -- The record means y there, if the logs carry y's bytes.
+  -- The state means y there, if the logs carry y's bytes.
   pub encoded : (logs : List ℕ) → Carries logs (4096 * t) (pieces (y .writes)) → txnOf (withTxn t y is s) after-journal logs t ≡ y
   unfolding txnOf holding
   encoded logs carries =
@@ -179,7 +179,7 @@ module _ (s : StoreMeaning) (journal : List ℕ) (t : ℕ) (y : Txn) (is : List 
       (h .records) (omega arith)
       (omega (arith, r .undo held .records)) (λ q. omega arith)
 
-  -- ---- the whole record
+  -- ---- the whole state
 
   pub encoded-in : storeIn s journal ≡ true → storeIn (withTxn t y is s) after-journal ≡ true
   encoded-in e =

@@ -1,4 +1,4 @@
--- Begin, Commit and Abort on records and buffers are those of the abstract store, and keep the store sound.
+-- Begin, Commit and Abort on states and buffers are those of the abstract store, and keep the store sound.
 use mathlib.Core.Bool.{Bool, true, false, cond, not, _&&_}
 use mathlib.Core.List.{List, []}
 use mathlib.Core.Path.{_≡_, refl, sym, subst}

@@ -1,4 +1,4 @@
--- F-14's call on records and buffers is that of the abstract store.
+-- F-14's call on states and buffers is that of the abstract store.
 use mathlib.Core.Bool.{Bool, true, false, cond, _&&_}
 use mathlib.Core.List.{List, []}
 use mathlib.Core.Path.{_≡_, refl, sym, ap, _∙_, fun-ext, subst}

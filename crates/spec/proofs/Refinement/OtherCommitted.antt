@@ -1,4 +1,4 @@
--- A record with other committed offsets and lengths and other transactions: when its ranges hold, and which transactions mean the
+-- A state with other committed offsets and lengths and other transactions: when its ranges hold, and which transactions mean the
 -- same in it.
 use mathlib.Core.Bool.{true, false, _&&_}
 use mathlib.Core.List.{List}
@@ -24,7 +24,7 @@ use Rattle.spec.specs.Machine.{txnOf, writeAt, dataStart, values}
 use Rattle.spec.specs.Items.{Item, byte, offset, fileLength}
 use Rattle.spec.proofs.Refinement.Relation.{Shaped}
 
--- The record with other committed offsets and lengths and other transactions.
+-- The state with other committed offsets and lengths and other transactions.
 abbrev pub renewed : List ℕ → List ℕ → List Transaction → StoreMeaning → StoreMeaning
 renewed offsets lengths ts s = withOffsets offsets (withLengths lengths (withTransactions ts s))
 

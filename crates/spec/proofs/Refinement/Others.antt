@@ -1,4 +1,4 @@
--- A transaction whose part of the record and of the logs is left as it was: its meaning and its ranges are too.
+-- A transaction whose part of the state and of the logs is left as it was: its meaning and its ranges are too.
 use mathlib.Core.List.{List}
 use mathlib.Core.Logic.{⊎-elim}
 use mathlib.Core.Path.{_≡_, sym, ap, ap₂, _∙_}
@@ -19,7 +19,7 @@ use Rattle.spec.specs.Machine.{dataStart, writeAt, txnOf}
 use Rattle.spec.proofs.Refinement.IndexedLists.{tabulate-same}
 use Rattle.spec.proofs.Refinement.Decode.{data-fits}
 
--- Two records with the same transaction u and the same write records of it.
+-- Two states with the same transaction u and the same write records of it.
 pub record SameAt (r : StoreMeaning) (written : List ℕ) (s : StoreMeaning) (journal : List ℕ) (u : ℕ) : Type 0 where
   pub transaction : getD (r .transactions) u noTransaction ≡ getD (s .transactions) u noTransaction
   pub records : (k : ℕ) → k < 64 → writeRecordAt written u k ≡ writeRecordAt journal u k
@@ -31,7 +31,7 @@ pub record LogsApart (t : ℕ) (state logs : List ℕ) : Type 0 where
   pub beyond : (i : ℕ) → 4096 * t + 4096 ≤ i → getD state i 0 ≡ getD logs i 0
 
 module _ (t u : ℕ) (state logs : List ℕ) (apart : LogsApart t state logs) (other : u ≡ t → ⊥) where
-  -- A stretch of another transaction's part.
+  -- A range of another transaction's part.
   cut-apart : (p n : ℕ) → 4096 * u ≤ p → p + n ≤ 4096 * u + 4096 → cut state p n ≡ cut logs p n
   cut-apart p n h g = cut-same state logs p n (apart .size) (λ i a b. ⊎-elim (after i a b) (below i a b) (le-or-lt t u))
     where

@@ -1,4 +1,4 @@
--- The abstract store that a record and its buffers stand for, and what is known of every store reached from Fresh.
+-- The abstract store that a state and its buffers stand for, and what is known of every store reached from Fresh.
 use mathlib.Core.Bool.{true, false, cond, _&&_}
 use mathlib.Core.Path.{_≡_}
 use lib.Dec.{leb}
@@ -48,7 +48,7 @@ view m =
       seats = seat m;
     }
 
--- The lengths that the record's types give its arrays.
+-- The lengths that the state's types give its arrays.
 pub record Shaped (s : StoreMeaning) : Type 0 where
   pub files : length (s .filenumbers) ≡ 16
   pub offsets : length (s .offsets) ≡ 16
@@ -69,7 +69,7 @@ pub record Sound (m : Machine) : Type 0 where
   pub undo : length (m .undo) ≡ 4096
   pub inRange : storeIn (m .store) (m .journal) ≡ true
 
--- Check 2 for one transaction as it is meant.
+-- State validity of one transaction as it is meant.
 pub record WriteIn (y : Txn) (w : Write) : Type 0 where
   pub descriptor : w .descriptor < 16
   pub place : placeIn (y .standing (w .descriptor)) (w .place) (length (w .bytes)) ≡ true

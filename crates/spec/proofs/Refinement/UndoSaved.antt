@@ -1,4 +1,4 @@
--- What a granted Commit keeps: the record and the undo buffer that it leaves hold what it found, and the store stays sound.
+-- What a granted Commit saves: the state and the undo log that it leaves hold what it found, and the store stays sound.
 use mathlib.Core.Bool.{Bool, true, false, cond, _&&_}
 use mathlib.Core.List.{List, [], _∷_, _++_, map}
 use mathlib.Core.Path.{_≡_, refl, sym, ap, ap₂, _∙_}

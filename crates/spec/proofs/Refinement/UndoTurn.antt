@@ -1,4 +1,4 @@
--- Taking back on records and buffers is that of the abstract store, and keeps the store sound.
+-- Undo on states and buffers is that of the abstract store, and keeps the store sound.
 use mathlib.Core.Bool.{Bool, true, false, cond, not, true≢false}
 use mathlib.Core.List.{List, [], _∷_, _++_}
 use mathlib.Core.Path.{_≡_, refl, sym, ap, _∙_, fun-ext, subst}
@@ -106,7 +106,7 @@ module _ (m : Machine) (sound : Sound m) where
             });
       }
 
-  -- 23, 24, or taken back.
+  -- 23, 24, or undone.
   takes : (b c : Bool) → m .store .undo .held ≡ c
       → Agrees (passing (unless b 23 (unless c 24 0)) [] m (undoTurn m))
       (guarded (λ k. turnedAway k [] (view m)) b 23 (abstractReturn (cond c (preserved (backValues m)) none) (view m)))

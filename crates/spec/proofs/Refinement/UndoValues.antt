@@ -26,7 +26,7 @@ back-values m = fun-ext each
     each (offset d) = unfold values undone backValues in refl
     each (fileLength f) = unfold values undone backValues in refl
 
--- Two journals that hold the same records of the last grant, if one is held.
+-- Two journals with the same write records of the last grant, if there is one.
 abbrev pub SameGrant : Undo → List ℕ → List ℕ → Type 0
 SameGrant u written journal =
     u .held ≡ true → (k : ℕ) → k < u .used .records → writeRecordAt written lastGrant k ≡ writeRecordAt journal lastGrant k

@@ -1,4 +1,4 @@
--- The setting of a window on records and buffers is that of the abstract store, and keeps the store sound.
+-- The setting of a window on states and buffers is that of the abstract store, and keeps the store sound.
 use mathlib.Core.Bool.{Bool, true, false, cond}
 use mathlib.Core.List.{List, []}
 use mathlib.Core.Path.{_≡_, refl, sym, ap, _∙_, fun-ext, subst}

@@ -34,7 +34,7 @@ touched-append (s ∷ ss) rs j = ap (λ (b : Bool). same (s .item) j || b) (touc
 pub neither : (ss rs : List Setting) (j : Item) → touched ss j ≡ false → touched rs j ≡ false → touched (ss ++ rs) j ≡ false
 neither ss rs j e f = touched-append ss rs j ∙ ap₂ (λ (a b : Bool). a || b) e f
 
--- A byte before or after a stretch.
+-- A byte before or after a range.
 interval-off : (a : ℕ) (bs : List ℕ) (q : ℕ) → (a ≤ q → q < a + length bs → ⊥) → touched (bytesFrom a bs) (byte q) ≡ false
 unfolding bytesFrom touched same
 interval-off a [] q h = refl

@@ -133,7 +133,7 @@ ageless m rest logs size =
     alike m n s (young-sound m s logs size)
     (resting-view m (rest .closed) ∙ same-start m s logs size ∙ sym (resting-view n (young-closed m s logs size)))
 
--- With nothing open nobody looks at logs, marks and what is left of ended transactions.
+-- With nothing open no call reads logs, marks and what is left of ended transactions.
 pub reloads : Reloads
 reloads m rest logs marks size wide cs =
     let s = at-rest-sound m rest in
@@ -233,7 +233,7 @@ survives m logs marks =
       aborting = aborts-preserved 8 m;
     }
 
--- What the plain machine starts with to go back to.
+-- What an undo restores where the reference model starts.
 pub earlier-good : (m : Machine) → GoodEarlier (earlierIn m)
 unfolding earlierIn
 earlier-good m = pick (m .store .undo .held)
@@ -253,7 +253,7 @@ earlier-back m = pick (m .store .undo .held)
     pick true = ap preserved (sym (back-values m))
     pick false = refl
 
--- Demand 3 from a sound store with nothing open.
+-- Serializability from a sound store with nothing open.
 module _ (m : Machine) (sound : Sound m) (closed : (t : ℕ) → t ≤ 7 → transaction (m .store) t .begun ≡ false) where
   pub resting-start :
       view m ≡ startAbstract (fileOf (m .store)) (values (m .store) (m .files)) (windowAt (m .store)) (backOf (earlierIn m))

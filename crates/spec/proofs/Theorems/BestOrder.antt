@@ -27,7 +27,7 @@ use Rattle.spec.proofs.Refinement.OrderTurn.{order-grants}
 use Rattle.spec.proofs.Theorems.Answers.{answer-not-refused}
 use Rattle.spec.proofs.Theorems.Serializability.{calls-agree, fresh-facts}
 
--- The grants asked are those of demand 3's calls.
+-- The grants asked are those of Serializability's calls.
 made : (minute : ℕ) (o : List ℕ) (m : Machine)
     → grantsIn (λ t n. commitCall t minute n .reply) (λ t n. commitCall t minute n .after) o m
     ≡ grantsAmong (callsReplies (map (λ t. commit t minute) o) m)

@@ -1,4 +1,4 @@
--- Demand 1: a call is refused with the number of the first of its tests that fails, and with no other.
+-- Refusals (demand 1): a call is refused with the number of the first of its tests that fails, and with no other.
 use mathlib.Core.Bool.{Bool, true, false, cond, not, _&&_, _||_, or-true}
 use mathlib.Core.List.{List, [], _∷_, _++_, map}
 use mathlib.Core.Option.{Option, none, some, Option·some-injective}
@@ -159,7 +159,7 @@ module _ (v : Values) where
   check-says true n next tests e = e
   check-says false n next tests e = refl
 
-  -- 6 and 18 of a call that looks.
+  -- 6 and 18 of a read call.
   look-says : (stale ok : Bool) (next : Prog Stepped) (tests : List Test) → stepSays (result v next) ≡ firstFailing tests
       → stepSays (cond (true && stale && ok) (refuse 18) (result v (check ok 6 next)))
       ≡ firstFailing (test 6 ok ∷ test 18 (not stale) ∷ tests)

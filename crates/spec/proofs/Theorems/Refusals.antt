@@ -1,4 +1,4 @@
--- Demand 1: what a refused call leaves.
+-- Refusals (demand 1): what a refused call leaves.
 use Rattle.spec.specs.Transactions.{Txn}
 use Rattle.spec.specs.Places.{placesRefusal, placesReply, placesOf}
 use mathlib.Core.Bool.{Bool, true, false}

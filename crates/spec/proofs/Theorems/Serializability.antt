@@ -1,4 +1,4 @@
--- Demand 3: the rules on records and buffers, and the code that keeps its promises.
+-- Serializability (demand 3): the rules on states and buffers, and the code that keeps its promises.
 use mathlib.Core.Bool.{Bool, true, false, cond, _&&_}
 use mathlib.Core.List.{List, [], _∷_, map}
 use mathlib.Core.Logic.{_↔_}
@@ -130,7 +130,7 @@ open-same m p e t l =
     ∙ ap (λ (s : Abstract). taken (s .seats t)) e
     ∙ slot-taken p (p .slots t)
 
--- The octet of a granted Commit on the plain machine.
+-- The octet of a granted Commit on the reference model.
 octetIn : Said → ℕ
 octetIn doneAnswer = 0
 octetIn (pointer o) = 0
@@ -170,7 +170,7 @@ expected-commit : (t minute : ℕ) (p : Plain) → Expected t p (plainCall (comm
 unfolding plainCall withNumber
 expected-commit t minute p = expected (leb t 7) t minute p
 
--- Demand 3 from a sound store that stands for the store without buffers with these committed values, these windows and nothing
+-- Serializability from a sound store that stands for the abstract store with these committed values, these windows and nothing
 -- open.
 pub holds-from : (F : ℕ → ℕ) (v : Values) (ws : Windows) (x : Earlier) → GoodEarlier x → (m₀ : Machine) → Sound m₀
     → view m₀ ≡ startAbstract F v ws (backOf x)

@@ -1,4 +1,5 @@
--- The situations and the corners hold of every freshly made store: by demand 3 its replies and values are the plain machine's.
+-- The situations and the edge cases hold of every freshly made store: by Serializability its replies and values are the reference
+-- model's.
 use mathlib.Core.List.{List}
 use mathlib.Core.Path.{_≡_, ap, _∙_, subst⁻¹}
 use lib.ListN.{getD}

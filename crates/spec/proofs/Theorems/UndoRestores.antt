@@ -1,5 +1,5 @@
--- Request F-13: after a grant, any calls without another, and an accepted taking back, the store has the files, offsets and
--- lengths that the grant found.
+-- Request F-13: after a grant, any calls without another, and an accepted undo, the store has the files, offsets and lengths that
+-- the grant found.
 use mathlib.Core.Bool.{Bool, true, false, cond, true≢false}
 use mathlib.Core.List.{List, [], _∷_}
 use mathlib.Core.Logic.{_⊎_, inl, inr}
@@ -128,7 +128,7 @@ module _ (w : Values) where
       expected none = 0
       expected (preserved x) = 1
 
-  -- The taking back.
+  -- The undo.
   back-or : (s : Abstract) → Or (s .back) → abstractUndo s .reply .answer ≡ doneAnswer → abstractUndo s .after .value ≡ w
   unfolding abstractUndo
   back-or s now e = pick (noneHeld s) (s .back) now e

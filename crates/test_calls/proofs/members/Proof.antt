@@ -1,4 +1,4 @@
--- `members` meets its contract. The loop's invariant: no more are listed than were looked at.
+-- `members` meets its contract. The loop's invariant: no more are listed than were tested.
 use Prim.Native.Nat.{_-_, _≤_, _<_}
 use borrow.Author.Needs.{needs}
 use Rattle.test_calls.proofs.members.Statement.{statement}

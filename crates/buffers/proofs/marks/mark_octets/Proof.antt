@@ -1,4 +1,4 @@
--- `buffers::marks::mark_octets` meets its contract. The loop's invariant: the first i octets of the stretch are marked. Assumes
+-- `buffers::marks::mark_octets` meets its contract. The loop's invariant: the first i octets of the range are marked. Assumes
 -- nothing.
 use mathlib.Core.List.{List}
 use mathlib.Core.Path.{_≡_, sym, ap, ap₂, _∙_}

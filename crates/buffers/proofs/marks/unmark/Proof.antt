@@ -1,4 +1,4 @@
--- `buffers::marks::unmark` meets its contract. The loop's invariant: the first i octets of the stretch are cleared. Assumes
+-- `buffers::marks::unmark` meets its contract. The loop's invariant: the first i octets of the range are cleared. Assumes
 -- nothing.
 use mathlib.Core.Path.{_≡_, sym, ap, _∙_}
 use Prim.Native.Nat.{ℕ, _-_, _*_, _+_, _≤_}

@@ -1,4 +1,4 @@
--- `call_order::admit_list::occurs_again` meets its contract. The loop's invariant: it is left to look in the rest of the list.
+-- `call_order::admit_list::occurs_again` meets its contract. The loop's invariant: the rest of the list is left to search.
 use mathlib.Core.Path.{_≡_, sym, ap, _∙_}
 use borrow.Author.Needs.{needs}
 use borrow.Author.Tests.{eq-eqb, ne-eqb}

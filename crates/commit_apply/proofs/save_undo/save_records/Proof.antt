@@ -1,4 +1,4 @@
--- `commit_apply::save_undo::save_records` meets its contract. The loop's invariant: the records passed are kept.
+-- `commit_apply::save_undo::save_records` meets its contract. The loop's invariant: the write records passed are saved.
 use native.Mathlib.Omega.{arith}
 use mathlib.Core.Path.{_≡_}
 use Prim.Native.Nat.{_-_, _≤_}

@@ -24,7 +24,7 @@ pub record AtRest (m : Machine) : Type 0 where
   pub closed : (t : ℕ) → t ≤ lastTransaction → transaction (m .store) t .begun ≡ false
 
 -- One made fresh, with other logs, and given the same files, offsets, lengths and windows, and the same grant
--- to take back: its write records, all else that the record holds of it, and the undo buffer.
+-- to undo: its write records, all else that the state holds of it, and the undo log.
 unfoldable pub rejuvenated : Machine → List ℕ → Machine
 rejuvenated m logs =
     let s = m .store in
@@ -35,7 +35,7 @@ rejuvenated m logs =
     (writeRecordAt (m .journal) lastGrant) (s .undo .used .records))
     (withFiles (m .files) (freshMachine (s .filenumbers) logs (m .undo))))
 
--- What the store would go back to: the values that its last grant found.
+-- What an undo would restore: the values that the store's last grant found.
 unfoldable pub earlierIn : Machine → Earlier
 earlierIn m =
     let n = undone m in
@@ -56,8 +56,8 @@ Ageless =
     (m : Machine) → AtRest m → (logs : List ℕ) → length logs ≡ bufferBytes
     → (cs : List Call) → Alike cs m (rejuvenated m logs)
 
--- To keep a running store while its program is down, the record with every transaction ended, the files and
--- the bytes on which the last grant landed are enough.
+-- To save a running store while its program is down, the state with every transaction ended, the files and
+-- the undo log are enough.
 pub record GoesOn (m₀ : Machine) (rs : List ProgramRun) : Type 0 where
   -- However often its program goes down, it answers every further list of calls as one that never did, on
   -- which every transaction was aborted instead.
@@ -69,7 +69,7 @@ abbrev pub Recovers : Type 0
 Recovers = (numbers : List ℕ) (m₀ : Machine) → FreshlyMade numbers m₀ → (rs : List ProgramRun) → GoesOn m₀ rs
 
 -- The case of a store at rest: it goes on as the store that was saved would have, with any other logs and
--- marks of their length; and so it does where its record was saved as it lies.
+-- marks of their length; and so it does where its state was saved as it lies.
 pub record LoadedAlike (m : Machine) (logs marks : List ℕ) (cs : List Call) : Type 0 where
   pub ended : Alike cs m (recovered logs marks m)
   pub asItLies : Alike cs m (withLogs logs (withMarking marks m))
@@ -80,7 +80,7 @@ Reloads =
     → (cs : List Call) → LoadedAlike m logs marks cs
 
 -- Nothing that was granted is lost: the second store has the files, offsets, lengths and windows of the
--- first, and its grant to take back.
+-- first, and its grant to undo.
 pub record NothingLost (m n : Machine) : Type 0 where
   pub committed : SameCommitted m n
   pub windows : n .store .windows ≡ m .store .windows
@@ -94,8 +94,8 @@ pub record Survives (m : Machine) (logs marks : List ℕ) : Type 0 where
 abbrev pub AlwaysSurvives : Type 0
 AlwaysSurvives = (m : Machine) (logs marks : List ℕ) → Survives m logs marks
 
--- Demand 3 from any store at rest, Fresh's being one: the plain machine starts with what is committed there,
--- with the windows, and with what the store would go back to.
+-- Serializability from any store at rest, Fresh's being one: the reference model starts with what is
+-- committed there, with the windows, and with what an undo would restore.
 abbrev pub SerializabilityAtRest : Type 0
 SerializabilityAtRest =
     (m : Machine) → AtRest m → (cs : List Call)

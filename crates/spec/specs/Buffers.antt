@@ -1,6 +1,6 @@
 -- Which calls touch which buffer and the files of descriptors, and what Fresh, Begin and the end of a
--- transaction leave, on any record and any buffers; and whose marks a call leaves, in every store reached
--- from Fresh.
+-- transaction leave, on any state and any buffers; and whose marks a call leaves, in every store reached from
+-- Fresh.
 use mathlib.Core.Bool.{false}
 use mathlib.Core.List.{List}
 use mathlib.Core.Path.{_≡_}
@@ -40,7 +40,7 @@ abbrev pub Vacant : ℕ → Machine → Type 0
 Vacant t m = Unmarked t m × Emptied (transaction (m .store) t)
 
 -- "Every file byte, mark and offset is 0, nothing is open" [R-1.6]; 02, F-8: a length is "0 when fresh"
--- [R-1.1]; F-11: "Fresh sets all to 0 and 0" [R-11.2]; F-13: there is no grant to take back. (False of
+-- [R-1.1]; F-11: "Fresh sets all to 0 and 0" [R-11.2]; F-13: there is no grant to undo. (False of
 -- `marksThree`: Counterexamples.antt.)
 pub record AllZero (m : Machine) : Type 0 where
   pub bytes : m .files ≡ replicate bufferBytes 0
@@ -71,10 +71,10 @@ pub record Buffers (m : Machine) : Type 0 where
   pub freshNumbers : (numbers : List ℕ) → fresh numbers m .reply .answer ≡ doneAnswer
       → fresh numbers m .after .store .filenumbers ≡ numbers
   -- "A write that isn't granted is seen by its own transaction and by nobody else." [R-1.5] File bytes are
-  -- touched by Commit and taking back alone.
+  -- touched by Commit and undo alone.
   pub files : (c : Call) → ((t minute : ℕ) → c ≡ commit t minute → ⊥) → (c ≡ undoCommit → ⊥)
       → call c m .after .files ≡ m .files
-  -- 02, F-13: the buffer of old bytes is touched by Commit alone, "and Fresh leaves all of it" [R-12.3].
+  -- 02, F-13: the undo log is touched by Commit alone, "and Fresh leaves all of it" [R-12.3].
   pub undo : (c : Call) → ((t minute : ℕ) → c ≡ commit t minute → ⊥) → call c m .after .undo ≡ m .undo
   pub freshUndo : (numbers : List ℕ) → fresh numbers m .after .undo ≡ m .undo
   -- F-1: "a new call changes only what its request says" [R-1.8]: a list of places changes nothing but the

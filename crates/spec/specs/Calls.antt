@@ -1,4 +1,4 @@
--- The rules of the calls on the record and the buffers: outcome, record, files, logs, marks, undo and
+-- The rules of the calls on the state and the buffers: outcome, state, files, logs, marks, undo log and
 -- reader's buffer, for every input. The promises of the code cite these.
 use mathlib.Core.Bool.{Bool, false, cond, not, _&&_, _||_}
 use mathlib.Core.List.{List, [], _∷_}
@@ -48,12 +48,12 @@ answerWith a m = record { reply = record { answer = a; buffer = [] }; after = m 
 unfoldable pub refuseTurn : ℕ → List ℕ → Machine → Turn
 refuseTurn n buffer m = record { reply = record { answer = refused n; buffer = buffer }; after = m }
 
--- Goes on where no earlier test refuses (0), otherwise turns the call down with the number.
+-- Goes on where no earlier test refuses (0), otherwise refuses the call with the number.
 unfoldable pub passing : ℕ → List ℕ → Machine → Turn → Turn
 passing n buffer m next = guarded (λ k. refuseTurn k buffer m) (isNone n) n next
 
 -- "Every file byte, mark and offset is 0, nothing is open; the log buffer is left as found." [R-1.6] 02, F-8:
--- a length is "0 when fresh" [R-1.1]. F-11: "Fresh sets all to 0 and 0." [R-11.2] F-13: nothing is held of a
+-- a length is "0 when fresh" [R-1.1]. F-11: "Fresh sets all to 0 and 0." [R-11.2] F-13: nothing is saved of a
 -- grant, "and Fresh leaves all of it" [R-12.3], the fourth buffer.
 unfoldable pub freshStore : List ℕ → StoreMeaning
 freshStore numbers =
@@ -256,7 +256,7 @@ unfoldable pub admitted : ℕ → List ℕ → Machine → Turn → Turn
 admitted t buffer m next =
     passing (admission (sizes m) (m .store) (m .journal) t) buffer m next
 
--- 02, F-13: the call takes the last grant back, and as every new call "changes only what its request says"
+-- 02, F-13: the call undoes the last grant, and as every new call "changes only what its request says"
 -- [R-1.8] (F-1).
 unfoldable pub undoTurn : Machine → Turn
 undoTurn m = answerWith doneAnswer (undone m)
@@ -265,7 +265,7 @@ undoTurn m = answerWith doneAnswer (undone m)
 abbrev pub commitCall : ℕ → ℕ → Machine → Turn
 commitCall t minute m = admitted t [] m (commitTurn t minute m)
 
--- 02, F-14: what the store is asked at the minute; the Commits of an order are made on this record and these
+-- 02, F-14: what the store is asked at the minute; the Commits of an order are made on this state and these
 -- buffers.
 unfoldable pub askedOf : ℕ → Machine → Asked
 askedOf minute m =
@@ -282,7 +282,7 @@ askedOf minute m =
 unfoldable pub orderTurn : List ℕ → ℕ → ℕ → Machine → Turn
 orderTurn ts minute budget m = record { reply = orderReply (askedOf minute m) ts minute budget; after = m }
 
--- The calls of demand 3, and those of F-1, F-11, F-13 and F-14.
+-- The calls of 01's lists, and those of F-1, F-11, F-13 and F-14.
 unfoldable pub call : Call → Machine → Turn
 call (begin t) m =
     passing (admissionOfBegin (sizes m) (m .store) (m .journal) t) [] m (beginTurn t m)

@@ -32,7 +32,7 @@ pub record Spared (m : Machine) (t minute : ℕ) : Type 0 where
       (f : ℕ) → isClosedAt (windowAt (m .store)) minute f ≡ true
       → getD (call (commit t minute) m .after .store .lengths) f 0 ≡ getD (m .store .lengths) f 0
 
--- Of any record and any buffers: a grant has passed 1 and 2.
+-- Of any state and any buffers: a grant has passed 1 and 2.
 abbrev pub ClosedSpared : Type 0
 ClosedSpared = (m : Machine) (t minute n : ℕ) → call (commit t minute) m .reply .answer ≡ granted n
     → Spared m t minute

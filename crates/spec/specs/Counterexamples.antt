@@ -63,7 +63,7 @@ pub record GoesTells : Type 0 where
   pub second : Goes onPlain (begin 0 gets says doneAnswer ∷ begin 1 gets says (granted 0) ∷ []) → ⊥
   pub buffer : Goes onPlain (begin 0 gets says doneAnswer ∷ on 0 (read 0 0 (dot ∷ [])) gets gives 0 (A ∷ [])
       ∷ []) → ⊥
-  -- On a store it is the store that is looked at: this one has no buffers, and a byte that no call wrote.
+  -- On a store it is the store that is compared: this one has no buffers, and a byte that no call wrote.
   pub storeReplies : Goes (onStore bare) (begin 0 gets says (refused 1) ∷ [])
   pub storeValues : onStore (withFiles (A ∷ []) bare) .value [] (byte 0) ≡ A
 
@@ -83,7 +83,7 @@ writesToClosed =
 pub record SparedTells : Type 0 where
   pub bytes : Spared writesToClosed 0 3 → ⊥
 
--- Transaction 0 just begun, and one whose call is held with a reply that it never had.
+-- Transaction 0 just begun, and one whose call is recorded with a reply that it never had.
 unfoldable pub oneBegun : Plain
 oneBegun = plainAfter (begin 0 ∷ []) freshNumbered
 
@@ -92,7 +92,8 @@ otherwiseExpected =
     let calls : List Accepted = record { op = getFilePointer 1; reply = says (granted 0) } ∷ [] in
     withSlot 0 (running (record { txn = empty; calls = calls; seen = [] })) freshNumbered
 
--- Not open; another answer, other bytes; another reply before it; a call that no lone run gets through.
+-- Not open; another answer, other bytes; another reply before it; a call that no run in isolation gets
+-- through.
 pub record OneMomentTells : Type 0 where
   pub notOpen : OneMoment freshNumbered 0 (getFilePointer 0) (says (pointer 0)) → ⊥
   pub answer : OneMoment oneBegun 0 (getFilePointer 0) (says (granted 0)) → ⊥

@@ -1,6 +1,6 @@
--- Corners of paper 01's text and of requests F-1 to F-8 that no program shows: what is sighted, the two
+-- Edge cases of paper 01's text and of requests F-1 to F-8 that no program shows: what is sighted, the two
 -- lists, forged transactions and stores. Of lists of calls each has the replies expected, in order; they
--- start as the situations do. Corners that replies and committed values show are lines of
+-- start as the situations do. Edge cases that replies and committed values show are lines of
 -- crates/replay/stdin, under their names.
 use mathlib.Core.Bool.{Bool, true, false, cond}
 use mathlib.Core.List.{List, [], _∷_, _++_}
@@ -332,7 +332,7 @@ expectedStopsAlone =
     ∷ commits 0 gets says (refused 13)
     ∷ []
 
--- A lone run whose second call is refused: the third is not made, and it did not get through.
+-- A run in isolation whose second call is refused: the third is not made, and it did not get through.
 unfoldable pub halfway : Lone
 halfway = lone (λ d. d) (record { value = λ i. 4; setter = λ i. 3 })
     (getFilePointer 0 ∷ getFilePointer 16 ∷ getFilePointer 1 ∷ []) empty
@@ -363,7 +363,7 @@ loggedByOne =
     (withRecordAt (withRecordAt (replicate 1728 0) 1 0 first) 1 1 second) []
     (replicate 4096 dot ++ A ∷ B ∷ C ∷ dot ∷ []) [] []
 
--- What situations k and l and the corners come to, together.
+-- What situations k and l and the edge cases come to, together.
 pub record EdgeCases (x : Seen) : Type 0 where
   pub k : Goes x expectedK × (sightingsOf (callsOf expectedK) 0 ≡ sighted (byte 4095) 1
       ∷ sighted (fileLength 0) 1 ∷ [])

@@ -35,13 +35,13 @@ butLast (g ∷ []) = []
 butLast (g ∷ (h ∷ gs)) = g ∷ butLast (h ∷ gs)
 
 -- 02, F-13: "serial order is then over the grants not taken back." [R-18.6] Where none of them is left, the
--- machine at the start goes back itself (one that has nothing to go back to there never does:
--- Serializability.antt, `start`).
+-- machine at the start is undone itself (one that has nothing to undo there never is: Serializability.antt,
+-- `start`).
 unfoldable pub droppedFrom : Plain → List Grant → Serial
 droppedFrom p [] = record { start = plainCall undoCommit p .after; grants = [] }
 droppedFrom p (g ∷ gs) = record { start = p; grants = butLast (g ∷ gs) }
 
--- A taking back that was accepted.
+-- An undo that was accepted.
 unfoldable pub ifDone : Said → Serial → Serial → Serial
 ifDone doneAnswer a b = a
 ifDone (pointer o) a b = b

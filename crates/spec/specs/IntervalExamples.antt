@@ -1,4 +1,4 @@
--- Request F-1, "Places a transaction would write" [R-15.1]: lists of stretches, computed, and lists that are
+-- Request F-1, "Places a transaction would write" [R-15.1]: lists of intervals, computed, and lists that are
 -- none.
 use mathlib.Core.Bool.{true, false}
 use mathlib.Core.List.{List, [], _∷_}
@@ -19,7 +19,7 @@ twoIntervals = interval 2 3 ∷ interval 6 1 ∷ []
 abbrev pub wrote : Place → List ℕ → Write
 wrote p bytes = record { descriptor = 0; place = p; bytes = bytes }
 
--- 2 bytes at 7, 3 at 2, 2 at 5, which touches, and none at 12, in that order: 2 to 8 are one stretch; and 1
+-- 2 bytes at 7, 3 at 2, 2 at 5, which touches, and none at 12, in that order: 2 to 8 are one interval; and 1
 -- at 14.
 abbrev pub fiveWrites : List Write
 fiveWrites =
@@ -27,7 +27,7 @@ fiveWrites =
     ∷ wrote (At 14) (1 ∷ []) ∷ []
 
 pub record IntervalExamples : Type 0 where
-  -- The first place of a stretch is in it, the first past it is not.
+  -- The first place of an interval is in it, the first past it is not.
   pub ends :
       (listed twoIntervals 1 ≡ false) × (listed twoIntervals 2 ≡ true) × (listed twoIntervals 4 ≡ true)
       × (listed twoIntervals 5 ≡ false)

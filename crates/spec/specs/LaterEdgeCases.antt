@@ -1,5 +1,6 @@
--- Corners of requests F-11 and F-13 that no program shows: the serial order, setters and the count of grants,
--- what a grant keeps. The others, and those of F-14, are lines of crates/replay/stdin, under their names.
+-- Edge cases of requests F-11 and F-13 that no program shows: the serial order, setters and the count of
+-- grants, what a grant saves. The others, and those of F-14, are lines of crates/replay/stdin, under their
+-- names.
 use mathlib.Core.Bool.{true, false}
 use mathlib.Core.List.{List, [], _∷_, _++_, map}
 use mathlib.Core.Path.{_≡_}
@@ -32,8 +33,8 @@ closedAtStart = startPlain (λ d. 0) (λ i. 0) (λ f. window 1 2) nothing
 unfoldable pub openedThen : List Call
 openedThen = setWindow 0 0 0 ∷ begin 0 ∷ on 0 (write 0 (A ∷ [])) ∷ commit 0 5 ∷ []
 
--- "serial order is then over the grants not taken back" [R-18.6]: a machine that starts with 7s to go back
--- to, and a list that takes back more than it granted.
+-- "serial order is then over the grants not taken back" [R-18.6]: a machine that starts with 7s to restore,
+-- and a list that undoes more than it granted.
 unfoldable pub heldAtStart : Plain
 heldAtStart = startPlain (λ d. 0) (λ i. 0) (λ f. window 0 0)
     (found (record { value = λ i. 7; setter = λ i. 0 }) 0)
@@ -42,8 +43,8 @@ unfoldable pub undoTwice : List Call
 undoTwice = undoCommit ∷ begin 0 ∷ commit 0 0 ∷ begin 1 ∷ on 1 (seek 0 1) ∷ commit 1 0 ∷ undoCommit ∷ []
 
 -- "The plain machine keeps the files, offsets, lengths, setters and count of grants that the last grant found
--- until it goes back to them" [R-17.5]: the second grant is taken back, so that the offset is again set by
--- the first, and the next grant is again the second.
+-- until it goes back to them" [R-17.5]: the second grant is undone, so that the offset is again set by the
+-- first, and the next grant is again the second.
 unfoldable pub expectedSettersBack : List Exchange
 expectedSettersBack =
     begin 0 gets says doneAnswer
@@ -61,7 +62,7 @@ expectedSettersBack =
     ∷ on 1 (getFilePointer 1) gets says (pointer 3)
     ∷ []
 
--- A store, forged, with three bytes in file 1, and what a grant of two writes keeps of it: AB at place 0, and
+-- A store, forged, with three bytes in file 1, and what a grant of two writes saves of it: AB at place 0, and
 -- C, which lies after the offset 1 of descriptor 1. The fourth buffer holds the bytes on which each landed,
 -- from its front; the rest of it is left.
 unfoldable pub twoWrites : Txn
@@ -85,7 +86,7 @@ ofThreeBytes =
 abbrev pub undoStateOf : Machine
 undoStateOf = savingUndo twoWrites ofThreeBytes
 
--- Once the writes have landed, offsets and lengths too, and all is taken back.
+-- Once the writes have landed, offsets and lengths too, and all is undone.
 abbrev pub undoStateUndone : Machine
 undoStateUndone = undone (withFiles (inFileOne (A ∷ C ∷ Z ∷ []))
     (withStore (withOffsets [] (withLengths [] (undoStateOf .store))) undoStateOf))

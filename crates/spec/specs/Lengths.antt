@@ -29,12 +29,12 @@ pub record LengthsHold (m : Machine) : Type 0 where
   -- "Bytes between an old end and a write come from the file, and are 0 in every store reached from Fresh."
   -- [R-1.1]
   pub zeros : ZeroBeyond (committedIn m)
-  -- They are 0 too in the values to which F-13's taking back would go.
+  -- They are 0 too in the values that F-13's undo would restore.
   pub zerosHeld : m .store .undo .held ≡ true → ZeroBeyond (committedIn (undone m))
   -- "Each file gets a committed length, 0 to 4,096" [R-1.1]
   pub limit : (f : ℕ) → committedIn m (fileLength f) ≤ fileBytes
-  -- No call but F-13's taking back lowers a length: a place below it stays below it. While a transaction is
-  -- open that one changes nothing.
+  -- No call but F-13's undo lowers a length: a place below it stays below it. While a transaction is open
+  -- that one changes nothing.
   pub grows : (c : Call) → (c ≡ undoCommit → ⊥) → Longer (committedIn m) (committedIn (call c m .after))
   pub opened :
       (t : ℕ) → t ≤ lastTransaction → transaction (m .store) t .begun ≡ true → call undoCommit m .after ≡ m

@@ -18,21 +18,21 @@ pub mod Places
 pub mod Windows
 -- The best order to commit in (paper 02, F-14; the orders of a list are spec_orders/specs/Orders.antt).
 pub mod OrderReply
--- The plain machine: sightings with their setters, the lone run, the machine, its grants and their second
--- run; and demand 3, the claim about a store that is compared with it. Up to here nothing is said of a record
--- or of buffers.
+-- The reference model (01's plain machine): sightings with their setters, the run in isolation (01's lone
+-- run), the machine, its grants and their second run; and Serializability (demand 3), the claim about a store
+-- that is compared with it. Up to here nothing is said of a state or of buffers.
 pub mod Sightings
 pub mod LoneRuns
 pub mod Plain
 pub mod Grants
 pub mod Serializability
--- The store: the record and its buffers, what a grant keeps and how it goes back (paper 02, F-13), the rules
+-- The store: the state and its buffers, what a grant saves and how it is undone (paper 02, F-13), the rules
 -- of the twelve calls, and how promises cite them.
 pub mod Machine
 pub mod Undo
 pub mod Calls
 pub mod Promises
--- The statements about it. (The tests of each call in their order are demand 1's.)
+-- The statements about it. (The tests of each call in their order belong to Refusals, demand 1.)
 pub mod RefusalOrder
 pub mod Refusals
 pub mod SerializabilityOfStore
@@ -45,7 +45,7 @@ pub mod ClosedFiles
 pub mod Splitting
 pub mod UndoRestores
 pub mod BestOrder
--- The situations, and corners of both papers; what the statements are false of.
+-- The situations, and edge cases of both papers; what the statements are false of.
 pub mod Setup
 pub mod Situations
 pub mod EdgeCases

@@ -1,4 +1,4 @@
--- A transaction run alone.
+-- A transaction run alone: 01's lone run, a run in isolation.
 use mathlib.Core.Bool.{Bool, true, false}
 use mathlib.Core.List.{List, [], _∷_, _++_}
 use Prim.Native.Nat.{ℕ}
@@ -8,8 +8,8 @@ use Rattle.spec.specs.Transactions.{Txn}
 use Rattle.spec.specs.Steps.{Stepped, refuse, accept, step}
 use Rattle.spec.specs.Sightings.{Entry, Committed, entries}
 
--- What a lone run gives: the transaction it ends with, its replies and sightings, and whether it got through
--- all its calls.
+-- What a run in isolation gives: the transaction it ends with, its replies and sightings, and whether it got
+-- through all its calls.
 pub record Lone : Type 0 where
   pub through : Bool
   pub txn : Txn

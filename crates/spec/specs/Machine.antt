@@ -1,4 +1,4 @@
--- The store as a caller holds it: the record in its two parts and the four lent buffers; and what they mean
+-- The store as a caller holds it: the state in its two parts and the four lent buffers; and what they mean
 -- for one transaction.
 use mathlib.Core.List.{List, [], _∷_}
 use lib.ListN.{length, getD}
@@ -18,7 +18,7 @@ use Rattle.spec.specs.Items.{Item, byte, offset, fileLength, Values}
 use Rattle.spec.specs.Transactions.{Txn, Write}
 use Rattle.spec.specs.Steps.{total}
 
--- The record (store and journal), and "These three, files, logs and marks, are the store buffers; every call
+-- The state (store and journal), and "These three, files, logs and marks, are the store buffers; every call
 -- takes all three" [R-2.1]; 02, F-13: "a fourth store buffer, of 4,096 bytes and lent as the three are"
 -- [R-2.1].
 pub record Machine : Type 0 where
@@ -87,7 +87,7 @@ writeAt journal logs t k =
 unfoldable pub recordOf : Write → WriteRecord
 recordOf w = record { descriptor = w .descriptor; place = w .place; length = length (w .bytes) }
 
--- Transaction t as the record and the logs hold it.
+-- Transaction t as the state and the logs hold it.
 unfoldable pub txnOf : StoreMeaning → List ℕ → List ℕ → ℕ → Txn
 txnOf s journal logs t =
     record {

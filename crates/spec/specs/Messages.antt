@@ -1,4 +1,4 @@
--- Calls and replies as data. Demand 3 speaks of lists of them.
+-- Calls and replies as data. Serializability speaks of lists of them.
 use mathlib.Core.List.{List, [], _∷_}
 use Prim.Native.Nat.{ℕ, _+_}
 use Rattle.state.specs.Outcomes.{Said, doneAnswer, pointer, given, granted, pairs, ordered, refused}
@@ -14,7 +14,7 @@ pub data Op : Type 0 where
 -- "Begin, Seek, Write, GetFilePointer, Read, Commit and Abort calls" [R-1.8], each with its transaction
 -- number; and F-1's, with a file and the buffer for the list. 02, F-11: "Commit takes the minute" [R-9.1],
 -- and "A call sets a window" [R-11.2]: a file, its start and its end. F-13, "every list of demand 3, which
--- may from now on hold this call" [R-18.3]: the last grant is taken back. F-14: "up to 8 different open
+-- may from now on hold this call" [R-18.3]: the last grant is undone. F-14: "up to 8 different open
 -- transactions, a minute and a budget" [R-14.1].
 pub data Call : Type 0 where
   begin : ℕ → Call
@@ -53,8 +53,8 @@ pub record Reply : Type 0 where
 abbrev pub says : Said → Reply
 says a = record { answer = a; buffer = [] }
 
--- What answers calls, S being what it holds: its reply to a call, and what it holds after it. The plain
--- machine does, and so does the store.
+-- What answers calls, S being what it holds: its reply to a call, and what it holds after it. The reference
+-- model does, and so does the store.
 pub record Answering (S : Type 0) : Type 0 where
   pub reply : Call → S → Reply
   pub next : Call → S → S

@@ -1,5 +1,6 @@
--- Request F-14, "Best order to commit in" [R-14.1]: what a machine, be it the store or the plain machine, is
--- asked, and its reply. (The orders of a list and the best of those tried are spec_orders/specs/Orders.antt.)
+-- Request F-14, "Best order to commit in" [R-14.1]: what a machine, be it the store or the reference model,
+-- is asked, and its reply. (The orders of a list and the best of those tried are
+-- spec_orders/specs/Orders.antt.)
 use mathlib.Core.Bool.{Bool, not, _&&_}
 use mathlib.Core.List.{List, [], _∷_}
 use lib.Dec.{leb}

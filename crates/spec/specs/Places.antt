@@ -1,5 +1,4 @@
--- Request F-1, "Places a transaction would write" [R-15.1]: what its call lists, and what the list is held
--- to.
+-- Request F-1, "Places a transaction would write" [R-15.1]: what its call lists, and what holds of the list.
 use mathlib.Core.Bool.{Bool, true, false, cond, not, _&&_, _||_}
 use mathlib.Core.List.{List, [], _∷_, _++_}
 use mathlib.Core.Path.{_≡_}
@@ -43,7 +42,7 @@ unplaced fileOf f ws = someWrite (unplacedOn fileOf f) ws
 
 -- ---- the list
 
--- A stretch of places: where it starts, and how many they are.
+-- An interval of places: where it starts, and how many they are.
 pub record Interval : Type 0 where
   pub offset : ℕ
   pub length : ℕ
@@ -55,7 +54,7 @@ interval p n = record { offset = p; length = n }
 abbrev pub intervalEnd : Interval → ℕ
 intervalEnd s = s .offset + s .length
 
--- Whether place p lies in a stretch, and in one of a list.
+-- Whether place p lies in an interval, and in one of a list.
 unfoldable pub inInterval : Interval → ℕ → Bool
 inInterval s p = leb (s .offset) p && ltb p (intervalEnd s)
 
@@ -63,7 +62,7 @@ unfoldable pub listed : List Interval → ℕ → Bool
 listed [] p = false
 listed (s ∷ l) p = inInterval s p || listed l p
 
--- "sorted by offset; touching stretches are joined and none is empty" [R-15.1]: no stretch starts before b,
+-- "sorted by offset; touching stretches are joined and none is empty" [R-15.1]: no interval starts before b,
 -- and each of the others after the first place past the one before it.
 abbrev pub ProperFrom : ℕ → List Interval → Type 0
 ProperFrom b [] = Unit {0}
@@ -72,13 +71,13 @@ ProperFrom b (s ∷ l) = (b ≤ s .offset) × (1 ≤ s .length) × ProperFrom (s
 abbrev pub Proper : List Interval → Type 0
 Proper l = ProperFrom 0 l
 
--- One place more on the left of a list: the first stretch is lengthened where it starts at the next place.
+-- One place more on the left of a list: the first interval is lengthened where it starts at the next place.
 unfoldable pub withPlace : ℕ → List Interval → List Interval
 withPlace p [] = interval p 1 ∷ []
 withPlace p (s ∷ l) = cond (eqb (s .offset) (suc p)) (interval p (suc (s .length)) ∷ l)
     (interval p 1 ∷ (s ∷ l))
 
--- The stretches of those of n places from p on that are in the set; and of a file's 4,096 places.
+-- The intervals of those of n places from p on that are in the set; and of a file's 4,096 places.
 unfoldable pub intervalsFrom : (ℕ → Bool) → ℕ → ℕ → List Interval
 intervalsFrom S p zero = []
 intervalsFrom S p (suc n) = cond (S p) (withPlace p (intervalsFrom S (suc p) n)) (intervalsFrom S (suc p) n)
@@ -108,7 +107,7 @@ placesRefusal fileOf f out x =
     (unless (not (unplaced fileOf f (x .writes))) 15
     (unless (leb (4 * length (intervalsOf (covered fileOf f (x .writes)))) (length out)) 16 0))
 
--- What the call gives for an open transaction: the store and the plain machine both go by it.
+-- What the call gives for an open transaction: the store and the reference model both go by it.
 unfoldable pub placesReply : (ℕ → ℕ) → ℕ → List ℕ → Txn → ℕ → Reply
 placesReply fileOf f out x n =
     guarded (λ k. record { answer = refused k; buffer = out }) (isNone n) n

@@ -1,5 +1,5 @@
--- The plain machine of demand 3, as paper 01 words it, and what 02's requests add to it. "It has no marks and
--- looks at nothing in the store's record or buffers." [R-17.2]
+-- The reference model, executable: 01's plain machine, as paper 01 words it, and what 02's requests add to
+-- it. "It has no marks and looks at nothing in the store's record or buffers." [R-17.2]
 use mathlib.Core.Bool.{Bool, true, false, cond, not, _&&_, _||_}
 use mathlib.Core.List.{List, [], _∷_, _++_, map}
 use lib.Dec.{leb, eqb}
@@ -67,8 +67,8 @@ abbrev pub plainWith : (ℕ → ℕ) → Committed → ℕ → Windows → Earli
 plainWith fileOf c n windows earlier slots =
     record { fileOf = fileOf; committed = c; grants = n; windows = windows; earlier = earlier; slots = slots }
 
--- The machine with these committed values, these windows, this to go back to, and nothing open, counting its
--- grants from here on.
+-- The machine with these committed values, these windows, these values to restore, and nothing open, counting
+-- its grants from here on.
 unfoldable pub startPlain : (ℕ → ℕ) → Values → Windows → Earlier → Plain
 startPlain fileOf v windows earlier = plainWith fileOf (record { value = v; setter = λ i. 0 }) 0 windows
     earlier (λ t. closed)
@@ -105,7 +105,7 @@ unfoldable pub plainRefuse : ℕ → List ℕ → Plain → PlainTurn
 plainRefuse n buffer p = record { reply = record { answer = refused n; buffer = buffer }; after = p }
 
 -- The machine with another transaction as number t; and after a grant that leaves c committed, one grant
--- more, with what it found kept.
+-- more, with what it found saved.
 unfoldable pub withSlot : ℕ → Slot → Plain → Plain
 withSlot t s p = plainWith (p .fileOf) (p .committed) (p .grants) (p .windows) (p .earlier)
     (put t s (p .slots))

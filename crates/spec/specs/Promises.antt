@@ -13,18 +13,16 @@ use Rattle.spec.specs.Machine.{Machine, lent}
 use Rattle.spec.specs.Calls.{Turn}
 
 -- A call's outcome and what it left are those of a turn of the rules: the outcome in paper 01's numbers and
--- values, record and buffers at exit as one machine, and the reader's buffer (empty for a call that has
--- none).
+-- values, state and buffers at exit as one machine, and the reader's buffer (empty for a call that has none).
 pub record Meets (w : Turn) (o : Outcome) (m : Machine) (atReader : List ℕ) : Type 0 where
   pub outcome : said o ≡ w .reply .answer
   pub machine : m ≡ w .after
   pub reader : atReader ≡ w .reply .buffer
 
--- The machine that a record of numbers and the four buffers mean (state/specs/Layout.antt). Promises are
--- about it. Of the record of a call that is not refused they do not fix what means nothing (the ten spare
+-- The machine that the state's numbers and the four buffers mean (state/specs/Layout.antt). Promises are
+-- about it. Of the state after a call that is not refused they do not fix what means nothing (the ten spare
 -- numbers of a transaction, the numbers that a standing does not carry), nor which of several codes stands
--- for
--- one meaning (a kind above 3 is Known; a flag whose number is not 1 is not set).
+-- for one meaning (a kind above 3 is Known; a flag whose number is not 1 is not set).
 abbrev pub machineOf : List ℕ → List ℕ → List ℕ → List ℕ → List ℕ → Machine
 machineOf state files logs marks undo = lent (storeOf state) (journalOf state) files logs marks undo
 
@@ -43,12 +41,12 @@ handedBack state files logs marks undo =
     machineOf (now (state .exit)) (now (files .exit)) (now (logs .exit)) (now (marks .exit))
     (now (undo .exit))
 
--- A refusal other than 13 leaves the record number by number, not only in what it means.
+-- A refusal other than 13 leaves the state number by number, not only in what it means.
 abbrev pub LeftAsFound : Outcome → List ℕ → List ℕ → Type 0
 LeftAsFound o before after = (r : Refusal) → o ≡ Refused r → (number r ≡ 13 → ⊥) → after ≡ before
 
--- The promise of a call: on what it is handed it answers o, and leaves record, buffers and reader's buffer,
--- as the rule says.
+-- The promise of a call: on what it is handed it answers o, and leaves state, buffers and reader's buffer, as
+-- the rule says.
 abbrev pub Follows : (Machine → Turn) → Lent → Lent → Lent → Lent → Lent → Outcome → List ℕ → Type 0
 Follows rule state files logs marks undo o reader =
     Meets (rule (handed state files logs marks undo)) o (handedBack state files logs marks undo) reader

@@ -18,17 +18,16 @@ use Rattle.spec.specs.SerializabilityOfStore.{FreshlyMade}
 unfoldable pub allEnded : StoreMeaning → StoreMeaning
 allEnded s = withTransactions (replicate transactionCount ended) s
 
--- The promise of the code that ends them: what the record's numbers mean at exit, by what they meant at
--- entry.
+-- The promise of the code that ends them: what the state's numbers mean at exit, by what they meant at entry.
 abbrev pub EndsAll : List ℕ → List ℕ → Type 0
 EndsAll before after = (storeOf after ≡ allEnded (storeOf before)) × (journalOf after ≡ journalOf before)
 
--- The record with every transaction ended, the files and the bytes on which the last grant landed were saved;
--- the store goes on with them, and with any logs and marks.
+-- The state with every transaction ended, the files and the undo log were saved; the store goes on with them,
+-- and with any logs and marks.
 unfoldable pub recovered : List ℕ → List ℕ → Machine → Machine
 recovered logs marks m = withLogs logs (withMarking marks (withStore (allEnded (m .store)) m))
 
--- The record that the code leaves, lent with the same files and old bytes, is that store.
+-- The state that the code leaves, lent with the same files and undo log, is that store.
 abbrev pub RecoversByCode : Type 0
 RecoversByCode =
     (before after files logs marks undo newLogs newMarks : List ℕ) → EndsAll before after

@@ -1,4 +1,4 @@
--- Paper 01, "What a turned-down call brings" [R-16.1]: the tests of each call in their order, on any record
+-- Paper 01, "What a turned-down call brings" [R-16.1]: the tests of each call in their order, on any state
 -- and any buffers. "Checked in this order, save that 13 comes before 12" [R-16.2]; 02 says of each later
 -- number where it stands.
 use mathlib.Core.Bool.{Bool, cond, not, _&&_}

@@ -1,7 +1,7 @@
--- Demand 1, beside its wording: "Every call .. ends in its result or one of fourteen refusals (02 adds more),
--- each under its written condition only. A refusal changes no buffer and no record, save that a commit
--- refused as stale (13) ends its transaction as an abort does." [R-18.1] (The written conditions, in the
--- order in which they are tested, are RefusalOrder.antt.)
+-- Refusals (demand 1), beside its wording: "Every call .. ends in its result or one of fourteen refusals (02
+-- adds more), each under its written condition only. A refusal changes no buffer and no record, save that a
+-- commit refused as stale (13) ends its transaction as an abort does." [R-18.1] (The written conditions, in
+-- the order in which they are tested, are RefusalOrder.antt.)
 use mathlib.Core.Bool.{true}
 use mathlib.Core.List.{List, [], _∷_, map}
 use mathlib.Core.Option.{some}
@@ -37,7 +37,7 @@ refusalsOf (bestOrder ts minute budget) = 1 ∷ 2 ∷ 26 ∷ 3 ∷ 4 ∷ 22 ∷ 
 abbrev pub refusalsOfFresh : List ℕ
 refusalsOfFresh = 1 ∷ 14 ∷ []
 
--- On any record and any buffers m, with any numbers.
+-- On any state and any buffers m, with any numbers.
 pub record RefusalsOn (m : Machine) : Type 0 where
   -- "each under its written condition only" [R-18.1]: a call is refused with the number of the first of its
   -- tests that fails, and is not refused where all pass.
@@ -62,12 +62,12 @@ pub record RefusalsOn (m : Machine) : Type 0 where
       (c : Call) → call c m .reply .answer ≡ refused (number Stale)
       → (t : ℕ) × (minute : ℕ) × (c ≡ commit t minute) × (call c m .after ≡ call (abort t) m .after)
 
--- Demand 1 about the rules.
+-- Refusals of the rules.
 abbrev pub Refusals : Type 0
 Refusals = (m : Machine) → RefusalsOn m
 
--- Demand 1 about the code: a call that kept its promise, with outcome o, and left record, buffers and
--- reader's buffer.
+-- Refusals of the code: a call that met its promise, with outcome o, and left state, buffers and reader's
+-- buffer.
 pub record RefusedByCode (c : Call) (m : Machine) (n : ℕ) (after : Machine) (reader : List ℕ) : Type 0 where
   pub first : firstFailing (testsOf c m) ≡ some n
   pub known : isIn n (refusalsOf c) ≡ true

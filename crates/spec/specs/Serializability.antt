@@ -1,6 +1,7 @@
--- Demand 3, beside its wording, of a store of which no more is known than how it behaves: the store of crate
--- rules comes later (Machine.antt and Calls.antt), and SerializabilityOfStore.antt makes the claim about it.
--- The store and the plain machine (`plainCall`) run the same list of calls, refused ones included.
+-- Serializability (demand 3), beside its wording. The theorem is generic in the store's behaviour: the store
+-- of crate spec comes later (Machine.antt and Calls.antt), and SerializabilityOfStore.antt makes the claim
+-- about it. The store and the reference model (`plainCall`) run the same list of calls, refused ones
+-- included.
 use mathlib.Core.Bool.{Bool, true}
 use mathlib.Core.List.{List, [], _∷_, _++_, map}
 use mathlib.Core.Logic.{_↔_}
@@ -42,22 +43,23 @@ IsAccepted r = (n : ℕ) → r .answer ≡ refused n → ⊥
 unfoldable pub upTo : Plain → Running → Op → Lone
 upTo p r o = lone (p .fileOf) (p .committed) (ops (r .calls) ++ (o ∷ [])) empty
 
--- Call o of transaction t gave a reply when the plain machine was p: the lone run up to it gets through and
--- gives, after the replies that the transaction had before, this one, answer and the reader's whole buffer.
+-- Call o of transaction t gave a reply when the reference model was p: the run in isolation up to it gets
+-- through and gives, after the replies that the transaction had before, this one, answer and the reader's
+-- whole buffer.
 pub record OneMoment (p : Plain) (t : ℕ) (o : Op) (reply : Reply) : Type 0 where
   pub reader : Running
   pub isOpen : p .slots t ≡ running reader
   pub through : upTo p reader o .through ≡ true
   pub replies : upTo p reader o .replies ≡ map (λ a. a .reply) (reader .calls) ++ (reply ∷ [])
 
--- What holds after a list of calls cs, of the store s and the plain machine p that it leads to, from the
+-- What holds after a list of calls cs, of the store s and the reference model p that it leads to, from the
 -- store s₀ and the machine p₀. As it is claimed for every list, it holds at every moment of each.
 pub record Holds {S : Type 0} (b : Behaviour S) (s₀ : S) (p₀ : Plain) (cs : List Call) (s : S)
     (p : Plain) : Type 0 where
-  -- "the store returns the plain machine's refusals" [R-18.3]: each call gives what the plain machine gives,
-  -- answer and buffer.
+  -- "the store returns the plain machine's refusals" [R-18.3]: each call gives what the reference model
+  -- gives, answer and buffer.
   pub replies : repliesTo (b .answers) cs s₀ ≡ plainReplies cs p₀
-  -- A transaction is open in the store exactly when it is on the plain machine.
+  -- A transaction is open in the store exactly when it is on the reference model.
   pub openness : (t : ℕ) → t ≤ lastTransaction → b .isOpen s t ≡ isRunning (p .slots t)
   -- "a commit by an open transaction is not refused as stale EXACTLY when its two lists of sightings on 01's
   -- plain machine are equal" [R-18.4]. 02, F-11: "A Commit refused with 22 stands outside the comparison of
@@ -74,11 +76,11 @@ pub record Holds {S : Type 0} (b : Behaviour S) (s₀ : S) (p₀ : Plain) (cs : 
       → n ≡ bitsOf (becameStale t p (plainCall (commit t minute) p .after)) transactionCount
   -- "the granted transactions, run again alone in grant order from the same fresh state with all their
   -- accepted calls, meet no refusal, give the same answers and bytes" [R-18.6]: the list of calls that does
-  -- so gives on the plain machine the replies that they had. F-11: "the serial order runs with Fresh's
+  -- so gives on the reference model the replies that they had. F-11: "the serial order runs with Fresh's
   -- windows" [R-18.6]. F-13: "serial order is then over the grants not taken back." [R-18.6]
   pub again : let g = serialOf cs p₀ in plainReplies (rerun (g .grants)) (g .start) ≡ sameReplies (g .grants)
-  -- "from the same fresh state" [R-18.6]: where the machine has nothing to go back to at the start, as after
-  -- Fresh, the serial order starts there, with Fresh's windows.
+  -- "from the same fresh state" [R-18.6]: where the machine has nothing to undo at the start, as after Fresh,
+  -- the serial order starts there, with Fresh's windows.
   pub start : p₀ .earlier ≡ nothing → serialOf cs p₀ .start ≡ plainWithWindows freshWindows p₀
   -- "and leave the same files and offsets" [R-18.6]; 02, F-8: "Lengths join .. what serial order compares"
   -- [R-18.6]: files, offsets and lengths.
@@ -94,8 +96,8 @@ pub record Holds {S : Type 0} (b : Behaviour S) (s₀ : S) (p₀ : Plain) (cs : 
   -- same buffers.
   pub ranges : (c : Call) → (replyOf b c s .answer ≡ refused 2 → ⊥) × (replyOf b c s .answer ≡ refused 1 → ⊥)
 
--- Demand 3: one claim about the whole list, from every store that an accepted Fresh with these file numbers
--- has made.
+-- Serializability: one claim about the whole list, from every store that an accepted Fresh with these file
+-- numbers has made.
 abbrev pub SerializabilityOf : (S : Type 0) → Behaviour S → (List ℕ → S → Type 0) → Type 0
 SerializabilityOf S b FreshlyMade =
     (numbers : List ℕ) (s₀ : S) → FreshlyMade numbers s₀

@@ -1,5 +1,5 @@
--- Demand 3 about the store: the rules of crate rules on records and buffers (`call`), and the code, whose
--- calls keep their promises.
+-- Serializability of the store: the rules of crate spec on states and buffers (`call`), and the code, whose
+-- calls meet their promises.
 use mathlib.Core.Bool.{true}
 use mathlib.Core.List.{List, [], _∷_, map}
 use mathlib.Core.Path.{_≡_}
@@ -16,7 +16,7 @@ use Rattle.spec.specs.Machine.{Machine, values}
 use Rattle.spec.specs.Calls.{fresh, call, storeAnswers}
 use Rattle.spec.specs.Promises.{Meets}
 
--- "from a fresh store" [R-18.3]: Fresh with these file numbers, on any record and any buffers, was accepted,
+-- "from a fresh store" [R-18.3]: Fresh with these file numbers, on any state and any buffers, was accepted,
 -- and left m.
 pub record FreshlyMade (numbers : List ℕ) (m : Machine) : Type 0 where
   pub before : Machine
@@ -32,11 +32,11 @@ theStore =
       committed = λ m. values (m .store) (m .files);
     }
 
--- Demand 3 about the rules.
+-- Serializability of the rules.
 abbrev pub Serializability : Type 0
 Serializability = SerializabilityOf Machine theStore FreshlyMade
 
--- One call as its caller sees it: the call, its outcome, and what it left: record and buffers, and the
+-- One call as its caller sees it: the call, its outcome, and what it left: state and buffers, and the
 -- reader's buffer.
 pub record CallMade : Type 0 where
   pub made : Call
@@ -57,13 +57,13 @@ lastOf m (x ∷ xs) = lastOf (x .kept) xs
 unfoldable pub madeReply : CallMade → Reply
 madeReply x = record { answer = said (x .outcome); buffer = x .reader }
 
--- Demand 3 about the code: for calls linked by the promises of the functions, the replies are the plain
--- machine's, and what holds of the rules holds of the record and buffers that the caller is left with.
+-- Serializability of the code: for calls linked by the promises of the functions, the replies are the
+-- reference model's, and what holds of the rules holds of the state and buffers that the caller is left with.
 pub record CodeHolds (m₀ : Machine) (p₀ : Plain) (xs : List CallMade) : Type 0 where
   pub replies : map madeReply xs ≡ plainReplies (map (λ x. x .made) xs) p₀
   pub holds : Holds theStore m₀ p₀ (map (λ x. x .made) xs) (lastOf m₀ xs)
       (plainAfter (map (λ x. x .made) xs) p₀)
-  -- F-7 about one more call of the code, which keeps its promise too.
+  -- F-7 about one more call of the code, which meets its promise too.
   pub moment :
       (x : CallMade) (t : ℕ) (o : Op) → x .made ≡ on t o
       → Meets (call (x .made) (lastOf m₀ xs)) (x .outcome) (x .kept) (x .reader)

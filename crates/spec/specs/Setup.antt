@@ -1,4 +1,4 @@
--- How the situations are told: from Fresh, and what is looked at after a list of calls.
+-- How the situations are written: from Fresh, and what is compared after a list of calls.
 use mathlib.Core.List.{List, [], _∷_, _++_, map}
 use mathlib.Core.Path.{_≡_}
 use lib.ListN.{getD}
@@ -21,8 +21,8 @@ numbers = 0 ∷ 1 ∷ 2 ∷ 3 ∷ 4 ∷ 5 ∷ 6 ∷ 7 ∷ 0 ∷ 1 ∷ 2 ∷ 3 �
 unfoldable pub freshNumbered : Plain
 freshNumbered = freshPlain (λ d. getD numbers d 0)
 
--- What is looked at: the replies to a list of calls, and the committed values after it. On the plain machine,
--- and on a store.
+-- What is compared: the replies to a list of calls, and the committed values after it. On the reference
+-- model, and on a store.
 pub record Seen : Type 0 where
   pub replies : List Call → List Reply
   pub value : List Call → Values
@@ -40,7 +40,7 @@ onStore m =
       value = λ cs. values (callsAfter cs m .store) (callsAfter cs m .files);
     }
 
--- A call and the reply that it is to give; a list of them is held against the paper line by line.
+-- A call and the reply that it is to give; a list of them is compared with the paper line by line.
 pub record Exchange : Type 0 where
   pub call : Call
   pub reply : Reply

@@ -94,7 +94,7 @@ pub record SameStep (fileOf : ℕ → ℕ) (v : Values) (o : Op) (x y : Txn) : T
 
 -- "effect at Commit" [R-5.2]: all that it sets, and so the bytes, offsets and lengths, their setters, who
 -- becomes stale, and the octet; the test of 12; and of 21 (F-11). "only the write records differ" [R-5.2]: a
--- grant keeps the same old bytes (F-13), where the writes land inside the files buffer, as they do where that
+-- grant saves the same old bytes (F-13), where the writes land inside the files buffer, as they do where that
 -- test of 12 passes.
 pub record SameCommit (fileOf : ℕ → ℕ) (v : Values) (x y : Txn) : Type 0 where
   pub sets : settings fileOf v x ≡ settings fileOf v y

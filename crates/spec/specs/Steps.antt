@@ -94,7 +94,7 @@ step fileOf (write d bytes) x = writeStep d bytes x
 step fileOf (getFilePointer d) x = pointerStep d x
 step fileOf (read d n buffer) x = readStep fileOf d n buffer x
 
--- The descriptor of a call, and whether it looks: "Read and GetFilePointer" [R-8.2] (F-6).
+-- The descriptor of a call, and whether it is a read call: "Read and GetFilePointer" [R-8.2] (F-6).
 unfoldable pub descriptorOfOp : Op → ℕ
 descriptorOfOp (seek d v) = d
 descriptorOfOp (write d bytes) = d
@@ -108,10 +108,10 @@ isReadCall (getFilePointer d) = true
 isReadCall (read d n buffer) = true
 
 -- F-6, "Read and GetFilePointer of a stale transaction are now refused" [R-8.2]; "18 when the transaction is
--- stale, after 6 and before 7" [R-16.1]: of one that looks, through a descriptor that passes 6.
+-- stale, after 6 and before 7" [R-16.1]: of a read call, through a descriptor that passes 6.
 unfoldable pub refusesStale : Bool → Op → Bool
 refusesStale stale o = isReadCall o && stale && leb (descriptorOfOp o) lastDescriptor
 
--- .. whatever else the step comes to. Lone runs are made of steps alone: nothing is stale there.
+-- .. whatever else the step comes to. Runs in isolation are made of steps alone: nothing is stale there.
 unfoldable pub refusedStale : Bool → Op → Stepped → Stepped
 refusedStale stale o s = cond (refusesStale stale o) (refuse 18) s

@@ -1,4 +1,4 @@
--- Request F-13, "Taking back the last grant" [R-12.1]: what a grant keeps, and how it goes back. (Old bytes
+-- Request F-13, "Taking back the last grant" [R-12.1]: what a grant saves, and how it is undone. (Old bytes
 -- of writes in a buffer are spec_undo/specs/OldBytes.antt.)
 use mathlib.Core.Bool.{true, false}
 use mathlib.Core.List.{List, map}
@@ -70,8 +70,7 @@ landedOn s journal = tabulate (λ k. spanOfRecord s (writeRecordAt journal lastG
     (s .undo .used .records)
 
 -- "taking back leaves files, offsets and lengths exactly as that grant found them, whatever the windows"
--- [R-12.1]: the store after it, which has no grant to take back. Journal, logs, marks and the fourth buffer
--- stay.
+-- [R-12.1]: the store after it, which has no grant to undo. Journal, logs, marks and the fourth buffer stay.
 unfoldable pub undone : Machine → Machine
 undone m =
     let s = m .store in

@@ -23,7 +23,7 @@ grantsInRuns (r ∷ rs) m =
     + grantsInRuns rs (recovered (r .logs) (r .marks) (callsAfter (r .calls) m))
 
 -- After any calls a Commit is granted; further calls ys, among which no Commit is granted, lead to an
--- accepted taking back. The program may go down meanwhile: runs rs without a grant stand before ys.
+-- accepted undo. The program may go down meanwhile: runs rs without a grant stand before ys.
 abbrev pub UndoRestores : Type 0
 UndoRestores =
     (before : Machine) → Reached before → (rs : List ProgramRun) (ys : List Call) (t minute n : ℕ)

@@ -1,4 +1,4 @@
--- Request F-10: the dispatcher on the store and on the plain machine, and what is proved of it.
+-- Request F-10: the dispatcher on the store and on the reference model, and what is proved of it.
 use mathlib.Core.Bool.{true, false, cond}
 use mathlib.Core.List.{List, [], _∷_, map}
 use mathlib.Core.Logic.{_⊎_}
@@ -28,7 +28,7 @@ use Rattle.spec_dispatch.specs.Rounds.{rounds, dispatched}
 
 -- ---- the dispatcher
 
--- Replies are the store's, or the plain machine's, after the calls made so far.
+-- Replies are the store's, or the reference model's, after the calls made so far.
 abbrev pub storeReply : Machine → Call → List Call → Reply
 storeReply m c cs = call c (callsAfter cs m) .reply
 
@@ -71,20 +71,20 @@ dispatch bytes minute x m reader =
     let w = workOnStore bytes minute x m reader in
     guarded (notStarted m reader) (isNone n) n (reported w (callsAfter (w .made) m))
 
--- The plain machine has no buffers and no record: 1 and 2 are not its refusals.
+-- The reference model has no buffers and no state: 1 and 2 are not its refusals.
 unfoldable pub plainDispatch : List ℕ → ℕ → Scripts → Plain → List ℕ → Dispatched Plain
 plainDispatch bytes minute x p reader =
     let n = unless (noneRunning p) 19 (unless (scriptsIn (length bytes) x) 20 0) in
     let w = workOnPlain bytes minute x p reader in
     guarded (notStarted p reader) (isNone n) n (reported w (plainAfter (w .made) p))
 
--- ---- demand 1
+-- ---- refusals (demand 1)
 
 -- The dispatcher's refusals.
 abbrev pub IsDispatchRefusal : ℕ → Type 0
 IsDispatchRefusal n = (n ≡ 1) ⊎ ((n ≡ 2) ⊎ ((n ≡ 19) ⊎ (n ≡ 20)))
 
--- Demand 1 of the dispatcher, on any record and any buffers m: it has these refusals (their conditions are
+-- Refusals of the dispatcher, on any state and any buffers m: it has these refusals (their conditions are
 -- `admissionOfDispatch`), and "A refusal changes no buffer and no record" [R-18.1].
 pub record RefusalsOfDispatch (bytes : List ℕ) (minute : ℕ) (x : Scripts) (m : Machine)
     (reader : List ℕ) : Type 0 where
@@ -141,10 +141,10 @@ AnsweredInRounds [] = Unit {0}
 AnsweredInRounds (r ∷ rs) = ((refusalIn (r .answer) ≡ 0) ⊎
     ((refusalIn (r .answer) ≡ 13) ⊎ EndsScript (refusalIn (r .answer)))) × AnsweredInRounds rs
 
--- ---- on the plain machine too
+-- ---- on the reference model too
 
--- What the dispatcher gives on a store and on the plain machine is the same, and so are the committed files,
--- offsets and lengths after it.
+-- What the dispatcher gives on a store and on the reference model is the same, and so are the committed
+-- files, offsets and lengths after it.
 pub record SameGiven (d : Dispatched Machine) (e : Dispatched Plain) : Type 0 where
   pub refusal : d .refusal ≡ e .refusal
   pub ends : d .ends ≡ e .ends
@@ -152,7 +152,7 @@ pub record SameGiven (d : Dispatched Machine) (e : Dispatched Plain) : Type 0 wh
   pub reader : d .reader ≡ e .reader
   pub committed : values (d .after .store) (d .after .files) ≡ e .after .committed .value
 
--- On a store m and on the plain machine p it gives the same, and makes the same calls.
+-- On a store m and on the reference model p it gives the same, and makes the same calls.
 pub record PlainToo (bytes : List ℕ) (minute : ℕ) (x : Scripts) (m : Machine) (p : Plain) (reader : List ℕ)
     : Type 0 where
   pub given : SameGiven (dispatch bytes minute x m reader) (plainDispatch bytes minute x p reader)
@@ -177,11 +177,11 @@ module _ (bytes : List ℕ) (minute : ℕ) (x : Scripts) (m : Machine) (p : Plai
     pub answers : AnsweredInRounds (callsReplies (work .made) m)
     -- "so at most 36 commits for eight" [R-13.5]; 01: "at most n(n+1)/2" [R-13.5].
     pub few : 2 * work .commits ≤ x .count * (x .count + 1)
-    -- On the plain machine too.
+    -- On the reference model too.
     pub plainToo : PlainToo bytes minute x m p reader
     -- "The committed files, offsets and lengths after it are those of the granted scripts alone in grant
-    -- order" [R-13.7]: demand 3 of that list of calls, from what the dispatcher found (F-11: "the serial
-    -- order runs with Fresh's windows" [R-18.6]), whatever that holds to take back.
+    -- order" [R-13.7]: Serializability of that list of calls, from what the dispatcher found (F-11: "the
+    -- serial order runs with Fresh's windows" [R-18.6]), whatever that has to undo.
     pub serial : Holds theStore m p (work .made) (callsAfter (work .made) m) (plainAfter (work .made) p)
     pub start : serialOf (work .made) p .start ≡ plainWithWindows freshWindows p
     -- Its grants are the scripts that were granted, each once, at the minute and with all its calls.
@@ -191,11 +191,11 @@ module _ (bytes : List ℕ) (minute : ℕ) (x : Scripts) (m : Machine) (p : Plai
     pub closed :
         (t : ℕ) → t ≤ lastTransaction → transaction (callsAfter (work .made) m .store) t .begun ≡ false
 
--- The plain machine of a store with nothing open.
+-- The reference model of a store with nothing open.
 abbrev pub plainOf : Machine → Plain
 plainOf m = startPlain (fileOf (m .store)) (values (m .store) (m .files)) (windowAt (m .store)) (earlierIn m)
 
--- On any record and any buffers on which the dispatcher is not refused.
+-- On any state and any buffers on which the dispatcher is not refused.
 abbrev pub DispatchHolds : Type 0
 DispatchHolds =
     (state files logs marks undo : List ℕ) (bytes : List ℕ) (minute : ℕ) (x : Scripts) (reader : List ℕ)
@@ -208,7 +208,7 @@ DispatchHoldsAtRest =
     (m : Machine) → AtRest m → (bytes : List ℕ) (minute : ℕ) (x : Scripts) (reader : List ℕ)
     → scriptsIn (length bytes) x ≡ true → Dispatches bytes minute x m (plainOf m) reader
 
--- "counted commits in the dispatcher's result .. stay at most n(n+1)/2" [R-13.5]: on any record and any
+-- "counted commits in the dispatcher's result .. stay at most n(n+1)/2" [R-13.5]: on any state and any
 -- buffers.
 abbrev pub FewCommits : Type 0
 FewCommits =

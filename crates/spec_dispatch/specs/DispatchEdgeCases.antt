@@ -1,4 +1,4 @@
--- Corners of F-10's text on the plain machine, from Fresh: what the dispatcher gives.
+-- Edge cases of F-10's text on the reference model, from Fresh: what the dispatcher gives.
 use mathlib.Core.List.{List, [], _∷_, _++_}
 use mathlib.Core.Path.{_≡_}
 use lib.ListN.{length, getD, replicate}
@@ -60,8 +60,8 @@ unfoldable pub readsOwn : ℕ → List ScriptCall
 readsOwn i = seeks i 0 ∷ writes i i 1 ∷ seeks i 0 ∷ reads i 1 ∷ []
 
 pub record DispatchEdgeCases : Type 0 where
-  -- "Every script is over within as many rounds as there are scripts" [R-13.5]: n that all look at what each
-  -- sets take n rounds.
+  -- "Every script is over within as many rounds as there are scripts" [R-13.5]: n scripts that all read what
+  -- each sets take n rounds.
   pub one : expected [] 0 (appends 0 ∷ []) ≡ givesEnds 0 (passed ∷ []) 1 reader
   pub two : expected [] 0 (appends 0 ∷ appends 1 ∷ []) ≡ givesEnds 0 (passed ∷ passed ∷ []) 3 reader
   pub three : expected [] 0 (appends 0 ∷ appends 1 ∷ appends 2 ∷ [])
@@ -80,7 +80,7 @@ pub record DispatchEdgeCases : Type 0 where
   -- .. "aborting it if still open" [R-13.4]: its write does not land.
   pub aborted : bytesLeft ((writes 0 1 1 ∷ asks 16 ∷ []) ∷ appends 0 ∷ []) 2 ≡ A ∷ 0 ∷ []
   -- "aborting it if still open" [R-13.4]: after a script that fails nothing is open, and the last grant can
-  -- be taken back.
+  -- be undone.
   pub nothingOpen :
       let x = scriptList ((asks 16 ∷ []) ∷ appends 0 ∷ []) in
       let p = plainDispatch bytes 0 x freshNumbered reader .after in
@@ -122,14 +122,14 @@ pub record DispatchEdgeCases : Type 0 where
   pub part : expected [] 0 ((writes 0 1 2 ∷ writes 0 3 0 ∷ []) ∷ []) ≡ givesEnds 0 (passed ∷ []) 1 reader
   pub past : expected [] 0 ((writes 0 2 2 ∷ []) ∷ []) ≡ givesEnds 20 (unfinished ∷ []) 0 reader
   pub pastEmpty : expected [] 0 ((asks 16 ∷ writes 0 4 0 ∷ []) ∷ []) ≡ givesEnds 20 (unfinished ∷ []) 0 reader
-  -- Neither a call beyond a script's count nor a script beyond the number of scripts is looked at: here calls
-  -- that would not pass 20, in scripts that would not either.
+  -- Neither a call beyond a script's count nor a script beyond the number of scripts is read: here calls that
+  -- would not pass 20, in scripts that would not either.
   pub beyond :
       let s : ℕ → Script = λ k. record { count = 17 * k; call = λ i. writes 0 4 0 } in
       let x : Scripts = record { count = 1; script = s } in
       let r = plainDispatch bytes 0 x freshNumbered reader in
       (r .refusal ≡ 0) × (r .ends 0 ≡ passed) × (r .commits ≡ 1)
-  -- F-13: the grant that is taken back is its last one.
+  -- F-13: the grant that is undone is its last one.
   pub takenBack :
       let p = plainDispatch bytes 0 (scriptList (appends 0 ∷ appends 1 ∷ [])) freshNumbered reader .after in
       (plainCall undoCommit p .reply ≡ says doneAnswer)

@@ -1,4 +1,4 @@
--- The rounds, over any machine that replies to calls; and on the store and the plain machine, with the
+-- The rounds, over any machine that replies to calls; and on the store and the reference model, with the
 -- statements.
 pub mod Rounds
 pub mod Dispatch

@@ -22,7 +22,7 @@ pub data ScriptCall : Type 0 where
   reads : ℕ → ℕ → ScriptCall
 
 -- "up to 8 scripts of up to 16 calls" [R-13.1]: a count beside the calls, and a count beside the scripts.
--- What stands beyond a count is never looked at.
+-- What stands beyond a count is never read.
 pub record Script : Type 0 where
   pub count : ℕ
   pub call : ℕ → ScriptCall
@@ -45,7 +45,7 @@ scriptIn n s = leb (s .count) scriptCalls && below (λ i. partIn n (s .call i)) 
 unfoldable pub scriptsIn : ℕ → Scripts → Bool
 scriptsIn n x = leb (x .count) scriptCount && below (λ k. scriptIn n (x .script k)) (x .count)
 
--- ---- what the dispatcher keeps
+-- ---- the dispatcher's progress
 
 -- How a script stands: "that it was granted or which refusal ended it" [R-13.6], or neither yet.
 pub data End : Type 0 where

@@ -224,7 +224,7 @@ module _ (state files logs marks undo : List ℕ) (t : ℕ) (x : Transaction) (c
     abbrev ss : List Setting
     ss = allSet s (journalOf state) files logs t
 
-    -- What is held, and the store with it.
+    -- What is saved of the grant, and the store with it.
     abbrev held : Undo
     held = record { held = true; used = x .used; offsets = s .offsets; lengths = s .lengths }
 

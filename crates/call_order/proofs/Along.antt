@@ -1,4 +1,4 @@
--- Commits of an order on the store without its buffers: each is decided by the table of the start.
+-- Commits of an order on the abstract store: each is decided by the table of the start.
 use mathlib.Core.Bool.{Bool, true, false, cond, not, _||_, true≢false}
 use mathlib.Core.List.{List, [], _∷_, _++_, map}
 use mathlib.Core.Logic.{_↔_}

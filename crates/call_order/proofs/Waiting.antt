@@ -220,7 +220,7 @@ backed-step fileOf (read d n buffer) x b =
     (ever-then AfterSettling AfterStep (settling (settledByRead fileOf d x) x) _ (backed-settling (settledByRead fileOf d x) x b)
     (given-back _ (λ y h. backed-read fileOf d n buffer y h))))
 
--- ---- the store without its buffers
+-- ---- the abstract store
 
 abbrev BackedSeat : Seat → Type 0
 BackedSeat vacant = Unit {0}

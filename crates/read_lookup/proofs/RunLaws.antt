@@ -396,7 +396,7 @@ module _ (j : Recorded) (log : List ℕ) (t f p : ℕ) where
       pick true = refl
       pick false = refl
 
--- What the walk finds is the latest write over the place, where the count is that of the records looked at.
+-- What the walk finds is the latest write over the place, where the count is that of the write records visited.
 pub latest-write : (j : Recorded) (t records f p : ℕ) (found : Supplier) (looked : ℕ) → found ≡ supplier j t records f p
     → ((k : ℕ) → found ≡ Record k → looked ≡ records - k) → (found ≡ File → looked ≡ records)
     → LatestWrite j t records f p found looked

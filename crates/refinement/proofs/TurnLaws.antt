@@ -1,4 +1,4 @@
--- The rules of a call after each of its tests: turned down, or let through.
+-- The rules of a call after each of its tests: refused, or let through.
 use mathlib.Core.Bool.{Bool, true, false, cond, not}
 use mathlib.Core.List.{List, []}
 use mathlib.Core.Path.{_≡_, refl, sym, ap, _∙_}
@@ -160,7 +160,7 @@ module _ (t : ℕ) (o : Op) (m : Machine) (passes : admission (sizes m) (m .stor
       let v = values (m .store) (m .files) in
       on-turn ∙ ap (λ (b : Bool). served t o m (asked v program) (cond b (refuse 18) (result v program))) e
 
-  -- One that is not turned back.
+  -- One that is not refused with 18.
   module _ (heard : refusesStale stale o ≡ false) where
     pub on-stepped : call (on t o) m ≡ served t o m (asked (values (m .store) (m .files)) program)
         (result (values (m .store) (m .files)) program)

@@ -28,7 +28,7 @@ pub both : (a b : Bool) → (a && b) ≡ true → (a ≡ true) × (b ≡ true)
 both true b e = (refl, e)
 both false b e = absurd (false≢true e)
 
--- what is written stays kept
+-- what is written leaves the state
 pub kept-flushed : (p r : ReplayProgress) (m : Machine) (out : List ℕ) → Flushed p r → replayStateIn r m out
     ≡ replayStateIn p m out
 kept-flushed p r m out f =

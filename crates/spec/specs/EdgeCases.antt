@@ -186,7 +186,7 @@ expectedKnownOnce =
     ∷ []
 
 -- F-1: "sorted by offset; touching stretches are joined and none is empty" [R-15.1]: 5 and 6, and 7 through
--- 8, are one stretch, 9 is another, and the write of 0 bytes at 12 is none. "16 when the buffer is shorter
+-- 8, are one interval, 9 is another, and the write of 0 bytes at 12 is none. "16 when the buffer is shorter
 -- than the list, last" [R-16.1]: by one byte. "the rest of it is left" [R-15.2]
 unfoldable pub expectedPlaces : List Exchange
 expectedPlaces =
@@ -241,7 +241,7 @@ expectedNothingGivenStale =
     ∷ commits 0 gets says (refused 13)
     ∷ []
 
--- So it does where it ends at an own write.
+-- A Read that ends at an own write sights the length too.
 unfoldable pub expectedOwnEnd : List Exchange
 expectedOwnEnd =
     begins
@@ -375,8 +375,8 @@ pub record EdgeCases (x : Seen) : Type 0 where
       × (sightingsOf (callsOf expectedNeighbour) 0 ≡ sighted (byte 0) 1 ∷ [])
   pub readNone : Goes x expectedReadNone
       × (sightingsOf (callsOf expectedReadNone) 0 ≡ sighted (offset 0) 0 ∷ [])
-  -- Deferred and clean, or Untouched and dirty, sets nothing; 12 at Commit looks at both. Deferred and dirty
-  -- is set.
+  -- Deferred and clean, or Untouched and dirty, sets nothing; 12 at Commit tests both. Deferred and dirty is
+  -- set.
   pub mixtures :
       (settings (λ d. 0) (λ i. 4096) (mixed (Deferred 1) false) ≡ [])
       × (settings (λ d. 0) (λ i. 4096) (mixed Untouched true) ≡ [])

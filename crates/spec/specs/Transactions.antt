@@ -48,7 +48,7 @@ withWrites ws x = record { standing = x .standing; dirty = x .dirty; writes = ws
 abbrev pub withStanding : ℕ → Standing → Txn → Txn
 withStanding d z x = withStandings (put d z (x .standing)) x
 
--- The same after an accepted Seek, Read or Write on d, which makes d dirty.
+-- With another standing for descriptor d after an accepted Seek, Read or Write on d, which makes d dirty.
 abbrev pub dirtied : ℕ → Standing → Txn → Txn
 dirtied d z x = withDirty (put d true (x .dirty)) (withStanding d z x)
 

@@ -63,7 +63,7 @@ module _ (m : Machine) (r : WorkResting m) (bytes : List ℕ) (minute : ℕ) (x 
   short : (k : ℕ) → k < x .count → x .script k .count ≤ 16
   short = sixteen-calls (length bytes) x e
 
-  -- The store without its buffers.
+  -- The abstract store.
   abbrev bare : Abstract
   bare = startAbstract (fileOf (m .store)) (values (m .store) (m .files)) (windowAt (m .store)) (backOf (earlierIn m))
 

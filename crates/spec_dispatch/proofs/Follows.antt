@@ -17,7 +17,7 @@ use Rattle.spec.proofs.Theorems.Serializability.{call-turn, calls-agree}
 use Rattle.spec.proofs.Theorems.Age.{resting-start, earlier-good}
 use Rattle.spec_dispatch.specs.Dispatch.{storeReply, plainReply, plainOf}
 
--- The replies of the store without its buffers.
+-- The replies of the abstract store.
 abbrev pub abstractReply : Abstract → Call → List Call → Reply
 abstractReply s c cs = abstractCall c (abstractAfter cs s) .reply
 

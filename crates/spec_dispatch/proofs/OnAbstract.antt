@@ -1,4 +1,4 @@
--- The laws of rounds on the store without its buffers: nobody is stale before the first Commit of a round.
+-- The laws of rounds on the abstract store: nobody is stale before the first Commit of a round.
 use mathlib.Core.Bool.{Bool, true, false, cond}
 use mathlib.Core.List.{List, [], _∷_, _++_}
 use mathlib.Core.Logic.{_⊎_, inl, inr, ⊎-elim}

@@ -24,8 +24,8 @@ pub data Quiet (k : ℕ) : Call → Type 0 where
   calls-it : (o : Op) → Quiet k (on k o)
   aborts-it : Quiet k (abort k)
 
--- After a list of calls a transaction is shut; or it is open, has been given its first i calls, and no grant came since; or it is
--- open and has been given all. Besides, something is kept of the calls made and the scripts' ends.
+-- After a list of calls a transaction is closed; or it is open, has been given its first i calls, and no grant came since; or it
+-- is open and has been given all. Besides, something holds of the calls made and the scripts' ends.
 pub record Laws (replyTo : Call → List Call → Reply) (bytes : List ℕ) (minute : ℕ) (x : Scripts) : Type 1 where
   pub shut : ℕ → List Call → Type 0
   pub given : ℕ → ℕ → List Call → Type 0

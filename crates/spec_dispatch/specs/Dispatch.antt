@@ -158,8 +158,8 @@ pub record PlainToo (bytes : List ℕ) (minute : ℕ) (x : Scripts) (m : Machine
   pub given : SameGiven (dispatch bytes minute x m reader) (plainDispatch bytes minute x p reader)
   pub work : workOnStore bytes minute x m reader ≡ workOnPlain bytes minute x p reader
 
--- From a store m with nothing open, whose plain machine is p, with scripts that pass 20: what the dispatcher
--- does, and its grants in order.
+-- From a store m with nothing open, whose reference model is p, with scripts that pass 20: what the
+-- dispatcher does, and its grants in order.
 module _ (bytes : List ℕ) (minute : ℕ) (x : Scripts) (m : Machine) (p : Plain) (reader : List ℕ) where
   abbrev pub work : Work
   work = workOnStore bytes minute x m reader

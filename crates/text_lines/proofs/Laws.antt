@@ -12,7 +12,7 @@ use Prim.Native.Nat.{ℕ, suc, _+_, _≤_, _<_}
 use Rattle.text_lines.specs.Lines.{endedLine, grown, lastLine, truncated, completedIn, pendingAfter}
 use Rattle.text_lines.specs.Scans.{NextLine}
 
--- the same lines are found, and the same is held, from two places on
+-- the same lines are found, and the same is pending, from two places on
 abbrev pub Same : ℕ → List ℕ → List ℕ → List ℕ → List ℕ → Type 0
 Same m held piece held′ piece′ = (completedIn m held piece ≡ completedIn m held′ piece′)
     × (pendingAfter m held piece ≡ pendingAfter m held′ piece′)
@@ -45,7 +45,7 @@ pub scan-stopped : (m : ℕ) (held p : List ℕ) (i : ℕ) → i < length p → 
 unfolding NextLine truncated
 scan-stopped m held p i h same = step m true held p i h (eq-eqb (getD p i 0) 10 same)
 
--- a byte joins what is held, or is let go
+-- a byte joins what is pending, or is let go
 module _ (line : List ℕ) (n x : ℕ) (m : ℕ) (l : length line ≡ suc m) where
   pub joins : n < length line → truncated m (take n line ++ (x ∷ [])) ≡ take (n + 1) (set line n x)
   unfolding truncated

@@ -43,7 +43,7 @@ module _ {K : Type 0} (p : LineProgram K) where
   unfolding pendingAfter
   held-in held rest e = ap (pendingAfter (p .most) held) e
 
-  -- a buffer of one byte more holds what is kept of a line
+  -- a buffer of one byte more holds the truncated line
   pub of-room : (n : ℕ) (t : Bool) (held rest line rest′ : List ℕ) → n ≡ suc (p .most) → NextLine (n - 1) t held rest line rest′
       → NextLine (p .most) t held rest line rest′
   of-room n t held rest line rest′ e f =
@@ -85,7 +85,7 @@ module _ {K : Type 0} (p : LineProgram K) where
             (state-append (line ∷ []) ls k ∙ ap (stateAfter p ls) (sym (a .keeps)));
       }
 
-  -- as the code has it: the line is a part of the buffer, and nothing is held after it
+  -- as the code has it: the line is a part of the buffer, and nothing is pending after it
   pub answer-passes : (t : Bool) (k : K) (held rest line rest′ waiting : List ℕ) → NextLine (p .most) t held rest line rest′ → t
       ≡ true
       → (given : List ℕ) → given ≡ line → (k′ : K) (waiting′ : List ℕ) → Answered p (given ∷ []) k waiting k′ waiting′
@@ -117,7 +117,7 @@ module _ {K : Type 0} (p : LineProgram K) where
       []) e
       ∙ ap (λ (r : List ℕ). within (u .kept) (u .held) r) (sym e)
 
-  -- as the code has it: what is held and the rest of the piece are parts of buffers
+  -- as the code has it: what is pending and the rest of the piece are parts of buffers
   pub end-same : (k k′ : K) (line piece : List ℕ) (h h′ a a′ : ℕ) → k′ ≡ k → h′ ≡ h → a′ ≡ a
       → atEnd p (within k (take h line) (drop a piece)) ≡ atEnd p (within k′ (take h′ line) (drop a′ piece))
   end-same k k′ line piece h h′ a a′ s e f =

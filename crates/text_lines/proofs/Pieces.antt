@@ -39,7 +39,7 @@ pieces-lines m held (p ∷ ps) =
     ∙ sym (ap₂ (λ (a : List (List ℕ)) (b : List ℕ). a ++ lastLine b) (ended-append m held p (joinedPieces ps))
     (held-append m held p (joinedPieces ps)))
 
--- ---- what is kept of a line
+-- ---- truncated lines
 
 take-again : (n : ℕ) (h s : List ℕ) → take n (take n h ++ s) ≡ take n (h ++ s)
 take-again zero h s = refl

@@ -106,7 +106,7 @@ module _ {K : Type 0} (p : LineProgram K) where
       let h = pendingAfter (p .most) held q in
       state-append p ls (fromPieces (p .most) h ps) k ∙ through-lines (stateAfter p ls k) h ps
 
-  -- ---- each program that takes what is kept of a line as the whole line
+  -- ---- each program that takes a truncated line as the whole line
 
   module _ (enough : TruncatedIsEnough p) where
     text-of-kept : (ls : List (List ℕ)) (k : K) → transcript p (map (truncated (p .most)) ls) k ≡ transcript p ls k

@@ -1,4 +1,4 @@
--- What is kept of a line does what the whole line does, and nothing comes of the lines after another version.
+-- A truncated line does what the whole line does, and nothing comes of the lines after another version.
 use mathlib.Core.Bool.{Bool, true, false, cond}
 use mathlib.Core.List.{List, [], _∷_, _++_}
 use mathlib.Core.Path.{_≡_, refl, sym, ap, _∙_}

@@ -1,4 +1,4 @@
--- What is kept of a line is answered as the whole line. Assumes nothing.
+-- A truncated line is answered as the whole line. Assumes nothing.
 use mathlib.Core.Bool.{Bool, true, false, cond}
 use mathlib.Core.List.{List}
 use mathlib.Core.Path.{_≡_, refl, sym, ap, _∙_}

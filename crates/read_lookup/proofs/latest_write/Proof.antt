@@ -1,5 +1,5 @@
--- `read_lookup::latest_write` meets its contract. The loop's invariant: so many records are left to look at, and their data end
--- where those of the ones looked at start. Assumes nothing.
+-- `read_lookup::latest_write` meets its contract. The loop's invariant: so many write records are left to visit, and their data
+-- end where those of the visited ones start. Assumes nothing.
 use mathlib.Core.Bool.{true}
 use mathlib.Core.Path.{_≡_, refl, sym, ap, _∙_, subst}
 use Prim.Native.Nat.{ℕ, suc, _+_, _-_, _≤_, _<_}
@@ -42,7 +42,7 @@ loop-holds c =
       walked-none (lent s) (s .args .t) (s .args .used .records) (s .args .e) (s .pre .1),
     )
 
--- A turn of the loop: the record looked at is the newest of those left.
+-- A turn of the loop: the write record visited is the newest of those left.
 abbrev start-of : tie.In-loop Inv-loop μ-loop → tie.Start Inv-loop μ-loop
 start-of c = c .before .before .before
 

@@ -47,7 +47,7 @@ pub record Abstract : Type 0 where
 unfoldable pub startAbstract : (ℕ → ℕ) → Values → Windows → Saved → Abstract
 startAbstract fileOf v windows back = record { fileOf = fileOf; value = v; windows = windows; back = back; seats = λ t. vacant }
 
--- A byte is sighted where it is marked, an offset where its descriptor stands Known, and a length where it is held so.
+-- A byte is sighted where it is marked, an offset where its descriptor stands Known, and a length where its bit is set.
 unfoldable pub abstractSighted : UndoSaved → Item → Bool
 abstractSighted h (byte q) = h .marked q
 abstractSighted h (offset d) = isKnown (h .txn .standing d)

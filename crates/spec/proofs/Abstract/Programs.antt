@@ -58,7 +58,7 @@ module _ {A : Type 0} (P : A → Type 0) where
   every-right [] ys h = h
   every-right (x ∷ xs) ys h = every-right xs ys (h .1)
 
--- What holds of a refusal 18, and of the step where it is not turned back.
+-- What holds of a refusal 18, and of the step where it does not come.
 pub refused-stale :
     (P : Stepped → Type 0) (stale : Bool) (o : Op) (s : Stepped)
     → P (refuse 18)
@@ -71,7 +71,7 @@ refused-stale P stale o s h k = chosen (refusesStale stale o) k
     chosen true k = h
     chosen false k = k refl
 
--- A step of one that is not stale is never turned back.
+-- A step of one that is not stale is never refused with 18.
 pub not-stale : (stale : Bool) (o : Op) → stale ≡ false → refusesStale stale o ≡ false
 unfolding refusesStale
 not-stale stale o e = rw (e, and-false (isReadCall o))

@@ -1,4 +1,4 @@
--- "No condition reads the store's age": a store at rest stands for the same store without buffers as a young one with its files,
+-- "No condition reads the store's age": a store at rest stands for the same abstract store as a young one with its files,
 -- offsets, lengths and windows, so both answer alike.
 use mathlib.Core.Bool.{Bool, true, false, cond, true≢false}
 use mathlib.Core.List.{List, [], _∷_}
@@ -115,7 +115,7 @@ module _ (m : Machine) (s : Sound m) (logs : List ℕ) (size : length logs ≡ 3
       each (offset d) = unfold values in refl
       each (fileLength f) = unfold values in refl
 
--- Two sound stores that stand for the same store without buffers answer alike.
+-- Two sound stores that stand for the same abstract store answer alike.
 alike : (m n : Machine) → Sound m → Sound n → view m ≡ view n → (cs : List Call) → Alike cs m n
 unfolding view
 alike m n s t e cs =

@@ -44,7 +44,7 @@ abbrev pub Right : Stepped → Type 0
 Right (refuse n) = Later n
 Right (accept y a b) = IsAnswer a
 
--- What a step gives where it is not turned back: a refusal is one of 6 to 12.
+-- What a step gives where it is not refused with 18: a refusal is one of 6 to 12.
 abbrev pub OfStep : ℕ → Type 0
 OfStep n = (6 ≤ n) × (n ≤ 12)
 
@@ -127,7 +127,7 @@ of-steps (read d n buffer) = (of-step 6 refl, of-step 7 refl, of-step 12 refl)
 pub plain-step : (fileOf : ℕ → ℕ) (o : Op) (x : Txn) (v : Values) → Plainly (result v (step fileOf o x))
 plain-step fileOf o x v = ends-so OfStep fileOf o x v (of-steps o)
 
--- .. turned back or not.
+-- What a step gives, refused with 18 or not.
 pub right-step : (fileOf : ℕ → ℕ) (o : Op) (x : Txn) (v : Values) (stale : Bool)
     → Right (refusedStale stale o (result v (step fileOf o x)))
 right-step fileOf o x v stale =

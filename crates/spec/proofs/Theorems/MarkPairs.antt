@@ -1,4 +1,4 @@
--- F-9: stores whose marks name the same pairs stand for the same store without buffers, so both answer alike.
+-- F-9: stores whose marks name the same pairs stand for the same abstract store, so both answer alike.
 use mathlib.Core.Bool.{Bool, true, false, cond, _&&_}
 use mathlib.Core.List.{List}
 use mathlib.Core.Path.{_≡_, refl, sym, ap, _∙_, fun-ext}

@@ -1,4 +1,4 @@
--- A store that went down and came back stands for the same store without buffers as one on which every transaction was aborted.
+-- A store that went down and came back stands for the same abstract store as one on which every transaction was aborted.
 use mathlib.Core.Bool.{Bool, true, false, cond, true≢false}
 use mathlib.Core.List.{List, [], _∷_, _++_}
 use mathlib.Core.Logic.{_⊎_, inl, inr}
@@ -194,7 +194,7 @@ module _ (m : Machine) where
 
 -- ---- runs
 
--- Two sound stores that stand for the same store without buffers.
+-- Two sound stores that stand for the same abstract store.
 pub record Twins (m n : Machine) : Type 0 where
   pub first : Sound m
   pub second : Sound n

@@ -48,7 +48,7 @@ use Rattle.spec.proofs.Refinement.FreshView.{fresh-sound, fresh-view, c
 use Rattle.spec.proofs.Theorems.Answers.{answer-not-refused}
 use Rattle.spec.proofs.Theorems.Ranges.{never-early}
 
--- Every call agrees with that of the store without its buffers.
+-- Every call agrees with that of the abstract store.
 pub call-turn : (c : Call) (m : Machine) → Sound m → Agrees (call c m) (abstractCall c (view m))
 call-turn (begin t) m s = begin-turn m t s
 call-turn (on t o) m s = step-turn m t o s

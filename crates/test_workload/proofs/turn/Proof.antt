@@ -1,4 +1,4 @@
--- `turn` meets its contract: what is kept stays in its ranges.
+-- `turn` meets its contract: the progress stays in its ranges.
 use borrow.Author.Needs.{needs}
 use Rattle.test_workload.proofs.turn.Statement.{statement}
 use Rattle.test_workload.proofs.turn.Tie as tie

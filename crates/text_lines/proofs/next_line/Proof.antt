@@ -1,5 +1,5 @@
--- `next` meets its contract. The loop's invariant: the lines from i on, with the bytes held now, are those from the start, with
--- the bytes held then. Assumes nothing.
+-- `next` meets its contract. The loop's invariant: the lines from i on, with the bytes pending now, are those from the start,
+-- with the bytes pending then. Assumes nothing.
 use mathlib.Core.Path.{_≡_, refl, sym, ap, _∙_}
 use mathlib.Core.Bool.{false≢true}
 use mathlib.Core.List.{List}

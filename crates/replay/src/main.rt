@@ -18,6 +18,9 @@ use text_replay::answering::UndoLog;
 use text_replay::answering::WRITTEN;
 use text_replay_pieces::last_line;
 use text_replay_pieces::replay_piece;
+use text_stdio::lines_more;
+use text_stdio::read_piece;
+use text_stdio::write_out;
 ghost use mathlib.Core.Path.{_≡_};
 ghost use mathlib.Core.Bool.{true, false};
 ghost use mathlib.Core.List.{[]};
@@ -40,8 +43,8 @@ fn flush(mut p: ReplayProgress, out: &[u8]) -> ReplayProgress
     ensures { λ r. ⌜ Flushed p r ⌝ }
 {
     let n = p.waiting;
-    let done = stdio::write_out(part(out, 0, n));
-    p.written = stdio::lines_more(part(out, 0, done), p.written);
+    let done = write_out(part(out, 0, n));
+    p.written = lines_more(part(out, 0, done), p.written);
     p.waiting = 0;
     if done < n {
         p.goes = false;
@@ -123,7 +126,7 @@ fn turn(
         (replayStateIn r (handedBack state files logs marks undo) (now (out .exit)))) ⌝ }
 {
     p.complete = false;
-    let got = stdio::read_piece(input);
+    let got = read_piece(input);
     if got > 0 {
         let n = io::count(got, input);
         let mut q = take_piece(

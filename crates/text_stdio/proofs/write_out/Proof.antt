@@ -2,8 +2,8 @@
 use lib.ListN.{length}
 use Prim.Native.Nat.{_≤_}
 use borrow.Author.Needs.{needs}
-use Rattle.replay.proofs.stdio.write_out.Statement.{statement}
-use Rattle.replay.proofs.stdio.write_out.Tie as tie
+use Rattle.text_stdio.proofs.write_out.Statement.{statement}
+use Rattle.text_stdio.proofs.write_out.Tie as tie
 
 abbrev Inv-loop : tie.InvT-loop
 Inv-loop bytes done₀ tries₀ done tries = done ≤ length bytes

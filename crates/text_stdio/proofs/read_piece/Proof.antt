@@ -2,8 +2,8 @@
 use mathlib.Core.Path.{_≡_}
 use lib.ListN.{length}
 use borrow.Author.Needs.{needs}
-use Rattle.trace.proofs.stdio.read_piece.Statement.{statement}
-use Rattle.trace.proofs.stdio.read_piece.Tie as tie
+use Rattle.text_stdio.proofs.read_piece.Statement.{statement}
+use Rattle.text_stdio.proofs.read_piece.Tie as tie
 
 abbrev Inv-loop : tie.InvT-loop
 Inv-loop input₀ tries₀ input tries = length input ≡ length input₀

@@ -2,8 +2,8 @@
 use lib.ListN.{length}
 use Prim.Native.Nat.{_-_, _≤_}
 use borrow.Author.Needs.{needs}
-use Rattle.trace.proofs.stdio.lines_more.Statement.{statement}
-use Rattle.trace.proofs.stdio.lines_more.Tie as tie
+use Rattle.text_stdio.proofs.lines_more.Statement.{statement}
+use Rattle.text_stdio.proofs.lines_more.Tie as tie
 
 abbrev Inv-loop : tie.InvT-loop
 Inv-loop bytes n lines₀ i₀ lines i = i ≤ length bytes

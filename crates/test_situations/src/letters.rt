@@ -1,8 +1,6 @@
 // The twelve situations, each under its words in paper 01, as the requests of paper 02 have changed them: a
 // commit answers the octet of those that it made stale, beside which their number is tested; both commits of
 // j pass; in d, e and k a first commit fills file 0 with zeros.
-use crate::script::Buffer;
-use crate::script::UndoLog;
 use crate::script::run_lines;
 use crate::script::sighted_alone;
 use crate::script::stands;
@@ -10,6 +8,8 @@ use crate::script::start;
 use crate::script::start_filled;
 use limits::FILE_END;
 use state::layout::State;
+use store::Buffer;
+use store::UndoLog;
 
 // T0 writes AB, T1 writes CD, both on 0. Commit T1, T0: both answer 0. File 0 begins CDAB, offset 4.
 pub fn a(

@@ -3,10 +3,10 @@
 use libc::STDOUT_FILENO;
 use limits::BUFFER_BYTES;
 use limits::FILE_BYTES;
-use script::Buffer;
-use script::UndoLog;
 use state::layout::STATE_LEN;
 use state::layout::State;
+use store::Buffer;
+use store::UndoLog;
 
 mod letters;
 mod script;

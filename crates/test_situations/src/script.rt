@@ -8,14 +8,11 @@ use state::layout::State;
 use state::layout::offset_at;
 use state::layout::standing_at;
 use state::outcomes::Outcome;
+use store::Buffer;
+use store::UndoLog;
 use text_trace::Parsed;
 ghost use Prim.Native.Nat.{_≤_};
 ghost use lib.ListN.{length};
-
-// A store buffer, and the undo log.
-pub type Buffer = [u8; BUFFER_BYTES];
-
-pub type UndoLog = [u8; FILE_BYTES];
 
 // Where the line ends that starts at `from`: at its byte 10, or at the end of the text.
 fn line_end(text: &[u8], from: usize) -> usize

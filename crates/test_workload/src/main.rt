@@ -6,6 +6,8 @@ use limits::BUFFER_BYTES;
 use limits::FILE_BYTES;
 use state::layout::STATE_LEN;
 use state::layout::State;
+use store::Buffer;
+use store::UndoLog;
 use test_calls::Generated;
 use test_digest::digest;
 use test_digest::outcomes;
@@ -16,11 +18,6 @@ ghost use Rattle.test_digest.specs.Bounds.{Digest};
 ghost use Rattle.test_workload.specs.Bounds.{WorkloadBound};
 
 const CALLS: usize = 300000;
-
-// A store buffer, and the undo log.
-type Buffer = [u8; BUFFER_BYTES];
-
-type UndoLog = [u8; FILE_BYTES];
 
 // What a run carries from call to call, beside the store.
 struct WorkloadProgress {

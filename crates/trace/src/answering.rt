@@ -1,10 +1,10 @@
 // Answers the lines of a piece of input. Answers are pending in the output buffer until they are written.
 use buffers::parts::part;
-use limits::BUFFER_BYTES;
-use limits::UNDO_BYTES;
 use state::layout::State;
 use state::outcomes::Outcome;
 use state::outcomes::Refusal;
+use store::Buffer;
+use store::UndoLog;
 use text_trace::Parsed;
 ghost use mathlib.Core.Path.{_≡_};
 ghost use mathlib.Core.List.{_∷_, []};
@@ -19,11 +19,6 @@ ghost use Rattle.trace.specs.Bounds.{TraceProgressIn, TraceOnward, Trace
 
 // Output is written when more than this is pending, so that the longest line still fits behind it.
 const MOST: usize = 57000;
-
-// A store buffer, and the undo log.
-pub type Buffer = [u8; BUFFER_BYTES];
-
-pub type UndoLog = [u8; UNDO_BYTES];
 
 // The progress of a run, beside the store: how many bytes of the current line are pending, the place in the
 // piece, how many bytes of output are pending, and how many lines of it were written; whether a line of

@@ -4,9 +4,7 @@
 mod answering;
 mod stdio;
 
-use answering::Buffer;
 use answering::TraceProgress;
-use answering::UndoLog;
 use answering::fill;
 use answering::last_line;
 use buffers::parts::part;
@@ -14,6 +12,8 @@ use limits::BUFFER_BYTES;
 use limits::UNDO_BYTES;
 use state::layout::STATE_LEN;
 use state::layout::State;
+use store::Buffer;
+use store::UndoLog;
 use text_stdio::lines_more;
 use text_stdio::read_piece;
 use text_stdio::write_out;

@@ -9,6 +9,7 @@ use lib.Seq.{drop-cons, getD-at, getD-set-same, getD-set-other}
 use borrow.Author.Tests.{eqb-true, eqb-false, eq-eqb}
 use native.Mathlib.Omega.{arith}
 use Prim.Native.Nat.{ℕ, zero, suc, _+_, _<_}
+use Rattle.limits.specs.Limits.{bufferBytes, transactionCount}
 use Rattle.windows.specs.Windows.{minuteIn}
 use Rattle.buffers.specs.Bits.{bitsOf, countOf}
 use Rattle.buffers.specs.Parts.{pasted, tabulate}
@@ -88,7 +89,8 @@ module _ (t minute : ℕ) (m : Machine) where
 
 -- ---- a stale transaction ends
 
-pub stale-follows : (state files logs marks undo after unmarked : List ℕ) (t : ℕ) (w : Turn) → length state ≡ stateLength → t < 8
+pub stale-follows : (state files logs marks undo after unmarked : List ℕ) (t : ℕ) (w : Turn) → length state ≡ stateLength
+    → t < transactionCount
     → w ≡ record {
       reply = record { answer = refused 13; buffer = [] };
       after = reset t ended (machineOf state files logs marks undo);
@@ -120,7 +122,7 @@ abbrev pub staleFirst : ℕ → List ℕ → ℕ → StoreMeaning
 staleFirst octet state n = withTransactions (filled (staleIn octet (storeOf state)) (storeOf state .transactions) n)
     (storeOf state)
 
-module _ (octet : ℕ) (before state : List ℕ) (u : ℕ) (few : u < 8) where
+module _ (octet : ℕ) (before state : List ℕ) (u : ℕ) (few : u < transactionCount) where
   module _ (so : Means before state (staleFirst octet before u)) where
     pub stale-put : contains octet u ≡ true → (after : List ℕ) → after ≡ withStaleAt state u
         → Means before after (staleFirst octet before (u + 1))
@@ -172,11 +174,12 @@ rewritten y b z e = pick b z (ap (λ (w : Bool). withStale w y) e)
     pick false true k = k
     pick false false k = k
 
-module _ (m : Machine) (ss : List Setting) (t octet : ℕ) (small : t < 8) (eight : length (m .store .transactions) ≡ 8)
-    (says : octet ≡ bitsOf (madeStale t ss m) 8)
+module _ (m : Machine) (ss : List Setting) (t octet : ℕ) (small : t < transactionCount)
+    (eight : length (m .store .transactions) ≡ transactionCount)
+    (says : octet ≡ bitsOf (madeStale t ss m) transactionCount)
   where
     -- Transaction u, once t has ended and those of the octet are stale.
-    after-same : (u : ℕ) → u < 8 → let y = getD (set (m .store .transactions) t ended) u noTransaction in
+    after-same : (u : ℕ) → u < transactionCount → let y = getD (set (m .store .transactions) t ended) u noTransaction in
         cond (contains octet u) (withStale true y) y ≡ afterCommit t ss m u
     unfolding afterCommit
     after-same u l =
@@ -206,7 +209,7 @@ module _ (m : Machine) (ss : List Setting) (t octet : ℕ) (small : t < 8) (eigh
 
 -- What the grant leaves, part by part.
 module _ (state files logs marks undo : List ℕ) (t : ℕ) (x : Transaction) (can : CanGrant state files logs marks undo t x)
-    (octet : ℕ) (says : (files logs undo : List ℕ) → length logs ≡ 32768 → octet
+    (octet : ℕ) (says : (files logs undo : List ℕ) → length logs ≡ bufferBytes → octet
     ≡ staleBy (machineOf state files logs marks undo) t)
     (lengths : List ℕ) (lengthsAre : lengths ≡ lengthsLandedIn state t (x .used .records))
     (holding : List ℕ) (holds : GrantPreserved state holding t (x .used))
@@ -341,7 +344,7 @@ module _ (t : ℕ) (m : Machine) (n : ℕ) where
       → commitDecided t (txnOf (m .store) (m .journal) (m .logs) t) (settingsOf m t) m
       (commitRefusal daily stale closed placed) .reply .answer
       ≡ granted n
-      → n ≡ bitsOf became 8
+      → n ≡ bitsOf became transactionCount
   unfolding commitDecided commitRefusal commitGranted
   decided-octet false stale closed placed e = absurd (not-granted 22 n e)
   decided-octet true true closed placed e = absurd (not-granted 13 n e)
@@ -349,7 +352,8 @@ module _ (t : ℕ) (m : Machine) (n : ℕ) where
   decided-octet true false false false e = absurd (not-granted 12 n e)
   decided-octet true false false true e = cc
 
-  passing-octet : (minute k : ℕ) → passing k [] m (commitTurn t minute m) .reply .answer ≡ granted n → n ≡ bitsOf became 8
+  passing-octet : (minute k : ℕ) → passing k [] m (commitTurn t minute m) .reply .answer ≡ granted n
+      → n ≡ bitsOf became transactionCount
   unfolding passing refuseTurn commitTurn
   passing-octet minute zero e = decided-octet (minuteIn minute) (transaction (m .store) t .stale) _ _ e
   passing-octet minute (suc k) e = absurd (not-granted (suc k) n e)

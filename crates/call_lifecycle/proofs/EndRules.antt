@@ -5,6 +5,7 @@ use mathlib.Core.Path.{_≡_, refl, sym, ap, _∙_}
 use lib.ListN.{length}
 use native.Mathlib.Omega.{arith}
 use Prim.Native.Nat.{ℕ, _+_, _<_}
+use Rattle.limits.specs.Limits.{transactionCount}
 use Rattle.buffers.specs.Parts.{tabulate}
 use Rattle.buffers.proofs.TableLaws.{length-tabulate}
 use Rattle.state.specs.declared.Transaction.{Transaction}
@@ -26,7 +27,7 @@ module _ (before : List ℕ) where
   abbrev with-first : List Transaction → StoreMeaning
   with-first xs = withTransactions xs (storeOf before)
 
-  eight : length (storeOf before .transactions) ≡ 8
+  eight : length (storeOf before .transactions) ≡ transactionCount
   unfolding storeOf
   eight = length-tabulate (transactionOf before) 8
 

@@ -5,6 +5,8 @@ use mathlib.Core.Path.{_≡_, sym, ap, _∙_}
 use lib.ListN.{length, getD, replicate, length-replicate, getD-replicate, List·getD-eq-default}
 use native.Mathlib.Omega.{arith}
 use Prim.Native.Nat.{ℕ, _<_}
+use Rattle.state.specs.Journal.{journalLength}
+use Rattle.limits.specs.Limits.{descriptorCount}
 use Rattle.buffers.specs.Parts.{tabulate}
 use Rattle.buffers.proofs.PartLaws.{le-or-lt}
 use Rattle.buffers.proofs.TableLaws.{table-same}
@@ -40,14 +42,14 @@ zero-anywhere k = ⊎-elim (λ h. List·getD-eq-default (zeros stateLength) 0 {n
 listed : (l : List ℕ) (n : ℕ) → length l ≡ n → tabulate (λ k. getD l k 0) n ≡ l
 listed l n e = ap (λ (m : ℕ). tabulate (λ k. getD l k 0) m) (sym e) ∙ tabulate-getD l 0
 
-journal-of-zeros : journalOf (zeros stateLength) ≡ zeros 1728
+journal-of-zeros : journalOf (zeros stateLength) ≡ zeros journalLength
 unfolding journalOf
 journal-of-zeros =
     table-same (λ k. getD (zeros stateLength) k 0) (λ k. getD (zeros 1728) k 0) 1728
     (λ k h. zero-at stateLength k (omega arith) ∙ sym (zero-at 1728 k h))
     ∙ listed (zeros 1728) 1728 (length-zeros 1728)
 
-module _ (numbers : List ℕ) (sixteen : length numbers ≡ 16) where
+module _ (numbers : List ℕ) (sixteen : length numbers ≡ descriptorCount) where
   abbrev numbered : List ℕ
   numbered = withFileNumbersAt (zeros stateLength) (λ d. getD numbers d 0) 16
 
@@ -58,7 +60,7 @@ module _ (numbers : List ℕ) (sixteen : length numbers ≡ 16) where
       ∙ ap (filed (tabulate (λ d. getD numbers d 0) 16)) (store-of-zeros (zeros stateLength) zero-anywhere)
       ∙ ap (λ (l : List ℕ). filed l (freshStore [])) (listed numbers 16 sixteen)
 
-  fresh-journal : journalOf numbered ≡ zeros 1728
+  fresh-journal : journalOf numbered ≡ zeros journalLength
   fresh-journal = journal-with-files (zeros stateLength) (length-zeros stateLength) (λ d. getD numbers d 0) 16 ∙ journal-of-zeros
 
 -- ---- the rule

@@ -4,6 +4,7 @@ use mathlib.Core.List.{List, []}
 use mathlib.Core.Path.{_≡_, ap, _∙_}
 use lib.ListN.{length}
 use Prim.Native.Nat.{ℕ, _<_}
+use Rattle.limits.specs.Limits.{transactionCount}
 use Rattle.buffers.specs.Marks.{withoutMarks}
 use Rattle.state.specs.declared.outcomes.Outcome.the-variants.{Done}
 use Rattle.state.specs.StoreMeaning.{ended, withBegun}
@@ -15,7 +16,7 @@ use Rattle.spec.specs.Calls.{Turn, answerWith, reset}
 use Rattle.spec.specs.Promises.{Meets, machineOf, LeftAsFound}
 use Rattle.refinement.proofs.TurnLaws.{reset-meets, done-follows}
 
-pub reset-follows : (t : ℕ) (b : Bool) (state files logs marks undo : List ℕ) → length state ≡ stateLength → t < 8
+pub reset-follows : (t : ℕ) (b : Bool) (state files logs marks undo : List ℕ) → length state ≡ stateLength → t < transactionCount
     → (w : Turn) → w ≡ answerWith doneAnswer (reset t (withBegun b ended) (machineOf state files logs marks undo))
     → (after cleared : List ℕ) → after ≡ resetAt state t b → cleared ≡ withoutMarks t marks
     → Meets w Done (machineOf after files logs cleared undo) [] × LeftAsFound Done state after

@@ -7,6 +7,7 @@ use lib.Dec.{leb}
 use lib.ListN.{length, getD}
 use native.Mathlib.Omega.{arith}
 use Prim.Native.Nat.{ℕ, _+_, _≤_, _<_}
+use Rattle.limits.specs.Limits.{fileBytes, transactionCount, lastTransaction, mostOrders}
 use Rattle.windows.specs.Windows.{minuteIn}
 use Rattle.standings.specs.declared.Place.{Place}
 use Rattle.standings.specs.declared.Place.the-variants.{At, After}
@@ -43,7 +44,7 @@ module _ (ok p q : ℕ → Bool) (h : (t : ℕ) → ok t ≡ true → p t ≡ q 
 
 -- ---- the refusals
 
-module _ (state files logs marks undo : List ℕ) (t : ℕ) (small : leb t 7 ≡ true) where
+module _ (state files logs marks undo : List ℕ) (t : ℕ) (small : leb t lastTransaction ≡ true) where
   pub own : transaction (storeOf state) t ≡ transactionOf state t
   own = let l = leb-true t 7 small in transaction-of state t (omega arith)
 
@@ -82,11 +83,11 @@ refusal-is state files logs marks undo ts minute budget =
 
 pub record ListIn (state ts : List ℕ) (minute budget : ℕ) : Type 0 where
   pub list : isList ts ≡ true
-  pub small : allIn (λ t. leb t 7) ts ≡ true
+  pub small : allIn (λ t. leb t lastTransaction) ts ≡ true
   pub begun : allIn (λ t. transactionOf state t .begun) ts ≡ true
   pub daily : minuteIn minute ≡ true
   pub ready : allIn (isReady state) ts ≡ true
-  pub affordable : leb 1 budget && leb budget 40320 ≡ true
+  pub affordable : leb 1 budget && leb budget mostOrders ≡ true
 
 pub list-in : (state ts : List ℕ) (minute budget : ℕ) → listRefusal state ts minute budget ≡ 0 → ListIn state ts minute budget
 unfolding listRefusal
@@ -99,13 +100,13 @@ list-in state ts minute budget e =
     let k = unless-zero (leb 1 budget && leb budget 40320) 27 0 (omega arith) (g .1) in
     record { list = b .0; small = c .0; begun = d .0; daily = f .0; ready = g .0; affordable = k .0 }
 
-pub few-listed : (ts : List ℕ) → isList ts ≡ true → length ts ≤ 8
+pub few-listed : (ts : List ℕ) → isList ts ≡ true → length ts ≤ transactionCount
 unfolding isList
 few-listed ts e = leb-true (length ts) 8 (and-right (leb 1 (length ts)) _ (and-left (leb 1 (length ts) && leb (length ts) 8) _ e))
 
 -- ---- the writes of a member land
 
-placed-in : (c : ℕ) (z : Standing) (p : Place) (n : ℕ) → noPlace p ≡ false → placeIn z p n ≡ true → landsAt c p + n ≤ 4096
+placed-in : (c : ℕ) (z : Standing) (p : Place) (n : ℕ) → noPlace p ≡ false → placeIn z p n ≡ true → landsAt c p + n ≤ fileBytes
 unfolding noPlace placeIn landsAt
 placed-in c z (At p) n e r = leb-true (p + n) 4096 r
 placed-in c z (After a) n e r = absurd (true≢false e)

@@ -8,6 +8,7 @@ use lib.Bits.{bitOr}
 use lib.Dec.{leb, eqb}
 use native.Mathlib.Omega.{arith}
 use Prim.Native.Nat.{ℕ, _+_}
+use Rattle.limits.specs.Limits.{lastTransaction}
 use Rattle.buffers.specs.Marks.{contains}
 use Rattle.buffers.proofs.SetLaws.{contains-or}
 use Rattle.windows.specs.Windows.{minuteIn, Windows}
@@ -37,7 +38,7 @@ use Rattle.call_order.proofs.Offsets.{Holding, fits-same, still-holding
 -- (`ok`) what it is, and its octet.
 module _ (F : ℕ → ℕ) (W : Windows) (minute : ℕ) (v₀ : Values) (h : ℕ → UndoSaved) (row : ℕ → ℕ) (ok : ℕ → Bool)
     (daily : minuteIn minute ≡ true)
-    (small : (t : ℕ) → ok t ≡ true → leb t 7 ≡ true)
+    (small : (t : ℕ) → ok t ≡ true → leb t lastTransaction ≡ true)
     (placed : (t : ℕ) → ok t ≡ true → hasUnplaced (h t .txn .writes) ≡ false)
     (rows : (t u : ℕ) → ok u ≡ true → eqb u t ≡ false → contains (row t) u ≡ hit (settings F v₀ (h t .txn)) (h u)) where
   abbrev state : Values → Saved → (ℕ → Seat) → Abstract

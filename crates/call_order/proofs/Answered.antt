@@ -5,6 +5,7 @@ use mathlib.Core.Path.{_≡_, sym, ap, ap₂, _∙_}
 use lib.Dec.{eqb}
 use lib.ListN.{length}
 use Prim.Native.Nat.{ℕ, _-_, min}
+use Rattle.limits.specs.Limits.{transactionCount}
 use Rattle.buffers.specs.Bits.{bitsOf}
 use Rattle.buffers.specs.Marks.{contains}
 use Rattle.state.specs.Outcomes.{ordered}
@@ -25,7 +26,8 @@ use Rattle.call_order.proofs.BestLaws.{best-same, best-tried-most}
 module _ (state files logs marks undo ts : List ℕ) (minute budget : ℕ)
     (a : Asking (machineOf state files logs marks undo) ts minute budget)
     (listed : ListIn state ts minute budget) (table : List ℕ) (tabled : Tabled (machineOf state files logs marks undo) ts table)
-    (shut : ℕ) (shutIs : shut ≡ bitsOf (λ t. transactionOf state t .begun && hasByteForClosed state logs t minute) 8)
+    (shut : ℕ)
+    (shutIs : shut ≡ bitsOf (λ t. transactionOf state t .begun && hasByteForClosed state logs t minute) transactionCount)
     (placed : Bool) (placedIs : placed ≡ allIn (λ t. not (waitsIn state t)) ts)
     (all : ℕ) (allIs : all ≡ factorial (length ts)) (tried : ℕ) (triedIs : tried ≡ min budget all) where
   abbrev asked : Asked

@@ -8,6 +8,7 @@ use native.Mathlib.Nat.{zero-sub, sub-zero, suc-sub-suc, le-of-suc-le-suc}
 use native.Mathlib.Numerals.{add-one}
 use native.Mathlib.Omega.{arith}
 use Prim.Native.Nat.{ℕ, zero, suc, _+_, _-_, _*_, _/_, _%_, _≤_, _<_}
+use Rattle.limits.specs.Limits.{transactionCount, mostOrders}
 use Rattle.spec_orders.specs.Orders.{without, factorial, orderAt}
 use Rattle.spec_orders.proofs.Members.{length-without}
 
@@ -20,7 +21,7 @@ factorial-suc n = rw (add-one n) (nat-comm (suc n) (factorial n))
     nat-comm : (a b : ℕ) → a * b ≡ b * a
     nat-comm a b = omega arith
 
-pub factorial-most : (n : ℕ) → n ≤ 8 → factorial n ≤ 40320
+pub factorial-most : (n : ℕ) → n ≤ 8 → factorial n ≤ mostOrders
 unfolding factorial
 factorial-most zero l = omega arith
 factorial-most (suc zero) l = omega arith
@@ -42,7 +43,7 @@ drop-zeros (suc n) (suc m) = drop-zeros n m ∙ ap (λ (k : ℕ). replicate {A =
 
 -- The first n numbers of an array, and zeros after them.
 pub padded-front : (n : ℕ) (xs : List ℕ) → n ≤ length xs → drop n xs ≡ replicate (8 - n) 0
-    → xs ≡ take n xs ++ replicate (8 - length (take n xs)) 0
+    → xs ≡ take n xs ++ replicate (transactionCount - length (take n xs)) 0
 padded-front n xs l z =
     sym (take-append-drop n xs)
     ∙ ap (λ (ys : List ℕ). take n xs ++ ys) (z ∙ ap (λ (k : ℕ). replicate (8 - k) 0) (sym (length-take-le n xs l)))

@@ -8,6 +8,7 @@ use lib.Dec.{leb, eqb}
 use lib.ListN.{getD}
 use native.Mathlib.Omega.{arith}
 use Prim.Native.Nat.{ℕ, _+_, _<_}
+use Rattle.limits.specs.Limits.{transactionCount, lastTransaction}
 use Rattle.buffers.specs.Bits.{bitsOf}
 use Rattle.buffers.specs.Marks.{contains}
 use Rattle.buffers.proofs.SetLaws.{contains-bits, contains-or}
@@ -92,7 +93,8 @@ count-same ok p q h (t ∷ ts) e =
 module _ (state files logs marks undo ts : List ℕ) (minute budget : ℕ)
     (a : Asking (machineOf state files logs marks undo) ts minute budget)
     (listed : ListIn state ts minute budget) (table : List ℕ) (tabled : Tabled (machineOf state files logs marks undo) ts table)
-    (shut : ℕ) (shutIs : shut ≡ bitsOf (λ t. transactionOf state t .begun && hasByteForClosed state logs t minute) 8) where
+    (shut : ℕ)
+    (shutIs : shut ≡ bitsOf (λ t. transactionOf state t .begun && hasByteForClosed state logs t minute) transactionCount) where
   abbrev m : Machine
   m = machineOf state files logs marks undo
 
@@ -108,7 +110,7 @@ module _ (state files logs marks undo ts : List ℕ) (minute budget : ℕ)
       (all-by _ ts (λ k l. eq-eqb (row table (getD ts k 0)) _ (tabled k l))))
 
   module _ (t : ℕ) (e : member t ≡ true) where
-    small : leb t 7 ≡ true
+    small : leb t lastTransaction ≡ true
     unfolding member
     small = and-left (leb t 7) _ e
 
@@ -120,7 +122,7 @@ module _ (state files logs marks undo ts : List ℕ) (minute budget : ℕ)
     unfolding member
     row-is = eqb-true (row table t) (staleBy m t) (and-right (transactionOf state t .begun) _ (and-right (leb t 7) _ e))
 
-    below-eight : t < 8
+    below-eight : t < transactionCount
     below-eight = let l = leb-true t 7 small in omega arith
 
     own-is : transaction (storeOf state) t ≡ transactionOf state t

@@ -9,6 +9,7 @@ use lib.ListN.{getD}
 use native.Mathlib.Nat.{eq-or-lt-of-le, le-of-suc-le-suc}
 use native.Mathlib.Omega.{arith}
 use Prim.Native.Nat.{ℕ, zero, suc, _+_, _*_, _≤_, _<_}
+use Rattle.limits.specs.Limits.{descriptorCount}
 use Rattle.buffers.proofs.TableLaws.{getD-tabulate}
 use Rattle.standings.specs.Table.{advance, finalOffset}
 use Rattle.admission.proofs.Laws.{below-same}
@@ -92,7 +93,7 @@ module _ (fileOf : ℕ → ℕ) (v : Values) (d : ℕ) where
             ap (λ (k : ℕ). landed (last k (setsOffset x k)) (landed (offsetSettings v x k) w) (offset d)) (sym e)
             ∙ pick (setsOffset x d)
 
-  commit-offset : (x : Txn) → d < 16 → landed (settings fileOf v x) v (offset d) ≡ final x v
+  commit-offset : (x : Txn) → d < descriptorCount → landed (settings fileOf v x) v (offset d) ≡ final x v
   unfolding settings
   commit-offset x l =
       let bs = byteSettings fileOf v (x .writes) in

@@ -7,6 +7,7 @@ use lib.Bits.{bitOr}
 use lib.ListN.{getD}
 use native.Mathlib.Omega.{arith}
 use Prim.Native.Nat.{ℕ, _+_, _≤_, _<_}
+use Rattle.limits.specs.Limits.{fileBytes, descriptorCount, transactionCount}
 use Rattle.buffers.specs.Marks.{contains}
 use Rattle.buffers.proofs.SetLaws.{contains-or}
 use Rattle.buffers.proofs.TableLaws.{getD-tabulate}
@@ -37,7 +38,7 @@ no-advance (Deferred a) e = absurd (true≢false e)
 no-advance (Moved a o) e = absurd (true≢false e)
 no-advance (Known o) e = refl
 
-final-low : (c : ℕ) (z : Standing) → mayWait z ≡ false → standingIn z ≡ true → c ≤ 4096 → finalOffset c z ≤ 4096
+final-low : (c : ℕ) (z : Standing) → mayWait z ≡ false → standingIn z ≡ true → c ≤ fileBytes → finalOffset c z ≤ fileBytes
 unfolding finalOffset standingIn
 final-low c Untouched e r l = l
 final-low c (Placed o) e r l = leb-true o 4096 r
@@ -48,7 +49,8 @@ final-low c (Known o) e r l = leb-true o 4096 r
 abbrev pub Low : List ℕ → Type 0
 Low offsets = (d : ℕ) → d < 16 → getD offsets d 0 ≤ 4096
 
-module _ (x : Txn) (offsets : List ℕ) (low : Low offsets) (free : (d : ℕ) → d < 16 → mayWait (x .standing d) ≡ false) where
+module _ (x : Txn) (offsets : List ℕ) (low : Low offsets) (free : (d : ℕ) → d < descriptorCount
+    → mayWait (x .standing d) ≡ false) where
   fits-free : fitsAt x offsets ≡ true
   unfolding fitsAt
   fits-free =
@@ -66,25 +68,26 @@ module _ (x : Txn) (offsets : List ℕ) (low : Low offsets) (free : (d : ℕ) �
       l))
       (pick (setsOffset x d))
     where
-      pick : (b : Bool) → cond b (finalOffset (getD offsets d 0) (x .standing d)) (getD offsets d 0) ≤ 4096
+      pick : (b : Bool) → cond b (finalOffset (getD offsets d 0) (x .standing d)) (getD offsets d 0) ≤ fileBytes
       pick true = final-low (getD offsets d 0) (x .standing d) (free d l) (r d) (low d l)
       pick false = low d l
 
 module _ (row : ℕ → ℕ) (closed : ℕ → Bool) (txn : ℕ → Txn) (ok : ℕ → Bool)
-    (small : (t : ℕ) → ok t ≡ true → t < 8)
+    (small : (t : ℕ) → ok t ≡ true → t < transactionCount)
     (free : (t : ℕ) → ok t ≡ true → waits (txn t) ≡ false)
     (ranges : (t : ℕ) → ok t ≡ true → (d : ℕ) → standingIn (txn t .standing d) ≡ true) where
   pub record Alike (p : Pass) (q : Short) : Type 0 where
     pub grants : q .grants ≡ p .grants
-    pub skipped : (u : ℕ) → u < 8 → contains (q .skipped) u ≡ contains (p .stale) u || closed u
+    pub skipped : (u : ℕ) → u < transactionCount → contains (q .skipped) u ≡ contains (p .stale) u || closed u
     pub low : Low (p .offsets)
 
   module _ (t : ℕ) (p : Pass) (q : Short) (good : ok t ≡ true) (a : Alike p q) where
-    frees : (d : ℕ) → d < 16 → mayWait (txn t .standing d) ≡ false
+    frees : (d : ℕ) → d < descriptorCount → mayWait (txn t .standing d) ≡ false
     unfolding waits
     frees d l = none-below (λ e. mayWait (txn t .standing e)) 16 (free t good) d l
 
-    joined : (u : ℕ) → u < 8 → contains (bitOr (q .skipped) (row t)) u ≡ contains (bitOr (p .stale) (row t)) u || closed u
+    joined : (u : ℕ) → u < transactionCount → contains (bitOr (q .skipped) (row t)) u ≡ contains
+        (bitOr (p .stale) (row t)) u || closed u
     joined u l =
         contains-or (q .skipped) (row t) u
         ∙ ap (λ (b : Bool). b || contains (row t) u) (a .skipped u l)

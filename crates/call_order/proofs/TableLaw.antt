@@ -8,6 +8,7 @@ use lib.Dec.{leb, eqb}
 use lib.ListN.{length}
 use native.Mathlib.Omega.{arith}
 use Prim.Native.Nat.{ℕ, zero, suc, _<_}
+use Rattle.limits.specs.Limits.{transactionCount, lastTransaction}
 use Rattle.buffers.proofs.BelowLaws.{and-both}
 use Rattle.buffers.specs.Marks.{contains}
 use Rattle.buffers.proofs.SetLaws.{bits-none, contains-bits}
@@ -52,7 +53,7 @@ not-true : (b : Bool) → not b ≡ true → b ≡ false
 not-true true e = absurd (false≢true e)
 not-true false e = refl
 
-none-in : (u : ℕ) → u < 8 → contains 0 u ≡ false
+none-in : (u : ℕ) → u < transactionCount → contains 0 u ≡ false
 none-in u l = sym (ap (λ (n : ℕ). contains n u) (bits-none (λ k. false) 8 (λ k. refl))) ∙ contains-bits (λ k. false) 8 u l
 
 -- What the list was tested for, all at once.
@@ -72,13 +73,13 @@ module _ (m : Machine) (sound : Sound m) (minute : ℕ) (daily : minuteIn minute
   start : Pass
   start = record { stale = 0; offsets = m .store .offsets; grants = 0 }
 
-  small : (t : ℕ) → ready minute m t ≡ true → leb t 7 ≡ true
+  small : (t : ℕ) → ready minute m t ≡ true → leb t lastTransaction ≡ true
   unfolding ready
   small t e = and-left (leb t 7) _ e
 
   -- Of a transaction that is ready.
   module _ (t : ℕ) (e : ready minute m t ≡ true) where
-    opened : leb t 7 && transaction (m .store) t .begun ≡ true
+    opened : leb t lastTransaction && transaction (m .store) t .begun ≡ true
     unfolding ready askedOf
     opened =
         and-both (leb t 7) (transaction (m .store) t .begun) (and-left (leb t 7) _ e)
@@ -88,7 +89,7 @@ module _ (m : Machine) (sound : Sound m) (minute : ℕ) (daily : minuteIn minute
     unfolding ready askedOf
     neither = not-true _ (and-right (transaction (m .store) t .begun) _ (and-right (leb t 7) _ e))
 
-    below-eight : t < 8
+    below-eight : t < transactionCount
     below-eight = let l = leb-true t 7 (small t e) in omega arith
 
     seat-is : seat m t ≡ held (heldBy m t)

@@ -8,6 +8,7 @@ use lib.ListN.{getD}
 use Prim.Native.Nat.{ℕ, suc, _+_, _-_, _≤_, _<_}
 use native.Mathlib.Omega.{arith}
 use borrow.Author.Tests.{eq-eqb, ne-eqb}
+use Rattle.limits.specs.Limits.{fileBytes}
 use Rattle.buffers.proofs.PartLaws.{le-or-lt}
 use Rattle.standings.specs.declared.Place.{Place}
 use Rattle.standings.specs.declared.Place.the-variants.{At, After}
@@ -103,7 +104,7 @@ module _ (j : Recorded) (t records : ℕ) (e : Extent) (r : Run) (run : RunOf j 
         }
 
   -- the walk over runs has come to this one, which is the file's
-  pub first-clear-here : (p : ℕ) → p ≤ e .place → e .place ≤ 4096
+  pub first-clear-here : (p : ℕ) → p ≤ e .place → e .place ≤ fileBytes
       → ((q : ℕ) → p ≤ q → q < e .place → covered q ≡ true) → logged ≡ false → Upto covered true p (e .place)
   first-clear-here p g l before b = record { start = g; within = l; same = before; turned = λ h. run-first ∙ b }
 
@@ -114,7 +115,7 @@ module _ (j : Recorded) (t records : ℕ) (e : Extent) (r : Run) (run : RunOf j 
   first-clear-after p before b q g l = ⊎-elim (λ h. run-along q h l ∙ b) (λ h. before q g h) (le-or-lt (e .place) q)
 
 -- no place is left
-pub upto-end : (S : ℕ → Bool) (b : Bool) (p : ℕ) → p ≡ 4096 → Upto S b p p
+pub upto-end : (S : ℕ → Bool) (b : Bool) (p : ℕ) → p ≡ fileBytes → Upto S b p p
 upto-end S b p e = record {
   start = omega arith;
   within = omega arith;

@@ -7,6 +7,7 @@ use lib.Dec.{leb, ltb}
 use Prim.Native.Nat.{ℕ, zero, suc, _+_, _-_, _≤_, _<_}
 use native.Mathlib.Omega.{arith}
 use borrow.Author.Tests.{lt-ltb, le-ltb, le-leb, lt-leb, leb-true, ltb-true, ltb-false}
+use Rattle.limits.specs.Limits.{fileBytes}
 use Rattle.buffers.proofs.PartLaws.{le-or-lt}
 use Rattle.standings.specs.declared.Place.the-variants.{At}
 use Rattle.admission.proofs.Laws.{and-left, and-right}
@@ -100,7 +101,7 @@ module _ (S T : ℕ → Bool) where
   unfolding intervalsOf
   list-same e = intervals-same T S 0 4096 (λ q g l. e q)
 
-  module _ (a n : ℕ) (within : a + n ≤ 4096) (more : (q : ℕ) → T q ≡ (S q || inInterval (interval a n) q)) where
+  module _ (a n : ℕ) (within : a + n ≤ fileBytes) (more : (q : ℕ) → T q ≡ (S q || inInterval (interval a n) q)) where
     list-more : (l : List Interval) → Proper l
         → ((q : ℕ) → listed l q ≡ (listed (intervalsOf S) q || inInterval (interval a n) q))
         → intervalsOf T ≡ l

@@ -7,6 +7,7 @@ use lib.ListN.{getD, length, drop, set, length-append}
 use lib.Seq.{ext-getD}
 use Prim.Native.Nat.{ℕ, suc, _+_, _-_, _*_, _/_, _%_, _≤_, _<_}
 use native.Mathlib.Omega.{arith}
+use Rattle.limits.specs.Limits.{fileBytes}
 use Rattle.buffers.specs.Parts.{pasted}
 use Rattle.buffers.proofs.PartLaws.{le-or-lt, length-pasted, pasted-none, pasted-before, pasted-in, pasted-after}
 use Rattle.buffers.proofs.PartLaws.{pasted-more, pasted-append}
@@ -25,15 +26,15 @@ list-rest S p = intervalsFrom S p (4096 - p)
 
 module _ (S : ℕ → Bool) (p : ℕ) (s : PlaceInterval) (next : NextOf S p s) where
   -- a interval of length 0 lies at the end of the file
-  next-end : s .length ≡ 0 → s .offset ≡ 4096
+  next-end : s .length ≡ 0 → s .offset ≡ fileBytes
   next-end z = pick (next .before) (next .whole)
     where
-      pick : Upto S false p (s .offset) → Upto S true (s .offset) (s .offset + s .length) → s .offset ≡ 4096
+      pick : Upto S false p (s .offset) → Upto S true (s .offset) (s .offset + s .length) → s .offset ≡ fileBytes
       pick a b = ⊎-elim (λ h. omega (arith, a .within))
           (λ h. absurd (false≢true (sym (b .turned (omega arith)) ∙ ap S (omega arith) ∙ a .turned h)))
           (le-or-lt 4096 (s .offset))
 
-  next-bounds : (p ≤ s .offset) × (s .offset + s .length ≤ 4096)
+  next-bounds : (p ≤ s .offset) × (s .offset + s .length ≤ fileBytes)
   next-bounds = (next .before .start, next .whole .within)
 
   reached : list-rest S p ≡ list-rest S (s .offset)
@@ -70,7 +71,7 @@ unfolding intervalsOf
 listing-none S = record { joins = refl }
 
 module _ (S : ℕ → Bool) (p : ℕ) (l : List listing.Interval) (so : Listing S p l) where
-  pub listing-end : 4096 ≤ p → l ≡ intervalsOf S
+  pub listing-end : fileBytes ≤ p → l ≡ intervalsOf S
   listing-end h =
       let z : 4096 - p ≡ 0 = omega arith in
       let n : list-rest S p ≡ [] = ap (intervalsFrom S p) z ∙ unfold intervalsFrom in refl in

@@ -8,6 +8,7 @@ use lib.ListN.{getD, length}
 use Prim.Native.Nat.{ℕ, zero, suc, _+_, _*_, _≤_, _<_}
 use native.Mathlib.Omega.{arith}
 use borrow.Author.Tests.{leb-true}
+use Rattle.limits.specs.Limits.{bufferBytes, transactionCount}
 use Rattle.standings.specs.declared.Place.{Place}
 use Rattle.state.specs.declared.StoreMeaning.{StoreMeaning}
 use Rattle.state.specs.declared.Transaction.{Transaction}
@@ -44,7 +45,7 @@ module _ (j : Recorded) (logs : List ℕ) (t f : ℕ) where
   unplaced-is n = some-tabulate (unplacedOn file f) (writeAt (j .journal) logs t)
       (λ k. waitsOn (j .filenumbers) f (writeRecordAt (j .journal) t k)) n (λ k l. refl)
 
-  module _ (small : t < 8) (long : length logs ≡ 32768) where
+  module _ (small : t < transactionCount) (long : length logs ≡ bufferBytes) where
     covers-is : (p k : ℕ) → lengthsBefore (j .journal) t (suc k) ≤ 4096
         → coversPlace file f p (writeAt (j .journal) logs t k) ≡ covers (j .filenumbers) f p (writeRecordAt (j .journal) t k)
     unfolding coversPlace writeAt covers dataStart
@@ -79,7 +80,8 @@ module _ (s : StoreMeaning) (journal logs : List ℕ) (t f : ℕ) where
   unfolding txnOf fileOf
   unplaced-in = unplaced-is (recorded journal (s .filenumbers)) logs t f (transaction s t .used .records)
 
-  module _ (small : t < 8) (long : length logs ≡ 32768) (range : TransactionInRange (transaction s t) journal t) where
+  module _ (small : t < transactionCount) (long : length logs ≡ bufferBytes)
+      (range : TransactionInRange (transaction s t) journal t) where
     covered-in : (p : ℕ) → covered (fileOf s) f (txnOf s journal logs t .writes) p
         ≡ coveredAt (recorded journal (s .filenumbers)) t (transaction s t .used .records) f p
     unfolding txnOf fileOf

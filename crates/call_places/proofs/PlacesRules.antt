@@ -7,6 +7,7 @@ use lib.Dec.{eqb}
 use lib.ListN.{length}
 use native.Mathlib.Omega.{arith}
 use Prim.Native.Nat.{ℕ, zero, suc, _*_, _≤_, _<_}
+use Rattle.limits.specs.Limits.{lastFile}
 use Rattle.state.specs.StoreMeaning.{transaction}
 use Rattle.state.specs.Outcomes.{pairs, said}
 use Rattle.state.specs.declared.outcomes.Outcome.the-variants.{Pairs}
@@ -68,12 +69,12 @@ module _ (t f : ℕ) (out : List ℕ) (m : Machine) (passes : admission (sizes m
       passing-on (admission (sizes m) (m .store) (m .journal) t) out m (placesTurn t f out m) passes
       ∙ ap (λ (k : ℕ). record { reply = placesReply (fileOf (m .store)) f out txn k; after = m }) e
 
-  pub places-no-file : 7 < f → call (places t f out) m ≡ refuseTurn 6 out m
+  pub places-no-file : lastFile < f → call (places t f out) m ≡ refuseTurn 6 out m
   unfolding placesRefusal unless placesReply refuseTurn
   places-no-file h = replied 6 (rw (lt-leb f 7 h))
 
   -- So many write records the code read.
-  module _ (low : f ≤ 7) (records : ℕ) (read : records ≡ transaction (m .store) t .used .records) where
+  module _ (low : f ≤ lastFile) (records : ℕ) (read : records ≡ transaction (m .store) t .used .records) where
     abbrev list : List Interval
     list = intervalsOf (coveredAt held t records f)
 

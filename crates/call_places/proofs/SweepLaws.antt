@@ -8,6 +8,7 @@ use lib.ListN.{length}
 use Prim.Native.Nat.{ℕ, suc, _+_, _-_, _*_, _≤_, _<_}
 use native.Mathlib.Omega.{arith}
 use borrow.Author.Tests.{eq-eqb, ne-eqb, eqb-true, eqb-false, leb-true}
+use Rattle.limits.specs.Limits.{fileBytes}
 use Rattle.buffers.specs.Parts.{pasted}
 use Rattle.buffers.proofs.PartLaws.{le-or-lt, length-pasted}
 use Rattle.standings.specs.declared.Place.{Place}
@@ -62,7 +63,8 @@ module _ (S T : ℕ → Bool) (s : Sweep) (so : Swept S s) where
         over = λ h. inr (interval (s .offset) (s .next - 1 - s .offset), so .last h .joins);
       }
 
-  module _ (p n : ℕ) (some : 1 ≤ n) (within : p + n ≤ 4096) (more : (q : ℕ) → T q ≡ (S q || inInterval (interval p n) q)) where
+  module _ (p n : ℕ) (some : 1 ≤ n) (within : p + n ≤ fileBytes) (more : (q : ℕ)
+      → T q ≡ (S q || inInterval (interval p n) q)) where
     below-end : s .next ≤ p + 1 → (q : ℕ) → T q ≡ true → suc q < p + n + 1
     below-end h q e = pick (S q) refl (sym (more q) ∙ e)
       where
@@ -120,7 +122,7 @@ sweep-placed s p n b = cond b (record { ascending = s .ascending; stretches = s 
 
 -- A record of n bytes with that place; b says whether it is one of the file.
 module _ (S T : ℕ → Bool) (s : Sweep) where
-  step-place : (p n : ℕ) → 1 ≤ n → p + n ≤ 4096 → ((q : ℕ) → T q ≡ (S q || inInterval (interval p n) q))
+  step-place : (p n : ℕ) → 1 ≤ n → p + n ≤ fileBytes → ((q : ℕ) → T q ≡ (S q || inInterval (interval p n) q))
       → (s .ascending ≡ true → Swept S s) → sweptPlace s p n .ascending ≡ true → Step S T (sweptPlace s p n)
   unfolding sweptPlace
   step-place p n some within more so = pick (leb (s .next) p) refl
@@ -132,7 +134,7 @@ module _ (S T : ℕ → Bool) (s : Sweep) where
           (s .ascending && eqb (s .next) (p + 1))
           (eqb-true (s .next) (p + 1) (and-right (s .ascending) (eqb (s .next) (p + 1)) a))
 
-  pub step-record : (b : Bool) (z : Place) (n : ℕ) → ((p : ℕ) → z ≡ At p → p + n ≤ 4096)
+  pub step-record : (b : Bool) (z : Place) (n : ℕ) → ((p : ℕ) → z ≡ At p → p + n ≤ fileBytes)
       → ((q : ℕ) → T q ≡ (S q || (b && liesOver z n q))) → (s .ascending ≡ true → Swept S s)
       → cond b (sweptWrite s z n) s .ascending ≡ true → Step S T (cond b (sweptWrite s z n) s)
   unfolding sweptWrite

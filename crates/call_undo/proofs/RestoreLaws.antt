@@ -4,6 +4,7 @@ use mathlib.Core.List.{List}
 use mathlib.Core.Path.{_≡_, refl, sym, ap, ap₂, _∙_}
 use native.Mathlib.Omega.{arith}
 use Prim.Native.Nat.{ℕ, zero, suc, _+_, _*_, _≤_, _<_}
+use Rattle.limits.specs.Limits.{fileCount, fileBytes, descriptorCount}
 use Rattle.buffers.specs.Parts.{pasted, cut, tabulate}
 use Rattle.state.specs.declared.StoreMeaning.{StoreMeaning}
 use Rattle.state.specs.Journal.{lastGrant, writeRecordAt}
@@ -69,11 +70,11 @@ module _ (s : StoreMeaning) (journal : List ℕ) (ranges : storeIn s journal ≡
   grant-in = in-range s journal ranges .undo held
 
   module _ (k : ℕ) (earlier : k < s .undo .used .records) where
-    pub descriptor-in : writeRecordAt journal lastGrant k .descriptor < 16
+    pub descriptor-in : writeRecordAt journal lastGrant k .descriptor < descriptorCount
     descriptor-in = omega (arith, landed-in _ (grant-in .writes k earlier) .0)
 
     pub inside : (w : LandedWrite) → w ≡ landedAs s (writeRecordAt journal lastGrant k)
-        → (w .file < 8) × (w .place + w .length ≤ 4096)
+        → (w .file < fileCount) × (w .place + w .length ≤ fileBytes)
     unfolding landedAs fileOf
     inside w found =
         rw found (omega (arith, in-range s journal ranges .files _ descriptor-in), landed-in _ (grant-in .writes k earlier) .1)

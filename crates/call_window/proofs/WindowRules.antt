@@ -3,6 +3,7 @@ use mathlib.Core.List.{List, []}
 use mathlib.Core.Path.{_≡_, refl, ap, ap₂, _∙_}
 use lib.ListN.{length}
 use Prim.Native.Nat.{ℕ, _<_}
+use Rattle.limits.specs.Limits.{fileCount}
 use Rattle.windows.specs.Windows.{window}
 use Rattle.state.specs.declared.StoreMeaning.{StoreMeaning}
 use Rattle.state.specs.declared.outcomes.Outcome.the-variants.{Done}
@@ -21,7 +22,7 @@ use Rattle.refinement.proofs.TurnLaws.{passing-on, done-follows}
 abbrev pub window-tests : Machine → ℕ → ℕ → ℕ → ℕ
 window-tests m f start end = admissionOfWindow (sizes m) (m .store) (m .journal) f start end
 
-module _ (f start end : ℕ) (state files logs marks undo : List ℕ) (long : length state ≡ stateLength) (few : f < 8) where
+module _ (f start end : ℕ) (state files logs marks undo : List ℕ) (long : length state ≡ stateLength) (few : f < fileCount) where
   pub window-follows : window-tests (machineOf state files logs marks undo) f start end ≡ 0
       → (after : List ℕ) → after ≡ withWindowAt state f (window start end)
       → Meets (call (setWindow f start end) (machineOf state files logs marks undo)) Done (machineOf after files logs marks undo)

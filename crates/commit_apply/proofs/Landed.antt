@@ -5,6 +5,7 @@ use mathlib.Core.Path.{_≡_, refl, sym, ap, ap₂, _∙_}
 use lib.ListN.{length, getD}
 use native.Mathlib.Omega.{arith}
 use Prim.Native.Nat.{ℕ, zero, suc, _+_, _*_, _<_, max}
+use Rattle.limits.specs.Limits.{fileCount, bufferBytes}
 use Rattle.buffers.specs.Parts.{tabulate}
 use Rattle.buffers.proofs.TableLaws.{length-tabulate, getD-tabulate}
 use Rattle.spec_undo.specs.OldBytes.{oldBytes}
@@ -132,14 +133,14 @@ module _ (s : StoreMeaning) (journal files logs : List ℕ) (t : ℕ) where
   old-are = refl
 
   -- Its writes land inside the files, from data inside its log.
-  module _ (can : CanLand (s .filenumbers) (s .offsets) journal t count) (size : length logs ≡ 32768) where
+  module _ (can : CanLand (s .filenumbers) (s .offsets) journal t count) (size : length logs ≡ bufferBytes) where
     reach-same : (f : ℕ) → landedReach (s .filenumbers) (s .offsets) journal t f count ≡ landedEnd (fileOf s) v f (x .writes)
     unfolding fileOf txnOf
     reach-same f =
         reach-is (s .filenumbers) (s .offsets) journal t v (λ d. unfold values in refl) logs f count
         (λ k h. byte-count can h logs size)
 
-    pub lengths-are : length (s .lengths) ≡ 8
+    pub lengths-are : length (s .lengths) ≡ fileCount
         → landLengths allSet (s .lengths) ≡ lengthsLanded (s .filenumbers) (s .offsets) journal t (s .lengths) count
     unfolding lengthsLanded bytesSet
     lengths-are eight =

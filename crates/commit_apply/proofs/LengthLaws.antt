@@ -8,6 +8,7 @@ use borrow.Author.Tests.{ltb-true, ltb-false, eq-eqb, ne-eqb}
 use native.Mathlib.Numerals.{add-one}
 use native.Mathlib.Omega.{arith}
 use Prim.Native.Nat.{ℕ, zero, suc, _+_, _≤_, _<_, max}
+use Rattle.limits.specs.Limits.{fileCount}
 use Rattle.buffers.specs.Parts.{tabulate}
 use Rattle.buffers.proofs.TableLaws.{getD-tabulate}
 use Rattle.state.specs.declared.StoreMeaning.{StoreMeaning}
@@ -65,18 +66,18 @@ module _ (filenumbers offsets journal : List ℕ) (t : ℕ) where
     abbrev lengthAfter : ℕ → ℕ → ℕ
     lengthAfter k f = max (getD lengths f 0) (landedReach filenumbers offsets journal t f k)
 
-    pub length-at : (k f : ℕ) → f < 8 → getD (lengthsLanded filenumbers offsets journal t lengths k) f 0 ≡ lengthAfter k f
+    pub length-at : (k f : ℕ) → f < fileCount → getD (lengthsLanded filenumbers offsets journal t lengths k) f 0 ≡ lengthAfter k f
     unfolding lengthsLanded
     length-at k f h = getD-tabulate (lengthAfter k) 8 f 0 h
 
-    pub lengths-none : length lengths ≡ 8 → lengths ≡ lengthsLanded filenumbers offsets journal t lengths 0
+    pub lengths-none : length lengths ≡ fileCount → lengths ≡ lengthsLanded filenumbers offsets journal t lengths 0
     unfolding lengthsLanded landedReach
     lengths-none e =
         sym (tabulate-getD lengths 0) ∙ ap (tabulate (λ f. getD lengths f 0)) e
         ∙ tabulate-same (λ f. getD lengths f 0) (λ f. max (getD lengths f 0) 0) 8 (λ f l. omega arith)
 
     -- One record more raises the length of its file.
-    pub lengths-more : (k f end n : ℕ) → f < 8 → f ≡ getD filenumbers (writeRecordAt journal t k .descriptor) 0
+    pub lengths-more : (k f end n : ℕ) → f < fileCount → f ≡ getD filenumbers (writeRecordAt journal t k .descriptor) 0
         → end ≡ writeEnd (landsAt (getD offsets (writeRecordAt journal t k .descriptor) 0) (writeRecordAt journal t k .place))
         (writeRecordAt journal t k .length)
         → n ≡ max (getD (lengthsLanded filenumbers offsets journal t lengths k) f 0) end
@@ -102,7 +103,8 @@ module _ (filenumbers offsets journal : List ℕ) (t : ℕ) where
             omega arith
 
 module _ (F : ℕ → ℕ) (v : Values) (ws : List Write) where
-  lengths-filled : (lengths : List ℕ) → length lengths ≡ 8 → ((f : ℕ) → v (fileLength f) ≡ getD lengths f 0) → (n : ℕ) → n ≤ 8
+  lengths-filled : (lengths : List ℕ) → length lengths ≡ fileCount → ((f : ℕ) → v (fileLength f) ≡ getD lengths f 0) → (n : ℕ)
+      → n ≤ 8
       → landLengths (lengthSettings F v ws n) lengths ≡ filled (λ f. max (getD lengths f 0) (landedEnd F v f ws)) lengths n
   unfolding lengthSettings
   lengths-filled lengths e h zero l = unfold landLengths in sym
@@ -127,7 +129,7 @@ module _ (F : ℕ → ℕ) (v : Values) (ws : List Write) where
           unfold landLengths in
           filled-preserved (λ f. max (getD lengths f 0) (landedEnd F v f ws)) lengths n 0 (omega arith) (omega arith)
 
-  pub lengths-table : (lengths : List ℕ) → length lengths ≡ 8 → ((f : ℕ) → v (fileLength f) ≡ getD lengths f 0)
+  pub lengths-table : (lengths : List ℕ) → length lengths ≡ fileCount → ((f : ℕ) → v (fileLength f) ≡ getD lengths f 0)
       → landLengths (lengthSettings F v ws 8) lengths ≡ tabulate (λ f. max (getD lengths f 0) (landedEnd F v f ws)) 8
   lengths-table lengths e h =
       lengths-filled lengths e h 8 (omega arith)
@@ -135,7 +137,7 @@ module _ (F : ℕ → ℕ) (v : Values) (ws : List Write) where
 
 -- ---- the lengths put into a state, one after another
 
-module _ (before state after : List ℕ) (g : ℕ → ℕ) (f : ℕ) (few : f < 8) where
+module _ (before state after : List ℕ) (g : ℕ → ℕ) (f : ℕ) (few : f < fileCount) where
   pub length-put : Means before state (withLengths (filled g (storeOf before .lengths) f) (storeOf before)) → after
       ≡ withLengthAt state f (g f)
       → Means before after (withLengths (filled g (storeOf before .lengths) (f + 1)) (storeOf before))

@@ -9,6 +9,7 @@ use borrow.Author.Tests.{le-leb, lt-leb, leb-true}
 use native.Mathlib.Numerals.{add-one}
 use native.Mathlib.Omega.{arith}
 use Prim.Native.Nat.{ℕ, zero, suc, _+_, _-_, _≤_, _<_}
+use Rattle.limits.specs.Limits.{fileBytes, descriptorCount}
 use Rattle.state.specs.declared.StoreMeaning.{StoreMeaning}
 use Rattle.state.specs.declared.Transaction.{Transaction}
 use Rattle.state.specs.StoreMeaning.{standingAt, withOffsets}
@@ -35,16 +36,17 @@ module _ (s : StoreMeaning) (x : Transaction) where
   unfolding fits offsetsOnly
   placed-all e = e
 
-  module _ (d c a : ℕ) (committed : c ≡ getD (s .offsets) d 0) (limit : c ≤ 4096) (e : a ≡ advance (standingAt x d)) where
-    pub placed-not : d < 16 → 4096 - c < a → placesFit s x ≡ false
+  module _ (d c a : ℕ) (committed : c ≡ getD (s .offsets) d 0) (limit : c ≤ fileBytes) (e : a ≡ advance (standingAt x d)) where
+    pub placed-not : d < descriptorCount → 4096 - c < a → placesFit s x ≡ false
     unfolding fits offsetsOnly
     placed-not l h = below-fails (offsetFitsAt s x) d 16 l
         (lt-leb (getD (s .offsets) d 0 + advance (standingAt x d)) 4096 (omega arith))
 
-    pub fits-so : a ≤ 4096 - c → offsetFitsAt s x d ≡ true
+    pub fits-so : a ≤ fileBytes - c → offsetFitsAt s x d ≡ true
     fits-so h = le-leb (getD (s .offsets) d 0 + advance (standingAt x d)) 4096 (omega arith)
 
-  pub fits-at : placesFit s x ≡ true → (d : ℕ) → d < 16 → getD (s .offsets) d 0 + advance (standingAt x d) ≤ 4096
+  pub fits-at : placesFit s x ≡ true → (d : ℕ) → d < descriptorCount
+      → getD (s .offsets) d 0 + advance (standingAt x d) ≤ fileBytes
   unfolding fits offsetsOnly
   fits-at e d l = leb-true (getD (s .offsets) d 0 + advance (standingAt x d)) 4096 (below-at (offsetFitsAt s x) 16 d e l)
 
@@ -98,7 +100,7 @@ module _ (x : Transaction) (offsets : List ℕ) where
 
 -- ---- and put into a state
 
-module _ (x : Transaction) (before state : List ℕ) (d : ℕ) (few : d < 16)
+module _ (x : Transaction) (before state : List ℕ) (d : ℕ) (few : d < descriptorCount)
     (so : Means before state (withOffsets (offsetsSet x (storeOf before .offsets) d) (storeOf before)))
   where
     -- The committed offset that is read is still the one that stood there before.

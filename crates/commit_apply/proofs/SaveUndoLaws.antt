@@ -6,6 +6,7 @@ use lib.ListN.{length, getD, length-append}
 use native.Mathlib.Numerals.{add-one}
 use native.Mathlib.Omega.{arith}
 use Prim.Native.Nat.{ℕ, _+_, _*_, _≤_, _<_}
+use Rattle.limits.specs.Limits.{fileBytes, descriptorCount, transactionCount, recordCount}
 use Rattle.buffers.specs.Parts.{pasted, cut, tabulate}
 use Rattle.buffers.proofs.PartLaws.{length-cut, pasted-none, pasted-append}
 use Rattle.counters.specs.declared.Used.{Used}
@@ -112,7 +113,7 @@ module _ {offsets journal : List ℕ} {t k d : ℕ} {w : WriteRecord} (lands : R
     descriptor-is : d ≡ own .descriptor
     descriptor-is = through ∙ ap (λ (r : WriteRecord). r .descriptor) found
 
-    pub descriptor-in : d < 16
+    pub descriptor-in : d < descriptorCount
     descriptor-in = let e = descriptor-is in omega (arith, lands .descriptor)
 
     module _ {c p : ℕ} (committed : c ≡ getD offsets d 0) (place : p ≡ landsAt c (w .place)) where
@@ -122,7 +123,7 @@ module _ {offsets journal : List ℕ} {t k d : ℕ} {w : WriteRecord} (lands : R
           ∙ ap₂ (λ (n : ℕ) (r : WriteRecord). landsAt n (r .place)) (committed ∙ ap (λ (e : ℕ). getD offsets e 0) descriptor-is)
           found
 
-      pub place-in : p ≤ 4096
+      pub place-in : p ≤ fileBytes
       place-in = let e = place-is in omega (arith, lands .place)
 
       pub landed-is : record { descriptor = w .descriptor; place = At p; length = w .length } ≡ recordLanded offsets own
@@ -143,7 +144,7 @@ module _ {before : List ℕ} {t n : ℕ} (can : CanLandIn before t n) where
   }
 
   module _ {state : List ℕ} {k : ℕ} (so : RecordsPreserved before state t k) (next : k < n) where
-    few : k < 64
+    few : k < recordCount
     few = omega (arith, can .records)
 
     same-record : writeRecordAt (journalOf state) t k ≡ writeRecordAt (journalOf before) t k
@@ -153,7 +154,7 @@ module _ {before : List ℕ} {t n : ℕ} (can : CanLandIn before t n) where
         (omega (arith, few))
         (omega (arith, can .small)) few (λ q. omega (arith, can .small))
 
-    pub next-lands : (t < 8) × (k < 64) × RecordLands (storeOf state .offsets) (journalOf state) t k
+    pub next-lands : (t < transactionCount) × (k < recordCount) × RecordLands (storeOf state .offsets) (journalOf state) t k
     next-lands =
         let here = can .inside k next in (
           can .small,

@@ -6,6 +6,7 @@ use lib.Seq.{sets}
 use native.Mathlib.Numerals.{add-one}
 use native.Mathlib.Omega.{arith}
 use Prim.Native.Nat.{ℕ, suc, _+_, _*_, _≤_, _<_}
+use Rattle.limits.specs.Limits.{bufferBytes, descriptorCount, logBytes}
 use Rattle.buffers.specs.Parts.{pasted, cut, tabulate}
 use Rattle.buffers.proofs.PartLaws.{pasted-sets, length-cut}
 use Rattle.state.specs.declared.journal.WriteRecord.{WriteRecord}
@@ -41,11 +42,11 @@ module _ {filenumbers offsets journal : List ℕ} {t n k : ℕ} (can : CanLand f
       }
 
   -- Its data lie within the transaction's part of the logs.
-  pub data-in : dataStart journal t k + writeRecordAt journal t k .length ≤ 4096 * t + 4096
+  pub data-in : dataStart journal t k + writeRecordAt journal t k .length ≤ logBytes * t + logBytes
   unfolding dataStart lengthsBefore sum
   data-in = omega (arith, can .bytes, sum-le (λ j. writeRecordAt journal t j .length) (suc k) n earlier)
 
-  pub byte-count : (logs : List ℕ) → length logs ≡ 32768 → length (writeAt journal logs t k .bytes)
+  pub byte-count : (logs : List ℕ) → length logs ≡ bufferBytes → length (writeAt journal logs t k .bytes)
       ≡ writeRecordAt journal t k .length
   unfolding writeAt
   byte-count logs e =
@@ -58,7 +59,7 @@ module _ (state : List ℕ) (k : ℕ) {t d : ℕ} {w : WriteRecord} (can : CanLa
     descriptor-is : d ≡ writeRecordAt (journalOf state) t k .descriptor
     descriptor-is = through ∙ ap (λ (v : WriteRecord). v .descriptor) found
 
-    pub descriptor-in : d < 16
+    pub descriptor-in : d < descriptorCount
     descriptor-in = let e = descriptor-is in omega (arith, can .inside k (omega arith) .descriptor)
 
     pub lands-as : (r : LandedWrite) → r .file ≡ getD (storeOf state .filenumbers) d 0 → r .place
@@ -127,6 +128,6 @@ pub none-landed : (filenumbers offsets journal logs files : List ℕ) (t : ℕ) 
 unfolding bytesSet tabulate byteSettings landFiles
 none-landed filenumbers offsets journal logs files t = refl
 
-pub none-started : (journal : List ℕ) (t : ℕ) → 4096 * t + 0 ≡ dataStart journal t 0
+pub none-started : (journal : List ℕ) (t : ℕ) → logBytes * t + 0 ≡ dataStart journal t 0
 unfolding dataStart lengthsBefore sum
 none-started journal t = omega arith

@@ -9,6 +9,7 @@ use borrow.Author.Tests.{eqb-true, ltb-true, ltb-false, lt-ltb, le-ltb, not-fals
 use native.Mathlib.Numerals.{add-one}
 use native.Mathlib.Omega.{arith}
 use Prim.Native.Nat.{ℕ, zero, suc, _+_, _*_, _≤_, _<_, max}
+use Rattle.limits.specs.Limits.{fileCount, bufferBytes, descriptorCount, transactionCount}
 use Rattle.buffers.specs.Bits.{bitsOf}
 use Rattle.buffers.specs.Parts.{cut, tabulate}
 use Rattle.buffers.specs.Marks.{hasMark, hasMarkIn, contains}
@@ -39,14 +40,14 @@ use Rattle.commit_conflicts.specs.Conflicts.{knowsLength, NoneSighted}
 -- ---- what the code reads of a descriptor
 
 -- Its offset is set.
-pub sets-is : (state : List ℕ) (t d : ℕ) → d < 16 → (q : Descriptor) → q ≡ descriptorOf state t d
+pub sets-is : (state : List ℕ) (t d : ℕ) → d < descriptorCount → (q : Descriptor) → q ≡ descriptorOf state t d
     → setsOffset (descriptorsOnly (transactionOf state t)) d ≡ (q .dirty && isTouched (q .standing))
 unfolding setsOffset
 sets-is state t d few q e = ap (λ (p : Descriptor). p .dirty && isTouched (p .standing)) (descriptor-of state t d few ∙ sym e)
 
 -- None is, where nothing is dirty.
-pub none-set : (state : List ℕ) (t : ℕ) → ((d : ℕ) → d < 16 → dirtyAt (transactionOf state t) d ≡ false)
-    → (d : ℕ) → d < 16 → setsOffset (descriptorsOnly (transactionOf state t)) d ≡ false
+pub none-set : (state : List ℕ) (t : ℕ) → ((d : ℕ) → d < descriptorCount → dirtyAt (transactionOf state t) d ≡ false)
+    → (d : ℕ) → d < descriptorCount → setsOffset (descriptorsOnly (transactionOf state t)) d ≡ false
 unfolding setsOffset
 none-set state t none d few = ap (λ (b : Bool). b && isTouched (standingAt (transactionOf state t) d)) (none d few)
 
@@ -115,9 +116,10 @@ module _ (state marks : List ℕ) (watched : ℕ) where
   no-bytes logs t = sighters-none
 
   pub bytes-more : {t n k : ℕ} {w : LandedWrite} → CanLandIn state t n → k < n → LandsAs state t k w
-      → (logs : List ℕ) → length logs ≡ 32768 → (a b c : ℕ)
+      → (logs : List ℕ) → length logs ≡ bufferBytes → (a b c : ℕ)
       → Sighters state marks watched (bytesSetIn state logs t k) a
-      → ((u : ℕ) → u < 8 → contains b u ≡ contains watched u && hasMarkIn marks u (4096 * w .file + w .place) (w .length))
+      → ((u : ℕ) → u < transactionCount → contains b u
+      ≡ contains watched u && hasMarkIn marks u (4096 * w .file + w .place) (w .length))
       → ((u : ℕ) → contains c u ≡ contains a u || contains b u)
       → Sighters state marks watched (bytesSetIn state logs t (k + 1)) c
   bytes-more {t} {n} {k} {w} can earlier lands logs size a b c sa sb joins =
@@ -140,7 +142,7 @@ module _ (state marks : List ℕ) (watched : ℕ) where
     no-offsets = sighters-none
 
     pub offset-more : (d : ℕ) → setsOffset x d ≡ true → (a b c : ℕ) → Sighters state marks watched (offsetSettings v x d) a
-        → b ≡ bitsOf (knowsOffset state watched d) 8 → ((u : ℕ) → contains c u ≡ contains a u || contains b u)
+        → b ≡ bitsOf (knowsOffset state watched d) transactionCount → ((u : ℕ) → contains c u ≡ contains a u || contains b u)
         → Sighters state marks watched (offsetSettings v x (d + 1)) c
     unfolding offsetSettings conflicts hasSighted
     offset-more d sets a b c sa sb joins =
@@ -196,7 +198,7 @@ module _ (state marks : List ℕ) (watched : ℕ) where
         pick true e = unsighted u (none u l e) f
         pick false e = refl
 
-    module _ (can : CanLandIn state t n) (size : length logs ≡ 32768) (f : ℕ) (few : f < 8) where
+    module _ (can : CanLandIn state t n) (size : length logs ≡ bufferBytes) (f : ℕ) (few : f < fileCount) where
       -- A number lies below the larger of itself and another where it lies below the other.
       over-max : (a b : ℕ) → ltb a (max a b) ≡ ltb a b
       over-max a b = pick (ltb a b) refl
@@ -223,7 +225,7 @@ module _ (state marks : List ℕ) (watched : ℕ) where
         raised-so = raised-is ∙ sym (ap₂ ltb before afterwards)
 
         pub length-more : length < after → (a b c : ℕ) → Sighters state marks watched (raisedBelow state files logs t n f) a
-            → b ≡ bitsOf (knowsLength state watched f) 8 → ((u : ℕ) → contains c u ≡ contains a u || contains b u)
+            → b ≡ bitsOf (knowsLength state watched f) transactionCount → ((u : ℕ) → contains c u ≡ contains a u || contains b u)
             → Sighters state marks watched (raisedBelow state files logs t n (f + 1)) c
         unfolding lengthSettings conflicts hasSighted
         length-more h a b c sa sb joins =
@@ -253,7 +255,7 @@ module _ (state files logs marks undo : List ℕ) (t : ℕ) where
   m = machineOf state files logs marks undo
 
   -- All that it sets, as the code goes over it.
-  all-is : t < 8 → (used : Used) → used ≡ transactionOf state t .used
+  all-is : t < transactionCount → (used : Used) → used ≡ transactionOf state t .used
       → all ≡ bytesSetIn state logs t (used .records)
       ++ (offsetsSetIn state committed t ++ lengthsSetIn state files logs t (used .records))
   unfolding txnOf
@@ -266,7 +268,7 @@ module _ (state files logs marks undo : List ℕ) (t : ℕ) where
       ∙ ap (λ (n : Used). bytesSetIn state logs t (n .records)
       ++ (offsetsSetIn state committed t ++ lengthsSetIn state files logs t (n .records))) (sym e)
 
-  module _ (watched : ℕ) (watches : watched ≡ bitsOf (isWatched state t) 8) where
+  module _ (watched : ℕ) (watches : watched ≡ bitsOf (isWatched state t) transactionCount) where
     octet-is : (r : ℕ) → r < 256 → Sighters state marks watched all r → r ≡ staleBy m t
     unfolding staleBy madeStale
     octet-is r small sees =
@@ -293,7 +295,7 @@ module _ (state files logs marks undo : List ℕ) (t : ℕ) where
         (ap (λ (n : ℕ). contains n u && conflicts marks u (transactionOf state u) all) e
         ∙ ap (λ (b : Bool). b && conflicts marks u (transactionOf state u) all) (contains-none u)))
 
-    pub stale-is : t < 8 → (used : Used) → used ≡ transactionOf state t .used → (a b c d r : ℕ)
+    pub stale-is : t < transactionCount → (used : Used) → used ≡ transactionOf state t .used → (a b c d r : ℕ)
         → Sighters state marks watched (bytesSetIn state logs t (used .records)) a
         → Sighters state marks watched (offsetsSetIn state committed t) b
         → Sighters state marks watched (lengthsSetIn state files logs t (used .records)) c

@@ -6,6 +6,7 @@ use lib.Dec.{ltb}
 use lib.ListN.{length, getD}
 use native.Mathlib.Omega.{arith}
 use Prim.Native.Nat.{ℕ, zero, suc, _≤_, _<_}
+use Rattle.limits.specs.Limits.{bufferBytes, descriptorCount, recordCount}
 use Rattle.windows.specs.Windows.{isClosedAt}
 use Rattle.buffers.proofs.SetLaws.{contains-bits}
 use Rattle.buffers.proofs.MarkLaws.{contains-none}
@@ -50,10 +51,10 @@ module _ (state : List ℕ) (t : ℕ) (o : OpenIn state t) where
   counts : transaction (storeOf state) t .used .records ≡ count
   counts = ap (λ (x : Transaction). x .used .records) same
 
-  pub few : count ≤ 64
+  pub few : count ≤ recordCount
   few = omega (arith, counts, in-ranges .records)
 
-  pub descriptor-in : (k : ℕ) → k < count → writeRecordAt (journalOf state) t k .descriptor < 16
+  pub descriptor-in : (k : ℕ) → k < count → writeRecordAt (journalOf state) t k .descriptor < descriptorCount
   descriptor-in k h =
       omega (
         arith,
@@ -61,10 +62,10 @@ module _ (state : List ℕ) (t : ℕ) (o : OpenIn state t) where
             (in-ranges .writes k (omega (arith, counts))) .descriptor,
       )
 
-  pub file-in : (d : ℕ) → d < 16 → getD (storeOf state .filenumbers) d 0 < 8
+  pub file-in : (d : ℕ) → d < descriptorCount → getD (storeOf state .filenumbers) d 0 < 8
   file-in d h = omega (arith, in-range (storeOf state) (journalOf state) (o .ranges) .files d h)
 
-  module _ (logs : List ℕ) (long : length logs ≡ 32768) where
+  module _ (logs : List ℕ) (long : length logs ≡ bufferBytes) where
     decoded : Opened (storeOf state) (journalOf state) logs t
     decoded = record { shape = shaped state; long = length-journal state; size = long; small = o .small; ranges = in-ranges }
 

@@ -5,6 +5,7 @@ use mathlib.Core.Path.{_≡_, refl, sym, ap, _∙_, subst, subst⁻¹}
 use lib.ListN.{length, replicate, getD-replicate}
 use native.Mathlib.Omega.{arith}
 use Prim.Native.Nat.{ℕ, _+_, _*_, _≤_}
+use Rattle.limits.specs.Limits.{scriptCount}
 use Rattle.state.specs.declared.outcomes.Refusal.{Refusal}
 use Rattle.state.specs.declared.outcomes.Outcome.the-variants.{Done, Refused}
 use Rattle.state.specs.Outcomes.{number, said, refused}
@@ -52,7 +53,7 @@ module _ (bytes : List ℕ) (minute : ℕ) (x : Scripts) (m : Machine) (buffer :
     -- A refusal leaves everything.
     pub refused-gives : (r : Refusal) → g ≡ GateRefused r
         → GivesDispatch (dispatch bytes minute x m buffer) (x .count)
-        (record { outcome = Refused r; ends = replicate 8 noEnd; commits = 0 }) m buffer
+        (record { outcome = Refused r; ends = replicate scriptCount noEnd; commits = 0 }) m buffer
     unfolding notStarted endOfScript said saidOf
     refused-gives r e =
         subst⁻¹ (λ (d : Given Machine). GivesDispatch d (x .count)

@@ -9,6 +9,7 @@ use lib.ListN.{getD, set, length, replicate, getD-replicate, List·getD-eq-defau
 use lib.Seq.{getD-set-same, getD-set-other}
 use native.Mathlib.Omega.{arith}
 use Prim.Native.Nat.{ℕ, _+_, _-_, _*_, _≤_, _<_}
+use Rattle.limits.specs.Limits.{scriptCount}
 use Rattle.buffers.proofs.PartLaws.{le-or-lt}
 use Rattle.admission.specs.FirstRefusal.{below}
 use Rattle.admission.proofs.Laws.{and-both, and-right, below-at, below-fails}
@@ -24,7 +25,7 @@ use Rattle.dispatcher.specs.Types.{scriptCallOf, noLine, scriptsOf, NoCa
 abbrev made : List ScriptLine → List ℕ → ℕ → Scripts
 made lines counts n = record { lines = lines; counts = counts; count = n }
 
-pub no-calls : (lines : List ScriptLine) (n : ℕ) → NoCalls n (scriptsOf (made lines (replicate 8 0) n))
+pub no-calls : (lines : List ScriptLine) (n : ℕ) → NoCalls n (scriptsOf (made lines (replicate scriptCount 0) n))
 unfolding scriptsOf
 no-calls lines n = record {
   count = refl;
@@ -57,7 +58,8 @@ more-full k c x l =
       none = λ m. refl;
     }
 
-module _ (lines : List ScriptLine) (counts : List ℕ) (count k n : ℕ) (v : ScriptCall) (small : k < 8) (eight : length counts ≡ 8)
+module _ (lines : List ScriptLine) (counts : List ℕ) (count k n : ℕ) (v : ScriptCall) (small : k < scriptCount)
+    (eight : length counts ≡ scriptCount)
     (e : n ≡ getD counts k 0) where
   raised : getD (set counts k (n + 1)) k 0 ≡ getD counts k 0 + 1
   raised = getD-set-same counts k (n + 1) 0 (omega arith) ∙ ap (λ (m : ℕ). m + 1) e
@@ -132,7 +134,7 @@ module _ (p : ℕ → Bool) (most n m : ℕ) (e : m ≡ n) where
 -- ---- what passed scripts tell
 
 module _ (n : ℕ) (s : Scripts) (e : scriptsIn n (scriptsOf s) ≡ true) where
-  pub scripts-eight : s .count ≤ 8
+  pub scripts-eight : s .count ≤ scriptCount
   unfolding scriptsOf
   scripts-eight = eight-scripts n (scriptsOf s) e
 

@@ -9,6 +9,7 @@ use lib.Seq.{getD-set-same, getD-set-other}
 use native.Mathlib.Numerals.{add-one}
 use native.Mathlib.Omega.{arith}
 use Prim.Native.Nat.{ℕ, zero, suc, _+_, _-_, _≤_, _<_}
+use Rattle.limits.specs.Limits.{scriptCount}
 use Rattle.state.specs.declared.outcomes.Refusal.{Refusal}
 use Rattle.state.specs.declared.outcomes.Outcome.{Outcome}
 use Rattle.state.specs.Outcomes.{number, said}
@@ -70,7 +71,7 @@ module _ (m₀ : Machine) (w : Work) (m : Machine) (buffer : List ℕ) (es : Lis
       }
 
   -- Script k is over.
-  pub stands-end : (k : ℕ) (e : End) → k < 8 → WorkStands m₀ (withEnd k (endOfScript e) w) m buffer
+  pub stands-end : (k : ℕ) (e : End) → k < scriptCount → WorkStands m₀ (withEnd k (endOfScript e) w) m buffer
       (set es k (record { end = e })) n
   stands-end k e l =
       record {
@@ -84,7 +85,7 @@ module _ (m₀ : Machine) (w : Work) (m : Machine) (buffer : List ℕ) (es : Lis
       after : List Ended
       after = set es k (record { end = e })
 
-      pick : (j : ℕ) → j < 8 → (b : Bool) → eqb j k ≡ b → endAt after j ≡ put k (endOfScript e) (w .ends) j
+      pick : (j : ℕ) → j < scriptCount → (b : Bool) → eqb j k ≡ b → endAt after j ≡ put k (endOfScript e) (w .ends) j
       pick j h true q =
           let f = eqb-true j k q in
           ap (λ (i : ℕ). endAt after i) f
@@ -97,13 +98,13 @@ module _ (m₀ : Machine) (w : Work) (m : Machine) (buffer : List ℕ) (es : Lis
           ∙ sym (put-other k (endOfScript e) (w .ends) j f)
 
   -- Whether script k goes on, as the code has tested it.
-  pub goes-as : (k : ℕ) → k < 8 → (r b : Bool) → r ≡ goesOn (endAt es k) → r ≡ b → goesOn (w .ends k) ≡ b
+  pub goes-as : (k : ℕ) → k < scriptCount → (r b : Bool) → r ≡ goesOn (endAt es k) → r ≡ b → goesOn (w .ends k) ≡ b
   goes-as k l r b e h = sym (ap goesOn (s .ends k l)) ∙ sym e ∙ h
 
 -- Script k fails, and is aborted.
 pub stands-failed : (m₀ : Machine) (w : Work) (m : Machine) (buffer : List ℕ) (es : List Ended) (n : ℕ)
     → WorkStands m₀ w m buffer es n
-    → (k : ℕ) (r : Refusal) → k < 8 → (m′ : Machine) → m′ ≡ call (abort k) m .after
+    → (k : ℕ) (r : Refusal) → k < scriptCount → (m′ : Machine) → m′ ≡ call (abort k) m .after
     → WorkStands m₀ (failing k (number r) w) m′ buffer (set es k (record { end = Failed r })) n
 unfolding failing endOfScript
 stands-failed m₀ w m buffer es n s k r l m′ e =
@@ -297,7 +298,7 @@ module _ (replyTo : Call → List Call → Reply) (bytes : List ℕ) (minute : �
 -- Where every script is over after j rounds, all rounds are made.
 pub rounds-stopped : (m₀ : Machine) (bytes : List ℕ) (minute : ℕ) (x : Scripts) (j : ℕ) (w : Work) (m : Machine)
     (buffer : List ℕ) (es : List Ended) (n : ℕ) → WorkStands m₀ (rounds (storeReply m₀) bytes minute x j w) m buffer es n
-    → x .count ≤ 8 → j ≤ x .count → below (λ k. not (goesOn (endAt es k))) (x .count) ≡ true
+    → x .count ≤ scriptCount → j ≤ x .count → below (λ k. not (goesOn (endAt es k))) (x .count) ≡ true
     → WorkStands m₀ (rounds (storeReply m₀) bytes minute x (x .count) w) m buffer es n
 rounds-stopped m₀ bytes minute x j w m buffer es n s few l over =
     let e : x .count ≡ (x .count - j) + j = omega arith in
@@ -309,7 +310,7 @@ rounds-stopped m₀ bytes minute x j w m buffer es n s few l over =
     (x .count - j)) s
 
 -- Nothing is done yet.
-pub nothing-stands : (m : Machine) (buffer : List ℕ) → WorkStands m (nothingDone buffer) m buffer (replicate 8 noEnd) 0
+pub nothing-stands : (m : Machine) (buffer : List ℕ) → WorkStands m (nothingDone buffer) m buffer (replicate scriptCount noEnd) 0
 unfolding endOfScript afterAll
 nothing-stands m buffer =
     record {

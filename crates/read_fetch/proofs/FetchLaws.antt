@@ -7,6 +7,7 @@ use lib.Seq.{drop-cons}
 use Prim.Native.Nat.{ℕ, zero, suc, _+_, _-_, _*_, _≤_, _<_}
 use native.Mathlib.Nat.{add-zero, add-suc, zero-add}
 use native.Mathlib.Omega.{arith}
+use Rattle.limits.specs.Limits.{fileBytes, logBytes}
 use Rattle.buffers.specs.Parts.{cut, chosen, pasted, tabulate}
 use Rattle.buffers.specs.Marks.{withMark, withMarks}
 use Rattle.buffers.proofs.PartLaws.{pasted-none, pasted-append}
@@ -132,7 +133,7 @@ module _ (v w : Values) (fileOf : ℕ → ℕ) (ws : List Write) (f : ℕ) where
       ∙ ap₂ (λ (x y : List Item). x ++ y) (bring-asked v w (latest fileOf f p ws) (4096 * f + p)) (asked-same (suc p) n)
       ∙ sym (asked-suc w fileOf ws f p n)
 
-  pub result-same : (p n : ℕ) → ((i : ℕ) → i < n → v (byte (4096 * f + (p + i))) ≡ w (byte (4096 * f + (p + i))))
+  pub result-same : (p n : ℕ) → ((i : ℕ) → i < n → v (byte (fileBytes * f + (p + i))) ≡ w (byte (fileBytes * f + (p + i))))
       → result v (fetch fileOf ws f p n) ≡ result w (fetch fileOf ws f p n)
   unfolding fetch result
   result-same p zero same = refl
@@ -143,8 +144,8 @@ module _ (v w : Values) (fileOf : ℕ → ℕ) (ws : List Write) (f : ℕ) where
       (result-same (suc p) n (λ i l. at (suc p + i) (omega arith) (same (suc i) (omega arith))))
       ∙ sym (result-suc w fileOf ws f p n)
     where
-      at : {k : ℕ} (j : ℕ) → k ≡ j → v (byte (4096 * f + k)) ≡ w (byte (4096 * f + k)) → v (byte (4096 * f + j))
-          ≡ w (byte (4096 * f + j))
+      at : {k : ℕ} (j : ℕ) → k ≡ j → v (byte (fileBytes * f + k)) ≡ w (byte (fileBytes * f + k)) → v (byte (fileBytes * f + j))
+          ≡ w (byte (fileBytes * f + j))
       at j e = subst (λ (m : ℕ). v (byte (4096 * f + m)) ≡ w (byte (4096 * f + m))) e
 
 -- ---- marks
@@ -175,9 +176,10 @@ lengths-fetch v fileOf ws f p (suc m) is n =
 
 module _ (v : Values) (fileOf : ℕ → ℕ) (ws : List Write) (f t : ℕ) where
   -- where the file supplies each byte, the interval is marked
-  marked-run : (p n : ℕ) (marks : List ℕ) → ((i : ℕ) → i < n → asked v (one v fileOf ws f (p + i)) ≡ byte (4096 * f + (p + i))
+  marked-run : (p n : ℕ) (marks : List ℕ) → ((i : ℕ) → i < n
+      → asked v (one v fileOf ws f (p + i)) ≡ byte (fileBytes * f + (p + i))
       ∷ [])
-      → marked t (asked v (fetch fileOf ws f p n)) marks ≡ withMarks t (4096 * f + p) n marks
+      → marked t (asked v (fetch fileOf ws f p n)) marks ≡ withMarks t (fileBytes * f + p) n marks
   unfolding fetch asked marked
   marked-run p zero marks each = sym (with-marks-none t (4096 * f + p) marks)
   marked-run p (suc n) marks each =
@@ -190,8 +192,8 @@ module _ (v : Values) (fileOf : ℕ → ℕ) (ws : List Write) (f t : ℕ) where
       ∙ ap (λ (k : ℕ). withMarks t k n (withMark t q marks)) (add-suc (4096 * f) p)
       ∙ sym (with-marks-first t q n marks)
     where
-      moved : (i : ℕ) → asked v (one v fileOf ws f (p + suc i)) ≡ byte (4096 * f + (p + suc i)) ∷ []
-          → asked v (one v fileOf ws f (suc p + i)) ≡ byte (4096 * f + (suc p + i)) ∷ []
+      moved : (i : ℕ) → asked v (one v fileOf ws f (p + suc i)) ≡ byte (fileBytes * f + (p + suc i)) ∷ []
+          → asked v (one v fileOf ws f (suc p + i)) ≡ byte (fileBytes * f + (suc p + i)) ∷ []
       moved i = let e : p + suc i ≡ suc p + i = omega arith in subst (λ (k : ℕ). asked v (one v fileOf ws f k)
           ≡ byte (4096 * f + k) ∷ []) e
 
@@ -208,13 +210,13 @@ module _ (j : Recorded) (t records : ℕ) (log file : List ℕ) (inside : length
   ofOne f p = one (fileValues f file) (λ d. getD (j .filenumbers) d 0) (tabulate (writeIn (j .journal) log t) records) f p
 
   supplied : (f p : ℕ) (s : Supplier) → supplier j t records f p ≡ s → ofOne f p
-      ≡ bring (sourceOf (j .journal) log t p s) (4096 * f + p)
+      ≡ bring (sourceOf (j .journal) log t p s) (fileBytes * f + p)
   supplied f p s e = ap (λ (x : Source). bring x (4096 * f + p))
       (latest-is j log t f p records inside ∙ ap (sourceOf (j .journal) log t p) e)
 
   by-file : (f p : ℕ) → supplier j t records f p ≡ File
       → (result (fileValues f file) (ofOne f p) ≡ getD file p 0)
-      × (asked (fileValues f file) (ofOne f p) ≡ byte (4096 * f + p) ∷ [])
+      × (asked (fileValues f file) (ofOne f p) ≡ byte (fileBytes * f + p) ∷ [])
   unfolding sourceOf bring result asked fileValues
   by-file f p e =
       let g : 4096 * f + p - 4096 * f ≡ p = omega arith in (
@@ -253,10 +255,11 @@ module _ (j : Recorded) (t records : ℕ) (log file : List ℕ) (inside : length
     is-record : (k : ℕ) → supplier j t records f p ≡ Record k → logged ≡ true
     is-record k s = ap isRecord (run .supplied ∙ s)
 
-    pub run-within : length log ≡ 4096 → length file ≡ 4096 → r .at + r .length ≤ 4096
+    pub run-within : length log ≡ logBytes → length file ≡ fileBytes → r .at + r .length ≤ fileBytes
     run-within = pick (supplier j t records f p) refl
       where
-        pick : (s : Supplier) → supplier j t records f p ≡ s → length log ≡ 4096 → length file ≡ 4096 → r .at + r .length ≤ 4096
+        pick : (s : Supplier) → supplier j t records f p ≡ s → length log ≡ logBytes → length file ≡ fileBytes
+            → r .at + r .length ≤ fileBytes
         pick File s hl hf = omega (arith, is-file s .1, run .within)
         pick (Record k) s hl hf = omega (arith, run-in-log j t records e r run k s)
 
@@ -295,13 +298,13 @@ module _ (j : Recorded) (t records : ℕ) (log file : List ℕ) (inside : length
             (r .length)
             (λ i l. by-record f (p + i) k (run .same i l ∙ s) .1))
 
-    pub run-marks : (marks : List ℕ) → logged ≡ false → (from n : ℕ) → from ≡ 4096 * f + p → n ≡ r .length
+    pub run-marks : (marks : List ℕ) → logged ≡ false → (from n : ℕ) → from ≡ fileBytes * f + p → n ≡ r .length
         → withMarks t from n marks ≡ marksAfter j t records log file its marks
     unfolding marksAfter fetching
     run-marks marks b from n ef en = ap₂ (λ (k i : ℕ). withMarks t k i marks) ef en ∙ sym (pick (supplier j t records f p) refl)
       where
         pick : (s : Supplier) → supplier j t records f p ≡ s → marksAfter j t records log file its marks
-            ≡ withMarks t (4096 * f + p) (r .length) marks
+            ≡ withMarks t (fileBytes * f + p) (r .length) marks
         pick File s =
             marked-run (fileValues f file) (λ d. getD (j .filenumbers) d 0) (tabulate (writeIn (j .journal) log t) records) f t p
             (r .length) marks

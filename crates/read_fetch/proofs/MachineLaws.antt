@@ -4,6 +4,7 @@ use mathlib.Core.Path.{_≡_, sym, ap, _∙_}
 use lib.ListN.{getD}
 use Prim.Native.Nat.{ℕ, suc, _+_, _*_, _≤_}
 use native.Mathlib.Omega.{arith}
+use Rattle.limits.specs.Limits.{fileBytes}
 use Rattle.buffers.specs.Parts.{filePart, tabulate}
 use Rattle.buffers.proofs.PartLaws.{cut-cut, getD-cut}
 use Rattle.state.specs.Journal.{writeRecordAt}
@@ -44,7 +45,7 @@ module _ (j : Recorded) (logs : List ℕ) (t n : ℕ) (inside : lengthsBefore (j
   abbrev part : Values
   part = fileValues (e .file) (filePart files (e .file))
 
-  pub bytes-are : e .place + e .length ≤ 4096
+  pub bytes-are : e .place + e .length ≤ fileBytes
       → bytesRead j t n (logPart logs t) (filePart files (e .file)) e ≡ fetches (tabulate (writeAt (j .journal) logs t) n) v
   unfolding bytesRead fetching fileValues filePart
   bytes-are h =

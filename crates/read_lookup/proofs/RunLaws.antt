@@ -11,6 +11,7 @@ use native.Mathlib.Nat.{add-zero}
 use native.Mathlib.Numerals.{add-one}
 use native.Mathlib.Omega.{arith}
 use borrow.Author.Tests.{leb-true, ltb-true, lt-ltb, le-leb, eq-eqb, ne-eqb}
+use Rattle.limits.specs.Limits.{transactionCount}
 use Rattle.standings.specs.declared.Place.{Place}
 use Rattle.standings.specs.declared.Place.the-variants.{At, After}
 use Rattle.standings.specs.Table.{placeNumber}
@@ -453,7 +454,7 @@ module _ (j : Recorded) (t records : ℕ) (e : Extent) (r : Run) (run : RunOf j 
 
 -- ---- what state validity says of a transaction's write records
 
-pub records-counted : (x : Transaction) (journal : List ℕ) (t : ℕ) → t < 8 → TransactionInRange x journal t
+pub records-counted : (x : Transaction) (journal : List ℕ) (t : ℕ) → t < transactionCount → TransactionInRange x journal t
     → CountedRecords journal t (x .used)
 records-counted x journal t small r =
     record {

@@ -5,6 +5,8 @@ use mathlib.Core.Path.{_≡_, refl, sym, ap, ap₂, _∙_}
 use lib.ListN.{length}
 use native.Mathlib.Omega.{arith}
 use Prim.Native.Nat.{ℕ, zero, suc, _+_, _<_}
+use Rattle.state.specs.Journal.{journalLength}
+use Rattle.limits.specs.Limits.{bufferBytes, transactionCount}
 use Rattle.buffers.specs.Parts.{tabulate}
 use Rattle.state.specs.declared.StoreMeaning.{StoreMeaning}
 use Rattle.state.specs.StoreMeaning.{transaction}
@@ -20,12 +22,12 @@ use Rattle.spec.proofs.Refinement.StepPreserves.{total-append}
 -- What a call knows of the transaction that it was admitted to.
 pub record Opened (s : StoreMeaning) (journal logs : List ℕ) (t : ℕ) : Type 0 where
   pub shape : Shaped s
-  pub long : length journal ≡ 1728
-  pub size : length logs ≡ 32768
-  pub small : t < 8
+  pub long : length journal ≡ journalLength
+  pub size : length logs ≡ bufferBytes
+  pub small : t < transactionCount
   pub ranges : TransactionInRange (transaction s t) journal t
 
-pub decoded-open : (m : Machine) (t : ℕ) → Shaped (m .store) → length (m .journal) ≡ 1728
+pub decoded-open : (m : Machine) (t : ℕ) → Shaped (m .store) → length (m .journal) ≡ journalLength
     → Admitted (sizes m) (m .store) (m .journal) t
     → transaction (m .store) t .begun ≡ true → Opened (m .store) (m .journal) (m .logs) t
 decoded-open m t shape long a begun =

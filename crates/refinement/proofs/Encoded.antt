@@ -7,6 +7,7 @@ use lib.Dec.{eqb}
 use lib.ListN.{length, getD, set, length-append, List·getD-append}
 use lib.Seq.{getD-at}
 use Prim.Native.Nat.{ℕ, _+_, _<_}
+use Rattle.limits.specs.Limits.{descriptorCount}
 use Rattle.buffers.specs.Parts.{tabulate}
 use Rattle.standings.specs.declared.Standing.{Standing}
 use Rattle.state.specs.declared.Descriptor.{Descriptor}
@@ -30,11 +31,12 @@ use Rattle.refinement.proofs.Decoded.{Opened}
 abbrev descriptorAt : Transaction → ℕ → Descriptor
 descriptorAt x d = record { standing = standingAt x d; dirty = dirtyAt x d }
 
-tabulate-descriptors : (x : Transaction) → length (x .descriptors) ≡ 16 → tabulate (descriptorAt x) 16 ≡ x .descriptors
+tabulate-descriptors : (x : Transaction) → length (x .descriptors) ≡ descriptorCount
+    → tabulate (descriptorAt x) descriptorCount ≡ x .descriptors
 tabulate-descriptors x e =
     ap (λ (n : ℕ). tabulate (λ d. getD (x .descriptors) d noDescriptor) n) (sym e) ∙ tabulate-getD (x .descriptors) noDescriptor
 
-put-descriptor : (x : Transaction) (d : ℕ) (z : Standing) → d < 16 → length (x .descriptors) ≡ 16
+put-descriptor : (x : Transaction) (d : ℕ) (z : Standing) → d < descriptorCount → length (x .descriptors) ≡ descriptorCount
     → tabulate (λ e. record { standing = put d z (standingAt x) e; dirty = put d true (dirtyAt x) e }) 16
     ≡ set (x .descriptors) d (record { standing = z; dirty = true })
 unfolding put
@@ -84,7 +86,7 @@ module _ (s : StoreMeaning) (journal logs : List ℕ) (t : ℕ) (o : Opened s jo
       (ap recordOf (getD-at ws w [] noWrite n e)))
 
   -- One descriptor stands otherwise, and is dirty.
-  pub txn-dirtied : (d : ℕ) (z : Standing) → d < 16
+  pub txn-dirtied : (d : ℕ) (z : Standing) → d < descriptorCount
       → withTxn t (dirtied d z (txnOf s journal logs t)) [] s
       ≡ withTransaction t
       (withDescriptors (set (transaction s t .descriptors) d (record { standing = z; dirty = true })) (transaction s t)) s
@@ -98,7 +100,7 @@ module _ (s : StoreMeaning) (journal logs : List ℕ) (t : ℕ) (o : Opened s jo
       )
 
   -- One write more: its record, the counters, its descriptor.
-  pub txn-written : (d : ℕ) (bytes : List ℕ) → d < 16
+  pub txn-written : (d : ℕ) (bytes : List ℕ) → d < descriptorCount
       → withTxn t (written d bytes (txnOf s journal logs t)) [] s
       ≡ withTransaction t
       (withUsed (record { records = transaction s t .used .records + 1; bytes = transaction s t .used .bytes + length bytes })

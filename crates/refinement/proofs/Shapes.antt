@@ -4,6 +4,7 @@ use mathlib.Core.List.{List}
 use lib.ListN.{length}
 use lib.Seq.{getD-set-same, set-set}
 use Prim.Native.Nat.{ℕ, _<_}
+use Rattle.limits.specs.Limits.{descriptorCount, transactionCount}
 use Rattle.buffers.proofs.TableLaws.{length-tabulate}
 use Rattle.state.specs.declared.Transaction.{Transaction}
 use Rattle.state.specs.declared.StoreMeaning.{StoreMeaning}
@@ -12,7 +13,7 @@ use Rattle.state.specs.Layout.{transactionOf, undoOf, storeOf}
 use Rattle.state.proofs.LayoutLaws.{transaction-of}
 use Rattle.spec.proofs.Refinement.Relation.{Shaped}
 
-pub sixteen-descriptors : (state : List ℕ) (t : ℕ) → length (transactionOf state t .descriptors) ≡ 16
+pub sixteen-descriptors : (state : List ℕ) (t : ℕ) → length (transactionOf state t .descriptors) ≡ descriptorCount
 unfolding transactionOf
 sixteen-descriptors state t = length-tabulate _ 16
 
@@ -32,7 +33,7 @@ shaped state =
     }
 
 -- The eight transactions have numbers below 8.
-pub eight : (state : List ℕ) (t : ℕ) → t < 8 → t < length (storeOf state .transactions)
+pub eight : (state : List ℕ) (t : ℕ) → t < transactionCount → t < length (storeOf state .transactions)
 eight state t small = rw (shaped state .transactions) small
 
 -- A transaction that was put is read back, and changed where it stands.

@@ -4,6 +4,7 @@ use mathlib.Core.List.{List, []}
 use mathlib.Core.Path.{_≡_, refl, sym, ap, _∙_}
 use native.Mathlib.Omega.{arith}
 use Prim.Native.Nat.{ℕ, _<_}
+use Rattle.limits.specs.Limits.{transactionCount}
 use Rattle.state.specs.declared.StoreMeaning.{StoreMeaning}
 use Rattle.state.specs.declared.outcomes.Refusal.{Refusal}
 use Rattle.state.specs.declared.outcomes.Outcome.the-variants.{Done, Refused}
@@ -94,7 +95,7 @@ module _ (m : Machine) (t : ℕ) (passes : sharedWith m t 0 ≡ 0) where
   admitted-closed e buffer next = ap (λ (n : ℕ). passing n buffer m next) (admission-closed e)
 
 -- Whether the transaction is open, as the code reads it.
-module _ (state : List ℕ) (t : ℕ) (small : t < 8) {r : Bool} (reads : r ≡ transactionOf state t .begun) where
+module _ (state : List ℕ) (t : ℕ) (small : t < transactionCount) {r : Bool} (reads : r ≡ transactionOf state t .begun) where
   pub is-open : not r ≡ false → transaction (storeOf state) t .begun ≡ true
   is-open h = ap (λ (x : Transaction). x .begun) (transaction-of state t small) ∙ test-held reads h
 

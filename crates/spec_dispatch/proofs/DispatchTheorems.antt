@@ -8,6 +8,7 @@ use lib.Dec.{leb}
 use lib.ListN.{length}
 use native.Mathlib.Omega.{arith}
 use Prim.Native.Nat.{ℕ, _+_, _*_, _≤_, _<_}
+use Rattle.limits.specs.Limits.{lastTransaction, scriptCount, scriptCalls}
 use Rattle.buffers.proofs.TableLaws.{length-tabulate}
 use Rattle.windows.specs.Windows.{freshWindows}
 use Rattle.state.specs.StoreMeaning.{transaction, windowAt}
@@ -42,11 +43,11 @@ use Rattle.spec_dispatch.proofs.OnPlain.{Granted, plain-laws, plain-res
 
 -- What passed scripts tell.
 module _ (n : ℕ) (x : Scripts) (e : scriptsIn n x ≡ true) where
-  pub eight-scripts : x .count ≤ 8
+  pub eight-scripts : x .count ≤ scriptCount
   unfolding scriptsIn
   eight-scripts = leb-true (x .count) 8 (and-left (leb (x .count) 8) _ e)
 
-  pub sixteen-calls : (k : ℕ) → k < x .count → x .script k .count ≤ 16
+  pub sixteen-calls : (k : ℕ) → k < x .count → x .script k .count ≤ scriptCalls
   unfolding scriptsIn scriptIn
   sixteen-calls k l =
       leb-true (x .script k .count) 16
@@ -57,10 +58,10 @@ module _ (n : ℕ) (x : Scripts) (e : scriptsIn n x ≡ true) where
 
 module _ (m : Machine) (r : WorkResting m) (bytes : List ℕ) (minute : ℕ) (x : Scripts) (reader : List ℕ)
     (e : scriptsIn (length bytes) x ≡ true) where
-  few : x .count ≤ 8
+  few : x .count ≤ scriptCount
   few = eight-scripts (length bytes) x e
 
-  short : (k : ℕ) → k < x .count → x .script k .count ≤ 16
+  short : (k : ℕ) → k < x .count → x .script k .count ≤ scriptCalls
   short = sixteen-calls (length bytes) x e
 
   -- The abstract store.
@@ -124,7 +125,7 @@ module _ (m : Machine) (r : WorkResting m) (bytes : List ℕ) (minute : ℕ) (x 
   unfolding isRunning
   not-running = refl
 
-  none-open : (t : ℕ) → t ≤ 7 → transaction (m .store) t .begun ≡ isRunning (plainOf m .slots t)
+  none-open : (t : ℕ) → t ≤ lastTransaction → transaction (m .store) t .begun ≡ isRunning (plainOf m .slots t)
   unfolding startPlain
   none-open t l = r .closed t l ∙ sym not-running
 

@@ -3,6 +3,7 @@ use mathlib.Core.Bool.{false}
 use mathlib.Core.List.{List}
 use mathlib.Core.Path.{_≡_, ap, _∙_, fun-ext}
 use Prim.Native.Nat.{ℕ, _≤_}
+use Rattle.limits.specs.Limits.{lastTransaction}
 use Rattle.state.specs.StoreMeaning.{transaction, windowAt}
 use Rattle.spec.specs.Messages.{Call, Reply}
 use Rattle.spec.specs.Machine.{Machine, fileOf, values}
@@ -55,7 +56,7 @@ module _ (m : Machine) (p : Plain) (t : TwinWork m p) where
 -- A sound store with nothing open.
 pub record WorkResting (m : Machine) : Type 0 where
   pub sound : Sound m
-  pub closed : (t : ℕ) → t ≤ 7 → transaction (m .store) t .begun ≡ false
+  pub closed : (t : ℕ) → t ≤ lastTransaction → transaction (m .store) t .begun ≡ false
 
 pub resting-twins : (m : Machine) → WorkResting m → TwinWork m (plainOf m)
 resting-twins m r =

@@ -7,6 +7,7 @@ use borrow.Author.Tests.{le-leb, eqb-true}
 use lib.Dec.{leb, eqb}
 use native.Mathlib.Omega.{arith}
 use Prim.Native.Nat.{ℕ, zero, suc, _≤_, _<_}
+use Rattle.limits.specs.Limits.{lastTransaction, scriptCount, lastScript}
 use Rattle.state.specs.Outcomes.{Said, doneAnswer, pointer, given, granted, pairs, ordered, refused}
 use Rattle.spec.specs.Items.{Item, result, asked}
 use Rattle.spec.specs.Transactions.{put}
@@ -65,7 +66,7 @@ module _ (t : ℕ) (s : Abstract) where
   served-step o h is (refuse n) r = inl (λ e. omega (arith, r .0, e), refl)
   served-step o h is (accept y a buffer) r = inr (answer-none a r, _, put-same t _ (s .seats), refl)
 
-  module _ (small : leb t 7 ≡ true) where
+  module _ (small : leb t lastTransaction ≡ true) where
     served-call : (o : Op) (h : UndoSaved) → s .seats t ≡ held h → Served (h .stale) (abstractCall (on t o) s)
     unfolding abstractCall seated abstractOn
     served-call o h e =
@@ -311,7 +312,7 @@ answered-more (q ∷ rs) r h m = (h .0, answered-more rs r (h .1) m)
 
 -- ---- the laws
 
-module _ (s₀ : Abstract) (bytes : List ℕ) (minute : ℕ) (x : Scripts) (few : x .count ≤ 8) where
+module _ (s₀ : Abstract) (bytes : List ℕ) (minute : ℕ) (x : Scripts) (few : x .count ≤ scriptCount) where
   abbrev seatAfter : ℕ → List Call → Seat
   seatAfter k cs = abstractAfter cs s₀ .seats k
 
@@ -323,7 +324,7 @@ module _ (s₀ : Abstract) (bytes : List ℕ) (minute : ℕ) (x : Scripts) (few 
       → seatAfter k (cs ++ (c ∷ [])) ≡ z
   then-seat k c cs z e = ap (λ (s : Abstract). s .seats k) (after-one cs c s₀) ∙ e
 
-  small : (k : ℕ) → k < x .count → leb k 7 ≡ true
+  small : (k : ℕ) → k < x .count → leb k lastScript ≡ true
   small k l = le-leb k 7 (omega (arith, few))
 
   abbrev fresh : UndoSaved → Type 0

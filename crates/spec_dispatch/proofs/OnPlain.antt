@@ -8,6 +8,7 @@ use lib.Dec.{leb, eqb}
 use lib.ListN.{replicate}
 use native.Mathlib.Omega.{arith}
 use Prim.Native.Nat.{ℕ, zero, suc, _+_, _≤_, _<_, min}
+use Rattle.limits.specs.Limits.{lastTransaction, scriptCount, lastScript, scriptCalls}
 use Rattle.buffers.specs.Parts.{tabulate}
 use Rattle.buffers.proofs.PartLaws.{le-or-lt}
 use Rattle.windows.specs.Windows.{freshWindows}
@@ -73,7 +74,7 @@ module _ (t : ℕ) (p : Plain) where
   served-step o r es (refuse n) h = inl (λ e. omega (arith, h .0, e), refl)
   served-step o r es (accept y a buffer) h = inr (answer-none a h, _, put-same t _ (p .slots), _, refl)
 
-  module _ (small : leb t 7 ≡ true) where
+  module _ (small : leb t lastTransaction ≡ true) where
     served-call : (o : Op) (r : Running) → p .slots t ≡ running r → Served o (r .calls) (plainCall (on t o) p)
     unfolding plainCall withNumber plainOn
     served-call o r e =
@@ -132,7 +133,7 @@ module _ (t : ℕ) (p : Plain) where
     if-granted r zero e = refl
     if-granted r (suc n) e = absurd (omega (arith, e))
 
-    granted-one : leb t 7 ≡ true → (r : Running) → p .slots t ≡ running r
+    granted-one : leb t lastTransaction ≡ true → (r : Running) → p .slots t ≡ running r
         → refusalIn (plainCall (commit t minute) p .reply .answer) ≡ 0
         → grantedBy t minute (plainCall (commit t minute) p .reply .answer) (p .slots t)
         ≡ record { txnNumber = t; minute = minute; calls = r .calls } ∷ []
@@ -316,8 +317,8 @@ module _ (bytes : List ℕ) (minute : ℕ) (x : Scripts) where
 
 -- ---- the laws
 
-module _ (p₀ : Plain) (bytes : List ℕ) (minute : ℕ) (x : Scripts) (few : x .count ≤ 8)
-    (short : (k : ℕ) → k < x .count → x .script k .count ≤ 16) where
+module _ (p₀ : Plain) (bytes : List ℕ) (minute : ℕ) (x : Scripts) (few : x .count ≤ scriptCount)
+    (short : (k : ℕ) → k < x .count → x .script k .count ≤ scriptCalls) where
   abbrev slotAfter : ℕ → List Call → Slot
   slotAfter k cs = plainAfter cs p₀ .slots k
 
@@ -332,7 +333,7 @@ module _ (p₀ : Plain) (bytes : List ℕ) (minute : ℕ) (x : Scripts) (few : x
       → slotAfter k (cs ++ (c ∷ [])) ≡ z
   then-slot k c cs z e = ap (λ (p : Plain). p .slots k) (after-one cs c p₀) ∙ e
 
-  small : (k : ℕ) → k < x .count → leb k 7 ≡ true
+  small : (k : ℕ) → k < x .count → leb k lastScript ≡ true
   small k l = le-leb k 7 (omega (arith, few))
 
   ended : (k : ℕ) (cs : List Call) → k < x .count → Open (x .script k .count) k cs

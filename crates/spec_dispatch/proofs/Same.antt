@@ -5,6 +5,7 @@ use mathlib.Core.Path.{_≡_, refl, ap, _∙_, subst}
 use lib.ListN.{length}
 use native.Mathlib.Omega.{arith}
 use Prim.Native.Nat.{ℕ, zero, suc, _*_, _≤_}
+use Rattle.limits.specs.Limits.{lastTransaction}
 use Rattle.state.specs.StoreMeaning.{transaction}
 use Rattle.admission.specs.FirstRefusal.{guarded, isNone, unless}
 use Rattle.admission.specs.Admission.{noneBegun, admissionOfDispatch}
@@ -60,13 +61,13 @@ unfolding view abs
 same-committed m p t = ap (λ (z : Abstract). z .value) (t .same)
 
 -- Nobody is open in the store where nobody is on the reference model.
-none-same : (m : Machine) (p : Plain) → ((t : ℕ) → t ≤ 7 → transaction (m .store) t .begun ≡ isRunning (p .slots t))
+none-same : (m : Machine) (p : Plain) → ((t : ℕ) → t ≤ lastTransaction → transaction (m .store) t .begun ≡ isRunning (p .slots t))
     → noneBegun (m .store) ≡ noneRunning p
 unfolding noneBegun noneRunning
 none-same m p h = below-same _ _ 8 (λ t l. ap not (h t (omega arith)))
 
 module _ (bytes : List ℕ) (minute : ℕ) (x : Scripts) (m : Machine) (p : Plain) (reader : List ℕ) (t : TwinWork m p)
-    (opened : (t : ℕ) → t ≤ 7 → transaction (m .store) t .begun ≡ isRunning (p .slots t)) where
+    (opened : (t : ℕ) → t ≤ lastTransaction → transaction (m .store) t .begun ≡ isRunning (p .slots t)) where
   -- What the two dispatchers give where their tests say n, after the work w.
   abbrev byStore : Work → ℕ → Dispatched Machine
   byStore w n = ifPassed m reader w (callsAfter (w .made) m) n

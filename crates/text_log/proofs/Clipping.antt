@@ -8,6 +8,8 @@ use lib.Dec.{leb}
 use lib.ListN.{length, take}
 use lib.Seq.{length-take-le}
 use borrow.Author.Tests.{lt-leb}
+use Rattle.text_log.specs.LogLines.{mostWritten}
+use Rattle.limits.specs.Limits.{lastDescriptor}
 use Rattle.spec.specs.Machine.{Machine, txnOf, values}
 use Rattle.spec.specs.Transactions.{Txn}
 use Rattle.spec.specs.Items.{Item, Prog, done, asked, result}
@@ -17,7 +19,8 @@ use Rattle.spec.specs.Messages.{Call, on, Op, write, bufferOf}
 use Rattle.standings.specs.Table.{placeNumber, writePlace}
 
 -- A Write of more than 4,096 bytes is refused: by its descriptor, otherwise by its length.
-too-long : (d : ℕ) (bytes : List ℕ) (x : Txn) → 4096 < length bytes → writeStep d bytes x ≡ check (leb d 15) 6 (done (refuse 9))
+too-long : (d : ℕ) (bytes : List ℕ) (x : Txn) → 4096 < length bytes
+    → writeStep d bytes x ≡ check (leb d lastDescriptor) 6 (done (refuse 9))
 unfolding writeStep check
 too-long d bytes x h = rw (lt-leb (placeNumber (writePlace (x .standing d)) + length bytes) 4096 (omega arith))
 
@@ -29,14 +32,14 @@ served-refused t o m v true = refl
 served-refused t o m v false = refl
 
 refused-long : (t d : ℕ) (bytes : List ℕ) (m : Machine) → 4096 < length bytes → stepTurn t (write d bytes) m
-    ≡ refuseTurn (cond (leb d 15) 9 6) [] m
+    ≡ refuseTurn (cond (leb d lastDescriptor) 9 6) [] m
 unfolding stepTurn step refusedStale refusesStale isReadCall bufferOf
 refused-long t d bytes m h =
     rw (too-long d bytes (txnOf (m .store) (m .journal) (m .logs) t) h)
     (served-refused t (write d bytes) m (values (m .store) (m .files)) (leb d 15))
 
-pub clipped : (t d : ℕ) (bytes : List ℕ) (m : Machine) → 4097 ≤ length bytes
-    → call (on t (write d bytes)) m ≡ call (on t (write d (take 4097 bytes))) m
+pub clipped : (t d : ℕ) (bytes : List ℕ) (m : Machine) → mostWritten ≤ length bytes
+    → call (on t (write d bytes)) m ≡ call (on t (write d (take mostWritten bytes))) m
 unfolding call bufferOf
 clipped t d bytes m h =
     let l = length-take-le 4097 bytes h in

@@ -8,6 +8,7 @@ use lib.Dec.{leb, eqb}
 use lib.ListN.{length, take}
 use lib.Seq.{take-all, length-take-le}
 use borrow.Author.Tests.{leb-true, leb-false, lt-leb, ne-eqb}
+use Rattle.text_log.specs.LogLines.{mostOrdered}
 use Rattle.state.specs.Outcomes.{doneAnswer, refused}
 use Rattle.spec_orders.specs.Orders.{isList, distinct}
 use Rattle.admission.specs.FirstRefusal.{unless}
@@ -53,7 +54,7 @@ unfolding orderReply orderReplied orderRefusal unless
 no-order a minute budget ts h = rw (no-list ts h)
 
 pub order-cut : (ts : List ℕ) (minute budget : ℕ) (m : Machine)
-    → call (bestOrder (take 15 ts) minute budget) m ≡ call (bestOrder ts minute budget) m
+    → call (bestOrder (take mostOrdered ts) minute budget) m ≡ call (bestOrder ts minute budget) m
 unfolding call orderTurn
 order-cut ts minute budget m =
     ap (λ r. passing (firstTests (sizes m) (m .store) (m .journal) 0) [] m (record { reply = r; after = m }))

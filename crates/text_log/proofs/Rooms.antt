@@ -8,6 +8,8 @@ use lib.Dec.{leb, ltb}
 use lib.ListN.{length, take, drop}
 use lib.Seq.{take-append-seam}
 use borrow.Author.Tests.{leb-true, le-leb, lt-leb, lt-ltb, le-ltb, ltb-true, ltb-false}
+use Rattle.text_log.specs.LogLines.{mostWritten}
+use Rattle.limits.specs.Limits.{transactionCount}
 use Rattle.state.specs.StoreMeaning.{transaction}
 use Rattle.admission.specs.Admission.{admission}
 use Rattle.admission.specs.FirstRefusal.{unless}
@@ -41,13 +43,13 @@ module _ (v : Values) (file : ℕ → ℕ) (ws : List Write) (f p n : ℕ) (shor
   abbrev space : ℕ
   space = lengthFor file f ws (v (fileLength f)) - p
 
-  same-count : min (min n 4097) space ≡ min n space
+  same-count : min (min n mostWritten) space ≡ min n space
   same-count = omega arith
 
-  same-short : ltb (min (min n 4097) space) (min n 4097) ≡ ltb (min n space) n
+  same-short : ltb (min (min n mostWritten) space) (min n mostWritten) ≡ ltb (min n space) n
   same-short = pick (ltb space n) refl
     where
-      pick : (b : Bool) → ltb space n ≡ b → ltb (min (min n 4097) space) (min n 4097) ≡ ltb (min n space) n
+      pick : (b : Bool) → ltb space n ≡ b → ltb (min (min n mostWritten) space) (min n mostWritten) ≡ ltb (min n space) n
       pick true e =
           let h = ltb-true space n e in
           lt-ltb (min (min n 4097) space) (min n 4097) (omega arith) ∙ sym (lt-ltb (min n space) n (omega arith))
@@ -55,18 +57,18 @@ module _ (v : Values) (file : ℕ → ℕ) (ws : List Write) (f p n : ℕ) (shor
           let h = ltb-false space n e in
           le-ltb (min (min n 4097) space) (min n 4097) (omega arith) ∙ sym (le-ltb (min n space) n (omega arith))
 
-  same-bytes : result v (gather file ws f p (min n 4097)) ≡ result v (gather file ws f p n)
+  same-bytes : result v (gather file ws f p (min n mostWritten)) ≡ result v (gather file ws f p n)
   unfolding gather result
   same-bytes = ap₂ (λ (m : ℕ) (b : Bool). result v (andThen (fetch file ws f p m) (lengthSighted b f))) same-count same-short
 
-  same-asked : asked v (gather file ws f p (min n 4097)) ≡ asked v (gather file ws f p n)
+  same-asked : asked v (gather file ws f p (min n mostWritten)) ≡ asked v (gather file ws f p n)
   unfolding gather asked
   same-asked = ap₂ (λ (m : ℕ) (b : Bool). asked v (andThen (fetch file ws f p m) (lengthSighted b f))) same-count same-short
 
 -- ---- a step
 
 module _ (v : Values) (file : ℕ → ℕ) (d n : ℕ) (b c : List ℕ) (bounded : (f : ℕ) → v (fileLength f) ≤ 4096) where
-  near-settled : (y : Txn) → TxnIn y → Near v (readSettled file d (min n 4097) c y) (readSettled file d n b y)
+  near-settled : (y : Txn) → TxnIn y → Near v (readSettled file d (min n mostWritten) c y) (readSettled file d n b y)
   unfolding readSettled Close asked result shown
   near-settled y h =
       let f = file d in
@@ -87,14 +89,14 @@ module _ (v : Values) (file : ℕ → ℕ) (d n : ℕ) (b c : List ℕ) (bounded
 
   near-given : (ds : List ℕ) (x : Txn) → Preserved (pieces (x .writes)) x
       → ((y : Txn) → result v (settling ds x) ≡ all y → TxnIn y) → (s : Settled)
-      → result v (settling ds x) ≡ s → Near v (orGivenBack (readSettled file d (min n 4097) c) s)
+      → result v (settling ds x) ≡ s → Near v (orGivenBack (readSettled file d (min n mostWritten) c) s)
       (orGivenBack (readSettled file d n b) s)
   unfolding orGivenBack
   near-given ds x h state past e = near-refused v 12
   near-given ds x h state (all y) e = near-settled y (state y e)
 
-  near-read : n ≤ length b → length c ≡ 4097 → (x : Txn) → TxnIn x
-      → Near v (readStep file d (min n 4097) c x) (readStep file d n b x)
+  near-read : n ≤ length b → length c ≡ mostWritten → (x : Txn) → TxnIn x
+      → Near v (readStep file d (min n mostWritten) c x) (readStep file d n b x)
   unfolding readStep check settledByRead
   near-read l e x h =
       let ds = settledByRead file d x in
@@ -121,15 +123,15 @@ refused-alike b c m x y true false h = record { after = refl; answer = refl; sho
 refused-alike b c m x y true true h = h refl refl
 
 module _ (m : Machine) (t : ℕ) (sound : Sound m) where
-  pub admitted-open : (b c : List ℕ) (x y : Turn) → (t < 8 → transaction (m .store) t .begun ≡ true → SameTurn x y)
+  pub admitted-open : (b c : List ℕ) (x y : Turn) → (t < transactionCount → transaction (m .store) t .begun ≡ true → SameTurn x y)
       → SameTurn (admitted t b m x) (admitted t c m y)
   unfolding admitted admission
   admitted-open b c x y h =
       rw (shared-is m t sound (unless (transaction (m .store) t .begun) 4 0))
       (refused-alike b c m x y (leb t 7) (transaction (m .store) t .begun) (λ l q. let k = leb-true t 7 l in h (omega arith) q))
 
-  pub roomy : (d n : ℕ) (b c : List ℕ) → n ≤ length b → length c ≡ 4097
-      → SameTurn (call (on t (read d (min n 4097) c)) m) (call (on t (read d n b)) m)
+  pub roomy : (d n : ℕ) (b c : List ℕ) → n ≤ length b → length c ≡ mostWritten
+      → SameTurn (call (on t (read d (min n mostWritten) c)) m) (call (on t (read d n b)) m)
   unfolding call bufferOf stepTurn step refusedStale refusesStale isReadCall descriptorOfOp
   roomy d n b c l e =
       admitted-open c b _ _

@@ -16,7 +16,16 @@ use Rattle.requests.specs.declared.Request.the-variants.{Begin, Seek, Write, Ge
 use Rattle.requests.specs.declared.Request.the-variants.{SetWindow, UndoCommit}
 use Rattle.requests.specs.Requests.{callOf}
 use Rattle.spec.specs.Messages.{bestOrder}
-use Rattle.text_log.specs.LogLines.{letterAndNumbers, printable, textLine, pairsLine, writeLine, opLine, lineOf}
+use Rattle.text_log.specs.LogLines.{
+  letterAndNumbers,
+  printable,
+  textLine,
+  pairsLine,
+  writeLine,
+  opLine,
+  lineOf,
+  mostWritten,
+}
 use Rattle.text_log.specs.Recorded.{requestLine}
 
 -- One number; one number more.
@@ -48,7 +57,7 @@ pub length-joined : (n : ℕ) (ns : List ℕ) → length (joinedTexts (n ∷ ns)
 unfolding joinedTexts
 length-joined n ns = omega (arith, length-append (numberText n) (spacedTexts ns), length-number n, length-texts ns)
 
-pub length-pairs-line : (t d : ℕ) (bytes : List ℕ) → length bytes ≤ 4097 → length (pairsLine t d bytes) ≤ 8237
+pub length-pairs-line : (t d : ℕ) (bytes : List ℕ) → length bytes ≤ mostWritten → length (pairsLine t d bytes) ≤ 8237
 length-pairs-line t d bytes l =
     omega (
       arith,
@@ -57,7 +66,7 @@ length-pairs-line t d bytes l =
       length-pairs bytes,
     )
 
-pub length-write : (t d : ℕ) (bytes : List ℕ) → length bytes ≤ 4097 → length (writeLine t d bytes) ≤ 8237
+pub length-write : (t d : ℕ) (bytes : List ℕ) → length bytes ≤ mostWritten → length (writeLine t d bytes) ≤ 8237
 unfolding writeLine
 length-write t d bytes l = pick (leb (length (textLine t d bytes)) 128) refl (printable bytes)
   where

@@ -12,7 +12,7 @@ use Rattle.text_numerals.specs.Decimal.{joinedTexts}
 use Rattle.text_numerals.specs.Pairs.{hexPairs}
 use Rattle.text_numerals.specs.Put.{Put}
 use Rattle.text_numerals.proofs.PutLaws.{then, length-pairs}
-use Rattle.text_log.specs.LogLines.{letterAndNumbers, printable, textLine, pairsLine, writeLine}
+use Rattle.text_log.specs.LogLines.{letterAndNumbers, printable, textLine, pairsLine, writeLine, mostWritten}
 use Rattle.text_log.proofs.Texts.{behind-space, length-joined}
 
 module _ (after : ℕ) (bytes : List ℕ) where
@@ -43,7 +43,7 @@ whole t d bytes p =
     let k = length-append (joinedTexts (t ∷ d ∷ [])) (32 ∷ bytes) in
     omega (arith, p .end)
 
-pub put-write-line : {b m n : List ℕ} {e : ℕ} (t d : ℕ) (bytes : List ℕ) → 8238 ≤ length b → length bytes ≤ 4097
+pub put-write-line : {b m n : List ℕ} {e : ℕ} (t d : ℕ) (bytes : List ℕ) → 8238 ≤ length b → length bytes ≤ mostWritten
     → Put b 0 (spaced 87 t d) m e
     → n ≡ pasted m e bytes → (leb (e + length bytes) 128 && printable bytes) ≡ true
     → Put b 0 (writeLine t d bytes) n (e + length bytes)
@@ -54,7 +54,7 @@ put-write-line t d bytes room short p q is =
     rw (← whole t d bytes p, is, behind-space (letterAndNumbers 87 (t ∷ d ∷ [])) bytes)
     (then (spaced 87 t d) bytes (omega arith) p (record { bytes = q; end = refl }))
 
-pub put-other : {b m n o : List ℕ} {e f g : ℕ} (t d : ℕ) (bytes : List ℕ) → 8238 ≤ length b → length bytes ≤ 4097
+pub put-other : {b m n o : List ℕ} {e f g : ℕ} (t d : ℕ) (bytes : List ℕ) → 8238 ≤ length b → length bytes ≤ mostWritten
     → Put b 0 (spaced 87 t d) m e → Put m 0 (88 ∷ []) o f → Put o e (hexPairs bytes) n g
     → (leb (e + length bytes) 128 && printable bytes) ≡ false → Put b 0 (writeLine t d bytes) n g
 unfolding writeLine

@@ -7,6 +7,7 @@ use Prim.Native.Nat.{ℕ, _+_, _-_, _≤_}
 use native.Mathlib.Omega.{arith}
 use borrow.Author.Needs.{needs}
 use lib.ListN.{length}
+use Rattle.limits.specs.Limits.{fileBytes}
 use Rattle.spec.specs.Places.{Interval as Listed}
 use Rattle.read_lookup.specs.Lookup.{recordedIn}
 use Rattle.call_places.specs.PlacesCall.{coveredAt}
@@ -16,11 +17,11 @@ use Rattle.call_places.proofs.count_intervals.Statement.{statement}
 use Rattle.call_places.proofs.count_intervals.Tie as tie
 
 abbrev Inv-loop : tie.InvT-loop
-Inv-loop state t used f p₀ n₀ p n = (p ≤ 4096) × (n ≤ p) × (l : List Listed) × (length l ≡ n)
+Inv-loop state t used f p₀ n₀ p n = (p ≤ fileBytes) × (n ≤ p) × (l : List Listed) × (length l ≡ n)
     × Listing (coveredAt (recordedIn state) t (used .records) f) p l
 
 abbrev μ-loop : tie.MeasureT-loop
-μ-loop state t used f p₀ n₀ p n = 4096 - p
+μ-loop state t used f p₀ n₀ p n = fileBytes - p
 
 -- The places that are covered.
 abbrev covering : tie.Start Inv-loop μ-loop → ℕ → Bool

@@ -5,6 +5,7 @@ use Prim.Native.Nat.{ℕ, _-_, _≤_, _<_}
 use native.Mathlib.Omega.{arith}
 use borrow.Author.Needs.{needs}
 use borrow.Author.Tests.{not-true, not-false}
+use Rattle.limits.specs.Limits.{fileBytes}
 use Rattle.read_lookup.specs.Lookup.{Recorded, extent, recordedIn}
 use Rattle.call_places.specs.PlacesCall.{coveredAt}
 use Rattle.call_places.proofs.CoverLaws.{first-clear-here, first-clear-after}
@@ -12,11 +13,11 @@ use Rattle.call_places.proofs.first_clear.Statement.{statement}
 use Rattle.call_places.proofs.first_clear.Tie as tie
 
 abbrev Inv-loop : tie.InvT-loop
-Inv-loop state t used f p q₀ q = (p ≤ q) × (q ≤ 4096)
+Inv-loop state t used f p q₀ q = (p ≤ q) × (q ≤ fileBytes)
     × ((i : ℕ) → p ≤ i → i < q → coveredAt (recordedIn state) t (used .records) f i ≡ true)
 
 abbrev μ-loop : tie.MeasureT-loop
-μ-loop state t used f p q₀ q = 4096 - q
+μ-loop state t used f p q₀ q = fileBytes - q
 
 -- What is lent.
 abbrev lent : tie.Start Inv-loop μ-loop → Recorded

@@ -7,6 +7,7 @@ use Prim.Native.Nat.{ℕ, _+_, _-_, _*_, _≤_}
 use native.Mathlib.Omega.{arith}
 use borrow.Author.Needs.{needs}
 use lib.ListN.{length}
+use Rattle.limits.specs.Limits.{fileBytes}
 use Rattle.buffers.specs.Parts.{pasted}
 use Rattle.spec.specs.Places.{encoded, withPairs, intervalsOf, Interval as Listed}
 use Rattle.read_lookup.specs.Lookup.{recordedIn}
@@ -27,7 +28,7 @@ Inv-loop state t used f out₀ p₀ at₀ out p at =
     × (out ≡ pasted out₀ 0 (encoded l))
 
 abbrev μ-loop : tie.MeasureT-loop
-μ-loop state t used f out₀ p₀ at₀ out p at = 4096 - p
+μ-loop state t used f out₀ p₀ at₀ out p at = fileBytes - p
 
 -- The places that are covered.
 abbrev covering : tie.Start Inv-loop μ-loop → ℕ → Bool

@@ -4,6 +4,7 @@ use mathlib.Core.Logic.{⊎-elim}
 use mathlib.Core.Path.{_≡_, refl, sym, ap, ap₂, _∙_}
 use Prim.Native.Nat.{_-_, _≤_}
 use native.Mathlib.Omega.{arith}
+use Rattle.limits.specs.Limits.{transactionCount}
 use Rattle.buffers.specs.Bits.{bitsOf}
 use lib.Dec.{eqb}
 use Rattle.buffers.proofs.SetLaws.{gathered, passed-by}
@@ -13,10 +14,10 @@ use Rattle.commit_conflicts.proofs.watched.Statement.{statement}
 use Rattle.commit_conflicts.proofs.watched.Tie as tie
 
 abbrev Inv-loop : tie.InvT-loop
-Inv-loop state t found₀ u₀ found u = (u ≤ 8) × (found ≡ bitsOf (isWatched state t) u)
+Inv-loop state t found₀ u₀ found u = (u ≤ transactionCount) × (found ≡ bitsOf (isWatched state t) u)
 
 abbrev μ-loop : tie.MeasureT-loop
-μ-loop state t found₀ u₀ found u = 8 - u
+μ-loop state t found₀ u₀ found u = transactionCount - u
 
 loop-holds : tie.Need-loop-holds Inv-loop μ-loop
 unfolding bitsOf

@@ -5,6 +5,7 @@ use mathlib.Core.Path.{_≡_, refl, sym, ap, _∙_}
 use Prim.Native.Nat.{_-_, _≤_}
 use native.Mathlib.Omega.{arith}
 use borrow.Author.Needs.{needs}
+use Rattle.limits.specs.Limits.{fileCount}
 use Rattle.windows.specs.declared.Window.{Window}
 use Rattle.windows.specs.Windows.{isOpenAt, isClosedAt}
 use Rattle.buffers.specs.Bits.{bitsOf}
@@ -16,10 +17,10 @@ use Rattle.commit_windows.proofs.closed_files.Statement.{statement}
 use Rattle.commit_windows.proofs.closed_files.Tie as tie
 
 abbrev Inv-loop : tie.InvT-loop
-Inv-loop state minute closed₀ f₀ closed f = (f ≤ 8) × (closed ≡ bitsOf (isClosedAt (windowAt (storeOf state)) minute) f)
+Inv-loop state minute closed₀ f₀ closed f = (f ≤ fileCount) × (closed ≡ bitsOf (isClosedAt (windowAt (storeOf state)) minute) f)
 
 abbrev μ-loop : tie.MeasureT-loop
-μ-loop state minute closed₀ f₀ closed f = 8 - f
+μ-loop state minute closed₀ f₀ closed f = fileCount - f
 
 loop-holds : tie.Need-loop-holds Inv-loop μ-loop
 unfolding bitsOf

@@ -7,6 +7,7 @@ use lib.ListN.{getD}
 use Prim.Native.Nat.{ℕ, _-_, _≤_, _<_}
 use native.Mathlib.Omega.{arith}
 use borrow.Author.Needs.{needs}
+use Rattle.limits.specs.Limits.{descriptorCount}
 use Rattle.counters.specs.declared.Used.{Used}
 use Rattle.buffers.specs.Marks.{contains}
 use Rattle.state.specs.declared.journal.WriteRecord.{WriteRecord}
@@ -50,7 +51,7 @@ loop-of c = c .before .before .before
 abbrev start-of : tie.After-record-at Inv-loop μ-loop → tie.Start Inv-loop μ-loop
 start-of c = loop-of c .before .before
 
-descriptor : (c : tie.After-record-at Inv-loop μ-loop) → c .record-at .result .descriptor < 16
+descriptor : (c : tie.After-record-at Inv-loop μ-loop) → c .record-at .result .descriptor < descriptorCount
 descriptor c =
     let start = start-of c in
     let n : loop-of c .before .used-at .result .records
@@ -99,7 +100,8 @@ unfolding recordHasByteFor
 this c =
     let read = read-of (kept-of c) in
     let a = start-of read .args in
-    ap (λ (w : WriteRecord). ltb 0 (w .length) && contains (a .octet) (getD (storeOf (a .state .now) .filenumbers) (w .descriptor) 0))
+    ap
+    (λ (w : WriteRecord). ltb 0 (w .length) && contains (a .octet) (getD (storeOf (a .state .now) .filenumbers) (w .descriptor) 0))
     (sym (read .record-at .ensures))
     ∙ ap (λ (b : Bool). ltb 0 (read .record-at .result .length) && b)
     (sym (c .contains .ensures ∙ ap (contains (a .octet)) (file-is (kept-of c))))

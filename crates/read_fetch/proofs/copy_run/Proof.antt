@@ -4,6 +4,7 @@ use mathlib.Core.Path.{_≡_, sym, ap, _∙_}
 use Prim.Native.Nat.{_+_, _≤_}
 use native.Mathlib.Omega.{arith}
 use lib.ListN.{length}
+use Rattle.limits.specs.Limits.{fileBytes}
 use Rattle.buffers.specs.Parts.{pasted, cut, chosen}
 use Rattle.state.specs.Layout.{journalOf}
 use Rattle.admission.specs.Admission.{lengthsBefore}
@@ -34,7 +35,7 @@ is-record-requires c κs = search needs
 abbrev start-of : tie.After-latest-write → tie.Start
 start-of c = c .before .before .before .before .before
 
-run-ends : (c : tie.After-latest-write) → c .latest-write .result .at + c .latest-write .result .length ≤ 4096
+run-ends : (c : tie.After-latest-write) → c .latest-write .result .at + c .latest-write .result .length ≤ fileBytes
 run-ends c =
     let s = start-of c in
     let a = s .args in

@@ -5,6 +5,7 @@ use mathlib.Core.List.{List, [], _∷_, map}
 use mathlib.Core.Path.{_≡_}
 use lib.Dec.{leb}
 use Prim.Native.Nat.{ℕ, _+_}
+use Rattle.limits.specs.Limits.{lastTransaction}
 use Rattle.windows.specs.Windows.{minuteIn}
 use Rattle.spec.specs.Transactions.{empty}
 use Rattle.spec.specs.Commits.{fits}
@@ -26,7 +27,7 @@ serially fileOf n (g ∷ gs) c = serially fileOf (n + 1) gs (committing fileOf (
 -- "meet no refusal, give the same answers and bytes": each gets through all its calls with the replies that it had, and its
 -- Commit is not refused (alone it is not stale, and with Fresh's windows no file is closed, so by 22 or 12 at most).
 pub record SameAgain (fileOf : ℕ → ℕ) (c : Committed) (g : Grant) : Type 0 where
-  pub small : leb (g .txnNumber) 7 ≡ true
+  pub small : leb (g .txnNumber) lastTransaction ≡ true
   pub daily : minuteIn (g .minute) ≡ true
   pub through : again fileOf c (g .calls) .through ≡ true
   pub replies : again fileOf c (g .calls) .replies ≡ map (λ a. a .reply) (g .calls)

@@ -7,6 +7,7 @@ use borrow.Author.Tests.{not-false}
 use lib.Dec.{leb}
 use native.Mathlib.Omega.{arith}
 use Prim.Native.Nat.{ℕ}
+use Rattle.limits.specs.Limits.{lastTransaction}
 use Rattle.windows.specs.Windows.{minuteIn}
 use Rattle.state.specs.Outcomes.{Said, doneAnswer, pointer, given, granted, pairs, ordered, refused}
 use Rattle.spec.specs.Windows.{forClosed}
@@ -99,7 +100,7 @@ module _ (t minute : ℕ) (r : Running) (p : Plain) where
       ∙ answer-13 (minuteIn minute) (isStale p r) closedTo (fits (p .committed .value) (r .txn)) d e
 
   -- If the lists are equal the answer is not 13, and if they differ it is.
-  pub commit-tells : leb t 7 ≡ true → p .slots t ≡ running r → minuteIn minute ≡ true
+  pub commit-tells : leb t lastTransaction ≡ true → p .slots t ≡ running r → minuteIn minute ≡ true
       → Tells (plainCall (commit t minute) p .reply .answer) r p
   commit-tells l o d =
       record {

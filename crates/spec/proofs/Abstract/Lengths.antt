@@ -8,6 +8,7 @@ use lib.Dec.{ltb, eqb}
 use native.Mathlib.Nat.{eq-or-lt-of-le, le-of-suc-le-suc, not-suc-le-zero}
 use native.Mathlib.Omega.{arith}
 use Prim.Native.Nat.{ℕ, zero, suc, _+_, _*_, _≤_, _<_}
+use Rattle.limits.specs.Limits.{fileCount}
 use Rattle.spec.specs.Items.{Item, byte, offset, fileLength, same, Values}
 use Rattle.standings.specs.Table.{finalOffset}
 use Rattle.spec.specs.Transactions.{Txn, Write}
@@ -128,7 +129,8 @@ module _ (fileOf : ℕ → ℕ) (v : Values) where
       other true g k = unfold landed putItem same in rw (ne-eqb f n (λ e. omega arith)) k
       other false g k = unfold landed in k
 
-  pub commit-raised : (x : Txn) (f : ℕ) → f < 8 → landedEnd fileOf v f (x .writes) ≤ landed (settings fileOf v x) v (fileLength f)
+  pub commit-raised : (x : Txn) (f : ℕ) → f < fileCount
+      → landedEnd fileOf v f (x .writes) ≤ landed (settings fileOf v x) v (fileLength f)
   unfolding settings
   commit-raised x f h =
       let bs = byteSettings fileOf v (x .writes) in

@@ -5,6 +5,7 @@ use mathlib.Core.List.{List, map}
 use mathlib.Core.Path.{_≡_, refl, ap, _∙_, subst⁻¹}
 use lib.Dec.{leb}
 use Prim.Native.Nat.{ℕ}
+use Rattle.limits.specs.Limits.{lastDescriptor}
 use Rattle.spec.specs.Items.{done, result, asked}
 use Rattle.spec.specs.Transactions.{Txn, empty}
 use Rattle.spec.specs.Messages.{Op, seek, write, getFilePointer, read, bufferOf, on}
@@ -23,7 +24,8 @@ use Rattle.spec.proofs.Abstract.PlainInvariant.{Good, SoundSlot}
 use Rattle.spec.proofs.Abstract.SerialOrder.{alone-recorded}
 
 -- A step through a descriptor above 15 is refused with 6.
-no-descriptor : (fileOf : ℕ → ℕ) (o : Op) (x : Txn) → leb (descriptorOfOp o) 15 ≡ false → step fileOf o x ≡ done (refuse 6)
+no-descriptor : (fileOf : ℕ → ℕ) (o : Op) (x : Txn) → leb (descriptorOfOp o) lastDescriptor ≡ false
+    → step fileOf o x ≡ done (refuse 6)
 unfolding descriptorOfOp step seekStep writeStep pointerStep readStep check
 no-descriptor fileOf (seek d v) x e = rw e
 no-descriptor fileOf (write d bytes) x e = rw e
@@ -61,7 +63,7 @@ module _ (p : Plain) (g : Good p) (t : ℕ) (o : Op) (look : isReadCall o ≡ tr
     refused-claim n a = absurd (a n refl)
 
     -- A stale one is refused: with 18, or before that with 6.
-    open-moment : (stale low : Bool) → isStale p r ≡ stale → leb (descriptorOfOp o) 15 ≡ low
+    open-moment : (stale low : Bool) → isStale p r ≡ stale → leb (descriptorOfOp o) lastDescriptor ≡ low
         → Claim (refusedStale stale o (result (p .committed .value) (step (p .fileOf) o (r .txn))))
     unfolding Claim refusedStale refusesStale result
     open-moment false low e f =

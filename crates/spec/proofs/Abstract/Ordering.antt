@@ -6,6 +6,7 @@ use lib.Dec.{leb, eqb}
 use lib.ListN.{length}
 use native.Mathlib.Omega.{arith}
 use Prim.Native.Nat.{ℕ, _+_, _-_}
+use Rattle.limits.specs.Limits.{lastTransaction, mostOrders}
 use Rattle.windows.specs.Windows.{minuteIn}
 use Rattle.state.specs.Outcomes.{ordered, refused}
 use Rattle.admission.specs.FirstRefusal.{guarded, isNone, unless}
@@ -65,9 +66,9 @@ chosen true true true d b₄ e f b₆ x y g h =
 
 -- On whom two machines agree: of the numbers up to 7 on who is open, and on all else of the open ones.
 pub record Agreed (a b : Asked) : Type 0 where
-  pub isOpen : (t : ℕ) → leb t 7 ≡ true → a .isOpen t ≡ b .isOpen t
-  pub notReady : (t : ℕ) → leb t 7 && a .isOpen t ≡ true → a .notReady t ≡ b .notReady t
-  pub hasClosed : (t : ℕ) → leb t 7 && a .isOpen t ≡ true → a .hasClosed t ≡ b .hasClosed t
+  pub isOpen : (t : ℕ) → leb t lastTransaction ≡ true → a .isOpen t ≡ b .isOpen t
+  pub notReady : (t : ℕ) → leb t lastTransaction && a .isOpen t ≡ true → a .notReady t ≡ b .notReady t
+  pub hasClosed : (t : ℕ) → leb t lastTransaction && a .isOpen t ≡ true → a .hasClosed t ≡ b .hasClosed t
   pub grants : a .grants ≡ b .grants
 
 module _ (a b : Asked) (h : Agreed a b) (ts : List ℕ) (budget : ℕ) where
@@ -82,7 +83,7 @@ module _ (a b : Asked) (h : Agreed a b) (ts : List ℕ) (budget : ℕ) where
   abbrev gapFor : Rated → ℕ → ℕ
   gapFor best n = cond (eqb (length (triedOf budget ts)) (length (orders ts))) 0 (n - best .grants)
 
-  expected-same : allIn (λ t. leb t 7 && a .isOpen t) ts ≡ true → expected a ≡ expected b
+  expected-same : allIn (λ t. leb t lastTransaction && a .isOpen t) ts ≡ true → expected a ≡ expected b
   unfolding gapOf
   expected-same e =
       ap₂
@@ -109,11 +110,11 @@ module _ (a b : Asked) (h : Agreed a b) (ts : List ℕ) (budget : ℕ) where
 -- What a list, a minute and a budget that are not refused have passed.
 pub record Passed (a : Asked) (ts : List ℕ) (minute budget : ℕ) : Type 0 where
   pub list : isList ts ≡ true
-  pub numbers : allIn (λ t. leb t 7) ts ≡ true
+  pub numbers : allIn (λ t. leb t lastTransaction) ts ≡ true
   pub isOpen : allIn (a .isOpen) ts ≡ true
   pub daily : minuteIn minute ≡ true
   pub ready : allIn (λ t. not (a .notReady t)) ts ≡ true
-  pub affordable : leb 1 budget && leb budget 40320 ≡ true
+  pub affordable : leb 1 budget && leb budget mostOrders ≡ true
 
 pub passed : (a : Asked) (ts : List ℕ) (minute budget : ℕ) → orderRefusal a ts minute budget ≡ 0 → Passed a ts minute budget
 unfolding orderRefusal

@@ -1,6 +1,7 @@
 -- The invariant of the reference model, and that every call keeps it.
 use mathlib.Core.Bool.{Bool, true, false, cond, not, false≢true}
 use mathlib.Core.Logic.{⊎-elim}
+use Rattle.limits.specs.Limits.{lastTransaction}
 use Rattle.buffers.proofs.PartLaws.{le-or-lt}
 use Rattle.admission.proofs.Laws.{below-at}
 use mathlib.Core.List.{List, [], _∷_}
@@ -45,7 +46,7 @@ GoodEarlier (found c n) = (i : Item) → c .setter i ≤ n
 pub record Good (p : Plain) : Type 0 where
   pub setters : (i : Item) → p .committed .setter i ≤ p .grants
   pub sound : (t : ℕ) → SoundSlot (p .fileOf) (p .committed) (p .grants) (p .slots t)
-  pub above : (t : ℕ) → 7 < t → p .slots t ≡ closed
+  pub above : (t : ℕ) → lastTransaction < t → p .slots t ≡ closed
   pub earlier : GoodEarlier (p .earlier)
 
 pub good-start : (fileOf : ℕ → ℕ) (v : Values) (ws : Windows) (e : Earlier) → GoodEarlier e → Good (startPlain fileOf v ws e)
@@ -58,17 +59,17 @@ module _ (p : Plain) (g : Good p) where
   sound-at t r o = subst (SoundSlot (p .fileOf) (p .committed) (p .grants)) o (g .sound t)
 
   -- The number of an open transaction.
-  pub open-number : (t : ℕ) (r : Running) → p .slots t ≡ running r → leb t 7 ≡ true
+  pub open-number : (t : ℕ) (r : Running) → p .slots t ≡ running r → leb t lastTransaction ≡ true
   open-number t r o = chosen (leb t 7) refl
     where
-      chosen : (b : Bool) → leb t 7 ≡ b → leb t 7 ≡ true
+      chosen : (b : Bool) → leb t lastTransaction ≡ b → leb t lastTransaction ≡ true
       chosen true l = l
       chosen false l =
           let c : closed ≡ running r = sym (g .above t (leb-false t 7 l)) ∙ o in
           let z : _≡_ {A = ℕ} 0 1 = cc in
           absurd (omega arith)
 
-  pub good-slot : (t : ℕ) → leb t 7 ≡ true → (s : Slot) → SoundSlot (p .fileOf) (p .committed) (p .grants) s
+  pub good-slot : (t : ℕ) → leb t lastTransaction ≡ true → (s : Slot) → SoundSlot (p .fileOf) (p .committed) (p .grants) s
       → Good (withSlot t s p)
   unfolding withSlot
   good-slot t l s h =
@@ -87,7 +88,7 @@ module _ (p : Plain) (g : Good p) where
   sound-slot-granted r closed h = tt
   sound-slot-granted r (running q) h = sound-granted (p .fileOf) (p .committed) (p .grants) q h (r .txn)
 
-  pub good-grant : (t : ℕ) (r : Running) → leb t 7 ≡ true → Good (grant t r p)
+  pub good-grant : (t : ℕ) (r : Running) → leb t lastTransaction ≡ true → Good (grant t r p)
   unfolding grant committing SoundSlot withSlot
   good-grant t r l =
       let ss = settings (p .fileOf) (p .committed .value) (r .txn) in
@@ -108,7 +109,7 @@ module _ (p : Plain) (g : Good p) where
       at-most i true = omega arith
       at-most i false = omega (arith, g .setters i)
 
-  good-begin : (t : ℕ) → leb t 7 ≡ true → (s : Slot) → Good (plainBegin t s p .after)
+  good-begin : (t : ℕ) → leb t lastTransaction ≡ true → (s : Slot) → Good (plainBegin t s p .after)
   unfolding plainBegin plainAnswer plainRefuse SoundSlot
   good-begin t l closed = good-slot t l (running _) (sound-begun (p .fileOf) (p .committed) (p .grants))
   good-begin t l (running r) = g
@@ -141,7 +142,7 @@ module _ (p : Plain) (g : Good p) where
       refused-stale (λ z. Good (plainStepped t o r es p z .after)) (isStale p r) o s (unfold plainStepped in g)
       (λ e. good-stepped t o r l h s refl)
 
-  good-committed : (t : ℕ) (r : Running) → leb t 7 ≡ true → (n : ℕ) → Good (plainCommitted t r p n .after)
+  good-committed : (t : ℕ) (r : Running) → leb t lastTransaction ≡ true → (n : ℕ) → Good (plainCommitted t r p n .after)
   unfolding plainCommitted plainAnswer SoundSlot
   good-committed t r l zero = good-grant t r l
   good-committed t r l (suc n) = ended (eqb (suc n) 13)
@@ -150,7 +151,7 @@ module _ (p : Plain) (g : Good p) where
       ended true = good-slot t l closed tt
       ended false = g
 
-  good-commit : (t minute : ℕ) → leb t 7 ≡ true → (s : Slot) → Good (plainCommit t minute s p .after)
+  good-commit : (t minute : ℕ) → leb t lastTransaction ≡ true → (s : Slot) → Good (plainCommit t minute s p .after)
   unfolding plainCommit plainRefuse
   good-commit t minute l closed = g
   good-commit t minute l (running r) =
@@ -158,7 +159,7 @@ module _ (p : Plain) (g : Good p) where
       (commitRefusal (minuteIn minute) (isStale p r) (forClosed (p .fileOf) (p .windows) minute (r .txn .writes))
       (fits (p .committed .value) (r .txn)))
 
-  good-abort : (t : ℕ) → leb t 7 ≡ true → (s : Slot) → Good (plainAbort t s p .after)
+  good-abort : (t : ℕ) → leb t lastTransaction ≡ true → (s : Slot) → Good (plainAbort t s p .after)
   unfolding plainAbort plainRefuse plainAnswer SoundSlot
   good-abort t l closed = g
   good-abort t l (running r) = good-slot t l closed tt

@@ -6,6 +6,7 @@ use mathlib.Core.Path.{_≡_, refl, sym, ap, ap₂, _∙_, fun-ext}
 use borrow.Author.Tests.{eqb-true, eq-eqb}
 use lib.Dec.{leb, eqb}
 use Prim.Native.Nat.{ℕ, _+_}
+use Rattle.limits.specs.Limits.{transactionCount, lastTransaction}
 use Rattle.windows.specs.Windows.{minuteIn, freshWindows, isOpenAt, isClosedAt}
 use Rattle.buffers.specs.Bits.{bitsOf}
 use Rattle.buffers.proofs.SetLaws.{bits-none}
@@ -130,7 +131,7 @@ module _ (p : Plain) (r : Running) (rs : List Reply) (f : Faithful p r rs) where
       ap (λ (os : List Op). lone (p .fileOf) (p .committed) os empty) (map-append (λ (x : Accepted). x .op) (r .calls) (a ∷ []))
       ∙ lone-more (p .fileOf) (p .committed) (ops (r .calls)) (a .op) empty (r .txn) y answer buffer rs (r .seen) f q
 
-module _ (t : ℕ) (small : leb t 7 ≡ true) where
+module _ (t : ℕ) (small : leb t lastTransaction ≡ true) where
   -- The turn of a call of an open transaction that is not stale.
   on-turn : (o : Op) (r : Running) (p : Plain) → p .slots t ≡ running r → isStale p r ≡ false
       → plainCall (on t o) p
@@ -214,7 +215,7 @@ never-closed fileOf minute [] = refl
 never-closed fileOf minute (w ∷ ws) = rw (no-write-closed fileOf minute w) (never-closed fileOf minute ws)
 
 -- Nobody becomes stale where nobody is open.
-nobody : (t : ℕ) (p q : Plain) → Idle q → bitsOf (becameStale t p q) 8 ≡ 0
+nobody : (t : ℕ) (p q : Plain) → Idle q → bitsOf (becameStale t p q) transactionCount ≡ 0
 unfolding becameStale staleSlot
 nobody t p q none = bits-none (becameStale t p q) 8 (λ u. rw (none u) (last (not (eqb u t)) (equalSlot p (p .slots u))))
   where
@@ -232,13 +233,13 @@ put-closed t s f none u = pick (eqb u t)
     pick false = none u
 
 -- Begin of a closed number.
-begun-turn : (t : ℕ) (p : Plain) → leb t 7 ≡ true → p .slots t ≡ closed
+begun-turn : (t : ℕ) (p : Plain) → leb t lastTransaction ≡ true → p .slots t ≡ closed
     → plainCall (begin t) p ≡ record { reply = says doneAnswer; after = withSlot t (running justBegun) p }
 unfolding plainCall withNumber plainBegin plainAnswer
 begun-turn t p small e = ap₂ (λ (b : Bool) (s : Slot). cond b (plainBegin t s p) (plainRefuse 3 [] p)) small e
 
 -- Its accepted calls.
-ran-on : (t : ℕ) (p : Plain) (xs : List Accepted) → leb t 7 ≡ true
+ran-on : (t : ℕ) (p : Plain) (xs : List Accepted) → leb t lastTransaction ≡ true
     → lone (p .fileOf) (p .committed) (ops xs) empty .through ≡ true
     → lone (p .fileOf) (p .committed) (ops xs) empty .replies ≡ map (λ a. a .reply) xs
     → Ran t xs justBegun (withSlot t (running justBegun) p) (lone (p .fileOf) (p .committed) (ops xs) empty)
@@ -257,7 +258,7 @@ module _ (t : ℕ) (p : Plain) (r : Running) where
   idle-after none u = ap (λ (f : ℕ → Slot). put t closed f u) (put-twice t (running r) (running justBegun) (p .slots))
       ∙ put-closed t (running r) (p .slots) none u
 
-  granted-turn : (minute : ℕ) → leb t 7 ≡ true → minuteIn minute ≡ true → p .windows ≡ freshWindows → Idle p
+  granted-turn : (minute : ℕ) → leb t lastTransaction ≡ true → minuteIn minute ≡ true → p .windows ≡ freshWindows → Idle p
       → r .seen ≡ lone (p .fileOf) (p .committed) (ops (r .calls)) empty .seen
       → fits (p .committed .value) (r .txn) ≡ true
       → plainCall (commit t minute) ready ≡ record { reply = says (granted 0); after = grant t r ready }

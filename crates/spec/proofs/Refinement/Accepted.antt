@@ -8,6 +8,7 @@ use lib.Dec.{leb, eqb}
 use lib.ListN.{length, getD, List·getD-eq-default}
 use native.Mathlib.Omega.{arith}
 use Prim.Native.Nat.{ℕ, _*_, _≤_, _<_}
+use Rattle.limits.specs.Limits.{fileCount, fileBytes, descriptorCount, transactionCount, logBytes}
 use Rattle.buffers.specs.Marks.{contains}
 use Rattle.buffers.proofs.PartLaws.{le-or-lt}
 use Rattle.state.specs.declared.Transaction.{Transaction}
@@ -39,20 +40,21 @@ use Rattle.spec.proofs.Refinement.Encode.{encoded-long}
 use Rattle.spec.proofs.Refinement.Logged.{logged-carries, logged-apart}
 
 -- "files at most 7", of every number.
-file-in : (s : StoreMeaning) (journal : List ℕ) → length (s .filenumbers) ≡ 16 → InRange s journal → (d : ℕ) → fileOf s d ≤ 7
+file-in : (s : StoreMeaning) (journal : List ℕ) → length (s .filenumbers) ≡ descriptorCount → InRange s journal → (d : ℕ)
+    → fileOf s d ≤ 7
 unfolding fileOf
 file-in s journal size r d = ⊎-elim beyond (r .files d) (le-or-lt 16 d)
   where
-    beyond : 16 ≤ d → getD (s .filenumbers) d 0 ≤ 7
+    beyond : descriptorCount ≤ d → getD (s .filenumbers) d 0 ≤ 7
     beyond l = rw (List·getD-eq-default (s .filenumbers) 0 {n = d} (omega arith)) (omega arith)
 
 -- "lengths, at most 4,096", of every number.
-pub length-in : (s : StoreMeaning) (journal files : List ℕ) → length (s .lengths) ≡ 8 → InRange s journal → (f : ℕ)
-    → values s files (fileLength f) ≤ 4096
+pub length-in : (s : StoreMeaning) (journal files : List ℕ) → length (s .lengths) ≡ fileCount → InRange s journal → (f : ℕ)
+    → values s files (fileLength f) ≤ fileBytes
 unfolding values
 length-in s journal files size r f = ⊎-elim beyond (r .lengths f) (le-or-lt 8 f)
   where
-    beyond : 8 ≤ f → getD (s .lengths) f 0 ≤ 4096
+    beyond : fileCount ≤ f → getD (s .lengths) f 0 ≤ 4096
     beyond l = rw (List·getD-eq-default (s .lengths) 0 {n = f} (omega arith)) (omega arith)
 
 -- What is vacant stays so, and what is held is the same.
@@ -81,7 +83,8 @@ logged-after m t o y =
       stale = transaction (m .store) t .stale;
     }
 
-module _ (m : Machine) (t : ℕ) (o : Op) (sound : Sound m) (small : t < 8) (begun : transaction (m .store) t .begun ≡ true) where
+module _ (m : Machine) (t : ℕ) (o : Op) (sound : Sound m) (small : t < transactionCount)
+    (begun : transaction (m .store) t .begun ≡ true) where
   abbrev v : Values
   v = values (m .store) (m .files)
 
@@ -91,7 +94,7 @@ module _ (m : Machine) (t : ℕ) (o : Op) (sound : Sound m) (small : t < 8) (beg
   range : InRange (m .store) (m .journal)
   range = in-range (m .store) (m .journal) (sound .inRange)
 
-  bounded : (f : ℕ) → v (fileLength f) ≤ 4096
+  bounded : (f : ℕ) → v (fileLength f) ≤ fileBytes
   bounded = length-in (m .store) (m .journal) (m .files) (sound .shaped .lengths) range
 
   txn-in : TxnIn x
@@ -119,7 +122,7 @@ module _ (m : Machine) (t : ℕ) (o : Op) (sound : Sound m) (small : t < 8) (beg
     data-in : dataBefore (piecesAfter o (pieces (x .writes))) (length (piecesAfter o (pieces (x .writes)))) ≤ 4096
     data-in = rw (← preserved .same, ← total-pieces (y .writes)) (preserved .ranges .bytes)
 
-    carries : Carries (logged t o (m .store) (m .logs)) (4096 * t) (pieces (y .writes))
+    carries : Carries (logged t o (m .store) (m .logs)) (logBytes * t) (pieces (y .writes))
     carries =
         rw (preserved .same)
         (logged-carries (m .store) t (m .logs) (pieces (x .writes)) small (sound .logs) data-used o data-in

@@ -6,6 +6,7 @@ use lib.Dec.{leb}
 use Prim.Native.Nat.{ℕ, _<_}
 use native.Mathlib.Omega.{arith}
 use borrow.Author.Tests.{leb-true}
+use Rattle.limits.specs.Limits.{transactionCount, lastTransaction}
 use Rattle.state.specs.StoreMeaning.{transaction}
 use Rattle.admission.specs.Admission.{sizesIn, firstTests, shared, admission}
 use Rattle.admission.specs.FirstRefusal.{unless}
@@ -26,7 +27,7 @@ first-is m later sound = rw (sound .files, sound .logs, sound .marks, sound .und
 
 module _ (m : Machine) (t : ℕ) (sound : Sound m) where
   pub shared-is : (later : ℕ)
-      → shared (sizes m) (m .store) (m .journal) t later ≡ unless (leb t 7) 3 later
+      → shared (sizes m) (m .store) (m .journal) t later ≡ unless (leb t lastTransaction) 3 later
   unfolding shared
   shared-is later = first-is m _ sound
 
@@ -41,7 +42,8 @@ module _ (m : Machine) (t : ℕ) (sound : Sound m) where
     admits true true h = h refl refl
 
     -- A call on an open transaction.
-    pub admitted-agrees : (t < 8 → transaction (m .store) t .begun ≡ true → Agrees next (seating (held (heldBy m t)) (view m)))
+    pub admitted-agrees : (t < transactionCount → transaction (m .store) t .begun ≡ true
+        → Agrees next (seating (held (heldBy m t)) (view m)))
         → Agrees (admitted t buffer m next) (seated t buffer seating (view m))
     unfolding admitted admission seated view seat
     admitted-agrees h =

@@ -7,6 +7,7 @@ use lib.ListN.{length, getD}
 use Prim.Native.Nat.{ℕ, _≤_, _<_}
 use native.Mathlib.Omega.{arith}
 use borrow.Author.Tests.{le-leb, lt-leb, ne-eqb, eq-eqb}
+use Rattle.limits.specs.Limits.{fileCount, fileBytes, bufferBytes, descriptorCount, transactionCount}
 use Rattle.buffers.specs.Marks.{hasMark, withoutMarks, contains}
 use Rattle.buffers.proofs.MarkLaws.{length-without-marks, has-without-marks}
 use Rattle.state.specs.declared.Transaction.{Transaction}
@@ -27,12 +28,13 @@ staleAs h b = record { txn = h .txn; marked = h .marked; lengths = h .lengths; s
 
 -- ---- seats
 
-pub seat-in : (m : Machine) (u : ℕ) (b : Bool) (h : UndoSaved) → u < 8 → transaction (m .store) u .begun ≡ b → heldBy m u ≡ h
+pub seat-in : (m : Machine) (u : ℕ) (b : Bool) (h : UndoSaved) → u < transactionCount → transaction (m .store) u .begun ≡ b
+    → heldBy m u ≡ h
     → seat m u ≡ cond b (held h) vacant
 unfolding seat
 seat-in m u b h l e f = rw (le-leb u 7 (omega arith), e, f)
 
-pub seat-out : (m : Machine) (u : ℕ) → 8 ≤ u → seat m u ≡ vacant
+pub seat-out : (m : Machine) (u : ℕ) → transactionCount ≤ u → seat m u ≡ vacant
 unfolding seat
 seat-out m u l = rw (lt-leb u 7 (omega arith))
 
@@ -49,13 +51,13 @@ module _ (t : ℕ) (marks : List ℕ) where
 
 module _ (t : ℕ) (offsets lengths : List ℕ) (ts : List Transaction) (files : List ℕ) (m : Machine) where
   pub ending-sound : Sound m
-      → ((u : ℕ) → u < 8 → Carried (transaction (m .store) u) (getD ts u noTransaction))
-      → length offsets ≡ 16
-      → ((d : ℕ) → d < 16 → getD offsets d 0 ≤ 4096)
-      → length lengths ≡ 8
-      → ((f : ℕ) → f < 8 → getD lengths f 0 ≤ 4096)
+      → ((u : ℕ) → u < transactionCount → Carried (transaction (m .store) u) (getD ts u noTransaction))
+      → length offsets ≡ descriptorCount
+      → ((d : ℕ) → d < descriptorCount → getD offsets d 0 ≤ fileBytes)
+      → length lengths ≡ fileCount
+      → ((f : ℕ) → f < fileCount → getD lengths f 0 ≤ fileBytes)
       → length ts ≡ 8
-      → length files ≡ 32768
+      → length files ≡ bufferBytes
       → Sound (ending t offsets lengths ts files m)
   ending-sound sound carried e h j k f g =
       record {
@@ -81,7 +83,8 @@ module _ (t : ℕ) (offsets lengths : List ℕ) (ts : List Transaction) (files :
       ≡ hasMark (m .marks) u = fun-ext (λ q. unmarked-other t (m .marks) u q other) in
       λ i. record { txn = e i; marked = f i; lengths = contains (a .lengthmarks i); stale = getD ts u noTransaction .stale }
 
-  pub ending-seat : (u : ℕ) → u < 8 → (u ≡ t → ⊥) → AlikeElsewhere (transaction (m .store) u) (getD ts u noTransaction)
+  pub ending-seat : (u : ℕ) → u < transactionCount → (u ≡ t → ⊥)
+      → AlikeElsewhere (transaction (m .store) u) (getD ts u noTransaction)
       → seat (ending t offsets lengths ts files m) u
       ≡ cond (transaction (m .store) u .begun)
       (held (staleAs (heldBy m u) (getD ts u noTransaction .stale))) vacant

@@ -3,6 +3,7 @@ use mathlib.Core.Bool.{Bool, true, false, cond}
 use mathlib.Core.List.{List, [], _∷_, _++_}
 use native.Mathlib.Omega.{arith}
 use Prim.Native.Nat.{ℕ, zero, suc, _≤_, _<_}
+use Rattle.limits.specs.Limits.{descriptorCount}
 use Rattle.spec.specs.Transactions.{those}
 
 -- Descriptors that the store has.
@@ -14,7 +15,7 @@ descriptors-append : (ds es : List ℕ) → DescriptorsIn ds → DescriptorsIn e
 descriptors-append [] es h g = g
 descriptors-append (d ∷ ds) es h g = (h .0, descriptors-append ds es (h .1) g)
 
-pub one-in : (b : Bool) (d : ℕ) → d < 16 → DescriptorsIn (cond b (d ∷ []) [])
+pub one-in : (b : Bool) (d : ℕ) → d < descriptorCount → DescriptorsIn (cond b (d ∷ []) [])
 one-in true d h = (h, tt)
 one-in false d h = tt
 

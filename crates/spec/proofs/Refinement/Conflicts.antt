@@ -6,6 +6,7 @@ use lib.Dec.{eqb}
 use Prim.Native.Nat.{ℕ, _<_}
 use native.Mathlib.Omega.{arith}
 use borrow.Author.Tests.{le-leb}
+use Rattle.limits.specs.Limits.{transactionCount}
 use Rattle.state.specs.StoreMeaning.{transaction}
 use Rattle.buffers.specs.Bits.{bitsOf}
 use Rattle.buffers.proofs.SetLaws.{bits-same}
@@ -30,7 +31,7 @@ module _ (m : Machine) (u : ℕ) where
   conflicts-hit (x ∷ ss) = ap₂ _||_ (sighted-same (x .item)) (conflicts-hit ss)
 
 module _ (m : Machine) (t : ℕ) (ss : List Setting) where
-  pub made-stale : (u : ℕ) → u < 8 → madeStale t ss m u ≡ newlyStale ss (put t vacant (seat m) u)
+  pub made-stale : (u : ℕ) → u < transactionCount → madeStale t ss m u ≡ newlyStale ss (put t vacant (seat m) u)
   unfolding madeStale newlyStale put seat heldBy
   made-stale u l = rw (le-leb u 7 (omega arith), conflicts-hit m u ss) (pick (eqb u t) (transaction (m .store) u .begun))
     where
@@ -40,7 +41,7 @@ module _ (m : Machine) (t : ℕ) (ss : List Setting) where
       pick false true = refl
       pick false false = refl
 
-  pub octet-same : bitsOf (madeStale t ss m) 8 ≡ bitsOf (λ u. newlyStale ss (put t vacant (seat m) u)) 8
+  pub octet-same : bitsOf (madeStale t ss m) transactionCount ≡ bitsOf (λ u. newlyStale ss (put t vacant (seat m) u)) 8
   octet-same = bits-same (madeStale t ss m) (λ u. newlyStale ss (put t vacant (seat m) u)) 8 made-stale
 
   -- The flag of another transaction after the commit: it was stale, or is open and has sighted what is set.

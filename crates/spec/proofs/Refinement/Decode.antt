@@ -8,6 +8,7 @@ use lib.Dec.{leb}
 use lib.ListN.{length, getD, length-map, List·getD-map, List·getD-eq-default}
 use native.Mathlib.Omega.{arith}
 use Prim.Native.Nat.{ℕ, suc, _+_, _*_, _≤_, _<_}
+use Rattle.limits.specs.Limits.{bufferBytes, descriptorCount, transactionCount, logBytes}
 use Rattle.buffers.specs.Parts.{cut}
 use Rattle.buffers.proofs.PartLaws.{length-cut, le-or-lt}
 use Rattle.buffers.proofs.TableLaws.{length-tabulate, getD-tabulate}
@@ -41,7 +42,7 @@ total-pieces (w ∷ ws) =
     ap (λ (n : ℕ). length (w .bytes) + n) (total-pieces ws)
     ∙ sym (sum-first (λ j. length (getD (pieces (w ∷ ws)) j [])) (length (pieces ws)))
 
-module _ (s : StoreMeaning) (journal logs : List ℕ) (t : ℕ) (size : length logs ≡ 32768) (small : t < 8)
+module _ (s : StoreMeaning) (journal logs : List ℕ) (t : ℕ) (size : length logs ≡ bufferBytes) (small : t < transactionCount)
     (r : TransactionInRange (transaction s t) journal t) where
   -- The length of write record k, and how many there are.
   abbrev pub len : ℕ → ℕ
@@ -88,7 +89,7 @@ module _ (s : StoreMeaning) (journal logs : List ℕ) (t : ℕ) (size : length l
       ∙ data-before count (omega arith)
       ∙ r .total
 
-  pub decoded-carries : Carries logs (4096 * t) (pieces (txnOf s journal logs t .writes))
+  pub decoded-carries : Carries logs (logBytes * t) (pieces (txnOf s journal logs t .writes))
   unfolding writeAt dataStart
   decoded-carries k h =
       let g : k < count = rw length-pieces at h in
@@ -109,17 +110,19 @@ module _ (s : StoreMeaning) (journal logs : List ℕ) (t : ℕ) (size : length l
       → WriteIn (txnOf s journal logs t) (getD (txnOf s journal logs t .writes) k noWrite)
   decoded-writes k h = let g : k < count = rw decoded-count at h in rw (decoded-at k g) (write-in k g)
 
-  untouched : length (transaction s t .descriptors) ≡ 16 → (d : ℕ) → 16 ≤ d → txnOf s journal logs t .standing d ≡ Untouched
+  untouched : length (transaction s t .descriptors) ≡ descriptorCount → (d : ℕ) → descriptorCount ≤ d
+      → txnOf s journal logs t .standing d ≡ Untouched
   unfolding txnOf
   untouched sixteen d h = ap (λ (x : Descriptor). x .standing)
       (List·getD-eq-default (transaction s t .descriptors) noDescriptor (omega arith))
 
-  clean : length (transaction s t .descriptors) ≡ 16 → (d : ℕ) → 16 ≤ d → txnOf s journal logs t .dirty d ≡ false
+  clean : length (transaction s t .descriptors) ≡ descriptorCount → (d : ℕ) → descriptorCount ≤ d
+      → txnOf s journal logs t .dirty d ≡ false
   unfolding txnOf
   clean sixteen d h = ap (λ (x : Descriptor). x .dirty)
       (List·getD-eq-default (transaction s t .descriptors) noDescriptor (omega arith))
 
-  pub decoded-in : length (transaction s t .descriptors) ≡ 16 → TxnIn (txnOf s journal logs t)
+  pub decoded-in : length (transaction s t .descriptors) ≡ descriptorCount → TxnIn (txnOf s journal logs t)
   unfolding standingIn
   decoded-in sixteen =
       record {
@@ -131,5 +134,5 @@ module _ (s : StoreMeaning) (journal logs : List ℕ) (t : ℕ) (size : length l
         writes = decoded-writes;
       }
     where
-      known : (d : ℕ) → d < 16 → standingIn (txnOf s journal logs t .standing d) ≡ true
+      known : (d : ℕ) → d < descriptorCount → standingIn (txnOf s journal logs t .standing d) ≡ true
       known d h = unfold txnOf in r .standings d h

@@ -9,6 +9,7 @@ use lib.ListN.{length, getD, length-map, length-set, List·getD-map, List·getD-
 use lib.Seq.{getD-set-same, getD-set-other}
 use native.Mathlib.Omega.{arith}
 use Prim.Native.Nat.{ℕ, _+_, _*_, _≤_, _<_}
+use Rattle.limits.specs.Limits.{descriptorCount, transactionCount, logBytes}
 use Rattle.buffers.specs.Parts.{cut, tabulate}
 use Rattle.buffers.proofs.PartLaws.{le-or-lt}
 use Rattle.buffers.proofs.TableLaws.{length-tabulate, getD-tabulate}
@@ -17,7 +18,7 @@ use Rattle.state.specs.declared.Transaction.{Transaction}
 use Rattle.state.specs.declared.StoreMeaning.{StoreMeaning}
 use Rattle.state.specs.declared.journal.WriteRecord.{WriteRecord}
 use Rattle.state.specs.StoreMeaning.{transaction, standingAt, dirtyAt, noDescriptor, noTransaction}
-use Rattle.state.specs.Journal.{lastGrant, writeRecordAt}
+use Rattle.state.specs.Journal.{lastGrant, writeRecordAt, journalLength}
 use Rattle.state.proofs.JournalLaws.{length-with, read-own, read-elsewhere}
 use Rattle.admission.specs.Admission.{standingIn, recordIn, lengthsBefore, storeIn}
 use Rattle.admission.proofs.Laws.{and-both, sum-same, TransactionInRange, InRange, in-range, in-range-intro}
@@ -34,8 +35,8 @@ use Rattle.spec.proofs.Refinement.UndoValues.{SameGrant, undo-same}
 use Rattle.spec.proofs.Refinement.Others.{SameAt, range-same}
 
 module _ (s : StoreMeaning) (journal : List ℕ) (t : ℕ) (y : Txn) (is : List Item) (shaped : Shaped s)
-    (long : length journal ≡ 1728)
-    (small : t < 8) (h : TxnIn y) where
+    (long : length journal ≡ journalLength)
+    (small : t < transactionCount) (h : TxnIn y) where
   abbrev after-journal : List ℕ
   after-journal = journalled t (y .writes) journal
 
@@ -53,10 +54,10 @@ module _ (s : StoreMeaning) (journal : List ℕ) (t : ℕ) (y : Txn) (is : List 
   unfolding holding
   own-standing d = ap (λ (x : Transaction). standingAt x d) own-transaction ∙ ⊎-elim beyond known (le-or-lt 16 d)
     where
-      known : d < 16 → standingAt (holding y (sightingLengths is (transaction s t))) d ≡ y .standing d
+      known : d < descriptorCount → standingAt (holding y (sightingLengths is (transaction s t))) d ≡ y .standing d
       known l = ap (λ (x : Descriptor). x .standing) (getD-tabulate ownDescriptor 16 d noDescriptor l)
 
-      beyond : 16 ≤ d → standingAt (holding y (sightingLengths is (transaction s t))) d ≡ y .standing d
+      beyond : descriptorCount ≤ d → standingAt (holding y (sightingLengths is (transaction s t))) d ≡ y .standing d
       beyond l =
           ap (λ (x : Descriptor). x .standing)
           (List·getD-eq-default (tabulate ownDescriptor 16) noDescriptor (rw length-tabulate l))
@@ -66,10 +67,10 @@ module _ (s : StoreMeaning) (journal : List ℕ) (t : ℕ) (y : Txn) (is : List 
   unfolding holding
   own-dirty d = ap (λ (x : Transaction). dirtyAt x d) own-transaction ∙ ⊎-elim beyond known (le-or-lt 16 d)
     where
-      known : d < 16 → dirtyAt (holding y (sightingLengths is (transaction s t))) d ≡ y .dirty d
+      known : d < descriptorCount → dirtyAt (holding y (sightingLengths is (transaction s t))) d ≡ y .dirty d
       known l = ap (λ (x : Descriptor). x .dirty) (getD-tabulate ownDescriptor 16 d noDescriptor l)
 
-      beyond : 16 ≤ d → dirtyAt (holding y (sightingLengths is (transaction s t))) d ≡ y .dirty d
+      beyond : descriptorCount ≤ d → dirtyAt (holding y (sightingLengths is (transaction s t))) d ≡ y .dirty d
       beyond l =
           ap (λ (x : Descriptor). x .dirty)
           (List·getD-eq-default (tabulate ownDescriptor 16) noDescriptor (rw length-tabulate l))
@@ -104,7 +105,7 @@ module _ (s : StoreMeaning) (journal : List ℕ) (t : ℕ) (y : Txn) (is : List 
   unfolding recordOf
   own-place k l = ap (λ (w : WriteRecord). w .place) (own-written k l)
 
-  own-write : (logs : List ℕ) → Carries logs (4096 * t) (pieces (y .writes)) → (k : ℕ) → k < length (y .writes)
+  own-write : (logs : List ℕ) → Carries logs (logBytes * t) (pieces (y .writes)) → (k : ℕ) → k < length (y .writes)
       → writeAt after-journal logs t k ≡ getD (y .writes) k noWrite
   unfolding writeAt dataStart
   own-write logs carries k l =
@@ -120,7 +121,8 @@ module _ (s : StoreMeaning) (journal : List ℕ) (t : ℕ) (y : Txn) (is : List 
       }
 
   -- The state means y there, if the logs carry y's bytes.
-  pub encoded : (logs : List ℕ) → Carries logs (4096 * t) (pieces (y .writes)) → txnOf (withTxn t y is s) after-journal logs t ≡ y
+  pub encoded : (logs : List ℕ) → Carries logs (logBytes * t) (pieces (y .writes))
+      → txnOf (withTxn t y is s) after-journal logs t ≡ y
   unfolding txnOf holding
   encoded logs carries =
       λ i.
@@ -162,7 +164,7 @@ module _ (s : StoreMeaning) (journal : List ℕ) (t : ℕ) (y : Txn) (is : List 
 
   -- ---- every other transaction
 
-  pub other-same : (u : ℕ) → u < 8 → (u ≡ t → ⊥) → SameAt (withTxn t y is s) after-journal s journal u
+  pub other-same : (u : ℕ) → u < transactionCount → (u ≡ t → ⊥) → SameAt (withTxn t y is s) after-journal s journal u
   unfolding withTxn withTransaction journalled
   other-same u m other =
       record {
@@ -195,7 +197,7 @@ module _ (s : StoreMeaning) (journal : List ℕ) (t : ℕ) (y : Txn) (is : List 
         transactions = λ u l b. ⊎-elim (λ same. rw same own-range) (elsewhere u l b) (same-or-not u t);
       })
     where
-      elsewhere : (u : ℕ) → u < 8 → transaction (withTxn t y is s) u .begun ≡ true → (u ≡ t → ⊥)
+      elsewhere : (u : ℕ) → u < transactionCount → transaction (withTxn t y is s) u .begun ≡ true → (u ≡ t → ⊥)
           → TransactionInRange (transaction (withTxn t y is s) u) after-journal u
       elsewhere u l b ne =
           let same = other-same u l ne in
@@ -216,16 +218,17 @@ module _ (s : StoreMeaning) (journal : List ℕ) (t : ℕ) (y : Txn) (is : List 
         descriptors = λ u l. ⊎-elim (here u) (elsewhere u l) (same-or-not u t);
       }
     where
-      here : (u : ℕ) → u ≡ t → length (transaction (withTxn t y is s) u .descriptors) ≡ 16
+      here : (u : ℕ) → u ≡ t → length (transaction (withTxn t y is s) u .descriptors) ≡ descriptorCount
       here u e =
           ap (λ (v : ℕ). length (transaction (withTxn t y is s) v .descriptors)) e
           ∙ ap (λ (x : Transaction). length (x .descriptors)) own-transaction
           ∙ length-tabulate ownDescriptor 16
 
-      elsewhere : (u : ℕ) → u < 8 → (u ≡ t → ⊥) → length (transaction (withTxn t y is s) u .descriptors) ≡ 16
+      elsewhere : (u : ℕ) → u < transactionCount → (u ≡ t → ⊥)
+          → length (transaction (withTxn t y is s) u .descriptors) ≡ descriptorCount
       elsewhere u l ne = ap (λ (x : Transaction). length (x .descriptors)) (other-same u l ne .transaction)
           ∙ shaped .descriptors u l
 
-  pub encoded-long : length after-journal ≡ 1728
+  pub encoded-long : length after-journal ≡ journalLength
   unfolding journalled
   encoded-long = length-with journal t (λ k. recordOf (getD (y .writes) k noWrite)) (length (y .writes)) ∙ long

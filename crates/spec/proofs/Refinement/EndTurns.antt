@@ -6,6 +6,7 @@ use lib.Dec.{leb}
 use Prim.Native.Nat.{ℕ, _<_}
 use native.Mathlib.Omega.{arith}
 use borrow.Author.Tests.{leb-true}
+use Rattle.limits.specs.Limits.{transactionCount, lastTransaction}
 use Rattle.windows.specs.Windows.{minuteIn}
 use Rattle.state.specs.StoreMeaning.{transaction, windowAt, ended, begun}
 use Rattle.admission.specs.Admission.{admissionOfBegin}
@@ -29,7 +30,7 @@ use Rattle.spec.proofs.Refinement.Relation.{TxnIn}
 use Rattle.spec.proofs.Refinement.Grants.{granted-sound, granted-view, granted-reply}
 
 module _ (m : Machine) (t : ℕ) (sound : Sound m) where
-  begins : (b c : Bool) → leb t 7 ≡ b
+  begins : (b c : Bool) → leb t lastTransaction ≡ b
       → Agrees (passing (unless b 3 (unless (not c) 5 0)) [] m (beginTurn t m))
       (cond b (abstractBegin t (cond (b && c) (held (heldBy m t)) vacant) (view m)) (turnedAway 3 [] (view m)))
   unfolding unless passing refuseTurn turnedAway abstractBegin beginTurn answerWith telling begun ended
@@ -46,7 +47,7 @@ module _ (m : Machine) (t : ℕ) (sound : Sound m) where
       (sym (shared-is m t sound (unless (not (transaction (m .store) t .begun)) 5 0)))
       (begins (leb t 7) (transaction (m .store) t .begun) refl)
 
-  abort-next : t < 8 → Agrees (abortTurn t m) (abstractAbort t (held (heldBy m t)) (view m))
+  abort-next : t < transactionCount → Agrees (abortTurn t m) (abstractAbort t (held (heldBy m t)) (view m))
   unfolding abortTurn answerWith abstractAbort telling ended
   abort-next l = (refl, reset-view t ended m l ended-bare sound, reset-sound t ended m l ended-bare sound)
 
@@ -62,7 +63,7 @@ module _ (m : Machine) (t : ℕ) (sound : Sound m) where
       listed = unfold placesTurn abstractPlaces heldBy view in (refl, refl, sound)
 
   -- 22, 13, 21, 12, or granted.
-  decides : t < 8 → TxnIn (txnOf (m .store) (m .journal) (m .logs) t) → (daily p shut q : Bool)
+  decides : t < transactionCount → TxnIn (txnOf (m .store) (m .journal) (m .logs) t) → (daily p shut q : Bool)
       → fits (values (m .store) (m .files)) (txnOf (m .store) (m .journal) (m .logs) t) ≡ q
       → Agrees (commitDecided t (txnOf (m .store) (m .journal) (m .logs) t) (settingsOf m t) m (commitRefusal daily p shut q))
       (abstractCommitted t (heldBy m t) (view m) (commitRefusal daily p shut q))
@@ -75,7 +76,7 @@ module _ (m : Machine) (t : ℕ) (sound : Sound m) where
       let x = txnOf (m .store) (m .journal) (m .logs) t in
       (granted-reply m t x l sound h e, granted-view m t x l sound h e, granted-sound m t x l sound h e)
 
-  commit-next : (minute : ℕ) → t < 8 → transaction (m .store) t .begun ≡ true
+  commit-next : (minute : ℕ) → t < transactionCount → transaction (m .store) t .begun ≡ true
       → Agrees (commitTurn t minute m) (abstractCommit t minute (held (heldBy m t)) (view m))
   unfolding commitTurn abstractCommit heldBy view fileOf
   commit-next minute l b =

@@ -6,6 +6,8 @@ use mathlib.Core.Path.{_≡_, refl, sym, ap, _∙_, fun-ext}
 use lib.ListN.{length, getD, replicate, length-replicate, getD-replicate}
 use Prim.Native.Nat.{ℕ, zero, suc, _≤_, _<_}
 use native.Mathlib.Omega.{arith}
+use Rattle.state.specs.Journal.{journalLength}
+use Rattle.limits.specs.Limits.{lastFile, bufferBytes, descriptorCount, transactionCount, undoBytes}
 use Rattle.windows.specs.Windows.{minuteIn, Windows, freshWindow, freshWindows}
 use Rattle.buffers.proofs.PartLaws.{le-or-lt}
 use Rattle.state.specs.declared.Transaction.{Transaction}
@@ -35,15 +37,15 @@ length-zeros : (n : ℕ) → length (replicate n zero) ≡ n
 length-zeros n = length-replicate n zero
 
 module _ (numbers : List ℕ) (logs old : List ℕ) where
-  ended-at : (u : ℕ) → u < 8 → transaction (freshStore numbers) u ≡ ended
+  ended-at : (u : ℕ) → u < transactionCount → transaction (freshStore numbers) u ≡ ended
   unfolding freshStore
   ended-at u l = getD-replicate 8 u ended noTransaction l
 
-  pub closed-at : (u : ℕ) → u < 8 → transaction (freshMachine numbers logs old .store) u .begun ≡ false
+  pub closed-at : (u : ℕ) → u < transactionCount → transaction (freshMachine numbers logs old .store) u .begun ≡ false
   unfolding freshMachine ended
   closed-at u l = ap (λ (x : Transaction). x .begun) (ended-at u l)
 
-  seats : (u : ℕ) → (8 ≤ u) ⊎ (u < 8) → seat (freshMachine numbers logs old) u ≡ vacant
+  seats : (u : ℕ) → (transactionCount ≤ u) ⊎ (u < transactionCount) → seat (freshMachine numbers logs old) u ≡ vacant
   seats u (inl l) = seat-out (freshMachine numbers logs old) u l
   seats u (inr l) = seat-in (freshMachine numbers logs old) u false (heldBy (freshMachine numbers logs old) u) l (closed-at u l)
       refl
@@ -62,7 +64,7 @@ module _ (numbers : List ℕ) (logs old : List ℕ) where
       let w : _≡_ {A = Windows} (windowAt (freshStore numbers)) freshWindows = fun-ext (always 8) in
       λ i. record { fileOf = λ d. getD numbers d 0; value = f i; windows = w i; back = none; seats = e i }
 
-  fresh-shaped : length numbers ≡ 16 → Shaped (freshStore numbers)
+  fresh-shaped : length numbers ≡ descriptorCount → Shaped (freshStore numbers)
   unfolding freshStore ended
   fresh-shaped e =
       record {
@@ -76,7 +78,8 @@ module _ (numbers : List ℕ) (logs old : List ℕ) where
         descriptors = λ u l. ap (λ (x : Transaction). length (x .descriptors)) (ended-at u l) ∙ length-replicate 16 noDescriptor;
       }
 
-  fresh-in : ((d : ℕ) → d < 16 → getD numbers d 0 ≤ 7) → InRange (freshStore numbers) (replicate 1728 0)
+  fresh-in : ((d : ℕ) → d < descriptorCount → getD numbers d 0 ≤ lastFile)
+      → InRange (freshStore numbers) (replicate journalLength 0)
   unfolding freshStore ended
   fresh-in h =
       record {
@@ -88,7 +91,8 @@ module _ (numbers : List ℕ) (logs old : List ℕ) where
         transactions = λ u l b. absurd (true≢false (sym b ∙ ap (λ (x : Transaction). x .begun) (ended-at u l)));
       }
 
-  pub fresh-sound : length numbers ≡ 16 → ((d : ℕ) → d < 16 → getD numbers d 0 ≤ 7) → length logs ≡ 32768 → length old ≡ 4096
+  pub fresh-sound : length numbers ≡ descriptorCount → ((d : ℕ) → d < descriptorCount → getD numbers d 0 ≤ lastFile)
+      → length logs ≡ bufferBytes → length old ≡ undoBytes
       → Sound (freshMachine numbers logs old)
   unfolding freshMachine
   fresh-sound e h g k =

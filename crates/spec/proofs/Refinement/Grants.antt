@@ -7,6 +7,7 @@ use lib.Dec.{eqb}
 use lib.ListN.{getD}
 use Prim.Native.Nat.{ℕ, _≤_, _<_}
 use borrow.Author.Tests.{eqb-true, eqb-false, eq-eqb, ne-eqb}
+use Rattle.limits.specs.Limits.{transactionCount}
 use Rattle.buffers.proofs.PartLaws.{le-or-lt}
 use Rattle.buffers.specs.Parts.{tabulate}
 use Rattle.buffers.proofs.TableLaws.{length-tabulate, getD-tabulate}
@@ -58,7 +59,7 @@ module _ (m : Machine) (t : ℕ) (ss : List Setting) where
   abbrev flag : ℕ → Bool
   flag u = transaction (m .store) u .stale || madeStale t ss m u
 
-  at-commit : (u : ℕ) → u < 8 → (b : Bool) → eqb u t ≡ b
+  at-commit : (u : ℕ) → u < transactionCount → (b : Bool) → eqb u t ≡ b
       → getD ts u noTransaction ≡ cond b ended (withStale (flag u) (transaction (m .store) u))
   unfolding ts afterCommit
   at-commit u l b e = getD-tabulate (afterCommit t ss m) 8 u noTransaction l ∙ rw e
@@ -67,13 +68,14 @@ module _ (m : Machine) (t : ℕ) (ss : List Setting) where
       → AlikeElsewhere (transaction (m .store) u) y
   flagged-alike u y e = rw e (record { begun = refl; lengthmarks = refl; used = refl; descriptors = refl })
 
-  carried : (u : ℕ) → u < 8 → (b : Bool) → eqb u t ≡ b → Carried (transaction (m .store) u) (getD ts u noTransaction)
+  carried : (u : ℕ) → u < transactionCount → (b : Bool) → eqb u t ≡ b
+      → Carried (transaction (m .store) u) (getD ts u noTransaction)
   carried u l true e = inr (rw (at-commit u l true e) ended-bare)
   carried u l false e = inl (flagged-alike u (getD ts u noTransaction) (at-commit u l false e))
 
   -- ---- seats
 
-  own-seat : t < 8 → seat after t ≡ vacant
+  own-seat : t < transactionCount → seat after t ≡ vacant
   unfolding after ended
   own-seat l = seat-in after t false (heldBy after t) l
       (ap (λ (y : Transaction). y .begun) (at-commit t l true (eq-eqb t t refl))) refl
@@ -89,8 +91,8 @@ module _ (m : Machine) (t : ℕ) (ss : List Setting) where
       (conflicts-hit m u ss)
   touched u false = refl
 
-  module _ (small : t < 8) where
-    other-seat : (u : ℕ) → (u ≡ t → ⊥) → (8 ≤ u) ⊎ (u < 8) → seat after u ≡ touch ss (seat m u)
+  module _ (small : t < transactionCount) where
+    other-seat : (u : ℕ) → (u ≡ t → ⊥) → (transactionCount ≤ u) ⊎ (u < transactionCount) → seat after u ≡ touch ss (seat m u)
     unfolding after touch
     other-seat u h (inl l) = seat-out after u l ∙ ap (touch ss) (sym (seat-out m u l))
     other-seat u h (inr l) =
@@ -142,7 +144,7 @@ module _ (m : Machine) (t : ℕ) (ss : List Setting) where
   on-reply = ap (λ (n : ℕ). record { answer = granted n; buffer = [] }) (octet-same m t ss)
 
 -- A grant of transaction t, as x, in range and with a placing that fits.
-module _ (m : Machine) (t : ℕ) (x : Txn) (small : t < 8) (sound : Sound m) (ranges : TxnIn x)
+module _ (m : Machine) (t : ℕ) (x : Txn) (small : t < transactionCount) (sound : Sound m) (ranges : TxnIn x)
     (fit : fits (values (m .store) (m .files)) x ≡ true) where
   abbrev mine : List Setting
   mine = settings (fileOf (m .store)) (values (m .store) (m .files)) x

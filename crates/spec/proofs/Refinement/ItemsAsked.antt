@@ -6,6 +6,7 @@ use borrow.Author.Tests.{leb-true}
 use lib.Dec.{leb, ltb, eqb}
 use native.Mathlib.Omega.{arith}
 use Prim.Native.Nat.{ℕ, zero, suc, _+_, _-_, _*_, _≤_, _<_, min}
+use Rattle.limits.specs.Limits.{lastFile, fileBytes, bufferBytes}
 use Rattle.spec.specs.Items.{Item, offset, fileLength, Values, Prog, done, andThen, result, asked}
 use Rattle.standings.specs.Table.{advance, pointerSettles, readSettles, offsetOf}
 use Rattle.spec.specs.Transactions.{Txn, Write, those, settle, Settled, past, all, settling}
@@ -25,7 +26,7 @@ items-append : (is js : List Item) → ItemsIn is → ItemsIn js → ItemsIn (is
 items-append [] js h g = g
 items-append (i ∷ is) js h g = (h .0, items-append is js (h .1) g)
 
-module _ (v : Values) (bounded : (f : ℕ) → v (fileLength f) ≤ 4096) where
+module _ (v : Values) (bounded : (f : ℕ) → v (fileLength f) ≤ fileBytes) where
   -- A program that asks only for items that the store has.
   AsksIn : {A : Type 0} → Prog A → Type 0
   AsksIn p = ItemsIn (asked v p)
@@ -70,13 +71,13 @@ module _ (v : Values) (bounded : (f : ℕ) → v (fileLength f) ≤ 4096) where
           unfold orGivenBack in k y (settling-preserved v ds x y (pieces (x .writes)) low (record { ranges = h; same = refl })
           e .ranges)
 
-  asks-bring : (s : Source) (q : ℕ) → q < 32768 → AsksIn (bring s q)
+  asks-bring : (s : Source) (q : ℕ) → q < bufferBytes → AsksIn (bring s q)
   unfolding AsksIn bring asked
   asks-bring (own b) q h = tt
   asks-bring file q h = (h, tt)
 
-  module _ (fileOf : ℕ → ℕ) (small : (d : ℕ) → fileOf d ≤ 7) where
-    asks-fetch : (ws : List Write) (f p n : ℕ) → f ≤ 7 → n ≤ 4096 - p → AsksIn (fetch fileOf ws f p n)
+  module _ (fileOf : ℕ → ℕ) (small : (d : ℕ) → fileOf d ≤ lastFile) where
+    asks-fetch : (ws : List Write) (f p n : ℕ) → f ≤ lastFile → n ≤ fileBytes - p → AsksIn (fetch fileOf ws f p n)
     unfolding fetch
     asks-fetch ws f p zero hf hn = asks-done []
     asks-fetch ws f p (suc n) hf hn =
@@ -85,7 +86,7 @@ module _ (v : Values) (bounded : (f : ℕ) → v (fileLength f) ≤ 4096) where
         (λ b. asks-andThen (fetch fileOf ws f (suc p) n) _ (asks-fetch ws f (suc p) n hf (omega arith))
         (λ bs. asks-done (b ∷ bs)))
 
-    asks-gather : (y : Txn) (f p n : ℕ) → f ≤ 7 → TxnIn y → AsksIn (gather fileOf (y .writes) f p n)
+    asks-gather : (y : Txn) (f p n : ℕ) → f ≤ lastFile → TxnIn y → AsksIn (gather fileOf (y .writes) f p n)
     unfolding AsksIn
     asks-gather y f p n hf h =
         let m = min n (lengthFor fileOf f (y .writes) (v (fileLength f)) - p) in

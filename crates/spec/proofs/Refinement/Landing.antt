@@ -8,6 +8,7 @@ use lib.Seq.{getD-set-same, getD-set-other}
 use Prim.Native.Nat.{ℕ, _≤_, _<_}
 use native.Mathlib.Omega.{arith}
 use borrow.Author.Tests.{eqb-true, eqb-false}
+use Rattle.limits.specs.Limits.{fileCount, fileBytes, bufferBytes, descriptorCount}
 use Rattle.state.specs.declared.Transaction.{Transaction}
 use Rattle.state.specs.declared.StoreMeaning.{StoreMeaning}
 use Rattle.spec.specs.Items.{Item, byte, offset, fileLength, same}
@@ -63,42 +64,42 @@ length-lengths (x ∷ ss) lengths = length-lengths ss (landLength (x .item) (x .
 
 -- ---- ranges
 
-limit-one : (i : Item) (n : ℕ) (offsets : List ℕ) → SetIn i n → length offsets ≡ 16
-    → ((d : ℕ) → d < 16 → getD offsets d 0 ≤ 4096)
-    → (d : ℕ) → d < 16 → getD (landOffset i n offsets) d 0 ≤ 4096
+limit-one : (i : Item) (n : ℕ) (offsets : List ℕ) → SetIn i n → length offsets ≡ descriptorCount
+    → ((d : ℕ) → d < descriptorCount → getD offsets d 0 ≤ fileBytes)
+    → (d : ℕ) → d < descriptorCount → getD (landOffset i n offsets) d 0 ≤ 4096
 unfolding landOffset
 limit-one (byte q) n offsets h e r d l = r d l
 limit-one (fileLength f) n offsets h e r d l = r d l
 limit-one (offset c) n offsets h e r d l = rw (getD-set offsets c n d (omega arith)) (pick (eqb d c))
   where
-    pick : (b : Bool) → cond b n (getD offsets d 0) ≤ 4096
+    pick : (b : Bool) → cond b n (getD offsets d 0) ≤ fileBytes
     pick true = h .1
     pick false = r d l
 
-pub limit-landed : (ss : List Setting) (offsets : List ℕ) → AllIn ss → length offsets ≡ 16
-    → ((d : ℕ) → d < 16 → getD offsets d 0 ≤ 4096)
-    → (d : ℕ) → d < 16 → getD (landOffsets ss offsets) d 0 ≤ 4096
+pub limit-landed : (ss : List Setting) (offsets : List ℕ) → AllIn ss → length offsets ≡ descriptorCount
+    → ((d : ℕ) → d < descriptorCount → getD offsets d 0 ≤ fileBytes)
+    → (d : ℕ) → d < descriptorCount → getD (landOffsets ss offsets) d 0 ≤ 4096
 unfolding landOffsets
 limit-landed [] offsets a e r = r
 limit-landed (x ∷ ss) offsets a e r =
     limit-landed ss (landOffset (x .item) (x .to) offsets) (a .1) (length-offset (x .item) (x .to) offsets ∙ e)
     (limit-one (x .item) (x .to) offsets (a .0) e r)
 
-length-one : (i : Item) (n : ℕ) (lengths : List ℕ) → SetIn i n → length lengths ≡ 8
-    → ((f : ℕ) → f < 8 → getD lengths f 0 ≤ 4096)
-    → (f : ℕ) → f < 8 → getD (landLength i n lengths) f 0 ≤ 4096
+length-one : (i : Item) (n : ℕ) (lengths : List ℕ) → SetIn i n → length lengths ≡ fileCount
+    → ((f : ℕ) → f < fileCount → getD lengths f 0 ≤ fileBytes)
+    → (f : ℕ) → f < fileCount → getD (landLength i n lengths) f 0 ≤ 4096
 unfolding landLength
 length-one (byte q) n lengths h e r f l = r f l
 length-one (offset d) n lengths h e r f l = r f l
 length-one (fileLength g) n lengths h e r f l = rw (getD-set lengths g n f (omega arith)) (pick (eqb f g))
   where
-    pick : (b : Bool) → cond b n (getD lengths f 0) ≤ 4096
+    pick : (b : Bool) → cond b n (getD lengths f 0) ≤ fileBytes
     pick true = h .1
     pick false = r f l
 
-pub limit-lengths : (ss : List Setting) (lengths : List ℕ) → AllIn ss → length lengths ≡ 8
-    → ((f : ℕ) → f < 8 → getD lengths f 0 ≤ 4096)
-    → (f : ℕ) → f < 8 → getD (landLengths ss lengths) f 0 ≤ 4096
+pub limit-lengths : (ss : List Setting) (lengths : List ℕ) → AllIn ss → length lengths ≡ fileCount
+    → ((f : ℕ) → f < fileCount → getD lengths f 0 ≤ fileBytes)
+    → (f : ℕ) → f < fileCount → getD (landLengths ss lengths) f 0 ≤ 4096
 unfolding landLengths
 limit-lengths [] lengths a e r = r
 limit-lengths (x ∷ ss) lengths a e r =
@@ -108,7 +109,8 @@ limit-lengths (x ∷ ss) lengths a e r =
 -- ---- values
 
 module _ (ts : List Transaction) (s : StoreMeaning) where
-  one-landed : (offsets lengths files : List ℕ) → length offsets ≡ 16 → length lengths ≡ 8 → length files ≡ 32768
+  one-landed : (offsets lengths files : List ℕ) → length offsets ≡ descriptorCount → length lengths ≡ fileCount
+      → length files ≡ bufferBytes
       → (n : ℕ) (i : Item) → SetIn i n → (j : Item)
       → values (renewed (landOffset i n offsets) (landLength i n lengths) ts s) (landByte i n files) j
       ≡ putItem i n (values (renewed offsets lengths ts s) files) j
@@ -123,8 +125,9 @@ module _ (ts : List Transaction) (s : StoreMeaning) where
   one-landed offsets lengths files e g f n (fileLength j) h (offset d) = refl
   one-landed offsets lengths files e g f n (fileLength j) h (fileLength k) = getD-set lengths j n k (omega arith)
 
-  pub all-landed : (ss : List Setting) (offsets lengths files : List ℕ) → AllIn ss → length offsets ≡ 16 → length lengths ≡ 8
-      → length files ≡ 32768
+  pub all-landed : (ss : List Setting) (offsets lengths files : List ℕ) → AllIn ss → length offsets ≡ descriptorCount
+      → length lengths ≡ fileCount
+      → length files ≡ bufferBytes
       → values (renewed (landOffsets ss offsets) (landLengths ss lengths) ts s) (landFiles ss files)
       ≡ landed ss (values (renewed offsets lengths ts s) files)
   unfolding landOffsets landLengths landFiles landed

@@ -7,6 +7,7 @@ use lib.Seq.{getD-at}
 use native.Mathlib.Nat.{eq-or-lt-of-le, le-of-suc-le-suc}
 use native.Mathlib.Omega.{arith}
 use Prim.Native.Nat.{ℕ, suc, _+_, _*_, _≤_, _<_}
+use Rattle.limits.specs.Limits.{bufferBytes, transactionCount, logBytes}
 use Rattle.buffers.specs.Parts.{cut, pasted}
 use Rattle.buffers.proofs.PartLaws.{length-pasted, pasted-before, pasted-after, cut-pasted, cut-pasted-before}
 use Rattle.state.specs.declared.StoreMeaning.{StoreMeaning}
@@ -69,10 +70,12 @@ module _ (ps : List (List ℕ)) (b : List ℕ) where
         earlier m = rw (data-more k (omega arith), piece-before k m) (carries-before k m)
 
 -- The logs after a step on a transaction whose data used are its pieces'.
-module _ (s : StoreMeaning) (t : ℕ) (logs : List ℕ) (ps : List (List ℕ)) (small : t < 8) (size : length logs ≡ 32768)
+module _ (s : StoreMeaning) (t : ℕ) (logs : List ℕ) (ps : List (List ℕ)) (small : t < transactionCount)
+    (size : length logs ≡ bufferBytes)
     (used : dataBefore ps (length ps) ≡ transaction s t .used .bytes) where
-  pub logged-carries : (o : Op) → dataBefore (piecesAfter o ps) (length (piecesAfter o ps)) ≤ 4096 → Carries logs (4096 * t) ps
-      → Carries (logged t o s logs) (4096 * t) (piecesAfter o ps)
+  pub logged-carries : (o : Op) → dataBefore (piecesAfter o ps) (length (piecesAfter o ps)) ≤ 4096
+      → Carries logs (logBytes * t) ps
+      → Carries (logged t o s logs) (logBytes * t) (piecesAfter o ps)
   unfolding logged
   logged-carries (seek d v) few h = h
   logged-carries (write d bytes) few h =

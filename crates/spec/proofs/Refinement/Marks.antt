@@ -6,6 +6,7 @@ use borrow.Author.Tests.{eq-eqb, ne-eqb}
 use lib.Dec.{eqb}
 use lib.ListN.{length}
 use Prim.Native.Nat.{ℕ, _<_}
+use Rattle.limits.specs.Limits.{bufferBytes, transactionCount}
 use Rattle.buffers.specs.Bits.{withBit}
 use Rattle.buffers.specs.Marks.{hasMark, withMark, contains}
 use Rattle.buffers.proofs.SetLaws.{contains-with}
@@ -33,7 +34,8 @@ length-marked t (byte q ∷ is) marks = length-marked t is (withMark t q marks) 
 length-marked t (offset d ∷ is) marks = length-marked t is marks
 length-marked t (fileLength f ∷ is) marks = length-marked t is marks
 
-module _ (t q : ℕ) (marks : List ℕ) (small : t < 8) (there : q < 32768) (size : length marks ≡ 32768) where
+module _ (t q : ℕ) (marks : List ℕ) (small : t < transactionCount) (there : q < bufferBytes)
+    (size : length marks ≡ bufferBytes) where
   -- One mark more: transaction t's own, and another's.
   own-mark : (p : ℕ) → hasMark (withMark t q marks) t p ≡ put q true (hasMark marks t) p
   unfolding put
@@ -47,7 +49,7 @@ module _ (t q : ℕ) (marks : List ℕ) (small : t < 8) (there : q < 32768) (siz
   other-mark u ne p = has-with-mark t q u p marks small there size ∙ rw (ne-eqb u t ne)
 
 -- The bytes that transaction t has sighted after sightings.
-pub marked-own : (t : ℕ) (is : List Item) (marks : List ℕ) → t < 8 → length marks ≡ 32768 → ItemsIn is
+pub marked-own : (t : ℕ) (is : List Item) (marks : List ℕ) → t < transactionCount → length marks ≡ bufferBytes → ItemsIn is
     → hasMark (marked t is marks) t ≡ markAll is (hasMark marks t)
 unfolding marked markAll
 marked-own t [] marks small l h = refl
@@ -58,7 +60,8 @@ marked-own t (offset d ∷ is) marks small l h = marked-own t is marks small l (
 marked-own t (fileLength f ∷ is) marks small l h = marked-own t is marks small l (h .1)
 
 -- Those of another transaction.
-pub marked-other : (t u : ℕ) (is : List Item) (marks : List ℕ) → t < 8 → length marks ≡ 32768 → ItemsIn is → (u ≡ t → ⊥)
+pub marked-other : (t u : ℕ) (is : List Item) (marks : List ℕ) → t < transactionCount → length marks ≡ bufferBytes → ItemsIn is
+    → (u ≡ t → ⊥)
     → (p : ℕ) → hasMark (marked t is marks) u p ≡ hasMark marks u p
 unfolding marked
 marked-other t u [] marks small l h ne p = refl

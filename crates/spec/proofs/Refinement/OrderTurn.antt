@@ -4,6 +4,7 @@ use mathlib.Core.List.{List, []}
 use mathlib.Core.Path.{_≡_, refl, sym, ap, _∙_, fun-ext, subst}
 use lib.Dec.{leb}
 use Prim.Native.Nat.{ℕ}
+use Rattle.limits.specs.Limits.{lastTransaction}
 use Rattle.state.specs.StoreMeaning.{transaction}
 use Rattle.spec.specs.Messages.{bestOrder}
 use Rattle.spec.specs.Machine.{Machine, fileOf}
@@ -16,11 +17,12 @@ use Rattle.spec.proofs.Refinement.Relation.{heldBy, seat, view, Sound}
 use Rattle.spec.proofs.Refinement.Admissions.{Agrees, first-is}
 use Rattle.spec.proofs.Refinement.EndTurns.{commit-turn}
 
-pub seat-open : (m : Machine) (t : ℕ) → leb t 7 && transaction (m .store) t .begun ≡ true → seat m t ≡ held (heldBy m t)
+pub seat-open : (m : Machine) (t : ℕ) → leb t lastTransaction && transaction (m .store) t .begun ≡ true
+    → seat m t ≡ held (heldBy m t)
 unfolding seat
 seat-open m t e = rw e
 
-open-is : (m : Machine) (t : ℕ) → leb t 7 ≡ true → transaction (m .store) t .begun ≡ isHeld (seat m t)
+open-is : (m : Machine) (t : ℕ) → leb t lastTransaction ≡ true → transaction (m .store) t .begun ≡ isHeld (seat m t)
 unfolding seat
 open-is m t e = rw e (pick (transaction (m .store) t .begun))
   where

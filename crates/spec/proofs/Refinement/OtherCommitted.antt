@@ -8,6 +8,7 @@ use lib.ListN.{length, getD, replicate, length-replicate}
 use Prim.Native.Nat.{ℕ, zero, suc, _≤_, _<_}
 use native.Mathlib.Omega.{arith}
 use lib.Dec.{leb}
+use Rattle.limits.specs.Limits.{fileCount, fileBytes, descriptorCount, transactionCount}
 use Rattle.standings.specs.declared.Standing.{Standing}
 use Rattle.state.specs.declared.Descriptor.{Descriptor}
 use Rattle.standings.specs.declared.Standing.the-variants.{Untouched}
@@ -40,7 +41,7 @@ pub record Bare (y : Transaction) : Type 0 where
   pub lengthmarks : y .lengthmarks ≡ 0
   pub records : y .used .records ≡ 0
   pub bytes : y .used .bytes ≡ 0
-  pub descriptors : y .descriptors ≡ replicate 16 noDescriptor
+  pub descriptors : y .descriptors ≡ replicate descriptorCount noDescriptor
 
 pub ended-bare : Bare ended
 unfolding ended
@@ -117,13 +118,15 @@ carried-in offsets lengths ts s journal u (inl a) b h = alike-range (transaction
     (h (sym (a .begun) ∙ b))
 carried-in offsets lengths ts s journal u (inr y) b h = bare-in offsets lengths ts s journal u y
 
-carried-length : (x y : Transaction) → Carried x y → length (x .descriptors) ≡ 16 → length (y .descriptors) ≡ 16
+carried-length : (x y : Transaction) → Carried x y → length (x .descriptors) ≡ descriptorCount
+    → length (y .descriptors) ≡ descriptorCount
 carried-length x y (inl a) e = ap length (a .descriptors) ∙ e
 carried-length x y (inr b) e = ap length (b .descriptors) ∙ length-replicate 16 noDescriptor
 
 module _ (offsets lengths : List ℕ) (ts : List Transaction) (s : StoreMeaning) (journal : List ℕ)
-    (carried : (u : ℕ) → u < 8 → Carried (transaction s u) (getD ts u noTransaction)) where
-  pub renewed-in : ((d : ℕ) → d < 16 → getD offsets d 0 ≤ 4096) → ((f : ℕ) → f < 8 → getD lengths f 0 ≤ 4096) → InRange s journal
+    (carried : (u : ℕ) → u < transactionCount → Carried (transaction s u) (getD ts u noTransaction)) where
+  pub renewed-in : ((d : ℕ) → d < descriptorCount → getD offsets d 0 ≤ fileBytes)
+      → ((f : ℕ) → f < fileCount → getD lengths f 0 ≤ fileBytes) → InRange s journal
       → InRange (renewed offsets lengths ts s) journal
   renewed-in h k r =
       record {
@@ -135,7 +138,8 @@ module _ (offsets lengths : List ℕ) (ts : List Transaction) (s : StoreMeaning)
         transactions = λ u l b. carried-in offsets lengths ts s journal u (carried u l) b (r .transactions u l);
       }
 
-  pub renewed-shaped : length offsets ≡ 16 → length lengths ≡ 8 → length ts ≡ 8 → Shaped s → Shaped (renewed offsets lengths ts s)
+  pub renewed-shaped : length offsets ≡ descriptorCount → length lengths ≡ fileCount → length ts ≡ 8 → Shaped s
+      → Shaped (renewed offsets lengths ts s)
   renewed-shaped e k f r =
       record {
         files = r .files;

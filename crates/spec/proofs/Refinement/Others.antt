@@ -6,6 +6,7 @@ use lib.ListN.{length, getD}
 use native.Mathlib.Nat.{eq-or-lt-of-le}
 use native.Mathlib.Omega.{arith}
 use Prim.Native.Nat.{ℕ, _+_, _*_, _≤_, _<_}
+use Rattle.limits.specs.Limits.{bufferBytes, transactionCount, recordCount, logBytes}
 use Rattle.buffers.specs.Parts.{cut, tabulate}
 use Rattle.buffers.proofs.PartLaws.{cut-same, le-or-lt}
 use Rattle.state.specs.declared.StoreMeaning.{StoreMeaning}
@@ -22,17 +23,17 @@ use Rattle.spec.proofs.Refinement.Decode.{data-fits}
 -- Two states with the same transaction u and the same write records of it.
 pub record SameAt (r : StoreMeaning) (written : List ℕ) (s : StoreMeaning) (journal : List ℕ) (u : ℕ) : Type 0 where
   pub transaction : getD (r .transactions) u noTransaction ≡ getD (s .transactions) u noTransaction
-  pub records : (k : ℕ) → k < 64 → writeRecordAt written u k ≡ writeRecordAt journal u k
+  pub records : (k : ℕ) → k < recordCount → writeRecordAt written u k ≡ writeRecordAt journal u k
 
 -- Two log buffers that differ only in transaction t's part.
 pub record LogsApart (t : ℕ) (state logs : List ℕ) : Type 0 where
   pub size : length state ≡ length logs
-  pub before : (i : ℕ) → i < 4096 * t → getD state i 0 ≡ getD logs i 0
-  pub beyond : (i : ℕ) → 4096 * t + 4096 ≤ i → getD state i 0 ≡ getD logs i 0
+  pub before : (i : ℕ) → i < logBytes * t → getD state i 0 ≡ getD logs i 0
+  pub beyond : (i : ℕ) → logBytes * t + logBytes ≤ i → getD state i 0 ≡ getD logs i 0
 
 module _ (t u : ℕ) (state logs : List ℕ) (apart : LogsApart t state logs) (other : u ≡ t → ⊥) where
   -- A range of another transaction's part.
-  cut-apart : (p n : ℕ) → 4096 * u ≤ p → p + n ≤ 4096 * u + 4096 → cut state p n ≡ cut logs p n
+  cut-apart : (p n : ℕ) → logBytes * u ≤ p → p + n ≤ logBytes * u + logBytes → cut state p n ≡ cut logs p n
   cut-apart p n h g = cut-same state logs p n (apart .size) (λ i a b. ⊎-elim (after i a b) (below i a b) (le-or-lt t u))
     where
       below : (i : ℕ) → p ≤ i → i < p + n → u < t → getD state i 0 ≡ getD logs i 0
@@ -45,7 +46,7 @@ module _ (t u : ℕ) (state logs : List ℕ) (apart : LogsApart t state logs) (o
 
 module _ (r : StoreMeaning) (written : List ℕ) (s : StoreMeaning) (journal : List ℕ) (u : ℕ)
     (same : SameAt r written s journal u) where
-  lengths-same : (k : ℕ) → k ≤ 64 → lengthsBefore written u k ≡ lengthsBefore journal u k
+  lengths-same : (k : ℕ) → k ≤ recordCount → lengthsBefore written u k ≡ lengthsBefore journal u k
   unfolding lengthsBefore
   lengths-same k h =
       sum-same (λ j. writeRecordAt written u j .length) (λ j. writeRecordAt journal u j .length) k
@@ -62,8 +63,8 @@ module _ (r : StoreMeaning) (written : List ℕ) (s : StoreMeaning) (journal : L
         writes = λ k l. ap (recordIn (transaction s u)) (same .records k (omega (arith, h .records))) ∙ h .writes k l;
       })
 
-  module _ (t : ℕ) (state logs : List ℕ) (apart : LogsApart t state logs) (size : length logs ≡ 32768) (other : u ≡ t → ⊥)
-      (small : u < 8)
+  module _ (t : ℕ) (state logs : List ℕ) (apart : LogsApart t state logs) (size : length logs ≡ bufferBytes) (other : u ≡ t → ⊥)
+      (small : u < transactionCount)
       (h : TransactionInRange (transaction s u) journal u) where
     write-same : (k : ℕ) → k < transaction s u .used .records → writeAt written state u k ≡ writeAt journal logs u k
     unfolding writeAt dataStart

@@ -4,6 +4,8 @@ use mathlib.Core.Path.{_≡_}
 use lib.Dec.{leb}
 use lib.ListN.{length, getD}
 use Prim.Native.Nat.{ℕ, _≤_, _<_}
+use Rattle.state.specs.Journal.{journalLength}
+use Rattle.limits.specs.Limits.{fileCount, bufferBytes, descriptorCount, transactionCount, recordCount, logBytes, undoBytes}
 use Rattle.buffers.specs.Marks.{hasMark, contains}
 use Rattle.standings.specs.declared.Standing.the-variants.{Untouched}
 use Rattle.state.specs.declared.StoreMeaning.{StoreMeaning}
@@ -50,34 +52,34 @@ view m =
 
 -- The lengths that the state's types give its arrays.
 pub record Shaped (s : StoreMeaning) : Type 0 where
-  pub files : length (s .filenumbers) ≡ 16
-  pub offsets : length (s .offsets) ≡ 16
-  pub lengths : length (s .lengths) ≡ 8
-  pub windows : length (s .windows) ≡ 8
-  pub foundOffsets : length (s .undo .offsets) ≡ 16
-  pub foundLengths : length (s .undo .lengths) ≡ 8
-  pub transactions : length (s .transactions) ≡ 8
-  pub descriptors : (t : ℕ) → t < 8 → length (transaction s t .descriptors) ≡ 16
+  pub files : length (s .filenumbers) ≡ descriptorCount
+  pub offsets : length (s .offsets) ≡ descriptorCount
+  pub lengths : length (s .lengths) ≡ fileCount
+  pub windows : length (s .windows) ≡ fileCount
+  pub foundOffsets : length (s .undo .offsets) ≡ descriptorCount
+  pub foundLengths : length (s .undo .lengths) ≡ fileCount
+  pub transactions : length (s .transactions) ≡ transactionCount
+  pub descriptors : (t : ℕ) → t < transactionCount → length (transaction s t .descriptors) ≡ descriptorCount
 
 -- A store that meets neither 1 nor 2.
 pub record Sound (m : Machine) : Type 0 where
   pub shaped : Shaped (m .store)
-  pub journal : length (m .journal) ≡ 1728
-  pub files : length (m .files) ≡ 32768
-  pub logs : length (m .logs) ≡ 32768
-  pub marks : length (m .marks) ≡ 32768
-  pub undo : length (m .undo) ≡ 4096
+  pub journal : length (m .journal) ≡ journalLength
+  pub files : length (m .files) ≡ bufferBytes
+  pub logs : length (m .logs) ≡ bufferBytes
+  pub marks : length (m .marks) ≡ bufferBytes
+  pub undo : length (m .undo) ≡ undoBytes
   pub inRange : storeIn (m .store) (m .journal) ≡ true
 
 -- State validity of one transaction as it is meant.
 pub record WriteIn (y : Txn) (w : Write) : Type 0 where
-  pub descriptor : w .descriptor < 16
+  pub descriptor : w .descriptor < descriptorCount
   pub place : placeIn (y .standing (w .descriptor)) (w .place) (length (w .bytes)) ≡ true
 
 pub record TxnIn (y : Txn) : Type 0 where
   pub standings : (d : ℕ) → standingIn (y .standing d) ≡ true
-  pub above : (d : ℕ) → 16 ≤ d → y .standing d ≡ Untouched
-  pub clean : (d : ℕ) → 16 ≤ d → y .dirty d ≡ false
-  pub records : length (y .writes) ≤ 64
-  pub bytes : total (y .writes) ≤ 4096
+  pub above : (d : ℕ) → descriptorCount ≤ d → y .standing d ≡ Untouched
+  pub clean : (d : ℕ) → descriptorCount ≤ d → y .dirty d ≡ false
+  pub records : length (y .writes) ≤ recordCount
+  pub bytes : total (y .writes) ≤ logBytes
   pub writes : (k : ℕ) → k < length (y .writes) → WriteIn y (getD (y .writes) k noWrite)

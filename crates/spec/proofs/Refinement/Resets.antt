@@ -9,6 +9,7 @@ use lib.Seq.{getD-set-same, getD-set-other}
 use Prim.Native.Nat.{ℕ, _≤_, _<_}
 use native.Mathlib.Omega.{arith}
 use borrow.Author.Tests.{eqb-true, eqb-false}
+use Rattle.limits.specs.Limits.{transactionCount}
 use Rattle.buffers.proofs.PartLaws.{le-or-lt}
 use Rattle.buffers.proofs.MarkLaws.{contains-none}
 use Rattle.buffers.specs.Marks.{hasMark, withoutMarks, contains}
@@ -46,7 +47,7 @@ bare-txn m t b =
 abbrev pub newSeat : Transaction → Seat
 newSeat x = cond (x .begun) (held (record { txn = empty; marked = λ q. false; lengths = λ f. false; stale = x .stale })) vacant
 
-module _ (t : ℕ) (x : Transaction) (m : Machine) (small : t < 8) (bare : Bare x) (sound : Sound m) where
+module _ (t : ℕ) (x : Transaction) (m : Machine) (small : t < transactionCount) (bare : Bare x) (sound : Sound m) where
   ts : List Transaction
   ts = set (m .store .transactions) t x
 
@@ -93,7 +94,7 @@ module _ (t : ℕ) (x : Transaction) (m : Machine) (small : t < 8) (bare : Bare 
       seat-in after t (x .begun) (record { txn = empty; marked = λ q. false; lengths = λ f. false; stale = x .stale })
       small (ap (λ (z : Transaction). z .begun) own) own-held
 
-  seat-other : (u : ℕ) → (u ≡ t → ⊥) → (8 ≤ u) ⊎ (u < 8) → seat after u ≡ seat m u
+  seat-other : (u : ℕ) → (u ≡ t → ⊥) → (transactionCount ≤ u) ⊎ (u < transactionCount) → seat after u ≡ seat m u
   unfolding heldBy after
   seat-other u h (inl l) = seat-out after u l ∙ sym (seat-out m u l)
   seat-other u h (inr l) =

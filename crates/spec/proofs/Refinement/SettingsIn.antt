@@ -8,6 +8,7 @@ use lib.ListN.{length, getD}
 use Prim.Native.Nat.{ℕ, zero, suc, _+_, _*_, _≤_, _<_, suc-le-suc}
 use native.Mathlib.Omega.{arith}
 use borrow.Author.Tests.{leb-true}
+use Rattle.limits.specs.Limits.{lastFile, fileBytes, bufferBytes, descriptorCount, logBytes}
 use Rattle.standings.specs.declared.Standing.{Standing}
 use Rattle.standings.specs.declared.Standing.the-variants.{Untouched, Placed, Deferred, Moved, Known}
 use Rattle.standings.specs.declared.Place.{Place}
@@ -40,7 +41,7 @@ all-append (x ∷ ss) rs a b = (a .0, all-append ss rs (a .1) b)
 
 -- ---- bytes
 
-interval-in : (q : ℕ) (bs : List ℕ) → q + length bs ≤ 32768 → AllIn (bytesFrom q bs)
+interval-in : (q : ℕ) (bs : List ℕ) → q + length bs ≤ bufferBytes → AllIn (bytesFrom q bs)
 unfolding bytesFrom
 interval-in q [] h = tt
 interval-in q (b ∷ bs) h = (omega arith, interval-in (suc q) bs (omega arith))
@@ -54,7 +55,8 @@ ends-within (Deferred a) end e = leb-true end a e
 ends-within (Moved a o) end e = leb-true end a e
 ends-within (Known o) end e = absurd (false≢true e)
 
-pub lands-in : (c : ℕ) (z : Standing) (p : Place) (n : ℕ) → c + advance z ≤ 4096 → placeIn z p n ≡ true → landsAt c p + n ≤ 4096
+pub lands-in : (c : ℕ) (z : Standing) (p : Place) (n : ℕ) → c + advance z ≤ fileBytes → placeIn z p n ≡ true
+    → landsAt c p + n ≤ fileBytes
 unfolding placeIn landsAt
 lands-in c z (At p) n h e = leb-true (p + n) 4096 e
 lands-in c z (After a) n h e = let f = ends-within z (a + n) (and-right (leb (a + n) 4096) (endsWithin z (a + n)) e) in omega
@@ -62,7 +64,8 @@ lands-in c z (After a) n h e = let f = ends-within z (a + n) (and-right (leb (a 
 
 -- ---- offsets
 
-final-in : (c : ℕ) (z : Standing) → isTouched z ≡ true → c + advance z ≤ 4096 → standingIn z ≡ true → finalOffset c z ≤ 4096
+final-in : (c : ℕ) (z : Standing) → isTouched z ≡ true → c + advance z ≤ fileBytes → standingIn z ≡ true
+    → finalOffset c z ≤ fileBytes
 unfolding standingIn finalOffset
 final-in c Untouched s h e = absurd (false≢true s)
 final-in c (Placed o) s h e = leb-true o 4096 e
@@ -72,13 +75,14 @@ final-in c (Known o) s h e = leb-true o 4096 e
 
 -- ---- a transaction in range whose placing fits
 
-pub fits-at : (v : Values) (y : Txn) → fits v y ≡ true → (d : ℕ) → d < 16 → v (offset d) + advance (y .standing d) ≤ 4096
+pub fits-at : (v : Values) (y : Txn) → fits v y ≡ true → (d : ℕ) → d < descriptorCount
+    → v (offset d) + advance (y .standing d) ≤ fileBytes
 unfolding fits
 fits-at v y fit d l =
     leb-true (v (offset d) + advance (y .standing d)) 4096
     (below-at (λ e. leb (v (offset e) + advance (y .standing e)) 4096) 16 d fit l)
 
-module _ (fileOf : ℕ → ℕ) (v : Values) (y : Txn) (files : (d : ℕ) → d < 16 → fileOf d ≤ 7) (ranges : TxnIn y)
+module _ (fileOf : ℕ → ℕ) (v : Values) (y : Txn) (files : (d : ℕ) → d < descriptorCount → fileOf d ≤ lastFile) (ranges : TxnIn y)
     (fit : fits v y ≡ true) where
   bytes-in : (ws : List Write) → ((k : ℕ) → k < length ws → WriteIn y (getD ws k noWrite)) → AllIn (byteSettings fileOf v ws)
   unfolding byteSettings
@@ -93,7 +97,7 @@ module _ (fileOf : ℕ → ℕ) (v : Values) (y : Txn) (files : (d : ℕ) → d 
       (interval-in (4096 * fileOf d + landsAt (v (offset d)) (w .place)) (w .bytes) (omega arith))
       (bytes-in ws (λ k l. h (suc k) (suc-le-suc l)))
 
-  one-in : (d : ℕ) → d < 16 → (b : Bool) → setsOffset y d ≡ b
+  one-in : (d : ℕ) → d < descriptorCount → (b : Bool) → setsOffset y d ≡ b
       → AllIn (cond b (record { item = offset d; to = finalOffset (v (offset d)) (y .standing d) } ∷ []) [])
   unfolding setsOffset
   one-in d l true e = (
@@ -114,7 +118,7 @@ module _ (fileOf : ℕ → ℕ) (v : Values) (y : Txn) (files : (d : ℕ) → d 
       (record { item = offset n; to = finalOffset (v (offset n)) (y .standing n) } ∷ []) [])
       (offsets-in n (omega arith)) (one-in n (omega arith) (setsOffset y n) refl)
 
-  landed-end : (f : ℕ) → landedEnd fileOf v f (y .writes) ≤ 4096
+  landed-end : (f : ℕ) → landedEnd fileOf v f (y .writes) ≤ logBytes
   unfolding landedEnd
   landed-end f =
       farthest-in fileOf f (λ w. writeEnd (landsAt (v (offset (w .descriptor))) (w .place)) (length (w .bytes))) (y .writes)

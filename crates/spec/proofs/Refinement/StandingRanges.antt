@@ -5,6 +5,7 @@ use borrow.Author.Tests.{leb-true, le-leb}
 use lib.Dec.{leb}
 use native.Mathlib.Omega.{arith}
 use Prim.Native.Nat.{ℕ, _+_, _-_, _≤_}
+use Rattle.limits.specs.Limits.{fileBytes}
 use Rattle.standings.specs.declared.Standing.{Standing}
 use Rattle.standings.specs.declared.Standing.the-variants.{Untouched, Placed, Deferred, Moved, Known}
 use Rattle.standings.specs.declared.Place.{Place}
@@ -16,10 +17,10 @@ use Rattle.standings.specs.Table.{afterSeek, afterWrite, afterRead, advance, se
 use Rattle.spec.specs.Transactions.{placedAt}
 
 -- At most 4,096, of a number above one that is.
-bounded : (a b : ℕ) → b ≤ 4096 → a ≤ b → leb a 4096 ≡ true
+bounded : (a b : ℕ) → b ≤ fileBytes → a ≤ b → leb a 4096 ≡ true
 bounded a b h l = le-leb a 4096 (omega arith)
 
-pub seek-in : (v : ℕ) (z : Standing) → v ≤ 4096 → standingIn z ≡ true → standingIn (afterSeek v z) ≡ true
+pub seek-in : (v : ℕ) (z : Standing) → v ≤ fileBytes → standingIn z ≡ true → standingIn (afterSeek v z) ≡ true
 unfolding standingIn afterSeek
 seek-in v Untouched h e = le-leb v 4096 h
 seek-in v (Placed o) h e = le-leb v 4096 h
@@ -27,7 +28,8 @@ seek-in v (Deferred a) h e = and-both (leb a 4096) (leb v 4096) e (le-leb v 4096
 seek-in v (Moved a o) h e = and-both (leb a 4096) (leb v 4096) (and-left (leb a 4096) (leb o 4096) e) (le-leb v 4096 h)
 seek-in v (Known o) h e = le-leb v 4096 h
 
-pub write-in : (n : ℕ) (z : Standing) → placeNumber (writePlace z) + n ≤ 4096 → standingIn z ≡ true → standingIn (afterWrite n z)
+pub write-in : (n : ℕ) (z : Standing) → placeNumber (writePlace z) + n ≤ fileBytes → standingIn z ≡ true
+    → standingIn (afterWrite n z)
     ≡ true
 unfolding standingIn afterWrite writePlace
 write-in n Untouched h e = bounded n (0 + n) h (omega arith)
@@ -47,7 +49,7 @@ read-in n (Moved a o) h e =
     and-both (leb a 4096) (leb (o + n) 4096) (and-left (leb a 4096) (leb o 4096) e) (le-leb (o + n) 4096 (omega arith))
 read-in n (Known o) h e = let l = leb-true o 4096 e in le-leb (o + n) 4096 (omega arith)
 
-pub settled-in : (c : ℕ) (z : Standing) → c + advance z ≤ 4096 → standingIn z ≡ true → standingIn (settled c z) ≡ true
+pub settled-in : (c : ℕ) (z : Standing) → c + advance z ≤ fileBytes → standingIn z ≡ true → standingIn (settled c z) ≡ true
 unfolding standingIn settled
 settled-in c Untouched h e = bounded c (c + 0) h (omega arith)
 settled-in c (Placed o) h e = e
@@ -99,7 +101,7 @@ ends-le (Moved a o) end e = leb-true end a e
 ends-le (Known o) end e = absurd (false≢true e)
 
 -- A write that settling places, under any standing.
-pub place-settled : (c : ℕ) (z y : Standing) (p : Place) (n : ℕ) → c + advance z ≤ 4096 → placeIn z p n ≡ true
+pub place-settled : (c : ℕ) (z y : Standing) (p : Place) (n : ℕ) → c + advance z ≤ fileBytes → placeIn z p n ≡ true
     → placeIn y (placedAt c p) n ≡ true
 unfolding placeIn placedAt
 place-settled c z y (At p) n h e = e
@@ -108,7 +110,8 @@ place-settled c z y (After a) n h e =
     le-leb (c + a + n) 4096 (omega arith)
 
 -- A new write, under the standing that it leaves.
-pub place-written : (n : ℕ) (z : Standing) → placeNumber (writePlace z) + n ≤ 4096 → placeIn (afterWrite n z) (writePlace z) n
+pub place-written : (n : ℕ) (z : Standing) → placeNumber (writePlace z) + n ≤ fileBytes
+    → placeIn (afterWrite n z) (writePlace z) n
     ≡ true
 unfolding placeIn endsWithin afterWrite writePlace
 place-written n Untouched h = and-both (leb (0 + n) 4096) (leb (0 + n) n) (le-leb (0 + n) 4096 h) (le-leb (0 + n) n (omega arith))

@@ -7,6 +7,7 @@ use lib.Dec.{leb, eqb}
 use lib.ListN.{length, getD, length-append, length-map}
 use native.Mathlib.Omega.{arith}
 use Prim.Native.Nat.{ℕ, _+_, _≤_, _<_}
+use Rattle.limits.specs.Limits.{fileBytes, descriptorCount, recordCount, logBytes}
 use Rattle.standings.specs.declared.Standing.{Standing}
 use Rattle.standings.specs.declared.Standing.the-variants.{Untouched}
 use Rattle.standings.specs.Table.{placeNumber}
@@ -54,7 +55,8 @@ put-case P d z f here elsewhere e = pick (eqb e d) refl
 
 -- ---- one descriptor changed, one write added
 
-dirtied-in : (d : ℕ) (z : Standing) (x : Txn) → d < 16 → standingIn z ≡ true → EndsPreserved (x .standing d) z → TxnIn x
+dirtied-in : (d : ℕ) (z : Standing) (x : Txn) → d < descriptorCount → standingIn z ≡ true → EndsPreserved (x .standing d) z
+    → TxnIn x
     → TxnIn (dirtied d z x)
 dirtied-in d z x small zin ends h =
     record {
@@ -80,7 +82,8 @@ dirtied-in d z x small zin ends h =
           };
     }
 
-append-in : (w : Write) (x : Txn) → WriteIn x w → length (x .writes) + 1 ≤ 64 → total (x .writes) + length (w .bytes) ≤ 4096
+append-in : (w : Write) (x : Txn) → WriteIn x w → length (x .writes) + 1 ≤ recordCount
+    → total (x .writes) + length (w .bytes) ≤ logBytes
     → TxnIn x
     → TxnIn (withWrites (x .writes ++ (w ∷ [])) x)
 append-in w x win few small h =
@@ -98,7 +101,8 @@ append-in w x win few small h =
     }
 
 -- A new write lies in range under the standing that it leaves.
-new-in : (d : ℕ) (bytes : List ℕ) (x : Txn) → d < 16 → placeNumber (writePlace (x .standing d)) + length bytes ≤ 4096
+new-in : (d : ℕ) (bytes : List ℕ) (x : Txn) → d < descriptorCount
+    → placeNumber (writePlace (x .standing d)) + length bytes ≤ logBytes
     → WriteIn (dirtied d (afterWrite (length bytes) (x .standing d)) x)
     (record { descriptor = d; place = writePlace (x .standing d); bytes = bytes })
 unfolding put
@@ -117,7 +121,7 @@ unfolding placeWrite
 pieces-placed d c [] = refl
 pieces-placed d c (w ∷ ws) = ap (λ (l : List (List ℕ)). w .bytes ∷ l) (pieces-placed d c ws)
 
-write-settled : (d c : ℕ) (x : Txn) (w : Write) → c + advance (x .standing d) ≤ 4096 → WriteIn x w
+write-settled : (d c : ℕ) (x : Txn) (w : Write) → c + advance (x .standing d) ≤ fileBytes → WriteIn x w
     → WriteIn (settle d c x) (placeWrite d c w)
 unfolding settle placeWrite put
 write-settled d c x w small h = record { descriptor = h .descriptor; place = pick (eqb (w .descriptor) d) refl }
@@ -131,7 +135,7 @@ write-settled d c x w small h = record { descriptor = h .descriptor; place = pic
         (h .place)
     pick false e = h .place
 
-settle-in : (d c : ℕ) (x : Txn) → d < 16 → c + advance (x .standing d) ≤ 4096 → TxnIn x → TxnIn (settle d c x)
+settle-in : (d c : ℕ) (x : Txn) → d < descriptorCount → c + advance (x .standing d) ≤ fileBytes → TxnIn x → TxnIn (settle d c x)
 unfolding settle
 settle-in d c x low small h =
     record {
@@ -189,7 +193,7 @@ piecesAfter (write d bytes) ps = ps ++ (bytes ∷ [])
 piecesAfter (getFilePointer d) ps = ps
 piecesAfter (read d n buffer) ps = ps
 
-module _ (v : Values) (bounded : (f : ℕ) → v (fileLength f) ≤ 4096) where
+module _ (v : Values) (bounded : (f : ℕ) → v (fileLength f) ≤ fileBytes) where
   -- A program that, if it accepts, ends in such a transaction.
   Ends : List (List ℕ) → Prog Stepped → Type 0
   Ends ps p = (y : Txn) (a : Said) (b : List ℕ) → result v p ≡ accept y a b → Preserved ps y
@@ -251,7 +255,7 @@ module _ (v : Values) (bounded : (f : ℕ) → v (fileLength f) ≤ 4096) where
         same = map-append (λ w. w .bytes) (x .writes) (w ∷ []);
       })))))
 
-  ends-read : (ps : List (List ℕ)) (fileOf : ℕ → ℕ) (d n : ℕ) (buffer : List ℕ) (y : Txn) → d < 16 → Preserved ps y
+  ends-read : (ps : List (List ℕ)) (fileOf : ℕ → ℕ) (d n : ℕ) (buffer : List ℕ) (y : Txn) → d < descriptorCount → Preserved ps y
       → Ends ps (readSettled fileOf d n buffer y)
   unfolding readSettled
   ends-read ps fileOf d n buffer y low h =
@@ -285,7 +289,7 @@ module _ (v : Values) (bounded : (f : ℕ) → v (fileLength f) ≤ 4096) where
       (record { ranges = h; same = refl })
       (λ y k. ends-read _ fileOf d n buffer y (omega arith) k)))
 
-pub step-preserved : (fileOf : ℕ → ℕ) (v : Values) → ((f : ℕ) → v (fileLength f) ≤ 4096)
+pub step-preserved : (fileOf : ℕ → ℕ) (v : Values) → ((f : ℕ) → v (fileLength f) ≤ fileBytes)
     → (o : Op) (x y : Txn) (a : Said) (b : List ℕ) → TxnIn x
     → result v (step fileOf o x) ≡ accept y a b
     → Preserved (piecesAfter o (pieces (x .writes))) y

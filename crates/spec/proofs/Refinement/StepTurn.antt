@@ -3,6 +3,7 @@
 use mathlib.Core.Bool.{true}
 use mathlib.Core.Path.{_≡_, refl}
 use Prim.Native.Nat.{ℕ, _<_}
+use Rattle.limits.specs.Limits.{transactionCount}
 use Rattle.state.specs.StoreMeaning.{transaction}
 use Rattle.spec.specs.Items.{result}
 use Rattle.spec.specs.Messages.{Op, bufferOf}
@@ -18,7 +19,7 @@ use Rattle.spec.proofs.Refinement.Admissions.{Agrees, admitted-agrees}
 
 module _ (m : Machine) (t : ℕ) (o : Op) (h : Sound m) where
   -- Refused with one of 6 to 12, or accepted.
-  step-agrees : t < 8 → transaction (m .store) t .begun ≡ true → (z : Stepped)
+  step-agrees : t < transactionCount → transaction (m .store) t .begun ≡ true → (z : Stepped)
       → result (values (m .store) (m .files)) (step (fileOf (m .store)) o (txnOf (m .store) (m .journal) (m .logs) t)) ≡ z
       → Agrees (served t o m (sightings m t o) z) (abstractStepped t o (heldBy m t) (sightings m t o) (view m) z)
   unfolding served abstractStepped refuseTurn turnedAway machineAfter logged-after heldBy

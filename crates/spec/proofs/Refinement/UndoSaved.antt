@@ -8,13 +8,14 @@ use lib.Seq.{sets}
 use Prim.Native.Nat.{ℕ, zero, suc, _+_, _*_, _≤_, _<_, suc-le-suc}
 use native.Mathlib.Omega.{arith}
 use borrow.Author.Tests.{leb-true}
+use Rattle.limits.specs.Limits.{descriptorCount, transactionCount, lastTransaction, recordCount, logBytes}
 use Rattle.buffers.specs.Parts.{tabulate, pasted}
 use Rattle.buffers.proofs.PartLaws.{length-pasted, pasted-sets}
 use Rattle.standings.specs.Table.{finalOffset}
 use Rattle.state.specs.declared.journal.WriteRecord.{WriteRecord}
 use Rattle.state.specs.declared.StoreMeaning.{StoreMeaning}
 use Rattle.state.specs.StoreMeaning.{transaction}
-use Rattle.state.specs.Journal.{lastGrant, writeRecordAt, withRecords}
+use Rattle.state.specs.Journal.{lastGrant, writeRecordAt, withRecords, journalLength}
 use Rattle.state.proofs.JournalLaws.{length-with, read-own, read-elsewhere}
 use Rattle.admission.specs.Admission.{landedIn, lengthsBefore}
 use Rattle.admission.proofs.Laws.{and-left, and-right, sum-same, InRange, in-range, in-range-intro, landed-in-intro}
@@ -140,11 +141,11 @@ module _ (m : Machine) (x : Txn) (sound : Sound m) (ranges : TxnIn x) (fit : fit
   range : InRange (m .store) (m .journal)
   range = in-range (m .store) (m .journal) (sound .inRange)
 
-  files-in : (d : ℕ) → d < 16 → F d ≤ 7
+  files-in : (d : ℕ) → d < descriptorCount → F d ≤ 7
   unfolding fileOf
   files-in = range .files
 
-  ends : (w : Write) → WriteIn x w → landsAt (v (offset (w .descriptor))) (w .place) + length (w .bytes) ≤ 4096
+  ends : (w : Write) → WriteIn x w → landsAt (v (offset (w .descriptor))) (w .place) + length (w .bytes) ≤ logBytes
   ends w i =
       lands-in (v (offset (w .descriptor))) (x .standing (w .descriptor)) (w .place) (length (w .bytes))
       (fits-at v x fit (w .descriptor) (i .descriptor)) (i .place)
@@ -169,7 +170,7 @@ module _ (m : Machine) (x : Txn) (sound : Sound m) (ranges : TxnIn x) (fit : fit
   abbrev written : List ℕ
   written = withRecords (m .journal) lastGrant noted (length ws)
 
-  journal-long : length written ≡ 1728
+  journal-long : length written ≡ journalLength
   journal-long = length-with (m .journal) lastGrant noted (length ws) ∙ sound .journal
 
   preserved-record : (k : ℕ) → k < length ws → writeRecordAt written lastGrant k ≡ noted k
@@ -177,7 +178,7 @@ module _ (m : Machine) (x : Txn) (sound : Sound m) (ranges : TxnIn x) (fit : fit
       read-own (m .journal) lastGrant noted (sound .journal) (omega arith) (length ws) k (ranges .records) l
       (unfold landedRecord in ranges .writes k l .descriptor)
 
-  other-record : (u k : ℕ) → u < 8 → k < 64 → writeRecordAt written u k ≡ writeRecordAt (m .journal) u k
+  other-record : (u k : ℕ) → u < transactionCount → k < recordCount → writeRecordAt written u k ≡ writeRecordAt (m .journal) u k
   other-record u k a b =
       read-elsewhere (m .journal) lastGrant noted (sound .journal) (omega arith) (length ws) u k (ranges .records) (omega arith) b
       (λ q. omega arith)
@@ -204,7 +205,7 @@ module _ (m : Machine) (x : Txn) (sound : Sound m) (ranges : TxnIn x) (fit : fit
   abbrev pub keeping : Machine
   keeping = savingUndo x m
 
-  same-at : (u : ℕ) → u < 8 → SameAt (keeping .store) written (m .store) (m .journal) u
+  same-at : (u : ℕ) → u < transactionCount → SameAt (keeping .store) written (m .store) (m .journal) u
   unfolding savingUndo
   same-at u l = record { transaction = refl; records = λ k g. other-record u k l g }
 
@@ -252,7 +253,7 @@ module _ (m : Machine) (x : Txn) (sound : Sound m) (ranges : TxnIn x) (fit : fit
       }
 
   -- What every transaction is stays.
-  held-same : (u : ℕ) → u < 8 → transaction (m .store) u .begun ≡ true → heldBy keeping u ≡ heldBy m u
+  held-same : (u : ℕ) → u < transactionCount → transaction (m .store) u .begun ≡ true → heldBy keeping u ≡ heldBy m u
   unfolding savingUndo heldBy
   held-same u l b =
       let e =
@@ -265,7 +266,7 @@ module _ (m : Machine) (x : Txn) (sound : Sound m) (ranges : TxnIn x) (fit : fit
   unfolding seat savingUndo
   keeping-seat u = pick (leb u 7 && transaction (m .store) u .begun) refl
     where
-      pick : (c : Bool) → (leb u 7 && transaction (m .store) u .begun) ≡ c → cond c (held (heldBy keeping u)) vacant
+      pick : (c : Bool) → (leb u lastTransaction && transaction (m .store) u .begun) ≡ c → cond c (held (heldBy keeping u)) vacant
           ≡ cond c (held (heldBy m u)) vacant
       pick true e =
           let l = leb-true u 7 (and-left (leb u 7) (transaction (m .store) u .begun) e) in

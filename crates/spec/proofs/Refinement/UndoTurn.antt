@@ -6,6 +6,7 @@ use lib.ListN.{length}
 use Prim.Native.Nat.{ℕ, zero, suc, _+_, _≤_, _<_}
 use native.Mathlib.Omega.{arith}
 use borrow.Author.Tests.{le-leb}
+use Rattle.limits.specs.Limits.{transactionCount}
 use Rattle.buffers.specs.Parts.{tabulate}
 use Rattle.state.specs.StoreMeaning.{transaction, windowAt}
 use Rattle.state.specs.Journal.{lastGrant, writeRecordAt}
@@ -50,7 +51,7 @@ module _ (m : Machine) (sound : Sound m) where
       let f = range .files (writeRecordAt (m .journal) lastGrant k .descriptor) (omega (arith, w .0)) in
       omega (arith, sound .files, w .1, f))
 
-  held-is : (u : ℕ) → u < 8 → isHeld (seat m u) ≡ transaction (m .store) u .begun
+  held-is : (u : ℕ) → u < transactionCount → isHeld (seat m u) ≡ transaction (m .store) u .begun
   unfolding seat
   held-is u l = rw (le-leb u 7 (omega arith)) (pick (transaction (m .store) u .begun))
     where

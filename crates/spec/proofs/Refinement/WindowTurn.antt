@@ -8,6 +8,7 @@ use lib.Seq.{getD-set-same, getD-set-other}
 use Prim.Native.Nat.{ℕ, zero, suc, _<_}
 use native.Mathlib.Omega.{arith}
 use borrow.Author.Tests.{eqb-true, eqb-false}
+use Rattle.limits.specs.Limits.{fileCount}
 use Rattle.windows.specs.Windows.{window, freshWindow}
 use Rattle.state.specs.Outcomes.{doneAnswer}
 use Rattle.windows.specs.declared.Window.{Window}
@@ -35,7 +36,7 @@ module _ (m : Machine) (f start end : ℕ) (sound : Sound m) where
   abbrev after : Machine
   after = withStore (withWindows ws (m .store)) m
 
-  module _ (small : f < 8) where
+  module _ (small : f < fileCount) where
     -- The windows after it.
     windows-at : (g : ℕ) (b : Bool) → eqb g f ≡ b → getD ws g freshWindow ≡ cond b w (getD (m .store .windows) g freshWindow)
     windows-at g true e = rw (eqb-true g f e)
@@ -62,7 +63,7 @@ module _ (m : Machine) (f start end : ℕ) (sound : Sound m) where
         λ i. record { fileOf = fileOf (m .store); value = v i; windows = e i; back = b i; seats = s i }
 
     module _ (minutes : windowIn w ≡ true) where
-      after-in : (g : ℕ) → g < 8 → (b : Bool) → eqb g f ≡ b → windowIn (getD ws g freshWindow) ≡ true
+      after-in : (g : ℕ) → g < fileCount → (b : Bool) → eqb g f ≡ b → windowIn (getD ws g freshWindow) ≡ true
       after-in g l true e = ap windowIn (windows-at g true e) ∙ minutes
       after-in g l false e = ap windowIn (windows-at g false e) ∙ in-range (m .store) (m .journal) (sound .inRange) .windows g l
 

@@ -7,6 +7,7 @@ use lib.Dec.{eqb}
 use lib.ListN.{length, getD}
 use native.Mathlib.Omega.{arith}
 use Prim.Native.Nat.{ℕ, zero, suc, _+_, _≤_, _<_, max, suc-le-suc}
+use Rattle.limits.specs.Limits.{fileBytes, logBytes}
 use Rattle.standings.specs.declared.Standing.{Standing}
 use Rattle.standings.specs.declared.Place.{Place}
 use Rattle.standings.specs.declared.Place.the-variants.{At, After}
@@ -16,14 +17,14 @@ use Rattle.spec.specs.Reading.{writeEnd, placedEnd, farthest, ownEnd, le
 use Rattle.spec.specs.Machine.{noWrite}
 use Rattle.spec.proofs.Refinement.Relation.{TxnIn}
 
-pub write-end : (p n : ℕ) → p + n ≤ 4096 → writeEnd p n ≤ 4096
+pub write-end : (p n : ℕ) → p + n ≤ fileBytes → writeEnd p n ≤ 4096
 unfolding writeEnd
 write-end p zero h = omega arith
 write-end p (suc n) h = h
 
 -- If no write ends past the file, neither does the farthest.
 pub farthest-in : (fileOf : ℕ → ℕ) (f : ℕ) (end : Write → ℕ) (ws : List Write)
-    → ((k : ℕ) → k < length ws → end (getD ws k noWrite) ≤ 4096) → farthest fileOf f end ws ≤ 4096
+    → ((k : ℕ) → k < length ws → end (getD ws k noWrite) ≤ 4096) → farthest fileOf f end ws ≤ fileBytes
 unfolding farthest
 farthest-in fileOf f end [] h = omega arith
 farthest-in fileOf f end (w ∷ ws) h =
@@ -41,15 +42,15 @@ placed-end z (At p) n e = write-end p n (leb-true (p + n) 4096 e)
 placed-end z (After a) n e = omega arith
 
 -- The transaction's own writes, and its length.
-own-end : (fileOf : ℕ → ℕ) (f : ℕ) (y : Txn) → TxnIn y → ownEnd fileOf f (y .writes) ≤ 4096
+own-end : (fileOf : ℕ → ℕ) (f : ℕ) (y : Txn) → TxnIn y → ownEnd fileOf f (y .writes) ≤ logBytes
 unfolding ownEnd
 own-end fileOf f y h =
     farthest-in fileOf f (λ w. placedEnd (w .place) (length (w .bytes))) (y .writes)
     (λ k l. let w = getD (y .writes) k noWrite in placed-end (y .standing (w .descriptor)) (w .place) (length (w .bytes))
     (h .writes k l .place))
 
-pub length-for : (fileOf : ℕ → ℕ) (f : ℕ) (y : Txn) (committed : ℕ) → committed ≤ 4096 → TxnIn y
-    → lengthFor fileOf f (y .writes) committed ≤ 4096
+pub length-for : (fileOf : ℕ → ℕ) (f : ℕ) (y : Txn) (committed : ℕ) → committed ≤ fileBytes → TxnIn y
+    → lengthFor fileOf f (y .writes) committed ≤ fileBytes
 unfolding lengthFor
 length-for fileOf f y committed l h = let e = own-end fileOf f y h in omega arith
 

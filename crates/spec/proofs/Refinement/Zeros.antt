@@ -7,6 +7,7 @@ use lib.Dec.{ltb}
 use lib.ListN.{length, getD}
 use native.Mathlib.Omega.{arith}
 use Prim.Native.Nat.{ℕ, zero, suc, _+_, _*_, _≤_, _<_, max, suc-le-suc}
+use Rattle.limits.specs.Limits.{lastFile, fileBytes, descriptorCount}
 use Rattle.standings.specs.Table.{finalOffset}
 use Rattle.spec.specs.Items.{Item, byte, offset, fileLength, same, Values}
 use Rattle.spec.specs.Transactions.{Txn, Write}
@@ -47,9 +48,9 @@ unfolding writeEnd
 in-write a zero p l k = absurd (omega arith)
 in-write a (suc n) p l k = k
 
-module _ (fileOf : ℕ → ℕ) (v : Values) (y : Txn) (files : (d : ℕ) → d < 16 → fileOf d ≤ 7) (ranges : TxnIn y)
+module _ (fileOf : ℕ → ℕ) (v : Values) (y : Txn) (files : (d : ℕ) → d < descriptorCount → fileOf d ≤ lastFile) (ranges : TxnIn y)
     (fit : fits v y ≡ true)
-    (f p : ℕ) (small : p < 4096) where
+    (f p : ℕ) (small : p < fileBytes) where
   abbrev place : Write → ℕ
   place w = landsAt (v (offset (w .descriptor))) (w .place)
 
@@ -58,7 +59,7 @@ module _ (fileOf : ℕ → ℕ) (v : Values) (y : Txn) (files : (d : ℕ) → d 
 
   -- No write that ends before the place sets it.
   bytes-off : (ws : List Write) → ((k : ℕ) → k < length ws → WriteIn y (getD ws k noWrite)) → farthest fileOf f endOf ws ≤ p
-      → touched (byteSettings fileOf v ws) (byte (4096 * f + p)) ≡ false
+      → touched (byteSettings fileOf v ws) (byte (fileBytes * f + p)) ≡ false
   unfolding byteSettings touched farthest
   bytes-off [] h l = refl
   bytes-off (w ∷ ws) h l =
@@ -78,7 +79,7 @@ module _ (fileOf : ℕ → ℕ) (v : Values) (y : Txn) (files : (d : ℕ) → d 
       omega arith))
       (bytes-off ws (λ k l. h (suc k) (suc-le-suc l)) (omega arith))
 
-  offsets-off : (n : ℕ) → touched (offsetSettings v y n) (byte (4096 * f + p)) ≡ false
+  offsets-off : (n : ℕ) → touched (offsetSettings v y n) (byte (fileBytes * f + p)) ≡ false
   unfolding offsetSettings
   offsets-off zero = unfold touched in refl
   offsets-off (suc d) =
@@ -87,11 +88,11 @@ module _ (fileOf : ℕ → ℕ) (v : Values) (y : Txn) (files : (d : ℕ) → d 
       (byte (4096 * f + p)) (offsets-off d) (pick (setsOffset y d))
     where
       pick : (b : Bool) → touched (cond b (record { item = offset d; to = finalOffset (v (offset d)) (y .standing d) } ∷ []) [])
-          (byte (4096 * f + p)) ≡ false
+          (byte (fileBytes * f + p)) ≡ false
       pick true = unfold touched same in refl
       pick false = unfold touched in refl
 
-  lengths-off : (n : ℕ) → touched (lengthSettings fileOf v (y .writes) n) (byte (4096 * f + p)) ≡ false
+  lengths-off : (n : ℕ) → touched (lengthSettings fileOf v (y .writes) n) (byte (fileBytes * f + p)) ≡ false
   unfolding lengthSettings
   lengths-off zero = unfold touched in refl
   lengths-off (suc g) =
@@ -101,12 +102,13 @@ module _ (fileOf : ℕ → ℕ) (v : Values) (y : Txn) (files : (d : ℕ) → d 
       (byte (4096 * f + p)) (lengths-off g) (pick (ltb (v (fileLength g)) (landedEnd fileOf v g (y .writes))))
     where
       pick : (b : Bool)
-          → touched (cond b (record { item = fileLength g; to = landedEnd fileOf v g (y .writes) } ∷ []) []) (byte (4096 * f + p))
+          → touched (cond b (record { item = fileLength g; to = landedEnd fileOf v g (y .writes) } ∷ []) [])
+          (byte (fileBytes * f + p))
           ≡ false
       pick true = unfold touched same in refl
       pick false = unfold touched in refl
 
-  settings-off : landedEnd fileOf v f (y .writes) ≤ p → touched (settings fileOf v y) (byte (4096 * f + p)) ≡ false
+  settings-off : landedEnd fileOf v f (y .writes) ≤ p → touched (settings fileOf v y) (byte (fileBytes * f + p)) ≡ false
   unfolding settings landedEnd
   settings-off l =
       neither (byteSettings fileOf v (y .writes)) (offsetSettings v y 16 ++ lengthSettings fileOf v (y .writes) 8)
@@ -116,7 +118,8 @@ module _ (fileOf : ℕ → ℕ) (v : Values) (y : Txn) (files : (d : ℕ) → d 
       (lengths-off 8))
 
 -- After a grant.
-pub zero-granted : (fileOf : ℕ → ℕ) (v : Values) (y : Txn) → ((d : ℕ) → d < 16 → fileOf d ≤ 7) → TxnIn y → fits v y ≡ true
+pub zero-granted : (fileOf : ℕ → ℕ) (v : Values) (y : Txn) → ((d : ℕ) → d < descriptorCount → fileOf d ≤ lastFile) → TxnIn y
+    → fits v y ≡ true
     → ZeroBeyond v → ZeroBeyond (landed (settings fileOf v y) v)
 zero-granted fileOf v y files ranges fit zeros f p low past small =
     let a = commit-longer fileOf v y f in

@@ -7,6 +7,7 @@ use lib.Dec.{leb}
 use lib.ListN.{length, length-append}
 use native.Mathlib.Omega.{arith}
 use Prim.Native.Nat.{ℕ, zero, suc, _+_, _*_, _≤_}
+use Rattle.limits.specs.Limits.{lastDescriptor, recordCount, logBytes}
 use Rattle.standings.specs.declared.Standing.{Standing}
 use Rattle.standings.specs.declared.Place.{Place}
 use Rattle.standings.specs.declared.Place.the-variants.{At, After}
@@ -35,10 +36,10 @@ as-first x y s = λ i. record { standing = sym (s .standing) i; dirty = sym (s .
 
 -- Every test of a Write passed.
 record Passes (d : ℕ) (bytes : List ℕ) (z : Txn) : Type 0 where
-  few : leb d 15 ≡ true
-  place : placeNumber (writePlace (z .standing d)) + length bytes ≤ 4096
-  records : length (z .writes) + 1 ≤ 64
-  log : total (z .writes) + length bytes ≤ 4096
+  few : leb d lastDescriptor ≡ true
+  place : placeNumber (writePlace (z .standing d)) + length bytes ≤ logBytes
+  records : length (z .writes) + 1 ≤ recordCount
+  log : total (z .writes) + length bytes ≤ logBytes
 
 isAccepted : Stepped → Bool
 isAccepted (refuse n) = false

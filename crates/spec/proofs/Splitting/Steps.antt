@@ -8,6 +8,7 @@ use lib.Dec.{leb, ltb}
 use lib.ListN.{length, drop}
 use native.Mathlib.Omega.{arith}
 use Prim.Native.Nat.{ℕ, zero, suc, _+_, _-_, _*_, min, max}
+use Rattle.limits.specs.Limits.{recordCount}
 use Rattle.standings.specs.declared.Standing.{Standing}
 use Rattle.standings.specs.Table.{advance, settled, afterSeek, afterWrite, afterRead, writePlace, offsetOf, pointerSettles}
 use Rattle.standings.specs.Table.{placeNumber}
@@ -92,7 +93,7 @@ module _ (v : Values) (f : ℕ → Standing) (g : ℕ → Bool) (xs ys : List Wr
       (accepts v (put d (afterWrite (length bytes) (f d)) f) (put d true g) _ _ doneAnswer []
       (more-split xs ys (through d (writePlace (f d)) bytes ∷ []) s)))
 
-  fewer : leb (length xs + 1) 64 ≡ true → leb (length ys + 1) 64 ≡ true
+  fewer : leb (length xs + 1) recordCount ≡ true → leb (length ys + 1) recordCount ≡ true
   fewer e = le-leb (length ys + 1) 64 (omega (arith, leb-true (length xs + 1) 64 e, split-one-more xs ys s))
 
   writes-in-step : InStep v (writeStep d bytes (txn f g xs)) (writeStep d bytes (txn f g ys))

@@ -10,6 +10,7 @@ use lib.ListN.{length, getD, length-append, List·getD-append}
 use lib.Seq.{getD-append-add}
 use native.Mathlib.Omega.{arith}
 use Prim.Native.Nat.{ℕ, zero, suc, _+_, _-_, _*_, _≤_, _<_, max}
+use Rattle.limits.specs.Limits.{fileBytes}
 use Rattle.buffers.specs.Parts.{cut, pasted}
 use Rattle.buffers.proofs.PartLaws.{le-or-lt, length-pasted}
 use Rattle.spec_undo.specs.OldBytes.{Landing, landing, spanOf, oldBytes, Inside}
@@ -243,7 +244,7 @@ old-after w ws vs files e = ap (λ (l : List ℕ). cut files (w .at) (length (w 
 module _ (fileOf : ℕ → ℕ) (v : Values) where
   -- The second write lands where the first ends.
   lands-behind : (d : ℕ) (q : Place) (n : ℕ)
-      → 4096 * fileOf d + landsAt (v (offset d)) (further n q) ≡ 4096 * fileOf d + landsAt (v (offset d)) q + n
+      → fileBytes * fileOf d + landsAt (v (offset d)) (further n q) ≡ fileBytes * fileOf d + landsAt (v (offset d)) q + n
   lands-behind d q n =
       ap (λ (k : ℕ). 4096 * fileOf d + k) (lands-further (v (offset d)) n q)
       ∙ sym (adding (4096 * fileOf d) (landsAt (v (offset d)) q) n)

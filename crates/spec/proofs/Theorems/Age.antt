@@ -6,11 +6,12 @@ use mathlib.Core.Path.{_≡_, refl, sym, ap, ap₂, _∙_, fun-ext, subst⁻¹}
 use lib.ListN.{length, set, replicate, length-replicate}
 use Prim.Native.Nat.{ℕ, zero, suc, _≤_}
 use native.Mathlib.Omega.{arith}
+use Rattle.limits.specs.Limits.{bufferBytes, lastTransaction}
 use Rattle.buffers.specs.Parts.{tabulate}
 use Rattle.buffers.specs.Marks.{withoutMarks}
 use Rattle.state.specs.declared.Transaction.{Transaction}
 use Rattle.state.specs.StoreMeaning.{transaction, windowAt, ended, withTransaction, withTransactions}
-use Rattle.state.specs.Journal.{lastGrant, writeRecordAt, withRecords}
+use Rattle.state.specs.Journal.{lastGrant, writeRecordAt, withRecords, journalLength}
 use Rattle.state.proofs.JournalLaws.{length-with, read-own}
 use Rattle.admission.specs.FirstRefusal.{isNone}
 use Rattle.admission.specs.Admission.{admission}
@@ -42,7 +43,7 @@ pub at-rest-sound : (m : Machine) → AtRest m → Sound m
 at-rest-sound m r = reached-sound m (r .reached)
 
 -- The young store is sound too, has nothing open and the same committed values.
-module _ (m : Machine) (s : Sound m) (logs : List ℕ) (size : length logs ≡ 32768) where
+module _ (m : Machine) (s : Sound m) (logs : List ℕ) (size : length logs ≡ bufferBytes) where
   abbrev records : ℕ
   records = m .store .undo .used .records
 
@@ -57,7 +58,7 @@ module _ (m : Machine) (s : Sound m) (logs : List ℕ) (size : length logs ≡ 3
       read-own (replicate 1728 0) lastGrant (writeRecordAt (m .journal) lastGrant) (length-replicate 1728 zero)
       (omega arith) records k (r .records) l (omega (arith, w .0))
 
-  young-long : length young-journal ≡ 1728
+  young-long : length young-journal ≡ journalLength
   young-long = length-with (replicate 1728 0) lastGrant (writeRecordAt (m .journal) lastGrant) records
       ∙ length-replicate 1728 zero
 
@@ -95,7 +96,7 @@ module _ (m : Machine) (s : Sound m) (logs : List ℕ) (size : length logs ≡ 3
             });
       }
 
-  young-closed : (t : ℕ) → t ≤ 7 → transaction (rejuvenated m logs .store) t .begun ≡ false
+  young-closed : (t : ℕ) → t ≤ lastTransaction → transaction (rejuvenated m logs .store) t .begun ≡ false
   unfolding rejuvenated freshMachine
   young-closed t l = closed-at (m .store .filenumbers) logs (m .undo) t (omega arith)
 
@@ -254,7 +255,7 @@ earlier-back m = pick (m .store .undo .held)
     pick false = refl
 
 -- Serializability from a sound store with nothing open.
-module _ (m : Machine) (sound : Sound m) (closed : (t : ℕ) → t ≤ 7 → transaction (m .store) t .begun ≡ false) where
+module _ (m : Machine) (sound : Sound m) (closed : (t : ℕ) → t ≤ lastTransaction → transaction (m .store) t .begun ≡ false) where
   pub resting-start :
       view m ≡ startAbstract (fileOf (m .store)) (values (m .store) (m .files)) (windowAt (m .store)) (backOf (earlierIn m))
   resting-start =

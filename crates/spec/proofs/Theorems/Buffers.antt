@@ -7,6 +7,7 @@ use lib.Dec.{leb, eqb}
 use lib.ListN.{getD, set, replicate}
 use native.Mathlib.Omega.{arith}
 use Prim.Native.Nat.{ℕ, zero, suc, _+_, _*_, _≤_}
+use Rattle.limits.specs.Limits.{lastTransaction, logBytes}
 use Rattle.buffers.specs.Bits.{bit}
 use Rattle.buffers.specs.Marks.{names, hasMark, withMark, withoutMarks}
 use Rattle.buffers.specs.Parts.{pasted, tabulate}
@@ -277,7 +278,8 @@ reset-cleared t x m e =
     let b = replaced t x (m .store .transactions) e in
     (record { bytes = cleared t (m .marks); lengths = b .0 }, b .1)
 
-granted-cleared : (t : ℕ) (x : Txn) (ss : List Setting) (m : Machine) → t ≤ 7 → Vacant t (commitGranted t x ss m .after)
+granted-cleared : (t : ℕ) (x : Txn) (ss : List Setting) (m : Machine) → t ≤ lastTransaction
+    → Vacant t (commitGranted t x ss m .after)
 unfolding commitGranted savingUndo afterCommit ended
 granted-cleared t x ss m l =
     let e : getD (tabulate (afterCommit t ss m) 8) t noTransaction ≡ ended =
@@ -318,19 +320,20 @@ answered k m w a h e = ap (λ (x : Turn). x .after) (answered-turn k m w a h e)
 -- Where an accepted Write puts its bytes.
 served-written : (t d : ℕ) (bytes : List ℕ) (m : Machine) (is : List Item) (s : Stepped)
     → served t (write d bytes) m is s .reply .answer ≡ doneAnswer
-    → served t (write d bytes) m is s .after .logs ≡ pasted (m .logs) (4096 * t + transaction (m .store) t .used .bytes) bytes
+    → served t (write d bytes) m is s .after .logs ≡ pasted (m .logs) (logBytes * t + transaction (m .store) t .used .bytes) bytes
 unfolding served refuseTurn logged
 served-written t d bytes m is (refuse n) e = absurd (answer-not-refused doneAnswer n tt (sym e))
 served-written t d bytes m is (accept y a b) e = refl
 
 call-written : (m : Machine) (t d : ℕ) (bytes : List ℕ) → call (on t (write d bytes)) m .reply .answer ≡ doneAnswer
-    → call (on t (write d bytes)) m .after .logs ≡ pasted (m .logs) (4096 * t + transaction (m .store) t .used .bytes) bytes
+    → call (on t (write d bytes)) m .after .logs ≡ pasted (m .logs) (logBytes * t + transaction (m .store) t .used .bytes) bytes
 unfolding call admitted bufferOf stepTurn
 call-written m t d bytes e =
     let z = answered-turn _ m (stepTurn t (write d bytes) m) doneAnswer tt e in
     rw (ap (λ (w : Turn). w .after) z) (served-written t d bytes m _ _ (sym (ap (λ (w : Turn). w .reply .answer) z) ∙ e))
 
-decided-cleared : (t : ℕ) (x : Txn) (ss : List Setting) (m : Machine) (daily stale shut placed : Bool) (n : ℕ) → t ≤ 7
+decided-cleared : (t : ℕ) (x : Txn) (ss : List Setting) (m : Machine) (daily stale shut placed : Bool) (n : ℕ)
+    → t ≤ lastTransaction
     → commitDecided t x ss m (commitRefusal daily stale shut placed) .reply .answer ≡ granted n
     → Vacant t (commitDecided t x ss m (commitRefusal daily stale shut placed) .after)
 unfolding commitDecided commitRefusal
@@ -351,7 +354,7 @@ decided-stale t x ss m true false false true e = absurd (answer-not-refused _ 13
 decided-stale t x ss m true false false false e = let z : _≡_ {A = ℕ} 12 13 = refused-same 12 13 e in absurd (omega arith)
 
 -- A granted Commit is of a number up to 7.
-granted-small : (m : Machine) (t minute n : ℕ) → call (commit t minute) m .reply .answer ≡ granted n → t ≤ 7
+granted-small : (m : Machine) (t minute n : ℕ) → call (commit t minute) m .reply .answer ≡ granted n → t ≤ lastTransaction
 unfolding call admitted admission
 granted-small m t minute n e =
     let z = passing-zero (admission (sizes m) (m .store) (m .journal) t) [] m (commitTurn t minute m) (granted n) tt e in

@@ -8,6 +8,7 @@ use lib.ListN.{length, getD}
 use lib.Seq.{getD-set-other}
 use native.Mathlib.Omega.{arith}
 use Prim.Native.Nat.{ℕ, zero, suc, _+_, _*_, _/_, _≤_, _<_, suc-le-suc}
+use Rattle.limits.specs.Limits.{fileBytes}
 use Rattle.windows.specs.Windows.{Windows, isClosedAt}
 use Rattle.state.specs.StoreMeaning.{transaction, windowAt}
 use Rattle.state.specs.Outcomes.{granted}
@@ -58,7 +59,7 @@ module _ (ws : Windows) (minute : ℕ) where
   AllSparing = Every (λ (s : Setting). Sparing (s .item))
 
   -- The bytes of a write in file g.
-  interval-spares : (g q : ℕ) (bs : List ℕ) → 4096 * g ≤ q → q + length bs ≤ 4096 * g + 4096
+  interval-spares : (g q : ℕ) (bs : List ℕ) → fileBytes * g ≤ q → q + length bs ≤ fileBytes * g + fileBytes
       → (0 < length bs → isClosedAt ws minute g ≡ false) → AllSparing (bytesFrom q bs)
   unfolding bytesFrom
   interval-spares g q [] l k h = tt
@@ -126,7 +127,7 @@ module _ (ws : Windows) (minute : ℕ) where
   among-spares s ss (later r rs a) h = among-spares s rs a (h .1)
 
   -- A byte of a closed file is not touched.
-  not-touched : (q : ℕ) → isClosedAt ws minute (q / 4096) ≡ true → (ss : List Setting) → AllSparing ss → touched ss (byte q)
+  not-touched : (q : ℕ) → isClosedAt ws minute (q / fileBytes) ≡ true → (ss : List Setting) → AllSparing ss → touched ss (byte q)
       ≡ false
   unfolding touched
   not-touched q c [] h = refl

@@ -6,6 +6,7 @@ use borrow.Author.Tests.{leb-true}
 use lib.Dec.{leb}
 use native.Mathlib.Omega.{arith}
 use Prim.Native.Nat.{ℕ, zero, suc, _≤_, _<_}
+use Rattle.limits.specs.Limits.{fileBytes, lastTransaction}
 use Rattle.windows.specs.Windows.{minuteIn}
 use Rattle.state.specs.Outcomes.{doneAnswer}
 use Rattle.admission.specs.FirstRefusal.{guarded, isNone}
@@ -44,7 +45,8 @@ use Rattle.spec.proofs.Theorems.Recovery.{recovered-sound, recovered-vi
 -- What holds of the committed values, and of those that a granted Commit leaves, holds after every call.
 module _ (P : Values → Saved → Type 0) (s : Abstract) (now : P (s .value) (s .back)) (grantable backable : Bool)
     (then :
-    grantable ≡ true → (t : ℕ) (h : UndoSaved) → leb t 7 ≡ true → s .seats t ≡ held h → fits (s .value) (h .txn) ≡ true
+    grantable ≡ true → (t : ℕ) (h : UndoSaved) → leb t lastTransaction ≡ true → s .seats t ≡ held h
+    → fits (s .value) (h .txn) ≡ true
     → P (landed (settings (s .fileOf) (s .value) (h .txn)) (s .value)) (preserved (s .value)))
     (back : backable ≡ true → (v : Values) → s .back ≡ preserved v → P v none) where
   -- Of a store.
@@ -68,7 +70,8 @@ module _ (P : Values → Saved → Type 0) (s : Abstract) (now : P (s .value) (s
   preserved-on t o (held h) = preserved-stepped t o h
       (refusedStale (h .stale) o (result (s .value) (step (s .fileOf) o (h .txn))))
 
-  preserved-committed : (t : ℕ) (h : UndoSaved) → leb t 7 ≡ true → s .seats t ≡ held h → (daily stale shut placed : Bool)
+  preserved-committed : (t : ℕ) (h : UndoSaved) → leb t lastTransaction ≡ true → s .seats t ≡ held h
+      → (daily stale shut placed : Bool)
       → fits (s .value) (h .txn) ≡ placed → grantable ≡ true
       → At (abstractCommitted t h s (commitRefusal daily stale shut placed) .after)
   unfolding abstractCommitted commitRefusal granting withSeat
@@ -78,7 +81,7 @@ module _ (P : Values → Saved → Type 0) (s : Abstract) (now : P (s .value) (s
   preserved-committed t h l o true false false true e g = then g t h l o e
   preserved-committed t h l o true false false false e g = now
 
-  preserved-commit : grantable ≡ true → (t minute : ℕ) → leb t 7 ≡ true → (x : Seat) → s .seats t ≡ x
+  preserved-commit : grantable ≡ true → (t minute : ℕ) → leb t lastTransaction ≡ true → (x : Seat) → s .seats t ≡ x
       → At (abstractCommit t minute x s .after)
   unfolding abstractCommit turnedAway
   preserved-commit g t minute l vacant o = now
@@ -118,7 +121,7 @@ module _ (P : Values → Saved → Type 0) (s : Abstract) (now : P (s .value) (s
       pick false = now
 
   preserved-seated : (t : ℕ) (buffer : List ℕ) (next : Seat → Abstract → AbstractTurn)
-      → (leb t 7 ≡ true → At (next (s .seats t) s .after))
+      → (leb t lastTransaction ≡ true → At (next (s .seats t) s .after))
       → At (seated t buffer next s .after)
   unfolding seated turnedAway
   preserved-seated t buffer next h = pick (leb t 7) h
@@ -159,7 +162,7 @@ seat-held false g h e = let z : _≡_ {A = ℕ} 0 1 = cc in absurd (omega arith)
 module _ (m : Machine) (sound : Sound m) where
   -- After a call.
   after-call : (P : Values → Saved → Type 0) → P (committedIn m) (backIn m) → (backable : Bool)
-      → ((t : ℕ) (h : UndoSaved) → leb t 7 ≡ true → view m .seats t ≡ held h → fits (committedIn m) (h .txn) ≡ true
+      → ((t : ℕ) (h : UndoSaved) → leb t lastTransaction ≡ true → view m .seats t ≡ held h → fits (committedIn m) (h .txn) ≡ true
       → P (landed (settings (fileOf (m .store)) (committedIn m) (h .txn)) (committedIn m)) (preserved (committedIn m)))
       → (backable ≡ true → (v : Values) → backIn m ≡ preserved v → P v none)
       → (c : Call) → (c ≡ undoCommit → backable ≡ true) → P (committedIn (call c m .after)) (backIn (call c m .after))
@@ -175,7 +178,7 @@ module _ (m : Machine) (sound : Sound m) where
       (λ b. absurd (e b))
 
   -- While somebody is open, nothing goes back.
-  opened-call : (t : ℕ) → t ≤ 7 → transaction (m .store) t .begun ≡ true → call undoCommit m .after ≡ m
+  opened-call : (t : ℕ) → t ≤ lastTransaction → transaction (m .store) t .begun ≡ true → call undoCommit m .after ≡ m
   unfolding call
   opened-call t l b = pick (admissionOfUndo (sizes m) (m .store) (m .journal)) refl
     where
@@ -202,7 +205,7 @@ module _ (m : Machine) (sound : Sound m) where
       (zero-granted (fileOf (m .store)) (committedIn m) (h .txn) (r .files) (rw y ranges) fit zeros, zeros))
       (λ b v e. (subst ZeroBack e backs, tt)) c (λ e. refl)
 
-  pub limit-now : (f : ℕ) → committedIn m (fileLength f) ≤ 4096
+  pub limit-now : (f : ℕ) → committedIn m (fileLength f) ≤ fileBytes
   limit-now = length-in (m .store) (m .journal) (m .files) (sound .shaped .lengths)
       (in-range (m .store) (m .journal) (sound .inRange))
 

@@ -7,6 +7,7 @@ use lib.Dec.{leb}
 use lib.ListN.{length}
 use native.Mathlib.Omega.{arith}
 use Prim.Native.Nat.{ℕ, _<_}
+use Rattle.limits.specs.Limits.{bufferBytes, transactionCount}
 use Rattle.buffers.specs.Marks.{byTransaction, names, rearranged, hasMark}
 use Rattle.buffers.proofs.Rearranged.{same-pairs}
 use Rattle.state.specs.StoreMeaning.{transaction, windowAt}
@@ -21,12 +22,12 @@ use Rattle.spec.proofs.Refinement.Relation.{heldBy, seat, backValues, b
 use Rattle.spec.proofs.Theorems.Serializability.{calls-agree}
 use Rattle.spec.proofs.Theorems.Recovery.{reached-sound}
 
-module _ (m : Machine) (sound : Sound m) (marks : List ℕ) (size : length marks ≡ 32768)
+module _ (m : Machine) (sound : Sound m) (marks : List ℕ) (size : length marks ≡ bufferBytes)
     (named : Named (names byTransaction marks) m) where
   abbrev other : Machine
   other = withMarking marks m
 
-  same-held : (t : ℕ) → t < 8 → heldBy other t ≡ heldBy m t
+  same-held : (t : ℕ) → t < transactionCount → heldBy other t ≡ heldBy m t
   unfolding heldBy hasMark
   same-held t small =
       let e : _≡_ {A = ℕ → Bool} (names byTransaction marks t) (names byTransaction (m .marks) t) = fun-ext

@@ -6,6 +6,7 @@ use lib.Dec.{leb, eqb}
 use native.Mathlib.Omega.{arith}
 use borrow.Author.Tests.{leb-true}
 use Prim.Native.Nat.{ℕ, zero, suc, _<_}
+use Rattle.limits.specs.Limits.{transactionCount}
 use Rattle.buffers.specs.Marks.{hasMark}
 use Rattle.state.specs.declared.Transaction.{Transaction}
 use Rattle.state.specs.StoreMeaning.{transaction, ended}
@@ -54,7 +55,7 @@ module _ (m : Machine) (u q : ℕ) where
       pick false = refl
 
   module _ (sound : Sound m) where
-    served-left : (t : ℕ) (o : Op) → t < 8 → transaction (m .store) t .begun ≡ true → (u ≡ t → ⊥) → (s : Stepped)
+    served-left : (t : ℕ) (o : Op) → t < transactionCount → transaction (m .store) t .begun ≡ true → (u ≡ t → ⊥) → (s : Stepped)
         → Left (served t o m (sightings m t o) s .after)
     unfolding served refuseTurn
     served-left t o small begun other (refuse n) = refl
@@ -62,7 +63,8 @@ module _ (m : Machine) (u q : ℕ) where
         marked-other t u (sightings m t o) (m .marks) small (sound .marks) (sightings-in m t o sound small begun) other q
 
     -- A call of an open transaction, on a sound store.
-    admitted-left : (t : ℕ) (buffer : List ℕ) (w : Turn) → (t < 8 → transaction (m .store) t .begun ≡ true → Left (w .after))
+    admitted-left : (t : ℕ) (buffer : List ℕ) (w : Turn)
+        → (t < transactionCount → transaction (m .store) t .begun ≡ true → Left (w .after))
         → Left (admitted t buffer m w .after)
     unfolding admitted admission unless passing refuseTurn
     admitted-left t buffer w h =

@@ -9,6 +9,7 @@ use lib.ListN.{length, length-replicate, getD-replicate}
 use Prim.Native.Nat.{ℕ, zero, suc, _≤_, _<_}
 use native.Mathlib.Nat.{not-suc-le-zero}
 use native.Mathlib.Omega.{arith}
+use Rattle.limits.specs.Limits.{bufferBytes, transactionCount, lastTransaction}
 use Rattle.buffers.specs.Parts.{tabulate}
 use Rattle.buffers.proofs.PartLaws.{le-or-lt}
 use Rattle.state.specs.declared.StoreMeaning.{StoreMeaning}
@@ -31,8 +32,8 @@ use Rattle.spec.proofs.Refinement.AfterReset.{seat-in, seat-out}
 use Rattle.spec.proofs.Theorems.Serializability.{calls-agree, fresh-facts}
 
 -- What a store with nothing open stands for.
-module _ (m : Machine) (closed : (t : ℕ) → t ≤ 7 → transaction (m .store) t .begun ≡ false) where
-  no-seat : (u : ℕ) → (8 ≤ u) ⊎ (u < 8) → seat m u ≡ vacant
+module _ (m : Machine) (closed : (t : ℕ) → t ≤ lastTransaction → transaction (m .store) t .begun ≡ false) where
+  no-seat : (u : ℕ) → (transactionCount ≤ u) ⊎ (u < transactionCount) → seat m u ≡ vacant
   no-seat u (inl l) = seat-out m u l
   no-seat u (inr l) = seat-in m u false (heldBy m u) l (closed u (omega arith)) refl
 
@@ -51,15 +52,15 @@ module _ (m : Machine) (closed : (t : ℕ) → t ≤ 7 → transaction (m .store
 -- ---- the store that comes back
 
 module _ (logs marks : List ℕ) (m : Machine) where
-  ended-at : (u : ℕ) → u < 8 → transaction (allEnded (m .store)) u ≡ ended
+  ended-at : (u : ℕ) → u < transactionCount → transaction (allEnded (m .store)) u ≡ ended
   unfolding allEnded
   ended-at u l = getD-replicate 8 u ended noTransaction l
 
-  recovered-closed : (t : ℕ) → t ≤ 7 → transaction (recovered logs marks m .store) t .begun ≡ false
+  recovered-closed : (t : ℕ) → t ≤ lastTransaction → transaction (recovered logs marks m .store) t .begun ≡ false
   unfolding recovered ended
   recovered-closed t l = ap (λ (x : Transaction). x .begun) (ended-at t (omega arith))
 
-  pub recovered-sound : Sound m → length logs ≡ 32768 → length marks ≡ 32768 → Sound (recovered logs marks m)
+  pub recovered-sound : Sound m → length logs ≡ bufferBytes → length marks ≡ bufferBytes → Sound (recovered logs marks m)
   unfolding recovered allEnded ended
   recovered-sound s size wide =
       let r = in-range (m .store) (m .journal) (s .inRange) in
@@ -150,7 +151,7 @@ seat-aborted t vacant s e =
     pick u false q = refl
 seat-aborted t (held h) s e = refl
 
-call-aborted : (t : ℕ) (s : Abstract) → t ≤ 7 → abstractCall (abort t) s .after ≡ withSeat t vacant s
+call-aborted : (t : ℕ) (s : Abstract) → t ≤ lastTransaction → abstractCall (abort t) s .after ≡ withSeat t vacant s
 unfolding abstractCall seated
 call-aborted t s l = rw (le-leb t 7 l) (seat-aborted t (s .seats t) s refl)
 
@@ -168,12 +169,13 @@ aborted (suc n) s l =
     ∙ ap (withSeat n vacant) (aborted n s (omega arith))
 
 module _ (m : Machine) where
-  none-left : (u : ℕ) → (8 ≤ u) ⊎ (u < 8) → vacated 8 (view m) .seats u ≡ vacant
+  none-left : (u : ℕ) → (transactionCount ≤ u) ⊎ (u < transactionCount) → vacated transactionCount (view m) .seats u ≡ vacant
   unfolding view
   none-left u (inl l) = vacated-past (view m) 8 u l ∙ seat-out m u l
   none-left u (inr l) = vacated-below (view m) 8 u l
 
-  all-vacated : vacated 8 (view m) ≡ startAbstract (fileOf (m .store)) (values (m .store) (m .files)) (windowAt (m .store))
+  all-vacated : vacated transactionCount (view m) ≡ startAbstract (fileOf (m .store)) (values (m .store) (m .files))
+      (windowAt (m .store))
       (backIn m)
   unfolding vacated withSeat view startAbstract
   all-vacated =
@@ -247,8 +249,8 @@ reached-sound m r =
     (runs-from-fresh (r .numbers) (r .first) (r .made) (r .runs) .second) .sound)
 
 -- Nothing is open after runs where nothing was before.
-pub runs-closed : (rs : List ProgramRun) (m : Machine) → ((t : ℕ) → t ≤ 7 → transaction (m .store) t .begun ≡ false)
-    → (t : ℕ) → t ≤ 7 → transaction (runsAfter rs m .store) t .begun ≡ false
+pub runs-closed : (rs : List ProgramRun) (m : Machine) → ((t : ℕ) → t ≤ lastTransaction → transaction (m .store) t .begun ≡ false)
+    → (t : ℕ) → t ≤ lastTransaction → transaction (runsAfter rs m .store) t .begun ≡ false
 unfolding runsAfter
 runs-closed [] m closed = closed
 runs-closed (r ∷ rs) m closed =

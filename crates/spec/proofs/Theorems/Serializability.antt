@@ -8,6 +8,7 @@ use lib.Dec.{leb}
 use lib.ListN.{getD}
 use native.Mathlib.Omega.{arith}
 use Prim.Native.Nat.{ℕ, zero, suc, _≤_}
+use Rattle.limits.specs.Limits.{transactionCount, lastTransaction}
 use Rattle.windows.specs.Windows.{Windows, freshWindows}
 use Rattle.buffers.specs.Bits.{bitsOf}
 use Rattle.state.specs.StoreMeaning.{transaction}
@@ -86,7 +87,7 @@ fresh-passed (suc k) m w e = absurd (answer-not-refused doneAnswer (suc k) tt (s
 pub record FreshFacts (numbers : List ℕ) (m : Machine) : Type 0 where
   pub sound : Sound m
   pub same : view m ≡ startAbstract (λ d. getD numbers d 0) (λ i. 0) freshWindows none
-  pub closed : (t : ℕ) → t ≤ 7 → transaction (m .store) t .begun ≡ false
+  pub closed : (t : ℕ) → t ≤ lastTransaction → transaction (m .store) t .begun ≡ false
 
 pub fresh-facts : (numbers : List ℕ) (m : Machine) → FreshlyMade numbers m → FreshFacts numbers m
 unfolding fresh answerWith passing
@@ -121,7 +122,7 @@ unfolding taken seatOf isRunning
 slot-taken p closed = refl
 slot-taken p (running r) = refl
 
-open-same : (m : Machine) (p : Plain) → view m ≡ abs p → (t : ℕ) → t ≤ 7 → transaction (m .store) t .begun
+open-same : (m : Machine) (p : Plain) → view m ≡ abs p → (t : ℕ) → t ≤ lastTransaction → transaction (m .store) t .begun
     ≡ isRunning (p .slots t)
 unfolding view seat abs
 open-same m p e t l =
@@ -141,7 +142,7 @@ octetIn (ordered grants gap tried) = 0
 octetIn (refused n) = 0
 
 pub record Expected (t : ℕ) (p : Plain) (τ : PlainTurn) : Type 0 where
-  pub octet : (n : ℕ) → τ .reply .answer ≡ granted n → n ≡ bitsOf (becameStale t p (τ .after)) 8
+  pub octet : (n : ℕ) → τ .reply .answer ≡ granted n → n ≡ bitsOf (becameStale t p (τ .after)) transactionCount
 
 not-expected : (t : ℕ) (p : Plain) (τ : PlainTurn) (k : ℕ) → τ .reply .answer ≡ refused k → Expected t p τ
 not-expected t p τ k e = record { octet = λ n g. absurd (answer-not-refused (granted n) k tt (sym g ∙ e)) }

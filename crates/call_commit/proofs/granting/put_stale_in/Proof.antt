@@ -4,6 +4,7 @@ use mathlib.Core.Logic.{⊎-elim}
 use mathlib.Core.Path.{_≡_, refl, sym, ap, _∙_}
 use Prim.Native.Nat.{_-_, _≤_, _<_}
 use native.Mathlib.Omega.{arith}
+use Rattle.limits.specs.Limits.{transactionCount}
 use Rattle.state.specs.declared.Transaction.{Transaction}
 use Rattle.state.specs.StoreMeaning.{withTransactions}
 use Rattle.state.specs.Layout.{storeOf}
@@ -17,10 +18,10 @@ use Rattle.call_commit.proofs.granting.put_stale_in.Statement.{statemen
 use Rattle.call_commit.proofs.granting.put_stale_in.Tie as tie
 
 abbrev Inv-loop : tie.InvT-loop
-Inv-loop state₀ octet u₀ state u = (u ≤ 8) × Means state₀ state (staleFirst octet state₀ u)
+Inv-loop state₀ octet u₀ state u = (u ≤ transactionCount) × Means state₀ state (staleFirst octet state₀ u)
 
 abbrev μ-loop : tie.MeasureT-loop
-μ-loop state₀ octet u₀ state u = 8 - u
+μ-loop state₀ octet u₀ state u = transactionCount - u
 
 loop-holds : tie.Need-loop-holds Inv-loop μ-loop
 loop-holds c =

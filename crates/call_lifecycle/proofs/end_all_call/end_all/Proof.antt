@@ -4,16 +4,17 @@ use mathlib.Core.Path.{_≡_}
 use native.Mathlib.Omega.{arith}
 use lib.ListN.{length}
 use Prim.Native.Nat.{_-_, _≤_}
+use Rattle.limits.specs.Limits.{transactionCount}
 use Rattle.state.specs.Layout.{stateLength}
 use Rattle.call_lifecycle.proofs.EndRules.{EndedAll, ended-none, ended-more, ended-all}
 use Rattle.call_lifecycle.proofs.end_all_call.end_all.Statement.{statement}
 use Rattle.call_lifecycle.proofs.end_all_call.end_all.Tie as tie
 
 abbrev Inv-loop : tie.InvT-loop
-Inv-loop state₀ t₀ state t = (t ≤ 8) × EndedAll state₀ t state
+Inv-loop state₀ t₀ state t = (t ≤ transactionCount) × EndedAll state₀ t state
 
 abbrev μ-loop : tie.MeasureT-loop
-μ-loop state₀ t₀ state t = 8 - t
+μ-loop state₀ t₀ state t = transactionCount - t
 
 loop-holds : tie.Need-loop-holds Inv-loop μ-loop
 loop-holds c = let l : length (c .before .before .before .args .state .now)

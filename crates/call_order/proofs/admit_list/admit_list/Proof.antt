@@ -3,6 +3,7 @@ use mathlib.Core.Bool.{true}
 use mathlib.Core.Path.{_≡_, refl}
 use borrow.Author.Needs.{needs}
 use lib.Dec.{leb}
+use Rattle.limits.specs.Limits.{lastTransaction}
 use Rattle.windows.specs.Windows.{minuteIn}
 use Rattle.state.specs.Layout.{transactionOf}
 use Rattle.admission.specs.Admission.{gateNumber}
@@ -22,7 +23,7 @@ is-list-of c = test-held (c .before .is-list .ensures) (c .if1 .left)
 abbrev start-of : tie.Else2 → tie.Start
 start-of c = c .before .before .before .before .before
 
-small-of : (c : tie.Else2) → allIn (λ t. leb t 7) (start-of c .args .list .now) ≡ true
+small-of : (c : tie.Else2) → allIn (λ t. leb t lastTransaction) (start-of c .args .list .now) ≡ true
 small-of c = test-held (c .before .all-small .ensures) (c .if2 .left)
 
 abbrev small-before : tie.Else3 → tie.Else2

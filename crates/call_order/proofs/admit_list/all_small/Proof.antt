@@ -6,12 +6,13 @@ use lib.Dec.{leb}
 use lib.ListN.{length}
 use native.Mathlib.Omega.{arith}
 use Prim.Native.Nat.{_-_, _≤_}
+use Rattle.limits.specs.Limits.{lastTransaction}
 use Rattle.call_order.proofs.ListLaws.{AllLeft, all-fails, all-more, all-done}
 use Rattle.call_order.proofs.admit_list.all_small.Statement.{statement}
 use Rattle.call_order.proofs.admit_list.all_small.Tie as tie
 
 abbrev Inv-loop : tie.InvT-loop
-Inv-loop list k₀ k = (k ≤ length list) × AllLeft (λ t. leb t 7) list k
+Inv-loop list k₀ k = (k ≤ length list) × AllLeft (λ t. leb t lastTransaction) list k
 
 abbrev μ-loop : tie.MeasureT-loop
 μ-loop list k₀ k = length list - k

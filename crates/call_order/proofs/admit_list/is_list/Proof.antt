@@ -7,13 +7,15 @@ use lib.Dec.{leb}
 use lib.ListN.{length}
 use native.Mathlib.Omega.{arith}
 use Prim.Native.Nat.{_-_, _≤_}
+use Rattle.limits.specs.Limits.{transactionCount}
 use Rattle.spec_orders.specs.Orders.{isList}
 use Rattle.call_order.proofs.ListLaws.{DistinctLeft, distinct-fails, distinct-more, distinct-done}
 use Rattle.call_order.proofs.admit_list.is_list.Statement.{statement}
 use Rattle.call_order.proofs.admit_list.is_list.Tie as tie
 
 abbrev Inv-loop : tie.InvT-loop
-Inv-loop list k₀ k = (k ≤ length list) × DistinctLeft list k × (leb 1 (length list) ≡ true) × (leb (length list) 8 ≡ true)
+Inv-loop list k₀ k = (k ≤ length list) × DistinctLeft list k × (leb 1 (length list) ≡ true)
+    × (leb (length list) transactionCount ≡ true)
 
 abbrev μ-loop : tie.MeasureT-loop
 μ-loop list k₀ k = length list - k

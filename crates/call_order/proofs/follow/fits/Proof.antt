@@ -7,6 +7,7 @@ use lib.Dec.{leb}
 use lib.ListN.{getD}
 use native.Mathlib.Omega.{arith}
 use Prim.Native.Nat.{ℕ, _+_, _-_, _≤_}
+use Rattle.limits.specs.Limits.{descriptorCount}
 use Rattle.standings.specs.Table.{advance}
 use Rattle.state.specs.StoreMeaning.{standingAt}
 use Rattle.state.specs.Layout.{transactionOf}
@@ -20,10 +21,10 @@ abbrev fits-at : List ℕ → ℕ → List ℕ → ℕ → Bool
 fits-at state t offsets d = leb (getD offsets d 0 + advance (standingAt (transactionOf state t) d)) 4096
 
 abbrev Inv-loop : tie.InvT-loop
-Inv-loop state t offsets good₀ d₀ good d = (d ≤ 16) × (good ≡ below (fits-at state t offsets) d)
+Inv-loop state t offsets good₀ d₀ good d = (d ≤ descriptorCount) × (good ≡ below (fits-at state t offsets) d)
 
 abbrev μ-loop : tie.MeasureT-loop
-μ-loop state t offsets good₀ d₀ good d = 16 - d
+μ-loop state t offsets good₀ d₀ good d = descriptorCount - d
 
 loop-holds : tie.Need-loop-holds Inv-loop μ-loop
 loop-holds c = (omega arith, none-yet _)

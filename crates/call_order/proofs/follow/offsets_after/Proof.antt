@@ -8,6 +8,7 @@ use borrow.Author.Tests.{leb-true}
 use lib.ListN.{length, getD, set}
 use native.Mathlib.Omega.{arith}
 use Prim.Native.Nat.{ℕ, _+_, _-_, _≤_, _<_}
+use Rattle.limits.specs.Limits.{fileBytes, descriptorCount}
 use Rattle.standings.specs.Table.{advance, isTouched, finalOffset}
 use Rattle.state.specs.declared.Descriptor.{Descriptor}
 use Rattle.state.proofs.LayoutLaws.{descriptor-of}
@@ -32,8 +33,8 @@ set-so x offsets d v e h = h ∙ sym (ap (λ (b : Bool). cond b (finalOffset (ge
 left-so : (x : Txn) (offsets : List ℕ) (d : ℕ) → setsOffset x d ≡ false → offset-after x offsets d ≡ getD offsets d 0
 left-so x offsets d e = ap (λ (b : Bool). cond b (finalOffset (getD offsets d 0) (x .standing d)) (getD offsets d 0)) e
 
-fits-there : (x : Txn) (offsets : List ℕ) (d : ℕ) → fitsAt x offsets ≡ true → d < 16 → getD offsets d 0
-    + advance (x .standing d) ≤ 4096
+fits-there : (x : Txn) (offsets : List ℕ) (d : ℕ) → fitsAt x offsets ≡ true → d < descriptorCount → getD offsets d 0
+    + advance (x .standing d) ≤ fileBytes
 unfolding fitsAt
 fits-there x offsets d e l = leb-true _ 4096 (below-at _ 16 d e l)
 
@@ -42,7 +43,7 @@ Inv-loop state t offsets after₀ d₀ after d =
     (d ≤ 16) × (after ≡ filled (offset-after (descriptorsIn state t) offsets) offsets d) × (length offsets ≡ 16)
 
 abbrev μ-loop : tie.MeasureT-loop
-μ-loop state t offsets after₀ d₀ after d = 16 - d
+μ-loop state t offsets after₀ d₀ after d = descriptorCount - d
 
 loop-holds : tie.Need-loop-holds Inv-loop μ-loop
 loop-holds c =

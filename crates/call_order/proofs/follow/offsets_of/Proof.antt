@@ -5,6 +5,7 @@ use lib.ListN.{length, getD, set, replicate}
 use Prim.Native.Nat.{ℕ, _-_, _≤_}
 use native.Mathlib.Omega.{arith}
 use borrow.Author.Needs.{needs}
+use Rattle.limits.specs.Limits.{descriptorCount}
 use Rattle.buffers.specs.Parts.{tabulate}
 use Rattle.state.specs.Layout.{storeOf}
 use Rattle.state.proofs.Filled.{filled, filled-none, filled-set, filled-all}
@@ -18,10 +19,11 @@ abbrev committed : List ℕ → ℕ → ℕ
 committed state d = getD (storeOf state .offsets) d 0
 
 abbrev Inv-loop : tie.InvT-loop
-Inv-loop state offsets₀ d₀ offsets d = (d ≤ 16) × (offsets ≡ filled (committed state) offsets₀ d) × (length offsets₀ ≡ 16)
+Inv-loop state offsets₀ d₀ offsets d = (d ≤ descriptorCount) × (offsets ≡ filled (committed state) offsets₀ d)
+    × (length offsets₀ ≡ descriptorCount)
 
 abbrev μ-loop : tie.MeasureT-loop
-μ-loop state offsets₀ d₀ offsets d = 16 - d
+μ-loop state offsets₀ d₀ offsets d = descriptorCount - d
 
 loop-holds : tie.Need-loop-holds Inv-loop μ-loop
 loop-holds c = (omega arith, sym (filled-none (committed (c .args .state .now)) _), refl)

@@ -5,12 +5,13 @@ use borrow.Author.Needs.{needs}
 use lib.ListN.{length, getD, set, take}
 use native.Mathlib.Omega.{arith}
 use Prim.Native.Nat.{ℕ, _+_, _-_, _≤_}
+use Rattle.limits.specs.Limits.{transactionCount}
 use Rattle.call_order.proofs.ArrangeLaws.{moved, moved-none, moved-more, moved-all}
 use Rattle.call_order.proofs.permutation.removed.Statement.{statement}
 use Rattle.call_order.proofs.permutation.removed.Tie as tie
 
 abbrev Inv-loop : tie.InvT-loop
-Inv-loop m q rest₀ j₀ rest j = (q ≤ j) × (j ≤ m) × (rest ≡ moved q rest₀ j) × (length rest₀ ≡ 8)
+Inv-loop m q rest₀ j₀ rest j = (q ≤ j) × (j ≤ m) × (rest ≡ moved q rest₀ j) × (length rest₀ ≡ transactionCount)
 
 abbrev μ-loop : tie.MeasureT-loop
 μ-loop m q rest₀ j₀ rest j = m - j

@@ -7,6 +7,7 @@ use borrow.Author.Needs.{needs}
 use lib.ListN.{length}
 use native.Mathlib.Omega.{arith}
 use Prim.Native.Nat.{ℕ, _-_, _≤_}
+use Rattle.limits.specs.Limits.{bufferBytes, transactionCount}
 use Rattle.buffers.specs.Bits.{bitsOf}
 use Rattle.buffers.proofs.SetLaws.{gathered, passed-by}
 use Rattle.state.specs.Layout.{transactionOf}
@@ -18,11 +19,11 @@ abbrev shut-at : List ℕ → List ℕ → ℕ → ℕ → Bool
 shut-at state logs minute t = transactionOf state t .begun && hasByteForClosed state logs t minute
 
 abbrev Inv-loop : tie.InvT-loop
-Inv-loop state minute closed₀ t₀ closed t = (t ≤ 8)
-    × ((logs : List ℕ) → length logs ≡ 32768 → closed ≡ bitsOf (shut-at state logs minute) t)
+Inv-loop state minute closed₀ t₀ closed t = (t ≤ transactionCount)
+    × ((logs : List ℕ) → length logs ≡ bufferBytes → closed ≡ bitsOf (shut-at state logs minute) t)
 
 abbrev μ-loop : tie.MeasureT-loop
-μ-loop state minute closed₀ t₀ closed t = 8 - t
+μ-loop state minute closed₀ t₀ closed t = transactionCount - t
 
 loop-holds : tie.Need-loop-holds Inv-loop μ-loop
 unfolding bitsOf

@@ -5,6 +5,7 @@ use mathlib.Core.Path.{_≡_, sym, ap, _∙_}
 use borrow.Author.Needs.{needs}
 use native.Mathlib.Omega.{arith}
 use Prim.Native.Nat.{ℕ, _-_, _≤_}
+use Rattle.limits.specs.Limits.{descriptorCount}
 use Rattle.standings.specs.Table.{mayWait}
 use Rattle.state.specs.StoreMeaning.{standingAt}
 use Rattle.state.specs.Layout.{transactionOf}
@@ -18,10 +19,10 @@ abbrev waits-at : List ℕ → ℕ → ℕ → Bool
 waits-at state t d = mayWait (standingAt (transactionOf state t) d)
 
 abbrev Inv-loop : tie.InvT-loop
-Inv-loop state t d₀ d = (d ≤ 16) × (someBelow (waits-at state t) d ≡ false)
+Inv-loop state t d₀ d = (d ≤ descriptorCount) × (someBelow (waits-at state t) d ≡ false)
 
 abbrev μ-loop : tie.MeasureT-loop
-μ-loop state t d₀ d = 16 - d
+μ-loop state t d₀ d = descriptorCount - d
 
 loop-holds : tie.Need-loop-holds Inv-loop μ-loop
 loop-holds c = (omega arith, some-none _)

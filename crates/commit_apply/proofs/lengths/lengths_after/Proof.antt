@@ -5,6 +5,7 @@ use mathlib.Core.Path.{_≡_, ap, ap₂, _∙_}
 use lib.ListN.{length, getD, set}
 use Prim.Native.Nat.{ℕ, _-_, _≤_, _<_, max}
 use native.Mathlib.Omega.{arith}
+use Rattle.limits.specs.Limits.{fileCount}
 use Rattle.state.specs.Layout.{storeOf, journalOf}
 use Rattle.spec.specs.Reading.{writeEnd}
 use Rattle.spec.proofs.Refinement.WriteEnds.{write-end}
@@ -23,7 +24,7 @@ abbrev μ-loop : tie.MeasureT-loop
 μ-loop state t records out₀ k₀ out k = records - k
 
 -- The turn's record lands in one of the eight files.
-file-in : (c : tie.After-landing-at Inv-loop μ-loop) → c .landing-at .result .file < 8
+file-in : (c : tie.After-landing-at Inv-loop μ-loop) → c .landing-at .result .file < fileCount
 file-in c = c .landing-at .ensures .fileIn
 
 loop-holds : tie.Need-loop-holds Inv-loop μ-loop

@@ -4,6 +4,7 @@ use mathlib.Core.Path.{_≡_, refl, sym, ap, _∙_}
 use lib.ListN.{length, getD, set, replicate}
 use Prim.Native.Nat.{ℕ, _-_, _≤_}
 use native.Mathlib.Omega.{arith}
+use Rattle.limits.specs.Limits.{fileCount}
 use Rattle.buffers.specs.Parts.{tabulate}
 use Rattle.state.specs.Layout.{storeOf}
 use Rattle.state.proofs.Filled.{filled, filled-none, filled-set, filled-all}
@@ -18,10 +19,10 @@ abbrev committed : List ℕ → ℕ → ℕ
 committed state f = getD (storeOf state .lengths) f 0
 
 abbrev Inv-loop : tie.InvT-loop
-Inv-loop state out₀ f₀ out f = (f ≤ 8) × (out ≡ filled (committed state) out₀ f) × (length out₀ ≡ 8)
+Inv-loop state out₀ f₀ out f = (f ≤ fileCount) × (out ≡ filled (committed state) out₀ f) × (length out₀ ≡ 8)
 
 abbrev μ-loop : tie.MeasureT-loop
-μ-loop state out₀ f₀ out f = 8 - f
+μ-loop state out₀ f₀ out f = fileCount - f
 
 loop-holds : tie.Need-loop-holds Inv-loop μ-loop
 loop-holds c = (omega arith, sym (filled-none (committed (c .args .state .now)) _), refl)

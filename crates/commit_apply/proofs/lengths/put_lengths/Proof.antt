@@ -5,6 +5,7 @@ use mathlib.Core.Path.{_≡_, refl, sym, ap, _∙_}
 use lib.ListN.{length, getD}
 use Prim.Native.Nat.{ℕ, _-_, _≤_}
 use native.Mathlib.Omega.{arith}
+use Rattle.limits.specs.Limits.{fileCount}
 use Rattle.buffers.specs.Parts.{tabulate}
 use Rattle.state.specs.StoreMeaning.{withLengths}
 use Rattle.state.specs.Layout.{storeOf}
@@ -26,7 +27,7 @@ Inv-loop state₀ lengths f₀ state f =
     (f ≤ 8) × Means state₀ state (withLengths (putInto lengths state₀ f) (storeOf state₀)) × (length lengths ≡ 8)
 
 abbrev μ-loop : tie.MeasureT-loop
-μ-loop state₀ lengths f₀ state f = 8 - f
+μ-loop state₀ lengths f₀ state f = fileCount - f
 
 loop-holds : tie.Need-loop-holds Inv-loop μ-loop
 loop-holds c =

@@ -3,6 +3,7 @@ use mathlib.Core.Bool.{true}
 use mathlib.Core.Path.{_≡_, sym}
 use Prim.Native.Nat.{_-_, _≤_, _<_}
 use native.Mathlib.Omega.{arith}
+use Rattle.limits.specs.Limits.{fileBytes, descriptorCount}
 use Rattle.state.specs.Layout.{storeOf}
 use Rattle.admission.specs.FirstRefusal.{below}
 use Rattle.admission.proofs.Laws.{below-zero, below-more}
@@ -12,13 +13,13 @@ use Rattle.commit_apply.proofs.offsets.places_fit.Statement.{statement}
 use Rattle.commit_apply.proofs.offsets.places_fit.Tie as tie
 
 abbrev Inv-loop : tie.InvT-loop
-Inv-loop state x d₀ d = (d ≤ 16) × (below (offsetFitsAt (storeOf state) x) d ≡ true)
+Inv-loop state x d₀ d = (d ≤ descriptorCount) × (below (offsetFitsAt (storeOf state) x) d ≡ true)
 
 abbrev μ-loop : tie.MeasureT-loop
-μ-loop state x d₀ d = 16 - d
+μ-loop state x d₀ d = descriptorCount - d
 
 -- The committed offset that was read is at most 4,096.
-limit : (c : tie.After-offset-at Inv-loop μ-loop) → c .offset-at .result ≤ 4096
+limit : (c : tie.After-offset-at Inv-loop μ-loop) → c .offset-at .result ≤ fileBytes
 limit c =
     let l : c .before .before .before .loop .d < 16 = omega arith in
     let e = c .offset-at .ensures in

@@ -4,6 +4,7 @@ use mathlib.Core.Logic.{⊎-elim}
 use mathlib.Core.Path.{_≡_, refl, sym, ap, _∙_}
 use Prim.Native.Nat.{ℕ, _-_, _≤_, _<_}
 use native.Mathlib.Omega.{arith}
+use Rattle.limits.specs.Limits.{descriptorCount}
 use Rattle.state.specs.StoreMeaning.{withOffsets}
 use Rattle.state.specs.Layout.{storeOf}
 use Rattle.spec.specs.Commits.{setsOffset}
@@ -14,11 +15,11 @@ use Rattle.commit_apply.proofs.offsets.put_offsets.Statement.{statement
 use Rattle.commit_apply.proofs.offsets.put_offsets.Tie as tie
 
 abbrev Inv-loop : tie.InvT-loop
-Inv-loop state₀ x d₀ state d = (d ≤ 16) × Means state₀ state
+Inv-loop state₀ x d₀ state d = (d ≤ descriptorCount) × Means state₀ state
     (withOffsets (offsetsSet x (storeOf state₀ .offsets) d) (storeOf state₀))
 
 abbrev μ-loop : tie.MeasureT-loop
-μ-loop state₀ x d₀ state d = 16 - d
+μ-loop state₀ x d₀ state d = descriptorCount - d
 
 loop-holds : tie.Need-loop-holds Inv-loop μ-loop
 loop-holds c =

@@ -1,6 +1,7 @@
 -- `commit_apply::save_undo::landed_record` meets its contract.
 use mathlib.Core.Path.{_∙_}
 use Prim.Native.Nat.{_≤_}
+use Rattle.limits.specs.Limits.{fileBytes}
 use Rattle.commit_apply.proofs.SaveUndoLaws.{descriptor-in, place-in, landed-is}
 use borrow.Author.Needs.{needs}
 use Rattle.commit_apply.proofs.save_undo.landed_record.Statement.{statement}
@@ -13,7 +14,7 @@ offset-at-requires c κs = descriptor-in (c .before .before .pre .2) (c .before 
 abbrev read-of : tie.After-lands-at → tie.After-wide
 read-of c = c .before .before .before
 
-fits : (c : tie.After-lands-at) → c .lands-at .result ≤ 4096
+fits : (c : tie.After-lands-at) → c .lands-at .result ≤ fileBytes
 fits c =
     let read = read-of c in
     place-in (read .before .before .pre .2) (read .before .record-at .ensures) (read .wide .ensures .0)

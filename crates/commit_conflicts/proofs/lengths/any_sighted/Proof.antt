@@ -5,16 +5,17 @@ use mathlib.Core.Path.{_≡_}
 use Prim.Native.Nat.{_-_, _≤_}
 use native.Mathlib.Omega.{arith}
 use borrow.Author.Needs.{needs}
+use Rattle.limits.specs.Limits.{transactionCount}
 use Rattle.commit_conflicts.specs.Conflicts.{NoneSighted}
 use Rattle.commit_conflicts.proofs.ConflictLaws.{sighted-more}
 use Rattle.commit_conflicts.proofs.lengths.any_sighted.Statement.{statement}
 use Rattle.commit_conflicts.proofs.lengths.any_sighted.Tie as tie
 
 abbrev Inv-loop : tie.InvT-loop
-Inv-loop state watched u₀ u = (u ≤ 8) × NoneSighted state watched u
+Inv-loop state watched u₀ u = (u ≤ transactionCount) × NoneSighted state watched u
 
 abbrev μ-loop : tie.MeasureT-loop
-μ-loop state watched u₀ u = 8 - u
+μ-loop state watched u₀ u = transactionCount - u
 
 loop-holds : tie.Need-loop-holds Inv-loop μ-loop
 loop-holds c = (omega arith, λ u l. absurd (omega arith))

@@ -6,6 +6,7 @@ use mathlib.Core.Path.{_≡_, ap, _∙_}
 use lib.ListN.{length, getD}
 use Prim.Native.Nat.{ℕ, _-_, _≤_, _<_}
 use native.Mathlib.Omega.{arith}
+use Rattle.limits.specs.Limits.{fileCount}
 use Rattle.buffers.specs.Marks.{contains}
 use Rattle.commit_apply.specs.Apply.{CanLandIn, lengthsLandedIn}
 use Rattle.commit_conflicts.specs.Conflicts.{Sighters}
@@ -22,7 +23,7 @@ Inv-loop state t watched after found₀ f₀ found f =
     → Sighters state marks watched (raisedBelow state files logs t n f) found)
 
 abbrev μ-loop : tie.MeasureT-loop
-μ-loop state t watched after found₀ f₀ found f = 8 - f
+μ-loop state t watched after found₀ f₀ found f = fileCount - f
 
 returns : tie.Need-returns Inv-loop μ-loop
 returns c =

@@ -5,6 +5,7 @@ use mathlib.Core.Logic.{⊎-elim}
 use mathlib.Core.Path.{_≡_, sym, ap, _∙_}
 use Prim.Native.Nat.{ℕ, _-_, _≤_, _<_}
 use native.Mathlib.Omega.{arith}
+use Rattle.limits.specs.Limits.{descriptorCount}
 use Rattle.buffers.specs.Marks.{contains}
 use Rattle.state.specs.Layout.{transactionOf}
 use Rattle.spec.specs.Items.{Values}
@@ -24,7 +25,7 @@ Inv-loop state t watched found₀ d₀ found d =
     found)
 
 abbrev μ-loop : tie.MeasureT-loop
-μ-loop state t watched found₀ d₀ found d = 16 - d
+μ-loop state t watched found₀ d₀ found d = descriptorCount - d
 
 returns : tie.Need-returns Inv-loop μ-loop
 returns c =

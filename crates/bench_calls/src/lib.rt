@@ -189,8 +189,8 @@ pub extern "C" fn bench_calls_run(
     while i < rounds {
         stamp(stamps, i);
         i += 1;
-        let told = pass(state, files, logs, marks, undo, script, data, reader, said);
-        sum = std::num::wrapping_add_u64(sum, told);
+        let answered = pass(state, files, logs, marks, undo, script, data, reader, said);
+        sum = std::num::wrapping_add_u64(sum, answered);
     }
     sum
 }

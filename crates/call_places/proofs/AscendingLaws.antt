@@ -47,7 +47,7 @@ module _ (s : Sweep) (p n : ℕ) where
   write-some h = rw (ne-eqb n 0 h)
 
   pub write-unplaced : sweptWrite s (After p) n
-      ≡ record { ascending = false; stretches = s .stretches; offset = s .offset; next = s .next }
+      ≡ record { ascending = false; intervals = s .intervals; offset = s .offset; next = s .next }
   unfolding sweptWrite
   write-unplaced = refl
 
@@ -66,12 +66,12 @@ module _ (filenumbers : List ℕ) (f : ℕ) (s : Sweep) (w : WriteRecord) where
 -- what one record keeps
 module _ (s : Sweep) where
   place-keeps : (p n : ℕ) (b : Bool) → (sweep-placed s p n b .ascending ≡ true → s .ascending ≡ true)
-      × (s .stretches ≤ sweep-placed s p n b .stretches) × (sweep-placed s p n b .stretches ≤ s .stretches + 1)
+      × (s .intervals ≤ sweep-placed s p n b .stretches) × (sweep-placed s p n b .stretches ≤ s .intervals + 1)
   place-keeps p n true = (λ a. a, omega arith, omega arith)
   place-keeps p n false = (λ a. and-left (s .ascending) (eqb (s .next) (p + 1)) a, omega arith, omega arith)
 
   abbrev Keeps : Sweep → Type 0
-  Keeps r = (r .ascending ≡ true → s .ascending ≡ true) × (s .stretches ≤ r .stretches) × (r .stretches ≤ s .stretches + 1)
+  Keeps r = (r .ascending ≡ true → s .ascending ≡ true) × (s .intervals ≤ r .intervals) × (r .intervals ≤ s .intervals + 1)
 
   write-keeps : (z : Place) (n : ℕ) → Keeps (sweptWrite s z n)
   unfolding sweptWrite sweptPlace
@@ -187,7 +187,7 @@ module _ (j : Recorded) (t f : ℕ) where
       -- what `put_last` requires
       abbrev pub Ready : Sweep → Type 0
       Ready r =
-          ((4 * r .stretches ≤ length out) × (r .next ≤ 4097)) × (1 ≤ r .next → (1 ≤ r .stretches) × (suc (r .offset) ≤ r .next))
+          ((4 * r .intervals ≤ length out) × (r .next ≤ 4097)) × (1 ≤ r .next → (1 ≤ r .intervals) × (suc (r .offset) ≤ r .next))
 
       pub put-ready : (k : ℕ) → k ≤ records → (r : Sweep) → r ≡ sweptIn j t f k → Ready r
       put-ready k l r e = subst Ready (sym e) ((few k l, so .within), λ h. met (so .last h))
@@ -198,7 +198,7 @@ module _ (j : Recorded) (t f : ℕ) where
           so : Swept (coveredAt j t k f) v
           so = swept-is k l (swept-way records k l ascends .0)
 
-          met : Last (coveredAt j t k f) v → (1 ≤ v .stretches) × (suc (v .offset) ≤ v .next)
+          met : Last (coveredAt j t k f) v → (1 ≤ v .intervals) × (suc (v .offset) ≤ v .next)
           met w =
               let n = length-snoc (w .earlier) (interval (v .offset) (v .next - 1 - v .offset)) in
               (omega (arith, so .count, ap length (w .joins), n), omega (arith, w .some))

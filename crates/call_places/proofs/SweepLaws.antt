@@ -38,7 +38,7 @@ pub record Last (S : ℕ → Bool) (s : Sweep) : Type 0 where
 pub record Swept (S : ℕ → Bool) (s : Sweep) : Type 0 where
   pub below : (q : ℕ) → S q ≡ true → suc q < s .next
   pub within : s .next ≤ 4097
-  pub count : length (intervalsOf S) ≡ s .stretches
+  pub count : length (intervalsOf S) ≡ s .intervals
   pub last : 1 ≤ s .next → Last S s
 
 -- After a record: the set was S.
@@ -73,7 +73,7 @@ module _ (S T : ℕ → Bool) (s : Sweep) (so : Swept S s) where
         pick false i e = omega (arith, in-below (interval p n) q e)
 
     step-begun : (b : Bool) → s .next ≤ p
-        → Step S T (record { ascending = b; stretches = s .stretches + 1; offset = p; next = p + n + 1 })
+        → Step S T (record { ascending = b; intervals = s .intervals + 1; offset = p; next = p + n + 1 })
     step-begun b h =
         let l = list-begun S T p n within more some (λ q e. omega (arith, so .below q e)) in
         let e : n ≡ p + n + 1 - 1 - p = omega arith in
@@ -93,7 +93,7 @@ module _ (S T : ℕ → Bool) (s : Sweep) (so : Swept S s) where
         }
 
     step-joined : (b : Bool) → s .next ≡ p + 1
-        → Step S T (record { ascending = b; stretches = s .stretches; offset = s .offset; next = p + n + 1 })
+        → Step S T (record { ascending = b; intervals = s .intervals; offset = s .offset; next = p + n + 1 })
     step-joined b h =
         let w : Last S s = so .last (omega arith) in
         let m : ℕ = s .next - 1 - s .offset in
@@ -117,8 +117,8 @@ module _ (S T : ℕ → Bool) (s : Sweep) (so : Swept S s) where
 
 -- What n bytes at place p bring; b says whether they begin another interval.
 abbrev pub sweep-placed : Sweep → ℕ → ℕ → Bool → Sweep
-sweep-placed s p n b = cond b (record { ascending = s .ascending; stretches = s .stretches + 1; offset = p; next = p + n + 1 })
-    (record { ascending = s .ascending && eqb (s .next) (p + 1); stretches = s .stretches; offset = s .offset; next = p + n + 1 })
+sweep-placed s p n b = cond b (record { ascending = s .ascending; intervals = s .intervals + 1; offset = p; next = p + n + 1 })
+    (record { ascending = s .ascending && eqb (s .next) (p + 1); intervals = s .intervals; offset = s .offset; next = p + n + 1 })
 
 -- A record of n bytes with that place; b says whether it is one of the file.
 module _ (S T : ℕ → Bool) (s : Sweep) where
@@ -159,7 +159,7 @@ module _ (s : Sweep) (out : List ℕ) where
   last-none z = rw (eq-eqb (s .next) 0 z)
 
   pub last-some : (s .next ≡ 0 → ⊥)
-      → pasted out (4 * (s .stretches - 1)) (sixteen (s .offset) ++ sixteen (s .next - 1 - s .offset)) ≡ withLast s out
+      → pasted out (4 * (s .intervals - 1)) (sixteen (s .offset) ++ sixteen (s .next - 1 - s .offset)) ≡ withLast s out
   unfolding withLast
   last-some h = rw (ne-eqb (s .next) 0 h)
 
@@ -180,24 +180,24 @@ module _ (S T : ℕ → Bool) (s : Sweep) (step : Step S T s) (out : List ℕ) (
       size : 4 * length (w .earlier) + 4 ≡ 4 * length (intervalsOf T)
       size = omega (arith, ap length (w .joins), length-snoc (w .earlier) (asListed x))
 
-      place : 4 * (s .stretches - 1) ≡ 4 * length (w .earlier)
+      place : 4 * (s .intervals - 1) ≡ 4 * length (w .earlier)
       place = omega (arith, size, step .swept .count)
 
       begun : intervalsOf S ≡ w .earlier
-          → pasted (pasted out 0 (encoded (intervalsOf S))) (4 * (s .stretches - 1)) (pair x)
+          → pasted (pasted out 0 (encoded (intervalsOf S))) (4 * (s .intervals - 1)) (pair x)
           ≡ pasted out 0 (encoded (w .earlier ++ (asListed x ∷ [])))
       begun e =
-          ap (λ (l : List Interval). pasted (pasted out 0 (encoded l)) (4 * (s .stretches - 1)) (pair x)) e
-          ∙ list-pairs-more out (w .earlier) x (4 * (s .stretches - 1)) place (omega (arith, size, place))
+          ap (λ (l : List Interval). pasted (pasted out 0 (encoded l)) (4 * (s .intervals - 1)) (pair x)) e
+          ∙ list-pairs-more out (w .earlier) x (4 * (s .intervals - 1)) place (omega (arith, size, place))
 
       lengthened : ((y : Interval) × (intervalsOf S ≡ w .earlier ++ (y ∷ [])))
-          → pasted (pasted out 0 (encoded (intervalsOf S))) (4 * (s .stretches - 1)) (pair x)
+          → pasted (pasted out 0 (encoded (intervalsOf S))) (4 * (s .intervals - 1)) (pair x)
           ≡ pasted out 0 (encoded (w .earlier ++ (asListed x ∷ [])))
       lengthened e =
           let state = length-pasted out 0 (encoded (w .earlier)) (omega (arith, size, length-encoded (w .earlier))) in
           let y : Span = record { offset = e .0 .offset; length = e .0 .length } in
           let o = pasted out 0 (encoded (w .earlier)) in
-          let at = 4 * (s .stretches - 1) in
+          let at = 4 * (s .intervals - 1) in
           ap (λ (l : List Interval). pasted (pasted out 0 (encoded l)) at (pair x)) (e .1)
           ∙ ap (λ (l : List ℕ). pasted l at (pair x))
           (sym (list-pairs-more out (w .earlier) y at place (omega (arith, size, place))))

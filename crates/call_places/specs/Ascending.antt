@@ -18,16 +18,16 @@ use Rattle.call_places.specs.declared.ascending.Sweep.{Sweep}
 
 -- Before the first record.
 abbrev pub unswept : Sweep
-unswept = record { ascending = true; stretches = 0; offset = 0; next = 0 }
+unswept = record { ascending = true; intervals = 0; offset = 0; next = 0 }
 
 -- n bytes at place p begin another interval, or go on with the last one, which must end there.
 unfoldable pub sweptPlace : Sweep → ℕ → ℕ → Sweep
 sweptPlace s p n =
     cond (leb (s .next) p)
-    (record { ascending = s .ascending; stretches = s .stretches + 1; offset = p; next = p + n + 1 })
+    (record { ascending = s .ascending; intervals = s .intervals + 1; offset = p; next = p + n + 1 })
     (record {
       ascending = s .ascending && eqb (s .next) (p + 1);
-      stretches = s .stretches;
+      intervals = s .intervals;
       offset = s .offset;
       next = p + n + 1;
     })
@@ -36,7 +36,7 @@ sweptPlace s p n =
 unfoldable pub sweptWrite : Sweep → Place → ℕ → Sweep
 sweptWrite s (At p) n = cond (eqb n 0) s (sweptPlace s p n)
 sweptWrite s (After a) n =
-    record { ascending = false; stretches = s .stretches; offset = s .offset; next = s .next }
+    record { ascending = false; intervals = s .intervals; offset = s .offset; next = s .next }
 
 -- A write record, passed over where it is one of another file.
 unfoldable pub sweptRecord : List ℕ → ℕ → Sweep → WriteRecord → Sweep
@@ -57,4 +57,4 @@ WithinFile j t records = (k p : ℕ) → k < records → writeRecordAt (j .journ
 unfoldable pub withLast : Sweep → List ℕ → List ℕ
 withLast s out =
     cond (eqb (s .next) 0) out
-    (pasted out (4 * (s .stretches - 1)) (sixteen (s .offset) ++ sixteen (s .next - 1 - s .offset)))
+    (pasted out (4 * (s .intervals - 1)) (sixteen (s .offset) ++ sixteen (s .next - 1 - s .offset)))

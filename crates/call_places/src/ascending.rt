@@ -28,27 +28,27 @@ ghost use Rattle.call_places.specs.Ascending.{WithinFile, withLast};
 // where the last interval starts; and the first place at which another could start, one past its end.
 pub struct Sweep {
     pub ascending: bool,
-    pub stretches: usize,
+    pub intervals: usize,
     pub offset: usize,
     pub next: usize,
 }
 
 // The pass goes over n bytes at place p: they begin another interval, lengthen the last, or come too early.
 fn sweep_place(s: Sweep, p: usize, n: usize) -> Sweep
-    requires { ⌜ (s .stretches < 65536) × (p < 65536) × (n < 65536) ⌝ }
+    requires { ⌜ (s .intervals < 65536) × (p < 65536) × (n < 65536) ⌝ }
     ensures { λ r. ⌜ r ≡ sweptPlace s p n ⌝ }
 {
     if s.next <= p {
         return Sweep {
             ascending: s.ascending,
-            stretches: s.stretches + 1,
+            intervals: s.intervals + 1,
             offset: p,
             next: p + n + 1,
         };
     }
     Sweep {
         ascending: s.ascending & (s.next == p + 1),
-        stretches: s.stretches,
+        intervals: s.intervals,
         offset: s.offset,
         next: p + n + 1,
     }
@@ -57,7 +57,7 @@ fn sweep_place(s: Sweep, p: usize, n: usize) -> Sweep
 // The pass goes over a write record. One of another file or of 0 bytes changes nothing; one without a place
 // breaks the order.
 fn sweep_record(state: &State, s: Sweep, w: WriteRecord, f: u16) -> Sweep
-    requires { ⌜ (w .descriptor < descriptorCount) × (s .stretches < 65536) ⌝ }
+    requires { ⌜ (w .descriptor < descriptorCount) × (s .intervals < 65536) ⌝ }
     ensures { λ r. ⌜ r ≡ sweptRecord (storeOf (now (state .entry)) .filenumbers) f s w ⌝ }
 {
     if file_at(state, wide(w.descriptor)) != f {
@@ -67,7 +67,7 @@ fn sweep_record(state: &State, s: Sweep, w: WriteRecord, f: u16) -> Sweep
     let Place::At(p) = place else {
         return Sweep {
             ascending: false,
-            stretches: s.stretches,
+            intervals: s.intervals,
             offset: s.offset,
             next: s.next,
         };
@@ -85,7 +85,7 @@ fn unswept() -> Sweep
 {
     Sweep {
         ascending: true,
-        stretches: 0,
+        intervals: 0,
         offset: 0,
         next: 0,
     }
@@ -108,8 +108,8 @@ pub fn sweep_records(state: &State, t: usize, used: Used, f: u16) -> Sweep
 
 // Writes the pair of the last interval that a pass has met at its place in the list.
 fn put_last(out: &mut [u8], s: Sweep)
-    requires { ⌜ (4 * (s .stretches) ≤ length (now out)) × (s .next ≤ fileBytes + 1) ⌝ }
-    requires last { ⌜ (1 ≤ s .next → (1 ≤ s .stretches) × (suc (s .offset) ≤ s .next)) ⌝ }
+    requires { ⌜ (4 * (s .intervals) ≤ length (now out)) × (s .next ≤ fileBytes + 1) ⌝ }
+    requires last { ⌜ (1 ≤ s .next → (1 ≤ s .intervals) × (suc (s .offset) ≤ s .next)) ⌝ }
     ensures { λ _. ⌜ now (out .exit) ≡ withLast s (now (out .entry)) ⌝ }
 {
     if s.next == 0 {
@@ -119,7 +119,7 @@ fn put_last(out: &mut [u8], s: Sweep)
         offset: s.offset,
         length: s.next - 1 - s.offset,
     };
-    put_pair(out, 4 * (s.stretches - 1), last);
+    put_pair(out, 4 * (s.intervals - 1), last);
 }
 
 // Writes the pairs of the list of records that ascend. After k records, the list of the first k is written.
@@ -161,7 +161,7 @@ pub fn count(state: &State, t: usize, used: Used, f: u16, s: Sweep) -> usize
     ensures { λ r. ⌜ r ≡ length (intervalsIn (now (state .entry)) t used f) ⌝ }
 {
     if s.ascending {
-        return s.stretches;
+        return s.intervals;
     }
     count_intervals(state, t, used, f)
 }

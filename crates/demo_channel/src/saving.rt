@@ -12,7 +12,7 @@ ghost use mathlib.Core.Path.{_≡_};
 ghost use Rattle.spec.specs.Recovery.{EndsAll};
 
 pub struct Saved {
-    pub kept: [u16; STATE_LEN],
+    pub state: [u16; STATE_LEN],
     pub files: [u8; BUFFER_BYTES],
     pub undo: [u8; FILE_BYTES],
 }
@@ -20,7 +20,7 @@ pub struct Saved {
 // What a later run needs. Every transaction is ended in the copy; in the store itself what is open stays
 // open.
 pub fn save_committed(state: &State, files: &Buffer, undo: &UndoLog) -> Saved
-    ensures { λ s. ⌜ EndsAll (now (state .entry)) (s .kept) × (s .files ≡ now (files .entry))
+    ensures { λ s. ⌜ EndsAll (now (state .entry)) (s .state) × (s .files ≡ now (files .entry))
         × (s .undo ≡ now (undo .entry)) ⌝ }
 {
     let mut k = *state;
@@ -28,7 +28,7 @@ pub fn save_committed(state: &State, files: &Buffer, undo: &UndoLog) -> Saved
     let f = *files;
     let u = *undo;
     Saved {
-        kept: k,
+        state: k,
         files: f,
         undo: u,
     }
@@ -36,10 +36,10 @@ pub fn save_committed(state: &State, files: &Buffer, undo: &UndoLog) -> Saved
 
 // Puts back what was saved.
 pub fn load_saved(saved: Saved, state: &mut State, files: &mut Buffer, undo: &mut UndoLog)
-    ensures { λ _. ⌜ (now (state .exit) ≡ saved .kept) × (now (files .exit) ≡ saved .files)
+    ensures { λ _. ⌜ (now (state .exit) ≡ saved .state) × (now (files .exit) ≡ saved .files)
         × (now (undo .exit) ≡ saved .undo) ⌝ }
 {
-    let k = saved.kept;
+    let k = saved.state;
     *state = k;
     let f = saved.files;
     *files = f;

@@ -122,11 +122,11 @@ fn step(
         (take (r .waiting) (now (out .exit)))
         × TraceOnward progress r (length (now (piece .entry))) (length (now (out .exit))) ⌝ }
 {
-    let look = text_lines::next_line(line, progress.held, piece, progress.at);
-    let n = look.held;
+    let scan = text_lines::next_line(line, progress.held, piece, progress.at);
+    let n = scan.held;
     progress.held = n;
-    progress.at = look.at;
-    if !look.complete {
+    progress.at = scan.at;
+    if !scan.complete {
         return progress;
     }
     progress.held = 0;

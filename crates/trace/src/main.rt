@@ -33,7 +33,7 @@ ghost use Rattle.trace.specs.WholeRun.{ReachedFresh};
 ghost use Rattle.trace.specs.Bounds.{TraceResting, TraceRoom};
 
 // The bytes buffered of a line: one more than it may have.
-const KEPT: usize = 129;
+const LINE_BUFFER: usize = 129;
 
 // Writes the pending output, and counts its lines. A write that fails is reported, and ends the run. No
 // contract can say what is written: the theorem of a whole run binds what is handed over here.
@@ -232,7 +232,7 @@ fn main() {
     let mut logs = [0u8; BUFFER_BYTES];
     let mut marks = [0u8; BUFFER_BYTES];
     let mut undo = [0u8; UNDO_BYTES];
-    let mut line = [0u8; KEPT];
+    let mut line = [0u8; LINE_BUFFER];
     let mut reader = io::buffer();
     let mut input = io::large_buffer();
     let mut out = io::large_buffer();

@@ -12,7 +12,7 @@ returns : tie.Need-returns
 returns c =
     let a = c .before .args in
     let swept = c .before .pre .1 in
-    ap (λ (s : Sweep). s .stretches) swept
+    ap (λ (s : Sweep). s .intervals) swept
     ∙ sym (swept-is (recordedIn (a .state .now)) (a .t) (a .f) (a .used .records) (c .before .pre .0 .1)
     (a .used .records) (omega arith) (sym (ap (λ (s : Sweep). s .ascending) swept) ∙ c .if1 .taken) .count)
 

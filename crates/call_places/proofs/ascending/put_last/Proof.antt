@@ -16,7 +16,7 @@ returns c =
 abbrev start-of : tie.Else1 → tie.Start
 start-of c = c .before .before .before
 
-last-of : (c : tie.Else1) → let s = start-of c .args .s in (1 ≤ s .stretches) × (suc (s .offset) ≤ s .next)
+last-of : (c : tie.Else1) → let s = start-of c .args .s in (1 ≤ s .intervals) × (suc (s .offset) ≤ s .next)
 last-of c = start-of c .pre .1 (omega (arith, c .if1 .left))
 
 sub-put-pair : tie.Need-sub-put-pair

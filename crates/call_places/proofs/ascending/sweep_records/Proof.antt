@@ -37,7 +37,7 @@ sweep-record-requires c κs =
     let l = at-loop .loop in
     let few = swept-few (recordedIn (s .args .state .now)) (s .args .t) (s .args .f) (l .k) in (
       rw (c .record-at .ensures) (s .pre .descriptors (l .k) (omega arith)),
-      omega (arith, ap (λ (r : Sweep). r .stretches) (l .inv .1), few, l .inv .0, s .pre .records),
+      omega (arith, ap (λ (r : Sweep). r .intervals) (l .inv .1), few, l .inv .0, s .pre .records),
     )
 
 add-k : tie.Need-add-k Inv-loop μ-loop

@@ -55,7 +55,7 @@ sweep-record-requires c κs =
     let l = loop-of c .loop in
     let few = swept-few (recordedIn (s .args .state .now)) (s .args .t) (s .args .f) (l .k) in (
       rw (c .record-at .ensures) (s .pre .0 .0 .descriptors (l .k) (omega arith)),
-      omega (arith, ap (λ (r : Sweep). r .stretches) (l .inv .2), few, l .inv .0, s .pre .0 .0 .records),
+      omega (arith, ap (λ (r : Sweep). r .intervals) (l .inv .2), few, l .inv .0, s .pre .0 .0 .records),
     )
 
 -- The pass goes on by one record.

@@ -44,7 +44,8 @@ fn best_by_table<'a>(
     requires { ⌜ (storeIn (storeOf (now state)) (journalOf (now state)) ≡ true)
         × (length (now marks) ≡ bufferBytes)
         × (listRefusal (now state) (now list) minute budget ≡ 0) ⌝ }
-    ensures { λ r. ⌜ AnswersOrder (now (state .entry)) (now (marks .entry)) (now (list .entry)) minute budget r
+    ensures { λ r. ⌜ AnswersOrder (now (state .entry)) (now (marks .entry)) (now (list .entry))
+        minute budget r
         × Padded (length (now (list .entry))) r ⌝ }
 {
     let table = octets_of(state, marks, list);
@@ -79,7 +80,8 @@ pub fn best_order<'a>(
     minute: usize,
     budget: usize,
 ) -> Best
-    ensures { λ r. ⌜ Follows (call (Call.bestOrder (now (list .entry)) minute budget)) state files logs marks undo
+    ensures { λ r. ⌜ Follows (call (Call.bestOrder (now (list .entry)) minute budget))
+        state files logs marks undo
         (r .outcome) (orderIn (length (now (list .entry))) r) × Padded (length (now (list .entry))) r ⌝ }
 {
     let gate = first_tests(state, files.len(), logs.len(), marks.len(), undo.len());

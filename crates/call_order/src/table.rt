@@ -28,7 +28,8 @@ ghost use Rattle.call_order.specs.OrderTable.{AllLand, Tabled, waitsIn};
 pub fn octets_of<'a>(state: &'a State, marks: &'a [u8], list: &'a [u8]) -> [u8; TRANSACTIONS]
     requires { ⌜ AllLand (now state) (now list) × (length (now marks) ≡ bufferBytes) ⌝ }
     ensures { λ r. ⌜ ((files logs undo : List ℕ) → length logs ≡ bufferBytes
-        → Tabled (machineOf (now (state .entry)) files logs (now (marks .entry)) undo) (now (list .entry)) r) ⌝ }
+        → Tabled (machineOf (now (state .entry)) files logs (now (marks .entry)) undo)
+        (now (list .entry)) r) ⌝ }
 {
     let mut table = [0u8; TRANSACTIONS];
     let mut k = 0;

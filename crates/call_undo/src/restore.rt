@@ -41,7 +41,8 @@ pub fn restore_bytes(state: &State, files: &mut [u8], undo: &[u8])
         × (storeOf (now state) .undo .held ≡ true)
         × (length (now files) ≡ bufferBytes) × (length (now undo) ≡ undoBytes) ⌝ }
     ensures { λ _. ⌜ now (files .exit) ≡
-        restored (landedOn (storeOf (now (state .entry))) (journalOf (now (state .entry)))) (now (undo .entry))
+        restored (landedOn (storeOf (now (state .entry))) (journalOf (now (state .entry))))
+        (now (undo .entry))
         (now (files .entry)) ⌝ }
 {
     let used = undo_used(state);

@@ -65,7 +65,8 @@ pub fn land_writes(
         × (length (now files) ≡ bufferBytes) × (length (now logs) ≡ bufferBytes)
         × (length (now undo) ≡ undoBytes) ⌝ }
     ensures { λ _. ⌜ (now (files .exit)
-        ≡ landFiles (bytesSetIn (now (state .entry)) (now (logs .entry)) t (used .records)) (now (files .entry)))
+        ≡ landFiles (bytesSetIn (now (state .entry)) (now (logs .entry)) t (used .records))
+        (now (files .entry)))
         × (now (undo .exit) ≡ pasted (now (undo .entry)) 0
         (oldBytesIn (now (state .entry)) (now (files .entry)) (now (logs .entry)) t (used .records))) ⌝ }
 {

@@ -322,7 +322,8 @@ fn round(
 ) -> DispatchProgress
     requires { ⌜ (scriptsIn (length (now bytes)) (scriptsOf scripts) ≡ true)
         × (p .commits + scripts .count ≤ scriptCount * scriptCount) ⌝ }
-    ensures work { λ q. ⌜ CarriesStep (λ m. round (storeReply m) (now (bytes .entry)) minute (scriptsOf scripts))
+    ensures work { λ q. ⌜ CarriesStep (λ m. round (storeReply m) (now (bytes .entry)) minute
+        (scriptsOf scripts))
         (handed state files logs marks undo) (now (reader .entry)) (p .ends) (p .commits)
         (handedBack state files logs marks undo) (now (reader .exit)) (q .ends) (q .commits) ⌝ }
     ensures few { λ q. ⌜ q .commits ≤ p .commits + scripts .count ⌝ }

@@ -32,7 +32,8 @@ fn copy_run<'a>(
     requires handed { ⌜ Handed (now state) (now file) (now log) (now marks) t used e ⌝ }
     requires room { ⌜ (1 ≤ e .length) × (at + e .length ≤ length (now reader)) ⌝ }
     ensures run { λ r. ⌜ RunOf (recordedIn (now (state .entry))) t (used .records) e r ⌝ }
-    ensures reader { λ r. ⌜ now (reader .exit) ≡ pastedFrom state file log t used (runExtent e r) reader at ⌝ }
+    ensures reader { λ r. ⌜ now (reader .exit) ≡ pastedFrom state file log t used
+        (runExtent e r) reader at ⌝ }
     ensures marks { λ r. ⌜ now (marks .exit) ≡ marksFrom state file log marks t used (runExtent e r) ⌝ }
 {
     let r = latest_write(state, t, used, e);

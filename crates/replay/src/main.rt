@@ -113,7 +113,8 @@ fn turn(
     out: &mut [u8],
 ) -> ReplayProgress
     requires { ⌜ Resting p × ((length (now line) ≡ 8238) × (Rooms (now bytes) (now reader) (now out)
-        × ReachedFrom (within (replayStateIn p (machineOf (now state) (now files) (now logs) (now marks) (now undo)) (now out))
+        × ReachedFrom (within (replayStateIn p (machineOf (now state) (now files) (now logs) (now marks)
+        (now undo)) (now out))
         (take (p .held) (now line)) []))) ⌝ }
     ensures { λ r. ⌜ Resting r × (r .goes ≡ true → (n : ℕ)
         × (atEnd replaying (within (replayStateIn p (handed state files logs marks undo) (now (out .entry)))
@@ -202,7 +203,8 @@ fn run(
     out: &mut [u8],
 ) -> ReplayProgress
     requires { ⌜ (length (now line) ≡ 8238) × Rooms (now bytes) (now reader) (now out) ⌝ }
-    ensures { λ r. ⌜ (r .complete ≡ true → LinesLead replaying (keptFirst (handed state files logs marks undo))
+    ensures { λ r. ⌜ (r .complete ≡ true → LinesLead replaying
+        (keptFirst (handed state files logs marks undo))
         (replayStateIn r (handedBack state files logs marks undo) (now (out .exit)))) ⌝ }
 {
     let mut p = ReplayProgress {

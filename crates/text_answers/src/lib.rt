@@ -55,7 +55,8 @@ fn put_ok_bytes(out: &mut [u8], at: usize, bytes: &[u8]) -> usize
 // The bytes of a Read, n at the front of the reader's buffer.
 fn put_given(out: &mut [u8], at: usize, n: u16, reader: &[u8]) -> usize
     requires { ⌜ at + 3 + 2 * length (now reader) ≤ length (now out) ⌝ }
-    ensures { λ r. ⌜ Put (now (out .entry)) at (okBytes (take n (now (reader .entry)))) (now (out .exit)) r ⌝ }
+    ensures { λ r. ⌜ Put (now (out .entry)) at (okBytes (take n (now (reader .entry))))
+        (now (out .exit)) r ⌝ }
 {
     let end = limits::smaller(limits::wide(n), reader.len());
     put_ok_bytes(out, at, &reader[..end])
@@ -64,7 +65,8 @@ fn put_given(out: &mut [u8], at: usize, n: u16, reader: &[u8]) -> usize
 // What was answered, without the line's end.
 pub fn put_answer(out: &mut [u8], at: usize, outcome: Outcome, reader: &[u8]) -> usize
     requires { ⌜ at + 8 + 2 * length (now reader) ≤ length (now out) ⌝ }
-    ensures { λ r. ⌜ Put (now (out .entry)) at (spelled (said outcome) (now (reader .entry))) (now (out .exit)) r ⌝ }
+    ensures { λ r. ⌜ Put (now (out .entry)) at (spelled (said outcome) (now (reader .entry)))
+        (now (out .exit)) r ⌝ }
 {
     match outcome {
         Outcome::Done => put_ok(out, at),

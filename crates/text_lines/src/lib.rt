@@ -21,7 +21,8 @@ pub struct Scan {
 // the current line.
 pub fn next_line(line: &mut [u8], held: usize, piece: &[u8], from: usize) -> Scan
     requires { ⌜ (1 ≤ length (now line)) × ((held ≤ length (now line)) × (from ≤ length (now piece))) ⌝ }
-    ensures { λ r. ⌜ NextLine (length (now (line .entry)) - 1) (r .complete) (take held (now (line .entry))) (drop from (now (piece .entry)))
+    ensures { λ r. ⌜ NextLine (length (now (line .entry)) - 1) (r .complete) (take held (now (line .entry)))
+        (drop from (now (piece .entry)))
         (take (r .held) (now (line .exit))) (drop (r .at) (now (piece .entry)))
         × Went (length (now (line .entry)) - 1) r from (length (now (piece .entry))) ⌝ }
 {

@@ -12,7 +12,7 @@ use Rattle.text_numerals.specs.Decimal.{joinedTexts}
 use Rattle.text_numerals.specs.Pairs.{hexPairs}
 use Rattle.text_numerals.specs.Put.{Put}
 use Rattle.text_numerals.proofs.PutLaws.{then, length-pairs}
-use Rattle.text_log.specs.LogLines.{letterAndNumbers, printable, textLine, pairsLine, writeLine, mostWritten}
+use Rattle.text_log.specs.LogLines.{letterAndNumbers, printable, textLine, pairsLine, writeLine, mostWritten, logLineBytes}
 use Rattle.text_log.proofs.Texts.{behind-space, length-joined}
 
 module _ (after : ℕ) (bytes : List ℕ) where
@@ -25,7 +25,7 @@ module _ (after : ℕ) (bytes : List ℕ) where
 abbrev spaced : ℕ → ℕ → ℕ → List ℕ
 spaced k t d = letterAndNumbers k (t ∷ d ∷ []) ++ (32 ∷ [])
 
-module _ {b m n : List ℕ} {e f : ℕ} (k t d : ℕ) (room : 8238 ≤ length b) where
+module _ {b m n : List ℕ} {e f : ℕ} (k t d : ℕ) (room : logLineBytes ≤ length b) where
   pub put-space : Put b 0 (letterAndNumbers k (t ∷ d ∷ [])) m e → Put m e (32 ∷ []) n f → Put b 0 (spaced k t d) n f
   put-space p q = let l = length-joined t (d ∷ []) in then (letterAndNumbers k (t ∷ d ∷ [])) (32 ∷ []) (omega arith) p q
 
@@ -43,7 +43,7 @@ whole t d bytes p =
     let k = length-append (joinedTexts (t ∷ d ∷ [])) (32 ∷ bytes) in
     omega (arith, p .end)
 
-pub put-write-line : {b m n : List ℕ} {e : ℕ} (t d : ℕ) (bytes : List ℕ) → 8238 ≤ length b → length bytes ≤ mostWritten
+pub put-write-line : {b m n : List ℕ} {e : ℕ} (t d : ℕ) (bytes : List ℕ) → logLineBytes ≤ length b → length bytes ≤ mostWritten
     → Put b 0 (spaced 87 t d) m e
     → n ≡ pasted m e bytes → (leb (e + length bytes) 128 && printable bytes) ≡ true
     → Put b 0 (writeLine t d bytes) n (e + length bytes)
@@ -54,7 +54,7 @@ put-write-line t d bytes room short p q is =
     rw (← whole t d bytes p, is, behind-space (letterAndNumbers 87 (t ∷ d ∷ [])) bytes)
     (then (spaced 87 t d) bytes (omega arith) p (record { bytes = q; end = refl }))
 
-pub put-other : {b m n o : List ℕ} {e f g : ℕ} (t d : ℕ) (bytes : List ℕ) → 8238 ≤ length b → length bytes ≤ mostWritten
+pub put-other : {b m n o : List ℕ} {e f g : ℕ} (t d : ℕ) (bytes : List ℕ) → logLineBytes ≤ length b → length bytes ≤ mostWritten
     → Put b 0 (spaced 87 t d) m e → Put m 0 (88 ∷ []) o f → Put o e (hexPairs bytes) n g
     → (leb (e + length bytes) 128 && printable bytes) ≡ false → Put b 0 (writeLine t d bytes) n g
 unfolding writeLine

@@ -186,6 +186,10 @@ letteredEntry k bytes =
 abbrev pub longest : ℕ
 longest = 8237
 
+-- The most bytes of a line, with its end.
+abbrev pub logLineBytes : ℕ
+logLineBytes = 8238
+
 unfoldable pub entryIn : List ℕ → LogEntry
 entryIn [] = comment
 entryIn (k ∷ bytes) = letteredEntry k bytes

@@ -27,7 +27,8 @@ fn word(high: u8, low: u8) -> usize
 // Numbers of 16 bits in decimal, each behind one space.
 fn put_words(out: &mut [u8], at: usize, bytes: &[u8]) -> usize
     requires { ⌜ at + 11 * length (now bytes) ≤ length (now out) ⌝ }
-    ensures { λ r. ⌜ Put (now (out .entry)) at (spacedTexts (wordsOf (now (bytes .entry)))) (now (out .exit)) r ⌝ }
+    ensures { λ r. ⌜ Put (now (out .entry)) at (spacedTexts (wordsOf (now (bytes .entry))))
+        (now (out .exit)) r ⌝ }
 {
     let mut next = at;
     let mut i = 0;
@@ -69,7 +70,8 @@ fn put_best(out: &mut [u8], at: usize, grants: u8, gap: u8, tried: u16, order: &
 // What was answered, with the buffer for an answer, without the line's end.
 pub fn put_reply(out: &mut [u8], at: usize, outcome: Outcome, buffer: &[u8]) -> usize
     requires { ⌜ at + 65 + 21 * length (now buffer) ≤ length (now out) ⌝ }
-    ensures { λ r. ⌜ Put (now (out .entry)) at (answerText (said outcome) (now (buffer .entry))) (now (out .exit)) r ⌝ }
+    ensures { λ r. ⌜ Put (now (out .entry)) at (answerText (said outcome) (now (buffer .entry)))
+        (now (out .exit)) r ⌝ }
 {
     match outcome {
         Outcome::Done => put_answer(out, at, outcome, buffer),

@@ -22,6 +22,7 @@ ghost use Prim.Native.Nat.{_+_, _≤_};
 ghost use lib.ListN.{length, take};
 ghost use Rattle.text_numerals.specs.Put.{Put};
 ghost use Rattle.text_log.specs.LogLines.{letterAndNumbers, printable, writeLine, lineOf, freshLine};
+ghost use Rattle.text_log.specs.LogLines.{logLineBytes, mostWritten, mostFiles, mostOrdered};
 ghost use Rattle.spec.specs.Messages.{Call};
 ghost use Rattle.text_log.specs.Recorded.{requestLine, recordedLine};
 
@@ -42,7 +43,7 @@ pub const LOG_LINE_BYTES: usize = 8238;
 
 // A letter, and a number directly behind it.
 fn put_one(out: &mut [u8], letter: u8, a: usize) -> usize
-    requires { ⌜ 8238 ≤ length (now out) ⌝ }
+    requires { ⌜ logLineBytes ≤ length (now out) ⌝ }
     ensures { λ r. ⌜ Put (now (out .entry)) 0 (letterAndNumbers letter (a ∷ [])) (now (out .exit)) r ⌝ }
 {
     let next = put_byte(out, 0, letter);
@@ -50,7 +51,7 @@ fn put_one(out: &mut [u8], letter: u8, a: usize) -> usize
 }
 
 fn put_two(out: &mut [u8], letter: u8, a: usize, b: usize) -> usize
-    requires { ⌜ 8238 ≤ length (now out) ⌝ }
+    requires { ⌜ logLineBytes ≤ length (now out) ⌝ }
     ensures { λ r. ⌜ Put (now (out .entry)) 0 (letterAndNumbers letter (a ∷ b ∷ [])) (now (out .exit)) r ⌝ }
 {
     let next = put_one(out, letter, a);
@@ -58,16 +59,18 @@ fn put_two(out: &mut [u8], letter: u8, a: usize, b: usize) -> usize
 }
 
 fn put_three(out: &mut [u8], letter: u8, a: usize, b: usize, c: usize) -> usize
-    requires { ⌜ 8238 ≤ length (now out) ⌝ }
-    ensures { λ r. ⌜ Put (now (out .entry)) 0 (letterAndNumbers letter (a ∷ b ∷ c ∷ [])) (now (out .exit)) r ⌝ }
+    requires { ⌜ logLineBytes ≤ length (now out) ⌝ }
+    ensures { λ r. ⌜ Put (now (out .entry)) 0 (letterAndNumbers letter (a ∷ b ∷ c ∷ []))
+        (now (out .exit)) r ⌝ }
 {
     let next = put_two(out, letter, a, b);
     put_spaced(out, next, c)
 }
 
 fn put_four(out: &mut [u8], letter: u8, a: usize, b: usize, c: usize, d: usize) -> usize
-    requires { ⌜ 8238 ≤ length (now out) ⌝ }
-    ensures { λ r. ⌜ Put (now (out .entry)) 0 (letterAndNumbers letter (a ∷ b ∷ c ∷ d ∷ [])) (now (out .exit)) r ⌝ }
+    requires { ⌜ logLineBytes ≤ length (now out) ⌝ }
+    ensures { λ r. ⌜ Put (now (out .entry)) 0 (letterAndNumbers letter (a ∷ b ∷ c ∷ d ∷ []))
+        (now (out .exit)) r ⌝ }
 {
     let next = put_three(out, letter, a, b, c);
     put_spaced(out, next, d)
@@ -103,7 +106,7 @@ fn is_text(bytes: &[u8], after: usize) -> bool
 
 // A Write: printable bytes as they are where the line is short, otherwise as hexadecimal pairs.
 fn put_write(out: &mut [u8], t: usize, d: usize, bytes: &[u8]) -> usize
-    requires { ⌜ (8238 ≤ length (now out)) × (length (now bytes) ≤ 4097) ⌝ }
+    requires { ⌜ (logLineBytes ≤ length (now out)) × (length (now bytes) ≤ mostWritten) ⌝ }
     ensures { λ r. ⌜ Put (now (out .entry)) 0 (writeLine t d (now (bytes .entry))) (now (out .exit)) r ⌝ }
 {
     let end = put_two(out, b'W', t, d);
@@ -119,8 +122,9 @@ fn put_write(out: &mut [u8], t: usize, d: usize, bytes: &[u8]) -> usize
 
 // A Write of the front of its bytes.
 fn put_front(out: &mut [u8], t: usize, d: usize, bytes: &[u8]) -> usize
-    requires { ⌜ 8238 ≤ length (now out) ⌝ }
-    ensures { λ r. ⌜ Put (now (out .entry)) 0 (writeLine t d (take 4097 (now (bytes .entry)))) (now (out .exit)) r ⌝ }
+    requires { ⌜ logLineBytes ≤ length (now out) ⌝ }
+    ensures { λ r. ⌜ Put (now (out .entry)) 0 (writeLine t d (take mostWritten (now (bytes .entry))))
+        (now (out .exit)) r ⌝ }
 {
     let end = limits::smaller(MOST_WRITTEN, bytes.len());
     put_write(out, t, d, &bytes[..end])
@@ -129,8 +133,9 @@ fn put_front(out: &mut [u8], t: usize, d: usize, bytes: &[u8]) -> usize
 // The line of a request with the bytes of a Write and the length of the buffer for an answer, without its
 // end.
 fn put_request(out: &mut [u8], request: Request, bytes: &[u8], room: usize) -> usize
-    requires { ⌜ 8238 ≤ length (now out) ⌝ }
-    ensures { λ r. ⌜ Put (now (out .entry)) 0 (requestLine request (now (bytes .entry)) room) (now (out .exit)) r ⌝ }
+    requires { ⌜ logLineBytes ≤ length (now out) ⌝ }
+    ensures { λ r. ⌜ Put (now (out .entry)) 0 (requestLine request (now (bytes .entry)) room)
+        (now (out .exit)) r ⌝ }
 {
     match request {
         Request::Begin(t) => put_one(out, b'B', t),
@@ -148,8 +153,9 @@ fn put_request(out: &mut [u8], request: Request, bytes: &[u8], room: usize) -> u
 
 // The line of a call, with its end. Its bytes in the buffer are as many as are answered.
 pub fn put_call(out: &mut [u8], request: Request, bytes: &[u8], room: usize) -> usize
-    requires { ⌜ 8238 ≤ length (now out) ⌝ }
-    ensures { λ r. ⌜ Put (now (out .entry)) 0 (recordedLine request (now (bytes .entry)) room) (now (out .exit)) r ⌝ }
+    requires { ⌜ logLineBytes ≤ length (now out) ⌝ }
+    ensures { λ r. ⌜ Put (now (out .entry)) 0 (recordedLine request (now (bytes .entry)) room)
+        (now (out .exit)) r ⌝ }
 {
     let next = put_request(out, request, bytes, room);
     put_byte(out, next, b'\n')
@@ -157,8 +163,9 @@ pub fn put_call(out: &mut [u8], request: Request, bytes: &[u8], room: usize) -> 
 
 // The line of Fresh, with its end: at most 17 of its file numbers, as any other count than 16 is refused.
 pub fn put_fresh(out: &mut [u8], files: &[u8]) -> usize
-    requires { ⌜ 8238 ≤ length (now out) ⌝ }
-    ensures { λ r. ⌜ Put (now (out .entry)) 0 (freshLine (take 17 (now (files .entry))) ++ (10 ∷ [])) (now (out .exit)) r ⌝ }
+    requires { ⌜ logLineBytes ≤ length (now out) ⌝ }
+    ensures { λ r. ⌜ Put (now (out .entry)) 0 (freshLine (take mostFiles (now (files .entry))) ++ (10 ∷ []))
+        (now (out .exit)) r ⌝ }
 {
     let next = put_byte(out, 0, b'F');
     let end = limits::smaller(MOST_FILES, files.len());
@@ -168,9 +175,10 @@ pub fn put_fresh(out: &mut [u8], files: &[u8]) -> usize
 
 // The line of the best order, with its end: at most 15 of its transactions, as more than 8 are refused.
 pub fn put_order(out: &mut [u8], list: &[u8], minute: usize, budget: usize) -> usize
-    requires { ⌜ 8238 ≤ length (now out) ⌝ }
+    requires { ⌜ logLineBytes ≤ length (now out) ⌝ }
     ensures { λ r. ⌜ Put (now (out .entry)) 0
-        (lineOf (Call.bestOrder (take 15 (now (list .entry))) minute budget) ++ (10 ∷ [])) (now (out .exit)) r ⌝ }
+        (lineOf (Call.bestOrder (take mostOrdered (now (list .entry))) minute budget) ++ (10 ∷ []))
+        (now (out .exit)) r ⌝ }
 {
     let next = put_two(out, b'O', minute, budget);
     let end = limits::smaller(MOST_ORDERED, list.len());

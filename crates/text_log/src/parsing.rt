@@ -15,7 +15,7 @@ ghost use lib.ListN.{length, take, drop};
 ghost use Rattle.text_log.specs.LogLines.{another, asked, ifWhole, callIn, entryIn};
 ghost use Rattle.text_log.specs.LogLines.{writeEntry as writtenIn};
 ghost use Rattle.text_log.specs.LogLines.{pairsBehind, textBehind, expectationIn, numbersOnly};
-ghost use Rattle.text_log.specs.LogLines.{ofOctets, fresh, ordering};
+ghost use Rattle.text_log.specs.LogLines.{ofOctets, fresh, ordering, mostWritten};
 ghost use Rattle.text_log.specs.Octets.{octetsIn};
 ghost use Rattle.text_log.specs.Reading.{Says, SaysNumbers};
 ghost use Rattle.text_numerals.specs.Fields.{Collects};
@@ -245,8 +245,9 @@ fn with_list(letter: u8, numbers: &[usize], n: usize, bytes: &mut [u8]) -> Parse
 
 // A letter with its numbers, the first directly behind it.
 fn joined_line(line: &[u8], letter: u8, numbers: &mut [usize], bytes: &mut [u8]) -> ParsedEntry
-    requires { ⌜ (length (now numbers) ≡ 18) × (length (now bytes) ≡ 4097) ⌝ }
-    ensures { λ r. ⌜ Says r (now (bytes .exit)) (ifWhole (asked letter) (numbersOnly (drop 1 (now (line .entry))))) ⌝ }
+    requires { ⌜ (length (now numbers) ≡ 18) × (length (now bytes) ≡ mostWritten) ⌝ }
+    ensures { λ r. ⌜ Says r (now (bytes .exit)) (ifWhole (asked letter)
+        (numbersOnly (drop 1 (now (line .entry))))) ⌝ }
 {
     if line.len() < 2 {
         return with_list(letter, numbers, 0, bytes);
@@ -259,7 +260,7 @@ fn joined_line(line: &[u8], letter: u8, numbers: &mut [usize], bytes: &mut [u8])
 
 // The bytes of a Write as pairs, from a place on.
 fn pairs_behind(line: &[u8], at: usize, t: usize, d: usize, bytes: &mut [u8]) -> ParsedEntry
-    requires { ⌜ length (now bytes) ≡ 4097 ⌝ }
+    requires { ⌜ length (now bytes) ≡ mostWritten ⌝ }
     ensures { λ r. ⌜ Says r (now (bytes .exit)) (pairsBehind t d (drop at (now (line .entry)))) ⌝ }
 {
     if line.len() <= at {
@@ -276,7 +277,7 @@ fn pairs_behind(line: &[u8], at: usize, t: usize, d: usize, bytes: &mut [u8]) ->
 
 // `X0 3 68690a`
 fn pairs_line(line: &[u8], bytes: &mut [u8]) -> ParsedEntry
-    requires { ⌜ length (now bytes) ≡ 4097 ⌝ }
+    requires { ⌜ length (now bytes) ≡ mostWritten ⌝ }
     ensures { λ r. ⌜ Says r (now (bytes .exit)) (writtenIn pairsBehind (drop 1 (now (line .entry)))) ⌝ }
 {
     let Field::Number(t, second) = number_at(line, 1, FURTHER) else {
@@ -290,7 +291,7 @@ fn pairs_line(line: &[u8], bytes: &mut [u8]) -> ParsedEntry
 
 // The bytes of a Write as they are, from a place on.
 fn text_behind(line: &[u8], at: usize, t: usize, d: usize, bytes: &mut [u8]) -> ParsedEntry
-    requires { ⌜ (length (now bytes) ≡ 4097) × (length (now line) ≤ 128) ⌝ }
+    requires { ⌜ (length (now bytes) ≡ mostWritten) × (length (now line) ≤ 128) ⌝ }
     ensures { λ r. ⌜ Says r (now (bytes .exit)) (textBehind t d (drop at (now (line .entry)))) ⌝ }
 {
     if line.len() <= at {
@@ -307,7 +308,7 @@ fn text_behind(line: &[u8], at: usize, t: usize, d: usize, bytes: &mut [u8]) -> 
 
 // `W0 3 hi`
 fn text_line(line: &[u8], bytes: &mut [u8]) -> ParsedEntry
-    requires { ⌜ (length (now bytes) ≡ 4097) × (length (now line) ≤ 128) ⌝ }
+    requires { ⌜ (length (now bytes) ≡ mostWritten) × (length (now line) ≤ 128) ⌝ }
     ensures { λ r. ⌜ Says r (now (bytes .exit)) (writtenIn textBehind (drop 1 (now (line .entry)))) ⌝ }
 {
     let Field::Number(t, second) = number_at(line, 1, FURTHER) else {
@@ -321,9 +322,10 @@ fn text_line(line: &[u8], bytes: &mut [u8]) -> ParsedEntry
 
 // `W0 3 hi`, in a line of at most 128 bytes.
 fn short_text_line(line: &[u8], bytes: &mut [u8]) -> ParsedEntry
-    requires { ⌜ length (now bytes) ≡ 4097 ⌝ }
+    requires { ⌜ length (now bytes) ≡ mostWritten ⌝ }
     ensures { λ r. ⌜ Says r (now (bytes .exit))
-        (cond (leb (length (drop 1 (now (line .entry)))) 127) (writtenIn textBehind (drop 1 (now (line .entry)))) another) ⌝ }
+        (cond (leb (length (drop 1 (now (line .entry)))) 127)
+        (writtenIn textBehind (drop 1 (now (line .entry)))) another) ⌝ }
 {
     if 128 < line.len() {
         return ParsedEntry::Another;
@@ -346,7 +348,7 @@ fn answer_line(line: &[u8]) -> ParsedEntry
 
 // What a line says, whatever its length.
 fn entry_line(line: &[u8], numbers: &mut [usize], bytes: &mut [u8]) -> ParsedEntry
-    requires { ⌜ (length (now numbers) ≡ 18) × (length (now bytes) ≡ 4097) ⌝ }
+    requires { ⌜ (length (now numbers) ≡ 18) × (length (now bytes) ≡ mostWritten) ⌝ }
     ensures { λ r. ⌜ Says r (now (bytes .exit)) (entryIn (now (line .entry))) ⌝ }
 {
     if line.len() == 0 {
@@ -364,7 +366,7 @@ fn entry_line(line: &[u8], numbers: &mut [usize], bytes: &mut [u8]) -> ParsedEnt
 
 // What a line says. It comes without its end.
 pub fn parse_entry(line: &[u8], numbers: &mut [usize], bytes: &mut [u8]) -> ParsedEntry
-    requires { ⌜ (length (now numbers) ≡ 18) × (length (now bytes) ≡ 4097) ⌝ }
+    requires { ⌜ (length (now numbers) ≡ 18) × (length (now bytes) ≡ mostWritten) ⌝ }
     ensures { λ r. ⌜ Says r (now (bytes .exit)) (callIn (now (line .entry))) ⌝ }
 {
     if LONGEST < line.len() {

@@ -130,7 +130,8 @@ pub fn worth(b: u8) -> usize
 // The number that up to `more` digits from a place on make of its first one.
 fn digits_from(line: &[u8], first: usize, from: usize, more: usize) -> Field
     requires { ⌜ first ≤ 9 ⌝ }
-    ensures { λ r. ⌜ numeralOf (now (line .entry)) r ≡ fitting (digits more first (drop from (now (line .entry)))) ⌝ }
+    ensures { λ r. ⌜ numeralOf (now (line .entry)) r
+        ≡ fitting (digits more first (drop from (now (line .entry)))) ⌝ }
 {
     let mut number = first;
     let mut at = from;

@@ -51,7 +51,8 @@ fn pointer_line(line: &[u8], t: usize) -> Parsed
 fn seek_or_read_line(line: &[u8], t: usize, seeks: bool) -> Parsed
     ensures { λ r. ⌜ Reads (now (line .entry)) r
         (after (spaced (drop 2 (now (line .entry))))
-        (λ d rest. after (spaced rest) (λ n. ends (cond seeks (Request.Seek t d n) (Request.Read t d n))))) ⌝ }
+        (λ d rest. after (spaced rest) (λ n. ends (cond seeks (Request.Seek t d n)
+        (Request.Read t d n))))) ⌝ }
 {
     let Field::Number(d, second) = spaced_at(line, 2, FURTHER) else {
         return Parsed::Another;

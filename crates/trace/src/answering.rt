@@ -90,7 +90,8 @@ fn answer_line(
         (take (progress .waiting) (now (out .entry)))
         (record { machine = handedBack state files logs marks undo; reader = now (reader .exit) })
         (take (r .waiting) (now (out .exit)))
-        × ((r .waiting ≤ length (now (out .exit))) × ((r .held ≡ progress .held) × (r .at ≡ progress .at))) ⌝ }
+        × ((r .waiting ≤ length (now (out .exit)))
+        × ((r .held ≡ progress .held) × (r .at ≡ progress .at))) ⌝ }
 {
     let o = answer(state, files, logs, marks, undo, line, reader);
     let waiting = text_answers::print_answer(out, progress.waiting, o, reader);
@@ -112,7 +113,8 @@ fn step(
     piece: &[u8],
     out: &mut [u8],
 ) -> TraceProgress
-    requires { ⌜ TraceProgressIn progress (length (now piece)) × (TraceRoom (now reader) (now out) × (length (now line) ≡ 129)) ⌝ }
+    requires { ⌜ TraceProgressIn progress (length (now piece))
+        × (TraceRoom (now reader) (now out) × (length (now line) ≡ 129)) ⌝ }
     ensures { λ r. ⌜ Passes storeTrace
         (under (handed state files logs marks undo) (now (reader .entry))
         (take (progress .held) (now (line .entry))) (drop (progress .at) (now (piece .entry))))

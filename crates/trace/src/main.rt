@@ -109,14 +109,16 @@ fn turn(
     out: &mut [u8],
 ) -> TraceProgress
     requires { ⌜ TraceResting progress × (TraceRoom (now reader) (now out) × ((length (now line) ≡ 129)
-        × ReachedFresh (under (machineOf (now state) (now files) (now logs) (now marks) (now undo)) (now reader)
+        × ReachedFresh (under (machineOf (now state) (now files) (now logs) (now marks) (now undo))
+        (now reader)
         (take (progress .held) (now line)) []))) ⌝ }
     ensures { λ r. ⌜ TraceResting r × (r .goes ≡ true → (n : ℕ)
         × (atEnd storeTrace (under (handed state files logs marks undo) (now (reader .entry))
         (take (progress .held) (now (line .entry))) (take n (now (input .exit))))
         ≡ under (handedBack state files logs marks undo) (now (reader .exit))
         (take (r .held) (now (line .exit))) []))
-        × (r .complete ≡ true → (text : List ℕ) × Answered storeTrace (lastLine (take (progress .held) (now (line .entry))))
+        × (r .complete ≡ true → (text : List ℕ) × Answered storeTrace
+        (lastLine (take (progress .held) (now (line .entry))))
         (record { machine = handed state files logs marks undo; reader = now (reader .entry) })
         []
         (record { machine = handedBack state files logs marks undo; reader = now (reader .exit) })

@@ -16,7 +16,7 @@ ghost use Rattle.spec.specs.Calls.{call};
 ghost use Rattle.spec.specs.Promises.{Follows};
 
 // Commits transaction t at a minute of the day: refusals 1 to 4, then 22, 13, 21 and 12, then the grant. A
-// stale transaction ends as at Abort; one that is refused otherwise stays open.
+// stale transaction ends as at Abort; one that is refused otherwise stays open (R-9.1 to R-9.4).
 pub fn commit(
     state: &mut State,
     files: &mut [u8],

@@ -38,7 +38,7 @@ fn put_stale_in(state: &mut State, octet: u8)
 // Grants the commit of transaction t, which is x: lands its writes in call order, saves the undo log (the
 // bytes that they overwrite, and the offsets and lengths before), raises lengths, sets its offsets and ends
 // it. Every other open transaction that has sighted a byte, offset or length just set is stale from then on;
-// the answer is the octet of those that were not so before.
+// the answer is the octet of those that were not so before (R-8.1, R-9.5 to R-9.9).
 pub fn grant(
     state: &mut State,
     files: &mut [u8],

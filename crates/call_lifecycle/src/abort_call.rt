@@ -11,7 +11,7 @@ ghost use Rattle.spec.specs.Messages.{Call};
 ghost use Rattle.spec.specs.Calls.{call};
 ghost use Rattle.spec.specs.Promises.{Follows};
 
-// Ends transaction t and drops its log and marks; the log bytes stay.
+// Ends transaction t and drops its log and marks; the log bytes stay (R-10.1).
 pub fn abort(
     state: &mut State,
     files: &[u8],

@@ -11,7 +11,7 @@ ghost use Rattle.spec.specs.Messages.{Call};
 ghost use Rattle.spec.specs.Calls.{call};
 ghost use Rattle.spec.specs.Promises.{Follows};
 
-// Opens transaction t: an empty log, sixteen Untouched descriptors, no marks, not stale.
+// Opens transaction t: an empty log, sixteen Untouched descriptors, no marks, not stale (R-1.7).
 pub fn begin(
     state: &mut State,
     files: &[u8],

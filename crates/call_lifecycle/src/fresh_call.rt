@@ -23,7 +23,7 @@ fn zero(buffer: &mut [u8])
 
 // Makes the store fresh: descriptor d belongs to file numbers[d], every file byte, mark, offset and length is
 // 0, every window is 0 and 0 (always open), nothing is open, the journal is empty, and there is no grant to
-// undo. Logs and the undo log are left as found. Refuses with 1, then with 14; the state then stays.
+// undo. Logs and the undo log are left as found. Refuses with 1, then with 14; the state then stays (R-1.6).
 pub fn fresh(
     state: &mut State,
     files: &mut [u8],

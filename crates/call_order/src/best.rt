@@ -88,7 +88,7 @@ fn count_outside(octet: u8, list: &[u8]) -> u8
 }
 
 // The gap: 0 when all orders were tried, otherwise the count of those without a byte for a closed file, less
-// the grants.
+// the grants (R-14.3).
 pub fn gap_of(all: bool, closed: u8, list: &[u8], grants: u8) -> u8
     requires { ⌜ (length (now list) ≤ transactionCount)
         × (allIn (λ t. leb t lastTransaction) (now list) ≡ true) ⌝ }

@@ -1,4 +1,4 @@
-// The call that lists the places a transaction would write (paper 02, F-1).
+// The call that lists the places a transaction would write (02, F-1; R-15.1).
 use crate::ascending::count;
 use crate::ascending::is_waiting;
 use crate::ascending::sweep_records;
@@ -15,7 +15,7 @@ ghost use Rattle.spec.specs.Calls.{call};
 ghost use Rattle.spec.specs.Promises.{Follows};
 
 // Lists the intervals of file f that the writes of transaction t cover, as pairs at the front of out, and
-// answers how many they are. Whether they fit is decided before a byte is written.
+// answers how many they are. Whether they fit is decided before a byte is written (R-15.2).
 pub fn places(
     state: &State,
     files: &[u8],

@@ -1,4 +1,4 @@
-// Undo of the last commit (paper 02, F-13: taking back).
+// Undo of the last commit (02, F-13: taking back; R-12.1).
 mod restore;
 mod undo_call;
 

@@ -35,7 +35,7 @@ fn landed_at(state: &State, k: usize) -> LandedWrite
     }
 }
 
-// Puts the old bytes back into the files, from the last write to the first.
+// Puts the old bytes back into the files, from the last write to the first (R-12.2).
 pub fn restore_bytes(state: &State, files: &mut [u8], undo: &[u8])
     requires { ⌜ (storeIn (storeOf (now state)) (journalOf (now state)) ≡ true)
         × (storeOf (now state) .undo .held ≡ true)

@@ -1,4 +1,4 @@
-// The call that sets the window of a file, the minutes of the day in which it may change (paper 02, F-11).
+// The call that sets the window of a file, the minutes of the day in which it may change (02, F-11; R-11.2).
 use admission::Gate;
 use state::layout::State;
 use state::layout::put_window;

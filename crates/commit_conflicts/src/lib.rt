@@ -25,7 +25,7 @@ ghost use Rattle.spec.specs.Promises.{machineOf};
 ghost use Rattle.commit_apply.specs.Apply.{CanLandIn};
 ghost use Rattle.commit_conflicts.specs.Conflicts.{isWatched, staleBy};
 
-// The transactions that a commit of t can make stale: every other one that is open and not stale.
+// The transactions that a commit of t can make stale: every other one that is open and not stale (R-8.1).
 fn watched(state: &State, t: usize) -> u8
     ensures { λ r. ⌜ r ≡ bitsOf (isWatched (now (state .entry)) t) transactionCount ⌝ }
 {

@@ -49,8 +49,8 @@ fn has_byte_for(state: &State, t: usize, octet: u8) -> bool
     false
 }
 
-// Transaction t has a byte for a file that is closed at the minute. If no file is closed, no write record is
-// read.
+// Transaction t has a byte for a file that is closed at the minute (R-9.3). If no file is closed, no write
+// record is read.
 pub fn has_byte_for_closed(state: &State, t: usize, minute: u16) -> bool
     requires { ⌜ OpenIn (now state) t ⌝ }
     ensures { λ r. ⌜ ((logs : List ℕ) → length logs ≡ bufferBytes

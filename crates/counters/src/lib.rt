@@ -9,8 +9,8 @@ pub struct Used {
     pub bytes: u16,
 }
 
-// "In a log the two counters, records used and data bytes used, move forward together": by one record and by
-// n bytes.
+// "In a log the two counters, records used and data bytes used, move forward together" [R-1.4]: by one record
+// and by n bytes.
 pub fn append(u: &mut Used, n: u16)
     requires { ⌜ (now u .records ≤ recordCount) × (now u .bytes + n ≤ logBytes) ⌝ }
     ensures records { λ _. ⌜ now (u .exit) .records ≡ now (u .entry) .records + 1 ⌝ }

@@ -1,5 +1,5 @@
 // The rounds. Each begins every script that goes on, gives each one call in turn until none has a call left,
-// and then commits them.
+// and then commits them (R-13.3).
 use crate::calls::gate_of;
 use crate::calls::make;
 use crate::ends::End;

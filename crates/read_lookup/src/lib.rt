@@ -77,9 +77,9 @@ fn gap(state: &State, w: WriteRecord, e: Extent) -> usize
 }
 
 // The latest write over the first of the places, and the longest run at their front. Corollary 2 of the
-// notes: "Otherwise, a sees the most recent precedessor in OP_{T_i} ." The walk goes from the newest record
-// back and stops at the first that covers the place. On its way it tracks where the data of the visited
-// records start in the log, and how many places come before those that they cover.
+// notes: "Otherwise, a sees the most recent precedessor in OP_{T_i} ." [R-6.6] The walk goes from the newest
+// record back and stops at the first that covers the place. On its way it tracks where the data of the
+// visited records start in the log, and how many places come before those that they cover.
 pub fn latest_write(state: &State, t: usize, used: Used, e: Extent) -> Run
     requires { ⌜ CountedRecords (journalOf (now state)) t used × (1 ≤ e .length) ⌝ }
     ensures latest { λ r. ⌜ LatestAt (recordedIn (now (state .entry))) t (used .records) e r ⌝ }
@@ -140,7 +140,7 @@ fn end_in(state: &State, w: WriteRecord, file: u16) -> usize
 }
 
 // "A transaction's length is the largest of the committed one and the ends of its own placed writes of at
-// least one byte."
+// least one byte." [R-6.1]
 pub fn length_for(state: &State, t: usize, used: Used, file: u16) -> usize
     requires { ⌜ CountedRecords (journalOf (now state)) t used × (file < fileCount) ⌝ }
     ensures { λ r. ⌜ r ≡ lengthSeen (now (state .entry)) t (used .records) file ⌝ }

@@ -125,7 +125,8 @@ pub fn run_lines(
     ok
 }
 
-// "Each situation starts at its own Fresh; T0 to T2 are begun." Descriptor d belongs to file d mod 8.
+// "Each situation starts at its own Fresh; T0 to T2 are begun." [R-20.1] Descriptor d belongs to file d mod
+// 8.
 pub fn start(
     state: &mut State,
     files: &mut Buffer,
@@ -147,7 +148,7 @@ pub fn start(
         )
 }
 
-// A start with "a first commit that fills the file with zeros": T7's, through descriptor 0.
+// A start with "a first commit that fills the file with zeros" [R-20.1]: T7's, through descriptor 0.
 pub fn start_filled(
     state: &mut State,
     files: &mut Buffer,

@@ -161,7 +161,8 @@ pub fn put_call(out: &mut [u8], request: Request, bytes: &[u8], room: usize) -> 
     put_byte(out, next, b'\n')
 }
 
-// The line of Fresh, with its end: at most 17 of its file numbers, as any other count than 16 is refused.
+// The line of Fresh, with its end: at most 17 of its file numbers, as any other count than 16 is refused
+// (R-16.1).
 pub fn put_fresh(out: &mut [u8], files: &[u8]) -> usize
     requires { ⌜ logLineBytes ≤ length (now out) ⌝ }
     ensures { λ r. ⌜ Put (now (out .entry)) 0 (freshLine (take mostFiles (now (files .entry))) ++ (10 ∷ []))
@@ -173,7 +174,8 @@ pub fn put_fresh(out: &mut [u8], files: &[u8]) -> usize
     put_byte(out, next, b'\n')
 }
 
-// The line of the best order, with its end: at most 15 of its transactions, as more than 8 are refused.
+// The line of the best order, with its end: at most 15 of its transactions, as more than 8 are refused
+// (R-16.1).
 pub fn put_order(out: &mut [u8], list: &[u8], minute: usize, budget: usize) -> usize
     requires { ⌜ logLineBytes ≤ length (now out) ⌝ }
     ensures { λ r. ⌜ Put (now (out .entry)) 0

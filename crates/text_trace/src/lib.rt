@@ -1,4 +1,4 @@
-// The lines of a trace (paper 02, F-5): what a line asks. specs/Grammar.antt says which form a line has.
+// The lines of a trace (02, F-5; R-19.2): what a line asks. specs/Grammar.antt says which form a line has.
 use requests::Request;
 use text_numerals::Field;
 use text_numerals::is_digit;

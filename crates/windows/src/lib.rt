@@ -4,7 +4,7 @@ ghost use mathlib.Core.Path.{_≡_};
 ghost use Rattle.windows.specs.Windows.{minuteIn, isOpenAt};
 
 // The window of a file: from minute start on, before minute end. A start above the end runs over midnight;
-// equal ones mean always open.
+// equal ones mean always open (R-11.1).
 pub struct Window {
     pub start: u16,
     pub end: u16,

@@ -66,7 +66,7 @@ module _ (filenumbers : List ℕ) (f : ℕ) (s : Sweep) (w : WriteRecord) where
 -- what one record keeps
 module _ (s : Sweep) where
   place-keeps : (p n : ℕ) (b : Bool) → (sweep-placed s p n b .ascending ≡ true → s .ascending ≡ true)
-      × (s .intervals ≤ sweep-placed s p n b .stretches) × (sweep-placed s p n b .stretches ≤ s .intervals + 1)
+      × (s .intervals ≤ sweep-placed s p n b .intervals) × (sweep-placed s p n b .intervals ≤ s .intervals + 1)
   place-keeps p n true = (λ a. a, omega arith, omega arith)
   place-keeps p n false = (λ a. and-left (s .ascending) (eqb (s .next) (p + 1)) a, omega arith, omega arith)
 
@@ -118,13 +118,13 @@ module _ (j : Recorded) (t f : ℕ) where
   unfolding sweptIn sweptRecord
   swept-keeps k = record-keeps (sweptIn j t f k) (here k) (at k .place) (at k .length)
 
-  pub swept-few : (k : ℕ) → sweptIn j t f k .stretches ≤ k
+  pub swept-few : (k : ℕ) → sweptIn j t f k .intervals ≤ k
   swept-few zero = unfold sweptIn in omega arith
   swept-few (suc k) = omega (arith, swept-few k, swept-keeps k .2)
 
   -- after k of n records that ascend: the order holds, and intervals are no more
   abbrev OnTheWay : ℕ → ℕ → Type 0
-  OnTheWay n k = (sweptIn j t f k .ascending ≡ true) × (sweptIn j t f k .stretches ≤ sweptIn j t f n .stretches)
+  OnTheWay n k = (sweptIn j t f k .ascending ≡ true) × (sweptIn j t f k .intervals ≤ sweptIn j t f n .intervals)
 
   pub swept-way : (n k : ℕ) → k ≤ n → sweptIn j t f n .ascending ≡ true
       → OnTheWay n k
@@ -181,7 +181,7 @@ module _ (j : Recorded) (t f : ℕ) where
     -- the whole order holds, and the list of all of them fits the buffer
     module _ (ascends : sweptIn j t f records .ascending ≡ true) (out : List ℕ)
         (room : 4 * length (intervalsOf (coveredAt j t records f)) ≤ length out) where
-      few : (k : ℕ) → k ≤ records → 4 * sweptIn j t f k .stretches ≤ length out
+      few : (k : ℕ) → k ≤ records → 4 * sweptIn j t f k .intervals ≤ length out
       few k l = omega (arith, room, swept-way records k l ascends .1, swept-is records (omega arith) ascends .count)
 
       -- what `put_last` requires

@@ -21,7 +21,7 @@ factorial-suc n = rw (add-one n) (nat-comm (suc n) (factorial n))
     nat-comm : (a b : ℕ) → a * b ≡ b * a
     nat-comm a b = omega arith
 
-pub factorial-most : (n : ℕ) → n ≤ 8 → factorial n ≤ mostOrders
+pub factorial-most : (n : ℕ) → n ≤ transactionCount → factorial n ≤ mostOrders
 unfolding factorial
 factorial-most zero l = omega arith
 factorial-most (suc zero) l = omega arith
@@ -42,7 +42,7 @@ drop-zeros (suc n) zero = ap (λ (k : ℕ). replicate {A = ℕ} k 0) (sym (zero-
 drop-zeros (suc n) (suc m) = drop-zeros n m ∙ ap (λ (k : ℕ). replicate {A = ℕ} k 0) (sym (suc-sub-suc m n))
 
 -- The first n numbers of an array, and zeros after them.
-pub padded-front : (n : ℕ) (xs : List ℕ) → n ≤ length xs → drop n xs ≡ replicate (8 - n) 0
+pub padded-front : (n : ℕ) (xs : List ℕ) → n ≤ length xs → drop n xs ≡ replicate (transactionCount - n) 0
     → xs ≡ take n xs ++ replicate (transactionCount - length (take n xs)) 0
 padded-front n xs l z =
     sym (take-append-drop n xs)

@@ -9,7 +9,7 @@ use lib.Seq.{drop-cons}
 use native.Mathlib.Numerals.{add-one}
 use native.Mathlib.Omega.{arith}
 use Prim.Native.Nat.{ℕ, zero, suc, _+_, _≤_, _<_}
-use Rattle.limits.specs.Limits.{lastTransaction}
+use Rattle.limits.specs.Limits.{lastTransaction, transactionCount}
 use Rattle.admission.proofs.Laws.{and-left, and-right, and-both}
 use Rattle.spec_orders.specs.Orders.{allIn, countIn, isIn, distinct}
 
@@ -41,7 +41,8 @@ all-at p (t ∷ ts) zero e l = and-left (p t) _ e
 all-at p (t ∷ ts) (suc k) e l = all-at p ts k (and-right (p t) _ e) (omega arith)
 
 -- A member of a list of transactions.
-pub small-at : (ts : List ℕ) (k : ℕ) → allIn (λ t. leb t lastTransaction) ts ≡ true → k < length ts → getD ts k 0 < 8
+pub small-at : (ts : List ℕ) (k : ℕ) → allIn (λ t. leb t lastTransaction) ts ≡ true → k < length ts
+    → getD ts k 0 < transactionCount
 small-at ts k e l = let h = leb-true (getD ts k 0) 7 (all-at (λ t. leb t 7) ts k e l) in omega arith
 
 pub all-by : (p : ℕ → Bool) (ts : List ℕ) → ((k : ℕ) → k < length ts → p (getD ts k 0) ≡ true) → allIn p ts ≡ true

@@ -9,7 +9,7 @@ use lib.ListN.{getD, set, length, replicate, getD-replicate, List·getD-eq-defau
 use lib.Seq.{getD-set-same, getD-set-other}
 use native.Mathlib.Omega.{arith}
 use Prim.Native.Nat.{ℕ, _+_, _-_, _*_, _≤_, _<_}
-use Rattle.limits.specs.Limits.{scriptCount}
+use Rattle.limits.specs.Limits.{scriptCount, lastScript, scriptCalls}
 use Rattle.buffers.proofs.PartLaws.{le-or-lt}
 use Rattle.admission.specs.FirstRefusal.{below}
 use Rattle.admission.proofs.Laws.{and-both, and-right, below-at, below-fails}
@@ -34,7 +34,7 @@ no-calls lines n = record {
 }
 
 -- Nothing changes where k is above 7, or the script has more than sixteen calls.
-pub more-above : (k : ℕ) (c : CallOfScript) (x : SomeScripts) → 7 < k → OneMore k c x x
+pub more-above : (k : ℕ) (c : CallOfScript) (x : SomeScripts) → lastScript < k → OneMore k c x x
 more-above k c x l =
     record {
       count = refl;
@@ -46,7 +46,7 @@ more-above k c x l =
       none = λ m. refl;
     }
 
-pub more-full : (k : ℕ) (c : CallOfScript) (x : SomeScripts) → 16 < x .script k .count → OneMore k c x x
+pub more-full : (k : ℕ) (c : CallOfScript) (x : SomeScripts) → scriptCalls < x .script k .count → OneMore k c x x
 more-full k c x l =
     record {
       count = refl;
@@ -64,7 +64,7 @@ module _ (lines : List ScriptLine) (counts : List ℕ) (count k n : ℕ) (v : Sc
   raised : getD (set counts k (n + 1)) k 0 ≡ getD counts k 0 + 1
   raised = getD-set-same counts k (n + 1) 0 (omega arith) ∙ ap (λ (m : ℕ). m + 1) e
 
-  pub more-counted : n ≡ 16 → OneMore k (scriptCallOf v) (scriptsOf (made lines counts count))
+  pub more-counted : n ≡ scriptCalls → OneMore k (scriptCallOf v) (scriptsOf (made lines counts count))
       (scriptsOf (made lines (set counts k (n + 1)) count))
   unfolding scriptsOf
   more-counted q =
@@ -78,7 +78,7 @@ module _ (lines : List ScriptLine) (counts : List ℕ) (count k n : ℕ) (v : Sc
         none = λ l. absurd (omega arith);
       }
 
-  pub more-added : n < 16 → length lines ≡ 128
+  pub more-added : n < scriptCalls → length lines ≡ 128
       → OneMore k (scriptCallOf v) (scriptsOf (made lines counts count))
       (scriptsOf (made (set lines (16 * k + n) (record { call = v })) (set counts k (n + 1)) count))
   unfolding scriptsOf

@@ -9,7 +9,7 @@ use lib.ListN.{length, take}
 use lib.Seq.{length-take-le}
 use borrow.Author.Tests.{lt-leb}
 use Rattle.text_log.specs.LogLines.{mostWritten}
-use Rattle.limits.specs.Limits.{lastDescriptor}
+use Rattle.limits.specs.Limits.{lastDescriptor, logBytes}
 use Rattle.spec.specs.Machine.{Machine, txnOf, values}
 use Rattle.spec.specs.Transactions.{Txn}
 use Rattle.spec.specs.Items.{Item, Prog, done, asked, result}
@@ -19,7 +19,7 @@ use Rattle.spec.specs.Messages.{Call, on, Op, write, bufferOf}
 use Rattle.standings.specs.Table.{placeNumber, writePlace}
 
 -- A Write of more than 4,096 bytes is refused: by its descriptor, otherwise by its length.
-too-long : (d : ℕ) (bytes : List ℕ) (x : Txn) → 4096 < length bytes
+too-long : (d : ℕ) (bytes : List ℕ) (x : Txn) → logBytes < length bytes
     → writeStep d bytes x ≡ check (leb d lastDescriptor) 6 (done (refuse 9))
 unfolding writeStep check
 too-long d bytes x h = rw (lt-leb (placeNumber (writePlace (x .standing d)) + length bytes) 4096 (omega arith))
@@ -31,7 +31,7 @@ unfolding served check asked result
 served-refused t o m v true = refl
 served-refused t o m v false = refl
 
-refused-long : (t d : ℕ) (bytes : List ℕ) (m : Machine) → 4096 < length bytes → stepTurn t (write d bytes) m
+refused-long : (t d : ℕ) (bytes : List ℕ) (m : Machine) → logBytes < length bytes → stepTurn t (write d bytes) m
     ≡ refuseTurn (cond (leb d lastDescriptor) 9 6) [] m
 unfolding stepTurn step refusedStale refusesStale isReadCall bufferOf
 refused-long t d bytes m h =

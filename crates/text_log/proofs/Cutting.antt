@@ -45,11 +45,12 @@ and-off : (b c : Bool) → (b && false && c) ≡ false
 and-off true c = refl
 and-off false c = refl
 
-no-list : (ts : List ℕ) → 15 ≤ length ts → isList ts ≡ false
+no-list : (ts : List ℕ) → mostOrdered ≤ length ts → isList ts ≡ false
 unfolding isList
 no-list ts h = rw (lt-leb (length ts) 8 (omega arith)) (and-off (leb 1 (length ts)) (distinct ts))
 
-no-order : (a : Asked) (minute budget : ℕ) (ts : List ℕ) → 15 ≤ length ts → orderReply a ts minute budget ≡ says (refused 26)
+no-order : (a : Asked) (minute budget : ℕ) (ts : List ℕ) → mostOrdered ≤ length ts
+    → orderReply a ts minute budget ≡ says (refused 26)
 unfolding orderReply orderReplied orderRefusal unless
 no-order a minute budget ts h = rw (no-list ts h)
 

@@ -9,7 +9,7 @@ use lib.ListN.{length, take, drop}
 use lib.Seq.{take-append-seam}
 use borrow.Author.Tests.{leb-true, le-leb, lt-leb, lt-ltb, le-ltb, ltb-true, ltb-false}
 use Rattle.text_log.specs.LogLines.{mostWritten}
-use Rattle.limits.specs.Limits.{transactionCount}
+use Rattle.limits.specs.Limits.{transactionCount, fileBytes}
 use Rattle.state.specs.StoreMeaning.{transaction}
 use Rattle.admission.specs.Admission.{admission}
 use Rattle.admission.specs.FirstRefusal.{unless}
@@ -39,7 +39,8 @@ use Rattle.text_log.proofs.Again.{Close, Near, near-at, near-refused, n
 -- ---- what is gathered
 
 -- Of a file of at most 4,096 bytes, 4,097 and more give and sight the same.
-module _ (v : Values) (file : ℕ → ℕ) (ws : List Write) (f p n : ℕ) (short : lengthFor file f ws (v (fileLength f)) ≤ 4096) where
+module _ (v : Values) (file : ℕ → ℕ) (ws : List Write) (f p n : ℕ)
+    (short : lengthFor file f ws (v (fileLength f)) ≤ fileBytes) where
   abbrev space : ℕ
   space = lengthFor file f ws (v (fileLength f)) - p
 
@@ -67,7 +68,7 @@ module _ (v : Values) (file : ℕ → ℕ) (ws : List Write) (f p n : ℕ) (shor
 
 -- ---- a step
 
-module _ (v : Values) (file : ℕ → ℕ) (d n : ℕ) (b c : List ℕ) (bounded : (f : ℕ) → v (fileLength f) ≤ 4096) where
+module _ (v : Values) (file : ℕ → ℕ) (d n : ℕ) (b c : List ℕ) (bounded : (f : ℕ) → v (fileLength f) ≤ fileBytes) where
   near-settled : (y : Txn) → TxnIn y → Near v (readSettled file d (min n mostWritten) c y) (readSettled file d n b y)
   unfolding readSettled Close asked result shown
   near-settled y h =

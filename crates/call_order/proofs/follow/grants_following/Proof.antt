@@ -7,6 +7,7 @@ use lib.ListN.{length, getD, take, drop}
 use lib.Seq.{length-take-le, getD-take}
 use native.Mathlib.Omega.{arith}
 use Prim.Native.Nat.{ℕ, _+_, _-_, _≤_, _<_}
+use Rattle.limits.specs.Limits.{transactionCount}
 use Rattle.buffers.specs.Marks.{contains}
 use Rattle.state.specs.Layout.{storeOf}
 use Rattle.call_order.specs.OrderStatements.{Pass, followOne, followAll}
@@ -58,7 +59,7 @@ member c =
 left : (c : tie.After-wide-octet Inv-loop μ-loop) → let a = start-of c .args in loop-of c .loop .k < length (take (a .n) (a .t4))
 left c = omega (arith, loop-of c .loop .inv .2, c .before .loop-test .taken)
 
-small : (c : tie.After-wide-octet Inv-loop μ-loop) → c .wide-octet .result < 8
+small : (c : tie.After-wide-octet Inv-loop μ-loop) → c .wide-octet .result < transactionCount
 small c =
     let start = start-of c in
     omega (arith, member c, small-at (take (start .args .n) (start .args .t4)) (loop-of c .loop .k) (start .pre .1) (left c))

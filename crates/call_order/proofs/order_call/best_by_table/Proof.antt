@@ -7,6 +7,7 @@ use lib.Dec.{leb}
 use lib.ListN.{length, length-map}
 use native.Mathlib.Omega.{arith}
 use Prim.Native.Nat.{ℕ, _≤_}
+use Rattle.limits.specs.Limits.{transactionCount}
 use Rattle.state.specs.Outcomes.{said}
 use Rattle.admission.proofs.Laws.{first-zero}
 use Rattle.spec_orders.specs.Orders.{factorial, allIn}
@@ -22,7 +23,7 @@ use Rattle.call_order.proofs.order_call.best_by_table.Tie as tie
 listed : (c : tie.Start) → let a = c .args in ListIn (a .state .now) (a .list .now) (a .minute) (a .budget)
 listed c = list-in (c .args .state .now) (c .args .list .now) (c .args .minute) (c .args .budget) (c .pre .2)
 
-few : (c : tie.Start) → length (c .args .list .now) ≤ 8
+few : (c : tie.Start) → length (c .args .list .now) ≤ transactionCount
 few c = few-listed (c .args .list .now) (listed c .list)
 
 octets-of-requires : tie.Need-octets-of-requires

@@ -6,6 +6,7 @@ use lib.ListN.{length, getD, take, drop}
 use lib.Seq.{length-take-le, getD-take}
 use native.Mathlib.Omega.{arith}
 use Prim.Native.Nat.{ℕ, _+_, _-_, _≤_, _<_}
+use Rattle.limits.specs.Limits.{transactionCount}
 use Rattle.buffers.specs.Marks.{contains}
 use Rattle.admission.proofs.Laws.{failed, test-held}
 use Rattle.call_order.specs.OrderStatements.{Short, passAll}
@@ -39,7 +40,7 @@ member c =
     let a = loop-of c .before .args in
     c .wide-octet .ensures .0 ∙ sym (getD-take (a .n) (a .t3) (loop-of c .loop .k) 0 (omega arith))
 
-small : (c : tie.After-wide-octet Inv-loop μ-loop) → c .wide-octet .result < 8
+small : (c : tie.After-wide-octet Inv-loop μ-loop) → c .wide-octet .result < transactionCount
 small c =
     let start = loop-of c .before in
     let l = loop-of c .loop in

@@ -5,6 +5,7 @@ use borrow.Author.Needs.{needs}
 use lib.ListN.{length, length-set}
 use native.Mathlib.Omega.{arith}
 use Prim.Native.Nat.{ℕ, _-_, _≤_, _<_}
+use Rattle.limits.specs.Limits.{transactionCount}
 use Rattle.state.specs.Layout.{transactionOf}
 use Rattle.spec.specs.Promises.{machineOf}
 use Rattle.commit_apply.specs.Apply.{CanLandIn}
@@ -39,7 +40,7 @@ lands c =
     subst (λ (t : ℕ). CanLandIn state t (transactionOf state t .used .records)) (sym (c .wide-octet .ensures .0))
     (start-of c .pre .0 (loop-of c .loop .k) (omega arith))
 
-small : (c : tie.After-wide-octet Inv-loop μ-loop) → c .wide-octet .result < 8
+small : (c : tie.After-wide-octet Inv-loop μ-loop) → c .wide-octet .result < transactionCount
 small c = lands c .small
 
 loop-again : tie.Need-loop-again Inv-loop μ-loop

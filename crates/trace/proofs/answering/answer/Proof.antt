@@ -14,21 +14,21 @@ returns c = refused-line _ _ (c .before .before .parse-line .ensures) (c .enum-t
 
 sub-perform : tie.Need-sub-perform
 sub-perform c =
-    let told = c .before .before .before .before .before .before in
-    omega (arith, starts-within _ _ (told .before .before .parse-line .ensures) _ _ (told .p .given .1))
+    let matched = c .before .before .before .before .before .before in
+    omega (arith, starts-within _ _ (matched .before .before .parse-line .ensures) _ _ (matched .p .given .1))
 
 part-perform-start : tie.Need-part-perform-start
 part-perform-start c =
-    let told = c .before .before .before .before .before .before in
-    omega (arith, starts-within _ _ (told .before .before .parse-line .ensures) _ _ (told .p .given .1))
+    let matched = c .before .before .before .before .before .before in
+    omega (arith, starts-within _ _ (matched .before .before .parse-line .ensures) _ _ (matched .p .given .1))
 
 returns-2 : tie.Need-returns-2
 returns-2 c =
     let performed = c .before .before in
-    let told = performed .before .before .before .before .before .before .before .before .before in
-    let parsed = told .before .before in
+    let matched = performed .before .before .before .before .before .before .before .before .before in
+    let parsed = matched .before .before in
     let line = parsed .before .before .before .args .line .now in
-    asked-line line _ (parsed .parse-line .ensures) _ _ (told .p .given .1) _ _ _ _ _ (performed .perform .ensures .0)
+    asked-line line _ (parsed .parse-line .ensures) _ _ (matched .p .given .1) _ _ _ _ _ (performed .perform .ensures .0)
 
 pub answer-spec : {M : Type 1} → statement M
 answer-spec =

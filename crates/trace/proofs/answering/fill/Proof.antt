@@ -68,18 +68,18 @@ step-requires c κs =
 
 loop-less : tie.Need-loop-less Inv-loop μ-loop
 loop-less c =
-    let stepped = c .before .before .before .before .before .before in
-    let tested = stepped .before .before .before .before .before .before .before .before .before in
+    let after-step = c .before .before .before .before .before .before in
+    let tested = after-step .before .before .before .before .before .before .before .before .before in
     let within = tested .before .before .if1 .taken in
-    omega (arith, within, stepped .step .ensures .1 .past within)
+    omega (arith, within, after-step .step .ensures .1 .past within)
 
 loop-again : tie.Need-loop-again Inv-loop μ-loop
 loop-again c =
-    let stepped = c .before .before .before .before .before .before in
-    let tested = stepped .before .before .before .before .before .before .before .before .before in
+    let after-step = c .before .before .before .before .before .before in
+    let tested = after-step .before .before .before .before .before .before .before .before .before in
     let i = tested .before .before .before .before .loop .inv in
-    let s = stepped .step .ensures in
-    let k = stepped .step .kept in
+    let s = after-step .step .ensures in
+    let k = after-step .step .kept in
     let past = s .1 .past (tested .before .before .if1 .taken) in (
       s .1 .held,
       s .1 .inside,

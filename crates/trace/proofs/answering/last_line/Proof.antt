@@ -23,15 +23,15 @@ returns c =
 returns-2 : tie.Need-returns-2
 unfolding cut
 returns-2 c =
-    let told = c .before .before .before .before in
-    let again = told .before .before .before in
+    let answered = c .before .before .before .before in
+    let again = answered .before .before .before in
     let branch = again .before .before .before .before .before .before in
     let tested = branch .before in
     let cutting = tested .before in
     let start = cutting .before .before .before .before in
     let none = start .pre .0 .waiting in
     let yes = on (tested .is-line .result) (branch .if1 .left) in
-    let e = told .answer-line .ensures in (
+    let e = answered .answer-line .ensures in (
       last-line storeTrace _ _ _ _ (cutting .part .ensures) (tested .is-line .ensures) yes _ (take-none _ _ none) _
           (again .part2 .ensures) _ _ (e .0),
       (e .1 .0, e .1 .1 .0),

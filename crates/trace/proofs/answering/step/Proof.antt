@@ -18,14 +18,14 @@ next-line-requires c κs =
 
 returns : tie.Need-returns
 returns c =
-    let looked = c .before .before .before .before in
-    let start = looked .before .before .before .before .before .before in
+    let scanned = c .before .before .before .before in
+    let start = scanned .before .before .before .before .before .before in
     let piece = start .args .piece .now in
-    let went = looked .next-line .ensures .1 in
-    let no = off (looked .next-line .result .complete) (c .if1 .taken) in
+    let went = scanned .next-line .ensures .1 in
+    let no = off (scanned .next-line .result .complete) (c .if1 .taken) in
     let whole = went .whole no in
-    let past : length piece ≤ looked .next-line .result .at = omega (arith, whole) in (
-      pending-passes storeTrace _ _ _ _ _ _ _ (of-room storeTrace _ _ _ _ _ _ (start .pre .1 .1) (looked .next-line .ensures .0))
+    let past : length piece ≤ scanned .next-line .result .at = omega (arith, whole) in (
+      pending-passes storeTrace _ _ _ _ _ _ _ (of-room storeTrace _ _ _ _ _ _ (start .pre .1 .1) (scanned .next-line .ensures .0))
           no (drop-of-length-le piece past),
       record {
         held = omega (arith, went .within, start .pre .1 .1);
@@ -38,17 +38,17 @@ returns c =
 returns-2 : tie.Need-returns-2
 unfolding cut
 returns-2 c =
-    let told = c .before .before .before .before in
-    let cutting = told .before .before .before in
+    let answered = c .before .before .before .before in
+    let cutting = answered .before .before .before in
     let tested = cutting .before .before .before .before .before .before .before in
-    let looked = tested .before .before .before .before in
-    let start = looked .before .before .before .before .before .before in
+    let scanned = tested .before .before .before .before in
+    let start = scanned .before .before .before .before .before .before in
     let piece = start .args .piece .now in
-    let went = looked .next-line .ensures .1 in
-    let e = told .answer-line .ensures in
-    let yes = on (looked .next-line .result .complete) (tested .if1 .left) in
+    let went = scanned .next-line .ensures .1 in
+    let e = answered .answer-line .ensures in
+    let yes = on (scanned .next-line .result .complete) (tested .if1 .left) in
     let past = went .past yes in (
-      answer-passes storeTrace _ _ _ _ _ _ _ (of-room storeTrace _ _ _ _ _ _ (start .pre .1 .1) (looked .next-line .ensures .0))
+      answer-passes storeTrace _ _ _ _ _ _ _ (of-room storeTrace _ _ _ _ _ _ (start .pre .1 .1) (scanned .next-line .ensures .0))
           yes _ (cutting .part .ensures) _ _ (e .0) _ _
           (take-none _ _ (e .1 .1 .0)) (ap (λ (n : ℕ). drop n piece) (e .1 .1 .1)),
       record {

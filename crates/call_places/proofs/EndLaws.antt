@@ -16,7 +16,7 @@ use Rattle.spec.specs.Places.{Interval, interval, intervalEnd, inInterval, list
 use Rattle.spec.proofs.Places.IntervalLaws.{intervals-same}
 use Rattle.spec.proofs.Places.PlacesLaws.{lists-its-places, is-proper, the-one-list}
 
--- ---- a interval at the end of a list
+-- ---- an interval at the end of a list
 
 pub in-below : (s : Interval) (q : ℕ) → inInterval s q ≡ true → q < intervalEnd s
 unfolding inInterval

@@ -25,7 +25,7 @@ abbrev pub list-rest : (ℕ → Bool) → ℕ → List listing.Interval
 list-rest S p = intervalsFrom S p (4096 - p)
 
 module _ (S : ℕ → Bool) (p : ℕ) (s : PlaceInterval) (next : NextOf S p s) where
-  -- a interval of length 0 lies at the end of the file
+  -- an interval of length 0 lies at the end of the file
   next-end : s .length ≡ 0 → s .offset ≡ fileBytes
   next-end z = pick (next .before) (next .whole)
     where
@@ -153,7 +153,7 @@ length-sixteen : (n : ℕ) → length (sixteen n) ≡ 2
 unfolding sixteen
 length-sixteen n = refl
 
--- The pair of a interval.
+-- The pair of an interval.
 abbrev pub pair : PlaceInterval → List ℕ
 pair s = sixteen (s .offset) ++ sixteen (s .length)
 

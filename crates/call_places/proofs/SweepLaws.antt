@@ -25,7 +25,7 @@ use Rattle.call_places.proofs.EndLaws.{in-below, over-in, in-none, end-
 
 -- ---- what a pass has met
 
--- One list is another, or has a interval more.
+-- One list is another, or has an interval more.
 abbrev pub Over : List Interval → List Interval → Type 0
 Over m l = (m ≡ l) ⊎ ((s : Interval) × (m ≡ l ++ (s ∷ [])))
 

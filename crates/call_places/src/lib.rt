@@ -149,7 +149,7 @@ fn put_number(out: &mut [u8], at: usize, n: usize)
     out[at + 1] = (n % 256) as u8;
 }
 
-// A interval as the pair of its offset and its length.
+// An interval as the pair of its offset and its length.
 fn put_pair(out: &mut [u8], at: usize, s: PlaceInterval)
     requires { ⌜ (at + 4 ≤ length (now out)) × (s .offset < 65536) × (s .length < 65536) ⌝ }
     ensures { λ _. ⌜ now (out .exit)

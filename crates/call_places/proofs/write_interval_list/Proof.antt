@@ -63,7 +63,7 @@ returns c =
     ∙ ap (λ (m : List Listed). withPairs m (s .args .out .now))
     (listing-all (covering s) (l .p) (l .inv .2) (l .inv .4) (n .result) (n .ensures) (c .if1 .taken))
 
--- The list has a interval more than those written.
+-- The list has an interval more than those written.
 room : (c : tie.Else1 Inv-loop μ-loop) → let found = c .before .before in
     4 * length (loop-of found .loop .inv .2) + 4 ≤ 4 * length (intervalsOf (covering (start-of found)))
 room c =

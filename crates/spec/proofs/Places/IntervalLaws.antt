@@ -12,7 +12,7 @@ use borrow.Author.Tests.{lt-ltb, le-ltb, le-leb, lt-leb, eq-eqb, ne-eqb, eqb-tru
 use Rattle.buffers.proofs.PartLaws.{le-or-lt}
 use Rattle.spec.specs.Places.{Interval, interval, intervalEnd, inInterval, listed, ProperFrom, withPlace, intervalsFrom}
 
--- ---- which places lie in a interval
+-- ---- which places lie in an interval
 
 module _ (s : Interval) (p : ℕ) where
   in-it : s .offset ≤ p → p < intervalEnd s → inInterval s p ≡ true

@@ -12,7 +12,7 @@ returns c =
     let a = c .before .before .before .args in
     last-none (a .s) (a .out .now) (c .if1 .taken)
 
--- A interval was met.
+-- An interval was met.
 abbrev start-of : tie.Else1 → tie.Start
 start-of c = c .before .before .before
 

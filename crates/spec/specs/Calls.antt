@@ -282,7 +282,7 @@ askedOf minute m =
 unfoldable pub orderTurn : List ℕ → ℕ → ℕ → Machine → Turn
 orderTurn ts minute budget m = record { reply = orderReply (askedOf minute m) ts minute budget; after = m }
 
--- The calls of 01's lists, and those of F-1, F-11, F-13 and F-14.
+-- The calls of Serializability's lists, with those of F-1, F-11, F-13 and F-14.
 unfoldable pub call : Call → Machine → Turn
 call (begin t) m =
     passing (admissionOfBegin (sizes m) (m .store) (m .journal) t) [] m (beginTurn t m)

@@ -52,8 +52,7 @@ pub fn say_no_block(path: &[u8]) {
 // Reports how the program is used.
 pub fn say_use() {
     say(b"replay [BLOCK] <log >answers\n");
-    say(
-        b"It performs the calls of a log, a line each, on a fresh store or on a saved block, and prints a line for each.\n",
-    );
+    say(b"It performs the calls of a log, a line each, on a fresh store or on a saved block, and");
+    say(b" prints a line for each.\n");
     say(b"docs/CALLLOG.md has the lines.\n");
 }

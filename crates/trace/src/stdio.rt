@@ -25,7 +25,6 @@ pub fn say_use() {
     say(
         b"  P0 3 GetFilePointer, S0 3 17 Seek, R0 3 5 Read, W0 3 text Write; 3 is the descriptor\n",
     );
-    say(
-        b"Descriptor d is in file d mod 8. The answer is ok, with what was asked for, or a refusal's number.\n",
-    );
+    say(b"Descriptor d is in file d mod 8. The answer is ok, with what was asked for,");
+    say(b" or a refusal's number.\n");
 }

@@ -190,7 +190,7 @@ pub fn fill(
 }
 
 // Answers the line that the end of the input ends, if there is one.
-pub fn last_line(
+pub fn answer_last_line(
     progress: TraceProgress,
     state: &mut State,
     files: &mut Buffer,

@@ -5,8 +5,8 @@ mod answering;
 mod stdio;
 
 use answering::TraceProgress;
+use answering::answer_last_line;
 use answering::fill;
-use answering::last_line;
 use buffers::parts::part;
 use limits::BUFFER_BYTES;
 use limits::UNDO_BYTES;
@@ -144,7 +144,7 @@ fn turn(
         return d;
     }
     if got == 0 {
-        let d = last_line(progress, state, files, logs, marks, undo, line, reader, out);
+        let d = answer_last_line(progress, state, files, logs, marks, undo, line, reader, out);
         progress = flush(d, out);
         progress.complete = progress.goes;
         progress.goes = false;

@@ -22,7 +22,7 @@ returns-2 c =
     let start = tested .before .before .before .before .before .before .before .before .before .before in
     let wrote = c .flush .ensures in
     let line = start .pre .0 .held in
-    let last = ending .last-line .ensures in (
+    let last = ending .answer-last-line .ensures in (
       record { held = omega (arith, wrote .1 .0, last .1 .1, line); waiting = wrote .0 },
       λ e. absurd (false≢true e),
       λ e. (_, last .0),

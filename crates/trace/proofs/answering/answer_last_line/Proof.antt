@@ -1,12 +1,12 @@
--- `last_line` meets its contract. Assumes nothing.
+-- `answer_last_line` meets its contract. Assumes nothing.
 use mathlib.Core.Path.{refl}
 use native.Mathlib.Omega.{arith}
 use borrow.Author.Needs.{needs}
 use Rattle.buffers.specs.Parts.{cut}
 use Rattle.text_lines.proofs.Passing.{off, on, take-none, no-last-line, last-line}
 use Rattle.trace.specs.Transcript.{storeTrace}
-use Rattle.trace.proofs.answering.last_line.Statement.{statement}
-use Rattle.trace.proofs.answering.last_line.Tie as tie
+use Rattle.trace.proofs.answering.answer_last_line.Statement.{statement}
+use Rattle.trace.proofs.answering.answer_last_line.Tie as tie
 
 returns : tie.Need-returns
 unfolding cut
@@ -37,8 +37,8 @@ returns-2 c =
       (e .1 .0, e .1 .1 .0),
     )
 
-pub last-line-spec : {M : Type 1} → statement M
-last-line-spec =
+pub answer-last-line-spec : {M : Type 1} → statement M
+answer-last-line-spec =
     tie.close
     (tie.spec
     (λ c κs. search needs)

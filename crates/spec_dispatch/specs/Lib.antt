@@ -2,6 +2,8 @@
 -- statements.
 pub mod Rounds
 pub mod Dispatch
+-- Demand 3 about the code.
+pub mod SerializabilityOfCode
 pub mod DispatchEdgeCases
 -- Values of which the predicates of Dispatch are false.
 pub mod DispatchCounterexamples

@@ -40,7 +40,7 @@ unfolding afterAll repliesTo
 replies-append [] ds p = refl
 replies-append (c ∷ cs) ds p = ap (λ (rs : List Reply). plainCall c p .reply ∷ rs) (replies-append cs ds (plainCall c p .after))
 
-after-append : (cs ds : List Call) (p : Plain) → plainAfter (cs ++ ds) p ≡ plainAfter ds (plainAfter cs p)
+pub after-append : (cs ds : List Call) (p : Plain) → plainAfter (cs ++ ds) p ≡ plainAfter ds (plainAfter cs p)
 unfolding afterAll
 after-append [] ds p = refl
 after-append (c ∷ cs) ds p = after-append cs ds (plainCall c p .after)

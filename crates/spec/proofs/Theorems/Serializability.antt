@@ -1,6 +1,6 @@
--- Serializability (demand 3): the rules on states and buffers, and the code that keeps its promises.
+-- Demand 3: the rules on records and buffers.
 use mathlib.Core.Bool.{Bool, true, false, cond, _&&_}
-use mathlib.Core.List.{List, [], _∷_, map}
+use mathlib.Core.List.{List, [], _∷_}
 use mathlib.Core.Logic.{_↔_}
 use mathlib.Core.Path.{_≡_, refl, sym, ap, ap₂, _∙_, subst, subst⁻¹}
 use borrow.Author.Tests.{le-leb}
@@ -18,7 +18,7 @@ use Rattle.admission.proofs.Laws.{admitted-fresh}
 use Rattle.spec.specs.Commits.{commitRefusal}
 use Rattle.spec.specs.Messages.{Call, begin, on, commit, abort, Reply, places, setWindow, undoCommit, bestOrder, afterAll}
 use Rattle.spec.specs.Messages.{repliesTo}
-use Rattle.spec.specs.Plain.{isRunning, Earlier, nothing, Slot, closed, running, Running, Plain, startPlain, freshPlain}
+use Rattle.spec.specs.Plain.{isRunning, Earlier, nothing, Slot, closed, running, Running, Plain, startPlain}
 use Rattle.spec.specs.Plain.{PlainTurn}
 use Rattle.spec.specs.Plain.{plainRefuse, plainAnswer, becameStale, plainCommitted, plainCommit, withNumber, plainCall}
 use Rattle.spec.specs.Plain.{plainAfter}
@@ -27,10 +27,8 @@ use Rattle.spec.specs.Items.{Values}
 use Rattle.spec.specs.Sightings.{Committed}
 use Rattle.spec.specs.Machine.{Machine, sizes}
 use Rattle.spec.specs.Calls.{Turn, answerWith, refuseTurn, passing, freshMachine, fresh, call, callsAfter, callsReplies}
-use Rattle.spec.specs.Promises.{Meets}
 use Rattle.spec.specs.Serializability.{IsAccepted, OneMoment, Holds}
-use Rattle.spec.specs.SerializabilityOfStore.{FreshlyMade, theStore, Serializability, CallMade, Linked, lastOf, madeReply}
-use Rattle.spec.specs.SerializabilityOfStore.{SerializabilityOfCode}
+use Rattle.spec.specs.SerializabilityOfStore.{FreshlyMade, theStore, Serializability}
 use Rattle.spec.proofs.Abstract.AbstractStore.{UndoSaved, Seat, vacant, held, none, Abstract, startAbstract, AbstractTurn}
 use Rattle.spec.proofs.Abstract.AbstractStore.{abstractCall, abstractAfter, abstractReplies}
 use Rattle.spec.proofs.Abstract.SameReplies.{backOf, abs, absTurn, seatOf}
@@ -214,49 +212,3 @@ pub serializability : Serializability
 serializability numbers m₀ made cs =
     let f = fresh-facts numbers m₀ made in
     holds-from (λ d. getD numbers d 0) (λ i. 0) freshWindows nothing tt m₀ (f .sound) (unfold backOf in f .same) cs
-
--- Calls of the code that keep their promises are calls of the rules.
-pub record LinkedFacts (m : Machine) (xs : List CallMade) : Type 0 where
-  pub replies : map madeReply xs ≡ callsReplies (map (λ x. x .made) xs) m
-  pub last : lastOf m xs ≡ callsAfter (map (λ x. x .made) xs) m
-
-reply-same : (w : Turn) (x : CallMade) → Meets w (x .outcome) (x .kept) (x .reader) → madeReply x ≡ w .reply
-unfolding madeReply
-reply-same w x k = λ i. record { answer = k .outcome i; buffer = k .reader i }
-
-linked-facts : (xs : List CallMade) (m : Machine) → Linked m xs → LinkedFacts m xs
-unfolding Linked lastOf afterAll repliesTo
-linked-facts [] m l = record { replies = refl; last = refl }
-linked-facts (x ∷ xs) m l =
-    let r = linked-facts xs (x .kept) (l .1) in
-    let e : x .kept ≡ call (x .made) m .after = l .0 .machine in
-    let cs = map (λ (y : CallMade). y .made) xs in
-    record {
-      replies =
-          ap₂ (λ (y : Reply) (ys : List Reply). y ∷ ys) (reply-same (call (x .made) m) x (l .0))
-          (r .replies ∙ ap (callsReplies cs) e);
-      last = r .last ∙ ap (callsAfter cs) e;
-    }
-
-pub serializability-of-code : SerializabilityOfCode
-serializability-of-code numbers before o m₀ k accepted xs linked =
-    let made : FreshlyMade numbers m₀ =
-    record {
-      before = before;
-      accepted = sym (k .outcome) ∙ accepted;
-      gave = k .machine;
-    } in
-    let cs = map (λ (x : CallMade). x .made) xs in
-    let l = linked-facts xs m₀ linked in
-    let h = serializability numbers m₀ made cs in
-    let p₀ : Plain = freshPlain (λ d. getD numbers d 0) in
-    let code : Holds theStore m₀ p₀ cs (lastOf m₀ xs) (plainAfter cs p₀) = subst⁻¹
-    (λ (m : Machine). Holds theStore m₀ p₀ cs m (plainAfter cs p₀)) (l .last) h in
-    record {
-      replies = l .replies ∙ h .replies;
-      holds = code;
-      moment = λ x t o made meets look accepted.
-          let e : madeReply x ≡ call (on t o) (lastOf m₀ xs) .reply = reply-same _ x meets
-          ∙ ap (λ (c : Call). call c (lastOf m₀ xs) .reply) made in
-          subst⁻¹ (OneMoment (plainAfter cs p₀) t o) e (code .moment t o look (subst IsAccepted e accepted));
-    }

@@ -1,11 +1,12 @@
 -- The granted transactions of a list of calls, and the list of calls that runs them again alone.
 use mathlib.Core.List.{List, [], _∷_, _++_, map}
+use mathlib.Core.Option.{Option·elim}
 use lib.ListN.{replicate}
 use Prim.Native.Nat.{ℕ}
 use Rattle.windows.specs.Windows.{freshWindows}
-use Rattle.state.specs.Outcomes.{Said, doneAnswer, pointer, given, granted, pairs, ordered, refused}
+use Rattle.state.specs.Outcomes.{Said, doneAnswer, granted}
 use Rattle.spec.specs.Messages.{Call, begin, on, commit, abort, places, setWindow, undoCommit}
-use Rattle.spec.specs.Messages.{bestOrder, Reply, says, isGrant}
+use Rattle.spec.specs.Messages.{bestOrder, Reply, says, refusalOf, isGrant}
 use Rattle.spec.specs.Plain.{Accepted, Slot, closed, running, Plain, plainWithWindows, plainCall}
 
 -- A granted transaction: its number, its Commit's minute, and "the accepted Seeks, Writes, GetFilePointers
@@ -41,17 +42,8 @@ unfoldable pub droppedFrom : Plain → List Grant → Serial
 droppedFrom p [] = record { start = plainCall undoCommit p .after; grants = [] }
 droppedFrom p (g ∷ gs) = record { start = p; grants = butLast (g ∷ gs) }
 
--- An undo that was accepted.
-unfoldable pub ifDone : Said → Serial → Serial → Serial
-ifDone doneAnswer a b = a
-ifDone (pointer o) a b = b
-ifDone (given n) a b = b
-ifDone (granted n) a b = b
-ifDone (pairs n) a b = b
-ifDone (ordered grants gap tried) a b = b
-ifDone (refused n) a b = b
-
--- With further grants at the end; after one more call, on machine p; and after a list of calls.
+-- With further grants at the end; after one more call, on machine p (an undo that is refused drops none); and
+-- after a list of calls.
 unfoldable pub adding : List Grant → Serial → Serial
 adding [] s = s
 adding (g ∷ gs) s = record { start = s .start; grants = s .grants ++ (g ∷ gs) }
@@ -64,8 +56,8 @@ serialBy (commit t minute) p s = adding
 serialBy (abort t) p s = s
 serialBy (places t f out) p s = s
 serialBy (setWindow f start end) p s = s
-serialBy undoCommit p s = ifDone (plainCall undoCommit p .reply .answer) (droppedFrom (s .start) (s .grants))
-    s
+serialBy undoCommit p s =
+    Option·elim (refusalOf (plainCall undoCommit p .reply .answer)) (droppedFrom (s .start) (s .grants)) (λ n. s)
 serialBy (bestOrder ts minute budget) p s = s
 
 unfoldable pub serialFrom : List Call → Plain → Serial → Serial

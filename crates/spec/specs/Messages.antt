@@ -1,5 +1,6 @@
 -- Calls and replies as data. Serializability speaks of lists of them.
 use mathlib.Core.List.{List, [], _∷_}
+use mathlib.Core.Option.{Option, none, some}
 use Prim.Native.Nat.{ℕ, _+_}
 use Rattle.state.specs.Outcomes.{Said, doneAnswer, pointer, given, granted, pairs, ordered, refused}
 
@@ -53,8 +54,18 @@ pub record Reply : Type 0 where
 abbrev pub says : Said → Reply
 says a = record { answer = a; buffer = [] }
 
--- What answers calls, S being what it holds: its reply to a call, and what it holds after it. The reference
--- model does, and so does the store.
+-- The number of a refusal, if an answer is one.
+unfoldable pub refusalOf : Said → Option ℕ
+refusalOf doneAnswer = none
+refusalOf (pointer o) = none
+refusalOf (given n) = none
+refusalOf (granted n) = none
+refusalOf (pairs n) = none
+refusalOf (ordered grants gap tried) = none
+refusalOf (refused n) = some n
+
+-- What answers calls, S being what it holds: its reply to a call, and what it holds after it. The plain
+-- machine does, and so does the store.
 pub record Answering (S : Type 0) : Type 0 where
   pub reply : Call → S → Reply
   pub next : Call → S → S

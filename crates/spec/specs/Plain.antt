@@ -162,19 +162,16 @@ committing fileOf n x c =
 unfoldable pub grant : ℕ → Running → Plain → Plain
 grant t r p = withSlot t closed (withGrant (committing (p .fileOf) (p .grants + 1) (r .txn) (p .committed)) p)
 
--- Open with equal lists, and open with lists that differ.
-unfoldable pub equalSlot : Plain → Slot → Bool
-equalSlot p closed = false
-equalSlot p (running r) = sameEntries (firstList r) (secondList p r)
-
+-- Open with lists that differ.
 unfoldable pub staleSlot : Plain → Slot → Bool
 staleSlot p closed = false
 staleSlot p (running r) = isStale p r
 
 -- Whether u is one of those that a Commit of t which takes the machine from p to q made stale: "the other
--- open ones whose two lists were equal before that commit and aren't after it" [R-18.5].
+-- open ones whose two lists were equal before that commit and aren't after it" [R-18.5]. (A Commit opens
+-- none.)
 unfoldable pub becameStale : ℕ → Plain → Plain → ℕ → Bool
-becameStale t p q u = not (eqb u t) && equalSlot p (p .slots u) && staleSlot q (q .slots u)
+becameStale t p q u = not (eqb u t) && not (staleSlot p (p .slots u)) && staleSlot q (q .slots u)
 
 -- "Abort and a Commit refused with 13 end it and set nothing." [R-17.4]
 unfoldable pub plainCommitted : ℕ → Running → Plain → ℕ → PlainTurn

@@ -12,7 +12,6 @@ use Rattle.limits.specs.Limits.{recordCount, logBytes, mostOrders}
 use Rattle.windows.specs.Windows.{minuteIn}
 use Rattle.standings.specs.Table.{advance, placeNumber, writePlace, pointerSettles}
 use Rattle.state.specs.StoreMeaning.{transaction, windowAt}
-use Rattle.state.specs.Outcomes.{Said, doneAnswer, pointer, given, granted, pairs, ordered, refused}
 use Rattle.admission.specs.FirstRefusal.{below}
 use Rattle.admission.specs.Admission.{storeIn, sizesIn, noneBegun}
 use Rattle.spec_orders.specs.Orders.{allIn, isList}
@@ -40,16 +39,6 @@ test n passes = record { number = n; passes = passes }
 unfoldable pub firstFailing : List Test → Option ℕ
 firstFailing [] = none
 firstFailing (x ∷ xs) = cond (x .passes) (firstFailing xs) (some (x .number))
-
--- The number of a refusal, if an answer is one.
-unfoldable pub refusalGiven : Said → Option ℕ
-refusalGiven doneAnswer = none
-refusalGiven (pointer o) = none
-refusalGiven (given n) = none
-refusalGiven (granted n) = none
-refusalGiven (pairs n) = none
-refusalGiven (ordered grants gap tried) = none
-refusalGiven (refused n) = some n
 
 -- 1: "a store buffer .. has another length" [R-16.1]. 2: "the store record breaks a range" [R-16.1]. Then the
 -- later ones.

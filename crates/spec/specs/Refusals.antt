@@ -13,11 +13,11 @@ use Rattle.state.specs.Outcomes.{number, refused, said}
 use Rattle.spec_orders.specs.Orders.{isIn}
 use Rattle.spec.specs.Messages.{seek, write, getFilePointer, read, Call, begin, on, commit, abort}
 use Rattle.spec.specs.Messages.{places, setWindow, undoCommit}
-use Rattle.spec.specs.Messages.{bestOrder, bufferOfCall}
+use Rattle.spec.specs.Messages.{bestOrder, bufferOfCall, refusalOf}
 use Rattle.spec.specs.Machine.{Machine}
 use Rattle.spec.specs.Calls.{fresh, call}
 use Rattle.spec.specs.Promises.{Meets}
-use Rattle.spec.specs.RefusalOrder.{firstFailing, refusalGiven, testsOf, freshTests}
+use Rattle.spec.specs.RefusalOrder.{firstFailing, testsOf, freshTests}
 
 -- The refusals of each call, in the order of its tests. (The dispatcher's are
 -- spec_dispatch/specs/Dispatch.antt.)
@@ -41,8 +41,8 @@ refusalsOfFresh = 1 ∷ 14 ∷ []
 pub record RefusalsOn (m : Machine) : Type 0 where
   -- "each under its written condition only" [R-18.1]: a call is refused with the number of the first of its
   -- tests that fails, and is not refused where all pass.
-  pub first : (c : Call) → refusalGiven (call c m .reply .answer) ≡ firstFailing (testsOf c m)
-  pub freshFirst : (numbers : List ℕ) → refusalGiven (fresh numbers m .reply .answer)
+  pub first : (c : Call) → refusalOf (call c m .reply .answer) ≡ firstFailing (testsOf c m)
+  pub freshFirst : (numbers : List ℕ) → refusalOf (fresh numbers m .reply .answer)
       ≡ firstFailing (freshTests numbers m)
   -- The numbers of the tests are the call's row, in order, and no others.
   pub rows : (c : Call) → map (λ x. x .number) (testsOf c m) ≡ refusalsOf c
@@ -79,10 +79,10 @@ pub record RefusalsOfCode : Type 0 where
   -- Of every call, refused or not.
   pub first :
       (c : Call) (m : Machine) (o : Outcome) (after : Machine) (reader : List ℕ)
-      → Meets (call c m) o after reader → refusalGiven (said o) ≡ firstFailing (testsOf c m)
+      → Meets (call c m) o after reader → refusalOf (said o) ≡ firstFailing (testsOf c m)
   pub freshFirst :
       (numbers : List ℕ) (m : Machine) (o : Outcome) (after : Machine)
-      → Meets (fresh numbers m) o after [] → refusalGiven (said o) ≡ firstFailing (freshTests numbers m)
+      → Meets (fresh numbers m) o after [] → refusalOf (said o) ≡ firstFailing (freshTests numbers m)
   pub calls :
       (c : Call) (m : Machine) (o : Outcome) (after : Machine) (reader : List ℕ) (n : ℕ)
       → Meets (call c m) o after reader → said o ≡ refused n → RefusedByCode c m n after reader

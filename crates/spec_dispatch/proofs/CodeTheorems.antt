@@ -121,9 +121,10 @@ serializability-of-code numbers before o m₀ k accepted cs m linked =
           ∙ ap (λ (f : Call → List Call → Reply). f (x .made) cs) (store-plain m₀ p₀ twins);
       dispatch =
           λ y kept.
-          let too = plain-too (y .bytes) (y .minute) (y .scripts) m (plainAfter cs p₀) (y .reader) now (holds .openness) in
-          (gives-plain m (plainAfter cs p₀) y kept too,
-          plain-left m (plainAfter cs p₀) y kept too ∙ sym (after-append cs (dispatchCalls y m) p₀));
+          let too = plain-too (y .bytes) (y .minute) (y .scripts) m (plainAfter cs p₀) (y .reader) now (holds .openness) in (
+            gives-plain m (plainAfter cs p₀) y kept too,
+            plain-left m (plainAfter cs p₀) y kept too ∙ sym (after-append cs (dispatchCalls y m) p₀),
+          );
     }
   where
     p₀ : Plain

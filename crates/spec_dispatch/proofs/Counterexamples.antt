@@ -8,6 +8,7 @@ use Prim.Native.Nat.{ℕ, _≤_, _<_}
 use Rattle.buffers.specs.Parts as Parts
 use Rattle.spec.specs.Messages.{Op, seek, write, getFilePointer, read}
 use Rattle.spec.specs.Grants.{Grant}
+use Rattle.spec.specs.Messages as Messages
 use Rattle.spec_dispatch.specs.Rounds as Rounds
 use Rattle.spec_dispatch.specs.Dispatch.{IsDispatchRefusal, EndsScript, AnsweredInRounds}
 use Rattle.spec_dispatch.specs.Dispatch.{withoutBuffer, IsScript, EveryScript, more, timesIn, timesOf}
@@ -49,7 +50,7 @@ not-answered n (inr e) (inr (inl h)) = omega (arith, e, h)
 not-answered n (inr e) (inr (inr h)) = no-other-end n (inr (inl (omega (arith, e), omega (arith, e)))) h
 
 pub refusals-tell : RefusalsTell
-unfolding AnsweredInRounds Rounds.refusalIn
+unfolding AnsweredInRounds Rounds.refusalIn Messages.refusalOf
 refusals-tell =
     record {
       ofDispatch = no-other-refusal;

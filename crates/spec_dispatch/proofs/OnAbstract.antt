@@ -11,7 +11,7 @@ use Rattle.limits.specs.Limits.{lastTransaction, scriptCount, lastScript}
 use Rattle.state.specs.Outcomes.{Said, doneAnswer, pointer, given, granted, pairs, ordered, refused}
 use Rattle.spec.specs.Items.{Item, result, asked}
 use Rattle.spec.specs.Transactions.{put}
-use Rattle.spec.specs.Messages.{Op, bufferOf, Call, begin, on, commit, abort, Reply}
+use Rattle.spec.specs.Messages.{Op, bufferOf, Call, begin, on, commit, abort, Reply, refusalOf}
 use Rattle.spec.specs.Steps.{Stepped, refuse, accept, step}
 use Rattle.spec.specs.Commits.{Setting, commitRefusal}
 use Rattle.spec.proofs.Abstract.Rerun.{put-same}
@@ -30,7 +30,7 @@ use Rattle.spec_dispatch.proofs.Phases.{Quiet, begins-it, calls-it, abo
 
 -- An answer is no refusal.
 pub answer-none : (a : Said) → IsAnswer a → refusalIn a ≡ 0
-unfolding refusalIn
+unfolding refusalIn refusalOf
 answer-none doneAnswer h = refl
 answer-none (pointer o) h = refl
 answer-none (given n) h = refl
@@ -62,7 +62,7 @@ module _ (t : ℕ) (s : Abstract) where
 
   served-step : (o : Op) (h : UndoSaved) (is : List Item) (z : Stepped) → Right z
       → Served (h .stale) (abstractStepped t o h is s z)
-  unfolding abstractStepped turnedAway refusalIn withSeat
+  unfolding abstractStepped turnedAway refusalIn refusalOf withSeat
   served-step o h is (refuse n) r = inl (λ e. omega (arith, r .0, e), refl)
   served-step o h is (accept y a buffer) r = inr (answer-none a r, _, put-same t _ (s .seats), refl)
 
@@ -77,7 +77,7 @@ module _ (t : ℕ) (s : Abstract) where
     -- One that is not stale is refused with 6 to 12 only.
     step-refused : (o : Op) (h : UndoSaved) (is : List Item) (n : ℕ) (z : Stepped) → Plainly z
         → refusalIn (abstractStepped t o h is s z .reply .answer) ≡ suc n → OfStep (suc n)
-    unfolding abstractStepped turnedAway refusalIn
+    unfolding abstractStepped turnedAway refusalIn refusalOf
     step-refused o h is n (refuse k) r e = subst OfStep e r
     step-refused o h is n (accept y a buffer) r e = absurd (omega (arith, e, answer-none a r))
 
@@ -94,13 +94,13 @@ module _ (t : ℕ) (s : Abstract) where
         ∙ g)
 
     begin-plain : s .seats t ≡ vacant → refusalIn (abstractCall (begin t) s .reply .answer) ≡ 0
-    unfolding abstractCall seated abstractBegin telling refusalIn
+    unfolding abstractCall seated abstractBegin telling refusalIn refusalOf
     begin-plain e =
         ap (λ (τ : AbstractTurn). refusalIn (τ .reply .answer))
         (ap₂ (λ (b : Bool) (z : Seat). cond b (abstractBegin t z s) (turnedAway 3 [] s)) small e)
 
     abort-plain : (h : UndoSaved) → s .seats t ≡ held h → refusalIn (abstractCall (abort t) s .reply .answer) ≡ 0
-    unfolding abstractCall seated abstractAbort telling refusalIn
+    unfolding abstractCall seated abstractAbort telling refusalIn refusalOf
     abort-plain h e =
         ap (λ (τ : AbstractTurn). refusalIn (τ .reply .answer))
         (ap₂ (λ (b : Bool) (z : Seat). cond b (abstractAbort t z s) (turnedAway 3 [] s)) small e)
@@ -139,7 +139,7 @@ module _ (t : ℕ) (s : Abstract) where
   committed-ends : (h : UndoSaved) (r : ℕ)
       → (refusalIn (abstractCommitted t h s r .reply .answer) ≡ 0) ⊎ (refusalIn (abstractCommitted t h s r .reply .answer) ≡ 13)
       → abstractCommitted t h s r .after .seats t ≡ vacant
-  unfolding abstractCommitted granting touch refusalIn withSeat
+  unfolding abstractCommitted granting touch refusalIn refusalOf withSeat
   committed-ends h zero e = ap (touch _) (put-same t vacant (s .seats))
   committed-ends h (suc n) (inl e) = absurd (omega (arith, e))
   committed-ends h (suc n) (inr e) =
@@ -147,7 +147,7 @@ module _ (t : ℕ) (s : Abstract) where
 
   committed-left : (h : UndoSaved) (r n : ℕ) → refusalIn (abstractCommitted t h s r .reply .answer) ≡ suc n → (suc n ≡ 13 → ⊥)
       → abstractCommitted t h s r .after ≡ s
-  unfolding abstractCommitted granting refusalIn
+  unfolding abstractCommitted granting refusalIn refusalOf
   committed-left h zero n e g = absurd (omega (arith, e))
   committed-left h (suc k) n e g = pick (eqb (suc k) 13) refl
     where
@@ -158,7 +158,7 @@ module _ (t : ℕ) (s : Abstract) where
   -- One that is not stale is not refused with 13.
   committed-first : (h : UndoSaved) (daily shut placed : Bool)
       → refusalIn (abstractCommitted t h s (commitRefusal daily false shut placed) .reply .answer) ≡ 13 → ⊥
-  unfolding abstractCommitted granting refusalIn commitRefusal
+  unfolding abstractCommitted granting refusalIn refusalOf commitRefusal
   committed-first h false shut placed e = omega (arith, e)
   committed-first h true true placed e = omega (arith, e)
   committed-first h true false true e = omega (arith, e)
@@ -168,7 +168,7 @@ module _ (t : ℕ) (s : Abstract) where
   committed-refused : (h : UndoSaved) (daily stale shut placed : Bool) (n : ℕ)
       → refusalIn (abstractCommitted t h s (commitRefusal daily stale shut placed) .reply .answer) ≡ suc n → (suc n ≡ 13 → ⊥)
       → EndsScript (suc n)
-  unfolding abstractCommitted granting refusalIn commitRefusal
+  unfolding abstractCommitted granting refusalIn refusalOf commitRefusal
   committed-refused h false stale shut placed n e g = inr (inr (sym e))
   committed-refused h true true shut placed n e g = absurd (g (sym e))
   committed-refused h true false true placed n e g = inr (inl (sym e))

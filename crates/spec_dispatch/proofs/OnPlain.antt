@@ -14,7 +14,7 @@ use Rattle.buffers.proofs.PartLaws.{le-or-lt}
 use Rattle.windows.specs.Windows.{freshWindows}
 use Rattle.state.specs.Outcomes.{Said, doneAnswer, pointer, given, granted, pairs, ordered, refused}
 use Rattle.spec.specs.Transactions.{put}
-use Rattle.spec.specs.Messages.{Op, bufferOf, Call, begin, on, commit, abort, Reply, isGrant, afterAll}
+use Rattle.spec.specs.Messages.{Op, bufferOf, Call, begin, on, commit, abort, Reply, isGrant, afterAll, refusalOf}
 use Rattle.spec.specs.Steps.{Stepped, refuse, accept}
 use Rattle.spec.specs.Sightings.{Entry}
 use Rattle.spec.specs.Plain.{Accepted, Running, Slot, closed, running, Plain, plainWithWindows, isStale, PlainTurn, plainRefuse}
@@ -52,7 +52,7 @@ serial-one cs c p = serial-from-one cs c p _
 
 -- A refusal is no grant.
 no-grant : (a : Said) (n : ℕ) → refusalIn a ≡ suc n → isGrant a ≡ 0
-unfolding isGrant refusalIn
+unfolding isGrant refusalIn refusalOf
 no-grant doneAnswer n e = refl
 no-grant (pointer o) n e = refl
 no-grant (given m) n e = refl
@@ -70,7 +70,7 @@ module _ (t : ℕ) (p : Plain) where
       × (reply : Reply) × (r .calls ≡ calls ++ (record { op = o; reply = reply } ∷ [])))
 
   served-step : (o : Op) (r : Running) (es : List Entry) (z : Stepped) → Right z → Served o (r .calls) (plainStepped t o r es p z)
-  unfolding plainStepped plainRefuse refusalIn withSlot
+  unfolding plainStepped plainRefuse refusalIn refusalOf withSlot
   served-step o r es (refuse n) h = inl (λ e. omega (arith, h .0, e), refl)
   served-step o r es (accept y a buffer) h = inr (answer-none a h, _, put-same t _ (p .slots), _, refl)
 
@@ -108,7 +108,7 @@ module _ (t : ℕ) (p : Plain) where
   committed-ends : (r : Running) (n : ℕ)
       → (refusalIn (plainCommitted t r p n .reply .answer) ≡ 0) ⊎ (refusalIn (plainCommitted t r p n .reply .answer) ≡ 13)
       → plainCommitted t r p n .after .slots t ≡ closed
-  unfolding plainCommitted plainAnswer grant refusalIn withSlot
+  unfolding plainCommitted plainAnswer grant refusalIn refusalOf withSlot
   committed-ends r zero e = put-same t closed (p .slots)
   committed-ends r (suc n) (inl e) = absurd (omega (arith, e))
   committed-ends r (suc n) (inr e) =
@@ -116,7 +116,7 @@ module _ (t : ℕ) (p : Plain) where
 
   committed-left : (r : Running) (n m : ℕ) → refusalIn (plainCommitted t r p n .reply .answer) ≡ suc m → (suc m ≡ 13 → ⊥)
       → plainCommitted t r p n .after ≡ p
-  unfolding plainCommitted plainAnswer refusalIn
+  unfolding plainCommitted plainAnswer refusalIn refusalOf
   committed-left r zero m e g = absurd (omega (arith, e))
   committed-left r (suc n) m e g = pick (eqb (suc n) 13) refl
     where
@@ -129,7 +129,7 @@ module _ (t : ℕ) (p : Plain) where
     if-granted : (r : Running) (n : ℕ) → refusalIn (plainCommitted t r p n .reply .answer) ≡ 0
         → grantedBy t minute (plainCommitted t r p n .reply .answer) (running r)
         ≡ record { txnNumber = t; minute = minute; calls = r .calls } ∷ []
-    unfolding plainCommitted plainAnswer refusalIn grantedBy isGrant
+    unfolding plainCommitted plainAnswer refusalIn refusalOf grantedBy isGrant
     if-granted r zero e = refl
     if-granted r (suc n) e = absurd (omega (arith, e))
 

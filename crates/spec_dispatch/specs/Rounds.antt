@@ -1,14 +1,16 @@
 -- Request F-10, "Rounds until each script is done" [R-13.1]: what the dispatcher does, made of calls alone.
 use mathlib.Core.Bool.{Bool, true, false, cond, _&&_}
 use mathlib.Core.List.{List, [], _∷_, _++_}
+use mathlib.Core.Option.{Option·getD}
 use lib.Dec.{leb, ltb, eqb}
 use Prim.Native.Nat.{ℕ, zero, suc, _+_}
 use Rattle.limits.specs.Limits.{scriptCount, scriptCalls}
 use Rattle.buffers.specs.Parts.{cut}
 use Rattle.state.specs.declared.outcomes.Refusal.the-variants.{Stale}
-use Rattle.state.specs.Outcomes.{number, Said, doneAnswer, pointer, given, granted, pairs, ordered, refused}
+use Rattle.state.specs.Outcomes.{number, Said}
 use Rattle.admission.specs.FirstRefusal.{below}
 use Rattle.spec.specs.Messages.{Op, seek, write, getFilePointer, read, Call, begin, on, commit, abort, Reply}
+use Rattle.spec.specs.Messages.{refusalOf}
 use Rattle.spec.specs.Transactions.{put}
 
 -- ---- scripts
@@ -84,13 +86,7 @@ withCall c w = record { ends = w .ends; reader = w .reader; commits = w .commits
 
 -- The refusal of a reply; 0 stands for none.
 unfoldable pub refusalIn : Said → ℕ
-refusalIn doneAnswer = 0
-refusalIn (pointer o) = 0
-refusalIn (given n) = 0
-refusalIn (granted n) = 0
-refusalIn (pairs n) = 0
-refusalIn (ordered grants gap tried) = 0
-refusalIn (refused n) = n
+refusalIn a = Option·getD (refusalOf a) 0
 
 -- "A refusal other than 13 ends a script as failed, aborting it if still open" [R-13.4]: at once, and it is
 -- open.

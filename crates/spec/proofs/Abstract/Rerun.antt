@@ -24,7 +24,7 @@ use Rattle.spec.specs.Plain.{Accepted, Running, justBegun, afterCall, Sl
 use Rattle.spec.specs.Plain.{secondList}
 use Rattle.spec.specs.Plain.{isStale, PlainTurn, plainRefuse, withSlot, plainAnswer, plainBegin, plainStepped, plainOn}
 use Rattle.spec.specs.Plain.{committing}
-use Rattle.spec.specs.Plain.{grant, equalSlot, staleSlot, becameStale, plainCommitted, withNumber, plainCall, plainAfter}
+use Rattle.spec.specs.Plain.{grant, staleSlot, becameStale, plainCommitted, withNumber, plainCall, plainAfter}
 use Rattle.spec.specs.Plain.{plainReplies}
 use Rattle.spec.specs.Grants.{Grant, againOf, rerun, repliesOf, sameReplies}
 use Rattle.spec.proofs.Abstract.Programs.{not-refused-stale}
@@ -217,7 +217,7 @@ never-closed fileOf minute (w ∷ ws) = rw (no-write-closed fileOf minute w) (ne
 -- Nobody becomes stale where nobody is open.
 nobody : (t : ℕ) (p q : Plain) → Idle q → bitsOf (becameStale t p q) transactionCount ≡ 0
 unfolding becameStale staleSlot
-nobody t p q none = bits-none (becameStale t p q) 8 (λ u. rw (none u) (last (not (eqb u t)) (equalSlot p (p .slots u))))
+nobody t p q none = bits-none (becameStale t p q) 8 (λ u. rw (none u) (last (not (eqb u t)) (not (staleSlot p (p .slots u)))))
   where
     last : (a b : Bool) → (a && b && false) ≡ false
     last true true = refl

@@ -25,7 +25,7 @@ use Rattle.spec.specs.Plain.{plainRestore, plainUndo, plainWithWindows, 
 use Rattle.spec.specs.Plain.{secondList, isStale}
 use Rattle.spec.specs.Plain.{PlainTurn, plainRefuse, withSlot, plainAnswer, plainBegin, plainStepped, plainOn, committing}
 use Rattle.spec.specs.Plain.{grant}
-use Rattle.spec.specs.Plain.{equalSlot, staleSlot, becameStale, plainCommitted, plainCommit, plainAbort, withNumber}
+use Rattle.spec.specs.Plain.{staleSlot, becameStale, plainCommitted, plainCommit, plainAbort, withNumber}
 use Rattle.spec.specs.Plain.{plainCall}
 use Rattle.spec.specs.Plain.{plainAfter, plainReplies, plainPlaces, plainCommitCall, writesIn, plainAsked, plainBestOrder}
 use Rattle.spec.specs.LoneRuns.{lone}
@@ -149,14 +149,14 @@ module _ (t : ℕ) (r : Running) (p : Plain) where
       (s : Slot)
       → SoundSlot (p .fileOf) (p .committed) (p .grants) s
       → newlyStale (settings (p .fileOf) (p .committed .value) (r .txn)) (seatOf p s)
-      ≡ (equalSlot p s && staleSlot (grant t r p) s)
-  unfolding newlyStale seatOf SoundSlot equalSlot staleSlot isStale heldOf
+      ≡ (not (staleSlot p s) && staleSlot (grant t r p) s)
+  unfolding newlyStale seatOf SoundSlot staleSlot isStale heldOf
   newly-is closed h = refl
   newly-is (running q) h =
       newly (sameEntries (firstList q) (secondList p q)) (hit (settings (p .fileOf) (p .committed .value) (r .txn)) (heldOf p q))
-      ∙ ap (λ (b : Bool). sameEntries (firstList q) (secondList p q) && b) (stale-after q h)
+      ∙ ap (λ (b : Bool). not (not (sameEntries (firstList q) (secondList p q))) && b) (stale-after q h)
     where
-      newly : (a b : Bool) → (not (not a) && b) ≡ (a && (not a || b))
+      newly : (a b : Bool) → (not (not a) && b) ≡ (not (not a) && (not a || b))
       newly true b = refl
       newly false b = refl
 
@@ -171,7 +171,7 @@ module _ (t : ℕ) (r : Running) (p : Plain) where
     where
       pick : (b : Bool)
           → newlyStale (settings (p .fileOf) (p .committed .value) (r .txn)) (cond b vacant (seatOf p (p .slots u)))
-          ≡ (not b && equalSlot p (p .slots u) && staleSlot (grant t r p) (cond b closed (p .slots u)))
+          ≡ (not b && not (staleSlot p (p .slots u)) && staleSlot (grant t r p) (cond b closed (p .slots u)))
       pick true = refl
       pick false = newly-is (p .slots u) (h u)
 

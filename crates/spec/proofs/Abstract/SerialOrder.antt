@@ -5,6 +5,7 @@ use native.Mathlib.Omega.{arith}
 use lib.ListN.{length}
 use Rattle.admission.proofs.Laws.{below-all}
 use mathlib.Core.List.{List, [], _∷_, _++_, map}
+use mathlib.Core.Option.{Option·elim}
 use mathlib.Core.Path.{_≡_, refl, sym, ap, ap₂, _∙_, subst}
 use borrow.Author.Tests.{not-false}
 use lib.Dec.{leb}
@@ -19,7 +20,7 @@ use Rattle.spec.specs.Transactions.{Txn, empty, put}
 use Rattle.spec.specs.Messages.{Op, bufferOf, places, setWindow, undoCommit, bestOrder, afterAll}
 use Rattle.spec.specs.Steps.{Stepped, refuse, accept, step, refusedStale}
 use Rattle.spec.specs.Commits.{fits, commitRefusal}
-use Rattle.spec.specs.Messages.{Call, begin, on, commit, abort, Reply, isGrant}
+use Rattle.spec.specs.Messages.{Call, begin, on, commit, abort, Reply, refusalOf, isGrant}
 use Rattle.spec.specs.Sightings.{Entry, entries, Committed}
 use Rattle.spec.specs.Plain.{Running, Slot, closed, running, Plain, Earlier, nothing, found, isRunning, noneRunning}
 use Rattle.spec.specs.Plain.{plainRestored}
@@ -29,7 +30,7 @@ use Rattle.spec.specs.Plain.{withSlot, plainAnswer, plainBegin, plainSte
 use Rattle.spec.specs.Plain.{plainCommit}
 use Rattle.spec.specs.Plain.{plainAbort, withNumber, plainCall, plainAfter, plainPlaces}
 use Rattle.spec.specs.LoneRuns.{Lone, lone}
-use Rattle.spec.specs.Grants.{Grant, grantedBy, Serial, butLast, droppedFrom, ifDone, adding, serialBy, serialFrom}
+use Rattle.spec.specs.Grants.{Grant, grantedBy, Serial, butLast, droppedFrom, adding, serialBy, serialFrom}
 use Rattle.spec.specs.Grants.{serialOf}
 use Rattle.spec.proofs.Abstract.Alone.{again, serially, SameAgain, AllSame}
 use Rattle.spec.proofs.Abstract.Lists.{current, current-is}
@@ -85,7 +86,7 @@ pub data Turned (p : Plain) (s : Serial) : PlainTurn → Serial → Type 0 where
 
 -- An undo, accepted or not.
 abbrev Taken : Plain → Serial → PlainTurn → Type 0
-Taken p s τ = Turned p s τ (ifDone (τ .reply .answer) (droppedFrom (s .start) (s .grants)) s)
+Taken p s τ = Turned p s τ (Option·elim (refusalOf (τ .reply .answer)) (droppedFrom (s .start) (s .grants)) (λ n. s))
 
 module _ (p : Plain) (s : Serial) where
   turned-begin : (t : ℕ) (z : Slot) → Turned p s (plainBegin t z p) s
@@ -170,12 +171,12 @@ module _ (p : Plain) (s : Serial) where
       chosen false = k
 
   turned-return : (x : Earlier) → p .earlier ≡ x → noneRunning p ≡ true
-      → Turned p s (plainRestore x p) (ifDone (plainRestore x p .reply .answer) (droppedFrom (s .start) (s .grants)) s)
-  unfolding plainRestore plainRefuse plainAnswer ifDone
+      → Taken p s (plainRestore x p)
+  unfolding plainRestore plainRefuse plainAnswer Option·elim refusalOf
   turned-return nothing q e = preserved _ _ _
   turned-return (found c n) q e = undone c n _ q e
 
-  turned-back : Turned p s (plainUndo p) (ifDone (plainUndo p .reply .answer) (droppedFrom (s .start) (s .grants)) s)
+  turned-back : Taken p s (plainUndo p)
   unfolding plainUndo
   turned-back = chosen (noneRunning p) refl
     where
@@ -183,7 +184,7 @@ module _ (p : Plain) (s : Serial) where
           → Taken p s
           (guarded (λ n. plainRefuse n [] p) b 23 (plainRestore (p .earlier) p))
       chosen true e = turned-return (p .earlier) refl e
-      chosen false e = unfold plainRefuse ifDone in preserved _ _ _
+      chosen false e = unfold plainRefuse Option·elim refusalOf in preserved _ _ _
 
   pub turned : (c : Call) → Turned p s (plainCall c p) (serialBy c p s)
   unfolding plainCall serialBy plainRefuse

@@ -1,4 +1,5 @@
 -- Every definition of the rules that the situations compute with, opened under one name.
+use mathlib.Core.Option as Option
 use Rattle.buffers.specs.Bits as Bits
 use Rattle.buffers.specs.Marks as Marks
 use Rattle.windows.specs.Windows as Hours
@@ -42,12 +43,12 @@ unfolding Below.below Below.sum Ranges.lengthsBefore Bits.bit Bits.bitsOf Bits.c
     Commits.setsOffset Commits.offsetSettings Commits.landedEnd Commits.lengthSettings Commits.settings Commits.fits
     Commits.putItem Commits.landed Commits.setBy Commits.commitRefusal Sightings.sameEntry Sightings.sameEntries Sightings.entries
     Plain.startPlain Plain.ops Plain.firstList Plain.secondList Plain.isStale Plain.plainRefuse Plain.withSlot Plain.plainAnswer
-    Plain.plainBegin Plain.plainStepped Plain.plainOn Plain.committing Plain.grant Plain.equalSlot Plain.staleSlot
+    Plain.plainBegin Plain.plainStepped Plain.plainOn Plain.committing Plain.grant Plain.staleSlot
     Plain.becameStale Plain.plainCommitted Plain.plainCommit Plain.plainAbort Plain.plainPlaces Plain.plainSetWindow
     Plain.withNumber Plain.plainCall Messages.repliesTo Messages.afterAll Plain.isRunning Plain.noneRunning Plain.plainRestore
     Plain.plainUndo Lone.stopped Lone.prepend Lone.goOn Lone.lone Grants.grantedBy Grants.againOf Grants.rerun
     Grants.repliesOf Grants.sameReplies Grants.serialOf Grants.serialFrom Grants.serialBy Grants.adding Grants.droppedFrom
-    Grants.butLast Grants.ifDone Setup.numbers Setup.freshNumbered Setup.onPlain Setup.committedBytes Setup.beginning Setup.seenIn
+    Grants.butLast Option.Option·elim Messages.refusalOf Setup.numbers Setup.freshNumbered Setup.onPlain Setup.committedBytes Setup.beginning Setup.seenIn
     Setup.sightingsOf Setup.formerIn Setup.formerNumbers Setup.begins Setup.callsOf Messages.isGrant Parts.tabulate Parts.cut
     Parts.pasted OldBytes.oldBytes OldBytes.restored State.begun State.ended Journal.decodedAs Journal.decoded
     Journal.writeRecordAt

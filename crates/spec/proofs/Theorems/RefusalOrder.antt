@@ -27,13 +27,13 @@ use Rattle.spec.specs.Steps.{settledByRead, readSettled, readStep, step,
 use Rattle.spec.specs.Steps.{refusedStale}
 use Rattle.spec.specs.Commits.{Setting, commitRefusal}
 use Rattle.spec.specs.Messages.{Op, seek, write, getFilePointer, read, bufferOf, Call, begin, on, commit, abort, places}
-use Rattle.spec.specs.Messages.{setWindow, undoCommit, bestOrder}
+use Rattle.spec.specs.Messages.{setWindow, undoCommit, bestOrder, refusalOf}
 use Rattle.spec.specs.OrderReply.{Asked, orderRefusal, orderReplied, orderReply}
 use Rattle.spec.specs.Machine.{Machine, sizes, fileOf, values, txnOf}
 use Rattle.spec.specs.Calls.{Turn, answerWith, refuseTurn, passing, freshMachine, fresh, beginTurn, abortTurn, served}
 use Rattle.spec.specs.Calls.{stepTurn, commitGranted, commitDecided, commitTurn, admitted, call, placesTurn, windowTurn}
 use Rattle.spec.specs.Calls.{undoTurn, orderTurn, askedOf}
-use Rattle.spec.specs.RefusalOrder.{Test, test, firstFailing, refusalGiven, firstTwo, firstFour, settles, stepTests}
+use Rattle.spec.specs.RefusalOrder.{Test, test, firstFailing, firstTwo, firstFour, settles, stepTests}
 use Rattle.spec.specs.RefusalOrder.{testsOf, freshTests}
 use Rattle.spec.specs.Refusals.{refusalsOf, refusalsOfFresh}
 use Rattle.spec.proofs.Abstract.Programs.{result-andThen, Every, every-append}
@@ -42,20 +42,20 @@ use Rattle.spec.proofs.Abstract.Lists.{put-other}
 -- ---- chains of tests
 
 -- An answer is no refusal.
-nothing-fails : refusalGiven doneAnswer ≡ firstFailing []
-unfolding refusalGiven firstFailing
+nothing-fails : refusalOf doneAnswer ≡ firstFailing []
+unfolding refusalOf firstFailing
 nothing-fails = refl
 
 -- Where refusals are numbers and 0 stands for none, one test in front.
 module _ (says : ℕ → Said) (refuses : (n : ℕ) → says (suc n) ≡ refused (suc n)) where
-  in-front : (ok : Bool) (n later : ℕ) (tests : List Test) → refusalGiven (says later) ≡ firstFailing tests
-      → refusalGiven (says (unless ok (suc n) later)) ≡ firstFailing (test (suc n) ok ∷ tests)
-  unfolding unless firstFailing refusalGiven
+  in-front : (ok : Bool) (n later : ℕ) (tests : List Test) → refusalOf (says later) ≡ firstFailing tests
+      → refusalOf (says (unless ok (suc n) later)) ≡ firstFailing (test (suc n) ok ∷ tests)
+  unfolding unless firstFailing refusalOf
   in-front true n later tests e = e
-  in-front false n later tests e = ap refusalGiven (refuses n)
+  in-front false n later tests e = ap refusalOf (refuses n)
 
-  two-in-front : (m : Machine) (later : ℕ) (tests : List Test) → refusalGiven (says later) ≡ firstFailing tests
-      → refusalGiven (says (firstTests (sizes m) (m .store) (m .journal) later)) ≡ firstFailing (firstTwo m tests)
+  two-in-front : (m : Machine) (later : ℕ) (tests : List Test) → refusalOf (says later) ≡ firstFailing tests
+      → refusalOf (says (firstTests (sizes m) (m .store) (m .journal) later)) ≡ firstFailing (firstTwo m tests)
   unfolding firstTests firstTwo
   two-in-front m later tests e = in-front _ 0 _ _ (in-front _ 1 later tests e)
 
@@ -67,8 +67,8 @@ module _ (buffer : List ℕ) (m : Machine) (w : Turn) where
   unfolding passing refuseTurn
   passing-refuses n = refl
 
-  four-in-front : (t : ℕ) (tests : List Test) → refusalGiven (w .reply .answer) ≡ firstFailing tests
-      → refusalGiven (admitted t buffer m w .reply .answer) ≡ firstFailing (firstFour t m tests)
+  four-in-front : (t : ℕ) (tests : List Test) → refusalOf (w .reply .answer) ≡ firstFailing tests
+      → refusalOf (admitted t buffer m w .reply .answer) ≡ firstFailing (firstFour t m tests)
   unfolding admitted admission shared firstFour passing
   four-in-front t tests e =
       let h = passing-refuses in
@@ -78,11 +78,11 @@ module _ (buffer : List ℕ) (m : Machine) (w : Turn) where
 
 stepSays : Stepped → Option ℕ
 stepSays (refuse n) = some n
-stepSays (accept y a b) = refusalGiven a
+stepSays (accept y a b) = refusalOf a
 
 served-says : (t : ℕ) (o : Op) (m : Machine) (is : List Item) (s : Stepped)
-    → refusalGiven (served t o m is s .reply .answer) ≡ stepSays s
-unfolding served refuseTurn stepSays refusalGiven
+    → refusalOf (served t o m is s .reply .answer) ≡ stepSays s
+unfolding served refuseTurn stepSays refusalOf
 served-says t o m is (refuse n) = refl
 served-says t o m is (accept y a b) = refl
 
@@ -189,11 +189,11 @@ module _ (v : Values) where
   pointer-distinct false d = tt
 
   pointer-says : (d : ℕ) (y : Txn) → stepSays (result v (done (accept y (pointer (offsetOf (y .standing d))) []))) ≡ none
-  unfolding result stepSays refusalGiven
+  unfolding result stepSays refusalOf
   pointer-says d y = refl
 
   read-says : (f : ℕ → ℕ) (d n : ℕ) (buffer : List ℕ) (y : Txn) → stepSays (result v (readSettled f d n buffer y)) ≡ none
-  unfolding readSettled result stepSays refusalGiven
+  unfolding readSettled result stepSays refusalOf
   read-says f d n buffer y = ap stepSays (result-andThen v (gather f (y .writes) (f d) _ n) _)
 
 step-says : (t : ℕ) (o : Op) (m : Machine)
@@ -221,9 +221,9 @@ step-says t (read d n buffer) m =
 -- ---- the other calls
 
 decided-says : (t : ℕ) (x : Txn) (ss : List Setting) (m : Machine) (daily stale shut placed : Bool)
-    → refusalGiven (commitDecided t x ss m (commitRefusal daily stale shut placed) .reply .answer)
+    → refusalOf (commitDecided t x ss m (commitRefusal daily stale shut placed) .reply .answer)
     ≡ firstFailing (test 22 daily ∷ test 13 (not stale) ∷ test 21 (not shut) ∷ test 12 placed ∷ [])
-unfolding commitDecided commitRefusal commitGranted refusalGiven firstFailing
+unfolding commitDecided commitRefusal commitGranted refusalOf firstFailing
 decided-says t x ss m false stale shut placed = refl
 decided-says t x ss m true true shut placed = refl
 decided-says t x ss m true false true placed = refl
@@ -238,28 +238,27 @@ order-refuses : (a : Asked) (ts : List ℕ) (budget n : ℕ) → orderReplied a 
 unfolding orderReplied
 order-refuses a ts budget n = refl
 
-places-says : (f : ℕ → ℕ) (g : ℕ) (out : List ℕ) (x : Txn) → refusalGiven (placesOf f g out x .answer)
-    ≡ firstFailing (test 6 (leb g lastFile) ∷ test 15 (not (unplaced f g (x .writes)))
+places-says : (f : ℕ → ℕ) (g : ℕ) (out : List ℕ) (x : Txn) → refusalOf (placesOf f g out x .answer)
+    ≡ firstFailing (test 6 (leb g 7) ∷ test 15 (not (unplaced f g (x .writes)))
     ∷ test 16 (leb (4 * length (intervalsOf (covered f g (x .writes)))) (length out)) ∷ [])
 unfolding placesOf placesRefusal
 places-says f g out x =
     let says : ℕ → Said = λ n. placesReply f g out x n .answer in
     let h = places-refuses f g out x in
     in-front says h _ 5 _ _ (in-front says h _ 14 _ _
-    (in-front says h _ 15 0 [] (unfold placesReply refusalGiven firstFailing in refl)))
+    (in-front says h _ 15 0 [] (unfold placesReply refusalOf firstFailing in refl)))
 
-order-says : (a : Asked) (ts : List ℕ) (minute budget : ℕ) → refusalGiven (orderReply a ts minute budget .answer)
-    ≡ firstFailing (test 26 (isList ts) ∷ test 3 (allIn (λ t. leb t lastTransaction) ts) ∷ test 4 (allIn (a .isOpen) ts)
-    ∷ test 22 (minuteIn minute) ∷ test 25 (allIn (λ t. not (a .notReady t)) ts) ∷ test 27
-    (leb 1 budget && leb budget mostOrders) ∷ [])
+order-says : (a : Asked) (ts : List ℕ) (minute budget : ℕ) → refusalOf (orderReply a ts minute budget .answer)
+    ≡ firstFailing (test 26 (isList ts) ∷ test 3 (allIn (λ t. leb t 7) ts) ∷ test 4 (allIn (a .isOpen) ts)
+    ∷ test 22 (minuteIn minute) ∷ test 25 (allIn (λ t. not (a .notReady t)) ts) ∷ test 27 (leb 1 budget && leb budget 40320) ∷ [])
 unfolding orderReply orderRefusal
 order-says a ts minute budget =
     let says : ℕ → Said = λ n. orderReplied a ts budget n .answer in
     let h = order-refuses a ts budget in
     in-front says h _ 25 _ _ (in-front says h _ 2 _ _ (in-front says h _ 3 _ _ (in-front says h _ 21 _ _ (in-front says h _ 24 _ _
-    (in-front says h _ 26 0 [] (unfold orderReplied refusalGiven firstFailing in refl))))))
+    (in-front says h _ 26 0 [] (unfold orderReplied refusalOf firstFailing in refl))))))
 
-pub call-says : (c : Call) (m : Machine) → refusalGiven (call c m .reply .answer) ≡ firstFailing (testsOf c m)
+pub call-says : (c : Call) (m : Machine) → refusalOf (call c m .reply .answer) ≡ firstFailing (testsOf c m)
 unfolding call testsOf beginTurn abortTurn answerWith stepTurn commitTurn placesTurn windowTurn undoTurn orderTurn
     admissionOfBegin shared admissionOfWindow windowRefusal admissionOfUndo passing
 call-says (begin t) m =
@@ -283,7 +282,7 @@ call-says (bestOrder ts minute budget) m =
     two-in-front says (passing-refuses [] m (orderTurn ts minute budget m)) m 0 _ (order-says (askedOf minute m) ts minute budget)
 
 pub fresh-says : (numbers : List ℕ) (m : Machine)
-    → refusalGiven (fresh numbers m .reply .answer) ≡ firstFailing (freshTests numbers m)
+    → refusalOf (fresh numbers m .reply .answer) ≡ firstFailing (freshTests numbers m)
 unfolding fresh freshTests admissionOfFresh answerWith passing
 fresh-says numbers m =
     let w = answerWith doneAnswer (freshMachine numbers (m .logs) (m .undo)) in
@@ -333,14 +332,14 @@ first-is-in (x ∷ tests) n e = pick (x .passes) e (first-is-in tests n)
         (eq-eqb n (x .number) (sym (Option·some-injective (x .number) n e)))
 
 pub call-known : (c : Call) (m : Machine) (n : ℕ) → call c m .reply .answer ≡ refused n → isIn n (refusalsOf c) ≡ true
-unfolding refusalGiven
+unfolding refusalOf
 call-known c m n e =
     subst (λ (ns : List ℕ). isIn n ns ≡ true) (refusal-rows c m)
-    (first-is-in (testsOf c m) n (sym (call-says c m) ∙ ap refusalGiven e))
+    (first-is-in (testsOf c m) n (sym (call-says c m) ∙ ap refusalOf e))
 
 pub fresh-known : (numbers : List ℕ) (m : Machine) (n : ℕ) → fresh numbers m .reply .answer ≡ refused n
     → isIn n refusalsOfFresh ≡ true
-unfolding refusalGiven
+unfolding refusalOf
 fresh-known numbers m n e =
     subst (λ (ns : List ℕ). isIn n ns ≡ true) (fresh-row numbers m)
-    (first-is-in (freshTests numbers m) n (sym (fresh-says numbers m) ∙ ap refusalGiven e))
+    (first-is-in (freshTests numbers m) n (sym (fresh-says numbers m) ∙ ap refusalOf e))

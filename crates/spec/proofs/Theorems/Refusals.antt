@@ -17,10 +17,9 @@ use Rattle.spec.specs.Items.{Item}
 use Rattle.spec.specs.Steps.{Stepped, refuse, accept}
 use Rattle.spec.specs.Commits.{Setting, commitRefusal}
 use Rattle.spec.specs.Messages.{Op, bufferOf, bufferOfCall, Call, begin, on, commit, abort, places, setWindow, undoCommit}
-use Rattle.spec.specs.Messages.{bestOrder}
+use Rattle.spec.specs.Messages.{bestOrder, refusalOf}
 use Rattle.spec.specs.OrderReply.{Asked, orderRefusal, orderReplied, orderReply}
 use Rattle.spec.specs.Machine.{Machine, sizes, fileOf, values, txnOf}
-use Rattle.spec.specs.RefusalOrder.{refusalGiven}
 use Rattle.spec.specs.Refusals.{Refusals, RefusalsOfCode}
 use Rattle.spec.specs.Calls.{Turn, answerWith, refuseTurn, passing, fresh, reset, beginTurn, abortTurn, served, stepTurn}
 use Rattle.spec.specs.Calls.{commitGranted, commitDecided, commitTurn, admitted, call, placesTurn, windowTurn, undoTurn}
@@ -279,17 +278,17 @@ refusals-hold m =
     }
 
 pub refusals-of-code : RefusalsOfCode
-unfolding refusalGiven
+unfolding refusalOf
 refusals-of-code =
     record {
-      first = λ c m o after reader k. ap refusalGiven (k .outcome) ∙ refusals-hold m .first c;
-      freshFirst = λ numbers m o after k. ap refusalGiven (k .outcome) ∙ refusals-hold m .freshFirst numbers;
+      first = λ c m o after reader k. ap refusalOf (k .outcome) ∙ refusals-hold m .first c;
+      freshFirst = λ numbers m o after k. ap refusalOf (k .outcome) ∙ refusals-hold m .freshFirst numbers;
       calls =
           λ c m o after reader n k e.
           let f = sym (k .outcome) ∙ e in
           let d = refusals-hold m in
           record {
-            first = sym (d .first c) ∙ ap refusalGiven f;
+            first = sym (d .first c) ∙ ap refusalOf f;
             known = d .known c n f;
             leaves = λ h. let l = d .leaves c n f h in (k .machine ∙ l .0, k .reader ∙ l .1);
             ends = λ h. let w = d .ends c (f ∙ ap refused h) in (w .0, w .1, w .2, k .machine ∙ w .3);

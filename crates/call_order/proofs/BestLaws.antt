@@ -11,8 +11,9 @@ use native.Mathlib.Numerals.{add-one}
 use native.Mathlib.Omega.{arith}
 use Prim.Native.Nat.{ℕ, suc, _+_, _≤_, _<_, min}
 use Rattle.buffers.proofs.PartLaws.{le-or-lt}
-use Rattle.spec_orders.specs.Orders.{orders, factorial, orderAt, Rated, rated, better, bestOf, bestTried, triedOf, Arranges}
+use Rattle.spec_orders.specs.Orders.{orders, factorial, Rated, rated, better, bestOf, bestTried, triedOf, Arranges}
 use Rattle.spec_orders.proofs.Members.{in-at}
+use Rattle.spec_orders.specs.Numbering.{orderAt}
 use Rattle.spec_orders.proofs.Numbered.{many-orders, order-numbered, orders-of}
 use Rattle.spec_orders.proofs.Best.{best-more}
 

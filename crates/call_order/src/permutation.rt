@@ -4,7 +4,8 @@ ghost use mathlib.Core.Path.{_≡_};
 ghost use Prim.Native.Nat.{suc, _<_, _≤_};
 ghost use lib.ListN.{length, take};
 ghost use Rattle.limits.specs.Limits.{transactionCount};
-ghost use Rattle.spec_orders.specs.Orders.{without, factorial, orderAt};
+ghost use Rattle.spec_orders.specs.Orders.{without, factorial};
+ghost use Rattle.spec_orders.specs.Numbering.{orderAt};
 ghost use Rattle.call_order.specs.OrderTable.{ZerosAfter};
 
 // How many orders a list of n has.

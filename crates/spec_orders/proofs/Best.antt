@@ -8,10 +8,11 @@ use lib.ListN.{length, getD, take, drop, length-append, length-take, List·getD-
 use lib.Seq.{getD-append-add, getD-take, take-all, take-suc}
 use native.Mathlib.Omega.{arith}
 use Prim.Native.Nat.{ℕ, zero, suc, _+_, _-_, _≤_, _<_}
-use Rattle.spec_orders.specs.Orders.{orders, triedOf, factorial, orderAt, Rated, rated, better, bestOf, bestTried, countIn}
+use Rattle.spec_orders.specs.Orders.{orders, triedOf, factorial, Rated, rated, better, bestOf, bestTried, countIn}
 use Rattle.spec_orders.specs.Orders.{gapOf}
 use Rattle.spec_orders.specs.Orders.{Arranges, In, Earliest, BestIsEarliest, NoneBetter}
 use Rattle.spec_orders.proofs.Members.{found-in, in-at}
+use Rattle.spec_orders.specs.Numbering.{orderAt}
 use Rattle.spec_orders.proofs.Numbered.{positive, many-orders, order-numbered, many-tried, all-in, same-count, given-first}
 use Rattle.spec_orders.proofs.Numbered.{orders-of}
 

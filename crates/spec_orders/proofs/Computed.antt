@@ -4,9 +4,10 @@ use mathlib.Core.Path.{refl, ap, _≡_}
 use lib.ListN.{getD}
 use native.Mathlib.Omega.{arith}
 use Prim.Native.Nat.{ℕ, zero, suc, _≤_, _<_}
-use Rattle.spec_orders.specs.Orders.{without, chained, ordersOf, orders, triedOf, factorial, orderAt, better, bestOf}
+use Rattle.spec_orders.specs.Orders.{without, chained, ordersOf, orders, triedOf, factorial, better, bestOf}
 use Rattle.spec_orders.specs.Orders.{bestTried}
 use Rattle.spec_orders.specs.Orders.{countIn, gapOf, isIn, distinct, isList}
+use Rattle.spec_orders.specs.Numbering.{orderAt}
 use Rattle.spec_orders.specs.Examples.{risingFrom, OrderExamples}
 
 -- An answer at position 1 has more grants than that at 0; no other order of two is at another position.

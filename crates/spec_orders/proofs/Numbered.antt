@@ -9,9 +9,10 @@ use lib.Seq.{getD-append-add}
 use native.Mathlib.Omega.{arith}
 use native.Mathlib.Nat.{suc-mul, zero-mul, mul-le-mul-right, mul-pos, mod-lt, div-add-mod', div-lt-iff-lt-mul, zero-div, zero-mod}
 use Prim.Native.Nat.{ℕ, zero, suc, _+_, _*_, _/_, _%_, _<_, min}
-use Rattle.spec_orders.specs.Orders.{without, chained, ordersOf, orders, triedOf, orderAt, factorial, countIn, Arranges, In}
+use Rattle.spec_orders.specs.Orders.{without, chained, ordersOf, orders, triedOf, factorial, countIn, Arranges, In}
 use Rattle.spec_orders.specs.Orders.{OrdersOf}
 use Rattle.spec_orders.proofs.Members.{found-in, length-without, count-without, complete}
+use Rattle.spec_orders.specs.Numbering.{orderAt}
 
 -- ---- lists of one length, one after the other
 
@@ -144,7 +145,6 @@ module _ (ts : List ℕ) where
       record {
         these = λ o. (λ h t. same-count (λ u. eqb t u) o h, all-in o);
         many = many-orders;
-        numbered = order-numbered;
         givenFirst = given-first;
         tried = λ budget. let e = many-tried budget in omega arith;
       }

@@ -6,8 +6,9 @@ use mathlib.Core.Path.{_≡_}
 use lib.Dec.{ltb, eqb}
 use lib.ListN.{length, getD}
 use Prim.Native.Nat.{ℕ, _+_}
-use Rattle.spec_orders.specs.Orders.{orders, triedOf, orderAt, Rated, bestTried, gapOf, isList}
+use Rattle.spec_orders.specs.Orders.{orders, triedOf, Rated, bestTried, gapOf, isList}
 use Rattle.spec_orders.specs.Orders.{Arranges, Earliest}
+use Rattle.spec_orders.specs.Numbering.{orderAt}
 
 -- Whoever is below one granted before it is not granted: of 7 8 9 all are, of 9 7 8 the first.
 unfoldable pub risingFrom : ℕ → List ℕ → ℕ

@@ -6,7 +6,7 @@ use mathlib.Core.Logic.{_↔_}
 use mathlib.Core.Path.{_≡_}
 use lib.Dec.{leb, ltb, eqb}
 use lib.ListN.{length, getD, take, drop}
-use Prim.Native.Nat.{ℕ, zero, suc, _+_, _-_, _*_, _/_, _%_, _≤_, _<_}
+use Prim.Native.Nat.{ℕ, zero, suc, _+_, _-_, _*_, _≤_, _<_}
 use Rattle.limits.specs.Limits.{transactionCount}
 
 -- ---- the orders
@@ -37,14 +37,6 @@ triedOf budget ts = take budget (orders ts)
 unfoldable pub factorial : ℕ → ℕ
 factorial zero = 1
 factorial (suc n) = suc n * factorial n
-
--- Order number i of a list of n, from i itself: the position of its first is the quotient by (n - 1)!, the
--- rest numbers the order of the others.
-unfoldable pub orderAt : ℕ → ℕ → List ℕ → List ℕ
-orderAt zero i ts = []
-orderAt (suc n) i ts =
-    let q = i / factorial n in
-    getD ts q 0 ∷ orderAt n (i % factorial n) (without q ts)
 
 -- ---- the answer
 
@@ -110,11 +102,10 @@ pub data In (o : List ℕ) : List (List ℕ) → Type 0 where
   first : (os : List (List ℕ)) → In o (o ∷ os)
   later : (p : List ℕ) (os : List (List ℕ)) → In o os → In o (p ∷ os)
 
--- The orders of the definition are those, n! of them, and order number i is the one that i gives.
+-- The orders of the definition are those, n! of them.
 pub record OrdersOf (ts : List ℕ) : Type 0 where
   pub these : (o : List ℕ) → In o (orders ts) ↔ Arranges ts o
   pub many : length (orders ts) ≡ factorial (length ts)
-  pub numbered : (i : ℕ) → i < factorial (length ts) → getD (orders ts) i [] ≡ orderAt (length ts) i ts
   -- "the given order first" [R-14.2]
   pub givenFirst : getD (orders ts) 0 [] ≡ ts
   -- "The number of orders tried is in the result, never above the budget." [R-14.1]

@@ -9,7 +9,8 @@ use lib.ListN.{length, take, drop}
 use lib.Seq.{length-take-le}
 use native.Mathlib.Omega.{arith}
 use Prim.Native.Nat.{ℕ, _-_, _≤_, _<_}
-use Rattle.spec_orders.specs.Orders.{factorial, orderAt, bestOf, bestTried, triedOf, allIn}
+use Rattle.spec_orders.specs.Orders.{factorial, bestOf, bestTried, triedOf, allIn}
+use Rattle.spec_orders.specs.Numbering.{orderAt}
 use Rattle.spec_orders.proofs.Distinct.{all-arranged}
 use Rattle.call_order.specs.OrderTable.{grantsByTable, ZerosAfter}
 use Rattle.call_order.proofs.BestLaws.{order-arranges, bestFirst, takes-it, leaves-it}

@@ -8,7 +8,8 @@ use lib.Seq.{drop-set-lt}
 use native.Mathlib.Nat.{mod-lt}
 use native.Mathlib.Omega.{arith}
 use Prim.Native.Nat.{ℕ, suc, _+_, _-_, _/_, _%_, _≤_, _<_}
-use Rattle.spec_orders.specs.Orders.{factorial, orderAt}
+use Rattle.spec_orders.specs.Orders.{factorial}
+use Rattle.spec_orders.specs.Numbering.{orderAt}
 use Rattle.spec_orders.proofs.Numbered.{positive, quotient}
 use Rattle.call_order.proofs.ArrangeLaws.{drop-zeros, order-more, order-none}
 use Rattle.call_order.proofs.permutation.order_at.Statement.{statement}

@@ -2,6 +2,8 @@
 
 -- What a state means has the lengths that its arrays have.
 pub mod Shapes
+-- What is committed decides what a store with nothing open answers: `committed-decides`.
+pub mod Idle
 -- From numbers to meaning: a begun transaction to which a call was admitted, and its writes decoded one by one.
 pub mod Decoded
 -- From meaning to numbers: a transaction put back as it was, with one descriptor changed, with one write more.

@@ -1,21 +1,21 @@
 -- "No condition reads the store's age." [R-18.8]
-use mathlib.Core.Bool.{false, cond}
+use mathlib.Core.Bool.{true, false, cond}
 use mathlib.Core.List.{List}
 use mathlib.Core.Path.{_≡_}
-use lib.ListN.{length, replicate}
 use Prim.Native.Nat.{ℕ, _≤_}
-use Rattle.limits.specs.Limits.{bufferBytes, lastTransaction}
-use Rattle.state.specs.StoreMeaning.{transaction, withOffsets, withLengths, withWindows, withUndo, windowAt}
-use Rattle.state.specs.Journal.{journalLength, lastGrant, writeRecordAt, withRecords}
+use Rattle.limits.specs.Limits.{lastTransaction}
+use Rattle.state.specs.StoreMeaning.{transaction, windowAt}
+use Rattle.admission.specs.Admission.{admissionOfDispatch}
 use Rattle.spec.specs.Messages.{Call}
-use Rattle.spec.specs.Machine.{Machine, withStore, withJournal, withFiles, withLogs, withMarking}
-use Rattle.spec.specs.Machine.{fileOf, values}
+use Rattle.spec.specs.Machine.{Machine, sizes, fileOf, values}
 use Rattle.spec.specs.Undo.{undone}
-use Rattle.spec.specs.Calls.{freshStore, freshMachine, callsAfter, callsReplies}
+use Rattle.spec.specs.Calls.{callsAfter, callsReplies}
+use Rattle.spec.specs.Promises.{machineOf}
 use Rattle.spec.specs.Plain.{Earlier, nothing, found, startPlain, plainAfter}
 use Rattle.spec.specs.Serializability.{Holds}
 use Rattle.spec.specs.SerializabilityOfStore.{FreshlyMade, theStore}
 use Rattle.spec.specs.UndoRestores.{SameCommitted}
+unfoldable pub use Rattle.spec.specs.Young.{rejuvenated}
 use Rattle.spec.specs.Recovery.{recovered, ProgramRun, runsAfter, Reached, abortAll, callsOfRuns}
 
 -- A store that runs and calls have led to from a fresh one, however many, and in which nothing is open now.
@@ -23,19 +23,7 @@ pub record AtRest (m : Machine) : Type 0 where
   pub reached : Reached m
   pub closed : (t : ℕ) → t ≤ lastTransaction → transaction (m .store) t .begun ≡ false
 
--- One made fresh, with other logs, and given the same files, offsets, lengths and windows, and the same grant
--- to undo: its write records, all else that the state holds of it, and the undo log.
-unfoldable pub rejuvenated : Machine → List ℕ → Machine
-rejuvenated m logs =
-    let s = m .store in
-    withStore
-    (withOffsets (s .offsets) (withLengths (s .lengths)
-    (withWindows (s .windows) (withUndo (s .undo) (freshStore (s .filenumbers))))))
-    (withJournal (withRecords (replicate journalLength 0) lastGrant
-    (writeRecordAt (m .journal) lastGrant) (s .undo .used .records))
-    (withFiles (m .files) (freshMachine (s .filenumbers) logs (m .undo))))
-
--- What an undo would restore: the values that the store's last grant found.
+-- What the store would go back to: the values that its last grant found.
 unfoldable pub earlierIn : Machine → Earlier
 earlierIn m =
     let n = undone m in
@@ -49,12 +37,26 @@ pub record Alike (cs : List Call) (m n : Machine) : Type 0 where
   pub left : values (callsAfter cs m .store) (callsAfter cs m .files)
       ≡ values (callsAfter cs n .store) (callsAfter cs n .files)
 
--- A store at rest answers every further list of calls as a young one does, however many grants came before
--- and whatever log bytes and old write records lie about.
-abbrev pub Ageless : Type 0
-Ageless =
-    (m : Machine) → AtRest m → (logs : List ℕ) → length logs ≡ bufferBytes
-    → (cs : List Call) → Alike cs m (rejuvenated m logs)
+-- Nothing that was granted is lost: the second store has the files, offsets, lengths and windows of the
+-- first, and its grant to take back.
+pub record NothingLost (m n : Machine) : Type 0 where
+  pub committed : SameCommitted m n
+  pub windows : n .store .windows ≡ m .store .windows
+  pub earlier : earlierIn n ≡ earlierIn m
+
+-- A store in range with nothing open, whatever led to it: its record is what numbers mean, and it passes 1, 2
+-- and 19 of the dispatcher.
+pub record Resting (m : Machine) : Type 0 where
+  pub state : List ℕ
+  pub meant : m ≡ machineOf state (m .files) (m .logs) (m .marks) (m .undo)
+  pub passes : admissionOfDispatch (sizes m) (m .store) (m .journal) true ≡ 0
+
+-- Two such stores with the same files of the descriptors, and the same committed state, answer alike for
+-- ever: however many grants came before, and whatever log bytes, marks and old write records lie about.
+abbrev pub CommittedDecides : Type 0
+CommittedDecides =
+    (m n : Machine) → Resting m → Resting n → n .store .filenumbers ≡ m .store .filenumbers → NothingLost m n
+    → (cs : List Call) → Alike cs m n
 
 -- To save a running store while its program is down, the state with every transaction ended, the files and
 -- the undo log are enough.
@@ -67,24 +69,6 @@ pub record GoesOn (m₀ : Machine) (rs : List ProgramRun) : Type 0 where
 
 abbrev pub Recovers : Type 0
 Recovers = (numbers : List ℕ) (m₀ : Machine) → FreshlyMade numbers m₀ → (rs : List ProgramRun) → GoesOn m₀ rs
-
--- The case of a store at rest: it goes on as the store that was saved would have, with any other logs and
--- marks of their length; and so it does where its state was saved as it lies.
-pub record LoadedAlike (m : Machine) (logs marks : List ℕ) (cs : List Call) : Type 0 where
-  pub ended : Alike cs m (recovered logs marks m)
-  pub asItLies : Alike cs m (withLogs logs (withMarking marks m))
-
-abbrev pub Reloads : Type 0
-Reloads =
-    (m : Machine) → AtRest m → (logs marks : List ℕ) → length logs ≡ bufferBytes → length marks ≡ bufferBytes
-    → (cs : List Call) → LoadedAlike m logs marks cs
-
--- Nothing that was granted is lost: the second store has the files, offsets, lengths and windows of the
--- first, and its grant to undo.
-pub record NothingLost (m n : Machine) : Type 0 where
-  pub committed : SameCommitted m n
-  pub windows : n .store .windows ≡ m .store .windows
-  pub earlier : earlierIn n ≡ earlierIn m
 
 -- At any moment of any store: where it goes down, and where every transaction is aborted instead.
 pub record Survives (m : Machine) (logs marks : List ℕ) : Type 0 where

@@ -42,8 +42,8 @@ unfoldable pub droppedFrom : Plain → List Grant → Serial
 droppedFrom p [] = record { start = plainCall undoCommit p .after; grants = [] }
 droppedFrom p (g ∷ gs) = record { start = p; grants = butLast (g ∷ gs) }
 
--- With further grants at the end; after one more call, on machine p (an undo that is refused drops none); and
--- after a list of calls.
+-- With further grants at the end; after one more call, on machine p (an undo that is refused drops none);
+-- and after a list of calls.
 unfoldable pub adding : List Grant → Serial → Serial
 adding [] s = s
 adding (g ∷ gs) s = record { start = s .start; grants = s .grants ++ (g ∷ gs) }
@@ -57,7 +57,8 @@ serialBy (abort t) p s = s
 serialBy (places t f out) p s = s
 serialBy (setWindow f start end) p s = s
 serialBy undoCommit p s =
-    Option·elim (refusalOf (plainCall undoCommit p .reply .answer)) (droppedFrom (s .start) (s .grants)) (λ n. s)
+    let n = refusalOf (plainCall undoCommit p .reply .answer) in
+    Option·elim n (droppedFrom (s .start) (s .grants)) (λ k. s)
 serialBy (bestOrder ts minute budget) p s = s
 
 unfoldable pub serialFrom : List Call → Plain → Serial → Serial

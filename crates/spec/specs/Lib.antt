@@ -12,6 +12,8 @@ pub mod Steps
 -- What a commit sets.
 pub mod Commits
 -- What a transaction's writes cover (paper 02, F-1).
+pub mod Intervals
+pub mod IntervalList
 pub mod Places
 -- Which Commits have a byte for a closed file (paper 02, F-11; when a file is open is
 -- windows/specs/Windows.antt).
@@ -37,6 +39,7 @@ pub mod RefusalOrder
 pub mod Refusals
 pub mod SerializabilityOfStore
 pub mod Recovery
+pub mod Young
 pub mod Age
 pub mod MarkPairs
 pub mod Buffers
@@ -45,7 +48,9 @@ pub mod ClosedFiles
 pub mod Splitting
 pub mod UndoRestores
 pub mod BestOrder
--- The situations, and edge cases of both papers; what the statements are false of.
+-- What follows from them.
+pub mod Corollaries
+-- The situations, and corners of both papers; what the statements are false of.
 pub mod Setup
 pub mod Situations
 pub mod EdgeCases

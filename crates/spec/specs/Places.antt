@@ -1,10 +1,11 @@
--- Request F-1, "Places a transaction would write" [R-15.1]: what its call lists, and what holds of the list.
-use mathlib.Core.Bool.{Bool, true, false, cond, not, _&&_, _||_}
+-- Request F-1, "Places a transaction would write" [R-15.1]: what its call lists, and what the list is held
+-- to.
+use mathlib.Core.Bool.{Bool, true, false, not, _&&_, _||_}
 use mathlib.Core.List.{List, [], _∷_, _++_}
 use mathlib.Core.Path.{_≡_}
 use lib.Dec.{leb, ltb, eqb}
 use lib.ListN.{length, drop}
-use Prim.Native.Nat.{ℕ, zero, suc, _+_, _*_, _/_, _%_, _≤_}
+use Prim.Native.Nat.{ℕ, _+_, _*_, _/_, _%_}
 use Rattle.limits.specs.Limits.{lastFile, fileBytes}
 use Rattle.standings.specs.declared.Place.{Place}
 use Rattle.standings.specs.declared.Place.the-variants.{At, After}
@@ -13,6 +14,9 @@ use Rattle.admission.specs.FirstRefusal.{guarded, isNone, unless}
 use Rattle.spec.specs.Messages.{Reply}
 use Rattle.spec.specs.Transactions.{Txn, Write}
 use Rattle.spec.specs.Reading.{liesOver}
+pub use Rattle.spec.specs.Intervals.{Interval, interval, intervalEnd, ProperFrom, Proper}
+unfoldable pub use Rattle.spec.specs.Intervals.{inInterval, listed}
+unfoldable pub use Rattle.spec.specs.IntervalList.{withPlace, intervalsFrom, intervalsOf}
 
 -- ---- the places
 
@@ -41,49 +45,6 @@ unfoldable pub unplaced : (ℕ → ℕ) → ℕ → List Write → Bool
 unplaced fileOf f ws = someWrite (unplacedOn fileOf f) ws
 
 -- ---- the list
-
--- An interval of places: where it starts, and how many they are.
-pub record Interval : Type 0 where
-  pub offset : ℕ
-  pub length : ℕ
-
-abbrev pub interval : ℕ → ℕ → Interval
-interval p n = record { offset = p; length = n }
-
--- The first place past it.
-abbrev pub intervalEnd : Interval → ℕ
-intervalEnd s = s .offset + s .length
-
--- Whether place p lies in an interval, and in one of a list.
-unfoldable pub inInterval : Interval → ℕ → Bool
-inInterval s p = leb (s .offset) p && ltb p (intervalEnd s)
-
-unfoldable pub listed : List Interval → ℕ → Bool
-listed [] p = false
-listed (s ∷ l) p = inInterval s p || listed l p
-
--- "sorted by offset; touching stretches are joined and none is empty" [R-15.1]: no interval starts before b,
--- and each of the others after the first place past the one before it.
-abbrev pub ProperFrom : ℕ → List Interval → Type 0
-ProperFrom b [] = Unit {0}
-ProperFrom b (s ∷ l) = (b ≤ s .offset) × (1 ≤ s .length) × ProperFrom (suc (intervalEnd s)) l
-
-abbrev pub Proper : List Interval → Type 0
-Proper l = ProperFrom 0 l
-
--- One place more on the left of a list: the first interval is lengthened where it starts at the next place.
-unfoldable pub withPlace : ℕ → List Interval → List Interval
-withPlace p [] = interval p 1 ∷ []
-withPlace p (s ∷ l) = cond (eqb (s .offset) (suc p)) (interval p (suc (s .length)) ∷ l)
-    (interval p 1 ∷ (s ∷ l))
-
--- The intervals of those of n places from p on that are in the set; and of a file's 4,096 places.
-unfoldable pub intervalsFrom : (ℕ → Bool) → ℕ → ℕ → List Interval
-intervalsFrom S p zero = []
-intervalsFrom S p (suc n) = cond (S p) (withPlace p (intervalsFrom S (suc p) n)) (intervalsFrom S (suc p) n)
-
-unfoldable pub intervalsOf : (ℕ → Bool) → List Interval
-intervalsOf S = intervalsFrom S 0 fileBytes
 
 -- "pairs of offset and length, each 16 bits, high byte first" [R-15.2]
 unfoldable pub sixteen : ℕ → List ℕ

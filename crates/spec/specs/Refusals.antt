@@ -1,22 +1,17 @@
--- Refusals (demand 1), beside its wording: "Every call .. ends in its result or one of fourteen refusals (02
--- adds more), each under its written condition only. A refusal changes no buffer and no record, save that a
--- commit refused as stale (13) ends its transaction as an abort does." [R-18.1] (The written conditions, in
--- the order in which they are tested, are RefusalOrder.antt.)
-use mathlib.Core.Bool.{true}
+-- Demand 1, beside its wording: "Every call .. ends in its result or one of fourteen refusals (02 adds more),
+-- each under its written condition only. A refusal changes no buffer and no record, save that a commit
+-- refused as stale (13) ends its transaction as an abort does." [R-18.1] (The written conditions, in the
+-- order in which they are tested, are RefusalOrder.antt.)
 use mathlib.Core.List.{List, [], _∷_, map}
-use mathlib.Core.Option.{some}
 use mathlib.Core.Path.{_≡_}
 use Prim.Native.Nat.{ℕ}
 use Rattle.state.specs.declared.outcomes.Refusal.the-variants.{Stale}
-use Rattle.state.specs.declared.outcomes.Outcome.{Outcome}
-use Rattle.state.specs.Outcomes.{number, refused, said}
-use Rattle.spec_orders.specs.Orders.{isIn}
+use Rattle.state.specs.Outcomes.{number, refused}
 use Rattle.spec.specs.Messages.{seek, write, getFilePointer, read, Call, begin, on, commit, abort}
 use Rattle.spec.specs.Messages.{places, setWindow, undoCommit}
 use Rattle.spec.specs.Messages.{bestOrder, bufferOfCall, refusalOf}
 use Rattle.spec.specs.Machine.{Machine}
 use Rattle.spec.specs.Calls.{fresh, call}
-use Rattle.spec.specs.Promises.{Meets}
 use Rattle.spec.specs.RefusalOrder.{firstFailing, testsOf, freshTests}
 
 -- The refusals of each call, in the order of its tests. (The dispatcher's are
@@ -44,13 +39,10 @@ pub record RefusalsOn (m : Machine) : Type 0 where
   pub first : (c : Call) → refusalOf (call c m .reply .answer) ≡ firstFailing (testsOf c m)
   pub freshFirst : (numbers : List ℕ) → refusalOf (fresh numbers m .reply .answer)
       ≡ firstFailing (freshTests numbers m)
-  -- The numbers of the tests are the call's row, in order, and no others.
+  -- The numbers of the tests are the call's row, in order, and no others: a refusal is "one of fourteen
+  -- refusals (02 adds more)" [R-18.1], and one of the call's own.
   pub rows : (c : Call) → map (λ x. x .number) (testsOf c m) ≡ refusalsOf c
   pub freshRow : (numbers : List ℕ) → map (λ x. x .number) (freshTests numbers m) ≡ refusalsOfFresh
-  -- "one of fourteen refusals (02 adds more)" [R-18.1]: one of the call's own.
-  pub known : (c : Call) (n : ℕ) → call c m .reply .answer ≡ refused n → isIn n (refusalsOf c) ≡ true
-  pub freshKnown : (numbers : List ℕ) (n : ℕ) → fresh numbers m .reply .answer ≡ refused n
-      → isIn n refusalsOfFresh ≡ true
   -- "A refusal changes no buffer and no record" [R-18.1]
   pub leaves :
       (c : Call) (n : ℕ) → call c m .reply .answer ≡ refused n → (n ≡ number Stale → ⊥)
@@ -65,29 +57,3 @@ pub record RefusalsOn (m : Machine) : Type 0 where
 -- Refusals of the rules.
 abbrev pub Refusals : Type 0
 Refusals = (m : Machine) → RefusalsOn m
-
--- Refusals of the code: a call that met its promise, with outcome o, and left state, buffers and reader's
--- buffer.
-pub record RefusedByCode (c : Call) (m : Machine) (n : ℕ) (after : Machine) (reader : List ℕ) : Type 0 where
-  pub first : firstFailing (testsOf c m) ≡ some n
-  pub known : isIn n (refusalsOf c) ≡ true
-  pub leaves : (n ≡ number Stale → ⊥) → (after ≡ m) × (reader ≡ bufferOfCall c)
-  pub ends : n ≡ number Stale → (t : ℕ) × (minute : ℕ) × (c ≡ commit t minute)
-      × (after ≡ call (abort t) m .after)
-
-pub record RefusalsOfCode : Type 0 where
-  -- Of every call, refused or not.
-  pub first :
-      (c : Call) (m : Machine) (o : Outcome) (after : Machine) (reader : List ℕ)
-      → Meets (call c m) o after reader → refusalOf (said o) ≡ firstFailing (testsOf c m)
-  pub freshFirst :
-      (numbers : List ℕ) (m : Machine) (o : Outcome) (after : Machine)
-      → Meets (fresh numbers m) o after [] → refusalOf (said o) ≡ firstFailing (freshTests numbers m)
-  pub calls :
-      (c : Call) (m : Machine) (o : Outcome) (after : Machine) (reader : List ℕ) (n : ℕ)
-      → Meets (call c m) o after reader → said o ≡ refused n → RefusedByCode c m n after reader
-  -- Of Fresh: "the record at hand, which a refused Fresh hands back" [R-1.6].
-  pub fresh :
-      (numbers : List ℕ) (m : Machine) (o : Outcome) (after : Machine) (n : ℕ)
-      → Meets (fresh numbers m) o after [] → said o ≡ refused n → (isIn n refusalsOfFresh ≡ true)
-      × (after ≡ m)

@@ -1,19 +1,17 @@
 -- Demand 3 about the code: calls and dispatchers that keep their promises are calls of the rules.
 use mathlib.Core.Bool.{cond}
-use mathlib.Core.List.{List, [], _∷_, _++_}
+use mathlib.Core.List.{List, [], _∷_}
 use mathlib.Core.Path.{_≡_, refl, sym, ap, _∙_, subst, subst⁻¹}
 use lib.ListN.{length, getD}
 use Prim.Native.Nat.{ℕ, zero, suc}
-use Rattle.state.specs.declared.outcomes.Outcome.{Outcome}
-use Rattle.state.specs.Outcomes.{doneAnswer, said}
 use Rattle.admission.specs.FirstRefusal.{isNone, unless}
 use Rattle.windows.specs.Windows.{freshWindows}
-use Rattle.spec.specs.Messages.{Call, Reply, afterAll}
+use Rattle.spec.specs.Messages.{Call, on, Reply, afterAll}
 use Rattle.spec.specs.Machine.{Machine}
-use Rattle.spec.specs.Calls.{Turn, fresh, call, callsAfter}
+use Rattle.spec.specs.Calls.{Turn, call, callsAfter}
 use Rattle.spec.specs.Plain.{Plain, nothing, freshPlain, noneRunning, plainAfter}
 use Rattle.spec.specs.Promises.{Meets}
-use Rattle.spec.specs.Serializability.{Holds}
+use Rattle.spec.specs.Serializability.{IsAccepted, OneMoment, Holds}
 use Rattle.spec.specs.SerializabilityOfStore.{FreshlyMade, theStore}
 use Rattle.spec.proofs.Abstract.PlainInvariant.{good-start}
 use Rattle.spec.proofs.Abstract.Rerun.{after-append}
@@ -21,11 +19,12 @@ use Rattle.spec.proofs.Abstract.SameReplies.{backOf, abs-start}
 use Rattle.spec.proofs.Theorems.Recovery.{calls-append}
 use Rattle.spec.proofs.Theorems.Serializability.{fresh-facts, serializability}
 use Rattle.spec_dispatch.specs.Rounds.{scriptsIn, End, Work}
-use Rattle.spec_dispatch.specs.Dispatch.{Dispatched, reported, notStarted, workOnStore, workOnPlain, dispatch, plainDispatch}
-use Rattle.spec_dispatch.specs.Dispatch.{PlainToo}
-use Rattle.spec_dispatch.specs.SerializabilityOfCode.{CallMade, CallKept, madeReply, DispatchMade, Gives, DispatchKept}
-use Rattle.spec_dispatch.specs.SerializabilityOfCode.{dispatchCalls, Linked, start, called, ran, CodeHolds}
+use Rattle.spec_dispatch.specs.Dispatch.{Dispatched, reported, notStarted, workOnStore, workOnPlain, dispatch}
+use Rattle.spec_dispatch.specs.Dispatch.{plainDispatch, PlainToo}
+use Rattle.spec_dispatch.specs.SerializabilityOfCode.{CallMade, madeReply, DispatchMade, Gives, DispatchKept}
+use Rattle.spec_dispatch.specs.SerializabilityOfCode.{dispatchCalls, Linked, start, called, ran}
 use Rattle.spec_dispatch.specs.SerializabilityOfCode.{SerializabilityOfCode}
+use Rattle.spec_dispatch.specs.Corollaries.{MomentOfCode}
 use Rattle.spec_dispatch.proofs.Follows.{TwinWork, store-plain, twins-after}
 use Rattle.spec_dispatch.proofs.Same.{ifPassed, gate, plain-too}
 
@@ -144,3 +143,10 @@ serializability-of-code numbers before o m₀ k accepted cs m linked =
 
     now : TwinWork m (plainAfter cs p₀)
     now = subst⁻¹ (λ (w : Machine). TwinWork w (plainAfter cs p₀)) e (twins-after m₀ p₀ twins cs)
+
+pub moment-of-code : MomentOfCode
+moment-of-code numbers before o m₀ k accepted cs m linked x t op made kept look taken =
+    let h = serializability-of-code numbers before o m₀ k accepted cs m linked in
+    let e : madeReply x ≡ call (on t op) m .reply = reply-same _ x kept ∙ ap (λ (c : Call). call c m .reply) made in
+    subst⁻¹ (OneMoment (plainAfter cs (freshPlain (λ d. getD numbers d 0))) t op) e
+    (h .holds .moment t op look (subst IsAccepted e taken))

@@ -1,5 +1,5 @@
--- Request F-10: the dispatcher on the store and on the reference model, and what is proved of it.
-use mathlib.Core.Bool.{true, false, cond}
+-- Request F-10: the dispatcher on the store and on the plain machine, and what is proved of it.
+use mathlib.Core.Bool.{false, cond}
 use mathlib.Core.List.{List, [], _∷_, map}
 use mathlib.Core.Logic.{_⊎_}
 use mathlib.Core.Path.{_≡_}
@@ -201,20 +201,6 @@ DispatchHolds =
     (state files logs marks undo : List ℕ) (bytes : List ℕ) (minute : ℕ) (x : Scripts) (reader : List ℕ)
     → let m = machineOf state files logs marks undo in
     dispatch bytes minute x m reader .refusal ≡ 0 → Dispatches bytes minute x m (plainOf m) reader
-
--- For every store at rest.
-abbrev pub DispatchHoldsAtRest : Type 0
-DispatchHoldsAtRest =
-    (m : Machine) → AtRest m → (bytes : List ℕ) (minute : ℕ) (x : Scripts) (reader : List ℕ)
-    → scriptsIn (length bytes) x ≡ true → Dispatches bytes minute x m (plainOf m) reader
-
--- "counted commits in the dispatcher's result .. stay at most n(n+1)/2" [R-13.5]: on any state and any
--- buffers.
-abbrev pub FewCommits : Type 0
-FewCommits =
-    (state files logs marks undo : List ℕ) (bytes : List ℕ) (minute : ℕ) (x : Scripts) (reader : List ℕ)
-    → 2 * dispatch bytes minute x (machineOf state files logs marks undo) reader .commits ≤ x .count *
-    (x .count + 1)
 
 -- After any list of calls from any store at rest, refused or not.
 abbrev pub SameDispatch : Type 0

@@ -4,6 +4,8 @@ pub mod Rounds
 pub mod Dispatch
 -- Demand 3 about the code.
 pub mod SerializabilityOfCode
+-- What follows from them.
+pub mod Corollaries
 pub mod DispatchEdgeCases
 -- Values of which the predicates of Dispatch are false.
 pub mod DispatchCounterexamples

@@ -3,10 +3,11 @@
 use mathlib.Core.Bool.{Bool, true, false, cond, true≢false}
 use mathlib.Core.List.{List, [], _∷_}
 use mathlib.Core.Path.{_≡_, refl, sym, ap, ap₂, _∙_, fun-ext, subst⁻¹}
-use lib.ListN.{length, set, replicate, length-replicate}
+use lib.ListN.{length, getD, set, replicate, length-replicate}
 use Prim.Native.Nat.{ℕ, zero, suc, _≤_}
 use native.Mathlib.Omega.{arith}
-use Rattle.limits.specs.Limits.{bufferBytes, lastTransaction}
+use Rattle.windows.specs.declared.Window.{Window}
+use Rattle.windows.specs.Windows.{freshWindow}
 use Rattle.buffers.specs.Parts.{tabulate}
 use Rattle.buffers.specs.Marks.{withoutMarks}
 use Rattle.state.specs.declared.Transaction.{Transaction}
@@ -20,14 +21,16 @@ use Rattle.spec.specs.Items.{Values, Item, byte, offset, fileLength}
 use Rattle.spec.specs.Messages.{Call, abort, afterAll}
 use Rattle.spec.specs.Machine.{Machine, withStore, withLogs, withMarking, sizes, fileOf, values}
 use Rattle.spec.specs.Undo.{landedOn, spanOfRecord, undone}
-use Rattle.spec.specs.Plain.{nothing, found, startPlain, plainAfter}
+use Rattle.spec.specs.Plain.{Earlier, nothing, found, startPlain, plainAfter}
 use Rattle.spec.specs.Calls.{answerWith, refuseTurn, passing, freshStore, freshMachine, reset, abortTurn, admitted, call}
 use Rattle.spec.specs.Calls.{callsAfter}
 use Rattle.spec.specs.Serializability.{Holds}
 use Rattle.spec.specs.SerializabilityOfStore.{theStore}
 use Rattle.spec.specs.Recovery.{allEnded, recovered, runsAfter, abortAll, callsOfRuns}
-use Rattle.spec.specs.Age.{AtRest, rejuvenated, earlierIn, Alike, Ageless, Reloads, Recovers, NothingLost, AlwaysSurvives}
+use Rattle.spec.specs.UndoRestores.{SameCommitted}
+use Rattle.spec.specs.Age.{AtRest, rejuvenated, earlierIn, Alike, Recovers, NothingLost, AlwaysSurvives}
 use Rattle.spec.specs.Age.{SerializabilityAtRest}
+use Rattle.spec.specs.Corollaries.{Ageless, Reloads}
 use Rattle.spec.proofs.Abstract.PlainInvariant.{GoodEarlier}
 use Rattle.spec.proofs.Abstract.SameReplies.{backOf}
 use Rattle.spec.proofs.Abstract.AbstractStore.{Saved, none, preserved, Abstract, startAbstract, abstractAfter}
@@ -36,87 +39,13 @@ use Rattle.spec.proofs.Refinement.Relation.{backValues, backIn, view, S
 use Rattle.spec.proofs.Refinement.UndoValues.{SameGrant, undo-same, back-same, back-values}
 use Rattle.spec.proofs.Refinement.FreshView.{fresh-sound, closed-at}
 use Rattle.spec.proofs.Theorems.Serializability.{calls-agree, fresh-facts, holds-from}
-use Rattle.spec.proofs.Theorems.Recovery.{resting-view, recovered-sound, recovered-view, calls-append, runs-from-fresh}
+use Rattle.spec.proofs.Theorems.Recovery.{resting-view, recovered-closed, recovered-sound, calls-append, runs-from-fresh}
 use Rattle.spec.proofs.Theorems.Recovery.{reached-sound, runs-closed}
 
 pub at-rest-sound : (m : Machine) → AtRest m → Sound m
 at-rest-sound m r = reached-sound m (r .reached)
 
--- The young store is sound too, has nothing open and the same committed values.
-module _ (m : Machine) (s : Sound m) (logs : List ℕ) (size : length logs ≡ bufferBytes) where
-  abbrev records : ℕ
-  records = m .store .undo .used .records
-
-  abbrev young-journal : List ℕ
-  young-journal = withRecords (replicate 1728 0) lastGrant (writeRecordAt (m .journal) lastGrant) records
-
-  -- Its journal holds the same of the last grant.
-  young-grant : SameGrant (m .store .undo) young-journal (m .journal)
-  young-grant h k l =
-      let r = in-range (m .store) (m .journal) (s .inRange) .undo h in
-      let w = landed-in (writeRecordAt (m .journal) lastGrant k) (r .writes k l) in
-      read-own (replicate 1728 0) lastGrant (writeRecordAt (m .journal) lastGrant) (length-replicate 1728 zero)
-      (omega arith) records k (r .records) l (omega (arith, w .0))
-
-  young-long : length young-journal ≡ journalLength
-  young-long = length-with (replicate 1728 0) lastGrant (writeRecordAt (m .journal) lastGrant) records
-      ∙ length-replicate 1728 zero
-
-  young-sound : Sound (rejuvenated m logs)
-  unfolding rejuvenated freshMachine freshStore
-  young-sound =
-      let r = in-range (m .store) (m .journal) (s .inRange) in
-      let f = fresh-sound (m .store .filenumbers) logs (m .undo) (s .shaped .files) (r .files) size (s .undo) in
-      record {
-        shaped =
-            record {
-              files = s .shaped .files;
-              offsets = s .shaped .offsets;
-              lengths = s .shaped .lengths;
-              windows = s .shaped .windows;
-              foundOffsets = s .shaped .foundOffsets;
-              foundLengths = s .shaped .foundLengths;
-              transactions = f .shaped .transactions;
-              descriptors = f .shaped .descriptors;
-            };
-        journal = young-long;
-        files = s .files;
-        logs = size;
-        marks = f .marks;
-        undo = s .undo;
-        inRange =
-            in-range-intro (rejuvenated m logs .store) (rejuvenated m logs .journal)
-            (record {
-              files = r .files;
-              offsets = r .offsets;
-              lengths = r .lengths;
-              windows = r .windows;
-              undo = λ h. undo-same (m .store .undo) young-journal (m .journal) young-grant h (r .undo h);
-              transactions = λ u l b. absurd (true≢false (sym b ∙ closed-at (m .store .filenumbers) logs (m .undo) u l));
-            });
-      }
-
-  young-closed : (t : ℕ) → t ≤ lastTransaction → transaction (rejuvenated m logs .store) t .begun ≡ false
-  unfolding rejuvenated freshMachine
-  young-closed t l = closed-at (m .store .filenumbers) logs (m .undo) t (omega arith)
-
-  same-back : backIn (rejuvenated m logs) ≡ backIn m
-  unfolding rejuvenated freshStore freshMachine
-  same-back = back-same m (rejuvenated m logs) young-grant refl refl refl refl
-
-  same-start : startAbstract (fileOf (m .store)) (values (m .store) (m .files)) (windowAt (m .store)) (backIn m)
-      ≡ startAbstract (fileOf (rejuvenated m logs .store)) (values (rejuvenated m logs .store) (rejuvenated m logs .files))
-      (windowAt (rejuvenated m logs .store)) (backIn (rejuvenated m logs))
-  unfolding rejuvenated freshStore freshMachine fileOf
-  same-start = ap₂ (λ (v : Values) (b : Saved). startAbstract (fileOf (m .store)) v (windowAt (m .store)) b) (fun-ext each)
-      (sym same-back)
-    where
-      each : (i : Item) → values (m .store) (m .files) i ≡ values (rejuvenated m logs .store) (rejuvenated m logs .files) i
-      each (byte q) = unfold values in refl
-      each (offset d) = unfold values in refl
-      each (fileLength f) = unfold values in refl
-
--- Two sound stores that stand for the same abstract store answer alike.
+-- Two sound stores that stand for the same store without buffers answer alike.
 alike : (m n : Machine) → Sound m → Sound n → view m ≡ view n → (cs : List Call) → Alike cs m n
 unfolding view
 alike m n s t e cs =
@@ -125,40 +54,6 @@ alike m n s t e cs =
     record {
       replies = a .replies ∙ ap (abstractReplies cs) e ∙ sym (b .replies);
       left = ap (λ (x : Abstract). x .value) (a .state ∙ ap (abstractAfter cs) e ∙ sym (b .state));
-    }
-
-pub ageless : Ageless
-ageless m rest logs size =
-    let s = at-rest-sound m rest in
-    let n = rejuvenated m logs in
-    alike m n s (young-sound m s logs size)
-    (resting-view m (rest .closed) ∙ same-start m s logs size ∙ sym (resting-view n (young-closed m s logs size)))
-
--- With nothing open no call reads logs, marks and what is left of ended transactions.
-pub reloads : Reloads
-reloads m rest logs marks size wide cs =
-    let s = at-rest-sound m rest in
-    let n = withLogs logs (withMarking marks m) in
-    record {
-      ended =
-          alike m (recovered logs marks m) s (recovered-sound logs marks m s size wide)
-          (resting-view m (rest .closed) ∙ sym (recovered-view logs marks m)) cs;
-      asItLies =
-          alike m n s
-          (record {
-            shaped = s .shaped;
-            journal = s .journal;
-            files = s .files;
-            logs = size;
-            marks = wide;
-            undo = s .undo;
-            inRange = s .inRange;
-          })
-          (resting-view m (rest .closed)
-          ∙ ap (λ (b : Saved). startAbstract (fileOf (m .store)) (values (m .store) (m .files)) (windowAt (m .store)) b)
-          (sym (back-same m n (λ h k l. refl) refl refl refl refl))
-          ∙ sym (resting-view n (rest .closed)))
-          cs;
     }
 
 pub recovers : Recovers
@@ -254,8 +149,23 @@ earlier-back m = pick (m .store .undo .held)
     pick true = ap preserved (sym (back-values m))
     pick false = refl
 
--- Serializability from a sound store with nothing open.
-module _ (m : Machine) (sound : Sound m) (closed : (t : ℕ) → t ≤ lastTransaction → transaction (m .store) t .begun ≡ false) where
+-- It goes by what the store would go back to alone.
+earlierOf : Saved → Earlier
+earlierOf none = nothing
+earlierOf (preserved v) = found (record { value = v; setter = λ i. 0 }) 0
+
+earlier-of : (m : Machine) → earlierIn m ≡ earlierOf (backIn m)
+unfolding earlierIn backIn earlierOf
+earlier-of m = pick (m .store .undo .held)
+  where
+    pick : (b : Bool)
+        → cond b (found (record { value = values (undone m .store) (undone m .files); setter = λ i. 0 }) 0) nothing
+        ≡ earlierOf (cond b (preserved (backValues m)) none)
+    pick true = ap (λ (v : Values). found (record { value = v; setter = λ i. 0 }) 0) (back-values m)
+    pick false = refl
+
+-- Demand 3 from a sound store with nothing open.
+module _ (m : Machine) (sound : Sound m) (closed : (t : ℕ) → t ≤ 7 → transaction (m .store) t .begun ≡ false) where
   pub resting-start :
       view m ≡ startAbstract (fileOf (m .store)) (values (m .store) (m .files)) (windowAt (m .store)) (backOf (earlierIn m))
   resting-start =
@@ -273,3 +183,139 @@ module _ (m : Machine) (sound : Sound m) (closed : (t : ℕ) → t ≤ lastTrans
 
 pub serializability-at-rest : SerializabilityAtRest
 serializability-at-rest m rest = resting-holds m (at-rest-sound m rest) (rest .closed)
+
+-- ---- age
+
+same-values : (m n : Machine) → SameCommitted m n → values (n .store) (n .files) ≡ values (m .store) (m .files)
+same-values m n e = fun-ext each
+  where
+    each : (i : Item) → values (n .store) (n .files) i ≡ values (m .store) (m .files) i
+    each (byte q) = unfold values in ap (λ (l : List ℕ). getD l q 0) (e .files)
+    each (offset d) = unfold values in ap (λ (l : List ℕ). getD l d 0) (e .offsets)
+    each (fileLength f) = unfold values in ap (λ (l : List ℕ). getD l f 0) (e .lengths)
+
+-- A sound store with nothing open.
+pub record Idle (m : Machine) : Type 0 where
+  pub sound : Sound m
+  pub closed : (t : ℕ) → t ≤ 7 → transaction (m .store) t .begun ≡ false
+
+-- Two such stores with the same committed state stand for the same store without buffers.
+pub idle-alike : (m n : Machine) → Idle m → Idle n → n .store .filenumbers ≡ m .store .filenumbers → NothingLost m n
+    → (cs : List Call) → Alike cs m n
+unfolding fileOf
+idle-alike m n a b files lost =
+    let v = same-values m n (lost .committed) in
+    alike m n (a .sound) (b .sound)
+    (resting-start m (a .sound) (a .closed)
+    ∙ sym (resting-start n (b .sound) (b .closed)
+    ∙ ap₂ (λ (l : List ℕ) (w : Values). startAbstract (λ d. getD l d 0) w (windowAt (n .store)) (backOf (earlierIn n))) files v
+    ∙ ap₂ (λ (ws : List Window) (x : Earlier). startAbstract (fileOf (m .store)) (values (m .store) (m .files))
+    (λ f. getD ws f freshWindow) (backOf x)) (lost .windows) (lost .earlier)))
+
+at-rest-idle : (m : Machine) → AtRest m → Idle m
+at-rest-idle m rest = record { sound = at-rest-sound m rest; closed = rest .closed }
+
+-- The young store is sound too, has nothing open and the same committed values.
+module _ (m : Machine) (s : Sound m) (logs : List ℕ) (size : length logs ≡ 32768) where
+  abbrev records : ℕ
+  records = m .store .undo .used .records
+
+  abbrev young-journal : List ℕ
+  young-journal = withRecords (replicate 1728 0) lastGrant (writeRecordAt (m .journal) lastGrant) records
+
+  -- Its journal holds the same of the last grant.
+  young-grant : SameGrant (m .store .undo) young-journal (m .journal)
+  young-grant h k l =
+      let r = in-range (m .store) (m .journal) (s .inRange) .undo h in
+      let w = landed-in (writeRecordAt (m .journal) lastGrant k) (r .writes k l) in
+      read-own (replicate 1728 0) lastGrant (writeRecordAt (m .journal) lastGrant) (length-replicate 1728 zero)
+      (omega arith) records k (r .records) l (omega (arith, w .0))
+
+  young-long : length young-journal ≡ 1728
+  young-long = length-with (replicate 1728 0) lastGrant (writeRecordAt (m .journal) lastGrant) records
+      ∙ length-replicate 1728 zero
+
+  young-sound : Sound (rejuvenated m logs)
+  unfolding rejuvenated freshMachine freshStore
+  young-sound =
+      let r = in-range (m .store) (m .journal) (s .inRange) in
+      let f = fresh-sound (m .store .filenumbers) logs (m .undo) (s .shaped .files) (r .files) size (s .undo) in
+      record {
+        shaped =
+            record {
+              files = s .shaped .files;
+              offsets = s .shaped .offsets;
+              lengths = s .shaped .lengths;
+              windows = s .shaped .windows;
+              foundOffsets = s .shaped .foundOffsets;
+              foundLengths = s .shaped .foundLengths;
+              transactions = f .shaped .transactions;
+              descriptors = f .shaped .descriptors;
+            };
+        journal = young-long;
+        files = s .files;
+        logs = size;
+        marks = f .marks;
+        undo = s .undo;
+        inRange =
+            in-range-intro (rejuvenated m logs .store) (rejuvenated m logs .journal)
+            (record {
+              files = r .files;
+              offsets = r .offsets;
+              lengths = r .lengths;
+              windows = r .windows;
+              undo = λ h. undo-same (m .store .undo) young-journal (m .journal) young-grant h (r .undo h);
+              transactions = λ u l b. absurd (true≢false (sym b ∙ closed-at (m .store .filenumbers) logs (m .undo) u l));
+            });
+      }
+
+  young-closed : (t : ℕ) → t ≤ 7 → transaction (rejuvenated m logs .store) t .begun ≡ false
+  unfolding rejuvenated freshMachine
+  young-closed t l = closed-at (m .store .filenumbers) logs (m .undo) t (omega arith)
+
+  same-back : backIn (rejuvenated m logs) ≡ backIn m
+  unfolding rejuvenated freshStore freshMachine
+  same-back = back-same m (rejuvenated m logs) young-grant refl refl refl refl
+
+  young-preserved : NothingLost m (rejuvenated m logs)
+  unfolding rejuvenated freshStore freshMachine
+  young-preserved =
+      record {
+        committed = record { files = refl; offsets = refl; lengths = refl };
+        windows = refl;
+        earlier = earlier-of (rejuvenated m logs) ∙ ap earlierOf same-back ∙ sym (earlier-of m);
+      }
+
+pub ageless : Ageless
+unfolding rejuvenated freshStore freshMachine
+ageless m rest logs size =
+    let s = at-rest-sound m rest in
+    idle-alike m (rejuvenated m logs) (at-rest-idle m rest)
+    (record { sound = young-sound m s logs size; closed = young-closed m s logs size }) refl (young-preserved m s logs size)
+
+-- With nothing open nobody looks at logs, marks and what is left of ended transactions.
+pub reloads : Reloads
+reloads m rest logs marks size wide cs =
+    let s = at-rest-sound m rest in
+    record {
+      ended =
+          idle-alike m (recovered logs marks m) (at-rest-idle m rest)
+          (record { sound = recovered-sound logs marks m s size wide; closed = recovered-closed logs marks m })
+          (unfold recovered allEnded in refl) (survives m logs marks .recovering) cs;
+      asItLies =
+          idle-alike m (withLogs logs (withMarking marks m)) (at-rest-idle m rest)
+          (record {
+            sound =
+                record {
+                  shaped = s .shaped;
+                  journal = s .journal;
+                  files = s .files;
+                  logs = size;
+                  marks = wide;
+                  undo = s .undo;
+                  inRange = s .inRange;
+                };
+            closed = rest .closed;
+          })
+          refl (lent-preserved (m .store .transactions) logs marks m) cs;
+    }

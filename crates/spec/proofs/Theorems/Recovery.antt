@@ -56,7 +56,7 @@ module _ (logs marks : List ℕ) (m : Machine) where
   unfolding allEnded
   ended-at u l = getD-replicate 8 u ended noTransaction l
 
-  recovered-closed : (t : ℕ) → t ≤ lastTransaction → transaction (recovered logs marks m .store) t .begun ≡ false
+  pub recovered-closed : (t : ℕ) → t ≤ 7 → transaction (recovered logs marks m .store) t .begun ≡ false
   unfolding recovered ended
   recovered-closed t l = ap (λ (x : Transaction). x .begun) (ended-at t (omega arith))
 

@@ -20,7 +20,8 @@ use Rattle.spec.specs.Messages.{Op, bufferOf, bufferOfCall, Call, begin,
 use Rattle.spec.specs.Messages.{bestOrder, refusalOf}
 use Rattle.spec.specs.OrderReply.{Asked, orderRefusal, orderReplied, orderReply}
 use Rattle.spec.specs.Machine.{Machine, sizes, fileOf, values, txnOf}
-use Rattle.spec.specs.Refusals.{Refusals, RefusalsOfCode}
+use Rattle.spec.specs.Refusals.{Refusals}
+use Rattle.spec.specs.Corollaries.{RefusalsKnown, RefusalsOfCode}
 use Rattle.spec.specs.Calls.{Turn, answerWith, refuseTurn, passing, fresh, reset, beginTurn, abortTurn, served, stepTurn}
 use Rattle.spec.specs.Calls.{commitGranted, commitDecided, commitTurn, admitted, call, placesTurn, windowTurn, undoTurn}
 use Rattle.spec.specs.Calls.{orderTurn, askedOf}
@@ -270,12 +271,13 @@ refusals-hold m =
       freshFirst = λ numbers. fresh-says numbers m;
       rows = λ c. refusal-rows c m;
       freshRow = λ numbers. fresh-row numbers m;
-      known = λ c. call-known c m;
-      freshKnown = λ numbers. fresh-known numbers m;
       leaves = λ c. leaves-call c m .leaves;
       freshLeaves = λ numbers n e. leaves-fresh numbers m .leaves n e (fresh-not-13 numbers m n e) .0;
       ends = λ c. ends-call c m;
     }
+
+pub refusals-known : (m : Machine) → RefusalsKnown m
+refusals-known m = record { known = λ c. call-known c m; freshKnown = λ numbers. fresh-known numbers m }
 
 pub refusals-of-code : RefusalsOfCode
 unfolding refusalOf
@@ -289,7 +291,7 @@ refusals-of-code =
           let d = refusals-hold m in
           record {
             first = sym (d .first c) ∙ ap refusalOf f;
-            known = d .known c n f;
+            known = call-known c m n f;
             leaves = λ h. let l = d .leaves c n f h in (k .machine ∙ l .0, k .reader ∙ l .1);
             ends = λ h. let w = d .ends c (f ∙ ap refused h) in (w .0, w .1, w .2, k .machine ∙ w .3);
           };
@@ -297,5 +299,5 @@ refusals-of-code =
           λ numbers m o after n k e.
           let f = sym (k .outcome) ∙ e in
           let d = refusals-hold m in
-          (d .freshKnown numbers n f, k .machine ∙ d .freshLeaves numbers n f);
+          (fresh-known numbers m n f, k .machine ∙ d .freshLeaves numbers n f);
     }

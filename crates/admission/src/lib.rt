@@ -26,11 +26,13 @@ use state::layout::length_of;
 use state::layout::undo_used;
 use state::layout::used_at;
 use state::outcomes::Refusal;
+use state::readers::all_use_at_most;
 use state::readers::files_at_most;
 use state::readers::found_at_most;
 use state::readers::lengths_at_most;
 use state::readers::offsets_at_most;
 use state::readers::standings_at_most;
+use state::readers::uses_at_most;
 use state::readers::windows_at_most;
 use windows::minute_in;
 ghost use mathlib.Core.Path.{_≡_};
@@ -54,6 +56,9 @@ const LAST_LISTED_FILE: u8 = LAST_FILE as u8;
 const LAST_FILE_NUMBER: u16 = LAST_FILE as u16;
 
 const LAST_DESCRIPTOR_NUMBER: u16 = LAST_DESCRIPTOR as u16;
+
+// How many write records a transaction has at most, as the record holds it.
+const LAST_COUNT: u16 = RECORDS as u16;
 
 // What the tests before a call's own say: go on, or a refusal.
 pub enum Gate {
@@ -95,28 +100,27 @@ fn records_in(state: &State, t: usize, records: usize, bytes: usize) -> bool
     sum == bytes
 }
 
-// Transaction t is in range.
-fn transaction_in(state: &State, t: usize) -> bool
-    requires { ⌜ t < transactionCount ⌝ }
-    ensures { λ r. ⌜ r
-        ≡ transactionIn (transactionOf (now (state .entry)) t) (journalOf (now (state .entry))) t ⌝ }
+// The write records of transaction t are in range, where it is open.
+fn journal_in(state: &State, t: usize) -> bool
 {
-    if !is_begun(state, t) {
+    if uses_at_most(state, t, 0, 0) {
         return true;
     }
     let used = used_at(state, t);
-    let records = used.records;
-    let bytes = wide(used.bytes);
-    if records > RECORDS {
-        return false;
+    records_in(state, t, used.records, wide(used.bytes))
+}
+
+// Those of all transactions are.
+fn journals_in(state: &State) -> bool
+{
+    let mut t = 0;
+    while t < TRANSACTIONS {
+        if !journal_in(state, t) {
+            return false;
+        }
+        t += 1;
     }
-    if bytes > LOG_BYTES {
-        return false;
-    }
-    if !standings_at_most(state, t, FILE_END) {
-        return false;
-    }
-    records_in(state, t, records, bytes)
+    true
 }
 
 // The transactions are in range.
@@ -125,14 +129,16 @@ fn transactions_in(state: &State) -> bool
         below (λ t. transactionIn (transactionOf (now (state .entry)) t) (journalOf (now (state .entry))) t)
         transactionCount ⌝ }
 {
-    let mut t = 0;
-    while t < TRANSACTIONS {
-        if !transaction_in(state, t) {
-            return false;
-        }
-        t += 1;
+    if !all_use_at_most(state, LAST_COUNT, FILE_END) {
+        return false;
     }
-    true
+    if !standings_at_most(state, FILE_END) {
+        return false;
+    }
+    if all_use_at_most(state, 0, 0) {
+        return true;
+    }
+    journals_in(state)
 }
 
 // Everything is in range but what is held of the last grant.

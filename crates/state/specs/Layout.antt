@@ -1,23 +1,24 @@
 -- The record as a caller lends it, a list of numbers, and what they mean. Nothing but this and Updates.antt
 -- knows how they are laid out:
 --     0       the journal (Journal.antt)
--- 1728    the transactions, 64 numbers each: the kinds of its sixteen standings, their first numbers, their
--- second numbers; then
--- begun, stale, the lengths sighted, the dirty descriptors as bits, records used, bytes used, and ten that
--- are not looked at
---     2240    the file numbers of the sixteen descriptors
---     2256    their committed offsets
---     2272    the committed lengths of the eight files
---     2280    the starts of their windows
---     2288    the ends of their windows
---     2296    the offsets that the last grant found
---     2312    the lengths that it found
---     2320    whether it is held, its write records, its bytes
-use mathlib.Core.Bool.{Bool, cond}
+--     1728    the transactions, 38 numbers each; number k of the eight transactions stands in a row, so that
+--             one vector is eight transactions. They are the first numbers of the sixteen standings, their
+--             second numbers; then begun, stale, the lengths sighted, the dirty descriptors as bits, records
+--             used, bytes used
+--     2032    the file numbers of the sixteen descriptors
+--     2048    their committed offsets
+--     2064    the committed lengths of the eight files
+--     2072    the starts of their windows
+--     2080    the ends of their windows
+--     2088    the offsets that the last grant found
+--     2104    the lengths that it found
+--     2112    whether it is held, its write records, its bytes
+-- Every number is looked at: there is no spare one.
+use mathlib.Core.Bool.{Bool}
 use mathlib.Core.List.{List}
 use lib.Dec.{eqb}
 use lib.ListN.{getD}
-use Prim.Native.Nat.{ℕ, _+_, _*_}
+use Prim.Native.Nat.{ℕ, zero, suc, _+_, _-_, _*_}
 use Rattle.limits.specs.Limits.{fileCount, descriptorCount, transactionCount}
 use Rattle.buffers.specs.Parts.{tabulate}
 use Rattle.buffers.specs.Marks.{contains}
@@ -36,12 +37,12 @@ use Rattle.state.specs.Journal.{journalLength}
 abbrev pub transactionsAt : ℕ
 transactionsAt = journalLength
 
--- How many numbers a transaction has, looked at or not.
+-- How many numbers a transaction has.
 abbrev pub transactionLength : ℕ
-transactionLength = 64
+transactionLength = 38
 
 abbrev pub fileNumbersAt : ℕ
-fileNumbersAt = transactionsAt + transactionLength * transactionCount
+fileNumbersAt = transactionsAt + transactionCount * transactionLength
 
 abbrev pub offsetsAt : ℕ
 offsetsAt = fileNumbersAt + descriptorCount
@@ -68,13 +69,9 @@ heldAt = foundLengthsAt + fileCount
 abbrev pub stateLength : ℕ
 stateLength = heldAt + 3
 
--- Where each stands among a transaction's numbers, behind the kinds of its standings;
--- and how many are looked at.
-abbrev pub firstSlot : ℕ
-firstSlot = descriptorCount
-
+-- Where each stands among a transaction's numbers, behind the first numbers of its standings.
 abbrev pub secondSlot : ℕ
-secondSlot = firstSlot + descriptorCount
+secondSlot = descriptorCount
 
 abbrev pub begunSlot : ℕ
 begunSlot = secondSlot + descriptorCount
@@ -94,43 +91,43 @@ recordsSlot = begunSlot + 4
 abbrev pub bytesSlot : ℕ
 bytesSlot = begunSlot + 5
 
-abbrev pub lookedAtCount : ℕ
-lookedAtCount = begunSlot + 6
-
 -- ---- what numbers mean: every number means something, and none is cut
 
--- Three numbers as a standing: its kind, the first number that it carries, the second. A kind above 3 is
--- Known; what a standing does not carry is not looked at.
-unfoldable pub standingOf : ℕ → ℕ → ℕ → Standing
-standingOf k a b =
-    cond (eqb k 0) Untouched (cond (eqb k 1) (Placed a)
-    (cond (eqb k 2) (Deferred a) (cond (eqb k 3) (Moved a b) (Known a))))
+-- Two numbers as a standing: one more than its offset, or 0 where it carries none; and two more than its
+-- advance, or 0 where it carries none, or 1 where it is Known. "Each standing carries the numbers named beside
+-- it and no others" [R-3.1]. The pair 0, 1, which Updates.antt never puts, is Known at 0.
+unfoldable pub standingOf : ℕ → ℕ → Standing
+standingOf a (suc zero) = Known (a - 1)
+standingOf zero zero = Untouched
+standingOf (suc o) zero = Placed o
+standingOf zero (suc (suc n)) = Deferred n
+standingOf (suc o) (suc (suc n)) = Moved n o
 
 -- A flag is set where its number is 1.
 abbrev pub isSet : ℕ → Bool
 isSet n = eqb n 1
 
--- The first number of transaction t.
-abbrev pub base : ℕ → ℕ
-base t = transactionsAt + transactionLength * t
+-- Where number k of transaction t stands.
+abbrev pub numberAt : ℕ → ℕ → ℕ
+numberAt t k = transactionsAt + transactionCount * k + t
 
 unfoldable pub descriptorOf : List ℕ → ℕ → ℕ → Descriptor
 descriptorOf r t d =
     record {
-      standing = standingOf (getD r (base t + d) 0) (getD r (base t + d + firstSlot) 0)
-          (getD r (base t + d + secondSlot) 0);
-      dirty = contains (getD r (base t + dirtySlot) 0) d;
+      standing = standingOf (getD r (numberAt t d) 0) (getD r (numberAt t (secondSlot + d)) 0);
+      dirty = contains (getD r (numberAt t dirtySlot) 0) d;
     }
 
 unfoldable pub usedOf : List ℕ → ℕ → Used
-usedOf r t = record { records = getD r (base t + recordsSlot) 0; bytes = getD r (base t + bytesSlot) 0 }
+usedOf r t =
+    record { records = getD r (numberAt t recordsSlot) 0; bytes = getD r (numberAt t bytesSlot) 0 }
 
 unfoldable pub transactionOf : List ℕ → ℕ → Transaction
 transactionOf r t =
     record {
-      begun = isSet (getD r (base t + begunSlot) 0);
-      stale = isSet (getD r (base t + staleFlagSlot) 0);
-      lengthmarks = getD r (base t + lengthmarksSlot) 0;
+      begun = isSet (getD r (numberAt t begunSlot) 0);
+      stale = isSet (getD r (numberAt t staleFlagSlot) 0);
+      lengthmarks = getD r (numberAt t lengthmarksSlot) 0;
       used = usedOf r t;
       descriptors = tabulate (descriptorOf r t) descriptorCount;
     }

@@ -1,42 +1,38 @@
--- How the code puts a meaning into the record's numbers (Layout.antt): in one form, with 0 for what is not
--- carried. The promises of the calls do not name these; those of the functions below them do.
+-- How the code puts a meaning into the record's numbers (Layout.antt): in one form. The promises of the calls do not name these; those of the functions below them do.
 use mathlib.Core.Bool.{Bool, true, false, cond}
 use mathlib.Core.List.{List}
 use lib.ListN.{getD, set}
-use Prim.Native.Nat.{ℕ, zero, suc, _+_}
+use Prim.Native.Nat.{ℕ, zero, suc, _+_, _≤_}
 use Rattle.limits.specs.Limits.{fileCount, descriptorCount}
 use Rattle.buffers.specs.Bits.{withBitAs}
 use Rattle.counters.specs.declared.Used.{Used}
 use Rattle.windows.specs.declared.Window.{Window}
 use Rattle.standings.specs.declared.Standing.{Standing}
 use Rattle.standings.specs.declared.Standing.the-variants.{Untouched, Placed, Deferred, Moved, Known}
+use Rattle.standings.specs.Table.{advance, offsetOf}
 use Rattle.state.specs.declared.Descriptor.{Descriptor}
-use Rattle.state.specs.Layout.{base, firstSlot, secondSlot, begunSlot, staleFlagSlot, lengthmarksSlot}
-use Rattle.state.specs.Layout.{dirtySlot}
-use Rattle.state.specs.Layout.{recordsSlot, bytesSlot, lookedAtCount}
+use Rattle.state.specs.Layout.{numberAt, secondSlot, begunSlot, staleFlagSlot, lengthmarksSlot}
+use Rattle.state.specs.Layout.{dirtySlot, recordsSlot, bytesSlot, transactionLength}
 use Rattle.state.specs.Layout.{fileNumbersAt, offsetsAt, lengthsAt, startsAt, endsAt}
 use Rattle.state.specs.Layout.{foundOffsetsAt, foundLengthsAt, heldAt}
 
-abbrev pub kindNumber : Standing → ℕ
-kindNumber Untouched = 0
-kindNumber (Placed o) = 1
-kindNumber (Deferred a) = 2
-kindNumber (Moved a o) = 3
-kindNumber (Known o) = 4
-
 abbrev pub firstNumber : Standing → ℕ
 firstNumber Untouched = 0
-firstNumber (Placed o) = o
-firstNumber (Deferred a) = a
-firstNumber (Moved a o) = a
-firstNumber (Known o) = o
+firstNumber (Placed o) = o + 1
+firstNumber (Deferred a) = 0
+firstNumber (Moved a o) = o + 1
+firstNumber (Known o) = o + 1
 
 abbrev pub secondNumber : Standing → ℕ
 secondNumber Untouched = 0
 secondNumber (Placed o) = 0
-secondNumber (Deferred a) = 0
-secondNumber (Moved a o) = o
-secondNumber (Known o) = 0
+secondNumber (Deferred a) = a + 2
+secondNumber (Moved a o) = a + 2
+secondNumber (Known o) = 1
+
+-- Both are numbers of 16 bits. Whatever passes refusal 2 is far below.
+abbrev pub fits : Standing → Type 0
+fits z = (offsetOf z ≤ 65534) × (advance z ≤ 65533)
 
 abbrev pub flagNumber : Bool → ℕ
 flagNumber true = 1
@@ -47,9 +43,8 @@ flagNumber false = 0
 unfoldable pub withDescriptorAt : List ℕ → ℕ → ℕ → Descriptor → List ℕ
 withDescriptorAt r t d q =
     let z = q .standing in
-    set (set (set (set r (base t + d) (kindNumber z)) (base t + d + firstSlot) (firstNumber z))
-    (base t + d + secondSlot) (secondNumber z)) (base t + dirtySlot)
-    (withBitAs d (q .dirty) (getD r (base t + dirtySlot) 0))
+    set (set (set r (numberAt t d) (firstNumber z)) (numberAt t (secondSlot + d)) (secondNumber z))
+    (numberAt t dirtySlot) (withBitAs d (q .dirty) (getD r (numberAt t dirtySlot) 0))
 
 unfoldable pub withChosenAt : List ℕ → ℕ → (ℕ → Bool) → (ℕ → Descriptor) → ℕ → List ℕ
 withChosenAt r t chosen f zero = r
@@ -59,21 +54,22 @@ withChosenAt r t chosen f (suc n) =
 
 -- With the two counters of transaction t as u; with t stale; with n as the lengths that it has sighted.
 unfoldable pub withUsedAt : List ℕ → ℕ → Used → List ℕ
-withUsedAt r t u = set (set r (base t + recordsSlot) (u .records)) (base t + bytesSlot) (u .bytes)
+withUsedAt r t u =
+    set (set r (numberAt t recordsSlot) (u .records)) (numberAt t bytesSlot) (u .bytes)
 
 abbrev pub withStaleAt : List ℕ → ℕ → List ℕ
-withStaleAt r t = set r (base t + staleFlagSlot) 1
+withStaleAt r t = set r (numberAt t staleFlagSlot) 1
 
 abbrev pub withLengthmarksAt : List ℕ → ℕ → ℕ → List ℕ
-withLengthmarksAt r t n = set r (base t + lengthmarksSlot) n
+withLengthmarksAt r t n = set r (numberAt t lengthmarksSlot) n
 
--- With n zeros from number i on; with transaction t as one that has ended, or as one just begun.
-unfoldable pub zeroedFrom : List ℕ → ℕ → ℕ → List ℕ
-zeroedFrom r i zero = r
-zeroedFrom r i (suc n) = set (zeroedFrom r i n) (i + n) 0
+-- With zeros as the first n numbers of transaction t; with it as one that has ended, or as one just begun.
+unfoldable pub zeroedAt : List ℕ → ℕ → ℕ → List ℕ
+zeroedAt r t zero = r
+zeroedAt r t (suc n) = set (zeroedAt r t n) (numberAt t n) 0
 
 unfoldable pub resetAt : List ℕ → ℕ → Bool → List ℕ
-resetAt r t begun = set (zeroedFrom r (base t) lookedAtCount) (base t + begunSlot) (flagNumber begun)
+resetAt r t begun = set (zeroedAt r t transactionLength) (numberAt t begunSlot) (flagNumber begun)
 
 -- With another file number, committed offset, committed length, window; with f 0, f 1, .. as the file numbers
 -- below n.

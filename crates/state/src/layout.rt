@@ -2,47 +2,43 @@
 use crate::DESCRIPTORS;
 use crate::Descriptor;
 use crate::FILES;
+use crate::TRANSACTIONS;
 use crate::Transaction;
-use crate::positions::BEGUN;
-use crate::positions::BYTES_USED;
+use crate::positions::ADVANCE_BIAS;
+use crate::positions::BEGUN_AT;
+use crate::positions::BYTES_AT;
 use crate::positions::CAN_UNDO_AT;
-use crate::positions::DEFERRED;
-use crate::positions::DIRTY;
+use crate::positions::DIRTY_AT;
 use crate::positions::ENDS_AT;
 use crate::positions::FILE_NUMBERS_AT;
-use crate::positions::FIRST;
 use crate::positions::FOUND_AT;
 use crate::positions::FOUND_LENGTHS_AT;
 use crate::positions::KNOWN;
-use crate::positions::LENGTHMARKS;
+use crate::positions::LENGTHMARKS_AT;
 use crate::positions::LENGTHS_AT;
-use crate::positions::LOOKED_AT;
-use crate::positions::MOVED;
 use crate::positions::OFFSETS_AT;
-use crate::positions::PLACED;
-use crate::positions::RECORDS_USED;
+use crate::positions::OFFSET_BIAS;
+use crate::positions::RECORDS_AT;
 use crate::positions::SECOND;
-use crate::positions::STALE;
+use crate::positions::STALE_AT;
 use crate::positions::STARTS_AT;
 use crate::positions::TRANSACTION;
 use crate::positions::TRANSACTIONS_AT;
-use crate::positions::UNTOUCHED;
 use crate::positions::first_at;
-use crate::positions::kind_at;
 use crate::positions::second_at;
 use buffers::bit_sets;
 use counters::Used;
 use limits::wide;
 use standings::Standing;
 use windows::Window;
-ghost use mathlib.Core.Bool.{false};
+ghost use mathlib.Core.Bool.{true, false};
 ghost use mathlib.Core.Path.{_≡_};
-ghost use Prim.Native.Nat.{_+_, _<_, _≤_};
+ghost use Prim.Native.Nat.{ℕ, _+_, _<_, _≤_};
 ghost use lib.ListN.{length, getD, replicate};
 ghost use Rattle.limits.specs.Limits.{fileCount, descriptorCount, transactionCount};
 ghost use Rattle.state.specs.StoreMeaning.{standingAt, noDescriptor, windowAt};
 ghost use Rattle.state.specs.Layout.{standingOf};
-ghost use Rattle.state.specs.Updates.{kindNumber, firstNumber, secondNumber, flagNumber};
+ghost use Rattle.state.specs.Updates.{firstNumber, secondNumber, flagNumber, fits};
 ghost use Rattle.state.specs.Layout.{descriptorOf, transactionOf, storeOf};
 ghost use Rattle.state.specs.Updates.{withDescriptorAt, withChosenAt, withUsedAt, resetAt};
 ghost use Rattle.state.specs.Updates.{withStaleAt, withLengthmarksAt};
@@ -82,60 +78,53 @@ pub fn clear(state: &mut State)
 
 // ---- numbers and what they mean
 
-fn standing_of(k: u16, a: u16, b: u16) -> Standing
-    ensures { λ r. ⌜ r ≡ standingOf k a b ⌝ }
+fn standing_of(a: u16, b: u16) -> Standing
+    ensures { λ r. ⌜ r ≡ standingOf a b ⌝ }
 {
-    if k == UNTOUCHED {
-        return Standing::Untouched;
+    if b == KNOWN {
+        if a == 0 {
+            return Standing::Known(0);
+        }
+        return Standing::Known(a - OFFSET_BIAS);
     }
-    if k == PLACED {
-        return Standing::Placed(a);
+    if b == 0 {
+        if a == 0 {
+            return Standing::Untouched;
+        }
+        return Standing::Placed(a - OFFSET_BIAS);
     }
-    if k == DEFERRED {
-        return Standing::Deferred(a);
+    if a == 0 {
+        return Standing::Deferred(b - ADVANCE_BIAS);
     }
-    if k == MOVED {
-        return Standing::Moved {
-            advance: a,
-            offset: b,
-        };
-    }
-    Standing::Known(a)
-}
-
-fn kind_of(standing: Standing) -> u16
-    ensures { λ r. ⌜ r ≡ kindNumber standing ⌝ }
-{
-    match standing {
-        Standing::Untouched => UNTOUCHED,
-        Standing::Placed(_) => PLACED,
-        Standing::Deferred(_) => DEFERRED,
-        Standing::Moved { .. } => MOVED,
-        Standing::Known(_) => KNOWN,
+    Standing::Moved {
+        advance: b - ADVANCE_BIAS,
+        offset: a - OFFSET_BIAS,
     }
 }
 
 fn first_of(standing: Standing) -> u16
+    requires { ⌜ fits standing ⌝ }
     ensures { λ r. ⌜ r ≡ firstNumber standing ⌝ }
 {
     match standing {
         Standing::Untouched => 0,
-        Standing::Placed(offset) => offset,
-        Standing::Deferred(advance) => advance,
-        Standing::Moved { advance, offset: _ } => advance,
-        Standing::Known(offset) => offset,
+        Standing::Placed(offset) => offset + OFFSET_BIAS,
+        Standing::Deferred(_) => 0,
+        Standing::Moved { advance: _, offset } => offset + OFFSET_BIAS,
+        Standing::Known(offset) => offset + OFFSET_BIAS,
     }
 }
 
 fn second_of(standing: Standing) -> u16
+    requires { ⌜ fits standing ⌝ }
     ensures { λ r. ⌜ r ≡ secondNumber standing ⌝ }
 {
     match standing {
         Standing::Untouched => 0,
         Standing::Placed(_) => 0,
-        Standing::Deferred(_) => 0,
-        Standing::Moved { advance: _, offset } => offset,
-        Standing::Known(_) => 0,
+        Standing::Deferred(advance) => advance + ADVANCE_BIAS,
+        Standing::Moved { advance, offset: _ } => advance + ADVANCE_BIAS,
+        Standing::Known(_) => KNOWN,
     }
 }
 
@@ -154,30 +143,29 @@ pub fn is_begun(state: &State, t: usize) -> bool
     requires { ⌜ t < transactionCount ⌝ }
     ensures { λ r. ⌜ r ≡ transactionOf (now (state .entry)) t .begun ⌝ }
 {
-    state[TRANSACTIONS_AT + TRANSACTION * t + BEGUN] == 1
+    state[BEGUN_AT + t] == 1
 }
 
 pub fn is_stale(state: &State, t: usize) -> bool
     requires { ⌜ t < transactionCount ⌝ }
     ensures { λ r. ⌜ r ≡ transactionOf (now (state .entry)) t .stale ⌝ }
 {
-    state[TRANSACTIONS_AT + TRANSACTION * t + STALE] == 1
+    state[STALE_AT + t] == 1
 }
 
 pub fn lengthmarks_at(state: &State, t: usize) -> u16
     requires { ⌜ t < transactionCount ⌝ }
     ensures { λ r. ⌜ r ≡ transactionOf (now (state .entry)) t .lengthmarks ⌝ }
 {
-    state[TRANSACTIONS_AT + TRANSACTION * t + LENGTHMARKS]
+    state[LENGTHMARKS_AT + t]
 }
 
 pub fn used_at(state: &State, t: usize) -> Used
     requires { ⌜ t < transactionCount ⌝ }
     ensures { λ r. ⌜ r ≡ transactionOf (now (state .entry)) t .used ⌝ }
 {
-    let base = TRANSACTIONS_AT + TRANSACTION * t;
-    let records = wide(state[base + RECORDS_USED]);
-    let bytes = state[base + BYTES_USED];
+    let records = wide(state[RECORDS_AT + t]);
+    let bytes = state[BYTES_AT + t];
     Used { records, bytes }
 }
 
@@ -186,10 +174,9 @@ pub fn standing_at(state: &State, t: usize, d: usize) -> Standing
     requires { ⌜ (t < transactionCount) × (d < descriptorCount) ⌝ }
     ensures { λ r. ⌜ r ≡ standingAt (transactionOf (now (state .entry)) t) d ⌝ }
 {
-    let k = kind_at(state, t, d);
     let a = first_at(state, t, d);
     let b = second_at(state, t, d);
-    standing_of(k, a, b)
+    standing_of(a, b)
 }
 
 pub fn descriptor_at(state: &State, t: usize, d: usize) -> Descriptor
@@ -197,7 +184,7 @@ pub fn descriptor_at(state: &State, t: usize, d: usize) -> Descriptor
     ensures { λ r. ⌜ r ≡ descriptorOf (now (state .entry)) t d ⌝ }
 {
     let standing = standing_at(state, t, d);
-    let dirty = state[TRANSACTIONS_AT + TRANSACTION * t + DIRTY];
+    let dirty = state[DIRTY_AT + t];
     Descriptor {
         standing,
         dirty: bit_sets::contains(dirty, d),
@@ -309,17 +296,14 @@ pub fn found_length_at(state: &State, f: usize) -> u16
 
 // Puts q in the place of descriptor d of transaction t.
 pub fn put_descriptor(state: &mut State, t: usize, d: usize, q: Descriptor)
-    requires { ⌜ (t < transactionCount) × (d < descriptorCount) ⌝ }
+    requires { ⌜ (t < transactionCount) × (d < descriptorCount) × fits (q .standing) ⌝ }
     ensures { λ _. ⌜ now (state .exit) ≡ withDescriptorAt (now (state .entry)) t d q ⌝ }
 {
-    let i = TRANSACTIONS_AT + TRANSACTION * t + d;
-    let j = TRANSACTIONS_AT + TRANSACTION * t + DIRTY;
     let standing = q.standing;
-    let dirty = state[j];
-    state[i] = kind_of(standing);
-    state[i + FIRST] = first_of(standing);
-    state[i + SECOND] = second_of(standing);
-    state[j] = bit_sets::put(dirty, d, q.dirty);
+    let dirty = state[DIRTY_AT + t];
+    state[TRANSACTIONS_AT + TRANSACTIONS * d + t] = first_of(standing);
+    state[TRANSACTIONS_AT + TRANSACTIONS * (SECOND + d) + t] = second_of(standing);
+    state[DIRTY_AT + t] = bit_sets::put(dirty, d, q.dirty);
 }
 
 // Puts those of the sixteen descriptors of transaction t that are chosen.
@@ -329,7 +313,8 @@ pub fn put_chosen(
     chosen: [bool; DESCRIPTORS],
     all: [Descriptor; DESCRIPTORS],
 )
-    requires { ⌜ t < transactionCount ⌝ }
+    requires { ⌜ (t < transactionCount) × ((e : ℕ) → e < descriptorCount → getD chosen e false ≡ true
+        → fits (getD all e noDescriptor .standing)) ⌝ }
     ensures { λ _. ⌜ now (state .exit)
         ≡ withChosenAt (now (state .entry)) t (λ e. getD chosen e false) (λ e. getD all e noDescriptor)
         descriptorCount ⌝ }
@@ -349,9 +334,8 @@ pub fn put_used(state: &mut State, t: usize, u: Used)
     requires { ⌜ (t < transactionCount) × (u .records < 65536) ⌝ }
     ensures { λ _. ⌜ now (state .exit) ≡ withUsedAt (now (state .entry)) t u ⌝ }
 {
-    let base = TRANSACTIONS_AT + TRANSACTION * t;
-    state[base + RECORDS_USED] = u.records as u16;
-    state[base + BYTES_USED] = u.bytes;
+    state[RECORDS_AT + t] = u.records as u16;
+    state[BYTES_AT + t] = u.bytes;
 }
 
 // Makes transaction t stale.
@@ -359,7 +343,7 @@ pub fn put_stale(state: &mut State, t: usize)
     requires { ⌜ t < transactionCount ⌝ }
     ensures { λ _. ⌜ now (state .exit) ≡ withStaleAt (now (state .entry)) t ⌝ }
 {
-    state[TRANSACTIONS_AT + TRANSACTION * t + STALE] = 1;
+    state[STALE_AT + t] = 1;
 }
 
 // Puts the lengths that transaction t has sighted.
@@ -367,7 +351,7 @@ pub fn put_lengthmarks(state: &mut State, t: usize, n: u16)
     requires { ⌜ t < transactionCount ⌝ }
     ensures { λ _. ⌜ now (state .exit) ≡ withLengthmarksAt (now (state .entry)) t n ⌝ }
 {
-    state[TRANSACTIONS_AT + TRANSACTION * t + LENGTHMARKS] = n;
+    state[LENGTHMARKS_AT + t] = n;
 }
 
 // Makes transaction t one that has ended, or one just begun.
@@ -375,13 +359,12 @@ pub fn reset(state: &mut State, t: usize, begun: bool)
     requires { ⌜ t < transactionCount ⌝ }
     ensures { λ _. ⌜ now (state .exit) ≡ resetAt (now (state .entry)) t begun ⌝ }
 {
-    let base = TRANSACTIONS_AT + TRANSACTION * t;
-    let mut i = 0;
-    while i < LOOKED_AT {
-        state[base + i] = 0;
-        i += 1;
+    let mut k = 0;
+    while k < TRANSACTION {
+        state[TRANSACTIONS_AT + TRANSACTIONS * k + t] = 0;
+        k += 1;
     }
-    state[base + BEGUN] = flag_of(begun);
+    state[BEGUN_AT + t] = flag_of(begun);
 }
 
 pub fn put_file(state: &mut State, d: usize, n: u16)

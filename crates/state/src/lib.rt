@@ -12,7 +12,6 @@ pub use limits::DESCRIPTORS;
 pub use limits::FILES;
 pub use limits::TRANSACTIONS;
 pub use positions::OFFSETS_AT;
-pub use positions::SPARE_AT;
 use standings::Standing;
 use windows::Window;
 ghost use mathlib.Core.Bool.{_&&_};

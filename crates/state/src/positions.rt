@@ -1,8 +1,7 @@
 // Where each number of the record stands: the journal, eight transactions, file numbers, committed offsets,
 // committed lengths, windows, and what is held of the last grant (specs/Layout.antt). This module is private:
-// in this crate `layout`, `readers` and `journal` use it, and every other crate reads and writes by name. Two
-// places are named to the outside, for whoever tests what a call must leave alone: the committed offsets, and
-// a number that nothing carries.
+// in this crate `layout`, `readers` and `journal` use it, and every other crate reads and writes by name. One
+// place is named to the outside, for whoever tests what a call must leave alone: the committed offsets.
 use crate::DESCRIPTORS;
 use crate::FILES;
 use crate::TRANSACTIONS;
@@ -12,36 +11,35 @@ ghost use mathlib.Core.Path.{_≡_};
 ghost use Prim.Native.Nat.{_+_, _<_};
 ghost use lib.ListN.{getD};
 ghost use Rattle.limits.specs.Limits.{descriptorCount, transactionCount};
-ghost use Rattle.state.specs.Layout.{base, firstSlot, secondSlot};
+ghost use Rattle.state.specs.Layout.{numberAt, secondSlot};
 
-// A transaction's numbers: how many, how many of them are looked at, and where those of the first one stand.
-pub const TRANSACTION: usize = 64;
-
-pub const LOOKED_AT: usize = BYTES_USED + 1;
-
-// Where each stands among a transaction's numbers, behind the kinds of its standings.
-pub const FIRST: usize = DESCRIPTORS;
-
-pub const SECOND: usize = FIRST + DESCRIPTORS;
-
-pub const BEGUN: usize = SECOND + DESCRIPTORS;
-
-pub const STALE: usize = BEGUN + 1;
-
-pub const LENGTHMARKS: usize = STALE + 1;
-
-pub const DIRTY: usize = LENGTHMARKS + 1;
-
-pub const RECORDS_USED: usize = DIRTY + 1;
-
-pub const BYTES_USED: usize = RECORDS_USED + 1;
+// How many numbers a transaction has, and where the first one of transaction 0 stands: number k of the eight
+// transactions stands in a row.
+pub const TRANSACTION: usize = BYTES_USED + 1;
 
 pub const TRANSACTIONS_AT: usize = 3 * RECORDS * (TRANSACTIONS + 1);
 
-// The first number of transaction 0 that is not looked at.
-pub const SPARE_AT: usize = TRANSACTIONS_AT + LOOKED_AT;
+// Where each stands among a transaction's numbers, behind the first numbers of its standings.
+pub const SECOND: usize = DESCRIPTORS;
 
-pub const FILE_NUMBERS_AT: usize = TRANSACTIONS_AT + TRANSACTIONS * TRANSACTION;
+const BEGUN: usize = SECOND + DESCRIPTORS;
+
+const BYTES_USED: usize = BEGUN + 5;
+
+// Those of transaction 0.
+pub const BEGUN_AT: usize = TRANSACTIONS_AT + TRANSACTIONS * BEGUN;
+
+pub const STALE_AT: usize = BEGUN_AT + TRANSACTIONS;
+
+pub const LENGTHMARKS_AT: usize = STALE_AT + TRANSACTIONS;
+
+pub const DIRTY_AT: usize = LENGTHMARKS_AT + TRANSACTIONS;
+
+pub const RECORDS_AT: usize = DIRTY_AT + TRANSACTIONS;
+
+pub const BYTES_AT: usize = RECORDS_AT + TRANSACTIONS;
+
+pub const FILE_NUMBERS_AT: usize = BYTES_AT + TRANSACTIONS;
 
 pub const OFFSETS_AT: usize = FILE_NUMBERS_AT + DESCRIPTORS;
 
@@ -59,35 +57,25 @@ pub const FOUND_LENGTHS_AT: usize = FOUND_AT + DESCRIPTORS;
 
 pub const CAN_UNDO_AT: usize = FOUND_LENGTHS_AT + FILES;
 
-// The kinds of standings. A number above MOVED is Known.
-pub const UNTOUCHED: u16 = 0;
+// The second number of a standing that is Known; what is added to the offset that a standing carries, and to
+// its advance.
+pub const KNOWN: u16 = 1;
 
-pub const PLACED: u16 = 1;
+pub const OFFSET_BIAS: u16 = 1;
 
-pub const DEFERRED: u16 = 2;
+pub const ADVANCE_BIAS: u16 = 2;
 
-pub const MOVED: u16 = 3;
-
-pub const KNOWN: u16 = 4;
-
-// The three numbers of a standing: its kind, the first number that it carries, the second.
-pub fn kind_at(state: &State, t: usize, d: usize) -> u16
-    requires { ⌜ (t < transactionCount) × (d < descriptorCount) ⌝ }
-    ensures { λ r. ⌜ r ≡ getD (now (state .entry)) (base t + d) 0 ⌝ }
-{
-    state[TRANSACTIONS_AT + TRANSACTION * t + d]
-}
-
+// The two numbers of a standing.
 pub fn first_at(state: &State, t: usize, d: usize) -> u16
     requires { ⌜ (t < transactionCount) × (d < descriptorCount) ⌝ }
-    ensures { λ r. ⌜ r ≡ getD (now (state .entry)) (base t + d + firstSlot) 0 ⌝ }
+    ensures { λ r. ⌜ r ≡ getD (now (state .entry)) (numberAt t d) 0 ⌝ }
 {
-    state[TRANSACTIONS_AT + TRANSACTION * t + d + FIRST]
+    state[TRANSACTIONS_AT + TRANSACTIONS * d + t]
 }
 
 pub fn second_at(state: &State, t: usize, d: usize) -> u16
     requires { ⌜ (t < transactionCount) × (d < descriptorCount) ⌝ }
-    ensures { λ r. ⌜ r ≡ getD (now (state .entry)) (base t + d + secondSlot) 0 ⌝ }
+    ensures { λ r. ⌜ r ≡ getD (now (state .entry)) (numberAt t (secondSlot + d)) 0 ⌝ }
 {
-    state[TRANSACTIONS_AT + TRANSACTION * t + d + SECOND]
+    state[TRANSACTIONS_AT + TRANSACTIONS * (SECOND + d) + t]
 }

@@ -2,33 +2,34 @@
 // several have no branch. What they promise speaks of the meaning alone.
 use crate::DESCRIPTORS;
 use crate::FILES;
+use crate::TRANSACTIONS;
 use crate::layout::FOUND;
 use crate::layout::State;
-use crate::positions::DEFERRED;
-use crate::positions::DIRTY;
+use crate::layout::is_begun;
+use crate::positions::ADVANCE_BIAS;
+use crate::positions::BYTES_AT;
+use crate::positions::DIRTY_AT;
 use crate::positions::FILE_NUMBERS_AT;
 use crate::positions::FOUND_AT;
+use crate::positions::KNOWN;
 use crate::positions::LENGTHS_AT;
-use crate::positions::MOVED;
 use crate::positions::OFFSETS_AT;
+use crate::positions::OFFSET_BIAS;
+use crate::positions::RECORDS_AT;
 use crate::positions::STARTS_AT;
-use crate::positions::TRANSACTION;
-use crate::positions::TRANSACTIONS_AT;
-use crate::positions::UNTOUCHED;
 use crate::positions::first_at;
-use crate::positions::kind_at;
 use crate::positions::second_at;
 use limits::wide;
 ghost use mathlib.Core.Bool.{false, not, _&&_, _||_};
 ghost use mathlib.Core.Path.{_≡_};
-ghost use lib.Dec.{leb, eqb};
+ghost use lib.Dec.{leb};
 ghost use lib.ListN.{getD};
 ghost use Prim.Native.Nat.{ℕ, _+_, _<_, _≤_};
 ghost use Rattle.limits.specs.Limits.{fileCount, descriptorCount, transactionCount};
 ghost use Rattle.buffers.specs.Below.{below};
 ghost use Rattle.standings.specs.Table.{readSettles, isKnown, mayWait, advance, offsetOf};
 ghost use Rattle.state.specs.StoreMeaning.{standingAt, dirtyAt, windowAt};
-ghost use Rattle.state.specs.Layout.{base, firstSlot, secondSlot, transactionOf, storeOf, stateLength};
+ghost use Rattle.state.specs.Layout.{transactionOf, storeOf, stateLength};
 
 // ---- one standing
 
@@ -37,7 +38,7 @@ pub fn is_known_at(state: &State, t: usize, d: usize) -> bool
     requires { ⌜ (t < transactionCount) × (d < descriptorCount) ⌝ }
     ensures { λ r. ⌜ r ≡ isKnown (standingAt (transactionOf (now (state .entry)) t) d) ⌝ }
 {
-    MOVED < kind_at(state, t, d)
+    second_at(state, t, d) == KNOWN
 }
 
 // A Read settles descriptor d in transaction t. of_file: d is of the file that is read; is_it: d is the
@@ -47,8 +48,9 @@ pub fn read_settles_at(state: &State, t: usize, d: usize, of_file: bool, is_it: 
     ensures { λ r. ⌜ r
         ≡ readSettles «of_file» «is_it» (standingAt (transactionOf (now (state .entry)) t) d) ⌝ }
 {
-    let k = kind_at(state, t, d);
-    (((k == DEFERRED) | (k == MOVED)) & of_file) | ((k == UNTOUCHED) & is_it)
+    let a = first_at(state, t, d);
+    let b = second_at(state, t, d);
+    ((KNOWN < b) & of_file) | ((a == 0) & (b == 0) & is_it)
 }
 
 // A write record without a place may wait under descriptor d in transaction t, and `end` is at most the
@@ -58,57 +60,74 @@ pub fn may_wait_to(state: &State, t: usize, d: usize, end: usize) -> bool
     ensures { λ r. ⌜ r ≡ mayWait (standingAt (transactionOf (now (state .entry)) t) d)
         && leb end (advance (standingAt (transactionOf (now (state .entry)) t) d)) ⌝ }
 {
-    let k = kind_at(state, t, d);
-    let a = wide(first_at(state, t, d));
-    ((k == DEFERRED) | (k == MOVED)) & (end <= a)
+    let b = wide(second_at(state, t, d));
+    end + 2 <= b
 }
 
-// ---- the standings of a transaction
-
-// The first number of each standing of transaction t is at most `most`, where the standing carries it.
-fn firsts_at_most(state: &State, t: usize, most: u16) -> bool
-    requires { ⌜ t < transactionCount ⌝ }
-    ensures { λ r. ⌜ r ≡ below (λ d. eqb (getD (now (state .entry)) (base t + d) 0) 0
-        || leb (getD (now (state .entry)) (base t + d + firstSlot) 0) most) descriptorCount ⌝ }
-{
-    let mut good = true;
-    let mut d = 0;
-    while d < DESCRIPTORS {
-        let k = kind_at(state, t, d);
-        let a = first_at(state, t, d);
-        good = good & ((k == UNTOUCHED) | (a <= most));
-        d += 1;
-    }
-    good
-}
-
-// The second number of each standing of transaction t is at most `most`, where the standing carries it. One
-// loop for first and second numbers takes LLVM twice as many instructions.
-fn seconds_at_most(state: &State, t: usize, most: u16) -> bool
-    requires { ⌜ t < transactionCount ⌝ }
-    ensures { λ r. ⌜ r ≡ below (λ d. not (eqb (getD (now (state .entry)) (base t + d) 0) 3)
-        || leb (getD (now (state .entry)) (base t + d + secondSlot) 0) most) descriptorCount ⌝ }
-{
-    let mut good = true;
-    let mut d = 0;
-    while d < DESCRIPTORS {
-        let k = kind_at(state, t, d);
-        let b = second_at(state, t, d);
-        good = good & ((k != MOVED) | (b <= most));
-        d += 1;
-    }
-    good
-}
+// ---- the open transactions, all eight at once: no branch, and none on what is open
 
 // The advances and offsets that the standings of transaction t carry are at most `most`.
-pub fn standings_at_most(state: &State, t: usize, most: u16) -> bool
-    requires { ⌜ t < transactionCount ⌝ }
+fn own_at_most(state: &State, t: usize, most: u16) -> bool
+    requires { ⌜ (t < transactionCount) × (most ≤ 65533) ⌝ }
     ensures { λ r. ⌜ r ≡ below (λ d. leb (advance (standingAt (transactionOf (now (state .entry)) t) d)) most
         && leb (offsetOf (standingAt (transactionOf (now (state .entry)) t) d)) most) descriptorCount ⌝ }
 {
-    let firsts = firsts_at_most(state, t, most);
-    let seconds = seconds_at_most(state, t, most);
-    firsts & seconds
+    let mut good = true;
+    let mut d = 0;
+    while d < DESCRIPTORS {
+        let a = first_at(state, t, d);
+        let b = second_at(state, t, d);
+        good = good & ((b <= most + ADVANCE_BIAS) & (a <= most + OFFSET_BIAS));
+        d += 1;
+    }
+    good
+}
+
+// The advances and offsets that the standings of the open transactions carry are at most `most`.
+pub fn standings_at_most(state: &State, most: u16) -> bool
+    requires { ⌜ most ≤ 65533 ⌝ }
+    ensures { λ r. ⌜ r ≡ below (λ t. not (transactionOf (now (state .entry)) t .begun)
+        || below (λ d. leb (advance (standingAt (transactionOf (now (state .entry)) t) d)) most
+        && leb (offsetOf (standingAt (transactionOf (now (state .entry)) t) d)) most) descriptorCount)
+        transactionCount ⌝ }
+{
+    let mut good = true;
+    let mut t = 0;
+    while t < TRANSACTIONS {
+        let begun = is_begun(state, t);
+        let own = own_at_most(state, t, most);
+        good = good & (!begun | own);
+        t += 1;
+    }
+    good
+}
+
+// Transaction t is not open, or has at most so many records and bytes.
+pub fn uses_at_most(state: &State, t: usize, records: u16, bytes: u16) -> bool
+    requires { ⌜ t < transactionCount ⌝ }
+    ensures { λ r. ⌜ r ≡ (not (transactionOf (now (state .entry)) t .begun)
+        || (leb (transactionOf (now (state .entry)) t .used .records) records
+        && leb (transactionOf (now (state .entry)) t .used .bytes) bytes)) ⌝ }
+{
+    let begun = is_begun(state, t);
+    let u = state[RECORDS_AT + t];
+    let v = state[BYTES_AT + t];
+    !begun | ((u <= records) & (v <= bytes))
+}
+
+// Each open transaction has at most so many records and bytes.
+pub fn all_use_at_most(state: &State, records: u16, bytes: u16) -> bool
+    ensures { λ r. ⌜ r ≡ below (λ t. not (transactionOf (now (state .entry)) t .begun)
+        || (leb (transactionOf (now (state .entry)) t .used .records) records
+        && leb (transactionOf (now (state .entry)) t .used .bytes) bytes)) transactionCount ⌝ }
+{
+    let mut good = true;
+    let mut t = 0;
+    while t < TRANSACTIONS {
+        good = good & uses_at_most(state, t, records, bytes);
+        t += 1;
+    }
+    good
 }
 
 // Whether a descriptor of transaction t may be dirty: where this says no, none is.
@@ -117,7 +136,7 @@ pub fn any_dirty(state: &State, t: usize) -> bool
     ensures { λ r. ⌜ (r ≡ false → (d : ℕ) → d < descriptorCount
         → dirtyAt (transactionOf (now (state .entry)) t) d ≡ false) ⌝ }
 {
-    state[TRANSACTIONS_AT + TRANSACTION * t + DIRTY] != 0
+    state[DIRTY_AT + t] != 0
 }
 
 // ---- the tables

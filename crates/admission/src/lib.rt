@@ -101,8 +101,7 @@ fn records_in(state: &State, t: usize, records: usize, bytes: usize) -> bool
 }
 
 // The write records of transaction t are in range, where it is open.
-fn journal_in(state: &State, t: usize) -> bool
-{
+fn journal_in(state: &State, t: usize) -> bool {
     if uses_at_most(state, t, 0, 0) {
         return true;
     }
@@ -111,8 +110,7 @@ fn journal_in(state: &State, t: usize) -> bool
 }
 
 // Those of all transactions are.
-fn journals_in(state: &State) -> bool
-{
+fn journals_in(state: &State) -> bool {
     let mut t = 0;
     while t < TRANSACTIONS {
         if !journal_in(state, t) {

@@ -2,15 +2,15 @@
 use mathlib.Core.Bool.{Bool, true, false, cond}
 use mathlib.Core.List.{List}
 use mathlib.Core.Logic.{_⊎_, inl, inr, ⊎-elim}
-use mathlib.Core.Path.{_≡_, refl, sym, ap, _∙_}
+use mathlib.Core.Path.{_≡_, refl, sym, ap, ap₂, _∙_}
 use borrow.Author.Tests.{eq-eqb, ne-eqb, eqb-true, eqb-false}
 use lib.Dec.{eqb}
 use lib.ListN.{getD, set, length, length-set, replicate}
 use lib.Seq.{getD-set-same, getD-set-other}
 use native.Mathlib.Nat.{eq-or-lt-of-le, le-of-suc-le-suc, not-suc-le-zero}
-use native.Mathlib.Numerals.{add-one}
+use native.Mathlib.Numerals.{add-one, add-two}
 use native.Mathlib.Omega.{arith}
-use Prim.Native.Nat.{ℕ, zero, suc, _+_, _*_, _≤_, _<_}
+use Prim.Native.Nat.{ℕ, zero, suc, _+_, _-_, _*_, _≤_, _<_}
 use Rattle.buffers.specs.Parts.{tabulate}
 use Rattle.buffers.specs.Bits.{withBitAs}
 use Rattle.buffers.specs.Marks.{contains}
@@ -31,11 +31,11 @@ use Rattle.state.specs.StoreMeaning.{withBegun, withStale}
 use Rattle.state.specs.StoreMeaning.{withLengthmarks, withDescriptors, withUsed, withOffsets, withLengths, withWindows}
 use Rattle.state.specs.StoreMeaning.{windowAt, noUndo}
 use Rattle.state.specs.Journal.{descriptorCode, writeRecordAt, withRecordAt}
-use Rattle.state.specs.Layout.{standingOf, isSet, base, descriptorOf, usedOf, transactionOf, storeOf, journalOf, windowOf}
+use Rattle.state.specs.Layout.{standingOf, isSet, numberAt, descriptorOf, usedOf, transactionOf, storeOf, journalOf, windowOf}
 use Rattle.state.specs.Layout.{undoOf, stateLength}
-use Rattle.state.specs.Updates.{kindNumber, firstNumber, secondNumber, flagNumber, withDescriptorAt, withChosenAt}
+use Rattle.state.specs.Updates.{firstNumber, secondNumber, flagNumber, withDescriptorAt, withChosenAt}
 use Rattle.state.specs.Updates.{withUsedAt, withStaleAt}
-use Rattle.state.specs.Updates.{withLengthmarksAt, zeroedFrom, resetAt, withFileNumberAt, withFileNumbersAt, withOffsetAt}
+use Rattle.state.specs.Updates.{withLengthmarksAt, zeroedAt, resetAt, withFileNumberAt, withFileNumbersAt, withOffsetAt}
 use Rattle.state.specs.Updates.{withLengthAt, withWindowAt}
 use Rattle.standings.specs.Table.{placeNumber}
 use Rattle.state.proofs.Filled.{filled, filled-none, filled-set, filled-preserved, filled-all}
@@ -68,34 +68,33 @@ module _ (r : List ℕ) where
   descriptor-of t d h = getD-tabulate (descriptorOf r t) 16 d noDescriptor h
 
   pub standing-of : (t d : ℕ) → d < 16
-      → standingAt (transactionOf r t) d ≡ standingOf (getD r (base t + d) 0) (getD r (base t + d + 16) 0)
-      (getD r (base t + d + 32) 0)
+      → standingAt (transactionOf r t) d ≡ standingOf (getD r (numberAt t d) 0) (getD r (numberAt t (16 + d)) 0)
   unfolding descriptorOf
   standing-of t d h = ap (λ (q : Descriptor). q .standing) (descriptor-of t d h)
 
-  pub file-of : (d : ℕ) → d < 16 → getD (storeOf r .filenumbers) d 0 ≡ getD r (2240 + d) 0
+  pub file-of : (d : ℕ) → d < 16 → getD (storeOf r .filenumbers) d 0 ≡ getD r (2032 + d) 0
   unfolding storeOf
-  file-of d h = getD-tabulate (λ k. getD r (2240 + k) 0) 16 d 0 h
+  file-of d h = getD-tabulate (λ k. getD r (2032 + k) 0) 16 d 0 h
 
-  pub offset-of : (d : ℕ) → d < 16 → getD (storeOf r .offsets) d 0 ≡ getD r (2256 + d) 0
+  pub offset-of : (d : ℕ) → d < 16 → getD (storeOf r .offsets) d 0 ≡ getD r (2048 + d) 0
   unfolding storeOf
-  offset-of d h = getD-tabulate (λ k. getD r (2256 + k) 0) 16 d 0 h
+  offset-of d h = getD-tabulate (λ k. getD r (2048 + k) 0) 16 d 0 h
 
-  pub length-of : (f : ℕ) → f < 8 → getD (storeOf r .lengths) f 0 ≡ getD r (2272 + f) 0
+  pub length-of : (f : ℕ) → f < 8 → getD (storeOf r .lengths) f 0 ≡ getD r (2064 + f) 0
   unfolding storeOf
-  length-of f h = getD-tabulate (λ k. getD r (2272 + k) 0) 8 f 0 h
+  length-of f h = getD-tabulate (λ k. getD r (2064 + k) 0) 8 f 0 h
 
   pub window-of : (f : ℕ) → f < 8 → windowAt (storeOf r) f ≡ windowOf r f
   unfolding storeOf
   window-of f h = getD-tabulate (windowOf r) 8 f freshWindow h
 
-  pub found-offset-of : (d : ℕ) → d < 16 → getD (storeOf r .undo .offsets) d 0 ≡ getD r (2296 + d) 0
+  pub found-offset-of : (d : ℕ) → d < 16 → getD (storeOf r .undo .offsets) d 0 ≡ getD r (2088 + d) 0
   unfolding storeOf undoOf
-  found-offset-of d h = getD-tabulate (λ k. getD r (2296 + k) 0) 16 d 0 h
+  found-offset-of d h = getD-tabulate (λ k. getD r (2088 + k) 0) 16 d 0 h
 
-  pub found-length-of : (f : ℕ) → f < 8 → getD (storeOf r .undo .lengths) f 0 ≡ getD r (2312 + f) 0
+  pub found-length-of : (f : ℕ) → f < 8 → getD (storeOf r .undo .lengths) f 0 ≡ getD r (2104 + f) 0
   unfolding storeOf undoOf
-  found-length-of f h = getD-tabulate (λ k. getD r (2312 + k) 0) 8 f 0 h
+  found-length-of f h = getD-tabulate (λ k. getD r (2104 + k) 0) 8 f 0 h
 
 -- ---- two records that agree on some numbers
 
@@ -111,79 +110,72 @@ module _ (r s : List ℕ) where
   pub column-same : (at n : ℕ) → Agree at n → tabulate (λ k. getD s (at + k) 0) n ≡ tabulate (λ k. getD r (at + k) 0) n
   column-same at n e = table-same _ _ n (λ k h. e (at + k) (omega arith) (omega arith))
 
-  pub undo-same : Agree 2296 27 → undoOf s ≡ undoOf r
+  pub undo-same : Agree 2088 27 → undoOf s ≡ undoOf r
   unfolding undoOf
   undo-same e =
       rw (
-        e 2320 (omega arith) (omega arith),
-        e 2321 (omega arith) (omega arith),
-        e 2322 (omega arith) (omega arith),
-        column-same 2296 16
+        e 2112 (omega arith) (omega arith),
+        e 2113 (omega arith) (omega arith),
+        e 2114 (omega arith) (omega arith),
+        column-same 2088 16
             (λ j a b. e j a (omega arith)),
-        column-same 2312 8 (λ j a b. e j (omega arith) (omega arith)),
+        column-same 2104 8 (λ j a b. e j (omega arith) (omega arith)),
       )
 
-  pub windows-same : Agree 2280 16 → tabulate (windowOf s) 8 ≡ tabulate (windowOf r) 8
+  pub windows-same : Agree 2072 16 → tabulate (windowOf s) 8 ≡ tabulate (windowOf r) 8
   unfolding windowOf
   windows-same e = table-same _ _ 8 (λ f h. rw (
-    e (2280 + f) (omega arith) (omega arith),
-    e (2288 + f) (omega arith) (omega arith),
+    e (2072 + f) (omega arith) (omega arith),
+    e (2080 + f) (omega arith) (omega arith),
   ))
 
-  descriptors-same : (t : ℕ) → Agree (base t) 48 → getD s (base t + 51) 0 ≡ getD r (base t + 51) 0
+  -- They agree on this number.
+  abbrev Same : ℕ → Type 0
+  Same j = getD s j 0 ≡ getD r j 0
+
+  descriptors-same : (t : ℕ) → ((k : ℕ) → k < 32 → Same (numberAt t k)) → Same (numberAt t 35)
       → tabulate (descriptorOf s t) 16 ≡ tabulate (descriptorOf r t) 16
   unfolding descriptorOf
-  descriptors-same t e dirty =
-      table-same _ _ 16
-      (λ d h. rw (
-        e (base t + d) (omega arith) (omega arith),
-        e (base t + d + 16) (omega arith) (omega arith),
-        e (base t + d + 32)
-            (omega arith) (omega arith),
-        dirty,
-      ))
+  descriptors-same t e dirty = table-same _ _ 16 (λ d h. rw (e d (omega arith), e (16 + d) (omega arith), dirty))
 
-  transaction-same : (t : ℕ) → Agree (base t) 64 → transactionOf s t ≡ transactionOf r t
+  transaction-same : (t : ℕ) → ((k : ℕ) → k < 38 → Same (numberAt t k)) → transactionOf s t ≡ transactionOf r t
   unfolding transactionOf usedOf
   transaction-same t e =
-      let same : (k : ℕ) → k < 64 → getD s (base t + k) 0
-      ≡ getD r (base t + k) 0 = λ k h. e (base t + k) (omega arith) (omega arith) in
       rw (
-        same 48 (omega arith),
-        same 49 (omega arith),
-        same 50 (omega arith),
-        same 52 (omega arith),
-        same 53
-            (omega arith),
-        descriptors-same t (λ j a b. e j a (omega arith)) (same 51 (omega arith)),
+        e 32 (omega arith),
+        e 33 (omega arith),
+        e 34 (omega arith),
+        e 36 (omega arith),
+        e 37 (omega arith),
+        descriptors-same t (λ k h. e k (omega arith)) (e 35 (omega arith)),
       )
 
-  pub transactions-same : Agree 1728 512 → tabulate (transactionOf s) 8 ≡ tabulate (transactionOf r) 8
-  transactions-same e = table-same _ _ 8 (λ t h. transaction-same t (λ j a b. e j (omega arith) (omega arith)))
+  pub transactions-same : Agree 1728 304 → tabulate (transactionOf s) 8 ≡ tabulate (transactionOf r) 8
+  transactions-same e =
+      table-same _ _ 8 (λ t h. transaction-same t (λ k l. e (numberAt t k) (omega arith) (omega arith)))
 
-  -- They agree but for the numbers of transaction t.
+  -- They agree but for the numbers of transaction t: outside the rows of the transactions, and on those of every other one.
   abbrev AgreeBut : ℕ → Type 0
-  AgreeBut t = (j : ℕ) → (j < base t) ⊎ (base t + 64 ≤ j) → getD s j 0 ≡ getD r j 0
+  AgreeBut t = ((j : ℕ) → (j < 1728) ⊎ (2032 ≤ j) → Same j)
+      × ((u k : ℕ) → u < 8 → k < 38 → (u ≡ t → ⊥) → Same (numberAt u k))
 
   module _ (t : ℕ) (small : t < 8) (outside : AgreeBut t) where
-    other-transaction : (u : ℕ) → (u ≡ t → ⊥) → transactionOf s u ≡ transactionOf r u
-    other-transaction u ne =
-        transaction-same u (λ j a b. ⊎-elim (λ h. outside j (inr (omega arith))) (λ h. outside j (inl (omega arith)))
-        (le-or-lt t u))
+    other-transaction : (u : ℕ) → u < 8 → (u ≡ t → ⊥) → transactionOf s u ≡ transactionOf r u
+    other-transaction u h ne = transaction-same u (λ k l. outside .1 u k h l ne)
 
     store-block : (y : Transaction) → transactionOf s t ≡ y → storeOf s ≡ withTransaction t y (storeOf r)
     unfolding storeOf withTransaction
     store-block y own =
         rw (
-          column-same 2240 16 (λ j a b. outside j (inr (omega arith))),
-          column-same 2256 16
-              (λ j a b. outside j (inr (omega arith))),
-          column-same 2272 8 (λ j a b. outside j (inr (omega arith))),
+          column-same 2032 16 (λ j a b. outside .0 j (inr (omega arith))),
+          column-same 2048 16
+              (λ j a b. outside .0 j (inr (omega arith))),
+          column-same 2064 8 (λ j a b. outside .0 j (inr (omega arith))),
           windows-same
-              (λ j a b. outside j (inr (omega arith))),
-          undo-same (λ j a b. outside j (inr (omega arith))),
+              (λ j a b. outside .0 j (inr (omega arith))),
+          undo-same (λ j a b. outside .0 j (inr (omega arith))),
           table-set (transactionOf r)
-              (transactionOf s) 8 t y small own (λ u l. other-transaction u),
+              (transactionOf s) 8 t y small own other-transaction,
         )
 
     -- The transaction became f of what it was.
@@ -192,7 +184,22 @@ module _ (r s : List ℕ) where
     store-by f own = store-block (f (transaction (storeOf r) t)) (own ∙ ap f (sym (transaction-of r t small)))
 
     journal-block : journalOf s ≡ journalOf r
-    journal-block = journal-same (λ j a b. outside j (inl (omega arith)))
+    journal-block = journal-same (λ j a b. outside .0 j (inl (omega arith)))
+
+-- Rows are apart: a number of one transaction is none of another, and two numbers of one transaction are two.
+other-row : (t u k l : ℕ) → t < 8 → u < 8 → (u ≡ t → ⊥) → numberAt u k ≡ numberAt t l → ⊥
+other-row t u k l h m ne p = ne (omega arith)
+
+-- One change after another of the same transaction.
+agree-then : (r s v : List ℕ) (t : ℕ) → AgreeBut r s t → AgreeBut s v t → AgreeBut r v t
+agree-then r s v t e f = ((λ j w. f .0 j w ∙ e .0 j w), (λ u k h l ne. f .1 u k h l ne ∙ e .1 u k h l ne))
+
+-- Number k of transaction t was put.
+agree-set : (r : List ℕ) (t k n : ℕ) → t < 8 → k < 38 → AgreeBut r (set r (numberAt t k) n) t
+agree-set r t k n small few = (
+  (λ j w. getD-set-other r (numberAt t k) j n 0 (⊎-elim (λ h p. omega arith) (λ h p. omega arith) w)),
+  (λ u l h m ne. getD-set-other r (numberAt t k) (numberAt u l) n 0 (other-row t u l k small h ne)),
+)
 
 -- A number outside a column of m numbers from `at` on was put.
 pub column-left : (r : List ℕ) (i n at m : ℕ) → (i < at) ⊎ (at + m ≤ i)
@@ -200,123 +207,129 @@ pub column-left : (r : List ℕ) (i n at m : ℕ) → (i < at) ⊎ (at + m ≤ i
 column-left r i n at m w = column-same r (set r i n) at m
     (λ j a b. getD-set-other r i j n 0 (λ p. ⊎-elim (λ h. omega arith) (λ h. omega arith) w))
 
-windows-left : (r : List ℕ) (i n : ℕ) → i < 2280 → tabulate (windowOf (set r i n)) 8 ≡ tabulate (windowOf r) 8
+windows-left : (r : List ℕ) (i n : ℕ) → i < 2072 → tabulate (windowOf (set r i n)) 8 ≡ tabulate (windowOf r) 8
 windows-left r i n h = windows-same r (set r i n) (λ j a b. getD-set-other r i j n 0 (λ p. omega arith))
 
-undo-left : (r : List ℕ) (i n : ℕ) → i < 2296 → undoOf (set r i n) ≡ undoOf r
+undo-left : (r : List ℕ) (i n : ℕ) → i < 2088 → undoOf (set r i n) ≡ undoOf r
 undo-left r i n h = undo-same r (set r i n) (λ j a b. getD-set-other r i j n 0 (λ p. omega arith))
 
 -- ---- a descriptor
 
-standing-back : (z : Standing) → standingOf (kindNumber z) (firstNumber z) (secondNumber z) ≡ z
+standing-back : (z : Standing) → standingOf (firstNumber z) (secondNumber z) ≡ z
 unfolding standingOf
 standing-back Untouched = refl
-standing-back (Placed o) = refl
-standing-back (Deferred a) = refl
-standing-back (Moved a o) = refl
-standing-back (Known o) = refl
+standing-back (Placed o) = rw add-one
+standing-back (Deferred a) = rw add-two
+standing-back (Moved a o) = rw (add-one, add-two)
+standing-back (Known o) = ap Known (omega arith)
+
+-- Each standing from what its two numbers are.
+pub known-zero : (a b : ℕ) → b ≡ 1 → a ≡ 0 → Known 0 ≡ standingOf a b
+unfolding standingOf
+known-zero a b e f = rw (f, e)
+
+pub known-of : (a b : ℕ) → b ≡ 1 → Known (a - 1) ≡ standingOf a b
+unfolding standingOf
+known-of zero b e = rw e
+known-of (suc o) b e = rw e
+
+pub untouched-of : (a b : ℕ) → b ≡ 0 → a ≡ 0 → Untouched ≡ standingOf a b
+unfolding standingOf
+untouched-of a b e f = rw (f, e)
+
+pub placed-of : (a b : ℕ) → b ≡ 0 → (a ≡ 0 → ⊥) → Placed (a - 1) ≡ standingOf a b
+unfolding standingOf
+placed-of zero b e ne = absurd (ne refl)
+placed-of (suc o) b e ne = rw e (ap Placed (omega arith))
+
+pub deferred-of : (a b : ℕ) → (b ≡ 1 → ⊥) → (b ≡ 0 → ⊥) → a ≡ 0 → Deferred (b - 2) ≡ standingOf a b
+unfolding standingOf
+deferred-of a zero n1 n0 e = absurd (n0 refl)
+deferred-of a (suc zero) n1 n0 e = absurd (n1 refl)
+deferred-of a (suc (suc n)) n1 n0 e = rw e (ap Deferred (omega arith))
+
+pub moved-of : (a b : ℕ) → (b ≡ 1 → ⊥) → (b ≡ 0 → ⊥) → (a ≡ 0 → ⊥) → Moved (b - 2) (a - 1) ≡ standingOf a b
+unfolding standingOf
+moved-of zero b n1 n0 ne = absurd (ne refl)
+moved-of (suc o) zero n1 n0 ne = absurd (n0 refl)
+moved-of (suc o) (suc zero) n1 n0 ne = absurd (n1 refl)
+moved-of (suc o) (suc (suc n)) n1 n0 ne = ap₂ Moved (omega arith) (omega arith)
 
 module _ (r : List ℕ) (t d : ℕ) (q : Descriptor) where
+  abbrev one : List ℕ
+  one = set r (numberAt t d) (firstNumber (q .standing))
+
+  abbrev two : List ℕ
+  two = set one (numberAt t (16 + d)) (secondNumber (q .standing))
+
+  abbrev marked : ℕ
+  marked = withBitAs d (q .dirty) (getD r (numberAt t 35) 0)
+
   pub length-with-descriptor : length (withDescriptorAt r t d q) ≡ length r
   unfolding withDescriptorAt
   length-with-descriptor = simp length-set
 
-  -- A number that is none of the four.
-  number-preserved : (j : ℕ) → (j ≡ base t + d → ⊥) → (j ≡ base t + d + 16 → ⊥) → (j ≡ base t + d + 32 → ⊥)
-      → (j ≡ base t + 51 → ⊥)
+  -- A number that is none of the three.
+  number-preserved : (j : ℕ) → (j ≡ numberAt t d → ⊥) → (j ≡ numberAt t (16 + d) → ⊥) → (j ≡ numberAt t 35 → ⊥)
       → getD (withDescriptorAt r t d q) j 0 ≡ getD r j 0
   unfolding withDescriptorAt
-  number-preserved j n0 n1 n2 n3 =
-      let z = q .standing in
-      let a = set r (base t + d) (kindNumber z) in
-      let b = set a (base t + d + 16) (firstNumber z) in
-      let c = set b (base t + d + 32) (secondNumber z) in
-      getD-set-other c (base t + 51) j (withBitAs d (q .dirty) (getD r (base t + 51) 0)) 0 n3
-      ∙ getD-set-other b (base t + d + 32) j (secondNumber z) 0 n2
-      ∙ getD-set-other a (base t + d + 16) j (firstNumber z) 0 n1
-      ∙ getD-set-other r (base t + d) j (kindNumber z) 0 n0
+  number-preserved j n0 n1 n2 =
+      getD-set-other two (numberAt t 35) j marked 0 n2
+      ∙ getD-set-other one (numberAt t (16 + d)) j (secondNumber (q .standing)) 0 n1
+      ∙ getD-set-other r (numberAt t d) j (firstNumber (q .standing)) 0 n0
 
   module _ (long : length r ≡ stateLength) (small : t < 8) (few : d < 16) where
-    own-kind : getD (withDescriptorAt r t d q) (base t + d) 0 ≡ kindNumber (q .standing)
-    unfolding withDescriptorAt
-    own-kind =
-        let z = q .standing in
-        let a = set r (base t + d) (kindNumber z) in
-        let b = set a (base t + d + 16) (firstNumber z) in
-        let c = set b (base t + d + 32) (secondNumber z) in
-        getD-set-other c (base t + 51) (base t + d) (withBitAs d (q .dirty) (getD r (base t + 51) 0)) 0 (λ p. omega arith)
-        ∙ getD-set-other b (base t + d + 32) (base t + d) (secondNumber z) 0 (λ p. omega arith)
-        ∙ getD-set-other a (base t + d + 16) (base t + d) (firstNumber z) 0 (λ p. omega arith)
-        ∙ getD-set-same r (base t + d) (kindNumber z) 0 (omega arith)
+    long-one : length one ≡ stateLength
+    long-one = length-set r (numberAt t d) (firstNumber (q .standing)) ∙ long
 
-    own-first : getD (withDescriptorAt r t d q) (base t + d + 16) 0 ≡ firstNumber (q .standing)
+    long-two : length two ≡ stateLength
+    long-two = length-set one (numberAt t (16 + d)) (secondNumber (q .standing)) ∙ long-one
+
+    own-first : getD (withDescriptorAt r t d q) (numberAt t d) 0 ≡ firstNumber (q .standing)
     unfolding withDescriptorAt
     own-first =
-        let z = q .standing in
-        let a = set r (base t + d) (kindNumber z) in
-        let b = set a (base t + d + 16) (firstNumber z) in
-        let c = set b (base t + d + 32) (secondNumber z) in
-        let la : length a ≡ stateLength = length-set r (base t + d) (kindNumber z) ∙ long in
-        getD-set-other c (base t + 51) (base t + d + 16) (withBitAs d (q .dirty) (getD r (base t + 51) 0)) 0 (λ p. omega arith)
-        ∙ getD-set-other b (base t + d + 32) (base t + d + 16) (secondNumber z) 0 (λ p. omega arith)
-        ∙ getD-set-same a (base t + d + 16) (firstNumber z) 0 (omega arith)
+        getD-set-other two (numberAt t 35) (numberAt t d) marked 0 (λ p. omega arith)
+        ∙ getD-set-other one (numberAt t (16 + d)) (numberAt t d) (secondNumber (q .standing)) 0 (λ p. omega arith)
+        ∙ getD-set-same r (numberAt t d) (firstNumber (q .standing)) 0 (omega arith)
 
-    own-second : getD (withDescriptorAt r t d q) (base t + d + 32) 0 ≡ secondNumber (q .standing)
+    own-second : getD (withDescriptorAt r t d q) (numberAt t (16 + d)) 0 ≡ secondNumber (q .standing)
     unfolding withDescriptorAt
     own-second =
-        let z = q .standing in
-        let a = set r (base t + d) (kindNumber z) in
-        let b = set a (base t + d + 16) (firstNumber z) in
-        let c = set b (base t + d + 32) (secondNumber z) in
-        let lb : length b ≡ stateLength = length-set a (base t + d + 16) (firstNumber z)
-        ∙ length-set r (base t + d) (kindNumber z) ∙ long in
-        getD-set-other c (base t + 51) (base t + d + 32) (withBitAs d (q .dirty) (getD r (base t + 51) 0)) 0 (λ p. omega arith)
-        ∙ getD-set-same b (base t + d + 32) (secondNumber z) 0 (omega arith)
+        let l = long-one in
+        getD-set-other two (numberAt t 35) (numberAt t (16 + d)) marked 0 (λ p. omega arith)
+        ∙ getD-set-same one (numberAt t (16 + d)) (secondNumber (q .standing)) 0 (omega arith)
 
-    own-dirty : getD (withDescriptorAt r t d q) (base t + 51) 0 ≡ withBitAs d (q .dirty) (getD r (base t + 51) 0)
+    own-dirty : getD (withDescriptorAt r t d q) (numberAt t 35) 0 ≡ marked
     unfolding withDescriptorAt
-    own-dirty =
-        let z = q .standing in
-        let a = set r (base t + d) (kindNumber z) in
-        let b = set a (base t + d + 16) (firstNumber z) in
-        let c = set b (base t + d + 32) (secondNumber z) in
-        let lc : length c ≡ stateLength = length-set b (base t + d + 32) (secondNumber z)
-        ∙ length-set a (base t + d + 16) (firstNumber z)
-        ∙ length-set r (base t + d) (kindNumber z) ∙ long in
-        getD-set-same c (base t + 51) (withBitAs d (q .dirty) (getD r (base t + 51) 0)) 0 (omega arith)
+    own-dirty = let l = long-two in getD-set-same two (numberAt t 35) marked 0 (omega arith)
 
     -- The descriptor that was put, and another of the same transaction.
     same-descriptor : descriptorOf (withDescriptorAt r t d q) t d ≡ q
     unfolding descriptorOf
     same-descriptor =
         rw (
-          own-kind,
           own-first,
           own-second,
           own-dirty,
           standing-back (q .standing),
-          contains-put d (q .dirty)
-              (getD r (base t + 51) 0) d few few,
+          contains-put d (q .dirty) (getD r (numberAt t 35) 0) d few few,
           eq-eqb d d refl,
         )
 
     other-descriptor : (e : ℕ) → e < 16 → (e ≡ d → ⊥) → descriptorOf (withDescriptorAt r t d q) t e ≡ descriptorOf r t e
     unfolding descriptorOf
     other-descriptor e h ne =
-        let kinds = number-preserved (base t + e) (λ p. ne (omega arith)) (λ p. omega arith) (λ p. omega arith)
-        (λ p. omega arith) in
-        let firsts = number-preserved (base t + e + 16) (λ p. omega arith) (λ p. ne (omega arith)) (λ p. omega arith)
-        (λ p. omega arith) in
-        let seconds = number-preserved (base t + e + 32) (λ p. omega arith) (λ p. omega arith) (λ p. ne (omega arith))
-        (λ p. omega arith) in
-        rw (kinds, firsts, seconds, own-dirty, contains-put d (q .dirty) (getD r (base t + 51) 0) e few h, ne-eqb e d ne)
+        let firsts = number-preserved (numberAt t e) (λ p. ne (omega arith)) (λ p. omega arith) (λ p. omega arith) in
+        let seconds = number-preserved (numberAt t (16 + e)) (λ p. omega arith) (λ p. ne (omega arith)) (λ p. omega arith) in
+        rw (firsts, seconds, own-dirty, contains-put d (q .dirty) (getD r (numberAt t 35) 0) e few h, ne-eqb e d ne)
 
     outside-preserved : AgreeBut r (withDescriptorAt r t d q) t
-    outside-preserved j w =
-        ⊎-elim
-        (λ h. number-preserved j (λ p. omega arith) (λ p. omega arith) (λ p. omega arith) (λ p. omega arith))
-        (λ h. number-preserved j (λ p. omega arith) (λ p. omega arith) (λ p. omega arith) (λ p. omega arith))
-        w
+    unfolding withDescriptorAt
+    outside-preserved =
+        let s = withDescriptorAt r t d q in
+        agree-then r one s t (agree-set r t d (firstNumber (q .standing)) small (omega arith))
+        (agree-then one two s t (agree-set one t (16 + d) (secondNumber (q .standing)) small (omega arith))
+        (agree-set two t 35 marked small (omega arith)))
 
     -- The transaction, the whole record, and the journal.
     with-descriptor : let x = transactionOf r t in transactionOf (withDescriptorAt r t d q) t
@@ -324,18 +337,15 @@ module _ (r : List ℕ) (t d : ℕ) (q : Descriptor) where
     unfolding transactionOf usedOf
     with-descriptor =
         let s = withDescriptorAt r t d q in
-        let state : (k : ℕ) → 48 ≤ k → (k ≡ 51 → ⊥) → getD s (base t + k) 0 ≡ getD r (base t + k) 0 =
-        λ k h ne. number-preserved (base t + k) (λ p. omega arith) (λ p. omega arith) (λ p. omega arith)
-        (λ p. ne (omega arith)) in
+        let state : (k : ℕ) → 32 ≤ k → (k ≡ 35 → ⊥) → getD s (numberAt t k) 0 ≡ getD r (numberAt t k) 0 =
+        λ k h ne. number-preserved (numberAt t k) (λ p. omega arith) (λ p. omega arith) (λ p. ne (omega arith)) in
         rw (
-          state 48 (omega arith) (λ p. omega arith),
-          state 49 (omega arith) (λ p. omega arith),
-          state 50 (omega arith)
-              (λ p. omega arith),
-          state 52 (omega arith) (λ p. omega arith),
-          state 53 (omega arith) (λ p. omega arith),
-          table-set
-              (descriptorOf r t) (descriptorOf s t) 16 d q few same-descriptor other-descriptor,
+          state 32 (omega arith) (λ p. omega arith),
+          state 33 (omega arith) (λ p. omega arith),
+          state 34 (omega arith) (λ p. omega arith),
+          state 36 (omega arith) (λ p. omega arith),
+          state 37 (omega arith) (λ p. omega arith),
+          table-set (descriptorOf r t) (descriptorOf s t) 16 d q few same-descriptor other-descriptor,
         )
 
     pub store-with-descriptor : let x = transaction (storeOf r) t in storeOf (withDescriptorAt r t d q)
@@ -365,12 +375,13 @@ module _ (r : List ℕ) (t : ℕ) (chosen : ℕ → Bool) (f : ℕ → Descripto
   module _ (long : length r ≡ stateLength) (small : t < 8) where
     outside-chosen : (n : ℕ) → n ≤ 16 → AgreeBut r (withChosenAt r t chosen f n) t
     unfolding withChosenAt
-    outside-chosen zero h j w = refl
-    outside-chosen (suc n) h j w =
+    outside-chosen zero h = ((λ j w. refl), (λ u k a b ne. refl))
+    outside-chosen (suc n) h =
         let s = withChosenAt r t chosen f n in
-        let e = outside-chosen n (omega arith) j w in
-        either (λ l. getD l j 0 ≡ getD r j 0) (chosen n) (withDescriptorAt s t n (f n)) s
-        (outside-preserved s t n (f n) (length-with-chosen n ∙ long) small (omega arith) j w ∙ e)
+        let e = outside-chosen n (omega arith) in
+        either (λ l. AgreeBut r l t) (chosen n) (withDescriptorAt s t n (f n)) s
+        (agree-then r s (withDescriptorAt s t n (f n)) t e
+        (outside-preserved s t n (f n) (length-with-chosen n ∙ long) small (omega arith)))
         (λ _. e)
 
     pub journal-with-chosen : journalOf (withChosenAt r t chosen f 16) ≡ journalOf r
@@ -417,41 +428,38 @@ module _ (r : List ℕ) (t : ℕ) (chosen : ℕ → Bool) (f : ℕ → Descripto
 -- ---- the two counters, the flags, the lengths sighted
 
 -- Number k of transaction t was put, which is no descriptor's.
-module _ (r : List ℕ) (t : ℕ) (long : length r ≡ stateLength) (small : t < 8) (k n : ℕ) (past : 48 ≤ k) (few : k < 64)
-    (clean : k ≡ 51 → ⊥) where
-  outside-number : AgreeBut r (set r (base t + k) n) t
-  outside-number j w = getD-set-other r (base t + k) j n 0 (⊎-elim (λ h p. omega arith) (λ h p. omega arith) w)
-
+module _ (r : List ℕ) (t : ℕ) (long : length r ≡ stateLength) (small : t < 8) (k n : ℕ) (past : 32 ≤ k) (few : k < 38)
+    (clean : k ≡ 35 → ⊥) where
   abbrev after : ℕ → ℕ
-  after j = cond (eqb j k) n (getD r (base t + j) 0)
+  after j = cond (eqb j k) n (getD r (numberAt t j) 0)
 
-  with-number : transactionOf (set r (base t + k) n) t
+  with-number : transactionOf (set r (numberAt t k) n) t
       ≡ record {
-        begun = isSet (after 48);
+        begun = isSet (after 32);
         stale = isSet
-            (after 49);
-        lengthmarks = after 50;
-        used = record { records = after 52; bytes = after 53 };
+            (after 33);
+        lengthmarks = after 34;
+        used = record { records = after 36; bytes = after 37 };
         descriptors = transactionOf r t .descriptors;
       }
   unfolding transactionOf usedOf
   with-number =
       rw (
-        number-at 48,
-        number-at 49,
-        number-at 50,
-        number-at 52,
-        number-at 53,
-        descriptors-same r (set r (base t + k) n) t
-            (λ j a b. getD-set-other r (base t + k) j n 0 (λ p. omega arith))
-            (getD-set-other r (base t + k) (base t + 51) n 0 (λ p. clean (omega arith))),
+        number-at 32,
+        number-at 33,
+        number-at 34,
+        number-at 36,
+        number-at 37,
+        descriptors-same r (set r (numberAt t k) n) t
+            (λ j h. getD-set-other r (numberAt t k) (numberAt t j) n 0 (λ p. omega arith))
+            (getD-set-other r (numberAt t k) (numberAt t 35) n 0 (λ p. clean (omega arith))),
       )
     where
-      number-by : (j : ℕ) (b : Bool) → eqb j k ≡ b → getD (set r (base t + k) n) (base t + j) 0 ≡ cond b n (getD r (base t + j) 0)
-      number-by j true e = let q = eqb-true j k e in rw q (getD-set-same r (base t + k) n 0 (omega arith))
-      number-by j false e = getD-set-other r (base t + k) (base t + j) n 0 (λ p. eqb-false j k e (omega arith))
+      number-by : (j : ℕ) (b : Bool) → eqb j k ≡ b → getD (set r (numberAt t k) n) (numberAt t j) 0 ≡ cond b n (getD r (numberAt t j) 0)
+      number-by j true e = let q = eqb-true j k e in rw q (getD-set-same r (numberAt t k) n 0 (omega arith))
+      number-by j false e = getD-set-other r (numberAt t k) (numberAt t j) n 0 (λ p. eqb-false j k e (omega arith))
 
-      number-at : (j : ℕ) → getD (set r (base t + k) n) (base t + j) 0 ≡ after j
+      number-at : (j : ℕ) → getD (set r (numberAt t k) n) (numberAt t j) 0 ≡ after j
       number-at j = number-by j (eqb j k) refl
 
 module _ (r : List ℕ) (t : ℕ) (long : length r ≡ stateLength) (small : t < 8) where
@@ -460,23 +468,22 @@ module _ (r : List ℕ) (t : ℕ) (long : length r ≡ stateLength) (small : t <
     unfolding withUsedAt
     length-with-used = simp length-set
 
-    recorded : length (set r (base t + 52) (u .records)) ≡ stateLength
-    recorded = length-set r (base t + 52) (u .records) ∙ long
+    recorded : length (set r (numberAt t 36) (u .records)) ≡ stateLength
+    recorded = length-set r (numberAt t 36) (u .records) ∙ long
 
     outside-used : AgreeBut r (withUsedAt r t u) t
     unfolding withUsedAt
-    outside-used j w =
-        outside-number (set r (base t + 52) (u .records)) t recorded small 53 (u .bytes) (omega arith) (omega arith)
-        (λ p. omega arith) j w
-        ∙ outside-number r t long small 52 (u .records) (omega arith) (omega arith) (λ p. omega arith) j w
+    outside-used =
+        agree-then r (set r (numberAt t 36) (u .records)) (withUsedAt r t u) t (agree-set r t 36 (u .records) small (omega arith))
+        (agree-set (set r (numberAt t 36) (u .records)) t 37 (u .bytes) small (omega arith))
 
     with-used : transactionOf (withUsedAt r t u) t ≡ withUsed u (transactionOf r t)
     unfolding transactionOf usedOf withUsedAt
     with-used =
-        with-number (set r (base t + 52) (u .records)) t recorded small 53 (u .bytes) (omega arith) (omega arith)
+        with-number (set r (numberAt t 36) (u .records)) t recorded small 37 (u .bytes) (omega arith) (omega arith)
         (λ p. omega arith)
         ∙ ap (λ (x : Transaction). withUsed (record { records = x .used .records; bytes = u .bytes }) x)
-        (with-number r t long small 52 (u .records) (omega arith) (omega arith) (λ p. omega arith))
+        (with-number r t long small 36 (u .records) (omega arith) (omega arith) (λ p. omega arith))
 
     pub store-with-used : storeOf (withUsedAt r t u) ≡ withTransaction t (withUsed u (transaction (storeOf r) t)) (storeOf r)
     store-with-used = store-by r (withUsedAt r t u) t small outside-used (withUsed u) with-used
@@ -485,14 +492,14 @@ module _ (r : List ℕ) (t : ℕ) (long : length r ≡ stateLength) (small : t <
     journal-with-used = journal-block r (withUsedAt r t u) t small outside-used
 
   pub length-with-stale : length (withStaleAt r t) ≡ length r
-  length-with-stale = length-set r (base t + 49) 1
+  length-with-stale = length-set r (numberAt t 33) 1
 
   outside-stale : AgreeBut r (withStaleAt r t) t
-  outside-stale = outside-number r t long small 49 1 (omega arith) (omega arith) (λ p. omega arith)
+  outside-stale = agree-set r t 33 1 small (omega arith)
 
   with-stale : transactionOf (withStaleAt r t) t ≡ withStale true (transactionOf r t)
   unfolding transactionOf usedOf
-  with-stale = with-number r t long small 49 1 (omega arith) (omega arith) (λ p. omega arith)
+  with-stale = with-number r t long small 33 1 (omega arith) (omega arith) (λ p. omega arith)
 
   pub store-with-stale : storeOf (withStaleAt r t) ≡ withTransaction t (withStale true (transaction (storeOf r) t)) (storeOf r)
   store-with-stale = store-by r (withStaleAt r t) t small outside-stale (withStale true) with-stale
@@ -502,11 +509,11 @@ module _ (r : List ℕ) (t : ℕ) (long : length r ≡ stateLength) (small : t <
 
   module _ (n : ℕ) where
     outside-lengthmarks : AgreeBut r (withLengthmarksAt r t n) t
-    outside-lengthmarks = outside-number r t long small 50 n (omega arith) (omega arith) (λ p. omega arith)
+    outside-lengthmarks = agree-set r t 34 n small (omega arith)
 
     with-lengthmarks : transactionOf (withLengthmarksAt r t n) t ≡ withLengthmarks n (transactionOf r t)
     unfolding transactionOf usedOf
-    with-lengthmarks = with-number r t long small 50 n (omega arith) (omega arith) (λ p. omega arith)
+    with-lengthmarks = with-number r t long small 34 n (omega arith) (omega arith) (λ p. omega arith)
 
     pub store-with-lengthmarks : storeOf (withLengthmarksAt r t n)
         ≡ withTransaction t (withLengthmarks n (transaction (storeOf r) t)) (storeOf r)
@@ -534,35 +541,34 @@ module _ {A : Type 0} (a : A) where
   sixteen-of = refl
 
 module _ (r : List ℕ) where
-  -- The numbers of transaction t that are looked at.
-  transaction-of-zeros : (t : ℕ) → ((k : ℕ) → k < 54 → getD r (base t + k) 0 ≡ 0) → transactionOf r t ≡ ended
+  transaction-of-zeros : (t : ℕ) → ((k : ℕ) → k < 38 → getD r (numberAt t k) 0 ≡ 0) → transactionOf r t ≡ ended
   unfolding transactionOf usedOf descriptorOf standingOf ended
   transaction-of-zeros t none =
       rw (
-        none 48 (omega arith),
-        none 49 (omega arith),
-        none 50 (omega arith),
-        none 52 (omega arith),
-        none 53 (omega arith),
-        table-same
-            (descriptorOf r t) (λ _. noDescriptor) 16 (λ d h. rw (none d (omega arith), none 51 (omega arith), none-dirty d h)),
+        none 32 (omega arith),
+        none 33 (omega arith),
+        none 34 (omega arith),
+        none 36 (omega arith),
+        none 37 (omega arith),
+        table-same (descriptorOf r t) (λ _. noDescriptor) 16
+            (λ d h. rw (none d (omega arith), none (16 + d) (omega arith), none 35 (omega arith), none-dirty d h)),
         sixteen-of noDescriptor,
       )
 
   windows-of-zeros : ((j : ℕ) → getD r j 0 ≡ 0) → tabulate (windowOf r) 8 ≡ replicate 8 freshWindow
   unfolding windowOf
-  windows-of-zeros none = table-same _ (λ _. freshWindow) 8 (λ f h. rw (none (2280 + f), none (2288 + f))) ∙ eight-of freshWindow
+  windows-of-zeros none = table-same _ (λ _. freshWindow) 8 (λ f h. rw (none (2072 + f), none (2080 + f))) ∙ eight-of freshWindow
 
   undo-of-zeros : ((j : ℕ) → getD r j 0 ≡ 0) → undoOf r ≡ noUndo
   unfolding undoOf
   undo-of-zeros none =
       rw (
-        none 2320,
-        none 2321,
-        none 2322,
-        table-same (λ d. getD r (2296 + d) 0) (λ _. 0) 16 (λ d h. none (2296 + d)),
+        none 2112,
+        none 2113,
+        none 2114,
+        table-same (λ d. getD r (2088 + d) 0) (λ _. 0) 16 (λ d h. none (2088 + d)),
         table-same
-            (λ f. getD r (2312 + f) 0) (λ _. 0) 8 (λ f h. none (2312 + f)),
+            (λ f. getD r (2104 + f) 0) (λ _. 0) 8 (λ f h. none (2104 + f)),
         sixteen-of {A = ℕ} 0,
         eight-of {A = ℕ} 0,
       )
@@ -582,64 +588,66 @@ module _ (r : List ℕ) where
       let zeros : (at m : ℕ) → tabulate (λ k. getD r (at + k) 0) m
       ≡ tabulate (λ _. 0) m = λ at m. table-same _ _ m (λ k h. none (at + k)) in
       rw (
-        zeros 2240 16,
-        zeros 2256 16,
-        zeros 2272 8,
+        zeros 2032 16,
+        zeros 2048 16,
+        zeros 2064 8,
         windows-of-zeros none,
         undo-of-zeros none,
         table-same (transactionOf r) (λ _. ended) 8
-            (λ t h. transaction-of-zeros t (λ k l. none (base t + k))),
+            (λ t h. transaction-of-zeros t (λ k l. none (numberAt t k))),
         sixteen-of {A = ℕ} 0,
         eight-of {A = ℕ} 0,
         eight-of ended,
       )
 
-module _ (r : List ℕ) (i : ℕ) where
-  length-zeroed : (n : ℕ) → length (zeroedFrom r i n) ≡ length r
-  unfolding zeroedFrom
+module _ (r : List ℕ) (t : ℕ) where
+  length-zeroed : (n : ℕ) → length (zeroedAt r t n) ≡ length r
+  unfolding zeroedAt
   length-zeroed zero = refl
-  length-zeroed (suc n) = length-set (zeroedFrom r i n) (i + n) 0 ∙ length-zeroed n
+  length-zeroed (suc n) = length-set (zeroedAt r t n) (numberAt t n) 0 ∙ length-zeroed n
 
-  zeroed-other : (n j : ℕ) → (j < i) ⊎ (i + n ≤ j) → getD (zeroedFrom r i n) j 0 ≡ getD r j 0
-  unfolding zeroedFrom
-  zeroed-other zero j w = refl
-  zeroed-other (suc n) j w =
-      getD-set-other (zeroedFrom r i n) (i + n) j 0 0 (⊎-elim (λ h p. omega arith) (λ h p. omega arith) w)
-      ∙ zeroed-other n j (⊎-elim inl (λ h. inr (omega arith)) w)
+  module _ (small : t < 8) where
+    outside-zeroed : (n : ℕ) → n ≤ 38 → AgreeBut r (zeroedAt r t n) t
+    unfolding zeroedAt
+    outside-zeroed zero h = ((λ j w. refl), (λ u k a b ne. refl))
+    outside-zeroed (suc n) h =
+        agree-then r (zeroedAt r t n) (zeroedAt r t (suc n)) t (outside-zeroed n (omega arith))
+        (agree-set (zeroedAt r t n) t n 0 small (omega arith))
 
-  zeroed-own : (n k : ℕ) → i + n ≤ length r → k < n → getD (zeroedFrom r i n) (i + k) 0 ≡ 0
-  unfolding zeroedFrom
-  zeroed-own zero k f h = absurd (not-suc-le-zero h)
-  zeroed-own (suc n) k f h =
-      let l = length-zeroed n in
-      ⊎-elim
-      (λ e. rw e (getD-set-same (zeroedFrom r i n) (i + n) 0 0 (omega arith)))
-      (λ b. getD-set-other (zeroedFrom r i n) (i + n) (i + k) 0 0 (λ p. omega arith) ∙ zeroed-own n k (omega arith) b)
-      (eq-or-lt-of-le (le-of-suc-le-suc h))
+    zeroed-own : length r ≡ stateLength → (n k : ℕ) → n ≤ 38 → k < n → getD (zeroedAt r t n) (numberAt t k) 0 ≡ 0
+    unfolding zeroedAt
+    zeroed-own long zero k f h = absurd (not-suc-le-zero h)
+    zeroed-own long (suc n) k f h =
+        let l = length-zeroed n in
+        ⊎-elim
+        (λ e. rw e (getD-set-same (zeroedAt r t n) (numberAt t n) 0 0 (omega arith)))
+        (λ b. getD-set-other (zeroedAt r t n) (numberAt t n) (numberAt t k) 0 0 (λ p. omega arith)
+        ∙ zeroed-own long n k (omega arith) b)
+        (eq-or-lt-of-le (le-of-suc-le-suc h))
 
 module _ (r : List ℕ) (t : ℕ) (long : length r ≡ stateLength) (small : t < 8) (b : Bool) where
   abbrev zeroed : List ℕ
-  zeroed = zeroedFrom r (base t) 54
+  zeroed = zeroedAt r t 38
 
   long-zeroed : length zeroed ≡ stateLength
-  long-zeroed = length-zeroed r (base t) 54 ∙ long
+  long-zeroed = length-zeroed r t 38 ∙ long
 
   pub length-reset : length (resetAt r t b) ≡ length r
   unfolding resetAt
-  length-reset = length-set zeroed (base t + 48) (flagNumber b) ∙ length-zeroed r (base t) 54
+  length-reset = length-set zeroed (numberAt t 32) (flagNumber b) ∙ length-zeroed r t 38
 
   outside-reset : AgreeBut r (resetAt r t b) t
   unfolding resetAt
-  outside-reset j w =
-      outside-number zeroed t long-zeroed small 48 (flagNumber b) (omega arith) (omega arith) (λ p. omega arith) j w
-      ∙ zeroed-other r (base t) 54 j (⊎-elim inl (λ h. inr (omega arith)) w)
+  outside-reset =
+      agree-then r zeroed (resetAt r t b) t (outside-zeroed r t small 38 (omega arith))
+      (agree-set zeroed t 32 (flagNumber b) small (omega arith))
 
   own-reset : transactionOf (resetAt r t b) t ≡ withBegun b ended
   unfolding transactionOf usedOf resetAt
   own-reset =
-      with-number zeroed t long-zeroed small 48 (flagNumber b) (omega arith) (omega arith) (λ p. omega arith)
+      with-number zeroed t long-zeroed small 32 (flagNumber b) (omega arith) (omega arith) (λ p. omega arith)
       ∙ ap (λ (a : Bool). withBegun a (transactionOf zeroed t)) (flag-back b)
-      ∙ ap (withBegun b) (transaction-of-zeros zeroed t (λ k h. zeroed-own r (base t) 54 k (omega arith) h))
+      ∙ ap (withBegun b) (transaction-of-zeros zeroed t (λ k h. zeroed-own r t small long 38 k (omega arith) h))
 
   pub store-reset : storeOf (resetAt r t b) ≡ withTransaction t (withBegun b ended) (storeOf r)
   store-reset = store-block r (resetAt r t b) t small outside-reset (withBegun b ended) own-reset
@@ -662,7 +670,7 @@ filed l s = record {
 
 module _ (r : List ℕ) (long : length r ≡ stateLength) where
   -- A number past the transactions leaves them and the journal.
-  module _ (i n : ℕ) (past : 2240 ≤ i) where
+  module _ (i n : ℕ) (past : 2032 ≤ i) where
     transactions-past : tabulate (transactionOf (set r i n)) 8 ≡ tabulate (transactionOf r) 8
     transactions-past = transactions-same r (set r i n) (λ j a b. getD-set-other r i j n 0 (λ p. omega arith))
 
@@ -681,82 +689,82 @@ module _ (r : List ℕ) (long : length r ≡ stateLength) where
     pub store-with-offset : k < 16 → storeOf (withOffsetAt r k n) ≡ withOffsets (set (storeOf r .offsets) k n) (storeOf r)
     unfolding storeOf
     store-with-offset h =
-        let i = 2256 + k in
+        let i = 2048 + k in
         rw (
           transactions-past i n (omega arith),
-          column-left r i n 2240 16 (inr (omega arith)),
-          column-left r i n 2272 8
+          column-left r i n 2032 16 (inr (omega arith)),
+          column-left r i n 2064 8
               (inl (omega arith)),
           windows-left r i n (omega arith),
           undo-left r i n (omega arith),
-          column-set 2256 16 k n h (omega arith),
+          column-set 2048 16 k n h (omega arith),
         )
 
     pub store-with-length : k < 8 → storeOf (withLengthAt r k n) ≡ withLengths (set (storeOf r .lengths) k n) (storeOf r)
     unfolding storeOf
     store-with-length h =
-        let i = 2272 + k in
+        let i = 2064 + k in
         rw (
           transactions-past i n (omega arith),
-          column-left r i n 2240 16 (inr (omega arith)),
-          column-left r i n 2256 16
+          column-left r i n 2032 16 (inr (omega arith)),
+          column-left r i n 2048 16
               (inr (omega arith)),
           windows-left r i n (omega arith),
           undo-left r i n (omega arith),
-          column-set 2272 8 k n h (omega arith),
+          column-set 2064 8 k n h (omega arith),
         )
 
     store-with-file : k < 16 → let s = storeOf r in storeOf (withFileNumberAt r k n) ≡ filed (set (s .filenumbers) k n) s
     unfolding storeOf
     store-with-file h =
-        let i = 2240 + k in
+        let i = 2032 + k in
         rw (
           transactions-past i n (omega arith),
-          column-left r i n 2256 16 (inl (omega arith)),
-          column-left r i n 2272 8
+          column-left r i n 2048 16 (inl (omega arith)),
+          column-left r i n 2064 8
               (inl (omega arith)),
           windows-left r i n (omega arith),
           undo-left r i n (omega arith),
-          column-set 2240 16 k n h (omega arith),
+          column-set 2032 16 k n h (omega arith),
         )
 
     journal-with-file : journalOf (withFileNumberAt r k n) ≡ journalOf r
-    journal-with-file = journal-past (2240 + k) n (omega arith)
+    journal-with-file = journal-past (2032 + k) n (omega arith)
 
     pub journal-with-offset : journalOf (withOffsetAt r k n) ≡ journalOf r
-    journal-with-offset = journal-past (2256 + k) n (omega arith)
+    journal-with-offset = journal-past (2048 + k) n (omega arith)
 
     pub journal-with-length : journalOf (withLengthAt r k n) ≡ journalOf r
-    journal-with-length = journal-past (2272 + k) n (omega arith)
+    journal-with-length = journal-past (2064 + k) n (omega arith)
 
   -- The window of file f.
   module _ (f : ℕ) (w : Window) where
     -- A number that is neither of the two.
-    window-preserved : (j : ℕ) → (j ≡ 2280 + f → ⊥) → (j ≡ 2288 + f → ⊥) → getD (withWindowAt r f w) j 0 ≡ getD r j 0
-    window-preserved j n0 n1 = getD-set-other (set r (2280 + f) (w .start)) (2288 + f) j (w .end) 0 n1
-        ∙ getD-set-other r (2280 + f) j (w .start) 0 n0
+    window-preserved : (j : ℕ) → (j ≡ 2072 + f → ⊥) → (j ≡ 2080 + f → ⊥) → getD (withWindowAt r f w) j 0 ≡ getD r j 0
+    window-preserved j n0 n1 = getD-set-other (set r (2072 + f) (w .start)) (2080 + f) j (w .end) 0 n1
+        ∙ getD-set-other r (2072 + f) j (w .start) 0 n0
 
-    before-windows : (at n : ℕ) → at + n ≤ 2280 → Agree r (withWindowAt r f w) at n
+    before-windows : (at n : ℕ) → at + n ≤ 2072 → Agree r (withWindowAt r f w) at n
     before-windows at n l j a b = window-preserved j (λ p. omega arith) (λ p. omega arith)
 
     own-window : f < 8 → windowOf (withWindowAt r f w) f ≡ w
     unfolding windowOf
     own-window h =
-        let a = set r (2280 + f) (w .start) in
-        let la : length a ≡ stateLength = length-set r (2280 + f) (w .start) ∙ long in
+        let a = set r (2072 + f) (w .start) in
+        let la : length a ≡ stateLength = length-set r (2072 + f) (w .start) ∙ long in
         rw (
-          getD-set-other a (2288 + f) (2280 + f) (w .end) 0 (λ p. omega arith),
-          getD-set-same r (2280 + f) (w .start) 0
+          getD-set-other a (2080 + f) (2072 + f) (w .end) 0 (λ p. omega arith),
+          getD-set-same r (2072 + f) (w .start) 0
               (omega arith),
-          getD-set-same a (2288 + f) (w .end) 0 (omega arith),
+          getD-set-same a (2080 + f) (w .end) 0 (omega arith),
         )
 
     other-window : f < 8 → (g : ℕ) → g < 8 → (g ≡ f → ⊥) → windowOf (withWindowAt r f w) g ≡ windowOf r g
     unfolding windowOf
     other-window h g l ne =
         rw (
-          window-preserved (2280 + g) (λ p. ne (omega arith)) (λ p. omega arith),
-          window-preserved (2288 + g) (λ p. omega arith) (λ p. ne (omega arith)),
+          window-preserved (2072 + g) (λ p. ne (omega arith)) (λ p. omega arith),
+          window-preserved (2080 + g) (λ p. omega arith) (λ p. ne (omega arith)),
         )
 
     pub store-with-window : f < 8 → storeOf (withWindowAt r f w) ≡ withWindows (set (storeOf r .windows) f w) (storeOf r)
@@ -764,12 +772,12 @@ module _ (r : List ℕ) (long : length r ≡ stateLength) where
     store-with-window h =
         let s = withWindowAt r f w in
         rw (
-          transactions-same r s (before-windows 1728 512 (omega arith)),
-          column-same r s 2240 16
-              (before-windows 2240 16 (omega arith)),
-          column-same r s 2256 16 (before-windows 2256 16 (omega arith)),
-          column-same r s 2272 8
-              (before-windows 2272 8 (omega arith)),
+          transactions-same r s (before-windows 1728 304 (omega arith)),
+          column-same r s 2032 16
+              (before-windows 2032 16 (omega arith)),
+          column-same r s 2048 16 (before-windows 2048 16 (omega arith)),
+          column-same r s 2064 8
+              (before-windows 2064 8 (omega arith)),
           undo-same r s (λ j a b. window-preserved j (λ p. omega arith) (λ p. omega arith)),
           table-set
               (windowOf r) (windowOf s) 8 f w h (own-window h) (other-window h),
@@ -782,7 +790,7 @@ module _ (r : List ℕ) (long : length r ≡ stateLength) (f : ℕ → ℕ) wher
   length-with-files : (n : ℕ) → length (withFileNumbersAt r f n) ≡ length r
   unfolding withFileNumbersAt
   length-with-files zero = refl
-  length-with-files (suc n) = length-set (withFileNumbersAt r f n) (2240 + n) (f n) ∙ length-with-files n
+  length-with-files (suc n) = length-set (withFileNumbersAt r f n) (2032 + n) (f n) ∙ length-with-files n
 
   pub journal-with-files : (n : ℕ) → journalOf (withFileNumbersAt r f n) ≡ journalOf r
   unfolding withFileNumbersAt
@@ -792,7 +800,7 @@ module _ (r : List ℕ) (long : length r ≡ stateLength) (f : ℕ → ℕ) wher
 
   sixteen-files : length (storeOf r .filenumbers) ≡ 16
   unfolding storeOf
-  sixteen-files = length-tabulate (λ d. getD r (2240 + d) 0) 16
+  sixteen-files = length-tabulate (λ d. getD r (2032 + d) 0) 16
 
   with-first-files : (n : ℕ) → n ≤ 16 → let s = storeOf r in storeOf (withFileNumbersAt r f n)
       ≡ filed (filled f (s .filenumbers) n) s
@@ -824,9 +832,9 @@ module _ (r : List ℕ) (long : length r ≡ stateLength) where
   unfolding storeOf
   store-set s i n h =
       rw (
-        column-left s i n 2240 16 (inl (omega arith)),
-        column-left s i n 2256 16 (inl (omega arith)),
-        column-left s i n 2272 8
+        column-left s i n 2032 16 (inl (omega arith)),
+        column-left s i n 2048 16 (inl (omega arith)),
+        column-left s i n 2064 8
             (inl (omega arith)),
         windows-left s i n (omega arith),
         undo-left s i n (omega arith),

@@ -19,19 +19,19 @@ use Rattle.state.proofs.LayoutLaws.{Agree, journal-same, column-same, w
 use Rattle.state.proofs.LayoutLaws.{flag-back, column-left}
 
 -- Two records that agree on the numbers before those of the last grant.
-module _ (r s : List ℕ) (before : Agree r s 0 2296) where
+module _ (r s : List ℕ) (before : Agree r s 0 2088) where
   store-before : (u : Undo) → undoOf s ≡ u → storeOf s ≡ withUndo u (storeOf r)
   unfolding storeOf
   store-before u e =
-      let first : (at n : ℕ) → at + n ≤ 2296 → Agree r s at n = λ at n l j a b. before j (omega arith) (omega arith) in
+      let first : (at n : ℕ) → at + n ≤ 2088 → Agree r s at n = λ at n l j a b. before j (omega arith) (omega arith) in
       rw (
-        column-same r s 2240 16 (first 2240 16 (omega arith)),
-        column-same r s 2256 16
-            (first 2256 16 (omega arith)),
-        column-same r s 2272 8 (first 2272 8 (omega arith)),
+        column-same r s 2032 16 (first 2032 16 (omega arith)),
+        column-same r s 2048 16
+            (first 2048 16 (omega arith)),
+        column-same r s 2064 8 (first 2064 8 (omega arith)),
         windows-same r s
-            (first 2280 16 (omega arith)),
-        transactions-same r s (first 1728 512 (omega arith)),
+            (first 2072 16 (omega arith)),
+        transactions-same r s (first 1728 304 (omega arith)),
         e,
       )
 
@@ -41,50 +41,50 @@ module _ (r s : List ℕ) (before : Agree r s 0 2296) where
 -- ---- one number, or the two counters
 
 module _ (r : List ℕ) (long : length r ≡ stateLength) where
-  before-put : (i n : ℕ) → 2296 ≤ i → Agree r (set r i n) 0 2296
+  before-put : (i n : ℕ) → 2088 ≤ i → Agree r (set r i n) 0 2088
   before-put i n past j a b = getD-set-other r i j n 0 (λ p. omega arith)
 
   module _ (b : Bool) where
     pub length-with-held : length (withHeldAt r b) ≡ length r
-    length-with-held = length-set r 2320 (flagNumber b)
+    length-with-held = length-set r 2112 (flagNumber b)
 
     own-held : undoOf (withHeldAt r b) ≡ withHeld b (undoOf r)
     unfolding undoOf
     own-held =
         let n = flagNumber b in
         rw (
-          getD-set-same r 2320 n 0 (omega arith),
+          getD-set-same r 2112 n 0 (omega arith),
           flag-back b,
-          getD-set-other r 2320 2321 n 0
+          getD-set-other r 2112 2113 n 0
               (λ p. omega arith),
-          getD-set-other r 2320 2322 n 0 (λ p. omega arith),
-          column-left r 2320 n 2296 16
+          getD-set-other r 2112 2114 n 0 (λ p. omega arith),
+          column-left r 2112 n 2088 16
               (inr (omega arith)),
-          column-left r 2320 n 2312 8 (inr (omega arith)),
+          column-left r 2112 n 2104 8 (inr (omega arith)),
         )
 
     pub store-with-held : storeOf (withHeldAt r b) ≡ withUndo (withHeld b (storeOf r .undo)) (storeOf r)
     unfolding storeOf
-    store-with-held = store-before r (withHeldAt r b) (before-put 2320 (flagNumber b) (omega arith)) (withHeld b (undoOf r))
+    store-with-held = store-before r (withHeldAt r b) (before-put 2112 (flagNumber b) (omega arith)) (withHeld b (undoOf r))
         own-held
 
     pub journal-with-held : journalOf (withHeldAt r b) ≡ journalOf r
-    journal-with-held = journal-before r (withHeldAt r b) (before-put 2320 (flagNumber b) (omega arith))
+    journal-with-held = journal-before r (withHeldAt r b) (before-put 2112 (flagNumber b) (omega arith))
 
   module _ (u : Used) where
     abbrev with-records : List ℕ
-    with-records = set r 2321 (u .records)
+    with-records = set r 2113 (u .records)
 
     pub length-with-undo-used : length (withUndoUsedAt r u) ≡ length r
     length-with-undo-used = simp length-set
 
     long-records : length with-records ≡ stateLength
-    long-records = length-set r 2321 (u .records) ∙ long
+    long-records = length-set r 2113 (u .records) ∙ long
 
-    before-counters : Agree r (withUndoUsedAt r u) 0 2296
+    before-counters : Agree r (withUndoUsedAt r u) 0 2088
     before-counters j a b =
-        getD-set-other with-records 2322 j (u .bytes) 0 (λ p. omega arith)
-        ∙ getD-set-other r 2321 j (u .records) 0 (λ p. omega arith)
+        getD-set-other with-records 2114 j (u .bytes) 0 (λ p. omega arith)
+        ∙ getD-set-other r 2113 j (u .records) 0 (λ p. omega arith)
 
     abbrev with-counters : Undo → Undo
     with-counters x = record { held = x .held; used = u; offsets = x .offsets; lengths = x .lengths }
@@ -96,19 +96,19 @@ module _ (r : List ℕ) (long : length r ≡ stateLength) where
         let l = long-records in
         let m = u .bytes in
         rw (
-          getD-set-other s 2322 2320 m 0 (λ p. omega arith),
-          getD-set-other r 2321 2320 (u .records) 0
+          getD-set-other s 2114 2112 m 0 (λ p. omega arith),
+          getD-set-other r 2113 2112 (u .records) 0
               (λ p. omega arith),
-          getD-set-other s 2322 2321 m 0 (λ p. omega arith),
-          getD-set-same r 2321 (u .records) 0
+          getD-set-other s 2114 2113 m 0 (λ p. omega arith),
+          getD-set-same r 2113 (u .records) 0
               (omega arith),
-          getD-set-same s 2322 m 0 (omega arith),
-          column-left s 2322 m 2296 16 (inr (omega arith)),
-          column-left r 2321
-              (u .records) 2296 16 (inr (omega arith)),
-          column-left s 2322 m 2312 8 (inr (omega arith)),
-          column-left r 2321
-              (u .records) 2312 8 (inr (omega arith)),
+          getD-set-same s 2114 m 0 (omega arith),
+          column-left s 2114 m 2088 16 (inr (omega arith)),
+          column-left r 2113
+              (u .records) 2088 16 (inr (omega arith)),
+          column-left s 2114 m 2104 8 (inr (omega arith)),
+          column-left r 2113
+              (u .records) 2104 8 (inr (omega arith)),
         )
 
     pub store-with-undo-used : let x = storeOf r .undo in storeOf (withUndoUsedAt r u)
@@ -167,26 +167,26 @@ module _ (r : List ℕ) (long : length r ≡ stateLength) where
       ≡ record {
         held = undoOf r .held;
         used = undoOf r .used;
-        offsets = tabulate (λ d. getD r (2256 + d) 0) 16;
+        offsets = tabulate (λ d. getD r (2048 + d) 0) 16;
         lengths = tabulate
-            (λ f. getD r (2272 + f) 0) 8;
+            (λ f. getD r (2064 + f) 0) 8;
       }
   unfolding undoOf
   own-found =
-      let left : (j : ℕ) → 2320 ≤ j → getD (withCommittedFound r) j 0
-      ≡ getD r j 0 = λ j l. copied-other r 2256 2296 24 j (inr l) in
+      let left : (j : ℕ) → 2112 ≤ j → getD (withCommittedFound r) j 0
+      ≡ getD r j 0 = λ j l. copied-other r 2048 2088 24 j (inr l) in
       rw (
-        left 2320 (omega arith),
-        left 2321 (omega arith),
-        left 2322 (omega arith),
-        column-copied r 2256 2296 24 2296 2256 0 16
+        left 2112 (omega arith),
+        left 2113 (omega arith),
+        left 2114 (omega arith),
+        column-copied r 2048 2088 24 2088 2048 0 16
             (inl (omega arith)) (omega arith) refl refl (omega arith),
-        column-copied r 2256 2296 24 2312 2272 16 8 (inl (omega arith))
+        column-copied r 2048 2088 24 2104 2064 16 8 (inl (omega arith))
             (omega arith) refl refl (omega arith),
       )
 
-  before-found : Agree r (withCommittedFound r) 0 2296
-  before-found j a b = copied-other r 2256 2296 24 j (inl b)
+  before-found : Agree r (withCommittedFound r) 0 2088
+  before-found j a b = copied-other r 2048 2088 24 j (inl b)
 
   pub store-with-committed-found : let s = storeOf r in storeOf (withCommittedFound r)
       ≡ withUndo (record { held = s .undo .held; used = s .undo .used; offsets = s .offsets; lengths = s .lengths }) s
@@ -201,20 +201,20 @@ module _ (r : List ℕ) (long : length r ≡ stateLength) where
   unfolding storeOf undoOf
   store-with-found-committed =
       let s = withFoundCommitted r in
-      let left : (at n : ℕ) → (at + n ≤ 2256) ⊎ (2280 ≤ at) → Agree r s at n =
-      λ at n w j a b. copied-other r 2296 2256 24 j (⊎-elim (λ l. inl (omega arith)) (λ l. inr (omega arith)) w) in
+      let left : (at n : ℕ) → (at + n ≤ 2048) ⊎ (2072 ≤ at) → Agree r s at n =
+      λ at n w j a b. copied-other r 2088 2048 24 j (⊎-elim (λ l. inl (omega arith)) (λ l. inr (omega arith)) w) in
       rw (
-        column-same r s 2240 16 (left 2240 16 (inl (omega arith))),
-        windows-same r s (left 2280 16 (inr (omega arith))),
+        column-same r s 2032 16 (left 2032 16 (inl (omega arith))),
+        windows-same r s (left 2072 16 (inr (omega arith))),
         undo-same r s
-            (left 2296 27 (inr (omega arith))),
+            (left 2088 27 (inr (omega arith))),
         transactions-same r s
-            (left 1728 512 (inl (omega arith))),
-        column-copied r 2296 2256 24 2256 2296 0 16 (inr (omega arith)) (omega arith) refl refl
+            (left 1728 304 (inl (omega arith))),
+        column-copied r 2088 2048 24 2048 2088 0 16 (inr (omega arith)) (omega arith) refl refl
             (omega arith),
-        column-copied r 2296 2256 24 2272 2312 16 8 (inr (omega arith)) (omega arith) refl refl (omega arith),
+        column-copied r 2088 2048 24 2064 2104 16 8 (inr (omega arith)) (omega arith) refl refl (omega arith),
       )
 
   pub journal-with-found-committed : journalOf (withFoundCommitted r) ≡ journalOf r
   journal-with-found-committed = journal-same r (withFoundCommitted r)
-      (λ j a b. copied-other r 2296 2256 24 j (inl (omega arith)))
+      (λ j a b. copied-other r 2088 2048 24 j (inl (omega arith)))

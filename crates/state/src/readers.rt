@@ -13,8 +13,8 @@ use crate::positions::FILE_NUMBERS_AT;
 use crate::positions::FOUND_AT;
 use crate::positions::KNOWN;
 use crate::positions::LENGTHS_AT;
-use crate::positions::OFFSETS_AT;
 use crate::positions::OFFSET_BIAS;
+use crate::positions::OFFSETS_AT;
 use crate::positions::RECORDS_AT;
 use crate::positions::STARTS_AT;
 use crate::positions::first_at;
@@ -30,6 +30,9 @@ ghost use Rattle.buffers.specs.Below.{below};
 ghost use Rattle.standings.specs.Table.{readSettles, isKnown, mayWait, advance, offsetOf};
 ghost use Rattle.state.specs.StoreMeaning.{standingAt, dirtyAt, windowAt};
 ghost use Rattle.state.specs.Layout.{transactionOf, storeOf, stateLength};
+
+// What is added to an advance, as a length has it.
+const WIDE_BIAS: usize = ADVANCE_BIAS as usize;
 
 // ---- one standing
 
@@ -56,12 +59,12 @@ pub fn read_settles_at(state: &State, t: usize, d: usize, of_file: bool, is_it: 
 // A write record without a place may wait under descriptor d in transaction t, and `end` is at most the
 // advance there.
 pub fn may_wait_to(state: &State, t: usize, d: usize, end: usize) -> bool
-    requires { ⌜ (t < transactionCount) × (d < descriptorCount) ⌝ }
+    requires { ⌜ (t < transactionCount) × (d < descriptorCount) × (end ≤ 131070) ⌝ }
     ensures { λ r. ⌜ r ≡ mayWait (standingAt (transactionOf (now (state .entry)) t) d)
         && leb end (advance (standingAt (transactionOf (now (state .entry)) t) d)) ⌝ }
 {
     let b = wide(second_at(state, t, d));
-    end + 2 <= b
+    end + WIDE_BIAS <= b
 }
 
 // ---- the open transactions, all eight at once: no branch, and none on what is open

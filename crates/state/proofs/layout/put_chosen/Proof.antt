@@ -23,6 +23,11 @@ loop-holds : tie.Need-loop-holds Inv-loop μ-loop
 unfolding withChosenAt
 loop-holds c = (omega arith, refl)
 
+put-descriptor-requires : tie.Need-put-descriptor-requires Inv-loop μ-loop
+put-descriptor-requires c κs =
+    let taken = c .before .before in
+    (omega arith, omega arith, taken .before .before .before .pre .1 _ (omega arith) (taken .if1 .taken))
+
 loop-again : tie.Need-loop-again Inv-loop μ-loop
 unfolding withChosenAt
 loop-again c =
@@ -50,7 +55,7 @@ put-chosen-spec =
     (λ c. search needs)
     (λ c. search needs)
     (λ c. search needs)
-    (λ c κs. search needs)
+    put-descriptor-requires
     (λ c. search needs)
     (λ c. search needs)
     loop-again

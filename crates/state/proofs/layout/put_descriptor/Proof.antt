@@ -6,12 +6,7 @@ use Rattle.state.proofs.layout.put_descriptor.Tie as tie
 
 returns : tie.Need-returns
 unfolding withDescriptorAt
-returns c = rw (
-  c .put .ensures,
-  c .before .second-of .ensures,
-  c .before .before .first-of .ensures,
-  c .before .before .before .kind-of .ensures,
-)
+returns c = rw (c .put .ensures, c .before .second-of .ensures, c .before .before .first-of .ensures)
 
 pub put-descriptor-spec : {M : Type 1} → statement M
 put-descriptor-spec =
@@ -20,6 +15,7 @@ put-descriptor-spec =
     (λ c. search needs)
     (λ c. search needs)
     (λ c. search needs)
+    (λ c κs. search needs)
     (λ c. search needs)
     (λ c. search needs)
     (λ c. search needs)
@@ -28,15 +24,12 @@ put-descriptor-spec =
     (λ c κs. search needs)
     (λ c. search needs)
     (λ c. search needs)
-    (λ c κs. search needs)
     (λ c. search needs)
-    (λ c. search needs)
-    (λ c. search needs)
-    (λ c κs. search needs)
     (λ c. search needs)
     (λ c. search needs)
     (λ c. search needs)
     (λ c κs. search needs)
+    (λ c. search needs)
     (λ c. search needs)
     (λ c. search needs)
     returns)

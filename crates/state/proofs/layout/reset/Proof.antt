@@ -3,23 +3,23 @@ use mathlib.Core.Path.{_≡_, refl}
 use Prim.Native.Nat.{_-_, _≤_}
 use native.Mathlib.Numerals.{add-one}
 use native.Mathlib.Omega.{arith}
+use Rattle.state.specs.Updates.{zeroedAt, resetAt}
 use borrow.Author.Needs.{needs}
-use Rattle.state.specs.Updates.{zeroedFrom, resetAt}
 use Rattle.state.proofs.layout.reset.Statement.{statement}
 use Rattle.state.proofs.layout.reset.Tie as tie
 
 abbrev Inv-loop : tie.InvT-loop
-Inv-loop state₀ t begun base i₀ state i = (i ≤ 54) × (state ≡ zeroedFrom state₀ base i)
+Inv-loop state₀ t begun k₀ state k = (k ≤ 38) × (state ≡ zeroedAt state₀ t k)
 
 abbrev μ-loop : tie.MeasureT-loop
-μ-loop state₀ t begun base i₀ state i = 54 - i
+μ-loop state₀ t begun k₀ state k = 38 - k
 
 loop-holds : tie.Need-loop-holds Inv-loop μ-loop
-unfolding zeroedFrom
+unfolding zeroedAt
 loop-holds c = (omega arith, refl)
 
 loop-again : tie.Need-loop-again Inv-loop μ-loop
-unfolding zeroedFrom
+unfolding zeroedAt
 loop-again c =
     let l = c .before .loop in
     (omega arith, rw (l .inv .1, add-one))
@@ -28,7 +28,7 @@ returns : tie.Need-returns Inv-loop μ-loop
 unfolding resetAt
 returns c =
     let l = c .before .before .loop in
-    let e : l .i ≡ 54 = omega arith in
+    let e : l .k ≡ 38 = omega arith in
     rw (c .flag-of .ensures, l .inv .1, e)
 
 pub reset-spec : {M : Type 1} → statement M
@@ -37,9 +37,9 @@ reset-spec =
     (tie.spec
     Inv-loop
     μ-loop
-    (λ c. search needs)
-    (λ c. search needs)
     loop-holds
+    (λ c. search needs)
+    (λ c. search needs)
     (λ c. search needs)
     (λ c. search needs)
     (λ c. search needs)

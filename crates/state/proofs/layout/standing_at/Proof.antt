@@ -9,14 +9,12 @@ use Rattle.state.proofs.layout.standing_at.Tie as tie
 returns : tie.Need-returns
 returns c =
     c .standing-of .ensures
-    ∙ rw (c .before .second-at .ensures, c .before .before .first-at .ensures, c .before .before .before .kind-at .ensures)
-    (sym (standing-of _ _ _ (omega arith)))
+    ∙ rw (c .before .second-at .ensures, c .before .before .first-at .ensures) (sym (standing-of _ _ _ (omega arith)))
 
 pub standing-at-spec : {M : Type 1} → statement M
 standing-at-spec =
     tie.close
     (tie.spec
-    (λ c κs. search needs)
     (λ c κs. search needs)
     (λ c κs. search needs)
     (λ c κs. search needs)

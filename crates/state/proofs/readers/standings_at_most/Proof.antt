@@ -1,13 +1,48 @@
 -- `state::readers::standings_at_most` meets its contract.
+use Rattle.buffers.proofs.BelowLaws.{none-yet, one-more}
+use Rattle.buffers.specs.Below.{below}
+use Rattle.standings.specs.Table.{advance, offsetOf}
+use Rattle.state.specs.Layout.{transactionOf}
+use Rattle.state.specs.StoreMeaning.{standingAt}
+use lib.Dec.{leb}
+use Prim.Native.Nat.{_-_, _≤_}
+use mathlib.Core.Bool.{not, _&&_, _||_}
+use mathlib.Core.Path.{_≡_}
+use native.Mathlib.Omega.{arith}
 use borrow.Author.Needs.{needs}
-use Rattle.state.proofs.ReaderLaws.{carried-decide}
 use Rattle.state.proofs.readers.standings_at_most.Statement.{statement}
 use Rattle.state.proofs.readers.standings_at_most.Tie as tie
 
-returns : tie.Need-returns
-returns c =
-    let a = c .before .before .args in
-    rw (c .seconds-at-most .ensures, c .before .firsts-at-most .ensures) (carried-decide (a .state .now) (a .t) (a .most))
+abbrev Inv-loop : tie.InvT-loop
+Inv-loop state most good₀ t₀ good t =
+    (t ≤ 8) × (good ≡ below (λ u. not (transactionOf state u .begun)
+    || below (λ d. leb (advance (standingAt (transactionOf state u) d)) most
+    && leb (offsetOf (standingAt (transactionOf state u) d)) most) 16) t)
+
+abbrev μ-loop : tie.MeasureT-loop
+μ-loop state most good₀ t₀ good t = 8 - t
+
+loop-holds : tie.Need-loop-holds Inv-loop μ-loop
+loop-holds c = (omega arith, none-yet _)
+
+loop-again : tie.Need-loop-again Inv-loop μ-loop
+loop-again c =
+    let l = c .before .before .before .loop in
+    (omega arith, one-more _ _ _ _ (l .inv .1) (rw (c .own-at-most .ensures, c .before .is-begun .ensures)))
+
+returns : tie.Need-returns Inv-loop μ-loop
+returns c = let e : c .before .loop .t ≡ 8 = omega arith in rw e at (c .before .loop .inv .1)
 
 pub standings-at-most-spec : {M : Type 1} → statement M
-standings-at-most-spec = tie.close (tie.spec (λ c κs. search needs) (λ c κs. search needs) returns)
+standings-at-most-spec =
+    tie.close
+    (tie.spec
+    Inv-loop
+    μ-loop
+    loop-holds
+    (λ c κs. search needs)
+    (λ c κs. search needs)
+    (λ c. search needs)
+    (λ c. search needs)
+    loop-again
+    returns)

@@ -1,7 +1,7 @@
 -- What each test of src/lib.rt decides, in the order in which they are made.
 use mathlib.Core.Bool.{Bool, true, false, not, _&&_, _||_, false≢true}
 use mathlib.Core.List.{List}
-use mathlib.Core.Path.{_≡_, refl, sym, ap, _∙_}
+use mathlib.Core.Path.{_≡_, refl, sym, ap, ap₂, _∙_}
 use native.Mathlib.Numerals.{add-one}
 use lib.ListN.{getD}
 use lib.Dec.{leb, eqb}
@@ -27,7 +27,9 @@ use Rattle.admission.specs.FirstRefusal.{below}
 use Rattle.admission.specs.Admission.{standingIn, endsWithin, placeIn, recordIn, lengthsBefore, journalIn, journalPasses}
 use Rattle.admission.specs.Admission.{transactionIn}
 use Rattle.admission.specs.Admission.{windowIn, tablesIn, placedIn, landedIn, grantPasses, undoIn, noneBegun}
-use Rattle.admission.proofs.Laws.{and-left, and-true, below-at, below-same, sum-zero, sum-more, standing-numbers}
+use Rattle.admission.proofs.Laws.{and-left, and-right, and-both, and-true, below-zero, below-at, below-all, below-same, sum-zero, sum-more}
+use Rattle.admission.proofs.Laws.{standing-numbers}
+use Rattle.buffers.proofs.BelowLaws.{below-both}
 
 and-false : (a : Bool) → a && false ≡ false
 and-false true = refl
@@ -141,43 +143,100 @@ or-closed b q e = rw e
 or-begun : (b q : Bool) → b ≡ true → not b || q ≡ q
 or-begun b q e = rw e
 
-module _ (x : Transaction) (journal : List ℕ) (t : ℕ) where
-  pub closed-in : x .begun ≡ false → true ≡ transactionIn x journal t
-  unfolding transactionIn
-  closed-in e = or-closed (x .begun) _ e
+-- Its counters, its standings and its records, each where it is open.
+parts : (b s r j e u : Bool) → not b || (s && (r && j && e && u)) ≡ (not b || (r && u)) && (not b || s) && (not b || (j && e))
+parts true s r j e u = turned s r j e u
+parts false s r j e u = refl
 
-  module _ (begun : x .begun ≡ true) where
-    begun-in : transactionIn x journal t
-        ≡ leb (x .used .records) 64 && leb (x .used .bytes) 4096 && below (λ d. standingIn (standingAt x d)) 16
-        && journalPasses x journal t
-        (x .used .records) (x .used .bytes)
-    unfolding transactionIn journalIn journalPasses
-    begun-in = or-begun (x .begun) _ begun ∙ turned (below (λ d. standingIn (standingAt x d)) 16) (leb (x .used .records) 64) _ _
-        (leb (x .used .bytes) 4096)
+module _ (r : List ℕ) where
+  abbrev pub countersIn : ℕ → Bool
+  countersIn t = not (transactionOf r t .begun)
+      || (leb (transactionOf r t .used .records) 64 && leb (transactionOf r t .used .bytes) 4096)
 
-    pub records-fail : (n : ℕ) → n ≡ x .used .records → 64 < n → false ≡ transactionIn x journal t
-    records-fail n e l = sym (begun-in ∙ rw (lt-leb (x .used .records) 64 (rw e at l)))
+  abbrev pub standingsIn : ℕ → Bool
+  standingsIn t = not (transactionOf r t .begun) || below (λ d. standingIn (standingAt (transactionOf r t) d)) 16
 
-    module _ (n m : ℕ) (is-n : n ≡ x .used .records) (is-m : m ≡ x .used .bytes) (few : n ≤ 64) where
-      pub bytes-fail : 4096 < m → false ≡ transactionIn x journal t
-      bytes-fail l = sym (begun-in ∙ rw (
-        le-leb (x .used .records) 64 (rw is-n at few),
-        lt-leb (x .used .bytes) 4096 (rw is-m at l),
-      ))
+  abbrev pub recordsIn : ℕ → Bool
+  recordsIn t = not (transactionOf r t .begun)
+      || journalPasses (transactionOf r t) (journalOf r) t (transactionOf r t .used .records) (transactionOf r t .used .bytes)
 
-      module _ (fits : m ≤ 4096) where
-        counted : transactionIn x journal t ≡ below (λ d. standingIn (standingAt x d)) 16 && journalPasses x journal t n m
-        counted = rw (is-n, is-m) (begun-in ∙ rw (
-          le-leb (x .used .records) 64 (rw is-n at few),
-          le-leb (x .used .bytes) 4096 (rw is-m at fits),
-        ))
+  abbrev pub emptyIn : ℕ → Bool
+  emptyIn t = not (transactionOf r t .begun)
+      || (leb (transactionOf r t .used .records) 0 && leb (transactionOf r t .used .bytes) 0)
 
-        pub standings-fail : below (λ d. standingIn (standingAt x d)) 16 ≡ false → false ≡ transactionIn x journal t
-        standings-fail e = sym (counted ∙ rw e)
+  abbrev pub allIn : Bool
+  allIn = below (λ t. transactionIn (transactionOf r t) (journalOf r) t) 8
 
-        pub records-decide : (r : Bool) → below (λ d. standingIn (standingAt x d)) 16 ≡ true → r ≡ journalPasses x journal t n m
-            → r ≡ transactionIn x journal t
-        records-decide r standings e = e ∙ sym (counted ∙ rw standings)
+  pub all-standings-decide : below (λ t. not (transactionOf r t .begun)
+      || below (λ d. let z = standingAt (transactionOf r t) d in leb (advance z) 4096 && leb (offsetOf z) 4096) 16) 8
+      ≡ below standingsIn 8
+  all-standings-decide = below-same _ _ 8 (λ t h. ap (λ (b : Bool). not (transactionOf r t .begun) || b) (standings-decide r t))
+
+  transaction-parts : (t : ℕ) → transactionIn (transactionOf r t) (journalOf r) t
+      ≡ countersIn t && standingsIn t && recordsIn t
+  unfolding transactionIn journalIn journalPasses
+  transaction-parts t =
+      let x = transactionOf r t in
+      parts (x .begun) (below (λ d. standingIn (standingAt x d)) 16) (leb (x .used .records) 64) _ _ (leb (x .used .bytes) 4096)
+
+  all-parts : allIn ≡ below countersIn 8 && below standingsIn 8 && below recordsIn 8
+  all-parts =
+      below-same _ _ 8 (λ t h. transaction-parts t)
+      ∙ sym (ap (λ (b : Bool). b && below recordsIn 8) (below-both countersIn standingsIn 8)
+      ∙ below-both (λ t. countersIn t && standingsIn t) recordsIn 8)
+
+  pub counters-fail : below countersIn 8 ≡ false → false ≡ allIn
+  counters-fail e = sym (all-parts ∙ rw e)
+
+  module _ (counters : below countersIn 8 ≡ true) where
+    pub standings-fail : below standingsIn 8 ≡ false → false ≡ allIn
+    standings-fail e = sym (all-parts ∙ rw (counters, e))
+
+    module _ (standings : below standingsIn 8 ≡ true) where
+      pub records-decide : (b : Bool) → b ≡ below recordsIn 8 → b ≡ allIn
+      records-decide b e = e ∙ sym (all-parts ∙ rw (counters, standings))
+
+  empty-passes : (t : ℕ) → journalPasses (transactionOf r t) (journalOf r) t 0 0 ≡ true
+  unfolding journalPasses
+  empty-passes t = and-both _ _ (below-zero _) (ap (λ (n : ℕ). eqb n 0) (sym (lengths-none (journalOf r) t)))
+
+  -- One that has neither records nor bytes.
+  pub empty-in : (t : ℕ) → emptyIn t ≡ true → recordsIn t ≡ true
+  empty-in t e = pick (transactionOf r t .begun) (transactionOf r t .used .records) (transactionOf r t .used .bytes) e
+    where
+      pick : (b : Bool) (n m : ℕ) → not b || (leb n 0 && leb m 0) ≡ true
+          → not b || journalPasses (transactionOf r t) (journalOf r) t n m ≡ true
+      pick false n m h = refl
+      pick true n m h =
+          let k = leb-true n 0 (and-left (leb n 0) (leb m 0) h) in
+          let l = leb-true m 0 (and-right (leb n 0) (leb m 0) h) in
+          let no-records : n ≡ 0 = omega arith in
+          let no-bytes : m ≡ 0 = omega arith in
+          rw (no-records, no-bytes) (empty-passes t)
+
+  pub all-empty : below emptyIn 8 ≡ true → true ≡ below recordsIn 8
+  all-empty e = sym (below-all recordsIn 8 (λ t h. empty-in t (below-at emptyIn 8 t e h)))
+
+  -- One that has some: it is open, and what was tested of open ones holds of it.
+  module _ (t : ℕ) (some : emptyIn t ≡ false) where
+    open-one : transactionOf r t .begun ≡ true
+    open-one = pick (transactionOf r t .begun) _ some
+      where
+        pick : (b q : Bool) → not b || q ≡ false → b ≡ true
+        pick true q h = refl
+        pick false q h = cc
+
+    pub its-standings : standingsIn t ≡ true → below (λ d. standingIn (standingAt (transactionOf r t) d)) 16 ≡ true
+    its-standings e = sym (or-begun (transactionOf r t .begun) _ open-one) ∙ e
+
+    pub its-count : countersIn t ≡ true → transactionOf r t .used .records ≤ 64
+    its-count e = leb-true _ 64 (and-left _ _ (sym (or-begun (transactionOf r t .begun) _ open-one) ∙ e))
+
+    pub its-records : (n m : ℕ) (b : Bool) → n ≡ transactionOf r t .used .records → m ≡ transactionOf r t .used .bytes
+        → b ≡ journalPasses (transactionOf r t) (journalOf r) t n m → b ≡ recordsIn t
+    its-records n m b is-n is-m e =
+        e ∙ ap₂ (λ (i j : ℕ). journalPasses (transactionOf r t) (journalOf r) t i j) is-n is-m
+        ∙ sym (or-begun (transactionOf r t .begun) _ open-one)
 
 -- ---- what is held of the last grant
 

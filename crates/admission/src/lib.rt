@@ -36,11 +36,11 @@ use state::readers::uses_at_most;
 use state::readers::windows_at_most;
 use windows::minute_in;
 ghost use mathlib.Core.Path.{_≡_};
-ghost use mathlib.Core.Bool.{true};
+ghost use mathlib.Core.Bool.{true, not, _&&_, _||_};
 ghost use lib.Dec.{leb};
 ghost use lib.ListN.{getD, length};
 ghost use Prim.Native.Nat.{_<_, _≤_};
-ghost use Rattle.limits.specs.Limits.{lastFile, descriptorCount, transactionCount, recordCount};
+ghost use Rattle.limits.specs.Limits.{lastFile, descriptorCount, transactionCount, recordCount, logBytes};
 ghost use Rattle.state.specs.StoreMeaning.{standingAt};
 ghost use Rattle.state.specs.Layout.{transactionOf, storeOf, journalOf, stateLength};
 ghost use Rattle.admission.specs.FirstRefusal.{below};
@@ -100,17 +100,41 @@ fn records_in(state: &State, t: usize, records: usize, bytes: usize) -> bool
     sum == bytes
 }
 
-// The write records of transaction t are in range, where it is open.
-fn journal_in(state: &State, t: usize) -> bool {
+// The write records of transaction t are in range where it is open, once its counters and standings are.
+fn journal_in(state: &State, t: usize) -> bool
+    requires { ⌜ (t < transactionCount)
+        × ((not (transactionOf (now state) t .begun)
+        || (leb (transactionOf (now state) t .used .records) recordCount
+        && leb (transactionOf (now state) t .used .bytes) logBytes)) ≡ true)
+        × ((not (transactionOf (now state) t .begun)
+        || below (λ d. standingIn (standingAt (transactionOf (now state) t) d)) descriptorCount) ≡ true) ⌝ }
+    ensures { λ r. ⌜ r ≡ (not (transactionOf (now (state .entry)) t .begun)
+        || journalPasses (transactionOf (now (state .entry)) t) (journalOf (now (state .entry))) t
+        (transactionOf (now (state .entry)) t .used .records)
+        (transactionOf (now (state .entry)) t .used .bytes)) ⌝ }
+{
     if uses_at_most(state, t, 0, 0) {
         return true;
     }
     let used = used_at(state, t);
-    records_in(state, t, used.records, wide(used.bytes))
+    let records = used.records;
+    let bytes = wide(used.bytes);
+    records_in(state, t, records, bytes)
 }
 
-// Those of all transactions are.
-fn journals_in(state: &State) -> bool {
+// Those of all open transactions are.
+fn journals_in(state: &State) -> bool
+    requires { ⌜ (below (λ t. not (transactionOf (now state) t .begun)
+        || (leb (transactionOf (now state) t .used .records) recordCount
+        && leb (transactionOf (now state) t .used .bytes) logBytes)) transactionCount ≡ true)
+        × (below (λ t. not (transactionOf (now state) t .begun)
+        || below (λ d. standingIn (standingAt (transactionOf (now state) t) d)) descriptorCount)
+        transactionCount ≡ true) ⌝ }
+    ensures { λ r. ⌜ r ≡ below (λ t. not (transactionOf (now (state .entry)) t .begun)
+        || journalPasses (transactionOf (now (state .entry)) t) (journalOf (now (state .entry))) t
+        (transactionOf (now (state .entry)) t .used .records)
+        (transactionOf (now (state .entry)) t .used .bytes)) transactionCount ⌝ }
+{
     let mut t = 0;
     while t < TRANSACTIONS {
         if !journal_in(state, t) {
@@ -121,7 +145,8 @@ fn journals_in(state: &State) -> bool {
     true
 }
 
-// The transactions are in range.
+// The transactions are in range: counters and standings of the eight at once, then the write records of those
+// that have any.
 fn transactions_in(state: &State) -> bool
     ensures { λ r. ⌜ r ≡
         below (λ t. transactionIn (transactionOf (now (state .entry)) t) (journalOf (now (state .entry))) t)

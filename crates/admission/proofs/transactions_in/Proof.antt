@@ -1,58 +1,52 @@
 -- `admission::transactions_in` meets its contract.
-use mathlib.Core.Path.{sym, _≡_}
-use mathlib.Core.Bool.{true}
-use Rattle.admission.specs.FirstRefusal.{below}
-use Rattle.admission.specs.Admission.{transactionIn}
-use Rattle.state.specs.Layout.{transactionOf, journalOf}
-use Rattle.admission.proofs.Laws.{below-zero, below-more, below-fails, failed, test-held}
-use Prim.Native.Nat.{_-_, _≤_}
-use native.Mathlib.Omega.{arith}
+use mathlib.Core.Path.{sym, _∙_}
+use Rattle.admission.proofs.Laws.{failed, test-held}
+use Rattle.admission.proofs.Tests.{all-standings-decide, counters-fail, standings-fail, records-decide, all-empty}
 use borrow.Author.Needs.{needs}
 use Rattle.admission.proofs.transactions_in.Statement.{statement}
 use Rattle.admission.proofs.transactions_in.Tie as tie
 
-abbrev Inv-loop : tie.InvT-loop
-Inv-loop state t₀ t = (t ≤ 8) × (below (λ u. transactionIn (transactionOf state u) (journalOf state) u) t ≡ true)
+returns : tie.Need-returns
+returns c = counters-fail _ (failed (c .before .all-use-at-most .ensures) (c .if1 .taken))
 
-abbrev μ-loop : tie.MeasureT-loop
-μ-loop state t₀ t = 8 - t
+returns-2 : tie.Need-returns-2
+returns-2 c =
+    let i = c .before .before in
+    standings-fail _ (test-held (i .before .all-use-at-most .ensures) (i .if1 .left))
+    (failed (c .before .standings-at-most .ensures ∙ all-standings-decide _) (c .if2 .taken))
 
-loop-holds : tie.Need-loop-holds Inv-loop μ-loop
-loop-holds c = (omega arith, below-zero _)
+returns-3 : tie.Need-returns-3
+returns-3 c =
+    let j = c .before .before in
+    let i = j .before .before in
+    records-decide _ (test-held (i .before .all-use-at-most .ensures) (i .if1 .left))
+    (test-held (j .before .standings-at-most .ensures ∙ all-standings-decide _) (j .if2 .left)) _
+    (all-empty _ (sym (c .before .all-use-at-most2 .ensures) ∙ c .if3 .taken))
 
-transaction-in-requires : tie.Need-transaction-in-requires Inv-loop μ-loop
-transaction-in-requires c κs = search needs
+journals-in-requires : tie.Need-journals-in-requires
+journals-in-requires c κs =
+    let j = c .before .before in
+    let i = j .before .before in (
+      test-held (i .before .all-use-at-most .ensures) (i .if1 .left),
+      test-held (j .before .standings-at-most .ensures ∙ all-standings-decide _) (j .if2 .left),
+    )
 
-returns : tie.Need-returns Inv-loop μ-loop
-returns c = sym (below-fails _ (c .before .before .before .loop .t) 8 (omega arith)
-    (failed (c .before .transaction-in .ensures) (c .if1 .taken)))
-
-add-t : tie.Need-add-t Inv-loop μ-loop
-add-t c = search needs
-
-loop-less : tie.Need-loop-less Inv-loop μ-loop
-loop-less c = search needs
-
-loop-again : tie.Need-loop-again Inv-loop μ-loop
-loop-again c = (
-  omega arith,
-  below-more _ _ (c .before .before .before .loop .inv .1)
-      (test-held (c .before .transaction-in .ensures) (c .if1 .left)),
-)
-
-returns-2 : tie.Need-returns-2 Inv-loop μ-loop
-returns-2 c = let e : c .before .loop .t ≡ 8 = omega arith in sym (rw e at (c .before .loop .inv .1))
+returns-4 : tie.Need-returns-4
+returns-4 c =
+    let j = c .before .before .before in
+    let i = j .before .before in
+    records-decide _ (test-held (i .before .all-use-at-most .ensures) (i .if1 .left))
+    (test-held (j .before .standings-at-most .ensures ∙ all-standings-decide _) (j .if2 .left)) _ (c .journals-in .ensures)
 
 pub transactions-in-spec : {M : Type 1} → statement M
 transactions-in-spec =
     tie.close
     (tie.spec
-    Inv-loop
-    μ-loop
-    loop-holds
-    transaction-in-requires
+    (λ c κs. search needs)
     returns
-    add-t
-    loop-less
-    loop-again
-    returns-2)
+    (λ c κs. search needs)
+    returns-2
+    (λ c κs. search needs)
+    returns-3
+    journals-in-requires
+    returns-4)

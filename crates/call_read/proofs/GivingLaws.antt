@@ -4,6 +4,7 @@ use mathlib.Core.List.{List, _++_}
 use mathlib.Core.Path.{_≡_, sym, ap, ap₂, _∙_}
 use borrow.Author.Tests.{lt-ltb, le-ltb}
 use lib.ListN.{length, getD, set, drop}
+use native.Mathlib.Omega.{arith}
 use Prim.Native.Nat.{ℕ, _-_, _≤_, _<_, min}
 use Rattle.buffers.specs.Bits.{withBit}
 use Rattle.buffers.specs.Parts.{filePart}
@@ -17,7 +18,9 @@ use Rattle.state.specs.Layout.{transactionOf, storeOf, journalOf, stateLength}
 use Rattle.state.specs.Updates.{withDescriptorAt, withLengthmarksAt}
 use Rattle.state.proofs.LayoutLaws.{transaction-of, length-with-descriptor, store-with-descriptor, journal-with-descriptor}
 use Rattle.state.proofs.LayoutLaws.{store-with-lengthmarks, journal-with-lengthmarks}
+use Rattle.spec.proofs.Refinement.StandingRanges.{read-in}
 use Rattle.refinement.proofs.Shapes.{eight, put-read, put-twice}
+use Rattle.refinement.proofs.Fitting.{Fits, standing-fits}
 use Rattle.read_lookup.specs.declared.Extent.{Extent}
 use Rattle.read_lookup.specs.Lookup.{extent, recordedIn, lengthSeen}
 use Rattle.read_fetch.specs.Fetch.{HandedWhole, bytesRead, marksAfter, logPart}
@@ -27,6 +30,10 @@ module _ (state : List ℕ) (t d n : ℕ) (z : Standing) (e : Extent) (p : Movab
     (y : Standing) (goes : y ≡ afterRead (e .length) z) (after : List ℕ)
     (put : after ≡ withDescriptorAt state t d (record { standing = y; dirty = true }))
   where
+    -- The standing that is put has room in the record.
+    pub read-fits : Fits y
+    read-fits = standing-fits y (rw goes (read-in (e .length) z (omega (arith, p .places)) (p .standing)))
+
     abbrev dirtied : Transaction → Transaction
     dirtied x = withDescriptors (set (x .descriptors) d
         (record { standing = afterRead (e .length) (standingAt x d); dirty = true })) x

@@ -389,6 +389,7 @@ module _ (t d n : ℕ) (buffer : List ℕ) (m : Machine) (passes : admission (si
                 long = long;
                 few = omega arith;
                 room = room;
+                standing = rw standing-is (meant-in .standings d);
                 handed =
                     record {
                       counted = counted;

@@ -14,6 +14,7 @@ use Rattle.standings.specs.Table.{afterRead, offsetOf}
 use Rattle.state.specs.declared.Transaction.{Transaction}
 use Rattle.state.specs.StoreMeaning.{standingAt, withDescriptors, withLengthmarks, withTransaction}
 use Rattle.state.specs.Layout.{transactionOf, storeOf, journalOf, stateLength}
+use Rattle.admission.specs.Admission.{standingIn}
 use Rattle.spec.specs.Promises.{Lent}
 use Rattle.read_lookup.specs.declared.Extent.{Extent}
 use Rattle.read_lookup.specs.Lookup.{extent, recordedIn, lengthSeen}
@@ -42,6 +43,7 @@ pub record Movable (state : List ℕ) (t d : ℕ) (z : Standing) (e : Extent) : 
   pub small : t < transactionCount
   pub few : d < descriptorCount
   pub stands : z ≡ standingAt (transactionOf state t) d
+  pub standing : standingIn z ≡ true
   pub fileIn : e .file < fileCount
   pub places : offsetOf z + e .length ≤ fileBytes
 
@@ -54,6 +56,7 @@ pub record Readable (state files logs marks : List ℕ) (t d n : ℕ) (reader : 
   pub long : length state ≡ stateLength
   pub few : d < descriptorCount
   pub room : n ≤ length reader
+  pub standing : standingIn (standingAt (transactionOf state t) d) ≡ true
   pub handed : HandedWhole state files logs marks t (transactionOf state t .used) (placesFrom state t d n)
 
 -- The marks and the reader's buffer after it gave these places.

@@ -24,7 +24,9 @@ use Rattle.spec.specs.Messages.{seek, bufferOf, on}
 use Rattle.spec.specs.Steps.{step, seekStep, isReadCall, refusesStale}
 use Rattle.spec.specs.Machine.{Machine, lent, withStore, sizes, txnOf}
 use Rattle.spec.specs.Calls.{Turn, refuseTurn, logged, call}
+use Rattle.spec.proofs.Refinement.StandingRanges.{seek-in}
 use Rattle.refinement.proofs.Shapes.{shaped}
+use Rattle.refinement.proofs.Fitting.{Fits, standing-fits}
 use Rattle.refinement.proofs.Decoded.{Opened, decoded-open}
 use Rattle.refinement.proofs.Encoded.{txn-dirtied, writes-same}
 use Rattle.spec.specs.Promises.{Meets, machineOf, LeftAsFound}
@@ -73,6 +75,19 @@ module _ (t d v : ℕ) (state files logs marks undo : List ℕ) (long : length s
   abbrev handedOver : Machine
   handedOver = machineOf state files logs marks undo
 
+  open-here : LetThrough handedOver t → transaction (storeOf state) t .begun ≡ true
+      → Opened (storeOf state) (journalOf state) logs t
+  open-here through begun = decoded-open handedOver t (shaped state) (length-journal state) through begun
+
+  -- By check 2 and the test of v, the standing that is put has room in the record.
+  pub seek-fits : LetThrough handedOver t → transaction (storeOf state) t .begun ≡ true
+      → (z y : Standing) → z ≡ standingAt (transactionOf state t) d → y ≡ afterSeek v z → Fits y
+  seek-fits through begun z y is-z is-y =
+      let own = ap (λ (u : Transaction). standingAt u d) (sym (transaction-of state t (through .small))) in
+      standing-fits y
+      (rw (is-y, is-z, own)
+      (seek-in v (standingAt (transaction (storeOf state) t) d) fits (open-here through begun .ranges .standings d (omega arith))))
+
   pub seek-follows : admission (sizes handedOver) (storeOf state) (journalOf state) t ≡ 0 → LetThrough handedOver t
       → transaction (storeOf state) t .begun ≡ true
       → (z y : Standing) → z ≡ standingAt (transactionOf state t) d → y ≡ afterSeek v z
@@ -82,7 +97,7 @@ module _ (t d v : ℕ) (state files logs marks undo : List ℕ) (long : length s
       let small = through .small in
       let x = transaction (storeOf state) t in
       let q : Descriptor = record { standing = y; dirty = true } in
-      let o = decoded-open handedOver t (shaped state) (length-journal state) through begun in
+      let o = open-here through begun in
       let e =
       ap storeOf is-after ∙ store-with-descriptor state t d q long small (omega arith)
       ∙ ap (λ (w : Standing). withTransaction t

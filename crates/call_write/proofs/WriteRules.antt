@@ -38,6 +38,8 @@ use Rattle.spec.specs.Calls.{Turn, refuseTurn, logged, call}
 use Rattle.spec.specs.Promises.{Meets, machineOf, LeftAsFound}
 use Rattle.refinement.proofs.Shapes.{shaped, eight, put-twice}
 use Rattle.spec.proofs.Refinement.Decode.{decoded-count, decoded-total}
+use Rattle.spec.proofs.Refinement.StandingRanges.{write-in}
+use Rattle.refinement.proofs.Fitting.{Fits, standing-fits}
 use Rattle.refinement.proofs.Decoded.{Opened, decoded-open}
 use Rattle.refinement.proofs.Encoded.{txn-written, writes-more}
 use Rattle.refinement.proofs.TurnLaws.{LetThrough, on-refused, on-accepted, check-held, check-failed, done-follows}
@@ -82,6 +84,11 @@ place-within (Moved a o) e = leb-true o 4096 (and-right (leb a 4096) (leb o 4096
 place-within (Known o) e = leb-true o 4096 e
 
 -- ---- the record with one write more, as the code puts it
+
+-- The standing that is put has room in the record.
+pub write-fits : (n : ℕ) (z y : Standing) → standingIn z ≡ true → placeNumber (writePlace z) + n ≤ 4096 → y ≡ afterWrite n z
+    → Fits y
+write-fits n z y e h is-y = standing-fits y (rw is-y (write-in n z h e))
 
 -- The two counters, from each of them.
 both-counters : (u : Used) (r b : ℕ) → u .records ≡ r → u .bytes ≡ b → u ≡ record { records = r; bytes = b }
@@ -215,9 +222,12 @@ module _ {t d : ℕ} {state files logs marks undo : List ℕ} {z : Standing} {us
   is-used : used ≡ transaction (storeOf state) t .used
   is-used = a .reads-used ∙ ap (λ (x : Transaction). x .used) (sym (transaction-of state t (a .through .small)))
 
+  pub standing-within : standingIn z ≡ true
+  standing-within = rw is-standing (open-here .ranges .standings d (omega (arith, a .low)))
+
   pub numbers-within : (placeNumber (writePlace z) ≤ 4096) × (used .bytes ≤ 4096)
   numbers-within = (
-    rw is-standing (place-within _ (open-here .ranges .standings d (omega (arith, a .low)))),
+    place-within z standing-within,
     rw is-used (open-here .ranges .bytes),
   )
 

@@ -20,6 +20,7 @@ use state::layout::standing_at;
 use state::layout::used_at;
 use state::outcomes::Outcome;
 use state::outcomes::Refusal;
+ghost use mathlib.Core.Bool.{true};
 ghost use mathlib.Core.List.{[]};
 ghost use mathlib.Core.Path.{_≡_};
 ghost use Prim.Native.Nat.{_<_, _≤_};
@@ -27,7 +28,7 @@ ghost use lib.ListN.{length};
 ghost use Rattle.limits.specs.Limits.{fileBytes, descriptorCount, transactionCount, logBytes};
 ghost use Rattle.standings.specs.Table.{placeNumber, writePlace};
 ghost use Rattle.state.specs.Layout.{storeOf, journalOf, stateLength};
-ghost use Rattle.admission.specs.Admission.{gateNumber};
+ghost use Rattle.admission.specs.Admission.{standingIn, gateNumber};
 ghost use Rattle.spec.specs.Messages.{Op, Call};
 ghost use Rattle.spec.specs.Calls.{call};
 ghost use Rattle.spec.specs.Promises.{Follows};
@@ -55,7 +56,7 @@ fn room(place: Place, used: Used, n: usize) -> Gate
 // counters, d.
 fn put_write(state: &mut State, t: usize, d: usize, standing: Standing, u: Used, n: u16)
     requires { ⌜ (length (now state) ≡ stateLength) × (t < transactionCount) × (d < descriptorCount) ⌝ }
-    requires { ⌜ WriteRoom (writePlace standing) u n ⌝ }
+    requires { ⌜ WriteRoom (writePlace standing) u n × (standingIn standing ≡ true) ⌝ }
     ensures { λ _. ⌜ storeOf (now (state .exit)) ≡ storeWritten t d standing u n (storeOf (now (state .entry))) ⌝ }
     ensures { λ _. ⌜ journalOf (now (state .exit)) ≡ journalWritten t d standing u n (journalOf (now (state .entry))) ⌝ }
 {

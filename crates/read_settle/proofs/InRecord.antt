@@ -1,27 +1,41 @@
 -- The record after the chosen descriptors of a transaction are settled, in each way that settling can go.
-use mathlib.Core.Bool.{Bool, false}
+use mathlib.Core.Bool.{Bool, true, false, cond, not, _||_}
 use mathlib.Core.List.{List}
 use mathlib.Core.Path.{_≡_, refl, sym, ap, ap₂, _∙_}
+use borrow.Author.Tests.{leb-true}
+use lib.Dec.{leb}
 use lib.ListN.{length, getD}
 use lib.Seq.{set-getD}
-use Prim.Native.Nat.{ℕ, _<_}
+use Prim.Native.Nat.{ℕ, _+_, _<_}
 use Rattle.buffers.specs.Parts.{tabulate}
 use Rattle.buffers.proofs.TableLaws.{getD-tabulate, table-same}
+use Rattle.standings.specs.declared.Standing.{Standing}
+use Rattle.standings.specs.Table.{advance, settled}
 use Rattle.state.specs.declared.Descriptor.{Descriptor}
 use Rattle.state.specs.declared.Transaction.{Transaction}
 use Rattle.state.specs.declared.StoreMeaning.{StoreMeaning}
-use Rattle.state.specs.StoreMeaning.{transaction, noDescriptor, noTransaction, withDescriptors, withTransaction}
+use Rattle.state.specs.StoreMeaning.{transaction, standingAt, noDescriptor, noTransaction, withDescriptors, withTransaction}
 use Rattle.state.specs.Layout.{descriptorOf, transactionOf, storeOf, journalOf}
 use Rattle.state.specs.Updates.{withChosenAt}
 use Rattle.state.proofs.LayoutLaws.{transaction-of, descriptor-of, length-with-chosen, store-with-chosen, journal-with-chosen}
+use Rattle.admission.specs.Admission.{standingIn}
+use Rattle.admission.proofs.Laws.{below-at}
+use Rattle.spec.proofs.Refinement.StandingRanges.{settled-in}
 use Rattle.refinement.proofs.Shapes.{sixteen-descriptors}
+use Rattle.refinement.proofs.Fitting.{Fits, standing-fits}
 use Rattle.read_settle.specs.declared.settle_call.Verdict.the-variants.{Settled, Past}
 use Rattle.read_settle.specs.declared.settle_call.Settling.{Settling}
-use Rattle.read_settle.specs.Choices.{settledDescriptor, settledTransaction, settlingOf}
+use Rattle.read_settle.specs.Choices.{settlesWithin, allWithin, settledDescriptor, settledTransaction, settlingOf}
 use Rattle.read_settle.specs.Records.{Placeable, PlacedIn}
 use Rattle.read_settle.specs.Outcome.{SettledIn}
-use Rattle.read_settle.proofs.ChoiceLaws.{settling-none, transaction-settled}
+use Rattle.read_settle.proofs.ChoiceLaws.{settling-none, verdict-settled, transaction-settled}
 use Rattle.read_settle.proofs.RecordLaws.{placed-preserved}
+
+-- A descriptor in range stays so, settled or left.
+chosen-in : (b : Bool) (c : ℕ) (z : Standing) → standingIn z ≡ true → not b || leb (c + advance z) 4096 ≡ true
+    → standingIn (cond b (settled c z) z) ≡ true
+chosen-in true c z e h = settled-in c z (leb-true (c + advance z) 4096 h) e
+chosen-in false c z e h = e
 
 module _ (chosen : List Bool) (t : ℕ) (before : List ℕ) (ready : Placeable before t (transactionOf before t .used .records)) where
   abbrev x : Transaction
@@ -78,6 +92,15 @@ module _ (chosen : List Bool) (t : ℕ) (before : List ℕ) (ready : Placeable b
           ap (λ (y : Transaction). getD (y .descriptors) e noDescriptor)
           (ap (λ (r : Settling). r .transaction) answer ∙ transaction-settled chosen offsets x (sym verdict-is))
           ∙ getD-tabulate (settledDescriptor chosen offsets x) 16 e noDescriptor h
+
+      -- What is put has room in the record: settled, by its test against 4,096; left, by check 2.
+      pub settled-fits : (e : ℕ) → e < 16 → Fits (then e .standing)
+      unfolding settledDescriptor allWithin settlesWithin
+      settled-fits e h =
+          standing-fits (then e .standing)
+          (ap (λ (q : Descriptor). standingIn (q .standing)) (then-is e h)
+          ∙ chosen-in (getD chosen e false) (getD offsets e 0) (standingAt x e) (ready .standings e h)
+          (below-at (settlesWithin chosen offsets x) 16 e (verdict-settled chosen offsets x (sym verdict-is)) h))
 
       own-placed : transaction (storeOf placed) t ≡ x
       own-placed = ap (λ (s : StoreMeaning). transaction s t) (p .store) ∙ transaction-of before t (ready .small)

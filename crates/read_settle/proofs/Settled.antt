@@ -18,6 +18,7 @@ use Rattle.state.specs.StoreMeaning.{transaction, standingAt, dirtyAt, noDescri
 use Rattle.state.specs.Journal.{writeRecordAt}
 use Rattle.state.specs.Layout.{storeOf, journalOf, stateLength}
 use Rattle.state.proofs.JournalLaws.{with-same, read-own}
+use Rattle.state.proofs.LayoutLaws.{transaction-of}
 use Rattle.admission.specs.Admission.{lengthsBefore}
 use Rattle.admission.proofs.Laws.{sum-same, record-in, place-end}
 use Rattle.spec.specs.Items.{Item}
@@ -56,6 +57,7 @@ module _ (preserved logs : List ℕ) (t : ℕ) (o : Opened (storeOf preserved) (
                   (record-in (transaction (storeOf preserved) t) w (o .ranges .writes k (rw e at h)) .place),
             );
         committed = low;
+        standings = λ d h. rw (sym (transaction-of preserved t (o .small))) (o .ranges .standings d h);
       }
 
 -- ---- a whole transaction

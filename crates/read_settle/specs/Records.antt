@@ -1,6 +1,6 @@
 -- Write records after descriptors are settled. A list of choices has an element for each of the sixteen
 -- descriptors.
-use mathlib.Core.Bool.{Bool, false, cond}
+use mathlib.Core.Bool.{Bool, true, false, cond}
 use mathlib.Core.List.{List}
 use mathlib.Core.Path.{_≡_}
 use lib.ListN.{length, getD}
@@ -9,7 +9,9 @@ use Rattle.limits.specs.Limits.{fileBytes, descriptorCount, transactionCount, r
 use Rattle.standings.specs.Table.{placeNumber}
 use Rattle.state.specs.declared.journal.WriteRecord.{WriteRecord}
 use Rattle.state.specs.Journal.{writeRecordAt, withRecords}
-use Rattle.state.specs.Layout.{storeOf, journalOf, stateLength}
+use Rattle.state.specs.StoreMeaning.{standingAt}
+use Rattle.state.specs.Layout.{transactionOf, storeOf, journalOf, stateLength}
+use Rattle.admission.specs.Admission.{standingIn}
 use Rattle.spec.specs.Transactions.{placedAt}
 
 -- "Each write made while the place was unknown now lies at c plus the advance before it" [R-4.2], where its
@@ -29,7 +31,7 @@ unfoldable pub placedRecords : List Bool → List ℕ → List ℕ → ℕ → �
 placedRecords chosen offsets journal t records =
     withRecords journal t (λ k. recordAfter chosen offsets (writeRecordAt journal t k)) records
 
--- What check 2 says of the first records of transaction t, and of the committed offsets.
+-- What check 2 says of the first records of transaction t, of its standings and of the committed offsets.
 pub record Placeable (state : List ℕ) (t records : ℕ) : Type 0 where
   pub long : length state ≡ stateLength
   pub small : t < transactionCount
@@ -37,6 +39,7 @@ pub record Placeable (state : List ℕ) (t records : ℕ) : Type 0 where
   pub descriptors : (k : ℕ) → k < records → writeRecordAt (journalOf state) t k .descriptor < descriptorCount
   pub places : (k : ℕ) → k < records → placeNumber (writeRecordAt (journalOf state) t k .place) ≤ fileBytes
   pub committed : (e : ℕ) → e < descriptorCount → getD (storeOf state .offsets) e 0 ≤ fileBytes
+  pub standings : (e : ℕ) → e < descriptorCount → standingIn (standingAt (transactionOf state t) e) ≡ true
 
 -- The record with these placed, and all else as it was.
 pub record PlacedIn (chosen : List Bool) (t records : ℕ) (before after : List ℕ) : Type 0 where

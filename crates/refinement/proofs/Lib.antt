@@ -4,6 +4,8 @@
 pub mod Shapes
 -- What is committed decides what a store with nothing open answers: `committed-decides`.
 pub mod Idle
+-- A standing that check 2 let through has room in its two numbers.
+pub mod Fitting
 -- From numbers to meaning: a begun transaction to which a call was admitted, and its writes decoded one by one.
 pub mod Decoded
 -- From meaning to numbers: a transaction put back as it was, with one descriptor changed, with one write more.

@@ -54,6 +54,7 @@ put-read-requires c κs =
       small = p .handed .counted .small;
       few = p .few;
       stands = stood .standing-at .ensures;
+      standing = rw (stood .standing-at .ensures) (p .standing);
       fileIn = rw (given e) (p .handed .fileIn);
       places = omega (
         arith,

@@ -10,7 +10,7 @@ returns c =
     let start = counted .before .before .before .before .before .before in
     let a = start .args in
     write-put (a .t) (a .d) (a .n) (a .standing) (a .u) (a .state .now) (start .pre .0 .0) (start .pre .0 .1) (start .pre .0 .2)
-    (start .pre .1 .records) _ _ _ _ _ _
+    (start .pre .1 .0 .records) _ _ _ _ _ _
     (counted .before .before .before .before .before .write-place .ensures) (counted .before .before .before .put-record .ensures)
     (counted .before .appended .ensures .0) (counted .before .appended .ensures .1) (counted .put-used .ensures)
     (c .before .before .after-write .ensures) (c .put-descriptor .ensures)

@@ -20,7 +20,7 @@ use Rattle.refinement.proofs.TurnLaws.{gate-zero, is-open}
 use Rattle.refinement.proofs.TurnLaws.{is-closed, admission-open, admitted-closed, turned-follows}
 use Rattle.call_write.specs.Writes.{writeRefusal, WriteRoom}
 use Rattle.call_write.proofs.WriteRules.{WriteReached, room-left, numbers-within, write-no-descriptor, write-no-room}
-use Rattle.call_write.proofs.WriteRules.{write-follows}
+use Rattle.call_write.proofs.WriteRules.{standing-within, write-follows}
 use Rattle.call_write.proofs.write_call.write.Statement.{statement}
 use Rattle.call_write.proofs.write_call.write.Tie as tie
 
@@ -195,7 +195,7 @@ put-write-requires c κs =
         omega
             (arith, place .before .before .before .before .before .if2 .left),
       ),
-      room-of told,
+      (room-of told, standing-within (reached place)),
     )
 
 same-length : tie.Need-same-length

@@ -3,11 +3,10 @@
 
 use crate::script::BYTES;
 use crate::stores::Buffers;
+use twin::block::NUMBERS;
 use twin::call::ORDERS;
 use twin::store::{DESCRIPTORS, FILES, SPAN};
 
-/// How many numbers the record of the proved store has.
-const NUMBERS: usize = 2323;
 
 /// Room for the record of the proved store or of the one in C.
 const ROOM: usize = 4096;

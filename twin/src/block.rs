@@ -8,26 +8,27 @@ use crate::store::{
 };
 
 /// The numbers of the record, 16 bits each, low byte first; the buffers stand behind it.
-const NUMBERS: usize = 2323;
+pub const NUMBERS: usize = HELD + 3;
 pub const LENGTH: usize = 2 * NUMBERS + 3 * BUFFER + SPAN;
 
-// Where the parts of the record start.
-const TRANSACTION: usize = 1728;
-const FILE_NUMBERS: usize = 2240;
-const OFFSETS: usize = 2256;
-const LENGTHS: usize = 2272;
-const STARTS: usize = 2280;
-const ENDS: usize = 2288;
-const OFFSETS_FOUND: usize = 2296;
-const LENGTHS_FOUND: usize = 2312;
-const HELD: usize = 2320;
-
-// In the 64 numbers of a transaction, after kinds and two numbers of its standings.
-const BEGUN: usize = 48;
-const STALE: usize = 49;
-const SIGHTED: usize = 50;
-const ACTED: usize = 51;
-const USED: usize = 52;
+// Where the parts of the record start. Of a transaction's numbers each kind stands for all eight in a row; the numbers of
+// its standings do so descriptor by descriptor.
+pub const FIRSTS: usize = 1728;
+pub const SECONDS: usize = 1856;
+pub const BEGUN: usize = 1984;
+pub const STALE: usize = 1992;
+const SIGHTED: usize = 2000;
+const ACTED: usize = 2008;
+const RECORDS_USED: usize = 2016;
+const BYTES_USED: usize = 2024;
+const FILE_NUMBERS: usize = 2032;
+pub const OFFSETS: usize = 2048;
+const LENGTHS: usize = 2064;
+const STARTS: usize = 2072;
+const ENDS: usize = 2080;
+const OFFSETS_FOUND: usize = 2088;
+const LENGTHS_FOUND: usize = 2104;
+pub const HELD: usize = 2112;
 
 /// The write records of the last grant, after those of the transactions.
 const LAST_GRANT: usize = 8;
@@ -49,7 +50,8 @@ pub fn decode(block: &[u8]) -> Option<State> {
     Some(State { store: store(&numbers), buffers })
 }
 
-fn store(numbers: &[u16]) -> Store {
+/// The store that a record says.
+pub fn store(numbers: &[u16]) -> Store {
     Store {
         files: std::array::from_fn(|d| octet(numbers[FILE_NUMBERS + d])),
         offsets: std::array::from_fn(|d| numbers[OFFSETS + d]),
@@ -67,27 +69,29 @@ fn octet(number: u16) -> u8 {
 
 /// What a transaction that is not open holds is free.
 fn transaction(numbers: &[u16], t: usize) -> Transaction {
-    let own = &numbers[TRANSACTION + 64 * t..][..64];
-    if own[BEGUN] != 1 {
+    if numbers[BEGUN + t] != 1 {
         return Transaction::ENDED;
     }
+    let row = TRANSACTIONS;
     Transaction {
         begun: true,
-        stale: own[STALE] == 1,
-        log: log(numbers, t, own[USED], own[USED + 1]),
-        standings: std::array::from_fn(|d| standing(own[d], own[16 + d], own[32 + d])),
-        acted: own[ACTED],
-        sighted_lengths: own[SIGHTED] as u8,
+        stale: numbers[STALE + t] == 1,
+        log: log(numbers, t, numbers[RECORDS_USED + t], numbers[BYTES_USED + t]),
+        standings: std::array::from_fn(|d| standing(numbers[FIRSTS + row * d + t], numbers[SECONDS + row * d + t])),
+        acted: numbers[ACTED + t],
+        sighted_lengths: numbers[SIGHTED + t] as u8,
     }
 }
 
-fn standing(kind: u16, first: u16, second: u16) -> Standing {
-    match kind {
-        0 => Standing::Untouched,
-        1 => Standing::Placed(first),
-        2 => Standing::Deferred(first),
-        3 => Standing::Moved { advance: first, offset: second },
-        _ => Standing::Known(first),
+/// The first number is one more than the offset, 0 without one; the second 1 of Known, two more than the advance, or 0. The
+/// pair 0 and 1, which nobody puts, is Known at 0.
+fn standing(first: u16, second: u16) -> Standing {
+    match (first.checked_sub(1), second) {
+        (None, 0) => Standing::Untouched,
+        (Some(offset), 0) => Standing::Placed(offset),
+        (offset, 1) => Standing::Known(offset.unwrap_or(0)),
+        (None, second) => Standing::Deferred(second - 2),
+        (Some(offset), second) => Standing::Moved { advance: second - 2, offset },
     }
 }
 
@@ -149,25 +153,25 @@ fn put_store(numbers: &mut [u16; NUMBERS], store: &Store) {
 
 fn put_transaction(numbers: &mut [u16; NUMBERS], t: usize, transaction: &Transaction) {
     put_log(numbers, t, &transaction.log);
-    let own = &mut numbers[TRANSACTION + 64 * t..][..64];
     for (d, standing) in transaction.standings.iter().enumerate() {
-        [own[d], own[16 + d], own[32 + d]] = standing_numbers(*standing);
+        let at = TRANSACTIONS * d + t;
+        (numbers[FIRSTS + at], numbers[SECONDS + at]) = standing_numbers(*standing);
     }
-    own[BEGUN] = 1;
-    own[STALE] = transaction.stale.into();
-    own[SIGHTED] = transaction.sighted_lengths.into();
-    own[ACTED] = transaction.acted;
-    own[USED] = transaction.log.records.len() as u16;
-    own[USED + 1] = transaction.log.bytes;
+    numbers[BEGUN + t] = 1;
+    numbers[STALE + t] = transaction.stale.into();
+    numbers[SIGHTED + t] = transaction.sighted_lengths.into();
+    numbers[ACTED + t] = transaction.acted;
+    numbers[RECORDS_USED + t] = transaction.log.records.len() as u16;
+    numbers[BYTES_USED + t] = transaction.log.bytes;
 }
 
-fn standing_numbers(standing: Standing) -> [u16; 3] {
+fn standing_numbers(standing: Standing) -> (u16, u16) {
     match standing {
-        Standing::Untouched => [0, 0, 0],
-        Standing::Placed(offset) => [1, offset, 0],
-        Standing::Deferred(advance) => [2, advance, 0],
-        Standing::Moved { advance, offset } => [3, advance, offset],
-        Standing::Known(offset) => [4, offset, 0],
+        Standing::Untouched => (0, 0),
+        Standing::Placed(offset) => (offset + 1, 0),
+        Standing::Deferred(advance) => (0, advance + 2),
+        Standing::Moved { advance, offset } => (offset + 1, advance + 2),
+        Standing::Known(offset) => (offset + 1, 1),
     }
 }
 
@@ -214,9 +218,33 @@ mod tests {
     #[test]
     fn another_length() {
         let mut block = encode(&replay::fresh());
-        assert_eq!(block.len(), 107_046);
+        assert_eq!(block.len(), 106_630);
         block.push(0);
         assert!(decode(&block).is_none() && decode(&block[2..]).is_none());
+        // A block of the layout before this one had 2,323 numbers.
+        assert!(decode(&vec![0; 107_046]).is_none());
+    }
+
+    #[test]
+    fn numbers_of_standings() {
+        let pairs = [
+            (0, 0, Standing::Untouched),
+            (1, 0, Standing::Placed(0)),
+            (4097, 0, Standing::Placed(4096)),
+            (0, 2, Standing::Deferred(0)),
+            (0, 4098, Standing::Deferred(4096)),
+            (1, 2, Standing::Moved { advance: 0, offset: 0 }),
+            (301, 42, Standing::Moved { advance: 40, offset: 300 }),
+            (1, 1, Standing::Known(0)),
+            (4097, 1, Standing::Known(4096)),
+        ];
+        for (first, second, said) in pairs {
+            assert_eq!(standing(first, second), said);
+            assert_eq!(standing_numbers(said), (first, second));
+        }
+        assert_eq!(standing(0, 1), Standing::Known(0));
+        let far = Standing::Moved { advance: 65533, offset: 65534 };
+        assert_eq!(standing(65535, 65535), far);
     }
 
     /// Numbers of a block out of range, one at a time, with what is open and held.
@@ -237,13 +265,20 @@ mod tests {
         {
             assert_eq!(with(at, number), refused, "{at}");
         }
-        for (at, number) in [(TRANSACTION + USED, 65), (TRANSACTION + USED, 65535), (TRANSACTION + USED + 1, 1)] {
+        for (at, number) in [(RECORDS_USED, 65), (RECORDS_USED, 65535), (BYTES_USED, 1)] {
+            assert_eq!(with(at, number), refused, "{at}");
+        }
+        for (at, number) in
+            [(FIRSTS, 4098), (FIRSTS, 65535), (FIRSTS + 120, 4098), (SECONDS, 4099), (SECONDS + 120, 65535)]
+        {
             assert_eq!(with(at, number), refused, "{at}");
         }
         for (at, number) in [(HELD + 1, 65), (HELD + 2, 1), (OFFSETS_FOUND, 4097), (LENGTHS_FOUND + 7, 4097)] {
             assert_eq!(with(at, number), refused, "{at}");
         }
-        for (at, number) in [(TRANSACTION + 64, 9), (TRANSACTION + BEGUN, 2), (HELD, 2), (TRANSACTION + 54, 65535)] {
+        // The greatest in range; the pair 0 and 1; what is no flag; what a transaction that is not open has.
+        for (at, number) in [(FIRSTS, 4097), (SECONDS, 4098), (SECONDS, 1), (BEGUN, 2), (HELD, 2), (FIRSTS + 1, 65535)]
+        {
             assert!(with(at, number).is_ok(), "{at}");
         }
     }

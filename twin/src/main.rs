@@ -136,7 +136,7 @@ fn run_replay(input: &mut impl BufRead, out: &mut impl Write, block: Option<Stri
         None => replay::fresh(),
         Some(file) => {
             let block = std::fs::read(&file)?;
-            let other = || io::Error::other(format!("{file} has another length than a block, 107,046 bytes"));
+            let other = || io::Error::other(format!("{file} has another length than a block, {} bytes", block::LENGTH));
             block::decode(&block).ok_or_else(other)?
         }
     };

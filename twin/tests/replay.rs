@@ -207,7 +207,7 @@ fn changed_blocks() {
         let mut changed = good.clone();
         for k in 0..1 + seed % 3 {
             let at = seed * 7919 + k * 104_729;
-            changed[at % 4646] = (seed * (k + 31) % 256) as u8;
+            changed[at % (2 * block::NUMBERS)] = (seed * (k + 31) % 256) as u8;
         }
         fs::write(&file, &changed).expect("a block is written");
         let state = block::decode(&changed).expect("it has the length of a block");
@@ -219,7 +219,8 @@ fn changed_blocks() {
 fn files_that_are_no_block() {
     let Some(program) = program() else { return };
     let file = Path::new(env!("CARGO_TARGET_TMPDIR")).join("no-block");
-    for length in [0, block::LENGTH - 1, block::LENGTH + 1] {
+    // The last is the length of a block of the layout with 2,323 numbers.
+    for length in [0, block::LENGTH - 1, block::LENGTH + 1, 107_046] {
         fs::write(&file, vec![0; length]).expect("a file is written");
         let proved = proved(&program, Some(&file), b"B0\n");
         assert!(proved.answers.is_empty() && !proved.sentences.is_empty(), "{length} bytes");

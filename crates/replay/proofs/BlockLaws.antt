@@ -7,6 +7,7 @@ use native.Mathlib.Numerals.{add-one}
 use native.Mathlib.Omega.{arith}
 use Prim.Native.Nat.{ℕ, _+_, _<_}
 use Rattle.buffers.specs.Parts.{tabulate}
+use Rattle.state.specs.Layout.{stateLength}
 use Rattle.replay.specs.Blocks.{blockWordAt, stateOfBlock}
 
 module _ (bytes state : List ℕ) (i : ℕ) (front : take i state ≡ tabulate (blockWordAt bytes) i) where
@@ -19,6 +20,6 @@ module _ (bytes state : List ℕ) (i : ℕ) (front : take i state ≡ tabulate (
       ∙ ap₂ (λ (l : List ℕ) (x : ℕ). l ++ (x ∷ [])) front q
       ∙ sym (ap (tabulate (blockWordAt bytes)) (add-one i))
 
-  pub words-all : i ≡ 2323 → length state ≡ 2323 → state ≡ stateOfBlock bytes
+  pub words-all : i ≡ stateLength → length state ≡ stateLength → state ≡ stateOfBlock bytes
   unfolding stateOfBlock
   words-all e l = sym (take-all i state (omega arith)) ∙ front ∙ ap (tabulate (blockWordAt bytes)) e

@@ -9,10 +9,13 @@ use text_replay::answering::UndoLog;
 ghost use mathlib.Core.Path.{_≡_};
 ghost use Prim.Native.Nat.{_+_, _*_};
 ghost use lib.ListN.{length};
+ghost use Rattle.state.specs.Layout.{stateLength};
 ghost use Rattle.replay.specs.Blocks.{stateOfBlock};
 
-// The bytes of the record in a block.
-const RECORD_BYTES: usize = 4646;
+// The bytes of the record in a block, and those of a whole block.
+const RECORD_BYTES: usize = 2 * STATE_LEN;
+
+pub const BLOCK_BYTES: usize = RECORD_BYTES + 3 * BUFFER_BYTES + FILE_BYTES;
 
 // A number of 16 bits, its low byte first.
 fn word(low: u8, high: u8) -> u16
@@ -23,7 +26,7 @@ fn word(low: u8, high: u8) -> u16
 
 // Puts the numbers of a block into the record.
 fn put_numbers(state: &mut [u16], bytes: &[u8])
-    requires { ⌜ (length (now state) ≡ 2323) × (length (now bytes) ≡ 4646) ⌝ }
+    requires { ⌜ (length (now state) ≡ stateLength) × (length (now bytes) ≡ 2 * stateLength) ⌝ }
     ensures { λ _. ⌜ now (state .exit) ≡ stateOfBlock (now (bytes .entry)) ⌝ }
 {
     let mut i = 0;

@@ -46,7 +46,8 @@ pub fn say_returned() {
 pub fn say_no_block(path: &[u8]) {
     say(b"replay: ");
     say(path);
-    say(b" is no block of 107046 bytes\n");
+    say_number(b" is no block of ", crate::blocks::BLOCK_BYTES as u64);
+    say(b" bytes\n");
 }
 
 // Reports how the program is used.

@@ -206,11 +206,10 @@ fn blocks_that_are_none() {
     let whole = block::encode(&replay::fresh());
     fs::write(&file, &whole[..whole.len() - 1]).expect("a file is written");
     let printed = explain(&["--from-block", word(&file)], b"B0\n");
-    let said = format!("explain: {} is no saved block, which has 107046 bytes\n", word(&file));
+    let said = format!("explain: {} is no saved block, which has {} bytes\n", word(&file), block::LENGTH);
     assert_eq!((printed.said, printed.status), (said, Some(2)));
-    // The first committed offset is number 2,256 of the record.
     let mut broken = whole;
-    broken[2 * 2256..][..2].copy_from_slice(&5000u16.to_le_bytes());
+    broken[2 * block::OFFSETS..][..2].copy_from_slice(&5000u16.to_le_bytes());
     fs::write(&file, &broken).expect("a file is written");
     let printed = explain(&["--from-block", word(&file)], b"B0\n");
     let shown = "     1  B0                       2 RecordRange
@@ -229,7 +228,7 @@ fn forged_blocks() {
     for _ in 0..40 {
         let mut forged = whole.clone();
         for _ in 0..1 + draws.below(400) {
-            forged[draws.below(4646) as usize] = draws.below(256) as u8;
+            forged[draws.below(2 * block::NUMBERS as u64) as usize] = draws.below(256) as u8;
         }
         fs::write(&file, &forged).expect("a file is written");
         let moment = explain(&["--from-block", word(&file), "--at", "0"], b"");

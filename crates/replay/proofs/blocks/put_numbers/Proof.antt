@@ -5,16 +5,17 @@ use native.Mathlib.Omega.{arith}
 use Prim.Native.Nat.{_-_, _≤_}
 use borrow.Author.Needs.{needs}
 use Rattle.buffers.specs.Parts.{tabulate}
+use Rattle.state.specs.Layout.{stateLength}
 use Rattle.replay.specs.Blocks.{blockWordAt}
 use Rattle.replay.proofs.BlockLaws.{word-more, words-all}
 use Rattle.replay.proofs.blocks.put_numbers.Statement.{statement}
 use Rattle.replay.proofs.blocks.put_numbers.Tie as tie
 
 abbrev Inv-loop : tie.InvT-loop
-Inv-loop state₀ bytes i₀ state i = (i ≤ 2323) × (length state ≡ 2323) × (take i state ≡ tabulate (blockWordAt bytes) i)
+Inv-loop state₀ bytes i₀ state i = (i ≤ stateLength) × (length state ≡ stateLength) × (take i state ≡ tabulate (blockWordAt bytes) i)
 
 abbrev μ-loop : tie.MeasureT-loop
-μ-loop state₀ bytes i₀ state i = 2323 - i
+μ-loop state₀ bytes i₀ state i = stateLength - i
 
 loop-holds : tie.Need-loop-holds Inv-loop μ-loop
 unfolding tabulate

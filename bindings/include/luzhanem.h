@@ -60,12 +60,14 @@ enum {
     LUZHANEM_SCRIPT_CALLS = 16,
     LUZHANEM_BUDGET = 40320,      /* the most orders that best_order tries: those of eight */
     LUZHANEM_LINE_BYTES = 8238,   /* the longest line of a call log, with its end */
-    LUZHANEM_BLOCK_BYTES = 107046 /* the front of a store: what the program `replay` reads as a saved block */
+    LUZHANEM_NUMBERS = 2115,      /* of the record of a store: luzhanem_layout() 2 */
+    LUZHANEM_BLOCK_BYTES = 2 * LUZHANEM_NUMBERS + 3 * 32768 + 4096 /* the front of a store: what the program
+                                     `replay` reads as a saved block */
 };
 
 /* A store. Its fields are the library's; read and change them by the functions below. */
 typedef struct luzhanem_store {
-    uint16_t record_[2323];
+    uint16_t record_[LUZHANEM_NUMBERS];
     uint8_t files_[32768];
     uint8_t logs_[32768];
     uint8_t marks_[32768];

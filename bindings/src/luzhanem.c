@@ -4,7 +4,7 @@
 
 #include <string.h>
 
-_Static_assert(sizeof(luzhanem_store) == 2 * 2323 + 3 * 32768 + 4096 + 2, "no padding in a store");
+_Static_assert(sizeof(luzhanem_store) == LUZHANEM_BLOCK_BYTES + 2, "no padding in a store");
 _Static_assert(offsetof(luzhanem_store, unused_) == LUZHANEM_BLOCK_BYTES, "its front is a saved block");
 _Static_assert(sizeof(luzhanem_image) == 2 * 276 + 32768 + 4096, "no padding in an image");
 _Static_assert(sizeof(luzhanem_scripts) == 521 * sizeof(size_t), "no padding in scripts");

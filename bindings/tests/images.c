@@ -148,7 +148,7 @@ static void damaged_images(void) {
 }
 
 int main(void) {
-    IS(luzhanem_layout(), 1);
+    IS(luzhanem_layout(), 2);
     saved_and_loaded();
     bytes_of_an_image();
     damaged_images();

@@ -8,8 +8,8 @@ from collections.abc import Callable, Iterable, Sequence
 from typing import Any, BinaryIO, NamedTuple, Union
 
 from ._library import (
-    BLOCK_BYTES, CALL, IMAGE_BYTES, LINE, LINE_BYTES, PUT, SIZE, OrderStruct, PlaceStruct, RecorderStruct, Refusal,
-    Refused, ScriptsStruct,
+    BLOCK_BYTES, CALL, FILES_AT, IMAGE_BYTES, LINE, LINE_BYTES, PUT, SIZE, OrderStruct, PlaceStruct, RecorderStruct,
+    Refusal, Refused, ScriptsStruct,
 )
 
 
@@ -243,7 +243,7 @@ class Store:
         """What is committed of file f."""
         with self._lock:
             n = self._look("length", _number(f))
-            start = 2 * 2323 + 4096 * f
+            start = FILES_AT + 4096 * f
             return self._block[start : start + min(n, 4096)]
 
     def check(self) -> None:

@@ -141,10 +141,10 @@ class BadInput(Case):
 class Library(Case):
     def test_sizes(self):
         self.assertEqual(ctypes.sizeof(_library.BlockStruct), _library.SIZE)
-        self.assertEqual((luzhanem.BLOCK_BYTES, luzhanem.IMAGE_BYTES), (107046, 37416))
+        self.assertEqual((luzhanem.BLOCK_BYTES, luzhanem.IMAGE_BYTES), (106630, 37416))
         self.assertEqual(ctypes.sizeof(_library.ScriptsStruct), 521 * 8)
         self.assertEqual((ctypes.sizeof(_library.OrderStruct), ctypes.sizeof(_library.PlaceStruct)), (12, 4))
-        self.assertEqual((luzhanem.version(), luzhanem.layout()), ("0.1.0", 1))
+        self.assertEqual((luzhanem.version(), luzhanem.layout()), ("0.1.0", 2))
 
     def test_refusals(self):
         self.assertEqual([r.value for r in Refusal], list(range(1, 28)))

@@ -95,7 +95,8 @@ fn from_rattle(row: Row, s: &mut Store, buffer: &mut [u8; 4096]) {
     let k = s.block().as_ptr().cast_mut();
     // SAFETY: the parts of a block as luzhanem.h declares it; nobody else has the store meanwhile.
     unsafe {
-        let (f, l, m, u) = (k.add(4646), k.add(37414), k.add(70182), k.add(102950));
+        let files = s.block().len() - 3 * 32768 - 4096;
+        let (f, l, m, u) = (k.add(files), k.add(files + 32768), k.add(files + 65536), k.add(files + 98304));
         let b = buffer.as_mut_ptr();
         black_box(match row {
             Row::Seek => loops::loop_calls_seek(k, f, l, m, u, 0, 0, 48, CALLS),

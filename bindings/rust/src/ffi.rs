@@ -5,7 +5,7 @@ use std::os::raw::{c_char, c_int, c_void};
 #[repr(C)]
 #[derive(Clone)]
 pub struct Block {
-    pub record: [u16; 2323],
+    pub record: [u16; 2115],
     pub files: [u8; 32768],
     pub logs: [u8; 32768],
     pub marks: [u8; 32768],
@@ -14,7 +14,7 @@ pub struct Block {
 }
 
 /// The front of a block: what the program `replay` reads as a saved block.
-pub const BLOCK_BYTES: usize = 107046;
+pub const BLOCK_BYTES: usize = std::mem::offset_of!(Block, unused);
 
 pub const LINE_BYTES: usize = 8238;
 

@@ -460,13 +460,13 @@ mod tests {
     fn sizes_are_those_of_the_library() {
         // SAFETY: the function takes nothing.
         assert_eq!(std::mem::size_of::<ffi::Block>(), unsafe { ffi::luzhanem_size() });
-        assert_eq!(std::mem::offset_of!(ffi::Block, unused), ffi::BLOCK_BYTES);
+        assert_eq!(ffi::BLOCK_BYTES, 106_630);
         assert_eq!(IMAGE_BYTES, 37416);
         assert_eq!(std::mem::size_of::<ffi::Scripts>(), 521 * 8);
         assert_eq!(std::mem::size_of::<ffi::Order>(), 12);
         assert_eq!(std::mem::size_of::<ffi::Place>(), 4);
         assert_eq!(version(), env!("CARGO_PKG_VERSION"));
-        assert_eq!(layout(), 1);
+        assert_eq!(layout(), 2);
     }
 
     #[test]

@@ -15,25 +15,26 @@ use Rattle.state.specs.declared.Transaction.{Transaction}
 use Rattle.state.specs.declared.StoreMeaning.{StoreMeaning}
 use Rattle.state.specs.StoreMeaning.{transaction, standingAt, withDescriptors, withLengthmarks, withTransaction}
 use Rattle.state.specs.Layout.{transactionOf, storeOf, journalOf, stateLength}
-use Rattle.state.specs.Updates.{withDescriptorAt, withLengthmarksAt}
+use Rattle.state.specs.Updates.{fits, withDescriptorAt, withLengthmarksAt}
 use Rattle.state.proofs.LayoutLaws.{transaction-of, length-with-descriptor, store-with-descriptor, journal-with-descriptor}
 use Rattle.state.proofs.LayoutLaws.{store-with-lengthmarks, journal-with-lengthmarks}
 use Rattle.spec.proofs.Refinement.StandingRanges.{read-in}
 use Rattle.refinement.proofs.Shapes.{eight, put-read, put-twice}
-use Rattle.refinement.proofs.Fitting.{Fits, standing-fits}
+use Rattle.refinement.proofs.Fitting.{standing-fits}
 use Rattle.read_lookup.specs.declared.Extent.{Extent}
 use Rattle.read_lookup.specs.Lookup.{extent, recordedIn, lengthSeen}
 use Rattle.read_fetch.specs.Fetch.{HandedWhole, bytesRead, marksAfter, logPart}
 use Rattle.call_read.specs.ReadCall.{placesFrom, Movable, MovedOn, Served}
 
+-- The standing that is put has room in the record.
+pub read-fits : {state : List ℕ} {t d : ℕ} {z : Standing} {e : Extent} → Movable state t d z e
+    → (y : Standing) → y ≡ afterRead (e .length) z → fits y
+read-fits {z = z} {e = e} p y goes = standing-fits y (rw goes (read-in (e .length) z (omega (arith, p .places)) (p .standing)))
+
 module _ (state : List ℕ) (t d n : ℕ) (z : Standing) (e : Extent) (p : Movable state t d z e)
     (y : Standing) (goes : y ≡ afterRead (e .length) z) (after : List ℕ)
     (put : after ≡ withDescriptorAt state t d (record { standing = y; dirty = true }))
   where
-    -- The standing that is put has room in the record.
-    pub read-fits : Fits y
-    read-fits = standing-fits y (rw goes (read-in (e .length) z (omega (arith, p .places)) (p .standing)))
-
     abbrev dirtied : Transaction → Transaction
     dirtied x = withDescriptors (set (x .descriptors) d
         (record { standing = afterRead (e .length) (standingAt x d); dirty = true })) x

@@ -9,7 +9,7 @@ use native.Mathlib.Omega.{arith}
 use Prim.Native.Nat.{ℕ, _≤_, _<_}
 use Rattle.state.specs.StoreMeaning.{transaction, standingAt, withDescriptors, withTransaction}
 use Rattle.state.specs.Layout.{transactionOf, storeOf, journalOf, stateLength}
-use Rattle.state.specs.Updates.{withDescriptorAt}
+use Rattle.state.specs.Updates.{fits, withDescriptorAt}
 use Rattle.state.proofs.LayoutLaws.{length-journal, transaction-of, store-with-descriptor, journal-with-descriptor}
 use Rattle.state.specs.Outcomes.{doneAnswer, said}
 use Rattle.state.specs.declared.outcomes.Outcome.the-variants.{Done}
@@ -26,7 +26,7 @@ use Rattle.spec.specs.Machine.{Machine, lent, withStore, sizes, txnOf}
 use Rattle.spec.specs.Calls.{Turn, refuseTurn, logged, call}
 use Rattle.spec.proofs.Refinement.StandingRanges.{seek-in}
 use Rattle.refinement.proofs.Shapes.{shaped}
-use Rattle.refinement.proofs.Fitting.{Fits, standing-fits}
+use Rattle.refinement.proofs.Fitting.{standing-fits}
 use Rattle.refinement.proofs.Decoded.{Opened, decoded-open}
 use Rattle.refinement.proofs.Encoded.{txn-dirtied, writes-same}
 use Rattle.spec.specs.Promises.{Meets, machineOf, LeftAsFound}
@@ -71,7 +71,7 @@ module _ (t d v : ℕ) (m : Machine) (passes : admission (sizes m) (m .store) (m
 
 -- The record with descriptor d put back, as the code puts it.
 module _ (t d v : ℕ) (state files logs marks undo : List ℕ) (long : length state ≡ stateLength) (few : d ≤ 15)
-    (fits : v ≤ 4096) where
+    (within : v ≤ 4096) where
   abbrev handedOver : Machine
   handedOver = machineOf state files logs marks undo
 
@@ -81,12 +81,12 @@ module _ (t d v : ℕ) (state files logs marks undo : List ℕ) (long : length s
 
   -- By check 2 and the test of v, the standing that is put has room in the record.
   pub seek-fits : LetThrough handedOver t → transaction (storeOf state) t .begun ≡ true
-      → (z y : Standing) → z ≡ standingAt (transactionOf state t) d → y ≡ afterSeek v z → Fits y
+      → (z y : Standing) → z ≡ standingAt (transactionOf state t) d → y ≡ afterSeek v z → fits y
   seek-fits through begun z y is-z is-y =
       let own = ap (λ (u : Transaction). standingAt u d) (sym (transaction-of state t (through .small))) in
       standing-fits y
       (rw (is-y, is-z, own)
-      (seek-in v (standingAt (transaction (storeOf state) t) d) fits (open-here through begun .ranges .standings d (omega arith))))
+      (seek-in v (standingAt (transaction (storeOf state) t) d) within (open-here through begun .ranges .standings d (omega arith))))
 
   pub seek-follows : admission (sizes handedOver) (storeOf state) (journalOf state) t ≡ 0 → LetThrough handedOver t
       → transaction (storeOf state) t .begun ≡ true
@@ -104,4 +104,4 @@ module _ (t d v : ℕ) (state files logs marks undo : List ℕ) (long : length s
       (withDescriptors (set (x .descriptors) d (record { standing = w; dirty = true })) x) (storeOf state))
       (is-y ∙ ap (afterSeek v) (is-z ∙ ap (λ (u : Transaction). standingAt u d) (sym (transaction-of state t small)))) in
       let f = ap journalOf is-after ∙ journal-with-descriptor state t d q long small (omega arith) in
-      (rw (e, f) (seek-meets t d v handedOver passes o few fits), done-follows state after)
+      (rw (e, f) (seek-meets t d v handedOver passes o few within), done-follows state after)

@@ -22,7 +22,7 @@ use Rattle.state.specs.declared.journal.WriteRecord.{WriteRecord}
 use Rattle.state.specs.StoreMeaning.{transaction, standingAt, withUsed, withDescriptors, withTransaction}
 use Rattle.state.specs.Journal.{withRecordAt}
 use Rattle.state.specs.Layout.{transactionOf, storeOf, journalOf, stateLength}
-use Rattle.state.specs.Updates.{withDescriptorAt, withUsedAt}
+use Rattle.state.specs.Updates.{fits, withDescriptorAt, withUsedAt}
 use Rattle.state.specs.Outcomes.{doneAnswer, said, number}
 use Rattle.state.proofs.JournalLaws.{length-with-at}
 use Rattle.state.proofs.LayoutLaws.{length-journal, transaction-of, store-with-record, journal-with-record, store-with-used}
@@ -39,7 +39,7 @@ use Rattle.spec.specs.Promises.{Meets, machineOf, LeftAsFound}
 use Rattle.refinement.proofs.Shapes.{shaped, eight, put-twice}
 use Rattle.spec.proofs.Refinement.Decode.{decoded-count, decoded-total}
 use Rattle.spec.proofs.Refinement.StandingRanges.{write-in}
-use Rattle.refinement.proofs.Fitting.{Fits, standing-fits}
+use Rattle.refinement.proofs.Fitting.{standing-fits}
 use Rattle.refinement.proofs.Decoded.{Opened, decoded-open}
 use Rattle.refinement.proofs.Encoded.{txn-written, writes-more}
 use Rattle.refinement.proofs.TurnLaws.{LetThrough, on-refused, on-accepted, check-held, check-failed, done-follows}
@@ -87,7 +87,7 @@ place-within (Known o) e = leb-true o 4096 e
 
 -- The standing that is put has room in the record.
 pub write-fits : (n : ℕ) (z y : Standing) → standingIn z ≡ true → placeNumber (writePlace z) + n ≤ 4096 → y ≡ afterWrite n z
-    → Fits y
+    → fits y
 write-fits n z y e h is-y = standing-fits y (rw is-y (write-in n z h e))
 
 -- The two counters, from each of them.

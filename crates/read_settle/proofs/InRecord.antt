@@ -16,13 +16,13 @@ use Rattle.state.specs.declared.Transaction.{Transaction}
 use Rattle.state.specs.declared.StoreMeaning.{StoreMeaning}
 use Rattle.state.specs.StoreMeaning.{transaction, standingAt, noDescriptor, noTransaction, withDescriptors, withTransaction}
 use Rattle.state.specs.Layout.{descriptorOf, transactionOf, storeOf, journalOf}
-use Rattle.state.specs.Updates.{withChosenAt}
+use Rattle.state.specs.Updates.{fits, withChosenAt}
 use Rattle.state.proofs.LayoutLaws.{transaction-of, descriptor-of, length-with-chosen, store-with-chosen, journal-with-chosen}
 use Rattle.admission.specs.Admission.{standingIn}
 use Rattle.admission.proofs.Laws.{below-at}
 use Rattle.spec.proofs.Refinement.StandingRanges.{settled-in}
 use Rattle.refinement.proofs.Shapes.{sixteen-descriptors}
-use Rattle.refinement.proofs.Fitting.{Fits, standing-fits}
+use Rattle.refinement.proofs.Fitting.{standing-fits}
 use Rattle.read_settle.specs.declared.settle_call.Verdict.the-variants.{Settled, Past}
 use Rattle.read_settle.specs.declared.settle_call.Settling.{Settling}
 use Rattle.read_settle.specs.Choices.{settlesWithin, allWithin, settledDescriptor, settledTransaction, settlingOf}
@@ -77,9 +77,8 @@ module _ (chosen : List Bool) (t : ℕ) (before : List ℕ) (ready : Placeable b
       long = ready .long;
     }
 
-    -- All of them were settled, the write records placed, and the descriptors put back.
-    module _ (settled : r .verdict ≡ Settled) (placed after : List ℕ)
-        (p : PlacedIn chosen t (x .used .records) before placed) where
+    -- All of them were settled.
+    module _ (settled : r .verdict ≡ Settled) where
       verdict-is : Settled ≡ settlingOf chosen offsets x .verdict
       verdict-is = sym settled ∙ ap (λ (r : Settling). r .verdict) answer
 
@@ -94,7 +93,7 @@ module _ (chosen : List Bool) (t : ℕ) (before : List ℕ) (ready : Placeable b
           ∙ getD-tabulate (settledDescriptor chosen offsets x) 16 e noDescriptor h
 
       -- What is put has room in the record: settled, by its test against 4,096; left, by check 2.
-      pub settled-fits : (e : ℕ) → e < 16 → Fits (then e .standing)
+      pub settled-fits : (e : ℕ) → e < 16 → fits (then e .standing)
       unfolding settledDescriptor allWithin settlesWithin
       settled-fits e h =
           standing-fits (then e .standing)
@@ -102,35 +101,37 @@ module _ (chosen : List Bool) (t : ℕ) (before : List ℕ) (ready : Placeable b
           ∙ chosen-in (getD chosen e false) (getD offsets e 0) (standingAt x e) (ready .standings e h)
           (below-at (settlesWithin chosen offsets x) 16 e (verdict-settled chosen offsets x (sym verdict-is)) h))
 
-      own-placed : transaction (storeOf placed) t ≡ x
-      own-placed = ap (λ (s : StoreMeaning). transaction s t) (p .store) ∙ transaction-of before t (ready .small)
+      -- The write records were placed, and the descriptors put back.
+      module _ (placed after : List ℕ) (p : PlacedIn chosen t (x .used .records) before placed) where
+        own-placed : transaction (storeOf placed) t ≡ x
+        own-placed = ap (λ (s : StoreMeaning). transaction s t) (p .store) ∙ transaction-of before t (ready .small)
 
-      -- One that is not chosen is as it was.
-      not-chosen : (e : ℕ) → e < 16 → getD chosen e false ≡ false → then e ≡ descriptorOf placed t e
-      unfolding settledDescriptor
-      not-chosen e h q =
-          then-is e h
-          ∙ rw q
-          (ap (λ (y : Transaction). getD (y .descriptors) e noDescriptor)
-          (sym own-placed ∙ transaction-of placed t (ready .small))
-          ∙ descriptor-of placed t e h)
+        -- One that is not chosen is as it was.
+        not-chosen : (e : ℕ) → e < 16 → getD chosen e false ≡ false → then e ≡ descriptorOf placed t e
+        unfolding settledDescriptor
+        not-chosen e h q =
+            then-is e h
+            ∙ rw q
+            (ap (λ (y : Transaction). getD (y .descriptors) e noDescriptor)
+            (sym own-placed ∙ transaction-of placed t (ready .small))
+            ∙ descriptor-of placed t e h)
 
-      pub all-settled : after ≡ withChosenAt placed t (λ e. getD chosen e false) then 16
-          → SettledIn chosen t x before after Settled
-      unfolding settledTransaction
-      all-settled put =
-          record {
-            verdict = verdict-is;
-            refused = λ v. cc;
-            store =
-                λ v.
-                ap storeOf put
-                ∙ store-with-chosen placed t (λ e. getD chosen e false) then (p .long) (ready .small) not-chosen
-                ∙ ap₂ (λ (y : Transaction) (s : StoreMeaning). withTransaction t (withDescriptors (tabulate then 16) y) s)
-                own-placed (p .store)
-                ∙ ap (λ (ds : List Descriptor). withTransaction t (withDescriptors ds x) (storeOf before))
-                (table-same then (settledDescriptor chosen offsets x) 16 then-is);
-            journal = λ v. ap journalOf put ∙ journal-with-chosen placed t (λ e. getD chosen e false) then (p .long)
-                (ready .small) ∙ p .journal;
-            long = ap length put ∙ length-with-chosen placed t (λ e. getD chosen e false) then 16 ∙ p .long;
-          }
+        pub all-settled : after ≡ withChosenAt placed t (λ e. getD chosen e false) then 16
+            → SettledIn chosen t x before after Settled
+        unfolding settledTransaction
+        all-settled put =
+            record {
+              verdict = verdict-is;
+              refused = λ v. cc;
+              store =
+                  λ v.
+                  ap storeOf put
+                  ∙ store-with-chosen placed t (λ e. getD chosen e false) then (p .long) (ready .small) not-chosen
+                  ∙ ap₂ (λ (y : Transaction) (s : StoreMeaning). withTransaction t (withDescriptors (tabulate then 16) y) s)
+                  own-placed (p .store)
+                  ∙ ap (λ (ds : List Descriptor). withTransaction t (withDescriptors ds x) (storeOf before))
+                  (table-same then (settledDescriptor chosen offsets x) 16 then-is);
+              journal = λ v. ap journalOf put ∙ journal-with-chosen placed t (λ e. getD chosen e false) then (p .long)
+                  (ready .small) ∙ p .journal;
+              long = ap length put ∙ length-with-chosen placed t (λ e. getD chosen e false) then 16 ∙ p .long;
+            }

@@ -30,6 +30,7 @@ use state::layout::used_at;
 use state::layout::window_at;
 use test_calls::Damage;
 ghost use Prim.Native.Nat.{_<_};
+ghost use Rattle.state.specs.Updates.{fits};
 
 // A number above 4,096.
 fn above(excess: usize) -> u16 {
@@ -81,9 +82,11 @@ fn forge_window(state: &mut State, g: Damage)
     put_window(state, f, w);
 }
 
-// Forgeries 3 to 7: a standing out of range.
-fn standing(forgery: usize, excess: usize) -> Standing {
-    let n = above(excess);
+// Forgeries 3 to 7: a standing out of range, whose numbers have room in the record.
+fn standing(forgery: usize, excess: usize) -> Standing
+    ensures { λ r. ⌜ fits r ⌝ }
+{
+    let n = (4097 + excess % 61437) as u16;
     match forgery {
         3 => Standing::Placed(n),
         4 => Standing::Deferred(n),
@@ -192,6 +195,16 @@ fn forge_record(state: &mut State, t: usize, what: usize, excess: usize)
     }
 }
 
+// The standing under which forgery 13 or 14 puts a record without a place.
+fn waiting(forgery: usize) -> Standing
+    ensures { λ r. ⌜ fits r ⌝ }
+{
+    if forgery == 13 {
+        return Standing::Placed(0);
+    }
+    Standing::Deferred(0)
+}
+
 // Forgeries 13 and 14: a record without a place under Placed, or one that ends past the advance.
 fn forge_place(state: &mut State, g: Damage)
     requires { ⌜ (g .transaction < 8) × (g .index < 16) ⌝ }
@@ -205,12 +218,8 @@ fn forge_place(state: &mut State, g: Damage)
         length: w.length,
     };
     put_record(state, t, 0, after);
-    let mut standing = Standing::Deferred(0);
-    if g.forgery == 13 {
-        standing = Standing::Placed(0);
-    }
     let q = Descriptor {
-        standing,
+        standing: waiting(g.forgery),
         dirty: false,
     };
     put_descriptor(state, t, i, q);

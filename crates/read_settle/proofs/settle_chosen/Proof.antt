@@ -2,7 +2,7 @@
 use borrow.Author.Needs.{needs}
 use borrow.Author.Tests.{not-true}
 use Rattle.refinement.proofs.Shapes.{sixteen-descriptors}
-use Rattle.read_settle.proofs.InRecord.{none-settled, past-settled, all-settled}
+use Rattle.read_settle.proofs.InRecord.{none-settled, past-settled, settled-fits, all-settled}
 use Rattle.read_settle.proofs.settle_chosen.Statement.{statement}
 use Rattle.read_settle.proofs.settle_chosen.Tie as tie
 
@@ -33,6 +33,17 @@ place-records-requires c κs =
     let read = c .before .before .before .before .before .before .before in
     rw (read .transaction-at .ensures) (start-of read .pre)
 
+put-chosen-requires : tie.Need-put-chosen-requires
+put-chosen-requires c κs =
+    let told = c .before .before .before .before .before in
+    let called = told .before .before in
+    let read = called .before .before in
+    let start = start-of read in (
+      start .pre .small,
+      λ e h q. settled-fits _ _ _ (start .pre) _ (rw (read .transaction-at .ensures) at (called .settle .ensures))
+          (told .enum-told .given .1) e h,
+    )
+
 returns-3 : tie.Need-returns-3
 returns-3 c =
     let placing = c .before .before in
@@ -55,5 +66,5 @@ settle-chosen-spec =
     (λ c. search needs)
     returns-2
     place-records-requires
-    (λ c κs. search needs)
+    put-chosen-requires
     returns-3)

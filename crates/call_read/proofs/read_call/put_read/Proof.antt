@@ -3,9 +3,14 @@ use mathlib.Core.Path.{_∙_, ap}
 use borrow.Author.Needs.{needs}
 use Prim.Native.Nat.{ℕ}
 use Rattle.buffers.specs.Bits.{withBit}
-use Rattle.call_read.proofs.GivingLaws.{moved-full, moved-short}
+use Rattle.call_read.proofs.GivingLaws.{read-fits, moved-full, moved-short}
 use Rattle.call_read.proofs.read_call.put_read.Statement.{statement}
 use Rattle.call_read.proofs.read_call.put_read.Tie as tie
+
+put-descriptor-requires : tie.Need-put-descriptor-requires
+put-descriptor-requires c κs =
+    let p = c .before .before .before .pre in
+    (p .small, p .few, read-fits p _ (c .before .after-read .ensures))
 
 returns : tie.Need-returns
 returns c =
@@ -32,7 +37,7 @@ put-read-spec =
     (tie.spec
     (λ c. search needs)
     (λ c κs. search needs)
-    (λ c κs. search needs)
+    put-descriptor-requires
     (λ c κs. search needs)
     (λ c κs. search needs)
     (λ c κs. search needs)

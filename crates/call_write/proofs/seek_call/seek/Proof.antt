@@ -14,7 +14,7 @@ use Rattle.spec.specs.Promises.{machineOf}
 use Rattle.refinement.proofs.TurnLaws.{LetThrough, sharedWith, gate-refused, gate-passed, gate-let-through, is-open, is-closed}
 use Rattle.refinement.proofs.TurnLaws.{admission-open}
 use Rattle.refinement.proofs.TurnLaws.{admitted-closed, turned-follows}
-use Rattle.call_write.proofs.SeekRules.{seek-no-descriptor, seek-past-end, seek-follows}
+use Rattle.call_write.proofs.SeekRules.{seek-no-descriptor, seek-past-end, seek-fits, seek-follows}
 use Rattle.call_write.proofs.seek_call.seek.Statement.{statement}
 use Rattle.call_write.proofs.seek_call.seek.Tie as tie
 
@@ -105,10 +105,16 @@ after-seek-requires : tie.Need-after-seek-requires
 after-seek-requires c κs = search needs
 
 put-descriptor-requires : tie.Need-put-descriptor-requires
-put-descriptor-requires c κs = (
-  let-through (c .before .before .before .before .before .before .before .before .before) .small,
-  omega arith,
-)
+put-descriptor-requires c κs =
+    let open-here = c .before .before .before .before .before .before in
+    let told = open-here .before .before .before in
+    let start = start-of told in (
+      let-through told .small,
+      omega arith,
+      seek-fits (start .args .t) (start .args .d) (start .args .v) _ _ _ _ _ (told .before .before .admit .ensures .1)
+          (c .before .before .before .before .before .if2 .left) (c .before .before .before .before .if3 .left)
+          (let-through told) (begun open-here) _ _ (c .before .before .standing-at .ensures) (c .before .after-seek .ensures),
+    )
 
 returns-5 : tie.Need-returns-5
 returns-5 c =

@@ -1,8 +1,17 @@
 -- `put_write` meets its contract.
 use borrow.Author.Needs.{needs}
-use Rattle.call_write.proofs.WriteRules.{write-put}
+use Rattle.call_write.proofs.WriteRules.{write-fits, write-put}
 use Rattle.call_write.proofs.write_call.put_write.Statement.{statement}
 use Rattle.call_write.proofs.write_call.put_write.Tie as tie
+
+put-descriptor-requires : tie.Need-put-descriptor-requires
+put-descriptor-requires c κs =
+    let start = c .before .before .before .before .before .before .before .before in
+    let a = start .args in (
+      start .pre .0 .1,
+      start .pre .0 .2,
+      write-fits (a .n) (a .standing) _ (start .pre .1 .1) (start .pre .1 .0 .file) (c .before .after-write .ensures),
+    )
 
 returns : tie.Need-returns
 returns c =
@@ -25,5 +34,5 @@ put-write-spec =
     (λ c κs. search needs)
     (λ c κs. search needs)
     (λ c κs. search needs)
-    (λ c κs. search needs)
+    put-descriptor-requires
     returns)

@@ -1,3 +1,3 @@
 pub mod ImageCalls
-pub mod LayoutOne
+pub mod LayoutNumber
 pub mod ImagesHold

@@ -12,7 +12,7 @@ ghost use mathlib.Core.Path.{_≡_};
 ghost use Rattle.spec.specs.Promises.{handed};
 ghost use Rattle.c_codes.specs.Codes.{AnswersAsCode};
 ghost use Rattle.c_images.specs.ImageCalls.{checkRule, loadRule, SavedImage};
-ghost use Rattle.c_images.specs.LayoutOne.{layoutNumber};
+ghost use Rattle.c_images.specs.LayoutNumber.{layoutNumber};
 
 // A store buffer: the files, the logs or the marks.
 pub type Buffer = [u8; 32768];
@@ -78,5 +78,5 @@ pub extern "C" fn luzhanem_parts_load(
 pub extern "C" fn luzhanem_parts_layout() -> i32
     ensures { λ r. ⌜ r ≡ layoutNumber ⌝ }
 {
-    1
+    2
 }

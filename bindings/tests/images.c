@@ -147,10 +147,82 @@ static void damaged_images(void) {
     HOLDS(refused > 2000 && taken > 100);
 }
 
+/* A store with windows set, a grant that can be undone, and transactions left open, one of them stale. */
+static void make_some(luzhanem_store *s) {
+    static const uint8_t file_of[16] = { 7, 1, 2, 3, 4, 5, 6, 0, 7, 0, 2, 0, 1, 1, 3, 5 };
+    uint8_t out[8];
+    IS(luzhanem_fresh(s, sizeof *s, file_of), 0);
+    IS(luzhanem_set_window(s, 3, 480, 1320), 0);
+    IS(luzhanem_set_window(s, 5, 1380, 60), 0);
+    IS(luzhanem_begin(s, 0), 0);
+    IS(luzhanem_write(s, 0, 2, "first line\n", 11), 0);
+    IS(luzhanem_seek(s, 0, 3, 4090), 0);
+    IS(luzhanem_write(s, 0, 3, "at end", 6), 0);
+    IS(luzhanem_commit(s, 0, 600), 0);
+    IS(luzhanem_begin(s, 3), 0);
+    IS(luzhanem_read(s, 3, 10, out, 5), 5);
+    IS(luzhanem_begin(s, 1), 0);
+    IS(luzhanem_seek(s, 1, 10, 6), 0);
+    IS(luzhanem_write(s, 1, 10, "LINE, and more\n", 15), 0);
+    IS(luzhanem_seek(s, 1, 10, 0), 0);
+    IS(luzhanem_write(s, 1, 10, "F", 1), 0);
+    IS(luzhanem_write(s, 1, 15, "night\n", 6), 0);
+    IS(luzhanem_commit(s, 1, 1439), 8);
+    IS(luzhanem_begin(s, 2), 0);
+    IS(luzhanem_seek(s, 2, 4, 40), 0);
+    IS(luzhanem_write(s, 2, 6, "waiting", 7), 0);
+    IS(luzhanem_write(s, 2, 7, "moved", 5), 0);
+    IS(luzhanem_seek(s, 2, 7, 300), 0);
+    IS(luzhanem_get_file_pointer(s, 2, 2), 11);
+    IS(luzhanem_begin(s, 7), 0);
+}
+
+/* Its image as the library of layout 1 (2,323 numbers in the record) saved it: the numbers and the bytes that are
+ * not 0. An image knows no layout, so it is read as before and saved as the same bytes. */
+static const struct { int at, value; } older_numbers[] = {
+    { 0, 1 }, { 1, 7 }, { 2, 1 }, { 3, 2 }, { 4, 3 }, { 5, 4 }, { 6, 5 }, { 7, 6 }, { 9, 7 }, { 11, 2 }, { 13, 1 },
+    { 14, 1 }, { 15, 3 }, { 16, 5 }, { 19, 11 }, { 20, 4096 }, { 27, 1 }, { 32, 6 }, { 35, 21 }, { 36, 4096 },
+    { 38, 6 }, { 44, 480 }, { 46, 1380 }, { 52, 1320 }, { 54, 60 }, { 57, 1 }, { 58, 3 }, { 59, 22 }, { 62, 11 },
+    { 63, 4096 }, { 78, 11 }, { 79, 4096 }, { 84, 10 }, { 85, 10 }, { 86, 15 }, { 148, 6 }, { 212, 15 }, { 213, 1 },
+    { 214, 6 },
+};
+static const struct { int at; const char *text; } older_bytes[] = {
+    { 8744, "First LINE, and more\n" }, { 16930, "at end" }, { 21032, "night\n" }, { 33320, "line\n" }, { 33335, "f" },
+};
+
+static void image_of_an_older_layout(void) {
+    static luzhanem_image older;
+    uint8_t *const to = (uint8_t *)&older;
+    for (size_t i = 0; i < sizeof older_numbers / sizeof *older_numbers; i++) {
+        to[2 * older_numbers[i].at] = (uint8_t)older_numbers[i].value;
+        to[2 * older_numbers[i].at + 1] = (uint8_t)(older_numbers[i].value >> 8);
+    }
+    for (size_t i = 0; i < sizeof older_bytes / sizeof *older_bytes; i++)
+        memcpy(to + older_bytes[i].at, older_bytes[i].text, strlen(older_bytes[i].text));
+    memset(&saved, 0, sizeof saved); /* fresh leaves the old bytes of an earlier grant */
+    make_some(&saved);
+    IS(luzhanem_save(&saved, &image), 0);
+    HOLDS(!memcmp(&image, &older, sizeof older));
+    IS(luzhanem_fresh(&loaded, sizeof loaded, NULL), 0);
+    IS(luzhanem_load(&loaded, &older), 0);
+    IS(luzhanem_check(&loaded), 0);
+    HOLDS(same_committed(&saved, &loaded));
+    memset(&again, 7, sizeof again);
+    IS(luzhanem_save(&loaded, &again), 0);
+    HOLDS(!memcmp(&again, &older, sizeof older));
+    for (size_t t = 0; t < 8; t++)
+        if (luzhanem_state(&saved, t)) IS(luzhanem_abort(&saved, t), 0);
+    IS(luzhanem_undo(&saved), 0);
+    IS(luzhanem_undo(&loaded), 0);
+    HOLDS(same_committed(&saved, &loaded));
+    HOLDS(!memcmp(luzhanem_file(&loaded, 2), "first line\n", 12));
+}
+
 int main(void) {
     IS(luzhanem_layout(), 2);
     saved_and_loaded();
     bytes_of_an_image();
     damaged_images();
+    image_of_an_older_layout();
     return finish();
 }

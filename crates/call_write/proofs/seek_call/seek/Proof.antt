@@ -108,10 +108,11 @@ put-descriptor-requires : tie.Need-put-descriptor-requires
 put-descriptor-requires c κs =
     let open-here = c .before .before .before .before .before .before in
     let told = open-here .before .before .before in
-    let start = start-of told in (
+    let a = start-of told .args in (
       let-through told .small,
       omega arith,
-      seek-fits (start .args .t) (start .args .d) (start .args .v) _ _ _ _ _ (told .before .before .admit .ensures .1)
+      seek-fits (a .t) (a .d) (a .v) (a .state .now) (a .files .now) (a .logs .now) (a .marks .now) (a .undo .now)
+          (told .before .before .admit .ensures .1)
           (c .before .before .before .before .before .if2 .left) (c .before .before .before .before .if3 .left)
           (let-through told) (begun open-here) _ _ (c .before .before .standing-at .ensures) (c .before .after-seek .ensures),
     )

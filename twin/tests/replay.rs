@@ -215,6 +215,41 @@ fn changed_blocks() {
     }
 }
 
+/// Both numbers of some standings and some flags of a good block are changed, to the ends of their ranges and beyond: the pair
+/// 0 and 1, which no call puts, and flags above 1 are among them.
+#[test]
+fn forged_numbers() {
+    const FIRSTS: [u16; 8] = [0, 1, 2, 4096, 4097, 0, 1, 4098];
+    const SECONDS: [u16; 8] = [0, 1, 2, 3, 4098, 1, 2, 4099];
+    const FLAGS: [u16; 5] = [0, 1, 1, 2, 65535];
+    let Some(program) = program() else { return };
+    let file = Path::new(env!("CARGO_TARGET_TMPDIR")).join("forged-block");
+    let mut met = [0; 2];
+    for seed in 1..=400 {
+        let state = logs::write(&mut io::sink(), seed, 300).expect("nothing is written");
+        let mut forged = block::encode(&state);
+        let mut draws = traces::Draws::new(seed);
+        let mut log = Vec::new();
+        let mut put = |at: usize, number: u16| forged[2 * at..][..2].copy_from_slice(&number.to_le_bytes());
+        for _ in 0..1 + draws.below(4) {
+            let [t, d] = [8, 16].map(|below| draws.below(below) as usize);
+            put(block::BEGUN + t, FLAGS[draws.below(5) as usize]);
+            put(block::STALE + t, FLAGS[draws.below(5) as usize]);
+            put(block::HELD, FLAGS[draws.below(5) as usize]);
+            put(block::FIRSTS + 8 * d + t, FIRSTS[draws.below(8) as usize]);
+            put(block::SECONDS + 8 * d + t, SECONDS[draws.below(8) as usize]);
+            writeln!(log, "W{t} {d} ab\nP{t} {d}\nR{t} {d} 3\nC{t} 0").expect("memory is written");
+        }
+        logs::write_from(block::decode(&forged).expect("it has the length of a block"), &mut log, seed, 30)
+            .expect("memory is written");
+        fs::write(&file, &forged).expect("a block is written");
+        let twins = twins(block::decode(&forged).expect("it has the length of a block"), &log);
+        met[usize::from(twins.answers.starts_with(b"2\n"))] += 1;
+        check(&format!("forged block {seed}"), &proved(&program, Some(&file), &log), &twins);
+    }
+    assert!(met.iter().all(|&blocks| blocks > 50), "in range and out of it: {met:?}");
+}
+
 #[test]
 fn files_that_are_no_block() {
     let Some(program) = program() else { return };

@@ -1,4 +1,4 @@
-# The tests of the Rust crate: the sample trace, the twin, bad input, recording, the example on its first page.
+# The tests of the Rust crate: the sample trace, the twin, forged records, bad input, recording, the example on its first page.
 . "$(dirname "$0")/lib.sh"
 needs cargo
 export LUZHANEM_LIB_DIR=$BUILD CARGO_TARGET_DIR=$BUILD/cargo

@@ -552,7 +552,7 @@ impl Store {
     }
 
     /// The ranges of refusal 2. What a transaction that isn't open holds is free.
-    fn in_range(&self) -> bool {
+    pub fn in_range(&self) -> bool {
         self.files.iter().all(|&file| usize::from(file) < FILES)
             && self.offsets.iter().all(|&offset| offset <= SPAN_16)
             && self.lengths.iter().all(|&length| length <= SPAN_16)

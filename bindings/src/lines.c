@@ -1,4 +1,5 @@
-/* Lines of a log of calls: each function hands its arguments to the proved printer. Nothing here is proved. */
+/* Lines of a log of calls: each function hands its arguments to the proved printer, the last one to the proved
+ * reader. Nothing here is proved. */
 #include "parts.h"
 
 #define OUT ((u8 *)out)
@@ -106,4 +107,11 @@ int luzhanem_line_ordered(char *out, size_t room, int answer, const luzhanem_ord
     WANTED(order);
     return (int)luzhanem_parts_line_ordered(OUT, (u16)answer, order->gap, order->tried, order->order,
                                             n < 8 ? n : 8);
+}
+
+int luzhanem_replay_line(luzhanem_store *s, const char *line, size_t n) {
+    const u8 *bytes = (const u8 *)line;
+    WANTED(s);
+    BYTES(bytes, n);
+    return luzhanem_parts_replay_line(OF(s), bytes, n);
 }

@@ -1,5 +1,5 @@
-/* The proved functions, exported by the crates c_calls, c_scripts, c_images and c_lines: each takes the parts of a
- * store. Nothing proves that these declarations agree with the crates; the tests link and call every one. */
+/* The proved functions, exported by the crates c_calls, c_scripts, c_images, c_lines and c_replay: each takes the
+ * parts of a store. Nothing proves that these declarations agree with the crates; the tests link and call every one. */
 #ifndef LUZHANEM_PARTS_H
 #define LUZHANEM_PARTS_H
 
@@ -71,5 +71,8 @@ size_t luzhanem_parts_line_number(u8 *out, u16 answer);
 size_t luzhanem_parts_line_given(u8 *out, u16 answer, const u8 *bytes, size_t n);
 size_t luzhanem_parts_line_pairs(u8 *out, u16 answer, const u8 *pairs, size_t n);
 size_t luzhanem_parts_line_ordered(u8 *out, u16 answer, u16 gap, u16 tried, const u8 *order, size_t n);
+
+/* c_replay */
+int luzhanem_parts_replay_line(PARTS, const u8 *line, size_t n);
 
 #endif

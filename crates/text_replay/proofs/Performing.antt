@@ -165,9 +165,9 @@ pub meets-replies : (w v : Turn) (o : Outcome) (m : Machine) (buffer : List ℕ)
     → Meets w o m buffer → Replies v o m buffer
 meets-replies w v o m buffer a h =
     record {
+      answer = h .outcome ∙ a .answer;
       text = ap₂ answerText (h .outcome) (h .reader) ∙ same-text w v a;
-      machine = h .machine
-          ∙ a .after;
+      machine = h .machine ∙ a .after;
     }
 
 pub request-replies : (state files logs marks undo : List ℕ) (q q′ : Request) (bytes c c′ rest : List ℕ)
@@ -236,7 +236,9 @@ order-replies w o m n size order reader reader′ l is by h =
 module _ (line : ParsedEntry) (bytes reader : List ℕ) (m : Machine) (o : Outcome) where
   module _ (size : ℕ) (none : size ≡ 0) (says17 : said o ≡ refused 17) where
     none-replies : Replies (record { reply = says (refused 17); after = m }) o m (take size reader)
-    none-replies = rw none (record { text = ap (λ (a : Said). answerText a []) says17; machine = refl })
+    none-replies =
+        rw none
+        (record { answer = says17; text = ap (λ (a : Said). answerText a []) says17; machine = refl })
 
     pub another-replies : line ≡ Another
         → (size ≤ 4097) × Replies (turnOf (logEntryOf line bytes) m) o m (take size reader)

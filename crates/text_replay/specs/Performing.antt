@@ -62,8 +62,9 @@ turnOf (version v) m = record { reply = says (refused 17); after = m }
 turnOf (fresh files) m = freshTurn files m
 turnOf (calls c) m = call c m
 
--- The outcome, with those bytes of the reader's buffer, reads as a turn's reply, and record and buffers are
--- those that the turn leaves.
+-- The outcome is a turn's answer, with those bytes of the reader's buffer it reads as the turn's reply, and
+-- record and buffers are those that the turn leaves.
 pub record Replies (w : Turn) (o : Outcome) (m : Machine) (buffer : List ℕ) : Type 0 where
+  pub answer : said o ≡ w .reply .answer
   pub text : answerText (said o) buffer ≡ replyText (w .reply)
   pub machine : m ≡ w .after

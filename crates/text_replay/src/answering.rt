@@ -24,7 +24,7 @@ ghost use Rattle.state.specs.Outcomes.{refused, said};
 ghost use Rattle.requests.specs.Requests.{callOf};
 ghost use Rattle.spec.specs.Calls.{call};
 ghost use Rattle.spec.specs.Messages.{Call};
-ghost use Rattle.spec.specs.Promises.{handed, handedBack};
+ghost use Rattle.spec.specs.Promises.{handed, handedBack, LeftAsFound};
 ghost use Rattle.text_replay.specs.Performing.{clippedTo, answerSize, orderSize, turnOf, Replies};
 ghost use Rattle.text_replay.specs.Counting.{CountsDifference};
 ghost use Rattle.text_replay.specs.Turns.{replayStateIn, Took, Compared, Versioned, Noted};
@@ -130,8 +130,9 @@ fn perform_request(
 ) -> Response
     requires { ⌜ length (now reader) ≡ 4097 ⌝ }
     ensures { λ r. ⌜ (r .size ≤ 4097)
-        × Replies (call (callOf q (now (bytes .entry)) (replicate room 0)) (handed state files logs marks undo))
-        (r .outcome) (handedBack state files logs marks undo) (take (r .size) (now (reader .exit))) ⌝ }
+        × (Replies (call (callOf q (now (bytes .entry)) (replicate room 0)) (handed state files logs marks undo))
+        (r .outcome) (handedBack state files logs marks undo) (take (r .size) (now (reader .exit)))
+        × LeftAsFound (r .outcome) (now (state .entry)) (now (state .exit))) ⌝ }
 {
     let n = smaller(room, WRITTEN);
     let size = answer_size(q, n);
@@ -184,8 +185,9 @@ fn perform_order(
 ) -> Response
     requires { ⌜ length (now reader) ≡ 4097 ⌝ }
     ensures { λ r. ⌜ (r .size ≤ 4097)
-        × Replies (call (Call.bestOrder (now (list .entry)) minute budget) (handed state files logs marks undo))
-        (r .outcome) (handedBack state files logs marks undo) (take (r .size) (now (reader .exit))) ⌝ }
+        × (Replies (call (Call.bestOrder (now (list .entry)) minute budget) (handed state files logs marks undo))
+        (r .outcome) (handedBack state files logs marks undo) (take (r .size) (now (reader .exit)))
+        × LeftAsFound (r .outcome) (now (state .entry)) (now (state .exit))) ⌝ }
 {
     let best = call_order::best_order(state, files, logs, marks, undo, list, minute, budget);
     let o = best.outcome;
@@ -206,7 +208,7 @@ fn no_call() -> Response
 }
 
 // Performs what a line says.
-fn perform_line(
+pub fn perform_line(
     state: &mut State,
     files: &mut Buffer,
     logs: &mut Buffer,
@@ -218,8 +220,9 @@ fn perform_line(
 ) -> Response
     requires { ⌜ (length (now bytes) ≡ 4097) × (length (now reader) ≡ 4097) ⌝ }
     ensures { λ r. ⌜ (r .size ≤ 4097)
-        × Replies (turnOf (logEntryOf said (now (bytes .entry))) (handed state files logs marks undo))
-        (r .outcome) (handedBack state files logs marks undo) (take (r .size) (now (reader .exit))) ⌝ }
+        × (Replies (turnOf (logEntryOf said (now (bytes .entry))) (handed state files logs marks undo))
+        (r .outcome) (handedBack state files logs marks undo) (take (r .size) (now (reader .exit)))
+        × LeftAsFound (r .outcome) (now (state .entry)) (now (state .exit))) ⌝ }
 {
     match said {
         ParsedEntry::Fresh(n) => {

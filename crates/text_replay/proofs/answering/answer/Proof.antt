@@ -58,7 +58,7 @@ returns c =
         answer = record { starts = e .0; ends = omega (arith, e .1, n, s .0, w) };
       },
       answered-took _ (start .args .p) _ _ _ _ _ _ _ _ _ _ _ (omega (arith, e .1, put .end, n, s .0, w, room))
-          (at-part .part .ensures) (s .1) put next,
+          (at-part .part .ensures) (s .1 .0) put next,
     )
 
 pub answer-spec : {M : Type 1} → statement M

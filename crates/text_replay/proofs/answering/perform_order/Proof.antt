@@ -8,8 +8,10 @@ returns : tie.Need-returns
 returns c =
     let at-put-order = c .before .before .before in
     let at-best-order = at-put-order .before .before .before in
-    order-replies _ _ _ _ _ _ _ _ (at-put-order .put-order .ensures .0) (at-put-order .put-order .ensures .1)
-    (c .order-size .ensures) (at-best-order .best-order .ensures .0 .0)
+    let best = at-best-order .best-order .ensures .0 in
+    let h = order-replies _ _ _ _ _ _ _ _ (at-put-order .put-order .ensures .0)
+    (at-put-order .put-order .ensures .1) (c .order-size .ensures) (best .0) in
+    (h .0, (h .1, best .1))
 
 pub perform-order-spec : {M : Type 1} → statement M
 perform-order-spec =

@@ -32,8 +32,11 @@ returns c =
     let o = at-perform .perform in
     let size = at-answer-size .answer-size .ensures in (
       size-within _ _ _ size (omega (arith, n)),
-      request-replies _ _ _ _ _ _ _ _ _ _ _ _ _ _ _ _ (at-clipped .clipped .ensures) size n
-          (omega (arith, part, n, start .pre)) (omega (arith, o .kept, part, n, start .pre)) (o .ensures .0),
+      (
+        request-replies _ _ _ _ _ _ _ _ _ _ _ _ _ _ _ _ (at-clipped .clipped .ensures) size n
+            (omega (arith, part, n, start .pre)) (omega (arith, o .kept, part, n, start .pre)) (o .ensures .0),
+        o .ensures .1,
+      ),
     )
 
 pub perform-request-spec : {M : Type 1} → statement M

@@ -4,4 +4,5 @@ pub mod Columns
 pub mod WriteRecords
 pub mod Rejuvenated
 pub mod Back
+pub mod Lives
 pub mod Holds

@@ -1,15 +1,15 @@
 -- What is loaded from a store's image is the young store with what was committed.
 use mathlib.Core.Bool.{Bool, true, false, _||_, true≢false}
-use mathlib.Core.List.{List, []}
+use mathlib.Core.List.{List}
 use mathlib.Core.Path.{_≡_, refl, sym, ap, ap₂, _∙_}
 use borrow.Author.Tests.{eq-eqb, le-leb, ltb-false}
 use lib.Dec.{ltb}
 use lib.ListN.{getD, length, replicate, length-replicate, getD-replicate}
 use native.Mathlib.Omega.{arith}
-use Prim.Native.Nat.{ℕ, zero, _+_, _-_, _≤_, _<_, min}
+use Prim.Native.Nat.{ℕ, _+_, _-_, _≤_, _<_, min}
 use Rattle.buffers.specs.Parts.{tabulate}
 use Rattle.buffers.proofs.BelowLaws.{and-both, below-all}
-use Rattle.buffers.proofs.TableLaws.{length-tabulate, table-same}
+use Rattle.buffers.proofs.TableLaws.{table-same}
 use Rattle.standings.specs.Table.{placeNumber}
 use Rattle.windows.specs.declared.Window.{Window}
 use Rattle.windows.specs.Windows.{window, freshWindow}
@@ -18,7 +18,7 @@ use Rattle.state.specs.declared.Transaction.{Transaction}
 use Rattle.state.specs.declared.Undo.{Undo}
 use Rattle.state.specs.declared.journal.WriteRecord.{WriteRecord}
 use Rattle.state.specs.StoreMeaning.{ended, noTransaction, transaction, windowAt}
-use Rattle.state.specs.Layout.{isSet, storeOf, undoOf, windowOf, journalOf}
+use Rattle.state.specs.Layout.{isSet}
 use Rattle.state.specs.Updates.{flagNumber}
 use Rattle.state.specs.Journal.{decoded, lastGrant, writeRecordAt, withRecords}
 use Rattle.state.proofs.LayoutLaws.{flag-back}
@@ -28,8 +28,8 @@ use Rattle.admission.specs.Admission.{storeIn}
 use Rattle.admission.proofs.Laws.{in-range, in-range-intro, landed-in}
 use Rattle.spec.specs.Machine.{Machine, lent}
 use Rattle.spec.specs.Calls.{freshStore, freshMachine}
-use Rattle.spec.specs.Promises.{machineOf}
 use Rattle.spec.specs.Age.{rejuvenated}
+use Rattle.spec.proofs.Refinement.Relation.{Shaped}
 use Rattle.spec.proofs.Refinement.UndoValues.{SameGrant, undo-same}
 use Rattle.spec.proofs.Refinement.IndexedLists.{tabulate-getD}
 use Rattle.images.specs.Images.{numberOf, grantRecord, holderOf, noRecord, recordFrom, undoFrom, storeFrom, journalFrom}
@@ -69,27 +69,6 @@ youngOf s =
 
 abbrev youngJournal : StoreMeaning → List ℕ → List ℕ
 youngJournal s journal = withRecords zeros lastGrant (writeRecordAt journal lastGrant) (s .undo .used .records)
-
--- Tables of their lengths.
-record Shaped (s : StoreMeaning) : Type 0 where
-  files : length (s .filenumbers) ≡ 16
-  offsets : length (s .offsets) ≡ 16
-  lengths : length (s .lengths) ≡ 8
-  windows : length (s .windows) ≡ 8
-  foundOffsets : length (s .undo .offsets) ≡ 16
-  foundLengths : length (s .undo .lengths) ≡ 8
-
-shaped : (state : List ℕ) → Shaped (storeOf state)
-unfolding storeOf undoOf
-shaped state =
-    record {
-      files = length-tabulate (λ d. getD state (2240 + d) 0) 16;
-      offsets = length-tabulate (λ d. getD state (2256 + d) 0) 16;
-      lengths = length-tabulate (λ f. getD state (2272 + f) 0) 8;
-      windows = length-tabulate (windowOf state) 8;
-      foundOffsets = length-tabulate (λ d. getD state (2296 + d) 0) 16;
-      foundLengths = length-tabulate (λ f. getD state (2312 + f) 0) 8;
-    }
 
 module _ (s : StoreMeaning) (journal : List ℕ) (w : ℕ → ℕ) (same : (i : ℕ) → i < 276 → w i ≡ numberOf s journal i) where
   -- A column of n numbers from `from` on.
@@ -246,14 +225,14 @@ module _ (s : StoreMeaning) (journal : List ℕ) (w : ℕ → ℕ) (same : (i : 
         (ap₂ storeIn (store-is z) journal-is ∙ young-in)
 
 -- As a machine.
-module _ (state files logs marks undo newLogs : List ℕ) (w : ℕ → ℕ)
-    (same : (i : ℕ) → i < 276 → w i ≡ numberOf (storeOf state) (journalOf state) i) where
-  pub loaded-image : youngWith w files undo newLogs ≡ rejuvenated (machineOf state files logs marks undo) newLogs
+module _ (m : Machine) (newLogs : List ℕ) (w : ℕ → ℕ) (same : (i : ℕ) → i < 276 → w i ≡ numberOf (m .store) (m .journal) i)
+    (z : Shaped (m .store)) where
+  pub loaded-image : youngWith w (m .files) (m .undo) newLogs ≡ rejuvenated m newLogs
   unfolding youngWith rejuvenated freshMachine freshStore
   loaded-image =
-      let s = store-is (storeOf state) (journalOf state) w same (shaped state) in
-      let j = journal-is (storeOf state) (journalOf state) w same in
-      λ i. lent (s i) (j i) files newLogs (replicate 32768 0) undo
+      let s = store-is (m .store) (m .journal) w same z in
+      let j = journal-is (m .store) (m .journal) w same in
+      λ i. lent (s i) (j i) (m .files) newLogs (replicate 32768 0) (m .undo)
 
-  pub not-refused : storeIn (storeOf state) (journalOf state) ≡ true → loadRefusal w ≡ 0
-  not-refused good = admitted-image (storeOf state) (journalOf state) w same good (shaped state)
+  pub not-refused : storeIn (m .store) (m .journal) ≡ true → loadRefusal w ≡ 0
+  not-refused good = admitted-image (m .store) (m .journal) w same good z

@@ -1,9 +1,8 @@
 -- What the calls on images do, as rules of the store: check 2 alone, loading, and what saving writes.
-use mathlib.Core.Bool.{Bool, cond}
+use mathlib.Core.Bool.{cond}
 use mathlib.Core.List.{List, []}
 use mathlib.Core.Path.{_≡_}
 use denote.Ref.{now}
-use lib.ListN.{replicate}
 use Prim.Native.Nat.{ℕ}
 use Rattle.state.specs.Outcomes.{doneAnswer}
 use Rattle.admission.specs.FirstRefusal.{unless}

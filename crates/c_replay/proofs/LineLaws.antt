@@ -89,8 +89,7 @@ module _ (line : List ℕ) (state files logs marks undo : Lent) (entry : ParsedE
       → ReplaysLine line state files logs marks undo r
   call-replayed o r buffer e h left is =
       let w = call-turn e in
-      answers (lineRule (callIn line)) state files logs marks undo o _ r
-      (
+      answers (lineRule (callIn line)) state files logs marks undo o _ r (
         record {
           outcome = h .answer ∙ sym (ap (λ (x : Turn). x .reply .answer) w);
           machine = h .machine ∙ sym (ap (λ (x : Turn). x .after) w);

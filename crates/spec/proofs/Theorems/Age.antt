@@ -46,7 +46,7 @@ pub at-rest-sound : (m : Machine) → AtRest m → Sound m
 at-rest-sound m r = reached-sound m (r .reached)
 
 -- Two sound stores that stand for the same store without buffers answer alike.
-alike : (m n : Machine) → Sound m → Sound n → view m ≡ view n → (cs : List Call) → Alike cs m n
+pub alike : (m n : Machine) → Sound m → Sound n → view m ≡ view n → (cs : List Call) → Alike cs m n
 unfolding view
 alike m n s t e cs =
     let a = calls-agree cs m s in
@@ -235,7 +235,7 @@ module _ (m : Machine) (s : Sound m) (logs : List ℕ) (size : length logs ≡ 3
   young-long = length-with (replicate 1728 0) lastGrant (writeRecordAt (m .journal) lastGrant) records
       ∙ length-replicate 1728 zero
 
-  young-sound : Sound (rejuvenated m logs)
+  pub young-sound : Sound (rejuvenated m logs)
   unfolding rejuvenated freshMachine freshStore
   young-sound =
       let r = in-range (m .store) (m .journal) (s .inRange) in
@@ -269,13 +269,25 @@ module _ (m : Machine) (s : Sound m) (logs : List ℕ) (size : length logs ≡ 3
             });
       }
 
-  young-closed : (t : ℕ) → t ≤ 7 → transaction (rejuvenated m logs .store) t .begun ≡ false
+  pub young-closed : (t : ℕ) → t ≤ 7 → transaction (rejuvenated m logs .store) t .begun ≡ false
   unfolding rejuvenated freshMachine
   young-closed t l = closed-at (m .store .filenumbers) logs (m .undo) t (omega arith)
 
   same-back : backIn (rejuvenated m logs) ≡ backIn m
   unfolding rejuvenated freshStore freshMachine
   same-back = back-same m (rejuvenated m logs) young-grant refl refl refl refl
+
+  pub same-start : startAbstract (fileOf (m .store)) (values (m .store) (m .files)) (windowAt (m .store)) (backIn m)
+      ≡ startAbstract (fileOf (rejuvenated m logs .store)) (values (rejuvenated m logs .store) (rejuvenated m logs .files))
+      (windowAt (rejuvenated m logs .store)) (backIn (rejuvenated m logs))
+  unfolding rejuvenated freshStore freshMachine fileOf
+  same-start = ap₂ (λ (v : Values) (b : Saved). startAbstract (fileOf (m .store)) v (windowAt (m .store)) b) (fun-ext each)
+      (sym same-back)
+    where
+      each : (i : Item) → values (m .store) (m .files) i ≡ values (rejuvenated m logs .store) (rejuvenated m logs .files) i
+      each (byte q) = unfold values in refl
+      each (offset d) = unfold values in refl
+      each (fileLength f) = unfold values in refl
 
   young-preserved : NothingLost m (rejuvenated m logs)
   unfolding rejuvenated freshStore freshMachine

@@ -208,7 +208,7 @@ calls-append [] ds m = refl
 calls-append (c ∷ cs) ds m = calls-append cs ds (storeAnswers .next c m)
 
 -- The first goes on with every transaction aborted, the second comes back.
-run-twins : (r : ProgramRun) (m n : Machine) → Twins m n
+pub run-twins : (r : ProgramRun) (m n : Machine) → Twins m n
     → Twins (callsAfter abortAll (callsAfter (r .calls) m)) (recovered (r .logs) (r .marks) (callsAfter (r .calls) n))
 run-twins r m n w =
     let a = calls-agree (r .calls) m (w .first) in

@@ -1,4 +1,4 @@
-/* Holds the numbers and names of luzhanem.h to `Refusal` in the source of crate record, whose path is the argument. */
+/* Holds the numbers and names of luzhanem.h to `Refusal` in the source of crate state, whose path is the argument. */
 #include "check.h"
 
 #include <ctype.h>

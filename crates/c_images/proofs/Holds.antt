@@ -21,7 +21,8 @@ images-hold =
           );
       back = λ numbers files undo logs long small passes. image-back numbers long small passes;
       saves =
-          λ numbers m₀ made ls cs. calls-agree cs (livesAfter ls m₀) (lives-from-fresh numbers m₀ made ls .second) .sound .inRange;
+          λ numbers m₀ made ls cs.
+          let w = lives-from-fresh numbers m₀ made ls in calls-agree cs (livesAfter ls m₀) (w .second) .sound .inRange;
       goesOn =
           λ numbers m₀ made ls cs.
           let w = lives-from-fresh numbers m₀ made ls in

@@ -17,9 +17,9 @@ use Rattle.images.specs.Words.{wordAt}
 use Rattle.images.specs.Images.{loadRefusal, imageNumbers, youngWith}
 use Rattle.c_images.specs.ImageCalls.{loadRule}
 
--- A life of a store: its calls up to the moment at which it was saved, whatever was open, and how the next life
--- begins. Either the state was saved with every transaction ended, or an image, which is loaded into another
--- store; that may hold anything.
+-- A life of a store: its calls up to the moment at which it was saved, whatever was open, and how the next
+-- life begins. Either the state was saved with every transaction ended, or an image, which is loaded into
+-- another store; that may hold anything.
 pub data Life : Type 0 where
   byState : ProgramRun → Life
   byImage : (cs : List Call) (into : Machine) → length (into .logs) ≡ bufferBytes → Life
@@ -61,8 +61,8 @@ pub record ImagesHold : Type 0 where
   pub saves :
       (numbers : List ℕ) (m₀ : Machine) → FreshlyMade numbers m₀ → (ls : List Life) (cs : List Call)
       → let m = callsAfter cs (livesAfter ls m₀) in storeIn (m .store) (m .journal) ≡ true
-  -- However often it was saved, at any moment, whatever was open, and loaded, it answers every further list of
-  -- calls as one that never went down, on which every transaction was aborted at each such moment instead.
+  -- However often it was saved, at any moment, whatever was open, and loaded, it answers every further list
+  -- of calls as one that never went down, on which every transaction was aborted at each such moment instead.
   pub goesOn :
       (numbers : List ℕ) (m₀ : Machine) → FreshlyMade numbers m₀ → (ls : List Life) (cs : List Call)
       → Alike cs (callsAfter (callsOfLives ls) m₀) (livesAfter ls m₀)

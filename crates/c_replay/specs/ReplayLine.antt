@@ -28,8 +28,8 @@ asksNothing (calls c) = false
 abbrev pub AsksNothing : ParsedEntry → Bool → Type 0
 AsksNothing said r = (bytes : List ℕ) → r ≡ asksNothing (logEntryOf said bytes)
 
--- The turn of the store for a line: 0 and nothing else where it asks for nothing, else that of its call, or 17
--- for a line of another form or version.
+-- The turn of the store for a line: 0 and nothing else where it asks for nothing, else that of its call, or
+-- 17 for a line of another form or version.
 unfoldable pub lineRule : LogEntry → Machine → Turn
 lineRule e m = cond (asksNothing e) (answerWith doneAnswer m) (turnOf e m)
 

@@ -130,7 +130,8 @@ fn perform_request(
 ) -> Response
     requires { ⌜ length (now reader) ≡ 4097 ⌝ }
     ensures { λ r. ⌜ (r .size ≤ 4097)
-        × (Replies (call (callOf q (now (bytes .entry)) (replicate room 0)) (handed state files logs marks undo))
+        × (Replies
+        (call (callOf q (now (bytes .entry)) (replicate room 0)) (handed state files logs marks undo))
         (r .outcome) (handedBack state files logs marks undo) (take (r .size) (now (reader .exit)))
         × LeftAsFound (r .outcome) (now (state .entry)) (now (state .exit))) ⌝ }
 {
@@ -185,7 +186,8 @@ fn perform_order(
 ) -> Response
     requires { ⌜ length (now reader) ≡ 4097 ⌝ }
     ensures { λ r. ⌜ (r .size ≤ 4097)
-        × (Replies (call (Call.bestOrder (now (list .entry)) minute budget) (handed state files logs marks undo))
+        × (Replies
+        (call (Call.bestOrder (now (list .entry)) minute budget) (handed state files logs marks undo))
         (r .outcome) (handedBack state files logs marks undo) (take (r .size) (now (reader .exit)))
         × LeftAsFound (r .outcome) (now (state .entry)) (now (state .exit))) ⌝ }
 {

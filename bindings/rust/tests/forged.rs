@@ -1,6 +1,6 @@
 //! Forged records beside the twin: numbers of good records are changed, to the ends of their ranges, beyond them, or to any
 //! number. Both find the same records in range, and on those a call answers and leaves the same. LUZHANEM_FORGED says how many
-//! records; 300,000 otherwise.
+//! records, 300,000 otherwise; LUZHANEM_SEED another list of them.
 
 use luzhanem as _;
 use std::os::raw::{c_int, c_void};
@@ -110,7 +110,8 @@ fn any_call(drawn: &mut Drawn) -> Call {
 #[test]
 fn forged_records() {
     let count = std::env::var("LUZHANEM_FORGED").map_or(300_000, |count| count.parse().expect("a number of records"));
-    let mut drawn = Drawn(88172645463325252);
+    let seed: u64 = std::env::var("LUZHANEM_SEED").map_or(0, |seed| seed.parse().expect("a number"));
+    let mut drawn = Drawn(88172645463325252 ^ seed << 20);
     let good: Vec<Vec<u16>> = (0..64)
         .map(|seed| {
             let state = logs::write(&mut std::io::sink(), seed, 300).expect("nothing is written");

@@ -8,6 +8,7 @@ use native.Mathlib.Nat.{zero-sub, sub-zero, suc-sub-suc, le-of-suc-le-suc}
 use native.Mathlib.Numerals.{add-one}
 use native.Mathlib.Omega.{arith}
 use Prim.Native.Nat.{ℕ, zero, suc, _+_, _-_, _*_, _/_, _%_, _≤_, _<_}
+use Rattle.limits.specs.Limits.{transactionCount, mostOrders}
 use Rattle.spec_orders.specs.Orders.{without, factorial}
 use Rattle.spec_orders.specs.Numbering.{orderAt}
 use Rattle.spec_orders.proofs.Members.{length-without}

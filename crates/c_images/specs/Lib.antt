@@ -1,3 +1,4 @@
 pub mod ImageCalls
 pub mod LayoutNumber
+pub mod FixedNumbers
 pub mod ImagesHold

@@ -10,6 +10,7 @@ use Prim.Native.Nat.{ℕ, _+_, _-_, _*_, _≤_, _<_}
 use Rattle.buffers.proofs.TableLaws.{getD-tabulate}
 use Rattle.state.specs.Journal.{decodedAs, decoded, lastGrant, writeRecordAt}
 use Rattle.state.specs.Layout.{storeOf, undoOf, journalOf}
+use Rattle.state.specs.Layout.{heldAt}
 use Rattle.state.proofs.LayoutLaws.{record-of}
 
 -- A write record of a record whose numbers have 16 bits.
@@ -29,4 +30,4 @@ module _ (state : List ℕ) (fits : (i : ℕ) → getD state i 0 < 65536) where
 
   pub few-records : storeOf state .undo .used .records < 65536
   unfolding storeOf undoOf
-  few-records = fits 2321
+  few-records = fits (heldAt + 1)

@@ -22,6 +22,8 @@ use Rattle.standings.specs.Table.{placeNumber}
 use Rattle.spec.proofs.Refinement.IndexedLists.{tabulate-getD}
 use Rattle.state.specs.Journal.{lastGrant, withRecordAt, withRecords}
 use Rattle.state.specs.Layout.{storeOf, undoOf, windowOf, transactionOf, journalOf, stateLength, isSet}
+use Rattle.state.specs.Layout.{fileNumbersAt, offsetsAt, lengthsAt, startsAt}
+use Rattle.state.specs.Layout.{endsAt, foundOffsetsAt, foundLengthsAt, heldAt}
 use Rattle.state.specs.Updates.{flagNumber}
 use Rattle.state.proofs.LayoutLaws.{flag-back, store-of-zeros, transactions-same, journal-same, journal-with-record}
 use Rattle.state.proofs.LayoutLaws.{store-with-record}
@@ -61,96 +63,96 @@ module _ (put : ℕ → List ℕ → List ℕ) (same : (n : ℕ) (r : List ℕ) 
 
 module _ (w : ℕ → ℕ) where
   abbrev putDescriptor-0 : ℕ → List ℕ → List ℕ
-  putDescriptor-0 d r = set r (2240 + d) (w (1 + d))
+  putDescriptor-0 d r = set r (fileNumbersAt + d) (w (1 + d))
 
   abbrev putDescriptor-1 : ℕ → List ℕ → List ℕ
-  putDescriptor-1 d r = set (putDescriptor-0 d r) (2256 + d) (w (17 + d))
+  putDescriptor-1 d r = set (putDescriptor-0 d r) (offsetsAt + d) (w (17 + d))
 
   length-descriptor : (d : ℕ) (r : List ℕ) → length (putDescriptor w d r) ≡ length r
   unfolding putDescriptor
   length-descriptor d r = simp length-set
 
-  descriptor-other : (d j : ℕ) (r : List ℕ) → (j ≡ 2240 + d → ⊥) → (j ≡ 2256 + d → ⊥) → (j ≡ 2296 + d → ⊥)
+  descriptor-other : (d j : ℕ) (r : List ℕ) → (j ≡ fileNumbersAt + d → ⊥) → (j ≡ offsetsAt + d → ⊥) → (j ≡ foundOffsetsAt + d → ⊥)
       → getD (putDescriptor w d r) j 0 ≡ getD r j 0
   unfolding putDescriptor
   descriptor-other d j r n0 n1 n2 =
-      getD-set-other (putDescriptor-1 d r) (2296 + d) j (w (60 + d)) 0 n2
-      ∙ getD-set-other (putDescriptor-0 d r) (2256 + d) j (w (17 + d)) 0 n1
-      ∙ getD-set-other r (2240 + d) j (w (1 + d)) 0 n0
+      getD-set-other (putDescriptor-1 d r) (foundOffsetsAt + d) j (w (60 + d)) 0 n2
+      ∙ getD-set-other (putDescriptor-0 d r) (offsetsAt + d) j (w (17 + d)) 0 n1
+      ∙ getD-set-other r (fileNumbersAt + d) j (w (1 + d)) 0 n0
 
-  own-file : (d : ℕ) → d < 16 → (r : List ℕ) → length r ≡ stateLength → getD (putDescriptor w d r) (2240 + d) 0 ≡ w (1 + d)
+  own-file : (d : ℕ) → d < 16 → (r : List ℕ) → length r ≡ stateLength → getD (putDescriptor w d r) (fileNumbersAt + d) 0 ≡ w (1 + d)
   unfolding putDescriptor
   own-file d h r l =
-      getD-set-other (putDescriptor-1 d r) (2296 + d) (2240 + d) (w (60 + d)) 0 (λ p. omega arith)
-      ∙ getD-set-other (putDescriptor-0 d r) (2256 + d) (2240 + d) (w (17 + d)) 0 (λ p. omega arith)
-      ∙ getD-set-same r (2240 + d) (w (1 + d)) 0 (omega arith)
+      getD-set-other (putDescriptor-1 d r) (foundOffsetsAt + d) (fileNumbersAt + d) (w (60 + d)) 0 (λ p. omega arith)
+      ∙ getD-set-other (putDescriptor-0 d r) (offsetsAt + d) (fileNumbersAt + d) (w (17 + d)) 0 (λ p. omega arith)
+      ∙ getD-set-same r (fileNumbersAt + d) (w (1 + d)) 0 (omega arith)
 
-  own-offset : (d : ℕ) → d < 16 → (r : List ℕ) → length r ≡ stateLength → getD (putDescriptor w d r) (2256 + d) 0 ≡ w (17 + d)
+  own-offset : (d : ℕ) → d < 16 → (r : List ℕ) → length r ≡ stateLength → getD (putDescriptor w d r) (offsetsAt + d) 0 ≡ w (17 + d)
   unfolding putDescriptor
   own-offset d h r l =
-      getD-set-other (putDescriptor-1 d r) (2296 + d) (2256 + d) (w (60 + d)) 0 (λ p. omega arith)
-      ∙ getD-set-same (putDescriptor-0 d r) (2256 + d) (w (17 + d)) 0 (let e : length
+      getD-set-other (putDescriptor-1 d r) (foundOffsetsAt + d) (offsetsAt + d) (w (60 + d)) 0 (λ p. omega arith)
+      ∙ getD-set-same (putDescriptor-0 d r) (offsetsAt + d) (w (17 + d)) 0 (let e : length
       (putDescriptor-0 d r) ≡ length r = simp length-set in omega arith)
 
-  own-found-offset : (d : ℕ) → d < 16 → (r : List ℕ) → length r ≡ stateLength → getD (putDescriptor w d r) (2296 + d) 0 ≡ w
+  own-found-offset : (d : ℕ) → d < 16 → (r : List ℕ) → length r ≡ stateLength → getD (putDescriptor w d r) (foundOffsetsAt + d) 0 ≡ w
       (60 + d)
   unfolding putDescriptor
   own-found-offset d h r l =
-      getD-set-same (putDescriptor-1 d r) (2296 + d) (w (60 + d)) 0 (let e : length
+      getD-set-same (putDescriptor-1 d r) (foundOffsetsAt + d) (w (60 + d)) 0 (let e : length
       (putDescriptor-1 d r) ≡ length r = simp length-set in omega arith)
 
 -- ---- the numbers of files
 
 module _ (w : ℕ → ℕ) where
   abbrev putFile-0 : ℕ → List ℕ → List ℕ
-  putFile-0 f r = set r (2272 + f) (w (33 + f))
+  putFile-0 f r = set r (lengthsAt + f) (w (33 + f))
 
   abbrev putFile-1 : ℕ → List ℕ → List ℕ
-  putFile-1 f r = set (putFile-0 f r) (2280 + f) (w (41 + f))
+  putFile-1 f r = set (putFile-0 f r) (startsAt + f) (w (41 + f))
 
   abbrev putFile-2 : ℕ → List ℕ → List ℕ
-  putFile-2 f r = set (putFile-1 f r) (2288 + f) (w (49 + f))
+  putFile-2 f r = set (putFile-1 f r) (endsAt + f) (w (49 + f))
 
   length-of-file : (f : ℕ) (r : List ℕ) → length (putFile w f r) ≡ length r
   unfolding putFile
   length-of-file f r = simp length-set
 
-  of-file-other : (f j : ℕ) (r : List ℕ) → (j ≡ 2272 + f → ⊥) → (j ≡ 2280 + f → ⊥) → (j ≡ 2288 + f → ⊥) → (j ≡ 2312 + f → ⊥)
+  of-file-other : (f j : ℕ) (r : List ℕ) → (j ≡ lengthsAt + f → ⊥) → (j ≡ startsAt + f → ⊥) → (j ≡ endsAt + f → ⊥) → (j ≡ foundLengthsAt + f → ⊥)
       → getD (putFile w f r) j 0 ≡ getD r j 0
   unfolding putFile
   of-file-other f j r n0 n1 n2 n3 =
-      getD-set-other (putFile-2 f r) (2312 + f) j (w (76 + f)) 0 n3
-      ∙ getD-set-other (putFile-1 f r) (2288 + f) j (w (49 + f)) 0 n2
-      ∙ getD-set-other (putFile-0 f r) (2280 + f) j (w (41 + f)) 0 n1
-      ∙ getD-set-other r (2272 + f) j (w (33 + f)) 0 n0
+      getD-set-other (putFile-2 f r) (foundLengthsAt + f) j (w (76 + f)) 0 n3
+      ∙ getD-set-other (putFile-1 f r) (endsAt + f) j (w (49 + f)) 0 n2
+      ∙ getD-set-other (putFile-0 f r) (startsAt + f) j (w (41 + f)) 0 n1
+      ∙ getD-set-other r (lengthsAt + f) j (w (33 + f)) 0 n0
 
-  own-length : (f : ℕ) → f < 8 → (r : List ℕ) → length r ≡ stateLength → getD (putFile w f r) (2272 + f) 0 ≡ w (33 + f)
+  own-length : (f : ℕ) → f < 8 → (r : List ℕ) → length r ≡ stateLength → getD (putFile w f r) (lengthsAt + f) 0 ≡ w (33 + f)
   unfolding putFile
   own-length f h r l =
-      getD-set-other (putFile-2 f r) (2312 + f) (2272 + f) (w (76 + f)) 0 (λ p. omega arith)
-      ∙ getD-set-other (putFile-1 f r) (2288 + f) (2272 + f) (w (49 + f)) 0 (λ p. omega arith)
-      ∙ getD-set-other (putFile-0 f r) (2280 + f) (2272 + f) (w (41 + f)) 0 (λ p. omega arith)
-      ∙ getD-set-same r (2272 + f) (w (33 + f)) 0 (omega arith)
+      getD-set-other (putFile-2 f r) (foundLengthsAt + f) (lengthsAt + f) (w (76 + f)) 0 (λ p. omega arith)
+      ∙ getD-set-other (putFile-1 f r) (endsAt + f) (lengthsAt + f) (w (49 + f)) 0 (λ p. omega arith)
+      ∙ getD-set-other (putFile-0 f r) (startsAt + f) (lengthsAt + f) (w (41 + f)) 0 (λ p. omega arith)
+      ∙ getD-set-same r (lengthsAt + f) (w (33 + f)) 0 (omega arith)
 
-  own-start : (f : ℕ) → f < 8 → (r : List ℕ) → length r ≡ stateLength → getD (putFile w f r) (2280 + f) 0 ≡ w (41 + f)
+  own-start : (f : ℕ) → f < 8 → (r : List ℕ) → length r ≡ stateLength → getD (putFile w f r) (startsAt + f) 0 ≡ w (41 + f)
   unfolding putFile
   own-start f h r l =
-      getD-set-other (putFile-2 f r) (2312 + f) (2280 + f) (w (76 + f)) 0 (λ p. omega arith)
-      ∙ getD-set-other (putFile-1 f r) (2288 + f) (2280 + f) (w (49 + f)) 0 (λ p. omega arith)
-      ∙ getD-set-same (putFile-0 f r) (2280 + f) (w (41 + f)) 0 (let e : length (putFile-0 f r) ≡ length r = simp length-set in
+      getD-set-other (putFile-2 f r) (foundLengthsAt + f) (startsAt + f) (w (76 + f)) 0 (λ p. omega arith)
+      ∙ getD-set-other (putFile-1 f r) (endsAt + f) (startsAt + f) (w (49 + f)) 0 (λ p. omega arith)
+      ∙ getD-set-same (putFile-0 f r) (startsAt + f) (w (41 + f)) 0 (let e : length (putFile-0 f r) ≡ length r = simp length-set in
       omega arith)
 
-  own-end : (f : ℕ) → f < 8 → (r : List ℕ) → length r ≡ stateLength → getD (putFile w f r) (2288 + f) 0 ≡ w (49 + f)
+  own-end : (f : ℕ) → f < 8 → (r : List ℕ) → length r ≡ stateLength → getD (putFile w f r) (endsAt + f) 0 ≡ w (49 + f)
   unfolding putFile
   own-end f h r l =
-      getD-set-other (putFile-2 f r) (2312 + f) (2288 + f) (w (76 + f)) 0 (λ p. omega arith)
-      ∙ getD-set-same (putFile-1 f r) (2288 + f) (w (49 + f)) 0 (let e : length (putFile-1 f r) ≡ length r = simp length-set in
+      getD-set-other (putFile-2 f r) (foundLengthsAt + f) (endsAt + f) (w (76 + f)) 0 (λ p. omega arith)
+      ∙ getD-set-same (putFile-1 f r) (endsAt + f) (w (49 + f)) 0 (let e : length (putFile-1 f r) ≡ length r = simp length-set in
       omega arith)
 
-  own-found-length : (f : ℕ) → f < 8 → (r : List ℕ) → length r ≡ stateLength → getD (putFile w f r) (2312 + f) 0 ≡ w (76 + f)
+  own-found-length : (f : ℕ) → f < 8 → (r : List ℕ) → length r ≡ stateLength → getD (putFile w f r) (foundLengthsAt + f) 0 ≡ w (76 + f)
   unfolding putFile
   own-found-length f h r l =
-      getD-set-same (putFile-2 f r) (2312 + f) (w (76 + f)) 0 (let e : length (putFile-2 f r) ≡ length r = simp length-set in
+      getD-set-same (putFile-2 f r) (foundLengthsAt + f) (w (76 + f)) 0 (let e : length (putFile-2 f r) ≡ length r = simp length-set in
       omega arith)
 
 -- ---- the whole record
@@ -190,16 +192,16 @@ module _ (w : ℕ → ℕ) where
   long-granted = simp length-set long-filed
 
   -- A number before those of the grant.
-  before-grant : (j : ℕ) → j < 2320 → getD granted j 0 ≡ getD filed j 0
+  before-grant : (j : ℕ) → j < heldAt → getD granted j 0 ≡ getD filed j 0
   unfolding withLastGrant
   before-grant j h =
-      let a = set filed 2320 (flagNumber (isSet (w 57))) in
-      getD-set-other (set a 2321 (w 58)) 2322 j (w 59) 0 (λ p. omega arith)
-      ∙ getD-set-other a 2321 j (w 58) 0 (λ p. omega arith)
-      ∙ getD-set-other filed 2320 j (flagNumber (isSet (w 57))) 0 (λ p. omega arith)
+      let a = set filed heldAt (flagNumber (isSet (w 57))) in
+      getD-set-other (set a (heldAt + 1) (w 58)) (heldAt + 2) j (w 59) 0 (λ p. omega arith)
+      ∙ getD-set-other a (heldAt + 1) j (w 58) 0 (λ p. omega arith)
+      ∙ getD-set-other filed heldAt j (flagNumber (isSet (w 57))) 0 (λ p. omega arith)
 
   -- A number that is none of the files' ones.
-  past-files : (j : ℕ) → (j < 2272) ⊎ ((2296 ≤ j) × (j < 2312)) → getD filed j 0 ≡ getD described j 0
+  past-files : (j : ℕ) → (j < lengthsAt) ⊎ ((foundOffsetsAt ≤ j) × (j < foundLengthsAt)) → getD filed j 0 ≡ getD described j 0
   past-files j away =
       each-other (putFile w) (length-of-file w) j 8
       (λ k r h. ⊎-elim
@@ -208,59 +210,59 @@ module _ (w : ℕ → ℕ) where
       of-file-other w k j r (λ p. omega arith) (λ p. omega arith) (λ p. omega arith) (λ p. omega arith)) away)
       described
 
-  untouched : (j : ℕ) → j < 2240 → getD granted j 0 ≡ getD (zeros stateLength) j 0
+  untouched : (j : ℕ) → j < fileNumbersAt → getD granted j 0 ≡ getD (zeros stateLength) j 0
   untouched j h =
       before-grant j (omega arith) ∙ past-files j (inl (omega arith))
       ∙ each-other (putDescriptor w) (length-descriptor w) j 16
       (λ k r l. descriptor-other w k j r (λ p. omega arith) (λ p. omega arith) (λ p. omega arith)) (zeros stateLength)
 
-  at-file : (d : ℕ) → d < 16 → getD granted (2240 + d) 0 ≡ w (1 + d)
+  at-file : (d : ℕ) → d < 16 → getD granted (fileNumbersAt + d) 0 ≡ w (1 + d)
   at-file d h =
-      before-grant (2240 + d) (omega arith) ∙ past-files (2240 + d) (inl (omega arith))
-      ∙ each-own (putDescriptor w) (length-descriptor w) (2240 + d) 16 d (w (1 + d)) stateLength h (own-file w d h)
-      (λ i r a b. descriptor-other w i (2240 + d) r (λ p. b (omega arith)) (λ p. omega arith) (λ p. omega arith))
+      before-grant (fileNumbersAt + d) (omega arith) ∙ past-files (fileNumbersAt + d) (inl (omega arith))
+      ∙ each-own (putDescriptor w) (length-descriptor w) (fileNumbersAt + d) 16 d (w (1 + d)) stateLength h (own-file w d h)
+      (λ i r a b. descriptor-other w i (fileNumbersAt + d) r (λ p. b (omega arith)) (λ p. omega arith) (λ p. omega arith))
       (zeros stateLength) (length-zeros stateLength)
 
-  at-offset : (d : ℕ) → d < 16 → getD granted (2256 + d) 0 ≡ w (17 + d)
+  at-offset : (d : ℕ) → d < 16 → getD granted (offsetsAt + d) 0 ≡ w (17 + d)
   at-offset d h =
-      before-grant (2256 + d) (omega arith) ∙ past-files (2256 + d) (inl (omega arith))
-      ∙ each-own (putDescriptor w) (length-descriptor w) (2256 + d) 16 d (w (17 + d)) stateLength h (own-offset w d h)
-      (λ i r a b. descriptor-other w i (2256 + d) r (λ p. omega arith) (λ p. b (omega arith)) (λ p. omega arith))
+      before-grant (offsetsAt + d) (omega arith) ∙ past-files (offsetsAt + d) (inl (omega arith))
+      ∙ each-own (putDescriptor w) (length-descriptor w) (offsetsAt + d) 16 d (w (17 + d)) stateLength h (own-offset w d h)
+      (λ i r a b. descriptor-other w i (offsetsAt + d) r (λ p. omega arith) (λ p. b (omega arith)) (λ p. omega arith))
       (zeros stateLength) (length-zeros stateLength)
 
-  at-found-offset : (d : ℕ) → d < 16 → getD granted (2296 + d) 0 ≡ w (60 + d)
+  at-found-offset : (d : ℕ) → d < 16 → getD granted (foundOffsetsAt + d) 0 ≡ w (60 + d)
   at-found-offset d h =
-      before-grant (2296 + d) (omega arith) ∙ past-files (2296 + d) (inr (omega arith, omega arith))
-      ∙ each-own (putDescriptor w) (length-descriptor w) (2296 + d) 16 d (w (60 + d)) stateLength h (own-found-offset w d h)
-      (λ i r a b. descriptor-other w i (2296 + d) r (λ p. omega arith) (λ p. omega arith) (λ p. b (omega arith)))
+      before-grant (foundOffsetsAt + d) (omega arith) ∙ past-files (foundOffsetsAt + d) (inr (omega arith, omega arith))
+      ∙ each-own (putDescriptor w) (length-descriptor w) (foundOffsetsAt + d) 16 d (w (60 + d)) stateLength h (own-found-offset w d h)
+      (λ i r a b. descriptor-other w i (foundOffsetsAt + d) r (λ p. omega arith) (λ p. omega arith) (λ p. b (omega arith)))
       (zeros stateLength) (length-zeros stateLength)
 
-  at-length : (f : ℕ) → f < 8 → getD granted (2272 + f) 0 ≡ w (33 + f)
+  at-length : (f : ℕ) → f < 8 → getD granted (lengthsAt + f) 0 ≡ w (33 + f)
   at-length f h =
-      before-grant (2272 + f) (omega arith)
-      ∙ each-own (putFile w) (length-of-file w) (2272 + f) 8 f (w (33 + f)) stateLength h (own-length w f h)
-      (λ i r a b. of-file-other w i (2272 + f) r (λ p. b (omega arith)) (λ p. omega arith) (λ p. omega arith) (λ p. omega arith))
+      before-grant (lengthsAt + f) (omega arith)
+      ∙ each-own (putFile w) (length-of-file w) (lengthsAt + f) 8 f (w (33 + f)) stateLength h (own-length w f h)
+      (λ i r a b. of-file-other w i (lengthsAt + f) r (λ p. b (omega arith)) (λ p. omega arith) (λ p. omega arith) (λ p. omega arith))
       described long-described
 
-  at-start : (f : ℕ) → f < 8 → getD granted (2280 + f) 0 ≡ w (41 + f)
+  at-start : (f : ℕ) → f < 8 → getD granted (startsAt + f) 0 ≡ w (41 + f)
   at-start f h =
-      before-grant (2280 + f) (omega arith)
-      ∙ each-own (putFile w) (length-of-file w) (2280 + f) 8 f (w (41 + f)) stateLength h (own-start w f h)
-      (λ i r a b. of-file-other w i (2280 + f) r (λ p. omega arith) (λ p. b (omega arith)) (λ p. omega arith) (λ p. omega arith))
+      before-grant (startsAt + f) (omega arith)
+      ∙ each-own (putFile w) (length-of-file w) (startsAt + f) 8 f (w (41 + f)) stateLength h (own-start w f h)
+      (λ i r a b. of-file-other w i (startsAt + f) r (λ p. omega arith) (λ p. b (omega arith)) (λ p. omega arith) (λ p. omega arith))
       described long-described
 
-  at-end : (f : ℕ) → f < 8 → getD granted (2288 + f) 0 ≡ w (49 + f)
+  at-end : (f : ℕ) → f < 8 → getD granted (endsAt + f) 0 ≡ w (49 + f)
   at-end f h =
-      before-grant (2288 + f) (omega arith)
-      ∙ each-own (putFile w) (length-of-file w) (2288 + f) 8 f (w (49 + f)) stateLength h (own-end w f h)
-      (λ i r a b. of-file-other w i (2288 + f) r (λ p. omega arith) (λ p. omega arith) (λ p. b (omega arith)) (λ p. omega arith))
+      before-grant (endsAt + f) (omega arith)
+      ∙ each-own (putFile w) (length-of-file w) (endsAt + f) 8 f (w (49 + f)) stateLength h (own-end w f h)
+      (λ i r a b. of-file-other w i (endsAt + f) r (λ p. omega arith) (λ p. omega arith) (λ p. b (omega arith)) (λ p. omega arith))
       described long-described
 
-  at-found-length : (f : ℕ) → f < 8 → getD granted (2312 + f) 0 ≡ w (76 + f)
+  at-found-length : (f : ℕ) → f < 8 → getD granted (foundLengthsAt + f) 0 ≡ w (76 + f)
   at-found-length f h =
-      before-grant (2312 + f) (omega arith)
-      ∙ each-own (putFile w) (length-of-file w) (2312 + f) 8 f (w (76 + f)) stateLength h (own-found-length w f h)
-      (λ i r a b. of-file-other w i (2312 + f) r (λ p. omega arith) (λ p. omega arith) (λ p. omega arith) (λ p. b (omega arith)))
+      before-grant (foundLengthsAt + f) (omega arith)
+      ∙ each-own (putFile w) (length-of-file w) (foundLengthsAt + f) 8 f (w (76 + f)) stateLength h (own-found-length w f h)
+      (λ i r a b. of-file-other w i (foundLengthsAt + f) r (λ p. omega arith) (λ p. omega arith) (λ p. omega arith) (λ p. b (omega arith)))
       described long-described
 
   undo-granted : undoOf granted ≡ undoFrom w
@@ -268,19 +270,19 @@ module _ (w : ℕ → ℕ) where
   undo-granted =
       let l = long-filed in
       let n = flagNumber (isSet (w 57)) in
-      let a = set filed 2320 n in
-      let b = set a 2321 (w 58) in
-      let la : length a ≡ length filed = length-set filed 2320 n in
-      let lb : length b ≡ length filed = length-set a 2321 (w 58) ∙ la in
-      let held : isSet (getD (set b 2322 (w 59)) 2320 0) ≡ isSet (w 57) =
-      ap isSet (getD-set-other b 2322 2320 (w 59) 0 (λ p. omega arith) ∙ getD-set-other a 2321 2320 (w 58) 0 (λ p. omega arith)
-      ∙ getD-set-same filed 2320 n 0 (omega arith)) ∙ flag-back (isSet (w 57)) in
-      let records : getD (set b 2322 (w 59)) 2321 0 ≡ w 58 =
-      getD-set-other b 2322 2321 (w 59) 0 (λ p. omega arith) ∙ getD-set-same a 2321 (w 58) 0 (omega arith) in
-      let bytes : getD (set b 2322 (w 59)) 2322 0 ≡ w 59 = getD-set-same b 2322 (w 59) 0 (omega arith) in
-      let offsets : tabulate (λ d. getD granted (2296 + d) 0) 16 ≡ tabulate (λ d. w
+      let a = set filed heldAt n in
+      let b = set a (heldAt + 1) (w 58) in
+      let la : length a ≡ length filed = length-set filed heldAt n in
+      let lb : length b ≡ length filed = length-set a (heldAt + 1) (w 58) ∙ la in
+      let held : isSet (getD (set b (heldAt + 2) (w 59)) heldAt 0) ≡ isSet (w 57) =
+      ap isSet (getD-set-other b (heldAt + 2) heldAt (w 59) 0 (λ p. omega arith) ∙ getD-set-other a (heldAt + 1) heldAt (w 58) 0 (λ p. omega arith)
+      ∙ getD-set-same filed heldAt n 0 (omega arith)) ∙ flag-back (isSet (w 57)) in
+      let records : getD (set b (heldAt + 2) (w 59)) (heldAt + 1) 0 ≡ w 58 =
+      getD-set-other b (heldAt + 2) (heldAt + 1) (w 59) 0 (λ p. omega arith) ∙ getD-set-same a (heldAt + 1) (w 58) 0 (omega arith) in
+      let bytes : getD (set b (heldAt + 2) (w 59)) (heldAt + 2) 0 ≡ w 59 = getD-set-same b (heldAt + 2) (w 59) 0 (omega arith) in
+      let offsets : tabulate (λ d. getD granted (foundOffsetsAt + d) 0) 16 ≡ tabulate (λ d. w
       (60 + d)) 16 = table-same _ _ 16 at-found-offset in
-      let lengths : tabulate (λ f. getD granted (2312 + f) 0) 8 ≡ tabulate (λ f. w
+      let lengths : tabulate (λ f. getD granted (foundLengthsAt + f) 0) 8 ≡ tabulate (λ f. w
       (76 + f)) 8 = table-same _ _ 8 at-found-length in
       λ i. record {
         held = held i;
@@ -298,9 +300,9 @@ module _ (w : ℕ → ℕ) where
   pub store-granted : storeOf granted ≡ storeFrom w
   unfolding storeOf storeFrom windowOf
   store-granted =
-      let files : tabulate (λ d. getD granted (2240 + d) 0) 16 ≡ tabulate (λ d. w (1 + d)) 16 = table-same _ _ 16 at-file in
-      let offsets : tabulate (λ d. getD granted (2256 + d) 0) 16 ≡ tabulate (λ d. w (17 + d)) 16 = table-same _ _ 16 at-offset in
-      let lengths : tabulate (λ f. getD granted (2272 + f) 0) 8 ≡ tabulate (λ f. w (33 + f)) 8 = table-same _ _ 8 at-length in
+      let files : tabulate (λ d. getD granted (fileNumbersAt + d) 0) 16 ≡ tabulate (λ d. w (1 + d)) 16 = table-same _ _ 16 at-file in
+      let offsets : tabulate (λ d. getD granted (offsetsAt + d) 0) 16 ≡ tabulate (λ d. w (17 + d)) 16 = table-same _ _ 16 at-offset in
+      let lengths : tabulate (λ f. getD granted (lengthsAt + f) 0) 8 ≡ tabulate (λ f. w (33 + f)) 8 = table-same _ _ 8 at-length in
       let windows : tabulate (windowOf granted) 8 ≡ tabulate (λ f. window (w (41 + f)) (w (49 + f))) 8 =
       table-same _ _ 8 (λ f h i. window (at-start f h i) (at-end f h i)) in
       λ i. record {

@@ -45,7 +45,8 @@ struct luzhanem_durable {
     /* Below: of the one thread that saves. */
     image now;          /* what is to be saved, ... */
     image saved;        /* ... and what the database has, where `known` */
-    uint32_t sums[PARTS]; /* of `saved` */
+    uint32_t sums[PARTS]; /* of `saved`, ... */
+    size_t sizes[PARTS];  /* ... and its sizes */
     bool known, fenced;
     int64_t generation; /* of the channel, where `known` */
     /* Below: under the mutex. See luzhanem_durable_sync. */
@@ -99,14 +100,17 @@ static uint8_t *bytes_of(image *i, int p) {
     return i->bytes + (p == NUMBERS ? 0 : p == OLD_BYTES ? OLD_BYTES_AT : FILES_AT + LUZHANEM_FILE_BYTES * p);
 }
 
+static bool all_zero(const uint8_t *bytes, size_t n) { return n == 0 || (bytes[0] == 0 && memcmp(bytes, bytes + 1, n - 1) == 0); }
+
 /* How many bytes of a part say something. Past the length of a file all is 0 in every store that calls have made; in one
  * that is not so the part goes on to its last byte that is not 0. Loading fills up with 0. */
 static size_t size_of(image *i, int p) {
     const uint8_t *bytes = bytes_of(i, p);
     if (p == NUMBERS) return NUMBERS_BYTES;
     if (p == OLD_BYTES) return number_at(i, CAN_UNDO) == 1 ? number_at(i, GRANT_BYTES) : 0;
-    size_t n = LUZHANEM_FILE_BYTES, length = number_at(i, LENGTHS + p);
-    while (n > length && bytes[n - 1] == 0) n--;
+    size_t length = number_at(i, LENGTHS + p), n = LUZHANEM_FILE_BYTES;
+    if (length > n || all_zero(bytes + length, n - length)) return length;
+    while (bytes[n - 1] == 0) n--;
     return n;
 }
 
@@ -135,10 +139,9 @@ static int take_image(luzhanem_durable *d) {
     return 0;
 }
 
-/* Whether the database has this part as it is in the image. */
+/* Whether the database has this part as it is in the image. A part may grow by zeros. */
 static bool has(luzhanem_durable *d, int p) {
-    return d->known && memcmp(bytes_of(&d->now, p), bytes_of(&d->saved, p), room_of(p)) == 0 &&
-           (p >= OLD_BYTES || number_at(&d->now, LENGTHS + p) == number_at(&d->saved, LENGTHS + p));
+    return d->known && memcmp(bytes_of(&d->now, p), bytes_of(&d->saved, p), room_of(p)) == 0 && size_of(&d->now, p) == d->sizes[p];
 }
 
 /* The parts that the database does not have, and in `sums` those of all. */
@@ -158,6 +161,7 @@ static void differing(luzhanem_durable *d, struct save *save, uint32_t sums[PART
 static void note(luzhanem_durable *d, const uint32_t sums[PARTS], int64_t generation) {
     d->saved = d->now;
     memcpy(d->sums, sums, sizeof d->sums);
+    for (int p = 0; p < PARTS; p++) d->sizes[p] = size_of(&d->saved, p);
     d->known = true;
     d->generation = generation;
 }

@@ -111,11 +111,11 @@ static int rounds(const char *url, const char *channel, int count, unsigned most
     static luzhanem_store s;
     uint32_t known[TASKS] = { 0 }, last[TASKS];
     unsigned all[3] = { 0 };
-    bool made = false;
+    char why[200];
+    bool made = luzhanem_durable_load(url, channel, &s, NULL) == 0 && progress(&s, known, why, sizeof why);
     srand((unsigned)time(NULL) ^ (unsigned)getpid());
     for (int i = 0; i < count; i++) {
         struct told told = { 0 };
-        char why[200];
         if (!one_kill(url, channel, most, loss, &told)) return printf("round %d: the child ended by itself\n", i), 1;
         for (int k = 0; k < 3; k++) all[k] += told.counts[k];
         made = made || told.counts[INTENT];

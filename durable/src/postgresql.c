@@ -117,7 +117,7 @@ static int results(struct postgresql *q, enum statement what, row_function *row,
 
 static int prepare(struct postgresql *q, enum statement what, const char *name, char why[WHY]) {
     if (q->prepared[what]) return 0;
-    int r = PQsendPrepare(q->db, name, sql_of(what), 0, NULL) ? results(q, what, NULL, NULL, why) : -1;
+    int r = PQsendPrepare(q->db, name, sql_of(what), 0, NULL) ? results(q, STATEMENT_COUNT, NULL, NULL, why) : -1;
     q->prepared[what] = r >= 0;
     return r;
 }
@@ -209,7 +209,7 @@ static void *connect_to(const char *where, int how, char why[WHY]) {
     int r = PQstatus(q->db) == CONNECTION_OK ? 0 : -1;
     if (r < 0) snprintf(why, WHY, "%s", PQerrorMessage(q->db));
     PQsetNoticeReceiver(q->db, note_warning, q);
-    if (r == 0) r = PQsendQuery(q->db, level_of(how)) ? results(q, LOOK, NULL, NULL, why) : -1;
+    if (r == 0) r = PQsendQuery(q->db, level_of(how)) ? results(q, STATEMENT_COUNT, NULL, NULL, why) : -1;
     if (r >= 0) return q;
     disconnect(q);
     return NULL;

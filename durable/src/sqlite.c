@@ -122,11 +122,19 @@ static int set_wal(struct sqlite *q, char why[WHY]) {
     return r;
 }
 
+/* A file without our tables is left as it is, unless they may be made. The change to WAL mode would write to an empty one. */
+static int has_tables(struct sqlite *q, char why[WHY]) {
+    int r = pragma(q->db, "SELECT count(*) FROM sqlite_master WHERE name IN ('luzhanem_channel', 'luzhanem_part')", "2", why);
+    if (r == SQLITE_ABORT) snprintf(why, WHY, "the file has no channels");
+    return r;
+}
+
 /* Small pages: a save of a few bytes writes few of them. The log is folded into the file every 4 MB. */
 static int connect_writer(struct sqlite *q, const char *path, int how, char why[WHY]) {
     int r = open_file(q, path, SQLITE_OPEN_READWRITE | (how & LUZHANEM_DURABLE_CREATE ? SQLITE_OPEN_CREATE : 0), why);
     if (r == SQLITE_OK && how & LUZHANEM_DURABLE_CREATE) r = pragma(q->db, "PRAGMA page_size = 1024", NULL, why);
     if (r == SQLITE_OK) r = check_file(q, why);
+    if (r == SQLITE_OK && !(how & LUZHANEM_DURABLE_CREATE)) r = has_tables(q, why);
     if (r == SQLITE_OK) r = set_wal(q, why);
     if (r == SQLITE_OK) r = pragma(q->db, "PRAGMA wal_autocheckpoint = 4000", NULL, why);
     const char *level = how & LUZHANEM_DURABLE_OFF      ? "PRAGMA synchronous = OFF"

@@ -96,12 +96,12 @@ static void make(const char *folder) {
     const char *names[] = { "still.db", "log.db" };
     for (int i = 0; i < 2; i++) {
         must(luzhanem_fresh(&a, sizeof a, NULL), "fresh");
-        must(luzhanem_durable_open(&d, url_in(folder, names[i]), "one", LUZHANEM_DURABLE_CREATE, &a, NULL), "open");
-        for (uint32_t v = 1; v <= 2; v++) {
+        for (uint32_t v = 1; v <= 2; v++) { /* the first close folds the log into the file */
+            must(luzhanem_durable_open(&d, url_in(folder, names[i]), "one", LUZHANEM_DURABLE_CREATE, &a, NULL), "open");
             write_at(&a, 1, v);
             must(luzhanem_durable_sync(d), "sync");
+            if (v == 1 || i == 0) luzhanem_durable_close(d);
         }
-        if (i == 0) luzhanem_durable_close(d);
     }
     unlink(path_in(folder, "log.db-shm"));
     _exit(0); /* the second is left as a killed host leaves it */
@@ -166,6 +166,8 @@ static void nowhere(const char *folder) {
     refused("no folder", LUZHANEM_DURABLE_E_UNREACHABLE, url_in(folder, "no/none.db"), LUZHANEM_DURABLE_CREATE);
     write_file(path_in(folder, "empty.db"), (const uint8_t *)"", 0);
     refused("an empty file", LUZHANEM_DURABLE_E_UNREACHABLE, url_in(folder, "empty.db"), 0);
+    struct stat empty;
+    check(stat(path_in(folder, "empty.db"), &empty) == 0 && empty.st_size == 0, "an empty file: it stays empty", "");
     write_file(path_in(folder, "text.db"), (const uint8_t *)"this is no database, but a text that somebody put there ..", 58);
     refused("another file", LUZHANEM_DURABLE_E_UNREACHABLE, url_in(folder, "text.db"), LUZHANEM_DURABLE_CREATE);
 }

@@ -128,8 +128,17 @@ static uint32_t sum_of(int p, const uint8_t *bytes, size_t n, const uint32_t sum
 
 /* ---- a save */
 
+/* Brings both sides of the copy into the caches before the lock is taken. */
+static void warm(luzhanem_durable *d) {
+    memset(&d->now, 0, sizeof d->now);
+#ifdef __GNUC__
+    for (size_t i = 0; i < sizeof *d->store; i += 64) __builtin_prefetch((const char *)d->store + i);
+#endif
+}
+
 /* The image of the store as it is. Old bytes that the last grant did not use say nothing, and become 0. */
 static int take_image(luzhanem_durable *d) {
+    warm(d);
     if (d->lock.take) d->lock.take(d->lock.context);
     int r = luzhanem_save(d->store, &d->now.whole);
     if (d->lock.give) d->lock.give(d->lock.context);
@@ -236,7 +245,7 @@ static int save(luzhanem_durable *d, char why[WHY]) {
     return r;
 }
 
-/* Lets those whom the last save set free make their next commit and come along, as long as more of them come. */
+/* Group commit: lets the threads that the last save set free make their next commit and come along, as long as more come. */
 static void gather(luzhanem_durable *d) {
     uint64_t before;
     do {

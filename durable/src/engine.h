@@ -18,11 +18,9 @@ enum { OLD_BYTES = 8, NUMBERS = 9, PARTS = 10 };
     X(GET, "SELECT part, bytes, checksum FROM luzhanem_part WHERE channel = $1 ORDER BY part")                          \
     X(PUT, "INSERT INTO luzhanem_part (channel, part, bytes, checksum) VALUES ($1, $2, $3, $4)")                        \
     X(MAKE_CHANNELS, "CREATE TABLE IF NOT EXISTS luzhanem_channel (name TEXT PRIMARY KEY, format INTEGER NOT NULL, "     \
-                     "generation BIGINT NOT NULL, holder TEXT NOT NULL)")                                               \
-    X(MAKE_PARTS, "CREATE TABLE IF NOT EXISTS luzhanem_part (channel TEXT NOT NULL, part INTEGER NOT NULL, "             \
-                  "bytes BYTEA NOT NULL, checksum BIGINT NOT NULL, PRIMARY KEY (channel, part))")
-/* Each engine has its own: begin to make tables, to write, to read one state; and those of a save. */
-#define OWN_STATEMENTS(X) X(BEGIN_MAKE, 0) X(BEGIN_WRITE, 0) X(BEGIN_READ, 0) X(LOCK_MAKING, 0) X(HOLD, 0) X(REPLACE, 0)
+                     "generation BIGINT NOT NULL, holder TEXT NOT NULL)")
+/* Each engine has its own: begin to make tables, to write, to read one state; the table of parts; and those of a save. */
+#define OWN_STATEMENTS(X) X(MAKE_PARTS, 0) X(BEGIN_MAKE, 0) X(BEGIN_WRITE, 0) X(BEGIN_READ, 0) X(LOCK_MAKING, 0) X(HOLD, 0) X(REPLACE, 0)
 #define STATEMENT_NAME(name, sql) name,
 enum statement { STATEMENTS(STATEMENT_NAME) OWN_STATEMENTS(STATEMENT_NAME) STATEMENT_COUNT };
 #undef STATEMENT_NAME

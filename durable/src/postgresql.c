@@ -30,8 +30,19 @@ static const char save_sql[] =
     "ON CONFLICT (channel, part) DO UPDATE SET bytes = excluded.bytes, checksum = excluded.checksum) "
     "SELECT 0, name, 0 FROM held";
 
+/* The parts stay in their rows, compressed where the server can, with room beside them for the next version: a save then
+ * writes few bytes and leaves the index as it is. */
+static const char make_parts_sql[] =
+    "DO $$ BEGIN IF to_regclass('luzhanem_part') IS NULL THEN "
+    "CREATE TABLE luzhanem_part (channel TEXT NOT NULL, part INTEGER NOT NULL, bytes BYTEA NOT NULL, "
+    "checksum BIGINT NOT NULL, PRIMARY KEY (channel, part)) WITH (fillfactor = 50); "
+    "ALTER TABLE luzhanem_part ALTER bytes SET STORAGE MAIN; "
+    "BEGIN ALTER TABLE luzhanem_part ALTER bytes SET COMPRESSION lz4; EXCEPTION WHEN OTHERS THEN NULL; END; "
+    "END IF; END $$";
+
 static const char *sql_of(enum statement what) {
     switch (what) {
+    case MAKE_PARTS: return make_parts_sql;
     case BEGIN_MAKE:
     case BEGIN_WRITE: return "BEGIN ISOLATION LEVEL READ COMMITTED READ WRITE";
     case BEGIN_READ: return "BEGIN ISOLATION LEVEL REPEATABLE READ READ ONLY";
@@ -193,11 +204,13 @@ static int save(void *at, const struct save *save, char why[WHY]) {
 
 /* ---- connecting */
 
-static const char *level_of(int how) {
+/* With a plan that is made once a save takes the server half the time. */
+#define GENERIC "; SET plan_cache_mode = force_generic_plan"
+static const char *settings_of(int how) {
     return how < 0                        ? "SET default_transaction_read_only = on"
-           : how & LUZHANEM_DURABLE_OFF    ? "SET synchronous_commit = off"
-           : how & LUZHANEM_DURABLE_NORMAL ? "SET synchronous_commit = local"
-                                           : "SET synchronous_commit = on";
+           : how & LUZHANEM_DURABLE_OFF    ? "SET synchronous_commit = off" GENERIC
+           : how & LUZHANEM_DURABLE_NORMAL ? "SET synchronous_commit = local" GENERIC
+                                           : "SET synchronous_commit = on" GENERIC;
 }
 
 static void *connect_to(const char *where, int how, char why[WHY]) {
@@ -209,7 +222,7 @@ static void *connect_to(const char *where, int how, char why[WHY]) {
     int r = PQstatus(q->db) == CONNECTION_OK ? 0 : -1;
     if (r < 0) snprintf(why, WHY, "%s", PQerrorMessage(q->db));
     PQsetNoticeReceiver(q->db, note_warning, q);
-    if (r == 0) r = PQsendQuery(q->db, level_of(how)) ? results(q, STATEMENT_COUNT, NULL, NULL, why) : -1;
+    if (r == 0) r = PQsendQuery(q->db, settings_of(how)) ? results(q, STATEMENT_COUNT, NULL, NULL, why) : -1;
     if (r >= 0) return q;
     disconnect(q);
     return NULL;

@@ -21,6 +21,9 @@ struct sqlite {
 
 static const char *sql_of(enum statement what) {
     switch (what) {
+    case MAKE_PARTS:
+        return "CREATE TABLE IF NOT EXISTS luzhanem_part (channel TEXT NOT NULL, part INTEGER NOT NULL, bytes BLOB NOT NULL, "
+               "checksum INTEGER NOT NULL, PRIMARY KEY (channel, part))";
     case BEGIN_MAKE:
     case BEGIN_WRITE: return "BEGIN IMMEDIATE";
     case BEGIN_READ: return "BEGIN";

@@ -418,6 +418,18 @@ static int read_channel(luzhanem_durable *d, uint32_t sums[PARTS], char why[WHY]
     return get_parts(d, sums, why);
 }
 
+/* The answer to open's COMMIT did not come, and it may have been made. Then the channel has our holder and the generation that we
+ * gave it, and nobody has saved since. A save of no part finds out, and waits for the disk as every save does. */
+static int confirm(luzhanem_durable *d) {
+    struct save save = { .channel = d->channel, .holder = d->holder, .generation = d->generation };
+    char why[WHY] = "";
+    drop(d);
+    d->db = d->engine->connect(d->where, d->how & ~LUZHANEM_DURABLE_CREATE, why);
+    if (!d->db || d->engine->save(d->db, &save, why) <= 0) return -1;
+    d->generation++;
+    return 0;
+}
+
 /* In one transaction the channel becomes ours, and the image what it has. A store in memory of its own judges it before
  * the COMMIT. */
 static int take_over(luzhanem_durable *d, luzhanem_store *s) {
@@ -432,7 +444,7 @@ static int take_over(luzhanem_durable *d, luzhanem_store *s) {
     r = there ? deliver(d, judge) : 0;
     free(judge);
     if (r < 0) return r;
-    if (run(d, COMMIT, NULL, NULL, NULL, why) < 0) return failed(LUZHANEM_DURABLE_E_UNREACHABLE, why);
+    if (run(d, COMMIT, NULL, NULL, NULL, why) < 0 && confirm(d) < 0) return failed(LUZHANEM_DURABLE_E_UNREACHABLE, why);
     note(d, sums, d->generation);
     return there ? deliver(d, s) : 0;
 }

@@ -69,9 +69,10 @@ typedef struct luzhanem_durable luzhanem_durable;
 /* Opens a channel of the database at url, "sqlite:PATH" or "postgresql://..", and takes it over from whoever holds it:
  * from now on a sync of theirs answers FENCED. The store becomes what is saved there, with no transaction open. A
  * channel that is new, with CREATE, is made from the store as it is (luzhanem_fresh made it). After an error *d is NULL, and
- * store and channel are as before; where the answer to the database's own COMMIT was lost, the channel may already be
- * ours, and opening it again is right. lock is NULL where there is one thread. Open before other threads use the
- * store: the lock is not taken. Store and lock have to outlive *d. */
+ * store and channel are as before. One exception: where the answer to the database's own COMMIT is lost, open asks
+ * again, and if that is not answered either, the channel may have been taken; opening it again is right. lock is
+ * NULL where there is one thread. Open before other threads use the store: the lock is not taken. Store and lock have
+ * to outlive *d. */
 int luzhanem_durable_open(luzhanem_durable **d, const char *url, const char *channel, int how, luzhanem_store *s,
                           const luzhanem_durable_lock *lock);
 

@@ -7,3 +7,4 @@ pub mod Rejuvenated
 pub mod Back
 pub mod Lives
 pub mod Holds
+pub mod Loaded

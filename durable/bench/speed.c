@@ -1,6 +1,7 @@
-/* speed URL THREADS SECONDS [normal|off]: durable commits per second, each of one append of 16 bytes. Prints commits and saves per
- *     second, the median time for which a save holds the lock, in ns, and the bytes that the process wrote for a save.
- * speed image: how long luzhanem_save takes, with eight transactions open, in the caches and out of them. */
+/* speed URL THREADS SECONDS [normal|off]: durable commits per second, each of one append of 16 bytes. Prints
+ * commits and saves per second, the median time for which a save holds the lock, in ns, and the bytes that
+ * the process wrote for a save. speed image: how long luzhanem_save takes, with eight transactions open, in
+ * the caches and out of them. */
 #include "luzhanem_durable.h"
 #include <pthread.h>
 #include <stdatomic.h>
@@ -36,7 +37,8 @@ static void give_lock(void *c) {
 }
 
 static void must(int r) {
-    if (r < 0) fprintf(stderr, "%d %s\n", r, r < -100 ? luzhanem_durable_error() : luzhanem_strerror(r)), exit(1);
+    if (r < 0)
+        fprintf(stderr, "%d %s\n", r, r < -100 ? luzhanem_durable_error() : luzhanem_strerror(r)), exit(1);
 }
 
 static void *task(void *at) {
@@ -98,7 +100,9 @@ int main(int n, char **v) {
     if (n == 2 && strcmp(v[1], "image") == 0) return time_image(), 0;
     if (n < 4) return fprintf(stderr, "speed URL THREADS SECONDS [normal|off]\n"), 2;
     luzhanem_durable_lock l = { take_lock, give_lock, NULL };
-    int how = LUZHANEM_DURABLE_CREATE | (n < 5 ? 0 : strcmp(v[4], "off") == 0 ? LUZHANEM_DURABLE_OFF : LUZHANEM_DURABLE_NORMAL);
+    int how = LUZHANEM_DURABLE_CREATE | (n < 5                      ? 0
+                                         : strcmp(v[4], "off") == 0 ? LUZHANEM_DURABLE_OFF
+                                                                    : LUZHANEM_DURABLE_NORMAL);
     pthread_t threads[8];
     size_t count = (size_t)atoi(v[2]);
     long all = 0;
@@ -115,8 +119,9 @@ int main(int n, char **v) {
         all += (long)got;
     }
     double seconds = (double)(now() - began) / 1e9;
-    printf("%.0f commits/s, %.0f saves/s, lock %lld ns, %lld bytes a save\n", (double)all / seconds, (double)saves / seconds,
-           median(held, (size_t)(saves < SAMPLES ? saves : SAMPLES)), saves ? (written() - before) / saves : 0);
+    printf("%.0f commits/s, %.0f saves/s, lock %lld ns, %lld bytes a save\n", (double)all / seconds,
+           (double)saves / seconds, median(held, (size_t)(saves < SAMPLES ? saves : SAMPLES)),
+           saves ? (written() - before) / saves : 0);
     luzhanem_durable_close(d);
     return 0;
 }

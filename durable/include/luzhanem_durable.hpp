@@ -30,12 +30,14 @@ private:
     int code_;
 };
 
-// A channel that is open for saves; closed at the end of its life. The store has to outlive it, and is not moved meanwhile.
+// A channel that is open for saves; closed at the end of its life. The store has to outlive it, and is not
+// moved meanwhile.
 template <class Mutex = std::mutex> class durable {
 public:
     durable(shared_store<Mutex> &s, const char *url, const char *channel, int how = 0) : store_(&s) {
         const ::luzhanem_durable_lock lock = { take, give, this };
-        s.lock()->record(sink()); // a log has no line for what open loads, so recording ends, as with store::load
+        s.lock()->record(
+            sink()); // a log has no line for what open loads, so recording ends, as with store::load
         const int r = ::luzhanem_durable_open(&d_, url, channel, how, s.lock()->get(), &lock);
         if (r < 0) throw durable_error(r);
     }
@@ -45,8 +47,8 @@ public:
 
     // True when everything committed before the call is on disk. Call it without the store's lock.
     answer sync() noexcept { return answer(::luzhanem_durable_sync(d_)); }
-    // A commit and its sync: the commit's answer where it is refused, or where both are granted; else the sync's. The
-    // commit is then granted in memory all the same.
+    // A commit and its sync: the commit's answer where it is refused, or where both are granted; else the
+    // sync's. The commit is then granted in memory all the same.
     answer commit(std::size_t t, std::size_t minute) noexcept {
         const answer granted = store_->lock()->commit(t, minute);
         if (!granted) return granted;

@@ -1,5 +1,5 @@
-/* Saves what is committed in a store, as ten parts in a database. What is committed is decided by luzhanem_save, which is
- * proved; this file moves the bytes of its image, whose form is docs/IMAGE.md. */
+/* Saves what is committed in a store, as ten parts in a database. What is committed is decided by
+ * luzhanem_save, which is proved; this file moves the bytes of its image, whose form is docs/IMAGE.md. */
 #include "engine.h"
 #include "luzhanem_durable.h"
 #include <inttypes.h>
@@ -20,9 +20,9 @@ enum { HOLDER = 32, TRIES = 3 };
 
 /* Where things are in the bytes of an image. */
 enum {
-    LENGTHS = 33,      /* the committed length of each file, ... */
-    CAN_UNDO = 57,     /* ... 1 where the last grant can be undone, ... */
-    GRANT_BYTES = 59,  /* ... and how many bytes its writes have: numbers, counted from 0 */
+    LENGTHS = 33,     /* the committed length of each file, ... */
+    CAN_UNDO = 57,    /* ... 1 where the last grant can be undone, ... */
+    GRANT_BYTES = 59, /* ... and how many bytes its writes have: numbers, counted from 0 */
     NUMBERS_BYTES = 552,
     FILES_AT = NUMBERS_BYTES,
     OLD_BYTES_AT = FILES_AT + LUZHANEM_FILES * LUZHANEM_FILE_BYTES
@@ -43,8 +43,8 @@ struct luzhanem_durable {
     luzhanem_store *store;
     luzhanem_durable_lock lock;
     /* Below: of the one thread that saves. */
-    image now;          /* what is to be saved, ... */
-    image saved;        /* ... and what the database has, where `known` */
+    image now;            /* what is to be saved, ... */
+    image saved;          /* ... and what the database has, where `known` */
     uint32_t sums[PARTS]; /* of `saved`, ... */
     size_t sizes[PARTS];  /* ... and its sizes */
     bool known, fenced;
@@ -64,7 +64,8 @@ static _Thread_local char error[WHY + 128];
 
 /* Leaves a sentence for luzhanem_durable_error, on one line. */
 static int failed(int answer, const char *why) {
-    snprintf(error, sizeof error, "%s%s%s", luzhanem_durable_strerror(answer), why && *why ? ": " : "", why ? why : "");
+    snprintf(error, sizeof error, "%s%s%s", luzhanem_durable_strerror(answer), why && *why ? ": " : "",
+             why ? why : "");
     for (char *c = error; *c; c++)
         if (*c == '\n' || *c == '\r' || *c == '\t') *c = c[1] ? ' ' : 0;
     return answer;
@@ -92,7 +93,9 @@ const char *luzhanem_durable_errname(int answer) {
 
 /* ---- parts of an image */
 
-static size_t number_at(const image *i, int k) { return (size_t)i->bytes[2 * k] | (size_t)i->bytes[2 * k + 1] << 8; }
+static size_t number_at(const image *i, int k) {
+    return (size_t)i->bytes[2 * k] | (size_t)i->bytes[2 * k + 1] << 8;
+}
 
 static size_t room_of(int p) { return p == NUMBERS ? NUMBERS_BYTES : LUZHANEM_FILE_BYTES; }
 
@@ -100,10 +103,12 @@ static uint8_t *bytes_of(image *i, int p) {
     return i->bytes + (p == NUMBERS ? 0 : p == OLD_BYTES ? OLD_BYTES_AT : FILES_AT + LUZHANEM_FILE_BYTES * p);
 }
 
-static bool all_zero(const uint8_t *bytes, size_t n) { return n == 0 || (bytes[0] == 0 && memcmp(bytes, bytes + 1, n - 1) == 0); }
+static bool all_zero(const uint8_t *bytes, size_t n) {
+    return n == 0 || (bytes[0] == 0 && memcmp(bytes, bytes + 1, n - 1) == 0);
+}
 
-/* How many bytes of a part say something. Past the length of a file all is 0 in every store that calls have made; in one
- * that is not so the part goes on to its last byte that is not 0. Loading fills up with 0. */
+/* How many bytes of a part say something. Past the length of a file all is 0 in every store that calls have
+ * made; in one that is not so the part goes on to its last byte that is not 0. Loading fills up with 0. */
 static size_t size_of(image *i, int p) {
     const uint8_t *bytes = bytes_of(i, p);
     if (p == NUMBERS) return NUMBERS_BYTES;
@@ -114,8 +119,8 @@ static size_t size_of(image *i, int p) {
     return n;
 }
 
-/* CRC-32 of a part's number and bytes. The part with the numbers is the last, and its sum goes over the sums of the others
- * too: parts of two different saves do not pass for one. */
+/* CRC-32 of a part's number and bytes. The part with the numbers is the last, and its sum goes over the sums
+ * of the others too: parts of two different saves do not pass for one. */
 static uint32_t sum_of(int p, const uint8_t *bytes, size_t n, const uint32_t sums[PARTS]) {
     uint8_t low[4] = { (uint8_t)p };
     uLong sum = crc32(crc32(0, Z_NULL, 0), low, 1);
@@ -150,7 +155,8 @@ static int take_image(luzhanem_durable *d) {
 
 /* Whether the database has this part as it is in the image. A part may grow by zeros. */
 static bool has(luzhanem_durable *d, int p) {
-    return d->known && memcmp(bytes_of(&d->now, p), bytes_of(&d->saved, p), room_of(p)) == 0 && size_of(&d->now, p) == d->sizes[p];
+    return d->known && memcmp(bytes_of(&d->now, p), bytes_of(&d->saved, p), room_of(p)) == 0 &&
+           size_of(&d->now, p) == d->sizes[p];
 }
 
 /* The parts that the database does not have, and in `sums` those of all. */
@@ -175,7 +181,8 @@ static void note(luzhanem_durable *d, const uint32_t sums[PARTS], int64_t genera
     d->generation = generation;
 }
 
-static int run(luzhanem_durable *d, enum statement what, const char *a, const char *b, const char *c, char why[WHY]) {
+static int run(luzhanem_durable *d, enum statement what, const char *a, const char *b, const char *c,
+               char why[WHY]) {
     struct value v[PARAMETERS] = { { a, NULL, 0 }, { b, NULL, 0 }, { c, NULL, 0 } };
     return d->engine->run(d->db, what, v, NULL, NULL, why);
 }
@@ -195,7 +202,8 @@ struct looked {
 static void looked_row(void *at, int64_t format, const void *holder, size_t n, int64_t generation) {
     struct looked *k = at;
     k->format = format, k->generation = generation;
-    snprintf(k->holder, sizeof k->holder, "%.*s", (int)(n < HOLDER ? n : HOLDER), holder ? (const char *)holder : "");
+    snprintf(k->holder, sizeof k->holder, "%.*s", (int)(n < HOLDER ? n : HOLDER),
+             holder ? (const char *)holder : "");
 }
 
 /* The channel's row: 1, or 0 where there is none, or -1. */
@@ -216,9 +224,10 @@ static int ready(luzhanem_durable *d, char why[WHY]) {
     return 0;
 }
 
-/* Saves the image. An answer that was lost leaves it open what the database has, so after a failure nothing is known of
- * it: the next save looks at the channel's generation and writes every part. A save that was given up can then end only
- * before the next one, which finds another generation and looks again, or never: it finds another generation itself. */
+/* Saves the image. An answer that was lost leaves it open what the database has, so after a failure nothing
+ * is known of it: the next save looks at the channel's generation and writes every part. A save that was
+ * given up can then end only before the next one, which finds another generation and looks again, or never:
+ * it finds another generation itself. */
 static int save_image(luzhanem_durable *d, char why[WHY]) {
     struct save save;
     uint32_t sums[PARTS];
@@ -245,7 +254,8 @@ static int save(luzhanem_durable *d, char why[WHY]) {
     return r;
 }
 
-/* Group commit: lets the threads that the last save set free make their next commit and come along, as long as more come. */
+/* Group commit: lets the threads that the last save set free make their next commit and come along, as long
+ * as more come. */
 static void gather(luzhanem_durable *d) {
     uint64_t before;
     do {
@@ -256,12 +266,13 @@ static void gather(luzhanem_durable *d) {
     } while (d->drawn != before);
 }
 
-/* Each sync draws a ticket, after its caller's commit. The thread that finds no save under way makes one. `covered`, the last
- * ticket drawn so far, is read before the image is taken, so the image has the commits of all tickets up to it; tickets
- * that are drawn later wait for the next save. `busy` lets one save run at a time, so no older image is written after a
- * newer one. `tried` and `safe` are the last tickets covered by a save that ended, and by one that succeeded; both grow. A
- * thread leaves when `tried` has reached its ticket: with 0 where `safe` has too, and otherwise with the last save's
- * answer, since no save that covered the ticket succeeded. */
+/* Each sync draws a ticket, after its caller's commit. The thread that finds no save under way makes one.
+ * `covered`, the last ticket drawn so far, is read before the image is taken, so the image has the commits of
+ * all tickets up to it; tickets that are drawn later wait for the next save. `busy` lets one save run at a
+ * time, so no older image is written after a newer one. `tried` and `safe` are the last tickets covered by a
+ * save that ended, and by one that succeeded; both grow. A thread leaves when `tried` has reached its ticket:
+ * with 0 where `safe` has too, and otherwise with the last save's answer, since no save that covered the
+ * ticket succeeded. */
 int luzhanem_durable_sync(luzhanem_durable *d) {
     if (!d) return failed(LUZHANEM_DURABLE_E_BAD_ARGUMENT, NULL);
     pthread_mutex_lock(&d->mutex);
@@ -302,7 +313,8 @@ struct reading {
 
 static void part_row(void *at, int64_t p, const void *bytes, size_t n, int64_t sum) {
     struct reading *k = at;
-    if (k->other || p != k->next || p >= PARTS || n > room_of((int)p) || sum != sum_of((int)p, bytes, n, k->sums)) {
+    if (k->other || p != k->next || p >= PARTS || n > room_of((int)p) ||
+        sum != sum_of((int)p, bytes, n, k->sums)) {
         k->other = true;
         return;
     }
@@ -317,15 +329,20 @@ static int get_parts(luzhanem_durable *d, uint32_t sums[PARTS], char why[WHY]) {
     struct reading k = { .to = &d->now };
     struct value v[PARAMETERS] = { { d->channel, NULL, 0 } };
     memset(&d->now, 0, sizeof d->now);
-    if (d->engine->run(d->db, GET, v, part_row, &k, why) < 0) return failed(LUZHANEM_DURABLE_E_UNREACHABLE, why);
-    if (k.other || k.next != PARTS) return failed(LUZHANEM_DURABLE_E_DAMAGED, k.other ? "a part is not as it was written" : "a part is missing");
+    if (d->engine->run(d->db, GET, v, part_row, &k, why) < 0)
+        return failed(LUZHANEM_DURABLE_E_UNREACHABLE, why);
+    if (k.other || k.next != PARTS)
+        return failed(LUZHANEM_DURABLE_E_DAMAGED,
+                      k.other ? "a part is not as it was written" : "a part is missing");
     for (int p = 0; p < PARTS; p++)
-        if (k.sizes[p] != size_of(&d->now, p)) return failed(LUZHANEM_DURABLE_E_DAMAGED, "a part has another size");
+        if (k.sizes[p] != size_of(&d->now, p))
+            return failed(LUZHANEM_DURABLE_E_DAMAGED, "a part has another size");
     memcpy(sums, k.sums, sizeof k.sums);
     return 0;
 }
 
-/* The store becomes the image, where that is one: the store itself judges its ranges, and is left where it refuses. */
+/* The store becomes the image, where that is one: the store itself judges its ranges, and is left where it
+ * refuses. */
 static int deliver(luzhanem_durable *d, luzhanem_store *s) {
     int r = luzhanem_load(s, &d->now.whole);
     return r < 0 ? failed(r, "the channel's numbers") : 0;
@@ -356,7 +373,8 @@ static luzhanem_durable *handle(const struct engine *engine, const char *url, co
     pthread_cond_init(&d->ended, NULL);
     d->engine = engine, d->how = how;
     d->where = strdup(url + engine->skip), d->channel = strdup(channel);
-    if (!d->where || !d->channel || getentropy(random, sizeof random) != 0) return luzhanem_durable_close(d), NULL;
+    if (!d->where || !d->channel || getentropy(random, sizeof random) != 0)
+        return luzhanem_durable_close(d), NULL;
     for (size_t i = 0; i < sizeof random; i++) snprintf(d->holder + 2 * i, 3, "%02x", random[i]);
     return d;
 }
@@ -368,7 +386,9 @@ static int prepare(luzhanem_durable **out, const char *url, const char *channel,
     if (!url || !channel || !*channel || strlen(channel) > LUZHANEM_DURABLE_NAME_BYTES)
         return failed(LUZHANEM_DURABLE_E_BAD_ARGUMENT, "a URL, and a name of 1 to 200 bytes");
     const struct engine *engine = engine_of(url);
-    if (!engine) return failed(LUZHANEM_DURABLE_E_BAD_ARGUMENT, "neither sqlite:PATH nor postgresql://.., or built without it");
+    if (!engine)
+        return failed(LUZHANEM_DURABLE_E_BAD_ARGUMENT,
+                      "neither sqlite:PATH nor postgresql://.., or built without it");
     luzhanem_durable *d = handle(engine, url, channel, how);
     if (!d) return failed(LUZHANEM_DURABLE_E_NO_MEMORY, NULL);
     d->db = engine->connect(d->where, how, why);
@@ -377,8 +397,8 @@ static int prepare(luzhanem_durable **out, const char *url, const char *channel,
     return failed(LUZHANEM_DURABLE_E_UNREACHABLE, why);
 }
 
-/* Begins a transaction in which the channel is ours, if it is there: 1, or 0, or an answer below 0. From then on no save of
- * the former holder succeeds. */
+/* Begins a transaction in which the channel is ours, if it is there: 1, or 0, or an answer below 0. From then
+ * on no save of the former holder succeeds. */
 static int seize(luzhanem_durable *d, char why[WHY]) {
     bool create = d->how & LUZHANEM_DURABLE_CREATE;
     int r = run(d, create ? BEGIN_MAKE : BEGIN_WRITE, NULL, NULL, NULL, why);
@@ -400,7 +420,10 @@ static int make_channel(luzhanem_durable *d, uint32_t sums[PARTS], char why[WHY]
         char number[8], sum[24];
         snprintf(number, sizeof number, "%d", save.parts[i].number);
         snprintf(sum, sizeof sum, "%" PRId64, save.parts[i].checksum);
-        struct value v[PARAMETERS] = { { d->channel, NULL, 0 }, { number, NULL, 0 }, { NULL, save.parts[i].bytes, save.parts[i].n }, { sum, NULL, 0 } };
+        struct value v[PARAMETERS] = { { d->channel, NULL, 0 },
+                                       { number, NULL, 0 },
+                                       { NULL, save.parts[i].bytes, save.parts[i].n },
+                                       { sum, NULL, 0 } };
         r = d->engine->run(d->db, PUT, v, NULL, NULL, why);
     }
     d->generation = 1;
@@ -418,8 +441,9 @@ static int read_channel(luzhanem_durable *d, uint32_t sums[PARTS], char why[WHY]
     return get_parts(d, sums, why);
 }
 
-/* The answer to open's COMMIT did not come, and it may have been made. Then the channel has our holder and the generation that we
- * gave it, and nobody has saved since. A save of no part finds out, and waits for the disk as every save does. */
+/* The answer to open's COMMIT did not come, and it may have been made. Then the channel has our holder and
+ * the generation that we gave it, and nobody has saved since. A save of no part finds out, and waits for the
+ * disk as every save does. */
 static int confirm(luzhanem_durable *d) {
     struct save save = { .channel = d->channel, .holder = d->holder, .generation = d->generation };
     char why[WHY] = "";
@@ -430,8 +454,8 @@ static int confirm(luzhanem_durable *d) {
     return 0;
 }
 
-/* In one transaction the channel becomes ours, and the image what it has. A store in memory of its own judges it before
- * the COMMIT. */
+/* In one transaction the channel becomes ours, and the image what it has. A store in memory of its own judges
+ * it before the COMMIT. */
 static int take_over(luzhanem_durable *d, luzhanem_store *s) {
     uint32_t sums[PARTS];
     char why[WHY] = "";
@@ -444,13 +468,14 @@ static int take_over(luzhanem_durable *d, luzhanem_store *s) {
     r = there ? deliver(d, judge) : 0;
     free(judge);
     if (r < 0) return r;
-    if (run(d, COMMIT, NULL, NULL, NULL, why) < 0 && confirm(d) < 0) return failed(LUZHANEM_DURABLE_E_UNREACHABLE, why);
+    if (run(d, COMMIT, NULL, NULL, NULL, why) < 0 && confirm(d) < 0)
+        return failed(LUZHANEM_DURABLE_E_UNREACHABLE, why);
     note(d, sums, d->generation);
     return there ? deliver(d, s) : 0;
 }
 
-int luzhanem_durable_open(luzhanem_durable **out, const char *url, const char *channel, int how, luzhanem_store *s,
-                          const luzhanem_durable_lock *lock) {
+int luzhanem_durable_open(luzhanem_durable **out, const char *url, const char *channel, int how,
+                          luzhanem_store *s, const luzhanem_durable_lock *lock) {
     luzhanem_durable *d;
     if (!out) return failed(LUZHANEM_DURABLE_E_BAD_ARGUMENT, NULL);
     *out = NULL;
@@ -484,8 +509,10 @@ int luzhanem_durable_load(const char *url, const char *channel, luzhanem_store *
     if (!s) return failed(LUZHANEM_DURABLE_E_BAD_ARGUMENT, NULL);
     int r = prepare(&d, url, channel, -1);
     if (r < 0) return r;
-    r = run(d, BEGIN_READ, NULL, NULL, NULL, why) < 0 ? failed(LUZHANEM_DURABLE_E_UNREACHABLE, why) : read_channel(d, sums, why);
-    if (drop(d) < 0 && r == 0) r = failed(LUZHANEM_DURABLE_E_UNREACHABLE, "the file changed while it was read");
+    r = run(d, BEGIN_READ, NULL, NULL, NULL, why) < 0 ? failed(LUZHANEM_DURABLE_E_UNREACHABLE, why)
+                                                      : read_channel(d, sums, why);
+    if (drop(d) < 0 && r == 0)
+        r = failed(LUZHANEM_DURABLE_E_UNREACHABLE, "the file changed while it was read");
     if (r == 0) r = deliver(d, s);
     if (r == 0 && generation) *generation = d->generation;
     luzhanem_durable_close(d);
@@ -501,7 +528,8 @@ static void list_row(void *at, int64_t format, const void *name, size_t n, int64
     struct listing *k = at;
     char text[LUZHANEM_DURABLE_NAME_BYTES + 1];
     (void)format;
-    snprintf(text, sizeof text, "%.*s", (int)(n < sizeof text ? n : sizeof text - 1), name ? (const char *)name : "");
+    snprintf(text, sizeof text, "%.*s", (int)(n < sizeof text ? n : sizeof text - 1),
+             name ? (const char *)name : "");
     if (k->visit) k->visit(k->context, text, generation);
 }
 

@@ -10,7 +10,9 @@
 #include <string.h>
 #include <time.h>
 
-enum { LIMIT = 5000 }; /* milliseconds that a statement may take: a server that is stopped must not stop the host */
+enum {
+    LIMIT = 5000
+}; /* milliseconds that a statement may take: a server that is stopped must not stop the host */
 
 struct postgresql {
     PGconn *db;
@@ -19,8 +21,9 @@ struct postgresql {
     uint8_t *arrays;   /* room for those of a save */
 };
 
-/* A save is one statement, so it is one transaction and one round trip. The parts go as three arrays. A save that the host has
- * given up may still run in the server: once a later one has ended it finds another generation, and changes nothing. */
+/* A save is one statement, so it is one transaction and one round trip. The parts go as three arrays. A save
+ * that the host has given up may still run in the server: once a later one has ended it finds another
+ * generation, and changes nothing. */
 static const char save_sql[] =
     "WITH held AS (UPDATE luzhanem_channel SET generation = generation + 1 "
     "WHERE name = $1 AND holder = $2 AND generation = $3 RETURNING name), "
@@ -30,8 +33,8 @@ static const char save_sql[] =
     "ON CONFLICT (channel, part) DO UPDATE SET bytes = excluded.bytes, checksum = excluded.checksum) "
     "SELECT 0, name, 0 FROM held";
 
-/* The parts stay in their rows, compressed where the server can, with room beside them for the next version: a save then
- * writes few bytes and leaves the index as it is. */
+/* The parts stay in their rows, compressed where the server can, with room beside them for the next version:
+ * a save then writes few bytes and leaves the index as it is. */
 static const char make_parts_sql[] =
     "DO $$ BEGIN IF to_regclass('luzhanem_part') IS NULL THEN "
     "CREATE TABLE luzhanem_part (channel TEXT NOT NULL, part INTEGER NOT NULL, bytes BYTEA NOT NULL, "
@@ -53,7 +56,8 @@ static const char *sql_of(enum statement what) {
     }
 }
 
-/* A COMMIT that was not allowed to wait for its standby succeeds, with a warning. No warning is a success here. */
+/* A COMMIT that was not allowed to wait for its standby succeeds, with a warning. No warning is a success
+ * here. */
 static void note_warning(void *at, const PGresult *r) {
     struct postgresql *q = at;
     const char *kind = PQresultErrorField(r, PG_DIAG_SEVERITY_NONLOCALIZED);
@@ -80,7 +84,8 @@ static PGresult *next(struct postgresql *q) {
     while (PQisBusy(q->db)) {
         struct pollfd p = { PQsocket(q->db), POLLIN, 0 };
         long long left = end - now();
-        if (left <= 0 || poll(&p, 1, (int)left) == 0) return snprintf(q->warning, WHY, "the server did not answer in %d ms", LIMIT), NULL;
+        if (left <= 0 || poll(&p, 1, (int)left) == 0)
+            return snprintf(q->warning, WHY, "the server did not answer in %d ms", LIMIT), NULL;
         if (!PQconsumeInput(q->db)) break;
     }
     return PQgetResult(q->db);
@@ -104,13 +109,15 @@ static int judge(enum statement what, const PGresult *r, row_function *row, void
         return rows;
     }
     if (PQresultStatus(r) != PGRES_COMMAND_OK) return -1;
-    if (what == COMMIT && strcmp(PQcmdStatus((PGresult *)r), "COMMIT") != 0) return -1; /* ROLLBACK: of what had failed */
-    return atoi(PQcmdTuples((PGresult *)r));                                            /* "" where no rows are counted */
+    if (what == COMMIT && strcmp(PQcmdStatus((PGresult *)r), "COMMIT") != 0)
+        return -1;                           /* ROLLBACK: of what had failed */
+    return atoi(PQcmdTuples((PGresult *)r)); /* "" where no rows are counted */
 }
 
-/* Waits for all results of what was sent, up to the server's word that it is ready: it commits between a statement's
- * result and that word, so an error or a warning may still come. */
-static int results(struct postgresql *q, enum statement what, row_function *row, void *context, char why[WHY]) {
+/* Waits for all results of what was sent, up to the server's word that it is ready: it commits between a
+ * statement's result and that word, so an error or a warning may still come. */
+static int results(struct postgresql *q, enum statement what, row_function *row, void *context,
+                   char why[WHY]) {
     int rows = -1;
     bool good = true;
     PGresult *r;
@@ -128,12 +135,14 @@ static int results(struct postgresql *q, enum statement what, row_function *row,
 
 static int prepare(struct postgresql *q, enum statement what, const char *name, char why[WHY]) {
     if (q->prepared[what]) return 0;
-    int r = PQsendPrepare(q->db, name, sql_of(what), 0, NULL) ? results(q, STATEMENT_COUNT, NULL, NULL, why) : -1;
+    int r =
+        PQsendPrepare(q->db, name, sql_of(what), 0, NULL) ? results(q, STATEMENT_COUNT, NULL, NULL, why) : -1;
     q->prepared[what] = r >= 0;
     return r;
 }
 
-static int run(void *at, enum statement what, const struct value v[PARAMETERS], row_function *row, void *context, char why[WHY]) {
+static int run(void *at, enum statement what, const struct value v[PARAMETERS], row_function *row,
+               void *context, char why[WHY]) {
     struct postgresql *q = at;
     const char *values[PARAMETERS];
     int lengths[PARAMETERS], formats[PARAMETERS], n = 0;
@@ -146,13 +155,15 @@ static int run(void *at, enum statement what, const struct value v[PARAMETERS], 
     }
     q->warning[0] = 0;
     if (prepare(q, what, name, why) < 0) return -1;
-    if (!PQsendQueryPrepared(q->db, name, n, values, lengths, formats, 1)) return snprintf(why, WHY, "%s", PQerrorMessage(q->db)), -1;
+    if (!PQsendQueryPrepared(q->db, name, n, values, lengths, formats, 1))
+        return snprintf(why, WHY, "%s", PQerrorMessage(q->db)), -1;
     int r = results(q, what, row, context, why);
     /* two hosts that make the tables at once wait here for each other; the lock ends with the transaction */
     return what == BEGIN_MAKE && r >= 0 ? run(at, LOCK_MAKING, NULL, NULL, NULL, why) : r;
 }
 
-/* ---- arrays, in the server's binary form: dimensions, no NULLs, type, length, first index, then each with its length */
+/* ---- arrays, in the server's binary form: dimensions, no NULLs, type, length, first index, then each with
+ * its length */
 
 static uint8_t *put_number(uint8_t *to, int64_t v, int bytes) {
     for (int i = bytes - 1; i >= 0; i--) *to++ = (uint8_t)((uint64_t)v >> 8 * i);
@@ -207,7 +218,7 @@ static int save(void *at, const struct save *save, char why[WHY]) {
 /* With a plan that is made once a save takes the server half the time. */
 #define GENERIC "; SET plan_cache_mode = force_generic_plan"
 static const char *settings_of(int how) {
-    return how < 0                        ? "SET default_transaction_read_only = on"
+    return how < 0                         ? "SET default_transaction_read_only = on"
            : how & LUZHANEM_DURABLE_OFF    ? "SET synchronous_commit = off" GENERIC
            : how & LUZHANEM_DURABLE_NORMAL ? "SET synchronous_commit = local" GENERIC
                                            : "SET synchronous_commit = on" GENERIC;
@@ -217,7 +228,8 @@ static void *connect_to(const char *where, int how, char why[WHY]) {
     struct postgresql *q = calloc(1, sizeof *q);
     if (q) q->arrays = malloc(ARRAYS);
     if (!q || !q->arrays) return free(q), snprintf(why, WHY, "no memory"), NULL;
-    const char *keys[] = { "connect_timeout", "dbname", NULL }, *values[] = { "5", where, NULL }; /* `where` may have its own */
+    const char *keys[] = { "connect_timeout", "dbname", NULL },
+               *values[] = { "5", where, NULL }; /* `where` may have its own */
     q->db = PQconnectdbParams(keys, values, 1);
     int r = PQstatus(q->db) == CONNECTION_OK ? 0 : -1;
     if (r < 0) snprintf(why, WHY, "%s", PQerrorMessage(q->db));

@@ -10,7 +10,10 @@
 #include <sys/stat.h>
 #include <unistd.h>
 
-enum { LIMIT = 5000, PAUSE = 500 }; /* how long to wait for another connection, in ms; between two tries, in microseconds */
+enum {
+    LIMIT = 5000,
+    PAUSE = 500
+}; /* how long to wait for another connection, in ms; between two tries, in microseconds */
 
 struct sqlite {
     sqlite3 *db;
@@ -22,20 +25,25 @@ struct sqlite {
 static const char *sql_of(enum statement what) {
     switch (what) {
     case MAKE_PARTS:
-        return "CREATE TABLE IF NOT EXISTS luzhanem_part (channel TEXT NOT NULL, part INTEGER NOT NULL, bytes BLOB NOT NULL, "
+        return "CREATE TABLE IF NOT EXISTS luzhanem_part (channel TEXT NOT NULL, part INTEGER NOT NULL, "
+               "bytes BLOB NOT NULL, "
                "checksum INTEGER NOT NULL, PRIMARY KEY (channel, part))";
     case BEGIN_MAKE:
     case BEGIN_WRITE: return "BEGIN IMMEDIATE";
     case BEGIN_READ: return "BEGIN";
-    case HOLD: return "UPDATE luzhanem_channel SET generation = generation + 1 WHERE name = $1 AND holder = $2 AND generation = $3";
+    case HOLD:
+        return "UPDATE luzhanem_channel SET generation = generation + 1 WHERE name = $1 AND holder = $2 AND "
+               "generation = $3";
     case REPLACE:
         return "INSERT INTO luzhanem_part (channel, part, bytes, checksum) VALUES ($1, $2, $3, $4) "
-               "ON CONFLICT (channel, part) DO UPDATE SET bytes = excluded.bytes, checksum = excluded.checksum";
+               "ON CONFLICT (channel, part) DO UPDATE SET bytes = excluded.bytes, checksum = "
+               "excluded.checksum";
     default: return luzhanem_sql_[what];
     }
 }
 
-/* The pauses of sqlite3_busy_timeout grow to 100 ms: they would miss every gap between the saves of a busy host. */
+/* The pauses of sqlite3_busy_timeout grow to 100 ms: they would miss every gap between the saves of a busy
+ * host. */
 static int wait_for_other(void *at, int times) {
     (void)at;
     usleep(PAUSE);
@@ -51,7 +59,11 @@ static int compare_answer(void *wanted, int columns, char **values, char **names
 static int pragma(sqlite3 *db, const char *sql, char *wanted, char why[WHY]) {
     char *words = NULL;
     int r = sqlite3_exec(db, sql, wanted ? compare_answer : NULL, wanted, &words);
-    if (r != SQLITE_OK) snprintf(why, WHY, "%s: %s", sql, r == SQLITE_ABORT ? "another answer" : words ? words : sqlite3_errstr(r));
+    if (r != SQLITE_OK)
+        snprintf(why, WHY, "%s: %s", sql,
+                 r == SQLITE_ABORT ? "another answer"
+                 : words           ? words
+                                   : sqlite3_errstr(r));
     sqlite3_free(words);
     return r;
 }
@@ -60,14 +72,16 @@ static int pragma(sqlite3 *db, const char *sql, char *wanted, char why[WHY]) {
 static bool no_log(const char *path) {
     char log[4096];
     struct stat s;
-    return snprintf(log, sizeof log, "%s-wal", path) < (int)sizeof log && (stat(log, &s) != 0 || s.st_size == 0);
+    return snprintf(log, sizeof log, "%s-wal", path) < (int)sizeof log &&
+           (stat(log, &s) != 0 || s.st_size == 0);
 }
 
 /* Whether a file that is read without locks is the one that it was. */
 static bool unchanged(const struct sqlite *q) {
     struct stat s;
-    return no_log(q->still) && stat(q->still, &s) == 0 && s.st_ino == q->before.st_ino && s.st_size == q->before.st_size &&
-           s.st_mtim.tv_sec == q->before.st_mtim.tv_sec && s.st_mtim.tv_nsec == q->before.st_mtim.tv_nsec;
+    return no_log(q->still) && stat(q->still, &s) == 0 && s.st_ino == q->before.st_ino &&
+           s.st_size == q->before.st_size && s.st_mtim.tv_sec == q->before.st_mtim.tv_sec &&
+           s.st_mtim.tv_nsec == q->before.st_mtim.tv_nsec;
 }
 
 static int disconnect(void *at) {
@@ -96,14 +110,17 @@ static int open_still(struct sqlite *q, const char *path, char why[WHY]) {
     q->still = strdup(path);
     if (!uri || !q->still || stat(path, &q->before) != 0) return free(uri), SQLITE_CANTOPEN;
     to += sprintf(to, "file:");
-    for (const char *c = path; *c; c++) to += sprintf(to, *c == '%' || *c == '?' || *c == '#' ? "%%%02x" : "%c", (unsigned char)*c);
+    for (const char *c = path; *c; c++)
+        to += sprintf(to, *c == '%' || *c == '?' || *c == '#' ? "%%%02x" : "%c", (unsigned char)*c);
     strcpy(to, "?immutable=1");
     int r = open_file(q, uri, SQLITE_OPEN_READONLY | SQLITE_OPEN_URI, why);
     free(uri);
     return r;
 }
 
-static int check_file(struct sqlite *q, char why[WHY]) { return pragma(q->db, "PRAGMA quick_check(1)", "ok", why); }
+static int check_file(struct sqlite *q, char why[WHY]) {
+    return pragma(q->db, "PRAGMA quick_check(1)", "ok", why);
+}
 
 static int connect_reader(struct sqlite *q, const char *path, char why[WHY]) {
     int r = open_file(q, path, SQLITE_OPEN_READONLY, why);
@@ -115,7 +132,8 @@ static int connect_reader(struct sqlite *q, const char *path, char why[WHY]) {
     return r == SQLITE_OK ? pragma(q->db, "PRAGMA query_only = 1", NULL, why) : r;
 }
 
-/* Two hosts that make one file at once meet in the change to WAL mode, for which SQLite does not wait by itself. */
+/* Two hosts that make one file at once meet in the change to WAL mode, for which SQLite does not wait by
+ * itself. */
 static int set_wal(struct sqlite *q, char why[WHY]) {
     int r = SQLITE_BUSY;
     for (int i = 0; r == SQLITE_BUSY && i < LIMIT * 1000 / PAUSE; i++) {
@@ -125,17 +143,22 @@ static int set_wal(struct sqlite *q, char why[WHY]) {
     return r;
 }
 
-/* A file without our tables is left as it is, unless they may be made. The change to WAL mode would write to an empty one. */
+/* A file without our tables is left as it is, unless they may be made. The change to WAL mode would write to
+ * an empty one. */
 static int has_tables(struct sqlite *q, char why[WHY]) {
-    int r = pragma(q->db, "SELECT count(*) FROM sqlite_master WHERE name IN ('luzhanem_channel', 'luzhanem_part')", "2", why);
+    int r = pragma(q->db,
+                   "SELECT count(*) FROM sqlite_master WHERE name IN ('luzhanem_channel', 'luzhanem_part')",
+                   "2", why);
     if (r == SQLITE_ABORT) snprintf(why, WHY, "the file has no channels");
     return r;
 }
 
 /* Small pages: a save of a few bytes writes few of them. The log is folded into the file every 4 MB. */
 static int connect_writer(struct sqlite *q, const char *path, int how, char why[WHY]) {
-    int r = open_file(q, path, SQLITE_OPEN_READWRITE | (how & LUZHANEM_DURABLE_CREATE ? SQLITE_OPEN_CREATE : 0), why);
-    if (r == SQLITE_OK && how & LUZHANEM_DURABLE_CREATE) r = pragma(q->db, "PRAGMA page_size = 1024", NULL, why);
+    int r = open_file(q, path,
+                      SQLITE_OPEN_READWRITE | (how & LUZHANEM_DURABLE_CREATE ? SQLITE_OPEN_CREATE : 0), why);
+    if (r == SQLITE_OK && how & LUZHANEM_DURABLE_CREATE)
+        r = pragma(q->db, "PRAGMA page_size = 1024", NULL, why);
     if (r == SQLITE_OK) r = check_file(q, why);
     if (r == SQLITE_OK && !(how & LUZHANEM_DURABLE_CREATE)) r = has_tables(q, why);
     if (r == SQLITE_OK) r = set_wal(q, why);
@@ -163,19 +186,23 @@ static int bind(sqlite3_stmt *s, const struct value v[PARAMETERS]) {
     return r;
 }
 
-static int run(void *at, enum statement what, const struct value v[PARAMETERS], row_function *row, void *context, char why[WHY]) {
+static int run(void *at, enum statement what, const struct value v[PARAMETERS], row_function *row,
+               void *context, char why[WHY]) {
     struct sqlite *q = at;
-    int r = q->prepared[what] ? SQLITE_OK : sqlite3_prepare_v2(q->db, sql_of(what), -1, &q->prepared[what], NULL), rows = 0;
+    int r = q->prepared[what] ? SQLITE_OK
+                              : sqlite3_prepare_v2(q->db, sql_of(what), -1, &q->prepared[what], NULL),
+        rows = 0;
     sqlite3_stmt *s = q->prepared[what];
     if (r == SQLITE_OK && v) r = bind(s, v);
     if (r == SQLITE_OK) {
         for (r = sqlite3_step(s); r == SQLITE_ROW; r = sqlite3_step(s), rows++)
             if (row)
-                row(context, sqlite3_column_int64(s, 0), sqlite3_column_blob(s, 1), (size_t)sqlite3_column_bytes(s, 1),
-                    sqlite3_column_int64(s, 2));
+                row(context, sqlite3_column_int64(s, 0), sqlite3_column_blob(s, 1),
+                    (size_t)sqlite3_column_bytes(s, 1), sqlite3_column_int64(s, 2));
         if (r == SQLITE_DONE && !sqlite3_stmt_readonly(s)) rows = sqlite3_changes(q->db);
     }
-    if (r != SQLITE_DONE) snprintf(why, WHY, "%s (%s)", sqlite3_errmsg(q->db), sqlite3_errstr(sqlite3_extended_errcode(q->db)));
+    if (r != SQLITE_DONE)
+        snprintf(why, WHY, "%s (%s)", sqlite3_errmsg(q->db), sqlite3_errstr(sqlite3_extended_errcode(q->db)));
     sqlite3_reset(s);
     return r == SQLITE_DONE ? rows : -1;
 }
@@ -183,14 +210,18 @@ static int run(void *at, enum statement what, const struct value v[PARAMETERS], 
 static int save(void *at, const struct save *save, char why[WHY]) {
     char generation[24], number[8], sum[24];
     snprintf(generation, sizeof generation, "%" PRId64, save->generation);
-    struct value hold[PARAMETERS] = { { save->channel, NULL, 0 }, { save->holder, NULL, 0 }, { generation, NULL, 0 } };
+    struct value hold[PARAMETERS] = { { save->channel, NULL, 0 },
+                                      { save->holder, NULL, 0 },
+                                      { generation, NULL, 0 } };
     if (run(at, BEGIN_WRITE, NULL, NULL, NULL, why) < 0) return -1;
     int held = run(at, HOLD, hold, NULL, NULL, why);
     for (int i = 0; i < save->count && held == 1; i++) {
         const struct part *p = &save->parts[i];
         snprintf(number, sizeof number, "%d", p->number);
         snprintf(sum, sizeof sum, "%" PRId64, p->checksum);
-        struct value v[PARAMETERS] = { { save->channel, NULL, 0 }, { number, NULL, 0 }, { NULL, p->bytes, p->n }, { sum, NULL, 0 } };
+        struct value v[PARAMETERS] = {
+            { save->channel, NULL, 0 }, { number, NULL, 0 }, { NULL, p->bytes, p->n }, { sum, NULL, 0 }
+        };
         if (run(at, REPLACE, v, NULL, NULL, why) != 1) return -1;
     }
     if (held < 0 || run(at, COMMIT, NULL, NULL, NULL, why) < 0) return -1;

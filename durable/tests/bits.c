@@ -1,5 +1,6 @@
-/* durable_bits FOLDER: flips every bit of a small database, one at a time, and cuts it at every page and at places between. What is
- * loaded or opened then is the state that was saved, or an error; and an error leaves store and file. */
+/* durable_bits FOLDER: flips every bit of a small database, one at a time, and cuts it at every page and at
+ * places between. What is loaded or opened then is the state that was saved, or an error; and an error leaves
+ * store and file. */
 #include "check.h"
 #include <fcntl.h>
 #include <unistd.h>
@@ -103,7 +104,9 @@ static void cuts(size_t n) {
 
 static void report(const char *name, bool all_errors) {
     char words[300];
-    snprintf(words, sizeof words, "%u errors, %u the same state, %u another state, %u errors that changed something", errors, alike, other, touched);
+    snprintf(words, sizeof words,
+             "%u errors, %u the same state, %u another state, %u errors that changed something", errors,
+             alike, other, touched);
     check(other == 0 && touched == 0 && errors > 0 && (!all_errors || alike == 0), name, words);
     printf("# %s: %s\n", name, words);
     errors = alike = other = touched = 0;

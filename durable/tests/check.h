@@ -13,16 +13,19 @@ static int wrong;
 /* Prints "ok NAME" or "not ok NAME: WORDS". */
 static inline void check(bool good, const char *name, const char *words) {
     wrong += !good;
-    printf("%s %s%s%s\n", good ? "ok" : "not ok", name, good || !words || !*words ? "" : ": ", good || !words ? "" : words);
+    printf("%s %s%s%s\n", good ? "ok" : "not ok", name, good || !words || !*words ? "" : ": ",
+           good || !words ? "" : words);
     fflush(stdout);
 }
 
 static inline void must(int r, const char *what) {
-    if (r < 0) fprintf(stderr, "%s: %d %s\n", what, r, r < -100 ? luzhanem_durable_error() : luzhanem_strerror(r)), exit(3);
+    if (r < 0)
+        fprintf(stderr, "%s: %d %s\n", what, r, r < -100 ? luzhanem_durable_error() : luzhanem_strerror(r)),
+            exit(3);
 }
 
-/* Whether two stores have the same committed values and the same grant to undo. Old bytes that the grant did not use, and all
- * of them where there is none to undo, say nothing. */
+/* Whether two stores have the same committed values and the same grant to undo. Old bytes that the grant did
+ * not use, and all of them where there is none to undo, say nothing. */
 static inline bool same(const luzhanem_store *x, const luzhanem_store *y) {
     enum { FILES_END = 552 + 32768, CAN_UNDO = 2 * 57, GRANT_BYTES = 2 * 59 };
     static luzhanem_image images[2];

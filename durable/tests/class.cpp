@@ -34,7 +34,8 @@ int main(int n, char **v) {
     }
     luzhanem::store seen;
     const std::int64_t generation = luzhanem::load_channel(seen, v[1], "class");
-    check(saved[0] == 20 && saved[1] == 20 && seen.length(0).value() == 320 && seen.length(1).value() == 320, "class: commit saves");
+    check(saved[0] == 20 && saved[1] == 20 && seen.length(0).value() == 320 && seen.length(1).value() == 320,
+          "class: commit saves");
     check(generation > 1, "class: load_channel answers the generation");
     luzhanem::durable d(second, v[1], "class");
     check(second.lock()->length(0).value() == 320, "class: it opens with what was saved");
@@ -48,7 +49,8 @@ int main(int n, char **v) {
         luzhanem::durable none(second, v[1], "none");
         check(false, "class: no such channel throws");
     } catch (const luzhanem::durable_error &e) {
-        check(e.code() == LUZHANEM_DURABLE_E_NO_CHANNEL && std::string(e.name()) == "NO_CHANNEL", "class: no such channel throws");
+        check(e.code() == LUZHANEM_DURABLE_E_NO_CHANNEL && std::string(e.name()) == "NO_CHANNEL",
+              "class: no such channel throws");
     }
     return wrong != 0;
 }

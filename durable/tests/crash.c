@@ -1,9 +1,9 @@
-/* durable_crash run URL CHANNEL ROUNDS MOST_MS [LIBRARY FROM TO]: kills a child with eight committing tasks at a random moment,
- *     ROUNDS times, and holds what is recovered to what the child had been answered. With powerloss.so as LIBRARY that is
- *     what a crash of the machine may leave: the database lies in FROM, and after the kill it becomes what is in TO.
- * durable_crash child URL CHANNEL: that child; its lines go to standard output.
- * durable_crash check URL CHANNEL FILE: holds a channel to the lines in a file.
- * CRASH_HOW=2 in the environment: with LUZHANEM_DURABLE_NORMAL. */
+/* durable_crash run URL CHANNEL ROUNDS MOST_MS [LIBRARY FROM TO]: kills a child with eight committing tasks
+ * at a random moment, ROUNDS times, and holds what is recovered to what the child had been answered. With
+ * powerloss.so as LIBRARY that is what a crash of the machine may leave: the database lies in FROM, and after
+ * the kill it becomes what is in TO. durable_crash child URL CHANNEL: that child; its lines go to standard
+ * output. durable_crash check URL CHANNEL FILE: holds a channel to the lines in a file. CRASH_HOW=2 in the
+ * environment: with LUZHANEM_DURABLE_NORMAL. */
 #include "work.h"
 #include <fcntl.h>
 #include <signal.h>
@@ -46,12 +46,16 @@ static bool undo_holds(const luzhanem_store *s, const uint32_t last[TASKS], char
 }
 
 /* Holds a store to what was told; `known` is what was recovered before. */
-static bool holds(const luzhanem_store *s, const uint32_t known[TASKS], const struct told *told, uint32_t last[TASKS], char *why, size_t room) {
+static bool holds(const luzhanem_store *s, const uint32_t known[TASKS], const struct told *told,
+                  uint32_t last[TASKS], char *why, size_t room) {
     if (!progress(s, last, why, room)) return false;
     for (size_t t = 0; t < TASKS; t++) {
-        uint32_t least = told->answered[t] > known[t] ? told->answered[t] : known[t], most = told->intent[t] > known[t] ? told->intent[t] : known[t];
-        if (last[t] < least) return snprintf(why, room, "LOST: task %zu has %u, at least %u", t, last[t], least), false;
-        if (last[t] > most) return snprintf(why, room, "INVENTED: task %zu has %u, at most %u", t, last[t], most), false;
+        uint32_t least = told->answered[t] > known[t] ? told->answered[t] : known[t],
+                 most = told->intent[t] > known[t] ? told->intent[t] : known[t];
+        if (last[t] < least)
+            return snprintf(why, room, "LOST: task %zu has %u, at least %u", t, last[t], least), false;
+        if (last[t] > most)
+            return snprintf(why, room, "INVENTED: task %zu has %u, at most %u", t, last[t], most), false;
     }
     return undo_holds(s, last, why, room);
 }
@@ -77,7 +81,9 @@ static bool one_kill(const char *url, const char *channel, unsigned most, char *
         dup2(ends[1], 1);
         close(ends[0]);
         close(ends[1]);
-        if (loss) setenv("LD_PRELOAD", loss[0], 1), setenv("POWERLOSS_FROM", loss[1], 1), setenv("POWERLOSS_TO", loss[2], 1);
+        if (loss)
+            setenv("LD_PRELOAD", loss[0], 1), setenv("POWERLOSS_FROM", loss[1], 1),
+                setenv("POWERLOSS_TO", loss[2], 1);
         execl("/proc/self/exe", "durable_crash", "child", url, channel, (char *)NULL);
         _exit(9);
     }
@@ -116,10 +122,12 @@ static int rounds(const char *url, const char *channel, int count, unsigned most
     srand((unsigned)time(NULL) ^ (unsigned)getpid());
     for (int i = 0; i < count; i++) {
         struct told told = { 0 };
-        if (!one_kill(url, channel, most, loss, &told)) return printf("round %d: the child ended by itself\n", i), 1;
+        if (!one_kill(url, channel, most, loss, &told))
+            return printf("round %d: the child ended by itself\n", i), 1;
         for (int k = 0; k < 3; k++) all[k] += told.counts[k];
         made = made || told.counts[INTENT];
-        if (loss && !replace_files(loss[1], loss[2]) && made) return printf("round %d: nothing is left\n", i), 1;
+        if (loss && !replace_files(loss[1], loss[2]) && made)
+            return printf("round %d: nothing is left\n", i), 1;
         int r = recover(url, channel, i % 2, made, &s);
         if (r < 0 && !made) continue; /* killed before the channel was there */
         if (r < 0) return printf("round %d: %d %s\n", i, r, luzhanem_durable_error()), 1;
@@ -142,14 +150,17 @@ static int check_file(const char *url, const char *channel, const char *file) {
     if (in < 0) return perror(file), 2;
     read_lines(in, &told);
     close(in);
-    if (luzhanem_durable_load(url, channel, &s, &generation) < 0) return printf("load: %s\n", luzhanem_durable_error()), 1;
+    if (luzhanem_durable_load(url, channel, &s, &generation) < 0)
+        return printf("load: %s\n", luzhanem_durable_error()), 1;
     if (!holds(&s, known, &told, last, why, sizeof why)) return printf("%s\n", why), 1;
-    printf("%u commits answered as saved, %u as not saved; generation %lld\n", told.counts[ANSWERED], told.counts[UNSAVED], (long long)generation);
+    printf("%u commits answered as saved, %u as not saved; generation %lld\n", told.counts[ANSWERED],
+           told.counts[UNSAVED], (long long)generation);
     return 0;
 }
 
 int main(int n, char **a) {
-    if ((n == 6 || n == 9) && strcmp(a[1], "run") == 0) return rounds(a[2], a[3], atoi(a[4]), (unsigned)atoi(a[5]), n == 9 ? a + 6 : NULL);
+    if ((n == 6 || n == 9) && strcmp(a[1], "run") == 0)
+        return rounds(a[2], a[3], atoi(a[4]), (unsigned)atoi(a[5]), n == 9 ? a + 6 : NULL);
     if (n == 4 && strcmp(a[1], "child") == 0) return child(a[2], a[3]);
     if (n == 5 && strcmp(a[1], "check") == 0) return check_file(a[2], a[3], a[4]);
     return fprintf(stderr, "durable_crash run|child|check URL CHANNEL ..\n"), 2;

@@ -1,6 +1,7 @@
-/* durable_hand URL CHANNEL [UNTIL]: a host with one task that is driven by lines. It waits for the file UNTIL, opens the
- * channel, and prints the answer and what file 1 has. For each line, a number, it puts the number into file 1, commits, syncs, and
- * prints the answer, the milliseconds that the sync took, and the words of an error. */
+/* durable_hand URL CHANNEL [UNTIL]: a host with one task that is driven by lines. It waits for the file
+ * UNTIL, opens the channel, and prints the answer and what file 1 has. For each line, a number, it puts the
+ * number into file 1, commits, syncs, and prints the answer, the milliseconds that the sync took, and the
+ * words of an error. */
 #include "check.h"
 #include <time.h>
 #include <unistd.h>
@@ -14,8 +15,8 @@ static long long now(void) {
 }
 
 static void say(int answer, long long ms) {
-    printf("%d %.9s %lld ms %s\n", answer, luzhanem_length(&s, 1) ? (const char *)luzhanem_file(&s, 1) : "-", ms,
-           answer < 0 ? luzhanem_durable_error() : "");
+    printf("%d %.9s %lld ms %s\n", answer, luzhanem_length(&s, 1) ? (const char *)luzhanem_file(&s, 1) : "-",
+           ms, answer < 0 ? luzhanem_durable_error() : "");
     fflush(stdout);
 }
 

@@ -1,6 +1,7 @@
-/* A library to preload, which leaves what a crash of the machine may leave. A write to a file below $POWERLOSS_FROM is made as
- * usual; the same file below $POWERLOSS_TO gets it when the file is synced, or at once with a chance of one half. Who kills the
- * process finds in the second folder what a disk may have. Files are made, cut and removed in both folders at once. */
+/* A library to preload, which leaves what a crash of the machine may leave. A write to a file below
+ * $POWERLOSS_FROM is made as usual; the same file below $POWERLOSS_TO gets it when the file is synced, or at
+ * once with a chance of one half. Who kills the process finds in the second folder what a disk may have.
+ * Files are made, cut and removed in both folders at once. */
 #include <dlfcn.h>
 #include <fcntl.h>
 #include <pthread.h>
@@ -24,8 +25,8 @@ static pthread_mutex_t lock = PTHREAD_MUTEX_INITIALIZER;
 static unsigned seed;
 
 /* The function of this name that the program would have called. */
-#define REAL(type, name, parameters)          \
-    static type(*real) parameters;            \
+#define REAL(type, name, parameters) \
+    static type(*real) parameters;   \
     if (!real) *(void **)&real = dlsym(RTLD_NEXT, name)
 
 static bool is_shadowed(const char *path, char to[1024]) {
@@ -57,7 +58,8 @@ static int opened(int f, const char *path, int flags) {
     REAL(int, "open64", (const char *, int, ...));
     if (f < 0 || f >= HANDLES) return f;
     shadow[f] = 0;
-    if ((flags & O_ACCMODE) != O_RDONLY && is_shadowed(path, to)) shadow[f] = real(to, O_RDWR | O_CREAT, 0600);
+    if ((flags & O_ACCMODE) != O_RDONLY && is_shadowed(path, to))
+        shadow[f] = real(to, O_RDWR | O_CREAT, 0600);
     return f;
 }
 
@@ -106,10 +108,10 @@ static ssize_t wrote(int f, ssize_t n, off_t at) {
     return n;
 }
 
-#define PWRITE(name)                                                    \
-    ssize_t name(int f, const void *bytes, size_t n, off_t at) {        \
-        REAL(ssize_t, #name, (int, const void *, size_t, off_t));       \
-        return wrote(f, real(f, bytes, n, at), at);                     \
+#define PWRITE(name)                                              \
+    ssize_t name(int f, const void *bytes, size_t n, off_t at) {  \
+        REAL(ssize_t, #name, (int, const void *, size_t, off_t)); \
+        return wrote(f, real(f, bytes, n, at), at);               \
     }
 PWRITE(pwrite)
 PWRITE(pwrite64)
@@ -120,7 +122,8 @@ static int synced(int f) {
     if (f < 0 || f >= HANDLES || !shadow[f]) return 0;
     pthread_mutex_lock(&lock);
     for (int i = 0; i < count; i++) {
-        if (pending[i].handle >= 0 && one_file(pending[i].handle, f)) copy_range(f, shadow[f], pending[i].at, pending[i].n);
+        if (pending[i].handle >= 0 && one_file(pending[i].handle, f))
+            copy_range(f, shadow[f], pending[i].at, pending[i].n);
         else if (pending[i].handle >= 0) pending[left++] = pending[i];
     }
     count = left;

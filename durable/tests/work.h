@@ -1,7 +1,8 @@
 /* Eight tasks on one store, and what must hold of whatever a crash leaves of their work.
  *
- * Tasks 0 and 1 append numbered records to a log, file 0. Tasks 2 and 3 count in a file of their own. Tasks 4 to 7 move amounts
- * between file 4 and file 5, whose sum stays, and count in file 6. Now and then each writes what it then aborts. */
+ * Tasks 0 and 1 append numbered records to a log, file 0. Tasks 2 and 3 count in a file of their own. Tasks 4
+ * to 7 move amounts between file 4 and file 5, whose sum stays, and count in file 6. Now and then each writes
+ * what it then aborts. */
 #ifndef WORK_H
 #define WORK_H
 
@@ -12,7 +13,8 @@
 
 enum { TASKS = 8, TOTAL = 1000000, NEVER = 0x7fffffff };
 
-/* What a task tells: it is about to commit its number n; that was answered as saved; that was answered as not saved. */
+/* What a task tells: it is about to commit its number n; that was answered as saved; that was answered as not
+ * saved. */
 struct line {
     uint32_t task, what, n;
 };
@@ -76,7 +78,7 @@ static inline bool move_amount(struct work *w, size_t t, uint32_t n, unsigned *s
     bool stale = false;
     uint32_t a = get(w, t, 4, &stale), b = get(w, t, 5, &stale), move = (uint32_t)rand_r(seed) % 1000;
     if (stale) return false;
-    if (a < move) move = (uint32_t)-(int32_t)(b / 2);
+    if (a < move) move = (uint32_t) - (int32_t)(b / 2);
     put(w, t, 4, 0, a - move);
     put(w, t, 5, 0, b + move);
     put(w, t, 6, 4 * t, n);
@@ -140,16 +142,20 @@ static inline void join_tasks(struct work *w) {
     for (size_t t = 0; t < TASKS; t++) pthread_join(w->threads[t], NULL);
 }
 
-/* The last number of each of the two tasks in the log, whose records have to come in order, the oldest first. */
+/* The last number of each of the two tasks in the log, whose records have to come in order, the oldest first.
+ */
 static inline bool read_log(const luzhanem_store *s, uint32_t last[TASKS], char *why, size_t room) {
     uint32_t record[2];
     int end = luzhanem_offset(s, 0), length = luzhanem_length(s, 0);
-    if (end % 8 || length % 8 || end > length) return snprintf(why, room, "log: offset %d, length %d", end, length), false;
+    if (end % 8 || length % 8 || end > length)
+        return snprintf(why, room, "log: offset %d, length %d", end, length), false;
     for (int k = 0; k < length; k += 8) {
         memcpy(record, luzhanem_file(s, 0) + (end + k) % length, 8);
-        if (record[0] > 1 || record[1] == NEVER) return snprintf(why, room, "log: no record at %d", (end + k) % length), false;
+        if (record[0] > 1 || record[1] == NEVER)
+            return snprintf(why, room, "log: no record at %d", (end + k) % length), false;
         if (last[record[0]] && record[1] != last[record[0]] + 1)
-            return snprintf(why, room, "log: %u of %u after %u", record[1], record[0], last[record[0]]), false;
+            return snprintf(why, room, "log: %u of %u after %u", record[1], record[0], last[record[0]]),
+                   false;
         last[record[0]] = record[1];
     }
     return true;
@@ -158,7 +164,8 @@ static inline bool read_log(const luzhanem_store *s, uint32_t last[TASKS], char 
 /* How far each task is in a store; false, with words, where something does not hold. */
 static inline bool progress(const luzhanem_store *s, uint32_t last[TASKS], char *why, size_t room) {
     memset(last, 0, sizeof *last * TASKS);
-    if (at(s, 4) + at(s, 5) != TOTAL) return snprintf(why, room, "%u + %u is not the total", at(s, 4), at(s, 5)), false;
+    if (at(s, 4) + at(s, 5) != TOTAL)
+        return snprintf(why, room, "%u + %u is not the total", at(s, 4), at(s, 5)), false;
     for (size_t t = 2; t < TASKS; t++) {
         memcpy(&last[t], t < 4 ? luzhanem_file(s, t) : luzhanem_file(s, 6) + 4 * t, 4);
         if (last[t] == NEVER) return snprintf(why, room, "what task %zu aborted is there", t), false;

@@ -5,7 +5,7 @@ use mathlib.Core.Path.{_≡_, refl, sym, ap, _∙_}
 use lib.ListN.{getD}
 use native.Mathlib.Numerals.{add-one}
 use native.Mathlib.Omega.{arith}
-use Prim.Native.Nat.{ℕ, zero, suc, _+_, _*_, _<_, max}
+use Prim.Native.Nat.{ℕ, zero, suc, _+_, _-_, _*_, _<_, max}
 use Rattle.buffers.proofs.TableLaws.{getD-tabulate}
 use Rattle.counters.specs.declared.Used.{Used}
 use Rattle.windows.specs.declared.Window.{Window}
@@ -23,6 +23,9 @@ use Rattle.c_images.proofs.Layouts.{layout-is-numbered}
 
 add-two : (n : ℕ) → n + 2 ≡ suc (suc n)
 add-two n = omega arith
+
+one-back : (o : ℕ) → suc o - 1 + 1 ≡ suc o
+one-back o = omega arith
 
 second-back : (a b : ℕ) → secondNumber (standingOf a b) ≡ b
 unfolding standingOf
@@ -43,7 +46,7 @@ first-back (suc o) (suc (suc n)) h = add-one o
 first-known : (a b : ℕ) → max (firstNumber (standingOf a b)) 1 ≡ max a 1
 unfolding standingOf
 first-known zero (suc zero) = refl
-first-known (suc o) (suc zero) = ap (λ (k : ℕ). max k 1) (add-one o)
+first-known (suc o) (suc zero) = ap (λ (k : ℕ). max k 1) (one-back o)
 first-known zero zero = refl
 first-known (suc o) zero = ap (λ (k : ℕ). max k 1) (add-one o)
 first-known zero (suc (suc n)) = refl

@@ -4,7 +4,8 @@ use mathlib.Core.Path.{_≡_, refl, ap, _∙_}
 use lib.ListN.{getD}
 use native.Mathlib.Numerals.{add-one}
 use native.Mathlib.Omega.{arith}
-use Prim.Native.Nat.{ℕ, suc, _+_, _*_, _<_}
+use Prim.Native.Nat.{ℕ, suc, _+_, _-_, _*_, _<_}
+use Rattle.standings.specs.declared.Standing.the-variants.{Known}
 use Rattle.state.specs.declared.Descriptor.{Descriptor}
 use Rattle.state.specs.declared.Transaction.{Transaction}
 use Rattle.state.specs.StoreMeaning.{standingAt, dirtyAt}
@@ -23,12 +24,15 @@ standing-codes =
       placed = λ o. rw (add-one o);
       deferred = λ a. rw (add-two a);
       moved = λ a o. rw (add-one o, add-two a);
-      known = λ o. rw (add-one o);
+      known = λ o. ap (λ (n : ℕ). Known n) (less-one o);
       leftOver = refl;
     }
   where
     add-two : (a : ℕ) → a + 2 ≡ suc (suc a)
     add-two a = omega arith
+
+    less-one : (o : ℕ) → o + 1 - 1 ≡ o
+    less-one o = omega arith
 
 second-at : (t d : ℕ) → 1728 + 8 * (16 + d) + t ≡ 1856 + 8 * d + t
 second-at t d = omega arith

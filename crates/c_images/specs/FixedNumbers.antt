@@ -1,7 +1,7 @@
--- What the meaning of a record fixes of its numbers. The promises of the calls say what a record means at exit;
--- by `MeaningFixes` they say its numbers, but for two things that are left open: a flag that is not set may be
--- any number but 1, and the first number of a standing Known at 0 may be 0 or 1. Nothing is asked of the
--- numbers.
+-- What the meaning of a record fixes of its numbers. The promises of the calls say what a record means at
+-- exit; by `MeaningFixes` they say its numbers, but for two things that are left open: a flag that is not set
+-- may be any number but 1, and the first number of a standing Known at 0 may be 0 or 1. Nothing is asked of
+-- the numbers.
 use mathlib.Core.List.{List}
 use mathlib.Core.Path.{_≡_}
 use lib.ListN.{getD}
@@ -22,8 +22,8 @@ pub record SameStanding (a b c d : ℕ) : Type 0 where
   pub first : (b ≡ 1 → ⊥) → a ≡ c
   pub firstOfKnown : max a 1 ≡ max c 1
 
--- Two records, number by number, in the order of LayoutNumber.antt. The dirty descriptors are the sixteen bits
--- of a number.
+-- Two records, number by number, in the order of LayoutNumber.antt. The dirty descriptors are the sixteen
+-- bits of a number.
 pub record SameNumbers (r s : List ℕ) : Type 0 where
   pub records : (i : ℕ) → i < 1728 → Same r s i
   pub standings :

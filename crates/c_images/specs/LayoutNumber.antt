@@ -1,6 +1,6 @@
 -- The number of the record's layout, and the layout that has this number. Whoever moves a number of the
--- record, or gives it another meaning, finds `LayoutIsNumbered` without a proof: write the new places here, and
--- raise layoutNumber and `luzhanem_parts_layout`.
+-- record, or gives it another meaning, finds `LayoutIsNumbered` without a proof: write the new places here,
+-- and raise layoutNumber and `luzhanem_parts_layout`.
 use mathlib.Core.List.{List}
 use mathlib.Core.Path.{_≡_}
 use lib.IntN.{ℤ, pos}

@@ -86,7 +86,8 @@ module _ (t d v : ℕ) (state files logs marks undo : List ℕ) (long : length s
       let own = ap (λ (u : Transaction). standingAt u d) (sym (transaction-of state t (through .small))) in
       standing-fits y
       (rw (is-y, is-z, own)
-      (seek-in v (standingAt (transaction (storeOf state) t) d) within (open-here through begun .ranges .standings d (omega arith))))
+      (seek-in v (standingAt (transaction (storeOf state) t) d) within (open-here through begun .ranges .standings d
+      (omega arith))))
 
   pub seek-follows : admission (sizes handedOver) (storeOf state) (journalOf state) t ≡ 0 → LetThrough handedOver t
       → transaction (storeOf state) t .begun ≡ true

@@ -80,21 +80,24 @@ module _ (w : ℕ → ℕ) where
       ∙ getD-set-other (putDescriptor-0 d r) (offsetsAt + d) j (w (17 + d)) 0 n1
       ∙ getD-set-other r (fileNumbersAt + d) j (w (1 + d)) 0 n0
 
-  own-file : (d : ℕ) → d < 16 → (r : List ℕ) → length r ≡ stateLength → getD (putDescriptor w d r) (fileNumbersAt + d) 0 ≡ w (1 + d)
+  own-file : (d : ℕ) → d < 16 → (r : List ℕ) → length r ≡ stateLength → getD (putDescriptor w d r) (fileNumbersAt + d) 0
+      ≡ w (1 + d)
   unfolding putDescriptor
   own-file d h r l =
       getD-set-other (putDescriptor-1 d r) (foundOffsetsAt + d) (fileNumbersAt + d) (w (60 + d)) 0 (λ p. omega arith)
       ∙ getD-set-other (putDescriptor-0 d r) (offsetsAt + d) (fileNumbersAt + d) (w (17 + d)) 0 (λ p. omega arith)
       ∙ getD-set-same r (fileNumbersAt + d) (w (1 + d)) 0 (omega arith)
 
-  own-offset : (d : ℕ) → d < 16 → (r : List ℕ) → length r ≡ stateLength → getD (putDescriptor w d r) (offsetsAt + d) 0 ≡ w (17 + d)
+  own-offset : (d : ℕ) → d < 16 → (r : List ℕ) → length r ≡ stateLength → getD (putDescriptor w d r) (offsetsAt + d) 0
+      ≡ w (17 + d)
   unfolding putDescriptor
   own-offset d h r l =
       getD-set-other (putDescriptor-1 d r) (foundOffsetsAt + d) (offsetsAt + d) (w (60 + d)) 0 (λ p. omega arith)
       ∙ getD-set-same (putDescriptor-0 d r) (offsetsAt + d) (w (17 + d)) 0 (let e : length
       (putDescriptor-0 d r) ≡ length r = simp length-set in omega arith)
 
-  own-found-offset : (d : ℕ) → d < 16 → (r : List ℕ) → length r ≡ stateLength → getD (putDescriptor w d r) (foundOffsetsAt + d) 0 ≡ w
+  own-found-offset : (d : ℕ) → d < 16 → (r : List ℕ) → length r ≡ stateLength
+      → getD (putDescriptor w d r) (foundOffsetsAt + d) 0 ≡ w
       (60 + d)
   unfolding putDescriptor
   own-found-offset d h r l =
@@ -117,7 +120,8 @@ module _ (w : ℕ → ℕ) where
   unfolding putFile
   length-of-file f r = simp length-set
 
-  of-file-other : (f j : ℕ) (r : List ℕ) → (j ≡ lengthsAt + f → ⊥) → (j ≡ startsAt + f → ⊥) → (j ≡ endsAt + f → ⊥) → (j ≡ foundLengthsAt + f → ⊥)
+  of-file-other : (f j : ℕ) (r : List ℕ) → (j ≡ lengthsAt + f → ⊥) → (j ≡ startsAt + f → ⊥) → (j ≡ endsAt + f → ⊥) → (j
+      ≡ foundLengthsAt + f → ⊥)
       → getD (putFile w f r) j 0 ≡ getD r j 0
   unfolding putFile
   of-file-other f j r n0 n1 n2 n3 =
@@ -139,7 +143,8 @@ module _ (w : ℕ → ℕ) where
   own-start f h r l =
       getD-set-other (putFile-2 f r) (foundLengthsAt + f) (startsAt + f) (w (76 + f)) 0 (λ p. omega arith)
       ∙ getD-set-other (putFile-1 f r) (endsAt + f) (startsAt + f) (w (49 + f)) 0 (λ p. omega arith)
-      ∙ getD-set-same (putFile-0 f r) (startsAt + f) (w (41 + f)) 0 (let e : length (putFile-0 f r) ≡ length r = simp length-set in
+      ∙ getD-set-same (putFile-0 f r) (startsAt + f) (w (41 + f)) 0 (let e : length (putFile-0 f r) ≡ length r =
+      simp length-set in
       omega arith)
 
   own-end : (f : ℕ) → f < 8 → (r : List ℕ) → length r ≡ stateLength → getD (putFile w f r) (endsAt + f) 0 ≡ w (49 + f)
@@ -149,10 +154,12 @@ module _ (w : ℕ → ℕ) where
       ∙ getD-set-same (putFile-1 f r) (endsAt + f) (w (49 + f)) 0 (let e : length (putFile-1 f r) ≡ length r = simp length-set in
       omega arith)
 
-  own-found-length : (f : ℕ) → f < 8 → (r : List ℕ) → length r ≡ stateLength → getD (putFile w f r) (foundLengthsAt + f) 0 ≡ w (76 + f)
+  own-found-length : (f : ℕ) → f < 8 → (r : List ℕ) → length r ≡ stateLength → getD (putFile w f r) (foundLengthsAt + f) 0
+      ≡ w (76 + f)
   unfolding putFile
   own-found-length f h r l =
-      getD-set-same (putFile-2 f r) (foundLengthsAt + f) (w (76 + f)) 0 (let e : length (putFile-2 f r) ≡ length r = simp length-set in
+      getD-set-same (putFile-2 f r) (foundLengthsAt + f) (w (76 + f)) 0 (let e : length (putFile-2 f r) ≡ length r =
+      simp length-set in
       omega arith)
 
 -- ---- the whole record
@@ -233,7 +240,8 @@ module _ (w : ℕ → ℕ) where
   at-found-offset : (d : ℕ) → d < 16 → getD granted (foundOffsetsAt + d) 0 ≡ w (60 + d)
   at-found-offset d h =
       before-grant (foundOffsetsAt + d) (omega arith) ∙ past-files (foundOffsetsAt + d) (inr (omega arith, omega arith))
-      ∙ each-own (putDescriptor w) (length-descriptor w) (foundOffsetsAt + d) 16 d (w (60 + d)) stateLength h (own-found-offset w d h)
+      ∙ each-own (putDescriptor w) (length-descriptor w) (foundOffsetsAt + d) 16 d (w (60 + d)) stateLength h
+      (own-found-offset w d h)
       (λ i r a b. descriptor-other w i (foundOffsetsAt + d) r (λ p. omega arith) (λ p. omega arith) (λ p. b (omega arith)))
       (zeros stateLength) (length-zeros stateLength)
 
@@ -241,28 +249,32 @@ module _ (w : ℕ → ℕ) where
   at-length f h =
       before-grant (lengthsAt + f) (omega arith)
       ∙ each-own (putFile w) (length-of-file w) (lengthsAt + f) 8 f (w (33 + f)) stateLength h (own-length w f h)
-      (λ i r a b. of-file-other w i (lengthsAt + f) r (λ p. b (omega arith)) (λ p. omega arith) (λ p. omega arith) (λ p. omega arith))
+      (λ i r a b. of-file-other w i (lengthsAt + f) r (λ p. b (omega arith)) (λ p. omega arith) (λ p. omega arith)
+      (λ p. omega arith))
       described long-described
 
   at-start : (f : ℕ) → f < 8 → getD granted (startsAt + f) 0 ≡ w (41 + f)
   at-start f h =
       before-grant (startsAt + f) (omega arith)
       ∙ each-own (putFile w) (length-of-file w) (startsAt + f) 8 f (w (41 + f)) stateLength h (own-start w f h)
-      (λ i r a b. of-file-other w i (startsAt + f) r (λ p. omega arith) (λ p. b (omega arith)) (λ p. omega arith) (λ p. omega arith))
+      (λ i r a b. of-file-other w i (startsAt + f) r (λ p. omega arith) (λ p. b (omega arith)) (λ p. omega arith)
+      (λ p. omega arith))
       described long-described
 
   at-end : (f : ℕ) → f < 8 → getD granted (endsAt + f) 0 ≡ w (49 + f)
   at-end f h =
       before-grant (endsAt + f) (omega arith)
       ∙ each-own (putFile w) (length-of-file w) (endsAt + f) 8 f (w (49 + f)) stateLength h (own-end w f h)
-      (λ i r a b. of-file-other w i (endsAt + f) r (λ p. omega arith) (λ p. omega arith) (λ p. b (omega arith)) (λ p. omega arith))
+      (λ i r a b. of-file-other w i (endsAt + f) r (λ p. omega arith) (λ p. omega arith) (λ p. b (omega arith))
+      (λ p. omega arith))
       described long-described
 
   at-found-length : (f : ℕ) → f < 8 → getD granted (foundLengthsAt + f) 0 ≡ w (76 + f)
   at-found-length f h =
       before-grant (foundLengthsAt + f) (omega arith)
       ∙ each-own (putFile w) (length-of-file w) (foundLengthsAt + f) 8 f (w (76 + f)) stateLength h (own-found-length w f h)
-      (λ i r a b. of-file-other w i (foundLengthsAt + f) r (λ p. omega arith) (λ p. omega arith) (λ p. omega arith) (λ p. b (omega arith)))
+      (λ i r a b. of-file-other w i (foundLengthsAt + f) r (λ p. omega arith) (λ p. omega arith) (λ p. omega arith) (λ p. b
+      (omega arith)))
       described long-described
 
   undo-granted : undoOf granted ≡ undoFrom w
@@ -275,10 +287,12 @@ module _ (w : ℕ → ℕ) where
       let la : length a ≡ length filed = length-set filed heldAt n in
       let lb : length b ≡ length filed = length-set a (heldAt + 1) (w 58) ∙ la in
       let held : isSet (getD (set b (heldAt + 2) (w 59)) heldAt 0) ≡ isSet (w 57) =
-      ap isSet (getD-set-other b (heldAt + 2) heldAt (w 59) 0 (λ p. omega arith) ∙ getD-set-other a (heldAt + 1) heldAt (w 58) 0 (λ p. omega arith)
+      ap isSet (getD-set-other b (heldAt + 2) heldAt (w 59) 0 (λ p. omega arith)
+      ∙ getD-set-other a (heldAt + 1) heldAt (w 58) 0 (λ p. omega arith)
       ∙ getD-set-same filed heldAt n 0 (omega arith)) ∙ flag-back (isSet (w 57)) in
       let records : getD (set b (heldAt + 2) (w 59)) (heldAt + 1) 0 ≡ w 58 =
-      getD-set-other b (heldAt + 2) (heldAt + 1) (w 59) 0 (λ p. omega arith) ∙ getD-set-same a (heldAt + 1) (w 58) 0 (omega arith) in
+      getD-set-other b (heldAt + 2) (heldAt + 1) (w 59) 0 (λ p. omega arith)
+      ∙ getD-set-same a (heldAt + 1) (w 58) 0 (omega arith) in
       let bytes : getD (set b (heldAt + 2) (w 59)) (heldAt + 2) 0 ≡ w 59 = getD-set-same b (heldAt + 2) (w 59) 0 (omega arith) in
       let offsets : tabulate (λ d. getD granted (foundOffsetsAt + d) 0) 16 ≡ tabulate (λ d. w
       (60 + d)) 16 = table-same _ _ 16 at-found-offset in
@@ -300,9 +314,12 @@ module _ (w : ℕ → ℕ) where
   pub store-granted : storeOf granted ≡ storeFrom w
   unfolding storeOf storeFrom windowOf
   store-granted =
-      let files : tabulate (λ d. getD granted (fileNumbersAt + d) 0) 16 ≡ tabulate (λ d. w (1 + d)) 16 = table-same _ _ 16 at-file in
-      let offsets : tabulate (λ d. getD granted (offsetsAt + d) 0) 16 ≡ tabulate (λ d. w (17 + d)) 16 = table-same _ _ 16 at-offset in
-      let lengths : tabulate (λ f. getD granted (lengthsAt + f) 0) 8 ≡ tabulate (λ f. w (33 + f)) 8 = table-same _ _ 8 at-length in
+      let files : tabulate (λ d. getD granted (fileNumbersAt + d) 0) 16 ≡ tabulate (λ d. w (1 + d)) 16 =
+      table-same _ _ 16 at-file in
+      let offsets : tabulate (λ d. getD granted (offsetsAt + d) 0) 16 ≡ tabulate (λ d. w (17 + d)) 16 =
+      table-same _ _ 16 at-offset in
+      let lengths : tabulate (λ f. getD granted (lengthsAt + f) 0) 8 ≡ tabulate (λ f. w (33 + f)) 8 =
+      table-same _ _ 8 at-length in
       let windows : tabulate (windowOf granted) 8 ≡ tabulate (λ f. window (w (41 + f)) (w (49 + f))) 8 =
       table-same _ _ 8 (λ f h i. window (at-start f h i) (at-end f h i)) in
       λ i. record {

@@ -12,7 +12,8 @@ use Rattle.replay.proofs.blocks.put_numbers.Statement.{statement}
 use Rattle.replay.proofs.blocks.put_numbers.Tie as tie
 
 abbrev Inv-loop : tie.InvT-loop
-Inv-loop state₀ bytes i₀ state i = (i ≤ stateLength) × (length state ≡ stateLength) × (take i state ≡ tabulate (blockWordAt bytes) i)
+Inv-loop state₀ bytes i₀ state i = (i ≤ stateLength) × (length state ≡ stateLength) × (take i state
+    ≡ tabulate (blockWordAt bytes) i)
 
 abbrev μ-loop : tie.MeasureT-loop
 μ-loop state₀ bytes i₀ state i = stateLength - i

@@ -12,8 +12,8 @@ use Rattle.spec.specs.Recovery.{ProgramRun, abortAll}
 use Rattle.spec.specs.Age.{rejuvenated}
 use Rattle.spec.proofs.Refinement.Relation.{Sound}
 use Rattle.spec.proofs.Theorems.Serializability.{calls-agree, fresh-facts}
-use Rattle.spec.proofs.Theorems.Recovery.{Twins, run-twins, recovered-view, resting-view, calls-append}
-use Rattle.spec.proofs.Theorems.Age.{young-sound, young-closed, same-start}
+use Rattle.spec.proofs.Theorems.Recovery.{Twins, run-twins, recovered-view, calls-append}
+use Rattle.spec.proofs.Theorems.Age.{young-sound, young-view}
 use Rattle.images.specs.Images.{imageNumbers, numberOf}
 use Rattle.c_images.specs.ImageCalls.{loadRule}
 use Rattle.c_images.specs.ImagesHold.{Life, byState, byImage, afterLife, livesAfter, callsOfLife, callsOfLives}
@@ -44,8 +44,7 @@ image-twins cs logs size m n w =
       same =
           down .same
           ∙ recovered-view logs marks k
-          ∙ same-start k s logs size
-          ∙ sym (resting-view (rejuvenated k logs) (young-closed k s logs size));
+          ∙ sym (young-view k s logs size);
     }
 
 life-twins : (l : Life) (m n : Machine) → Twins m n → Twins (callsAfter abortAll (callsAfter (callsOfLife l) m)) (afterLife l n)

@@ -1,4 +1,4 @@
--- Lengths and undo of what was loaded from an image: by what a store answers and leaves that did not go down.
+-- What was loaded from an image goes on as a store that did not go down; so lengths and undo are as there.
 use mathlib.Core.List.{List, [], _∷_, _++_}
 use mathlib.Core.Path.{_≡_, refl, sym, ap, subst, _∙_, fun-ext}
 use lib.ListN.{getD, length, replicate, length-replicate}
@@ -10,29 +10,35 @@ use Rattle.spec.specs.Messages.{Call, Reply, commit, undoCommit, afterAll, repl
 use Rattle.spec.specs.Machine.{Machine, values}
 use Rattle.spec.specs.Calls.{call, callsAfter, callsReplies}
 use Rattle.spec.specs.SerializabilityOfStore.{FreshlyMade}
-use Rattle.spec.specs.Recovery.{ProgramRun, Reached, runsAfter, recovered, allEnded}
-use Rattle.spec.specs.Age.{AtRest, rejuvenated, Alike}
+use Rattle.spec.specs.Recovery.{ProgramRun, Reached, runsAfter, recovered}
+use Rattle.spec.specs.Age.{rejuvenated, Alike}
 use Rattle.spec.specs.Lengths.{ZeroBeyond, committedIn}
 use Rattle.spec.specs.UndoRestores.{SameCommitted, grantsInRuns}
-use Rattle.spec.proofs.Theorems.Age.{ageless, recovers}
-use Rattle.spec.proofs.Theorems.Recovery.{calls-append}
+use Rattle.spec.proofs.Abstract.AbstractStore.{Abstract, startAbstract, abstractAfter}
+use Rattle.spec.proofs.Refinement.Relation.{view}
+use Rattle.spec.proofs.Theorems.Age.{young-sound, young-view, alike}
+use Rattle.spec.proofs.Theorems.Recovery.{Twins, calls-append, recovered-sound, recovered-view}
+use Rattle.spec.proofs.Theorems.Serializability.{calls-agree}
 use Rattle.spec.proofs.Theorems.Lengths.{lengths-always-hold}
 use Rattle.spec.proofs.Theorems.UndoRestores.{undo-restores}
-use Rattle.c_images.specs.LoadedStores.{LoadedStoresHold}
 use Rattle.c_images.specs.ImagesHold.{Life, livesAfter, callsOfLives}
-use Rattle.c_images.proofs.Holds.{images-hold}
+use Rattle.c_images.specs.LoadedStores.{LoadedStoresHold}
+use Rattle.c_images.proofs.Lives.{lives-from-fresh}
 
--- One more run.
-runs-last : (rs : List ProgramRun) (r : ProgramRun) (m : Machine)
-    → runsAfter (rs ++ (r ∷ [])) m ≡ recovered (r .logs) (r .marks) (callsAfter (r .calls) (runsAfter rs m))
-unfolding runsAfter
-runs-last [] r m = refl
-runs-last (q ∷ rs) r m = runs-last rs r (recovered (q .logs) (q .marks) (callsAfter (q .calls) m))
+-- ---- two stores that stand for the same store without buffers
 
--- An image has nothing of what is open.
-ended-young : (logs marks newLogs : List ℕ) (m : Machine) → rejuvenated (recovered logs marks m) newLogs ≡ rejuvenated m newLogs
-unfolding rejuvenated recovered allEnded
-ended-young logs marks newLogs m = refl
+twins-after : (cs : List Call) (m n : Machine) → Twins m n → Twins (callsAfter cs m) (callsAfter cs n)
+twins-after cs m n w =
+    let a = calls-agree cs m (w .first) in
+    let b = calls-agree cs n (w .second) in
+    record { first = a .sound; second = b .sound; same = a .state ∙ ap (abstractAfter cs) (w .same) ∙ sym (b .state) }
+
+twins-alike : (cs : List Call) (m n : Machine) → Twins m n → Alike cs m n
+twins-alike cs m n w = alike m n (w .first) (w .second) (w .same) cs
+
+twins-values : (m n : Machine) → Twins m n → committedIn m ≡ committedIn n
+unfolding view
+twins-values m n w = ap (λ (s : Abstract). s .value) (w .same)
 
 lastReply : Reply → List Reply → Reply
 lastReply r [] = r
@@ -44,9 +50,56 @@ unfolding lastReply afterAll repliesTo
 last-reply [] c m r = refl
 last-reply (x ∷ cs) c m r = last-reply cs c (call x m .after) (call x m .reply)
 
-last-left : (cs : List Call) (c : Call) (m : Machine) → callsAfter (cs ++ (c ∷ [])) m ≡ call c (callsAfter cs m) .after
-unfolding afterAll
-last-left cs c m = calls-append cs (c ∷ []) m
+twins-reply : (cs : List Call) (c : Call) (m n : Machine) → Twins m n
+    → call c (callsAfter cs m) .reply ≡ call c (callsAfter cs n) .reply
+twins-reply cs c m n w =
+    let any = call c m .reply in
+    sym (last-reply cs c m any) ∙ ap (lastReply any) (twins-alike (cs ++ (c ∷ [])) m n w .replies) ∙ last-reply cs c n any
+
+-- Both go down: the first is recovered from its state, the second loaded from its image.
+down-twins : (logs marks : List ℕ) → length logs ≡ 32768 → length marks ≡ 32768 → (m n : Machine) → Twins m n
+    → Twins (recovered logs marks m) (rejuvenated n logs)
+unfolding view
+down-twins logs marks size wide m n w =
+    record {
+      first = recovered-sound logs marks m (w .first) size wide;
+      second = young-sound n (w .second) logs size;
+      same =
+          recovered-view logs marks m
+          ∙ ap (λ (s : Abstract). startAbstract (s .fileOf) (s .value) (s .windows) (s .back)) (w .same)
+          ∙ sym (young-view n (w .second) logs size);
+    }
+
+-- ---- however often
+
+module _ (numbers : List ℕ) (m₀ : Machine) (made : FreshlyMade numbers m₀) (ls : List Life) where
+  -- The store that never went down, and the one that was loaded.
+  abbrev whole : Machine
+  whole = callsAfter (callsOfLives ls) m₀
+
+  from-fresh : Twins whole (livesAfter ls m₀)
+  from-fresh = lives-from-fresh numbers m₀ made ls
+
+  reached : (cs : List Call) → Reached (callsAfter cs whole)
+  unfolding runsAfter
+  reached cs = record {
+    numbers = numbers;
+    first = m₀;
+    made = made;
+    runs = [];
+    calls = callsOfLives ls ++ cs;
+    by = sym (calls-append (callsOfLives ls) cs m₀);
+  }
+
+  loaded-lengths : (cs : List Call)
+      → let n = callsAfter cs (livesAfter ls m₀) in
+      ZeroBeyond (committedIn n) × ((f : ℕ) → committedIn n (fileLength f) ≤ fileBytes)
+  loaded-lengths cs =
+      let held = lengths-always-hold (callsAfter cs whole) (reached cs) in
+      let e = twins-values _ _ (twins-after cs whole (livesAfter ls m₀) from-fresh) in
+      (subst ZeroBeyond e (held .zeros), subst (λ (v : Values). (f : ℕ) → v (fileLength f) ≤ fileBytes) e (held .limit))
+
+-- ---- undo
 
 same-values : (m n : Machine) → SameCommitted m n → committedIn n ≡ committedIn m
 same-values m n s = fun-ext each
@@ -56,8 +109,7 @@ same-values m n s = fun-ext each
     each (offset d) = unfold values in ap (λ (l : List ℕ). getD l d 0) (s .offsets)
     each (fileLength f) = unfold values in ap (λ (l : List ℕ). getD l f 0) (s .lengths)
 
-module _ (numbers : List ℕ) (m₀ : Machine) (made : FreshlyMade numbers m₀) (rs : List ProgramRun) (logs : List ℕ)
-    (size : length logs ≡ 32768) where
+module _ (a b : Machine) (w : Twins a b) (r : Reached a) (logs : List ℕ) (size : length logs ≡ 32768) where
   abbrev marks : List ℕ
   marks = replicate 32768 0
 
@@ -65,71 +117,44 @@ module _ (numbers : List ℕ) (m₀ : Machine) (made : FreshlyMade numbers m₀)
   run-of cs =
       record { calls = cs; logs = logs; marks = marks; logsLength = size; marksLength = length-replicate 32768 zero }
 
-  -- At its end, and with the image of that moment loaded instead, the store answers alike.
-  ended-alike : (xs : List Call) (c : Call) (zs cs : List Call)
-      → let saved = callsAfter zs (call c (callsAfter xs (runsAfter rs m₀)) .after) in
-      Alike cs (recovered logs marks saved) (rejuvenated saved logs)
-  unfolding afterAll run-of
-  ended-alike xs c zs cs =
-      let first = runsAfter rs m₀ in
-      let saved = callsAfter zs (call c (callsAfter xs first) .after) in
-      let found = recovered logs marks saved in
-      let whole = run-of (xs ++ (c ∷ zs)) in
-      let e : runsAfter (rs ++ (whole ∷ [])) m₀ ≡ found = runs-last rs whole m₀
-      ∙ ap (λ (m : Machine). recovered logs marks m) (calls-append xs (c ∷ zs) first) in
-      let rest = subst AtRest e (recovers numbers m₀ made (rs ++ (whole ∷ [])) .rests) in
-      subst (λ (m : Machine). Alike cs found m) (ended-young logs marks logs saved) (ageless found rest logs size cs)
-
-  loaded-undo : (xs zs ys : List Call) (t minute n : ℕ)
-      → let before = callsAfter xs (runsAfter rs m₀) in
-      let after = call (commit t minute) before .after in
+  undo-loaded : (zs ys : List Call) (t minute n : ℕ)
+      → let after = call (commit t minute) b .after in
       let young = rejuvenated (callsAfter zs after) logs in
       let m = callsAfter ys young in
-      call (commit t minute) before .reply .answer ≡ granted n
+      call (commit t minute) b .reply .answer ≡ granted n
       → grantsAmong (callsReplies zs after) ≡ 0
       → grantsAmong (callsReplies ys young) ≡ 0
       → call undoCommit m .reply .answer ≡ doneAnswer
-      → committedIn (call undoCommit m .after) ≡ committedIn before
-  unfolding runsAfter grantsInRuns run-of
-  loaded-undo xs zs ys t minute n g none-before none-after taken =
-      let before = callsAfter xs (runsAfter rs m₀) in
-      let after = call (commit t minute) before .after in
-      let saved = callsAfter zs after in
-      let found = recovered logs marks saved in
-      let young = rejuvenated saved logs in
-      let alike = ended-alike xs (commit t minute) zs in
-      let whole = alike (ys ++ (undoCommit ∷ [])) in
-      let any = call undoCommit found .reply in
-      let said = sym (last-reply ys undoCommit found any) ∙ ap (lastReply any) (whole .replies)
-      ∙ last-reply ys undoCommit young any in
-      let left : committedIn (call undoCommit (callsAfter ys found) .after)
-      ≡ committedIn (call undoCommit (callsAfter ys young) .after) =
-      ap committedIn (sym (last-left ys undoCommit found)) ∙ whole .left ∙ ap committedIn (last-left ys undoCommit young) in
-      let reached : Reached before =
-      record { numbers = numbers; first = m₀; made = made; runs = rs; calls = xs; by = refl } in
-      let restored = undo-restores before reached (run-of zs ∷ []) ys t minute n g (ap (λ (k : ℕ). k + 0) none-before)
-      (ap grantsAmong (alike ys .replies) ∙ none-after) (ap (λ (r : Reply). r .answer) said ∙ taken) in
-      sym left ∙ same-values before (call undoCommit (callsAfter ys found) .after) restored
+      → committedIn (call undoCommit m .after) ≡ committedIn b
+  unfolding runsAfter grantsInRuns run-of afterAll
+  undo-loaded zs ys t minute n g none-before none-after taken =
+      let c = commit t minute in
+      let after-a = call c a .after in
+      let after-b = call c b .after in
+      let after : Twins after-a after-b = twins-after (c ∷ []) a b w in
+      let saved = twins-after zs after-a after-b after in
+      let found = recovered logs marks (callsAfter zs after-a) in
+      let young = rejuvenated (callsAfter zs after-b) logs in
+      let down = down-twins logs marks size (length-replicate 32768 zero) _ _ saved in
+      let end-a = call undoCommit (callsAfter ys found) .after in
+      let end-b = call undoCommit (callsAfter ys young) .after in
+      let ended : Twins end-a end-b =
+      twins-after (undoCommit ∷ []) (callsAfter ys found) (callsAfter ys young) (twins-after ys found young down) in
+      let restored =
+      undo-restores a r (run-of zs ∷ []) ys t minute n
+      (ap (λ (q : Reply). q .answer) (twins-reply [] c a b w) ∙ g)
+      (ap (λ (k : ℕ). k + 0) (ap grantsAmong (twins-alike zs after-a after-b after .replies) ∙ none-before))
+      (ap grantsAmong (twins-alike ys found young down .replies) ∙ none-after)
+      (ap (λ (q : Reply). q .answer) (twins-reply ys undoCommit found young down) ∙ taken) in
+      sym (twins-values end-a end-b ended) ∙ same-values a end-a restored ∙ twins-values a b w
 
 pub loaded-stores-hold : LoadedStoresHold
-unfolding runsAfter
 loaded-stores-hold =
     record {
-      lengths =
-          λ numbers m₀ made ls cs.
-          let all = callsOfLives ls in
-          let x = callsAfter cs (callsAfter all m₀) in
-          let reached : Reached x = record {
-            numbers = numbers;
-            first = m₀;
-            made = made;
-            runs = [];
-            calls = all ++ cs;
-            by = sym (calls-append all cs m₀);
-          } in
-          let held = lengths-always-hold x reached in
-          let e = images-hold .goesOn numbers m₀ made ls cs .left in
-          (subst ZeroBeyond e (held .zeros), subst (λ (v : Values). (f : ℕ) → v (fileLength f) ≤ fileBytes) e (held .limit));
-      undo = λ numbers m₀ made rs xs zs ys t minute n logs size.
-          loaded-undo numbers m₀ made rs logs size xs zs ys t minute n;
+      lengths = loaded-lengths;
+      undo =
+          λ numbers m₀ made ls xs zs ys t minute n logs size.
+          let from = from-fresh numbers m₀ made ls in
+          undo-loaded _ _ (twins-after xs (whole numbers m₀ made ls) (livesAfter ls m₀) from)
+          (reached numbers m₀ made ls xs) logs size zs ys t minute n;
     }

@@ -12,7 +12,6 @@ use Rattle.spec.specs.Messages.{Call, commit, undoCommit, grantsAmong}
 use Rattle.spec.specs.Machine.{Machine}
 use Rattle.spec.specs.Calls.{call, callsAfter, callsReplies}
 use Rattle.spec.specs.SerializabilityOfStore.{FreshlyMade}
-use Rattle.spec.specs.Recovery.{ProgramRun, runsAfter}
 use Rattle.spec.specs.Age.{rejuvenated}
 use Rattle.spec.specs.Lengths.{ZeroBeyond, committedIn}
 use Rattle.c_images.specs.ImagesHold.{Life, livesAfter}
@@ -30,9 +29,9 @@ pub record LoadedStoresHold : Type 0 where
   -- undo. No Commit is granted among zs and ys.
   pub undo :
       (numbers : List ℕ) (m₀ : Machine) → FreshlyMade numbers m₀
-      → (rs : List ProgramRun) (xs zs ys : List Call) (t minute n : ℕ) (logs : List ℕ)
+      → (ls : List Life) (xs zs ys : List Call) (t minute n : ℕ) (logs : List ℕ)
       → length logs ≡ bufferBytes
-      → let before = callsAfter xs (runsAfter rs m₀) in
+      → let before = callsAfter xs (livesAfter ls m₀) in
       let after = call (commit t minute) before .after in
       let young = rejuvenated (callsAfter zs after) logs in
       let m = callsAfter ys young in

@@ -269,7 +269,7 @@ module _ (m : Machine) (s : Sound m) (logs : List ℕ) (size : length logs ≡ 3
             });
       }
 
-  pub young-closed : (t : ℕ) → t ≤ 7 → transaction (rejuvenated m logs .store) t .begun ≡ false
+  young-closed : (t : ℕ) → t ≤ 7 → transaction (rejuvenated m logs .store) t .begun ≡ false
   unfolding rejuvenated freshMachine
   young-closed t l = closed-at (m .store .filenumbers) logs (m .undo) t (omega arith)
 
@@ -277,7 +277,7 @@ module _ (m : Machine) (s : Sound m) (logs : List ℕ) (size : length logs ≡ 3
   unfolding rejuvenated freshStore freshMachine
   same-back = back-same m (rejuvenated m logs) young-grant refl refl refl refl
 
-  pub same-start : startAbstract (fileOf (m .store)) (values (m .store) (m .files)) (windowAt (m .store)) (backIn m)
+  same-start : startAbstract (fileOf (m .store)) (values (m .store) (m .files)) (windowAt (m .store)) (backIn m)
       ≡ startAbstract (fileOf (rejuvenated m logs .store)) (values (rejuvenated m logs .store) (rejuvenated m logs .files))
       (windowAt (rejuvenated m logs .store)) (backIn (rejuvenated m logs))
   unfolding rejuvenated freshStore freshMachine fileOf
@@ -288,6 +288,11 @@ module _ (m : Machine) (s : Sound m) (logs : List ℕ) (size : length logs ≡ 3
       each (byte q) = unfold values in refl
       each (offset d) = unfold values in refl
       each (fileLength f) = unfold values in refl
+
+  -- It stands for the same store without buffers as a store that has gone down.
+  pub young-view : view (rejuvenated m logs)
+      ≡ startAbstract (fileOf (m .store)) (values (m .store) (m .files)) (windowAt (m .store)) (backIn m)
+  young-view = resting-view (rejuvenated m logs) young-closed ∙ sym same-start
 
   young-preserved : NothingLost m (rejuvenated m logs)
   unfolding rejuvenated freshStore freshMachine

@@ -1,15 +1,15 @@
 -- Demand 3 about the code: calls and dispatchers that keep their promises are calls of the rules.
 use mathlib.Core.Bool.{cond}
-use mathlib.Core.List.{List, [], _∷_}
-use mathlib.Core.Path.{_≡_, refl, sym, ap, _∙_, subst, subst⁻¹}
+use mathlib.Core.List.{List, [], _∷_, _++_, map}
+use mathlib.Core.Path.{_≡_, refl, sym, ap, ap₂, _∙_, subst, subst⁻¹}
 use lib.ListN.{length, getD}
 use Prim.Native.Nat.{ℕ, zero, suc}
 use Rattle.admission.specs.FirstRefusal.{isNone, unless}
 use Rattle.windows.specs.Windows.{freshWindows}
-use Rattle.spec.specs.Messages.{Call, on, Reply, afterAll}
+use Rattle.spec.specs.Messages.{Call, on, Reply, repliesTo, afterAll}
 use Rattle.spec.specs.Machine.{Machine}
 use Rattle.spec.specs.Calls.{Turn, call, callsAfter}
-use Rattle.spec.specs.Plain.{Plain, nothing, freshPlain, noneRunning, plainAfter}
+use Rattle.spec.specs.Plain.{Plain, nothing, freshPlain, noneRunning, plainAfter, plainReplies}
 use Rattle.spec.specs.Promises.{Meets}
 use Rattle.spec.specs.Serializability.{IsAccepted, OneMoment, Holds}
 use Rattle.spec.specs.SerializabilityOfStore.{FreshlyMade, theStore}
@@ -24,7 +24,7 @@ use Rattle.spec_dispatch.specs.Dispatch.{plainDispatch, PlainToo}
 use Rattle.spec_dispatch.specs.SerializabilityOfCode.{CallMade, madeReply, DispatchMade, Gives, DispatchKept}
 use Rattle.spec_dispatch.specs.SerializabilityOfCode.{dispatchCalls, Linked, start, called, ran}
 use Rattle.spec_dispatch.specs.SerializabilityOfCode.{SerializabilityOfCode}
-use Rattle.spec_dispatch.specs.Corollaries.{MomentOfCode}
+use Rattle.spec_dispatch.specs.Corollaries.{MomentOfCode, CallsKept, RepliesOfCode}
 use Rattle.spec_dispatch.proofs.Follows.{TwinWork, store-plain, twins-after}
 use Rattle.spec_dispatch.proofs.Same.{ifPassed, gate, plain-too}
 
@@ -150,3 +150,19 @@ moment-of-code numbers before o m₀ k accepted cs m linked x t op made kept loo
     let e : madeReply x ≡ call (on t op) m .reply = reply-same _ x kept ∙ ap (λ (c : Call). call c m .reply) made in
     subst⁻¹ (OneMoment (plainAfter cs (freshPlain (λ d. getD numbers d 0))) t op) e
     (h .holds .moment t op look (subst IsAccepted e taken))
+
+pub replies-of-code : RepliesOfCode
+unfolding afterAll repliesTo CallsKept
+replies-of-code numbers before o m₀ k accepted xs kept = go xs [] m₀ start kept
+  where
+    p₀ : Plain
+    p₀ = freshPlain (λ d. getD numbers d 0)
+
+    go : (xs : List CallMade) (cs : List Call) (m : Machine) → Linked m₀ cs m → CallsKept m xs
+        → map madeReply xs ≡ plainReplies (map (λ (x : CallMade). x .made) xs) (plainAfter cs p₀)
+    go [] cs m l h = refl
+    go (x ∷ xs) cs m l h =
+        ap₂ (λ (y : Reply) (ys : List Reply). y ∷ ys)
+        (serializability-of-code numbers before o m₀ k accepted cs m l .reply x (h .0))
+        (go xs (cs ++ (x .made ∷ [])) (x .after) (called cs m x l (h .0)) (h .1)
+        ∙ ap (plainReplies (map (λ (x : CallMade). x .made) xs)) (after-append cs (x .made ∷ []) p₀))

@@ -1,6 +1,6 @@
 -- What follows from the statements of this crate. It is proved and used, and nobody has to believe it.
 use mathlib.Core.Bool.{true}
-use mathlib.Core.List.{List, []}
+use mathlib.Core.List.{List, [], _∷_, map}
 use mathlib.Core.Path.{_≡_}
 use lib.ListN.{length, getD}
 use Prim.Native.Nat.{ℕ, _+_, _*_, _≤_}
@@ -11,7 +11,7 @@ use Rattle.spec.specs.Steps.{isReadCall}
 use Rattle.spec.specs.Machine.{Machine}
 use Rattle.spec.specs.Calls.{fresh}
 use Rattle.spec.specs.Promises.{Meets, machineOf}
-use Rattle.spec.specs.Plain.{freshPlain, plainAfter}
+use Rattle.spec.specs.Plain.{freshPlain, plainAfter, plainReplies}
 use Rattle.spec.specs.Serializability.{IsAccepted, OneMoment}
 use Rattle.spec.specs.Age.{AtRest}
 use Rattle.spec_dispatch.specs.Rounds.{Scripts, scriptsIn}
@@ -45,3 +45,14 @@ MomentOfCode =
     → (x : CallMade) (t : ℕ) (op : Op) → x .made ≡ on t op → CallKept m x
     → isReadCall op ≡ true → IsAccepted (madeReply x)
     → OneMoment (plainAfter cs (freshPlain (λ d. getD numbers d 0))) t op (madeReply x)
+
+-- Calls alone, as a list, each on what the one before left: all their replies are the plain machine's.
+unfoldable pub CallsKept : Machine → List CallMade → Type 0
+CallsKept m [] = Unit {0}
+CallsKept m (x ∷ xs) = CallKept m x × CallsKept (x .after) xs
+
+abbrev pub RepliesOfCode : Type 0
+RepliesOfCode =
+    (numbers : List ℕ) (before : Machine) (o : Outcome) (m₀ : Machine)
+    → Meets (fresh numbers before) o m₀ [] → said o ≡ doneAnswer → (xs : List CallMade) → CallsKept m₀ xs
+    → map madeReply xs ≡ plainReplies (map (λ x. x .made) xs) (freshPlain (λ d. getD numbers d 0))

@@ -1,4 +1,5 @@
 pub mod ScriptLaws
 pub mod StepLaws
 pub mod DispatchLaws
+pub mod Link
 pub mod Examples

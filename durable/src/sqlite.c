@@ -32,8 +32,8 @@ static const char *sql_of(enum statement what) {
     case BEGIN_WRITE: return "BEGIN IMMEDIATE";
     case BEGIN_READ: return "BEGIN";
     case HOLD:
-        return "UPDATE luzhanem_channel SET generation = generation + 1 WHERE name = $1 AND holder = $2 AND "
-               "generation = $3";
+        return "UPDATE luzhanem_channel SET generation = generation + 1 "
+               "WHERE name = $1 AND holder = $2 AND generation = $3";
     case REPLACE:
         return "INSERT INTO luzhanem_part (channel, part, bytes, checksum) VALUES ($1, $2, $3, $4) "
                "ON CONFLICT (channel, part) DO UPDATE SET bytes = excluded.bytes, checksum = "

@@ -54,6 +54,7 @@ struct luzhanem_durable {
     pthread_cond_t ended;
     bool busy;
     uint64_t drawn, tried, safe;
+    uint64_t together; /* how many tickets the last save covered */
     int answer; /* of the last save, with its words */
     char why[WHY];
 };
@@ -254,16 +255,15 @@ static int save(luzhanem_durable *d, char why[WHY]) {
     return r;
 }
 
-/* Group commit: lets the threads that the last save set free make their next commit and come along, as long
- * as more come. */
+/* Group commit: where the last save covered several tickets, lets the threads that it set free make their next
+ * commit and come along, as long as more come. A thread that is alone does not wait. */
 static void gather(luzhanem_durable *d) {
-    uint64_t before;
-    do {
+    for (uint64_t before = 0; d->together > 1 && d->drawn != before;) {
         before = d->drawn;
         pthread_mutex_unlock(&d->mutex);
         sched_yield();
         pthread_mutex_lock(&d->mutex);
-    } while (d->drawn != before);
+    }
 }
 
 /* Each sync draws a ticket, after its caller's commit. The thread that finds no save under way makes one.
@@ -290,6 +290,7 @@ int luzhanem_durable_sync(luzhanem_durable *d) {
         int r = save(d, why);
         pthread_mutex_lock(&d->mutex);
         d->busy = false;
+        d->together = covered - d->tried;
         d->tried = covered;
         if (r == 0) d->safe = covered;
         d->answer = r;

@@ -115,7 +115,7 @@ static int recover(const char *url, const char *channel, bool by_load, bool made
 
 static int rounds(const char *url, const char *channel, int count, unsigned most, char **loss) {
     static luzhanem_store s;
-    uint32_t known[TASKS] = { 0 }, last[TASKS];
+    uint32_t known[TASKS] = { 0 }, last[TASKS], late[TASKS] = { 0 };
     unsigned all[3] = { 0 };
     char why[200];
     bool made = luzhanem_durable_load(url, channel, &s, NULL) == 0 && progress(&s, known, why, sizeof why);
@@ -126,6 +126,8 @@ static int rounds(const char *url, const char *channel, int count, unsigned most
             return printf("round %d: the child ended by itself\n", i), 1;
         for (int k = 0; k < 3; k++) all[k] += told.counts[k];
         made = made || told.counts[INTENT];
+        for (int t = 0; t < TASKS; t++)
+            if (told.intent[t] < late[t]) told.intent[t] = late[t];
         if (loss && !replace_files(loss[1], loss[2]) && made)
             return printf("round %d: nothing is left\n", i), 1;
         int r = recover(url, channel, i % 2, made, &s);
@@ -133,6 +135,8 @@ static int rounds(const char *url, const char *channel, int count, unsigned most
         if (r < 0) return printf("round %d: %d %s\n", i, r, luzhanem_durable_error()), 1;
         if (!holds(&s, known, &told, last, why, sizeof why)) return printf("round %d: %s\n", i, why), 1;
         memcpy(known, last, sizeof known);
+        /* a server may end a dead host's save after a load, and no more after an open */
+        for (int t = 0; t < TASKS; t++) late[t] = i % 2 ? told.intent[t] : 0;
         if (loss) replace_files(loss[2], loss[1]); /* the recovery went to FROM */
     }
     if (!all[ANSWERED]) return printf("%d kills, and no commit was answered\n", count), 1;

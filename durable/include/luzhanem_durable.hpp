@@ -36,8 +36,8 @@ template <class Mutex = std::mutex> class durable {
 public:
     durable(shared_store<Mutex> &s, const char *url, const char *channel, int how = 0) : store_(&s) {
         const ::luzhanem_durable_lock lock = { take, give, this };
-        s.lock()->record(
-            sink()); // a log has no line for what open loads, so recording ends, as with store::load
+        // A log has no line for what open loads, so recording ends, as with store::load.
+        s.lock()->record(sink());
         const int r = ::luzhanem_durable_open(&d_, url, channel, how, s.lock()->get(), &lock);
         if (r < 0) throw durable_error(r);
     }

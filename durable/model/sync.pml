@@ -1,26 +1,31 @@
-/* A model of luzhanem_durable_sync for spin: tickets, one save at a time, answers that are lost, a takeover.
+/* A model of luzhanem_durable_sync for spin: tickets, one save at a time, answers that are lost, a
+ * takeover.
  *
- * What durable.c does between two moments without its mutex is one step here. THREADS threads make one grant and one sync
- * each; to the others a second sync of a thread is as the first of another thread, so eight stand for every run of up to
- * eight syncs. Threads are alike, so the model numbers them in the order of their tickets. A grant and the ticket after it
- * are one step: a grant that is in an image before its ticket is drawn is only saved earlier. So an image stands for the
- * number of tickets that were drawn when it was taken.
+ * What durable.c does between two moments without its mutex is one step here. THREADS threads make one
+ * grant and one sync each; to the others a second sync of a thread is as the first of another thread, so
+ * eight stand for every run of up to eight syncs. Threads are alike, so the model numbers them in the
+ * order of their tickets. A grant and the ticket after it are one step: a grant that is in an image before
+ * its ticket is drawn is only saved earlier. So an image stands for the number of tickets that were drawn
+ * when it was taken.
  *
- * A save is one transaction of the database that is made only at the holder and generation it names. One that we gave up,
- * because no answer came, may be made at any later moment, or never; LATE_SAVES of them at a time.
+ * A save is one transaction of the database that is made only at the holder and generation it names. One
+ * that we gave up, because no answer came, may be made at any later moment, or never; LATE_SAVES of them
+ * at a time.
  *
  * Checked by assertions, and by spin's own search for threads that wait for ever:
- *     an answer of 0 implies that the database has an image which was taken after the ticket was drawn;
+ *     an answer of 0 implies that the database has an image which was taken after the ticket was
+ *       drawn;
  *     no older image is put over a newer one;
- *     once another host has the channel nothing of ours is written, and that host was given all that was answered;
+ *     once another host has the channel nothing of ours is written, and that host was given all that
+ *       was answered;
  *     FENCED is answered only where another host has the channel.
  * The database is one thing that keeps what it has committed: disks and replication are left to the tests.
  *
- * With SLEEPERS each thread sleeps until it is woken, may be the one that saves, and returns by itself. Without, the thread that
- * waits longest saves (no step looks at the ticket of the one that saves), and the answers of all tickets are checked after
- * each save. With PARTS a save writes only those of two parts
- * that differ from the last one, and a grant may be an undo, which puts an old value back: such a part may equal the last
- * save and not the database, which is why a failed save forgets what the database has.
+ * With SLEEPERS each thread sleeps until it is woken, may be the one that saves, and returns by itself.
+ * Without, the thread that waits longest saves (no step looks at the ticket of the one that saves), and
+ * the answers of all tickets are checked after each save. With PARTS a save writes only those of two parts
+ * that differ from the last one, and a grant may be an undo, which puts an old value back: such a part may
+ * equal the last save and not the database, which is why a failed save forgets what the database has.
  *
  * Each MUTANT_ is a fault that has to be found: tests/run.d/60-model. */
 #ifndef THREADS

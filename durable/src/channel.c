@@ -1,5 +1,5 @@
-/* luzhanem-channel: looks at the channels of a database, checks and copies them. It changes nothing but the target of a
- * copy. */
+/* luzhanem-channel: looks at the channels of a database, checks and copies them. It changes nothing but the
+ * target of a copy. */
 #include "luzhanem_durable.h"
 #include <inttypes.h>
 #include <stdbool.h>
@@ -10,32 +10,33 @@
 static const char help[] =
     "luzhanem-channel: the channels of a database, \"sqlite:PATH\" or \"postgresql://..\"\n"
     "\n"
-    "    luzhanem-channel list URL                   each channel: its name, and how many saves and takeovers it had\n"
-    "    luzhanem-channel check URL [CHANNEL]        reads and judges every channel, or one\n"
-    "    luzhanem-channel show URL CHANNEL           lengths of the files; file and offset of the descriptors\n"
-    "    luzhanem-channel show URL CHANNEL FILE      the bytes of a file, 0 to 7\n"
-    "    luzhanem-channel copy [--replace] FROM TO [CHANNEL]\n"
-    "                                                copies every channel, or one, to another database. One that is\n"
-    "                                                there already is refused; with --replace it is taken over, which\n"
-    "                                                fences its host, and overwritten\n"
-    "    luzhanem-channel --help | --version\n"
+    "    list URL                    each channel: its name, and how many saves and takeovers it had\n"
+    "    check URL [CHANNEL]         reads and judges every channel, or one\n"
+    "    show URL CHANNEL            lengths of the files; file and offset of the descriptors\n"
+    "    show URL CHANNEL FILE       the bytes of a file, 0 to 7\n"
+    "    copy [--replace] FROM TO [CHANNEL]\n"
+    "                                copies every channel, or one, to another database. One that is there\n"
+    "                                already is refused; with --replace it is taken over, which fences its\n"
+    "                                host, and overwritten\n"
+    "    --help, --version\n"
     "\n"
-    "A channel may be in use: what is read is its last save. Exit status: 0 good, 1 a channel or database is not, 2 wrong\n"
-    "arguments.\n";
+    "A channel may be in use: what is read is its last save. Exit status: 0 good, 1 a channel or a\n"
+    "database is not, 2 wrong arguments.\n";
 
 enum { GOOD = 0, BAD = 1, USAGE = 2 };
 
 static luzhanem_store store;
 
 static int wrong(const char *what, const char *word) {
-    fprintf(stderr, "luzhanem-channel: %s%s%s\nluzhanem-channel --help says more\n", what, word ? ": " : "", word ? word : "");
+    fprintf(stderr, "luzhanem-channel: %s%s%s\n", what, word ? ": " : "", word ? word : "");
+    fprintf(stderr, "luzhanem-channel --help says more\n");
     return USAGE;
 }
 
 /* Tells the last error of the library, of a channel or of the whole database. */
 static int failed(const char *channel, int answer) {
-    fprintf(stderr, "luzhanem-channel: %s%s%s: %s\n", channel ? channel : "", channel ? ": " : "", luzhanem_durable_errname(answer),
-            luzhanem_durable_error());
+    fprintf(stderr, "luzhanem-channel: %s%s%s: %s\n", channel ? channel : "", channel ? ": " : "",
+            luzhanem_durable_errname(answer), luzhanem_durable_error());
     return BAD;
 }
 
@@ -100,7 +101,8 @@ static int check(const char *url, const char *channel) {
 
 static int show(const char *url, const char *channel, const char *file) {
     int64_t generation = 0;
-    if (file && (strlen(file) != 1 || file[0] < '0' || file[0] > '7')) return wrong("a file is a digit from 0 to 7", file);
+    if (file && (strlen(file) != 1 || file[0] < '0' || file[0] > '7'))
+        return wrong("a file is a digit from 0 to 7", file);
     int r = luzhanem_durable_load(url, channel, &store, &generation);
     if (r < 0) return failed(channel, r);
     if (file) {
@@ -111,12 +113,13 @@ static int show(const char *url, const char *channel, const char *file) {
     printf("generation %" PRId64 "\n", generation);
     for (size_t f = 0; f < LUZHANEM_FILES; f++) printf("file %zu: %d bytes\n", f, luzhanem_length(&store, f));
     for (size_t d = 0; d < LUZHANEM_DESCRIPTORS; d++)
-        printf("descriptor %zu: file %d, offset %d\n", d, luzhanem_file_of(&store, d), luzhanem_offset(&store, d));
+        printf("descriptor %zu: file %d, offset %d\n", d, luzhanem_file_of(&store, d),
+               luzhanem_offset(&store, d));
     return GOOD;
 }
 
-/* A channel that is new is made from the store, in one transaction. For one that was there open gives what it had: the image
- * goes over it, and is saved. */
+/* A channel that is new is made from the store, in one transaction. For one that was there open gives what it
+ * had: the image goes over it, and is saved. */
 static int copy_one(const char *from, const char *to, const char *channel, bool replace) {
     static luzhanem_image image;
     static luzhanem_store there;
@@ -124,8 +127,10 @@ static int copy_one(const char *from, const char *to, const char *channel, bool 
     int r = luzhanem_durable_load(from, channel, &store, NULL);
     if (r < 0) return failed(channel, r);
     int other = replace ? LUZHANEM_DURABLE_E_NO_CHANNEL : luzhanem_durable_load(to, channel, &there, NULL);
-    if (other != LUZHANEM_DURABLE_E_NO_CHANNEL && other != LUZHANEM_DURABLE_E_UNREACHABLE) { /* the latter: no file, no tables */
-        fprintf(stderr, "luzhanem-channel: %s: is there already in %s; --replace overwrites it\n", channel, to);
+    /* UNREACHABLE: there is no file or no table yet, or open fails too */
+    if (other != LUZHANEM_DURABLE_E_NO_CHANNEL && other != LUZHANEM_DURABLE_E_UNREACHABLE) {
+        fprintf(stderr, "luzhanem-channel: %s: is there already in %s; --replace overwrites it\n", channel,
+                to);
         return BAD;
     }
     r = luzhanem_save(&store, &image);
@@ -157,11 +162,18 @@ static int command(int n, char **v) {
     for (int i = 2; i < n; i++)
         if (v[i][0] == '-') return wrong("there is no such option here", v[i]);
     if (n == 2 && (strcmp(what, "--help") == 0 || strcmp(what, "-h") == 0)) return fputs(help, stdout), GOOD;
-    if (n == 2 && strcmp(what, "--version") == 0) return printf("luzhanem-channel %s\n", luzhanem_version()), GOOD;
+    if (n == 2 && strcmp(what, "--version") == 0)
+        return printf("luzhanem-channel %s\n", luzhanem_version()), GOOD;
+    const char *third = n > 3 ? v[3] : NULL, *fourth = n > 4 ? v[4] : NULL;
     if (strcmp(what, "list") == 0) return n == 3 ? list(v[2]) : wrong("list wants a URL", NULL);
-    if (strcmp(what, "check") == 0) return n == 3 || n == 4 ? check(v[2], n == 4 ? v[3] : NULL) : wrong("check wants a URL, and maybe a channel", NULL);
-    if (strcmp(what, "show") == 0) return n == 4 || n == 5 ? show(v[2], v[3], n == 5 ? v[4] : NULL) : wrong("show wants a URL, a channel, and maybe a file", NULL);
-    if (strcmp(what, "copy") == 0) return n == 4 || n == 5 ? copy(v[2], v[3], n == 5 ? v[4] : NULL, replace) : wrong("copy wants two URLs, and maybe a channel", NULL);
+    if (strcmp(what, "check") == 0)
+        return n == 3 || n == 4 ? check(v[2], third) : wrong("check wants a URL, and maybe a channel", NULL);
+    if (strcmp(what, "show") == 0)
+        return n == 4 || n == 5 ? show(v[2], third, fourth)
+                                : wrong("show wants a URL, a channel, and maybe a file", NULL);
+    if (strcmp(what, "copy") == 0)
+        return n == 4 || n == 5 ? copy(v[2], third, fourth, replace)
+                                : wrong("copy wants two URLs, and maybe a channel", NULL);
     return n == 1 ? wrong("a command is wanted", NULL) : wrong("there is no such command", what);
 }
 

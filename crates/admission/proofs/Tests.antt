@@ -27,8 +27,8 @@ use Rattle.admission.specs.FirstRefusal.{below}
 use Rattle.admission.specs.Admission.{standingIn, endsWithin, placeIn, recordIn, lengthsBefore, journalIn, journalPasses}
 use Rattle.admission.specs.Admission.{transactionIn}
 use Rattle.admission.specs.Admission.{windowIn, tablesIn, placedIn, landedIn, grantPasses, undoIn, noneBegun}
-use Rattle.admission.proofs.Laws.{and-left, and-right, and-both, and-true, below-zero, below-at, below-all, below-same, sum-zero, sum-more}
-use Rattle.admission.proofs.Laws.{standing-numbers}
+use Rattle.admission.proofs.Laws.{and-left, and-right, and-both, and-true, below-zero, below-at, below-all, below-same}
+use Rattle.admission.proofs.Laws.{sum-zero, sum-more, standing-numbers}
 use Rattle.buffers.proofs.BelowLaws.{below-both}
 
 and-false : (a : Bool) → a && false ≡ false

@@ -14,7 +14,6 @@ use Prim.Native.Nat.{ℕ, zero, suc, _+_, _-_, _*_, _≤_, _<_}
 use Rattle.buffers.specs.Parts.{tabulate}
 use Rattle.buffers.specs.Bits.{withBitAs}
 use Rattle.buffers.specs.Marks.{contains}
-use Rattle.buffers.proofs.PartLaws.{le-or-lt}
 use Rattle.buffers.proofs.SetLaws.{contains-put, contains-bits, bits-none}
 use Rattle.buffers.proofs.TableLaws.{length-tabulate, getD-tabulate, table-same, table-set}
 use Rattle.counters.specs.declared.Used.{Used}
@@ -31,8 +30,8 @@ use Rattle.state.specs.StoreMeaning.{withBegun, withStale}
 use Rattle.state.specs.StoreMeaning.{withLengthmarks, withDescriptors, withUsed, withOffsets, withLengths, withWindows}
 use Rattle.state.specs.StoreMeaning.{windowAt, noUndo}
 use Rattle.state.specs.Journal.{descriptorCode, writeRecordAt, withRecordAt}
-use Rattle.state.specs.Layout.{standingOf, isSet, numberAt, descriptorOf, usedOf, transactionOf, storeOf, journalOf, windowOf}
-use Rattle.state.specs.Layout.{undoOf, stateLength}
+use Rattle.state.specs.Layout.{standingOf, isSet, numberAt, descriptorOf, usedOf, transactionOf, storeOf, journalOf}
+use Rattle.state.specs.Layout.{windowOf, undoOf, stateLength}
 use Rattle.state.specs.Updates.{firstNumber, secondNumber, flagNumber, withDescriptorAt, withChosenAt}
 use Rattle.state.specs.Updates.{withUsedAt, withStaleAt}
 use Rattle.state.specs.Updates.{withLengthmarksAt, zeroedAt, resetAt, withFileNumberAt, withFileNumbersAt, withOffsetAt}
@@ -455,7 +454,8 @@ module _ (r : List ℕ) (t : ℕ) (long : length r ≡ stateLength) (small : t <
             (getD-set-other r (numberAt t k) (numberAt t 35) n 0 (λ p. clean (omega arith))),
       )
     where
-      number-by : (j : ℕ) (b : Bool) → eqb j k ≡ b → getD (set r (numberAt t k) n) (numberAt t j) 0 ≡ cond b n (getD r (numberAt t j) 0)
+      number-by : (j : ℕ) (b : Bool) → eqb j k ≡ b
+          → getD (set r (numberAt t k) n) (numberAt t j) 0 ≡ cond b n (getD r (numberAt t j) 0)
       number-by j true e = let q = eqb-true j k e in rw q (getD-set-same r (numberAt t k) n 0 (omega arith))
       number-by j false e = getD-set-other r (numberAt t k) (numberAt t j) n 0 (λ p. eqb-false j k e (omega arith))
 

@@ -89,7 +89,8 @@ waits-number (suc o) (suc zero) e = lt-leb (e + 2) 1 (omega arith)
 waits-number zero (suc (suc n)) e = ap (λ (x : ℕ). leb (e + 2) x) (sym (add-two n)) ∙ more-leb e 2 n
 waits-number (suc o) (suc (suc n)) e = ap (λ (x : ℕ). leb (e + 2) x) (sym (add-two n)) ∙ more-leb e 2 n
 
-carried-number : (a b m : ℕ) → leb b (m + 2) && leb a (m + 1) ≡ leb (advance (standingOf a b)) m && leb (offsetOf (standingOf a b)) m
+carried-number : (a b m : ℕ)
+    → leb b (m + 2) && leb a (m + 1) ≡ leb (advance (standingOf a b)) m && leb (offsetOf (standingOf a b)) m
 carried-number a b m = rw (advance-number a b, offset-number a b, less-leb b 2 m, less-leb a 1 m)
 
 -- Descriptor d of transaction t, from its two numbers.

@@ -94,8 +94,8 @@ bytesSlot = begunSlot + 5
 -- ---- what numbers mean: every number means something, and none is cut
 
 -- Two numbers as a standing: one more than its offset, or 0 where it carries none; and two more than its
--- advance, or 0 where it carries none, or 1 where it is Known. "Each standing carries the numbers named beside
--- it and no others" [R-3.1]. The pair 0, 1, which Updates.antt never puts, is Known at 0.
+-- advance, or 0 where it carries none, or 1 where it is Known. "Each standing carries the numbers named
+-- beside it and no others" [R-3.1]. The pair 0, 1, which Updates.antt never puts, is Known at 0.
 unfoldable pub standingOf : ℕ → ℕ → Standing
 standingOf a (suc zero) = Known (a - 1)
 standingOf zero zero = Untouched

@@ -67,7 +67,7 @@ pub fn may_wait_to(state: &State, t: usize, d: usize, end: usize) -> bool
     end + WIDE_BIAS <= b
 }
 
-// ---- the open transactions, all eight at once: no branch, and none on what is open
+// ---- the eight transactions at once: one vector is eight transactions, an open one a mask
 
 // The advances and offsets that the standings of transaction t carry are at most `most`.
 fn own_at_most(state: &State, t: usize, most: u16) -> bool

@@ -3,12 +3,13 @@
 use mathlib.Core.Bool.{Bool, true, false, not, _&&_, _||_}
 use mathlib.Core.List.{List}
 use mathlib.Core.Logic.{⊎-elim}
-use mathlib.Core.Path.{_≡_, refl, sym, ap, _∙_}
+use mathlib.Core.Path.{_≡_, refl, sym, ap, ap₂, _∙_}
+use lib.Bits.{bitOr, or-add-and, and-le-l, and-le-r}
 use lib.Dec.{leb, ltb, eqb}
 use lib.ListN.{getD}
 use native.Mathlib.Numerals.{add-two}
 use native.Mathlib.Omega.{arith}
-use borrow.Author.Tests.{eqb-true, ne-eqb, lt-ltb, le-ltb, le-leb, lt-leb, not-false}
+use borrow.Author.Tests.{eqb-true, eq-eqb, ne-eqb, lt-ltb, le-ltb, le-leb, lt-leb, not-false}
 use Prim.Native.Nat.{ℕ, zero, suc, _+_, _-_, _*_, _≤_, _<_}
 use Rattle.buffers.specs.Below.{below}
 use Rattle.buffers.specs.Marks.{contains}
@@ -117,6 +118,28 @@ module _ (r : List ℕ) (t d : ℕ) (few : d < 16) (b : ℕ) (is-b : b ≡ getD 
     pub carried-decides : (m : ℕ) → leb b (m + 2) && leb a (m + 1) ≡ leb (advance z) m && leb (offsetOf z) m
     carried-decides m =
         rw is-a (carried-number own b m ∙ ap (λ (y : Standing). leb (advance y) m && leb (offsetOf y) m) its-standing)
+
+-- What a number is above a bound.
+pub excess-above : (x m : ℕ) → m < x → eqb (x - m) 0 ≡ leb x m
+excess-above x m h = ne-eqb (x - m) 0 (λ p. omega arith) ∙ sym (lt-leb x m h)
+
+-- Two numbers are 0 where their bits together are.
+pub or-none : (a b : ℕ) → eqb (bitOr a b) 0 ≡ eqb a 0 && eqb b 0
+or-none zero zero = let s = or-add-and 0 0 in eq-eqb (bitOr 0 0) 0 (omega arith)
+or-none zero (suc b) =
+    let s = or-add-and 0 (suc b) in
+    let l = and-le-l 0 (suc b) in
+    ne-eqb (bitOr 0 (suc b)) 0 (λ p. omega arith) ∙ sym (ne-eqb (suc b) 0 (λ p. omega arith))
+or-none (suc a) b =
+    let s = or-add-and (suc a) b in
+    let l = and-le-r (suc a) b in
+    ne-eqb (bitOr (suc a) b) 0 (λ p. omega arith)
+    ∙ sym (ap (λ (x : Bool). x && eqb b 0) (ne-eqb (suc a) 0 (λ p. omega arith)))
+
+-- One descriptor more, from what its two numbers are above their bounds.
+pub none-above : (bad v u : ℕ) (before now : Bool) → eqb bad 0 ≡ before → eqb v 0 && eqb u 0 ≡ now
+    → eqb (bitOr bad (bitOr v u)) 0 ≡ before && now
+none-above bad v u before now e f = or-none bad (bitOr v u) ∙ ap₂ _&&_ e (or-none v u ∙ f)
 
 -- ---- the descriptors of a transaction
 

@@ -22,7 +22,7 @@ use crate::positions::second_at;
 use limits::wide;
 ghost use mathlib.Core.Bool.{false, not, _&&_, _||_};
 ghost use mathlib.Core.Path.{_≡_};
-ghost use lib.Dec.{leb};
+ghost use lib.Dec.{leb, eqb};
 ghost use lib.ListN.{getD};
 ghost use Prim.Native.Nat.{ℕ, _+_, _<_, _≤_};
 ghost use Rattle.limits.specs.Limits.{fileCount, descriptorCount, transactionCount};
@@ -69,21 +69,32 @@ pub fn may_wait_to(state: &State, t: usize, d: usize, end: usize) -> bool
 
 // ---- the eight transactions at once: one vector is eight transactions, an open one a mask
 
+// How much x is above `most`; 0 where it is not.
+fn excess(x: u16, most: u16) -> u16
+    ensures { λ r. ⌜ eqb r 0 ≡ leb x most ⌝ }
+{
+    if most < x {
+        return x - most;
+    }
+    0
+}
+
 // The advances and offsets that the standings of transaction t carry are at most `most`.
 fn own_at_most(state: &State, t: usize, most: u16) -> bool
     requires { ⌜ (t < transactionCount) × (most ≤ 65533) ⌝ }
     ensures { λ r. ⌜ r ≡ below (λ d. leb (advance (standingAt (transactionOf (now (state .entry)) t) d)) most
         && leb (offsetOf (standingAt (transactionOf (now (state .entry)) t) d)) most) descriptorCount ⌝ }
 {
-    let mut good = true;
+    let mut bad = 0u16;
     let mut d = 0;
     while d < DESCRIPTORS {
         let a = first_at(state, t, d);
         let b = second_at(state, t, d);
-        good = good & ((b <= most + ADVANCE_BIAS) & (a <= most + OFFSET_BIAS));
+        let more = excess(b, most + ADVANCE_BIAS) | excess(a, most + OFFSET_BIAS);
+        bad = bad | more;
         d += 1;
     }
-    good
+    bad == 0
 }
 
 // The advances and offsets that the standings of the open transactions carry are at most `most`.

@@ -4,33 +4,36 @@ use Rattle.buffers.specs.Below.{below}
 use Rattle.standings.specs.Table.{advance, offsetOf}
 use Rattle.state.specs.Layout.{transactionOf}
 use Rattle.state.specs.StoreMeaning.{standingAt}
-use Rattle.state.proofs.ReaderLaws.{carried-decides}
-use lib.Dec.{leb}
+use Rattle.state.proofs.ReaderLaws.{carried-decides, none-above}
+use lib.Dec.{leb, eqb}
 use Prim.Native.Nat.{_-_, _≤_}
 use mathlib.Core.Bool.{_&&_}
-use mathlib.Core.Path.{_≡_}
+use mathlib.Core.Path.{_≡_, refl, ap₂, _∙_}
 use native.Mathlib.Omega.{arith}
 use borrow.Author.Needs.{needs}
 use Rattle.state.proofs.readers.own_at_most.Statement.{statement}
 use Rattle.state.proofs.readers.own_at_most.Tie as tie
 
 abbrev Inv-loop : tie.InvT-loop
-Inv-loop state t most good₀ d₀ good d =
-    (d ≤ 16) × (good ≡ below (λ e. leb (advance (standingAt (transactionOf state t) e)) most
+Inv-loop state t most bad₀ d₀ bad d =
+    (d ≤ 16) × (eqb bad 0 ≡ below (λ e. leb (advance (standingAt (transactionOf state t) e)) most
     && leb (offsetOf (standingAt (transactionOf state t) e)) most) d)
 
 abbrev μ-loop : tie.MeasureT-loop
-μ-loop state t most good₀ d₀ good d = 16 - d
+μ-loop state t most bad₀ d₀ bad d = 16 - d
 
 loop-holds : tie.Need-loop-holds Inv-loop μ-loop
 loop-holds c = (omega arith, none-yet _)
 
 loop-again : tie.Need-loop-again Inv-loop μ-loop
 loop-again c =
-    let l = c .before .before .before .loop in (
+    let at-read = c .before .before in
+    let l = at-read .before .before .before .loop in (
       omega arith,
-      one-more _ _ _ _ (l .inv .1)
-          (carried-decides _ _ _ (omega arith) _ (c .second-at .ensures) _ (c .before .first-at .ensures) _),
+      none-above (l .bad) (c .before .excess .result) (c .excess2 .result) _ _ (l .inv .1)
+          (ap₂ _&&_ (c .before .excess .ensures) (c .excess2 .ensures)
+          ∙ carried-decides _ _ _ (omega arith) _ (at-read .second-at .ensures) _ (at-read .before .first-at .ensures) _)
+          ∙ one-more _ _ _ _ refl refl,
     )
 
 returns : tie.Need-returns Inv-loop μ-loop
@@ -46,7 +49,9 @@ own-at-most-spec =
     (λ c κs. search needs)
     (λ c κs. search needs)
     (λ c. search needs)
+    (λ c κs. search needs)
     (λ c. search needs)
+    (λ c κs. search needs)
     (λ c. search needs)
     (λ c. search needs)
     loop-again

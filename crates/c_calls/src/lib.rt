@@ -7,20 +7,14 @@ use c_codes::code;
 use c_codes::gap_in;
 use c_codes::tried_of;
 use call_order::best_order;
-use limits::BUFFER_BYTES;
 use limits::TRANSACTIONS;
-use limits::UNDO_BYTES;
 use state::layout::State;
+use store::Buffer;
+use store::UndoLog;
 ghost use mathlib.Core.List.{[]};
 ghost use Rattle.spec.specs.Messages.{Call, Op};
 ghost use Rattle.spec.specs.Calls.{call, fresh as freshRule};
 ghost use Rattle.c_codes.specs.Codes.{AnswersAsCode, Orders};
-
-// A store buffer: the files, the logs or the marks.
-pub type Buffer = [u8; BUFFER_BYTES];
-
-// The bytes on which the last grant landed.
-pub type Old = [u8; UNDO_BYTES];
 
 // Fresh.
 #[no_mangle]
@@ -29,7 +23,7 @@ pub extern "C" fn luzhanem_parts_fresh(
     files: &mut Buffer,
     logs: &Buffer,
     marks: &mut Buffer,
-    undo: &Old,
+    undo: &UndoLog,
     numbers: &[u8],
 ) -> i32
     ensures { λ r. ⌜ AnswersAsCode (freshRule (now (numbers .entry))) state files logs marks undo r [] ⌝ }
@@ -44,7 +38,7 @@ pub extern "C" fn luzhanem_parts_begin(
     files: &Buffer,
     logs: &Buffer,
     marks: &mut Buffer,
-    undo: &Old,
+    undo: &UndoLog,
     t: usize,
 ) -> i32
     ensures { λ r. ⌜ AnswersAsCode (call (Call.begin t)) state files logs marks undo r [] ⌝ }
@@ -59,7 +53,7 @@ pub extern "C" fn luzhanem_parts_seek(
     files: &Buffer,
     logs: &Buffer,
     marks: &Buffer,
-    undo: &Old,
+    undo: &UndoLog,
     t: usize,
     d: usize,
     v: usize,
@@ -76,7 +70,7 @@ pub extern "C" fn luzhanem_parts_write(
     files: &Buffer,
     logs: &mut Buffer,
     marks: &Buffer,
-    undo: &Old,
+    undo: &UndoLog,
     t: usize,
     d: usize,
     bytes: &[u8],
@@ -94,7 +88,7 @@ pub extern "C" fn luzhanem_parts_get_file_pointer(
     files: &Buffer,
     logs: &Buffer,
     marks: &Buffer,
-    undo: &Old,
+    undo: &UndoLog,
     t: usize,
     d: usize,
 ) -> i32
@@ -110,7 +104,7 @@ pub extern "C" fn luzhanem_parts_read<'a>(
     files: &'a Buffer,
     logs: &'a Buffer,
     marks: &mut Buffer,
-    undo: &Old,
+    undo: &UndoLog,
     t: usize,
     d: usize,
     n: usize,
@@ -129,7 +123,7 @@ pub extern "C" fn luzhanem_parts_places(
     files: &Buffer,
     logs: &Buffer,
     marks: &Buffer,
-    undo: &Old,
+    undo: &UndoLog,
     t: usize,
     f: usize,
     out: &mut [u8],
@@ -147,7 +141,7 @@ pub extern "C" fn luzhanem_parts_commit(
     files: &mut Buffer,
     logs: &Buffer,
     marks: &mut Buffer,
-    undo: &mut Old,
+    undo: &mut UndoLog,
     t: usize,
     minute: usize,
 ) -> i32
@@ -163,7 +157,7 @@ pub extern "C" fn luzhanem_parts_abort(
     files: &Buffer,
     logs: &Buffer,
     marks: &mut Buffer,
-    undo: &Old,
+    undo: &UndoLog,
     t: usize,
 ) -> i32
     ensures { λ r. ⌜ AnswersAsCode (call (Call.abort t)) state files logs marks undo r [] ⌝ }
@@ -178,7 +172,7 @@ pub extern "C" fn luzhanem_parts_set_window(
     files: &Buffer,
     logs: &Buffer,
     marks: &Buffer,
-    undo: &Old,
+    undo: &UndoLog,
     f: usize,
     start: usize,
     end: usize,
@@ -195,7 +189,7 @@ pub extern "C" fn luzhanem_parts_undo(
     files: &mut Buffer,
     logs: &Buffer,
     marks: &Buffer,
-    undo: &Old,
+    undo: &UndoLog,
 ) -> i32
     ensures { λ r. ⌜ AnswersAsCode (call Call.undoCommit) state files logs marks undo r [] ⌝ }
 {
@@ -210,7 +204,7 @@ pub extern "C" fn luzhanem_parts_best_order<'a>(
     files: &'a Buffer,
     logs: &'a Buffer,
     marks: &'a Buffer,
-    undo: &'a Old,
+    undo: &'a UndoLog,
     list: &'a [u8],
     minute: usize,
     budget: usize,

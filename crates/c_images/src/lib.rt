@@ -7,18 +7,14 @@ mod saving;
 use c_codes::code;
 use images::Numbers;
 use state::layout::State;
+use store::Buffer;
+use store::UndoLog;
 ghost use mathlib.Core.List.{[]};
 ghost use mathlib.Core.Path.{_≡_};
 ghost use Rattle.spec.specs.Promises.{handed};
 ghost use Rattle.c_codes.specs.Codes.{AnswersAsCode};
 ghost use Rattle.c_images.specs.ImageCalls.{checkRule, loadRule, SavedImage};
 ghost use Rattle.c_images.specs.LayoutNumber.{layoutNumber};
-
-// A store buffer: the files, the logs or the marks.
-pub type Buffer = [u8; 32768];
-
-// The bytes on which the last grant landed.
-pub type Old = [u8; 4096];
 
 // Check 2 alone.
 #[no_mangle]
@@ -27,7 +23,7 @@ pub extern "C" fn luzhanem_parts_check(
     files: &Buffer,
     logs: &Buffer,
     marks: &Buffer,
-    undo: &Old,
+    undo: &UndoLog,
 ) -> i32
     ensures { λ r. ⌜ AnswersAsCode checkRule state files logs marks undo r [] ⌝ }
 {
@@ -41,10 +37,10 @@ pub extern "C" fn luzhanem_parts_save(
     files: &Buffer,
     logs: &Buffer,
     marks: &Buffer,
-    undo: &Old,
+    undo: &UndoLog,
     numbers: &mut Numbers,
     bytes: &mut Buffer,
-    old: &mut Old,
+    old: &mut UndoLog,
 ) -> i32
     ensures { λ r. ⌜ AnswersAsCode checkRule state files logs marks undo r []
         × SavedImage (handed state files logs marks undo) numbers bytes old ⌝ }
@@ -60,10 +56,10 @@ pub extern "C" fn luzhanem_parts_load(
     files: &mut Buffer,
     logs: &Buffer,
     marks: &mut Buffer,
-    undo: &mut Old,
+    undo: &mut UndoLog,
     numbers: &Numbers,
     bytes: &Buffer,
-    old: &Old,
+    old: &UndoLog,
 ) -> i32
     ensures { λ r. ⌜ AnswersAsCode
         (loadRule (now (numbers .entry)) (now (bytes .entry)) (now (old .entry)))

@@ -9,6 +9,8 @@ use images::young_record;
 use state::layout::State;
 use state::outcomes::Outcome;
 use state::outcomes::Refusal;
+use store::Buffer;
+use store::UndoLog;
 ghost use mathlib.Core.List.{[]};
 ghost use mathlib.Core.Path.{_≡_};
 ghost use lib.ListN.{length, replicate};
@@ -33,13 +35,13 @@ fn clear(buffer: &mut [u8])
 // the logs that lie there. The image's record is made apart before it replaces the store's.
 pub fn load_image(
     state: &mut State,
-    files: &mut crate::Buffer,
-    logs: &crate::Buffer,
-    marks: &mut crate::Buffer,
-    undo: &mut crate::Old,
+    files: &mut Buffer,
+    logs: &Buffer,
+    marks: &mut Buffer,
+    undo: &mut UndoLog,
     numbers: &Numbers,
-    bytes: &crate::Buffer,
-    old: &crate::Old,
+    bytes: &Buffer,
+    old: &UndoLog,
 ) -> Outcome
     ensures { λ r. ⌜ Follows
         (loadRule (now (numbers .entry)) (now (bytes .entry)) (now (old .entry)))

@@ -8,6 +8,8 @@ use limits::BUFFER_BYTES;
 use limits::FILE_BYTES;
 use state::layout::State;
 use state::outcomes::Outcome;
+use store::Buffer;
+use store::UndoLog;
 ghost use mathlib.Core.List.{[]};
 ghost use mathlib.Core.Path.{_≡_};
 ghost use lib.ListN.{length};
@@ -36,10 +38,10 @@ pub fn copy(dst: &mut [u8], src: &[u8])
 // Refusal 2, or nothing.
 pub fn check_state(
     state: &State,
-    files: &crate::Buffer,
-    logs: &crate::Buffer,
-    marks: &crate::Buffer,
-    undo: &crate::Old,
+    files: &Buffer,
+    logs: &Buffer,
+    marks: &Buffer,
+    undo: &UndoLog,
 ) -> Outcome
     ensures { λ r. ⌜ Follows checkRule state files logs marks undo r [] ⌝ }
 {
@@ -53,13 +55,13 @@ pub fn check_state(
 // Refusal 2, or the image.
 pub fn save_image(
     state: &State,
-    files: &crate::Buffer,
-    logs: &crate::Buffer,
-    marks: &crate::Buffer,
-    undo: &crate::Old,
+    files: &Buffer,
+    logs: &Buffer,
+    marks: &Buffer,
+    undo: &UndoLog,
     numbers: &mut Numbers,
-    bytes: &mut crate::Buffer,
-    old: &mut crate::Old,
+    bytes: &mut Buffer,
+    old: &mut UndoLog,
 ) -> Outcome
     ensures { λ r. ⌜ Follows checkRule state files logs marks undo r []
         × SavedImage (handed state files logs marks undo) numbers bytes old ⌝ }

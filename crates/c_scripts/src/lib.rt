@@ -8,16 +8,12 @@ use flat_scripts::FlatScripts;
 use flat_scripts::ends_of;
 use flat_scripts::scripts_of;
 use state::layout::State;
+use store::Buffer;
+use store::UndoLog;
 ghost use Rattle.spec_dispatch.specs.Dispatch.{dispatch as dispatchRule};
 ghost use Rattle.spec.specs.Promises.{handed, handedBack};
 ghost use Rattle.dispatcher.specs.Types.{scriptsOf};
 ghost use Rattle.c_scripts.specs.FlatScripts.{scriptsFrom, Runs};
-
-// A store buffer: the files, the logs or the marks.
-pub type Buffer = [u8; 32768];
-
-// The bytes on which the last grant landed.
-pub type Old = [u8; 4096];
 
 // The dispatcher. How each script ended goes to `ended`: 0 granted, 255 not run, else the refusal's number.
 // The number of Commits made goes to `commits`.
@@ -27,7 +23,7 @@ pub extern "C" fn luzhanem_parts_dispatch(
     files: &mut Buffer,
     logs: &mut Buffer,
     marks: &mut Buffer,
-    undo: &mut Old,
+    undo: &mut UndoLog,
     scripts: &FlatScripts,
     bytes: &[u8],
     reader: &mut [u8],

@@ -1,9 +1,9 @@
 // Calls in loops, to be timed beside the same loops in C.
-use limits::BUFFER_BYTES;
 use limits::FILE_BYTES;
-use limits::UNDO_BYTES;
 use state::layout::State;
 use state::outcomes::Outcome;
+use store::Buffer;
+use store::UndoLog;
 
 // The number that an outcome carries.
 fn number(o: Outcome) -> u64 {
@@ -22,17 +22,13 @@ fn added(sum: u64, o: Outcome) -> u64 {
     std::num::wrapping_add_u64(sum, number(o))
 }
 
-pub type Buffer = [u8; BUFFER_BYTES];
-
-pub type Old = [u8; UNDO_BYTES];
-
 #[no_mangle]
 pub extern "C" fn loop_calls_seek(
     state: &mut State,
     files: &Buffer,
     logs: &Buffer,
     marks: &Buffer,
-    undo: &Old,
+    undo: &UndoLog,
     t: usize,
     d: usize,
     v: usize,
@@ -53,7 +49,7 @@ pub extern "C" fn loop_calls_pointer(
     files: &Buffer,
     logs: &Buffer,
     marks: &Buffer,
-    undo: &Old,
+    undo: &UndoLog,
     t: usize,
     d: usize,
     v: usize,
@@ -77,7 +73,7 @@ pub extern "C" fn loop_calls_seek_read<'a>(
     files: &'a Buffer,
     logs: &'a Buffer,
     marks: &mut Buffer,
-    undo: &Old,
+    undo: &UndoLog,
     reader: &mut [u8; FILE_BYTES],
     t: usize,
     d: usize,
@@ -103,7 +99,7 @@ pub extern "C" fn loop_calls_begin_commit(
     files: &mut Buffer,
     logs: &Buffer,
     marks: &mut Buffer,
-    undo: &mut Old,
+    undo: &mut UndoLog,
     t: usize,
     d: usize,
     v: usize,
@@ -124,7 +120,7 @@ fn written(
     files: &mut Buffer,
     logs: &mut Buffer,
     marks: &mut Buffer,
-    undo: &mut Old,
+    undo: &mut UndoLog,
     bytes: &[u8; 16],
     t: usize,
     d: usize,
@@ -147,7 +143,7 @@ pub extern "C" fn loop_calls_begin_write_commit(
     files: &mut Buffer,
     logs: &mut Buffer,
     marks: &mut Buffer,
-    undo: &mut Old,
+    undo: &mut UndoLog,
     bytes: &[u8; 16],
     t: usize,
     d: usize,

@@ -1,14 +1,14 @@
 // A line of a log is performed, and what is answered waits in the output buffer.
 use buffers::parts::copy_to;
 use buffers::parts::part;
-use limits::BUFFER_BYTES;
-use limits::FILE_BYTES;
 use limits::smaller;
 use requests::Request;
 use state::TRANSACTIONS;
 use state::layout::State;
 use state::outcomes::Outcome;
 use state::outcomes::Refusal;
+pub use store::Buffer;
+pub use store::UndoLog;
 use text_log::ParsedEntry;
 use text_log::put_reply;
 use text_numerals::put_byte;
@@ -39,11 +39,6 @@ const NUMBERS_READ: usize = 18;
 
 // The version of the format.
 const VERSION: usize = 1;
-
-// A store buffer, and that of a grant's old bytes.
-pub type Buffer = [u8; BUFFER_BYTES];
-
-pub type UndoLog = [u8; FILE_BYTES];
 
 // What is kept between lines beside the store: how many bytes of the line at hand are held, the place in the
 // piece, how many bytes of the output wait, where the answer that was printed last starts and ends in it; how

@@ -5,7 +5,7 @@ ghost use Rattle.buffers.specs.Bits.{withBit, withoutBit, withBitAs};
 ghost use Rattle.buffers.specs.Marks.{contains};
 
 // Whether k is in the set.
-pub fn contains(set: u16, k: usize) -> bool
+pub fn has_bit(set: u16, k: usize) -> bool
     requires { ⌜ k < 16 ⌝ }
     ensures { λ r. ⌜ r ≡ contains set k ⌝ }
 {

@@ -12,7 +12,7 @@ pub fn contains(octet: u8, t: usize) -> bool
     requires { ⌜ t < transactionCount ⌝ }
     ensures { λ r. ⌜ r ≡ contains octet t ⌝ }
 {
-    bit_sets::contains(octet as u16, t)
+    bit_sets::has_bit(octet as u16, t)
 }
 
 // The transactions of both sets.

@@ -28,7 +28,7 @@ fn sighted_by(state: &State, watched: u8, f: usize) -> u8
     let mut found = 0u8;
     let mut u = 0;
     while u < TRANSACTIONS {
-        if contains(watched, u) & bit_sets::contains(lengthmarks_at(state, u), f) {
+        if contains(watched, u) & bit_sets::has_bit(lengthmarks_at(state, u), f) {
             found = with(found, u);
         }
         u += 1;

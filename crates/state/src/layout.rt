@@ -187,7 +187,7 @@ pub fn descriptor_at(state: &State, t: usize, d: usize) -> Descriptor
     let dirty = state[DIRTY_AT + t];
     Descriptor {
         standing,
-        dirty: bit_sets::contains(dirty, d),
+        dirty: bit_sets::has_bit(dirty, d),
     }
 }
 

@@ -31,7 +31,7 @@ loop-again c =
     let l = at-loop .loop in
     let p = knowsLength (a .state .now) (a .watched) (a .f) in
     let test = sym (ap₂ _&&_ (c .before .before .before .contains .ensures)
-    (c .before .contains2 .ensures ∙ ap (λ (n : ℕ). contains n (a .f)) (c .before .before .lengthmarks-at .ensures))) in
+    (c .before .has-bit .ensures ∙ ap (λ (n : ℕ). contains n (a .f)) (c .before .before .lengthmarks-at .ensures))) in
     ⊎-elim (λ w. (omega arith, w .2 ∙ w .1 .ensures ∙ gathered p (l .found) (l .u) (l .inv .1) (test ∙ w .0 .taken)))
     (λ w. (omega arith, w .1 ∙ passed-by p (l .found) (l .u) (l .inv .1) (test ∙ w .0 .left))) (c .if1 .came)
 

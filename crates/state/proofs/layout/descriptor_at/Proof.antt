@@ -10,7 +10,7 @@ returns : tie.Need-returns
 unfolding descriptorOf
 returns c =
     let a = c .before .before .before .args in
-    rw (c .contains .ensures, c .before .before .standing-at .ensures, standing-of (a .state .now) (a .t) (a .d) (omega arith))
+    rw (c .has-bit .ensures, c .before .before .standing-at .ensures, standing-of (a .state .now) (a .t) (a .d) (omega arith))
 
 pub descriptor-at-spec : {M : Type 1} → statement M
 descriptor-at-spec =

@@ -2,8 +2,8 @@
 use borrow.Author.Needs.{needs}
 use Rattle.buffers.specs.Bits.{bit}
 use Rattle.buffers.specs.Marks.{contains}
-use Rattle.buffers.proofs.bit_sets.contains.Statement.{statement}
-use Rattle.buffers.proofs.bit_sets.contains.Tie as tie
+use Rattle.buffers.proofs.bit_sets.has_bit.Statement.{statement}
+use Rattle.buffers.proofs.bit_sets.has_bit.Tie as tie
 
 cast-result : tie.Need-cast-result
 cast-result c = search needs
@@ -15,5 +15,5 @@ returns : tie.Need-returns
 unfolding contains bit
 returns c = search needs
 
-pub contains-spec : {M : Type 1} → statement M
-contains-spec = tie.close (tie.spec cast-result shr-result returns)
+pub has-bit-spec : {M : Type 1} → statement M
+has-bit-spec = tie.close (tie.spec cast-result shr-result returns)

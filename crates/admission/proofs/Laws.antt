@@ -232,14 +232,14 @@ pub record AdmittedBack (z : Sizes) (s : StoreMeaning) (journal : List ℕ) : Ty
   pub lengths : Lengths z
   pub ranges : storeIn s journal ≡ true
   pub idle : (t : ℕ) → t < 8 → transaction s t .begun ≡ false
-  pub held : s .undo .held ≡ true
+  pub held : s .undo .valid ≡ true
 
 pub admitted-back : (z : Sizes) (s : StoreMeaning) (journal : List ℕ) → admissionOfUndo z s journal ≡ 0 → AdmittedBack z s journal
 unfolding admissionOfUndo noneBegun
 admitted-back z s journal e =
     let a = first-zero z s journal _ e in
     let c = unless-zero (below (λ t. not (transaction s t .begun)) 8) 23 _ (omega arith) (a .2) in
-    let d = unless-zero (s .undo .held) 24 0 (omega arith) (c .1) in
+    let d = unless-zero (s .undo .valid) 24 0 (omega arith) (c .1) in
     record {
       lengths = a .0;
       ranges = a .1;
@@ -305,7 +305,7 @@ pub record UndoInRange (u : Undo) (journal : List ℕ) : Type 0 where
   pub lengths : (f : ℕ) → f < 8 → getD (u .lengths) f 0 ≤ 4096
 
 module _ (u : Undo) (journal : List ℕ) where
-  pub undo-in : undoIn u journal ≡ true → u .held ≡ true → UndoInRange u journal
+  pub undo-in : undoIn u journal ≡ true → u .valid ≡ true → UndoInRange u journal
   unfolding undoIn grantPasses
   undo-in e b =
       let n = u .used .records in
@@ -315,7 +315,7 @@ module _ (u : Undo) (journal : List ℕ) where
       let adds = eqb (lengthsBefore journal lastGrant n) (u .used .bytes) in
       let first = leb n 64 && leb (u .used .bytes) 4096 in
       let all = and-three (first && offsets) lengths (writes && adds)
-      (or-right (u .held) (first && offsets && lengths && (writes && adds)) b e) in
+      (or-right (u .valid) (first && offsets && lengths && (writes && adds)) b e) in
       let three = and-three (leb n 64) (leb (u .used .bytes) 4096) offsets (all .0) in
       record {
         records = leb-true _ _ (three .0);
@@ -326,10 +326,10 @@ module _ (u : Undo) (journal : List ℕ) where
         lengths = λ f l. leb-true _ _ (below-at (λ f. leb (getD (u .lengths) f 0) 4096) 8 f (all .1) l);
       }
 
-  pub undo-in-intro : (u .held ≡ true → UndoInRange u journal) → undoIn u journal ≡ true
+  pub undo-in-intro : (u .valid ≡ true → UndoInRange u journal) → undoIn u journal ≡ true
   unfolding undoIn grantPasses
   undo-in-intro h =
-      or-intro (u .held) _ (λ b.
+      or-intro (u .valid) _ (λ b.
       let r = h b in
       and-both _ _
       (and-both _ _
@@ -362,7 +362,7 @@ pub record InRange (s : StoreMeaning) (journal : List ℕ) : Type 0 where
   pub offsets : (d : ℕ) → d < 16 → getD (s .offsets) d 0 ≤ 4096
   pub lengths : (f : ℕ) → f < 8 → getD (s .lengths) f 0 ≤ 4096
   pub windows : (f : ℕ) → f < 8 → windowIn (windowAt s f) ≡ true
-  pub undo : s .undo .held ≡ true → UndoInRange (s .undo) journal
+  pub undo : s .undo .valid ≡ true → UndoInRange (s .undo) journal
   pub transactions : (t : ℕ) → t < 8 → transaction s t .begun ≡ true → TransactionInRange (transaction s t) journal t
 
 module _ (x : Transaction) (journal : List ℕ) (t : ℕ) where

@@ -247,11 +247,11 @@ module _ (r : List ℕ) where
   abbrev found : Bool
   found = below (λ d. leb (getD (undo .offsets) d 0) 4096) 16 && below (λ f. leb (getD (undo .lengths) f 0) 4096) 8
 
-  pub nothing-held : undo .held ≡ false → true ≡ undoIn undo (journalOf r)
+  pub nothing-held : undo .valid ≡ false → true ≡ undoIn undo (journalOf r)
   unfolding undoIn
-  nothing-held e = or-closed (undo .held) _ e
+  nothing-held e = or-closed (undo .valid) _ e
 
-  module _ (held : undo .held ≡ true) where
+  module _ (held : undo .valid ≡ true) where
     joined : (a b c d e : Bool) → a && b && c && d && e ≡ a && b && (c && d) && e
     joined true true c d e = refl
     joined true false c d e = refl
@@ -261,7 +261,7 @@ module _ (r : List ℕ) where
         ≡ leb (undo .used .records) 64 && leb (undo .used .bytes) 4096 && found
         && grantPasses (journalOf r) (undo .used .records) (undo .used .bytes)
     unfolding undoIn
-    held-in = or-begun (undo .held) _ held ∙ joined (leb (undo .used .records) 64) _ _ _ _
+    held-in = or-begun (undo .valid) _ held ∙ joined (leb (undo .used .records) 64) _ _ _ _
 
     pub grant-records-fail : (n : ℕ) → n ≡ undo .used .records → 64 < n → false ≡ undoIn undo (journalOf r)
     grant-records-fail n e l = sym (held-in ∙ rw (lt-leb (undo .used .records) 64 (rw e at l)))

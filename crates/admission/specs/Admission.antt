@@ -107,7 +107,7 @@ grantPasses journal records bytes =
 -- All of it, with the offsets and the lengths that the grant found; only while one is held.
 unfoldable pub undoIn : Undo → List ℕ → Bool
 undoIn u journal =
-    not (u .held)
+    not (u .valid)
     || (leb (u .used .records) recordCount && leb (u .used .bytes) logBytes
     && below (λ d. leb (getD (u .offsets) d 0) fileBytes) descriptorCount
     && below (λ f. leb (getD (u .lengths) f 0) fileBytes) fileCount
@@ -166,7 +166,7 @@ noneBegun s = below (λ t. not (transaction s t .begun)) transactionCount
 -- 02, F-13: "23 when any transaction is open, after 2; 24 when there has been no grant since the latest Fresh
 -- or taking back, after 23." [R-16.1]
 unfoldable pub admissionOfUndo : Sizes → StoreMeaning → List ℕ → ℕ
-admissionOfUndo z s journal = firstTests z s journal (unless (noneBegun s) 23 (unless (s .undo .held) 24 0))
+admissionOfUndo z s journal = firstTests z s journal (unless (noneBegun s) 23 (unless (s .undo .valid) 24 0))
 
 -- F-10: "19 when a transaction is open at the start, after 2; 20 when .., after 19" [R-16.1]: whether the
 -- scripts pass 20 is told.

@@ -57,7 +57,7 @@ unfoldable pub granted : Bool → ℕ → ℕ → ℕ → ℕ → StoreMeaning
 granted held records bytes offset n =
     withUndo
     (record {
-      held = held;
+      valid = held;
       used = record { records = records; bytes = bytes };
       offsets = set (replicate 16 0) 15 offset;
       lengths = set (replicate 8 0) 7 n;
@@ -112,7 +112,7 @@ unfoldable pub foundInFront : ℕ → ℕ → StoreMeaning
 foundInFront offset n =
     withUndo
     (record {
-      held = true;
+      valid = true;
       used = record { records = 0; bytes = 0 };
       offsets = set (replicate 16 0) 0 offset;
       lengths = set (replicate 8 0) 0 n;

@@ -16,7 +16,7 @@ module _ (s : StoreMeaning) (journal : List ℕ) where
   unfolding numberOf tableNumber
   format-number = refl
 
-  pub held-number : numberOf s journal 57 ≡ flagNumber (s .undo .held)
+  pub held-number : numberOf s journal 57 ≡ flagNumber (s .undo .valid)
   unfolding numberOf grantNumber
   held-number = refl
 

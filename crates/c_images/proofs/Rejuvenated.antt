@@ -87,12 +87,12 @@ module _ (s : StoreMeaning) (journal : List ℕ) (w : ℕ → ℕ) (same : (i : 
     undo-is : undoFrom w ≡ s .undo
     unfolding undoFrom
     undo-is =
-        let flagged = ap isSet (same 57 (omega arith) ∙ at.held-number s journal) ∙ flag-back (s .undo .held) in
+        let flagged = ap isSet (same 57 (omega arith) ∙ at.held-number s journal) ∙ flag-back (s .undo .valid) in
         let bytes = same 59 (omega arith) ∙ at.bytes-number s journal in
         let offsets = column 60 16 (s .undo .offsets) (omega arith) (z .foundOffsets) (at.found-offset-number s journal) in
         let lengths = column 76 8 (s .undo .lengths) (omega arith) (z .foundLengths) (at.found-length-number s journal) in
         λ i. record {
-          held = flagged i;
+          valid = flagged i;
           used = record { records = records-are i; bytes = bytes i };
           offsets = offsets i;
           lengths = lengths i;
@@ -190,7 +190,7 @@ module _ (s : StoreMeaning) (journal : List ℕ) (w : ℕ → ℕ) (same : (i : 
   unfolding canonical
   canonical-is =
       let f = same 57 (omega arith) ∙ at.held-number s journal in
-      and-both _ _ (le-leb (w 57) 1 (omega (arith, f, flag-small (s .undo .held))))
+      and-both _ _ (le-leb (w 57) 1 (omega (arith, f, flag-small (s .undo .valid))))
       (below-all (λ k. ltb k (w 58) || blankRecord w k) 64 (λ k h. said-or-blank k h (ltb k (w 58)) refl))
 
   module _ (good : storeIn s journal ≡ true) where

@@ -229,7 +229,7 @@ module _ (state files logs marks undo : List ℕ) (t : ℕ) (x : Transaction) (c
 
     -- What is saved of the grant, and the store with it.
     abbrev held : Undo
-    held = record { held = true; used = x .used; offsets = s .offsets; lengths = s .lengths }
+    held = record { valid = true; used = x .used; offsets = s .offsets; lengths = s .lengths }
 
     own-is : transaction s t ≡ x
     own-is = transaction-of state t (can .lands .small) ∙ sym (can .own)
@@ -275,7 +275,7 @@ module _ (state files logs marks undo : List ℕ) (t : ℕ) (x : Transaction) (c
     held-is : withUndo held s ≡ keeping .store
     unfolding savingUndo
     held-is =
-        ap (λ (u : Used). withUndo (record { held = true; used = u; offsets = s .offsets; lengths = s .lengths }) s)
+        ap (λ (u : Used). withUndo (record { valid = true; used = u; offsets = s .offsets; lengths = s .lengths }) s)
         (sym
         (counters-are s (journalOf state) files logs t lands-own (can .logsLength) bytes-own
         ∙ ap (λ (y : Transaction). y .used) own-is))

@@ -25,7 +25,7 @@ use Rattle.spec.specs.Commits.{setsOffset}
 use Rattle.spec.specs.Machine.{Machine, txnOf}
 use Rattle.spec.specs.Calls.{askedOf}
 use Rattle.spec.specs.Promises.{machineOf}
-use Rattle.spec.proofs.Abstract.Ordering.{all-both}
+use Rattle.spec.proofs.Abstract.OrderReplies.{all-both}
 use Rattle.commit_apply.specs.Apply.{descriptorsOnly}
 use Rattle.commit_conflicts.specs.Conflicts.{staleBy}
 use Rattle.commit_windows.specs.WindowCheck.{hasByteForClosed}

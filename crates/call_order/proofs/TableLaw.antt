@@ -37,7 +37,7 @@ use Rattle.spec.specs.BestOrder.{commitsIn, BestOrderHolds}
 use Rattle.spec.proofs.Theorems.Answers.{answer-not-refused}
 use Rattle.spec.proofs.Theorems.BestOrder.{best-order}
 use Rattle.spec.proofs.Theorems.Serializability.{call-turn, calls-agree}
-use Rattle.spec.proofs.Abstract.Ordering.{all-both, Passed, passed}
+use Rattle.spec.proofs.Abstract.OrderReplies.{all-both, Passed, passed}
 use Rattle.spec.proofs.Refinement.Decode.{decoded-in}
 use Rattle.spec.proofs.Refinement.Conflicts.{made-stale}
 use Rattle.spec.proofs.Refinement.OrderTurn.{seat-open, order-grants}

@@ -65,7 +65,7 @@ module _ (s : StoreMeaning) (journal : List ℕ) (k n : ℕ) (next : suc k ≡ n
       ∙ ap (λ (m : ℕ). restored (firstSpans s journal m) old buffer) next
 
 -- What the ranges say of a grant that can be undone, and of its write k.
-module _ (s : StoreMeaning) (journal : List ℕ) (ranges : storeIn s journal ≡ true) (held : s .undo .held ≡ true) where
+module _ (s : StoreMeaning) (journal : List ℕ) (ranges : storeIn s journal ≡ true) (held : s .undo .valid ≡ true) where
   pub grant-in : UndoInRange (s .undo) journal
   grant-in = in-range s journal ranges .undo held
 

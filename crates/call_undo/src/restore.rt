@@ -38,7 +38,7 @@ fn landed_at(state: &State, k: usize) -> LandedWrite
 // Puts the old bytes back into the files, from the last write to the first (R-12.2).
 pub fn restore_bytes(state: &State, files: &mut [u8], undo: &[u8])
     requires { ⌜ (storeIn (storeOf (now state)) (journalOf (now state)) ≡ true)
-        × (storeOf (now state) .undo .held ≡ true)
+        × (storeOf (now state) .undo .valid ≡ true)
         × (length (now files) ≡ bufferBytes) × (length (now undo) ≡ undoBytes) ⌝ }
     ensures { λ _. ⌜ now (files .exit) ≡
         restored (landedOn (storeOf (now (state .entry))) (journalOf (now (state .entry))))

@@ -206,7 +206,8 @@ grant-preserved before one two three four t used so a b c =
     }
   where
     found : StoreMeaning → StoreMeaning
-    found s = withUndo (record { held = s .undo .held; used = s .undo .used; offsets = s .offsets; lengths = s .lengths }) s
+    found s = withUndo (record { valid = s .undo .valid; used = s .undo .used; offsets = s .offsets; lengths = s .lengths }) s
 
     counted : StoreMeaning → StoreMeaning
-    counted s = withUndo (record { held = s .undo .held; used = used; offsets = s .undo .offsets; lengths = s .undo .lengths }) s
+    counted s =
+        withUndo (record { valid = s .undo .valid; used = used; offsets = s .undo .offsets; lengths = s .undo .lengths }) s

@@ -53,7 +53,7 @@ pub record GrantPreserved (before after : List ℕ) (t : ℕ) (used : Used) : Ty
   pub store :
       let s = storeOf before in
       storeOf after ≡ withUndo (record {
-        held = true;
+        valid = true;
         used = used;
         offsets = s .offsets;
         lengths = s .lengths;

@@ -299,7 +299,7 @@ module _ (w : ℕ → ℕ) where
       let lengths : tabulate (λ f. getD granted (foundLengthsAt + f) 0) 8 ≡ tabulate (λ f. w
       (76 + f)) 8 = table-same _ _ 8 at-found-length in
       λ i. record {
-        held = held i;
+        valid = held i;
         used = record { records = records i; bytes = bytes i };
         offsets = offsets i;
         lengths = lengths i;

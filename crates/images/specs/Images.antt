@@ -53,7 +53,7 @@ recordNumber records journal i =
 
 unfoldable pub grantNumber : Undo → List ℕ → ℕ → ℕ
 grantNumber u journal i =
-    cond (ltb i 58) (flagNumber (u .held))
+    cond (ltb i 58) (flagNumber (u .valid))
     (cond (ltb i 59) (u .used .records)
     (cond (ltb i 60) (u .used .bytes)
     (cond (ltb i 76) (getD (u .offsets) (i - 60) 0)
@@ -81,7 +81,7 @@ recordFrom w k = decoded (w (84 + k)) (w (148 + k)) (w (212 + k))
 unfoldable pub undoFrom : (ℕ → ℕ) → Undo
 undoFrom w =
     record {
-      held = isSet (w 57);
+      valid = isSet (w 57);
       used = record { records = w 58; bytes = w 59 };
       offsets = tabulate (λ d. w (60 + d)) 16;
       lengths = tabulate (λ f. w (76 + f)) 8;

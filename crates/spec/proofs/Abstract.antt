@@ -40,7 +40,7 @@ pub mod Commits
 -- ---- 4. Model and abstract store agree
 --
 -- F-14: machines that agree on what the best order asks give the same reply.
-pub mod Ordering
+pub mod OrderReplies
 -- The abstract store is a function of the reference model, and every call gives the same reply on both.
 pub mod SameReplies
 -- The serial order as runs in isolation, one after the other: a proof device.

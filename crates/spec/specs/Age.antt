@@ -27,7 +27,7 @@ pub record AtRest (m : Machine) : Type 0 where
 unfoldable pub earlierIn : Machine → Earlier
 earlierIn m =
     let n = undone m in
-    cond (m .store .undo .held) (found (record { value = values (n .store) (n .files); setter = λ i. 0 }) 0)
+    cond (m .store .undo .valid) (found (record { value = values (n .store) (n .files); setter = λ i. 0 }) 0)
     nothing
 
 -- Two stores answer a list of calls alike, reply for reply and byte for byte, and end with the same files,

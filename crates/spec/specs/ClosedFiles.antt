@@ -25,7 +25,7 @@ pub record Spared (m : Machine) (t minute : ℕ) : Type 0 where
   pub bytes :
       (s : Setting) (q : ℕ) → Among s (settingsOf m t) → s .item ≡ byte q
       → isClosedAt (windowAt (m .store)) minute (q / fileBytes) ≡ false
-  pub kept :
+  pub unchanged :
       (q : ℕ) → isClosedAt (windowAt (m .store)) minute (q / fileBytes) ≡ true
       → getD (call (commit t minute) m .after .files) q 0 ≡ getD (m .files) q 0
   pub length :

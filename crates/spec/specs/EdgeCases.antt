@@ -101,8 +101,8 @@ readBeside = result (λ i. 0) (step (λ d. 0) (read 1 0 []) (mixed (Deferred 1) 
 -- stale, after 6 and before 7" [R-16.1]: T0 is stale by the offset of 1, and its write on 0 would run past
 -- the end (12). 18 comes whatever the standing: 0 stands Deferred, 1 Known, 2 Moved, 3 Placed, 4 Untouched.
 -- Its Seeks, its Writes and its list of places go on.
-unfoldable pub expectedTurnedBack : List Exchange
-expectedTurnedBack =
+unfoldable pub expectedRefusedWhenStale : List Exchange
+expectedRefusedWhenStale =
     begins
     ++ on 0 (getFilePointer 1) gets says (pointer 0)
     ∷ on 0 (write 0 (A ∷ [])) gets says doneAnswer
@@ -383,8 +383,8 @@ pub record EdgeCases (x : Seen) : Type 0 where
       × (fits (λ i. 4096) (mixed (Deferred 1) false) ≡ false)
       × (settings (λ d. 0) (λ i. 7) (mixed (Deferred 1) true) ≡ record { item = offset 0; to = 8 } ∷ [])
   pub settledStaysClean : (dirtyAfter readBeside 0 ≡ false) × (dirtyAfter readBeside 1 ≡ true)
-  pub turnedBack : Goes x expectedTurnedBack
-      × (sightingsOf (callsOf expectedTurnedBack) 0 ≡ sighted (offset 1) 0 ∷ [])
+  pub refusedWhenStale : Goes x expectedRefusedWhenStale
+      × (sightingsOf (callsOf expectedRefusedWhenStale) 0 ≡ sighted (offset 1) 0 ∷ [])
   pub staysOpen : Goes x expectedStaysOpen
       × (sightingsOf (callsOf expectedStaysOpen) 0 ≡ sighted (byte 0) 1 ∷ [])
   pub placedUnsighted : Goes x expectedPlacedUnsighted

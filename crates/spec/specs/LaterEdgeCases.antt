@@ -125,11 +125,11 @@ pub record LaterEdgeCases (x : Seen) : Type 0 where
   pub settersBack :
       Goes x expectedSettersBack × (sightingsOf (callsOf expectedSettersBack) 1 ≡ sighted (offset 0) 1
       ∷ sighted (offset 1) 2 ∷ [])
-  pub kept :
+  pub undoState :
       (undoStateOf .undo ≡ X ∷ Y ∷ B ∷ dot ∷ []) × (undoStateOf .files ≡ inFileOne (X ∷ Y ∷ Z ∷ []))
       × (undoStateOf .store .undo
       ≡ record {
-        held = true;
+        valid = true;
         used = record { records = 2; bytes = 3 };
         offsets = 0 ∷ 1 ∷ [];
         lengths = 0 ∷ 3
@@ -140,7 +140,7 @@ pub record LaterEdgeCases (x : Seen) : Type 0 where
   pub back :
       (cut (undoStateUndone .files) 4096 3 ≡ X ∷ Y ∷ Z ∷ []) × (undoStateUndone .store .offsets ≡ 0 ∷ 1 ∷ [])
       × (undoStateUndone .store .lengths ≡ 0 ∷ 3 ∷ [])
-      × (undoStateUndone .store .undo .held ≡ false) × (undoStateUndone .undo ≡ X ∷ Y ∷ B ∷ dot ∷ [])
+      × (undoStateUndone .store .undo .valid ≡ false) × (undoStateUndone .undo ≡ X ∷ Y ∷ B ∷ dot ∷ [])
   pub onlyGrantsCount :
       Goes x expectedOnlyGrantsCount × (sightingsOf (callsOf expectedOnlyGrantsCount) 1 ≡ sighted (offset 0) 1
       ∷ sighted (offset 1) 2 ∷ [])

@@ -107,7 +107,7 @@ testsOf (places t f out) m =
     ∷ [])
 testsOf (setWindow f start end) m =
     firstTwo m (test 6 (leb f lastFile) ∷ test 22 (minuteIn start && minuteIn end) ∷ [])
-testsOf undoCommit m = firstTwo m (test 23 (noneBegun (m .store)) ∷ test 24 (m .store .undo .held) ∷ [])
+testsOf undoCommit m = firstTwo m (test 23 (noneBegun (m .store)) ∷ test 24 (m .store .undo .valid) ∷ [])
 testsOf (bestOrder ts minute budget) m =
     let a = askedOf minute m in
     firstTwo m

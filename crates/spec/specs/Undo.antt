@@ -51,7 +51,7 @@ savingUndo x m =
     withStore
     (withUndo
     (record {
-      held = true;
+      valid = true;
       used = record { records = length ws; bytes = total ws };
       offsets = s .offsets;
       lengths = s .lengths;

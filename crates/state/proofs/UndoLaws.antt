@@ -87,7 +87,7 @@ module _ (r : List ℕ) (long : length r ≡ stateLength) where
         ∙ getD-set-other r 2113 j (u .records) 0 (λ p. omega arith)
 
     abbrev with-counters : Undo → Undo
-    with-counters x = record { held = x .held; used = u; offsets = x .offsets; lengths = x .lengths }
+    with-counters x = record { valid = x .valid; used = u; offsets = x .offsets; lengths = x .lengths }
 
     own-counters : undoOf (withUndoUsedAt r u) ≡ with-counters (undoOf r)
     unfolding undoOf
@@ -112,7 +112,7 @@ module _ (r : List ℕ) (long : length r ≡ stateLength) where
         )
 
     pub store-with-undo-used : let x = storeOf r .undo in storeOf (withUndoUsedAt r u)
-        ≡ withUndo (record { held = x .held; used = u; offsets = x .offsets; lengths = x .lengths }) (storeOf r)
+        ≡ withUndo (record { valid = x .valid; used = u; offsets = x .offsets; lengths = x .lengths }) (storeOf r)
     unfolding storeOf
     store-with-undo-used = store-before r (withUndoUsedAt r u) before-counters (with-counters (undoOf r)) own-counters
 
@@ -165,7 +165,7 @@ module _ (r : List ℕ) (from to : ℕ) where
 module _ (r : List ℕ) (long : length r ≡ stateLength) where
   own-found : undoOf (withCommittedFound r)
       ≡ record {
-        held = undoOf r .held;
+        valid = undoOf r .valid;
         used = undoOf r .used;
         offsets = tabulate (λ d. getD r (2048 + d) 0) 16;
         lengths = tabulate
@@ -189,7 +189,7 @@ module _ (r : List ℕ) (long : length r ≡ stateLength) where
   before-found j a b = copied-other r 2048 2088 24 j (inl b)
 
   pub store-with-committed-found : let s = storeOf r in storeOf (withCommittedFound r)
-      ≡ withUndo (record { held = s .undo .held; used = s .undo .used; offsets = s .offsets; lengths = s .lengths }) s
+      ≡ withUndo (record { valid = s .undo .valid; used = s .undo .used; offsets = s .offsets; lengths = s .lengths }) s
   unfolding storeOf
   store-with-committed-found = store-before r (withCommittedFound r) before-found _ own-found
 

@@ -140,7 +140,7 @@ windowOf r f = window (getD r (startsAt + f) 0) (getD r (endsAt + f) 0)
 unfoldable pub undoOf : List ℕ → Undo
 undoOf r =
     record {
-      held = isSet (getD r heldAt 0);
+      valid = isSet (getD r heldAt 0);
       used = record { records = getD r (heldAt + 1) 0; bytes = getD r (heldAt + 2) 0 };
       offsets = tabulate (λ d. getD r (foundOffsetsAt + d) 0) descriptorCount;
       lengths = tabulate (λ f. getD r (foundLengthsAt + f) 0) fileCount;

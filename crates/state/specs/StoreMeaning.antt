@@ -106,14 +106,14 @@ dirtyAt x d = getD (x .descriptors) d noDescriptor .dirty
 abbrev pub noUndo : Undo
 noUndo =
     record {
-      held = false;
+      valid = false;
       used = record { records = 0; bytes = 0 };
       offsets = replicate descriptorCount 0;
       lengths = replicate fileCount 0;
     }
 
 abbrev pub withHeld : Bool → Undo → Undo
-withHeld b u = record { held = b; used = u .used; offsets = u .offsets; lengths = u .lengths }
+withHeld b u = record { valid = b; used = u .used; offsets = u .offsets; lengths = u .lengths }
 
 -- A store of these parts, and one with another value in one field.
 abbrev pub storeWith : List ℕ → List ℕ → List ℕ → List Window → Undo → List Transaction → StoreMeaning

@@ -262,7 +262,7 @@ pub fn window_at(state: &State, f: usize) -> Window
 
 // Whether the last grant can be taken back.
 pub fn can_undo(state: &State) -> bool
-    ensures { λ r. ⌜ r ≡ storeOf (now (state .entry)) .undo .held ⌝ }
+    ensures { λ r. ⌜ r ≡ storeOf (now (state .entry)) .undo .valid ⌝ }
 {
     state[CAN_UNDO_AT] == 1
 }

@@ -38,7 +38,7 @@ pub struct Transaction {
 // records and bytes it had, and the committed offsets and lengths that it found. Only specs/ speaks of it, as
 // of the store below.
 pub struct Undo {
-    pub held: bool,
+    pub valid: bool,
     pub used: Used,
     pub offsets: [u16; DESCRIPTORS],
     pub lengths: [u16; FILES],

@@ -45,7 +45,7 @@ use Rattle.spec.proofs.Abstract.Lists.{put-keeps, items, current, curre
 use Rattle.spec.proofs.Abstract.Lists.{markAll-at, lengthAll-at, current-after}
 use Rattle.spec.proofs.Abstract.RecordedRuns.{SoundRun, seen-old, lists-same, sound-more, sound-granted, items-more}
 use Rattle.spec.proofs.Abstract.RecordedRuns.{extended}
-use Rattle.spec.proofs.Abstract.Ordering.{grants-same, Agreed, reply-same}
+use Rattle.spec.proofs.Abstract.OrderReplies.{grants-same, Agreed, reply-same}
 use Rattle.spec.proofs.Abstract.PlainInvariant.{SoundSlot, Good, all-closed, good-call}
 
 -- The store of a reference model: a byte is marked where it was sighted, and a transaction is stale where its two lists differ.

@@ -11,7 +11,7 @@ use Rattle.spec.specs.Transactions as Transactions
 use Rattle.spec.specs.Reading as Reading
 use Rattle.spec.specs.Steps as Steps
 use Rattle.spec.specs.Commits as Commits
-use Rattle.spec.specs.Places as Coverage
+use Rattle.spec.specs.Places as Places
 use Rattle.spec.specs.Windows as Windows
 use Rattle.buffers.specs.Parts as Parts
 use Rattle.spec_undo.specs.OldBytes as OldBytes
@@ -37,9 +37,9 @@ unfolding Below.below Below.sum Ranges.lengthsBefore Bits.bit Bits.bitsOf Bits.c
     Messages.bufferOf Steps.check Steps.orGivenBack Steps.total Steps.written Steps.seekStep Steps.writeStep Steps.pointerStep
     Steps.settledByRead Steps.readSettled Steps.readStep Steps.step Steps.descriptorOfOp Steps.isReadCall Steps.refusesStale
     Steps.refusedStale Below.unless Ranges.windowRefusal Hours.minuteIn Hours.isOpenAt Hours.isClosedAt Windows.isForClosed
-    Windows.forClosed Coverage.someWrite Coverage.coversPlace Coverage.covered Coverage.noPlace Coverage.unplacedOn
-    Coverage.unplaced Coverage.withPlace Coverage.intervalsFrom Coverage.intervalsOf Coverage.sixteen Coverage.encoded
-    Coverage.placesRefusal Coverage.placesReply Coverage.placesOf Commits.landsAt Commits.bytesFrom Commits.byteSettings
+    Windows.forClosed Places.someWrite Places.coversPlace Places.covered Places.noPlace Places.unplacedOn
+    Places.unplaced Places.withPlace Places.intervalsFrom Places.intervalsOf Places.sixteen Places.encoded
+    Places.placesRefusal Places.placesReply Places.placesOf Commits.landsAt Commits.bytesFrom Commits.byteSettings
     Commits.setsOffset Commits.offsetSettings Commits.landedEnd Commits.lengthSettings Commits.settings Commits.fits
     Commits.putItem Commits.landed Commits.setBy Commits.commitRefusal Sightings.sameEntry Sightings.sameEntries Sightings.entries
     Plain.startPlain Plain.ops Plain.firstList Plain.secondList Plain.isStale Plain.plainRefuse Plain.withSlot Plain.plainAnswer

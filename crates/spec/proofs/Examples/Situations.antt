@@ -4,7 +4,7 @@ use Rattle.spec.specs.Situations.{Starred, filled, expectedA, expectedB,
 use Rattle.spec.specs.Situations.{expectedG, expectedH, expectedI, expectedJ, expectedK, expectedL}
 use Rattle.spec.specs.EdgeCases.{EdgeCases, twoZeros, expectedRefusedSettling, expectedMoved, expectedNeighbour}
 use Rattle.spec.specs.EdgeCases.{expectedReadNone, mixed, dirtyAfter}
-use Rattle.spec.specs.EdgeCases.{readBeside, expectedTurnedBack, expectedStaysOpen, expectedPlacedUnsighted}
+use Rattle.spec.specs.EdgeCases.{readBeside, expectedRefusedWhenStale, expectedStaysOpen, expectedPlacedUnsighted}
 use Rattle.spec.specs.EdgeCases.{expectedFifteen, expectedInOrder}
 use Rattle.spec.specs.EdgeCases.{expectedKnownOnce, expectedPlaces, expectedOctet, expectedNothingGiven}
 use Rattle.spec.specs.EdgeCases.{expectedNothingGivenStale, expectedOwnEnd}
@@ -38,8 +38,8 @@ starred =
 pub edge-cases : EdgeCases onPlain
 unfolding opened filled expectedK expectedL twoZeros expectedRefusedSettling expectedMoved expectedNeighbour expectedReadNone
     mixed dirtyAfter readBeside
-    expectedTurnedBack expectedStaysOpen expectedPlacedUnsighted expectedFifteen expectedInOrder expectedKnownOnce expectedPlaces
-    expectedOctet expectedNothingGiven
+    expectedRefusedWhenStale expectedStaysOpen expectedPlacedUnsighted expectedFifteen expectedInOrder expectedKnownOnce
+    expectedPlaces expectedOctet expectedNothingGiven
     expectedNothingGivenStale expectedOwnEnd expectedFullRead expectedNoneWanted expectedBeyond ownWrite expectedDeferredEnd
     expectedPointerAlone expectedOtherLength
     expectedStopsAlone halfway standsSo settledByThree loggedByOne
@@ -53,7 +53,7 @@ edge-cases =
       readNone = (refl, refl);
       mixtures = (refl, refl, refl, refl);
       settledStaysClean = (refl, refl);
-      turnedBack = (refl, refl);
+      refusedWhenStale = (refl, refl);
       staysOpen = (refl, refl);
       placedUnsighted = (refl, refl);
       fifteen = (refl, refl);
@@ -84,7 +84,7 @@ later-edge-cases =
       freshWindows = (refl, refl);
       startGoesBack = (refl, refl, refl);
       settersBack = (refl, refl);
-      kept = (refl, refl, refl, refl);
+      undoState = (refl, refl, refl, refl);
       back = (refl, refl, refl, refl, refl);
       onlyGrantsCount = (refl, refl);
     }

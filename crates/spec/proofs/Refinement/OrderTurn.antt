@@ -12,7 +12,7 @@ use Rattle.spec.specs.Calls.{passing, commitCall, askedOf, orderTurn, ca
 use Rattle.spec.proofs.Abstract.AbstractStore.{vacant, held, isHeld, Abstract, staleSeat, writesSeat, abstractCommitCall}
 use Rattle.spec.proofs.Abstract.AbstractStore.{abstractAsked}
 use Rattle.spec.proofs.Abstract.AbstractStore.{abstractBestOrder, abstractCall}
-use Rattle.spec.proofs.Abstract.Ordering.{grants-same, Agreed, reply-same}
+use Rattle.spec.proofs.Abstract.OrderReplies.{grants-same, Agreed, reply-same}
 use Rattle.spec.proofs.Refinement.Relation.{heldBy, seat, view, Sound}
 use Rattle.spec.proofs.Refinement.Admissions.{Agrees, first-is}
 use Rattle.spec.proofs.Refinement.EndTurns.{commit-turn}

@@ -38,7 +38,7 @@ backValues m (offset d) = getD (m .store .undo .offsets) d 0
 backValues m (fileLength f) = getD (m .store .undo .lengths) f 0
 
 unfoldable pub backIn : Machine → Saved
-backIn m = cond (m .store .undo .held) (preserved (backValues m)) none
+backIn m = cond (m .store .undo .valid) (preserved (backValues m)) none
 
 unfoldable pub view : Machine → Abstract
 view m =

@@ -41,7 +41,7 @@ module _ (m : Machine) (sound : Sound m) where
   range : InRange (m .store) (m .journal)
   range = in-range (m .store) (m .journal) (sound .inRange)
 
-  landed-inside : m .store .undo .held ≡ true → Inside (length (m .files)) (landedOn (m .store) (m .journal))
+  landed-inside : m .store .undo .valid ≡ true → Inside (length (m .files)) (landedOn (m .store) (m .journal))
   unfolding landedOn spanOfRecord fileOf
   landed-inside h =
       let r = range .undo h in
@@ -74,7 +74,7 @@ module _ (m : Machine) (sound : Sound m) where
       let s : _≡_ {A = ℕ → Seat} (seat (undone m)) (seat m) = fun-ext after-seat in
       λ i. record { fileOf = fileOf (m .store); value = v i; windows = windowAt (m .store); back = none; seats = s i }
 
-  back-sound : m .store .undo .held ≡ true → Sound (undone m)
+  back-sound : m .store .undo .valid ≡ true → Sound (undone m)
   unfolding undone
   back-sound h =
       let r = range .undo h in
@@ -108,7 +108,7 @@ module _ (m : Machine) (sound : Sound m) where
       }
 
   -- 23, 24, or undone.
-  takes : (b c : Bool) → m .store .undo .held ≡ c
+  takes : (b c : Bool) → m .store .undo .valid ≡ c
       → Agrees (passing (unless b 23 (unless c 24 0)) [] m (undoTurn m))
       (guarded (λ k. turnedAway k [] (view m)) b 23 (abstractReturn (cond c (preserved (backValues m)) none) (view m)))
   unfolding unless passing refuseTurn turnedAway abstractReturn telling undoTurn answerWith
@@ -120,8 +120,8 @@ module _ (m : Machine) (sound : Sound m) where
   unfolding call abstractCall abstractUndo admissionOfUndo
   back-turn =
       subst (λ (n : ℕ). Agrees (passing n [] m (undoTurn m)) (abstractUndo (view m)))
-      (sym (first-is m (unless (noneBegun (m .store)) 23 (unless (m .store .undo .held) 24 0)) sound))
-      (subst (λ (b : Bool). Agrees (passing (unless (noneBegun (m .store)) 23 (unless (m .store .undo .held) 24 0)) [] m
+      (sym (first-is m (unless (noneBegun (m .store)) 23 (unless (m .store .undo .valid) 24 0)) sound))
+      (subst (λ (b : Bool). Agrees (passing (unless (noneBegun (m .store)) 23 (unless (m .store .undo .valid) 24 0)) [] m
       (undoTurn m))
       (guarded (λ k. turnedAway k [] (view m)) b 23 (abstractReturn (view m .back) (view m)))) (sym none-is)
-      (unfold view backIn in takes (noneBegun (m .store)) (m .store .undo .held) refl))
+      (unfold view backIn in takes (noneBegun (m .store)) (m .store .undo .valid) refl))

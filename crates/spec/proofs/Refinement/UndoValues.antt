@@ -29,9 +29,9 @@ back-values m = fun-ext each
 -- Two journals with the same write records of the last grant, if there is one.
 abbrev pub SameGrant : Undo → List ℕ → List ℕ → Type 0
 SameGrant u written journal =
-    u .held ≡ true → (k : ℕ) → k < u .used .records → writeRecordAt written lastGrant k ≡ writeRecordAt journal lastGrant k
+    u .valid ≡ true → (k : ℕ) → k < u .used .records → writeRecordAt written lastGrant k ≡ writeRecordAt journal lastGrant k
 
-pub undo-same : (u : Undo) (written journal : List ℕ) → SameGrant u written journal → u .held ≡ true → UndoInRange u journal
+pub undo-same : (u : Undo) (written journal : List ℕ) → SameGrant u written journal → u .valid ≡ true → UndoInRange u journal
     → UndoInRange u written
 unfolding lengthsBefore
 undo-same u written journal same h r =
@@ -51,7 +51,7 @@ undo-same u written journal same h r =
 -- A store that holds the same of the last grant would go back to the same.
 module _ (m n : Machine) (same : SameGrant (m .store .undo) (n .journal) (m .journal)) (u : n .store .undo ≡ m .store .undo)
     (numbers : n .store .filenumbers ≡ m .store .filenumbers) (old : n .undo ≡ m .undo) (files : n .files ≡ m .files) where
-  landed-same : m .store .undo .held ≡ true → landedOn (n .store) (n .journal) ≡ landedOn (m .store) (m .journal)
+  landed-same : m .store .undo .valid ≡ true → landedOn (n .store) (n .journal) ≡ landedOn (m .store) (m .journal)
   unfolding landedOn spanOfRecord fileOf
   landed-same h =
       rw (u, numbers)
@@ -59,7 +59,7 @@ module _ (m n : Machine) (same : SameGrant (m .store .undo) (n .journal) (m .jou
       (λ k. spanOfRecord (m .store) (writeRecordAt (m .journal) lastGrant k)) (m .store .undo .used .records)
       (λ k l. ap (spanOfRecord (m .store)) (same h k l)))
 
-  values-same : m .store .undo .held ≡ true → (i : Item) → backValues n i ≡ backValues m i
+  values-same : m .store .undo .valid ≡ true → (i : Item) → backValues n i ≡ backValues m i
   unfolding backValues
   values-same h (byte q) =
       ap (λ (ss : List Span). getD (restored ss (n .undo) (n .files)) q 0) (landed-same h)
@@ -69,9 +69,9 @@ module _ (m n : Machine) (same : SameGrant (m .store .undo) (n .journal) (m .jou
 
   pub back-same : backIn n ≡ backIn m
   unfolding backIn
-  back-same = ap (λ (x : Undo). cond (x .held) (preserved (backValues n)) none) u ∙ pick (m .store .undo .held) refl
+  back-same = ap (λ (x : Undo). cond (x .valid) (preserved (backValues n)) none) u ∙ pick (m .store .undo .valid) refl
     where
-      pick : (b : Bool) → m .store .undo .held ≡ b → cond b (preserved (backValues n)) none
+      pick : (b : Bool) → m .store .undo .valid ≡ b → cond b (preserved (backValues n)) none
           ≡ cond b (preserved (backValues m)) none
       pick true e = ap preserved (fun-ext (values-same e))
       pick false e = refl

@@ -78,7 +78,7 @@ lent-preserved xs logs marks m =
       committed = record { files = refl; offsets = refl; lengths = refl };
       windows = refl;
       earlier =
-          ap (λ (v : Values). cond (m .store .undo .held) (found (record { value = v; setter = λ i. 0 }) 0) nothing)
+          ap (λ (v : Values). cond (m .store .undo .valid) (found (record { value = v; setter = λ i. 0 }) 0) nothing)
           (fun-ext each);
     }
   where
@@ -132,7 +132,7 @@ survives m logs marks =
 -- What an undo restores where the reference model starts.
 pub earlier-good : (m : Machine) → GoodEarlier (earlierIn m)
 unfolding earlierIn
-earlier-good m = pick (m .store .undo .held)
+earlier-good m = pick (m .store .undo .valid)
   where
     pick : (b : Bool) → GoodEarlier (cond b (found
         (record { value = values (undone m .store) (undone m .files); setter = λ i. 0 }) 0) nothing)
@@ -141,7 +141,7 @@ earlier-good m = pick (m .store .undo .held)
 
 earlier-back : (m : Machine) → backIn m ≡ backOf (earlierIn m)
 unfolding earlierIn backIn backOf
-earlier-back m = pick (m .store .undo .held)
+earlier-back m = pick (m .store .undo .valid)
   where
     pick : (b : Bool)
         → cond b (preserved (backValues m)) none
@@ -156,7 +156,7 @@ earlierOf (preserved v) = found (record { value = v; setter = λ i. 0 }) 0
 
 earlier-of : (m : Machine) → earlierIn m ≡ earlierOf (backIn m)
 unfolding earlierIn backIn earlierOf
-earlier-of m = pick (m .store .undo .held)
+earlier-of m = pick (m .store .undo .valid)
   where
     pick : (b : Bool)
         → cond b (found (record { value = values (undone m .store) (undone m .files); setter = λ i. 0 }) 0) nothing

@@ -19,7 +19,7 @@ use Rattle.spec.specs.Machine.{Machine}
 use Rattle.spec.specs.Calls.{passing, commitCall, askedOf, orderTurn, call, callsAfter, callsReplies}
 use Rattle.spec.specs.BestOrder.{grantsBy, BestOrder, BestOrderHolds, BestOrderAlwaysHolds}
 use Rattle.spec.proofs.Abstract.AbstractStore.{vacant, held, isHeld, writesSeat, abstractAsked}
-use Rattle.spec.proofs.Abstract.Ordering.{passed}
+use Rattle.spec.proofs.Abstract.OrderReplies.{passed}
 use Rattle.spec.proofs.Abstract.ClosedCommits.{may, fewer-count, few}
 use Rattle.spec.proofs.Refinement.Relation.{heldBy, seat, view, Sound}
 use Rattle.spec.proofs.Refinement.Admissions.{first-is}

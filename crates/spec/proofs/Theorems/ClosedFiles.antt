@@ -311,7 +311,7 @@ closed-spared m t minute n e =
     (decoded-writes s (m .journal) (m .logs) t (a .lengths .logs) (a .small) r) (p .none) in
     record {
       bytes = λ b q i f. subst (Sparing ws minute) f (among-spares ws minute b (settingsOf m t) i sparing);
-      kept =
+      unchanged =
           λ q c.
           ap (λ (y : Machine). getD (y .files) q 0) (p .leaves)
           ∙ files-left q (settingsOf m t) (m .files) (not-touched ws minute q c (settingsOf m t) sparing);

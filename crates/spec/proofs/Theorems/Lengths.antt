@@ -209,7 +209,7 @@ module _ (m : Machine) (sound : Sound m) where
   limit-now = length-in (m .store) (m .journal) (m .files) (sound .shaped .lengths)
       (in-range (m .store) (m .journal) (sound .inRange))
 
-  zeros-held : ZeroBack (backIn m) → m .store .undo .held ≡ true → ZeroBeyond (committedIn (undone m))
+  zeros-held : ZeroBack (backIn m) → m .store .undo .valid ≡ true → ZeroBeyond (committedIn (undone m))
   unfolding backIn
   zeros-held backs h = subst⁻¹ ZeroBeyond (back-values m)
       (subst (λ (b : Bool). ZeroBack (cond b (preserved (backValues m)) none)) h backs)

@@ -63,7 +63,7 @@ module _ (m : Machine) (sound : Sound m) (marks : List ℕ) (size : length marks
   unfolding backIn
   same-back =
       let e : _≡_ {A = Values} (backValues other) (backValues m) = fun-ext same-found in
-      ap (λ (v : Values). cond (m .store .undo .held) (preserved v) none) e
+      ap (λ (v : Values). cond (m .store .undo .valid) (preserved v) none) e
 
   same-view : view other ≡ view m
   unfolding view

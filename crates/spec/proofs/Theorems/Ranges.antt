@@ -113,7 +113,7 @@ late-back : (m : Machine) → Sound m → Late (call undoCommit m .reply .answer
 unfolding call undoTurn answerWith admissionOfUndo AtLeast3
 late-back m s =
     late-passing _ [] m (undoTurn m)
-    (subst⁻¹ AtLeast3 (first-is m (unless (noneBegun (m .store)) 23 (unless (m .store .undo .held) 24 0)) s)
+    (subst⁻¹ AtLeast3 (first-is m (unless (noneBegun (m .store)) 23 (unless (m .store .undo .valid) 24 0)) s)
     (late-one _ 23 _ (omega arith) (late-one _ 24 0 (omega arith)
     (λ j e. absurd (let z : _≡_ {A = ℕ} 0 (suc j) = e in omega arith)))))
     (late-answer _ tt)

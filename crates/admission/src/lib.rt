@@ -86,7 +86,8 @@ fn records_in(state: &State, t: usize, records: usize, bytes: usize) -> bool
     requires { ⌜ (t < transactionCount) × (records ≤ recordCount)
         × (below (λ d. standingIn (standingAt (transactionOf (now state) t) d)) descriptorCount ≡ true) ⌝ }
     ensures { λ r. ⌜ r ≡
-        journalPasses (transactionOf (now (state .entry)) t) (journalOf (now (state .entry))) t records bytes ⌝ }
+        journalPasses (transactionOf (now (state .entry)) t) (journalOf (now (state .entry)))
+        t records bytes ⌝ }
 {
     let mut sum = 0;
     let mut k = 0;
@@ -285,7 +286,8 @@ pub fn first_tests(state: &State, files: usize, logs: usize, marks: usize, undo:
 // Refusals 1 to 3, for calls of a transaction.
 pub fn admit(state: &State, files: usize, logs: usize, marks: usize, undo: usize, t: usize) -> Gate
     ensures gate { λ r. ⌜ gateNumber r
-        ≡ shared (sized files logs marks undo) (storeOf (now (state .entry))) (journalOf (now (state .entry))) t 0 ⌝ }
+        ≡ shared (sized files logs marks undo)
+        (storeOf (now (state .entry))) (journalOf (now (state .entry))) t 0 ⌝ }
     ensures long { λ _. ⌜ length (now (state .entry)) ≡ stateLength ⌝ }
 {
     let gate = first_tests(state, files, logs, marks, undo);

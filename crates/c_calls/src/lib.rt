@@ -92,7 +92,8 @@ pub extern "C" fn luzhanem_parts_get_file_pointer(
     t: usize,
     d: usize,
 ) -> i32
-    ensures { λ r. ⌜ AnswersAsCode (call (Call.on t (Op.getFilePointer d))) state files logs marks undo r [] ⌝ }
+    ensures { λ r. ⌜ AnswersAsCode (call (Call.on t (Op.getFilePointer d)))
+        state files logs marks undo r [] ⌝ }
 {
     code(store::get_file_pointer(state, files, logs, marks, undo, t, d))
 }

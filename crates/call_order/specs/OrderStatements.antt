@@ -76,7 +76,8 @@ followAll row closed txn (t ∷ o) p = followAll row closed txn o (followOne row
 -- Of a machine, from its own offsets.
 unfoldable pub followed : ℕ → Machine → List ℕ → Pass
 followed minute m o =
-    followAll (staleBy m) (askedOf minute m .hasClosed) (txnIn m) o (record { stale = 0; offsets = m .store .offsets; grants = 0 })
+    followAll (staleBy m) (askedOf minute m .hasClosed) (txnIn m) o
+    (record { stale = 0; offsets = m .store .offsets; grants = 0 })
 
 -- ---- the short way, where nobody stands Deferred or Moved: 12 cannot come
 
@@ -111,7 +112,8 @@ pub record TableHolds (m : Machine) (ts : List ℕ) (minute : ℕ) : Type 0 wher
   -- .. where no listed transaction stands Deferred or Moved.
   pub short :
       allIn (λ t. not (waits (txnIn m t))) ts ≡ true → (o : List ℕ) → Arranges ts o
-      → askedOf minute m .grants o ≡ passAll (staleBy m) o (record { skipped = closedIn minute m; grants = 0 }) .grants
+      → askedOf minute m .grants o
+      ≡ passAll (staleBy m) o (record { skipped = closedIn minute m; grants = 0 }) .grants
   -- A Commit of j is refused with 13 exactly when some i granted before it has j in its octet.
   pub stale :
       (xs ys : List ℕ) (j : ℕ) → Arranges ts (xs ++ (j ∷ ys))

@@ -106,8 +106,8 @@ pub fn read<'a>(
     n: usize,
     reader: &mut [u8],
 ) -> Outcome
-    ensures { λ r. ⌜ Follows (call (Call.on t (Op.read d n (now (reader .entry))))) state files logs marks undo r
-        (now (reader .exit)) ⌝ }
+    ensures { λ r. ⌜ Follows (call (Call.on t (Op.read d n (now (reader .entry)))))
+        state files logs marks undo r (now (reader .exit)) ⌝ }
 {
     let gate = admission::admit(state, files.len(), logs.len(), marks.len(), undo.len(), t);
     if let Gate::Refused(r) = gate {

@@ -57,8 +57,10 @@ fn room(place: Place, used: Used, n: usize) -> Gate
 fn put_write(state: &mut State, t: usize, d: usize, standing: Standing, u: Used, n: u16)
     requires { ⌜ (length (now state) ≡ stateLength) × (t < transactionCount) × (d < descriptorCount) ⌝ }
     requires { ⌜ WriteRoom (writePlace standing) u n × (standingIn standing ≡ true) ⌝ }
-    ensures { λ _. ⌜ storeOf (now (state .exit)) ≡ storeWritten t d standing u n (storeOf (now (state .entry))) ⌝ }
-    ensures { λ _. ⌜ journalOf (now (state .exit)) ≡ journalWritten t d standing u n (journalOf (now (state .entry))) ⌝ }
+    ensures { λ _. ⌜ storeOf (now (state .exit))
+        ≡ storeWritten t d standing u n (storeOf (now (state .entry))) ⌝ }
+    ensures { λ _. ⌜ journalOf (now (state .exit))
+        ≡ journalWritten t d standing u n (journalOf (now (state .entry))) ⌝ }
 {
     let w = WriteRecord {
         descriptor: d as u16,

@@ -170,7 +170,8 @@ fn begin_all(
 )
     requires { ⌜ count ≤ scriptCount ⌝ }
     ensures { λ _. ⌜ ((bytes : List ℕ) (minute : ℕ) (x : SomeScripts)
-        → StepsAside (λ m. begins (storeReply m) bytes minute x count) state files logs marks undo ends ends) ⌝ }
+        → StepsAside (λ m. begins (storeReply m) bytes minute x count)
+        state files logs marks undo ends ends) ⌝ }
 {
     let mut k = 0;
     while k < count {

@@ -36,7 +36,8 @@ fn fits(state: &[u16]) -> bool
 fn grant_record(state: &State, k: usize) -> WriteRecord
     requires { ⌜ k < 64 ⌝ }
     ensures { λ r. ⌜ (r .descriptor < 65520) × (r ≡
-        grantRecord (storeOf (now (state .entry)) .undo .used .records) (journalOf (now (state .entry))) k) ⌝ }
+        grantRecord (storeOf (now (state .entry)) .undo .used .records)
+        (journalOf (now (state .entry))) k) ⌝ }
 {
     fits(state);
     let used = undo_used(state);
@@ -66,7 +67,8 @@ fn holder_of(w: WriteRecord) -> u16
 fn record_number(state: &State, i: usize) -> u16
     requires { ⌜ (84 ≤ i) × (i < 276) ⌝ }
     ensures { λ r. ⌜ r ≡
-        recordNumber (storeOf (now (state .entry)) .undo .used .records) (journalOf (now (state .entry))) i ⌝ }
+        recordNumber (storeOf (now (state .entry)) .undo .used .records)
+        (journalOf (now (state .entry))) i ⌝ }
 {
     if i < 148 {
         let w = grant_record(state, i - 84);

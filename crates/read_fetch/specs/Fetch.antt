@@ -34,7 +34,8 @@ unfoldable pub bytesRead : Recorded → ℕ → ℕ → List ℕ → List ℕ �
 bytesRead j t records log file e = result (fileValues (e .file) file) (fetching j t records log e)
 
 unfoldable pub marksAfter : Recorded → ℕ → ℕ → List ℕ → List ℕ → Extent → List ℕ → List ℕ
-marksAfter j t records log file e marks = marked t (asked (fileValues (e .file) file) (fetching j t records log e)) marks
+marksAfter j t records log file e marks =
+    marked t (asked (fileValues (e .file) file) (fetching j t records log e)) marks
 
 -- "transaction t's part starting at 4,096 × t" [R-2.1]
 unfoldable pub logPart : List ℕ → ℕ → List ℕ

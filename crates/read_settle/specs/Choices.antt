@@ -18,7 +18,8 @@ use Rattle.read_settle.specs.declared.settle_call.Settling.{Settling}
 -- "Before a Read through descriptor d fetches bytes, it settles every descriptor of d's file that stands
 -- Deferred or Moved, and d if Untouched" [R-4.4]: the files of the descriptors, and the transaction.
 unfoldable pub settlesForRead : List ℕ → Transaction → ℕ → ℕ → Bool
-settlesForRead filenumbers x d e = readSettles (eqb (getD filenumbers e 0) (getD filenumbers d 0)) (eqb e d) (standingAt x e)
+settlesForRead filenumbers x d e =
+    readSettles (eqb (getD filenumbers e 0) (getD filenumbers d 0)) (eqb e d) (standingAt x e)
 
 unfoldable pub chosenByRead : List ℕ → Transaction → ℕ → List Bool
 chosenByRead filenumbers x d = tabulate (settlesForRead filenumbers x d) descriptorCount

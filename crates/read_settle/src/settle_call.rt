@@ -31,7 +31,8 @@ pub struct Settling {
 pub fn chosen_by_read(state: &State, t: usize, d: usize) -> [bool; DESCRIPTORS]
     requires { ⌜ (t < transactionCount) × (d < descriptorCount) ⌝ }
     ensures { λ r. ⌜ r
-        ≡ chosenByRead (storeOf (now (state .entry)) .filenumbers) (transactionOf (now (state .entry)) t) d ⌝ }
+        ≡ chosenByRead (storeOf (now (state .entry)) .filenumbers)
+        (transactionOf (now (state .entry)) t) d ⌝ }
 {
     let mut chosen = [false; DESCRIPTORS];
     let f = file_at(state, d);

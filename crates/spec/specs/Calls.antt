@@ -249,7 +249,8 @@ placesTurn t f out m =
 -- 02, F-11: "A call sets a window" [R-11.2], and changes nothing else.
 unfoldable pub windowTurn : ℕ → ℕ → ℕ → Machine → Turn
 windowTurn f start end m =
-    answerWith doneAnswer (withStore (withWindows (set (m .store .windows) f (window start end)) (m .store)) m)
+    answerWith doneAnswer
+    (withStore (withWindows (set (m .store .windows) f (window start end)) (m .store)) m)
 
 -- The shared tests, 1 to 4, on what a caller lends.
 unfoldable pub admitted : ℕ → List ℕ → Machine → Turn → Turn

@@ -12,7 +12,8 @@ use Rattle.spec.specs.Places.{someWrite}
 -- "21 when a byte would go to a closed file" [R-9.3]: a write of at least one byte, with a place or without,
 -- whose descriptor's file is closed.
 unfoldable pub isForClosed : (ℕ → ℕ) → Windows → ℕ → Write → Bool
-isForClosed fileOf windows minute w = ltb 0 (length (w .bytes)) && isClosedAt windows minute (fileOf (w .descriptor))
+isForClosed fileOf windows minute w =
+    ltb 0 (length (w .bytes)) && isClosedAt windows minute (fileOf (w .descriptor))
 
 unfoldable pub forClosed : (ℕ → ℕ) → Windows → ℕ → List Write → Bool
 forClosed fileOf windows minute ws = someWrite (isForClosed fileOf windows minute) ws

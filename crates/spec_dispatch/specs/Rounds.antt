@@ -151,7 +151,8 @@ module _ (replyTo : Call → List Call → Reply) (bytes : List ℕ) (minute : �
   unfoldable pub commitOne : ℕ → Work → Work
   commitOne k w =
       let c = commit k minute in
-      cond (goesOn (w .ends k)) (decided k (refusalIn (replyTo c (w .made) .answer)) (withCommit (withCall c w))) w
+      cond (goesOn (w .ends k))
+      (decided k (refusalIn (replyTo c (w .made) .answer)) (withCommit (withCall c w))) w
 
   unfoldable pub commitAll : ℕ → Work → Work
   commitAll zero w = w

@@ -73,7 +73,8 @@ allIn p (t ∷ ts) = p t && allIn p ts
 -- file closed at the minute, less the grants." [R-14.3]
 unfoldable pub gapOf : (ℕ → Bool) → ℕ → List ℕ → ℕ → ℕ
 gapOf hasClosed budget ts grants =
-    cond (eqb (length (triedOf budget ts)) (length (orders ts))) 0 (countIn (λ t. not (hasClosed t)) ts - grants)
+    cond (eqb (length (triedOf budget ts)) (length (orders ts))) 0
+    (countIn (λ t. not (hasClosed t)) ts - grants)
 
 -- ---- the list
 

@@ -32,13 +32,15 @@ landAll (w ∷ ws) buffer = landAll ws (pasted buffer (w .at) (w .bytes))
 -- bytes.
 unfoldable pub oldBytes : List Landing → List ℕ → List ℕ
 oldBytes [] buffer = []
-oldBytes (w ∷ ws) buffer = cut buffer (w .at) (length (w .bytes)) ++ oldBytes ws (pasted buffer (w .at) (w .bytes))
+oldBytes (w ∷ ws) buffer =
+    cut buffer (w .at) (length (w .bytes)) ++ oldBytes ws (pasted buffer (w .at) (w .bytes))
 
 -- "and go back from the last write to the first" [R-12.2]: the old bytes of the first stand in front, and go
 -- back after all others.
 unfoldable pub restored : List Span → List ℕ → List ℕ → List ℕ
 restored [] old buffer = buffer
-restored (s ∷ ss) old buffer = pasted (restored ss (drop (s .length) old) buffer) (s .at) (take (s .length) old)
+restored (s ∷ ss) old buffer =
+    pasted (restored ss (drop (s .length) old) buffer) (s .at) (take (s .length) old)
 
 -- Every span lies inside a buffer of n bytes.
 abbrev pub Inside : ℕ → List Span → Type 0

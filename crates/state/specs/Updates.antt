@@ -1,4 +1,4 @@
--- How the code puts a meaning into the record's numbers (Layout.antt): in one form. The promises of the calls
+-- How the code puts a meaning into the state's numbers (Layout.antt): in one form. The promises of the calls
 -- do not name these; those of the functions below them do.
 use mathlib.Core.Bool.{Bool, true, false, cond}
 use mathlib.Core.List.{List}

@@ -466,7 +466,8 @@ pub fn take_line(
 ) -> ReplayProgress
     requires { ⌜ (p .waiting ≤ 40000) × (AnswerIn p × Rooms (now bytes) (now reader) (now out)) ⌝ }
     ensures { λ r. ⌜ LineTaken p r × Took
-        (lineTurn (now (line .entry)) (replayStateIn p (handed state files logs marks undo) (now (out .entry))))
+        (lineTurn (now (line .entry))
+        (replayStateIn p (handed state files logs marks undo) (now (out .entry))))
         (take (p .waiting) (now (out .entry)))
         (replayStateIn r (handedBack state files logs marks undo) (now (out .exit)))
         (take (r .waiting) (now (out .exit))) ⌝ }

@@ -101,7 +101,8 @@ this c =
     let read = read-of (kept-of c) in
     let a = start-of read .args in
     ap
-    (λ (w : WriteRecord). ltb 0 (w .length) && contains (a .octet) (getD (storeOf (a .state .now) .filenumbers) (w .descriptor) 0))
+    (λ (w : WriteRecord). ltb 0 (w .length)
+    && contains (a .octet) (getD (storeOf (a .state .now) .filenumbers) (w .descriptor) 0))
     (sym (read .record-at .ensures))
     ∙ ap (λ (b : Bool). ltb 0 (read .record-at .result .length) && b)
     (sym (c .contains .ensures ∙ ap (contains (a .octet)) (file-is (kept-of c))))

@@ -48,7 +48,8 @@ unfolding Below.below Below.sum Ranges.lengthsBefore Bits.bit Bits.bitsOf Bits.c
     Plain.withNumber Plain.plainCall Messages.repliesTo Messages.afterAll Plain.isRunning Plain.noneRunning Plain.plainRestore
     Plain.plainUndo Lone.stopped Lone.prepend Lone.goOn Lone.lone Grants.grantedBy Grants.againOf Grants.rerun
     Grants.repliesOf Grants.sameReplies Grants.serialOf Grants.serialFrom Grants.serialBy Grants.adding Grants.droppedFrom
-    Grants.butLast Option.Option·elim Messages.refusalOf Setup.numbers Setup.freshNumbered Setup.onPlain Setup.committedBytes Setup.beginning Setup.seenIn
+    Grants.butLast Option.Option·elim Messages.refusalOf Setup.numbers Setup.freshNumbered Setup.onPlain Setup.committedBytes
+    Setup.beginning Setup.seenIn
     Setup.sightingsOf Setup.formerIn Setup.formerNumbers Setup.begins Setup.callsOf Messages.isGrant Parts.tabulate Parts.cut
     Parts.pasted OldBytes.oldBytes OldBytes.restored State.begun State.ended Journal.decodedAs Journal.decoded
     Journal.writeRecordAt

@@ -227,7 +227,7 @@ admitted-window z s journal f start end e =
     let l = leb-true f 7 (c .0) in
     record { lengths = a .0; ranges = a .1; small = omega arith; minutes = d .0 }
 
--- What passed tests of a taking back tell.
+-- What passed tests of an undo tell.
 pub record AdmittedBack (z : Sizes) (s : StoreMeaning) (journal : List ℕ) : Type 0 where
   pub lengths : Lengths z
   pub ranges : storeIn s journal ≡ true

@@ -4,7 +4,7 @@ use Prim.Native.Nat.{ℕ, zero, suc}
 unfoldable pub use Rattle.buffers.specs.Below.{below, someBelow, sum}
 
 -- Goes on where the test holds, otherwise refuses with the number: of a call on the store, of a transaction's
--- step and of the plain machine.
+-- step and of the reference model.
 module _ {A : Type 0} where
   abbrev pub guarded : (ℕ → A) → Bool → ℕ → A → A
   guarded refuse ok n next = cond ok next (refuse n)

@@ -346,7 +346,7 @@ pub fn none_begun(state: &State) -> bool
     none
 }
 
-// Refusals 1, 2, 23 and 24, for the taking back of the last grant.
+// Refusals 1, 2, 23 and 24, for undoing the last grant.
 pub fn admit_undo(state: &State, files: usize, logs: usize, marks: usize, undo: usize) -> Gate
     ensures gate { λ r. ⌜ gateNumber r
         ≡ admissionOfUndo (sized files logs marks undo) (storeOf (now (state .entry)))

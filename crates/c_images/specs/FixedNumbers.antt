@@ -1,4 +1,4 @@
--- What the meaning of a record fixes of its numbers. The promises of the calls say what a record means at
+-- What the meaning of a state fixes of its numbers. The promises of the calls say what a state means at
 -- exit; by `MeaningFixes` they say its numbers, but for two things that are left open: a flag that is not set
 -- may be any number but 1, and the first number of a standing Known at 0 may be 0 or 1. Nothing is asked of
 -- the numbers.

@@ -1,5 +1,5 @@
--- The number of the record's layout, and the layout that has this number. Whoever moves a number of the
--- record, or gives it another meaning, finds `LayoutIsNumbered` without a proof: write the new places here,
+-- The number of the state's layout, and the layout that has this number. Whoever moves a number of the
+-- state, or gives it another meaning, finds `LayoutIsNumbered` without a proof: write the new places here,
 -- and raise layoutNumber and `luzhanem_parts_layout`.
 use mathlib.Core.List.{List}
 use mathlib.Core.Path.{_≡_}
@@ -30,7 +30,7 @@ pub record StandingCodes : Type 0 where
   pub known : (o : ℕ) → standingOf (o + 1) 1 ≡ Known o
   pub leftOver : standingOf 0 1 ≡ Known 0
 
--- Where the numbers of a record r stand.
+-- Where the numbers of a state r stand.
 pub record NumberedLayout (r : List ℕ) : Type 0 where
   pub size : stateLength ≡ 2115
   pub records :

@@ -1,5 +1,5 @@
 // Images for programs in other languages: saving what is committed, loading it, the check alone; and the
-// number of the record's layout. Arrays cross as plain pointers, the image as three: numbers, files, old
+// number of the state's layout. Arrays cross as plain pointers, the image as three: numbers, files, old
 // bytes.
 mod loading;
 mod saving;
@@ -69,7 +69,7 @@ pub extern "C" fn luzhanem_parts_load(
     code(o)
 }
 
-// The number of the record's layout. A copy of the raw parts fits one layout only.
+// The number of the state's layout. A copy of the raw parts fits one layout only.
 #[no_mangle]
 pub extern "C" fn luzhanem_parts_layout() -> i32
     ensures { λ r. ⌜ r ≡ layoutNumber ⌝ }

@@ -32,7 +32,7 @@ fn clear(buffer: &mut [u8])
 }
 
 // Refusals 1 (another format) and 2 (out of range), which leave the store; or the image's young store, with
-// the logs that lie there. The image's record is made apart before it replaces the store's.
+// the logs that lie there. The image's state is made apart before it replaces the store's.
 pub fn load_image(
     state: &mut State,
     files: &mut Buffer,

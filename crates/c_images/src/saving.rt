@@ -19,7 +19,7 @@ ghost use Rattle.admission.specs.Admission.{storeIn, gateNumber};
 ghost use Rattle.spec.specs.Promises.{Follows, handed};
 ghost use Rattle.c_images.specs.ImageCalls.{checkRule, SavedImage};
 
-// Whether the record is in range: refusal 2 where it is not.
+// Whether the state is in range: refusal 2 where it is not.
 pub fn range_gate(state: &State) -> Gate
     ensures { λ g. ⌜ gateNumber g
         ≡ unless (storeIn (storeOf (now (state .entry))) (journalOf (now (state .entry)))) 2 0 ⌝ }

@@ -1,4 +1,4 @@
--- The dispatcher's promise is the link that demand 3 about the code takes
+-- The dispatcher's promise is the link that serializability of the code takes
 -- (spec_dispatch/specs/SerializabilityOfCode.antt).
 use mathlib.Core.List.{List}
 use Prim.Native.Nat.{ℕ}

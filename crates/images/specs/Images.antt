@@ -5,7 +5,7 @@
 --     33     the committed lengths of the eight files
 --     41     the starts of their windows
 --     49     the ends of their windows
---     57     whether the last grant can be taken back (1 or 0), its write records, its bytes
+--     57     whether the last grant can be undone (1 or 0), its write records, its bytes
 --     60     the offsets that it found
 --     76     the lengths that it found
 --     84     the descriptors of its 64 write records, with 16 added where one has no place

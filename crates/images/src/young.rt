@@ -69,7 +69,7 @@ fn put_files(state: &mut State, image: &Numbers)
     }
 }
 
-// Whether the last grant can be taken back, and its counters.
+// Whether the last grant can be undone, and its counters.
 fn put_grant(state: &mut State, image: &Numbers)
     ensures { λ _. ⌜ now (state .exit) ≡ withLastGrant (wordAt (now (image .entry))) (now (state .entry)) ⌝ }
 {

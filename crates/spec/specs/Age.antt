@@ -23,7 +23,7 @@ pub record AtRest (m : Machine) : Type 0 where
   pub reached : Reached m
   pub closed : (t : ℕ) → t ≤ lastTransaction → transaction (m .store) t .begun ≡ false
 
--- What the store would go back to: the values that its last grant found.
+-- What an undo would restore: the values that the store's last grant found.
 unfoldable pub earlierIn : Machine → Earlier
 earlierIn m =
     let n = undone m in
@@ -38,7 +38,7 @@ pub record Alike (cs : List Call) (m n : Machine) : Type 0 where
       ≡ values (callsAfter cs n .store) (callsAfter cs n .files)
 
 -- Nothing that was granted is lost: the second store has the files, offsets, lengths and windows of the
--- first, and its grant to take back.
+-- first, and its grant to undo.
 pub record NothingLost (m n : Machine) : Type 0 where
   pub committed : SameCommitted m n
   pub windows : n .store .windows ≡ m .store .windows

@@ -50,7 +50,7 @@ pub mod UndoRestores
 pub mod BestOrder
 -- What follows from them.
 pub mod Corollaries
--- The situations, and corners of both papers; what the statements are false of.
+-- The situations, and edge cases of both papers; what the statements are false of.
 pub mod Setup
 pub mod Situations
 pub mod EdgeCases

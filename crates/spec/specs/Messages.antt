@@ -64,8 +64,8 @@ refusalOf (pairs n) = none
 refusalOf (ordered grants gap tried) = none
 refusalOf (refused n) = some n
 
--- What answers calls, S being what it holds: its reply to a call, and what it holds after it. The plain
--- machine does, and so does the store.
+-- What answers calls, S being what it holds: its reply to a call, and what it holds after it. The reference
+-- model does, and so does the store.
 pub record Answering (S : Type 0) : Type 0 where
   pub reply : Call → S → Reply
   pub next : Call → S → S

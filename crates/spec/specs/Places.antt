@@ -1,5 +1,4 @@
--- Request F-1, "Places a transaction would write" [R-15.1]: what its call lists, and what the list is held
--- to.
+-- Request F-1, "Places a transaction would write" [R-15.1]: what its call lists, and what holds of the list.
 use mathlib.Core.Bool.{Bool, true, false, not, _&&_, _||_}
 use mathlib.Core.List.{List, [], _∷_, _++_}
 use mathlib.Core.Path.{_≡_}

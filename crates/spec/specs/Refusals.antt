@@ -1,7 +1,7 @@
--- Demand 1, beside its wording: "Every call .. ends in its result or one of fourteen refusals (02 adds more),
--- each under its written condition only. A refusal changes no buffer and no record, save that a commit
--- refused as stale (13) ends its transaction as an abort does." [R-18.1] (The written conditions, in the
--- order in which they are tested, are RefusalOrder.antt.)
+-- Refusals (demand 1), beside its wording: "Every call .. ends in its result or one of fourteen refusals (02
+-- adds more), each under its written condition only. A refusal changes no buffer and no record, save that a
+-- commit refused as stale (13) ends its transaction as an abort does." [R-18.1] (The written conditions, in
+-- the order in which they are tested, are RefusalOrder.antt.)
 use mathlib.Core.List.{List, [], _∷_, map}
 use mathlib.Core.Path.{_≡_}
 use Prim.Native.Nat.{ℕ}

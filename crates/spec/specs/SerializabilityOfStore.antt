@@ -1,5 +1,5 @@
--- Demand 3 about the store: the rules of this crate on records and buffers (`call`). The code, whose calls
--- and whose dispatcher keep their promises, is spec_dispatch/specs/SerializabilityOfCode.antt.
+-- Serializability of the store (demand 3): the rules of this crate on states and buffers (`call`). The code,
+-- whose calls and whose dispatcher keep their promises, is spec_dispatch/specs/SerializabilityOfCode.antt.
 use mathlib.Core.List.{List}
 use mathlib.Core.Path.{_≡_}
 use Prim.Native.Nat.{ℕ}

@@ -1,4 +1,4 @@
--- Demand 3 about the code: calls and dispatchers that keep their promises are calls of the rules.
+-- Serializability of the code: calls and dispatchers that keep their promises are calls of the rules.
 use mathlib.Core.Bool.{cond}
 use mathlib.Core.List.{List, [], _∷_, _++_, map}
 use mathlib.Core.Path.{_≡_, refl, sym, ap, ap₂, _∙_, subst, subst⁻¹}
@@ -71,7 +71,7 @@ linked-after m₀ cs m (ran ds n y l k) =
     ∙ ap (callsAfter (dispatchCalls y n)) (linked-after m₀ ds n l)
     ∙ sym (calls-append ds (dispatchCalls y n) m₀)
 
--- What the dispatcher gave on the store, it gives on the plain machine, and its calls lead there.
+-- What the dispatcher gave on the store, it gives on the reference model, and its calls lead there.
 module _ (m : Machine) (p : Plain) (y : DispatchMade) (k : DispatchKept m y)
     (too : PlainToo (y .bytes) (y .minute) (y .scripts) m p (y .reader)) where
   abbrev onPlain : Dispatched Plain

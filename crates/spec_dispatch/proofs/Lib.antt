@@ -14,7 +14,7 @@ pub mod OnPlain
 pub mod Same
 -- The theorems: `dispatch-holds`, `same-dispatch`, `refusals-of-dispatch`.
 pub mod DispatchTheorems
--- Demand 3 about the code: `serializability-of-code`, and F-7 of one more call, `moment-of-code`.
+-- Serializability of the code: `serializability-of-code`, and F-7 of one more call, `moment-of-code`.
 pub mod CodeTheorems
 -- The definitions by index as loops go through them: none, and one more. For the code of crate dispatcher.
 pub mod Loops

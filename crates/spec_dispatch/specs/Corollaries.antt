@@ -46,7 +46,7 @@ MomentOfCode =
     → isReadCall op ≡ true → IsAccepted (madeReply x)
     → OneMoment (plainAfter cs (freshPlain (λ d. getD numbers d 0))) t op (madeReply x)
 
--- Calls alone, as a list, each on what the one before left: all their replies are the plain machine's.
+-- Calls alone, as a list, each on what the one before left: all their replies are the reference model's.
 unfoldable pub CallsKept : Machine → List CallMade → Type 0
 CallsKept m [] = Unit {0}
 CallsKept m (x ∷ xs) = CallKept m x × CallsKept (x .after) xs

@@ -1,4 +1,4 @@
--- Request F-10: the dispatcher on the store and on the plain machine, and what is proved of it.
+-- Request F-10: the dispatcher on the store and on the reference model, and what is proved of it.
 use mathlib.Core.Bool.{false, cond}
 use mathlib.Core.List.{List, [], _∷_, map}
 use mathlib.Core.Logic.{_⊎_}

@@ -2,7 +2,7 @@
 -- statements.
 pub mod Rounds
 pub mod Dispatch
--- Demand 3 about the code.
+-- Serializability of the code (demand 3).
 pub mod SerializabilityOfCode
 -- What follows from them.
 pub mod Corollaries

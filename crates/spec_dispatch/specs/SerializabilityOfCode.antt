@@ -1,5 +1,5 @@
--- Demand 3 about the code: a program makes calls, and runs the dispatcher between them. Each keeps its
--- promise on what the one before left, and no more is known of it.
+-- Serializability of the code (demand 3): a program makes calls, and runs the dispatcher between them. Each
+-- keeps its promise on what the one before left, and no more is known of it.
 use mathlib.Core.Bool.{cond}
 use mathlib.Core.List.{List, [], _∷_, _++_}
 use mathlib.Core.Path.{_≡_}
@@ -19,7 +19,7 @@ use Rattle.spec.specs.SerializabilityOfStore.{theStore}
 use Rattle.spec_dispatch.specs.Rounds.{Scripts}
 use Rattle.spec_dispatch.specs.Dispatch.{Dispatched, workOnStore, dispatch, plainDispatch}
 
--- A call as its caller sees it: the call, its outcome, and what it left: record and buffers, and the reader's
+-- A call as its caller sees it: the call, its outcome, and what it left: state and buffers, and the reader's
 -- buffer. It keeps its promise on m.
 pub record CallMade : Type 0 where
   pub made : Call
@@ -68,8 +68,9 @@ pub data Linked (m₀ : Machine) : List Call → Machine → Type 0 where
   ran : (cs : List Call) (m : Machine) (y : DispatchMade) → Linked m₀ cs m → DispatchKept m y
       → Linked m₀ (cs ++ dispatchCalls y m) (y .gave .after)
 
--- What holds of the rules holds of the record and buffers that the caller is left with. The next call, and
--- the next dispatcher, gives what the plain machine gives; as every beginning of a program is one, so do all.
+-- What holds of the rules holds of the state and buffers that the caller is left with. The next call, and
+-- the next dispatcher, gives what the reference model gives; as every beginning of a program is one, so do
+-- all.
 pub record CodeHolds (m₀ : Machine) (p₀ : Plain) (cs : List Call) (m : Machine) : Type 0 where
   pub holds : Holds theStore m₀ p₀ cs m (plainAfter cs p₀)
   pub reply : (x : CallMade) → CallKept m x → madeReply x ≡ plainCall (x .made) (plainAfter cs p₀) .reply

@@ -260,7 +260,7 @@ pub fn window_at(state: &State, f: usize) -> Window
     Window { start, end }
 }
 
-// Whether the last grant can be taken back.
+// Whether the last grant can be undone.
 pub fn can_undo(state: &State) -> bool
     ensures { λ r. ⌜ r ≡ storeOf (now (state .entry)) .undo .valid ⌝ }
 {

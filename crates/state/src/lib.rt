@@ -1,4 +1,4 @@
-// The store record: what a caller keeps between calls, beside the four lent buffers. It is one lent array of
+// The state: what a caller keeps between calls, beside the four lent buffers. It is one lent array of
 // numbers: `layout` reads and writes what they mean, in the forms below, `journal` the write records among
 // them, and `readers` tests it.
 pub mod journal;
@@ -34,7 +34,7 @@ pub struct Transaction {
     pub descriptors: [Descriptor; DESCRIPTORS],
 }
 
-// What the record holds of the last grant, beside its write records: whether it can be taken back, how many
+// What the state holds of the last grant, beside its write records: whether it can be undone, how many
 // records and bytes it had, and the committed offsets and lengths that it found. Only specs/ speaks of it, as
 // of the store below.
 pub struct Undo {
@@ -44,7 +44,7 @@ pub struct Undo {
     pub lengths: [u16; FILES],
 }
 
-// What the record means, beside its journal: the file number and the committed offset of each descriptor, the
+// What the state means, beside its journal: the file number and the committed offset of each descriptor, the
 // committed length and the window of each file, what is held of the last grant, and the transactions. Only
 // specs/ speaks of it; no code makes one.
 pub struct StoreMeaning {

@@ -45,7 +45,7 @@ use Rattle.spec.proofs.Theorems.Recovery.{reached-sound, runs-closed}
 pub at-rest-sound : (m : Machine) → AtRest m → Sound m
 at-rest-sound m r = reached-sound m (r .reached)
 
--- Two sound stores that stand for the same store without buffers answer alike.
+-- Two sound stores that stand for the same abstract store answer alike.
 pub alike : (m n : Machine) → Sound m → Sound n → view m ≡ view n → (cs : List Call) → Alike cs m n
 unfolding view
 alike m n s t e cs =
@@ -164,7 +164,7 @@ earlier-of m = pick (m .store .undo .valid)
     pick true = ap (λ (v : Values). found (record { value = v; setter = λ i. 0 }) 0) (back-values m)
     pick false = refl
 
--- Demand 3 from a sound store with nothing open.
+-- Serializability from a sound store with nothing open.
 module _ (m : Machine) (sound : Sound m) (closed : (t : ℕ) → t ≤ 7 → transaction (m .store) t .begun ≡ false) where
   pub resting-start :
       view m ≡ startAbstract (fileOf (m .store)) (values (m .store) (m .files)) (windowAt (m .store)) (backOf (earlierIn m))
@@ -199,7 +199,7 @@ pub record Idle (m : Machine) : Type 0 where
   pub sound : Sound m
   pub closed : (t : ℕ) → t ≤ 7 → transaction (m .store) t .begun ≡ false
 
--- Two such stores with the same committed state stand for the same store without buffers.
+-- Two such stores with the same committed state stand for the same abstract store.
 pub idle-alike : (m n : Machine) → Idle m → Idle n → n .store .filenumbers ≡ m .store .filenumbers → NothingLost m n
     → (cs : List Call) → Alike cs m n
 unfolding fileOf
@@ -289,7 +289,7 @@ module _ (m : Machine) (s : Sound m) (logs : List ℕ) (size : length logs ≡ 3
       each (offset d) = unfold values in refl
       each (fileLength f) = unfold values in refl
 
-  -- It stands for the same store without buffers as a store that has gone down.
+  -- It stands for the same abstract store as a store that has gone down.
   pub young-view : view (rejuvenated m logs)
       ≡ startAbstract (fileOf (m .store)) (values (m .store) (m .files)) (windowAt (m .store)) (backIn m)
   young-view = resting-view (rejuvenated m logs) young-closed ∙ sym same-start
@@ -310,7 +310,7 @@ ageless m rest logs size =
     idle-alike m (rejuvenated m logs) (at-rest-idle m rest)
     (record { sound = young-sound m s logs size; closed = young-closed m s logs size }) refl (young-preserved m s logs size)
 
--- With nothing open nobody looks at logs, marks and what is left of ended transactions.
+-- With nothing open no call reads logs, marks and what is left of ended transactions.
 pub reloads : Reloads
 reloads m rest logs marks size wide cs =
     let s = at-rest-sound m rest in

@@ -3,9 +3,8 @@
 
 use std::os::raw::{c_char, c_int, c_void};
 
-/// A luzhanem_store that only C looks into: 107,048 bytes at an even address.
-#[repr(C)]
-pub struct Block(pub [u16; 53524]);
+/// A luzhanem_store that only C looks into: as many bytes as luzhanem_size answers, at an even address.
+pub enum Block {}
 
 #[repr(C)]
 pub struct Lock {

@@ -67,7 +67,7 @@ pub struct Channel {
 /// whatever Rust allows, even put another in its place.
 struct Stores {
     store: Mutex<Store>,
-    mirror: UnsafeCell<Box<ffi::Block>>,
+    mirror: UnsafeCell<Box<[u16]>>,
 }
 
 /// A channel that is ours, and its store.
@@ -89,20 +89,20 @@ impl Durable {
         let mut mirror = new_block();
         let mut image = store.save()?;
         // SAFETY: block and image are whole.
-        answered(unsafe { ffi::luzhanem_load(&mut *mirror, image.as_ptr()) })?;
+        answered(unsafe { ffi::luzhanem_load(mirror.as_mut_ptr().cast(), image.as_ptr()) })?;
         let stores = Box::new(Stores { store: Mutex::new(store), mirror: UnsafeCell::new(mirror) });
         let context: *const Stores = &*stores;
         let lock = ffi::Lock { take, give, context: context.cast_mut().cast() };
         let mut handle = std::ptr::null_mut();
         // SAFETY: the texts end in a 0; store and context are on the heap and outlive the handle; the lock is copied.
         answered(unsafe {
-            let mirror: *mut ffi::Block = &mut **stores.mirror.get();
+            let mirror: *mut ffi::Block = (*stores.mirror.get()).as_mut_ptr().cast();
             ffi::luzhanem_durable_open(&mut handle, url.as_ptr(), channel.as_ptr(), how.flags(), mirror, &lock)
         })?;
         let handle = NonNull::new(handle).expect("an answer of 0 comes with a handle");
         let durable = Durable { handle, stores };
         // SAFETY: block and image are whole; no save is under way.
-        answered(unsafe { ffi::luzhanem_save(&**durable.stores.mirror.get(), image.as_mut_ptr()) })?;
+        answered(unsafe { ffi::luzhanem_save((*durable.stores.mirror.get()).as_ptr().cast(), image.as_mut_ptr()) })?;
         *durable.store() = Store::load(&image)?;
         Ok(durable)
     }
@@ -131,8 +131,13 @@ impl Durable {
         let (mut block, mut image, mut generation) = (new_block(), vec![0u8; IMAGE_BYTES], 0);
         // SAFETY: the texts end in a 0; block and image are whole.
         unsafe {
-            answered(ffi::luzhanem_durable_load(url.as_ptr(), channel.as_ptr(), &mut *block, &mut generation))?;
-            answered(ffi::luzhanem_save(&*block, image.as_mut_ptr()))?;
+            answered(ffi::luzhanem_durable_load(
+                url.as_ptr(),
+                channel.as_ptr(),
+                block.as_mut_ptr().cast(),
+                &mut generation,
+            ))?;
+            answered(ffi::luzhanem_save(block.as_ptr().cast(), image.as_mut_ptr()))?;
         }
         Ok((Store::load(&image)?, generation))
     }
@@ -178,10 +183,10 @@ fn text(text: &str) -> Result<CString, Error> {
 }
 
 /// Zeros are a store.
-fn new_block() -> Box<ffi::Block> {
+fn new_block() -> Box<[u16]> {
     // SAFETY: the function takes nothing.
-    assert_eq!(unsafe { ffi::luzhanem_size() }, std::mem::size_of::<ffi::Block>(), "libluzhanem is of another version");
-    Box::new(ffi::Block([0; 53524]))
+    let bytes = unsafe { ffi::luzhanem_size() };
+    vec![0; bytes / 2].into_boxed_slice()
 }
 
 /// Brings what is committed to the mirror. The host's store is locked for its image alone.
@@ -190,10 +195,14 @@ fn new_block() -> Box<ffi::Block> {
 unsafe extern "C" fn take(context: *mut c_void) {
     let stores = &*context.cast_const().cast::<Stores>();
     let image = stores.store.lock().unwrap_or_else(PoisonError::into_inner).save();
-    let mirror = &mut **stores.mirror.get();
+    let mirror: &mut [u16] = &mut **stores.mirror.get();
     match image {
-        Ok(image) => assert_eq!(ffi::luzhanem_load(mirror, image.as_ptr()), 0, "an image that was just saved"),
-        Err(_) => mirror.0.fill(u16::MAX), // out of every range: the save answers RECORD_RANGE
+        Ok(image) => assert_eq!(
+            ffi::luzhanem_load(mirror.as_mut_ptr().cast(), image.as_ptr()),
+            0,
+            "an image that was just saved"
+        ),
+        Err(_) => mirror.fill(u16::MAX), // out of every range: the save answers RECORD_RANGE
     }
 }
 

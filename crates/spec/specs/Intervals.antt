@@ -1,4 +1,4 @@
--- Stretches of places, and lists of them: what the list of F-1 is held to.
+-- Intervals of places, and lists of them: what holds of the list of F-1.
 use mathlib.Core.Bool.{Bool, false, _&&_, _||_}
 use mathlib.Core.List.{List, [], _∷_}
 use lib.Dec.{leb, ltb}

@@ -176,9 +176,9 @@ module _ (p : Plain) (s : Serial) where
   turned-return nothing q e = preserved _ _ _
   turned-return (found c n) q e = undone c n _ q e
 
-  turned-back : Taken p s (plainUndo p)
+  turned-undo : Taken p s (plainUndo p)
   unfolding plainUndo
-  turned-back = chosen (noneRunning p) refl
+  turned-undo = chosen (noneRunning p) refl
     where
       chosen : (b : Bool) → noneRunning p ≡ b
           → Taken p s
@@ -200,7 +200,7 @@ module _ (p : Plain) (s : Serial) where
   turned (places t f out) = turned-numbered (λ τ. Turned p s τ s) t out (plainPlaces f out) (turned-places f out (p .slots t))
       (preserved _ _ _)
   turned (setWindow f start end) = turned-window f start end
-  turned undoCommit = turned-back
+  turned undoCommit = turned-undo
   turned (bestOrder ts minute budget) = unfold plainBestOrder in preserved _ _ _
 
 -- No call changes a descriptor's file.

@@ -2,9 +2,9 @@
 use mathlib.Core.Option as Option
 use Rattle.buffers.specs.Bits as Bits
 use Rattle.buffers.specs.Marks as Marks
-use Rattle.windows.specs.Windows as Hours
-use Rattle.admission.specs.FirstRefusal as Below
-use Rattle.admission.specs.Admission as Ranges
+use Rattle.windows.specs.Windows as FileWindows
+use Rattle.admission.specs.FirstRefusal as FirstRefusal
+use Rattle.admission.specs.Admission as Admission
 use Rattle.spec.specs.Items as Items
 use Rattle.standings.specs.Table as Table
 use Rattle.spec.specs.Transactions as Transactions
@@ -28,15 +28,17 @@ use Rattle.spec.specs.Grants as Grants
 use Rattle.spec.specs.Setup as Setup
 
 unfoldable pub opened : Type 0
-unfolding Below.below Below.sum Ranges.lengthsBefore Bits.bit Bits.bitsOf Bits.countOf Marks.contains Items.same Items.andThen
-    Items.result Items.asked Table.afterSeek Table.afterWrite Table.afterRead Table.settled Table.writePlace Table.finalOffset
+unfolding FirstRefusal.below FirstRefusal.sum Admission.lengthsBefore Bits.bit Bits.bitsOf Bits.countOf Marks.contains
+    Items.same Items.andThen Items.result Items.asked Table.afterSeek Table.afterWrite Table.afterRead Table.settled
+    Table.writePlace Table.finalOffset
     Transactions.empty Transactions.put Transactions.placedAt Transactions.placeWrite Transactions.settle Transactions.those
     Transactions.settling Reading.liesOver Reading.byteAt Reading.supplies Reading.orElse Reading.latest Reading.bring
     Reading.fetch
     Reading.writeEnd Reading.placedEnd Reading.farthest Reading.ownEnd Reading.lengthFor Reading.lengthSighted Reading.gather
     Messages.bufferOf Steps.check Steps.orGivenBack Steps.total Steps.written Steps.seekStep Steps.writeStep Steps.pointerStep
     Steps.settledByRead Steps.readSettled Steps.readStep Steps.step Steps.descriptorOfOp Steps.isReadCall Steps.refusesStale
-    Steps.refusedStale Below.unless Ranges.windowRefusal Hours.minuteIn Hours.isOpenAt Hours.isClosedAt Windows.isForClosed
+    Steps.refusedStale FirstRefusal.unless Admission.windowRefusal FileWindows.minuteIn FileWindows.isOpenAt
+    FileWindows.isClosedAt Windows.isForClosed
     Windows.forClosed Places.someWrite Places.coversPlace Places.covered Places.noPlace Places.unplacedOn
     Places.unplaced Places.withPlace Places.intervalsFrom Places.intervalsOf Places.sixteen Places.encoded
     Places.placesRefusal Places.placesReply Places.placesOf Commits.landsAt Commits.bytesFrom Commits.byteSettings

@@ -1,4 +1,4 @@
--- `parts::number_at` meets its contract.
+-- `parts::image_number_at` meets its contract.
 use mathlib.Core.Path.{_≡_, refl, sym, ap, _∙_}
 use native.Mathlib.Omega.{arith}
 use borrow.Author.Tests.{lt-ltb, le-ltb}

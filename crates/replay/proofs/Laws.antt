@@ -15,7 +15,7 @@ use Rattle.text_lines.proofs.Passing.{end-of}
 use Rattle.text_replay.specs.Bounds.{AnswerIn}
 use Rattle.text_replay.specs.Turns.{replayStateIn}
 use Rattle.text_replay.specs.declared.answering.ReplayProgress.{ReplayProgress}
-use Rattle.text_replay_pieces.specs.Bounds.{Resting}
+use Rattle.text_replay_pieces.specs.Bounds.{PiecesResting}
 use Rattle.replay.specs.Bounds.{Flushed}
 use Rattle.replay.specs.WholeRun.{RunEnds}
 
@@ -45,7 +45,7 @@ pub answered-flushed : (ls : List (List ℕ)) (k : ReplayState) (q p : ReplayPro
     → Answered replaying ls k [] (replayStateIn q m out) text → Answered replaying ls k [] (replayStateIn p m out) text
 answered-flushed ls k q p m out text f a = record { says = a .says; keeps = kept-flushed q p m out f ∙ a .keeps }
 
-pub rests : (q p : ReplayProgress) → Flushed q p → q .held ≤ 8238 → AnswerIn q → Resting p
+pub rests : (q p : ReplayProgress) → Flushed q p → q .held ≤ 8238 → AnswerIn q → PiecesResting p
 rests q p f h a =
     record {
       held = omega (arith, f .held, h);

@@ -32,7 +32,7 @@ ghost use Rattle.text_lines.specs.WholeRun.{LinesLead};
 ghost use Rattle.text_replay.specs.Bounds.{Rooms};
 ghost use Rattle.text_replay.specs.Turns.{replayStateIn};
 ghost use Rattle.spec.specs.Promises.{handed, handedBack, machineOf};
-ghost use Rattle.text_replay_pieces.specs.Bounds.{Resting};
+ghost use Rattle.text_replay_pieces.specs.Bounds.{PiecesResting};
 ghost use Rattle.replay.specs.Bounds.{Flushed};
 ghost use Rattle.replay.specs.WholeRun.{ReachedFrom, RunEnds};
 
@@ -48,7 +48,7 @@ fn flush(mut p: ReplayProgress, out: &[u8]) -> ReplayProgress
     p.waiting = 0;
     if done < n {
         p.goes = false;
-        stdio::say_unwritten(p.written);
+        stdio::say_log_unwritten(p.written);
     }
     p
 }
@@ -67,8 +67,8 @@ fn take_piece(
     piece: &[u8],
     out: &mut [u8],
 ) -> ReplayProgress
-    requires { ⌜ Resting p × ((length (now line) ≡ 8238) × Rooms (now bytes) (now reader) (now out)) ⌝ }
-    ensures { λ r. ⌜ Resting r × (r .goes ≡ true
+    requires { ⌜ PiecesResting p × ((length (now line) ≡ 8238) × Rooms (now bytes) (now reader) (now out)) ⌝ }
+    ensures { λ r. ⌜ PiecesResting r × (r .goes ≡ true
         → atEnd replaying (within (replayStateIn p (handed state files logs marks undo) (now (out .entry)))
         (take (p .held) (now (line .entry))) (now (piece .entry)))
         ≡ within (replayStateIn r (handedBack state files logs marks undo) (now (out .exit)))
@@ -112,11 +112,11 @@ fn turn(
     input: &mut [u8],
     out: &mut [u8],
 ) -> ReplayProgress
-    requires { ⌜ Resting p × ((length (now line) ≡ 8238) × (Rooms (now bytes) (now reader) (now out)
+    requires { ⌜ PiecesResting p × ((length (now line) ≡ 8238) × (Rooms (now bytes) (now reader) (now out)
         × ReachedFrom (within (replayStateIn p (machineOf (now state) (now files) (now logs) (now marks)
         (now undo)) (now out))
         (take (p .held) (now line)) []))) ⌝ }
-    ensures { λ r. ⌜ Resting r × (r .goes ≡ true → (n : ℕ)
+    ensures { λ r. ⌜ PiecesResting r × (r .goes ≡ true → (n : ℕ)
         × (atEnd replaying (within (replayStateIn p (handed state files logs marks undo) (now (out .entry)))
         (take (p .held) (now (line .entry))) (take n (now (input .exit))))
         ≡ within (replayStateIn r (handedBack state files logs marks undo) (now (out .exit)))
@@ -157,7 +157,7 @@ fn turn(
         return p;
     }
     p.goes = false;
-    stdio::say_unread(p.written);
+    stdio::say_log_unread(p.written);
     p
 }
 
@@ -181,7 +181,7 @@ fn tell(p: ReplayProgress) {
         stdio::say_malformed(p.malformed, p.malformed_at);
     }
     if p.returned {
-        stdio::say_returned();
+        stdio::say_log_returned();
     }
     if 0 < p.differing {
         stdio::say_differing(p.differing, p.differing_at);
@@ -278,7 +278,7 @@ fn prepare(
 // Replays the log, and with more than one argument only says how it is used.
 fn main() {
     if 2 < os::arg_count() {
-        stdio::say_use();
+        stdio::say_replay_use();
         return;
     }
     let mut state = [0u16; STATE_LEN];

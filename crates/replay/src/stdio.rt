@@ -4,12 +4,12 @@ use text_stdio::say_failed;
 use text_stdio::say_number;
 
 // Reports that a read failed after so many lines.
-pub fn say_unread(lines: u64) {
+pub fn say_log_unread(lines: u64) {
     say_failed(b"replay: cannot read after ", lines);
 }
 
 // Reports that a write failed after so many lines.
-pub fn say_unwritten(lines: u64) {
+pub fn say_log_unwritten(lines: u64) {
     say_failed(b"replay: cannot write after ", lines);
 }
 
@@ -38,7 +38,7 @@ pub fn say_differing(count: u64, first: u64) {
 }
 
 // Reports that lines of another form ended in byte 13.
-pub fn say_returned() {
+pub fn say_log_returned() {
     say(b"replay: lines of another form (17) end in byte 13: a line ends in byte 10 alone\n");
 }
 
@@ -51,7 +51,7 @@ pub fn say_no_block(path: &[u8]) {
 }
 
 // Reports how the program is used.
-pub fn say_use() {
+pub fn say_replay_use() {
     say(b"replay [BLOCK] <log >answers\n");
     say(b"It performs the calls of a log, a line each, on a fresh store or on a saved block, and");
     say(b" prints a line for each.\n");

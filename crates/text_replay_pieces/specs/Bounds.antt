@@ -11,7 +11,7 @@ pub record ProgressIn (p : ReplayProgress) (size : ℕ) : Type 0 where
   pub inside : p .at ≤ size
   pub answer : AnswerIn p
 
-pub record Resting (p : ReplayProgress) : Type 0 where
+pub record PiecesResting (p : ReplayProgress) : Type 0 where
   pub held : p .held ≤ 8238
   pub waiting : p .waiting ≡ 0
   pub answer : AnswerIn p

@@ -15,7 +15,7 @@ ghost use Rattle.text_lines.specs.Programs.{Answered, Passes, within};
 ghost use Rattle.text_replay.specs.Bounds.{LineTaken, Rooms};
 ghost use Rattle.text_replay.specs.Turns.{replayStateIn};
 ghost use Rattle.spec.specs.Promises.{handed, handedBack};
-ghost use Rattle.text_replay_pieces.specs.Bounds.{ProgressIn, Onward, Resting};
+ghost use Rattle.text_replay_pieces.specs.Bounds.{ProgressIn, Onward, PiecesResting};
 
 // When more output waits than this it is written, so that the longest answer still fits in after what waits.
 const MOST: usize = 40000;
@@ -81,7 +81,7 @@ pub fn replay_piece(
     piece: &[u8],
     out: &mut [u8],
 ) -> ReplayProgress
-    requires { ⌜ Resting p × ((p .at < length (now piece)) × ((length (now line) ≡ 8238)
+    requires { ⌜ PiecesResting p × ((p .at < length (now piece)) × ((length (now line) ≡ 8238)
         × Rooms (now bytes) (now reader) (now out))) ⌝ }
     ensures { λ r. ⌜ Passes replaying
         (within (replayStateIn p (handed state files logs marks undo) (now (out .entry)))
@@ -126,7 +126,7 @@ pub fn last_line(
     reader: &mut [u8],
     out: &mut [u8],
 ) -> ReplayProgress
-    requires { ⌜ Resting p × ((length (now line) ≡ 8238) × Rooms (now bytes) (now reader) (now out)) ⌝ }
+    requires { ⌜ PiecesResting p × ((length (now line) ≡ 8238) × Rooms (now bytes) (now reader) (now out)) ⌝ }
     ensures { λ r. ⌜ Answered replaying (lastLine (take (p .held) (now (line .entry))))
         (replayStateIn p (handed state files logs marks undo) (now (out .entry)))
         []

@@ -15,7 +15,7 @@ use Rattle.text_lines.specs.WholeRun.{PiecesReach, LinesLead}
 use Rattle.text_lines.proofs.WholeRun.{reached-first, reached-more, goes-on}
 use Rattle.text_replay.specs.Bounds.{Rooms}
 use Rattle.text_replay.specs.Turns.{replayStateIn}
-use Rattle.text_replay_pieces.specs.Bounds.{Resting}
+use Rattle.text_replay_pieces.specs.Bounds.{PiecesResting}
 use Rattle.replay.proofs.WholeRun.{ran-to-end}
 use Rattle.replay.proofs.run.Statement.{statement}
 use Rattle.replay.proofs.run.Tie as tie
@@ -23,7 +23,7 @@ use Rattle.replay.proofs.run.Tie as tie
 abbrev Inv-loop : tie.InvT-loop
 Inv-loop state₀ files₀ logs₀ marks₀ undo₀ line₀ bytes₀ reader₀ input₀ out₀ p₀ turns₀ state files logs marks undo line bytes reader
     input out p turns =
-    Resting p × (length line ≡ 8238) × Rooms bytes reader out × (length input ≡ length input₀)
+    PiecesResting p × (length line ≡ 8238) × Rooms bytes reader out × (length input ≡ length input₀)
     × (0 < turns
     → PiecesReach replaying (keptFirst (machineOf state₀ files₀ logs₀ marks₀ undo₀))
     (within (replayStateIn p (machineOf state files logs marks undo) out) (take (p .held) line) []))

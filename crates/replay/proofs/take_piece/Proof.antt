@@ -11,14 +11,14 @@ use Rattle.text_lines.specs.Programs.{atEnd, within}
 use Rattle.text_lines.proofs.Passing.{off, end-same, end-of}
 use Rattle.text_replay.specs.Bounds.{Rooms}
 use Rattle.text_replay.specs.Turns.{replayStateIn}
-use Rattle.text_replay_pieces.specs.Bounds.{Resting}
+use Rattle.text_replay_pieces.specs.Bounds.{PiecesResting}
 use Rattle.replay.proofs.Laws.{kept-flushed, rests}
 use Rattle.replay.proofs.take_piece.Statement.{statement}
 use Rattle.replay.proofs.take_piece.Tie as tie
 
 abbrev Inv-loop : tie.InvT-loop
 Inv-loop p₀ state₀ files₀ logs₀ marks₀ undo₀ line₀ bytes₀ reader₀ piece out₀ p state files logs marks undo line bytes reader out =
-    Resting p × (p .at ≤ length piece) × (length line ≡ 8238) × Rooms bytes reader out
+    PiecesResting p × (p .at ≤ length piece) × (length line ≡ 8238) × Rooms bytes reader out
     × (atEnd replaying (within (replayStateIn p₀ (machineOf state₀ files₀ logs₀ marks₀ undo₀) out₀) (take (p₀ .held) line₀) piece)
     ≡ atEnd replaying (within (replayStateIn p (machineOf state files logs marks undo) out) (take (p .held) line)
     (drop (p .at) piece)))

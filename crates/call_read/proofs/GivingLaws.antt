@@ -15,7 +15,7 @@ use Rattle.state.specs.declared.Transaction.{Transaction}
 use Rattle.state.specs.declared.StoreMeaning.{StoreMeaning}
 use Rattle.state.specs.StoreMeaning.{transaction, standingAt, withDescriptors, withLengthmarks, withTransaction}
 use Rattle.state.specs.Layout.{transactionOf, storeOf, journalOf, stateLength}
-use Rattle.state.specs.Updates.{fits, withDescriptorAt, withLengthmarksAt}
+use Rattle.state.specs.Updates.{standingFits, withDescriptorAt, withLengthmarksAt}
 use Rattle.state.proofs.LayoutLaws.{transaction-of, length-with-descriptor, store-with-descriptor, journal-with-descriptor}
 use Rattle.state.proofs.LayoutLaws.{store-with-lengthmarks, journal-with-lengthmarks}
 use Rattle.spec.proofs.Refinement.StandingRanges.{read-in}
@@ -28,7 +28,7 @@ use Rattle.call_read.specs.ReadCall.{placesFrom, Movable, MovedOn, Serve
 
 -- The standing that is put has room in the record.
 pub read-fits : {state : List ℕ} {t d : ℕ} {z : Standing} {e : Extent} → Movable state t d z e
-    → (y : Standing) → y ≡ afterRead (e .length) z → fits y
+    → (y : Standing) → y ≡ afterRead (e .length) z → standingFits y
 read-fits {z = z} {e = e} p y goes = standing-fits y (rw goes (read-in (e .length) z (omega (arith, p .places)) (p .standing)))
 
 module _ (state : List ℕ) (t d n : ℕ) (z : Standing) (e : Extent) (p : Movable state t d z e)

@@ -9,7 +9,7 @@ use native.Mathlib.Omega.{arith}
 use Prim.Native.Nat.{ℕ, _≤_, _<_}
 use Rattle.state.specs.StoreMeaning.{transaction, standingAt, withDescriptors, withTransaction}
 use Rattle.state.specs.Layout.{transactionOf, storeOf, journalOf, stateLength}
-use Rattle.state.specs.Updates.{fits, withDescriptorAt}
+use Rattle.state.specs.Updates.{standingFits, withDescriptorAt}
 use Rattle.state.proofs.LayoutLaws.{length-journal, transaction-of, store-with-descriptor, journal-with-descriptor}
 use Rattle.state.specs.Outcomes.{doneAnswer, said}
 use Rattle.state.specs.declared.outcomes.Outcome.the-variants.{Done}
@@ -81,7 +81,7 @@ module _ (t d v : ℕ) (state files logs marks undo : List ℕ) (long : length s
 
   -- By check 2 and the test of v, the standing that is put has room in the record.
   pub seek-fits : LetThrough handedOver t → transaction (storeOf state) t .begun ≡ true
-      → (z y : Standing) → z ≡ standingAt (transactionOf state t) d → y ≡ afterSeek v z → fits y
+      → (z y : Standing) → z ≡ standingAt (transactionOf state t) d → y ≡ afterSeek v z → standingFits y
   seek-fits through begun z y is-z is-y =
       let own = ap (λ (u : Transaction). standingAt u d) (sym (transaction-of state t (through .small))) in
       standing-fits y

@@ -22,7 +22,7 @@ use Rattle.state.specs.declared.journal.WriteRecord.{WriteRecord}
 use Rattle.state.specs.StoreMeaning.{transaction, standingAt, withUsed, withDescriptors, withTransaction}
 use Rattle.state.specs.Journal.{withRecordAt}
 use Rattle.state.specs.Layout.{transactionOf, storeOf, journalOf, stateLength}
-use Rattle.state.specs.Updates.{fits, withDescriptorAt, withUsedAt}
+use Rattle.state.specs.Updates.{standingFits, withDescriptorAt, withUsedAt}
 use Rattle.state.specs.Outcomes.{doneAnswer, said, number}
 use Rattle.state.proofs.JournalLaws.{length-with-at}
 use Rattle.state.proofs.LayoutLaws.{length-journal, transaction-of, store-with-record, journal-with-record, store-with-used}
@@ -87,7 +87,7 @@ place-within (Known o) e = leb-true o 4096 e
 
 -- The standing that is put has room in the record.
 pub write-fits : (n : ℕ) (z y : Standing) → standingIn z ≡ true → placeNumber (writePlace z) + n ≤ 4096 → y ≡ afterWrite n z
-    → fits y
+    → standingFits y
 write-fits n z y e h is-y = standing-fits y (rw is-y (write-in n z h e))
 
 -- The two counters, from each of them.

@@ -16,7 +16,7 @@ use Rattle.state.specs.declared.Transaction.{Transaction}
 use Rattle.state.specs.declared.StoreMeaning.{StoreMeaning}
 use Rattle.state.specs.StoreMeaning.{transaction, standingAt, noDescriptor, noTransaction, withDescriptors, withTransaction}
 use Rattle.state.specs.Layout.{descriptorOf, transactionOf, storeOf, journalOf}
-use Rattle.state.specs.Updates.{fits, withChosenAt}
+use Rattle.state.specs.Updates.{standingFits, withChosenAt}
 use Rattle.state.proofs.LayoutLaws.{transaction-of, descriptor-of, length-with-chosen, store-with-chosen, journal-with-chosen}
 use Rattle.admission.specs.Admission.{standingIn}
 use Rattle.admission.proofs.Laws.{below-at}
@@ -93,7 +93,7 @@ module _ (chosen : List Bool) (t : ℕ) (before : List ℕ) (ready : Placeable b
           ∙ getD-tabulate (settledDescriptor chosen offsets x) 16 e noDescriptor h
 
       -- What is put has room in the record: settled, by its test against 4,096; left, by check 2.
-      pub settled-fits : (e : ℕ) → e < 16 → fits (then e .standing)
+      pub settled-fits : (e : ℕ) → e < 16 → standingFits (then e .standing)
       unfolding settledDescriptor allWithin settlesWithin
       settled-fits e h =
           standing-fits (then e .standing)

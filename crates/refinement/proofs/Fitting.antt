@@ -6,11 +6,11 @@ use lib.Dec.{leb}
 use native.Mathlib.Omega.{arith}
 use Rattle.standings.specs.declared.Standing.{Standing}
 use Rattle.standings.specs.Table.{advance, offsetOf}
-use Rattle.state.specs.Updates.{fits}
+use Rattle.state.specs.Updates.{standingFits}
 use Rattle.admission.specs.Admission.{standingIn}
 use Rattle.admission.proofs.Laws.{and-left, and-right, standing-numbers}
 
-pub standing-fits : (z : Standing) → standingIn z ≡ true → fits z
+pub standing-fits : (z : Standing) → standingIn z ≡ true → standingFits z
 standing-fits z e =
     let both = sym (standing-numbers z) ∙ e in
     let a = leb-true (advance z) 4096 (and-left (leb (advance z) 4096) (leb (offsetOf z) 4096) both) in

@@ -32,8 +32,8 @@ secondNumber (Moved a o) = a + 2
 secondNumber (Known o) = 1
 
 -- Both are numbers of 16 bits. Whatever passes refusal 2 is far below.
-abbrev pub fits : Standing → Type 0
-fits z = (offsetOf z ≤ 65534) × (advance z ≤ 65533)
+abbrev pub standingFits : Standing → Type 0
+standingFits z = (offsetOf z ≤ 65534) × (advance z ≤ 65533)
 
 abbrev pub flagNumber : Bool → ℕ
 flagNumber true = 1

@@ -38,7 +38,7 @@ ghost use lib.ListN.{length, getD, replicate};
 ghost use Rattle.limits.specs.Limits.{fileCount, descriptorCount, transactionCount};
 ghost use Rattle.state.specs.StoreMeaning.{standingAt, noDescriptor, windowAt};
 ghost use Rattle.state.specs.Layout.{standingOf};
-ghost use Rattle.state.specs.Updates.{firstNumber, secondNumber, flagNumber, fits};
+ghost use Rattle.state.specs.Updates.{firstNumber, secondNumber, flagNumber, standingFits};
 ghost use Rattle.state.specs.Layout.{descriptorOf, transactionOf, storeOf};
 ghost use Rattle.state.specs.Updates.{withDescriptorAt, withChosenAt, withUsedAt, resetAt};
 ghost use Rattle.state.specs.Updates.{withStaleAt, withLengthmarksAt};
@@ -103,7 +103,7 @@ fn standing_of(a: u16, b: u16) -> Standing
 }
 
 fn first_of(standing: Standing) -> u16
-    requires { ⌜ fits standing ⌝ }
+    requires { ⌜ standingFits standing ⌝ }
     ensures { λ r. ⌜ r ≡ firstNumber standing ⌝ }
 {
     match standing {
@@ -116,7 +116,7 @@ fn first_of(standing: Standing) -> u16
 }
 
 fn second_of(standing: Standing) -> u16
-    requires { ⌜ fits standing ⌝ }
+    requires { ⌜ standingFits standing ⌝ }
     ensures { λ r. ⌜ r ≡ secondNumber standing ⌝ }
 {
     match standing {
@@ -296,7 +296,7 @@ pub fn found_length_at(state: &State, f: usize) -> u16
 
 // Puts q in the place of descriptor d of transaction t.
 pub fn put_descriptor(state: &mut State, t: usize, d: usize, q: Descriptor)
-    requires { ⌜ (t < transactionCount) × (d < descriptorCount) × fits (q .standing) ⌝ }
+    requires { ⌜ (t < transactionCount) × (d < descriptorCount) × standingFits (q .standing) ⌝ }
     ensures { λ _. ⌜ now (state .exit) ≡ withDescriptorAt (now (state .entry)) t d q ⌝ }
 {
     let standing = q.standing;
@@ -314,7 +314,7 @@ pub fn put_chosen(
     all: [Descriptor; DESCRIPTORS],
 )
     requires { ⌜ (t < transactionCount) × ((e : ℕ) → e < descriptorCount → getD chosen e false ≡ true
-        → fits (getD all e noDescriptor .standing)) ⌝ }
+        → standingFits (getD all e noDescriptor .standing)) ⌝ }
     ensures { λ _. ⌜ now (state .exit)
         ≡ withChosenAt (now (state .entry)) t (λ e. getD chosen e false) (λ e. getD all e noDescriptor)
         descriptorCount ⌝ }

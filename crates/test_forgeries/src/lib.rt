@@ -30,7 +30,7 @@ use state::layout::used_at;
 use state::layout::window_at;
 use test_calls::Damage;
 ghost use Prim.Native.Nat.{_<_};
-ghost use Rattle.state.specs.Updates.{fits};
+ghost use Rattle.state.specs.Updates.{standingFits};
 
 // A number above 4,096.
 fn above(excess: usize) -> u16 {
@@ -84,7 +84,7 @@ fn forge_window(state: &mut State, g: Damage)
 
 // Forgeries 3 to 7: a standing out of range, whose numbers have room in the record.
 fn standing(forgery: usize, excess: usize) -> Standing
-    ensures { λ r. ⌜ fits r ⌝ }
+    ensures { λ r. ⌜ standingFits r ⌝ }
 {
     let n = (4097 + excess % 61437) as u16;
     match forgery {
@@ -197,7 +197,7 @@ fn forge_record(state: &mut State, t: usize, what: usize, excess: usize)
 
 // The standing under which forgery 13 or 14 puts a record without a place.
 fn waiting(forgery: usize) -> Standing
-    ensures { λ r. ⌜ fits r ⌝ }
+    ensures { λ r. ⌜ standingFits r ⌝ }
 {
     if forgery == 13 {
         return Standing::Placed(0);

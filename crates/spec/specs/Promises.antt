@@ -20,8 +20,8 @@ pub record Meets (w : Turn) (o : Outcome) (m : Machine) (atReader : List ℕ) : 
   pub reader : atReader ≡ w .reply .buffer
 
 -- The machine that the state's numbers and the four buffers mean (state/specs/Layout.antt). Promises are
--- about it. Of the state after a call that is not refused they do not fix which of several codes stands for one
--- meaning: a flag whose number is not 1 is not set, and 0 and 1 is Known at 0, as 1 and 1 is.
+-- about it. Of the state after a call that is not refused they do not fix which of several codes stands for
+-- one meaning: a flag whose number is not 1 is not set, and 0 and 1 is Known at 0, as 1 and 1 is.
 abbrev pub machineOf : List ℕ → List ℕ → List ℕ → List ℕ → List ℕ → Machine
 machineOf state files logs marks undo = lent (storeOf state) (journalOf state) files logs marks undo
 

@@ -44,5 +44,5 @@ dispatch-edge-cases =
       past = refl;
       pastEmpty = refl;
       beyond = (refl, refl, refl);
-      takenBack = (refl, refl);
+      undoesLast = (refl, refl);
     }

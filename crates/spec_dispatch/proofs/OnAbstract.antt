@@ -373,7 +373,7 @@ module _ (s₀ : Abstract) (bytes : List ℕ) (minute : ℕ) (x : Scripts) (few 
         accepted = λ k i reader cs l m g e.
             ⊎-elim (λ f. absurd (f .0 e)) (λ f. (f .1, then-seat k _ cs _ (f .2), f .3 ∙ g .2))
             (served-call k (abstractAfter cs s₀) (small k l) _ (g .0) (g .1));
-        turnedDown = λ k i n o cs l g e.
+        refusedCall = λ k i n o cs l g e.
             ⊎-elim (λ f. (g .0, then-seat k _ cs _ (ap (λ (s : Abstract). s .seats k) (f .1) ∙ g .1), g .2))
             (λ f. absurd (omega (arith, e, f .0)))
             (served-call k (abstractAfter cs s₀) (small k l) o (g .0) (g .1));

@@ -440,7 +440,7 @@ module _ (p₀ : Plain) (bytes : List ℕ) (minute : ℕ) (x : Scripts) (few : x
                   (bare-line bytes reader (x .script k .call i)),
             ))
             (served-call k (plainAfter cs p₀) (small k l) _ (g .0) (g .1));
-        turnedDown = λ k i n o cs l g e.
+        refusedCall = λ k i n o cs l g e.
             ⊎-elim
             (λ f. (g .0, then-slot k _ cs _ (ap (λ (p : Plain). p .slots k) (f .1) ∙ g .1), g .2))
             (λ f. absurd (omega (arith, e, f .0)))

@@ -37,7 +37,7 @@ pub record Laws (replyTo : Call → List Call → Reply) (bytes : List ℕ) (min
       (k i : ℕ) (reader : List ℕ) (cs : List Call) → k < x .count → i < x .script k .count → given k i cs
       → refusalIn (replyTo (on k (opOf bytes reader (x .script k .call i))) cs .answer) ≡ 0
       → given k (suc i) (cs ++ (on k (opOf bytes reader (x .script k .call i)) ∷ []))
-  pub turnedDown :
+  pub refusedCall :
       (k i n : ℕ) (o : Op) (cs : List Call) → k < x .count → given k i cs → refusalIn (replyTo (on k o) cs .answer) ≡ suc n
       → given k i (cs ++ (on k o ∷ []))
   pub skipped : (k i : ℕ) (cs : List Call) → x .script k .count ≤ i → given k i cs → given k (suc i) cs
@@ -209,8 +209,8 @@ module _ (replyTo : Call → List Call → Reply) (bytes : List ℕ) (minute : �
         (given-quiet k asked (w .made) (calls-it _) (suc i) b j h p))
         (λ b j h p. given-quiet k (abort k) cs aborts-it i b j h (given-quiet k asked (w .made) (calls-it _) i b j h p))
         (subst (λ (z : End). Given (suc i) (goesOn z) k (cs ++ (abort k ∷ []))) (sym (put-same k (failed (suc n)) (w .ends)))
-        (L .aborted k i cs l (L .turnedDown k i n _ (w .made) l its-own f)))
-        (L .kept-aborted k i cs _ l (L .turnedDown k i n _ (w .made) l its-own f)
+        (L .aborted k i cs l (L .refusedCall k i n _ (w .made) l its-own f)))
+        (L .kept-aborted k i cs _ l (L .refusedCall k i n _ (w .made) l its-own f)
         (L .kept-failed k i n _ (w .made) (w .ends) l its-own f e (s .kept)))
 
   turn-step : (i k : ℕ) (w : Work) → k < x .count → Sides (Given (suc i)) (Given i) k w

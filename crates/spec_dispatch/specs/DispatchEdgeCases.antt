@@ -130,7 +130,7 @@ pub record DispatchEdgeCases : Type 0 where
       let r = plainDispatch bytes 0 x freshNumbered reader in
       (r .refusal ≡ 0) × (r .ends 0 ≡ passed) × (r .commits ≡ 1)
   -- F-13: the grant that is undone is its last one.
-  pub takenBack :
+  pub undoesLast :
       let p = plainDispatch bytes 0 (scriptList (appends 0 ∷ appends 1 ∷ [])) freshNumbered reader .after in
       (plainCall undoCommit p .reply ≡ says doneAnswer)
       × (beginning (plainCall undoCommit p .after .committed .value) 0 2 ≡ A ∷ 0 ∷ [])

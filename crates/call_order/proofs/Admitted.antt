@@ -1,36 +1,23 @@
 -- What the code reads off the state of a list is what the rules say of it; and what an admitted list tells.
-use mathlib.Core.Bool.{Bool, true, false, not, _&&_, _||_, true≢false}
-use mathlib.Core.List.{List, [], _∷_}
+use mathlib.Core.{Bool.{Bool, true, false, not, _&&_, _||_, true≢false}, List.{List, [], _∷_}}
 use mathlib.Core.Path.{_≡_, refl, sym, ap, ap₂, _∙_, subst}
 use borrow.Author.Tests.{leb-true}
-use lib.Dec.{leb}
-use lib.ListN.{length, getD}
+use lib.{Dec.leb, ListN.{length, getD}}
 use native.Mathlib.Omega.{arith}
 use Prim.Native.Nat.{ℕ, _+_, _≤_, _<_}
 use Rattle.limits.specs.Limits.{fileBytes, transactionCount, lastTransaction, mostOrders}
 use Rattle.windows.specs.Windows.{minuteIn}
-use Rattle.standings.specs.declared.Place.{Place}
-use Rattle.standings.specs.declared.Place.the-variants.{At, After}
-use Rattle.standings.specs.declared.Standing.{Standing}
-use Rattle.state.specs.declared.Transaction.{Transaction}
-use Rattle.state.specs.StoreMeaning.{transaction, standingAt}
-use Rattle.state.specs.Journal.{writeRecordAt}
-use Rattle.state.specs.Layout.{transactionOf, storeOf, journalOf}
-use Rattle.state.proofs.LayoutLaws.{transaction-of}
-use Rattle.admission.specs.FirstRefusal.{someBelow, unless}
-use Rattle.admission.specs.Admission.{placeIn, lengthsBefore, storeIn}
+use Rattle.standings.specs.declared.{Place.{Place, the-variants.{At, After}}, Standing.Standing}
+use Rattle.state.specs.{declared.Transaction.Transaction, StoreMeaning.{transaction, standingAt}, Journal.writeRecordAt}
+use Rattle.state.{specs.Layout.{transactionOf, storeOf, journalOf}, proofs.LayoutLaws.transaction-of}
+use Rattle.admission.specs.{FirstRefusal.{someBelow, unless}, Admission.{placeIn, lengthsBefore, storeIn}}
 use Rattle.admission.proofs.Laws.{and-left, and-right, some-found, unless-zero, TransactionInRange, in-range, record-in}
 use Rattle.spec_orders.specs.Orders.{allIn, isList}
-use Rattle.spec.specs.Places.{noPlace}
-use Rattle.spec.specs.Commits.{landsAt}
-use Rattle.spec.specs.OrderReply.{hasUnplaced, orderRefusal}
-use Rattle.spec.specs.Machine.{writeAt, txnOf}
-use Rattle.spec.specs.Calls.{askedOf}
-use Rattle.spec.specs.Promises.{machineOf}
+use Rattle.spec.specs.{Places.noPlace, Commits.landsAt, OrderReply.{hasUnplaced, orderRefusal}, Machine.{writeAt, txnOf}}
+use Rattle.spec.specs.{Calls.askedOf, Promises.machineOf}
 use Rattle.refinement.proofs.Decoded.{some-tabulate}
 use Rattle.commit_apply.specs.Apply.{RecordLands, CanLandIn}
-use Rattle.commit_windows.specs.WindowCheck.{OpenIn}
-use Rattle.commit_windows.proofs.ClosingLaws.{few, descriptor-in}
+use Rattle.commit_windows.{specs.WindowCheck.OpenIn, proofs.ClosingLaws.{few, descriptor-in}}
 use Rattle.call_order.specs.OrderTable.{unplacedIn, isReady, AllOpen, AllLand, listRefusal}
 use Rattle.call_order.proofs.ListLaws.{all-at, small-at}
 
@@ -50,10 +37,9 @@ module _ (state files logs marks undo : List ℕ) (t : ℕ) (small : leb t lastT
 
   unplaced-is : hasUnplaced (txnOf (storeOf state) (journalOf state) logs t .writes) ≡ unplacedIn state t
   unfolding hasUnplaced txnOf unplacedIn writeAt
-  unplaced-is =
-      some-tabulate (λ w. noPlace (w .place)) (writeAt (journalOf state) logs t)
-      (λ k. noPlace (writeRecordAt (journalOf state) t k .place)) (transaction (storeOf state) t .used .records) (λ k l. refl)
-      ∙ ap (λ (x : Transaction). someBelow (λ k. noPlace (writeRecordAt (journalOf state) t k .place)) (x .used .records)) own
+  unplaced-is = some-tabulate (λ w. noPlace (w .place)) (writeAt (journalOf state) logs t) (λ k. noPlace
+      (writeRecordAt (journalOf state) t k .place)) (transaction (storeOf state) t .used .records) (λ k l. refl) ∙ ap
+      (λ (x : Transaction). someBelow (λ k. noPlace (writeRecordAt (journalOf state) t k .place)) (x .used .records)) own
 
   pub open-is : transactionOf state t .begun ≡ transaction (storeOf state) t .begun
   open-is = ap (λ (x : Transaction). x .begun) (sym own)
@@ -74,9 +60,8 @@ chain true true c d b₄ e f b₆ g h =
 pub refusal-is : (state files logs marks undo ts : List ℕ) (minute budget : ℕ)
     → listRefusal state ts minute budget ≡ orderRefusal (askedOf minute (machineOf state files logs marks undo)) ts minute budget
 unfolding listRefusal orderRefusal askedOf
-refusal-is state files logs marks undo ts minute budget =
-    chain (isList ts) (allIn (λ t. leb t 7) ts) _ _ (minuteIn minute) _ _ (leb 1 budget && leb budget 40320)
-    (λ e. all-same (λ t. leb t 7) _ _ (open-is state files logs marks undo) ts e)
+refusal-is state files logs marks undo ts minute budget = chain (isList ts) (allIn (λ t. leb t 7) ts) _ _ (minuteIn minute)
+    _ _ (leb 1 budget && leb budget 40320) (λ e. all-same (λ t. leb t 7) _ _ (open-is state files logs marks undo) ts e)
     (λ e. all-same (λ t. leb t 7) _ _ (λ t s. ready-is state files logs marks undo t s minute) ts e)
 
 -- ---- what an admitted list tells
@@ -91,8 +76,7 @@ pub record ListIn (state ts : List ℕ) (minute budget : ℕ) : Type 0 where
 
 pub list-in : (state ts : List ℕ) (minute budget : ℕ) → listRefusal state ts minute budget ≡ 0 → ListIn state ts minute budget
 unfolding listRefusal
-list-in state ts minute budget e =
-    let b = unless-zero (isList ts) 26 _ (omega arith) e in
+list-in state ts minute budget e = let b = unless-zero (isList ts) 26 _ (omega arith) e in
     let c = unless-zero (allIn (λ t. leb t 7) ts) 3 _ (omega arith) (b .1) in
     let d = unless-zero (allIn (λ t. transactionOf state t .begun) ts) 4 _ (omega arith) (c .1) in
     let f = unless-zero (minuteIn minute) 22 _ (omega arith) (d .1) in
@@ -135,35 +119,27 @@ module _ (state : List ℕ) (t : ℕ) (o : OpenIn state t) (placed : unplacedIn 
   counts = ap (λ (x : Transaction). x .used .records) same
 
   in-ranges : TransactionInRange (transaction (storeOf state) t) (journalOf state) t
-  in-ranges =
-      in-range (storeOf state) (journalOf state) (o .ranges) .transactions t (o .small) (ap (λ (x : Transaction). x .begun) same
-      ∙ o .begun)
+  in-ranges = in-range (storeOf state) (journalOf state) (o .ranges) .transactions t (o .small)
+      (ap (λ (x : Transaction). x .begun) same ∙ o .begun)
 
   record-lands : (k : ℕ) → k < transactionOf state t .used .records → RecordLands (storeOf state .offsets) (journalOf state) t k
   unfolding unplacedIn
-  record-lands k l =
-      let w = writeRecordAt (journalOf state) t k in
-      let x = transaction (storeOf state) t in
-      let r = record-in x w (in-ranges .writes k (omega (arith, counts))) in
-      record {
+  record-lands k l = let w = writeRecordAt (journalOf state) t k in let x = transaction (storeOf state) t in
+      let r = record-in x w (in-ranges .writes k (omega (arith, counts))) in record {
         descriptor = descriptor-in state t o k l;
-        place =
-            placed-in (getD (storeOf state .offsets) (w .descriptor) 0) (standingAt x (w .descriptor)) (w .place) (w .length)
-            (not-some (λ j. noPlace (writeRecordAt (journalOf state) t j .place)) (transactionOf state t .used .records) k placed
-            l)
-            (r .place);
+        place = placed-in (getD (storeOf state .offsets) (w .descriptor) 0) (standingAt x (w .descriptor)) (w .place)
+            (w .length) (not-some (λ j. noPlace (writeRecordAt (journalOf state) t j .place))
+            (transactionOf state t .used .records) k placed l) (r .place);
       }
 
   pub lands-placed : CanLandIn state t (transactionOf state t .used .records)
-  lands-placed =
-      let r = in-ranges in
-      record {
-        small = o .small;
-        records = few state t o;
-        bytes = subst (λ (n : ℕ). lengthsBefore (journalOf state) t n ≤ 4096) counts (omega (arith, r .total, r .bytes));
-        numbers = λ d l. in-range (storeOf state) (journalOf state) (o .ranges) .files d l;
-        inside = record-lands;
-      }
+  lands-placed = let r = in-ranges in record {
+    small = o .small;
+    records = few state t o;
+    bytes = subst (λ (n : ℕ). lengthsBefore (journalOf state) t n ≤ 4096) counts (omega (arith, r .total, r .bytes));
+    numbers = λ d l. in-range (storeOf state) (journalOf state) (o .ranges) .files d l;
+    inside = record-lands;
+  }
 
 module _ (state ts : List ℕ) (minute budget : ℕ) (ranges : storeIn (storeOf state) (journalOf state) ≡ true)
     (a : ListIn state ts minute budget) where
@@ -175,6 +151,5 @@ module _ (state ts : List ℕ) (minute budget : ℕ) (ranges : storeIn (storeOf 
   }
 
   pub land-all : AllLand state ts
-  land-all k l =
-      lands-placed state (getD ts k 0) (open-all k l)
+  land-all k l = lands-placed state (getD ts k 0) (open-all k l)
       (ready-placed state (getD ts k 0) (all-at (isReady state) ts k (a .ready) l))

@@ -1,17 +1,12 @@
 -- Order number i: factorials, a list whose numbers move up, and the order one number after the other.
-use mathlib.Core.List.{List, [], _∷_, _++_, append-nil}
-use mathlib.Core.Path.{_≡_, refl, sym, ap, ap₂, _∙_}
+use mathlib.Core.{List.{List, [], _∷_, _++_, append-nil}, Path.{_≡_, refl, sym, ap, ap₂, _∙_}}
 use lib.ListN.{length, getD, set, take, drop, replicate, take-append-drop}
 use lib.Seq.{take-suc, take-suc-set, take-at, take-nil, append-snoc, drop-cons, set-at, getD-take, getD-drop, getD-append-add}
 use lib.Seq.{length-take-le}
-use native.Mathlib.Nat.{zero-sub, sub-zero, suc-sub-suc, le-of-suc-le-suc}
-use native.Mathlib.Numerals.{add-one}
-use native.Mathlib.Omega.{arith}
+use native.Mathlib.{Nat.{zero-sub, sub-zero, suc-sub-suc, le-of-suc-le-suc}, Numerals.add-one, Omega.arith}
 use Prim.Native.Nat.{ℕ, zero, suc, _+_, _-_, _*_, _/_, _%_, _≤_, _<_}
 use Rattle.limits.specs.Limits.{transactionCount, mostOrders}
-use Rattle.spec_orders.specs.Orders.{without, factorial}
-use Rattle.spec_orders.specs.Numbering.{orderAt}
-use Rattle.spec_orders.proofs.Members.{length-without}
+use Rattle.spec_orders.{specs.{Orders.{without, factorial}, Numbering.orderAt}, proofs.Members.length-without}
 
 -- ---- factorials
 
@@ -45,8 +40,7 @@ drop-zeros (suc n) (suc m) = drop-zeros n m ∙ ap (λ (k : ℕ). replicate {A =
 -- The first n numbers of an array, and zeros after them.
 pub padded-front : (n : ℕ) (xs : List ℕ) → n ≤ length xs → drop n xs ≡ replicate (transactionCount - n) 0
     → xs ≡ take n xs ++ replicate (transactionCount - length (take n xs)) 0
-padded-front n xs l z =
-    sym (take-append-drop n xs)
+padded-front n xs l z = sym (take-append-drop n xs)
     ∙ ap (λ (ys : List ℕ). take n xs ++ ys) (z ∙ ap (λ (k : ℕ). replicate (8 - k) 0) (sym (length-take-le n xs l)))
 
 -- ---- a number taken out, those after it moved up
@@ -81,17 +75,13 @@ module _ (q : ℕ) (xs : List ℕ) (j : ℕ) (low : q ≤ j) (room : suc j < len
   -- The number after j still stands where it stood.
   next-is : getD (moved q xs j) (j + 1) 0 ≡ getD (without q xs) j 0
   unfolding moved
-  next-is =
-      ap (λ (k : ℕ). getD (take j (without q xs) ++ drop j xs) (k + 1) 0) (sym front)
-      ∙ getD-append-add (take j (without q xs)) (drop j xs) 1 0
-      ∙ getD-drop j xs 1 0
-      ∙ ap (λ (k : ℕ). getD xs k 0) (add-one j)
-      ∙ sym (getD-without q xs j low)
+  next-is = ap (λ (k : ℕ). getD (take j (without q xs) ++ drop j xs) (k + 1) 0) (sym front)
+      ∙ getD-append-add (take j (without q xs)) (drop j xs) 1 0 ∙ getD-drop j xs 1 0
+      ∙ ap (λ (k : ℕ). getD xs k 0) (add-one j) ∙ sym (getD-without q xs j low)
 
   pub moved-more : set (moved q xs j) j (getD (moved q xs j) (j + 1) 0) ≡ moved q xs (j + 1)
   unfolding moved
-  moved-more =
-      ap (λ (v : ℕ). set (moved q xs j) j v) next-is
+  moved-more = ap (λ (v : ℕ). set (moved q xs j) j v) next-is
       ∙ ap (λ (ys : List ℕ). set (take j (without q xs) ++ ys) j (getD (without q xs) j 0)) (drop-cons xs j 0 (omega arith))
       ∙ set-at (take j (without q xs)) (getD xs j 0) (drop (suc j) xs) (getD (without q xs) j 0) j front
       ∙ sym (append-snoc (take j (without q xs)) (getD (without q xs) j 0) (drop (suc j) xs))
@@ -108,28 +98,24 @@ take-without (suc q) (suc m) (x ∷ xs) l = ap (λ (r : List ℕ). x ∷ r) (tak
 
 pub moved-all : (q m : ℕ) (xs : List ℕ) → q ≤ m → m < length xs → take m (moved q xs m) ≡ without q (take (suc m) xs)
 unfolding moved
-moved-all q m xs l r =
-    let e = length-without q xs (omega arith) in
+moved-all q m xs l r = let e = length-without q xs (omega arith) in
     take-at (take m (without q xs)) (drop m xs) m (length-take-le m (without q xs) (omega (arith, e)))
     ∙ sym (take-without q m xs l)
 
 -- ---- the order, one number after the other
 
 -- Number k of the order, and what is left: the number at position q is taken out of the rest.
-pub order-more : (order rest after : List ℕ) (k m left f : ℕ) → k < length order → f ≡ factorial m
-    → take m after ≡ without (left / f) (take (suc m) rest) → left / f < suc m
-    → take (k + 1) (set order k (getD rest (left / f) 0)) ++ orderAt m (left % f) (take m after)
-    ≡ take k order ++ orderAt (suc m) left (take (suc m) rest)
+pub order-more : (order rest after : List ℕ) (k m left f : ℕ) → k < length order → f ≡ factorial m → take m after ≡ without
+    (left / f) (take (suc m) rest) → left / f < suc m → take (k + 1) (set order k (getD rest (left / f) 0)) ++ orderAt m
+    (left % f) (take m after) ≡ take k order ++ orderAt (suc m) left (take (suc m) rest)
 unfolding orderAt
-order-more order rest after k m left f l e g h =
-    let v = getD rest (left / f) 0 in
+order-more order rest after k m left f l e g h = let v = getD rest (left / f) 0 in
     ap₂ (λ (n : ℕ) (ys : List ℕ). take n (set order k v) ++ orderAt m (left % f) ys) (add-one k) g
     ∙ ap (λ (xs : List ℕ). xs ++ orderAt m (left % f) (without (left / f) (take (suc m) rest))) (take-suc-set order k v l)
     ∙ append-snoc (take k order) v (orderAt m (left % f) (without (left / f) (take (suc m) rest)))
     ∙ ap (λ (n : ℕ). take k order ++ (n ∷ orderAt m (left % f) (without (left / f) (take (suc m) rest))))
-    (sym (getD-take (suc m) rest (left / f) 0 h))
-    ∙ ap (λ (n : ℕ). take k order ++ (getD (take (suc m) rest) (left / n) 0
-    ∷ orderAt m (left % n) (without (left / n) (take (suc m) rest)))) e
+    (sym (getD-take (suc m) rest (left / f) 0 h)) ∙ ap (λ (n : ℕ). take k
+    order ++ (getD (take (suc m) rest) (left / n) 0 ∷ orderAt m (left % n) (without (left / n) (take (suc m) rest)))) e
 
 pub order-none : (order rest : List ℕ) (left : ℕ) → order ++ orderAt 0 left rest ≡ order
 unfolding orderAt

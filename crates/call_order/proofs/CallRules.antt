@@ -1,17 +1,10 @@
 -- The rules of the call after each of its tests.
-use mathlib.Core.List.{List, []}
-use mathlib.Core.Path.{_≡_, refl, sym, _∙_}
+use mathlib.Core.{List.{List, []}, Path.{_≡_, refl, sym, _∙_}}
 use Prim.Native.Nat.{ℕ}
-use Rattle.state.specs.declared.outcomes.Refusal.{Refusal}
-use Rattle.state.specs.declared.outcomes.Outcome.{Outcome}
-use Rattle.state.specs.Outcomes.{number, said}
-use Rattle.admission.specs.Admission.{firstTests}
-use Rattle.admission.proofs.Laws.{number-suc}
-use Rattle.spec.specs.Messages.{bestOrder}
-use Rattle.spec.specs.OrderReply.{orderRefusal, orderReplied, orderReply}
-use Rattle.spec.specs.Machine.{Machine, sizes}
-use Rattle.spec.specs.Calls.{refuseTurn, askedOf, orderTurn, call}
-use Rattle.spec.specs.Promises.{Meets}
+use Rattle.state.specs.{declared.outcomes.{Refusal.Refusal, Outcome.Outcome}, Outcomes.{number, said}}
+use Rattle.admission.{specs.Admission.firstTests, proofs.Laws.number-suc}
+use Rattle.spec.specs.{Messages.bestOrder, OrderReply.{orderRefusal, orderReplied, orderReply}, Machine.{Machine, sizes}}
+use Rattle.spec.specs.{Calls.{refuseTurn, askedOf, orderTurn, call}, Promises.Meets}
 use Rattle.refinement.proofs.TurnLaws.{passing-number, passing-on}
 
 module _ (m : Machine) (ts : List ℕ) (minute budget : ℕ) where

@@ -1,30 +1,16 @@
 -- The grants of an order, as the code has them, are those of the rules.
-use mathlib.Core.Bool.{Bool, true, false, cond, not, _&&_, _||_}
-use mathlib.Core.List.{List, [], _∷_}
-use mathlib.Core.Path.{_≡_, refl, sym, ap, ap₂, _∙_}
+use mathlib.Core.{Bool.{Bool, true, false, cond, not, _&&_, _||_}, List.{List, [], _∷_}, Path.{_≡_, refl, sym, ap, ap₂, _∙_}}
 use borrow.Author.Tests.{leb-true, eqb-true, eq-eqb}
-use lib.Bits.{bitOr}
-use lib.Dec.{leb, eqb}
-use lib.ListN.{getD}
+use lib.{Bits.bitOr, Dec.{leb, eqb}, ListN.getD}
 use native.Mathlib.Omega.{arith}
 use Prim.Native.Nat.{ℕ, _+_, _<_}
 use Rattle.limits.specs.Limits.{transactionCount, lastTransaction}
-use Rattle.buffers.specs.Bits.{bitsOf}
-use Rattle.buffers.specs.Marks.{contains}
-use Rattle.buffers.proofs.SetLaws.{contains-bits, contains-or}
+use Rattle.buffers.{specs.{Bits.bitsOf, Marks.contains}, proofs.SetLaws.{contains-bits, contains-or}}
 use Rattle.standings.specs.Table.{mayWait}
-use Rattle.state.specs.declared.Transaction.{Transaction}
-use Rattle.state.specs.StoreMeaning.{transaction, standingAt}
-use Rattle.state.specs.Layout.{transactionOf, storeOf}
-use Rattle.admission.specs.FirstRefusal.{someBelow}
-use Rattle.admission.proofs.Laws.{and-left, and-right}
-use Rattle.spec_orders.specs.Orders.{allIn, countIn, Arranges}
-use Rattle.spec_orders.proofs.Distinct.{all-arranged}
-use Rattle.spec.specs.Transactions.{Txn}
-use Rattle.spec.specs.Commits.{setsOffset}
-use Rattle.spec.specs.Machine.{Machine, txnOf}
-use Rattle.spec.specs.Calls.{askedOf}
-use Rattle.spec.specs.Promises.{machineOf}
+use Rattle.state.specs.{declared.Transaction.Transaction, StoreMeaning.{transaction, standingAt}, Layout.{transactionOf, storeOf}}
+use Rattle.admission.{specs.FirstRefusal.someBelow, proofs.Laws.{and-left, and-right}}
+use Rattle.spec_orders.{specs.Orders.{allIn, countIn, Arranges}, proofs.Distinct.all-arranged}
+use Rattle.spec.specs.{Transactions.Txn, Commits.setsOffset, Machine.{Machine, txnOf}, Calls.askedOf, Promises.machineOf}
 use Rattle.spec.proofs.Abstract.OrderReplies.{all-both}
 use Rattle.commit_apply.specs.Apply.{descriptorsOnly}
 use Rattle.commit_conflicts.specs.Conflicts.{staleBy}
@@ -32,9 +18,7 @@ use Rattle.commit_windows.specs.WindowCheck.{hasByteForClosed}
 use Rattle.call_order.specs.OrderStatements.{txnIn, closedIn, Pass, fitsAt, offsetsAfter, followOne, followAll, followed}
 use Rattle.call_order.specs.OrderStatements.{waits, Short, passOne, passAll, Asking}
 use Rattle.call_order.specs.OrderTable.{waitsIn, row, Tabled, grantsPassing, descriptorsIn, grantsFollowing, grantsByTable}
-use Rattle.call_order.proofs.ListLaws.{all-by}
-use Rattle.call_order.proofs.Admitted.{all-same, own, ListIn}
-use Rattle.call_order.proofs.TableLaw.{table-law}
+use Rattle.call_order.proofs.{ListLaws.all-by, Admitted.{all-same, own, ListIn}, TableLaw.table-law}
 
 -- ---- passes that agree on the members of an order
 
@@ -48,18 +32,14 @@ module _ (ok : ℕ → Bool) (row₁ row₂ : ℕ → ℕ) (rows : (t : ℕ) →
   unfolding passOne
   like-one t p q e a = rw (a .skipped t e) (pick (contains (q .skipped) t))
     where
-      pick : (b : Bool)
-          → Like (cond b p (record { skipped = bitOr (p .skipped) (row₁ t); grants = p .grants + 1 }))
+      pick : (b : Bool) → Like (cond b p (record { skipped = bitOr (p .skipped) (row₁ t); grants = p .grants + 1 }))
           (cond b q (record { skipped = bitOr (q .skipped) (row₂ t); grants = q .grants + 1 }))
       pick true = a
-      pick false =
-          record {
-            grants = ap (λ (n : ℕ). n + 1) (a .grants);
-            skipped = λ u k.
-                contains-or (p .skipped) (row₁ t) u
-                ∙ ap₂ (λ (b : Bool) (n : ℕ). b || contains n u) (a .skipped u k) (rows t e)
-                ∙ sym (contains-or (q .skipped) (row₂ t) u);
-          }
+      pick false = record {
+        grants = ap (λ (n : ℕ). n + 1) (a .grants);
+        skipped = λ u k. contains-or (p .skipped) (row₁ t) u ∙ ap₂ (λ (b : Bool) (n : ℕ). b || contains n u)
+            (a .skipped u k) (rows t e) ∙ sym (contains-or (q .skipped) (row₂ t) u);
+      }
 
   pass-like : (o : List ℕ) (p q : Short) → allIn ok o ≡ true → Like p q → passAll row₁ o p .grants ≡ passAll row₂ o q .grants
   unfolding passAll allIn
@@ -77,8 +57,7 @@ module _ (ok : ℕ → Bool) (row₁ row₂ : ℕ → ℕ) (rows : (t : ℕ) →
     follow-same : (o : List ℕ) (p : Pass) → allIn ok o ≡ true → followAll row₁ closed₁ txn₁ o p ≡ followAll row₂ closed₂ txn₂ o p
     unfolding followAll allIn
     follow-same [] p e = refl
-    follow-same (t ∷ o) p e =
-        ap (followAll row₁ closed₁ txn₁ o) (follow-one-same t p (and-left (ok t) _ e))
+    follow-same (t ∷ o) p e = ap (followAll row₁ closed₁ txn₁ o) (follow-one-same t p (and-left (ok t) _ e))
         ∙ follow-same o (followOne row₂ closed₂ txn₂ t p) (and-right (ok t) _ e)
 
 pub count-same : (ok p q : ℕ → Bool) → ((t : ℕ) → ok t ≡ true → p t ≡ q t) → (ts : List ℕ) → allIn ok ts ≡ true
@@ -91,10 +70,9 @@ count-same ok p q h (t ∷ ts) e =
 -- ---- on a state, off what the code knows
 
 module _ (state files logs marks undo ts : List ℕ) (minute budget : ℕ)
-    (a : Asking (machineOf state files logs marks undo) ts minute budget)
-    (listed : ListIn state ts minute budget) (table : List ℕ) (tabled : Tabled (machineOf state files logs marks undo) ts table)
-    (shut : ℕ)
-    (shutIs : shut ≡ bitsOf (λ t. transactionOf state t .begun && hasByteForClosed state logs t minute) transactionCount) where
+    (a : Asking (machineOf state files logs marks undo) ts minute budget) (listed : ListIn state ts minute budget)
+    (table : List ℕ) (tabled : Tabled (machineOf state files logs marks undo) ts table) (shut : ℕ) (shutIs : shut ≡ bitsOf
+    (λ t. transactionOf state t .begun && hasByteForClosed state logs t minute) transactionCount) where
   abbrev m : Machine
   m = machineOf state files logs marks undo
 
@@ -104,9 +82,7 @@ module _ (state files logs marks undo ts : List ℕ) (minute budget : ℕ)
 
   members : allIn member ts ≡ true
   unfolding member
-  members =
-      all-both (λ t. leb t 7) _ ts (listed .small)
-      (all-both (λ t. transactionOf state t .begun) _ ts (listed .begun)
+  members = all-both (λ t. leb t 7) _ ts (listed .small) (all-both (λ t. transactionOf state t .begun) _ ts (listed .begun)
       (all-by _ ts (λ k l. eq-eqb (row table (getD ts k 0)) _ (tabled k l))))
 
   module _ (t : ℕ) (e : member t ≡ true) where
@@ -130,10 +106,8 @@ module _ (state files logs marks undo ts : List ℕ) (minute budget : ℕ)
 
     closed-is : contains shut t ≡ askedOf minute m .hasClosed t
     unfolding askedOf
-    closed-is =
-        ap (λ (n : ℕ). contains n t) shutIs
-        ∙ contains-bits (λ u. transactionOf state u .begun && hasByteForClosed state logs u minute) 8 t below-eight
-        ∙ ap (λ (b : Bool). b && hasByteForClosed state logs t minute) begun
+    closed-is = ap (λ (n : ℕ). contains n t) shutIs ∙ contains-bits (λ u. transactionOf state u .begun && hasByteForClosed
+        state logs u minute) 8 t below-eight ∙ ap (λ (b : Bool). b && hasByteForClosed state logs t minute) begun
 
     fit-is : (os : List ℕ) → fitsAt (descriptorsIn state t) os ≡ fitsAt (txnIn m t) os
     unfolding fitsAt txnOf
@@ -157,23 +131,16 @@ module _ (state files logs marks undo ts : List ℕ) (minute budget : ℕ)
 
     passing-is : allIn (λ t. not (waitsIn state t)) ts ≡ true → grantsPassing table shut o ≡ askedOf minute m .grants o
     unfolding grantsPassing closedIn
-    passing-is w =
-        pass-like member (row table) (staleBy m) row-is o _ _ all-members
-        (record {
-          grants = refl;
-          skipped = λ u e. closed-is u e ∙ sym (contains-bits (askedOf minute m .hasClosed) 8 u (below-eight u e));
-        })
-        ∙ sym
-        (table-law state files logs marks undo ts minute budget a .short
+    passing-is w = pass-like member (row table) (staleBy m) row-is o _ _ all-members (record {
+      grants = refl;
+      skipped = λ u e. closed-is u e ∙ sym (contains-bits (askedOf minute m .hasClosed) 8 u (below-eight u e));
+    }) ∙ sym (table-law state files logs marks undo ts minute budget a .short
         (sym (all-same member (λ t. not (waitsIn state t)) (λ t. not (waits (txnIn m t))) waits-is ts members) ∙ w) o h)
 
     following-is : grantsFollowing state table shut o ≡ askedOf minute m .grants o
     unfolding grantsFollowing followed
-    following-is =
-        ap (λ (p : Pass). p .grants)
-        (follow-same member (row table) (staleBy m) row-is (contains shut) (askedOf minute m .hasClosed) (descriptorsIn state)
-        (txnIn m)
-        closed-is fit-is set-is o _ all-members)
+    following-is = ap (λ (p : Pass). p .grants) (follow-same member (row table) (staleBy m) row-is (contains shut)
+        (askedOf minute m .hasClosed) (descriptorsIn state) (txnIn m) closed-is fit-is set-is o _ all-members)
         ∙ sym (table-law state files logs marks undo ts minute budget a .grants o h)
 
     pub grants-are : (placed : Bool) → placed ≡ allIn (λ t. not (waitsIn state t)) ts

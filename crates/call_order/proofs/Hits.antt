@@ -1,28 +1,19 @@
 -- Whom a Commit makes stale, at other committed values: the items that it sets are the same but for the lengths that it raises.
-use mathlib.Core.Bool.{Bool, true, false, cond, _||_, or-assoc, true≢false}
-use mathlib.Core.List.{List, [], _∷_, _++_}
+use mathlib.Core.{Bool.{Bool, true, false, cond, _||_, or-assoc, true≢false}, List.{List, [], _∷_, _++_}}
 use mathlib.Core.Path.{_≡_, refl, sym, ap, ap₂, _∙_}
-use lib.Dec.{ltb, eqb}
-use lib.ListN.{length}
+use lib.{Dec.{ltb, eqb}, ListN.length}
 use Prim.Native.Nat.{ℕ, zero, suc, _+_, _*_, max}
-use Rattle.standings.specs.declared.Place.{Place}
-use Rattle.standings.specs.declared.Place.the-variants.{At, After}
-use Rattle.standings.specs.Table.{finalOffset}
-use Rattle.spec.specs.Items.{Item, byte, offset, fileLength, same, Values}
-use Rattle.spec.specs.Transactions.{Txn, Write}
-use Rattle.spec.specs.Reading.{writeEnd, farthest}
-use Rattle.spec.specs.Places.{someWrite, noPlace}
-use Rattle.spec.specs.OrderReply.{hasUnplaced}
+use Rattle.standings.specs.{declared.Place.{Place, the-variants.{At, After}}, Table.finalOffset}
+use Rattle.spec.specs.{Items.{Item, byte, offset, fileLength, same, Values}, Transactions.{Txn, Write}}
+use Rattle.spec.specs.{Reading.{writeEnd, farthest}, Places.{someWrite, noPlace}, OrderReply.hasUnplaced}
 use Rattle.spec.specs.Commits.{Setting, landsAt, bytesFrom, byteSettings, setsOffset, offsetSettings, landedEnd, lengthSettings}
-use Rattle.spec.specs.Commits.{settings, putItem, landed}
-use Rattle.spec.proofs.Abstract.AbstractStore.{UndoSaved, abstractSighted, hit}
+use Rattle.spec.{specs.Commits.{settings, putItem, landed}, proofs.Abstract.AbstractStore.{UndoSaved, abstractSighted, hit}}
 use Rattle.spec.proofs.Abstract.Lists.{same-true, or-left-false, or-right-false}
 
 hit-append : (h : UndoSaved) (ss rs : List Setting) → hit (ss ++ rs) h ≡ hit ss h || hit rs h
 unfolding hit
 hit-append h [] rs = refl
-hit-append h (s ∷ ss) rs =
-    ap (λ (b : Bool). abstractSighted h (s .item) || b) (hit-append h ss rs)
+hit-append h (s ∷ ss) rs = ap (λ (b : Bool). abstractSighted h (s .item) || b) (hit-append h ss rs)
     ∙ sym (or-assoc (abstractSighted h (s .item)) (hit ss h) (hit rs h))
 
 -- ---- the items
@@ -39,32 +30,27 @@ module _ (fileOf : ℕ → ℕ) (v w : Values) where
   bytes-same : (ws : List Write) → Placed ws → byteSettings fileOf v ws ≡ byteSettings fileOf w ws
   unfolding byteSettings someWrite
   bytes-same [] p = refl
-  bytes-same (x ∷ ws) p =
-      ap₂ (λ (k : ℕ) (l : List Setting). bytesFrom (4096 * fileOf (x .descriptor) + k) (x .bytes) ++ l)
-      (lands-same (v (offset (x .descriptor))) (w (offset (x .descriptor))) (x .place) (or-left-false (noPlace (x .place)) _ p))
-      (bytes-same ws (or-right-false (noPlace (x .place)) _ p))
+  bytes-same (x ∷ ws) p = ap₂ (λ (k : ℕ) (l : List Setting). bytesFrom (4096 * fileOf (x .descriptor) + k) (x .bytes) ++ l)
+      (lands-same (v (offset (x .descriptor))) (w (offset (x .descriptor))) (x .place)
+      (or-left-false (noPlace (x .place)) _ p)) (bytes-same ws (or-right-false (noPlace (x .place)) _ p))
 
   end-same : (f : ℕ) (ws : List Write) → Placed ws → landedEnd fileOf v f ws ≡ landedEnd fileOf w f ws
   unfolding landedEnd farthest someWrite
   end-same f [] p = refl
-  end-same f (x ∷ ws) p =
-      ap₂ (λ (k m : ℕ). max (cond (eqb (fileOf (x .descriptor)) f) (writeEnd k (length (x .bytes))) 0) m)
-      (lands-same (v (offset (x .descriptor))) (w (offset (x .descriptor))) (x .place) (or-left-false (noPlace (x .place)) _ p))
-      (end-same f ws (or-right-false (noPlace (x .place)) _ p))
+  end-same f (x ∷ ws) p = ap₂ (λ (k m : ℕ). max (cond (eqb (fileOf (x .descriptor)) f) (writeEnd k (length (x .bytes))) 0)
+      m) (lands-same (v (offset (x .descriptor))) (w (offset (x .descriptor))) (x .place)
+      (or-left-false (noPlace (x .place)) _ p)) (end-same f ws (or-right-false (noPlace (x .place)) _ p))
 
   module _ (h : UndoSaved) (lengths : (f : ℕ) → abstractSighted h (fileLength f) ≡ true → v (fileLength f)
       ≡ w (fileLength f)) where
     offsets-hit : (x : Txn) (n : ℕ) → hit (offsetSettings v x n) h ≡ hit (offsetSettings w x n) h
     unfolding offsetSettings
     offsets-hit x zero = refl
-    offsets-hit x (suc d) =
-        hit-append h (offsetSettings v x d) _
-        ∙ ap₂ (λ (a b : Bool). a || b) (offsets-hit x d) (one (setsOffset x d))
-        ∙ sym (hit-append h (offsetSettings w x d) _)
+    offsets-hit x (suc d) = hit-append h (offsetSettings v x d) _ ∙ ap₂ (λ (a b : Bool). a || b) (offsets-hit x d)
+        (one (setsOffset x d)) ∙ sym (hit-append h (offsetSettings w x d) _)
       where
-        one : (b : Bool)
-            → hit (cond b (record { item = offset d; to = finalOffset (v (offset d)) (x .standing d) } ∷ []) []) h
-            ≡ hit (cond b (record { item = offset d; to = finalOffset (w (offset d)) (x .standing d) } ∷ []) []) h
+        one : (b : Bool) → hit (cond b (record { item = offset d; to = finalOffset (v (offset d)) (x .standing d) } ∷ [])
+            []) h ≡ hit (cond b (record { item = offset d; to = finalOffset (w (offset d)) (x .standing d) } ∷ []) []) h
         one true = unfold hit in refl
         one false = refl
 
@@ -76,10 +62,8 @@ module _ (fileOf : ℕ → ℕ) (v w : Values) where
         ≡ hit (lengthSettings fileOf w ws n) h
     unfolding lengthSettings
     lengths-hit ws p zero = refl
-    lengths-hit ws p (suc f) =
-        hit-append h (lengthSettings fileOf v ws f) _
-        ∙ ap₂ (λ (a b : Bool). a || b) (lengths-hit ws p f)
-        (ap (λ (e : ℕ). hit (raising f (v (fileLength f)) e) h) (end-same f ws p)
+    lengths-hit ws p (suc f) = hit-append h (lengthSettings fileOf v ws f) _ ∙ ap₂ (λ (a b : Bool). a || b)
+        (lengths-hit ws p f) (ap (λ (e : ℕ). hit (raising f (v (fileLength f)) e) h) (end-same f ws p)
         ∙ one (abstractSighted h (fileLength f)) refl (landedEnd fileOf w f ws))
         ∙ sym (hit-append h (lengthSettings fileOf w ws f) _)
       where
@@ -96,13 +80,10 @@ module _ (fileOf : ℕ → ℕ) (v w : Values) where
     -- Who sees the lengths that it has sighted as they were is made stale now by whom it would have been made stale then.
     pub hit-same : (x : Txn) → hasUnplaced (x .writes) ≡ false → hit (settings fileOf v x) h ≡ hit (settings fileOf w x) h
     unfolding settings hasUnplaced
-    hit-same x p =
-        hit-append h (byteSettings fileOf v (x .writes)) _
-        ∙ ap₂ (λ (a b : Bool). a || b) (ap (λ (ss : List Setting). hit ss h) (bytes-same (x .writes) p))
-        (hit-append h (offsetSettings v x 16) _
+    hit-same x p = hit-append h (byteSettings fileOf v (x .writes)) _ ∙ ap₂ (λ (a b : Bool). a || b)
+        (ap (λ (ss : List Setting). hit ss h) (bytes-same (x .writes) p)) (hit-append h (offsetSettings v x 16) _
         ∙ ap₂ (λ (a b : Bool). a || b) (offsets-hit x 16) (lengths-hit (x .writes) p 8)
-        ∙ sym (hit-append h (offsetSettings w x 16) _))
-        ∙ sym (hit-append h (byteSettings fileOf w (x .writes)) _)
+        ∙ sym (hit-append h (offsetSettings w x 16) _)) ∙ sym (hit-append h (byteSettings fileOf w (x .writes)) _)
 
 -- ---- what is sighted and not hit stays
 
@@ -110,15 +91,12 @@ pub not-hit : (h : UndoSaved) (i : Item) → abstractSighted h i ≡ true → (s
     → landed ss v i ≡ v i
 unfolding landed hit
 not-hit h i k [] v e = refl
-not-hit h i k (s ∷ ss) v e =
-    not-hit h i k ss (putItem (s .item) (s .to) v) (or-right-false (abstractSighted h (s .item)) (hit ss h) e)
-    ∙ pick (same i (s .item)) refl
+not-hit h i k (s ∷ ss) v e = not-hit h i k ss (putItem (s .item) (s .to) v)
+    (or-right-false (abstractSighted h (s .item)) (hit ss h) e) ∙ pick (same i (s .item)) refl
   where
     pick : (b : Bool) → same i (s .item) ≡ b → putItem (s .item) (s .to) v i ≡ v i
-    pick true q =
-        let z : abstractSighted h i ≡ false = ap (abstractSighted h) (same-true i (s .item) q)
-        ∙ or-left-false (abstractSighted h (s .item)) (hit ss h) e in
-        absurd (true≢false (sym k ∙ z))
+    pick true q = let z : abstractSighted h i ≡ false = ap (abstractSighted h) (same-true i (s .item) q)
+        ∙ or-left-false (abstractSighted h (s .item)) (hit ss h) e in absurd (true≢false (sym k ∙ z))
     pick false q = unfold putItem in rw q
 
 -- ---- the flag of the stale has no part in it

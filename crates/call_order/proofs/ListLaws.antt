@@ -1,13 +1,8 @@
 -- Loops over a list: what is left to test, to count or to pass is the rest of it.
-use mathlib.Core.Bool.{Bool, true, false, cond, not, _&&_, _||_}
-use mathlib.Core.List.{List, [], _∷_}
-use mathlib.Core.Path.{_≡_, refl, ap, _∙_}
+use mathlib.Core.{Bool.{Bool, true, false, cond, not, _&&_, _||_}, List.{List, [], _∷_}, Path.{_≡_, refl, ap, _∙_}}
 use borrow.Author.Tests.{leb-true}
-use lib.Dec.{leb, eqb}
-use lib.ListN.{length, getD, drop, drop-of-length-le}
-use lib.Seq.{drop-cons}
-use native.Mathlib.Numerals.{add-one}
-use native.Mathlib.Omega.{arith}
+use lib.{Dec.{leb, eqb}, ListN.{length, getD, drop, drop-of-length-le}, Seq.drop-cons}
+use native.Mathlib.{Numerals.add-one, Omega.arith}
 use Prim.Native.Nat.{ℕ, zero, suc, _+_, _≤_, _<_}
 use Rattle.limits.specs.Limits.{lastTransaction, transactionCount}
 use Rattle.admission.proofs.Laws.{and-left, and-right, and-both}
@@ -101,17 +96,13 @@ module _ (p : ℕ → Bool) (ts : List ℕ) where
   count-rest k l = ap (countIn p) (rest ts k l)
 
   pub count-one : (n k : ℕ) → k < length ts → CountLeft n k → p (getD ts k 0) ≡ true → CountLeft (n + 1) (k + 1)
-  count-one n k l e f =
-      let a = count-rest k l ∙ ap (λ (b : Bool). cond b 1 0 + countIn p (drop (k + 1) ts)) f in
+  count-one n k l e f = let a = count-rest k l ∙ ap (λ (b : Bool). cond b 1 0 + countIn p (drop (k + 1) ts)) f in
       omega arith
 
   pub count-none : (n k : ℕ) → k < length ts → CountLeft n k → p (getD ts k 0) ≡ false → CountLeft n (k + 1)
-  count-none n k l e f =
-      let a = count-rest k l ∙ ap (λ (b : Bool). cond b 1 0 + countIn p (drop (k + 1) ts)) f in
+  count-none n k l e f = let a = count-rest k l ∙ ap (λ (b : Bool). cond b 1 0 + countIn p (drop (k + 1) ts)) f in
       omega arith
 
   pub count-done : (n k : ℕ) → length ts ≤ k → CountLeft n k → n ≡ countIn p ts
   unfolding countIn
-  count-done n k l e =
-      let a = ap (countIn p) (drop-of-length-le ts l) in
-      omega arith
+  count-done n k l e = let a = ap (countIn p) (drop-of-length-le ts l) in omega arith

@@ -1,26 +1,17 @@
 -- The committed offsets after a grant, and where 12 cannot come.
-use mathlib.Core.Bool.{Bool, true, false, cond}
-use mathlib.Core.List.{List, [], _∷_, _++_}
-use mathlib.Core.Logic.{⊎-elim}
-use mathlib.Core.Path.{_≡_, refl, sym, ap, _∙_}
+use mathlib.Core.{Bool.{Bool, true, false, cond}, List.{List, [], _∷_, _++_}, Logic.⊎-elim, Path.{_≡_, refl, sym, ap, _∙_}}
 use borrow.Author.Tests.{ne-eqb, eq-eqb}
-use lib.Dec.{ltb, leb}
-use lib.ListN.{getD}
-use native.Mathlib.Nat.{eq-or-lt-of-le, le-of-suc-le-suc}
-use native.Mathlib.Omega.{arith}
+use lib.{Dec.{ltb, leb}, ListN.getD}
+use native.Mathlib.{Nat.{eq-or-lt-of-le, le-of-suc-le-suc}, Omega.arith}
 use Prim.Native.Nat.{ℕ, zero, suc, _+_, _*_, _≤_, _<_}
 use Rattle.limits.specs.Limits.{descriptorCount}
 use Rattle.buffers.proofs.TableLaws.{getD-tabulate}
 use Rattle.standings.specs.Table.{advance, finalOffset}
 use Rattle.admission.proofs.Laws.{below-same}
-use Rattle.spec.specs.Items.{offset, fileLength, same, Values}
-use Rattle.spec.specs.Transactions.{Txn, Write}
+use Rattle.spec.specs.{Items.{offset, fileLength, same, Values}, Transactions.{Txn, Write}}
 use Rattle.spec.specs.Commits.{Setting, landsAt, bytesFrom, byteSettings, setsOffset, offsetSettings, landedEnd, lengthSettings}
-use Rattle.spec.specs.Commits.{settings}
-use Rattle.spec.specs.Commits.{fits, putItem, landed}
-use Rattle.spec.proofs.Abstract.Lists.{touched, landed-at}
-use Rattle.spec.proofs.Abstract.Lengths.{landed-append}
-use Rattle.spec.proofs.Refinement.Zeros.{neither}
+use Rattle.spec.{specs.Commits.{settings, fits, putItem, landed}, proofs.Abstract.Lists.{touched, landed-at}}
+use Rattle.spec.proofs.{Abstract.Lengths.landed-append, Refinement.Zeros.neither}
 use Rattle.call_order.specs.OrderStatements.{fitsAt, offsetsAfter}
 
 module _ (fileOf : ℕ → ℕ) (v : Values) (d : ℕ) where
@@ -32,16 +23,14 @@ module _ (fileOf : ℕ → ℕ) (v : Values) (d : ℕ) where
   bytes-no-offset : (ws : List Write) → touched (byteSettings fileOf v ws) (offset d) ≡ false
   unfolding byteSettings
   bytes-no-offset [] = unfold touched in refl
-  bytes-no-offset (w ∷ ws) =
-      let q = 4096 * fileOf (w .descriptor) + landsAt (v (offset (w .descriptor))) (w .place) in
+  bytes-no-offset (w ∷ ws) = let q = 4096 * fileOf (w .descriptor) + landsAt (v (offset (w .descriptor))) (w .place) in
       neither (bytesFrom q (w .bytes)) (byteSettings fileOf v ws) (offset d) (interval-no-offset q (w .bytes))
       (bytes-no-offset ws)
 
   lengths-no-offset : (ws : List Write) (n : ℕ) → touched (lengthSettings fileOf v ws n) (offset d) ≡ false
   unfolding lengthSettings
   lengths-no-offset ws zero = unfold touched in refl
-  lengths-no-offset ws (suc f) =
-      let b = ltb (v (fileLength f)) (landedEnd fileOf v f ws) in
+  lengths-no-offset ws (suc f) = let b = ltb (v (fileLength f)) (landedEnd fileOf v f ws) in
       neither (lengthSettings fileOf v ws f) (last b) (offset d) (lengths-no-offset ws f) (none b)
     where
       last : Bool → List Setting
@@ -69,16 +58,14 @@ module _ (fileOf : ℕ → ℕ) (v : Values) (d : ℕ) where
     offset-before zero l = unfold landed in refl
     offset-before (suc n) l =
         ap (λ (u : Values). u (offset d)) (landed-append fileOf v (offsetSettings v x n) (last n (setsOffset x n)) w)
-        ∙ not-last n (setsOffset x n) (landed (offsetSettings v x n) w) (λ e. omega arith)
-        ∙ offset-before n (omega arith)
+        ∙ not-last n (setsOffset x n) (landed (offsetSettings v x n) w) (λ e. omega arith) ∙ offset-before n (omega arith)
 
     offset-landed : (n : ℕ) → d < n → landed (offsetSettings v x n) w (offset d) ≡ final x w
     unfolding offsetSettings
     offset-landed zero l = absurd (omega arith)
-    offset-landed (suc n) l =
-        ap (λ (u : Values). u (offset d)) (landed-append fileOf v (offsetSettings v x n) (last n (setsOffset x n)) w)
-        ∙ ⊎-elim own (λ k. not-last n (setsOffset x n) (landed (offsetSettings v x n) w) (λ e. omega arith) ∙ offset-landed n k)
-        (eq-or-lt-of-le (le-of-suc-le-suc l))
+    offset-landed (suc n) l = ap (λ (u : Values). u (offset d)) (landed-append fileOf v (offsetSettings v x n)
+        (last n (setsOffset x n)) w) ∙ ⊎-elim own (λ k. not-last n (setsOffset x n) (landed (offsetSettings v x n) w)
+        (λ e. omega arith) ∙ offset-landed n k) (eq-or-lt-of-le (le-of-suc-le-suc l))
       where
         before : landed (offsetSettings v x d) w (offset d) ≡ w (offset d)
         before = offset-before d (omega arith)
@@ -89,20 +76,16 @@ module _ (fileOf : ℕ → ℕ) (v : Values) (d : ℕ) where
         pick false = unfold landed in before
 
         own : d ≡ n → landed (last n (setsOffset x n)) (landed (offsetSettings v x n) w) (offset d) ≡ final x w
-        own e =
-            ap (λ (k : ℕ). landed (last k (setsOffset x k)) (landed (offsetSettings v x k) w) (offset d)) (sym e)
+        own e = ap (λ (k : ℕ). landed (last k (setsOffset x k)) (landed (offsetSettings v x k) w) (offset d)) (sym e)
             ∙ pick (setsOffset x d)
 
   commit-offset : (x : Txn) → d < descriptorCount → landed (settings fileOf v x) v (offset d) ≡ final x v
   unfolding settings
-  commit-offset x l =
-      let bs = byteSettings fileOf v (x .writes) in
-      let os = offsetSettings v x 16 in
+  commit-offset x l = let bs = byteSettings fileOf v (x .writes) in let os = offsetSettings v x 16 in
       let ls = lengthSettings fileOf v (x .writes) 8 in
-      ap (λ (u : Values). u (offset d)) (landed-append fileOf v bs (os ++ ls) v ∙ landed-append fileOf v os ls (landed bs v))
-      ∙ landed-at ls (landed os (landed bs v)) (offset d) (lengths-no-offset (x .writes) 8)
-      ∙ offset-landed x (landed bs v) 16 l
-      ∙ ap (λ (n : ℕ). cond (setsOffset x d) (finalOffset (v (offset d)) (x .standing d)) n)
+      ap (λ (u : Values). u (offset d)) (landed-append fileOf v bs (os ++ ls) v ∙ landed-append fileOf v os ls
+      (landed bs v)) ∙ landed-at ls (landed os (landed bs v)) (offset d) (lengths-no-offset (x .writes) 8) ∙ offset-landed x
+      (landed bs v) 16 l ∙ ap (λ (n : ℕ). cond (setsOffset x d) (finalOffset (v (offset d)) (x .standing d)) n)
       (landed-at bs v (offset d) (bytes-no-offset (x .writes)))
 
 -- Offsets that a list holds.
@@ -116,8 +99,6 @@ module _ (x : Txn) (v : Values) (offsets : List ℕ) (h : Holding v offsets) whe
 
   pub still-holding : (fileOf : ℕ → ℕ) → Holding (landed (settings fileOf v x) v) (offsetsAfter x offsets)
   unfolding offsetsAfter
-  still-holding fileOf d l =
-      commit-offset fileOf v d x l
-      ∙ ap (λ (n : ℕ). cond (setsOffset x d) (finalOffset n (x .standing d)) n) (h d l)
-      ∙ sym (getD-tabulate (λ e. cond (setsOffset x e) (finalOffset (getD offsets e 0) (x .standing e)) (getD offsets e 0)) 16 d 0
-      l)
+  still-holding fileOf d l = commit-offset fileOf v d x l
+      ∙ ap (λ (n : ℕ). cond (setsOffset x d) (finalOffset n (x .standing d)) n) (h d l) ∙ sym (getD-tabulate (λ e. cond
+      (setsOffset x e) (finalOffset (getD offsets e 0) (x .standing e)) (getD offsets e 0)) 16 d 0 l)

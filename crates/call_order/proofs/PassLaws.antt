@@ -1,9 +1,6 @@
 -- A pass over an order, one Commit after the other.
-use mathlib.Core.Bool.{Bool, true, false, cond, not, _||_}
-use mathlib.Core.List.{List}
-use mathlib.Core.Path.{_≡_, refl, sym, ap, _∙_}
-use lib.Bits.{bitOr}
-use lib.ListN.{length, getD, drop, drop-of-length-le}
+use mathlib.Core.{Bool.{Bool, true, false, cond, not, _||_}, List.List, Path.{_≡_, refl, sym, ap, _∙_}}
+use lib.{Bits.bitOr, ListN.{length, getD, drop, drop-of-length-le}}
 use native.Mathlib.Omega.{arith}
 use Prim.Native.Nat.{ℕ, _+_, _≤_, _<_}
 use Rattle.buffers.specs.Marks.{contains}
@@ -17,21 +14,18 @@ short s g = record { skipped = s; grants = g }
 module _ (row : ℕ → ℕ) (o : List ℕ) (k t s g : ℕ) (l : k < length o) (e : t ≡ getD o k 0) where
   pass-rest : passAll row (drop k o) (short s g) ≡ passAll row (drop (k + 1) o) (passOne row t (short s g))
   unfolding passAll
-  pass-rest =
-      ap (λ (ts : List ℕ). passAll row ts (short s g)) (rest o k l)
+  pass-rest = ap (λ (ts : List ℕ). passAll row ts (short s g)) (rest o k l)
       ∙ ap (λ (u : ℕ). passAll row (drop (k + 1) o) (passOne row u (short s g))) (sym e)
 
   pub pass-granted : contains s t ≡ false
       → passAll row (drop k o) (short s g) ≡ passAll row (drop (k + 1) o) (short (bitOr s (row t)) (g + 1))
   unfolding passOne
-  pass-granted h =
-      pass-rest
+  pass-granted h = pass-rest
       ∙ ap (λ (b : Bool). passAll row (drop (k + 1) o) (cond b (short s g) (short (bitOr s (row t)) (g + 1)))) h
 
   pub pass-skipped : contains s t ≡ true → passAll row (drop k o) (short s g) ≡ passAll row (drop (k + 1) o) (short s g)
   unfolding passOne
-  pass-skipped h =
-      pass-rest
+  pass-skipped h = pass-rest
       ∙ ap (λ (b : Bool). passAll row (drop (k + 1) o) (cond b (short s g) (short (bitOr s (row t)) (g + 1)))) h
 
 pub pass-done : (row : ℕ → ℕ) (o : List ℕ) (k : ℕ) (p : Short) → length o ≤ k → passAll row (drop k o) p ≡ p
@@ -60,8 +54,7 @@ module _ (row : ℕ → ℕ) (closed : ℕ → Bool) (txn : ℕ → Txn) where
   pub follow-rest : (o : List ℕ) (k t : ℕ) (p : Pass) → k < length o → t ≡ getD o k 0
       → followAll row closed txn (drop k o) p ≡ followAll row closed txn (drop (k + 1) o) (followOne row closed txn t p)
   unfolding followAll
-  follow-rest o k t p l e =
-      ap (λ (ts : List ℕ). followAll row closed txn ts p) (rest o k l)
+  follow-rest o k t p l e = ap (λ (ts : List ℕ). followAll row closed txn ts p) (rest o k l)
       ∙ ap (λ (u : ℕ). followAll row closed txn (drop (k + 1) o) (followOne row closed txn u p)) (sym e)
 
   pub follow-done : (o : List ℕ) (k : ℕ) (p : Pass) → length o ≤ k → followAll row closed txn (drop k o) p ≡ p

@@ -1,53 +1,31 @@
 -- The table's law, on every state and buffers.
-use mathlib.Core.Bool.{Bool, true, false, cond, not, _&&_, _||_, false≢true}
-use mathlib.Core.List.{List, [], _∷_, _++_}
-use mathlib.Core.Logic.{_↔_}
+use mathlib.Core.{Bool.{Bool, true, false, cond, not, _&&_, _||_, false≢true}, List.{List, [], _∷_, _++_}, Logic._↔_}
 use mathlib.Core.Path.{_≡_, refl, sym, ap, _∙_, subst⁻¹}
 use borrow.Author.Tests.{leb-true}
-use lib.Dec.{leb, eqb}
-use lib.ListN.{length}
+use lib.{Dec.{leb, eqb}, ListN.length}
 use native.Mathlib.Omega.{arith}
 use Prim.Native.Nat.{ℕ, zero, suc, _<_}
 use Rattle.limits.specs.Limits.{transactionCount, lastTransaction}
-use Rattle.buffers.proofs.BelowLaws.{and-both}
-use Rattle.buffers.specs.Marks.{contains}
-use Rattle.buffers.proofs.SetLaws.{bits-none, contains-bits}
+use Rattle.buffers.{proofs.{BelowLaws.and-both, SetLaws.{bits-none, contains-bits}}, specs.Marks.contains}
 use Rattle.windows.specs.Windows.{minuteIn, Windows}
-use Rattle.spec.specs.Items.{Values}
-use Rattle.state.specs.StoreMeaning.{transaction, windowAt}
-use Rattle.state.specs.Layout.{storeOf, journalOf}
-use Rattle.state.proofs.LayoutLaws.{length-journal}
-use Rattle.admission.specs.Admission.{standingIn, firstTests}
-use Rattle.admission.proofs.Laws.{and-left, and-right, first-zero, in-range}
-use Rattle.spec_orders.specs.Orders.{allIn, isList, distinct}
-use Rattle.spec_orders.proofs.Distinct.{all-arranged, distinct-arranged, in-test}
-use Rattle.spec.specs.Transactions.{put}
-use Rattle.spec.specs.Commits.{settings}
-use Rattle.state.specs.Outcomes.{ordered, refused}
-use Rattle.spec.specs.Messages.{commit, Reply}
-use Rattle.spec.specs.OrderReply.{hasUnplaced, orderRefusal}
-use Rattle.spec.specs.Machine.{Machine, sizes, fileOf, values}
+use Rattle.spec.specs.{Items.Values, Transactions.put, Commits.settings, Messages.{commit, Reply}}
+use Rattle.spec.specs.{OrderReply.{hasUnplaced, orderRefusal}, Machine.{Machine, sizes, fileOf, values}}
 use Rattle.spec.specs.Calls.{madeStale, settingsOf, askedOf, refuseTurn, passing, orderTurn, call, callsAfter}
-use Rattle.spec.specs.Promises.{machineOf}
-use Rattle.spec.proofs.Abstract.Lists.{or-left-false, or-right-false}
+use Rattle.spec.{specs.Promises.machineOf, proofs.Abstract.Lists.{or-left-false, or-right-false}}
 use Rattle.spec.proofs.Abstract.AbstractStore.{vacant, held, hit, newlyStale, Abstract, abstractAsked, abstractCommitCall}
-use Rattle.spec.proofs.Abstract.AbstractStore.{abstractCall}
-use Rattle.spec.proofs.Refinement.Relation.{heldBy, seat, backIn, view, Sound}
-use Rattle.spec.specs.BestOrder.{commitsIn, BestOrderHolds}
-use Rattle.spec.proofs.Theorems.Answers.{answer-not-refused}
-use Rattle.spec.proofs.Theorems.BestOrder.{best-order}
-use Rattle.spec.proofs.Theorems.Serializability.{call-turn, calls-agree}
-use Rattle.spec.proofs.Abstract.OrderReplies.{all-both, Passed, passed}
-use Rattle.spec.proofs.Refinement.Decode.{decoded-in}
-use Rattle.spec.proofs.Refinement.Conflicts.{made-stale}
-use Rattle.spec.proofs.Refinement.OrderTurn.{seat-open, order-grants}
+use Rattle.spec.proofs.{Abstract.AbstractStore.abstractCall, Refinement.Relation.{heldBy, seat, backIn, view, Sound}}
+use Rattle.spec.{specs.BestOrder.{commitsIn, BestOrderHolds}, proofs.Theorems.{Answers.answer-not-refused, BestOrder.best-order}}
+use Rattle.spec.proofs.{Theorems.Serializability.{call-turn, calls-agree}, Abstract.OrderReplies.{all-both, Passed, passed}}
+use Rattle.spec.proofs.Refinement.{Decode.decoded-in, Conflicts.made-stale, OrderTurn.{seat-open, order-grants}}
+use Rattle.state.{specs.{StoreMeaning.{transaction, windowAt}, Layout.{storeOf, journalOf}}, proofs.LayoutLaws.length-journal}
+use Rattle.state.specs.Outcomes.{ordered, refused}
+use Rattle.admission.{specs.Admission.{standingIn, firstTests}, proofs.Laws.{and-left, and-right, first-zero, in-range}}
+use Rattle.spec_orders.{specs.Orders.{allIn, isList, distinct}, proofs.Distinct.{all-arranged, distinct-arranged, in-test}}
 use Rattle.refinement.proofs.Shapes.{shaped}
 use Rattle.commit_conflicts.specs.Conflicts.{staleBy}
 use Rattle.call_order.specs.OrderStatements.{txnIn, closedIn, Pass, followed, waits, passAll, TableHolds, TableLaw}
 use Rattle.call_order.specs.OrderStatements.{BestOrderOfAny}
-use Rattle.call_order.proofs.Hits.{flagged}
-use Rattle.call_order.proofs.ShortWay.{short-way}
-use Rattle.call_order.proofs.Along.{Inv, grants-followed, stale-followed}
+use Rattle.call_order.proofs.{Hits.flagged, ShortWay.short-way, Along.{Inv, grants-followed, stale-followed}}
 
 not-true : (b : Bool) → not b ≡ true → b ≡ false
 not-true true e = absurd (false≢true e)
@@ -81,8 +59,7 @@ module _ (m : Machine) (sound : Sound m) (minute : ℕ) (daily : minuteIn minute
   module _ (t : ℕ) (e : ready minute m t ≡ true) where
     opened : leb t lastTransaction && transaction (m .store) t .begun ≡ true
     unfolding ready askedOf
-    opened =
-        and-both (leb t 7) (transaction (m .store) t .begun) (and-left (leb t 7) _ e)
+    opened = and-both (leb t 7) (transaction (m .store) t .begun) (and-left (leb t 7) _ e)
         (and-left (transaction (m .store) t .begun) _ (and-right (leb t 7) _ e))
 
     neither : transaction (m .store) t .stale || hasUnplaced (txnIn m t .writes) ≡ false
@@ -106,74 +83,56 @@ module _ (m : Machine) (sound : Sound m) (minute : ℕ) (daily : minuteIn minute
   rows : (t u : ℕ) → ready minute m u ≡ true → eqb u t ≡ false
       → contains (staleBy m t) u ≡ hit (settings F v (heldBy m t .txn)) (heldBy m u)
   unfolding staleBy heldBy put newlyStale
-  rows t u e d =
-      let ss = settingsOf m t in
-      contains-bits (madeStale t ss m) 8 u (below-eight u e)
-      ∙ made-stale m t ss u (below-eight u e)
-      ∙ ap (λ (a : Bool). newlyStale ss (cond a vacant (seat m u))) d
-      ∙ ap (newlyStale ss) (seat-is u e)
+  rows t u e d = let ss = settingsOf m t in
+      contains-bits (madeStale t ss m) 8 u (below-eight u e) ∙ made-stale m t ss u (below-eight u e)
+      ∙ ap (λ (a : Bool). newlyStale ss (cond a vacant (seat m u))) d ∙ ap (newlyStale ss) (seat-is u e)
       ∙ ap (λ (a : Bool). not a && hit ss (heldBy m u)) (fresh u e)
 
   begins : (o : List ℕ) → allIn (ready minute m) o ≡ true
       → Inv F W minute v (heldBy m) (staleBy m) (ready minute m) daily small placed rows o v (seat m) start
   unfolding start values
-  begins o e =
-      record {
-        offsets = λ d l. refl;
-        seats = λ u k.
-            let r = in-test (ready minute m) u o e k in
-            seat-is u r ∙ ap (λ (a : Bool). held (flagged a (heldBy m u))) (fresh u r ∙ sym (none-in u (below-eight u r)));
-        lengths = λ u f k d s. refl;
-      }
+  begins o e = record {
+    offsets = λ d l. refl;
+    seats = λ u k. let r = in-test (ready minute m) u o e k in
+        seat-is u r ∙ ap (λ (a : Bool). held (flagged a (heldBy m u))) (fresh u r ∙ sym (none-in u (below-eight u r)));
+    lengths = λ u f k d s. refl;
+  }
 
   grants-table : (o : List ℕ) → distinct o ≡ true → allIn (ready minute m) o ≡ true
       → askedOf minute m .grants o ≡ followed minute m o .grants
   unfolding followed start view abstractAsked askedOf heldBy
-  grants-table o d e =
-      let a = order-grants minute m sound o in
-      let g =
-      grants-followed F W minute v (heldBy m) (staleBy m) (ready minute m) daily small placed rows
-      o v (backIn m) (seat m) start d e (begins o e) in
-      omega arith
+  grants-table o d e = let a = order-grants minute m sound o in
+      let g = grants-followed F W minute v (heldBy m) (staleBy m) (ready minute m) daily small placed rows o v (backIn m)
+      (seat m) start d e (begins o e) in omega arith
 
   stale-table : (xs ys : List ℕ) (j : ℕ) → distinct (xs ++ (j ∷ ys)) ≡ true → allIn (ready minute m) (xs ++ (j ∷ ys)) ≡ true
       → (call (commit j minute) (callsAfter (commitsIn xs minute) m) .reply .answer ≡ refused 13)
       ↔ (contains (followed minute m xs .stale) j ≡ true)
   unfolding followed start view askedOf heldBy abstractCall
-  stale-table xs ys j d e =
-      let o = xs ++ (j ∷ ys) in
-      let cs = commitsIn xs minute in
-      let a = calls-agree cs m sound in
-      let r =
-      call-turn (commit j minute) (callsAfter cs m) (a .sound) .0
+  stale-table xs ys j d e = let o = xs ++ (j ∷ ys) in let cs = commitsIn xs minute in let a = calls-agree cs m sound in
+      let r = call-turn (commit j minute) (callsAfter cs m) (a .sound) .0
       ∙ ap (λ (s : Abstract). abstractCommitCall j minute s .reply) (a .state) in
       subst⁻¹ (λ (x : Reply). (x .answer ≡ refused 13) ↔ (contains (followed minute m xs .stale) j ≡ true)) r
-      (stale-followed F W minute v (heldBy m) (staleBy m) (ready minute m) daily small placed rows
-      xs ys j v (backIn m) (seat m) start d e (begins o e))
+      (stale-followed F W minute v (heldBy m) (staleBy m) (ready minute m) daily small placed rows xs ys j v (backIn m)
+      (seat m) start d e (begins o e))
 
   -- Where none of them stands Deferred or Moved.
   free : ℕ → Bool
   free t = ready minute m t && not (waits (txnIn m t))
 
   ranged : (t : ℕ) → ready minute m t ≡ true → (d : ℕ) → standingIn (txnIn m t .standing d) ≡ true
-  ranged t e =
-      let l = below-eight t e in
+  ranged t e = let l = below-eight t e in
       let r = in-range (m .store) (m .journal) (sound .inRange) .transactions t l (and-right (leb t 7) _ (opened t e)) in
       decoded-in (m .store) (m .journal) (m .logs) t (sound .logs) l r (sound .shaped .descriptors t l) .standings
 
   short-table : (o : List ℕ) → allIn free o ≡ true
       → followed minute m o .grants ≡ passAll (staleBy m) o (record { skipped = closedIn minute m; grants = 0 }) .grants
   unfolding followed free closedIn
-  short-table o e =
-      short-way (staleBy m) (askedOf minute m .hasClosed) (txnIn m) free
-      (λ t k. below-eight t (and-left (ready minute m t) _ k))
-      (λ t k. not-true _ (and-right (ready minute m t) _ k))
-      (λ t k. ranged t (and-left (ready minute m t) _ k))
-      o _ _ e
-      (record {
+  short-table o e = short-way (staleBy m) (askedOf minute m .hasClosed) (txnIn m) free
+      (λ t k. below-eight t (and-left (ready minute m t) _ k)) (λ t k. not-true _ (and-right (ready minute m t) _ k))
+      (λ t k. ranged t (and-left (ready minute m t) _ k)) o _ _ e (record {
         grants = refl;
-        skipped = λ u l.
-            contains-bits (askedOf minute m .hasClosed) 8 u l
+        skipped = λ u l. contains-bits (askedOf minute m .hasClosed) 8 u l
             ∙ ap (λ (b : Bool). b || askedOf minute m .hasClosed u) (sym (none-in u l));
         low = in-range (m .store) (m .journal) (sound .inRange) .offsets;
       })
@@ -181,13 +140,10 @@ module _ (m : Machine) (sound : Sound m) (minute : ℕ) (daily : minuteIn minute
 -- ---- on every state
 
 -- One that meets neither 1 nor 2.
-sound-preserved : (state files logs marks undo : List ℕ)
-    → firstTests (sizes (machineOf state files logs marks undo)) (storeOf state) (journalOf state) 0 ≡ 0
-    → Sound (machineOf state files logs marks undo)
-sound-preserved state files logs marks undo e =
-    let m = machineOf state files logs marks undo in
-    let a = first-zero (sizes m) (m .store) (m .journal) 0 e in
-    record {
+sound-preserved : (state files logs marks undo : List ℕ) → firstTests (sizes (machineOf state files logs marks undo))
+    (storeOf state) (journalOf state) 0 ≡ 0 → Sound (machineOf state files logs marks undo)
+sound-preserved state files logs marks undo e = let m = machineOf state files logs marks undo in
+    let a = first-zero (sizes m) (m .store) (m .journal) 0 e in record {
       shaped = shaped state;
       journal = length-journal state;
       files = a .0 .files;
@@ -204,22 +160,16 @@ all-ready m ts minute budget a =
     all-both (λ t. leb t 7) (λ t. askedOf minute m .isOpen t && not (askedOf minute m .notReady t)) ts (a .numbers)
     (all-both (askedOf minute m .isOpen) (λ t. not (askedOf minute m .notReady t)) ts (a .isOpen) (a .ready))
 
-pub table-holds : (m : Machine) → Sound m → (ts : List ℕ) (minute budget : ℕ) → orderRefusal (askedOf minute m) ts minute budget
-    ≡ 0
-    → TableHolds m ts minute
-table-holds m sound ts minute budget e =
-    let a = passed (askedOf minute m) ts minute budget e in
-    let r = all-ready m ts minute budget a in
-    let d : distinct ts ≡ true = no-repeat ts (a .list) in
-    record {
+pub table-holds : (m : Machine) → Sound m → (ts : List ℕ) (minute budget : ℕ)
+    → orderRefusal (askedOf minute m) ts minute budget ≡ 0 → TableHolds m ts minute
+table-holds m sound ts minute budget e = let a = passed (askedOf minute m) ts minute budget e in
+    let r = all-ready m ts minute budget a in let d : distinct ts ≡ true = no-repeat ts (a .list) in record {
       grants = λ o h. grants-table m sound minute (a .daily) o (distinct-arranged ts o h d)
           (all-arranged (ready minute m) ts o h r);
-      short = λ f o h.
-          grants-table m sound minute (a .daily) o (distinct-arranged ts o h d) (all-arranged (ready minute m) ts o h r)
-          ∙ short-table m sound minute (a .daily) o
+      short = λ f o h. grants-table m sound minute (a .daily) o (distinct-arranged ts o h d)
+          (all-arranged (ready minute m) ts o h r) ∙ short-table m sound minute (a .daily) o
           (all-arranged _ ts o h (unfold free in all-both (ready minute m) (λ t. not (waits (txnIn m t))) ts r f));
-      stale = λ xs ys j h.
-          stale-table m sound minute (a .daily) xs ys j (distinct-arranged ts (xs ++ (j ∷ ys)) h d)
+      stale = λ xs ys j h. stale-table m sound minute (a .daily) xs ys j (distinct-arranged ts (xs ++ (j ∷ ys)) h d)
           (all-arranged (ready minute m) ts (xs ++ (j ∷ ys)) h r);
     }
   where
@@ -227,20 +177,17 @@ table-holds m sound ts minute budget e =
     no-repeat ts e = and-right (leb 1 (length ts) && leb (length ts) 8) _ (unfold isList in e)
 
 pub table-law : TableLaw
-table-law state files logs marks undo ts minute budget a =
-    table-holds (machineOf state files logs marks undo) (sound-preserved state files logs marks undo (a .admitted)) ts minute
-    budget (a .passed)
+table-law state files logs marks undo ts minute budget a = table-holds (machineOf state files logs marks undo)
+    (sound-preserved state files logs marks undo (a .admitted)) ts minute budget (a .passed)
 
 -- A state that meets 1 or 2 has no answer, and is left.
 refused-holds : (m : Machine) (n : ℕ) → firstTests (sizes m) (m .store) (m .journal) 0 ≡ suc n → BestOrderHolds m
 unfolding call passing refuseTurn
-refused-holds m n z =
-    record {
-      unchanged = λ ts minute budget. rw z refl;
-      answered = λ ts minute budget g k r e.
-          let f = sym (ap (λ (j : ℕ). passing j [] m (orderTurn ts minute budget m) .reply .answer) z) ∙ e in
-          absurd (answer-not-refused (ordered g k r) (suc n) tt (sym f));
-    }
+refused-holds m n z = record {
+  unchanged = λ ts minute budget. rw z refl;
+  answered = λ ts minute budget g k r e. let f = sym (ap (λ (j : ℕ). passing j [] m (orderTurn ts minute budget
+      m) .reply .answer) z) ∙ e in absurd (answer-not-refused (ordered g k r) (suc n) tt (sym f));
+}
 
 pub best-order-of-any : BestOrderOfAny
 best-order-of-any state files logs marks undo = pick (firstTests (sizes m) (m .store) (m .journal) 0) refl

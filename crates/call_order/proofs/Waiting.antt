@@ -1,45 +1,32 @@
 -- In a store reached from Fresh every descriptor that stands Deferred or Moved has a write without a place.
-use mathlib.Core.Bool.{Bool, true, false, cond, _&&_, _||_, or-true, false≢true, true≢false}
-use mathlib.Core.List.{List, [], _∷_, map}
+use mathlib.Core.{Bool.{Bool, true, false, cond, _&&_, _||_, or-true, false≢true, true≢false}, List.{List, [], _∷_, map}}
 use mathlib.Core.Path.{_≡_, refl, sym, ap, ap₂, _∙_, subst, subst⁻¹}
 use borrow.Author.Tests.{eqb-true, eq-eqb, le-leb}
-use lib.Dec.{leb, eqb}
-use lib.ListN.{length}
+use lib.{Dec.{leb, eqb}, ListN.length}
 use Prim.Native.Nat.{ℕ, zero, suc, _+_}
-use Rattle.standings.specs.declared.Standing.{Standing}
-use Rattle.standings.specs.declared.Standing.the-variants.{Untouched, Placed, Deferred, Moved, Known}
+use Rattle.standings.specs.declared.{Standing.{Standing, the-variants.{Untouched, Placed, Deferred, Moved, Known}}}
 use Rattle.standings.specs.Table.{afterSeek, afterWrite, afterRead, advance, settled, writePlace, mayWait, pointerSettles}
 use Rattle.standings.specs.Table.{offsetOf}
 use Rattle.refinement.proofs.Decoded.{some-one-more}
 use Rattle.spec.specs.Items.{Item, fileLength, Values, Prog, done, ask, measure, andThen, result}
 use Rattle.spec.specs.Transactions.{Txn, Write, empty, put, dirtied, placedAt, placeWrite, settle, Settled, past, all, settling}
-use Rattle.spec.specs.Reading.{gather}
-use Rattle.spec.specs.Places.{someWrite, noPlace, unplacedOn, unplaced}
-use Rattle.state.specs.Outcomes.{doneAnswer}
-use Rattle.admission.specs.FirstRefusal.{guarded, isNone, someBelow}
-use Rattle.admission.specs.Admission.{windowRefusal}
-use Rattle.windows.specs.Windows.{Windows}
-use Rattle.spec.specs.Machine.{Machine}
-use Rattle.spec.specs.Recovery.{runsAfter, Reached}
-use Rattle.spec.specs.Commits.{Setting}
-use Rattle.spec.specs.OrderReply.{hasUnplaced}
+use Rattle.spec.specs.{Reading.gather, Places.{someWrite, noPlace, unplacedOn, unplaced}, Machine.Machine}
+use Rattle.spec.specs.{Recovery.{runsAfter, Reached}, Commits.Setting, OrderReply.hasUnplaced}
 use Rattle.spec.specs.Messages.{Op, seek, write, getFilePointer, read, bufferOf, Call, begin, on, commit, abort, places}
 use Rattle.spec.specs.Messages.{setWindow, undoCommit, bestOrder}
 use Rattle.spec.specs.Steps.{Stepped, refuse, accept, check, orGivenBack, written, seekStep, writeStep, pointerStep}
-use Rattle.spec.specs.Steps.{settledByRead}
-use Rattle.spec.specs.Steps.{readSettled, readStep, step, refusesStale, refusedStale}
+use Rattle.spec.specs.Steps.{settledByRead, readSettled, readStep, step, refusesStale, refusedStale}
 use Rattle.spec.proofs.Abstract.AbstractStore.{UndoSaved, Seat, vacant, held, Saved, none, preserved, Abstract, startAbstract}
-use Rattle.spec.proofs.Abstract.AbstractStore.{AbstractTurn, turnedAway}
-use Rattle.spec.proofs.Abstract.AbstractStore.{withSeat, telling, abstractBegin, abstractStepped, abstractOn, touch, granting}
-use Rattle.spec.proofs.Abstract.AbstractStore.{abstractCommitted}
-use Rattle.spec.proofs.Abstract.AbstractStore.{abstractCommit, abstractAbort, abstractPlaces, windowed, abstractWindow, noneHeld}
-use Rattle.spec.proofs.Abstract.AbstractStore.{returned}
-use Rattle.spec.proofs.Abstract.AbstractStore.{abstractReturn, abstractUndo, seated, abstractBestOrder, abstractCall}
-use Rattle.spec.proofs.Abstract.AbstractStore.{abstractAfter}
-use Rattle.spec.proofs.Refinement.Relation.{heldBy, view}
-use Rattle.spec.proofs.Refinement.OrderTurn.{seat-open}
+use Rattle.spec.proofs.Abstract.AbstractStore.{AbstractTurn, turnedAway, withSeat, telling, abstractBegin, abstractStepped}
+use Rattle.spec.proofs.Abstract.AbstractStore.{abstractOn, touch, granting, abstractCommitted, abstractCommit, abstractAbort}
+use Rattle.spec.proofs.Abstract.AbstractStore.{abstractPlaces, windowed, abstractWindow, noneHeld, returned, abstractReturn}
+use Rattle.spec.proofs.Abstract.AbstractStore.{abstractUndo, seated, abstractBestOrder, abstractCall, abstractAfter}
+use Rattle.spec.proofs.Refinement.{Relation.{heldBy, view}, OrderTurn.seat-open}
 use Rattle.spec.proofs.Theorems.Serializability.{calls-agree, fresh-facts}
 use Rattle.spec.proofs.Theorems.Recovery.{resting-view, runs-from-fresh, runs-closed}
+use Rattle.state.specs.Outcomes.{doneAnswer}
+use Rattle.admission.specs.{FirstRefusal.{guarded, isNone, someBelow}, Admission.windowRefusal}
+use Rattle.windows.specs.Windows.{Windows}
 use Rattle.call_order.specs.OrderStatements.{txnIn, waits, NeverWaits}
 
 -- ---- what holds of every result of a program
@@ -110,18 +97,15 @@ write-waits d n (Known o) b h k = absurd (false≢true k)
 
 backed-written : (d : ℕ) (bytes : List ℕ) (x : Txn) → Backed x → Backed (written d bytes x)
 unfolding written put Backed unplaced unplacedOn
-backed-written d bytes x b e k =
-    some-one-more (unplacedOn (λ f. f) e) (x .writes)
-    (record { descriptor = d; place = writePlace (x .standing d); bytes = bytes })
-    ∙ pick (eqb e d) refl k
+backed-written d bytes x b e k = some-one-more (unplacedOn (λ f. f) e) (x .writes)
+    (record { descriptor = d; place = writePlace (x .standing d); bytes = bytes }) ∙ pick (eqb e d) refl k
   where
     w : Write
     w = record { descriptor = d; place = writePlace (x .standing d); bytes = bytes }
 
     pick : (c : Bool) → eqb e d ≡ c → mayWait (cond c (afterWrite (length bytes) (x .standing d)) (x .standing e)) ≡ true
         → waitsOn e (x .writes) || unplacedOn (λ f. f) e w ≡ true
-    pick true q j =
-        subst (λ (n : ℕ). waitsOn n (x .writes) || unplacedOn (λ f. f) n w ≡ true) (sym (eqb-true e d q))
+    pick true q j = subst (λ (n : ℕ). waitsOn n (x .writes) || unplacedOn (λ f. f) n w ≡ true) (sym (eqb-true e d q))
         (write-waits d (length bytes) (x .standing d) (waitsOn d (x .writes)) (b d) j)
     pick false q j = rw (b e j) refl
 
@@ -140,8 +124,7 @@ one-placed d c e w other = pick (eqb (w .descriptor) e) refl
   where
     pick : (b : Bool) → eqb (w .descriptor) e ≡ b
         → b && noPlace (cond (eqb (w .descriptor) d) (placedAt c (w .place)) (w .place)) ≡ b && noPlace (w .place)
-    pick true q =
-        ap (λ (a : Bool). noPlace (cond a (placedAt c (w .place)) (w .place)))
+    pick true q = ap (λ (a : Bool). noPlace (cond a (placedAt c (w .place)) (w .place)))
         (ap (λ (n : ℕ). eqb n d) (eqb-true (w .descriptor) e q) ∙ other)
     pick false q = refl
 
@@ -198,27 +181,22 @@ anything (measure f g) = λ n. anything (g n)
 
 backed-read : (fileOf : ℕ → ℕ) (d n : ℕ) (buffer : List ℕ) (y : Txn) → Backed y → Ever AfterStep (readSettled fileOf d n buffer y)
 unfolding readSettled
-backed-read fileOf d n buffer y b =
-    ever-then (λ bytes. Unit {0}) AfterStep (gather fileOf (y .writes) (fileOf d) (offsetOf (y .standing d)) n) _
-    (anything (gather fileOf (y .writes) (fileOf d) (offsetOf (y .standing d)) n))
+backed-read fileOf d n buffer y b = ever-then (λ bytes. Unit {0}) AfterStep (gather fileOf (y .writes) (fileOf d)
+    (offsetOf (y .standing d)) n) _ (anything (gather fileOf (y .writes) (fileOf d) (offsetOf (y .standing d)) n))
     (λ bytes u. backed-dirtied d (afterRead (length bytes) (y .standing d)) y (read-waits (length bytes) (y .standing d)) b)
 
 backed-step : (fileOf : ℕ → ℕ) (o : Op) (x : Txn) → Backed x → Ever AfterStep (step fileOf o x)
 unfolding step seekStep writeStep pointerStep readStep
-backed-step fileOf (seek d v) x b =
-    checked (leb d 15) 6 _ (checked (leb v 4096) 8 _
-    (backed-dirtied d (afterSeek v (x .standing d)) x (seek-waits v (x .standing d)) b))
+backed-step fileOf (seek d v) x b = checked (leb d 15) 6 _
+    (checked (leb v 4096) 8 _ (backed-dirtied d (afterSeek v (x .standing d)) x (seek-waits v (x .standing d)) b))
 backed-step fileOf (write d bytes) x b =
     checked (leb d 15) 6 _ (checked _ 9 _ (checked _ 10 _ (checked _ 11 _ (backed-written d bytes x b))))
-backed-step fileOf (getFilePointer d) x b =
-    checked (leb d 15) 6 _
+backed-step fileOf (getFilePointer d) x b = checked (leb d 15) 6 _
     (ever-then AfterSettling AfterStep (settling (cond (pointerSettles (x .standing d)) (d ∷ []) []) x) _
-    (backed-settling (cond (pointerSettles (x .standing d)) (d ∷ []) []) x b)
-    (given-back _ (λ y h. h)))
-backed-step fileOf (read d n buffer) x b =
-    checked (leb d 15) 6 _ (checked (leb n (length buffer)) 7 _
-    (ever-then AfterSettling AfterStep (settling (settledByRead fileOf d x) x) _ (backed-settling (settledByRead fileOf d x) x b)
-    (given-back _ (λ y h. backed-read fileOf d n buffer y h))))
+    (backed-settling (cond (pointerSettles (x .standing d)) (d ∷ []) []) x b) (given-back _ (λ y h. h)))
+backed-step fileOf (read d n buffer) x b = checked (leb d 15) 6 _
+    (checked (leb n (length buffer)) 7 _ (ever-then AfterSettling AfterStep (settling (settledByRead fileOf d x) x) _
+    (backed-settling (settledByRead fileOf d x) x b) (given-back _ (λ y h. backed-read fileOf d n buffer y h))))
 
 -- ---- the abstract store
 
@@ -259,9 +237,7 @@ module _ (s : Abstract) (b : BackedAll s) where
   backed-on : (t : ℕ) (o : Op) (x : Seat) → BackedSeat x → BackedAll (abstractOn t o x s .after)
   unfolding abstractOn turnedAway
   backed-on t o vacant k = b
-  backed-on t o (held h) k =
-      backed-stepped t o h _ _
-      (backed-turned (h .stale) o _
+  backed-on t o (held h) k = backed-stepped t o h _ _ (backed-turned (h .stale) o _
       (ever-result AfterStep (s .value) (step (s .fileOf) o (h .txn)) (backed-step (s .fileOf) o (h .txn) k)))
 
   backed-begin : (t : ℕ) (x : Seat) → BackedAll (abstractBegin t x s .after)
@@ -378,16 +354,13 @@ backed-start F v ws x = λ u. tt
 
 -- After runs nothing is open, and calls keep it.
 backed-view : (m : Machine) → Reached m → BackedAll (view m)
-backed-view m r =
-    let n = runsAfter (r .runs) (r .first) in
+backed-view m r = let n = runsAfter (r .runs) (r .first) in
     let sound = runs-from-fresh (r .numbers) (r .first) (r .made) (r .runs) .second in
     let closed = runs-closed (r .runs) (r .first) (fresh-facts (r .numbers) (r .first) (r .made) .closed) in
-    let e = ap view (r .by) ∙ calls-agree (r .calls) n sound .state ∙ ap (abstractAfter (r .calls)) (resting-view n closed) in
-    subst⁻¹ (λ (s : Abstract). BackedAll s) e (backed-after (r .calls) _ (backed-start _ _ _ _))
+    let e = ap view (r .by) ∙ calls-agree (r .calls) n sound .state ∙ ap (abstractAfter (r .calls))
+    (resting-view n closed) in subst⁻¹ (λ (s : Abstract). BackedAll s) e (backed-after (r .calls) _ (backed-start _ _ _ _))
 
 pub never-waits : NeverWaits
 unfolding view heldBy
-never-waits m r t l begun e =
-    let b : BackedSeat (held (heldBy m t)) =
-    subst BackedSeat (seat-open m t (rw (le-leb t 7 l, begun) refl)) (backed-view m r t) in
-    not-waiting (txnIn m t) b e
+never-waits m r t l begun e = let b : BackedSeat (held (heldBy m t)) =
+    subst BackedSeat (seat-open m t (rw (le-leb t 7 l, begun) refl)) (backed-view m r t) in not-waiting (txnIn m t) b e

@@ -1,20 +1,15 @@
 -- `call_order::follow::fits` meets its contract. The loop's invariant: whether the advances passed fit.
-use mathlib.Core.List.{List}
-use mathlib.Core.Bool.{Bool}
-use mathlib.Core.Path.{_≡_, ap, ap₂, _∙_}
+use mathlib.Core.{List.List, Bool.Bool, Path.{_≡_, ap, ap₂, _∙_}}
 use borrow.Author.Needs.{needs}
-use lib.Dec.{leb}
-use lib.ListN.{getD}
+use lib.{Dec.leb, ListN.getD}
 use native.Mathlib.Omega.{arith}
 use Prim.Native.Nat.{ℕ, _+_, _-_, _≤_}
 use Rattle.limits.specs.Limits.{descriptorCount}
 use Rattle.standings.specs.Table.{advance}
-use Rattle.state.specs.StoreMeaning.{standingAt}
-use Rattle.state.specs.Layout.{transactionOf}
+use Rattle.state.specs.{StoreMeaning.standingAt, Layout.transactionOf}
 use Rattle.admission.specs.FirstRefusal.{below}
 use Rattle.buffers.proofs.BelowLaws.{none-yet, one-more}
 use Rattle.call_order.specs.OrderStatements.{fitsAt}
-use Rattle.call_order.proofs.follow.fits.Statement.{statement}
 use Rattle.call_order.proofs.follow.fits.Tie as tie
 
 abbrev fits-at : List ℕ → ℕ → List ℕ → ℕ → Bool
@@ -26,12 +21,8 @@ Inv-loop state t offsets good₀ d₀ good d = (d ≤ descriptorCount) × (good 
 abbrev μ-loop : tie.MeasureT-loop
 μ-loop state t offsets good₀ d₀ good d = descriptorCount - d
 
-loop-holds : tie.Need-loop-holds Inv-loop μ-loop
-loop-holds c = (omega arith, none-yet _)
-
 loop-again : tie.Need-loop-again Inv-loop μ-loop
-loop-again c =
-    let l = c .before .before .before .before .before .loop in
+loop-again c = let l = c .before .before .before .before .before .loop in
     let advanced = c .wide2 .ensures .0 ∙ c .before .advance .ensures
     ∙ ap advance (c .before .before .before .standing-at .ensures) in (
       omega arith,
@@ -40,27 +31,10 @@ loop-again c =
 
 returns : tie.Need-returns Inv-loop μ-loop
 unfolding fitsAt
-returns c =
-    let l = c .before .loop in
-    let a = c .before .before .args in
-    let e : l .d ≡ 16 = omega arith in
+returns c = let l = c .before .loop in let a = c .before .before .args in let e : l .d ≡ 16 = omega arith in
     l .inv .1 ∙ ap (below (fits-at (a .state .now) (a .t) (a .t3))) e
 
-pub fits-spec : {M : Type 1} → statement M
-fits-spec =
-    tie.close
-    (tie.spec
-    Inv-loop
-    μ-loop
-    loop-holds
-    (λ c κs. search needs)
-    (λ c. search needs)
-    (λ c. search needs)
-    (λ c κs. search needs)
-    (λ c κs. search needs)
-    (λ c κs. search needs)
-    (λ c. search needs)
-    (λ c. search needs)
-    (λ c. search needs)
-    loop-again
-    returns)
+pub fits-spec : {M : Type 1} → Rattle.call_order.proofs.follow.fits.Statement.statement M
+fits-spec = tie.close (tie.spec Inv-loop μ-loop (λ c. (omega arith, none-yet _)) (λ c κs. search needs)
+    (λ c. search needs) (λ c. search needs) (λ c κs. search needs) (λ c κs. search needs)
+    (λ c κs. search needs) (λ c. search needs) (λ c. search needs) (λ c. search needs) loop-again returns)

@@ -1,17 +1,14 @@
 -- `call_order::follow::offsets_of` meets its contract. The loop's invariant: the offsets read so far, and zeros after them.
-use mathlib.Core.List.{List}
-use mathlib.Core.Path.{_≡_, refl, sym, ap, _∙_}
+use mathlib.Core.{List.List, Path.{_≡_, refl, sym, ap, _∙_}}
 use lib.ListN.{length, getD, set, replicate}
 use Prim.Native.Nat.{ℕ, _-_, _≤_}
 use native.Mathlib.Omega.{arith}
 use borrow.Author.Needs.{needs}
 use Rattle.limits.specs.Limits.{descriptorCount}
 use Rattle.buffers.specs.Parts.{tabulate}
-use Rattle.state.specs.Layout.{storeOf}
-use Rattle.state.proofs.Filled.{filled, filled-none, filled-set, filled-all}
+use Rattle.state.{specs.Layout.storeOf, proofs.Filled.{filled, filled-none, filled-set, filled-all}}
 use Rattle.spec.proofs.Refinement.IndexedLists.{tabulate-getD}
 use Rattle.refinement.proofs.Shapes.{shaped}
-use Rattle.call_order.proofs.follow.offsets_of.Statement.{statement}
 use Rattle.call_order.proofs.follow.offsets_of.Tie as tie
 
 -- The committed offset of descriptor d.
@@ -29,37 +26,18 @@ loop-holds : tie.Need-loop-holds Inv-loop μ-loop
 loop-holds c = (omega arith, sym (filled-none (committed (c .args .state .now)) _), refl)
 
 loop-again : tie.Need-loop-again Inv-loop μ-loop
-loop-again c =
-    let l = c .before .before .loop in
-    let state = c .before .before .before .args .state .now in (
-      omega arith,
-      ap (λ (xs : List ℕ). set xs (l .d) (c .offset-at .result)) (l .inv .1)
-          ∙ filled-set (committed state) _ (l .d) (c .offset-at .result) (omega arith) (c .offset-at .ensures),
-      l .inv .2,
-    )
+loop-again c = let l = c .before .before .loop in let state = c .before .before .before .args .state .now in (
+  omega arith,
+  ap (λ (xs : List ℕ). set xs (l .d) (c .offset-at .result)) (l .inv .1)
+      ∙ filled-set (committed state) _ (l .d) (c .offset-at .result) (omega arith) (c .offset-at .ensures),
+  l .inv .2,
+)
 
 returns : tie.Need-returns Inv-loop μ-loop
-returns c =
-    let l = c .before .loop in
-    let state = c .before .before .args .state .now in
-    let e : l .d ≡ 16 = omega arith in
-    l .inv .1
-    ∙ ap (filled (committed state) (replicate 16 0)) e
-    ∙ filled-all (committed state) (replicate 16 0) 16 (omega arith)
-    ∙ ap (tabulate (committed state)) (sym (shaped state .offsets))
-    ∙ tabulate-getD (storeOf state .offsets) 0
+returns c = let l = c .before .loop in let state = c .before .before .args .state .now in let e : l .d ≡ 16 = omega arith in
+    l .inv .1 ∙ ap (filled (committed state) (replicate 16 0)) e ∙ filled-all (committed state) (replicate 16 0) 16
+    (omega arith) ∙ ap (tabulate (committed state)) (sym (shaped state .offsets)) ∙ tabulate-getD (storeOf state .offsets) 0
 
-pub offsets-of-spec : {M : Type 1} → statement M
-offsets-of-spec =
-    tie.close
-    (tie.spec
-    Inv-loop
-    μ-loop
-    loop-holds
-    (λ c κs. search needs)
-    (λ c. search needs)
-    (λ c. search needs)
-    (λ c. search needs)
-    (λ c. search needs)
-    loop-again
-    returns)
+pub offsets-of-spec : {M : Type 1} → Rattle.call_order.proofs.follow.offsets_of.Statement.statement M
+offsets-of-spec = tie.close (tie.spec Inv-loop μ-loop loop-holds (λ c κs. search needs) (λ c. search needs)
+    (λ c. search needs) (λ c. search needs) (λ c. search needs) loop-again returns)

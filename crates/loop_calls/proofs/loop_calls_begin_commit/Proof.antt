@@ -1,9 +1,5 @@
-use lib.ListN.{length}
-use Prim.Native.Nat.{ℕ, _+_, _-_, _*_, _≤_, _<_}
-use mathlib.Core.Path.{_≡_}
-use native.Mathlib.Omega.{arith}
+use Prim.Native.Nat.{_-_, _≤_}
 use borrow.Author.Needs.{needs}
-use Rattle.loop_calls.proofs.loop_calls_begin_commit.Statement.{statement}
 use Rattle.loop_calls.proofs.loop_calls_begin_commit.Tie as tie
 
 abbrev Inv-loop : tie.InvT-loop
@@ -12,45 +8,7 @@ Inv-loop state₀ files₀ logs marks₀ undo₀ t d v n sum₀ i₀ state files
 abbrev μ-loop : tie.MeasureT-loop
 μ-loop state₀ files₀ logs marks₀ undo₀ t d v n sum₀ i₀ state files marks undo sum i = n - i
 
-loop-holds : tie.Need-loop-holds Inv-loop μ-loop
-loop-holds c = search needs
-
-add-i : tie.Need-add-i Inv-loop μ-loop
-add-i c = search needs
-
-begin-requires : tie.Need-begin-requires Inv-loop μ-loop
-begin-requires c κs = search needs
-
-added-requires : tie.Need-added-requires Inv-loop μ-loop
-added-requires c κs = search needs
-
-commit-requires : tie.Need-commit-requires Inv-loop μ-loop
-commit-requires c κs = search needs
-
-added-requires-2 : tie.Need-added-requires-2 Inv-loop μ-loop
-added-requires-2 c κs = search needs
-
-loop-less : tie.Need-loop-less Inv-loop μ-loop
-loop-less c = search needs
-
-loop-again : tie.Need-loop-again Inv-loop μ-loop
-loop-again c = search needs
-
-returns : tie.Need-returns Inv-loop μ-loop
-returns c = search needs
-
-pub loop-calls-begin-commit-spec : {M : Type 1} → statement M
-loop-calls-begin-commit-spec =
-    tie.close
-    (tie.spec
-    Inv-loop
-    μ-loop
-    loop-holds
-    add-i
-    begin-requires
-    added-requires
-    commit-requires
-    added-requires-2
-    loop-less
-    loop-again
-    returns)
+pub loop-calls-begin-commit-spec : {M : Type 1} → Rattle.loop_calls.proofs.loop_calls_begin_commit.Statement.statement M
+loop-calls-begin-commit-spec = tie.close (tie.spec Inv-loop μ-loop (λ c. search needs) (λ c. search needs)
+    (λ c κs. search needs) (λ c κs. search needs) (λ c κs. search needs) (λ c κs. search needs)
+    (λ c. search needs) (λ c. search needs) (λ c. search needs))

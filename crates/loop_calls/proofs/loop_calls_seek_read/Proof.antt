@@ -1,9 +1,5 @@
-use lib.ListN.{length}
-use Prim.Native.Nat.{ℕ, _+_, _-_, _*_, _≤_, _<_}
-use mathlib.Core.Path.{_≡_}
-use native.Mathlib.Omega.{arith}
+use Prim.Native.Nat.{_-_, _≤_}
 use borrow.Author.Needs.{needs}
-use Rattle.loop_calls.proofs.loop_calls_seek_read.Statement.{statement}
 use Rattle.loop_calls.proofs.loop_calls_seek_read.Tie as tie
 
 abbrev Inv-loop : tie.InvT-loop
@@ -12,45 +8,7 @@ Inv-loop state₀ files logs marks₀ undo reader₀ t d v n sum₀ i₀ state m
 abbrev μ-loop : tie.MeasureT-loop
 μ-loop state₀ files logs marks₀ undo reader₀ t d v n sum₀ i₀ state marks reader sum i = n - i
 
-loop-holds : tie.Need-loop-holds Inv-loop μ-loop
-loop-holds c = search needs
-
-add-i : tie.Need-add-i Inv-loop μ-loop
-add-i c = search needs
-
-seek-requires : tie.Need-seek-requires Inv-loop μ-loop
-seek-requires c κs = search needs
-
-added-requires : tie.Need-added-requires Inv-loop μ-loop
-added-requires c κs = search needs
-
-read-requires : tie.Need-read-requires Inv-loop μ-loop
-read-requires c κs = search needs
-
-added-requires-2 : tie.Need-added-requires-2 Inv-loop μ-loop
-added-requires-2 c κs = search needs
-
-loop-less : tie.Need-loop-less Inv-loop μ-loop
-loop-less c = search needs
-
-loop-again : tie.Need-loop-again Inv-loop μ-loop
-loop-again c = search needs
-
-returns : tie.Need-returns Inv-loop μ-loop
-returns c = search needs
-
-pub loop-calls-seek-read-spec : {M : Type 1} → statement M
-loop-calls-seek-read-spec =
-    tie.close
-    (tie.spec
-    Inv-loop
-    μ-loop
-    loop-holds
-    add-i
-    seek-requires
-    added-requires
-    read-requires
-    added-requires-2
-    loop-less
-    loop-again
-    returns)
+pub loop-calls-seek-read-spec : {M : Type 1} → Rattle.loop_calls.proofs.loop_calls_seek_read.Statement.statement M
+loop-calls-seek-read-spec = tie.close (tie.spec Inv-loop μ-loop (λ c. search needs) (λ c. search needs)
+    (λ c κs. search needs) (λ c κs. search needs) (λ c κs. search needs) (λ c κs. search needs)
+    (λ c. search needs) (λ c. search needs) (λ c. search needs))

@@ -1,25 +1,15 @@
 -- What a line of a log comes to, by what was parsed of it. Assumes nothing.
-use mathlib.Core.Bool.{Bool, true, false}
-use mathlib.Core.List.{List}
-use mathlib.Core.Path.{_≡_, refl, sym, ap, _∙_}
+use mathlib.Core.{Bool.{Bool, true, false}, List.List, Path.{_≡_, refl, sym, ap, _∙_}}
 use denote.Ref.{now}
-use lib.Dec.{eqb}
-use lib.IntN.{ℤ, pos}
+use lib.{Dec.eqb, IntN.{ℤ, pos}}
 use Prim.Native.Nat.{ℕ}
-use Rattle.state.specs.declared.outcomes.Outcome.{Outcome}
-use Rattle.state.specs.Outcomes.{doneAnswer, said}
-use Rattle.spec.specs.Machine.{Machine}
-use Rattle.spec.specs.Calls.{Turn, answerWith}
-use Rattle.spec.specs.Promises.{Lent, handed, handedBack, LeftAsFound}
-use Rattle.text_log.specs.LogLines.{callIn}
-use Rattle.text_log.specs.Reading.{logEntryOf, Says}
-use Rattle.text_log.specs.declared.parsing.ParsedEntry.{ParsedEntry}
-use Rattle.text_log.specs.declared.parsing.ParsedEntry.the-variants.{Another, Comment, Expects}
-use Rattle.text_log.specs.declared.parsing.ParsedEntry.the-variants.{Version, Fresh, Asks, Order}
+use Rattle.state.specs.{declared.outcomes.Outcome.Outcome, Outcomes.{doneAnswer, said}}
+use Rattle.spec.specs.{Machine.Machine, Calls.{Turn, answerWith}, Promises.{Lent, handed, handedBack, LeftAsFound}}
+use Rattle.text_log.specs.{LogLines.callIn, Reading.{logEntryOf, Says}, declared.parsing.ParsedEntry.ParsedEntry}
+use Rattle.text_log.specs.declared.parsing.ParsedEntry.the-variants.{Another, Comment, Expects, Version, Fresh, Asks, Order}
 use Rattle.requests.specs.declared.Request.{Request}
 use Rattle.text_replay.specs.Performing.{turnOf, Replies}
-use Rattle.c_codes.specs.Codes.{codeOf}
-use Rattle.c_codes.proofs.CodeLaws.{answers}
+use Rattle.c_codes.{specs.Codes.codeOf, proofs.CodeLaws.answers}
 use Rattle.c_replay.specs.ReplayLine.{asksNothing, AsksNothing, lineRule, ReplaysLine}
 
 -- ---- whether a line asks for nothing
@@ -74,21 +64,17 @@ module _ (line : List ℕ) (state files logs marks undo : Lent) (entry : ParsedE
   pub nothing-replayed : b ≡ true → handedBack state files logs marks undo ≡ m → now (state .exit) ≡ now (state .entry)
       → ReplaysLine line state files logs marks undo (pos 0)
   unfolding answerWith codeOf
-  nothing-replayed e back left =
-      let w = nothing-turn e in
-      record {
-        answer = sym (ap (λ (x : Turn). codeOf (x .reply .answer)) w);
-        machine = back ∙ sym (ap (λ (x : Turn). x .after) w);
-        buffer = refl;
-        left = λ n q other. left;
-      }
+  nothing-replayed e back left = let w = nothing-turn e in record {
+    answer = sym (ap (λ (x : Turn). codeOf (x .reply .answer)) w);
+    machine = back ∙ sym (ap (λ (x : Turn). x .after) w);
+    buffer = refl;
+    left = λ n q other. left;
+  }
 
-  pub call-replayed : (o : Outcome) (r : ℤ) (buffer : List ℕ) → b ≡ false
-      → Replies (turnOf (logEntryOf entry bytes) m) o (handedBack state files logs marks undo) buffer
-      → LeftAsFound o (now (state .entry)) (now (state .exit)) → r ≡ codeOf (said o)
-      → ReplaysLine line state files logs marks undo r
-  call-replayed o r buffer e h left is =
-      let w = call-turn e in
+  pub call-replayed : (o : Outcome) (r : ℤ) (buffer : List ℕ) → b ≡ false → Replies (turnOf (logEntryOf entry bytes) m) o
+      (handedBack state files logs marks undo) buffer → LeftAsFound o (now (state .entry)) (now (state .exit))
+      → r ≡ codeOf (said o) → ReplaysLine line state files logs marks undo r
+  call-replayed o r buffer e h left is = let w = call-turn e in
       answers (lineRule (callIn line)) state files logs marks undo o _ r (
         record {
           outcome = h .answer ∙ sym (ap (λ (x : Turn). x .reply .answer) w);
@@ -96,5 +82,4 @@ module _ (line : List ℕ) (state files logs marks undo : Lent) (entry : ParsedE
           reader = refl;
         },
         left,
-      )
-      is
+      ) is

@@ -3,8 +3,7 @@ use mathlib.Core.List.{List, [], _∷_, _++_}
 use native.Mathlib.Omega.{arith}
 use lib.ListN.{length}
 use Prim.Native.Nat.{ℕ, _+_, _≤_}
-use Rattle.text_numerals.specs.Put.{Put}
-use Rattle.text_numerals.proofs.PutLaws.{then}
+use Rattle.text_numerals.{specs.Put.Put, proofs.PutLaws.then}
 use Rattle.text_log.specs.Answers.{expectation}
 
 pub headed : {b m a z : List ℕ} {e f g : ℕ} (text : List ℕ) → length text + 3 ≤ length b → Put b 0 (61 ∷ (32 ∷ [])) m e

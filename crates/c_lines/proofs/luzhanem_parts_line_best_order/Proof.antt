@@ -9,8 +9,4 @@ unfolding eventLine loggedPart
 returns c = c .put-order .ensures
 
 pub luzhanem-parts-line-best-order-spec : {M : Type 1} → statement M
-luzhanem-parts-line-best-order-spec =
-    tie.close
-    (tie.spec
-    (λ c κs. search needs)
-    returns)
+luzhanem-parts-line-best-order-spec = tie.close (tie.spec (λ c κs. search needs) returns)

@@ -1,6 +1,5 @@
 -- `luzhanem_parts_line_set_window` meets its contract: the line that `put_call` puts.
-use Rattle.text_log.specs.Recorded.{requestLine, recordedLine}
-use Rattle.text_log.specs.Replay.{loggedPart, eventLine}
+use Rattle.text_log.specs.{Recorded.{requestLine, recordedLine}, Replay.{loggedPart, eventLine}}
 use Rattle.requests.specs.Requests.{callOf}
 use borrow.Author.Needs.{needs}
 use Rattle.c_lines.proofs.luzhanem_parts_line_set_window.Statement.{statement}
@@ -11,9 +10,4 @@ unfolding eventLine loggedPart recordedLine requestLine callOf
 returns c = c .put-call .ensures
 
 pub luzhanem-parts-line-set-window-spec : {M : Type 1} → statement M
-luzhanem-parts-line-set-window-spec =
-    tie.close
-    (tie.spec
-    (λ c. search needs)
-    (λ c κs. search needs)
-    returns)
+luzhanem-parts-line-set-window-spec = tie.close (tie.spec (λ c. search needs) (λ c κs. search needs) returns)

@@ -1,11 +1,9 @@
 -- `luzhanem_parts_line_done` meets its contract.
-use native.Mathlib.Omega.{arith}
-use borrow.Author.Tests.{lt-ltb, le-ltb}
+use borrow.Author.{Tests.{lt-ltb, le-ltb}, Needs.needs}
 use Rattle.state.specs.Outcomes.{said}
 use Rattle.text_answers.specs.Printed.{spelled}
 use Rattle.text_log.specs.Answers.{answerText}
 use Rattle.c_lines.specs.Lines.{saidBy, spelledLine, answerLine}
-use borrow.Author.Needs.{needs}
 use Rattle.c_lines.proofs.answers.luzhanem_parts_line_done.Statement.{statement}
 use Rattle.c_lines.proofs.answers.luzhanem_parts_line_done.Tie as tie
 
@@ -20,10 +18,4 @@ returns-2 c = rw (lt-ltb (c .before .before .before .before .args .r) 32768 (c .
 
 pub luzhanem-parts-line-done-spec : {M : Type 1} → statement M
 luzhanem-parts-line-done-spec =
-    tie.close
-    (tie.spec
-    (λ c κs. search needs)
-    returns
-    (λ c. search needs)
-    (λ c κs. search needs)
-    returns-2)
+    tie.close (tie.spec (λ c κs. search needs) returns (λ c. search needs) (λ c κs. search needs) returns-2)

@@ -1,14 +1,11 @@
 -- The number at each place of an image.
-use mathlib.Core.List.{List}
-use mathlib.Core.Path.{_≡_, refl}
+use mathlib.Core.{List.List, Path.{_≡_, refl}}
 use borrow.Author.Tests.{lt-ltb, le-ltb}
 use lib.ListN.{getD}
 use native.Mathlib.Omega.{arith}
 use Prim.Native.Nat.{ℕ, _-_, _≤_, _<_}
 use Rattle.standings.specs.Table.{placeNumber}
-use Rattle.state.specs.declared.StoreMeaning.{StoreMeaning}
-use Rattle.state.specs.StoreMeaning.{windowAt}
-use Rattle.state.specs.Updates.{flagNumber}
+use Rattle.state.specs.{declared.StoreMeaning.StoreMeaning, StoreMeaning.windowAt, Updates.flagNumber}
 use Rattle.images.specs.Images.{grantRecord, holderOf, recordNumber, grantNumber, tableNumber, numberOf}
 
 module _ (s : StoreMeaning) (journal : List ℕ) where
@@ -35,13 +32,8 @@ module _ (s : StoreMeaning) (journal : List ℕ) where
 
     pub offset-number : 17 ≤ i → i < 33 → numberOf s journal i ≡ getD (s .offsets) (i - 17) 0
     unfolding numberOf tableNumber
-    offset-number l h = rw (
-      lt-ltb i 57 (omega arith),
-      le-ltb i 1 (omega arith),
-      le-ltb i 17 (omega arith),
-      lt-ltb i 33
-          (omega arith),
-    )
+    offset-number l h =
+        rw (lt-ltb i 57 (omega arith), le-ltb i 1 (omega arith), le-ltb i 17 (omega arith), lt-ltb i 33 (omega arith))
 
     pub length-number : 33 ≤ i → i < 41 → numberOf s journal i ≡ getD (s .lengths) (i - 33) 0
     unfolding numberOf tableNumber
@@ -49,8 +41,7 @@ module _ (s : StoreMeaning) (journal : List ℕ) where
       lt-ltb i 57 (omega arith),
       le-ltb i 1 (omega arith),
       le-ltb i 17 (omega arith),
-      le-ltb i 33
-          (omega arith),
+      le-ltb i 33 (omega arith),
       lt-ltb i 41 (omega arith),
     )
 
@@ -60,8 +51,7 @@ module _ (s : StoreMeaning) (journal : List ℕ) where
       lt-ltb i 57 (omega arith),
       le-ltb i 1 (omega arith),
       le-ltb i 17 (omega arith),
-      le-ltb i 33
-          (omega arith),
+      le-ltb i 33 (omega arith),
       le-ltb i 41 (omega arith),
       lt-ltb i 49 (omega arith),
     )
@@ -72,8 +62,7 @@ module _ (s : StoreMeaning) (journal : List ℕ) where
       lt-ltb i 57 (omega arith),
       le-ltb i 1 (omega arith),
       le-ltb i 17 (omega arith),
-      le-ltb i 33
-          (omega arith),
+      le-ltb i 33 (omega arith),
       le-ltb i 41 (omega arith),
       le-ltb i 49 (omega arith),
     )
@@ -84,8 +73,7 @@ module _ (s : StoreMeaning) (journal : List ℕ) where
       le-ltb i 57 (omega arith),
       le-ltb i 58 (omega arith),
       le-ltb i 59 (omega arith),
-      le-ltb i 60
-          (omega arith),
+      le-ltb i 60 (omega arith),
       lt-ltb i 76 (omega arith),
     )
 
@@ -95,8 +83,7 @@ module _ (s : StoreMeaning) (journal : List ℕ) where
       le-ltb i 57 (omega arith),
       le-ltb i 58 (omega arith),
       le-ltb i 59 (omega arith),
-      le-ltb i 60
-          (omega arith),
+      le-ltb i 60 (omega arith),
       le-ltb i 76 (omega arith),
       lt-ltb i 84 (omega arith),
     )
@@ -107,8 +94,7 @@ module _ (s : StoreMeaning) (journal : List ℕ) where
       le-ltb i 57 (omega arith),
       le-ltb i 58 (omega arith),
       le-ltb i 59 (omega arith),
-      le-ltb i 60
-          (omega arith),
+      le-ltb i 60 (omega arith),
       le-ltb i 76 (omega arith),
       le-ltb i 84 (omega arith),
       lt-ltb i 148 (omega arith),
@@ -121,13 +107,11 @@ module _ (s : StoreMeaning) (journal : List ℕ) where
       le-ltb i 57 (omega arith),
       le-ltb i 58 (omega arith),
       le-ltb i 59 (omega arith),
-      le-ltb i 60
-          (omega arith),
+      le-ltb i 60 (omega arith),
       le-ltb i 76 (omega arith),
       le-ltb i 84 (omega arith),
       le-ltb i 148 (omega arith),
-      lt-ltb i 212
-          (omega arith),
+      lt-ltb i 212 (omega arith),
     )
 
     pub record-length-number : 212 ≤ i → i < 276 → numberOf s journal i ≡ grantRecord (s .undo .used .records) journal
@@ -137,11 +121,9 @@ module _ (s : StoreMeaning) (journal : List ℕ) where
       le-ltb i 57 (omega arith),
       le-ltb i 58 (omega arith),
       le-ltb i 59 (omega arith),
-      le-ltb i 60
-          (omega arith),
+      le-ltb i 60 (omega arith),
       le-ltb i 76 (omega arith),
       le-ltb i 84 (omega arith),
       le-ltb i 148 (omega arith),
-      le-ltb i 212
-          (omega arith),
+      le-ltb i 212 (omega arith),
     )

@@ -1,20 +1,15 @@
 -- Two records of one meaning have the same numbers, flags that are not set and Known at 0 aside: each number is read off the
 -- meaning by the layout.
-use mathlib.Core.List.{List}
-use mathlib.Core.Path.{_≡_, refl, sym, ap, _∙_}
+use mathlib.Core.{List.List, Path.{_≡_, refl, sym, ap, _∙_}}
 use lib.ListN.{getD}
-use native.Mathlib.Numerals.{add-one}
-use native.Mathlib.Omega.{arith}
+use native.Mathlib.{Numerals.add-one, Omega.arith}
 use Prim.Native.Nat.{ℕ, zero, suc, _+_, _-_, _*_, _<_, max}
 use Rattle.buffers.proofs.TableLaws.{getD-tabulate}
 use Rattle.counters.specs.declared.Used.{Used}
-use Rattle.windows.specs.declared.Window.{Window}
-use Rattle.windows.specs.Windows.{window}
+use Rattle.windows.specs.{declared.Window.Window, Windows.window}
 use Rattle.standings.specs.declared.Standing.{Standing}
-use Rattle.state.specs.declared.StoreMeaning.{StoreMeaning}
-use Rattle.state.specs.StoreMeaning.{transaction, standingAt, dirtyAt, windowAt}
-use Rattle.state.specs.Layout.{standingOf, storeOf, journalOf}
-use Rattle.state.specs.Updates.{firstNumber, secondNumber}
+use Rattle.state.specs.{declared.StoreMeaning.StoreMeaning, StoreMeaning.{transaction, standingAt, dirtyAt, windowAt}}
+use Rattle.state.specs.{Layout.{standingOf, storeOf, journalOf}, Updates.{firstNumber, secondNumber}}
 use Rattle.c_images.specs.LayoutNumber.{NumberedLayout, recordsOfGrant}
 use Rattle.c_images.specs.FixedNumbers.{SameStanding, SameNumbers, MeaningFixes}
 use Rattle.c_images.proofs.Layouts.{layout-is-numbered}
@@ -53,13 +48,11 @@ first-known zero (suc (suc n)) = refl
 first-known (suc o) (suc (suc n)) = ap (λ (k : ℕ). max k 1) (add-one o)
 
 pair-same : (a b c d : ℕ) → standingOf a b ≡ standingOf c d → SameStanding a b c d
-pair-same a b c d e =
-    let second = sym (second-back a b) ∙ ap secondNumber e ∙ second-back c d in
-    record {
-      second = second;
-      first = λ h. sym (first-back a b h) ∙ ap firstNumber e ∙ first-back c d (λ q. h (second ∙ q));
-      firstOfKnown = sym (first-known a b) ∙ ap (λ (z : Standing). max (firstNumber z) 1) e ∙ first-known c d;
-    }
+pair-same a b c d e = let second = sym (second-back a b) ∙ ap secondNumber e ∙ second-back c d in record {
+  second = second;
+  first = λ h. sym (first-back a b h) ∙ ap firstNumber e ∙ first-back c d (λ q. h (second ∙ q));
+  firstOfKnown = sym (first-known a b) ∙ ap (λ (z : Standing). max (firstNumber z) 1) e ∙ first-known c d;
+}
 
 -- ---- all numbers
 
@@ -83,37 +76,32 @@ module _ (r s : List ℕ) (e : storeOf r ≡ storeOf s) where
 
   numbers-same : journalOf r ≡ journalOf s → SameNumbers r s
   unfolding journalOf
-  numbers-same f =
-      record {
-        records =
-            λ i h. sym (getD-tabulate (λ k. getD r k 0) 1728 i 0 h) ∙ ap (λ (j : List ℕ). getD j i 0) f
-            ∙ getD-tabulate (λ k. getD s k 0) 1728 i 0 h;
-        standings =
-            λ t d h g. pair-same (getD r (1728 + 8 * d + t) 0) (getD r (1856 + 8 * d + t) 0) (getD s (1728 + 8 * d + t) 0)
-            (getD s (1856 + 8 * d + t) 0)
-            (sym (l .standings t d h g) ∙ ap (λ (x : StoreMeaning). standingAt (transaction x t) d) e ∙ m .standings t d h g);
-        begun = λ t h. sym (l .begun t h) ∙ ap (λ (x : StoreMeaning). transaction x t .begun) e ∙ m .begun t h;
-        stale = λ t h. sym (l .stale t h) ∙ ap (λ (x : StoreMeaning). transaction x t .stale) e ∙ m .stale t h;
-        lengthsSighted =
-            λ t h. sym (l .lengthsSighted t h) ∙ ap (λ (x : StoreMeaning). transaction x t .lengthmarks) e
-            ∙ m .lengthsSighted t h;
-        dirty =
-            λ t d h g. sym (l .dirty t d h g) ∙ ap (λ (x : StoreMeaning). dirtyAt (transaction x t) d) e ∙ m .dirty t d h g;
-        recordsUsed = λ t h. ap (λ (u : Used). u .records) (used-same t h);
-        bytesUsed = λ t h. ap (λ (u : Used). u .bytes) (used-same t h);
-        files = λ d h. sym (l .files d h) ∙ ap (λ (x : StoreMeaning). getD (x .filenumbers) d 0) e ∙ m .files d h;
-        offsets = λ d h. sym (l .offsets d h) ∙ ap (λ (x : StoreMeaning). getD (x .offsets) d 0) e ∙ m .offsets d h;
-        lengths = λ g h. sym (l .lengths g h) ∙ ap (λ (x : StoreMeaning). getD (x .lengths) g 0) e ∙ m .lengths g h;
-        starts = λ g h. ap (λ (w : Window). w .start) (window-same g h);
-        ends = λ g h. ap (λ (w : Window). w .end) (window-same g h);
-        foundOffsets =
-            λ d h. sym (l .foundOffsets d h) ∙ ap (λ (x : StoreMeaning). getD (x .undo .offsets) d 0) e ∙ m .foundOffsets d h;
-        foundLengths =
-            λ g h. sym (l .foundLengths g h) ∙ ap (λ (x : StoreMeaning). getD (x .undo .lengths) g 0) e ∙ m .foundLengths g h;
-        heldGrant = sym (l .heldGrant) ∙ ap (λ (x : StoreMeaning). x .undo .valid) e ∙ m .heldGrant;
-        grantRecords = ap (λ (u : Used). u .records) grant-same;
-        grantBytes = ap (λ (u : Used). u .bytes) grant-same;
-      }
+  numbers-same f = record {
+    records = λ i h. sym (getD-tabulate (λ k. getD r k 0) 1728 i 0 h) ∙ ap (λ (j : List ℕ). getD j i 0) f
+        ∙ getD-tabulate (λ k. getD s k 0) 1728 i 0 h;
+    standings = λ t d h g. pair-same (getD r (1728 + 8 * d + t) 0) (getD r (1856 + 8 * d + t) 0)
+        (getD s (1728 + 8 * d + t) 0) (getD s (1856 + 8 * d + t) 0) (sym (l .standings t d h g)
+        ∙ ap (λ (x : StoreMeaning). standingAt (transaction x t) d) e ∙ m .standings t d h g);
+    begun = λ t h. sym (l .begun t h) ∙ ap (λ (x : StoreMeaning). transaction x t .begun) e ∙ m .begun t h;
+    stale = λ t h. sym (l .stale t h) ∙ ap (λ (x : StoreMeaning). transaction x t .stale) e ∙ m .stale t h;
+    lengthsSighted = λ t h. sym (l .lengthsSighted t h) ∙ ap (λ (x : StoreMeaning). transaction x t .lengthmarks) e
+        ∙ m .lengthsSighted t h;
+    dirty = λ t d h g. sym (l .dirty t d h g) ∙ ap (λ (x : StoreMeaning). dirtyAt (transaction x t) d) e ∙ m .dirty t d h g;
+    recordsUsed = λ t h. ap (λ (u : Used). u .records) (used-same t h);
+    bytesUsed = λ t h. ap (λ (u : Used). u .bytes) (used-same t h);
+    files = λ d h. sym (l .files d h) ∙ ap (λ (x : StoreMeaning). getD (x .filenumbers) d 0) e ∙ m .files d h;
+    offsets = λ d h. sym (l .offsets d h) ∙ ap (λ (x : StoreMeaning). getD (x .offsets) d 0) e ∙ m .offsets d h;
+    lengths = λ g h. sym (l .lengths g h) ∙ ap (λ (x : StoreMeaning). getD (x .lengths) g 0) e ∙ m .lengths g h;
+    starts = λ g h. ap (λ (w : Window). w .start) (window-same g h);
+    ends = λ g h. ap (λ (w : Window). w .end) (window-same g h);
+    foundOffsets = λ d h. sym (l .foundOffsets d h) ∙ ap (λ (x : StoreMeaning). getD (x .undo .offsets) d 0) e
+        ∙ m .foundOffsets d h;
+    foundLengths = λ g h. sym (l .foundLengths g h) ∙ ap (λ (x : StoreMeaning). getD (x .undo .lengths) g 0) e
+        ∙ m .foundLengths g h;
+    heldGrant = sym (l .heldGrant) ∙ ap (λ (x : StoreMeaning). x .undo .valid) e ∙ m .heldGrant;
+    grantRecords = ap (λ (u : Used). u .records) grant-same;
+    grantBytes = ap (λ (u : Used). u .bytes) grant-same;
+  }
 
 pub meaning-fixes : MeaningFixes
 meaning-fixes r s e f = numbers-same r s e f

@@ -1,29 +1,17 @@
 -- The rules of the calls on images, after each of their tests.
-use mathlib.Core.Bool.{Bool, true, false, cond}
-use mathlib.Core.List.{List, []}
-use mathlib.Core.Path.{_≡_, refl, sym, ap, ap₂, _∙_}
+use mathlib.Core.{Bool.{Bool, true, false, cond}, List.{List, []}, Path.{_≡_, refl, sym, ap, ap₂, _∙_}}
 use borrow.Author.Tests.{eq-eqb, ne-eqb}
 use lib.ListN.{length, replicate}
 use native.Mathlib.Omega.{arith}
 use Prim.Native.Nat.{ℕ, _<_}
-use Rattle.state.specs.declared.StoreMeaning.{StoreMeaning}
-use Rattle.state.specs.declared.outcomes.Refusal.{Refusal}
-use Rattle.state.specs.declared.outcomes.Outcome.{Outcome}
-use Rattle.state.specs.declared.outcomes.Outcome.the-variants.{Done, Refused}
-use Rattle.state.specs.Layout.{storeOf, journalOf}
+use Rattle.state.specs.declared.{StoreMeaning.StoreMeaning, outcomes.{Refusal.Refusal, Outcome.Outcome}}
+use Rattle.state.specs.{declared.outcomes.Outcome.the-variants.{Done, Refused}, Layout.{storeOf, journalOf}}
 use Rattle.state.specs.Outcomes.{number, doneAnswer, said}
-use Rattle.admission.specs.declared.Gate.{Gate}
-use Rattle.admission.specs.declared.Gate.the-variants.{Pass, Refused as GateRefused}
-use Rattle.admission.specs.FirstRefusal.{unless}
-use Rattle.admission.specs.Admission.{storeIn, gateNumber}
-use Rattle.admission.proofs.Laws.{number-suc, unless-zero}
-use Rattle.spec.specs.Machine.{Machine, lent}
-use Rattle.spec.specs.Calls.{Turn, answerWith, passing}
-use Rattle.spec.specs.Promises.{Meets, machineOf, LeftAsFound}
+use Rattle.admission.specs.{declared.Gate.{Gate, the-variants.{Pass, Refused as GateRefused}}, FirstRefusal.unless}
+use Rattle.admission.{specs.Admission.{storeIn, gateNumber}, proofs.Laws.{number-suc, unless-zero}}
+use Rattle.spec.specs.{Machine.{Machine, lent}, Calls.{Turn, answerWith, passing}, Promises.{Meets, machineOf, LeftAsFound}}
 use Rattle.refinement.proofs.TurnLaws.{gate-number, gate-zero, passing-number, passing-on, turned-follows, done-follows}
-use Rattle.images.specs.Words.{wordAt}
-use Rattle.images.specs.Images.{canonical, storeFrom, journalFrom, loadRefusal, youngWith}
-use Rattle.images.specs.Young.{Young}
+use Rattle.images.specs.{Words.wordAt, Images.{canonical, loadRefusal, youngWith}, Young.Young}
 use Rattle.c_images.specs.ImageCalls.{checkRule, loadRule}
 
 -- ---- one of two lists
@@ -49,9 +37,7 @@ both-passed a b n ea eb = rw (ea, eb)
 -- A gate that says whether the record is in range.
 module _ (g : Gate) (s : StoreMeaning) (journal : List ℕ) (says : gateNumber g ≡ unless (storeIn s journal) 2 0) where
   pub out-of-range : (r : Refusal) → g ≡ GateRefused r → storeIn s journal ≡ false
-  out-of-range r e =
-      let n = number-suc r in
-      let q = n .1 in
+  out-of-range r e = let n = number-suc r in let q = n .1 in
       refused-by (storeIn s journal) (number r) (omega arith) (gate-number g _ says r e)
 
   pub in-range : g ≡ Pass → storeIn s journal ≡ true
@@ -64,29 +50,25 @@ module _ (state files logs marks undo : List ℕ) (n : ℕ) (next : Turn) where
 
   pub refusing : (r : Refusal) → number r ≡ n
       → Meets (passing n [] from next) (Refused r) from [] × LeftAsFound (Refused r) state state
-  refusing r e =
-      turned-follows r [] state files logs marks undo (passing n [] from next)
+  refusing r e = turned-follows r [] state files logs marks undo (passing n [] from next)
       (ap (λ (k : ℕ). passing k [] from next) (sym e) ∙ passing-number r [] from next)
 
   pub granting : (m : Machine) (after : List ℕ) → n ≡ 0 → next ≡ answerWith doneAnswer m
       → Meets (passing n [] from next) Done m [] × LeftAsFound Done state after
   unfolding answerWith said
-  granting m after e is =
-      let q = passing-on n [] from next e ∙ is in (
-        record {
-          outcome = sym (ap (λ (w : Turn). w .reply .answer) q);
-          machine = sym (ap (λ (w : Turn). w .after) q);
-          reader = sym (ap (λ (w : Turn). w .reply .buffer) q);
-        },
-        done-follows state after,
-      )
+  granting m after e is = let q = passing-on n [] from next e ∙ is in (
+    record {
+      outcome = sym (ap (λ (w : Turn). w .reply .answer) q);
+      machine = sym (ap (λ (w : Turn). w .after) q);
+      reader = sym (ap (λ (w : Turn). w .reply .buffer) q);
+    },
+    done-follows state after,
+  )
 
 module _ (state files logs marks undo : List ℕ) (g : Gate)
     (says : gateNumber g ≡ unless (storeIn (storeOf state) (journalOf state)) 2 0) where
   abbrev checked : Outcome → Type 0
-  checked o =
-      let m = machineOf state files logs marks undo in
-      Meets (checkRule m) o m [] × LeftAsFound o state state
+  checked o = let m = machineOf state files logs marks undo in Meets (checkRule m) o m [] × LeftAsFound o state state
 
   pub check-refused : (r : Refusal) → g ≡ GateRefused r → checked (Refused r)
   unfolding checkRule
@@ -112,16 +94,13 @@ module _ (w : ℕ → ℕ) where
   pub gate-says : w 0 ≡ 1 → canonical w ≡ true → (young : List ℕ) → Young w young → (g : Gate)
       → gateNumber g ≡ unless (storeIn (storeOf young) (journalOf young)) 2 0 → gateNumber g ≡ loadRefusal w
   unfolding loadRefusal
-  gate-says h e young y g says =
-      says ∙ ap₂ (λ (s : StoreMeaning) (j : List ℕ). unless (storeIn s j) 2 0) (y .store) (y .journal)
-      ∙ both-passed _ _ _ (eq-eqb (w 0) 1 h) e
+  gate-says h e young y g says = says ∙ ap₂ (λ (s : StoreMeaning) (j : List ℕ). unless (storeIn s j) 2 0) (y .store)
+      (y .journal) ∙ both-passed _ _ _ (eq-eqb (w 0) 1 h) e
 
-pub load-follows : (numbers bytes old state files logs marks undo young files′ marks′ undo′ : List ℕ)
-    → loadRefusal (wordAt numbers) ≡ 0 → Young (wordAt numbers) young → length marks ≡ 32768
-    → files′ ≡ bytes → marks′ ≡ replicate (length marks) 0 → undo′ ≡ old
-    → Meets (loadRule numbers bytes old (machineOf state files logs marks undo)) Done (machineOf young files′ logs marks′ undo′)
-    []
-    × LeftAsFound Done state young
+pub load-follows : (numbers bytes old state files logs marks undo young files′ marks′ undo′ : List ℕ) → loadRefusal
+    (wordAt numbers) ≡ 0 → Young (wordAt numbers) young → length marks ≡ 32768 → files′ ≡ bytes → marks′ ≡ replicate
+    (length marks) 0 → undo′ ≡ old → Meets (loadRule numbers bytes old (machineOf state files logs marks undo)) Done
+    (machineOf young files′ logs marks′ undo′) [] × LeftAsFound Done state young
 unfolding loadRule youngWith
 load-follows numbers bytes old state files logs marks undo young files′ marks′ undo′ passes y l is-files is-marks is-undo =
     let m = is-marks ∙ ap (λ (n : ℕ). replicate n 0) l in

@@ -1,42 +1,23 @@
 -- What is loaded from a store's image is the young store with what was committed.
-use mathlib.Core.Bool.{Bool, true, false, _||_, true≢false}
-use mathlib.Core.List.{List}
-use mathlib.Core.Path.{_≡_, refl, sym, ap, ap₂, _∙_}
+use mathlib.Core.{Bool.{Bool, true, false, _||_, true≢false}, List.List, Path.{_≡_, refl, sym, ap, ap₂, _∙_}}
 use borrow.Author.Tests.{eq-eqb, le-leb, ltb-false}
-use lib.Dec.{ltb}
-use lib.ListN.{getD, length, replicate, length-replicate, getD-replicate}
+use lib.{Dec.ltb, ListN.{getD, length, replicate, length-replicate, getD-replicate}}
 use native.Mathlib.Omega.{arith}
 use Prim.Native.Nat.{ℕ, _+_, _-_, _≤_, _<_, min}
-use Rattle.buffers.specs.Parts.{tabulate}
-use Rattle.buffers.proofs.BelowLaws.{and-both, below-all}
-use Rattle.buffers.proofs.TableLaws.{table-same}
+use Rattle.buffers.{specs.Parts.tabulate, proofs.{BelowLaws.{and-both, below-all}, TableLaws.table-same}}
 use Rattle.standings.specs.Table.{placeNumber}
-use Rattle.windows.specs.declared.Window.{Window}
 use Rattle.windows.specs.Windows.{window, freshWindow}
-use Rattle.state.specs.declared.StoreMeaning.{StoreMeaning}
-use Rattle.state.specs.declared.Transaction.{Transaction}
-use Rattle.state.specs.declared.Undo.{Undo}
-use Rattle.state.specs.declared.journal.WriteRecord.{WriteRecord}
-use Rattle.state.specs.StoreMeaning.{ended, noTransaction, transaction, windowAt}
-use Rattle.state.specs.Layout.{isSet}
-use Rattle.state.specs.Updates.{flagNumber}
-use Rattle.state.specs.Journal.{decoded, lastGrant, writeRecordAt, withRecords}
-use Rattle.state.proofs.LayoutLaws.{flag-back}
+use Rattle.state.specs.declared.{StoreMeaning.StoreMeaning, Transaction.Transaction, journal.WriteRecord.WriteRecord}
+use Rattle.state.specs.{StoreMeaning.{ended, noTransaction, transaction, windowAt}, Layout.isSet, Updates.flagNumber}
+use Rattle.state.{specs.Journal.{decoded, lastGrant, writeRecordAt, withRecords}, proofs.LayoutLaws.flag-back}
 use Rattle.state.proofs.JournalLaws.{with-same, read-own}
-use Rattle.admission.specs.FirstRefusal.{unless}
-use Rattle.admission.specs.Admission.{storeIn}
-use Rattle.admission.proofs.Laws.{in-range, in-range-intro, landed-in}
-use Rattle.spec.specs.Machine.{Machine, lent}
-use Rattle.spec.specs.Calls.{freshStore, freshMachine}
-use Rattle.spec.specs.Age.{rejuvenated}
-use Rattle.spec.proofs.Refinement.Relation.{Shaped}
-use Rattle.spec.proofs.Refinement.UndoValues.{SameGrant, undo-same}
-use Rattle.spec.proofs.Refinement.IndexedLists.{tabulate-getD}
-use Rattle.images.specs.Images.{numberOf, grantRecord, holderOf, noRecord, recordFrom, undoFrom, storeFrom, journalFrom}
-use Rattle.images.specs.Images.{blankRecord, canonical, loadRefusal, youngWith}
-use Rattle.images.proofs.YoungLaws.{records-cut}
-use Rattle.c_images.proofs.Columns as at
+use Rattle.admission.{specs.{FirstRefusal.unless, Admission.storeIn}, proofs.Laws.{in-range, in-range-intro, landed-in}}
+use Rattle.spec.specs.{Machine.{Machine, lent}, Calls.{freshStore, freshMachine}, Age.rejuvenated}
+use Rattle.spec.proofs.Refinement.{Relation.Shaped, UndoValues.{SameGrant, undo-same}, IndexedLists.tabulate-getD}
+use Rattle.images.specs.Images.{numberOf, grantRecord, holderOf, recordFrom, undoFrom, storeFrom, journalFrom, blankRecord}
+use Rattle.images.{specs.Images.{canonical, loadRefusal, youngWith}, proofs.YoungLaws.records-cut}
 use Rattle.c_images.proofs.WriteRecords.{again-held, has-record, no-record}
+use Rattle.c_images.proofs.Columns as at
 
 listed : {A : Type 0} → (l : List A) (z : A) (n : ℕ) → length l ≡ n → tabulate (λ k. getD l k z) n ≡ l
 listed l z n e = ap (λ (m : ℕ). tabulate (λ k. getD l k z) m) (sym e) ∙ tabulate-getD l z
@@ -57,15 +38,14 @@ passes a b c ea eb ec = rw (ea, eb, ec)
 
 -- The store of what is committed in s.
 abbrev youngOf : StoreMeaning → StoreMeaning
-youngOf s =
-    record {
-      filenumbers = s .filenumbers;
-      offsets = s .offsets;
-      lengths = s .lengths;
-      windows = s .windows;
-      undo = s .undo;
-      transactions = replicate 8 ended;
-    }
+youngOf s = record {
+  filenumbers = s .filenumbers;
+  offsets = s .offsets;
+  lengths = s .lengths;
+  windows = s .windows;
+  undo = s .undo;
+  transactions = replicate 8 ended;
+}
 
 abbrev youngJournal : StoreMeaning → List ℕ → List ℕ
 youngJournal s journal = withRecords zeros lastGrant (writeRecordAt journal lastGrant) (s .undo .used .records)
@@ -74,11 +54,9 @@ module _ (s : StoreMeaning) (journal : List ℕ) (w : ℕ → ℕ) (same : (i : 
   -- A column of n numbers from `from` on.
   column : (from n : ℕ) (l : List ℕ) → from + n ≤ 276 → length l ≡ n
       → ((i : ℕ) → from ≤ i → i < from + n → numberOf s journal i ≡ getD l (i - from) 0) → tabulate (λ k. w (from + k)) n ≡ l
-  column from n l fit e is =
-      table-same (λ k. w (from + k)) (λ k. getD l k 0) n
-      (λ k h. let q : from + k - from ≡ k = omega arith in
-      same (from + k) (omega arith) ∙ is (from + k) (omega arith) (omega arith) ∙ ap (λ (i : ℕ). getD l i 0) q)
-      ∙ listed l 0 n e
+  column from n l fit e is = table-same (λ k. w (from + k)) (λ k. getD l k 0) n
+      (λ k h. let q : from + k - from ≡ k = omega arith in same (from + k) (omega arith)
+      ∙ is (from + k) (omega arith) (omega arith) ∙ ap (λ (i : ℕ). getD l i 0) q) ∙ listed l 0 n e
 
   records-are : w 58 ≡ s .undo .used .records
   records-are = same 58 (omega arith) ∙ at.records-number s journal
@@ -86,8 +64,7 @@ module _ (s : StoreMeaning) (journal : List ℕ) (w : ℕ → ℕ) (same : (i : 
   module _ (z : Shaped s) where
     undo-is : undoFrom w ≡ s .undo
     unfolding undoFrom
-    undo-is =
-        let flagged = ap isSet (same 57 (omega arith) ∙ at.held-number s journal) ∙ flag-back (s .undo .valid) in
+    undo-is = let flagged = ap isSet (same 57 (omega arith) ∙ at.held-number s journal) ∙ flag-back (s .undo .valid) in
         let bytes = same 59 (omega arith) ∙ at.bytes-number s journal in
         let offsets = column 60 16 (s .undo .offsets) (omega arith) (z .foundOffsets) (at.found-offset-number s journal) in
         let lengths = column 76 8 (s .undo .lengths) (omega arith) (z .foundLengths) (at.found-length-number s journal) in
@@ -99,25 +76,17 @@ module _ (s : StoreMeaning) (journal : List ℕ) (w : ℕ → ℕ) (same : (i : 
         }
 
     windows-are : tabulate (λ f. window (w (41 + f)) (w (49 + f))) 8 ≡ s .windows
-    windows-are =
-        table-same (λ f. window (w (41 + f)) (w (49 + f))) (λ f. getD (s .windows) f freshWindow) 8
-        (λ f h.
-        let p : 41 + f - 41 ≡ f = omega arith in
-        let q : 49 + f - 49 ≡ f = omega arith in
-        let a = same (41 + f) (omega arith) ∙ at.start-number s journal (41 + f) (omega arith) (omega arith)
-        ∙ ap (λ (k : ℕ). windowAt s k .start) p in
-        let b = same (49 + f) (omega arith) ∙ at.end-number s journal (49 + f) (omega arith) (omega arith)
-        ∙ ap (λ (k : ℕ). windowAt s k .end) q in
-        λ i. window (a i) (b i))
-        ∙ listed (s .windows) freshWindow 8 (z .windows)
+    windows-are = table-same (λ f. window (w (41 + f)) (w (49 + f))) (λ f. getD (s .windows) f freshWindow) 8
+        (λ f h. let p : 41 + f - 41 ≡ f = omega arith in let q : 49 + f - 49 ≡ f = omega arith in let a = same (41 + f)
+        (omega arith) ∙ at.start-number s journal (41 + f) (omega arith) (omega arith) ∙ ap (λ (k : ℕ). windowAt s k .start)
+        p in let b = same (49 + f) (omega arith) ∙ at.end-number s journal (49 + f) (omega arith) (omega arith)
+        ∙ ap (λ (k : ℕ). windowAt s k .end) q in λ i. window (a i) (b i)) ∙ listed (s .windows) freshWindow 8 (z .windows)
 
     store-is : storeFrom w ≡ youngOf s
     unfolding storeFrom
-    store-is =
-        let files = column 1 16 (s .filenumbers) (omega arith) (z .files) (at.file-number s journal) in
+    store-is = let files = column 1 16 (s .filenumbers) (omega arith) (z .files) (at.file-number s journal) in
         let offsets = column 17 16 (s .offsets) (omega arith) (z .offsets) (at.offset-number s journal) in
-        let lengths = column 33 8 (s .lengths) (omega arith) (z .lengths) (at.length-number s journal) in
-        λ i. record {
+        let lengths = column 33 8 (s .lengths) (omega arith) (z .lengths) (at.length-number s journal) in λ i. record {
           filenumbers = files i;
           offsets = offsets i;
           lengths = lengths i;
@@ -133,70 +102,54 @@ module _ (s : StoreMeaning) (journal : List ℕ) (w : ℕ → ℕ) (same : (i : 
     record-k = grantRecord (s .undo .used .records) journal k
 
     holder-is : w (84 + k) ≡ holderOf record-k
-    holder-is =
-        let p : 84 + k - 84 ≡ k = omega arith in
+    holder-is = let p : 84 + k - 84 ≡ k = omega arith in
         same (84 + k) (omega arith) ∙ at.holder-number s journal (84 + k) (omega arith) (omega arith)
         ∙ ap (λ (n : ℕ). holderOf (grantRecord (s .undo .used .records) journal n)) p
 
     place-is : w (148 + k) ≡ placeNumber (record-k .place)
-    place-is =
-        let p : 148 + k - 148 ≡ k = omega arith in
+    place-is = let p : 148 + k - 148 ≡ k = omega arith in
         same (148 + k) (omega arith) ∙ at.place-number s journal (148 + k) (omega arith) (omega arith)
         ∙ ap (λ (n : ℕ). placeNumber (grantRecord (s .undo .used .records) journal n .place)) p
 
     length-is : w (212 + k) ≡ record-k .length
-    length-is =
-        let p : 212 + k - 212 ≡ k = omega arith in
+    length-is = let p : 212 + k - 212 ≡ k = omega arith in
         same (212 + k) (omega arith) ∙ at.record-length-number s journal (212 + k) (omega arith) (omega arith)
         ∙ ap (λ (n : ℕ). grantRecord (s .undo .used .records) journal n .length) p
 
     record-is : k < s .undo .used .records → recordFrom w k ≡ writeRecordAt journal lastGrant k
     unfolding recordFrom writeRecordAt
-    record-is h =
-        let e = has-record (s .undo .used .records) journal k h in
-        let a = holder-is ∙ ap holderOf e in
+    record-is h = let e = has-record (s .undo .used .records) journal k h in let a = holder-is ∙ ap holderOf e in
         let b = place-is ∙ ap (λ (x : WriteRecord). placeNumber (x .place)) e in
-        let c = length-is ∙ ap (λ (x : WriteRecord). x .length) e in
-        (λ i. decoded (a i) (b i) (c i)) ∙ again-held _ _ _
+        let c = length-is ∙ ap (λ (x : WriteRecord). x .length) e in (λ i. decoded (a i) (b i) (c i)) ∙ again-held _ _ _
 
     blank-is : s .undo .used .records ≤ k → blankRecord w k ≡ true
     unfolding blankRecord
-    blank-is h =
-        let e = no-record (s .undo .used .records) journal k h in
-        and-both _ _ (eq-eqb _ _ (holder-is ∙ ap holderOf e))
-        (and-both _ _ (eq-eqb _ _ (place-is ∙ ap (λ (x : WriteRecord). placeNumber (x .place)) e))
-        (eq-eqb _ _ (length-is ∙ ap (λ (x : WriteRecord). x .length) e)))
+    blank-is h = let e = no-record (s .undo .used .records) journal k h in
+        and-both _ _ (eq-eqb _ _ (holder-is ∙ ap holderOf e)) (and-both _ _ (eq-eqb _ _ (place-is ∙ ap (λ (x : WriteRecord).
+        placeNumber (x .place)) e)) (eq-eqb _ _ (length-is ∙ ap (λ (x : WriteRecord). x .length) e)))
 
   journal-is : journalFrom w ≡ youngJournal s journal
   unfolding journalFrom
-  journal-is =
-      let n = s .undo .used .records in
-      let own = writeRecordAt journal lastGrant in
+  journal-is = let n = s .undo .used .records in let own = writeRecordAt journal lastGrant in
       sym (records-cut (recordFrom w) zeros long-zeros (w 58))
-      ∙ ap (λ (m : ℕ). withRecords zeros lastGrant (recordFrom w) (min m 64)) records-are
-      ∙ with-same zeros lastGrant (recordFrom w) own (min n 64) (λ k h. record-is k (omega arith) (omega arith))
-      ∙ records-cut own zeros long-zeros n
+      ∙ ap (λ (m : ℕ). withRecords zeros lastGrant (recordFrom w) (min m 64)) records-are ∙ with-same zeros lastGrant
+      (recordFrom w) own (min n 64) (λ k h. record-is k (omega arith) (omega arith)) ∙ records-cut own zeros long-zeros n
 
   -- ---- it is not refused
 
   said-or-blank : (k : ℕ) → k < 64 → (b : Bool) → ltb k (w 58) ≡ b → b || blankRecord w k ≡ true
   said-or-blank k h true e = refl
-  said-or-blank k h false e =
-      let l = ltb-false k (w 58) e in
-      let r = records-are in
-      blank-is k h (omega (arith, l, r))
+  said-or-blank k h false e = let l = ltb-false k (w 58) e in let r = records-are in blank-is k h (omega (arith, l, r))
 
   canonical-is : canonical w ≡ true
   unfolding canonical
-  canonical-is =
-      let f = same 57 (omega arith) ∙ at.held-number s journal in
+  canonical-is = let f = same 57 (omega arith) ∙ at.held-number s journal in
       and-both _ _ (le-leb (w 57) 1 (omega (arith, f, flag-small (s .undo .valid))))
       (below-all (λ k. ltb k (w 58) || blankRecord w k) 64 (λ k h. said-or-blank k h (ltb k (w 58)) refl))
 
   module _ (good : storeIn s journal ≡ true) where
     same-grant : SameGrant (s .undo) (youngJournal s journal) journal
-    same-grant h k l =
-        let r = in-range s journal good .undo h in
+    same-grant h k l = let r = in-range s journal good .undo h in
         let x = landed-in (writeRecordAt journal lastGrant k) (r .writes k l) in
         read-own zeros lastGrant (writeRecordAt journal lastGrant) long-zeros (omega arith) (s .undo .used .records) k
         (r .records) l (omega (arith, x .0))
@@ -206,22 +159,18 @@ module _ (s : StoreMeaning) (journal : List ℕ) (w : ℕ → ℕ) (same : (i : 
     closed t h = ap (λ (x : Transaction). x .begun) (getD-replicate {A = Transaction} 8 t ended noTransaction h)
 
     young-in : storeIn (youngOf s) (youngJournal s journal) ≡ true
-    young-in =
-        let r = in-range s journal good in
-        in-range-intro (youngOf s) (youngJournal s journal)
-        (record {
-          files = r .files;
-          offsets = r .offsets;
-          lengths = r .lengths;
-          windows = r .windows;
-          undo = λ h. undo-same (s .undo) (youngJournal s journal) journal same-grant h (r .undo h);
-          transactions = λ t l b. absurd (true≢false (sym b ∙ closed t l));
-        })
+    young-in = let r = in-range s journal good in in-range-intro (youngOf s) (youngJournal s journal) (record {
+      files = r .files;
+      offsets = r .offsets;
+      lengths = r .lengths;
+      windows = r .windows;
+      undo = λ h. undo-same (s .undo) (youngJournal s journal) journal same-grant h (r .undo h);
+      transactions = λ t l b. absurd (true≢false (sym b ∙ closed t l));
+    })
 
     admitted-image : Shaped s → loadRefusal w ≡ 0
     unfolding loadRefusal
-    admitted-image z =
-        passes _ _ _ (eq-eqb (w 0) 1 (same 0 (omega arith) ∙ at.format-number s journal)) canonical-is
+    admitted-image z = passes _ _ _ (eq-eqb (w 0) 1 (same 0 (omega arith) ∙ at.format-number s journal)) canonical-is
         (ap₂ storeIn (store-is z) journal-is ∙ young-in)
 
 -- As a machine.
@@ -229,9 +178,7 @@ module _ (m : Machine) (newLogs : List ℕ) (w : ℕ → ℕ) (same : (i : ℕ) 
     (z : Shaped (m .store)) where
   pub loaded-image : youngWith w (m .files) (m .undo) newLogs ≡ rejuvenated m newLogs
   unfolding youngWith rejuvenated freshMachine freshStore
-  loaded-image =
-      let s = store-is (m .store) (m .journal) w same z in
-      let j = journal-is (m .store) (m .journal) w same in
+  loaded-image = let s = store-is (m .store) (m .journal) w same z in let j = journal-is (m .store) (m .journal) w same in
       λ i. lent (s i) (j i) (m .files) newLogs (replicate 32768 0) (m .undo)
 
   pub not-refused : storeIn (m .store) (m .journal) ≡ true → loadRefusal w ≡ 0

@@ -1,19 +1,13 @@
 -- A write record as three numbers, and those of the last grant in a journal of zeros.
-use mathlib.Core.Bool.{Bool, true, false}
-use mathlib.Core.List.{List}
-use mathlib.Core.Path.{_≡_, refl, sym, ap, _∙_}
+use mathlib.Core.{Bool.{Bool, true, false}, List.List, Path.{_≡_, refl, sym, ap, _∙_}}
 use borrow.Author.Tests.{lt-ltb, le-ltb, ltb-false}
-use lib.Dec.{ltb}
-use lib.ListN.{getD, set, length, length-set}
-use lib.Seq.{getD-set-same, getD-set-other}
+use lib.{Dec.ltb, ListN.{getD, set, length, length-set}, Seq.{getD-set-same, getD-set-other}}
 use native.Mathlib.Omega.{arith}
 use Prim.Native.Nat.{ℕ, zero, suc, _+_, _-_, _*_, _≤_, _<_, min}
 use Rattle.standings.specs.Table.{placeNumber}
 use Rattle.state.specs.declared.journal.WriteRecord.{WriteRecord}
-use Rattle.state.specs.Journal.{descriptorCode, decodedAs, decoded, lastGrant, writeRecordAt, withRecordAt, withRecords}
-use Rattle.images.specs.Images.{holderOf, noRecord, grantRecord}
-use Rattle.images.specs.Young.{withEach}
-use Rattle.images.proofs.YoungLaws.{each-own, records-cut}
+use Rattle.state.specs.Journal.{decodedAs, decoded, lastGrant, writeRecordAt, withRecordAt, withRecords}
+use Rattle.images.{specs.{Images.{holderOf, noRecord, grantRecord}, Young.withEach}, proofs.YoungLaws.{each-own, records-cut}}
 
 -- ---- three numbers
 
@@ -84,9 +78,8 @@ module _ (f : ℕ → WriteRecord) where
     put-other : (j : ℕ) → (j ≡ first k → ⊥) → (j ≡ first k + 1 → ⊥) → (j ≡ first k + 2 → ⊥) → getD
         (putRecord k r) j 0 ≡ getD r j 0
     unfolding withRecordAt
-    put-other j n0 n1 n2 =
-        getD-set-other two (first k + 2) j (f k .length) 0 n2 ∙ getD-set-other one (first k + 1) j (placeNumber (f k .place)) 0 n1
-        ∙ getD-set-other r (first k) j (holderOf (f k)) 0 n0
+    put-other j n0 n1 n2 = getD-set-other two (first k + 2) j (f k .length) 0 n2 ∙ getD-set-other one (first k + 1) j
+        (placeNumber (f k .place)) 0 n1 ∙ getD-set-other r (first k) j (holderOf (f k)) 0 n0
 
     module _ (few : k < 64) (long : length r ≡ 1728) where
       long-one : length one ≡ 1728
@@ -97,15 +90,13 @@ module _ (f : ℕ → WriteRecord) where
 
       put-holder : getD (putRecord k r) (first k) 0 ≡ holderOf (f k)
       unfolding withRecordAt
-      put-holder =
-          getD-set-other two (first k + 2) (first k) (f k .length) 0 (λ q. omega arith)
+      put-holder = getD-set-other two (first k + 2) (first k) (f k .length) 0 (λ q. omega arith)
           ∙ getD-set-other one (first k + 1) (first k) (placeNumber (f k .place)) 0 (λ q. omega arith)
           ∙ getD-set-same r (first k) (holderOf (f k)) 0 (omega arith)
 
       put-place : getD (putRecord k r) (first k + 1) 0 ≡ placeNumber (f k .place)
       unfolding withRecordAt
-      put-place =
-          let l = long-one in
+      put-place = let l = long-one in
           getD-set-other two (first k + 2) (first k + 1) (f k .length) 0 (λ q. omega arith)
           ∙ getD-set-same one (first k + 1) (placeNumber (f k .place)) 0 (omega arith)
 
@@ -115,30 +106,22 @@ module _ (f : ℕ → WriteRecord) where
 
   module _ (journal : List ℕ) (long : length journal ≡ 1728) where
     -- One of the three numbers, c, of record k.
-    own-number : (n k c v : ℕ) → n ≤ 64 → k < n → c < 3
-        → ((r : List ℕ) → length r ≡ 1728 → getD (putRecord k r) (first k + c) 0 ≡ v)
-        → getD (withEach putRecord n journal) (first k + c) 0 ≡ v
-    own-number n k c v few h l own =
-        each-own putRecord length-put (first k + c) n k v 1728 h own
-        (λ i r a b. put-other i r (first k + c) (λ q. b (omega arith)) (λ q. b (omega arith)) (λ q. b (omega arith))) journal long
+    own-number : (n k c v : ℕ) → n ≤ 64 → k < n → c < 3 → ((r : List ℕ) → length r ≡ 1728
+        → getD (putRecord k r) (first k + c) 0 ≡ v) → getD (withEach putRecord n journal) (first k + c) 0 ≡ v
+    own-number n k c v few h l own = each-own putRecord length-put (first k + c) n k v 1728 h own (λ i r a b. put-other i r
+        (first k + c) (λ q. b (omega arith)) (λ q. b (omega arith)) (λ q. b (omega arith))) journal long
 
-    records-read : (n k : ℕ) → n ≤ 64 → k < n
-        → writeRecordAt (withRecords journal lastGrant f n) lastGrant k ≡ decoded (holderOf (f k)) (placeNumber (f k .place))
-        (f k .length)
+    records-read : (n k : ℕ) → n ≤ 64 → k < n → writeRecordAt (withRecords journal lastGrant f n) lastGrant k ≡ decoded
+        (holderOf (f k)) (placeNumber (f k .place)) (f k .length)
     unfolding writeRecordAt
-    records-read n k few h =
-        let e = as-each journal n in
-        let zero-more : first k + 0 ≡ first k = omega arith in
-        let a : getD (withEach putRecord n journal) (first k) 0 ≡ holderOf (f k) =
-        rw zero-more at (own-number n k 0 (holderOf (f k)) few h (omega arith)
-        (λ r l. rw zero-more (put-holder k r (omega arith) l))) in
+    records-read n k few h = let e = as-each journal n in let zero-more : first k + 0 ≡ first k = omega arith in
+        let a : getD (withEach putRecord n journal) (first k) 0 ≡ holderOf (f k) = rw zero-more at
+        (own-number n k 0 (holderOf (f k)) few h (omega arith) (λ r l. rw zero-more (put-holder k r (omega arith) l))) in
         let b = own-number n k 1 (placeNumber (f k .place)) few h (omega arith) (λ r l. put-place k r (omega arith) l) in
         let c = own-number n k 2 (f k .length) few h (omega arith) (λ r l. put-length k r (omega arith) l) in
         rw (e, a, b, c)
 
-    pub grant-read : (n k : ℕ) → k < 64 → k < n
-        → writeRecordAt (withRecords journal lastGrant f n) lastGrant k ≡ decoded (holderOf (f k)) (placeNumber (f k .place))
-        (f k .length)
-    grant-read n k few h =
-        ap (λ (l : List ℕ). writeRecordAt l lastGrant k) (sym (records-cut f journal long n))
+    pub grant-read : (n k : ℕ) → k < 64 → k < n → writeRecordAt (withRecords journal lastGrant f n) lastGrant k ≡ decoded
+        (holderOf (f k)) (placeNumber (f k .place)) (f k .length)
+    grant-read n k few h = ap (λ (l : List ℕ). writeRecordAt l lastGrant k) (sym (records-cut f journal long n))
         ∙ records-read (min n 64) k (omega arith) (omega arith)

@@ -1,16 +1,10 @@
 -- Write records, their three numbers, and how many a grant has.
-use mathlib.Core.Bool.{Bool, true, false}
-use mathlib.Core.List.{List}
-use mathlib.Core.Path.{_≡_, refl, sym, ap, _∙_}
+use mathlib.Core.{Bool.{Bool, true, false}, List.List, Path.{_≡_, refl}}
 use borrow.Author.Tests.{ltb-true, ltb-false}
-use lib.Dec.{ltb}
-use lib.ListN.{getD}
+use lib.{Dec.ltb, ListN.getD}
 use native.Mathlib.Omega.{arith}
-use Prim.Native.Nat.{ℕ, _+_, _-_, _*_, _≤_, _<_}
-use Rattle.buffers.proofs.TableLaws.{getD-tabulate}
-use Rattle.state.specs.Journal.{decodedAs, decoded, lastGrant, writeRecordAt}
-use Rattle.state.specs.Layout.{storeOf, undoOf, journalOf}
-use Rattle.state.specs.Layout.{heldAt}
+use Prim.Native.Nat.{ℕ, _+_, _-_, _*_, _<_}
+use Rattle.state.specs.{Journal.{decodedAs, decoded, lastGrant, writeRecordAt}, Layout.{storeOf, undoOf, journalOf, heldAt}}
 use Rattle.state.proofs.LayoutLaws.{record-of}
 
 -- A write record of a record whose numbers have 16 bits.
@@ -25,8 +19,7 @@ low-holder h p n l = pick (ltb h 16) refl
 module _ (state : List ℕ) (fits : (i : ℕ) → getD state i 0 < 65536) where
   pub low-descriptor : (k : ℕ) → k < 64 → writeRecordAt (journalOf state) lastGrant k .descriptor < 65520
   unfolding writeRecordAt
-  low-descriptor k h =
-      rw (record-of state lastGrant k (omega arith) h) (low-holder _ _ _ (fits (3 * (64 * lastGrant + k))))
+  low-descriptor k h = rw (record-of state lastGrant k (omega arith) h) (low-holder _ _ _ (fits (3 * (64 * lastGrant + k))))
 
   pub few-records : storeOf state .undo .used .records < 65536
   unfolding storeOf undoOf

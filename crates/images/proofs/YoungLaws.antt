@@ -1,33 +1,19 @@
 -- The record of an image's numbers means what they say.
-use mathlib.Core.Bool.{Bool, true, false}
-use mathlib.Core.List.{List, []}
-use mathlib.Core.Logic.{_⊎_, inl, inr, ⊎-elim}
-use mathlib.Core.Path.{_≡_, refl, sym, ap, _∙_}
-use borrow.Author.Tests.{eqb-true, eqb-false}
-use lib.Dec.{eqb}
+use mathlib.Core.{List.List, Logic.{_⊎_, inl, inr, ⊎-elim}, Path.{_≡_, refl, sym, ap, _∙_}}
 use lib.ListN.{getD, set, length, length-set, replicate, length-replicate, getD-replicate, List·getD-eq-default}
 use lib.Seq.{getD-set-same, getD-set-other, set-out}
-use native.Mathlib.Nat.{suc-add, eq-or-lt-of-le, le-of-suc-le-suc, not-suc-le-zero}
-use native.Mathlib.Omega.{arith}
+use native.Mathlib.{Nat.{suc-add, eq-or-lt-of-le, le-of-suc-le-suc, not-suc-le-zero}, Omega.arith}
 use Prim.Native.Nat.{ℕ, zero, suc, _+_, _-_, _*_, _≤_, _<_, min}
-use Rattle.buffers.specs.Parts.{tabulate}
-use Rattle.buffers.proofs.PartLaws.{le-or-lt}
-use Rattle.buffers.proofs.TableLaws.{table-same}
+use Rattle.buffers.{specs.Parts.tabulate, proofs.{PartLaws.le-or-lt, TableLaws.table-same}}
 use Rattle.windows.specs.Windows.{window}
-use Rattle.state.specs.declared.StoreMeaning.{StoreMeaning}
-use Rattle.state.specs.declared.Undo.{Undo}
-use Rattle.state.specs.declared.journal.WriteRecord.{WriteRecord}
-use Rattle.state.specs.StoreMeaning.{ended}
+use Rattle.state.specs.{declared.{StoreMeaning.StoreMeaning, journal.WriteRecord.WriteRecord}, StoreMeaning.ended}
+use Rattle.state.specs.Journal.{lastGrant, withRecordAt, withRecords}
+use Rattle.state.specs.Layout.{storeOf, undoOf, windowOf, transactionOf, journalOf, stateLength, isSet, fileNumbersAt, offsetsAt}
+use Rattle.state.specs.{Layout.{lengthsAt, startsAt, endsAt, foundOffsetsAt, foundLengthsAt, heldAt}, Updates.flagNumber}
+use Rattle.state.proofs.LayoutLaws.{flag-back, store-of-zeros, transactions-same, journal-with-record, store-with-record}
+use Rattle.state.proofs.JournalLaws.{length-with}
 use Rattle.standings.specs.Table.{placeNumber}
 use Rattle.spec.proofs.Refinement.IndexedLists.{tabulate-getD}
-use Rattle.state.specs.Journal.{lastGrant, withRecordAt, withRecords}
-use Rattle.state.specs.Layout.{storeOf, undoOf, windowOf, transactionOf, journalOf, stateLength, isSet}
-use Rattle.state.specs.Layout.{fileNumbersAt, offsetsAt, lengthsAt, startsAt}
-use Rattle.state.specs.Layout.{endsAt, foundOffsetsAt, foundLengthsAt, heldAt}
-use Rattle.state.specs.Updates.{flagNumber}
-use Rattle.state.proofs.LayoutLaws.{flag-back, store-of-zeros, transactions-same, journal-same, journal-with-record}
-use Rattle.state.proofs.LayoutLaws.{store-with-record}
-use Rattle.state.proofs.JournalLaws.{length-with, length-with-at}
 use Rattle.images.specs.Images.{recordFrom, undoFrom, storeFrom, journalFrom}
 use Rattle.images.specs.Young.{withEach, putDescriptor, putFile, withLastGrant, Young}
 
@@ -52,12 +38,9 @@ module _ (put : ℕ → List ℕ → List ℕ) (same : (n : ℕ) (r : List ℕ) 
         → getD (withEach put n r) j 0 ≡ v
     unfolding withEach
     each-own zero k v long h own left r l = absurd (not-suc-le-zero h)
-    each-own (suc n) k v long h own left r l =
-        ⊎-elim
-        (λ e. ap (λ (i : ℕ). getD (put i (withEach put n r)) j 0) (sym e) ∙ own (withEach put n r) (length-each n r ∙ l))
-        (λ m. left n (withEach put n r) (omega arith) (λ q. omega arith)
-        ∙ each-own n k v long m own (λ i s a b. left i s (omega arith) b) r l)
-        (eq-or-lt-of-le (le-of-suc-le-suc h))
+    each-own (suc n) k v long h own left r l = ⊎-elim (λ e. ap (λ (i : ℕ). getD (put i (withEach put n r)) j 0) (sym e)
+        ∙ own (withEach put n r) (length-each n r ∙ l)) (λ m. left n (withEach put n r) (omega arith) (λ q. omega arith)
+        ∙ each-own n k v long m own (λ i s a b. left i s (omega arith) b) r l) (eq-or-lt-of-le (le-of-suc-le-suc h))
 
 -- ---- the numbers of descriptors
 
@@ -75,34 +58,29 @@ module _ (w : ℕ → ℕ) where
   descriptor-other : (d j : ℕ) (r : List ℕ) → (j ≡ fileNumbersAt + d → ⊥) → (j ≡ offsetsAt + d → ⊥) → (j ≡ foundOffsetsAt + d → ⊥)
       → getD (putDescriptor w d r) j 0 ≡ getD r j 0
   unfolding putDescriptor
-  descriptor-other d j r n0 n1 n2 =
-      getD-set-other (putDescriptor-1 d r) (foundOffsetsAt + d) j (w (60 + d)) 0 n2
+  descriptor-other d j r n0 n1 n2 = getD-set-other (putDescriptor-1 d r) (foundOffsetsAt + d) j (w (60 + d)) 0 n2
       ∙ getD-set-other (putDescriptor-0 d r) (offsetsAt + d) j (w (17 + d)) 0 n1
       ∙ getD-set-other r (fileNumbersAt + d) j (w (1 + d)) 0 n0
 
   own-file : (d : ℕ) → d < 16 → (r : List ℕ) → length r ≡ stateLength → getD (putDescriptor w d r) (fileNumbersAt + d) 0
       ≡ w (1 + d)
   unfolding putDescriptor
-  own-file d h r l =
-      getD-set-other (putDescriptor-1 d r) (foundOffsetsAt + d) (fileNumbersAt + d) (w (60 + d)) 0 (λ p. omega arith)
-      ∙ getD-set-other (putDescriptor-0 d r) (offsetsAt + d) (fileNumbersAt + d) (w (17 + d)) 0 (λ p. omega arith)
-      ∙ getD-set-same r (fileNumbersAt + d) (w (1 + d)) 0 (omega arith)
+  own-file d h r l = getD-set-other (putDescriptor-1 d r) (foundOffsetsAt + d) (fileNumbersAt + d) (w (60 + d)) 0
+      (λ p. omega arith) ∙ getD-set-other (putDescriptor-0 d r) (offsetsAt + d) (fileNumbersAt + d) (w (17 + d)) 0
+      (λ p. omega arith) ∙ getD-set-same r (fileNumbersAt + d) (w (1 + d)) 0 (omega arith)
 
   own-offset : (d : ℕ) → d < 16 → (r : List ℕ) → length r ≡ stateLength → getD (putDescriptor w d r) (offsetsAt + d) 0
       ≡ w (17 + d)
   unfolding putDescriptor
-  own-offset d h r l =
-      getD-set-other (putDescriptor-1 d r) (foundOffsetsAt + d) (offsetsAt + d) (w (60 + d)) 0 (λ p. omega arith)
-      ∙ getD-set-same (putDescriptor-0 d r) (offsetsAt + d) (w (17 + d)) 0 (let e : length
-      (putDescriptor-0 d r) ≡ length r = simp length-set in omega arith)
+  own-offset d h r l = getD-set-other (putDescriptor-1 d r) (foundOffsetsAt + d) (offsetsAt + d) (w (60 + d)) 0
+      (λ p. omega arith) ∙ getD-set-same (putDescriptor-0 d r) (offsetsAt + d) (w (17 + d)) 0
+      (let e : length (putDescriptor-0 d r) ≡ length r = simp length-set in omega arith)
 
   own-found-offset : (d : ℕ) → d < 16 → (r : List ℕ) → length r ≡ stateLength
-      → getD (putDescriptor w d r) (foundOffsetsAt + d) 0 ≡ w
-      (60 + d)
+      → getD (putDescriptor w d r) (foundOffsetsAt + d) 0 ≡ w (60 + d)
   unfolding putDescriptor
-  own-found-offset d h r l =
-      getD-set-same (putDescriptor-1 d r) (foundOffsetsAt + d) (w (60 + d)) 0 (let e : length
-      (putDescriptor-1 d r) ≡ length r = simp length-set in omega arith)
+  own-found-offset d h r l = getD-set-same (putDescriptor-1 d r) (foundOffsetsAt + d) (w (60 + d)) 0
+      (let e : length (putDescriptor-1 d r) ≡ length r = simp length-set in omega arith)
 
 -- ---- the numbers of files
 
@@ -120,47 +98,38 @@ module _ (w : ℕ → ℕ) where
   unfolding putFile
   length-of-file f r = simp length-set
 
-  of-file-other : (f j : ℕ) (r : List ℕ) → (j ≡ lengthsAt + f → ⊥) → (j ≡ startsAt + f → ⊥) → (j ≡ endsAt + f → ⊥) → (j
-      ≡ foundLengthsAt + f → ⊥)
-      → getD (putFile w f r) j 0 ≡ getD r j 0
+  of-file-other : (f j : ℕ) (r : List ℕ) → (j ≡ lengthsAt + f → ⊥) → (j ≡ startsAt + f → ⊥) → (j ≡ endsAt + f → ⊥)
+      → (j ≡ foundLengthsAt + f → ⊥) → getD (putFile w f r) j 0 ≡ getD r j 0
   unfolding putFile
-  of-file-other f j r n0 n1 n2 n3 =
-      getD-set-other (putFile-2 f r) (foundLengthsAt + f) j (w (76 + f)) 0 n3
-      ∙ getD-set-other (putFile-1 f r) (endsAt + f) j (w (49 + f)) 0 n2
-      ∙ getD-set-other (putFile-0 f r) (startsAt + f) j (w (41 + f)) 0 n1
+  of-file-other f j r n0 n1 n2 n3 = getD-set-other (putFile-2 f r) (foundLengthsAt + f) j (w (76 + f)) 0 n3 ∙ getD-set-other
+      (putFile-1 f r) (endsAt + f) j (w (49 + f)) 0 n2 ∙ getD-set-other (putFile-0 f r) (startsAt + f) j (w (41 + f)) 0 n1
       ∙ getD-set-other r (lengthsAt + f) j (w (33 + f)) 0 n0
 
   own-length : (f : ℕ) → f < 8 → (r : List ℕ) → length r ≡ stateLength → getD (putFile w f r) (lengthsAt + f) 0 ≡ w (33 + f)
   unfolding putFile
-  own-length f h r l =
-      getD-set-other (putFile-2 f r) (foundLengthsAt + f) (lengthsAt + f) (w (76 + f)) 0 (λ p. omega arith)
+  own-length f h r l = getD-set-other (putFile-2 f r) (foundLengthsAt + f) (lengthsAt + f) (w (76 + f)) 0 (λ p. omega arith)
       ∙ getD-set-other (putFile-1 f r) (endsAt + f) (lengthsAt + f) (w (49 + f)) 0 (λ p. omega arith)
       ∙ getD-set-other (putFile-0 f r) (startsAt + f) (lengthsAt + f) (w (41 + f)) 0 (λ p. omega arith)
       ∙ getD-set-same r (lengthsAt + f) (w (33 + f)) 0 (omega arith)
 
   own-start : (f : ℕ) → f < 8 → (r : List ℕ) → length r ≡ stateLength → getD (putFile w f r) (startsAt + f) 0 ≡ w (41 + f)
   unfolding putFile
-  own-start f h r l =
-      getD-set-other (putFile-2 f r) (foundLengthsAt + f) (startsAt + f) (w (76 + f)) 0 (λ p. omega arith)
+  own-start f h r l = getD-set-other (putFile-2 f r) (foundLengthsAt + f) (startsAt + f) (w (76 + f)) 0 (λ p. omega arith)
       ∙ getD-set-other (putFile-1 f r) (endsAt + f) (startsAt + f) (w (49 + f)) 0 (λ p. omega arith)
-      ∙ getD-set-same (putFile-0 f r) (startsAt + f) (w (41 + f)) 0 (let e : length (putFile-0 f r) ≡ length r =
-      simp length-set in
-      omega arith)
+      ∙ getD-set-same (putFile-0 f r) (startsAt + f) (w (41 + f)) 0
+      (let e : length (putFile-0 f r) ≡ length r = simp length-set in omega arith)
 
   own-end : (f : ℕ) → f < 8 → (r : List ℕ) → length r ≡ stateLength → getD (putFile w f r) (endsAt + f) 0 ≡ w (49 + f)
   unfolding putFile
-  own-end f h r l =
-      getD-set-other (putFile-2 f r) (foundLengthsAt + f) (endsAt + f) (w (76 + f)) 0 (λ p. omega arith)
-      ∙ getD-set-same (putFile-1 f r) (endsAt + f) (w (49 + f)) 0 (let e : length (putFile-1 f r) ≡ length r = simp length-set in
-      omega arith)
+  own-end f h r l = getD-set-other (putFile-2 f r) (foundLengthsAt + f) (endsAt + f) (w (76 + f)) 0 (λ p. omega arith)
+      ∙ getD-set-same (putFile-1 f r) (endsAt + f) (w (49 + f)) 0
+      (let e : length (putFile-1 f r) ≡ length r = simp length-set in omega arith)
 
   own-found-length : (f : ℕ) → f < 8 → (r : List ℕ) → length r ≡ stateLength → getD (putFile w f r) (foundLengthsAt + f) 0
       ≡ w (76 + f)
   unfolding putFile
-  own-found-length f h r l =
-      getD-set-same (putFile-2 f r) (foundLengthsAt + f) (w (76 + f)) 0 (let e : length (putFile-2 f r) ≡ length r =
-      simp length-set in
-      omega arith)
+  own-found-length f h r l = getD-set-same (putFile-2 f r) (foundLengthsAt + f) (w (76 + f)) 0
+      (let e : length (putFile-2 f r) ≡ length r = simp length-set in omega arith)
 
 -- ---- the whole record
 
@@ -174,8 +143,7 @@ zero-at : (n k : ℕ) → k < n → getD (zeros n) k 0 ≡ 0
 zero-at n k h = getD-replicate {A = ℕ} n k 0 0 h
 
 zero-anywhere : (k : ℕ) → getD (zeros stateLength) k 0 ≡ 0
-zero-anywhere k =
-    ⊎-elim (λ h. List·getD-eq-default (zeros stateLength) 0 {n = k} (omega (arith, length-zeros stateLength)))
+zero-anywhere k = ⊎-elim (λ h. List·getD-eq-default (zeros stateLength) 0 {n = k} (omega (arith, length-zeros stateLength)))
     (zero-at stateLength k) (le-or-lt stateLength k)
 
 module _ (w : ℕ → ℕ) where
@@ -201,104 +169,76 @@ module _ (w : ℕ → ℕ) where
   -- A number before those of the grant.
   before-grant : (j : ℕ) → j < heldAt → getD granted j 0 ≡ getD filed j 0
   unfolding withLastGrant
-  before-grant j h =
-      let a = set filed heldAt (flagNumber (isSet (w 57))) in
-      getD-set-other (set a (heldAt + 1) (w 58)) (heldAt + 2) j (w 59) 0 (λ p. omega arith)
-      ∙ getD-set-other a (heldAt + 1) j (w 58) 0 (λ p. omega arith)
-      ∙ getD-set-other filed heldAt j (flagNumber (isSet (w 57))) 0 (λ p. omega arith)
+  before-grant j h = let a = set filed heldAt (flagNumber (isSet (w 57))) in
+      getD-set-other (set a (heldAt + 1) (w 58)) (heldAt + 2) j (w 59) 0 (λ p. omega arith) ∙ getD-set-other a (heldAt + 1)
+      j (w 58) 0 (λ p. omega arith) ∙ getD-set-other filed heldAt j (flagNumber (isSet (w 57))) 0 (λ p. omega arith)
 
   -- A number that is none of the files' ones.
   past-files : (j : ℕ) → (j < lengthsAt) ⊎ ((foundOffsetsAt ≤ j) × (j < foundLengthsAt)) → getD filed j 0 ≡ getD described j 0
-  past-files j away =
-      each-other (putFile w) (length-of-file w) j 8
-      (λ k r h. ⊎-elim
-      (λ a. of-file-other w k j r (λ p. omega arith) (λ p. omega arith) (λ p. omega arith) (λ p. omega arith))
-      (λ a. let b = a .0 in let e = a .1 in
-      of-file-other w k j r (λ p. omega arith) (λ p. omega arith) (λ p. omega arith) (λ p. omega arith)) away)
-      described
+  past-files j away = each-other (putFile w) (length-of-file w) j 8 (λ k r h. ⊎-elim (λ a. of-file-other w k j r
+      (λ p. omega arith) (λ p. omega arith) (λ p. omega arith) (λ p. omega arith)) (λ a. let b = a .0 in let e = a .1 in
+      of-file-other w k j r (λ p. omega arith) (λ p. omega arith) (λ p. omega arith) (λ p. omega arith)) away) described
 
   untouched : (j : ℕ) → j < fileNumbersAt → getD granted j 0 ≡ getD (zeros stateLength) j 0
-  untouched j h =
-      before-grant j (omega arith) ∙ past-files j (inl (omega arith))
+  untouched j h = before-grant j (omega arith) ∙ past-files j (inl (omega arith))
       ∙ each-other (putDescriptor w) (length-descriptor w) j 16
       (λ k r l. descriptor-other w k j r (λ p. omega arith) (λ p. omega arith) (λ p. omega arith)) (zeros stateLength)
 
   at-file : (d : ℕ) → d < 16 → getD granted (fileNumbersAt + d) 0 ≡ w (1 + d)
-  at-file d h =
-      before-grant (fileNumbersAt + d) (omega arith) ∙ past-files (fileNumbersAt + d) (inl (omega arith))
+  at-file d h = before-grant (fileNumbersAt + d) (omega arith) ∙ past-files (fileNumbersAt + d) (inl (omega arith))
       ∙ each-own (putDescriptor w) (length-descriptor w) (fileNumbersAt + d) 16 d (w (1 + d)) stateLength h (own-file w d h)
       (λ i r a b. descriptor-other w i (fileNumbersAt + d) r (λ p. b (omega arith)) (λ p. omega arith) (λ p. omega arith))
       (zeros stateLength) (length-zeros stateLength)
 
   at-offset : (d : ℕ) → d < 16 → getD granted (offsetsAt + d) 0 ≡ w (17 + d)
-  at-offset d h =
-      before-grant (offsetsAt + d) (omega arith) ∙ past-files (offsetsAt + d) (inl (omega arith))
+  at-offset d h = before-grant (offsetsAt + d) (omega arith) ∙ past-files (offsetsAt + d) (inl (omega arith))
       ∙ each-own (putDescriptor w) (length-descriptor w) (offsetsAt + d) 16 d (w (17 + d)) stateLength h (own-offset w d h)
       (λ i r a b. descriptor-other w i (offsetsAt + d) r (λ p. omega arith) (λ p. b (omega arith)) (λ p. omega arith))
       (zeros stateLength) (length-zeros stateLength)
 
   at-found-offset : (d : ℕ) → d < 16 → getD granted (foundOffsetsAt + d) 0 ≡ w (60 + d)
-  at-found-offset d h =
-      before-grant (foundOffsetsAt + d) (omega arith) ∙ past-files (foundOffsetsAt + d) (inr (omega arith, omega arith))
-      ∙ each-own (putDescriptor w) (length-descriptor w) (foundOffsetsAt + d) 16 d (w (60 + d)) stateLength h
-      (own-found-offset w d h)
-      (λ i r a b. descriptor-other w i (foundOffsetsAt + d) r (λ p. omega arith) (λ p. omega arith) (λ p. b (omega arith)))
-      (zeros stateLength) (length-zeros stateLength)
+  at-found-offset d h = before-grant (foundOffsetsAt + d) (omega arith) ∙ past-files (foundOffsetsAt + d)
+      (inr (omega arith, omega arith)) ∙ each-own (putDescriptor w) (length-descriptor w) (foundOffsetsAt + d) 16 d
+      (w (60 + d)) stateLength h (own-found-offset w d h) (λ i r a b. descriptor-other w i (foundOffsetsAt + d) r
+      (λ p. omega arith) (λ p. omega arith) (λ p. b (omega arith))) (zeros stateLength) (length-zeros stateLength)
 
   at-length : (f : ℕ) → f < 8 → getD granted (lengthsAt + f) 0 ≡ w (33 + f)
-  at-length f h =
-      before-grant (lengthsAt + f) (omega arith)
-      ∙ each-own (putFile w) (length-of-file w) (lengthsAt + f) 8 f (w (33 + f)) stateLength h (own-length w f h)
-      (λ i r a b. of-file-other w i (lengthsAt + f) r (λ p. b (omega arith)) (λ p. omega arith) (λ p. omega arith)
-      (λ p. omega arith))
-      described long-described
+  at-length f h = before-grant (lengthsAt + f) (omega arith) ∙ each-own (putFile w) (length-of-file w) (lengthsAt + f) 8 f
+      (w (33 + f)) stateLength h (own-length w f h) (λ i r a b. of-file-other w i (lengthsAt + f) r (λ p. b (omega arith))
+      (λ p. omega arith) (λ p. omega arith) (λ p. omega arith)) described long-described
 
   at-start : (f : ℕ) → f < 8 → getD granted (startsAt + f) 0 ≡ w (41 + f)
-  at-start f h =
-      before-grant (startsAt + f) (omega arith)
-      ∙ each-own (putFile w) (length-of-file w) (startsAt + f) 8 f (w (41 + f)) stateLength h (own-start w f h)
-      (λ i r a b. of-file-other w i (startsAt + f) r (λ p. omega arith) (λ p. b (omega arith)) (λ p. omega arith)
-      (λ p. omega arith))
-      described long-described
+  at-start f h = before-grant (startsAt + f) (omega arith) ∙ each-own (putFile w) (length-of-file w) (startsAt + f) 8 f
+      (w (41 + f)) stateLength h (own-start w f h) (λ i r a b. of-file-other w i (startsAt + f) r (λ p. omega arith)
+      (λ p. b (omega arith)) (λ p. omega arith) (λ p. omega arith)) described long-described
 
   at-end : (f : ℕ) → f < 8 → getD granted (endsAt + f) 0 ≡ w (49 + f)
-  at-end f h =
-      before-grant (endsAt + f) (omega arith)
-      ∙ each-own (putFile w) (length-of-file w) (endsAt + f) 8 f (w (49 + f)) stateLength h (own-end w f h)
-      (λ i r a b. of-file-other w i (endsAt + f) r (λ p. omega arith) (λ p. omega arith) (λ p. b (omega arith))
-      (λ p. omega arith))
-      described long-described
+  at-end f h = before-grant (endsAt + f) (omega arith) ∙ each-own (putFile w) (length-of-file w) (endsAt + f) 8 f
+      (w (49 + f)) stateLength h (own-end w f h) (λ i r a b. of-file-other w i (endsAt + f) r (λ p. omega arith)
+      (λ p. omega arith) (λ p. b (omega arith)) (λ p. omega arith)) described long-described
 
   at-found-length : (f : ℕ) → f < 8 → getD granted (foundLengthsAt + f) 0 ≡ w (76 + f)
-  at-found-length f h =
-      before-grant (foundLengthsAt + f) (omega arith)
+  at-found-length f h = before-grant (foundLengthsAt + f) (omega arith)
       ∙ each-own (putFile w) (length-of-file w) (foundLengthsAt + f) 8 f (w (76 + f)) stateLength h (own-found-length w f h)
-      (λ i r a b. of-file-other w i (foundLengthsAt + f) r (λ p. omega arith) (λ p. omega arith) (λ p. omega arith) (λ p. b
-      (omega arith)))
-      described long-described
+      (λ i r a b. of-file-other w i (foundLengthsAt + f) r (λ p. omega arith) (λ p. omega arith) (λ p. omega arith)
+      (λ p. b (omega arith))) described long-described
 
   undo-granted : undoOf granted ≡ undoFrom w
   unfolding undoOf undoFrom withLastGrant
-  undo-granted =
-      let l = long-filed in
-      let n = flagNumber (isSet (w 57)) in
-      let a = set filed heldAt n in
-      let b = set a (heldAt + 1) (w 58) in
-      let la : length a ≡ length filed = length-set filed heldAt n in
+  undo-granted = let l = long-filed in let n = flagNumber (isSet (w 57)) in let a = set filed heldAt n in
+      let b = set a (heldAt + 1) (w 58) in let la : length a ≡ length filed = length-set filed heldAt n in
       let lb : length b ≡ length filed = length-set a (heldAt + 1) (w 58) ∙ la in
       let held : isSet (getD (set b (heldAt + 2) (w 59)) heldAt 0) ≡ isSet (w 57) =
-      ap isSet (getD-set-other b (heldAt + 2) heldAt (w 59) 0 (λ p. omega arith)
-      ∙ getD-set-other a (heldAt + 1) heldAt (w 58) 0 (λ p. omega arith)
-      ∙ getD-set-same filed heldAt n 0 (omega arith)) ∙ flag-back (isSet (w 57)) in
-      let records : getD (set b (heldAt + 2) (w 59)) (heldAt + 1) 0 ≡ w 58 =
-      getD-set-other b (heldAt + 2) (heldAt + 1) (w 59) 0 (λ p. omega arith)
-      ∙ getD-set-same a (heldAt + 1) (w 58) 0 (omega arith) in
-      let bytes : getD (set b (heldAt + 2) (w 59)) (heldAt + 2) 0 ≡ w 59 = getD-set-same b (heldAt + 2) (w 59) 0 (omega arith) in
-      let offsets : tabulate (λ d. getD granted (foundOffsetsAt + d) 0) 16 ≡ tabulate (λ d. w
-      (60 + d)) 16 = table-same _ _ 16 at-found-offset in
-      let lengths : tabulate (λ f. getD granted (foundLengthsAt + f) 0) 8 ≡ tabulate (λ f. w
-      (76 + f)) 8 = table-same _ _ 8 at-found-length in
-      λ i. record {
+      ap isSet (getD-set-other b (heldAt + 2) heldAt (w 59) 0 (λ p. omega arith) ∙ getD-set-other a (heldAt + 1) heldAt
+      (w 58) 0 (λ p. omega arith) ∙ getD-set-same filed heldAt n 0 (omega arith)) ∙ flag-back (isSet (w 57)) in
+      let records : getD (set b (heldAt + 2) (w 59)) (heldAt + 1) 0 ≡ w 58 = getD-set-other b (heldAt + 2) (heldAt + 1)
+      (w 59) 0 (λ p. omega arith) ∙ getD-set-same a (heldAt + 1) (w 58) 0 (omega arith) in
+      let bytes : getD (set b (heldAt + 2) (w 59)) (heldAt + 2) 0 ≡ w 59 =
+      getD-set-same b (heldAt + 2) (w 59) 0 (omega arith) in
+      let offsets : tabulate (λ d. getD granted (foundOffsetsAt + d) 0) 16 ≡ tabulate (λ d. w (60 + d)) 16 =
+      table-same _ _ 16 at-found-offset in
+      let lengths : tabulate (λ f. getD granted (foundLengthsAt + f) 0) 8 ≡ tabulate (λ f. w (76 + f)) 8 =
+      table-same _ _ 8 at-found-length in λ i. record {
         valid = held i;
         used = record { records = records i; bytes = bytes i };
         offsets = offsets i;
@@ -307,22 +247,19 @@ module _ (w : ℕ → ℕ) where
 
   none-begun : tabulate (transactionOf granted) 8 ≡ replicate 8 ended
   unfolding storeOf
-  none-begun =
-      transactions-same (zeros stateLength) granted (λ j a b. untouched j (omega arith))
+  none-begun = transactions-same (zeros stateLength) granted (λ j a b. untouched j (omega arith))
       ∙ ap (λ (s : StoreMeaning). s .transactions) (store-of-zeros (zeros stateLength) zero-anywhere)
 
   pub store-granted : storeOf granted ≡ storeFrom w
   unfolding storeOf storeFrom windowOf
-  store-granted =
-      let files : tabulate (λ d. getD granted (fileNumbersAt + d) 0) 16 ≡ tabulate (λ d. w (1 + d)) 16 =
+  store-granted = let files : tabulate (λ d. getD granted (fileNumbersAt + d) 0) 16 ≡ tabulate (λ d. w (1 + d)) 16 =
       table-same _ _ 16 at-file in
       let offsets : tabulate (λ d. getD granted (offsetsAt + d) 0) 16 ≡ tabulate (λ d. w (17 + d)) 16 =
       table-same _ _ 16 at-offset in
       let lengths : tabulate (λ f. getD granted (lengthsAt + f) 0) 8 ≡ tabulate (λ f. w (33 + f)) 8 =
       table-same _ _ 8 at-length in
       let windows : tabulate (windowOf granted) 8 ≡ tabulate (λ f. window (w (41 + f)) (w (49 + f))) 8 =
-      table-same _ _ 8 (λ f h i. window (at-start f h i) (at-end f h i)) in
-      λ i. record {
+      table-same _ _ 8 (λ f h i. window (at-start f h i) (at-end f h i)) in λ i. record {
         filenumbers = files i;
         offsets = offsets i;
         lengths = lengths i;
@@ -333,22 +270,19 @@ module _ (w : ℕ → ℕ) where
 
   pub journal-granted : journalOf granted ≡ zeros 1728
   unfolding journalOf
-  journal-granted =
-      table-same (λ k. getD granted k 0) (λ k. getD (zeros 1728) k 0) 1728
-      (λ k h. untouched k (omega arith) ∙ zero-anywhere k ∙ sym (zero-at 1728 k h))
+  journal-granted = table-same (λ k. getD granted k 0) (λ k. getD (zeros 1728) k 0) 1728 (λ k h. untouched k (omega arith)
+      ∙ zero-anywhere k ∙ sym (zero-at 1728 k h))
       ∙ ap (λ (n : ℕ). tabulate (λ k. getD (zeros 1728) k 0) n) (sym (length-zeros 1728)) ∙ tabulate-getD (zeros 1728) 0
 
 -- ---- the write records
 
 module _ (f : ℕ → WriteRecord) where
   -- In the record as in its journal.
-  journal-records : (r : List ℕ) → length r ≡ stateLength → (n : ℕ) → n ≤ 64
-      → (storeOf (withRecords r lastGrant f n) ≡ storeOf r)
-      × (journalOf (withRecords r lastGrant f n) ≡ withRecords (journalOf r) lastGrant f n)
+  journal-records : (r : List ℕ) → length r ≡ stateLength → (n : ℕ) → n ≤ 64 → (storeOf (withRecords r lastGrant f n)
+      ≡ storeOf r) × (journalOf (withRecords r lastGrant f n) ≡ withRecords (journalOf r) lastGrant f n)
   unfolding withRecords
   journal-records r l zero h = (refl, refl)
-  journal-records r l (suc n) h =
-      let s = withRecords r lastGrant f n in
+  journal-records r l (suc n) h = let s = withRecords r lastGrant f n in
       let long : length s ≡ stateLength = length-with r lastGrant f n ∙ l in
       let before = journal-records r l n (omega arith) in (
         store-with-record s long lastGrant n (f n) (omega arith) (omega arith) ∙ before .0,
@@ -368,20 +302,13 @@ module _ (f : ℕ → WriteRecord) where
     all-of-them : (m : ℕ) → withRecords journal lastGrant f (m + 64) ≡ withRecords journal lastGrant f 64
     unfolding withRecords
     all-of-them zero = refl
-    all-of-them (suc m) =
-        ap (withRecords journal lastGrant f) (suc-add m 64)
-        ∙ past-last (withRecords journal lastGrant f (m + 64)) (m + 64) (f (m + 64)) (length-with journal lastGrant f
-        (m + 64) ∙ long)
-        (omega arith) ∙ all-of-them m
+    all-of-them (suc m) = ap (withRecords journal lastGrant f) (suc-add m 64) ∙ past-last (withRecords journal lastGrant f
+        (m + 64)) (m + 64) (f (m + 64)) (length-with journal lastGrant f (m + 64) ∙ long) (omega arith) ∙ all-of-them m
 
     pub records-cut : (n : ℕ) → withRecords journal lastGrant f (min n 64) ≡ withRecords journal lastGrant f n
-    records-cut n =
-        ⊎-elim
-        (λ h. let e : min n 64 ≡ n = omega arith in rw e)
-        (λ h. let e : min n 64 ≡ 64 = omega arith in
-        let q : n ≡ (n - 64) + 64 = omega arith in
-        rw e (sym (all-of-them (n - 64)) ∙ ap (withRecords journal lastGrant f) (sym q)))
-        (le-or-lt n 64)
+    records-cut n = ⊎-elim (λ h. let e : min n 64 ≡ n = omega arith in rw e)
+        (λ h. let e : min n 64 ≡ 64 = omega arith in let q : n ≡ (n - 64) + 64 =
+        omega arith in rw e (sym (all-of-them (n - 64)) ∙ ap (withRecords journal lastGrant f) (sym q))) (le-or-lt n 64)
 
 module _ (w : ℕ → ℕ) where
   abbrev built : List ℕ
@@ -389,12 +316,10 @@ module _ (w : ℕ → ℕ) where
 
   pub young-built : Young w built
   unfolding journalFrom
-  young-built =
-      let j = journal-records (recordFrom w) (granted w) (long-granted w) (min (w 58) 64) (omega arith) in
+  young-built = let j = journal-records (recordFrom w) (granted w) (long-granted w) (min (w 58) 64) (omega arith) in
       record {
         long = length-with (granted w) lastGrant (recordFrom w) (min (w 58) 64) ∙ long-granted w;
         store = j .0 ∙ store-granted w;
-        journal =
-            j .1 ∙ ap (λ (l : List ℕ). withRecords l lastGrant (recordFrom w) (min (w 58) 64)) (journal-granted w)
+        journal = j .1 ∙ ap (λ (l : List ℕ). withRecords l lastGrant (recordFrom w) (min (w 58) 64)) (journal-granted w)
             ∙ records-cut (recordFrom w) (zeros 1728) (length-zeros 1728) (w 58);
       }

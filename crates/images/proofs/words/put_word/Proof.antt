@@ -1,24 +1,13 @@
 -- `words::put_word` meets its contract.
-use native.Mathlib.Omega.{arith}
-use mathlib.Core.Path.{_≡_, refl, sym, ap, _∙_}
+use mathlib.Core.Path.{refl}
 use Rattle.images.specs.Words.{withWordAt}
 use borrow.Author.Needs.{needs}
-use Rattle.images.proofs.words.put_word.Statement.{statement}
 use Rattle.images.proofs.words.put_word.Tie as tie
 
 returns : tie.Need-returns
 unfolding withWordAt
 returns c = refl
 
-pub put-word-spec : {M : Type 1} → statement M
-put-word-spec =
-    tie.close
-    (tie.spec
-    (λ c. search needs)
-    (λ c. search needs)
-    (λ c. search needs)
-    (λ c. search needs)
-    (λ c. search needs)
-    (λ c. search needs)
-    (λ c. search needs)
-    returns)
+pub put-word-spec : {M : Type 1} → Rattle.images.proofs.words.put_word.Statement.statement M
+put-word-spec = tie.close (tie.spec (λ c. search needs) (λ c. search needs) (λ c. search needs)
+    (λ c. search needs) (λ c. search needs) (λ c. search needs) (λ c. search needs) returns)

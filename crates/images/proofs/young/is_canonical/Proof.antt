@@ -1,15 +1,11 @@
 -- `young::is_canonical` meets its contract.
-use mathlib.Core.Path.{_≡_, refl, sym, ap, _∙_}
+use mathlib.Core.{Path._≡_, Bool._||_}
 use native.Mathlib.Omega.{arith}
-use Prim.Native.Nat.{ℕ, _+_, _-_, _*_, _≤_, _<_}
-use Rattle.images.specs.Words.{wordAt}
-use mathlib.Core.Bool.{_||_}
+use Prim.Native.Nat.{_-_, _≤_}
+use Rattle.images.specs.{Words.wordAt, Images.{blankRecord, canonical}}
 use lib.Dec.{ltb}
-use Rattle.buffers.proofs.BelowLaws.{none-yet, one-more}
-use Rattle.buffers.specs.Below.{below}
-use Rattle.images.specs.Images.{blankRecord, canonical}
+use Rattle.buffers.{proofs.BelowLaws.{none-yet, one-more}, specs.Below.below}
 use borrow.Author.Needs.{needs}
-use Rattle.images.proofs.young.is_canonical.Statement.{statement}
 use Rattle.images.proofs.young.is_canonical.Tie as tie
 
 abbrev Inv-loop : tie.InvT-loop
@@ -18,32 +14,15 @@ Inv-loop image records good₀ k₀ good k = (k ≤ 64) × (good ≡ below (λ j
 abbrev μ-loop : tie.MeasureT-loop
 μ-loop image records good₀ k₀ good k = 64 - k
 
-loop-holds : tie.Need-loop-holds Inv-loop μ-loop
-loop-holds c = (omega arith, none-yet _)
-
 loop-again : tie.Need-loop-again Inv-loop μ-loop
 loop-again c = (omega arith, one-more _ _ _ _ (c .before .before .loop .inv .1) (rw (c .is-blank .ensures)))
 
 returns : tie.Need-returns Inv-loop μ-loop
 unfolding canonical
-returns c =
-    let l = c .before .before .loop in
-    let n = c .before .before .before in
-    let e : l .k ≡ 64 = omega arith in
+returns c = let l = c .before .before .loop in let n = c .before .before .before in let e : l .k ≡ 64 = omega arith in
     rw (c .word-at2 .ensures, l .inv .1, e, n .wide .ensures .0, n .before .word-at .ensures)
 
-pub is-canonical-spec : {M : Type 1} → statement M
-is-canonical-spec =
-    tie.close
-    (tie.spec
-    Inv-loop
-    μ-loop
-    (λ c κs. search needs)
-    (λ c κs. search needs)
-    loop-holds
-    (λ c κs. search needs)
-    (λ c. search needs)
-    (λ c. search needs)
-    loop-again
-    (λ c κs. search needs)
-    returns)
+pub is-canonical-spec : {M : Type 1} → Rattle.images.proofs.young.is_canonical.Statement.statement M
+is-canonical-spec = tie.close
+    (tie.spec Inv-loop μ-loop (λ c κs. search needs) (λ c κs. search needs) (λ c. (omega arith, none-yet _))
+    (λ c κs. search needs) (λ c. search needs) (λ c. search needs) loop-again (λ c κs. search needs) returns)

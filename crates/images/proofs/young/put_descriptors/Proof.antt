@@ -1,12 +1,9 @@
 -- `young::put_descriptors` meets its contract. The loop's invariant: those below d are put.
-use mathlib.Core.Path.{_≡_, refl, sym, ap, _∙_}
-use native.Mathlib.Omega.{arith}
-use Prim.Native.Nat.{ℕ, _+_, _-_, _*_, _≤_, _<_}
-use native.Mathlib.Numerals.{add-one}
-use Rattle.images.specs.Words.{wordAt}
-use Rattle.images.specs.Young.{withEach, putDescriptor}
+use mathlib.Core.Path.{_≡_, refl, _∙_}
+use native.Mathlib.{Omega.arith, Numerals.add-one}
+use Prim.Native.Nat.{_-_, _≤_}
+use Rattle.images.specs.{Words.wordAt, Young.{withEach, putDescriptor}}
 use borrow.Author.Needs.{needs}
-use Rattle.images.proofs.young.put_descriptors.Statement.{statement}
 use Rattle.images.proofs.young.put_descriptors.Tie as tie
 
 abbrev Inv-loop : tie.InvT-loop
@@ -21,8 +18,7 @@ loop-holds c = (omega arith, refl)
 
 loop-again : tie.Need-loop-again Inv-loop μ-loop
 unfolding withEach putDescriptor
-loop-again c =
-    let file = c .before .before .before .before .before .before in
+loop-again c = let file = c .before .before .before .before .before .before in
     let l = file .before .before .before .before .loop in (
       omega arith,
       c .put-found-offset .ensures ∙ rw (
@@ -39,23 +35,8 @@ loop-again c =
 returns : tie.Need-returns Inv-loop μ-loop
 returns c = let l = c .before .loop in let e : l .d ≡ 16 = omega arith in rw e at (l .inv .1)
 
-pub put-descriptors-spec : {M : Type 1} → statement M
-put-descriptors-spec =
-    tie.close
-    (tie.spec
-    Inv-loop
-    μ-loop
-    loop-holds
-    (λ c. search needs)
-    (λ c κs. search needs)
-    (λ c κs. search needs)
-    (λ c. search needs)
-    (λ c κs. search needs)
-    (λ c κs. search needs)
-    (λ c. search needs)
-    (λ c κs. search needs)
-    (λ c κs. search needs)
-    (λ c. search needs)
-    (λ c. search needs)
-    loop-again
-    returns)
+pub put-descriptors-spec : {M : Type 1} → Rattle.images.proofs.young.put_descriptors.Statement.statement M
+put-descriptors-spec = tie.close
+    (tie.spec Inv-loop μ-loop loop-holds (λ c. search needs) (λ c κs. search needs) (λ c κs. search needs)
+    (λ c. search needs) (λ c κs. search needs) (λ c κs. search needs) (λ c. search needs)
+    (λ c κs. search needs) (λ c κs. search needs) (λ c. search needs) (λ c. search needs) loop-again returns)

@@ -1,12 +1,9 @@
 -- `young::put_files` meets its contract. The loop's invariant: those below f are put.
-use mathlib.Core.Path.{_≡_, refl, sym, ap, _∙_}
-use native.Mathlib.Omega.{arith}
-use Prim.Native.Nat.{ℕ, _+_, _-_, _*_, _≤_, _<_}
-use native.Mathlib.Numerals.{add-one}
-use Rattle.images.specs.Words.{wordAt}
-use Rattle.images.specs.Young.{withEach, putFile}
+use mathlib.Core.Path.{_≡_, refl, _∙_}
+use native.Mathlib.{Omega.arith, Numerals.add-one}
+use Prim.Native.Nat.{_-_, _≤_}
+use Rattle.images.specs.{Words.wordAt, Young.{withEach, putFile}}
 use borrow.Author.Needs.{needs}
-use Rattle.images.proofs.young.put_files.Statement.{statement}
 use Rattle.images.proofs.young.put_files.Tie as tie
 
 abbrev Inv-loop : tie.InvT-loop
@@ -21,8 +18,7 @@ loop-holds c = (omega arith, refl)
 
 loop-again : tie.Need-loop-again Inv-loop μ-loop
 unfolding withEach putFile
-loop-again c =
-    let length = c .before .before .before .before .before .before in
+loop-again c = let length = c .before .before .before .before .before .before in
     let l = length .before .before .before .before .loop in (
       omega arith,
       c .put-found-length .ensures ∙ rw (
@@ -39,22 +35,7 @@ loop-again c =
 returns : tie.Need-returns Inv-loop μ-loop
 returns c = let l = c .before .loop in let e : l .f ≡ 8 = omega arith in rw e at (l .inv .1)
 
-pub put-files-spec : {M : Type 1} → statement M
-put-files-spec =
-    tie.close
-    (tie.spec
-    Inv-loop
-    μ-loop
-    loop-holds
-    (λ c. search needs)
-    (λ c κs. search needs)
-    (λ c κs. search needs)
-    (λ c κs. search needs)
-    (λ c κs. search needs)
-    (λ c. search needs)
-    (λ c κs. search needs)
-    (λ c κs. search needs)
-    (λ c. search needs)
-    (λ c. search needs)
-    loop-again
-    returns)
+pub put-files-spec : {M : Type 1} → Rattle.images.proofs.young.put_files.Statement.statement M
+put-files-spec = tie.close (tie.spec Inv-loop μ-loop loop-holds (λ c. search needs) (λ c κs. search needs)
+    (λ c κs. search needs) (λ c κs. search needs) (λ c κs. search needs) (λ c. search needs)
+    (λ c κs. search needs) (λ c κs. search needs) (λ c. search needs) (λ c. search needs) loop-again returns)

@@ -3,7 +3,6 @@ use mathlib.Core.Path.{_∙_}
 use Rattle.c_codes.proofs.CodeLaws.{read-back}
 use Rattle.c_scripts.proofs.RunLaws.{runs}
 use borrow.Author.Needs.{needs}
-use Rattle.c_scripts.proofs.luzhanem_parts_dispatch.Statement.{statement}
 use Rattle.c_scripts.proofs.luzhanem_parts_dispatch.Tie as tie
 use Rattle.c_scripts.proofs.luzhanem_parts_dispatch.Reads as reads
 use Rattle.c_scripts.proofs.luzhanem_parts_dispatch.Lts as lts
@@ -31,20 +30,11 @@ same-length c = search needs
 
 -- src/lib.rt:236:1
 returns : tie.Need-returns
-returns c =
-    let ran = c .before .before .before .before .before in
+returns c = let ran = c .before .before .before .before .before in
     let decoded = ran .before .before .before .before .before .before .before in
-    runs _ _ _ _ _ _ _ _ _ _ _ _ _ (decoded .scripts-of .ensures) (ran .dispatch .ensures)
-    (read-back _ (c .code .ok) ∙ c .code .ensures)
-    (c .before .ends-of .ensures)
+    runs _ _ _ _ _ _ _ _ _ _ _ _ _ (decoded .scripts-of .ensures) (ran .dispatch .ensures) (read-back _ (c .code .ok)
+    ∙ c .code .ensures) (c .before .ends-of .ensures)
 
-pub luzhanem-parts-dispatch-spec : {M : Type 1} → statement M
-luzhanem-parts-dispatch-spec =
-    tie.close
-    (tie.spec
-    scripts-of-requires
-    dispatch-requires
-    ends-of-requires
-    code-requires
-    same-length
-    returns)
+pub luzhanem-parts-dispatch-spec : {M : Type 1} → Rattle.c_scripts.proofs.luzhanem_parts_dispatch.Statement.statement M
+luzhanem-parts-dispatch-spec = tie.close
+    (tie.spec scripts-of-requires dispatch-requires ends-of-requires code-requires same-length returns)

@@ -1,11 +1,8 @@
 -- `flat_scripts::call_of` meets its contract: in each arm the kind is the arm's.
 use mathlib.Core.Path.{sym, ap}
 use Prim.Native.Nat.{ℕ}
-use Rattle.dispatcher.specs.declared.scripts.ScriptCall.{ScriptCall}
 use Rattle.c_scripts.specs.FlatScripts.{flatCallOf}
 use Rattle.c_scripts.proofs.RunLaws.{no-kind}
-use borrow.Author.Needs.{needs}
-use Rattle.c_scripts.proofs.flat_scripts.call_of.Statement.{statement}
 use Rattle.c_scripts.proofs.flat_scripts.call_of.Tie as tie
 
 returns : tie.Need-returns
@@ -25,9 +22,8 @@ unfolding flatCallOf
 returns-4 c = sym (ap (λ (k : ℕ). flatCallOf k (c .before .args .d) (c .before .args .at) (c .before .args .n)) (c .match .keys4))
 
 returns-5 : tie.Need-returns-5
-returns-5 c =
-    let other = c .match .rest in
+returns-5 c = let other = c .match .rest in
     no-kind (c .before .args .kind) _ _ _ (other .0 .0 .0 .1) (other .0 .0 .1) (other .0 .1) (other .1)
 
-pub call-of-spec : {M : Type 1} → statement M
+pub call-of-spec : {M : Type 1} → Rattle.c_scripts.proofs.flat_scripts.call_of.Statement.statement M
 call-of-spec = tie.close (tie.spec returns returns-2 returns-3 returns-4 returns-5)

@@ -1,10 +1,8 @@
 -- `flat_scripts::line_at` meets its contract.
 use mathlib.Core.Path.{ap}
-use Rattle.dispatcher.specs.declared.scripts.ScriptCall.{ScriptCall}
-use Rattle.dispatcher.specs.declared.scripts.ScriptLine.{ScriptLine}
+use Rattle.dispatcher.specs.declared.scripts.{ScriptCall.ScriptCall, ScriptLine.ScriptLine}
 use Rattle.c_scripts.specs.FlatScripts.{lineFrom}
 use borrow.Author.Needs.{needs}
-use Rattle.c_scripts.proofs.flat_scripts.line_at.Statement.{statement}
 use Rattle.c_scripts.proofs.flat_scripts.line_at.Tie as tie
 use Rattle.c_scripts.proofs.flat_scripts.line_at.Reads as reads
 use Rattle.c_scripts.proofs.flat_scripts.line_at.Lts as lts
@@ -69,21 +67,6 @@ returns : tie.Need-returns
 unfolding lineFrom
 returns c = ap (λ (x : ScriptCall). line x) (c .call-of .ensures)
 
-pub line-at-spec : {M : Type 1} → statement M
-line-at-spec =
-    tie.close
-    (tie.spec
-    mul-at
-    mul-kind
-    element-copy-out-kind
-    add-d
-    mul-d
-    element-copy-out-d
-    add-start
-    mul-start
-    element-copy-out-start
-    add-n
-    mul-n
-    element-copy-out-n
-    call-of-requires
-    returns)
+pub line-at-spec : {M : Type 1} → Rattle.c_scripts.proofs.flat_scripts.line_at.Statement.statement M
+line-at-spec = tie.close (tie.spec mul-at mul-kind element-copy-out-kind add-d mul-d element-copy-out-d
+    add-start mul-start element-copy-out-start add-n mul-n element-copy-out-n call-of-requires returns)

@@ -3,7 +3,6 @@ use mathlib.Core.Path.{_∙_}
 use Rattle.c_codes.proofs.CodeLaws.{read-back}
 use Rattle.c_calls.proofs.OrderLaws.{order-found}
 use borrow.Author.Needs.{needs}
-use Rattle.c_calls.proofs.luzhanem_parts_best_order.Statement.{statement}
 use Rattle.c_calls.proofs.luzhanem_parts_best_order.Tie as tie
 use Rattle.c_calls.proofs.luzhanem_parts_best_order.Reads as reads
 use Rattle.c_calls.proofs.luzhanem_parts_best_order.Lts as lts
@@ -27,12 +26,10 @@ code-requires c κs = search needs
 
 -- src/lib.rt:209:1
 returns : tie.Need-returns
-returns c =
-    let ordered = c .before .before .before .before .best-order .ensures in
+returns c = let ordered = c .before .before .before .before .best-order .ensures in
     order-found _ _ _ _ _ _ _ _ _ _ _ (ordered .0) (ordered .1) (read-back _ (c .code .ok) ∙ c .code .ensures)
     (c .before .before .gap-in .ensures) (c .before .tried-of .ensures)
 
-pub luzhanem-parts-best-order-spec : {M : Type 1} → statement M
+pub luzhanem-parts-best-order-spec : {M : Type 1} → Rattle.c_calls.proofs.luzhanem_parts_best_order.Statement.statement M
 luzhanem-parts-best-order-spec =
-    tie.close
-    (tie.spec best-order-requires gap-in-requires tried-of-requires code-requires returns)
+    tie.close (tie.spec best-order-requires gap-in-requires tried-of-requires code-requires returns)

@@ -4,7 +4,6 @@ use Rattle.state.specs.Outcomes.{said}
 use Rattle.c_codes.proofs.CodeLaws.{read-back, looked-none, looked-some}
 use native.Mathlib.Omega.{arith}
 use borrow.Author.Needs.{needs}
-use Rattle.c_calls.proofs.looks.luzhanem_parts_offset.Statement.{statement}
 use Rattle.c_calls.proofs.looks.luzhanem_parts_offset.Tie as tie
 
 returns : tie.Need-returns
@@ -13,11 +12,9 @@ returns c = read-back _ (c .code .ok) ∙ (c .code .ensures ∙ looked-none 16 (
 
 returns-2 : tie.Need-returns-2
 unfolding said
-returns-2 c =
-    read-back _ (c .code2 .ok)
-    ∙ (c .code2 .ensures
+returns-2 c = read-back _ (c .code2 .ok) ∙ (c .code2 .ensures
     ∙ looked-some 16 (c .before .before .before .args .d) 6 _ _ (omega arith) (c .before .offset-at .ensures))
 
-pub luzhanem-parts-offset-spec : {M : Type 1} → statement M
+pub luzhanem-parts-offset-spec : {M : Type 1} → Rattle.c_calls.proofs.looks.luzhanem_parts_offset.Statement.statement M
 luzhanem-parts-offset-spec =
     tie.close (tie.spec (λ c κs. search needs) returns (λ c κs. search needs) (λ c κs. search needs) returns-2)

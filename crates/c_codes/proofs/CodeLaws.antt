@@ -1,24 +1,14 @@
 -- Laws of the codes.
-use mathlib.Core.List.{List}
-use mathlib.Core.Path.{_≡_, refl, sym, ap, subst, _∙_}
+use mathlib.Core.{List.List, Path.{_≡_, refl, sym, ap, subst, _∙_}, Bool.{true, false}}
 use native.Mathlib.Omega.{arith}
 use Prim.Native.Nat.{ℕ, zero, suc, _<_, _≤_, _^_}
-use lib.IntN.{ℤ, pos, negsuc, negℤ, _-ℤ_, +ℤ-idl}
-use mir.Syntax.{w32}
-use lib.Signed.{mag}
-use mir.Val.{SFits, toZ, ofZ}
-use mir.ValLaws.{toZ-ofZ}
-use denote.Ref.{now}
-use mathlib.Core.Bool.{true, false}
+use lib.{IntN.{ℤ, pos, negℤ, _-ℤ_, +ℤ-idl}, Signed.mag}
+use mir.{Syntax.w32, Val.{SFits, toZ, ofZ}, ValLaws.toZ-ofZ}
 use borrow.Author.Tests.{lt-ltb, le-ltb}
-use Rattle.state.specs.declared.Transaction.{Transaction}
-use Rattle.state.specs.declared.outcomes.Refusal.{Refusal}
-use Rattle.state.specs.declared.outcomes.Outcome.{Outcome}
+use Rattle.state.specs.declared.{Transaction.Transaction, outcomes.Outcome.Outcome}
 use Rattle.state.specs.declared.outcomes.Outcome.the-variants.{Done, Offset, Given, Granted, Pairs, Ordered, Refused}
-use Rattle.state.specs.Outcomes.{number, Said, doneAnswer, pointer, given, granted, pairs, ordered, refused, said}
-use Rattle.spec.specs.Machine.{Machine}
-use Rattle.spec.specs.Calls.{Turn}
-use Rattle.spec.specs.Promises.{Lent, handed, handedBack, LeftAsFound, Meets, Follows}
+use Rattle.state.specs.Outcomes.{Said, doneAnswer, pointer, given, granted, pairs, ordered, refused, said}
+use Rattle.spec.specs.{Machine.Machine, Calls.Turn, Promises.{Lent, LeftAsFound, Follows}}
 use Rattle.c_codes.specs.Codes.{negated, codeOf, AnswersAsCode, looked, stateOf}
 
 -- ---- 0 less an octet
@@ -89,13 +79,12 @@ left-of (Refused r) before after h n e other = h r refl (λ p. other (sym (ap nu
 pub answers : (rule : Machine → Turn) (state files logs marks undo : Lent) (o : Outcome) (reader : List ℕ) (r : ℤ)
     → Follows rule state files logs marks undo o reader → r ≡ codeOf (said o)
     → AnswersAsCode rule state files logs marks undo r reader
-answers rule state files logs marks undo o reader r h e =
-    record {
-      answer = e ∙ ap codeOf (h .0 .outcome);
-      machine = h .0 .machine;
-      buffer = h .0 .reader;
-      left = λ n q other. left-of o _ _ (h .1) n (h .0 .outcome ∙ q) other;
-    }
+answers rule state files logs marks undo o reader r h e = record {
+  answer = e ∙ ap codeOf (h .0 .outcome);
+  machine = h .0 .machine;
+  buffer = h .0 .reader;
+  left = λ n q other. left-of o _ _ (h .1) n (h .0 .outcome ∙ q) other;
+}
 
 -- ---- looking
 

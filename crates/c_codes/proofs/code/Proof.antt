@@ -1,11 +1,9 @@
 -- `c_codes::code` meets its contract: in each arm the outcome is the arm's.
 use mathlib.Core.Path.{sym, ap}
 use borrow.Author.Needs.{needs}
-use Rattle.state.specs.declared.outcomes.Outcome.{Outcome}
-use Rattle.state.specs.Outcomes.{said}
+use Rattle.state.specs.{declared.outcomes.Outcome.Outcome, Outcomes.said}
 use Rattle.c_codes.specs.Codes.{codeOf}
 use Rattle.c_codes.proofs.CodeLaws.{code-of-arm}
-use Rattle.c_codes.proofs.code.Statement.{statement}
 use Rattle.c_codes.proofs.code.Tie as tie
 
 returns : tie.Need-returns
@@ -36,27 +34,8 @@ returns-7 : tie.Need-returns-7
 unfolding codeOf said
 returns-7 c = code-of-arm _ _ _ (c .from-refusal .ok) (c .from-refusal .ensures) (c .before .before .o6 .given .1)
 
-pub code-spec : {M : Type 1} → statement M
-code-spec =
-    tie.close
-    (tie.spec
-    (λ c. search needs)
-    (λ c. search needs)
-    (λ c κs. search needs)
-    (λ c. search needs)
-    (λ c κs. search needs)
-    (λ c. search needs)
-    (λ c κs. search needs)
-    (λ c. search needs)
-    (λ c κs. search needs)
-    (λ c. search needs)
-    (λ c κs. search needs)
-    (λ c. search needs)
-    (λ c κs. search needs)
-    returns
-    returns-2
-    returns-3
-    returns-4
-    returns-5
-    returns-6
-    returns-7)
+pub code-spec : {M : Type 1} → Rattle.c_codes.proofs.code.Statement.statement M
+code-spec = tie.close (tie.spec (λ c. search needs) (λ c. search needs) (λ c κs. search needs)
+    (λ c. search needs) (λ c κs. search needs) (λ c. search needs) (λ c κs. search needs) (λ c. search needs)
+    (λ c κs. search needs) (λ c. search needs) (λ c κs. search needs) (λ c. search needs)
+    (λ c κs. search needs) returns returns-2 returns-3 returns-4 returns-5 returns-6 returns-7)

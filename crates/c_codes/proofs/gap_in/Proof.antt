@@ -2,7 +2,6 @@
 use Rattle.state.specs.Outcomes.{said}
 use Rattle.c_codes.specs.Codes.{gapIn}
 use borrow.Author.Needs.{needs}
-use Rattle.c_codes.proofs.gap_in.Statement.{statement}
 use Rattle.c_codes.proofs.gap_in.Tie as tie
 use Rattle.c_codes.proofs.gap_in.Reads as reads
 use Rattle.c_codes.proofs.gap_in.Lts as lts
@@ -75,22 +74,6 @@ returns-7 : tie.Need-returns-7
 unfolding gapIn said
 returns-7 c = search needs
 
-pub gap-in-spec : {M : Type 1} → statement M
-gap-in-spec =
-    tie.close
-    (tie.spec
-    enum-told
-    enum-told-2
-    enum-told-3
-    enum-told-4
-    enum-told-5
-    enum-known-o
-    wider-requires
-    enum-told-6
-    returns
-    returns-2
-    returns-3
-    returns-4
-    returns-5
-    returns-6
-    returns-7)
+pub gap-in-spec : {M : Type 1} → Rattle.c_codes.proofs.gap_in.Statement.statement M
+gap-in-spec = tie.close (tie.spec enum-told enum-told-2 enum-told-3 enum-told-4 enum-told-5 enum-known-o
+    wider-requires enum-told-6 returns returns-2 returns-3 returns-4 returns-5 returns-6 returns-7)

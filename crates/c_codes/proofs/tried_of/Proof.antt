@@ -2,7 +2,6 @@
 use Rattle.state.specs.Outcomes.{said}
 use Rattle.c_codes.specs.Codes.{triedIn}
 use borrow.Author.Needs.{needs}
-use Rattle.c_codes.proofs.tried_of.Statement.{statement}
 use Rattle.c_codes.proofs.tried_of.Tie as tie
 use Rattle.c_codes.proofs.tried_of.Reads as reads
 use Rattle.c_codes.proofs.tried_of.Lts as lts
@@ -70,21 +69,6 @@ returns-7 : tie.Need-returns-7
 unfolding triedIn said
 returns-7 c = search needs
 
-pub tried-of-spec : {M : Type 1} → statement M
-tried-of-spec =
-    tie.close
-    (tie.spec
-    enum-told
-    enum-told-2
-    enum-told-3
-    enum-told-4
-    enum-told-5
-    enum-known-o
-    enum-told-6
-    returns
-    returns-2
-    returns-3
-    returns-4
-    returns-5
-    returns-6
-    returns-7)
+pub tried-of-spec : {M : Type 1} → Rattle.c_codes.proofs.tried_of.Statement.statement M
+tried-of-spec = tie.close (tie.spec enum-told enum-told-2 enum-told-3 enum-told-4 enum-told-5 enum-known-o
+    enum-told-6 returns returns-2 returns-3 returns-4 returns-5 returns-6 returns-7)

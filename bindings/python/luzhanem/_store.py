@@ -5,6 +5,7 @@ import ctypes
 import enum
 import threading
 from collections.abc import Callable, Iterable, Sequence
+from dataclasses import dataclass
 from typing import Any, BinaryIO, NamedTuple, Union
 
 from ._library import (
@@ -21,12 +22,14 @@ class State(enum.IntEnum):
     STALE = 2
 
 
-class Seek(NamedTuple):
+@dataclass(frozen=True)
+class Seek:
     descriptor: int
     offset: int
 
 
-class Write(NamedTuple):
+@dataclass(frozen=True)
+class Write:
     """A write of `count` bytes of the dispatcher's data, from `start` on."""
 
     descriptor: int
@@ -34,11 +37,13 @@ class Write(NamedTuple):
     count: int
 
 
-class GetFilePointer(NamedTuple):
+@dataclass(frozen=True)
+class GetFilePointer:
     descriptor: int
 
 
-class Read(NamedTuple):
+@dataclass(frozen=True)
+class Read:
     descriptor: int
     count: int
 
@@ -106,7 +111,7 @@ class Store:
     def record(self, to: Sink | None) -> None:
         """Records from now on; None ends it. `replay` starts from block() as it is now: write that to a file first."""
         with self._lock:
-            self._recorder = getattr(to, "write", to) if to is not None else None
+            self._recorder = to if to is None or callable(to) else to.write
             self.record_error = None
             self._put(b"V1\n")
 
@@ -124,7 +129,7 @@ class Store:
 
     def _put_line(self, name: str, *arguments: object) -> None:
         if self._recorder is not None:
-            self._put(self._line[: LINE[name](self._line, LINE_BYTES, *arguments)])
+            self._put(ctypes.string_at(self._line, LINE[name](self._line, LINE_BYTES, *arguments)))
 
     def _recorded(
         self, name: str, arguments: tuple[object, ...], recorded: tuple[object, ...] | None = None,
@@ -243,8 +248,7 @@ class Store:
         """What is committed of file f."""
         with self._lock:
             n = self._look("length", _number(f))
-            start = FILES_AT + 4096 * f
-            return self._block[start : start + min(n, 4096)]
+            return ctypes.string_at(ctypes.byref(self._block, FILES_AT + 4096 * f), min(n, 4096))
 
     def check(self) -> None:
         """Raises RECORD_RANGE if a number of the store is out of its range."""
@@ -269,7 +273,7 @@ class Store:
     def block(self) -> bytes:
         """All of the store, with what is open: the saved block that `replay` starts from. It fits one layout only."""
         with self._lock:
-            return self._block[:BLOCK_BYTES]
+            return ctypes.string_at(self._block, BLOCK_BYTES)
 
     @classmethod
     def from_block(cls, block: Bytes) -> Store:

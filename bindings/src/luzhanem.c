@@ -6,6 +6,8 @@
 
 _Static_assert(sizeof(luzhanem_store) == LUZHANEM_BLOCK_BYTES + 2, "no padding in a store");
 _Static_assert(offsetof(luzhanem_store, unused_) == LUZHANEM_BLOCK_BYTES, "its front is a saved block");
+_Static_assert(offsetof(luzhanem_store, unused_) - offsetof(luzhanem_store, files_) == 3 * 32768 + 4096,
+               "the buffers lie one behind the other");
 _Static_assert(sizeof(luzhanem_image) == 2 * 276 + 32768 + 4096, "no padding in an image");
 _Static_assert(sizeof(luzhanem_scripts) == 521 * sizeof(size_t), "no padding in scripts");
 _Static_assert(sizeof(luzhanem_place) == 4 && sizeof(luzhanem_order) == 12, "no padding in places and orders");
@@ -31,7 +33,7 @@ int luzhanem_abort(luzhanem_store *s, size_t t) {
 
 int luzhanem_seek(luzhanem_store *s, size_t t, size_t d, size_t offset) {
     WANTED(s);
-    return luzhanem_parts_seek(OF(s), t, d, offset);
+    return luzhanem_parts_seek(s->record_, t, d, offset, BUFFERS(s));
 }
 
 int luzhanem_write(luzhanem_store *s, size_t t, size_t d, const void *bytes, size_t n) {
@@ -42,7 +44,7 @@ int luzhanem_write(luzhanem_store *s, size_t t, size_t d, const void *bytes, siz
 
 int luzhanem_get_file_pointer(luzhanem_store *s, size_t t, size_t d) {
     WANTED(s);
-    return luzhanem_parts_get_file_pointer(OF(s), t, d);
+    return luzhanem_parts_get_file_pointer(s->record_, t, d, BUFFERS(s));
 }
 
 int luzhanem_read(luzhanem_store *s, size_t t, size_t d, void *out, size_t n) {

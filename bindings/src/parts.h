@@ -13,6 +13,10 @@ typedef uint8_t u8;
 #define CONST_PARTS const u16 *, const u8 *, const u8 *, const u8 *, const u8 *
 #define OF(s) (s)->record_, (s)->files_, (s)->logs_, (s)->marks_, (s)->undo_
 
+/* The four buffers as one array. Seek and GetFilePointer take them so, and their numbers before them: in the registers
+ * in which luzhanem_seek has them, so that it ends in a jump. */
+#define BUFFERS(s) ((u8 *)(s) + offsetof(luzhanem_store, files_))
+
 /* Refuses the call unless the condition holds. */
 #define WANTED(condition) \
     if (!(condition)) return LUZHANEM_E_BUFFER_LENGTH
@@ -27,9 +31,9 @@ extern u8 luzhanem_nowhere_[1];
 int luzhanem_parts_fresh(PARTS, const u8 *file_of, size_t n);
 int luzhanem_parts_begin(PARTS, size_t t);
 int luzhanem_parts_abort(PARTS, size_t t);
-int luzhanem_parts_seek(PARTS, size_t t, size_t d, size_t offset);
+int luzhanem_parts_seek(u16 *, size_t t, size_t d, size_t offset, const u8 *buffers);
 int luzhanem_parts_write(PARTS, size_t t, size_t d, const u8 *bytes, size_t n);
-int luzhanem_parts_get_file_pointer(PARTS, size_t t, size_t d);
+int luzhanem_parts_get_file_pointer(u16 *, size_t t, size_t d, const u8 *buffers);
 int luzhanem_parts_read(PARTS, size_t t, size_t d, size_t n, u8 *reader, size_t room);
 int luzhanem_parts_places(CONST_PARTS, size_t t, size_t f, u8 *out, size_t room);
 int luzhanem_parts_commit(PARTS, size_t t, size_t minute);

@@ -55,13 +55,13 @@ static int make(const run *p, size_t t, size_t i) {
     switch (c.kind) {
     case LUZHANEM_SEEK:
         put(p, luzhanem_parts_line_seek(LINE(p), t, c.descriptor, c.at));
-        return done(p, luzhanem_parts_seek(OF(p->s), t, c.descriptor, c.at));
+        return done(p, luzhanem_parts_seek(p->s->record_, t, c.descriptor, c.at, BUFFERS(p->s)));
     case LUZHANEM_WRITE:
         put(p, luzhanem_parts_line_write(LINE(p), t, c.descriptor, p->data + c.at, c.count));
         return done(p, luzhanem_parts_write(OF(p->s), t, c.descriptor, p->data + c.at, c.count));
     case LUZHANEM_GET_FILE_POINTER:
         put(p, luzhanem_parts_line_get_file_pointer(LINE(p), t, c.descriptor));
-        return number(p, luzhanem_parts_get_file_pointer(OF(p->s), t, c.descriptor));
+        return number(p, luzhanem_parts_get_file_pointer(p->s->record_, t, c.descriptor, BUFFERS(p->s)));
     default:
         return read_bytes(p, t, c.descriptor, c.count);
     }

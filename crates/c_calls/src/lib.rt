@@ -3,10 +3,13 @@
 // pointers, `bytes`, `reader` and their like as a pointer and a length.
 mod looks;
 
+use buffers::parts::part;
 use c_codes::code;
 use c_codes::gap_in;
 use c_codes::tried_of;
 use call_order::best_order;
+use limits::BUFFER_BYTES;
+use limits::FILE_BYTES;
 use limits::TRANSACTIONS;
 use state::layout::State;
 use store::Buffer;
@@ -15,6 +18,17 @@ ghost use mathlib.Core.List.{[]};
 ghost use Rattle.spec.specs.Messages.{Call, Op};
 ghost use Rattle.spec.specs.Calls.{call, fresh as freshRule};
 ghost use Rattle.c_codes.specs.Codes.{AnswersAsCode, Orders};
+ghost use Rattle.c_calls.specs.Buffers.{AnswersInBlock};
+
+// Where logs, marks and undo log start in the four buffers.
+const LOGS_AT: usize = BUFFER_BYTES;
+
+const MARKS_AT: usize = LOGS_AT + BUFFER_BYTES;
+
+const UNDO_AT: usize = MARKS_AT + BUFFER_BYTES;
+
+// Files, logs, marks and undo log as they lie in a store's block.
+pub type Buffers = [u8; UNDO_AT + FILE_BYTES];
 
 // Fresh.
 #[no_mangle]
@@ -46,20 +60,22 @@ pub extern "C" fn luzhanem_parts_begin(
     code(store::begin(state, files, logs, marks, undo, t))
 }
 
-// Seek.
+// Seek. It is lent the four buffers as one array, and takes its numbers where a caller in C has them: that
+// caller jumps here.
 #[no_mangle]
 pub extern "C" fn luzhanem_parts_seek(
     state: &mut State,
-    files: &Buffer,
-    logs: &Buffer,
-    marks: &Buffer,
-    undo: &UndoLog,
     t: usize,
     d: usize,
     v: usize,
+    buffers: &Buffers,
 ) -> i32
-    ensures { λ r. ⌜ AnswersAsCode (call (Call.on t (Op.seek d v))) state files logs marks undo r [] ⌝ }
+    ensures { λ r. ⌜ AnswersInBlock (call (Call.on t (Op.seek d v))) state buffers r ⌝ }
 {
+    let files = part(buffers, 0, BUFFER_BYTES);
+    let logs = part(buffers, LOGS_AT, BUFFER_BYTES);
+    let marks = part(buffers, MARKS_AT, BUFFER_BYTES);
+    let undo = part(buffers, UNDO_AT, FILE_BYTES);
     code(store::seek(state, files, logs, marks, undo, t, d, v))
 }
 
@@ -81,20 +97,20 @@ pub extern "C" fn luzhanem_parts_write(
     code(store::write(state, files, logs, marks, undo, t, d, bytes))
 }
 
-// GetFilePointer.
+// GetFilePointer, lent the four buffers as one array.
 #[no_mangle]
 pub extern "C" fn luzhanem_parts_get_file_pointer(
     state: &mut State,
-    files: &Buffer,
-    logs: &Buffer,
-    marks: &Buffer,
-    undo: &UndoLog,
     t: usize,
     d: usize,
+    buffers: &Buffers,
 ) -> i32
-    ensures { λ r. ⌜ AnswersAsCode (call (Call.on t (Op.getFilePointer d)))
-        state files logs marks undo r [] ⌝ }
+    ensures { λ r. ⌜ AnswersInBlock (call (Call.on t (Op.getFilePointer d))) state buffers r ⌝ }
 {
+    let files = part(buffers, 0, BUFFER_BYTES);
+    let logs = part(buffers, LOGS_AT, BUFFER_BYTES);
+    let marks = part(buffers, MARKS_AT, BUFFER_BYTES);
+    let undo = part(buffers, UNDO_AT, FILE_BYTES);
     code(store::get_file_pointer(state, files, logs, marks, undo, t, d))
 }
 

@@ -27,12 +27,14 @@ use Rattle.read_fetch.specs.Fetch.{HandedWhole, bytesRead, marksAfter, logPart}
 use Rattle.call_read.specs.ReadCall.{placesFrom, Movable, MovedOn, Served}
 
 -- The standing that is put has room in the record.
-pub read-fits : {state : List ℕ} {t d : ℕ} {z : Standing} {e : Extent} → Movable state t d z e
-    → (y : Standing) → y ≡ afterRead (e .length) z → standingFits y
-read-fits {z = z} {e = e} p y goes = standing-fits y (rw goes (read-in (e .length) z (omega (arith, p .places)) (p .standing)))
+pub read-fits : {state : List ℕ} {t d : ℕ} {e : Extent} → Movable state t d e
+    → (y : Standing) → y ≡ afterRead (e .length) (standingAt (transactionOf state t) d) → standingFits y
+read-fits {state = state} {t = t} {d = d} {e = e} p y goes =
+    standing-fits y
+    (rw goes (read-in (e .length) (standingAt (transactionOf state t) d) (omega (arith, p .places)) (p .standing)))
 
-module _ (state : List ℕ) (t d n : ℕ) (z : Standing) (e : Extent) (p : Movable state t d z e)
-    (y : Standing) (goes : y ≡ afterRead (e .length) z) (after : List ℕ)
+module _ (state : List ℕ) (t d n : ℕ) (e : Extent) (p : Movable state t d e)
+    (y : Standing) (goes : y ≡ afterRead (e .length) (standingAt (transactionOf state t) d)) (after : List ℕ)
     (put : after ≡ withDescriptorAt state t d (record { standing = y; dirty = true }))
   where
     abbrev dirtied : Transaction → Transaction
@@ -46,7 +48,7 @@ module _ (state : List ℕ) (t d n : ℕ) (z : Standing) (e : Extent) (p : Movab
         ∙ store-with-descriptor state t d (record { standing = y; dirty = true }) (p .long) (p .small) (p .few)
         ∙ ap₂ (λ (w : Transaction) (v : Standing). withTransaction t
         (withDescriptors (set (w .descriptors) d (record { standing = v; dirty = true })) w) (storeOf state))
-        (transaction-of state t (p .small)) (goes ∙ ap (afterRead (e .length)) (p .stands))
+        (transaction-of state t (p .small)) goes
 
     journal-dirtied : journalOf after ≡ journalOf state
     journal-dirtied = ap journalOf put ∙ journal-with-descriptor state t d (record { standing = y; dirty = true }) (p .long)
@@ -79,11 +81,12 @@ module _ (state : List ℕ) (t d n : ℕ) (z : Standing) (e : Extent) (p : Movab
         }
 
 -- The places as the code finds them, from what it reads off the record.
-pub places-are : (state : List ℕ) (t d n : ℕ) (used : Used) (z : Standing) (f end : ℕ) (e : Extent)
-    → used ≡ transactionOf state t .used → z ≡ standingAt (transactionOf state t) d → f ≡ getD (storeOf state .filenumbers) d 0
+pub places-are : (state : List ℕ) (t d n : ℕ) (used : Used) (place f end : ℕ) (e : Extent)
+    → used ≡ transactionOf state t .used → place ≡ offsetOf (standingAt (transactionOf state t) d)
+    → f ≡ getD (storeOf state .filenumbers) d 0
     → end ≡ lengthSeen state t (used .records) f
-    → e ≡ extent f (offsetOf z) (min n (end - offsetOf z)) → e ≡ placesFrom state t d n
-places-are state t d n used z f end e eu ez ef el ee = rw (ee, el, eu, ez, ef)
+    → e ≡ extent f place (min n (end - place)) → e ≡ placesFrom state t d n
+places-are state t d n used place f end e eu ep ef el ee = rw (ee, el, eu, ep, ef)
 
 -- What is handed over and given, with the counters and the places as the code has them.
 module _ (state files logs marks : List ℕ) (t : ℕ) (used : Used) (e places : Extent) (eu : used ≡ transactionOf state t .used)

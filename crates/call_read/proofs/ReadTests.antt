@@ -136,11 +136,10 @@ module _ {state files logs marks undo : List ℕ} {t d n room : ℕ} (l : ReadAd
       (l .long)
       (in-range (storeOf state) (journalOf state) (l .through .ranges) .offsets)
 
-  pub settled-as : (choice : Transaction → List Bool) (chosen : List Bool) → chosen ≡ choice (transactionOf state t)
-      → (now : List ℕ) (v w : Verdict)
-      → SettledIn chosen t (transactionOf state t) state now v → v ≡ w
+  pub settled-as : (choice : Transaction → List Bool) (now : List ℕ) (v w : Verdict)
+      → SettledIn (choice (transactionOf state t)) t (transactionOf state t) state now v → v ≡ w
       → SettledAs choice t state now w
-  settled-as choice chosen ec now v w s ev = rw (ec ∙ ap choice own-is, own-is, ev) at s
+  settled-as choice now v w s ev = rw (own-is, ev) at s
 
 module _ (choice : Transaction → List Bool) {t : ℕ} {state now : List ℕ} (s : SettledAs choice t state now Settled)
     (small : t < 8) where

@@ -9,7 +9,6 @@ use Prim.Native.Nat.{ℕ, _+_, _-_, _≤_, _<_, min}
 use Rattle.limits.specs.Limits.{fileCount, fileBytes, descriptorCount, transactionCount}
 use Rattle.buffers.specs.Bits.{withBit}
 use Rattle.buffers.specs.Parts.{filePart}
-use Rattle.standings.specs.declared.Standing.{Standing}
 use Rattle.standings.specs.Table.{afterRead, offsetOf}
 use Rattle.state.specs.declared.Transaction.{Transaction}
 use Rattle.state.specs.StoreMeaning.{standingAt, withDescriptors, withLengthmarks, withTransaction}
@@ -38,14 +37,13 @@ afterGiving d n e x =
     (record { standing = afterRead (e .length) (standingAt x d); dirty = true })) x)
 
 -- What is asked before that is put, and the record after it was.
-pub record Movable (state : List ℕ) (t d : ℕ) (z : Standing) (e : Extent) : Type 0 where
+pub record Movable (state : List ℕ) (t d : ℕ) (e : Extent) : Type 0 where
   pub long : length state ≡ stateLength
   pub small : t < transactionCount
   pub few : d < descriptorCount
-  pub stands : z ≡ standingAt (transactionOf state t) d
-  pub standing : standingIn z ≡ true
+  pub standing : standingIn (standingAt (transactionOf state t) d) ≡ true
   pub fileIn : e .file < fileCount
-  pub places : offsetOf z + e .length ≤ fileBytes
+  pub places : offsetOf (standingAt (transactionOf state t) d) + e .length ≤ fileBytes
 
 pub record MovedOn (t d n : ℕ) (e : Extent) (before after : List ℕ) : Type 0 where
   pub store : storeOf after ≡ withTransaction t (afterGiving d n e (transactionOf before t)) (storeOf before)

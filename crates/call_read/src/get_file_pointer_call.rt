@@ -2,8 +2,7 @@
 use crate::read_tests::admit_read;
 use admission::Gate;
 use read_settle::settle_call::Verdict;
-use read_settle::settle_call::chosen_by_pointer;
-use read_settle::settle_chosen;
+use read_settle::settle_for_pointer;
 use state::layout::State;
 use state::layout::is_begun;
 use state::layout::is_stale;
@@ -38,8 +37,7 @@ pub fn get_file_pointer(
     if let Gate::Refused(r) = verdict {
         return Outcome::Refused(r);
     }
-    let chosen = chosen_by_pointer(state, t, d);
-    let v = settle_chosen(state, t, chosen);
+    let v = settle_for_pointer(state, t, d);
     let Verdict::Settled = v else {
         return Outcome::Refused(Refusal::AppendPastEnd);
     };

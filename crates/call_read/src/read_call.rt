@@ -9,9 +9,7 @@ use read_fetch::copy_bytes;
 use read_lookup::Extent;
 use read_lookup::length_for;
 use read_settle::settle_call::Verdict;
-use read_settle::settle_call::chosen_by_read;
-use read_settle::settle_chosen;
-use standings::Standing;
+use read_settle::settle_for_read;
 use state::Descriptor;
 use state::layout::State;
 use state::layout::file_at;
@@ -26,19 +24,17 @@ use state::outcomes::Outcome;
 use state::outcomes::Refusal;
 ghost use mathlib.Core.Path.{_≡_};
 ghost use Prim.Native.Nat.{_-_, min};
-ghost use Rattle.standings.specs.Table.{offsetOf};
 ghost use Rattle.read_lookup.specs.Lookup.{extent};
 ghost use Rattle.spec.specs.Messages.{Op, Call};
 ghost use Rattle.spec.specs.Calls.{call};
 ghost use Rattle.spec.specs.Promises.{Follows};
 ghost use Rattle.call_read.specs.ReadCall.{Movable, MovedOn, Readable, GivesRead};
 
-// A Read of n bytes gives the smaller of n and the transaction's length less the offset: these places, for a
-// descriptor of that file that stands so, where the file ends at `end`.
-fn places_given(z: Standing, file: u16, n: usize, end: usize) -> Extent
-    ensures { λ r. ⌜ r ≡ extent file (offsetOf z) (min n (end - offsetOf z)) ⌝ }
+// A Read of n bytes gives the smaller of n and the transaction's length less the offset: these places, from
+// `place` on, where the file ends at `end`.
+fn places_given(file: u16, place: usize, n: usize, end: usize) -> Extent
+    ensures { λ r. ⌜ r ≡ extent file place (min n (end - place)) ⌝ }
 {
-    let place = wide(z.offset());
     Extent {
         file,
         place,
@@ -46,12 +42,13 @@ fn places_given(z: Standing, file: u16, n: usize, end: usize) -> Extent
     }
 }
 
-// Descriptor d of transaction t stands z before a Read of n bytes that gives these places: it moves on and is
-// dirty. "A Read that gave fewer bytes than wanted sights the length".
-fn put_read(state: &mut State, t: usize, d: usize, z: Standing, extent: Extent, n: usize)
-    requires { ⌜ Movable (now state) t d z extent ⌝ }
+// A Read of n bytes through descriptor d of transaction t gives these places: d moves on and is dirty. "A
+// Read that gave fewer bytes than wanted sights the length".
+fn put_read(state: &mut State, t: usize, d: usize, extent: Extent, n: usize)
+    requires { ⌜ Movable (now state) t d extent ⌝ }
     ensures { λ _. ⌜ MovedOn t d n extent (now (state .entry)) (now (state .exit)) ⌝ }
 {
+    let z = standing_at(state, t, d);
     let standing = z.after_read(extent.length as u16);
     put_descriptor(
         state,
@@ -84,11 +81,12 @@ fn read_settled<'a>(
 {
     let used = used_at(state, t);
     let z = standing_at(state, t, d);
+    let place = wide(z.offset());
     let file = file_at(state, d);
     let end = length_for(state, t, used, file);
-    let extent = places_given(z, file, n, end);
+    let extent = places_given(file, place, n, end);
     copy_bytes(state, files, logs, marks, t, used, extent, reader);
-    put_read(state, t, d, z, extent, n);
+    put_read(state, t, d, extent, n);
     extent.length as u16
 }
 
@@ -120,8 +118,7 @@ pub fn read<'a>(
     if let Gate::Refused(r) = verdict {
         return Outcome::Refused(r);
     }
-    let chosen = chosen_by_read(state, t, d);
-    let v = settle_chosen(state, t, chosen);
+    let v = settle_for_read(state, t, d);
     let Verdict::Settled = v else {
         return Outcome::Refused(Refusal::AppendPastEnd);
     };

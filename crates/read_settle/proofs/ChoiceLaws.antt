@@ -1,22 +1,29 @@
 -- Laws for the loops of settling: one choice among many, and a transaction of which the first descriptors are settled.
-use mathlib.Core.Bool.{Bool, true, false, cond, not, _&&_, or-true}
+use mathlib.Core.Bool.{Bool, true, false, cond, not, _&&_, _||_, or-true, and-false, true≢false, false≢true}
 use mathlib.Core.List.{List}
+use mathlib.Core.Logic.{⊎-elim}
 use mathlib.Core.Path.{_≡_, refl, sym, ap, _∙_}
 use lib.Dec.{eqb}
 use lib.ListN.{length, getD, set, replicate}
+use native.Mathlib.Nat.{eq-or-lt-of-le, le-of-suc-le-suc}
+use native.Mathlib.Numerals.{add-one}
 use native.Mathlib.Omega.{arith}
-use borrow.Author.Tests.{le-leb, lt-leb, eq-eqb, ne-eqb}
+use borrow.Author.Tests.{le-leb, lt-leb, eq-eqb, ne-eqb, eqb-true}
 use Prim.Native.Nat.{ℕ, _+_, _≤_, _<_}
 use Rattle.buffers.specs.Parts.{tabulate}
+use Rattle.buffers.proofs.TableLaws.{getD-tabulate}
 use Rattle.state.specs.declared.Descriptor.{Descriptor}
 use Rattle.state.specs.declared.Transaction.{Transaction}
 use Rattle.state.specs.StoreMeaning.{standingAt, dirtyAt, noDescriptor, withDescriptors}
-use Rattle.standings.specs.Table.{advance, settled}
+use Rattle.standings.specs.declared.Standing.{Standing}
+use Rattle.standings.specs.declared.Standing.the-variants.{Untouched, Placed, Deferred, Moved, Known}
+use Rattle.standings.specs.Table.{advance, settled, pointerSettles, readSettles}
 use Rattle.spec.proofs.Refinement.IndexedLists.{tabulate-same, tabulate-set, tabulate-getD}
 use Rattle.admission.proofs.Laws.{below-all}
 use Rattle.state.proofs.Filled.{filled, filled-none, filled-all, filled-set, filled-preserved}
 use Rattle.read_settle.specs.declared.settle_call.Verdict.the-variants.{Settled, Past}
 use Rattle.read_settle.specs.declared.settle_call.Settling.{Settling}
+use Rattle.read_settle.specs.Choices.{settlesForRead, chosenByRead, settlesForPointer, chosenByPointer}
 use Rattle.read_settle.specs.Choices.{settlesWithin, allWithin, settledDescriptor, settledTransaction, settlingOf}
 
 -- One of sixteen is chosen, or none.
@@ -25,6 +32,87 @@ unfolding tabulate
 one-chosen d b h =
     sym
     (tabulate-set (λ e. false) (λ e. eqb e d && b) 16 d b h (rw (eq-eqb d d refl)) (λ e ne. rw (ne-eqb e d ne)))
+
+-- None of n + 1 passes, where the first n are gone over and the last is asked.
+pub neither : (a b : Bool) → a || b ≡ false → (a ≡ false) × (b ≡ false)
+neither true b e = absurd (true≢false e)
+neither false b e = (refl, e)
+
+pub none-more : (p : ℕ → Bool) (n : ℕ) (a : Bool) → (a ≡ false → (k : ℕ) → k < n → p k ≡ false) → a || p n ≡ false → (k : ℕ)
+    → k < n + 1
+    → p k ≡ false
+none-more p n a none e k h =
+    let w = neither a (p n) e in
+    ⊎-elim (λ q. ap p q ∙ w .1) (λ l. none (w .0) k l) (eq-or-lt-of-le (le-of-suc-le-suc (rw add-one at h)))
+
+-- A Read settles a descriptor where it waits and is of the file, and its own where that is Untouched: what it settles by either
+-- alone tells what it settles.
+settles-neither : (f i : Bool) (z : Standing) → readSettles true false z ≡ false → (i ≡ true → readSettles false true z ≡ false)
+    → readSettles f i z ≡ false
+settles-neither f true Untouched w own = own refl
+settles-neither f false Untouched w own = refl
+settles-neither f i (Placed o) w own = refl
+settles-neither f i (Deferred a) w own = absurd (true≢false w)
+settles-neither f i (Moved a o) w own = absurd (true≢false w)
+settles-neither f i (Known o) w own = refl
+
+settles-own : (f : Bool) (z : Standing) → readSettles false true z ≡ true → readSettles f true z ≡ true
+settles-own f Untouched e = refl
+settles-own f (Placed o) e = absurd (false≢true e)
+settles-own f (Deferred a) e = absurd (false≢true e)
+settles-own f (Moved a o) e = absurd (false≢true e)
+settles-own f (Known o) e = absurd (false≢true e)
+
+settles-waiting : (f i : Bool) (z : Standing) → (i ≡ true → readSettles false true z ≡ false)
+    → readSettles f false z ≡ readSettles f i z
+settles-waiting f true Untouched own = sym (own refl)
+settles-waiting f false Untouched own = refl
+settles-waiting f i (Placed o) own = refl
+settles-waiting f i (Deferred a) own = refl
+settles-waiting f i (Moved a o) own = refl
+settles-waiting f i (Known o) own = refl
+
+module _ (filenumbers : List ℕ) (x : Transaction) (d : ℕ) where
+  -- What holds of d holds of any that equals it.
+  own-at : (b : Bool) → readSettles false true (standingAt x d) ≡ b → (e : ℕ) → eqb e d ≡ true
+      → readSettles false true (standingAt x e) ≡ b
+  own-at b own e q = ap (λ (k : ℕ). readSettles false true (standingAt x k)) (eqb-true e d q) ∙ own
+
+  -- A Read through d settles none.
+  pub read-chooses-none : readSettles false true (standingAt x d) ≡ false
+      → ((e : ℕ) → e < 16 → readSettles true false (standingAt x e) ≡ false)
+      → (e : ℕ) → e < 16 → getD (chosenByRead filenumbers x d) e false ≡ false
+  unfolding chosenByRead settlesForRead
+  read-chooses-none own none e h =
+      getD-tabulate (settlesForRead filenumbers x d) 16 e false h
+      ∙ settles-neither (eqb (getD filenumbers e 0) (getD filenumbers d 0)) (eqb e d) (standingAt x e) (none e h)
+      (own-at false own e)
+
+  -- Those of d's file that wait.
+  abbrev pub waitingOf : ℕ → Bool
+  waitingOf e = readSettles (eqb (getD filenumbers e 0) (getD filenumbers d 0)) false (standingAt x e)
+
+  pub chosen-with-own : d < 16 → readSettles false true (standingAt x d) ≡ true
+      → set (tabulate waitingOf 16) d true ≡ chosenByRead filenumbers x d
+  unfolding chosenByRead settlesForRead
+  chosen-with-own h own =
+      sym (tabulate-set waitingOf (settlesForRead filenumbers x d) 16 d true h
+      (rw (eq-eqb d d refl) (settles-own (eqb (getD filenumbers d 0) (getD filenumbers d 0)) (standingAt x d) own))
+      (λ e ne. rw (ne-eqb e d ne)))
+
+  pub chosen-without-own : readSettles false true (standingAt x d) ≡ false
+      → tabulate waitingOf 16 ≡ chosenByRead filenumbers x d
+  unfolding chosenByRead settlesForRead
+  chosen-without-own own =
+      tabulate-same waitingOf (settlesForRead filenumbers x d) 16
+      (λ e h. settles-waiting (eqb (getD filenumbers e 0) (getD filenumbers d 0)) (eqb e d) (standingAt x e) (own-at false own e))
+
+-- A GetFilePointer on d settles none.
+pub pointer-chooses-none : (x : Transaction) (d : ℕ) → pointerSettles (standingAt x d) ≡ false
+    → (e : ℕ) → e < 16 → getD (chosenByPointer x d) e false ≡ false
+unfolding chosenByPointer settlesForPointer
+pointer-chooses-none x d none e h =
+    getD-tabulate (settlesForPointer x d) 16 e false h ∙ ap (λ (b : Bool). eqb e d && b) none ∙ and-false (eqb e d)
 
 -- The transaction with its first n descriptors settled where chosen.
 abbrev pub settledFront : List Bool → List ℕ → Transaction → ℕ → Transaction

@@ -13,7 +13,7 @@ ghost use Prim.Native.Nat.{ℕ, _≤_, _<_};
 ghost use lib.ListN.{length, getD};
 ghost use Rattle.limits.specs.Limits.{fileBytes, descriptorCount, transactionCount};
 ghost use Rattle.state.specs.Layout.{transactionOf, storeOf};
-ghost use Rattle.read_settle.specs.Choices.{chosenByRead, chosenByPointer, settlingOf};
+ghost use Rattle.read_settle.specs.Choices.{chosenByRead, chosenByPointer, chosenBy, settlingOf};
 
 // Whether every chosen descriptor could be settled.
 pub enum Verdict {
@@ -27,8 +27,9 @@ pub struct Settling {
     pub transaction: Transaction,
 }
 
-// The descriptors that a Read through d settles in transaction t.
-pub fn chosen_by_read(state: &State, t: usize, d: usize) -> [bool; DESCRIPTORS]
+// The descriptors that a Read through d settles in transaction t: those of its file that wait, and d where it
+// is Untouched.
+fn chosen_by_read(state: &State, t: usize, d: usize) -> [bool; DESCRIPTORS]
     requires { ⌜ (t < transactionCount) × (d < descriptorCount) ⌝ }
     ensures { λ r. ⌜ r
         ≡ chosenByRead (storeOf (now (state .entry)) .filenumbers)
@@ -38,14 +39,17 @@ pub fn chosen_by_read(state: &State, t: usize, d: usize) -> [bool; DESCRIPTORS]
     let f = file_at(state, d);
     let mut e = 0;
     while e < DESCRIPTORS {
-        chosen[e] = read_settles_at(state, t, e, file_at(state, e) == f, e == d);
+        chosen[e] = read_settles_at(state, t, e, file_at(state, e) == f, false);
         e += 1;
+    }
+    if read_settles_at(state, t, d, false, true) {
+        chosen[d] = true;
     }
     chosen
 }
 
 // The one descriptor that a GetFilePointer on d settles in transaction t, if it does.
-pub fn chosen_by_pointer(state: &State, t: usize, d: usize) -> [bool; DESCRIPTORS]
+fn chosen_by_pointer(state: &State, t: usize, d: usize) -> [bool; DESCRIPTORS]
     requires { ⌜ (t < transactionCount) × (d < descriptorCount) ⌝ }
     ensures { λ r. ⌜ r ≡ chosenByPointer (transactionOf (now (state .entry)) t) d ⌝ }
 {
@@ -53,6 +57,19 @@ pub fn chosen_by_pointer(state: &State, t: usize, d: usize) -> [bool; DESCRIPTOR
     let standing = standing_at(state, t, d);
     chosen[d] = standing.pointer_settles();
     chosen
+}
+
+// The descriptors that a Read through d settles in transaction t, or a GetFilePointer on d.
+pub fn chosen_by(state: &State, t: usize, d: usize, reads: bool) -> [bool; DESCRIPTORS]
+    requires { ⌜ (t < transactionCount) × (d < descriptorCount) ⌝ }
+    ensures { λ r. ⌜ r
+        ≡ chosenBy reads (storeOf (now (state .entry)) .filenumbers)
+        (transactionOf (now (state .entry)) t) d ⌝ }
+{
+    if reads {
+        return chosen_by_read(state, t, d);
+    }
+    chosen_by_pointer(state, t, d)
 }
 
 // Settles every chosen descriptor at its committed offset, or none.

@@ -1,26 +1,13 @@
 -- `read_settle::any` meets its contract. The loop's invariant: where none was found, none below `e` is chosen.
-use mathlib.Core.Bool.{Bool, true, false, _||_}
-use mathlib.Core.Logic.{⊎-elim}
-use mathlib.Core.Path.{_≡_, refl, ap, _∙_}
+use mathlib.Core.Bool.{false}
+use mathlib.Core.Path.{_≡_}
 use lib.ListN.{getD}
-use native.Mathlib.Nat.{eq-or-lt-of-le, le-of-suc-le-suc}
-use native.Mathlib.Numerals.{add-one}
 use native.Mathlib.Omega.{arith}
 use borrow.Author.Needs.{needs}
-use Prim.Native.Nat.{ℕ, _+_, _-_, _≤_, _<_}
+use Prim.Native.Nat.{ℕ, _-_, _≤_, _<_}
+use Rattle.read_settle.proofs.ChoiceLaws.{none-more}
 use Rattle.read_settle.proofs.any.Statement.{statement}
 use Rattle.read_settle.proofs.any.Tie as tie
-
-neither : (a b : Bool) → a || b ≡ false → (a ≡ false) × (b ≡ false)
-neither true b e = absurd (let z : _≡_ {A = ℕ} 0 1 = cc in omega arith)
-neither false b e = (refl, e)
-
-none-more : (p : ℕ → Bool) (n : ℕ) (a : Bool) → (a ≡ false → (k : ℕ) → k < n → p k ≡ false) → a || p n ≡ false → (k : ℕ)
-    → k < n + 1
-    → p k ≡ false
-none-more p n a none e k h =
-    let w = neither a (p n) e in
-    ⊎-elim (λ q. ap p q ∙ w .1) (λ l. none (w .0) k l) (eq-or-lt-of-le (le-of-suc-le-suc (rw add-one at h)))
 
 abbrev Inv-loop : tie.InvT-loop
 Inv-loop chosen found₀ e₀ found e = (e ≤ 16) × (found ≡ false → (k : ℕ) → k < e → getD chosen k false ≡ false)

@@ -79,16 +79,15 @@ looks c =
     (gate-zero _ _ (says (c .before .before)) (c .enum-told2 .given .1))
 
 -- What settling told.
-abbrev look-of : tie.After-settle-chosen → tie.After-enum-told2
-look-of c = c .before .before .before .before
+abbrev look-of : tie.After-settle-for-pointer → tie.After-enum-told2
+look-of c = c .before .before
 
-settled : (c : tie.After-settle-chosen) (v : Verdict) → c .settle-chosen .result ≡ v
+settled : (c : tie.After-settle-for-pointer) (v : Verdict) → c .settle-for-pointer .result ≡ v
     → let a = first (look-of c .before .before) .args in
-    SettledAs (λ x. chosenByPointer x (a .d)) (a .t) (a .state .now) (c .settle-chosen .last .0) v
+    SettledAs (λ x. chosenByPointer x (a .d)) (a .t) (a .state .now) (c .settle-for-pointer .last .0) v
 settled c v e =
     let a = first (look-of c .before .before) .args in
-    settled-as (looks (look-of c)) (λ x. chosenByPointer x (a .d)) _ (c .before .before .chosen-by-pointer .ensures) _ _ v
-    (c .settle-chosen .ensures) e
+    settled-as (looks (look-of c)) (λ x. chosenByPointer x (a .d)) _ _ v (c .settle-for-pointer .ensures) e
 
 returns : tie.Need-returns
 unfolding call admitted admission bufferOf
@@ -127,13 +126,10 @@ returns-3 c =
     (pointer-refused (start .args .t) (start .args .d) (machine start) (admits (open-of looked)) r
     (gate-number _ _ (says looked) r (c .before .verdict .given .1)))
 
-chosen-by-pointer-requires : tie.Need-chosen-by-pointer-requires
-chosen-by-pointer-requires c κs =
+settle-for-pointer-requires : tie.Need-settle-for-pointer-requires
+settle-for-pointer-requires c κs =
     let l = looks (c .before) in
-    (l .held .small, omega (arith, l .may .low))
-
-settle-chosen-requires : tie.Need-settle-chosen-requires
-settle-chosen-requires c κs = ready (looks (c .before .before .before))
+    (ready l, omega (arith, l .may .low))
 
 returns-4 : tie.Need-returns-4
 returns-4 c =
@@ -167,8 +163,7 @@ get-file-pointer-spec =
     (λ c. search needs)
     returns-3
     (λ c. search needs)
-    chosen-by-pointer-requires
-    settle-chosen-requires
+    settle-for-pointer-requires
     (λ c. search needs)
     (λ c. search needs)
     returns-4

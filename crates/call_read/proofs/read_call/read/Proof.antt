@@ -80,18 +80,17 @@ looks c =
     (gate-zero _ _ (says (c .before .before)) (c .enum-told2 .given .1))
 
 -- What settling told.
-abbrev look-of : tie.After-settle-chosen → tie.After-enum-told2
-look-of c = c .before .before .before .before
+abbrev look-of : tie.After-settle-for-read → tie.After-enum-told2
+look-of c = c .before .before
 
-settled : (c : tie.After-settle-chosen) (v : Verdict) → c .settle-chosen .result ≡ v
+settled : (c : tie.After-settle-for-read) (v : Verdict) → c .settle-for-read .result ≡ v
     → let a = first (look-of c .before .before) .args in
     SettledAs (λ x. chosenByRead (storeOf (a .state .now) .filenumbers) x (a .d)) (a .t) (a .state .now)
-    (c .settle-chosen .last .0) v
+    (c .settle-for-read .last .0) v
 settled c v e =
     let a = first (look-of c .before .before) .args in
-    settled-as (looks (look-of c)) (λ x. chosenByRead (storeOf (a .state .now) .filenumbers) x (a .d)) _
-    (c .before .before .chosen-by-read .ensures) _ _ v
-    (c .settle-chosen .ensures) e
+    settled-as (looks (look-of c)) (λ x. chosenByRead (storeOf (a .state .now) .filenumbers) x (a .d)) _ _ v
+    (c .settle-for-read .ensures) e
 
 returns : tie.Need-returns
 unfolding call admitted admission bufferOf
@@ -132,13 +131,10 @@ returns-3 c =
     (admits (open-of looked)) r
     (gate-number _ _ (says looked) r (c .before .verdict .given .1)))
 
-chosen-by-read-requires : tie.Need-chosen-by-read-requires
-chosen-by-read-requires c κs =
+settle-for-read-requires : tie.Need-settle-for-read-requires
+settle-for-read-requires c κs =
     let l = looks (c .before) in
-    (l .held .small, omega (arith, l .may .low))
-
-settle-chosen-requires : tie.Need-settle-chosen-requires
-settle-chosen-requires c κs = ready (looks (c .before .before .before))
+    (ready l, omega (arith, l .may .low))
 
 returns-4 : tie.Need-returns-4
 returns-4 c =
@@ -174,8 +170,7 @@ read-spec =
     (λ c. search needs)
     returns-3
     (λ c. search needs)
-    chosen-by-read-requires
-    settle-chosen-requires
+    settle-for-read-requires
     (λ c. search needs)
     (λ c. search needs)
     returns-4

@@ -1,5 +1,5 @@
 -- `read_call::read_settled` meets its contract.
-use mathlib.Core.Path.{_≡_, ap}
+use mathlib.Core.Path.{_≡_, ap, _∙_}
 use native.Mathlib.Omega.{arith}
 use borrow.Author.Needs.{needs}
 use Rattle.standings.specs.Table.{offsetOf}
@@ -14,21 +14,24 @@ abbrev start-of : tie.After-used-at → tie.Start
 start-of c = c .before .before .before .before .before .before
 
 abbrev used-of : tie.After-places-given → tie.After-used-at
-used-of c = c .before .before .before .before .before .before .before
+used-of c = c .before .before .before .before .before .before .before .before .before
 
 -- These places are given.
 given : (c : tie.After-places-given) → let a = start-of (used-of c) .args in c .places-given .result
     ≡ placesFrom (a .state .now) (a .t) (a .d) (a .n)
 given c =
     let filed = c .before .before .before in
-    places-are _ _ _ _ _ _ _ _ _ (used-of c .used-at .ensures) (filed .before .before .standing-at .ensures)
+    let widened = filed .before .before in
+    let carried = widened .before in
+    places-are _ _ _ _ _ _ _ _ _ (used-of c .used-at .ensures)
+    (widened .wide .ensures .0 ∙ carried .offset .ensures ∙ ap offsetOf (carried .before .standing-at .ensures))
     (filed .file-at .ensures)
     (c .before .length-for .ensures) (c .places-given .ensures)
 
 length-for-requires : tie.Need-length-for-requires
 length-for-requires c κs =
     let filed = c .before in
-    let used = filed .before .before .before .before in
+    let used = filed .before .before .before .before .before .before in
     let p = start-of used .pre in
     (rw (used .used-at .ensures) (p .handed .counted), rw (filed .file-at .ensures) (p .handed .fileIn))
 
@@ -48,20 +51,13 @@ put-read-requires : tie.Need-put-read-requires
 put-read-requires c κs =
     let e = places-of (c .before .before .before .before .before) in
     let p = start-of (used-of e) .pre in
-    let stood = e .before .before .before .before .before in
     record {
       long = p .long;
       small = p .handed .counted .small;
       few = p .few;
-      stands = stood .standing-at .ensures;
-      standing = rw (stood .standing-at .ensures) (p .standing);
+      standing = p .standing;
       fileIn = rw (given e) (p .handed .fileIn);
-      places = omega (
-        arith,
-        p .handed .places,
-        ap (λ (e : Extent). e .length) (given e),
-        ap offsetOf (stood .standing-at .ensures),
-      );
+      places = omega (arith, p .handed .places, ap (λ (e : Extent). e .length) (given e));
     }
 
 cast-result : tie.Need-cast-result
@@ -83,6 +79,8 @@ pub read-settled-spec : {M : Type 1} → statement M
 read-settled-spec =
     tie.close
     (tie.spec
+    (λ c κs. search needs)
+    (λ c κs. search needs)
     (λ c κs. search needs)
     (λ c κs. search needs)
     (λ c κs. search needs)

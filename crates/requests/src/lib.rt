@@ -20,7 +20,8 @@ pub enum Request {
 }
 
 // Performs the call of the request. A Write takes its bytes from `bytes`, Read and Places answer in `reader`;
-// the others use neither.
+// the others use neither. Commit, the one call that is not inlined here, answers into a local of its own: the
+// other outcomes then stay in registers, and none is written by octets and read back whole.
 pub fn perform(
     state: &mut State,
     files: &mut [u8],
@@ -48,7 +49,10 @@ pub fn perform(
         ),
         Request::Read(t, d, n) => store::read(state, files, logs, marks, undo, t, d, n, reader),
         Request::Places(t, f) => store::places(state, files, logs, marks, undo, t, f, reader),
-        Request::Commit(t, minute) => store::commit(state, files, logs, marks, undo, t, minute),
+        Request::Commit(t, minute) => {
+            let outcome = store::commit(state, files, logs, marks, undo, t, minute);
+            outcome
+        }
         Request::Abort(t) => store::abort(state, files, logs, marks, undo, t),
         Request::SetWindow(f, start, end) => store::set_window(
             state,

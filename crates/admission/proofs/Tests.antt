@@ -143,6 +143,11 @@ or-closed b q e = rw e
 or-begun : (b q : Bool) → b ≡ true → not b || q ≡ q
 or-begun b q e = rw e
 
+-- Two tests of a transaction, each where it is open.
+shared-out : (b s r : Bool) → not b || (s && r) ≡ (not b || s) && (not b || r)
+shared-out true s r = refl
+shared-out false s r = refl
+
 -- Its counters, its standings and its records, each where it is open.
 parts : (b s r j e u : Bool) → not b || (s && (r && j && e && u)) ≡ (not b || (r && u)) && (not b || s) && (not b || (j && e))
 parts true s r j e u = turned s r j e u
@@ -167,10 +172,17 @@ module _ (r : List ℕ) where
   abbrev pub allIn : Bool
   allIn = below (λ t. transactionIn (transactionOf r t) (journalOf r) t) 8
 
-  pub all-standings-decide : below (λ t. not (transactionOf r t .begun)
-      || below (λ d. let z = standingAt (transactionOf r t) d in leb (advance z) 4096 && leb (offsetOf z) 4096) 16) 8
-      ≡ below standingsIn 8
-  all-standings-decide = below-same _ _ 8 (λ t h. ap (λ (b : Bool). not (transactionOf r t .begun) || b) (standings-decide r t))
+  -- Counters and standings, tested together.
+  pub open-decides : below (λ t. not (transactionOf r t .begun)
+      || (leb (transactionOf r t .used .records) 64 && leb (transactionOf r t .used .bytes) 4096
+      && below (λ d. let z = standingAt (transactionOf r t) d in leb (advance z) 4096 && leb (offsetOf z) 4096) 16)) 8
+      ≡ below countersIn 8 && below standingsIn 8
+  open-decides =
+      below-same _ _ 8 (λ t h.
+        let x = transactionOf r t in
+        let few = leb (x .used .records) 64 && leb (x .used .bytes) 4096 in
+        ap (λ (b : Bool). not (x .begun) || (few && b)) (standings-decide r t) ∙ shared-out (x .begun) few _)
+      ∙ sym (below-both countersIn standingsIn 8)
 
   transaction-parts : (t : ℕ) → transactionIn (transactionOf r t) (journalOf r) t
       ≡ countersIn t && standingsIn t && recordsIn t
@@ -185,16 +197,18 @@ module _ (r : List ℕ) where
       ∙ sym (ap (λ (b : Bool). b && below recordsIn 8) (below-both countersIn standingsIn 8)
       ∙ below-both (λ t. countersIn t && standingsIn t) recordsIn 8)
 
-  pub counters-fail : below countersIn 8 ≡ false → false ≡ allIn
-  counters-fail e = sym (all-parts ∙ rw e)
+  pub open-fails : below countersIn 8 && below standingsIn 8 ≡ false → false ≡ allIn
+  open-fails e = sym (all-parts ∙ rw e)
 
-  module _ (counters : below countersIn 8 ≡ true) where
-    pub standings-fail : below standingsIn 8 ≡ false → false ≡ allIn
-    standings-fail e = sym (all-parts ∙ rw (counters, e))
+  module _ (passed : below countersIn 8 && below standingsIn 8 ≡ true) where
+    pub counters-hold : below countersIn 8 ≡ true
+    counters-hold = and-left (below countersIn 8) (below standingsIn 8) passed
 
-    module _ (standings : below standingsIn 8 ≡ true) where
-      pub records-decide : (b : Bool) → b ≡ below recordsIn 8 → b ≡ allIn
-      records-decide b e = e ∙ sym (all-parts ∙ rw (counters, standings))
+    pub standings-hold : below standingsIn 8 ≡ true
+    standings-hold = and-right (below countersIn 8) (below standingsIn 8) passed
+
+    pub records-decide : (b : Bool) → b ≡ below recordsIn 8 → b ≡ allIn
+    records-decide b e = e ∙ sym (all-parts ∙ rw passed)
 
   empty-passes : (t : ℕ) → journalPasses (transactionOf r t) (journalOf r) t 0 0 ≡ true
   unfolding journalPasses
@@ -290,6 +304,16 @@ module _ (r : List ℕ) where
 pub none-decides : (r : List ℕ) → below (λ t. not (transactionOf r t .begun)) 8 ≡ noneBegun (storeOf r)
 unfolding noneBegun
 none-decides r = below-same _ _ 8 (λ t h. rw (transaction-of r t h))
+
+-- Where none is, each is in range.
+closed-in : (r : List ℕ) (t : ℕ) → not (transactionOf r t .begun) ≡ true
+    → transactionIn (transactionOf r t) (journalOf r) t ≡ true
+unfolding transactionIn
+closed-in r t e = rw e
+
+pub none-in : (r : List ℕ) → noneBegun (storeOf r) ≡ true → true ≡ allIn r
+none-in r e =
+    sym (below-all _ 8 (λ t h. closed-in r t (below-at (λ u. not (transactionOf r u .begun)) 8 t (none-decides r ∙ e) h)))
 
 -- The starts and ends of the windows are minutes.
 windows-decide : (s : StoreMeaning)

@@ -27,13 +27,10 @@ use state::layout::undo_used;
 use state::layout::used_at;
 use state::outcomes::Refusal;
 use state::readers::all_use_at_most;
-use state::readers::files_at_most;
 use state::readers::found_at_most;
-use state::readers::lengths_at_most;
-use state::readers::offsets_at_most;
-use state::readers::standings_at_most;
+use state::readers::open_at_most;
+use state::readers::tables_at_most;
 use state::readers::uses_at_most;
-use state::readers::windows_at_most;
 use windows::minute_in;
 ghost use mathlib.Core.Path.{_≡_};
 ghost use mathlib.Core.Bool.{true, not, _&&_, _||_};
@@ -146,17 +143,17 @@ fn journals_in(state: &State) -> bool
     true
 }
 
-// The transactions are in range: counters and standings of the eight at once, then the write records of those
-// that have any.
+// The transactions are in range. Where none is open there is nothing to test; otherwise counters and standings
+// of the eight at once, then the write records of those that have any.
 fn transactions_in(state: &State) -> bool
     ensures { λ r. ⌜ r ≡
         below (λ t. transactionIn (transactionOf (now (state .entry)) t) (journalOf (now (state .entry))) t)
         transactionCount ⌝ }
 {
-    if !all_use_at_most(state, LAST_COUNT, FILE_END) {
-        return false;
+    if none_begun(state) {
+        return true;
     }
-    if !standings_at_most(state, FILE_END) {
+    if !open_at_most(state, LAST_COUNT, FILE_END, FILE_END) {
         return false;
     }
     if all_use_at_most(state, 0, 0) {
@@ -169,16 +166,7 @@ fn transactions_in(state: &State) -> bool
 fn tables_in(state: &State) -> bool
     ensures { λ r. ⌜ r ≡ tablesIn (storeOf (now (state .entry))) (journalOf (now (state .entry))) ⌝ }
 {
-    if !files_at_most(state, LAST_FILE_NUMBER) {
-        return false;
-    }
-    if !offsets_at_most(state, FILE_END) {
-        return false;
-    }
-    if !lengths_at_most(state, FILE_END) {
-        return false;
-    }
-    if !windows_at_most(state, LAST_MINUTE) {
+    if !tables_at_most(state, LAST_FILE_NUMBER, FILE_END, FILE_END, LAST_MINUTE) {
         return false;
     }
     transactions_in(state)

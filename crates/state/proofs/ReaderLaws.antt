@@ -141,6 +141,21 @@ pub none-above : (bad v u : ℕ) (before now : Bool) → eqb bad 0 ≡ before �
     → eqb (bitOr bad (bitOr v u)) 0 ≡ before && now
 none-above bad v u before now e f = or-none bad (bitOr v u) ∙ ap₂ _&&_ e (or-none v u ∙ f)
 
+-- Two or three numbers are at most their bounds where what they are above them is 0 together.
+pub two-none : (v u : ℕ) (a b : Bool) → eqb v 0 ≡ a → eqb u 0 ≡ b → eqb (bitOr v u) 0 ≡ a && b
+two-none v u a b e f = or-none v u ∙ ap₂ _&&_ e f
+
+pub three-none : (v u w : ℕ) (a b c : Bool) → eqb v 0 ≡ a → eqb u 0 ≡ b → eqb w 0 ≡ c
+    → eqb (bitOr (bitOr v u) w) 0 ≡ a && b && c
+three-none v u w a b c e f g = two-none (bitOr v u) w (a && b) c (two-none v u a b e f) g
+
+-- A test of a transaction where it is open, and where it is not.
+pub where-open : (b q x : Bool) → b ≡ true → x ≡ q → x ≡ not b || q
+where-open b q x e f = rw (e, f)
+
+pub where-closed : (b q : Bool) → b ≡ false → true ≡ not b || q
+where-closed b q e = rw e
+
 -- ---- the descriptors of a transaction
 
 pub none-dirty : (r : List ℕ) (t : ℕ) → not (eqb (getD r (numberAt t 35) 0) 0) ≡ false
@@ -219,6 +234,42 @@ module _ (r : List ℕ) (m : ℕ) where
       both : (f : ℕ) → starts f && ends f ≡ leb (windowOf r f .start) m && leb (windowOf r f .end) m
       both f = unfold windowOf in refl
 
+-- The tables by entries k and 8 + k of each.
+module _ (r : List ℕ) (file offset span minute : ℕ) where
+  halves : (p : ℕ → Bool) → below (λ k. p k && p (8 + k)) 8 ≡ below p 16
+  halves p = sym (below-sum p 8 8 ∙ below-both p (λ k. p (8 + k)) 8)
+
+  pub tables-decide : below (λ k. (leb (getD r (2032 + k) 0) file && leb (getD r (2032 + (8 + k)) 0) file)
+      && (leb (getD r (2048 + k) 0) offset && leb (getD r (2048 + (8 + k)) 0) offset)
+      && leb (getD r (2064 + k) 0) span
+      && (leb (getD r (2072 + k) 0) minute && leb (getD r (2072 + (8 + k)) 0) minute)) 8
+      ≡ below (λ d. leb (getD (storeOf r .filenumbers) d 0) file) 16
+      && below (λ d. leb (getD (storeOf r .offsets) d 0) offset) 16
+      && below (λ f. leb (getD (storeOf r .lengths) f 0) span) 8
+      && below (λ f. leb (windowAt (storeOf r) f .start) minute && leb (windowAt (storeOf r) f .end) minute) 8
+  tables-decide =
+      sym (below-both (λ k. files k && offsets k && lengths k) windows 8)
+      ∙ ap₂ _&&_
+      (sym (below-both (λ k. files k && offsets k) lengths 8)
+      ∙ ap₂ _&&_ (sym (below-both files offsets 8)
+      ∙ ap₂ _&&_ (halves (λ k. leb (getD r (2032 + k) 0) file) ∙ files-decide r file)
+      (halves (λ k. leb (getD r (2048 + k) 0) offset) ∙ offsets-decide r offset))
+      (lengths-decide r span))
+      (halves (λ k. leb (getD r (2072 + k) 0) minute) ∙ windows-decide r minute)
+    where
+      files : ℕ → Bool
+      files k = leb (getD r (2032 + k) 0) file && leb (getD r (2032 + (8 + k)) 0) file
+
+      offsets : ℕ → Bool
+      offsets k = leb (getD r (2048 + k) 0) offset && leb (getD r (2048 + (8 + k)) 0) offset
+
+      lengths : ℕ → Bool
+      lengths k = leb (getD r (2064 + k) 0) span
+
+      windows : ℕ → Bool
+      windows k = leb (getD r (2072 + k) 0) minute && leb (getD r (2072 + (8 + k)) 0) minute
+
+module _ (r : List ℕ) (m : ℕ) where
   -- The offsets that the last grant found, and behind them the lengths.
   pub found-decide : below (λ k. leb (getD r (2088 + k) 0) m) 24
       ≡ below (λ d. leb (getD (storeOf r .undo .offsets) d 0) m) 16 && below (λ f. leb (getD (storeOf r .undo .lengths) f 0) m) 8

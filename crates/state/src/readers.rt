@@ -30,6 +30,7 @@ ghost use Rattle.buffers.specs.Below.{below};
 ghost use Rattle.standings.specs.Table.{readSettles, isKnown, mayWait, advance, offsetOf};
 ghost use Rattle.state.specs.StoreMeaning.{standingAt, dirtyAt, windowAt};
 ghost use Rattle.state.specs.Layout.{transactionOf, storeOf, stateLength};
+ghost use Rattle.state.specs.Layout.{fileNumbersAt, offsetsAt, lengthsAt, startsAt};
 
 // What is added to an advance, as a length has it.
 const WIDE_BIAS: usize = ADVANCE_BIAS as usize;
@@ -79,10 +80,12 @@ fn excess(x: u16, most: u16) -> u16
     0
 }
 
-// The advances and offsets that the standings of transaction t carry are at most `most`.
-fn own_at_most(state: &State, t: usize, most: u16) -> bool
+// How far the advances and offsets that the standings of transaction t carry are above `most`, all together;
+// 0 where none is.
+fn own_excess(state: &State, t: usize, most: u16) -> u16
     requires { ⌜ (t < transactionCount) × (most ≤ 65533) ⌝ }
-    ensures { λ r. ⌜ r ≡ below (λ d. leb (advance (standingAt (transactionOf (now (state .entry)) t) d)) most
+    ensures { λ r. ⌜ eqb r 0
+        ≡ below (λ d. leb (advance (standingAt (transactionOf (now (state .entry)) t) d)) most
         && leb (offsetOf (standingAt (transactionOf (now (state .entry)) t) d)) most) descriptorCount ⌝ }
 {
     let mut bad = 0u16;
@@ -94,26 +97,45 @@ fn own_at_most(state: &State, t: usize, most: u16) -> bool
         bad = bad | more;
         d += 1;
     }
-    bad == 0
+    bad
 }
 
-// The advances and offsets that the standings of the open transactions carry are at most `most`.
-pub fn standings_at_most(state: &State, most: u16) -> bool
+// How far the counters of transaction t and what its standings carry are above their bounds, all together; 0
+// where none is, and where t is not open.
+fn open_excess(state: &State, t: usize, records: u16, bytes: u16, most: u16) -> u16
+    requires { ⌜ (t < transactionCount) × (most ≤ 65533) ⌝ }
+    ensures { λ r. ⌜ eqb r 0 ≡ (not (transactionOf (now (state .entry)) t .begun)
+        || (leb (transactionOf (now (state .entry)) t .used .records) records
+        && leb (transactionOf (now (state .entry)) t .used .bytes) bytes
+        && below (λ d. leb (advance (standingAt (transactionOf (now (state .entry)) t) d)) most
+        && leb (offsetOf (standingAt (transactionOf (now (state .entry)) t) d)) most) descriptorCount)) ⌝ }
+{
+    let own = own_excess(state, t, most);
+    let u = excess(state[RECORDS_AT + t], records);
+    let v = excess(state[BYTES_AT + t], bytes);
+    if is_begun(state, t) {
+        return u | v | own;
+    }
+    0
+}
+
+// Each open transaction has at most so many records and bytes, and its standings carry at most `most`.
+pub fn open_at_most(state: &State, records: u16, bytes: u16, most: u16) -> bool
     requires { ⌜ most ≤ 65533 ⌝ }
     ensures { λ r. ⌜ r ≡ below (λ t. not (transactionOf (now (state .entry)) t .begun)
-        || below (λ d. leb (advance (standingAt (transactionOf (now (state .entry)) t) d)) most
-        && leb (offsetOf (standingAt (transactionOf (now (state .entry)) t) d)) most) descriptorCount)
+        || (leb (transactionOf (now (state .entry)) t .used .records) records
+        && leb (transactionOf (now (state .entry)) t .used .bytes) bytes
+        && below (λ d. leb (advance (standingAt (transactionOf (now (state .entry)) t) d)) most
+        && leb (offsetOf (standingAt (transactionOf (now (state .entry)) t) d)) most) descriptorCount))
         transactionCount ⌝ }
 {
-    let mut good = true;
+    let mut bad = 0u16;
     let mut t = 0;
     while t < TRANSACTIONS {
-        let begun = is_begun(state, t);
-        let own = own_at_most(state, t, most);
-        good = good & (!begun | own);
+        bad = bad | open_excess(state, t, records, bytes, most);
         t += 1;
     }
-    good
+    bad == 0
 }
 
 // Transaction t is not open, or has at most so many records and bytes.
@@ -169,36 +191,52 @@ fn at_most(state: &State, from: usize, n: usize, most: u16) -> bool
     good
 }
 
-// The file numbers are at most `most`.
-pub fn files_at_most(state: &State, most: u16) -> bool
-    ensures { λ r. ⌜ r
-        ≡ below (λ d. leb (getD (storeOf (now (state .entry)) .filenumbers) d 0) most) descriptorCount ⌝ }
+// How far entries k and 8 + k of the sixteen from `from` on are above `most`, together.
+fn two_excess(state: &State, from: usize, k: usize, most: u16) -> u16
+    requires { ⌜ (k < fileCount) × (from + descriptorCount ≤ stateLength) ⌝ }
+    ensures { λ r. ⌜ eqb r 0 ≡ leb (getD (now (state .entry)) (from + k) 0) most
+        && leb (getD (now (state .entry)) (from + (fileCount + k)) 0) most ⌝ }
 {
-    at_most(state, FILE_NUMBERS_AT, DESCRIPTORS, most)
+    let a = excess(state[from + k], most);
+    let b = excess(state[from + (FILES + k)], most);
+    a | b
 }
 
-// The committed offsets are at most `most`.
-pub fn offsets_at_most(state: &State, most: u16) -> bool
-    ensures { λ r. ⌜ r
-        ≡ below (λ d. leb (getD (storeOf (now (state .entry)) .offsets) d 0) most) descriptorCount ⌝ }
+// How far entries k and 8 + k of the tables are above their bounds, all together.
+fn tables_excess(state: &State, k: usize, file: u16, offset: u16, length: u16, minute: u16) -> u16
+    requires { ⌜ k < fileCount ⌝ }
+    ensures { λ r. ⌜ eqb r 0 ≡ (leb (getD (now (state .entry)) (fileNumbersAt + k) 0) file
+        && leb (getD (now (state .entry)) (fileNumbersAt + (fileCount + k)) 0) file)
+        && (leb (getD (now (state .entry)) (offsetsAt + k) 0) offset
+        && leb (getD (now (state .entry)) (offsetsAt + (fileCount + k)) 0) offset)
+        && leb (getD (now (state .entry)) (lengthsAt + k) 0) length
+        && (leb (getD (now (state .entry)) (startsAt + k) 0) minute
+        && leb (getD (now (state .entry)) (startsAt + (fileCount + k)) 0) minute) ⌝ }
 {
-    at_most(state, OFFSETS_AT, DESCRIPTORS, most)
+    let files = two_excess(state, FILE_NUMBERS_AT, k, file);
+    let offsets = two_excess(state, OFFSETS_AT, k, offset);
+    let lengths = excess(state[LENGTHS_AT + k], length);
+    let windows = two_excess(state, STARTS_AT, k, minute);
+    files | offsets | lengths | windows
 }
 
-// The committed lengths are at most `most`.
-pub fn lengths_at_most(state: &State, most: u16) -> bool
+// The file numbers, committed offsets, committed lengths, and the starts and ends of the windows are at most
+// so much each. All in one loop: one vector is entry k of each table.
+pub fn tables_at_most(state: &State, file: u16, offset: u16, length: u16, minute: u16) -> bool
     ensures { λ r. ⌜ r
-        ≡ below (λ f. leb (getD (storeOf (now (state .entry)) .lengths) f 0) most) fileCount ⌝ }
+        ≡ below (λ d. leb (getD (storeOf (now (state .entry)) .filenumbers) d 0) file) descriptorCount
+        && below (λ d. leb (getD (storeOf (now (state .entry)) .offsets) d 0) offset) descriptorCount
+        && below (λ f. leb (getD (storeOf (now (state .entry)) .lengths) f 0) length) fileCount
+        && below (λ f. leb (windowAt (storeOf (now (state .entry))) f .start) minute
+        && leb (windowAt (storeOf (now (state .entry))) f .end) minute) fileCount ⌝ }
 {
-    at_most(state, LENGTHS_AT, FILES, most)
-}
-
-// The starts and ends of the windows are at most `most`.
-pub fn windows_at_most(state: &State, most: u16) -> bool
-    ensures { λ r. ⌜ r ≡ below (λ f. leb (windowAt (storeOf (now (state .entry))) f .start) most
-        && leb (windowAt (storeOf (now (state .entry))) f .end) most) fileCount ⌝ }
-{
-    at_most(state, STARTS_AT, FILES + FILES, most)
+    let mut bad = 0u16;
+    let mut k = 0;
+    while k < FILES {
+        bad = bad | tables_excess(state, k, file, offset, length, minute);
+        k += 1;
+    }
+    bad == 0
 }
 
 // The offsets and lengths that the last grant found are at most `most`.

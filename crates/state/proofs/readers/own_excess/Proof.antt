@@ -1,4 +1,4 @@
--- `state::readers::own_at_most` meets its contract.
+-- `state::readers::own_excess` meets its contract.
 use Rattle.buffers.proofs.BelowLaws.{none-yet, one-more}
 use Rattle.buffers.specs.Below.{below}
 use Rattle.standings.specs.Table.{advance, offsetOf}
@@ -11,8 +11,8 @@ use mathlib.Core.Bool.{_&&_}
 use mathlib.Core.Path.{_≡_, refl, ap₂, _∙_}
 use native.Mathlib.Omega.{arith}
 use borrow.Author.Needs.{needs}
-use Rattle.state.proofs.readers.own_at_most.Statement.{statement}
-use Rattle.state.proofs.readers.own_at_most.Tie as tie
+use Rattle.state.proofs.readers.own_excess.Statement.{statement}
+use Rattle.state.proofs.readers.own_excess.Tie as tie
 
 abbrev Inv-loop : tie.InvT-loop
 Inv-loop state t most bad₀ d₀ bad d =
@@ -39,8 +39,8 @@ loop-again c =
 returns : tie.Need-returns Inv-loop μ-loop
 returns c = let e : c .before .loop .d ≡ 16 = omega arith in rw e at (c .before .loop .inv .1)
 
-pub own-at-most-spec : {M : Type 1} → statement M
-own-at-most-spec =
+pub own-excess-spec : {M : Type 1} → statement M
+own-excess-spec =
     tie.close
     (tie.spec
     Inv-loop

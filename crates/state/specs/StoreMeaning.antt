@@ -20,73 +20,37 @@ use Rattle.state.specs.declared.StoreMeaning.{StoreMeaning}
 abbrev pub noDescriptor : Descriptor
 noDescriptor = record { standing = Untouched; dirty = false }
 
+-- A transaction of these parts.
+abbrev pub transactionWith : Bool → Bool → ℕ → Used → List Descriptor → Transaction
+transactionWith b s n u ds = record { begun = b; stale = s; lengthmarks = n; used = u; descriptors = ds }
+
 -- "an ended transaction has an empty log, sixteen Untouched descriptors and is not stale" [R-10.2]; it has
 -- sighted no length.
+abbrev pub noneUsed : Used
+noneUsed = record { records = 0; bytes = 0 }
+
 unfoldable pub ended : Transaction
-ended =
-    record {
-      begun = false;
-      stale = false;
-      lengthmarks = 0;
-      used = record { records = 0; bytes = 0 };
-      descriptors = replicate descriptorCount noDescriptor;
-    }
+ended = transactionWith false false 0 noneUsed (replicate descriptorCount noDescriptor)
 
 -- What stands in an array of transactions past its end.
 abbrev pub noTransaction : Transaction
-noTransaction = record {
-  begun = false;
-  stale = false;
-  lengthmarks = 0;
-  used = record { records = 0; bytes = 0 };
-  descriptors = [];
-}
+noTransaction = transactionWith false false 0 noneUsed []
 
 -- A transaction with another value in one field.
 abbrev pub withBegun : Bool → Transaction → Transaction
-withBegun b x = record {
-  begun = b;
-  stale = x .stale;
-  lengthmarks = x .lengthmarks;
-  used = x .used;
-  descriptors = x .descriptors;
-}
+withBegun b x = transactionWith b (x .stale) (x .lengthmarks) (x .used) (x .descriptors)
 
 abbrev pub withStale : Bool → Transaction → Transaction
-withStale b x = record {
-  begun = x .begun;
-  stale = b;
-  lengthmarks = x .lengthmarks;
-  used = x .used;
-  descriptors = x .descriptors;
-}
+withStale b x = transactionWith (x .begun) b (x .lengthmarks) (x .used) (x .descriptors)
 
 abbrev pub withLengthmarks : ℕ → Transaction → Transaction
-withLengthmarks n x = record {
-  begun = x .begun;
-  stale = x .stale;
-  lengthmarks = n;
-  used = x .used;
-  descriptors = x .descriptors;
-}
+withLengthmarks n x = transactionWith (x .begun) (x .stale) n (x .used) (x .descriptors)
 
 abbrev pub withUsed : Used → Transaction → Transaction
-withUsed u x = record {
-  begun = x .begun;
-  stale = x .stale;
-  lengthmarks = x .lengthmarks;
-  used = u;
-  descriptors = x .descriptors;
-}
+withUsed u x = transactionWith (x .begun) (x .stale) (x .lengthmarks) u (x .descriptors)
 
 abbrev pub withDescriptors : List Descriptor → Transaction → Transaction
-withDescriptors ds x = record {
-  begun = x .begun;
-  stale = x .stale;
-  lengthmarks = x .lengthmarks;
-  used = x .used;
-  descriptors = ds;
-}
+withDescriptors ds x = transactionWith (x .begun) (x .stale) (x .lengthmarks) (x .used) ds
 
 -- "Begin gives an empty log, sixteen Untouched descriptors, no marks, not stale." [R-1.7]
 unfoldable pub begun : Transaction
@@ -102,29 +66,20 @@ dirtyAt x d = getD (x .descriptors) d noDescriptor .dirty
 
 -- ---- the store
 
--- Nothing is held of a grant.
+-- What is held of a grant; and nothing.
+abbrev pub undoWith : Bool → Used → List ℕ → List ℕ → Undo
+undoWith b u os ls = record { valid = b; used = u; offsets = os; lengths = ls }
+
 abbrev pub noUndo : Undo
-noUndo =
-    record {
-      valid = false;
-      used = record { records = 0; bytes = 0 };
-      offsets = replicate descriptorCount 0;
-      lengths = replicate fileCount 0;
-    }
+noUndo = undoWith false noneUsed (replicate descriptorCount 0) (replicate fileCount 0)
 
 abbrev pub withHeld : Bool → Undo → Undo
-withHeld b u = record { valid = b; used = u .used; offsets = u .offsets; lengths = u .lengths }
+withHeld b u = undoWith b (u .used) (u .offsets) (u .lengths)
 
 -- A store of these parts, and one with another value in one field.
 abbrev pub storeWith : List ℕ → List ℕ → List ℕ → List Window → Undo → List Transaction → StoreMeaning
-storeWith ns os ls ws u xs = record {
-  filenumbers = ns;
-  offsets = os;
-  lengths = ls;
-  windows = ws;
-  undo = u;
-  transactions = xs;
-}
+storeWith ns os ls ws u xs =
+    record { filenumbers = ns; offsets = os; lengths = ls; windows = ws; undo = u; transactions = xs }
 
 abbrev pub withOffsets : List ℕ → StoreMeaning → StoreMeaning
 withOffsets os s = storeWith (s .filenumbers) os (s .lengths) (s .windows) (s .undo) (s .transactions)

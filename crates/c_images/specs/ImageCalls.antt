@@ -3,6 +3,7 @@ use mathlib.Core.Bool.{cond}
 use mathlib.Core.List.{List, []}
 use mathlib.Core.Path.{_≡_}
 use denote.Ref.{now}
+use lib.IntN.{ℤ, pos}
 use Prim.Native.Nat.{ℕ}
 use Rattle.state.specs.Outcomes.{doneAnswer}
 use Rattle.admission.specs.FirstRefusal.{unless}
@@ -29,3 +30,7 @@ pub record SavedImage (m : Machine) (numbers files undo : Lent) : Type 0 where
       (numbers .entry))
   pub filesPut : now (files .exit) ≡ cond (storeIn (m .store) (m .journal)) (m .files) (now (files .entry))
   pub undoPut : now (undo .exit) ≡ cond (storeIn (m .store) (m .journal)) (m .undo) (now (undo .entry))
+
+-- The number of the state's layout (LayoutNumber.antt), which `luzhanem_layout` answers.
+abbrev pub layoutNumber : ℤ
+layoutNumber = pos 2

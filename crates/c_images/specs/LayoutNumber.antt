@@ -1,9 +1,9 @@
--- The number of the state's layout, and the layout that has this number. Whoever moves a number of the
+-- The layout of the state that has the number `layoutNumber` (ImageCalls.antt). Whoever moves a number of the
 -- state, or gives it another meaning, finds `LayoutIsNumbered` without a proof: write the new places here,
--- and raise layoutNumber and `luzhanem_parts_layout`.
+-- and raise layoutNumber and `luzhanem_parts_layout`. It follows from state/specs/Layout.antt, as an example
+-- does: nobody has to believe it.
 use mathlib.Core.List.{List}
 use mathlib.Core.Path.{_≡_}
-use lib.IntN.{ℤ, pos}
 use lib.ListN.{getD}
 use Prim.Native.Nat.{ℕ, _+_, _*_, _<_}
 use Rattle.counters.specs.declared.Used.{Used}
@@ -14,9 +14,6 @@ use Rattle.standings.specs.declared.Standing.the-variants.{Untouched, Placed, D
 use Rattle.state.specs.StoreMeaning.{transaction, standingAt, dirtyAt, windowAt}
 use Rattle.state.specs.Journal.{decoded, writeRecordAt}
 use Rattle.state.specs.Layout.{isSet, standingOf, storeOf, journalOf, stateLength}
-
-abbrev pub layoutNumber : ℤ
-layoutNumber = pos 2
 
 abbrev pub recordsOfGrant : ℕ → ℕ → Used
 recordsOfGrant records bytes = record { records = records; bytes = bytes }

@@ -13,8 +13,7 @@ ghost use mathlib.Core.List.{[]};
 ghost use mathlib.Core.Path.{_≡_};
 ghost use Rattle.spec.specs.Promises.{handed};
 ghost use Rattle.c_codes.specs.Codes.{AnswersAsCode};
-ghost use Rattle.c_images.specs.ImageCalls.{checkRule, loadRule, SavedImage};
-ghost use Rattle.c_images.specs.LayoutNumber.{layoutNumber};
+ghost use Rattle.c_images.specs.ImageCalls.{checkRule, loadRule, SavedImage, layoutNumber};
 
 // Check 2 alone.
 #[no_mangle]

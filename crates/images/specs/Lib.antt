@@ -1,3 +1,4 @@
 pub mod Words
+pub mod Loaded
 pub mod Images
 pub mod Young

@@ -24,7 +24,7 @@ use Rattle.text_log.specs.Replays.{shown, shownBy, SameTurn}
 use Rattle.text_log.specs.Replay.{ReplayState, Printed, silent, answered, compared, entryTurn, lineTurn, replaying}
 use Rattle.text_log.specs.Replay.{Event, starts, makes, eventTurn, loggedOp, loggedPart, eventLine, answerLines}
 use Rattle.text_log.specs.Replay.{recordedLines}
-use Rattle.text_log.specs.Replay.{answersOf, eventsAfter, Typed, AllTyped, Replayed}
+use Rattle.text_log.specs.Replay.{answersOf, eventsAfter, Typed, AllTyped, ReplayedFrom, Replayed}
 use Rattle.text_log.proofs.RoundTrip.{back, fresh-back}
 use Rattle.text_log.proofs.ReadingLaws.{entry-within}
 use Rattle.text_log.proofs.Cutting.{fresh-cut, order-cut}
@@ -144,12 +144,6 @@ agrees text k go same l = rw (go, expects-line text l, same, same-as-itself text
 
 -- ---- whole lists
 
-record Same (es : List Event) (k : ReplayState) : Type 0 where
-  text : transcript replaying (recordedLines es (k .machine)) k ≡ answersOf es (k .machine)
-  machine : stateAfter replaying (recordedLines es (k .machine)) k .machine ≡ eventsAfter es (k .machine)
-  differing : stateAfter replaying (recordedLines es (k .machine)) k .differing ≡ k .differing
-  malformed : stateAfter replaying (recordedLines es (k .machine)) k .malformed ≡ k .malformed
-
 module _ (text : List ℕ) (k : ReplayState) (rest : List (List ℕ)) (go : k .ended ≡ false) (same : k .answer ≡ text) where
   past-answer : (transcript replaying (answerLines text ++ rest) k ≡ transcript replaying rest k)
       × (stateAfter replaying (answerLines text ++ rest) k ≡ stateAfter replaying rest k)
@@ -171,13 +165,13 @@ module _ (text : List ℕ) (k : ReplayState) (rest : List (List ℕ)) (go : k .e
       pick true e = one (leb-true (length (expectation text)) longest e)
       pick false e = (refl, refl)
 
-same-none : (k : ReplayState) → Same [] k
+same-none : (k : ReplayState) → ReplayedFrom [] k
 unfolding recordedLines transcript stateAfter answersOf eventsAfter
 same-none k = record { text = refl; machine = refl; differing = refl; malformed = refl }
 
 same-more : (e : Event) (es : List Event) (k : ReplayState) → Typed e → k .ended ≡ false
-    → Same es (answered (eventTurn e (k .machine)) k .after)
-    → Same (e ∷ es) k
+    → ReplayedFrom es (answered (eventTurn e (k .machine)) k .after)
+    → ReplayedFrom (e ∷ es) k
 unfolding recordedLines transcript stateAfter answersOf eventsAfter answered
 same-more e es k h go ih =
     let w = eventTurn e (k .machine) in
@@ -197,16 +191,10 @@ same-more e es k h go ih =
       malformed = ap (λ (x : ReplayState). x .malformed) state ∙ ih .malformed;
     }
 
-same-all : (es : List Event) (k : ReplayState) → AllTyped es → k .ended ≡ false → Same es k
+same-all : (es : List Event) (k : ReplayState) → AllTyped es → k .ended ≡ false → ReplayedFrom es k
 unfolding AllTyped answered
 same-all [] k h go = same-none k
 same-all (e ∷ es) k h go = same-more e es k (h .0) go (same-all es (answered (eventTurn e (k .machine)) k .after) (h .1) go)
 
 pub replayed : Replayed
-replayed =
-    record {
-      text = λ es k h go. same-all es k h go .text;
-      machine = λ es k h go. same-all es k h go .machine;
-      differing = λ es k h go. same-all es k h go .differing;
-      malformed = λ es k h go. same-all es k h go .malformed;
-    }
+replayed = same-all

@@ -31,6 +31,11 @@ pub record ReplayState : Type 0 where
   pub differing : ℕ
   pub ended : Bool
 
+-- A state of these parts.
+abbrev pub replayState : Machine → List ℕ → ℕ → ℕ → Bool → ReplayState
+replayState m answer malformed differing ended =
+    record { machine = m; answer = answer; malformed = malformed; differing = differing; ended = ended }
+
 -- One more, as far as 64 bits go.
 unfoldable pub oneMore : ℕ → ℕ
 oneMore n = cond (ltb n 18446744073709551615) (suc n) n
@@ -48,14 +53,7 @@ unfoldable pub answered : Turn → ReplayState → Printed
 answered w k =
     record {
       text = replyText (w .reply) ++ (10 ∷ []);
-      after =
-          record {
-            machine = w .after;
-            answer = replyText (w .reply);
-            malformed = k .malformed;
-            differing = k .differing;
-            ended = k .ended;
-          };
+      after = replayState (w .after) (replyText (w .reply)) (k .malformed) (k .differing) (k .ended);
     }
 
 -- A line of another form: 17.
@@ -64,35 +62,18 @@ malformedLine k =
     record {
       text = replyText (says (refused 17)) ++ (10 ∷ []);
       after =
-          record {
-            machine = k .machine;
-            answer = replyText (says (refused 17));
-            malformed = oneMore (k .malformed);
-            differing = k .differing;
-            ended = k .ended;
-          };
+          replayState (k .machine) (replyText (says (refused 17))) (oneMore (k .malformed)) (k .differing)
+          (k .ended);
     }
 
 -- `= ` and a text: it is compared with the answer that was printed last.
 unfoldable pub compared : List ℕ → ReplayState → ReplayState
 compared text k =
-    record {
-      machine = k .machine;
-      answer = k .answer;
-      malformed = k .malformed;
-      differing = cond (sameBytes text (k .answer)) (k .differing) (oneMore (k .differing));
-      ended = k .ended;
-    }
+    replayState (k .machine) (k .answer) (k .malformed)
+    (cond (sameBytes text (k .answer)) (k .differing) (oneMore (k .differing))) (k .ended)
 
 unfoldable pub versioned : ℕ → ReplayState → ReplayState
-versioned v k =
-    record {
-      machine = k .machine;
-      answer = k .answer;
-      malformed = k .malformed;
-      differing = k .differing;
-      ended = not (eqb v 1);
-    }
+versioned v k = replayState (k .machine) (k .answer) (k .malformed) (k .differing) (not (eqb v 1))
 
 unfoldable pub entryTurn : List ℕ → LogEntry → ReplayState → Printed
 entryTurn line another k = malformedLine k
@@ -113,7 +94,7 @@ replaying =
 
 -- The replay's state before the first line.
 abbrev pub keptFirst : Machine → ReplayState
-keptFirst m = record { machine = m; answer = []; malformed = 0; differing = 0; ended = false }
+keptFirst m = replayState m [] 0 0 false
 
 -- ---- what is recorded
 
@@ -178,18 +159,14 @@ AllTyped (e ∷ es) = Typed e × AllTyped es
 
 -- ---- proved in proofs/Replayed.antt
 
--- From any state and buffers, freshly made or saved: the replay of the recorded lines prints the answers that
--- the events had, counts no difference and no line of another form, and leaves the state and buffers that
--- they left.
-pub record Replayed : Type 0 where
-  pub text : (es : List Event) (k : ReplayState) → AllTyped es → k .ended ≡ false
-      → transcript replaying (recordedLines es (k .machine)) k ≡ answersOf es (k .machine)
-  pub machine :
-      (es : List Event) (k : ReplayState) → AllTyped es → k .ended ≡ false
-      → stateAfter replaying (recordedLines es (k .machine)) k .machine ≡ eventsAfter es (k .machine)
-  pub differing :
-      (es : List Event) (k : ReplayState) → AllTyped es → k .ended ≡ false
-      → stateAfter replaying (recordedLines es (k .machine)) k .differing ≡ k .differing
-  pub malformed :
-      (es : List Event) (k : ReplayState) → AllTyped es → k .ended ≡ false
-      → stateAfter replaying (recordedLines es (k .machine)) k .malformed ≡ k .malformed
+-- The replay of the recorded lines prints the answers that the events had, counts no difference and no line
+-- of another form, and leaves the state and buffers that they left.
+pub record ReplayedFrom (es : List Event) (k : ReplayState) : Type 0 where
+  pub text : transcript replaying (recordedLines es (k .machine)) k ≡ answersOf es (k .machine)
+  pub machine : stateAfter replaying (recordedLines es (k .machine)) k .machine ≡ eventsAfter es (k .machine)
+  pub differing : stateAfter replaying (recordedLines es (k .machine)) k .differing ≡ k .differing
+  pub malformed : stateAfter replaying (recordedLines es (k .machine)) k .malformed ≡ k .malformed
+
+-- From any state and buffers, freshly made or saved.
+abbrev pub Replayed : Type 0
+Replayed = (es : List Event) (k : ReplayState) → AllTyped es → k .ended ≡ false → ReplayedFrom es k

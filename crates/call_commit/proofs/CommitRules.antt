@@ -40,6 +40,7 @@ use Rattle.spec.specs.Calls.{afterCommit}
 use Rattle.spec.specs.Calls.{commitDecided, commitGranted, settingsOf, commitTurn, formerNumber, call}
 use Rattle.spec.specs.Undo.{savingUndo}
 use Rattle.spec.specs.Promises.{Meets, machineOf, LeftAsFound}
+use Rattle.spec.proofs.Refinement.Landing.{files-land, offsets-land, lengths-land}
 use Rattle.refinement.proofs.Shapes.{shaped}
 use Rattle.commit_apply.specs.Apply.{placesFit, withOffsetsOf, bytesSetIn, lengthsLandedIn, CanLandIn, Means}
 use Rattle.commit_apply.specs.SaveUndo.{oldBytesIn, preservedRecords, GrantPreserved}
@@ -315,10 +316,14 @@ module _ (state files logs marks undo : List ℕ) (t : ℕ) (x : Transaction) (c
         olds
         ∙ ap (λ (y : Transaction). pasted undo 0 (oldBytesIn state files logs t (y .used .records))) (sym own-is)
         ∙ ap (pasted undo 0) (sym (old-are s (journalOf state) files logs t)) in
-        let noted = journal-is ∙ records-is in (
+        let noted = journal-is ∙ records-is in
+        let files-landed = files-is ∙ files-land ss s files in
+        let stored =
+        store-is
+        ∙ ap₂ (λ (os ls : List ℕ). committed os ls (keeping .store)) (offsets-land ss s files) (lengths-land ss s files) in (
           record {
             outcome = ap granted (says files logs undo (can .logsLength));
-            machine = λ i. lent (store-is i) (noted i) (files-is i) logs (ms i) (old-is i);
+            machine = λ i. lent (stored i) (noted i) (files-landed i) logs (ms i) (old-is i);
             reader = refl;
           },
           λ r e n. cc,

@@ -24,7 +24,7 @@ use Rattle.spec_orders.{specs.Orders.{allIn, isList, distinct}, proofs.Distinct
 use Rattle.refinement.proofs.Shapes.{shaped}
 use Rattle.commit_conflicts.specs.Conflicts.{staleBy}
 use Rattle.call_order.specs.OrderStatements.{txnIn, closedIn, Pass, followed, waits, passAll, TableHolds, TableLaw}
-use Rattle.call_order.specs.OrderStatements.{BestOrderOfAny}
+use Rattle.call_order.specs.Answer.{BestOrderOfAny}
 use Rattle.call_order.proofs.{Hits.flagged, ShortWay.short-way, Along.{Inv, grants-followed, stale-followed}}
 
 not-true : (b : Bool) → not b ≡ true → b ≡ false

@@ -1,6 +1,7 @@
 -- Request F-14: the grants of an order without making a Commit. Whom a granted Commit makes stale can be read
 -- off what is committed at the start: one octet for each transaction, the table (`staleBy` of crate
--- commit_conflicts).
+-- commit_conflicts). The code counts grants so. Nobody has to believe it: the promise of `best_order` goes by
+-- Commits made one after the other (spec/specs/OrderReply.antt).
 use mathlib.Core.Bool.{Bool, true, false, cond, not, _||_}
 use mathlib.Core.List.{List, [], _∷_, _++_}
 use mathlib.Core.Logic.{_↔_}
@@ -28,7 +29,7 @@ use Rattle.spec.specs.Machine.{Machine, sizes, txnOf}
 use Rattle.spec.specs.Calls.{askedOf, call, callsAfter}
 use Rattle.spec.specs.Promises.{machineOf}
 use Rattle.spec.specs.Recovery.{Reached}
-use Rattle.spec.specs.BestOrder.{commitsIn, BestOrderHolds}
+use Rattle.spec.specs.BestOrder.{commitsIn}
 use Rattle.commit_conflicts.specs.Conflicts.{staleBy}
 
 -- Transaction t as a machine holds it.
@@ -125,11 +126,6 @@ TableLaw =
     (state files logs marks undo ts : List ℕ) (minute budget : ℕ)
     → Asking (machineOf state files logs marks undo) ts minute budget
     → TableHolds (machineOf state files logs marks undo) ts minute
-
--- What spec/specs/BestOrder.antt says of the answer, on any state and buffers.
-abbrev pub BestOrderOfAny : Type 0
-BestOrderOfAny = (state files logs marks undo : List ℕ)
-    → BestOrderHolds (machineOf state files logs marks undo)
 
 -- The short way is that of every store reached from Fresh: an open transaction that stands Deferred or Moved
 -- has a write without a place.

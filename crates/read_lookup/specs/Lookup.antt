@@ -1,49 +1,28 @@
--- The latest write over a place of a file: the newest of a transaction's write records that covers it; and
--- runs of places with one supplier.
-use mathlib.Core.Bool.{Bool, true, false, cond, _&&_}
+-- Runs of places with one supplier, and how far a transaction's file reaches; beside the latest write over a
+-- place (Latest.antt).
+use mathlib.Core.Bool.{Bool, true, false, cond}
 use mathlib.Core.List.{List}
 use mathlib.Core.Path.{_≡_}
 use lib.Dec.{eqb}
-use lib.ListN.{getD, length}
-use Prim.Native.Nat.{ℕ, zero, suc, _+_, _-_, _≤_, _<_, max}
+use lib.ListN.{getD}
+use Prim.Native.Nat.{ℕ, zero, suc, _+_, _≤_, _<_, max}
 use Rattle.limits.specs.Limits.{descriptorCount, transactionCount, recordCount, logBytes}
 use Rattle.counters.specs.declared.Used.{Used}
-use Rattle.standings.specs.Table.{placeNumber}
 use Rattle.state.specs.declared.journal.WriteRecord.{WriteRecord}
 use Rattle.state.specs.Journal.{writeRecordAt}
-use Rattle.state.specs.Layout.{storeOf, journalOf}
+use Rattle.state.specs.Layout.{storeOf}
 use Rattle.admission.specs.Admission.{lengthsBefore}
-use Rattle.buffers.specs.Parts.{cut, tabulate}
-use Rattle.spec.specs.Reading.{liesOver, Source, own, file, latest, placedEnd}
-use Rattle.spec.specs.Transactions.{Write}
+use Rattle.spec.specs.Reading.{placedEnd}
 use Rattle.read_lookup.specs.declared.Extent.{Extent}
 use Rattle.read_lookup.specs.declared.Run.{Run}
 use Rattle.read_lookup.specs.declared.Supplier.{Supplier}
 use Rattle.read_lookup.specs.declared.Supplier.the-variants.{File, Record}
+pub use Rattle.read_lookup.specs.Latest.{Recorded, recorded, recordedIn, coveredBy, LatestWrite, LatestAt}
+unfoldable pub use Rattle.read_lookup.specs.Latest.{covers, standsAt, writeIn, sourceOf}
 
 -- The n places of file f from p on.
 abbrev pub extent : ℕ → ℕ → ℕ → Extent
 extent f p n = record { file = f; place = p; length = n }
-
--- What a run is looked up in: the write records of all transactions, and each descriptor's file.
-pub record Recorded : Type 0 where
-  pub journal : List ℕ
-  pub filenumbers : List ℕ
-
-abbrev pub recorded : List ℕ → List ℕ → Recorded
-recorded journal filenumbers = record { journal = journal; filenumbers = filenumbers }
-
--- Those of a state.
-abbrev pub recordedIn : List ℕ → Recorded
-recordedIn state = recorded (journalOf state) (storeOf state .filenumbers)
-
--- Whether a write record covers place p of file f.
-unfoldable pub covers : List ℕ → ℕ → ℕ → WriteRecord → Bool
-covers filenumbers f p w = eqb (getD filenumbers (w .descriptor) 0) f && liesOver (w .place) (w .length) p
-
--- Whether write record k of transaction t covers it.
-abbrev pub coveredBy : Recorded → ℕ → ℕ → ℕ → ℕ → Bool
-coveredBy j t f p k = covers (j .filenumbers) f p (writeRecordAt (j .journal) t k)
 
 abbrev pub isRecord : Supplier → Bool
 isRecord File = false
@@ -57,51 +36,6 @@ newest covering (suc k) = cond (covering k) (Record k) (newest covering k)
 -- Who supplies place p of file f to transaction t, which has so many records.
 unfoldable pub supplier : Recorded → ℕ → ℕ → ℕ → ℕ → Supplier
 supplier j t records f p = newest (coveredBy j t f p) records
-
--- Where the supplier's byte for place p stands, in the file or in the log, which has the data of one record
--- after the other.
-unfoldable pub standsAt : List ℕ → ℕ → ℕ → Supplier → ℕ
-standsAt journal t p File = p
-standsAt journal t p (Record k) = lengthsBefore journal t k
-    + (p - placeNumber (writeRecordAt journal t k .place))
-
--- Write k of transaction t, with its bytes, which stand in the transaction's log.
-unfoldable pub writeIn : List ℕ → List ℕ → ℕ → ℕ → Write
-writeIn journal log t k =
-    let w = writeRecordAt journal t k in
-    record {
-      descriptor = w .descriptor;
-      place = w .place;
-      bytes = cut log (lengthsBefore journal t k) (w .length);
-    }
-
--- The byte that a supplier has for place p: that of the log, or the file's.
-unfoldable pub sourceOf : List ℕ → List ℕ → ℕ → ℕ → Supplier → Source
-sourceOf journal log t p File = file
-sourceOf journal log t p (Record k) = own (getD log (standsAt journal t p (Record k)) 0)
-
--- Corollary 2 of the notes, for a transaction that has itself written what it reads: "Otherwise, a sees the
--- most recent precedessor in OP_{T_i} ." [R-6.6] Here a reads place p of file f, OP_{T_i} are the write
--- records of transaction t, in call order by their numbers, and a predecessor is one that covers the place.
-pub record LatestWrite (j : Recorded) (t records f p : ℕ) (found : Supplier) (looked : ℕ) : Type 0 where
-  -- the record found covers the place, and no later one does
-  pub covering : (k : ℕ) → found ≡ Record k → (k < records) × (coveredBy j t f p k ≡ true)
-  pub mostRecent : (k m : ℕ) → found ≡ Record k → k < m → m < records → coveredBy j t f p m ≡ false
-  -- none is found exactly when no record covers it
-  pub none : found ≡ File → (k : ℕ) → k < records → coveredBy j t f p k ≡ false
-  pub onlyNone : ((k : ℕ) → k < records → coveredBy j t f p k ≡ false) → found ≡ File
-  -- how many write records the walk visited, 02, F-3: "that one and all newer ones, or all when there is
-  -- none" [R-6.6]
-  pub thatAndNewer : (k : ℕ) → found ≡ Record k → looked ≡ records - k
-  pub all : found ≡ File → looked ≡ records
-  -- its byte is that of the latest write as the rules have it, whatever the log
-  pub inRules : (log : List ℕ) → lengthsBefore (j .journal) t records ≤ length log
-      → latest (λ d. getD (j .filenumbers) d 0) f p (tabulate (writeIn (j .journal) log t) records)
-      ≡ sourceOf (j .journal) log t p found
-
--- The latest write over the first of these places, of a run.
-abbrev pub LatestAt : Recorded → ℕ → ℕ → Extent → Run → Type 0
-LatestAt j t records e r = LatestWrite j t records (e .file) (e .place) (r .supplier) (r .looked)
 
 -- 02, F-8: "the ends of its own placed writes of at least one byte" [R-6.1]: where a write record ends in
 -- file f.

@@ -7,8 +7,7 @@ use Rattle.state.specs.Outcomes.{ordered}
 use Rattle.spec_orders.specs.Orders.{triedOf, factorial, Arranges, Earliest}
 use Rattle.spec.specs.Messages.{Call, commit, bestOrder, grantsAmong}
 use Rattle.spec.specs.Machine.{Machine}
-use Rattle.spec.specs.Calls.{call, callsAfter, callsReplies}
-use Rattle.spec.specs.SerializabilityOfStore.{FreshlyMade}
+use Rattle.spec.specs.Calls.{call, callsReplies}
 
 -- The Commits of an order at the minute, and how many of them are granted, made one after the other: "how
 -- many grants Commit would give in it" [R-14.1].
@@ -32,6 +31,7 @@ pub record BestOrder (m : Machine) (ts : List ℕ) (minute budget : ℕ) (order 
   -- "The number of orders tried is in the result, never above the budget." [R-14.1]
   pub many : (tried ≡ length (triedOf budget ts)) × (tried ≤ budget)
 
+-- Of every state and every buffers it is claimed in call_order/specs/Answer.antt.
 pub record BestOrderHolds (m : Machine) : Type 0 where
   -- "the store is unchanged" [R-14.1]
   pub unchanged : (ts : List ℕ) (minute budget : ℕ) → call (bestOrder ts minute budget) m .after ≡ m
@@ -39,7 +39,3 @@ pub record BestOrderHolds (m : Machine) : Type 0 where
       (ts : List ℕ) (minute budget grants gap tried : ℕ)
       → call (bestOrder ts minute budget) m .reply .answer ≡ ordered grants gap tried
       → BestOrder m ts minute budget (call (bestOrder ts minute budget) m .reply .buffer) grants gap tried
-
-abbrev pub BestOrderAlwaysHolds : Type 0
-BestOrderAlwaysHolds = (numbers : List ℕ) (m₀ : Machine) → FreshlyMade numbers m₀ → (cs : List Call)
-    → BestOrderHolds (callsAfter cs m₀)

@@ -1,6 +1,6 @@
 -- Which calls touch which buffer and the files of descriptors, and what Fresh, Begin and the end of a
--- transaction leave, on any state and any buffers; and whose marks a call leaves, in every store reached from
--- Fresh.
+-- transaction leave, on any state and any buffers. It follows from the rules (Calls.antt): nobody has to
+-- believe it.
 use mathlib.Core.Bool.{false}
 use mathlib.Core.List.{List}
 use mathlib.Core.Path.{_≡_}
@@ -18,7 +18,6 @@ use Rattle.state.specs.StoreMeaning.{transaction, standingAt, dirtyAt, windowAt
 use Rattle.spec.specs.Messages.{write, read, Call, begin, on, commit, abort, places, undoCommit}
 use Rattle.spec.specs.Machine.{Machine}
 use Rattle.spec.specs.Calls.{fresh, call}
-use Rattle.spec.specs.Recovery.{Reached}
 
 -- Transaction t has no mark, and has sighted no length. (False of `marksThree` and `marksLength`:
 -- Counterexamples.antt.)
@@ -98,13 +97,3 @@ pub record Buffers (m : Machine) : Type 0 where
   pub stale :
       (t minute : ℕ) → call (commit t minute) m .reply .answer ≡ refused (number Stale)
       → Vacant t (call (commit t minute) m .after)
-
--- The marks of transaction u are touched by its own Reads, Begin, Commit and Abort alone.
-abbrev pub MarksLeft : Machine → Type 0
-MarksLeft m =
-    (c : Call) (u q : ℕ) → ((d n : ℕ) (buffer : List ℕ) → c ≡ on u (read d n buffer) → ⊥) → (c ≡ begin u → ⊥)
-    → ((minute : ℕ) → c ≡ commit u minute → ⊥) → (c ≡ abort u → ⊥) → hasMark (call c m .after .marks) u q
-    ≡ hasMark (m .marks) u q
-
-abbrev pub MarksAlwaysLeft : Type 0
-MarksAlwaysLeft = (m : Machine) → Reached m → MarksLeft m

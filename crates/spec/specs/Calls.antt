@@ -3,7 +3,7 @@
 use mathlib.Core.Bool.{Bool, false, cond, not, _&&_, _||_}
 use mathlib.Core.List.{List, [], _∷_}
 use lib.Dec.{eqb}
-use lib.ListN.{set, replicate}
+use lib.ListN.{length, set, replicate}
 use Prim.Native.Nat.{ℕ, zero, suc, _+_, _*_}
 use Rattle.limits.specs.Limits.{fileCount, bufferBytes, descriptorCount, transactionCount, logBytes}
 use Rattle.windows.specs.Windows.{minuteIn, window, freshWindow}
@@ -14,7 +14,8 @@ use Rattle.state.specs.declared.StoreMeaning.{StoreMeaning}
 use Rattle.state.specs.declared.Transaction.{Transaction}
 use Rattle.state.specs.declared.outcomes.Refusal.the-variants.{Stale}
 use Rattle.state.specs.StoreMeaning.{transaction, standingAt, windowAt, ended, begun, withStale, noUndo}
-use Rattle.state.specs.StoreMeaning.{withWindows, withTransaction}
+use Rattle.state.specs.StoreMeaning.{storeWith, withOffsets, withLengths, withWindows, withTransactions}
+use Rattle.state.specs.StoreMeaning.{withTransaction}
 use Rattle.state.specs.Journal.{journalLength}
 use Rattle.state.specs.Outcomes.{number, Said, doneAnswer, granted, refused}
 use Rattle.admission.specs.FirstRefusal.{guarded, isNone}
@@ -28,25 +29,20 @@ use Rattle.spec.specs.Steps.{Stepped, refuse, accept, step, refusedStale
 use Rattle.spec.specs.Places.{placesOf}
 use Rattle.spec.specs.Windows.{forClosed}
 use Rattle.spec.specs.OrderReply.{grantsIn, hasUnplaced, Asked, orderReply}
-use Rattle.spec.specs.Commits.{Setting, settings, fits, commitRefusal}
+use Rattle.spec.specs.Commits.{Setting, settings, fits, landed, commitRefusal}
+unfoldable pub use Rattle.spec.specs.Landing.{landByte, landFiles, landOffset, landOffsets}
+unfoldable pub use Rattle.spec.specs.Landing.{landLength, landLengths}
 use Rattle.spec.specs.Messages.{Call, begin, on, commit, abort, places, setWindow, undoCommit}
-use Rattle.spec.specs.Messages.{bestOrder, Reply}
-use Rattle.spec.specs.Messages.{Answering, repliesTo, afterAll}
-use Rattle.spec.specs.Machine.{Machine, lent, withStore, withMarking, sizes}
+use Rattle.spec.specs.Messages.{bestOrder, Reply, says}
+use Rattle.spec.specs.Messages.{TurnOf, repliesTo, afterAll}
+unfoldable pub use Rattle.spec.specs.Messages.{answerWith, refuseTurn}
+use Rattle.spec.specs.Machine.{Machine, lent, withStore, withFiles, withMarking, sizes}
 use Rattle.spec.specs.Machine.{fileOf, values, txnOf, withTxn, journalled}
 use Rattle.spec.specs.Undo.{savingUndo, undone}
 
 -- A call's reply, and the store after it.
-pub record Turn : Type 0 where
-  pub reply : Reply
-  pub after : Machine
-
-unfoldable pub answerWith : Said → Machine → Turn
-answerWith a m = record { reply = record { answer = a; buffer = [] }; after = m }
-
--- A refusal leaves "everything" [R-16.1], the reader's buffer too.
-unfoldable pub refuseTurn : ℕ → List ℕ → Machine → Turn
-refuseTurn n buffer m = record { reply = record { answer = refused n; buffer = buffer }; after = m }
+abbrev pub Turn : Type 0
+Turn = TurnOf Machine
 
 -- Goes on where no earlier test refuses (0), otherwise refuses the call with the number.
 unfoldable pub passing : ℕ → List ℕ → Machine → Turn → Turn
@@ -57,14 +53,8 @@ passing n buffer m next = guarded (λ k. refuseTurn k buffer m) (isNone n) n nex
 -- grant, "and Fresh leaves all of it" [R-12.3], the fourth buffer.
 unfoldable pub freshStore : List ℕ → StoreMeaning
 freshStore numbers =
-    record {
-      filenumbers = numbers;
-      offsets = replicate descriptorCount 0;
-      lengths = replicate fileCount 0;
-      windows = replicate fileCount freshWindow;
-      undo = noUndo;
-      transactions = replicate transactionCount ended;
-    }
+    storeWith numbers (replicate descriptorCount 0) (replicate fileCount 0) (replicate fileCount freshWindow)
+    noUndo (replicate transactionCount ended)
 
 unfoldable pub freshMachine : List ℕ → List ℕ → List ℕ → Machine
 freshMachine numbers logs undo =
@@ -112,14 +102,8 @@ served t o m is (accept y a buffer) =
     record {
       reply = record { answer = a; buffer = buffer };
       after =
-          record {
-            store = withTxn t y is (m .store);
-            journal = journalled t (y .writes) (m .journal);
-            files = m .files;
-            logs = logged t o (m .store) (m .logs);
-            marks = marked t is (m .marks);
-            undo = m .undo;
-          };
+          lent (withTxn t y is (m .store)) (journalled t (y .writes) (m .journal)) (m .files)
+          (logged t o (m .store) (m .logs)) (marked t is (m .marks)) (m .undo);
     }
 
 unfoldable pub stepTurn : ℕ → Op → Machine → Turn
@@ -127,34 +111,6 @@ stepTurn t o m =
     let v = values (m .store) (m .files) in
     let p = step (fileOf (m .store)) o (txnOf (m .store) (m .journal) (m .logs) t) in
     served t o m (asked v p) (refusedStale (transaction (m .store) t .stale) o (result v p))
-
--- Settings put into the files buffer, into the committed offsets, and into the committed lengths.
-unfoldable pub landByte : Item → ℕ → List ℕ → List ℕ
-landByte (byte q) n files = set files q n
-landByte (offset d) n files = files
-landByte (fileLength f) n files = files
-
-unfoldable pub landFiles : List Setting → List ℕ → List ℕ
-landFiles [] files = files
-landFiles (s ∷ ss) files = landFiles ss (landByte (s .item) (s .to) files)
-
-unfoldable pub landOffset : Item → ℕ → List ℕ → List ℕ
-landOffset (byte q) n offsets = offsets
-landOffset (offset d) n offsets = set offsets d n
-landOffset (fileLength f) n offsets = offsets
-
-unfoldable pub landOffsets : List Setting → List ℕ → List ℕ
-landOffsets [] offsets = offsets
-landOffsets (s ∷ ss) offsets = landOffsets ss (landOffset (s .item) (s .to) offsets)
-
-unfoldable pub landLength : Item → ℕ → List ℕ → List ℕ
-landLength (byte q) n lengths = lengths
-landLength (offset d) n lengths = lengths
-landLength (fileLength f) n lengths = set lengths f n
-
-unfoldable pub landLengths : List Setting → List ℕ → List ℕ
-landLengths [] lengths = lengths
-landLengths (s ∷ ss) lengths = landLengths ss (landLength (s .item) (s .to) lengths)
 
 -- Whether transaction u, as x, has sighted an item: a marked byte, the offset of a descriptor that stands
 -- Known, or a length whose bit is set.
@@ -183,30 +139,20 @@ afterCommit t ss m u =
     cond (eqb u t) ended (withStale (x .stale || madeStale t ss m u) x)
 
 -- F-4: "an octet with bit t (worth 2 to the power t) for each transaction that this commit made stale and
--- that was not so before" [R-9.9]
+-- that was not so before" [R-9.9]. Every file byte, offset and length is what the settings leave.
 unfoldable pub commitGranted : ℕ → Txn → List Setting → Machine → Turn
 commitGranted t x ss m =
-    let s = m .store in
-    let keeping = savingUndo x m in
+    let n = savingUndo x m in
+    let v = landed ss (values (m .store) (m .files)) in
+    let offsets = tabulate (λ d. v (offset d)) (length (m .store .offsets)) in
+    let lengths = tabulate (λ f. v (fileLength f)) (length (m .store .lengths)) in
+    let transactions = tabulate (afterCommit t ss m) transactionCount in
     record {
-      reply = record { answer = granted (bitsOf (madeStale t ss m) transactionCount); buffer = [] };
+      reply = says (granted (bitsOf (madeStale t ss m) transactionCount));
       after =
-          record {
-            store =
-                record {
-                  filenumbers = s .filenumbers;
-                  offsets = landOffsets ss (s .offsets);
-                  lengths = landLengths ss (s .lengths);
-                  windows = s .windows;
-                  undo = keeping .store .undo;
-                  transactions = tabulate (afterCommit t ss m) transactionCount;
-                };
-            journal = keeping .journal;
-            files = landFiles ss (m .files);
-            logs = m .logs;
-            marks = withoutMarks t (m .marks);
-            undo = keeping .undo;
-          };
+          withStore (withOffsets offsets (withLengths lengths (withTransactions transactions (n .store))))
+          (withFiles (tabulate (λ q. v (byte q)) (length (m .files)))
+          (withMarking (withoutMarks t (m .marks)) n));
     }
 
 -- 13: "it ends as at Abort" [R-9.2]. 12: "everything, the transaction open" [R-16.1]. F-11: "A Commit refused
@@ -214,10 +160,7 @@ commitGranted t x ss m =
 unfoldable pub commitDecided : ℕ → Txn → List Setting → Machine → ℕ → Turn
 commitDecided t x ss m zero = commitGranted t x ss m
 commitDecided t x ss m (suc n) =
-    record {
-      reply = record { answer = refused (suc n); buffer = [] };
-      after = cond (eqb (suc n) (number Stale)) (reset t ended m) m;
-    }
+    record { reply = says (refused (suc n)); after = cond (eqb (suc n) (number Stale)) (reset t ended m) m }
 
 -- What a Commit of t sets if it is granted.
 abbrev pub settingsOf : Machine → ℕ → List Setting
@@ -241,10 +184,7 @@ formerNumber t m = countOf (madeStale t (settingsOf m t) m) transactionCount
 -- new call changes only what its request says" [R-1.8]: nothing but the buffer for the list.
 unfoldable pub placesTurn : ℕ → ℕ → List ℕ → Machine → Turn
 placesTurn t f out m =
-    record {
-      reply = placesOf (fileOf (m .store)) f out (txnOf (m .store) (m .journal) (m .logs) t);
-      after = m;
-    }
+    record { reply = placesOf (fileOf (m .store)) f out (txnOf (m .store) (m .journal) (m .logs) t); after = m }
 
 -- 02, F-11: "A call sets a window" [R-11.2], and changes nothing else.
 unfoldable pub windowTurn : ℕ → ℕ → ℕ → Machine → Turn
@@ -297,12 +237,9 @@ call undoCommit m = passing (admissionOfUndo (sizes m) (m .store) (m .journal)) 
 call (bestOrder ts minute budget) m = passing (firstTests (sizes m) (m .store) (m .journal) 0) [] m
     (orderTurn ts minute budget m)
 
-abbrev pub storeAnswers : Answering Machine
-storeAnswers = record { reply = λ c m. call c m .reply; next = λ c m. call c m .after }
-
 -- A list of calls: the store after it, and its replies.
 abbrev pub callsAfter : List Call → Machine → Machine
-callsAfter cs m = afterAll storeAnswers cs m
+callsAfter cs m = afterAll call cs m
 
 abbrev pub callsReplies : List Call → Machine → List Reply
-callsReplies cs m = repliesTo storeAnswers cs m
+callsReplies cs m = repliesTo call cs m

@@ -32,6 +32,7 @@ pub mod Serializability
 -- of the twelve calls, and how promises cite them.
 pub mod Machine
 pub mod Undo
+pub mod Landing
 pub mod Calls
 pub mod Promises
 -- The statements about it. (The tests of each call in their order belong to Refusals, demand 1.)

@@ -15,7 +15,7 @@ use Rattle.state.specs.StoreMeaning.{withDescriptors, withTransaction}
 use Rattle.state.specs.Journal.{writeRecordAt, withRecords}
 use Rattle.admission.specs.Admission.{lengthsBefore, Sizes, sized}
 use Rattle.spec.specs.Items.{Item, byte, offset, fileLength, Values}
-use Rattle.spec.specs.Transactions.{Txn, Write}
+use Rattle.spec.specs.Transactions.{Txn, Write, through}
 use Rattle.spec.specs.Steps.{total}
 
 -- The state (store and journal), and "These three, files, logs and marks, are the store buffers; every call
@@ -78,11 +78,7 @@ dataStart journal t k = logBytes * t + lengthsBefore journal t k
 unfoldable pub writeAt : List ℕ → List ℕ → ℕ → ℕ → Write
 writeAt journal logs t k =
     let w = writeRecordAt journal t k in
-    record {
-      descriptor = w .descriptor;
-      place = w .place;
-      bytes = cut logs (dataStart journal t k) (w .length);
-    }
+    through (w .descriptor) (w .place) (cut logs (dataStart journal t k) (w .length))
 
 unfoldable pub recordOf : Write → WriteRecord
 recordOf w = record { descriptor = w .descriptor; place = w .place; length = length (w .bytes) }
@@ -98,7 +94,7 @@ txnOf s journal logs t =
 
 -- The journal with the records of these writes as those of transaction t.
 abbrev pub noWrite : Write
-noWrite = record { descriptor = 0; place = At 0; bytes = [] }
+noWrite = through 0 (At 0) []
 
 unfoldable pub journalled : ℕ → List Write → List ℕ → List ℕ
 journalled t ws journal = withRecords journal t (λ k. recordOf (getD ws k noWrite)) (length ws)

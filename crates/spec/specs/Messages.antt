@@ -64,21 +64,29 @@ refusalOf (pairs n) = none
 refusalOf (ordered grants gap tried) = none
 refusalOf (refused n) = some n
 
--- What answers calls, S being what it holds: its reply to a call, and what it holds after it. The reference
--- model does, and so does the store.
-pub record Answering (S : Type 0) : Type 0 where
-  pub reply : Call → S → Reply
-  pub next : Call → S → S
+-- What a call comes to, S being what the one that answers it holds: its reply, and what is held after it.
+-- The store answers calls so, and so does the reference model.
+pub record TurnOf (S : Type 0) : Type 0 where
+  pub reply : Reply
+  pub after : S
+
+module _ {S : Type 0} where
+  unfoldable pub answerWith : Said → S → TurnOf S
+  answerWith a s = record { reply = says a; after = s }
+
+  -- A refusal leaves "everything" [R-16.1], the reader's buffer too.
+  unfoldable pub refuseTurn : ℕ → List ℕ → S → TurnOf S
+  refuseTurn n buffer s = record { reply = record { answer = refused n; buffer = buffer }; after = s }
 
 -- A list of calls: the replies, and what is held after it.
-module _ {S : Type 0} (a : Answering S) where
+module _ {S : Type 0} (call : Call → S → TurnOf S) where
   unfoldable pub repliesTo : List Call → S → List Reply
   repliesTo [] s = []
-  repliesTo (c ∷ cs) s = a .reply c s ∷ repliesTo cs (a .next c s)
+  repliesTo (c ∷ cs) s = call c s .reply ∷ repliesTo cs (call c s .after)
 
   unfoldable pub afterAll : List Call → S → S
   afterAll [] s = s
-  afterAll (c ∷ cs) s = afterAll cs (a .next c s)
+  afterAll (c ∷ cs) s = afterAll cs (call c s .after)
 
 -- How many of these replies are grants.
 unfoldable pub isGrant : Said → ℕ

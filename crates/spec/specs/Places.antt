@@ -71,10 +71,8 @@ placesRefusal fileOf f out x =
 unfoldable pub placesReply : (ℕ → ℕ) → ℕ → List ℕ → Txn → ℕ → Reply
 placesReply fileOf f out x n =
     guarded (λ k. record { answer = refused k; buffer = out }) (isNone n) n
-    (let l = intervalsOf (covered fileOf f (x .writes)) in record {
-      answer = pairs (length l);
-      buffer = withPairs l out;
-    })
+    (let l = intervalsOf (covered fileOf f (x .writes)) in
+    record { answer = pairs (length l); buffer = withPairs l out })
 
 unfoldable pub placesOf : (ℕ → ℕ) → ℕ → List ℕ → Txn → Reply
 placesOf fileOf f out x = placesReply fileOf f out x (placesRefusal fileOf f out x)

@@ -12,8 +12,8 @@ use Rattle.state.specs.Outcomes.{number, Said, doneAnswer, granted, refused}
 use Rattle.admission.specs.FirstRefusal.{guarded, isNone, below}
 use Rattle.admission.specs.Admission.{windowRefusal}
 use Rattle.spec.specs.Messages.{Op, bufferOf, Call, begin, on, commit, abort, places, setWindow}
-use Rattle.spec.specs.Messages.{undoCommit, bestOrder, Reply}
-use Rattle.spec.specs.Messages.{Answering, repliesTo, afterAll}
+use Rattle.spec.specs.Messages.{undoCommit, bestOrder, Reply, says}
+use Rattle.spec.specs.Messages.{TurnOf, answerWith, refuseTurn, repliesTo, afterAll}
 use Rattle.spec.specs.Items.{Values, result, asked}
 use Rattle.spec.specs.Transactions.{Txn, Write, empty, put}
 use Rattle.spec.specs.Steps.{Stepped, refuse, accept, step, refusedStale}
@@ -95,14 +95,9 @@ secondList p r = lone (p .fileOf) (p .committed) (ops (r .calls)) empty .seen
 unfoldable pub isStale : Plain → Running → Bool
 isStale p r = not (sameEntries (firstList r) (secondList p r))
 
--- A call's reply and the machine after it.
-pub record PlainTurn : Type 0 where
-  pub reply : Reply
-  pub after : Plain
-
--- "Any other refused call changes nothing" [R-17.4].
-unfoldable pub plainRefuse : ℕ → List ℕ → Plain → PlainTurn
-plainRefuse n buffer p = record { reply = record { answer = refused n; buffer = buffer }; after = p }
+-- A call's reply and the machine after it. "Any other refused call changes nothing" [R-17.4].
+abbrev pub PlainTurn : Type 0
+PlainTurn = TurnOf Plain
 
 -- The machine with another transaction as number t; and after a grant that leaves c committed, one grant
 -- more, with what it found saved.
@@ -122,29 +117,22 @@ plainWithWindows windows p = plainWith (p .fileOf) (p .committed) (p .grants) wi
 abbrev pub plainRestored : Committed → ℕ → Plain → Plain
 plainRestored c n p = plainWith (p .fileOf) c n (p .windows) nothing (p .slots)
 
-unfoldable pub plainAnswer : Said → Plain → PlainTurn
-plainAnswer a p = record { reply = record { answer = a; buffer = [] }; after = p }
-
 -- 5: "Begin of one already open" [R-16.1]; "Begin opens a transaction with nothing in it, all Untouched."
 -- [R-17.3]
 unfoldable pub plainBegin : ℕ → Slot → Plain → PlainTurn
-plainBegin t closed p = plainAnswer doneAnswer (withSlot t (running justBegun) p)
-plainBegin t (running r) p = plainRefuse 5 [] p
+plainBegin t closed p = answerWith doneAnswer (withSlot t (running justBegun) p)
+plainBegin t (running r) p = refuseTurn 5 [] p
 
 -- "Seek, Write, GetFilePointer and Read go by the sections above and add the call, then its sightings with
 -- the setters of that moment." [R-17.3]
 unfoldable pub plainStepped : ℕ → Op → Running → List Entry → Plain → Stepped → PlainTurn
-plainStepped t o r es p (refuse n) = plainRefuse n (bufferOf o) p
+plainStepped t o r es p (refuse n) = refuseTurn n (bufferOf o) p
 plainStepped t o r es p (accept y answer buffer) =
     let reply : Reply = record { answer = answer; buffer = buffer } in
-    record {
-      reply = reply;
-      after = withSlot t (running (afterCall y (record { op = o; reply = reply }) es r))
-          p;
-    }
+    record { reply = reply; after = withSlot t (running (afterCall y (record { op = o; reply = reply }) es r)) p }
 
 unfoldable pub plainOn : ℕ → Op → Slot → Plain → PlainTurn
-plainOn t o closed p = plainRefuse 4 (bufferOf o) p
+plainOn t o closed p = refuseTurn 4 (bufferOf o) p
 plainOn t o (running r) p =
     let v = p .committed .value in
     let s = step (p .fileOf) o (r .txn) in
@@ -176,15 +164,12 @@ becameStale t p q u = not (eqb u t) && not (staleSlot p (p .slots u)) && staleSl
 -- "Abort and a Commit refused with 13 end it and set nothing." [R-17.4]
 unfoldable pub plainCommitted : ℕ → Running → Plain → ℕ → PlainTurn
 plainCommitted t r p zero =
-    plainAnswer (granted (bitsOf (becameStale t p (grant t r p)) transactionCount)) (grant t r p)
+    answerWith (granted (bitsOf (becameStale t p (grant t r p)) transactionCount)) (grant t r p)
 plainCommitted t r p (suc n) =
-    record {
-      reply = record { answer = refused (suc n); buffer = [] };
-      after = cond (eqb (suc n) (number Stale)) (withSlot t closed p) p;
-    }
+    record { reply = says (refused (suc n)); after = cond (eqb (suc n) (number Stale)) (withSlot t closed p) p }
 
 unfoldable pub plainCommit : ℕ → ℕ → Slot → Plain → PlainTurn
-plainCommit t minute closed p = plainRefuse 4 [] p
+plainCommit t minute closed p = refuseTurn 4 [] p
 plainCommit t minute (running r) p =
     let x = r .txn in
     plainCommitted t r p
@@ -192,26 +177,26 @@ plainCommit t minute (running r) p =
     (fits (p .committed .value) x))
 
 unfoldable pub plainAbort : ℕ → Slot → Plain → PlainTurn
-plainAbort t closed p = plainRefuse 4 [] p
-plainAbort t (running r) p = plainAnswer doneAnswer (withSlot t closed p)
+plainAbort t closed p = refuseTurn 4 [] p
+plainAbort t (running r) p = answerWith doneAnswer (withSlot t closed p)
 
 -- F-1, "for the plain machine too" [R-17.3]: it answers from what it holds, and adds nothing to the
 -- transaction's accepted calls.
 unfoldable pub plainPlaces : ℕ → List ℕ → Slot → Plain → PlainTurn
-plainPlaces f out closed p = plainRefuse 4 out p
+plainPlaces f out closed p = refuseTurn 4 out p
 plainPlaces f out (running r) p = record { reply = placesOf (p .fileOf) f out (r .txn); after = p }
 
 -- F-11: a window is set, after 6 and 22.
 unfoldable pub plainSetWindow : ℕ → ℕ → ℕ → Plain → PlainTurn
 plainSetWindow f start end p =
     let n = windowRefusal f start end in
-    guarded (λ k. plainRefuse k [] p) (isNone n) n
-    (plainAnswer doneAnswer (plainWithWindows (put f (window start end) (p .windows)) p))
+    guarded (λ k. refuseTurn k [] p) (isNone n) n
+    (answerWith doneAnswer (plainWithWindows (put f (window start end) (p .windows)) p))
 
 -- 3: "transaction number above 7" [R-16.1]
 unfoldable pub withNumber : ℕ → List ℕ → (Slot → Plain → PlainTurn) → Plain → PlainTurn
 withNumber t buffer next p =
-    guarded (λ n. plainRefuse n buffer p) (leb t lastTransaction) 3 (next (p .slots t) p)
+    guarded (λ n. refuseTurn n buffer p) (leb t lastTransaction) 3 (next (p .slots t) p)
 
 -- Whether a number is open, and whether one of the eight is.
 unfoldable pub isRunning : Slot → Bool
@@ -224,11 +209,11 @@ noneRunning p = below (λ t. not (isRunning (p .slots t))) transactionCount
 -- 02, F-13: "23 when any transaction is open, after 2; 24 when there has been no grant since the latest Fresh
 -- or taking back, after 23." [R-16.1]
 unfoldable pub plainRestore : Earlier → Plain → PlainTurn
-plainRestore nothing p = plainRefuse 24 [] p
-plainRestore (found c n) p = plainAnswer doneAnswer (plainRestored c n p)
+plainRestore nothing p = refuseTurn 24 [] p
+plainRestore (found c n) p = answerWith doneAnswer (plainRestored c n p)
 
 unfoldable pub plainUndo : Plain → PlainTurn
-plainUndo p = guarded (λ n. plainRefuse n [] p) (noneRunning p) 23 (plainRestore (p .earlier) p)
+plainUndo p = guarded (λ n. refuseTurn n [] p) (noneRunning p) 23 (plainRestore (p .earlier) p)
 
 abbrev pub plainCommitCall : ℕ → ℕ → Plain → PlainTurn
 plainCommitCall t minute p = withNumber t [] (plainCommit t minute) p
@@ -250,10 +235,8 @@ plainAsked minute p =
     }
 
 unfoldable pub plainBestOrder : List ℕ → ℕ → ℕ → Plain → PlainTurn
-plainBestOrder ts minute budget p = record {
-  reply = orderReply (plainAsked minute p) ts minute budget;
-  after = p;
-}
+plainBestOrder ts minute budget p =
+    record { reply = orderReply (plainAsked minute p) ts minute budget; after = p }
 
 unfoldable pub plainCall : Call → Plain → PlainTurn
 plainCall (begin t) p = withNumber t [] (plainBegin t) p
@@ -265,12 +248,9 @@ plainCall (setWindow f start end) p = plainSetWindow f start end p
 plainCall undoCommit p = plainUndo p
 plainCall (bestOrder ts minute budget) p = plainBestOrder ts minute budget p
 
-abbrev pub plainAnswers : Answering Plain
-plainAnswers = record { reply = λ c p. plainCall c p .reply; next = λ c p. plainCall c p .after }
-
 -- A list of calls: the machine after it, and its replies.
 abbrev pub plainAfter : List Call → Plain → Plain
-plainAfter cs p = afterAll plainAnswers cs p
+plainAfter cs p = afterAll plainCall cs p
 
 abbrev pub plainReplies : List Call → Plain → List Reply
-plainReplies cs p = repliesTo plainAnswers cs p
+plainReplies cs p = repliesTo plainCall cs p

@@ -11,7 +11,6 @@ use Rattle.state.specs.Layout.{storeOf, journalOf}
 use Rattle.spec.specs.Messages.{Call, abort}
 use Rattle.spec.specs.Machine.{Machine, withStore, withLogs, withMarking}
 use Rattle.spec.specs.Calls.{callsAfter}
-use Rattle.spec.specs.Promises.{machineOf}
 use Rattle.spec.specs.SerializabilityOfStore.{FreshlyMade}
 
 -- Every transaction as one that has ended; all else as before.
@@ -26,13 +25,6 @@ EndsAll before after = (storeOf after ≡ allEnded (storeOf before)) × (journal
 -- and with any logs and marks.
 unfoldable pub recovered : List ℕ → List ℕ → Machine → Machine
 recovered logs marks m = withLogs logs (withMarking marks (withStore (allEnded (m .store)) m))
-
--- The state that the code leaves, lent with the same files and undo log, is that store.
-abbrev pub RecoversByCode : Type 0
-RecoversByCode =
-    (before after files logs marks undo newLogs newMarks : List ℕ) → EndsAll before after
-    → machineOf after files newLogs newMarks undo
-    ≡ recovered newLogs newMarks (machineOf before files logs marks undo)
 
 -- A run of the program up to the moment of which the store was saved, and the logs and marks of the next run.
 pub record ProgramRun : Type 0 where

@@ -13,7 +13,7 @@ use Rattle.buffers.specs.Bits.{bitsOf}
 use Rattle.state.specs.declared.outcomes.Refusal.the-variants.{Stale, NoSuchMinute}
 use Rattle.state.specs.Outcomes.{number, granted, refused}
 use Rattle.windows.specs.Windows.{freshWindows}
-use Rattle.spec.specs.Messages.{Op, Call, on, commit, Reply, Answering, repliesTo, afterAll}
+use Rattle.spec.specs.Messages.{Op, Call, on, commit, Reply, TurnOf, repliesTo, afterAll}
 use Rattle.spec.specs.Items.{Values}
 use Rattle.spec.specs.Transactions.{empty}
 use Rattle.spec.specs.Steps.{isReadCall}
@@ -26,13 +26,13 @@ use Rattle.spec.specs.Grants.{serialOf, rerun, sameReplies}
 -- How a store behaves, S being what it holds: how it answers calls, whether a transaction is open, and the
 -- committed bytes, offsets and lengths.
 pub record Behaviour (S : Type 0) : Type 0 where
-  pub answers : Answering S
+  pub call : Call → S → TurnOf S
   pub isOpen : S → ℕ → Bool
   pub committed : S → Values
 
 -- Its reply to the next call.
 abbrev pub replyOf : {S : Type 0} → Behaviour S → Call → S → Reply
-replyOf b c s = b .answers .reply c s
+replyOf b c s = b .call c s .reply
 
 -- "A call is accepted when it returns no refusal" [R-1.10].
 abbrev pub IsAccepted : Reply → Type 0
@@ -58,7 +58,7 @@ pub record Holds {S : Type 0} (b : Behaviour S) (s₀ : S) (p₀ : Plain) (cs : 
     (p : Plain) : Type 0 where
   -- "the store returns the plain machine's refusals" [R-18.3]: each call gives what the reference model
   -- gives, answer and buffer.
-  pub replies : repliesTo (b .answers) cs s₀ ≡ plainReplies cs p₀
+  pub replies : repliesTo (b .call) cs s₀ ≡ plainReplies cs p₀
   -- A transaction is open in the store exactly when it is on the reference model.
   pub openness : (t : ℕ) → t ≤ lastTransaction → b .isOpen s t ≡ isRunning (p .slots t)
   -- "a commit by an open transaction is not refused as stale EXACTLY when its two lists of sightings on 01's
@@ -102,4 +102,4 @@ abbrev pub SerializabilityOf : (S : Type 0) → Behaviour S → (List ℕ → S 
 SerializabilityOf S b FreshlyMade =
     (numbers : List ℕ) (s₀ : S) → FreshlyMade numbers s₀
     → let p₀ : Plain = freshPlain (λ d. getD numbers d 0) in
-    (cs : List Call) → Holds b s₀ p₀ cs (afterAll (b .answers) cs s₀) (plainAfter cs p₀)
+    (cs : List Call) → Holds b s₀ p₀ cs (afterAll (b .call) cs s₀) (plainAfter cs p₀)

@@ -7,7 +7,7 @@ use Rattle.state.specs.StoreMeaning.{transaction}
 use Rattle.state.specs.Outcomes.{doneAnswer}
 use Rattle.spec.specs.Serializability.{Behaviour, SerializabilityOf}
 use Rattle.spec.specs.Machine.{Machine, values}
-use Rattle.spec.specs.Calls.{fresh, storeAnswers}
+use Rattle.spec.specs.Calls.{fresh, call}
 
 -- "from a fresh store" [R-18.3]: Fresh with these file numbers, on any state and any buffers, was accepted,
 -- and left m.
@@ -20,7 +20,7 @@ pub record FreshlyMade (numbers : List ℕ) (m : Machine) : Type 0 where
 abbrev pub theStore : Behaviour Machine
 theStore =
     record {
-      answers = storeAnswers;
+      call = call;
       isOpen = λ m t. transaction (m .store) t .begun;
       committed = λ m. values (m .store) (m .files);
     }

@@ -1,43 +1,30 @@
--- Request F-12, "One long write or two short ones" [R-5.2]: the law, in four parts, and the one fact that it
--- rests on.
+-- Request F-12, "One long write or two short ones" [R-5.2]: the law, in three parts. (The one fact about
+-- standings that it rests on is `AddsUp`, Corollaries.antt.)
 use mathlib.Core.List.{List, [], _∷_, _++_, map}
 use mathlib.Core.Logic.{_⊎_}
 use mathlib.Core.Path.{_≡_}
 use lib.ListN.{length}
 use Prim.Native.Nat.{ℕ, _+_}
 use Rattle.windows.specs.Windows.{Windows}
-use Rattle.standings.specs.declared.Standing.{Standing}
 use Rattle.standings.specs.declared.Place.{Place}
 use Rattle.standings.specs.declared.Place.the-variants.{At, After}
-use Rattle.standings.specs.Table.{afterWrite, writePlace}
 use Rattle.spec_undo.specs.OldBytes.{spanOf, oldBytes, Inside}
 use Rattle.spec.specs.Messages.{Op, write, Reply}
 use Rattle.spec.specs.Items.{Item, Values, result, asked}
 use Rattle.spec.specs.Transactions.{Txn, Write}
+unfoldable pub use Rattle.spec.specs.Transactions.{through}
 use Rattle.spec.specs.Steps.{refuse, accept, step}
 use Rattle.spec.specs.Places.{placesOf}
 use Rattle.spec.specs.Windows.{forClosed}
 use Rattle.spec.specs.Commits.{settings, fits}
 use Rattle.spec.specs.Undo.{landingsOf}
 
--- ---- the one fact
-
 -- The place n bytes further on.
 unfoldable pub further : ℕ → Place → Place
 further n (At p) = At (p + n)
 further n (After a) = After (a + n)
 
--- "Show it for each standing from one fact" [R-5.3]: a Write of m bytes and then one of n leave a standing
--- where one of m + n leaves it, and the second lies where the first ends.
-pub record AddsUp (z : Standing) : Type 0 where
-  pub standing : (m n : ℕ) → afterWrite n (afterWrite m z) ≡ afterWrite (m + n) z
-  pub place : (m : ℕ) → writePlace (afterWrite m z) ≡ further m (writePlace z)
-
 -- ---- what differs
-
--- A write through descriptor d.
-abbrev pub through : ℕ → Place → List ℕ → Write
-through d p bytes = record { descriptor = d; place = p; bytes = bytes }
 
 -- "only the write records differ" [R-5.2]: two lists of writes are the same but for one place, where the
 -- first has two writes of one descriptor, the second of them directly behind the first, and the other list
@@ -63,22 +50,6 @@ pub record Accepts (fileOf : ℕ → ℕ) (v : Values) (o : Op) (x y : Txn) (r :
     0 where
   pub leads : result v (step fileOf o x) ≡ accept y (r .answer) (r .buffer)
   pub sights : asked v (step fileOf o x) ≡ is
-
--- One of a list of calls: what is committed then (others may commit between the calls), the call, its reply
--- and its sightings.
-pub record Moment : Type 0 where
-  pub value : Values
-  pub op : Op
-  pub reply : Reply
-  pub sightings : List Item
-
--- A list of calls, each accepted.
-pub data AcceptsAll (fileOf : ℕ → ℕ) : Txn → List Moment → Txn → Type 0 where
-  stop : (x : Txn) → AcceptsAll fileOf x [] x
-  next :
-      (x y z : Txn) (n : Moment) (ns : List Moment)
-      → Accepts fileOf (n .value) (n .op) x y (n .reply) (n .sightings) → AcceptsAll fileOf y ns z
-      → AcceptsAll fileOf x (n ∷ ns) z
 
 -- ---- the law
 
@@ -106,7 +77,6 @@ pub record SameCommit (fileOf : ℕ → ℕ) (v : Values) (x y : Txn) : Type 0 w
       ≡ forClosed fileOf windows minute (y .writes)
 
 pub record SplitLaw (fileOf : ℕ → ℕ) : Type 0 where
-  pub fact : (z : Standing) → AddsUp z
   -- 1. "for one transaction and descriptor, when Write of a then Write of b directly after it are both
   -- accepted, they leave the same standing, sightings .. as one Write of a and b joined, if that is accepted"
   -- [R-5.2]: it always is. Whatever is committed at each of the three.
@@ -114,15 +84,12 @@ pub record SplitLaw (fileOf : ℕ → ℕ) : Type 0 where
       (u v w : Values) (d : ℕ) (a b : List ℕ) (z x x′ : Txn) (r s : Reply) (is js : List Item)
       → Accepts fileOf u (write d a) z x r is → Accepts fileOf v (write d b) x x′ s js
       → (y : Txn) × Accepts fileOf w (write d (a ++ b)) z y s (is ++ js) × SplitTxn x′ y
-  -- 2. "bytes seen by later Reads" [R-5.2]: any further call, F-1's too.
+  -- 2. "bytes seen by later Reads" [R-5.2], "and the calls after it are the same and accepted in both"
+  -- [R-5.2]: any further call, so any list of them (Corollaries.antt, `SplitLists`); F-1's too.
   pub later : (v : Values) (o : Op) (x y : Txn) → SplitTxn x y → SameStep fileOf v o x y
   pub places : (f : ℕ) (out : List ℕ) (x y : Txn) → SplitTxn x y → placesOf fileOf f out x
       ≡ placesOf fileOf f out y
-  -- 3. "and the calls after it are the same and accepted in both" [R-5.2]: a whole list of them.
-  pub list :
-      (ns : List Moment) (x y x′ : Txn) → SplitTxn x y → AcceptsAll fileOf x ns x′ → (y′ : Txn)
-      × AcceptsAll fileOf y ns y′ × SplitTxn x′ y′
-  -- 4. "and effect at Commit" [R-5.2]
+  -- 3. "and effect at Commit" [R-5.2]
   pub commit : (v : Values) (x y : Txn) → SplitTxn x y → SameCommit fileOf v x y
 
 abbrev pub SplitsAlike : Type 0

@@ -13,7 +13,7 @@ use Rattle.spec.specs.Messages.{Op, seek, write, getFilePointer, read}
 use Rattle.spec.specs.Items.{Prog, done, andThen}
 use Rattle.standings.specs.Table.{afterSeek, afterWrite, afterRead, pointerSettles, readSettles, offsetOf}
 use Rattle.standings.specs.Table.{writePlace}
-use Rattle.spec.specs.Transactions.{Txn, Write, withWrites, dirtied, those, Settled, past, all}
+use Rattle.spec.specs.Transactions.{Txn, Write, through, withWrites, dirtied, those, Settled, past, all}
 use Rattle.spec.specs.Transactions.{settling}
 use Rattle.spec.specs.Reading.{gather}
 
@@ -38,8 +38,7 @@ total (w ∷ ws) = length (w .bytes) + total ws
 
 unfoldable pub written : ℕ → List ℕ → Txn → Txn
 written d bytes x =
-    withWrites (x .writes ++ (record { descriptor = d; place = writePlace (x .standing d); bytes = bytes }
-    ∷ []))
+    withWrites (x .writes ++ (through d (writePlace (x .standing d)) bytes ∷ []))
     (dirtied d (afterWrite (length bytes) (x .standing d)) x)
 
 unfoldable pub seekStep : ℕ → ℕ → Txn → Prog Stepped

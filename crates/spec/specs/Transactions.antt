@@ -17,6 +17,9 @@ pub record Write : Type 0 where
   pub place : Place
   pub bytes : List ℕ
 
+abbrev pub through : ℕ → Place → List ℕ → Write
+through d p bytes = record { descriptor = d; place = p; bytes = bytes }
+
 -- A transaction's standing for each descriptor; whether the descriptor is dirty: it "made a Seek, Read or
 -- Write on it, 0 bytes included" [R-3.5] (02, F-2), so that Commit sets its offset; and its writes in call
 -- order.
@@ -59,11 +62,7 @@ placedAt c (After a) = At (c + a)
 
 unfoldable pub placeWrite : ℕ → ℕ → Write → Write
 placeWrite d c w =
-    record {
-      descriptor = w .descriptor;
-      place = cond (eqb (w .descriptor) d) (placedAt c (w .place)) (w .place);
-      bytes = w .bytes;
-    }
+    through (w .descriptor) (cond (eqb (w .descriptor) d) (placedAt c (w .place)) (w .place)) (w .bytes)
 
 -- Descriptor d settled at committed offset c.
 unfoldable pub settle : ℕ → ℕ → Txn → Txn

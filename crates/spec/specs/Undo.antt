@@ -10,9 +10,9 @@ use Rattle.standings.specs.declared.Place.the-variants.{At}
 use Rattle.standings.specs.Table.{placeNumber}
 use Rattle.state.specs.declared.StoreMeaning.{StoreMeaning}
 use Rattle.state.specs.declared.journal.WriteRecord.{WriteRecord}
-use Rattle.state.specs.StoreMeaning.{withOffsets, withLengths, withHeld, withUndo}
+use Rattle.state.specs.StoreMeaning.{undoWith, withOffsets, withLengths, withHeld, withUndo}
 use Rattle.state.specs.Journal.{lastGrant, writeRecordAt, withRecords}
-use Rattle.spec_undo.specs.OldBytes.{Landing, Span, oldBytes, restored}
+use Rattle.spec_undo.specs.OldBytes.{Landing, landing, Span, oldBytes, restored}
 use Rattle.spec.specs.Items.{offset, Values}
 use Rattle.spec.specs.Transactions.{Txn, Write}
 use Rattle.spec.specs.Steps.{total}
@@ -24,10 +24,7 @@ use Rattle.spec.specs.Machine.{noWrite}
 -- which it lands.
 unfoldable pub landingOf : (ℕ → ℕ) → Values → Write → Landing
 landingOf fileOf v w =
-    record {
-      at = fileBytes * fileOf (w .descriptor) + landsAt (v (offset (w .descriptor))) (w .place);
-      bytes = w .bytes;
-    }
+    landing (fileBytes * fileOf (w .descriptor) + landsAt (v (offset (w .descriptor))) (w .place)) (w .bytes)
 
 abbrev pub landingsOf : (ℕ → ℕ) → Values → List Write → List Landing
 landingsOf fileOf v ws = map (landingOf fileOf v) ws
@@ -49,14 +46,7 @@ savingUndo x m =
     let v = values s (m .files) in
     let ws = x .writes in
     withStore
-    (withUndo
-    (record {
-      valid = true;
-      used = record { records = length ws; bytes = total ws };
-      offsets = s .offsets;
-      lengths = s .lengths;
-    })
-    s)
+    (withUndo (undoWith true (record { records = length ws; bytes = total ws }) (s .offsets) (s .lengths)) s)
     (withJournal (withRecords (m .journal) lastGrant (λ k. landedRecord v (getD ws k noWrite)) (length ws))
     (withOldBytes (pasted (m .undo) 0 (oldBytes (landingsOf (fileOf s) v ws) (m .files))) m))
 

@@ -10,7 +10,8 @@ use Rattle.spec.specs.Messages.{Op, seek, write, getFilePointer, read}
 use Rattle.spec.specs.Grants.{Grant}
 use Rattle.spec.specs.Messages as Messages
 use Rattle.spec_dispatch.specs.Rounds as Rounds
-use Rattle.spec_dispatch.specs.Dispatch.{IsDispatchRefusal, EndsScript, AnsweredInRounds}
+use Rattle.spec_dispatch.specs.Dispatch.{EndsScript, AnsweredInRounds}
+use Rattle.spec_dispatch.specs.Corollaries.{IsDispatchRefusal}
 use Rattle.spec_dispatch.specs.Dispatch.{withoutBuffer, IsScript, EveryScript, more, timesIn, timesOf}
 use Rattle.spec_dispatch.specs.DispatchEdgeCases.{scriptOf, scriptList, bytes, appends}
 use Rattle.spec_dispatch.specs.DispatchCounterexamples.{RefusalsTell, two, grantOf, asksAndWrites, ScriptsTell}

@@ -30,10 +30,10 @@ use Rattle.spec.proofs.Theorems.Age.{at-rest-sound, resting-start, resting-hold
 use Rattle.refinement.proofs.Shapes.{shaped}
 use Rattle.spec_dispatch.specs.Rounds.{Scripts, scriptIn, scriptsIn, failed, goesOn, Work, nothingDone, rounds, dispatched}
 use Rattle.spec_dispatch.specs.Dispatch.{storeReply, plainReply, workOnStore, workOnPlain, dispatch}
-use Rattle.spec_dispatch.specs.Dispatch.{DispatchRefusals, IsDispatchRefusal, EndsScript, AnsweredInRounds, PlainToo}
+use Rattle.spec_dispatch.specs.Dispatch.{EndsScript, AnsweredInRounds, PlainToo}
 use Rattle.spec_dispatch.specs.Dispatch.{Dispatches, plainOf}
 use Rattle.spec_dispatch.specs.Dispatch.{DispatchHolds, SameDispatch}
-use Rattle.spec_dispatch.specs.Corollaries.{DispatchHoldsAtRest, FewCommits}
+use Rattle.spec_dispatch.specs.Corollaries.{DispatchRefusals, IsDispatchRefusal, DispatchHoldsAtRest, FewCommits}
 use Rattle.spec_dispatch.proofs.Follows.{abstractReply, store-abstract, twins-after, WorkResting, resting-twins}
 use Rattle.spec_dispatch.proofs.Same.{left-by, commits-of, gate, refusal-is, plain-too}
 use Rattle.spec_dispatch.proofs.Phases.{Laws, AtRest as Rests, rounds-rest}

@@ -17,9 +17,9 @@ use Rattle.spec.specs.Transactions.{put}
 use Rattle.spec.specs.Messages.{Op, bufferOf, Call, begin, on, commit, abort, Reply, isGrant, afterAll, refusalOf}
 use Rattle.spec.specs.Steps.{Stepped, refuse, accept}
 use Rattle.spec.specs.Sightings.{Entry}
-use Rattle.spec.specs.Plain.{Accepted, Running, Slot, closed, running, Plain, plainWithWindows, isStale, PlainTurn, plainRefuse}
+use Rattle.spec.specs.Plain.{Accepted, Running, Slot, closed, running, Plain, plainWithWindows, isStale, PlainTurn}
 use Rattle.spec.specs.Plain.{withSlot}
-use Rattle.spec.specs.Plain.{plainAnswer, plainBegin, plainStepped, plainOn, grant, plainCommitted, plainCommit, plainAbort}
+use Rattle.spec.specs.Plain.{plainBegin, plainStepped, plainOn, grant, plainCommitted, plainCommit, plainAbort}
 use Rattle.spec.specs.Plain.{withNumber}
 use Rattle.spec.specs.Plain.{plainCall, plainAfter}
 use Rattle.spec.specs.Grants.{Grant, grantedBy, Serial, adding, serialBy, serialFrom, serialOf}
@@ -32,6 +32,7 @@ use Rattle.spec_dispatch.specs.Rounds.{nothingDone, refusalIn, opOf}
 use Rattle.spec_dispatch.specs.Dispatch.{plainReply, withoutBuffer, IsScript, EveryScript, none, more, timesIn, timesOf}
 use Rattle.spec_dispatch.proofs.Phases.{Quiet, begins-it, calls-it, aborts-it, Laws, AtRest}
 use Rattle.spec_dispatch.proofs.OnAbstract.{answer-none}
+use Rattle.spec.specs.Messages.{answerWith, refuseTurn}
 
 after-one : (cs : List Call) (c : Call) (p : Plain) → plainAfter (cs ++ (c ∷ [])) p ≡ plainCall c (plainAfter cs p) .after
 unfolding afterAll
@@ -70,7 +71,7 @@ module _ (t : ℕ) (p : Plain) where
       × (reply : Reply) × (r .calls ≡ calls ++ (record { op = o; reply = reply } ∷ [])))
 
   served-step : (o : Op) (r : Running) (es : List Entry) (z : Stepped) → Right z → Served o (r .calls) (plainStepped t o r es p z)
-  unfolding plainStepped plainRefuse refusalIn refusalOf withSlot
+  unfolding plainStepped refuseTurn refusalIn refusalOf withSlot
   served-step o r es (refuse n) h = inl (λ e. omega (arith, h .0, e), refl)
   served-step o r es (accept y a buffer) h = inr (answer-none a h, _, put-same t _ (p .slots), _, refl)
 
@@ -79,36 +80,36 @@ module _ (t : ℕ) (p : Plain) where
     unfolding plainCall withNumber plainOn
     served-call o r e =
         subst (Served o (r .calls))
-        (sym (ap₂ (λ (b : Bool) (z : Slot). cond b (plainOn t o z p) (plainRefuse 3 (bufferOf o) p)) small e))
+        (sym (ap₂ (λ (b : Bool) (z : Slot). cond b (plainOn t o z p) (refuseTurn 3 (bufferOf o) p)) small e))
         (served-step o r _ _ (right-step (p .fileOf) o (r .txn) (p .committed .value) (isStale p r)))
 
     begin-slot : p .slots t ≡ closed → (r : Running) × (plainCall (begin t) p .after .slots t ≡ running r) × (r .calls ≡ [])
-    unfolding plainCall withNumber plainBegin plainAnswer withSlot
+    unfolding plainCall withNumber plainBegin answerWith withSlot
     begin-slot e = (
       _,
       ap (λ (τ : PlainTurn). τ .after .slots t)
-          (ap₂ (λ (b : Bool) (z : Slot). cond b (plainBegin t z p) (plainRefuse 3 [] p)) small e)
+          (ap₂ (λ (b : Bool) (z : Slot). cond b (plainBegin t z p) (refuseTurn 3 [] p)) small e)
           ∙ put-same t _ (p .slots),
       refl,
     )
 
     abort-slot : (r : Running) → p .slots t ≡ running r → plainCall (abort t) p .after .slots t ≡ closed
-    unfolding plainCall withNumber plainAbort plainAnswer withSlot
+    unfolding plainCall withNumber plainAbort answerWith withSlot
     abort-slot r e =
         ap (λ (τ : PlainTurn). τ .after .slots t)
-        (ap₂ (λ (b : Bool) (z : Slot). cond b (plainAbort t z p) (plainRefuse 3 [] p)) small e)
+        (ap₂ (λ (b : Bool) (z : Slot). cond b (plainAbort t z p) (refuseTurn 3 [] p)) small e)
         ∙ put-same t closed (p .slots)
 
     commit-call : (minute : ℕ) (r : Running) → p .slots t ≡ running r → (n : ℕ)
         × (plainCall (commit t minute) p ≡ plainCommitted t r p n)
     unfolding plainCall withNumber plainCommit
-    commit-call minute r e = (_, ap₂ (λ (b : Bool) (z : Slot). cond b (plainCommit t minute z p) (plainRefuse 3 [] p)) small e)
+    commit-call minute r e = (_, ap₂ (λ (b : Bool) (z : Slot). cond b (plainCommit t minute z p) (refuseTurn 3 [] p)) small e)
 
   -- Ended by a grant and by 13, otherwise left.
   committed-ends : (r : Running) (n : ℕ)
       → (refusalIn (plainCommitted t r p n .reply .answer) ≡ 0) ⊎ (refusalIn (plainCommitted t r p n .reply .answer) ≡ 13)
       → plainCommitted t r p n .after .slots t ≡ closed
-  unfolding plainCommitted plainAnswer grant refusalIn refusalOf withSlot
+  unfolding plainCommitted answerWith grant refusalIn refusalOf withSlot
   committed-ends r zero e = put-same t closed (p .slots)
   committed-ends r (suc n) (inl e) = absurd (omega (arith, e))
   committed-ends r (suc n) (inr e) =
@@ -116,7 +117,7 @@ module _ (t : ℕ) (p : Plain) where
 
   committed-left : (r : Running) (n m : ℕ) → refusalIn (plainCommitted t r p n .reply .answer) ≡ suc m → (suc m ≡ 13 → ⊥)
       → plainCommitted t r p n .after ≡ p
-  unfolding plainCommitted plainAnswer refusalIn refusalOf
+  unfolding plainCommitted answerWith refusalIn refusalOf
   committed-left r zero m e g = absurd (omega (arith, e))
   committed-left r (suc n) m e g = pick (eqb (suc n) 13) refl
     where
@@ -129,7 +130,7 @@ module _ (t : ℕ) (p : Plain) where
     if-granted : (r : Running) (n : ℕ) → refusalIn (plainCommitted t r p n .reply .answer) ≡ 0
         → grantedBy t minute (plainCommitted t r p n .reply .answer) (running r)
         ≡ record { txnNumber = t; minute = minute; calls = r .calls } ∷ []
-    unfolding plainCommitted plainAnswer refusalIn refusalOf grantedBy isGrant
+    unfolding plainCommitted answerWith refusalIn refusalOf grantedBy isGrant
     if-granted r zero e = refl
     if-granted r (suc n) e = absurd (omega (arith, e))
 
@@ -159,27 +160,27 @@ module _ (t : ℕ) (p : Plain) where
     same-slot q z e = put-other t z (q .slots) j other ∙ ap (λ (f : ℕ → Slot). f j) e
 
     same-stepped : (o : Op) (r : Running) (es : List Entry) (z : Stepped) → Same (plainStepped t o r es p z)
-    unfolding plainStepped plainRefuse
+    unfolding plainStepped refuseTurn
     same-stepped o r es (refuse n) = refl
     same-stepped o r es (accept y a buffer) = same-slot p _ refl
 
     same-on : (o : Op) (z : Slot) → Same (plainOn t o z p)
-    unfolding plainOn plainRefuse
+    unfolding plainOn refuseTurn
     same-on o closed = refl
     same-on o (running r) = same-stepped o r _ _
 
     same-begin : (z : Slot) → Same (plainBegin t z p)
-    unfolding plainBegin plainRefuse plainAnswer
+    unfolding plainBegin refuseTurn answerWith
     same-begin closed = same-slot p _ refl
     same-begin (running r) = refl
 
     same-abort : (z : Slot) → Same (plainAbort t z p)
-    unfolding plainAbort plainRefuse plainAnswer
+    unfolding plainAbort refuseTurn answerWith
     same-abort closed = refl
     same-abort (running r) = same-slot p _ refl
 
     same-committed : (r : Running) (n : ℕ) → Same (plainCommitted t r p n)
-    unfolding plainCommitted plainAnswer grant
+    unfolding plainCommitted answerWith grant
     same-committed r zero = same-slot _ _ refl
     same-committed r (suc n) = pick (eqb (suc n) 13)
       where
@@ -188,7 +189,7 @@ module _ (t : ℕ) (p : Plain) where
         pick false = refl
 
     same-commit : (minute : ℕ) (z : Slot) → Same (plainCommit t minute z p)
-    unfolding plainCommit plainRefuse
+    unfolding plainCommit refuseTurn
     same-commit minute closed = refl
     same-commit minute (running r) = same-committed r _
 
@@ -197,9 +198,9 @@ module _ (t : ℕ) (p : Plain) where
     unfolding withNumber
     same-numbered buffer next h = pick (leb t 7)
       where
-        pick : (b : Bool) → Same (cond b (next (p .slots t) p) (plainRefuse 3 buffer p))
+        pick : (b : Bool) → Same (cond b (next (p .slots t) p) (refuseTurn 3 buffer p))
         pick true = h
-        pick false = unfold plainRefuse in refl
+        pick false = unfold refuseTurn in refl
 
     same-quiet : (c : Call) → Quiet t c → plainCall c p .after .slots j ≡ p .slots j
     unfolding plainCall

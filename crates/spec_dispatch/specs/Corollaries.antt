@@ -1,6 +1,7 @@
 -- What follows from the statements of this crate. It is proved and used, and nobody has to believe it.
 use mathlib.Core.Bool.{true}
 use mathlib.Core.List.{List, [], _∷_, map}
+use mathlib.Core.Logic.{_⊎_}
 use mathlib.Core.Path.{_≡_}
 use lib.ListN.{length, getD}
 use Prim.Native.Nat.{ℕ, _+_, _*_, _≤_}
@@ -17,6 +18,26 @@ use Rattle.spec.specs.Age.{AtRest}
 use Rattle.spec_dispatch.specs.Rounds.{Scripts, scriptsIn}
 use Rattle.spec_dispatch.specs.Dispatch.{dispatch, Dispatches, plainOf}
 use Rattle.spec_dispatch.specs.SerializabilityOfCode.{CallMade, CallKept, madeReply, Linked}
+
+-- ---- refusals (demand 1): of `dispatch`
+
+-- The dispatcher's refusals.
+abbrev pub IsDispatchRefusal : ℕ → Type 0
+IsDispatchRefusal n = (n ≡ 1) ⊎ ((n ≡ 2) ⊎ ((n ≡ 19) ⊎ (n ≡ 20)))
+
+-- Refusals of the dispatcher, on any state and any buffers m: it has these refusals (their conditions are
+-- `admissionOfDispatch`), and "A refusal changes no buffer and no record" [R-18.1].
+pub record RefusalsOfDispatch (bytes : List ℕ) (minute : ℕ) (x : Scripts) (m : Machine)
+    (reader : List ℕ) : Type 0 where
+  pub known : (dispatch bytes minute x m reader .refusal ≡ 0 → ⊥)
+      → IsDispatchRefusal (dispatch bytes minute x m reader .refusal)
+  pub leaves :
+      (dispatch bytes minute x m reader .refusal ≡ 0 → ⊥)
+      → (dispatch bytes minute x m reader .after ≡ m) × (dispatch bytes minute x m reader .reader ≡ reader)
+
+abbrev pub DispatchRefusals : Type 0
+DispatchRefusals = (bytes : List ℕ) (minute : ℕ) (x : Scripts) (m : Machine) (reader : List ℕ)
+    → RefusalsOfDispatch bytes minute x m reader
 
 -- ---- of DispatchHolds
 

@@ -56,13 +56,8 @@ module _ {M : Type 0} where
 
   -- A refusal leaves everything.
   unfoldable pub notStarted : M → List ℕ → ℕ → Dispatched M
-  notStarted m reader n = record {
-    refusal = n;
-    ends = λ k. unfinished;
-    commits = 0;
-    reader = reader;
-    after = m;
-  }
+  notStarted m reader n =
+      record { refusal = n; ends = λ k. unfinished; commits = 0; reader = reader; after = m }
 
 -- What it leaves is what its list of calls leaves.
 unfoldable pub dispatch : List ℕ → ℕ → Scripts → Machine → List ℕ → Dispatched Machine
@@ -77,26 +72,6 @@ plainDispatch bytes minute x p reader =
     let n = unless (noneRunning p) 19 (unless (scriptsIn (length bytes) x) 20 0) in
     let w = workOnPlain bytes minute x p reader in
     guarded (notStarted p reader) (isNone n) n (reported w (plainAfter (w .made) p))
-
--- ---- refusals (demand 1)
-
--- The dispatcher's refusals.
-abbrev pub IsDispatchRefusal : ℕ → Type 0
-IsDispatchRefusal n = (n ≡ 1) ⊎ ((n ≡ 2) ⊎ ((n ≡ 19) ⊎ (n ≡ 20)))
-
--- Refusals of the dispatcher, on any state and any buffers m: it has these refusals (their conditions are
--- `admissionOfDispatch`), and "A refusal changes no buffer and no record" [R-18.1].
-pub record RefusalsOfDispatch (bytes : List ℕ) (minute : ℕ) (x : Scripts) (m : Machine)
-    (reader : List ℕ) : Type 0 where
-  pub known : (dispatch bytes minute x m reader .refusal ≡ 0 → ⊥)
-      → IsDispatchRefusal (dispatch bytes minute x m reader .refusal)
-  pub leaves :
-      (dispatch bytes minute x m reader .refusal ≡ 0 → ⊥)
-      → (dispatch bytes minute x m reader .after ≡ m) × (dispatch bytes minute x m reader .reader ≡ reader)
-
-abbrev pub DispatchRefusals : Type 0
-DispatchRefusals = (bytes : List ℕ) (minute : ℕ) (x : Scripts) (m : Machine) (reader : List ℕ)
-    → RefusalsOfDispatch bytes minute x m reader
 
 -- ---- what the rounds come to
 

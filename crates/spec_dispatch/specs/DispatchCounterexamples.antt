@@ -8,7 +8,8 @@ use Rattle.spec.specs.Messages.{Op, seek, write, getFilePointer, read, says}
 use Rattle.spec.specs.Grants.{Grant}
 use Rattle.spec.specs.Setup.{A, B}
 use Rattle.spec_dispatch.specs.Rounds.{Scripts, unfinished, passed, failed}
-use Rattle.spec_dispatch.specs.Dispatch.{IsDispatchRefusal, EndsScript, AnsweredInRounds}
+use Rattle.spec_dispatch.specs.Dispatch.{EndsScript, AnsweredInRounds}
+use Rattle.spec_dispatch.specs.Corollaries.{IsDispatchRefusal}
 use Rattle.spec_dispatch.specs.Dispatch.{withoutBuffer, IsScript, EveryScript, timesIn, timesOf}
 use Rattle.spec_dispatch.specs.DispatchEdgeCases.{scriptList, bytes, appends}
 

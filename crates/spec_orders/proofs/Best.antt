@@ -10,7 +10,8 @@ use native.Mathlib.Omega.{arith}
 use Prim.Native.Nat.{ℕ, zero, suc, _+_, _-_, _≤_, _<_}
 use Rattle.spec_orders.specs.Orders.{orders, triedOf, factorial, Rated, rated, better, bestOf, bestTried, countIn}
 use Rattle.spec_orders.specs.Orders.{gapOf}
-use Rattle.spec_orders.specs.Orders.{Arranges, In, Earliest, BestIsEarliest, NoneBetter}
+use Rattle.spec_orders.specs.Orders.{Arranges, Earliest}
+use Rattle.spec_orders.specs.Laws.{In, BestIsEarliest, NoneBetter}
 use Rattle.spec_orders.proofs.Members.{found-in, in-at}
 use Rattle.spec_orders.specs.Numbering.{orderAt}
 use Rattle.spec_orders.proofs.Numbered.{positive, many-orders, order-numbered, many-tried, all-in, same-count, given-first}

@@ -8,7 +8,8 @@ use lib.ListN.{length, getD}
 use native.Mathlib.Omega.{arith}
 use native.Mathlib.Nat.{le-of-suc-le-suc}
 use Prim.Native.Nat.{ℕ, zero, suc, _+_, _≤_, _<_}
-use Rattle.spec_orders.specs.Orders.{without, chained, ordersOf, countIn, Arranges, In, first, later}
+use Rattle.spec_orders.specs.Orders.{without, chained, ordersOf, countIn, Arranges}
+use Rattle.spec_orders.specs.Laws.{In, first, later}
 
 -- ---- among lists
 

@@ -9,8 +9,8 @@ use lib.Seq.{getD-append-add}
 use native.Mathlib.Omega.{arith}
 use native.Mathlib.Nat.{suc-mul, zero-mul, mul-le-mul-right, mul-pos, mod-lt, div-add-mod', div-lt-iff-lt-mul, zero-div, zero-mod}
 use Prim.Native.Nat.{ℕ, zero, suc, _+_, _*_, _/_, _%_, _<_, min}
-use Rattle.spec_orders.specs.Orders.{without, chained, ordersOf, orders, triedOf, factorial, countIn, Arranges, In}
-use Rattle.spec_orders.specs.Orders.{OrdersOf}
+use Rattle.spec_orders.specs.Orders.{without, chained, ordersOf, orders, triedOf, factorial, countIn, Arranges}
+use Rattle.spec_orders.specs.Laws.{In, OrdersOf}
 use Rattle.spec_orders.proofs.Members.{found-in, length-without, count-without, complete}
 use Rattle.spec_orders.specs.Numbering.{orderAt}
 

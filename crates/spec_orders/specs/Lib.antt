@@ -1,3 +1,4 @@
 pub mod Orders
+pub mod Laws
 pub mod Numbering
 pub mod Examples

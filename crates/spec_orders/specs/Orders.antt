@@ -2,7 +2,6 @@
 -- worth, its grants, is a function handed in.
 use mathlib.Core.Bool.{Bool, true, false, cond, not, _&&_, _||_}
 use mathlib.Core.List.{List, [], _∷_, _++_, map}
-use mathlib.Core.Logic.{_↔_}
 use mathlib.Core.Path.{_≡_}
 use lib.Dec.{leb, ltb, eqb}
 use lib.ListN.{length, getD, take, drop}
@@ -91,26 +90,12 @@ distinct (t ∷ ts) = not (isIn t ts) && distinct ts
 unfoldable pub isList : List ℕ → Bool
 isList ts = leb 1 (length ts) && leb (length ts) transactionCount && distinct ts
 
--- ---- what is proved
+-- ---- what is claimed of the answer (spec/specs/BestOrder.antt)
 
 -- An order of a list is any list with the same members: each as often as there. (False of `notAnOrder`:
 -- Examples.antt.)
 abbrev pub Arranges : List ℕ → List ℕ → Type 0
 Arranges ts o = (t : ℕ) → countIn (eqb t) o ≡ countIn (eqb t) ts
-
--- A list is among others.
-pub data In (o : List ℕ) : List (List ℕ) → Type 0 where
-  first : (os : List (List ℕ)) → In o (o ∷ os)
-  later : (p : List ℕ) (os : List (List ℕ)) → In o os → In o (p ∷ os)
-
--- The orders of the definition are those, n! of them.
-pub record OrdersOf (ts : List ℕ) : Type 0 where
-  pub these : (o : List ℕ) → In o (orders ts) ↔ Arranges ts o
-  pub many : length (orders ts) ≡ factorial (length ts)
-  -- "the given order first" [R-14.2]
-  pub givenFirst : getD (orders ts) 0 [] ≡ ts
-  -- "The number of orders tried is in the result, never above the budget." [R-14.1]
-  pub tried : (budget : ℕ) → length (triedOf budget ts) ≤ budget
 
 -- "the answer is the earliest of those tried with the most grants" [R-14.2] (False of `tooLate` and `tooFew`:
 -- Examples.antt.)
@@ -121,18 +106,3 @@ pub record Earliest (grantsIn : List ℕ → ℕ) (os : List (List ℕ)) (a : Ra
   pub grants : a .grants ≡ grantsIn (a .order)
   pub most : (i : ℕ) → i < length os → grantsIn (getD os i []) ≤ a .grants
   pub earliest : (i : ℕ) → i < position → grantsIn (getD os i []) < a .grants
-
-abbrev pub BestIsEarliest : Type 0
-BestIsEarliest =
-    (grantsIn : List ℕ → ℕ) (budget : ℕ) (ts : List ℕ) → 1 ≤ budget
-    → Earliest grantsIn (triedOf budget ts) (bestTried grantsIn budget ts)
-
--- "No order has more grants than the answer plus the gap" [R-14.3], where only those without a byte for a
--- closed file are granted.
-abbrev pub NoneBetter : Type 0
-NoneBetter =
-    (grantsIn : List ℕ → ℕ) (hasClosed : ℕ → Bool)
-    → ((o : List ℕ) → grantsIn o ≤ countIn (λ t. not (hasClosed t)) o)
-    → (ts o : List ℕ) (budget : ℕ) → Arranges ts o
-    → let a = bestTried grantsIn budget ts in
-    grantsIn o ≤ a .grants + gapOf hasClosed budget ts (a .grants)

@@ -11,7 +11,7 @@ use Prim.Native.Nat.{ℕ, _<_}
 use Rattle.text_trace.specs.Grammar.{Line, another, parsed, form}
 use Rattle.text_lines.specs.Lines.{truncated}
 use Rattle.text_lines.specs.Programs.{TruncatedIsEnough}
-use Rattle.spec.specs.Messages.{Answering}
+use Rattle.spec.specs.Messages.{Call, TurnOf}
 use Rattle.text_answers.specs.Printed.{printed}
 use Rattle.trace.specs.Answers.{KeptLine}
 use Rattle.trace.specs.Transcript.{lineTurn, tracing}
@@ -31,7 +31,7 @@ truncated-line line = pick (leb (length line) 128) refl
         let l = length-take-le 129 line (omega arith) in
         too-long (take 129 line) (omega arith) ∙ sym (too-long line h)
 
-pub trace-truncated-is-enough : {S : Type 0} (a : Answering S) → TruncatedIsEnough (tracing a)
+pub trace-truncated-is-enough : {S : Type 0} (a : Call → S → TurnOf S) → TruncatedIsEnough (tracing a)
 trace-truncated-is-enough a =
     record {
       text = λ line k. ap (λ (l : Line). printed (lineTurn a l k .reply)) (truncated-line line);

@@ -14,14 +14,14 @@ use Rattle.requests.specs.declared.Request.{Request}
 use Rattle.requests.specs.declared.Request.the-variants.{Begin, Seek, Write, GetFilePointer, Read, Places}
 use Rattle.requests.specs.declared.Request.the-variants.{Commit, Abort, SetWindow, UndoCommit}
 use Rattle.requests.specs.Requests.{callOf}
-use Rattle.spec.specs.Messages.{Reply, bufferOf, bufferOfCall}
+use Rattle.spec.specs.Messages.{Reply, TurnOf, refuseTurn, bufferOf, bufferOfCall}
 use Rattle.spec.specs.Machine.{Machine}
 use Rattle.trace.specs.Answers.{AnswersTo, Answers}
 use Rattle.text_lines.specs.Programs.{transcript, stateAfter, Answered}
-use Rattle.trace.specs.Transcript.{readerAfterLine, TraceState, LineTurn, lineTurn, storeTrace}
-use Rattle.spec.specs.Calls.{storeAnswers}
+use Rattle.trace.specs.Transcript.{readerAfterLine, TraceState, lineTurn, storeTrace}
+use Rattle.spec.specs.Calls.{call}
 
-record Same (t : LineTurn Machine) (o : Outcome) (m′ : Machine) (reader′ : List ℕ) : Type 0 where
+record Same (t : TurnOf (TraceState Machine)) (o : Outcome) (m′ : Machine) (reader′ : List ℕ) : Type 0 where
   after : _≡_ {A = TraceState Machine} (record { machine = m′; reader = reader′ }) (t .after)
   reply : _≡_ {A = Reply} (record { answer = said o; buffer = reader′ }) (t .reply)
 
@@ -46,8 +46,8 @@ read-left (SetWindow f start end) bytes reader reader′ w l e = l
 read-left UndoCommit bytes reader reader′ w l e = l
 
 same-turn : (l : Line) (m : Machine) (reader : List ℕ) (o : Outcome) (m′ : Machine) (reader′ : List ℕ)
-    → AnswersTo l reader m o m′ reader′ → Same (lineTurn storeAnswers l (traceStateIn m reader)) o m′ reader′
-unfolding AnswersTo lineTurn
+    → AnswersTo l reader m o m′ reader′ → Same (lineTurn call l (traceStateIn m reader)) o m′ reader′
+unfolding AnswersTo lineTurn refuseTurn
 same-turn another m reader o m′ reader′ h = record {
   after = ap₂ traceStateIn (h .1 .0) (h .1 .1);
   reply = ap₂ replyIn (h .0) (h .1 .1);
@@ -64,7 +64,7 @@ pub answer-line : (line reader : List ℕ) (m : Machine) (o : Outcome) (m′ : M
 unfolding transcript stateAfter
 answer-line line reader m o m′ reader′ before at after next a p h =
     let s = same-turn (parsed line) m reader o m′ reader′ a in
-    let t = lineTurn storeAnswers (parsed line) (traceStateIn m reader) in
+    let t = lineTurn call (parsed line) (traceStateIn m reader) in
     record {
       says =
           put-text before at (printed (replyIn (said o) reader′)) after next h p

@@ -11,16 +11,13 @@ use Rattle.text_lines.proofs.WholeRun.{whole-run as whole-lines}
 use Rattle.text_answers.specs.Printed.{printed}
 use Rattle.state.specs.Outcomes.{refused}
 use Rattle.requests.specs.Requests.{callOf}
-use Rattle.spec.specs.Messages.{Call, Reply, afterAll, repliesTo}
+use Rattle.spec.specs.Messages.{Call, Reply, TurnOf, refuseTurn, afterAll, repliesTo}
 use Rattle.spec.specs.Machine.{Machine}
 use Rattle.spec.specs.Calls.{call, callsAfter, callsReplies}
 use Rattle.spec.specs.Plain.{Plain, freshPlain, plainCall, plainAfter, plainReplies}
 use Rattle.spec.specs.SerializabilityOfStore.{FreshlyMade}
 use Rattle.spec.proofs.Theorems.Serializability.{serializability}
-use Rattle.trace.specs.Transcript.{modEight, readerAfterLine, TraceState, LineTurn}
-use Rattle.spec.specs.Messages.{Answering}
-use Rattle.spec.specs.Calls.{storeAnswers}
-use Rattle.spec.specs.Plain.{plainAnswers}
+use Rattle.trace.specs.Transcript.{modEight, readerAfterLine, TraceState}
 use Rattle.trace.specs.Transcript.{lineTurn, tracing, storeTrace}
 use Rattle.trace.specs.WholeRun.{TraceWholeRun}
 use Rattle.trace.proofs.TruncatedLines.{trace-truncated-is-enough}
@@ -73,15 +70,15 @@ module _ (m₀ : Machine) (made : FreshlyMade modEight m₀) where
   abbrev SameText : List (List ℕ) → Type 0
   SameText ls =
       (cs : List Call) (reader : List ℕ)
-      → transcript storeTrace ls (onStore cs reader) ≡ transcript (tracing plainAnswers) ls (onPlain cs reader)
+      → transcript storeTrace ls (onStore cs reader) ≡ transcript (tracing plainCall) ls (onPlain cs reader)
 
-  text-by : {S : Type 0} → Answering S → List (List ℕ) → LineTurn S → List ℕ
+  text-by : {S : Type 0} → (Call → S → TurnOf S) → List (List ℕ) → TurnOf (TraceState S) → List ℕ
   text-by a ls t = printed (t .reply) ++ transcript (tracing a) ls (t .after)
 
   same-line : (l : Line) (ls : List (List ℕ)) → SameText ls → (cs : List Call) (reader : List ℕ)
-      → text-by storeAnswers ls (lineTurn storeAnswers l (onStore cs reader))
-      ≡ text-by plainAnswers ls (lineTurn plainAnswers l (onPlain cs reader))
-  unfolding lineTurn text-by
+      → text-by call ls (lineTurn call l (onStore cs reader))
+      ≡ text-by plainCall ls (lineTurn plainCall l (onPlain cs reader))
+  unfolding lineTurn refuseTurn text-by
   same-line another ls more cs reader = ap (λ (x : List ℕ). printed (record { answer = refused 17; buffer = reader }) ++ x)
       (more cs reader)
   same-line (asks q bytes) ls more cs reader =
@@ -93,9 +90,9 @@ module _ (m₀ : Machine) (made : FreshlyMade modEight m₀) where
       ap (λ (m : Machine). shown s ++ transcript storeTrace ls (record { machine = m; reader = left s }))
       (sym (store-more cs c m₀))
       ∙ ap (λ (x : List ℕ). shown s ++ x) (more (cs ++ (c ∷ [])) (left s))
-      ∙ ap (λ (p : Plain). shown s ++ transcript (tracing plainAnswers) ls (record { machine = p; reader = left s }))
+      ∙ ap (λ (p : Plain). shown s ++ transcript (tracing plainCall) ls (record { machine = p; reader = left s }))
       (plain-more cs c p₀)
-      ∙ ap (λ (r : Reply). shown r ++ transcript (tracing plainAnswers) ls (record { machine = after; reader = left r }))
+      ∙ ap (λ (r : Reply). shown r ++ transcript (tracing plainCall) ls (record { machine = after; reader = left r }))
       (same-reply cs c)
 
   same-text : (ls : List (List ℕ)) → SameText ls
@@ -106,6 +103,6 @@ module _ (m₀ : Machine) (made : FreshlyMade modEight m₀) where
 pub whole-run : TraceWholeRun
 unfolding p₀ afterAll
 whole-run m made reader legs last k h =
-    let text = whole-lines storeTrace (trace-truncated-is-enough storeAnswers) (record { machine = m; reader = reader }) legs last
+    let text = whole-lines storeTrace (trace-truncated-is-enough call) (record { machine = m; reader = reader }) legs last
     k h .says in
     record { onStore = text; onPlain = text ∙ same-text m made (linesOf (inputOf legs)) [] reader }

@@ -7,13 +7,13 @@ use Prim.Native.Nat.{ℕ}
 use Prim.Native.String.{String}
 use Rattle.text_trace.specs.Examples.{bytesOfText}
 use Rattle.text_lines.specs.Lines.{linesOf}
-use Rattle.spec.specs.Plain.{freshPlain, plainAnswers}
+use Rattle.spec.specs.Plain.{freshPlain, plainCall}
 use Rattle.text_lines.specs.Programs.{transcript}
 use Rattle.trace.specs.Transcript.{modEight, tracing}
 
 abbrev pub prints : String → List ℕ
 prints text =
-    transcript (tracing plainAnswers) (linesOf (bytesOfText text))
+    transcript (tracing plainCall) (linesOf (bytesOfText text))
     (record { machine = freshPlain (λ d. getD modEight d 0); reader = replicate 4 0 })
 
 pub record TranscriptExamples : Type 0 where

@@ -8,14 +8,13 @@ use Rattle.text_trace.specs.Grammar.{Line, another, asks, parsed}
 use Rattle.text_lines.specs.Programs.{LineProgram, Under, within}
 use Rattle.buffers.specs.Parts.{tabulate}
 use Rattle.text_answers.specs.Printed.{printed}
-use Rattle.state.specs.Outcomes.{refused}
 use Rattle.requests.specs.declared.Request.{Request}
 use Rattle.requests.specs.declared.Request.the-variants.{Begin, Seek, Write, GetFilePointer, Read, Places}
 use Rattle.requests.specs.declared.Request.the-variants.{Commit, Abort, SetWindow, UndoCommit}
 use Rattle.requests.specs.Requests.{callOf}
-use Rattle.spec.specs.Messages.{Reply, Answering}
+use Rattle.spec.specs.Messages.{Call, TurnOf, refuseTurn}
 use Rattle.spec.specs.Machine.{Machine}
-use Rattle.spec.specs.Calls.{storeAnswers}
+use Rattle.spec.specs.Calls.{call}
 
 -- "descriptor d in file d mod 8" [R-19.1]
 unfoldable pub modEight : List ℕ
@@ -40,21 +39,17 @@ pub record TraceState (S : Type 0) : Type 0 where
   pub machine : S
   pub reader : List ℕ
 
-pub record LineTurn (S : Type 0) : Type 0 where
-  pub reply : Reply
-  pub after : TraceState S
-
-module _ {S : Type 0} (a : Answering S) where
+module _ {S : Type 0} (answer : Call → S → TurnOf S) where
   -- One line: what is replied, and the trace's state after it.
-  unfoldable pub lineTurn : Line → TraceState S → LineTurn S
-  lineTurn another k = record { reply = record { answer = refused 17; buffer = k .reader }; after = k }
+  unfoldable pub lineTurn : Line → TraceState S → TurnOf (TraceState S)
+  lineTurn another k = refuseTurn 17 (k .reader) k
   lineTurn (asks q bytes) k =
       let c = callOf q bytes (k .reader) in
-      let r = a .reply c (k .machine) in
-      let reader = readerAfterLine q (k .reader) (r .buffer) in
+      let w = answer c (k .machine) in
+      let reader = readerAfterLine q (k .reader) (w .reply .buffer) in
       record {
-        reply = record { answer = r .answer; buffer = reader };
-        after = record { machine = a .next c (k .machine); reader = reader };
+        reply = record { answer = w .reply .answer; buffer = reader };
+        after = record { machine = w .after; reader = reader };
       }
 
   -- What a trace does with lines: a line of more than 128 bytes without its end has another form.
@@ -70,7 +65,7 @@ module _ {S : Type 0} (a : Answering S) where
 
 -- The trace that the program runs, on state and buffers.
 abbrev pub storeTrace : LineProgram (TraceState Machine)
-storeTrace = tracing storeAnswers
+storeTrace = tracing call
 
 -- In the middle of a piece of input, as the program has it.
 abbrev pub under : Machine → List ℕ → List ℕ → List ℕ → Under (TraceState Machine)

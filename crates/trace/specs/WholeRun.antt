@@ -9,7 +9,7 @@ use Rattle.text_lines.specs.Lines.{linesOf}
 use Rattle.text_lines.specs.Programs.{Under, transcript}
 use Rattle.text_lines.specs.WholeRun.{Leg, inputOf, outputOf, Legs, PiecesReach}
 use Rattle.spec.specs.Machine.{Machine}
-use Rattle.spec.specs.Plain.{freshPlain, plainAnswers}
+use Rattle.spec.specs.Plain.{freshPlain, plainCall}
 use Rattle.spec.specs.SerializabilityOfStore.{FreshlyMade}
 use Rattle.trace.specs.Transcript.{modEight, TraceState, tracing, storeTrace}
 
@@ -29,7 +29,7 @@ pub record TraceWhole (m : Machine) (reader : List ℕ) (legs : List Leg) (last 
       (record { machine = m; reader = reader })
   pub onPlain :
       outputOf legs ++ last
-      ≡ transcript (tracing plainAnswers) (linesOf (inputOf legs))
+      ≡ transcript (tracing plainCall) (linesOf (inputOf legs))
       (record { machine = freshPlain (λ d. getD modEight d 0); reader = reader })
 
 abbrev pub TraceWholeRun : Type 0

@@ -14,10 +14,10 @@ use Rattle.spec.specs.Windows.{forClosed}
 use Rattle.spec.specs.Messages.{commit}
 use Rattle.spec.specs.Commits.{fits, commitRefusal}
 use Rattle.spec.specs.Sightings.{sameEntries}
-use Rattle.spec.specs.Plain.{Running, Slot, running, Plain, firstList, secondList, isStale, PlainTurn, plainRefuse}
-use Rattle.spec.specs.Plain.{plainAnswer}
+use Rattle.spec.specs.Plain.{Running, Slot, running, Plain, firstList, secondList, isStale, PlainTurn}
 use Rattle.spec.specs.Plain.{plainCommitted, plainCommit, withNumber, plainCall}
 use Rattle.spec.proofs.Abstract.Lists.{sameEntries-true, sameEntries-of}
+use Rattle.spec.specs.Messages.{answerWith, refuseTurn}
 
 -- A transaction is stale to the machine exactly where its two lists differ.
 pub stale-exactly : (p : Plain) (r : Running) → (isStale p r ≡ false) ↔ (firstList r ≡ secondList p r)
@@ -54,7 +54,7 @@ module _ (t minute : ℕ) (r : Running) (p : Plain) where
       → plainCall (commit t minute) p ≡ plainCommitted t r p
       (commitRefusal (minuteIn minute) (isStale p r) closedTo (fits (p .committed .value) (r .txn)))
   unfolding plainCall withNumber plainCommit
-  commit-turn l o = ap₂ (λ (b : Bool) (s : Slot). cond b (plainCommit t minute s p) (plainRefuse 3 [] p)) l o
+  commit-turn l o = ap₂ (λ (b : Bool) (s : Slot). cond b (plainCommit t minute s p) (refuseTurn 3 [] p)) l o
 
   answer-22 : (daily stale shut placed : Bool) → daily ≡ false
       → plainCommitted t r p (commitRefusal daily stale shut placed) .reply .answer ≡ refused 22
@@ -73,7 +73,7 @@ module _ (t minute : ℕ) (r : Running) (p : Plain) where
   answer-not-13 :
       (daily stale shut placed : Bool) → stale ≡ false
       → plainCommitted t r p (commitRefusal daily stale shut placed) .reply .answer ≡ refused 13 → ⊥
-  unfolding plainCommitted commitRefusal plainAnswer refusalOf
+  unfolding plainCommitted commitRefusal answerWith refusalOf
   answer-not-13 false stale shut placed e h = let z : _≡_ {A = ℕ} 22 13 = ap refusalOf h in omega arith
   answer-not-13 true true shut placed e h = true≢false e
   answer-not-13 true false true placed e h = let z : _≡_ {A = ℕ} 21 13 = ap refusalOf h in omega arith

@@ -14,7 +14,7 @@ use Rattle.spec.specs.Steps.{descriptorOfOp, isReadCall}
 use Rattle.spec.specs.Steps.{refusesStale, refusedStale}
 use Rattle.spec.specs.Sightings.{Entry, entries}
 use Rattle.spec.specs.LoneRuns.{Lone}
-use Rattle.spec.specs.Plain.{Running, Slot, closed, running, Plain, ops, isStale, plainRefuse, plainStepped, plainOn}
+use Rattle.spec.specs.Plain.{Running, Slot, closed, running, Plain, ops, isStale, plainStepped, plainOn}
 use Rattle.spec.specs.Plain.{withNumber, plainCall}
 use Rattle.spec.specs.Serializability.{IsAccepted, upTo, OneMoment}
 use Rattle.spec.proofs.Abstract.Programs.{not-refused-stale}
@@ -22,6 +22,7 @@ use Rattle.spec.proofs.Abstract.Lone.{lone-more}
 use Rattle.spec.proofs.Abstract.RecordedRuns.{SoundRun}
 use Rattle.spec.proofs.Abstract.PlainInvariant.{Good, SoundSlot}
 use Rattle.spec.proofs.Abstract.SerialOrder.{alone-recorded}
+use Rattle.spec.specs.Messages.{refuseTurn}
 
 -- A step through a descriptor above 15 is refused with 6.
 no-descriptor : (fileOf : ℕ → ℕ) (o : Op) (x : Txn) → leb (descriptorOfOp o) lastDescriptor ≡ false
@@ -40,7 +41,7 @@ module _ (p : Plain) (g : Good p) (t : ℕ) (o : Op) (look : isReadCall o ≡ tr
     -- One that is not stale.
     fresh-moment : isStale p r ≡ false → (s : Stepped) → result (p .committed .value) (step (p .fileOf) o (r .txn)) ≡ s
         → IsAccepted (plainStepped t o r es p s .reply) → OneMoment p t o (plainStepped t o r es p s .reply)
-    unfolding plainStepped plainRefuse upTo
+    unfolding plainStepped refuseTurn upTo
     fresh-moment e (refuse n) q a = absurd (a n refl)
     fresh-moment e (accept y answer buffer) q a =
         let l =
@@ -59,7 +60,7 @@ module _ (p : Plain) (g : Good p) (t : ℕ) (o : Op) (look : isReadCall o ≡ tr
     Claim s = IsAccepted (plainStepped t o r es p s .reply) → OneMoment p t o (plainStepped t o r es p s .reply)
 
     refused-claim : (n : ℕ) → Claim (refuse n)
-    unfolding Claim plainStepped plainRefuse
+    unfolding Claim plainStepped refuseTurn
     refused-claim n a = absurd (a n refl)
 
     -- A stale one is refused: with 18, or before that with 6.
@@ -81,15 +82,15 @@ module _ (p : Plain) (g : Good p) (t : ℕ) (o : Op) (look : isReadCall o ≡ tr
 
   slot-moment : (s : Slot) → p .slots t ≡ s → SoundSlot (p .fileOf) (p .committed) (p .grants) s
       → IsAccepted (plainOn t o s p .reply) → OneMoment p t o (plainOn t o s p .reply)
-  unfolding plainOn plainRefuse SoundSlot Claim
+  unfolding plainOn refuseTurn SoundSlot Claim
   slot-moment closed at sound a = absurd (a 4 refl)
   slot-moment (running r) at sound a = open-moment r at sound (isStale p r) (leb (descriptorOfOp o) 15) refl refl a
 
   pub plain-moment : IsAccepted (plainCall (on t o) p .reply) → OneMoment p t o (plainCall (on t o) p .reply)
-  unfolding plainCall withNumber plainRefuse
+  unfolding plainCall withNumber refuseTurn
   plain-moment = chosen (leb t 7)
     where
-      chosen : (b : Bool) → let w = cond b (plainOn t o (p .slots t) p) (plainRefuse 3 (bufferOf o) p) in IsAccepted (w .reply)
+      chosen : (b : Bool) → let w = cond b (plainOn t o (p .slots t) p) (refuseTurn 3 (bufferOf o) p) in IsAccepted (w .reply)
           → OneMoment p t o (w .reply)
       chosen true a = slot-moment (p .slots t) refl (g .sound t) a
       chosen false a = absurd (a 3 refl)

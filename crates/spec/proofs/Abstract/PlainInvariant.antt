@@ -26,12 +26,13 @@ use Rattle.spec.specs.Plain.{Running, Slot, closed, running, Plain, Earl
 use Rattle.spec.specs.Plain.{plainRestored}
 use Rattle.spec.specs.Plain.{plainRestore, plainUndo, plainWithWindows, plainSetWindow, plainBestOrder, startPlain, isStale}
 use Rattle.spec.specs.Plain.{PlainTurn}
-use Rattle.spec.specs.Plain.{plainRefuse, withSlot, plainAnswer, plainBegin, plainStepped, plainOn, committing, grant}
+use Rattle.spec.specs.Plain.{withSlot, plainBegin, plainStepped, plainOn, committing, grant}
 use Rattle.spec.specs.Plain.{plainCommitted}
 use Rattle.spec.specs.Plain.{plainCommit, plainAbort, withNumber, plainCall, plainAfter, plainPlaces}
 use Rattle.spec.proofs.Abstract.Programs.{refused-stale}
 use Rattle.spec.proofs.Abstract.Lists.{put-keeps, put-other, touched, setBy-at}
 use Rattle.spec.proofs.Abstract.RecordedRuns.{SoundRun, sound-begun, sound-more, sound-granted}
+use Rattle.spec.specs.Messages.{answerWith, refuseTurn}
 
 unfoldable pub SoundSlot : (ℕ → ℕ) → Committed → ℕ → Slot → Type 0
 SoundSlot fileOf c n closed = Unit {0}
@@ -110,7 +111,7 @@ module _ (p : Plain) (g : Good p) where
       at-most i false = omega (arith, g .setters i)
 
   good-begin : (t : ℕ) → leb t lastTransaction ≡ true → (s : Slot) → Good (plainBegin t s p .after)
-  unfolding plainBegin plainAnswer plainRefuse SoundSlot
+  unfolding plainBegin answerWith refuseTurn SoundSlot
   good-begin t l closed = good-slot t l (running _) (sound-begun (p .fileOf) (p .committed) (p .grants))
   good-begin t l (running r) = g
 
@@ -122,7 +123,7 @@ module _ (p : Plain) (g : Good p) where
       → result (p .committed .value) (step (p .fileOf) o (r .txn)) ≡ s
       → Good
       (plainStepped t o r (entries (p .committed .setter) (asked (p .committed .value) (step (p .fileOf) o (r .txn)))) p s .after)
-  unfolding plainStepped plainRefuse SoundSlot
+  unfolding plainStepped refuseTurn SoundSlot
   good-stepped t o r l h (refuse n) e = g
   good-stepped t o r l h (accept y answer buffer) e =
       good-slot t l (running _)
@@ -134,7 +135,7 @@ module _ (p : Plain) (g : Good p) where
       → (s : Slot)
       → SoundSlot (p .fileOf) (p .committed) (p .grants) s
       → Good (plainOn t o s p .after)
-  unfolding plainOn plainRefuse SoundSlot
+  unfolding plainOn refuseTurn SoundSlot
   good-on t o l closed h = g
   good-on t o l (running r) h =
       let s = result (p .committed .value) (step (p .fileOf) o (r .txn)) in
@@ -143,7 +144,7 @@ module _ (p : Plain) (g : Good p) where
       (λ e. good-stepped t o r l h s refl)
 
   good-committed : (t : ℕ) (r : Running) → leb t lastTransaction ≡ true → (n : ℕ) → Good (plainCommitted t r p n .after)
-  unfolding plainCommitted plainAnswer SoundSlot
+  unfolding plainCommitted answerWith SoundSlot
   good-committed t r l zero = good-grant t r l
   good-committed t r l (suc n) = ended (eqb (suc n) 13)
     where
@@ -152,7 +153,7 @@ module _ (p : Plain) (g : Good p) where
       ended false = g
 
   good-commit : (t minute : ℕ) → leb t lastTransaction ≡ true → (s : Slot) → Good (plainCommit t minute s p .after)
-  unfolding plainCommit plainRefuse
+  unfolding plainCommit refuseTurn
   good-commit t minute l closed = g
   good-commit t minute l (running r) =
       good-committed t r l
@@ -160,7 +161,7 @@ module _ (p : Plain) (g : Good p) where
       (fits (p .committed .value) (r .txn)))
 
   good-abort : (t : ℕ) → leb t lastTransaction ≡ true → (s : Slot) → Good (plainAbort t s p .after)
-  unfolding plainAbort plainRefuse plainAnswer SoundSlot
+  unfolding plainAbort refuseTurn answerWith SoundSlot
   good-abort t l closed = g
   good-abort t l (running r) = good-slot t l closed tt
 
@@ -168,27 +169,27 @@ module _ (p : Plain) (g : Good p) where
       (t : ℕ) (buffer : List ℕ) (next : Slot → Plain → PlainTurn)
       → (leb t 7 ≡ true → Good (next (p .slots t) p .after))
       → Good (withNumber t buffer next p .after)
-  unfolding withNumber plainRefuse
+  unfolding withNumber refuseTurn
   good-numbered t buffer next h = chosen (leb t 7) h
     where
       chosen :
           (b : Bool)
           → (b ≡ true → Good (next (p .slots t) p .after))
-          → Good (cond b (next (p .slots t) p) (plainRefuse 3 buffer p) .after)
+          → Good (cond b (next (p .slots t) p) (refuseTurn 3 buffer p) .after)
       chosen true k = k refl
       chosen false k = g
 
 good-places : (f : ℕ) (out : List ℕ) (s : Slot) (p : Plain) → Good p → Good (plainPlaces f out s p .after)
-unfolding plainPlaces plainRefuse
+unfolding plainPlaces refuseTurn
 good-places f out closed p g = g
 good-places f out (running r) p g = g
 
 good-window : (f start end : ℕ) (p : Plain) → Good p → Good (plainSetWindow f start end p .after)
-unfolding plainSetWindow plainRefuse plainAnswer
+unfolding plainSetWindow refuseTurn answerWith
 good-window f start end p g = chosen (windowRefusal f start end)
   where
-    chosen : (n : ℕ) → Good (guarded (λ k. plainRefuse k [] p) (isNone n) n
-        (plainAnswer doneAnswer (plainWithWindows (put f (window start end) (p .windows)) p)) .after)
+    chosen : (n : ℕ) → Good (guarded (λ k. refuseTurn k [] p) (isNone n) n
+        (answerWith doneAnswer (plainWithWindows (put f (window start end) (p .windows)) p)) .after)
     chosen zero = record { setters = g .setters; sound = g .sound; above = g .above; earlier = g .earlier }
     chosen (suc n) = g
 
@@ -216,15 +217,15 @@ module _ (p : Plain) (g : Good p) where
       }
 
   good-back : (x : Earlier) → GoodEarlier x → noneRunning p ≡ true → Good (plainRestore x p .after)
-  unfolding plainRestore plainRefuse plainAnswer
+  unfolding plainRestore refuseTurn answerWith
   good-back nothing h e = g
   good-back (found c n) h e = good-gone c n h e
 
   good-taken : Good (plainUndo p .after)
-  unfolding plainUndo plainRefuse
+  unfolding plainUndo refuseTurn
   good-taken = chosen (noneRunning p) refl
     where
-      chosen : (b : Bool) → noneRunning p ≡ b → Good (guarded (λ n. plainRefuse n [] p) b 23 (plainRestore (p .earlier) p) .after)
+      chosen : (b : Bool) → noneRunning p ≡ b → Good (guarded (λ n. refuseTurn n [] p) b 23 (plainRestore (p .earlier) p) .after)
       chosen true e = good-back (p .earlier) (g .earlier) e
       chosen false e = g
 

@@ -22,7 +22,7 @@ use Rattle.spec.specs.Sightings.{Entry, entries}
 use Rattle.spec.specs.LoneRuns.{Lone, stopped, prepend, goOn, lone}
 use Rattle.spec.specs.Plain.{Accepted, Running, justBegun, afterCall, Slot, closed, running, Plain, ops, firstList}
 use Rattle.spec.specs.Plain.{secondList}
-use Rattle.spec.specs.Plain.{isStale, PlainTurn, plainRefuse, withSlot, plainAnswer, plainBegin, plainStepped, plainOn}
+use Rattle.spec.specs.Plain.{isStale, PlainTurn, withSlot, plainBegin, plainStepped, plainOn}
 use Rattle.spec.specs.Plain.{committing}
 use Rattle.spec.specs.Plain.{grant, staleSlot, becameStale, plainCommitted, withNumber, plainCall, plainAfter}
 use Rattle.spec.specs.Plain.{plainReplies}
@@ -31,6 +31,7 @@ use Rattle.spec.proofs.Abstract.Programs.{not-refused-stale}
 use Rattle.spec.proofs.Abstract.Lone.{lone-more}
 use Rattle.spec.proofs.Abstract.Alone.{again, serially, SameAgain, AllSame}
 use Rattle.spec.proofs.Abstract.Commits.{stale-exactly, commit-turn}
+use Rattle.spec.specs.Messages.{answerWith, refuseTurn}
 
 -- ---- one list of calls after another
 
@@ -139,7 +140,7 @@ module _ (t : ℕ) (small : leb t lastTransaction ≡ true) where
       (result (p .committed .value) (step (p .fileOf) o (r .txn)))
   unfolding plainCall withNumber plainOn
   on-turn o r p e f =
-      ap₂ (λ (b : Bool) (s : Slot). cond b (plainOn t o s p) (plainRefuse 3 (bufferOf o) p)) small e
+      ap₂ (λ (b : Bool) (s : Slot). cond b (plainOn t o s p) (refuseTurn 3 (bufferOf o) p)) small e
       ∙ ap (plainStepped t o r (entries (p .committed .setter) (asked (p .committed .value) (step (p .fileOf) o (r .txn)))) p)
       (not-refused-stale (isStale p r) o (result (p .committed .value) (step (p .fileOf) o (r .txn))) f)
 
@@ -235,8 +236,8 @@ put-closed t s f none u = pick (eqb u t)
 -- Begin of a closed number.
 begun-turn : (t : ℕ) (p : Plain) → leb t lastTransaction ≡ true → p .slots t ≡ closed
     → plainCall (begin t) p ≡ record { reply = says doneAnswer; after = withSlot t (running justBegun) p }
-unfolding plainCall withNumber plainBegin plainAnswer
-begun-turn t p small e = ap₂ (λ (b : Bool) (s : Slot). cond b (plainBegin t s p) (plainRefuse 3 [] p)) small e
+unfolding plainCall withNumber plainBegin answerWith
+begun-turn t p small e = ap₂ (λ (b : Bool) (s : Slot). cond b (plainBegin t s p) (refuseTurn 3 [] p)) small e
 
 -- Its accepted calls.
 ran-on : (t : ℕ) (p : Plain) (xs : List Accepted) → leb t lastTransaction ≡ true
@@ -275,7 +276,7 @@ module _ (t : ℕ) (p : Plain) (r : Running) where
       granting-turn : plainCommitted t r ready (commitRefusal true false false true)
           ≡ record { reply = says (granted 0); after = grant t r ready }
       granting-turn =
-          unfold plainCommitted commitRefusal plainAnswer in
+          unfold plainCommitted commitRefusal answerWith in
           ap (λ (n : ℕ). record { reply = says (granted n); after = grant t r ready })
           (nobody t ready (grant t r ready) (idle-after none))
 

@@ -23,7 +23,7 @@ use Rattle.spec.specs.Plain.{Running, Slot, closed, running, Plain, Earl
 use Rattle.spec.specs.Plain.{plainRestored}
 use Rattle.spec.specs.Plain.{plainRestore, plainUndo, plainWithWindows, plainSetWindow, startPlain, ops, firstList}
 use Rattle.spec.specs.Plain.{secondList, isStale}
-use Rattle.spec.specs.Plain.{PlainTurn, plainRefuse, withSlot, plainAnswer, plainBegin, plainStepped, plainOn, committing}
+use Rattle.spec.specs.Plain.{PlainTurn, withSlot, plainBegin, plainStepped, plainOn, committing}
 use Rattle.spec.specs.Plain.{grant}
 use Rattle.spec.specs.Plain.{staleSlot, becameStale, plainCommitted, plainCommit, plainAbort, withNumber}
 use Rattle.spec.specs.Plain.{plainCall}
@@ -47,6 +47,7 @@ use Rattle.spec.proofs.Abstract.RecordedRuns.{SoundRun, seen-old, lists
 use Rattle.spec.proofs.Abstract.RecordedRuns.{extended}
 use Rattle.spec.proofs.Abstract.OrderReplies.{grants-same, Agreed, reply-same}
 use Rattle.spec.proofs.Abstract.PlainInvariant.{SoundSlot, Good, all-closed, good-call}
+use Rattle.spec.specs.Messages.{answerWith, refuseTurn}
 
 -- The store of a reference model: a byte is marked where it was sighted, and a transaction is stale where its two lists differ.
 unfoldable pub heldOf : Plain → Running → UndoSaved
@@ -196,7 +197,7 @@ abs-slot t s p =
 -- Each call: what it gives on a slot, and on that slot's seat.
 module _ (p : Plain) (g : Good p) where
   same-begin : (t : ℕ) (s : Slot) → abstractBegin t (seatOf p s) (abs p) ≡ absTurn (plainBegin t s p)
-  unfolding abstractBegin seatOf plainBegin absTurn telling plainAnswer turnedAway plainRefuse heldOf items among isStale
+  unfolding abstractBegin seatOf plainBegin absTurn telling answerWith turnedAway refuseTurn heldOf items among isStale
       firstList
       secondList sameEntries lone ops
   same-begin t closed =
@@ -251,7 +252,7 @@ module _ (p : Plain) (g : Good p) where
       → abstractStepped t o (heldOf p r) (asked (p .committed .value) (step (p .fileOf) o (r .txn))) (abs p) s
       ≡ absTurn (plainStepped t o r (entries (p .committed .setter) (asked (p .committed .value) (step (p .fileOf) o (r .txn)))) p
       s)
-  unfolding abstractStepped plainStepped absTurn turnedAway plainRefuse heldOf seatOf
+  unfolding abstractStepped plainStepped absTurn turnedAway refuseTurn heldOf seatOf
   same-stepped t o r h (refuse n) e = refl
   same-stepped t o r h (accept y answer buffer) e =
       let now = asked (p .committed .value) (step (p .fileOf) o (r .txn)) in
@@ -287,7 +288,7 @@ module _ (p : Plain) (g : Good p) where
       (t : ℕ) (o : Op) (s : Slot)
       → SoundSlot (p .fileOf) (p .committed) (p .grants) s
       → abstractOn t o (seatOf p s) (abs p) ≡ absTurn (plainOn t o s p)
-  unfolding abstractOn plainOn seatOf abs turnedAway plainRefuse absTurn SoundSlot heldOf
+  unfolding abstractOn plainOn seatOf abs turnedAway refuseTurn absTurn SoundSlot heldOf
   same-on t o closed h = refl
   same-on t o (running r) h =
       let s = result (p .committed .value) (step (p .fileOf) o (r .txn)) in
@@ -299,8 +300,8 @@ module _ (p : Plain) (g : Good p) where
   same-grant :
       (t : ℕ) (r : Running)
       → granting t (settings (p .fileOf) (p .committed .value) (r .txn)) (abs p)
-      ≡ absTurn (plainAnswer (granted (bitsOf (becameStale t p (grant t r p)) 8)) (grant t r p))
-  unfolding granting absTurn plainAnswer abs grant committing seatOf SoundSlot withSlot backOf
+      ≡ absTurn (answerWith (granted (bitsOf (becameStale t p (grant t r p)) 8)) (grant t r p))
+  unfolding granting absTurn answerWith abs grant committing seatOf SoundSlot withSlot backOf
   same-grant t r =
       let ss = settings (p .fileOf) (p .committed .value) (r .txn) in
       let others : ℕ → Slot = put t closed (p .slots) in
@@ -341,7 +342,7 @@ module _ (p : Plain) (g : Good p) where
       ended false = refl
 
   same-commit : (t minute : ℕ) (s : Slot) → abstractCommit t minute (seatOf p s) (abs p) ≡ absTurn (plainCommit t minute s p)
-  unfolding abstractCommit plainCommit seatOf turnedAway plainRefuse absTurn heldOf abs
+  unfolding abstractCommit plainCommit seatOf turnedAway refuseTurn absTurn heldOf abs
   same-commit t minute closed = refl
   same-commit t minute (running r) =
       same-committed t r
@@ -349,19 +350,19 @@ module _ (p : Plain) (g : Good p) where
       (fits (p .committed .value) (r .txn)))
 
   same-abort : (t : ℕ) (s : Slot) → abstractAbort t (seatOf p s) (abs p) ≡ absTurn (plainAbort t s p)
-  unfolding abstractAbort plainAbort seatOf turnedAway plainRefuse absTurn telling plainAnswer
+  unfolding abstractAbort plainAbort seatOf turnedAway refuseTurn absTurn telling answerWith
   same-abort t closed = refl
   same-abort t (running r) =
       ap (λ (a : Abstract). record { reply = record { answer = doneAnswer; buffer = [] }; after = a }) (abs-slot t closed p)
 
   same-places : (f : ℕ) (out : List ℕ) (s : Slot) → abstractPlaces f out (seatOf p s) (abs p) ≡ absTurn (plainPlaces f out s p)
-  unfolding abstractPlaces plainPlaces seatOf turnedAway plainRefuse absTurn heldOf abs
+  unfolding abstractPlaces plainPlaces seatOf turnedAway refuseTurn absTurn heldOf abs
   same-places f out closed = refl
   same-places f out (running r) = refl
 
   -- A window set makes nobody stale.
   same-window : (f start end : ℕ) → abstractWindow f start end (abs p) ≡ absTurn (plainSetWindow f start end p)
-  unfolding abstractWindow plainSetWindow absTurn turnedAway plainRefuse telling plainAnswer windowed abs
+  unfolding abstractWindow plainSetWindow absTurn turnedAway refuseTurn telling answerWith windowed abs
   same-window f start end = chosen (windowRefusal f start end)
     where
       seat-windows : (ws : Windows) (s : Slot) → seatOf p s ≡ seatOf (plainWithWindows ws p) s
@@ -377,7 +378,7 @@ module _ (p : Plain) (g : Good p) where
       chosen :
           (n : ℕ)
           → guarded (λ k. turnedAway k [] (abs p)) (isNone n) n (telling doneAnswer (windowed f start end (abs p)))
-          ≡ absTurn (guarded (λ k. plainRefuse k [] p) (isNone n) n (plainAnswer doneAnswer (plainWithWindows ws p)))
+          ≡ absTurn (guarded (λ k. refuseTurn k [] p) (isNone n) n (answerWith doneAnswer (plainWithWindows ws p)))
       chosen zero =
           ap (λ (g : ℕ → Seat). record {
             reply = record { answer = doneAnswer; buffer = [] };
@@ -406,7 +407,7 @@ module _ (p : Plain) (g : Good p) where
       seat-gone s q = ap (seatOf p) q ∙ (unfold seatOf in ap (seatOf (plainRestored c n p)) (sym q))
 
   same-return : (x : Earlier) → noneRunning p ≡ true → abstractReturn (backOf x) (abs p) ≡ absTurn (plainRestore x p)
-  unfolding abstractReturn backOf plainRestore absTurn turnedAway plainRefuse telling plainAnswer
+  unfolding abstractReturn backOf plainRestore absTurn turnedAway refuseTurn telling answerWith
   same-return nothing e = refl
   same-return (found c n) e = ap (λ (a : Abstract). record { reply = record { answer = doneAnswer; buffer = [] }; after = a })
       (same-gone c n e)
@@ -418,21 +419,21 @@ module _ (p : Plain) (g : Good p) where
     where
       chosen : (b : Bool) → noneRunning p ≡ b
           → guarded (λ k. turnedAway k [] (abs p)) b 23 (abstractReturn (abs p .back) (abs p))
-          ≡ absTurn (guarded (λ k. plainRefuse k [] p) b 23 (plainRestore (p .earlier) p))
+          ≡ absTurn (guarded (λ k. refuseTurn k [] p) b 23 (plainRestore (p .earlier) p))
       chosen true e = unfold abs in same-return (p .earlier) e
-      chosen false e = unfold absTurn turnedAway plainRefuse in refl
+      chosen false e = unfold absTurn turnedAway refuseTurn in refl
 
   same-numbered :
       (t : ℕ) (buffer : List ℕ) (first : Seat → Abstract → AbstractTurn) (second : Slot → Plain → PlainTurn)
       → first (seatOf p (p .slots t)) (abs p) ≡ absTurn (second (p .slots t) p)
       → seated t buffer first (abs p) ≡ absTurn (withNumber t buffer second p)
-  unfolding seated withNumber abs absTurn turnedAway plainRefuse
+  unfolding seated withNumber abs absTurn turnedAway refuseTurn
   same-numbered t buffer first second h = chosen (leb t 7)
     where
       chosen :
           (b : Bool)
           → cond b (first (seatOf p (p .slots t)) (abs p)) (turnedAway 3 buffer (abs p))
-          ≡ absTurn (cond b (second (p .slots t) p) (plainRefuse 3 buffer p))
+          ≡ absTurn (cond b (second (p .slots t) p) (refuseTurn 3 buffer p))
       chosen true = h
       chosen false = refl
 

@@ -25,8 +25,8 @@ use Rattle.spec.specs.Sightings.{Entry, entries, Committed}
 use Rattle.spec.specs.Plain.{Running, Slot, closed, running, Plain, Earlier, nothing, found, isRunning, noneRunning}
 use Rattle.spec.specs.Plain.{plainRestored}
 use Rattle.spec.specs.Plain.{plainRestore, plainUndo, plainWithWindows, plainSetWindow, plainBestOrder, ops, isStale}
-use Rattle.spec.specs.Plain.{PlainTurn, plainRefuse}
-use Rattle.spec.specs.Plain.{withSlot, plainAnswer, plainBegin, plainStepped, plainOn, committing, grant, plainCommitted}
+use Rattle.spec.specs.Plain.{PlainTurn}
+use Rattle.spec.specs.Plain.{withSlot, plainBegin, plainStepped, plainOn, committing, grant, plainCommitted}
 use Rattle.spec.specs.Plain.{plainCommit}
 use Rattle.spec.specs.Plain.{plainAbort, withNumber, plainCall, plainAfter, plainPlaces}
 use Rattle.spec.specs.LoneRuns.{Lone, lone}
@@ -37,6 +37,7 @@ use Rattle.spec.proofs.Abstract.Lists.{current, current-is}
 use Rattle.spec.proofs.Abstract.RecordedRuns.{SoundRun, recorded-run, alone-now}
 use Rattle.spec.proofs.Abstract.PlainInvariant.{Good, sound-at, open-number, good-call}
 use Rattle.spec.proofs.Abstract.SameReplies.{stale-is}
+use Rattle.spec.specs.Messages.{answerWith, refuseTurn}
 
 -- An open transaction that is not stale: its run in isolation on the committed state is the recorded one.
 pub alone-recorded :
@@ -90,17 +91,17 @@ Taken p s τ = Turned p s τ (Option·elim (refusalOf (τ .reply .answer)) (drop
 
 module _ (p : Plain) (s : Serial) where
   turned-begin : (t : ℕ) (z : Slot) → Turned p s (plainBegin t z p) s
-  unfolding plainBegin plainAnswer withSlot plainRefuse
+  unfolding plainBegin answerWith withSlot refuseTurn
   turned-begin t closed = preserved _ _ _
   turned-begin t (running r) = preserved _ _ _
 
   turned-stepped : (t : ℕ) (o : Op) (r : Running) (es : List Entry) (z : Stepped) → Turned p s (plainStepped t o r es p z) s
-  unfolding plainStepped withSlot plainRefuse
+  unfolding plainStepped withSlot refuseTurn
   turned-stepped t o r es (refuse n) = preserved _ _ _
   turned-stepped t o r es (accept y answer buffer) = preserved _ _ _
 
   turned-on : (t : ℕ) (o : Op) (z : Slot) → Turned p s (plainOn t o z p) s
-  unfolding plainOn plainRefuse
+  unfolding plainOn refuseTurn
   turned-on t o closed = preserved _ _ _
   turned-on t o (running r) =
       turned-stepped t o r (entries (p .committed .setter) (asked (p .committed .value) (step (p .fileOf) o (r .txn))))
@@ -115,7 +116,7 @@ module _ (p : Plain) (s : Serial) where
       → fits (p .committed .value) (r .txn) ≡ placed
       → Turned p s (plainCommitted t r p (commitRefusal daily stale shut placed))
       (adding (grantedBy t minute (plainCommitted t r p (commitRefusal daily stale shut placed) .reply .answer) (running r)) s)
-  unfolding plainCommitted commitRefusal grantedBy isGrant plainAnswer withSlot adding
+  unfolding plainCommitted commitRefusal grantedBy isGrant answerWith withSlot adding
   turned-committed t minute r o false stale shut placed d e f = preserved _ _ _
   turned-committed t minute r o true true shut placed d e f = preserved _ _ _
   turned-committed t minute r o true false true placed d e f = preserved _ _ _
@@ -126,34 +127,34 @@ module _ (p : Plain) (s : Serial) where
       (t minute : ℕ) (z : Slot)
       → p .slots t ≡ z
       → Turned p s (plainCommit t minute z p) (adding (grantedBy t minute (plainCommit t minute z p .reply .answer) z) s)
-  unfolding plainCommit plainRefuse grantedBy adding
+  unfolding plainCommit refuseTurn grantedBy adding
   turned-commit t minute closed o = preserved _ _ _
   turned-commit t minute (running r) o =
       turned-committed t minute r o (minuteIn minute) (isStale p r) (forClosed (p .fileOf) (p .windows) minute (r .txn .writes))
       (fits (p .committed .value) (r .txn)) refl refl refl
 
-  turned-refused : (t minute n : ℕ) (z : Slot) → Turned p s (plainRefuse n [] p) (adding (grantedBy t minute (refused n) z) s)
-  unfolding plainRefuse grantedBy isGrant adding
+  turned-refused : (t minute n : ℕ) (z : Slot) → Turned p s (refuseTurn n [] p) (adding (grantedBy t minute (refused n) z) s)
+  unfolding refuseTurn grantedBy isGrant adding
   turned-refused t minute n closed = preserved _ _ _
   turned-refused t minute n (running r) = preserved _ _ _
 
   turned-abort : (t : ℕ) (z : Slot) → Turned p s (plainAbort t z p) s
-  unfolding plainAbort plainRefuse plainAnswer withSlot
+  unfolding plainAbort refuseTurn answerWith withSlot
   turned-abort t closed = preserved _ _ _
   turned-abort t (running r) = preserved _ _ _
 
   turned-places : (f : ℕ) (out : List ℕ) (z : Slot) → Turned p s (plainPlaces f out z p) s
-  unfolding plainPlaces plainRefuse
+  unfolding plainPlaces refuseTurn
   turned-places f out closed = preserved _ _ _
   turned-places f out (running r) = preserved _ _ _
 
   turned-window : (f start end : ℕ) → Turned p s (plainSetWindow f start end p) s
-  unfolding plainSetWindow plainRefuse plainAnswer
+  unfolding plainSetWindow refuseTurn answerWith
   turned-window f start end = chosen (windowRefusal f start end)
     where
       chosen : (n : ℕ) → Turned p s
-          (guarded (λ k. plainRefuse k [] p) (isNone n) n
-          (plainAnswer doneAnswer (plainWithWindows (put f (window start end) (p .windows)) p))) s
+          (guarded (λ k. refuseTurn k [] p) (isNone n) n
+          (answerWith doneAnswer (plainWithWindows (put f (window start end) (p .windows)) p))) s
       chosen zero = preserved _ _ _
       chosen (suc n) = preserved _ _ _
 
@@ -161,18 +162,18 @@ module _ (p : Plain) (s : Serial) where
   turned-numbered :
       (P : PlainTurn → Type 0) (t : ℕ) (buffer : List ℕ) (next : Slot → Plain → PlainTurn)
       → P (next (p .slots t) p)
-      → P (plainRefuse 3 buffer p)
+      → P (refuseTurn 3 buffer p)
       → P (withNumber t buffer next p)
   unfolding withNumber
   turned-numbered P t buffer next h k = chosen (leb t 7)
     where
-      chosen : (b : Bool) → P (cond b (next (p .slots t) p) (plainRefuse 3 buffer p))
+      chosen : (b : Bool) → P (cond b (next (p .slots t) p) (refuseTurn 3 buffer p))
       chosen true = h
       chosen false = k
 
   turned-return : (x : Earlier) → p .earlier ≡ x → noneRunning p ≡ true
       → Taken p s (plainRestore x p)
-  unfolding plainRestore plainRefuse plainAnswer Option·elim refusalOf
+  unfolding plainRestore refuseTurn answerWith Option·elim refusalOf
   turned-return nothing q e = preserved _ _ _
   turned-return (found c n) q e = undone c n _ q e
 
@@ -182,12 +183,12 @@ module _ (p : Plain) (s : Serial) where
     where
       chosen : (b : Bool) → noneRunning p ≡ b
           → Taken p s
-          (guarded (λ n. plainRefuse n [] p) b 23 (plainRestore (p .earlier) p))
+          (guarded (λ n. refuseTurn n [] p) b 23 (plainRestore (p .earlier) p))
       chosen true e = turned-return (p .earlier) refl e
-      chosen false e = unfold plainRefuse Option·elim refusalOf in preserved _ _ _
+      chosen false e = unfold refuseTurn Option·elim refusalOf in preserved _ _ _
 
   pub turned : (c : Call) → Turned p s (plainCall c p) (serialBy c p s)
-  unfolding plainCall serialBy plainRefuse
+  unfolding plainCall serialBy refuseTurn
   turned (begin t) = turned-numbered (λ τ. Turned p s τ s) t [] (plainBegin t) (turned-begin t (p .slots t)) (preserved _ _ _)
   turned (on t o) = turned-numbered (λ τ. Turned p s τ s) t (bufferOf o) (plainOn t o) (turned-on t o (p .slots t))
       (preserved _ _ _)
@@ -374,10 +375,10 @@ start-back : (start : Plain) (c : Committed) (n : ℕ) → ((u : ℕ) → start 
     → plainCall undoCommit start .after ≡ plainRestored c n start
 unfolding plainCall plainUndo noneRunning
 start-back start c n idle e =
-    ap₂ (λ (b : Bool) (x : Earlier). guarded (λ k. plainRefuse k [] start) b 23 (plainRestore x start) .after)
+    ap₂ (λ (b : Bool) (x : Earlier). guarded (λ k. refuseTurn k [] start) b 23 (plainRestore x start) .after)
     (below-all (λ t. not (isRunning (start .slots t))) 8 (λ t l. ap (λ (z : Slot). not (isRunning z)) (idle t)
     ∙ (unfold isRunning in refl))) e
-    ∙ (unfold plainRestore plainAnswer in refl)
+    ∙ (unfold plainRestore answerWith in refl)
 
 taken-last : (p start : Plain) (gs : List Grant) (c : Committed) (n : ℕ) → InOrder (record { start = start; grants = gs }) p
     → p .earlier ≡ found c n

@@ -35,7 +35,7 @@ unfolding FirstRefusal.below FirstRefusal.sum Admission.lengthsBefore Bits.bit B
     Transactions.settling Reading.liesOver Reading.byteAt Reading.supplies Reading.orElse Reading.latest Reading.bring
     Reading.fetch
     Reading.writeEnd Reading.placedEnd Reading.farthest Reading.ownEnd Reading.lengthFor Reading.lengthSighted Reading.gather
-    Messages.bufferOf Steps.check Steps.orGivenBack Steps.total Steps.written Steps.seekStep Steps.writeStep Steps.pointerStep
+    Messages.bufferOf Messages.answerWith Messages.refuseTurn Steps.check Steps.orGivenBack Steps.total Steps.written Steps.seekStep Steps.writeStep Steps.pointerStep
     Steps.settledByRead Steps.readSettled Steps.readStep Steps.step Steps.descriptorOfOp Steps.isReadCall Steps.refusesStale
     Steps.refusedStale FirstRefusal.unless Admission.windowRefusal FileWindows.minuteIn FileWindows.isOpenAt
     FileWindows.isClosedAt Windows.isForClosed
@@ -44,7 +44,7 @@ unfolding FirstRefusal.below FirstRefusal.sum Admission.lengthsBefore Bits.bit B
     Places.placesRefusal Places.placesReply Places.placesOf Commits.landsAt Commits.bytesFrom Commits.byteSettings
     Commits.setsOffset Commits.offsetSettings Commits.landedEnd Commits.lengthSettings Commits.settings Commits.fits
     Commits.putItem Commits.landed Commits.setBy Commits.commitRefusal Sightings.sameEntry Sightings.sameEntries Sightings.entries
-    Plain.startPlain Plain.ops Plain.firstList Plain.secondList Plain.isStale Plain.plainRefuse Plain.withSlot Plain.plainAnswer
+    Plain.startPlain Plain.ops Plain.firstList Plain.secondList Plain.isStale Plain.withSlot
     Plain.plainBegin Plain.plainStepped Plain.plainOn Plain.committing Plain.grant Plain.staleSlot
     Plain.becameStale Plain.plainCommitted Plain.plainCommit Plain.plainAbort Plain.plainPlaces Plain.plainSetWindow
     Plain.withNumber Plain.plainCall Messages.repliesTo Messages.afterAll Plain.isRunning Plain.noneRunning Plain.plainRestore

@@ -30,7 +30,7 @@ use Rattle.spec.proofs.Refinement.AfterReset.{ending, staleAs, seat-in,
 use Rattle.spec.proofs.Refinement.SettingsIn.{AllIn, settings-in}
 use Rattle.spec.proofs.Refinement.UndoSaved.{keeping-sound, keeping-seat, files-back}
 use Rattle.spec.proofs.Refinement.Landing.{length-files, length-offsets, length-lengths, limit-landed, limit-lengths}
-use Rattle.spec.proofs.Refinement.Landing.{all-landed}
+use Rattle.spec.proofs.Refinement.Landing.{all-landed, files-land, offsets-land, lengths-land}
 use Rattle.spec.proofs.Refinement.Conflicts.{conflicts-hit, octet-same, stale-after}
 
 -- A granted Commit on a store that keeps what it found already.
@@ -46,7 +46,15 @@ grantedOn t ss m =
 pub preserved-first : (t : ℕ) (x : Txn) (ss : List Setting) (m : Machine) → commitGranted t x ss m
     ≡ grantedOn t ss (savingUndo x m)
 unfolding commitGranted grantedOn savingUndo afterCommit madeStale
-preserved-first t x ss m = refl
+preserved-first t x ss m =
+    let s = m .store in
+    let ts = tabulate (afterCommit t ss m) transactionCount in
+    λ i. record {
+      reply = record { answer = granted (bitsOf (madeStale t ss m) 8); buffer = [] };
+      after =
+          ending t (sym (offsets-land ss s (m .files)) i) (sym (lengths-land ss s (m .files)) i) ts
+          (sym (files-land ss s (m .files)) i) (savingUndo x m);
+    }
 
 module _ (m : Machine) (t : ℕ) (ss : List Setting) where
   ts : List Transaction
@@ -190,12 +198,15 @@ module _ (m : Machine) (t : ℕ) (x : Txn) (small : t < transactionCount) (sound
       ∙ fun-ext (λ u. ap (λ (f : ℕ → Seat). touch mine (put t vacant f u)) first-seats)
 
   -- It goes back to what it found.
+  on-back : (i : Item) → backValues (grantedOn t mine first .after) i ≡ values (m .store) (m .files) i
+  unfolding backValues values grantedOn savingUndo
+  on-back (byte q) = ap (λ (l : List ℕ). getD l q 0)
+      (files-back m x sound ranges fit (grantedOn t mine first .after .store) refl refl)
+  on-back (offset d) = refl
+  on-back (fileLength f) = refl
+
   pub granted-back : (i : Item) → backValues (commitGranted t x mine m .after) i ≡ values (m .store) (m .files) i
-  unfolding backValues values commitGranted savingUndo
-  granted-back (byte q) = ap (λ (l : List ℕ). getD l q 0)
-      (files-back m x sound ranges fit (commitGranted t x mine m .after .store) refl refl)
-  granted-back (offset d) = refl
-  granted-back (fileLength f) = refl
+  granted-back i = ap (λ (τ : Turn). backValues (τ .after) i) (preserved-first t x mine m) ∙ on-back i
 
   pub granted-preserved : backIn (commitGranted t x mine m .after) ≡ preserved (values (m .store) (m .files))
   unfolding backIn commitGranted savingUndo

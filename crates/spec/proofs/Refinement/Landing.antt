@@ -1,17 +1,19 @@
 -- Landing settings in the files buffer and in the committed offsets and lengths is landing them in the committed values.
 use mathlib.Core.Bool.{Bool, true, false, cond}
 use mathlib.Core.List.{List, [], _∷_}
-use mathlib.Core.Path.{_≡_, refl, ap, _∙_, fun-ext}
+use mathlib.Core.Path.{_≡_, refl, sym, ap, _∙_, fun-ext, subst}
 use lib.Dec.{eqb}
 use lib.ListN.{length, getD, set, length-set}
-use lib.Seq.{getD-set-same, getD-set-other}
+use lib.Seq.{ext-getD, getD-set-same, getD-set-other}
 use Prim.Native.Nat.{ℕ, _≤_, _<_}
 use native.Mathlib.Omega.{arith}
 use borrow.Author.Tests.{eqb-true, eqb-false}
 use Rattle.limits.specs.Limits.{fileCount, fileBytes, bufferBytes, descriptorCount}
+use Rattle.buffers.specs.Parts.{tabulate}
+use Rattle.buffers.proofs.TableLaws.{length-tabulate, getD-tabulate}
 use Rattle.state.specs.declared.Transaction.{Transaction}
 use Rattle.state.specs.declared.StoreMeaning.{StoreMeaning}
-use Rattle.spec.specs.Items.{Item, byte, offset, fileLength, same}
+use Rattle.spec.specs.Items.{Item, byte, offset, fileLength, same, Values}
 use Rattle.spec.specs.Commits.{Setting, putItem, landed}
 use Rattle.spec.specs.Machine.{values}
 use Rattle.spec.specs.Calls.{landByte, landFiles, landOffset, landOffsets, landLength, landLengths}
@@ -138,3 +140,92 @@ module _ (ts : List Transaction) (s : StoreMeaning) where
       (length-offset (x .item) (x .to) offsets ∙ e) (length-length (x .item) (x .to) lengths ∙ g)
       (length-byte (x .item) (x .to) files ∙ f)
       ∙ ap (landed ss) (fun-ext (one-landed offsets lengths files e g f (x .to) (x .item) (a .0)))
+
+-- ---- place for place
+
+-- The elements of a list are the values of items.
+abbrev Agree : (ℕ → Item) → List ℕ → Values → Type 0
+Agree item xs v = (k : ℕ) → k < length xs → getD xs k 0 ≡ v (item k)
+
+agree-set : (item : ℕ → Item) (xs : List ℕ) (v : Values) (i n : ℕ) → Agree item xs v
+    → (k : ℕ) → k < length (set xs i n) → getD (set xs i n) k 0 ≡ cond (eqb k i) n (v (item k))
+agree-set item xs v i n h k l = pick (eqb k i) refl
+  where
+    inside : k < length xs
+    inside = subst (λ (c : ℕ). k < c) (length-set xs i n) l
+
+    pick : (b : Bool) → eqb k i ≡ b → getD (set xs i n) k 0 ≡ cond b n (v (item k))
+    pick true e =
+        let q = eqb-true k i e in
+        ap (λ (j : ℕ). getD (set xs i n) j 0) q ∙ getD-set-same xs i n 0 (subst (λ (j : ℕ). j < length xs) q inside)
+    pick false e = getD-set-other xs i k n 0 (eqb-false k i e) ∙ h k inside
+
+agree-byte : (i : Item) (n : ℕ) (files : List ℕ) (v : Values) → Agree byte files v → Agree byte (landByte i n files) (putItem i n v)
+unfolding landByte putItem same
+agree-byte (byte q) n files v h = agree-set byte files v q n h
+agree-byte (offset d) n files v h = h
+agree-byte (fileLength f) n files v h = h
+
+agree-offset : (i : Item) (n : ℕ) (offsets : List ℕ) (v : Values) → Agree offset offsets v
+    → Agree offset (landOffset i n offsets) (putItem i n v)
+unfolding landOffset putItem same
+agree-offset (byte q) n offsets v h = h
+agree-offset (offset d) n offsets v h = agree-set offset offsets v d n h
+agree-offset (fileLength f) n offsets v h = h
+
+agree-length : (i : Item) (n : ℕ) (lengths : List ℕ) (v : Values) → Agree fileLength lengths v
+    → Agree fileLength (landLength i n lengths) (putItem i n v)
+unfolding landLength putItem same
+agree-length (byte q) n lengths v h = h
+agree-length (offset d) n lengths v h = h
+agree-length (fileLength f) n lengths v h = agree-set fileLength lengths v f n h
+
+bytes-agree : (ss : List Setting) (files : List ℕ) (v : Values) → Agree byte files v → Agree byte (landFiles ss files) (landed ss v)
+unfolding landFiles landed
+bytes-agree [] files v h = h
+bytes-agree (x ∷ ss) files v h =
+    bytes-agree ss (landByte (x .item) (x .to) files) (putItem (x .item) (x .to) v) (agree-byte (x .item) (x .to) files v h)
+
+offsets-agree : (ss : List Setting) (offsets : List ℕ) (v : Values) → Agree offset offsets v
+    → Agree offset (landOffsets ss offsets) (landed ss v)
+unfolding landOffsets landed
+offsets-agree [] offsets v h = h
+offsets-agree (x ∷ ss) offsets v h =
+    offsets-agree ss (landOffset (x .item) (x .to) offsets) (putItem (x .item) (x .to) v) (agree-offset (x .item) (x .to) offsets v h)
+
+lengths-agree : (ss : List Setting) (lengths : List ℕ) (v : Values) → Agree fileLength lengths v
+    → Agree fileLength (landLengths ss lengths) (landed ss v)
+unfolding landLengths landed
+lengths-agree [] lengths v h = h
+lengths-agree (x ∷ ss) lengths v h =
+    lengths-agree ss (landLength (x .item) (x .to) lengths) (putItem (x .item) (x .to) v) (agree-length (x .item) (x .to) lengths v h)
+
+tabulated : (item : ℕ → Item) (xs : List ℕ) (v : Values) (n : ℕ) → length xs ≡ n → Agree item xs v
+    → xs ≡ tabulate (λ k. v (item k)) n
+tabulated item xs v n e h =
+    let f : ℕ → ℕ = λ k. v (item k) in
+    ext-getD 0 xs (tabulate f n) (e ∙ sym (length-tabulate f n))
+    (λ k l. h k l ∙ sym (getD-tabulate f n k 0 (subst (λ (c : ℕ). k < c) e l)))
+
+-- The files, offsets and lengths that a grant leaves are the landed values, place for place.
+module _ (ss : List Setting) (s : StoreMeaning) (files : List ℕ) where
+  pub files-land : landFiles ss files ≡ tabulate (λ q. landed ss (values s files) (byte q)) (length files)
+  unfolding values
+  files-land = tabulated byte (landFiles ss files) (landed ss (values s files)) (length files) (length-files ss files)
+      (bytes-agree ss files (values s files) (λ k l. refl))
+
+  pub offsets-land : landOffsets ss (s .offsets)
+      ≡ tabulate (λ d. landed ss (values s files) (offset d)) (length (s .offsets))
+  unfolding values
+  offsets-land =
+      tabulated offset (landOffsets ss (s .offsets)) (landed ss (values s files)) (length (s .offsets))
+      (length-offsets ss (s .offsets))
+      (offsets-agree ss (s .offsets) (values s files) (λ k l. refl))
+
+  pub lengths-land : landLengths ss (s .lengths)
+      ≡ tabulate (λ f. landed ss (values s files) (fileLength f)) (length (s .lengths))
+  unfolding values
+  lengths-land =
+      tabulated fileLength (landLengths ss (s .lengths)) (landed ss (values s files)) (length (s .lengths))
+      (length-lengths ss (s .lengths))
+      (lengths-agree ss (s .lengths) (values s files) (λ k l. refl))

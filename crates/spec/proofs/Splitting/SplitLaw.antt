@@ -20,7 +20,8 @@ use Rattle.spec.specs.Transactions.{Txn, Write, put}
 use Rattle.spec.specs.Steps.{Stepped, refuse, accept, check, total, written, writeStep, step}
 use Rattle.spec.specs.Places.{intervalsOf, withPairs, placesRefusal, placesReply, placesOf}
 use Rattle.spec.specs.Commits.{Setting, setsOffset, offsetSettings, settings, fits}
-use Rattle.spec.specs.Splitting.{further, through, Split, SplitTxn, Accepts, Moment, AcceptsAll, stop, next, SameStep}
+use Rattle.spec.specs.Splitting.{further, through, Split, SplitTxn, Accepts, SameStep}
+use Rattle.spec.specs.Corollaries.{Moment, AcceptsAll, stop, next, SplitLists}
 use Rattle.spec.specs.Splitting.{SameCommit, SplitsAlike}
 use Rattle.spec.proofs.Abstract.Rerun.{put-same, put-twice}
 use Rattle.spec.proofs.Refinement.StepPreserves.{total-append}
@@ -223,10 +224,11 @@ module _ (fileOf : ℕ → ℕ) where
 pub splits-alike : SplitsAlike
 splits-alike fileOf =
     record {
-      fact = adds-up;
       writes = one-write fileOf;
       later = same-step fileOf;
       places = same-places fileOf;
-      list = same-list fileOf;
       commit = same-commit fileOf;
     }
+
+pub splits-lists : SplitLists
+splits-lists fileOf = same-list fileOf

@@ -30,7 +30,8 @@ use Rattle.spec.specs.Places.{someWrite, coversPlace, covered, noPlace, 
 use Rattle.spec.specs.Windows.{isForClosed, forClosed}
 use Rattle.spec.specs.Commits.{Setting, landsAt, bytesFrom, byteSettings, landedEnd, lengthSettings}
 use Rattle.spec.specs.Undo.{landingOf, landingsOf}
-use Rattle.spec.specs.Splitting.{further, AddsUp, through, Split, here, there}
+use Rattle.spec.specs.Splitting.{further, through, Split, here, there}
+use Rattle.spec.specs.Corollaries.{AddsUp}
 
 -- ---- the one fact
 

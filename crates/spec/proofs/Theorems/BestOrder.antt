@@ -17,7 +17,8 @@ use Rattle.spec.specs.Messages.{commit, isGrant, grantsAmong, repliesTo}
 use Rattle.spec.specs.OrderReply.{grantsIn, Asked, orderRefusal, orderReplied, orderReply}
 use Rattle.spec.specs.Machine.{Machine}
 use Rattle.spec.specs.Calls.{passing, commitCall, askedOf, orderTurn, call, callsAfter, callsReplies}
-use Rattle.spec.specs.BestOrder.{grantsBy, BestOrder, BestOrderHolds, BestOrderAlwaysHolds}
+use Rattle.spec.specs.BestOrder.{grantsBy, BestOrder, BestOrderHolds}
+use Rattle.spec.specs.Corollaries.{BestOrderAlwaysHolds}
 use Rattle.spec.proofs.Abstract.AbstractStore.{vacant, held, isHeld, writesSeat, abstractAsked}
 use Rattle.spec.proofs.Abstract.OrderReplies.{passed}
 use Rattle.spec.proofs.Abstract.ClosedCommits.{may, fewer-count, few}

@@ -35,6 +35,7 @@ use Rattle.spec.proofs.Abstract.Lists.{touched, same-true, or-left-fals
 use Rattle.spec.proofs.Refinement.Relation.{WriteIn}
 use Rattle.spec.proofs.Refinement.Decode.{decoded-writes}
 use Rattle.spec.proofs.Refinement.SettingsIn.{lands-in, fits-at}
+use Rattle.spec.proofs.Refinement.Landing.{files-land, lengths-land}
 use Rattle.spec.proofs.Refinement.Zeros.{neither}
 use Rattle.spec.proofs.Theorems.Answers.{answer-not-refused}
 use Rattle.spec.proofs.Theorems.Refusals.{passing-zero}
@@ -314,10 +315,12 @@ closed-spared m t minute n e =
       unchanged =
           λ q c.
           ap (λ (y : Machine). getD (y .files) q 0) (p .leaves)
+          ∙ ap (λ (l : List ℕ). getD l q 0) (sym (files-land (settingsOf m t) s (m .files)))
           ∙ files-left q (settingsOf m t) (m .files) (not-touched ws minute q c (settingsOf m t) sparing);
       length =
           λ f c.
           ap (λ (y : Machine). getD (y .store .lengths) f 0) (p .leaves)
+          ∙ ap (λ (l : List ℕ). getD l f 0) (sym (lengths-land (settingsOf m t) s (m .files)))
           ∙ lengths-left f (settingsOf m t) (s .lengths)
           (length-not-touched ws minute (fileOf s) (values s (m .files)) f c x (p .none));
     }

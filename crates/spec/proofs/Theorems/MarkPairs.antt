@@ -16,6 +16,7 @@ use Rattle.spec.specs.Messages.{Call}
 use Rattle.spec.specs.Machine.{Machine, withMarking, fileOf, values}
 use Rattle.spec.specs.Age.{Alike}
 use Rattle.spec.specs.MarkPairs.{Named, AlwaysRestsOnPairs}
+use Rattle.spec.specs.Corollaries.{RestsOnOldPairs}
 use Rattle.spec.proofs.Abstract.AbstractStore.{UndoSaved, Seat, vacant, held, none, preserved, Abstract, abstractAfter}
 use Rattle.spec.proofs.Abstract.AbstractStore.{abstractReplies}
 use Rattle.spec.proofs.Refinement.Relation.{heldBy, seat, backValues, backIn, view, Sound}
@@ -101,11 +102,8 @@ module _ (m : Machine) (sound : Sound m) (marks : List ℕ) (size : length marks
       }
 
 pub always-rests-on-pairs : AlwaysRestsOnPairs
-always-rests-on-pairs m r =
-    let sound = reached-sound m r in
-    record {
-      marks = same-pairs-alike m sound;
-      old =
-          λ marks named. same-pairs-alike m sound (rearranged marks) (same-pairs .size marks)
-          (λ t q l. same-pairs .pairs marks t q l ∙ named t q l);
-    }
+always-rests-on-pairs m r = same-pairs-alike m (reached-sound m r)
+
+pub rests-on-old-pairs : RestsOnOldPairs
+rests-on-old-pairs m r marks named =
+    always-rests-on-pairs m r (rearranged marks) (same-pairs .size marks) (λ t q l. same-pairs .pairs marks t q l ∙ named t q l)

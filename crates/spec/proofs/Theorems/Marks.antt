@@ -22,7 +22,7 @@ use Rattle.spec.specs.Undo.{savingUndo, undone}
 use Rattle.spec.specs.Calls.{Turn, refuseTurn, passing, answerWith, reset, beginTurn, abortTurn, served, stepTurn}
 use Rattle.spec.specs.Calls.{commitGranted}
 use Rattle.spec.specs.Calls.{commitDecided, commitTurn, placesTurn, windowTurn, undoTurn, orderTurn, admitted, call}
-use Rattle.spec.specs.Buffers.{MarksAlwaysLeft}
+use Rattle.spec.specs.MarkPairs.{MarksAlwaysLeft}
 use Rattle.spec.proofs.Refinement.Relation.{Sound}
 use Rattle.spec.proofs.Refinement.Marks.{marked-other}
 use Rattle.spec.proofs.Refinement.AfterReset.{unmarked-other}

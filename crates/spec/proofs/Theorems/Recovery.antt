@@ -20,8 +20,9 @@ use Rattle.spec.specs.Items.{Values, Item, byte, offset, fileLength}
 use Rattle.spec.specs.Transactions.{put}
 use Rattle.spec.specs.Messages.{Call, abort, afterAll}
 use Rattle.spec.specs.Machine.{Machine, lent, fileOf, values}
-use Rattle.spec.specs.Calls.{storeAnswers, callsAfter}
-use Rattle.spec.specs.Recovery.{allEnded, recovered, RecoversByCode, ProgramRun, runsAfter, Reached, abortAll, callsOfRuns}
+use Rattle.spec.specs.Calls.{callsAfter}
+use Rattle.spec.specs.Corollaries.{RecoversByCode}
+use Rattle.spec.specs.Recovery.{allEnded, recovered, ProgramRun, runsAfter, Reached, abortAll, callsOfRuns}
 use Rattle.spec.specs.SerializabilityOfStore.{FreshlyMade}
 use Rattle.spec.proofs.Abstract.AbstractStore.{Seat, vacant, held, Saved, Abstract, startAbstract, withSeat, telling}
 use Rattle.spec.proofs.Abstract.AbstractStore.{turnedAway, seated}
@@ -30,6 +31,7 @@ use Rattle.spec.proofs.Refinement.Relation.{heldBy, seat, backIn, view,
 use Rattle.spec.proofs.Refinement.UndoValues.{back-same}
 use Rattle.spec.proofs.Refinement.AfterReset.{seat-in, seat-out}
 use Rattle.spec.proofs.Theorems.Serializability.{calls-agree, fresh-facts}
+use Rattle.spec.specs.Calls.{call}
 
 -- What a store with nothing open stands for.
 module _ (m : Machine) (closed : (t : ℕ) → t ≤ lastTransaction → transaction (m .store) t .begun ≡ false) where
@@ -205,7 +207,7 @@ pub record Twins (m n : Machine) : Type 0 where
 pub calls-append : (cs ds : List Call) (m : Machine) → callsAfter (cs ++ ds) m ≡ callsAfter ds (callsAfter cs m)
 unfolding afterAll
 calls-append [] ds m = refl
-calls-append (c ∷ cs) ds m = calls-append cs ds (storeAnswers .next c m)
+calls-append (c ∷ cs) ds m = calls-append cs ds (call c m .after)
 
 -- The first goes on with every transaction aborted, the second comes back.
 pub run-twins : (r : ProgramRun) (m n : Machine) → Twins m n

@@ -35,7 +35,7 @@ use Rattle.spec.specs.Calls.{stepTurn, commitGranted, commitDecided, com
 use Rattle.spec.specs.Calls.{undoTurn, orderTurn, askedOf}
 use Rattle.spec.specs.RefusalOrder.{Test, test, firstFailing, firstTwo, firstFour, settles, stepTests}
 use Rattle.spec.specs.RefusalOrder.{testsOf, freshTests}
-use Rattle.spec.specs.Refusals.{refusalsOf, refusalsOfFresh}
+use Rattle.spec.specs.Corollaries.{refusalsOf, refusalsOfFresh}
 use Rattle.spec.proofs.Abstract.Programs.{result-andThen, Every, every-append}
 use Rattle.spec.proofs.Abstract.Lists.{put-other}
 

@@ -269,15 +269,19 @@ refusals-hold m =
     record {
       first = λ c. call-says c m;
       freshFirst = λ numbers. fresh-says numbers m;
-      rows = λ c. refusal-rows c m;
-      freshRow = λ numbers. fresh-row numbers m;
       leaves = λ c. leaves-call c m .leaves;
       freshLeaves = λ numbers n e. leaves-fresh numbers m .leaves n e (fresh-not-13 numbers m n e) .0;
       ends = λ c. ends-call c m;
     }
 
 pub refusals-known : (m : Machine) → RefusalsKnown m
-refusals-known m = record { known = λ c. call-known c m; freshKnown = λ numbers. fresh-known numbers m }
+refusals-known m =
+    record {
+      rows = λ c. refusal-rows c m;
+      freshRow = λ numbers. fresh-row numbers m;
+      known = λ c. call-known c m;
+      freshKnown = λ numbers. fresh-known numbers m;
+    }
 
 pub refusals-of-code : RefusalsOfCode
 unfolding refusalOf

@@ -20,7 +20,7 @@ use Rattle.spec.specs.Messages.{Call, begin, on, commit, abort, Reply, p
 use Rattle.spec.specs.Messages.{repliesTo}
 use Rattle.spec.specs.Plain.{isRunning, Earlier, nothing, Slot, closed, running, Running, Plain, startPlain}
 use Rattle.spec.specs.Plain.{PlainTurn}
-use Rattle.spec.specs.Plain.{plainRefuse, plainAnswer, becameStale, plainCommitted, plainCommit, withNumber, plainCall}
+use Rattle.spec.specs.Plain.{becameStale, plainCommitted, plainCommit, withNumber, plainCall}
 use Rattle.spec.specs.Plain.{plainAfter}
 use Rattle.spec.specs.Plain.{firstList, secondList}
 use Rattle.spec.specs.Items.{Values}
@@ -147,7 +147,7 @@ not-expected t p τ k e = record { octet = λ n g. absurd (answer-not-refused (g
 
 expected-decided : (t : ℕ) (r : Running) (p : Plain) (daily stale shut placed : Bool)
     → Expected t p (plainCommitted t r p (commitRefusal daily stale shut placed))
-unfolding plainCommitted commitRefusal plainAnswer octetIn
+unfolding plainCommitted commitRefusal answerWith octetIn
 expected-decided t r p false stale shut placed = not-expected t p _ 22 refl
 expected-decided t r p true true shut placed = not-expected t p _ 13 refl
 expected-decided t r p true false true placed = not-expected t p _ 21 refl
@@ -155,13 +155,13 @@ expected-decided t r p true false false true = record { octet = λ n g. sym (ap 
 expected-decided t r p true false false false = not-expected t p _ 12 refl
 
 expected-slot : (t minute : ℕ) (s : Slot) (p : Plain) → Expected t p (plainCommit t minute s p)
-unfolding plainCommit plainRefuse
+unfolding plainCommit refuseTurn
 expected-slot t minute closed p = not-expected t p _ 4 refl
 expected-slot t minute (running r) p = expected-decided t r p _ _ _ _
 
 expected : (b : Bool) (t minute : ℕ) (p : Plain)
-    → Expected t p (cond b (plainCommit t minute (p .slots t) p) (plainRefuse 3 [] p))
-unfolding plainRefuse
+    → Expected t p (cond b (plainCommit t minute (p .slots t) p) (refuseTurn 3 [] p))
+unfolding refuseTurn
 expected true t minute p = expected-slot t minute (p .slots t) p
 expected false t minute p = not-expected t p _ 3 refl
 

@@ -8,7 +8,6 @@ use Prim.Native.Nat.{_<_}
 use native.Mathlib.Omega.{arith}
 use borrow.Author.Needs.{needs}
 use Rattle.spec.specs.Promises.{machineOf}
-use Rattle.spec.specs.Calls.{storeAnswers}
 use Rattle.text_lines.specs.WholeRun.{PiecesReach, LinesLead}
 use Rattle.text_lines.proofs.WholeRun.{reached-first, reached-more, goes-on, ran}
 use Rattle.trace.specs.Transcript.{storeTrace, under}
@@ -16,6 +15,7 @@ use Rattle.trace.proofs.TruncatedLines.{trace-truncated-is-enough}
 use Rattle.trace.specs.Bounds.{TraceResting, TraceRoom}
 use Rattle.trace.proofs.run.Statement.{statement}
 use Rattle.trace.proofs.run.Tie as tie
+use Rattle.spec.specs.Calls.{call}
 
 abbrev Inv-loop : tie.InvT-loop
 Inv-loop state₀ files₀ logs₀ marks₀ undo₀ line₀ reader₀ input₀ out₀ progress₀ turns₀ state files logs marks undo line reader input
@@ -70,7 +70,7 @@ loop-again c =
       omega (arith, k, i .2),
       omega (arith, k, i .3),
       λ h. reached-more storeTrace _ _ _ _ _ before (t .1 (goes-on _ _ (c .turns-left .ensures .1) h) .1),
-      λ h. ran storeTrace (trace-truncated-is-enough storeAnswers) _ _ _ _ _ before (t .2 h .1),
+      λ h. ran storeTrace (trace-truncated-is-enough call) _ _ _ _ _ before (t .2 h .1),
     )
 
 returns : tie.Need-returns Inv-loop μ-loop

@@ -223,13 +223,7 @@ end:
             :: else
             fi;
             answer = r;
-#ifdef SLEEPERS
-#ifndef MUTANT_NO_BROADCAST
-            for (covered : 0 .. THREADS - 1) {
-                asleep[covered] = false
-            };
-#endif
-#else
+#ifndef SLEEPERS
             for (covered : 1 .. tried) {
                 check_answer(covered)
             };
@@ -237,6 +231,17 @@ end:
             covered = 0; r = 0;
             clear(now)
         }
+#ifdef SLEEPERS
+#ifndef MUTANT_NO_BROADCAST
+        ; /* the mutex is free again: others may draw tickets and save before this wakes them */
+        atomic {
+            for (covered : 0 .. THREADS - 1) {
+                asleep[covered] = false
+            };
+            covered = 0
+        }
+#endif
+#endif
     od;
     atomic { check_answer(id + 1) }
 }

@@ -9,6 +9,7 @@
 #include <stdio.h>
 #include <stdlib.h>
 #include <string.h>
+#include <time.h>
 #include <unistd.h>
 #include <zlib.h>
 
@@ -16,7 +17,7 @@
 const char *const luzhanem_sql_[STATEMENT_COUNT] = { STATEMENTS(SQL_OF) };
 
 #define FORMAT "1" /* of the tables: ten parts of an image of format 1 */
-enum { HOLDER = 32, TRIES = 3 };
+enum { HOLDER = 32, TRIES = 3, PATIENCE = 100000 /* ns */ };
 
 /* Where things are in the bytes of an image. */
 enum {
@@ -43,10 +44,8 @@ struct luzhanem_durable {
     luzhanem_store *store;
     luzhanem_durable_lock lock;
     /* Below: of the one thread that saves. */
-    image now;            /* what is to be saved, ... */
-    image saved;          /* ... and what the database has, where `known` */
-    uint32_t sums[PARTS]; /* of `saved`, ... */
-    size_t sizes[PARTS];  /* ... and its sizes */
+    image images[2], *now, *saved; /* what is to be saved, and what the database has, where `known` */
+    uint32_t sums[PARTS];          /* of `saved` */
     bool known, fenced;
     int64_t generation; /* of the channel, where `known` */
     /* Below: under the mutex. See luzhanem_durable_sync. */
@@ -54,8 +53,9 @@ struct luzhanem_durable {
     pthread_cond_t ended;
     bool busy;
     uint64_t drawn, tried, safe;
-    uint64_t together; /* how many tickets the last save covered */
-    int answer; /* of the last save, with its words */
+    uint64_t expected; /* the ticket up to which the next save waits for others */
+    int64_t took;      /* how long the last save took, in ns */
+    int answer;        /* of the last save, with its words */
     char why[WHY];
 };
 
@@ -108,14 +108,19 @@ static bool all_zero(const uint8_t *bytes, size_t n) {
     return n == 0 || (bytes[0] == 0 && memcmp(bytes, bytes + 1, n - 1) == 0);
 }
 
+/* What the numbers say of a part: how many bytes it has. */
+static size_t length_of(const image *i, int p) {
+    if (p == NUMBERS) return NUMBERS_BYTES;
+    if (p == OLD_BYTES) return number_at(i, CAN_UNDO) == 1 ? number_at(i, GRANT_BYTES) : 0;
+    return number_at(i, LENGTHS + p);
+}
+
 /* How many bytes of a part say something. Past the length of a file all is 0 in every store that calls have
  * made; in one that is not so the part goes on to its last byte that is not 0. Loading fills up with 0. */
 static size_t size_of(image *i, int p) {
     const uint8_t *bytes = bytes_of(i, p);
-    if (p == NUMBERS) return NUMBERS_BYTES;
-    if (p == OLD_BYTES) return number_at(i, CAN_UNDO) == 1 ? number_at(i, GRANT_BYTES) : 0;
-    size_t length = number_at(i, LENGTHS + p), n = LUZHANEM_FILE_BYTES;
-    if (length > n || all_zero(bytes + length, n - length)) return length;
+    size_t length = length_of(i, p), n = LUZHANEM_FILE_BYTES;
+    if (p >= OLD_BYTES || length > n || all_zero(bytes + length, n - length)) return length;
     while (bytes[n - 1] == 0) n--;
     return n;
 }
@@ -136,7 +141,7 @@ static uint32_t sum_of(int p, const uint8_t *bytes, size_t n, const uint32_t sum
 
 /* Brings both sides of the copy into the caches before the lock is taken. */
 static void warm(luzhanem_durable *d) {
-    memset(&d->now, 0, sizeof d->now);
+    memset(d->now, 0, sizeof *d->now);
 #ifdef __GNUC__
     for (size_t i = 0; i < sizeof *d->store; i += 64) __builtin_prefetch((const char *)d->store + i);
 #endif
@@ -146,18 +151,18 @@ static void warm(luzhanem_durable *d) {
 static int take_image(luzhanem_durable *d) {
     warm(d);
     if (d->lock.take) d->lock.take(d->lock.context);
-    int r = luzhanem_save(d->store, &d->now.whole);
+    int r = luzhanem_save(d->store, &d->now->whole);
     if (d->lock.give) d->lock.give(d->lock.context);
     if (r < 0) return r;
-    size_t used = size_of(&d->now, OLD_BYTES);
-    memset(bytes_of(&d->now, OLD_BYTES) + used, 0, room_of(OLD_BYTES) - used);
+    size_t used = length_of(d->now, OLD_BYTES);
+    memset(bytes_of(d->now, OLD_BYTES) + used, 0, room_of(OLD_BYTES) - used);
     return 0;
 }
 
 /* Whether the database has this part as it is in the image. A part may grow by zeros. */
 static bool has(luzhanem_durable *d, int p) {
-    return d->known && memcmp(bytes_of(&d->now, p), bytes_of(&d->saved, p), room_of(p)) == 0 &&
-           size_of(&d->now, p) == d->sizes[p];
+    return d->known && length_of(d->now, p) == length_of(d->saved, p) &&
+           memcmp(bytes_of(d->now, p), bytes_of(d->saved, p), room_of(p)) == 0;
 }
 
 /* The parts that the database does not have, and in `sums` those of all. */
@@ -166,8 +171,8 @@ static void differing(luzhanem_durable *d, struct save *save, uint32_t sums[PART
     for (int p = 0; p < PARTS; p++) {
         sums[p] = d->sums[p];
         if (has(d, p) && (p != NUMBERS || save->count == 0)) continue;
-        const uint8_t *bytes = bytes_of(&d->now, p);
-        size_t n = size_of(&d->now, p);
+        const uint8_t *bytes = bytes_of(d->now, p);
+        size_t n = size_of(d->now, p);
         sums[p] = sum_of(p, bytes, n, sums);
         save->parts[save->count++] = (struct part){ p, bytes, n, sums[p] };
     }
@@ -175,9 +180,9 @@ static void differing(luzhanem_durable *d, struct save *save, uint32_t sums[PART
 
 /* The database has the image. */
 static void note(luzhanem_durable *d, const uint32_t sums[PARTS], int64_t generation) {
-    d->saved = d->now;
+    image *other = d->saved;
+    d->saved = d->now, d->now = other;
     memcpy(d->sums, sums, sizeof d->sums);
-    for (int p = 0; p < PARTS; p++) d->sizes[p] = size_of(&d->saved, p);
     d->known = true;
     d->generation = generation;
 }
@@ -255,15 +260,44 @@ static int save(luzhanem_durable *d, char why[WHY]) {
     return r;
 }
 
-/* Group commit: where the last save covered several tickets, lets the threads that it set free make their next
- * commit and come along, as long as more come. A thread that is alone does not wait. */
+static int64_t clock_ns(void) {
+    struct timespec t;
+    clock_gettime(CLOCK_MONOTONIC, &t);
+    return (int64_t)t.tv_sec * 1000000000 + t.tv_nsec;
+}
+
+/* Group commit: the threads that the last save set free come back, each with its next commit. Waits until as
+ * many tickets are drawn as that save covered: for PATIENCE, or a quarter of the time that the save took if
+ * that is less, and longer while tickets come. A thread that is alone does not wait. */
 static void gather(luzhanem_durable *d) {
-    for (uint64_t before = 0; d->together > 1 && d->drawn != before;) {
+    if (d->drawn >= d->expected) return;
+    int64_t until = clock_ns() + (d->took / 4 < PATIENCE ? d->took / 4 : PATIENCE);
+    for (uint64_t before = 0; d->drawn < d->expected && (d->drawn != before || clock_ns() < until);) {
         before = d->drawn;
         pthread_mutex_unlock(&d->mutex);
         sched_yield();
         pthread_mutex_lock(&d->mutex);
     }
+}
+
+/* Makes a save for all tickets drawn so far, under the mutex but for the save itself. */
+static void save_all(luzhanem_durable *d) {
+    char why[WHY] = "";
+    d->busy = true;
+    gather(d);
+    uint64_t covered = d->drawn;
+    pthread_mutex_unlock(&d->mutex);
+    int64_t began = clock_ns();
+    int r = save(d, why);
+    int64_t took = clock_ns() - began;
+    pthread_mutex_lock(&d->mutex);
+    d->busy = false;
+    d->expected = d->drawn + (covered - d->tried);
+    d->took = took;
+    d->tried = covered;
+    if (r == 0) d->safe = covered;
+    d->answer = r;
+    memcpy(d->why, why, WHY);
 }
 
 /* Each sync draws a ticket, after its caller's commit. The thread that finds no save under way makes one.
@@ -272,33 +306,18 @@ static void gather(luzhanem_durable *d) {
  * time, so no older image is written after a newer one. `tried` and `safe` are the last tickets covered by a
  * save that ended, and by one that succeeded; both grow. A thread leaves when `tried` has reached its ticket:
  * with 0 where `safe` has too, and otherwise with the last save's answer, since no save that covered the
- * ticket succeeded. */
+ * ticket succeeded. Who made a save wakes the others when it has left the mutex, so that they find it free.
+ * They may find another save under way by then, which ends in a wake-up too. */
 int luzhanem_durable_sync(luzhanem_durable *d) {
     if (!d) return failed(LUZHANEM_DURABLE_E_BAD_ARGUMENT, NULL);
     pthread_mutex_lock(&d->mutex);
     uint64_t mine = ++d->drawn;
-    while (d->tried < mine) {
-        if (d->busy) {
-            pthread_cond_wait(&d->ended, &d->mutex);
-            continue;
-        }
-        char why[WHY] = "";
-        d->busy = true;
-        gather(d);
-        uint64_t covered = d->drawn;
-        pthread_mutex_unlock(&d->mutex);
-        int r = save(d, why);
-        pthread_mutex_lock(&d->mutex);
-        d->busy = false;
-        d->together = covered - d->tried;
-        d->tried = covered;
-        if (r == 0) d->safe = covered;
-        d->answer = r;
-        memcpy(d->why, why, WHY);
-        pthread_cond_broadcast(&d->ended);
-    }
+    while (d->tried < mine && d->busy) pthread_cond_wait(&d->ended, &d->mutex);
+    bool saves = d->tried < mine;
+    if (saves) save_all(d);
     int r = d->safe >= mine ? 0 : failed(d->answer, d->why);
     pthread_mutex_unlock(&d->mutex);
+    if (saves) pthread_cond_broadcast(&d->ended);
     return r;
 }
 
@@ -327,16 +346,16 @@ static void part_row(void *at, int64_t p, const void *bytes, size_t n, int64_t s
 
 /* Reads the parts to the image `now`, and judges them: number, checksum, size. */
 static int get_parts(luzhanem_durable *d, uint32_t sums[PARTS], char why[WHY]) {
-    struct reading k = { .to = &d->now };
+    struct reading k = { .to = d->now };
     struct value v[PARAMETERS] = { { d->channel, NULL, 0 } };
-    memset(&d->now, 0, sizeof d->now);
+    memset(d->now, 0, sizeof *d->now);
     if (d->engine->run(d->db, GET, v, part_row, &k, why) < 0)
         return failed(LUZHANEM_DURABLE_E_UNREACHABLE, why);
     if (k.other || k.next != PARTS)
         return failed(LUZHANEM_DURABLE_E_DAMAGED,
                       k.other ? "a part is not as it was written" : "a part is missing");
     for (int p = 0; p < PARTS; p++)
-        if (k.sizes[p] != size_of(&d->now, p))
+        if (k.sizes[p] != size_of(d->now, p))
             return failed(LUZHANEM_DURABLE_E_DAMAGED, "a part has another size");
     memcpy(sums, k.sums, sizeof k.sums);
     return 0;
@@ -344,8 +363,8 @@ static int get_parts(luzhanem_durable *d, uint32_t sums[PARTS], char why[WHY]) {
 
 /* The store becomes the image, where that is one: the store itself judges its ranges, and is left where it
  * refuses. */
-static int deliver(luzhanem_durable *d, luzhanem_store *s) {
-    int r = luzhanem_load(s, &d->now.whole);
+static int deliver(const image *from, luzhanem_store *s) {
+    int r = luzhanem_load(s, &from->whole);
     return r < 0 ? failed(r, "the channel's numbers") : 0;
 }
 
@@ -373,6 +392,7 @@ static luzhanem_durable *handle(const struct engine *engine, const char *url, co
     pthread_mutex_init(&d->mutex, NULL);
     pthread_cond_init(&d->ended, NULL);
     d->engine = engine, d->how = how;
+    d->now = &d->images[0], d->saved = &d->images[1];
     d->where = strdup(url + engine->skip), d->channel = strdup(channel);
     if (!d->where || !d->channel || getentropy(random, sizeof random) != 0)
         return luzhanem_durable_close(d), NULL;
@@ -466,13 +486,13 @@ static int take_over(luzhanem_durable *d, luzhanem_store *s) {
     if (r < 0) return r;
     luzhanem_store *judge = there ? malloc(sizeof *judge) : NULL;
     if (there && !judge) return failed(LUZHANEM_DURABLE_E_NO_MEMORY, NULL);
-    r = there ? deliver(d, judge) : 0;
+    r = there ? deliver(d->now, judge) : 0;
     free(judge);
     if (r < 0) return r;
     if (run(d, COMMIT, NULL, NULL, NULL, why) < 0 && confirm(d) < 0)
         return failed(LUZHANEM_DURABLE_E_UNREACHABLE, why);
     note(d, sums, d->generation);
-    return there ? deliver(d, s) : 0;
+    return there ? deliver(d->saved, s) : 0;
 }
 
 int luzhanem_durable_open(luzhanem_durable **out, const char *url, const char *channel, int how,
@@ -514,7 +534,7 @@ int luzhanem_durable_load(const char *url, const char *channel, luzhanem_store *
                                                       : read_channel(d, sums, why);
     if (drop(d) < 0 && r == 0)
         r = failed(LUZHANEM_DURABLE_E_UNREACHABLE, "the file changed while it was read");
-    if (r == 0) r = deliver(d, s);
+    if (r == 0) r = deliver(d->now, s);
     if (r == 0 && generation) *generation = d->generation;
     luzhanem_durable_close(d);
     return r;

@@ -15,6 +15,11 @@ enum {
     PAUSE = 500
 }; /* how long to wait for another connection, in ms; between two tries, in microseconds */
 
+/* Small pages: a save of a few bytes writes few of them. The leaf page of a long row has LOCAL bytes of it,
+ * and each overflow page OVERFLOW more (www.sqlite.org/fileformat2.html, 1.6). */
+#define PAGE "1024"
+enum { LOCAL = 104, OVERFLOW = 1020 };
+
 struct sqlite {
     sqlite3 *db;
     sqlite3_stmt *prepared[STATEMENT_COUNT];
@@ -26,8 +31,8 @@ static const char *sql_of(enum statement what) {
     switch (what) {
     case MAKE_PARTS:
         return "CREATE TABLE IF NOT EXISTS luzhanem_part (channel TEXT NOT NULL, part INTEGER NOT NULL, "
-               "bytes BLOB NOT NULL, "
-               "checksum INTEGER NOT NULL, PRIMARY KEY (channel, part))";
+               "checksum INTEGER NOT NULL, fill BLOB, bytes BLOB NOT NULL, padding BLOB, "
+               "PRIMARY KEY (channel, part))";
     case BEGIN_MAKE:
     case BEGIN_WRITE: return "BEGIN IMMEDIATE";
     case BEGIN_READ: return "BEGIN";
@@ -35,9 +40,8 @@ static const char *sql_of(enum statement what) {
         return "UPDATE luzhanem_channel SET generation = generation + 1 "
                "WHERE name = $1 AND holder = $2 AND generation = $3";
     case REPLACE:
-        return "INSERT INTO luzhanem_part (channel, part, bytes, checksum) VALUES ($1, $2, $3, $4) "
-               "ON CONFLICT (channel, part) DO UPDATE SET bytes = excluded.bytes, checksum = "
-               "excluded.checksum";
+        return "UPDATE luzhanem_part SET bytes = ?3, checksum = ?4, fill = ?5, padding = ?6 "
+               "WHERE channel = ?1 AND part = ?2";
     default: return luzhanem_sql_[what];
     }
 }
@@ -153,12 +157,12 @@ static int has_tables(struct sqlite *q, char why[WHY]) {
     return r;
 }
 
-/* Small pages: a save of a few bytes writes few of them. The log is folded into the file every 4 MB. */
+/* The log is folded into the file every 4 MB. */
 static int connect_writer(struct sqlite *q, const char *path, int how, char why[WHY]) {
     int r = open_file(q, path,
                       SQLITE_OPEN_READWRITE | (how & LUZHANEM_DURABLE_CREATE ? SQLITE_OPEN_CREATE : 0), why);
     if (r == SQLITE_OK && how & LUZHANEM_DURABLE_CREATE)
-        r = pragma(q->db, "PRAGMA page_size = 1024", NULL, why);
+        r = pragma(q->db, "PRAGMA page_size = " PAGE, NULL, why);
     if (r == SQLITE_OK) r = check_file(q, why);
     if (r == SQLITE_OK && !(how & LUZHANEM_DURABLE_CREATE)) r = has_tables(q, why);
     if (r == SQLITE_OK) r = set_wal(q, why);
@@ -186,14 +190,20 @@ static int bind(sqlite3_stmt *s, const struct value v[PARAMETERS]) {
     return r;
 }
 
-static int run(void *at, enum statement what, const struct value v[PARAMETERS], row_function *row,
-               void *context, char why[WHY]) {
-    struct sqlite *q = at;
-    int r = q->prepared[what] ? SQLITE_OK
-                              : sqlite3_prepare_v2(q->db, sql_of(what), -1, &q->prepared[what], NULL),
-        rows = 0;
-    sqlite3_stmt *s = q->prepared[what];
-    if (r == SQLITE_OK && v) r = bind(s, v);
+/* A table that an older version made has no padding: there a save writes more pages. */
+static int prepare(struct sqlite *q, enum statement what) {
+    if (q->prepared[what]) return SQLITE_OK;
+    int r = sqlite3_prepare_v2(q->db, sql_of(what), -1, &q->prepared[what], NULL);
+    if (r == SQLITE_ERROR && what == REPLACE)
+        r = sqlite3_prepare_v2(
+            q->db, "UPDATE luzhanem_part SET bytes = ?3, checksum = ?4 WHERE channel = ?1 AND part = ?2", -1,
+            &q->prepared[what], NULL);
+    return r;
+}
+
+/* Runs a statement that is prepared and bound, unless r has SQLite's code of an error there. */
+static int step(struct sqlite *q, sqlite3_stmt *s, int r, row_function *row, void *context, char why[WHY]) {
+    int rows = 0;
     if (r == SQLITE_OK) {
         for (r = sqlite3_step(s); r == SQLITE_ROW; r = sqlite3_step(s), rows++)
             if (row)
@@ -207,23 +217,57 @@ static int run(void *at, enum statement what, const struct value v[PARAMETERS], 
     return r == SQLITE_DONE ? rows : -1;
 }
 
+static int run(void *at, enum statement what, const struct value v[PARAMETERS], row_function *row,
+               void *context, char why[WHY]) {
+    struct sqlite *q = at;
+    int r = prepare(q, what);
+    if (r == SQLITE_OK && v) r = bind(q->prepared[what], v);
+    return step(q, q->prepared[what], r, row, context, why);
+}
+
+/* SQLite overwrites a row that keeps its size in place, and writes only those of its pages that change. So a
+ * checksum, for which it takes 4 or 6 bytes, is filled up to 6, and padding keeps the size while a part
+ * grows, until that needs one overflow page more. A row has a head of one byte, and one for each column, or
+ * two for a text or bytes longer than 57. */
+static size_t padding_of(const char *channel, const struct part *p) {
+    size_t name = strlen(channel), full = LOCAL, row = 7 + name + (name > 57) + 1 + 6 + p->n + (p->n > 57);
+    if (p->number == NUMBERS) return 0;
+    while (full < row) full += OVERFLOW;
+    return full - row > 57 ? full - row - 1 : full - row;
+}
+
+/* REPLACE or PUT of a part. */
+static int put(struct sqlite *q, enum statement what, const char *channel, const struct part *p,
+               char why[WHY]) {
+    static const uint8_t zeros[OVERFLOW];
+    int r = prepare(q, what), fill = p->checksum > INT32_MAX ? 0 : 2;
+    sqlite3_stmt *s = q->prepared[what];
+    if (r == SQLITE_OK) r = sqlite3_bind_text(s, 1, channel, -1, SQLITE_STATIC);
+    if (r == SQLITE_OK) r = sqlite3_bind_int(s, 2, p->number);
+    if (r == SQLITE_OK) r = sqlite3_bind_blob(s, 3, p->bytes, (int)p->n, SQLITE_STATIC);
+    if (r == SQLITE_OK) r = sqlite3_bind_int64(s, 4, p->checksum);
+    bool padded = r == SQLITE_OK && sqlite3_bind_parameter_count(s) == 6;
+    if (padded) r = sqlite3_bind_blob(s, 5, zeros, fill, SQLITE_STATIC);
+    if (padded && r == SQLITE_OK)
+        r = sqlite3_bind_blob(s, 6, zeros, (int)padding_of(channel, p), SQLITE_STATIC);
+    return step(q, s, r, NULL, NULL, why);
+}
+
+static int replace(void *at, const char *channel, const struct part *p, char why[WHY]) {
+    int r = put(at, REPLACE, channel, p, why);
+    return r == 0 ? put(at, PUT, channel, p, why) : r;
+}
+
 static int save(void *at, const struct save *save, char why[WHY]) {
-    char generation[24], number[8], sum[24];
+    char generation[24];
     snprintf(generation, sizeof generation, "%" PRId64, save->generation);
     struct value hold[PARAMETERS] = { { save->channel, NULL, 0 },
                                       { save->holder, NULL, 0 },
                                       { generation, NULL, 0 } };
     if (run(at, BEGIN_WRITE, NULL, NULL, NULL, why) < 0) return -1;
     int held = run(at, HOLD, hold, NULL, NULL, why);
-    for (int i = 0; i < save->count && held == 1; i++) {
-        const struct part *p = &save->parts[i];
-        snprintf(number, sizeof number, "%d", p->number);
-        snprintf(sum, sizeof sum, "%" PRId64, p->checksum);
-        struct value v[PARAMETERS] = {
-            { save->channel, NULL, 0 }, { number, NULL, 0 }, { NULL, p->bytes, p->n }, { sum, NULL, 0 }
-        };
-        if (run(at, REPLACE, v, NULL, NULL, why) != 1) return -1;
-    }
+    for (int i = 0; i < save->count && held == 1; i++)
+        if (replace(at, save->channel, &save->parts[i], why) != 1) return -1;
     if (held < 0 || run(at, COMMIT, NULL, NULL, NULL, why) < 0) return -1;
     return held;
 }

@@ -64,6 +64,8 @@ static void full_disk(const char *small) {
     snprintf(filler, sizeof filler, "%s", path_in(small, "filler"));
     must(luzhanem_fresh(&a, sizeof a, NULL), "fresh");
     must(luzhanem_durable_open(&d, url, "one", LUZHANEM_DURABLE_CREATE, &a, NULL), "open");
+    for (uint32_t i = 0; i < 8; i++) write_at(&a, i, i);
+    must(luzhanem_durable_sync(d), "sync");
     fill_disk(filler);
     int r = 0;
     uint32_t n = 0, saved = 0, fails = 0;
@@ -135,9 +137,11 @@ static void tampered(const char *folder) {
         { "UPDATE luzhanem_part SET bytes = zeroblob(5000) WHERE part = 2", LUZHANEM_DURABLE_E_DAMAGED },
         { "DELETE FROM luzhanem_part WHERE part = 8", LUZHANEM_DURABLE_E_DAMAGED },
         { "DELETE FROM luzhanem_part WHERE part = 9", LUZHANEM_DURABLE_E_DAMAGED },
-        { "INSERT INTO luzhanem_part SELECT channel, 10, bytes, checksum FROM luzhanem_part WHERE part = 0",
+        { "INSERT INTO luzhanem_part (channel, part, bytes, checksum) "
+          "SELECT channel, 10, bytes, checksum FROM luzhanem_part WHERE part = 0",
           LUZHANEM_DURABLE_E_DAMAGED },
-        { "INSERT INTO luzhanem_part SELECT channel, -1, bytes, checksum FROM luzhanem_part WHERE part = 0",
+        { "INSERT INTO luzhanem_part (channel, part, bytes, checksum) "
+          "SELECT channel, -1, bytes, checksum FROM luzhanem_part WHERE part = 0",
           LUZHANEM_DURABLE_E_DAMAGED },
         { "UPDATE luzhanem_part SET bytes = zeroblob(4) WHERE part = 1", LUZHANEM_DURABLE_E_DAMAGED },
         { "UPDATE luzhanem_part SET checksum = checksum + 1 WHERE part = 1", LUZHANEM_DURABLE_E_DAMAGED },
@@ -189,6 +193,62 @@ static void tampered(const char *folder) {
     }
 }
 
+/* The size of the log after a sync of one more append of 16 bytes, less that before it. */
+static long long log_grows(luzhanem_durable *d, const char *log) {
+    struct stat before, after;
+    must(luzhanem_begin(&a, 0), "begin");
+    must(luzhanem_write(&a, 0, 6, "0123456789abcdef", 16), "write");
+    must(luzhanem_commit(&a, 0, 0), "commit");
+    if (stat(log, &before) != 0) return -1;
+    must(luzhanem_durable_sync(d), "sync");
+    return stat(log, &after) == 0 ? (long long)(after.st_size - before.st_size) : -1;
+}
+
+/* 255 appends to one file, of which few need a page more: nearly all saves write `most` bytes or fewer. */
+static void appends(const char *url, const char *name, long long most) {
+    luzhanem_durable *d;
+    char log[740], words[100];
+    int small = 0;
+    snprintf(log, sizeof log, "%s-wal", url + strlen("sqlite:"));
+    must(luzhanem_fresh(&a, sizeof a, NULL), "fresh");
+    must(luzhanem_durable_open(&d, url, "one", 0, &a, NULL), "open");
+    for (int i = 0; i < 255; i++) {
+        long long n = log_grows(d, log);
+        small += n > 0 && n <= most;
+    }
+    snprintf(words, sizeof words, "%d of 255", small);
+    check(small > 230, name, words);
+    check(luzhanem_durable_load(url, "one", &seen, NULL) == 0 && same(&seen, &a), "  and all is there",
+          luzhanem_durable_error());
+    luzhanem_durable_close(d);
+}
+
+/* A table of parts without padding, as older versions made it, serves too; a part that is missing there is
+ * written. */
+static void padding(const char *folder) {
+    luzhanem_durable *d;
+    char url[720];
+    const char *names[] = { "padded.db", "older.db" };
+    for (int i = 0; i < 2; i++) {
+        snprintf(url, sizeof url, "%s", url_in(folder, names[i]));
+        must(luzhanem_fresh(&a, sizeof a, NULL), "fresh");
+        must(luzhanem_durable_open(&d, url, "one", LUZHANEM_DURABLE_CREATE, &a, NULL), "open");
+        luzhanem_durable_close(d);
+        if (i == 1)
+            run_sql(path_in(folder, names[i]), "ALTER TABLE luzhanem_part DROP COLUMN padding; "
+                                               "ALTER TABLE luzhanem_part DROP COLUMN fill");
+        appends(url, i ? "a table without padding" : "a save of a small append writes three or four pages",
+                i ? 16 * 1048 : 4 * 1048);
+    }
+    must(luzhanem_durable_open(&d, url, "one", 0, &a, NULL), "open");
+    run_sql(path_in(folder, "older.db"), "DELETE FROM luzhanem_part WHERE part = 2");
+    write_at(&a, 2, 78);
+    check(luzhanem_durable_sync(d) == 0 && luzhanem_durable_load(url, "one", &seen, NULL) == 0 &&
+              same(&seen, &a),
+          "a part that was removed is written again", luzhanem_durable_error());
+    luzhanem_durable_close(d);
+}
+
 static void nowhere(const char *folder) {
     refused("no file", LUZHANEM_DURABLE_E_UNREACHABLE, url_in(folder, "none.db"), 0);
     check(access(path_in(folder, "none.db"), F_OK) != 0, "no file: none is made", "");
@@ -236,6 +296,7 @@ int main(int n, char **v) {
     if (n != 2 && n != 4) return fprintf(stderr, "durable_faults FOLDER [SMALL READ_ONLY]\n"), 2;
     nowhere(v[1]);
     tampered(v[1]);
+    padding(v[1]);
     made_at_once(v[1]);
     if (n == 4) {
         full_disk(v[2]);

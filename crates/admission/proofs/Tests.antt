@@ -179,9 +179,9 @@ module _ (r : List ℕ) where
       ≡ below countersIn 8 && below standingsIn 8
   open-decides =
       below-same _ _ 8 (λ t h.
-        let x = transactionOf r t in
-        let few = leb (x .used .records) 64 && leb (x .used .bytes) 4096 in
-        ap (λ (b : Bool). not (x .begun) || (few && b)) (standings-decide r t) ∙ shared-out (x .begun) few _)
+      let x = transactionOf r t in
+      let few = leb (x .used .records) 64 && leb (x .used .bytes) 4096 in
+      ap (λ (b : Bool). not (x .begun) || (few && b)) (standings-decide r t) ∙ shared-out (x .begun) few _)
       ∙ sym (below-both countersIn standingsIn 8)
 
   transaction-parts : (t : ℕ) → transactionIn (transactionOf r t) (journalOf r) t

@@ -6,7 +6,7 @@ use Rattle.state.specs.Journal.{decodedAs, decoded, writeRecordAt, withRecordAt
 use Rattle.admission.specs.FirstRefusal.{below, sum, unless}
 use Rattle.admission.specs.Admission.{windowIn, standingIn, endsWithin, placeIn, recordIn, lengthsBefore, journalIn}
 use Rattle.admission.specs.Admission.{transactionIn}
-use Rattle.admission.specs.Admission.{tablesIn, placedIn, landedIn, grantPasses, undoIn, storeIn}
+use Rattle.admission.specs.Admission.{tablesIn, landedIn, grantPasses, undoIn, storeIn}
 use Rattle.admission.specs.Admission.{sizesIn, firstTests, shared, admission, admissionOfBegin, admissionOfFresh}
 use Rattle.admission.specs.Admission.{windowRefusal}
 use Rattle.admission.specs.Admission.{admissionOfWindow, noneBegun, admissionOfUndo, admissionOfDispatch}
@@ -17,7 +17,7 @@ use Rattle.admission.specs.ForgedStates.{behind, ahead, inFront, standsF
 pub forged-records : Forged
 unfolding ended begun decodedAs decoded writeRecordAt withRecordAt withRecords below sum minuteIn windowIn standingIn endsWithin
     placeIn
-    recordIn lengthsBefore journalIn transactionIn tablesIn placedIn landedIn grantPasses undoIn storeIn unless sizesIn firstTests
+    recordIn lengthsBefore journalIn transactionIn tablesIn landedIn grantPasses undoIn storeIn unless sizesIn firstTests
     shared
     admission admissionOfBegin admissionOfFresh windowRefusal admissionOfWindow noneBegun admissionOfUndo admissionOfDispatch
     forged

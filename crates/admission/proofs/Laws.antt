@@ -18,7 +18,7 @@ use Rattle.state.specs.declared.Transaction.{Transaction}
 use Rattle.state.specs.declared.Undo.{Undo}
 use Rattle.state.specs.declared.StoreMeaning.{StoreMeaning}
 use Rattle.state.specs.declared.journal.WriteRecord.{WriteRecord}
-use Rattle.state.specs.StoreMeaning.{transaction, standingAt, windowAt}
+use Rattle.state.specs.StoreMeaning.{ended, transaction, standingAt, windowAt}
 use Rattle.state.specs.Journal.{writeRecordAt, lastGrant}
 use Rattle.admission.specs.FirstRefusal.{below, unless}
 pub use Rattle.buffers.proofs.BelowLaws.{and-left, and-right, and-both, and-true}
@@ -26,7 +26,7 @@ pub use Rattle.buffers.proofs.BelowLaws.{below-zero, below-more, below-at, belo
 pub use Rattle.buffers.proofs.BelowLaws.{some-none, some-more, some-found, sum-zero, sum-more, sum-same}
 use Rattle.admission.specs.Admission.{standingIn, endsWithin, placeIn, recordIn, lengthsBefore, journalIn, transactionIn}
 use Rattle.admission.specs.Admission.{windowIn}
-use Rattle.admission.specs.Admission.{tablesIn, placedIn, landedIn, grantPasses, undoIn, storeIn, Sizes, sizesIn}
+use Rattle.admission.specs.Admission.{tablesIn, landedIn, grantPasses, undoIn, storeIn, Sizes, sizesIn}
 use Rattle.admission.specs.Admission.{firstTests}
 use Rattle.admission.specs.Admission.{shared, windowRefusal, admissionOfWindow, noneBegun, admissionOfUndo}
 use Rattle.admission.specs.Admission.{admissionOfDispatch}
@@ -339,23 +339,6 @@ module _ (u : Undo) (journal : List ℕ) where
       (below-all (λ f. leb (getD (u .lengths) f 0) 4096) 8 (λ f l. le-leb _ _ (r .lengths f l))))
       (and-both _ _ (below-all (λ k. landedIn (writeRecordAt journal lastGrant k)) _ (r .writes)) (eq-eqb _ _ (r .total))))
 
--- A record of the last grant in range: its descriptor, and where it ends.
-placed-end : (q : Place) (n : ℕ) → placedIn q n ≡ true → placeNumber q + n ≤ 4096
-unfolding placedIn
-placed-end (At p) n e = leb-true _ _ e
-placed-end (After a) n e = absurd (true≢false (sym e))
-
-pub landed-in : (w : WriteRecord) → landedIn w ≡ true → (w .descriptor ≤ 15) × (placeNumber (w .place) + w .length ≤ 4096)
-unfolding landedIn
-landed-in w e =
-    let within = placedIn (w .place) (w .length) in
-    let low = leb (w .descriptor) 15 in
-    (leb-true _ _ (and-left low within e), placed-end (w .place) (w .length) (and-right low within e))
-
-pub landed-in-intro : (d p n : ℕ) → d ≤ 15 → p + n ≤ 4096 → landedIn (record { descriptor = d; place = At p; length = n }) ≡ true
-unfolding landedIn placedIn
-landed-in-intro d p n l m = and-both _ _ (le-leb _ _ l) (le-leb _ _ m)
-
 -- What the ranges say of the record.
 pub record InRange (s : StoreMeaning) (journal : List ℕ) : Type 0 where
   pub files : (d : ℕ) → d < 16 → getD (s .filenumbers) d 0 ≤ 7
@@ -446,17 +429,24 @@ record-in x w e =
 -- A standing is in range where the numbers that it carries are.
 pub standing-numbers : (z : Standing) → standingIn z ≡ leb (advance z) 4096 && leb (offsetOf z) 4096
 unfolding standingIn
-standing-numbers Untouched = refl
-standing-numbers (Placed o) = refl
-standing-numbers (Deferred a) = sym (and-true (leb a 4096))
-standing-numbers (Moved a o) = refl
-standing-numbers (Known o) = refl
+standing-numbers z = refl
 
 -- A place in range ends at most at 4,096; without a place, also within the standing's advance.
 pub place-end : (z : Standing) (q : Place) (n : ℕ) → placeIn z q n ≡ true → placeNumber q + n ≤ 4096
 unfolding placeIn
 place-end z (At p) n e = leb-true _ _ e
 place-end z (After a) n e = leb-true _ _ (and-left (leb (a + n) 4096) (endsWithin z (a + n)) e)
+
+-- A record of the last grant in range: its descriptor, and where it ends.
+pub landed-in : (w : WriteRecord) → landedIn w ≡ true → (w .descriptor ≤ 15) × (placeNumber (w .place) + w .length ≤ 4096)
+unfolding landedIn
+landed-in w e =
+    let r = record-in ended w e in
+    (r .descriptor, place-end (standingAt ended (w .descriptor)) (w .place) (w .length) (r .place))
+
+pub landed-in-intro : (d p n : ℕ) → d ≤ 15 → p + n ≤ 4096 → landedIn (record { descriptor = d; place = At p; length = n }) ≡ true
+unfolding landedIn recordIn placeIn
+landed-in-intro d p n l m = and-both _ _ (le-leb _ _ l) (le-leb _ _ m)
 
 pub place-within : (z : Standing) (a n : ℕ) → placeIn z (After a) n ≡ true → endsWithin z (a + n) ≡ true
 unfolding placeIn

@@ -3,7 +3,8 @@ use mathlib.Core.Bool.{Bool, true, false, not, _&&_, _||_, false≢true}
 use mathlib.Core.List.{List}
 use mathlib.Core.Path.{_≡_, refl, sym, ap, ap₂, _∙_}
 use native.Mathlib.Numerals.{add-one}
-use lib.ListN.{getD}
+use lib.ListN.{getD, replicate, getD-replicate, List·getD-eq-default}
+use mathlib.Core.Logic.{⊎-elim}
 use lib.Dec.{leb, eqb}
 use Prim.Native.Nat.{ℕ, zero, suc, _+_, _≤_, _<_}
 use native.Mathlib.Omega.{arith}
@@ -17,7 +18,9 @@ use Rattle.state.specs.declared.Transaction.{Transaction}
 use Rattle.state.specs.declared.Undo.{Undo}
 use Rattle.state.specs.declared.StoreMeaning.{StoreMeaning}
 use Rattle.state.specs.declared.journal.WriteRecord.{WriteRecord}
-use Rattle.state.specs.StoreMeaning.{transaction, standingAt, windowAt}
+use Rattle.state.specs.StoreMeaning.{noDescriptor, ended, transaction, standingAt, windowAt}
+use Rattle.state.specs.declared.Descriptor.{Descriptor}
+use Rattle.buffers.proofs.PartLaws.{le-or-lt}
 use Rattle.windows.specs.Windows.{minuteIn}
 use Rattle.state.specs.Layout.{transactionOf, storeOf, journalOf}
 use Rattle.state.proofs.LayoutLaws.{transaction-of}
@@ -26,7 +29,7 @@ use Rattle.state.specs.WriteEnds.{placeEndsBy, endsBy}
 use Rattle.admission.specs.FirstRefusal.{below}
 use Rattle.admission.specs.Admission.{standingIn, endsWithin, placeIn, recordIn, lengthsBefore, journalIn, journalPasses}
 use Rattle.admission.specs.Admission.{transactionIn}
-use Rattle.admission.specs.Admission.{windowIn, tablesIn, placedIn, landedIn, grantPasses, undoIn, noneBegun}
+use Rattle.admission.specs.Admission.{windowIn, tablesIn, landedIn, grantPasses, undoIn, noneBegun}
 use Rattle.admission.proofs.Laws.{and-left, and-right, and-both, and-true, below-zero, below-at, below-all, below-same}
 use Rattle.admission.proofs.Laws.{sum-zero, sum-more, standing-numbers}
 use Rattle.buffers.proofs.BelowLaws.{below-both}
@@ -57,7 +60,7 @@ within-waits : (z : Standing) (e : ℕ) → standingIn z ≡ true → leb e 4096
 unfolding standingIn endsWithin
 within-waits Untouched e h = and-false (leb e 4096)
 within-waits (Placed o) e h = and-false (leb e 4096)
-within-waits (Deferred a) e h = both-under e a h
+within-waits (Deferred a) e h = both-under e a (and-left (leb a 4096) true h)
 within-waits (Moved a o) e h = both-under e a (and-left (leb a 4096) (leb o 4096) h)
 within-waits (Known o) e h = and-false (leb e 4096)
 
@@ -94,24 +97,32 @@ lengths-more journal t n s v e f = rw (e, f) (sym (sum-more _ n))
 -- ---- a write record of the last grant
 
 module _ (q : Place) (n : ℕ) where
-  pub placed-decides : {p : ℕ} (k m : ℕ) → q ≡ At p → k ≡ placeNumber q → m ≡ n → leb (k + m) 4096 ≡ placedIn q n
-  unfolding placedIn
+  pub placed-decides : {p : ℕ} (k m : ℕ) → q ≡ At p → k ≡ placeNumber q → m ≡ n → leb (k + m) 4096 ≡ placeIn Untouched q n
+  unfolding placeIn
   placed-decides k m is-at is-k is-m = rw (is-k, is-m, is-at)
 
-  pub unplaced-out : {a : ℕ} → q ≡ After a → false ≡ placedIn q n
-  unfolding placedIn
-  unplaced-out is-after = rw is-after
+  pub unplaced-out : {a : ℕ} → q ≡ After a → false ≡ placeIn Untouched q n
+  unfolding placeIn endsWithin
+  unplaced-out {a} is-after = rw is-after (sym (and-false (leb (a + n) 4096)))
+
+-- An ended transaction has sixteen Untouched descriptors.
+untouched : (d : ℕ) → standingAt ended d ≡ Untouched
+unfolding ended
+untouched d =
+    ap (λ (q : Descriptor). q .standing)
+    (⊎-elim (λ l. List·getD-eq-default (replicate 16 noDescriptor) noDescriptor l)
+    (λ l. getD-replicate 16 d noDescriptor noDescriptor l) (le-or-lt 16 d))
 
 -- Record w, read from the journal.
 module _ (w v : WriteRecord) (is-v : w ≡ v) where
   pub high-out : 15 < w .descriptor → landedIn v ≡ false
-  unfolding landedIn
+  unfolding landedIn recordIn
   high-out l = rw (← is-v, lt-leb (w .descriptor) 15 l)
 
-  module _ (low : w .descriptor ≤ 15) (r : Bool) (is-r : r ≡ placedIn (w .place) (w .length)) where
+  module _ (low : w .descriptor ≤ 15) (r : Bool) (is-r : r ≡ placeIn Untouched (w .place) (w .length)) where
     landed-decides : landedIn v ≡ r
-    unfolding landedIn
-    landed-decides = rw (← is-v, le-leb (w .descriptor) 15 low, is-r)
+    unfolding landedIn recordIn
+    landed-decides = rw (← is-v, le-leb (w .descriptor) 15 low, untouched (w .descriptor), is-r)
 
     pub landed-out : not r ≡ true → landedIn v ≡ false
     landed-out h = landed-decides ∙ not-true _ h

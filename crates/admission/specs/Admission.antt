@@ -10,35 +10,27 @@ use Rattle.limits.specs.Limits.{logBytes, undoBytes}
 use Rattle.windows.specs.declared.Window.{Window}
 use Rattle.windows.specs.Windows.{minuteIn}
 use Rattle.standings.specs.declared.Standing.{Standing}
-use Rattle.standings.specs.declared.Standing.the-variants.{Untouched, Placed, Deferred, Moved, Known}
+use Rattle.standings.specs.Table.{advance, offsetOf, mayWait}
 use Rattle.standings.specs.declared.Place.{Place}
 use Rattle.standings.specs.declared.Place.the-variants.{At, After}
 use Rattle.state.specs.declared.Transaction.{Transaction}
 use Rattle.state.specs.declared.Undo.{Undo}
 use Rattle.state.specs.declared.StoreMeaning.{StoreMeaning}
 use Rattle.state.specs.declared.journal.WriteRecord.{WriteRecord}
-use Rattle.state.specs.StoreMeaning.{transaction, standingAt, windowAt}
+use Rattle.state.specs.StoreMeaning.{ended, transaction, standingAt, windowAt}
 use Rattle.state.specs.Journal.{writeRecordAt, lastGrant}
 use Rattle.state.specs.Outcomes.{number}
 use Rattle.admission.specs.declared.Gate.{Gate}
 use Rattle.admission.specs.declared.Gate.the-variants.{Pass, Refused}
 use Rattle.admission.specs.FirstRefusal.{unless, below, sum}
 
--- "offsets and advances of standings at most 4,096" [R-16.4]
+-- "offsets and advances of standings at most 4,096" [R-16.4]; one that a standing does not carry counts as 0
 unfoldable pub standingIn : Standing → Bool
-standingIn Untouched = true
-standingIn (Placed o) = leb o fileBytes
-standingIn (Deferred a) = leb a fileBytes
-standingIn (Moved a o) = leb a fileBytes && leb o fileBytes
-standingIn (Known o) = leb o fileBytes
+standingIn z = leb (advance z) fileBytes && leb (offsetOf z) fileBytes
 
 -- "a record without a place only under Deferred or Moved, ending at most at that advance" [R-16.4]
 unfoldable pub endsWithin : Standing → ℕ → Bool
-endsWithin Untouched end = false
-endsWithin (Placed o) end = false
-endsWithin (Deferred a) end = leb end a
-endsWithin (Moved a o) end = leb end a
-endsWithin (Known o) end = false
+endsWithin z end = mayWait z && leb end (advance z)
 
 -- "its place or advance plus length at most 4,096" [R-16.4], and the sentence before for one without a place
 unfoldable pub placeIn : Standing → Place → ℕ → Bool
@@ -89,13 +81,10 @@ tablesIn s journal =
     && below (λ t. transactionIn (transaction s t) journal t) transactionCount
 
 -- 02, F-13: "Check 2 covers what the record holds for this as it covers a log's placed records, offsets and
--- lengths." [R-16.4] A record of the last grant has a place, and no standing bounds it.
-unfoldable pub placedIn : Place → ℕ → Bool
-placedIn (At p) n = leb (p + n) fileBytes
-placedIn (After a) n = false
-
+-- lengths." [R-16.4] The transaction of the last grant has ended: its descriptors are Untouched, so that no
+-- record may be without a place.
 unfoldable pub landedIn : WriteRecord → Bool
-landedIn w = leb (w .descriptor) lastDescriptor && placedIn (w .place) (w .length)
+landedIn w = recordIn ended w
 
 -- "records at most 64, their lengths adding to the data used, at most 4,096" [R-16.4]: those of the last
 -- grant; the part that goes over them.

@@ -38,11 +38,12 @@ ghost use lib.Dec.{leb};
 ghost use lib.ListN.{getD, length};
 ghost use Prim.Native.Nat.{_<_, _≤_};
 ghost use Rattle.limits.specs.Limits.{lastFile, descriptorCount, transactionCount, recordCount, logBytes};
+ghost use Rattle.standings.specs.declared.Standing.the-variants.{Untouched};
 ghost use Rattle.state.specs.StoreMeaning.{standingAt};
 ghost use Rattle.state.specs.Layout.{transactionOf, storeOf, journalOf, stateLength};
 ghost use Rattle.admission.specs.FirstRefusal.{below};
 ghost use Rattle.admission.specs.Admission.{standingIn, journalPasses, transactionIn, tablesIn};
-ghost use Rattle.admission.specs.Admission.{placedIn, grantPasses, undoIn, storeIn, sized, sizesIn};
+ghost use Rattle.admission.specs.Admission.{placeIn, grantPasses, undoIn, storeIn, sized, sizesIn};
 ghost use Rattle.admission.specs.Admission.{noneBegun};
 ghost use Rattle.admission.specs.Admission.{firstTests, shared, admissionOfWindow, admissionOfUndo};
 ghost use Rattle.admission.specs.Admission.{admissionOfFresh, gateNumber};
@@ -174,7 +175,7 @@ fn tables_in(state: &State) -> bool
 
 // A write of n bytes of the last grant is in range: it has a place.
 fn placed_in(place: Place, n: u16) -> bool
-    ensures { λ r. ⌜ r ≡ placedIn place n ⌝ }
+    ensures { λ r. ⌜ r ≡ placeIn Untouched place n ⌝ }
 {
     let end = wide(place.number()) + wide(n);
     match place {

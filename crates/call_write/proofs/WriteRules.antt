@@ -29,7 +29,7 @@ use Rattle.state.proofs.LayoutLaws.{length-journal, transaction-of, store-with-
 use Rattle.state.proofs.LayoutLaws.{journal-with-used, length-with-used, store-with-descriptor, journal-with-descriptor}
 use Rattle.admission.specs.Admission.{admission, standingIn}
 use Rattle.admission.specs.FirstRefusal.{unless}
-use Rattle.admission.proofs.Laws.{and-right, number-suc}
+use Rattle.admission.proofs.Laws.{and-left, and-right, number-suc}
 use Rattle.spec.specs.Items.{Prog, done}
 use Rattle.spec.specs.Messages.{write, bufferOf, on}
 use Rattle.spec.specs.Steps.{Stepped, refuse, accept, check, step, writeStep, written, isReadCall, refusesStale}
@@ -79,7 +79,7 @@ place-within : (z : Standing) → standingIn z ≡ true → placeNumber (writePl
 unfolding standingIn writePlace
 place-within Untouched e = omega arith
 place-within (Placed o) e = leb-true o 4096 e
-place-within (Deferred a) e = leb-true a 4096 e
+place-within (Deferred a) e = leb-true a 4096 (and-left (leb a 4096) true e)
 place-within (Moved a o) e = leb-true o 4096 (and-right (leb a 4096) (leb o 4096) e)
 place-within (Known o) e = leb-true o 4096 e
 

@@ -24,7 +24,7 @@ pub seek-in : (v : ℕ) (z : Standing) → v ≤ fileBytes → standingIn z ≡ 
 unfolding standingIn afterSeek
 seek-in v Untouched h e = le-leb v 4096 h
 seek-in v (Placed o) h e = le-leb v 4096 h
-seek-in v (Deferred a) h e = and-both (leb a 4096) (leb v 4096) e (le-leb v 4096 h)
+seek-in v (Deferred a) h e = and-both (leb a 4096) (leb v 4096) (and-left (leb a 4096) true e) (le-leb v 4096 h)
 seek-in v (Moved a o) h e = and-both (leb a 4096) (leb v 4096) (and-left (leb a 4096) (leb o 4096) e) (le-leb v 4096 h)
 seek-in v (Known o) h e = le-leb v 4096 h
 
@@ -32,9 +32,9 @@ pub write-in : (n : ℕ) (z : Standing) → placeNumber (writePlace z) + n ≤ f
     → standingIn (afterWrite n z)
     ≡ true
 unfolding standingIn afterWrite writePlace
-write-in n Untouched h e = bounded n (0 + n) h (omega arith)
+write-in n Untouched h e = and-both (leb n 4096) true (bounded n (0 + n) h (omega arith)) refl
 write-in n (Placed o) h e = le-leb (o + n) 4096 h
-write-in n (Deferred a) h e = le-leb (a + n) 4096 h
+write-in n (Deferred a) h e = and-both (leb (a + n) 4096) true (le-leb (a + n) 4096 h) refl
 write-in n (Moved a o) h e = and-both (leb a 4096) (leb (o + n) 4096) (and-left (leb a 4096) (leb o 4096) e)
     (le-leb (o + n) 4096 h)
 write-in n (Known o) h e = le-leb (o + n) 4096 h

@@ -24,7 +24,7 @@ use Rattle.state.specs.declared.outcomes.Refusal.the-variants.{Stale}
 use Rattle.state.specs.declared.outcomes.Outcome.the-variants.{Granted, Refused}
 use Rattle.state.specs.StoreMeaning.{transaction, noTransaction, windowAt, ended, withStale, withOffsets, withLengths, withUndo}
 use Rattle.state.specs.StoreMeaning.{withTransactions, withTransaction}
-use Rattle.state.specs.Layout.{storeOf, journalOf, stateLength}
+use Rattle.state.specs.Layout.{transactionOf, storeOf, journalOf, stateLength}
 use Rattle.state.specs.Updates.{withStaleAt, resetAt}
 use Rattle.state.specs.Outcomes.{granted, refused, number, said}
 use Rattle.state.proofs.LayoutLaws.{transaction-of, length-with-stale, store-with-stale, journal-with-stale, store-reset}
@@ -207,6 +207,16 @@ module _ (m : Machine) (ss : List Setting) (t octet : ℕ) (small : t < transact
         (getD (set (m .store .transactions) t ended) u noTransaction)) 8
         ≡ tabulate (afterCommit t ss m) 8
     transactions-are = table-same _ _ 8 after-same
+
+-- What is saved of a grant and the lengths that it raises leave its transaction as it was.
+pub still-own : (state holding raised : List ℕ) (t : ℕ) (lengths : List ℕ) (used : Used) → t < transactionCount
+    → GrantPreserved state holding t used → Means holding raised (withLengths lengths (storeOf holding))
+    → transactionOf raised t ≡ transactionOf state t
+still-own state holding raised t lengths used small holds raises =
+    sym (transaction-of raised t small)
+    ∙ ap (λ (s : StoreMeaning). transaction s t) (raises .store)
+    ∙ ap (λ (s : StoreMeaning). transaction s t) (holds .store)
+    ∙ transaction-of state t small
 
 -- What the grant leaves, part by part.
 module _ (state files logs marks undo : List ℕ) (t : ℕ) (x : Transaction) (can : CanGrant state files logs marks undo t x)

@@ -5,8 +5,9 @@ use buffers::marks::unmark;
 use commit_apply::offsets::places_fit;
 use commit_windows::has_byte_for_closed;
 use state::layout::State;
+use state::layout::is_begun;
+use state::layout::is_stale;
 use state::layout::reset;
-use state::layout::transaction_at;
 use state::outcomes::Outcome;
 use state::outcomes::Refusal;
 use windows::minute_in;
@@ -32,14 +33,13 @@ pub fn commit(
     if let Gate::Refused(r) = gate {
         return Outcome::Refused(r);
     }
-    let x = transaction_at(state, t);
-    if !x.begun {
+    if !is_begun(state, t) {
         return Outcome::Refused(Refusal::NotOpen);
     }
     if !minute_in(minute) {
         return Outcome::Refused(Refusal::NoSuchMinute);
     }
-    if x.stale {
+    if is_stale(state, t) {
         unmark(marks, t);
         reset(state, t, false);
         return Outcome::Refused(Refusal::Stale);
@@ -47,8 +47,9 @@ pub fn commit(
     if has_byte_for_closed(state, t, minute as u16) {
         return Outcome::Refused(Refusal::FileClosed);
     }
-    if !places_fit(state, x) {
+    if !places_fit(state, t) {
         return Outcome::Refused(Refusal::AppendPastEnd);
     }
-    grant(state, files, logs, marks, undo, t, x)
+    let octet = grant(state, files, &logs[0..], marks, undo, t);
+    Outcome::Granted(octet)
 }

@@ -4,6 +4,7 @@ use mathlib.Core.List.{List}
 use mathlib.Core.Path.{_≡_, refl, sym, ap, ap₂, _∙_}
 use lib.Dec.{eqb}
 use lib.ListN.{length, getD, set, length-set}
+use lib.Seq.{set-getD}
 use borrow.Author.Tests.{ltb-true, ltb-false, eq-eqb, ne-eqb}
 use native.Mathlib.Numerals.{add-one}
 use native.Mathlib.Omega.{arith}
@@ -101,6 +102,16 @@ module _ (filenumbers offsets journal : List ℕ) (t : ℕ) where
             (λ q. ne (sym q ∙ sym ef))) in
             let m = reach-more j k in
             omega arith
+
+    -- One that ends within its file's length raises none.
+    pub lengths-still : (k f end : ℕ) → f < fileCount → f ≡ getD filenumbers (writeRecordAt journal t k .descriptor) 0
+        → end ≡ writeEnd (landsAt (getD offsets (writeRecordAt journal t k .descriptor) 0) (writeRecordAt journal t k .place))
+        (writeRecordAt journal t k .length)
+        → end ≤ getD (lengthsLanded filenumbers offsets journal t lengths k) f 0
+        → lengthsLanded filenumbers offsets journal t lengths k ≡ lengthsLanded filenumbers offsets journal t lengths (k + 1)
+    lengths-still k f end h ef ee within =
+        sym (set-getD (lengthsLanded filenumbers offsets journal t lengths k) f 0)
+        ∙ lengths-more k f end (getD (lengthsLanded filenumbers offsets journal t lengths k) f 0) h ef ee (omega arith)
 
 module _ (F : ℕ → ℕ) (v : Values) (ws : List Write) where
   lengths-filled : (lengths : List ℕ) → length lengths ≡ fileCount → ((f : ℕ) → v (fileLength f) ≡ getD lengths f 0) → (n : ℕ)

@@ -1,5 +1,6 @@
 -- Commit's placing, and the offsets that it sets, descriptor by descriptor.
-use mathlib.Core.Bool.{Bool, true, false, cond}
+use mathlib.Core.Bool.{Bool, true, false, cond, not, _&&_}
+use mathlib.Core.Logic.{⊎-elim}
 use mathlib.Core.List.{List, [], _∷_}
 use mathlib.Core.Path.{_≡_, refl, sym, ap, _∙_}
 use lib.Dec.{leb}
@@ -12,13 +13,16 @@ use Prim.Native.Nat.{ℕ, zero, suc, _+_, _-_, _≤_, _<_}
 use Rattle.limits.specs.Limits.{fileBytes, descriptorCount}
 use Rattle.state.specs.declared.StoreMeaning.{StoreMeaning}
 use Rattle.state.specs.declared.Transaction.{Transaction}
-use Rattle.state.specs.StoreMeaning.{standingAt, withOffsets}
+use Rattle.state.specs.StoreMeaning.{standingAt, dirtyAt, withOffsets}
 use Rattle.state.specs.Layout.{storeOf, journalOf}
 use Rattle.state.specs.Updates.{withOffsetAt}
 use Rattle.state.proofs.LayoutLaws.{store-with-offset, journal-with-offset}
-use Rattle.standings.specs.Table.{advance, finalOffset}
+use Rattle.buffers.proofs.PartLaws.{le-or-lt}
+use Rattle.standings.specs.declared.Standing.{Standing}
+use Rattle.standings.specs.declared.Standing.the-variants.{Untouched, Placed, Deferred, Moved, Known}
+use Rattle.standings.specs.Table.{advance, finalOffset, mayWait, isTouched}
 use Rattle.admission.specs.FirstRefusal.{below}
-use Rattle.admission.proofs.Laws.{below-at, below-fails}
+use Rattle.admission.proofs.Laws.{below-at}
 use Rattle.spec.specs.Items.{offset}
 use Rattle.spec.specs.Commits.{setsOffset, offsetSettings, fits}
 use Rattle.spec.specs.Calls.{landOffset, landOffsets}
@@ -31,19 +35,25 @@ use Rattle.commit_apply.proofs.Settings.{offsets-append}
 abbrev pub offsetFitsAt : StoreMeaning → Transaction → ℕ → Bool
 offsetFitsAt s x d = leb (getD (s .offsets) d 0 + advance (standingAt x d)) 4096
 
+waiting-fits : (a c end : ℕ) → c ≤ fileBytes → end ≡ fileBytes - c + 1 → not (leb end a) ≡ leb (c + a) 4096
+waiting-fits a c end l e =
+    ⊎-elim (λ h. ap not (le-leb end a h) ∙ sym (lt-leb (c + a) 4096 (omega arith)))
+    (λ h. ap not (lt-leb end a h) ∙ sym (le-leb (c + a) 4096 (omega arith)))
+    (le-or-lt end a)
+
+-- It does where no write may wait past the room behind that offset.
+pub room-fits : (z : Standing) (c end : ℕ) → c ≤ fileBytes → end ≡ fileBytes - c + 1
+    → not (mayWait z && leb end (advance z)) ≡ leb (c + advance z) 4096
+room-fits Untouched c end l e = sym (le-leb (c + 0) 4096 (omega arith))
+room-fits (Placed o) c end l e = sym (le-leb (c + 0) 4096 (omega arith))
+room-fits (Deferred a) c end l e = waiting-fits a c end l e
+room-fits (Moved a o) c end l e = waiting-fits a c end l e
+room-fits (Known o) c end l e = sym (le-leb (c + 0) 4096 (omega arith))
+
 module _ (s : StoreMeaning) (x : Transaction) where
-  pub placed-all : below (offsetFitsAt s x) 16 ≡ true → placesFit s x ≡ true
+  pub placed-all : below (offsetFitsAt s x) 16 ≡ placesFit s x
   unfolding fits offsetsOnly
-  placed-all e = e
-
-  module _ (d c a : ℕ) (committed : c ≡ getD (s .offsets) d 0) (limit : c ≤ fileBytes) (e : a ≡ advance (standingAt x d)) where
-    pub placed-not : d < descriptorCount → 4096 - c < a → placesFit s x ≡ false
-    unfolding fits offsetsOnly
-    placed-not l h = below-fails (offsetFitsAt s x) d 16 l
-        (lt-leb (getD (s .offsets) d 0 + advance (standingAt x d)) 4096 (omega arith))
-
-    pub fits-so : a ≤ fileBytes - c → offsetFitsAt s x d ≡ true
-    fits-so h = le-leb (getD (s .offsets) d 0 + advance (standingAt x d)) 4096 (omega arith)
+  placed-all = refl
 
   pub fits-at : placesFit s x ≡ true → (d : ℕ) → d < descriptorCount
       → getD (s .offsets) d 0 + advance (standingAt x d) ≤ fileBytes
@@ -97,6 +107,15 @@ module _ (x : Transaction) (offsets : List ℕ) where
           ap (λ (l : List ℕ). getD l d 0) (offsets-more n true e)
           ∙ getD-set-other (offsetsSet n) n d (finalOffset (getD offsets n 0) (standingAt x n)) 0 (λ p. omega arith)
       pick false e = ap (λ (l : List ℕ). getD l d 0) (offsets-more n false e)
+
+  -- Where none of the first n descriptors is dirty, none of their offsets is set.
+  pub offsets-clean : (n : ℕ) → ((d : ℕ) → d < n → dirtyAt x d ≡ false) → offsetsSet n ≡ offsets
+  unfolding setsOffset
+  offsets-clean zero h = offsets-none
+  offsets-clean (suc n) h =
+      ap offsetsSet (sym (add-one n))
+      ∙ sym (offset-preserved n (ap (λ (b : Bool). b && isTouched (standingAt x n)) (h n (omega arith))))
+      ∙ offsets-clean n (λ d l. h d (omega arith))
 
 -- ---- and put into a state
 

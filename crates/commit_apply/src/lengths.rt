@@ -1,7 +1,6 @@
 // The committed lengths that a commit raises.
 use crate::writes::landing_at;
 use counters::Used;
-use limits::larger;
 use limits::wide;
 use state::FILES;
 use state::layout::State;
@@ -52,7 +51,9 @@ pub fn lengths_after(state: &State, t: usize, used: Used) -> [u16; FILES]
         let w = landing_at(state, t, k);
         let f = w.file;
         let end = write_end(w.place, w.length);
-        out[f] = larger(wide(out[f]), end) as u16;
+        if wide(out[f]) < end {
+            out[f] = end as u16;
+        }
         k += 1;
     }
     out

@@ -1,37 +1,41 @@
 // Commit's placing, and the committed offsets that a commit sets.
 use limits::FILE_END;
+use limits::wide;
 use state::DESCRIPTORS;
 use state::Transaction;
 use state::layout::State;
 use state::layout::offset_at;
 use state::layout::put_offset;
+use state::layout::transaction_at;
+use state::readers::any_dirty;
+use state::readers::may_wait_to;
 ghost use mathlib.Core.Bool.{true};
 ghost use mathlib.Core.Path.{_≡_};
 ghost use Prim.Native.Nat.{ℕ, _≤_, _<_};
 ghost use lib.ListN.{length, getD};
-ghost use Rattle.limits.specs.Limits.{fileBytes, descriptorCount};
-ghost use Rattle.state.specs.Layout.{storeOf, stateLength};
+ghost use Rattle.limits.specs.Limits.{fileBytes, descriptorCount, transactionCount};
+ghost use Rattle.state.specs.Layout.{storeOf, transactionOf, stateLength};
 ghost use Rattle.commit_apply.specs.Apply.{placesFit, withOffsetsOf, Becomes};
 
-// Commit's placing: every advance of x fits behind its committed offset.
-pub fn places_fit(state: &State, x: Transaction) -> bool
-    requires { ⌜ ((d : ℕ) → d < descriptorCount → getD (storeOf (now state) .offsets) d 0 ≤ fileBytes) ⌝ }
-    ensures { λ r. ⌜ r ≡ placesFit (storeOf (now (state .entry))) x ⌝ }
+// Commit's placing: every advance of transaction t fits behind its committed offset.
+pub fn places_fit(state: &State, t: usize) -> bool
+    requires { ⌜ (t < transactionCount)
+        × ((d : ℕ) → d < descriptorCount → getD (storeOf (now state) .offsets) d 0 ≤ fileBytes) ⌝ }
+    ensures { λ r. ⌜ r
+        ≡ placesFit (storeOf (now (state .entry))) (transactionOf (now (state .entry)) t) ⌝ }
 {
+    let mut good = true;
     let mut d = 0;
     while d < DESCRIPTORS {
-        let descriptor = x.descriptors[d];
-        let standing = descriptor.standing;
-        if FILE_END - offset_at(state, d) < standing.advance() {
-            return false;
-        }
+        let room = FILE_END - offset_at(state, d);
+        good = good & !may_wait_to(state, t, d, wide(room) + 1);
         d += 1;
     }
-    true
+    good
 }
 
 // Puts the committed offsets that a commit of x sets.
-pub fn put_offsets(state: &mut State, x: Transaction)
+fn put_offsets(state: &mut State, x: Transaction)
     requires { ⌜ (length (now state) ≡ stateLength) × (placesFit (storeOf (now state)) x ≡ true) ⌝ }
     ensures { λ _. ⌜ Becomes state (withOffsetsOf x) ⌝ }
 {
@@ -45,4 +49,17 @@ pub fn put_offsets(state: &mut State, x: Transaction)
         }
         d += 1;
     }
+}
+
+// Puts the committed offsets that a commit of transaction t sets. Where nothing is dirty, it sets none, and
+// the transaction is not read out.
+pub fn set_offsets(state: &mut State, t: usize)
+    requires { ⌜ (length (now state) ≡ stateLength) × (t < transactionCount)
+        × (placesFit (storeOf (now state)) (transactionOf (now state) t) ≡ true) ⌝ }
+    ensures { λ _. ⌜ Becomes state (withOffsetsOf (transactionOf (now (state .entry)) t)) ⌝ }
+{
+    if !any_dirty(state, t) {
+        return;
+    }
+    put_offsets(state, transaction_at(state, t));
 }

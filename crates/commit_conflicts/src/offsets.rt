@@ -4,8 +4,8 @@ use buffers::transaction_sets::joined;
 use buffers::transaction_sets::with;
 use state::DESCRIPTORS;
 use state::TRANSACTIONS;
+use state::dirty::sets_offset_at;
 use state::layout::State;
-use state::layout::descriptor_at;
 use state::readers::any_dirty;
 use state::readers::is_known_at;
 ghost use mathlib.Core.List.{List};
@@ -45,8 +45,7 @@ pub fn offset_sighters(state: &State, t: usize, watched: u8) -> u8
     let mut found = 0u8;
     let mut d = 0;
     while d < DESCRIPTORS {
-        let descriptor = descriptor_at(state, t, d);
-        if descriptor.sets_offset() {
+        if sets_offset_at(state, t, d) {
             found = joined(found, settled_by(state, watched, d));
         }
         d += 1;

@@ -191,17 +191,33 @@ pub fn descriptor_at(state: &State, t: usize, d: usize) -> Descriptor
     }
 }
 
-// The sixteen descriptors of transaction t.
+// A quick test: if it is true, descriptor d of transaction t is Untouched and not dirty.
+fn is_blank_at(state: &State, t: usize, d: usize) -> bool
+    requires { ⌜ (t < transactionCount) × (d < descriptorCount) ⌝ }
+    ensures { λ r. ⌜ (r ≡ true → descriptorOf (now (state .entry)) t d ≡ noDescriptor) ⌝ }
+{
+    let a = first_at(state, t, d);
+    let b = second_at(state, t, d);
+    let dirty = state[DIRTY_AT + t];
+    (a == 0) & (b == 0) & !bit_sets::has_bit(dirty, d)
+}
+
+// The sixteen descriptors of transaction t. Only those that are not blank are read out.
 fn descriptors_at(state: &State, t: usize) -> [Descriptor; DESCRIPTORS]
     requires { ⌜ t < transactionCount ⌝ }
     ensures { λ r. ⌜ r ≡ transactionOf (now (state .entry)) t .descriptors ⌝ }
 {
-    let first = descriptor_at(state, t, 0);
-    let mut all = [first; DESCRIPTORS];
+    let blank = Descriptor {
+        standing: Standing::Untouched,
+        dirty: false,
+    };
+    let mut all = [blank; DESCRIPTORS];
     let mut d = 0;
     while d < DESCRIPTORS {
-        let q = descriptor_at(state, t, d);
-        all[d] = q;
+        if !is_blank_at(state, t, d) {
+            let q = descriptor_at(state, t, d);
+            all[d] = q;
+        }
         d += 1;
     }
     all

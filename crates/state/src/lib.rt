@@ -1,6 +1,7 @@
 // The state: what a caller keeps between calls, beside the four lent buffers. It is one lent array of
 // numbers: `layout` reads and writes what they mean, in the forms below, `journal` the write records among
 // them, and `readers` tests it.
+pub mod dirty;
 pub mod journal;
 pub mod layout;
 pub mod outcomes;

@@ -1,13 +1,18 @@
 -- `call_commit::commit_call::commit` meets its contract.
 use borrow.Author.Needs.{needs}
 use mathlib.Core.Bool.{Bool, true, false}
-use mathlib.Core.List.{[]}
-use mathlib.Core.Path.{_≡_, sym, ap, _∙_, subst}
+use mathlib.Core.List.{List, []}
+use mathlib.Core.Path.{_≡_, refl, sym, ap, _∙_, subst}
+use lib.ListN.{length, take}
+use lib.Seq.{take-all}
+use native.Mathlib.Omega.{arith}
+use Prim.Native.Nat.{ℕ, _-_}
 use Rattle.windows.specs.Windows.{minuteIn}
 use Rattle.windows.proofs.WindowLaws.{minute-most}
 use Rattle.state.specs.declared.Transaction.{Transaction}
 use Rattle.state.specs.declared.outcomes.Refusal.the-variants.{NotOpen, AppendPastEnd, FileClosed, NoSuchMinute}
 use Rattle.state.specs.StoreMeaning.{transaction}
+use Rattle.state.specs.Layout.{transactionOf}
 use Rattle.state.proofs.LayoutLaws.{length-journal, transaction-of}
 use Rattle.admission.specs.Admission.{lengthsBefore, admission}
 use Rattle.admission.proofs.Laws.{in-range, failed, test-held}
@@ -44,24 +49,24 @@ let-through : (c : tie.After-enum-told) → LetThrough (machine (start-of c)) (s
 let-through c = gate-let-through _ (machine (start-of c)) (start-of c .args .t) (c .before .before .admit .ensures .0)
     (c .enum-told .given .1)
 
--- The transaction that was read, and is open.
+-- The transaction is open.
 abbrev told-of : tie.Else1 → tie.After-enum-told
-told-of c = c .before .before .before .before
+told-of c = c .before .before .before
 
 abbrev transaction-of-store : tie.Else1 → Transaction
 transaction-of-store c = let start = start-of (told-of c) in transaction (machine start .store) (start .args .t)
 
-own : (c : tie.Else1) → transaction-of-store c ≡ c .before .before .transaction-at .result
+own : (c : tie.Else1) → let start = start-of (told-of c) in transaction-of-store c
+    ≡ transactionOf (start .args .state .now) (start .args .t)
 own c =
     let told = told-of c in
     transaction-of (start-of told .args .state .now) (start-of told .args .t) (let-through told .small)
-    ∙ sym (c .before .before .transaction-at .ensures)
 
 begun : (c : tie.Else1) → transaction-of-store c .begun ≡ true
 begun c =
     let told = told-of c in
     is-open (start-of told .args .state .now) (start-of told .args .t) (let-through told .small)
-    (ap (λ (x : Transaction). x .begun) (c .before .before .transaction-at .ensures)) (c .if1 .left)
+    (c .before .is-begun .ensures) (c .if1 .left)
 
 abbrev turn-of : tie.Start → Turn
 turn-of start = commitTurn (start .args .t) (start .args .minute) (machine start)
@@ -81,11 +86,14 @@ daily : (c : tie.Else2) → minuteIn (start-of (told-of (open-at c)) .args .minu
 daily c = test-held (c .before .minute-in .ensures) (c .if2 .left)
 
 -- It is not stale.
+abbrev day-of : tie.Else3 → tie.Else2
+day-of c = c .before .before .before
+
 abbrev fresh-at : tie.Else3 → tie.Else1
-fresh-at c = open-at (c .before)
+fresh-at c = open-at (day-of c)
 
 fresh : (c : tie.Else3) → transaction-of-store (fresh-at c) .stale ≡ false
-fresh c = ap (λ (x : Transaction). x .stale) (own (fresh-at c)) ∙ c .if3 .left
+fresh c = ap (λ (x : Transaction). x .stale) (own (fresh-at c)) ∙ sym (c .before .is-stale .ensures) ∙ c .if3 .left
 
 -- None of its bytes is for a closed file.
 abbrev unlocked-at : tie.Else4 → tie.Else3
@@ -109,17 +117,17 @@ returns c =
     (c .before .gate .given .1) in
     turned-follows _ [] _ _ _ _ _ _ e
 
-transaction-at-requires : tie.Need-transaction-at-requires
-transaction-at-requires c κs = let-through (c .before) .small
+is-begun-requires : tie.Need-is-begun-requires
+is-begun-requires c κs = let-through (c .before) .small
 
 returns-2 : tie.Need-returns-2
 unfolding call
 returns-2 c =
-    let told = c .before .before .before .before in
+    let told = c .before .before .before in
     let start = start-of told in
     let m = machine start in
     let closed = is-closed (start .args .state .now) (start .args .t) (let-through told .small)
-    (ap (λ (x : Transaction). x .begun) (c .before .before .transaction-at .ensures)) (c .if1 .taken) in
+    (c .before .is-begun .ensures) (c .if1 .taken) in
     turned-follows NotOpen [] _ _ _ _ _ _ (admitted-closed m (start .args .t) (passed told) closed [] (turn-of start))
 
 -- 22
@@ -132,22 +140,27 @@ returns-3 c =
     (failed (c .before .minute-in .ensures) (c .if2 .taken)))
 
 -- 13
+is-stale-requires : tie.Need-is-stale-requires
+is-stale-requires c κs = let-through (told-of (open-at (c .before))) .small
+
 unmark-requires : tie.Need-unmark-requires
-unmark-requires c κs = let through = let-through (told-of (open-at (c .before .before))) in (
+unmark-requires c κs = let through = let-through (told-of (open-at (c .before .before .before .before))) in (
   through .small,
   through .lengths .marks,
 )
 
 reset-requires : tie.Need-reset-requires
-reset-requires c κs = let-through (told-of (open-at (c .before .before .before .before .before .before))) .small
+reset-requires c κs = let-through (told-of (open-at (c .before .before .before .before .before .before .before .before))) .small
 
 returns-4 : tie.Need-returns-4
 returns-4 c =
     let at-unmark = c .before .before .before .before in
-    let day = at-unmark .before .before .before in
+    let is-so = at-unmark .before .before in
+    let day = is-so .before .before .before in
     let told = told-of (open-at day) in
     let start = start-of told in
-    let stale = ap (λ (x : Transaction). x .stale) (own (open-at day)) ∙ at-unmark .before .before .if3 .taken in
+    let stale = ap (λ (x : Transaction). x .stale) (own (open-at day)) ∙ sym (is-so .before .is-stale .ensures)
+    ∙ is-so .if3 .taken in
     stale-follows _ _ _ (start .args .marks .now) _ _ _ (start .args .t) _ (told .before .before .admit .ensures .1)
     (let-through told .small)
     (on-turn (open-at day) ∙ commit-stale (start .args .t) (start .args .minute) (machine start) (daily day) stale)
@@ -157,7 +170,7 @@ returns-4 c =
 -- 21
 cast-has-byte-for-closed : tie.Need-cast-has-byte-for-closed
 cast-has-byte-for-closed c =
-    let day = c .before .before in
+    let day = day-of (c .before) in
     let l = minute-most (start-of (told-of (open-at day)) .args .minute) (daily day) in
     search needs
 
@@ -181,12 +194,15 @@ returns-5 c =
     let m = machine start in
     let shut = sym (c .before .has-byte-for-closed .ensures (m .logs) (let-through told .lengths .logs)) ∙ c .if4 .taken in
     turned-follows FileClosed [] _ _ _ _ _ _
-    (on-turn (fresh-at fresh-here) ∙ commit-closed (start .args .t) (start .args .minute) m (daily (fresh-here .before))
+    (on-turn (fresh-at fresh-here) ∙ commit-closed (start .args .t) (start .args .minute) m (daily (day-of fresh-here))
     (fresh fresh-here) shut)
 
 -- 12
 places-fit-requires : tie.Need-places-fit-requires
-places-fit-requires c κs = in-range _ _ (let-through (told-of (fresh-at (unlocked-at (c .before)))) .ranges) .offsets
+places-fit-requires c κs = let through = let-through (told-of (fresh-at (unlocked-at (c .before)))) in (
+  through .small,
+  in-range _ _ (through .ranges) .offsets,
+)
 
 returns-6 : tie.Need-returns-6
 returns-6 c =
@@ -197,7 +213,7 @@ returns-6 c =
     let m = machine start in
     let past = ap (placesFit (m .store)) (own open-here) ∙ failed (c .before .places-fit .ensures) (c .if5 .taken) in
     turned-follows AppendPastEnd [] _ _ _ _ _ _
-    (on-turn open-here ∙ commit-past (start .args .t) (start .args .minute) m (daily (fresh-here .before)) (fresh fresh-here)
+    (on-turn open-here ∙ commit-past (start .args .t) (start .args .minute) m (daily (day-of fresh-here)) (fresh fresh-here)
     (unlocked unlocked-here) past)
 
 -- Its placing fits.
@@ -212,9 +228,13 @@ fit c =
     ap (placesFit (machine (start-of (told-of open-here)) .store)) (own open-here)
     ∙ test-held (c .before .places-fit .ensures) (c .if5 .left)
 
+-- The part of the logs that is lent on is all of them.
+whole : (l : List ℕ) → take (length l - 0) l ≡ l
+whole l = take-all (length l - 0) l (omega arith)
+
 grant-requires : tie.Need-grant-requires
 grant-requires c κs =
-    let fits = c .before .before .before .before in
+    let fits = c .before .before .before .before .before in
     let open-here = fresh-at (unlocked-at (unlocked-of fits)) in
     let told = told-of open-here in
     let start = start-of told in
@@ -228,10 +248,10 @@ grant-requires c κs =
     record {
       numbers = told .before .before .admit .ensures .1;
       filesLength = through .lengths .files;
-      logsLength = through .lengths .logs;
+      logsLength = ap length (whole (start .args .logs .now)) ∙ through .lengths .logs;
       marksLength = through .lengths .marks;
       undoLength = through .lengths .undo;
-      own = open-here .before .before .transaction-at .ensures;
+      own = refl;
       fits = test-held (fits .before .places-fit .ensures) (fits .if5 .left);
       lands = subst (λ (x : Transaction). CanLandIn (start .args .state .now) t (x .used .records)) (own open-here) lands;
       bytes =
@@ -242,14 +262,14 @@ grant-requires c κs =
 returns-7 : tie.Need-returns-7
 returns-7 c =
     let at-grant = c .before .before .before .before .before .before in
-    let fits = at-grant .before .before .before .before .before in
+    let fits = at-grant .before .before .before .before .before .before in
     let unlocked-here = unlocked-of fits in
     let fresh-here = unlocked-at unlocked-here in
     let start = start-of (told-of (fresh-at fresh-here)) in
     rw (on-turn (fresh-at fresh-here)
-    ∙ commit-granted (start .args .t) (start .args .minute) (machine start) (daily (fresh-here .before)) (fresh fresh-here)
+    ∙ commit-granted (start .args .t) (start .args .minute) (machine start) (daily (day-of fresh-here)) (fresh fresh-here)
     (unlocked unlocked-here) (fit fits))
-    (at-grant .grant .ensures)
+    (rw (whole (start .args .logs .now)) at (at-grant .grant .ensures))
 
 pub commit-spec : {M : Type 1} → statement M
 commit-spec =
@@ -259,10 +279,11 @@ commit-spec =
     (λ c. search needs)
     returns
     (λ c. search needs)
-    transaction-at-requires
+    is-begun-requires
     returns-2
     (λ c κs. search needs)
     returns-3
+    is-stale-requires
     unmark-requires
     reset-requires
     (λ c. search needs)
@@ -272,6 +293,9 @@ commit-spec =
     returns-5
     places-fit-requires
     returns-6
+    (λ c. search needs)
+    (λ c. search needs)
+    (λ c. search needs)
     grant-requires
     (λ c. search needs)
     (λ c. search needs)

@@ -1,6 +1,7 @@
 -- `commit_apply::lengths::lengths_after` meets its contract. The loop's invariant: the lengths are those of the records landed so
 -- far.
 use mathlib.Core.List.{List}
+use mathlib.Core.Logic.{⊎-elim}
 use mathlib.Core.Path.{_≡_, ap, ap₂, _∙_}
 use lib.ListN.{length, getD, set}
 use Prim.Native.Nat.{ℕ, _-_, _≤_, _<_, max}
@@ -12,7 +13,7 @@ use Rattle.spec.proofs.Refinement.WriteEnds.{write-end}
 use Rattle.refinement.proofs.Shapes.{shaped}
 use Rattle.commit_apply.specs.Apply.{lengthsLandedIn}
 use Rattle.commit_apply.proofs.WriteLaws.{can-first}
-use Rattle.commit_apply.proofs.LengthLaws.{lengths-none, lengths-more}
+use Rattle.commit_apply.proofs.LengthLaws.{lengths-none, lengths-more, lengths-still}
 use borrow.Author.Needs.{needs}
 use Rattle.commit_apply.proofs.lengths.lengths_after.Statement.{statement}
 use Rattle.commit_apply.proofs.lengths.lengths_after.Tie as tie
@@ -47,7 +48,7 @@ cast-out c =
     let at-end = c .before .before in
     let end : at-end .write-end .result ≤ 4096 = rw (at-end .write-end .ensures)
     (write-end _ _ (at-end .before .landing-at .ensures .inside)) in
-    omega (arith, c .larger .ensures, c .before .wide .ensures .1, end)
+    omega (arith, end)
 
 loop-again : tie.Need-loop-again Inv-loop μ-loop
 loop-again c =
@@ -58,15 +59,19 @@ loop-again c =
     let state = start .args .state .now in
     let s = storeOf state in
     let lands = landing .landing-at .ensures in
-    let f = landing .landing-at .result .file in (
+    let f = landing .landing-at .result .file in
+    let end = at-end .write-end .result in
+    let ends = at-end .write-end .ensures ∙ ap₂ writeEnd (lands .place) (lands .length) in
+    let stood = c .before .wide .ensures .0 ∙ ap (λ (xs : List ℕ). getD xs f 0) (l .inv .1) in (
       omega (arith, landing .before .loop-test .taken),
-      ap (λ (xs : List ℕ). set xs f (c .larger .result)) (l .inv .1)
-          ∙ lengths-more (s .filenumbers) (s .offsets) (journalOf state) (start .args .t) (s .lengths) (l .k) f
-          (at-end .write-end .result) (c .larger .result)
-          (file-in landing) (lands .file)
-          (at-end .write-end .ensures ∙ ap₂ writeEnd (lands .place) (lands .length))
-          (c .larger .ensures ∙ ap (λ (n : ℕ). max n (at-end .write-end .result))
-          (c .before .wide .ensures .0 ∙ ap (λ (xs : List ℕ). getD xs f 0) (l .inv .1))),
+      ⊎-elim
+          (λ w. w .1 ∙ ap (λ (xs : List ℕ). set xs f end) (l .inv .1)
+          ∙ lengths-more (s .filenumbers) (s .offsets) (journalOf state) (start .args .t) (s .lengths) (l .k) f end end
+          (file-in landing) (lands .file) ends (omega (arith, stood, w .0 .taken)))
+          (λ w. w .1 ∙ l .inv .1
+          ∙ lengths-still (s .filenumbers) (s .offsets) (journalOf state) (start .args .t) (s .lengths) (l .k) f end
+          (file-in landing) (lands .file) ends (omega (arith, stood, w .0 .left)))
+          (c .if1 .came),
     )
 
 returns : tie.Need-returns Inv-loop μ-loop
@@ -87,7 +92,6 @@ lengths-after-spec =
     write-end-requires
     (λ c. omega (arith, file-in (c .before)))
     (λ c. file-in (c .before))
-    (λ c κs. search needs)
     (λ c κs. search needs)
     cast-out
     (λ c. omega (arith, file-in (c .before .before .before)))

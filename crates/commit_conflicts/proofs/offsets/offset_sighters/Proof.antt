@@ -2,12 +2,12 @@
 -- descriptors passed.
 use mathlib.Core.List.{List}
 use mathlib.Core.Logic.{⊎-elim}
-use mathlib.Core.Path.{_≡_, sym, ap, _∙_}
+use mathlib.Core.Path.{_≡_, refl, sym, ap, _∙_}
 use Prim.Native.Nat.{ℕ, _-_, _≤_, _<_}
 use native.Mathlib.Omega.{arith}
 use Rattle.limits.specs.Limits.{descriptorCount}
 use Rattle.buffers.specs.Marks.{contains}
-use Rattle.state.specs.Layout.{transactionOf}
+use Rattle.state.specs.Layout.{descriptorOf, transactionOf}
 use Rattle.spec.specs.Items.{Values}
 use Rattle.spec.specs.Commits.{offsetSettings}
 use Rattle.commit_apply.specs.Apply.{descriptorsOnly}
@@ -39,13 +39,13 @@ loop-holds c = let a = c .before .before .args in (omega arith, λ marks v. no-o
 
 loop-again : tie.Need-loop-again Inv-loop μ-loop
 loop-again c =
-    let at-loop = c .before .before .before .before in
+    let at-loop = c .before .before .before in
     let a = at-loop .before .before .before .args in
     let l = at-loop .loop in
     let x = descriptorsOnly (transactionOf (a .state .now) (a .t)) in
     let few : l .d < 16 = omega arith in
-    let sets = sets-is (a .state .now) (a .t) (l .d) few _ (c .before .before .descriptor-at .ensures)
-    ∙ sym (c .before .sets-offset .ensures) in
+    let sets = sets-is (a .state .now) (a .t) (l .d) few (descriptorOf (a .state .now) (a .t) (l .d)) refl
+    ∙ sym (c .before .sets-offset-at .ensures) in
     ⊎-elim
     (λ w. (
       omega arith,
@@ -74,7 +74,6 @@ offset-sighters-spec =
     (λ c κs. search needs)
     returns
     loop-holds
-    (λ c κs. search needs)
     (λ c κs. search needs)
     (λ c κs. search needs)
     (λ c κs. search needs)

@@ -266,7 +266,7 @@ pub fn all_orders(which: Which, rounds: usize, sweeps: usize) -> f64 {
     })
 }
 
-/// The calls that the dispatcher makes for the eight scripts of `bench_calls`, all of which are granted in the first round.
+/// The calls that the dispatcher makes for the eight scripts of `bench_dispatch`, all of which are granted in the first round.
 fn dispatched() -> Script {
     let each = |script: Script, call: fn(Script, usize) -> Script| (0..8).fold(script, call);
     let mut script = each(Script::default(), |s, t| s.begin(t));

@@ -1,5 +1,5 @@
-//! What is called over the C border: the functions of the crate `bench_calls` and the store by hand in C. Each takes the record as a
-//! pointer to its numbers and a slice as a pointer and a length, and has no precondition beyond that.
+//! What is called over the C border: the functions of the crates `bench_calls` and `bench_dispatch`, and the store by hand in C. Each
+//! takes the record as a pointer to its numbers and a slice as a pointer and a length, and has no precondition beyond that.
 
 use crate::script::BYTES;
 use crate::stores::Buffers;
@@ -81,7 +81,7 @@ macro_rules! runs {
 runs!(bench_calls_run, c_store_run);
 
 extern "C" {
-    fn bench_calls_order(
+    fn bench_dispatch_order(
         kept: *const u16,
         files: *const u8,
         files_len: usize,
@@ -97,7 +97,7 @@ extern "C" {
         rounds: usize,
     ) -> u64;
 
-    fn bench_calls_dispatch(
+    fn bench_dispatch_run(
         kept: *mut u16,
         files: *mut u8,
         files_len: usize,
@@ -163,7 +163,7 @@ pub fn run(run: Run, kept: &mut Numbers, lent: &mut Buffers, octets: &[u8], roun
 pub fn order(kept: &Numbers, lent: &Buffers, rounds: usize) -> u64 {
     let list: [u8; 8] = [0, 1, 2, 3, 4, 5, 6, 7];
     unsafe {
-        bench_calls_order(
+        bench_dispatch_order(
             kept.0.as_ptr(),
             lent.files.as_ptr(),
             lent.files.len(),
@@ -185,7 +185,7 @@ pub fn order(kept: &Numbers, lent: &Buffers, rounds: usize) -> u64 {
 pub fn dispatch(kept: &mut Numbers, lent: &mut Buffers, rounds: usize) -> u64 {
     let data = &lent.data[BYTES..];
     unsafe {
-        bench_calls_dispatch(
+        bench_dispatch_run(
             kept.0.as_mut_ptr(),
             lent.files.as_mut_ptr(),
             lent.files.len(),

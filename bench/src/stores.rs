@@ -1,4 +1,5 @@
-//! The three stores under one script: the proved one, through the archive of the crate `bench_calls`; the twin; and the one by hand in C.
+//! The three stores under one script: the proved one, through the archives of the crates `bench_calls` and `bench_dispatch`; the twin;
+//! and the one by hand in C.
 
 use crate::ffi::{self, Numbers, COMMITTED};
 use crate::placed::Placed;
@@ -196,7 +197,7 @@ fn dispatch_twin(store: &mut Store, buffers: &mut Buffers, rounds: usize) -> u64
     (0..rounds).map(commits).sum()
 }
 
-/// The four calls of script k, as in the crate `bench_calls`.
+/// The four calls of script k, as in the crate `bench_dispatch`.
 fn task(k: usize) -> Vec<ScriptStep> {
     let actions = [
         ScriptAction::Seek { to: 0 },

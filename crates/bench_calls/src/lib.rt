@@ -3,8 +3,6 @@
 // numbers, low octet first: how many octets (or the offset of a Seek, the minute of a Commit, the start of a
 // window), and where they start in `data` (or the end of a window).
 use buffers::parts;
-use dispatcher::scripts::ScriptCall;
-use dispatcher::scripts::Scripts;
 use requests::Request;
 use state::layout::State;
 use state::layout::length_at;
@@ -14,9 +12,6 @@ ghost use Prim.Native.Nat.{_+_, _<_, _≤_};
 ghost use lib.ListN.{length};
 
 const STEP: usize = 8;
-
-// The minute for which an order is asked, and at which scripts are dispatched.
-const MINUTE: usize = 0;
 
 // How many octets the line of a call takes at most.
 const LINE: usize = 8238;
@@ -64,7 +59,7 @@ fn named<'a>(data: &'a [u8], from: usize, n: usize) -> &'a [u8] {
     parts::part(data, from, n)
 }
 
-// The call of a step that is no Fresh. A kind above 10 is an Abort too.
+// The call of a step that is no Fresh, as a line of a log has it. A kind above 10 is an Abort too.
 fn request(s: Step) -> Request {
     let kind = s.kind;
     match kind {
@@ -81,7 +76,46 @@ fn request(s: Step) -> Request {
     }
 }
 
-// Makes the call of a step. Kind 0 is Fresh.
+// What a call came to. The code is 0 done, 1 an offset, 2 a count of bytes, 3 granted, 4 a count of pairs, 6 an
+// order, and 10 more than a refusal's number; the number is the one that the outcome carries.
+struct Answer {
+    code: u8,
+    number: u64,
+}
+
+// One match on the outcome, in each place that makes a call: the compiler then knows which outcomes that call
+// has, as it does in the harness of the store in C.
+fn answer_of(o: Outcome) -> Answer {
+    match o {
+        Outcome::Done => Answer { code: 0, number: 0 },
+        Outcome::Offset(n) => Answer {
+            code: 1,
+            number: n as u64,
+        },
+        Outcome::Given(n) => Answer {
+            code: 2,
+            number: n as u64,
+        },
+        Outcome::Granted(n) => Answer {
+            code: 3,
+            number: n as u64,
+        },
+        Outcome::Pairs(n) => Answer {
+            code: 4,
+            number: n as u64,
+        },
+        Outcome::Ordered(n, _, _) => Answer {
+            code: 6,
+            number: n as u64,
+        },
+        Outcome::Refused(r) => Answer {
+            code: std::num::wrapping_add_u8(10, r.number()),
+            number: 0,
+        },
+    }
+}
+
+// Makes the call of a step. Kind 0 is Fresh, a kind above 10 an Abort.
 fn made(
     state: &mut State,
     files: &mut [u8],
@@ -91,38 +125,21 @@ fn made(
     s: Step,
     data: &[u8],
     reader: &mut [u8],
-) -> Outcome {
+) -> Answer {
     let bytes = named(data, s.from, s.n);
-    if s.kind == 0 {
-        return store::fresh(state, files, logs, marks, undo, bytes);
-    }
-    requests::perform(state, files, logs, marks, undo, request(s), bytes, reader)
-}
-
-// An outcome as one octet: 0 done, 1 an offset, 2 a count of bytes, 3 granted, 4 a count of pairs, 6 an
-// order, and 10 more than a refusal's number.
-fn code(o: Outcome) -> u8 {
-    match o {
-        Outcome::Done => 0,
-        Outcome::Offset(_) => 1,
-        Outcome::Given(_) => 2,
-        Outcome::Granted(_) => 3,
-        Outcome::Pairs(_) => 4,
-        Outcome::Ordered(_, _, _) => 6,
-        Outcome::Refused(r) => std::num::wrapping_add_u8(10, r.number()),
-    }
-}
-
-// The number that an outcome carries.
-fn answered(o: Outcome) -> u64 {
-    match o {
-        Outcome::Done => 0,
-        Outcome::Offset(n) => n as u64,
-        Outcome::Given(n) => n as u64,
-        Outcome::Granted(n) => n as u64,
-        Outcome::Pairs(n) => n as u64,
-        Outcome::Ordered(n, _, _) => n as u64,
-        Outcome::Refused(_) => 0,
+    let kind = s.kind;
+    match kind {
+        0 => answer_of(store::fresh(state, files, logs, marks, undo, bytes)),
+        1 => answer_of(store::begin(state, files, logs, marks, undo, s.t)),
+        2 => answer_of(store::seek(state, files, logs, marks, undo, s.t, s.d, s.n)),
+        3 => answer_of(store::write(state, files, logs, marks, undo, s.t, s.d, bytes)),
+        4 => answer_of(store::get_file_pointer(state, files, logs, marks, undo, s.t, s.d)),
+        5 => answer_of(store::read(state, files, logs, marks, undo, s.t, s.d, s.n, reader)),
+        6 => answer_of(store::commit(state, files, logs, marks, undo, s.t, s.n)),
+        8 => answer_of(store::undo_commit(state, files, logs, marks, undo)),
+        9 => answer_of(store::places(state, files, logs, marks, undo, s.t, s.d, reader)),
+        10 => answer_of(store::set_window(state, files, logs, marks, undo, s.d, s.n, s.from)),
+        _ => answer_of(store::abort(state, files, logs, marks, undo, s.t)),
     }
 }
 
@@ -161,9 +178,9 @@ fn pass(
         let s = step_at(script, start);
         start += STEP;
         i += 1;
-        let o = made(state, files, logs, marks, undo, s, data, reader);
-        sum = std::num::wrapping_add_u64(sum, answered(o));
-        note(said, at, code(o));
+        let a = made(state, files, logs, marks, undo, s, data, reader);
+        sum = std::num::wrapping_add_u64(sum, a.number);
+        note(said, at, a.code);
     }
     sum
 }
@@ -191,81 +208,6 @@ pub extern "C" fn bench_calls_run(
         i += 1;
         let answered = pass(state, files, logs, marks, undo, script, data, reader, said);
         sum = std::num::wrapping_add_u64(sum, answered);
-    }
-    sum
-}
-
-// Asks so many times for the best order of the transactions listed. Answers the sum of the grants.
-#[no_mangle]
-pub extern "C" fn bench_calls_order<'a>(
-    state: &'a State,
-    files: &'a [u8],
-    logs: &'a [u8],
-    marks: &'a [u8],
-    undo: &'a [u8],
-    list: &'a [u8],
-    budget: usize,
-    rounds: usize,
-) -> u64 {
-    let mut sum = 0;
-    let mut i = 0;
-    while i < rounds {
-        i += 1;
-        let b = call_order::best_order(state, files, logs, marks, undo, list, MINUTE, budget);
-        let o = b.outcome;
-        sum = std::num::wrapping_add_u64(sum, answered(o));
-    }
-    sum
-}
-
-// Four more calls for script k, on descriptor k: Seek, Write of 16 octets, Seek, Read of them.
-fn with_task(scripts: Scripts, k: usize) -> Scripts {
-    let scripts = scripts.then(k, ScriptCall::Seek(k, 0));
-    let scripts = scripts.then(k, ScriptCall::Write(k, 0, 16));
-    let scripts = scripts.then(k, ScriptCall::Seek(k, 0));
-    scripts.then(k, ScriptCall::Read(k, 16))
-}
-
-// Eight scripts of four calls.
-fn tasks() -> Scripts {
-    let mut scripts = Scripts::new(8);
-    let mut k = 0;
-    while k < 8 {
-        scripts = with_task(scripts, k);
-        k += 1;
-    }
-    scripts
-}
-
-// Dispatches eight scripts of four calls so many times. Answers the sum of the Commits made.
-#[no_mangle]
-pub extern "C" fn bench_calls_dispatch(
-    state: &mut State,
-    files: &mut [u8],
-    logs: &mut [u8],
-    marks: &mut [u8],
-    undo: &mut [u8],
-    data: &[u8],
-    reader: &mut [u8],
-    rounds: usize,
-) -> u64 {
-    let scripts = tasks();
-    let mut sum = 0;
-    let mut i = 0;
-    while i < rounds {
-        i += 1;
-        let d = dispatcher::dispatch(
-            state,
-            files,
-            logs,
-            marks,
-            undo,
-            scripts,
-            data,
-            reader,
-            MINUTE,
-        );
-        sum = std::num::wrapping_add_u64(sum, d.commits as u64);
     }
     sum
 }

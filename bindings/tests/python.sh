@@ -9,4 +9,6 @@ cp -r "$SOURCE/python/luzhanem" "$work/luzhanem"
 cp "$BUILD/libluzhanem.so" "$work/luzhanem/libluzhanem.so"
 env -u LUZHANEM_LIBRARY PYTHONPATH="$work" python3 -c 'import luzhanem; luzhanem.Store().begin(0)' || fail "the library beside the package"
 LUZHANEM_LIBRARY=$work/none.so python3 -c 'import luzhanem' 2>&1 | grep -q 'ImportError.*LUZHANEM_LIBRARY' || fail "no library, and no word"
-if python3 -c 'import mypy' 2>/dev/null; then python3 -m mypy --strict "$SOURCE/python/luzhanem" || fail "mypy"; fi
+mypy=$(command -v mypy || true)
+if python3 -c 'import mypy' 2>/dev/null; then mypy="python3 -m mypy"; fi
+[ -z "$mypy" ] || $mypy --strict --cache-dir="$work/mypy" "$SOURCE/python/luzhanem" || fail "mypy"

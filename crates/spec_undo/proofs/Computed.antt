@@ -2,16 +2,13 @@
 use mathlib.Core.Path.{refl}
 use native.Mathlib.Omega.{arith}
 use Rattle.buffers.specs.Parts.{cut, pasted}
-use Rattle.spec_undo.specs.OldBytes.{landAll, oldBytes, restored}
-use Rattle.spec_undo.specs.Examples.{overlapping, twice, UndoExamples}
+use Rattle.spec_undo.specs.{OldBytes.{landAll, oldBytes, restored}, Examples.{overlapping, twice, UndoExamples}}
 
 pub undo-examples : UndoExamples
-unfolding cut pasted landAll oldBytes restored overlapping twice
-undo-examples =
-    record {
-      inside = ((omega arith, (omega arith, tt)), (omega arith, (omega arith, tt)), λ h. let z = h .0 in omega arith);
-      files = refl;
-      old = refl;
-      back = refl;
-      values = refl;
-    }
+undo-examples = unfold cut pasted landAll oldBytes restored overlapping twice in record {
+  inside = ((omega arith, (omega arith, tt)), (omega arith, (omega arith, tt)), λ h. let z = h .0 in omega arith);
+  files = refl;
+  old = refl;
+  back = refl;
+  values = refl;
+}

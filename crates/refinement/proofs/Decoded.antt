@@ -1,23 +1,14 @@
 -- A begun transaction to which a call was admitted, and laws of writes that are decoded one by one.
-use mathlib.Core.Bool.{Bool, true, _||_, or-assoc, or-false}
-use mathlib.Core.List.{List, [], _∷_, _++_}
-use mathlib.Core.Path.{_≡_, refl, sym, ap, ap₂, _∙_}
+use mathlib.Core.{Bool.{Bool, true, _||_, or-assoc, or-false}, List.{List, [], _∷_, _++_}, Path.{_≡_, refl, sym, ap, ap₂, _∙_}}
 use lib.ListN.{length}
 use native.Mathlib.Omega.{arith}
 use Prim.Native.Nat.{ℕ, zero, suc, _+_, _<_}
-use Rattle.state.specs.Journal.{journalLength}
+use Rattle.state.specs.{Journal.journalLength, declared.StoreMeaning.StoreMeaning, StoreMeaning.transaction}
 use Rattle.limits.specs.Limits.{bufferBytes, transactionCount}
 use Rattle.buffers.specs.Parts.{tabulate}
-use Rattle.state.specs.declared.StoreMeaning.{StoreMeaning}
-use Rattle.state.specs.StoreMeaning.{transaction}
-use Rattle.admission.specs.FirstRefusal.{someBelow, sum}
-use Rattle.admission.proofs.Laws.{TransactionInRange, Admitted, in-range}
-use Rattle.spec.specs.Transactions.{Write}
-use Rattle.spec.specs.Steps.{total}
-use Rattle.spec.specs.Places.{someWrite}
-use Rattle.spec.specs.Machine.{Machine, sizes}
-use Rattle.spec.proofs.Refinement.Relation.{Shaped}
-use Rattle.spec.proofs.Refinement.StepPreserves.{total-append}
+use Rattle.admission.{specs.FirstRefusal.{someBelow, sum}, proofs.Laws.{TransactionInRange, Admitted, in-range}}
+use Rattle.spec.specs.{Transactions.Write, Steps.total, Places.someWrite, Machine.{Machine, sizes}}
+use Rattle.spec.proofs.Refinement.{Relation.Shaped, StepPreserves.total-append}
 
 -- What a call knows of the transaction that it was admitted to.
 pub record Opened (s : StoreMeaning) (journal logs : List ℕ) (t : ℕ) : Type 0 where
@@ -27,18 +18,15 @@ pub record Opened (s : StoreMeaning) (journal logs : List ℕ) (t : ℕ) : Type 
   pub small : t < transactionCount
   pub ranges : TransactionInRange (transaction s t) journal t
 
-pub decoded-open : (m : Machine) (t : ℕ) → Shaped (m .store) → length (m .journal) ≡ journalLength
-    → Admitted (sizes m) (m .store) (m .journal) t
-    → transaction (m .store) t .begun ≡ true → Opened (m .store) (m .journal) (m .logs) t
-decoded-open m t shape long a begun =
-    record {
-      shape = shape;
-      long = long;
-      size = a .lengths .logs;
-      small = a .small;
-      ranges = in-range (m .store) (m .journal)
-          (a .ranges) .transactions t (a .small) begun;
-    }
+pub decoded-open : (m : Machine) (t : ℕ) → Shaped (m .store) → length (m .journal) ≡ journalLength → Admitted (sizes m)
+    (m .store) (m .journal) t → transaction (m .store) t .begun ≡ true → Opened (m .store) (m .journal) (m .logs) t
+decoded-open m t shape long a begun = record {
+  shape = shape;
+  long = long;
+  size = a .lengths .logs;
+  small = a .small;
+  ranges = in-range (m .store) (m .journal) (a .ranges) .transactions t (a .small) begun;
+}
 
 pub total-tabulate : (f : ℕ → Write) (n : ℕ) → total (tabulate f n) ≡ sum (λ k. length (f k .bytes)) n
 unfolding tabulate total sum

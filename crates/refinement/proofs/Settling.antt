@@ -1,21 +1,16 @@
 -- Settling one descriptor after the other is settling them all at once.
-use mathlib.Core.Bool.{Bool, true, false, cond, not, _&&_, _||_}
-use mathlib.Core.List.{List, [], _∷_, _++_, map, append-nil}
-use mathlib.Core.Logic.{⊎-elim}
+use mathlib.Core.{Bool.{Bool, true, false, cond, not, _&&_, _||_}, List.{List, [], _∷_, _++_, map, append-nil}, Logic.⊎-elim}
 use mathlib.Core.Path.{_≡_, refl, sym, ap, ap₂, _∙_, fun-ext}
 use borrow.Author.Tests.{eqb-true, eqb-false, eq-eqb, ne-eqb, lt-ltb, le-ltb}
 use lib.Dec.{leb, ltb, eqb}
 use native.Mathlib.Omega.{arith}
 use Prim.Native.Nat.{ℕ, zero, suc, _+_, _≤_, _<_}
-use Rattle.standings.specs.declared.Standing.{Standing}
-use Rattle.standings.specs.declared.Place.{Place}
+use Rattle.standings.specs.{declared.{Standing.Standing, Place.Place}, Table.{advance, settled}}
 use Rattle.buffers.proofs.PartLaws.{le-or-lt}
 use Rattle.admission.specs.FirstRefusal.{below}
 use Rattle.spec.specs.Items.{Item, offset, Values, done, result, asked}
-use Rattle.standings.specs.Table.{advance, settled}
 use Rattle.spec.specs.Transactions.{Write, Txn, put, placedAt, placeWrite, settle, those, Settled, past, all, settling}
-use Rattle.spec.specs.Machine.{lengthmarked}
-use Rattle.spec.specs.Calls.{marked}
+use Rattle.spec.specs.{Machine.lengthmarked, Calls.marked}
 use Rattle.refinement.specs.Settling.{placeAll, settleAll}
 
 -- ---- one list of descriptors after another
@@ -89,27 +84,20 @@ and-true true = refl
 and-true false = refl
 
 first-self : (p : ℕ → Bool) (n : ℕ) → first p n n ≡ false
-unfolding first
-first-self p n = rw (le-ltb n n (omega arith)) (and-false (p n))
+first-self p n = unfold first in rw (le-ltb n n (omega arith)) (and-false (p n))
 
 first-new : (p : ℕ → Bool) (n : ℕ) → first p (suc n) n ≡ p n
-unfolding first
-first-new p n = rw (lt-ltb n (suc n) (omega arith)) (and-true (p n))
+first-new p n = unfold first in rw (lt-ltb n (suc n) (omega arith)) (and-true (p n))
 
 first-other : (p : ℕ → Bool) (n e : ℕ) → (e ≡ n → ⊥) → first p (suc n) e ≡ first p n e
 unfolding first
-first-other p n e ne =
-    ⊎-elim
-    (λ h. let g : suc n ≤ e = omega arith in rw (le-ltb e n h, le-ltb e (suc n) g))
-    (λ h. rw (lt-ltb e n h, lt-ltb e (suc n) (omega arith)))
-    (le-or-lt n e)
+first-other p n e ne = ⊎-elim (λ h. let g : suc n ≤ e = omega arith in rw (le-ltb e n h, le-ltb e (suc n) g))
+    (λ h. rw (lt-ltb e n h, lt-ltb e (suc n) (omega arith))) (le-or-lt n e)
 
 -- A test that nothing passes from n on.
 first-all : (p : ℕ → Bool) (n : ℕ) → ((e : ℕ) → n ≤ e → p e ≡ false) → first p n ≡ p
-unfolding first
-first-all p n none =
-    fun-ext
-    (λ e. ⊎-elim (λ h. rw (le-ltb e n h, none e h)) (λ h. rw (lt-ltb e n h) (and-true (p e))) (le-or-lt n e))
+first-all p n none = unfold first in
+    fun-ext (λ e. ⊎-elim (λ h. rw (le-ltb e n h, none e h)) (λ h. rw (lt-ltb e n h) (and-true (p e))) (le-or-lt n e))
 
 -- One number that passes no more or not: the same test.
 first-skip : (p : ℕ → Bool) (n : ℕ) → p n ≡ false → first p n ≡ first p (suc n)
@@ -127,11 +115,10 @@ module _ (p : ℕ → Bool) (c : ℕ → ℕ) (n : ℕ) (passes : p n ≡ true) 
   place-more w = ap (λ (q : Place). record { descriptor = w .descriptor; place = q; bytes = w .bytes })
       (pick (eqb (w .descriptor) n) refl)
     where
-      pick : (b : Bool) → eqb (w .descriptor) n ≡ b
-          → cond (eqb (w .descriptor) n)
+      pick : (b : Bool) → eqb (w .descriptor) n ≡ b → cond (eqb (w .descriptor) n)
           (placedAt (c n) (cond (first p n (w .descriptor)) (placedAt (c (w .descriptor)) (w .place)) (w .place)))
-          (cond (first p n (w .descriptor)) (placedAt (c (w .descriptor)) (w .place)) (w .place))
-          ≡ cond (first p (suc n) (w .descriptor)) (placedAt (c (w .descriptor)) (w .place)) (w .place)
+          (cond (first p n (w .descriptor)) (placedAt (c (w .descriptor)) (w .place)) (w .place)) ≡ cond
+          (first p (suc n) (w .descriptor)) (placedAt (c (w .descriptor)) (w .place)) (w .place)
       pick true q = rw (q, eqb-true (w .descriptor) n q, first-self p n, first-new p n, passes)
       pick false q = rw (q, first-other p n (w .descriptor) (eqb-false (w .descriptor) n q))
 
@@ -140,23 +127,20 @@ module _ (p : ℕ → Bool) (c : ℕ → ℕ) (n : ℕ) (passes : p n ≡ true) 
   places-more [] = refl
   places-more (w ∷ ws) = ap₂ (λ (a : Write) (l : List Write). a ∷ l) (place-more w) (places-more ws)
 
-  standing-more : (x : Txn) (e : ℕ)
-      → put n (settled (c n) (settleAll (first p n) c x .standing n)) (settleAll (first p n) c x .standing) e
-      ≡ settleAll (first p (suc n)) c x .standing e
+  standing-more : (x : Txn) (e : ℕ) → put n (settled (c n) (settleAll (first p n) c x .standing n))
+      (settleAll (first p n) c x .standing) e ≡ settleAll (first p (suc n)) c x .standing e
   unfolding put settleAll
   standing-more x e = pick (eqb e n) refl
     where
-      pick : (b : Bool) → eqb e n ≡ b
-          → cond (eqb e n) (settled (c n) (cond (first p n n) (settled (c n) (x .standing n)) (x .standing n)))
-          (cond (first p n e) (settled (c e) (x .standing e)) (x .standing e))
-          ≡ cond (first p (suc n) e) (settled (c e) (x .standing e)) (x .standing e)
+      pick : (b : Bool) → eqb e n ≡ b → cond (eqb e n) (settled (c n) (cond (first p n n) (settled (c n) (x .standing n))
+          (x .standing n))) (cond (first p n e) (settled (c e) (x .standing e)) (x .standing e)) ≡ cond (first p (suc n) e)
+          (settled (c e) (x .standing e)) (x .standing e)
       pick true q = rw (q, eqb-true e n q, first-self p n, first-new p n, passes)
       pick false q = rw (q, first-other p n e (eqb-false e n q))
 
   settle-more : (x : Txn) → settle n (c n) (settleAll (first p n) c x) ≡ settleAll (first p (suc n)) c x
   unfolding settle settleAll
-  settle-more x =
-      ap₂ (λ (f : ℕ → Standing) (ws : List Write). record { standing = f; dirty = x .dirty; writes = ws })
+  settle-more x = ap₂ (λ (f : ℕ → Standing) (ws : List Write). record { standing = f; dirty = x .dirty; writes = ws })
       (fun-ext (standing-more x)) (places x)
     where
       places : (x : Txn) → map (placeWrite n (c n)) (settleAll (first p n) c x .writes) ≡ settleAll (first p (suc n)) c x .writes
@@ -173,30 +157,26 @@ module _ (v : Values) (p : ℕ → Bool) (x : Txn) where
   fitsAt e = not (p e) || leb (v (offset e) + advance (x .standing e)) 4096
 
   standing-preserved : (n : ℕ) → settleAll (first p n) offsets x .standing n ≡ x .standing n
-  unfolding settleAll
-  standing-preserved n = rw (first-self p n)
+  standing-preserved n = unfold settleAll in rw (first-self p n)
 
   one-more : (n : ℕ) → result v (settling (cond (p n) (n ∷ []) []) (settleAll (first p n) offsets x))
       ≡ cond (fitsAt n) (all (settleAll (first p (suc n)) offsets x)) past
   unfolding settling result
   one-more n = pick (p n) refl
     where
-      expected : (b : Bool) → p n ≡ true
-          → result v (cond b (done (all (settle n (offsets n) (settleAll (first p n) offsets x)))) (done past))
-          ≡ cond b (all (settleAll (first p (suc n)) offsets x)) past
+      expected : (b : Bool) → p n ≡ true → result v (cond b (done (all (settle n (offsets n)
+          (settleAll (first p n) offsets x)))) (done past)) ≡ cond b (all (settleAll (first p (suc n)) offsets x)) past
       expected true q = ap all (settle-more p offsets n q x)
       expected false q = refl
 
-      pick : (b : Bool) → p n ≡ b
-          → result v (settling (cond b (n ∷ []) []) (settleAll (first p n) offsets x))
-          ≡ cond (not b || leb (v (offset n) + advance (x .standing n)) 4096) (all (settleAll (first p (suc n)) offsets x)) past
+      pick : (b : Bool) → p n ≡ b → result v (settling (cond b (n ∷ []) []) (settleAll (first p n) offsets x)) ≡ cond
+          (not b || leb (v (offset n) + advance (x .standing n)) 4096) (all (settleAll (first p (suc n)) offsets x)) past
       pick true q = rw (standing-preserved n) (expected (leb (v (offset n) + advance (x .standing n)) 4096) q)
       pick false q = ap (λ (f : ℕ → Bool). all (settleAll f offsets x)) (first-skip p n q)
 
   none-yet : settleAll (first p 0) offsets x ≡ x
   unfolding settleAll
-  none-yet =
-      ap₂ (λ (f : ℕ → Standing) (ws : List Write). record { standing = f; dirty = x .dirty; writes = ws })
+  none-yet = ap₂ (λ (f : ℕ → Standing) (ws : List Write). record { standing = f; dirty = x .dirty; writes = ws })
       (fun-ext (λ d. rw (nobody d))) (same (x .writes))
     where
       nobody : (d : ℕ) → first p 0 d ≡ false
@@ -210,14 +190,11 @@ module _ (v : Values) (p : ℕ → Bool) (x : Txn) where
   in-turn : (n : ℕ) → result v (settling (those p n) x) ≡ cond (below fitsAt n) (all (settleAll (first p n) offsets x)) past
   unfolding those below settling result onward
   in-turn zero = ap all (sym none-yet)
-  in-turn (suc n) =
-      result-append v (those p n) (cond (p n) (n ∷ []) []) x
-      ∙ ap (onward past (λ y. result v (settling (cond (p n) (n ∷ []) []) y))) (in-turn n)
-      ∙ pick (below fitsAt n)
+  in-turn (suc n) = result-append v (those p n) (cond (p n) (n ∷ []) []) x
+      ∙ ap (onward past (λ y. result v (settling (cond (p n) (n ∷ []) []) y))) (in-turn n) ∙ pick (below fitsAt n)
     where
-      pick : (b : Bool) → onward past (λ y. result v (settling (cond (p n) (n ∷ []) []) y))
-          (cond b (all (settleAll (first p n) offsets x)) past)
-          ≡ cond (b && fitsAt n) (all (settleAll (first p (suc n)) offsets x)) past
+      pick : (b : Bool) → onward past (λ y. result v (settling (cond (p n) (n ∷ []) []) y)) (cond b (all
+          (settleAll (first p n) offsets x)) past) ≡ cond (b && fitsAt n) (all (settleAll (first p (suc n)) offsets x)) past
       pick true = one-more n
       pick false = refl
 
@@ -237,13 +214,9 @@ those-none p (suc n) h = rw (those-none p n (λ e l. h e (omega arith)), h n (om
 pub those-one : (d : ℕ) (b : Bool) (n : ℕ) → d < n → those (λ e. eqb e d && b) n ≡ cond b (d ∷ []) []
 unfolding those
 those-one d b zero h = absurd (omega arith)
-those-one d b (suc n) h =
-    ⊎-elim
-    (λ l. let e : n ≡ d = omega arith in
-    rw (
-      e,
-      those-none (λ e. eqb e d && b) d (λ e g. let ne : e ≡ d → ⊥ = λ q. omega arith in rw (ne-eqb e d ne)),
-      eq-eqb d d refl,
-    ))
-    (λ l. let ne : n ≡ d → ⊥ = λ q. omega arith in rw (those-one d b n l, ne-eqb n d ne) (append-nil (cond b (d ∷ []) [])))
+those-one d b (suc n) h = ⊎-elim (λ l. let e : n ≡ d = omega arith in rw (
+  e,
+  those-none (λ e. eqb e d && b) d (λ e g. let ne : e ≡ d → ⊥ = λ q. omega arith in rw (ne-eqb e d ne)),
+  eq-eqb d d refl,
+)) (λ l. let ne : n ≡ d → ⊥ = λ q. omega arith in rw (those-one d b n l, ne-eqb n d ne) (append-nil (cond b (d ∷ []) [])))
     (le-or-lt n d)

@@ -8,6 +8,7 @@ use limits::wide;
 use read_fetch::copy_bytes;
 use read_lookup::Extent;
 use read_lookup::length_for;
+use read_lookup::own_end;
 use read_settle::settle_call::Verdict;
 use read_settle::settle_for_read;
 use state::Descriptor;
@@ -83,9 +84,10 @@ fn read_settled<'a>(
     let z = standing_at(state, t, d);
     let place = wide(z.offset());
     let file = file_at(state, d);
-    let end = length_for(state, t, used, file);
+    let own = own_end(state, t, used, file);
+    let end = length_for(state, file, own);
     let extent = places_given(file, place, n, end);
-    copy_bytes(state, files, logs, marks, t, used, extent, reader);
+    copy_bytes(state, files, logs, marks, t, used, extent, own, reader);
     put_read(state, t, d, extent, n);
     extent.length as u16
 }

@@ -1,7 +1,9 @@
 -- What a Read brings, on the parts that it is handed: the write records, the transaction's log, the file.
+use mathlib.Core.Bool.{cond}
 use mathlib.Core.List.{List, _++_}
 use mathlib.Core.Path.{_≡_}
 use denote.Ref.{now}
+use lib.Dec.{eqb}
 use lib.ListN.{length, getD, drop}
 use Prim.Native.Nat.{ℕ, _+_, _-_, _*_, _≤_, _<_}
 use Rattle.limits.specs.Limits.{fileCount, fileBytes, bufferBytes, logBytes}
@@ -40,6 +42,10 @@ marksAfter j t records log file e marks =
 -- "transaction t's part starting at 4,096 × t" [R-2.1]
 unfoldable pub logPart : List ℕ → ℕ → List ℕ
 logPart logs t = cut logs (logBytes * t) logBytes
+
+-- The write records that a fetch visits, where own writes end in the file there: none where that is 0.
+abbrev pub visitedBy : Used → ℕ → Used
+visitedBy u own = cond (eqb own 0) (record { records = 0; bytes = 0 }) u
 
 -- Of these places, those of a run at their front.
 abbrev pub runExtent : Extent → Run → Extent

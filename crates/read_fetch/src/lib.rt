@@ -12,8 +12,8 @@ use state::layout::State;
 ghost use mathlib.Core.Path.{_≡_};
 ghost use Prim.Native.Nat.{_+_, _≤_};
 ghost use lib.ListN.{length};
-ghost use Rattle.read_lookup.specs.Lookup.{recordedIn, RunOf};
-ghost use Rattle.read_fetch.specs.Fetch.{Handed, HandedWhole, runExtent};
+ghost use Rattle.read_lookup.specs.Lookup.{recordedIn, ownReach, RunOf};
+ghost use Rattle.read_fetch.specs.Fetch.{Handed, HandedWhole, runExtent, visitedBy};
 ghost use Rattle.read_fetch.specs.Fetch.{pastedFrom, readerFrom, marksFrom, readerWithin, marksWithin};
 
 // Copies the run at the front of the places to the reader's buffer, from `at` on, and marks it if the file
@@ -77,8 +77,22 @@ fn copy_runs<'a>(
     }
 }
 
+// The write records that a fetch visits, where the transaction's own writes end in the file at `own`: none
+// where that is 0, for the file then supplies every place.
+fn visited(used: Used, own: usize) -> Used
+    ensures { λ r. ⌜ r ≡ visitedBy used own ⌝ }
+{
+    if own == 0 {
+        return Used {
+            records: 0,
+            bytes: 0,
+        };
+    }
+    used
+}
+
 // Fetches from the whole buffers: passes on the file's part of the files and the transaction's part of the
-// logs.
+// logs. The transaction's own writes end in the file at `own`.
 pub fn copy_bytes<'a>(
     state: &'a State,
     files: &'a [u8],
@@ -87,14 +101,16 @@ pub fn copy_bytes<'a>(
     t: usize,
     used: Used,
     e: Extent,
+    own: usize,
     reader: &mut [u8],
 )
     requires handed { ⌜ HandedWhole (now state) (now files) (now logs) (now marks) t used e ⌝ }
     requires room { ⌜ e .length ≤ length (now reader) ⌝ }
+    requires ends { ⌜ own ≡ ownReach (now state) t (used .records) (e .file) ⌝ }
     ensures reader { λ _. ⌜ now (reader .exit) ≡ readerWithin state files logs t used e reader ⌝ }
     ensures marks { λ _. ⌜ now (marks .exit) ≡ marksWithin state files logs marks t used e ⌝ }
 {
     let file = parts::file_part(files, wide(e.file));
     let log = parts::part(logs, LOG_BYTES * t, LOG_BYTES);
-    copy_runs(state, file, log, marks, t, used, e, reader);
+    copy_runs(state, file, log, marks, t, visited(used, own), e, reader);
 }

@@ -513,6 +513,12 @@ module _ (j : Recorded) (t f n : ℕ) where
   unfolding reach
   reach-more k = rw add-one
 
+  -- From a number on, or from 0.
+  pub reach-from : (c : ℕ) → reach j t f n c ≡ max n (reach j t f 0 c)
+  unfolding reach
+  reach-from zero = omega arith
+  reach-from (suc c) = let e = reach-from c in omega arith
+
   -- The same of the writes.
   pub reach-is : (g : ℕ → Write) (c : ℕ)
       → ((k : ℕ) → k < c → recordEnd (j .filenumbers) f (writeRecordAt (j .journal) t k)
@@ -526,3 +532,37 @@ module _ (j : Recorded) (t f n : ℕ) where
       (g c) in
       let r = h c (omega arith) in
       omega arith
+
+-- ---- where no own write of at least one byte lies in the file
+
+-- A write that ends at 0 has no byte, and covers nothing.
+over-none : (q : Place) (n p : ℕ) → placedEnd q n ≡ 0 → liesOver q n p ≡ false
+unfolding liesOver placedEnd writeEnd
+over-none (At a) zero p e = untrue (leb a p && ltb p (a + 0)) (λ h. let g = over-in (At a) 0 p h in omega arith)
+over-none (At a) (suc n) p e = absurd (omega arith)
+over-none (After a) n p e = refl
+
+covers-none : (filenumbers : List ℕ) (f p : ℕ) (w : WriteRecord) → recordEnd filenumbers f w ≡ 0 → covers filenumbers f p w
+    ≡ false
+unfolding recordEnd covers
+covers-none filenumbers f p w = pick (eqb (getD filenumbers (w .descriptor) 0) f)
+  where
+    pick : (b : Bool) → cond b (placedEnd (w .place) (w .length)) 0 ≡ 0 → b && liesOver (w .place) (w .length) p ≡ false
+    pick true e = over-none (w .place) (w .length) p e
+    pick false e = refl
+
+module _ (j : Recorded) (t f : ℕ) where
+  ends-none : (n : ℕ) → reach j t f 0 n ≡ 0 → (k : ℕ) → k < n → recordEnd (j .filenumbers) f (theirs j t k) ≡ 0
+  unfolding reach
+  ends-none zero e k l = absurd (omega arith)
+  ends-none (suc n) e k l =
+      ⊎-elim (λ h. ends-none n (omega arith) k h) (λ h. let s : k ≡ n = omega arith in
+      ap (λ (i : ℕ). recordEnd (j .filenumbers) f (theirs j t i)) s ∙ (omega arith))
+      (le-or-lt (suc k) n)
+
+  -- The file supplies every place.
+  pub supplier-none : (n : ℕ) → reach j t f 0 n ≡ 0 → (p : ℕ) → supplier j t n f p ≡ File
+  unfolding supplier
+  supplier-none n e p =
+      newest-only (λ k. covers (j .filenumbers) f p (theirs j t k)) n
+      (λ k l. covers-none (j .filenumbers) f p (theirs j t k) (ends-none n e k l))

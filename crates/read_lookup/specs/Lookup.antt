@@ -48,6 +48,11 @@ unfoldable pub reach : Recorded → ℕ → ℕ → ℕ → ℕ → ℕ
 reach j t f n zero = n
 reach j t f n (suc k) = max (reach j t f n k) (recordEnd (j .filenumbers) f (writeRecordAt (j .journal) t k))
 
+-- "the ends of its own placed writes of at least one byte" [R-6.1]: the largest of those of transaction t,
+-- with so many records, in file f; 0 where it has none there.
+abbrev pub ownReach : List ℕ → ℕ → ℕ → ℕ → ℕ
+ownReach state t records f = reach (recordedIn state) t f 0 records
+
 -- F-8: "A transaction's length is the largest of the committed one and the ends" [R-6.1]: that of file f for
 -- transaction t with so many records.
 abbrev pub lengthSeen : List ℕ → ℕ → ℕ → ℕ → ℕ

@@ -11,10 +11,11 @@ use state::layout::State;
 use state::layout::file_at;
 use state::layout::length_at;
 ghost use mathlib.Core.Path.{_≡_};
-ghost use Prim.Native.Nat.{_<_, _≤_};
+ghost use Prim.Native.Nat.{_<_, _≤_, max};
+ghost use lib.ListN.{getD};
 ghost use Rattle.limits.specs.Limits.{fileCount, descriptorCount};
 ghost use Rattle.state.specs.Layout.{storeOf, journalOf};
-ghost use Rattle.read_lookup.specs.Lookup.{recordedIn, isRecord, recordEnd, lengthSeen, CountedRecords};
+ghost use Rattle.read_lookup.specs.Lookup.{recordedIn, isRecord, recordEnd, ownReach, CountedRecords};
 ghost use Rattle.read_lookup.specs.Lookup.{GapOf, LatestAt, RunOf};
 
 // Places of a file: `length` of them, from `place` on.
@@ -139,13 +140,13 @@ fn end_in(state: &State, w: WriteRecord, file: u16) -> usize
     wide(p) + size
 }
 
-// "A transaction's length is the largest of the committed one and the ends of its own placed writes of at
-// least one byte." [R-6.1]
-pub fn length_for(state: &State, t: usize, used: Used, file: u16) -> usize
-    requires { ⌜ CountedRecords (journalOf (now state)) t used × (file < fileCount) ⌝ }
-    ensures { λ r. ⌜ r ≡ lengthSeen (now (state .entry)) t (used .records) file ⌝ }
+// The largest of the ends of transaction t's own placed writes of at least one byte in the file; 0 where it
+// has none there.
+pub fn own_end(state: &State, t: usize, used: Used, file: u16) -> usize
+    requires { ⌜ CountedRecords (journalOf (now state)) t used ⌝ }
+    ensures { λ r. ⌜ r ≡ ownReach (now (state .entry)) t (used .records) file ⌝ }
 {
-    let mut end = wide(length_at(state, wide(file)));
+    let mut end = 0;
     let mut k = 0;
     while k < used.records {
         let w = record_at(state, t, k);
@@ -153,4 +154,13 @@ pub fn length_for(state: &State, t: usize, used: Used, file: u16) -> usize
         k += 1;
     }
     end
+}
+
+// "A transaction's length is the largest of the committed one and the ends of its own placed writes of at
+// least one byte." [R-6.1] The largest of these ends is given.
+pub fn length_for(state: &State, file: u16, own: usize) -> usize
+    requires { ⌜ file < fileCount ⌝ }
+    ensures { λ r. ⌜ r ≡ max (getD (storeOf (now (state .entry)) .lengths) file 0) own ⌝ }
+{
+    larger(wide(length_at(state, wide(file))), own)
 }

@@ -1,13 +1,16 @@
 -- `read_fetch::copy_bytes` meets its contract. Assumes nothing.
 use mathlib.Core.List.{List, _++_}
 use mathlib.Core.Path.{_≡_, ap, ap₂, _∙_}
-use Prim.Native.Nat.{ℕ, _*_}
+use Prim.Native.Nat.{ℕ, _*_, _≤_}
 use native.Mathlib.Omega.{arith}
 use lib.ListN.{length, drop}
 use Rattle.buffers.specs.Parts.{filePart}
 use Rattle.buffers.proofs.PartLaws.{length-cut, length-file}
+use Rattle.counters.specs.declared.Used.{Used}
+use Rattle.admission.specs.Admission.{lengthsBefore}
 use Rattle.read_lookup.specs.Lookup.{Recorded, recordedIn}
 use Rattle.read_fetch.specs.Fetch.{bytesRead, marksAfter, logPart}
+use Rattle.read_fetch.proofs.VisitedLaws.{visited-counted, visited-bytes, visited-marks}
 use borrow.Author.Needs.{needs}
 use Rattle.read_fetch.proofs.copy_bytes.Statement.{statement}
 use Rattle.read_fetch.proofs.copy_bytes.Tie as tie
@@ -40,22 +43,29 @@ mul-part c = search needs
 part-requires : tie.Need-part-requires
 part-requires c κs = search needs
 
+log-length : (c : tie.After-part) → length (c .part .result .now) ≡ 4096
+log-length c =
+    let s = start-of (c .before) in
+    let h = s .pre .0 in
+    ap length (c .part .ensures)
+    ∙ length-cut (s .args .logs .now) (4096 * s .args .t) 4096 (omega (arith, h .logsLength, h .counted .small))
+
 copy-runs-requires : tie.Need-copy-runs-requires
 copy-runs-requires c κs =
-    let parted = c .before .before in
+    let looked = c .before in
+    let parted = looked .before .before in
     let s = start-of (parted .before) in
     let a = s .args in
     let h = s .pre .0 in (
       record {
-        counted = h .counted;
+        counted = rw (looked .visited .ensures) (visited-counted _ _ _ (a .own) (h .counted));
         fileLength = ap length (file-is (parted .before)) ∙ length-file (a .files .now) (a .e .file) (h .filesLength) (h .fileIn);
-        logLength = ap length (parted .part .ensures)
-            ∙ length-cut (a .logs .now) (4096 * a .t) 4096 (omega (arith, h .logsLength, h .counted .small));
+        logLength = log-length parted;
         marksLength = h .marksLength;
         fileIn = h .fileIn;
         places = h .places;
       },
-      s .pre .1,
+      s .pre .1 .0,
     )
 
 same-length : tie.Need-same-length
@@ -67,15 +77,29 @@ same-length-2 c = search needs
 returns : tie.Need-returns
 returns c =
     let copied = c .before .before .before .before in
-    let parted = copied .before .before .before in
+    let looked = copied .before .before in
+    let parted = looked .before .before in
     let s = start-of (parted .before) in
     let a = s .args in
+    let h = s .pre .0 .counted in
     let r = copied .copy-runs in
+    let log = parted .part .result .now in
+    let file = parted .before .file-part .result .now in
+    let inside : lengthsBefore (lent s .journal) (a .t) (a .used .records) ≤ length log =
+    omega (arith, h .adds, h .bytes, log-length parted) in
     let l = log-is parted in
     let f = file-is (parted .before) in (
-      r .ensures .0 ∙ ap₂ (λ (x y : List ℕ). bytesRead (lent s) (a .t) (a .used .records) x y (a .e)
+      r .ensures .0
+          ∙ ap (λ (u : Used). bytesRead (lent s) (a .t) (u .records) log file (a .e) ++ drop (a .e .length) (a .reader .now))
+          (looked .visited .ensures)
+          ∙ ap (λ (x : List ℕ). x ++ drop (a .e .length) (a .reader .now))
+          (visited-bytes (lent s) (a .t) (a .used) log inside (a .e) (a .own) (s .pre .1 .1) file)
+          ∙ ap₂ (λ (x y : List ℕ). bytesRead (lent s) (a .t) (a .used .records) x y (a .e)
           ++ drop (a .e .length) (a .reader .now)) l f,
-      r .ensures .1 ∙ ap₂ (λ (x y : List ℕ). marksAfter (lent s) (a .t) (a .used .records) x y (a .e) (a .marks .now)) l f,
+      r .ensures .1
+          ∙ ap (λ (u : Used). marksAfter (lent s) (a .t) (u .records) log file (a .e) (a .marks .now)) (looked .visited .ensures)
+          ∙ visited-marks (lent s) (a .t) (a .used) log inside (a .e) (a .own) (s .pre .1 .1) file (a .marks .now)
+          ∙ ap₂ (λ (x y : List ℕ). marksAfter (lent s) (a .t) (a .used .records) x y (a .e) (a .marks .now)) l f,
     )
 
 pub copy-bytes-spec : {M : Type 1} → statement M
@@ -86,6 +110,7 @@ copy-bytes-spec =
     file-part-requires
     mul-part
     part-requires
+    (λ c κs. search needs)
     copy-runs-requires
     same-length
     same-length-2

@@ -1,92 +1,29 @@
--- `read_lookup::length_for` meets its contract. The loop's invariant: `end` is the largest of the committed length and of the
--- ends of the records passed.
-use mathlib.Core.Path.{_≡_, sym, ap, ap₂, _∙_}
-use Prim.Native.Nat.{ℕ, _-_, _≤_, max}
-use native.Mathlib.Omega.{arith}
+-- `read_lookup::length_for` meets its contract.
+use mathlib.Core.Path.{ap, _∙_}
 use lib.ListN.{getD}
+use Prim.Native.Nat.{ℕ, max}
 use Rattle.state.specs.Layout.{storeOf}
-use Rattle.read_lookup.specs.Lookup.{recordedIn, recordEnd, lengthSeen}
-use Rattle.read_lookup.proofs.RunLaws.{reach-none, reach-more}
 use borrow.Author.Needs.{needs}
 use Rattle.read_lookup.proofs.length_for.Statement.{statement}
 use Rattle.read_lookup.proofs.length_for.Tie as tie
 
-abbrev Inv-loop : tie.InvT-loop
-Inv-loop state t used file end₀ k₀ end k = (k ≤ used .records) × (end ≡ lengthSeen state t k file)
-
-abbrev μ-loop : tie.MeasureT-loop
-μ-loop state t used file end₀ k₀ end k = used .records - k
-
-wide-requires : tie.Need-wide-requires Inv-loop μ-loop
-wide-requires c κs = search needs
-
-length-at-requires : tie.Need-length-at-requires Inv-loop μ-loop
-length-at-requires c κs = search needs
-
-wide-requires-2 : tie.Need-wide-requires-2 Inv-loop μ-loop
-wide-requires-2 c κs = search needs
-
-loop-holds : tie.Need-loop-holds Inv-loop μ-loop
-loop-holds c =
-    let a = c .before .before .before .args in (
-      omega arith,
-      c .wide2 .ensures .0
-          ∙ c .before .length-at .ensures
-          ∙ ap (λ (f : ℕ). getD (storeOf (a .state .now) .lengths) f 0) (c .before .before .wide .ensures .0)
-          ∙ sym (reach-none (recordedIn (a .state .now)) (a .t) (a .file) _),
-    )
-
-record-at-requires : tie.Need-record-at-requires Inv-loop μ-loop
-record-at-requires c κs = search needs
-
-end-in-requires : tie.Need-end-in-requires Inv-loop μ-loop
-end-in-requires c κs =
-    let at-loop = c .before .before .before in
-    rw (c .record-at .ensures) (at-loop .before .before .before .before .pre .0 .descriptors (at-loop .loop .k) (omega arith))
-
-larger-requires : tie.Need-larger-requires Inv-loop μ-loop
-larger-requires c κs = search needs
-
-add-k : tie.Need-add-k Inv-loop μ-loop
-add-k c = search needs
-
-loop-less : tie.Need-loop-less Inv-loop μ-loop
-loop-less c = search needs
-
-loop-again : tie.Need-loop-again Inv-loop μ-loop
-loop-again c =
-    let at-loop = c .before .before .before .before .before in
-    let a = at-loop .before .before .before .before .args in
-    let l = at-loop .loop in (
-      omega arith,
-      c .larger .ensures
-          ∙ ap₂ (λ (m n : ℕ). max m n) (l .inv .1)
-          (c .before .end-in .ensures ∙ ap (recordEnd (storeOf (a .state .now) .filenumbers) (a .file))
-          (c .before .before .record-at .ensures))
-          ∙ sym (reach-more (recordedIn (a .state .now)) (a .t) (a .file) _ (l .k)),
-    )
-
-returns : tie.Need-returns Inv-loop μ-loop
+returns : tie.Need-returns
 returns c =
-    let at-loop = c .before .before in
-    let a = at-loop .before .before .before .before .args in
-    let all : at-loop .loop .k ≡ a .used .records = omega arith in
-    at-loop .loop .inv .1 ∙ ap (λ (k : ℕ). lengthSeen (a .state .now) (a .t) k (a .file)) all
+    let widened = c .before in
+    let found = widened .before in
+    let a = found .before .before .args in
+    c .larger .ensures
+    ∙ ap (λ (n : ℕ). max n (a .own))
+    (widened .wide2 .ensures .0
+    ∙ found .length-at .ensures
+    ∙ ap (λ (f : ℕ). getD (storeOf (a .state .now) .lengths) f 0) (found .before .wide .ensures .0))
 
 pub length-for-spec : {M : Type 1} → statement M
 length-for-spec =
     tie.close
     (tie.spec
-    Inv-loop
-    μ-loop
-    wide-requires
-    length-at-requires
-    wide-requires-2
-    loop-holds
-    record-at-requires
-    end-in-requires
-    larger-requires
-    add-k
-    loop-less
-    loop-again
+    (λ c κs. search needs)
+    (λ c κs. search needs)
+    (λ c κs. search needs)
+    (λ c κs. search needs)
     returns)

@@ -43,7 +43,7 @@ unfoldable pub recordIn : Transaction → WriteRecord → Bool
 recordIn x w =
     leb (w .descriptor) lastDescriptor && placeIn (standingAt x (w .descriptor)) (w .place) (w .length)
 
--- The lengths of the first n records of stretch t, together.
+-- The lengths of the first n write records of part t of the journal, together.
 unfoldable pub lengthsBefore : List ℕ → ℕ → ℕ → ℕ
 lengthsBefore journal t n = sum (λ k. writeRecordAt journal t k .length) n
 
@@ -158,7 +158,7 @@ unfoldable pub admissionOfUndo : Sizes → StoreMeaning → List ℕ → ℕ
 admissionOfUndo z s journal = firstTests z s journal (unless (noneBegun s) 23 (unless (s .undo .valid) 24 0))
 
 -- F-10: "19 when a transaction is open at the start, after 2; 20 when .., after 19" [R-16.1]: whether the
--- scripts pass 20 is told.
+-- scripts pass 20 is handed over.
 unfoldable pub admissionOfDispatch : Sizes → StoreMeaning → List ℕ → Bool → ℕ
 admissionOfDispatch z s journal scripts = firstTests z s journal
     (unless (noneBegun s) 19 (unless scripts 20 0))

@@ -1,4 +1,4 @@
--- Check 2 on forged records: each breaks one range, beside a record that stands just within it; and the order
+-- Check 2 on forged states: each breaks one range, beside a state that stands just within it; and the order
 -- of the tests that calls share, each on what fails that test and all later ones.
 use mathlib.Core.Bool.{Bool, true, false}
 use mathlib.Core.List.{List, []}

@@ -1,4 +1,4 @@
-// The tests that calls share: the ranges of the record (refusal 2), and refusals 1 to 3, 6, 14 and 22 to 24
+// The tests that calls share: the ranges of the state (refusal 2), and refusals 1 to 3, 6, 14 and 22 to 24
 // in their order.
 
 use limits::BUFFER_BYTES;
@@ -48,7 +48,7 @@ ghost use Rattle.admission.specs.Admission.{noneBegun};
 ghost use Rattle.admission.specs.Admission.{firstTests, shared, admissionOfWindow, admissionOfUndo};
 ghost use Rattle.admission.specs.Admission.{admissionOfFresh, gateNumber};
 
-// The last file and the last descriptor, as Fresh's list and as the record hold them.
+// The last file and the last descriptor, as Fresh's list and as the state hold them.
 const LAST_LISTED_FILE: u8 = LAST_FILE as u8;
 
 const LAST_FILE_NUMBER: u16 = LAST_FILE as u16;
@@ -79,7 +79,7 @@ fn files_in(files: &[u8]) -> bool
     true
 }
 
-// The first records of transaction t are in range, and their lengths add to bytes.
+// The first write records of transaction t are in range, and their lengths add to bytes.
 fn records_in(state: &State, t: usize, records: usize, bytes: usize) -> bool
     requires { ⌜ (t < transactionCount) × (records ≤ recordCount)
         × (below (λ d. standingIn (standingAt (transactionOf (now state) t) d)) descriptorCount ≡ true) ⌝ }
@@ -184,7 +184,7 @@ fn placed_in(place: Place, n: u16) -> bool
     }
 }
 
-// The last grant's first records are in range, and their lengths add to size.
+// The last grant's first write records are in range, and their lengths add to size.
 fn grant_in(state: &State, records: usize, size: usize) -> bool
     requires { ⌜ records ≤ recordCount ⌝ }
     ensures { λ r. ⌜ r ≡ grantPasses (journalOf (now (state .entry))) records size ⌝ }
@@ -228,7 +228,7 @@ fn undo_in(state: &State) -> bool
     grant_in(state, records, size)
 }
 
-// The record is in range.
+// The state is in range.
 fn store_in(state: &State) -> bool
     ensures { λ r. ⌜ r ≡ storeIn (storeOf (now (state .entry))) (journalOf (now (state .entry))) ⌝ }
 {

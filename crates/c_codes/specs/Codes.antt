@@ -28,9 +28,9 @@ codeOf (pairs n) = pos n
 codeOf (ordered grants gap tried) = pos grants
 codeOf (refused n) = negated n
 
--- The promise of a call: on what it is handed it answers the code of the rule's answer, and leaves record,
+-- The promise of a call: on what it is handed it answers the code of the rule's answer, and leaves state,
 -- buffers and reader's buffer as the rule says; and where that is a refusal other than 13, every number of
--- the record as it was.
+-- the state as it was.
 pub record AnswersAsCode (rule : Machine → Turn) (state files logs marks undo : Lent) (r : ℤ)
     (reader : List ℕ)
     : Type 0 where

@@ -22,7 +22,7 @@ pub record SameStanding (a b c d : ℕ) : Type 0 where
   pub first : (b ≡ 1 → ⊥) → a ≡ c
   pub firstOfKnown : max a 1 ≡ max c 1
 
--- Two records, number by number, in the order of LayoutNumber.antt. The dirty descriptors are the sixteen
+-- Two states, number by number, in the order of LayoutNumber.antt. The dirty descriptors are the sixteen
 -- bits of a number.
 pub record SameNumbers (r s : List ℕ) : Type 0 where
   pub records : (i : ℕ) → i < 1728 → Same r s i

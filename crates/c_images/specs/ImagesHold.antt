@@ -45,7 +45,7 @@ callsOfLives (l ∷ ls) = callsOfLife l ++ (abortAll ++ callsOfLives ls)
 
 pub record ImagesHold : Type 0 where
   -- The image of a store that passes check 2 is not refused, and what is loaded from it is the young store
-  -- with the same committed values and the same grant to take back.
+  -- with the same committed values and the same grant to undo.
   pub rejuvenates :
       (state files logs marks undo newLogs : List ℕ)
       → let m = machineOf state files logs marks undo in storeIn (m .store) (m .journal) ≡ true

@@ -44,7 +44,7 @@ endCode unfinished = 255
 endCode passed = 0
 endCode (failed n) = n
 
--- The promise of the dispatcher; before and after are the numbers of the record.
+-- The promise of the dispatcher; before and after are the numbers of the state.
 pub record Runs (d : Dispatched Machine) (r : ℤ) (ended : List ℕ) (commits : ℕ) (m : Machine)
     (reader before after : List ℕ) : Type 0 where
   pub answer : r ≡ codeOf (saidOf (d .refusal))

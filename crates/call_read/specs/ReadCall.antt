@@ -1,4 +1,4 @@
--- A Read through a descriptor whose place is known, on the record and the buffers.
+-- A Read through a descriptor whose place is known, on the state and the buffers.
 use mathlib.Core.Bool.{true, cond}
 use mathlib.Core.List.{List, _++_}
 use mathlib.Core.Path.{_≡_}
@@ -36,7 +36,7 @@ afterGiving d n e x =
     (withDescriptors (set (x .descriptors) d
     (record { standing = afterRead (e .length) (standingAt x d); dirty = true })) x)
 
--- What is asked before that is put, and the record after it was.
+-- What is asked before that is put, and the state after it was.
 pub record Movable (state : List ℕ) (t d : ℕ) (e : Extent) : Type 0 where
   pub long : length state ≡ stateLength
   pub small : t < transactionCount

@@ -1,4 +1,4 @@
--- A write on the record: whether there is room for it, and what it changes.
+-- A write on the state: whether there is room for it, and what it changes.
 use mathlib.Core.Bool.{true}
 use mathlib.Core.List.{List}
 use lib.Dec.{leb}
@@ -27,7 +27,7 @@ pub record WriteRoom (place : Place) (used : Used) (n : ℕ) : Type 0 where
   pub records : used .records < recordCount
   pub log : used .bytes + n ≤ logBytes
 
--- The record with one write more of transaction t: n bytes through descriptor d, which stood at z, the
+-- The state with one write more of transaction t: n bytes through descriptor d, which stood at z, the
 -- counters as in `used`. First transactions and descriptors, then the journal.
 unfoldable pub storeWritten : ℕ → ℕ → Standing → Used → ℕ → StoreMeaning → StoreMeaning
 storeWritten t d z used n s =

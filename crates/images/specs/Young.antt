@@ -1,4 +1,4 @@
--- How the code puts an image's numbers w 0, w 1, .. into a record, and that it then means what they say.
+-- How the code puts an image's numbers w 0, w 1, .. into a state, and that it then means what they say.
 -- The promises of the calls do not name this; those of the functions below them do.
 use mathlib.Core.List.{List}
 use mathlib.Core.Path.{_≡_}
@@ -28,7 +28,7 @@ putFile w f r =
 unfoldable pub withLastGrant : (ℕ → ℕ) → List ℕ → List ℕ
 withLastGrant w r = withUndoUsedAt (withHeldAt r (isSet (w 57))) (record { records = w 58; bytes = w 59 })
 
--- A record that means what the numbers say.
+-- A state that means what the numbers say.
 pub record Young (w : ℕ → ℕ) (r : List ℕ) : Type 0 where
   pub long : length r ≡ stateLength
   pub store : storeOf r ≡ storeFrom w

@@ -1,4 +1,4 @@
-// Images: what is committed, as numbers in the order of docs/IMAGE.md, whatever the record's layout is.
+// Images: what is committed, as numbers in the order of docs/IMAGE.md, whatever the state's layout is.
 mod parts;
 pub mod saving;
 pub mod words;

@@ -1,4 +1,4 @@
-// The numbers of an image, read from the record by name.
+// The numbers of an image, read from the state by name.
 use crate::words::words_length;
 use limits::wide;
 use standings::Place;
@@ -51,7 +51,7 @@ fn grant_record(state: &State, k: usize) -> WriteRecord
     record_at(state, LAST_GRANT, k)
 }
 
-// The descriptor's number, with 16 added where the record has no place.
+// The descriptor's number, with 16 added where the write record has no place.
 fn holder_of(w: WriteRecord) -> u16
     requires { ⌜ w .descriptor < 65520 ⌝ }
     ensures { λ r. ⌜ r ≡ holderOf w ⌝ }

@@ -10,7 +10,7 @@ ghost use Rattle.state.specs.Layout.{storeOf, journalOf};
 ghost use Rattle.images.specs.Words.{lowFirst};
 ghost use Rattle.images.specs.Images.{numberOf};
 
-// Puts the numbers of the record's image.
+// Puts the numbers of the state's image.
 pub fn put_numbers(state: &State, image: &mut Numbers)
     ensures { λ _. ⌜ now (image .exit)
         ≡ lowFirst (numberOf (storeOf (now (state .entry))) (journalOf (now (state .entry)))) 276 ⌝ }

@@ -1,4 +1,4 @@
-// A young record with what an image says, and the image's own ranges.
+// A young state with what an image says, and the image's own ranges.
 use crate::words::Numbers;
 use crate::words::word_at;
 use counters::Used;
@@ -114,7 +114,7 @@ fn put_records(state: &mut State, image: &Numbers)
     }
 }
 
-// The record of a young store with what the image says.
+// The state of a young store with what the image says.
 pub fn young_record(image: &Numbers) -> State
     ensures { λ r. ⌜ Young (wordAt (now (image .entry))) r ⌝ }
 {

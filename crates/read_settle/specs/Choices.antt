@@ -1,4 +1,4 @@
--- Settling on the record: which descriptors a call settles, and the transaction afterwards. Lists have an
+-- Settling on the state: which descriptors a call settles, and the transaction afterwards. Lists have an
 -- element for each of the sixteen descriptors.
 use mathlib.Core.Bool.{Bool, false, cond, not, _&&_, _||_}
 use mathlib.Core.List.{List}

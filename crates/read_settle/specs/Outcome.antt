@@ -1,4 +1,4 @@
--- The record after a call has settled the chosen descriptors of a transaction.
+-- The state after a call has settled the chosen descriptors of a transaction.
 use mathlib.Core.Bool.{Bool}
 use mathlib.Core.List.{List}
 use mathlib.Core.Path.{_≡_}
@@ -13,7 +13,7 @@ use Rattle.read_settle.specs.Choices.{settledTransaction, settlingOf}
 use Rattle.read_settle.specs.Records.{placedRecords}
 
 -- x is transaction t before; all of its chosen descriptors are settled and its write records placed, or the
--- record is left alone.
+-- state is left alone.
 pub record SettledIn (chosen : List Bool) (t : ℕ) (x : Transaction) (before after : List ℕ)
     (v : Verdict) : Type 0 where
   pub verdict : v ≡ settlingOf chosen (storeOf before .offsets) x .verdict

@@ -41,7 +41,7 @@ pub record Placeable (state : List ℕ) (t records : ℕ) : Type 0 where
   pub committed : (e : ℕ) → e < descriptorCount → getD (storeOf state .offsets) e 0 ≤ fileBytes
   pub standings : (e : ℕ) → e < descriptorCount → standingIn (standingAt (transactionOf state t) e) ≡ true
 
--- The record with these placed, and all else as it was.
+-- The state with these placed, and all else as it was.
 pub record PlacedIn (chosen : List Bool) (t records : ℕ) (before after : List ℕ) : Type 0 where
   pub journal : journalOf after ≡ placedRecords chosen (storeOf before .offsets) (journalOf before) t records
   pub store : storeOf after ≡ storeOf before

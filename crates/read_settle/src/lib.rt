@@ -36,7 +36,7 @@ fn any(chosen: [bool; DESCRIPTORS]) -> bool
     found
 }
 
-// Settles every chosen descriptor of transaction t in the record, or none. The transaction is read whole only
+// Settles every chosen descriptor of transaction t in the state, or none. The transaction is read whole only
 // where one is chosen.
 fn settle_chosen(state: &mut State, t: usize, chosen: [bool; DESCRIPTORS]) -> Verdict
     requires { ⌜ Placeable (now state) t (transactionOf (now state) t .used .records) ⌝ }

@@ -1,4 +1,4 @@
--- The record in a saved block: numbers of 16 bits, low byte first.
+-- The state in a saved block: numbers of 16 bits, low byte first.
 use mathlib.Core.List.{List}
 use lib.ListN.{getD}
 use Prim.Native.Nat.{ℕ, _+_, _*_}

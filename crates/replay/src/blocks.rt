@@ -1,4 +1,4 @@
-// A saved block: the record as little-endian numbers of 16 bits, then the files, the logs, the marks and a
+// A saved block: the state as little-endian numbers of 16 bits, then the files, the logs, the marks and a
 // grant's old bytes, as a caller holds them.
 use limits::BUFFER_BYTES;
 use limits::FILE_BYTES;
@@ -12,7 +12,7 @@ ghost use lib.ListN.{length};
 ghost use Rattle.state.specs.Layout.{stateLength};
 ghost use Rattle.replay.specs.Blocks.{stateOfBlock};
 
-// The bytes of the record in a block, and those of a whole block.
+// The bytes of the state in a block, and those of a whole block.
 const RECORD_BYTES: usize = 2 * STATE_LEN;
 
 pub const BLOCK_BYTES: usize = RECORD_BYTES + 3 * BUFFER_BYTES + FILE_BYTES;
@@ -24,7 +24,7 @@ fn word(low: u8, high: u8) -> u16
     low as u16 + high as u16 * 256
 }
 
-// Puts the numbers of a block into the record.
+// Puts the numbers of a block into the state.
 fn put_numbers(state: &mut [u16], bytes: &[u8])
     requires { ⌜ (length (now state) ≡ stateLength) × (length (now bytes) ≡ 2 * stateLength) ⌝ }
     ensures { λ _. ⌜ now (state .exit) ≡ stateOfBlock (now (bytes .entry)) ⌝ }

@@ -44,7 +44,7 @@ pub record NothingLost (m n : Machine) : Type 0 where
   pub windows : n .store .windows ≡ m .store .windows
   pub earlier : earlierIn n ≡ earlierIn m
 
--- A store in range with nothing open, whatever led to it: its record is what numbers mean, and it passes 1, 2
+-- A store in range with nothing open, whatever led to it: its store is what numbers mean, and it passes 1, 2
 -- and 19 of the dispatcher.
 pub record Resting (m : Machine) : Type 0 where
   pub state : List ℕ

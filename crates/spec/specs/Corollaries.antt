@@ -49,7 +49,7 @@ abbrev pub refusalsOfFresh : List ℕ
 refusalsOfFresh = 1 ∷ 14 ∷ []
 
 -- The numbers of the tests are the call's row, in order, and no others; and a refusal is one of the call's
--- own, on any record and any buffers m.
+-- own, on any state and any buffers m.
 pub record RefusalsKnown (m : Machine) : Type 0 where
   pub rows : (c : Call) → map (λ x. x .number) (testsOf c m) ≡ refusalsOf c
   pub freshRow : (numbers : List ℕ) → map (λ x. x .number) (freshTests numbers m) ≡ refusalsOfFresh
@@ -59,7 +59,7 @@ pub record RefusalsKnown (m : Machine) : Type 0 where
 
 -- ---- demand 1 about the code: of Refusals, by the promise of a call
 
--- A call that kept its promise, with outcome o, and left record, buffers and reader's buffer.
+-- A call that kept its promise, with outcome o, and left state, buffers and reader's buffer.
 pub record RefusedByCode (c : Call) (m : Machine) (n : ℕ) (after : Machine) (reader : List ℕ) : Type 0 where
   pub first : firstFailing (testsOf c m) ≡ some n
   pub known : isIn n (refusalsOf c) ≡ true
@@ -94,7 +94,7 @@ Ageless =
     → (cs : List Call) → Alike cs m (rejuvenated m logs)
 
 -- The case of a store at rest: it goes on as the store that was saved would have, with any other logs and
--- marks of their length; and so it does where its record was saved as it lies.
+-- marks of their length; and so it does where its state was saved as it lies.
 pub record LoadedAlike (m : Machine) (logs marks : List ℕ) (cs : List Call) : Type 0 where
   pub ended : Alike cs m (recovered logs marks m)
   pub asItLies : Alike cs m (withLogs logs (withMarking marks m))

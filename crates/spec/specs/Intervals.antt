@@ -4,7 +4,7 @@ use mathlib.Core.List.{List, [], _∷_}
 use lib.Dec.{leb, ltb}
 use Prim.Native.Nat.{ℕ, suc, _+_, _≤_}
 
--- A stretch of places: where it starts, and how many they are.
+-- An interval of places: where it starts, and how many they are.
 pub record Interval : Type 0 where
   pub offset : ℕ
   pub length : ℕ
@@ -16,7 +16,7 @@ interval p n = record { offset = p; length = n }
 abbrev pub intervalEnd : Interval → ℕ
 intervalEnd s = s .offset + s .length
 
--- Whether place p lies in a stretch, and in one of a list.
+-- Whether place p lies in an interval, and in one of a list.
 unfoldable pub inInterval : Interval → ℕ → Bool
 inInterval s p = leb (s .offset) p && ltb p (intervalEnd s)
 
@@ -24,7 +24,7 @@ unfoldable pub listed : List Interval → ℕ → Bool
 listed [] p = false
 listed (s ∷ l) p = inInterval s p || listed l p
 
--- "sorted by offset; touching stretches are joined and none is empty" [R-15.1]: no stretch starts before b,
+-- "sorted by offset; touching stretches are joined and none is empty" [R-15.1]: no interval starts before b,
 -- and each of the others after the first place past the one before it.
 abbrev pub ProperFrom : ℕ → List Interval → Type 0
 ProperFrom b [] = Unit {0}

@@ -20,8 +20,8 @@ use Rattle.spec.specs.Commits.{landsAt}
 use Rattle.spec.specs.Machine.{Machine, withStore, withJournal, withFiles, withOldBytes, fileOf, values}
 use Rattle.spec.specs.Machine.{noWrite}
 
--- A write as it lands in the files buffer, all of them in order, and the record of one with the place at
--- which it lands.
+-- A write as it lands in the files buffer, all of them in order, and the write record of one with the
+-- place at which it lands.
 unfoldable pub landingOf : (ℕ → ℕ) → Values → Write → Landing
 landingOf fileOf v w =
     landing (fileBytes * fileOf (w .descriptor) + landsAt (v (offset (w .descriptor))) (w .place)) (w .bytes)

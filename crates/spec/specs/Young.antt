@@ -9,7 +9,7 @@ use Rattle.spec.specs.Machine.{Machine, withStore, withJournal, withFile
 use Rattle.spec.specs.Calls.{freshStore, freshMachine}
 
 -- One made fresh, with other logs, and given the same files, offsets, lengths and windows, and the same grant
--- to take back: its write records, all else that the record holds of it, and the undo buffer.
+-- to undo: its write records, all else that the state holds of it, and the undo buffer.
 unfoldable pub rejuvenated : Machine → List ℕ → Machine
 rejuvenated m logs =
     let s = m .store in

@@ -24,7 +24,7 @@ decodedAs false h p n = record { descriptor = h - descriptorCount; place = After
 unfoldable pub decoded : ℕ → ℕ → ℕ → WriteRecord
 decoded h p n = decodedAs (ltb h descriptorCount) h p n
 
--- 64 write records make a stretch. Stretch t has those of transaction t; behind all of them stretch 8 has
+-- 64 write records make a part. Part t has those of transaction t; behind all of them part 8 has
 -- those of the last grant, with the places at which they landed (02, F-13).
 abbrev pub lastGrant : ℕ
 lastGrant = transactionCount
@@ -32,17 +32,17 @@ lastGrant = transactionCount
 abbrev pub stretchCount : ℕ
 stretchCount = lastGrant + 1
 
--- How many numbers the journal has: three for each write record of each stretch.
+-- How many numbers the journal has: three for each write record of each part.
 abbrev pub journalLength : ℕ
 journalLength = 3 * (recordCount * stretchCount)
 
--- Write record k of stretch t.
+-- Write record k of part t.
 unfoldable pub writeRecordAt : List ℕ → ℕ → ℕ → WriteRecord
 writeRecordAt journal t k =
     let i = 3 * (recordCount * t + k) in
     decoded (getD journal i 0) (getD journal (i + 1) 0) (getD journal (i + 2) 0)
 
--- The journal with another record there; and with f 0, f 1, .. below n as the first records of stretch t.
+-- The journal with another record there; and with f 0, f 1, .. below n as the first records of part t.
 unfoldable pub withRecordAt : List ℕ → ℕ → ℕ → WriteRecord → List ℕ
 withRecordAt journal t k w =
     let i = 3 * (recordCount * t + k) in

@@ -1,4 +1,4 @@
--- The record as a caller lends it, a list of numbers, and what they mean. Nothing but this and Updates.antt
+-- The state as a caller lends it, a list of numbers, and what they mean. Nothing but this and Updates.antt
 -- knows how they are laid out:
 --     0       the journal (Journal.antt)
 --     1728    the transactions, 38 numbers each; number k of the eight transactions stands in a row, so that
@@ -12,7 +12,7 @@
 --     2080    the ends of their windows
 --     2088    the offsets that the last grant found
 --     2104    the lengths that it found
---     2112    whether it is held, its write records, its bytes
+--     2112    whether it can be undone, its write records, its bytes
 -- Every number is looked at: there is no spare one.
 use mathlib.Core.Bool.{Bool}
 use mathlib.Core.List.{List}
@@ -65,7 +65,7 @@ foundLengthsAt = foundOffsetsAt + descriptorCount
 abbrev pub heldAt : ℕ
 heldAt = foundLengthsAt + fileCount
 
--- How many numbers a record has: the one place that says so.
+-- How many numbers a state has: the one place that says so.
 abbrev pub stateLength : ℕ
 stateLength = heldAt + 3
 
@@ -135,8 +135,8 @@ transactionOf r t =
 unfoldable pub windowOf : List ℕ → ℕ → Window
 windowOf r f = window (getD r (startsAt + f) 0) (getD r (endsAt + f) 0)
 
--- 02, F-13: "the last grant's old .. offsets and lengths are held .. in the record" [R-12.2], beside stretch
--- 8 of the journal and its counters.
+-- 02, F-13: "the last grant's old .. offsets and lengths are held .. in the record" [R-12.2], beside part 8
+-- of the journal and its counters.
 unfoldable pub undoOf : List ℕ → Undo
 undoOf r =
     record {

@@ -1,7 +1,7 @@
-// The journal: the write records of all transactions and of the last grant, the record's first 1,728 numbers.
+// The journal: the write records of all transactions and of the last grant, the state's first 1,728 numbers.
 // A write record takes three numbers in a row: its descriptor, with 16 added while it has no place; its
 // place, or the advance before it; its length. Transaction t's 64 records stand from 3 × 64 × t on, those of
-// the last grant behind them as stretch 8. Only this module and specs/Journal.antt know that.
+// the last grant behind them as part 8. Only this module and specs/Journal.antt know that.
 use crate::layout::State;
 use crate::readers::may_wait_to;
 use limits::DESCRIPTORS;
@@ -16,7 +16,7 @@ ghost use Rattle.state.specs.Journal.{stretchCount, descriptorCode, writ
 ghost use Rattle.state.specs.WriteEnds.{endsBy};
 ghost use Rattle.state.specs.Layout.{journalOf, transactionOf};
 
-// The stretch of the last grant's records.
+// The part of the journal that has the last grant's write records.
 pub const LAST_GRANT: usize = TRANSACTIONS;
 
 // What is added to the descriptor of a record without a place, and the last number that this gives.
@@ -31,7 +31,7 @@ pub struct WriteRecord {
     pub length: u16,
 }
 
-// Write record k of stretch t, which is transaction t's or the last grant's.
+// Write record k of part t, which is transaction t's or the last grant's.
 pub fn record_at(state: &State, t: usize, k: usize) -> WriteRecord
     requires { ⌜ (t < stretchCount) × (k < recordCount) ⌝ }
     ensures { λ r. ⌜ r ≡ writeRecordAt (journalOf (now (state .entry))) t k ⌝ }
@@ -73,7 +73,7 @@ pub fn ends_by(state: &State, t: usize, k: usize, most: usize) -> bool
     may_wait_to(state, t, h - DESCRIPTORS, end)
 }
 
-// The length of write record k of stretch t.
+// The length of write record k of part t.
 pub fn record_length(state: &State, t: usize, k: usize) -> u16
     requires { ⌜ (t < stretchCount) × (k < recordCount) ⌝ }
     ensures { λ r. ⌜ r ≡ writeRecordAt (journalOf (now (state .entry))) t k .length ⌝ }
@@ -92,7 +92,7 @@ fn descriptor_code(d: u16, place: Place) -> u16
     }
 }
 
-// Puts w in the place of write record k of stretch t.
+// Puts w in the place of write record k of part t.
 pub fn put_record(state: &mut State, t: usize, k: usize, w: WriteRecord)
     requires { ⌜ (t < stretchCount) × (k < recordCount) × (w .descriptor < 65520) ⌝ }
     ensures { λ _. ⌜ now (state .exit) ≡ withRecordAt (now (state .entry)) t k w ⌝ }

@@ -1,4 +1,4 @@
-// The record's meaning, read from its numbers and put into them by name.
+// The state's meaning, read from its numbers and put into them by name.
 use crate::DESCRIPTORS;
 use crate::Descriptor;
 use crate::FILES;
@@ -48,10 +48,10 @@ ghost use Rattle.state.specs.Updates.{withHeldAt, withUndoUsedAt, withFo
 ghost use Rattle.state.specs.Layout.{stateLength};
 ghost use Rattle.state.specs.Updates.{copiedTo, withCommittedFound, withFoundCommitted};
 
-// How many numbers a record has.
+// How many numbers a state has.
 pub const STATE_LEN: usize = CAN_UNDO_AT + 3;
 
-// The record, as a caller keeps it and lends it to every call.
+// The state, as a caller keeps it and lends it to every call.
 pub type State = [u16; STATE_LEN];
 
 // How many numbers the last grant found: sixteen offsets, eight lengths.

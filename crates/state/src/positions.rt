@@ -1,4 +1,4 @@
-// Where each number of the record stands: the journal, eight transactions, file numbers, committed offsets,
+// Where each number of the state stands: the journal, eight transactions, file numbers, committed offsets,
 // committed lengths, windows, and what is held of the last grant (specs/Layout.antt). This module is private:
 // in this crate `layout`, `readers` and `journal` use it, and every other crate reads and writes by name. One
 // place is named to the outside, for whoever tests what a call must leave alone: the committed offsets.

@@ -1,4 +1,4 @@
-// Tests of what the record holds, made on its numbers: none takes a standing apart, and those that go over
+// Tests of what the state holds, made on its numbers: none takes a standing apart, and those that go over
 // several have no branch. What they promise speaks of the meaning alone.
 use crate::DESCRIPTORS;
 use crate::FILES;

@@ -257,7 +257,7 @@ fn undo_taken(h: usize, state: &State) -> usize
     found_taken(landed_taken(counters, state, records), state)
 }
 
-// The digest of a state: what the record says, however it is arranged, then the store buffers.
+// The digest of a state: what it says, however it is arranged, then the store buffers.
 pub fn of_state(state: &State, files: &[u8], logs: &[u8], marks: &[u8], undo: &[u8]) -> usize {
     let all = undo_taken(transactions_taken(committed_taken(0, state), state), state);
     let shared = octets_taken(octets_taken(octets_taken(all, files), logs), marks);

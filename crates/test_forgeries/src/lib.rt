@@ -1,4 +1,4 @@
-// Forged records, which no run from Fresh reaches.
+// Forged states, which no run from Fresh reaches.
 use counters::Used;
 use limits::FILE_BYTES;
 use limits::FILE_END;
@@ -82,7 +82,7 @@ fn forge_window(state: &mut State, g: Damage)
     put_window(state, f, w);
 }
 
-// Forgeries 3 to 7: a standing out of range, whose numbers have room in the record.
+// Forgeries 3 to 7: a standing out of range, whose numbers have room in the state.
 fn standing(forgery: usize, excess: usize) -> Standing
     ensures { λ r. ⌜ standingFits r ⌝ }
 {
@@ -132,7 +132,7 @@ fn forge_transaction(state: &mut State, g: Damage)
     }
 }
 
-// Other counters of stretch t. A number of the record has sixteen bits.
+// Other counters of part t of the journal. A number of the state has sixteen bits.
 fn forge_used(state: &mut State, t: usize, records: usize, bytes: u16)
     requires { ⌜ t < 9 ⌝ }
 {
@@ -144,7 +144,7 @@ fn forge_used(state: &mut State, t: usize, records: usize, bytes: u16)
     }
 }
 
-// What a stretch of the journal has in use: a transaction's, or the last grant's.
+// What a part of the journal has in use: a transaction's, or the last grant's.
 fn used_in(state: &State, t: usize) -> Used
     requires { ⌜ t < 9 ⌝ }
 {
@@ -165,7 +165,7 @@ fn write_at(p: u16, length: u16) -> WriteRecord
     }
 }
 
-// Stretch t has a write record: where it had none it gets an empty one, at place 0.
+// Part t has a write record: where it had none it gets an empty one, at place 0.
 fn write_one(state: &mut State, t: usize)
     requires { ⌜ t < 9 ⌝ }
 {
@@ -176,7 +176,7 @@ fn write_one(state: &mut State, t: usize)
     }
 }
 
-// The first record of stretch t: its descriptor (10), its end (11), or the sum of the lengths (12).
+// The first record of part t: its descriptor (10), its end (11), or the sum of the lengths (12).
 fn forge_record(state: &mut State, t: usize, what: usize, excess: usize)
     requires { ⌜ t < 9 ⌝ }
 {
@@ -225,7 +225,7 @@ fn forge_place(state: &mut State, g: Damage)
     put_descriptor(state, t, i, q);
 }
 
-// Stretch t gets two records, each in range, whose data together is above 4,096 bytes.
+// Part t gets two records, each in range, whose data together is above 4,096 bytes.
 fn forge_two(state: &mut State, t: usize, excess: usize)
     requires { ⌜ t < 9 ⌝ }
 {
@@ -298,7 +298,7 @@ fn forge_undo(state: &mut State, g: Damage)
     }
 }
 
-// Puts a number out of range into the record; that of the forgery, 0 to 27, says which. 0 leaves the record.
+// Puts a number out of range into the state; that of the forgery, 0 to 27, says which. 0 leaves the state.
 pub fn forge(state: &mut State, g: Damage)
     requires { ⌜ (g .transaction < 8) × (g .index < 16) ⌝ }
 {

@@ -117,7 +117,7 @@ fn undo(numbers: &[u16]) -> Undo {
         return Undo::NONE;
     }
     Undo {
-        held: true,
+        valid: true,
         log: log(numbers, LAST_GRANT, numbers[HELD + 1], numbers[HELD + 2]),
         offsets: std::array::from_fn(|d| numbers[OFFSETS_FOUND + d]),
         lengths: std::array::from_fn(|f| numbers[LENGTHS_FOUND + f]),
@@ -146,7 +146,7 @@ fn put_store(numbers: &mut [u16; NUMBERS], store: &Store) {
     for t in (0..TRANSACTIONS).filter(|&t| store.transactions[t].begun) {
         put_transaction(numbers, t, &store.transactions[t]);
     }
-    if store.undo.held {
+    if store.undo.valid {
         put_undo(numbers, &store.undo);
     }
 }
@@ -252,7 +252,7 @@ mod tests {
     fn numbers_out_of_range() {
         let mut state = replay::fresh();
         state.apply(&Call::Begin(0));
-        state.store.undo.held = true;
+        state.store.undo.valid = true;
         let block = encode(&state);
         let with = |at: usize, number: u16| {
             let mut block = block.clone();

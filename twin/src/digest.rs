@@ -74,8 +74,8 @@ impl Digest {
     /// Takes in 0 where nothing is held; otherwise 1, records used, bytes used, descriptor, place and length of each record,
     /// then the offsets and the lengths found.
     fn take_undo(&mut self, undo: &Undo) {
-        self.take(undo.held);
-        if !undo.held {
+        self.take(undo.valid);
+        if !undo.valid {
             return;
         }
         self.take(undo.log.records.len() as u64);

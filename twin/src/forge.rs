@@ -62,7 +62,7 @@ fn forge_log(transaction: &mut Transaction, damage: &Damage) {
 /// The forgeries about what is held of the last grant.
 fn forge_undo(undo: &mut Undo, damage: &Damage, above: u16) {
     let i = damage.forged_index as usize;
-    undo.held = true;
+    undo.valid = true;
     match damage.forgery {
         19 => undo.offsets[i] = above,
         20 => undo.lengths[i % FILES] = above,
@@ -134,7 +134,7 @@ pub fn garbage_in_closed(store: &mut Store, marks: &mut [u8], t: usize) {
 pub fn garbage_in_undo(store: &mut Store) {
     let record = WriteRecord { descriptor: 99, place: Place::After(65535), length: 65535 };
     let log = Log { records: vec![record; 255], bytes: 65535 };
-    store.undo = Undo { held: false, log, offsets: [5000; DESCRIPTORS], lengths: [65535; FILES] };
+    store.undo = Undo { valid: false, log, offsets: [5000; DESCRIPTORS], lengths: [65535; FILES] };
 }
 
 /// Puts the record out of its ranges, which Fresh doesn't mind.
@@ -143,7 +143,7 @@ pub fn garbage_in_record(store: &mut Store) {
     store.offsets = [5000; DESCRIPTORS];
     store.lengths = [5000; FILES];
     store.windows = [Window { start: 1440, end: 65535 }; FILES];
-    store.undo.held = true;
+    store.undo.valid = true;
     store.undo.offsets = [5000; DESCRIPTORS];
     store.transactions[7].begun = true;
     store.transactions[7].acted = u16::MAX;

@@ -272,7 +272,7 @@ impl Pair {
     /// The state with garbage where no call looks: for a Begin and a Fresh, some that they have to clear away, and while
     /// nothing is held of a grant, some instead of it.
     fn with_garbage(&self, call: &Call) -> Option<State> {
-        let held = self.state.store.undo.held;
+        let held = self.state.store.undo.valid;
         if held && !matches!(call, Call::Begin(_) | Call::Fresh { .. }) {
             return None;
         }
@@ -292,7 +292,7 @@ impl Pair {
     fn try_on_garbage(&self, call: &Call, expected: &Reply, with_garbage: Option<State>) {
         let Some(mut state) = with_garbage else { return };
         assert_eq!(state.apply(call), *expected, "{call:?} after garbage");
-        if !state.store.undo.held {
+        if !state.store.undo.valid {
             state.store.undo = Undo::NONE;
         }
         assert!(state == self.state, "{call:?} leaves some garbage");
@@ -385,7 +385,7 @@ impl Pair {
             let records = self.expected_held.clone();
             let bytes = records.iter().map(|record| record.length).sum();
             Undo {
-                held: true,
+                valid: true,
                 log: Log { records, bytes },
                 offsets: found.committed.offsets.map(|offset| offset as u16),
                 lengths: found.committed.lengths.map(|length| length as u16),

@@ -79,7 +79,7 @@ pub struct Window {
 /// What is held of the last grant, to take it back. Where nothing is held the rest is free.
 #[derive(Clone, Debug, PartialEq, Eq)]
 pub struct Undo {
-    pub held: bool,
+    pub valid: bool,
     /// Its writes in the order in which they landed, all with a place. The bytes that each landed on lie in the undo
     /// buffer, after those of the writes before it.
     pub log: Log,
@@ -279,11 +279,11 @@ impl Transaction {
 }
 
 impl Undo {
-    pub const NONE: Undo = Undo { held: false, log: Log::EMPTY, offsets: [0; DESCRIPTORS], lengths: [0; FILES] };
+    pub const NONE: Undo = Undo { valid: false, log: Log::EMPTY, offsets: [0; DESCRIPTORS], lengths: [0; FILES] };
 
     /// What is held is in the ranges of placed records, of offsets and of lengths.
     fn in_range(&self) -> bool {
-        !self.held
+        !self.valid
             || self.log.in_range(&[Standing::Untouched; DESCRIPTORS])
                 && self.offsets.iter().chain(&self.lengths).all(|&number| number <= SPAN_16)
     }
@@ -487,7 +487,7 @@ impl Store {
         if self.is_any_open() {
             return Err(Refusal::UndoWhileOpen);
         }
-        if !self.undo.held {
+        if !self.undo.valid {
             return Err(Refusal::NothingToUndo);
         }
         self.put_back(lent);
@@ -712,7 +712,7 @@ impl Store {
     fn hold(&mut self, t: usize) {
         let Store { offsets, lengths, transactions, undo, .. } = self;
         let log = &transactions[t].log;
-        undo.held = true;
+        undo.valid = true;
         undo.log.records.clear();
         undo.log.records.extend(log.records.iter().map(|record| record.landed(offsets)));
         undo.log.bytes = log.bytes;

@@ -8,6 +8,8 @@ use lib.ListN.{getD, length}
 use Prim.Native.Nat.{ℕ, zero, suc, _+_, _≤_, _<_}
 use native.Mathlib.Omega.{arith}
 use borrow.Author.Tests.{leb-true, le-leb, eqb-true, eq-eqb, not-true, not-false}
+use Rattle.limits.specs.Limits.{fileCount, lastFile, fileBytes, bufferBytes, descriptorCount, lastDescriptor, transactionCount}
+use Rattle.limits.specs.Limits.{lastTransaction, recordCount, logBytes, undoBytes}
 use Rattle.windows.specs.Windows.{minuteIn}
 use Rattle.standings.specs.declared.Standing.{Standing}
 use Rattle.standings.specs.declared.Standing.the-variants.{Untouched, Placed, Deferred, Moved, Known}
@@ -148,18 +150,19 @@ unless-zero false n later l e = absurd (let f : n ≡ 0 = e in omega arith)
 
 -- The store buffers have 32,768 bytes each, that of the old bytes 4,096.
 pub record Lengths (z : Sizes) : Type 0 where
-  pub files : z .files ≡ 32768
-  pub logs : z .logs ≡ 32768
-  pub marks : z .marks ≡ 32768
-  pub undo : z .undo ≡ 4096
+  pub files : z .files ≡ bufferBytes
+  pub logs : z .logs ≡ bufferBytes
+  pub marks : z .marks ≡ bufferBytes
+  pub undo : z .undo ≡ undoBytes
 
 lengths-in : (z : Sizes) → sizesIn z ≡ true → Lengths z
 unfolding sizesIn
 lengths-in z e =
-    let last = and-three (eqb (z .files) 32768 && eqb (z .logs) 32768) (eqb (z .marks) 32768) (eqb (z .undo) 4096) e in
+    let last = and-three (eqb (z .files) bufferBytes && eqb (z .logs) bufferBytes) (eqb (z .marks) bufferBytes)
+    (eqb (z .undo) undoBytes) e in
     record {
-      files = eqb-true _ _ (and-left _ (eqb (z .logs) 32768) (last .0));
-      logs = eqb-true _ _ (and-right (eqb (z .files) 32768) _ (last .0));
+      files = eqb-true _ _ (and-left _ (eqb (z .logs) bufferBytes) (last .0));
+      logs = eqb-true _ _ (and-right (eqb (z .files) bufferBytes) _ (last .0));
       marks = eqb-true _ _ (last .1);
       undo = eqb-true _ _ (last .2);
     }
@@ -177,21 +180,21 @@ first-zero z s journal later e =
 pub record Admitted (z : Sizes) (s : StoreMeaning) (journal : List ℕ) (t : ℕ) : Type 0 where
   pub lengths : Lengths z
   pub ranges : storeIn s journal ≡ true
-  pub small : t < 8
+  pub small : t < transactionCount
 
 module _ (z : Sizes) (s : StoreMeaning) (journal : List ℕ) (t : ℕ) where
   pub shared-zero : (later : ℕ) → shared z s journal t later ≡ 0 → Admitted z s journal t × (later ≡ 0)
   unfolding shared
   shared-zero later e =
       let a = first-zero z s journal _ e in
-      let c = unless-zero (leb t 7) 3 later (omega arith) (a .2) in
-      let l = leb-true t 7 (c .0) in
+      let c = unless-zero (leb t lastTransaction) 3 later (omega arith) (a .2) in
+      let l = leb-true t lastTransaction (c .0) in
       (record { lengths = a .0; ranges = a .1; small = omega arith }, c .1)
 
   -- The tests after 1 to 3 decide where these pass, and where not they don't matter.
   pub shared-passed : (later : ℕ) → shared z s journal t 0 ≡ 0 → shared z s journal t later ≡ later
   unfolding shared firstTests unless
-  shared-passed later e = pick (sizesIn z) (storeIn s journal) (leb t 7) e
+  shared-passed later e = pick (sizesIn z) (storeIn s journal) (leb t lastTransaction) e
     where
       pick : (a b c : Bool) → _≡_ {A = ℕ} (cond a (cond b (cond c 0 3) 2) 1) 0 → cond a (cond b (cond c later 3) 2) 1 ≡ later
       pick true true true e = refl
@@ -201,7 +204,7 @@ module _ (z : Sizes) (s : StoreMeaning) (journal : List ℕ) (t : ℕ) where
 
   pub shared-refused : (later n : ℕ) → n ≡ shared z s journal t 0 → 0 < n → shared z s journal t later ≡ n
   unfolding shared firstTests unless
-  shared-refused later n e h = pick (sizesIn z) (storeIn s journal) (leb t 7) e
+  shared-refused later n e h = pick (sizesIn z) (storeIn s journal) (leb t lastTransaction) e
     where
       pick : (a b c : Bool) → n ≡ cond a (cond b (cond c 0 3) 2) 1 → cond a (cond b (cond c later 3) 2) 1 ≡ n
       pick true true true e = absurd (omega arith)
@@ -213,7 +216,7 @@ module _ (z : Sizes) (s : StoreMeaning) (journal : List ℕ) (t : ℕ) where
 pub record AdmittedWindow (z : Sizes) (s : StoreMeaning) (journal : List ℕ) (f start end : ℕ) : Type 0 where
   pub lengths : Lengths z
   pub ranges : storeIn s journal ≡ true
-  pub small : f < 8
+  pub small : f < fileCount
   pub minutes : minuteIn start && minuteIn end ≡ true
 
 pub admitted-window : (z : Sizes) (s : StoreMeaning) (journal : List ℕ) (f start end : ℕ)
@@ -222,21 +225,21 @@ pub admitted-window : (z : Sizes) (s : StoreMeaning) (journal : List ℕ) (f sta
 unfolding admissionOfWindow windowRefusal
 admitted-window z s journal f start end e =
     let a = first-zero z s journal _ e in
-    let c = unless-zero (leb f 7) 6 _ (omega arith) (a .2) in
+    let c = unless-zero (leb f lastFile) 6 _ (omega arith) (a .2) in
     let d = unless-zero (minuteIn start && minuteIn end) 22 0 (omega arith) (c .1) in
-    let l = leb-true f 7 (c .0) in
+    let l = leb-true f lastFile (c .0) in
     record { lengths = a .0; ranges = a .1; small = omega arith; minutes = d .0 }
 
 -- What passed tests of an undo tell.
-pub record AdmittedBack (z : Sizes) (s : StoreMeaning) (journal : List ℕ) : Type 0 where
+pub record AdmittedUndo (z : Sizes) (s : StoreMeaning) (journal : List ℕ) : Type 0 where
   pub lengths : Lengths z
   pub ranges : storeIn s journal ≡ true
-  pub idle : (t : ℕ) → t < 8 → transaction s t .begun ≡ false
-  pub held : s .undo .valid ≡ true
+  pub idle : (t : ℕ) → t < transactionCount → transaction s t .begun ≡ false
+  pub valid : s .undo .valid ≡ true
 
-pub admitted-back : (z : Sizes) (s : StoreMeaning) (journal : List ℕ) → admissionOfUndo z s journal ≡ 0 → AdmittedBack z s journal
+pub admitted-undo : (z : Sizes) (s : StoreMeaning) (journal : List ℕ) → admissionOfUndo z s journal ≡ 0 → AdmittedUndo z s journal
 unfolding admissionOfUndo noneBegun
-admitted-back z s journal e =
+admitted-undo z s journal e =
     let a = first-zero z s journal _ e in
     let c = unless-zero (below (λ t. not (transaction s t .begun)) 8) 23 _ (omega arith) (a .2) in
     let d = unless-zero (s .undo .valid) 24 0 (omega arith) (c .1) in
@@ -244,14 +247,14 @@ admitted-back z s journal e =
       lengths = a .0;
       ranges = a .1;
       idle = λ t l. not-true _ (below-at (λ t. not (transaction s t .begun)) 8 t (c .0) l);
-      held = d .0;
+      valid = d .0;
     }
 
 -- What passed tests of the dispatcher tell.
 pub record AdmittedDispatch (z : Sizes) (s : StoreMeaning) (journal : List ℕ) (scripts : Bool) : Type 0 where
   pub lengths : Lengths z
   pub ranges : storeIn s journal ≡ true
-  pub idle : (t : ℕ) → t < 8 → transaction s t .begun ≡ false
+  pub idle : (t : ℕ) → t < transactionCount → transaction s t .begun ≡ false
   pub pass : scripts ≡ true
 
 pub admitted-dispatch : (z : Sizes) (s : StoreMeaning) (journal : List ℕ) (scripts : Bool)
@@ -273,57 +276,57 @@ admitted-dispatch z s journal scripts e =
 pub record AdmittedFresh (z : Sizes) (xs : List ℕ) : Type 0 where
   pub lengths : Lengths z
   pub sixteen : length xs ≡ 16
-  pub numbers : (d : ℕ) → d < 16 → getD xs d 0 ≤ 7
+  pub numbers : (d : ℕ) → d < descriptorCount → getD xs d 0 ≤ lastFile
 
 pub admitted-fresh : (z : Sizes) (numbers : List ℕ) → admissionOfFresh z numbers ≡ 0 → AdmittedFresh z numbers
 unfolding admissionOfFresh
 admitted-fresh z numbers e =
     let a = unless-zero (sizesIn z && eqb (length numbers) 16) 1 _ (omega arith) e in
-    let b = unless-zero (below (λ d. leb (getD numbers d 0) 7) 16) 14 0 (omega arith) (a .1) in
+    let b = unless-zero (below (λ d. leb (getD numbers d 0) lastFile) descriptorCount) 14 0 (omega arith) (a .1) in
     record {
       lengths = lengths-in z (and-left _ (eqb (length numbers) 16) (a .0));
       sixteen = eqb-true _ _
           (and-right (sizesIn z) _ (a .0));
-      numbers = λ d l. leb-true _ _ (below-at (λ d. leb (getD numbers d 0) 7) 16 d (b .0) l);
+      numbers = λ d l. leb-true _ _ (below-at (λ d. leb (getD numbers d 0) lastFile) descriptorCount d (b .0) l);
     }
 
 -- "in each open transaction": what the ranges say of transaction x with number t, begun.
 pub record TransactionInRange (x : Transaction) (journal : List ℕ) (t : ℕ) : Type 0 where
-  pub standings : (d : ℕ) → d < 16 → standingIn (standingAt x d) ≡ true
-  pub records : x .used .records ≤ 64
-  pub bytes : x .used .bytes ≤ 4096
+  pub standings : (d : ℕ) → d < descriptorCount → standingIn (standingAt x d) ≡ true
+  pub records : x .used .records ≤ recordCount
+  pub bytes : x .used .bytes ≤ logBytes
   pub total : lengthsBefore journal t (x .used .records) ≡ x .used .bytes
   pub writes : (k : ℕ) → k < x .used .records → recordIn x (writeRecordAt journal t k) ≡ true
 
 -- While a grant is held: its records, their places, and the offsets and lengths that it found.
 pub record UndoInRange (u : Undo) (journal : List ℕ) : Type 0 where
-  pub records : u .used .records ≤ 64
-  pub bytes : u .used .bytes ≤ 4096
+  pub records : u .used .records ≤ recordCount
+  pub bytes : u .used .bytes ≤ logBytes
   pub total : lengthsBefore journal lastGrant (u .used .records) ≡ u .used .bytes
   pub writes : (k : ℕ) → k < u .used .records → landedIn (writeRecordAt journal lastGrant k) ≡ true
-  pub offsets : (d : ℕ) → d < 16 → getD (u .offsets) d 0 ≤ 4096
-  pub lengths : (f : ℕ) → f < 8 → getD (u .lengths) f 0 ≤ 4096
+  pub offsets : (d : ℕ) → d < descriptorCount → getD (u .offsets) d 0 ≤ fileBytes
+  pub lengths : (f : ℕ) → f < fileCount → getD (u .lengths) f 0 ≤ fileBytes
 
 module _ (u : Undo) (journal : List ℕ) where
   pub undo-in : undoIn u journal ≡ true → u .valid ≡ true → UndoInRange u journal
   unfolding undoIn grantPasses
   undo-in e b =
       let n = u .used .records in
-      let offsets = below (λ d. leb (getD (u .offsets) d 0) 4096) 16 in
-      let lengths = below (λ f. leb (getD (u .lengths) f 0) 4096) 8 in
+      let offsets = below (λ d. leb (getD (u .offsets) d 0) fileBytes) descriptorCount in
+      let lengths = below (λ f. leb (getD (u .lengths) f 0) fileBytes) fileCount in
       let writes = below (λ k. landedIn (writeRecordAt journal lastGrant k)) n in
       let adds = eqb (lengthsBefore journal lastGrant n) (u .used .bytes) in
-      let first = leb n 64 && leb (u .used .bytes) 4096 in
+      let first = leb n recordCount && leb (u .used .bytes) logBytes in
       let all = and-three (first && offsets) lengths (writes && adds)
       (or-right (u .valid) (first && offsets && lengths && (writes && adds)) b e) in
-      let three = and-three (leb n 64) (leb (u .used .bytes) 4096) offsets (all .0) in
+      let three = and-three (leb n recordCount) (leb (u .used .bytes) logBytes) offsets (all .0) in
       record {
         records = leb-true _ _ (three .0);
         bytes = leb-true _ _ (three .1);
         total = eqb-true _ _ (and-right writes adds (all .2));
         writes = λ k l. below-at (λ k. landedIn (writeRecordAt journal lastGrant k)) n k (and-left writes adds (all .2)) l;
-        offsets = λ d l. leb-true _ _ (below-at (λ d. leb (getD (u .offsets) d 0) 4096) 16 d (three .2) l);
-        lengths = λ f l. leb-true _ _ (below-at (λ f. leb (getD (u .lengths) f 0) 4096) 8 f (all .1) l);
+        offsets = λ d l. leb-true _ _ (below-at (λ d. leb (getD (u .offsets) d 0) fileBytes) descriptorCount d (three .2) l);
+        lengths = λ f l. leb-true _ _ (below-at (λ f. leb (getD (u .lengths) f 0) fileBytes) fileCount f (all .1) l);
       }
 
   pub undo-in-intro : (u .valid ≡ true → UndoInRange u journal) → undoIn u journal ≡ true
@@ -335,36 +338,38 @@ module _ (u : Undo) (journal : List ℕ) where
       (and-both _ _
       (and-both _ _
       (and-both _ _ (le-leb _ _ (r .records)) (le-leb _ _ (r .bytes)))
-      (below-all (λ d. leb (getD (u .offsets) d 0) 4096) 16 (λ d l. le-leb _ _ (r .offsets d l))))
-      (below-all (λ f. leb (getD (u .lengths) f 0) 4096) 8 (λ f l. le-leb _ _ (r .lengths f l))))
+      (below-all (λ d. leb (getD (u .offsets) d 0) fileBytes) descriptorCount (λ d l. le-leb _ _ (r .offsets d l))))
+      (below-all (λ f. leb (getD (u .lengths) f 0) fileBytes) fileCount (λ f l. le-leb _ _ (r .lengths f l))))
       (and-both _ _ (below-all (λ k. landedIn (writeRecordAt journal lastGrant k)) _ (r .writes)) (eq-eqb _ _ (r .total))))
 
 -- What the ranges say of the record.
 pub record InRange (s : StoreMeaning) (journal : List ℕ) : Type 0 where
-  pub files : (d : ℕ) → d < 16 → getD (s .filenumbers) d 0 ≤ 7
-  pub offsets : (d : ℕ) → d < 16 → getD (s .offsets) d 0 ≤ 4096
-  pub lengths : (f : ℕ) → f < 8 → getD (s .lengths) f 0 ≤ 4096
-  pub windows : (f : ℕ) → f < 8 → windowIn (windowAt s f) ≡ true
+  pub files : (d : ℕ) → d < descriptorCount → getD (s .filenumbers) d 0 ≤ lastFile
+  pub offsets : (d : ℕ) → d < descriptorCount → getD (s .offsets) d 0 ≤ fileBytes
+  pub lengths : (f : ℕ) → f < fileCount → getD (s .lengths) f 0 ≤ fileBytes
+  pub windows : (f : ℕ) → f < fileCount → windowIn (windowAt s f) ≡ true
   pub undo : s .undo .valid ≡ true → UndoInRange (s .undo) journal
-  pub transactions : (t : ℕ) → t < 8 → transaction s t .begun ≡ true → TransactionInRange (transaction s t) journal t
+  pub transactions : (t : ℕ) → t < transactionCount → transaction s t .begun ≡ true
+      → TransactionInRange (transaction s t) journal t
 
 module _ (x : Transaction) (journal : List ℕ) (t : ℕ) where
   pub transaction-in : transactionIn x journal t ≡ true → x .begun ≡ true → TransactionInRange x journal t
   unfolding transactionIn journalIn
   transaction-in e b =
       let u = x .used in
-      let both = or-right (x .begun) (below (λ d. standingIn (standingAt x d)) 16 && journalIn x journal t) b e in
+      let both = or-right (x .begun) (below (λ d. standingIn (standingAt x d)) descriptorCount && journalIn x journal t) b e in
       let writes = below (λ k. recordIn x (writeRecordAt journal t k)) (u .records) in
       let adds = eqb (lengthsBefore journal t (u .records)) (u .bytes) in
-      let three = and-three (leb (u .records) 64 && writes) adds (leb (u .bytes) 4096)
-      (and-right (below (λ d. standingIn (standingAt x d)) 16) _ both) in
+      let three = and-three (leb (u .records) recordCount && writes) adds (leb (u .bytes) logBytes)
+      (and-right (below (λ d. standingIn (standingAt x d)) descriptorCount) _ both) in
       record {
-        standings = λ d l. below-at (λ d. standingIn (standingAt x d)) 16 d (and-left _ (journalIn x journal t) both) l;
+        standings = λ d l. below-at (λ d. standingIn (standingAt x d)) descriptorCount d
+            (and-left _ (journalIn x journal t) both) l;
         records = leb-true _ _ (and-left _ writes (three .0));
         bytes = leb-true _ _ (three .2);
         total = eqb-true _ _ (three .1);
         writes = λ k l. below-at (λ k. recordIn x (writeRecordAt journal t k)) (u .records) k
-            (and-right (leb (u .records) 64) _ (three .0)) l;
+            (and-right (leb (u .records) recordCount) _ (three .0)) l;
       }
 
   transaction-in-intro : (x .begun ≡ true → TransactionInRange x journal t) → transactionIn x journal t ≡ true
@@ -372,7 +377,7 @@ module _ (x : Transaction) (journal : List ℕ) (t : ℕ) where
   transaction-in-intro h =
       or-intro (x .begun) _ (λ b.
       let r = h b in
-      and-both _ _ (below-all (λ d. standingIn (standingAt x d)) 16 (r .standings))
+      and-both _ _ (below-all (λ d. standingIn (standingAt x d)) descriptorCount (r .standings))
       (and-both _ _
       (and-both _ _ (and-both _ _ (le-leb _ _ (r .records))
       (below-all (λ k. recordIn x (writeRecordAt journal t k)) _ (r .writes))) (eq-eqb _ _ (r .total)))
@@ -381,18 +386,18 @@ module _ (x : Transaction) (journal : List ℕ) (t : ℕ) where
 pub in-range : (s : StoreMeaning) (journal : List ℕ) → storeIn s journal ≡ true → InRange s journal
 unfolding storeIn tablesIn
 in-range s journal e =
-    let files = below (λ d. leb (getD (s .filenumbers) d 0) 7) 16 in
-    let offsets = below (λ d. leb (getD (s .offsets) d 0) 4096) 16 in
-    let lengths = below (λ f. leb (getD (s .lengths) f 0) 4096) 8 in
-    let windows = below (λ f. windowIn (windowAt s f)) 8 in
+    let files = below (λ d. leb (getD (s .filenumbers) d 0) lastFile) descriptorCount in
+    let offsets = below (λ d. leb (getD (s .offsets) d 0) fileBytes) descriptorCount in
+    let lengths = below (λ f. leb (getD (s .lengths) f 0) fileBytes) fileCount in
+    let windows = below (λ f. windowIn (windowAt s f)) fileCount in
     let last = and-three (files && offsets && lengths) windows (below (λ t. transactionIn (transaction s t) journal t) 8)
     (and-left (tablesIn s journal) (undoIn (s .undo) journal) e) in
     let first = and-three files offsets lengths (last .0) in
     record {
-      files = λ d l. leb-true _ _ (below-at (λ d. leb (getD (s .filenumbers) d 0) 7) 16 d (first .0) l);
-      offsets = λ d l. leb-true _ _ (below-at (λ d. leb (getD (s .offsets) d 0) 4096) 16 d (first .1) l);
-      lengths = λ f l. leb-true _ _ (below-at (λ f. leb (getD (s .lengths) f 0) 4096) 8 f (first .2) l);
-      windows = λ f l. below-at (λ f. windowIn (windowAt s f)) 8 f (last .1) l;
+      files = λ d l. leb-true _ _ (below-at (λ d. leb (getD (s .filenumbers) d 0) lastFile) descriptorCount d (first .0) l);
+      offsets = λ d l. leb-true _ _ (below-at (λ d. leb (getD (s .offsets) d 0) fileBytes) descriptorCount d (first .1) l);
+      lengths = λ f l. leb-true _ _ (below-at (λ f. leb (getD (s .lengths) f 0) fileBytes) fileCount f (first .2) l);
+      windows = λ f l. below-at (λ f. windowIn (windowAt s f)) fileCount f (last .1) l;
       undo = undo-in (s .undo) journal (and-right (tablesIn s journal) (undoIn (s .undo) journal) e);
       transactions = λ t l b. transaction-in (transaction s t) journal t
           (below-at (λ t. transactionIn (transaction s t) journal t) 8 t (last .2) l) b;
@@ -406,17 +411,17 @@ in-range-intro s journal r =
     (and-both _ _
     (and-both _ _
     (and-both _ _
-    (below-all (λ d. leb (getD (s .filenumbers) d 0) 7) 16 (λ d l. le-leb _ _ (r .files d l)))
-    (below-all (λ d. leb (getD (s .offsets) d 0) 4096) 16 (λ d l. le-leb _ _ (r .offsets d l))))
-    (below-all (λ f. leb (getD (s .lengths) f 0) 4096) 8 (λ f l. le-leb _ _ (r .lengths f l))))
-    (below-all (λ f. windowIn (windowAt s f)) 8 (r .windows)))
+    (below-all (λ d. leb (getD (s .filenumbers) d 0) lastFile) descriptorCount (λ d l. le-leb _ _ (r .files d l)))
+    (below-all (λ d. leb (getD (s .offsets) d 0) fileBytes) descriptorCount (λ d l. le-leb _ _ (r .offsets d l))))
+    (below-all (λ f. leb (getD (s .lengths) f 0) fileBytes) fileCount (λ f l. le-leb _ _ (r .lengths f l))))
+    (below-all (λ f. windowIn (windowAt s f)) fileCount (r .windows)))
     (below-all (λ t. transactionIn (transaction s t) journal t) 8
     (λ t l. transaction-in-intro (transaction s t) journal t (r .transactions t l))))
     (undo-in-intro (s .undo) journal (r .undo))
 
 -- What the ranges say of a write record: its descriptor, and its place under that descriptor's standing.
 pub record RecordInRange (x : Transaction) (w : WriteRecord) : Type 0 where
-  pub descriptor : w .descriptor ≤ 15
+  pub descriptor : w .descriptor ≤ lastDescriptor
   pub place : placeIn (standingAt x (w .descriptor)) (w .place) (w .length) ≡ true
 
 pub record-in : (x : Transaction) (w : WriteRecord) → recordIn x w ≡ true → RecordInRange x w
@@ -424,30 +429,36 @@ unfolding recordIn
 record-in x w e =
     let d = w .descriptor in
     let within = placeIn (standingAt x d) (w .place) (w .length) in
-    record { descriptor = leb-true _ _ (and-left (leb d 15) within e); place = and-right (leb d 15) within e }
+    record {
+      descriptor = leb-true _ _ (and-left (leb d lastDescriptor) within e);
+      place = and-right
+          (leb d lastDescriptor) within e;
+    }
 
 -- A standing is in range where the numbers that it carries are.
-pub standing-numbers : (z : Standing) → standingIn z ≡ leb (advance z) 4096 && leb (offsetOf z) 4096
+pub standing-numbers : (z : Standing) → standingIn z ≡ leb (advance z) fileBytes && leb (offsetOf z) fileBytes
 unfolding standingIn
 standing-numbers z = refl
 
 -- A place in range ends at most at 4,096; without a place, also within the standing's advance.
-pub place-end : (z : Standing) (q : Place) (n : ℕ) → placeIn z q n ≡ true → placeNumber q + n ≤ 4096
+pub place-end : (z : Standing) (q : Place) (n : ℕ) → placeIn z q n ≡ true → placeNumber q + n ≤ fileBytes
 unfolding placeIn
 place-end z (At p) n e = leb-true _ _ e
-place-end z (After a) n e = leb-true _ _ (and-left (leb (a + n) 4096) (endsWithin z (a + n)) e)
+place-end z (After a) n e = leb-true _ _ (and-left (leb (a + n) fileBytes) (endsWithin z (a + n)) e)
 
 -- A record of the last grant in range: its descriptor, and where it ends.
-pub landed-in : (w : WriteRecord) → landedIn w ≡ true → (w .descriptor ≤ 15) × (placeNumber (w .place) + w .length ≤ 4096)
+pub landed-in : (w : WriteRecord) → landedIn w ≡ true → (w .descriptor ≤ lastDescriptor)
+    × (placeNumber (w .place) + w .length ≤ fileBytes)
 unfolding landedIn
 landed-in w e =
     let r = record-in ended w e in
     (r .descriptor, place-end (standingAt ended (w .descriptor)) (w .place) (w .length) (r .place))
 
-pub landed-in-intro : (d p n : ℕ) → d ≤ 15 → p + n ≤ 4096 → landedIn (record { descriptor = d; place = At p; length = n }) ≡ true
+pub landed-in-intro : (d p n : ℕ) → d ≤ lastDescriptor → p + n ≤ fileBytes
+    → landedIn (record { descriptor = d; place = At p; length = n }) ≡ true
 unfolding landedIn recordIn placeIn
 landed-in-intro d p n l m = and-both _ _ (le-leb _ _ l) (le-leb _ _ m)
 
 pub place-within : (z : Standing) (a n : ℕ) → placeIn z (After a) n ≡ true → endsWithin z (a + n) ≡ true
 unfolding placeIn
-place-within z a n e = and-right (leb (a + n) 4096) (endsWithin z (a + n)) e
+place-within z a n e = and-right (leb (a + n) fileBytes) (endsWithin z (a + n)) e

@@ -1,3 +1,3 @@
 pub mod Laws
 pub mod Tests
-pub mod Computed
+pub mod ForgedStates

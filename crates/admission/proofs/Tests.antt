@@ -9,6 +9,8 @@ use lib.Dec.{leb, eqb}
 use Prim.Native.Nat.{ℕ, zero, suc, _+_, _≤_, _<_}
 use native.Mathlib.Omega.{arith}
 use borrow.Author.Tests.{ne-eqb, leb-true, le-leb, lt-leb, not-true, not-false}
+use Rattle.limits.specs.Limits.{fileCount, lastFile, fileBytes, descriptorCount, lastDescriptor, recordCount, logBytes}
+use Rattle.limits.specs.Limits.{lastMinute}
 use Rattle.standings.specs.declared.Standing.{Standing}
 use Rattle.standings.specs.declared.Standing.the-variants.{Untouched, Placed, Deferred, Moved, Known}
 use Rattle.standings.specs.declared.Place.{Place}
@@ -42,47 +44,49 @@ and-false false = refl
 
 -- The numbers that they carry are those of the range.
 pub standings-decide : (r : List ℕ) (t : ℕ)
-    → below (λ d. let z = standingAt (transactionOf r t) d in leb (advance z) 4096 && leb (offsetOf z) 4096) 16
-    ≡ below (λ d. standingIn (standingAt (transactionOf r t) d)) 16
+    → below (λ d. let z = standingAt (transactionOf r t) d in leb (advance z) fileBytes && leb (offsetOf z) fileBytes)
+    descriptorCount
+    ≡ below (λ d. standingIn (standingAt (transactionOf r t) d)) descriptorCount
 standings-decide r t = below-same _ _ 16 (λ d h. sym (standing-numbers (standingAt (transactionOf r t) d)))
 
 -- ---- a write record
 
 -- A number at most a is at most 4,096, where a is.
-both-under : (e a : ℕ) → leb a 4096 ≡ true → leb e 4096 && leb e a ≡ leb e a
+both-under : (e a : ℕ) → leb a fileBytes ≡ true → leb e fileBytes && leb e a ≡ leb e a
 both-under e a h = pick (leb e a) refl
   where
-    pick : (b : Bool) → leb e a ≡ b → leb e 4096 && b ≡ b
-    pick true q = let l = leb-true a 4096 h in let m = leb-true e a q in rw (le-leb e 4096 (omega arith))
-    pick false q = and-false (leb e 4096)
+    pick : (b : Bool) → leb e a ≡ b → leb e fileBytes && b ≡ b
+    pick true q = let l = leb-true a fileBytes h in let m = leb-true e a q in rw (le-leb e fileBytes (omega arith))
+    pick false q = and-false (leb e fileBytes)
 
-within-waits : (z : Standing) (e : ℕ) → standingIn z ≡ true → leb e 4096 && endsWithin z e ≡ mayWait z && leb e (advance z)
+within-waits : (z : Standing) (e : ℕ) → standingIn z ≡ true → leb e fileBytes && endsWithin z e ≡ mayWait z && leb e (advance z)
 unfolding standingIn endsWithin
-within-waits Untouched e h = and-false (leb e 4096)
-within-waits (Placed o) e h = and-false (leb e 4096)
-within-waits (Deferred a) e h = both-under e a (and-left (leb a 4096) true h)
-within-waits (Moved a o) e h = both-under e a (and-left (leb a 4096) (leb o 4096) h)
-within-waits (Known o) e h = and-false (leb e 4096)
+within-waits Untouched e h = and-false (leb e fileBytes)
+within-waits (Placed o) e h = and-false (leb e fileBytes)
+within-waits (Deferred a) e h = both-under e a (and-left (leb a fileBytes) true h)
+within-waits (Moved a o) e h = both-under e a (and-left (leb a fileBytes) (leb o fileBytes) h)
+within-waits (Known o) e h = and-false (leb e fileBytes)
 
 -- Where the standings are in range, a record in range ends by 4,096 or where it may.
-place-ends : (z : Standing) (q : Place) (n : ℕ) → standingIn z ≡ true → placeEndsBy 4096 z q n ≡ placeIn z q n
+place-ends : (z : Standing) (q : Place) (n : ℕ) → standingIn z ≡ true → placeEndsBy fileBytes z q n ≡ placeIn z q n
 unfolding placeEndsBy placeIn
 place-ends z (At p) n h = refl
 place-ends z (After a) n h = sym (within-waits z (a + n) h)
 
-pub record-decides : (x : Transaction) (w : WriteRecord) → below (λ d. standingIn (standingAt x d)) 16 ≡ true
-    → endsBy 4096 x w ≡ recordIn x w
+pub record-decides : (x : Transaction) (w : WriteRecord) → below (λ d. standingIn (standingAt x d)) descriptorCount ≡ true
+    → endsBy fileBytes x w ≡ recordIn x w
 unfolding endsBy recordIn
-record-decides x w all = low (leb (w .descriptor) 15) refl
+record-decides x w all = low (leb (w .descriptor) lastDescriptor) refl
   where
     z : Standing
     z = standingAt x (w .descriptor)
 
-    low : (b : Bool) → leb (w .descriptor) 15 ≡ b
-        → b && placeEndsBy 4096 z (w .place) (w .length) ≡ b && placeIn z (w .place) (w .length)
+    low : (b : Bool) → leb (w .descriptor) lastDescriptor ≡ b
+        → b && placeEndsBy fileBytes z (w .place) (w .length) ≡ b && placeIn z (w .place) (w .length)
     low true e =
-        let l = leb-true (w .descriptor) 15 e in
-        place-ends z (w .place) (w .length) (below-at (λ d. standingIn (standingAt x d)) 16 (w .descriptor) all (omega arith))
+        let l = leb-true (w .descriptor) lastDescriptor e in
+        place-ends z (w .place) (w .length)
+        (below-at (λ d. standingIn (standingAt x d)) descriptorCount (w .descriptor) all (omega arith))
     low false e = refl
 
 pub lengths-none : (journal : List ℕ) (t : ℕ) → 0 ≡ lengthsBefore journal t 0
@@ -97,13 +101,13 @@ lengths-more journal t n s v e f = rw (e, f) (sym (sum-more _ n))
 -- ---- a write record of the last grant
 
 module _ (q : Place) (n : ℕ) where
-  pub placed-decides : {p : ℕ} (k m : ℕ) → q ≡ At p → k ≡ placeNumber q → m ≡ n → leb (k + m) 4096 ≡ placeIn Untouched q n
+  pub placed-decides : {p : ℕ} (k m : ℕ) → q ≡ At p → k ≡ placeNumber q → m ≡ n → leb (k + m) fileBytes ≡ placeIn Untouched q n
   unfolding placeIn
   placed-decides k m is-at is-k is-m = rw (is-k, is-m, is-at)
 
   pub unplaced-out : {a : ℕ} → q ≡ After a → false ≡ placeIn Untouched q n
   unfolding placeIn endsWithin
-  unplaced-out {a} is-after = rw is-after (sym (and-false (leb (a + n) 4096)))
+  unplaced-out {a} is-after = rw is-after (sym (and-false (leb (a + n) fileBytes)))
 
 -- An ended transaction has sixteen Untouched descriptors.
 untouched : (d : ℕ) → standingAt ended d ≡ Untouched
@@ -115,14 +119,14 @@ untouched d =
 
 -- Record w, read from the journal.
 module _ (w v : WriteRecord) (is-v : w ≡ v) where
-  pub high-out : 15 < w .descriptor → landedIn v ≡ false
+  pub high-out : lastDescriptor < w .descriptor → landedIn v ≡ false
   unfolding landedIn recordIn
-  high-out l = rw (← is-v, lt-leb (w .descriptor) 15 l)
+  high-out l = rw (← is-v, lt-leb (w .descriptor) lastDescriptor l)
 
-  module _ (low : w .descriptor ≤ 15) (r : Bool) (is-r : r ≡ placeIn Untouched (w .place) (w .length)) where
+  module _ (low : w .descriptor ≤ lastDescriptor) (r : Bool) (is-r : r ≡ placeIn Untouched (w .place) (w .length)) where
     landed-decides : landedIn v ≡ r
     unfolding landedIn recordIn
-    landed-decides = rw (← is-v, le-leb (w .descriptor) 15 low, untouched (w .descriptor), is-r)
+    landed-decides = rw (← is-v, le-leb (w .descriptor) lastDescriptor low, untouched (w .descriptor), is-r)
 
     pub landed-out : not r ≡ true → landedIn v ≡ false
     landed-out h = landed-decides ∙ not-true _ h
@@ -167,10 +171,10 @@ parts false s r j e u = refl
 module _ (r : List ℕ) where
   abbrev pub countersIn : ℕ → Bool
   countersIn t = not (transactionOf r t .begun)
-      || (leb (transactionOf r t .used .records) 64 && leb (transactionOf r t .used .bytes) 4096)
+      || (leb (transactionOf r t .used .records) recordCount && leb (transactionOf r t .used .bytes) logBytes)
 
   abbrev pub standingsIn : ℕ → Bool
-  standingsIn t = not (transactionOf r t .begun) || below (λ d. standingIn (standingAt (transactionOf r t) d)) 16
+  standingsIn t = not (transactionOf r t .begun) || below (λ d. standingIn (standingAt (transactionOf r t) d)) descriptorCount
 
   abbrev pub recordsIn : ℕ → Bool
   recordsIn t = not (transactionOf r t .begun)
@@ -185,13 +189,14 @@ module _ (r : List ℕ) where
 
   -- Counters and standings, tested together.
   pub open-decides : below (λ t. not (transactionOf r t .begun)
-      || (leb (transactionOf r t .used .records) 64 && leb (transactionOf r t .used .bytes) 4096
-      && below (λ d. let z = standingAt (transactionOf r t) d in leb (advance z) 4096 && leb (offsetOf z) 4096) 16)) 8
+      || (leb (transactionOf r t .used .records) recordCount && leb (transactionOf r t .used .bytes) logBytes
+      && below (λ d. let z = standingAt (transactionOf r t) d in leb (advance z) fileBytes && leb (offsetOf z) fileBytes)
+      descriptorCount)) 8
       ≡ below countersIn 8 && below standingsIn 8
   open-decides =
       below-same _ _ 8 (λ t h.
       let x = transactionOf r t in
-      let few = leb (x .used .records) 64 && leb (x .used .bytes) 4096 in
+      let few = leb (x .used .records) recordCount && leb (x .used .bytes) logBytes in
       ap (λ (b : Bool). not (x .begun) || (few && b)) (standings-decide r t) ∙ shared-out (x .begun) few _)
       ∙ sym (below-both countersIn standingsIn 8)
 
@@ -200,7 +205,8 @@ module _ (r : List ℕ) where
   unfolding transactionIn journalIn journalPasses
   transaction-parts t =
       let x = transactionOf r t in
-      parts (x .begun) (below (λ d. standingIn (standingAt x d)) 16) (leb (x .used .records) 64) _ _ (leb (x .used .bytes) 4096)
+      parts (x .begun) (below (λ d. standingIn (standingAt x d)) descriptorCount) (leb (x .used .records) recordCount) _ _
+      (leb (x .used .bytes) logBytes)
 
   all-parts : allIn ≡ below countersIn 8 && below standingsIn 8 && below recordsIn 8
   all-parts =
@@ -251,11 +257,11 @@ module _ (r : List ℕ) where
         pick true q h = refl
         pick false q h = cc
 
-    pub its-standings : standingsIn t ≡ true → below (λ d. standingIn (standingAt (transactionOf r t) d)) 16 ≡ true
+    pub its-standings : standingsIn t ≡ true → below (λ d. standingIn (standingAt (transactionOf r t) d)) descriptorCount ≡ true
     its-standings e = sym (or-begun (transactionOf r t .begun) _ open-one) ∙ e
 
-    pub its-count : countersIn t ≡ true → transactionOf r t .used .records ≤ 64
-    its-count e = leb-true _ 64 (and-left _ _ (sym (or-begun (transactionOf r t .begun) _ open-one) ∙ e))
+    pub its-count : countersIn t ≡ true → transactionOf r t .used .records ≤ recordCount
+    its-count e = leb-true _ recordCount (and-left _ _ (sym (or-begun (transactionOf r t .begun) _ open-one) ∙ e))
 
     pub its-records : (n m : ℕ) (b : Bool) → n ≡ transactionOf r t .used .records → m ≡ transactionOf r t .used .bytes
         → b ≡ journalPasses (transactionOf r t) (journalOf r) t n m → b ≡ recordsIn t
@@ -270,11 +276,12 @@ module _ (r : List ℕ) where
   undo = storeOf r .undo
 
   abbrev found : Bool
-  found = below (λ d. leb (getD (undo .offsets) d 0) 4096) 16 && below (λ f. leb (getD (undo .lengths) f 0) 4096) 8
+  found = below (λ d. leb (getD (undo .offsets) d 0) fileBytes) descriptorCount
+      && below (λ f. leb (getD (undo .lengths) f 0) fileBytes) fileCount
 
-  pub nothing-held : undo .valid ≡ false → true ≡ undoIn undo (journalOf r)
+  pub nothing-to-undo : undo .valid ≡ false → true ≡ undoIn undo (journalOf r)
   unfolding undoIn
-  nothing-held e = or-closed (undo .valid) _ e
+  nothing-to-undo e = or-closed (undo .valid) _ e
 
   module _ (held : undo .valid ≡ true) where
     joined : (a b c d e : Bool) → a && b && c && d && e ≡ a && b && (c && d) && e
@@ -282,26 +289,30 @@ module _ (r : List ℕ) where
     joined true false c d e = refl
     joined false b c d e = refl
 
-    held-in : undoIn undo (journalOf r)
-        ≡ leb (undo .used .records) 64 && leb (undo .used .bytes) 4096 && found
+    valid-in : undoIn undo (journalOf r)
+        ≡ leb (undo .used .records) recordCount && leb (undo .used .bytes) logBytes && found
         && grantPasses (journalOf r) (undo .used .records) (undo .used .bytes)
     unfolding undoIn
-    held-in = or-begun (undo .valid) _ held ∙ joined (leb (undo .used .records) 64) _ _ _ _
+    valid-in = or-begun (undo .valid) _ held ∙ joined (leb (undo .used .records) recordCount) _ _ _ _
 
-    pub grant-records-fail : (n : ℕ) → n ≡ undo .used .records → 64 < n → false ≡ undoIn undo (journalOf r)
-    grant-records-fail n e l = sym (held-in ∙ rw (lt-leb (undo .used .records) 64 (rw e at l)))
+    pub grant-records-fail : (n : ℕ) → n ≡ undo .used .records → recordCount < n → false ≡ undoIn undo (journalOf r)
+    grant-records-fail n e l = sym (valid-in ∙ rw (lt-leb (undo .used .records) recordCount (rw e at l)))
 
-    module _ (n m : ℕ) (is-n : n ≡ undo .used .records) (is-m : m ≡ undo .used .bytes) (few : n ≤ 64) where
-      pub grant-bytes-fail : 4096 < m → false ≡ undoIn undo (journalOf r)
-      grant-bytes-fail l = sym (held-in ∙ rw (
-        le-leb (undo .used .records) 64 (rw is-n at few),
-        lt-leb (undo .used .bytes) 4096 (rw is-m at l),
+    module _ (n m : ℕ) (is-n : n ≡ undo .used .records) (is-m : m ≡ undo .used .bytes) (few : n ≤ recordCount) where
+      pub grant-bytes-fail : logBytes < m → false ≡ undoIn undo (journalOf r)
+      grant-bytes-fail l = sym (valid-in ∙ rw (
+        le-leb (undo .used .records) recordCount (rw is-n at few),
+        lt-leb (undo .used .bytes) logBytes (rw is-m at l),
       ))
 
-      module _ (fits : m ≤ 4096) where
+      module _ (fits : m ≤ logBytes) where
         grant-counted : undoIn undo (journalOf r) ≡ found && grantPasses (journalOf r) n m
-        grant-counted = rw (is-n, is-m) (held-in
-            ∙ rw (le-leb (undo .used .records) 64 (rw is-n at few), le-leb (undo .used .bytes) 4096 (rw is-m at fits)))
+        grant-counted = rw (is-n, is-m) (valid-in
+            ∙ rw (
+              le-leb (undo .used .records) recordCount (rw is-n at few),
+              le-leb (undo .used .bytes) logBytes
+                  (rw is-m at fits),
+            ))
 
         pub found-fails : found ≡ false → false ≡ undoIn undo (journalOf r)
         found-fails e = sym (grant-counted ∙ rw e)
@@ -328,18 +339,20 @@ none-in r e =
 
 -- The starts and ends of the windows are minutes.
 windows-decide : (s : StoreMeaning)
-    → below (λ f. leb (windowAt s f .start) 1439 && leb (windowAt s f .end) 1439) 8 ≡ below (λ f. windowIn (windowAt s f)) 8
+    → below (λ f. leb (windowAt s f .start) lastMinute && leb (windowAt s f .end) lastMinute) fileCount
+    ≡ below (λ f. windowIn (windowAt s f)) fileCount
 unfolding windowIn minuteIn
 windows-decide s = refl
 
 -- Check 2, read by name, but for what is held of the last grant.
-pub tables-decide : (r : List ℕ) → tablesIn (storeOf r) (journalOf r)
-    ≡ below (λ d. leb (getD (storeOf r .filenumbers) d 0) 7) 16 && below (λ d. leb (getD (storeOf r .offsets) d 0) 4096) 16
-    && below (λ f. leb (getD (storeOf r .lengths) f 0) 4096) 8
-    && below (λ f. leb (windowAt (storeOf r) f .start) 1439 && leb (windowAt (storeOf r) f .end) 1439) 8
+pub tables-decided : (r : List ℕ) → tablesIn (storeOf r) (journalOf r)
+    ≡ below (λ d. leb (getD (storeOf r .filenumbers) d 0) lastFile) descriptorCount
+    && below (λ d. leb (getD (storeOf r .offsets) d 0) fileBytes) descriptorCount
+    && below (λ f. leb (getD (storeOf r .lengths) f 0) fileBytes) fileCount
+    && below (λ f. leb (windowAt (storeOf r) f .start) lastMinute && leb (windowAt (storeOf r) f .end) lastMinute) fileCount
     && below (λ t. transactionIn (transactionOf r t) (journalOf r) t) 8
 unfolding tablesIn
-tables-decide r =
+tables-decided r =
     rw (
       windows-decide (storeOf r),
       below-same (λ t. transactionIn (transaction (storeOf r) t) (journalOf r) t)

@@ -224,7 +224,7 @@ pub record Forged : Type 0 where
       (storeIn (granted true 0 0 4096 4096) [] ≡ true) × (storeIn (granted true 0 0 4097 0) [] ≡ false)
       × (storeIn (granted true 0 0 0 4097) [] ≡ false)
   -- What lies about while nothing is held passes.
-  pub nothingHeld : storeIn (granted false 200 9999 9999 9999) (grantJournal (deferred 16 9999) 1) ≡ true
+  pub nothingToUndo : storeIn (granted false 200 9999 9999 9999) (grantJournal (deferred 16 9999) 1) ≡ true
   -- 1: "a store buffer .. has another length" [R-16.1], each of the four one byte too short and one too long.
   pub sizes :
       (sizesIn whole ≡ true)

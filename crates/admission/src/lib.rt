@@ -144,8 +144,8 @@ fn journals_in(state: &State) -> bool
     true
 }
 
-// The transactions are in range. Where none is open there is nothing to test; otherwise counters and standings
-// of the eight at once, then the write records of those that have any.
+// The transactions are in range. Where none is open there is nothing to test; otherwise counters and
+// standings of the eight at once, then the write records of those that have any.
 fn transactions_in(state: &State) -> bool
     ensures { λ r. ⌜ r ≡
         below (λ t. transactionIn (transactionOf (now (state .entry)) t) (journalOf (now (state .entry))) t)
@@ -177,7 +177,7 @@ fn tables_in(state: &State) -> bool
 fn placed_in(place: Place, n: u16) -> bool
     ensures { λ r. ⌜ r ≡ placeIn Untouched place n ⌝ }
 {
-    let end = wide(place.number()) + wide(n);
+    let end = wide(place.place_number()) + wide(n);
     match place {
         Place::At(_) => end <= FILE_BYTES,
         Place::After(_) => false,

@@ -76,8 +76,8 @@ fn request(s: Step) -> Request {
     }
 }
 
-// What a call came to. The code is 0 done, 1 an offset, 2 a count of bytes, 3 granted, 4 a count of pairs, 6 an
-// order, and 10 more than a refusal's number; the number is the one that the outcome carries.
+// What a call came to. The code is 0 done, 1 an offset, 2 a count of bytes, 3 granted, 4 a count of pairs,
+// 6 an order, and 10 more than a refusal's number; the number is the one that the outcome carries.
 struct Answer {
     code: u8,
     number: u64,

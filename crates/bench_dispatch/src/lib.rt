@@ -1,5 +1,5 @@
-// The best order and the dispatcher in loops, over a state and buffers that bench/ lends. They stand apart from
-// `bench_calls`, so that there each call has one caller, which is made part of it.
+// The best order and the dispatcher in loops, over a state and buffers that bench/ lends. They stand apart
+// from `bench_calls`, so that there each call has one caller, which is made part of it.
 use dispatcher::scripts::ScriptCall;
 use dispatcher::scripts::Scripts;
 use state::layout::State;

@@ -144,13 +144,13 @@ some-scaled : (a p : ℕ) → 0 < p → eqb (a * p) 0 ≡ eqb a 0
 some-scaled zero p h = ap (λ (k : ℕ). eqb k 0) (zero-mul p)
 some-scaled (suc a) p h = ne-eqb (suc a * p) 0 (λ e. omega (arith, suc-mul a p)) ∙ sym (ne-eqb (suc a) 0 (λ e. omega arith))
 
-pub some-none : (low x : ℕ) → not (eqb (bitAnd x (span low 0)) 0) ≡ false
-some-none low x = ap (λ (k : ℕ). not (eqb (bitAnd x k) 0)) (span-none low) ∙ ap (λ (k : ℕ). not (eqb k 0)) (and-zero-r x)
+pub some-bit-none : (low x : ℕ) → not (eqb (bitAnd x (span low 0)) 0) ≡ false
+some-bit-none low x = ap (λ (k : ℕ). not (eqb (bitAnd x k) 0)) (span-none low) ∙ ap (λ (k : ℕ). not (eqb k 0)) (and-zero-r x)
 
-pub some-more : (low n x : ℕ) → not (eqb (bitAnd x (span low (suc n))) 0) ≡ not (eqb (bitAnd x (span low n)) 0)
+pub some-bit-more : (low n x : ℕ) → not (eqb (bitAnd x (span low (suc n))) 0) ≡ not (eqb (bitAnd x (span low n)) 0)
     || eqb (bit (low + n) x) 1
 unfolding bit
-some-more low n x =
+some-bit-more low n x =
     let y = x / 2 ^ low in
     let e : suc n ≡ 1 + n = omega arith in
     scaled (suc n)

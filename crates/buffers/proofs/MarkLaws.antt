@@ -12,10 +12,11 @@ use lib.Dec.{eqb, ltb}
 use lib.ListN.{length, getD, set, length-set}
 use lib.Seq.{getD-set-same, getD-set-other, set-getD, set-set, set-out}
 use borrow.Author.Tests.{eqb-true, eqb-false, eq-eqb, ne-eqb, ltb-true, ltb-false, lt-ltb}
+use Rattle.limits.specs.Limits.{bufferBytes, transactionCount, markOctets}
 use Rattle.buffers.specs.Bits.{bit, withBit, span, inFirst, between, firstBits, lastBits, cleared}
 use Rattle.buffers.specs.Marks.{byTransaction, names, hasMark, withMark, withMarks, withoutMarks, hasMarkIn, contains}
-use Rattle.buffers.proofs.BitLaws.{bit-zero, bit-with, with-lt, with-span, with-span-none, with-octet, some-none}
-use Rattle.buffers.proofs.BitLaws.{some-more}
+use Rattle.buffers.proofs.BitLaws.{bit-zero, bit-with, with-lt, with-span, with-span-none, with-octet, some-bit-none}
+use Rattle.buffers.proofs.BitLaws.{some-bit-more}
 use Rattle.buffers.proofs.BitLaws.{some-octet, some-or, length-cleared, cleared-in, cleared-out}
 use Rattle.buffers.proofs.PartLaws.{le-or-lt}
 
@@ -28,44 +29,44 @@ length-with-mark t q marks =
     length-set marks i (withBit (byTransaction .bitOf t q) (getD marks i 0))
 
 -- two pairs of transaction and byte have different octets or bits
-apart : (t q u p : ℕ) → q < 32768 → p < 32768
+apart : (t q u p : ℕ) → q < bufferBytes → p < bufferBytes
     → eqb (byTransaction .octetOf u p) (byTransaction .octetOf t q) && eqb (byTransaction .bitOf u p) (byTransaction .bitOf t q)
     ≡ eqb u t && eqb p q
 apart t q u p h g = pick (eqb u t) refl (eqb p q) refl
   where
-    differ : ((4096 * u + p / 8 ≡ 4096 * t + q / 8) → (p % 8 ≡ q % 8) → ⊥)
-        → eqb (4096 * u + p / 8) (4096 * t + q / 8) && eqb (p % 8) (q % 8) ≡ false
-    differ clash = places (eqb (4096 * u + p / 8) (4096 * t + q / 8)) refl
+    differ : ((markOctets * u + p / 8 ≡ markOctets * t + q / 8) → (p % 8 ≡ q % 8) → ⊥)
+        → eqb (markOctets * u + p / 8) (markOctets * t + q / 8) && eqb (p % 8) (q % 8) ≡ false
+    differ clash = places (eqb (markOctets * u + p / 8) (markOctets * t + q / 8)) refl
       where
-        places : (b : Bool) → eqb (4096 * u + p / 8) (4096 * t + q / 8) ≡ b → b && eqb (p % 8) (q % 8) ≡ false
-        places true e = ne-eqb (p % 8) (q % 8) (clash (eqb-true (4096 * u + p / 8) (4096 * t + q / 8) e))
+        places : (b : Bool) → eqb (markOctets * u + p / 8) (markOctets * t + q / 8) ≡ b → b && eqb (p % 8) (q % 8) ≡ false
+        places true e = ne-eqb (p % 8) (q % 8) (clash (eqb-true (markOctets * u + p / 8) (markOctets * t + q / 8) e))
         places false e = refl
 
     pick : (b : Bool) → eqb u t ≡ b → (c : Bool) → eqb p q ≡ c
-        → eqb (4096 * u + p / 8) (4096 * t + q / 8) && eqb (p % 8) (q % 8) ≡ b && c
+        → eqb (markOctets * u + p / 8) (markOctets * t + q / 8) && eqb (p % 8) (q % 8) ≡ b && c
     pick true e true f = rw (
       eqb-true u t e,
       eqb-true p q f,
-      eq-eqb (4096 * t + q / 8) (4096 * t + q / 8) refl,
+      eq-eqb (markOctets * t + q / 8) (markOctets * t + q / 8) refl,
       eq-eqb (q % 8) (q % 8) refl,
     )
     pick true e false f = differ (λ x y. eqb-false p q f (omega (arith, eqb-true u t e)))
     pick false e c f = differ (λ x y. eqb-false u t e (omega arith))
 
 -- every mark of every transaction then
-pub has-with-mark : (t q u p : ℕ) (marks : List ℕ) → t < 8 → q < 32768 → length marks ≡ 32768
+pub has-with-mark : (t q u p : ℕ) (marks : List ℕ) → t < transactionCount → q < bufferBytes → length marks ≡ bufferBytes
     → hasMark (withMark t q marks) u p ≡ (eqb u t && eqb p q) || hasMark marks u p
 unfolding hasMark names withMark
-has-with-mark t q u p marks small there size = inside (ltb p 32768) refl
+has-with-mark t q u p marks small there size = inside (ltb p bufferBytes) refl
   where
     i : ℕ
-    i = 4096 * t + q / 8
+    i = markOctets * t + q / 8
 
     x : ℕ
     x = getD marks i 0
 
     k : ℕ
-    k = 4096 * u + p / 8
+    k = markOctets * u + p / 8
 
     own : (b : Bool) → eqb (cond b 1 (bit (p % 8) x)) 1 ≡ b || eqb (bit (p % 8) x) 1
     own true = refl
@@ -83,14 +84,14 @@ has-with-mark t q u p marks small there size = inside (ltb p 32768) refl
         ∙ ap (λ (j : ℕ). eqb (p % 8) (q % 8) || eqb (bit (p % 8) (getD marks j 0)) 1) (sym f)
     place false e = ap (λ (y : ℕ). eqb (bit (p % 8) y) 1) (getD-set-other marks i k (withBit (q % 8) x) 0 (eqb-false k i e))
 
-    inside : (b : Bool) → ltb p 32768 ≡ b
+    inside : (b : Bool) → ltb p bufferBytes ≡ b
         → b && eqb (bit (p % 8) (getD (set marks i (withBit (q % 8) x)) k 0)) 1
         ≡ (eqb u t && eqb p q) || (b && eqb (bit (p % 8) (getD marks k 0)) 1)
     inside true e =
         place (eqb k i) refl ∙ ap (λ (b : Bool). b || eqb (bit (p % 8) (getD marks k 0)) 1)
-        (apart t q u p there (ltb-true p 32768 e))
+        (apart t q u p there (ltb-true p bufferBytes e))
     inside false e =
-        let h = ltb-false p 32768 e in
+        let h = ltb-false p bufferBytes e in
         sym (rw (ne-eqb p q (λ f. omega arith)) (or-false (eqb u t && false) ∙ and-false (eqb u t)))
 
 -- ---- a range of marks more
@@ -140,43 +141,44 @@ with-marks-first t from n marks =
 
 pub length-without-marks : (t : ℕ) (marks : List ℕ) → length (withoutMarks t marks) ≡ length marks
 unfolding withoutMarks
-length-without-marks t marks = length-cleared (4096 * t) 4096 marks
+length-without-marks t marks = length-cleared (markOctets * t) markOctets marks
 
 pub has-without-marks : (t u p : ℕ) (marks : List ℕ) → hasMark (withoutMarks t marks) u p ≡ not (eqb u t) && hasMark marks u p
 unfolding hasMark names withoutMarks
-has-without-marks t u p marks = inside (ltb p 32768) refl (eqb u t) refl
+has-without-marks t u p marks = inside (ltb p bufferBytes) refl (eqb u t) refl
   where
-    inside : (b : Bool) → ltb p 32768 ≡ b → (c : Bool) → eqb u t ≡ c
-        → b && eqb (bit (p % 8) (getD (cleared (4096 * t) 4096 marks) (4096 * u + p / 8) 0)) 1
-        ≡ not c && (b && eqb (bit (p % 8) (getD marks (4096 * u + p / 8) 0)) 1)
+    inside : (b : Bool) → ltb p bufferBytes ≡ b → (c : Bool) → eqb u t ≡ c
+        → b && eqb (bit (p % 8) (getD (cleared (markOctets * t) markOctets marks) (markOctets * u + p / 8) 0)) 1
+        ≡ not c && (b && eqb (bit (p % 8) (getD marks (markOctets * u + p / 8) 0)) 1)
     inside false e c f = sym (and-false (not c))
     inside true e true f =
-        let h = ltb-true p 32768 e in
+        let h = ltb-true p bufferBytes e in
         let g = eqb-true u t f in
-        ap (λ (y : ℕ). eqb (bit (p % 8) y) 1) (cleared-in (4096 * t) 4096 marks (4096 * u + p / 8) (omega arith) (omega arith))
+        ap (λ (y : ℕ). eqb (bit (p % 8) y) 1)
+        (cleared-in (markOctets * t) markOctets marks (markOctets * u + p / 8) (omega arith) (omega arith))
         ∙ ap (λ (b : ℕ). eqb b 1) (bit-zero (p % 8))
     inside true e false f =
-        let h = ltb-true p 32768 e in
+        let h = ltb-true p bufferBytes e in
         let g = eqb-false u t f in
         ap (λ (y : ℕ). eqb (bit (p % 8) y) 1)
-        (cleared-out (4096 * t) 4096 marks (4096 * u + p / 8)
+        (cleared-out (markOctets * t) markOctets marks (markOctets * u + p / 8)
         (⊎-elim (λ l. inr (⊎-elim (λ k. absurd (g (omega arith))) (λ k. omega arith) (le-or-lt u t))) (λ l. inl (omega arith))
         (le-or-lt t u)))
 
 -- ---- marks within one octet
 
 module _ (t from : ℕ) (marks : List ℕ) where
-  pub octet-marked : (n : ℕ) → t < 8 → length marks ≡ 32768 → from + n ≤ 32768 → from % 8 + n ≤ 8
-      → withMarks t from n marks ≡ set marks (4096 * t + from / 8)
-      (bitOr (getD marks (4096 * t + from / 8) 0) (span (from % 8) n))
+  pub octet-marked : (n : ℕ) → t < transactionCount → length marks ≡ bufferBytes → from + n ≤ bufferBytes → from % 8 + n ≤ 8
+      → withMarks t from n marks ≡ set marks (markOctets * t + from / 8)
+      (bitOr (getD marks (markOctets * t + from / 8) 0) (span (from % 8) n))
   unfolding withMarks withMark
   octet-marked zero small size inside one =
-      let i = 4096 * t + from / 8 in
+      let i = markOctets * t + from / 8 in
       sym (ap (set marks i) (with-span-none (from % 8) (getD marks i 0)) ∙ set-getD marks i 0)
   octet-marked (suc n) small size inside one =
-      let i = 4096 * t + from / 8 in
+      let i = markOctets * t + from / 8 in
       let v = bitOr (getD marks i 0) (span (from % 8) n) in
-      let e : 4096 * t + (from + n) / 8 ≡ i = omega arith in
+      let e : markOctets * t + (from + n) / 8 ≡ i = omega arith in
       let f : (from + n) % 8 ≡ from % 8 + n = omega arith in
       ap (withMark t (from + n)) (octet-marked n small size (omega arith) (omega arith))
       ∙ ap₂ (λ (j b : ℕ). set (set marks i v) j (withBit b (getD (set marks i v) j 0))) e f
@@ -184,18 +186,18 @@ module _ (t from : ℕ) (marks : List ℕ) where
       ∙ set-set marks i v (withBit (from % 8 + n) v)
       ∙ ap (set marks i) (with-span (from % 8) n (getD marks i 0))
 
-  pub octet-has : (n : ℕ) → from + n ≤ 32768 → from % 8 + n ≤ 8
-      → hasMarkIn marks t from n ≡ not (eqb (bitAnd (getD marks (4096 * t + from / 8) 0) (span (from % 8) n)) 0)
+  pub octet-has : (n : ℕ) → from + n ≤ bufferBytes → from % 8 + n ≤ 8
+      → hasMarkIn marks t from n ≡ not (eqb (bitAnd (getD marks (markOctets * t + from / 8) 0) (span (from % 8) n)) 0)
   unfolding hasMarkIn hasMark names
-  octet-has zero inside one = sym (some-none (from % 8) (getD marks (4096 * t + from / 8) 0))
+  octet-has zero inside one = sym (some-bit-none (from % 8) (getD marks (markOctets * t + from / 8) 0))
   octet-has (suc n) inside one =
-      let i = 4096 * t + from / 8 in
-      let e : 4096 * t + (from + n) / 8 ≡ i = omega arith in
+      let i = markOctets * t + from / 8 in
+      let e : markOctets * t + (from + n) / 8 ≡ i = omega arith in
       let f : (from + n) % 8 ≡ from % 8 + n = omega arith in
-      ap₂ (λ (b : Bool) (c : Bool). b || (c && eqb (bit ((from + n) % 8) (getD marks (4096 * t + (from + n) / 8) 0)) 1))
-      (octet-has n (omega arith) (omega arith)) (lt-ltb (from + n) 32768 (omega arith))
+      ap₂ (λ (b : Bool) (c : Bool). b || (c && eqb (bit ((from + n) % 8) (getD marks (markOctets * t + (from + n) / 8) 0)) 1))
+      (octet-has n (omega arith) (omega arith)) (lt-ltb (from + n) bufferBytes (omega arith))
       ∙ ap₂ (λ (j b : ℕ). not (eqb (bitAnd (getD marks i 0) (span (from % 8) n)) 0) || eqb (bit b (getD marks j 0)) 1) e f
-      ∙ sym (some-more (from % 8) n (getD marks i 0))
+      ∙ sym (some-bit-more (from % 8) n (getD marks i 0))
 
 -- ---- marks stay octets
 
@@ -204,7 +206,7 @@ unfolding withMark
 octets-with-mark t q marks octets p = ⊎-elim out there (le-or-lt (length marks) i)
   where
     i : ℕ
-    i = 4096 * t + q / 8
+    i = markOctets * t + q / 8
 
     x : ℕ
     x = withBit (q % 8) (getD marks i 0)
@@ -268,8 +270,8 @@ has-in-first marks t from n =
 
 -- ---- whole octets of marks
 
-module _ (t from k : ℕ) (whole : from % 8 ≡ 0) (inside : from + 8 * k + 8 ≤ 32768) where
-  place : 4096 * t + (from + 8 * k) / 8 ≡ 4096 * t + from / 8 + k
+module _ (t from k : ℕ) (whole : from % 8 ≡ 0) (inside : from + 8 * k + 8 ≤ bufferBytes) where
+  place : markOctets * t + (from + 8 * k) / 8 ≡ markOctets * t + from / 8 + k
   place = omega arith
 
   first : (from + 8 * k) % 8 ≡ 0
@@ -279,11 +281,11 @@ module _ (t from k : ℕ) (whole : from % 8 ≡ 0) (inside : from + 8 * k + 8 �
   next = omega arith
 
   -- octet k is set
-  pub octets-marked : (marks : List ℕ) → t < 8 → length marks ≡ 32768 → ((i : ℕ) → getD marks i 0 < 256)
-      → set (withMarks t from (8 * k) marks) (4096 * t + from / 8 + k) (span 0 8) ≡ withMarks t from (8 * (k + 1)) marks
+  pub octets-marked : (marks : List ℕ) → t < transactionCount → length marks ≡ bufferBytes → ((i : ℕ) → getD marks i 0 < 256)
+      → set (withMarks t from (8 * k) marks) (markOctets * t + from / 8 + k) (span 0 8) ≡ withMarks t from (8 * (k + 1)) marks
   octets-marked marks small size octets =
       let ys = withMarks t from (8 * k) marks in
-      let i = 4096 * t + from / 8 + k in
+      let i = markOctets * t + from / 8 + k in
       ap (set ys i) (sym (with-octet (getD ys i 0) (octets-with-marks t from (8 * k) marks octets i)))
       ∙ ap₂ (λ (j b : ℕ). set ys j (bitOr (getD ys j 0) (span b 8))) (sym place) (sym first)
       ∙ sym (octet-marked t (from + 8 * k) ys 8 small (length-with-marks t from (8 * k) marks ∙ size) (omega arith) (omega arith))
@@ -291,11 +293,11 @@ module _ (t from k : ℕ) (whole : from % 8 ≡ 0) (inside : from + 8 * k + 8 �
       ∙ ap (λ (n : ℕ). withMarks t from n marks) next
 
   -- octet k is read
-  pub octets-has : (marks : List ℕ) (found : ℕ) → getD marks (4096 * t + from / 8 + k) 0 < 256
+  pub octets-has : (marks : List ℕ) (found : ℕ) → getD marks (markOctets * t + from / 8 + k) 0 < 256
       → not (eqb found 0) ≡ hasMarkIn marks t from (8 * k)
-      → not (eqb (bitOr found (getD marks (4096 * t + from / 8 + k) 0)) 0) ≡ hasMarkIn marks t from (8 * (k + 1))
+      → not (eqb (bitOr found (getD marks (markOctets * t + from / 8 + k) 0)) 0) ≡ hasMarkIn marks t from (8 * (k + 1))
   octets-has marks found octet e =
-      let i = 4096 * t + from / 8 + k in
+      let i = markOctets * t + from / 8 + k in
       let x = getD marks i 0 in
       some-or found x
       ∙ ap₂ _||_ e
@@ -307,7 +309,7 @@ module _ (t from k : ℕ) (whole : from % 8 ≡ 0) (inside : from + 8 * k + 8 �
 
 -- ---- a range by the masks of its ends
 
-module _ (marks : List ℕ) (t from n : ℕ) (some : 0 < n) (inside : from + n ≤ 32768) where
+module _ (marks : List ℕ) (t from n : ℕ) (some : 0 < n) (inside : from + n ≤ bufferBytes) where
   abbrev head : ℕ
   head = inFirst from n
 
@@ -315,22 +317,22 @@ module _ (marks : List ℕ) (t from n : ℕ) (some : 0 < n) (inside : from + n �
   whole = between from n
 
   abbrev i : ℕ
-  i = 4096 * t + (from + n - 1) / 8
+  i = markOctets * t + (from + n - 1) / 8
 
   -- the last octet, where that is another than the first
   in-last : (r : ℕ) → r ≡ n - head - 8 * whole
       → not (eqb (bitAnd (getD marks i 0) (span 0 r)) 0) ≡ hasMarkIn marks t (from + (head + whole * 8)) r
-  in-last zero e = some-none 0 (getD marks i 0) ∙ sym (has-in-none marks t (from + (head + whole * 8)))
+  in-last zero e = some-bit-none 0 (getD marks i 0) ∙ sym (has-in-none marks t (from + (head + whole * 8)))
   in-last (suc r) e =
       let q = from + (head + whole * 8) in
-      let there : i ≡ 4096 * t + q / 8 = omega arith in
+      let there : i ≡ markOctets * t + q / 8 = omega arith in
       let low : 0 ≡ q % 8 = omega arith in
       ap₂ (λ (j b : ℕ). not (eqb (bitAnd (getD marks j 0) (span b (suc r))) 0)) there low
       ∙ sym (octet-has t q marks (suc r) (omega arith) (omega arith))
 
   module _ (first last : ℕ) (is-first : first ≡ firstBits from n) (is-last : last ≡ lastBits from n) where
     abbrev ends : ℕ
-    ends = bitOr (bitAnd (getD marks (4096 * t + from / 8) 0) first) (bitAnd (getD marks i 0) last)
+    ends = bitOr (bitAnd (getD marks (markOctets * t + from / 8) 0) first) (bitAnd (getD marks i 0) last)
 
     abbrev wholeHas : Bool
     wholeHas = hasMarkIn marks t (from + head) (8 * whole)
@@ -341,7 +343,7 @@ module _ (marks : List ℕ) (t from n : ℕ) (some : 0 < n) (inside : from + n �
     ends-has : not (eqb ends 0) ≡ hasMarkIn marks t from head || lastHas (n - head - 8 * whole)
     ends-has =
         rw (is-first, is-last)
-        (some-or (bitAnd (getD marks (4096 * t + from / 8) 0) (firstBits from n)) _
+        (some-or (bitAnd (getD marks (markOctets * t + from / 8) 0) (firstBits from n)) _
         ∙ ap₂ _||_ (sym (octet-has t from marks head (omega arith) (omega arith))) (in-last (n - head - 8 * whole) refl))
 
     -- the ends, and the octets between them

@@ -13,6 +13,7 @@ use lib.Seq.{drop-append-add}
 use lib.Seq.{getD-append-add, getD-take, getD-drop, ext-getD, append-snoc, sets, sets-eq}
 use borrow.Rule.Slice.PartMut.{midOf, putMid, post-is}
 use borrow.Author.Tests.{leb-true, leb-false}
+use Rattle.limits.specs.Limits.{fileCount, fileBytes, bufferBytes}
 use Rattle.buffers.specs.Parts.{pasted, cut, filePart}
 
 pub le-or-lt : (a b : ℕ) → (a ≤ b) ⊎ (b < a)
@@ -220,7 +221,7 @@ pasted-lent d a n at s y h g e =
 
 -- ---- the files of the store buffer
 
-module _ (files : List ℕ) (f : ℕ) (size : length files ≡ 32768) (there : f < 8) where
-  pub length-file : length (filePart files f) ≡ 4096
+module _ (files : List ℕ) (f : ℕ) (size : length files ≡ bufferBytes) (there : f < fileCount) where
+  pub length-file : length (filePart files f) ≡ fileBytes
   unfolding filePart
-  length-file = length-cut files (4096 * f) 4096 (omega arith)
+  length-file = length-cut files (fileBytes * f) fileBytes (omega arith)

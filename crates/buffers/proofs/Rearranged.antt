@@ -8,6 +8,7 @@ use lib.Dec.{eqb, ltb}
 use lib.ListN.{length, getD}
 use lib.Seq.{ext-getD}
 use borrow.Author.Tests.{ltb-true, lt-ltb}
+use Rattle.limits.specs.Limits.{bufferBytes, transactionCount, markOctets}
 use Rattle.buffers.specs.Bits.{bit, bitsOf}
 use Rattle.buffers.specs.Marks.{byByte, byTransaction, names, rearranged, hasMark, withMark, withoutMarks, contains}
 use Rattle.buffers.specs.Marks.{SamePairs}
@@ -18,54 +19,54 @@ use Rattle.buffers.proofs.TableLaws.{length-tabulate, getD-tabulate}
 
 -- octet i of the new arrangement
 octet : List ℕ → ℕ → ℕ
-octet marks i = bitsOf (λ (k : ℕ). names byByte marks (i / 4096) (8 * (i % 4096) + k)) 8
+octet marks i = bitsOf (λ (k : ℕ). names byByte marks (i / markOctets) (8 * (i % markOctets) + k)) 8
 
-size : (marks : List ℕ) → length (rearranged marks) ≡ 32768
+size : (marks : List ℕ) → length (rearranged marks) ≡ bufferBytes
 unfolding rearranged octet
-size marks = length-tabulate (octet marks) 32768
+size marks = length-tabulate (octet marks) bufferBytes
 
 -- its bit k is the mark of transaction i / 4096 on byte 8 * (i % 4096) + k
-octet-bit : (marks : List ℕ) (i k : ℕ) → k < 8 → i < 32768
-    → eqb (bit k (getD (rearranged marks) i 0)) 1 ≡ names byByte marks (i / 4096) (8 * (i % 4096) + k)
+octet-bit : (marks : List ℕ) (i k : ℕ) → k < 8 → i < bufferBytes
+    → eqb (bit k (getD (rearranged marks) i 0)) 1 ≡ names byByte marks (i / markOctets) (8 * (i % markOctets) + k)
 unfolding rearranged octet contains
 octet-bit marks i k h g =
-    ap (λ (x : ℕ). eqb (bit k x) 1) (getD-tabulate (octet marks) 32768 i 0 g)
-    ∙ contains-bits (λ (k : ℕ). names byByte marks (i / 4096) (8 * (i % 4096) + k)) 8 k h
+    ap (λ (x : ℕ). eqb (bit k x) 1) (getD-tabulate (octet marks) bufferBytes i 0 g)
+    ∙ contains-bits (λ (k : ℕ). names byByte marks (i / markOctets) (8 * (i % markOctets) + k)) 8 k h
 
-pairs : (marks : List ℕ) (t q : ℕ) → t < 8 → names byTransaction (rearranged marks) t q ≡ names byByte marks t q
+pairs : (marks : List ℕ) (t q : ℕ) → t < transactionCount → names byTransaction (rearranged marks) t q ≡ names byByte marks t q
 unfolding names
-pairs marks t q small = pick (ltb q 32768) refl
+pairs marks t q small = pick (ltb q bufferBytes) refl
   where
-    pick : (b : Bool) → ltb q 32768 ≡ b
-        → b && eqb (bit (q % 8) (getD (rearranged marks) (4096 * t + q / 8) 0)) 1 ≡ b && eqb (bit t (getD marks q 0)) 1
+    pick : (b : Bool) → ltb q bufferBytes ≡ b
+        → b && eqb (bit (q % 8) (getD (rearranged marks) (markOctets * t + q / 8) 0)) 1 ≡ b && eqb (bit t (getD marks q 0)) 1
     pick false e = refl
     pick true e =
-        let h = ltb-true q 32768 e in
-        let i = 4096 * t + q / 8 in
-        let whose : i / 4096 ≡ t = omega arith in
-        let which : 8 * (i % 4096) + q % 8 ≡ q = omega arith in
+        let h = ltb-true q bufferBytes e in
+        let i = markOctets * t + q / 8 in
+        let whose : i / markOctets ≡ t = omega arith in
+        let which : 8 * (i % markOctets) + q % 8 ≡ q = omega arith in
         octet-bit marks i (q % 8) (omega arith) (omega arith)
         ∙ ap₂ (λ (u p : ℕ). names byByte marks u p) whose which
         ∙ ap (λ (b : Bool). b && eqb (bit t (getD marks q 0)) 1) e
 
-only : (xs ys : List ℕ) → length xs ≡ 32768 → length ys ≡ 32768
+only : (xs ys : List ℕ) → length xs ≡ bufferBytes → length ys ≡ bufferBytes
     → ((i : ℕ) → getD xs i 0 < 256) → ((i : ℕ) → getD ys i 0 < 256)
-    → ((t q : ℕ) → t < 8 → names byTransaction xs t q ≡ names byTransaction ys t q)
+    → ((t q : ℕ) → t < transactionCount → names byTransaction xs t q ≡ names byTransaction ys t q)
     → xs ≡ ys
 unfolding names contains
 only xs ys l m small small′ same =
     ext-getD 0 xs ys (l ∙ sym m) (λ i h. octets-same (getD xs i 0) (getD ys i 0) (small i) (small′ i) (each i (omega arith)))
   where
-    each : (i : ℕ) → i < 32768 → (u : ℕ) → u < 8 → contains (getD xs i 0) u ≡ contains (getD ys i 0) u
+    each : (i : ℕ) → i < bufferBytes → (u : ℕ) → u < 8 → contains (getD xs i 0) u ≡ contains (getD ys i 0) u
     each i h u g =
-        let t = i / 4096 in
-        let q = 8 * (i % 4096) + u in
-        let e : 4096 * t + q / 8 ≡ i = omega arith in
+        let t = i / markOctets in
+        let q = 8 * (i % markOctets) + u in
+        let e : markOctets * t + q / 8 ≡ i = omega arith in
         let f : q % 8 ≡ u = omega arith in
-        let in32 = lt-ltb q 32768 (omega arith) in
+        let in32 = lt-ltb q bufferBytes (omega arith) in
         rw (in32, e, f) at (same t q (omega arith))
 
-marking : (marks : List ℕ) (t q u p : ℕ) → t < 8 → u < 8 → q < 32768
+marking : (marks : List ℕ) (t q u p : ℕ) → t < transactionCount → u < 8 → q < bufferBytes
     → hasMark (withMark t q (rearranged marks)) u p ≡ (eqb u t && eqb p q) || names byByte marks u p
 unfolding hasMark
 marking marks t q u p ht hu hq =

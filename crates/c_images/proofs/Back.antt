@@ -6,6 +6,8 @@ use lib.{Dec.{ltb, leb, eqb}, ListN.{getD, length, take, replicate, length-repli
 use lib.Seq.{take-suc, take-all, getD-at}
 use native.Mathlib.{Nat.{eq-or-lt-of-le, le-of-suc-le-suc, not-suc-le-zero}, Omega.arith}
 use Prim.Native.Nat.{ℕ, zero, suc, _+_, _-_, _*_, _/_, _%_, _≤_, _<_}
+use Rattle.limits.specs.Limits.{fileCount, recordCount}
+use Rattle.state.specs.Journal.{journalLength}
 use Rattle.buffers.{specs.Parts.tabulate, proofs.{BelowLaws.{and-left, and-right, below-at}, PartLaws.le-or-lt}}
 use Rattle.buffers.proofs.TableLaws.{getD-tabulate}
 use Rattle.standings.specs.Table.{placeNumber}
@@ -13,9 +15,10 @@ use Rattle.windows.specs.{declared.Window.Window, Windows.{window, freshWindow}
 use Rattle.state.specs.{declared.journal.WriteRecord.WriteRecord, Layout.isSet, Updates.flagNumber, Journal.{decodedAs, decoded}}
 use Rattle.admission.proofs.Laws.{unless-zero}
 use Rattle.images.specs.Words.{wordAt, lowFirst}
-use Rattle.images.specs.Images.{numberOf, grantRecord, holderOf, noRecord, recordFrom, undoFrom, storeFrom, journalFrom}
+use Rattle.images.specs.Images.{numberOf, grantRecord, recordCode, noRecord, recordFrom, undoFrom, storeFrom, journalFrom}
 use Rattle.images.{specs.Images.{blankRecord, canonical, loadRefusal}, proofs.WordLaws.length-low-first}
-use Rattle.c_images.proofs.WriteRecords.{again-held, has-record, no-record, holder-of-held, place-of-held, length-of-held}
+use Rattle.c_images.proofs.WriteRecords.{again-decoded, has-record, no-record, code-of-decoded, place-of-decoded}
+use Rattle.c_images.proofs.WriteRecords.{length-of-decoded}
 use Rattle.c_images.proofs.WriteRecords.{grant-read}
 use Rattle.c_images.proofs.Columns as at
 
@@ -95,10 +98,11 @@ module _ (w : ℕ → ℕ) (passes : loadRefusal w ≡ 0) where
   unfolding canonical
   flag-is = leb-true (w 57) 1 (and-left (leb (w 57) 1) _ canonical-is)
 
-  blank : (k : ℕ) → k < 64 → w 58 ≤ k → blankRecord w k ≡ true
+  blank : (k : ℕ) → k < recordCount → w 58 ≤ k → blankRecord w k ≡ true
   unfolding canonical
   blank k h l =
-      pick (ltb k (w 58)) refl (below-at (λ j. ltb j (w 58) || blankRecord w j) 64 k (and-right (leb (w 57) 1) _ canonical-is) h)
+      pick (ltb k (w 58)) refl
+      (below-at (λ j. ltb j (w 58) || blankRecord w j) recordCount k (and-right (leb (w 57) 1) _ canonical-is) h)
     where
       pick : (b : Bool) → ltb k (w 58) ≡ b → b || blankRecord w k ≡ true → blankRecord w k ≡ true
       pick true e q = absurd (let m = ltb-true k (w 58) e in let bad : 1 ≤ 0 = omega (arith, m, l) in not-suc-le-zero bad)
@@ -109,12 +113,12 @@ module _ (w : ℕ → ℕ) (passes : loadRefusal w ≡ 0) where
   column from n i l h = let e : from + (i - from) ≡ i = omega arith in
       getD-tabulate (λ k. w (from + k)) n (i - from) 0 (omega arith) ∙ ap w e
 
-  windows-at : (f : ℕ) → f < 8 → getD (storeFrom w .windows) f freshWindow ≡ window (w (41 + f)) (w (49 + f))
+  windows-at : (f : ℕ) → f < fileCount → getD (storeFrom w .windows) f freshWindow ≡ window (w (41 + f)) (w (49 + f))
   unfolding storeFrom
   windows-at f h = getD-tabulate (λ g. window (w (41 + g)) (w (49 + g))) 8 f freshWindow h
 
   -- Write record k: the one that is said, or none.
-  module _ (k : ℕ) (few : k < 64) where
+  module _ (k : ℕ) (few : k < recordCount) where
     none-said : blankRecord w k ≡ true → recordFrom w k ≡ noRecord
     unfolding blankRecord recordFrom decoded decodedAs
     none-said q = let rest = eqb (w (148 + k)) 0 && eqb (w (212 + k)) 0 in let r = and-right (eqb (w (84 + k)) 0) rest q in
@@ -126,8 +130,9 @@ module _ (w : ℕ → ℕ) (passes : loadRefusal w ≡ 0) where
     said-or-none : (b : Bool) → ltb k (w 58) ≡ b → grantRecord (w 58) (journalFrom w) k ≡ recordFrom w k
     unfolding journalFrom recordFrom
     said-or-none true e = has-record (w 58) (journalFrom w) k (ltb-true k (w 58) e)
-        ∙ grant-read (recordFrom w) (replicate 1728 0) (length-replicate {A = ℕ} 1728 0) (w 58) k few (ltb-true k (w 58) e)
-        ∙ again-held (w (84 + k)) (w (148 + k)) (w (212 + k))
+        ∙ grant-read (recordFrom w) (replicate journalLength 0) (length-replicate {A = ℕ} journalLength 0) (w 58) k few
+        (ltb-true k (w 58) e)
+        ∙ again-decoded (w (84 + k)) (w (148 + k)) (w (212 + k))
     said-or-none false e = let l = ltb-false k (w 58) e in
         no-record (w 58) (journalFrom w) k l ∙ sym (none-said (blank k few l))
 
@@ -142,11 +147,11 @@ module _ (w : ℕ → ℕ) (passes : loadRefusal w ≡ 0) where
     unfolding storeFrom undoFrom recordFrom
     records-back l h = let s = storeFrom w in let j = journalFrom w in
         ⊎-elim (λ a. ⊎-elim (λ b. let e : 212 + (i - 212) ≡ i = omega arith in at.record-length-number s j i b h
-        ∙ ap (λ (x : WriteRecord). x .length) (record-back (i - 212) (omega arith)) ∙ length-of-held _ _ _ ∙ ap w e)
+        ∙ ap (λ (x : WriteRecord). x .length) (record-back (i - 212) (omega arith)) ∙ length-of-decoded _ _ _ ∙ ap w e)
         (λ b. let e : 148 + (i - 148) ≡ i = omega arith in at.place-number s j i a b
-        ∙ ap (λ (x : WriteRecord). placeNumber (x .place)) (record-back (i - 148) (omega arith)) ∙ place-of-held _ _ _
-        ∙ ap w e) (le-or-lt 212 i)) (λ a. let e : 84 + (i - 84) ≡ i = omega arith in at.holder-number s j i l a
-        ∙ ap holderOf (record-back (i - 84) (omega arith)) ∙ holder-of-held _ _ _ ∙ ap w e) (le-or-lt 148 i)
+        ∙ ap (λ (x : WriteRecord). placeNumber (x .place)) (record-back (i - 148) (omega arith)) ∙ place-of-decoded _ _ _
+        ∙ ap w e) (le-or-lt 212 i)) (λ a. let e : 84 + (i - 84) ≡ i = omega arith in at.code-number s j i l a
+        ∙ ap recordCode (record-back (i - 84) (omega arith)) ∙ code-of-decoded _ _ _ ∙ ap w e) (le-or-lt 148 i)
 
     found-back : 60 ≤ i → i < 84 → number i ≡ w i
     unfolding storeFrom undoFrom
@@ -163,13 +168,13 @@ module _ (w : ℕ → ℕ) (passes : loadRefusal w ≡ 0) where
     tables-back : 1 ≤ i → i < 41 → number i ≡ w i
     unfolding storeFrom
     tables-back l h = let s = storeFrom w in let j = journalFrom w in
-        ⊎-elim (λ a. at.length-number s j i a h ∙ column 33 8 i a (omega arith))
+        ⊎-elim (λ a. at.committed-length-number s j i a h ∙ column 33 8 i a (omega arith))
         (λ b. ⊎-elim (λ a. at.offset-number s j i a b ∙ column 17 16 i a (omega arith)) (λ a. at.file-number s j i l a
         ∙ column 1 16 i l (omega arith)) (le-or-lt 17 i)) (le-or-lt 33 i)
 
-  held-back : number 57 ≡ w 57
+  decoded-back : number 57 ≡ w 57
   unfolding storeFrom undoFrom
-  held-back = at.held-number (storeFrom w) (journalFrom w) ∙ flag-set (w 57) flag-is
+  decoded-back = at.valid-number (storeFrom w) (journalFrom w) ∙ flag-set (w 57) flag-is
 
   counts-back : (number 58 ≡ w 58) × (number 59 ≡ w 59)
   unfolding storeFrom undoFrom
@@ -178,15 +183,15 @@ module _ (w : ℕ → ℕ) (passes : loadRefusal w ≡ 0) where
   counters-back : (i : ℕ) → 57 ≤ i → i < 60 → number i ≡ w i
   counters-back i l h = ⊎-elim (λ a. let e : i ≡ 59 = omega arith in ap number e ∙ counts-back .1 ∙ ap w (sym e))
       (λ b. ⊎-elim (λ a. let e : i ≡ 58 = omega arith in ap number e ∙ counts-back .0 ∙ ap w (sym e))
-      (λ a. let e : i ≡ 57 = omega arith in ap number e ∙ held-back ∙ ap w (sym e)) (le-or-lt 58 i)) (le-or-lt 59 i)
+      (λ a. let e : i ≡ 57 = omega arith in ap number e ∙ decoded-back ∙ ap w (sym e)) (le-or-lt 58 i)) (le-or-lt 59 i)
 
-  pub number-back : (i : ℕ) → i < 276 → number i ≡ w i
-  number-back i h = ⊎-elim (λ a. records-back i a h) (λ b. ⊎-elim (λ a. found-back i a b)
+  pub image-number-back : (i : ℕ) → i < 276 → number i ≡ w i
+  image-number-back i h = ⊎-elim (λ a. records-back i a h) (λ b. ⊎-elim (λ a. found-back i a b)
       (λ c. ⊎-elim (λ a. counters-back i a c) (λ d. ⊎-elim (λ a. windows-back i a d) (λ f. ⊎-elim (λ a. tables-back i a f)
       (λ a. let e : i ≡ 0 = omega arith in ap number e ∙ at.format-number (storeFrom w) (journalFrom w) ∙ sym format-is
       ∙ ap w (sym e)) (le-or-lt 1 i)) (le-or-lt 41 i)) (le-or-lt 57 i)) (le-or-lt 60 i)) (le-or-lt 84 i)
 
 pub image-back : (numbers : List ℕ) → length numbers ≡ 552 → ((i : ℕ) → getD numbers i 0 < 256) → loadRefusal (wordAt numbers) ≡ 0
     → lowFirst (numberOf (storeFrom (wordAt numbers)) (journalFrom (wordAt numbers))) 276 ≡ numbers
-image-back numbers long small passes = low-first-same _ _ 276 (number-back (wordAt numbers) passes)
+image-back numbers long small passes = low-first-same _ _ 276 (image-number-back (wordAt numbers) passes)
     ∙ words-back numbers small 276 (omega arith) ∙ take-all 552 numbers (omega arith)

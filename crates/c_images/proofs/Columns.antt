@@ -6,16 +6,16 @@ use native.Mathlib.Omega.{arith}
 use Prim.Native.Nat.{ℕ, _-_, _≤_, _<_}
 use Rattle.standings.specs.Table.{placeNumber}
 use Rattle.state.specs.{declared.StoreMeaning.StoreMeaning, StoreMeaning.windowAt, Updates.flagNumber}
-use Rattle.images.specs.Images.{grantRecord, holderOf, recordNumber, grantNumber, tableNumber, numberOf}
+use Rattle.images.specs.Images.{grantRecord, recordCode, recordNumber, grantNumber, tableNumber, numberOf}
 
 module _ (s : StoreMeaning) (journal : List ℕ) where
   pub format-number : numberOf s journal 0 ≡ 1
   unfolding numberOf tableNumber
   format-number = refl
 
-  pub held-number : numberOf s journal 57 ≡ flagNumber (s .undo .valid)
+  pub valid-number : numberOf s journal 57 ≡ flagNumber (s .undo .valid)
   unfolding numberOf grantNumber
-  held-number = refl
+  valid-number = refl
 
   pub records-number : numberOf s journal 58 ≡ s .undo .used .records
   unfolding numberOf grantNumber
@@ -35,9 +35,9 @@ module _ (s : StoreMeaning) (journal : List ℕ) where
     offset-number l h =
         rw (lt-ltb i 57 (omega arith), le-ltb i 1 (omega arith), le-ltb i 17 (omega arith), lt-ltb i 33 (omega arith))
 
-    pub length-number : 33 ≤ i → i < 41 → numberOf s journal i ≡ getD (s .lengths) (i - 33) 0
+    pub committed-length-number : 33 ≤ i → i < 41 → numberOf s journal i ≡ getD (s .lengths) (i - 33) 0
     unfolding numberOf tableNumber
-    length-number l h = rw (
+    committed-length-number l h = rw (
       lt-ltb i 57 (omega arith),
       le-ltb i 1 (omega arith),
       le-ltb i 17 (omega arith),
@@ -88,9 +88,9 @@ module _ (s : StoreMeaning) (journal : List ℕ) where
       lt-ltb i 84 (omega arith),
     )
 
-    pub holder-number : 84 ≤ i → i < 148 → numberOf s journal i ≡ holderOf (grantRecord (s .undo .used .records) journal (i - 84))
+    pub code-number : 84 ≤ i → i < 148 → numberOf s journal i ≡ recordCode (grantRecord (s .undo .used .records) journal (i - 84))
     unfolding numberOf grantNumber recordNumber
-    holder-number l h = rw (
+    code-number l h = rw (
       le-ltb i 57 (omega arith),
       le-ltb i 58 (omega arith),
       le-ltb i 59 (omega arith),

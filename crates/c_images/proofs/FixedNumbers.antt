@@ -98,7 +98,7 @@ module _ (r s : List ℕ) (e : storeOf r ≡ storeOf s) where
         ∙ m .foundOffsets d h;
     foundLengths = λ g h. sym (l .foundLengths g h) ∙ ap (λ (x : StoreMeaning). getD (x .undo .lengths) g 0) e
         ∙ m .foundLengths g h;
-    heldGrant = sym (l .heldGrant) ∙ ap (λ (x : StoreMeaning). x .undo .valid) e ∙ m .heldGrant;
+    undoValid = sym (l .undoValid) ∙ ap (λ (x : StoreMeaning). x .undo .valid) e ∙ m .undoValid;
     grantRecords = ap (λ (u : Used). u .records) grant-same;
     grantBytes = ap (λ (u : Used). u .bytes) grant-same;
   }

@@ -4,6 +4,7 @@ use borrow.Author.Tests.{eq-eqb, ne-eqb}
 use lib.ListN.{length, replicate}
 use native.Mathlib.Omega.{arith}
 use Prim.Native.Nat.{ℕ, _<_}
+use Rattle.limits.specs.Limits.{bufferBytes}
 use Rattle.state.specs.declared.{StoreMeaning.StoreMeaning, outcomes.{Refusal.Refusal, Outcome.Outcome}}
 use Rattle.state.specs.{declared.outcomes.Outcome.the-variants.{Done, Refused}, Layout.{storeOf, journalOf}}
 use Rattle.state.specs.Outcomes.{number, doneAnswer, said}
@@ -40,8 +41,8 @@ module _ (g : Gate) (s : StoreMeaning) (journal : List ℕ) (says : gateNumber g
   out-of-range r e = let n = number-suc r in let q = n .1 in
       refused-by (storeIn s journal) (number r) (omega arith) (gate-number g _ says r e)
 
-  pub in-range : g ≡ Pass → storeIn s journal ≡ true
-  in-range e = unless-zero (storeIn s journal) 2 0 (omega arith) (gate-zero g _ says e) .0
+  pub loaded-in-range : g ≡ Pass → storeIn s journal ≡ true
+  loaded-in-range e = unless-zero (storeIn s journal) 2 0 (omega arith) (gate-zero g _ says e) .0
 
 -- A rule that goes on where its refusal is 0.
 module _ (state files logs marks undo : List ℕ) (n : ℕ) (next : Turn) where
@@ -53,10 +54,10 @@ module _ (state files logs marks undo : List ℕ) (n : ℕ) (next : Turn) where
   refusing r e = turned-follows r [] state files logs marks undo (passing n [] from next)
       (ap (λ (k : ℕ). passing k [] from next) (sym e) ∙ passing-number r [] from next)
 
-  pub granting : (m : Machine) (after : List ℕ) → n ≡ 0 → next ≡ answerWith doneAnswer m
+  pub granting-answer : (m : Machine) (after : List ℕ) → n ≡ 0 → next ≡ answerWith doneAnswer m
       → Meets (passing n [] from next) Done m [] × LeftAsFound Done state after
   unfolding answerWith said
-  granting m after e is = let q = passing-on n [] from next e ∙ is in (
+  granting-answer m after e is = let q = passing-on n [] from next e ∙ is in (
     record {
       outcome = sym (ap (λ (w : Turn). w .reply .answer) q);
       machine = sym (ap (λ (w : Turn). w .after) q);
@@ -76,7 +77,8 @@ module _ (state files logs marks undo : List ℕ) (g : Gate)
 
   pub check-passed : g ≡ Pass → checked Done
   unfolding checkRule
-  check-passed e = granting state files logs marks undo _ _ (machineOf state files logs marks undo) state (gate-zero g _ says e)
+  check-passed e = granting-answer state files logs marks undo _ _ (machineOf state files logs marks undo) state
+      (gate-zero g _ says e)
       refl
 
 -- ---- loading
@@ -91,14 +93,14 @@ module _ (w : ℕ → ℕ) where
   not-canonical h e = rw (eq-eqb (w 0) 1 h, e)
 
   -- The gate on the young record says the rest.
-  pub gate-says : w 0 ≡ 1 → canonical w ≡ true → (young : List ℕ) → Young w young → (g : Gate)
+  pub image-gate-says : w 0 ≡ 1 → canonical w ≡ true → (young : List ℕ) → Young w young → (g : Gate)
       → gateNumber g ≡ unless (storeIn (storeOf young) (journalOf young)) 2 0 → gateNumber g ≡ loadRefusal w
   unfolding loadRefusal
-  gate-says h e young y g says = says ∙ ap₂ (λ (s : StoreMeaning) (j : List ℕ). unless (storeIn s j) 2 0) (y .store)
+  image-gate-says h e young y g says = says ∙ ap₂ (λ (s : StoreMeaning) (j : List ℕ). unless (storeIn s j) 2 0) (y .store)
       (y .journal) ∙ both-passed _ _ _ (eq-eqb (w 0) 1 h) e
 
 pub load-follows : (numbers bytes old state files logs marks undo young files′ marks′ undo′ : List ℕ) → loadRefusal
-    (wordAt numbers) ≡ 0 → Young (wordAt numbers) young → length marks ≡ 32768 → files′ ≡ bytes → marks′ ≡ replicate
+    (wordAt numbers) ≡ 0 → Young (wordAt numbers) young → length marks ≡ bufferBytes → files′ ≡ bytes → marks′ ≡ replicate
     (length marks) 0 → undo′ ≡ old → Meets (loadRule numbers bytes old (machineOf state files logs marks undo)) Done
     (machineOf young files′ logs marks′ undo′) [] × LeftAsFound Done state young
 unfolding loadRule youngWith
@@ -106,5 +108,6 @@ load-follows numbers bytes old state files logs marks undo young files′ marks�
     let m = is-marks ∙ ap (λ (n : ℕ). replicate n 0) l in
     let same : machineOf young files′ logs marks′ undo′ ≡ youngWith (wordAt numbers) bytes old logs =
     λ i. lent (y .store i) (y .journal i) (is-files i) logs (m i) (is-undo i) in
-    granting state files logs marks undo _ _ (machineOf young files′ logs marks′ undo′) young passes (ap (answerWith doneAnswer)
+    granting-answer state files logs marks undo _ _ (machineOf young files′ logs marks′ undo′) young passes
+    (ap (answerWith doneAnswer)
     (sym same))

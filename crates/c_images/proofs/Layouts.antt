@@ -51,6 +51,6 @@ layout-is-numbered r = record {
   windows = window-of r;
   foundOffsets = found-offset-of r;
   foundLengths = found-length-of r;
-  heldGrant = refl;
+  undoValid = refl;
   grantUsed = refl;
 }

@@ -3,6 +3,7 @@
 use mathlib.Core.{List.{List, [], _∷_, _++_}, Path.{_≡_, refl, sym, _∙_, subst⁻¹}}
 use lib.ListN.{length, replicate, length-replicate}
 use Prim.Native.Nat.{ℕ, zero}
+use Rattle.limits.specs.Limits.{bufferBytes}
 use Rattle.spec.specs.{Messages.{Call, afterAll}, Machine.Machine, Calls.{answerWith, passing, callsAfter}}
 use Rattle.spec.specs.{SerializabilityOfStore.FreshlyMade, Recovery.{ProgramRun, abortAll}, Age.rejuvenated}
 use Rattle.spec.proofs.{Refinement.Relation.Sound, Theorems.Serializability.{calls-agree, fresh-facts}}
@@ -20,11 +21,11 @@ load-after m into s = let same = word-back (numberOf (m .store) (m .journal)) 27
     rw (not-refused m (into .logs) _ same (s .shaped) (s .inRange)) (loaded-image m (into .logs) _ same (s .shaped))
 
 -- An image has what a store has that comes back with every transaction ended.
-image-twins : (cs : List Call) (logs : List ℕ) → length logs ≡ 32768 → (m n : Machine) → Twins m n
+image-twins : (cs : List Call) (logs : List ℕ) → length logs ≡ bufferBytes → (m n : Machine) → Twins m n
     → Twins (callsAfter abortAll (callsAfter cs m)) (rejuvenated (callsAfter cs n) logs)
-image-twins cs logs size m n w = let marks : List ℕ = replicate 32768 0 in
+image-twins cs logs size m n w = let marks : List ℕ = replicate bufferBytes 0 in
     let r : ProgramRun =
-    record { calls = cs; logs = logs; marks = marks; logsLength = size; marksLength = length-replicate 32768 zero } in
+    record { calls = cs; logs = logs; marks = marks; logsLength = size; marksLength = length-replicate bufferBytes zero } in
     let down = run-twins r m n w in let k = callsAfter cs n in let s = calls-agree cs n (w .second) .sound in record {
       first = down .first;
       second = young-sound k s logs size;

@@ -2,7 +2,7 @@
 use mathlib.Core.{List.{List, [], _∷_, _++_}, Path.{_≡_, refl, sym, ap, subst, _∙_, fun-ext}}
 use lib.ListN.{getD, length, replicate, length-replicate}
 use Prim.Native.Nat.{ℕ, zero, _+_, _≤_}
-use Rattle.limits.specs.Limits.{fileBytes}
+use Rattle.limits.specs.Limits.{fileBytes, bufferBytes}
 use Rattle.state.specs.Outcomes.{doneAnswer, granted}
 use Rattle.spec.specs.Items.{Values, Item, byte, offset, fileLength}
 use Rattle.spec.specs.{Messages.{Call, Reply, commit, undoCommit, afterAll, repliesTo, grantsAmong}, Machine.{Machine, values}}
@@ -45,7 +45,7 @@ twins-reply cs c m n w = let any = call c m .reply in
     sym (last-reply cs c m any) ∙ ap (lastReply any) (twins-alike (cs ++ (c ∷ [])) m n w .replies) ∙ last-reply cs c n any
 
 -- Both go down: the first is recovered from its state, the second loaded from its image.
-down-twins : (logs marks : List ℕ) → length logs ≡ 32768 → length marks ≡ 32768 → (m n : Machine) → Twins m n
+down-twins : (logs marks : List ℕ) → length logs ≡ bufferBytes → length marks ≡ bufferBytes → (m n : Machine) → Twins m n
     → Twins (recovered logs marks m) (rejuvenated n logs)
 unfolding view
 down-twins logs marks size wide m n w = record {
@@ -92,13 +92,13 @@ same-values m n s = fun-ext each
     each (offset d) = unfold values in ap (λ (l : List ℕ). getD l d 0) (s .offsets)
     each (fileLength f) = unfold values in ap (λ (l : List ℕ). getD l f 0) (s .lengths)
 
-module _ (a b : Machine) (w : Twins a b) (r : Reached a) (logs : List ℕ) (size : length logs ≡ 32768) where
+module _ (a b : Machine) (w : Twins a b) (r : Reached a) (logs : List ℕ) (size : length logs ≡ bufferBytes) where
   abbrev marks : List ℕ
-  marks = replicate 32768 0
+  marks = replicate bufferBytes 0
 
   run-of : List Call → ProgramRun
   run-of cs =
-      record { calls = cs; logs = logs; marks = marks; logsLength = size; marksLength = length-replicate 32768 zero }
+      record { calls = cs; logs = logs; marks = marks; logsLength = size; marksLength = length-replicate bufferBytes zero }
 
   undo-loaded : (zs ys : List Call) (t minute n : ℕ) → let after = call (commit t minute) b .after in
       let young = rejuvenated (callsAfter zs after) logs in let m = callsAfter ys young in
@@ -110,7 +110,7 @@ module _ (a b : Machine) (w : Twins a b) (r : Reached a) (logs : List ℕ) (size
       let after-b = call c b .after in let after : Twins after-a after-b = twins-after (c ∷ []) a b w in
       let saved = twins-after zs after-a after-b after in let found = recovered logs marks (callsAfter zs after-a) in
       let young = rejuvenated (callsAfter zs after-b) logs in
-      let down = down-twins logs marks size (length-replicate 32768 zero) _ _ saved in
+      let down = down-twins logs marks size (length-replicate bufferBytes zero) _ _ saved in
       let end-a = call undoCommit (callsAfter ys found) .after in
       let end-b = call undoCommit (callsAfter ys young) .after in
       let ended : Twins end-a end-b =

@@ -4,6 +4,8 @@ use borrow.Author.Tests.{eq-eqb, le-leb, ltb-false}
 use lib.{Dec.ltb, ListN.{getD, length, replicate, length-replicate, getD-replicate}}
 use native.Mathlib.Omega.{arith}
 use Prim.Native.Nat.{ℕ, _+_, _-_, _≤_, _<_, min}
+use Rattle.limits.specs.Limits.{fileCount, bufferBytes, transactionCount, recordCount}
+use Rattle.state.specs.Journal.{journalLength}
 use Rattle.buffers.{specs.Parts.tabulate, proofs.{BelowLaws.{and-both, below-all}, TableLaws.table-same}}
 use Rattle.standings.specs.Table.{placeNumber}
 use Rattle.windows.specs.Windows.{window, freshWindow}
@@ -14,19 +16,19 @@ use Rattle.state.proofs.JournalLaws.{with-same, read-own}
 use Rattle.admission.{specs.{FirstRefusal.unless, Admission.storeIn}, proofs.Laws.{in-range, in-range-intro, landed-in}}
 use Rattle.spec.specs.{Machine.{Machine, lent}, Calls.{freshStore, freshMachine}, Age.rejuvenated}
 use Rattle.spec.proofs.Refinement.{Relation.Shaped, UndoValues.{SameGrant, undo-same}, IndexedLists.tabulate-getD}
-use Rattle.images.specs.Images.{numberOf, grantRecord, holderOf, recordFrom, undoFrom, storeFrom, journalFrom, blankRecord}
+use Rattle.images.specs.Images.{numberOf, grantRecord, recordCode, recordFrom, undoFrom, storeFrom, journalFrom, blankRecord}
 use Rattle.images.{specs.Images.{canonical, loadRefusal, youngWith}, proofs.YoungLaws.records-cut}
-use Rattle.c_images.proofs.WriteRecords.{again-held, has-record, no-record}
+use Rattle.c_images.proofs.WriteRecords.{again-decoded, has-record, no-record}
 use Rattle.c_images.proofs.Columns as at
 
 listed : {A : Type 0} → (l : List A) (z : A) (n : ℕ) → length l ≡ n → tabulate (λ k. getD l k z) n ≡ l
 listed l z n e = ap (λ (m : ℕ). tabulate (λ k. getD l k z) m) (sym e) ∙ tabulate-getD l z
 
 abbrev zeros : List ℕ
-zeros = replicate 1728 0
+zeros = replicate journalLength 0
 
-long-zeros : length zeros ≡ 1728
-long-zeros = length-replicate {A = ℕ} 1728 0
+long-zeros : length zeros ≡ journalLength
+long-zeros = length-replicate {A = ℕ} journalLength 0
 
 flag-small : (b : Bool) → flagNumber b ≤ 1
 flag-small true = let e : 1 ≤ 1 = omega arith in e
@@ -64,7 +66,7 @@ module _ (s : StoreMeaning) (journal : List ℕ) (w : ℕ → ℕ) (same : (i : 
   module _ (z : Shaped s) where
     undo-is : undoFrom w ≡ s .undo
     unfolding undoFrom
-    undo-is = let flagged = ap isSet (same 57 (omega arith) ∙ at.held-number s journal) ∙ flag-back (s .undo .valid) in
+    undo-is = let flagged = ap isSet (same 57 (omega arith) ∙ at.valid-number s journal) ∙ flag-back (s .undo .valid) in
         let bytes = same 59 (omega arith) ∙ at.bytes-number s journal in
         let offsets = column 60 16 (s .undo .offsets) (omega arith) (z .foundOffsets) (at.found-offset-number s journal) in
         let lengths = column 76 8 (s .undo .lengths) (omega arith) (z .foundLengths) (at.found-length-number s journal) in
@@ -75,8 +77,8 @@ module _ (s : StoreMeaning) (journal : List ℕ) (w : ℕ → ℕ) (same : (i : 
           lengths = lengths i;
         }
 
-    windows-are : tabulate (λ f. window (w (41 + f)) (w (49 + f))) 8 ≡ s .windows
-    windows-are = table-same (λ f. window (w (41 + f)) (w (49 + f))) (λ f. getD (s .windows) f freshWindow) 8
+    windows-are : tabulate (λ f. window (w (41 + f)) (w (49 + f))) fileCount ≡ s .windows
+    windows-are = table-same (λ f. window (w (41 + f)) (w (49 + f))) (λ f. getD (s .windows) f freshWindow) fileCount
         (λ f h. let p : 41 + f - 41 ≡ f = omega arith in let q : 49 + f - 49 ≡ f = omega arith in let a = same (41 + f)
         (omega arith) ∙ at.start-number s journal (41 + f) (omega arith) (omega arith) ∙ ap (λ (k : ℕ). windowAt s k .start)
         p in let b = same (49 + f) (omega arith) ∙ at.end-number s journal (49 + f) (omega arith) (omega arith)
@@ -86,7 +88,7 @@ module _ (s : StoreMeaning) (journal : List ℕ) (w : ℕ → ℕ) (same : (i : 
     unfolding storeFrom
     store-is = let files = column 1 16 (s .filenumbers) (omega arith) (z .files) (at.file-number s journal) in
         let offsets = column 17 16 (s .offsets) (omega arith) (z .offsets) (at.offset-number s journal) in
-        let lengths = column 33 8 (s .lengths) (omega arith) (z .lengths) (at.length-number s journal) in λ i. record {
+        let lengths = column 33 8 (s .lengths) (omega arith) (z .lengths) (at.committed-length-number s journal) in λ i. record {
           filenumbers = files i;
           offsets = offsets i;
           lengths = lengths i;
@@ -97,14 +99,14 @@ module _ (s : StoreMeaning) (journal : List ℕ) (w : ℕ → ℕ) (same : (i : 
 
   -- ---- the write records
 
-  module _ (k : ℕ) (few : k < 64) where
+  module _ (k : ℕ) (few : k < recordCount) where
     abbrev record-k : WriteRecord
     record-k = grantRecord (s .undo .used .records) journal k
 
-    holder-is : w (84 + k) ≡ holderOf record-k
-    holder-is = let p : 84 + k - 84 ≡ k = omega arith in
-        same (84 + k) (omega arith) ∙ at.holder-number s journal (84 + k) (omega arith) (omega arith)
-        ∙ ap (λ (n : ℕ). holderOf (grantRecord (s .undo .used .records) journal n)) p
+    code-is : w (84 + k) ≡ recordCode record-k
+    code-is = let p : 84 + k - 84 ≡ k = omega arith in
+        same (84 + k) (omega arith) ∙ at.code-number s journal (84 + k) (omega arith) (omega arith)
+        ∙ ap (λ (n : ℕ). recordCode (grantRecord (s .undo .used .records) journal n)) p
 
     place-is : w (148 + k) ≡ placeNumber (record-k .place)
     place-is = let p : 148 + k - 148 ≡ k = omega arith in
@@ -118,34 +120,34 @@ module _ (s : StoreMeaning) (journal : List ℕ) (w : ℕ → ℕ) (same : (i : 
 
     record-is : k < s .undo .used .records → recordFrom w k ≡ writeRecordAt journal lastGrant k
     unfolding recordFrom writeRecordAt
-    record-is h = let e = has-record (s .undo .used .records) journal k h in let a = holder-is ∙ ap holderOf e in
+    record-is h = let e = has-record (s .undo .used .records) journal k h in let a = code-is ∙ ap recordCode e in
         let b = place-is ∙ ap (λ (x : WriteRecord). placeNumber (x .place)) e in
-        let c = length-is ∙ ap (λ (x : WriteRecord). x .length) e in (λ i. decoded (a i) (b i) (c i)) ∙ again-held _ _ _
+        let c = length-is ∙ ap (λ (x : WriteRecord). x .length) e in (λ i. decoded (a i) (b i) (c i)) ∙ again-decoded _ _ _
 
     blank-is : s .undo .used .records ≤ k → blankRecord w k ≡ true
     unfolding blankRecord
     blank-is h = let e = no-record (s .undo .used .records) journal k h in
-        and-both _ _ (eq-eqb _ _ (holder-is ∙ ap holderOf e)) (and-both _ _ (eq-eqb _ _ (place-is ∙ ap (λ (x : WriteRecord).
+        and-both _ _ (eq-eqb _ _ (code-is ∙ ap recordCode e)) (and-both _ _ (eq-eqb _ _ (place-is ∙ ap (λ (x : WriteRecord).
         placeNumber (x .place)) e)) (eq-eqb _ _ (length-is ∙ ap (λ (x : WriteRecord). x .length) e)))
 
   journal-is : journalFrom w ≡ youngJournal s journal
   unfolding journalFrom
   journal-is = let n = s .undo .used .records in let own = writeRecordAt journal lastGrant in
       sym (records-cut (recordFrom w) zeros long-zeros (w 58))
-      ∙ ap (λ (m : ℕ). withRecords zeros lastGrant (recordFrom w) (min m 64)) records-are ∙ with-same zeros lastGrant
-      (recordFrom w) own (min n 64) (λ k h. record-is k (omega arith) (omega arith)) ∙ records-cut own zeros long-zeros n
+      ∙ ap (λ (m : ℕ). withRecords zeros lastGrant (recordFrom w) (min m recordCount)) records-are ∙ with-same zeros lastGrant
+      (recordFrom w) own (min n recordCount) (λ k h. record-is k (omega arith) (omega arith)) ∙ records-cut own zeros long-zeros n
 
   -- ---- it is not refused
 
-  said-or-blank : (k : ℕ) → k < 64 → (b : Bool) → ltb k (w 58) ≡ b → b || blankRecord w k ≡ true
+  said-or-blank : (k : ℕ) → k < recordCount → (b : Bool) → ltb k (w 58) ≡ b → b || blankRecord w k ≡ true
   said-or-blank k h true e = refl
   said-or-blank k h false e = let l = ltb-false k (w 58) e in let r = records-are in blank-is k h (omega (arith, l, r))
 
   canonical-is : canonical w ≡ true
   unfolding canonical
-  canonical-is = let f = same 57 (omega arith) ∙ at.held-number s journal in
+  canonical-is = let f = same 57 (omega arith) ∙ at.valid-number s journal in
       and-both _ _ (le-leb (w 57) 1 (omega (arith, f, flag-small (s .undo .valid))))
-      (below-all (λ k. ltb k (w 58) || blankRecord w k) 64 (λ k h. said-or-blank k h (ltb k (w 58)) refl))
+      (below-all (λ k. ltb k (w 58) || blankRecord w k) recordCount (λ k h. said-or-blank k h (ltb k (w 58)) refl))
 
   module _ (good : storeIn s journal ≡ true) where
     same-grant : SameGrant (s .undo) (youngJournal s journal) journal
@@ -154,7 +156,7 @@ module _ (s : StoreMeaning) (journal : List ℕ) (w : ℕ → ℕ) (same : (i : 
         read-own zeros lastGrant (writeRecordAt journal lastGrant) long-zeros (omega arith) (s .undo .used .records) k
         (r .records) l (omega (arith, x .0))
 
-    closed : (t : ℕ) → t < 8 → transaction (youngOf s) t .begun ≡ false
+    closed : (t : ℕ) → t < transactionCount → transaction (youngOf s) t .begun ≡ false
     unfolding ended
     closed t h = ap (λ (x : Transaction). x .begun) (getD-replicate {A = Transaction} 8 t ended noTransaction h)
 
@@ -179,7 +181,7 @@ module _ (m : Machine) (newLogs : List ℕ) (w : ℕ → ℕ) (same : (i : ℕ) 
   pub loaded-image : youngWith w (m .files) (m .undo) newLogs ≡ rejuvenated m newLogs
   unfolding youngWith rejuvenated freshMachine freshStore
   loaded-image = let s = store-is (m .store) (m .journal) w same z in let j = journal-is (m .store) (m .journal) w same in
-      λ i. lent (s i) (j i) (m .files) newLogs (replicate 32768 0) (m .undo)
+      λ i. lent (s i) (j i) (m .files) newLogs (replicate bufferBytes 0) (m .undo)
 
   pub not-refused : storeIn (m .store) (m .journal) ≡ true → loadRefusal w ≡ 0
   not-refused good = admitted-image (m .store) (m .journal) w same good z

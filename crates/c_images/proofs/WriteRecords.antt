@@ -4,40 +4,42 @@ use borrow.Author.Tests.{lt-ltb, le-ltb, ltb-false}
 use lib.{Dec.ltb, ListN.{getD, set, length, length-set}, Seq.{getD-set-same, getD-set-other}}
 use native.Mathlib.Omega.{arith}
 use Prim.Native.Nat.{ℕ, zero, suc, _+_, _-_, _*_, _≤_, _<_, min}
+use Rattle.limits.specs.Limits.{recordCount}
 use Rattle.standings.specs.Table.{placeNumber}
 use Rattle.state.specs.declared.journal.WriteRecord.{WriteRecord}
-use Rattle.state.specs.Journal.{decodedAs, decoded, lastGrant, writeRecordAt, withRecordAt, withRecords}
-use Rattle.images.{specs.{Images.{holderOf, noRecord, grantRecord}, Young.withEach}, proofs.YoungLaws.{each-own, records-cut}}
+use Rattle.state.specs.Journal.{decodedAs, decoded, lastGrant, writeRecordAt, withRecordAt, withRecords, journalLength}
+use Rattle.images.{specs.{Images.{recordCode, noRecord, grantRecord}, Young.withEach}, proofs.YoungLaws.{each-own, records-cut}}
 
 -- ---- three numbers
 
 module _ (h p n : ℕ) where
-  pub holder-of-held : holderOf (decoded h p n) ≡ h
+  pub code-of-decoded : recordCode (decoded h p n) ≡ h
   unfolding decoded decodedAs
-  holder-of-held = pick (ltb h 16) refl
+  code-of-decoded = pick (ltb h 16) refl
     where
-      pick : (b : Bool) → ltb h 16 ≡ b → holderOf (decodedAs b h p n) ≡ h
+      pick : (b : Bool) → ltb h 16 ≡ b → recordCode (decodedAs b h p n) ≡ h
       pick true e = refl
       pick false e = let l = ltb-false h 16 e in let q : 16 + (h - 16) ≡ h = omega arith in q
 
-  pub place-of-held : placeNumber (decoded h p n .place) ≡ p
+  pub place-of-decoded : placeNumber (decoded h p n .place) ≡ p
   unfolding decoded decodedAs
-  place-of-held = pick (ltb h 16)
+  place-of-decoded = pick (ltb h 16)
     where
       pick : (b : Bool) → placeNumber (decodedAs b h p n .place) ≡ p
       pick true = refl
       pick false = refl
 
-  pub length-of-held : decoded h p n .length ≡ n
+  pub length-of-decoded : decoded h p n .length ≡ n
   unfolding decoded decodedAs
-  length-of-held = pick (ltb h 16)
+  length-of-decoded = pick (ltb h 16)
     where
       pick : (b : Bool) → decodedAs b h p n .length ≡ n
       pick true = refl
       pick false = refl
 
-  pub again-held : decoded (holderOf (decoded h p n)) (placeNumber (decoded h p n .place)) (decoded h p n .length) ≡ decoded h p n
-  again-held = λ i. decoded (holder-of-held i) (place-of-held i) (length-of-held i)
+  pub again-decoded : decoded (recordCode (decoded h p n)) (placeNumber (decoded h p n .place)) (decoded h p n .length)
+      ≡ decoded h p n
+  again-decoded = λ i. decoded (code-of-decoded i) (place-of-decoded i) (length-of-decoded i)
 
 -- ---- a grant's records, and none past them
 
@@ -66,11 +68,11 @@ module _ (f : ℕ → WriteRecord) where
   length-put k r = simp length-set
 
   abbrev first : ℕ → ℕ
-  first k = 3 * (64 * lastGrant + k)
+  first k = 3 * (recordCount * lastGrant + k)
 
   module _ (k : ℕ) (r : List ℕ) where
     abbrev one : List ℕ
-    one = set r (first k) (holderOf (f k))
+    one = set r (first k) (recordCode (f k))
 
     abbrev two : List ℕ
     two = set one (first k + 1) (placeNumber (f k .place))
@@ -79,20 +81,20 @@ module _ (f : ℕ → WriteRecord) where
         (putRecord k r) j 0 ≡ getD r j 0
     unfolding withRecordAt
     put-other j n0 n1 n2 = getD-set-other two (first k + 2) j (f k .length) 0 n2 ∙ getD-set-other one (first k + 1) j
-        (placeNumber (f k .place)) 0 n1 ∙ getD-set-other r (first k) j (holderOf (f k)) 0 n0
+        (placeNumber (f k .place)) 0 n1 ∙ getD-set-other r (first k) j (recordCode (f k)) 0 n0
 
-    module _ (few : k < 64) (long : length r ≡ 1728) where
-      long-one : length one ≡ 1728
-      long-one = length-set r (first k) (holderOf (f k)) ∙ long
+    module _ (few : k < recordCount) (long : length r ≡ journalLength) where
+      long-one : length one ≡ journalLength
+      long-one = length-set r (first k) (recordCode (f k)) ∙ long
 
-      long-two : length two ≡ 1728
+      long-two : length two ≡ journalLength
       long-two = length-set one (first k + 1) (placeNumber (f k .place)) ∙ long-one
 
-      put-holder : getD (putRecord k r) (first k) 0 ≡ holderOf (f k)
+      put-code : getD (putRecord k r) (first k) 0 ≡ recordCode (f k)
       unfolding withRecordAt
-      put-holder = getD-set-other two (first k + 2) (first k) (f k .length) 0 (λ q. omega arith)
+      put-code = getD-set-other two (first k + 2) (first k) (f k .length) 0 (λ q. omega arith)
           ∙ getD-set-other one (first k + 1) (first k) (placeNumber (f k .place)) 0 (λ q. omega arith)
-          ∙ getD-set-same r (first k) (holderOf (f k)) 0 (omega arith)
+          ∙ getD-set-same r (first k) (recordCode (f k)) 0 (omega arith)
 
       put-place : getD (putRecord k r) (first k + 1) 0 ≡ placeNumber (f k .place)
       unfolding withRecordAt
@@ -104,24 +106,25 @@ module _ (f : ℕ → WriteRecord) where
       unfolding withRecordAt
       put-length = let l = long-two in getD-set-same two (first k + 2) (f k .length) 0 (omega arith)
 
-  module _ (journal : List ℕ) (long : length journal ≡ 1728) where
+  module _ (journal : List ℕ) (long : length journal ≡ journalLength) where
     -- One of the three numbers, c, of record k.
-    own-number : (n k c v : ℕ) → n ≤ 64 → k < n → c < 3 → ((r : List ℕ) → length r ≡ 1728
+    own-number : (n k c v : ℕ) → n ≤ recordCount → k < n → c < 3 → ((r : List ℕ) → length r ≡ journalLength
         → getD (putRecord k r) (first k + c) 0 ≡ v) → getD (withEach putRecord n journal) (first k + c) 0 ≡ v
-    own-number n k c v few h l own = each-own putRecord length-put (first k + c) n k v 1728 h own (λ i r a b. put-other i r
+    own-number n k c v few h l own = each-own putRecord length-put (first k + c) n k v journalLength h own
+        (λ i r a b. put-other i r
         (first k + c) (λ q. b (omega arith)) (λ q. b (omega arith)) (λ q. b (omega arith))) journal long
 
-    records-read : (n k : ℕ) → n ≤ 64 → k < n → writeRecordAt (withRecords journal lastGrant f n) lastGrant k ≡ decoded
-        (holderOf (f k)) (placeNumber (f k .place)) (f k .length)
+    records-read : (n k : ℕ) → n ≤ recordCount → k < n → writeRecordAt (withRecords journal lastGrant f n) lastGrant k ≡ decoded
+        (recordCode (f k)) (placeNumber (f k .place)) (f k .length)
     unfolding writeRecordAt
     records-read n k few h = let e = as-each journal n in let zero-more : first k + 0 ≡ first k = omega arith in
-        let a : getD (withEach putRecord n journal) (first k) 0 ≡ holderOf (f k) = rw zero-more at
-        (own-number n k 0 (holderOf (f k)) few h (omega arith) (λ r l. rw zero-more (put-holder k r (omega arith) l))) in
+        let a : getD (withEach putRecord n journal) (first k) 0 ≡ recordCode (f k) = rw zero-more at
+        (own-number n k 0 (recordCode (f k)) few h (omega arith) (λ r l. rw zero-more (put-code k r (omega arith) l))) in
         let b = own-number n k 1 (placeNumber (f k .place)) few h (omega arith) (λ r l. put-place k r (omega arith) l) in
         let c = own-number n k 2 (f k .length) few h (omega arith) (λ r l. put-length k r (omega arith) l) in
         rw (e, a, b, c)
 
-    pub grant-read : (n k : ℕ) → k < 64 → k < n → writeRecordAt (withRecords journal lastGrant f n) lastGrant k ≡ decoded
-        (holderOf (f k)) (placeNumber (f k .place)) (f k .length)
+    pub grant-read : (n k : ℕ) → k < recordCount → k < n → writeRecordAt (withRecords journal lastGrant f n) lastGrant k ≡ decoded
+        (recordCode (f k)) (placeNumber (f k .place)) (f k .length)
     grant-read n k few h = ap (λ (l : List ℕ). writeRecordAt l lastGrant k) (sym (records-cut f journal long n))
-        ∙ records-read (min n 64) k (omega arith) (omega arith)
+        ∙ records-read (min n recordCount) k (omega arith) (omega arith)

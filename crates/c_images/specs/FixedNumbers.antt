@@ -44,7 +44,7 @@ pub record SameNumbers (r s : List ℕ) : Type 0 where
   pub ends : (f : ℕ) → f < 8 → Same r s (2080 + f)
   pub foundOffsets : (d : ℕ) → d < 16 → Same r s (2088 + d)
   pub foundLengths : (f : ℕ) → f < 8 → Same r s (2104 + f)
-  pub heldGrant : SameFlag r s 2112
+  pub undoValid : SameFlag r s 2112
   pub grantRecords : Same r s 2113
   pub grantBytes : Same r s 2114
 

@@ -54,7 +54,7 @@ pub record NumberedLayout (r : List ℕ) : Type 0 where
   pub windows : (f : ℕ) → f < 8 → windowAt (storeOf r) f ≡ window (getD r (2072 + f) 0) (getD r (2080 + f) 0)
   pub foundOffsets : (d : ℕ) → d < 16 → getD (storeOf r .undo .offsets) d 0 ≡ getD r (2088 + d) 0
   pub foundLengths : (f : ℕ) → f < 8 → getD (storeOf r .undo .lengths) f 0 ≡ getD r (2104 + f) 0
-  pub heldGrant : storeOf r .undo .valid ≡ isSet (getD r 2112 0)
+  pub undoValid : storeOf r .undo .valid ≡ isSet (getD r 2112 0)
   pub grantUsed : storeOf r .undo .used ≡ recordsOfGrant (getD r 2113 0) (getD r 2114 0)
 
 abbrev pub LayoutIsNumbered : Type 0

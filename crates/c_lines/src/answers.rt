@@ -1,6 +1,7 @@
 // The lines of answers: `= ` and what a call said. The answer comes as the 16 bits that C has of it: 32,768
 // and more is a refusal, its number taken from 65,536.
 use crate::Text;
+use limits::FILE_BYTES;
 use limits::smaller;
 use limits::wide;
 use state::outcomes::Outcome;
@@ -13,6 +14,7 @@ use text_numerals::put_spaced;
 ghost use mathlib.Core.List.{_∷_, [], _++_};
 ghost use Prim.Native.Nat.{_+_, _-_, _*_, _≤_};
 ghost use lib.ListN.{length, take};
+ghost use Rattle.limits.specs.Limits.{fileBytes};
 ghost use Rattle.text_numerals.specs.Decimal.{spacedTexts};
 ghost use Rattle.text_numerals.specs.Put.{Put};
 ghost use Rattle.text_answers.specs.Printed.{ok};
@@ -43,7 +45,7 @@ fn put_refusal(out: &mut [u8], r: u16) -> usize
 
 // What was said, with at most 4,096 bytes of an answer.
 fn put_said(out: &mut [u8], o: Outcome, buffer: &[u8]) -> usize
-    requires { ⌜ (8238 ≤ length (now out)) × (length (now buffer) ≤ 4096) ⌝ }
+    requires { ⌜ (8238 ≤ length (now out)) × (length (now buffer) ≤ fileBytes) ⌝ }
     ensures { λ n. ⌜ Put (now (out .entry)) 0
         (spelledLine (said o) (now (buffer .entry))) (now (out .exit)) n ⌝ }
 {
@@ -77,12 +79,12 @@ pub extern "C" fn luzhanem_parts_line_number(out: &mut Text, r: u16) -> usize
 // ok, and the bytes of a Read, at the front of its buffer.
 #[no_mangle]
 pub extern "C" fn luzhanem_parts_line_given(out: &mut Text, r: u16, bytes: &[u8]) -> usize
-    ensures { λ n. ⌜ PutsAnswer (saidBy given r) (take 4096 (now (bytes .entry))) out n ⌝ }
+    ensures { λ n. ⌜ PutsAnswer (saidBy given r) (take fileBytes (now (bytes .entry))) out n ⌝ }
 {
     if RESULTS <= r {
         return put_refusal(out, r);
     }
-    let end = smaller(4096, bytes.len());
+    let end = smaller(FILE_BYTES, bytes.len());
     put_said(out, Outcome::Given(r), &bytes[..end])
 }
 

@@ -45,9 +45,9 @@ listed l n e = ap (λ (m : ℕ). tabulate (λ k. getD l k 0) m) (sym e) ∙ tabu
 journal-of-zeros : journalOf (zeros stateLength) ≡ zeros journalLength
 unfolding journalOf
 journal-of-zeros =
-    table-same (λ k. getD (zeros stateLength) k 0) (λ k. getD (zeros 1728) k 0) 1728
-    (λ k h. zero-at stateLength k (omega arith) ∙ sym (zero-at 1728 k h))
-    ∙ listed (zeros 1728) 1728 (length-zeros 1728)
+    table-same (λ k. getD (zeros stateLength) k 0) (λ k. getD (zeros journalLength) k 0) journalLength
+    (λ k h. zero-at stateLength k (omega arith) ∙ sym (zero-at journalLength k h))
+    ∙ listed (zeros journalLength) journalLength (length-zeros journalLength)
 
 module _ (numbers : List ℕ) (sixteen : length numbers ≡ descriptorCount) where
   abbrev numbered : List ℕ
@@ -57,7 +57,7 @@ module _ (numbers : List ℕ) (sixteen : length numbers ≡ descriptorCount) whe
   unfolding freshStore
   fresh-store =
       store-with-files (zeros stateLength) (length-zeros stateLength) (λ d. getD numbers d 0)
-      ∙ ap (filed (tabulate (λ d. getD numbers d 0) 16)) (store-of-zeros (zeros stateLength) zero-anywhere)
+      ∙ ap (filed (tabulate (λ d. getD numbers d 0) descriptorCount)) (store-of-zeros (zeros stateLength) zero-anywhere)
       ∙ ap (λ (l : List ℕ). filed l (freshStore [])) (listed numbers 16 sixteen)
 
   fresh-journal : journalOf numbered ≡ zeros journalLength

@@ -5,7 +5,7 @@ use borrow.Author.Tests.{leb-true}
 use lib.{Dec.leb, ListN.{length, getD}}
 use native.Mathlib.Omega.{arith}
 use Prim.Native.Nat.{ℕ, _+_, _≤_, _<_}
-use Rattle.limits.specs.Limits.{fileBytes, transactionCount, lastTransaction, mostOrders}
+use Rattle.limits.specs.Limits.{fileBytes, transactionCount, lastTransaction, logBytes, mostOrders}
 use Rattle.windows.specs.Windows.{minuteIn}
 use Rattle.standings.specs.declared.{Place.{Place, the-variants.{At, After}}, Standing.Standing}
 use Rattle.state.specs.{declared.Transaction.Transaction, StoreMeaning.{transaction, standingAt}, Journal.writeRecordAt}
@@ -17,7 +17,7 @@ use Rattle.spec.specs.{Places.noPlace, Commits.landsAt, OrderReply.{hasUnplaced
 use Rattle.spec.specs.{Calls.askedOf, Promises.machineOf}
 use Rattle.refinement.proofs.Decoded.{some-tabulate}
 use Rattle.commit_apply.specs.Apply.{RecordLands, CanLandIn}
-use Rattle.commit_windows.{specs.WindowCheck.OpenIn, proofs.ClosingLaws.{few, descriptor-in}}
+use Rattle.commit_windows.{specs.WindowCheck.OpenIn, proofs.ClosingLaws.{few-closing, descriptor-in}}
 use Rattle.call_order.specs.OrderTable.{unplacedIn, isReady, AllOpen, AllLand, listRefusal}
 use Rattle.call_order.proofs.ListLaws.{all-at, small-at}
 
@@ -33,7 +33,7 @@ module _ (ok p q : ℕ → Bool) (h : (t : ℕ) → ok t ≡ true → p t ≡ q 
 
 module _ (state files logs marks undo : List ℕ) (t : ℕ) (small : leb t lastTransaction ≡ true) where
   pub own : transaction (storeOf state) t ≡ transactionOf state t
-  own = let l = leb-true t 7 small in transaction-of state t (omega arith)
+  own = let l = leb-true t lastTransaction small in transaction-of state t (omega arith)
 
   unplaced-is : hasUnplaced (txnOf (storeOf state) (journalOf state) logs t .writes) ≡ unplacedIn state t
   unfolding hasUnplaced txnOf unplacedIn writeAt
@@ -60,9 +60,11 @@ chain true true c d b₄ e f b₆ g h =
 pub refusal-is : (state files logs marks undo ts : List ℕ) (minute budget : ℕ)
     → listRefusal state ts minute budget ≡ orderRefusal (askedOf minute (machineOf state files logs marks undo)) ts minute budget
 unfolding listRefusal orderRefusal askedOf
-refusal-is state files logs marks undo ts minute budget = chain (isList ts) (allIn (λ t. leb t 7) ts) _ _ (minuteIn minute)
-    _ _ (leb 1 budget && leb budget 40320) (λ e. all-same (λ t. leb t 7) _ _ (open-is state files logs marks undo) ts e)
-    (λ e. all-same (λ t. leb t 7) _ _ (λ t s. ready-is state files logs marks undo t s minute) ts e)
+refusal-is state files logs marks undo ts minute budget = chain (isList ts) (allIn (λ t. leb t lastTransaction) ts) _ _
+    (minuteIn minute)
+    _ _ (leb 1 budget && leb budget mostOrders)
+    (λ e. all-same (λ t. leb t lastTransaction) _ _ (open-is state files logs marks undo) ts e)
+    (λ e. all-same (λ t. leb t lastTransaction) _ _ (λ t s. ready-is state files logs marks undo t s minute) ts e)
 
 -- ---- what an admitted list tells
 
@@ -77,11 +79,11 @@ pub record ListIn (state ts : List ℕ) (minute budget : ℕ) : Type 0 where
 pub list-in : (state ts : List ℕ) (minute budget : ℕ) → listRefusal state ts minute budget ≡ 0 → ListIn state ts minute budget
 unfolding listRefusal
 list-in state ts minute budget e = let b = unless-zero (isList ts) 26 _ (omega arith) e in
-    let c = unless-zero (allIn (λ t. leb t 7) ts) 3 _ (omega arith) (b .1) in
+    let c = unless-zero (allIn (λ t. leb t lastTransaction) ts) 3 _ (omega arith) (b .1) in
     let d = unless-zero (allIn (λ t. transactionOf state t .begun) ts) 4 _ (omega arith) (c .1) in
     let f = unless-zero (minuteIn minute) 22 _ (omega arith) (d .1) in
     let g = unless-zero (allIn (isReady state) ts) 25 _ (omega arith) (f .1) in
-    let k = unless-zero (leb 1 budget && leb budget 40320) 27 0 (omega arith) (g .1) in
+    let k = unless-zero (leb 1 budget && leb budget mostOrders) 27 0 (omega arith) (g .1) in
     record { list = b .0; small = c .0; begun = d .0; daily = f .0; ready = g .0; affordable = k .0 }
 
 pub few-listed : (ts : List ℕ) → isList ts ≡ true → length ts ≤ transactionCount
@@ -92,7 +94,7 @@ few-listed ts e = leb-true (length ts) 8 (and-right (leb 1 (length ts)) _ (and-l
 
 placed-in : (c : ℕ) (z : Standing) (p : Place) (n : ℕ) → noPlace p ≡ false → placeIn z p n ≡ true → landsAt c p + n ≤ fileBytes
 unfolding noPlace placeIn landsAt
-placed-in c z (At p) n e r = leb-true (p + n) 4096 r
+placed-in c z (At p) n e r = leb-true (p + n) fileBytes r
 placed-in c z (After a) n e r = absurd (true≢false e)
 
 not-some : (p : ℕ → Bool) (n k : ℕ) → someBelow p n ≡ false → k < n → p k ≡ false
@@ -135,8 +137,8 @@ module _ (state : List ℕ) (t : ℕ) (o : OpenIn state t) (placed : unplacedIn 
   pub lands-placed : CanLandIn state t (transactionOf state t .used .records)
   lands-placed = let r = in-ranges in record {
     small = o .small;
-    records = few state t o;
-    bytes = subst (λ (n : ℕ). lengthsBefore (journalOf state) t n ≤ 4096) counts (omega (arith, r .total, r .bytes));
+    records = few-closing state t o;
+    bytes = subst (λ (n : ℕ). lengthsBefore (journalOf state) t n ≤ logBytes) counts (omega (arith, r .total, r .bytes));
     numbers = λ d l. in-range (storeOf state) (journalOf state) (o .ranges) .files d l;
     inside = record-lands;
   }

@@ -14,8 +14,8 @@ use Rattle.spec_orders.{specs.Orders.{allIn, isIn, distinct}, proofs.Distinct.{
 use Rattle.spec.specs.{Items.{fileLength, Values}, Transactions.put, Windows.forClosed, Messages.{commit, isGrant}}
 use Rattle.spec.specs.{OrderReply.{grantsIn, hasUnplaced}, Commits.{settings, landed, commitRefusal}}
 use Rattle.spec.proofs.Abstract.Lists.{or-left-false, or-right-false}
-use Rattle.spec.proofs.Abstract.AbstractStore.{UndoSaved, Seat, vacant, held, Saved, preserved, Abstract, abstractSighted, hit}
-use Rattle.spec.proofs.Abstract.AbstractStore.{AbstractTurn, withSeat, turnedAway, touch, granting, abstractCommitted}
+use Rattle.spec.proofs.Abstract.AbstractStore.{OpenTxn, Seat, vacant, occupied, Saved, preserved, Abstract, abstractSighted, hit}
+use Rattle.spec.proofs.Abstract.AbstractStore.{AbstractTurn, withSeat, abstractRefuse, touch, granting, abstractCommitted}
 use Rattle.spec.proofs.Abstract.AbstractStore.{abstractCommit, seated, abstractCommitCall, abstractCall, abstractAfter}
 use Rattle.spec.proofs.Theorems.{Answers.answer-not-refused, Refusals.refused-same}
 use Rattle.call_order.specs.OrderStatements.{Pass, fitsAt, offsetsAfter, followOne, followAll}
@@ -23,7 +23,7 @@ use Rattle.call_order.proofs.{Hits.{hit-same, not-hit, flagged, hit-fla
 
 -- Files, windows and a minute of the day; the committed values at the start; for each transaction that may stand in the order
 -- (`ok`) what it is, and its octet.
-module _ (F : ℕ → ℕ) (W : Windows) (minute : ℕ) (v₀ : Values) (h : ℕ → UndoSaved) (row : ℕ → ℕ) (ok : ℕ → Bool)
+module _ (F : ℕ → ℕ) (W : Windows) (minute : ℕ) (v₀ : Values) (h : ℕ → OpenTxn) (row : ℕ → ℕ) (ok : ℕ → Bool)
     (daily : minuteIn minute ≡ true) (small : (t : ℕ) → ok t ≡ true → leb t lastTransaction ≡ true) (placed : (t : ℕ)
     → ok t ≡ true → hasUnplaced (h t .txn .writes) ≡ false) (rows : (t u : ℕ) → ok u ≡ true → eqb u t ≡ false
     → contains (row t) u ≡ hit (settings F v₀ (h t .txn)) (h u)) where
@@ -39,12 +39,12 @@ module _ (F : ℕ → ℕ) (W : Windows) (minute : ℕ) (v₀ : Values) (h : ℕ
   -- Who is not stale yet sees the lengths that it has sighted as they were at the start.
   pub record Inv (o : List ℕ) (v : Values) (z : ℕ → Seat) (p : Pass) : Type 0 where
     pub offsets : Holding v (p .offsets)
-    pub seats : (u : ℕ) → isIn u o ≡ true → z u ≡ held (flagged (contains (p .stale) u) (h u))
+    pub seats : (u : ℕ) → isIn u o ≡ true → z u ≡ occupied (flagged (contains (p .stale) u) (h u))
     pub lengths : (u f : ℕ) → isIn u o ≡ true → contains (p .stale) u ≡ false → abstractSighted (h u) (fileLength f) ≡ true
         → v (fileLength f) ≡ v₀ (fileLength f)
 
   -- What one Commit does, from p to q.
-  pub record Step (t : ℕ) (o : List ℕ) (p q : Pass) (τ : AbstractTurn) : Type 0 where
+  pub record OrderStep (t : ℕ) (o : List ℕ) (p q : Pass) (τ : AbstractTurn) : Type 0 where
     pub value : Values
     pub back : Saved
     pub seats : ℕ → Seat
@@ -75,7 +75,7 @@ module _ (F : ℕ → ℕ) (W : Windows) (minute : ℕ) (v₀ : Values) (h : ℕ
         (state v b z) (commitRefusal true (contains (p .stale) t) (closed t) (fitsAt (h t .txn) (p .offsets)))
     unfolding seated abstractCommit
     decided = let c = contains (p .stale) t in
-        ap (λ (a : Bool). cond a (abstractCommit t minute (z t) (state v b z)) (turnedAway 3 [] (state v b z)))
+        ap (λ (a : Bool). cond a (abstractCommit t minute (z t) (state v b z)) (abstractRefuse 3 [] (state v b z)))
         (small t ok-own) ∙ ap (λ (seat : Seat). abstractCommit t minute seat (state v b z)) (inv .seats t own)
         ∙ ap₂ (λ (day fit : Bool). abstractCommitted t (flagged c (h t)) (state v b z) (commitRefusal day c (closed t) fit))
         daily (fits-same (h t .txn) v (p .offsets) (inv .offsets))
@@ -117,15 +117,15 @@ module _ (F : ℕ → ℕ) (W : Windows) (minute : ℕ) (v₀ : Values) (h : ℕ
       offsets = still-holding (h t .txn) v (p .offsets) (inv .offsets) F;
       seats = λ u k. let c = contains (p .stale) u in let gs = settings F v (h t .txn) in
           ap (touch gs) (ap (λ (a : Bool). cond a vacant (z u)) (in-rest t u o other k) ∙ inv .seats u (behind u k))
-          ∙ ap (λ (a : Bool). held (flagged (c || a) (h u))) (hit-flagged c (h u) gs)
-          ∙ ap (λ (a : Bool). held (flagged a (h u))) (staled u k);
+          ∙ ap (λ (a : Bool). occupied (flagged (c || a) (h u))) (hit-flagged c (h u) gs)
+          ∙ ap (λ (a : Bool). occupied (flagged a (h u))) (staled u k);
       lengths = λ u f k e s. let c = contains (p .stale) u in let gs = settings F v (h t .txn) in
           let n : c || hit gs (h u) ≡ false = staled u k ∙ e in
           not-hit (h u) (fileLength f) s gs v (or-right-false c (hit gs (h u)) n)
           ∙ inv .lengths u f (behind u k) (or-left-false c (hit gs (h u)) n) s;
     }
 
-    grant-step : contains (p .stale) t ≡ false → Step t o p next (granting t (settings F v (h t .txn)) (state v b z))
+    grant-step : contains (p .stale) t ≡ false → OrderStep t o p next (granting t (settings F v (h t .txn)) (state v b z))
     unfolding granting isGrant next
     grant-step e = record {
       value = landed (settings F v (h t .txn)) v;
@@ -139,7 +139,7 @@ module _ (F : ℕ → ℕ) (W : Windows) (minute : ℕ) (v₀ : Values) (h : ℕ
 
     -- A refusal other than 13.
     stays : (n : ℕ) → (n ≡ 13 → ⊥) → contains (p .stale) t ≡ false
-        → Step t o p p (record { reply = record { answer = refused n; buffer = [] }; after = state v b z })
+        → OrderStep t o p p (record { reply = record { answer = refused n; buffer = [] }; after = state v b z })
     unfolding isGrant
     stays n d e = record {
       value = v;
@@ -152,7 +152,7 @@ module _ (F : ℕ → ℕ) (W : Windows) (minute : ℕ) (v₀ : Values) (h : ℕ
     }
 
     -- 13, 21, 12, or granted.
-    decides : (c shut fit : Bool) → contains (p .stale) t ≡ c → Step t o p (cond (c || (shut || not fit)) p next)
+    decides : (c shut fit : Bool) → contains (p .stale) t ≡ c → OrderStep t o p (cond (c || (shut || not fit)) p next)
         (abstractCommitted t (flagged c (h t)) (state v b z) (commitRefusal true c shut fit))
     unfolding abstractCommitted commitRefusal withSeat isGrant
     decides true shut fit e = record {
@@ -169,9 +169,9 @@ module _ (F : ℕ → ℕ) (W : Windows) (minute : ℕ) (v₀ : Values) (h : ℕ
     decides false false true e = grant-step e
 
     -- The table's law for one Commit.
-    step : Step t o p (follow t p) (abstractCommitCall t minute (state v b z))
+    step : OrderStep t o p (follow t p) (abstractCommitCall t minute (state v b z))
     unfolding followOne next
-    step = subst (Step t o p (follow t p)) (sym decided)
+    step = subst (OrderStep t o p (follow t p)) (sym decided)
         (decides (contains (p .stale) t) (closed t) (fitsAt (h t .txn) (p .offsets)) refl)
 
   -- ---- the Commits of a list

@@ -78,28 +78,30 @@ module _ (state files logs marks undo ts : List ℕ) (minute budget : ℕ)
 
   -- What is known of a member.
   member : ℕ → Bool
-  member t = leb t 7 && (transactionOf state t .begun && eqb (row table t) (staleBy m t))
+  member t = leb t lastTransaction && (transactionOf state t .begun && eqb (row table t) (staleBy m t))
 
   members : allIn member ts ≡ true
   unfolding member
-  members = all-both (λ t. leb t 7) _ ts (listed .small) (all-both (λ t. transactionOf state t .begun) _ ts (listed .begun)
+  members = all-both (λ t. leb t lastTransaction) _ ts (listed .small)
+      (all-both (λ t. transactionOf state t .begun) _ ts (listed .begun)
       (all-by _ ts (λ k l. eq-eqb (row table (getD ts k 0)) _ (tabled k l))))
 
   module _ (t : ℕ) (e : member t ≡ true) where
     small : leb t lastTransaction ≡ true
     unfolding member
-    small = and-left (leb t 7) _ e
+    small = and-left (leb t lastTransaction) _ e
 
     begun : transactionOf state t .begun ≡ true
     unfolding member
-    begun = and-left (transactionOf state t .begun) _ (and-right (leb t 7) _ e)
+    begun = and-left (transactionOf state t .begun) _ (and-right (leb t lastTransaction) _ e)
 
     row-is : row table t ≡ staleBy m t
     unfolding member
-    row-is = eqb-true (row table t) (staleBy m t) (and-right (transactionOf state t .begun) _ (and-right (leb t 7) _ e))
+    row-is = eqb-true (row table t) (staleBy m t)
+        (and-right (transactionOf state t .begun) _ (and-right (leb t lastTransaction) _ e))
 
     below-eight : t < transactionCount
-    below-eight = let l = leb-true t 7 small in omega arith
+    below-eight = let l = leb-true t lastTransaction small in omega arith
 
     own-is : transaction (storeOf state) t ≡ transactionOf state t
     own-is = own state files logs marks undo t small

@@ -3,6 +3,7 @@ use mathlib.Core.{Bool.{Bool, true, false, cond, _||_, or-assoc, true≢false}, 
 use mathlib.Core.Path.{_≡_, refl, sym, ap, ap₂, _∙_}
 use lib.{Dec.{ltb, eqb}, ListN.length}
 use Prim.Native.Nat.{ℕ, zero, suc, _+_, _*_, max}
+use Rattle.limits.specs.Limits.{fileBytes}
 use Rattle.standings.specs.{declared.Place.{Place, the-variants.{At, After}}, Table.finalOffset}
 use Rattle.spec.specs.{Items.{Item, byte, offset, fileLength, same, Values}, Transactions.{Txn, Write}}
 use Rattle.spec.specs.{Reading.{writeEnd, farthest}, Places.{someWrite, noPlace}, OrderReply.hasUnplaced}
@@ -30,7 +31,7 @@ module _ (fileOf : ℕ → ℕ) (v w : Values) where
   bytes-same : (ws : List Write) → Placed ws → byteSettings fileOf v ws ≡ byteSettings fileOf w ws
   unfolding byteSettings someWrite
   bytes-same [] p = refl
-  bytes-same (x ∷ ws) p = ap₂ (λ (k : ℕ) (l : List Setting). bytesFrom (4096 * fileOf (x .descriptor) + k) (x .bytes) ++ l)
+  bytes-same (x ∷ ws) p = ap₂ (λ (k : ℕ) (l : List Setting). bytesFrom (fileBytes * fileOf (x .descriptor) + k) (x .bytes) ++ l)
       (lands-same (v (offset (x .descriptor))) (w (offset (x .descriptor))) (x .place)
       (or-left-false (noPlace (x .place)) _ p)) (bytes-same ws (or-right-false (noPlace (x .place)) _ p))
 

@@ -39,4 +39,4 @@ pub mod CallRules
 -- What the code answers is the reply of the rules.
 pub mod Answered
 -- Small examples, computed.
-pub mod Computed
+pub mod Examples

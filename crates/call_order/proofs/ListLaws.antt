@@ -38,7 +38,7 @@ all-at p (t ∷ ts) (suc k) e l = all-at p ts k (and-right (p t) _ e) (omega ari
 -- A member of a list of transactions.
 pub small-at : (ts : List ℕ) (k : ℕ) → allIn (λ t. leb t lastTransaction) ts ≡ true → k < length ts
     → getD ts k 0 < transactionCount
-small-at ts k e l = let h = leb-true (getD ts k 0) 7 (all-at (λ t. leb t 7) ts k e l) in omega arith
+small-at ts k e l = let h = leb-true (getD ts k 0) lastTransaction (all-at (λ t. leb t lastTransaction) ts k e l) in omega arith
 
 pub all-by : (p : ℕ → Bool) (ts : List ℕ) → ((k : ℕ) → k < length ts → p (getD ts k 0) ≡ true) → allIn p ts ≡ true
 unfolding allIn
@@ -58,9 +58,9 @@ module _ (t : ℕ) (ts : List ℕ) where
   pub in-passed : (k : ℕ) → k < length ts → eqb t (getD ts k 0) ≡ false → isIn t (drop k ts) ≡ isIn t (drop (k + 1) ts)
   in-passed k l f = in-rest-of k l ∙ ap (λ (b : Bool). b || isIn t (drop (k + 1) ts)) f
 
-  pub in-none : (k : ℕ) → length ts ≤ k → isIn t (drop k ts) ≡ false
+  pub in-empty : (k : ℕ) → length ts ≤ k → isIn t (drop k ts) ≡ false
   unfolding isIn
-  in-none k l = ap (isIn t) (drop-of-length-le ts l)
+  in-empty k l = ap (isIn t) (drop-of-length-le ts l)
 
 -- ---- a list without a repeat
 

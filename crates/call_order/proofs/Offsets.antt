@@ -4,7 +4,7 @@ use borrow.Author.Tests.{ne-eqb, eq-eqb}
 use lib.{Dec.{ltb, leb}, ListN.getD}
 use native.Mathlib.{Nat.{eq-or-lt-of-le, le-of-suc-le-suc}, Omega.arith}
 use Prim.Native.Nat.{ℕ, zero, suc, _+_, _*_, _≤_, _<_}
-use Rattle.limits.specs.Limits.{descriptorCount}
+use Rattle.limits.specs.Limits.{fileBytes, descriptorCount}
 use Rattle.buffers.proofs.TableLaws.{getD-tabulate}
 use Rattle.standings.specs.Table.{advance, finalOffset}
 use Rattle.admission.proofs.Laws.{below-same}
@@ -23,7 +23,7 @@ module _ (fileOf : ℕ → ℕ) (v : Values) (d : ℕ) where
   bytes-no-offset : (ws : List Write) → touched (byteSettings fileOf v ws) (offset d) ≡ false
   unfolding byteSettings
   bytes-no-offset [] = unfold touched in refl
-  bytes-no-offset (w ∷ ws) = let q = 4096 * fileOf (w .descriptor) + landsAt (v (offset (w .descriptor))) (w .place) in
+  bytes-no-offset (w ∷ ws) = let q = fileBytes * fileOf (w .descriptor) + landsAt (v (offset (w .descriptor))) (w .place) in
       neither (bytesFrom q (w .bytes)) (byteSettings fileOf v ws) (offset d) (interval-no-offset q (w .bytes))
       (bytes-no-offset ws)
 
@@ -90,15 +90,15 @@ module _ (fileOf : ℕ → ℕ) (v : Values) (d : ℕ) where
 
 -- Offsets that a list holds.
 abbrev pub Holding : Values → List ℕ → Type 0
-Holding v offsets = (d : ℕ) → d < 16 → v (offset d) ≡ getD offsets d 0
+Holding v offsets = (d : ℕ) → d < descriptorCount → v (offset d) ≡ getD offsets d 0
 
 module _ (x : Txn) (v : Values) (offsets : List ℕ) (h : Holding v offsets) where
   pub fits-same : fits v x ≡ fitsAt x offsets
   unfolding fits fitsAt
-  fits-same = below-same _ _ 16 (λ d l. ap (λ (n : ℕ). leb (n + advance (x .standing d)) 4096) (h d l))
+  fits-same = below-same _ _ 16 (λ d l. ap (λ (n : ℕ). leb (n + advance (x .standing d)) fileBytes) (h d l))
 
   pub still-holding : (fileOf : ℕ → ℕ) → Holding (landed (settings fileOf v x) v) (offsetsAfter x offsets)
   unfolding offsetsAfter
   still-holding fileOf d l = commit-offset fileOf v d x l
       ∙ ap (λ (n : ℕ). cond (setsOffset x d) (finalOffset n (x .standing d)) n) (h d l) ∙ sym (getD-tabulate (λ e. cond
-      (setsOffset x e) (finalOffset (getD offsets e 0) (x .standing e)) (getD offsets e 0)) 16 d 0 l)
+      (setsOffset x e) (finalOffset (getD offsets e 0) (x .standing e)) (getD offsets e 0)) descriptorCount d 0 l)

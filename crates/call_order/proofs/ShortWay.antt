@@ -33,25 +33,25 @@ no-advance (Known o) e = refl
 final-low : (c : ℕ) (z : Standing) → mayWait z ≡ false → standingIn z ≡ true → c ≤ fileBytes → finalOffset c z ≤ fileBytes
 unfolding finalOffset standingIn
 final-low c Untouched e r l = l
-final-low c (Placed o) e r l = leb-true o 4096 r
+final-low c (Placed o) e r l = leb-true o fileBytes r
 final-low c (Deferred a) e r l = absurd (true≢false e)
 final-low c (Moved a o) e r l = absurd (true≢false e)
-final-low c (Known o) e r l = leb-true o 4096 r
+final-low c (Known o) e r l = leb-true o fileBytes r
 
 abbrev pub Low : List ℕ → Type 0
-Low offsets = (d : ℕ) → d < 16 → getD offsets d 0 ≤ 4096
+Low offsets = (d : ℕ) → d < descriptorCount → getD offsets d 0 ≤ fileBytes
 
 module _ (x : Txn) (offsets : List ℕ) (low : Low offsets) (free : (d : ℕ) → d < descriptorCount
     → mayWait (x .standing d) ≡ false) where
   fits-free : fitsAt x offsets ≡ true
   unfolding fitsAt
   fits-free = below-all _ 16 (λ d l. let a = no-advance (x .standing d) (free d l) in let b =
-      low d l in le-leb (getD offsets d 0 + advance (x .standing d)) 4096 (omega arith))
+      low d l in le-leb (getD offsets d 0 + advance (x .standing d)) fileBytes (omega arith))
 
   low-after : ((d : ℕ) → standingIn (x .standing d) ≡ true) → Low (offsetsAfter x offsets)
   unfolding offsetsAfter
-  low-after r d l = subst (λ (n : ℕ). n ≤ 4096) (sym (getD-tabulate (λ e. cond (setsOffset x e)
-      (finalOffset (getD offsets e 0) (x .standing e)) (getD offsets e 0)) 16 d 0 l)) (pick (setsOffset x d))
+  low-after r d l = subst (λ (n : ℕ). n ≤ fileBytes) (sym (getD-tabulate (λ e. cond (setsOffset x e)
+      (finalOffset (getD offsets e 0) (x .standing e)) (getD offsets e 0)) descriptorCount d 0 l)) (pick (setsOffset x d))
     where
       pick : (b : Bool) → cond b (finalOffset (getD offsets d 0) (x .standing d)) (getD offsets d 0) ≤ fileBytes
       pick true = final-low (getD offsets d 0) (x .standing d) (free d l) (r d) (low d l)

@@ -12,8 +12,8 @@ use Rattle.spec.specs.{Items.Values, Transactions.put, Commits.settings, Messag
 use Rattle.spec.specs.{OrderReply.{hasUnplaced, orderRefusal}, Machine.{Machine, sizes, fileOf, values}}
 use Rattle.spec.specs.Calls.{madeStale, settingsOf, askedOf, refuseTurn, passing, orderTurn, call, callsAfter}
 use Rattle.spec.{specs.Promises.machineOf, proofs.Abstract.Lists.{or-left-false, or-right-false}}
-use Rattle.spec.proofs.Abstract.AbstractStore.{vacant, held, hit, newlyStale, Abstract, abstractAsked, abstractCommitCall}
-use Rattle.spec.proofs.{Abstract.AbstractStore.abstractCall, Refinement.Relation.{heldBy, seat, backIn, view, Sound}}
+use Rattle.spec.proofs.Abstract.AbstractStore.{vacant, occupied, hit, newlyStale, Abstract, abstractAsked, abstractCommitCall}
+use Rattle.spec.proofs.{Abstract.AbstractStore.abstractCall, Refinement.Relation.{openTxnIn, seat, backIn, view, Sound}}
 use Rattle.spec.{specs.BestOrder.{commitsIn, BestOrderHolds}, proofs.Theorems.{Answers.answer-not-refused, BestOrder.best-order}}
 use Rattle.spec.proofs.{Theorems.Serializability.{call-turn, calls-agree}, Abstract.OrderReplies.{all-both, Passed, passed}}
 use Rattle.spec.proofs.Refinement.{Decode.decoded-in, Conflicts.made-stale, OrderTurn.{seat-open, order-grants}}
@@ -36,7 +36,7 @@ none-in u l = sym (ap (λ (n : ℕ). contains n u) (bits-none (λ k. false) 8 (�
 
 -- What the list was tested for, all at once.
 pub ready : ℕ → Machine → ℕ → Bool
-ready minute m t = leb t 7 && (askedOf minute m .isOpen t && not (askedOf minute m .notReady t))
+ready minute m t = leb t lastTransaction && (askedOf minute m .isOpen t && not (askedOf minute m .notReady t))
 
 module _ (m : Machine) (sound : Sound m) (minute : ℕ) (daily : minuteIn minute ≡ true) where
   abbrev F : ℕ → ℕ
@@ -53,67 +53,67 @@ module _ (m : Machine) (sound : Sound m) (minute : ℕ) (daily : minuteIn minute
 
   small : (t : ℕ) → ready minute m t ≡ true → leb t lastTransaction ≡ true
   unfolding ready
-  small t e = and-left (leb t 7) _ e
+  small t e = and-left (leb t lastTransaction) _ e
 
   -- Of a transaction that is ready.
   module _ (t : ℕ) (e : ready minute m t ≡ true) where
     opened : leb t lastTransaction && transaction (m .store) t .begun ≡ true
     unfolding ready askedOf
-    opened = and-both (leb t 7) (transaction (m .store) t .begun) (and-left (leb t 7) _ e)
-        (and-left (transaction (m .store) t .begun) _ (and-right (leb t 7) _ e))
+    opened = and-both (leb t lastTransaction) (transaction (m .store) t .begun) (and-left (leb t lastTransaction) _ e)
+        (and-left (transaction (m .store) t .begun) _ (and-right (leb t lastTransaction) _ e))
 
     neither : transaction (m .store) t .stale || hasUnplaced (txnIn m t .writes) ≡ false
     unfolding ready askedOf
-    neither = not-true _ (and-right (transaction (m .store) t .begun) _ (and-right (leb t 7) _ e))
+    neither = not-true _ (and-right (transaction (m .store) t .begun) _ (and-right (leb t lastTransaction) _ e))
 
     below-eight : t < transactionCount
-    below-eight = let l = leb-true t 7 (small t e) in omega arith
+    below-eight = let l = leb-true t lastTransaction (small t e) in omega arith
 
-    seat-is : seat m t ≡ held (heldBy m t)
+    seat-is : seat m t ≡ occupied (openTxnIn m t)
     seat-is = seat-open m t opened
 
-  placed : (t : ℕ) → ready minute m t ≡ true → hasUnplaced (heldBy m t .txn .writes) ≡ false
-  unfolding heldBy
+  placed : (t : ℕ) → ready minute m t ≡ true → hasUnplaced (openTxnIn m t .txn .writes) ≡ false
+  unfolding openTxnIn
   placed t e = or-right-false (transaction (m .store) t .stale) _ (neither t e)
 
-  fresh : (t : ℕ) → ready minute m t ≡ true → heldBy m t .stale ≡ false
-  unfolding heldBy
+  fresh : (t : ℕ) → ready minute m t ≡ true → openTxnIn m t .stale ≡ false
+  unfolding openTxnIn
   fresh t e = or-left-false (transaction (m .store) t .stale) _ (neither t e)
 
   rows : (t u : ℕ) → ready minute m u ≡ true → eqb u t ≡ false
-      → contains (staleBy m t) u ≡ hit (settings F v (heldBy m t .txn)) (heldBy m u)
-  unfolding staleBy heldBy put newlyStale
+      → contains (staleBy m t) u ≡ hit (settings F v (openTxnIn m t .txn)) (openTxnIn m u)
+  unfolding staleBy openTxnIn put newlyStale
   rows t u e d = let ss = settingsOf m t in
       contains-bits (madeStale t ss m) 8 u (below-eight u e) ∙ made-stale m t ss u (below-eight u e)
       ∙ ap (λ (a : Bool). newlyStale ss (cond a vacant (seat m u))) d ∙ ap (newlyStale ss) (seat-is u e)
-      ∙ ap (λ (a : Bool). not a && hit ss (heldBy m u)) (fresh u e)
+      ∙ ap (λ (a : Bool). not a && hit ss (openTxnIn m u)) (fresh u e)
 
   begins : (o : List ℕ) → allIn (ready minute m) o ≡ true
-      → Inv F W minute v (heldBy m) (staleBy m) (ready minute m) daily small placed rows o v (seat m) start
+      → Inv F W minute v (openTxnIn m) (staleBy m) (ready minute m) daily small placed rows o v (seat m) start
   unfolding start values
   begins o e = record {
     offsets = λ d l. refl;
     seats = λ u k. let r = in-test (ready minute m) u o e k in
-        seat-is u r ∙ ap (λ (a : Bool). held (flagged a (heldBy m u))) (fresh u r ∙ sym (none-in u (below-eight u r)));
+        seat-is u r ∙ ap (λ (a : Bool). occupied (flagged a (openTxnIn m u))) (fresh u r ∙ sym (none-in u (below-eight u r)));
     lengths = λ u f k d s. refl;
   }
 
   grants-table : (o : List ℕ) → distinct o ≡ true → allIn (ready minute m) o ≡ true
       → askedOf minute m .grants o ≡ followed minute m o .grants
-  unfolding followed start view abstractAsked askedOf heldBy
+  unfolding followed start view abstractAsked askedOf openTxnIn
   grants-table o d e = let a = order-grants minute m sound o in
-      let g = grants-followed F W minute v (heldBy m) (staleBy m) (ready minute m) daily small placed rows o v (backIn m)
+      let g = grants-followed F W minute v (openTxnIn m) (staleBy m) (ready minute m) daily small placed rows o v (backIn m)
       (seat m) start d e (begins o e) in omega arith
 
   stale-table : (xs ys : List ℕ) (j : ℕ) → distinct (xs ++ (j ∷ ys)) ≡ true → allIn (ready minute m) (xs ++ (j ∷ ys)) ≡ true
       → (call (commit j minute) (callsAfter (commitsIn xs minute) m) .reply .answer ≡ refused 13)
       ↔ (contains (followed minute m xs .stale) j ≡ true)
-  unfolding followed start view askedOf heldBy abstractCall
+  unfolding followed start view askedOf openTxnIn abstractCall
   stale-table xs ys j d e = let o = xs ++ (j ∷ ys) in let cs = commitsIn xs minute in let a = calls-agree cs m sound in
       let r = call-turn (commit j minute) (callsAfter cs m) (a .sound) .0
       ∙ ap (λ (s : Abstract). abstractCommitCall j minute s .reply) (a .state) in
       subst⁻¹ (λ (x : Reply). (x .answer ≡ refused 13) ↔ (contains (followed minute m xs .stale) j ≡ true)) r
-      (stale-followed F W minute v (heldBy m) (staleBy m) (ready minute m) daily small placed rows xs ys j v (backIn m)
+      (stale-followed F W minute v (openTxnIn m) (staleBy m) (ready minute m) daily small placed rows xs ys j v (backIn m)
       (seat m) start d e (begins o e))
 
   -- Where none of them stands Deferred or Moved.
@@ -122,7 +122,8 @@ module _ (m : Machine) (sound : Sound m) (minute : ℕ) (daily : minuteIn minute
 
   ranged : (t : ℕ) → ready minute m t ≡ true → (d : ℕ) → standingIn (txnIn m t .standing d) ≡ true
   ranged t e = let l = below-eight t e in
-      let r = in-range (m .store) (m .journal) (sound .inRange) .transactions t l (and-right (leb t 7) _ (opened t e)) in
+      let r = in-range (m .store) (m .journal) (sound .inRange) .transactions t l
+      (and-right (leb t lastTransaction) _ (opened t e)) in
       decoded-in (m .store) (m .journal) (m .logs) t (sound .logs) l r (sound .shaped .descriptors t l) .standings
 
   short-table : (o : List ℕ) → allIn free o ≡ true
@@ -157,7 +158,7 @@ all-ready : (m : Machine) (ts : List ℕ) (minute budget : ℕ) → Passed (aske
     → allIn (ready minute m) ts ≡ true
 unfolding ready
 all-ready m ts minute budget a =
-    all-both (λ t. leb t 7) (λ t. askedOf minute m .isOpen t && not (askedOf minute m .notReady t)) ts (a .numbers)
+    all-both (λ t. leb t lastTransaction) (λ t. askedOf minute m .isOpen t && not (askedOf minute m .notReady t)) ts (a .numbers)
     (all-both (askedOf minute m .isOpen) (λ t. not (askedOf minute m .notReady t)) ts (a .isOpen) (a .ready))
 
 pub table-holds : (m : Machine) → Sound m → (ts : List ℕ) (minute budget : ℕ)

@@ -4,6 +4,7 @@ use mathlib.Core.Path.{_≡_, refl, sym, ap, ap₂, _∙_, subst, subst⁻¹}
 use borrow.Author.Tests.{eqb-true, eq-eqb, le-leb}
 use lib.{Dec.{leb, eqb}, ListN.length}
 use Prim.Native.Nat.{ℕ, zero, suc, _+_}
+use Rattle.limits.specs.Limits.{fileBytes, lastDescriptor, lastTransaction}
 use Rattle.standings.specs.declared.{Standing.{Standing, the-variants.{Untouched, Placed, Deferred, Moved, Known}}}
 use Rattle.standings.specs.Table.{afterSeek, afterWrite, afterRead, advance, settled, writePlace, mayWait, pointerSettles}
 use Rattle.standings.specs.Table.{offsetOf}
@@ -16,12 +17,13 @@ use Rattle.spec.specs.Messages.{Op, seek, write, getFilePointer, read, bufferOf
 use Rattle.spec.specs.Messages.{setWindow, undoCommit, bestOrder}
 use Rattle.spec.specs.Steps.{Stepped, refuse, accept, check, orGivenBack, written, seekStep, writeStep, pointerStep}
 use Rattle.spec.specs.Steps.{settledByRead, readSettled, readStep, step, refusesStale, refusedStale}
-use Rattle.spec.proofs.Abstract.AbstractStore.{UndoSaved, Seat, vacant, held, Saved, none, preserved, Abstract, startAbstract}
-use Rattle.spec.proofs.Abstract.AbstractStore.{AbstractTurn, turnedAway, withSeat, telling, abstractBegin, abstractStepped}
+use Rattle.spec.proofs.Abstract.AbstractStore.{OpenTxn, Seat, vacant, occupied, Saved, none, preserved, Abstract, startAbstract}
+use Rattle.spec.proofs.Abstract.AbstractStore.{AbstractTurn, abstractRefuse, withSeat, abstractAnswer, abstractBegin}
+use Rattle.spec.proofs.Abstract.AbstractStore.{abstractStepped}
 use Rattle.spec.proofs.Abstract.AbstractStore.{abstractOn, touch, granting, abstractCommitted, abstractCommit, abstractAbort}
-use Rattle.spec.proofs.Abstract.AbstractStore.{abstractPlaces, windowed, abstractWindow, noneHeld, returned, abstractReturn}
+use Rattle.spec.proofs.Abstract.AbstractStore.{abstractPlaces, windowed, abstractWindow, noneOccupied, returned, abstractReturn}
 use Rattle.spec.proofs.Abstract.AbstractStore.{abstractUndo, seated, abstractBestOrder, abstractCall, abstractAfter}
-use Rattle.spec.proofs.Refinement.{Relation.{heldBy, view}, OrderTurn.seat-open}
+use Rattle.spec.proofs.Refinement.{Relation.{openTxnIn, view}, OrderTurn.seat-open}
 use Rattle.spec.proofs.Theorems.Serializability.{calls-agree, fresh-facts}
 use Rattle.spec.proofs.Theorems.Recovery.{resting-view, runs-from-fresh, runs-closed}
 use Rattle.state.specs.Outcomes.{doneAnswer}
@@ -150,7 +152,7 @@ backed-settling : (ds : List ℕ) (x : Txn) → Backed x → Ever AfterSettling 
 unfolding settling
 backed-settling [] x b = b
 backed-settling (d ∷ ds) x b = λ c.
-    pick c (leb (c + advance (x .standing d)) 4096) (backed-settling ds (settle d c x) (backed-settle d c x b))
+    pick c (leb (c + advance (x .standing d)) fileBytes) (backed-settling ds (settle d c x) (backed-settle d c x b))
   where
     pick : (c : ℕ) (a : Bool) → Ever AfterSettling (settling ds (settle d c x))
         → Ever AfterSettling (cond a (settling ds (settle d c x)) (done past))
@@ -187,14 +189,14 @@ backed-read fileOf d n buffer y b = ever-then (λ bytes. Unit {0}) AfterStep (ga
 
 backed-step : (fileOf : ℕ → ℕ) (o : Op) (x : Txn) → Backed x → Ever AfterStep (step fileOf o x)
 unfolding step seekStep writeStep pointerStep readStep
-backed-step fileOf (seek d v) x b = checked (leb d 15) 6 _
-    (checked (leb v 4096) 8 _ (backed-dirtied d (afterSeek v (x .standing d)) x (seek-waits v (x .standing d)) b))
+backed-step fileOf (seek d v) x b = checked (leb d lastDescriptor) 6 _
+    (checked (leb v fileBytes) 8 _ (backed-dirtied d (afterSeek v (x .standing d)) x (seek-waits v (x .standing d)) b))
 backed-step fileOf (write d bytes) x b =
-    checked (leb d 15) 6 _ (checked _ 9 _ (checked _ 10 _ (checked _ 11 _ (backed-written d bytes x b))))
-backed-step fileOf (getFilePointer d) x b = checked (leb d 15) 6 _
+    checked (leb d lastDescriptor) 6 _ (checked _ 9 _ (checked _ 10 _ (checked _ 11 _ (backed-written d bytes x b))))
+backed-step fileOf (getFilePointer d) x b = checked (leb d lastDescriptor) 6 _
     (ever-then AfterSettling AfterStep (settling (cond (pointerSettles (x .standing d)) (d ∷ []) []) x) _
     (backed-settling (cond (pointerSettles (x .standing d)) (d ∷ []) []) x b) (given-back _ (λ y h. h)))
-backed-step fileOf (read d n buffer) x b = checked (leb d 15) 6 _
+backed-step fileOf (read d n buffer) x b = checked (leb d lastDescriptor) 6 _
     (checked (leb n (length buffer)) 7 _ (ever-then AfterSettling AfterStep (settling (settledByRead fileOf d x) x) _
     (backed-settling (settledByRead fileOf d x) x b) (given-back _ (λ y h. backed-read fileOf d n buffer y h))))
 
@@ -202,7 +204,7 @@ backed-step fileOf (read d n buffer) x b = checked (leb d 15) 6 _
 
 abbrev BackedSeat : Seat → Type 0
 BackedSeat vacant = Unit {0}
-BackedSeat (held h) = Backed (h .txn)
+BackedSeat (occupied h) = Backed (h .txn)
 
 abbrev BackedAll : Abstract → Type 0
 BackedAll s = (u : ℕ) → BackedSeat (s .seats u)
@@ -228,29 +230,29 @@ backed-turned stale o r h = pick (refusesStale stale o)
     pick false = h
 
 module _ (s : Abstract) (b : BackedAll s) where
-  backed-stepped : (t : ℕ) (o : Op) (h : UndoSaved) (is : List Item) (r : Stepped) → AfterStep r
+  backed-stepped : (t : ℕ) (o : Op) (h : OpenTxn) (is : List Item) (r : Stepped) → AfterStep r
       → BackedAll (abstractStepped t o h is s r .after)
-  unfolding abstractStepped turnedAway withSeat
+  unfolding abstractStepped abstractRefuse withSeat
   backed-stepped t o h is (refuse n) k = b
   backed-stepped t o h is (accept y a buffer) k = backed-put t _ (s .seats) k b
 
   backed-on : (t : ℕ) (o : Op) (x : Seat) → BackedSeat x → BackedAll (abstractOn t o x s .after)
-  unfolding abstractOn turnedAway
+  unfolding abstractOn abstractRefuse
   backed-on t o vacant k = b
-  backed-on t o (held h) k = backed-stepped t o h _ _ (backed-turned (h .stale) o _
+  backed-on t o (occupied h) k = backed-stepped t o h _ _ (backed-turned (h .stale) o _
       (ever-result AfterStep (s .value) (step (s .fileOf) o (h .txn)) (backed-step (s .fileOf) o (h .txn) k)))
 
   backed-begin : (t : ℕ) (x : Seat) → BackedAll (abstractBegin t x s .after)
-  unfolding abstractBegin turnedAway telling withSeat
+  unfolding abstractBegin abstractRefuse abstractAnswer withSeat
   backed-begin t vacant = backed-put t _ (s .seats) backed-empty b
-  backed-begin t (held h) = b
+  backed-begin t (occupied h) = b
 
   backed-touch : (ss : List Setting) (x : Seat) → BackedSeat x → BackedSeat (touch ss x)
   unfolding touch
   backed-touch ss vacant k = tt
-  backed-touch ss (held h) k = k
+  backed-touch ss (occupied h) k = k
 
-  backed-committed : (t : ℕ) (h : UndoSaved) (n : ℕ) → BackedAll (abstractCommitted t h s n .after)
+  backed-committed : (t : ℕ) (h : OpenTxn) (n : ℕ) → BackedAll (abstractCommitted t h s n .after)
   unfolding abstractCommitted granting withSeat
   backed-committed t h zero = λ u. backed-touch _ _ (backed-put t vacant (s .seats) tt b u)
   backed-committed t h (suc n) = pick (eqb (suc n) 13)
@@ -260,48 +262,48 @@ module _ (s : Abstract) (b : BackedAll s) where
       pick false = b
 
   backed-commit : (t minute : ℕ) (x : Seat) → BackedAll (abstractCommit t minute x s .after)
-  unfolding abstractCommit turnedAway
+  unfolding abstractCommit abstractRefuse
   backed-commit t minute vacant = b
-  backed-commit t minute (held h) = backed-committed t h _
+  backed-commit t minute (occupied h) = backed-committed t h _
 
   backed-abort : (t : ℕ) (x : Seat) → BackedAll (abstractAbort t x s .after)
-  unfolding abstractAbort turnedAway telling withSeat
+  unfolding abstractAbort abstractRefuse abstractAnswer withSeat
   backed-abort t vacant = b
-  backed-abort t (held h) = backed-put t vacant (s .seats) tt b
+  backed-abort t (occupied h) = backed-put t vacant (s .seats) tt b
 
   backed-places : (f : ℕ) (out : List ℕ) (x : Seat) → BackedAll (abstractPlaces f out x s .after)
-  unfolding abstractPlaces turnedAway
+  unfolding abstractPlaces abstractRefuse
   backed-places f out vacant = b
-  backed-places f out (held h) = b
+  backed-places f out (occupied h) = b
 
   backed-window : (f start end : ℕ) → BackedAll (abstractWindow f start end s .after)
-  unfolding abstractWindow turnedAway telling windowed
+  unfolding abstractWindow abstractRefuse abstractAnswer windowed
   backed-window f start end = pick (windowRefusal f start end)
     where
-      pick : (n : ℕ) → BackedAll (guarded (λ k. turnedAway k [] s) (isNone n) n
-          (telling doneAnswer (windowed f start end s)) .after)
+      pick : (n : ℕ) → BackedAll (guarded (λ k. abstractRefuse k [] s) (isNone n) n
+          (abstractAnswer doneAnswer (windowed f start end s)) .after)
       pick zero = b
       pick (suc n) = b
 
   backed-return : (x : Saved) → BackedAll (abstractReturn x s .after)
-  unfolding abstractReturn turnedAway telling returned
+  unfolding abstractReturn abstractRefuse abstractAnswer returned
   backed-return none = b
   backed-return (preserved v) = b
 
   backed-back : BackedAll (abstractUndo s .after)
-  unfolding abstractUndo turnedAway
-  backed-back = pick (noneHeld s)
+  unfolding abstractUndo abstractRefuse
+  backed-back = pick (noneOccupied s)
     where
-      pick : (c : Bool) → BackedAll (guarded (λ k. turnedAway k [] s) c 23 (abstractReturn (s .back) s) .after)
+      pick : (c : Bool) → BackedAll (guarded (λ k. abstractRefuse k [] s) c 23 (abstractReturn (s .back) s) .after)
       pick true = backed-return (s .back)
       pick false = b
 
   backed-seated : (t : ℕ) (buffer : List ℕ) (next : Seat → Abstract → AbstractTurn) → BackedAll (next (s .seats t) s .after)
       → BackedAll (seated t buffer next s .after)
-  unfolding seated turnedAway
-  backed-seated t buffer next h = pick (leb t 7)
+  unfolding seated abstractRefuse
+  backed-seated t buffer next h = pick (leb t lastTransaction)
     where
-      pick : (c : Bool) → BackedAll (cond c (next (s .seats t) s) (turnedAway 3 buffer s) .after)
+      pick : (c : Bool) → BackedAll (cond c (next (s .seats t) s) (abstractRefuse 3 buffer s) .after)
       pick true = h
       pick false = b
 
@@ -361,6 +363,7 @@ backed-view m r = let n = runsAfter (r .runs) (r .first) in
     (resting-view n closed) in subst⁻¹ (λ (s : Abstract). BackedAll s) e (backed-after (r .calls) _ (backed-start _ _ _ _))
 
 pub never-waits : NeverWaits
-unfolding view heldBy
-never-waits m r t l begun e = let b : BackedSeat (held (heldBy m t)) =
-    subst BackedSeat (seat-open m t (rw (le-leb t 7 l, begun) refl)) (backed-view m r t) in not-waiting (txnIn m t) b e
+unfolding view openTxnIn
+never-waits m r t l begun e = let b : BackedSeat (occupied (openTxnIn m t)) =
+    subst BackedSeat (seat-open m t (rw (le-leb t lastTransaction l, begun) refl)) (backed-view m r t) in not-waiting
+    (txnIn m t) b e

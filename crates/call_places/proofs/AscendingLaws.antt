@@ -9,6 +9,7 @@ use Prim.Native.Nat.{ℕ, zero, suc, _+_, _-_, _*_, _≤_, _<_}
 use native.Mathlib.Numerals.{add-one}
 use native.Mathlib.Omega.{arith}
 use borrow.Author.Tests.{eq-eqb, ne-eqb, le-leb, lt-leb}
+use Rattle.limits.specs.Limits.{fileBytes}
 use Rattle.buffers.specs.Parts.{pasted}
 use Rattle.buffers.proofs.PartLaws.{le-or-lt}
 use Rattle.standings.specs.declared.Place.{Place}
@@ -23,7 +24,7 @@ use Rattle.call_places.specs.declared.ascending.Sweep.{Sweep}
 use Rattle.read_lookup.specs.Lookup.{Recorded, covers, newest, supplier}
 use Rattle.call_places.specs.Ascending.{unswept, sweptPlace, sweptWrite, sweptRecord, sweptIn, WithinFile, withLast}
 use Rattle.call_places.specs.PlacesCall.{coveredAt, waitsOn, waitsOnFile}
-use Rattle.call_places.proofs.ListLaws.{length-snoc, pairs-none}
+use Rattle.call_places.proofs.ListLaws.{length-snoc, list-pairs-none}
 use Rattle.call_places.proofs.CoverLaws.{covered-more}
 use Rattle.call_places.proofs.SweepLaws.{Last, Swept, Step, sweep-placed, step-record, step-put}
 
@@ -150,11 +151,11 @@ module _ (j : Recorded) (t f : ℕ) where
   none-listed : intervalsOf (coveredAt j t 0 f) ≡ []
   unfolding coveredAt supplier newest
   none-listed = the-one-list _ [] (is-proper (coveredAt j t 0 f)) tt
-      (λ q. lists-its-places (coveredAt j t 0 f) q ∙ and-false (ltb q 4096) ∙ (unfold listed in refl))
+      (λ q. lists-its-places (coveredAt j t 0 f) q ∙ and-false (ltb q fileBytes) ∙ (unfold listed in refl))
 
   -- before the first record, the buffer has no pair
-  pub put-none : (out : List ℕ) → out ≡ pasted out 0 (encoded (intervalsOf (coveredAt j t 0 f)))
-  put-none out = pairs-none out ∙ ap (λ (l : List Interval). pasted out 0 (encoded l)) (sym none-listed)
+  pub put-none-last : (out : List ℕ) → out ≡ pasted out 0 (encoded (intervalsOf (coveredAt j t 0 f)))
+  put-none-last out = list-pairs-none out ∙ ap (λ (l : List Interval). pasted out 0 (encoded l)) (sym none-listed)
 
   none-covered : Swept (coveredAt j t 0 f) unswept
   unfolding coveredAt supplier newest
@@ -185,12 +186,12 @@ module _ (j : Recorded) (t f : ℕ) where
       few k l = omega (arith, room, swept-way records k l ascends .1, swept-is records (omega arith) ascends .count)
 
       -- what `put_last` requires
-      abbrev pub Ready : Sweep → Type 0
-      Ready r =
+      abbrev pub ReadyToSweep : Sweep → Type 0
+      ReadyToSweep r =
           ((4 * r .intervals ≤ length out) × (r .next ≤ 4097)) × (1 ≤ r .next → (1 ≤ r .intervals) × (suc (r .offset) ≤ r .next))
 
-      pub put-ready : (k : ℕ) → k ≤ records → (r : Sweep) → r ≡ sweptIn j t f k → Ready r
-      put-ready k l r e = subst Ready (sym e) ((few k l, so .within), λ h. met (so .last h))
+      pub put-ready : (k : ℕ) → k ≤ records → (r : Sweep) → r ≡ sweptIn j t f k → ReadyToSweep r
+      put-ready k l r e = subst ReadyToSweep (sym e) ((few k l, so .within), λ h. met (so .last h))
         where
           v : Sweep
           v = sweptIn j t f k

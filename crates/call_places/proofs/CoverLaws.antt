@@ -87,7 +87,7 @@ module _ (j : Recorded) (t records : ℕ) (e : Extent) (r : Run) (run : RunOf j 
       (λ q. run .longest l (q ∙ sym (supplier-file (supplier j t records (e .file) (e .place))
       (sym (ap isRecord (run .supplied)) ∙ b))))
 
-  module _ (whole : e .length ≡ 4096 - e .place) (inside : e .place < 4096) where
+  module _ (whole : e .length ≡ fileBytes - e .place) (inside : e .place < fileBytes) where
     -- the first place is covered
     pub first-covered-here : logged ≡ true → Upto covered false (e .place) (e .place)
     first-covered-here b =

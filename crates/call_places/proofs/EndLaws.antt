@@ -99,7 +99,7 @@ listed-longer l p m n q =
 module _ (S T : ℕ → Bool) where
   pub list-same : ((q : ℕ) → T q ≡ S q) → intervalsOf T ≡ intervalsOf S
   unfolding intervalsOf
-  list-same e = intervals-same T S 0 4096 (λ q g l. e q)
+  list-same e = intervals-same T S 0 fileBytes (λ q g l. e q)
 
   module _ (a n : ℕ) (within : a + n ≤ fileBytes) (more : (q : ℕ) → T q ≡ (S q || inInterval (interval a n) q)) where
     list-more : (l : List Interval) → Proper l
@@ -115,8 +115,8 @@ module _ (S T : ℕ → Bool) where
         same : (q : ℕ) → listed (intervalsOf T) q ≡ listed l q
         same q =
             lists-its-places T q
-            ∙ ap (λ (b : Bool). ltb q 4096 && b) (more q)
-            ∙ both q (ltb q 4096) (λ f. in-past (interval a n) q (omega (arith, ltb-false q 4096 f)))
+            ∙ ap (λ (b : Bool). ltb q fileBytes && b) (more q)
+            ∙ both q (ltb q fileBytes) (λ f. in-past (interval a n) q (omega (arith, ltb-false q fileBytes f)))
             ∙ ap (λ (b : Bool). b || inInterval (interval a n) q) (sym (lists-its-places S q))
             ∙ sym (e q)
 
@@ -125,7 +125,7 @@ module _ (S T : ℕ → Bool) where
     list-begun h before =
         list-more (intervalsOf S ++ (interval a n ∷ []))
         (proper-snoc 0 a n (intervalsOf S) (is-proper S) (omega arith) h
-        (λ q e. before q (and-right (ltb q 4096) (S q) (sym (lists-its-places S q) ∙ e))))
+        (λ q e. before q (and-right (ltb q fileBytes) (S q) (sym (lists-its-places S q) ∙ e))))
         (λ q. listed-snoc (intervalsOf S) (interval a n) q)
 
     -- they go on with its last interval

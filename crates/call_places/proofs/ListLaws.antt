@@ -22,7 +22,7 @@ asListed s = interval (s .offset) (s .length)
 
 -- The places from p on, to the end of the file.
 abbrev pub list-rest : (ℕ → Bool) → ℕ → List listing.Interval
-list-rest S p = intervalsFrom S p (4096 - p)
+list-rest S p = intervalsFrom S p (fileBytes - p)
 
 module _ (S : ℕ → Bool) (p : ℕ) (s : PlaceInterval) (next : NextOf S p s) where
   -- an interval of length 0 lies at the end of the file
@@ -32,7 +32,7 @@ module _ (S : ℕ → Bool) (p : ℕ) (s : PlaceInterval) (next : NextOf S p s) 
       pick : Upto S false p (s .offset) → Upto S true (s .offset) (s .offset + s .length) → s .offset ≡ fileBytes
       pick a b = ⊎-elim (λ h. omega (arith, a .within))
           (λ h. absurd (false≢true (sym (b .turned (omega arith)) ∙ ap S (omega arith) ∙ a .turned h)))
-          (le-or-lt 4096 (s .offset))
+          (le-or-lt fileBytes (s .offset))
 
   next-bounds : (p ≤ s .offset) × (s .offset + s .length ≤ fileBytes)
   next-bounds = (next .before .start, next .whole .within)
@@ -40,11 +40,11 @@ module _ (S : ℕ → Bool) (p : ℕ) (s : PlaceInterval) (next : NextOf S p s) 
   reached : list-rest S p ≡ list-rest S (s .offset)
   reached =
       let b = next-bounds in
-      let e : 4096 - p ≡ (s .offset - p) + (4096 - s .offset) = omega (arith, b .0, b .1) in
+      let e : fileBytes - p ≡ (s .offset - p) + (fileBytes - s .offset) = omega (arith, b .0, b .1) in
       let g : p + (s .offset - p) ≡ s .offset = omega (arith, b .0) in
       ap (intervalsFrom S p) e
-      ∙ skipped S p (s .offset - p) (4096 - s .offset) (λ q a l. next .before .same q a (omega arith))
-      ∙ ap (λ (x : ℕ). intervalsFrom S x (4096 - s .offset)) g
+      ∙ skipped S p (s .offset - p) (fileBytes - s .offset) (λ q a l. next .before .same q a (omega arith))
+      ∙ ap (λ (x : ℕ). intervalsFrom S x (fileBytes - s .offset)) g
 
   next-none : s .length ≡ 0 → list-rest S p ≡ []
   next-none z = reached ∙ ap (list-rest S) (next-end z) ∙ unfold intervalsFrom in refl
@@ -53,13 +53,13 @@ module _ (S : ℕ → Bool) (p : ℕ) (s : PlaceInterval) (next : NextOf S p s) 
   next-some h =
       let b = next-bounds in
       let k : s .length ≡ suc (s .length - 1) = omega arith in
-      let e : 4096 - s .offset ≡ suc (s .length - 1) + (4096 - (s .offset + s .length)) = omega (arith, b .1) in
+      let e : fileBytes - s .offset ≡ suc (s .length - 1) + (fileBytes - (s .offset + s .length)) = omega (arith, b .1) in
       reached
       ∙ ap (intervalsFrom S (s .offset)) e
-      ∙ interval-first S (s .offset) (s .length - 1) (4096 - (s .offset + s .length))
+      ∙ interval-first S (s .offset) (s .length - 1) (fileBytes - (s .offset + s .length))
       (λ q a l. next .whole .same q a (omega arith))
       (λ l. ap S (omega arith) ∙ next .whole .turned (omega arith))
-      ∙ ap (λ (n : ℕ). interval (s .offset) n ∷ intervalsFrom S (s .offset + n) (4096 - (s .offset + s .length))) (sym k)
+      ∙ ap (λ (n : ℕ). interval (s .offset) n ∷ intervalsFrom S (s .offset + n) (fileBytes - (s .offset + s .length))) (sym k)
 
 -- ---- the walk has come to place p, and the list so far is l
 
@@ -73,7 +73,7 @@ listing-none S = record { joins = refl }
 module _ (S : ℕ → Bool) (p : ℕ) (l : List listing.Interval) (so : Listing S p l) where
   pub listing-end : fileBytes ≤ p → l ≡ intervalsOf S
   listing-end h =
-      let z : 4096 - p ≡ 0 = omega arith in
+      let z : fileBytes - p ≡ 0 = omega arith in
       let n : list-rest S p ≡ [] = ap (intervalsFrom S p) z ∙ unfold intervalsFrom in refl in
       sym (append-nil l) ∙ ap (λ (r : List listing.Interval). l ++ r) (sym n) ∙ so .joins
 
@@ -182,9 +182,9 @@ length-encoded (x ∷ l) =
     ∙ omega (arith, length-pair (record { offset = x .offset; length = x .length }), length-encoded l)
 
 -- the buffer after the pairs of l, and after one pair more
-pub pairs-none : (out : List ℕ) → out ≡ pasted out 0 (encoded [])
+pub list-pairs-none : (out : List ℕ) → out ≡ pasted out 0 (encoded [])
 unfolding encoded
-pairs-none out = sym (pasted-none out 0)
+list-pairs-none out = sym (pasted-none out 0)
 
 pub list-pairs-more : (out : List ℕ) (l : List listing.Interval) (s : PlaceInterval) (at : ℕ) → at ≡ 4 * length l → at
     + 4 ≤ length out

@@ -8,7 +8,7 @@ use lib.ListN.{getD, length}
 use Prim.Native.Nat.{ℕ, zero, suc, _+_, _*_, _≤_, _<_}
 use native.Mathlib.Omega.{arith}
 use borrow.Author.Tests.{leb-true}
-use Rattle.limits.specs.Limits.{bufferBytes, transactionCount}
+use Rattle.limits.specs.Limits.{fileBytes, bufferBytes, transactionCount, logBytes}
 use Rattle.standings.specs.declared.Place.{Place}
 use Rattle.state.specs.declared.StoreMeaning.{StoreMeaning}
 use Rattle.state.specs.declared.Transaction.{Transaction}
@@ -46,15 +46,15 @@ module _ (j : Recorded) (logs : List ℕ) (t f : ℕ) where
       (λ k. waitsOn (j .filenumbers) f (writeRecordAt (j .journal) t k)) n (λ k l. refl)
 
   module _ (small : t < transactionCount) (long : length logs ≡ bufferBytes) where
-    covers-is : (p k : ℕ) → lengthsBefore (j .journal) t (suc k) ≤ 4096
+    covers-is : (p k : ℕ) → lengthsBefore (j .journal) t (suc k) ≤ logBytes
         → coversPlace file f p (writeAt (j .journal) logs t k) ≡ covers (j .filenumbers) f p (writeRecordAt (j .journal) t k)
     unfolding coversPlace writeAt covers dataStart
     covers-is p k h =
         let w = writeRecordAt (j .journal) t k in
         ap (λ (n : ℕ). eqb (file (w .descriptor)) f && liesOver (w .place) n p)
-        (length-cut logs (4096 * t + lengthsBefore (j .journal) t k) (w .length) (omega (arith, data-suc (j .journal) t k)))
+        (length-cut logs (logBytes * t + lengthsBefore (j .journal) t k) (w .length) (omega (arith, data-suc (j .journal) t k)))
 
-    covered-is : (n : ℕ) → lengthsBefore (j .journal) t n ≤ 4096 → (p : ℕ) → covered file f (writes n) p ≡ coveredAt j t n f p
+    covered-is : (n : ℕ) → lengthsBefore (j .journal) t n ≤ logBytes → (p : ℕ) → covered file f (writes n) p ≡ coveredAt j t n f p
     unfolding covered coveredAt supplier newest tabulate someWrite
     covered-is zero h p = refl
     covered-is (suc n) h p =
@@ -71,7 +71,8 @@ unfolding placeIn
 within-file x journal filenumbers t range k p l e =
     let w = writeRecordAt journal t k in
     let z = standingAt x (w .descriptor) in
-    leb-true (p + w .length) 4096 (ap (λ (q : Place). placeIn z q (w .length)) (sym e) ∙ record-in x w (range .writes k l) .place)
+    leb-true (p + w .length) fileBytes
+    (ap (λ (q : Place). placeIn z q (w .length)) (sym e) ∙ record-in x w (range .writes k l) .place)
 
 module _ (s : StoreMeaning) (journal logs : List ℕ) (t f : ℕ) where
   -- "a write on that file has no place yet"
@@ -95,4 +96,4 @@ module _ (s : StoreMeaning) (journal logs : List ℕ) (t f : ℕ) where
     unfolding intervalsOf
     intervals-in =
         intervals-same (covered (fileOf s) f (txnOf s journal logs t .writes))
-        (coveredAt (recorded journal (s .filenumbers)) t (transaction s t .used .records) f) 0 4096 (λ p g l. covered-in p)
+        (coveredAt (recorded journal (s .filenumbers)) t (transaction s t .used .records) f) 0 fileBytes (λ p g l. covered-in p)

@@ -7,7 +7,7 @@ use lib.Dec.{eqb}
 use lib.ListN.{length}
 use native.Mathlib.Omega.{arith}
 use Prim.Native.Nat.{ℕ, zero, suc, _*_, _≤_, _<_}
-use Rattle.limits.specs.Limits.{lastFile}
+use Rattle.limits.specs.Limits.{lastFile, fileBytes}
 use Rattle.state.specs.StoreMeaning.{transaction}
 use Rattle.state.specs.Outcomes.{pairs, said}
 use Rattle.state.specs.declared.outcomes.Outcome.the-variants.{Pairs}
@@ -47,9 +47,9 @@ from-length S p (suc n) = pick (S p) (from-length S (suc p) n)
     pick true h = omega (arith, with-length p (intervalsFrom S (suc p) n))
     pick false h = omega arith
 
-pub intervals-few : (S : ℕ → Bool) → length (intervalsOf S) ≤ 4096
+pub intervals-few : (S : ℕ → Bool) → length (intervalsOf S) ≤ fileBytes
 unfolding intervalsOf
-intervals-few S = from-length S 0 4096
+intervals-few S = from-length S 0 fileBytes
 
 -- ---- the call
 
@@ -71,7 +71,7 @@ module _ (t f : ℕ) (out : List ℕ) (m : Machine) (passes : admission (sizes m
 
   pub places-no-file : lastFile < f → call (places t f out) m ≡ refuseTurn 6 out m
   unfolding placesRefusal unless placesReply refuseTurn
-  places-no-file h = replied 6 (rw (lt-leb f 7 h))
+  places-no-file h = replied 6 (rw (lt-leb f lastFile h))
 
   -- So many write records the code read.
   module _ (low : f ≤ lastFile) (records : ℕ) (read : records ≡ transaction (m .store) t .used .records) where
@@ -83,7 +83,7 @@ module _ (t f : ℕ) (out : List ℕ) (m : Machine) (passes : admission (sizes m
 
     pub places-waiting : waitsOnFile held t records f ≡ true → call (places t f out) m ≡ refuseTurn 15 out m
     unfolding placesRefusal unless placesReply refuseTurn
-    places-waiting w = replied 15 (rw (le-leb f 7 low, waiting-is, w))
+    places-waiting w = replied 15 (rw (le-leb f lastFile low, waiting-is, w))
 
     module _ (o : Opened (m .store) (m .journal) (m .logs) t) (placed : waitsOnFile held t records f ≡ false) where
       listed : intervalsOf (covered (fileOf (m .store)) f (txn .writes)) ≡ list
@@ -93,13 +93,15 @@ module _ (t f : ℕ) (out : List ℕ) (m : Machine) (passes : admission (sizes m
 
       pub places-too-long : length out < 4 * length list → call (places t f out) m ≡ refuseTurn 16 out m
       unfolding placesRefusal unless placesReply refuseTurn
-      places-too-long h = replied 16 (rw (le-leb f 7 low, waiting-is, placed, listed, lt-leb (4 * length list) (length out) h))
+      places-too-long h = replied 16
+          (rw (le-leb f lastFile low, waiting-is, placed, listed, lt-leb (4 * length list) (length out) h))
 
       pub places-meets : 4 * length list ≤ length out → (n : ℕ) → n ≡ length list
           → Meets (call (places t f out) m) (Pairs n) m (withPairs list out)
       unfolding placesRefusal unless placesReply said
       places-meets h n e =
-          let reply = replied 0 (rw (le-leb f 7 low, waiting-is, placed, listed, le-leb (4 * length list) (length out) h)) in
+          let reply = replied 0
+          (rw (le-leb f lastFile low, waiting-is, placed, listed, le-leb (4 * length list) (length out) h)) in
           record {
             outcome = ap pairs (e ∙ sym (ap length listed)) ∙ sym (ap (λ (w : Turn). w .reply .answer) reply);
             machine = sym (ap (λ (w : Turn). w .after) reply);

@@ -19,7 +19,7 @@ use Rattle.state.specs.Updates.{standingFits, withDescriptorAt, withLengthmarks
 use Rattle.state.proofs.LayoutLaws.{transaction-of, length-with-descriptor, store-with-descriptor, journal-with-descriptor}
 use Rattle.state.proofs.LayoutLaws.{store-with-lengthmarks, journal-with-lengthmarks}
 use Rattle.spec.proofs.Refinement.StandingRanges.{read-in}
-use Rattle.refinement.proofs.Shapes.{eight, put-read, put-twice}
+use Rattle.refinement.proofs.Shapes.{eight, put-read, shape-put-twice}
 use Rattle.refinement.proofs.Fitting.{standing-fits}
 use Rattle.read_lookup.specs.declared.Extent.{Extent}
 use Rattle.read_lookup.specs.Lookup.{extent, recordedIn, lengthSeen}
@@ -74,7 +74,7 @@ module _ (state : List ℕ) (t d n : ℕ) (e : Extent) (p : Movable state t d e)
               (ap storeOf marked
               ∙ store-with-lengthmarks after t long (p .small) m
               ∙ ap (λ (s : StoreMeaning). withTransaction t (withLengthmarks m (transaction s t)) s) store-dirtied
-              ∙ put-twice (storeOf state) t (dirtied (transactionOf state t)) (withLengthmarks m) (eight state t (p .small))
+              ∙ shape-put-twice (storeOf state) t (dirtied (transactionOf state t)) (withLengthmarks m) (eight state t (p .small))
               ∙ ap (λ (k : ℕ). withTransaction t (withLengthmarks k (dirtied (transactionOf state t))) (storeOf state))
               (is ∙ ap (withBit (e .file)) (read ∙ ap (λ (x : Transaction). x .lengthmarks) now-is)));
           journal = ap journalOf marked ∙ journal-with-lengthmarks after t long (p .small) m ∙ journal-dirtied;

@@ -6,6 +6,7 @@ use borrow.Author.Tests.{le-leb}
 use lib.Dec.{leb}
 use native.Mathlib.Omega.{arith}
 use Prim.Native.Nat.{ℕ, _≤_}
+use Rattle.limits.specs.Limits.{lastDescriptor}
 use Rattle.standings.specs.declared.Standing.{Standing}
 use Rattle.standings.specs.Table.{pointerSettles, offsetOf}
 use Rattle.state.specs.declared.outcomes.Outcome.the-variants.{Offset, Refused}
@@ -41,7 +42,7 @@ module _ (t d : ℕ) (m : Machine) (passes : admission (sizes m) (m .store) (m .
   pub pointer-refused : (r : Refusal) → number r ≡ readRefusal (transaction (m .store) t .stale) d 0 0
       → call (on t (getFilePointer d)) m ≡ refuseTurn (number r) [] m
   unfolding step pointerStep bufferOf descriptorOfOp isReadCall
-  pointer-refused = read-test-refused t (getFilePointer d) m passes d 0 0 refl refl (check-failed (leb d 15) 6 _)
+  pointer-refused = read-test-refused t (getFilePointer d) m passes d 0 0 refl refl (check-failed (leb d lastDescriptor) 6 _)
       (λ l e. absurd (true≢false e))
 
   -- Transaction t, the choice, and the transaction afterwards.
@@ -58,7 +59,7 @@ module _ (t d : ℕ) (m : Machine) (passes : admission (sizes m) (m .store) (m .
   expected : Txn → Prog Stepped
   expected y = done (accept y (pointer (offsetOf (y .standing d))) [])
 
-  pointer-result : (b : Bool) → d ≤ 15 → allWithin choice (m .store .offsets) held ≡ b
+  pointer-result : (b : Bool) → d ≤ lastDescriptor → allWithin choice (m .store .offsets) held ≡ b
       → result (values (m .store) (m .files)) (program t (getFilePointer d) m passes)
       ≡ result (values (m .store) (m .files))
       (orGivenBack expected (cond b (all (settledTxn (m .store) (m .journal) (m .logs) t choice)) past))
@@ -67,13 +68,13 @@ module _ (t d : ℕ) (m : Machine) (passes : admission (sizes m) (m .store) (m .
       let v = values (m .store) (m .files) in
       let x = txnOf (m .store) (m .journal) (m .logs) t in
       let p = settling (cond (pointerSettles (x .standing d)) (d ∷ []) []) x in
-      ap (result v) (check-held (leb d 15) 6 (andThen p (orGivenBack expected)) (le-leb d 15 h))
+      ap (result v) (check-held (leb d lastDescriptor) 6 (andThen p (orGivenBack expected)) (le-leb d lastDescriptor h))
       ∙ result-andThen v p (orGivenBack expected)
       ∙ ap (λ (s : Settled). result v (orGivenBack expected s))
       (settling-pointer (m .store) (m .journal) (m .files) (m .logs) t d (omega arith)
       ∙ ap (λ (b : Bool). cond b (all (settledTxn (m .store) (m .journal) (m .logs) t choice)) past) e)
 
-  pointer-past : held .stale ≡ false → d ≤ 15 → allWithin choice (m .store .offsets) held ≡ false
+  pointer-past : held .stale ≡ false → d ≤ lastDescriptor → allWithin choice (m .store .offsets) held ≡ false
       → call (on t (getFilePointer d)) m ≡ refuseTurn 12 [] m
   unfolding orGivenBack result served bufferOf
   pointer-past f h e =
@@ -87,7 +88,8 @@ module _ (t d : ℕ) (m : Machine) (passes : admission (sizes m) (m .store) (m .
   expected-marks past = refl
   expected-marks (all y) = refl
 
-  marks-preserved : d ≤ 15 → marked t (asked (values (m .store) (m .files)) (program t (getFilePointer d) m passes)) (m .marks)
+  marks-preserved : d ≤ lastDescriptor → marked t (asked (values (m .store) (m .files)) (program t (getFilePointer d) m passes))
+      (m .marks)
       ≡ m .marks
   unfolding step pointerStep expected
   marks-preserved h =
@@ -95,7 +97,7 @@ module _ (t d : ℕ) (m : Machine) (passes : admission (sizes m) (m .store) (m .
       let x = txnOf (m .store) (m .journal) (m .logs) t in
       let ds = cond (pointerSettles (x .standing d)) (d ∷ []) [] in
       ap (λ (p : Prog Stepped). marked t (asked v p) (m .marks))
-      (check-held (leb d 15) 6 (andThen (settling ds x) (orGivenBack expected)) (le-leb d 15 h))
+      (check-held (leb d lastDescriptor) 6 (andThen (settling ds x) (orGivenBack expected)) (le-leb d lastDescriptor h))
       ∙ ap (λ (is : List Item). marked t is (m .marks)) (asked-andThen v (settling ds x) (orGivenBack expected))
       ∙ marked-settling v t ds x (asked v (orGivenBack expected (result v (settling ds x)))) (m .marks)
       ∙ expected-marks (result v (settling ds x))
@@ -106,7 +108,8 @@ module _ (t d : ℕ) (m : Machine) (passes : admission (sizes m) (m .store) (m .
   expected-lengths past n = refl
   expected-lengths (all y) n = refl
 
-  lengths-preserved : d ≤ 15 → sightingLengths (asked (values (m .store) (m .files)) (program t (getFilePointer d) m passes)) held
+  lengths-preserved : d ≤ lastDescriptor → sightingLengths
+      (asked (values (m .store) (m .files)) (program t (getFilePointer d) m passes)) held
       ≡ held
   unfolding step pointerStep expected sightingLengths
   lengths-preserved h =
@@ -115,12 +118,13 @@ module _ (t d : ℕ) (m : Machine) (passes : admission (sizes m) (m .store) (m .
       let ds = cond (pointerSettles (x .standing d)) (d ∷ []) [] in
       ap (λ (n : ℕ). withLengthmarks n held)
       (ap (λ (p : Prog Stepped). lengthmarked (asked v p) (held .lengthmarks))
-      (check-held (leb d 15) 6 (andThen (settling ds x) (orGivenBack expected)) (le-leb d 15 h))
+      (check-held (leb d lastDescriptor) 6 (andThen (settling ds x) (orGivenBack expected)) (le-leb d lastDescriptor h))
       ∙ ap (λ (is : List Item). lengthmarked is (held .lengthmarks)) (asked-andThen v (settling ds x) (orGivenBack expected))
       ∙ lengths-settling v ds x (asked v (orGivenBack expected (result v (settling ds x)))) (held .lengthmarks)
       ∙ expected-lengths (result v (settling ds x)) (held .lengthmarks))
 
-  meets : Opened (m .store) (m .journal) (m .logs) t → held .stale ≡ false → d ≤ 15 → allWithin choice (m .store .offsets) held
+  meets : Opened (m .store) (m .journal) (m .logs) t → held .stale ≡ false → d ≤ lastDescriptor
+      → allWithin choice (m .store .offsets) held
       ≡ true
       → Meets (call (on t (getFilePointer d)) m) (Offset (offsetOf (standingAt afterwards d)))
       (withStore (withTransaction t afterwards (m .store)) (withJournal (settledJournal (m .store) (m .journal) t choice) m)) []
@@ -156,10 +160,10 @@ module _ {state files logs marks undo : List ℕ} {t d : ℕ} (l : ReadAdmitted 
   abbrev answered : Turn
   answered = call (on t (getFilePointer d)) (machineOf state files logs marks undo)
 
-  pub past-follows : SettledTo verdict.Past
+  pub pointer-past-follows : SettledTo verdict.Past
       → Meets answered (Refused AppendPastEnd) (machineOf now files logs marks undo) []
       × LeftAsFound (Refused AppendPastEnd) state now
-  past-follows s =
+  pointer-past-follows s =
       turned-left AppendPastEnd [] state files logs marks undo answered
       (pointer-past t d (machineOf state files logs marks undo) (l .passes) (l .may .fresh) (l .may .low)
       (verdict-past _ _ _ (sym (s .verdict)))) now (s .refused refl)

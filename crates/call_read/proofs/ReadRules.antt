@@ -7,6 +7,7 @@ use lib.Dec.{leb, ltb, eqb}
 use lib.ListN.{length, getD, drop}
 use native.Mathlib.Omega.{arith}
 use Prim.Native.Nat.{ℕ, _+_, _-_, _*_, _≤_, _<_, min, max}
+use Rattle.limits.specs.Limits.{fileBytes, lastDescriptor, logBytes}
 use Rattle.buffers.specs.Bits.{withBit}
 use Rattle.buffers.specs.Parts.{filePart}
 use Rattle.buffers.proofs.PartLaws.{length-cut}
@@ -43,7 +44,7 @@ use Rattle.spec.proofs.Refinement.StepPreserves.{pieces, settling-preserved}
 use Rattle.spec.proofs.Refinement.WriteEnds.{length-for}
 use Rattle.spec.proofs.Refinement.Accepted.{length-in}
 use Rattle.refinement.specs.Settling.{settleAll}
-use Rattle.refinement.proofs.Shapes.{put-twice}
+use Rattle.refinement.proofs.Shapes.{shape-put-twice}
 use Rattle.refinement.proofs.Decoded.{Opened}
 use Rattle.refinement.proofs.Settling.{marked-settling, lengths-settling}
 use Rattle.read_settle.specs.declared.settle_call.Verdict.{Verdict}
@@ -56,7 +57,7 @@ use Rattle.read_settle.proofs.ChoiceLaws.{verdict-past, verdict-settled}
 use Rattle.read_settle.proofs.Chosen.{settling-read}
 use Rattle.read_lookup.specs.declared.Extent.{Extent}
 use Rattle.read_lookup.specs.Lookup.{Recorded, recorded, recordedIn, extent, CountedRecords, recordEnd, reach}
-use Rattle.read_lookup.proofs.RunLaws.{data-suc, data-upto, reach-is}
+use Rattle.read_lookup.proofs.RunLaws.{data-suc, data-upto, run-reach-is}
 use Rattle.read_fetch.specs.Fetch.{bytesRead, marksAfter, logPart}
 use Rattle.read_fetch.proofs.FetchLaws.{marked-append, lengths-fetch}
 use Rattle.read_fetch.proofs.MachineLaws.{bytes-are, marks-are}
@@ -67,11 +68,12 @@ use Rattle.call_read.proofs.ReadTests.{transaction-now}
 
 -- ---- the offset of a standing in range, and of one that was settled
 
-offset-low : (z : Standing) → standingIn z ≡ true → offsetOf z ≤ 4096
+offset-low : (z : Standing) → standingIn z ≡ true → offsetOf z ≤ fileBytes
 offset-low z e =
-    leb-true (offsetOf z) 4096 (and-right (leb (advance z) 4096) (leb (offsetOf z) 4096) (sym (standing-numbers z) ∙ e))
+    leb-true (offsetOf z) fileBytes
+    (and-right (leb (advance z) fileBytes) (leb (offsetOf z) fileBytes) (sym (standing-numbers z) ∙ e))
 
-settled-low : (c : ℕ) (z : Standing) → standingIn z ≡ true → c + advance z ≤ 4096 → offsetOf (settled c z) ≤ 4096
+settled-low : (c : ℕ) (z : Standing) → standingIn z ≡ true → c + advance z ≤ fileBytes → offsetOf (settled c z) ≤ fileBytes
 unfolding settled
 settled-low c Untouched e h = omega arith
 settled-low c (Placed o) e h = offset-low (Placed o) e
@@ -79,9 +81,9 @@ settled-low c (Deferred a) e h = h
 settled-low c (Moved a o) e h = offset-low (Moved a o) e
 settled-low c (Known o) e h = offset-low (Known o) e
 
-chosen-low : (b : Bool) (c : ℕ) (z : Standing) → standingIn z ≡ true → not b || leb (c + advance z) 4096 ≡ true
-    → offsetOf (cond b (settled c z) z) ≤ 4096
-chosen-low true c z e h = settled-low c z e (leb-true (c + advance z) 4096 h)
+chosen-low : (b : Bool) (c : ℕ) (z : Standing) → standingIn z ≡ true → not b || leb (c + advance z) fileBytes ≡ true
+    → offsetOf (cond b (settled c z) z) ≤ fileBytes
+chosen-low true c z e h = settled-low c z e (leb-true (c + advance z) fileBytes h)
 chosen-low false c z e h = offset-low z e
 
 module _ (t d n : ℕ) (buffer : List ℕ) (m : Machine) (passes : admission (sizes m) (m .store) (m .journal) t ≡ 0) where
@@ -89,10 +91,11 @@ module _ (t d n : ℕ) (buffer : List ℕ) (m : Machine) (passes : admission (si
       → call (on t (read d n buffer)) m ≡ refuseTurn (number r) buffer m
   unfolding step readStep bufferOf descriptorOfOp isReadCall
   read-refused =
-      read-test-refused t (read d n buffer) m passes d n (length buffer) refl refl (check-failed (leb d 15) 6 _)
-      (λ low short. check-held (leb d 15) 6 _ low ∙ check-failed (leb n (length buffer)) 7 _ short)
+      read-test-refused t (read d n buffer) m passes d n (length buffer) refl refl (check-failed (leb d lastDescriptor) 6 _)
+      (λ low short. check-held (leb d lastDescriptor) 6 _ low ∙ check-failed (leb n (length buffer)) 7 _ short)
 
-  module _ (o : Opened (m .store) (m .journal) (m .logs) t) (fresh : transaction (m .store) t .stale ≡ false) (low : d ≤ 15)
+  module _ (o : Opened (m .store) (m .journal) (m .logs) t) (fresh : transaction (m .store) t .stale ≡ false)
+      (low : d ≤ lastDescriptor)
       (room : n ≤ length buffer) where
     -- Transaction t, the choice, the transaction afterwards, and its meaning.
     abbrev held : Transaction
@@ -122,7 +125,8 @@ module _ (t d n : ℕ) (buffer : List ℕ) (m : Machine) (passes : admission (si
     program-is : program t (read d n buffer) m passes ≡ andThen settles (orGivenBack goesOn)
     unfolding step readStep
     program-is =
-        check-held (leb d 15) 6 (check (leb n (length buffer)) 7 (andThen settles (orGivenBack goesOn))) (le-leb d 15 low)
+        check-held (leb d lastDescriptor) 6 (check (leb n (length buffer)) 7 (andThen settles (orGivenBack goesOn)))
+        (le-leb d lastDescriptor low)
         ∙ check-held (leb n (length buffer)) 7 (andThen settles (orGivenBack goesOn)) (le-leb n (length buffer) room)
 
     settles-to : (b : Bool) → allWithin choice (m .store .offsets) held ≡ b → result v settles ≡ cond b (all meant) past
@@ -143,7 +147,7 @@ module _ (t d n : ℕ) (buffer : List ℕ) (m : Machine) (passes : admission (si
         on-stepped t (read d n buffer) m passes (not-stale (held .stale) (read d n buffer) fresh)
         ∙ ap (served t (read d n buffer) m (asked v (program t (read d n buffer) m passes))) (read-result false e)
 
-    module _ (within : allWithin choice (m .store .offsets) held ≡ true) (bounded : (g : ℕ) → v (fileLength g) ≤ 4096) where
+    module _ (within : allWithin choice (m .store .offsets) held ≡ true) (bounded : (g : ℕ) → v (fileLength g) ≤ fileBytes) where
       -- The offset that is read from, how many bytes are given, by which file; and the transaction's meaning at the end.
       abbrev from : ℕ
       from = offsetOf (meant .standing d)
@@ -270,11 +274,11 @@ module _ (t d n : ℕ) (buffer : List ℕ) (m : Machine) (passes : admission (si
           settled-are k h = unfold settledByRead in those-in
               (λ e. readSettles (eqb (fileOf (m .store) e) (fileOf (m .store) d)) (eqb e d) (before .standing e)) 16 (omega arith)
 
-      end-low : end ≤ 4096
+      end-low : end ≤ fileBytes
       end-low = length-for (fileOf (m .store)) (fileOf (m .store) d) meant (v (fileLength (fileOf (m .store) d)))
           (bounded (fileOf (m .store) d)) meant-in
 
-      from-low : from ≤ 4096
+      from-low : from ≤ fileBytes
       unfolding allWithin settlesWithin settleAll txnOf
       from-low =
           chosen-low (getD choice d false) (getD (m .store .offsets) d 0) (standingAt held d)
@@ -285,7 +289,7 @@ module _ (t d n : ℕ) (buffer : List ℕ) (m : Machine) (passes : admission (si
       abbrev placed : Recorded
       placed = recorded (settledJournal (m .store) (m .journal) t choice) (m .store .filenumbers)
 
-      inside : lengthsBefore (placed .journal) t (held .used .records) ≤ 4096
+      inside : lengthsBefore (placed .journal) t (held .used .records) ≤ logBytes
       inside =
           omega (
             arith,
@@ -352,7 +356,7 @@ module _ (t d n : ℕ) (buffer : List ℕ) (m : Machine) (passes : admission (si
               })
 
           data-upon : (k : ℕ) → k < held .used .records → lengthsBefore (placed .journal) t k
-              + writeRecordAt (placed .journal) t k .length ≤ 4096
+              + writeRecordAt (placed .journal) t k .length ≤ logBytes
           data-upon k h = omega (
             arith,
             data-suc (placed .journal) t k,
@@ -368,14 +372,14 @@ module _ (t d n : ℕ) (buffer : List ℕ) (m : Machine) (passes : admission (si
               let w = writeRecordAt (placed .journal) t k in
               ap (λ (z : ℕ). cond (eqb (getD (m .store .filenumbers) (w .descriptor) 0) f) (placedEnd (w .place) z) 0)
               (sym
-              (length-cut (m .logs) (4096 * t + lengthsBefore (placed .journal) t k) (w .length)
+              (length-cut (m .logs) (logBytes * t + lengthsBefore (placed .journal) t k) (w .length)
               (omega (arith, data-upon k h, o .size, o .small))))
 
           -- How far the file reaches for the transaction, as the code finds it.
           reached-is : reach placed t f (getD (m .store .lengths) f 0) (held .used .records) ≡ end
           unfolding lengthFor fileOf values
           reached-is =
-              reach-is placed t f (getD (m .store .lengths) f 0) (writeAt (placed .journal) (m .logs) t) (held .used .records)
+              run-reach-is placed t f (getD (m .store .lengths) f 0) (writeAt (placed .journal) (m .logs) t) (held .used .records)
               end-of
               ∙ ap (λ (ws : List Write). max (getD (m .store .lengths) f 0) (ownEnd (λ e. getD (m .store .filenumbers) e 0) f ws))
               (writes-settled (m .store) (m .journal) (m .logs) t o choice)
@@ -424,7 +428,8 @@ module _ (t d n : ℕ) (buffer : List ℕ) (m : Machine) (passes : admission (si
                 ≡ withTxn t finally sees (m .store)
             store-is =
                 ap₂ (λ (x : Transaction) (s : StoreMeaning). withTransaction t (afterGiving d n e x) s) stands es
-                ∙ put-twice (m .store) t afterwards (λ _. afterGiving d n e afterwards) (rw (o .shape .transactions) (o .small))
+                ∙ shape-put-twice (m .store) t afterwards (λ _. afterGiving d n e afterwards)
+                (rw (o .shape .transactions) (o .small))
                 ∙ ap (λ (e : Extent). withTransaction t (afterGiving d n e afterwards) (m .store)) ee
                 ∙ finally-is
               where
@@ -482,7 +487,7 @@ module _ {state files logs marks undo : List ℕ} {t d n : ℕ} (buffer : List �
 
   module _ (s : SettledTo verdict.Settled) where
     -- "lengths, at most 4,096"
-    limits : (g : ℕ) → values (storeOf state) files (fileLength g) ≤ 4096
+    limits : (g : ℕ) → values (storeOf state) files (fileLength g) ≤ fileBytes
     limits = length-in _ _ _ (l .held .shape .lengths) (in-range (storeOf state) (journalOf state) (l .through .ranges))
 
     stands-now : let x = transaction (storeOf state) t in transactionOf now t

@@ -7,6 +7,7 @@ use lib.Dec.{leb}
 use lib.ListN.{length}
 use native.Mathlib.Omega.{arith}
 use Prim.Native.Nat.{ℕ, _≤_, _<_}
+use Rattle.limits.specs.Limits.{lastDescriptor, transactionCount}
 use Rattle.state.specs.declared.outcomes.Refusal.{Refusal}
 use Rattle.state.specs.declared.outcomes.Outcome.the-variants.{Refused}
 use Rattle.state.specs.declared.Transaction.{Transaction}
@@ -32,28 +33,29 @@ use Rattle.read_settle.specs.Records.{Placeable}
 use Rattle.read_settle.specs.Outcome.{SettledIn}
 use Rattle.read_settle.proofs.Settled.{placeable}
 use Rattle.admission.proofs.Laws.{number-suc, in-range}
-use Rattle.refinement.proofs.TurnLaws.{LetThrough, turned-follows, program, on-turned-back, on-refused}
+use Rattle.refinement.proofs.TurnLaws.{LetThrough, turned-follows, program, on-refused-stale, on-refused}
 
 -- Refusals 6, 18 and 7; 0 stands for none.
 abbrev pub readRefusal : Bool → ℕ → ℕ → ℕ → ℕ
-readRefusal stale d n room = unless (leb d 15) 6 (unless (not stale) 18 (unless (leb n room) 7 0))
+readRefusal stale d n room = unless (leb d lastDescriptor) 6 (unless (not stale) 18 (unless (leb n room) 7 0))
 
 -- What passing them tells.
 pub record AdmitsRead (stale : Bool) (d n room : ℕ) : Type 0 where
-  pub low : d ≤ 15
+  pub low : d ≤ lastDescriptor
   pub fresh : stale ≡ false
   pub roomy : n ≤ room
 
 pub admits-read : (stale : Bool) (d n room : ℕ) → readRefusal stale d n room ≡ 0 → AdmitsRead stale d n room
 unfolding unless
-admits-read stale d n room e = passed (leb d 15) stale (leb n room) refl refl refl e
+admits-read stale d n room e = passed (leb d lastDescriptor) stale (leb n room) refl refl refl e
   where
-    passed : (a b c : Bool) → leb d 15 ≡ a → stale ≡ b → leb n room ≡ c → unless a 6 (unless (not b) 18 (unless c 7 0)) ≡ 0
+    passed : (a b c : Bool) → leb d lastDescriptor ≡ a → stale ≡ b → leb n room ≡ c
+        → unless a 6 (unless (not b) 18 (unless c 7 0)) ≡ 0
         → AdmitsRead stale d n room
     passed false b c ea eb ec e = absurd (let f : _≡_ {A = ℕ} 6 0 = e in omega arith)
     passed true true c ea eb ec e = absurd (let f : _≡_ {A = ℕ} 18 0 = e in omega arith)
     passed true false false ea eb ec e = absurd (let f : _≡_ {A = ℕ} 7 0 = e in omega arith)
-    passed true false true ea eb ec e = record { low = leb-true d 15 ea; fresh = eb; roomy = leb-true n room ec }
+    passed true false true ea eb ec e = record { low = leb-true d lastDescriptor ea; fresh = eb; roomy = leb-true n room ec }
 
 -- A call that looks, refused with one of them.
 module _ (t : ℕ) (o : Op) (m : Machine) (passes : admission (sizes m) (m .store) (m .journal) t ≡ 0) (d n room : ℕ) where
@@ -61,21 +63,21 @@ module _ (t : ℕ) (o : Op) (m : Machine) (passes : admission (sizes m) (m .stor
   stale = transaction (m .store) t .stale
 
   pub read-test-refused : isReadCall o ≡ true → descriptorOfOp o ≡ d
-      → (leb d 15 ≡ false → program t o m passes ≡ done (refuse 6))
-      → (leb d 15 ≡ true → leb n room ≡ false → program t o m passes ≡ done (refuse 7))
+      → (leb d lastDescriptor ≡ false → program t o m passes ≡ done (refuse 6))
+      → (leb d lastDescriptor ≡ true → leb n room ≡ false → program t o m passes ≡ done (refuse 7))
       → (r : Refusal) → number r ≡ readRefusal stale d n room → call (on t o) m ≡ refuseTurn (number r) (bufferOf o) m
   unfolding unless
-  read-test-refused look through low short r e = refused (leb d 15) stale (leb n room) refl refl refl e
+  read-test-refused look through low short r e = refused (leb d lastDescriptor) stale (leb n room) refl refl refl e
     where
-      both : (a b : Bool) → leb d 15 ≡ a → stale ≡ b → refusesStale stale o ≡ (b && a)
+      both : (a b : Bool) → leb d lastDescriptor ≡ a → stale ≡ b → refusesStale stale o ≡ (b && a)
       both a b ea eb = unfold refusesStale in rw (look, through, ea, eb)
 
-      refused : (a b c : Bool) → leb d 15 ≡ a → stale ≡ b → leb n room ≡ c → number r
+      refused : (a b c : Bool) → leb d lastDescriptor ≡ a → stale ≡ b → leb n room ≡ c → number r
           ≡ unless a 6 (unless (not b) 18 (unless c 7 0))
           → call (on t o) m ≡ refuseTurn (number r) (bufferOf o) m
       refused false b c ea eb ec e = on-refused t o m passes (both false b ea eb ∙ and-false b) 6 (low ea)
           ∙ ap (λ (k : ℕ). refuseTurn k (bufferOf o) m) (sym e)
-      refused true true c ea eb ec e = on-turned-back t o m passes (both true true ea eb)
+      refused true true c ea eb ec e = on-refused-stale t o m passes (both true true ea eb)
           ∙ ap (λ (k : ℕ). refuseTurn k (bufferOf o) m) (sym e)
       refused true false false ea eb ec e =
           on-refused t o m passes (both true false ea eb) 7 (short ea ec) ∙ ap (λ (k : ℕ). refuseTurn k (bufferOf o) m) (sym e)
@@ -91,7 +93,8 @@ pub record ReadAdmitted (state files logs marks undo : List ℕ) (t d n room : �
   pub may : AdmitsRead (transaction (storeOf state) t .stale) d n room
 
 -- The gate speaks of the flag that the code has read.
-pub gate-says : (state : List ℕ) (t : ℕ) → t < 8 → (stale : Bool) → stale ≡ transactionOf state t .stale → (d n room k : ℕ)
+pub gate-says : (state : List ℕ) (t : ℕ) → t < transactionCount → (stale : Bool) → stale ≡ transactionOf state t .stale
+    → (d n room k : ℕ)
     → k ≡ readRefusal stale d n room
     → k ≡ readRefusal (transaction (storeOf state) t .stale) d n room
 gate-says state t small stale own d n room k says =
@@ -130,8 +133,8 @@ module _ {state files logs marks undo : List ℕ} {t d n room : ℕ} (l : ReadAd
   own-is : transactionOf state t ≡ transaction (storeOf state) t
   own-is = sym (transaction-of state t (l .held .small))
 
-  pub ready : Placeable state t (transactionOf state t .used .records)
-  ready =
+  pub all-placeable : Placeable state t (transactionOf state t .used .records)
+  all-placeable =
       placeable state logs t (l .held) (transactionOf state t .used .records) (ap (λ (y : Transaction). y .used .records) own-is)
       (l .long)
       (in-range (storeOf state) (journalOf state) (l .through .ranges) .offsets)
@@ -142,7 +145,7 @@ module _ {state files logs marks undo : List ℕ} {t d n room : ℕ} (l : ReadAd
   settled-as choice now v w s ev = rw (own-is, ev) at s
 
 module _ (choice : Transaction → List Bool) {t : ℕ} {state now : List ℕ} (s : SettledAs choice t state now Settled)
-    (small : t < 8) where
+    (small : t < transactionCount) where
   pub transaction-now : let x = transaction (storeOf state) t in transactionOf now t
       ≡ settledTransaction (choice x) (storeOf state .offsets) x
   transaction-now =

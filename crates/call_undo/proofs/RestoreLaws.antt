@@ -4,7 +4,7 @@ use mathlib.Core.List.{List}
 use mathlib.Core.Path.{_≡_, refl, sym, ap, ap₂, _∙_}
 use native.Mathlib.Omega.{arith}
 use Prim.Native.Nat.{ℕ, zero, suc, _+_, _*_, _≤_, _<_}
-use Rattle.limits.specs.Limits.{fileCount, fileBytes, descriptorCount}
+use Rattle.limits.specs.Limits.{fileCount, fileBytes, descriptorCount, logBytes}
 use Rattle.buffers.specs.Parts.{pasted, cut, tabulate}
 use Rattle.state.specs.declared.StoreMeaning.{StoreMeaning}
 use Rattle.state.specs.Journal.{lastGrant, writeRecordAt}
@@ -51,7 +51,7 @@ module _ (s : StoreMeaning) (journal : List ℕ) (k n : ℕ) (next : suc k ≡ n
   pub back-next : (w : LandedWrite) → w ≡ landedAs s (writeRecordAt journal lastGrant k)
       → (start : ℕ) → start ≡ lengthsBefore journal lastGrant k
       → (old buffer bytes after : List ℕ) → bytes ≡ cut old start (w .length)
-      → after ≡ pasted buffer (4096 * w .file + w .place) bytes
+      → after ≡ pasted buffer (fileBytes * w .file + w .place) bytes
       → restored (firstSpans s journal k) old after ≡ restored (firstSpans s journal n) old buffer
   unfolding tabulate spanOfRecord landedAs
   back-next w found start starts old buffer bytes after b e =
@@ -59,7 +59,7 @@ module _ (s : StoreMeaning) (journal : List ℕ) (k n : ℕ) (next : suc k ≡ n
       let last = spanOfRecord s (writeRecordAt journal lastGrant k) in
       let part : cut old start (w .length) ≡ cut old (spanned ss) (last .length) =
       ap₂ (λ (from : ℕ) (x : LandedWrite). cut old from (x .length)) (starts ∙ sym (spanned-first s journal k)) found in
-      ap (restored ss old) (e ∙ ap₂ (λ (x : LandedWrite) (bs : List ℕ). pasted buffer (4096 * x .file + x .place) bs) found
+      ap (restored ss old) (e ∙ ap₂ (λ (x : LandedWrite) (bs : List ℕ). pasted buffer (fileBytes * x .file + x .place) bs) found
       (b ∙ part))
       ∙ sym (back-last ss last old buffer)
       ∙ ap (λ (m : ℕ). restored (firstSpans s journal m) old buffer) next
@@ -70,16 +70,20 @@ module _ (s : StoreMeaning) (journal : List ℕ) (ranges : storeIn s journal ≡
   grant-in = in-range s journal ranges .undo held
 
   module _ (k : ℕ) (earlier : k < s .undo .used .records) where
-    pub descriptor-in : writeRecordAt journal lastGrant k .descriptor < descriptorCount
-    descriptor-in = omega (arith, landed-in _ (grant-in .writes k earlier) .0)
+    pub restored-descriptor-in : writeRecordAt journal lastGrant k .descriptor < descriptorCount
+    restored-descriptor-in = omega (arith, landed-in _ (grant-in .writes k earlier) .0)
 
     pub inside : (w : LandedWrite) → w ≡ landedAs s (writeRecordAt journal lastGrant k)
         → (w .file < fileCount) × (w .place + w .length ≤ fileBytes)
     unfolding landedAs fileOf
     inside w found =
-        rw found (omega (arith, in-range s journal ranges .files _ descriptor-in), landed-in _ (grant-in .writes k earlier) .1)
+        rw found (
+          omega (arith, in-range s journal ranges .files _ restored-descriptor-in),
+          landed-in _
+              (grant-in .writes k earlier) .1,
+        )
 
-  pub lengths-in : (n : ℕ) → n ≤ s .undo .used .records → lengthsBefore journal lastGrant n ≤ 4096
+  pub lengths-in : (n : ℕ) → n ≤ s .undo .used .records → lengthsBefore journal lastGrant n ≤ logBytes
   unfolding lengthsBefore
   lengths-in n l =
       let most = sum-le (λ j. writeRecordAt journal lastGrant j .length) n (s .undo .used .records) l in

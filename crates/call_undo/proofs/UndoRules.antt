@@ -6,11 +6,11 @@ use lib.ListN.{length}
 use Prim.Native.Nat.{ℕ}
 use Rattle.state.specs.declared.StoreMeaning.{StoreMeaning}
 use Rattle.state.specs.declared.outcomes.Outcome.the-variants.{Done}
-use Rattle.state.specs.StoreMeaning.{withHeld, withUndo}
+use Rattle.state.specs.StoreMeaning.{withValid, withUndo}
 use Rattle.state.specs.Layout.{stateLength, storeOf, journalOf}
-use Rattle.state.specs.Updates.{withHeldAt, withFoundCommitted}
+use Rattle.state.specs.Updates.{withUndoValidAt, withFoundCommitted}
 use Rattle.state.specs.Outcomes.{said}
-use Rattle.state.proofs.UndoLaws.{length-copied, store-with-held, journal-with-held}
+use Rattle.state.proofs.UndoLaws.{length-copied, store-with-valid, journal-with-valid}
 use Rattle.state.proofs.UndoLaws.{store-with-found-committed, journal-with-found-committed}
 use Rattle.admission.specs.Admission.{admissionOfUndo}
 use Rattle.spec_undo.specs.OldBytes.{restored}
@@ -27,7 +27,7 @@ undo-tests m = admissionOfUndo (sizes m) (m .store) (m .journal)
 
 module _ (state files logs marks undo : List ℕ) (long : length state ≡ stateLength) where
   -- The state with what the grant found as the committed offsets and lengths, then with no grant to undo.
-  module _ (found after : List ℕ) (first : found ≡ withFoundCommitted state) (then : after ≡ withHeldAt found false) where
+  module _ (found after : List ℕ) (first : found ≡ withFoundCommitted state) (then : after ≡ withUndoValidAt found false) where
     found-long : length found ≡ stateLength
     found-long = ap length first ∙ length-copied state _ _ _ ∙ long
 
@@ -35,13 +35,13 @@ module _ (state files logs marks undo : List ℕ) (long : length state ≡ state
     unfolding undone
     store-back =
         ap storeOf then
-        ∙ store-with-held found found-long false
-        ∙ ap (λ (s : StoreMeaning). withUndo (withHeld false (s .undo)) s)
+        ∙ store-with-valid found found-long false
+        ∙ ap (λ (s : StoreMeaning). withUndo (withValid false (s .undo)) s)
         (ap storeOf first ∙ store-with-found-committed state long)
 
     journal-back : journalOf after ≡ journalOf state
     journal-back =
-        ap journalOf then ∙ journal-with-held found found-long false ∙ ap journalOf first
+        ap journalOf then ∙ journal-with-valid found found-long false ∙ ap journalOf first
         ∙ journal-with-found-committed state long
 
     pub undo-follows : undo-tests (machineOf state files logs marks undo) ≡ 0

@@ -30,7 +30,7 @@ fn landed_at(state: &State, k: usize) -> LandedWrite
     let p = w.place;
     LandedWrite {
         file: wide(file_at(state, wide(w.descriptor))),
-        place: wide(p.number()),
+        place: wide(p.place_number()),
         length: wide(w.length),
     }
 }

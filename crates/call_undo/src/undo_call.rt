@@ -2,8 +2,8 @@
 use crate::restore::restore_bytes;
 use admission::Gate;
 use state::layout::State;
-use state::layout::put_can_undo;
 use state::layout::put_found;
+use state::layout::put_undo_valid;
 use state::outcomes::Outcome;
 ghost use mathlib.Core.List.{[]};
 ghost use Rattle.spec.specs.Messages.{Call};
@@ -28,6 +28,6 @@ pub fn undo_commit(
     }
     restore_bytes(state, files, undo);
     put_found(state);
-    put_can_undo(state, false);
+    put_undo_valid(state, false);
     Outcome::Done
 }

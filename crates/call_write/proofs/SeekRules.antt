@@ -7,6 +7,7 @@ use lib.Dec.{leb}
 use lib.ListN.{set, length}
 use native.Mathlib.Omega.{arith}
 use Prim.Native.Nat.{ℕ, _≤_, _<_}
+use Rattle.limits.specs.Limits.{fileBytes, lastDescriptor}
 use Rattle.state.specs.StoreMeaning.{transaction, standingAt, withDescriptors, withTransaction}
 use Rattle.state.specs.Layout.{transactionOf, storeOf, journalOf, stateLength}
 use Rattle.state.specs.Updates.{standingFits, withDescriptorAt}
@@ -33,19 +34,20 @@ use Rattle.spec.specs.Promises.{Meets, machineOf, LeftAsFound}
 use Rattle.refinement.proofs.TurnLaws.{LetThrough, on-refused, on-accepted, check-held, check-failed, done-follows}
 
 module _ (t d v : ℕ) (m : Machine) (passes : admission (sizes m) (m .store) (m .journal) t ≡ 0) where
-  pub seek-no-descriptor : 15 < d → call (on t (seek d v)) m ≡ refuseTurn 6 [] m
+  pub seek-no-descriptor : lastDescriptor < d → call (on t (seek d v)) m ≡ refuseTurn 6 [] m
   unfolding step seekStep bufferOf
   seek-no-descriptor h = on-refused t (seek d v) m passes (unfold refusesStale isReadCall in refl) 6
-      (check-failed (leb d 15) 6 _ (lt-leb d 15 h))
+      (check-failed (leb d lastDescriptor) 6 _ (lt-leb d lastDescriptor h))
 
-  pub seek-past-end : d ≤ 15 → 4096 < v → call (on t (seek d v)) m ≡ refuseTurn 8 [] m
+  pub seek-past-end : d ≤ lastDescriptor → fileBytes < v → call (on t (seek d v)) m ≡ refuseTurn 8 [] m
   unfolding step seekStep bufferOf
   seek-past-end h g =
       on-refused t (seek d v) m passes (unfold refusesStale isReadCall in refl) 8
-      (check-held (leb d 15) 6 _ (le-leb d 15 h) ∙ check-failed (leb v 4096) 8 _ (lt-leb v 4096 g))
+      (check-held (leb d lastDescriptor) 6 _ (le-leb d lastDescriptor h)
+      ∙ check-failed (leb v fileBytes) 8 _ (lt-leb v fileBytes g))
 
   -- An accepted Seek sets the standing of d and makes d dirty, and nothing else.
-  seek-meets : Opened (m .store) (m .journal) (m .logs) t → d ≤ 15 → v ≤ 4096
+  seek-meets : Opened (m .store) (m .journal) (m .logs) t → d ≤ lastDescriptor → v ≤ fileBytes
       → let x = transaction (m .store) t in
       let after = withTransaction t
       (withDescriptors (set (x .descriptors) d (record { standing = afterSeek v (standingAt x d); dirty = true })) x)
@@ -57,7 +59,8 @@ module _ (t d v : ℕ) (m : Machine) (passes : admission (sizes m) (m .store) (m
       let e =
       on-accepted t (seek d v) m passes (unfold refusesStale isReadCall in refl)
       (dirtied d z (txnOf (m .store) (m .journal) (m .logs) t)) doneAnswer []
-      (check-held (leb d 15) 6 _ (le-leb d 15 h) ∙ check-held (leb v 4096) 8 _ (le-leb v 4096 g)) in
+      (check-held (leb d lastDescriptor) 6 _ (le-leb d lastDescriptor h)
+      ∙ check-held (leb v fileBytes) 8 _ (le-leb v fileBytes g)) in
       record {
         outcome = sym (ap (λ (w : Turn). w .reply .answer) e);
         machine =
@@ -70,8 +73,8 @@ module _ (t d v : ℕ) (m : Machine) (passes : admission (sizes m) (m .store) (m
       }
 
 -- The record with descriptor d put back, as the code puts it.
-module _ (t d v : ℕ) (state files logs marks undo : List ℕ) (long : length state ≡ stateLength) (few : d ≤ 15)
-    (within : v ≤ 4096) where
+module _ (t d v : ℕ) (state files logs marks undo : List ℕ) (long : length state ≡ stateLength) (few : d ≤ lastDescriptor)
+    (within : v ≤ fileBytes) where
   abbrev handedOver : Machine
   handedOver = machineOf state files logs marks undo
 

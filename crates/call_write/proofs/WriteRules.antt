@@ -7,6 +7,7 @@ use lib.Dec.{leb}
 use lib.ListN.{length, set}
 use native.Mathlib.Omega.{arith}
 use Prim.Native.Nat.{ℕ, _+_, _*_, _≤_, _<_}
+use Rattle.limits.specs.Limits.{fileBytes, descriptorCount, lastDescriptor, transactionCount, recordCount, logBytes}
 use Rattle.buffers.specs.Parts.{pasted}
 use Rattle.counters.specs.declared.Used.{Used}
 use Rattle.standings.specs.declared.Place.{Place}
@@ -36,7 +37,7 @@ use Rattle.spec.specs.Steps.{Stepped, refuse, accept, check, step, writeStep, w
 use Rattle.spec.specs.Machine.{Machine, lent, sizes, fileOf, txnOf, recordOf}
 use Rattle.spec.specs.Calls.{Turn, refuseTurn, logged, call}
 use Rattle.spec.specs.Promises.{Meets, machineOf, LeftAsFound}
-use Rattle.refinement.proofs.Shapes.{shaped, eight, put-twice}
+use Rattle.refinement.proofs.Shapes.{shaped, eight, shape-put-twice}
 use Rattle.spec.proofs.Refinement.Decode.{decoded-count, decoded-total}
 use Rattle.spec.proofs.Refinement.StandingRanges.{write-in}
 use Rattle.refinement.proofs.Fitting.{standing-fits}
@@ -69,24 +70,25 @@ pub room-left : (place : Place) (used : Used) (n : ℕ) → writeRefusal place u
 unfolding writeRefusal
 room-left place used n e =
     let three =
-    three-held 9 10 11 (leb (placeNumber place + n) 4096) (leb (used .records + 1) 64) (leb (used .bytes + n) 4096) (omega arith)
+    three-held 9 10 11 (leb (placeNumber place + n) fileBytes) (leb (used .records + 1) recordCount)
+    (leb (used .bytes + n) logBytes) (omega arith)
     (omega arith) (omega arith) e in
-    let few = leb-true (used .records + 1) 64 (three .1) in
-    record { file = leb-true _ 4096 (three .0); records = omega arith; log = leb-true _ 4096 (three .2) }
+    let few = leb-true (used .records + 1) recordCount (three .1) in
+    record { file = leb-true _ fileBytes (three .0); records = omega arith; log = leb-true _ logBytes (three .2) }
 
 -- A place in range.
-place-within : (z : Standing) → standingIn z ≡ true → placeNumber (writePlace z) ≤ 4096
+place-within : (z : Standing) → standingIn z ≡ true → placeNumber (writePlace z) ≤ fileBytes
 unfolding standingIn writePlace
 place-within Untouched e = omega arith
-place-within (Placed o) e = leb-true o 4096 e
-place-within (Deferred a) e = leb-true a 4096 (and-left (leb a 4096) true e)
-place-within (Moved a o) e = leb-true o 4096 (and-right (leb a 4096) (leb o 4096) e)
-place-within (Known o) e = leb-true o 4096 e
+place-within (Placed o) e = leb-true o fileBytes e
+place-within (Deferred a) e = leb-true a fileBytes (and-left (leb a fileBytes) true e)
+place-within (Moved a o) e = leb-true o fileBytes (and-right (leb a fileBytes) (leb o fileBytes) e)
+place-within (Known o) e = leb-true o fileBytes e
 
 -- ---- the record with one write more, as the code puts it
 
 -- The standing that is put has room in the record.
-pub write-fits : (n : ℕ) (z y : Standing) → standingIn z ≡ true → placeNumber (writePlace z) + n ≤ 4096 → y ≡ afterWrite n z
+pub write-fits : (n : ℕ) (z y : Standing) → standingIn z ≡ true → placeNumber (writePlace z) + n ≤ fileBytes → y ≡ afterWrite n z
     → standingFits y
 write-fits n z y e h is-y = standing-fits y (rw is-y (write-in n z h e))
 
@@ -94,9 +96,10 @@ write-fits n z y e h is-y = standing-fits y (rw is-y (write-in n z h e))
 both-counters : (u : Used) (r b : ℕ) → u .records ≡ r → u .bytes ≡ b → u ≡ record { records = r; bytes = b }
 both-counters u r b e f = λ i. record { records = e i; bytes = f i }
 
-module _ (t d n : ℕ) (z : Standing) (used : Used) (state : List ℕ) (long : length state ≡ stateLength) (small : t < 8)
-    (few : d < 16)
-    (room : used .records < 64) where
+module _ (t d n : ℕ) (z : Standing) (used : Used) (state : List ℕ) (long : length state ≡ stateLength)
+    (small : t < transactionCount)
+    (few : d < descriptorCount)
+    (room : used .records < recordCount) where
   pub write-put : (p : Place) (u : Used) (y : Standing) (one two three : List ℕ)
       → p ≡ writePlace z → one ≡ withRecordAt state t (used .records) (record { descriptor = d; place = p; length = n })
       → u .records ≡ used .records + 1 → u .bytes ≡ used .bytes + n → two ≡ withUsedAt one t u
@@ -117,7 +120,7 @@ module _ (t d n : ℕ) (z : Standing) (used : Used) (state : List ℕ) (long : l
       (ap storeOf is-one ∙ store-with-record state long t (used .records) w (omega (arith, small)) room) in (
         ap storeOf is-three ∙ store-with-descriptor two t d q long-two small few
             ∙ ap (λ (s : StoreMeaning). withTransaction t (described (transaction s t)) s) store-two
-            ∙ put-twice (storeOf state) t (withUsed u x) described (eight state t small)
+            ∙ shape-put-twice (storeOf state) t (withUsed u x) described (eight state t small)
             ∙ ap₂ (λ (v : Used) (e : Standing). withTransaction t
             (withUsed v (withDescriptors (set (x .descriptors) d (record { standing = e; dirty = true })) x)) (storeOf state))
             (both-counters u _ _ is-records is-bytes) is-y,
@@ -131,12 +134,12 @@ module _ (t d n : ℕ) (z : Standing) (used : Used) (state : List ℕ) (long : l
 -- ---- the rule
 
 module _ (t d : ℕ) (bytes : List ℕ) (m : Machine) (passes : admission (sizes m) (m .store) (m .journal) t ≡ 0) where
-  pub write-no-descriptor : 15 < d → call (on t (write d bytes)) m ≡ refuseTurn 6 [] m
+  pub write-no-descriptor : lastDescriptor < d → call (on t (write d bytes)) m ≡ refuseTurn 6 [] m
   unfolding step writeStep bufferOf
   write-no-descriptor h = on-refused t (write d bytes) m passes (unfold refusesStale isReadCall in refl) 6
-      (check-failed (leb d 15) 6 _ (lt-leb d 15 h))
+      (check-failed (leb d lastDescriptor) 6 _ (lt-leb d lastDescriptor h))
 
-  module _ (o : Opened (m .store) (m .journal) (m .logs) t) (low : d ≤ 15) where
+  module _ (o : Opened (m .store) (m .journal) (m .logs) t) (low : d ≤ lastDescriptor) where
     abbrev place : Place
     place = writePlace (standingAt (transaction (m .store) t) d)
 
@@ -145,13 +148,13 @@ module _ (t d : ℕ) (bytes : List ℕ) (m : Machine) (passes : admission (sizes
 
     -- The step, with its tests on the record.
     stepped : step (fileOf (m .store)) (write d bytes) (txnOf (m .store) (m .journal) (m .logs) t)
-        ≡ check (leb (placeNumber place + length bytes) 4096) 9
-        (check (leb (used .records + 1) 64) 10
-        (check (leb (used .bytes + length bytes) 4096) 11
+        ≡ check (leb (placeNumber place + length bytes) fileBytes) 9
+        (check (leb (used .records + 1) recordCount) 10
+        (check (leb (used .bytes + length bytes) logBytes) 11
         (done (accept (written d bytes (txnOf (m .store) (m .journal) (m .logs) t)) doneAnswer []))))
     unfolding step writeStep txnOf
     stepped =
-        check-held (leb d 15) 6 _ (le-leb d 15 low)
+        check-held (leb d lastDescriptor) 6 _ (le-leb d lastDescriptor low)
         ∙ rw (
           decoded-count (m .store) (m .journal) (m .logs) t (o .size) (o .small) (o .ranges),
           decoded-total (m .store) (m .journal) (m .logs) t (o .size) (o .small) (o .ranges),
@@ -169,9 +172,10 @@ module _ (t d : ℕ) (bytes : List ℕ) (m : Machine) (passes : admission (sizes
           ≡ done (accept (written d bytes (txnOf (m .store) (m .journal) (m .logs) t)) doneAnswer [])
       accepted =
           stepped
-          ∙ check-held (leb (placeNumber place + length bytes) 4096) 9 _ (le-leb _ 4096 (room .file))
-          ∙ check-held (leb (used .records + 1) 64) 10 _ (le-leb (used .records + 1) 64 (omega (arith, room .records)))
-          ∙ check-held (leb (used .bytes + length bytes) 4096) 11 _ (le-leb _ 4096 (room .log))
+          ∙ check-held (leb (placeNumber place + length bytes) fileBytes) 9 _ (le-leb _ fileBytes (room .file))
+          ∙ check-held (leb (used .records + 1) recordCount) 10 _
+          (le-leb (used .records + 1) recordCount (omega (arith, room .records)))
+          ∙ check-held (leb (used .bytes + length bytes) logBytes) 11 _ (le-leb _ logBytes (room .log))
 
       -- An accepted Write adds a record, moves the counters forward, sets the standing of d and makes d dirty, and puts its bytes
       -- in the log directly after the data used.
@@ -179,7 +183,7 @@ module _ (t d : ℕ) (bytes : List ℕ) (m : Machine) (passes : admission (sizes
           Meets (call (on t (write d bytes)) m) Done
           (lent (storeWritten t d z used (length bytes) (m .store)) (journalWritten t d z used (length bytes) (m .journal))
           (m .files)
-          (pasted (m .logs) (4096 * t + used .bytes) bytes) (m .marks) (m .undo)) []
+          (pasted (m .logs) (logBytes * t + used .bytes) bytes) (m .marks) (m .undo)) []
       unfolding said logged written recordOf txnOf storeWritten journalWritten
       write-meets =
           let y = txnOf (m .store) (m .journal) (m .logs) t in
@@ -190,7 +194,8 @@ module _ (t d : ℕ) (bytes : List ℕ) (m : Machine) (passes : admission (sizes
             machine =
                 sym
                 (ap (λ (w : Turn). w .after) e
-                ∙ ap₂ (λ (s : StoreMeaning) (j : List ℕ). lent s j (m .files) (pasted (m .logs) (4096 * t + used .bytes) bytes)
+                ∙ ap₂ (λ (s : StoreMeaning) (j : List ℕ). lent s j (m .files)
+                (pasted (m .logs) (logBytes * t + used .bytes) bytes)
                 (m .marks) (m .undo))
                 (txn-written (m .store) (m .journal) (m .logs) t o d bytes (omega arith))
                 (writes-more (m .store) (m .journal) (m .logs) t o _));
@@ -201,7 +206,7 @@ module _ (t d : ℕ) (bytes : List ℕ) (m : Machine) (passes : admission (sizes
 
 -- A Write that its first tests have let through, the standing of d and the counters as they were read.
 pub record WriteReached (t d : ℕ) (state files logs marks undo : List ℕ) (z : Standing) (used : Used) : Type 0 where
-  pub low : d ≤ 15
+  pub low : d ≤ lastDescriptor
   pub passes : admission (sizes (machineOf state files logs marks undo)) (storeOf state) (journalOf state) t ≡ 0
   pub through : LetThrough (machineOf state files logs marks undo) t
   pub begun : transaction (storeOf state) t .begun ≡ true
@@ -225,7 +230,7 @@ module _ {t d : ℕ} {state files logs marks undo : List ℕ} {z : Standing} {us
   pub standing-within : standingIn z ≡ true
   standing-within = rw is-standing (open-here .ranges .standings d (omega (arith, a .low)))
 
-  pub numbers-within : (placeNumber (writePlace z) ≤ 4096) × (used .bytes ≤ 4096)
+  pub numbers-within : (placeNumber (writePlace z) ≤ fileBytes) × (used .bytes ≤ logBytes)
   numbers-within = (
     place-within z standing-within,
     rw is-used (open-here .ranges .bytes),
@@ -238,7 +243,7 @@ module _ {t d : ℕ} {state files logs marks undo : List ℕ} {z : Standing} {us
       (e ∙ ap₂ (λ (y : Standing) (u : Used). writeRefusal (writePlace y) u (length bytes)) is-standing is-used)
 
   pub write-follows : (bytes : List ℕ) → WriteRoom (writePlace z) used (length bytes)
-      → (after filled : List ℕ) → filled ≡ pasted logs (4096 * t + used .bytes) bytes
+      → (after filled : List ℕ) → filled ≡ pasted logs (logBytes * t + used .bytes) bytes
       → storeOf after ≡ storeWritten t d z used (length bytes) (storeOf state)
       → journalOf after ≡ journalWritten t d z used (length bytes) (journalOf state)
       → Meets (call (on t (write d bytes)) handedOver) Done (machineOf after files filled marks undo) []

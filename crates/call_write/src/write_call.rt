@@ -40,7 +40,7 @@ fn room(place: Place, used: Used, n: usize) -> Gate
     requires { ⌜ (placeNumber place ≤ fileBytes) × (used .bytes ≤ logBytes) ⌝ }
     ensures { λ r. ⌜ gateNumber r ≡ writeRefusal place used n ⌝ }
 {
-    if FILE_BYTES - wide(place.number()) < n {
+    if FILE_BYTES - wide(place.place_number()) < n {
         return Gate::Refused(Refusal::WritePastEnd);
     }
     if RECORDS <= used.records {

@@ -5,7 +5,7 @@ use mathlib.Core.Path.{_≡_, refl, sym, ap, ap₂, _∙_}
 use lib.ListN.{length, getD}
 use native.Mathlib.Omega.{arith}
 use Prim.Native.Nat.{ℕ, zero, suc, _+_, _*_, _<_, max}
-use Rattle.limits.specs.Limits.{fileCount, bufferBytes}
+use Rattle.limits.specs.Limits.{fileCount, fileBytes, bufferBytes, descriptorCount}
 use Rattle.buffers.specs.Parts.{tabulate}
 use Rattle.buffers.proofs.TableLaws.{length-tabulate, getD-tabulate}
 use Rattle.spec_undo.specs.OldBytes.{oldBytes}
@@ -33,7 +33,8 @@ use Rattle.refinement.proofs.Decoded.{Opened, total-tabulate}
 use Rattle.commit_apply.specs.Apply.{offsetsOnly, descriptorsOnly, placesFit, bytesSet, landedReach, lengthsLanded}
 use Rattle.commit_apply.specs.Apply.{RecordLands, CanLand}
 use Rattle.commit_apply.specs.SaveUndo.{recordLanded}
-use Rattle.commit_apply.proofs.Settings.{landed-append, offsets-append, lengths-append, bytes-set-none, bytes-raise-none}
+use Rattle.commit_apply.proofs.Settings.{settings-landed-append, offsets-append, lengths-append, bytes-set-none}
+use Rattle.commit_apply.proofs.Settings.{bytes-raise-none}
 use Rattle.commit_apply.proofs.Settings.{offsets-land-none, offsets-raise-none, lengths-land-none, lengths-set-none}
 use Rattle.commit_apply.proofs.WriteLaws.{byte-count}
 use Rattle.commit_apply.proofs.OffsetLaws.{fits-at, offsetsSet}
@@ -46,7 +47,7 @@ bytes-same : (F : ℕ → ℕ) (v w : Values) (ws : List Write) → ((d : ℕ) �
 unfolding byteSettings
 bytes-same F v w [] h = refl
 bytes-same F v w (x ∷ ws) h =
-    ap₂ (λ (c : ℕ) (ss : List Setting). bytesFrom (4096 * F (x .descriptor) + landsAt c (x .place)) (x .bytes) ++ ss)
+    ap₂ (λ (c : ℕ) (ss : List Setting). bytesFrom (fileBytes * F (x .descriptor) + landsAt c (x .place)) (x .bytes) ++ ss)
     (h (x .descriptor))
     (bytes-same F v w ws h)
 
@@ -110,8 +111,8 @@ module _ (s : StoreMeaning) (journal files logs : List ℕ) (t : ℕ) where
   pub files-are : landFiles allSet files ≡ landFiles landedBytes files
   files-are =
       ap (λ (ss : List Setting). landFiles ss files) settings-are
-      ∙ landed-append landedBytes (setOffsets ++ setLengths) files
-      ∙ landed-append setOffsets setLengths (landFiles landedBytes files)
+      ∙ settings-landed-append landedBytes (setOffsets ++ setLengths) files
+      ∙ settings-landed-append setOffsets setLengths (landFiles landedBytes files)
       ∙ lengths-land-none (fileOf s) v (x .writes) (landFiles setOffsets (landFiles landedBytes files)) 8
       ∙ offsets-land-none v (descriptorsOnly (transaction s t)) (landFiles landedBytes files) 16
 
@@ -191,7 +192,7 @@ module _ (s : StoreMeaning) (journal files logs : List ℕ) (t : ℕ) where
         let w = writeRecordAt journal t k in
         let d = w .descriptor in
         let r = record-in (transaction s t) w e in
-        let i : d < 16 = omega (arith, r .descriptor) in
+        let i : d < descriptorCount = omega (arith, r .descriptor) in
         record {
           descriptor = i;
           place = lands-in (getD (s .offsets) d 0) (standingAt (transaction s t) d) (w .place) (w .length)

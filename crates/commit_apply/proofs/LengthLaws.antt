@@ -71,21 +71,21 @@ module _ (filenumbers offsets journal : List ℕ) (t : ℕ) where
     unfolding lengthsLanded
     length-at k f h = getD-tabulate (lengthAfter k) 8 f 0 h
 
-    pub lengths-none : length lengths ≡ fileCount → lengths ≡ lengthsLanded filenumbers offsets journal t lengths 0
+    pub landed-lengths-none : length lengths ≡ fileCount → lengths ≡ lengthsLanded filenumbers offsets journal t lengths 0
     unfolding lengthsLanded landedReach
-    lengths-none e =
+    landed-lengths-none e =
         sym (tabulate-getD lengths 0) ∙ ap (tabulate (λ f. getD lengths f 0)) e
         ∙ tabulate-same (λ f. getD lengths f 0) (λ f. max (getD lengths f 0) 0) 8 (λ f l. omega arith)
 
     -- One record more raises the length of its file.
-    pub lengths-more : (k f end n : ℕ) → f < fileCount → f ≡ getD filenumbers (writeRecordAt journal t k .descriptor) 0
+    pub landed-lengths-more : (k f end n : ℕ) → f < fileCount → f ≡ getD filenumbers (writeRecordAt journal t k .descriptor) 0
         → end ≡ writeEnd (landsAt (getD offsets (writeRecordAt journal t k .descriptor) 0) (writeRecordAt journal t k .place))
         (writeRecordAt journal t k .length)
         → n ≡ max (getD (lengthsLanded filenumbers offsets journal t lengths k) f 0) end
         → set (lengthsLanded filenumbers offsets journal t lengths k) f n
         ≡ lengthsLanded filenumbers offsets journal t lengths (k + 1)
     unfolding lengthsLanded
-    lengths-more k f end n h ef ee en =
+    landed-lengths-more k f end n h ef ee en =
         sym (tabulate-set (lengthAfter k) (lengthAfter (k + 1)) 8 f n h own other)
       where
         own : lengthAfter (k + 1) f ≡ n
@@ -111,7 +111,7 @@ module _ (filenumbers offsets journal : List ℕ) (t : ℕ) where
         → lengthsLanded filenumbers offsets journal t lengths k ≡ lengthsLanded filenumbers offsets journal t lengths (k + 1)
     lengths-still k f end h ef ee within =
         sym (set-getD (lengthsLanded filenumbers offsets journal t lengths k) f 0)
-        ∙ lengths-more k f end (getD (lengthsLanded filenumbers offsets journal t lengths k) f 0) h ef ee (omega arith)
+        ∙ landed-lengths-more k f end (getD (lengthsLanded filenumbers offsets journal t lengths k) f 0) h ef ee (omega arith)
 
 module _ (F : ℕ → ℕ) (v : Values) (ws : List Write) where
   lengths-filled : (lengths : List ℕ) → length lengths ≡ fileCount → ((f : ℕ) → v (fileLength f) ≡ getD lengths f 0) → (n : ℕ)
@@ -141,7 +141,7 @@ module _ (F : ℕ → ℕ) (v : Values) (ws : List Write) where
           filled-preserved (λ f. max (getD lengths f 0) (landedEnd F v f ws)) lengths n 0 (omega arith) (omega arith)
 
   pub lengths-table : (lengths : List ℕ) → length lengths ≡ fileCount → ((f : ℕ) → v (fileLength f) ≡ getD lengths f 0)
-      → landLengths (lengthSettings F v ws 8) lengths ≡ tabulate (λ f. max (getD lengths f 0) (landedEnd F v f ws)) 8
+      → landLengths (lengthSettings F v ws 8) lengths ≡ tabulate (λ f. max (getD lengths f 0) (landedEnd F v f ws)) fileCount
   lengths-table lengths e h =
       lengths-filled lengths e h 8 (omega arith)
       ∙ filled-all (λ f. max (getD lengths f 0) (landedEnd F v f ws)) lengths 8 (omega arith)

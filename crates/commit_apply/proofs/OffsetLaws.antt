@@ -33,22 +33,22 @@ use Rattle.commit_apply.proofs.Settings.{offsets-append}
 
 -- Descriptor d's advance fits behind its committed offset.
 abbrev pub offsetFitsAt : StoreMeaning → Transaction → ℕ → Bool
-offsetFitsAt s x d = leb (getD (s .offsets) d 0 + advance (standingAt x d)) 4096
+offsetFitsAt s x d = leb (getD (s .offsets) d 0 + advance (standingAt x d)) fileBytes
 
-waiting-fits : (a c end : ℕ) → c ≤ fileBytes → end ≡ fileBytes - c + 1 → not (leb end a) ≡ leb (c + a) 4096
+waiting-fits : (a c end : ℕ) → c ≤ fileBytes → end ≡ fileBytes - c + 1 → not (leb end a) ≡ leb (c + a) fileBytes
 waiting-fits a c end l e =
-    ⊎-elim (λ h. ap not (le-leb end a h) ∙ sym (lt-leb (c + a) 4096 (omega arith)))
-    (λ h. ap not (lt-leb end a h) ∙ sym (le-leb (c + a) 4096 (omega arith)))
+    ⊎-elim (λ h. ap not (le-leb end a h) ∙ sym (lt-leb (c + a) fileBytes (omega arith)))
+    (λ h. ap not (lt-leb end a h) ∙ sym (le-leb (c + a) fileBytes (omega arith)))
     (le-or-lt end a)
 
 -- It does where no write may wait past the room behind that offset.
 pub room-fits : (z : Standing) (c end : ℕ) → c ≤ fileBytes → end ≡ fileBytes - c + 1
-    → not (mayWait z && leb end (advance z)) ≡ leb (c + advance z) 4096
-room-fits Untouched c end l e = sym (le-leb (c + 0) 4096 (omega arith))
-room-fits (Placed o) c end l e = sym (le-leb (c + 0) 4096 (omega arith))
+    → not (mayWait z && leb end (advance z)) ≡ leb (c + advance z) fileBytes
+room-fits Untouched c end l e = sym (le-leb (c + 0) fileBytes (omega arith))
+room-fits (Placed o) c end l e = sym (le-leb (c + 0) fileBytes (omega arith))
 room-fits (Deferred a) c end l e = waiting-fits a c end l e
 room-fits (Moved a o) c end l e = waiting-fits a c end l e
-room-fits (Known o) c end l e = sym (le-leb (c + 0) 4096 (omega arith))
+room-fits (Known o) c end l e = sym (le-leb (c + 0) fileBytes (omega arith))
 
 module _ (s : StoreMeaning) (x : Transaction) where
   pub placed-all : below (offsetFitsAt s x) 16 ≡ placesFit s x
@@ -58,7 +58,7 @@ module _ (s : StoreMeaning) (x : Transaction) where
   pub fits-at : placesFit s x ≡ true → (d : ℕ) → d < descriptorCount
       → getD (s .offsets) d 0 + advance (standingAt x d) ≤ fileBytes
   unfolding fits offsetsOnly
-  fits-at e d l = leb-true (getD (s .offsets) d 0 + advance (standingAt x d)) 4096 (below-at (offsetFitsAt s x) 16 d e l)
+  fits-at e d l = leb-true (getD (s .offsets) d 0 + advance (standingAt x d)) fileBytes (below-at (offsetFitsAt s x) 16 d e l)
 
 -- ---- the offsets
 

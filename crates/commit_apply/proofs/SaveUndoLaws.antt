@@ -13,13 +13,13 @@ use Rattle.counters.specs.declared.Used.{Used}
 use Rattle.standings.specs.declared.Place.the-variants.{At}
 use Rattle.state.specs.declared.StoreMeaning.{StoreMeaning}
 use Rattle.state.specs.declared.journal.WriteRecord.{WriteRecord}
-use Rattle.state.specs.StoreMeaning.{withHeld, withUndo}
+use Rattle.state.specs.StoreMeaning.{withValid, withUndo}
 use Rattle.state.specs.Journal.{lastGrant, writeRecordAt, withRecordAt}
 use Rattle.state.specs.Layout.{storeOf, journalOf, stateLength}
-use Rattle.state.specs.Updates.{withHeldAt, withUndoUsedAt, withCommittedFound}
+use Rattle.state.specs.Updates.{withUndoValidAt, withUndoUsedAt, withCommittedFound}
 use Rattle.state.proofs.JournalLaws.{length-with-at, with-none, with-more, read-elsewhere}
 use Rattle.state.proofs.LayoutLaws.{length-journal, journal-with-record, store-with-record}
-use Rattle.state.proofs.UndoLaws.{length-with-held, store-with-held, journal-with-held}
+use Rattle.state.proofs.UndoLaws.{length-with-valid, store-with-valid, journal-with-valid}
 use Rattle.state.proofs.UndoLaws.{length-with-undo-used, store-with-undo-used, journal-with-undo-used}
 use Rattle.state.proofs.UndoLaws.{length-copied, store-with-committed-found, journal-with-committed-found}
 use Rattle.spec_undo.specs.OldBytes.{Landing as InBuffer, landing, landAll, oldBytes}
@@ -50,10 +50,10 @@ none-old state logs files undo t = record { landed = refl; old = sym (pasted-non
 module _ {state : List ℕ} {t k : ℕ} {w : LandedWrite} (lands : LandsAs state t k w)
     (logs : List ℕ) (start : ℕ) (starts : start ≡ dataStart (journalOf state) t k) (inLog : start + w .length ≤ length logs)
     {found files before undo : List ℕ} {done : ℕ} (so : OldSoFar state logs found files before undo t k done)
-    (inFile : 4096 * w .file + w .place + w .length ≤ length files) (room : done + w .length ≤ length before)
+    (inFile : fileBytes * w .file + w .place + w .length ≤ length files) (room : done + w .length ≤ length before)
   where
     abbrev at : ℕ
-    at = 4096 * w .file + w .place
+    at = fileBytes * w .file + w .place
 
     abbrev written : List ℕ
     written = cut logs start (w .length)
@@ -113,8 +113,8 @@ module _ {offsets journal : List ℕ} {t k d : ℕ} {w : WriteRecord} (lands : R
     descriptor-is : d ≡ own .descriptor
     descriptor-is = through ∙ ap (λ (r : WriteRecord). r .descriptor) found
 
-    pub descriptor-in : d < descriptorCount
-    descriptor-in = let e = descriptor-is in omega (arith, lands .descriptor)
+    pub saved-descriptor-in : d < descriptorCount
+    saved-descriptor-in = let e = descriptor-is in omega (arith, lands .descriptor)
 
     module _ {c p : ℕ} (committed : c ≡ getD offsets d 0) (place : p ≡ landsAt c (w .place)) where
       place-is : p ≡ landsAt (getD offsets (own .descriptor) 0) (own .place)
@@ -185,7 +185,7 @@ module _ {before : List ℕ} {t n : ℕ} (can : CanLandIn before t n) where
 -- ---- the records, and the offsets and lengths found
 
 pub grant-preserved : (before one two three four : List ℕ) (t : ℕ) (used : Used) → RecordsPreserved before one t (used .records)
-    → two ≡ withCommittedFound one → three ≡ withUndoUsedAt two used → four ≡ withHeldAt three true
+    → two ≡ withCommittedFound one → three ≡ withUndoUsedAt two used → four ≡ withUndoValidAt three true
     → GrantPreserved before four t used
 grant-preserved before one two three four t used so a b c =
     let l2 : length two ≡ stateLength = ap length a ∙ length-copied one _ _ _ ∙ so .long in
@@ -195,14 +195,14 @@ grant-preserved before one two three four t used so a b c =
     record {
       journal =
           ap journalOf c
-          ∙ journal-with-held three l3 true
+          ∙ journal-with-valid three l3 true
           ∙ ap journalOf b
           ∙ journal-with-undo-used two l2 used
           ∙ ap journalOf a
           ∙ journal-with-committed-found one (so .long)
           ∙ so .journal;
-      store = ap storeOf c ∙ store-with-held three l3 true ∙ ap (λ (s : StoreMeaning). withUndo (withHeld true (s .undo)) s) s3;
-      long = ap length c ∙ length-with-held three l3 true ∙ l3;
+      store = ap storeOf c ∙ store-with-valid three l3 true ∙ ap (λ (s : StoreMeaning). withUndo (withValid true (s .undo)) s) s3;
+      long = ap length c ∙ length-with-valid three l3 true ∙ l3;
     }
   where
     found : StoreMeaning → StoreMeaning

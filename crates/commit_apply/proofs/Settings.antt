@@ -4,6 +4,7 @@ use mathlib.Core.List.{List, [], _∷_, _++_}
 use mathlib.Core.Path.{_≡_, refl, ap, _∙_}
 use lib.Dec.{ltb}
 use Prim.Native.Nat.{ℕ, zero, suc, _+_, _*_}
+use Rattle.limits.specs.Limits.{fileBytes}
 use Rattle.standings.specs.Table.{finalOffset}
 use Rattle.spec.specs.Items.{offset, fileLength, Values}
 use Rattle.spec.specs.Transactions.{Txn, Write}
@@ -12,10 +13,11 @@ use Rattle.spec.specs.Calls.{landByte, landFiles, landOffset, landOffsets, land
 
 -- ---- in order
 
-pub landed-append : (xs ys : List Setting) (files : List ℕ) → landFiles (xs ++ ys) files ≡ landFiles ys (landFiles xs files)
+pub settings-landed-append : (xs ys : List Setting) (files : List ℕ)
+    → landFiles (xs ++ ys) files ≡ landFiles ys (landFiles xs files)
 unfolding landFiles
-landed-append [] ys files = refl
-landed-append (x ∷ xs) ys files = landed-append xs ys (landByte (x .item) (x .to) files)
+settings-landed-append [] ys files = refl
+settings-landed-append (x ∷ xs) ys files = settings-landed-append xs ys (landByte (x .item) (x .to) files)
 
 pub offsets-append : (xs ys : List Setting) (offsets : List ℕ) → landOffsets (xs ++ ys) offsets
     ≡ landOffsets ys (landOffsets xs offsets)
@@ -44,7 +46,7 @@ interval-raises-none q (b ∷ bs) lengths = interval-raises-none (suc q) bs leng
 module _ (F : ℕ → ℕ) (v : Values) where
   -- Where a write lands in the files buffer.
   abbrev from : Write → ℕ
-  from w = 4096 * F (w .descriptor) + landsAt (v (offset (w .descriptor))) (w .place)
+  from w = fileBytes * F (w .descriptor) + landsAt (v (offset (w .descriptor))) (w .place)
 
   pub bytes-set-none : (ws : List Write) (offsets : List ℕ) → landOffsets (byteSettings F v ws) offsets ≡ offsets
   unfolding byteSettings landOffsets
@@ -73,7 +75,7 @@ module _ (v : Values) (x : Txn) where
   unfolding offsetSettings landFiles landByte
   offsets-land-none files zero = refl
   offsets-land-none files (suc n) =
-      landed-append (offsetSettings v x n) (setting (setsOffset x n) n) files
+      settings-landed-append (offsetSettings v x n) (setting (setsOffset x n) n) files
       ∙ one (setsOffset x n) (landFiles (offsetSettings v x n) files)
       ∙ offsets-land-none files n
     where
@@ -107,7 +109,7 @@ module _ (F : ℕ → ℕ) (v : Values) (ws : List Write) where
   unfolding lengthSettings landFiles landByte
   lengths-land-none files zero = refl
   lengths-land-none files (suc n) =
-      landed-append (lengthSettings F v ws n) (raising (raises n) n) files
+      settings-landed-append (lengthSettings F v ws n) (raising (raises n) n) files
       ∙ one (raises n) (landFiles (lengthSettings F v ws n) files)
       ∙ lengths-land-none files n
     where

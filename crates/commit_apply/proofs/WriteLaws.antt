@@ -6,7 +6,7 @@ use lib.Seq.{sets}
 use native.Mathlib.Numerals.{add-one}
 use native.Mathlib.Omega.{arith}
 use Prim.Native.Nat.{ℕ, suc, _+_, _*_, _≤_, _<_}
-use Rattle.limits.specs.Limits.{bufferBytes, descriptorCount, logBytes}
+use Rattle.limits.specs.Limits.{fileBytes, bufferBytes, descriptorCount, logBytes}
 use Rattle.buffers.specs.Parts.{pasted, cut, tabulate}
 use Rattle.buffers.proofs.PartLaws.{pasted-sets, length-cut}
 use Rattle.state.specs.declared.journal.WriteRecord.{WriteRecord}
@@ -22,7 +22,7 @@ use Rattle.spec.specs.Calls.{landByte, landFiles}
 use Rattle.spec.proofs.Refinement.IndexedLists.{sum-le}
 use Rattle.commit_apply.specs.declared.writes.LandedWrite.{LandedWrite}
 use Rattle.commit_apply.specs.Apply.{offsetsOnly, bytesSet, bytesSetIn, CanLand, CanLandIn, LandsAs}
-use Rattle.commit_apply.proofs.Settings.{landed-append}
+use Rattle.commit_apply.proofs.Settings.{settings-landed-append}
 
 -- ---- the records
 
@@ -81,9 +81,9 @@ module _ (state : List ℕ) (k : ℕ) {t d : ℕ} {w : WriteRecord} (can : CanLa
 
 bytes-append : (F : ℕ → ℕ) (v : Values) (ws : List Write) (w : Write)
     → byteSettings F v (ws ++ (w ∷ [])) ≡ byteSettings F v ws
-    ++ bytesFrom (4096 * F (w .descriptor) + landsAt (v (offset (w .descriptor))) (w .place)) (w .bytes)
+    ++ bytesFrom (fileBytes * F (w .descriptor) + landsAt (v (offset (w .descriptor))) (w .place)) (w .bytes)
 unfolding byteSettings
-bytes-append F v [] w = append-nil (bytesFrom (4096 * F (w .descriptor) + landsAt (v (offset (w .descriptor))) (w .place))
+bytes-append F v [] w = append-nil (bytesFrom (fileBytes * F (w .descriptor) + landsAt (v (offset (w .descriptor))) (w .place))
     (w .bytes))
 bytes-append F v (x ∷ ws) w = simp (bytes-append F v ws w, append-assoc)
 
@@ -95,7 +95,7 @@ landed-interval (b ∷ bs) q files = landed-interval bs (suc q) (set files q b)
 module _ {state : List ℕ} {t k : ℕ} {w : LandedWrite} (lands : LandsAs state t k w) (logs : List ℕ) (start : ℕ)
     (starts : start ≡ dataStart (journalOf state) t k) where
   pub set-more : bytesSetIn state logs t (k + 1)
-      ≡ bytesSetIn state logs t k ++ bytesFrom (4096 * w .file + w .place) (cut logs start (w .length))
+      ≡ bytesSetIn state logs t k ++ bytesFrom (fileBytes * w .file + w .place) (cut logs start (w .length))
   unfolding bytesSet tabulate writeAt offsetsOnly
   set-more =
       let s = storeOf state in
@@ -109,11 +109,11 @@ module _ {state : List ℕ} {t k : ℕ} {w : LandedWrite} (lands : LandsAs state
   start-more = let e = lands .length in rw add-one (omega arith)
 
   pub land-more : (before files after bytes : List ℕ) → files ≡ landFiles (bytesSetIn state logs t k) before
-      → start + w .length ≤ length logs → 4096 * w .file + w .place + w .length ≤ length files
-      → bytes ≡ cut logs start (w .length) → after ≡ pasted files (4096 * w .file + w .place) bytes
+      → start + w .length ≤ length logs → fileBytes * w .file + w .place + w .length ≤ length files
+      → bytes ≡ cut logs start (w .length) → after ≡ pasted files (fileBytes * w .file + w .place) bytes
       → after ≡ landFiles (bytesSetIn state logs t (k + 1)) before
   land-more before files after bytes e inLog inFile i g =
-      let q = 4096 * w .file + w .place in
+      let q = fileBytes * w .file + w .place in
       let bs = cut logs start (w .length) in
       g
       ∙ ap (pasted files q) i
@@ -121,7 +121,7 @@ module _ {state : List ℕ} {t k : ℕ} {w : LandedWrite} (lands : LandsAs state
       ∙ sym (landed-interval bs q files)
       ∙ ap (landFiles (bytesFrom q bs)) e
       ∙ sym (ap (λ (rs : List Setting). landFiles rs before) set-more
-      ∙ landed-append (bytesSetIn state logs t k) (bytesFrom q bs) before)
+      ∙ settings-landed-append (bytesSetIn state logs t k) (bytesFrom q bs) before)
 
 pub none-landed : (filenumbers offsets journal logs files : List ℕ) (t : ℕ) → files
     ≡ landFiles (bytesSet filenumbers offsets journal logs t 0) files

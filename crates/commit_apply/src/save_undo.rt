@@ -9,8 +9,8 @@ use state::journal::put_record;
 use state::journal::record_at;
 use state::layout::State;
 use state::layout::offset_at;
-use state::layout::put_can_undo;
 use state::layout::put_undo_used;
+use state::layout::put_undo_valid;
 use state::layout::save_found;
 ghost use mathlib.Core.Path.{_≡_};
 ghost use Prim.Native.Nat.{_<_};
@@ -61,5 +61,5 @@ pub fn save_undo(state: &mut State, t: usize, used: Used)
     save_records(state, t, used);
     save_found(state);
     put_undo_used(state, used);
-    put_can_undo(state, true);
+    put_undo_valid(state, true);
 }

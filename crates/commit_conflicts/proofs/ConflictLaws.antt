@@ -9,7 +9,7 @@ use borrow.Author.Tests.{eqb-true, ltb-true, ltb-false, lt-ltb, le-ltb, not-fals
 use native.Mathlib.Numerals.{add-one}
 use native.Mathlib.Omega.{arith}
 use Prim.Native.Nat.{ℕ, zero, suc, _+_, _*_, _≤_, _<_, max}
-use Rattle.limits.specs.Limits.{fileCount, bufferBytes, descriptorCount, transactionCount}
+use Rattle.limits.specs.Limits.{fileCount, fileBytes, bufferBytes, descriptorCount, transactionCount}
 use Rattle.buffers.specs.Bits.{bitsOf}
 use Rattle.buffers.specs.Parts.{cut, tabulate}
 use Rattle.buffers.specs.Marks.{hasMark, hasMarkIn, contains}
@@ -115,15 +115,15 @@ module _ (state marks : List ℕ) (watched : ℕ) where
   unfolding bytesSet tabulate byteSettings
   no-bytes logs t = sighters-none
 
-  pub bytes-more : {t n k : ℕ} {w : LandedWrite} → CanLandIn state t n → k < n → LandsAs state t k w
+  pub byte-hits-more : {t n k : ℕ} {w : LandedWrite} → CanLandIn state t n → k < n → LandsAs state t k w
       → (logs : List ℕ) → length logs ≡ bufferBytes → (a b c : ℕ)
       → Sighters state marks watched (bytesSetIn state logs t k) a
       → ((u : ℕ) → u < transactionCount → contains b u
-      ≡ contains watched u && hasMarkIn marks u (4096 * w .file + w .place) (w .length))
+      ≡ contains watched u && hasMarkIn marks u (fileBytes * w .file + w .place) (w .length))
       → ((u : ℕ) → contains c u ≡ contains a u || contains b u)
       → Sighters state marks watched (bytesSetIn state logs t (k + 1)) c
-  bytes-more {t} {n} {k} {w} can earlier lands logs size a b c sa sb joins =
-      let q = 4096 * w .file + w .place in
+  byte-hits-more {t} {n} {k} {w} can earlier lands logs size a b c sa sb joins =
+      let q = fileBytes * w .file + w .place in
       let start = dataStart (journalOf state) t k in
       let bs = cut logs start (w .length) in
       let long : length bs ≡ w .length = length-cut logs start (w .length)
@@ -155,11 +155,11 @@ module _ (state marks : List ℕ) (watched : ℕ) where
         joins)
 
     -- Where none is set.
-    pub offsets-none : (n : ℕ) → ((d : ℕ) → d < n → setsOffset x d ≡ false)
+    pub offset-hits-none : (n : ℕ) → ((d : ℕ) → d < n → setsOffset x d ≡ false)
         → Sighters state marks watched (offsetSettings v x n) 0
     unfolding offsetSettings
-    offsets-none zero h = sighters-none
-    offsets-none (suc n) h = rw (h n (omega arith), append-nil) (offsets-none n (λ d l. h d (omega arith)))
+    offset-hits-none zero h = sighters-none
+    offset-hits-none (suc n) h = rw (h n (omega arith), append-nil) (offset-hits-none n (λ d l. h d (omega arith)))
 
     pub offset-less : (d a : ℕ) → setsOffset x d ≡ false → Sighters state marks watched (offsetSettings v x d) a
         → Sighters state marks watched (offsetSettings v x (d + 1)) a
@@ -190,8 +190,9 @@ module _ (state marks : List ℕ) (watched : ℕ) where
         last true = ap (λ (k : ℕ). contains k f || false) none ∙ ap (λ (c : Bool). c || false) (contains-none f)
         last false = refl
 
-    pub lengths-none : NoneSighted state watched 8 → (f : ℕ) → Sighters state marks watched (raisedBelow state files logs t n f) 0
-    lengths-none none f u l = contains-none u ∙ sym (pick (contains watched u) refl)
+    pub length-hits-none : NoneSighted state watched 8 → (f : ℕ) → Sighters state marks watched
+        (raisedBelow state files logs t n f) 0
+    length-hits-none none f u l = contains-none u ∙ sym (pick (contains watched u) refl)
       where
         pick : (b : Bool) → contains watched u ≡ b
             → b && conflicts marks u (transactionOf state u) (raisedBelow state files logs t n f) ≡ false
@@ -295,13 +296,13 @@ module _ (state files logs marks undo : List ℕ) (t : ℕ) where
         (ap (λ (n : ℕ). contains n u && conflicts marks u (transactionOf state u) all) e
         ∙ ap (λ (b : Bool). b && conflicts marks u (transactionOf state u) all) (contains-none u)))
 
-    pub stale-is : t < transactionCount → (used : Used) → used ≡ transactionOf state t .used → (a b c d r : ℕ)
+    pub stale-by-is : t < transactionCount → (used : Used) → used ≡ transactionOf state t .used → (a b c d r : ℕ)
         → Sighters state marks watched (bytesSetIn state logs t (used .records)) a
         → Sighters state marks watched (offsetsSetIn state committed t) b
         → Sighters state marks watched (lengthsSetIn state files logs t (used .records)) c
         → ((u : ℕ) → contains d u ≡ contains b u || contains c u) → ((u : ℕ) → contains r u ≡ contains a u || contains d u)
         → r < 256 → r ≡ staleBy m t
-    stale-is small used e a b c d r sa sb sc later joins octet =
+    stale-by-is small used e a b c d r sa sb sc later joins octet =
         octet-is r octet
         (rw (all-is small used e)
         (sighters-join state marks watched (bytesSetIn state logs t (used .records))

@@ -6,7 +6,7 @@ use lib.Dec.{ltb}
 use lib.ListN.{length, getD}
 use native.Mathlib.Omega.{arith}
 use Prim.Native.Nat.{ℕ, zero, suc, _≤_, _<_}
-use Rattle.limits.specs.Limits.{bufferBytes, descriptorCount, recordCount}
+use Rattle.limits.specs.Limits.{fileCount, bufferBytes, descriptorCount, recordCount}
 use Rattle.windows.specs.Windows.{isClosedAt}
 use Rattle.buffers.proofs.SetLaws.{contains-bits}
 use Rattle.buffers.proofs.MarkLaws.{contains-none}
@@ -51,18 +51,18 @@ module _ (state : List ℕ) (t : ℕ) (o : OpenIn state t) where
   counts : transaction (storeOf state) t .used .records ≡ count
   counts = ap (λ (x : Transaction). x .used .records) same
 
-  pub few : count ≤ recordCount
-  few = omega (arith, counts, in-ranges .records)
+  pub few-closing : count ≤ recordCount
+  few-closing = omega (arith, counts, in-ranges .records)
 
-  pub descriptor-in : (k : ℕ) → k < count → writeRecordAt (journalOf state) t k .descriptor < descriptorCount
-  descriptor-in k h =
+  pub closing-descriptor-in : (k : ℕ) → k < count → writeRecordAt (journalOf state) t k .descriptor < descriptorCount
+  closing-descriptor-in k h =
       omega (
         arith,
         record-in (transaction (storeOf state) t) (writeRecordAt (journalOf state) t k)
             (in-ranges .writes k (omega (arith, counts))) .descriptor,
       )
 
-  pub file-in : (d : ℕ) → d < descriptorCount → getD (storeOf state .filenumbers) d 0 < 8
+  pub file-in : (d : ℕ) → d < descriptorCount → getD (storeOf state .filenumbers) d 0 < fileCount
   file-in d h = omega (arith, in-range (storeOf state) (journalOf state) (o .ranges) .files d h)
 
   module _ (logs : List ℕ) (long : length logs ≡ bufferBytes) where
@@ -88,4 +88,4 @@ module _ (state : List ℕ) (t : ℕ) (o : OpenIn state t) where
             ap₂ (λ (n : ℕ) (b : Bool). ltb 0 n && b)
             (decoded-length (storeOf state) (journalOf state) logs t (decoded .size) (decoded .small) (decoded .ranges) k h)
             (sym (contains-bits (isClosedAt (windowAt (storeOf state)) minute) 8 (getD (storeOf state .filenumbers) d 0)
-            (file-in d (descriptor-in k in-count))))
+            (file-in d (closing-descriptor-in k in-count))))

@@ -7,8 +7,8 @@ mod printing;
 mod saving;
 
 use crate::printing::end_line;
-use crate::printing::offset;
 use crate::printing::print_number;
+use crate::printing::print_offset;
 use crate::printing::print_text;
 use crate::printing::refusal;
 use crate::printing::tell_end_of_log;
@@ -203,7 +203,7 @@ fn run(
 // Asks where the log ends, and leaves nothing open.
 fn ask(state: &mut State, files: &Buffer, logs: &Buffer, marks: &mut Buffer, undo: &UndoLog) {
     store::begin(state, files, logs, marks, undo, 1);
-    let n = offset(store::get_file_pointer(state, files, logs, marks, undo, 1, LOG));
+    let n = print_offset(store::get_file_pointer(state, files, logs, marks, undo, 1, LOG));
     store::abort(state, files, logs, marks, undo, 1);
     tell_end_of_log(n);
 }

@@ -22,7 +22,7 @@ pub fn refusal(o: Outcome) -> u8 {
 }
 
 // The offset that GetFilePointer answered; 0 where it was refused.
-pub fn offset(o: Outcome) -> u16 {
+pub fn print_offset(o: Outcome) -> u16 {
     if let Outcome::Offset(n) = o {
         return n;
     }

@@ -268,32 +268,32 @@ module _ (bytes : List ℕ) (minute : ℕ) (x : Scripts) (k : ℕ) (m₀ : Machi
 -- ---- loops: one more turn of each
 
 module _ (replyTo : Call → List Call → Reply) (bytes : List ℕ) (minute : ℕ) (x : Scripts) where
-  pub begins-more : (k : ℕ) (w : Work)
+  pub begins-again : (k : ℕ) (w : Work)
       → begins replyTo bytes minute x (k + 1) w
       ≡ cond (goesOn (begins replyTo bytes minute x k w .ends k)) (withCall (begin k) (begins replyTo bytes minute x k w))
       (begins replyTo bytes minute x k w)
   unfolding begins
-  begins-more k w = rw add-one
+  begins-again k w = rw add-one
 
-  pub turns-more : (i k : ℕ) (w : Work) → turns replyTo bytes minute x i (k + 1) w
+  pub turns-again : (i k : ℕ) (w : Work) → turns replyTo bytes minute x i (k + 1) w
       ≡ turn replyTo bytes minute x i k (turns replyTo bytes minute x i k w)
   unfolding turns
-  turns-more i k w = rw add-one
+  turns-again i k w = rw add-one
 
-  pub passes-more : (i : ℕ) (w : Work)
+  pub passes-again : (i : ℕ) (w : Work)
       → passes replyTo bytes minute x (i + 1) w ≡ turns replyTo bytes minute x i (x .count) (passes replyTo bytes minute x i w)
   unfolding passes
-  passes-more i w = rw add-one
+  passes-again i w = rw add-one
 
-  pub commits-more : (k : ℕ) (w : Work)
+  pub commits-again : (k : ℕ) (w : Work)
       → commitAll replyTo bytes minute x (k + 1) w ≡ commitOne replyTo bytes minute x k (commitAll replyTo bytes minute x k w)
   unfolding commitAll
-  commits-more k w = rw add-one
+  commits-again k w = rw add-one
 
-  pub rounds-more : (j : ℕ) (w : Work) → rounds replyTo bytes minute x (j + 1) w
+  pub rounds-again : (j : ℕ) (w : Work) → rounds replyTo bytes minute x (j + 1) w
       ≡ round replyTo bytes minute x (rounds replyTo bytes minute x j w)
   unfolding rounds
-  rounds-more j w = rw add-one
+  rounds-again j w = rw add-one
 
 -- Where every script is over after j rounds, all rounds are made.
 pub rounds-stopped : (m₀ : Machine) (bytes : List ℕ) (minute : ℕ) (x : Scripts) (j : ℕ) (w : Work) (m : Machine)

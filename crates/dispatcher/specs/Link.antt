@@ -6,7 +6,7 @@ use Rattle.state.specs.Outcomes.{said}
 use Rattle.spec.specs.Machine.{Machine}
 use Rattle.spec_dispatch.specs.Rounds.{Scripts, refusalIn}
 use Rattle.spec_dispatch.specs.Dispatch.{dispatch}
-use Rattle.spec_dispatch.specs.SerializabilityOfCode.{DispatchMade, DispatchKept}
+use Rattle.spec_dispatch.specs.SerializabilityOfCode.{DispatchMade, DispatchMeets}
 use Rattle.dispatcher.specs.declared.ends.Dispatched.{Dispatched}
 use Rattle.dispatcher.specs.Types.{endAt}
 use Rattle.dispatcher.specs.Promise.{GivesDispatch}
@@ -33,4 +33,4 @@ abbrev pub DispatcherLinks : Type 0
 DispatcherLinks =
     (bytes : List ℕ) (minute : ℕ) (x : Scripts) (m : Machine) (reader : List ℕ) (a : Dispatched) (n : Machine)
     (buffer : List ℕ) → GivesDispatch (dispatch bytes minute x m reader) (x .count) a n buffer
-    → DispatchKept m (asMade bytes minute x reader a n buffer)
+    → DispatchMeets m (asMade bytes minute x reader a n buffer)

@@ -30,8 +30,8 @@ pub record GivesDispatch (d : Given Machine) (n : ℕ) (a : Dispatched) (m : Mac
 
 -- The promise of the dispatcher, with these bytes, at this minute; and a refusal leaves the state number by
 -- number.
-abbrev pub Dispatches : List ℕ → ℕ → Scripts → Lent → Lent → Lent → Lent → Lent → Dispatched → Lent → Type 0
-Dispatches bytes minute x state files logs marks undo a reader =
+abbrev pub RunsScripts : List ℕ → ℕ → Scripts → Lent → Lent → Lent → Lent → Lent → Dispatched → Lent → Type 0
+RunsScripts bytes minute x state files logs marks undo a reader =
     GivesDispatch (dispatch bytes minute x (handed state files logs marks undo) (now (reader .entry)))
     (x .count) a
     (handedBack state files logs marks undo) (now (reader .exit))

@@ -17,7 +17,7 @@ ghost use Rattle.state.specs.Layout.{storeOf, journalOf};
 ghost use Rattle.admission.specs.Admission.{sized, admissionOfDispatch, gateNumber};
 ghost use Rattle.spec_dispatch.specs.Rounds.{scriptsIn};
 ghost use Rattle.dispatcher.specs.Types.{scriptsOf};
-ghost use Rattle.dispatcher.specs.Promise.{Dispatches};
+ghost use Rattle.dispatcher.specs.Promise.{RunsScripts};
 
 // Refusals 1, 2, 19 and 20. files, logs, marks and undo are the lengths of the lent buffers, n that of the
 // data buffer.
@@ -61,7 +61,7 @@ pub fn dispatch(
     minute: usize,
 ) -> Dispatched
     ensures { λ d. ⌜
-        Dispatches (now (bytes .entry)) minute (scriptsOf scripts) state files logs marks undo d reader ⌝ }
+        RunsScripts (now (bytes .entry)) minute (scriptsOf scripts) state files logs marks undo d reader ⌝ }
 {
     let g = admit(
         state,

@@ -95,7 +95,7 @@ fn fail(
 }
 
 // After a call of script k: a refusal ends it.
-fn answered(
+fn take_answer(
     state: &mut State,
     files: &[u8],
     logs: &[u8],
@@ -181,7 +181,7 @@ fn begin_all(
 }
 
 // Makes the next call of a script, if one is due.
-fn turn(
+fn take_turn(
     state: &mut State,
     files: &mut [u8],
     logs: &mut [u8],
@@ -205,11 +205,11 @@ fn turn(
     let k = t.script;
     let call = t.call;
     let g = make(state, files, logs, marks, undo, k, call, bytes, reader);
-    answered(state, files, logs, marks, undo, ends, k, g)
+    take_answer(state, files, logs, marks, undo, ends, k, g)
 }
 
 // The calls of a round: call i of each script k that has one and goes on, in order, for each i in turn.
-fn passes(
+fn make_passes(
     state: &mut State,
     files: &mut [u8],
     logs: &mut [u8],
@@ -239,7 +239,7 @@ fn passes(
                 due: due,
                 call: call,
             };
-            let next = turn(state, files, logs, marks, undo, t, bytes, reader, out);
+            let next = take_turn(state, files, logs, marks, undo, t, bytes, reader, out);
             out = next;
             k += 1;
         } else {
@@ -309,7 +309,7 @@ fn commit_all(
 }
 
 // One round.
-fn round(
+fn run_round(
     state: &mut State,
     files: &mut [u8],
     logs: &mut [u8],
@@ -332,7 +332,7 @@ fn round(
     let count = scripts.count;
     let ends = p.ends;
     begin_all(state, files, logs, marks, undo, ends, count);
-    let called = passes(
+    let called = make_passes(
         state,
         files,
         logs,
@@ -382,7 +382,7 @@ pub fn run_rounds(
         if all_over(ends, count) {
             return p;
         }
-        let next = round(
+        let next = run_round(
             state,
             files,
             logs,

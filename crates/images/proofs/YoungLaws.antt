@@ -4,10 +4,11 @@ use lib.ListN.{getD, set, length, length-set, replicate, length-replicate, getD-
 use lib.Seq.{getD-set-same, getD-set-other, set-out}
 use native.Mathlib.{Nat.{suc-add, eq-or-lt-of-le, le-of-suc-le-suc, not-suc-le-zero}, Omega.arith}
 use Prim.Native.Nat.{ℕ, zero, suc, _+_, _-_, _*_, _≤_, _<_, min}
+use Rattle.limits.specs.Limits.{fileCount, descriptorCount, recordCount}
 use Rattle.buffers.{specs.Parts.tabulate, proofs.{PartLaws.le-or-lt, TableLaws.table-same}}
 use Rattle.windows.specs.Windows.{window}
 use Rattle.state.specs.{declared.{StoreMeaning.StoreMeaning, journal.WriteRecord.WriteRecord}, StoreMeaning.ended}
-use Rattle.state.specs.Journal.{lastGrant, withRecordAt, withRecords}
+use Rattle.state.specs.Journal.{lastGrant, withRecordAt, withRecords, journalLength}
 use Rattle.state.specs.Layout.{storeOf, undoOf, windowOf, transactionOf, journalOf, stateLength, isSet, fileNumbersAt, offsetsAt}
 use Rattle.state.specs.{Layout.{lengthsAt, startsAt, endsAt, foundOffsetsAt, foundLengthsAt, heldAt}, Updates.flagNumber}
 use Rattle.state.proofs.LayoutLaws.{flag-back, store-of-zeros, transactions-same, journal-with-record, store-with-record}
@@ -62,21 +63,23 @@ module _ (w : ℕ → ℕ) where
       ∙ getD-set-other (putDescriptor-0 d r) (offsetsAt + d) j (w (17 + d)) 0 n1
       ∙ getD-set-other r (fileNumbersAt + d) j (w (1 + d)) 0 n0
 
-  own-file : (d : ℕ) → d < 16 → (r : List ℕ) → length r ≡ stateLength → getD (putDescriptor w d r) (fileNumbersAt + d) 0
+  own-file : (d : ℕ) → d < descriptorCount → (r : List ℕ) → length r ≡ stateLength
+      → getD (putDescriptor w d r) (fileNumbersAt + d) 0
       ≡ w (1 + d)
   unfolding putDescriptor
   own-file d h r l = getD-set-other (putDescriptor-1 d r) (foundOffsetsAt + d) (fileNumbersAt + d) (w (60 + d)) 0
       (λ p. omega arith) ∙ getD-set-other (putDescriptor-0 d r) (offsetsAt + d) (fileNumbersAt + d) (w (17 + d)) 0
       (λ p. omega arith) ∙ getD-set-same r (fileNumbersAt + d) (w (1 + d)) 0 (omega arith)
 
-  own-offset : (d : ℕ) → d < 16 → (r : List ℕ) → length r ≡ stateLength → getD (putDescriptor w d r) (offsetsAt + d) 0
+  own-offset : (d : ℕ) → d < descriptorCount → (r : List ℕ) → length r ≡ stateLength
+      → getD (putDescriptor w d r) (offsetsAt + d) 0
       ≡ w (17 + d)
   unfolding putDescriptor
   own-offset d h r l = getD-set-other (putDescriptor-1 d r) (foundOffsetsAt + d) (offsetsAt + d) (w (60 + d)) 0
       (λ p. omega arith) ∙ getD-set-same (putDescriptor-0 d r) (offsetsAt + d) (w (17 + d)) 0
       (let e : length (putDescriptor-0 d r) ≡ length r = simp length-set in omega arith)
 
-  own-found-offset : (d : ℕ) → d < 16 → (r : List ℕ) → length r ≡ stateLength
+  own-found-offset : (d : ℕ) → d < descriptorCount → (r : List ℕ) → length r ≡ stateLength
       → getD (putDescriptor w d r) (foundOffsetsAt + d) 0 ≡ w (60 + d)
   unfolding putDescriptor
   own-found-offset d h r l = getD-set-same (putDescriptor-1 d r) (foundOffsetsAt + d) (w (60 + d)) 0
@@ -105,27 +108,28 @@ module _ (w : ℕ → ℕ) where
       (putFile-1 f r) (endsAt + f) j (w (49 + f)) 0 n2 ∙ getD-set-other (putFile-0 f r) (startsAt + f) j (w (41 + f)) 0 n1
       ∙ getD-set-other r (lengthsAt + f) j (w (33 + f)) 0 n0
 
-  own-length : (f : ℕ) → f < 8 → (r : List ℕ) → length r ≡ stateLength → getD (putFile w f r) (lengthsAt + f) 0 ≡ w (33 + f)
+  own-length : (f : ℕ) → f < fileCount → (r : List ℕ) → length r ≡ stateLength
+      → getD (putFile w f r) (lengthsAt + f) 0 ≡ w (33 + f)
   unfolding putFile
   own-length f h r l = getD-set-other (putFile-2 f r) (foundLengthsAt + f) (lengthsAt + f) (w (76 + f)) 0 (λ p. omega arith)
       ∙ getD-set-other (putFile-1 f r) (endsAt + f) (lengthsAt + f) (w (49 + f)) 0 (λ p. omega arith)
       ∙ getD-set-other (putFile-0 f r) (startsAt + f) (lengthsAt + f) (w (41 + f)) 0 (λ p. omega arith)
       ∙ getD-set-same r (lengthsAt + f) (w (33 + f)) 0 (omega arith)
 
-  own-start : (f : ℕ) → f < 8 → (r : List ℕ) → length r ≡ stateLength → getD (putFile w f r) (startsAt + f) 0 ≡ w (41 + f)
+  own-start : (f : ℕ) → f < fileCount → (r : List ℕ) → length r ≡ stateLength → getD (putFile w f r) (startsAt + f) 0 ≡ w (41 + f)
   unfolding putFile
   own-start f h r l = getD-set-other (putFile-2 f r) (foundLengthsAt + f) (startsAt + f) (w (76 + f)) 0 (λ p. omega arith)
       ∙ getD-set-other (putFile-1 f r) (endsAt + f) (startsAt + f) (w (49 + f)) 0 (λ p. omega arith)
       ∙ getD-set-same (putFile-0 f r) (startsAt + f) (w (41 + f)) 0
       (let e : length (putFile-0 f r) ≡ length r = simp length-set in omega arith)
 
-  own-end : (f : ℕ) → f < 8 → (r : List ℕ) → length r ≡ stateLength → getD (putFile w f r) (endsAt + f) 0 ≡ w (49 + f)
+  own-end : (f : ℕ) → f < fileCount → (r : List ℕ) → length r ≡ stateLength → getD (putFile w f r) (endsAt + f) 0 ≡ w (49 + f)
   unfolding putFile
   own-end f h r l = getD-set-other (putFile-2 f r) (foundLengthsAt + f) (endsAt + f) (w (76 + f)) 0 (λ p. omega arith)
       ∙ getD-set-same (putFile-1 f r) (endsAt + f) (w (49 + f)) 0
       (let e : length (putFile-1 f r) ≡ length r = simp length-set in omega arith)
 
-  own-found-length : (f : ℕ) → f < 8 → (r : List ℕ) → length r ≡ stateLength → getD (putFile w f r) (foundLengthsAt + f) 0
+  own-found-length : (f : ℕ) → f < fileCount → (r : List ℕ) → length r ≡ stateLength → getD (putFile w f r) (foundLengthsAt + f) 0
       ≡ w (76 + f)
   unfolding putFile
   own-found-length f h r l = getD-set-same (putFile-2 f r) (foundLengthsAt + f) (w (76 + f)) 0
@@ -184,40 +188,40 @@ module _ (w : ℕ → ℕ) where
       ∙ each-other (putDescriptor w) (length-descriptor w) j 16
       (λ k r l. descriptor-other w k j r (λ p. omega arith) (λ p. omega arith) (λ p. omega arith)) (zeros stateLength)
 
-  at-file : (d : ℕ) → d < 16 → getD granted (fileNumbersAt + d) 0 ≡ w (1 + d)
+  at-file : (d : ℕ) → d < descriptorCount → getD granted (fileNumbersAt + d) 0 ≡ w (1 + d)
   at-file d h = before-grant (fileNumbersAt + d) (omega arith) ∙ past-files (fileNumbersAt + d) (inl (omega arith))
       ∙ each-own (putDescriptor w) (length-descriptor w) (fileNumbersAt + d) 16 d (w (1 + d)) stateLength h (own-file w d h)
       (λ i r a b. descriptor-other w i (fileNumbersAt + d) r (λ p. b (omega arith)) (λ p. omega arith) (λ p. omega arith))
       (zeros stateLength) (length-zeros stateLength)
 
-  at-offset : (d : ℕ) → d < 16 → getD granted (offsetsAt + d) 0 ≡ w (17 + d)
+  at-offset : (d : ℕ) → d < descriptorCount → getD granted (offsetsAt + d) 0 ≡ w (17 + d)
   at-offset d h = before-grant (offsetsAt + d) (omega arith) ∙ past-files (offsetsAt + d) (inl (omega arith))
       ∙ each-own (putDescriptor w) (length-descriptor w) (offsetsAt + d) 16 d (w (17 + d)) stateLength h (own-offset w d h)
       (λ i r a b. descriptor-other w i (offsetsAt + d) r (λ p. omega arith) (λ p. b (omega arith)) (λ p. omega arith))
       (zeros stateLength) (length-zeros stateLength)
 
-  at-found-offset : (d : ℕ) → d < 16 → getD granted (foundOffsetsAt + d) 0 ≡ w (60 + d)
+  at-found-offset : (d : ℕ) → d < descriptorCount → getD granted (foundOffsetsAt + d) 0 ≡ w (60 + d)
   at-found-offset d h = before-grant (foundOffsetsAt + d) (omega arith) ∙ past-files (foundOffsetsAt + d)
       (inr (omega arith, omega arith)) ∙ each-own (putDescriptor w) (length-descriptor w) (foundOffsetsAt + d) 16 d
       (w (60 + d)) stateLength h (own-found-offset w d h) (λ i r a b. descriptor-other w i (foundOffsetsAt + d) r
       (λ p. omega arith) (λ p. omega arith) (λ p. b (omega arith))) (zeros stateLength) (length-zeros stateLength)
 
-  at-length : (f : ℕ) → f < 8 → getD granted (lengthsAt + f) 0 ≡ w (33 + f)
+  at-length : (f : ℕ) → f < fileCount → getD granted (lengthsAt + f) 0 ≡ w (33 + f)
   at-length f h = before-grant (lengthsAt + f) (omega arith) ∙ each-own (putFile w) (length-of-file w) (lengthsAt + f) 8 f
       (w (33 + f)) stateLength h (own-length w f h) (λ i r a b. of-file-other w i (lengthsAt + f) r (λ p. b (omega arith))
       (λ p. omega arith) (λ p. omega arith) (λ p. omega arith)) described long-described
 
-  at-start : (f : ℕ) → f < 8 → getD granted (startsAt + f) 0 ≡ w (41 + f)
+  at-start : (f : ℕ) → f < fileCount → getD granted (startsAt + f) 0 ≡ w (41 + f)
   at-start f h = before-grant (startsAt + f) (omega arith) ∙ each-own (putFile w) (length-of-file w) (startsAt + f) 8 f
       (w (41 + f)) stateLength h (own-start w f h) (λ i r a b. of-file-other w i (startsAt + f) r (λ p. omega arith)
       (λ p. b (omega arith)) (λ p. omega arith) (λ p. omega arith)) described long-described
 
-  at-end : (f : ℕ) → f < 8 → getD granted (endsAt + f) 0 ≡ w (49 + f)
+  at-end : (f : ℕ) → f < fileCount → getD granted (endsAt + f) 0 ≡ w (49 + f)
   at-end f h = before-grant (endsAt + f) (omega arith) ∙ each-own (putFile w) (length-of-file w) (endsAt + f) 8 f
       (w (49 + f)) stateLength h (own-end w f h) (λ i r a b. of-file-other w i (endsAt + f) r (λ p. omega arith)
       (λ p. omega arith) (λ p. b (omega arith)) (λ p. omega arith)) described long-described
 
-  at-found-length : (f : ℕ) → f < 8 → getD granted (foundLengthsAt + f) 0 ≡ w (76 + f)
+  at-found-length : (f : ℕ) → f < fileCount → getD granted (foundLengthsAt + f) 0 ≡ w (76 + f)
   at-found-length f h = before-grant (foundLengthsAt + f) (omega arith)
       ∙ each-own (putFile w) (length-of-file w) (foundLengthsAt + f) 8 f (w (76 + f)) stateLength h (own-found-length w f h)
       (λ i r a b. of-file-other w i (foundLengthsAt + f) r (λ p. omega arith) (λ p. omega arith) (λ p. omega arith)
@@ -235,9 +239,10 @@ module _ (w : ℕ → ℕ) where
       (w 59) 0 (λ p. omega arith) ∙ getD-set-same a (heldAt + 1) (w 58) 0 (omega arith) in
       let bytes : getD (set b (heldAt + 2) (w 59)) (heldAt + 2) 0 ≡ w 59 =
       getD-set-same b (heldAt + 2) (w 59) 0 (omega arith) in
-      let offsets : tabulate (λ d. getD granted (foundOffsetsAt + d) 0) 16 ≡ tabulate (λ d. w (60 + d)) 16 =
+      let offsets : tabulate (λ d. getD granted (foundOffsetsAt + d) 0) descriptorCount
+      ≡ tabulate (λ d. w (60 + d)) descriptorCount =
       table-same _ _ 16 at-found-offset in
-      let lengths : tabulate (λ f. getD granted (foundLengthsAt + f) 0) 8 ≡ tabulate (λ f. w (76 + f)) 8 =
+      let lengths : tabulate (λ f. getD granted (foundLengthsAt + f) 0) fileCount ≡ tabulate (λ f. w (76 + f)) fileCount =
       table-same _ _ 8 at-found-length in λ i. record {
         valid = held i;
         used = record { records = records i; bytes = bytes i };
@@ -252,13 +257,14 @@ module _ (w : ℕ → ℕ) where
 
   pub store-granted : storeOf granted ≡ storeFrom w
   unfolding storeOf storeFrom windowOf
-  store-granted = let files : tabulate (λ d. getD granted (fileNumbersAt + d) 0) 16 ≡ tabulate (λ d. w (1 + d)) 16 =
+  store-granted = let files : tabulate (λ d. getD granted (fileNumbersAt + d) 0) descriptorCount
+      ≡ tabulate (λ d. w (1 + d)) descriptorCount =
       table-same _ _ 16 at-file in
-      let offsets : tabulate (λ d. getD granted (offsetsAt + d) 0) 16 ≡ tabulate (λ d. w (17 + d)) 16 =
+      let offsets : tabulate (λ d. getD granted (offsetsAt + d) 0) descriptorCount ≡ tabulate (λ d. w (17 + d)) descriptorCount =
       table-same _ _ 16 at-offset in
-      let lengths : tabulate (λ f. getD granted (lengthsAt + f) 0) 8 ≡ tabulate (λ f. w (33 + f)) 8 =
+      let lengths : tabulate (λ f. getD granted (lengthsAt + f) 0) fileCount ≡ tabulate (λ f. w (33 + f)) fileCount =
       table-same _ _ 8 at-length in
-      let windows : tabulate (windowOf granted) 8 ≡ tabulate (λ f. window (w (41 + f)) (w (49 + f))) 8 =
+      let windows : tabulate (windowOf granted) 8 ≡ tabulate (λ f. window (w (41 + f)) (w (49 + f))) fileCount =
       table-same _ _ 8 (λ f h i. window (at-start f h i) (at-end f h i)) in λ i. record {
         filenumbers = files i;
         offsets = offsets i;
@@ -268,17 +274,19 @@ module _ (w : ℕ → ℕ) where
         transactions = none-begun i;
       }
 
-  pub journal-granted : journalOf granted ≡ zeros 1728
+  pub journal-granted : journalOf granted ≡ zeros journalLength
   unfolding journalOf
-  journal-granted = table-same (λ k. getD granted k 0) (λ k. getD (zeros 1728) k 0) 1728 (λ k h. untouched k (omega arith)
-      ∙ zero-anywhere k ∙ sym (zero-at 1728 k h))
-      ∙ ap (λ (n : ℕ). tabulate (λ k. getD (zeros 1728) k 0) n) (sym (length-zeros 1728)) ∙ tabulate-getD (zeros 1728) 0
+  journal-granted = table-same (λ k. getD granted k 0) (λ k. getD (zeros journalLength) k 0) journalLength
+      (λ k h. untouched k (omega arith)
+      ∙ zero-anywhere k ∙ sym (zero-at journalLength k h))
+      ∙ ap (λ (n : ℕ). tabulate (λ k. getD (zeros journalLength) k 0) n) (sym (length-zeros journalLength))
+      ∙ tabulate-getD (zeros journalLength) 0
 
 -- ---- the write records
 
 module _ (f : ℕ → WriteRecord) where
   -- In the record as in its journal.
-  journal-records : (r : List ℕ) → length r ≡ stateLength → (n : ℕ) → n ≤ 64 → (storeOf (withRecords r lastGrant f n)
+  journal-records : (r : List ℕ) → length r ≡ stateLength → (n : ℕ) → n ≤ recordCount → (storeOf (withRecords r lastGrant f n)
       ≡ storeOf r) × (journalOf (withRecords r lastGrant f n) ≡ withRecords (journalOf r) lastGrant f n)
   unfolding withRecords
   journal-records r l zero h = (refl, refl)
@@ -290,36 +298,40 @@ module _ (f : ℕ → WriteRecord) where
             ∙ ap (λ (j : List ℕ). withRecordAt j lastGrant n (f n)) (before .1),
       )
 
-  module _ (journal : List ℕ) (long : length journal ≡ 1728) where
+  module _ (journal : List ℕ) (long : length journal ≡ journalLength) where
     -- There is no record past the 64th.
-    past-last : (l : List ℕ) (k : ℕ) (x : WriteRecord) → length l ≡ 1728 → 64 ≤ k → withRecordAt l lastGrant k x ≡ l
+    past-last : (l : List ℕ) (k : ℕ) (x : WriteRecord) → length l ≡ journalLength → recordCount ≤ k
+        → withRecordAt l lastGrant k x ≡ l
     unfolding withRecordAt
     past-last l k x e h =
-        let i = 3 * (64 * lastGrant + k) in
+        let i = 3 * (recordCount * lastGrant + k) in
         ap (λ (t : List ℕ). set (set t (i + 1) (placeNumber (x .place))) (i + 2) (x .length)) (set-out l i _ (omega arith))
         ∙ ap (λ (t : List ℕ). set t (i + 2) (x .length)) (set-out l (i + 1) _ (omega arith)) ∙ set-out l (i + 2) _ (omega arith)
 
-    all-of-them : (m : ℕ) → withRecords journal lastGrant f (m + 64) ≡ withRecords journal lastGrant f 64
+    all-of-them : (m : ℕ) → withRecords journal lastGrant f (m + recordCount) ≡ withRecords journal lastGrant f recordCount
     unfolding withRecords
     all-of-them zero = refl
-    all-of-them (suc m) = ap (withRecords journal lastGrant f) (suc-add m 64) ∙ past-last (withRecords journal lastGrant f
-        (m + 64)) (m + 64) (f (m + 64)) (length-with journal lastGrant f (m + 64) ∙ long) (omega arith) ∙ all-of-them m
+    all-of-them (suc m) = ap (withRecords journal lastGrant f) (suc-add m recordCount)
+        ∙ past-last (withRecords journal lastGrant f
+        (m + recordCount)) (m + recordCount) (f (m + recordCount)) (length-with journal lastGrant f (m + recordCount) ∙ long)
+        (omega arith) ∙ all-of-them m
 
-    pub records-cut : (n : ℕ) → withRecords journal lastGrant f (min n 64) ≡ withRecords journal lastGrant f n
-    records-cut n = ⊎-elim (λ h. let e : min n 64 ≡ n = omega arith in rw e)
-        (λ h. let e : min n 64 ≡ 64 = omega arith in let q : n ≡ (n - 64) + 64 =
-        omega arith in rw e (sym (all-of-them (n - 64)) ∙ ap (withRecords journal lastGrant f) (sym q))) (le-or-lt n 64)
+    pub records-cut : (n : ℕ) → withRecords journal lastGrant f (min n recordCount) ≡ withRecords journal lastGrant f n
+    records-cut n = ⊎-elim (λ h. let e : min n recordCount ≡ n = omega arith in rw e)
+        (λ h. let e : min n recordCount ≡ recordCount = omega arith in let q : n ≡ (n - recordCount) + recordCount =
+        omega arith in rw e (sym (all-of-them (n - recordCount)) ∙ ap (withRecords journal lastGrant f) (sym q)))
+        (le-or-lt n recordCount)
 
 module _ (w : ℕ → ℕ) where
   abbrev built : List ℕ
-  built = withRecords (granted w) lastGrant (recordFrom w) (min (w 58) 64)
+  built = withRecords (granted w) lastGrant (recordFrom w) (min (w 58) recordCount)
 
   pub young-built : Young w built
   unfolding journalFrom
-  young-built = let j = journal-records (recordFrom w) (granted w) (long-granted w) (min (w 58) 64) (omega arith) in
+  young-built = let j = journal-records (recordFrom w) (granted w) (long-granted w) (min (w 58) recordCount) (omega arith) in
       record {
-        long = length-with (granted w) lastGrant (recordFrom w) (min (w 58) 64) ∙ long-granted w;
+        long = length-with (granted w) lastGrant (recordFrom w) (min (w 58) recordCount) ∙ long-granted w;
         store = j .0 ∙ store-granted w;
-        journal = j .1 ∙ ap (λ (l : List ℕ). withRecords l lastGrant (recordFrom w) (min (w 58) 64)) (journal-granted w)
-            ∙ records-cut (recordFrom w) (zeros 1728) (length-zeros 1728) (w 58);
+        journal = j .1 ∙ ap (λ (l : List ℕ). withRecords l lastGrant (recordFrom w) (min (w 58) recordCount)) (journal-granted w)
+            ∙ records-cut (recordFrom w) (zeros journalLength) (length-zeros journalLength) (w 58);
       }

@@ -6,6 +6,7 @@ use mathlib.Core.List.{List}
 use lib.Dec.{ltb}
 use lib.ListN.{getD}
 use Prim.Native.Nat.{ℕ, _-_}
+use Rattle.limits.specs.Limits.{bufferBytes, recordCount}
 use Rattle.standings.specs.declared.Place.the-variants.{At}
 use Rattle.standings.specs.Table.{placeNumber}
 use Rattle.state.specs.declared.Undo.{Undo}
@@ -16,7 +17,8 @@ use Rattle.state.specs.Updates.{flagNumber}
 use Rattle.state.specs.Journal.{descriptorCode, lastGrant, writeRecordAt}
 use Rattle.spec.specs.Machine.{Machine}
 use Rattle.images.specs.Words.{lowFirst}
-unfoldable pub use Rattle.images.specs.Loaded.{recordFrom, undoFrom, storeFrom, journalFrom, blankRecord}
+unfoldable pub use Rattle.images.specs.Loaded.{recordFrom, undoFrom, storeFrom, journalFrom}
+unfoldable pub use Rattle.images.specs.Loaded.{blankRecord}
 unfoldable pub use Rattle.images.specs.Loaded.{canonical, loadRefusal, youngWith}
 
 abbrev pub noRecord : WriteRecord
@@ -26,12 +28,12 @@ noRecord = record { descriptor = 0; place = At 0; length = 0 }
 unfoldable pub grantRecord : ℕ → List ℕ → ℕ → WriteRecord
 grantRecord records journal k = cond (ltb k records) (writeRecordAt journal lastGrant k) noRecord
 
-abbrev pub holderOf : WriteRecord → ℕ
-holderOf w = descriptorCode (w .descriptor) (w .place)
+abbrev pub recordCode : WriteRecord → ℕ
+recordCode w = descriptorCode (w .descriptor) (w .place)
 
 unfoldable pub recordNumber : ℕ → List ℕ → ℕ → ℕ
 recordNumber records journal i =
-    cond (ltb i 148) (holderOf (grantRecord records journal (i - 84)))
+    cond (ltb i 148) (recordCode (grantRecord records journal (i - 84)))
     (cond (ltb i 212) (placeNumber (grantRecord records journal (i - 148) .place))
     (grantRecord records journal (i - 212) .length))
 

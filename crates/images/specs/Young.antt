@@ -8,7 +8,7 @@ use Rattle.windows.specs.Windows.{window}
 use Rattle.state.specs.Layout.{isSet, storeOf, journalOf, stateLength}
 use Rattle.state.specs.Updates.{withFileNumberAt, withOffsetAt, withFoundOffsetAt, withLengthAt}
 use Rattle.state.specs.Updates.{withWindowAt}
-use Rattle.state.specs.Updates.{withFoundLengthAt, withHeldAt, withUndoUsedAt}
+use Rattle.state.specs.Updates.{withFoundLengthAt, withUndoValidAt, withUndoUsedAt}
 use Rattle.images.specs.Images.{storeFrom, journalFrom}
 
 -- What `put` puts for 0, 1, .. below n.
@@ -26,7 +26,8 @@ putFile w f r =
     (w (76 + f))
 
 unfoldable pub withLastGrant : (ℕ → ℕ) → List ℕ → List ℕ
-withLastGrant w r = withUndoUsedAt (withHeldAt r (isSet (w 57))) (record { records = w 58; bytes = w 59 })
+withLastGrant w r = withUndoUsedAt (withUndoValidAt r (isSet (w 57)))
+    (record { records = w 58; bytes = w 59 })
 
 -- A state that means what the numbers say.
 pub record Young (w : ℕ → ℕ) (r : List ℕ) : Type 0 where

@@ -19,7 +19,7 @@ ghost use Prim.Native.Nat.{ℕ, _<_, _≤_};
 ghost use lib.ListN.{getD};
 ghost use Rattle.state.specs.Layout.{storeOf, journalOf};
 ghost use Rattle.state.specs.Updates.{flagNumber};
-ghost use Rattle.images.specs.Images.{grantRecord, holderOf, recordNumber, grantNumber};
+ghost use Rattle.images.specs.Images.{grantRecord, recordCode, recordNumber, grantNumber};
 ghost use Rattle.images.specs.Images.{tableNumber, numberOf};
 
 // Each number has 16 bits, which the lent array's type alone does not tell a proof.
@@ -52,9 +52,9 @@ fn grant_record(state: &State, k: usize) -> WriteRecord
 }
 
 // The descriptor's number, with 16 added where the write record has no place.
-fn holder_of(w: WriteRecord) -> u16
+fn record_code(w: WriteRecord) -> u16
     requires { ⌜ w .descriptor < 65520 ⌝ }
-    ensures { λ r. ⌜ r ≡ holderOf w ⌝ }
+    ensures { λ r. ⌜ r ≡ recordCode w ⌝ }
 {
     let place = w.place;
     match place {
@@ -72,12 +72,12 @@ fn record_number(state: &State, i: usize) -> u16
 {
     if i < 148 {
         let w = grant_record(state, i - 84);
-        return holder_of(w);
+        return record_code(w);
     }
     if i < 212 {
         let w = grant_record(state, i - 148);
         let place = w.place;
-        return place.number();
+        return place.place_number();
     }
     let w = grant_record(state, i - 212);
     w.length

@@ -13,13 +13,13 @@ use state::journal::WriteRecord;
 use state::journal::put_record;
 use state::layout::STATE_LEN;
 use state::layout::State;
-use state::layout::put_can_undo;
 use state::layout::put_file;
 use state::layout::put_found_length;
 use state::layout::put_found_offset;
 use state::layout::put_length;
 use state::layout::put_offset;
 use state::layout::put_undo_used;
+use state::layout::put_undo_valid;
 use state::layout::put_window;
 use windows::Window;
 ghost use mathlib.Core.Path.{_≡_};
@@ -73,7 +73,7 @@ fn put_files(state: &mut State, image: &Numbers)
 fn put_grant(state: &mut State, image: &Numbers)
     ensures { λ _. ⌜ now (state .exit) ≡ withLastGrant (wordAt (now (image .entry))) (now (state .entry)) ⌝ }
 {
-    put_can_undo(state, word_at(image, 57) == 1);
+    put_undo_valid(state, word_at(image, 57) == 1);
     let records = wide(word_at(image, 58));
     let bytes = word_at(image, 59);
     put_undo_used(state, Used { records, bytes });

@@ -32,7 +32,7 @@ use Rattle.read_fetch.specs.Fetch.{fileValues, fetching, bytesRead, mark
 module _ (v : Values) (fileOf : ℕ → ℕ) (ws : List Write) (f : ℕ) where
   -- the program of one byte
   abbrev one : ℕ → Prog ℕ
-  one p = bring (latest fileOf f p ws) (4096 * f + p)
+  one p = bring (latest fileOf f p ws) (fileBytes * f + p)
 
   result-suc : (p n : ℕ) → result v (fetch fileOf ws f p (suc n)) ≡ result v (one p) ∷ result v (fetch fileOf ws f (suc p) n)
   unfolding fetch result
@@ -130,7 +130,7 @@ module _ (v w : Values) (fileOf : ℕ → ℕ) (ws : List Write) (f : ℕ) where
   asked-same p zero = refl
   asked-same p (suc n) =
       asked-suc v fileOf ws f p n
-      ∙ ap₂ (λ (x y : List Item). x ++ y) (bring-asked v w (latest fileOf f p ws) (4096 * f + p)) (asked-same (suc p) n)
+      ∙ ap₂ (λ (x y : List Item). x ++ y) (bring-asked v w (latest fileOf f p ws) (fileBytes * f + p)) (asked-same (suc p) n)
       ∙ sym (asked-suc w fileOf ws f p n)
 
   pub result-same : (p n : ℕ) → ((i : ℕ) → i < n → v (byte (fileBytes * f + (p + i))) ≡ w (byte (fileBytes * f + (p + i))))
@@ -140,13 +140,13 @@ module _ (v w : Values) (fileOf : ℕ → ℕ) (ws : List Write) (f : ℕ) where
   result-same p (suc n) same =
       result-suc v fileOf ws f p n
       ∙ ap₂ (λ (b : ℕ) (l : List ℕ). b ∷ l)
-      (bring-result v w (latest fileOf f p ws) (4096 * f + p) (at p (omega arith) (same 0 (omega arith))))
+      (bring-result v w (latest fileOf f p ws) (fileBytes * f + p) (at p (omega arith) (same 0 (omega arith))))
       (result-same (suc p) n (λ i l. at (suc p + i) (omega arith) (same (suc i) (omega arith))))
       ∙ sym (result-suc w fileOf ws f p n)
     where
       at : {k : ℕ} (j : ℕ) → k ≡ j → v (byte (fileBytes * f + k)) ≡ w (byte (fileBytes * f + k)) → v (byte (fileBytes * f + j))
           ≡ w (byte (fileBytes * f + j))
-      at j e = subst (λ (m : ℕ). v (byte (4096 * f + m)) ≡ w (byte (4096 * f + m))) e
+      at j e = subst (λ (m : ℕ). v (byte (fileBytes * f + m)) ≡ w (byte (fileBytes * f + m))) e
 
 -- ---- marks
 
@@ -171,7 +171,7 @@ lengths-fetch v fileOf ws f p (suc m) is n =
     let here = asked v (one v fileOf ws f p) in
     ap (λ (l : List Item). lengthmarked (l ++ is) n) (asked-suc v fileOf ws f p m)
     ∙ ap (λ (l : List Item). lengthmarked l n) (append-assoc here (asked v (fetch fileOf ws f (suc p) m)) is)
-    ∙ lengths-bring v (latest fileOf f p ws) (4096 * f + p) (asked v (fetch fileOf ws f (suc p) m) ++ is) n
+    ∙ lengths-bring v (latest fileOf f p ws) (fileBytes * f + p) (asked v (fetch fileOf ws f (suc p) m) ++ is) n
     ∙ lengths-fetch v fileOf ws f (suc p) m is n
 
 module _ (v : Values) (fileOf : ℕ → ℕ) (ws : List Write) (f t : ℕ) where
@@ -181,21 +181,21 @@ module _ (v : Values) (fileOf : ℕ → ℕ) (ws : List Write) (f t : ℕ) where
       ∷ [])
       → marked t (asked v (fetch fileOf ws f p n)) marks ≡ withMarks t (fileBytes * f + p) n marks
   unfolding fetch asked marked
-  marked-run p zero marks each = sym (with-marks-none t (4096 * f + p) marks)
+  marked-run p zero marks each = sym (with-marks-none t (fileBytes * f + p) marks)
   marked-run p (suc n) marks each =
-      let q = 4096 * f + p in
+      let q = fileBytes * f + p in
       let first : asked v (one v fileOf ws f p) ≡ byte q ∷ [] = ap (λ (k : ℕ). asked v (one v fileOf ws f k)) (sym (add-zero p))
-      ∙ each 0 (omega arith) ∙ ap (λ (k : ℕ). byte (4096 * f + k) ∷ []) (add-zero p) in
+      ∙ each 0 (omega arith) ∙ ap (λ (k : ℕ). byte (fileBytes * f + k) ∷ []) (add-zero p) in
       ap (λ (l : List Item). marked t l marks)
       (asked-suc v fileOf ws f p n ∙ ap (λ (l : List Item). l ++ asked v (fetch fileOf ws f (suc p) n)) first)
       ∙ marked-run (suc p) n (withMark t q marks) (λ i l. moved i (each (suc i) (omega arith)))
-      ∙ ap (λ (k : ℕ). withMarks t k n (withMark t q marks)) (add-suc (4096 * f) p)
+      ∙ ap (λ (k : ℕ). withMarks t k n (withMark t q marks)) (add-suc (fileBytes * f) p)
       ∙ sym (with-marks-first t q n marks)
     where
       moved : (i : ℕ) → asked v (one v fileOf ws f (p + suc i)) ≡ byte (fileBytes * f + (p + suc i)) ∷ []
           → asked v (one v fileOf ws f (suc p + i)) ≡ byte (fileBytes * f + (suc p + i)) ∷ []
       moved i = let e : p + suc i ≡ suc p + i = omega arith in subst (λ (k : ℕ). asked v (one v fileOf ws f k)
-          ≡ byte (4096 * f + k) ∷ []) e
+          ≡ byte (fileBytes * f + k) ∷ []) e
 
 -- ---- the bytes and the marks of one run
 
@@ -211,7 +211,7 @@ module _ (j : Recorded) (t records : ℕ) (log file : List ℕ) (inside : length
 
   supplied : (f p : ℕ) (s : Supplier) → supplier j t records f p ≡ s → ofOne f p
       ≡ bring (sourceOf (j .journal) log t p s) (fileBytes * f + p)
-  supplied f p s e = ap (λ (x : Source). bring x (4096 * f + p))
+  supplied f p s e = ap (λ (x : Source). bring x (fileBytes * f + p))
       (latest-is j log t f p records inside ∙ ap (sourceOf (j .journal) log t p) e)
 
   by-file : (f p : ℕ) → supplier j t records f p ≡ File
@@ -219,7 +219,7 @@ module _ (j : Recorded) (t records : ℕ) (log file : List ℕ) (inside : length
       × (asked (fileValues f file) (ofOne f p) ≡ byte (fileBytes * f + p) ∷ [])
   unfolding sourceOf bring result asked fileValues
   by-file f p e =
-      let g : 4096 * f + p - 4096 * f ≡ p = omega arith in (
+      let g : fileBytes * f + p - fileBytes * f ≡ p = omega arith in (
         ap (result (fileValues f file)) (supplied f p File e) ∙ ap (λ (k : ℕ). getD file k 0) g,
         ap (asked (fileValues f file)) (supplied f p File e),
       )

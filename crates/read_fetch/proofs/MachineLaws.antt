@@ -4,7 +4,7 @@ use mathlib.Core.Path.{_≡_, sym, ap, _∙_}
 use lib.ListN.{getD}
 use Prim.Native.Nat.{ℕ, suc, _+_, _*_, _≤_}
 use native.Mathlib.Omega.{arith}
-use Rattle.limits.specs.Limits.{fileBytes}
+use Rattle.limits.specs.Limits.{fileBytes, logBytes}
 use Rattle.buffers.specs.Parts.{filePart, tabulate}
 use Rattle.buffers.proofs.PartLaws.{cut-cut, getD-cut}
 use Rattle.state.specs.Journal.{writeRecordAt}
@@ -22,19 +22,21 @@ use Rattle.read_fetch.specs.Fetch.{fileValues, fetching, bytesRead, mark
 use Rattle.read_fetch.proofs.FetchLaws.{result-same, asked-same}
 
 module _ (journal logs : List ℕ) (t : ℕ) where
-  write-is : (k : ℕ) → lengthsBefore journal t (suc k) ≤ 4096 → writeIn journal (logPart logs t) t k ≡ writeAt journal logs t k
+  write-is : (k : ℕ) → lengthsBefore journal t (suc k) ≤ logBytes → writeIn journal (logPart logs t) t k
+      ≡ writeAt journal logs t k
   unfolding writeIn writeAt dataStart logPart
   write-is k h =
       let w = writeRecordAt journal t k in
       ap (λ (bytes : List ℕ). record { descriptor = w .descriptor; place = w .place; bytes = bytes })
-      (cut-cut logs (4096 * t) 4096 (lengthsBefore journal t k) (w .length) (omega (arith, data-suc journal t k)))
+      (cut-cut logs (logBytes * t) logBytes (lengthsBefore journal t k) (w .length) (omega (arith, data-suc journal t k)))
 
-  writes-are : (n : ℕ) → lengthsBefore journal t n ≤ 4096 → tabulate (writeIn journal (logPart logs t) t) n
+  writes-are : (n : ℕ) → lengthsBefore journal t n ≤ logBytes → tabulate (writeIn journal (logPart logs t) t) n
       ≡ tabulate (writeAt journal logs t) n
   writes-are n h = tabulate-same _ _ n (λ k l. write-is k (omega (arith, data-upto journal t k n l)))
 
 -- v are committed values with these bytes
-module _ (j : Recorded) (logs : List ℕ) (t n : ℕ) (inside : lengthsBefore (j .journal) t n ≤ 4096) (v : Values) (files : List ℕ)
+module _ (j : Recorded) (logs : List ℕ) (t n : ℕ) (inside : lengthsBefore (j .journal) t n ≤ logBytes) (v : Values)
+    (files : List ℕ)
     (known : (q : ℕ) → v (byte q) ≡ getD files q 0) (e : Extent) where
   abbrev fetches : List Write → Values → List ℕ
   fetches ws v = result v (fetch (λ d. getD (j .filenumbers) d 0) ws (e .file) (e .place) (e .length))
@@ -53,7 +55,8 @@ module _ (j : Recorded) (logs : List ℕ) (t n : ℕ) (inside : lengthsBefore (j
       ∙ result-same part v (λ d. getD (j .filenumbers) d 0) (tabulate (writeAt (j .journal) logs t) n) (e .file) (e .place)
       (e .length)
       (λ i l. ap (λ (k : ℕ). getD (filePart files (e .file)) k 0) (omega arith)
-      ∙ getD-cut files (4096 * e .file) 4096 (e .place + i) 0 (omega arith) ∙ sym (known (4096 * e .file + (e .place + i))))
+      ∙ getD-cut files (fileBytes * e .file) fileBytes (e .place + i) 0 (omega arith)
+      ∙ sym (known (fileBytes * e .file + (e .place + i))))
 
   pub marks-are : (marks : List ℕ)
       → marksAfter j t n (logPart logs t) (filePart files (e .file)) e marks

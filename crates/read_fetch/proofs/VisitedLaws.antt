@@ -8,6 +8,7 @@ use lib.Dec.{eqb}
 use lib.ListN.{length, getD}
 use Prim.Native.Nat.{ℕ, zero, suc, _+_, _*_, _≤_}
 use native.Mathlib.Omega.{arith}
+use Rattle.limits.specs.Limits.{fileBytes}
 use Rattle.buffers.specs.Parts.{tabulate}
 use Rattle.counters.specs.declared.Used.{Used}
 use Rattle.admission.specs.FirstRefusal.{sum}
@@ -27,7 +28,8 @@ fetch-latest : (fileOf : ℕ → ℕ) (ws us : List Write) (f : ℕ) → ((q : �
 unfolding fetch
 fetch-latest fileOf ws us f same p zero = refl
 fetch-latest fileOf ws us f same p (suc n) =
-    ap₂ (λ (s : Source) (r : Prog (List ℕ)). andThen (bring s (4096 * f + p)) (λ b. andThen r (λ bs. done (b ∷ bs)))) (same p)
+    ap₂ (λ (s : Source) (r : Prog (List ℕ)). andThen (bring s (fileBytes * f + p)) (λ b. andThen r (λ bs. done (b ∷ bs))))
+    (same p)
     (fetch-latest fileOf ws us f same (suc p) n)
 
 -- The counters of what is visited.

@@ -520,14 +520,14 @@ module _ (j : Recorded) (t f n : ℕ) where
   reach-from (suc c) = let e = reach-from c in omega arith
 
   -- The same of the writes.
-  pub reach-is : (g : ℕ → Write) (c : ℕ)
+  pub run-reach-is : (g : ℕ → Write) (c : ℕ)
       → ((k : ℕ) → k < c → recordEnd (j .filenumbers) f (writeRecordAt (j .journal) t k)
       ≡ cond (eqb (getD (j .filenumbers) (g k .descriptor) 0) f) (placedEnd (g k .place) (length (g k .bytes))) 0)
       → reach j t f n c ≡ max n (ownEnd (λ d. getD (j .filenumbers) d 0) f (tabulate g c))
   unfolding reach tabulate ownEnd farthest
-  reach-is g zero h = omega arith
-  reach-is g (suc c) h =
-      let e = reach-is g c (λ k l. h k (omega arith)) in
+  run-reach-is g zero h = omega arith
+  run-reach-is g (suc c) h =
+      let e = run-reach-is g c (λ k l. h k (omega arith)) in
       let q = farthest-last (λ d. getD (j .filenumbers) d 0) f (λ w. placedEnd (w .place) (length (w .bytes))) (tabulate g c)
       (g c) in
       let r = h c (omega arith) in

@@ -17,7 +17,8 @@ use Rattle.read_lookup.specs.declared.Extent.{Extent}
 use Rattle.read_lookup.specs.declared.Run.{Run}
 use Rattle.read_lookup.specs.declared.Supplier.{Supplier}
 use Rattle.read_lookup.specs.declared.Supplier.the-variants.{File, Record}
-pub use Rattle.read_lookup.specs.Latest.{Recorded, recorded, recordedIn, coveredBy, LatestWrite, LatestAt}
+pub use Rattle.read_lookup.specs.Latest.{Recorded, recorded, recordedIn, coveredBy, LatestWrite}
+pub use Rattle.read_lookup.specs.Latest.{LatestAt}
 unfoldable pub use Rattle.read_lookup.specs.Latest.{covers, standsAt, writeIn, sourceOf}
 
 -- The n places of file f from p on.

@@ -102,7 +102,7 @@ pub fn latest_write(state: &State, t: usize, used: Used, e: Extent) -> Run
         let g = gap(state, w, rest);
         if g == 0 {
             let place = w.place;
-            let p = wide(place.number());
+            let p = wide(place.place_number());
             return Run {
                 supplier: Supplier::Record(k),
                 looked: used.records - k,

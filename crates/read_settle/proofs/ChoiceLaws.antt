@@ -10,6 +10,7 @@ use native.Mathlib.Numerals.{add-one}
 use native.Mathlib.Omega.{arith}
 use borrow.Author.Tests.{le-leb, lt-leb, eq-eqb, ne-eqb, eqb-true}
 use Prim.Native.Nat.{ℕ, _+_, _≤_, _<_}
+use Rattle.limits.specs.Limits.{fileBytes, descriptorCount}
 use Rattle.buffers.specs.Parts.{tabulate}
 use Rattle.buffers.proofs.TableLaws.{getD-tabulate}
 use Rattle.state.specs.declared.Descriptor.{Descriptor}
@@ -27,22 +28,23 @@ use Rattle.read_settle.specs.Choices.{settlesForRead, chosenByRead, sett
 use Rattle.read_settle.specs.Choices.{settlesWithin, allWithin, settledDescriptor, settledTransaction, settlingOf}
 
 -- One of sixteen is chosen, or none.
-pub one-chosen : (d : ℕ) (b : Bool) → d < 16 → set (replicate 16 false) d b ≡ tabulate (λ e. eqb e d && b) 16
+pub one-chosen : (d : ℕ) (b : Bool) → d < descriptorCount → set (replicate 16 false) d b
+    ≡ tabulate (λ e. eqb e d && b) descriptorCount
 unfolding tabulate
 one-chosen d b h =
     sym
     (tabulate-set (λ e. false) (λ e. eqb e d && b) 16 d b h (rw (eq-eqb d d refl)) (λ e ne. rw (ne-eqb e d ne)))
 
 -- None of n + 1 passes, where the first n are gone over and the last is asked.
-pub neither : (a b : Bool) → a || b ≡ false → (a ≡ false) × (b ≡ false)
-neither true b e = absurd (true≢false e)
-neither false b e = (refl, e)
+pub both-false : (a b : Bool) → a || b ≡ false → (a ≡ false) × (b ≡ false)
+both-false true b e = absurd (true≢false e)
+both-false false b e = (refl, e)
 
 pub none-more : (p : ℕ → Bool) (n : ℕ) (a : Bool) → (a ≡ false → (k : ℕ) → k < n → p k ≡ false) → a || p n ≡ false → (k : ℕ)
     → k < n + 1
     → p k ≡ false
 none-more p n a none e k h =
-    let w = neither a (p n) e in
+    let w = both-false a (p n) e in
     ⊎-elim (λ q. ap p q ∙ w .1) (λ l. none (w .0) k l) (eq-or-lt-of-le (le-of-suc-le-suc (rw add-one at h)))
 
 -- A Read settles a descriptor where it waits and is of the file, and its own where that is Untouched: what it settles by either
@@ -80,8 +82,8 @@ module _ (filenumbers : List ℕ) (x : Transaction) (d : ℕ) where
 
   -- A Read through d settles none.
   pub read-chooses-none : readSettles false true (standingAt x d) ≡ false
-      → ((e : ℕ) → e < 16 → readSettles true false (standingAt x e) ≡ false)
-      → (e : ℕ) → e < 16 → getD (chosenByRead filenumbers x d) e false ≡ false
+      → ((e : ℕ) → e < descriptorCount → readSettles true false (standingAt x e) ≡ false)
+      → (e : ℕ) → e < descriptorCount → getD (chosenByRead filenumbers x d) e false ≡ false
   unfolding chosenByRead settlesForRead
   read-chooses-none own none e h =
       getD-tabulate (settlesForRead filenumbers x d) 16 e false h
@@ -92,7 +94,7 @@ module _ (filenumbers : List ℕ) (x : Transaction) (d : ℕ) where
   abbrev pub waitingOf : ℕ → Bool
   waitingOf e = readSettles (eqb (getD filenumbers e 0) (getD filenumbers d 0)) false (standingAt x e)
 
-  pub chosen-with-own : d < 16 → readSettles false true (standingAt x d) ≡ true
+  pub chosen-with-own : d < descriptorCount → readSettles false true (standingAt x d) ≡ true
       → set (tabulate waitingOf 16) d true ≡ chosenByRead filenumbers x d
   unfolding chosenByRead settlesForRead
   chosen-with-own h own =
@@ -109,7 +111,7 @@ module _ (filenumbers : List ℕ) (x : Transaction) (d : ℕ) where
 
 -- A GetFilePointer on d settles none.
 pub pointer-chooses-none : (x : Transaction) (d : ℕ) → pointerSettles (standingAt x d) ≡ false
-    → (e : ℕ) → e < 16 → getD (chosenByPointer x d) e false ≡ false
+    → (e : ℕ) → e < descriptorCount → getD (chosenByPointer x d) e false ≡ false
 unfolding chosenByPointer settlesForPointer
 pointer-chooses-none x d none e h =
     getD-tabulate (settlesForPointer x d) 16 e false h ∙ ap (λ (b : Bool). eqb e d && b) none ∙ and-false (eqb e d)
@@ -153,17 +155,17 @@ module _ (chosen : List Bool) (offsets : List ℕ) (x : Transaction) where
   unfolding settlesWithin
   within-preserved n e = rw e
 
-  pub within-settled : (n : ℕ) → getD offsets n 0 + advance (standingAt x n) ≤ 4096 → settlesWithin chosen offsets x n ≡ true
+  pub within-settled : (n : ℕ) → getD offsets n 0 + advance (standingAt x n) ≤ fileBytes → settlesWithin chosen offsets x n ≡ true
   unfolding settlesWithin
-  within-settled n h = rw (le-leb (getD offsets n 0 + advance (standingAt x n)) 4096 h) (or-true (not (getD chosen n false)))
+  within-settled n h = rw (le-leb (getD offsets n 0 + advance (standingAt x n)) fileBytes h) (or-true (not (getD chosen n false)))
 
-  pub within-past : (n : ℕ) → getD chosen n false ≡ true → 4096 < getD offsets n 0 + advance (standingAt x n)
+  pub within-past : (n : ℕ) → getD chosen n false ≡ true → fileBytes < getD offsets n 0 + advance (standingAt x n)
       → settlesWithin chosen offsets x n ≡ false
   unfolding settlesWithin
-  within-past n e h = rw (e, lt-leb (getD offsets n 0 + advance (standingAt x n)) 4096 h)
+  within-past n e h = rw (e, lt-leb (getD offsets n 0 + advance (standingAt x n)) fileBytes h)
 
   -- Where nothing is chosen, nothing changes.
-  pub settling-none : ((e : ℕ) → e < 16 → getD chosen e false ≡ false) → length (x .descriptors) ≡ 16
+  pub settling-none : ((e : ℕ) → e < descriptorCount → getD chosen e false ≡ false) → length (x .descriptors) ≡ 16
       → settlingOf chosen offsets x ≡ record { verdict = Settled; transaction = x }
   unfolding settlingOf allWithin settledTransaction settledDescriptor
   settling-none none l =

@@ -8,6 +8,7 @@ use lib.Dec.{eqb}
 use lib.ListN.{length, getD, List·getD-eq-default}
 use native.Mathlib.Omega.{arith}
 use Prim.Native.Nat.{ℕ, _≤_, _<_}
+use Rattle.limits.specs.Limits.{descriptorCount}
 use Rattle.buffers.proofs.PartLaws.{le-or-lt}
 use Rattle.buffers.specs.Parts.{tabulate}
 use Rattle.buffers.proofs.TableLaws.{length-tabulate, getD-tabulate}
@@ -49,7 +50,7 @@ module _ (s : StoreMeaning) (journal files logs : List ℕ) (t : ℕ) where
       (table-choice p 16 none)
 
   -- GetFilePointer on d.
-  pub settling-pointer : (d : ℕ) → d < 16
+  pub settling-pointer : (d : ℕ) → d < descriptorCount
       → result (values s files) (settling (cond (pointerSettles (txnOf s journal logs t .standing d)) (d ∷ []) [])
       (txnOf s journal logs t))
       ≡ cond (allWithin (chosenByPointer (transaction s t) d) (s .offsets) (transaction s t))
@@ -61,7 +62,7 @@ module _ (s : StoreMeaning) (journal files logs : List ℕ) (t : ℕ) where
       ∙ settling-chosen (λ e. eqb e d && b) (λ e g. let ne : e ≡ d → ⊥ = λ q. omega arith in rw (ne-eqb e d ne))
 
   -- A Read through d.
-  pub settling-read : (d : ℕ) → d < 16 → length (transaction s t .descriptors) ≡ 16
+  pub settling-read : (d : ℕ) → d < descriptorCount → length (transaction s t .descriptors) ≡ 16
       → result (values s files) (settling (settledByRead (fileOf s) d (txnOf s journal logs t)) (txnOf s journal logs t))
       ≡ cond (allWithin (chosenByRead (s .filenumbers) (transaction s t) d) (s .offsets) (transaction s t))
       (all (settledTxn s journal logs t (chosenByRead (s .filenumbers) (transaction s t) d))) past

@@ -7,6 +7,7 @@ use lib.Dec.{leb}
 use lib.ListN.{length, getD}
 use lib.Seq.{set-getD}
 use Prim.Native.Nat.{ℕ, _+_, _<_}
+use Rattle.limits.specs.Limits.{fileBytes, descriptorCount}
 use Rattle.buffers.specs.Parts.{tabulate}
 use Rattle.buffers.proofs.TableLaws.{getD-tabulate, table-same}
 use Rattle.standings.specs.declared.Standing.{Standing}
@@ -32,9 +33,9 @@ use Rattle.read_settle.proofs.ChoiceLaws.{settling-none, verdict-settle
 use Rattle.read_settle.proofs.RecordLaws.{placed-preserved}
 
 -- A descriptor in range stays so, settled or left.
-chosen-in : (b : Bool) (c : ℕ) (z : Standing) → standingIn z ≡ true → not b || leb (c + advance z) 4096 ≡ true
+chosen-in : (b : Bool) (c : ℕ) (z : Standing) → standingIn z ≡ true → not b || leb (c + advance z) fileBytes ≡ true
     → standingIn (cond b (settled c z) z) ≡ true
-chosen-in true c z e h = settled-in c z (leb-true (c + advance z) 4096 h) e
+chosen-in true c z e h = settled-in c z (leb-true (c + advance z) fileBytes h) e
 chosen-in false c z e h = e
 
 module _ (chosen : List Bool) (t : ℕ) (before : List ℕ) (ready : Placeable before t (transactionOf before t .used .records)) where
@@ -49,7 +50,7 @@ module _ (chosen : List Bool) (t : ℕ) (before : List ℕ) (ready : Placeable b
   own-again = rw (sym (transaction-of before t (ready .small)), set-getD (storeOf before .transactions) t noTransaction)
 
   -- None was chosen.
-  pub none-settled : ((e : ℕ) → e < 16 → getD chosen e false ≡ false) → SettledIn chosen t x before before Settled
+  pub none-settled : ((e : ℕ) → e < descriptorCount → getD chosen e false ≡ false) → SettledIn chosen t x before before Settled
   none-settled none =
       let e = settling-none chosen offsets x none (sixteen-descriptors before t) in
       let settled : settlingOf chosen offsets x .verdict ≡ Settled = ap (λ (r : Settling). r .verdict) e in
@@ -85,7 +86,7 @@ module _ (chosen : List Bool) (t : ℕ) (before : List ℕ) (ready : Placeable b
       abbrev then : ℕ → Descriptor
       then e = getD (r .transaction .descriptors) e noDescriptor
 
-      then-is : (e : ℕ) → e < 16 → then e ≡ settledDescriptor chosen offsets x e
+      then-is : (e : ℕ) → e < descriptorCount → then e ≡ settledDescriptor chosen offsets x e
       unfolding settledTransaction
       then-is e h =
           ap (λ (y : Transaction). getD (y .descriptors) e noDescriptor)
@@ -93,7 +94,7 @@ module _ (chosen : List Bool) (t : ℕ) (before : List ℕ) (ready : Placeable b
           ∙ getD-tabulate (settledDescriptor chosen offsets x) 16 e noDescriptor h
 
       -- What is put has room in the record: settled, by its test against 4,096; left, by check 2.
-      pub settled-fits : (e : ℕ) → e < 16 → standingFits (then e .standing)
+      pub settled-fits : (e : ℕ) → e < descriptorCount → standingFits (then e .standing)
       unfolding settledDescriptor allWithin settlesWithin
       settled-fits e h =
           standing-fits (then e .standing)
@@ -107,7 +108,7 @@ module _ (chosen : List Bool) (t : ℕ) (before : List ℕ) (ready : Placeable b
         own-placed = ap (λ (s : StoreMeaning). transaction s t) (p .store) ∙ transaction-of before t (ready .small)
 
         -- One that is not chosen is as it was.
-        not-chosen : (e : ℕ) → e < 16 → getD chosen e false ≡ false → then e ≡ descriptorOf placed t e
+        not-chosen : (e : ℕ) → e < descriptorCount → getD chosen e false ≡ false → then e ≡ descriptorOf placed t e
         unfolding settledDescriptor
         not-chosen e h q =
             then-is e h

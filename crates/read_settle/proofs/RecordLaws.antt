@@ -4,6 +4,7 @@ use mathlib.Core.List.{List}
 use mathlib.Core.Path.{_≡_, refl, sym, ap, ap₂, _∙_}
 use lib.ListN.{length, getD}
 use Prim.Native.Nat.{ℕ, _+_, _<_}
+use Rattle.limits.specs.Limits.{descriptorCount, recordCount}
 use Rattle.standings.specs.declared.Place.{Place}
 use Rattle.standings.specs.declared.Place.the-variants.{At, After}
 use Rattle.state.specs.declared.StoreMeaning.{StoreMeaning}
@@ -48,8 +49,8 @@ module _ (chosen : List Bool) (t : ℕ) (before : List ℕ) (long : length befor
   placed-none = record { journal = sym (with-none (journalOf before) t _); store = refl; long = long }
 
   -- Where nothing is chosen, nothing changes.
-  pub placed-preserved : (n : ℕ) → ((k : ℕ) → k < n → writeRecordAt (journalOf before) t k .descriptor < 16)
-      → ((e : ℕ) → e < 16 → getD chosen e false ≡ false)
+  pub placed-preserved : (n : ℕ) → ((k : ℕ) → k < n → writeRecordAt (journalOf before) t k .descriptor < descriptorCount)
+      → ((e : ℕ) → e < descriptorCount → getD chosen e false ≡ false)
       → PlacedIn chosen t n before before
   unfolding placedRecords
   placed-preserved n low none =
@@ -70,7 +71,7 @@ module _ (chosen : List Bool) (t k : ℕ) (before now : List ℕ) (placed : Plac
   pub offset-preserved : (d : ℕ) → getD (storeOf now .offsets) d 0 ≡ getD (storeOf before .offsets) d 0
   offset-preserved d = ap (λ (s : StoreMeaning). getD (s .offsets) d 0) (placed .store)
 
-  module _ (small : t < 9) (few : k < 64) where
+  module _ (small : t < 9) (few : k < recordCount) where
     -- The next record is not changed yet.
     pub next-record : writeRecordAt (journalOf now) t k ≡ writeRecordAt (journalOf before) t k
     unfolding placedRecords

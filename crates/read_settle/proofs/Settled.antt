@@ -7,6 +7,7 @@ use lib.Dec.{eqb}
 use lib.ListN.{length, getD, set}
 use native.Mathlib.Omega.{arith}
 use Prim.Native.Nat.{ℕ, _+_, _*_, _≤_, _<_}
+use Rattle.limits.specs.Limits.{fileBytes, descriptorCount, logBytes}
 use Rattle.buffers.specs.Parts.{cut, tabulate}
 use Rattle.buffers.proofs.TableLaws.{length-tabulate, getD-tabulate}
 use Rattle.standings.specs.declared.Standing.{Standing}
@@ -35,13 +36,13 @@ use Rattle.read_settle.specs.Records.{recordAfter, placedRecords, Placea
 -- ---- what check 2 says of the write records
 
 module _ (s : StoreMeaning) (journal logs : List ℕ) (t : ℕ) (o : Opened s journal logs t) where
-  pub low-descriptor : (k : ℕ) → k < transaction s t .used .records → writeRecordAt journal t k .descriptor < 16
+  pub low-descriptor : (k : ℕ) → k < transaction s t .used .records → writeRecordAt journal t k .descriptor < descriptorCount
   low-descriptor k h =
       omega (arith, record-in (transaction s t) (writeRecordAt journal t k) (o .ranges .writes k h) .descriptor)
 
 module _ (preserved logs : List ℕ) (t : ℕ) (o : Opened (storeOf preserved) (journalOf preserved) logs t) where
   pub placeable : (n : ℕ) → n ≡ transaction (storeOf preserved) t .used .records → length preserved ≡ stateLength
-      → ((e : ℕ) → e < 16 → getD (storeOf preserved .offsets) e 0 ≤ 4096) → Placeable preserved t n
+      → ((e : ℕ) → e < descriptorCount → getD (storeOf preserved .offsets) e 0 ≤ fileBytes) → Placeable preserved t n
   placeable n e long low =
       record {
         long = long;
@@ -118,7 +119,7 @@ module _ (s : StoreMeaning) (journal logs : List ℕ) (t : ℕ) (o : Opened s jo
 
   -- A meaning with these writes, whatever its descriptors, that sighted these items.
   put-back : (is : List Item) (f : ℕ → Standing) (g : ℕ → Bool) (l : List Descriptor)
-      → tabulate (λ d. record { standing = f d; dirty = g d }) 16 ≡ l
+      → tabulate (λ d. record { standing = f d; dirty = g d }) descriptorCount ≡ l
       → withTxn t (withDirty g (withStandings f (settledTxn s journal logs t chosen))) is s
       ≡ withTransaction t (withDescriptors l (sightingLengths is (transaction s t))) s
   unfolding withTxn holding sightingLengths
@@ -135,7 +136,7 @@ module _ (s : StoreMeaning) (journal logs : List ℕ) (t : ℕ) (o : Opened s jo
       (withDescriptors (tabulate (settledDescriptor chosen (s .offsets) (transaction s t)) 16) x) s) none
 
   -- The standing of a descriptor afterwards.
-  pub standing-settled : (d : ℕ) → d < 16
+  pub standing-settled : (d : ℕ) → d < descriptorCount
       → standingAt (settledTransaction chosen (s .offsets) (transaction s t)) d ≡ settledTxn s journal logs t chosen .standing d
   unfolding settleAll txnOf settledTransaction settledDescriptor
   standing-settled d h =
@@ -143,7 +144,7 @@ module _ (s : StoreMeaning) (journal logs : List ℕ) (t : ℕ) (o : Opened s jo
       noDescriptor h)
 
   -- The chosen descriptors settled, and then one descriptor stands otherwise and is dirty.
-  pub txn-settled-dirtied : (is : List Item) (d : ℕ) (z : Standing) → d < 16
+  pub txn-settled-dirtied : (is : List Item) (d : ℕ) (z : Standing) → d < descriptorCount
       → withTxn t (dirtied d z (settledTxn s journal logs t chosen)) is s
       ≡ withTransaction t
       (withDescriptors (set (settledTransaction chosen (s .offsets) (transaction s t) .descriptors) d
@@ -170,11 +171,11 @@ module _ (s : StoreMeaning) (journal logs : List ℕ) (t : ℕ) (o : Opened s jo
       (low-descriptor s journal logs t o k h)
 
   pub descriptor-settled : (k : ℕ) → k < transaction s t .used .records
-      → writeRecordAt (settledJournal s journal t chosen) t k .descriptor < 16
+      → writeRecordAt (settledJournal s journal t chosen) t k .descriptor < descriptorCount
   descriptor-settled k h = rw (record-settled k h) (preserved (low-descriptor s journal logs t o k h))
     where
-      preserved : writeRecordAt journal t k .descriptor < 16
-          → recordAfter chosen (s .offsets) (writeRecordAt journal t k) .descriptor < 16
+      preserved : writeRecordAt journal t k .descriptor < descriptorCount
+          → recordAfter chosen (s .offsets) (writeRecordAt journal t k) .descriptor < descriptorCount
       preserved l = unfold recordAfter in l
 
   -- Placing moves no data.
@@ -192,7 +193,7 @@ module _ (s : StoreMeaning) (journal logs : List ℕ) (t : ℕ) (o : Opened s jo
   unfolding writeAt thenAt placeAll dataStart
   write-settled k h =
       rw (record-settled k h, data-settled k (omega arith))
-      (placed (writeRecordAt journal t k) (4096 * t + lengthsBefore journal t k))
+      (placed (writeRecordAt journal t k) (logBytes * t + lengthsBefore journal t k))
     where
       placed : (w : WriteRecord) (n : ℕ)
           → record {

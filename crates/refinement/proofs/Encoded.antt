@@ -27,7 +27,7 @@ tabulate-descriptors x e =
     ap (λ (n : ℕ). tabulate (λ d. getD (x .descriptors) d noDescriptor) n) (sym e) ∙ tabulate-getD (x .descriptors) noDescriptor
 
 put-descriptor : (x : Transaction) (d : ℕ) (z : Standing) → d < descriptorCount → length (x .descriptors) ≡ descriptorCount
-    → tabulate (λ e. record { standing = put d z (standingAt x) e; dirty = put d true (dirtyAt x) e }) 16
+    → tabulate (λ e. record { standing = put d z (standingAt x) e; dirty = put d true (dirtyAt x) e }) descriptorCount
     ≡ set (x .descriptors) d (record { standing = z; dirty = true })
 put-descriptor x d z h e = unfold put in let q : Descriptor = record { standing = z; dirty = true } in
     tabulate-set (descriptorAt x)

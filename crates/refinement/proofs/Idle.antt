@@ -2,18 +2,19 @@
 use mathlib.Core.{Bool.true, Path.{ap, _∙_, subst⁻¹}}
 use lib.ListN.{length}
 use native.Mathlib.Omega.{arith}
+use Rattle.state.specs.Journal.{journalLength}
 use Rattle.buffers.proofs.TableLaws.{length-tabulate}
 use Rattle.state.specs.Layout.{journalOf}
 use Rattle.admission.proofs.Laws.{admitted-dispatch}
 use Rattle.spec.{specs.{Machine.{Machine, sizes}, Age.{Resting, CommittedDecides}}, proofs.Refinement.Relation.Shaped}
-use Rattle.spec.proofs.Theorems.Age.{Idle, idle-alike}
+use Rattle.spec.proofs.Theorems.Age.{IdleMachine, idle-alike}
 use Rattle.refinement.proofs.Shapes.{shaped}
 
-pub resting-idle : (m : Machine) → Resting m → Idle m
+pub resting-idle : (m : Machine) → Resting m → IdleMachine m
 resting-idle m r = let a = admitted-dispatch (sizes m) (m .store) (m .journal) true (r .passes) in record {
   sound = record {
     shaped = subst⁻¹ (λ (n : Machine). Shaped (n .store)) (r .meant) (shaped (r .state));
-    journal = ap (λ (n : Machine). length (n .journal)) (r .meant) ∙ (unfold journalOf in length-tabulate _ 1728);
+    journal = ap (λ (n : Machine). length (n .journal)) (r .meant) ∙ (unfold journalOf in length-tabulate _ journalLength);
     files = a .lengths .files;
     logs = a .lengths .logs;
     marks = a .lengths .marks;

@@ -5,6 +5,7 @@ use borrow.Author.Tests.{eqb-true, eqb-false, eq-eqb, ne-eqb, lt-ltb, le-ltb}
 use lib.Dec.{leb, ltb, eqb}
 use native.Mathlib.Omega.{arith}
 use Prim.Native.Nat.{ℕ, zero, suc, _+_, _≤_, _<_}
+use Rattle.limits.specs.Limits.{fileBytes}
 use Rattle.standings.specs.{declared.{Standing.Standing, Place.Place}, Table.{advance, settled}}
 use Rattle.buffers.proofs.PartLaws.{le-or-lt}
 use Rattle.admission.specs.FirstRefusal.{below}
@@ -26,7 +27,7 @@ module _ (v : Values) where
   unfolding settling result onward
   result-append [] es x = refl
   result-append (d ∷ ds) es x =
-      pick (result-append ds es (settle d (v (offset d)) x)) (leb (v (offset d) + advance (x .standing d)) 4096)
+      pick (result-append ds es (settle d (v (offset d)) x)) (leb (v (offset d) + advance (x .standing d)) fileBytes)
     where
       next : Txn
       next = settle d (v (offset d)) x
@@ -43,7 +44,7 @@ module _ (v : Values) where
   unfolding settling asked marked
   marked-settling t [] x is marks = refl
   marked-settling t (d ∷ ds) x is marks =
-      pick (marked-settling t ds (settle d (v (offset d)) x) is marks) (leb (v (offset d) + advance (x .standing d)) 4096)
+      pick (marked-settling t ds (settle d (v (offset d)) x) is marks) (leb (v (offset d) + advance (x .standing d)) fileBytes)
     where
       next : Txn
       next = settle d (v (offset d)) x
@@ -59,7 +60,7 @@ module _ (v : Values) where
   unfolding settling asked lengthmarked
   lengths-settling [] x is n = refl
   lengths-settling (d ∷ ds) x is n =
-      pick (lengths-settling ds (settle d (v (offset d)) x) is n) (leb (v (offset d) + advance (x .standing d)) 4096)
+      pick (lengths-settling ds (settle d (v (offset d)) x) is n) (leb (v (offset d) + advance (x .standing d)) fileBytes)
     where
       next : Txn
       next = settle d (v (offset d)) x
@@ -154,7 +155,7 @@ module _ (v : Values) (p : ℕ → Bool) (x : Txn) where
 
   -- 12: "settling .. takes committed offset plus advance above 4,096". Descriptor e passes, if it is settled.
   abbrev pub fitsAt : ℕ → Bool
-  fitsAt e = not (p e) || leb (v (offset e) + advance (x .standing e)) 4096
+  fitsAt e = not (p e) || leb (v (offset e) + advance (x .standing e)) fileBytes
 
   standing-preserved : (n : ℕ) → settleAll (first p n) offsets x .standing n ≡ x .standing n
   standing-preserved n = unfold settleAll in rw (first-self p n)
@@ -170,8 +171,8 @@ module _ (v : Values) (p : ℕ → Bool) (x : Txn) where
       expected false q = refl
 
       pick : (b : Bool) → p n ≡ b → result v (settling (cond b (n ∷ []) []) (settleAll (first p n) offsets x)) ≡ cond
-          (not b || leb (v (offset n) + advance (x .standing n)) 4096) (all (settleAll (first p (suc n)) offsets x)) past
-      pick true q = rw (standing-preserved n) (expected (leb (v (offset n) + advance (x .standing n)) 4096) q)
+          (not b || leb (v (offset n) + advance (x .standing n)) fileBytes) (all (settleAll (first p (suc n)) offsets x)) past
+      pick true q = rw (standing-preserved n) (expected (leb (v (offset n) + advance (x .standing n)) fileBytes) q)
       pick false q = ap (λ (f : ℕ → Bool). all (settleAll f offsets x)) (first-skip p n q)
 
   none-yet : settleAll (first p 0) offsets x ≡ x

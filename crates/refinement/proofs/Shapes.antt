@@ -34,6 +34,6 @@ module _ (s : StoreMeaning) (t : ℕ) (x : Transaction) where
   pub put-read : t < length (s .transactions) → transaction (withTransaction t x s) t ≡ x
   put-read h = unfold withTransaction in getD-set-same (s .transactions) t x noTransaction h
 
-  pub put-twice : (f : Transaction → Transaction) → t < length (s .transactions)
+  pub shape-put-twice : (f : Transaction → Transaction) → t < length (s .transactions)
       → withTransaction t (f (transaction (withTransaction t x s) t)) (withTransaction t x s) ≡ withTransaction t (f x) s
-  put-twice f h = unfold withTransaction in rw (put-read h, set-set (s .transactions) t x (f x))
+  shape-put-twice f h = unfold withTransaction in rw (put-read h, set-set (s .transactions) t x (f x))

@@ -125,8 +125,8 @@ module _ (t : ℕ) (o : Op) (m : Machine) (passes : admission (sizes m) (m .stor
   on-turn = passing-on (admission (sizes m) (m .store) (m .journal) t) (bufferOf o) m (stepTurn t o m) passes
 
   -- A read call of a stale transaction.
-  pub on-turned-back : refusesStale stale o ≡ true → call (on t o) m ≡ refuseTurn 18 (bufferOf o) m
-  on-turned-back e = unfold refusedStale served in let v = values (m .store) (m .files) in
+  pub on-refused-stale : refusesStale stale o ≡ true → call (on t o) m ≡ refuseTurn 18 (bufferOf o) m
+  on-refused-stale e = unfold refusedStale served in let v = values (m .store) (m .files) in
       on-turn ∙ ap (λ (b : Bool). served t o m (asked v program) (cond b (refuse 18) (result v program))) e
 
   -- One that is not refused with 18.

@@ -29,9 +29,9 @@ both true b e = (refl, e)
 both false b e = absurd (false≢true e)
 
 -- what is written leaves the state
-pub kept-flushed : (p r : ReplayProgress) (m : Machine) (out : List ℕ) → Flushed p r → replayStateIn r m out
+pub preserved-flushed : (p r : ReplayProgress) (m : Machine) (out : List ℕ) → Flushed p r → replayStateIn r m out
     ≡ replayStateIn p m out
-kept-flushed p r m out f =
+preserved-flushed p r m out f =
     ap₂ (λ (x : List ℕ) (y : ℕ). keeping x y (r .differing) (r .ended))
     (ap₂ (λ (i k : ℕ). cut out i (k - i)) (f .starts) (f .ends)) (f .malformed)
     ∙ ap₂ (λ (x : ℕ) (y : Bool). keeping (cut out (p .from) (p .end - p .from)) (p .malformed) x y) (f .differing) (f .ended)
@@ -43,12 +43,12 @@ kept-flushed p r m out f =
 pub answered-flushed : (ls : List (List ℕ)) (k : ReplayState) (q p : ReplayProgress) (m : Machine) (out text : List ℕ)
     → Flushed q p
     → Answered replaying ls k [] (replayStateIn q m out) text → Answered replaying ls k [] (replayStateIn p m out) text
-answered-flushed ls k q p m out text f a = record { says = a .says; keeps = kept-flushed q p m out f ∙ a .keeps }
+answered-flushed ls k q p m out text f a = record { says = a .says; keeps = preserved-flushed q p m out f ∙ a .keeps }
 
-pub rests : (q p : ReplayProgress) → Flushed q p → q .held ≤ 8238 → AnswerIn q → PiecesResting p
+pub rests : (q p : ReplayProgress) → Flushed q p → q .pending ≤ 8238 → AnswerIn q → PiecesResting p
 rests q p f h a =
     record {
-      held = omega (arith, f .held, h);
+      pending = omega (arith, f .pending, h);
       waiting = f .waiting;
       answer = record { starts = omega (arith, f .starts, f .ends, a .starts); ends = omega (arith, f .ends, a .ends) };
     }
@@ -56,13 +56,14 @@ rests q p f h a =
 -- ---- the end of a run
 
 -- at the end of the input
-pub input-ends : (k : ReplayState) (held rest text : List ℕ) (k′ : ReplayState) → rest ≡ []
-    → Answered replaying (lastLine held) k [] k′ text
-    → RunEnds (within k held rest) k′
-input-ends k held rest text k′ e a =
-    record { text = text; answered = rw (end-of replaying k held rest e) a }
+pub input-ends : (k : ReplayState) (pending rest text : List ℕ) (k′ : ReplayState) → rest ≡ []
+    → Answered replaying (lastLine pending) k [] k′ text
+    → RunEnds (within k pending rest) k′
+input-ends k pending rest text k′ e a =
+    record { text = text; answered = rw (end-of replaying k pending rest e) a }
 
 -- after another version
-pub version-ends : (u : Under ReplayState) (k : ReplayState) (held : List ℕ) → atEnd replaying u ≡ within k held [] → k .ended
+pub version-ends : (u : Under ReplayState) (k : ReplayState) (pending : List ℕ) → atEnd replaying u ≡ within k pending []
+    → k .ended
     ≡ true → RunEnds u k
-version-ends u k held e go = record { text = []; answered = rw e (ended-answered (lastLine held) k go) }
+version-ends u k pending e go = record { text = []; answered = rw e (ended-answered (lastLine pending) k go) }

@@ -13,11 +13,11 @@ pub replay-whole-run : ReplayWholeRun
 replay-whole-run = whole-run replaying log-truncated-is-enough
 
 -- the end of a run that pieces of input led to
-pub ran-to-end : (k₀ k : ReplayState) (held piece : List ℕ) (k′ : ReplayState) → PiecesReach replaying k₀ (within k held [])
-    → RunEnds (within k held piece) k′
+pub ran-to-end : (k₀ k : ReplayState) (pending piece : List ℕ) (k′ : ReplayState) → PiecesReach replaying k₀ (within k pending [])
+    → RunEnds (within k pending piece) k′
     → LinesLead replaying k₀ k′
 unfolding atEnd
-ran-to-end k₀ k held piece k′ r e =
-    let u = within k held piece in
-    ran replaying log-truncated-is-enough k₀ (atEnd replaying u .kept) (atEnd replaying u .held) (e .text) k′
-    (reached-more replaying k₀ k held piece _ r refl) (e .answered)
+ran-to-end k₀ k pending piece k′ r e =
+    let u = within k pending piece in
+    ran replaying log-truncated-is-enough k₀ (atEnd replaying u .state) (atEnd replaying u .pending) (e .text) k′
+    (reached-more replaying k₀ k pending piece _ r refl) (e .answered)

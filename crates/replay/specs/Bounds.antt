@@ -4,7 +4,7 @@ use Rattle.text_replay.specs.declared.answering.ReplayProgress.{ReplayProgress}
 
 -- After output was written: none is pending, and what a line needs stays.
 pub record Flushed (p r : ReplayProgress) : Type 0 where
-  pub held : r .held ≡ p .held
+  pub pending : r .pending ≡ p .pending
   pub at : r .at ≡ p .at
   pub waiting : r .waiting ≡ 0
   pub starts : r .from ≡ p .from

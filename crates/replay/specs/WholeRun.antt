@@ -4,7 +4,7 @@
 -- no contract says.
 use mathlib.Core.List.{List, []}
 use Prim.Native.Nat.{ℕ}
-use Rattle.text_log.specs.Replay.{ReplayState, replaying, keptFirst}
+use Rattle.text_log.specs.Replay.{ReplayState, replaying, firstState}
 use Rattle.text_lines.specs.Lines.{lastLine}
 use Rattle.text_lines.specs.Programs.{Under, Answered, atEnd}
 use Rattle.text_lines.specs.WholeRun.{PiecesReach, WholeRun}
@@ -14,13 +14,14 @@ use Rattle.spec.specs.Machine.{Machine}
 -- this of what it is handed.
 pub record ReachedFrom (u : Under ReplayState) : Type 0 where
   pub machine : Machine
-  pub reached : PiecesReach replaying (keptFirst machine) u
+  pub reached : PiecesReach replaying (firstState machine) u
 
 -- The run ends with the piece that u is in: k is the replay's state after the line that the end of the input
 -- ends. After another version nothing comes of that line.
 pub record RunEnds (u : Under ReplayState) (k : ReplayState) : Type 0 where
   pub text : List ℕ
-  pub answered : Answered replaying (lastLine (atEnd replaying u .held)) (atEnd replaying u .kept) [] k text
+  pub answered : Answered replaying (lastLine (atEnd replaying u .pending))
+      (atEnd replaying u .state) [] k text
 
 -- Proved in proofs/WholeRun.antt: what is handed over to be written is the text of the lines of the input,
 -- however it was cut, from any state and buffers; and the counts of differences and of lines of another form

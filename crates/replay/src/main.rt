@@ -16,7 +16,7 @@ use text_replay::answering::OUTPUT;
 use text_replay::answering::ReplayProgress;
 use text_replay::answering::UndoLog;
 use text_replay::answering::WRITTEN;
-use text_replay_pieces::last_line;
+use text_replay_pieces::replay_last_line;
 use text_replay_pieces::replay_piece;
 use text_stdio::lines_more;
 use text_stdio::read_piece;
@@ -26,7 +26,7 @@ ghost use mathlib.Core.Bool.{true, false};
 ghost use mathlib.Core.List.{[]};
 ghost use Prim.Native.Nat.{ℕ, _≤_, _<_};
 ghost use lib.ListN.{length, take};
-ghost use Rattle.text_log.specs.Replay.{replaying, keptFirst};
+ghost use Rattle.text_log.specs.Replay.{replaying, firstState};
 ghost use Rattle.text_lines.specs.Programs.{atEnd, within};
 ghost use Rattle.text_lines.specs.WholeRun.{LinesLead};
 ghost use Rattle.text_replay.specs.Bounds.{Rooms};
@@ -70,9 +70,9 @@ fn take_piece(
     requires { ⌜ PiecesResting p × ((length (now line) ≡ 8238) × Rooms (now bytes) (now reader) (now out)) ⌝ }
     ensures { λ r. ⌜ PiecesResting r × (r .goes ≡ true
         → atEnd replaying (within (replayStateIn p (handed state files logs marks undo) (now (out .entry)))
-        (take (p .held) (now (line .entry))) (now (piece .entry)))
+        (take (p .pending) (now (line .entry))) (now (piece .entry)))
         ≡ within (replayStateIn r (handedBack state files logs marks undo) (now (out .exit)))
-        (take (r .held) (now (line .exit))) []) ⌝ }
+        (take (r .pending) (now (line .exit))) []) ⌝ }
 {
     p.at = 0;
     while p.at < piece.len() {
@@ -115,15 +115,15 @@ fn turn(
     requires { ⌜ PiecesResting p × ((length (now line) ≡ 8238) × (Rooms (now bytes) (now reader) (now out)
         × ReachedFrom (within (replayStateIn p (machineOf (now state) (now files) (now logs) (now marks)
         (now undo)) (now out))
-        (take (p .held) (now line)) []))) ⌝ }
+        (take (p .pending) (now line)) []))) ⌝ }
     ensures { λ r. ⌜ PiecesResting r × (r .goes ≡ true → (n : ℕ)
         × (atEnd replaying (within (replayStateIn p (handed state files logs marks undo) (now (out .entry)))
-        (take (p .held) (now (line .entry))) (take n (now (input .exit))))
+        (take (p .pending) (now (line .entry))) (take n (now (input .exit))))
         ≡ within (replayStateIn r (handedBack state files logs marks undo) (now (out .exit)))
-        (take (r .held) (now (line .exit))) []))
+        (take (r .pending) (now (line .exit))) []))
         × (r .complete ≡ true → (n : ℕ)
         × RunEnds (within (replayStateIn p (handed state files logs marks undo) (now (out .entry)))
-        (take (p .held) (now (line .entry))) (take n (now (input .exit))))
+        (take (p .pending) (now (line .entry))) (take n (now (input .exit))))
         (replayStateIn r (handedBack state files logs marks undo) (now (out .exit)))) ⌝ }
 {
     p.complete = false;
@@ -150,7 +150,7 @@ fn turn(
         return q;
     }
     if got == 0 {
-        let q = last_line(p, state, files, logs, marks, undo, line, bytes, reader, out);
+        let q = replay_last_line(p, state, files, logs, marks, undo, line, bytes, reader, out);
         p = flush(q, out);
         p.complete = p.goes;
         p.goes = false;
@@ -204,11 +204,11 @@ fn run(
 ) -> ReplayProgress
     requires { ⌜ (length (now line) ≡ 8238) × Rooms (now bytes) (now reader) (now out) ⌝ }
     ensures { λ r. ⌜ (r .complete ≡ true → LinesLead replaying
-        (keptFirst (handed state files logs marks undo))
+        (firstState (handed state files logs marks undo))
         (replayStateIn r (handedBack state files logs marks undo) (now (out .exit)))) ⌝ }
 {
     let mut p = ReplayProgress {
-        held: 0,
+        pending: 0,
         at: 0,
         waiting: 0,
         from: 0,

@@ -48,7 +48,7 @@ pub record AllZero (m : Machine) : Type 0 where
   pub lengths : m .store .lengths ≡ replicate fileCount 0
   pub windows : (f : ℕ) → windowAt (m .store) f ≡ window 0 0
   pub closed : (t : ℕ) → transaction (m .store) t .begun ≡ false
-  pub nothingHeld : m .store .undo .valid ≡ false
+  pub nothingToUndo : m .store .undo .valid ≡ false
 
 pub record Buffers (m : Machine) : Type 0 where
   -- "A Write puts its bytes in its log directly after the data used. No other call touches a log byte."

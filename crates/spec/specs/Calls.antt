@@ -184,7 +184,11 @@ formerNumber t m = countOf (madeStale t (settingsOf m t) m) transactionCount
 -- new call changes only what its request says" [R-1.8]: nothing but the buffer for the list.
 unfoldable pub placesTurn : ℕ → ℕ → List ℕ → Machine → Turn
 placesTurn t f out m =
-    record { reply = placesOf (fileOf (m .store)) f out (txnOf (m .store) (m .journal) (m .logs) t); after = m }
+    record {
+      reply = placesOf (fileOf (m .store)) f out
+          (txnOf (m .store) (m .journal) (m .logs) t);
+      after = m;
+    }
 
 -- 02, F-11: "A call sets a window" [R-11.2], and changes nothing else.
 unfoldable pub windowTurn : ℕ → ℕ → ℕ → Machine → Turn

@@ -30,7 +30,7 @@ use Rattle.spec.specs.Calls.{freshStore, madeStale, afterCommit, setting
 use Rattle.spec.specs.LoneRuns.{Lone, lone}
 use Rattle.spec.specs.Setup.{Seen, Exchange, _gets_, commits, callsOf, Goes, formerNumbers, sighted}
 use Rattle.spec.specs.Setup.{beginning}
-use Rattle.spec.specs.Setup.{sightingsOf, gives, refusesWith, lists, begins, A, B, C, X, Y, Z, dot}
+use Rattle.spec.specs.Setup.{sightingsOf, gives, refusesWith, lists, threeBegun, A, B, C, X, Y, Z, dot}
 use Rattle.spec.specs.Situations.{expectedK, expectedL}
 
 -- Before the others, T7 commits two zeros at the front of file 0, and the offset 0 of descriptor 0.
@@ -47,7 +47,7 @@ twoZeros =
 -- by two of them.
 unfoldable pub expectedRefusedSettling : List Exchange
 expectedRefusedSettling =
-    begins
+    threeBegun
     ++ on 0 (seek 0 4096) gets says doneAnswer
     ∷ commits 0 gets says (granted 0)
     ∷ on 1 (write 0 (A ∷ [])) gets says doneAnswer
@@ -59,7 +59,7 @@ expectedRefusedSettling =
 -- reads through 0. "Moved becomes Known at its own offset." [R-4.1]
 unfoldable pub expectedMoved : List Exchange
 expectedMoved =
-    begins
+    threeBegun
     ++ on 0 (write 8 (A ∷ [])) gets says doneAnswer
     ∷ on 0 (seek 8 9) gets says doneAnswer
     ∷ on 0 (seek 0 0) gets says doneAnswer
@@ -72,7 +72,7 @@ expectedMoved =
 unfoldable pub expectedNeighbour : List Exchange
 expectedNeighbour =
     twoZeros
-    ++ begins
+    ++ threeBegun
     ++ on 0 (seek 0 0) gets says doneAnswer
     ∷ on 0 (read 0 1 (dot ∷ [])) gets gives 1 (0 ∷ [])
     ∷ []
@@ -80,7 +80,7 @@ expectedNeighbour =
 -- "0 bytes is a lawful result and settles all the same." [R-4.4]
 unfoldable pub expectedReadNone : List Exchange
 expectedReadNone =
-    begins
+    threeBegun
     ++ on 0 (read 0 0 []) gets gives 0 []
     ∷ []
 
@@ -103,7 +103,7 @@ readBeside = result (λ i. 0) (step (λ d. 0) (read 1 0 []) (mixed (Deferred 1) 
 -- Its Seeks, its Writes and its list of places go on.
 unfoldable pub expectedRefusedWhenStale : List Exchange
 expectedRefusedWhenStale =
-    begins
+    threeBegun
     ++ on 0 (getFilePointer 1) gets says (pointer 0)
     ∷ on 0 (write 0 (A ∷ [])) gets says doneAnswer
     ∷ on 0 (write 2 (A ∷ [])) gets says doneAnswer
@@ -133,7 +133,7 @@ expectedRefusedWhenStale =
 unfoldable pub expectedStaysOpen : List Exchange
 expectedStaysOpen =
     twoZeros
-    ++ begins
+    ++ threeBegun
     ++ on 0 (seek 0 0) gets says doneAnswer
     ∷ on 0 (read 0 1 (dot ∷ [])) gets gives 1 (0 ∷ [])
     ∷ on 1 (seek 8 0) gets says doneAnswer
@@ -149,7 +149,7 @@ expectedStaysOpen =
 -- Placed is never sighted.
 unfoldable pub expectedPlacedUnsighted : List Exchange
 expectedPlacedUnsighted =
-    begins
+    threeBegun
     ++ on 0 (seek 0 0) gets says doneAnswer
     ∷ on 0 (getFilePointer 0) gets says (pointer 0)
     ∷ on 1 (seek 0 5) gets says doneAnswer
@@ -159,7 +159,7 @@ expectedPlacedUnsighted =
 -- Descriptor 15, of file 7 as 7 is, is settled by a Read as any other.
 unfoldable pub expectedFifteen : List Exchange
 expectedFifteen =
-    begins
+    threeBegun
     ++ on 0 (write 15 (A ∷ [])) gets says doneAnswer
     ∷ on 0 (seek 7 0) gets says doneAnswer
     ∷ on 0 (read 7 1 (dot ∷ [])) gets gives 1 (A ∷ [])
@@ -170,7 +170,7 @@ expectedFifteen =
 unfoldable pub expectedInOrder : List Exchange
 expectedInOrder =
     twoZeros
-    ++ begins
+    ++ threeBegun
     ++ on 0 (write 0 []) gets says doneAnswer
     ∷ on 0 (write 8 []) gets says doneAnswer
     ∷ on 0 (read 8 2 (dot ∷ dot ∷ [])) gets gives 2 (0 ∷ 0 ∷ [])
@@ -180,7 +180,7 @@ expectedInOrder =
 unfoldable pub expectedKnownOnce : List Exchange
 expectedKnownOnce =
     twoZeros
-    ++ begins
+    ++ threeBegun
     ++ on 0 (read 0 1 (dot ∷ [])) gets gives 1 (0 ∷ [])
     ∷ on 0 (read 0 1 (dot ∷ [])) gets gives 1 (0 ∷ [])
     ∷ []
@@ -190,7 +190,7 @@ expectedKnownOnce =
 -- than the list, last" [R-16.1]: by one byte. "the rest of it is left" [R-15.2]
 unfoldable pub expectedPlaces : List Exchange
 expectedPlaces =
-    begins
+    threeBegun
     ++ on 0 (seek 0 9) gets says doneAnswer
     ∷ on 0 (write 0 (X ∷ [])) gets says doneAnswer
     ∷ on 0 (seek 8 7) gets says doneAnswer
@@ -208,7 +208,7 @@ expectedPlaces =
 -- before" [R-9.9]: 1, 2 and 7, and then 0 alone, as those three were stale before.
 unfoldable pub expectedOctet : List Exchange
 expectedOctet =
-    begins
+    threeBegun
     ++ begin 7 gets says doneAnswer
     ∷ on 1 (getFilePointer 0) gets says (pointer 0)
     ∷ on 2 (getFilePointer 0) gets says (pointer 0)
@@ -227,7 +227,7 @@ expectedOctet =
 -- whose setter is 0 as the length's was; entries of unlike kind differ.
 unfoldable pub expectedNothingGiven : List Exchange
 expectedNothingGiven =
-    begins
+    threeBegun
     ++ on 0 (seek 0 0) gets says doneAnswer
     ∷ on 0 (read 0 1 (dot ∷ [])) gets gives 0 (dot ∷ [])
     ∷ []
@@ -244,7 +244,7 @@ expectedNothingGivenStale =
 -- A Read that ends at an own write sights the length too.
 unfoldable pub expectedOwnEnd : List Exchange
 expectedOwnEnd =
-    begins
+    threeBegun
     ++ on 0 (seek 0 0) gets says doneAnswer
     ∷ on 0 (write 0 (A ∷ B ∷ [])) gets says doneAnswer
     ∷ on 0 (seek 0 0) gets says doneAnswer
@@ -255,7 +255,7 @@ expectedOwnEnd =
 unfoldable pub expectedFullRead : List Exchange
 expectedFullRead =
     twoZeros
-    ++ begins
+    ++ threeBegun
     ++ on 0 (seek 0 0) gets says doneAnswer
     ∷ on 0 (read 0 2 (dot ∷ dot ∷ [])) gets gives 2 (0 ∷ 0 ∷ [])
     ∷ on 1 (seek 8 2) gets says doneAnswer
@@ -266,7 +266,7 @@ expectedFullRead =
 -- A Read of 0 bytes wanted sights none either, wherever it starts.
 unfoldable pub expectedNoneWanted : List Exchange
 expectedNoneWanted =
-    begins
+    threeBegun
     ++ on 0 (seek 0 9) gets says doneAnswer
     ∷ on 0 (read 0 0 []) gets gives 0 []
     ∷ []
@@ -277,7 +277,7 @@ expectedNoneWanted =
 unfoldable pub expectedBeyond : List Exchange
 expectedBeyond =
     twoZeros
-    ++ begins
+    ++ threeBegun
     ++ on 0 (seek 0 1) gets says doneAnswer
     ∷ on 0 (read 0 2 (dot ∷ dot ∷ [])) gets gives 1 (0 ∷ dot ∷ [])
     ∷ on 0 (seek 0 4) gets says doneAnswer
@@ -294,7 +294,7 @@ ownWrite place bytes = record { descriptor = 0; place = place; bytes = bytes } �
 
 unfoldable pub expectedDeferredEnd : List Exchange
 expectedDeferredEnd =
-    begins
+    threeBegun
     ++ on 0 (write 0 (A ∷ B ∷ [])) gets says doneAnswer
     ∷ on 0 (seek 8 0) gets says doneAnswer
     ∷ on 0 (read 8 2 (dot ∷ dot ∷ [])) gets gives 2 (A ∷ B ∷ [])
@@ -303,7 +303,7 @@ expectedDeferredEnd =
 -- GetFilePointer settles its own descriptor alone: 8, of the same file, stays Deferred.
 unfoldable pub expectedPointerAlone : List Exchange
 expectedPointerAlone =
-    begins
+    threeBegun
     ++ on 0 (write 8 (A ∷ [])) gets says doneAnswer
     ∷ on 0 (getFilePointer 0) gets says (pointer 0)
     ∷ places 0 0 [] gets says (refused 15)
@@ -314,7 +314,7 @@ expectedPointerAlone =
 unfoldable pub expectedOtherLength : List Exchange
 expectedOtherLength =
     twoZeros
-    ++ begins
+    ++ threeBegun
     ++ on 0 (seek 1 0) gets says doneAnswer
     ∷ on 0 (read 1 1 (dot ∷ [])) gets gives 0 (dot ∷ [])
     ∷ []
@@ -324,7 +324,7 @@ expectedOtherLength =
 -- not, and T0 is stale.
 unfoldable pub expectedStopsAlone : List Exchange
 expectedStopsAlone =
-    begins
+    threeBegun
     ++ on 0 (write 0 (A ∷ [])) gets says doneAnswer
     ∷ on 0 (getFilePointer 0) gets says (pointer 1)
     ∷ on 1 (seek 0 4096) gets says doneAnswer

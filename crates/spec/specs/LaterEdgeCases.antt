@@ -23,7 +23,7 @@ use Rattle.spec.specs.Calls.{freshStore}
 use Rattle.spec.specs.Plain.{Plain, nothing, found, startPlain, plainReplies}
 use Rattle.spec.specs.Grants.{serialOf, rerun, sameReplies}
 use Rattle.spec.specs.Setup.{Seen, Exchange, _gets_, commits, callsOf, Goes, sighted}
-use Rattle.spec.specs.Setup.{sightingsOf, begins, A, B, C, X, Y, Z, dot}
+use Rattle.spec.specs.Setup.{sightingsOf, threeBegun, A, B, C, X, Y, Z, dot}
 
 -- "the serial order runs with Fresh's windows" [R-18.6], and each grant at its minute: file 0 is closed at
 -- the start, is opened, and T0 is granted; run again from the windows found it would be refused with 21.
@@ -35,8 +35,8 @@ openedThen = setWindow 0 0 0 ∷ begin 0 ∷ on 0 (write 0 (A ∷ [])) ∷ commi
 
 -- "serial order is then over the grants not taken back" [R-18.6]: a machine that starts with 7s to restore,
 -- and a list that undoes more than it granted.
-unfoldable pub heldAtStart : Plain
-heldAtStart = startPlain (λ d. 0) (λ i. 0) (λ f. window 0 0)
+unfoldable pub undoAtStart : Plain
+undoAtStart = startPlain (λ d. 0) (λ i. 0) (λ f. window 0 0)
     (found (record { value = λ i. 7; setter = λ i. 0 }) 0)
 
 unfoldable pub undoTwice : List Call
@@ -95,7 +95,7 @@ undoStateUndone = undone (withFiles (inFileOne (A ∷ C ∷ Z ∷ []))
 -- refused with 13 or 22 does.
 unfoldable pub expectedOnlyGrantsCount : List Exchange
 expectedOnlyGrantsCount =
-    begins
+    threeBegun
     ++ setWindow 7 0 0 gets says doneAnswer
     ∷ on 1 (getFilePointer 0) gets says (pointer 0)
     ∷ on 0 (seek 0 5) gets says doneAnswer
@@ -119,7 +119,7 @@ pub record LaterEdgeCases (x : Seen) : Type 0 where
       (map (λ g. g .minute) (s .grants) ≡ 5 ∷ [])
       × (plainReplies (rerun (s .grants)) (s .start) ≡ sameReplies (s .grants))
   pub startGoesBack :
-      let s = serialOf undoTwice heldAtStart in
+      let s = serialOf undoTwice undoAtStart in
       (length (s .grants) ≡ 1) × (s .start .committed .value (offset 0) ≡ 7)
       × (plainReplies (rerun (s .grants)) (s .start) ≡ sameReplies (s .grants))
   pub settersBack :

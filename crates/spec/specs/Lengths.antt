@@ -30,7 +30,7 @@ pub record LengthsHold (m : Machine) : Type 0 where
   -- [R-1.1]
   pub zeros : ZeroBeyond (committedIn m)
   -- They are 0 too in the values that F-13's undo would restore.
-  pub zerosHeld : m .store .undo .valid ≡ true → ZeroBeyond (committedIn (undone m))
+  pub zerosUndone : m .store .undo .valid ≡ true → ZeroBeyond (committedIn (undone m))
   -- "Each file gets a committed length, 0 to 4,096" [R-1.1]
   pub limit : (f : ℕ) → committedIn m (fileLength f) ≤ fileBytes
   -- No call but F-13's undo lowers a length: a place below it stays below it. While a transaction is open

@@ -129,7 +129,11 @@ unfoldable pub plainStepped : ℕ → Op → Running → List Entry → Plain �
 plainStepped t o r es p (refuse n) = refuseTurn n (bufferOf o) p
 plainStepped t o r es p (accept y answer buffer) =
     let reply : Reply = record { answer = answer; buffer = buffer } in
-    record { reply = reply; after = withSlot t (running (afterCall y (record { op = o; reply = reply }) es r)) p }
+    record {
+      reply = reply;
+      after = withSlot t
+          (running (afterCall y (record { op = o; reply = reply }) es r)) p;
+    }
 
 unfoldable pub plainOn : ℕ → Op → Slot → Plain → PlainTurn
 plainOn t o closed p = refuseTurn 4 (bufferOf o) p
@@ -166,7 +170,11 @@ unfoldable pub plainCommitted : ℕ → Running → Plain → ℕ → PlainTurn
 plainCommitted t r p zero =
     answerWith (granted (bitsOf (becameStale t p (grant t r p)) transactionCount)) (grant t r p)
 plainCommitted t r p (suc n) =
-    record { reply = says (refused (suc n)); after = cond (eqb (suc n) (number Stale)) (withSlot t closed p) p }
+    record {
+      reply = says (refused (suc n));
+      after = cond (eqb (suc n) (number Stale))
+          (withSlot t closed p) p;
+    }
 
 unfoldable pub plainCommit : ℕ → ℕ → Slot → Plain → PlainTurn
 plainCommit t minute closed p = refuseTurn 4 [] p

@@ -3,6 +3,7 @@ use mathlib.Core.List.{List, [], _∷_, _++_, map}
 use mathlib.Core.Path.{_≡_}
 use lib.ListN.{getD}
 use Prim.Native.Nat.{ℕ, zero, suc, _*_}
+use Rattle.limits.specs.Limits.{fileBytes}
 use Rattle.buffers.specs.Bits.{countOf}
 use Rattle.buffers.specs.Marks.{contains}
 use Rattle.state.specs.Outcomes.{Said, doneAnswer, pointer, given, granted, pairs, ordered, refused}
@@ -71,8 +72,8 @@ formerNumbers [] = []
 formerNumbers (e ∷ es) = formerIn (e .reply .answer) ++ formerNumbers es
 
 -- "T0 to T2 are begun." [R-20.1]
-unfoldable pub begins : List Exchange
-begins = begin 0 gets says doneAnswer ∷ begin 1 gets says doneAnswer ∷ begin 2 gets says doneAnswer ∷ []
+unfoldable pub threeBegun : List Exchange
+threeBegun = begin 0 gets says doneAnswer ∷ begin 1 gets says doneAnswer ∷ begin 2 gets says doneAnswer ∷ []
 
 -- Commit of t at minute 0: Fresh's windows are open at every minute, so where none is set it tells nothing.
 abbrev pub commits : ℕ → Call
@@ -85,7 +86,7 @@ committedBytes v q (suc n) = v (byte q) ∷ committedBytes v (suc q) n
 
 -- The first n bytes of file f.
 unfoldable pub beginning : Values → ℕ → ℕ → List ℕ
-beginning v f n = committedBytes v (4096 * f) n
+beginning v f n = committedBytes v (fileBytes * f) n
 
 -- The sightings of transaction t; none where it is not open.
 unfoldable pub seenIn : Slot → List Entry

@@ -9,7 +9,7 @@ use Rattle.spec.specs.Items.{offset}
 use Rattle.spec.specs.Messages.{seek, write, getFilePointer, read, begin, on, Reply, says}
 use Rattle.spec.specs.Setup.{Seen, Exchange, _gets_, commits, callsOf, Goes, formerNumbers, sighted}
 use Rattle.spec.specs.Setup.{beginning, sightingsOf, gives}
-use Rattle.spec.specs.Setup.{begins, A, B, C, D, Q, X, Y, Z, dot}
+use Rattle.spec.specs.Setup.{threeBegun, A, B, C, D, Q, X, Y, Z, dot}
 
 -- 02, F-8: "Situations d, e and k get a first commit that fills the file with zeros" [R-20.1]: T7's, through
 -- descriptor 0.
@@ -24,7 +24,7 @@ filled =
 -- [R-20.1]
 unfoldable pub expectedA : List Exchange
 expectedA =
-    begins
+    threeBegun
     ++ on 0 (write 0 (A ∷ B ∷ [])) gets says doneAnswer
     ∷ on 1 (write 0 (C ∷ D ∷ [])) gets says doneAnswer
     ∷ commits 1 gets says (granted 0)
@@ -34,7 +34,7 @@ expectedA =
 -- b "T0 GetFilePointer on 0: 0. T1 writes A on 0, commits: 1. Commit T0: 13." [R-20.1]
 unfoldable pub expectedB : List Exchange
 expectedB =
-    begins
+    threeBegun
     ++ on 0 (getFilePointer 0) gets says (pointer 0)
     ∷ on 1 (write 0 (A ∷ [])) gets says doneAnswer
     ∷ commits 1 gets says (granted 1)
@@ -45,7 +45,7 @@ expectedB =
 -- begins AB." [R-20.1]
 unfoldable pub expectedC : List Exchange
 expectedC =
-    begins
+    threeBegun
     ++ on 0 (seek 0 0) gets says doneAnswer
     ∷ on 0 (write 0 (A ∷ B ∷ [])) gets says doneAnswer
     ∷ on 0 (seek 0 0) gets says doneAnswer
@@ -61,7 +61,7 @@ expectedC =
 unfoldable pub expectedD : ℕ → Reply → Reply → List Exchange
 expectedD p ofT1 ofT0 =
     filled
-    ++ begins
+    ++ threeBegun
     ++ on 0 (seek 0 0) gets says doneAnswer
     ∷ on 0 (write 0 (A ∷ B ∷ [])) gets says doneAnswer
     ∷ on 0 (seek 0 0) gets says doneAnswer
@@ -76,7 +76,7 @@ expectedD p ofT1 ofT0 =
 unfoldable pub expectedE : List Exchange
 expectedE =
     filled
-    ++ begins
+    ++ threeBegun
     ++ on 0 (seek 0 0) gets says doneAnswer
     ∷ on 0 (read 0 1 (dot ∷ [])) gets gives 1 (0 ∷ [])
     ∷ on 1 (seek 8 0) gets says doneAnswer
@@ -88,7 +88,7 @@ expectedE =
 -- f "T0 on 0: write A, Seek 0, read 1: A. T1 on 0: Seek 5, commit: 1. T0 13." [R-20.1]
 unfoldable pub expectedF : List Exchange
 expectedF =
-    begins
+    threeBegun
     ++ on 0 (write 0 (A ∷ [])) gets says doneAnswer
     ∷ on 0 (seek 0 0) gets says doneAnswer
     ∷ on 0 (read 0 1 (dot ∷ [])) gets gives 1 (A ∷ [])
@@ -100,7 +100,7 @@ expectedF =
 -- g "T0 writes Q on 8; on 0 Seek 0, read 1: Q; one sighting, the offset of 8." [R-20.1]
 unfoldable pub expectedG : List Exchange
 expectedG =
-    begins
+    threeBegun
     ++ on 0 (write 8 (Q ∷ [])) gets says doneAnswer
     ∷ on 0 (seek 0 0) gets says doneAnswer
     ∷ on 0 (read 0 1 (dot ∷ [])) gets gives 1 (Q ∷ [])
@@ -110,7 +110,7 @@ expectedG =
 -- 1." [R-20.1]
 unfoldable pub expectedH : List Exchange
 expectedH =
-    begins
+    threeBegun
     ++ on 0 (seek 0 4096) gets says doneAnswer
     ∷ commits 0 gets says (granted 0)
     ∷ on 1 (write 0 (A ∷ [])) gets says doneAnswer
@@ -124,7 +124,7 @@ expectedH =
 -- [R-20.1]
 unfoldable pub expectedI : List Exchange
 expectedI =
-    begins
+    threeBegun
     ++ on 0 (write 0 (A ∷ [])) gets says doneAnswer
     ∷ on 0 (seek 0 9) gets says doneAnswer
     ∷ on 0 (getFilePointer 0) gets says (pointer 9)
@@ -136,7 +136,7 @@ expectedI =
 -- j "T0 and T1 each GetFilePointer on 0." [R-20.1]; 02, F-2: "In j both commits answer 0." [R-9.7]
 unfoldable pub expectedJ : List Exchange
 expectedJ =
-    begins
+    threeBegun
     ++ on 0 (getFilePointer 0) gets says (pointer 0)
     ∷ on 1 (getFilePointer 0) gets says (pointer 0)
     ∷ commits 0 gets says (granted 0)
@@ -148,7 +148,7 @@ expectedJ =
 unfoldable pub expectedK : List Exchange
 expectedK =
     filled
-    ++ begins
+    ++ threeBegun
     ++ on 0 (seek 0 4096) gets says doneAnswer
     ∷ on 0 (seek 0 4097) gets says (refused 8)
     ∷ on 0 (write 0 (A ∷ [])) gets says (refused 9)
@@ -160,7 +160,7 @@ expectedK =
 -- l "64 writes of 0 bytes pass, the 65th is 10; one that also runs past the end is 9." [R-20.1]
 unfoldable pub expectedL : List Exchange
 expectedL =
-    begins
+    threeBegun
     ++ replicate 64 (on 0 (write 0 []) gets says doneAnswer)
     ++ on 0 (write 0 []) gets says (refused 10)
     ∷ on 0 (seek 0 4096) gets says doneAnswer

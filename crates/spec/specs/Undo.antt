@@ -10,7 +10,7 @@ use Rattle.standings.specs.declared.Place.the-variants.{At}
 use Rattle.standings.specs.Table.{placeNumber}
 use Rattle.state.specs.declared.StoreMeaning.{StoreMeaning}
 use Rattle.state.specs.declared.journal.WriteRecord.{WriteRecord}
-use Rattle.state.specs.StoreMeaning.{undoWith, withOffsets, withLengths, withHeld, withUndo}
+use Rattle.state.specs.StoreMeaning.{undoWith, withOffsets, withLengths, withValid, withUndo}
 use Rattle.state.specs.Journal.{lastGrant, writeRecordAt, withRecords}
 use Rattle.spec_undo.specs.OldBytes.{Landing, landing, Span, oldBytes, restored}
 use Rattle.spec.specs.Items.{offset, Values}
@@ -65,5 +65,5 @@ unfoldable pub undone : Machine → Machine
 undone m =
     let s = m .store in
     withStore (withOffsets (s .undo .offsets)
-    (withLengths (s .undo .lengths) (withUndo (withHeld false (s .undo)) s)))
+    (withLengths (s .undo .lengths) (withUndo (withValid false (s .undo)) s)))
     (withFiles (restored (landedOn s (m .journal)) (m .undo) (m .files)) m)

@@ -21,10 +21,10 @@ use Rattle.spec.proofs.Theorems.Serializability.{fresh-facts, serializability}
 use Rattle.spec_dispatch.specs.Rounds.{scriptsIn, End, Work}
 use Rattle.spec_dispatch.specs.Dispatch.{Dispatched, reported, notStarted, workOnStore, workOnPlain, dispatch}
 use Rattle.spec_dispatch.specs.Dispatch.{plainDispatch, PlainToo}
-use Rattle.spec_dispatch.specs.SerializabilityOfCode.{CallMade, madeReply, DispatchMade, Gives, DispatchKept}
+use Rattle.spec_dispatch.specs.SerializabilityOfCode.{CallMade, madeReply, DispatchMade, Gives, DispatchMeets}
 use Rattle.spec_dispatch.specs.SerializabilityOfCode.{dispatchCalls, Linked, start, called, ran}
 use Rattle.spec_dispatch.specs.SerializabilityOfCode.{SerializabilityOfCode}
-use Rattle.spec_dispatch.specs.Corollaries.{MomentOfCode, CallsKept, RepliesOfCode}
+use Rattle.spec_dispatch.specs.Corollaries.{MomentOfCode, CallsMeet, RepliesOfCode}
 use Rattle.spec_dispatch.proofs.Follows.{TwinWork, store-plain, twins-after}
 use Rattle.spec_dispatch.proofs.Same.{ifPassed, gate, plain-too}
 
@@ -51,7 +51,7 @@ module _ (y : DispatchMade) (m : Machine) where
   unfolding dispatchCalls
   calls-by n e = ap (λ (k : ℕ). cond (isNone k) (worked .made) []) e
 
-  dispatch-after : DispatchKept m y → y .gave .after ≡ callsAfter (dispatchCalls y m) m
+  dispatch-after : DispatchMeets m y → y .gave .after ≡ callsAfter (dispatchCalls y m) m
   unfolding dispatch afterAll
   dispatch-after k =
       k .1
@@ -72,7 +72,7 @@ linked-after m₀ cs m (ran ds n y l k) =
     ∙ sym (calls-append ds (dispatchCalls y n) m₀)
 
 -- What the dispatcher gave on the store, it gives on the reference model, and its calls lead there.
-module _ (m : Machine) (p : Plain) (y : DispatchMade) (k : DispatchKept m y)
+module _ (m : Machine) (p : Plain) (y : DispatchMade) (k : DispatchMeets m y)
     (too : PlainToo (y .bytes) (y .minute) (y .scripts) m p (y .reader)) where
   abbrev onPlain : Dispatched Plain
   onPlain = plainDispatch (y .bytes) (y .minute) (y .scripts) p (y .reader)
@@ -152,13 +152,13 @@ moment-of-code numbers before o m₀ k accepted cs m linked x t op made kept loo
     (h .holds .moment t op look (subst IsAccepted e taken))
 
 pub replies-of-code : RepliesOfCode
-unfolding afterAll repliesTo CallsKept
+unfolding afterAll repliesTo CallsMeet
 replies-of-code numbers before o m₀ k accepted xs kept = go xs [] m₀ start kept
   where
     p₀ : Plain
     p₀ = freshPlain (λ d. getD numbers d 0)
 
-    go : (xs : List CallMade) (cs : List Call) (m : Machine) → Linked m₀ cs m → CallsKept m xs
+    go : (xs : List CallMade) (cs : List Call) (m : Machine) → Linked m₀ cs m → CallsMeet m xs
         → map madeReply xs ≡ plainReplies (map (λ (x : CallMade). x .made) xs) (plainAfter cs p₀)
     go [] cs m l h = refl
     go (x ∷ xs) cs m l h =

@@ -9,6 +9,7 @@ use lib.ListN.{length}
 use native.Mathlib.Omega.{arith}
 use Prim.Native.Nat.{ℕ, _+_, _*_, _≤_, _<_}
 use Rattle.limits.specs.Limits.{lastTransaction, scriptCount, scriptCalls}
+use Rattle.state.specs.Journal.{journalLength}
 use Rattle.buffers.proofs.TableLaws.{length-tabulate}
 use Rattle.windows.specs.Windows.{freshWindows}
 use Rattle.state.specs.StoreMeaning.{transaction, windowAt}
@@ -35,10 +36,10 @@ use Rattle.spec_dispatch.specs.Dispatch.{Dispatches, plainOf}
 use Rattle.spec_dispatch.specs.Dispatch.{DispatchHolds, SameDispatch}
 use Rattle.spec_dispatch.specs.Corollaries.{DispatchRefusals, IsDispatchRefusal, DispatchHoldsAtRest, FewCommits}
 use Rattle.spec_dispatch.proofs.Follows.{abstractReply, store-abstract, twins-after, WorkResting, resting-twins}
-use Rattle.spec_dispatch.proofs.Same.{left-by, commits-of, gate, refusal-is, plain-too}
+use Rattle.spec_dispatch.proofs.Same.{left-by, commits-of, gate, dispatch-refusal-is, plain-too}
 use Rattle.spec_dispatch.proofs.Phases.{Laws, AtRest as Rests, rounds-rest}
 use Rattle.spec_dispatch.proofs.Counting.{rounds-over, rounds-few, rounds-stop}
-use Rattle.spec_dispatch.proofs.OnAbstract.{abstract-laws, abstract-first, abstract-rests, Known, Preserved}
+use Rattle.spec_dispatch.proofs.OnAbstract.{abstract-laws, abstract-first, abstract-rests, Known, PreservedOnAbstract}
 use Rattle.spec_dispatch.proofs.OnAbstract.{sighted-preserved}
 use Rattle.spec_dispatch.proofs.OnPlain.{Granted, plain-laws, plain-rests, plain-granted, plain-closed}
 
@@ -91,7 +92,7 @@ module _ (m : Machine) (r : WorkResting m) (bytes : List ℕ) (minute : ℕ) (x 
       ∙ rounds-over (abstractReply bare) bytes minute x laws (abstract-first bare bytes minute x few) reader bare-rests k l
 
   bare-preserved : let w = rounds (abstractReply bare) bytes minute x (x .count) (nothingDone reader) in
-      Preserved bare bytes minute x few (w .made) (w .ends)
+      PreservedOnAbstract bare bytes minute x few (w .made) (w .ends)
   bare-preserved =
       sighted-preserved bare bytes minute x few _
       (rounds-rest (abstractReply bare) bytes minute x laws (x .count) (nothingDone reader) bare-rests)
@@ -188,7 +189,7 @@ gate-known true true true true h = absurd (h refl)
 pub refusals-of-dispatch : DispatchRefusals
 unfolding admissionOfDispatch firstTests
 refusals-of-dispatch bytes minute x m reader =
-    let e = refusal-is bytes minute x m reader in
+    let e = dispatch-refusal-is bytes minute x m reader in
     record {
       known =
           λ h.
@@ -214,7 +215,7 @@ module _ (state files logs marks undo bytes : List ℕ) (minute : ℕ) (x : Scri
         sound =
             record {
               shaped = shaped state;
-              journal = unfold journalOf in length-tabulate _ 1728;
+              journal = unfold journalOf in length-tabulate _ journalLength;
               files = a .lengths .files;
               logs = a .lengths .logs;
               marks = a .lengths .marks;
@@ -238,7 +239,7 @@ module _ (state files logs marks undo bytes : List ℕ) (minute : ℕ) (x : Scri
 pub dispatch-holds : DispatchHolds
 dispatch-holds state files logs marks undo bytes minute x reader e =
     passed-dispatches state files logs marks undo bytes minute x reader
-    (sym (refusal-is bytes minute x (machineOf state files logs marks undo) reader) ∙ e)
+    (sym (dispatch-refusal-is bytes minute x (machineOf state files logs marks undo) reader) ∙ e)
 
 pub few-commits : FewCommits
 few-commits = few-any

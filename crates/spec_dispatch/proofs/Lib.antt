@@ -21,4 +21,4 @@ pub mod Loops
 -- Edge cases, computed.
 pub mod DispatchEdgeCases
 -- What the statements are false of.
-pub mod Counterexamples
+pub mod DispatchCounterexamples

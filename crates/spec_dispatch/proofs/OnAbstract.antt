@@ -16,8 +16,8 @@ use Rattle.spec.specs.Steps.{Stepped, refuse, accept, step}
 use Rattle.spec.specs.Commits.{Setting, commitRefusal}
 use Rattle.spec.proofs.Abstract.Rerun.{put-same}
 use Rattle.spec.proofs.Abstract.Lists.{put-other}
-use Rattle.spec.proofs.Abstract.AbstractStore.{UndoSaved, Seat, vacant, held, Abstract, AbstractTurn, turnedAway, withSeat}
-use Rattle.spec.proofs.Abstract.AbstractStore.{telling, abstractBegin}
+use Rattle.spec.proofs.Abstract.AbstractStore.{OpenTxn, Seat, vacant, occupied, Abstract, AbstractTurn, abstractRefuse, withSeat}
+use Rattle.spec.proofs.Abstract.AbstractStore.{abstractAnswer, abstractBegin}
 use Rattle.spec.proofs.Abstract.AbstractStore.{abstractStepped, abstractOn, touch, granting, abstractCommitted, abstractCommit}
 use Rattle.spec.proofs.Abstract.AbstractStore.{abstractAbort, seated}
 use Rattle.spec.proofs.Abstract.AbstractStore.{abstractCall, abstractAfter, abstractReplies}
@@ -58,30 +58,30 @@ module _ (t : ℕ) (s : Abstract) where
   abbrev Served : Bool → AbstractTurn → Type 0
   Served stale τ =
       ((refusalIn (τ .reply .answer) ≡ 0 → ⊥) × (τ .after ≡ s))
-      ⊎ ((refusalIn (τ .reply .answer) ≡ 0) × (h : UndoSaved) × (τ .after .seats t ≡ held h) × (h .stale ≡ stale))
+      ⊎ ((refusalIn (τ .reply .answer) ≡ 0) × (h : OpenTxn) × (τ .after .seats t ≡ occupied h) × (h .stale ≡ stale))
 
-  served-step : (o : Op) (h : UndoSaved) (is : List Item) (z : Stepped) → Right z
+  served-step : (o : Op) (h : OpenTxn) (is : List Item) (z : Stepped) → Right z
       → Served (h .stale) (abstractStepped t o h is s z)
-  unfolding abstractStepped turnedAway refusalIn refusalOf withSeat
+  unfolding abstractStepped abstractRefuse refusalIn refusalOf withSeat
   served-step o h is (refuse n) r = inl (λ e. omega (arith, r .0, e), refl)
   served-step o h is (accept y a buffer) r = inr (answer-none a r, _, put-same t _ (s .seats), refl)
 
   module _ (small : leb t lastTransaction ≡ true) where
-    served-call : (o : Op) (h : UndoSaved) → s .seats t ≡ held h → Served (h .stale) (abstractCall (on t o) s)
+    served-call : (o : Op) (h : OpenTxn) → s .seats t ≡ occupied h → Served (h .stale) (abstractCall (on t o) s)
     unfolding abstractCall seated abstractOn
     served-call o h e =
         subst (Served (h .stale))
-        (sym (ap₂ (λ (b : Bool) (z : Seat). cond b (abstractOn t o z s) (turnedAway 3 (bufferOf o) s)) small e))
+        (sym (ap₂ (λ (b : Bool) (z : Seat). cond b (abstractOn t o z s) (abstractRefuse 3 (bufferOf o) s)) small e))
         (served-step o h _ _ (right-step (s .fileOf) o (h .txn) (s .value) (h .stale)))
 
     -- One that is not stale is refused with 6 to 12 only.
-    step-refused : (o : Op) (h : UndoSaved) (is : List Item) (n : ℕ) (z : Stepped) → Plainly z
+    step-refused : (o : Op) (h : OpenTxn) (is : List Item) (n : ℕ) (z : Stepped) → Plainly z
         → refusalIn (abstractStepped t o h is s z .reply .answer) ≡ suc n → OfStep (suc n)
-    unfolding abstractStepped turnedAway refusalIn refusalOf
+    unfolding abstractStepped abstractRefuse refusalIn refusalOf
     step-refused o h is n (refuse k) r e = subst OfStep e r
     step-refused o h is n (accept y a buffer) r e = absurd (omega (arith, e, answer-none a r))
 
-    call-refused : (o : Op) (h : UndoSaved) (n : ℕ) → s .seats t ≡ held h → h .stale ≡ false
+    call-refused : (o : Op) (h : OpenTxn) (n : ℕ) → s .seats t ≡ occupied h → h .stale ≡ false
         → refusalIn (abstractCall (on t o) s .reply .answer) ≡ suc n → OfStep (suc n)
     unfolding abstractCall seated abstractOn
     call-refused o h n e f g =
@@ -89,54 +89,55 @@ module _ (t : ℕ) (s : Abstract) where
         step-refused o h (asked (s .value) (step (s .fileOf) o (h .txn))) n r (plain-step (s .fileOf) o (h .txn) (s .value))
         (sym
         (ap (λ (τ : AbstractTurn). refusalIn (τ .reply .answer))
-        (ap₂ (λ (b : Bool) (z : Seat). cond b (abstractOn t o z s) (turnedAway 3 (bufferOf o) s)) small e
+        (ap₂ (λ (b : Bool) (z : Seat). cond b (abstractOn t o z s) (abstractRefuse 3 (bufferOf o) s)) small e
         ∙ ap (abstractStepped t o h (asked (s .value) (step (s .fileOf) o (h .txn))) s) (not-refused-stale (h .stale) o r f)))
         ∙ g)
 
     begin-plain : s .seats t ≡ vacant → refusalIn (abstractCall (begin t) s .reply .answer) ≡ 0
-    unfolding abstractCall seated abstractBegin telling refusalIn refusalOf
+    unfolding abstractCall seated abstractBegin abstractAnswer refusalIn refusalOf
     begin-plain e =
         ap (λ (τ : AbstractTurn). refusalIn (τ .reply .answer))
-        (ap₂ (λ (b : Bool) (z : Seat). cond b (abstractBegin t z s) (turnedAway 3 [] s)) small e)
+        (ap₂ (λ (b : Bool) (z : Seat). cond b (abstractBegin t z s) (abstractRefuse 3 [] s)) small e)
 
-    abort-plain : (h : UndoSaved) → s .seats t ≡ held h → refusalIn (abstractCall (abort t) s .reply .answer) ≡ 0
-    unfolding abstractCall seated abstractAbort telling refusalIn refusalOf
+    abort-plain : (h : OpenTxn) → s .seats t ≡ occupied h → refusalIn (abstractCall (abort t) s .reply .answer) ≡ 0
+    unfolding abstractCall seated abstractAbort abstractAnswer refusalIn refusalOf
     abort-plain h e =
         ap (λ (τ : AbstractTurn). refusalIn (τ .reply .answer))
-        (ap₂ (λ (b : Bool) (z : Seat). cond b (abstractAbort t z s) (turnedAway 3 [] s)) small e)
+        (ap₂ (λ (b : Bool) (z : Seat). cond b (abstractAbort t z s) (abstractRefuse 3 [] s)) small e)
 
-    begin-seat : s .seats t ≡ vacant → (h : UndoSaved) × (abstractCall (begin t) s .after .seats t ≡ held h) × (h .stale ≡ false)
-    unfolding abstractCall seated abstractBegin telling withSeat
+    begin-seat : s .seats t ≡ vacant → (h : OpenTxn) × (abstractCall (begin t) s .after .seats t ≡ occupied h)
+        × (h .stale ≡ false)
+    unfolding abstractCall seated abstractBegin abstractAnswer withSeat
     begin-seat e = (
       _,
       ap (λ (τ : AbstractTurn). τ .after .seats t)
-          (ap₂ (λ (b : Bool) (z : Seat). cond b (abstractBegin t z s) (turnedAway 3 [] s)) small e)
+          (ap₂ (λ (b : Bool) (z : Seat). cond b (abstractBegin t z s) (abstractRefuse 3 [] s)) small e)
           ∙ put-same t _ (s .seats),
       refl,
     )
 
-    abort-seat : (h : UndoSaved) → s .seats t ≡ held h → abstractCall (abort t) s .after .seats t ≡ vacant
-    unfolding abstractCall seated abstractAbort telling withSeat
+    abort-seat : (h : OpenTxn) → s .seats t ≡ occupied h → abstractCall (abort t) s .after .seats t ≡ vacant
+    unfolding abstractCall seated abstractAbort abstractAnswer withSeat
     abort-seat h e =
         ap (λ (τ : AbstractTurn). τ .after .seats t)
-        (ap₂ (λ (b : Bool) (z : Seat). cond b (abstractAbort t z s) (turnedAway 3 [] s)) small e)
+        (ap₂ (λ (b : Bool) (z : Seat). cond b (abstractAbort t z s) (abstractRefuse 3 [] s)) small e)
         ∙ put-same t vacant (s .seats)
 
     -- Its Commit, by what refuses it.
-    commit-call : (minute : ℕ) (h : UndoSaved) → s .seats t ≡ held h
-        → (daily : Bool) × (shut : Bool) × (placed : Bool)
-        × (abstractCall (commit t minute) s ≡ abstractCommitted t h s (commitRefusal daily (h .stale) shut placed))
+    commit-call : (minute : ℕ) (h : OpenTxn) → s .seats t ≡ occupied h
+        → (daily : Bool) × (isClosed : Bool) × (placed : Bool)
+        × (abstractCall (commit t minute) s ≡ abstractCommitted t h s (commitRefusal daily (h .stale) isClosed placed))
     unfolding abstractCall seated abstractCommit
     commit-call minute h e = (
       _,
       _,
       _,
-      ap₂ (λ (b : Bool) (z : Seat). cond b (abstractCommit t minute z s) (turnedAway 3 [] s))
+      ap₂ (λ (b : Bool) (z : Seat). cond b (abstractCommit t minute z s) (abstractRefuse 3 [] s))
           small e,
     )
 
   -- Ended by a grant and by 13, otherwise left.
-  committed-ends : (h : UndoSaved) (r : ℕ)
+  committed-ends : (h : OpenTxn) (r : ℕ)
       → (refusalIn (abstractCommitted t h s r .reply .answer) ≡ 0) ⊎ (refusalIn (abstractCommitted t h s r .reply .answer) ≡ 13)
       → abstractCommitted t h s r .after .seats t ≡ vacant
   unfolding abstractCommitted granting touch refusalIn refusalOf withSeat
@@ -145,7 +146,7 @@ module _ (t : ℕ) (s : Abstract) where
   committed-ends h (suc n) (inr e) =
       ap (λ (b : Bool). cond b (withSeat t vacant s) s .seats t) (ap (λ (k : ℕ). eqb k 13) e) ∙ put-same t vacant (s .seats)
 
-  committed-left : (h : UndoSaved) (r n : ℕ) → refusalIn (abstractCommitted t h s r .reply .answer) ≡ suc n → (suc n ≡ 13 → ⊥)
+  committed-left : (h : OpenTxn) (r n : ℕ) → refusalIn (abstractCommitted t h s r .reply .answer) ≡ suc n → (suc n ≡ 13 → ⊥)
       → abstractCommitted t h s r .after ≡ s
   unfolding abstractCommitted granting refusalIn refusalOf
   committed-left h zero n e g = absurd (omega (arith, e))
@@ -156,21 +157,21 @@ module _ (t : ℕ) (s : Abstract) where
       pick false f = refl
 
   -- One that is not stale is not refused with 13.
-  committed-first : (h : UndoSaved) (daily shut placed : Bool)
-      → refusalIn (abstractCommitted t h s (commitRefusal daily false shut placed) .reply .answer) ≡ 13 → ⊥
+  committed-first : (h : OpenTxn) (daily isClosed placed : Bool)
+      → refusalIn (abstractCommitted t h s (commitRefusal daily false isClosed placed) .reply .answer) ≡ 13 → ⊥
   unfolding abstractCommitted granting refusalIn refusalOf commitRefusal
-  committed-first h false shut placed e = omega (arith, e)
+  committed-first h false isClosed placed e = omega (arith, e)
   committed-first h true true placed e = omega (arith, e)
   committed-first h true false true e = omega (arith, e)
   committed-first h true false false e = omega (arith, e)
 
   -- What refuses a Commit, but for 13.
-  committed-refused : (h : UndoSaved) (daily stale shut placed : Bool) (n : ℕ)
-      → refusalIn (abstractCommitted t h s (commitRefusal daily stale shut placed) .reply .answer) ≡ suc n → (suc n ≡ 13 → ⊥)
+  committed-refused : (h : OpenTxn) (daily stale isClosed placed : Bool) (n : ℕ)
+      → refusalIn (abstractCommitted t h s (commitRefusal daily stale isClosed placed) .reply .answer) ≡ suc n → (suc n ≡ 13 → ⊥)
       → EndsScript (suc n)
   unfolding abstractCommitted granting refusalIn refusalOf commitRefusal
-  committed-refused h false stale shut placed n e g = inr (inr (sym e))
-  committed-refused h true true shut placed n e g = absurd (g (sym e))
+  committed-refused h false stale isClosed placed n e g = inr (inr (sym e))
+  committed-refused h true true isClosed placed n e g = absurd (g (sym e))
   committed-refused h true false true placed n e g = inr (inl (sym e))
   committed-refused h true false false true n e g = absurd (omega (arith, e))
   committed-refused h true false false false n e g = inl (omega (arith, e), omega (arith, e))
@@ -185,34 +186,34 @@ module _ (t : ℕ) (s : Abstract) where
     unfolding withSeat
     same-seat x = put-other t x (s .seats) j other
 
-    same-stepped : (o : Op) (h : UndoSaved) (is : List Item) (z : Stepped) → Same (abstractStepped t o h is s z)
-    unfolding abstractStepped turnedAway
+    same-stepped : (o : Op) (h : OpenTxn) (is : List Item) (z : Stepped) → Same (abstractStepped t o h is s z)
+    unfolding abstractStepped abstractRefuse
     same-stepped o h is (refuse n) = refl
     same-stepped o h is (accept y a buffer) = same-seat _
 
     same-on : (o : Op) (x : Seat) → Same (abstractOn t o x s)
-    unfolding abstractOn turnedAway
+    unfolding abstractOn abstractRefuse
     same-on o vacant = refl
-    same-on o (held h) = same-stepped o h _ _
+    same-on o (occupied h) = same-stepped o h _ _
 
     same-begin : (x : Seat) → Same (abstractBegin t x s)
-    unfolding abstractBegin turnedAway telling
+    unfolding abstractBegin abstractRefuse abstractAnswer
     same-begin vacant = same-seat _
-    same-begin (held h) = refl
+    same-begin (occupied h) = refl
 
     same-abort : (x : Seat) → Same (abstractAbort t x s)
-    unfolding abstractAbort turnedAway telling
+    unfolding abstractAbort abstractRefuse abstractAnswer
     same-abort vacant = refl
-    same-abort (held h) = same-seat _
+    same-abort (occupied h) = same-seat _
 
     same-seated : (buffer : List ℕ) (next : Seat → Abstract → AbstractTurn) → Same (next (s .seats t) s)
         → Same (seated t buffer next s)
-    unfolding seated turnedAway
-    same-seated buffer next h = pick (leb t 7)
+    unfolding seated abstractRefuse
+    same-seated buffer next h = pick (leb t lastTransaction)
       where
-        pick : (b : Bool) → Same (cond b (next (s .seats t) s) (turnedAway 3 buffer s))
+        pick : (b : Bool) → Same (cond b (next (s .seats t) s) (abstractRefuse 3 buffer s))
         pick true = h
-        pick false = unfold turnedAway in refl
+        pick false = unfold abstractRefuse in refl
 
     pub same-quiet : (c : Call) → Quiet t c → abstractCall c s .after .seats j ≡ s .seats j
     unfolding abstractCall
@@ -225,15 +226,15 @@ module _ (t : ℕ) (s : Abstract) where
     unfolding touch
     touched-vacant ss x e = ap (touch ss) e
 
-    touched-held : (ss : List Setting) (x : Seat) (h : UndoSaved) → x ≡ held h → (g : UndoSaved) × (touch ss x ≡ held g)
+    touched-occupied : (ss : List Setting) (x : Seat) (h : OpenTxn) → x ≡ occupied h → (g : OpenTxn) × (touch ss x ≡ occupied g)
     unfolding touch
-    touched-held ss x h e = (_, ap (touch ss) e)
+    touched-occupied ss x h e = (_, ap (touch ss) e)
 
     -- Its seat is left, or touched.
     abbrev Touched : AbstractTurn → Type 0
     Touched τ = Same τ ⊎ ((ss : List Setting) × (τ .after .seats j ≡ touch ss (s .seats j)))
 
-    touched-committed : (h : UndoSaved) (r : ℕ) → Touched (abstractCommitted t h s r)
+    touched-committed : (h : OpenTxn) (r : ℕ) → Touched (abstractCommitted t h s r)
     unfolding abstractCommitted granting
     touched-committed h zero = inr (_, ap (touch _) (put-other t vacant (s .seats) j other))
     touched-committed h (suc n) = pick (eqb (suc n) 13)
@@ -247,26 +248,26 @@ module _ (t : ℕ) (s : Abstract) where
         pick false = inl refl
 
     touched-seat : (minute : ℕ) (x : Seat) → Touched (abstractCommit t minute x s)
-    unfolding abstractCommit turnedAway
+    unfolding abstractCommit abstractRefuse
     touched-seat minute vacant = inl refl
-    touched-seat minute (held h) = touched-committed h _
+    touched-seat minute (occupied h) = touched-committed h _
 
     touched-commit : (minute : ℕ) → Touched (abstractCall (commit t minute) s)
     unfolding abstractCall seated
-    touched-commit minute = pick (leb t 7)
+    touched-commit minute = pick (leb t lastTransaction)
       where
-        pick : (b : Bool) → Touched (cond b (abstractCommit t minute (s .seats t) s) (turnedAway 3 [] s))
+        pick : (b : Bool) → Touched (cond b (abstractCommit t minute (s .seats t) s) (abstractRefuse 3 [] s))
         pick true = touched-seat minute (s .seats t)
-        pick false = unfold turnedAway in inl refl
+        pick false = unfold abstractRefuse in inl refl
 
     vacant-commit : (minute : ℕ) → s .seats j ≡ vacant → abstractCall (commit t minute) s .after .seats j ≡ vacant
     vacant-commit minute e =
         ⊎-elim (λ f. f ∙ e) (λ f. f .1 ∙ touched-vacant (f .0) (s .seats j) e) (touched-commit minute)
 
-    held-commit : (minute : ℕ) (h : UndoSaved) → s .seats j ≡ held h → (g : UndoSaved)
-        × (abstractCall (commit t minute) s .after .seats j ≡ held g)
-    held-commit minute h e =
-        ⊎-elim (λ f. (h, f ∙ e)) (λ f. let g = touched-held (f .0) (s .seats j) h e in (g .0, f .1 ∙ g .1))
+    occupied-commit : (minute : ℕ) (h : OpenTxn) → s .seats j ≡ occupied h → (g : OpenTxn)
+        × (abstractCall (commit t minute) s .after .seats j ≡ occupied g)
+    occupied-commit minute h e =
+        ⊎-elim (λ f. (h, f ∙ e)) (λ f. let g = touched-occupied (f .0) (s .seats j) h e in (g .0, f .1 ∙ g .1))
         (touched-commit minute)
 
 -- ---- which refusals end scripts
@@ -316,8 +317,8 @@ module _ (s₀ : Abstract) (bytes : List ℕ) (minute : ℕ) (x : Scripts) (few 
   abbrev seatAfter : ℕ → List Call → Seat
   seatAfter k cs = abstractAfter cs s₀ .seats k
 
-  abbrev Open : (UndoSaved → Type 0) → ℕ → List Call → Type 0
-  Open P k cs = (h : UndoSaved) × (seatAfter k cs ≡ held h) × P h
+  abbrev Open : (OpenTxn → Type 0) → ℕ → List Call → Type 0
+  Open P k cs = (h : OpenTxn) × (seatAfter k cs ≡ occupied h) × P h
 
   -- After one call more.
   then-seat : (k : ℕ) (c : Call) (cs : List Call) (z : Seat) → abstractCall c (abstractAfter cs s₀) .after .seats k ≡ z
@@ -325,22 +326,22 @@ module _ (s₀ : Abstract) (bytes : List ℕ) (minute : ℕ) (x : Scripts) (few 
   then-seat k c cs z e = ap (λ (s : Abstract). s .seats k) (after-one cs c s₀) ∙ e
 
   small : (k : ℕ) → k < x .count → leb k lastScript ≡ true
-  small k l = le-leb k 7 (omega (arith, few))
+  small k l = le-leb k lastScript (omega (arith, few))
 
-  abbrev fresh : UndoSaved → Type 0
+  abbrev fresh : OpenTxn → Type 0
   fresh h = h .stale ≡ false
 
-  abbrev any : UndoSaved → Type 0
+  abbrev any : OpenTxn → Type 0
   any h = Unit {0}
 
   -- Which refusals ended scripts, and how the calls were answered.
-  pub record Preserved (cs : List Call) (e : ℕ → End) : Type 0 where
+  pub record PreservedOnAbstract (cs : List Call) (e : ℕ → End) : Type 0 where
     pub ends : Known e
     pub answers : AnsweredInRounds (abstractReplies cs s₀)
 
   preserved-answer : (c : Call) (cs : List Call) (e : ℕ → End) → MayBe (refusalIn (abstractReply s₀ c cs .answer))
-      → Preserved cs e
-      → Preserved (cs ++ (c ∷ [])) e
+      → PreservedOnAbstract cs e
+      → PreservedOnAbstract (cs ++ (c ∷ [])) e
   preserved-answer c cs e h old =
       record {
         ends = old .ends;
@@ -350,7 +351,7 @@ module _ (s₀ : Abstract) (bytes : List ℕ) (minute : ℕ) (x : Scripts) (few 
 
   preserved-end : (k n : ℕ) (c : Call) (cs : List Call) (e : ℕ → End) → refusalIn (abstractReply s₀ c cs .answer) ≡ suc n
       → EndsScript (suc n)
-      → Preserved cs e → Preserved (cs ++ (c ∷ [])) (put k (failed (suc n)) e)
+      → PreservedOnAbstract cs e → PreservedOnAbstract (cs ++ (c ∷ [])) (put k (failed (suc n)) e)
   preserved-end k n c cs e f h old =
       let new = preserved-answer c cs e (inr (inr (subst⁻¹ EndsScript f h))) old in
       record {
@@ -361,10 +362,10 @@ module _ (s₀ : Abstract) (bytes : List ℕ) (minute : ℕ) (x : Scripts) (few 
   pub abstract-laws : Laws (abstractReply s₀) bytes minute x
   abstract-laws =
       record {
-        shut = λ k cs. seatAfter k cs ≡ vacant;
+        isClosed = λ k cs. seatAfter k cs ≡ vacant;
         given = λ k i cs. Open fresh k cs;
         ready = λ k cs. Open any k cs;
-        kept = Preserved;
+        invariant = PreservedOnAbstract;
         begun = λ k cs l e. let b = begin-seat k (abstractAfter cs s₀) (small k l) e in (
           b .0,
           then-seat k (begin k) cs _ (b .1),
@@ -394,29 +395,29 @@ module _ (s₀ : Abstract) (bytes : List ℕ) (minute : ℕ) (x : Scripts) (few 
                   ∙ g .1),
               tt,
             );
-        shut-other = λ j k c cs q h e. then-seat j c cs _ (same-quiet k (abstractAfter cs s₀) j h c q ∙ e);
+        closed-other = λ j k c cs q h e. then-seat j c cs _ (same-quiet k (abstractAfter cs s₀) j h c q ∙ e);
         given-other = λ j k i c cs q h g. (g .0, then-seat j c cs _ (same-quiet k (abstractAfter cs s₀) j h c q ∙ g .1), g .2);
         ready-other = λ j k c cs q h g. (g .0, then-seat j c cs _ (same-quiet k (abstractAfter cs s₀) j h c q ∙ g .1), tt);
-        shut-commit = λ j k cs h e. then-seat j (commit k minute) cs _ (vacant-commit k (abstractAfter cs s₀) j h minute e);
+        closed-commit = λ j k cs h e. then-seat j (commit k minute) cs _ (vacant-commit k (abstractAfter cs s₀) j h minute e);
         ready-commit = λ j k cs h g.
-            let f = held-commit k (abstractAfter cs s₀) j h minute (g .0)
+            let f = occupied-commit k (abstractAfter cs s₀) j h minute (g .0)
             (g .1) in (f .0, then-seat j (commit k minute) cs _ (f .1), tt);
-        kept-begun = λ k cs e l g. preserved-answer (begin k) cs e (inl (begin-plain k (abstractAfter cs s₀) (small k l) g));
-        kept-accepted = λ k o cs e l f. preserved-answer (on k o) cs e (inl f);
-        kept-aborted = λ k i cs e l g. preserved-answer (abort k) cs e
+        invariant-begun = λ k cs e l g. preserved-answer (begin k) cs e (inl (begin-plain k (abstractAfter cs s₀) (small k l) g));
+        invariant-accepted = λ k o cs e l f. preserved-answer (on k o) cs e (inl f);
+        invariant-aborted = λ k i cs e l g. preserved-answer (abort k) cs e
             (inl (abort-plain k (abstractAfter cs s₀) (small k l) (g .0) (g .1)));
-        kept-dropped = λ k cs e l g. preserved-answer (abort k) cs e
+        invariant-dropped = λ k cs e l g. preserved-answer (abort k) cs e
             (inl (abort-plain k (abstractAfter cs s₀) (small k l) (g .0) (g .1)));
-        kept-failed = λ k i n o cs e l g f h.
+        invariant-failed = λ k i n o cs e l g f h.
             preserved-end k n (on k o) cs e f (inl (call-refused k (abstractAfter cs s₀) (small k l) o (g .0) n (g .1) (g .2) f));
-        kept-granted = λ k cs e l g f h old.
+        invariant-granted = λ k cs e l g f h old.
             let new = preserved-answer (commit k minute) cs e (inl f) old in
             record {
               ends = known-more e k passed (λ m q. absurd (not-failed passed m (unfold isFailed in refl) q)) (new .ends);
               answers = new .answers;
             };
-        kept-stale = λ k cs e l g f. preserved-answer (commit k minute) cs e (inr (inl f));
-        kept-refused = λ k n cs e l g f d h.
+        invariant-stale = λ k cs e l g f. preserved-answer (commit k minute) cs e (inr (inl f));
+        invariant-refused = λ k n cs e l g f d h.
             let c = commit-call k (abstractAfter cs s₀) (small k l) minute (g .0) (g .1) in
             preserved-end k n (commit k minute) cs e f
             (committed-refused k (abstractAfter cs s₀) (g .0) (c .0) (g .0 .stale) (c .1) (c .2) n
@@ -452,9 +453,10 @@ module _ (s₀ : Abstract) (bytes : List ℕ) (minute : ℕ) (x : Scripts) (few 
       record {
         below = λ j l. h j;
         above = λ j l m. h j;
-        kept = record { ends = λ k n q. absurd (not-failed unfinished n refl q); answers = tt };
+        invariant = record { ends = λ k n q. absurd (not-failed unfinished n refl q); answers = tt };
       }
 
-  pub sighted-preserved : (w : Work) → AtRest (abstractReply s₀) bytes minute x abstract-laws w → Preserved (w .made) (w .ends)
+  pub sighted-preserved : (w : Work) → AtRest (abstractReply s₀) bytes minute x abstract-laws w
+      → PreservedOnAbstract (w .made) (w .ends)
   unfolding abstract-laws
-  sighted-preserved w s = s .kept
+  sighted-preserved w s = s .invariant

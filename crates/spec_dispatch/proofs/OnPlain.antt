@@ -196,7 +196,7 @@ module _ (t : ℕ) (p : Plain) where
     same-numbered : (buffer : List ℕ) (next : Slot → Plain → PlainTurn) → Same (next (p .slots t) p)
         → Same (withNumber t buffer next p)
     unfolding withNumber
-    same-numbered buffer next h = pick (leb t 7)
+    same-numbered buffer next h = pick (leb t lastTransaction)
       where
         pick : (b : Bool) → Same (cond b (next (p .slots t) p) (refuseTurn 3 buffer p))
         pick true = h
@@ -335,7 +335,7 @@ module _ (p₀ : Plain) (bytes : List ℕ) (minute : ℕ) (x : Scripts) (few : x
   then-slot k c cs z e = ap (λ (p : Plain). p .slots k) (after-one cs c p₀) ∙ e
 
   small : (k : ℕ) → k < x .count → leb k lastScript ≡ true
-  small k l = le-leb k 7 (omega (arith, few))
+  small k l = le-leb k lastScript (omega (arith, few))
 
   ended : (k : ℕ) (cs : List Call) → k < x .count → Open (x .script k .count) k cs
       → (refusalIn (plainReply p₀ (commit k minute) cs .answer) ≡ 0) ⊎ (refusalIn (plainReply p₀ (commit k minute) cs .answer)
@@ -349,7 +349,7 @@ module _ (p₀ : Plain) (bytes : List ℕ) (minute : ℕ) (x : Scripts) (few : x
       (subst (λ (τ : PlainTurn). (refusalIn (τ .reply .answer) ≡ 0) ⊎ (refusalIn (τ .reply .answer) ≡ 13)) (c .1) e))
 
   -- The grants so far, and nobody else is open.
-  pub record Preserved (cs : List Call) (e : ℕ → End) : Type 0 where
+  pub record PreservedOnPlain (cs : List Call) (e : ℕ → End) : Type 0 where
     pub granted : Granted bytes minute x (plainWithWindows freshWindows p₀) (serialOf cs p₀) e
     pub beyond : (j : ℕ) → x .count ≤ j → plainAfter cs p₀ .slots j ≡ closed
 
@@ -369,8 +369,8 @@ module _ (p₀ : Plain) (bytes : List ℕ) (minute : ℕ) (x : Scripts) (few : x
   quiet-serial k _ cs (calls-it o) = serial-one cs (on k o) p₀
   quiet-serial k _ cs aborts-it = serial-one cs (abort k) p₀
 
-  preserved-call : (k : ℕ) (c : Call) (cs : List Call) (e : ℕ → End) → k < x .count → Quiet k c → Preserved cs e
-      → Preserved (cs ++ (c ∷ [])) e
+  preserved-call : (k : ℕ) (c : Call) (cs : List Call) (e : ℕ → End) → k < x .count → Quiet k c → PreservedOnPlain cs e
+      → PreservedOnPlain (cs ++ (c ∷ [])) e
   preserved-call k c cs e l q h =
       record {
         granted = subst⁻¹ (λ (s : Serial). Granted bytes minute x (plainWithWindows freshWindows p₀) s e) (quiet-serial k c cs q)
@@ -378,8 +378,8 @@ module _ (p₀ : Plain) (bytes : List ℕ) (minute : ℕ) (x : Scripts) (few : x
         beyond = beyond-quiet k c cs l q (h .beyond);
       }
 
-  preserved-fails : (k n : ℕ) (cs : List Call) (e : ℕ → End) → goesOn (e k) ≡ true → Preserved cs e
-      → Preserved cs (put k (failed n) e)
+  preserved-fails : (k n : ℕ) (cs : List Call) (e : ℕ → End) → goesOn (e k) ≡ true → PreservedOnPlain cs e
+      → PreservedOnPlain cs (put k (failed n) e)
   preserved-fails k n cs e h g = record {
     granted = granted-failed bytes minute x (plainWithWindows freshWindows p₀) (serialOf cs p₀) e k n h (g .granted);
     beyond = g .beyond;
@@ -394,7 +394,7 @@ module _ (p₀ : Plain) (bytes : List ℕ) (minute : ℕ) (x : Scripts) (few : x
 
   preserved-not : (k n : ℕ) (cs : List Call) (e : ℕ → End) → k < x .count → refusalIn (plainReply p₀ (commit k minute) cs .answer)
       ≡ suc n
-      → Preserved cs e → Preserved (cs ++ (commit k minute ∷ [])) e
+      → PreservedOnPlain cs e → PreservedOnPlain (cs ++ (commit k minute ∷ [])) e
   unfolding adding
   preserved-not k n cs e l f h =
       record {
@@ -406,7 +406,7 @@ module _ (p₀ : Plain) (bytes : List ℕ) (minute : ℕ) (x : Scripts) (few : x
 
   preserved-one : (k : ℕ) (cs : List Call) (e : ℕ → End) → k < x .count → Open (x .script k .count) k cs
       → refusalIn (plainReply p₀ (commit k minute) cs .answer) ≡ 0 → goesOn (e k) ≡ true
-      → Preserved cs e → Preserved (cs ++ (commit k minute ∷ [])) (put k passed e)
+      → PreservedOnPlain cs e → PreservedOnPlain (cs ++ (commit k minute ∷ [])) (put k passed e)
   preserved-one k cs e l g f h old =
       let one : Grant = record { txnNumber = k; minute = minute; calls = g .0 .calls } in
       record {
@@ -421,10 +421,10 @@ module _ (p₀ : Plain) (bytes : List ℕ) (minute : ℕ) (x : Scripts) (few : x
   pub plain-laws : Laws (plainReply p₀) bytes minute x
   plain-laws =
       record {
-        shut = λ k cs. slotAfter k cs ≡ closed;
+        isClosed = λ k cs. slotAfter k cs ≡ closed;
         given = λ k i cs. Open (min i (x .script k .count)) k cs;
         ready = λ k cs. Open (x .script k .count) k cs;
-        kept = Preserved;
+        invariant = PreservedOnPlain;
         begun = λ k cs l e.
             let b = begin-slot k (plainAfter cs p₀) (small k l) e in
             let z : 0 ≡ min 0 (x .script k .count) = omega arith in (
@@ -467,25 +467,25 @@ module _ (p₀ : Plain) (bytes : List ℕ) (minute : ℕ) (x : Scripts) (few : x
                   ∙ g .1),
               g .2,
             );
-        shut-other = λ j k c cs q h e. then-slot j c cs _ (same-quiet k (plainAfter cs p₀) j h c q ∙ e);
+        closed-other = λ j k c cs q h e. then-slot j c cs _ (same-quiet k (plainAfter cs p₀) j h c q ∙ e);
         given-other = λ j k i c cs q h g. (g .0, then-slot j c cs _ (same-quiet k (plainAfter cs p₀) j h c q ∙ g .1), g .2);
         ready-other = λ j k c cs q h g. (g .0, then-slot j c cs _ (same-quiet k (plainAfter cs p₀) j h c q ∙ g .1), g .2);
-        shut-commit = λ j k cs h e. then-slot j (commit k minute) cs _ (same-other-commit k (plainAfter cs p₀) j h minute ∙ e);
+        closed-commit = λ j k cs h e. then-slot j (commit k minute) cs _ (same-other-commit k (plainAfter cs p₀) j h minute ∙ e);
         ready-commit = λ j k cs h g. (
           g .0,
           then-slot j (commit k minute) cs _ (same-other-commit k (plainAfter cs p₀) j h minute
               ∙ g .1),
           g .2,
         );
-        kept-begun = λ k cs e l g. preserved-call k (begin k) cs e l begins-it;
-        kept-accepted = λ k o cs e l f. preserved-call k (on k o) cs e l (calls-it o);
-        kept-aborted = λ k i cs e l g. preserved-call k (abort k) cs e l aborts-it;
-        kept-dropped = λ k cs e l g. preserved-call k (abort k) cs e l aborts-it;
-        kept-failed = λ k i n o cs e l g f h old. preserved-fails k (suc n) (cs ++ (on k o ∷ [])) e h
+        invariant-begun = λ k cs e l g. preserved-call k (begin k) cs e l begins-it;
+        invariant-accepted = λ k o cs e l f. preserved-call k (on k o) cs e l (calls-it o);
+        invariant-aborted = λ k i cs e l g. preserved-call k (abort k) cs e l aborts-it;
+        invariant-dropped = λ k cs e l g. preserved-call k (abort k) cs e l aborts-it;
+        invariant-failed = λ k i n o cs e l g f h old. preserved-fails k (suc n) (cs ++ (on k o ∷ [])) e h
             (preserved-call k (on k o) cs e l (calls-it o) old);
-        kept-granted = preserved-one;
-        kept-stale = λ k cs e l g f old. preserved-not k 12 cs e l f old;
-        kept-refused = λ k n cs e l g f d h old. preserved-fails k (suc n) (cs ++ (commit k minute ∷ [])) e h
+        invariant-granted = preserved-one;
+        invariant-stale = λ k cs e l g f old. preserved-not k 12 cs e l f old;
+        invariant-refused = λ k n cs e l g f d h old. preserved-fails k (suc n) (cs ++ (commit k minute ∷ [])) e h
             (preserved-not k n cs e l f old);
       }
 
@@ -496,16 +496,16 @@ module _ (p₀ : Plain) (bytes : List ℕ) (minute : ℕ) (x : Scripts) (few : x
       record {
         below = λ j l. h j;
         above = λ j l m. h j;
-        kept = record { granted = record { from = refl; every = none; once = λ k l. refl }; beyond = λ j l. h j };
+        invariant = record { granted = record { from = refl; every = none; once = λ k l. refl }; beyond = λ j l. h j };
       }
 
   -- What it comes to.
   pub plain-granted : (w : Work) → AtRest (plainReply p₀) bytes minute x plain-laws w
       → Granted bytes minute x (plainWithWindows freshWindows p₀) (serialOf (w .made) p₀) (w .ends)
   unfolding plain-laws
-  plain-granted w s = s .kept .granted
+  plain-granted w s = s .invariant .granted
 
   pub plain-closed : (w : Work) → AtRest (plainReply p₀) bytes minute x plain-laws w → (j : ℕ) → plainAfter (w .made) p₀ .slots j
       ≡ closed
   unfolding plain-laws
-  plain-closed w s j = ⊎-elim (s .kept .beyond j) (s .below j) (le-or-lt (x .count) j)
+  plain-closed w s j = ⊎-elim (s .invariant .beyond j) (s .below j) (le-or-lt (x .count) j)

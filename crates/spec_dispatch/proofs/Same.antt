@@ -50,9 +50,9 @@ module _ (bytes : List ℕ) (minute : ℕ) (x : Scripts) (m : Machine) (reader :
   abbrev pub gate : ℕ
   gate = admissionOfDispatch (sizes m) (m .store) (m .journal) (scriptsIn (length bytes) x)
 
-  pub refusal-is : dispatch bytes minute x m reader .refusal ≡ gate
+  pub dispatch-refusal-is : dispatch bytes minute x m reader .refusal ≡ gate
   unfolding dispatch
-  refusal-is = refusal-of m reader _ _ gate
+  dispatch-refusal-is = refusal-of m reader _ _ gate
 
 -- ---- on the reference model too
 

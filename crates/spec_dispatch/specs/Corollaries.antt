@@ -17,7 +17,7 @@ use Rattle.spec.specs.Serializability.{IsAccepted, OneMoment}
 use Rattle.spec.specs.Age.{AtRest}
 use Rattle.spec_dispatch.specs.Rounds.{Scripts, scriptsIn}
 use Rattle.spec_dispatch.specs.Dispatch.{dispatch, Dispatches, plainOf}
-use Rattle.spec_dispatch.specs.SerializabilityOfCode.{CallMade, CallKept, madeReply, Linked}
+use Rattle.spec_dispatch.specs.SerializabilityOfCode.{CallMade, CallMeets, madeReply, Linked}
 
 -- ---- refusals (demand 1): of `dispatch`
 
@@ -63,17 +63,17 @@ MomentOfCode =
     (numbers : List ℕ) (before : Machine) (o : Outcome) (m₀ : Machine)
     → Meets (fresh numbers before) o m₀ [] → said o ≡ doneAnswer
     → (cs : List Call) (m : Machine) → Linked m₀ cs m
-    → (x : CallMade) (t : ℕ) (op : Op) → x .made ≡ on t op → CallKept m x
+    → (x : CallMade) (t : ℕ) (op : Op) → x .made ≡ on t op → CallMeets m x
     → isReadCall op ≡ true → IsAccepted (madeReply x)
     → OneMoment (plainAfter cs (freshPlain (λ d. getD numbers d 0))) t op (madeReply x)
 
 -- Calls alone, as a list, each on what the one before left: all their replies are the reference model's.
-unfoldable pub CallsKept : Machine → List CallMade → Type 0
-CallsKept m [] = Unit {0}
-CallsKept m (x ∷ xs) = CallKept m x × CallsKept (x .after) xs
+unfoldable pub CallsMeet : Machine → List CallMade → Type 0
+CallsMeet m [] = Unit {0}
+CallsMeet m (x ∷ xs) = CallMeets m x × CallsMeet (x .after) xs
 
 abbrev pub RepliesOfCode : Type 0
 RepliesOfCode =
     (numbers : List ℕ) (before : Machine) (o : Outcome) (m₀ : Machine)
-    → Meets (fresh numbers before) o m₀ [] → said o ≡ doneAnswer → (xs : List CallMade) → CallsKept m₀ xs
+    → Meets (fresh numbers before) o m₀ [] → said o ≡ doneAnswer → (xs : List CallMade) → CallsMeet m₀ xs
     → map madeReply xs ≡ plainReplies (map (λ x. x .made) xs) (freshPlain (λ d. getD numbers d 0))

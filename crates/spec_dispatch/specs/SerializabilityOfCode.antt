@@ -27,8 +27,8 @@ pub record CallMade : Type 0 where
   pub after : Machine
   pub reader : List ℕ
 
-abbrev pub CallKept : Machine → CallMade → Type 0
-CallKept m x = Meets (call (x .made) m) (x .outcome) (x .after) (x .reader)
+abbrev pub CallMeets : Machine → CallMade → Type 0
+CallMeets m x = Meets (call (x .made) m) (x .outcome) (x .after) (x .reader)
 
 abbrev pub madeReply : CallMade → Reply
 madeReply x = record { answer = said (x .outcome); buffer = x .reader }
@@ -49,8 +49,8 @@ pub record Gives {M : Type 0} (gave : Dispatched Machine) (d : Dispatched M) : T
   pub reader : gave .reader ≡ d .reader
 
 -- Its promise on m (dispatcher/specs/Promise.antt).
-abbrev pub DispatchKept : Machine → DispatchMade → Type 0
-DispatchKept m y =
+abbrev pub DispatchMeets : Machine → DispatchMade → Type 0
+DispatchMeets m y =
     let d = dispatch (y .bytes) (y .minute) (y .scripts) m (y .reader) in
     Gives (y .gave) d × (y .gave .after ≡ d .after)
 
@@ -63,9 +63,9 @@ dispatchCalls y m =
 -- made.
 pub data Linked (m₀ : Machine) : List Call → Machine → Type 0 where
   start : Linked m₀ [] m₀
-  called : (cs : List Call) (m : Machine) (x : CallMade) → Linked m₀ cs m → CallKept m x
+  called : (cs : List Call) (m : Machine) (x : CallMade) → Linked m₀ cs m → CallMeets m x
       → Linked m₀ (cs ++ (x .made ∷ [])) (x .after)
-  ran : (cs : List Call) (m : Machine) (y : DispatchMade) → Linked m₀ cs m → DispatchKept m y
+  ran : (cs : List Call) (m : Machine) (y : DispatchMade) → Linked m₀ cs m → DispatchMeets m y
       → Linked m₀ (cs ++ dispatchCalls y m) (y .gave .after)
 
 -- What holds of the rules holds of the state and buffers that the caller is left with. The next call, and
@@ -73,9 +73,9 @@ pub data Linked (m₀ : Machine) : List Call → Machine → Type 0 where
 -- all.
 pub record CodeHolds (m₀ : Machine) (p₀ : Plain) (cs : List Call) (m : Machine) : Type 0 where
   pub holds : Holds theStore m₀ p₀ cs m (plainAfter cs p₀)
-  pub reply : (x : CallMade) → CallKept m x → madeReply x ≡ plainCall (x .made) (plainAfter cs p₀) .reply
+  pub reply : (x : CallMade) → CallMeets m x → madeReply x ≡ plainCall (x .made) (plainAfter cs p₀) .reply
   pub dispatch :
-      (y : DispatchMade) → DispatchKept m y
+      (y : DispatchMade) → DispatchMeets m y
       → let e = plainDispatch (y .bytes) (y .minute) (y .scripts) (plainAfter cs p₀) (y .reader) in
       Gives (y .gave) e × (e .after ≡ plainAfter (cs ++ dispatchCalls y m) p₀)
 

@@ -2,4 +2,4 @@ pub mod Members
 pub mod Numbered
 pub mod Best
 pub mod Distinct
-pub mod Computed
+pub mod Examples

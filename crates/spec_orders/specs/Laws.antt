@@ -7,7 +7,8 @@ use mathlib.Core.Logic.{_↔_}
 use mathlib.Core.Path.{_≡_}
 use lib.ListN.{length, getD}
 use Prim.Native.Nat.{ℕ, _+_, _≤_}
-use Rattle.spec_orders.specs.Orders.{orders, triedOf, factorial, bestTried, countIn, gapOf, Arranges, Earliest}
+use Rattle.spec_orders.specs.Orders.{orders, triedOf, factorial, bestTried, countIn, gapOf, Arranges}
+use Rattle.spec_orders.specs.Orders.{Earliest}
 
 -- A list is among others.
 pub data In (o : List ℕ) : List (List ℕ) → Type 0 where

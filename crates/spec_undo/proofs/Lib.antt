@@ -1,2 +1,2 @@
 pub mod OldBytesLaws
-pub mod Computed
+pub mod Examples

@@ -201,7 +201,7 @@ impl Standing {
 
 impl Place {
     // The place, or the advance.
-    pub fn number(self) -> u16
+    pub fn place_number(self) -> u16
         ensures { λ r. ⌜ r ≡ placeNumber self ⌝ }
     {
         match self {

@@ -11,46 +11,48 @@ use native.Mathlib.Nat.{eq-or-lt-of-le, le-of-suc-le-suc, not-suc-le-zero}
 use native.Mathlib.Omega.{arith}
 use native.Mathlib.Numerals.{add-one}
 use Prim.Native.Nat.{ℕ, zero, suc, _+_, _-_, _*_, _≤_, _<_}
+use Rattle.limits.specs.Limits.{descriptorCount, recordCount}
 use Rattle.standings.specs.declared.Place.{Place}
 use Rattle.standings.specs.declared.Place.the-variants.{At, After}
 use Rattle.standings.specs.Table.{placeNumber}
 use Rattle.state.specs.declared.journal.WriteRecord.{WriteRecord}
 use Rattle.state.specs.Journal.{descriptorCode, decodedAs, decoded, writeRecordAt, withRecordAt, withRecords}
+use Rattle.state.specs.Journal.{journalLength}
 
 -- ---- three numbers and a record
 
 -- A record as three numbers, and back.
-held-place : (d : ℕ) (place : Place) (n : ℕ) → d < 16
+decoded-place : (d : ℕ) (place : Place) (n : ℕ) → d < descriptorCount
     → decoded (descriptorCode d place) (placeNumber place) n ≡ record { descriptor = d; place = place; length = n }
 unfolding decoded decodedAs
-held-place d (At p) n h = rw (lt-ltb d 16 h)
-held-place d (After a) n h = rw (le-ltb (16 + d) 16 (omega arith), let e : 16 + d - 16 ≡ d = omega arith in e)
+decoded-place d (At p) n h = rw (lt-ltb d 16 h)
+decoded-place d (After a) n h = rw (le-ltb (16 + d) 16 (omega arith), let e : 16 + d - 16 ≡ d = omega arith in e)
 
-held-record : (w : WriteRecord) → w .descriptor < 16
+decoded-record : (w : WriteRecord) → w .descriptor < descriptorCount
     → decoded (descriptorCode (w .descriptor) (w .place)) (placeNumber (w .place)) (w .length) ≡ w
-held-record w h = held-place (w .descriptor) (w .place) (w .length) h
+decoded-record w h = decoded-place (w .descriptor) (w .place) (w .length) h
 
 -- Three numbers as a record, and back.
 module _ (h p n : ℕ) where
-  holder-held : descriptorCode (decoded h p n .descriptor) (decoded h p n .place) ≡ h
+  code-decoded : descriptorCode (decoded h p n .descriptor) (decoded h p n .place) ≡ h
   unfolding decoded decodedAs
-  holder-held = pick (ltb h 16) refl
+  code-decoded = pick (ltb h 16) refl
     where
       pick : (b : Bool) → ltb h 16 ≡ b → descriptorCode (decodedAs b h p n .descriptor) (decodedAs b h p n .place) ≡ h
       pick true e = refl
       pick false e = let l = ltb-false h 16 e in omega arith
 
-  number-held : placeNumber (decoded h p n .place) ≡ p
+  number-decoded : placeNumber (decoded h p n .place) ≡ p
   unfolding decoded decodedAs
-  number-held = pick (ltb h 16)
+  number-decoded = pick (ltb h 16)
     where
       pick : (b : Bool) → placeNumber (decodedAs b h p n .place) ≡ p
       pick true = refl
       pick false = refl
 
-  pub length-held : decoded h p n .length ≡ n
+  pub length-decoded : decoded h p n .length ≡ n
   unfolding decoded decodedAs
-  length-held = pick (ltb h 16)
+  length-decoded = pick (ltb h 16)
     where
       pick : (b : Bool) → decodedAs b h p n .length ≡ n
       pick true = refl
@@ -67,44 +69,44 @@ module _ (journal : List ℕ) (t k : ℕ) where
   pub with-own : withRecordAt journal t k (writeRecordAt journal t k) ≡ journal
   unfolding withRecordAt writeRecordAt
   with-own =
-      let i = 3 * (64 * t + k) in
+      let i = 3 * (recordCount * t + k) in
       let a = getD journal i 0 in
       let b = getD journal (i + 1) 0 in
       let c = getD journal (i + 2) 0 in
       rw (
-        holder-held a b c,
-        number-held a b c,
-        length-held a b c,
+        code-decoded a b c,
+        number-decoded a b c,
+        length-decoded a b c,
         set-getD journal i 0,
         set-getD journal (i + 1) 0,
         set-getD journal (i + 2) 0,
       )
 
-  module _ (w : WriteRecord) (long : length journal ≡ 1728) (small : t < 9) (few : k < 64) where
-    at-same : w .descriptor < 16 → writeRecordAt (withRecordAt journal t k w) t k ≡ w
+  module _ (w : WriteRecord) (long : length journal ≡ journalLength) (small : t < 9) (few : k < recordCount) where
+    at-same : w .descriptor < descriptorCount → writeRecordAt (withRecordAt journal t k w) t k ≡ w
     unfolding withRecordAt writeRecordAt
     at-same low =
-        let i = 3 * (64 * t + k) in
+        let i = 3 * (recordCount * t + k) in
         let h = descriptorCode (w .descriptor) (w .place) in
         let p = placeNumber (w .place) in
         let a = set journal i h in
         let b = set a (i + 1) p in
         let c = set b (i + 2) (w .length) in
-        let la : length a ≡ 1728 = length-set journal i h ∙ long in
-        let lb : length b ≡ 1728 = length-set a (i + 1) p ∙ la in
+        let la : length a ≡ journalLength = length-set journal i h ∙ long in
+        let lb : length b ≡ journalLength = length-set a (i + 1) p ∙ la in
         let e : getD c i 0 ≡ h = getD-set-other b (i + 2) i (w .length) 0 (λ q. omega arith)
         ∙ getD-set-other a (i + 1) i p 0 (λ q. omega arith) ∙ getD-set-same journal i h 0 (omega arith) in
         let f : getD c (i + 1) 0 ≡ p = getD-set-other b (i + 2) (i + 1) (w .length) 0 (λ q. omega arith)
         ∙ getD-set-same a (i + 1) p 0 (omega arith) in
         let g : getD c (i + 2) 0 ≡ w .length = getD-set-same b (i + 2) (w .length) 0 (omega arith) in
-        rw (e, f, g) (held-record w low)
+        rw (e, f, g) (decoded-record w low)
 
-    at-other : (u j : ℕ) → u < 9 → j < 64 → (64 * u + j ≡ 64 * t + k → ⊥)
+    at-other : (u j : ℕ) → u < 9 → j < recordCount → (recordCount * u + j ≡ recordCount * t + k → ⊥)
         → writeRecordAt (withRecordAt journal t k w) u j ≡ writeRecordAt journal u j
     unfolding withRecordAt writeRecordAt
     at-other u j m l ne =
-        let i = 3 * (64 * t + k) in
-        let n = 3 * (64 * u + j) in
+        let i = 3 * (recordCount * t + k) in
+        let n = 3 * (recordCount * u + j) in
         let h = descriptorCode (w .descriptor) (w .place) in
         let p = placeNumber (w .place) in
         let a = set journal i h in
@@ -147,9 +149,10 @@ module _ (journal : List ℕ) (t : ℕ) where
   with-own-records zero = refl
   with-own-records (suc n) = rw (with-own-records n, with-own journal t n)
 
-  module _ (f : ℕ → WriteRecord) (long : length journal ≡ 1728) (small : t < 9) where
+  module _ (f : ℕ → WriteRecord) (long : length journal ≡ journalLength) (small : t < 9) where
     -- What is read elsewhere, past the records written or in another transaction.
-    pub read-past : (n u j : ℕ) → n ≤ 64 → u < 9 → j < 64 → ((k : ℕ) → k < n → 64 * u + j ≡ 64 * t + k → ⊥)
+    pub read-past : (n u j : ℕ) → n ≤ recordCount → u < 9 → j < recordCount
+        → ((k : ℕ) → k < n → recordCount * u + j ≡ recordCount * t + k → ⊥)
         → writeRecordAt (withRecords journal t f n) u j ≡ writeRecordAt journal u j
     unfolding withRecords
     read-past zero u j few m l ne = refl
@@ -158,11 +161,12 @@ module _ (journal : List ℕ) (t : ℕ) where
         ∙ read-past n u j (omega arith) m l (λ k h. ne k (omega arith))
 
     -- The next record is not changed yet.
-    pub read-next : (n : ℕ) → n < 64 → writeRecordAt (withRecords journal t f n) t n ≡ writeRecordAt journal t n
+    pub read-next : (n : ℕ) → n < recordCount → writeRecordAt (withRecords journal t f n) t n ≡ writeRecordAt journal t n
     read-next n few = read-past n t n (omega arith) small few (λ k h q. omega arith)
 
     -- The records written.
-    pub read-own : (n k : ℕ) → n ≤ 64 → k < n → f k .descriptor < 16 → writeRecordAt (withRecords journal t f n) t k ≡ f k
+    pub read-own : (n k : ℕ) → n ≤ recordCount → k < n → f k .descriptor < descriptorCount
+        → writeRecordAt (withRecords journal t f n) t k ≡ f k
     unfolding withRecords
     read-own zero k few h low = absurd (not-suc-le-zero h)
     read-own (suc n) k few h low =
@@ -173,6 +177,6 @@ module _ (journal : List ℕ) (t : ℕ) where
         (eq-or-lt-of-le (le-of-suc-le-suc h))
 
     -- The records of another transaction.
-    pub read-elsewhere : (n u j : ℕ) → n ≤ 64 → u < 9 → j < 64 → (u ≡ t → ⊥)
+    pub read-elsewhere : (n u j : ℕ) → n ≤ recordCount → u < 9 → j < recordCount → (u ≡ t → ⊥)
         → writeRecordAt (withRecords journal t f n) u j ≡ writeRecordAt journal u j
     read-elsewhere n u j few m l other = read-past n u j few m l (λ k h q. other (omega arith))

@@ -11,6 +11,7 @@ use native.Mathlib.Nat.{eq-or-lt-of-le, le-of-suc-le-suc, not-suc-le-zero}
 use native.Mathlib.Numerals.{add-one, add-two}
 use native.Mathlib.Omega.{arith}
 use Prim.Native.Nat.{ℕ, zero, suc, _+_, _-_, _*_, _≤_, _<_}
+use Rattle.limits.specs.Limits.{fileCount, descriptorCount, transactionCount, recordCount}
 use Rattle.buffers.specs.Parts.{tabulate}
 use Rattle.buffers.specs.Bits.{withBitAs}
 use Rattle.buffers.specs.Marks.{contains}
@@ -29,8 +30,10 @@ use Rattle.state.specs.StoreMeaning.{ended, noTransaction, noDescriptor,
 use Rattle.state.specs.StoreMeaning.{withBegun, withStale}
 use Rattle.state.specs.StoreMeaning.{withLengthmarks, withDescriptors, withUsed, withOffsets, withLengths, withWindows}
 use Rattle.state.specs.StoreMeaning.{windowAt, noUndo}
-use Rattle.state.specs.Journal.{descriptorCode, writeRecordAt, withRecordAt}
+use Rattle.state.specs.Journal.{descriptorCode, writeRecordAt, withRecordAt, journalLength}
 use Rattle.state.specs.Layout.{standingOf, isSet, numberAt, descriptorOf, usedOf, transactionOf, storeOf, journalOf}
+use Rattle.state.specs.Layout.{transactionsAt, transactionLength, fileNumbersAt, offsetsAt, lengthsAt, startsAt, endsAt}
+use Rattle.state.specs.Layout.{foundOffsetsAt, foundLengthsAt, undoValidAt}
 use Rattle.state.specs.Layout.{windowOf, undoOf, stateLength}
 use Rattle.state.specs.Updates.{firstNumber, secondNumber, flagNumber, withDescriptorAt, withChosenAt}
 use Rattle.state.specs.Updates.{withUsedAt, withStaleAt}
@@ -43,57 +46,57 @@ use Rattle.state.proofs.Filled.{filled, filled-none, filled-set, filled
 
 module _ (r : List ℕ) where
   -- Write records stand in the journal as in the record.
-  pub record-of : (t k : ℕ) → t < 9 → k < 64 → writeRecordAt (journalOf r) t k ≡ writeRecordAt r t k
+  pub record-of : (t k : ℕ) → t < 9 → k < recordCount → writeRecordAt (journalOf r) t k ≡ writeRecordAt r t k
   unfolding writeRecordAt journalOf
   record-of t k h l =
-      let i = 3 * (64 * t + k) in
+      let i = 3 * (recordCount * t + k) in
       let own : ℕ → ℕ = λ j. getD r j 0 in
       rw (
-        getD-tabulate own 1728 i 0 (omega arith),
-        getD-tabulate own 1728 (i + 1) 0 (omega arith),
-        getD-tabulate own 1728 (i + 2) 0 (omega arith),
+        getD-tabulate own journalLength i 0 (omega arith),
+        getD-tabulate own journalLength (i + 1) 0 (omega arith),
+        getD-tabulate own journalLength (i + 2) 0 (omega arith),
       )
 
-  pub length-journal : length (journalOf r) ≡ 1728
+  pub length-journal : length (journalOf r) ≡ journalLength
   unfolding journalOf
-  length-journal = length-tabulate (λ i. getD r i 0) 1728
+  length-journal = length-tabulate (λ i. getD r i 0) journalLength
 
-  pub transaction-of : (t : ℕ) → t < 8 → transaction (storeOf r) t ≡ transactionOf r t
+  pub transaction-of : (t : ℕ) → t < transactionCount → transaction (storeOf r) t ≡ transactionOf r t
   unfolding storeOf
   transaction-of t h = getD-tabulate (transactionOf r) 8 t noTransaction h
 
-  pub descriptor-of : (t d : ℕ) → d < 16 → getD (transactionOf r t .descriptors) d noDescriptor ≡ descriptorOf r t d
+  pub descriptor-of : (t d : ℕ) → d < descriptorCount → getD (transactionOf r t .descriptors) d noDescriptor ≡ descriptorOf r t d
   unfolding transactionOf
   descriptor-of t d h = getD-tabulate (descriptorOf r t) 16 d noDescriptor h
 
-  pub standing-of : (t d : ℕ) → d < 16
+  pub standing-of : (t d : ℕ) → d < descriptorCount
       → standingAt (transactionOf r t) d ≡ standingOf (getD r (numberAt t d) 0) (getD r (numberAt t (16 + d)) 0)
   unfolding descriptorOf
   standing-of t d h = ap (λ (q : Descriptor). q .standing) (descriptor-of t d h)
 
-  pub file-of : (d : ℕ) → d < 16 → getD (storeOf r .filenumbers) d 0 ≡ getD r (2032 + d) 0
+  pub file-of : (d : ℕ) → d < descriptorCount → getD (storeOf r .filenumbers) d 0 ≡ getD r (fileNumbersAt + d) 0
   unfolding storeOf
-  file-of d h = getD-tabulate (λ k. getD r (2032 + k) 0) 16 d 0 h
+  file-of d h = getD-tabulate (λ k. getD r (fileNumbersAt + k) 0) 16 d 0 h
 
-  pub offset-of : (d : ℕ) → d < 16 → getD (storeOf r .offsets) d 0 ≡ getD r (2048 + d) 0
+  pub offset-of : (d : ℕ) → d < descriptorCount → getD (storeOf r .offsets) d 0 ≡ getD r (offsetsAt + d) 0
   unfolding storeOf
-  offset-of d h = getD-tabulate (λ k. getD r (2048 + k) 0) 16 d 0 h
+  offset-of d h = getD-tabulate (λ k. getD r (offsetsAt + k) 0) 16 d 0 h
 
-  pub length-of : (f : ℕ) → f < 8 → getD (storeOf r .lengths) f 0 ≡ getD r (2064 + f) 0
+  pub length-of : (f : ℕ) → f < fileCount → getD (storeOf r .lengths) f 0 ≡ getD r (lengthsAt + f) 0
   unfolding storeOf
-  length-of f h = getD-tabulate (λ k. getD r (2064 + k) 0) 8 f 0 h
+  length-of f h = getD-tabulate (λ k. getD r (lengthsAt + k) 0) 8 f 0 h
 
-  pub window-of : (f : ℕ) → f < 8 → windowAt (storeOf r) f ≡ windowOf r f
+  pub window-of : (f : ℕ) → f < fileCount → windowAt (storeOf r) f ≡ windowOf r f
   unfolding storeOf
   window-of f h = getD-tabulate (windowOf r) 8 f freshWindow h
 
-  pub found-offset-of : (d : ℕ) → d < 16 → getD (storeOf r .undo .offsets) d 0 ≡ getD r (2088 + d) 0
+  pub found-offset-of : (d : ℕ) → d < descriptorCount → getD (storeOf r .undo .offsets) d 0 ≡ getD r (foundOffsetsAt + d) 0
   unfolding storeOf undoOf
-  found-offset-of d h = getD-tabulate (λ k. getD r (2088 + k) 0) 16 d 0 h
+  found-offset-of d h = getD-tabulate (λ k. getD r (foundOffsetsAt + k) 0) 16 d 0 h
 
-  pub found-length-of : (f : ℕ) → f < 8 → getD (storeOf r .undo .lengths) f 0 ≡ getD r (2104 + f) 0
+  pub found-length-of : (f : ℕ) → f < fileCount → getD (storeOf r .undo .lengths) f 0 ≡ getD r (foundLengthsAt + f) 0
   unfolding storeOf undoOf
-  found-length-of f h = getD-tabulate (λ k. getD r (2104 + k) 0) 8 f 0 h
+  found-length-of f h = getD-tabulate (λ k. getD r (foundLengthsAt + k) 0) 8 f 0 h
 
 -- ---- two records that agree on some numbers
 
@@ -102,30 +105,30 @@ module _ (r s : List ℕ) where
   abbrev pub Agree : ℕ → ℕ → Type 0
   Agree from n = (j : ℕ) → from ≤ j → j < from + n → getD s j 0 ≡ getD r j 0
 
-  pub journal-same : Agree 0 1728 → journalOf s ≡ journalOf r
+  pub journal-same : Agree 0 journalLength → journalOf s ≡ journalOf r
   unfolding journalOf
-  journal-same e = table-same _ _ 1728 (λ k h. e k (omega arith) (omega arith))
+  journal-same e = table-same _ _ journalLength (λ k h. e k (omega arith) (omega arith))
 
   pub column-same : (at n : ℕ) → Agree at n → tabulate (λ k. getD s (at + k) 0) n ≡ tabulate (λ k. getD r (at + k) 0) n
   column-same at n e = table-same _ _ n (λ k h. e (at + k) (omega arith) (omega arith))
 
-  pub undo-same : Agree 2088 27 → undoOf s ≡ undoOf r
+  pub undo-same : Agree foundOffsetsAt 27 → undoOf s ≡ undoOf r
   unfolding undoOf
   undo-same e =
       rw (
-        e 2112 (omega arith) (omega arith),
-        e 2113 (omega arith) (omega arith),
-        e 2114 (omega arith) (omega arith),
-        column-same 2088 16
+        e undoValidAt (omega arith) (omega arith),
+        e (undoValidAt + 1) (omega arith) (omega arith),
+        e (undoValidAt + 2) (omega arith) (omega arith),
+        column-same foundOffsetsAt descriptorCount
             (λ j a b. e j a (omega arith)),
-        column-same 2104 8 (λ j a b. e j (omega arith) (omega arith)),
+        column-same foundLengthsAt fileCount (λ j a b. e j (omega arith) (omega arith)),
       )
 
-  pub windows-same : Agree 2072 16 → tabulate (windowOf s) 8 ≡ tabulate (windowOf r) 8
+  pub windows-same : Agree startsAt 16 → tabulate (windowOf s) 8 ≡ tabulate (windowOf r) 8
   unfolding windowOf
   windows-same e = table-same _ _ 8 (λ f h. rw (
-    e (2072 + f) (omega arith) (omega arith),
-    e (2080 + f) (omega arith) (omega arith),
+    e (startsAt + f) (omega arith) (omega arith),
+    e (endsAt + f) (omega arith) (omega arith),
   ))
 
   -- They agree on this number.
@@ -137,7 +140,7 @@ module _ (r s : List ℕ) where
   unfolding descriptorOf
   descriptors-same t e dirty = table-same _ _ 16 (λ d h. rw (e d (omega arith), e (16 + d) (omega arith), dirty))
 
-  transaction-same : (t : ℕ) → ((k : ℕ) → k < 38 → Same (numberAt t k)) → transactionOf s t ≡ transactionOf r t
+  transaction-same : (t : ℕ) → ((k : ℕ) → k < transactionLength → Same (numberAt t k)) → transactionOf s t ≡ transactionOf r t
   unfolding transactionOf usedOf
   transaction-same t e =
       rw (
@@ -149,27 +152,28 @@ module _ (r s : List ℕ) where
         descriptors-same t (λ k h. e k (omega arith)) (e 35 (omega arith)),
       )
 
-  pub transactions-same : Agree 1728 304 → tabulate (transactionOf s) 8 ≡ tabulate (transactionOf r) 8
+  pub transactions-same : Agree transactionsAt (transactionCount * transactionLength)
+      → tabulate (transactionOf s) 8 ≡ tabulate (transactionOf r) 8
   transactions-same e =
       table-same _ _ 8 (λ t h. transaction-same t (λ k l. e (numberAt t k) (omega arith) (omega arith)))
 
   -- They agree but for the numbers of transaction t: outside the rows of the transactions, and on those of every other one.
   abbrev AgreeBut : ℕ → Type 0
-  AgreeBut t = ((j : ℕ) → (j < 1728) ⊎ (2032 ≤ j) → Same j)
-      × ((u k : ℕ) → u < 8 → k < 38 → (u ≡ t → ⊥) → Same (numberAt u k))
+  AgreeBut t = ((j : ℕ) → (j < journalLength) ⊎ (fileNumbersAt ≤ j) → Same j)
+      × ((u k : ℕ) → u < transactionCount → k < transactionLength → (u ≡ t → ⊥) → Same (numberAt u k))
 
-  module _ (t : ℕ) (small : t < 8) (outside : AgreeBut t) where
-    other-transaction : (u : ℕ) → u < 8 → (u ≡ t → ⊥) → transactionOf s u ≡ transactionOf r u
+  module _ (t : ℕ) (small : t < transactionCount) (outside : AgreeBut t) where
+    other-transaction : (u : ℕ) → u < transactionCount → (u ≡ t → ⊥) → transactionOf s u ≡ transactionOf r u
     other-transaction u h ne = transaction-same u (λ k l. outside .1 u k h l ne)
 
     store-block : (y : Transaction) → transactionOf s t ≡ y → storeOf s ≡ withTransaction t y (storeOf r)
     unfolding storeOf withTransaction
     store-block y own =
         rw (
-          column-same 2032 16 (λ j a b. outside .0 j (inr (omega arith))),
-          column-same 2048 16
+          column-same fileNumbersAt descriptorCount (λ j a b. outside .0 j (inr (omega arith))),
+          column-same offsetsAt descriptorCount
               (λ j a b. outside .0 j (inr (omega arith))),
-          column-same 2064 8 (λ j a b. outside .0 j (inr (omega arith))),
+          column-same lengthsAt fileCount (λ j a b. outside .0 j (inr (omega arith))),
           windows-same
               (λ j a b. outside .0 j (inr (omega arith))),
           undo-same (λ j a b. outside .0 j (inr (omega arith))),
@@ -186,7 +190,7 @@ module _ (r s : List ℕ) where
     journal-block = journal-same (λ j a b. outside .0 j (inl (omega arith)))
 
 -- Rows are apart: a number of one transaction is none of another, and two numbers of one transaction are two.
-other-row : (t u k l : ℕ) → t < 8 → u < 8 → (u ≡ t → ⊥) → numberAt u k ≡ numberAt t l → ⊥
+other-row : (t u k l : ℕ) → t < transactionCount → u < transactionCount → (u ≡ t → ⊥) → numberAt u k ≡ numberAt t l → ⊥
 other-row t u k l h m ne p = ne (omega arith)
 
 -- One change after another of the same transaction.
@@ -194,7 +198,7 @@ agree-then : (r s v : List ℕ) (t : ℕ) → AgreeBut r s t → AgreeBut s v t 
 agree-then r s v t e f = ((λ j w. f .0 j w ∙ e .0 j w), (λ u k h l ne. f .1 u k h l ne ∙ e .1 u k h l ne))
 
 -- Number k of transaction t was put.
-agree-set : (r : List ℕ) (t k n : ℕ) → t < 8 → k < 38 → AgreeBut r (set r (numberAt t k) n) t
+agree-set : (r : List ℕ) (t k n : ℕ) → t < transactionCount → k < transactionLength → AgreeBut r (set r (numberAt t k) n) t
 agree-set r t k n small few = (
   (λ j w. getD-set-other r (numberAt t k) j n 0 (⊎-elim (λ h p. omega arith) (λ h p. omega arith) w)),
   (λ u l h m ne. getD-set-other r (numberAt t k) (numberAt u l) n 0 (other-row t u l k small h ne)),
@@ -206,10 +210,10 @@ pub column-left : (r : List ℕ) (i n at m : ℕ) → (i < at) ⊎ (at + m ≤ i
 column-left r i n at m w = column-same r (set r i n) at m
     (λ j a b. getD-set-other r i j n 0 (λ p. ⊎-elim (λ h. omega arith) (λ h. omega arith) w))
 
-windows-left : (r : List ℕ) (i n : ℕ) → i < 2072 → tabulate (windowOf (set r i n)) 8 ≡ tabulate (windowOf r) 8
+windows-left : (r : List ℕ) (i n : ℕ) → i < startsAt → tabulate (windowOf (set r i n)) 8 ≡ tabulate (windowOf r) 8
 windows-left r i n h = windows-same r (set r i n) (λ j a b. getD-set-other r i j n 0 (λ p. omega arith))
 
-undo-left : (r : List ℕ) (i n : ℕ) → i < 2088 → undoOf (set r i n) ≡ undoOf r
+undo-left : (r : List ℕ) (i n : ℕ) → i < foundOffsetsAt → undoOf (set r i n) ≡ undoOf r
 undo-left r i n h = undo-same r (set r i n) (λ j a b. getD-set-other r i j n 0 (λ p. omega arith))
 
 -- ---- a descriptor
@@ -277,7 +281,7 @@ module _ (r : List ℕ) (t d : ℕ) (q : Descriptor) where
       ∙ getD-set-other one (numberAt t (16 + d)) j (secondNumber (q .standing)) 0 n1
       ∙ getD-set-other r (numberAt t d) j (firstNumber (q .standing)) 0 n0
 
-  module _ (long : length r ≡ stateLength) (small : t < 8) (few : d < 16) where
+  module _ (long : length r ≡ stateLength) (small : t < transactionCount) (few : d < descriptorCount) where
     long-one : length one ≡ stateLength
     long-one = length-set r (numberAt t d) (firstNumber (q .standing)) ∙ long
 
@@ -315,7 +319,8 @@ module _ (r : List ℕ) (t d : ℕ) (q : Descriptor) where
           eq-eqb d d refl,
         )
 
-    other-descriptor : (e : ℕ) → e < 16 → (e ≡ d → ⊥) → descriptorOf (withDescriptorAt r t d q) t e ≡ descriptorOf r t e
+    other-descriptor : (e : ℕ) → e < descriptorCount → (e ≡ d → ⊥)
+        → descriptorOf (withDescriptorAt r t d q) t e ≡ descriptorOf r t e
     unfolding descriptorOf
     other-descriptor e h ne =
         let firsts = number-preserved (numberAt t e) (λ p. ne (omega arith)) (λ p. omega arith) (λ p. omega arith) in
@@ -371,7 +376,7 @@ module _ (r : List ℕ) (t : ℕ) (chosen : ℕ → Bool) (f : ℕ → Descripto
       either (λ l. length l ≡ length r) (chosen n) (withDescriptorAt s t n (f n)) s (length-with-descriptor s t n (f n) ∙ e)
       (λ _. e)
 
-  module _ (long : length r ≡ stateLength) (small : t < 8) where
+  module _ (long : length r ≡ stateLength) (small : t < transactionCount) where
     outside-chosen : (n : ℕ) → n ≤ 16 → AgreeBut r (withChosenAt r t chosen f n) t
     unfolding withChosenAt
     outside-chosen zero h = ((λ j w. refl), (λ u k a b ne. refl))
@@ -387,7 +392,7 @@ module _ (r : List ℕ) (t : ℕ) (chosen : ℕ → Bool) (f : ℕ → Descripto
     journal-with-chosen = journal-block r (withChosenAt r t chosen f 16) t small (outside-chosen 16 (omega arith))
 
     -- One that is not chosen is as it was.
-    module _ (same : (e : ℕ) → e < 16 → chosen e ≡ false → f e ≡ descriptorOf r t e) where
+    module _ (same : (e : ℕ) → e < descriptorCount → chosen e ≡ false → f e ≡ descriptorOf r t e) where
       abbrev first-of : ℕ → List Descriptor
       first-of n = filled f (transactionOf r t .descriptors) n
 
@@ -427,7 +432,8 @@ module _ (r : List ℕ) (t : ℕ) (chosen : ℕ → Bool) (f : ℕ → Descripto
 -- ---- the two counters, the flags, the lengths sighted
 
 -- Number k of transaction t was put, which is no descriptor's.
-module _ (r : List ℕ) (t : ℕ) (long : length r ≡ stateLength) (small : t < 8) (k n : ℕ) (past : 32 ≤ k) (few : k < 38)
+module _ (r : List ℕ) (t : ℕ) (long : length r ≡ stateLength) (small : t < transactionCount) (k n : ℕ) (past : 32 ≤ k)
+    (few : k < transactionLength)
     (clean : k ≡ 35 → ⊥) where
   abbrev after : ℕ → ℕ
   after j = cond (eqb j k) n (getD r (numberAt t j) 0)
@@ -462,7 +468,7 @@ module _ (r : List ℕ) (t : ℕ) (long : length r ≡ stateLength) (small : t <
       number-at : (j : ℕ) → getD (set r (numberAt t k) n) (numberAt t j) 0 ≡ after j
       number-at j = number-by j (eqb j k) refl
 
-module _ (r : List ℕ) (t : ℕ) (long : length r ≡ stateLength) (small : t < 8) where
+module _ (r : List ℕ) (t : ℕ) (long : length r ≡ stateLength) (small : t < transactionCount) where
   module _ (u : Used) where
     pub length-with-used : length (withUsedAt r t u) ≡ length r
     unfolding withUsedAt
@@ -528,7 +534,7 @@ flag-back false = refl
 
 -- ---- zeros: a transaction that has ended, and a record as Fresh leaves it but for the file numbers
 
-none-dirty : (d : ℕ) → d < 16 → contains 0 d ≡ false
+none-dirty : (d : ℕ) → d < descriptorCount → contains 0 d ≡ false
 none-dirty d h = ap (λ (x : ℕ). contains x d) (sym (bits-none (λ _. false) 16 (λ u. refl))) ∙ contains-bits (λ _. false) 16 d h
 
 module _ {A : Type 0} (a : A) where
@@ -541,7 +547,7 @@ module _ {A : Type 0} (a : A) where
   sixteen-of = refl
 
 module _ (r : List ℕ) where
-  transaction-of-zeros : (t : ℕ) → ((k : ℕ) → k < 38 → getD r (numberAt t k) 0 ≡ 0) → transactionOf r t ≡ ended
+  transaction-of-zeros : (t : ℕ) → ((k : ℕ) → k < transactionLength → getD r (numberAt t k) 0 ≡ 0) → transactionOf r t ≡ ended
   unfolding transactionOf usedOf descriptorOf standingOf ended
   transaction-of-zeros t none =
       rw (
@@ -557,18 +563,19 @@ module _ (r : List ℕ) where
 
   windows-of-zeros : ((j : ℕ) → getD r j 0 ≡ 0) → tabulate (windowOf r) 8 ≡ replicate 8 freshWindow
   unfolding windowOf
-  windows-of-zeros none = table-same _ (λ _. freshWindow) 8 (λ f h. rw (none (2072 + f), none (2080 + f))) ∙ eight-of freshWindow
+  windows-of-zeros none = table-same _ (λ _. freshWindow) 8 (λ f h. rw (none (startsAt + f), none (endsAt + f)))
+      ∙ eight-of freshWindow
 
   undo-of-zeros : ((j : ℕ) → getD r j 0 ≡ 0) → undoOf r ≡ noUndo
   unfolding undoOf
   undo-of-zeros none =
       rw (
-        none 2112,
-        none 2113,
-        none 2114,
-        table-same (λ d. getD r (2088 + d) 0) (λ _. 0) 16 (λ d h. none (2088 + d)),
+        none undoValidAt,
+        none (undoValidAt + 1),
+        none (undoValidAt + 2),
+        table-same (λ d. getD r (foundOffsetsAt + d) 0) (λ _. 0) 16 (λ d h. none (foundOffsetsAt + d)),
         table-same
-            (λ f. getD r (2104 + f) 0) (λ _. 0) 8 (λ f h. none (2104 + f)),
+            (λ f. getD r (foundLengthsAt + f) 0) (λ _. 0) 8 (λ f h. none (foundLengthsAt + f)),
         sixteen-of {A = ℕ} 0,
         eight-of {A = ℕ} 0,
       )
@@ -588,9 +595,9 @@ module _ (r : List ℕ) where
       let zeros : (at m : ℕ) → tabulate (λ k. getD r (at + k) 0) m
       ≡ tabulate (λ _. 0) m = λ at m. table-same _ _ m (λ k h. none (at + k)) in
       rw (
-        zeros 2032 16,
-        zeros 2048 16,
-        zeros 2064 8,
+        zeros fileNumbersAt descriptorCount,
+        zeros offsetsAt descriptorCount,
+        zeros lengthsAt fileCount,
         windows-of-zeros none,
         undo-of-zeros none,
         table-same (transactionOf r) (λ _. ended) 8
@@ -606,15 +613,15 @@ module _ (r : List ℕ) (t : ℕ) where
   length-zeroed zero = refl
   length-zeroed (suc n) = length-set (zeroedAt r t n) (numberAt t n) 0 ∙ length-zeroed n
 
-  module _ (small : t < 8) where
-    outside-zeroed : (n : ℕ) → n ≤ 38 → AgreeBut r (zeroedAt r t n) t
+  module _ (small : t < transactionCount) where
+    outside-zeroed : (n : ℕ) → n ≤ transactionLength → AgreeBut r (zeroedAt r t n) t
     unfolding zeroedAt
     outside-zeroed zero h = ((λ j w. refl), (λ u k a b ne. refl))
     outside-zeroed (suc n) h =
         agree-then r (zeroedAt r t n) (zeroedAt r t (suc n)) t (outside-zeroed n (omega arith))
         (agree-set (zeroedAt r t n) t n 0 small (omega arith))
 
-    zeroed-own : length r ≡ stateLength → (n k : ℕ) → n ≤ 38 → k < n → getD (zeroedAt r t n) (numberAt t k) 0 ≡ 0
+    zeroed-own : length r ≡ stateLength → (n k : ℕ) → n ≤ transactionLength → k < n → getD (zeroedAt r t n) (numberAt t k) 0 ≡ 0
     unfolding zeroedAt
     zeroed-own long zero k f h = absurd (not-suc-le-zero h)
     zeroed-own long (suc n) k f h =
@@ -625,21 +632,21 @@ module _ (r : List ℕ) (t : ℕ) where
         ∙ zeroed-own long n k (omega arith) b)
         (eq-or-lt-of-le (le-of-suc-le-suc h))
 
-module _ (r : List ℕ) (t : ℕ) (long : length r ≡ stateLength) (small : t < 8) (b : Bool) where
+module _ (r : List ℕ) (t : ℕ) (long : length r ≡ stateLength) (small : t < transactionCount) (b : Bool) where
   abbrev zeroed : List ℕ
-  zeroed = zeroedAt r t 38
+  zeroed = zeroedAt r t transactionLength
 
   long-zeroed : length zeroed ≡ stateLength
-  long-zeroed = length-zeroed r t 38 ∙ long
+  long-zeroed = length-zeroed r t transactionLength ∙ long
 
   pub length-reset : length (resetAt r t b) ≡ length r
   unfolding resetAt
-  length-reset = length-set zeroed (numberAt t 32) (flagNumber b) ∙ length-zeroed r t 38
+  length-reset = length-set zeroed (numberAt t 32) (flagNumber b) ∙ length-zeroed r t transactionLength
 
   outside-reset : AgreeBut r (resetAt r t b) t
   unfolding resetAt
   outside-reset =
-      agree-then r zeroed (resetAt r t b) t (outside-zeroed r t small 38 (omega arith))
+      agree-then r zeroed (resetAt r t b) t (outside-zeroed r t small transactionLength (omega arith))
       (agree-set zeroed t 32 (flagNumber b) small (omega arith))
 
   own-reset : transactionOf (resetAt r t b) t ≡ withBegun b ended
@@ -647,7 +654,7 @@ module _ (r : List ℕ) (t : ℕ) (long : length r ≡ stateLength) (small : t <
   own-reset =
       with-number zeroed t long-zeroed small 32 (flagNumber b) (omega arith) (omega arith) (λ p. omega arith)
       ∙ ap (λ (a : Bool). withBegun a (transactionOf zeroed t)) (flag-back b)
-      ∙ ap (withBegun b) (transaction-of-zeros zeroed t (λ k h. zeroed-own r t small long 38 k (omega arith) h))
+      ∙ ap (withBegun b) (transaction-of-zeros zeroed t (λ k h. zeroed-own r t small long transactionLength k (omega arith) h))
 
   pub store-reset : storeOf (resetAt r t b) ≡ withTransaction t (withBegun b ended) (storeOf r)
   store-reset = store-block r (resetAt r t b) t small outside-reset (withBegun b ended) own-reset
@@ -670,7 +677,7 @@ filed l s = record {
 
 module _ (r : List ℕ) (long : length r ≡ stateLength) where
   -- A number past the transactions leaves them and the journal.
-  module _ (i n : ℕ) (past : 2032 ≤ i) where
+  module _ (i n : ℕ) (past : fileNumbersAt ≤ i) where
     transactions-past : tabulate (transactionOf (set r i n)) 8 ≡ tabulate (transactionOf r) 8
     transactions-past = transactions-same r (set r i n) (λ j a b. getD-set-other r i j n 0 (λ p. omega arith))
 
@@ -689,108 +696,108 @@ module _ (r : List ℕ) (long : length r ≡ stateLength) where
     pub store-with-offset : k < 16 → storeOf (withOffsetAt r k n) ≡ withOffsets (set (storeOf r .offsets) k n) (storeOf r)
     unfolding storeOf
     store-with-offset h =
-        let i = 2048 + k in
+        let i = offsetsAt + k in
         rw (
           transactions-past i n (omega arith),
-          column-left r i n 2032 16 (inr (omega arith)),
-          column-left r i n 2064 8
+          column-left r i n fileNumbersAt descriptorCount (inr (omega arith)),
+          column-left r i n lengthsAt fileCount
               (inl (omega arith)),
           windows-left r i n (omega arith),
           undo-left r i n (omega arith),
-          column-set 2048 16 k n h (omega arith),
+          column-set offsetsAt descriptorCount k n h (omega arith),
         )
 
     pub store-with-length : k < 8 → storeOf (withLengthAt r k n) ≡ withLengths (set (storeOf r .lengths) k n) (storeOf r)
     unfolding storeOf
     store-with-length h =
-        let i = 2064 + k in
+        let i = lengthsAt + k in
         rw (
           transactions-past i n (omega arith),
-          column-left r i n 2032 16 (inr (omega arith)),
-          column-left r i n 2048 16
+          column-left r i n fileNumbersAt descriptorCount (inr (omega arith)),
+          column-left r i n offsetsAt descriptorCount
               (inr (omega arith)),
           windows-left r i n (omega arith),
           undo-left r i n (omega arith),
-          column-set 2064 8 k n h (omega arith),
+          column-set lengthsAt fileCount k n h (omega arith),
         )
 
     store-with-file : k < 16 → let s = storeOf r in storeOf (withFileNumberAt r k n) ≡ filed (set (s .filenumbers) k n) s
     unfolding storeOf
     store-with-file h =
-        let i = 2032 + k in
+        let i = fileNumbersAt + k in
         rw (
           transactions-past i n (omega arith),
-          column-left r i n 2048 16 (inl (omega arith)),
-          column-left r i n 2064 8
+          column-left r i n offsetsAt descriptorCount (inl (omega arith)),
+          column-left r i n lengthsAt fileCount
               (inl (omega arith)),
           windows-left r i n (omega arith),
           undo-left r i n (omega arith),
-          column-set 2032 16 k n h (omega arith),
+          column-set fileNumbersAt descriptorCount k n h (omega arith),
         )
 
     journal-with-file : journalOf (withFileNumberAt r k n) ≡ journalOf r
-    journal-with-file = journal-past (2032 + k) n (omega arith)
+    journal-with-file = journal-past (fileNumbersAt + k) n (omega arith)
 
     pub journal-with-offset : journalOf (withOffsetAt r k n) ≡ journalOf r
-    journal-with-offset = journal-past (2048 + k) n (omega arith)
+    journal-with-offset = journal-past (offsetsAt + k) n (omega arith)
 
     pub journal-with-length : journalOf (withLengthAt r k n) ≡ journalOf r
-    journal-with-length = journal-past (2064 + k) n (omega arith)
+    journal-with-length = journal-past (lengthsAt + k) n (omega arith)
 
   -- The window of file f.
   module _ (f : ℕ) (w : Window) where
     -- A number that is neither of the two.
-    window-preserved : (j : ℕ) → (j ≡ 2072 + f → ⊥) → (j ≡ 2080 + f → ⊥) → getD (withWindowAt r f w) j 0 ≡ getD r j 0
-    window-preserved j n0 n1 = getD-set-other (set r (2072 + f) (w .start)) (2080 + f) j (w .end) 0 n1
-        ∙ getD-set-other r (2072 + f) j (w .start) 0 n0
+    window-preserved : (j : ℕ) → (j ≡ startsAt + f → ⊥) → (j ≡ endsAt + f → ⊥) → getD (withWindowAt r f w) j 0 ≡ getD r j 0
+    window-preserved j n0 n1 = getD-set-other (set r (startsAt + f) (w .start)) (endsAt + f) j (w .end) 0 n1
+        ∙ getD-set-other r (startsAt + f) j (w .start) 0 n0
 
-    before-windows : (at n : ℕ) → at + n ≤ 2072 → Agree r (withWindowAt r f w) at n
+    before-windows : (at n : ℕ) → at + n ≤ startsAt → Agree r (withWindowAt r f w) at n
     before-windows at n l j a b = window-preserved j (λ p. omega arith) (λ p. omega arith)
 
-    own-window : f < 8 → windowOf (withWindowAt r f w) f ≡ w
+    own-window : f < fileCount → windowOf (withWindowAt r f w) f ≡ w
     unfolding windowOf
     own-window h =
-        let a = set r (2072 + f) (w .start) in
-        let la : length a ≡ stateLength = length-set r (2072 + f) (w .start) ∙ long in
+        let a = set r (startsAt + f) (w .start) in
+        let la : length a ≡ stateLength = length-set r (startsAt + f) (w .start) ∙ long in
         rw (
-          getD-set-other a (2080 + f) (2072 + f) (w .end) 0 (λ p. omega arith),
-          getD-set-same r (2072 + f) (w .start) 0
+          getD-set-other a (endsAt + f) (startsAt + f) (w .end) 0 (λ p. omega arith),
+          getD-set-same r (startsAt + f) (w .start) 0
               (omega arith),
-          getD-set-same a (2080 + f) (w .end) 0 (omega arith),
+          getD-set-same a (endsAt + f) (w .end) 0 (omega arith),
         )
 
-    other-window : f < 8 → (g : ℕ) → g < 8 → (g ≡ f → ⊥) → windowOf (withWindowAt r f w) g ≡ windowOf r g
+    other-window : f < fileCount → (g : ℕ) → g < fileCount → (g ≡ f → ⊥) → windowOf (withWindowAt r f w) g ≡ windowOf r g
     unfolding windowOf
     other-window h g l ne =
         rw (
-          window-preserved (2072 + g) (λ p. ne (omega arith)) (λ p. omega arith),
-          window-preserved (2080 + g) (λ p. omega arith) (λ p. ne (omega arith)),
+          window-preserved (startsAt + g) (λ p. ne (omega arith)) (λ p. omega arith),
+          window-preserved (endsAt + g) (λ p. omega arith) (λ p. ne (omega arith)),
         )
 
-    pub store-with-window : f < 8 → storeOf (withWindowAt r f w) ≡ withWindows (set (storeOf r .windows) f w) (storeOf r)
+    pub store-with-window : f < fileCount → storeOf (withWindowAt r f w) ≡ withWindows (set (storeOf r .windows) f w) (storeOf r)
     unfolding storeOf
     store-with-window h =
         let s = withWindowAt r f w in
         rw (
-          transactions-same r s (before-windows 1728 304 (omega arith)),
-          column-same r s 2032 16
-              (before-windows 2032 16 (omega arith)),
-          column-same r s 2048 16 (before-windows 2048 16 (omega arith)),
-          column-same r s 2064 8
-              (before-windows 2064 8 (omega arith)),
+          transactions-same r s (before-windows transactionsAt (transactionCount * transactionLength) (omega arith)),
+          column-same r s fileNumbersAt descriptorCount
+              (before-windows fileNumbersAt descriptorCount (omega arith)),
+          column-same r s offsetsAt descriptorCount (before-windows offsetsAt descriptorCount (omega arith)),
+          column-same r s lengthsAt fileCount
+              (before-windows lengthsAt fileCount (omega arith)),
           undo-same r s (λ j a b. window-preserved j (λ p. omega arith) (λ p. omega arith)),
           table-set
               (windowOf r) (windowOf s) 8 f w h (own-window h) (other-window h),
         )
 
     pub journal-with-window : journalOf (withWindowAt r f w) ≡ journalOf r
-    journal-with-window = journal-same r (withWindowAt r f w) (before-windows 0 1728 (omega arith))
+    journal-with-window = journal-same r (withWindowAt r f w) (before-windows 0 journalLength (omega arith))
 
 module _ (r : List ℕ) (long : length r ≡ stateLength) (f : ℕ → ℕ) where
   length-with-files : (n : ℕ) → length (withFileNumbersAt r f n) ≡ length r
   unfolding withFileNumbersAt
   length-with-files zero = refl
-  length-with-files (suc n) = length-set (withFileNumbersAt r f n) (2032 + n) (f n) ∙ length-with-files n
+  length-with-files (suc n) = length-set (withFileNumbersAt r f n) (fileNumbersAt + n) (f n) ∙ length-with-files n
 
   pub journal-with-files : (n : ℕ) → journalOf (withFileNumbersAt r f n) ≡ journalOf r
   unfolding withFileNumbersAt
@@ -800,7 +807,7 @@ module _ (r : List ℕ) (long : length r ≡ stateLength) (f : ℕ → ℕ) wher
 
   sixteen-files : length (storeOf r .filenumbers) ≡ 16
   unfolding storeOf
-  sixteen-files = length-tabulate (λ d. getD r (2032 + d) 0) 16
+  sixteen-files = length-tabulate (λ d. getD r (fileNumbersAt + d) 0) 16
 
   with-first-files : (n : ℕ) → n ≤ 16 → let s = storeOf r in storeOf (withFileNumbersAt r f n)
       ≡ filed (filled f (s .filenumbers) n) s
@@ -822,19 +829,20 @@ module _ (r : List ℕ) (long : length r ≡ stateLength) (f : ℕ → ℕ) wher
 -- ---- the journal
 
 module _ (r : List ℕ) (long : length r ≡ stateLength) where
-  journal-set : (s : List ℕ) → length s ≡ stateLength → (i n : ℕ) → i < 1728 → journalOf (set s i n) ≡ set (journalOf s) i n
+  journal-set : (s : List ℕ) → length s ≡ stateLength → (i n : ℕ) → i < journalLength
+      → journalOf (set s i n) ≡ set (journalOf s) i n
   unfolding journalOf
   journal-set s l i n h =
-      table-set (λ j. getD s j 0) (λ j. getD (set s i n) j 0) 1728 i n h (getD-set-same s i n 0 (omega arith))
+      table-set (λ j. getD s j 0) (λ j. getD (set s i n) j 0) journalLength i n h (getD-set-same s i n 0 (omega arith))
       (λ j m ne. getD-set-other s i j n 0 ne)
 
-  store-set : (s : List ℕ) (i n : ℕ) → i < 1728 → storeOf (set s i n) ≡ storeOf s
+  store-set : (s : List ℕ) (i n : ℕ) → i < journalLength → storeOf (set s i n) ≡ storeOf s
   unfolding storeOf
   store-set s i n h =
       rw (
-        column-left s i n 2032 16 (inl (omega arith)),
-        column-left s i n 2048 16 (inl (omega arith)),
-        column-left s i n 2064 8
+        column-left s i n fileNumbersAt descriptorCount (inl (omega arith)),
+        column-left s i n offsetsAt descriptorCount (inl (omega arith)),
+        column-left s i n lengthsAt fileCount
             (inl (omega arith)),
         windows-left s i n (omega arith),
         undo-left s i n (omega arith),
@@ -842,11 +850,11 @@ module _ (r : List ℕ) (long : length r ≡ stateLength) where
             (λ j a b. getD-set-other s i j n 0 (λ p. omega arith)),
       )
 
-  module _ (t k : ℕ) (w : WriteRecord) (small : t < 9) (few : k < 64) where
+  module _ (t k : ℕ) (w : WriteRecord) (small : t < 9) (few : k < recordCount) where
     pub journal-with-record : journalOf (withRecordAt r t k w) ≡ withRecordAt (journalOf r) t k w
     unfolding withRecordAt
     journal-with-record =
-        let i = 3 * (64 * t + k) in
+        let i = 3 * (recordCount * t + k) in
         let a = set r i (descriptorCode (w .descriptor) (w .place)) in
         let b = set a (i + 1) (placeNumber (w .place)) in
         let la : length a ≡ stateLength = length-set r i (descriptorCode (w .descriptor) (w .place)) ∙ long in
@@ -859,7 +867,7 @@ module _ (r : List ℕ) (long : length r ≡ stateLength) where
     pub store-with-record : storeOf (withRecordAt r t k w) ≡ storeOf r
     unfolding withRecordAt
     store-with-record =
-        let i = 3 * (64 * t + k) in
+        let i = 3 * (recordCount * t + k) in
         let a = set r i (descriptorCode (w .descriptor) (w .place)) in
         let b = set a (i + 1) (placeNumber (w .place)) in
         store-set b (i + 2) (w .length) (omega arith) ∙ store-set a (i + 1) (placeNumber (w .place)) (omega arith)

@@ -11,6 +11,7 @@ use native.Mathlib.Numerals.{add-two}
 use native.Mathlib.Omega.{arith}
 use borrow.Author.Tests.{eqb-true, eq-eqb, ne-eqb, lt-ltb, le-ltb, le-leb, lt-leb, not-false}
 use Prim.Native.Nat.{ℕ, zero, suc, _+_, _-_, _*_, _≤_, _<_}
+use Rattle.limits.specs.Limits.{fileCount, descriptorCount, lastDescriptor, recordCount}
 use Rattle.buffers.specs.Below.{below}
 use Rattle.buffers.specs.Marks.{contains}
 use Rattle.buffers.proofs.BelowLaws.{below-same, below-both, below-sum}
@@ -25,7 +26,8 @@ use Rattle.state.specs.Journal.{decodedAs, decoded, writeRecordAt}
 use Rattle.state.specs.WriteEnds.{placeEndsBy, endsBy}
 use Rattle.state.specs.StoreMeaning.{standingAt, dirtyAt, windowAt}
 use Rattle.state.specs.Layout.{numberAt, standingOf, windowOf, descriptorOf, transactionOf, storeOf, journalOf}
-use Rattle.state.proofs.JournalLaws.{length-held}
+use Rattle.state.specs.Layout.{fileNumbersAt, offsetsAt, lengthsAt, startsAt, endsAt, foundOffsetsAt, foundLengthsAt}
+use Rattle.state.proofs.JournalLaws.{length-decoded}
 use Rattle.state.proofs.LayoutLaws.{record-of, descriptor-of, standing-of, file-of, offset-of, length-of, window-of}
 use Rattle.state.proofs.LayoutLaws.{found-offset-of, found-length-of}
 
@@ -95,7 +97,7 @@ carried-number : (a b m : ℕ)
 carried-number a b m = rw (advance-number a b, offset-number a b, less-leb b 2 m, less-leb a 1 m)
 
 -- Descriptor d of transaction t, from its two numbers.
-module _ (r : List ℕ) (t d : ℕ) (few : d < 16) (b : ℕ) (is-b : b ≡ getD r (numberAt t (16 + d)) 0) where
+module _ (r : List ℕ) (t d : ℕ) (few : d < descriptorCount) (b : ℕ) (is-b : b ≡ getD r (numberAt t (16 + d)) 0) where
   abbrev own : ℕ
   own = getD r (numberAt t d) 0
 
@@ -159,7 +161,7 @@ where-closed b q e = rw e
 -- ---- the descriptors of a transaction
 
 pub none-dirty : (r : List ℕ) (t : ℕ) → not (eqb (getD r (numberAt t 35) 0) 0) ≡ false
-    → (d : ℕ) → d < 16 → dirtyAt (transactionOf r t) d ≡ false
+    → (d : ℕ) → d < descriptorCount → dirtyAt (transactionOf r t) d ≡ false
 unfolding descriptorOf
 none-dirty r t none d few =
     ap (λ (q : Descriptor). q .dirty) (descriptor-of r t d few)
@@ -169,9 +171,9 @@ none-dirty r t none d few =
 -- ---- a write record
 
 -- Record k of stretch t: its first number h, and its end.
-module _ (r : List ℕ) (t k : ℕ) (small : t < 9) (few : k < 64) where
+module _ (r : List ℕ) (t k : ℕ) (small : t < 9) (few : k < recordCount) where
   abbrev at : ℕ
-  at = 3 * (64 * t + k)
+  at = 3 * (recordCount * t + k)
 
   abbrev x : Transaction
   x = transactionOf r t
@@ -181,41 +183,46 @@ module _ (r : List ℕ) (t k : ℕ) (small : t < 9) (few : k < 64) where
 
   pub length-expected : getD r (at + 2) 0 ≡ w .length
   unfolding writeRecordAt
-  length-expected = sym (ap (λ (v : WriteRecord). v .length) (record-of r t k small few) ∙ length-held _ _ _)
+  length-expected = sym (ap (λ (v : WriteRecord). v .length) (record-of r t k small few) ∙ length-decoded _ _ _)
 
   module _ (m h e : ℕ) (is-h : h ≡ getD r at 0) (is-e : e ≡ getD r (at + 1) 0 + getD r (at + 2) 0) where
     expected : w ≡ decoded h (getD r (at + 1) 0) (getD r (at + 2) 0)
     unfolding writeRecordAt
     expected = record-of r t k small few ∙ rw is-h
 
-    pub placed-ends : h < 16 → leb e m ≡ endsBy m x w
+    pub placed-ends : h < descriptorCount → leb e m ≡ endsBy m x w
     unfolding endsBy placeEndsBy decoded decodedAs
-    placed-ends l = sym (ap (endsBy m x) expected ∙ rw (lt-ltb h 16 l, le-leb h 15 (omega arith), is-e))
+    placed-ends l = sym (ap (endsBy m x) expected ∙ rw (lt-ltb h 16 l, le-leb h lastDescriptor (omega arith), is-e))
 
     pub no-descriptor : 31 < h → false ≡ endsBy m x w
     unfolding endsBy decoded decodedAs
-    no-descriptor l = sym (ap (endsBy m x) expected ∙ rw (le-ltb h 16 (omega arith), lt-leb (h - 16) 15 (omega arith)))
+    no-descriptor l = sym
+        (ap (endsBy m x) expected ∙ rw (le-ltb h 16 (omega arith), lt-leb (h - 16) lastDescriptor (omega arith)))
 
     pub waiting-ends : 16 ≤ h → h ≤ 31 → (b : Bool)
         → b ≡ mayWait (standingAt x (h - 16)) && leb e (advance (standingAt x (h - 16))) → b ≡ endsBy m x w
     unfolding endsBy placeEndsBy decoded decodedAs
-    waiting-ends l u b is-b = is-b ∙ sym (ap (endsBy m x) expected ∙ rw (le-ltb h 16 l, le-leb (h - 16) 15 (omega arith), is-e))
+    waiting-ends l u b is-b = is-b ∙ sym
+        (ap (endsBy m x) expected ∙ rw (le-ltb h 16 l, le-leb (h - 16) lastDescriptor (omega arith), is-e))
 
 -- ---- the tables
 
 module _ (r : List ℕ) (m : ℕ) where
-  pub files-decide : below (λ k. leb (getD r (2032 + k) 0) m) 16 ≡ below (λ d. leb (getD (storeOf r .filenumbers) d 0) m) 16
+  pub files-decide : below (λ k. leb (getD r (fileNumbersAt + k) 0) m) 16
+      ≡ below (λ d. leb (getD (storeOf r .filenumbers) d 0) m) descriptorCount
   files-decide = below-same _ _ 16 (λ d h. rw (file-of r d h))
 
-  pub offsets-decide : below (λ k. leb (getD r (2048 + k) 0) m) 16 ≡ below (λ d. leb (getD (storeOf r .offsets) d 0) m) 16
+  pub offsets-decide : below (λ k. leb (getD r (offsetsAt + k) 0) m) 16
+      ≡ below (λ d. leb (getD (storeOf r .offsets) d 0) m) descriptorCount
   offsets-decide = below-same _ _ 16 (λ d h. rw (offset-of r d h))
 
-  pub lengths-decide : below (λ k. leb (getD r (2064 + k) 0) m) 8 ≡ below (λ f. leb (getD (storeOf r .lengths) f 0) m) 8
+  pub lengths-decide : below (λ k. leb (getD r (lengthsAt + k) 0) m) 8
+      ≡ below (λ f. leb (getD (storeOf r .lengths) f 0) m) fileCount
   lengths-decide = below-same _ _ 8 (λ f h. rw (length-of r f h))
 
   -- The starts of the windows, and behind them their ends.
-  pub windows-decide : below (λ k. leb (getD r (2072 + k) 0) m) 16
-      ≡ below (λ f. leb (windowAt (storeOf r) f .start) m && leb (windowAt (storeOf r) f .end) m) 8
+  pub windows-decide : below (λ k. leb (getD r (startsAt + k) 0) m) 16
+      ≡ below (λ f. leb (windowAt (storeOf r) f .start) m && leb (windowAt (storeOf r) f .end) m) fileCount
   windows-decide =
       below-sum starts 8 8
       ∙ ap (λ (b : Bool). below starts 8 && b) (below-same (λ k. starts (8 + k)) ends 8 behind)
@@ -223,13 +230,13 @@ module _ (r : List ℕ) (m : ℕ) where
       ∙ below-same (λ f. starts f && ends f) _ 8 (λ f h. rw (window-of r f h) (both f))
     where
       starts : ℕ → Bool
-      starts k = leb (getD r (2072 + k) 0) m
+      starts k = leb (getD r (startsAt + k) 0) m
 
       ends : ℕ → Bool
-      ends k = leb (getD r (2080 + k) 0) m
+      ends k = leb (getD r (endsAt + k) 0) m
 
       behind : (k : ℕ) → k < 8 → starts (8 + k) ≡ ends k
-      behind k h = let e : 2072 + (8 + k) ≡ 2080 + k = omega arith in ap (λ (i : ℕ). leb (getD r i 0) m) e
+      behind k h = let e : startsAt + (8 + k) ≡ endsAt + k = omega arith in ap (λ (i : ℕ). leb (getD r i 0) m) e
 
       both : (f : ℕ) → starts f && ends f ≡ leb (windowOf r f .start) m && leb (windowOf r f .end) m
       both f = unfold windowOf in refl
@@ -239,40 +246,41 @@ module _ (r : List ℕ) (file offset span minute : ℕ) where
   halves : (p : ℕ → Bool) → below (λ k. p k && p (8 + k)) 8 ≡ below p 16
   halves p = sym (below-sum p 8 8 ∙ below-both p (λ k. p (8 + k)) 8)
 
-  pub tables-decide : below (λ k. (leb (getD r (2032 + k) 0) file && leb (getD r (2032 + (8 + k)) 0) file)
-      && (leb (getD r (2048 + k) 0) offset && leb (getD r (2048 + (8 + k)) 0) offset)
-      && leb (getD r (2064 + k) 0) span
-      && (leb (getD r (2072 + k) 0) minute && leb (getD r (2072 + (8 + k)) 0) minute)) 8
-      ≡ below (λ d. leb (getD (storeOf r .filenumbers) d 0) file) 16
-      && below (λ d. leb (getD (storeOf r .offsets) d 0) offset) 16
-      && below (λ f. leb (getD (storeOf r .lengths) f 0) span) 8
-      && below (λ f. leb (windowAt (storeOf r) f .start) minute && leb (windowAt (storeOf r) f .end) minute) 8
+  pub tables-decide : below (λ k. (leb (getD r (fileNumbersAt + k) 0) file && leb (getD r (fileNumbersAt + (8 + k)) 0) file)
+      && (leb (getD r (offsetsAt + k) 0) offset && leb (getD r (offsetsAt + (8 + k)) 0) offset)
+      && leb (getD r (lengthsAt + k) 0) span
+      && (leb (getD r (startsAt + k) 0) minute && leb (getD r (startsAt + (8 + k)) 0) minute)) 8
+      ≡ below (λ d. leb (getD (storeOf r .filenumbers) d 0) file) descriptorCount
+      && below (λ d. leb (getD (storeOf r .offsets) d 0) offset) descriptorCount
+      && below (λ f. leb (getD (storeOf r .lengths) f 0) span) fileCount
+      && below (λ f. leb (windowAt (storeOf r) f .start) minute && leb (windowAt (storeOf r) f .end) minute) fileCount
   tables-decide =
       sym (below-both (λ k. files k && offsets k && lengths k) windows 8)
       ∙ ap₂ _&&_
       (sym (below-both (λ k. files k && offsets k) lengths 8)
       ∙ ap₂ _&&_ (sym (below-both files offsets 8)
-      ∙ ap₂ _&&_ (halves (λ k. leb (getD r (2032 + k) 0) file) ∙ files-decide r file)
-      (halves (λ k. leb (getD r (2048 + k) 0) offset) ∙ offsets-decide r offset))
+      ∙ ap₂ _&&_ (halves (λ k. leb (getD r (fileNumbersAt + k) 0) file) ∙ files-decide r file)
+      (halves (λ k. leb (getD r (offsetsAt + k) 0) offset) ∙ offsets-decide r offset))
       (lengths-decide r span))
-      (halves (λ k. leb (getD r (2072 + k) 0) minute) ∙ windows-decide r minute)
+      (halves (λ k. leb (getD r (startsAt + k) 0) minute) ∙ windows-decide r minute)
     where
       files : ℕ → Bool
-      files k = leb (getD r (2032 + k) 0) file && leb (getD r (2032 + (8 + k)) 0) file
+      files k = leb (getD r (fileNumbersAt + k) 0) file && leb (getD r (fileNumbersAt + (8 + k)) 0) file
 
       offsets : ℕ → Bool
-      offsets k = leb (getD r (2048 + k) 0) offset && leb (getD r (2048 + (8 + k)) 0) offset
+      offsets k = leb (getD r (offsetsAt + k) 0) offset && leb (getD r (offsetsAt + (8 + k)) 0) offset
 
       lengths : ℕ → Bool
-      lengths k = leb (getD r (2064 + k) 0) span
+      lengths k = leb (getD r (lengthsAt + k) 0) span
 
       windows : ℕ → Bool
-      windows k = leb (getD r (2072 + k) 0) minute && leb (getD r (2072 + (8 + k)) 0) minute
+      windows k = leb (getD r (startsAt + k) 0) minute && leb (getD r (startsAt + (8 + k)) 0) minute
 
 module _ (r : List ℕ) (m : ℕ) where
   -- The offsets that the last grant found, and behind them the lengths.
-  pub found-decide : below (λ k. leb (getD r (2088 + k) 0) m) 24
-      ≡ below (λ d. leb (getD (storeOf r .undo .offsets) d 0) m) 16 && below (λ f. leb (getD (storeOf r .undo .lengths) f 0) m) 8
+  pub found-decide : below (λ k. leb (getD r (foundOffsetsAt + k) 0) m) 24
+      ≡ below (λ d. leb (getD (storeOf r .undo .offsets) d 0) m) descriptorCount
+      && below (λ f. leb (getD (storeOf r .undo .lengths) f 0) m) fileCount
   found-decide =
       rw (
         below-same (λ d. leb (getD (storeOf r .undo .offsets) d 0) m) found 16 (λ d h. rw (found-offset-of r d h)),
@@ -281,7 +289,7 @@ module _ (r : List ℕ) (m : ℕ) where
       (below-sum found 16 8)
     where
       found : ℕ → Bool
-      found k = leb (getD r (2088 + k) 0) m
+      found k = leb (getD r (foundOffsetsAt + k) 0) m
 
-      behind : (f : ℕ) → f < 8 → leb (getD (storeOf r .undo .lengths) f 0) m ≡ found (16 + f)
-      behind f h = let e : 2088 + (16 + f) ≡ 2104 + f = omega arith in rw (found-length-of r f h, e)
+      behind : (f : ℕ) → f < fileCount → leb (getD (storeOf r .undo .lengths) f 0) m ≡ found (16 + f)
+      behind f h = let e : foundOffsetsAt + (16 + f) ≡ foundLengthsAt + f = omega arith in rw (found-length-of r f h, e)

@@ -7,31 +7,35 @@ use lib.ListN.{getD, set, length, length-set}
 use lib.Seq.{getD-set-same, getD-set-other}
 use native.Mathlib.Nat.{eq-or-lt-of-le, le-of-suc-le-suc, not-suc-le-zero}
 use native.Mathlib.Omega.{arith}
-use Prim.Native.Nat.{ℕ, zero, suc, _+_, _≤_, _<_}
+use Prim.Native.Nat.{ℕ, zero, suc, _+_, _≤_, _<_, _*_}
+use Rattle.limits.specs.Limits.{fileCount, descriptorCount, transactionCount}
 use Rattle.buffers.specs.Parts.{tabulate}
 use Rattle.buffers.proofs.TableLaws.{table-same}
 use Rattle.counters.specs.declared.Used.{Used}
 use Rattle.state.specs.declared.Undo.{Undo}
-use Rattle.state.specs.StoreMeaning.{withOffsets, withLengths, withHeld, withUndo}
+use Rattle.state.specs.StoreMeaning.{withOffsets, withLengths, withValid, withUndo}
 use Rattle.state.specs.Layout.{undoOf, storeOf, journalOf, stateLength}
-use Rattle.state.specs.Updates.{flagNumber, withHeldAt, withUndoUsedAt, copiedTo, withCommittedFound, withFoundCommitted}
+use Rattle.state.specs.Layout.{transactionsAt, transactionLength, fileNumbersAt, offsetsAt, lengthsAt, startsAt}
+use Rattle.state.specs.Layout.{foundOffsetsAt, foundLengthsAt, undoValidAt}
+use Rattle.state.specs.Updates.{flagNumber, withUndoValidAt, withUndoUsedAt, copiedTo, withCommittedFound}
+use Rattle.state.specs.Updates.{withFoundCommitted}
 use Rattle.state.proofs.LayoutLaws.{Agree, journal-same, column-same, windows-same, transactions-same, undo-same}
 use Rattle.state.proofs.LayoutLaws.{flag-back, column-left}
 
 -- Two records that agree on the numbers before those of the last grant.
-module _ (r s : List ℕ) (before : Agree r s 0 2088) where
+module _ (r s : List ℕ) (before : Agree r s 0 foundOffsetsAt) where
   store-before : (u : Undo) → undoOf s ≡ u → storeOf s ≡ withUndo u (storeOf r)
   unfolding storeOf
   store-before u e =
-      let first : (at n : ℕ) → at + n ≤ 2088 → Agree r s at n = λ at n l j a b. before j (omega arith) (omega arith) in
+      let first : (at n : ℕ) → at + n ≤ foundOffsetsAt → Agree r s at n = λ at n l j a b. before j (omega arith) (omega arith) in
       rw (
-        column-same r s 2032 16 (first 2032 16 (omega arith)),
-        column-same r s 2048 16
-            (first 2048 16 (omega arith)),
-        column-same r s 2064 8 (first 2064 8 (omega arith)),
+        column-same r s fileNumbersAt descriptorCount (first fileNumbersAt descriptorCount (omega arith)),
+        column-same r s offsetsAt descriptorCount
+            (first offsetsAt descriptorCount (omega arith)),
+        column-same r s lengthsAt fileCount (first lengthsAt fileCount (omega arith)),
         windows-same r s
-            (first 2072 16 (omega arith)),
-        transactions-same r s (first 1728 304 (omega arith)),
+            (first startsAt 16 (omega arith)),
+        transactions-same r s (first transactionsAt (transactionCount * transactionLength) (omega arith)),
         e,
       )
 
@@ -41,50 +45,51 @@ module _ (r s : List ℕ) (before : Agree r s 0 2088) where
 -- ---- one number, or the two counters
 
 module _ (r : List ℕ) (long : length r ≡ stateLength) where
-  before-put : (i n : ℕ) → 2088 ≤ i → Agree r (set r i n) 0 2088
+  before-put : (i n : ℕ) → foundOffsetsAt ≤ i → Agree r (set r i n) 0 foundOffsetsAt
   before-put i n past j a b = getD-set-other r i j n 0 (λ p. omega arith)
 
   module _ (b : Bool) where
-    pub length-with-held : length (withHeldAt r b) ≡ length r
-    length-with-held = length-set r 2112 (flagNumber b)
+    pub length-with-valid : length (withUndoValidAt r b) ≡ length r
+    length-with-valid = length-set r undoValidAt (flagNumber b)
 
-    own-held : undoOf (withHeldAt r b) ≡ withHeld b (undoOf r)
+    own-valid : undoOf (withUndoValidAt r b) ≡ withValid b (undoOf r)
     unfolding undoOf
-    own-held =
+    own-valid =
         let n = flagNumber b in
         rw (
-          getD-set-same r 2112 n 0 (omega arith),
+          getD-set-same r undoValidAt n 0 (omega arith),
           flag-back b,
-          getD-set-other r 2112 2113 n 0
+          getD-set-other r undoValidAt (undoValidAt + 1) n 0
               (λ p. omega arith),
-          getD-set-other r 2112 2114 n 0 (λ p. omega arith),
-          column-left r 2112 n 2088 16
+          getD-set-other r undoValidAt (undoValidAt + 2) n 0 (λ p. omega arith),
+          column-left r undoValidAt n foundOffsetsAt descriptorCount
               (inr (omega arith)),
-          column-left r 2112 n 2104 8 (inr (omega arith)),
+          column-left r undoValidAt n foundLengthsAt fileCount (inr (omega arith)),
         )
 
-    pub store-with-held : storeOf (withHeldAt r b) ≡ withUndo (withHeld b (storeOf r .undo)) (storeOf r)
+    pub store-with-valid : storeOf (withUndoValidAt r b) ≡ withUndo (withValid b (storeOf r .undo)) (storeOf r)
     unfolding storeOf
-    store-with-held = store-before r (withHeldAt r b) (before-put 2112 (flagNumber b) (omega arith)) (withHeld b (undoOf r))
-        own-held
+    store-with-valid = store-before r (withUndoValidAt r b) (before-put undoValidAt (flagNumber b) (omega arith))
+        (withValid b (undoOf r))
+        own-valid
 
-    pub journal-with-held : journalOf (withHeldAt r b) ≡ journalOf r
-    journal-with-held = journal-before r (withHeldAt r b) (before-put 2112 (flagNumber b) (omega arith))
+    pub journal-with-valid : journalOf (withUndoValidAt r b) ≡ journalOf r
+    journal-with-valid = journal-before r (withUndoValidAt r b) (before-put undoValidAt (flagNumber b) (omega arith))
 
   module _ (u : Used) where
     abbrev with-records : List ℕ
-    with-records = set r 2113 (u .records)
+    with-records = set r (undoValidAt + 1) (u .records)
 
     pub length-with-undo-used : length (withUndoUsedAt r u) ≡ length r
     length-with-undo-used = simp length-set
 
     long-records : length with-records ≡ stateLength
-    long-records = length-set r 2113 (u .records) ∙ long
+    long-records = length-set r (undoValidAt + 1) (u .records) ∙ long
 
-    before-counters : Agree r (withUndoUsedAt r u) 0 2088
+    before-counters : Agree r (withUndoUsedAt r u) 0 foundOffsetsAt
     before-counters j a b =
-        getD-set-other with-records 2114 j (u .bytes) 0 (λ p. omega arith)
-        ∙ getD-set-other r 2113 j (u .records) 0 (λ p. omega arith)
+        getD-set-other with-records (undoValidAt + 2) j (u .bytes) 0 (λ p. omega arith)
+        ∙ getD-set-other r (undoValidAt + 1) j (u .records) 0 (λ p. omega arith)
 
     abbrev with-counters : Undo → Undo
     with-counters x = record { valid = x .valid; used = u; offsets = x .offsets; lengths = x .lengths }
@@ -96,19 +101,19 @@ module _ (r : List ℕ) (long : length r ≡ stateLength) where
         let l = long-records in
         let m = u .bytes in
         rw (
-          getD-set-other s 2114 2112 m 0 (λ p. omega arith),
-          getD-set-other r 2113 2112 (u .records) 0
+          getD-set-other s (undoValidAt + 2) undoValidAt m 0 (λ p. omega arith),
+          getD-set-other r (undoValidAt + 1) undoValidAt (u .records) 0
               (λ p. omega arith),
-          getD-set-other s 2114 2113 m 0 (λ p. omega arith),
-          getD-set-same r 2113 (u .records) 0
+          getD-set-other s (undoValidAt + 2) (undoValidAt + 1) m 0 (λ p. omega arith),
+          getD-set-same r (undoValidAt + 1) (u .records) 0
               (omega arith),
-          getD-set-same s 2114 m 0 (omega arith),
-          column-left s 2114 m 2088 16 (inr (omega arith)),
-          column-left r 2113
-              (u .records) 2088 16 (inr (omega arith)),
-          column-left s 2114 m 2104 8 (inr (omega arith)),
-          column-left r 2113
-              (u .records) 2104 8 (inr (omega arith)),
+          getD-set-same s (undoValidAt + 2) m 0 (omega arith),
+          column-left s (undoValidAt + 2) m foundOffsetsAt descriptorCount (inr (omega arith)),
+          column-left r (undoValidAt + 1)
+              (u .records) foundOffsetsAt descriptorCount (inr (omega arith)),
+          column-left s (undoValidAt + 2) m foundLengthsAt fileCount (inr (omega arith)),
+          column-left r (undoValidAt + 1)
+              (u .records) foundLengthsAt fileCount (inr (omega arith)),
         )
 
     pub store-with-undo-used : let x = storeOf r .undo in storeOf (withUndoUsedAt r u)
@@ -167,26 +172,26 @@ module _ (r : List ℕ) (long : length r ≡ stateLength) where
       ≡ record {
         valid = undoOf r .valid;
         used = undoOf r .used;
-        offsets = tabulate (λ d. getD r (2048 + d) 0) 16;
+        offsets = tabulate (λ d. getD r (offsetsAt + d) 0) descriptorCount;
         lengths = tabulate
-            (λ f. getD r (2064 + f) 0) 8;
+            (λ f. getD r (lengthsAt + f) 0) fileCount;
       }
   unfolding undoOf
   own-found =
-      let left : (j : ℕ) → 2112 ≤ j → getD (withCommittedFound r) j 0
-      ≡ getD r j 0 = λ j l. copied-other r 2048 2088 24 j (inr l) in
+      let left : (j : ℕ) → undoValidAt ≤ j → getD (withCommittedFound r) j 0
+      ≡ getD r j 0 = λ j l. copied-other r offsetsAt foundOffsetsAt 24 j (inr l) in
       rw (
-        left 2112 (omega arith),
-        left 2113 (omega arith),
-        left 2114 (omega arith),
-        column-copied r 2048 2088 24 2088 2048 0 16
+        left undoValidAt (omega arith),
+        left (undoValidAt + 1) (omega arith),
+        left (undoValidAt + 2) (omega arith),
+        column-copied r offsetsAt foundOffsetsAt 24 foundOffsetsAt offsetsAt 0 16
             (inl (omega arith)) (omega arith) refl refl (omega arith),
-        column-copied r 2048 2088 24 2104 2064 16 8 (inl (omega arith))
+        column-copied r offsetsAt foundOffsetsAt 24 foundLengthsAt lengthsAt 16 8 (inl (omega arith))
             (omega arith) refl refl (omega arith),
       )
 
-  before-found : Agree r (withCommittedFound r) 0 2088
-  before-found j a b = copied-other r 2048 2088 24 j (inl b)
+  before-found : Agree r (withCommittedFound r) 0 foundOffsetsAt
+  before-found j a b = copied-other r offsetsAt foundOffsetsAt 24 j (inl b)
 
   pub store-with-committed-found : let s = storeOf r in storeOf (withCommittedFound r)
       ≡ withUndo (record { valid = s .undo .valid; used = s .undo .used; offsets = s .offsets; lengths = s .lengths }) s
@@ -201,20 +206,21 @@ module _ (r : List ℕ) (long : length r ≡ stateLength) where
   unfolding storeOf undoOf
   store-with-found-committed =
       let s = withFoundCommitted r in
-      let left : (at n : ℕ) → (at + n ≤ 2048) ⊎ (2072 ≤ at) → Agree r s at n =
-      λ at n w j a b. copied-other r 2088 2048 24 j (⊎-elim (λ l. inl (omega arith)) (λ l. inr (omega arith)) w) in
+      let left : (at n : ℕ) → (at + n ≤ offsetsAt) ⊎ (startsAt ≤ at) → Agree r s at n =
+      λ at n w j a b. copied-other r foundOffsetsAt offsetsAt 24 j (⊎-elim (λ l. inl (omega arith)) (λ l. inr (omega arith)) w) in
       rw (
-        column-same r s 2032 16 (left 2032 16 (inl (omega arith))),
-        windows-same r s (left 2072 16 (inr (omega arith))),
+        column-same r s fileNumbersAt descriptorCount (left fileNumbersAt descriptorCount (inl (omega arith))),
+        windows-same r s (left startsAt 16 (inr (omega arith))),
         undo-same r s
-            (left 2088 27 (inr (omega arith))),
+            (left foundOffsetsAt 27 (inr (omega arith))),
         transactions-same r s
-            (left 1728 304 (inl (omega arith))),
-        column-copied r 2088 2048 24 2048 2088 0 16 (inr (omega arith)) (omega arith) refl refl
+            (left transactionsAt (transactionCount * transactionLength) (inl (omega arith))),
+        column-copied r foundOffsetsAt offsetsAt 24 offsetsAt foundOffsetsAt 0 16 (inr (omega arith)) (omega arith) refl refl
             (omega arith),
-        column-copied r 2088 2048 24 2064 2104 16 8 (inr (omega arith)) (omega arith) refl refl (omega arith),
+        column-copied r foundOffsetsAt offsetsAt 24 lengthsAt foundLengthsAt 16 8 (inr (omega arith)) (omega arith) refl refl
+            (omega arith),
       )
 
   pub journal-with-found-committed : journalOf (withFoundCommitted r) ≡ journalOf r
   journal-with-found-committed = journal-same r (withFoundCommitted r)
-      (λ j a b. copied-other r 2088 2048 24 j (inl (omega arith)))
+      (λ j a b. copied-other r foundOffsetsAt offsetsAt 24 j (inl (omega arith)))

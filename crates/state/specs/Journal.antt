@@ -29,12 +29,12 @@ decoded h p n = decodedAs (ltb h descriptorCount) h p n
 abbrev pub lastGrant : ℕ
 lastGrant = transactionCount
 
-abbrev pub stretchCount : ℕ
-stretchCount = lastGrant + 1
+abbrev pub journalParts : ℕ
+journalParts = lastGrant + 1
 
 -- How many numbers the journal has: three for each write record of each part.
 abbrev pub journalLength : ℕ
-journalLength = 3 * (recordCount * stretchCount)
+journalLength = 3 * (recordCount * journalParts)
 
 -- Write record k of part t.
 unfoldable pub writeRecordAt : List ℕ → ℕ → ℕ → WriteRecord

@@ -62,12 +62,12 @@ foundOffsetsAt = endsAt + fileCount
 abbrev pub foundLengthsAt : ℕ
 foundLengthsAt = foundOffsetsAt + descriptorCount
 
-abbrev pub heldAt : ℕ
-heldAt = foundLengthsAt + fileCount
+abbrev pub undoValidAt : ℕ
+undoValidAt = foundLengthsAt + fileCount
 
 -- How many numbers a state has: the one place that says so.
 abbrev pub stateLength : ℕ
-stateLength = heldAt + 3
+stateLength = undoValidAt + 3
 
 -- Where each stands among a transaction's numbers, behind the first numbers of its standings.
 abbrev pub secondSlot : ℕ
@@ -140,8 +140,8 @@ windowOf r f = window (getD r (startsAt + f) 0) (getD r (endsAt + f) 0)
 unfoldable pub undoOf : List ℕ → Undo
 undoOf r =
     record {
-      valid = isSet (getD r heldAt 0);
-      used = record { records = getD r (heldAt + 1) 0; bytes = getD r (heldAt + 2) 0 };
+      valid = isSet (getD r undoValidAt 0);
+      used = record { records = getD r (undoValidAt + 1) 0; bytes = getD r (undoValidAt + 2) 0 };
       offsets = tabulate (λ d. getD r (foundOffsetsAt + d) 0) descriptorCount;
       lengths = tabulate (λ f. getD r (foundLengthsAt + f) 0) fileCount;
     }

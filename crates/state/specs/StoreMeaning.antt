@@ -73,8 +73,8 @@ undoWith b u os ls = record { valid = b; used = u; offsets = os; lengths = ls }
 abbrev pub noUndo : Undo
 noUndo = undoWith false noneUsed (replicate descriptorCount 0) (replicate fileCount 0)
 
-abbrev pub withHeld : Bool → Undo → Undo
-withHeld b u = undoWith b (u .used) (u .offsets) (u .lengths)
+abbrev pub withValid : Bool → Undo → Undo
+withValid b u = undoWith b (u .used) (u .offsets) (u .lengths)
 
 -- A store of these parts, and one with another value in one field.
 abbrev pub storeWith : List ℕ → List ℕ → List ℕ → List Window → Undo → List Transaction → StoreMeaning

@@ -15,7 +15,7 @@ use Rattle.state.specs.declared.Descriptor.{Descriptor}
 use Rattle.state.specs.Layout.{numberAt, secondSlot, begunSlot, staleFlagSlot, lengthmarksSlot}
 use Rattle.state.specs.Layout.{dirtySlot, recordsSlot, bytesSlot, transactionLength}
 use Rattle.state.specs.Layout.{fileNumbersAt, offsetsAt, lengthsAt, startsAt, endsAt}
-use Rattle.state.specs.Layout.{foundOffsetsAt, foundLengthsAt, heldAt}
+use Rattle.state.specs.Layout.{foundOffsetsAt, foundLengthsAt, undoValidAt}
 
 abbrev pub firstNumber : Standing → ℕ
 firstNumber Untouched = 0
@@ -92,11 +92,11 @@ withFileNumbersAt r f (suc n) = withFileNumberAt (withFileNumbersAt r f n) n (f 
 
 -- With the last grant held or not; with its two counters as u; with another offset, another length that it
 -- found.
-abbrev pub withHeldAt : List ℕ → Bool → List ℕ
-withHeldAt r held = set r heldAt (flagNumber held)
+abbrev pub withUndoValidAt : List ℕ → Bool → List ℕ
+withUndoValidAt r held = set r undoValidAt (flagNumber held)
 
 abbrev pub withUndoUsedAt : List ℕ → Used → List ℕ
-withUndoUsedAt r u = set (set r (heldAt + 1) (u .records)) (heldAt + 2) (u .bytes)
+withUndoUsedAt r u = set (set r (undoValidAt + 1) (u .records)) (undoValidAt + 2) (u .bytes)
 
 abbrev pub withFoundOffsetAt : List ℕ → ℕ → ℕ → List ℕ
 withFoundOffsetAt r d n = set r (foundOffsetsAt + d) n

@@ -12,7 +12,7 @@ use standings::Place;
 ghost use mathlib.Core.Path.{_≡_};
 ghost use Prim.Native.Nat.{_<_};
 ghost use Rattle.limits.specs.Limits.{transactionCount, recordCount};
-ghost use Rattle.state.specs.Journal.{stretchCount, descriptorCode, writeRecordAt, withRecordAt};
+ghost use Rattle.state.specs.Journal.{journalParts, descriptorCode, writeRecordAt, withRecordAt};
 ghost use Rattle.state.specs.WriteEnds.{endsBy};
 ghost use Rattle.state.specs.Layout.{journalOf, transactionOf};
 
@@ -33,7 +33,7 @@ pub struct WriteRecord {
 
 // Write record k of part t, which is transaction t's or the last grant's.
 pub fn record_at(state: &State, t: usize, k: usize) -> WriteRecord
-    requires { ⌜ (t < stretchCount) × (k < recordCount) ⌝ }
+    requires { ⌜ (t < journalParts) × (k < recordCount) ⌝ }
     ensures { λ r. ⌜ r ≡ writeRecordAt (journalOf (now (state .entry))) t k ⌝ }
 {
     let i = 3 * (RECORDS * t + k);
@@ -75,7 +75,7 @@ pub fn ends_by(state: &State, t: usize, k: usize, most: usize) -> bool
 
 // The length of write record k of part t.
 pub fn record_length(state: &State, t: usize, k: usize) -> u16
-    requires { ⌜ (t < stretchCount) × (k < recordCount) ⌝ }
+    requires { ⌜ (t < journalParts) × (k < recordCount) ⌝ }
     ensures { λ r. ⌜ r ≡ writeRecordAt (journalOf (now (state .entry))) t k .length ⌝ }
 {
     state[3 * (RECORDS * t + k) + 2]
@@ -94,12 +94,12 @@ fn descriptor_code(d: u16, place: Place) -> u16
 
 // Puts w in the place of write record k of part t.
 pub fn put_record(state: &mut State, t: usize, k: usize, w: WriteRecord)
-    requires { ⌜ (t < stretchCount) × (k < recordCount) × (w .descriptor < 65520) ⌝ }
+    requires { ⌜ (t < journalParts) × (k < recordCount) × (w .descriptor < 65520) ⌝ }
     ensures { λ _. ⌜ now (state .exit) ≡ withRecordAt (now (state .entry)) t k w ⌝ }
 {
     let i = 3 * (RECORDS * t + k);
     let place = w.place;
     state[i] = descriptor_code(w.descriptor, place);
-    state[i + 1] = place.number();
+    state[i + 1] = place.place_number();
     state[i + 2] = w.length;
 }

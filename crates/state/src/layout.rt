@@ -7,7 +7,6 @@ use crate::Transaction;
 use crate::positions::ADVANCE_BIAS;
 use crate::positions::BEGUN_AT;
 use crate::positions::BYTES_AT;
-use crate::positions::CAN_UNDO_AT;
 use crate::positions::DIRTY_AT;
 use crate::positions::ENDS_AT;
 use crate::positions::FILE_NUMBERS_AT;
@@ -24,6 +23,7 @@ use crate::positions::STALE_AT;
 use crate::positions::STARTS_AT;
 use crate::positions::TRANSACTION;
 use crate::positions::TRANSACTIONS_AT;
+use crate::positions::UNDO_VALID_AT;
 use crate::positions::first_at;
 use crate::positions::second_at;
 use buffers::bit_sets;
@@ -44,12 +44,13 @@ ghost use Rattle.state.specs.Updates.{withDescriptorAt, withChosenAt, wi
 ghost use Rattle.state.specs.Updates.{withStaleAt, withLengthmarksAt};
 ghost use Rattle.state.specs.Updates.{withFileNumberAt, withFileNumbersAt};
 ghost use Rattle.state.specs.Updates.{withOffsetAt, withLengthAt, withWindowAt};
-ghost use Rattle.state.specs.Updates.{withHeldAt, withUndoUsedAt, withFoundOffsetAt, withFoundLengthAt};
+ghost use Rattle.state.specs.Updates.{withUndoValidAt, withUndoUsedAt, withFoundOffsetAt};
+ghost use Rattle.state.specs.Updates.{withFoundLengthAt};
 ghost use Rattle.state.specs.Layout.{stateLength};
 ghost use Rattle.state.specs.Updates.{copiedTo, withCommittedFound, withFoundCommitted};
 
 // How many numbers a state has.
-pub const STATE_LEN: usize = CAN_UNDO_AT + 3;
+pub const STATE_LEN: usize = UNDO_VALID_AT + 3;
 
 // The state, as a caller keeps it and lends it to every call.
 pub type State = [u16; STATE_LEN];
@@ -280,15 +281,15 @@ pub fn window_at(state: &State, f: usize) -> Window
 pub fn can_undo(state: &State) -> bool
     ensures { λ r. ⌜ r ≡ storeOf (now (state .entry)) .undo .valid ⌝ }
 {
-    state[CAN_UNDO_AT] == 1
+    state[UNDO_VALID_AT] == 1
 }
 
 // How many write records and bytes the last grant had.
 pub fn undo_used(state: &State) -> Used
     ensures { λ r. ⌜ r ≡ storeOf (now (state .entry)) .undo .used ⌝ }
 {
-    let records = wide(state[CAN_UNDO_AT + 1]);
-    let bytes = state[CAN_UNDO_AT + 2];
+    let records = wide(state[UNDO_VALID_AT + 1]);
+    let bytes = state[UNDO_VALID_AT + 2];
     Used { records, bytes }
 }
 
@@ -425,18 +426,18 @@ pub fn put_window(state: &mut State, f: usize, w: Window)
     state[ENDS_AT + f] = w.end;
 }
 
-pub fn put_can_undo(state: &mut State, held: bool)
-    ensures { λ _. ⌜ now (state .exit) ≡ withHeldAt (now (state .entry)) held ⌝ }
+pub fn put_undo_valid(state: &mut State, valid: bool)
+    ensures { λ _. ⌜ now (state .exit) ≡ withUndoValidAt (now (state .entry)) valid ⌝ }
 {
-    state[CAN_UNDO_AT] = flag_of(held);
+    state[UNDO_VALID_AT] = flag_of(valid);
 }
 
 pub fn put_undo_used(state: &mut State, u: Used)
     requires { ⌜ u .records < 65536 ⌝ }
     ensures { λ _. ⌜ now (state .exit) ≡ withUndoUsedAt (now (state .entry)) u ⌝ }
 {
-    state[CAN_UNDO_AT + 1] = u.records as u16;
-    state[CAN_UNDO_AT + 2] = u.bytes;
+    state[UNDO_VALID_AT + 1] = u.records as u16;
+    state[UNDO_VALID_AT + 2] = u.bytes;
 }
 
 pub fn put_found_offset(state: &mut State, d: usize, n: u16)

@@ -55,7 +55,7 @@ pub const FOUND_AT: usize = ENDS_AT + FILES;
 
 pub const FOUND_LENGTHS_AT: usize = FOUND_AT + DESCRIPTORS;
 
-pub const CAN_UNDO_AT: usize = FOUND_LENGTHS_AT + FILES;
+pub const UNDO_VALID_AT: usize = FOUND_LENGTHS_AT + FILES;
 
 // The second number of a standing that is Known; what is added to the offset that a standing carries, and to
 // its advance.

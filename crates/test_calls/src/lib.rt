@@ -3,6 +3,7 @@
 // transactions are open give all about the call.
 use limits::BUFFER_BYTES;
 use limits::FILE_BYTES;
+use limits::LAST_TRANSACTION;
 use requests::Request;
 use test_scripts::Plan;
 ghost use Prim.Native.Nat.{_+_, _≤_, _<_};
@@ -370,7 +371,7 @@ fn sought_first(mode: usize, kind: usize, t: usize, sought: [bool; 8]) -> usize 
     if (mode != READY) | (kind != WRITE) {
         return kind;
     }
-    if 7 < t {
+    if LAST_TRANSACTION < t {
         return kind;
     }
     if sought[t] {
@@ -445,7 +446,7 @@ fn fitted(mode: usize, kind: usize, t: usize, guess: [bool; 8], r: [usize; 12]) 
     if (kind < SEEK) | (ABORT < kind) {
         return chosen;
     }
-    if 7 < t {
+    if LAST_TRANSACTION < t {
         return chosen;
     }
     if guess[t] {
@@ -470,7 +471,7 @@ fn guess_after_request(guess: [bool; 8], request: Request, t: usize) -> [bool; 8
 
 // The transactions that are guessed open after a request whose transaction may be none.
 fn guess_after_asked(guess: [bool; 8], request: Request, t: usize) -> [bool; 8] {
-    if 7 < t {
+    if LAST_TRANSACTION < t {
         return guess;
     }
     guess_after_request(guess, request, t)
@@ -533,7 +534,7 @@ pub fn sought_after(sought: [bool; 8], g: Generated) -> [bool; 8] {
     if (0 < g.damage.short) | (0 < g.damage.forgery) {
         return sought;
     }
-    if 7 < t {
+    if LAST_TRANSACTION < t {
         return sought;
     }
     let made = g.made;

@@ -213,7 +213,7 @@ fn landed_taken(h: usize, state: &State, n: usize) -> usize
     while k < records {
         let w = record_at(state, LAST_GRANT, k);
         let place = w.place;
-        out = three_taken(out, w.descriptor, place.number(), w.length);
+        out = three_taken(out, w.descriptor, place.place_number(), w.length);
         k += 1;
     }
     out

@@ -13,7 +13,6 @@ use state::journal::put_record;
 use state::journal::record_at;
 use state::layout::State;
 use state::layout::is_begun;
-use state::layout::put_can_undo;
 use state::layout::put_descriptor;
 use state::layout::put_file;
 use state::layout::put_found_length;
@@ -22,6 +21,7 @@ use state::layout::put_length;
 use state::layout::put_lengthmarks;
 use state::layout::put_offset;
 use state::layout::put_undo_used;
+use state::layout::put_undo_valid;
 use state::layout::put_used;
 use state::layout::put_window;
 use state::layout::reset;
@@ -283,7 +283,7 @@ fn forge_landing(state: &mut State) {
 fn forge_undo(state: &mut State, g: Damage)
     requires { ⌜ g .index < 16 ⌝ }
 {
-    put_can_undo(state, true);
+    put_undo_valid(state, true);
     if g.forgery < 23 {
         forge_found(state, g);
         return;

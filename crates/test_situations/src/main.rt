@@ -21,7 +21,7 @@ fn print(letter: u8, ok: bool) {
     }
 }
 
-fn run(
+fn run_situations(
     state: &mut State,
     files: &mut Buffer,
     logs: &mut Buffer,
@@ -48,5 +48,5 @@ fn main() {
     let mut logs = [0u8; BUFFER_BYTES];
     let mut marks = [0u8; BUFFER_BYTES];
     let mut undo = [0u8; FILE_BYTES];
-    run(&mut state, &mut files, &mut logs, &mut marks, &mut undo);
+    run_situations(&mut state, &mut files, &mut logs, &mut marks, &mut undo);
 }

@@ -27,10 +27,10 @@ unfolding okBytes
 length-bytes [] = omega arith
 length-bytes (b ∷ bs) = omega (arith, length-pairs (b ∷ bs))
 
-pub bytes-none : (bs : List ℕ) → length bs ≡ 0 → okBytes bs ≡ ok
+pub text-bytes-none : (bs : List ℕ) → length bs ≡ 0 → okBytes bs ≡ ok
 unfolding okBytes
-bytes-none [] h = refl
-bytes-none (b ∷ bs) h = absurd (omega arith)
+text-bytes-none [] h = refl
+text-bytes-none (b ∷ bs) h = absurd (omega arith)
 
 pub bytes-some : (bs : List ℕ) → (length bs ≡ 0 → ⊥) → okBytes bs ≡ (ok ++ (32 ∷ [])) ++ hexPairs bs
 unfolding okBytes

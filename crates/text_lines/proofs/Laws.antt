@@ -14,36 +14,37 @@ use Rattle.text_lines.specs.Scans.{NextLine}
 
 -- the same lines are found, and the same is pending, from two places on
 abbrev pub Same : ℕ → List ℕ → List ℕ → List ℕ → List ℕ → Type 0
-Same m held piece held′ piece′ = (completedIn m held piece ≡ completedIn m held′ piece′)
-    × (pendingAfter m held piece ≡ pendingAfter m held′ piece′)
+Same m pending piece pending′ piece′ = (completedIn m pending piece ≡ completedIn m pending′ piece′)
+    × (pendingAfter m pending piece ≡ pendingAfter m pending′ piece′)
 
 -- a piece from i on has the byte there and then the rest
 from-byte : (p : List ℕ) (i : ℕ) → i < length p → drop i p ≡ getD p i 0 ∷ drop (i + 1) p
 from-byte p i h = drop-cons p i 0 h ∙ ap (λ (k : ℕ). getD p i 0 ∷ drop k p) (sym (add-one i))
 
 -- what a byte does, by whether it ends a line
-step : (m : ℕ) (t : Bool) (held p : List ℕ) (i : ℕ) → i < length p → eqb (getD p i 0) 10 ≡ t
-    → (completedIn m held (drop i p) ≡ cond t (held ∷ []) []
-    ++ completedIn m (truncated m (cond t [] (held ++ (getD p i 0 ∷ [])))) (drop (i + 1) p))
-    × (pendingAfter m held (drop i p) ≡ pendingAfter m (truncated m (cond t [] (held ++ (getD p i 0 ∷ [])))) (drop (i + 1) p))
+step : (m : ℕ) (t : Bool) (pending p : List ℕ) (i : ℕ) → i < length p → eqb (getD p i 0) 10 ≡ t
+    → (completedIn m pending (drop i p) ≡ cond t (pending ∷ []) []
+    ++ completedIn m (truncated m (cond t [] (pending ++ (getD p i 0 ∷ [])))) (drop (i + 1) p))
+    × (pendingAfter m pending (drop i p) ≡ pendingAfter m (truncated m (cond t [] (pending ++ (getD p i 0 ∷ []))))
+    (drop (i + 1) p))
 unfolding completedIn pendingAfter endedLine grown
-step m t held p i h e =
+step m t pending p i h e =
     let x = getD p i 0 in
     let xs = drop (i + 1) p in (
-      ap (completedIn m held) (from-byte p i h)
-          ∙ ap (λ (u : Bool). cond u (held ∷ []) [] ++ completedIn m (truncated m (cond u [] (held ++ (x ∷ [])))) xs) e,
-      ap (pendingAfter m held) (from-byte p i h)
-          ∙ ap (λ (u : Bool). pendingAfter m (truncated m (cond u [] (held ++ (x ∷ [])))) xs) e,
+      ap (completedIn m pending) (from-byte p i h)
+          ∙ ap (λ (u : Bool). cond u (pending ∷ []) [] ++ completedIn m (truncated m (cond u [] (pending ++ (x ∷ [])))) xs) e,
+      ap (pendingAfter m pending) (from-byte p i h)
+          ∙ ap (λ (u : Bool). pendingAfter m (truncated m (cond u [] (pending ++ (x ∷ [])))) xs) e,
     )
 
-pub scan-passed : (m : ℕ) (held p : List ℕ) (i : ℕ) → i < length p → (getD p i 0 ≡ 10 → ⊥)
-    → Same m held (drop i p) (truncated m (held ++ (getD p i 0 ∷ []))) (drop (i + 1) p)
-scan-passed m held p i h other = step m false held p i h (ne-eqb (getD p i 0) 10 other)
+pub scan-passed : (m : ℕ) (pending p : List ℕ) (i : ℕ) → i < length p → (getD p i 0 ≡ 10 → ⊥)
+    → Same m pending (drop i p) (truncated m (pending ++ (getD p i 0 ∷ []))) (drop (i + 1) p)
+scan-passed m pending p i h other = step m false pending p i h (ne-eqb (getD p i 0) 10 other)
 
-pub scan-stopped : (m : ℕ) (held p : List ℕ) (i : ℕ) → i < length p → getD p i 0 ≡ 10
-    → NextLine m true held (drop i p) held (drop (i + 1) p)
+pub scan-stopped : (m : ℕ) (pending p : List ℕ) (i : ℕ) → i < length p → getD p i 0 ≡ 10
+    → NextLine m true pending (drop i p) pending (drop (i + 1) p)
 unfolding NextLine truncated
-scan-stopped m held p i h same = step m true held p i h (eq-eqb (getD p i 0) 10 same)
+scan-stopped m pending p i h same = step m true pending p i h (eq-eqb (getD p i 0) 10 same)
 
 -- a byte joins what is pending, or is let go
 module _ (line : List ℕ) (n x : ℕ) (m : ℕ) (l : length line ≡ suc m) where

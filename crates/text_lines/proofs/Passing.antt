@@ -35,41 +35,44 @@ module _ {K : Type 0} (p : LineProgram K) where
   state-append [] rest k = refl
   state-append (l ∷ ls) rest k = state-append ls rest (p .next l k)
 
-  none-in : (held rest : List ℕ) → rest ≡ [] → completedIn (p .most) held rest ≡ []
+  none-in : (pending rest : List ℕ) → rest ≡ [] → completedIn (p .most) pending rest ≡ []
   unfolding completedIn
-  none-in held rest e = ap (completedIn (p .most) held) e
+  none-in pending rest e = ap (completedIn (p .most) pending) e
 
-  held-in : (held rest : List ℕ) → rest ≡ [] → pendingAfter (p .most) held rest ≡ held
+  pending-in : (pending rest : List ℕ) → rest ≡ [] → pendingAfter (p .most) pending rest ≡ pending
   unfolding pendingAfter
-  held-in held rest e = ap (pendingAfter (p .most) held) e
+  pending-in pending rest e = ap (pendingAfter (p .most) pending) e
 
   -- a buffer of one byte more holds the truncated line
-  pub of-room : (n : ℕ) (t : Bool) (held rest line rest′ : List ℕ) → n ≡ suc (p .most) → NextLine (n - 1) t held rest line rest′
-      → NextLine (p .most) t held rest line rest′
-  of-room n t held rest line rest′ e f =
+  pub of-room : (n : ℕ) (t : Bool) (pending rest line rest′ : List ℕ) → n ≡ suc (p .most)
+      → NextLine (n - 1) t pending rest line rest′
+      → NextLine (p .most) t pending rest line rest′
+  of-room n t pending rest line rest′ e f =
       let m : n - 1 ≡ p .most = omega (arith, e) in
-      subst (λ (k : ℕ). NextLine k t held rest line rest′) m f
+      subst (λ (k : ℕ). NextLine k t pending rest line rest′) m f
 
   -- no line ends in the rest of the piece
-  pub pending-passes : (t : Bool) (k : K) (held rest line rest′ waiting : List ℕ) → NextLine (p .most) t held rest line rest′ → t
+  pub pending-passes : (t : Bool) (k : K) (pending rest line rest′ waiting : List ℕ)
+      → NextLine (p .most) t pending rest line rest′ → t
       ≡ false
-      → rest′ ≡ [] → Passes p (within k held rest) waiting (within k line rest′) waiting
+      → rest′ ≡ [] → Passes p (within k pending rest) waiting (within k line rest′) waiting
   unfolding NextLine toCome atEnd
-  pending-passes true k held rest line rest′ waiting f t e = absurd (false≢true (sym t))
-  pending-passes false k held rest line rest′ waiting f t e =
-      let none : completedIn (p .most) held rest ≡ completedIn (p .most) line rest′ = f .0 ∙ sym (none-in line rest′ e) in
+  pending-passes true k pending rest line rest′ waiting f t e = absurd (false≢true (sym t))
+  pending-passes false k pending rest line rest′ waiting f t e =
+      let none : completedIn (p .most) pending rest ≡ completedIn (p .most) line rest′ = f .0 ∙ sym (none-in line rest′ e) in
       record {
         says = ap (λ (ls : List (List ℕ)). waiting ++ transcript p ls k) none;
         reaches =
-            ap₂ (λ (ls : List (List ℕ)) (h : List ℕ). within (stateAfter p ls k) h []) none (f .1 ∙ sym (held-in line rest′ e));
+            ap₂ (λ (ls : List (List ℕ)) (h : List ℕ). within (stateAfter p ls k) h []) none
+            (f .1 ∙ sym (pending-in line rest′ e));
       }
 
   -- the line that ends next was answered
-  answer-line-passes : (k : K) (held rest line rest′ waiting : List ℕ) (k′ : K) (waiting′ : List ℕ)
-      → NextLine (p .most) true held rest line rest′ → Answered p (line ∷ []) k waiting k′ waiting′
-      → Passes p (within k held rest) waiting (within k′ [] rest′) waiting′
+  answer-line-passes : (k : K) (pending rest line rest′ waiting : List ℕ) (k′ : K) (waiting′ : List ℕ)
+      → NextLine (p .most) true pending rest line rest′ → Answered p (line ∷ []) k waiting k′ waiting′
+      → Passes p (within k pending rest) waiting (within k′ [] rest′) waiting′
   unfolding NextLine toCome atEnd
-  answer-line-passes k held rest line rest′ waiting k′ waiting′ f a =
+  answer-line-passes k pending rest line rest′ waiting k′ waiting′ f a =
       let ls = completedIn (p .most) [] rest′ in
       let one = transcript p (line ∷ []) k in
       let more = transcript p ls (stateAfter p (line ∷ []) k) in
@@ -86,21 +89,24 @@ module _ {K : Type 0} (p : LineProgram K) where
       }
 
   -- as the code has it: the line is a part of the buffer, and nothing is pending after it
-  pub answer-passes : (t : Bool) (k : K) (held rest line rest′ waiting : List ℕ) → NextLine (p .most) t held rest line rest′ → t
+  pub answer-passes : (t : Bool) (k : K) (pending rest line rest′ waiting : List ℕ)
+      → NextLine (p .most) t pending rest line rest′ → t
       ≡ true
       → (given : List ℕ) → given ≡ line → (k′ : K) (waiting′ : List ℕ) → Answered p (given ∷ []) k waiting k′ waiting′
-      → (held′ last : List ℕ) → held′ ≡ [] → last ≡ rest′ → Passes p (within k held rest) waiting (within k′ held′ last) waiting′
-  answer-passes t k held rest line rest′ waiting f y given g k′ waiting′ a held′ last h l =
-      let f′ : NextLine (p .most) true held rest line rest′ = subst (λ (b : Bool). NextLine (p .most) b held rest line rest′) y
+      → (pending′ last : List ℕ) → pending′ ≡ [] → last ≡ rest′ → Passes p (within k pending rest) waiting
+      (within k′ pending′ last) waiting′
+  answer-passes t k pending rest line rest′ waiting f y given g k′ waiting′ a pending′ last h l =
+      let f′ : NextLine (p .most) true pending rest line rest′ = subst
+      (λ (b : Bool). NextLine (p .most) b pending rest line rest′) y
       f in
       let a′ : Answered p (line ∷ []) k waiting k′ waiting′ = subst (λ (x : List ℕ). Answered p (x ∷ []) k waiting k′ waiting′) g
       a in
-      subst⁻¹ (λ (x : List ℕ). Passes p (within k held rest) waiting (within k′ x last) waiting′) h
-      (subst⁻¹ (λ (x : List ℕ). Passes p (within k held rest) waiting (within k′ [] x) waiting′) l
-      (answer-line-passes k held rest line rest′ waiting k′ waiting′ f′ a′))
+      subst⁻¹ (λ (x : List ℕ). Passes p (within k pending rest) waiting (within k′ x last) waiting′) h
+      (subst⁻¹ (λ (x : List ℕ). Passes p (within k pending rest) waiting (within k′ [] x) waiting′) l
+      (answer-line-passes k pending rest line rest′ waiting k′ waiting′ f′ a′))
 
-  pub passes-none : (u : Under K) (waiting : List ℕ) → waiting ≡ [] → Passes p u [] u waiting
-  passes-none u waiting e = record { says = ap (λ (x : List ℕ). x ++ toCome p u) (sym e); reaches = refl }
+  pub passes-nothing : (u : Under K) (waiting : List ℕ) → waiting ≡ [] → Passes p u [] u waiting
+  passes-nothing u waiting e = record { says = ap (λ (x : List ℕ). x ++ toCome p u) (sym e); reaches = refl }
 
   pub passes-on : (u v w : Under K) (a b c : List ℕ) → Passes p u a v b → Passes p v b w c → Passes p u a w c
   passes-on u v w a b c x y = record { says = x .says ∙ y .says; reaches = x .reaches ∙ y .reaches }
@@ -108,14 +114,15 @@ module _ {K : Type 0} (p : LineProgram K) where
   -- nothing is to come where nothing of the piece is left
   pub none-to-come : (u : Under K) → u .rest ≡ [] → toCome p u ≡ []
   unfolding toCome transcript completedIn
-  none-to-come u e = ap (λ (r : List ℕ). transcript p (completedIn (p .most) (u .held) r) (u .kept)) e
+  none-to-come u e = ap (λ (r : List ℕ). transcript p (completedIn (p .most) (u .pending) r) (u .state)) e
 
   pub end-reached : (u : Under K) → u .rest ≡ [] → atEnd p u ≡ u
   unfolding atEnd stateAfter completedIn pendingAfter
   end-reached u e =
-      ap (λ (r : List ℕ). within (stateAfter p (completedIn (p .most) (u .held) r) (u .kept)) (pendingAfter (p .most) (u .held) r)
+      ap (λ (r : List ℕ). within (stateAfter p (completedIn (p .most) (u .pending) r) (u .state))
+      (pendingAfter (p .most) (u .pending) r)
       []) e
-      ∙ ap (λ (r : List ℕ). within (u .kept) (u .held) r) (sym e)
+      ∙ ap (λ (r : List ℕ). within (u .state) (u .pending) r) (sym e)
 
   -- as the code has it: what is pending and the rest of the piece are parts of buffers
   pub end-same : (k k′ : K) (line piece : List ℕ) (h h′ a a′ : ℕ) → k′ ≡ k → h′ ≡ h → a′ ≡ a
@@ -124,25 +131,27 @@ module _ {K : Type 0} (p : LineProgram K) where
       ap (λ (j : K). atEnd p (within j (take h line) (drop a piece))) (sym s)
       ∙ ap₂ (λ (x y : ℕ). atEnd p (within k′ (take x line) (drop y piece))) (sym e) (sym f)
 
-  pub end-of : (k : K) (held rest : List ℕ) → rest ≡ [] → atEnd p (within k held rest) ≡ within k held []
-  end-of k held rest e = end-reached (within k held rest) e ∙ ap (λ (r : List ℕ). within k held r) e
+  pub end-of : (k : K) (pending rest : List ℕ) → rest ≡ [] → atEnd p (within k pending rest) ≡ within k pending []
+  end-of k pending rest e = end-reached (within k pending rest) e ∙ ap (λ (r : List ℕ). within k pending r) e
 
   -- the end of the input, with no line and with one: the rest is a part of the buffer
-  pub no-last-line : (t : Bool) (k : K) (held given waiting : List ℕ) → given ≡ held → lastLine given ≡ cond t (given ∷ []) []
-      → t ≡ false → waiting ≡ [] → Answered p (lastLine held) k [] k waiting
+  pub no-last-line : (t : Bool) (k : K) (pending given waiting : List ℕ) → given ≡ pending
+      → lastLine given ≡ cond t (given ∷ []) []
+      → t ≡ false → waiting ≡ [] → Answered p (lastLine pending) k [] k waiting
   unfolding transcript stateAfter
-  no-last-line t k held given waiting g l y z =
-      let e : lastLine held ≡ [] = ap lastLine (sym g) ∙ l ∙ ap (λ (b : Bool). cond b (given ∷ []) []) y in
+  no-last-line t k pending given waiting g l y z =
+      let e : lastLine pending ≡ [] = ap lastLine (sym g) ∙ l ∙ ap (λ (b : Bool). cond b (given ∷ []) []) y in
       record {
         says = z ∙ ap (λ (ls : List (List ℕ)). transcript p ls k) (sym e);
         keeps = ap (λ (ls : List (List ℕ)). stateAfter p ls k) (sym e);
       }
 
-  pub last-line : (t : Bool) (k : K) (held given : List ℕ) → given ≡ held → lastLine given ≡ cond t (given ∷ []) [] → t ≡ true
-      → (waiting : List ℕ) → waiting ≡ [] → (again : List ℕ) → again ≡ held
-      → (k′ : K) (text : List ℕ) → Answered p (again ∷ []) k waiting k′ text → Answered p (lastLine held) k [] k′ text
-  last-line t k held given g l y waiting z again j k′ text a =
-      let e : lastLine held ≡ again ∷ [] =
+  pub last-line : (t : Bool) (k : K) (pending given : List ℕ) → given ≡ pending → lastLine given ≡ cond t (given ∷ []) []
+      → t ≡ true
+      → (waiting : List ℕ) → waiting ≡ [] → (again : List ℕ) → again ≡ pending
+      → (k′ : K) (text : List ℕ) → Answered p (again ∷ []) k waiting k′ text → Answered p (lastLine pending) k [] k′ text
+  last-line t k pending given g l y waiting z again j k′ text a =
+      let e : lastLine pending ≡ again ∷ [] =
       ap lastLine (sym g) ∙ l ∙ ap (λ (b : Bool). cond b (given ∷ []) []) y ∙ ap (λ (x : List ℕ). x ∷ []) (g ∙ sym j) in
       subst⁻¹ (λ (ls : List (List ℕ)). Answered p ls k [] k′ text) e
       (subst (λ (w : List ℕ). Answered p (again ∷ []) k w k′ text) z a)

@@ -10,34 +10,35 @@ use Rattle.text_lines.specs.Lines.{fromPieces, joinedPieces, PiecesAreTh
 
 -- ---- two pieces, one after the other
 
-ended-append : (m : ℕ) (held p q : List ℕ) → completedIn m held (p ++ q) ≡ completedIn m held p
-    ++ completedIn m (pendingAfter m held p) q
+ended-append : (m : ℕ) (pending p q : List ℕ) → completedIn m pending (p ++ q) ≡ completedIn m pending p
+    ++ completedIn m (pendingAfter m pending p) q
 unfolding completedIn pendingAfter
-ended-append m held [] q = refl
-ended-append m held (x ∷ p) q =
-    let next = truncated m (grown x held) in
-    ap (λ (l : List (List ℕ)). endedLine x held ++ l) (ended-append m next p q)
-    ∙ sym (append-assoc (endedLine x held) (completedIn m next p) (completedIn m (pendingAfter m next p) q))
+ended-append m pending [] q = refl
+ended-append m pending (x ∷ p) q =
+    let next = truncated m (grown x pending) in
+    ap (λ (l : List (List ℕ)). endedLine x pending ++ l) (ended-append m next p q)
+    ∙ sym (append-assoc (endedLine x pending) (completedIn m next p) (completedIn m (pendingAfter m next p) q))
 
-held-append : (m : ℕ) (held p q : List ℕ) → pendingAfter m held (p ++ q) ≡ pendingAfter m (pendingAfter m held p) q
+pending-append : (m : ℕ) (pending p q : List ℕ) → pendingAfter m pending (p ++ q) ≡ pendingAfter m (pendingAfter m pending p) q
 unfolding pendingAfter
-held-append m held [] q = refl
-held-append m held (x ∷ p) q = held-append m (truncated m (grown x held)) p q
+pending-append m pending [] q = refl
+pending-append m pending (x ∷ p) q = pending-append m (truncated m (grown x pending)) p q
 
 -- all lines of an input in one piece
 lines : ℕ → List ℕ → List ℕ → List (List ℕ)
-lines m held input = completedIn m held input ++ lastLine (pendingAfter m held input)
+lines m pending input = completedIn m pending input ++ lastLine (pendingAfter m pending input)
 
-pieces-lines : (m : ℕ) (held : List ℕ) (pieces : List (List ℕ)) → fromPieces m held pieces ≡ lines m held (joinedPieces pieces)
+pieces-lines : (m : ℕ) (pending : List ℕ) (pieces : List (List ℕ))
+    → fromPieces m pending pieces ≡ lines m pending (joinedPieces pieces)
 unfolding fromPieces joinedPieces lines completedIn pendingAfter
-pieces-lines m held [] = refl
-pieces-lines m held (p ∷ ps) =
-    let next = pendingAfter m held p in
-    ap (λ (l : List (List ℕ)). completedIn m held p ++ l) (pieces-lines m next ps)
-    ∙ sym (append-assoc (completedIn m held p) (completedIn m next (joinedPieces ps))
+pieces-lines m pending [] = refl
+pieces-lines m pending (p ∷ ps) =
+    let next = pendingAfter m pending p in
+    ap (λ (l : List (List ℕ)). completedIn m pending p ++ l) (pieces-lines m next ps)
+    ∙ sym (append-assoc (completedIn m pending p) (completedIn m next (joinedPieces ps))
     (lastLine (pendingAfter m next (joinedPieces ps))))
-    ∙ sym (ap₂ (λ (a : List (List ℕ)) (b : List ℕ). a ++ lastLine b) (ended-append m held p (joinedPieces ps))
-    (held-append m held p (joinedPieces ps)))
+    ∙ sym (ap₂ (λ (a : List (List ℕ)) (b : List ℕ). a ++ lastLine b) (ended-append m pending p (joinedPieces ps))
+    (pending-append m pending p (joinedPieces ps)))
 
 -- ---- truncated lines
 

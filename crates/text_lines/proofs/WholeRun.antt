@@ -41,116 +41,119 @@ module _ {K : Type 0} (p : LineProgram K) where
         reaches = h .1 .0 .reaches ∙ g .reaches;
       }
 
-  record Told (held : List ℕ) (k : K) (xs : List Leg) (last : List ℕ) (k′ : K) : Type 0 where
-    says : outputOf xs ++ last ≡ transcript p (fromPieces (p .most) held (pieces xs)) k
-    keeps : k′ ≡ stateAfter p (fromPieces (p .most) held (pieces xs)) k
+  record LegsExpected (pending : List ℕ) (k : K) (xs : List Leg) (last : List ℕ) (k′ : K) : Type 0 where
+    says : outputOf xs ++ last ≡ transcript p (fromPieces (p .most) pending (pieces xs)) k
+    keeps : k′ ≡ stateAfter p (fromPieces (p .most) pending (pieces xs)) k
 
-  legs-told : (held : List ℕ) (k : K) (xs : List Leg) (last : List ℕ) (k′ : K) → Legs p held k xs last k′ → Told held k xs last k′
+  legs-expected : (pending : List ℕ) (k : K) (xs : List Leg) (last : List ℕ) (k′ : K) → Legs p pending k xs last k′
+      → LegsExpected pending k xs last k′
   unfolding Legs outputOf pieces fromPieces toCome atEnd
-  legs-told held k [] last k′ h = record { says = h .says; keeps = h .keeps }
-  legs-told held k (x ∷ xs) last k′ h =
+  legs-expected pending k [] last k′ h = record { says = h .says; keeps = h .keeps }
+  legs-expected pending k (x ∷ xs) last k′ h =
       let w = h .0 in
-      let g = put-out (within k held (x .piece)) (x .texts) w (h .1 .1 .0) in
-      let ls = completedIn (p .most) held (x .piece) in
-      let rest = fromPieces (p .most) (pendingAfter (p .most) held (x .piece)) (pieces xs) in
-      let more = legs-told (w .held) (w .kept) xs last k′ (h .1 .1 .1) in
+      let g = put-out (within k pending (x .piece)) (x .texts) w (h .1 .1 .0) in
+      let ls = completedIn (p .most) pending (x .piece) in
+      let rest = fromPieces (p .most) (pendingAfter (p .most) pending (x .piece)) (pieces xs) in
+      let more = legs-expected (w .pending) (w .state) xs last k′ (h .1 .1 .1) in
       let text : joinedPieces (x .texts) ≡ transcript p ls k =
       sym (append-nil (joinedPieces (x .texts)))
       ∙ ap (λ (r : List ℕ). joinedPieces (x .texts) ++ r) (sym (none-to-come p w (h .1 .0)))
       ∙ sym (g .says) in
-      let end : atEnd p (within k held (x .piece)) ≡ w = g .reaches ∙ end-reached p w (h .1 .0) in
+      let end : atEnd p (within k pending (x .piece)) ≡ w = g .reaches ∙ end-reached p w (h .1 .0) in
       record {
         says =
             append-assoc (joinedPieces (x .texts)) (outputOf xs) last
             ∙ ap₂ (λ (a b : List ℕ). a ++ b) text (more .says)
-            ∙ ap (λ (v : Under K). transcript p ls k ++ transcript p (fromPieces (p .most) (v .held) (pieces xs)) (v .kept))
+            ∙ ap (λ (v : Under K). transcript p ls k ++ transcript p (fromPieces (p .most) (v .pending) (pieces xs)) (v .state))
             (sym end)
             ∙ sym (transcript-append p ls rest k);
         keeps =
             more .keeps
-            ∙ ap (λ (v : Under K). stateAfter p (fromPieces (p .most) (v .held) (pieces xs)) (v .kept)) (sym end)
+            ∙ ap (λ (v : Under K). stateAfter p (fromPieces (p .most) (v .pending) (pieces xs)) (v .state)) (sym end)
             ∙ sym (state-append p ls rest k);
       }
 
   -- ---- where pieces lead
 
   through-more : (u : Under K) (ps : List (List ℕ)) (piece : List ℕ)
-      → throughPieces p u (ps ++ (piece ∷ [])) ≡ atEnd p (within (throughPieces p u ps .kept) (throughPieces p u ps .held) piece)
+      → throughPieces p u (ps ++ (piece ∷ [])) ≡ atEnd p
+      (within (throughPieces p u ps .state) (throughPieces p u ps .pending) piece)
   unfolding throughPieces
   through-more u [] piece = refl
-  through-more u (q ∷ ps) piece = through-more (atEnd p (within (u .kept) (u .held) q)) ps piece
+  through-more u (q ∷ ps) piece = through-more (atEnd p (within (u .state) (u .pending) q)) ps piece
 
   pub reached-first : (k : K) → PiecesReach p k (within k [] [])
   unfolding throughPieces
   reached-first k = record { pieces = []; there = refl }
 
-  pub reached-more : (k₀ k : K) (held piece : List ℕ) (v : Under K) → PiecesReach p k₀ (within k held [])
-      → atEnd p (within k held piece) ≡ v
+  pub reached-more : (k₀ k : K) (pending piece : List ℕ) (v : Under K) → PiecesReach p k₀ (within k pending [])
+      → atEnd p (within k pending piece) ≡ v
       → PiecesReach p k₀ v
-  reached-more k₀ k held piece v r e =
+  reached-more k₀ k pending piece v r e =
       record {
         pieces = r .pieces ++ (piece ∷ []);
         there =
             through-more (within k₀ [] []) (r .pieces) piece
-            ∙ ap (λ (w : Under K). atEnd p (within (w .kept) (w .held) piece)) (r .there)
+            ∙ ap (λ (w : Under K). atEnd p (within (w .state) (w .pending) piece)) (r .there)
             ∙ e;
       }
 
-  through-lines : (k : K) (held : List ℕ) (ps : List (List ℕ))
-      → stateAfter p (fromPieces (p .most) held ps) k
-      ≡ stateAfter p (lastLine (throughPieces p (within k held []) ps .held)) (throughPieces p (within k held []) ps .kept)
+  through-lines : (k : K) (pending : List ℕ) (ps : List (List ℕ))
+      → stateAfter p (fromPieces (p .most) pending ps) k
+      ≡ stateAfter p (lastLine (throughPieces p (within k pending []) ps .pending))
+      (throughPieces p (within k pending []) ps .state)
   unfolding throughPieces fromPieces atEnd
-  through-lines k held [] = refl
-  through-lines k held (q ∷ ps) =
-      let ls = completedIn (p .most) held q in
-      let h = pendingAfter (p .most) held q in
+  through-lines k pending [] = refl
+  through-lines k pending (q ∷ ps) =
+      let ls = completedIn (p .most) pending q in
+      let h = pendingAfter (p .most) pending q in
       state-append p ls (fromPieces (p .most) h ps) k ∙ through-lines (stateAfter p ls k) h ps
 
   -- ---- each program that takes a truncated line as the whole line
 
   module _ (enough : TruncatedIsEnough p) where
-    text-of-kept : (ls : List (List ℕ)) (k : K) → transcript p (map (truncated (p .most)) ls) k ≡ transcript p ls k
+    text-of-truncated : (ls : List (List ℕ)) (k : K) → transcript p (map (truncated (p .most)) ls) k ≡ transcript p ls k
     unfolding transcript
-    text-of-kept [] k = refl
-    text-of-kept (l ∷ ls) k =
+    text-of-truncated [] k = refl
+    text-of-truncated (l ∷ ls) k =
         ap₂ (λ (t : List ℕ) (j : K). t ++ transcript p (map (truncated (p .most)) ls) j) (enough .text l k) (enough .next l k)
-        ∙ ap (λ (x : List ℕ). p .text l k ++ x) (text-of-kept ls (p .next l k))
+        ∙ ap (λ (x : List ℕ). p .text l k ++ x) (text-of-truncated ls (p .next l k))
 
-    after-kept : (ls : List (List ℕ)) (k : K) → stateAfter p (map (truncated (p .most)) ls) k ≡ stateAfter p ls k
+    after-truncated : (ls : List (List ℕ)) (k : K) → stateAfter p (map (truncated (p .most)) ls) k ≡ stateAfter p ls k
     unfolding stateAfter
-    after-kept [] k = refl
-    after-kept (l ∷ ls) k =
-        ap (stateAfter p (map (truncated (p .most)) ls)) (enough .next l k) ∙ after-kept ls (p .next l k)
+    after-truncated [] k = refl
+    after-truncated (l ∷ ls) k =
+        ap (stateAfter p (map (truncated (p .most)) ls)) (enough .next l k) ∙ after-truncated ls (p .next l k)
 
     pub whole-run : WholeRun p
     whole-run k legs last k′ h =
-        let told = legs-told [] k legs last k′ h in
+        let told = legs-expected [] k legs last k′ h in
         let lines = linesOf (joinedPieces (pieces legs)) in
         let cut = pieces-are-the-whole (p .most) (pieces legs) in
         record {
           says =
               told .says
               ∙ ap (λ (ls : List (List ℕ)). transcript p ls k) cut
-              ∙ text-of-kept lines k
+              ∙ text-of-truncated lines k
               ∙ ap (λ (input : List ℕ). transcript p (linesOf input) k) (pieces-joined legs);
           keeps =
               told .keeps
               ∙ ap (λ (ls : List (List ℕ)). stateAfter p ls k) cut
-              ∙ after-kept lines k
+              ∙ after-truncated lines k
               ∙ ap (λ (input : List ℕ). stateAfter p (linesOf input) k) (pieces-joined legs);
         }
 
     -- the end of the input
-    pub ran : (k₀ k : K) (held text : List ℕ) (k′ : K) → PiecesReach p k₀ (within k held [])
-        → Answered p (lastLine held) k [] k′ text
+    pub ran : (k₀ k : K) (pending text : List ℕ) (k′ : K) → PiecesReach p k₀ (within k pending [])
+        → Answered p (lastLine pending) k [] k′ text
         → LinesLead p k₀ k′
-    ran k₀ k held text k′ r a =
+    ran k₀ k pending text k′ r a =
         record {
           input = joinedPieces (r .pieces);
           keeps =
               a .keeps
-              ∙ ap (λ (u : Under K). stateAfter p (lastLine (u .held)) (u .kept)) (sym (r .there))
+              ∙ ap (λ (u : Under K). stateAfter p (lastLine (u .pending)) (u .state)) (sym (r .there))
               ∙ sym (through-lines k₀ [] (r .pieces))
               ∙ ap (λ (ls : List (List ℕ)). stateAfter p ls k₀) (pieces-are-the-whole (p .most) (r .pieces))
-              ∙ after-kept (linesOf (joinedPieces (r .pieces))) k₀;
+              ∙ after-truncated (linesOf (joinedPieces (r .pieces))) k₀;
         }

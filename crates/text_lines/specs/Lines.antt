@@ -9,10 +9,10 @@ use Prim.Native.Nat.{ℕ, suc}
 
 -- The line that a byte of the input ends, if it does, and what is pending of the current line after the byte.
 unfoldable pub endedLine : ℕ → List ℕ → List (List ℕ)
-endedLine x held = cond (eqb x 10) (held ∷ []) []
+endedLine x pending = cond (eqb x 10) (pending ∷ []) []
 
 unfoldable pub grown : ℕ → List ℕ → List ℕ
-grown x held = cond (eqb x 10) [] (held ++ (x ∷ []))
+grown x pending = cond (eqb x 10) [] (pending ++ (x ∷ []))
 
 -- "the last one also at the end of the input, where an empty rest is no line" [R-19.3]
 unfoldable pub lastLine : List ℕ → List (List ℕ)
@@ -20,8 +20,8 @@ lastLine [] = []
 lastLine (x ∷ xs) = (x ∷ xs) ∷ []
 
 unfoldable pub linesFrom : List ℕ → List ℕ → List (List ℕ)
-linesFrom held [] = lastLine held
-linesFrom held (x ∷ xs) = endedLine x held ++ linesFrom (grown x held) xs
+linesFrom pending [] = lastLine pending
+linesFrom pending (x ∷ xs) = endedLine x pending ++ linesFrom (grown x pending) xs
 
 -- The lines of the whole input.
 unfoldable pub linesOf : List ℕ → List (List ℕ)
@@ -34,21 +34,22 @@ linesOf input = linesFrom [] input
 unfoldable pub truncated : ℕ → List ℕ → List ℕ
 truncated most line = take (suc most) line
 
--- The lines that end in a piece, and what is pending after it, where `held` is what came before of the
+-- The lines that end in a piece, and what is pending after it, where `pending` is what came before of the
 -- current line.
 unfoldable pub completedIn : ℕ → List ℕ → List ℕ → List (List ℕ)
-completedIn most held [] = []
-completedIn most held (x ∷ xs) = endedLine x held ++ completedIn most (truncated most (grown x held)) xs
+completedIn most pending [] = []
+completedIn most pending (x ∷ xs) = endedLine x pending ++ completedIn most
+    (truncated most (grown x pending)) xs
 
 unfoldable pub pendingAfter : ℕ → List ℕ → List ℕ → List ℕ
-pendingAfter most held [] = held
-pendingAfter most held (x ∷ xs) = pendingAfter most (truncated most (grown x held)) xs
+pendingAfter most pending [] = pending
+pendingAfter most pending (x ∷ xs) = pendingAfter most (truncated most (grown x pending)) xs
 
 -- The lines of all pieces.
 unfoldable pub fromPieces : ℕ → List ℕ → List (List ℕ) → List (List ℕ)
-fromPieces most held [] = lastLine held
-fromPieces most held (piece ∷ pieces) = completedIn most held piece
-    ++ fromPieces most (pendingAfter most held piece) pieces
+fromPieces most pending [] = lastLine pending
+fromPieces most pending (piece ∷ pieces) = completedIn most pending piece
+    ++ fromPieces most (pendingAfter most pending piece) pieces
 
 unfoldable pub joinedPieces : List (List ℕ) → List ℕ
 joinedPieces [] = []

@@ -36,23 +36,23 @@ pub record Answered {K : Type 0} (p : LineProgram K) (lines : List (List ℕ)) (
 
 -- In the middle of a piece of input: the state, what is pending of the current line, and the piece's rest.
 pub record Under (K : Type 0) : Type 0 where
-  pub kept : K
-  pub held : List ℕ
+  pub state : K
+  pub pending : List ℕ
   pub rest : List ℕ
 
 abbrev pub within : {K : Type 0} → K → List ℕ → List ℕ → Under K
-within k held rest = record { kept = k; held = held; rest = rest }
+within k pending rest = record { state = k; pending = pending; rest = rest }
 
 module _ {K : Type 0} (p : LineProgram K) where
   -- The text that the rest of the piece is to be answered, and where its end is reached.
   unfoldable pub toCome : Under K → List ℕ
-  toCome u = transcript p (completedIn (p .most) (u .held) (u .rest)) (u .kept)
+  toCome u = transcript p (completedIn (p .most) (u .pending) (u .rest)) (u .state)
 
   unfoldable pub atEnd : Under K → Under K
   atEnd u =
       record {
-        kept = stateAfter p (completedIn (p .most) (u .held) (u .rest)) (u .kept);
-        held = pendingAfter (p .most) (u .held) (u .rest);
+        state = stateAfter p (completedIn (p .most) (u .pending) (u .rest)) (u .state);
+        pending = pendingAfter (p .most) (u .pending) (u .rest);
         rest = [];
       }
 

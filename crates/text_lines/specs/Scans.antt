@@ -9,16 +9,16 @@ use Rattle.text_lines.specs.Lines.{completedIn, pendingAfter}
 -- What a scan for the next line end finds in a piece: the line that ends first, and the rest of the piece; or
 -- that no line ends in it, and what is pending then.
 unfoldable pub NextLine : ℕ → Bool → List ℕ → List ℕ → List ℕ → List ℕ → Type 0
-NextLine most true held piece line rest =
-    (completedIn most held piece ≡ line ∷ completedIn most [] rest)
-    × (pendingAfter most held piece ≡ pendingAfter most [] rest)
-NextLine most false held piece line rest = (completedIn most held piece ≡ [])
-    × (pendingAfter most held piece ≡ line)
+NextLine most true pending piece line rest =
+    (completedIn most pending piece ≡ line ∷ completedIn most [] rest)
+    × (pendingAfter most pending piece ≡ pendingAfter most [] rest)
+NextLine most false pending piece line rest = (completedIn most pending piece ≡ [])
+    × (pendingAfter most pending piece ≡ line)
 
 -- Where a scan from `from` on ends in a piece of that size: past the line end that it found, or at the end of
 -- the piece. At most one byte more is pending than a line may have.
 pub record Went (most : ℕ) (r : Scan) (from size : ℕ) : Type 0 where
-  pub within : r .held ≤ suc most
+  pub within : r .pending ≤ suc most
   pub onward : from ≤ r .at
   pub inside : r .at ≤ size
   pub past : r .complete ≡ true → from < r .at

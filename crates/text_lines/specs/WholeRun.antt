@@ -26,7 +26,7 @@ module _ {K : Type 0} (p : LineProgram K) where
   -- Where pieces of input lead, one after the other.
   unfoldable pub throughPieces : Under K → List (List ℕ) → Under K
   throughPieces u [] = u
-  throughPieces u (piece ∷ pieces) = throughPieces (atEnd p (within (u .kept) (u .held) piece)) pieces
+  throughPieces u (piece ∷ pieces) = throughPieces (atEnd p (within (u .state) (u .pending) piece)) pieces
 
   -- The texts put out one after the other, each with none pending before it.
   unfoldable pub PutOut : Under K → List (List ℕ) → Under K → Type 0
@@ -36,11 +36,11 @@ module _ {K : Type 0} (p : LineProgram K) where
   -- Pieces one after the other, each on what the one before left; last, the text of the line that the end of
   -- the input ends. k′ is the state then.
   unfoldable pub Legs : List ℕ → K → List Leg → List ℕ → K → Type 0
-  Legs held k [] last k′ = Answered p (lastLine held) k [] k′ last
-  Legs held k (x ∷ xs) last k′ =
+  Legs pending k [] last k′ = Answered p (lastLine pending) k [] k′ last
+  Legs pending k (x ∷ xs) last k′ =
       (w : Under K)
-      × ((w .rest ≡ []) × (PutOut (within k held (x .piece)) (x .texts) w
-      × Legs (w .held) (w .kept) xs last k′))
+      × ((w .rest ≡ []) × (PutOut (within k pending (x .piece)) (x .texts) w
+      × Legs (w .pending) (w .state) xs last k′))
 
 -- Some pieces of input lead from k, with nothing pending, to u. That the pieces are those that were read is
 -- not said: reading is outside.

@@ -13,20 +13,20 @@ ghost use Rattle.text_lines.specs.Scans.{NextLine, Went};
 // place after it in the piece.
 pub struct Scan {
     pub complete: bool,
-    pub held: usize,
+    pub pending: usize,
     pub at: usize,
 }
 
-// Scans the piece for the next line end, from `from` on. The bytes up to it join the `held` pending bytes of
-// the current line.
-pub fn next_line(line: &mut [u8], held: usize, piece: &[u8], from: usize) -> Scan
-    requires { ⌜ (1 ≤ length (now line)) × ((held ≤ length (now line)) × (from ≤ length (now piece))) ⌝ }
-    ensures { λ r. ⌜ NextLine (length (now (line .entry)) - 1) (r .complete) (take held (now (line .entry)))
-        (drop from (now (piece .entry)))
-        (take (r .held) (now (line .exit))) (drop (r .at) (now (piece .entry)))
+// Scans the piece for the next line end, from `from` on. The bytes up to it join the `pending` bytes of the
+// current line.
+pub fn next_line(line: &mut [u8], pending: usize, piece: &[u8], from: usize) -> Scan
+    requires { ⌜ (1 ≤ length (now line)) × ((pending ≤ length (now line)) × (from ≤ length (now piece))) ⌝ }
+    ensures { λ r. ⌜ NextLine (length (now (line .entry)) - 1) (r .complete)
+        (take pending (now (line .entry))) (drop from (now (piece .entry)))
+        (take (r .pending) (now (line .exit))) (drop (r .at) (now (piece .entry)))
         × Went (length (now (line .entry)) - 1) r from (length (now (piece .entry))) ⌝ }
 {
-    let mut n = held;
+    let mut n = pending;
     let mut i = from;
     while i < piece.len() {
         let b = piece[i];
@@ -34,7 +34,7 @@ pub fn next_line(line: &mut [u8], held: usize, piece: &[u8], from: usize) -> Sca
         if b == b'\n' {
             return Scan {
                 complete: true,
-                held: n,
+                pending: n,
                 at: i,
             };
         }
@@ -45,7 +45,7 @@ pub fn next_line(line: &mut [u8], held: usize, piece: &[u8], from: usize) -> Sca
     }
     Scan {
         complete: false,
-        held: n,
+        pending: n,
         at: i,
     }
 }

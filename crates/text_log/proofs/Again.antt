@@ -7,6 +7,7 @@ use native.Mathlib.Omega.{arith}
 use lib.Dec.{leb}
 use lib.ListN.{length, take, drop, replicate, length-replicate}
 use lib.Seq.{take-append-seam, take-at, take-all}
+use Rattle.limits.specs.Limits.{lastDescriptor}
 use Rattle.state.specs.Outcomes.{Said, doneAnswer, pointer, given, granted, pairs, ordered, refused}
 use Rattle.state.specs.StoreMeaning.{transaction}
 use Rattle.admission.specs.Admission.{admission}
@@ -86,7 +87,7 @@ module _ (v : Values) (file : ℕ → ℕ) (d n : ℕ) (b c : List ℕ) where
   near-read : length b ≡ length c → (x : Txn) → Near v (readStep file d n b x) (readStep file d n c x)
   unfolding readStep
   near-read e x =
-      rw e (near-check v (leb d 15) 6 _ _ (near-check v (leb n (length c)) 7 _ _ (near-andThen v _ _ _ near-given)))
+      rw e (near-check v (leb d lastDescriptor) 6 _ _ (near-check v (leb n (length c)) 7 _ _ (near-andThen v _ _ _ near-given)))
 
 -- ---- turns
 

@@ -9,7 +9,7 @@ use lib.ListN.{length, take}
 use lib.Seq.{length-take-le}
 use borrow.Author.Tests.{lt-leb}
 use Rattle.text_log.specs.LogLines.{mostWritten}
-use Rattle.limits.specs.Limits.{lastDescriptor, logBytes}
+use Rattle.limits.specs.Limits.{fileBytes, lastDescriptor, logBytes}
 use Rattle.spec.specs.Machine.{Machine, txnOf, values}
 use Rattle.spec.specs.Transactions.{Txn}
 use Rattle.spec.specs.Items.{Item, Prog, done, asked, result}
@@ -22,7 +22,7 @@ use Rattle.standings.specs.Table.{placeNumber, writePlace}
 too-long : (d : ℕ) (bytes : List ℕ) (x : Txn) → logBytes < length bytes
     → writeStep d bytes x ≡ check (leb d lastDescriptor) 6 (done (refuse 9))
 unfolding writeStep check
-too-long d bytes x h = rw (lt-leb (placeNumber (writePlace (x .standing d)) + length bytes) 4096 (omega arith))
+too-long d bytes x h = rw (lt-leb (placeNumber (writePlace (x .standing d)) + length bytes) fileBytes (omega arith))
 
 served-refused : (t : ℕ) (o : Op) (m : Machine) (v : Item → ℕ) (b : Bool)
     → served t o m (asked v (check b 6 (done (refuse 9)))) (result v (check b 6 (done (refuse 9))))
@@ -36,7 +36,7 @@ refused-long : (t d : ℕ) (bytes : List ℕ) (m : Machine) → logBytes < lengt
 unfolding stepTurn step refusedStale refusesStale isReadCall bufferOf
 refused-long t d bytes m h =
     rw (too-long d bytes (txnOf (m .store) (m .journal) (m .logs) t) h)
-    (served-refused t (write d bytes) m (values (m .store) (m .files)) (leb d 15))
+    (served-refused t (write d bytes) m (values (m .store) (m .files)) (leb d lastDescriptor))
 
 pub clipped : (t d : ℕ) (bytes : List ℕ) (m : Machine) → mostWritten ≤ length bytes
     → call (on t (write d bytes)) m ≡ call (on t (write d (take mostWritten bytes))) m

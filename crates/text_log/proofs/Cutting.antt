@@ -59,5 +59,5 @@ pub order-cut : (ts : List ℕ) (minute budget : ℕ) (m : Machine)
 unfolding call orderTurn
 order-cut ts minute budget m =
     ap (λ r. passing (firstTests (sizes m) (m .store) (m .journal) 0) [] m (record { reply = r; after = m }))
-    (by-length 15 ts (λ l. orderReply (askedOf minute m) l minute budget) (says (refused 26))
+    (by-length mostOrdered ts (λ l. orderReply (askedOf minute m) l minute budget) (says (refused 26))
     (no-order (askedOf minute m) minute budget))

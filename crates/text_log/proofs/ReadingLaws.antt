@@ -19,7 +19,8 @@ use Rattle.text_numerals.specs.declared.Field.the-variants.{Missing, Number}
 use Rattle.text_numerals.specs.declared.Count.{Count}
 use Rattle.text_numerals.specs.declared.Count.the-variants.{Unread, Many}
 use Rattle.spec.specs.Messages.{on, write, bestOrder}
-use Rattle.text_log.specs.LogLines.{LogEntry, another, comment, expects, calls, nextNumber, last, lastOr, asked, ordering}
+use Rattle.text_log.specs.LogLines.{LogEntry, another, comment, expects, calls, nextNumber, last, lastOr, entryAsked}
+use Rattle.text_log.specs.LogLines.{ordering}
 use Rattle.text_log.specs.LogLines.{ifWhole, onNumber}
 use Rattle.text_log.specs.LogLines.{octets, ofOctets, numbersOnly, expectationIn, pairsBehind, textBehind, writeEntry}
 use Rattle.text_log.specs.LogLines.{letteredEntry, entryIn, callIn}
@@ -137,8 +138,8 @@ module _ (n : ℕ) (ns : List ℕ) (h : n ≤ length ns) where
 
 -- A letter of no line of numbers.
 pub asked-other : (k : ℕ) (l : List ℕ) → (k ≡ 66 → ⊥) → (k ≡ 67 → ⊥) → (k ≡ 65 → ⊥) → (k ≡ 80 → ⊥) → (k ≡ 83 → ⊥) → (k ≡ 82 → ⊥)
-    → (k ≡ 76 → ⊥) → (k ≡ 72 → ⊥) → (k ≡ 85 → ⊥) → (k ≡ 86 → ⊥) → (k ≡ 70 → ⊥) → (k ≡ 79 → ⊥) → asked k l ≡ another
-unfolding asked
+    → (k ≡ 76 → ⊥) → (k ≡ 72 → ⊥) → (k ≡ 85 → ⊥) → (k ≡ 86 → ⊥) → (k ≡ 70 → ⊥) → (k ≡ 79 → ⊥) → entryAsked k l ≡ another
+unfolding entryAsked
 asked-other k l b c a p s r o h u v f i =
     rw (
       ne-eqb k 66 b,
@@ -360,7 +361,7 @@ module _ (line : List ℕ) (some : length line ≡ 0 → ⊥) where
   call-text e = call-letter line some ∙ rw e
 
   pub call-asked : (getD line 0 0 ≡ 35 → ⊥) → (getD line 0 0 ≡ 61 → ⊥) → (getD line 0 0 ≡ 88 → ⊥) → (getD line 0 0 ≡ 87 → ⊥)
-      → entryIn line ≡ ifWhole (asked (getD line 0 0)) (numbersOnly (drop 1 line))
+      → entryIn line ≡ ifWhole (entryAsked (getD line 0 0)) (numbersOnly (drop 1 line))
   unfolding letteredEntry
   call-asked c x p w =
       let k = getD line 0 0 in

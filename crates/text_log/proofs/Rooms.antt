@@ -9,7 +9,7 @@ use lib.ListN.{length, take, drop}
 use lib.Seq.{take-append-seam}
 use borrow.Author.Tests.{leb-true, le-leb, lt-leb, lt-ltb, le-ltb, ltb-true, ltb-false}
 use Rattle.text_log.specs.LogLines.{mostWritten}
-use Rattle.limits.specs.Limits.{transactionCount, fileBytes}
+use Rattle.limits.specs.Limits.{fileBytes, lastDescriptor, transactionCount, lastTransaction}
 use Rattle.state.specs.StoreMeaning.{transaction}
 use Rattle.admission.specs.Admission.{admission}
 use Rattle.admission.specs.FirstRefusal.{unless}
@@ -103,7 +103,7 @@ module _ (v : Values) (file : ℕ → ℕ) (d n : ℕ) (b c : List ℕ) (bounded
       let ds = settledByRead file d x in
       let start : Preserved (pieces (x .writes)) x = record { ranges = h; same = refl } in
       rw (le-leb (min n 4097) (length c) (omega arith), le-leb n (length b) l)
-      (near-check v (leb d 15) 6 _ _
+      (near-check v (leb d lastDescriptor) 6 _ _
       (near-at v (settling ds x) _ _
       (near-given ds x start (λ y q. settling-preserved v ds x y (pieces (x .writes)) (those-in _ 16 (omega arith)) start
       q .ranges) (result v (settling ds x)) refl)))
@@ -112,7 +112,7 @@ module _ (v : Values) (file : ℕ → ℕ) (d n : ℕ) (b c : List ℕ) (bounded
   near-refusing : length b < n → length c ≤ length b → (x : Txn) → Near v (readStep file d n c x) (readStep file d n b x)
   unfolding readStep check
   near-refusing l e x =
-      rw (lt-leb n (length c) (omega arith), lt-leb n (length b) l) (near-check v (leb d 15) 6 _ _ (near-refused v 7))
+      rw (lt-leb n (length c) (omega arith), lt-leb n (length b) l) (near-check v (leb d lastDescriptor) 6 _ _ (near-refused v 7))
 
 -- ---- a call
 
@@ -129,7 +129,8 @@ module _ (m : Machine) (t : ℕ) (sound : Sound m) where
   unfolding admitted admission
   admitted-open b c x y h =
       rw (shared-is m t sound (unless (transaction (m .store) t .begun) 4 0))
-      (refused-alike b c m x y (leb t 7) (transaction (m .store) t .begun) (λ l q. let k = leb-true t 7 l in h (omega arith) q))
+      (refused-alike b c m x y (leb t lastTransaction) (transaction (m .store) t .begun)
+      (λ l q. let k = leb-true t lastTransaction l in h (omega arith) q))
 
   pub roomy : (d n : ℕ) (b c : List ℕ) → n ≤ length b → length c ≡ mostWritten
       → SameTurn (call (on t (read d (min n mostWritten) c)) m) (call (on t (read d n b)) m)

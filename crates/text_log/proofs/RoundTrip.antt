@@ -17,7 +17,7 @@ use Rattle.spec.specs.Messages.{Call, begin, on, commit, abort, places, setWind
 use Rattle.spec.specs.Messages.{Op, seek, write, getFilePointer, read}
 use Rattle.text_log.specs.LogLines.{LogEntry, calls, fresh, textLine, pairsLine, writeLine, printable, opLine, lineOf}
 use Rattle.text_log.specs.LogLines.{freshLine, nextNumber, last, lastOr}
-use Rattle.text_log.specs.LogLines.{octets, ofOctets, numbersOnly, asked, ifWhole, onNumber, ordering, pairsBehind}
+use Rattle.text_log.specs.LogLines.{octets, ofOctets, numbersOnly, entryAsked, ifWhole, onNumber, ordering, pairsBehind}
 use Rattle.text_log.specs.LogLines.{textBehind, writeEntry, letteredEntry}
 use Rattle.text_log.specs.LogLines.{entryIn, callIn, mostNumbers, mostWritten, longest}
 use Rattle.text_log.specs.Statements.{numbersOf, numbersOfOp, bytesOfCall, bytesOfOp, Loggable, blank, blankOp}
@@ -79,7 +79,8 @@ module _ (t d : ℕ) (bytes : List ℕ) (h : AllBelow past (t ∷ d ∷ [])) whe
       pick false e p = pairs-line-back b l
 
 op-back : (t : ℕ) (o : Op) → Loggable (on t o) → callIn (opLine t o) ≡ calls (on t (blankOp o))
-unfolding opLine blankOp entryIn letteredEntry asked nextNumber last lastOr ifWhole numbersOf numbersOfOp bytesOfCall bytesOfOp
+unfolding opLine blankOp entryIn letteredEntry entryAsked nextNumber last lastOr ifWhole numbersOf numbersOfOp bytesOfCall
+    bytesOfOp
 op-back t (seek d v) h =
     entry-within _ (short 83 t (d ∷ v ∷ []) (omega arith)) ∙ rw (joined-back t (d ∷ v ∷ []) (omega arith) (h .numbers))
 op-back t (write d bytes) h = write-back t d bytes (h .numbers) (h .bytes) (h .short)
@@ -96,7 +97,7 @@ all-octets [] h = refl
 all-octets (n ∷ ns) h = rw (lt-ltb n 256 (h .0)) (all-octets ns (h .1))
 
 pub back : (c : Call) → Loggable c → callIn (lineOf c) ≡ calls (blank c)
-unfolding lineOf blank entryIn letteredEntry asked ordering nextNumber last lastOr ifWhole numbersOf bytesOfCall
+unfolding lineOf blank entryIn letteredEntry entryAsked ordering nextNumber last lastOr ifWhole numbersOf bytesOfCall
 back (begin t) h = entry-within _ (short 66 t [] (omega arith)) ∙ rw (joined-back t [] (omega arith) (h .numbers))
 back (on t o) h = op-back t o h
 back (commit t minute) h =
@@ -114,7 +115,7 @@ back (bestOrder ts minute budget) h =
     ∙ rw (joined-back minute (budget ∷ ts) (omega (arith, h .few)) (h .numbers), all-octets ts (h .bytes))
 
 pub fresh-back : (files : List ℕ) → length files ≤ mostNumbers → AllBelow 256 files → callIn (freshLine files) ≡ fresh files
-unfolding freshLine entryIn letteredEntry asked ifWhole joinedTexts numbersOnly octets AllBelow
+unfolding freshLine entryIn letteredEntry entryAsked ifWhole joinedTexts numbersOnly octets AllBelow
 fresh-back [] l h = entry-within _ (omega arith)
 fresh-back (n ∷ ns) l h =
     entry-within _ (short 70 n ns (omega arith)) ∙ rw (joined-back n ns (omega arith) (wider (n ∷ ns) h), all-octets (n ∷ ns) h)

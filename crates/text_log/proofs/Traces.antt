@@ -17,9 +17,10 @@ use Rattle.requests.specs.declared.Request.the-variants.{Begin, Seek, Write, Ge
 use Rattle.requests.specs.declared.Request.the-variants.{SetWindow, UndoCommit}
 use Rattle.requests.specs.Requests.{callOf}
 use Rattle.spec.specs.Messages.{Call, begin, on, commit, abort, seek, write, getFilePointer, read}
-use Rattle.text_trace.specs.Grammar.{Line, another, asks, spaced, after, ends, writes, lettered, form, parsed}
+use Rattle.text_trace.specs.Grammar.{Line, another, asks, spaced, afterNumeral, ends, writes, lettered, form, parsed}
 use Rattle.text_log.specs.LogLines as log
-use Rattle.text_log.specs.LogLines.{LogEntry, calls, callIn, ifWhole, asked, nextNumber, last, lastOr, numbersOnly, entryIn}
+use Rattle.text_log.specs.LogLines.{LogEntry, calls, callIn, ifWhole, entryAsked, nextNumber, last, lastOr, numbersOnly}
+use Rattle.text_log.specs.LogLines.{entryIn}
 use Rattle.text_log.specs.LogLines.{onNumber, writeEntry, textBehind, mostNumbers, traceRoom}
 use Rattle.text_log.proofs.ReadingLaws.{entry-within}
 
@@ -136,9 +137,9 @@ record Expected (g : Numeral) (made : ℕ → List ℕ → Line) (l : Line) : Ty
   is : g ≡ numeral number rest
   so : made number rest ≡ l
 
-after-expected : (g : Numeral) (made : ℕ → List ℕ → Line) (q : Request) (bs : List ℕ) → after g made ≡ asks q bs
+after-expected : (g : Numeral) (made : ℕ → List ℕ → Line) (q : Request) (bs : List ℕ) → afterNumeral g made ≡ asks q bs
     → Expected g made (asks q bs)
-unfolding after
+unfolding afterNumeral
 after-expected none made q bs e = absurd (never q bs e)
 after-expected (numeral v bytes) made q bs e = record { number = v; rest = bytes; is = refl; so = e }
 
@@ -168,27 +169,27 @@ module _ (q : Request) (bs : List ℕ) where
 
   module _ (t : ℕ) (bytes : List ℕ) (digit : isDigit t ≡ true) where
     begin-line : ends (Begin (worth t)) bytes ≡ asks q bs → Same 66 t bytes
-    unfolding log.letteredEntry numbersOnly ifWhole asked nextNumber last callOf
+    unfolding log.letteredEntry numbersOnly ifWhole entryAsked nextNumber last callOf
     begin-line e = let told = ends-expected _ q bytes bs e in rw (told .0, told .1, one-value t digit)
 
     commit-line : ends (Commit (worth t) 0) bytes ≡ asks q bs → Same 67 t bytes
-    unfolding log.letteredEntry numbersOnly ifWhole asked nextNumber lastOr callOf
+    unfolding log.letteredEntry numbersOnly ifWhole entryAsked nextNumber lastOr callOf
     commit-line e = let told = ends-expected _ q bytes bs e in rw (told .0, told .1, one-value t digit)
 
     abort-line : ends (Abort (worth t)) bytes ≡ asks q bs → Same 65 t bytes
-    unfolding log.letteredEntry numbersOnly ifWhole asked nextNumber last callOf
+    unfolding log.letteredEntry numbersOnly ifWhole entryAsked nextNumber last callOf
     abort-line e = let told = ends-expected _ q bytes bs e in rw (told .0, told .1, one-value t digit)
 
-    pointer-line : after (spaced bytes) (λ d. ends (GetFilePointer (worth t) d)) ≡ asks q bs → Same 80 t bytes
-    unfolding log.letteredEntry numbersOnly ifWhole asked nextNumber last callOf
+    pointer-line : afterNumeral (spaced bytes) (λ d. ends (GetFilePointer (worth t) d)) ≡ asks q bs → Same 80 t bytes
+    unfolding log.letteredEntry numbersOnly ifWhole entryAsked nextNumber last callOf
     pointer-line e =
         let d = after-expected (spaced bytes) _ q bs e in
         let told = ends-expected _ q (d .rest) bs (d .so) in
         rw (told .1, two-values t digit bytes (d .number) (d .is ∙ ap (numeral (d .number)) (told .0)))
 
-    seek-line : after (spaced bytes) (λ d rest. after (spaced rest) (λ v. ends (Seek (worth t) d v))) ≡ asks q bs
+    seek-line : afterNumeral (spaced bytes) (λ d rest. afterNumeral (spaced rest) (λ v. ends (Seek (worth t) d v))) ≡ asks q bs
         → Same 83 t bytes
-    unfolding log.letteredEntry numbersOnly ifWhole asked nextNumber last callOf
+    unfolding log.letteredEntry numbersOnly ifWhole entryAsked nextNumber last callOf
     seek-line e =
         let d = after-expected (spaced bytes) _ q bs e in
         let v = after-expected (spaced (d .rest)) _ q bs (d .so) in
@@ -199,9 +200,9 @@ module _ (q : Request) (bs : List ℕ) where
               (v .is ∙ ap (numeral (v .number)) (told .0)),
         )
 
-    read-line : after (spaced bytes) (λ d rest. after (spaced rest) (λ n. ends (Read (worth t) d n))) ≡ asks q bs
+    read-line : afterNumeral (spaced bytes) (λ d rest. afterNumeral (spaced rest) (λ n. ends (Read (worth t) d n))) ≡ asks q bs
         → Same 82 t bytes
-    unfolding log.letteredEntry numbersOnly ifWhole asked nextNumber lastOr callOf
+    unfolding log.letteredEntry numbersOnly ifWhole entryAsked nextNumber lastOr callOf
     read-line e =
         let d = after-expected (spaced bytes) _ q bs e in
         let v = after-expected (spaced (d .rest)) _ q bs (d .so) in
@@ -212,7 +213,7 @@ module _ (q : Request) (bs : List ℕ) where
               (v .is ∙ ap (numeral (v .number)) (told .0)),
         )
 
-    write-line : length bytes ≤ 126 → after (spaced bytes) (λ d. writes (Write (worth t) d)) ≡ asks q bs → Same 87 t bytes
+    write-line : length bytes ≤ 126 → afterNumeral (spaced bytes) (λ d. writes (Write (worth t) d)) ≡ asks q bs → Same 87 t bytes
     unfolding log.letteredEntry writeEntry onNumber textBehind callOf Stops isDigit
     write-line l e =
         let d = after-expected (spaced bytes) _ q bs e in

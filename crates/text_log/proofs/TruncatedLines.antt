@@ -23,9 +23,9 @@ long-turn : (line : List ℕ) (k : ReplayState) → longest < length line → li
 unfolding lineTurn entryTurn
 long-turn line k h = ap (λ (e : LogEntry). cond (k .ended) (silent k) (entryTurn line e k)) (too-long line h)
 
-kept-turn : (line : List ℕ) (k : ReplayState) → lineTurn (truncated longest line) k ≡ lineTurn line k
+truncated-turn : (line : List ℕ) (k : ReplayState) → lineTurn (truncated longest line) k ≡ lineTurn line k
 unfolding truncated
-kept-turn line k = pick (leb (length line) longest) refl
+truncated-turn line k = pick (leb (length line) longest) refl
   where
     pick : (t : Bool) → leb (length line) longest ≡ t → lineTurn (take 8238 line) k ≡ lineTurn line k
     pick true e =
@@ -39,8 +39,8 @@ kept-turn line k = pick (leb (length line) longest) refl
 pub log-truncated-is-enough : TruncatedIsEnough replaying
 log-truncated-is-enough =
     record {
-      text = λ line k. ap (λ (w : Printed). w .text) (kept-turn line k);
-      next = λ line k. ap (λ (w : Printed). w .after) (kept-turn line k);
+      text = λ line k. ap (λ (w : Printed). w .text) (truncated-turn line k);
+      next = λ line k. ap (λ (w : Printed). w .after) (truncated-turn line k);
     }
 
 -- ---- after another version
@@ -55,10 +55,11 @@ ended-text [] k e = refl
 ended-text (l ∷ ls) k e =
     ap (λ (w : Printed). w .text ++ transcript replaying ls (w .after)) (ended-turn l k e) ∙ ended-text ls k e
 
-ended-kept : (ls : List (List ℕ)) (k : ReplayState) → k .ended ≡ true → stateAfter replaying ls k ≡ k
+ended-preserved : (ls : List (List ℕ)) (k : ReplayState) → k .ended ≡ true → stateAfter replaying ls k ≡ k
 unfolding stateAfter silent
-ended-kept [] k e = refl
-ended-kept (l ∷ ls) k e = ap (λ (w : Printed). stateAfter replaying ls (w .after)) (ended-turn l k e) ∙ ended-kept ls k e
+ended-preserved [] k e = refl
+ended-preserved (l ∷ ls) k e = ap (λ (w : Printed). stateAfter replaying ls (w .after)) (ended-turn l k e)
+    ∙ ended-preserved ls k e
 
 pub ended-answered : (ls : List (List ℕ)) (k : ReplayState) → k .ended ≡ true → Answered replaying ls k [] k []
-ended-answered ls k e = record { says = sym (ended-text ls k e); keeps = sym (ended-kept ls k e) }
+ended-answered ls k e = record { says = sym (ended-text ls k e); keeps = sym (ended-preserved ls k e) }

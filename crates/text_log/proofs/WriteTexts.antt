@@ -54,11 +54,12 @@ put-write-line t d bytes room short p q is =
     rw (← whole t d bytes p, is, behind-space (letterAndNumbers 87 (t ∷ d ∷ [])) bytes)
     (then (spaced 87 t d) bytes (omega arith) p (record { bytes = q; end = refl }))
 
-pub put-other : {b m n o : List ℕ} {e f g : ℕ} (t d : ℕ) (bytes : List ℕ) → logLineBytes ≤ length b → length bytes ≤ mostWritten
+pub put-other-text : {b m n o : List ℕ} {e f g : ℕ} (t d : ℕ) (bytes : List ℕ) → logLineBytes ≤ length b
+    → length bytes ≤ mostWritten
     → Put b 0 (spaced 87 t d) m e → Put m 0 (88 ∷ []) o f → Put o e (hexPairs bytes) n g
     → (leb (e + length bytes) 128 && printable bytes) ≡ false → Put b 0 (writeLine t d bytes) n g
 unfolding writeLine
-put-other t d bytes room short p r q off =
+put-other-text t d bytes room short p r q off =
     let l = length-joined t (d ∷ []) in
     let a = length-append (joinedTexts (t ∷ d ∷ [])) (32 ∷ []) in
     let h = length-pairs bytes in

@@ -43,7 +43,7 @@ pub record LogExamples : Type 0 where
       × (entryOfText "O600 40320 256" ≡ another)
   pub silent : (entryOfText "# 14:02 jingle" ≡ comment) × (entryOfText "" ≡ comment)
   -- Lines about the log itself.
-  pub kept :
+  pub aboutLog :
       (entryOfText "V1" ≡ version 1) × (entryOfText "V2" ≡ version 2) × (entryOfText "V" ≡ another)
       × (entryOfText "= ok 2" ≡ expects) × (entryOfText "=" ≡ another)
       × (entryOfText "=ok" ≡ another)

@@ -6,6 +6,7 @@ use lib.Dec.{eqb, leb, ltb}
 use lib.ListN.{length, replicate}
 use Prim.Native.Char.{code}
 use Prim.Native.Nat.{ℕ}
+use Rattle.limits.specs.Limits.{fileBytes}
 use Rattle.text_numerals.specs.Decimal.{Numeral, none, numeral, joinedTexts, frontNumber, spacedNumber}
 use Rattle.text_numerals.specs.Decimal.{moreDigits}
 use Rattle.text_numerals.specs.Decimal.{NumberList, unread, values, thenValues, atMost, numbersIn}
@@ -84,7 +85,7 @@ lastOr n f (m ∷ ns) = last (f m) ns
 
 -- The room of a Read whose line names none.
 abbrev pub traceRoom : ℕ
-traceRoom = 4096
+traceRoom = fileBytes
 
 -- Each number is an octet.
 unfoldable pub octets : List ℕ → Bool
@@ -101,8 +102,8 @@ ordering ns = nextNumber (λ minute. nextNumber
     (λ budget ts. ofOctets ts (calls (bestOrder ts minute budget)))) ns
 
 -- What a line of a letter k and numbers asks. The room is that of a buffer of zeros.
-unfoldable pub asked : ℕ → List ℕ → LogEntry
-asked k ns =
+unfoldable pub entryAsked : ℕ → List ℕ → LogEntry
+entryAsked k ns =
     cond (eqb k (code "B")) (nextNumber (λ t. last (calls (begin t))) ns)
     (cond (eqb k (code "C")) (nextNumber (λ t. lastOr 0 (λ minute. calls (commit t minute))) ns)
     (cond (eqb k (code "A")) (nextNumber (λ t. last (calls (abort t))) ns)
@@ -180,7 +181,7 @@ letteredEntry k bytes =
     (cond (eqb k (code "=")) (expectationIn bytes)
     (cond (eqb k (code "X")) (writeEntry pairsBehind bytes)
     (cond (eqb k (code "W")) (cond (leb (length bytes) 127) (writeEntry textBehind bytes) another)
-    (ifWhole (asked k) (numbersOnly bytes)))))
+    (ifWhole (entryAsked k) (numbersOnly bytes)))))
 
 -- The most bytes of a line, without its end: an X with 4,097 bytes and two numbers of 20 digits.
 abbrev pub longest : ℕ

@@ -93,8 +93,8 @@ replaying =
     record { text = λ line k. lineTurn line k .text; next = λ line k. lineTurn line k .after; most = longest }
 
 -- The replay's state before the first line.
-abbrev pub keptFirst : Machine → ReplayState
-keptFirst m = replayState m [] 0 0 false
+abbrev pub firstState : Machine → ReplayState
+firstState m = replayState m [] 0 0 false
 
 -- ---- what is recorded
 

@@ -13,7 +13,7 @@ use Rattle.spec.specs.Calls.{call, fresh as freshTurn}
 use Rattle.spec.specs.Messages.{Call, begin, on, commit, abort, places, setWindow, undoCommit, bestOrder}
 use Rattle.spec.specs.Messages.{Op, seek, write, getFilePointer, read}
 use Rattle.text_log.specs.LogLines.{calls, fresh, lineOf, freshLine, callIn, mostNumbers, mostWritten}
-use Rattle.text_log.specs.LogLines.{mostFiles, mostOrdered}
+use Rattle.text_log.specs.LogLines.{mostFiles, mostOrdered, traceRoom}
 
 -- The numbers of a call, with the length of the buffer for its answer; and its bytes, or the octets of an
 -- order.
@@ -90,4 +90,4 @@ pub record CallLogHolds : Type 0 where
   -- A line of a trace says the same in a call log.
   pub traces :
       (line : List ℕ) (q : Request) (bytes : List ℕ) → parsed line ≡ asks q bytes
-      → callIn line ≡ calls (callOf q bytes (replicate 4096 0))
+      → callIn line ≡ calls (callOf q bytes (replicate traceRoom 0))

@@ -12,7 +12,7 @@ ghost use mathlib.Core.Path.{_≡_};
 ghost use lib.Dec.{leb};
 ghost use Prim.Native.Nat.{_≤_};
 ghost use lib.ListN.{length, take, drop};
-ghost use Rattle.text_log.specs.LogLines.{another, asked, ifWhole, callIn, entryIn};
+ghost use Rattle.text_log.specs.LogLines.{another, entryAsked, ifWhole, callIn, entryIn};
 ghost use Rattle.text_log.specs.LogLines.{writeEntry as writtenIn};
 ghost use Rattle.text_log.specs.LogLines.{pairsBehind, textBehind, expectationIn, numbersOnly};
 ghost use Rattle.text_log.specs.LogLines.{ofOctets, fresh, ordering, mostWritten};
@@ -38,7 +38,7 @@ pub enum ParsedEntry {
 pub const LONGEST: usize = 8237;
 
 // The length of the buffer for an answer where the line of a Read names none.
-const TRACE_ROOM: usize = 4096;
+const TRACE_ROOM: usize = limits::FILE_BYTES;
 
 // The most digits of a number after its first.
 const FURTHER: usize = 19;
@@ -46,7 +46,7 @@ const FURTHER: usize = 19;
 // `B0`, `A0`, `P0 3`, `S0 3 17`, `H2 480 1320`: each with just its numbers.
 fn begin_line(numbers: &[usize], n: usize) -> ParsedEntry
     requires { ⌜ n ≤ length (now numbers) ⌝ }
-    ensures { λ r. ⌜ SaysNumbers r (asked 66 (take n (now (numbers .entry)))) ⌝ }
+    ensures { λ r. ⌜ SaysNumbers r (entryAsked 66 (take n (now (numbers .entry)))) ⌝ }
 {
     if n == 1 {
         return ParsedEntry::Asks(Request::Begin(numbers[0]), 0, 0);
@@ -56,7 +56,7 @@ fn begin_line(numbers: &[usize], n: usize) -> ParsedEntry
 
 fn abort_line(numbers: &[usize], n: usize) -> ParsedEntry
     requires { ⌜ n ≤ length (now numbers) ⌝ }
-    ensures { λ r. ⌜ SaysNumbers r (asked 65 (take n (now (numbers .entry)))) ⌝ }
+    ensures { λ r. ⌜ SaysNumbers r (entryAsked 65 (take n (now (numbers .entry)))) ⌝ }
 {
     if n == 1 {
         return ParsedEntry::Asks(Request::Abort(numbers[0]), 0, 0);
@@ -66,7 +66,7 @@ fn abort_line(numbers: &[usize], n: usize) -> ParsedEntry
 
 fn pointer_line(numbers: &[usize], n: usize) -> ParsedEntry
     requires { ⌜ n ≤ length (now numbers) ⌝ }
-    ensures { λ r. ⌜ SaysNumbers r (asked 80 (take n (now (numbers .entry)))) ⌝ }
+    ensures { λ r. ⌜ SaysNumbers r (entryAsked 80 (take n (now (numbers .entry)))) ⌝ }
 {
     if n == 2 {
         return ParsedEntry::Asks(Request::GetFilePointer(numbers[0], numbers[1]), 0, 0);
@@ -76,7 +76,7 @@ fn pointer_line(numbers: &[usize], n: usize) -> ParsedEntry
 
 fn seek_line(numbers: &[usize], n: usize) -> ParsedEntry
     requires { ⌜ n ≤ length (now numbers) ⌝ }
-    ensures { λ r. ⌜ SaysNumbers r (asked 83 (take n (now (numbers .entry)))) ⌝ }
+    ensures { λ r. ⌜ SaysNumbers r (entryAsked 83 (take n (now (numbers .entry)))) ⌝ }
 {
     if n == 3 {
         return ParsedEntry::Asks(Request::Seek(numbers[0], numbers[1], numbers[2]), 0, 0);
@@ -86,7 +86,7 @@ fn seek_line(numbers: &[usize], n: usize) -> ParsedEntry
 
 fn window_line(numbers: &[usize], n: usize) -> ParsedEntry
     requires { ⌜ n ≤ length (now numbers) ⌝ }
-    ensures { λ r. ⌜ SaysNumbers r (asked 72 (take n (now (numbers .entry)))) ⌝ }
+    ensures { λ r. ⌜ SaysNumbers r (entryAsked 72 (take n (now (numbers .entry)))) ⌝ }
 {
     if n == 3 {
         return ParsedEntry::Asks(Request::SetWindow(numbers[0], numbers[1], numbers[2]), 0, 0);
@@ -97,7 +97,7 @@ fn window_line(numbers: &[usize], n: usize) -> ParsedEntry
 // `L0 2 64`
 fn places_line(numbers: &[usize], n: usize) -> ParsedEntry
     requires { ⌜ n ≤ length (now numbers) ⌝ }
-    ensures { λ r. ⌜ SaysNumbers r (asked 76 (take n (now (numbers .entry)))) ⌝ }
+    ensures { λ r. ⌜ SaysNumbers r (entryAsked 76 (take n (now (numbers .entry)))) ⌝ }
 {
     if n == 3 {
         return ParsedEntry::Asks(Request::Places(numbers[0], numbers[1]), 0, numbers[2]);
@@ -108,7 +108,7 @@ fn places_line(numbers: &[usize], n: usize) -> ParsedEntry
 // `C0 600`, or `C0` at minute 0
 fn commit_line(numbers: &[usize], n: usize) -> ParsedEntry
     requires { ⌜ n ≤ length (now numbers) ⌝ }
-    ensures { λ r. ⌜ SaysNumbers r (asked 67 (take n (now (numbers .entry)))) ⌝ }
+    ensures { λ r. ⌜ SaysNumbers r (entryAsked 67 (take n (now (numbers .entry)))) ⌝ }
 {
     if n == 1 {
         return ParsedEntry::Asks(Request::Commit(numbers[0], 0), 0, 0);
@@ -122,7 +122,7 @@ fn commit_line(numbers: &[usize], n: usize) -> ParsedEntry
 // `R0 3 5 64`, or `R0 3 5`
 fn read_line(numbers: &[usize], n: usize) -> ParsedEntry
     requires { ⌜ n ≤ length (now numbers) ⌝ }
-    ensures { λ r. ⌜ SaysNumbers r (asked 82 (take n (now (numbers .entry)))) ⌝ }
+    ensures { λ r. ⌜ SaysNumbers r (entryAsked 82 (take n (now (numbers .entry)))) ⌝ }
 {
     if n == 3 {
         return ParsedEntry::Asks(
@@ -144,7 +144,7 @@ fn read_line(numbers: &[usize], n: usize) -> ParsedEntry
 // `U`
 fn undo_line(numbers: &[usize], n: usize) -> ParsedEntry
     requires { ⌜ n ≤ length (now numbers) ⌝ }
-    ensures { λ r. ⌜ SaysNumbers r (asked 85 (take n (now (numbers .entry)))) ⌝ }
+    ensures { λ r. ⌜ SaysNumbers r (entryAsked 85 (take n (now (numbers .entry)))) ⌝ }
 {
     if n == 0 {
         return ParsedEntry::Asks(Request::UndoCommit, 0, 0);
@@ -155,7 +155,7 @@ fn undo_line(numbers: &[usize], n: usize) -> ParsedEntry
 // `V1`
 fn version_line(numbers: &[usize], n: usize) -> ParsedEntry
     requires { ⌜ n ≤ length (now numbers) ⌝ }
-    ensures { λ r. ⌜ SaysNumbers r (asked 86 (take n (now (numbers .entry)))) ⌝ }
+    ensures { λ r. ⌜ SaysNumbers r (entryAsked 86 (take n (now (numbers .entry)))) ⌝ }
 {
     if n == 1 {
         return ParsedEntry::Version(numbers[0]);
@@ -166,7 +166,7 @@ fn version_line(numbers: &[usize], n: usize) -> ParsedEntry
 // The line of a letter with n numbers.
 fn by_letter(letter: u8, numbers: &[usize], n: usize) -> ParsedEntry
     requires { ⌜ (n ≤ length (now numbers)) × ((letter ≡ 70 → ⊥) × (letter ≡ 79 → ⊥)) ⌝ }
-    ensures { λ r. ⌜ SaysNumbers r (asked letter (take n (now (numbers .entry)))) ⌝ }
+    ensures { λ r. ⌜ SaysNumbers r (entryAsked letter (take n (now (numbers .entry)))) ⌝ }
 {
     match letter {
         b'B' => begin_line(numbers, n),
@@ -232,7 +232,7 @@ fn order_line(numbers: &[usize], n: usize, bytes: &mut [u8]) -> ParsedEntry
 // The line of a letter with n numbers, of which those of a list go to a buffer's front.
 fn with_list(letter: u8, numbers: &[usize], n: usize, bytes: &mut [u8]) -> ParsedEntry
     requires { ⌜ (n ≤ length (now numbers)) × (n ≤ length (now bytes)) ⌝ }
-    ensures { λ r. ⌜ Says r (now (bytes .exit)) (asked letter (take n (now (numbers .entry)))) ⌝ }
+    ensures { λ r. ⌜ Says r (now (bytes .exit)) (entryAsked letter (take n (now (numbers .entry)))) ⌝ }
 {
     if letter == b'F' {
         return fresh_line(numbers, n, bytes);
@@ -246,7 +246,7 @@ fn with_list(letter: u8, numbers: &[usize], n: usize, bytes: &mut [u8]) -> Parse
 // A letter with its numbers, the first directly behind it.
 fn joined_line(line: &[u8], letter: u8, numbers: &mut [usize], bytes: &mut [u8]) -> ParsedEntry
     requires { ⌜ (length (now numbers) ≡ 18) × (length (now bytes) ≡ mostWritten) ⌝ }
-    ensures { λ r. ⌜ Says r (now (bytes .exit)) (ifWhole (asked letter)
+    ensures { λ r. ⌜ Says r (now (bytes .exit)) (ifWhole (entryAsked letter)
         (numbersOnly (drop 1 (now (line .entry))))) ⌝ }
 {
     if line.len() < 2 {

@@ -45,9 +45,9 @@ pub below-digit : (k n : ℕ) → n < 10 → decimalBelow (suc k) n ≡ glyph n 
 unfolding decimalBelow
 below-digit k n h = rw (lt-ltb n 10 h)
 
-pub below-more : (k n : ℕ) → 10 ≤ n → decimalBelow (suc k) n ≡ decimalBelow k (n / 10) ++ (glyph (n % 10) ∷ [])
+pub decimal-below-more : (k n : ℕ) → 10 ≤ n → decimalBelow (suc k) n ≡ decimalBelow k (n / 10) ++ (glyph (n % 10) ∷ [])
 unfolding decimalBelow
-below-more k n h = rw (le-ltb n 10 h)
+decimal-below-more k n h = rw (le-ltb n 10 h)
 
 -- A number below 10 ^ suc k, read with at most m digits after its first: at least m - k more may follow it.
 front-reads : (k m n : ℕ) (s : List ℕ) → n < 10 ^ suc k → k ≤ m
@@ -71,7 +71,7 @@ front-reads (suc k) m n s h l = pick (ltb n 10) refl (front-reads k m (n / 10) (
         → (i : ℕ) × (m ≤ i + suc k) × (frontWithin m (decimalBelow (suc (suc k)) n ++ s) ≡ digits i n s)
     pick true e ih = (m, omega arith, rw (below-digit (suc k) n (ltb-true n 10 e)) (front-glyph m n s (ltb-true n 10 e)))
     pick false e ih =
-        rw (below-more (suc k) n (ltb-false n 10 e), append-snoc (decimalBelow (suc k) (n / 10)) (glyph (n % 10)) s)
+        rw (decimal-below-more (suc k) n (ltb-false n 10 e), append-snoc (decimalBelow (suc k) (n / 10)) (glyph (n % 10)) s)
         (more (ih .0) (ih .1) (ih .2))
 
 -- A number of 64 bits is read back, where no digit follows.

@@ -6,12 +6,13 @@ use Prim.Native.Nat.{ℕ, _+_, _-_, _*_, _/_, _%_, _≤_, _<_}
 use native.Mathlib.Omega.{arith}
 use lib.Dec.{ltb, leb}
 use borrow.Author.Tests.{lt-ltb, le-ltb, ltb-true, ltb-false, le-leb, lt-leb}
+use Rattle.limits.specs.Limits.{descriptorCount}
 use Rattle.text_numerals.specs.Decimal.{glyph, isDigit, NumberList, values, before, AllBelow}
 use Rattle.text_numerals.specs.Pairs.{hexPairs, isHex, hexWorth, pairsIn, PairsReadBack}
 use Rattle.text_numerals.proofs.Decimals.{glyph-small, glyph-digit}
 
 -- The character of a digit below 16 is one, and is worth that digit.
-module _ (d : ℕ) (h : d < 16) where
+module _ (d : ℕ) (h : d < descriptorCount) where
   glyph-hex : (isHex (glyph d) ≡ true) × (hexWorth (glyph d) ≡ d)
   unfolding isHex hexWorth isDigit
   glyph-hex = pick (ltb d 10) refl

@@ -227,11 +227,11 @@ module _ (line : List ℕ) (at : ℕ) where
   pub pairs-second : at + 1 < length line → isHex (getD line (at + 1) 0) ≡ false → pairsIn (drop at line) ≡ unread
   pairs-second h e = pairs-other h (second-false (isHex (getD line at 0)) (isHex (getD line (at + 1) 0)) e)
 
-  pub pairs-more : at + 1 < length line → isHex (getD line at 0) ≡ true → isHex (getD line (at + 1) 0) ≡ true
+  pub read-pairs-more : at + 1 < length line → isHex (getD line at 0) ≡ true → isHex (getD line (at + 1) 0) ≡ true
       → pairsIn (drop at line) ≡ before (hexWorth (getD line at 0) * 16 + hexWorth (getD line (at + 1) 0))
       (pairsIn (drop (at + 2) line))
   unfolding pairsIn
-  pairs-more h e f = rw (two-at h, e, f)
+  read-pairs-more h e f = rw (two-at h, e, f)
 
 -- A hexadecimal digit that is none of decimal ones is a letter.
 pub letter-bounds : (b : ℕ) → isHex b ≡ true → isDigit b ≡ false → (97 ≤ b) × (b ≤ 102)

@@ -27,4 +27,4 @@ numberCount (Many n) = n
 pub record Collects (before : List ℕ) (r : Count) (buffer : List ℕ) (meant : NumberList) : Type 0 where
   pub means : valuesOf r buffer ≡ meant
   pub within : numberCount r ≤ length buffer
-  pub kept : length buffer ≡ length before
+  pub sameLength : length buffer ≡ length before

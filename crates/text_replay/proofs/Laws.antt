@@ -63,8 +63,8 @@ module _ (a b : List ℕ) (i : ℕ) (l : length a ≡ length b) where
   unfolding sameBytes
   same-more h e = rw (drop-cons a i 0 h, drop-cons b i 0 (omega arith), eq-eqb (getD a i 0) (getD b i 0) e, add-one i)
 
-pub same-count : (t s : Bool) (n : ℕ) → t ≡ s → t ≡ true → n ≡ cond s n (oneMore n)
-same-count t s n e h = sym (ap (λ (b : Bool). cond b n (oneMore n)) (sym e ∙ h))
+pub same-line-count : (t s : Bool) (n : ℕ) → t ≡ s → t ≡ true → n ≡ cond s n (oneMore n)
+same-line-count t s n e h = sym (ap (λ (b : Bool). cond b n (oneMore n)) (sym e ∙ h))
 
 pub other-count : (t s : Bool) (n m : ℕ) → t ≡ s → t ≡ false → m ≡ oneMore n → m ≡ cond s n (oneMore n)
 other-count t s n m e h q = q ∙ sym (ap (λ (b : Bool). cond b n (oneMore n)) (sym e ∙ h))

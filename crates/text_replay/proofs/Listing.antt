@@ -7,6 +7,7 @@ use lib.ListN.{length}
 use borrow.Author.Tests.{eq-eqb, ne-eqb, eqb-true, leb-true, le-leb, ltb-true, ltb-false}
 use native.Mathlib.Omega.{arith}
 use Prim.Native.Nat.{ℕ, zero, suc, _+_, _≤_, _<_}
+use Rattle.limits.specs.Limits.{fileBytes}
 use Rattle.standings.specs.declared.Place.{Place}
 use Rattle.standings.specs.declared.Place.the-variants.{At, After}
 use Rattle.spec.specs.Transactions.{Write}
@@ -173,12 +174,12 @@ module _ (file : ℕ → ℕ) (f : ℕ) where
         few-ends ws p n,
       )
 
-  pub few-stretches : (ws : List Write) → length (intervalsOf (covered file f ws)) ≤ suc (length ws)
+  pub few-intervals : (ws : List Write) → length (intervalsOf (covered file f ws)) ≤ suc (length ws)
   unfolding intervalsOf
-  few-stretches ws =
+  few-intervals ws =
       omega (
         arith,
         few-from (covered file f ws) (λ q. someWrite (endsAt q) ws)
-            (some-end ws) 0 4096,
-        few-ends ws 0 4096,
+            (some-end ws) 0 fileBytes,
+        few-ends ws 0 fileBytes,
       )

@@ -8,6 +8,7 @@ use lib.Seq.{take-append-seam, take-append-le}
 use borrow.Author.Tests.{leb-true, leb-false, le-leb, lt-leb}
 use native.Mathlib.Omega.{arith}
 use Prim.Native.Nat.{ℕ, zero, suc, _+_, _-_, _*_, _≤_, _<_, min}
+use Rattle.limits.specs.Limits.{fileBytes}
 use Rattle.state.specs.Outcomes.{Said, refused, said}
 use Rattle.state.specs.declared.outcomes.Outcome.the-variants.{Done, Offset, Given}
 use Rattle.state.specs.declared.outcomes.Outcome.the-variants.{Granted, Pairs, Ordered, Refused}
@@ -41,7 +42,7 @@ use Rattle.text_log.proofs.Again.{same-turn, admitted-alike, read-alike, reply-
 use Rattle.text_log.proofs.Replayed.{same-text}
 use Rattle.text_log.proofs.Rooms.{admitted-open, roomy, roomless}
 use Rattle.text_replay.specs.Performing.{clippedTo, answerSize, orderSize, turnOf, Replies}
-use Rattle.text_replay.proofs.Listing.{few-stretches}
+use Rattle.text_replay.proofs.Listing.{few-intervals}
 
 leb-within : (n k : ℕ) → n ≤ 4097 → leb n (min k 4097) ≡ leb n k
 leb-within n k h = pick (leb n k) refl
@@ -94,7 +95,7 @@ module _ (state files logs marks undo : List ℕ) where
       let x = txnOf (m .store) (m .journal) (m .logs) t in
       let ranges = decoded-in (m .store) (m .journal) (m .logs) t (sound .logs) small
       (r .transactions t small begun) (sound .shaped .descriptors t small) in
-      let few = few-stretches (fileOf (m .store)) f (x .writes) in
+      let few = few-intervals (fileOf (m .store)) f (x .writes) in
       let n = 4 * length (intervalsOf (covered (fileOf (m .store)) f (x .writes))) in
       let e : leb n (length b) ≡ leb n (length c) = ap (leb n) l
       ∙ leb-within n (length c) (omega (arith, few, ranges .records)) in
@@ -104,23 +105,23 @@ module _ (state files logs marks undo : List ℕ) where
       → SameTurn (call (on t (read d (cond (leb n room) (min n 4097) n) c)) m)
       (call (on t (read d n (replicate room 0))) m)
   unfolding call bufferOf
-  read-room t d n room c l = pick (leb n room) (leb room 4096) refl refl
+  read-room t d n room c l = pick (leb n room) (leb room fileBytes) refl refl
     where
       zeros : length {A = ℕ} (replicate room 0) ≡ room
       zeros = length-replicate room 0
 
-      pick : (p q : Bool) → leb n room ≡ p → leb room 4096 ≡ q
+      pick : (p q : Bool) → leb n room ≡ p → leb room fileBytes ≡ q
           → SameTurn (call (on t (read d (cond p (min n 4097) n) c)) m)
           (call (on t (read d n (replicate room 0))) m)
       pick true true e g =
           let fits = leb-true n room e in
-          let short = leb-true room 4096 g in
+          let short = leb-true room fileBytes g in
           let same : min n 4097 ≡ n = omega arith in
           rw same (admitted-alike t c (replicate room 0) m _ _
           (read-alike t d n c (replicate room 0) (omega (arith, l, zeros)) m))
       pick true false e g =
           let fits = leb-true n room e in
-          let long = leb-false room 4096 g in
+          let long = leb-false room fileBytes g in
           if-sound t c (replicate room 0) _ _
           (λ sound. roomy m t sound d n (replicate room 0) c (omega (arith, zeros)) (omega (arith, l)))
       pick false q e g =
@@ -298,6 +299,6 @@ pub clipped-read : (q : Request) (t d n room : ℕ) → q ≡ Read t d n → n �
 unfolding clippedTo
 clipped-read q t d n room e h k is = rw (e, le-leb n room h, is) refl
 
-pub kept-read : (q : Request) (t d n room : ℕ) → q ≡ Read t d n → room < n → Read t d n ≡ clippedTo room q
+pub preserved-read : (q : Request) (t d n room : ℕ) → q ≡ Read t d n → room < n → Read t d n ≡ clippedTo room q
 unfolding clippedTo
-kept-read q t d n room e h = rw (e, lt-leb n room h) refl
+preserved-read q t d n room e h = rw (e, lt-leb n room h) refl

@@ -55,9 +55,9 @@ abbrev keeping : Machine → List ℕ → ℕ → ℕ → Bool → ReplayState
 keeping m answer malformed differing ended =
     record { machine = m; answer = answer; malformed = malformed; differing = differing; ended = ended }
 
-same-kept : (m : Machine) (a b : List ℕ) (n k i j : ℕ) (s t : Bool) → a ≡ b → n ≡ k → i ≡ j → s ≡ t
+same-preserved : (m : Machine) (a b : List ℕ) (n k i j : ℕ) (s t : Bool) → a ≡ b → n ≡ k → i ≡ j → s ≡ t
     → keeping m a n i s ≡ keeping m b k j t
-same-kept m a b n k i j s t p q r u =
+same-preserved m a b n k i j s t p q r u =
     ap₂ (λ (x : List ℕ) (y : ℕ). keeping m x y i s) p q ∙ ap₂ (λ (x : ℕ) (y : Bool). keeping m b k x y) r u
 
 -- ---- an answer is printed
@@ -115,7 +115,7 @@ counted-compared p r text out h =
     record {
       waiting = h .waiting;
       keeps =
-          λ m. same-kept m _ _ _ _ _ _ _ _
+          λ m. same-preserved m _ _ _ _ _ _ _ _
           (ap₂ (λ (i k : ℕ). cut out i (k - i)) (h .starts) (h .ends)) (h .malformed) (h .differing)
           (h .ended);
     }
@@ -127,7 +127,7 @@ unfolding versioned
 known-version p v go e =
     record {
       waiting = refl;
-      keeps = λ m out. same-kept m _ _ _ _ _ _ _ _ refl refl refl
+      keeps = λ m out. same-preserved m _ _ _ _ _ _ _ _ refl refl refl
           (go ∙ sym (ap not (eq-eqb v 1 e)));
     }
 
@@ -139,7 +139,7 @@ other-version p r v e w f n i d g =
     record {
       waiting = w;
       keeps =
-          λ m out. same-kept m _ _ _ _ _ _ _ _ (ap₂ (λ (i k : ℕ). cut out i (k - i)) f n) i d (g
+          λ m out. same-preserved m _ _ _ _ _ _ _ _ (ap₂ (λ (i k : ℕ). cut out i (k - i)) f n) i d (g
           ∙ sym (ap not (ne-eqb v 1 e)));
     }
 
@@ -153,7 +153,7 @@ counted-took p q m out k waiting n t =
     let text = replyText (says (refused 17)) ++ (10 ∷ []) in
     record {
       says = t .says ∙ ap (λ (i : ℕ). take i out ++ text) (n .waiting);
-      keeps = t .keeps ∙ same-kept m _ _ _ _ _ _ _ _ refl (n .malformed) (n .differing) (n .ended);
+      keeps = t .keeps ∙ same-preserved m _ _ _ _ _ _ _ _ refl (n .malformed) (n .differing) (n .ended);
     }
 
 module _ (line bytes : List ℕ) (l : ParsedEntry) (p : ReplayProgress) (m : Machine) (out : List ℕ) where

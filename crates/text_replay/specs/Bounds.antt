@@ -12,7 +12,7 @@ pub record AnswerIn (p : ReplayProgress) : Type 0 where
 
 -- After a line: as many bytes held, the same place in the piece.
 pub record LineTaken (p r : ReplayProgress) : Type 0 where
-  pub held : r .held ≡ p .held
+  pub pending : r .pending ≡ p .pending
   pub at : r .at ≡ p .at
   pub waiting : r .waiting ≤ 131072
   pub answer : AnswerIn r

@@ -14,7 +14,7 @@ pub record CountsDifference (p r : ReplayProgress) (text answer : List ℕ) : Ty
   pub differing : r .differing ≡ cond (sameBytes text answer) (p .differing) (oneMore (p .differing))
   pub malformed : r .malformed ≡ p .malformed
   pub ended : r .ended ≡ p .ended
-  pub held : r .held ≡ p .held
+  pub pending : r .pending ≡ p .pending
   pub at : r .at ≡ p .at
   pub waiting : r .waiting ≡ p .waiting
   pub starts : r .from ≡ p .from

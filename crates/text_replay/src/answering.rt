@@ -46,7 +46,7 @@ const VERSION: usize = 1;
 // differed, and the first; whether a line of another form ended in byte 13; whether another version ended the
 // run, and which; whether the run goes on, and whether it came to its end with all that it answered written.
 pub struct ReplayProgress {
-    pub held: usize,
+    pub pending: usize,
     pub at: usize,
     pub waiting: usize,
     pub from: usize,

@@ -38,21 +38,21 @@ fn step(
         × Rooms (now bytes) (now reader) (now out)) ⌝ }
     ensures { λ r. ⌜ Passes replaying
         (within (replayStateIn p (handed state files logs marks undo) (now (out .entry)))
-        (take (p .held) (now (line .entry))) (drop (p .at) (now (piece .entry))))
+        (take (p .pending) (now (line .entry))) (drop (p .at) (now (piece .entry))))
         (take (p .waiting) (now (out .entry)))
         (within (replayStateIn r (handedBack state files logs marks undo) (now (out .exit)))
-        (take (r .held) (now (line .exit))) (drop (r .at) (now (piece .entry))))
+        (take (r .pending) (now (line .exit))) (drop (r .at) (now (piece .entry))))
         (take (r .waiting) (now (out .exit)))
         × Onward p r (length (now (piece .entry))) ⌝ }
 {
-    let look = text_lines::next_line(line, p.held, piece, p.at);
-    let n = look.held;
-    p.held = n;
-    p.at = look.at;
-    if !look.complete {
+    let scan = text_lines::next_line(line, p.pending, piece, p.at);
+    let n = scan.pending;
+    p.pending = n;
+    p.at = scan.at;
+    if !scan.complete {
         return p;
     }
-    p.held = 0;
+    p.pending = 0;
     take_line(
         p,
         state,
@@ -85,10 +85,10 @@ pub fn replay_piece(
         × Rooms (now bytes) (now reader) (now out))) ⌝ }
     ensures { λ r. ⌜ Passes replaying
         (within (replayStateIn p (handed state files logs marks undo) (now (out .entry)))
-        (take (p .held) (now (line .entry))) (drop (p .at) (now (piece .entry))))
+        (take (p .pending) (now (line .entry))) (drop (p .at) (now (piece .entry))))
         []
         (within (replayStateIn r (handedBack state files logs marks undo) (now (out .exit)))
-        (take (r .held) (now (line .exit))) (drop (r .at) (now (piece .entry))))
+        (take (r .pending) (now (line .exit))) (drop (r .at) (now (piece .entry))))
         (take (r .waiting) (now (out .exit)))
         × Onward p r (length (now (piece .entry))) ⌝ }
 {
@@ -114,7 +114,7 @@ pub fn replay_piece(
 }
 
 // Performs the line that the end of the input ends, if there is one.
-pub fn last_line(
+pub fn replay_last_line(
     p: ReplayProgress,
     state: &mut State,
     files: &mut Buffer,
@@ -127,14 +127,14 @@ pub fn last_line(
     out: &mut [u8],
 ) -> ReplayProgress
     requires { ⌜ PiecesResting p × ((length (now line) ≡ 8238) × Rooms (now bytes) (now reader) (now out)) ⌝ }
-    ensures { λ r. ⌜ Answered replaying (lastLine (take (p .held) (now (line .entry))))
+    ensures { λ r. ⌜ Answered replaying (lastLine (take (p .pending) (now (line .entry))))
         (replayStateIn p (handed state files logs marks undo) (now (out .entry)))
         []
         (replayStateIn r (handedBack state files logs marks undo) (now (out .exit)))
         (take (r .waiting) (now (out .exit)))
         × LineTaken p r ⌝ }
 {
-    let n = p.held;
+    let n = p.pending;
     if !text_lines::is_line(part(line, 0, n)) {
         return p;
     }

@@ -1,11 +1,12 @@
 -- The examples hold.
 use mathlib.Core.Path.{refl}
-use Rattle.text_trace.specs.Grammar.{parsed, form, lettered, after, ends, writes}
+use Rattle.text_trace.specs.Grammar.{parsed, form, lettered, afterNumeral, ends, writes}
 use Rattle.text_numerals.specs.Decimal.{spacedNumber, frontNumber, frontWithin, fitting, digits, isDigit}
 use Rattle.text_trace.specs.Examples.{TraceLineExamples, bytesOfText, isForm, firsts}
 
 pub trace-line-examples : TraceLineExamples
-unfolding parsed form lettered after spacedNumber frontNumber frontWithin fitting digits isDigit ends writes bytesOfText isForm
+unfolding parsed form lettered afterNumeral spacedNumber frontNumber frontWithin fitting digits isDigit ends writes bytesOfText
+    isForm
     firsts
 trace-line-examples =
     record {

@@ -16,7 +16,7 @@ use Rattle.text_numerals.specs.Fields.{numeralOf}
 use Rattle.text_trace.specs.declared.Parsed.{Parsed}
 use Rattle.text_trace.specs.declared.Parsed.the-variants.{Another, Asks}
 use Rattle.text_trace.specs.Parsing.{parsedLine, startOf, Reads, Parses}
-use Rattle.text_trace.specs.Grammar.{Line, another, asks, after}
+use Rattle.text_trace.specs.Grammar.{Line, another, asks, afterNumeral}
 use Rattle.text_trace.specs.Grammar.{writes, lettered, form, parsed}
 
 -- The space before a Write's bytes, at a place of the line.
@@ -71,13 +71,13 @@ lettered-other k t bytes b c a p s r w =
 
 -- What comes of a number that was read and is f.
 module _ (line : List ℕ) (f : Field) (g : Numeral) (next : ℕ → List ℕ → Line) (h : numeralOf line f ≡ g) where
-  pub after-missing : f ≡ Missing → Reads line Another (after g next)
-  unfolding numeralOf parsedLine startOf after
+  pub after-missing : f ≡ Missing → Reads line Another (afterNumeral g next)
+  unfolding numeralOf parsedLine startOf afterNumeral
   after-missing e = rw (← h, e) (record { means = refl; within = omega arith })
 
   pub after-number : (v end : ℕ) (r : Parsed) → f ≡ Number v end → Reads line r (next v (drop end line))
-      → Reads line r (after g next)
-  unfolding numeralOf after
+      → Reads line r (afterNumeral g next)
+  unfolding numeralOf afterNumeral
   after-number v end r e t = rw (← h, e) t
 
 -- A line means what another definition says of it; it has another form.

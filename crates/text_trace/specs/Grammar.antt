@@ -23,9 +23,9 @@ abbrev pub spaced : List ℕ → Numeral
 spaced bytes = spacedNumber 4 bytes
 
 -- What comes of the number and the bytes after it.
-unfoldable pub after : Numeral → (ℕ → List ℕ → Line) → Line
-after none next = another
-after (numeral v bytes) next = next v bytes
+unfoldable pub afterNumeral : Numeral → (ℕ → List ℕ → Line) → Line
+afterNumeral none next = another
+afterNumeral (numeral v bytes) next = next v bytes
 
 -- Nothing comes after it.
 unfoldable pub ends : Request → List ℕ → Line
@@ -49,10 +49,12 @@ lettered k t bytes =
     cond (eqb k (code "B")) (ends (Begin t) bytes)
     (cond (eqb k (code "C")) (ends (Commit t traceMinute) bytes)
     (cond (eqb k (code "A")) (ends (Abort t) bytes)
-    (cond (eqb k (code "P")) (after (spaced bytes) (λ d. ends (GetFilePointer t d)))
-    (cond (eqb k (code "S")) (after (spaced bytes) (λ d rest. after (spaced rest) (λ v. ends (Seek t d v))))
-    (cond (eqb k (code "R")) (after (spaced bytes) (λ d rest. after (spaced rest) (λ n. ends (Read t d n))))
-    (cond (eqb k (code "W")) (after (spaced bytes) (λ d. writes (Write t d)))
+    (cond (eqb k (code "P")) (afterNumeral (spaced bytes) (λ d. ends (GetFilePointer t d)))
+    (cond (eqb k (code "S"))
+    (afterNumeral (spaced bytes) (λ d rest. afterNumeral (spaced rest) (λ v. ends (Seek t d v))))
+    (cond (eqb k (code "R"))
+    (afterNumeral (spaced bytes) (λ d rest. afterNumeral (spaced rest) (λ n. ends (Read t d n))))
+    (cond (eqb k (code "W")) (afterNumeral (spaced bytes) (λ d. writes (Write t d)))
     another))))))
 
 -- "The digit is the transaction" [R-19.2]

@@ -7,7 +7,7 @@ use text_numerals::worth;
 ghost use mathlib.Core.Bool.{cond};
 ghost use lib.ListN.{drop};
 ghost use Rattle.requests.specs.declared.Request.{Request};
-ghost use Rattle.text_trace.specs.Grammar.{spaced, after, ends, writes, lettered};
+ghost use Rattle.text_trace.specs.Grammar.{spaced, afterNumeral, ends, writes, lettered};
 ghost use Rattle.text_trace.specs.Parsing.{Reads, Parses};
 
 // The most bytes of a line, without its end.
@@ -39,7 +39,7 @@ fn whole_line(request: Request, line: &[u8], at: usize) -> Parsed
 // `P0 3`
 fn pointer_line(line: &[u8], t: usize) -> Parsed
     ensures { λ r. ⌜ Reads (now (line .entry)) r
-        (after (spaced (drop 2 (now (line .entry)))) (λ d. ends (Request.GetFilePointer t d))) ⌝ }
+        (afterNumeral (spaced (drop 2 (now (line .entry)))) (λ d. ends (Request.GetFilePointer t d))) ⌝ }
 {
     let Field::Number(d, at) = spaced_at(line, 2, FURTHER) else {
         return Parsed::Another;
@@ -50,8 +50,8 @@ fn pointer_line(line: &[u8], t: usize) -> Parsed
 // `S0 3 17`, otherwise `R0 3 5`
 fn seek_or_read_line(line: &[u8], t: usize, seeks: bool) -> Parsed
     ensures { λ r. ⌜ Reads (now (line .entry)) r
-        (after (spaced (drop 2 (now (line .entry))))
-        (λ d rest. after (spaced rest) (λ n. ends (cond seeks (Request.Seek t d n)
+        (afterNumeral (spaced (drop 2 (now (line .entry))))
+        (λ d rest. afterNumeral (spaced rest) (λ n. ends (cond seeks (Request.Seek t d n)
         (Request.Read t d n))))) ⌝ }
 {
     let Field::Number(d, second) = spaced_at(line, 2, FURTHER) else {
@@ -69,7 +69,7 @@ fn seek_or_read_line(line: &[u8], t: usize, seeks: bool) -> Parsed
 // `W0 3 ` and the bytes up to the line's end
 fn write_line(line: &[u8], t: usize) -> Parsed
     ensures { λ r. ⌜ Reads (now (line .entry)) r
-        (after (spaced (drop 2 (now (line .entry)))) (λ d. writes (Request.Write t d))) ⌝ }
+        (afterNumeral (spaced (drop 2 (now (line .entry)))) (λ d. writes (Request.Write t d))) ⌝ }
 {
     let Field::Number(d, at) = spaced_at(line, 2, FURTHER) else {
         return Parsed::Another;

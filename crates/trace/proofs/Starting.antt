@@ -3,6 +3,7 @@ use mathlib.Core.List.{[]}
 use mathlib.Core.Path.{_≡_, refl, ap, ap₂, _∙_}
 use lib.ListN.{length}
 use Prim.Native.Nat.{ℕ}
+use Rattle.limits.specs.Limits.{bufferBytes, undoBytes}
 use Rattle.buffers.specs.Parts.{tabulate}
 use Rattle.state.specs.Outcomes.{doneAnswer}
 use Rattle.admission.specs.FirstRefusal.{below, unless}
@@ -11,17 +12,18 @@ use Rattle.spec.specs.Machine.{Machine, sizes}
 use Rattle.spec.specs.Calls.{answerWith, passing, fresh, freshMachine}
 use Rattle.trace.specs.Transcript.{modEight}
 
-passes : admissionOfFresh (sized 32768 32768 32768 4096) modEight ≡ 0
+passes : admissionOfFresh (sized bufferBytes bufferBytes bufferBytes undoBytes) modEight ≡ 0
 unfolding admissionOfFresh sizesIn modEight tabulate below unless
 passes = refl
 
-pub fresh-accepts : (m : Machine) → length (m .files) ≡ 32768 → length (m .logs) ≡ 32768 → length (m .marks) ≡ 32768
-    → length (m .undo) ≡ 4096 → fresh modEight m .reply .answer ≡ doneAnswer
+pub fresh-accepts : (m : Machine) → length (m .files) ≡ bufferBytes → length (m .logs) ≡ bufferBytes
+    → length (m .marks) ≡ bufferBytes
+    → length (m .undo) ≡ undoBytes → fresh modEight m .reply .answer ≡ doneAnswer
 unfolding fresh passing answerWith
 fresh-accepts m f l k u =
     let next = answerWith doneAnswer (freshMachine modEight (m .logs) (m .undo)) in
     let e : admissionOfFresh (sizes m) modEight ≡ 0 =
     ap₂ (λ (x y : ℕ). admissionOfFresh (sized x y (length (m .marks)) (length (m .undo))) modEight) f l
-    ∙ ap₂ (λ (x y : ℕ). admissionOfFresh (sized 32768 32768 x y) modEight) k u
+    ∙ ap₂ (λ (x y : ℕ). admissionOfFresh (sized bufferBytes bufferBytes x y) modEight) k u
     ∙ passes in
     ap (λ (n : ℕ). passing n [] m next .reply .answer) e

@@ -13,14 +13,14 @@ use Rattle.text_lines.specs.Lines.{truncated}
 use Rattle.text_lines.specs.Programs.{TruncatedIsEnough}
 use Rattle.spec.specs.Messages.{Call, TurnOf}
 use Rattle.text_answers.specs.Printed.{printed}
-use Rattle.trace.specs.Answers.{KeptLine}
-use Rattle.trace.specs.Transcript.{lineTurn, tracing}
+use Rattle.trace.specs.Answers.{TruncatedLine}
+use Rattle.trace.specs.Transcript.{traceLineTurn, tracing}
 
 too-long : (line : List ℕ) → 128 < length line → parsed line ≡ another
 unfolding parsed
 too-long line h = ap (λ (t : Bool). cond t (form line) another) (lt-leb (length line) 128 h)
 
-pub truncated-line : KeptLine
+pub truncated-line : TruncatedLine
 unfolding truncated
 truncated-line line = pick (leb (length line) 128) refl
   where
@@ -34,6 +34,6 @@ truncated-line line = pick (leb (length line) 128) refl
 pub trace-truncated-is-enough : {S : Type 0} (a : Call → S → TurnOf S) → TruncatedIsEnough (tracing a)
 trace-truncated-is-enough a =
     record {
-      text = λ line k. ap (λ (l : Line). printed (lineTurn a l k .reply)) (truncated-line line);
-      next = λ line k. ap (λ (l : Line). lineTurn a l k .after) (truncated-line line);
+      text = λ line k. ap (λ (l : Line). printed (traceLineTurn a l k .reply)) (truncated-line line);
+      next = λ line k. ap (λ (l : Line). traceLineTurn a l k .after) (truncated-line line);
     }

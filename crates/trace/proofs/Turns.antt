@@ -18,7 +18,7 @@ use Rattle.spec.specs.Messages.{Reply, TurnOf, refuseTurn, bufferOf, bufferOfCa
 use Rattle.spec.specs.Machine.{Machine}
 use Rattle.trace.specs.Answers.{AnswersTo, Answers}
 use Rattle.text_lines.specs.Programs.{transcript, stateAfter, Answered}
-use Rattle.trace.specs.Transcript.{readerAfterLine, TraceState, lineTurn, storeTrace}
+use Rattle.trace.specs.Transcript.{readerAfterLine, TraceState, traceLineTurn, storeTrace}
 use Rattle.spec.specs.Calls.{call}
 
 record Same (t : TurnOf (TraceState Machine)) (o : Outcome) (m′ : Machine) (reader′ : List ℕ) : Type 0 where
@@ -46,8 +46,8 @@ read-left (SetWindow f start end) bytes reader reader′ w l e = l
 read-left UndoCommit bytes reader reader′ w l e = l
 
 same-turn : (l : Line) (m : Machine) (reader : List ℕ) (o : Outcome) (m′ : Machine) (reader′ : List ℕ)
-    → AnswersTo l reader m o m′ reader′ → Same (lineTurn call l (traceStateIn m reader)) o m′ reader′
-unfolding AnswersTo lineTurn refuseTurn
+    → AnswersTo l reader m o m′ reader′ → Same (traceLineTurn call l (traceStateIn m reader)) o m′ reader′
+unfolding AnswersTo traceLineTurn refuseTurn
 same-turn another m reader o m′ reader′ h = record {
   after = ap₂ traceStateIn (h .1 .0) (h .1 .1);
   reply = ap₂ replyIn (h .0) (h .1 .1);
@@ -64,7 +64,7 @@ pub answer-line : (line reader : List ℕ) (m : Machine) (o : Outcome) (m′ : M
 unfolding transcript stateAfter
 answer-line line reader m o m′ reader′ before at after next a p h =
     let s = same-turn (parsed line) m reader o m′ reader′ a in
-    let t = lineTurn call (parsed line) (traceStateIn m reader) in
+    let t = traceLineTurn call (parsed line) (traceStateIn m reader) in
     record {
       says =
           put-text before at (printed (replyIn (said o) reader′)) after next h p

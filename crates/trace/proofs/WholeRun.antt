@@ -18,7 +18,7 @@ use Rattle.spec.specs.Plain.{Plain, freshPlain, plainCall, plainAfter, plainRep
 use Rattle.spec.specs.SerializabilityOfStore.{FreshlyMade}
 use Rattle.spec.proofs.Theorems.Serializability.{serializability}
 use Rattle.trace.specs.Transcript.{modEight, readerAfterLine, TraceState}
-use Rattle.trace.specs.Transcript.{lineTurn, tracing, storeTrace}
+use Rattle.trace.specs.Transcript.{traceLineTurn, tracing, storeTrace}
 use Rattle.trace.specs.WholeRun.{TraceWholeRun}
 use Rattle.trace.proofs.TruncatedLines.{trace-truncated-is-enough}
 
@@ -76,9 +76,9 @@ module _ (m₀ : Machine) (made : FreshlyMade modEight m₀) where
   text-by a ls t = printed (t .reply) ++ transcript (tracing a) ls (t .after)
 
   same-line : (l : Line) (ls : List (List ℕ)) → SameText ls → (cs : List Call) (reader : List ℕ)
-      → text-by call ls (lineTurn call l (onStore cs reader))
-      ≡ text-by plainCall ls (lineTurn plainCall l (onPlain cs reader))
-  unfolding lineTurn refuseTurn text-by
+      → text-by call ls (traceLineTurn call l (onStore cs reader))
+      ≡ text-by plainCall ls (traceLineTurn plainCall l (onPlain cs reader))
+  unfolding traceLineTurn refuseTurn text-by
   same-line another ls more cs reader = ap (λ (x : List ℕ). printed (record { answer = refused 17; buffer = reader }) ++ x)
       (more cs reader)
   same-line (asks q bytes) ls more cs reader =
@@ -100,9 +100,9 @@ module _ (m₀ : Machine) (made : FreshlyMade modEight m₀) where
   same-text [] cs reader = refl
   same-text (l ∷ ls) cs reader = same-line (parsed l) ls (same-text ls) cs reader
 
-pub whole-run : TraceWholeRun
+pub trace-whole-run : TraceWholeRun
 unfolding p₀ afterAll
-whole-run m made reader legs last k h =
+trace-whole-run m made reader legs last k h =
     let text = whole-lines storeTrace (trace-truncated-is-enough call) (record { machine = m; reader = reader }) legs last
     k h .says in
     record { onStore = text; onPlain = text ∙ same-text m made (linesOf (inputOf legs)) [] reader }

@@ -41,9 +41,9 @@ pub record TraceState (S : Type 0) : Type 0 where
 
 module _ {S : Type 0} (answer : Call → S → TurnOf S) where
   -- One line: what is replied, and the trace's state after it.
-  unfoldable pub lineTurn : Line → TraceState S → TurnOf (TraceState S)
-  lineTurn another k = refuseTurn 17 (k .reader) k
-  lineTurn (asks q bytes) k =
+  unfoldable pub traceLineTurn : Line → TraceState S → TurnOf (TraceState S)
+  traceLineTurn another k = refuseTurn 17 (k .reader) k
+  traceLineTurn (asks q bytes) k =
       let c = callOf q bytes (k .reader) in
       let w = answer c (k .machine) in
       let reader = readerAfterLine q (k .reader) (w .reply .buffer) in
@@ -56,8 +56,8 @@ module _ {S : Type 0} (answer : Call → S → TurnOf S) where
   abbrev pub tracing : LineProgram (TraceState S)
   tracing =
       record {
-        text = λ line k. printed (lineTurn (parsed line) k .reply);
-        next = λ line k. lineTurn (parsed line) k .after;
+        text = λ line k. printed (traceLineTurn (parsed line) k .reply);
+        next = λ line k. traceLineTurn (parsed line) k .after;
         most = 128;
       }
 
@@ -69,4 +69,4 @@ storeTrace = tracing call
 
 -- In the middle of a piece of input, as the program has it.
 abbrev pub under : Machine → List ℕ → List ℕ → List ℕ → Under (TraceState Machine)
-under m reader held rest = within (record { machine = m; reader = reader }) held rest
+under m reader pending rest = within (record { machine = m; reader = reader }) pending rest

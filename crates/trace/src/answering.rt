@@ -25,7 +25,7 @@ const MOST: usize = 57000;
 // another form ended in byte 13, whether the run goes on, and whether it came to the end of the input with
 // all that it answered written.
 pub struct TraceProgress {
-    pub held: usize,
+    pub pending: usize,
     pub at: usize,
     pub waiting: usize,
     pub written: u64,
@@ -91,7 +91,7 @@ fn answer_line(
         (record { machine = handedBack state files logs marks undo; reader = now (reader .exit) })
         (take (r .waiting) (now (out .exit)))
         × ((r .waiting ≤ length (now (out .exit)))
-        × ((r .held ≡ progress .held) × (r .at ≡ progress .at))) ⌝ }
+        × ((r .pending ≡ progress .pending) × (r .at ≡ progress .at))) ⌝ }
 {
     let o = answer(state, files, logs, marks, undo, line, reader);
     let waiting = text_answers::print_answer(out, progress.waiting, o, reader);
@@ -117,21 +117,21 @@ fn step(
         × (TraceRoom (now reader) (now out) × (length (now line) ≡ 129)) ⌝ }
     ensures { λ r. ⌜ Passes storeTrace
         (under (handed state files logs marks undo) (now (reader .entry))
-        (take (progress .held) (now (line .entry))) (drop (progress .at) (now (piece .entry))))
+        (take (progress .pending) (now (line .entry))) (drop (progress .at) (now (piece .entry))))
         (take (progress .waiting) (now (out .entry)))
         (under (handedBack state files logs marks undo) (now (reader .exit))
-        (take (r .held) (now (line .exit))) (drop (r .at) (now (piece .entry))))
+        (take (r .pending) (now (line .exit))) (drop (r .at) (now (piece .entry))))
         (take (r .waiting) (now (out .exit)))
         × TraceOnward progress r (length (now (piece .entry))) (length (now (out .exit))) ⌝ }
 {
-    let scan = text_lines::next_line(line, progress.held, piece, progress.at);
-    let n = scan.held;
-    progress.held = n;
+    let scan = text_lines::next_line(line, progress.pending, piece, progress.at);
+    let n = scan.pending;
+    progress.pending = n;
     progress.at = scan.at;
     if !scan.complete {
         return progress;
     }
-    progress.held = 0;
+    progress.pending = 0;
     answer_line(
         progress,
         state,
@@ -162,10 +162,10 @@ pub fn fill(
         × (TraceRoom (now reader) (now out) × (length (now line) ≡ 129))) ⌝ }
     ensures { λ r. ⌜ Passes storeTrace
         (under (handed state files logs marks undo) (now (reader .entry))
-        (take (progress .held) (now (line .entry))) (drop (progress .at) (now (piece .entry))))
+        (take (progress .pending) (now (line .entry))) (drop (progress .at) (now (piece .entry))))
         []
         (under (handedBack state files logs marks undo) (now (reader .exit))
-        (take (r .held) (now (line .exit))) (drop (r .at) (now (piece .entry))))
+        (take (r .pending) (now (line .exit))) (drop (r .at) (now (piece .entry))))
         (take (r .waiting) (now (out .exit)))
         × TraceOnward progress r (length (now (piece .entry))) (length (now (out .exit))) ⌝ }
 {
@@ -202,14 +202,14 @@ pub fn answer_last_line(
     out: &mut [u8],
 ) -> TraceProgress
     requires { ⌜ TraceResting progress × (TraceRoom (now reader) (now out) × (length (now line) ≡ 129)) ⌝ }
-    ensures { λ r. ⌜ Answered storeTrace (lastLine (take (progress .held) (now (line .entry))))
+    ensures { λ r. ⌜ Answered storeTrace (lastLine (take (progress .pending) (now (line .entry))))
         (record { machine = handed state files logs marks undo; reader = now (reader .entry) })
         []
         (record { machine = handedBack state files logs marks undo; reader = now (reader .exit) })
         (take (r .waiting) (now (out .exit)))
-        × ((r .waiting ≤ length (now (out .exit))) × (r .held ≡ progress .held)) ⌝ }
+        × ((r .waiting ≤ length (now (out .exit))) × (r .pending ≡ progress .pending)) ⌝ }
 {
-    let n = progress.held;
+    let n = progress.pending;
     if !text_lines::is_line(part(line, 0, n)) {
         return progress;
     }

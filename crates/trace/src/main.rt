@@ -39,7 +39,7 @@ const LINE_BUFFER: usize = 129;
 // contract can say what is written: the theorem of a whole run binds what is handed over here.
 fn flush(mut progress: TraceProgress, out: &[u8]) -> TraceProgress
     requires { ⌜ progress .waiting ≤ length (now out) ⌝ }
-    ensures { λ r. ⌜ (r .waiting ≡ 0) × ((r .held ≡ progress .held) × (r .at ≡ progress .at)) ⌝ }
+    ensures { λ r. ⌜ (r .waiting ≡ 0) × ((r .pending ≡ progress .pending) × (r .at ≡ progress .at)) ⌝ }
 {
     let n = progress.waiting;
     let done = write_out(part(out, 0, n));
@@ -68,9 +68,9 @@ fn take_piece(
     requires { ⌜ TraceResting progress × (TraceRoom (now reader) (now out) × (length (now line) ≡ 129)) ⌝ }
     ensures { λ r. ⌜ TraceResting r × (r .goes ≡ true
         → atEnd storeTrace (under (handed state files logs marks undo) (now (reader .entry))
-        (take (progress .held) (now (line .entry))) (now (piece .entry)))
+        (take (progress .pending) (now (line .entry))) (now (piece .entry)))
         ≡ under (handedBack state files logs marks undo) (now (reader .exit))
-        (take (r .held) (now (line .exit))) []) ⌝ }
+        (take (r .pending) (now (line .exit))) []) ⌝ }
 {
     progress.at = 0;
     while progress.at < piece.len() {
@@ -111,14 +111,14 @@ fn turn(
     requires { ⌜ TraceResting progress × (TraceRoom (now reader) (now out) × ((length (now line) ≡ 129)
         × ReachedFresh (under (machineOf (now state) (now files) (now logs) (now marks) (now undo))
         (now reader)
-        (take (progress .held) (now line)) []))) ⌝ }
+        (take (progress .pending) (now line)) []))) ⌝ }
     ensures { λ r. ⌜ TraceResting r × (r .goes ≡ true → (n : ℕ)
         × (atEnd storeTrace (under (handed state files logs marks undo) (now (reader .entry))
-        (take (progress .held) (now (line .entry))) (take n (now (input .exit))))
+        (take (progress .pending) (now (line .entry))) (take n (now (input .exit))))
         ≡ under (handedBack state files logs marks undo) (now (reader .exit))
-        (take (r .held) (now (line .exit))) []))
+        (take (r .pending) (now (line .exit))) []))
         × (r .complete ≡ true → (text : List ℕ) × Answered storeTrace
-        (lastLine (take (progress .held) (now (line .entry))))
+        (lastLine (take (progress .pending) (now (line .entry))))
         (record { machine = handed state files logs marks undo; reader = now (reader .entry) })
         []
         (record { machine = handedBack state files logs marks undo; reader = now (reader .exit) })
@@ -186,7 +186,7 @@ fn run(
         (record { machine = handedBack state files logs marks undo; reader = now (reader .exit) })) ⌝ }
 {
     let mut progress = TraceProgress {
-        held: 0,
+        pending: 0,
         at: 0,
         waiting: 0,
         written: 0,

@@ -5,12 +5,13 @@ use lib.Dec.{leb, ltb, eqb}
 use Prim.Native.Nat.{ℕ, _≤_, _<_}
 use native.Mathlib.Omega.{arith}
 use borrow.Author.Tests.{leb-true, leb-false, eqb-true, lt-ltb, le-ltb, ne-eqb}
+use Rattle.limits.specs.Limits.{lastMinute}
 use Rattle.windows.specs.declared.Window.{Window}
 use Rattle.windows.specs.Windows.{minuteIn, isOpenAt}
 
-pub minute-most : (n : ℕ) → minuteIn n ≡ true → n ≤ 1439
+pub minute-most : (n : ℕ) → minuteIn n ≡ true → n ≤ lastMinute
 unfolding minuteIn
-minute-most n e = leb-true n 1439 e
+minute-most n e = leb-true n lastMinute e
 
 module _ (w : Window) (minute : ℕ) where
   pub by-day : w .start < w .end → leb (w .start) minute && ltb minute (w .end) ≡ isOpenAt w minute

@@ -305,7 +305,7 @@ fn each_range_of_what_is_held_is_looked_at() {
             forge(&mut state.store, &Damage { forgery, forged_index, ..clean });
             refused_2(&state);
             // The same is free where nothing is held.
-            state.store.undo.held = false;
+            state.store.undo.valid = false;
             assert!(state.apply(&Call::Begin(0)).outcome.is_ok(), "forgery {forgery}");
         }
     }
@@ -321,7 +321,7 @@ fn the_ends_of_the_ranges_pass() {
     ];
     for log in logs {
         let mut state = holding();
-        state.store.undo = Undo { held: true, log, offsets: [4096; DESCRIPTORS], lengths: [4096; FILES] };
+        state.store.undo = Undo { valid: true, log, offsets: [4096; DESCRIPTORS], lengths: [4096; FILES] };
         state.buffers.undo.fill(9);
         let Log { records, bytes } = state.store.undo.log.clone();
         assert!(state.apply(&Call::Undo).outcome.is_ok());
@@ -366,7 +366,7 @@ fn garbage_passes_while_nothing_is_held() {
     assert_eq!(store.commit(&mut lent, 0, 0), Ok(0));
     let record = WriteRecord { descriptor: 0, place: Place::At(0), length: 1 };
     let log = Log { records: vec![record], bytes: 1 };
-    assert_eq!(store.undo, Undo { held: true, log, offsets: [0; DESCRIPTORS], lengths: [0; FILES] });
+    assert_eq!(store.undo, Undo { valid: true, log, offsets: [0; DESCRIPTORS], lengths: [0; FILES] });
     assert_eq!(store.undo(&mut lent), Ok(()));
     assert_eq!(store, Store::new([0; DESCRIPTORS]));
 }

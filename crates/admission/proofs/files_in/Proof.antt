@@ -6,6 +6,7 @@ use native.Mathlib.Omega.{arith}
 use lib.Dec.{leb}
 use lib.ListN.{getD}
 use borrow.Author.Tests.{lt-leb, le-leb}
+use Rattle.limits.specs.Limits.{lastFile, descriptorCount}
 use Rattle.admission.specs.FirstRefusal.{below}
 use Rattle.admission.proofs.Laws.{below-zero, below-more, below-fails}
 use borrow.Author.Needs.{needs}
@@ -13,7 +14,7 @@ use Rattle.admission.proofs.files_in.Statement.{statement}
 use Rattle.admission.proofs.files_in.Tie as tie
 
 abbrev Inv-loop : tie.InvT-loop
-Inv-loop files d₀ d = (d ≤ 16) × (below (λ k. leb (getD files k 0) 7) d ≡ true)
+Inv-loop files d₀ d = (d ≤ descriptorCount) × (below (λ k. leb (getD files k 0) lastFile) d ≡ true)
 
 abbrev μ-loop : tie.MeasureT-loop
 μ-loop files d₀ d = 16 - d

@@ -1,6 +1,7 @@
 -- `admission::journals_in` meets its contract.
 use mathlib.Core.Path.{sym, _≡_}
 use mathlib.Core.Bool.{true}
+use Rattle.limits.specs.Limits.{transactionCount}
 use Rattle.admission.specs.FirstRefusal.{below}
 use Rattle.admission.proofs.Laws.{below-zero, below-more, below-at, below-fails, failed, test-held}
 use Rattle.admission.proofs.Tests.{recordsIn}
@@ -11,7 +12,7 @@ use Rattle.admission.proofs.journals_in.Statement.{statement}
 use Rattle.admission.proofs.journals_in.Tie as tie
 
 abbrev Inv-loop : tie.InvT-loop
-Inv-loop state t₀ t = (t ≤ 8) × (below (recordsIn state) t ≡ true)
+Inv-loop state t₀ t = (t ≤ transactionCount) × (below (recordsIn state) t ≡ true)
 
 abbrev μ-loop : tie.MeasureT-loop
 μ-loop state t₀ t = 8 - t

@@ -4,6 +4,7 @@ use mathlib.Core.Path.{_≡_, ap, _∙_}
 use Prim.Native.Nat.{_-_, _≤_}
 use native.Mathlib.Omega.{arith}
 use borrow.Author.Needs.{needs}
+use Rattle.limits.specs.Limits.{transactionCount}
 use Rattle.state.specs.Layout.{transactionOf}
 use Rattle.admission.specs.FirstRefusal.{below}
 use Rattle.admission.proofs.Tests.{none-decides}
@@ -12,7 +13,7 @@ use Rattle.admission.proofs.none_begun.Statement.{statement}
 use Rattle.admission.proofs.none_begun.Tie as tie
 
 abbrev Inv-loop : tie.InvT-loop
-Inv-loop state none₀ t₀ none t = (t ≤ 8) × (none ≡ below (λ u. not (transactionOf state u .begun)) t)
+Inv-loop state none₀ t₀ none t = (t ≤ transactionCount) × (none ≡ below (λ u. not (transactionOf state u .begun)) t)
 
 abbrev μ-loop : tie.MeasureT-loop
 μ-loop state none₀ t₀ none t = 8 - t

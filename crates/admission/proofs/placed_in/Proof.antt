@@ -9,7 +9,7 @@ returns : tie.Need-returns
 returns c =
     let start = c .before .before .before .before .before in
     placed-decides (start .args .place) (start .args .n) _ _ (c .enum-told .given .1)
-    (c .before .before .before .wide .ensures .0 ∙ c .before .before .before .before .number .ensures)
+    (c .before .before .before .wide .ensures .0 ∙ c .before .before .before .before .place-number .ensures)
     (c .before .before .wide2 .ensures .0)
 
 returns-2 : tie.Need-returns-2

@@ -1,19 +1,19 @@
 -- `admission::tables_in` meets its contract.
 use mathlib.Core.Path.{sym, _∙_}
 use Rattle.admission.proofs.Laws.{failed, test-held}
-use Rattle.admission.proofs.Tests.{tables-decide}
+use Rattle.admission.proofs.Tests.{tables-decided}
 use borrow.Author.Needs.{needs}
 use Rattle.admission.proofs.tables_in.Statement.{statement}
 use Rattle.admission.proofs.tables_in.Tie as tie
 
 returns : tie.Need-returns
 returns c =
-    sym (tables-decide (c .before .before .args .state .now) ∙ rw (failed (c .before .tables-at-most .ensures) (c .if1 .taken)))
+    sym (tables-decided (c .before .before .args .state .now) ∙ rw (failed (c .before .tables-at-most .ensures) (c .if1 .taken)))
 
 returns-2 : tie.Need-returns-2
 returns-2 c =
     c .transactions-in .ensures
-    ∙ sym (tables-decide (c .before .before .before .args .state .now)
+    ∙ sym (tables-decided (c .before .before .before .args .state .now)
     ∙ rw (test-held (c .before .before .tables-at-most .ensures) (c .before .if1 .left)))
 
 pub tables-in-spec : {M : Type 1} → statement M

@@ -1,7 +1,8 @@
 -- `admission::transactions_in` meets its contract.
 use mathlib.Core.Path.{sym, _∙_}
 use Rattle.admission.proofs.Laws.{failed, test-held}
-use Rattle.admission.proofs.Tests.{none-in, open-decides, open-fails, counters-hold, standings-hold, records-decide, all-empty}
+use Rattle.admission.proofs.Tests.{none-in, open-decides, open-fails, counters-hold, standings-hold, records-decide}
+use Rattle.admission.proofs.Tests.{all-empty}
 use borrow.Author.Needs.{needs}
 use Rattle.admission.proofs.transactions_in.Statement.{statement}
 use Rattle.admission.proofs.transactions_in.Tie as tie

@@ -3,12 +3,12 @@ use mathlib.Core.Path.{ap, _∙_}
 use borrow.Author.Needs.{needs}
 use Rattle.counters.specs.declared.Used.{Used}
 use Rattle.admission.proofs.Laws.{failed, test-held}
-use Rattle.admission.proofs.Tests.{nothing-held, grant-records-fail, grant-bytes-fail, found-fails, grant-decides}
+use Rattle.admission.proofs.Tests.{nothing-to-undo, grant-records-fail, grant-bytes-fail, found-fails, grant-decides}
 use Rattle.admission.proofs.undo_in.Statement.{statement}
 use Rattle.admission.proofs.undo_in.Tie as tie
 
 returns : tie.Need-returns
-returns c = nothing-held _ (failed (c .before .can-undo .ensures) (c .if1 .taken))
+returns c = nothing-to-undo _ (failed (c .before .can-undo .ensures) (c .if1 .taken))
 
 returns-2 : tie.Need-returns-2
 returns-2 c =

@@ -42,7 +42,8 @@ returns c =
     let a = s .args in
     let l = c .before .before .before .before .loop in
     let r = c .before .before .latest-write in
-    first-clear-here (lent s) (a .t) (a .used .records) (extent (a .f) (l .q) (4096 - l .q)) (r .result) (r .ensures .1) (a .p)
+    first-clear-here (lent s) (a .t) (a .used .records) (extent (a .f) (l .q) (fileBytes - l .q)) (r .result) (r .ensures .1)
+    (a .p)
     (l .inv .0)
     (l .inv .1) (l .inv .2) (sym (c .before .is-record .ensures) ∙ not-true _ (c .if1 .taken))
 
@@ -60,7 +61,8 @@ loop-again c =
     let r = c .before .before .before .latest-write in (
       omega arith,
       omega (arith, r .ensures .1 .within),
-      first-clear-after (lent s) (a .t) (a .used .records) (extent (a .f) (l .q) (4096 - l .q)) (r .result) (r .ensures .1) (a .p)
+      first-clear-after (lent s) (a .t) (a .used .records) (extent (a .f) (l .q) (fileBytes - l .q)) (r .result) (r .ensures .1)
+          (a .p)
           (l .inv .2) (sym (c .before .before .is-record .ensures) ∙ not-false _ (c .before .if1 .left)),
     )
 

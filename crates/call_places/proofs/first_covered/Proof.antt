@@ -4,6 +4,7 @@ use mathlib.Core.Path.{refl, sym, _∙_}
 use Prim.Native.Nat.{ℕ, _-_}
 use native.Mathlib.Omega.{arith}
 use borrow.Author.Needs.{needs}
+use Rattle.limits.specs.Limits.{fileBytes}
 use Rattle.read_lookup.specs.Lookup.{Recorded, recordedIn, extent}
 use Rattle.call_places.specs.PlacesCall.{coveredAt}
 use Rattle.call_places.proofs.CoverLaws.{first-covered-here, first-covered-after, upto-end}
@@ -38,7 +39,8 @@ returns-2 c =
     let s = c .before .before .before .before in
     let a = s .args in
     let r = c .before .before .latest-write in
-    first-covered-here (lent s) (a .t) (a .used .records) (extent (a .f) (a .p) (4096 - a .p)) (r .result) (r .ensures .1) refl
+    first-covered-here (lent s) (a .t) (a .used .records) (extent (a .f) (a .p) (fileBytes - a .p)) (r .result)
+    (r .ensures .1) refl
     (omega arith) (sym (c .before .is-record .ensures) ∙ c .if2 .taken)
 
 add-result : tie.Need-add-result
@@ -49,7 +51,8 @@ returns-3 c =
     let s = c .before .before .before .before .before in
     let a = s .args in
     let r = c .before .before .before .latest-write in
-    first-covered-after (lent s) (a .t) (a .used .records) (extent (a .f) (a .p) (4096 - a .p)) (r .result) (r .ensures .1) refl
+    first-covered-after (lent s) (a .t) (a .used .records) (extent (a .f) (a .p) (fileBytes - a .p)) (r .result)
+    (r .ensures .1) refl
     (omega arith) (sym (c .before .before .is-record .ensures) ∙ c .before .if2 .left)
 
 pub first-covered-spec : {M : Type 1} → statement M

@@ -14,13 +14,13 @@ use Rattle.read_lookup.specs.Lookup.{recordedIn}
 use Rattle.call_places.specs.PlacesCall.{coveredAt}
 use Rattle.call_places.proofs.ListLaws.{Listing, asListed, listing-none, listing-end, listing-all, listing-more}
 use Rattle.call_places.proofs.ListLaws.{listing-room}
-use Rattle.call_places.proofs.ListLaws.{length-snoc, pair, pairs-none, list-pairs-more, pairs-all}
+use Rattle.call_places.proofs.ListLaws.{length-snoc, pair, list-pairs-none, list-pairs-more, pairs-all}
 use Rattle.call_places.proofs.write_interval_list.Statement.{statement}
 use Rattle.call_places.proofs.write_interval_list.Tie as tie
 
 abbrev Inv-loop : tie.InvT-loop
 Inv-loop state t used f out₀ p₀ at₀ out p at =
-    (p ≤ 4096)
+    (p ≤ fileBytes)
     × (length out ≡ length out₀)
     × (l : List Listed)
     × (4 * length l ≡ at)
@@ -37,7 +37,7 @@ covering c = coveredAt (recordedIn (c .args .state .now)) (c .args .t) (c .args 
 loop-holds : tie.Need-loop-holds Inv-loop μ-loop
 loop-holds c =
     let s = c .before in
-    (omega arith, refl, [], refl, listing-none (covering s), pairs-none (s .args .out .now))
+    (omega arith, refl, [], refl, listing-none (covering s), list-pairs-none (s .args .out .now))
 
 next-interval-requires : tie.Need-next-interval-requires Inv-loop μ-loop
 next-interval-requires c κs = search needs

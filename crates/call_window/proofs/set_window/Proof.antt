@@ -3,6 +3,7 @@ use borrow.Author.Needs.{needs}
 use mathlib.Core.List.{[]}
 use mathlib.Core.Path.{_≡_, sym, ap, _∙_}
 use Prim.Native.Nat.{ℕ, _≤_}
+use Rattle.limits.specs.Limits.{lastMinute}
 use Rattle.windows.specs.Windows.{minuteIn}
 use Rattle.windows.proofs.WindowLaws.{minute-most}
 use Rattle.admission.proofs.Laws.{and-left, and-right, AdmittedWindow, admitted-window}
@@ -44,7 +45,7 @@ returns c =
     turned-follows r [] _ _ _ _ _ _ (ap (λ (n : ℕ). passing n [] m next) (sym e) ∙ passing-number r [] m next)
 
 -- Start and end are minutes of the day, and fit sixteen bits.
-minutes : (c : tie.After-enum-told) → let a = start-of c .args in (a .start ≤ 1439) × (a .end ≤ 1439)
+minutes : (c : tie.After-enum-told) → let a = start-of c .args in (a .start ≤ lastMinute) × (a .end ≤ lastMinute)
 minutes c =
     let a = start-of c .args in
     let both = admits c .minutes in (

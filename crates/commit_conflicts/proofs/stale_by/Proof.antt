@@ -1,7 +1,7 @@
 -- `commit_conflicts::stale_by` meets its contract.
 use Rattle.state.specs.Layout.{storeOf}
 use Rattle.spec.specs.Machine.{values}
-use Rattle.commit_conflicts.proofs.ConflictLaws.{none-stale, stale-is}
+use Rattle.commit_conflicts.proofs.ConflictLaws.{none-stale, stale-by-is}
 use borrow.Author.Needs.{needs}
 use Rattle.commit_conflicts.proofs.stale_by.Statement.{statement}
 use Rattle.commit_conflicts.proofs.stale_by.Tie as tie
@@ -27,7 +27,7 @@ returns-2 c = λ files logs undo size.
     let a = start .args in
     let state = a .state .now in
     let marks = a .marks .now in
-    stale-is state files logs marks undo (a .t) _ (at-watched .watched .ensures) (start .pre .0 .small)
+    stale-by-is state files logs marks undo (a .t) _ (at-watched .watched .ensures) (start .pre .0 .small)
     _ (c .before .before .before .before .before .used-at .ensures) _ _ _ _ _
     (c .before .before .before .before .byte-sighters .ensures logs size)
     (c .before .before .before .offset-sighters .ensures marks (values (storeOf state) files))

@@ -15,7 +15,7 @@ use Rattle.state.specs.Layout.{transactionOf, storeOf}
 use Rattle.admission.specs.FirstRefusal.{someBelow}
 use Rattle.admission.proofs.Laws.{some-none, some-more, some-found}
 use Rattle.commit_windows.specs.WindowCheck.{recordHasByteFor, hasByteFor}
-use Rattle.commit_windows.proofs.ClosingLaws.{few, descriptor-in, file-in}
+use Rattle.commit_windows.proofs.ClosingLaws.{few-closing, closing-descriptor-in, file-in}
 use Rattle.commit_windows.proofs.has_byte_for.Statement.{statement}
 use Rattle.commit_windows.proofs.has_byte_for.Tie as tie
 
@@ -38,7 +38,7 @@ record-at-requires c κs =
       omega (arith, start .pre .small),
       omega (
         arith,
-        few (start .args .state .now) (start .args .t) (start .pre),
+        few-closing (start .args .state .now) (start .args .t) (start .pre),
         n,
         c .if1 .taken,
       ),
@@ -58,7 +58,7 @@ descriptor c =
     ≡ transactionOf (start .args .state .now) (start .args .t) .used .records = ap (λ (u : Used). u .records)
     (loop-of c .before .used-at .ensures) in
     rw (c .record-at .ensures)
-    (descriptor-in (start .args .state .now) (start .args .t) (start .pre) (loop-of c .loop .k)
+    (closing-descriptor-in (start .args .state .now) (start .args .t) (start .pre) (loop-of c .loop .k)
     (omega (arith, n, c .before .if1 .taken)))
 
 file-at-requires : tie.Need-file-at-requires Inv-loop μ-loop

@@ -47,6 +47,7 @@ use denote.Triple.Spec.{Meets, tripleOf}
 use denote.Triple.Table.{entered}
 use denote.Triple.Walked.{needs, Stays, stay-ref, stay-none, walkOf, goes-none, goes-ref, Walks, ends-at, walked, walk-meets}
 use denote.Exit.{yes}
+use Rattle.limits.specs.Limits.{recordCount, logBytes}
 use Rattle.counters.specs.declared.Used.{Used}
 use Rattle.counters.proofs.Operand.{operand}
 use Rattle.counters.proofs.Pair.{used, pair-fits, says-both}
@@ -99,7 +100,7 @@ module _ {M : Type 1} (𝓤 : URA M) (H : Heap 𝓤) (A : Atoms 𝓤) (W : Given
       $ s)
 
   module _ (C : Calls 𝓤 H) (Λ : Loops 𝓤 H) where
-    walk : n < 2 ^ 16 → (h .records ≤ 64) × (h .bytes + n ≤ 4096)
+    walk : n < 2 ^ 16 → (h .records ≤ recordCount) × (h .bytes + n ≤ logBytes)
         → ent 𝓤 (onEntry 𝓤 H A append.signature (κ, tt) (q, tt) x at)
         (WpFn 𝓤 H C Λ code.function (vptr b o ∷ vint w16 n ∷ []) Post)
     walk fn ok =

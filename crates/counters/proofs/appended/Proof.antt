@@ -54,6 +54,7 @@ use denote.Triple.Clauses.{ensured, lasts}
 use denote.Triple.Table.{entered, cited}
 use denote.Triple.Walked.{says, needs, Stays, stay-none, walkOf, goes-none, Walks, ends-at, walked, walk-meets}
 use denote.Exit.{yes}
+use Rattle.limits.specs.Limits.{recordCount, logBytes}
 use Rattle.counters.specs.declared.Used.{Used}
 use Rattle.counters.proofs.Operand.{operand}
 use Rattle.counters.proofs.Pair.{used, pair-fits, says-both}
@@ -123,7 +124,7 @@ module _ {M : Type 1} (𝓤 : URA M) (H : Heap 𝓤) (A : Atoms 𝓤) (W : Given
   to-append ν l δ = (((ν ∷ [], tt), (fullShare, tt), tt, (lent l δ, (n, tt)), (vptr l 0 ∷ [], (vint w16 n ∷ [], tt))), tt)
 
   -- what `append` asks: the token, the reference, n, and its `requires`
-  goes : (ν l : ℕ) (δ : GName) → (h .records ≤ 64) × (h .bytes + n ≤ 4096)
+  goes : (ν l : ℕ) (δ : GName) → (h .records ≤ recordCount) × (h .bytes + n ≤ logBytes)
       → ent 𝓤 (sep 𝓤 (A .lft (ν ∷ []) fullShare)
       (sem 𝓤 H A (MutRef (named 0) (ν ∷ []) T.the-row .own (lent l δ) (vptr l 0 ∷ []))))
       (Append 𝓤 H A at-mem run .pre (to-append ν l δ))
@@ -135,7 +136,7 @@ module _ {M : Type 1} (𝓤 : URA M) (H : Heap 𝓤) (A : Atoms 𝓤) (W : Given
 
   module _ (C : Calls 𝓤 H) (Λ : Loops 𝓤 H) (fm : FmC 𝓤 H (W .laws) C)
       (known : Triple 𝓤 (C #counters·append) (Append 𝓤 H A at-mem run)) where
-    walk : Holds (hasTy T′.mir (T′.lowered h)) × WT (T′.lowered h) → (h .records ≤ 64) × (h .bytes + n ≤ 4096)
+    walk : Holds (hasTy T′.mir (T′.lowered h)) × WT (T′.lowered h) → (h .records ≤ recordCount) × (h .bytes + n ≤ logBytes)
         → ent 𝓤 (onEntry 𝓤 H A appended.signature tt tt (h, (n, tt)) at)
         (WpFn 𝓤 H C Λ code.function (T′.lowered h ∷ vint w16 n ∷ []) Post)
     walk wt ok =

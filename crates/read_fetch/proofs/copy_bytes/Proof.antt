@@ -4,6 +4,7 @@ use mathlib.Core.Path.{_≡_, ap, ap₂, _∙_}
 use Prim.Native.Nat.{ℕ, _*_, _≤_}
 use native.Mathlib.Omega.{arith}
 use lib.ListN.{length, drop}
+use Rattle.limits.specs.Limits.{fileBytes, logBytes}
 use Rattle.buffers.specs.Parts.{filePart}
 use Rattle.buffers.proofs.PartLaws.{length-cut, length-file}
 use Rattle.counters.specs.declared.Used.{Used}
@@ -43,12 +44,12 @@ mul-part c = search needs
 part-requires : tie.Need-part-requires
 part-requires c κs = search needs
 
-log-length : (c : tie.After-part) → length (c .part .result .now) ≡ 4096
+log-length : (c : tie.After-part) → length (c .part .result .now) ≡ fileBytes
 log-length c =
     let s = start-of (c .before) in
     let h = s .pre .0 in
     ap length (c .part .ensures)
-    ∙ length-cut (s .args .logs .now) (4096 * s .args .t) 4096 (omega (arith, h .logsLength, h .counted .small))
+    ∙ length-cut (s .args .logs .now) (logBytes * s .args .t) logBytes (omega (arith, h .logsLength, h .counted .small))
 
 copy-runs-requires : tie.Need-copy-runs-requires
 copy-runs-requires c κs =

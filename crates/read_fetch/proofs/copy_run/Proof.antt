@@ -46,7 +46,7 @@ run-ends c =
 run-requires : tie.Need-run-requires
 run-requires c κs =
     let h = start-of (c .before) .pre .0 in
-    in-chosen _ _ _ _ 4096 (omega (arith, h .logLength, h .fileLength)) (omega (arith, h .logLength, h .fileLength))
+    in-chosen _ _ _ _ fileBytes (omega (arith, h .logLength, h .fileLength)) (omega (arith, h .logLength, h .fileLength))
     (run-ends (c .before))
 
 -- "handed over as that part of the log or of the file"

@@ -118,8 +118,8 @@ first c =
     (walked turn)
     (c .before .gap .result) (omega (arith, c .if1 .taken)) (gap-is (c .before))
 
-number-requires : tie.Need-number-requires Inv-loop μ-loop
-number-requires c κs = search needs
+place-number-requires : tie.Need-place-number-requires Inv-loop μ-loop
+place-number-requires c κs = search needs
 
 wide-requires-3 : tie.Need-wide-requires-3 Inv-loop μ-loop
 wide-requires-3 c κs = search needs
@@ -132,7 +132,7 @@ abbrev sized : tie.After-wide3 Inv-loop μ-loop → tie.After-wide2 Inv-loop μ-
 sized c = c .before .before .before .before
 
 start-is : (c : tie.After-wide3 Inv-loop μ-loop) → c .wide3 .result ≡ placeNumber (looked-at (turn-of c) .place)
-start-is c = c .wide3 .ensures .0 ∙ c .before .number .ensures
+start-is c = c .wide3 .ensures .0 ∙ c .before .place-number .ensures
     ∙ ap (λ (w : WriteRecord). placeNumber (w .place)) (newest-left (sized c .before))
 
 in-record : (c : tie.After-wide3 Inv-loop μ-loop) → let e = start-of (turn-of c) .args .e in
@@ -233,7 +233,7 @@ latest-write-spec =
     wide-requires-2
     sub-start
     gap-requires
-    number-requires
+    place-number-requires
     wide-requires-3
     sub-t18
     sub-t19

@@ -5,12 +5,13 @@ use lib.ListN.{getD}
 use native.Mathlib.Omega.{arith}
 use borrow.Author.Needs.{needs}
 use Prim.Native.Nat.{ℕ, _-_, _≤_, _<_}
+use Rattle.limits.specs.Limits.{descriptorCount}
 use Rattle.read_settle.proofs.ChoiceLaws.{none-more}
 use Rattle.read_settle.proofs.any.Statement.{statement}
 use Rattle.read_settle.proofs.any.Tie as tie
 
 abbrev Inv-loop : tie.InvT-loop
-Inv-loop chosen found₀ e₀ found e = (e ≤ 16) × (found ≡ false → (k : ℕ) → k < e → getD chosen k false ≡ false)
+Inv-loop chosen found₀ e₀ found e = (e ≤ descriptorCount) × (found ≡ false → (k : ℕ) → k < e → getD chosen k false ≡ false)
 
 abbrev μ-loop : tie.MeasureT-loop
 μ-loop chosen found₀ e₀ found e = 16 - e

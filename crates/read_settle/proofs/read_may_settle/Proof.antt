@@ -5,16 +5,17 @@ use mathlib.Core.Path.{_≡_, sym, ap, _∙_}
 use native.Mathlib.Omega.{arith}
 use borrow.Author.Needs.{needs}
 use Prim.Native.Nat.{ℕ, _-_, _≤_, _<_}
+use Rattle.limits.specs.Limits.{descriptorCount}
 use Rattle.standings.specs.Table.{readSettles}
 use Rattle.state.specs.StoreMeaning.{standingAt}
 use Rattle.state.specs.Layout.{transactionOf}
-use Rattle.read_settle.proofs.ChoiceLaws.{neither, none-more, read-chooses-none}
+use Rattle.read_settle.proofs.ChoiceLaws.{both-false, none-more, read-chooses-none}
 use Rattle.read_settle.proofs.read_may_settle.Statement.{statement}
 use Rattle.read_settle.proofs.read_may_settle.Tie as tie
 
 abbrev Inv-loop : tie.InvT-loop
 Inv-loop state t d found₀ e₀ found e =
-    (e ≤ 16) × (found ≡ false → readSettles false true (standingAt (transactionOf state t) d) ≡ false)
+    (e ≤ descriptorCount) × (found ≡ false → readSettles false true (standingAt (transactionOf state t) d) ≡ false)
     × (found ≡ false → (k : ℕ) → k < e → readSettles true false (standingAt (transactionOf state t) k) ≡ false)
 
 abbrev μ-loop : tie.MeasureT-loop
@@ -32,7 +33,7 @@ loop-again c =
     let as-asked : l .found || c .read-settles-at2 .result ≡ false → l .found || waits (l .e) ≡ false =
     λ f. ap (λ (b : Bool). l .found || b) (sym (c .read-settles-at2 .ensures)) ∙ f in (
       omega arith,
-      λ f. l .inv .1 (neither (l .found) (waits (l .e)) (as-asked f) .0),
+      λ f. l .inv .1 (both-false (l .found) (waits (l .e)) (as-asked f) .0),
       λ f. none-more waits (l .e) (l .found) (l .inv .2) (as-asked f),
     )
 

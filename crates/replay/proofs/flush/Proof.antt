@@ -15,7 +15,7 @@ part-requires-2 c κs =
 returns : tie.Need-returns
 returns c =
     record {
-      held = refl;
+      pending = refl;
       at = refl;
       waiting = refl;
       starts = refl;
@@ -28,7 +28,7 @@ returns c =
 returns-2 : tie.Need-returns-2
 returns-2 c =
     record {
-      held = refl;
+      pending = refl;
       at = refl;
       waiting = refl;
       starts = refl;

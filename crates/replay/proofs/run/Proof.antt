@@ -9,7 +9,7 @@ use native.Mathlib.Omega.{arith}
 use borrow.Author.Needs.{needs}
 use Rattle.buffers.specs.Parts.{cut}
 use Rattle.spec.specs.Promises.{machineOf}
-use Rattle.text_log.specs.Replay.{replaying, keptFirst}
+use Rattle.text_log.specs.Replay.{replaying, firstState}
 use Rattle.text_lines.specs.Programs.{within}
 use Rattle.text_lines.specs.WholeRun.{PiecesReach, LinesLead}
 use Rattle.text_lines.proofs.WholeRun.{reached-first, reached-more, goes-on}
@@ -25,10 +25,10 @@ Inv-loop state₀ files₀ logs₀ marks₀ undo₀ line₀ bytes₀ reader₀ i
     input out p turns =
     PiecesResting p × (length line ≡ 8238) × Rooms bytes reader out × (length input ≡ length input₀)
     × (0 < turns
-    → PiecesReach replaying (keptFirst (machineOf state₀ files₀ logs₀ marks₀ undo₀))
-    (within (replayStateIn p (machineOf state files logs marks undo) out) (take (p .held) line) []))
+    → PiecesReach replaying (firstState (machineOf state₀ files₀ logs₀ marks₀ undo₀))
+    (within (replayStateIn p (machineOf state files logs marks undo) out) (take (p .pending) line) []))
     × (p .complete ≡ true
-    → LinesLead replaying (keptFirst (machineOf state₀ files₀ logs₀ marks₀ undo₀))
+    → LinesLead replaying (firstState (machineOf state₀ files₀ logs₀ marks₀ undo₀))
     (replayStateIn p (machineOf state files logs marks undo) out))
 
 abbrev μ-loop : tie.MeasureT-loop
@@ -41,7 +41,7 @@ unfolding cut
 loop-holds c =
     let p = c .before .before .before .before .before .pre in
     let r = p .1 in (
-      record { held = omega arith; waiting = refl; answer = record { starts = omega arith; ends = omega arith } },
+      record { pending = omega arith; waiting = refl; answer = record { starts = omega arith; ends = omega arith } },
       p .0,
       record { written = r .written; readable = r .readable; printable = r .printable },
       refl,

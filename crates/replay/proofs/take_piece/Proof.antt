@@ -12,15 +12,16 @@ use Rattle.text_lines.proofs.Passing.{off, end-same, end-of}
 use Rattle.text_replay.specs.Bounds.{Rooms}
 use Rattle.text_replay.specs.Turns.{replayStateIn}
 use Rattle.text_replay_pieces.specs.Bounds.{PiecesResting}
-use Rattle.replay.proofs.Laws.{kept-flushed, rests}
+use Rattle.replay.proofs.Laws.{preserved-flushed, rests}
 use Rattle.replay.proofs.take_piece.Statement.{statement}
 use Rattle.replay.proofs.take_piece.Tie as tie
 
 abbrev Inv-loop : tie.InvT-loop
 Inv-loop p₀ state₀ files₀ logs₀ marks₀ undo₀ line₀ bytes₀ reader₀ piece out₀ p state files logs marks undo line bytes reader out =
     PiecesResting p × (p .at ≤ length piece) × (length line ≡ 8238) × Rooms bytes reader out
-    × (atEnd replaying (within (replayStateIn p₀ (machineOf state₀ files₀ logs₀ marks₀ undo₀) out₀) (take (p₀ .held) line₀) piece)
-    ≡ atEnd replaying (within (replayStateIn p (machineOf state files logs marks undo) out) (take (p .held) line)
+    × (atEnd replaying (within (replayStateIn p₀ (machineOf state₀ files₀ logs₀ marks₀ undo₀) out₀)
+    (take (p₀ .pending) line₀) piece)
+    ≡ atEnd replaying (within (replayStateIn p (machineOf state files logs marks undo) out) (take (p .pending) line)
     (drop (p .at) piece)))
 
 abbrev μ-loop : tie.MeasureT-loop
@@ -32,7 +33,7 @@ loop-holds c =
     let p = c .before .before .before .before .before .pre in
     let a = p .0 .answer in
     let r = p .1 .1 in (
-      record { held = p .0 .held; waiting = p .0 .waiting; answer = record { starts = a .starts; ends = a .ends } },
+      record { pending = p .0 .pending; waiting = p .0 .waiting; answer = record { starts = a .starts; ends = a .ends } },
       omega arith,
       p .1 .0,
       record { written = r .written; readable = r .readable; printable = r .printable },
@@ -45,7 +46,7 @@ replay-piece-requires c κs =
     let i = tested .before .before .loop .inv in
     let a = i .0 .answer in
     let r = i .3 in (
-      record { held = i .0 .held; waiting = i .0 .waiting; answer = record { starts = a .starts; ends = a .ends } },
+      record { pending = i .0 .pending; waiting = i .0 .waiting; answer = record { starts = a .starts; ends = a .ends } },
       (tested .if1 .taken, (i .2, record { written = r .written; readable = r .readable; printable = r .printable })),
     )
 
@@ -93,7 +94,7 @@ returns c =
     let went = wrote .before .before .before .before .before .before .before .before .before .before in
     let stops = off _ (c .if2 .taken) in
     let e = went .replay-piece .ensures in
-    (rests _ _ (wrote .flush .ensures) (e .1 .held) (e .1 .answer), λ e. absurd (false≢true (sym stops ∙ e)))
+    (rests _ _ (wrote .flush .ensures) (e .1 .pending) (e .1 .answer), λ e. absurd (false≢true (sym stops ∙ e)))
 
 loop-less : tie.Need-loop-less Inv-loop μ-loop
 loop-less c =
@@ -110,7 +111,7 @@ loop-again c =
     let f = wrote .flush .ensures in
     let e = went .replay-piece .ensures in
     let k = went .replay-piece .kept in (
-      rests _ _ f (e .1 .held) (e .1 .answer),
+      rests _ _ f (e .1 .pending) (e .1 .answer),
       omega (arith, f .at, e .1 .inside),
       omega (arith, i .2, k),
       record {
@@ -118,7 +119,7 @@ loop-again c =
         readable = omega (arith, i .3 .readable, k);
         printable = omega (arith, i .3 .printable, k);
       },
-      i .4 ∙ e .0 .reaches ∙ end-same replaying _ _ _ _ _ _ _ _ (kept-flushed _ _ _ _ f) (f .held) (f .at),
+      i .4 ∙ e .0 .reaches ∙ end-same replaying _ _ _ _ _ _ _ _ (preserved-flushed _ _ _ _ f) (f .pending) (f .at),
     )
 
 same-length-5 : tie.Need-same-length-5 Inv-loop μ-loop

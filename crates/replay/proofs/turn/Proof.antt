@@ -13,17 +13,17 @@ take-piece-requires c κs =
     let p = tested .before .before .before .before .before .before .before .before .before .before .pre in
     let a = p .0 .answer in
     let r = p .1 .1 .0 in (
-      record { held = p .0 .held; waiting = p .0 .waiting; answer = record { starts = a .starts; ends = a .ends } },
+      record { pending = p .0 .pending; waiting = p .0 .waiting; answer = record { starts = a .starts; ends = a .ends } },
       (p .1 .0, record { written = r .written; readable = r .readable; printable = r .printable }),
     )
 
-last-line-requires : tie.Need-last-line-requires
-last-line-requires c κs =
+replay-last-line-requires : tie.Need-replay-last-line-requires
+replay-last-line-requires c κs =
     let tested = c .before .before .before .before .before .before .before .before .before .before in
     let p = tested .before .before .before .before .before .before .before .before .before .before .pre in
     let a = p .0 .answer in
     let r = p .1 .1 .0 in (
-      record { held = p .0 .held; waiting = p .0 .waiting; answer = record { starts = a .starts; ends = a .ends } },
+      record { pending = p .0 .pending; waiting = p .0 .waiting; answer = record { starts = a .starts; ends = a .ends } },
       (p .1 .0, record { written = r .written; readable = r .readable; printable = r .printable }),
     )
 
@@ -46,7 +46,7 @@ flush-requires c κs =
     let ending = c .before .before .before .before .before .before .before in
     let tested = ending .before .before .before .before .before .before .before .before .before .before .before in
     let start = tested .before .before .before .before .before .before .before .before .before .before in
-    omega (arith, ending .last-line .ensures .1 .waiting, start .pre .1 .1 .0 .printable, ending .last-line .kept)
+    omega (arith, ending .replay-last-line .ensures .1 .waiting, start .pre .1 .1 .0 .printable, ending .replay-last-line .kept)
 
 returns : tie.Need-returns
 returns c =
@@ -55,7 +55,7 @@ returns c =
     let q = taking .take-piece .result in
     let t = taking .take-piece .ensures in
     let a = t .0 .answer in (
-      record { held = t .0 .held; waiting = t .0 .waiting; answer = record { starts = a .starts; ends = a .ends } },
+      record { pending = t .0 .pending; waiting = t .0 .waiting; answer = record { starts = a .starts; ends = a .ends } },
       λ e. (counted .count .result, t .1 (both (q .goes) (not (q .ended)) e .0)),
       λ e.
           let b = both (q .goes) (q .ended) e in
@@ -69,10 +69,10 @@ returns-2 c =
     let tested = ending .before .before .before .before .before .before .before .before .before .before .before in
     let start = tested .before .before .before .before .before .before .before .before .before .before in
     let f = wrote .flush .ensures in
-    let l = ending .last-line .ensures in
-    let r = rests _ _ f (omega (arith, l .1 .held, start .pre .0 .held)) (l .1 .answer) in
+    let l = ending .replay-last-line .ensures in
+    let r = rests _ _ f (omega (arith, l .1 .pending, start .pre .0 .pending)) (l .1 .answer) in
     let a = r .answer in (
-      record { held = r .held; waiting = r .waiting; answer = record { starts = a .starts; ends = a .ends } },
+      record { pending = r .pending; waiting = r .waiting; answer = record { starts = a .starts; ends = a .ends } },
       λ e. absurd (false≢true e),
       λ e. (0, input-ends _ _ _ _ _ refl (answered-flushed _ _ _ _ _ _ _ f (l .0))),
     )
@@ -82,7 +82,7 @@ returns-3 c =
     let start = c .before .before .before .before .before .before .before .before .before .before .before .before in
     let p = start .pre .0 in
     let a = p .answer in (
-      record { held = p .held; waiting = p .waiting; answer = record { starts = a .starts; ends = a .ends } },
+      record { pending = p .pending; waiting = p .waiting; answer = record { starts = a .starts; ends = a .ends } },
       λ e. absurd (false≢true e),
       λ e. absurd (false≢true e),
     )
@@ -102,7 +102,7 @@ turn-spec =
     same-length-4
     (λ c. search needs)
     returns
-    last-line-requires
+    replay-last-line-requires
     flush-requires
     (λ c. search needs)
     (λ c. search needs)

@@ -1,6 +1,7 @@
 -- The abstract store, which has no buffers, for the proof of serializability: committed values, windows, and for each open
 -- transaction what it is, the bytes and the lengths that it has sighted, and whether it is stale. Nothing here has to be
 -- believed: the store's rules are shown equal to it, and it to the reference model.
+use Rattle.limits.specs.Limits.{lastTransaction}
 use Rattle.windows.specs.Windows.{minuteIn, window, Windows}
 use Rattle.spec.specs.Places.{placesOf}
 use mathlib.Core.Bool.{Bool, true, false, cond, not, _&&_, _||_}
@@ -22,7 +23,7 @@ use Rattle.spec.specs.Steps.{Stepped, refuse, accept, step, refusedStale
 use Rattle.spec.specs.Commits.{Setting, settings, fits, landed, commitRefusal}
 use Rattle.spec.specs.Messages.{Call, begin, on, commit, abort, Reply}
 
-pub record UndoSaved : Type 0 where
+pub record OpenTxn : Type 0 where
   pub txn : Txn
   pub marked : ℕ → Bool
   pub lengths : ℕ → Bool
@@ -30,7 +31,7 @@ pub record UndoSaved : Type 0 where
 
 pub data Seat : Type 0 where
   vacant : Seat
-  held : UndoSaved → Seat
+  occupied : OpenTxn → Seat
 
 -- 02, F-13: the values that the last grant found, as long as it can be undone.
 pub data Saved : Type 0 where
@@ -48,7 +49,7 @@ unfoldable pub startAbstract : (ℕ → ℕ) → Values → Windows → Saved �
 startAbstract fileOf v windows back = record { fileOf = fileOf; value = v; windows = windows; back = back; seats = λ t. vacant }
 
 -- A byte is sighted where it is marked, an offset where its descriptor stands Known, and a length where its bit is set.
-unfoldable pub abstractSighted : UndoSaved → Item → Bool
+unfoldable pub abstractSighted : OpenTxn → Item → Bool
 abstractSighted h (byte q) = h .marked q
 abstractSighted h (offset d) = isKnown (h .txn .standing d)
 abstractSighted h (fileLength f) = h .lengths f
@@ -58,7 +59,7 @@ unfoldable pub among : Item → List Item → Bool
 among i [] = false
 among i (j ∷ js) = same i j || among i js
 
-unfoldable pub hit : List Setting → UndoSaved → Bool
+unfoldable pub hit : List Setting → OpenTxn → Bool
 hit [] h = false
 hit (s ∷ ss) h = abstractSighted h (s .item) || hit ss h
 
@@ -78,45 +79,45 @@ pub record AbstractTurn : Type 0 where
   pub reply : Reply
   pub after : Abstract
 
-unfoldable pub turnedAway : ℕ → List ℕ → Abstract → AbstractTurn
-turnedAway n buffer s = record { reply = record { answer = refused n; buffer = buffer }; after = s }
+unfoldable pub abstractRefuse : ℕ → List ℕ → Abstract → AbstractTurn
+abstractRefuse n buffer s = record { reply = record { answer = refused n; buffer = buffer }; after = s }
 
 unfoldable pub withSeat : ℕ → Seat → Abstract → Abstract
 withSeat t x s = record { fileOf = s .fileOf; value = s .value; windows = s .windows; back = s .back; seats = put t x (s .seats) }
 
-unfoldable pub telling : Said → Abstract → AbstractTurn
-telling a s = record { reply = record { answer = a; buffer = [] }; after = s }
+unfoldable pub abstractAnswer : Said → Abstract → AbstractTurn
+abstractAnswer a s = record { reply = record { answer = a; buffer = [] }; after = s }
 
 unfoldable pub abstractBegin : ℕ → Seat → Abstract → AbstractTurn
-abstractBegin t vacant s = telling doneAnswer
-    (withSeat t (held (record { txn = empty; marked = λ q. false; lengths = λ f. false; stale = false })) s)
-abstractBegin t (held h) s = turnedAway 5 [] s
+abstractBegin t vacant s = abstractAnswer doneAnswer
+    (withSeat t (occupied (record { txn = empty; marked = λ q. false; lengths = λ f. false; stale = false })) s)
+abstractBegin t (occupied h) s = abstractRefuse 5 [] s
 
-unfoldable pub abstractStepped : ℕ → Op → UndoSaved → List Item → Abstract → Stepped → AbstractTurn
-abstractStepped t o h is s (refuse n) = turnedAway n (bufferOf o) s
+unfoldable pub abstractStepped : ℕ → Op → OpenTxn → List Item → Abstract → Stepped → AbstractTurn
+abstractStepped t o h is s (refuse n) = abstractRefuse n (bufferOf o) s
 abstractStepped t o h is s (accept y answer buffer) =
     record {
       reply = record { answer = answer; buffer = buffer };
       after =
           withSeat t
-          (held (record { txn = y; marked = markAll is (h .marked); lengths = lengthAll is (h .lengths); stale = h .stale }))
+          (occupied (record { txn = y; marked = markAll is (h .marked); lengths = lengthAll is (h .lengths); stale = h .stale }))
           s;
     }
 
 unfoldable pub abstractOn : ℕ → Op → Seat → Abstract → AbstractTurn
-abstractOn t o vacant s = turnedAway 4 (bufferOf o) s
-abstractOn t o (held h) s =
+abstractOn t o vacant s = abstractRefuse 4 (bufferOf o) s
+abstractOn t o (occupied h) s =
     abstractStepped t o h (asked (s .value) (step (s .fileOf) o (h .txn))) s
     (refusedStale (h .stale) o (result (s .value) (step (s .fileOf) o (h .txn))))
 
 -- Another open transaction after a commit of those settings.
 unfoldable pub touch : List Setting → Seat → Seat
 touch ss vacant = vacant
-touch ss (held h) = held (record { txn = h .txn; marked = h .marked; lengths = h .lengths; stale = h .stale || hit ss h })
+touch ss (occupied h) = occupied (record { txn = h .txn; marked = h .marked; lengths = h .lengths; stale = h .stale || hit ss h })
 
 unfoldable pub newlyStale : List Setting → Seat → Bool
 newlyStale ss vacant = false
-newlyStale ss (held h) = not (h .stale) && hit ss h
+newlyStale ss (occupied h) = not (h .stale) && hit ss h
 
 -- Transaction t ends with these settings; every other open one that has sighted one of them is stale.
 unfoldable pub granting : ℕ → List Setting → Abstract → AbstractTurn
@@ -133,7 +134,7 @@ granting t ss s =
       };
     }
 
-unfoldable pub abstractCommitted : ℕ → UndoSaved → Abstract → ℕ → AbstractTurn
+unfoldable pub abstractCommitted : ℕ → OpenTxn → Abstract → ℕ → AbstractTurn
 abstractCommitted t h s zero = granting t (settings (s .fileOf) (s .value) (h .txn)) s
 abstractCommitted t h s (suc n) =
     record {
@@ -142,19 +143,19 @@ abstractCommitted t h s (suc n) =
     }
 
 unfoldable pub abstractCommit : ℕ → ℕ → Seat → Abstract → AbstractTurn
-abstractCommit t minute vacant s = turnedAway 4 [] s
-abstractCommit t minute (held h) s =
+abstractCommit t minute vacant s = abstractRefuse 4 [] s
+abstractCommit t minute (occupied h) s =
     abstractCommitted t h s
     (commitRefusal (minuteIn minute) (h .stale) (forClosed (s .fileOf) (s .windows) minute (h .txn .writes))
     (fits (s .value) (h .txn)))
 
 unfoldable pub abstractAbort : ℕ → Seat → Abstract → AbstractTurn
-abstractAbort t vacant s = turnedAway 4 [] s
-abstractAbort t (held h) s = telling doneAnswer (withSeat t vacant s)
+abstractAbort t vacant s = abstractRefuse 4 [] s
+abstractAbort t (occupied h) s = abstractAnswer doneAnswer (withSeat t vacant s)
 
 unfoldable pub abstractPlaces : ℕ → List ℕ → Seat → Abstract → AbstractTurn
-abstractPlaces f out vacant s = turnedAway 4 out s
-abstractPlaces f out (held h) s = record { reply = placesOf (s .fileOf) f out (h .txn); after = s }
+abstractPlaces f out vacant s = abstractRefuse 4 out s
+abstractPlaces f out (occupied h) s = record { reply = placesOf (s .fileOf) f out (h .txn); after = s }
 
 -- With another window for file f.
 unfoldable pub windowed : ℕ → ℕ → ℕ → Abstract → Abstract
@@ -170,27 +171,27 @@ windowed f start end s =
 unfoldable pub abstractWindow : ℕ → ℕ → ℕ → Abstract → AbstractTurn
 abstractWindow f start end s =
     let n = windowRefusal f start end in
-    guarded (λ k. turnedAway k [] s) (isNone n) n (telling doneAnswer (windowed f start end s))
+    guarded (λ k. abstractRefuse k [] s) (isNone n) n (abstractAnswer doneAnswer (windowed f start end s))
 
-unfoldable pub isHeld : Seat → Bool
-isHeld vacant = false
-isHeld (held h) = true
+unfoldable pub isOccupied : Seat → Bool
+isOccupied vacant = false
+isOccupied (occupied h) = true
 
-unfoldable pub noneHeld : Abstract → Bool
-noneHeld s = below (λ t. not (isHeld (s .seats t))) 8
+unfoldable pub noneOccupied : Abstract → Bool
+noneOccupied s = below (λ t. not (isOccupied (s .seats t))) 8
 
 unfoldable pub returned : Values → Abstract → Abstract
 returned v s = record { fileOf = s .fileOf; value = v; windows = s .windows; back = none; seats = s .seats }
 
 unfoldable pub abstractReturn : Saved → Abstract → AbstractTurn
-abstractReturn none s = turnedAway 24 [] s
-abstractReturn (preserved v) s = telling doneAnswer (returned v s)
+abstractReturn none s = abstractRefuse 24 [] s
+abstractReturn (preserved v) s = abstractAnswer doneAnswer (returned v s)
 
 unfoldable pub abstractUndo : Abstract → AbstractTurn
-abstractUndo s = guarded (λ k. turnedAway k [] s) (noneHeld s) 23 (abstractReturn (s .back) s)
+abstractUndo s = guarded (λ k. abstractRefuse k [] s) (noneOccupied s) 23 (abstractReturn (s .back) s)
 
 unfoldable pub seated : ℕ → List ℕ → (Seat → Abstract → AbstractTurn) → Abstract → AbstractTurn
-seated t buffer next s = cond (leb t 7) (next (s .seats t) s) (turnedAway 3 buffer s)
+seated t buffer next s = cond (leb t lastTransaction) (next (s .seats t) s) (abstractRefuse 3 buffer s)
 
 abbrev pub abstractCommitCall : ℕ → ℕ → Abstract → AbstractTurn
 abstractCommitCall t minute s = seated t [] (abstractCommit t minute) s
@@ -198,16 +199,16 @@ abstractCommitCall t minute s = seated t [] (abstractCommit t minute) s
 -- 02, F-14: what it is asked.
 unfoldable pub staleSeat : Seat → Bool
 staleSeat vacant = false
-staleSeat (held h) = h .stale
+staleSeat (occupied h) = h .stale
 
 unfoldable pub writesSeat : Seat → List Write
 writesSeat vacant = []
-writesSeat (held h) = h .txn .writes
+writesSeat (occupied h) = h .txn .writes
 
 unfoldable pub abstractAsked : ℕ → Abstract → Asked
 abstractAsked minute s =
     record {
-      isOpen = λ t. isHeld (s .seats t);
+      isOpen = λ t. isOccupied (s .seats t);
       notReady = λ t. staleSeat (s .seats t) || hasUnplaced (writesSeat (s .seats t));
       hasClosed = λ t. forClosed (s .fileOf) (s .windows) minute (writesSeat (s .seats t));
       grants = λ o. grantsIn (λ t x. abstractCommitCall t minute x .reply) (λ t x. abstractCommitCall t minute x .after) o s;

@@ -49,7 +49,7 @@ module _ (t minute : ℕ) (r : Running) (p : Plain) where
 
   -- The turn of a Commit of an open transaction.
   pub commit-turn :
-      leb t 7 ≡ true
+      leb t lastTransaction ≡ true
       → p .slots t ≡ running r
       → plainCall (commit t minute) p ≡ plainCommitted t r p
       (commitRefusal (minuteIn minute) (isStale p r) closedTo (fits (p .committed .value) (r .txn)))
@@ -82,7 +82,8 @@ module _ (t minute : ℕ) (r : Running) (p : Plain) where
 
   -- A Commit of an open transaction that is not refused with 22 is made at a minute of the day.
   pub daily-commit :
-      leb t 7 ≡ true → p .slots t ≡ running r → (plainCall (commit t minute) p .reply .answer ≡ refused 22 → ⊥) → minuteIn minute
+      leb t lastTransaction ≡ true → p .slots t ≡ running r → (plainCall (commit t minute) p .reply .answer ≡ refused 22 → ⊥)
+      → minuteIn minute
       ≡ true
   daily-commit l o h = chosen (minuteIn minute) refl
     where
@@ -93,7 +94,7 @@ module _ (t minute : ℕ) (r : Running) (p : Plain) where
           ∙ answer-22 (minuteIn minute) (isStale p r) closedTo (fits (p .committed .value) (r .txn)) e))
 
   stale-answer :
-      leb t 7 ≡ true → p .slots t ≡ running r → minuteIn minute ≡ true → isStale p r ≡ true
+      leb t lastTransaction ≡ true → p .slots t ≡ running r → minuteIn minute ≡ true → isStale p r ≡ true
       → plainCall (commit t minute) p .reply .answer ≡ refused 13
   stale-answer l o d e =
       ap (λ (τ : PlainTurn). τ .reply .answer) (commit-turn l o)

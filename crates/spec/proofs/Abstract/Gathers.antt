@@ -5,6 +5,7 @@ use mathlib.Core.Path.{_≡_, refl, ap, _∙_}
 use lib.Dec.{ltb}
 use lib.ListN.{length}
 use Prim.Native.Nat.{ℕ, zero, suc, _+_, _-_, _*_, min}
+use Rattle.limits.specs.Limits.{fileBytes}
 use Rattle.spec.specs.Items.{Item, fileLength, Values, done, andThen, result, asked}
 use Rattle.spec.specs.Transactions.{Write}
 use Rattle.spec.specs.Reading.{bring, latest, fetch, lengthFor, lengthSighted, gather}
@@ -23,23 +24,24 @@ module _ (v : Values) (f : ℕ) where
 
 module _ (fileOf : ℕ → ℕ) (ws : List Write) (f p n : ℕ) (v : Values) where
   -- How many bytes a Read gives.
-  abbrev pub count : ℕ
-  count = min n (lengthFor fileOf f ws (v (fileLength f)) - p)
+  abbrev pub gatheredCount : ℕ
+  gatheredCount = min n (lengthFor fileOf f ws (v (fileLength f)) - p)
 
   pub record Gathers : Type 0 where
-    pub bytes : result v (gather fileOf ws f p n) ≡ result v (fetch fileOf ws f p count)
-    pub sightings : asked v (gather fileOf ws f p n) ≡ asked v (fetch fileOf ws f p count)
-        ++ cond (ltb count n) (fileLength f ∷ []) []
+    pub bytes : result v (gather fileOf ws f p n) ≡ result v (fetch fileOf ws f p gatheredCount)
+    pub sightings : asked v (gather fileOf ws f p n) ≡ asked v (fetch fileOf ws f p gatheredCount)
+        ++ cond (ltb gatheredCount n) (fileLength f ∷ []) []
 
   pub read-stops : Gathers
   unfolding gather result asked
   read-stops =
-      let fetched = fetch fileOf ws f p count in
+      let fetched = fetch fileOf ws f p gatheredCount in
       record {
-        bytes = result-andThen v fetched (lengthSighted (ltb count n) f) ∙ sighted-result v f (ltb count n) (result v fetched);
+        bytes = result-andThen v fetched (lengthSighted (ltb gatheredCount n) f)
+            ∙ sighted-result v f (ltb gatheredCount n) (result v fetched);
         sightings =
-            asked-andThen v fetched (lengthSighted (ltb count n) f)
-            ∙ ap (λ (l : List Item). asked v fetched ++ l) (sighted-asked v f (ltb count n) (result v fetched));
+            asked-andThen v fetched (lengthSighted (ltb gatheredCount n) f)
+            ∙ ap (λ (l : List Item). asked v fetched ++ l) (sighted-asked v f (ltb gatheredCount n) (result v fetched));
       }
 
 -- A fetch brings as many bytes as are asked for.
@@ -48,7 +50,7 @@ pub length-fetch : (fileOf : ℕ → ℕ) (ws : List Write) (f : ℕ) (v : Value
 unfolding fetch result
 length-fetch fileOf ws f v p zero = refl
 length-fetch fileOf ws f v p (suc n) =
-    let one = bring (latest fileOf f p ws) (4096 * f + p) in
+    let one = bring (latest fileOf f p ws) (fileBytes * f + p) in
     let rest = fetch fileOf ws f (suc p) n in
     ap length
     (result-andThen v one (λ b. andThen rest (λ bs. done (b ∷ bs))) ∙ result-andThen v rest (λ bs. done (result v one ∷ bs)))

@@ -6,6 +6,7 @@ use borrow.Author.Tests.{eqb-true}
 use lib.Dec.{eqb, leb, ltb}
 use lib.ListN.{length}
 use Prim.Native.Nat.{ℕ, zero, suc, _+_, _-_, _*_, min}
+use Rattle.limits.specs.Limits.{fileBytes}
 use Rattle.standings.specs.declared.Standing.{Standing}
 use Rattle.standings.specs.declared.Standing.the-variants.{Untouched, Placed, Deferred, Moved, Known}
 use Rattle.state.specs.Outcomes.{Said}
@@ -137,7 +138,7 @@ settling-known v [] x y h e d =
     ap (λ (z : Txn). isKnown (z .standing d)) q ∙ sym (or-false (isKnown (x .standing d)))
 settling-known v (d ∷ ds) x y h e k =
     chosen (settling-known v ds next y (settle-each d (v (offset d)) x ds (h .0) (h .1)))
-    (leb (v (offset d) + advance (x .standing d)) 4096) e
+    (leb (v (offset d) + advance (x .standing d)) fileBytes) e
   where
     next : Txn
     next = settle d (v (offset d)) x
@@ -165,8 +166,8 @@ fetch-among : (v : Values) (d : ℕ) (fileOf : ℕ → ℕ) (ws : List Write) (f
 unfolding fetch asked among
 fetch-among v d fileOf ws f p zero = refl
 fetch-among v d fileOf ws f p (suc n) =
-    none-andThen v (offset d) (bring (latest fileOf f p ws) (4096 * f + p)) _
-    (bring-among v d (latest fileOf f p ws) (4096 * f + p))
+    none-andThen v (offset d) (bring (latest fileOf f p ws) (fileBytes * f + p)) _
+    (bring-among v d (latest fileOf f p ws) (fileBytes * f + p))
     (λ b. none-andThen v (offset d) (fetch fileOf ws f (suc p) n) _ (fetch-among v d fileOf ws f (suc p) n) (λ bs. refl))
 
 -- Nor is a length.

@@ -8,7 +8,7 @@ use lib.Dec.{ltb, eqb}
 use native.Mathlib.Nat.{eq-or-lt-of-le, le-of-suc-le-suc, not-suc-le-zero}
 use native.Mathlib.Omega.{arith}
 use Prim.Native.Nat.{ℕ, zero, suc, _+_, _*_, _≤_, _<_}
-use Rattle.limits.specs.Limits.{fileCount}
+use Rattle.limits.specs.Limits.{fileCount, fileBytes}
 use Rattle.spec.specs.Items.{Item, byte, offset, fileLength, same, Values}
 use Rattle.standings.specs.Table.{finalOffset}
 use Rattle.spec.specs.Transactions.{Txn, Write}
@@ -56,7 +56,7 @@ module _ (fileOf : ℕ → ℕ) (v : Values) where
   unfolding byteSettings
   growing-bytes [] = tt
   growing-bytes (w ∷ ws) =
-      let q = 4096 * fileOf (w .descriptor) + landsAt (v (offset (w .descriptor))) (w .place) in
+      let q = fileBytes * fileOf (w .descriptor) + landsAt (v (offset (w .descriptor))) (w .place) in
       growing-append (bytesFrom q (w .bytes)) (byteSettings fileOf v ws) (growing-interval q (w .bytes)) (growing-bytes ws)
 
   growing-offsets : (x : Txn) (n : ℕ) → Growing v (offsetSettings v x n)

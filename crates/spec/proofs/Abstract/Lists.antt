@@ -11,7 +11,7 @@ use Rattle.spec.specs.Items.{Item, byte, offset, fileLength, same, Value
 use Rattle.spec.specs.Transactions.{put}
 use Rattle.spec.specs.Commits.{Setting, putItem, landed, setBy}
 use Rattle.spec.specs.Sightings.{Entry, sameEntry, sameEntries, entries}
-use Rattle.spec.proofs.Abstract.AbstractStore.{UndoSaved, abstractSighted, among, hit, markAll, lengthAll}
+use Rattle.spec.proofs.Abstract.AbstractStore.{OpenTxn, abstractSighted, among, hit, markAll, lengthAll}
 use Rattle.spec.proofs.Abstract.Programs.{Every}
 
 -- A function with another value at one number.
@@ -203,7 +203,7 @@ anyTouched-more s ss (j ∷ js) =
     ap (λ (b : Bool). (same (s .item) j || touched ss j) || b) (anyTouched-more s ss js)
     ∙ or-swap (same (s .item) j) (touched ss j) (among (s .item) js) (anyTouched ss js)
 
-pub hit-is : (h : UndoSaved) (js : List Item) → ((i : Item) → abstractSighted h i ≡ among i js) → (ss : List Setting) → hit ss h
+pub hit-is : (h : OpenTxn) (js : List Item) → ((i : Item) → abstractSighted h i ≡ among i js) → (ss : List Setting) → hit ss h
     ≡ anyTouched ss js
 unfolding hit
 hit-is h js e [] = sym (anyTouched-none js)

@@ -5,7 +5,7 @@ use mathlib.Core.List.{List, map}
 use mathlib.Core.Path.{_≡_, refl, ap, _∙_, subst⁻¹}
 use lib.Dec.{leb}
 use Prim.Native.Nat.{ℕ}
-use Rattle.limits.specs.Limits.{lastDescriptor}
+use Rattle.limits.specs.Limits.{lastDescriptor, lastTransaction}
 use Rattle.spec.specs.Items.{done, result, asked}
 use Rattle.spec.specs.Transactions.{Txn, empty}
 use Rattle.spec.specs.Messages.{Op, seek, write, getFilePointer, read, bufferOf, on}
@@ -84,11 +84,11 @@ module _ (p : Plain) (g : Good p) (t : ℕ) (o : Op) (look : isReadCall o ≡ tr
       → IsAccepted (plainOn t o s p .reply) → OneMoment p t o (plainOn t o s p .reply)
   unfolding plainOn refuseTurn SoundSlot Claim
   slot-moment closed at sound a = absurd (a 4 refl)
-  slot-moment (running r) at sound a = open-moment r at sound (isStale p r) (leb (descriptorOfOp o) 15) refl refl a
+  slot-moment (running r) at sound a = open-moment r at sound (isStale p r) (leb (descriptorOfOp o) lastDescriptor) refl refl a
 
   pub plain-moment : IsAccepted (plainCall (on t o) p .reply) → OneMoment p t o (plainCall (on t o) p .reply)
   unfolding plainCall withNumber refuseTurn
-  plain-moment = chosen (leb t 7)
+  plain-moment = chosen (leb t lastTransaction)
     where
       chosen : (b : Bool) → let w = cond b (plainOn t o (p .slots t) p) (refuseTurn 3 (bufferOf o) p) in IsAccepted (w .reply)
           → OneMoment p t o (w .reply)

@@ -90,20 +90,21 @@ module _ (a b : Asked) (h : Agreed a b) (ts : List ℕ) (budget : ℕ) where
       (λ (best : Rated) (n : ℕ).
       record { answer = ordered (best .grants) (gapFor best n) (length (triedOf budget ts)); buffer = best .order })
       (ap (λ (f : List ℕ → ℕ). bestTried f budget ts) (h .grants))
-      (count-same (λ t. leb t 7 && a .isOpen t) (λ t. not (a .hasClosed t)) (λ t. not (b .hasClosed t))
+      (count-same (λ t. leb t lastTransaction && a .isOpen t) (λ t. not (a .hasClosed t)) (λ t. not (b .hasClosed t))
       (λ t k. ap not (h .hasClosed t k)) ts e)
 
   pub reply-same : (minute : ℕ) → orderReply a ts minute budget ≡ orderReply b ts minute budget
   unfolding orderReply orderReplied orderRefusal
   reply-same minute =
-      chosen (isList ts) (allIn (λ t. leb t 7) ts) (allIn (a .isOpen) ts) (allIn (b .isOpen) ts) (minuteIn minute)
-      (allIn (λ t. not (a .notReady t)) ts) (allIn (λ t. not (b .notReady t)) ts) (leb 1 budget && leb budget 40320) (expected a)
+      chosen (isList ts) (allIn (λ t. leb t lastTransaction) ts) (allIn (a .isOpen) ts) (allIn (b .isOpen) ts) (minuteIn minute)
+      (allIn (λ t. not (a .notReady t)) ts) (allIn (λ t. not (b .notReady t)) ts) (leb 1 budget && leb budget mostOrders)
+      (expected a)
       (expected b)
-      (λ e. all-same (λ t. leb t 7) (a .isOpen) (b .isOpen) (h .isOpen) ts e)
+      (λ e. all-same (λ t. leb t lastTransaction) (a .isOpen) (b .isOpen) (h .isOpen) ts e)
       (λ e f.
-      let k = all-both (λ t. leb t 7) (a .isOpen) ts e f in
+      let k = all-both (λ t. leb t lastTransaction) (a .isOpen) ts e f in
       let ready : allIn (λ t. not (a .notReady t)) ts ≡ allIn (λ t. not (b .notReady t)) ts =
-      all-same (λ t. leb t 7 && a .isOpen t) (λ t. not (a .notReady t)) (λ t. not (b .notReady t))
+      all-same (λ t. leb t lastTransaction && a .isOpen t) (λ t. not (a .notReady t)) (λ t. not (b .notReady t))
       (λ t j. ap not (h .notReady t j)) ts k in
       (ready, expected-same k))
 
@@ -120,9 +121,9 @@ pub passed : (a : Asked) (ts : List ℕ) (minute budget : ℕ) → orderRefusal 
 unfolding orderRefusal
 passed a ts minute budget e =
     let b = unless-zero (isList ts) 26 _ (omega arith) e in
-    let c = unless-zero (allIn (λ t. leb t 7) ts) 3 _ (omega arith) (b .1) in
+    let c = unless-zero (allIn (λ t. leb t lastTransaction) ts) 3 _ (omega arith) (b .1) in
     let d = unless-zero (allIn (a .isOpen) ts) 4 _ (omega arith) (c .1) in
     let f = unless-zero (minuteIn minute) 22 _ (omega arith) (d .1) in
     let g = unless-zero (allIn (λ t. not (a .notReady t)) ts) 25 _ (omega arith) (f .1) in
-    let k = unless-zero (leb 1 budget && leb budget 40320) 27 0 (omega arith) (g .1) in
+    let k = unless-zero (leb 1 budget && leb budget mostOrders) 27 0 (omega arith) (g .1) in
     record { list = b .0; numbers = c .0; isOpen = d .0; daily = f .0; ready = g .0; affordable = k .0 }

@@ -61,12 +61,12 @@ module _ (p : Plain) (g : Good p) where
 
   -- The number of an open transaction.
   pub open-number : (t : ℕ) (r : Running) → p .slots t ≡ running r → leb t lastTransaction ≡ true
-  open-number t r o = chosen (leb t 7) refl
+  open-number t r o = chosen (leb t lastTransaction) refl
     where
       chosen : (b : Bool) → leb t lastTransaction ≡ b → leb t lastTransaction ≡ true
       chosen true l = l
       chosen false l =
-          let c : closed ≡ running r = sym (g .above t (leb-false t 7 l)) ∙ o in
+          let c : closed ≡ running r = sym (g .above t (leb-false t lastTransaction l)) ∙ o in
           let z : _≡_ {A = ℕ} 0 1 = cc in
           absurd (omega arith)
 
@@ -77,7 +77,7 @@ module _ (p : Plain) (g : Good p) where
       record {
         setters = g .setters;
         sound = put-keeps t s (p .slots) (SoundSlot (p .fileOf) (p .committed) (p .grants)) h (g .sound);
-        above = λ u a. put-other t s (p .slots) u (λ e. omega (arith, leb-true t 7 l)) ∙ g .above u a;
+        above = λ u a. put-other t s (p .slots) u (λ e. omega (arith, leb-true t lastTransaction l)) ∙ g .above u a;
         earlier = g .earlier;
       }
 
@@ -102,7 +102,7 @@ module _ (p : Plain) (g : Good p) where
         sound =
             put-keeps t closed (p .slots) (SoundSlot (p .fileOf) after (p .grants + 1)) tt
             (λ u. sound-slot-granted r (p .slots u) (g .sound u));
-        above = λ u a. put-other t closed (p .slots) u (λ e. omega (arith, leb-true t 7 l)) ∙ g .above u a;
+        above = λ u a. put-other t closed (p .slots) u (λ e. omega (arith, leb-true t lastTransaction l)) ∙ g .above u a;
         earlier = g .setters;
       }
     where
@@ -117,7 +117,7 @@ module _ (p : Plain) (g : Good p) where
 
   good-stepped :
       (t : ℕ) (o : Op) (r : Running)
-      → leb t 7 ≡ true
+      → leb t lastTransaction ≡ true
       → SoundRun (p .fileOf) (p .committed) (p .grants) r
       → (s : Stepped)
       → result (p .committed .value) (step (p .fileOf) o (r .txn)) ≡ s
@@ -131,7 +131,7 @@ module _ (p : Plain) (g : Good p) where
 
   good-on :
       (t : ℕ) (o : Op)
-      → leb t 7 ≡ true
+      → leb t lastTransaction ≡ true
       → (s : Slot)
       → SoundSlot (p .fileOf) (p .committed) (p .grants) s
       → Good (plainOn t o s p .after)
@@ -167,10 +167,10 @@ module _ (p : Plain) (g : Good p) where
 
   good-numbered :
       (t : ℕ) (buffer : List ℕ) (next : Slot → Plain → PlainTurn)
-      → (leb t 7 ≡ true → Good (next (p .slots t) p .after))
+      → (leb t lastTransaction ≡ true → Good (next (p .slots t) p .after))
       → Good (withNumber t buffer next p .after)
   unfolding withNumber refuseTurn
-  good-numbered t buffer next h = chosen (leb t 7) h
+  good-numbered t buffer next h = chosen (leb t lastTransaction) h
     where
       chosen :
           (b : Bool)

@@ -46,7 +46,7 @@ EntriesAgree v = Every (λ (g : Sighting). v (g .item) ≡ g .value)
 -- still has that value.
 pub record Recent (c : Committed) (n : ℕ) (g : Sighting) : Type 0 where
   pub old : g .setter ≤ n
-  pub kept : c .setter (g .item) ≡ g .setter → c .value (g .item) ≡ g .value
+  pub unchanged : c .setter (g .item) ≡ g .setter → c .value (g .item) ≡ g .value
 
 -- What the machine recorded of a transaction, as a run in isolation on a state with those setters.
 unfoldable pub recorded-run : Running → Values → Lone
@@ -87,7 +87,7 @@ module _ (fileOf : ℕ → ℕ) (c : Committed) (n : ℕ) (r : Running) (s : Sou
   unfolding current entryOf
   agrees-now [] h e = tt
   agrees-now (g ∷ gs) h e = (
-    h .0 .kept (eqb-true (c .setter (g .item)) (g .setter)
+    h .0 .unchanged (eqb-true (c .setter (g .item)) (g .setter)
         (and-left (eqb (c .setter (g .item)) (g .setter)) (current (c .setter) (map entryOf gs)) e)),
     agrees-now gs (h .1) (and-right (eqb (c .setter (g .item)) (g .setter)) (current (c .setter) (map entryOf gs)) e),
   )
@@ -130,7 +130,7 @@ sightings-recent : (c : Committed) (n : ℕ) → ((i : Item) → c .setter i ≤
     → Every (Recent c n) (sightingsOf c is)
 unfolding sightingsOf
 sightings-recent c n h [] = tt
-sightings-recent c n h (i ∷ is) = (record { old = h i; kept = λ e. refl }, sightings-recent c n h is)
+sightings-recent c n h (i ∷ is) = (record { old = h i; unchanged = λ e. refl }, sightings-recent c n h is)
 
 -- Begin: nothing sighted yet.
 pub sound-begun : (fileOf : ℕ → ℕ) (c : Committed) (n : ℕ) → SoundRun fileOf c n (record { txn = empty; calls = []; seen = [] })
@@ -212,7 +212,7 @@ module _ (fileOf : ℕ → ℕ) (c : Committed) (n : ℕ) (r : Running) (s : Sou
   after-setting ss g h =
       record {
         old = omega (arith, h .old);
-        kept = λ e. preserved-at (touched ss (g .item)) refl (sym (setBy-at (n + 1) ss (c .setter) (g .item)) ∙ e);
+        unchanged = λ e. preserved-at (touched ss (g .item)) refl (sym (setBy-at (n + 1) ss (c .setter) (g .item)) ∙ e);
       }
     where
       preserved-at :
@@ -225,7 +225,7 @@ module _ (fileOf : ℕ → ℕ) (c : Committed) (n : ℕ) (r : Running) (s : Sou
           absurd (omega (arith, h .old))
       preserved-at false t e =
           landed-at ss (c .value) (g .item) t
-          ∙ h .kept (subst (λ (b : Bool). cond b (n + 1) (c .setter (g .item)) ≡ g .setter) t e)
+          ∙ h .unchanged (subst (λ (b : Bool). cond b (n + 1) (c .setter (g .item)) ≡ g .setter) t e)
 
   pub sound-granted : (x : Txn) → SoundRun fileOf (committing fileOf (n + 1) x c) (n + 1) r
   unfolding committing

@@ -5,6 +5,7 @@ use mathlib.Core.List.{List, [], _∷_, _++_}
 use mathlib.Core.Path.{_≡_, refl, sym, ap, ap₂, _∙_, fun-ext}
 use lib.Dec.{eqb, leb}
 use Prim.Native.Nat.{ℕ, zero, suc}
+use Rattle.limits.specs.Limits.{lastTransaction}
 use Rattle.windows.specs.Windows.{minuteIn, window, Windows}
 use Rattle.buffers.specs.Bits.{bitsOf}
 use Rattle.state.specs.Outcomes.{Said, doneAnswer, granted, refused}
@@ -29,11 +30,13 @@ use Rattle.spec.specs.Plain.{staleSlot, becameStale, plainCommitted, pla
 use Rattle.spec.specs.Plain.{plainCall}
 use Rattle.spec.specs.Plain.{plainAfter, plainReplies, plainPlaces, plainCommitCall, writesIn, plainAsked, plainBestOrder}
 use Rattle.spec.specs.LoneRuns.{lone}
-use Rattle.spec.proofs.Abstract.AbstractStore.{UndoSaved, Seat, vacant, held, Saved, none, preserved, isHeld, noneHeld}
+use Rattle.spec.proofs.Abstract.AbstractStore.{OpenTxn, Seat, vacant, occupied, Saved, none, preserved, isOccupied}
+use Rattle.spec.proofs.Abstract.AbstractStore.{noneOccupied}
 use Rattle.spec.proofs.Abstract.AbstractStore.{returned, abstractReturn}
 use Rattle.spec.proofs.Abstract.AbstractStore.{abstractUndo, Abstract, startAbstract, abstractSighted, among, hit, markAll}
 use Rattle.spec.proofs.Abstract.AbstractStore.{lengthAll, AbstractTurn}
-use Rattle.spec.proofs.Abstract.AbstractStore.{turnedAway, withSeat, telling, abstractBegin, abstractStepped, abstractOn}
+use Rattle.spec.proofs.Abstract.AbstractStore.{abstractRefuse, withSeat, abstractAnswer, abstractBegin, abstractStepped}
+use Rattle.spec.proofs.Abstract.AbstractStore.{abstractOn}
 use Rattle.spec.proofs.Abstract.AbstractStore.{touch, newlyStale}
 use Rattle.spec.proofs.Abstract.AbstractStore.{granting, abstractCommitted, abstractCommit, abstractAbort, windowed}
 use Rattle.spec.proofs.Abstract.AbstractStore.{abstractWindow, seated}
@@ -50,8 +53,8 @@ use Rattle.spec.proofs.Abstract.PlainInvariant.{SoundSlot, Good, all-cl
 use Rattle.spec.specs.Messages.{answerWith, refuseTurn}
 
 -- The store of a reference model: a byte is marked where it was sighted, and a transaction is stale where its two lists differ.
-unfoldable pub heldOf : Plain → Running → UndoSaved
-heldOf p r = record {
+unfoldable pub openTxnOf : Plain → Running → OpenTxn
+openTxnOf p r = record {
   txn = r .txn;
   marked = λ q. among (byte q) (items (r .seen));
   lengths = λ f. among (fileLength f)
@@ -61,7 +64,7 @@ heldOf p r = record {
 
 unfoldable pub seatOf : Plain → Slot → Seat
 seatOf p closed = vacant
-seatOf p (running r) = held (heldOf p r)
+seatOf p (running r) = occupied (openTxnOf p r)
 
 unfoldable pub backOf : Earlier → Saved
 backOf nothing = none
@@ -106,8 +109,8 @@ sighted-is :
     (p : Plain) (r : Running)
     → SoundRun (p .fileOf) (p .committed) (p .grants) r
     → (i : Item)
-    → abstractSighted (heldOf p r) i ≡ among i (items (r .seen))
-unfolding abstractSighted heldOf
+    → abstractSighted (openTxnOf p r) i ≡ among i (items (r .seen))
+unfolding abstractSighted openTxnOf
 sighted-is p r s (byte q) = refl
 sighted-is p r s (offset d) = s .known d
 sighted-is p r s (fileLength f) = refl
@@ -117,11 +120,11 @@ module _ (t : ℕ) (r : Running) (p : Plain) where
   stale-after :
       (q : Running)
       → SoundRun (p .fileOf) (p .committed) (p .grants) q
-      → (isStale p q || hit (settings (p .fileOf) (p .committed .value) (r .txn)) (heldOf p q)) ≡ isStale (grant t r p) q
+      → (isStale p q || hit (settings (p .fileOf) (p .committed .value) (r .txn)) (openTxnOf p q)) ≡ isStale (grant t r p) q
   unfolding grant committing withSlot
   stale-after q s =
       let ss = settings (p .fileOf) (p .committed .value) (r .txn) in
-      ap₂ (λ (a b : Bool). a || b) (stale-is p q s) (hit-is (heldOf p q) (items (q .seen)) (sighted-is p q s) ss)
+      ap₂ (λ (a b : Bool). a || b) (stale-is p q s) (hit-is (openTxnOf p q) (items (q .seen)) (sighted-is p q s) ss)
       ∙ moved (current (p .committed .setter) (q .seen)) (anyTouched ss (items (q .seen)))
       ∙ ap not (sym (current-after (p .grants) ss (p .committed .setter) (q .seen)
       (seen-old (p .fileOf) (p .committed) (p .grants) q s)))
@@ -136,10 +139,10 @@ module _ (t : ℕ) (r : Running) (p : Plain) where
       (s : Slot)
       → SoundSlot (p .fileOf) (p .committed) (p .grants) s
       → touch (settings (p .fileOf) (p .committed .value) (r .txn)) (seatOf p s) ≡ seatOf (grant t r p) s
-  unfolding touch seatOf SoundSlot heldOf
+  unfolding touch seatOf SoundSlot openTxnOf
   touch-is closed h = refl
   touch-is (running q) h =
-      ap (λ (b : Bool). held (record {
+      ap (λ (b : Bool). occupied (record {
         txn = q .txn;
         marked = λ k. among (byte k) (items (q .seen));
         lengths = λ f. among (fileLength f) (items (q .seen));
@@ -151,10 +154,11 @@ module _ (t : ℕ) (r : Running) (p : Plain) where
       → SoundSlot (p .fileOf) (p .committed) (p .grants) s
       → newlyStale (settings (p .fileOf) (p .committed .value) (r .txn)) (seatOf p s)
       ≡ (not (staleSlot p s) && staleSlot (grant t r p) s)
-  unfolding newlyStale seatOf SoundSlot staleSlot isStale heldOf
+  unfolding newlyStale seatOf SoundSlot staleSlot isStale openTxnOf
   newly-is closed h = refl
   newly-is (running q) h =
-      newly (sameEntries (firstList q) (secondList p q)) (hit (settings (p .fileOf) (p .committed .value) (r .txn)) (heldOf p q))
+      newly (sameEntries (firstList q) (secondList p q))
+      (hit (settings (p .fileOf) (p .committed .value) (r .txn)) (openTxnOf p q))
       ∙ ap (λ (b : Bool). not (not (sameEntries (firstList q) (secondList p q))) && b) (stale-after q h)
     where
       newly : (a b : Bool) → (not (not a) && b) ≡ (not (not a) && (not a || b))
@@ -178,7 +182,7 @@ module _ (t : ℕ) (r : Running) (p : Plain) where
 
 -- The store of a machine with another slot.
 seat-slot : (t : ℕ) (s : Slot) (p : Plain) (z : Slot) → seatOf p z ≡ seatOf (withSlot t s p) z
-unfolding seatOf heldOf isStale secondList withSlot
+unfolding seatOf openTxnOf isStale secondList withSlot
 seat-slot t s p closed = refl
 seat-slot t s p (running r) = refl
 
@@ -197,7 +201,8 @@ abs-slot t s p =
 -- Each call: what it gives on a slot, and on that slot's seat.
 module _ (p : Plain) (g : Good p) where
   same-begin : (t : ℕ) (s : Slot) → abstractBegin t (seatOf p s) (abs p) ≡ absTurn (plainBegin t s p)
-  unfolding abstractBegin seatOf plainBegin absTurn telling answerWith turnedAway refuseTurn heldOf items among isStale
+  unfolding abstractBegin seatOf plainBegin absTurn abstractAnswer answerWith abstractRefuse refuseTurn openTxnOf items among
+      isStale
       firstList
       secondList sameEntries lone ops
   same-begin t closed =
@@ -249,10 +254,10 @@ module _ (p : Plain) (g : Good p) where
       → SoundRun (p .fileOf) (p .committed) (p .grants) r
       → (s : Stepped)
       → result (p .committed .value) (step (p .fileOf) o (r .txn)) ≡ s
-      → abstractStepped t o (heldOf p r) (asked (p .committed .value) (step (p .fileOf) o (r .txn))) (abs p) s
+      → abstractStepped t o (openTxnOf p r) (asked (p .committed .value) (step (p .fileOf) o (r .txn))) (abs p) s
       ≡ absTurn (plainStepped t o r (entries (p .committed .setter) (asked (p .committed .value) (step (p .fileOf) o (r .txn)))) p
       s)
-  unfolding abstractStepped plainStepped absTurn turnedAway refuseTurn heldOf seatOf
+  unfolding abstractStepped plainStepped absTurn abstractRefuse refuseTurn openTxnOf seatOf
   same-stepped t o r h (refuse n) e = refl
   same-stepped t o r h (accept y answer buffer) e =
       let now = asked (p .committed .value) (step (p .fileOf) o (r .txn)) in
@@ -261,7 +266,7 @@ module _ (p : Plain) (g : Good p) where
       (λ (m l : ℕ → Bool).
       record {
         reply = reply;
-        after = withSeat t (held (record { txn = y; marked = m; lengths = l; stale = isStale p r })) (abs p);
+        after = withSeat t (occupied (record { txn = y; marked = m; lengths = l; stale = isStale p r })) (abs p);
       })
       (fun-ext (marked-more r now))
       (fun-ext (lengths-more r now))
@@ -271,7 +276,7 @@ module _ (p : Plain) (g : Good p) where
         reply = reply;
         after =
             withSeat t
-            (held
+            (occupied
             (record {
               txn = y;
               marked = λ q. among (byte q) (items (r .seen ++ entries (p .committed .setter) now));
@@ -288,13 +293,14 @@ module _ (p : Plain) (g : Good p) where
       (t : ℕ) (o : Op) (s : Slot)
       → SoundSlot (p .fileOf) (p .committed) (p .grants) s
       → abstractOn t o (seatOf p s) (abs p) ≡ absTurn (plainOn t o s p)
-  unfolding abstractOn plainOn seatOf abs turnedAway refuseTurn absTurn SoundSlot heldOf
+  unfolding abstractOn plainOn seatOf abs abstractRefuse refuseTurn absTurn SoundSlot openTxnOf
   same-on t o closed h = refl
   same-on t o (running r) h =
       let s = result (p .committed .value) (step (p .fileOf) o (r .txn)) in
       let is = asked (p .committed .value) (step (p .fileOf) o (r .txn)) in
       refused-stale
-      (λ z. abstractStepped t o (heldOf p r) is (abs p) z ≡ absTurn (plainStepped t o r (entries (p .committed .setter) is) p z))
+      (λ z. abstractStepped t o (openTxnOf p r) is (abs p) z ≡ absTurn
+      (plainStepped t o r (entries (p .committed .setter) is) p z))
       (isStale p r) o s (unfold abstractStepped plainStepped in refl) (λ e. same-stepped t o r h s refl)
 
   same-grant :
@@ -325,8 +331,8 @@ module _ (p : Plain) (g : Good p) where
       (fun-ext (λ u. ap (touch ss) (seats u) ∙ touch-is t r p (others u) (sound u)))
 
   same-committed :
-      (t : ℕ) (r : Running) (n : ℕ) → abstractCommitted t (heldOf p r) (abs p) n ≡ absTurn (plainCommitted t r p n)
-  unfolding abstractCommitted plainCommitted absTurn heldOf abs seatOf
+      (t : ℕ) (r : Running) (n : ℕ) → abstractCommitted t (openTxnOf p r) (abs p) n ≡ absTurn (plainCommitted t r p n)
+  unfolding abstractCommitted plainCommitted absTurn openTxnOf abs seatOf
   same-committed t r zero = same-grant t r
   same-committed t r (suc n) = ended (eqb (suc n) 13)
     where
@@ -342,7 +348,7 @@ module _ (p : Plain) (g : Good p) where
       ended false = refl
 
   same-commit : (t minute : ℕ) (s : Slot) → abstractCommit t minute (seatOf p s) (abs p) ≡ absTurn (plainCommit t minute s p)
-  unfolding abstractCommit plainCommit seatOf turnedAway refuseTurn absTurn heldOf abs
+  unfolding abstractCommit plainCommit seatOf abstractRefuse refuseTurn absTurn openTxnOf abs
   same-commit t minute closed = refl
   same-commit t minute (running r) =
       same-committed t r
@@ -350,24 +356,24 @@ module _ (p : Plain) (g : Good p) where
       (fits (p .committed .value) (r .txn)))
 
   same-abort : (t : ℕ) (s : Slot) → abstractAbort t (seatOf p s) (abs p) ≡ absTurn (plainAbort t s p)
-  unfolding abstractAbort plainAbort seatOf turnedAway refuseTurn absTurn telling answerWith
+  unfolding abstractAbort plainAbort seatOf abstractRefuse refuseTurn absTurn abstractAnswer answerWith
   same-abort t closed = refl
   same-abort t (running r) =
       ap (λ (a : Abstract). record { reply = record { answer = doneAnswer; buffer = [] }; after = a }) (abs-slot t closed p)
 
   same-places : (f : ℕ) (out : List ℕ) (s : Slot) → abstractPlaces f out (seatOf p s) (abs p) ≡ absTurn (plainPlaces f out s p)
-  unfolding abstractPlaces plainPlaces seatOf turnedAway refuseTurn absTurn heldOf abs
+  unfolding abstractPlaces plainPlaces seatOf abstractRefuse refuseTurn absTurn openTxnOf abs
   same-places f out closed = refl
   same-places f out (running r) = refl
 
   -- A window set makes nobody stale.
   same-window : (f start end : ℕ) → abstractWindow f start end (abs p) ≡ absTurn (plainSetWindow f start end p)
-  unfolding abstractWindow plainSetWindow absTurn turnedAway refuseTurn telling answerWith windowed abs
+  unfolding abstractWindow plainSetWindow absTurn abstractRefuse refuseTurn abstractAnswer answerWith windowed abs
   same-window f start end = chosen (windowRefusal f start end)
     where
       seat-windows : (ws : Windows) (s : Slot) → seatOf p s ≡ seatOf (plainWithWindows ws p) s
       seat-windows ws closed = unfold seatOf in refl
-      seat-windows ws (running r) = unfold seatOf heldOf isStale firstList secondList in refl
+      seat-windows ws (running r) = unfold seatOf openTxnOf isStale firstList secondList in refl
 
       ws : Windows
       ws = put f (window start end) (p .windows)
@@ -377,7 +383,7 @@ module _ (p : Plain) (g : Good p) where
 
       chosen :
           (n : ℕ)
-          → guarded (λ k. turnedAway k [] (abs p)) (isNone n) n (telling doneAnswer (windowed f start end (abs p)))
+          → guarded (λ k. abstractRefuse k [] (abs p)) (isNone n) n (abstractAnswer doneAnswer (windowed f start end (abs p)))
           ≡ absTurn (guarded (λ k. refuseTurn k [] p) (isNone n) n (answerWith doneAnswer (plainWithWindows ws p)))
       chosen zero =
           ap (λ (g : ℕ → Seat). record {
@@ -389,13 +395,13 @@ module _ (p : Plain) (g : Good p) where
       chosen (suc n) = refl
 
   -- Going back: nobody is open, so that nobody's lists matter.
-  none-is : noneHeld (abs p) ≡ noneRunning p
-  unfolding noneHeld noneRunning abs
-  none-is = ap (λ (f : ℕ → Bool). below f 8) (fun-ext (λ t. ap not (held-is (p .slots t))))
+  none-is : noneOccupied (abs p) ≡ noneRunning p
+  unfolding noneOccupied noneRunning abs
+  none-is = ap (λ (f : ℕ → Bool). below f 8) (fun-ext (λ t. ap not (occupied-is (p .slots t))))
     where
-      held-is : (s : Slot) → isHeld (seatOf p s) ≡ isRunning s
-      held-is closed = unfold seatOf isHeld isRunning in refl
-      held-is (running r) = unfold seatOf isHeld isRunning in refl
+      occupied-is : (s : Slot) → isOccupied (seatOf p s) ≡ isRunning s
+      occupied-is closed = unfold seatOf isOccupied isRunning in refl
+      occupied-is (running r) = unfold seatOf isOccupied isRunning in refl
 
   same-gone : (c : Committed) (n : ℕ) → noneRunning p ≡ true → returned (c .value) (abs p) ≡ abs (plainRestored c n p)
   unfolding returned abs backOf seatOf
@@ -407,32 +413,32 @@ module _ (p : Plain) (g : Good p) where
       seat-gone s q = ap (seatOf p) q ∙ (unfold seatOf in ap (seatOf (plainRestored c n p)) (sym q))
 
   same-return : (x : Earlier) → noneRunning p ≡ true → abstractReturn (backOf x) (abs p) ≡ absTurn (plainRestore x p)
-  unfolding abstractReturn backOf plainRestore absTurn turnedAway refuseTurn telling answerWith
+  unfolding abstractReturn backOf plainRestore absTurn abstractRefuse refuseTurn abstractAnswer answerWith
   same-return nothing e = refl
   same-return (found c n) e = ap (λ (a : Abstract). record { reply = record { answer = doneAnswer; buffer = [] }; after = a })
       (same-gone c n e)
 
   same-back : abstractUndo (abs p) ≡ absTurn (plainUndo p)
   unfolding abstractUndo plainUndo
-  same-back = ap (λ (b : Bool). guarded (λ k. turnedAway k [] (abs p)) b 23 (abstractReturn (abs p .back) (abs p))) none-is
+  same-back = ap (λ (b : Bool). guarded (λ k. abstractRefuse k [] (abs p)) b 23 (abstractReturn (abs p .back) (abs p))) none-is
       ∙ chosen (noneRunning p) refl
     where
       chosen : (b : Bool) → noneRunning p ≡ b
-          → guarded (λ k. turnedAway k [] (abs p)) b 23 (abstractReturn (abs p .back) (abs p))
+          → guarded (λ k. abstractRefuse k [] (abs p)) b 23 (abstractReturn (abs p .back) (abs p))
           ≡ absTurn (guarded (λ k. refuseTurn k [] p) b 23 (plainRestore (p .earlier) p))
       chosen true e = unfold abs in same-return (p .earlier) e
-      chosen false e = unfold absTurn turnedAway refuseTurn in refl
+      chosen false e = unfold absTurn abstractRefuse refuseTurn in refl
 
   same-numbered :
       (t : ℕ) (buffer : List ℕ) (first : Seat → Abstract → AbstractTurn) (second : Slot → Plain → PlainTurn)
       → first (seatOf p (p .slots t)) (abs p) ≡ absTurn (second (p .slots t) p)
       → seated t buffer first (abs p) ≡ absTurn (withNumber t buffer second p)
-  unfolding seated withNumber abs absTurn turnedAway refuseTurn
-  same-numbered t buffer first second h = chosen (leb t 7)
+  unfolding seated withNumber abs absTurn abstractRefuse refuseTurn
+  same-numbered t buffer first second h = chosen (leb t lastTransaction)
     where
       chosen :
           (b : Bool)
-          → cond b (first (seatOf p (p .slots t)) (abs p)) (turnedAway 3 buffer (abs p))
+          → cond b (first (seatOf p (p .slots t)) (abs p)) (abstractRefuse 3 buffer (abs p))
           ≡ absTurn (cond b (second (p .slots t) p) (refuseTurn 3 buffer p))
       chosen true = h
       chosen false = refl
@@ -470,17 +476,17 @@ module _ (minute : ℕ) where
             (g, refl));
       }
     where
-      opened : (s : Slot) → isHeld (seatOf p s) ≡ isRunning s
-      opened closed = unfold seatOf isHeld isRunning in refl
-      opened (running r) = unfold seatOf isHeld isRunning in refl
+      opened : (s : Slot) → isOccupied (seatOf p s) ≡ isRunning s
+      opened closed = unfold seatOf isOccupied isRunning in refl
+      opened (running r) = unfold seatOf isOccupied isRunning in refl
 
       staled : (s : Slot) → staleSeat (seatOf p s) ≡ staleSlot p s
       staled closed = unfold seatOf staleSeat staleSlot in refl
-      staled (running r) = unfold seatOf heldOf staleSeat staleSlot in refl
+      staled (running r) = unfold seatOf openTxnOf staleSeat staleSlot in refl
 
       written : (s : Slot) → writesSeat (seatOf p s) ≡ writesIn s
       written closed = unfold seatOf writesSeat writesIn in refl
-      written (running r) = unfold seatOf heldOf writesSeat writesIn in refl
+      written (running r) = unfold seatOf openTxnOf writesSeat writesIn in refl
 
   same-order : (p : Plain) → Good p → (ts : List ℕ) (budget : ℕ)
       → abstractBestOrder ts minute budget (abs p) ≡ absTurn (plainBestOrder ts minute budget p)

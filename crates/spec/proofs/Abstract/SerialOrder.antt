@@ -3,6 +3,7 @@
 use mathlib.Core.Bool.{Bool, true, false, cond, not}
 use native.Mathlib.Omega.{arith}
 use lib.ListN.{length}
+use Rattle.limits.specs.Limits.{lastTransaction}
 use Rattle.admission.proofs.Laws.{below-all}
 use mathlib.Core.List.{List, [], _∷_, _++_, map}
 use mathlib.Core.Option.{Option·elim}
@@ -165,7 +166,7 @@ module _ (p : Plain) (s : Serial) where
       → P (refuseTurn 3 buffer p)
       → P (withNumber t buffer next p)
   unfolding withNumber
-  turned-numbered P t buffer next h k = chosen (leb t 7)
+  turned-numbered P t buffer next h k = chosen (leb t lastTransaction)
     where
       chosen : (b : Bool) → P (cond b (next (p .slots t) p) (refuseTurn 3 buffer p))
       chosen true = h
@@ -221,7 +222,7 @@ files-preserved (c ∷ cs) p =
 module _ (p : Plain) where
   granted-again :
       (t minute : ℕ) (r : Running)
-      → leb t 7 ≡ true
+      → leb t lastTransaction ≡ true
       → minuteIn minute ≡ true
       → SoundRun (p .fileOf) (p .committed) (p .grants) r
       → isStale p r ≡ false

@@ -6,6 +6,7 @@ use borrow.Author.Tests.{ltb-false}
 use lib.Dec.{leb, ltb}
 use native.Mathlib.Omega.{arith}
 use Prim.Native.Nat.{ℕ, zero, suc, _+_, _-_, _*_, min}
+use Rattle.limits.specs.Limits.{fileBytes}
 use Rattle.standings.specs.Table.{advance, pointerSettles, offsetOf}
 use Rattle.spec.specs.Items.{Item, offset, fileLength, Values, Prog, done, ask, andThen, result, asked}
 use Rattle.spec.specs.Lengths.{Longer}
@@ -57,7 +58,7 @@ module _ (v w : Values) (longer : Longer v w) where
   unfolding settling
   steady-settling [] x = steady-done (all x)
   steady-settling (d ∷ ds) x =
-      steady-ask (offset d) _ (λ c. pick c (leb (c + advance (x .standing d)) 4096) (steady-settling ds (settle d c x)))
+      steady-ask (offset d) _ (λ c. pick c (leb (c + advance (x .standing d)) fileBytes) (steady-settling ds (settle d c x)))
     where
       pick : (c : ℕ) (b : Bool) → Steady (settling ds (settle d c x)) → Steady (cond b (settling ds (settle d c x)) (done past))
       pick c true s = s
@@ -78,7 +79,8 @@ module _ (v w : Values) (longer : Longer v w) where
     unfolding fetch
     steady-fetch ws f p zero = steady-done []
     steady-fetch ws f p (suc n) =
-        steady-andThen (bring (latest fileOf f p ws) (4096 * f + p)) _ (steady-bring (latest fileOf f p ws) (4096 * f + p))
+        steady-andThen (bring (latest fileOf f p ws) (fileBytes * f + p)) _
+        (steady-bring (latest fileOf f p ws) (fileBytes * f + p))
         (λ b. steady-andThen (fetch fileOf ws f (suc p) n) _ (steady-fetch ws f (suc p) n) (λ bs. steady-done (b ∷ bs)))
 
     steady-sighted : (b : Bool) (f : ℕ) (bytes : List ℕ) → Steady (lengthSighted b f bytes)

@@ -35,7 +35,8 @@ unfolding FirstRefusal.below FirstRefusal.sum Admission.lengthsBefore Bits.bit B
     Transactions.settling Reading.liesOver Reading.byteAt Reading.supplies Reading.orElse Reading.latest Reading.bring
     Reading.fetch
     Reading.writeEnd Reading.placedEnd Reading.farthest Reading.ownEnd Reading.lengthFor Reading.lengthSighted Reading.gather
-    Messages.bufferOf Messages.answerWith Messages.refuseTurn Steps.check Steps.orGivenBack Steps.total Steps.written Steps.seekStep Steps.writeStep Steps.pointerStep
+    Messages.bufferOf Messages.answerWith Messages.refuseTurn Steps.check Steps.orGivenBack Steps.total Steps.written
+    Steps.seekStep Steps.writeStep Steps.pointerStep
     Steps.settledByRead Steps.readSettled Steps.readStep Steps.step Steps.descriptorOfOp Steps.isReadCall Steps.refusesStale
     Steps.refusedStale FirstRefusal.unless Admission.windowRefusal FileWindows.minuteIn FileWindows.isOpenAt
     FileWindows.isClosedAt Windows.isForClosed
@@ -52,7 +53,7 @@ unfolding FirstRefusal.below FirstRefusal.sum Admission.lengthsBefore Bits.bit B
     Grants.repliesOf Grants.sameReplies Grants.serialOf Grants.serialFrom Grants.serialBy Grants.adding Grants.droppedFrom
     Grants.butLast Option.Option·elim Messages.refusalOf Setup.numbers Setup.freshNumbered Setup.onPlain Setup.committedBytes
     Setup.beginning Setup.seenIn
-    Setup.sightingsOf Setup.formerIn Setup.formerNumbers Setup.begins Setup.callsOf Messages.isGrant Parts.tabulate Parts.cut
+    Setup.sightingsOf Setup.formerIn Setup.formerNumbers Setup.threeBegun Setup.callsOf Messages.isGrant Parts.tabulate Parts.cut
     Parts.pasted OldBytes.oldBytes OldBytes.restored State.begun State.ended Journal.decodedAs Journal.decoded
     Journal.writeRecordAt
     Journal.withRecordAt Journal.withRecords Machine.fileOf Machine.values Machine.writeAt Machine.dataStart Machine.txnOf

@@ -11,7 +11,7 @@ use Rattle.spec.specs.EdgeCases.{expectedNothingGivenStale, expectedOwnE
 use Rattle.spec.specs.EdgeCases.{expectedFullRead, expectedNoneWanted, expectedBeyond, ownWrite, expectedDeferredEnd}
 use Rattle.spec.specs.EdgeCases.{expectedPointerAlone}
 use Rattle.spec.specs.EdgeCases.{expectedOtherLength, expectedStopsAlone, halfway, standsSo, settledByThree, loggedByOne}
-use Rattle.spec.specs.LaterEdgeCases.{LaterEdgeCases, closedAtStart, openedThen, heldAtStart, undoTwice}
+use Rattle.spec.specs.LaterEdgeCases.{LaterEdgeCases, closedAtStart, openedThen, undoAtStart, undoTwice}
 use Rattle.spec.specs.LaterEdgeCases.{expectedSettersBack}
 use Rattle.spec.specs.LaterEdgeCases.{twoWrites, inFileOne, ofThreeBytes, expectedOnlyGrantsCount}
 use Rattle.spec.specs.Setup.{onPlain}
@@ -77,7 +77,7 @@ edge-cases =
     }
 
 pub later-edge-cases : LaterEdgeCases onPlain
-unfolding opened closedAtStart openedThen heldAtStart undoTwice expectedSettersBack twoWrites inFileOne ofThreeBytes
+unfolding opened closedAtStart openedThen undoAtStart undoTwice expectedSettersBack twoWrites inFileOne ofThreeBytes
     expectedOnlyGrantsCount
 later-edge-cases =
     record {

@@ -2,6 +2,7 @@
 use mathlib.Core.Bool.{true}
 use mathlib.Core.Path.{refl}
 use native.Mathlib.Omega.{arith}
+use Rattle.limits.specs.Limits.{fileBytes}
 use Rattle.spec.specs.Reading.{liesOver}
 use Rattle.spec.specs.Places.{someWrite, coversPlace, covered, noPlace, unplacedOn, unplaced, inInterval, listed, withPlace}
 use Rattle.spec.specs.Places.{intervalsFrom, intervalsOf, sixteen, encoded}
@@ -19,7 +20,7 @@ intervals =
       hollow = λ h. let z = h .1 in omega arith;
       whole = refl;
       last = refl;
-      lastListed = λ h. (h (λ p. true) 4095, h (λ p. true) 4096);
+      lastListed = λ h. (h (λ p. true) 4095, h (λ p. true) fileBytes);
       joins = refl;
       otherFile = refl;
       waits = (refl, refl);

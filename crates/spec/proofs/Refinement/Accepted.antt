@@ -8,7 +8,7 @@ use lib.Dec.{leb, eqb}
 use lib.ListN.{length, getD, List·getD-eq-default}
 use native.Mathlib.Omega.{arith}
 use Prim.Native.Nat.{ℕ, _*_, _≤_, _<_}
-use Rattle.limits.specs.Limits.{fileCount, fileBytes, descriptorCount, transactionCount, logBytes}
+use Rattle.limits.specs.Limits.{fileCount, lastFile, fileBytes, descriptorCount, transactionCount, lastTransaction, logBytes}
 use Rattle.buffers.specs.Marks.{contains}
 use Rattle.buffers.proofs.PartLaws.{le-or-lt}
 use Rattle.state.specs.declared.Transaction.{Transaction}
@@ -26,8 +26,8 @@ use Rattle.spec.specs.Machine.{journalled}
 use Rattle.spec.specs.Machine.{holding, sightingLengths}
 use Rattle.state.specs.StoreMeaning.{withTransaction}
 use Rattle.spec.specs.Calls.{marked, logged}
-use Rattle.spec.proofs.Abstract.AbstractStore.{UndoSaved, vacant, held, markAll, lengthAll, withSeat}
-use Rattle.spec.proofs.Refinement.Relation.{heldBy, seat, view, Sound, TxnIn}
+use Rattle.spec.proofs.Abstract.AbstractStore.{OpenTxn, vacant, occupied, markAll, lengthAll, withSeat}
+use Rattle.spec.proofs.Refinement.Relation.{openTxnIn, seat, view, Sound, TxnIn}
 use Rattle.spec.proofs.Refinement.IndexedLists.{same-or-not}
 use Rattle.spec.proofs.Refinement.Marks.{ItemsIn, length-marked, marked-own, marked-other, lengths-own}
 use Rattle.spec.proofs.Refinement.ItemsAsked.{asked-in}
@@ -41,11 +41,11 @@ use Rattle.spec.proofs.Refinement.Logged.{logged-carries, logged-apart}
 
 -- "files at most 7", of every number.
 file-in : (s : StoreMeaning) (journal : List ℕ) → length (s .filenumbers) ≡ descriptorCount → InRange s journal → (d : ℕ)
-    → fileOf s d ≤ 7
+    → fileOf s d ≤ lastFile
 unfolding fileOf
 file-in s journal size r d = ⊎-elim beyond (r .files d) (le-or-lt 16 d)
   where
-    beyond : descriptorCount ≤ d → getD (s .filenumbers) d 0 ≤ 7
+    beyond : descriptorCount ≤ d → getD (s .filenumbers) d 0 ≤ lastFile
     beyond l = rw (List·getD-eq-default (s .filenumbers) 0 {n = d} (omega arith)) (omega arith)
 
 -- "lengths, at most 4,096", of every number.
@@ -54,12 +54,12 @@ pub length-in : (s : StoreMeaning) (journal files : List ℕ) → length (s .len
 unfolding values
 length-in s journal files size r f = ⊎-elim beyond (r .lengths f) (le-or-lt 8 f)
   where
-    beyond : fileCount ≤ f → getD (s .lengths) f 0 ≤ 4096
+    beyond : fileCount ≤ f → getD (s .lengths) f 0 ≤ fileBytes
     beyond l = rw (List·getD-eq-default (s .lengths) 0 {n = f} (omega arith)) (omega arith)
 
 -- What is vacant stays so, and what is held is the same.
-seat-same : (b : Bool) (g h : UndoSaved) → (b ≡ true → g ≡ h) → cond b (held g) vacant ≡ cond b (held h) vacant
-seat-same true g h e = ap held (e refl)
+seat-same : (b : Bool) (g h : OpenTxn) → (b ≡ true → g ≡ h) → cond b (occupied g) vacant ≡ cond b (occupied h) vacant
+seat-same true g h e = ap occupied (e refl)
 seat-same false g h e = refl
 
 -- What a step of transaction t asks for.
@@ -74,12 +74,12 @@ machineAfter m t o y =
     (withLogs (logged t o (m .store) (m .logs))
     (withMarking (marked t (sightings m t o) (m .marks)) m)))
 
-unfoldable pub logged-after : Machine → ℕ → Op → Txn → UndoSaved
+unfoldable pub logged-after : Machine → ℕ → Op → Txn → OpenTxn
 logged-after m t o y =
     record {
       txn = y;
-      marked = markAll (sightings m t o) (heldBy m t .marked);
-      lengths = lengthAll (sightings m t o) (heldBy m t .lengths);
+      marked = markAll (sightings m t o) (openTxnIn m t .marked);
+      lengths = lengthAll (sightings m t o) (openTxnIn m t .lengths);
       stale = transaction (m .store) t .stale;
     }
 
@@ -113,13 +113,13 @@ module _ (m : Machine) (t : ℕ) (o : Op) (sound : Sound m) (small : t < transac
     abbrev after : Machine
     after = machineAfter m t o y
 
-    abbrev new : UndoSaved
+    abbrev new : OpenTxn
     new = logged-after m t o y
 
     preserved : Preserved (piecesAfter o (pieces (x .writes))) y
     preserved = step-preserved (fileOf (m .store)) v bounded o x y a b txn-in e
 
-    data-in : dataBefore (piecesAfter o (pieces (x .writes))) (length (piecesAfter o (pieces (x .writes)))) ≤ 4096
+    data-in : dataBefore (piecesAfter o (pieces (x .writes))) (length (piecesAfter o (pieces (x .writes)))) ≤ logBytes
     data-in = rw (← preserved .same, ← total-pieces (y .writes)) (preserved .ranges .bytes)
 
     carries : Carries (logged t o (m .store) (m .logs)) (logBytes * t) (pieces (y .writes))
@@ -147,9 +147,9 @@ module _ (m : Machine) (t : ℕ) (o : Op) (sound : Sound m) (small : t < transac
               (preserved .ranges) (sound .inRange);
         }
 
-    own-held : heldBy after t ≡ new
-    unfolding machineAfter logged-after heldBy holding sightingLengths
-    own-held =
+    own-open : openTxnIn after t ≡ new
+    unfolding machineAfter logged-after openTxnIn holding sightingLengths
+    own-open =
         let h = own-transaction (m .store) (m .journal) t y (sightings m t o) (sound .shaped) (sound .journal) small
         (preserved .ranges) in
         λ i.
@@ -163,27 +163,27 @@ module _ (m : Machine) (t : ℕ) (o : Op) (sound : Sound m) (small : t < transac
           stale = h i .stale;
         }
 
-    own-seat : seat after t ≡ held new
+    own-seat : seat after t ≡ occupied new
     unfolding seat machineAfter holding sightingLengths
     own-seat =
         let h = own-transaction (m .store) (m .journal) t y (sightings m t o) (sound .shaped) (sound .journal) small
         (preserved .ranges) in
-        ap (λ (c : Bool). cond c (held (heldBy after t)) vacant)
-        (ap₂ (λ (p q : Bool). p && q) (le-leb t 7 (omega arith)) (ap (λ (z : Transaction). z .begun) h ∙ begun))
-        ∙ ap held own-held
+        ap (λ (c : Bool). cond c (occupied (openTxnIn after t)) vacant)
+        (ap₂ (λ (p q : Bool). p && q) (le-leb t lastTransaction (omega arith)) (ap (λ (z : Transaction). z .begun) h ∙ begun))
+        ∙ ap occupied own-open
 
     other-seat : (u : ℕ) → (u ≡ t → ⊥) → seat after u ≡ seat m u
-    unfolding seat machineAfter heldBy withTxn withTransaction
+    unfolding seat machineAfter openTxnIn withTxn withTransaction
     other-seat u other =
-        ap (λ (z : Transaction). cond (leb u 7 && z .begun) (held (heldBy after u)) vacant)
+        ap (λ (z : Transaction). cond (leb u lastTransaction && z .begun) (occupied (openTxnIn after u)) vacant)
         (getD-set-other (m .store .transactions) t u (holding y (sightingLengths (sightings m t o) (transaction (m .store) t)))
         noTransaction other)
-        ∙ seat-same (leb u 7 && transaction (m .store) u .begun) (heldBy after u) (heldBy m u)
+        ∙ seat-same (leb u lastTransaction && transaction (m .store) u .begun) (openTxnIn after u) (openTxnIn m u)
         (λ q.
-        let l = leb-true u 7 (and-left (leb u 7) (transaction (m .store) u .begun) q) in
+        let l = leb-true u lastTransaction (and-left (leb u lastTransaction) (transaction (m .store) u .begun) q) in
         let same = other-same (m .store) (m .journal) t y (sightings m t o) (sound .shaped) (sound .journal) small
         (preserved .ranges) u (omega arith) other in
-        let r = range .transactions u (omega arith) (and-right (leb u 7) (transaction (m .store) u .begun) q) in
+        let r = range .transactions u (omega arith) (and-right (leb u lastTransaction) (transaction (m .store) u .begun) q) in
         λ i.
         record {
           txn =
@@ -195,14 +195,14 @@ module _ (m : Machine) (t : ℕ) (o : Op) (sound : Sound m) (small : t < transac
           stale = same .transaction i .stale;
         })
 
-    seats-after : (u : ℕ) → seat after u ≡ put t (held new) (seat m) u
+    seats-after : (u : ℕ) → seat after u ≡ put t (occupied new) (seat m) u
     unfolding put
     seats-after u = ⊎-elim here elsewhere (same-or-not u t)
       where
-        here : u ≡ t → seat after u ≡ cond (eqb u t) (held new) (seat m u)
+        here : u ≡ t → seat after u ≡ cond (eqb u t) (occupied new) (seat m u)
         here q = rw (q, eq-eqb t t refl) own-seat
 
-        elsewhere : (u ≡ t → ⊥) → seat after u ≡ cond (eqb u t) (held new) (seat m u)
+        elsewhere : (u ≡ t → ⊥) → seat after u ≡ cond (eqb u t) (occupied new) (seat m u)
         elsewhere ne = rw (ne-eqb u t ne) (other-seat u ne)
 
     values-after : (i : Item) → values (after .store) (after .files) i ≡ values (m .store) (m .files) i
@@ -211,7 +211,7 @@ module _ (m : Machine) (t : ℕ) (o : Op) (sound : Sound m) (small : t < transac
     values-after (offset d) = refl
     values-after (fileLength f) = refl
 
-    pub view-after : view after ≡ withSeat t (held new) (view m)
+    pub view-after : view after ≡ withSeat t (occupied new) (view m)
     unfolding view withSeat machineAfter fileOf withTxn withTransaction
     view-after =
         let b = back-same m after

@@ -7,15 +7,15 @@ use lib.ListN.{length, getD}
 use Prim.Native.Nat.{ℕ, _≤_, _<_}
 use native.Mathlib.Omega.{arith}
 use borrow.Author.Tests.{le-leb, lt-leb, ne-eqb, eq-eqb}
-use Rattle.limits.specs.Limits.{fileCount, fileBytes, bufferBytes, descriptorCount, transactionCount}
+use Rattle.limits.specs.Limits.{fileCount, fileBytes, bufferBytes, descriptorCount, transactionCount, lastTransaction}
 use Rattle.buffers.specs.Marks.{hasMark, withoutMarks, contains}
 use Rattle.buffers.proofs.MarkLaws.{length-without-marks, has-without-marks}
 use Rattle.state.specs.declared.Transaction.{Transaction}
 use Rattle.state.specs.StoreMeaning.{transaction, noTransaction}
 use Rattle.admission.proofs.Laws.{in-range, in-range-intro}
 use Rattle.spec.specs.Machine.{Machine, withStore, withFiles, withMarking}
-use Rattle.spec.proofs.Abstract.AbstractStore.{UndoSaved, vacant, held}
-use Rattle.spec.proofs.Refinement.Relation.{heldBy, seat, Sound}
+use Rattle.spec.proofs.Abstract.AbstractStore.{OpenTxn, vacant, occupied}
+use Rattle.spec.proofs.Refinement.Relation.{openTxnIn, seat, Sound}
 use Rattle.spec.proofs.Refinement.OtherCommitted.{renewed, AlikeElsewhere, Carried, alike-txn, renewed-in, renewed-shaped}
 
 abbrev pub ending : ℕ → List ℕ → List ℕ → List Transaction → List ℕ → Machine → Machine
@@ -23,20 +23,20 @@ ending t offsets lengths ts files m =
     withStore (renewed offsets lengths ts (m .store)) (withFiles files (withMarking (withoutMarks t (m .marks)) m))
 
 -- What a transaction holds, stale or not.
-abbrev pub staleAs : UndoSaved → Bool → UndoSaved
+abbrev pub staleAs : OpenTxn → Bool → OpenTxn
 staleAs h b = record { txn = h .txn; marked = h .marked; lengths = h .lengths; stale = b }
 
 -- ---- seats
 
-pub seat-in : (m : Machine) (u : ℕ) (b : Bool) (h : UndoSaved) → u < transactionCount → transaction (m .store) u .begun ≡ b
-    → heldBy m u ≡ h
-    → seat m u ≡ cond b (held h) vacant
+pub seat-in : (m : Machine) (u : ℕ) (b : Bool) (h : OpenTxn) → u < transactionCount → transaction (m .store) u .begun ≡ b
+    → openTxnIn m u ≡ h
+    → seat m u ≡ cond b (occupied h) vacant
 unfolding seat
-seat-in m u b h l e f = rw (le-leb u 7 (omega arith), e, f)
+seat-in m u b h l e f = rw (le-leb u lastTransaction (omega arith), e, f)
 
 pub seat-out : (m : Machine) (u : ℕ) → transactionCount ≤ u → seat m u ≡ vacant
 unfolding seat
-seat-out m u l = rw (lt-leb u 7 (omega arith))
+seat-out m u l = rw (lt-leb u lastTransaction (omega arith))
 
 -- ---- marks
 
@@ -73,11 +73,11 @@ module _ (t : ℕ) (offsets lengths : List ℕ) (ts : List Transaction) (files :
       }
 
   -- Another transaction that is alike keeps what it holds.
-  pub ending-held : (u : ℕ) → (u ≡ t → ⊥) → AlikeElsewhere (transaction (m .store) u) (getD ts u noTransaction)
-      → heldBy (ending t offsets lengths ts files m) u
-      ≡ staleAs (heldBy m u) (getD ts u noTransaction .stale)
-  unfolding heldBy
-  ending-held u other a =
+  pub ending-open : (u : ℕ) → (u ≡ t → ⊥) → AlikeElsewhere (transaction (m .store) u) (getD ts u noTransaction)
+      → openTxnIn (ending t offsets lengths ts files m) u
+      ≡ staleAs (openTxnIn m u) (getD ts u noTransaction .stale)
+  unfolding openTxnIn
+  ending-open u other a =
       let e = alike-txn offsets lengths ts (m .store) (m .journal) u (m .logs) a in
       let f : hasMark (withoutMarks t (m .marks)) u
       ≡ hasMark (m .marks) u = fun-ext (λ q. unmarked-other t (m .marks) u q other) in
@@ -87,8 +87,8 @@ module _ (t : ℕ) (offsets lengths : List ℕ) (ts : List Transaction) (files :
       → AlikeElsewhere (transaction (m .store) u) (getD ts u noTransaction)
       → seat (ending t offsets lengths ts files m) u
       ≡ cond (transaction (m .store) u .begun)
-      (held (staleAs (heldBy m u) (getD ts u noTransaction .stale))) vacant
+      (occupied (staleAs (openTxnIn m u) (getD ts u noTransaction .stale))) vacant
   ending-seat u l other a =
       seat-in (ending t offsets lengths ts files m) u (transaction (m .store) u .begun)
-      (staleAs (heldBy m u) (getD ts u noTransaction .stale))
-      l (a .begun) (ending-held u other a)
+      (staleAs (openTxnIn m u) (getD ts u noTransaction .stale))
+      l (a .begun) (ending-open u other a)

@@ -9,7 +9,7 @@ use Rattle.spec.specs.Transactions.{those}
 -- Descriptors that the store has.
 abbrev pub DescriptorsIn : List ℕ → Type 0
 DescriptorsIn [] = Unit {0}
-DescriptorsIn (d ∷ ds) = (d < 16) × DescriptorsIn ds
+DescriptorsIn (d ∷ ds) = (d < descriptorCount) × DescriptorsIn ds
 
 descriptors-append : (ds es : List ℕ) → DescriptorsIn ds → DescriptorsIn es → DescriptorsIn (ds ++ es)
 descriptors-append [] es h g = g

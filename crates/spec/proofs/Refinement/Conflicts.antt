@@ -6,7 +6,7 @@ use lib.Dec.{eqb}
 use Prim.Native.Nat.{ℕ, _<_}
 use native.Mathlib.Omega.{arith}
 use borrow.Author.Tests.{le-leb}
-use Rattle.limits.specs.Limits.{transactionCount}
+use Rattle.limits.specs.Limits.{transactionCount, lastTransaction}
 use Rattle.state.specs.StoreMeaning.{transaction}
 use Rattle.buffers.specs.Bits.{bitsOf}
 use Rattle.buffers.proofs.SetLaws.{bits-same}
@@ -15,28 +15,29 @@ use Rattle.spec.specs.Transactions.{put}
 use Rattle.spec.specs.Commits.{Setting}
 use Rattle.spec.specs.Machine.{Machine, txnOf}
 use Rattle.spec.specs.Calls.{hasSighted, conflicts, madeStale}
-use Rattle.spec.proofs.Abstract.AbstractStore.{vacant, held, abstractSighted, hit, newlyStale}
-use Rattle.spec.proofs.Refinement.Relation.{heldBy, seat}
+use Rattle.spec.proofs.Abstract.AbstractStore.{vacant, occupied, abstractSighted, hit, newlyStale}
+use Rattle.spec.proofs.Refinement.Relation.{openTxnIn, seat}
 
 module _ (m : Machine) (u : ℕ) where
-  sighted-same : (i : Item) → hasSighted (m .marks) u (transaction (m .store) u) i ≡ abstractSighted (heldBy m u) i
-  unfolding hasSighted abstractSighted heldBy txnOf
+  sighted-same : (i : Item) → hasSighted (m .marks) u (transaction (m .store) u) i ≡ abstractSighted (openTxnIn m u) i
+  unfolding hasSighted abstractSighted openTxnIn txnOf
   sighted-same (byte q) = refl
   sighted-same (offset d) = refl
   sighted-same (fileLength f) = refl
 
-  pub conflicts-hit : (ss : List Setting) → conflicts (m .marks) u (transaction (m .store) u) ss ≡ hit ss (heldBy m u)
+  pub conflicts-hit : (ss : List Setting) → conflicts (m .marks) u (transaction (m .store) u) ss ≡ hit ss (openTxnIn m u)
   unfolding conflicts hit
   conflicts-hit [] = refl
   conflicts-hit (x ∷ ss) = ap₂ _||_ (sighted-same (x .item)) (conflicts-hit ss)
 
 module _ (m : Machine) (t : ℕ) (ss : List Setting) where
   pub made-stale : (u : ℕ) → u < transactionCount → madeStale t ss m u ≡ newlyStale ss (put t vacant (seat m) u)
-  unfolding madeStale newlyStale put seat heldBy
-  made-stale u l = rw (le-leb u 7 (omega arith), conflicts-hit m u ss) (pick (eqb u t) (transaction (m .store) u .begun))
+  unfolding madeStale newlyStale put seat openTxnIn
+  made-stale u l = rw (le-leb u lastTransaction (omega arith), conflicts-hit m u ss)
+      (pick (eqb u t) (transaction (m .store) u .begun))
     where
-      pick : (b c : Bool) → (not b && c && not (transaction (m .store) u .stale) && hit ss (heldBy m u))
-          ≡ newlyStale ss (cond b vacant (cond c (held (heldBy m u)) vacant))
+      pick : (b c : Bool) → (not b && c && not (transaction (m .store) u .stale) && hit ss (openTxnIn m u))
+          ≡ newlyStale ss (cond b vacant (cond c (occupied (openTxnIn m u)) vacant))
       pick true c = refl
       pick false true = refl
       pick false false = refl

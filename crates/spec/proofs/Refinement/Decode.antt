@@ -8,7 +8,7 @@ use lib.Dec.{leb}
 use lib.ListN.{length, getD, length-map, List·getD-map, List·getD-eq-default}
 use native.Mathlib.Omega.{arith}
 use Prim.Native.Nat.{ℕ, suc, _+_, _*_, _≤_, _<_}
-use Rattle.limits.specs.Limits.{bufferBytes, descriptorCount, transactionCount, logBytes}
+use Rattle.limits.specs.Limits.{bufferBytes, descriptorCount, lastDescriptor, transactionCount, logBytes}
 use Rattle.buffers.specs.Parts.{cut}
 use Rattle.buffers.proofs.PartLaws.{length-cut, le-or-lt}
 use Rattle.buffers.proofs.TableLaws.{length-tabulate, getD-tabulate}
@@ -48,37 +48,37 @@ module _ (s : StoreMeaning) (journal logs : List ℕ) (t : ℕ) (size : length l
   abbrev pub len : ℕ → ℕ
   len k = writeRecordAt journal t k .length
 
-  abbrev pub count : ℕ
-  count = transaction s t .used .records
+  abbrev pub decodedCount : ℕ
+  decodedCount = transaction s t .used .records
 
-  pub data-fits : (k : ℕ) → k < count → lengthsBefore journal t k + len k ≤ 4096
+  pub data-fits : (k : ℕ) → k < decodedCount → lengthsBefore journal t k + len k ≤ logBytes
   unfolding lengthsBefore sum
-  data-fits k h = omega (arith, sum-le len (suc k) count h, r .total, r .bytes)
+  data-fits k h = omega (arith, sum-le len (suc k) decodedCount h, r .total, r .bytes)
 
-  pub decoded-length : (k : ℕ) → k < count → length (writeAt journal logs t k .bytes) ≡ len k
+  pub decoded-length : (k : ℕ) → k < decodedCount → length (writeAt journal logs t k .bytes) ≡ len k
   unfolding writeAt dataStart
-  decoded-length k h = length-cut logs (4096 * t + lengthsBefore journal t k) (len k) (omega (arith, data-fits k h))
+  decoded-length k h = length-cut logs (logBytes * t + lengthsBefore journal t k) (len k) (omega (arith, data-fits k h))
 
-  pub decoded-at : (k : ℕ) → k < count → getD (txnOf s journal logs t .writes) k noWrite ≡ writeAt journal logs t k
+  pub decoded-at : (k : ℕ) → k < decodedCount → getD (txnOf s journal logs t .writes) k noWrite ≡ writeAt journal logs t k
   unfolding txnOf
-  decoded-at k h = getD-tabulate (writeAt journal logs t) count k noWrite h
+  decoded-at k h = getD-tabulate (writeAt journal logs t) decodedCount k noWrite h
 
-  piece-at : (k : ℕ) → k < count → getD (pieces (txnOf s journal logs t .writes)) k [] ≡ writeAt journal logs t k .bytes
+  piece-at : (k : ℕ) → k < decodedCount → getD (pieces (txnOf s journal logs t .writes)) k [] ≡ writeAt journal logs t k .bytes
   piece-at k h =
       List·getD-map (λ (w : Write). w .bytes) (txnOf s journal logs t .writes) k noWrite
       ∙ ap (λ (w : Write). w .bytes) (decoded-at k h)
 
-  data-before : (k : ℕ) → k ≤ count → dataBefore (pieces (txnOf s journal logs t .writes)) k ≡ lengthsBefore journal t k
+  data-before : (k : ℕ) → k ≤ decodedCount → dataBefore (pieces (txnOf s journal logs t .writes)) k ≡ lengthsBefore journal t k
   unfolding lengthsBefore
   data-before k h =
       sum-same (λ j. length (getD (pieces (txnOf s journal logs t .writes)) j [])) len k
       (λ j g. ap length (piece-at j (omega arith)) ∙ decoded-length j (omega arith))
 
-  pub decoded-count : length (txnOf s journal logs t .writes) ≡ count
+  pub decoded-count : length (txnOf s journal logs t .writes) ≡ decodedCount
   unfolding txnOf
-  decoded-count = length-tabulate (writeAt journal logs t) count
+  decoded-count = length-tabulate (writeAt journal logs t) decodedCount
 
-  length-pieces : length (pieces (txnOf s journal logs t .writes)) ≡ count
+  length-pieces : length (pieces (txnOf s journal logs t .writes)) ≡ decodedCount
   length-pieces = length-map (txnOf s journal logs t .writes) (λ w. w .bytes) ∙ decoded-count
 
   -- "their lengths adding to the data used"
@@ -86,29 +86,30 @@ module _ (s : StoreMeaning) (journal logs : List ℕ) (t : ℕ) (size : length l
   decoded-total =
       total-pieces (txnOf s journal logs t .writes)
       ∙ ap (dataBefore (pieces (txnOf s journal logs t .writes))) length-pieces
-      ∙ data-before count (omega arith)
+      ∙ data-before decodedCount (omega arith)
       ∙ r .total
 
   pub decoded-carries : Carries logs (logBytes * t) (pieces (txnOf s journal logs t .writes))
   unfolding writeAt dataStart
   decoded-carries k h =
-      let g : k < count = rw length-pieces at h in
+      let g : k < decodedCount = rw length-pieces at h in
       rw (piece-at k g, decoded-length k g, data-before k (omega arith)) refl
 
-  write-in : (k : ℕ) → k < count → WriteIn (txnOf s journal logs t) (writeAt journal logs t k)
+  write-in : (k : ℕ) → k < decodedCount → WriteIn (txnOf s journal logs t) (writeAt journal logs t k)
   unfolding writeAt txnOf recordIn
   write-in k h =
       let w = writeRecordAt journal t k in
       let e = w .descriptor in
-      let low = leb-true e 15 (and-left _ (placeIn (standingAt (transaction s t) e) (w .place) (w .length)) (r .writes k h)) in
+      let low = leb-true e lastDescriptor
+      (and-left _ (placeIn (standingAt (transaction s t) e) (w .place) (w .length)) (r .writes k h)) in
       record {
         descriptor = omega arith;
-        place = rw (decoded-length k h) (and-right (leb e 15) _ (r .writes k h));
+        place = rw (decoded-length k h) (and-right (leb e lastDescriptor) _ (r .writes k h));
       }
 
   pub decoded-writes : (k : ℕ) → k < length (txnOf s journal logs t .writes)
       → WriteIn (txnOf s journal logs t) (getD (txnOf s journal logs t .writes) k noWrite)
-  decoded-writes k h = let g : k < count = rw decoded-count at h in rw (decoded-at k g) (write-in k g)
+  decoded-writes k h = let g : k < decodedCount = rw decoded-count at h in rw (decoded-at k g) (write-in k g)
 
   untouched : length (transaction s t .descriptors) ≡ descriptorCount → (d : ℕ) → descriptorCount ≤ d
       → txnOf s journal logs t .standing d ≡ Untouched

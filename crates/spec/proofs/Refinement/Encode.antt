@@ -9,7 +9,7 @@ use lib.ListN.{length, getD, length-map, length-set, List·getD-map, List·getD-
 use lib.Seq.{getD-set-same, getD-set-other}
 use native.Mathlib.Omega.{arith}
 use Prim.Native.Nat.{ℕ, _+_, _*_, _≤_, _<_}
-use Rattle.limits.specs.Limits.{descriptorCount, transactionCount, logBytes}
+use Rattle.limits.specs.Limits.{descriptorCount, lastDescriptor, transactionCount, logBytes}
 use Rattle.buffers.specs.Parts.{cut, tabulate}
 use Rattle.buffers.proofs.PartLaws.{le-or-lt}
 use Rattle.buffers.proofs.TableLaws.{length-tabulate, getD-tabulate}
@@ -31,7 +31,7 @@ use Rattle.spec.proofs.Refinement.Relation.{Shaped, TxnIn}
 use Rattle.spec.proofs.Refinement.IndexedLists.{same-or-not, tabulate-same, tabulate-getD}
 use Rattle.spec.proofs.Refinement.StepPreserves.{pieces}
 use Rattle.spec.proofs.Refinement.Decode.{dataBefore, Carries, total-pieces}
-use Rattle.spec.proofs.Refinement.UndoValues.{SameGrant, undo-same}
+use Rattle.spec.proofs.Refinement.UndoValues.{SameGrant, undo-values-same}
 use Rattle.spec.proofs.Refinement.Others.{SameAt, range-same}
 
 module _ (s : StoreMeaning) (journal : List ℕ) (t : ℕ) (y : Txn) (is : List Item) (shaped : Shaped s)
@@ -109,7 +109,7 @@ module _ (s : StoreMeaning) (journal : List ℕ) (t : ℕ) (y : Txn) (is : List 
       → writeAt after-journal logs t k ≡ getD (y .writes) k noWrite
   unfolding writeAt dataStart
   own-write logs carries k l =
-      let bytes : cut logs (4096 * t + dataBefore (pieces (y .writes)) k) (length (getD (y .writes) k noWrite .bytes))
+      let bytes : cut logs (logBytes * t + dataBefore (pieces (y .writes)) k) (length (getD (y .writes) k noWrite .bytes))
       ≡ getD (y .writes) k noWrite .bytes
       = rw (piece-is k) at (carries k (rw length-map l)) in
       λ i.
@@ -117,7 +117,7 @@ module _ (s : StoreMeaning) (journal : List ℕ) (t : ℕ) (y : Txn) (is : List 
         descriptor = own-descriptor k l i;
         place = own-place k l i;
         bytes =
-            (ap₂ (λ (a b : ℕ). cut logs (4096 * t + a) b) (own-data k (omega arith)) (own-length k l) ∙ bytes) i;
+            (ap₂ (λ (a b : ℕ). cut logs (logBytes * t + a) b) (own-data k (omega arith)) (own-length k l) ∙ bytes) i;
       }
 
   -- The state means y there, if the logs carry y's bytes.
@@ -144,7 +144,8 @@ module _ (s : StoreMeaning) (journal : List ℕ) (t : ℕ) (y : Txn) (is : List 
       let w = getD (y .writes) k noWrite in
       let e = h .writes k l in
       rw (own-descriptor k l, own-place k l, own-length k l, own-standing (w .descriptor))
-      (and-both (leb (w .descriptor) 15) _ (le-leb (w .descriptor) 15 (omega (arith, e .descriptor))) (e .place))
+      (and-both (leb (w .descriptor) lastDescriptor) _ (le-leb (w .descriptor) lastDescriptor (omega (arith, e .descriptor)))
+      (e .place))
 
   own-range : TransactionInRange (transaction (withTxn t y is s) t) after-journal t
   unfolding holding
@@ -192,7 +193,7 @@ module _ (s : StoreMeaning) (journal : List ℕ) (t : ℕ) (y : Txn) (is : List 
         lengths = unfold withTxn withTransaction in in-range s journal e .lengths;
         windows = unfold withTxn withTransaction in in-range s journal e .windows;
         undo = unfold withTxn withTransaction
-            in (λ b. undo-same (s .undo) after-journal journal (grant-same (in-range s journal e)) b
+            in (λ b. undo-values-same (s .undo) after-journal journal (grant-same (in-range s journal e)) b
             (in-range s journal e .undo b));
         transactions = λ u l b. ⊎-elim (λ same. rw same own-range) (elsewhere u l b) (same-or-not u t);
       })

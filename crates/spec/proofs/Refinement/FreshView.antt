@@ -18,7 +18,7 @@ use Rattle.spec.specs.Items.{Item, byte, offset, fileLength, Values}
 use Rattle.spec.specs.Machine.{fileOf, values}
 use Rattle.spec.specs.Calls.{freshStore, freshMachine}
 use Rattle.spec.proofs.Abstract.AbstractStore.{Seat, vacant, none, startAbstract}
-use Rattle.spec.proofs.Refinement.Relation.{heldBy, seat, backIn, view, Shaped, Sound}
+use Rattle.spec.proofs.Refinement.Relation.{openTxnIn, seat, backIn, view, Shaped, Sound}
 use Rattle.spec.proofs.Refinement.AfterReset.{seat-in, seat-out}
 
 -- Zeros, inside and past the end.
@@ -47,7 +47,8 @@ module _ (numbers : List ℕ) (logs old : List ℕ) where
 
   seats : (u : ℕ) → (transactionCount ≤ u) ⊎ (u < transactionCount) → seat (freshMachine numbers logs old) u ≡ vacant
   seats u (inl l) = seat-out (freshMachine numbers logs old) u l
-  seats u (inr l) = seat-in (freshMachine numbers logs old) u false (heldBy (freshMachine numbers logs old) u) l (closed-at u l)
+  seats u (inr l) = seat-in (freshMachine numbers logs old) u false (openTxnIn (freshMachine numbers logs old) u) l
+      (closed-at u l)
       refl
 
   fresh-values : (n : ℕ) (i : Item) → values (freshStore numbers) (replicate n 0) i ≡ 0
@@ -60,7 +61,8 @@ module _ (numbers : List ℕ) (logs old : List ℕ) where
   unfolding view startAbstract freshMachine freshStore fileOf backIn
   fresh-view =
       let e : _≡_ {A = ℕ → Seat} (seat (freshMachine numbers logs old)) (λ u. vacant) = fun-ext (λ u. seats u (le-or-lt 8 u)) in
-      let f : _≡_ {A = Values} (values (freshStore numbers) (replicate 32768 0)) (λ i. 0) = fun-ext (fresh-values 32768) in
+      let f : _≡_ {A = Values} (values (freshStore numbers) (replicate bufferBytes 0)) (λ i. 0) = fun-ext
+      (fresh-values bufferBytes) in
       let w : _≡_ {A = Windows} (windowAt (freshStore numbers)) freshWindows = fun-ext (always 8) in
       λ i. record { fileOf = λ d. getD numbers d 0; value = f i; windows = w i; back = none; seats = e i }
 
@@ -98,10 +100,10 @@ module _ (numbers : List ℕ) (logs old : List ℕ) where
   fresh-sound e h g k =
       record {
         shaped = fresh-shaped e;
-        journal = length-zeros 1728;
-        files = length-zeros 32768;
+        journal = length-zeros journalLength;
+        files = length-zeros bufferBytes;
         logs = g;
-        marks = length-zeros 32768;
+        marks = length-zeros bufferBytes;
         undo = k;
-        inRange = in-range-intro (freshStore numbers) (replicate 1728 0) (fresh-in h);
+        inRange = in-range-intro (freshStore numbers) (replicate journalLength 0) (fresh-in h);
       }

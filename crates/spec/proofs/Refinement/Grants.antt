@@ -23,8 +23,8 @@ use Rattle.spec.specs.Commits.{Setting, landed, settings, fits}
 use Rattle.spec.specs.Machine.{Machine, fileOf, values}
 use Rattle.spec.specs.Undo.{savingUndo}
 use Rattle.spec.specs.Calls.{Turn, landFiles, landOffsets, landLengths, conflicts, madeStale, afterCommit, commitGranted}
-use Rattle.spec.proofs.Abstract.AbstractStore.{Seat, vacant, held, preserved, touch, newlyStale, granting}
-use Rattle.spec.proofs.Refinement.Relation.{heldBy, seat, backValues, backIn, view, Sound, TxnIn}
+use Rattle.spec.proofs.Abstract.AbstractStore.{Seat, vacant, occupied, preserved, touch, newlyStale, granting}
+use Rattle.spec.proofs.Refinement.Relation.{openTxnIn, seat, backValues, backIn, view, Sound, TxnIn}
 use Rattle.spec.proofs.Refinement.OtherCommitted.{ended-bare, AlikeElsewhere, Carried, same-values}
 use Rattle.spec.proofs.Refinement.AfterReset.{ending, staleAs, seat-in, seat-out, ending-sound, ending-seat}
 use Rattle.spec.proofs.Refinement.SettingsIn.{AllIn, settings-in}
@@ -85,17 +85,17 @@ module _ (m : Machine) (t : ℕ) (ss : List Setting) where
 
   own-seat : t < transactionCount → seat after t ≡ vacant
   unfolding after ended
-  own-seat l = seat-in after t false (heldBy after t) l
+  own-seat l = seat-in after t false (openTxnIn after t) l
       (ap (λ (y : Transaction). y .begun) (at-commit t l true (eq-eqb t t refl))) refl
 
   -- Another transaction, open or not.
   touched : (u : ℕ) (c : Bool)
-      → cond c (held (staleAs (heldBy m u) (transaction (m .store) u .stale
+      → cond c (occupied (staleAs (openTxnIn m u) (transaction (m .store) u .stale
       || (c && conflicts (m .marks) u (transaction (m .store) u) ss)))) vacant
-      ≡ touch ss (cond c (held (heldBy m u)) vacant)
-  unfolding touch heldBy
+      ≡ touch ss (cond c (occupied (openTxnIn m u)) vacant)
+  unfolding touch openTxnIn
   touched u true =
-      ap (λ (b : Bool). held (staleAs (heldBy m u) (transaction (m .store) u .stale || b)))
+      ap (λ (b : Bool). occupied (staleAs (openTxnIn m u) (transaction (m .store) u .stale || b)))
       (conflicts-hit m u ss)
   touched u false = refl
 
@@ -108,11 +108,12 @@ module _ (m : Machine) (t : ℕ) (ss : List Setting) where
         ending-seat t (landOffsets ss (m .store .offsets)) (landLengths ss (m .store .lengths)) ts (landFiles ss (m .files)) m u l
         h
         (flagged-alike u (getD ts u noTransaction) e)
-        ∙ ap (λ (y : Transaction). cond (transaction (m .store) u .begun) (held (staleAs (heldBy m u) (y .stale))) vacant) e
-        ∙ ap (λ (b : Bool). cond (transaction (m .store) u .begun) (held (staleAs (heldBy m u) b)) vacant)
+        ∙ ap (λ (y : Transaction). cond (transaction (m .store) u .begun) (occupied (staleAs (openTxnIn m u) (y .stale))) vacant)
+        e
+        ∙ ap (λ (b : Bool). cond (transaction (m .store) u .begun) (occupied (staleAs (openTxnIn m u) b)) vacant)
         (stale-after m t ss u (ne-eqb u t h))
         ∙ touched u (transaction (m .store) u .begun)
-        ∙ ap (touch ss) (sym (seat-in m u (transaction (m .store) u .begun) (heldBy m u) l refl refl))
+        ∙ ap (touch ss) (sym (seat-in m u (transaction (m .store) u .begun) (openTxnIn m u) l refl refl))
 
     seats : (u : ℕ) (b : Bool) → eqb u t ≡ b → seat after u ≡ touch ss (cond b vacant (seat m u))
     unfolding touch

@@ -6,7 +6,7 @@ use borrow.Author.Tests.{leb-true}
 use lib.Dec.{leb, ltb, eqb}
 use native.Mathlib.Omega.{arith}
 use Prim.Native.Nat.{ℕ, zero, suc, _+_, _-_, _*_, _≤_, _<_, min}
-use Rattle.limits.specs.Limits.{lastFile, fileBytes, bufferBytes}
+use Rattle.limits.specs.Limits.{lastFile, fileBytes, bufferBytes, lastDescriptor}
 use Rattle.spec.specs.Items.{Item, offset, fileLength, Values, Prog, done, andThen, result, asked}
 use Rattle.standings.specs.Table.{advance, pointerSettles, readSettles, offsetOf}
 use Rattle.spec.specs.Transactions.{Txn, Write, those, settle, Settled, past, all, settling}
@@ -51,7 +51,7 @@ module _ (v : Values) (bounded : (f : ℕ) → v (fileLength f) ≤ fileBytes) w
   unfolding AsksIn settling asked
   asks-settling [] x h = tt
   asks-settling (d ∷ ds) x h =
-      (h .0, pick (asks-settling ds (settle d (v (offset d)) x) (h .1)) (leb (v (offset d) + advance (x .standing d)) 4096))
+      (h .0, pick (asks-settling ds (settle d (v (offset d)) x) (h .1)) (leb (v (offset d) + advance (x .standing d)) fileBytes))
     where
       pick : ItemsIn (asked v (settling ds (settle d (v (offset d)) x)))
           → (b : Bool) → ItemsIn (asked v (cond b (settling ds (settle d (v (offset d)) x)) (done past)))
@@ -81,8 +81,8 @@ module _ (v : Values) (bounded : (f : ℕ) → v (fileLength f) ≤ fileBytes) w
     unfolding fetch
     asks-fetch ws f p zero hf hn = asks-done []
     asks-fetch ws f p (suc n) hf hn =
-        asks-andThen (bring (latest fileOf f p ws) (4096 * f + p)) _
-        (asks-bring (latest fileOf f p ws) (4096 * f + p) (omega arith))
+        asks-andThen (bring (latest fileOf f p ws) (fileBytes * f + p)) _
+        (asks-bring (latest fileOf f p ws) (fileBytes * f + p) (omega arith))
         (λ b. asks-andThen (fetch fileOf ws f (suc p) n) _ (asks-fetch ws f (suc p) n hf (omega arith))
         (λ bs. asks-done (b ∷ bs)))
 
@@ -112,8 +112,8 @@ module _ (v : Values) (bounded : (f : ℕ) → v (fileLength f) ≤ fileBytes) w
     asks-step (write d bytes) x h =
         asks-check _ 6 _ (λ e. asks-check _ 9 _ (λ f. asks-check _ 10 _ (λ g. asks-check _ 11 _ (λ k. asks-done _))))
     asks-step (getFilePointer d) x h =
-        asks-check (leb d 15) 6 _ (λ e.
-        let l = leb-true d 15 e in
+        asks-check (leb d lastDescriptor) 6 _ (λ e.
+        let l = leb-true d lastDescriptor e in
         asks-settled (cond (pointerSettles (x .standing d)) (d ∷ []) []) x _
         (one-in (pointerSettles (x .standing d)) d (omega arith)) h
         (λ y k. asks-done _))

@@ -68,7 +68,7 @@ length-lengths (x ∷ ss) lengths = length-lengths ss (landLength (x .item) (x .
 
 limit-one : (i : Item) (n : ℕ) (offsets : List ℕ) → SetIn i n → length offsets ≡ descriptorCount
     → ((d : ℕ) → d < descriptorCount → getD offsets d 0 ≤ fileBytes)
-    → (d : ℕ) → d < descriptorCount → getD (landOffset i n offsets) d 0 ≤ 4096
+    → (d : ℕ) → d < descriptorCount → getD (landOffset i n offsets) d 0 ≤ fileBytes
 unfolding landOffset
 limit-one (byte q) n offsets h e r d l = r d l
 limit-one (fileLength f) n offsets h e r d l = r d l
@@ -80,7 +80,7 @@ limit-one (offset c) n offsets h e r d l = rw (getD-set offsets c n d (omega ari
 
 pub limit-landed : (ss : List Setting) (offsets : List ℕ) → AllIn ss → length offsets ≡ descriptorCount
     → ((d : ℕ) → d < descriptorCount → getD offsets d 0 ≤ fileBytes)
-    → (d : ℕ) → d < descriptorCount → getD (landOffsets ss offsets) d 0 ≤ 4096
+    → (d : ℕ) → d < descriptorCount → getD (landOffsets ss offsets) d 0 ≤ fileBytes
 unfolding landOffsets
 limit-landed [] offsets a e r = r
 limit-landed (x ∷ ss) offsets a e r =
@@ -89,7 +89,7 @@ limit-landed (x ∷ ss) offsets a e r =
 
 length-one : (i : Item) (n : ℕ) (lengths : List ℕ) → SetIn i n → length lengths ≡ fileCount
     → ((f : ℕ) → f < fileCount → getD lengths f 0 ≤ fileBytes)
-    → (f : ℕ) → f < fileCount → getD (landLength i n lengths) f 0 ≤ 4096
+    → (f : ℕ) → f < fileCount → getD (landLength i n lengths) f 0 ≤ fileBytes
 unfolding landLength
 length-one (byte q) n lengths h e r f l = r f l
 length-one (offset d) n lengths h e r f l = r f l
@@ -101,7 +101,7 @@ length-one (fileLength g) n lengths h e r f l = rw (getD-set lengths g n f (omeg
 
 pub limit-lengths : (ss : List Setting) (lengths : List ℕ) → AllIn ss → length lengths ≡ fileCount
     → ((f : ℕ) → f < fileCount → getD lengths f 0 ≤ fileBytes)
-    → (f : ℕ) → f < fileCount → getD (landLengths ss lengths) f 0 ≤ 4096
+    → (f : ℕ) → f < fileCount → getD (landLengths ss lengths) f 0 ≤ fileBytes
 unfolding landLengths
 limit-lengths [] lengths a e r = r
 limit-lengths (x ∷ ss) lengths a e r =
@@ -160,7 +160,8 @@ agree-set item xs v i n h k l = pick (eqb k i) refl
         ap (λ (j : ℕ). getD (set xs i n) j 0) q ∙ getD-set-same xs i n 0 (subst (λ (j : ℕ). j < length xs) q inside)
     pick false e = getD-set-other xs i k n 0 (eqb-false k i e) ∙ h k inside
 
-agree-byte : (i : Item) (n : ℕ) (files : List ℕ) (v : Values) → Agree byte files v → Agree byte (landByte i n files) (putItem i n v)
+agree-byte : (i : Item) (n : ℕ) (files : List ℕ) (v : Values) → Agree byte files v
+    → Agree byte (landByte i n files) (putItem i n v)
 unfolding landByte putItem same
 agree-byte (byte q) n files v h = agree-set byte files v q n h
 agree-byte (offset d) n files v h = h
@@ -180,7 +181,8 @@ agree-length (byte q) n lengths v h = h
 agree-length (offset d) n lengths v h = h
 agree-length (fileLength f) n lengths v h = agree-set fileLength lengths v f n h
 
-bytes-agree : (ss : List Setting) (files : List ℕ) (v : Values) → Agree byte files v → Agree byte (landFiles ss files) (landed ss v)
+bytes-agree : (ss : List Setting) (files : List ℕ) (v : Values) → Agree byte files v
+    → Agree byte (landFiles ss files) (landed ss v)
 unfolding landFiles landed
 bytes-agree [] files v h = h
 bytes-agree (x ∷ ss) files v h =
@@ -191,14 +193,16 @@ offsets-agree : (ss : List Setting) (offsets : List ℕ) (v : Values) → Agree 
 unfolding landOffsets landed
 offsets-agree [] offsets v h = h
 offsets-agree (x ∷ ss) offsets v h =
-    offsets-agree ss (landOffset (x .item) (x .to) offsets) (putItem (x .item) (x .to) v) (agree-offset (x .item) (x .to) offsets v h)
+    offsets-agree ss (landOffset (x .item) (x .to) offsets) (putItem (x .item) (x .to) v)
+    (agree-offset (x .item) (x .to) offsets v h)
 
 lengths-agree : (ss : List Setting) (lengths : List ℕ) (v : Values) → Agree fileLength lengths v
     → Agree fileLength (landLengths ss lengths) (landed ss v)
 unfolding landLengths landed
 lengths-agree [] lengths v h = h
 lengths-agree (x ∷ ss) lengths v h =
-    lengths-agree ss (landLength (x .item) (x .to) lengths) (putItem (x .item) (x .to) v) (agree-length (x .item) (x .to) lengths v h)
+    lengths-agree ss (landLength (x .item) (x .to) lengths) (putItem (x .item) (x .to) v)
+    (agree-length (x .item) (x .to) lengths v h)
 
 tabulated : (item : ℕ → Item) (xs : List ℕ) (v : Values) (n : ℕ) → length xs ≡ n → Agree item xs v
     → xs ≡ tabulate (λ k. v (item k)) n

@@ -73,22 +73,22 @@ module _ (ps : List (List ℕ)) (b : List ℕ) where
 module _ (s : StoreMeaning) (t : ℕ) (logs : List ℕ) (ps : List (List ℕ)) (small : t < transactionCount)
     (size : length logs ≡ bufferBytes)
     (used : dataBefore ps (length ps) ≡ transaction s t .used .bytes) where
-  pub logged-carries : (o : Op) → dataBefore (piecesAfter o ps) (length (piecesAfter o ps)) ≤ 4096
+  pub logged-carries : (o : Op) → dataBefore (piecesAfter o ps) (length (piecesAfter o ps)) ≤ logBytes
       → Carries logs (logBytes * t) ps
       → Carries (logged t o s logs) (logBytes * t) (piecesAfter o ps)
   unfolding logged
   logged-carries (seek d v) few h = h
   logged-carries (write d bytes) few h =
-      rw (← used) (carries-more ps bytes logs (4096 * t) (omega (arith, data-all ps bytes)) h)
+      rw (← used) (carries-more ps bytes logs (logBytes * t) (omega (arith, data-all ps bytes)) h)
   logged-carries (getFilePointer d) few h = h
   logged-carries (read d n buffer) few h = h
 
-  pub logged-apart : (o : Op) → dataBefore (piecesAfter o ps) (length (piecesAfter o ps)) ≤ 4096
+  pub logged-apart : (o : Op) → dataBefore (piecesAfter o ps) (length (piecesAfter o ps)) ≤ logBytes
       → LogsApart t (logged t o s logs) logs
   unfolding logged
   logged-apart (seek d v) few = record { size = refl; before = λ i l. refl; beyond = λ i l. refl }
   logged-apart (write d bytes) few =
-      let p = 4096 * t + transaction s t .used .bytes in
+      let p = logBytes * t + transaction s t .used .bytes in
       let fits : p + length bytes ≤ length logs = omega (arith, data-all ps bytes) in
       record {
         size = length-pasted logs p bytes fits;

@@ -6,7 +6,7 @@ use borrow.Author.Tests.{eq-eqb, ne-eqb}
 use lib.Dec.{eqb}
 use lib.ListN.{length}
 use Prim.Native.Nat.{ℕ, _<_}
-use Rattle.limits.specs.Limits.{bufferBytes, transactionCount}
+use Rattle.limits.specs.Limits.{fileCount, bufferBytes, descriptorCount, transactionCount}
 use Rattle.buffers.specs.Bits.{withBit}
 use Rattle.buffers.specs.Marks.{hasMark, withMark, contains}
 use Rattle.buffers.proofs.SetLaws.{contains-with}
@@ -19,9 +19,9 @@ use Rattle.spec.proofs.Abstract.AbstractStore.{markAll, lengthAll}
 
 -- An item that a store has: one of its 32,768 bytes, of its 16 offsets, or of the lengths of its 8 files.
 abbrev pub ItemIn : Item → Type 0
-ItemIn (byte q) = q < 32768
-ItemIn (offset d) = d < 16
-ItemIn (fileLength f) = f < 8
+ItemIn (byte q) = q < bufferBytes
+ItemIn (offset d) = d < descriptorCount
+ItemIn (fileLength f) = f < fileCount
 
 abbrev pub ItemsIn : List Item → Type 0
 ItemsIn [] = Unit {0}

@@ -9,34 +9,35 @@ use Rattle.state.specs.StoreMeaning.{transaction}
 use Rattle.spec.specs.Messages.{bestOrder}
 use Rattle.spec.specs.Machine.{Machine, fileOf}
 use Rattle.spec.specs.Calls.{passing, commitCall, askedOf, orderTurn, call}
-use Rattle.spec.proofs.Abstract.AbstractStore.{vacant, held, isHeld, Abstract, staleSeat, writesSeat, abstractCommitCall}
+use Rattle.spec.proofs.Abstract.AbstractStore.{vacant, occupied, isOccupied, Abstract, staleSeat, writesSeat}
+use Rattle.spec.proofs.Abstract.AbstractStore.{abstractCommitCall}
 use Rattle.spec.proofs.Abstract.AbstractStore.{abstractAsked}
 use Rattle.spec.proofs.Abstract.AbstractStore.{abstractBestOrder, abstractCall}
 use Rattle.spec.proofs.Abstract.OrderReplies.{grants-same, Agreed, reply-same}
-use Rattle.spec.proofs.Refinement.Relation.{heldBy, seat, view, Sound}
-use Rattle.spec.proofs.Refinement.Admissions.{Agrees, first-is}
-use Rattle.spec.proofs.Refinement.EndTurns.{commit-turn}
+use Rattle.spec.proofs.Refinement.Relation.{openTxnIn, seat, view, Sound}
+use Rattle.spec.proofs.Refinement.Admissions.{TurnsAgree, first-is}
+use Rattle.spec.proofs.Refinement.EndTurns.{commit-turns-agree}
 
 pub seat-open : (m : Machine) (t : ℕ) → leb t lastTransaction && transaction (m .store) t .begun ≡ true
-    → seat m t ≡ held (heldBy m t)
+    → seat m t ≡ occupied (openTxnIn m t)
 unfolding seat
 seat-open m t e = rw e
 
-open-is : (m : Machine) (t : ℕ) → leb t lastTransaction ≡ true → transaction (m .store) t .begun ≡ isHeld (seat m t)
+open-is : (m : Machine) (t : ℕ) → leb t lastTransaction ≡ true → transaction (m .store) t .begun ≡ isOccupied (seat m t)
 unfolding seat
 open-is m t e = rw e (pick (transaction (m .store) t .begun))
   where
-    pick : (b : Bool) → b ≡ isHeld (cond b (held (heldBy m t)) vacant)
-    pick true = unfold isHeld in refl
-    pick false = unfold isHeld in refl
+    pick : (b : Bool) → b ≡ isOccupied (cond b (occupied (openTxnIn m t)) vacant)
+    pick true = unfold isOccupied in refl
+    pick false = unfold isOccupied in refl
 
 -- The Commits of an order.
 module _ (minute : ℕ) where
   abbrev Stands : Machine → Abstract → Type 0
   Stands m s = Sound m × (view m ≡ s)
 
-  pub commit-agrees : (t : ℕ) (m : Machine) → Sound m → Agrees (commitCall t minute m) (abstractCommitCall t minute (view m))
-  commit-agrees t m sound = unfold call abstractCall in commit-turn m t sound minute
+  pub commit-agrees : (t : ℕ) (m : Machine) → Sound m → TurnsAgree (commitCall t minute m) (abstractCommitCall t minute (view m))
+  commit-agrees t m sound = unfold call abstractCall in commit-turns-agree m t sound minute
 
   step : (t : ℕ) (m : Machine) (s : Abstract) → Stands m s
       → (commitCall t minute m .reply ≡ abstractCommitCall t minute s .reply)
@@ -59,15 +60,15 @@ module _ (minute : ℕ) where
   agreed m sound =
       record {
         isOpen = open-is m;
-        notReady = λ t e. rw (seat-open m t e) (unfold staleSeat writesSeat heldBy in refl);
-        hasClosed = λ t e. rw (seat-open m t e) (unfold writesSeat heldBy fileOf in refl);
+        notReady = λ t e. rw (seat-open m t e) (unfold staleSeat writesSeat openTxnIn in refl);
+        hasClosed = λ t e. rw (seat-open m t e) (unfold writesSeat openTxnIn fileOf in refl);
         grants = fun-ext (order-grants m sound);
       }
 
   pub order-turn : (m : Machine) → Sound m → (ts : List ℕ) (budget : ℕ)
-      → Agrees (call (bestOrder ts minute budget) m) (abstractCall (bestOrder ts minute budget) (view m))
+      → TurnsAgree (call (bestOrder ts minute budget) m) (abstractCall (bestOrder ts minute budget) (view m))
   unfolding call abstractCall abstractBestOrder orderTurn passing
   order-turn m sound ts budget =
-      subst (λ (n : ℕ). Agrees (passing n [] m (orderTurn ts minute budget m)) (abstractBestOrder ts minute budget (view m)))
+      subst (λ (n : ℕ). TurnsAgree (passing n [] m (orderTurn ts minute budget m)) (abstractBestOrder ts minute budget (view m)))
       (sym (first-is m 0 sound))
       (reply-same (askedOf minute m) (abstractAsked minute (view m)) (agreed m sound) ts budget minute, refl, sound)

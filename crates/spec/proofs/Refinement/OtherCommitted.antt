@@ -8,7 +8,7 @@ use lib.ListN.{length, getD, replicate, length-replicate}
 use Prim.Native.Nat.{ℕ, zero, suc, _≤_, _<_}
 use native.Mathlib.Omega.{arith}
 use lib.Dec.{leb}
-use Rattle.limits.specs.Limits.{fileCount, fileBytes, descriptorCount, transactionCount}
+use Rattle.limits.specs.Limits.{fileCount, fileBytes, descriptorCount, lastDescriptor, transactionCount}
 use Rattle.standings.specs.declared.Standing.{Standing}
 use Rattle.state.specs.declared.Descriptor.{Descriptor}
 use Rattle.standings.specs.declared.Standing.the-variants.{Untouched}
@@ -74,7 +74,7 @@ module _ (x y : Transaction) (a : AlikeElsewhere x y) where
 
   alike-record : (w : WriteRecord) → recordIn y w ≡ recordIn x w
   unfolding recordIn
-  alike-record w = ap (λ (z : Standing). leb (w .descriptor) 15 && placeIn z (w .place) (w .length))
+  alike-record w = ap (λ (z : Standing). leb (w .descriptor) lastDescriptor && placeIn z (w .place) (w .length))
       (alike-standing (w .descriptor))
 
   alike-range : (journal : List ℕ) (u : ℕ) → TransactionInRange x journal u → TransactionInRange y journal u

@@ -69,15 +69,15 @@ module _ (r : StoreMeaning) (written : List ℕ) (s : StoreMeaning) (journal : L
     write-same : (k : ℕ) → k < transaction s u .used .records → writeAt written state u k ≡ writeAt journal logs u k
     unfolding writeAt dataStart
     write-same k l =
-        let few : k < 64 = omega (arith, h .records) in
+        let few : k < recordCount = omega (arith, h .records) in
         let n = writeRecordAt journal u k .length in
-        let p = 4096 * u + lengthsBefore journal u k in
+        let p = logBytes * u + lengthsBefore journal u k in
         λ i.
         record {
           descriptor = same .records k few i .descriptor;
           place = same .records k few i .place;
           bytes =
-              (ap₂ (λ (a b : ℕ). cut state (4096 * u + a) b) (lengths-same k (omega arith))
+              (ap₂ (λ (a b : ℕ). cut state (logBytes * u + a) b) (lengths-same k (omega arith))
               (ap (λ (w : WriteRecord). w .length) (same .records k few))
               ∙ cut-apart t u state logs apart other p n (omega arith)
               (omega (arith, data-fits s journal logs u size small h k l)))

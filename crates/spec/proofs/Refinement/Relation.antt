@@ -6,6 +6,7 @@ use lib.ListN.{length, getD}
 use Prim.Native.Nat.{ℕ, _≤_, _<_}
 use Rattle.state.specs.Journal.{journalLength}
 use Rattle.limits.specs.Limits.{fileCount, bufferBytes, descriptorCount, transactionCount, recordCount, logBytes, undoBytes}
+use Rattle.limits.specs.Limits.{lastTransaction}
 use Rattle.buffers.specs.Marks.{hasMark, contains}
 use Rattle.standings.specs.declared.Standing.the-variants.{Untouched}
 use Rattle.state.specs.declared.StoreMeaning.{StoreMeaning}
@@ -17,10 +18,10 @@ use Rattle.spec.specs.Undo.{landedOn}
 use Rattle.spec.specs.Transactions.{Txn, Write}
 use Rattle.spec.specs.Steps.{total}
 use Rattle.spec.specs.Machine.{Machine, fileOf, values, txnOf, noWrite}
-use Rattle.spec.proofs.Abstract.AbstractStore.{UndoSaved, Seat, vacant, held, Saved, none, preserved, Abstract}
+use Rattle.spec.proofs.Abstract.AbstractStore.{OpenTxn, Seat, vacant, occupied, Saved, none, preserved, Abstract}
 
-unfoldable pub heldBy : Machine → ℕ → UndoSaved
-heldBy m u =
+unfoldable pub openTxnIn : Machine → ℕ → OpenTxn
+openTxnIn m u =
     record {
       txn = txnOf (m .store) (m .journal) (m .logs) u;
       marked = hasMark (m .marks) u;
@@ -29,7 +30,7 @@ heldBy m u =
     }
 
 unfoldable pub seat : Machine → ℕ → Seat
-seat m u = cond (leb u 7 && transaction (m .store) u .begun) (held (heldBy m u)) vacant
+seat m u = cond (leb u lastTransaction && transaction (m .store) u .begun) (occupied (openTxnIn m u)) vacant
 
 -- The values that the last grant found, as the store holds them; and whether it holds any.
 unfoldable pub backValues : Machine → Values

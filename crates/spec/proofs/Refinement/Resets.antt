@@ -23,8 +23,8 @@ use Rattle.spec.specs.Machine.{Machine, fileOf, txnOf, writeAt}
 use Rattle.state.specs.StoreMeaning.{withTransaction}
 use Rattle.spec.specs.Transactions.{empty, put}
 use Rattle.spec.specs.Calls.{reset}
-use Rattle.spec.proofs.Abstract.AbstractStore.{Seat, vacant, held, withSeat}
-use Rattle.spec.proofs.Refinement.Relation.{heldBy, seat, view, Sound}
+use Rattle.spec.proofs.Abstract.AbstractStore.{Seat, vacant, occupied, withSeat}
+use Rattle.spec.proofs.Refinement.Relation.{openTxnIn, seat, view, Sound}
 use Rattle.spec.proofs.Refinement.OtherCommitted.{AlikeElsewhere, Bare, Carried, bare-standing, bare-dirty, same-values}
 use Rattle.spec.proofs.Refinement.UndoValues.{back-same}
 use Rattle.spec.proofs.Refinement.AfterReset.{ending, staleAs, seat-in, seat-out, unmarked-own, ending-sound, ending-seat}
@@ -45,7 +45,8 @@ bare-txn m t b =
 
 -- What a bare transaction stands for.
 abbrev pub newSeat : Transaction → Seat
-newSeat x = cond (x .begun) (held (record { txn = empty; marked = λ q. false; lengths = λ f. false; stale = x .stale })) vacant
+newSeat x = cond (x .begun)
+    (occupied (record { txn = empty; marked = λ q. false; lengths = λ f. false; stale = x .stale })) vacant
 
 module _ (t : ℕ) (x : Transaction) (m : Machine) (small : t < transactionCount) (bare : Bare x) (sound : Sound m) where
   ts : List Transaction
@@ -74,9 +75,9 @@ module _ (t : ℕ) (x : Transaction) (m : Machine) (small : t < transactionCount
   after : Machine
   after = ending t (m .store .offsets) (m .store .lengths) ts (m .files) m
 
-  own-held : heldBy after t ≡ record { txn = empty; marked = λ q. false; lengths = λ f. false; stale = x .stale }
-  unfolding heldBy after
-  own-held =
+  own-open : openTxnIn after t ≡ record { txn = empty; marked = λ q. false; lengths = λ f. false; stale = x .stale }
+  unfolding openTxnIn after
+  own-open =
       let e = bare-txn after t (rw own bare) in
       let f : _≡_ {A = ℕ → Bool} (hasMark (withoutMarks t (m .marks)) t) (λ q. false) =
       fun-ext (unmarked-own t (m .marks)) in
@@ -92,17 +93,17 @@ module _ (t : ℕ) (x : Transaction) (m : Machine) (small : t < transactionCount
   unfolding after
   seat-own =
       seat-in after t (x .begun) (record { txn = empty; marked = λ q. false; lengths = λ f. false; stale = x .stale })
-      small (ap (λ (z : Transaction). z .begun) own) own-held
+      small (ap (λ (z : Transaction). z .begun) own) own-open
 
   seat-other : (u : ℕ) → (u ≡ t → ⊥) → (transactionCount ≤ u) ⊎ (u < transactionCount) → seat after u ≡ seat m u
-  unfolding heldBy after
+  unfolding openTxnIn after
   seat-other u h (inl l) = seat-out after u l ∙ sym (seat-out m u l)
   seat-other u h (inr l) =
       ending-seat t (m .store .offsets) (m .store .lengths) ts (m .files) m u l h
       (alike-same (transaction (m .store) u) (getD ts u noTransaction) (other u h))
-      ∙ ap (λ (y : Transaction). cond (transaction (m .store) u .begun) (held (staleAs (heldBy m u) (y .stale))) vacant)
+      ∙ ap (λ (y : Transaction). cond (transaction (m .store) u .begun) (occupied (staleAs (openTxnIn m u) (y .stale))) vacant)
       (other u h)
-      ∙ sym (seat-in m u (transaction (m .store) u .begun) (heldBy m u) l refl refl)
+      ∙ sym (seat-in m u (transaction (m .store) u .begun) (openTxnIn m u) l refl refl)
 
   seats : (u : ℕ) (b : Bool) → eqb u t ≡ b → seat after u ≡ cond b (newSeat x) (seat m u)
   seats u true e = rw (eqb-true u t e) seat-own

@@ -8,7 +8,7 @@ use lib.ListN.{length, getD}
 use Prim.Native.Nat.{ℕ, zero, suc, _+_, _*_, _≤_, _<_, suc-le-suc}
 use native.Mathlib.Omega.{arith}
 use borrow.Author.Tests.{leb-true}
-use Rattle.limits.specs.Limits.{lastFile, fileBytes, bufferBytes, descriptorCount, logBytes}
+use Rattle.limits.specs.Limits.{fileCount, lastFile, fileBytes, bufferBytes, descriptorCount, logBytes}
 use Rattle.standings.specs.declared.Standing.{Standing}
 use Rattle.standings.specs.declared.Standing.the-variants.{Untouched, Placed, Deferred, Moved, Known}
 use Rattle.standings.specs.declared.Place.{Place}
@@ -27,9 +27,9 @@ use Rattle.spec.specs.Machine.{noWrite}
 
 -- Where an item may lie, and what it may be set to.
 abbrev pub SetIn : Item → ℕ → Type 0
-SetIn (byte q) n = q < 32768
-SetIn (offset d) n = (d < 16) × (n ≤ 4096)
-SetIn (fileLength f) n = (f < 8) × (n ≤ 4096)
+SetIn (byte q) n = q < bufferBytes
+SetIn (offset d) n = (d < descriptorCount) × (n ≤ fileBytes)
+SetIn (fileLength f) n = (f < fileCount) × (n ≤ fileBytes)
 
 abbrev pub AllIn : List Setting → Type 0
 AllIn [] = Unit {0}
@@ -58,8 +58,8 @@ ends-within (Known o) end e = absurd (false≢true e)
 pub lands-in : (c : ℕ) (z : Standing) (p : Place) (n : ℕ) → c + advance z ≤ fileBytes → placeIn z p n ≡ true
     → landsAt c p + n ≤ fileBytes
 unfolding placeIn landsAt
-lands-in c z (At p) n h e = leb-true (p + n) 4096 e
-lands-in c z (After a) n h e = let f = ends-within z (a + n) (and-right (leb (a + n) 4096) (endsWithin z (a + n)) e) in omega
+lands-in c z (At p) n h e = leb-true (p + n) fileBytes e
+lands-in c z (After a) n h e = let f = ends-within z (a + n) (and-right (leb (a + n) fileBytes) (endsWithin z (a + n)) e) in omega
     arith
 
 -- ---- offsets
@@ -68,19 +68,19 @@ final-in : (c : ℕ) (z : Standing) → isTouched z ≡ true → c + advance z �
     → finalOffset c z ≤ fileBytes
 unfolding standingIn finalOffset
 final-in c Untouched s h e = absurd (false≢true s)
-final-in c (Placed o) s h e = leb-true o 4096 e
+final-in c (Placed o) s h e = leb-true o fileBytes e
 final-in c (Deferred a) s h e = h
-final-in c (Moved a o) s h e = leb-true o 4096 (and-right (leb a 4096) (leb o 4096) e)
-final-in c (Known o) s h e = leb-true o 4096 e
+final-in c (Moved a o) s h e = leb-true o fileBytes (and-right (leb a fileBytes) (leb o fileBytes) e)
+final-in c (Known o) s h e = leb-true o fileBytes e
 
 -- ---- a transaction in range whose placing fits
 
-pub fits-at : (v : Values) (y : Txn) → fits v y ≡ true → (d : ℕ) → d < descriptorCount
+pub settings-fit-at : (v : Values) (y : Txn) → fits v y ≡ true → (d : ℕ) → d < descriptorCount
     → v (offset d) + advance (y .standing d) ≤ fileBytes
 unfolding fits
-fits-at v y fit d l =
-    leb-true (v (offset d) + advance (y .standing d)) 4096
-    (below-at (λ e. leb (v (offset e) + advance (y .standing e)) 4096) 16 d fit l)
+settings-fit-at v y fit d l =
+    leb-true (v (offset d) + advance (y .standing d)) fileBytes
+    (below-at (λ e. leb (v (offset e) + advance (y .standing e)) fileBytes) descriptorCount d fit l)
 
 module _ (fileOf : ℕ → ℕ) (v : Values) (y : Txn) (files : (d : ℕ) → d < descriptorCount → fileOf d ≤ lastFile) (ranges : TxnIn y)
     (fit : fits v y ≡ true) where
@@ -91,10 +91,10 @@ module _ (fileOf : ℕ → ℕ) (v : Values) (y : Txn) (files : (d : ℕ) → d 
       let i = h 0 (omega arith) in
       let d = w .descriptor in
       let f = files d (i .descriptor) in
-      let g = lands-in (v (offset d)) (y .standing d) (w .place) (length (w .bytes)) (fits-at v y fit d (i .descriptor))
+      let g = lands-in (v (offset d)) (y .standing d) (w .place) (length (w .bytes)) (settings-fit-at v y fit d (i .descriptor))
       (i .place) in
-      all-append (bytesFrom (4096 * fileOf d + landsAt (v (offset d)) (w .place)) (w .bytes)) (byteSettings fileOf v ws)
-      (interval-in (4096 * fileOf d + landsAt (v (offset d)) (w .place)) (w .bytes) (omega arith))
+      all-append (bytesFrom (fileBytes * fileOf d + landsAt (v (offset d)) (w .place)) (w .bytes)) (byteSettings fileOf v ws)
+      (interval-in (fileBytes * fileOf d + landsAt (v (offset d)) (w .place)) (w .bytes) (omega arith))
       (bytes-in ws (λ k l. h (suc k) (suc-le-suc l)))
 
   one-in : (d : ℕ) → d < descriptorCount → (b : Bool) → setsOffset y d ≡ b
@@ -103,7 +103,7 @@ module _ (fileOf : ℕ → ℕ) (v : Values) (y : Txn) (files : (d : ℕ) → d 
   one-in d l true e = (
     (
       l,
-      final-in (v (offset d)) (y .standing d) (and-right (y .dirty d) _ e) (fits-at v y fit d l)
+      final-in (v (offset d)) (y .standing d) (and-right (y .dirty d) _ e) (settings-fit-at v y fit d l)
           (ranges .standings d),
     ),
     tt,
@@ -127,7 +127,7 @@ module _ (fileOf : ℕ → ℕ) (v : Values) (y : Txn) (files : (d : ℕ) → d 
       let i = ranges .writes k l in
       write-end (landsAt (v (offset (w .descriptor))) (w .place)) (length (w .bytes))
       (lands-in (v (offset (w .descriptor))) (y .standing (w .descriptor)) (w .place) (length (w .bytes))
-      (fits-at v y fit (w .descriptor) (i .descriptor)) (i .place)))
+      (settings-fit-at v y fit (w .descriptor) (i .descriptor)) (i .place)))
 
   lengths-in : (n : ℕ) → n ≤ 8 → AllIn (lengthSettings fileOf v (y .writes) n)
   unfolding lengthSettings

@@ -17,44 +17,47 @@ use Rattle.standings.specs.Table.{afterSeek, afterWrite, afterRead, advance, se
 use Rattle.spec.specs.Transactions.{placedAt}
 
 -- At most 4,096, of a number above one that is.
-bounded : (a b : ℕ) → b ≤ fileBytes → a ≤ b → leb a 4096 ≡ true
-bounded a b h l = le-leb a 4096 (omega arith)
+bounded : (a b : ℕ) → b ≤ fileBytes → a ≤ b → leb a fileBytes ≡ true
+bounded a b h l = le-leb a fileBytes (omega arith)
 
 pub seek-in : (v : ℕ) (z : Standing) → v ≤ fileBytes → standingIn z ≡ true → standingIn (afterSeek v z) ≡ true
 unfolding standingIn afterSeek
-seek-in v Untouched h e = le-leb v 4096 h
-seek-in v (Placed o) h e = le-leb v 4096 h
-seek-in v (Deferred a) h e = and-both (leb a 4096) (leb v 4096) (and-left (leb a 4096) true e) (le-leb v 4096 h)
-seek-in v (Moved a o) h e = and-both (leb a 4096) (leb v 4096) (and-left (leb a 4096) (leb o 4096) e) (le-leb v 4096 h)
-seek-in v (Known o) h e = le-leb v 4096 h
+seek-in v Untouched h e = le-leb v fileBytes h
+seek-in v (Placed o) h e = le-leb v fileBytes h
+seek-in v (Deferred a) h e = and-both (leb a fileBytes) (leb v fileBytes) (and-left (leb a fileBytes) true e)
+    (le-leb v fileBytes h)
+seek-in v (Moved a o) h e = and-both (leb a fileBytes) (leb v fileBytes) (and-left (leb a fileBytes) (leb o fileBytes) e)
+    (le-leb v fileBytes h)
+seek-in v (Known o) h e = le-leb v fileBytes h
 
 pub write-in : (n : ℕ) (z : Standing) → placeNumber (writePlace z) + n ≤ fileBytes → standingIn z ≡ true
     → standingIn (afterWrite n z)
     ≡ true
 unfolding standingIn afterWrite writePlace
-write-in n Untouched h e = and-both (leb n 4096) true (bounded n (0 + n) h (omega arith)) refl
-write-in n (Placed o) h e = le-leb (o + n) 4096 h
-write-in n (Deferred a) h e = and-both (leb (a + n) 4096) true (le-leb (a + n) 4096 h) refl
-write-in n (Moved a o) h e = and-both (leb a 4096) (leb (o + n) 4096) (and-left (leb a 4096) (leb o 4096) e)
-    (le-leb (o + n) 4096 h)
-write-in n (Known o) h e = le-leb (o + n) 4096 h
+write-in n Untouched h e = and-both (leb n fileBytes) true (bounded n (0 + n) h (omega arith)) refl
+write-in n (Placed o) h e = le-leb (o + n) fileBytes h
+write-in n (Deferred a) h e = and-both (leb (a + n) fileBytes) true (le-leb (a + n) fileBytes h) refl
+write-in n (Moved a o) h e = and-both (leb a fileBytes) (leb (o + n) fileBytes) (and-left (leb a fileBytes) (leb o fileBytes) e)
+    (le-leb (o + n) fileBytes h)
+write-in n (Known o) h e = le-leb (o + n) fileBytes h
 
-pub read-in : (n : ℕ) (z : Standing) → n ≤ 4096 - offsetOf z → standingIn z ≡ true → standingIn (afterRead n z) ≡ true
+pub read-in : (n : ℕ) (z : Standing) → n ≤ fileBytes - offsetOf z → standingIn z ≡ true → standingIn (afterRead n z) ≡ true
 unfolding standingIn afterRead
 read-in n Untouched h e = refl
-read-in n (Placed o) h e = let l = leb-true o 4096 e in le-leb (o + n) 4096 (omega arith)
+read-in n (Placed o) h e = let l = leb-true o fileBytes e in le-leb (o + n) fileBytes (omega arith)
 read-in n (Deferred a) h e = e
 read-in n (Moved a o) h e =
-    let l = leb-true o 4096 (and-right (leb a 4096) (leb o 4096) e) in
-    and-both (leb a 4096) (leb (o + n) 4096) (and-left (leb a 4096) (leb o 4096) e) (le-leb (o + n) 4096 (omega arith))
-read-in n (Known o) h e = let l = leb-true o 4096 e in le-leb (o + n) 4096 (omega arith)
+    let l = leb-true o fileBytes (and-right (leb a fileBytes) (leb o fileBytes) e) in
+    and-both (leb a fileBytes) (leb (o + n) fileBytes) (and-left (leb a fileBytes) (leb o fileBytes) e)
+    (le-leb (o + n) fileBytes (omega arith))
+read-in n (Known o) h e = let l = leb-true o fileBytes e in le-leb (o + n) fileBytes (omega arith)
 
 pub settled-in : (c : ℕ) (z : Standing) → c + advance z ≤ fileBytes → standingIn z ≡ true → standingIn (settled c z) ≡ true
 unfolding standingIn settled
 settled-in c Untouched h e = bounded c (c + 0) h (omega arith)
 settled-in c (Placed o) h e = e
-settled-in c (Deferred a) h e = le-leb (c + a) 4096 h
-settled-in c (Moved a o) h e = and-right (leb a 4096) (leb o 4096) e
+settled-in c (Deferred a) h e = le-leb (c + a) fileBytes h
+settled-in c (Moved a o) h e = and-right (leb a fileBytes) (leb o fileBytes) e
 settled-in c (Known o) h e = e
 
 -- A write without a place goes on ending within its descriptor's advance.
@@ -89,8 +92,8 @@ pub place-preserved : (z y : Standing) (p : Place) (n : ℕ) → EndsPreserved z
 unfolding placeIn
 place-preserved z y (At p) n k e = e
 place-preserved z y (After a) n k e =
-    and-both (leb (a + n) 4096) (endsWithin y (a + n)) (and-left (leb (a + n) 4096) (endsWithin z (a + n)) e)
-    (k (a + n) (and-right (leb (a + n) 4096) (endsWithin z (a + n)) e))
+    and-both (leb (a + n) fileBytes) (endsWithin y (a + n)) (and-left (leb (a + n) fileBytes) (endsWithin z (a + n)) e)
+    (k (a + n) (and-right (leb (a + n) fileBytes) (endsWithin z (a + n)) e))
 
 ends-le : (z : Standing) (end : ℕ) → endsWithin z end ≡ true → end ≤ advance z
 unfolding endsWithin
@@ -106,17 +109,18 @@ pub place-settled : (c : ℕ) (z y : Standing) (p : Place) (n : ℕ) → c + adv
 unfolding placeIn placedAt
 place-settled c z y (At p) n h e = e
 place-settled c z y (After a) n h e =
-    let l = ends-le z (a + n) (and-right (leb (a + n) 4096) (endsWithin z (a + n)) e) in
-    le-leb (c + a + n) 4096 (omega arith)
+    let l = ends-le z (a + n) (and-right (leb (a + n) fileBytes) (endsWithin z (a + n)) e) in
+    le-leb (c + a + n) fileBytes (omega arith)
 
 -- A new write, under the standing that it leaves.
 pub place-written : (n : ℕ) (z : Standing) → placeNumber (writePlace z) + n ≤ fileBytes
     → placeIn (afterWrite n z) (writePlace z) n
     ≡ true
 unfolding placeIn endsWithin afterWrite writePlace
-place-written n Untouched h = and-both (leb (0 + n) 4096) (leb (0 + n) n) (le-leb (0 + n) 4096 h) (le-leb (0 + n) n (omega arith))
-place-written n (Placed o) h = le-leb (o + n) 4096 h
+place-written n Untouched h = and-both (leb (0 + n) fileBytes) (leb (0 + n) n) (le-leb (0 + n) fileBytes h)
+    (le-leb (0 + n) n (omega arith))
+place-written n (Placed o) h = le-leb (o + n) fileBytes h
 place-written n (Deferred a) h =
-    and-both (leb (a + n) 4096) (leb (a + n) (a + n)) (le-leb (a + n) 4096 h) (le-leb (a + n) (a + n) (omega arith))
-place-written n (Moved a o) h = le-leb (o + n) 4096 h
-place-written n (Known o) h = le-leb (o + n) 4096 h
+    and-both (leb (a + n) fileBytes) (leb (a + n) (a + n)) (le-leb (a + n) fileBytes h) (le-leb (a + n) (a + n) (omega arith))
+place-written n (Moved a o) h = le-leb (o + n) fileBytes h
+place-written n (Known o) h = le-leb (o + n) fileBytes h

@@ -7,7 +7,7 @@ use lib.Dec.{leb, eqb}
 use lib.ListN.{length, getD, length-append, length-map}
 use native.Mathlib.Omega.{arith}
 use Prim.Native.Nat.{ℕ, _+_, _≤_, _<_}
-use Rattle.limits.specs.Limits.{fileBytes, descriptorCount, recordCount, logBytes}
+use Rattle.limits.specs.Limits.{fileBytes, descriptorCount, lastDescriptor, recordCount, logBytes}
 use Rattle.standings.specs.declared.Standing.{Standing}
 use Rattle.standings.specs.declared.Standing.the-variants.{Untouched}
 use Rattle.standings.specs.Table.{placeNumber}
@@ -167,18 +167,19 @@ unfolding settling result settle
 settling-preserved v [] x y ps low h e = let q : y ≡ x = cc in rw q h
 settling-preserved v (d ∷ ds) x y ps low h e =
     pick (λ h. settling-preserved v ds (settle d (v (offset d)) x) y ps (low .1) h)
-    (leb (v (offset d) + advance (x .standing d)) 4096) refl e
+    (leb (v (offset d) + advance (x .standing d)) fileBytes) refl e
   where
     next : Txn
     next = settle d (v (offset d)) x
 
     pick : (Preserved ps next → result v (settling ds next) ≡ all y → Preserved ps y)
-        → (b : Bool) → leb (v (offset d) + advance (x .standing d)) 4096 ≡ b
+        → (b : Bool) → leb (v (offset d) + advance (x .standing d)) fileBytes ≡ b
         → result v (cond b (settling ds next) (done past)) ≡ all y → Preserved ps y
     pick later true q r =
         later
         (record {
-          ranges = settle-in d (v (offset d)) x (low .0) (leb-true (v (offset d) + advance (x .standing d)) 4096 q) (h .ranges);
+          ranges = settle-in d (v (offset d)) x (low .0) (leb-true (v (offset d) + advance (x .standing d)) fileBytes q)
+              (h .ranges);
           same = pieces-placed d (v (offset d)) (x .writes) ∙ h .same;
         })
         r
@@ -225,13 +226,13 @@ module _ (v : Values) (bounded : (f : ℕ) → v (fileLength f) ≤ fileBytes) w
   ends-seek : (d u : ℕ) (x : Txn) → TxnIn x → Ends (pieces (x .writes)) (seekStep d u x)
   unfolding seekStep
   ends-seek d u x h =
-      ends-check _ (leb d 15) 6 _ (λ e. ends-check _ (leb u 4096) 8 _ (λ f.
-      let low = leb-true d 15 e in
+      ends-check _ (leb d lastDescriptor) 6 _ (λ e. ends-check _ (leb u fileBytes) 8 _ (λ f.
+      let low = leb-true d lastDescriptor e in
       ends-done _ (dirtied d (afterSeek u (x .standing d)) x) _ _
       (record {
         ranges =
             dirtied-in d (afterSeek u (x .standing d)) x (omega arith)
-            (seek-in u (x .standing d) (leb-true u 4096 f) (h .standings d)) (seek-ends u (x .standing d)) h;
+            (seek-in u (x .standing d) (leb-true u fileBytes f) (h .standings d)) (seek-ends u (x .standing d)) h;
         same = refl;
       })))
 
@@ -241,16 +242,17 @@ module _ (v : Values) (bounded : (f : ℕ) → v (fileLength f) ≤ fileBytes) w
       let z = x .standing d in
       let n = length bytes in
       let w : Write = record { descriptor = d; place = writePlace z; bytes = bytes } in
-      ends-check _ (leb d 15) 6 _ (λ e. ends-check _ (leb (placeNumber (writePlace z) + n) 4096) 9 _ (λ f.
-      ends-check _ (leb (length (x .writes) + 1) 64) 10 _ (λ g. ends-check _ (leb (total (x .writes) + n) 4096) 11 _ (λ i.
-      let low = leb-true d 15 e in
-      let small = leb-true (placeNumber (writePlace z) + n) 4096 f in
+      ends-check _ (leb d lastDescriptor) 6 _ (λ e. ends-check _ (leb (placeNumber (writePlace z) + n) fileBytes) 9 _ (λ f.
+      ends-check _ (leb (length (x .writes) + 1) recordCount) 10 _
+      (λ g. ends-check _ (leb (total (x .writes) + n) logBytes) 11 _ (λ i.
+      let low = leb-true d lastDescriptor e in
+      let small = leb-true (placeNumber (writePlace z) + n) fileBytes f in
       ends-done _ (written d bytes x) _ _
       (record {
         ranges =
             append-in w (dirtied d (afterWrite n z) x)
             (new-in d bytes x (omega arith) small)
-            (leb-true (length (x .writes) + 1) 64 g) (leb-true (total (x .writes) + n) 4096 i)
+            (leb-true (length (x .writes) + 1) recordCount g) (leb-true (total (x .writes) + n) logBytes i)
             (dirtied-in d (afterWrite n z) x (omega arith) (write-in n z small (h .standings d)) (write-ends n z) h);
         same = map-append (λ w. w .bytes) (x .writes) (w ∷ []);
       })))))
@@ -277,13 +279,13 @@ module _ (v : Values) (bounded : (f : ℕ) → v (fileLength f) ≤ fileBytes) w
   ends-step fileOf (seek d u) x h = ends-seek d u x h
   ends-step fileOf (write d bytes) x h = ends-write d bytes x h
   ends-step fileOf (getFilePointer d) x h =
-      ends-check _ (leb d 15) 6 _ (λ e.
-      let low = leb-true d 15 e in
+      ends-check _ (leb d lastDescriptor) 6 _ (λ e.
+      let low = leb-true d lastDescriptor e in
       ends-settling _ (cond (pointerSettles (x .standing d)) (d ∷ []) []) x _
       (one-in (pointerSettles (x .standing d)) d (omega arith)) (record { ranges = h; same = refl }) (λ y k. ends-done _ y _ _ k))
   ends-step fileOf (read d n buffer) x h =
-      ends-check _ (leb d 15) 6 _ (λ e. ends-check _ (leb n (length buffer)) 7 _ (λ f.
-      let low = leb-true d 15 e in
+      ends-check _ (leb d lastDescriptor) 6 _ (λ e. ends-check _ (leb n (length buffer)) 7 _ (λ f.
+      let low = leb-true d lastDescriptor e in
       ends-settling _ (those (λ e. readSettles (eqb (fileOf e) (fileOf d)) (eqb e d) (x .standing e)) 16) x _
       (those-in (λ e. readSettles (eqb (fileOf e) (fileOf d)) (eqb e d) (x .standing e)) 16 (omega arith))
       (record { ranges = h; same = refl })

@@ -8,7 +8,7 @@ use lib.Seq.{sets}
 use Prim.Native.Nat.{ℕ, zero, suc, _+_, _*_, _≤_, _<_, suc-le-suc}
 use native.Mathlib.Omega.{arith}
 use borrow.Author.Tests.{leb-true}
-use Rattle.limits.specs.Limits.{descriptorCount, transactionCount, lastTransaction, recordCount, logBytes}
+use Rattle.limits.specs.Limits.{lastFile, fileBytes, descriptorCount, transactionCount, lastTransaction, recordCount, logBytes}
 use Rattle.buffers.specs.Parts.{tabulate, pasted}
 use Rattle.buffers.proofs.PartLaws.{length-pasted, pasted-sets}
 use Rattle.standings.specs.Table.{finalOffset}
@@ -29,13 +29,13 @@ use Rattle.spec.specs.Commits.{Setting, landsAt, bytesFrom, byteSettings
 use Rattle.spec.specs.Commits.{lengthSettings, settings, fits}
 use Rattle.spec.specs.Machine.{Machine, fileOf, values, noWrite}
 use Rattle.spec.specs.Calls.{landByte, landFiles}
-use Rattle.spec.proofs.Abstract.AbstractStore.{vacant, held}
-use Rattle.spec.proofs.Refinement.Relation.{heldBy, seat, Sound, TxnIn, WriteIn}
+use Rattle.spec.proofs.Abstract.AbstractStore.{vacant, occupied}
+use Rattle.spec.proofs.Refinement.Relation.{openTxnIn, seat, Sound, TxnIn, WriteIn}
 use Rattle.spec.proofs.Refinement.IndexedLists.{tabulate-same, tabulate-getD, map-tabulate}
 use Rattle.spec.proofs.Refinement.StepPreserves.{pieces}
 use Rattle.spec.proofs.Refinement.Decode.{dataBefore, total-pieces}
 use Rattle.spec.proofs.Refinement.Others.{SameAt, range-same, txn-same}
-use Rattle.spec.proofs.Refinement.SettingsIn.{lands-in, fits-at}
+use Rattle.spec.proofs.Refinement.SettingsIn.{lands-in, settings-fit-at}
 
 abbrev spanAt : ℕ → ℕ → Span
 spanAt a n = record { at = a; length = n }
@@ -61,7 +61,7 @@ module _ (F : ℕ → ℕ) (v : Values) where
   unfolding byteSettings landAll landingOf
   land-bytes [] files h = unfold landFiles in refl
   land-bytes (w ∷ ws) files h =
-      let q = 4096 * F (w .descriptor) + landsAt (v (offset (w .descriptor))) (w .place) in
+      let q = fileBytes * F (w .descriptor) + landsAt (v (offset (w .descriptor))) (w .place) in
       land-append (bytesFrom q (w .bytes)) (byteSettings F v ws) files
       ∙ ap (landFiles (byteSettings F v ws)) (land-interval q (w .bytes) files ∙ sym (pasted-sets files q (w .bytes) (h .0)))
       ∙ land-bytes ws (pasted files q (w .bytes)) (rw (length-pasted files q (w .bytes) (h .0)) (h .1))
@@ -141,14 +141,14 @@ module _ (m : Machine) (x : Txn) (sound : Sound m) (ranges : TxnIn x) (fit : fit
   range : InRange (m .store) (m .journal)
   range = in-range (m .store) (m .journal) (sound .inRange)
 
-  files-in : (d : ℕ) → d < descriptorCount → F d ≤ 7
+  files-in : (d : ℕ) → d < descriptorCount → F d ≤ lastFile
   unfolding fileOf
   files-in = range .files
 
   ends : (w : Write) → WriteIn x w → landsAt (v (offset (w .descriptor))) (w .place) + length (w .bytes) ≤ logBytes
   ends w i =
       lands-in (v (offset (w .descriptor))) (x .standing (w .descriptor)) (w .place) (length (w .bytes))
-      (fits-at v x fit (w .descriptor) (i .descriptor)) (i .place)
+      (settings-fit-at v x fit (w .descriptor) (i .descriptor)) (i .place)
 
   inside-of : (us : List Write) → ((k : ℕ) → k < length us → WriteIn x (getD us k noWrite)) → Lands F v (length (m .files)) us
   unfolding landingOf
@@ -253,24 +253,25 @@ module _ (m : Machine) (x : Txn) (sound : Sound m) (ranges : TxnIn x) (fit : fit
       }
 
   -- What every transaction is stays.
-  held-same : (u : ℕ) → u < transactionCount → transaction (m .store) u .begun ≡ true → heldBy keeping u ≡ heldBy m u
-  unfolding savingUndo heldBy
-  held-same u l b =
+  open-same : (u : ℕ) → u < transactionCount → transaction (m .store) u .begun ≡ true → openTxnIn keeping u ≡ openTxnIn m u
+  unfolding savingUndo openTxnIn
+  open-same u l b =
       let e =
       txn-same (keeping .store) written (m .store) (m .journal) u (same-at u l) 8 (m .logs) (m .logs)
       (record { size = refl; before = λ i g. refl; beyond = λ i g. refl }) (sound .logs) (λ q. omega arith) l
       (range .transactions u l b) in
-      λ i. record { txn = e i; marked = heldBy m u .marked; lengths = heldBy m u .lengths; stale = heldBy m u .stale }
+      λ i. record { txn = e i; marked = openTxnIn m u .marked; lengths = openTxnIn m u .lengths; stale = openTxnIn m u .stale }
 
   pub keeping-seat : (u : ℕ) → seat keeping u ≡ seat m u
   unfolding seat savingUndo
-  keeping-seat u = pick (leb u 7 && transaction (m .store) u .begun) refl
+  keeping-seat u = pick (leb u lastTransaction && transaction (m .store) u .begun) refl
     where
-      pick : (c : Bool) → (leb u lastTransaction && transaction (m .store) u .begun) ≡ c → cond c (held (heldBy keeping u)) vacant
-          ≡ cond c (held (heldBy m u)) vacant
+      pick : (c : Bool) → (leb u lastTransaction && transaction (m .store) u .begun) ≡ c
+          → cond c (occupied (openTxnIn keeping u)) vacant
+          ≡ cond c (occupied (openTxnIn m u)) vacant
       pick true e =
-          let l = leb-true u 7 (and-left (leb u 7) (transaction (m .store) u .begun) e) in
-          ap held (held-same u (omega arith) (and-right (leb u 7) (transaction (m .store) u .begun) e))
+          let l = leb-true u lastTransaction (and-left (leb u lastTransaction) (transaction (m .store) u .begun) e) in
+          ap occupied (open-same u (omega arith) (and-right (leb u lastTransaction) (transaction (m .store) u .begun) e))
       pick false e = refl
 
   -- ---- and back again
@@ -280,7 +281,7 @@ module _ (m : Machine) (x : Txn) (sound : Sound m) (ranges : TxnIn x) (fit : fit
   unfolding spanOfRecord landedRecord landingOf fileOf
   noted-span s e k =
       let w = getD ws k noWrite in
-      ap (λ (ns : List ℕ). spanAt (4096 * getD ns (w .descriptor) 0 + landsAt (v (offset (w .descriptor))) (w .place))
+      ap (λ (ns : List ℕ). spanAt (fileBytes * getD ns (w .descriptor) 0 + landsAt (v (offset (w .descriptor))) (w .place))
       (length (w .bytes))) e
 
   landed-is : (s : StoreMeaning) → s .filenumbers ≡ m .store .filenumbers → s .undo .used .records ≡ length ws

@@ -6,7 +6,7 @@ use lib.ListN.{length}
 use Prim.Native.Nat.{ℕ, zero, suc, _+_, _≤_, _<_}
 use native.Mathlib.Omega.{arith}
 use borrow.Author.Tests.{le-leb}
-use Rattle.limits.specs.Limits.{transactionCount}
+use Rattle.limits.specs.Limits.{transactionCount, lastTransaction}
 use Rattle.buffers.specs.Parts.{tabulate}
 use Rattle.state.specs.StoreMeaning.{transaction, windowAt}
 use Rattle.state.specs.Journal.{lastGrant, writeRecordAt}
@@ -19,12 +19,13 @@ use Rattle.spec.specs.Messages.{undoCommit}
 use Rattle.spec.specs.Machine.{Machine, fileOf, values, txnOf}
 use Rattle.spec.specs.Undo.{spanOfRecord, landedOn, undone}
 use Rattle.spec.specs.Calls.{answerWith, refuseTurn, passing, undoTurn, call}
-use Rattle.spec.proofs.Abstract.AbstractStore.{Seat, vacant, held, none, preserved, isHeld, noneHeld, returned, turnedAway}
-use Rattle.spec.proofs.Abstract.AbstractStore.{telling}
+use Rattle.spec.proofs.Abstract.AbstractStore.{Seat, vacant, occupied, none, preserved, isOccupied, noneOccupied, returned}
+use Rattle.spec.proofs.Abstract.AbstractStore.{abstractRefuse}
+use Rattle.spec.proofs.Abstract.AbstractStore.{abstractAnswer}
 use Rattle.spec.proofs.Abstract.AbstractStore.{abstractReturn, abstractUndo, abstractCall}
-use Rattle.spec.proofs.Refinement.Relation.{heldBy, seat, backValues, backIn, view, Sound}
+use Rattle.spec.proofs.Refinement.Relation.{openTxnIn, seat, backValues, backIn, view, Sound}
 use Rattle.spec.proofs.Refinement.UndoValues.{back-values}
-use Rattle.spec.proofs.Refinement.Admissions.{Agrees, first-is}
+use Rattle.spec.proofs.Refinement.Admissions.{TurnsAgree, first-is}
 
 -- Spans that a table gives lie inside a buffer where each does.
 inside-more : (n : ℕ) (ss : List Span) (s : Span) → Inside n ss → s .at + s .length ≤ n → Inside n (ss ++ (s ∷ []))
@@ -51,20 +52,20 @@ module _ (m : Machine) (sound : Sound m) where
       let f = range .files (writeRecordAt (m .journal) lastGrant k .descriptor) (omega (arith, w .0)) in
       omega (arith, sound .files, w .1, f))
 
-  held-is : (u : ℕ) → u < transactionCount → isHeld (seat m u) ≡ transaction (m .store) u .begun
+  occupied-is : (u : ℕ) → u < transactionCount → isOccupied (seat m u) ≡ transaction (m .store) u .begun
   unfolding seat
-  held-is u l = rw (le-leb u 7 (omega arith)) (pick (transaction (m .store) u .begun))
+  occupied-is u l = rw (le-leb u lastTransaction (omega arith)) (pick (transaction (m .store) u .begun))
     where
-      pick : (b : Bool) → isHeld (cond b (held (heldBy m u)) vacant) ≡ b
-      pick true = unfold isHeld in refl
-      pick false = unfold isHeld in refl
+      pick : (b : Bool) → isOccupied (cond b (occupied (openTxnIn m u)) vacant) ≡ b
+      pick true = unfold isOccupied in refl
+      pick false = unfold isOccupied in refl
 
-  none-is : noneHeld (view m) ≡ noneBegun (m .store)
-  unfolding noneHeld noneBegun view
-  none-is = below-same _ _ 8 (λ u l. ap not (held-is u l))
+  none-is : noneOccupied (view m) ≡ noneBegun (m .store)
+  unfolding noneOccupied noneBegun view
+  none-is = below-same _ _ 8 (λ u l. ap not (occupied-is u l))
 
   after-seat : (u : ℕ) → seat (undone m) u ≡ seat m u
-  unfolding undone seat heldBy txnOf
+  unfolding undone seat openTxnIn txnOf
   after-seat u = refl
 
   back-view : view (undone m) ≡ returned (backValues m) (view m)
@@ -109,19 +110,19 @@ module _ (m : Machine) (sound : Sound m) where
 
   -- 23, 24, or undone.
   takes : (b c : Bool) → m .store .undo .valid ≡ c
-      → Agrees (passing (unless b 23 (unless c 24 0)) [] m (undoTurn m))
-      (guarded (λ k. turnedAway k [] (view m)) b 23 (abstractReturn (cond c (preserved (backValues m)) none) (view m)))
-  unfolding unless passing refuseTurn turnedAway abstractReturn telling undoTurn answerWith
+      → TurnsAgree (passing (unless b 23 (unless c 24 0)) [] m (undoTurn m))
+      (guarded (λ k. abstractRefuse k [] (view m)) b 23 (abstractReturn (cond c (preserved (backValues m)) none) (view m)))
+  unfolding unless passing refuseTurn abstractRefuse abstractReturn abstractAnswer undoTurn answerWith
   takes false c e = (refl, refl, sound)
   takes true false e = (refl, refl, sound)
   takes true true e = (refl, back-view, back-sound e)
 
-  pub back-turn : Agrees (call undoCommit m) (abstractCall undoCommit (view m))
+  pub back-turn : TurnsAgree (call undoCommit m) (abstractCall undoCommit (view m))
   unfolding call abstractCall abstractUndo admissionOfUndo
   back-turn =
-      subst (λ (n : ℕ). Agrees (passing n [] m (undoTurn m)) (abstractUndo (view m)))
+      subst (λ (n : ℕ). TurnsAgree (passing n [] m (undoTurn m)) (abstractUndo (view m)))
       (sym (first-is m (unless (noneBegun (m .store)) 23 (unless (m .store .undo .valid) 24 0)) sound))
-      (subst (λ (b : Bool). Agrees (passing (unless (noneBegun (m .store)) 23 (unless (m .store .undo .valid) 24 0)) [] m
+      (subst (λ (b : Bool). TurnsAgree (passing (unless (noneBegun (m .store)) 23 (unless (m .store .undo .valid) 24 0)) [] m
       (undoTurn m))
-      (guarded (λ k. turnedAway k [] (view m)) b 23 (abstractReturn (view m .back) (view m)))) (sym none-is)
+      (guarded (λ k. abstractRefuse k [] (view m)) b 23 (abstractReturn (view m .back) (view m)))) (sym none-is)
       (unfold view backIn in takes (noneBegun (m .store)) (m .store .undo .valid) refl))

@@ -31,10 +31,11 @@ abbrev pub SameGrant : Undo → List ℕ → List ℕ → Type 0
 SameGrant u written journal =
     u .valid ≡ true → (k : ℕ) → k < u .used .records → writeRecordAt written lastGrant k ≡ writeRecordAt journal lastGrant k
 
-pub undo-same : (u : Undo) (written journal : List ℕ) → SameGrant u written journal → u .valid ≡ true → UndoInRange u journal
+pub undo-values-same : (u : Undo) (written journal : List ℕ) → SameGrant u written journal → u .valid ≡ true
+    → UndoInRange u journal
     → UndoInRange u written
 unfolding lengthsBefore
-undo-same u written journal same h r =
+undo-values-same u written journal same h r =
     record {
       records = r .records;
       bytes = r .bytes;

@@ -21,10 +21,10 @@ use Rattle.spec.specs.Transactions.{put}
 use Rattle.spec.specs.Messages.{setWindow}
 use Rattle.spec.specs.Machine.{Machine, sizes, withStore, fileOf, values, txnOf}
 use Rattle.spec.specs.Calls.{answerWith, refuseTurn, passing, windowTurn, call}
-use Rattle.spec.proofs.Abstract.AbstractStore.{turnedAway, telling, windowed, abstractWindow, abstractCall}
-use Rattle.spec.proofs.Refinement.Relation.{heldBy, seat, view, Sound}
+use Rattle.spec.proofs.Abstract.AbstractStore.{abstractRefuse, abstractAnswer, windowed, abstractWindow, abstractCall}
+use Rattle.spec.proofs.Refinement.Relation.{openTxnIn, seat, view, Sound}
 use Rattle.spec.proofs.Refinement.UndoValues.{back-same}
-use Rattle.spec.proofs.Refinement.Admissions.{Agrees, first-is}
+use Rattle.spec.proofs.Refinement.Admissions.{TurnsAgree, first-is}
 
 module _ (m : Machine) (f start end : ℕ) (sound : Sound m) where
   abbrev w : Window
@@ -50,7 +50,7 @@ module _ (m : Machine) (f start end : ℕ) (sound : Sound m) where
     after-values (fileLength g) = refl
 
     after-seat : (u : ℕ) → seat after u ≡ seat m u
-    unfolding seat heldBy txnOf
+    unfolding seat openTxnIn txnOf
     after-seat u = refl
 
     after-view : view after ≡ windowed f start end (view m)
@@ -101,19 +101,19 @@ module _ (m : Machine) (f start end : ℕ) (sound : Sound m) where
 
   -- 6, 22, or set.
   sets : (n : ℕ) → admissionOfWindow (sizes m) (m .store) (m .journal) f start end ≡ n
-      → Agrees (passing n [] m (windowTurn f start end m))
-      (guarded (λ k. turnedAway k [] (view m)) (isNone n) n (telling doneAnswer (windowed f start end (view m))))
-  unfolding passing refuseTurn turnedAway windowTurn answerWith telling
+      → TurnsAgree (passing n [] m (windowTurn f start end m))
+      (guarded (λ k. abstractRefuse k [] (view m)) (isNone n) n (abstractAnswer doneAnswer (windowed f start end (view m))))
+  unfolding passing refuseTurn abstractRefuse windowTurn answerWith abstractAnswer
   sets zero e =
       let a = admitted-window (sizes m) (m .store) (m .journal) f start end e in
       let i : windowIn w ≡ true = unfold windowIn in a .minutes in
       (refl, after-view (a .small), after-sound (a .small) i)
   sets (suc n) e = (refl, refl, sound)
 
-  pub window-turn : Agrees (call (setWindow f start end) m) (abstractCall (setWindow f start end) (view m))
+  pub window-turn : TurnsAgree (call (setWindow f start end) m) (abstractCall (setWindow f start end) (view m))
   unfolding call abstractCall abstractWindow
   window-turn =
       let e : admissionOfWindow (sizes m) (m .store) (m .journal) f start end ≡ windowRefusal f start end =
       unfold admissionOfWindow in first-is m (windowRefusal f start end) sound in
-      subst (λ (n : ℕ). Agrees (passing n [] m (windowTurn f start end m)) (abstractWindow f start end (view m))) (sym e)
+      subst (λ (n : ℕ). TurnsAgree (passing n [] m (windowTurn f start end m)) (abstractWindow f start end (view m))) (sym e)
       (unfold abstractWindow in sets (windowRefusal f start end) e)

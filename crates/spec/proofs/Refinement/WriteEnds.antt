@@ -17,14 +17,14 @@ use Rattle.spec.specs.Reading.{writeEnd, placedEnd, farthest, ownEnd, le
 use Rattle.spec.specs.Machine.{noWrite}
 use Rattle.spec.proofs.Refinement.Relation.{TxnIn}
 
-pub write-end : (p n : ℕ) → p + n ≤ fileBytes → writeEnd p n ≤ 4096
+pub write-end : (p n : ℕ) → p + n ≤ fileBytes → writeEnd p n ≤ fileBytes
 unfolding writeEnd
 write-end p zero h = omega arith
 write-end p (suc n) h = h
 
 -- If no write ends past the file, neither does the farthest.
 pub farthest-in : (fileOf : ℕ → ℕ) (f : ℕ) (end : Write → ℕ) (ws : List Write)
-    → ((k : ℕ) → k < length ws → end (getD ws k noWrite) ≤ 4096) → farthest fileOf f end ws ≤ fileBytes
+    → ((k : ℕ) → k < length ws → end (getD ws k noWrite) ≤ fileBytes) → farthest fileOf f end ws ≤ fileBytes
 unfolding farthest
 farthest-in fileOf f end [] h = omega arith
 farthest-in fileOf f end (w ∷ ws) h =
@@ -32,13 +32,13 @@ farthest-in fileOf f end (w ∷ ws) h =
     let here = pick (eqb (fileOf (w .descriptor)) f) in
     omega arith
   where
-    pick : (b : Bool) → cond b (end w) 0 ≤ 4096
+    pick : (b : Bool) → cond b (end w) 0 ≤ fileBytes
     pick true = h 0 (omega arith)
     pick false = omega arith
 
-placed-end : (z : Standing) (place : Place) (n : ℕ) → placeIn z place n ≡ true → placedEnd place n ≤ 4096
+placed-end : (z : Standing) (place : Place) (n : ℕ) → placeIn z place n ≡ true → placedEnd place n ≤ fileBytes
 unfolding placedEnd placeIn
-placed-end z (At p) n e = write-end p n (leb-true (p + n) 4096 e)
+placed-end z (At p) n e = write-end p n (leb-true (p + n) fileBytes e)
 placed-end z (After a) n e = omega arith
 
 -- The transaction's own writes, and its length.

@@ -19,7 +19,7 @@ use Rattle.spec.specs.Lengths.{ZeroBeyond}
 use Rattle.spec.proofs.Abstract.Lists.{touched, landed-at}
 use Rattle.spec.proofs.Abstract.Lengths.{commit-longer, commit-raised}
 use Rattle.spec.proofs.Refinement.Relation.{WriteIn, TxnIn}
-use Rattle.spec.proofs.Refinement.SettingsIn.{lands-in, fits-at}
+use Rattle.spec.proofs.Refinement.SettingsIn.{lands-in, settings-fit-at}
 
 touched-append : (ss rs : List Setting) (j : Item) → touched (ss ++ rs) j ≡ (touched ss j || touched rs j)
 unfolding touched
@@ -54,11 +54,11 @@ module _ (fileOf : ℕ → ℕ) (v : Values) (y : Txn) (files : (d : ℕ) → d 
   abbrev place : Write → ℕ
   place w = landsAt (v (offset (w .descriptor))) (w .place)
 
-  abbrev endOf : Write → ℕ
-  endOf w = writeEnd (place w) (length (w .bytes))
+  abbrev endOfWrite : Write → ℕ
+  endOfWrite w = writeEnd (place w) (length (w .bytes))
 
   -- No write that ends before the place sets it.
-  bytes-off : (ws : List Write) → ((k : ℕ) → k < length ws → WriteIn y (getD ws k noWrite)) → farthest fileOf f endOf ws ≤ p
+  bytes-off : (ws : List Write) → ((k : ℕ) → k < length ws → WriteIn y (getD ws k noWrite)) → farthest fileOf f endOfWrite ws ≤ p
       → touched (byteSettings fileOf v ws) (byte (fileBytes * f + p)) ≡ false
   unfolding byteSettings touched farthest
   bytes-off [] h l = refl
@@ -67,15 +67,15 @@ module _ (fileOf : ℕ → ℕ) (v : Values) (y : Txn) (files : (d : ℕ) → d 
       let d = w .descriptor in
       let g = files d (i .descriptor) in
       let a = place w in
-      let k = lands-in (v (offset d)) (y .standing d) (w .place) (length (w .bytes)) (fits-at v y fit d (i .descriptor))
+      let k = lands-in (v (offset d)) (y .standing d) (w .place) (length (w .bytes)) (settings-fit-at v y fit d (i .descriptor))
       (i .place) in
-      neither (bytesFrom (4096 * fileOf d + a) (w .bytes)) (byteSettings fileOf v ws) (byte (4096 * f + p))
-      (interval-off (4096 * fileOf d + a) (w .bytes) (4096 * f + p)
+      neither (bytesFrom (fileBytes * fileOf d + a) (w .bytes)) (byteSettings fileOf v ws) (byte (fileBytes * f + p))
+      (interval-off (fileBytes * fileOf d + a) (w .bytes) (fileBytes * f + p)
       (λ m n.
       let same-file : fileOf d ≡ f = omega arith in
       let inside = in-write a (length (w .bytes)) p (omega arith) (omega arith) in
       let e = eq-eqb (fileOf d) f same-file in
-      let bound : max (endOf w) (farthest fileOf f endOf ws) ≤ p = rw e at l in
+      let bound : max (endOfWrite w) (farthest fileOf f endOfWrite ws) ≤ p = rw e at l in
       omega arith))
       (bytes-off ws (λ k l. h (suc k) (suc-le-suc l)) (omega arith))
 
@@ -85,7 +85,7 @@ module _ (fileOf : ℕ → ℕ) (v : Values) (y : Txn) (files : (d : ℕ) → d 
   offsets-off (suc d) =
       neither (offsetSettings v y d) (cond (setsOffset y d)
       (record { item = offset d; to = finalOffset (v (offset d)) (y .standing d) } ∷ []) [])
-      (byte (4096 * f + p)) (offsets-off d) (pick (setsOffset y d))
+      (byte (fileBytes * f + p)) (offsets-off d) (pick (setsOffset y d))
     where
       pick : (b : Bool) → touched (cond b (record { item = offset d; to = finalOffset (v (offset d)) (y .standing d) } ∷ []) [])
           (byte (fileBytes * f + p)) ≡ false
@@ -99,7 +99,7 @@ module _ (fileOf : ℕ → ℕ) (v : Values) (y : Txn) (files : (d : ℕ) → d 
       neither (lengthSettings fileOf v (y .writes) g)
       (cond (ltb (v (fileLength g)) (landedEnd fileOf v g (y .writes)))
       (record { item = fileLength g; to = landedEnd fileOf v g (y .writes) } ∷ []) [])
-      (byte (4096 * f + p)) (lengths-off g) (pick (ltb (v (fileLength g)) (landedEnd fileOf v g (y .writes))))
+      (byte (fileBytes * f + p)) (lengths-off g) (pick (ltb (v (fileLength g)) (landedEnd fileOf v g (y .writes))))
     where
       pick : (b : Bool)
           → touched (cond b (record { item = fileLength g; to = landedEnd fileOf v g (y .writes) } ∷ []) [])
@@ -112,9 +112,9 @@ module _ (fileOf : ℕ → ℕ) (v : Values) (y : Txn) (files : (d : ℕ) → d 
   unfolding settings landedEnd
   settings-off l =
       neither (byteSettings fileOf v (y .writes)) (offsetSettings v y 16 ++ lengthSettings fileOf v (y .writes) 8)
-      (byte (4096 * f + p))
+      (byte (fileBytes * f + p))
       (bytes-off (y .writes) (ranges .writes) l)
-      (neither (offsetSettings v y 16) (lengthSettings fileOf v (y .writes) 8) (byte (4096 * f + p)) (offsets-off 16)
+      (neither (offsetSettings v y 16) (lengthSettings fileOf v (y .writes) 8) (byte (fileBytes * f + p)) (offsets-off 16)
       (lengths-off 8))
 
 -- After a grant.
@@ -124,5 +124,6 @@ pub zero-granted : (fileOf : ℕ → ℕ) (v : Values) (y : Txn) → ((d : ℕ) 
 zero-granted fileOf v y files ranges fit zeros f p low past small =
     let a = commit-longer fileOf v y f in
     let b = commit-raised fileOf v y f low in
-    landed-at (settings fileOf v y) v (byte (4096 * f + p)) (settings-off fileOf v y files ranges fit f p small (omega arith))
+    landed-at (settings fileOf v y) v (byte (fileBytes * f + p))
+    (settings-off fileOf v y files ranges fit f p small (omega arith))
     ∙ zeros f p low (omega arith) small

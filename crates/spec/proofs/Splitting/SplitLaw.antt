@@ -7,7 +7,7 @@ use lib.Dec.{leb}
 use lib.ListN.{length, length-append}
 use native.Mathlib.Omega.{arith}
 use Prim.Native.Nat.{ℕ, zero, suc, _+_, _*_, _≤_}
-use Rattle.limits.specs.Limits.{lastDescriptor, recordCount, logBytes}
+use Rattle.limits.specs.Limits.{lastFile, fileBytes, lastDescriptor, recordCount, logBytes}
 use Rattle.standings.specs.declared.Standing.{Standing}
 use Rattle.standings.specs.declared.Place.{Place}
 use Rattle.standings.specs.declared.Place.the-variants.{At, After}
@@ -66,10 +66,10 @@ module _ (v : Values) where
       → Passes d bytes z × (accept (written d bytes z) doneAnswer [] ≡ accept x a i)
   unfolding writeStep result
   write-passes d bytes z x a i e =
-      let six = check-passed (leb d 15) 6 _ x a i e in
-      let nine = check-passed (leb (placeNumber (writePlace (z .standing d)) + length bytes) 4096) 9 _ x a i (six .1) in
-      let ten = check-passed (leb (length (z .writes) + 1) 64) 10 _ x a i (nine .1) in
-      let eleven = check-passed (leb (total (z .writes) + length bytes) 4096) 11 _ x a i (ten .1) in (
+      let six = check-passed (leb d lastDescriptor) 6 _ x a i e in
+      let nine = check-passed (leb (placeNumber (writePlace (z .standing d)) + length bytes) fileBytes) 9 _ x a i (six .1) in
+      let ten = check-passed (leb (length (z .writes) + 1) recordCount) 10 _ x a i (nine .1) in
+      let eleven = check-passed (leb (total (z .writes) + length bytes) logBytes) 11 _ x a i (ten .1) in (
         record { few = six .0; place = leb-true _ _ (nine .0); records = leb-true _ _ (ten .0); log = leb-true _ _ (eleven .0) },
         eleven .1,
       )
@@ -184,7 +184,7 @@ module _ (fileOf : ℕ → ℕ) where
       ap₂
       (λ (waits : Bool) (covers : ℕ → Bool).
       let l = intervalsOf covers in
-      let n = unless (leb f 7) 6 (unless (not waits) 15 (unless (leb (4 * length l) (length out)) 16 0)) in
+      let n = unless (leb f lastFile) 6 (unless (not waits) 15 (unless (leb (4 * length l) (length out)) 16 0)) in
       guarded (λ k. record { answer = refused k; buffer = out }) (isNone n) n
       (record { answer = pairs (length l); buffer = withPairs l out }))
       (unplaced-split fileOf f (x .writes) (y .writes) (s .writes))

@@ -8,7 +8,7 @@ use lib.Dec.{leb, ltb}
 use lib.ListN.{length, drop}
 use native.Mathlib.Omega.{arith}
 use Prim.Native.Nat.{ℕ, zero, suc, _+_, _-_, _*_, min, max}
-use Rattle.limits.specs.Limits.{recordCount}
+use Rattle.limits.specs.Limits.{fileBytes, lastDescriptor, recordCount, logBytes}
 use Rattle.standings.specs.declared.Standing.{Standing}
 use Rattle.standings.specs.Table.{advance, settled, afterSeek, afterWrite, afterRead, writePlace, offsetOf, pointerSettles}
 use Rattle.standings.specs.Table.{placeNumber}
@@ -79,29 +79,31 @@ module _ (v : Values) (f : ℕ → Standing) (g : ℕ → Bool) (xs ys : List Wr
   after ws = txn (put d (afterWrite (length bytes) (f d)) f) (put d true g) (ws ++ (through d (writePlace (f d)) bytes ∷ []))
 
   abbrev eleven : List Write → Prog Stepped
-  eleven ws = check (leb (total ws + length bytes) 4096) 11 (done (accept (after ws) doneAnswer []))
+  eleven ws = check (leb (total ws + length bytes) logBytes) 11 (done (accept (after ws) doneAnswer []))
 
   eleven-asks : asked v (eleven ys) ≡ []
-  eleven-asks = asks-none v (leb (total ys + length bytes) 4096) 11 (done (accept (after ys) doneAnswer []))
+  eleven-asks = asks-none v (leb (total ys + length bytes) logBytes) 11 (done (accept (after ys) doneAnswer []))
       (unfold asked in refl)
 
   last-test : InStep v (eleven xs) (eleven ys)
   last-test =
-      subst⁻¹ (λ (n : ℕ). InStep v (check (leb (n + length bytes) 4096) 11 (done (accept (after xs) doneAnswer []))) (eleven ys))
+      subst⁻¹ (λ (n : ℕ). InStep v (check (leb (n + length bytes) fileBytes) 11 (done (accept (after xs) doneAnswer [])))
+      (eleven ys))
       (total-split xs ys s)
-      (checks v (leb (total ys + length bytes) 4096) 11 _ _
+      (checks v (leb (total ys + length bytes) logBytes) 11 _ _
       (accepts v (put d (afterWrite (length bytes) (f d)) f) (put d true g) _ _ doneAnswer []
       (more-split xs ys (through d (writePlace (f d)) bytes ∷ []) s)))
 
   fewer : leb (length xs + 1) recordCount ≡ true → leb (length ys + 1) recordCount ≡ true
-  fewer e = le-leb (length ys + 1) 64 (omega (arith, leb-true (length xs + 1) 64 e, split-one-more xs ys s))
+  fewer e = le-leb (length ys + 1) recordCount (omega (arith, leb-true (length xs + 1) recordCount e, split-one-more xs ys s))
 
   writes-in-step : InStep v (writeStep d bytes (txn f g xs)) (writeStep d bytes (txn f g ys))
   unfolding writeStep written
   writes-in-step =
-      checks v (leb d 15) 6 _ _
-      (checks v (leb (placeNumber (writePlace (f d)) + length bytes) 4096) 9 _ _
-      (checks-ten v (leb (length xs + 1) 64) (leb (length ys + 1) 64) (eleven xs) (eleven ys) fewer eleven-asks last-test))
+      checks v (leb d lastDescriptor) 6 _ _
+      (checks v (leb (placeNumber (writePlace (f d)) + length bytes) fileBytes) 9 _ _
+      (checks-ten v (leb (length xs + 1) recordCount) (leb (length ys + 1) recordCount) (eleven xs)
+      (eleven ys) fewer eleven-asks last-test))
 
 -- ---- settling
 
@@ -118,7 +120,7 @@ module _ (v : Values) where
   settling-split [] f g xs ys s = (refl, bothAll f g xs ys s)
   settling-split (d ∷ ds) f g xs ys s =
       let c = v (offset d) in
-      pick (leb (c + advance (f d)) 4096)
+      pick (leb (c + advance (f d)) fileBytes)
       (settling-split ds (put d (settled c (f d)) f) g (map (placeWrite d c) xs) (map (placeWrite d c) ys)
       (placed-split d c xs ys s))
     where
@@ -167,7 +169,7 @@ fetch-split : (fileOf : ℕ → ℕ) (f : ℕ) (xs ys : List Write) → Split xs
 unfolding fetch
 fetch-split fileOf f xs ys s zero p = refl
 fetch-split fileOf f xs ys s (suc n) p =
-    ap₂ (λ (source : Source) (rest : Prog (List ℕ)). andThen (bring source (4096 * f + p))
+    ap₂ (λ (source : Source) (rest : Prog (List ℕ)). andThen (bring source (fileBytes * f + p))
     (λ b. andThen rest (λ bs. done (b ∷ bs))))
     (latest-split fileOf f p xs ys s) (fetch-split fileOf f xs ys s n (suc p))
 
@@ -216,16 +218,16 @@ pub step-split : (fileOf : ℕ → ℕ) (v : Values) (f : ℕ → Standing) (g :
 unfolding step
 step-split fileOf v f g xs ys s (seek d n) =
     unfold seekStep in
-    checks v (leb d 15) 6 _ _ (checks v (leb n 4096) 8 _ _
+    checks v (leb d lastDescriptor) 6 _ _ (checks v (leb n fileBytes) 8 _ _
     (accepts v (put d (afterSeek n (f d)) f) (put d true g) xs ys doneAnswer [] s))
 step-split fileOf v f g xs ys s (write d bytes) = writes-in-step v f g xs ys s d bytes
 step-split fileOf v f g xs ys s (getFilePointer d) =
     unfold pointerStep in
-    checks v (leb d 15) 6 _ _
+    checks v (leb d lastDescriptor) 6 _ _
     (settles v (λ y. done (accept y (pointer (offsetOf (y .standing d))) []))
     (λ f′ g′ xs′ ys′ s′. accepts v f′ g′ xs′ ys′ (pointer (offsetOf (f′ d))) [] s′)
     (cond (pointerSettles (f d)) (d ∷ []) []) f g xs ys s)
 step-split fileOf v f g xs ys s (read d n buffer) =
     unfold readStep settledByRead in
-    checks v (leb d 15) 6 _ _
+    checks v (leb d lastDescriptor) 6 _ _
     (checks v (leb n (length buffer)) 7 _ _ (settles v (readSettled fileOf d n buffer) (reads v fileOf d n buffer) _ f g xs ys s))

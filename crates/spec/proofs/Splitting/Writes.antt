@@ -247,18 +247,18 @@ module _ (fileOf : ℕ → ℕ) (v : Values) where
   lands-behind : (d : ℕ) (q : Place) (n : ℕ)
       → fileBytes * fileOf d + landsAt (v (offset d)) (further n q) ≡ fileBytes * fileOf d + landsAt (v (offset d)) q + n
   lands-behind d q n =
-      ap (λ (k : ℕ). 4096 * fileOf d + k) (lands-further (v (offset d)) n q)
-      ∙ sym (adding (4096 * fileOf d) (landsAt (v (offset d)) q) n)
+      ap (λ (k : ℕ). fileBytes * fileOf d + k) (lands-further (v (offset d)) n q)
+      ∙ sym (adding (fileBytes * fileOf d) (landsAt (v (offset d)) q) n)
 
   pub byte-settings-split : (xs ys : List Write) → Split xs ys → byteSettings fileOf v xs ≡ byteSettings fileOf v ys
   unfolding byteSettings
   byte-settings-split xs ys (here d q a b ws) =
-      let p = 4096 * fileOf d + landsAt (v (offset d)) q in
+      let p = fileBytes * fileOf d + landsAt (v (offset d)) q in
       ap (λ (k : ℕ). bytesFrom p a ++ (bytesFrom k b ++ byteSettings fileOf v ws)) (lands-behind d q (length a))
       ∙ sym (append-assoc (bytesFrom p a) (bytesFrom (p + length a) b) (byteSettings fileOf v ws))
       ∙ ap (λ (l : List Setting). l ++ byteSettings fileOf v ws) (sym (interval-append p a b))
   byte-settings-split xs ys (there w ws vs s) =
-      ap (λ (l : List Setting). bytesFrom (4096 * fileOf (w .descriptor) + landsAt (v (offset (w .descriptor))) (w .place))
+      ap (λ (l : List Setting). bytesFrom (fileBytes * fileOf (w .descriptor) + landsAt (v (offset (w .descriptor))) (w .place))
       (w .bytes) ++ l)
       (byte-settings-split ws vs s)
 
@@ -268,11 +268,11 @@ module _ (fileOf : ℕ → ℕ) (v : Values) where
       → oldBytes (landingsOf fileOf v xs) files ≡ oldBytes (landingsOf fileOf v ys) files
   unfolding landingOf
   old-split xs ys (here d q a b ws) files h =
-      let p = 4096 * fileOf d + landsAt (v (offset d)) q in
+      let p = fileBytes * fileOf d + landsAt (v (offset d)) q in
       ap (λ (k : ℕ). oldBytes (landing p a ∷ (landing k b ∷ landingsOf fileOf v ws)) files) (lands-behind d q (length a))
       ∙ old-joined p a b (landingsOf fileOf v ws) files (h .0)
   old-split xs ys (there w ws vs s) files h =
-      let p = 4096 * fileOf (w .descriptor) + landsAt (v (offset (w .descriptor))) (w .place) in
+      let p = fileBytes * fileOf (w .descriptor) + landsAt (v (offset (w .descriptor))) (w .place) in
       old-after (landing p (w .bytes)) (landingsOf fileOf v ws) (landingsOf fileOf v vs) files
       (old-split ws vs s (pasted files p (w .bytes)) (rw (length-pasted files p (w .bytes) (h .0)) (h .1)))
 

@@ -6,6 +6,7 @@ use mathlib.Core.Path.{_≡_, refl, sym, ap, ap₂, _∙_, fun-ext, subst⁻¹}
 use lib.ListN.{length, getD, set, replicate, length-replicate}
 use Prim.Native.Nat.{ℕ, zero, suc, _≤_}
 use native.Mathlib.Omega.{arith}
+use Rattle.limits.specs.Limits.{bufferBytes, lastTransaction}
 use Rattle.windows.specs.declared.Window.{Window}
 use Rattle.windows.specs.Windows.{freshWindow}
 use Rattle.buffers.specs.Parts.{tabulate}
@@ -36,7 +37,7 @@ use Rattle.spec.proofs.Abstract.SameReplies.{backOf}
 use Rattle.spec.proofs.Abstract.AbstractStore.{Saved, none, preserved, Abstract, startAbstract, abstractAfter}
 use Rattle.spec.proofs.Abstract.AbstractStore.{abstractReplies}
 use Rattle.spec.proofs.Refinement.Relation.{backValues, backIn, view, Sound}
-use Rattle.spec.proofs.Refinement.UndoValues.{SameGrant, undo-same, back-same, back-values}
+use Rattle.spec.proofs.Refinement.UndoValues.{SameGrant, undo-values-same, back-same, back-values}
 use Rattle.spec.proofs.Refinement.FreshView.{fresh-sound, closed-at}
 use Rattle.spec.proofs.Theorems.Serializability.{calls-agree, fresh-facts, holds-from}
 use Rattle.spec.proofs.Theorems.Recovery.{resting-view, recovered-closed, recovered-sound, calls-append, runs-from-fresh}
@@ -165,7 +166,7 @@ earlier-of m = pick (m .store .undo .valid)
     pick false = refl
 
 -- Serializability from a sound store with nothing open.
-module _ (m : Machine) (sound : Sound m) (closed : (t : ℕ) → t ≤ 7 → transaction (m .store) t .begun ≡ false) where
+module _ (m : Machine) (sound : Sound m) (closed : (t : ℕ) → t ≤ lastTransaction → transaction (m .store) t .begun ≡ false) where
   pub resting-start :
       view m ≡ startAbstract (fileOf (m .store)) (values (m .store) (m .files)) (windowAt (m .store)) (backOf (earlierIn m))
   resting-start =
@@ -195,12 +196,12 @@ same-values m n e = fun-ext each
     each (fileLength f) = unfold values in ap (λ (l : List ℕ). getD l f 0) (e .lengths)
 
 -- A sound store with nothing open.
-pub record Idle (m : Machine) : Type 0 where
+pub record IdleMachine (m : Machine) : Type 0 where
   pub sound : Sound m
-  pub closed : (t : ℕ) → t ≤ 7 → transaction (m .store) t .begun ≡ false
+  pub closed : (t : ℕ) → t ≤ lastTransaction → transaction (m .store) t .begun ≡ false
 
 -- Two such stores with the same committed state stand for the same abstract store.
-pub idle-alike : (m n : Machine) → Idle m → Idle n → n .store .filenumbers ≡ m .store .filenumbers → NothingLost m n
+pub idle-alike : (m n : Machine) → IdleMachine m → IdleMachine n → n .store .filenumbers ≡ m .store .filenumbers → NothingLost m n
     → (cs : List Call) → Alike cs m n
 unfolding fileOf
 idle-alike m n a b files lost =
@@ -212,28 +213,28 @@ idle-alike m n a b files lost =
     ∙ ap₂ (λ (ws : List Window) (x : Earlier). startAbstract (fileOf (m .store)) (values (m .store) (m .files))
     (λ f. getD ws f freshWindow) (backOf x)) (lost .windows) (lost .earlier)))
 
-at-rest-idle : (m : Machine) → AtRest m → Idle m
+at-rest-idle : (m : Machine) → AtRest m → IdleMachine m
 at-rest-idle m rest = record { sound = at-rest-sound m rest; closed = rest .closed }
 
 -- The young store is sound too, has nothing open and the same committed values.
-module _ (m : Machine) (s : Sound m) (logs : List ℕ) (size : length logs ≡ 32768) where
+module _ (m : Machine) (s : Sound m) (logs : List ℕ) (size : length logs ≡ bufferBytes) where
   abbrev records : ℕ
   records = m .store .undo .used .records
 
   abbrev young-journal : List ℕ
-  young-journal = withRecords (replicate 1728 0) lastGrant (writeRecordAt (m .journal) lastGrant) records
+  young-journal = withRecords (replicate journalLength 0) lastGrant (writeRecordAt (m .journal) lastGrant) records
 
   -- Its journal holds the same of the last grant.
   young-grant : SameGrant (m .store .undo) young-journal (m .journal)
   young-grant h k l =
       let r = in-range (m .store) (m .journal) (s .inRange) .undo h in
       let w = landed-in (writeRecordAt (m .journal) lastGrant k) (r .writes k l) in
-      read-own (replicate 1728 0) lastGrant (writeRecordAt (m .journal) lastGrant) (length-replicate 1728 zero)
+      read-own (replicate journalLength 0) lastGrant (writeRecordAt (m .journal) lastGrant) (length-replicate journalLength zero)
       (omega arith) records k (r .records) l (omega (arith, w .0))
 
-  young-long : length young-journal ≡ 1728
-  young-long = length-with (replicate 1728 0) lastGrant (writeRecordAt (m .journal) lastGrant) records
-      ∙ length-replicate 1728 zero
+  young-long : length young-journal ≡ journalLength
+  young-long = length-with (replicate journalLength 0) lastGrant (writeRecordAt (m .journal) lastGrant) records
+      ∙ length-replicate journalLength zero
 
   pub young-sound : Sound (rejuvenated m logs)
   unfolding rejuvenated freshMachine freshStore
@@ -264,12 +265,12 @@ module _ (m : Machine) (s : Sound m) (logs : List ℕ) (size : length logs ≡ 3
               offsets = r .offsets;
               lengths = r .lengths;
               windows = r .windows;
-              undo = λ h. undo-same (m .store .undo) young-journal (m .journal) young-grant h (r .undo h);
+              undo = λ h. undo-values-same (m .store .undo) young-journal (m .journal) young-grant h (r .undo h);
               transactions = λ u l b. absurd (true≢false (sym b ∙ closed-at (m .store .filenumbers) logs (m .undo) u l));
             });
       }
 
-  young-closed : (t : ℕ) → t ≤ 7 → transaction (rejuvenated m logs .store) t .begun ≡ false
+  young-closed : (t : ℕ) → t ≤ lastTransaction → transaction (rejuvenated m logs .store) t .begun ≡ false
   unfolding rejuvenated freshMachine
   young-closed t l = closed-at (m .store .filenumbers) logs (m .undo) t (omega arith)
 

@@ -7,6 +7,7 @@ use lib.Dec.{leb}
 use lib.ListN.{length}
 use native.Mathlib.Omega.{arith}
 use Prim.Native.Nat.{ℕ, zero, suc, _+_, _≤_}
+use Rattle.limits.specs.Limits.{lastTransaction, mostOrders}
 use Rattle.state.specs.StoreMeaning.{transaction}
 use Rattle.state.specs.Outcomes.{Said, doneAnswer, pointer, given, granted, pairs, ordered, refused}
 use Rattle.admission.proofs.Laws.{and-left}
@@ -19,10 +20,10 @@ use Rattle.spec.specs.Machine.{Machine}
 use Rattle.spec.specs.Calls.{passing, commitCall, askedOf, orderTurn, call, callsAfter, callsReplies}
 use Rattle.spec.specs.BestOrder.{grantsBy, BestOrder, BestOrderHolds}
 use Rattle.spec.specs.Corollaries.{BestOrderAlwaysHolds}
-use Rattle.spec.proofs.Abstract.AbstractStore.{vacant, held, isHeld, writesSeat, abstractAsked}
+use Rattle.spec.proofs.Abstract.AbstractStore.{vacant, occupied, isOccupied, writesSeat, abstractAsked}
 use Rattle.spec.proofs.Abstract.OrderReplies.{passed}
-use Rattle.spec.proofs.Abstract.ClosedCommits.{may, fewer-count, few}
-use Rattle.spec.proofs.Refinement.Relation.{heldBy, seat, view, Sound}
+use Rattle.spec.proofs.Abstract.ClosedCommits.{may, fewer-count, few-closed}
+use Rattle.spec.proofs.Refinement.Relation.{openTxnIn, seat, view, Sound}
 use Rattle.spec.proofs.Refinement.Admissions.{first-is}
 use Rattle.spec.proofs.Refinement.OrderTurn.{order-grants}
 use Rattle.spec.proofs.Theorems.Answers.{answer-not-refused}
@@ -59,18 +60,19 @@ numbersIn (refused n) = record { grants = 0; gap = 0; tried = 0 }
 module _ (m : Machine) (sound : Sound m) (minute : ℕ) where
   may-open : (t : ℕ) → may minute (view m) (view m .seats t) ≡ true → not (askedOf minute m .hasClosed t) ≡ true
   unfolding view seat
-  may-open t e = pick (leb t 7 && transaction (m .store) t .begun) e
+  may-open t e = pick (leb t lastTransaction && transaction (m .store) t .begun) e
     where
-      pick : (b : Bool) → may minute (view m) (cond b (held (heldBy m t)) vacant) ≡ true → not (askedOf minute m .hasClosed t)
+      pick : (b : Bool) → may minute (view m) (cond b (occupied (openTxnIn m t)) vacant) ≡ true
+          → not (askedOf minute m .hasClosed t)
           ≡ true
-      pick true k = unfold may isHeld writesSeat heldBy view askedOf in k
-      pick false k = absurd (true≢false (sym (unfold may isHeld in k)))
+      pick true k = unfold may isOccupied writesSeat openTxnIn view askedOf in k
+      pick false k = absurd (true≢false (sym (unfold may isOccupied in k)))
 
   store-few : (o : List ℕ) → askedOf minute m .grants o ≤ countIn (λ t. not (askedOf minute m .hasClosed t)) o
   unfolding abstractAsked
   store-few o =
       let e = order-grants minute m sound o in
-      let a = few minute o (view m) in
+      let a = few-closed minute o (view m) in
       let c = fewer-count minute (λ t. may minute (view m) (view m .seats t)) (λ t. not (askedOf minute m .hasClosed t)) may-open
       o in
       omega arith
@@ -116,7 +118,7 @@ module _ (m : Machine) (sound : Sound m) (minute : ℕ) where
 
 budget-passed : (a : Asked) (ts : List ℕ) (minute budget : ℕ) → orderRefusal a ts minute budget ≡ 0 → 1 ≤ budget
 budget-passed a ts minute budget e =
-    leb-true 1 budget (and-left (leb 1 budget) (leb budget 40320) (passed a ts minute budget e .affordable))
+    leb-true 1 budget (and-left (leb 1 budget) (leb budget mostOrders) (passed a ts minute budget e .affordable))
 
 pub best-order : (m : Machine) → Sound m → BestOrderHolds m
 unfolding call passing orderTurn orderReply

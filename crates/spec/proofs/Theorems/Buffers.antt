@@ -7,7 +7,7 @@ use lib.Dec.{leb, eqb}
 use lib.ListN.{getD, set, replicate}
 use native.Mathlib.Omega.{arith}
 use Prim.Native.Nat.{ℕ, zero, suc, _+_, _*_, _≤_}
-use Rattle.limits.specs.Limits.{lastTransaction, logBytes}
+use Rattle.limits.specs.Limits.{fileBytes, lastTransaction, logBytes}
 use Rattle.buffers.specs.Bits.{bit}
 use Rattle.buffers.specs.Marks.{names, hasMark, withMark, withoutMarks}
 use Rattle.buffers.specs.Parts.{pasted, tabulate}
@@ -138,7 +138,7 @@ module _ (t : ℕ) (v : Values) (marks : List ℕ) where
   settling-marks : (ds : List ℕ) (x : Txn) → marked t (asked v (settling ds x)) marks ≡ marks
   unfolding settling asked marked
   settling-marks [] x = refl
-  settling-marks (d ∷ ds) x = pick (leb (v (offset d) + advance (x .standing d)) 4096)
+  settling-marks (d ∷ ds) x = pick (leb (v (offset d) + advance (x .standing d)) fileBytes)
       (settling-marks ds (settle d (v (offset d)) x))
     where
       pick : (b : Bool) → marked t (asked v (settling ds (settle d (v (offset d)) x))) marks ≡ marks
@@ -304,7 +304,7 @@ fresh-zeros numbers logs undo =
       lengths = refl;
       windows = all-same freshWindow 8;
       closed = closed-all 8;
-      nothingHeld = refl;
+      nothingToUndo = refl;
     }
 
 -- An answered call's turn is its own.

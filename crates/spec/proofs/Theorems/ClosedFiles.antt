@@ -34,7 +34,7 @@ use Rattle.spec.proofs.Abstract.Programs.{Every, every-append}
 use Rattle.spec.proofs.Abstract.Lists.{touched, same-true, or-left-false, or-right-false}
 use Rattle.spec.proofs.Refinement.Relation.{WriteIn}
 use Rattle.spec.proofs.Refinement.Decode.{decoded-writes}
-use Rattle.spec.proofs.Refinement.SettingsIn.{lands-in, fits-at}
+use Rattle.spec.proofs.Refinement.SettingsIn.{lands-in, settings-fit-at}
 use Rattle.spec.proofs.Refinement.Landing.{files-land, lengths-land}
 use Rattle.spec.proofs.Refinement.Zeros.{neither}
 use Rattle.spec.proofs.Theorems.Answers.{answer-not-refused}
@@ -52,7 +52,7 @@ no-bytes a (suc n) q = absurd (true≢false (sym (ap (λ (b : Bool). b && true) 
 module _ (ws : Windows) (minute : ℕ) where
   -- A setting of no byte of a closed file.
   abbrev Sparing : Item → Type 0
-  Sparing (byte q) = isClosedAt ws minute (q / 4096) ≡ false
+  Sparing (byte q) = isClosedAt ws minute (q / fileBytes) ≡ false
   Sparing (offset d) = Unit {0}
   Sparing (fileLength f) = Unit {0}
 
@@ -65,7 +65,7 @@ module _ (ws : Windows) (minute : ℕ) where
   unfolding bytesFrom
   interval-spares g q [] l k h = tt
   interval-spares g q (b ∷ bs) l k h =
-      let e : q / 4096 ≡ g = omega arith in
+      let e : q / fileBytes ≡ g = omega arith in
       let c = h (omega arith) in
       (rw e c, interval-spares g (suc q) bs (omega arith) (omega arith) (λ m. c))
 
@@ -79,12 +79,12 @@ module _ (ws : Windows) (minute : ℕ) where
         let i = h 0 (omega arith) in
         let d = w .descriptor in
         let a = landsAt (v (offset d)) (w .place) in
-        let k = lands-in (v (offset d)) (y .standing d) (w .place) (length (w .bytes)) (fits-at v y fit d (i .descriptor))
+        let k = lands-in (v (offset d)) (y .standing d) (w .place) (length (w .bytes)) (settings-fit-at v y fit d (i .descriptor))
         (i .place) in
         let o = or-left-false (isForClosed file ws minute w) (someWrite (isForClosed file ws minute) us) e in
         let r = or-right-false (isForClosed file ws minute w) (someWrite (isForClosed file ws minute) us) e in
-        every-append (λ (s : Setting). Sparing (s .item)) (bytesFrom (4096 * file d + a) (w .bytes)) (byteSettings file v us)
-        (interval-spares (file d) (4096 * file d + a) (w .bytes) (omega arith) (omega arith)
+        every-append (λ (s : Setting). Sparing (s .item)) (bytesFrom (fileBytes * file d + a) (w .bytes)) (byteSettings file v us)
+        (interval-spares (file d) (fileBytes * file d + a) (w .bytes) (omega arith) (omega arith)
         (λ l. opened (length (w .bytes)) l (unfold isForClosed in o)))
         (bytes-spare us (λ k l. h (suc k) (suc-le-suc l)) r)
       where
@@ -136,7 +136,7 @@ module _ (ws : Windows) (minute : ℕ) where
     where
       pick : (b : Bool) → same (s .item) (byte q) ≡ b → touched ss (byte q) ≡ false → (b || touched ss (byte q)) ≡ false
       pick true e r =
-          let z : isClosedAt ws minute (q / 4096) ≡ false = subst Sparing (same-true (s .item) (byte q) e) (h .0) in
+          let z : isClosedAt ws minute (q / fileBytes) ≡ false = subst Sparing (same-true (s .item) (byte q) e) (h .0) in
           absurd (true≢false (sym c ∙ z))
       pick false e r = r
 
@@ -172,7 +172,7 @@ module _ (ws : Windows) (minute : ℕ) where
       unfolding byteSettings
       bytes-no-length [] = unfold touched in refl
       bytes-no-length (w ∷ us) =
-          let q = 4096 * file (w .descriptor) + landsAt (v (offset (w .descriptor))) (w .place) in
+          let q = fileBytes * file (w .descriptor) + landsAt (v (offset (w .descriptor))) (w .place) in
           neither (bytesFrom q (w .bytes)) (byteSettings file v us) (fileLength f) (interval-no-length q (w .bytes))
           (bytes-no-length us)
 

@@ -6,14 +6,14 @@ use borrow.Author.Tests.{leb-true}
 use lib.Dec.{leb}
 use native.Mathlib.Omega.{arith}
 use Prim.Native.Nat.{ℕ, zero, suc, _≤_, _<_}
-use Rattle.limits.specs.Limits.{fileBytes, lastTransaction}
+use Rattle.limits.specs.Limits.{fileBytes, transactionCount, lastTransaction}
 use Rattle.windows.specs.Windows.{minuteIn}
 use Rattle.state.specs.Outcomes.{doneAnswer}
 use Rattle.admission.specs.FirstRefusal.{guarded, isNone}
 use Rattle.admission.specs.Admission.{windowRefusal, admissionOfUndo}
 use Rattle.spec.specs.Windows.{forClosed}
 use Rattle.state.specs.StoreMeaning.{transaction}
-use Rattle.admission.proofs.Laws.{admitted-back, in-range, and-right}
+use Rattle.admission.proofs.Laws.{admitted-undo, in-range, and-right}
 use Rattle.spec.specs.Items.{fileLength, Values, result, asked}
 use Rattle.spec.specs.Messages.{Op, bufferOf, Call, begin, on, commit, abort, places, setWindow, undoCommit, bestOrder}
 use Rattle.spec.specs.Messages.{afterAll}
@@ -25,16 +25,18 @@ use Rattle.spec.specs.Calls.{refuseTurn, passing, undoTurn, call, callsA
 use Rattle.spec.specs.Recovery.{recovered, ProgramRun, runsAfter}
 use Rattle.spec.specs.Lengths.{ZeroBeyond, Longer, committedIn, LengthsHold, LengthsAlwaysHold}
 use Rattle.spec.specs.Counterexamples.{firstBeyond, LengthsTell}
-use Rattle.spec.proofs.Abstract.AbstractStore.{UndoSaved, Seat, vacant, held, Saved, none, preserved, noneHeld, returned}
+use Rattle.spec.proofs.Abstract.AbstractStore.{OpenTxn, Seat, vacant, occupied, Saved, none, preserved, noneOccupied}
+use Rattle.spec.proofs.Abstract.AbstractStore.{returned}
 use Rattle.spec.proofs.Abstract.AbstractStore.{abstractReturn, abstractUndo}
-use Rattle.spec.proofs.Abstract.AbstractStore.{Abstract, startAbstract, turnedAway, AbstractTurn, withSeat, telling}
+use Rattle.spec.proofs.Abstract.AbstractStore.{Abstract, startAbstract, abstractRefuse, AbstractTurn, withSeat}
+use Rattle.spec.proofs.Abstract.AbstractStore.{abstractAnswer}
 use Rattle.spec.proofs.Abstract.AbstractStore.{abstractBegin}
 use Rattle.spec.proofs.Abstract.AbstractStore.{abstractStepped, abstractOn, granting, abstractCommitted, abstractCommit}
 use Rattle.spec.proofs.Abstract.AbstractStore.{abstractAbort}
 use Rattle.spec.proofs.Abstract.AbstractStore.{abstractPlaces, windowed, abstractWindow, seated, abstractCall}
 use Rattle.spec.proofs.Abstract.AbstractStore.{abstractBestOrder}
 use Rattle.spec.proofs.Abstract.Lengths.{commit-longer}
-use Rattle.spec.proofs.Refinement.Relation.{heldBy, seat, backValues, backIn, view, Sound}
+use Rattle.spec.proofs.Refinement.Relation.{openTxnIn, seat, backValues, backIn, view, Sound}
 use Rattle.spec.proofs.Refinement.UndoValues.{back-values}
 use Rattle.spec.proofs.Refinement.Decode.{decoded-in}
 use Rattle.spec.proofs.Refinement.Accepted.{length-in}
@@ -45,7 +47,7 @@ use Rattle.spec.proofs.Theorems.Recovery.{recovered-sound, recovered-vi
 -- What holds of the committed values, and of those that a granted Commit leaves, holds after every call.
 module _ (P : Values → Saved → Type 0) (s : Abstract) (now : P (s .value) (s .back)) (grantable backable : Bool)
     (then :
-    grantable ≡ true → (t : ℕ) (h : UndoSaved) → leb t lastTransaction ≡ true → s .seats t ≡ held h
+    grantable ≡ true → (t : ℕ) (h : OpenTxn) → leb t lastTransaction ≡ true → s .seats t ≡ occupied h
     → fits (s .value) (h .txn) ≡ true
     → P (landed (settings (s .fileOf) (s .value) (h .txn)) (s .value)) (preserved (s .value)))
     (back : backable ≡ true → (v : Values) → s .back ≡ preserved v → P v none) where
@@ -54,23 +56,23 @@ module _ (P : Values → Saved → Type 0) (s : Abstract) (now : P (s .value) (s
   At z = P (z .value) (z .back)
 
   preserved-begin : (t : ℕ) (x : Seat) → At (abstractBegin t x s .after)
-  unfolding abstractBegin telling withSeat turnedAway
+  unfolding abstractBegin abstractAnswer withSeat abstractRefuse
   preserved-begin t vacant = now
-  preserved-begin t (held h) = now
+  preserved-begin t (occupied h) = now
 
-  preserved-stepped : (t : ℕ) (o : Op) (h : UndoSaved) (z : Stepped)
+  preserved-stepped : (t : ℕ) (o : Op) (h : OpenTxn) (z : Stepped)
       → At (abstractStepped t o h (asked (s .value) (step (s .fileOf) o (h .txn))) s z .after)
-  unfolding abstractStepped withSeat turnedAway
+  unfolding abstractStepped withSeat abstractRefuse
   preserved-stepped t o h (refuse n) = now
   preserved-stepped t o h (accept y a b) = now
 
   preserved-on : (t : ℕ) (o : Op) (x : Seat) → At (abstractOn t o x s .after)
-  unfolding abstractOn turnedAway
+  unfolding abstractOn abstractRefuse
   preserved-on t o vacant = now
-  preserved-on t o (held h) = preserved-stepped t o h
+  preserved-on t o (occupied h) = preserved-stepped t o h
       (refusedStale (h .stale) o (result (s .value) (step (s .fileOf) o (h .txn))))
 
-  preserved-committed : (t : ℕ) (h : UndoSaved) → leb t lastTransaction ≡ true → s .seats t ≡ held h
+  preserved-committed : (t : ℕ) (h : OpenTxn) → leb t lastTransaction ≡ true → s .seats t ≡ occupied h
       → (daily stale shut placed : Bool)
       → fits (s .value) (h .txn) ≡ placed → grantable ≡ true
       → At (abstractCommitted t h s (commitRefusal daily stale shut placed) .after)
@@ -83,51 +85,52 @@ module _ (P : Values → Saved → Type 0) (s : Abstract) (now : P (s .value) (s
 
   preserved-commit : grantable ≡ true → (t minute : ℕ) → leb t lastTransaction ≡ true → (x : Seat) → s .seats t ≡ x
       → At (abstractCommit t minute x s .after)
-  unfolding abstractCommit turnedAway
+  unfolding abstractCommit abstractRefuse
   preserved-commit g t minute l vacant o = now
-  preserved-commit g t minute l (held h) o =
+  preserved-commit g t minute l (occupied h) o =
       preserved-committed t h l o (minuteIn minute) (h .stale) (forClosed (s .fileOf) (s .windows) minute (h .txn .writes))
       (fits (s .value) (h .txn)) refl g
 
   preserved-abort : (t : ℕ) (x : Seat) → At (abstractAbort t x s .after)
-  unfolding abstractAbort telling withSeat turnedAway
+  unfolding abstractAbort abstractAnswer withSeat abstractRefuse
   preserved-abort t vacant = now
-  preserved-abort t (held h) = now
+  preserved-abort t (occupied h) = now
 
   preserved-places : (f : ℕ) (out : List ℕ) (x : Seat) → At (abstractPlaces f out x s .after)
-  unfolding abstractPlaces turnedAway
+  unfolding abstractPlaces abstractRefuse
   preserved-places f out vacant = now
-  preserved-places f out (held h) = now
+  preserved-places f out (occupied h) = now
 
   preserved-window : (f start end : ℕ) → At (abstractWindow f start end s .after)
-  unfolding abstractWindow turnedAway telling windowed
+  unfolding abstractWindow abstractRefuse abstractAnswer windowed
   preserved-window f start end = pick (windowRefusal f start end)
     where
-      pick : (n : ℕ) → At (guarded (λ k. turnedAway k [] s) (isNone n) n (telling doneAnswer (windowed f start end s)) .after)
+      pick : (n : ℕ) → At (guarded (λ k. abstractRefuse k [] s) (isNone n) n
+          (abstractAnswer doneAnswer (windowed f start end s)) .after)
       pick zero = now
       pick (suc n) = now
 
   preserved-return : backable ≡ true → (b : Saved) → s .back ≡ b → At (abstractReturn b s .after)
-  unfolding abstractReturn turnedAway telling returned
+  unfolding abstractReturn abstractRefuse abstractAnswer returned
   preserved-return g none e = now
   preserved-return g (preserved v) e = back g v e
 
   preserved-back : backable ≡ true → At (abstractUndo s .after)
-  unfolding abstractUndo turnedAway
-  preserved-back g = pick (noneHeld s)
+  unfolding abstractUndo abstractRefuse
+  preserved-back g = pick (noneOccupied s)
     where
-      pick : (b : Bool) → At (guarded (λ k. turnedAway k [] s) b 23 (abstractReturn (s .back) s) .after)
+      pick : (b : Bool) → At (guarded (λ k. abstractRefuse k [] s) b 23 (abstractReturn (s .back) s) .after)
       pick true = preserved-return g (s .back) refl
       pick false = now
 
   preserved-seated : (t : ℕ) (buffer : List ℕ) (next : Seat → Abstract → AbstractTurn)
       → (leb t lastTransaction ≡ true → At (next (s .seats t) s .after))
       → At (seated t buffer next s .after)
-  unfolding seated turnedAway
-  preserved-seated t buffer next h = pick (leb t 7) h
+  unfolding seated abstractRefuse
+  preserved-seated t buffer next h = pick (leb t lastTransaction) h
     where
       pick : (b : Bool) → (b ≡ true → At (next (s .seats t) s .after))
-          → At (cond b (next (s .seats t) s) (turnedAway 3 buffer s) .after)
+          → At (cond b (next (s .seats t) s) (abstractRefuse 3 buffer s) .after)
       pick true k = k refl
       pick false k = now
 
@@ -150,19 +153,20 @@ ZeroBack none = Unit {0}
 ZeroBack (preserved v) = ZeroBeyond v
 
 -- What is held in a seat of a store.
-unfoldable heldIn : Seat → UndoSaved → UndoSaved
-heldIn vacant z = z
-heldIn (held h) z = h
+unfoldable occupantOr : Seat → OpenTxn → OpenTxn
+occupantOr vacant z = z
+occupantOr (occupied h) z = h
 
-seat-held : (b : Bool) (g h : UndoSaved) → cond b (held g) vacant ≡ held h → (b ≡ true) × (h ≡ g)
-unfolding heldIn
-seat-held true g h e = (refl, sym (ap (λ (x : Seat). heldIn x g) e))
-seat-held false g h e = let z : _≡_ {A = ℕ} 0 1 = cc in absurd (omega arith)
+seat-occupied : (b : Bool) (g h : OpenTxn) → cond b (occupied g) vacant ≡ occupied h → (b ≡ true) × (h ≡ g)
+unfolding occupantOr
+seat-occupied true g h e = (refl, sym (ap (λ (x : Seat). occupantOr x g) e))
+seat-occupied false g h e = let z : _≡_ {A = ℕ} 0 1 = cc in absurd (omega arith)
 
 module _ (m : Machine) (sound : Sound m) where
   -- After a call.
   after-call : (P : Values → Saved → Type 0) → P (committedIn m) (backIn m) → (backable : Bool)
-      → ((t : ℕ) (h : UndoSaved) → leb t lastTransaction ≡ true → view m .seats t ≡ held h → fits (committedIn m) (h .txn) ≡ true
+      → ((t : ℕ) (h : OpenTxn) → leb t lastTransaction ≡ true → view m .seats t ≡ occupied h
+      → fits (committedIn m) (h .txn) ≡ true
       → P (landed (settings (fileOf (m .store)) (committedIn m) (h .txn)) (committedIn m)) (preserved (committedIn m)))
       → (backable ≡ true → (v : Values) → backIn m ≡ preserved v → P v none)
       → (c : Call) → (c ≡ undoCommit → backable ≡ true) → P (committedIn (call c m .after)) (backIn (call c m .after))
@@ -184,23 +188,23 @@ module _ (m : Machine) (sound : Sound m) where
     where
       pick : (n : ℕ) → admissionOfUndo (sizes m) (m .store) (m .journal) ≡ n → passing n [] m (undoTurn m) .after ≡ m
       pick zero e =
-          let a = admitted-back (sizes m) (m .store) (m .journal) e in
+          let a = admitted-undo (sizes m) (m .store) (m .journal) e in
           absurd (true≢false (sym b ∙ a .idle t (omega arith)))
       pick (suc n) e = unfold passing refuseTurn in refl
 
   pub zeros-call : ZeroBeyond (committedIn m) → ZeroBack (backIn m) → (c : Call)
       → ZeroBeyond (committedIn (call c m .after)) × ZeroBack (backIn (call c m .after))
-  unfolding view seat heldBy fileOf
+  unfolding view seat openTxnIn fileOf
   zeros-call zeros backs c =
       after-call (λ v b. ZeroBeyond v × ZeroBack b) (zeros, backs) true
       (λ t h l o fit.
-      let k = leb-true t 7 l in
-      let z = seat-held (leb t 7 && transaction (m .store) t .begun) (heldBy m t) h o in
+      let k = leb-true t lastTransaction l in
+      let z = seat-occupied (leb t lastTransaction && transaction (m .store) t .begun) (openTxnIn m t) h o in
       let r = in-range (m .store) (m .journal) (sound .inRange) in
-      let y : h .txn ≡ txnOf (m .store) (m .journal) (m .logs) t = ap (λ (g : UndoSaved). g .txn) (z .1) in
-      let small : t < 8 = omega arith in
+      let y : h .txn ≡ txnOf (m .store) (m .journal) (m .logs) t = ap (λ (g : OpenTxn). g .txn) (z .1) in
+      let small : t < transactionCount = omega arith in
       let ranges = decoded-in (m .store) (m .journal) (m .logs) t (sound .logs) small
-      (r .transactions t small (and-right (leb t 7) _ (z .0)))
+      (r .transactions t small (and-right (leb t lastTransaction) _ (z .0)))
       (sound .shaped .descriptors t small) in
       (zero-granted (fileOf (m .store)) (committedIn m) (h .txn) (r .files) (rw y ranges) fit zeros, zeros))
       (λ b v e. (subst ZeroBack e backs, tt)) c (λ e. refl)
@@ -209,15 +213,15 @@ module _ (m : Machine) (sound : Sound m) where
   limit-now = length-in (m .store) (m .journal) (m .files) (sound .shaped .lengths)
       (in-range (m .store) (m .journal) (sound .inRange))
 
-  zeros-held : ZeroBack (backIn m) → m .store .undo .valid ≡ true → ZeroBeyond (committedIn (undone m))
+  zeros-undone : ZeroBack (backIn m) → m .store .undo .valid ≡ true → ZeroBeyond (committedIn (undone m))
   unfolding backIn
-  zeros-held backs h = subst⁻¹ ZeroBeyond (back-values m)
+  zeros-undone backs h = subst⁻¹ ZeroBeyond (back-values m)
       (subst (λ (b : Bool). ZeroBack (cond b (preserved (backValues m)) none)) h backs)
 
   hold-now : ZeroBeyond (committedIn m) → ZeroBack (backIn m) → LengthsHold m
   hold-now zeros backs = record {
     zeros = zeros;
-    zerosHeld = zeros-held backs;
+    zerosUndone = zeros-undone backs;
     limit = limit-now;
     grows = grows-call;
     opened = opened-call;

@@ -7,7 +7,7 @@ use lib.Dec.{leb}
 use lib.ListN.{length}
 use native.Mathlib.Omega.{arith}
 use Prim.Native.Nat.{ℕ, _<_}
-use Rattle.limits.specs.Limits.{bufferBytes, transactionCount}
+use Rattle.limits.specs.Limits.{bufferBytes, transactionCount, lastTransaction}
 use Rattle.buffers.specs.Marks.{byTransaction, names, rearranged, hasMark}
 use Rattle.buffers.proofs.Rearranged.{same-pairs}
 use Rattle.state.specs.StoreMeaning.{transaction, windowAt}
@@ -17,9 +17,9 @@ use Rattle.spec.specs.Machine.{Machine, withMarking, fileOf, values}
 use Rattle.spec.specs.Age.{Alike}
 use Rattle.spec.specs.MarkPairs.{Named, AlwaysRestsOnPairs}
 use Rattle.spec.specs.Corollaries.{RestsOnOldPairs}
-use Rattle.spec.proofs.Abstract.AbstractStore.{UndoSaved, Seat, vacant, held, none, preserved, Abstract, abstractAfter}
+use Rattle.spec.proofs.Abstract.AbstractStore.{OpenTxn, Seat, vacant, occupied, none, preserved, Abstract, abstractAfter}
 use Rattle.spec.proofs.Abstract.AbstractStore.{abstractReplies}
-use Rattle.spec.proofs.Refinement.Relation.{heldBy, seat, backValues, backIn, view, Sound}
+use Rattle.spec.proofs.Refinement.Relation.{openTxnIn, seat, backValues, backIn, view, Sound}
 use Rattle.spec.proofs.Theorems.Serializability.{calls-agree}
 use Rattle.spec.proofs.Theorems.Recovery.{reached-sound}
 
@@ -28,31 +28,32 @@ module _ (m : Machine) (sound : Sound m) (marks : List ℕ) (size : length marks
   abbrev other : Machine
   other = withMarking marks m
 
-  same-held : (t : ℕ) → t < transactionCount → heldBy other t ≡ heldBy m t
-  unfolding heldBy hasMark
-  same-held t small =
+  same-open : (t : ℕ) → t < transactionCount → openTxnIn other t ≡ openTxnIn m t
+  unfolding openTxnIn hasMark
+  same-open t small =
       let e : _≡_ {A = ℕ → Bool} (names byTransaction marks t) (names byTransaction (m .marks) t) = fun-ext
       (λ q. named t q small) in
-      ap (λ (p : ℕ → Bool). heldSo p) e
+      ap (λ (p : ℕ → Bool). openWith p) e
     where
-      heldSo : (ℕ → Bool) → UndoSaved
-      heldSo p =
+      openWith : (ℕ → Bool) → OpenTxn
+      openWith p =
           record {
-            txn = heldBy m t .txn;
+            txn = openTxnIn m t .txn;
             marked = p;
-            lengths = heldBy m t .lengths;
-            stale = heldBy m t .stale;
+            lengths = openTxnIn m t .lengths;
+            stale = openTxnIn m t .stale;
           }
 
   same-seat : (t : ℕ) → seat other t ≡ seat m t
   unfolding seat
-  same-seat t = pick (leb t 7) (transaction (m .store) t .begun) (λ e. let l = leb-true t 7 e in same-held t (omega arith))
+  same-seat t = pick (leb t lastTransaction) (transaction (m .store) t .begun)
+      (λ e. let l = leb-true t lastTransaction e in same-open t (omega arith))
     where
-      pick : (b c : Bool) → (b ≡ true → heldBy other t ≡ heldBy m t)
-          → cond (b && c) (held (heldBy other t)) vacant ≡ cond (b && c) (held (heldBy m t)) vacant
+      pick : (b c : Bool) → (b ≡ true → openTxnIn other t ≡ openTxnIn m t)
+          → cond (b && c) (occupied (openTxnIn other t)) vacant ≡ cond (b && c) (occupied (openTxnIn m t)) vacant
       pick false c h = refl
       pick true false h = refl
-      pick true true h = ap held (h refl)
+      pick true true h = ap occupied (h refl)
 
   same-found : (i : Item) → backValues other i ≡ backValues m i
   unfolding backValues

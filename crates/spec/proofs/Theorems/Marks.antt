@@ -6,7 +6,7 @@ use lib.Dec.{leb, eqb}
 use native.Mathlib.Omega.{arith}
 use borrow.Author.Tests.{leb-true}
 use Prim.Native.Nat.{ℕ, zero, suc, _<_}
-use Rattle.limits.specs.Limits.{transactionCount}
+use Rattle.limits.specs.Limits.{transactionCount, lastTransaction}
 use Rattle.buffers.specs.Marks.{hasMark}
 use Rattle.state.specs.declared.Transaction.{Transaction}
 use Rattle.state.specs.StoreMeaning.{transaction, ended}
@@ -70,7 +70,8 @@ module _ (m : Machine) (u q : ℕ) where
     admitted-left t buffer w h =
         subst (λ (n : ℕ). Left (passing n buffer m w .after))
         (sym (shared-is m t sound (unless (transaction (m .store) t .begun) 4 0)))
-        (pick (leb t 7) (transaction (m .store) t .begun) (λ l b. let k = leb-true t 7 l in h (omega arith) b))
+        (pick (leb t lastTransaction) (transaction (m .store) t .begun)
+        (λ l b. let k = leb-true t lastTransaction l in h (omega arith) b))
       where
         pick : (b c : Bool) → (b ≡ true → c ≡ true → Left (w .after))
             → Left (passing (unless b 3 (unless c 4 0)) buffer m w .after)

@@ -1,4 +1,5 @@
 -- A sound store meets neither 1 nor 2.
+use Rattle.limits.specs.Limits.{lastFile, lastTransaction}
 use Rattle.windows.specs.Windows.{minuteIn}
 use Rattle.spec.specs.Transactions.{Txn}
 use Rattle.spec.specs.Places.{placesRefusal, placesReply, placesOf}
@@ -66,7 +67,7 @@ module _ (m : Machine) (sound : Sound m) (t : ℕ) where
   late-admitted buffer w l =
       late-passing _ buffer m w
       (subst⁻¹ (λ (k : ℕ). (j : ℕ) → k ≡ suc j → 3 ≤ k) (shared-is m t sound (unless (transaction (m .store) t .begun) 4 0))
-      (late-unless (leb t 7) (transaction (m .store) t .begun) 4 (omega arith)))
+      (late-unless (leb t lastTransaction) (transaction (m .store) t .begun) 4 (omega arith)))
       l
 
   late-begin : Late (call (begin t) m .reply .answer)
@@ -74,7 +75,7 @@ module _ (m : Machine) (sound : Sound m) (t : ℕ) where
   late-begin =
       late-passing _ [] m (beginTurn t m)
       (subst⁻¹ (λ (k : ℕ). (j : ℕ) → k ≡ suc j → 3 ≤ k) (shared-is m t sound (unless (not (transaction (m .store) t .begun)) 5 0))
-      (late-unless (leb t 7) (not (transaction (m .store) t .begun)) 5 (omega arith)))
+      (late-unless (leb t lastTransaction) (not (transaction (m .store) t .begun)) 5 (omega arith)))
       (late-answer _ tt)
 
 -- F-1's call.
@@ -103,7 +104,7 @@ late-window : (m : Machine) → Sound m → (f start end : ℕ) → Late (call (
 unfolding call windowTurn answerWith admissionOfWindow windowRefusal AtLeast3
 late-window m s f start end =
     late-passing _ [] m (windowTurn f start end m)
-    (subst⁻¹ AtLeast3 (first-is m (unless (leb f 7) 6 (unless (minuteIn start && minuteIn end) 22 0)) s)
+    (subst⁻¹ AtLeast3 (first-is m (unless (leb f lastFile) 6 (unless (minuteIn start && minuteIn end) 22 0)) s)
     (late-one _ 6 _ (omega arith) (late-one _ 22 0 (omega arith)
     (λ j e. absurd (let z : _≡_ {A = ℕ} 0 (suc j) = e in omega arith)))))
     (late-answer _ tt)

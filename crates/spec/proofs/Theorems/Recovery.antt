@@ -24,10 +24,11 @@ use Rattle.spec.specs.Calls.{callsAfter}
 use Rattle.spec.specs.Corollaries.{RecoversByCode}
 use Rattle.spec.specs.Recovery.{allEnded, recovered, ProgramRun, runsAfter, Reached, abortAll, callsOfRuns}
 use Rattle.spec.specs.SerializabilityOfStore.{FreshlyMade}
-use Rattle.spec.proofs.Abstract.AbstractStore.{Seat, vacant, held, Saved, Abstract, startAbstract, withSeat, telling}
-use Rattle.spec.proofs.Abstract.AbstractStore.{turnedAway, seated}
+use Rattle.spec.proofs.Abstract.AbstractStore.{Seat, vacant, occupied, Saved, Abstract, startAbstract, withSeat}
+use Rattle.spec.proofs.Abstract.AbstractStore.{abstractAnswer}
+use Rattle.spec.proofs.Abstract.AbstractStore.{abstractRefuse, seated}
 use Rattle.spec.proofs.Abstract.AbstractStore.{abstractAbort, abstractCall, abstractAfter}
-use Rattle.spec.proofs.Refinement.Relation.{heldBy, seat, backIn, view, Sound}
+use Rattle.spec.proofs.Refinement.Relation.{openTxnIn, seat, backIn, view, Sound}
 use Rattle.spec.proofs.Refinement.UndoValues.{back-same}
 use Rattle.spec.proofs.Refinement.AfterReset.{seat-in, seat-out}
 use Rattle.spec.proofs.Theorems.Serializability.{calls-agree, fresh-facts}
@@ -37,7 +38,7 @@ use Rattle.spec.specs.Calls.{call}
 module _ (m : Machine) (closed : (t : ℕ) → t ≤ lastTransaction → transaction (m .store) t .begun ≡ false) where
   no-seat : (u : ℕ) → (transactionCount ≤ u) ⊎ (u < transactionCount) → seat m u ≡ vacant
   no-seat u (inl l) = seat-out m u l
-  no-seat u (inr l) = seat-in m u false (heldBy m u) l (closed u (omega arith)) refl
+  no-seat u (inr l) = seat-in m u false (openTxnIn m u) l (closed u (omega arith)) refl
 
   pub resting-view : view m ≡ startAbstract (fileOf (m .store)) (values (m .store) (m .files)) (windowAt (m .store)) (backIn m)
   unfolding view startAbstract
@@ -58,7 +59,7 @@ module _ (logs marks : List ℕ) (m : Machine) where
   unfolding allEnded
   ended-at u l = getD-replicate 8 u ended noTransaction l
 
-  pub recovered-closed : (t : ℕ) → t ≤ 7 → transaction (recovered logs marks m .store) t .begun ≡ false
+  pub recovered-closed : (t : ℕ) → t ≤ lastTransaction → transaction (recovered logs marks m .store) t .begun ≡ false
   unfolding recovered ended
   recovered-closed t l = ap (λ (x : Transaction). x .begun) (ended-at t (omega arith))
 
@@ -143,7 +144,7 @@ module _ (s : Abstract) where
 
 -- An Abort leaves the seat vacant, whether it was so before or not.
 seat-aborted : (t : ℕ) (x : Seat) (s : Abstract) → s .seats t ≡ x → abstractAbort t x s .after ≡ withSeat t vacant s
-unfolding abstractAbort turnedAway telling withSeat put
+unfolding abstractAbort abstractRefuse abstractAnswer withSeat put
 seat-aborted t vacant s e =
     let f : _≡_ {A = ℕ → Seat} (s .seats) (put t vacant (s .seats)) = fun-ext (λ u. pick u (eqb u t) refl) in
     λ i. record { fileOf = s .fileOf; value = s .value; windows = s .windows; back = s .back; seats = f i }
@@ -151,11 +152,11 @@ seat-aborted t vacant s e =
     pick : (u : ℕ) (b : Bool) → eqb u t ≡ b → s .seats u ≡ cond b vacant (s .seats u)
     pick u true q = ap (s .seats) (eqb-true u t q) ∙ e
     pick u false q = refl
-seat-aborted t (held h) s e = refl
+seat-aborted t (occupied h) s e = refl
 
 call-aborted : (t : ℕ) (s : Abstract) → t ≤ lastTransaction → abstractCall (abort t) s .after ≡ withSeat t vacant s
 unfolding abstractCall seated
-call-aborted t s l = rw (le-leb t 7 l) (seat-aborted t (s .seats t) s refl)
+call-aborted t s l = rw (le-leb t lastTransaction l) (seat-aborted t (s .seats t) s refl)
 
 sighted-append : (cs ds : List Call) (s : Abstract) → abstractAfter (cs ++ ds) s ≡ abstractAfter ds (abstractAfter cs s)
 unfolding abstractAfter

@@ -8,7 +8,7 @@ use lib.Dec.{leb, eqb}
 use native.Mathlib.Omega.{arith}
 use lib.ListN.{length}
 use Prim.Native.Nat.{ℕ, zero, suc, _+_, _*_, _<_}
-use Rattle.limits.specs.Limits.{lastFile, lastTransaction, mostOrders}
+use Rattle.limits.specs.Limits.{lastFile, fileBytes, lastTransaction, mostOrders}
 use Rattle.windows.specs.Windows.{minuteIn}
 use Rattle.standings.specs.declared.Standing.{Standing}
 use Rattle.standings.specs.Table.{advance, pointerSettles, offsetOf}
@@ -135,14 +135,14 @@ module _ (v : Values) where
   unfolding settles allIn settle
   same-settles d c x [] h = refl
   same-settles d c x (e ∷ ds) h =
-      ap₂ (λ (z : Standing) (b : Bool). leb (v (offset e) + advance z) 4096 && b) (put-other d _ (x .standing) e (h .0))
+      ap₂ (λ (z : Standing) (b : Bool). leb (v (offset e) + advance z) fileBytes && b) (put-other d _ (x .standing) e (h .0))
       (same-settles d c x ds (h .1))
 
   settling-ends : (ds : List ℕ) (x : Txn) → Distinct ds → ends (result v (settling ds x)) ≡ settles v x ds
   unfolding settling settles allIn result ends
   settling-ends [] x h = refl
   settling-ends (d ∷ ds) x h =
-      pick (leb (v (offset d) + advance (x .standing d)) 4096)
+      pick (leb (v (offset d) + advance (x .standing d)) fileBytes)
       (settling-ends ds (settle d (v (offset d)) x) (h .1) ∙ same-settles d (v (offset d)) x ds (h .0))
     where
       pick : (b : Bool) → ends (result v (settling ds (settle d (v (offset d)) x))) ≡ settles v x ds
@@ -239,7 +239,7 @@ unfolding orderReplied
 order-refuses a ts budget n = refl
 
 places-says : (f : ℕ → ℕ) (g : ℕ) (out : List ℕ) (x : Txn) → refusalOf (placesOf f g out x .answer)
-    ≡ firstFailing (test 6 (leb g 7) ∷ test 15 (not (unplaced f g (x .writes)))
+    ≡ firstFailing (test 6 (leb g lastFile) ∷ test 15 (not (unplaced f g (x .writes)))
     ∷ test 16 (leb (4 * length (intervalsOf (covered f g (x .writes)))) (length out)) ∷ [])
 unfolding placesOf placesRefusal
 places-says f g out x =
@@ -249,8 +249,9 @@ places-says f g out x =
     (in-front says h _ 15 0 [] (unfold placesReply refusalOf firstFailing in refl)))
 
 order-says : (a : Asked) (ts : List ℕ) (minute budget : ℕ) → refusalOf (orderReply a ts minute budget .answer)
-    ≡ firstFailing (test 26 (isList ts) ∷ test 3 (allIn (λ t. leb t 7) ts) ∷ test 4 (allIn (a .isOpen) ts)
-    ∷ test 22 (minuteIn minute) ∷ test 25 (allIn (λ t. not (a .notReady t)) ts) ∷ test 27 (leb 1 budget && leb budget 40320) ∷ [])
+    ≡ firstFailing (test 26 (isList ts) ∷ test 3 (allIn (λ t. leb t lastTransaction) ts) ∷ test 4 (allIn (a .isOpen) ts)
+    ∷ test 22 (minuteIn minute) ∷ test 25 (allIn (λ t. not (a .notReady t)) ts) ∷ test 27
+    (leb 1 budget && leb budget mostOrders) ∷ [])
 unfolding orderReply orderRefusal
 order-says a ts minute budget =
     let says : ℕ → Said = λ n. orderReplied a ts budget n .answer in

@@ -29,16 +29,17 @@ use Rattle.spec.specs.Machine.{Machine, sizes}
 use Rattle.spec.specs.Calls.{Turn, answerWith, refuseTurn, passing, freshMachine, fresh, call, callsAfter, callsReplies}
 use Rattle.spec.specs.Serializability.{IsAccepted, OneMoment, Holds}
 use Rattle.spec.specs.SerializabilityOfStore.{FreshlyMade, theStore, Serializability}
-use Rattle.spec.proofs.Abstract.AbstractStore.{UndoSaved, Seat, vacant, held, none, Abstract, startAbstract, AbstractTurn}
+use Rattle.spec.proofs.Abstract.AbstractStore.{OpenTxn, Seat, vacant, occupied, none, Abstract, startAbstract}
+use Rattle.spec.proofs.Abstract.AbstractStore.{AbstractTurn}
 use Rattle.spec.proofs.Abstract.AbstractStore.{abstractCall, abstractAfter, abstractReplies}
 use Rattle.spec.proofs.Abstract.SameReplies.{backOf, abs, absTurn, seatOf}
 use Rattle.spec.proofs.Abstract.Starts.{start-stays}
 use Rattle.spec.proofs.Abstract.AbstractSerializability.{replies-same, state-same, turn-same, store-commit, again-same}
 use Rattle.spec.proofs.Abstract.AbstractSerializability.{again-left, moment-same}
-use Rattle.spec.proofs.Refinement.Relation.{Sound, heldBy, seat, view}
-use Rattle.spec.proofs.Refinement.Admissions.{Agrees}
+use Rattle.spec.proofs.Refinement.Relation.{Sound, openTxnIn, seat, view}
+use Rattle.spec.proofs.Refinement.Admissions.{TurnsAgree}
 use Rattle.spec.proofs.Refinement.StepTurn.{step-turn}
-use Rattle.spec.proofs.Refinement.EndTurns.{begin-turn, abort-turn, commit-turn, places-turn}
+use Rattle.spec.proofs.Refinement.EndTurns.{begin-turn, abort-turn, commit-turns-agree, places-turn}
 use Rattle.spec.proofs.Abstract.PlainInvariant.{GoodEarlier}
 use Rattle.spec.proofs.Refinement.WindowTurn.{window-turn}
 use Rattle.spec.proofs.Refinement.UndoTurn.{back-turn}
@@ -48,10 +49,10 @@ use Rattle.spec.proofs.Theorems.Answers.{answer-not-refused}
 use Rattle.spec.proofs.Theorems.Ranges.{never-early}
 
 -- Every call agrees with that of the abstract store.
-pub call-turn : (c : Call) (m : Machine) → Sound m → Agrees (call c m) (abstractCall c (view m))
+pub call-turn : (c : Call) (m : Machine) → Sound m → TurnsAgree (call c m) (abstractCall c (view m))
 call-turn (begin t) m s = begin-turn m t s
 call-turn (on t o) m s = step-turn m t o s
-call-turn (commit t minute) m s = commit-turn m t s minute
+call-turn (commit t minute) m s = commit-turns-agree m t s minute
 call-turn (abort t) m s = abort-turn m t s
 call-turn (places t f out) m s = places-turn m t s f out
 call-turn (setWindow f start end) m s = window-turn m f start end s
@@ -59,12 +60,12 @@ call-turn undoCommit m s = back-turn m s
 call-turn (bestOrder ts minute budget) m s = order-turn minute m s ts budget
 
 -- .. and so does every list of calls.
-pub record Agree (cs : List Call) (m : Machine) : Type 0 where
+pub record StoresAgree (cs : List Call) (m : Machine) : Type 0 where
   pub replies : callsReplies cs m ≡ abstractReplies cs (view m)
   pub state : view (callsAfter cs m) ≡ abstractAfter cs (view m)
   pub sound : Sound (callsAfter cs m)
 
-pub calls-agree : (cs : List Call) (m : Machine) → Sound m → Agree cs m
+pub calls-agree : (cs : List Call) (m : Machine) → Sound m → StoresAgree cs m
 unfolding abstractReplies abstractAfter afterAll repliesTo
 calls-agree [] m s = record { replies = refl; state = refl; sound = s }
 calls-agree (c ∷ cs) m s =
@@ -108,9 +109,9 @@ fresh-facts numbers m f =
 -- Whether a seat is taken.
 taken : Seat → Bool
 taken vacant = false
-taken (held h) = true
+taken (occupied h) = true
 
-seat-taken : (b : Bool) (h : UndoSaved) → taken (cond b (held h) vacant) ≡ b
+seat-taken : (b : Bool) (h : OpenTxn) → taken (cond b (occupied h) vacant) ≡ b
 unfolding taken
 seat-taken true h = refl
 seat-taken false h = refl
@@ -124,8 +125,8 @@ open-same : (m : Machine) (p : Plain) → view m ≡ abs p → (t : ℕ) → t �
     ≡ isRunning (p .slots t)
 unfolding view seat abs
 open-same m p e t l =
-    sym (ap (λ (b : Bool). b && transaction (m .store) t .begun) (le-leb t 7 l))
-    ∙ sym (seat-taken (leb t 7 && transaction (m .store) t .begun) (heldBy m t))
+    sym (ap (λ (b : Bool). b && transaction (m .store) t .begun) (le-leb t lastTransaction l))
+    ∙ sym (seat-taken (leb t lastTransaction && transaction (m .store) t .begun) (openTxnIn m t))
     ∙ ap (λ (s : Abstract). taken (s .seats t)) e
     ∙ slot-taken p (p .slots t)
 
@@ -167,7 +168,7 @@ expected false t minute p = not-expected t p _ 3 refl
 
 expected-commit : (t minute : ℕ) (p : Plain) → Expected t p (plainCall (commit t minute) p)
 unfolding plainCall withNumber
-expected-commit t minute p = expected (leb t 7) t minute p
+expected-commit t minute p = expected (leb t lastTransaction) t minute p
 
 -- Serializability from a sound store that stands for the abstract store with these committed values, these windows and nothing
 -- open.

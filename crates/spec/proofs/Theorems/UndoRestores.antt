@@ -8,6 +8,7 @@ use lib.Dec.{leb, eqb}
 use lib.Seq.{ext-getD}
 use native.Mathlib.Omega.{arith}
 use Prim.Native.Nat.{ℕ, zero, suc}
+use Rattle.limits.specs.Limits.{lastTransaction}
 use Rattle.windows.specs.Windows.{minuteIn}
 use Rattle.state.specs.Outcomes.{doneAnswer}
 use Rattle.admission.specs.FirstRefusal.{guarded}
@@ -21,9 +22,10 @@ use Rattle.spec.specs.Machine.{Machine, values, txnOf}
 use Rattle.spec.specs.Calls.{call, callsAfter, callsReplies}
 use Rattle.spec.specs.Recovery.{recovered, ProgramRun, runsAfter}
 use Rattle.spec.specs.UndoRestores.{SameCommitted, grantsInRuns, UndoRestores}
-use Rattle.spec.proofs.Abstract.AbstractStore.{UndoSaved, Seat, vacant, held, Saved, none, preserved, Abstract, turnedAway}
-use Rattle.spec.proofs.Abstract.AbstractStore.{telling, returned, withSeat}
-use Rattle.spec.proofs.Abstract.AbstractStore.{granting, abstractCommitted, abstractCommit, seated, noneHeld}
+use Rattle.spec.proofs.Abstract.AbstractStore.{OpenTxn, Seat, vacant, occupied, Saved, none, preserved, Abstract}
+use Rattle.spec.proofs.Abstract.AbstractStore.{abstractRefuse}
+use Rattle.spec.proofs.Abstract.AbstractStore.{abstractAnswer, returned, withSeat}
+use Rattle.spec.proofs.Abstract.AbstractStore.{granting, abstractCommitted, abstractCommit, seated, noneOccupied}
 use Rattle.spec.proofs.Abstract.AbstractStore.{abstractReturn, abstractUndo}
 use Rattle.spec.proofs.Abstract.AbstractStore.{abstractCall, startAbstract}
 use Rattle.spec.proofs.Refinement.Relation.{backIn, view, Sound}
@@ -42,7 +44,7 @@ module _ (w : Values) where
 
   -- A Commit that is not granted.
   module _ (s : Abstract) (now : Or (s .back)) where
-    decided-or : (t : ℕ) (h : UndoSaved) (n : ℕ) → isGrant (abstractCommitted t h s n .reply .answer) ≡ 0
+    decided-or : (t : ℕ) (h : OpenTxn) (n : ℕ) → isGrant (abstractCommitted t h s n .reply .answer) ≡ 0
         → Or (abstractCommitted t h s n .after .back)
     unfolding abstractCommitted granting isGrant
     decided-or t h zero e = let z : _≡_ {A = ℕ} 1 0 = e in absurd (omega arith)
@@ -54,21 +56,21 @@ module _ (w : Values) where
 
     seat-or : (t minute : ℕ) (x : Seat) → isGrant (abstractCommit t minute x s .reply .answer) ≡ 0
         → Or (abstractCommit t minute x s .after .back)
-    unfolding abstractCommit turnedAway
+    unfolding abstractCommit abstractRefuse
     seat-or t minute vacant e = now
-    seat-or t minute (held h) e =
+    seat-or t minute (occupied h) e =
         decided-or t h (commitRefusal (minuteIn minute) (h .stale) (forClosed (s .fileOf) (s .windows) minute (h .txn .writes))
         (fits (s .value) (h .txn))) e
 
     commit-or : (t minute : ℕ) → isGrant (abstractCall (commit t minute) s .reply .answer) ≡ 0
         → Or (abstractCall (commit t minute) s .after .back)
     unfolding abstractCall seated
-    commit-or t minute e = pick (leb t 7) e
+    commit-or t minute e = pick (leb t lastTransaction) e
       where
-        pick : (b : Bool) → isGrant (cond b (abstractCommit t minute (s .seats t) s) (turnedAway 3 [] s) .reply .answer) ≡ 0
-            → Or (cond b (abstractCommit t minute (s .seats t) s) (turnedAway 3 [] s) .after .back)
+        pick : (b : Bool) → isGrant (cond b (abstractCommit t minute (s .seats t) s) (abstractRefuse 3 [] s) .reply .answer) ≡ 0
+            → Or (cond b (abstractCommit t minute (s .seats t) s) (abstractRefuse 3 [] s) .after .back)
         pick true k = seat-or t minute (s .seats t) k
-        pick false k = unfold turnedAway in now
+        pick false k = unfold abstractRefuse in now
 
     -- Any other call.
     other-or : (c : Call) → ((t minute : ℕ) → c ≡ commit t minute → ⊥) → Or (abstractCall c s .after .back)
@@ -131,14 +133,14 @@ module _ (w : Values) where
   -- The undo.
   back-or : (s : Abstract) → Or (s .back) → abstractUndo s .reply .answer ≡ doneAnswer → abstractUndo s .after .value ≡ w
   unfolding abstractUndo
-  back-or s now e = pick (noneHeld s) (s .back) now e
+  back-or s now e = pick (noneOccupied s) (s .back) now e
     where
-      pick : (b : Bool) (x : Saved) → Or x → guarded (λ k. turnedAway k [] s) b 23 (abstractReturn x s) .reply .answer
+      pick : (b : Bool) (x : Saved) → Or x → guarded (λ k. abstractRefuse k [] s) b 23 (abstractReturn x s) .reply .answer
           ≡ doneAnswer
-          → guarded (λ k. turnedAway k [] s) b 23 (abstractReturn x s) .after .value ≡ w
-      pick false x q k = unfold turnedAway in absurd (answer-not-refused doneAnswer 23 tt (sym k))
-      pick true none q k = unfold abstractReturn turnedAway in absurd (answer-not-refused doneAnswer 24 tt (sym k))
-      pick true (preserved v) q k = unfold abstractReturn telling returned in preserved-same v q
+          → guarded (λ k. abstractRefuse k [] s) b 23 (abstractReturn x s) .after .value ≡ w
+      pick false x q k = unfold abstractRefuse in absurd (answer-not-refused doneAnswer 23 tt (sym k))
+      pick true none q k = unfold abstractReturn abstractRefuse in absurd (answer-not-refused doneAnswer 24 tt (sym k))
+      pick true (preserved v) q k = unfold abstractReturn abstractAnswer returned in preserved-same v q
 
 -- Equal committed values, in sound stores.
 same-committed : (m n : Machine) → Sound m → Sound n → values (n .store) (n .files) ≡ values (m .store) (m .files)

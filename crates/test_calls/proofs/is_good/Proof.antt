@@ -1,11 +1,12 @@
 -- `is_good` meets its contract. The loop goes over the sixteen numbers.
 use Prim.Native.Nat.{_-_, _≤_}
 use borrow.Author.Needs.{needs}
+use Rattle.limits.specs.Limits.{descriptorCount}
 use Rattle.test_calls.proofs.is_good.Statement.{statement}
 use Rattle.test_calls.proofs.is_good.Tie as tie
 
 abbrev Inv-loop : tie.InvT-loop
-Inv-loop list good₀ d₀ good d = d ≤ 16
+Inv-loop list good₀ d₀ good d = d ≤ descriptorCount
 
 abbrev μ-loop : tie.MeasureT-loop
 μ-loop list good₀ d₀ good d = 16 - d

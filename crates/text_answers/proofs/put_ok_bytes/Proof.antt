@@ -4,7 +4,7 @@ use native.Mathlib.Omega.{arith}
 use Rattle.text_numerals.specs.Pairs.{hexPairs}
 use Rattle.text_answers.specs.Printed.{ok}
 use Rattle.text_numerals.proofs.PutLaws.{then, length-pairs}
-use Rattle.text_answers.proofs.Laws.{bytes-none, bytes-some}
+use Rattle.text_answers.proofs.Laws.{text-bytes-none, bytes-some}
 use borrow.Author.Needs.{needs}
 use Rattle.text_answers.proofs.put_ok_bytes.Statement.{statement}
 use Rattle.text_answers.proofs.put_ok_bytes.Tie as tie
@@ -16,7 +16,7 @@ same-length : tie.Need-same-length
 same-length c = search needs
 
 returns : tie.Need-returns
-returns c = rw (bytes-none (c .before .before .before .before .before .before .before .args .bytes .now) (c .if1 .taken))
+returns c = rw (text-bytes-none (c .before .before .before .before .before .before .before .args .bytes .now) (c .if1 .taken))
     (c .before .before .before .put-ok .ensures)
 
 put-byte-requires : tie.Need-put-byte-requires

@@ -14,12 +14,13 @@ use Rattle.text_lines.proofs.next_line.Statement.{statement}
 use Rattle.text_lines.proofs.next_line.Tie as tie
 
 abbrev Inv-loop : tie.InvT-loop
-Inv-loop line₀ held piece from n₀ i₀ line n i =
+Inv-loop line₀ pending piece from n₀ i₀ line n i =
     (n ≤ length line₀) × ((from ≤ i) × ((i ≤ length piece)
-    × ((length line ≡ length line₀) × Same (length line₀ - 1) (take held line₀) (drop from piece) (take n line) (drop i piece))))
+    × ((length line ≡ length line₀) × Same (length line₀ - 1) (take pending line₀) (drop from piece) (take n line)
+    (drop i piece))))
 
 abbrev μ-loop : tie.MeasureT-loop
-μ-loop line₀ held piece from n₀ i₀ line n i = length piece - i
+μ-loop line₀ pending piece from n₀ i₀ line n i = length piece - i
 
 loop-holds : tie.Need-loop-holds Inv-loop μ-loop
 loop-holds c = (omega arith, (omega arith, (omega arith, (refl, (refl, refl)))))

@@ -7,7 +7,7 @@ use lib.ListN.{length, take, length-take, length-append}
 use borrow.Author.Needs.{needs}
 use Rattle.text_numerals.specs.Decimal.{spacedTexts}
 use Rattle.text_numerals.proofs.PutLaws.{then, length-number, length-texts, take-within}
-use Rattle.text_log.specs.LogLines.{letterAndNumbers}
+use Rattle.text_log.specs.LogLines.{letterAndNumbers, mostOrdered}
 use Rattle.text_log.proofs.Texts.{order-text, length-joined}
 use Rattle.text_log.proofs.put_order.Statement.{statement}
 use Rattle.text_log.proofs.put_order.Tie as tie
@@ -58,7 +58,7 @@ returns c =
     .before .before in
     let ts = start .args .list .now in
     let n = c .before .before .before .before .before .before .before .before .before .smaller .result in
-    let e : n ≡ min 15 (length ts) = omega (
+    let e : n ≡ min mostOrdered (length ts) = omega (
       arith,
       c .before .before .before .before .before .before .before .before .before .smaller .ensures,
     ) in
@@ -68,7 +68,11 @@ returns c =
     let k = length-joined (start .args .minute) (start .args .budget ∷ []) in
     let a = length-append two (spacedTexts (take n ts)) in
     let fits = start .pre in
-    rw (sym (ap (λ (k : ℕ). take k ts) e ∙ take-within 15 ts), order-text (start .args .minute) (start .args .budget) (take n ts))
+    rw (
+      sym (ap (λ (k : ℕ). take k ts) e ∙ take-within mostOrdered ts),
+      order-text (start .args .minute) (start .args .budget)
+          (take n ts),
+    )
     (then (two ++ spacedTexts (take n ts)) (10 ∷ []) (omega arith)
     (then two (spacedTexts (take n ts)) (omega arith)
     (c .before .before .before .before .before .before .before .before .before .before .before .before .put-two .ensures)

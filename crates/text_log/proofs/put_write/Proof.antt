@@ -6,7 +6,7 @@ use mathlib.Core.List.{[], _∷_, _++_}
 use lib.ListN.{length, length-append}
 use Rattle.text_numerals.proofs.PutLaws.{length-pairs}
 use Rattle.text_log.proofs.Texts.{length-joined}
-use Rattle.text_log.proofs.WriteTexts.{put-space, put-write-line, put-other}
+use Rattle.text_log.proofs.WriteTexts.{put-space, put-write-line, put-other-text}
 use Rattle.text_log.proofs.put_write.Statement.{statement}
 use Rattle.text_log.proofs.put_write.Tie as tie
 
@@ -76,7 +76,7 @@ returns-2 c =
     (c .before .before .before .before .before .before .before .before .before .before .before .before .before .before .before
     .before .put-two .ensures) (c .before .before .before .before .before .before .before .before .before .before .before
     .before .put-byte .ensures) in
-    put-other (start .args .t) (start .args .d) (start .args .bytes .now) (start .pre .0) (start .pre .1) spaced
+    put-other-text (start .args .t) (start .args .d) (start .args .bytes .now) (start .pre .0) (start .pre .1) spaced
     (c .before .before .before .before .before .before .put-byte2 .ensures) (c .before .before .put-pairs .ensures)
     (sym (c .before .before .before .before .before .before .before .before .before .is-text .ensures)
     ∙ c .before .before .before .before .before .before .before .before .if1 .left)

@@ -15,11 +15,11 @@ returns c =
     record {
       means = sym (no-number _ _ (field-missing _ _ _ (c .before .before .number-at .ensures) (c .enum-told .given .1)));
       within = omega arith;
-      kept = refl;
+      sameLength = refl;
     }
 
 same-length : tie.Need-same-length
-same-length c = c .before .before .numbers-from .ensures .kept ∙ simp length-set
+same-length c = c .before .before .numbers-from .ensures .sameLength ∙ simp length-set
 
 returns-2 : tie.Need-returns-2
 returns-2 c =
@@ -32,7 +32,7 @@ returns-2 c =
           (field-number _ _ _ (c .before .before .before .before .before .before .before .number-at .ensures) _ _
           (c .before .before .before .before .before .v .given .1));
       within = e .within;
-      kept = e .kept ∙ simp length-set;
+      sameLength = e .sameLength ∙ simp length-set;
     }
 
 pub joined-numbers-spec : {M : Type 1} → statement M

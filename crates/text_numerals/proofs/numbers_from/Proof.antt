@@ -38,7 +38,7 @@ returns c =
       means = sym (l .inv .2 ∙ ap (prepended (take (l .n) (l .buffer)))
           (numbers-full _ _ _ (c .if1 .taken) (c .before .loop-test .taken)));
       within = omega arith;
-      kept = l .inv .1;
+      sameLength = l .inv .1;
     }
 
 spaced-at-requires : tie.Need-spaced-at-requires Inv-loop μ-loop
@@ -63,7 +63,7 @@ returns-2 c =
           (numbers-missing _ _ _ (omega (arith, c .before .before .before .if1 .left))
           (c .before .before .before .before .loop-test .taken) e));
       within = omega arith;
-      kept = l .inv .1;
+      sameLength = l .inv .1;
     }
 
 mul-buffer : tie.Need-mul-buffer Inv-loop μ-loop
@@ -107,7 +107,7 @@ returns-3 c =
       means = sym (l .inv .2 ∙ ap (prepended (take (l .n) (l .buffer))) (numbers-end _ _ _ (c .loop-test .left))
           ∙ ahead-all (take (l .n) (l .buffer)));
       within = omega (arith, l .inv .0);
-      kept = l .inv .1;
+      sameLength = l .inv .1;
     }
 
 pub numbers-from-spec : {M : Type 1} → statement M

@@ -12,7 +12,7 @@ use Rattle.text_numerals.specs.Decimal.{before, prepended, atMost}
 use Rattle.text_numerals.specs.Pairs.{pairsIn, isHex, hexWorth}
 use Rattle.text_numerals.specs.Fields.{valuesOf, numberCount}
 use Rattle.text_numerals.proofs.ReadLaws.{read-failed, read-held, ahead-none, ahead-all, ahead-step, at-most-full}
-use Rattle.text_numerals.proofs.ReadLaws.{at-most-all, pairs-end, pairs-odd, pairs-first, pairs-second, pairs-more}
+use Rattle.text_numerals.proofs.ReadLaws.{at-most-all, pairs-end, pairs-odd, pairs-first, pairs-second, read-pairs-more}
 use Rattle.text_numerals.proofs.pairs_at.Statement.{statement}
 use Rattle.text_numerals.proofs.pairs_at.Tie as tie
 
@@ -41,7 +41,7 @@ returns c =
       means = sym (ap (atMost (length (c .before .before .before .before .before .args .buffer .now)))
           (l .inv .2 ∙ ap (prepended (take (l .n) (l .buffer))) (pairs-odd _ _ (c .before .loop-test .taken) (c .if1 .taken))));
       within = omega arith;
-      kept = l .inv .1;
+      sameLength = l .inv .1;
     }
 
 shared-slice-read-a : tie.Need-shared-slice-read-a Inv-loop μ-loop
@@ -63,7 +63,7 @@ returns-2 c =
           (pairs-first (c .before .before .before .before .before .before .before .before .args .line .now) (l .at)
           (omega (arith, c .before .before .before .if1 .left)) (read-failed (c .before .is-hex .ensures) (c .if2 .taken)))));
       within = omega arith;
-      kept = l .inv .1;
+      sameLength = l .inv .1;
     }
 
 add-b : tie.Need-add-b Inv-loop μ-loop
@@ -89,7 +89,7 @@ returns-3 c =
           .now) (l .at) (omega (arith, c .before .before .before .before .before .before .if1 .left))
           (read-failed (c .before .is-hex2 .ensures) (c .if3 .taken)))));
       within = omega arith;
-      kept = l .inv .1;
+      sameLength = l .inv .1;
     }
 
 same-length-4 : tie.Need-same-length-4 Inv-loop μ-loop
@@ -101,7 +101,8 @@ returns-4 c =
     let l = c .before .before .before .before .before .before .before .before .before .loop in
     let k = length (c .before .before .before .before .before .before .before .before .before .before .before .before .args
     .buffer .now) in
-    let m = pairs-more (c .before .before .before .before .before .before .before .before .before .before .before .before .args
+    let m = read-pairs-more
+    (c .before .before .before .before .before .before .before .before .before .before .before .before .args
     .line .now) (l .at) (omega (arith, c .before .before .before .before .before .before .before .if1 .left))
     (read-held (c .before .before .before .before .before .is-hex .ensures) (c .before .before .before .before .if2 .left))
     (read-held (c .before .before .is-hex2 .ensures) (c .before .if3 .left)) in
@@ -110,7 +111,7 @@ returns-4 c =
       means = sym (ap (atMost k) (l .inv .2 ∙ ap (prepended (take (l .n) (l .buffer))) m)
           ∙ at-most-full k (take (l .n) (l .buffer)) _ _ (omega (arith, t, l .inv .1, c .if4 .taken)));
       within = omega arith;
-      kept = l .inv .1;
+      sameLength = l .inv .1;
     }
 
 hex-worth-requires : tie.Need-hex-worth-requires Inv-loop μ-loop
@@ -145,7 +146,8 @@ loop-less c = omega (
 loop-again : tie.Need-loop-again Inv-loop μ-loop
 loop-again c =
     let l = c .before .before .before .before .before .before .before .before .before .before .before .loop in
-    let m = pairs-more (c .before .before .before .before .before .before .before .before .before .before .before .before .before
+    let m = read-pairs-more
+    (c .before .before .before .before .before .before .before .before .before .before .before .before .before
     .before .args .line .now) (l .at) (omega
     (arith, c .before .before .before .before .before .before .before .before .before .if1 .left))
     (read-held (c .before .before .before .before .before .before .before .is-hex .ensures)
@@ -170,7 +172,7 @@ returns-5 c =
       means = sym (ap (atMost k) (l .inv .2 ∙ ap (prepended (take (l .n) (l .buffer))) (pairs-end _ _ (c .loop-test .left)))
           ∙ at-most-all k (take (l .n) (l .buffer)) (omega (arith, t, l .inv .0, l .inv .1)));
       within = l .inv .0;
-      kept = l .inv .1;
+      sameLength = l .inv .1;
     }
 
 pub pairs-at-spec : {M : Type 1} → statement M

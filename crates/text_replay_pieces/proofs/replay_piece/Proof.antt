@@ -9,7 +9,7 @@ use borrow.Author.Needs.{needs}
 use Rattle.spec.specs.Promises.{machineOf}
 use Rattle.text_log.specs.Replay.{replaying}
 use Rattle.text_lines.specs.Programs.{Passes, within}
-use Rattle.text_lines.proofs.Passing.{take-none, passes-none, passes-on}
+use Rattle.text_lines.proofs.Passing.{take-none, passes-nothing, passes-on}
 use Rattle.text_replay.specs.Bounds.{AnswerIn, Rooms}
 use Rattle.text_replay.specs.Turns.{replayStateIn}
 use Rattle.text_replay_pieces.proofs.replay_piece.Statement.{statement}
@@ -17,11 +17,12 @@ use Rattle.text_replay_pieces.proofs.replay_piece.Tie as tie
 
 abbrev Inv-loop : tie.InvT-loop
 Inv-loop p₀ state₀ files₀ logs₀ marks₀ undo₀ line₀ bytes₀ reader₀ piece out₀ p state files logs marks undo line bytes reader out =
-    (p .held ≤ 8238) × (p .at ≤ length piece) × (p₀ .at ≤ p .at) × (p .waiting ≤ 131072 * (p .at - p₀ .at))
+    (p .pending ≤ 8238) × (p .at ≤ length piece) × (p₀ .at ≤ p .at) × (p .waiting ≤ 131072 * (p .at - p₀ .at))
     × (p .waiting ≤ 131072) × AnswerIn p × (length line ≡ 8238) × Rooms bytes reader out
     × Passes replaying
-    (within (replayStateIn p₀ (machineOf state₀ files₀ logs₀ marks₀ undo₀) out₀) (take (p₀ .held) line₀) (drop (p₀ .at) piece)) []
-    (within (replayStateIn p (machineOf state files logs marks undo) out) (take (p .held) line) (drop (p .at) piece))
+    (within (replayStateIn p₀ (machineOf state₀ files₀ logs₀ marks₀ undo₀) out₀) (take (p₀ .pending) line₀)
+    (drop (p₀ .at) piece)) []
+    (within (replayStateIn p (machineOf state files logs marks undo) out) (take (p .pending) line) (drop (p .at) piece))
     (take (p .waiting) out)
 
 abbrev μ-loop : tie.MeasureT-loop
@@ -34,7 +35,7 @@ loop-holds c =
     let none = p .0 .waiting in
     let a = p .0 .answer in
     let r = p .1 .1 .1 in (
-      p .0 .held,
+      p .0 .pending,
       omega (arith, p .1 .0),
       omega arith,
       omega (arith, none),
@@ -42,14 +43,21 @@ loop-holds c =
       record { starts = a .starts; ends = a .ends },
       p .1 .1 .0,
       record { written = r .written; readable = r .readable; printable = r .printable },
-      passes-none replaying _ _ (take-none _ _ none),
+      passes-nothing replaying _ _ (take-none _ _ none),
     )
 
 returns : tie.Need-returns Inv-loop μ-loop
 returns c =
     let i = c .before .before .before .before .loop .inv in (
       i .8,
-      record { held = i .0; waiting = i .4; inside = i .1; past = λ h. omega (arith, c .if2 .taken, i .2, i .3); answer = i .5 },
+      record {
+        pending = i .0;
+        waiting = i .4;
+        inside = i .1;
+        past = λ h. omega
+            (arith, c .if2 .taken, i .2, i .3);
+        answer = i .5;
+      },
     )
 
 step-requires : tie.Need-step-requires Inv-loop μ-loop
@@ -58,7 +66,7 @@ step-requires c κs =
     let i = tested .before .before .before .before .loop .inv in
     let r = i .7 in (
       record {
-        held = i .0;
+        pending = i .0;
         waiting = tested .if2 .left;
         inside = i .1;
         answer = record { starts = i .5 .starts; ends = i .5 .ends };
@@ -81,7 +89,7 @@ loop-again c =
     let s = stepped .step .ensures in
     let k = stepped .step .kept in
     let past = s .1 .past (tested .if1 .taken) in (
-      s .1 .held,
+      s .1 .pending,
       s .1 .inside,
       omega (arith, i .2, past),
       omega (arith, i .2, past, s .1 .waiting),
@@ -100,7 +108,7 @@ returns-2 : tie.Need-returns-2 Inv-loop μ-loop
 returns-2 c =
     let i = c .before .before .loop .inv in (
       i .8,
-      record { held = i .0; waiting = i .4; inside = i .1; past = λ h. omega (arith, c .if1 .left, h); answer = i .5 },
+      record { pending = i .0; waiting = i .4; inside = i .1; past = λ h. omega (arith, c .if1 .left, h); answer = i .5 },
     )
 
 pub replay-piece-spec : {M : Type 1} → statement M

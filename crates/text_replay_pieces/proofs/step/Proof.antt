@@ -24,7 +24,7 @@ returns c =
       pending-passes replaying _ _ _ _ _ _ _ (of-room replaying _ _ _ _ _ _ (start .pre .1 .0) (looked .next-line .ensures .0)) no
           (drop-of-length-le piece past),
       record {
-        held = omega (arith, went .within, start .pre .1 .0);
+        pending = omega (arith, went .within, start .pre .1 .0);
         waiting = omega (arith, start .pre .0 .waiting);
         inside = went .inside;
         past = λ h. omega (arith, whole, h);
@@ -67,10 +67,10 @@ returns-2 c =
     let past = went .past yes in (
       answer-passes replaying _ _ _ _ _ _ _ (of-room replaying _ _ _ _ _ _ (start .pre .1 .0) (looked .next-line .ensures .0)) yes
           _
-          (cutting .part .ensures) _ _ (took-line _ _ _ _ _ (t .1)) _ _ (take-none _ _ (t .0 .held))
+          (cutting .part .ensures) _ _ (took-line _ _ _ _ _ (t .1)) _ _ (take-none _ _ (t .0 .pending))
           (ap (λ (n : ℕ). drop n piece) (t .0 .at)),
       record {
-        held = omega (arith, t .0 .held);
+        pending = omega (arith, t .0 .pending);
         waiting = t .0 .waiting;
         inside = omega (arith, went .inside, t .0 .at);
         past = λ h. omega (arith, past, t .0 .at);

@@ -23,7 +23,7 @@ Inv-loop state₀ files₀ logs₀ marks₀ undo₀ line₀ reader₀ input₀ o
     TraceResting progress × TraceRoom reader out × (length line ≡ 129) × (length input ≡ length input₀)
     × (0 < turns
     → PiecesReach storeTrace (record { machine = machineOf state₀ files₀ logs₀ marks₀ undo₀; reader = reader₀ })
-    (under (machineOf state files logs marks undo) reader (take (progress .held) line) []))
+    (under (machineOf state files logs marks undo) reader (take (progress .pending) line) []))
     × (progress .complete ≡ true
     → LinesLead storeTrace (record { machine = machineOf state₀ files₀ logs₀ marks₀ undo₀; reader = reader₀ })
     (record { machine = machineOf state files logs marks undo; reader = reader }))
@@ -36,7 +36,7 @@ abbrev μ-loop : tie.MeasureT-loop
 loop-holds : tie.Need-loop-holds Inv-loop μ-loop
 loop-holds c =
     let p = c .before .before .before .before .pre in (
-      record { held = omega arith; waiting = refl },
+      record { pending = omega arith; waiting = refl },
       record { readable = p .1 .0 .readable; printable = p .1 .0 .printable },
       p .1 .1,
       refl,

@@ -18,8 +18,8 @@ abbrev Inv-loop : tie.InvT-loop
 Inv-loop progress₀ state₀ files₀ logs₀ marks₀ undo₀ line₀ reader₀ piece out₀ progress state files logs marks undo line reader
     out =
     TraceResting progress × (progress .at ≤ length piece) × TraceRoom reader out × (length line ≡ 129)
-    × (atEnd storeTrace (under (machineOf state₀ files₀ logs₀ marks₀ undo₀) reader₀ (take (progress₀ .held) line₀) piece)
-    ≡ atEnd storeTrace (under (machineOf state files logs marks undo) reader (take (progress .held) line)
+    × (atEnd storeTrace (under (machineOf state₀ files₀ logs₀ marks₀ undo₀) reader₀ (take (progress₀ .pending) line₀) piece)
+    ≡ atEnd storeTrace (under (machineOf state files logs marks undo) reader (take (progress .pending) line)
     (drop (progress .at) piece)))
 
 abbrev μ-loop : tie.MeasureT-loop
@@ -30,7 +30,7 @@ loop-holds : tie.Need-loop-holds Inv-loop μ-loop
 loop-holds c =
     let p = c .before .before .before .before .pre in
     let room = p .1 .0 in (
-      record { held = p .0 .held; waiting = p .0 .waiting },
+      record { pending = p .0 .pending; waiting = p .0 .waiting },
       omega arith,
       record { readable = room .readable; printable = room .printable },
       p .1 .1,
@@ -41,7 +41,7 @@ fill-requires : tie.Need-fill-requires Inv-loop μ-loop
 fill-requires c κs =
     let tested = c .before .before .before .before .before .before .before .before in
     let i = tested .before .before .loop .inv in (
-      record { held = i .0 .held; waiting = i .0 .waiting },
+      record { pending = i .0 .pending; waiting = i .0 .waiting },
       (tested .if1 .taken, (record { readable = i .2 .readable; printable = i .2 .printable }, i .3)),
     )
 
@@ -80,8 +80,11 @@ returns : tie.Need-returns Inv-loop μ-loop
 returns c =
     let wrote = c .before .before .flush .ensures in
     let filled = c .before .before .before .before .before .before .before .before .before .before .fill .ensures in
-    let stops = off _ (c .if2 .taken) in
-    (record { held = omega (arith, wrote .1 .0, filled .1 .held); waiting = wrote .0 }, λ e. absurd (false≢true (sym stops ∙ e)))
+    let stops = off _ (c .if2 .taken) in (
+      record { pending = omega (arith, wrote .1 .0, filled .1 .pending); waiting = wrote .0 },
+      λ e. absurd
+          (false≢true (sym stops ∙ e)),
+    )
 
 loop-less : tie.Need-loop-less Inv-loop μ-loop
 loop-less c =
@@ -97,7 +100,7 @@ loop-again c =
     let filled = filling .fill .ensures in
     let k = filling .fill .kept in
     let i = filling .before .before .before .before .before .before .before .before .before .before .before .loop .inv in (
-      record { held = omega (arith, wrote .1 .0, filled .1 .held); waiting = wrote .0 },
+      record { pending = omega (arith, wrote .1 .0, filled .1 .pending); waiting = wrote .0 },
       omega (arith, wrote .1 .1, filled .1 .inside),
       record { readable = omega (arith, i .2 .readable, k); printable = omega (arith, i .2 .printable, k) },
       omega (arith, i .3, k),

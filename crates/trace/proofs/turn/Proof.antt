@@ -10,7 +10,7 @@ returns c =
     let taking = c .before .before .before .before .before .before in
     let counted = taking .before .before .before .before .before .before .before .before .before .before in
     let resting = taking .take-piece .ensures .0 in (
-      record { held = resting .held; waiting = resting .waiting },
+      record { pending = resting .pending; waiting = resting .waiting },
       λ e. (counted .count .result, taking .take-piece .ensures .1 e),
       λ e. absurd (false≢true e),
     )
@@ -21,9 +21,9 @@ returns-2 c =
     let tested = ending .before .before .before .before .before .before .before .before .before in
     let start = tested .before .before .before .before .before .before .before .before .before .before in
     let wrote = c .flush .ensures in
-    let line = start .pre .0 .held in
+    let line = start .pre .0 .pending in
     let last = ending .answer-last-line .ensures in (
-      record { held = omega (arith, wrote .1 .0, last .1 .1, line); waiting = wrote .0 },
+      record { pending = omega (arith, wrote .1 .0, last .1 .1, line); waiting = wrote .0 },
       λ e. absurd (false≢true e),
       λ e. (_, last .0),
     )
@@ -31,7 +31,7 @@ returns-2 c =
 returns-3 : tie.Need-returns-3
 returns-3 c =
     let start = c .before .before .before .before .before .before .before .before .before .before .before in (
-      record { held = start .pre .0 .held; waiting = start .pre .0 .waiting },
+      record { pending = start .pre .0 .pending; waiting = start .pre .0 .waiting },
       λ e. absurd (false≢true e),
       λ e. absurd (false≢true e),
     )

@@ -5,6 +5,7 @@ use mathlib.Core.Path.{_≡_, sym, ap, _∙_}
 use Prim.Native.Nat.{ℕ, _+_, _-_, _*_, _/_, _≤_}
 use native.Mathlib.Omega.{arith}
 use lib.Dec.{eqb}
+use Rattle.limits.specs.Limits.{markOctets}
 use Rattle.buffers.specs.Marks.{hasMarkIn}
 use Rattle.buffers.proofs.MarkLaws.{has-in-none, octets-has}
 use Rattle.buffers.proofs.marks.has_mark_in_octets.Statement.{statement}
@@ -41,7 +42,7 @@ loop-again : tie.Need-loop-again Inv-loop μ-loop
 loop-again c =
     let l = c .before .before .loop in
     let a = c .before .before .before .args in
-    let j = 4096 * a .t + a .from / 8 + l .i in (
+    let j = markOctets * a .t + a .from / 8 + l .i in (
       omega arith,
       octets-has (a .t) (a .from) (l .i) (c .before .before .before .pre .1 .1 .0 (omega arith)) (omega arith)
           (a .marks .now) (l .found) (omega (arith, c .shared-slice-known .given j)) (l .inv .1),

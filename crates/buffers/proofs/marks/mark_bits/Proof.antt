@@ -4,6 +4,7 @@ use Prim.Native.Nat.{ℕ, _+_, _*_, _/_}
 use native.Mathlib.Omega.{arith}
 use lib.Bits.{bitOr}
 use lib.ListN.{getD, set}
+use Rattle.limits.specs.Limits.{markOctets}
 use Rattle.buffers.specs.Marks.{withMarks}
 use Rattle.buffers.proofs.MarkLaws.{with-marks-none, octet-marked}
 use borrow.Author.Needs.{needs}
@@ -38,7 +39,7 @@ returns-2 : tie.Need-returns-2
 returns-2 c =
     let a = c .before .before .before .before .args in
     let xs = a .marks .now in
-    let i = 4096 * a .t + a .from / 8 in
+    let i = markOctets * a .t + a .from / 8 in
     ap (λ (m : ℕ). set xs i (bitOr (getD xs i 0) m)) (c .span .ensures)
     ∙ sym (octet-marked (a .t) (a .from) xs (a .n) (omega arith) (omega arith) (omega arith) (omega arith))
 

@@ -5,6 +5,7 @@ use mathlib.Core.Path.{_≡_, sym, ap, ap₂, _∙_}
 use Prim.Native.Nat.{ℕ, _+_, _-_, _*_, _/_, _≤_, _<_}
 use native.Mathlib.Omega.{arith}
 use lib.ListN.{length, getD, set, length-set}
+use Rattle.limits.specs.Limits.{bufferBytes, markOctets}
 use Rattle.buffers.specs.Bits.{span}
 use Rattle.buffers.specs.Marks.{withMarks}
 use Rattle.buffers.proofs.MarkLaws.{with-marks-none, octets-marked}
@@ -12,7 +13,8 @@ use Rattle.buffers.proofs.marks.mark_octets.Statement.{statement}
 use Rattle.buffers.proofs.marks.mark_octets.Tie as tie
 
 abbrev Inv-loop : tie.InvT-loop
-Inv-loop marks₀ t from n start full i₀ marks i = (i ≤ n) × ((marks ≡ withMarks t from (8 * i) marks₀) × (length marks ≡ 32768))
+Inv-loop marks₀ t from n start full i₀ marks i = (i ≤ n) ×
+    ((marks ≡ withMarks t from (8 * i) marks₀) × (length marks ≡ bufferBytes))
 
 abbrev μ-loop : tie.MeasureT-loop
 μ-loop marks₀ t from n start full i₀ marks i = n - i
@@ -48,7 +50,7 @@ loop-again c =
     let l = c .before .loop in
     let a = c .before .before .before .before .args in
     let octets : (i : ℕ) → getD (a .marks .now) i 0 < 256 = λ i. omega (arith, c .before .before .before .slice-known .given i) in
-    let j = 4096 * a .t + a .from / 8 + l .i in (
+    let j = markOctets * a .t + a .from / 8 + l .i in (
       omega arith,
       (
         ap₂ (λ (xs : List ℕ) (x : ℕ). set xs j x) (l .inv .1 .0) (c .before .before .span .ensures)

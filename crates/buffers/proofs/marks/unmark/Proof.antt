@@ -5,6 +5,7 @@ use Prim.Native.Nat.{ℕ, _-_, _*_, _+_, _≤_}
 use mathlib.Core.List.{List}
 use native.Mathlib.Omega.{arith}
 use lib.ListN.{length, set, length-set}
+use Rattle.limits.specs.Limits.{bufferBytes, markOctets}
 use Rattle.buffers.specs.Bits.{cleared}
 use Rattle.buffers.specs.Marks.{withoutMarks}
 use Rattle.buffers.proofs.BitLaws.{cleared-none, cleared-more}
@@ -12,16 +13,17 @@ use Rattle.buffers.proofs.marks.unmark.Statement.{statement}
 use Rattle.buffers.proofs.marks.unmark.Tie as tie
 
 abbrev Inv-loop : tie.InvT-loop
-Inv-loop marks₀ t start i₀ marks i = (i ≤ 4096) × ((marks ≡ cleared (4096 * t) i marks₀) × (length marks ≡ 32768))
+Inv-loop marks₀ t start i₀ marks i = (i ≤ markOctets) ×
+    ((marks ≡ cleared (markOctets * t) i marks₀) × (length marks ≡ bufferBytes))
 
 abbrev μ-loop : tie.MeasureT-loop
-μ-loop marks₀ t start i₀ marks i = 4096 - i
+μ-loop marks₀ t start i₀ marks i = markOctets - i
 
 mul-start : tie.Need-mul-start Inv-loop μ-loop
 mul-start c = omega arith
 
 loop-holds : tie.Need-loop-holds Inv-loop μ-loop
-loop-holds c = (omega arith, (sym (cleared-none (4096 * c .args .t) (c .args .marks .now)), omega arith))
+loop-holds c = (omega arith, (sym (cleared-none (markOctets * c .args .t) (c .args .marks .now)), omega arith))
 
 add-marks : tie.Need-add-marks Inv-loop μ-loop
 add-marks c = omega arith
@@ -39,7 +41,7 @@ loop-again : tie.Need-loop-again Inv-loop μ-loop
 loop-again c =
     let l = c .before .loop in
     let a = c .before .before .args in
-    let from = 4096 * a .t in (
+    let from = markOctets * a .t in (
       omega arith,
       (
         ap (λ (xs : List ℕ). set xs (from + l .i) 0) (l .inv .1 .0) ∙ cleared-more from (l .i) (a .marks .now),
@@ -55,8 +57,8 @@ unfolding withoutMarks
 returns c =
     let l = c .before .loop in
     let a = c .before .before .args in
-    let e : l .i ≡ 4096 = omega arith in
-    l .inv .1 .0 ∙ ap (λ (k : ℕ). cleared (4096 * a .t) k (a .marks .now)) e
+    let e : l .i ≡ markOctets = omega arith in
+    l .inv .1 .0 ∙ ap (λ (k : ℕ). cleared (markOctets * a .t) k (a .marks .now)) e
 
 pub unmark-spec : {M : Type 1} → statement M
 unmark-spec =

@@ -1,6 +1,7 @@
 -- `saving::save` meets its contract.
 use mathlib.Core.Path.{_∙_}
-use Rattle.c_images.proofs.ImageLaws.{check-refused, check-passed, out-of-range, in-range, first-taken, second-taken}
+use Rattle.c_images.proofs.ImageLaws.{check-refused, check-passed, out-of-range, loaded-in-range, first-taken}
+use Rattle.c_images.proofs.ImageLaws.{second-taken}
 use Rattle.images.specs.Images.{imageNumbers}
 use borrow.Author.Needs.{needs}
 use Rattle.c_images.proofs.saving.save_image.Tie as tie
@@ -16,7 +17,7 @@ returns-2 : tie.Need-returns-2
 unfolding imageNumbers
 returns-2 c = let put = c .before .before .before .before .before .before in
     let says = put .before .before .before .before .range-gate .ensures in
-    let told = put .before .before .enum-told .given .1 in let within = in-range _ _ _ says told in (
+    let told = put .before .before .enum-told .given .1 in let within = loaded-in-range _ _ _ says told in (
       check-passed _ _ _ _ _ _ says told,
       record {
         numbersPut = put .put-numbers .ensures ∙ first-taken _ _ _ within;

@@ -2,6 +2,7 @@
 use mathlib.Core.Path.{_≡_, sym, ap, _∙_}
 use native.Mathlib.Omega.{arith}
 use borrow.Author.{Tests.{lt-ltb, le-ltb}, Needs.needs}
+use Rattle.limits.specs.Limits.{fileBytes}
 use Rattle.state.specs.Outcomes.{said}
 use Rattle.text_answers.specs.Printed.{spelled}
 use Rattle.text_log.specs.Answers.{answerText}
@@ -32,10 +33,10 @@ put-said-requires c κs =
 returns-2 : tie.Need-returns-2
 unfolding saidBy spelledLine answerLine answerText spelled said
 returns-2 c = let start = c .before .before .before .before .before .before in let bs = start .args .bytes .now in
-    let e : c .before .before .before .smaller .result ≡ min 4096 (length bs) =
+    let e : c .before .before .before .smaller .result ≡ min fileBytes (length bs) =
     c .before .before .before .smaller .ensures in rw (
       lt-ltb (start .args .r) 32768 (c .before .before .before .before .if1 .left),
-      sym (ap (λ (k : ℕ). take k bs) e ∙ take-within 4096 bs),
+      sym (ap (λ (k : ℕ). take k bs) e ∙ take-within fileBytes bs),
     ) (c .put-said .ensures)
 
 pub luzhanem-parts-line-given-spec : {M : Type 1} → statement M

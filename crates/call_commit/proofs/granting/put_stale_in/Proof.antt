@@ -39,7 +39,7 @@ loop-again : tie.Need-loop-again Inv-loop μ-loop
 loop-again c =
     let at-loop = c .before .before .before in
     let l = at-loop .loop in
-    let few : l .u < 8 = omega arith in
+    let few : l .u < transactionCount = omega arith in
     let e = sym (c .before .contains .ensures) in (
       omega arith,
       ⊎-elim

@@ -7,7 +7,7 @@ use Rattle.counters.specs.declared.Used.{Used}
 use Rattle.state.specs.{declared.journal.WriteRecord.WriteRecord, Journal.writeRecordAt, Layout.{journalOf, transactionOf}}
 use Rattle.admission.{specs.FirstRefusal.someBelow, proofs.Laws.{some-none, some-more, some-found}}
 use Rattle.spec.specs.Places.{noPlace}
-use Rattle.commit_windows.proofs.ClosingLaws.{few}
+use Rattle.commit_windows.proofs.ClosingLaws.{few-closing}
 use Rattle.call_order.specs.OrderTable.{unplacedIn}
 use Rattle.call_order.proofs.admit_list.has_unplaced.Tie as tie
 
@@ -31,7 +31,7 @@ count-of c = ap (λ (u : Used). u .records) (c .before .used-at .ensures)
 record-at-requires : tie.Need-record-at-requires Inv-loop μ-loop
 record-at-requires c κs = let at-loop = c .before .before in let start = start-of at-loop in (
   omega (arith, start .pre .small),
-  omega (arith, few (start .args .state .now) (start .args .t) (start .pre), count-of at-loop, c .if1 .taken),
+  omega (arith, few-closing (start .args .state .now) (start .args .t) (start .pre), count-of at-loop, c .if1 .taken),
 )
 
 returns : tie.Need-returns Inv-loop μ-loop

@@ -5,7 +5,7 @@ use lib.ListN.{length, getD, drop}
 use native.Mathlib.{Numerals.add-one, Omega.arith}
 use Prim.Native.Nat.{ℕ, suc, _-_, _≤_}
 use Rattle.spec_orders.specs.Orders.{isIn}
-use Rattle.call_order.proofs.ListLaws.{in-found, in-passed, in-none}
+use Rattle.call_order.proofs.ListLaws.{in-found, in-passed, in-empty}
 use Rattle.call_order.proofs.admit_list.occurs_again.Tie as tie
 
 abbrev Inv-loop : tie.InvT-loop
@@ -27,7 +27,7 @@ loop-again c = let at-loop = c .before .before .before in
     (omega arith, at-loop .loop .inv .1 ∙ in-passed _ _ (at-loop .loop .j) (omega arith) (ne-eqb _ _ (c .if1 .left)))
 
 returns-2 : tie.Need-returns-2 Inv-loop μ-loop
-returns-2 c = sym (c .before .loop .inv .1 ∙ in-none _ _ (c .before .loop .j) (omega arith))
+returns-2 c = sym (c .before .loop .inv .1 ∙ in-empty _ _ (c .before .loop .j) (omega arith))
 
 pub occurs-again-spec : {M : Type 1} → Rattle.call_order.proofs.admit_list.occurs_again.Statement.statement M
 occurs-again-spec = tie.close (tie.spec Inv-loop μ-loop (λ c. search needs) (λ c. search needs) loop-holds

@@ -4,6 +4,7 @@ use borrow.Author.Needs.{needs}
 use lib.{Dec.leb, ListN.{length, take, drop}, Seq.length-take-le}
 use native.Mathlib.Omega.{arith}
 use Prim.Native.Nat.{ℕ, _-_, _≤_, _<_}
+use Rattle.limits.specs.Limits.{lastTransaction}
 use Rattle.spec_orders.specs.{Orders.{factorial, bestOf, bestTried, triedOf, allIn}, Numbering.orderAt}
 use Rattle.spec_orders.proofs.Distinct.{all-arranged}
 use Rattle.call_order.specs.OrderTable.{grantsByTable, ZerosAfter}
@@ -38,11 +39,12 @@ inside : (c : tie.After-order-at Inv-loop μ-loop) → let a = c .before .before
 inside c = let l = c .before .before .loop in subst (λ (n : ℕ). l .i < factorial n) (sym (l .inv .1)) (within (c .before))
 
 members : (c : tie.After-order-at Inv-loop μ-loop) → let a = c .before .before .before .before .args in
-    allIn (λ t. leb t 7) (take (a .n) (c .order-at .result)) ≡ true
+    allIn (λ t. leb t lastTransaction) (take (a .n) (c .order-at .result)) ≡ true
 members c = let l = c .before .before .loop in let start = c .before .before .before .before in
     let ts = take (start .args .n) (start .args .numbers) in
-    subst (λ (o : List ℕ). allIn (λ t. leb t 7) o ≡ true) (sym (order-is c))
-    (all-arranged (λ t. leb t 7) ts (orderAt (length ts) (l .i) ts) (order-arranges ts (l .i) (inside c)) (start .pre .2))
+    subst (λ (o : List ℕ). allIn (λ t. leb t lastTransaction) o ≡ true) (sym (order-is c))
+    (all-arranged (λ t. leb t lastTransaction) ts (orderAt (length ts) (l .i) ts) (order-arranges ts (l .i) (inside c))
+    (start .pre .2))
 
 loop-again : tie.Need-loop-again Inv-loop μ-loop
 loop-again c = let read = c .before .before in let l = read .before .before .loop in

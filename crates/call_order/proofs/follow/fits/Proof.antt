@@ -4,7 +4,7 @@ use borrow.Author.Needs.{needs}
 use lib.{Dec.leb, ListN.getD}
 use native.Mathlib.Omega.{arith}
 use Prim.Native.Nat.{ℕ, _+_, _-_, _≤_}
-use Rattle.limits.specs.Limits.{descriptorCount}
+use Rattle.limits.specs.Limits.{fileBytes, descriptorCount}
 use Rattle.standings.specs.Table.{advance}
 use Rattle.state.specs.{StoreMeaning.standingAt, Layout.transactionOf}
 use Rattle.admission.specs.FirstRefusal.{below}
@@ -13,7 +13,7 @@ use Rattle.call_order.specs.OrderStatements.{fitsAt}
 use Rattle.call_order.proofs.follow.fits.Tie as tie
 
 abbrev fits-at : List ℕ → ℕ → List ℕ → ℕ → Bool
-fits-at state t offsets d = leb (getD offsets d 0 + advance (standingAt (transactionOf state t) d)) 4096
+fits-at state t offsets d = leb (getD offsets d 0 + advance (standingAt (transactionOf state t) d)) fileBytes
 
 abbrev Inv-loop : tie.InvT-loop
 Inv-loop state t offsets good₀ d₀ good d = (d ≤ descriptorCount) × (good ≡ below (fits-at state t offsets) d)
@@ -26,7 +26,7 @@ loop-again c = let l = c .before .before .before .before .before .loop in
     let advanced = c .wide2 .ensures .0 ∙ c .before .advance .ensures
     ∙ ap advance (c .before .before .before .standing-at .ensures) in (
       omega arith,
-      one-more _ _ _ _ (l .inv .1) (ap₂ (λ (x y : ℕ). leb (x + y) 4096) (c .before .before .wide .ensures .0) advanced),
+      one-more _ _ _ _ (l .inv .1) (ap₂ (λ (x y : ℕ). leb (x + y) fileBytes) (c .before .before .wide .ensures .0) advanced),
     )
 
 returns : tie.Need-returns Inv-loop μ-loop

@@ -28,11 +28,11 @@ left-so x offsets d e = ap (λ (b : Bool). cond b (finalOffset (getD offsets d 0
 fits-there : (x : Txn) (offsets : List ℕ) (d : ℕ) → fitsAt x offsets ≡ true → d < descriptorCount → getD offsets d 0
     + advance (x .standing d) ≤ fileBytes
 unfolding fitsAt
-fits-there x offsets d e l = leb-true _ 4096 (below-at _ 16 d e l)
+fits-there x offsets d e l = leb-true _ fileBytes (below-at _ 16 d e l)
 
 abbrev Inv-loop : tie.InvT-loop
 Inv-loop state t offsets after₀ d₀ after d =
-    (d ≤ 16) × (after ≡ filled (offset-after (descriptorsIn state t) offsets) offsets d) × (length offsets ≡ 16)
+    (d ≤ descriptorCount) × (after ≡ filled (offset-after (descriptorsIn state t) offsets) offsets d) × (length offsets ≡ 16)
 
 abbrev μ-loop : tie.MeasureT-loop
 μ-loop state t offsets after₀ d₀ after d = descriptorCount - d
@@ -62,7 +62,7 @@ sets-is c = let a = start-of c .args in
 
 final-offset-requires : tie.Need-final-offset-requires Inv-loop μ-loop
 final-offset-requires c κs = let read = c .before in let start = start-of read in
-    let few : loop-of read .loop .d < 16 = omega arith in
+    let few : loop-of read .loop .d < descriptorCount = omega arith in
     let h = fits-there (descriptorsIn (start .args .state .now) (start .args .t)) (start .args .t3) (loop-of read .loop .d)
     (start .pre .1) few in let z = ap advance (standing-is read) in omega (arith, h, z)
 

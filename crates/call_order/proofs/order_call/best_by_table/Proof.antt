@@ -4,7 +4,7 @@ use borrow.Author.Needs.{needs}
 use lib.{Dec.leb, ListN.{length, length-map}}
 use native.Mathlib.Omega.{arith}
 use Prim.Native.Nat.{ℕ, _≤_}
-use Rattle.limits.specs.Limits.{transactionCount}
+use Rattle.limits.specs.Limits.{transactionCount, lastTransaction}
 use Rattle.state.specs.Outcomes.{said}
 use Rattle.admission.proofs.Laws.{first-zero}
 use Rattle.spec_orders.specs.Orders.{factorial, allIn}
@@ -34,7 +34,7 @@ best-of-requires : tie.Need-best-of-requires
 best-of-requires c κs = let start = start-of c in (
   few start,
   tried-few c,
-  subst (λ (ts : List ℕ). allIn (λ t. leb t 7) ts ≡ true) (sym (c .numbers-of .ensures .0)) (listed start .small),
+  subst (λ (ts : List ℕ). allIn (λ t. leb t lastTransaction) ts ≡ true) (sym (c .numbers-of .ensures .0)) (listed start .small),
   c .numbers-of .ensures .1,
 )
 

@@ -4,7 +4,7 @@ use borrow.Author.Needs.{needs}
 use lib.ListN.{length, length-set}
 use native.Mathlib.Omega.{arith}
 use Prim.Native.Nat.{ℕ, _-_, _≤_, _<_}
-use Rattle.limits.specs.Limits.{transactionCount}
+use Rattle.limits.specs.Limits.{bufferBytes, transactionCount}
 use Rattle.state.specs.Layout.{transactionOf}
 use Rattle.spec.specs.Promises.{machineOf}
 use Rattle.commit_apply.specs.Apply.{CanLandIn}
@@ -14,7 +14,7 @@ use Rattle.call_order.proofs.table.octets_of.Tie as tie
 
 abbrev Inv-loop : tie.InvT-loop
 Inv-loop state marks list table₀ k₀ table k = (k ≤ length list) × (length table ≡ 8) × ((files logs undo : List ℕ)
-    → length logs ≡ 32768 → FilledFor (staleBy (machineOf state files logs marks undo)) list table k)
+    → length logs ≡ bufferBytes → FilledFor (staleBy (machineOf state files logs marks undo)) list table k)
 
 abbrev μ-loop : tie.MeasureT-loop
 μ-loop state marks list table₀ k₀ table k = length list - k

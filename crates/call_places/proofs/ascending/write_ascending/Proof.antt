@@ -15,7 +15,7 @@ use Rattle.call_places.specs.declared.ascending.Sweep.{Sweep}
 use Rattle.call_places.specs.PlacesCall.{coveredAt}
 use Rattle.call_places.specs.Ascending.{sweptRecord, sweptIn, withLast}
 use Rattle.call_places.proofs.ListLaws.{pairs-all}
-use Rattle.call_places.proofs.AscendingLaws.{swept-few, swept-none, swept-more, put-none, put-ready, put-more}
+use Rattle.call_places.proofs.AscendingLaws.{swept-few, swept-none, swept-more, put-none-last, put-ready, put-more}
 use Rattle.call_places.proofs.ascending.write_ascending.Statement.{statement}
 use Rattle.call_places.proofs.ascending.write_ascending.Tie as tie
 
@@ -37,7 +37,7 @@ loop-holds : tie.Need-loop-holds Inv-loop μ-loop
 loop-holds c =
     let a = c .before .before .args in
     let j = recordedIn (a .state .now) in
-    (omega arith, refl, c .unswept .ensures ∙ swept-none j (a .t) (a .f), put-none j (a .t) (a .f) (a .out .now))
+    (omega arith, refl, c .unswept .ensures ∙ swept-none j (a .t) (a .f), put-none-last j (a .t) (a .f) (a .out .now))
 
 record-at-requires : tie.Need-record-at-requires Inv-loop μ-loop
 record-at-requires c κs = search needs

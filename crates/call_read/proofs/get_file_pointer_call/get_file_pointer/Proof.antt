@@ -18,8 +18,8 @@ use Rattle.read_settle.specs.Choices.{chosenByPointer}
 use Rattle.refinement.proofs.TurnLaws.{LetThrough, sharedWith, gate-refused, gate-passed, gate-let-through, gate-number}
 use Rattle.refinement.proofs.TurnLaws.{gate-zero, is-open}
 use Rattle.refinement.proofs.TurnLaws.{is-closed, admission-open, admitted-closed, turned-follows}
-use Rattle.call_read.proofs.ReadTests.{readRefusal, ReadAdmitted, gate-says, read-admitted, ready, SettledAs, settled-as}
-use Rattle.call_read.proofs.PointerRules.{pointer-refused, past-follows, pointer-follows}
+use Rattle.call_read.proofs.ReadTests.{readRefusal, ReadAdmitted, gate-says, read-admitted, all-placeable, SettledAs, settled-as}
+use Rattle.call_read.proofs.PointerRules.{pointer-refused, pointer-past-follows, pointer-follows}
 use Rattle.call_read.proofs.get_file_pointer_call.get_file_pointer.Statement.{statement}
 use Rattle.call_read.proofs.get_file_pointer_call.get_file_pointer.Tie as tie
 
@@ -129,12 +129,12 @@ returns-3 c =
 settle-for-pointer-requires : tie.Need-settle-for-pointer-requires
 settle-for-pointer-requires c κs =
     let l = looks (c .before) in
-    (ready l, omega (arith, l .may .low))
+    (all-placeable l, omega (arith, l .may .low))
 
 returns-4 : tie.Need-returns-4
 returns-4 c =
     let called = c .before .before in
-    past-follows (looks (look-of called)) _ (settled called _ (c .enum-told4 .given .1))
+    pointer-past-follows (looks (look-of called)) _ (settled called _ (c .enum-told4 .given .1))
 
 standing-at-requires : tie.Need-standing-at-requires
 standing-at-requires c κs =

@@ -17,7 +17,7 @@ use Rattle.read_settle.specs.Choices.{chosenByRead}
 use Rattle.refinement.proofs.TurnLaws.{LetThrough, sharedWith, gate-refused, gate-passed, gate-let-through, gate-number}
 use Rattle.refinement.proofs.TurnLaws.{gate-zero, is-open}
 use Rattle.refinement.proofs.TurnLaws.{is-closed, admission-open, admitted-closed, turned-follows}
-use Rattle.call_read.proofs.ReadTests.{readRefusal, ReadAdmitted, gate-says, read-admitted, ready, SettledAs, settled-as}
+use Rattle.call_read.proofs.ReadTests.{readRefusal, ReadAdmitted, gate-says, read-admitted, all-placeable, SettledAs, settled-as}
 use Rattle.call_read.proofs.ReadRules.{read-refused, past-follows, handed-on, read-follows}
 use Rattle.call_read.proofs.read_call.read.Statement.{statement}
 use Rattle.call_read.proofs.read_call.read.Tie as tie
@@ -134,7 +134,7 @@ returns-3 c =
 settle-for-read-requires : tie.Need-settle-for-read-requires
 settle-for-read-requires c κs =
     let l = looks (c .before) in
-    (ready l, omega (arith, l .may .low))
+    (all-placeable l, omega (arith, l .may .low))
 
 returns-4 : tie.Need-returns-4
 returns-4 c =

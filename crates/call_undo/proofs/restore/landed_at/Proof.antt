@@ -31,7 +31,7 @@ returns c =
     let numbers = storeOf (at-wide .before .before .args .state .now) .filenumbers in
     let number = at-file .file-at .ensures ∙ ap (λ (d : ℕ). getD numbers d 0) (through at-wide) in
     let file = at-number .before .wide2 .ensures .0 ∙ number in
-    let place = c .before .wide3 .ensures .0 ∙ at-number .number .ensures
+    let place = c .before .wide3 .ensures .0 ∙ at-number .place-number .ensures
     ∙ ap (λ (w : WriteRecord). placeNumber (w .place)) found in
     let size = c .wide4 .ensures .0 ∙ ap (λ (w : WriteRecord). w .length) found in
     λ i. record { file = file i; place = place i; length = size i }

@@ -6,6 +6,7 @@ use mathlib.Core.List.{List}
 use mathlib.Core.Path.{_≡_, sym, ap, _∙_}
 use lib.ListN.{length}
 use Prim.Native.Nat.{ℕ, suc, _+_, _-_, _≤_, _<_}
+use Rattle.limits.specs.Limits.{fileCount, fileBytes, bufferBytes}
 use Rattle.buffers.proofs.PartLaws.{length-cut}
 use Rattle.counters.specs.declared.Used.{Used}
 use Rattle.state.specs.declared.StoreMeaning.{StoreMeaning}
@@ -15,7 +16,7 @@ use Rattle.admission.specs.Admission.{lengthsBefore}
 use Rattle.spec_undo.specs.OldBytes.{Span, restored}
 use Rattle.spec.specs.Undo.{landedOn}
 use Rattle.call_undo.proofs.RestoreLaws.{firstSpans, all-spans, none-left, lengths-next, back-next}
-use Rattle.call_undo.proofs.RestoreLaws.{grant-in, descriptor-in, inside, lengths-in}
+use Rattle.call_undo.proofs.RestoreLaws.{grant-in, restored-descriptor-in, inside, lengths-in}
 use Rattle.call_undo.proofs.restore.restore_bytes.Statement.{statement}
 use Rattle.call_undo.proofs.restore.restore_bytes.Tie as tie
 
@@ -26,7 +27,7 @@ Inv-loop state files₀ undo end₀ k₀ files end k =
     (k ≤ s .undo .used .records)
     × (end ≡ lengthsBefore j lastGrant k)
     × (restored (firstSpans s j k) undo files ≡ restored (landedOn s j) undo files₀)
-    × (length files ≡ 32768)
+    × (length files ≡ bufferBytes)
 
 abbrev μ-loop : tie.MeasureT-loop
 μ-loop state files₀ undo end₀ k₀ files end k = k
@@ -69,7 +70,7 @@ landed-at-requires : tie.Need-landed-at-requires Inv-loop μ-loop
 landed-at-requires c κs =
     let pre = start-of c .pre in
     let few = grant-in (store c) (journal c) (pre .0) (pre .1) .records in
-    (omega (arith, earlier c), descriptor-in (store c) (journal c) (pre .0) (pre .1) (turn c) (earlier c))
+    (omega (arith, earlier c), restored-descriptor-in (store c) (journal c) (pre .0) (pre .1) (turn c) (earlier c))
 
 -- Where its old bytes start; they lie within the buffer of old bytes, and land within a file.
 starts : (c : tie.After-landed-at Inv-loop μ-loop)
@@ -88,7 +89,8 @@ within c =
     let most = lengths-in (store (c .before)) (journal (c .before)) (pre .0) (pre .1) (l .k) (l .inv .0) in
     omega (arith, starts c, l .inv .1, pre .3)
 
-lands : (c : tie.After-landed-at Inv-loop μ-loop) → let w = c .landed-at .result in (w .file < 8) × (w .place + w .length ≤ 4096)
+lands : (c : tie.After-landed-at Inv-loop μ-loop) → let w = c .landed-at .result in (w .file < fileCount)
+    × (w .place + w .length ≤ fileBytes)
 lands c =
     let turned = c .before in
     let pre = start-of turned .pre in

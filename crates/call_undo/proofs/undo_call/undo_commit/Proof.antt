@@ -4,7 +4,7 @@ use mathlib.Core.List.{[]}
 use mathlib.Core.Path.{_≡_, sym, ap, _∙_}
 use Prim.Native.Nat.{ℕ}
 use Rattle.state.specs.Outcomes.{number}
-use Rattle.admission.proofs.Laws.{AdmittedBack, admitted-back}
+use Rattle.admission.proofs.Laws.{AdmittedUndo, admitted-undo}
 use Rattle.spec.specs.Machine.{Machine, sizes}
 use Rattle.spec.specs.Calls.{passing, call, undoTurn}
 use Rattle.spec.specs.Promises.{machineOf}
@@ -24,8 +24,8 @@ start-of c = c .before .before .before .before .before .before .before .before
 passed : (c : tie.After-enum-told) → undo-tests (machine (start-of c)) ≡ 0
 passed c = gate-zero _ _ (c .before .before .admit-undo .ensures .0) (c .enum-told .given .1)
 
-admits : (c : tie.After-enum-told) → let m = machine (start-of c) in AdmittedBack (sizes m) (m .store) (m .journal)
-admits c = let m = machine (start-of c) in admitted-back (sizes m) (m .store) (m .journal) (passed c)
+admits : (c : tie.After-enum-told) → let m = machine (start-of c) in AdmittedUndo (sizes m) (m .store) (m .journal)
+admits c = let m = machine (start-of c) in admitted-undo (sizes m) (m .store) (m .journal) (passed c)
 
 returns : tie.Need-returns
 unfolding call
@@ -40,14 +40,14 @@ returns c =
 restore-bytes-requires : tie.Need-restore-bytes-requires
 restore-bytes-requires c κs =
     let a = admits (c .before .before) in
-    (a .ranges, a .held, a .lengths .files, a .lengths .undo)
+    (a .ranges, a .valid, a .lengths .files, a .lengths .undo)
 
 returns-2 : tie.Need-returns-2
 returns-2 c =
     let put-back = c .before .before .before .before .before .before in
     let told = put-back .before .before .before in
     undo-follows _ _ _ _ _ (told .before .before .admit-undo .ensures .1) _ _ (c .before .before .put-found .ensures)
-    (c .put-can-undo .ensures) (passed told) _ (put-back .restore-bytes .ensures)
+    (c .put-undo-valid .ensures) (passed told) _ (put-back .restore-bytes .ensures)
 
 pub undo-commit-spec : {M : Type 1} → statement M
 undo-commit-spec =

@@ -6,6 +6,7 @@ use mathlib.Core.List.{[]}
 use mathlib.Core.Path.{_≡_, ap, _∙_}
 use lib.ListN.{length}
 use Prim.Native.Nat.{ℕ, _+_, _*_, _<_}
+use Rattle.limits.specs.Limits.{transactionCount, logBytes}
 use Rattle.buffers.specs.Parts.{pasted}
 use Rattle.standings.specs.Table.{writePlace}
 use Rattle.state.specs.StoreMeaning.{transaction}
@@ -92,7 +93,7 @@ room-of : (c : tie.After-enum-told2) → let place = place-at c in
     (length (begin-of place .args .bytes .now))
 room-of c = room-left _ _ _ (gate-zero _ _ (refusal (c .before .before)) (c .enum-told2 .given .1))
 
-small : (c : tie.After-enum-told2) → begin-of (place-at c) .args .t < 8
+small : (c : tie.After-enum-told2) → begin-of (place-at c) .args .t < transactionCount
 small c = let-through (told-at (open-at (place-at c))) .small
 
 admit-requires : tie.Need-admit-requires
@@ -208,7 +209,7 @@ returns-5 c =
     let a = begin-of place .args in
     write-follows (reached place) (a .bytes .now) (room-of told) _ _
     (c .before .before .before .before .copy-to .ensures
-    ∙ ap (λ (n : ℕ). pasted (a .logs .now) (4096 * a .t + n) (a .bytes .now))
+    ∙ ap (λ (n : ℕ). pasted (a .logs .now) (logBytes * a .t + n) (a .bytes .now))
     (c .before .before .before .before .before .wide .ensures .0)) (c .put-write .ensures .0) (c .put-write .ensures .1)
 
 pub write-spec : {M : Type 1} → statement M

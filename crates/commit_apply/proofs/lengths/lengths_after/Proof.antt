@@ -6,14 +6,14 @@ use mathlib.Core.Path.{_≡_, ap, ap₂, _∙_}
 use lib.ListN.{length, getD, set}
 use Prim.Native.Nat.{ℕ, _-_, _≤_, _<_, max}
 use native.Mathlib.Omega.{arith}
-use Rattle.limits.specs.Limits.{fileCount}
+use Rattle.limits.specs.Limits.{fileCount, fileBytes}
 use Rattle.state.specs.Layout.{storeOf, journalOf}
 use Rattle.spec.specs.Reading.{writeEnd}
 use Rattle.spec.proofs.Refinement.WriteEnds.{write-end}
 use Rattle.refinement.proofs.Shapes.{shaped}
 use Rattle.commit_apply.specs.Apply.{lengthsLandedIn}
 use Rattle.commit_apply.proofs.WriteLaws.{can-first}
-use Rattle.commit_apply.proofs.LengthLaws.{lengths-none, lengths-more, lengths-still}
+use Rattle.commit_apply.proofs.LengthLaws.{landed-lengths-none, landed-lengths-more, lengths-still}
 use borrow.Author.Needs.{needs}
 use Rattle.commit_apply.proofs.lengths.lengths_after.Statement.{statement}
 use Rattle.commit_apply.proofs.lengths.lengths_after.Tie as tie
@@ -33,7 +33,7 @@ loop-holds c =
     let state = c .before .args .state .now in
     let s = storeOf state in (
       omega arith,
-      c .lengths-at .ensures ∙ lengths-none (s .filenumbers) (s .offsets) (journalOf state) _ (s .lengths)
+      c .lengths-at .ensures ∙ landed-lengths-none (s .filenumbers) (s .offsets) (journalOf state) _ (s .lengths)
           (shaped state .lengths),
     )
 
@@ -46,7 +46,7 @@ write-end-requires c κs = c .landing-at .ensures .inside
 cast-out : tie.Need-cast-out Inv-loop μ-loop
 cast-out c =
     let at-end = c .before .before in
-    let end : at-end .write-end .result ≤ 4096 = rw (at-end .write-end .ensures)
+    let end : at-end .write-end .result ≤ fileBytes = rw (at-end .write-end .ensures)
     (write-end _ _ (at-end .before .landing-at .ensures .inside)) in
     omega (arith, end)
 
@@ -66,7 +66,7 @@ loop-again c =
       omega (arith, landing .before .loop-test .taken),
       ⊎-elim
           (λ w. w .1 ∙ ap (λ (xs : List ℕ). set xs f end) (l .inv .1)
-          ∙ lengths-more (s .filenumbers) (s .offsets) (journalOf state) (start .args .t) (s .lengths) (l .k) f end end
+          ∙ landed-lengths-more (s .filenumbers) (s .offsets) (journalOf state) (start .args .t) (s .lengths) (l .k) f end end
           (file-in landing) (lands .file) ends (omega (arith, stood, w .0 .taken)))
           (λ w. w .1 ∙ l .inv .1
           ∙ lengths-still (s .filenumbers) (s .offsets) (journalOf state) (start .args .t) (s .lengths) (l .k) f end

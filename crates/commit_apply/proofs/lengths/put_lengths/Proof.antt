@@ -24,7 +24,7 @@ putInto lengths state n = filled (λ f. getD lengths f 0) (storeOf state .length
 
 abbrev Inv-loop : tie.InvT-loop
 Inv-loop state₀ lengths f₀ state f =
-    (f ≤ 8) × Means state₀ state (withLengths (putInto lengths state₀ f) (storeOf state₀)) × (length lengths ≡ 8)
+    (f ≤ fileCount) × Means state₀ state (withLengths (putInto lengths state₀ f) (storeOf state₀)) × (length lengths ≡ 8)
 
 abbrev μ-loop : tie.MeasureT-loop
 μ-loop state₀ lengths f₀ state f = fileCount - f

@@ -25,7 +25,7 @@ abbrev μ-loop : tie.MeasureT-loop
 -- The committed offset that was read is at most 4,096.
 limit : (c : tie.After-offset-at Inv-loop μ-loop) → c .offset-at .result ≤ fileBytes
 limit c =
-    let l : c .before .before .loop .d < 16 = omega arith in
+    let l : c .before .before .loop .d < descriptorCount = omega arith in
     let e = c .offset-at .ensures in
     omega (arith, c .before .before .before .pre .1 (c .before .before .loop .d) l)
 
@@ -43,7 +43,7 @@ loop-again c =
           (ap not (c .may-wait-to .ensures)
           ∙ room-fits z (at-offset .offset-at .result) (c .before .wide .result + 1) (limit at-offset)
           (omega (arith, c .before .wide .ensures .0))
-          ∙ ap (λ (n : ℕ). leb (n + advance z) 4096) (at-offset .offset-at .ensures)),
+          ∙ ap (λ (n : ℕ). leb (n + advance z) fileBytes) (at-offset .offset-at .ensures)),
     )
 
 returns : tie.Need-returns Inv-loop μ-loop

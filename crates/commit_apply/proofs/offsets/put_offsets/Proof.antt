@@ -37,7 +37,7 @@ final-offset-requires c κs =
     let at-loop = c .before .before .before .before .before .before .before in
     let start = at-loop .before in
     let d = at-loop .loop .d in
-    let few : d < 16 = omega arith in
+    let few : d < descriptorCount = omega arith in
     omega (
       arith,
       fits-at (storeOf (start .args .state .now)) (start .args .t2)
@@ -51,7 +51,7 @@ unfolding setsOffset
 loop-again c =
     let l = c .before .before .before .before .loop in
     let x = c .before .before .before .before .before .args .t2 in
-    let few : l .d < 16 = omega arith in
+    let few : l .d < descriptorCount = omega arith in
     let e = sym (c .before .sets-offset .ensures) in (
       omega arith,
       ⊎-elim

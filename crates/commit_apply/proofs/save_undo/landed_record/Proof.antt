@@ -2,13 +2,13 @@
 use mathlib.Core.Path.{_∙_}
 use Prim.Native.Nat.{_≤_}
 use Rattle.limits.specs.Limits.{fileBytes}
-use Rattle.commit_apply.proofs.SaveUndoLaws.{descriptor-in, place-in, landed-is}
+use Rattle.commit_apply.proofs.SaveUndoLaws.{saved-descriptor-in, place-in, landed-is}
 use borrow.Author.Needs.{needs}
 use Rattle.commit_apply.proofs.save_undo.landed_record.Statement.{statement}
 use Rattle.commit_apply.proofs.save_undo.landed_record.Tie as tie
 
 offset-at-requires : tie.Need-offset-at-requires
-offset-at-requires c κs = descriptor-in (c .before .before .pre .2) (c .before .record-at .ensures) (c .wide .ensures .0)
+offset-at-requires c κs = saved-descriptor-in (c .before .before .pre .2) (c .before .record-at .ensures) (c .wide .ensures .0)
 
 -- Landmarks of a record whose place is found.
 abbrev read-of : tie.After-lands-at → tie.After-wide

@@ -15,7 +15,7 @@ returns c =
     let noted = found .before .before in
     let a = noted .before .before .args in
     grant-preserved (a .state .now) _ _ _ _ (a .t) (a .used)
-    (noted .save-records .ensures) (found .save-found .ensures) (counted .put-undo-used .ensures) (c .put-can-undo .ensures)
+    (noted .save-records .ensures) (found .save-found .ensures) (counted .put-undo-used .ensures) (c .put-undo-valid .ensures)
 
 pub save-undo-spec : {M : Type 1} → statement M
 save-undo-spec =

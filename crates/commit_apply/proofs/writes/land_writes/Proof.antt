@@ -5,6 +5,7 @@ use mathlib.Core.Path.{_≡_, sym, ap, _∙_}
 use lib.ListN.{length}
 use Prim.Native.Nat.{ℕ, _+_, _-_, _*_, _≤_}
 use native.Mathlib.Omega.{arith}
+use Rattle.limits.specs.Limits.{fileBytes, bufferBytes, logBytes, undoBytes}
 use Rattle.buffers.specs.Parts.{pasted, cut, filePart}
 use Rattle.buffers.proofs.PartLaws.{length-cut, cut-cut, length-file}
 use Rattle.state.specs.Layout.{journalOf}
@@ -23,9 +24,9 @@ Inv-loop state files₀ logs undo₀ t records log done₀ k₀ files undo done 
     (k ≤ records)
     × (files ≡ landFiles (bytesSetIn state logs t k) files₀)
     × (log + done ≡ dataStart (journalOf state) t k)
-    × (length files ≡ 32768)
+    × (length files ≡ bufferBytes)
     × OldSoFar state logs files₀ files undo₀ undo t k done
-    × (length undo ≡ 4096)
+    × (length undo ≡ undoBytes)
 
 abbrev μ-loop : tie.MeasureT-loop
 μ-loop state files₀ logs undo₀ t records log done₀ k₀ files undo done k = records - k
@@ -38,18 +39,19 @@ abbrev start-of : tie.After-landing-at Inv-loop μ-loop → tie.Start Inv-loop �
 start-of c = loop-of c .before .before .before .before
 
 -- The data of the turn's record lie within the transaction's log, and it lands inside the files.
-in-log : (c : tie.After-landing-at Inv-loop μ-loop) → loop-of c .loop .done + c .landing-at .result .length ≤ 4096
+in-log : (c : tie.After-landing-at Inv-loop μ-loop) → loop-of c .loop .done + c .landing-at .result .length ≤ logBytes
 in-log c =
     let pre = start-of c .pre in
     let here = loop-of c .loop .inv .2 in
     omega (arith, data-in (pre .0) (c .before .loop-test .taken), c .landing-at .ensures .length)
 
 in-logs : (c : tie.After-landing-at Inv-loop μ-loop)
-    → 4096 * start-of c .args .t + loop-of c .loop .done + c .landing-at .result .length ≤ length (start-of c .args .logs .now)
+    → logBytes * start-of c .args .t + loop-of c .loop .done + c .landing-at .result .length ≤ length
+    (start-of c .args .logs .now)
 in-logs c = let pre = start-of c .pre in omega (arith, in-log c, pre .0 .small, pre .2)
 
 in-file : (c : tie.After-landing-at Inv-loop μ-loop)
-    → let w = c .landing-at .result in 4096 * w .file + w .place + w .length ≤ length (loop-of c .loop .files)
+    → let w = c .landing-at .result in fileBytes * w .file + w .place + w .length ≤ length (loop-of c .loop .files)
 in-file c = let lands = c .landing-at .ensures in omega (arith, lands .fileIn, lands .inside, loop-of c .loop .inv .3)
 
 loop-holds : tie.Need-loop-holds Inv-loop μ-loop
@@ -76,13 +78,13 @@ landing-of c = c .before .before .before .before
 
 old-part : (c : tie.After-part Inv-loop μ-loop)
     → let w = landing-of c .landing-at .result in
-    c .part .result .now ≡ cut (loop-of (landing-of c) .loop .files) (4096 * w .file + w .place) (w .length)
+    c .part .result .now ≡ cut (loop-of (landing-of c) .loop .files) (fileBytes * w .file + w .place) (w .length)
 unfolding filePart
 old-part c =
     let w = landing-of c .landing-at .result in
     c .part .ensures
     ∙ ap (λ (l : List ℕ). cut l (w .place) (w .length)) (c .before .before .file-part .ensures)
-    ∙ cut-cut (loop-of (landing-of c) .loop .files) (4096 * w .file) 4096 (w .place) (w .length)
+    ∙ cut-cut (loop-of (landing-of c) .loop .files) (fileBytes * w .file) fileBytes (w .place) (w .length)
     (landing-of c .landing-at .ensures .inside)
 
 copy-to-requires : tie.Need-copy-to-requires Inv-loop μ-loop

@@ -5,10 +5,11 @@ use mathlib.Core.Path.{_≡_}
 use lib.ListN.{length}
 use Prim.Native.Nat.{ℕ, _-_, _≤_}
 use native.Mathlib.Omega.{arith}
+use Rattle.limits.specs.Limits.{bufferBytes}
 use Rattle.commit_apply.specs.Apply.{bytesSetIn}
 use Rattle.commit_apply.proofs.WriteLaws.{can-first}
 use Rattle.commit_conflicts.specs.Conflicts.{Sighters}
-use Rattle.commit_conflicts.proofs.ConflictLaws.{no-bytes, bytes-more}
+use Rattle.commit_conflicts.proofs.ConflictLaws.{no-bytes, byte-hits-more}
 use borrow.Author.Needs.{needs}
 use Rattle.commit_conflicts.proofs.bytes.byte_sighters.Statement.{statement}
 use Rattle.commit_conflicts.proofs.bytes.byte_sighters.Tie as tie
@@ -16,7 +17,7 @@ use Rattle.commit_conflicts.proofs.bytes.byte_sighters.Tie as tie
 abbrev Inv-loop : tie.InvT-loop
 Inv-loop state marks t watched records found₀ k₀ found k =
     (k ≤ records)
-    × ((logs : List ℕ) → length logs ≡ 32768 → Sighters state marks watched (bytesSetIn state logs t k) found)
+    × ((logs : List ℕ) → length logs ≡ bufferBytes → Sighters state marks watched (bytesSetIn state logs t k) found)
 
 abbrev μ-loop : tie.MeasureT-loop
 μ-loop state marks t watched records found₀ k₀ found k = records - k
@@ -42,7 +43,7 @@ loop-again c =
     let start = landing .before .before .before .before in
     let a = start .args in (
       omega (arith, landing .before .loop-test .taken),
-      λ logs e. bytes-more (a .state .now) (a .marks .now) (a .watched) (start .pre .0) (landing .before .loop-test .taken)
+      λ logs e. byte-hits-more (a .state .now) (a .marks .now) (a .watched) (start .pre .0) (landing .before .loop-test .taken)
           (landing .landing-at .ensures)
           logs e _ _ _ (l .inv .1 logs e) (c .before .markers .ensures) (c .joined .ensures),
     )

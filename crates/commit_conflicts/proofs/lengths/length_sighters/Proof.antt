@@ -6,11 +6,11 @@ use mathlib.Core.Path.{_≡_, ap, _∙_}
 use lib.ListN.{length, getD}
 use Prim.Native.Nat.{ℕ, _-_, _≤_, _<_}
 use native.Mathlib.Omega.{arith}
-use Rattle.limits.specs.Limits.{fileCount}
+use Rattle.limits.specs.Limits.{fileCount, bufferBytes}
 use Rattle.buffers.specs.Marks.{contains}
 use Rattle.commit_apply.specs.Apply.{CanLandIn, lengthsLandedIn}
 use Rattle.commit_conflicts.specs.Conflicts.{Sighters}
-use Rattle.commit_conflicts.proofs.ConflictLaws.{raisedBelow, no-lengths, lengths-none, length-more, length-less}
+use Rattle.commit_conflicts.proofs.ConflictLaws.{raisedBelow, no-lengths, length-hits-none, length-more, length-less}
 use borrow.Author.Needs.{needs}
 use borrow.Author.Tests.{not-true}
 use Rattle.commit_conflicts.proofs.lengths.length_sighters.Statement.{statement}
@@ -18,8 +18,8 @@ use Rattle.commit_conflicts.proofs.lengths.length_sighters.Tie as tie
 
 abbrev Inv-loop : tie.InvT-loop
 Inv-loop state t watched after found₀ f₀ found f =
-    (f ≤ 8)
-    × ((n : ℕ) (files logs marks : List ℕ) → CanLandIn state t n → after ≡ lengthsLandedIn state t n → length logs ≡ 32768
+    (f ≤ fileCount)
+    × ((n : ℕ) (files logs marks : List ℕ) → CanLandIn state t n → after ≡ lengthsLandedIn state t n → length logs ≡ bufferBytes
     → Sighters state marks watched (raisedBelow state files logs t n f) found)
 
 abbrev μ-loop : tie.MeasureT-loop
@@ -28,7 +28,7 @@ abbrev μ-loop : tie.MeasureT-loop
 returns : tie.Need-returns Inv-loop μ-loop
 returns c =
     let a = c .before .before .args in
-    λ files logs marks size. lengths-none (a .state .now) marks (a .watched) files logs (a .t) (a .used .records)
+    λ files logs marks size. length-hits-none (a .state .now) marks (a .watched) files logs (a .t) (a .used .records)
     (c .before .any-sighted .ensures (not-true _ (c .if1 .taken))) 8
 
 loop-holds : tie.Need-loop-holds Inv-loop μ-loop
@@ -41,7 +41,7 @@ loop-again c =
     let at-loop = c .before .before .before in
     let a = at-loop .before .before .before .before .args in
     let l = at-loop .loop in
-    let few : l .f < 8 = omega arith in
+    let few : l .f < fileCount = omega arith in
     let now-at : (n : ℕ) → at-loop .before .lengths-after .result ≡ lengthsLandedIn (a .state .now) (a .t) n
     → getD (at-loop .before .lengths-after .result) (l .f) 0 ≡ getD (lengthsLandedIn (a .state .now) (a .t) n) (l .f) 0 =
     λ n e. ap (λ (xs : List ℕ). getD xs (l .f) 0) e in

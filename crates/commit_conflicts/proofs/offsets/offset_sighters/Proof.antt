@@ -12,7 +12,7 @@ use Rattle.spec.specs.Items.{Values}
 use Rattle.spec.specs.Commits.{offsetSettings}
 use Rattle.commit_apply.specs.Apply.{descriptorsOnly}
 use Rattle.commit_conflicts.specs.Conflicts.{Sighters}
-use Rattle.commit_conflicts.proofs.ConflictLaws.{sets-is, none-set, no-offsets, offsets-none, offset-more, offset-less}
+use Rattle.commit_conflicts.proofs.ConflictLaws.{sets-is, none-set, no-offsets, offset-hits-none, offset-more, offset-less}
 use borrow.Author.Needs.{needs}
 use borrow.Author.Tests.{not-true}
 use Rattle.commit_conflicts.proofs.offsets.offset_sighters.Statement.{statement}
@@ -20,7 +20,7 @@ use Rattle.commit_conflicts.proofs.offsets.offset_sighters.Tie as tie
 
 abbrev Inv-loop : tie.InvT-loop
 Inv-loop state t watched found₀ d₀ found d =
-    (d ≤ 16)
+    (d ≤ descriptorCount)
     × ((marks : List ℕ) (v : Values) → Sighters state marks watched (offsetSettings v (descriptorsOnly (transactionOf state t)) d)
     found)
 
@@ -31,7 +31,7 @@ returns : tie.Need-returns Inv-loop μ-loop
 returns c =
     let a = c .before .before .args in
     let state = a .state .now in
-    λ marks v. offsets-none state marks (a .watched) v (descriptorsOnly (transactionOf state (a .t))) 16
+    λ marks v. offset-hits-none state marks (a .watched) v (descriptorsOnly (transactionOf state (a .t))) 16
     (none-set state (a .t) (c .before .any-dirty .ensures (not-true _ (c .if1 .taken))))
 
 loop-holds : tie.Need-loop-holds Inv-loop μ-loop
@@ -43,7 +43,7 @@ loop-again c =
     let a = at-loop .before .before .before .args in
     let l = at-loop .loop in
     let x = descriptorsOnly (transactionOf (a .state .now) (a .t)) in
-    let few : l .d < 16 = omega arith in
+    let few : l .d < descriptorCount = omega arith in
     let sets = sets-is (a .state .now) (a .t) (l .d) few (descriptorOf (a .state .now) (a .t) (l .d)) refl
     ∙ sym (c .before .sets-offset-at .ensures) in
     ⊎-elim

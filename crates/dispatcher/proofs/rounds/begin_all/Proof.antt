@@ -9,7 +9,7 @@ use Rattle.spec.specs.Promises.{machineOf}
 use Rattle.spec_dispatch.specs.Rounds.{Scripts, begins}
 use Rattle.spec_dispatch.specs.Dispatch.{storeReply}
 use Rattle.dispatcher.specs.Steps.{CarriesStep}
-use Rattle.dispatcher.proofs.StepLaws.{stands-as, begins-more}
+use Rattle.dispatcher.proofs.StepLaws.{stands-as, begins-again}
 use Rattle.dispatcher.proofs.rounds.begin_all.Statement.{statement}
 use Rattle.dispatcher.proofs.rounds.begin_all.Tie as tie
 
@@ -35,7 +35,7 @@ loop-again c =
       omega arith,
       search needs,
       λ bytes minute x reader n m₀ w s.
-          stands-as m₀ _ _ _ reader _ n (begins-more (storeReply m₀) bytes minute x (l .k) w)
+          stands-as m₀ _ _ _ reader _ n (begins-again (storeReply m₀) bytes minute x (l .k) w)
           (begun .begin-one .ensures reader n m₀ _ (l .inv .2 bytes minute x reader n m₀ w s)),
     )
 

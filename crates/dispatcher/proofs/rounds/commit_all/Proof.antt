@@ -9,7 +9,7 @@ use Rattle.spec.specs.Promises.{machineOf}
 use Rattle.spec_dispatch.specs.Rounds.{Scripts, commitAll}
 use Rattle.spec_dispatch.specs.Dispatch.{storeReply}
 use Rattle.dispatcher.specs.Steps.{CarriesStep}
-use Rattle.dispatcher.proofs.StepLaws.{stands-as, commits-more}
+use Rattle.dispatcher.proofs.StepLaws.{stands-as, commits-again}
 use Rattle.dispatcher.proofs.rounds.commit_all.Statement.{statement}
 use Rattle.dispatcher.proofs.rounds.commit_all.Tie as tie
 
@@ -40,7 +40,7 @@ loop-again c =
       search needs,
       search needs,
       λ bytes x reader m₀ w s.
-          stands-as m₀ _ _ _ reader _ _ (commits-more (storeReply m₀) bytes _ x (l .k) w)
+          stands-as m₀ _ _ _ reader _ _ (commits-again (storeReply m₀) bytes _ x (l .k) w)
           (done .commit-one .ensures .0 bytes x reader m₀ _ (l .inv .5 bytes x reader m₀ w s)),
     )
 

@@ -10,7 +10,7 @@ use Rattle.spec_dispatch.specs.Dispatch.{storeReply, workOnStore}
 use Rattle.dispatcher.specs.Types.{scriptsOf}
 use Rattle.dispatcher.specs.Steps.{WorkStands}
 use Rattle.dispatcher.proofs.ScriptLaws.{scripts-eight}
-use Rattle.dispatcher.proofs.StepLaws.{stands-as, rounds-more, rounds-stopped, nothing-stands}
+use Rattle.dispatcher.proofs.StepLaws.{stands-as, rounds-again, rounds-stopped, nothing-stands}
 use Rattle.dispatcher.proofs.rounds.run_rounds.Statement.{statement}
 use Rattle.dispatcher.proofs.rounds.run_rounds.Tie as tie
 
@@ -48,8 +48,8 @@ returns c =
     (scripts-eight (length (a .bytes .now)) (a .scripts) (start .pre)) (l .inv .0)
     (sym (asked .all-over .ensures) ∙ c .if1 .taken)
 
-round-requires : tie.Need-round-requires Inv-loop μ-loop
-round-requires c κs =
+run-round-requires : tie.Need-run-round-requires Inv-loop μ-loop
+run-round-requires c κs =
     let tested = c .before .before .before .before .before .before .before .before .before in
     let start = tested .before .before .before .before .before .before .before .before in
     let few = scripts-eight _ _ (start .pre) in
@@ -67,7 +67,7 @@ loop-again c =
     let tested = done .before .before .before .before .before .before .before .before .before .before in
     let l = tested .before .loop in
     let few = scripts-eight _ _ (tested .before .before .before .before .before .before .before .before .pre) in
-    let more = done .round .ensures in (
+    let more = done .run-round .ensures in (
       omega (arith, tested .loop-test .taken),
       omega (arith, few, l .inv .1, more .1),
       search needs,
@@ -75,7 +75,7 @@ loop-again c =
       search needs,
       search needs,
       search needs,
-      stands-as _ _ _ _ _ _ _ (rounds-more _ _ _ _ (l .j) _) (more .0 _ _ (l .inv .7)),
+      stands-as _ _ _ _ _ _ _ (rounds-again _ _ _ _ (l .j) _) (more .0 _ _ (l .inv .7)),
     )
 
 returns-2 : tie.Need-returns-2 Inv-loop μ-loop
@@ -103,7 +103,7 @@ run-rounds-spec =
     (λ c. c .before .before .before .before .loop .inv .5)
     (λ c. c .before .before .before .before .loop .inv .6)
     returns
-    round-requires
+    run-round-requires
     add-j
     (λ c. search needs)
     loop-again

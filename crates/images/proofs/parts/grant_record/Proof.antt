@@ -3,7 +3,7 @@ use mathlib.Core.Path.{sym, ap, _∙_}
 use native.Mathlib.Omega.{arith}
 use borrow.Author.{Tests.{lt-ltb, le-ltb}, Needs.needs}
 use Rattle.images.specs.Images.{grantRecord}
-use Rattle.images.proofs.RecordLaws.{low-descriptor}
+use Rattle.images.proofs.RecordLaws.{low-record-descriptor}
 use Rattle.counters.specs.declared.Used.{Used}
 use Rattle.images.proofs.parts.grant_record.Tie as tie
 
@@ -17,7 +17,7 @@ returns-2 : tie.Need-returns-2
 unfolding grantRecord
 returns-2 c = let read = c .before .before .before in let start = read .before .before .before in
     let e = ap (λ (u : Used). u .records) (read .undo-used .ensures) in
-    let low = low-descriptor (start .args .state .now) (read .before .fits2 .ensures) (start .args .k) (omega arith) in (
+    let low = low-record-descriptor (start .args .state .now) (read .before .fits2 .ensures) (start .args .k) (omega arith) in (
       rw (sym (c .record-at .ensures)) at low,
       c .record-at .ensures ∙ rw (lt-ltb (start .args .k) _ (rw e at (c .before .if1 .left))),
     )

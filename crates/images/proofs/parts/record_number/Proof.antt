@@ -4,18 +4,18 @@ use native.Mathlib.Omega.{arith}
 use borrow.Author.{Tests.{lt-ltb, le-ltb}, Needs.needs}
 use Rattle.state.specs.declared.journal.WriteRecord.{WriteRecord}
 use Rattle.standings.specs.Table.{placeNumber}
-use Rattle.images.specs.Images.{holderOf, recordNumber}
+use Rattle.images.specs.Images.{recordCode, recordNumber}
 use Rattle.images.proofs.parts.record_number.Tie as tie
 
 returns : tie.Need-returns
 unfolding recordNumber
 returns c = let i = c .before .before .before .args .i in
-    rw (lt-ltb i 148 (omega arith)) (c .holder-of .ensures ∙ ap holderOf (c .before .grant-record .ensures .1))
+    rw (lt-ltb i 148 (omega arith)) (c .record-code .ensures ∙ ap recordCode (c .before .grant-record .ensures .1))
 
 returns-2 : tie.Need-returns-2
 unfolding recordNumber
 returns-2 c = let i = c .before .before .before .before .args .i in
-    rw (le-ltb i 148 (omega arith), lt-ltb i 212 (omega arith)) (c .number .ensures
+    rw (le-ltb i 148 (omega arith), lt-ltb i 212 (omega arith)) (c .place-number .ensures
     ∙ ap (λ (w : WriteRecord). placeNumber (w .place)) (c .before .grant-record2 .ensures .1))
 
 returns-3 : tie.Need-returns-3

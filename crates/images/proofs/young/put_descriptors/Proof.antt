@@ -2,12 +2,13 @@
 use mathlib.Core.Path.{_≡_, refl, _∙_}
 use native.Mathlib.{Omega.arith, Numerals.add-one}
 use Prim.Native.Nat.{_-_, _≤_}
+use Rattle.limits.specs.Limits.{descriptorCount}
 use Rattle.images.specs.{Words.wordAt, Young.{withEach, putDescriptor}}
 use borrow.Author.Needs.{needs}
 use Rattle.images.proofs.young.put_descriptors.Tie as tie
 
 abbrev Inv-loop : tie.InvT-loop
-Inv-loop state₀ image d₀ state d = (d ≤ 16) × (state ≡ withEach (putDescriptor (wordAt image)) d state₀)
+Inv-loop state₀ image d₀ state d = (d ≤ descriptorCount) × (state ≡ withEach (putDescriptor (wordAt image)) d state₀)
 
 abbrev μ-loop : tie.MeasureT-loop
 μ-loop state₀ image d₀ state d = 16 - d

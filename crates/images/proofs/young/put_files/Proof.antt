@@ -2,12 +2,13 @@
 use mathlib.Core.Path.{_≡_, refl, _∙_}
 use native.Mathlib.{Omega.arith, Numerals.add-one}
 use Prim.Native.Nat.{_-_, _≤_}
+use Rattle.limits.specs.Limits.{fileCount}
 use Rattle.images.specs.{Words.wordAt, Young.{withEach, putFile}}
 use borrow.Author.Needs.{needs}
 use Rattle.images.proofs.young.put_files.Tie as tie
 
 abbrev Inv-loop : tie.InvT-loop
-Inv-loop state₀ image f₀ state f = (f ≤ 8) × (state ≡ withEach (putFile (wordAt image)) f state₀)
+Inv-loop state₀ image f₀ state f = (f ≤ fileCount) × (state ≡ withEach (putFile (wordAt image)) f state₀)
 
 abbrev μ-loop : tie.MeasureT-loop
 μ-loop state₀ image f₀ state f = 8 - f

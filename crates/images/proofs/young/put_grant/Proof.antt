@@ -7,7 +7,7 @@ use Rattle.images.proofs.young.put_grant.Tie as tie
 returns : tie.Need-returns
 unfolding withLastGrant
 returns c = let read = c .before .before in let held = read .before .before .before in c .put-undo-used .ensures ∙ rw (
-  held .put-can-undo .ensures,
+  held .put-undo-valid .ensures,
   held .before .word-at .ensures,
   read .word-at3 .ensures,
   read .before .wide .ensures .0,

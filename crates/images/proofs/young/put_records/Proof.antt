@@ -2,6 +2,7 @@
 use mathlib.Core.Path.{_≡_, sym, ap, _∙_}
 use native.Mathlib.Omega.{arith}
 use Prim.Native.Nat.{ℕ, _-_, _≤_, min}
+use Rattle.limits.specs.Limits.{recordCount}
 use Rattle.images.specs.{Words.wordAt, Images.recordFrom}
 use Rattle.state.{specs.Journal.{lastGrant, withRecords}, proofs.JournalLaws.{with-none, with-more}}
 use borrow.Author.Needs.{needs}
@@ -22,7 +23,7 @@ loop-again c = let l = c .before .before .before .before .loop in (
 returns : tie.Need-returns Inv-loop μ-loop
 returns c = let l = c .before .loop in let n = c .before .before in let e : l .k ≡ n .smaller .result = omega arith in
     let image = n .before .before .before .args .image .now in
-    let q : n .smaller .result ≡ min (wordAt image 58) 64 = n .smaller .ensures ∙ ap (λ (m : ℕ). min m 64)
+    let q : n .smaller .result ≡ min (wordAt image 58) recordCount = n .smaller .ensures ∙ ap (λ (m : ℕ). min m recordCount)
     (n .before .wide .ensures .0 ∙ n .before .before .word-at .ensures) in rw (e, q) at (l .inv .1)
 
 pub put-records-spec : {M : Type 1} → Rattle.images.proofs.young.put_records.Statement.statement M

@@ -4,6 +4,7 @@ use mathlib.Core.Path.{_≡_, ap, _∙_}
 use native.Mathlib.Omega.{arith}
 use borrow.Author.Needs.{needs}
 use Prim.Native.Nat.{ℕ, _-_, _≤_, _<_}
+use Rattle.limits.specs.Limits.{fileBytes, descriptorCount, recordCount}
 use Rattle.standings.specs.Table.{placeNumber}
 use Rattle.state.specs.Journal.{writeRecordAt}
 use Rattle.state.specs.Layout.{journalOf}
@@ -29,7 +30,7 @@ start-of c = c .before .before .before .before
 abbrev at : tie.After-record-at Inv-loop μ-loop → ℕ
 at c = c .before .before .before .loop .k
 
-few : (c : tie.After-record-at Inv-loop μ-loop) → at c < 64
+few : (c : tie.After-record-at Inv-loop μ-loop) → at c < recordCount
 few c = omega (arith, start-of c .pre .few)
 
 small : (c : tie.After-record-at Inv-loop μ-loop) → start-of c .args .t < 9
@@ -41,10 +42,10 @@ looked-at c =
     let l = c .before .before .before .loop in
     c .record-at .ensures ∙ next-record _ _ _ _ _ (l .inv .1) (small c) (few c)
 
-low-descriptor : (c : tie.After-record-at Inv-loop μ-loop) → c .record-at .result .descriptor < 16
+low-descriptor : (c : tie.After-record-at Inv-loop μ-loop) → c .record-at .result .descriptor < descriptorCount
 low-descriptor c = rw (looked-at c) (start-of c .pre .descriptors (at c) (omega arith))
 
-low-place : (c : tie.After-record-at Inv-loop μ-loop) → placeNumber (c .record-at .result .place) ≤ 4096
+low-place : (c : tie.After-record-at Inv-loop μ-loop) → placeNumber (c .record-at .result .place) ≤ fileBytes
 low-place c = rw (looked-at c) (start-of c .pre .places (at c) (omega arith))
 
 record-at-requires : tie.Need-record-at-requires Inv-loop μ-loop

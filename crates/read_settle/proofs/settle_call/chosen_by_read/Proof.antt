@@ -7,6 +7,7 @@ use lib.ListN.{set, replicate}
 use native.Mathlib.Omega.{arith}
 use borrow.Author.Needs.{needs}
 use Prim.Native.Nat.{ℕ, _-_, _≤_}
+use Rattle.limits.specs.Limits.{descriptorCount}
 use Rattle.buffers.specs.Parts.{tabulate}
 use Rattle.standings.specs.Table.{readSettles}
 use Rattle.state.specs.StoreMeaning.{standingAt}
@@ -18,7 +19,8 @@ use Rattle.read_settle.proofs.settle_call.chosen_by_read.Tie as tie
 
 abbrev Inv-loop : tie.InvT-loop
 Inv-loop state t d chosen₀ f e₀ chosen e =
-    (e ≤ 16) × (chosen ≡ filled (waitingOf (storeOf state .filenumbers) (transactionOf state t) d) (replicate 16 false) e)
+    (e ≤ descriptorCount) ×
+    (chosen ≡ filled (waitingOf (storeOf state .filenumbers) (transactionOf state t) d) (replicate 16 false) e)
 
 abbrev μ-loop : tie.MeasureT-loop
 μ-loop state t d chosen₀ f e₀ chosen e = 16 - e

@@ -6,6 +6,7 @@ use lib.ListN.{length, set}
 use native.Mathlib.Omega.{arith}
 use borrow.Author.Needs.{needs}
 use Prim.Native.Nat.{ℕ, _-_, _≤_, _<_}
+use Rattle.limits.specs.Limits.{fileBytes, descriptorCount}
 use Rattle.admission.specs.FirstRefusal.{below}
 use Rattle.admission.proofs.Laws.{below-zero, below-more, below-fails}
 use Rattle.standings.specs.declared.Standing.{Standing}
@@ -22,7 +23,7 @@ use Rattle.read_settle.proofs.settle_call.settle.Tie as tie
 
 abbrev Inv-loop : tie.InvT-loop
 Inv-loop state x chosen y₀ e₀ y e =
-    (e ≤ 16) × (y ≡ settledFront chosen (storeOf state .offsets) x e)
+    (e ≤ descriptorCount) × (y ≡ settledFront chosen (storeOf state .offsets) x e)
     × (below (settlesWithin chosen (storeOf state .offsets) x) e ≡ true)
 
 abbrev μ-loop : tie.MeasureT-loop
@@ -32,7 +33,7 @@ loop-holds : tie.Need-loop-holds Inv-loop μ-loop
 loop-holds c = (omega arith, settled-none _ _ _, below-zero _)
 
 -- The committed offset of a chosen descriptor is within its file.
-low : (c : tie.After-offset-at Inv-loop μ-loop) → c .offset-at .result ≤ 4096
+low : (c : tie.After-offset-at Inv-loop μ-loop) → c .offset-at .result ≤ fileBytes
 low c =
     let at-loop = c .before .before .before .before in
     rw (c .offset-at .ensures) (at-loop .before .pre .1 (at-loop .loop .e) (omega arith))

@@ -1,4 +1,4 @@
--- `journal::holder_of` meets its contract.
+-- `journal::record_code` meets its contract.
 use borrow.Author.Needs.{needs}
 use Rattle.state.proofs.journal.descriptor_code.Statement.{statement}
 use Rattle.state.proofs.journal.descriptor_code.Tie as tie

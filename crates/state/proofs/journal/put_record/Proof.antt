@@ -7,7 +7,7 @@ use Rattle.state.proofs.journal.put_record.Tie as tie
 -- src/journal.rt:55:1
 returns : tie.Need-returns
 unfolding withRecordAt
-returns c = rw (c .number .ensures, c .before .descriptor-code .ensures)
+returns c = rw (c .place-number .ensures, c .before .descriptor-code .ensures)
 
 pub put-record-spec : {M : Type 1} → statement M
 put-record-spec =

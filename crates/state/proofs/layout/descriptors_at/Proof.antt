@@ -1,4 +1,5 @@
 -- `state::layout::descriptors_at` meets its contract.
+use Rattle.limits.specs.Limits.{descriptorCount}
 use Rattle.state.specs.Layout.{descriptorOf, transactionOf}
 use mathlib.Core.Bool.{Bool, true, false, not}
 use mathlib.Core.List.{List}
@@ -19,18 +20,18 @@ sixteen : (f : ℕ → Descriptor) (xs all : List Descriptor) → length xs ≡ 
 sixteen f xs all n e = e ∙ filled-all f xs 16 (omega arith)
 
 -- A blank descriptor stands there already.
-blank-stands : (f : ℕ → Descriptor) (d : ℕ) (all : List Descriptor) → d < 16 → f d ≡ noDescriptor
+blank-stands : (f : ℕ → Descriptor) (d : ℕ) (all : List Descriptor) → d < descriptorCount → f d ≡ noDescriptor
     → all ≡ filled f (replicate 16 noDescriptor) d → all ≡ filled f (replicate 16 noDescriptor) (d + 1)
 blank-stands f d all l e so =
     so ∙ filled-preserved f (replicate 16 noDescriptor) d noDescriptor (omega arith)
     (e ∙ sym (getD-replicate 16 d noDescriptor noDescriptor l))
 
-held : (b : Bool) → not b ≡ false → b ≡ true
-held true e = refl
-held false e = cc
+was-true : (b : Bool) → not b ≡ false → b ≡ true
+was-true true e = refl
+was-true false e = cc
 
 abbrev Inv-loop : tie.InvT-loop
-Inv-loop state t all₀ d₀ all d = (d ≤ 16) × (all ≡ filled (descriptorOf state t) (replicate 16 noDescriptor) d)
+Inv-loop state t all₀ d₀ all d = (d ≤ descriptorCount) × (all ≡ filled (descriptorOf state t) (replicate 16 noDescriptor) d)
 
 abbrev μ-loop : tie.MeasureT-loop
 μ-loop state t all₀ d₀ all d = 16 - d
@@ -45,7 +46,7 @@ loop-again c =
       ⊎-elim
           (λ w. w .2 ∙ ap (λ (xs : List Descriptor). set xs (l .d) (w .1 .result)) (l .inv .1)
           ∙ filled-set _ _ (l .d) (w .1 .result) (omega arith) (w .1 .ensures))
-          (λ w. w .1 ∙ blank-stands _ (l .d) _ (omega arith) (c .before .is-blank-at .ensures (held _ (w .0 .left))) (l .inv .1))
+          (λ w. w .1 ∙ blank-stands _ (l .d) _ (omega arith) (c .before .is-blank-at .ensures (was-true _ (w .0 .left))) (l .inv .1))
           (c .if1 .came),
     )
 

@@ -7,13 +7,14 @@ use Prim.Native.Nat.{_-_, _≤_}
 use native.Mathlib.Numerals.{add-one}
 use native.Mathlib.Omega.{arith}
 use borrow.Author.Needs.{needs}
+use Rattle.limits.specs.Limits.{descriptorCount}
 use Rattle.state.specs.StoreMeaning.{noDescriptor}
 use Rattle.state.specs.Updates.{withChosenAt}
 use Rattle.state.proofs.layout.put_chosen.Statement.{statement}
 use Rattle.state.proofs.layout.put_chosen.Tie as tie
 
 abbrev Inv-loop : tie.InvT-loop
-Inv-loop state₀ t chosen all e₀ state e = (e ≤ 16)
+Inv-loop state₀ t chosen all e₀ state e = (e ≤ descriptorCount)
     × (state ≡ withChosenAt state₀ t (λ d. getD chosen d false) (λ d. getD all d noDescriptor) e)
 
 abbrev μ-loop : tie.MeasureT-loop

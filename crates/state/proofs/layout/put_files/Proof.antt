@@ -5,12 +5,13 @@ use Prim.Native.Nat.{_-_, _≤_}
 use native.Mathlib.Numerals.{add-one}
 use native.Mathlib.Omega.{arith}
 use borrow.Author.Needs.{needs}
+use Rattle.limits.specs.Limits.{descriptorCount}
 use Rattle.state.specs.Updates.{withFileNumbersAt}
 use Rattle.state.proofs.layout.put_files.Statement.{statement}
 use Rattle.state.proofs.layout.put_files.Tie as tie
 
 abbrev Inv-loop : tie.InvT-loop
-Inv-loop state₀ numbers d₀ state d = (d ≤ 16) × (state ≡ withFileNumbersAt state₀ (λ e. getD numbers e 0) d)
+Inv-loop state₀ numbers d₀ state d = (d ≤ descriptorCount) × (state ≡ withFileNumbersAt state₀ (λ e. getD numbers e 0) d)
 
 abbrev μ-loop : tie.MeasureT-loop
 μ-loop state₀ numbers d₀ state d = 16 - d

@@ -3,16 +3,17 @@ use mathlib.Core.Path.{_≡_, refl}
 use Prim.Native.Nat.{_-_, _≤_}
 use native.Mathlib.Numerals.{add-one}
 use native.Mathlib.Omega.{arith}
+use Rattle.state.specs.Layout.{transactionLength}
 use Rattle.state.specs.Updates.{zeroedAt, resetAt}
 use borrow.Author.Needs.{needs}
 use Rattle.state.proofs.layout.reset.Statement.{statement}
 use Rattle.state.proofs.layout.reset.Tie as tie
 
 abbrev Inv-loop : tie.InvT-loop
-Inv-loop state₀ t begun k₀ state k = (k ≤ 38) × (state ≡ zeroedAt state₀ t k)
+Inv-loop state₀ t begun k₀ state k = (k ≤ transactionLength) × (state ≡ zeroedAt state₀ t k)
 
 abbrev μ-loop : tie.MeasureT-loop
-μ-loop state₀ t begun k₀ state k = 38 - k
+μ-loop state₀ t begun k₀ state k = transactionLength - k
 
 loop-holds : tie.Need-loop-holds Inv-loop μ-loop
 unfolding zeroedAt
@@ -28,7 +29,7 @@ returns : tie.Need-returns Inv-loop μ-loop
 unfolding resetAt
 returns c =
     let l = c .before .before .loop in
-    let e : l .k ≡ 38 = omega arith in
+    let e : l .k ≡ transactionLength = omega arith in
     rw (c .flag-of .ensures, l .inv .1, e)
 
 pub reset-spec : {M : Type 1} → statement M

@@ -1,4 +1,5 @@
 -- `state::readers::all_use_at_most` meets its contract.
+use Rattle.limits.specs.Limits.{transactionCount}
 use Rattle.buffers.proofs.BelowLaws.{none-yet, one-more}
 use Rattle.buffers.specs.Below.{below}
 use Rattle.state.specs.Layout.{transactionOf}
@@ -13,7 +14,7 @@ use Rattle.state.proofs.readers.all_use_at_most.Tie as tie
 
 abbrev Inv-loop : tie.InvT-loop
 Inv-loop state records bytes good₀ t₀ good t =
-    (t ≤ 8) × (good ≡ below (λ u. not (transactionOf state u .begun)
+    (t ≤ transactionCount) × (good ≡ below (λ u. not (transactionOf state u .begun)
     || (leb (transactionOf state u .used .records) records && leb (transactionOf state u .used .bytes) bytes)) t)
 
 abbrev μ-loop : tie.MeasureT-loop

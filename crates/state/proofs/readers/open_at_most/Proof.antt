@@ -1,4 +1,5 @@
 -- `state::readers::open_at_most` meets its contract.
+use Rattle.limits.specs.Limits.{descriptorCount, transactionCount}
 use Rattle.buffers.proofs.BelowLaws.{none-yet, one-more}
 use Rattle.buffers.specs.Below.{below}
 use Rattle.standings.specs.Table.{advance, offsetOf}
@@ -16,10 +17,10 @@ use Rattle.state.proofs.readers.open_at_most.Tie as tie
 
 abbrev Inv-loop : tie.InvT-loop
 Inv-loop state records bytes most bad₀ t₀ bad t =
-    (t ≤ 8) × (eqb bad 0 ≡ below (λ u. not (transactionOf state u .begun)
+    (t ≤ transactionCount) × (eqb bad 0 ≡ below (λ u. not (transactionOf state u .begun)
     || (leb (transactionOf state u .used .records) records && leb (transactionOf state u .used .bytes) bytes
     && below (λ d. leb (advance (standingAt (transactionOf state u) d)) most
-    && leb (offsetOf (standingAt (transactionOf state u) d)) most) 16)) t)
+    && leb (offsetOf (standingAt (transactionOf state u) d)) most) descriptorCount)) t)
 
 abbrev μ-loop : tie.MeasureT-loop
 μ-loop state records bytes most bad₀ t₀ bad t = 8 - t
@@ -29,8 +30,11 @@ loop-holds c = (omega arith, none-yet _)
 
 loop-again : tie.Need-loop-again Inv-loop μ-loop
 loop-again c =
-    let l = c .before .before .loop in
-    (omega arith, two-none (l .bad) (c .open-excess .result) _ _ (l .inv .1) (c .open-excess .ensures) ∙ one-more _ _ _ _ refl refl)
+    let l = c .before .before .loop in (
+      omega arith,
+      two-none (l .bad) (c .open-excess .result) _ _ (l .inv .1) (c .open-excess .ensures)
+          ∙ one-more _ _ _ _ refl refl,
+    )
 
 returns : tie.Need-returns Inv-loop μ-loop
 returns c = let e : c .before .loop .t ≡ 8 = omega arith in rw e at (c .before .loop .inv .1)

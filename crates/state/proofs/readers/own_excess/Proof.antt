@@ -1,4 +1,5 @@
 -- `state::readers::own_excess` meets its contract.
+use Rattle.limits.specs.Limits.{descriptorCount}
 use Rattle.buffers.proofs.BelowLaws.{none-yet, one-more}
 use Rattle.buffers.specs.Below.{below}
 use Rattle.standings.specs.Table.{advance, offsetOf}
@@ -16,7 +17,7 @@ use Rattle.state.proofs.readers.own_excess.Tie as tie
 
 abbrev Inv-loop : tie.InvT-loop
 Inv-loop state t most bad₀ d₀ bad d =
-    (d ≤ 16) × (eqb bad 0 ≡ below (λ e. leb (advance (standingAt (transactionOf state t) e)) most
+    (d ≤ descriptorCount) × (eqb bad 0 ≡ below (λ e. leb (advance (standingAt (transactionOf state t) e)) most
     && leb (offsetOf (standingAt (transactionOf state t) e)) most) d)
 
 abbrev μ-loop : tie.MeasureT-loop

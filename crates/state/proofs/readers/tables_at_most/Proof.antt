@@ -1,4 +1,5 @@
 -- `state::readers::tables_at_most` meets its contract.
+use Rattle.state.specs.Layout.{fileNumbersAt, offsetsAt, lengthsAt, startsAt}
 use Rattle.buffers.proofs.BelowLaws.{none-yet, one-more}
 use Rattle.buffers.specs.Below.{below}
 use Rattle.state.proofs.ReaderLaws.{two-none, tables-decide}
@@ -14,10 +15,11 @@ use Rattle.state.proofs.readers.tables_at_most.Tie as tie
 
 abbrev Inv-loop : tie.InvT-loop
 Inv-loop state file offset length minute bad₀ k₀ bad k =
-    (k ≤ 8) × (eqb bad 0 ≡ below (λ j. (leb (getD state (2032 + j) 0) file && leb (getD state (2032 + (8 + j)) 0) file)
-    && (leb (getD state (2048 + j) 0) offset && leb (getD state (2048 + (8 + j)) 0) offset)
-    && leb (getD state (2064 + j) 0) length
-    && (leb (getD state (2072 + j) 0) minute && leb (getD state (2072 + (8 + j)) 0) minute)) k)
+    (k ≤ 8) × (eqb bad 0 ≡ below
+    (λ j. (leb (getD state (fileNumbersAt + j) 0) file && leb (getD state (fileNumbersAt + (8 + j)) 0) file)
+    && (leb (getD state (offsetsAt + j) 0) offset && leb (getD state (offsetsAt + (8 + j)) 0) offset)
+    && leb (getD state (lengthsAt + j) 0) length
+    && (leb (getD state (startsAt + j) 0) minute && leb (getD state (startsAt + (8 + j)) 0) minute)) k)
 
 abbrev μ-loop : tie.MeasureT-loop
 μ-loop state file offset length minute bad₀ k₀ bad k = 8 - k
@@ -27,8 +29,11 @@ loop-holds c = (omega arith, none-yet _)
 
 loop-again : tie.Need-loop-again Inv-loop μ-loop
 loop-again c =
-    let l = c .before .before .loop in
-    (omega arith, two-none (l .bad) (c .tables-excess .result) _ _ (l .inv .1) (c .tables-excess .ensures) ∙ one-more _ _ _ _ refl refl)
+    let l = c .before .before .loop in (
+      omega arith,
+      two-none (l .bad) (c .tables-excess .result) _ _ (l .inv .1) (c .tables-excess .ensures)
+          ∙ one-more _ _ _ _ refl refl,
+    )
 
 returns : tie.Need-returns Inv-loop μ-loop
 returns c =

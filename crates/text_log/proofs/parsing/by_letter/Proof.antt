@@ -1,11 +1,11 @@
--- Each letter's case is that of `asked`.
+-- Each letter's case is that of `entryAsked`.
 use mathlib.Core.Path.{_≡_, refl, sym, ap, _∙_}
 use native.Mathlib.Omega.{arith}
 use lib.ListN.{length, take}
 use borrow.Author.Needs.{needs}
 use Rattle.requests.specs.Requests.{callOf}
 use Rattle.spec.specs.Messages.{Call, begin, on, commit, abort, places, setWindow, seek, getFilePointer, read}
-use Rattle.text_log.specs.LogLines.{calls, asked, nextNumber, last, lastOr}
+use Rattle.text_log.specs.LogLines.{calls, entryAsked, nextNumber, last, lastOr}
 use Rattle.text_log.specs.Reading.{logEntryOf, writtenBy}
 use Rattle.text_log.proofs.ReadingLaws.{other-entry, asked-other}
 use Rattle.text_log.proofs.parsing.by_letter.Statement.{statement}

@@ -3,7 +3,7 @@ use mathlib.Core.Path.{_≡_, refl, sym, ap, _∙_}
 use native.Mathlib.Omega.{arith}
 use borrow.Author.Needs.{needs}
 use lib.ListN.{length, take}
-use Rattle.text_log.specs.LogLines.{asked, ifWhole}
+use Rattle.text_log.specs.LogLines.{entryAsked, ifWhole}
 use Rattle.text_log.proofs.ReadingLaws.{other-entry, entry-as-meant, only-none, only-some, counted-unread, counted-many}
 use Rattle.text_log.proofs.ReadingLaws.{many-within, whole-none, whole-as}
 use Rattle.text_log.proofs.parsing.joined_line.Statement.{statement}
@@ -12,7 +12,7 @@ use Rattle.text_log.proofs.parsing.joined_line.Tie as tie
 returns : tie.Need-returns
 returns c =
     let start = c .before .before .before .before .before .before .before .before .before in
-    entry-as-meant _ _ _ _ (whole-none (asked (start .args .letter)) _
+    entry-as-meant _ _ _ _ (whole-none (entryAsked (start .args .letter)) _
     (only-none (start .args .line .now) (c .before .before .before .before .before .if1 .taken)))
     (c .before .before .with-list .ensures)
 
@@ -20,7 +20,7 @@ returns-2 : tie.Need-returns-2
 returns-2 c =
     let start = c .before .before .before .before .before .before .before .before .before .before in
     other-entry _ _
-    (whole-as (asked (start .args .letter)) _ _
+    (whole-as (entryAsked (start .args .letter)) _ _
     (only-some (start .args .line .now) (c .before .before .before .before .before .before .if1 .left))
     ∙ counted-unread _ _ _ _ (c .before .before .before .before .joined-numbers .ensures .means) (c .enum-told .given .1))
 
@@ -29,7 +29,7 @@ with-list-requires-2 c κs =
     let start = c .before .before .before .before .before .before .before .before .before .before .before .before .before in
     let e = c .before .before .before .before .before .before .before .joined-numbers .ensures in
     let n = many-within _ _ _ (e .within) (c .before .before .before .n .given .1) in
-    let l = e .kept in
+    let l = e .sameLength in
     (n, omega (arith, n, l, start .pre .0, start .pre .1))
 
 returns-3 : tie.Need-returns-3
@@ -37,7 +37,7 @@ returns-3 c =
     let start = c .before .before .before .before .before .before .before .before .before .before .before .before .before .before
     .before .before in
     entry-as-meant _ _ _ _
-    (whole-as (asked (start .args .letter)) _ _
+    (whole-as (entryAsked (start .args .letter)) _ _
     (only-some (start .args .line .now) (c .before .before .before .before .before .before .before .before .before .before
     .before .before .if1 .left))
     ∙ counted-many _ _ _ _ (c .before .before .before .before .before .before .before .before .before .before .joined-numbers

@@ -33,7 +33,7 @@ returns c =
           sym (l .inv .4 ∙ ap (prepended (take (l .k) (l .bytes)))
           (octets-over _ _ _ (c .before .before .loop-test .taken) (start .pre .1 .0) (c .if1 .taken)));
       within = omega arith;
-      kept = l .inv .3;
+      sameLength = l .inv .3;
     }
 
 loop-again : tie.Need-loop-again Inv-loop μ-loop
@@ -58,7 +58,7 @@ returns-2 c =
       means = sym (l .inv .4 ∙ ap (prepended (take (l .k) (l .bytes))) (octets-end _ _ _ (c .loop-test .left) (start .pre .1 .0))
           ∙ ahead-all (take (l .k) (l .bytes)));
       within = omega (arith, l .inv .0, l .inv .1, l .inv .2, l .inv .3, start .pre .1 .1);
-      kept = l .inv .3;
+      sameLength = l .inv .3;
     }
 
 pub octets-of-spec : {M : Type 1} → statement M

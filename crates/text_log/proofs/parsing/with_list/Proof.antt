@@ -2,16 +2,16 @@
 use mathlib.Core.Path.{_≡_, refl, sym, ap, _∙_}
 use native.Mathlib.Omega.{arith}
 use borrow.Author.Needs.{needs}
-use Rattle.text_log.specs.LogLines.{asked}
+use Rattle.text_log.specs.LogLines.{entryAsked}
 use Rattle.text_log.proofs.parsing.with_list.Statement.{statement}
 use Rattle.text_log.proofs.parsing.with_list.Tie as tie
 
 returns : tie.Need-returns
-unfolding asked
+unfolding entryAsked
 returns c = rw (c .before .before .before .before .if1 .taken) (c .before .before .fresh-line .ensures)
 
 returns-2 : tie.Need-returns-2
-unfolding asked
+unfolding entryAsked
 returns-2 c = rw (c .before .before .before .before .if2 .taken) (c .before .before .order-line .ensures)
 
 by-letter-requires : tie.Need-by-letter-requires

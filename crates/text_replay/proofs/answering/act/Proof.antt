@@ -16,7 +16,7 @@ answer-requires c κs =
 returns : tie.Need-returns
 returns c =
     let start = c .before .before .before .before .before .before in (
-      record { held = refl; at = refl; waiting = omega (arith, start .pre .0); answer = start .pre .1 .0 },
+      record { pending = refl; at = refl; waiting = omega (arith, start .pre .0); answer = start .pre .1 .0 },
       comment-took _ _ _ (start .args .p) _ _ (c .enum-told .given .1),
     )
 
@@ -47,7 +47,7 @@ returns-4 c =
     let t = at-answer .answer .ensures in
     let q = at-note-malformed .note-malformed .ensures in (
       record {
-        held = t .0 .held ∙ q .0 .held;
+        pending = t .0 .pending ∙ q .0 .pending;
         at = t .0 .at
             ∙ q .0 .at;
         waiting = t .0 .waiting;

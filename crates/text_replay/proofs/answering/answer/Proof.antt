@@ -52,7 +52,7 @@ returns c =
     let e = reply-end _ _ put in
     let room = start .pre .1 .printable in (
       record {
-        held = refl;
+        pending = refl;
         at = refl;
         waiting = omega (arith, e .1, n, s .0, w, next .end);
         answer = record { starts = e .0; ends = omega (arith, e .1, n, s .0, w) };

@@ -1,6 +1,6 @@
 -- In each arm the request is the arm's.
 use borrow.Author.Needs.{needs}
-use Rattle.text_replay.proofs.Performing.{clipped-read, kept-read}
+use Rattle.text_replay.proofs.Performing.{clipped-read, preserved-read}
 use Rattle.text_replay.specs.Performing.{clippedTo}
 use Rattle.text_replay.proofs.answering.clipped.Statement.{statement}
 use Rattle.text_replay.proofs.answering.clipped.Tie as tie
@@ -16,7 +16,7 @@ returns-2 : tie.Need-returns-2
 unfolding clippedTo
 returns-2 c =
     let at-q = c .before .before in
-    kept-read _ _ _ _ _ (at-q .q .given .1) (c .if1 .left)
+    preserved-read _ _ _ _ _ (at-q .q .given .1) (c .if1 .left)
 
 returns-3 : tie.Need-returns-3
 unfolding clippedTo

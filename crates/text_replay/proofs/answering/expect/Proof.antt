@@ -1,17 +1,17 @@
 -- `expect` meets its contract. Assumes nothing.
 use mathlib.Core.Path.{refl}
 use borrow.Author.Needs.{needs}
-use Rattle.text_replay.proofs.Laws.{same-count, other-count}
+use Rattle.text_replay.proofs.Laws.{same-line-count, other-count}
 use Rattle.text_replay.proofs.answering.expect.Statement.{statement}
 use Rattle.text_replay.proofs.answering.expect.Tie as tie
 
 returns : tie.Need-returns
 returns c =
     record {
-      differing = same-count _ _ _ (c .before .is-same .ensures) (c .if1 .taken);
+      differing = same-line-count _ _ _ (c .before .is-same .ensures) (c .if1 .taken);
       malformed = refl;
       ended = refl;
-      held = refl;
+      pending = refl;
       at = refl;
       waiting = refl;
       starts = refl;
@@ -25,7 +25,7 @@ returns-2 c =
           (c .counted .ensures);
       malformed = refl;
       ended = refl;
-      held = refl;
+      pending = refl;
       at = refl;
       waiting = refl;
       starts = refl;

@@ -16,7 +16,7 @@ returns c =
     let text = at-part .part .ensures ∙ behind-two _ _ _ (at-smaller .smaller .ensures) refl in
     let h = counted-here _ _ _ _ _ _ text (at-part2 .part2 .ensures) e in (
       record {
-        held = e .held;
+        pending = e .pending;
         at = e .at;
         waiting = omega (arith, e .waiting, start .pre .0);
         answer = record {

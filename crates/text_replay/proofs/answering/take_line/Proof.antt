@@ -9,7 +9,7 @@ use Rattle.text_replay.proofs.answering.take_line.Tie as tie
 returns : tie.Need-returns
 returns c =
     let start = c .before .before .before .before .before in (
-      record { held = refl; at = refl; waiting = omega (arith, start .pre .0); answer = start .pre .1 .0 },
+      record { pending = refl; at = refl; waiting = omega (arith, start .pre .0); answer = start .pre .1 .0 },
       ended-took _ (start .args .p) _ _ (c .if1 .taken),
     )
 
@@ -42,7 +42,7 @@ returns-2 c =
     let at-if1 = at-parse .before .before .before .before in
     let start = at-if1 .before .before .before .before .before in
     let t = at-act .act .ensures in (
-      record { held = t .0 .held; at = t .0 .at; waiting = t .0 .waiting; answer = t .0 .answer },
+      record { pending = t .0 .pending; at = t .0 .at; waiting = t .0 .waiting; answer = t .0 .answer },
       line-took (start .args .line .now) _ _ (start .args .p) _ _ _ _ (at-if1 .if1 .left) (at-parse .parse-entry .ensures .means)
           (t .1),
     )

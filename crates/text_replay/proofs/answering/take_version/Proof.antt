@@ -8,7 +8,7 @@ use Rattle.text_replay.proofs.answering.take_version.Tie as tie
 returns : tie.Need-returns
 returns c =
     let start = c .before in (
-      record { held = refl; at = refl; waiting = omega (arith, start .pre .0); answer = start .pre .1 .0 },
+      record { pending = refl; at = refl; waiting = omega (arith, start .pre .0); answer = start .pre .1 .0 },
       known-version _ _ (start .pre .1 .1) (c .if1 .taken),
     )
 
@@ -17,7 +17,7 @@ returns-2 c =
     let start = c .before in
     let a = start .pre .1 .0 in (
       record {
-        held = refl;
+        pending = refl;
         at = refl;
         waiting = omega
             (arith, start .pre .0);

@@ -10,19 +10,19 @@ use Rattle.spec.specs.Promises.{machineOf}
 use Rattle.trace.specs.Bounds.{TraceRoom}
 use Rattle.text_lines.specs.Programs.{Passes}
 use Rattle.trace.specs.Transcript.{storeTrace, under}
-use Rattle.text_lines.proofs.Passing.{take-none, passes-none, passes-on}
+use Rattle.text_lines.proofs.Passing.{take-none, passes-nothing, passes-on}
 use Rattle.trace.proofs.answering.fill.Statement.{statement}
 use Rattle.trace.proofs.answering.fill.Tie as tie
 
 abbrev Inv-loop : tie.InvT-loop
 Inv-loop progress₀ state₀ files₀ logs₀ marks₀ undo₀ line₀ reader₀ piece out₀ progress state files logs marks undo line reader
     out =
-    (progress .held ≤ 129) × (progress .at ≤ length piece) × (progress₀ .at ≤ progress .at)
+    (progress .pending ≤ 129) × (progress .at ≤ length piece) × (progress₀ .at ≤ progress .at)
     × (progress .waiting ≤ 65536 * (progress .at - progress₀ .at)) × (progress .waiting ≤ 65536)
     × TraceRoom reader out × (length line ≡ 129)
-    × Passes storeTrace (under (machineOf state₀ files₀ logs₀ marks₀ undo₀) reader₀ (take (progress₀ .held) line₀)
+    × Passes storeTrace (under (machineOf state₀ files₀ logs₀ marks₀ undo₀) reader₀ (take (progress₀ .pending) line₀)
     (drop (progress₀ .at) piece)) []
-    (under (machineOf state files logs marks undo) reader (take (progress .held) line) (drop (progress .at) piece))
+    (under (machineOf state files logs marks undo) reader (take (progress .pending) line) (drop (progress .at) piece))
     (take (progress .waiting) out)
 
 abbrev μ-loop : tie.MeasureT-loop
@@ -35,14 +35,14 @@ loop-holds c =
     let p = start .pre in
     let none = p .0 .waiting in
     let room = p .1 .1 .0 in (
-      p .0 .held,
+      p .0 .pending,
       omega (arith, p .1 .0),
       omega arith,
       omega (arith, none),
       omega (arith, none),
       record { readable = room .readable; printable = room .printable },
       p .1 .1 .1,
-      passes-none storeTrace _ _ (take-none _ _ none),
+      passes-nothing storeTrace _ _ (take-none _ _ none),
     )
 
 returns : tie.Need-returns Inv-loop μ-loop
@@ -51,7 +51,7 @@ returns c =
     let most = i .5 .printable in (
       i .7,
       record {
-        held = i .0;
+        pending = i .0;
         waiting = omega (arith, i .4, most);
         inside = i .1;
         past = λ h. omega (arith, c .if2 .taken, i .2, i .3);
@@ -62,7 +62,7 @@ step-requires : tie.Need-step-requires Inv-loop μ-loop
 step-requires c κs =
     let tested = c .before .before .before .before .before .before .before .before in
     let i = tested .before .before .before .before .loop .inv in (
-      record { held = i .0; waiting = tested .if2 .left; inside = i .1 },
+      record { pending = i .0; waiting = tested .if2 .left; inside = i .1 },
       (record { readable = i .5 .readable; printable = i .5 .printable }, i .6),
     )
 
@@ -81,7 +81,7 @@ loop-again c =
     let s = after-step .step .ensures in
     let k = after-step .step .kept in
     let past = s .1 .past (tested .before .before .if1 .taken) in (
-      s .1 .held,
+      s .1 .pending,
       s .1 .inside,
       omega (arith, i .2, past),
       omega (arith, i .2, past, s .1 .waiting, i .5 .printable, k),
@@ -94,8 +94,16 @@ loop-again c =
 returns-2 : tie.Need-returns-2 Inv-loop μ-loop
 returns-2 c =
     let i = c .before .before .loop .inv in
-    let most = i .5 .printable in
-    (i .7, record { held = i .0; waiting = omega (arith, i .4, most); inside = i .1; past = λ h. omega (arith, c .if1 .left, h) })
+    let most = i .5 .printable in (
+      i .7,
+      record {
+        pending = i .0;
+        waiting = omega (arith, i .4, most);
+        inside = i .1;
+        past = λ h. omega
+            (arith, c .if1 .left, h);
+      },
+    )
 
 pub fill-spec : {M : Type 1} → statement M
 fill-spec =

@@ -14,7 +14,7 @@ next-line-requires : tie.Need-next-line-requires
 next-line-requires c κs =
     let start = c .before .before .before .before .before in
     let line = start .pre .1 .1 in
-    (omega (arith, line), (omega (arith, line, start .pre .0 .held), start .pre .0 .inside))
+    (omega (arith, line), (omega (arith, line, start .pre .0 .pending), start .pre .0 .inside))
 
 returns : tie.Need-returns
 returns c =
@@ -28,7 +28,7 @@ returns c =
       pending-passes storeTrace _ _ _ _ _ _ _ (of-room storeTrace _ _ _ _ _ _ (start .pre .1 .1) (scanned .next-line .ensures .0))
           no (drop-of-length-le piece past),
       record {
-        held = omega (arith, went .within, start .pre .1 .1);
+        pending = omega (arith, went .within, start .pre .1 .1);
         waiting = omega (arith, start .pre .0 .waiting, start .pre .1 .0 .printable);
         inside = went .inside;
         past = λ h. omega (arith, whole, h);
@@ -52,7 +52,7 @@ returns-2 c =
           yes _ (cutting .part .ensures) _ _ (e .0) _ _
           (take-none _ _ (e .1 .1 .0)) (ap (λ (n : ℕ). drop n piece) (e .1 .1 .1)),
       record {
-        held = omega (arith, e .1 .1 .0);
+        pending = omega (arith, e .1 .1 .0);
         waiting = e .1 .0;
         inside = omega (arith, went .inside, e .1 .1 .1);
         past = λ h. omega (arith, past, e .1 .1 .1);

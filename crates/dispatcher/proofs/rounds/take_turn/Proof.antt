@@ -5,8 +5,8 @@ use Rattle.spec_dispatch.specs.Dispatch.{storeReply}
 use Rattle.dispatcher.specs.Types.{scriptCallOf}
 use Rattle.dispatcher.proofs.StepLaws.{stands-as, passed-over, turn-done}
 use borrow.Author.Needs.{needs}
-use Rattle.dispatcher.proofs.rounds.turn.Statement.{statement}
-use Rattle.dispatcher.proofs.rounds.turn.Tie as tie
+use Rattle.dispatcher.proofs.rounds.take_turn.Statement.{statement}
+use Rattle.dispatcher.proofs.rounds.take_turn.Tie as tie
 
 returns : tie.Need-returns
 returns c =
@@ -30,10 +30,10 @@ returns-2 c =
     λ minute x commits m₀ w s.
     turn-done _ minute x _ _ m₀ w _ _ _ commits s _ _ _ (called .make .ensures) (a .t .due)
     (not-false _ (called .before .before .before .before .before .before .before .if1 .left)) _ _
-    (λ v t. c .before .before .answered .ensures _ commits m₀ v t)
+    (λ v t. c .before .before .take-answer .ensures _ commits m₀ v t)
 
-pub turn-spec : {M : Type 1} → statement M
-turn-spec =
+pub take-turn-spec : {M : Type 1} → statement M
+take-turn-spec =
     tie.close
     (tie.spec
     returns

@@ -1,8 +1,8 @@
--- `rounds::answered` meets its contract.
+-- `rounds::take_answer` meets its contract.
 use Rattle.dispatcher.proofs.StepLaws.{stands-as, answered-passes, answered-fails}
 use borrow.Author.Needs.{needs}
-use Rattle.dispatcher.proofs.rounds.answered.Statement.{statement}
-use Rattle.dispatcher.proofs.rounds.answered.Tie as tie
+use Rattle.dispatcher.proofs.rounds.take_answer.Statement.{statement}
+use Rattle.dispatcher.proofs.rounds.take_answer.Tie as tie
 
 returns : tie.Need-returns
 returns c =
@@ -14,8 +14,8 @@ returns c =
 returns-2 : tie.Need-returns-2
 returns-2 c = λ reader commits m₀ w s. stands-as m₀ _ _ _ reader _ commits (answered-passes _ w _ (c .enum-told .given .1)) s
 
-pub answered-spec : {M : Type 1} → statement M
-answered-spec =
+pub take-answer-spec : {M : Type 1} → statement M
+take-answer-spec =
     tie.close (tie.spec
     (λ c. search needs)
     (λ c κs. search needs)

@@ -1,10 +1,10 @@
--- `rounds::round` meets its contract: its three parts, one after the other.
+-- `rounds::run_round` meets its contract: its three parts, one after the other.
 use borrow.Author.Needs.{needs}
 use Rattle.spec_dispatch.specs.Rounds.{round}
 use Rattle.dispatcher.specs.Types.{scriptsOf}
 use Rattle.dispatcher.proofs.ScriptLaws.{scripts-eight}
-use Rattle.dispatcher.proofs.rounds.round.Statement.{statement}
-use Rattle.dispatcher.proofs.rounds.round.Tie as tie
+use Rattle.dispatcher.proofs.rounds.run_round.Statement.{statement}
+use Rattle.dispatcher.proofs.rounds.run_round.Tie as tie
 
 begin-all-requires : tie.Need-begin-all-requires
 begin-all-requires c κs = scripts-eight _ _ (c .before .before .before .before .before .before .before .before .before .before
@@ -29,12 +29,12 @@ returns c =
     .args in (
       λ m₀ w s.
           committed .commit-all .ensures .0 _ _ _ m₀ _
-          (called .passes .ensures (a .minute) _ m₀ _ (begun .begin-all .ensures _ (a .minute) _ _ _ m₀ w s)),
+          (called .make-passes .ensures (a .minute) _ m₀ _ (begun .begin-all .ensures _ (a .minute) _ _ _ m₀ w s)),
       committed .commit-all .ensures .1,
     )
 
-pub round-spec : {M : Type 1} → statement M
-round-spec =
+pub run-round-spec : {M : Type 1} → statement M
+run-round-spec =
     tie.close
     (tie.spec
     begin-all-requires

@@ -1,4 +1,4 @@
--- `last_line` meets its contract. Assumes nothing.
+-- `replay_last_line` meets its contract. Assumes nothing.
 use mathlib.Core.Path.{refl}
 use native.Mathlib.Omega.{arith}
 use borrow.Author.Needs.{needs}
@@ -6,8 +6,8 @@ use Rattle.buffers.specs.Parts.{cut}
 use Rattle.text_log.specs.Replay.{replaying}
 use Rattle.text_lines.proofs.Passing.{off, on, take-none, no-last-line, last-line}
 use Rattle.text_replay_pieces.proofs.Laws.{took-line}
-use Rattle.text_replay_pieces.proofs.last_line.Statement.{statement}
-use Rattle.text_replay_pieces.proofs.last_line.Tie as tie
+use Rattle.text_replay_pieces.proofs.replay_last_line.Statement.{statement}
+use Rattle.text_replay_pieces.proofs.replay_last_line.Tie as tie
 
 returns : tie.Need-returns
 unfolding cut
@@ -19,7 +19,7 @@ returns c =
     let a = start .pre .0 .answer in
     let no = off (tested .is-line .result) (c .if1 .taken) in (
       no-last-line replaying _ _ _ _ _ (cutting .part .ensures) (tested .is-line .ensures) no (take-none _ _ none),
-      record { held = refl; at = refl; waiting = omega (arith, none); answer = record { starts = a .starts; ends = a .ends } },
+      record { pending = refl; at = refl; waiting = omega (arith, none); answer = record { starts = a .starts; ends = a .ends } },
     )
 
 returns-2 : tie.Need-returns-2
@@ -36,11 +36,11 @@ returns-2 c =
     let t = took .take-line .ensures in (
       last-line replaying _ _ _ _ (cutting .part .ensures) (tested .is-line .ensures) yes _ (take-none _ _ none) _
           (again .part2 .ensures) _ _ (took-line _ _ _ _ _ (t .1)),
-      record { held = t .0 .held; at = t .0 .at; waiting = t .0 .waiting; answer = t .0 .answer },
+      record { pending = t .0 .pending; at = t .0 .at; waiting = t .0 .waiting; answer = t .0 .answer },
     )
 
-pub last-line-spec : {M : Type 1} → statement M
-last-line-spec =
+pub replay-last-line-spec : {M : Type 1} → statement M
+replay-last-line-spec =
     tie.close
     (tie.spec
     (λ c κs. search needs)

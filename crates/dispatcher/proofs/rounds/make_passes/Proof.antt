@@ -1,4 +1,4 @@
--- `rounds::passes` meets its contract. The loop's invariant: the calls below i of every script are made, and call i of those
+-- `rounds::make_passes` meets its contract. The loop's invariant: the calls below i of every script are made, and call i of those
 -- below k.
 use mathlib.Core.Bool.{Bool, _&&_}
 use mathlib.Core.Path.{_≡_, refl, sym, ap, _∙_}
@@ -15,9 +15,9 @@ use Rattle.spec_dispatch.specs.Dispatch.{storeReply}
 use Rattle.dispatcher.specs.Types.{scriptsOf}
 use Rattle.dispatcher.specs.Steps.{CarriesStep}
 use Rattle.dispatcher.proofs.ScriptLaws.{scripts-eight, call-in}
-use Rattle.dispatcher.proofs.StepLaws.{stands-as, turn-as, turns-more, passes-more}
-use Rattle.dispatcher.proofs.rounds.passes.Statement.{statement}
-use Rattle.dispatcher.proofs.rounds.passes.Tie as tie
+use Rattle.dispatcher.proofs.StepLaws.{stands-as, turn-as, turns-again, passes-again}
+use Rattle.dispatcher.proofs.rounds.make_passes.Statement.{statement}
+use Rattle.dispatcher.proofs.rounds.make_passes.Tie as tie
 
 abbrev Inv-loop : tie.InvT-loop
 Inv-loop state₀ files₀ logs₀ marks₀ undo₀ bytes reader₀ scripts count out₀ i₀ k₀ state files logs marks undo reader out i k =
@@ -51,8 +51,8 @@ loop-holds c = (
   λ minute n m₀ w s. s,
 )
 
-turn-requires : tie.Need-turn-requires Inv-loop μ-loop
-turn-requires c κs =
+take-turn-requires : tie.Need-take-turn-requires Inv-loop μ-loop
+take-turn-requires c κs =
     let asked = c .before .before .before .before .before .before .before .before in
     let at-if = asked .before in
     let start = at-if .before .before .before .before .before .before .before .before .before in (
@@ -84,9 +84,9 @@ loop-again c =
           let t = l .inv .9 minute n m₀ w s in
           let goes = asked .goes-on .ensures ∙ ap goesOn (t .ends (l .k) (omega (arith, l .inv .2, asked .before .if1 .taken))) in
           stands-as m₀ _ _ _ _ _ n
-          (turns-more (storeReply m₀) _ minute _ (l .i) (l .k) u
+          (turns-again (storeReply m₀) _ minute _ (l .i) (l .k) u
           ∙ turn-as _ minute x (l .i) (l .k) m₀ v _ (ap (λ (b : Bool). b && ltb (l .i) (getD (a .t6 .counts) (l .k) 0)) goes))
-          (turned .turn .ensures minute x n m₀ v t),
+          (turned .take-turn .ensures minute x n m₀ v t),
     )
 
 loop-again-2 : tie.Need-loop-again-2 Inv-loop μ-loop
@@ -108,7 +108,7 @@ loop-again-2 c =
           let x = scriptsOf (a .t6) in
           let u = passes (storeReply m₀) (a .bytes .now) minute x (l .i) w in
           stands-as m₀ _ _ _ _ _ n
-          (passes-more (storeReply m₀) _ minute x (l .i) w
+          (passes-again (storeReply m₀) _ minute x (l .i) w
           ∙ ap (λ (k : ℕ). turns (storeReply m₀) (a .bytes .now) minute x (l .i) k u) (sym e))
           (l .inv .9 minute n m₀ w s),
     )
@@ -127,8 +127,8 @@ returns c =
     ∙ ap (λ (k : ℕ). turns (storeReply m₀) (a .bytes .now) minute (scriptsOf (a .t6)) (l .i) k (f (l .i) w)) (sym z))
     (l .inv .9 minute n m₀ w s)
 
-pub passes-spec : {M : Type 1} → statement M
-passes-spec =
+pub make-passes-spec : {M : Type 1} → statement M
+make-passes-spec =
     tie.close
     (tie.spec
     Inv-loop
@@ -141,7 +141,7 @@ passes-spec =
     (λ c. search needs)
     (λ c. search needs)
     (λ c. search needs)
-    turn-requires
+    take-turn-requires
     (λ c. search needs)
     (λ c. search needs)
     loop-again

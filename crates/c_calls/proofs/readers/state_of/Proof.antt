@@ -1,8 +1,8 @@
--- `looks::state_of` meets its contract.
+-- `readers::state_of` meets its contract.
 use mathlib.Core.Path.{sym, _∙_}
 use borrow.Author.Needs.{needs}
 use Rattle.c_codes.proofs.CodeLaws.{state-closed, state-stale, state-open}
-use Rattle.c_calls.proofs.looks.state_of.Tie as tie
+use Rattle.c_calls.proofs.readers.state_of.Tie as tie
 
 returns : tie.Need-returns
 returns c = let begun = c .before .before in
@@ -14,6 +14,6 @@ returns-2 c =
     let begun = c .before .before in
     state-open _ (sym (begun .before .is-begun .ensures) ∙ begun .if1 .taken) (sym (c .before .is-stale .ensures) ∙ c .if2 .left)
 
-pub state-of-spec : {M : Type 1} → Rattle.c_calls.proofs.looks.state_of.Statement.statement M
+pub state-of-spec : {M : Type 1} → Rattle.c_calls.proofs.readers.state_of.Statement.statement M
 state-of-spec = tie.close (tie.spec (λ c κs. search needs) (λ c κs. search needs) returns returns-2
     (λ c. state-closed _ (sym (c .before .is-begun .ensures) ∙ c .if1 .left)))

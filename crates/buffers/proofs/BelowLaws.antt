@@ -1,11 +1,7 @@
 -- Laws of tests and sums by index. Assumes nothing.
-use mathlib.Core.Bool.{Bool, true, false, _&&_, _||_, and-assoc}
-use mathlib.Core.Path.{_≡_, refl, sym, ap, _∙_}
-use mathlib.Core.Logic.{⊎-elim}
+use mathlib.Core.{Bool.{Bool, true, false, _&&_, _||_, and-assoc}, Path.{_≡_, refl, sym, ap, _∙_}, Logic.⊎-elim}
 use Prim.Native.Nat.{ℕ, zero, suc, _+_, _<_}
-use native.Mathlib.Nat.{eq-or-lt-of-le, le-of-suc-le-suc, not-suc-le-zero}
-use native.Mathlib.Numerals.{add-one, unary-clauses}
-use native.Mathlib.Omega.{arith}
+use native.Mathlib.{Nat.{eq-or-lt-of-le, le-of-suc-le-suc, not-suc-le-zero}, Numerals.{add-one, unary-clauses}, Omega.arith}
 use Rattle.buffers.specs.Below.{below, someBelow, sum}
 use Rattle.buffers.proofs.PartLaws.{le-or-lt}
 
@@ -29,12 +25,10 @@ and-true false = refl
 -- A test of every number below a bound.
 module _ (p : ℕ → Bool) where
   pub below-zero : below p 0 ≡ true
-  unfolding below
-  below-zero = refl
+  below-zero = unfold below in refl
 
   below-suc : (i : ℕ) → below p i ≡ true → p i ≡ true → below p (suc i) ≡ true
-  unfolding below
-  below-suc i e f = and-both (below p i) (p i) e f
+  below-suc i e f = unfold below in and-both (below p i) (p i) e f
 
   pub below-more : (i : ℕ) → below p i ≡ true → p i ≡ true → below p (i + 1) ≡ true
   below-more i e f = rw add-one (below-suc i e f)
@@ -42,9 +36,8 @@ module _ (p : ℕ → Bool) where
   pub below-at : (n k : ℕ) → below p n ≡ true → k < n → p k ≡ true
   unfolding below
   below-at zero k e l = absurd (not-suc-le-zero l)
-  below-at (suc n) k e l =
-      ⊎-elim (λ q. rw q (and-right (below p n) (p n) e)) (λ m. below-at n k (and-left (below p n) (p n) e) m)
-      (eq-or-lt-of-le (le-of-suc-le-suc l))
+  below-at (suc n) k e l = ⊎-elim (λ q. rw q (and-right (below p n) (p n) e))
+      (λ m. below-at n k (and-left (below p n) (p n) e) m) (eq-or-lt-of-le (le-of-suc-le-suc l))
 
   pub below-all : (n : ℕ) → ((k : ℕ) → k < n → p k ≡ true) → below p n ≡ true
   below-all zero h = below-zero
@@ -64,12 +57,10 @@ below-same p q (suc n) h = rw (below-same p q n (λ k l. h k (omega arith)), h n
 
 -- In a loop without a branch: before it, and one number further.
 pub one-more : (p : ℕ → Bool) (i : ℕ) (b q : Bool) → b ≡ below p i → q ≡ p i → b && q ≡ below p (i + 1)
-unfolding below
-one-more p i b q e f = rw (e, f, add-one)
+one-more p i b q e f = unfold below in rw (e, f, add-one)
 
 pub none-yet : (p : ℕ → Bool) → true ≡ below p 0
-unfolding below
-none-yet p = refl
+none-yet p = unfold below in refl
 
 -- Two tests of every number below a bound, joined; and a test below a sum of two bounds.
 pub below-both : (p q : ℕ → Bool) (n : ℕ) → below p n && below q n ≡ below (λ k. p k && q k) n
@@ -86,25 +77,21 @@ below-both p q (suc n) = crossed (below p n) (p n) (below q n) (q n) ∙ ap (λ 
 pub below-sum : (p : ℕ → Bool) (m n : ℕ) → below p (m + n) ≡ below p m && below (λ k. p (m + k)) n
 unfolding below
 below-sum p m zero = simp unary-clauses (sym (and-true (below p m)))
-below-sum p m (suc n) =
-    simp unary-clauses
-    (ap (λ (b : Bool). b && p (m + n)) (below-sum p m n) ∙ and-assoc (below p m) (below (λ k. p (m + k)) n) (p (m + n)))
+below-sum p m (suc n) = simp unary-clauses (ap (λ (b : Bool). b && p (m + n)) (below-sum p m n)
+    ∙ and-assoc (below p m) (below (λ k. p (m + k)) n) (p (m + n)))
 
 -- A test of some number below a bound.
 module _ (p : ℕ → Bool) where
   pub some-none : someBelow p 0 ≡ false
-  unfolding someBelow
-  some-none = refl
+  some-none = unfold someBelow in refl
 
   pub some-more : (i : ℕ) → someBelow p i ≡ false → p i ≡ false → someBelow p (i + 1) ≡ false
-  unfolding someBelow
-  some-more i e f = rw (add-one, e, f)
+  some-more i e f = unfold someBelow in rw (add-one, e, f)
 
   pub some-found : (n i : ℕ) → i < n → p i ≡ true → someBelow p n ≡ true
   unfolding someBelow
   some-found zero i l e = absurd (omega arith)
-  some-found (suc n) i l e =
-      ⊎-elim (λ h. rw (some-found n i h e))
+  some-found (suc n) i l e = ⊎-elim (λ h. rw (some-found n i h e))
       (λ h. let s : n ≡ i = omega arith in or-right (someBelow p n) (p n) (ap p s ∙ e)) (le-or-lt (suc i) n)
     where
       or-right : (a b : Bool) → b ≡ true → (a || b) ≡ true
@@ -113,12 +100,10 @@ module _ (p : ℕ → Bool) where
 
 -- A sum over every number below a bound.
 pub sum-zero : (f : ℕ → ℕ) → sum f 0 ≡ 0
-unfolding sum
-sum-zero f = refl
+sum-zero f = unfold sum in refl
 
 pub sum-more : (f : ℕ → ℕ) (n : ℕ) → sum f (n + 1) ≡ sum f n + f n
-unfolding sum
-sum-more f n = rw add-one
+sum-more f n = unfold sum in rw add-one
 
 pub sum-same : (f g : ℕ → ℕ) (n : ℕ) → ((k : ℕ) → k < n → f k ≡ g k) → sum f n ≡ sum g n
 unfolding sum

@@ -1,19 +1,13 @@
 -- The laws of bits, and of a range of octets that is cleared. Assumes nothing.
-use mathlib.Core.Path.{_≡_, refl, sym, ap, ap₂, _∙_}
-use mathlib.Core.Bool.{Bool, true, false, cond, not, _||_, or-true, or-false}
-use mathlib.Core.List.{List}
+use mathlib.Core.{Path.{_≡_, refl, sym, ap, ap₂, _∙_}, Bool.{Bool, true, false, cond, not, _||_, or-true, or-false}, List.List}
 use mathlib.Core.Logic.{_⊎_, inl, inr, ⊎-elim}
 use Prim.Native.Nat.{ℕ, zero, suc, _+_, _-_, _*_, _^_, _/_, _%_, _≤_, _<_, max}
 use native.Mathlib.Nat.{zero-mul, one-mul, suc-mul, add-zero, add-suc, add-comm, max-zero, div-one, div-self, div-eq-of-lt}
-use native.Mathlib.Nat.{zero-div}
-use native.Mathlib.Nat.{mod-lt, mod-eq-of-lt, mul-mod-left, mul-add-mod-self-right, div-div-eq-div-mul, pow-suc, mul-comm}
-use native.Mathlib.Numerals.{add-one}
-use native.Mathlib.Omega.{arith}
-use lib.Dec.{eqb}
-use lib.ListN.{length, getD, set, length-set, List·getD-eq-default}
+use native.Mathlib.Nat.{zero-div, mod-lt, mod-eq-of-lt, mul-mod-left, mul-add-mod-self-right, div-div-eq-div-mul, pow-suc}
+use native.Mathlib.{Nat.mul-comm, Numerals.add-one, Omega.arith}
+use lib.{Dec.eqb, ListN.{length, getD, set, length-set, List·getD-eq-default}}
 use lib.Bits.{bitAnd, bitOr, or-shr, or-step, or-zero-r, or-lt, or-add-and, or-shifted-r, and-zero-r, and-le-l, and-le-r}
-use lib.Bits.{and-mask, and-high}
-use lib.Seq.{getD-set-same, getD-set-other, set-out}
+use lib.{Bits.{and-mask, and-high}, Seq.{getD-set-same, getD-set-other, set-out}}
 use lib.Pow.{pow-pos, pow-lt, pow-mono, pow-add, shl-shr, shr-shr, shl-exact, mod-pow-add}
 use borrow.Author.Tests.{eqb-true, eqb-false, eq-eqb, ne-eqb}
 use Rattle.buffers.specs.Bits.{bit, withBit, span, cleared}
@@ -22,21 +16,17 @@ use Rattle.buffers.proofs.PartLaws.{le-or-lt}
 -- ---- one bit
 
 pub bit-lt : (u x : ℕ) → bit u x < 2
-unfolding bit
-bit-lt u x = mod-lt (x / 2 ^ u) (omega arith)
+bit-lt u x = unfold bit in mod-lt (x / 2 ^ u) (omega arith)
 
 pub bit-zero : (u : ℕ) → bit u 0 ≡ 0
-unfolding bit
-bit-zero u = ap (λ (k : ℕ). k % 2) (zero-div (2 ^ u))
+bit-zero u = unfold bit in ap (λ (k : ℕ). k % 2) (zero-div (2 ^ u))
 
 -- a number has no bit at or above its width
 pub bit-above : (u x : ℕ) → x < 2 ^ u → bit u x ≡ 0
-unfolding bit
-bit-above u x h = ap (λ (k : ℕ). k % 2) (div-eq-of-lt h)
+bit-above u x h = unfold bit in ap (λ (k : ℕ). k % 2) (div-eq-of-lt h)
 
 bit-first : (x : ℕ) → bit 0 x ≡ x % 2
-unfolding bit
-bit-first x = ap (λ (k : ℕ). k % 2) (div-one x)
+bit-first x = unfold bit in ap (λ (k : ℕ). k % 2) (div-one x)
 
 bit-next : (u x : ℕ) → bit (suc u) x ≡ bit u (x / 2)
 unfolding bit
@@ -49,41 +39,29 @@ bits-equal x y same = upto (x + y) x y (omega arith) (omega arith) same
   where
     upto : (n x y : ℕ) → x ≤ n → y ≤ n → ((u : ℕ) → bit u x ≡ bit u y) → x ≡ y
     upto zero x y h g same = omega arith
-    upto (suc n) x y h g same =
-        let low : x % 2 ≡ y % 2 = sym (bit-first x) ∙ same 0 ∙ bit-first y in
-        let high : x / 2 ≡ y / 2 = upto n (x / 2) (y / 2) (omega arith) (omega arith)
-        (λ u. sym (bit-next u x) ∙ same (suc u) ∙ bit-next u y) in
-        omega arith
+    upto (suc n) x y h g same = let low : x % 2 ≡ y % 2 = sym (bit-first x) ∙ same 0 ∙ bit-first y in
+        let high : x / 2 ≡ y / 2 = upto n (x / 2) (y / 2) (omega arith) (omega arith) (λ u. sym (bit-next u x)
+        ∙ same (suc u) ∙ bit-next u y) in omega arith
 
 pub bit-or : (u a b : ℕ) → bit u (bitOr a b) ≡ max (bit u a) (bit u b)
-unfolding bit
-bit-or u a b =
-    let x = a / 2 ^ u in
-    let y = b / 2 ^ u in
-    let small : max (x % 2) (y % 2) < 2 = omega arith in
+bit-or u a b = unfold bit in let x = a / 2 ^ u in let y = b / 2 ^ u in let small : max (x % 2) (y % 2) < 2 = omega arith in
     ap (λ (k : ℕ). k % 2) (or-shr a b u ∙ or-step x y)
-    ∙ mul-add-mod-self-right (bitOr (x / 2) (y / 2)) 2 (max (x % 2) (y % 2))
-    ∙ mod-eq-of-lt small
+    ∙ mul-add-mod-self-right (bitOr (x / 2) (y / 2)) 2 (max (x % 2) (y % 2)) ∙ mod-eq-of-lt small
 
 -- ---- a bit set
 
 -- the bits of a power
 bit-own : (t : ℕ) → bit t (2 ^ t) ≡ 1
-unfolding bit
-bit-own t = ap (λ (k : ℕ). k % 2) (div-self (pow-pos t))
+bit-own t = unfold bit in ap (λ (k : ℕ). k % 2) (div-self (pow-pos t))
 
 bit-other : (u t : ℕ) → (u ≡ t → ⊥) → bit u (2 ^ t) ≡ 0
 unfolding bit
 bit-other u t other = ⊎-elim (λ h. bit-above u (2 ^ t) (pow-lt (omega arith))) lower (le-or-lt t u)
   where
     lower : u < t → 2 ^ t / 2 ^ u % 2 ≡ 0
-    lower h =
-        let k = t - u - 1 in
-        let e : t ≡ suc k + u = omega arith in
-        ap (λ (j : ℕ). 2 ^ j / 2 ^ u % 2) e
-        ∙ ap (λ (j : ℕ). j / 2 ^ u % 2) (pow-add 2 (suc k) u)
-        ∙ ap (λ (j : ℕ). j % 2) (shl-shr (2 ^ suc k) u ∙ pow-suc 2 k)
-        ∙ mul-mod-left (2 ^ k) 2
+    lower h = let k = t - u - 1 in let e : t ≡ suc k + u = omega arith in
+        ap (λ (j : ℕ). 2 ^ j / 2 ^ u % 2) e ∙ ap (λ (j : ℕ). j / 2 ^ u % 2) (pow-add 2 (suc k) u)
+        ∙ ap (λ (j : ℕ). j % 2) (shl-shr (2 ^ suc k) u ∙ pow-suc 2 k) ∙ mul-mod-left (2 ^ k) 2
 
 -- as the code shifts, in a number of w bits
 pub shift-one : (w t : ℕ) → t < w → 1 * 2 ^ t % 2 ^ w ≡ 2 ^ t
@@ -100,8 +78,7 @@ bit-with u t x = pick (eqb u t) refl
 
 -- it stays an octet
 pub with-lt : (t x : ℕ) → t < 8 → x < 256 → withBit t x < 256
-unfolding withBit
-with-lt t x ht hx = or-lt 8 x (2 ^ t) hx (pow-lt ht)
+with-lt t x ht hx = unfold withBit in or-lt 8 x (2 ^ t) hx (pow-lt ht)
 
 -- ---- the bits of a span
 
@@ -109,36 +86,28 @@ or-assoc : (a b c : ℕ) → bitOr (bitOr a b) c ≡ bitOr a (bitOr b c)
 or-assoc a b c = bits-equal (bitOr (bitOr a b) c) (bitOr a (bitOr b c)) (λ u. simp bit-or (omega arith))
 
 span-none : (low : ℕ) → span low 0 ≡ 0
-unfolding span
-span-none low = simp add-zero (omega arith)
+span-none low = unfold span in simp add-zero (omega arith)
 
 span-more : (low n : ℕ) → withBit (low + n) (span low n) ≡ span low (suc n)
-unfolding span withBit
-span-more low n =
-    let h : 2 ^ low ≤ 2 ^ (low + n) = pow-mono (omega arith) in
-    let p = pow-pos low in
+span-more low n = unfold span withBit in let h : 2 ^ low ≤ 2 ^ (low + n) = pow-mono (omega arith) in let p = pow-pos low in
     let e : 2 ^ (low + suc n) ≡ 2 ^ (low + n) * 2 = ap (λ (k : ℕ). 2 ^ k) (add-suc low n) ∙ pow-suc 2 (low + n) in
-    ap (bitOr (span low n)) (sym (one-mul (2 ^ (low + n))))
-    ∙ or-shifted-r 1 (low + n) (span low n) (omega arith)
+    ap (bitOr (span low n)) (sym (one-mul (2 ^ (low + n)))) ∙ or-shifted-r 1 (low + n) (span low n) (omega arith)
     ∙ omega arith
 
 -- one bit more of it set
 pub with-span : (low n x : ℕ) → withBit (low + n) (bitOr x (span low n)) ≡ bitOr x (span low (suc n))
-unfolding withBit
-with-span low n x = or-assoc x (span low n) (2 ^ (low + n)) ∙ ap (bitOr x) (span-more low n)
+with-span low n x = unfold withBit in or-assoc x (span low n) (2 ^ (low + n)) ∙ ap (bitOr x) (span-more low n)
 
 pub with-span-none : (low x : ℕ) → bitOr x (span low 0) ≡ x
 with-span-none low x = ap (bitOr x) (span-none low) ∙ or-zero-r x
 
 -- a whole octet of it
 pub with-octet : (x : ℕ) → x < 256 → bitOr x (span 0 8) ≡ span 0 8
-unfolding span
-with-octet x h = let e : bitAnd x 255 ≡ x = and-mask x 8 ∙ mod-eq-of-lt h in omega (arith, or-add-and x 255)
+with-octet x h = unfold span in let e : bitAnd x 255 ≡ x = and-mask x 8 ∙ mod-eq-of-lt h in omega (arith, or-add-and x 255)
 
 -- what a number has in a span
 in-span : (low n x : ℕ) → bitAnd x (span low n) ≡ x / 2 ^ low % 2 ^ n * 2 ^ low
-unfolding span
-in-span low n x = ap (λ (k : ℕ). bitAnd x (2 ^ k - 2 ^ low)) (add-comm low n) ∙ and-high x n low
+in-span low n x = unfold span in ap (λ (k : ℕ). bitAnd x (2 ^ k - 2 ^ low)) (add-comm low n) ∙ and-high x n low
 
 some-scaled : (a p : ℕ) → 0 < p → eqb (a * p) 0 ≡ eqb a 0
 some-scaled zero p h = ap (λ (k : ℕ). eqb k 0) (zero-mul p)
@@ -150,12 +119,8 @@ some-bit-none low x = ap (λ (k : ℕ). not (eqb (bitAnd x k) 0)) (span-none low
 pub some-bit-more : (low n x : ℕ) → not (eqb (bitAnd x (span low (suc n))) 0) ≡ not (eqb (bitAnd x (span low n)) 0)
     || eqb (bit (low + n) x) 1
 unfolding bit
-some-bit-more low n x =
-    let y = x / 2 ^ low in
-    let e : suc n ≡ 1 + n = omega arith in
-    scaled (suc n)
-    ∙ ap (λ (k : ℕ). not (eqb (y % 2 ^ k) 0)) e
-    ∙ ap (λ (k : ℕ). not (eqb k 0)) (mod-pow-add y 1 n)
+some-bit-more low n x = let y = x / 2 ^ low in let e : suc n ≡ 1 + n = omega arith in
+    scaled (suc n) ∙ ap (λ (k : ℕ). not (eqb (y % 2 ^ k) 0)) e ∙ ap (λ (k : ℕ). not (eqb k 0)) (mod-pow-add y 1 n)
     ∙ either (y / 2 ^ n % 2) (y % 2 ^ n) (2 ^ n) (mod-lt (y / 2 ^ n) (omega arith)) (pow-pos n)
     ∙ ap₂ (λ (b : Bool) (k : ℕ). b || eqb (k % 2) 1) (sym (scaled n)) (shr-shr x low n)
   where
@@ -164,16 +129,14 @@ some-bit-more low n x =
         ∙ ap not (some-scaled (x / 2 ^ low % 2 ^ m) (2 ^ low) (pow-pos low))
 
     either : (b r p : ℕ) → b < 2 → 0 < p → not (eqb (b * p + r) 0) ≡ not (eqb r 0) || eqb b 1
-    either zero r p h g =
-        let e : 0 * p + r ≡ r = omega (arith, zero-mul p) in
+    either zero r p h g = let e : 0 * p + r ≡ r = omega (arith, zero-mul p) in
         ap (λ (k : ℕ). not (eqb k 0)) e ∙ sym (or-false (not (eqb r 0)))
     either (suc zero) r p h g = ap not (ne-eqb (1 * p + r) 0 (λ e. omega (arith, one-mul p))) ∙ sym (or-true (not (eqb r 0)))
     either (suc (suc b)) r p h g = absurd (omega arith)
 
 -- and in a whole octet
 pub some-octet : (x : ℕ) → x < 256 → bitAnd x (span 0 8) ≡ x
-unfolding span
-some-octet x h = and-mask x 8 ∙ mod-eq-of-lt h
+some-octet x h = unfold span in and-mask x 8 ∙ mod-eq-of-lt h
 
 pub some-or : (a b : ℕ) → not (eqb (bitOr a b) 0) ≡ not (eqb a 0) || not (eqb b 0)
 some-or a b = pick (eqb a 0) refl (eqb b 0) refl
@@ -186,12 +149,10 @@ some-or a b = pick (eqb a 0) refl (eqb b 0) refl
 -- ---- a range that is cleared
 
 pub cleared-none : (from : ℕ) (xs : List ℕ) → cleared from 0 xs ≡ xs
-unfolding cleared
-cleared-none from xs = refl
+cleared-none from xs = unfold cleared in refl
 
 pub cleared-more : (from n : ℕ) (xs : List ℕ) → set (cleared from n xs) (from + n) 0 ≡ cleared from (n + 1) xs
-unfolding cleared
-cleared-more from n xs = ap (λ (k : ℕ). cleared from k xs) (sym (add-one n))
+cleared-more from n xs = unfold cleared in ap (λ (k : ℕ). cleared from k xs) (sym (add-one n))
 
 pub length-cleared : (from n : ℕ) (xs : List ℕ) → length (cleared from n xs) ≡ length xs
 unfolding cleared
@@ -220,6 +181,5 @@ cleared-in from (suc n) xs i h g = ⊎-elim last (λ l. before l (cleared-in fro
 pub cleared-out : (from n : ℕ) (xs : List ℕ) (i : ℕ) → (i < from) ⊎ (from + n ≤ i) → getD (cleared from n xs) i 0 ≡ getD xs i 0
 unfolding cleared
 cleared-out from zero xs i h = refl
-cleared-out from (suc n) xs i h =
-    getD-set-other (cleared from n xs) (from + n) i 0 0 (λ e. ⊎-elim (λ g. omega arith) (λ g. omega arith) h)
-    ∙ cleared-out from n xs i (⊎-elim inl (λ g. inr (omega arith)) h)
+cleared-out from (suc n) xs i h = getD-set-other (cleared from n xs) (from + n) i 0 0
+    (λ e. ⊎-elim (λ g. omega arith) (λ g. omega arith) h) ∙ cleared-out from n xs i (⊎-elim inl (λ g. inr (omega arith)) h)

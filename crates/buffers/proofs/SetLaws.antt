@@ -1,21 +1,12 @@
 -- The laws of sets of numbers as bits. Assumes nothing.
-use mathlib.Core.Bool.{Bool, true, false, cond, _&&_, _||_, false≢true}
-use mathlib.Core.Logic.{_⊎_, inl, inr, ⊎-elim}
-use mathlib.Core.Path.{_≡_, refl, sym, ap, ap₂, _∙_}
-use lib.Bits.{bitOr, bitAnd, or-shifted-r, and-shr, and-step}
-use lib.Count.{ones, ones-cat}
-use lib.Dec.{eqb}
-use lib.Pow.{pow-lt, pow-mono}
+use mathlib.Core.{Bool.{Bool, true, false, cond, _||_, false≢true}, Logic.⊎-elim, Path.{_≡_, refl, sym, ap, ap₂, _∙_}}
+use lib.{Bits.{bitOr, bitAnd, or-shifted-r, and-shr, and-step}, Count.{ones, ones-cat}, Dec.eqb, Pow.{pow-lt, pow-mono}}
 use native.Mathlib.Nat.{one-mul, eq-or-lt-of-le, le-of-suc-le-suc, not-suc-le-zero, add-comm, pow-suc, mul-add-mod-self-right}
-use native.Mathlib.Nat.{mod-eq-of-lt}
-use native.Mathlib.Omega.{arith}
+use native.Mathlib.{Nat.mod-eq-of-lt, Omega.arith}
 use borrow.Author.Tests.{eqb-true, eqb-false, eq-eqb, ne-eqb}
 use Prim.Native.Nat.{ℕ, zero, suc, _+_, _-_, _^_, _/_, _%_, _≤_, _<_, min, max}
-use Rattle.buffers.specs.Below.{below}
-use Rattle.buffers.specs.Bits.{bit, withBit, withoutBit, withBitAs, bitsOf, countOf}
-use Rattle.buffers.specs.Marks.{contains}
-use Rattle.buffers.proofs.BelowLaws.{below-at}
-use Rattle.buffers.proofs.BitLaws.{bit-lt, bit-above, bits-equal, bit-or, bit-with}
+use Rattle.buffers.specs.{Below.below, Bits.{bit, withBit, withoutBit, withBitAs, bitsOf, countOf}, Marks.contains}
+use Rattle.buffers.proofs.{BelowLaws.below-at, BitLaws.{bit-lt, bit-above, bits-equal, bit-or, bit-with}}
 use Rattle.buffers.proofs.PartLaws.{le-or-lt}
 
 module _ (p : ℕ → Bool) where
@@ -31,11 +22,8 @@ module _ (p : ℕ → Bool) where
   -- a number more, in the set or not
   bits-with : (n : ℕ) → p n ≡ true → withBit n (bitsOf p n) ≡ bitsOf p (suc n)
   unfolding bitsOf withBit
-  bits-with n e =
-      ap (bitOr (bitsOf p n)) (sym (one-mul (2 ^ n)))
-      ∙ or-shifted-r 1 n (bitsOf p n) (bits-lt n)
-      ∙ ap (λ (w : ℕ). w + bitsOf p n) (one-mul (2 ^ n))
-      ∙ add-comm (2 ^ n) (bitsOf p n)
+  bits-with n e = ap (bitOr (bitsOf p n)) (sym (one-mul (2 ^ n))) ∙ or-shifted-r 1 n (bitsOf p n) (bits-lt n)
+      ∙ ap (λ (w : ℕ). w + bitsOf p n) (one-mul (2 ^ n)) ∙ add-comm (2 ^ n) (bitsOf p n)
       ∙ ap (λ (b : Bool). bitsOf p n + cond b (2 ^ n) 0) (sym e)
 
   bits-without : (n : ℕ) → p n ≡ false → bitsOf p n ≡ bitsOf p (suc n)
@@ -77,11 +65,8 @@ module _ (p : ℕ → Bool) where
   ones-bits (suc n) = pick (p n) (ones-bits n)
     where
       pick : (b : Bool) → ones (bitsOf p n) ≡ countOf p n → ones (bitsOf p n + cond b (2 ^ n) 0) ≡ countOf p n + cond b 1 0
-      pick true e =
-          ap ones (add-comm (bitsOf p n) (2 ^ n) ∙ ap (λ (w : ℕ). w + bitsOf p n) (sym (one-mul (2 ^ n))))
-          ∙ ones-cat n 1 (bitsOf p n) (bits-lt n)
-          ∙ ap (λ (k : ℕ). 1 + k) e
-          ∙ add-comm 1 (countOf p n)
+      pick true e = ap ones (add-comm (bitsOf p n) (2 ^ n) ∙ ap (λ (w : ℕ). w + bitsOf p n) (sym (one-mul (2 ^ n))))
+          ∙ ones-cat n 1 (bitsOf p n) (bits-lt n) ∙ ap (λ (k : ℕ). 1 + k) e ∙ add-comm 1 (countOf p n)
       pick false e = let z : bitsOf p n + 0 ≡ bitsOf p n = omega arith in ap ones z ∙ e ∙ omega arith
 
 pub bits-same : (p q : ℕ → Bool) (n : ℕ) → ((u : ℕ) → u < n → p u ≡ q u) → bitsOf p n ≡ bitsOf q n
@@ -140,22 +125,16 @@ contains-with t x u = ap (λ (b : ℕ). eqb b 1) (bit-with u t x) ∙ pick (eqb 
 
 -- every bit of both
 bit-and : (u a b : ℕ) → bit u (bitAnd a b) ≡ min (bit u a) (bit u b)
-unfolding bit
-bit-and u a b =
-    let x = a / 2 ^ u in
-    let y = b / 2 ^ u in
-    let small : min (x % 2) (y % 2) < 2 = omega arith in
+bit-and u a b = unfold bit in let x = a / 2 ^ u in let y = b / 2 ^ u in let small : min (x % 2) (y % 2) < 2 = omega arith in
     ap (λ (k : ℕ). k % 2) (and-shr a b u ∙ and-step x y)
-    ∙ mul-add-mod-self-right (bitAnd (x / 2) (y / 2)) 2 (min (x % 2) (y % 2))
-    ∙ mod-eq-of-lt small
+    ∙ mul-add-mod-self-right (bitAnd (x / 2) (y / 2)) 2 (min (x % 2) (y % 2)) ∙ mod-eq-of-lt small
 
 -- the mask that clears bit t of sixteen has every other bit
 right : ℕ → ℕ → Bool
 right t u = eqb (bit u (65535 - 2 ^ t)) (cond (eqb u t) 0 1)
 
 table : below (λ (t : ℕ). below (right t) 16) 16 ≡ true
-unfolding bit below right
-table = refl
+table = unfold bit below right in refl
 
 masked : (t u : ℕ) → t < 16 → u < 16 → bit u (65535 - 2 ^ t) ≡ cond (eqb u t) 0 1
 unfolding right

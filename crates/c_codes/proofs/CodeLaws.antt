@@ -90,22 +90,17 @@ answers rule state files logs marks undo o reader r h e = record {
 
 module _ (limit i n v : ℕ) where
   pub looked-none : limit ≤ i → codeOf (refused n) ≡ codeOf (looked limit i n v)
-  unfolding looked
-  looked-none h = rw (le-ltb i limit h)
+  looked-none h = unfold looked in rw (le-ltb i limit h)
 
   pub looked-some : (value : ℕ) → i < limit → value ≡ v → codeOf (pointer value) ≡ codeOf (looked limit i n v)
-  unfolding looked
-  looked-some value h e = rw (lt-ltb i limit h) (ap (λ (x : ℕ). codeOf (pointer x)) e)
+  looked-some value h e = unfold looked in rw (lt-ltb i limit h) (ap (λ (x : ℕ). codeOf (pointer x)) e)
 
 module _ (x : Transaction) where
   pub state-closed : x .begun ≡ false → 0 ≡ stateOf x
-  unfolding stateOf
-  state-closed e = rw e
+  state-closed e = unfold stateOf in rw e
 
   pub state-stale : x .begun ≡ true → x .stale ≡ true → 2 ≡ stateOf x
-  unfolding stateOf
-  state-stale e q = rw (e, q)
+  state-stale e q = unfold stateOf in rw (e, q)
 
   pub state-open : x .begun ≡ true → x .stale ≡ false → 1 ≡ stateOf x
-  unfolding stateOf
-  state-open e q = rw (e, q)
+  state-open e q = unfold stateOf in rw (e, q)

@@ -7,19 +7,18 @@ use lib.Seq.{take-suc, take-all, getD-at}
 use native.Mathlib.{Nat.{eq-or-lt-of-le, le-of-suc-le-suc, not-suc-le-zero}, Omega.arith}
 use Prim.Native.Nat.{ℕ, zero, suc, _+_, _-_, _*_, _/_, _%_, _≤_, _<_}
 use Rattle.limits.specs.Limits.{fileCount, recordCount}
-use Rattle.state.specs.Journal.{journalLength}
+use Rattle.state.specs.{Journal.{journalLength, decodedAs, decoded}, declared.journal.WriteRecord.WriteRecord, Layout.isSet}
+use Rattle.state.specs.Updates.{flagNumber}
 use Rattle.buffers.{specs.Parts.tabulate, proofs.{BelowLaws.{and-left, and-right, below-at}, PartLaws.le-or-lt}}
 use Rattle.buffers.proofs.TableLaws.{getD-tabulate}
 use Rattle.standings.specs.Table.{placeNumber}
 use Rattle.windows.specs.{declared.Window.Window, Windows.{window, freshWindow}}
-use Rattle.state.specs.{declared.journal.WriteRecord.WriteRecord, Layout.isSet, Updates.flagNumber, Journal.{decodedAs, decoded}}
 use Rattle.admission.proofs.Laws.{unless-zero}
 use Rattle.images.specs.Words.{wordAt, lowFirst}
 use Rattle.images.specs.Images.{numberOf, grantRecord, recordCode, noRecord, recordFrom, undoFrom, storeFrom, journalFrom}
 use Rattle.images.{specs.Images.{blankRecord, canonical, loadRefusal}, proofs.WordLaws.length-low-first}
 use Rattle.c_images.proofs.WriteRecords.{again-decoded, has-record, no-record, code-of-decoded, place-of-decoded}
-use Rattle.c_images.proofs.WriteRecords.{length-of-decoded}
-use Rattle.c_images.proofs.WriteRecords.{grant-read}
+use Rattle.c_images.proofs.WriteRecords.{length-of-decoded, grant-read}
 use Rattle.c_images.proofs.Columns as at
 
 -- ---- bytes
@@ -62,8 +61,7 @@ module _ (f : ℕ → ℕ) where
       (eq-or-lt-of-le (le-of-suc-le-suc h))
 
   pub word-back : (n i : ℕ) → i < n → wordAt (lowFirst f n) i ≡ f i
-  unfolding wordAt
-  word-back n i h = ap₂ (λ (a b : ℕ). a + 256 * b) (low-at n i h) (high-at n i h) ∙ joined (f i)
+  word-back n i h = unfold wordAt in ap₂ (λ (a b : ℕ). a + 256 * b) (low-at n i h) (high-at n i h) ∙ joined (f i)
 
 module _ (bytes : List ℕ) (small : (i : ℕ) → getD bytes i 0 < 256) where
   words-back : (n : ℕ) → 2 * n ≤ length bytes → lowFirst (wordAt bytes) n ≡ take (2 * n) bytes
@@ -87,21 +85,18 @@ flag-set (suc (suc n)) h = absurd (not-suc-le-zero (le-of-suc-le-suc h))
 
 module _ (w : ℕ → ℕ) (passes : loadRefusal w ≡ 0) where
   format-is : w 0 ≡ 1
-  unfolding loadRefusal
-  format-is = eqb-true (w 0) 1 (unless-zero (eqb (w 0) 1) 1 _ (omega arith) passes .0)
+  format-is = unfold loadRefusal in eqb-true (w 0) 1 (unless-zero (eqb (w 0) 1) 1 _ (omega arith) passes .0)
 
   canonical-is : canonical w ≡ true
   unfolding loadRefusal
   canonical-is = unless-zero (canonical w) 2 _ (omega arith) (unless-zero (eqb (w 0) 1) 1 _ (omega arith) passes .1) .0
 
   flag-is : w 57 ≤ 1
-  unfolding canonical
-  flag-is = leb-true (w 57) 1 (and-left (leb (w 57) 1) _ canonical-is)
+  flag-is = unfold canonical in leb-true (w 57) 1 (and-left (leb (w 57) 1) _ canonical-is)
 
   blank : (k : ℕ) → k < recordCount → w 58 ≤ k → blankRecord w k ≡ true
   unfolding canonical
-  blank k h l =
-      pick (ltb k (w 58)) refl
+  blank k h l = pick (ltb k (w 58)) refl
       (below-at (λ j. ltb j (w 58) || blankRecord w j) recordCount k (and-right (leb (w 57) 1) _ canonical-is) h)
     where
       pick : (b : Bool) → ltb k (w 58) ≡ b → b || blankRecord w k ≡ true → blankRecord w k ≡ true
@@ -114,8 +109,7 @@ module _ (w : ℕ → ℕ) (passes : loadRefusal w ≡ 0) where
       getD-tabulate (λ k. w (from + k)) n (i - from) 0 (omega arith) ∙ ap w e
 
   windows-at : (f : ℕ) → f < fileCount → getD (storeFrom w .windows) f freshWindow ≡ window (w (41 + f)) (w (49 + f))
-  unfolding storeFrom
-  windows-at f h = getD-tabulate (λ g. window (w (41 + g)) (w (49 + g))) 8 f freshWindow h
+  windows-at f h = unfold storeFrom in getD-tabulate (λ g. window (w (41 + g)) (w (49 + g))) 8 f freshWindow h
 
   -- Write record k: the one that is said, or none.
   module _ (k : ℕ) (few : k < recordCount) where
@@ -129,9 +123,8 @@ module _ (w : ℕ → ℕ) (passes : loadRefusal w ≡ 0) where
 
     said-or-none : (b : Bool) → ltb k (w 58) ≡ b → grantRecord (w 58) (journalFrom w) k ≡ recordFrom w k
     unfolding journalFrom recordFrom
-    said-or-none true e = has-record (w 58) (journalFrom w) k (ltb-true k (w 58) e)
-        ∙ grant-read (recordFrom w) (replicate journalLength 0) (length-replicate {A = ℕ} journalLength 0) (w 58) k few
-        (ltb-true k (w 58) e)
+    said-or-none true e = has-record (w 58) (journalFrom w) k (ltb-true k (w 58) e) ∙ grant-read (recordFrom w)
+        (replicate journalLength 0) (length-replicate {A = ℕ} journalLength 0) (w 58) k few (ltb-true k (w 58) e)
         ∙ again-decoded (w (84 + k)) (w (148 + k)) (w (212 + k))
     said-or-none false e = let l = ltb-false k (w 58) e in
         no-record (w 58) (journalFrom w) k l ∙ sym (none-said (blank k few l))
@@ -144,8 +137,7 @@ module _ (w : ℕ → ℕ) (passes : loadRefusal w ≡ 0) where
 
   module _ (i : ℕ) where
     records-back : 84 ≤ i → i < 276 → number i ≡ w i
-    unfolding storeFrom undoFrom recordFrom
-    records-back l h = let s = storeFrom w in let j = journalFrom w in
+    records-back l h = unfold storeFrom undoFrom recordFrom in let s = storeFrom w in let j = journalFrom w in
         ⊎-elim (λ a. ⊎-elim (λ b. let e : 212 + (i - 212) ≡ i = omega arith in at.record-length-number s j i b h
         ∙ ap (λ (x : WriteRecord). x .length) (record-back (i - 212) (omega arith)) ∙ length-of-decoded _ _ _ ∙ ap w e)
         (λ b. let e : 148 + (i - 148) ≡ i = omega arith in at.place-number s j i a b
@@ -154,8 +146,7 @@ module _ (w : ℕ → ℕ) (passes : loadRefusal w ≡ 0) where
         ∙ ap recordCode (record-back (i - 84) (omega arith)) ∙ code-of-decoded _ _ _ ∙ ap w e) (le-or-lt 148 i)
 
     found-back : 60 ≤ i → i < 84 → number i ≡ w i
-    unfolding storeFrom undoFrom
-    found-back l h = let s = storeFrom w in let j = journalFrom w in
+    found-back l h = unfold storeFrom undoFrom in let s = storeFrom w in let j = journalFrom w in
         ⊎-elim (λ a. at.found-length-number s j i a h ∙ column 76 8 i a (omega arith))
         (λ a. at.found-offset-number s j i l a ∙ column 60 16 i l (omega arith)) (le-or-lt 76 i)
 
@@ -166,15 +157,13 @@ module _ (w : ℕ → ℕ) (passes : loadRefusal w ≡ 0) where
         l a ∙ ap (λ (x : Window). x .start) (windows-at (i - 41) (omega arith)) ∙ ap w e) (le-or-lt 49 i)
 
     tables-back : 1 ≤ i → i < 41 → number i ≡ w i
-    unfolding storeFrom
-    tables-back l h = let s = storeFrom w in let j = journalFrom w in
+    tables-back l h = unfold storeFrom in let s = storeFrom w in let j = journalFrom w in
         ⊎-elim (λ a. at.committed-length-number s j i a h ∙ column 33 8 i a (omega arith))
         (λ b. ⊎-elim (λ a. at.offset-number s j i a b ∙ column 17 16 i a (omega arith)) (λ a. at.file-number s j i l a
         ∙ column 1 16 i l (omega arith)) (le-or-lt 17 i)) (le-or-lt 33 i)
 
   decoded-back : number 57 ≡ w 57
-  unfolding storeFrom undoFrom
-  decoded-back = at.valid-number (storeFrom w) (journalFrom w) ∙ flag-set (w 57) flag-is
+  decoded-back = unfold storeFrom undoFrom in at.valid-number (storeFrom w) (journalFrom w) ∙ flag-set (w 57) flag-is
 
   counts-back : (number 58 ≡ w 58) × (number 59 ≡ w 59)
   unfolding storeFrom undoFrom

@@ -10,20 +10,16 @@ use Rattle.images.specs.Images.{grantRecord, recordCode, recordNumber, grantNum
 
 module _ (s : StoreMeaning) (journal : List ℕ) where
   pub format-number : numberOf s journal 0 ≡ 1
-  unfolding numberOf tableNumber
-  format-number = refl
+  format-number = unfold numberOf tableNumber in refl
 
   pub valid-number : numberOf s journal 57 ≡ flagNumber (s .undo .valid)
-  unfolding numberOf grantNumber
-  valid-number = refl
+  valid-number = unfold numberOf grantNumber in refl
 
   pub records-number : numberOf s journal 58 ≡ s .undo .used .records
-  unfolding numberOf grantNumber
-  records-number = refl
+  records-number = unfold numberOf grantNumber in refl
 
   pub bytes-number : numberOf s journal 59 ≡ s .undo .used .bytes
-  unfolding numberOf grantNumber
-  bytes-number = refl
+  bytes-number = unfold numberOf grantNumber in refl
 
   module _ (i : ℕ) where
     pub file-number : 1 ≤ i → i < 17 → numberOf s journal i ≡ getD (s .filenumbers) (i - 1) 0
@@ -31,13 +27,11 @@ module _ (s : StoreMeaning) (journal : List ℕ) where
     file-number l h = rw (lt-ltb i 57 (omega arith), le-ltb i 1 (omega arith), lt-ltb i 17 (omega arith))
 
     pub offset-number : 17 ≤ i → i < 33 → numberOf s journal i ≡ getD (s .offsets) (i - 17) 0
-    unfolding numberOf tableNumber
-    offset-number l h =
+    offset-number l h = unfold numberOf tableNumber in
         rw (lt-ltb i 57 (omega arith), le-ltb i 1 (omega arith), le-ltb i 17 (omega arith), lt-ltb i 33 (omega arith))
 
     pub committed-length-number : 33 ≤ i → i < 41 → numberOf s journal i ≡ getD (s .lengths) (i - 33) 0
-    unfolding numberOf tableNumber
-    committed-length-number l h = rw (
+    committed-length-number l h = unfold numberOf tableNumber in rw (
       lt-ltb i 57 (omega arith),
       le-ltb i 1 (omega arith),
       le-ltb i 17 (omega arith),
@@ -46,8 +40,7 @@ module _ (s : StoreMeaning) (journal : List ℕ) where
     )
 
     pub start-number : 41 ≤ i → i < 49 → numberOf s journal i ≡ windowAt s (i - 41) .start
-    unfolding numberOf tableNumber
-    start-number l h = rw (
+    start-number l h = unfold numberOf tableNumber in rw (
       lt-ltb i 57 (omega arith),
       le-ltb i 1 (omega arith),
       le-ltb i 17 (omega arith),
@@ -57,8 +50,7 @@ module _ (s : StoreMeaning) (journal : List ℕ) where
     )
 
     pub end-number : 49 ≤ i → i < 57 → numberOf s journal i ≡ windowAt s (i - 49) .end
-    unfolding numberOf tableNumber
-    end-number l h = rw (
+    end-number l h = unfold numberOf tableNumber in rw (
       lt-ltb i 57 (omega arith),
       le-ltb i 1 (omega arith),
       le-ltb i 17 (omega arith),
@@ -68,8 +60,7 @@ module _ (s : StoreMeaning) (journal : List ℕ) where
     )
 
     pub found-offset-number : 60 ≤ i → i < 76 → numberOf s journal i ≡ getD (s .undo .offsets) (i - 60) 0
-    unfolding numberOf grantNumber
-    found-offset-number l h = rw (
+    found-offset-number l h = unfold numberOf grantNumber in rw (
       le-ltb i 57 (omega arith),
       le-ltb i 58 (omega arith),
       le-ltb i 59 (omega arith),
@@ -78,8 +69,7 @@ module _ (s : StoreMeaning) (journal : List ℕ) where
     )
 
     pub found-length-number : 76 ≤ i → i < 84 → numberOf s journal i ≡ getD (s .undo .lengths) (i - 76) 0
-    unfolding numberOf grantNumber
-    found-length-number l h = rw (
+    found-length-number l h = unfold numberOf grantNumber in rw (
       le-ltb i 57 (omega arith),
       le-ltb i 58 (omega arith),
       le-ltb i 59 (omega arith),
@@ -89,8 +79,7 @@ module _ (s : StoreMeaning) (journal : List ℕ) where
     )
 
     pub code-number : 84 ≤ i → i < 148 → numberOf s journal i ≡ recordCode (grantRecord (s .undo .used .records) journal (i - 84))
-    unfolding numberOf grantNumber recordNumber
-    code-number l h = rw (
+    code-number l h = unfold numberOf grantNumber recordNumber in rw (
       le-ltb i 57 (omega arith),
       le-ltb i 58 (omega arith),
       le-ltb i 59 (omega arith),
@@ -102,8 +91,7 @@ module _ (s : StoreMeaning) (journal : List ℕ) where
 
     pub place-number : 148 ≤ i → i < 212 → numberOf s journal i ≡ placeNumber (grantRecord (s .undo .used .records) journal
         (i - 148) .place)
-    unfolding numberOf grantNumber recordNumber
-    place-number l h = rw (
+    place-number l h = unfold numberOf grantNumber recordNumber in rw (
       le-ltb i 57 (omega arith),
       le-ltb i 58 (omega arith),
       le-ltb i 59 (omega arith),
@@ -116,8 +104,7 @@ module _ (s : StoreMeaning) (journal : List ℕ) where
 
     pub record-length-number : 212 ≤ i → i < 276 → numberOf s journal i ≡ grantRecord (s .undo .used .records) journal
         (i - 212) .length
-    unfolding numberOf grantNumber recordNumber
-    record-length-number l h = rw (
+    record-length-number l h = unfold numberOf grantNumber recordNumber in rw (
       le-ltb i 57 (omega arith),
       le-ltb i 58 (omega arith),
       le-ltb i 59 (omega arith),

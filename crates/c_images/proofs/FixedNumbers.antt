@@ -75,8 +75,7 @@ module _ (r s : List ℕ) (e : storeOf r ≡ storeOf s) where
   grant-same = sym (l .grantUsed) ∙ ap (λ (x : StoreMeaning). x .undo .used) e ∙ m .grantUsed
 
   numbers-same : journalOf r ≡ journalOf s → SameNumbers r s
-  unfolding journalOf
-  numbers-same f = record {
+  numbers-same f = unfold journalOf in record {
     records = λ i h. sym (getD-tabulate (λ k. getD r k 0) 1728 i 0 h) ∙ ap (λ (j : List ℕ). getD j i 0) f
         ∙ getD-tabulate (λ k. getD s k 0) 1728 i 0 h;
     standings = λ t d h g. pair-same (getD r (1728 + 8 * d + t) 0) (getD r (1856 + 8 * d + t) 0)

@@ -6,8 +6,7 @@ use Rattle.c_images.specs.ImagesHold.{ImagesHold, livesAfter, callsOfLiv
 use Rattle.c_images.proofs.{Rejuvenated.{loaded-image, not-refused}, Back.{word-back, image-back}, Lives.lives-from-fresh}
 
 pub images-hold : ImagesHold
-unfolding imageNumbers youngWith
-images-hold = record {
+images-hold = unfold imageNumbers youngWith in record {
   rejuvenates = λ state files logs marks undo newLogs good. (
     not-refused (machineOf state files logs marks undo) newLogs _ (word-back (numberOf _ _) 276) (shaped state) good,
     loaded-image (machineOf state files logs marks undo) newLogs _ (word-back (numberOf _ _) 276) (shaped state),

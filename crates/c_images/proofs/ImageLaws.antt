@@ -30,8 +30,7 @@ refused-by true n h e = absurd (let q : n ≡ 0 = e in omega arith)
 refused-by false n h e = refl
 
 both-passed : (a b : Bool) (n : ℕ) → a ≡ true → b ≡ true → n ≡ unless a 1 (unless b 2 n)
-unfolding unless
-both-passed a b n ea eb = rw (ea, eb)
+both-passed a b n ea eb = unfold unless in rw (ea, eb)
 
 -- ---- the check
 
@@ -56,8 +55,7 @@ module _ (state files logs marks undo : List ℕ) (n : ℕ) (next : Turn) where
 
   pub granting-answer : (m : Machine) (after : List ℕ) → n ≡ 0 → next ≡ answerWith doneAnswer m
       → Meets (passing n [] from next) Done m [] × LeftAsFound Done state after
-  unfolding answerWith said
-  granting-answer m after e is = let q = passing-on n [] from next e ∙ is in (
+  granting-answer m after e is = unfold answerWith said in let q = passing-on n [] from next e ∙ is in (
     record {
       outcome = sym (ap (λ (w : Turn). w .reply .answer) q);
       machine = sym (ap (λ (w : Turn). w .after) q);
@@ -72,25 +70,21 @@ module _ (state files logs marks undo : List ℕ) (g : Gate)
   checked o = let m = machineOf state files logs marks undo in Meets (checkRule m) o m [] × LeftAsFound o state state
 
   pub check-refused : (r : Refusal) → g ≡ GateRefused r → checked (Refused r)
-  unfolding checkRule
-  check-refused r e = refusing state files logs marks undo _ _ r (gate-number g _ says r e)
+  check-refused r e = unfold checkRule in refusing state files logs marks undo _ _ r (gate-number g _ says r e)
 
   pub check-passed : g ≡ Pass → checked Done
   unfolding checkRule
   check-passed e = granting-answer state files logs marks undo _ _ (machineOf state files logs marks undo) state
-      (gate-zero g _ says e)
-      refl
+      (gate-zero g _ says e) refl
 
 -- ---- loading
 
 module _ (w : ℕ → ℕ) where
   pub another-format : (w 0 ≡ 1 → ⊥) → 1 ≡ loadRefusal w
-  unfolding loadRefusal unless
-  another-format h = rw (ne-eqb (w 0) 1 h)
+  another-format h = unfold loadRefusal unless in rw (ne-eqb (w 0) 1 h)
 
   pub not-canonical : w 0 ≡ 1 → canonical w ≡ false → 2 ≡ loadRefusal w
-  unfolding loadRefusal unless
-  not-canonical h e = rw (eq-eqb (w 0) 1 h, e)
+  not-canonical h e = unfold loadRefusal unless in rw (eq-eqb (w 0) 1 h, e)
 
   -- The gate on the young record says the rest.
   pub image-gate-says : w 0 ≡ 1 → canonical w ≡ true → (young : List ℕ) → Young w young → (g : Gate)
@@ -103,11 +97,9 @@ pub load-follows : (numbers bytes old state files logs marks undo young files′
     (wordAt numbers) ≡ 0 → Young (wordAt numbers) young → length marks ≡ bufferBytes → files′ ≡ bytes → marks′ ≡ replicate
     (length marks) 0 → undo′ ≡ old → Meets (loadRule numbers bytes old (machineOf state files logs marks undo)) Done
     (machineOf young files′ logs marks′ undo′) [] × LeftAsFound Done state young
-unfolding loadRule youngWith
 load-follows numbers bytes old state files logs marks undo young files′ marks′ undo′ passes y l is-files is-marks is-undo =
-    let m = is-marks ∙ ap (λ (n : ℕ). replicate n 0) l in
+    unfold loadRule youngWith in let m = is-marks ∙ ap (λ (n : ℕ). replicate n 0) l in
     let same : machineOf young files′ logs marks′ undo′ ≡ youngWith (wordAt numbers) bytes old logs =
     λ i. lent (y .store i) (y .journal i) (is-files i) logs (m i) (is-undo i) in
     granting-answer state files logs marks undo _ _ (machineOf young files′ logs marks′ undo′) young passes
-    (ap (answerWith doneAnswer)
-    (sym same))
+    (ap (answerWith doneAnswer) (sym same))

@@ -26,8 +26,7 @@ twins-alike : (cs : List Call) (m n : Machine) → Twins m n → Alike cs m n
 twins-alike cs m n w = alike m n (w .first) (w .second) (w .same) cs
 
 twins-values : (m n : Machine) → Twins m n → committedIn m ≡ committedIn n
-unfolding view
-twins-values m n w = ap (λ (s : Abstract). s .value) (w .same)
+twins-values m n w = unfold view in ap (λ (s : Abstract). s .value) (w .same)
 
 lastReply : Reply → List Reply → Reply
 lastReply r [] = r
@@ -47,8 +46,7 @@ twins-reply cs c m n w = let any = call c m .reply in
 -- Both go down: the first is recovered from its state, the second loaded from its image.
 down-twins : (logs marks : List ℕ) → length logs ≡ bufferBytes → length marks ≡ bufferBytes → (m n : Machine) → Twins m n
     → Twins (recovered logs marks m) (rejuvenated n logs)
-unfolding view
-down-twins logs marks size wide m n w = record {
+down-twins logs marks size wide m n w = unfold view in record {
   first = recovered-sound logs marks m (w .first) size wide;
   second = young-sound n (w .second) logs size;
   same = recovered-view logs marks m ∙ ap (λ (s : Abstract). startAbstract (s .fileOf) (s .value) (s .windows) (s .back))
@@ -66,8 +64,7 @@ module _ (numbers : List ℕ) (m₀ : Machine) (made : FreshlyMade numbers m₀)
   from-fresh = lives-from-fresh numbers m₀ made ls
 
   reached : (cs : List Call) → Reached (callsAfter cs whole)
-  unfolding runsAfter
-  reached cs = record {
+  reached cs = unfold runsAfter in record {
     numbers = numbers;
     first = m₀;
     made = made;
@@ -105,11 +102,10 @@ module _ (a b : Machine) (w : Twins a b) (r : Reached a) (logs : List ℕ) (size
       call (commit t minute) b .reply .answer ≡ granted n → grantsAmong (callsReplies zs after) ≡ 0
       → grantsAmong (callsReplies ys young) ≡ 0 → call undoCommit m .reply .answer ≡ doneAnswer
       → committedIn (call undoCommit m .after) ≡ committedIn b
-  unfolding runsAfter grantsInRuns run-of afterAll
-  undo-loaded zs ys t minute n g none-before none-after taken = let c = commit t minute in let after-a = call c a .after in
-      let after-b = call c b .after in let after : Twins after-a after-b = twins-after (c ∷ []) a b w in
-      let saved = twins-after zs after-a after-b after in let found = recovered logs marks (callsAfter zs after-a) in
-      let young = rejuvenated (callsAfter zs after-b) logs in
+  undo-loaded zs ys t minute n g none-before none-after taken = unfold runsAfter grantsInRuns run-of afterAll in
+      let c = commit t minute in let after-a = call c a .after in let after-b = call c b .after in
+      let after : Twins after-a after-b = twins-after (c ∷ []) a b w in let saved = twins-after zs after-a after-b after in
+      let found = recovered logs marks (callsAfter zs after-a) in let young = rejuvenated (callsAfter zs after-b) logs in
       let down = down-twins logs marks size (length-replicate bufferBytes zero) _ _ saved in
       let end-a = call undoCommit (callsAfter ys found) .after in
       let end-b = call undoCommit (callsAfter ys young) .after in

@@ -5,14 +5,13 @@ use lib.{Dec.ltb, ListN.{getD, length, replicate, length-replicate, getD-replica
 use native.Mathlib.Omega.{arith}
 use Prim.Native.Nat.{ℕ, _+_, _-_, _≤_, _<_, min}
 use Rattle.limits.specs.Limits.{fileCount, bufferBytes, transactionCount, recordCount}
-use Rattle.state.specs.Journal.{journalLength}
+use Rattle.state.specs.Journal.{journalLength, decoded, lastGrant, writeRecordAt, withRecords}
+use Rattle.state.specs.declared.{StoreMeaning.StoreMeaning, Transaction.Transaction, journal.WriteRecord.WriteRecord}
+use Rattle.state.specs.{StoreMeaning.{ended, noTransaction, transaction, windowAt}, Layout.isSet, Updates.flagNumber}
+use Rattle.state.proofs.{LayoutLaws.flag-back, JournalLaws.{with-same, read-own}}
 use Rattle.buffers.{specs.Parts.tabulate, proofs.{BelowLaws.{and-both, below-all}, TableLaws.table-same}}
 use Rattle.standings.specs.Table.{placeNumber}
 use Rattle.windows.specs.Windows.{window, freshWindow}
-use Rattle.state.specs.declared.{StoreMeaning.StoreMeaning, Transaction.Transaction, journal.WriteRecord.WriteRecord}
-use Rattle.state.specs.{StoreMeaning.{ended, noTransaction, transaction, windowAt}, Layout.isSet, Updates.flagNumber}
-use Rattle.state.{specs.Journal.{decoded, lastGrant, writeRecordAt, withRecords}, proofs.LayoutLaws.flag-back}
-use Rattle.state.proofs.JournalLaws.{with-same, read-own}
 use Rattle.admission.{specs.{FirstRefusal.unless, Admission.storeIn}, proofs.Laws.{in-range, in-range-intro, landed-in}}
 use Rattle.spec.specs.{Machine.{Machine, lent}, Calls.{freshStore, freshMachine}, Age.rejuvenated}
 use Rattle.spec.proofs.Refinement.{Relation.Shaped, UndoValues.{SameGrant, undo-same}, IndexedLists.tabulate-getD}
@@ -119,23 +118,20 @@ module _ (s : StoreMeaning) (journal : List ℕ) (w : ℕ → ℕ) (same : (i : 
         ∙ ap (λ (n : ℕ). grantRecord (s .undo .used .records) journal n .length) p
 
     record-is : k < s .undo .used .records → recordFrom w k ≡ writeRecordAt journal lastGrant k
-    unfolding recordFrom writeRecordAt
-    record-is h = let e = has-record (s .undo .used .records) journal k h in let a = code-is ∙ ap recordCode e in
-        let b = place-is ∙ ap (λ (x : WriteRecord). placeNumber (x .place)) e in
+    record-is h = unfold recordFrom writeRecordAt in let e = has-record (s .undo .used .records) journal k h in
+        let a = code-is ∙ ap recordCode e in let b = place-is ∙ ap (λ (x : WriteRecord). placeNumber (x .place)) e in
         let c = length-is ∙ ap (λ (x : WriteRecord). x .length) e in (λ i. decoded (a i) (b i) (c i)) ∙ again-decoded _ _ _
 
     blank-is : s .undo .used .records ≤ k → blankRecord w k ≡ true
-    unfolding blankRecord
-    blank-is h = let e = no-record (s .undo .used .records) journal k h in
+    blank-is h = unfold blankRecord in let e = no-record (s .undo .used .records) journal k h in
         and-both _ _ (eq-eqb _ _ (code-is ∙ ap recordCode e)) (and-both _ _ (eq-eqb _ _ (place-is ∙ ap (λ (x : WriteRecord).
         placeNumber (x .place)) e)) (eq-eqb _ _ (length-is ∙ ap (λ (x : WriteRecord). x .length) e)))
 
   journal-is : journalFrom w ≡ youngJournal s journal
-  unfolding journalFrom
-  journal-is = let n = s .undo .used .records in let own = writeRecordAt journal lastGrant in
-      sym (records-cut (recordFrom w) zeros long-zeros (w 58))
-      ∙ ap (λ (m : ℕ). withRecords zeros lastGrant (recordFrom w) (min m recordCount)) records-are ∙ with-same zeros lastGrant
-      (recordFrom w) own (min n recordCount) (λ k h. record-is k (omega arith) (omega arith)) ∙ records-cut own zeros long-zeros n
+  journal-is = unfold journalFrom in let n = s .undo .used .records in let own = writeRecordAt journal lastGrant in
+      sym (records-cut (recordFrom w) zeros long-zeros (w 58)) ∙ ap (λ (m : ℕ). withRecords zeros lastGrant (recordFrom w)
+      (min m recordCount)) records-are ∙ with-same zeros lastGrant (recordFrom w) own (min n recordCount)
+      (λ k h. record-is k (omega arith) (omega arith)) ∙ records-cut own zeros long-zeros n
 
   -- ---- it is not refused
 
@@ -144,8 +140,7 @@ module _ (s : StoreMeaning) (journal : List ℕ) (w : ℕ → ℕ) (same : (i : 
   said-or-blank k h false e = let l = ltb-false k (w 58) e in let r = records-are in blank-is k h (omega (arith, l, r))
 
   canonical-is : canonical w ≡ true
-  unfolding canonical
-  canonical-is = let f = same 57 (omega arith) ∙ at.valid-number s journal in
+  canonical-is = unfold canonical in let f = same 57 (omega arith) ∙ at.valid-number s journal in
       and-both _ _ (le-leb (w 57) 1 (omega (arith, f, flag-small (s .undo .valid))))
       (below-all (λ k. ltb k (w 58) || blankRecord w k) recordCount (λ k h. said-or-blank k h (ltb k (w 58)) refl))
 

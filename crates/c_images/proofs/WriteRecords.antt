@@ -45,12 +45,10 @@ module _ (h p n : ℕ) where
 
 module _ (records : ℕ) (journal : List ℕ) (k : ℕ) where
   pub has-record : k < records → grantRecord records journal k ≡ writeRecordAt journal lastGrant k
-  unfolding grantRecord
-  has-record h = rw (lt-ltb k records h)
+  has-record h = unfold grantRecord in rw (lt-ltb k records h)
 
   pub no-record : records ≤ k → grantRecord records journal k ≡ noRecord
-  unfolding grantRecord
-  no-record h = rw (le-ltb k records h)
+  no-record h = unfold grantRecord in rw (le-ltb k records h)
 
 -- ---- records put into a journal are read again
 
@@ -64,8 +62,7 @@ module _ (f : ℕ → WriteRecord) where
   as-each journal (suc n) = ap (putRecord n) (as-each journal n)
 
   length-put : (k : ℕ) (r : List ℕ) → length (putRecord k r) ≡ length r
-  unfolding withRecordAt
-  length-put k r = simp length-set
+  length-put k r = unfold withRecordAt in simp length-set
 
   abbrev first : ℕ → ℕ
   first k = 3 * (recordCount * lastGrant + k)
@@ -97,22 +94,19 @@ module _ (f : ℕ → WriteRecord) where
           ∙ getD-set-same r (first k) (recordCode (f k)) 0 (omega arith)
 
       put-place : getD (putRecord k r) (first k + 1) 0 ≡ placeNumber (f k .place)
-      unfolding withRecordAt
-      put-place = let l = long-one in
+      put-place = unfold withRecordAt in let l = long-one in
           getD-set-other two (first k + 2) (first k + 1) (f k .length) 0 (λ q. omega arith)
           ∙ getD-set-same one (first k + 1) (placeNumber (f k .place)) 0 (omega arith)
 
       put-length : getD (putRecord k r) (first k + 2) 0 ≡ f k .length
-      unfolding withRecordAt
-      put-length = let l = long-two in getD-set-same two (first k + 2) (f k .length) 0 (omega arith)
+      put-length = unfold withRecordAt in let l = long-two in getD-set-same two (first k + 2) (f k .length) 0 (omega arith)
 
   module _ (journal : List ℕ) (long : length journal ≡ journalLength) where
     -- One of the three numbers, c, of record k.
     own-number : (n k c v : ℕ) → n ≤ recordCount → k < n → c < 3 → ((r : List ℕ) → length r ≡ journalLength
         → getD (putRecord k r) (first k + c) 0 ≡ v) → getD (withEach putRecord n journal) (first k + c) 0 ≡ v
-    own-number n k c v few h l own = each-own putRecord length-put (first k + c) n k v journalLength h own
-        (λ i r a b. put-other i r
-        (first k + c) (λ q. b (omega arith)) (λ q. b (omega arith)) (λ q. b (omega arith))) journal long
+    own-number n k c v few h l own = each-own putRecord length-put (first k + c) n k v journalLength h own (λ i r a b.
+        put-other i r (first k + c) (λ q. b (omega arith)) (λ q. b (omega arith)) (λ q. b (omega arith))) journal long
 
     records-read : (n k : ℕ) → n ≤ recordCount → k < n → writeRecordAt (withRecords journal lastGrant f n) lastGrant k ≡ decoded
         (recordCode (f k)) (placeNumber (f k .place)) (f k .length)

@@ -54,17 +54,14 @@ module _ (line : List ℕ) (state files logs marks undo : Lent) (entry : ParsedE
   asked = sym (asks bytes ∙ ap asksNothing (says .means))
 
   nothing-turn : b ≡ true → lineRule (callIn line) m ≡ answerWith doneAnswer m
-  unfolding lineRule
-  nothing-turn e = rw (asked ∙ e) refl
+  nothing-turn e = unfold lineRule in rw (asked ∙ e) refl
 
   call-turn : b ≡ false → lineRule (callIn line) m ≡ turnOf (logEntryOf entry bytes) m
-  unfolding lineRule
-  call-turn e = rw (asked ∙ e, says .means) refl
+  call-turn e = unfold lineRule in rw (asked ∙ e, says .means) refl
 
   pub nothing-replayed : b ≡ true → handedBack state files logs marks undo ≡ m → now (state .exit) ≡ now (state .entry)
       → ReplaysLine line state files logs marks undo (pos 0)
-  unfolding answerWith codeOf
-  nothing-replayed e back left = let w = nothing-turn e in record {
+  nothing-replayed e back left = unfold answerWith codeOf in let w = nothing-turn e in record {
     answer = sym (ap (λ (x : Turn). codeOf (x .reply .answer)) w);
     machine = back ∙ sym (ap (λ (x : Turn). x .after) w);
     buffer = refl;

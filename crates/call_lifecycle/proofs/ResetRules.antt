@@ -1,19 +1,13 @@
 -- Begin and Abort after their tests: the transaction is put anew, its marks are cleared.
-use mathlib.Core.Bool.{Bool}
-use mathlib.Core.List.{List, []}
-use mathlib.Core.Path.{_≡_, ap, _∙_}
+use mathlib.Core.{Bool.Bool, List.{List, []}, Path.{_≡_, ap, _∙_}}
 use lib.ListN.{length}
 use Prim.Native.Nat.{ℕ, _<_}
 use Rattle.limits.specs.Limits.{transactionCount}
 use Rattle.buffers.specs.Marks.{withoutMarks}
-use Rattle.state.specs.declared.outcomes.Outcome.the-variants.{Done}
-use Rattle.state.specs.StoreMeaning.{ended, withBegun}
-use Rattle.state.specs.Layout.{storeOf, journalOf, stateLength}
-use Rattle.state.specs.Updates.{resetAt}
-use Rattle.state.specs.Outcomes.{doneAnswer}
+use Rattle.state.specs.{declared.outcomes.Outcome.the-variants.Done, StoreMeaning.{ended, withBegun}}
+use Rattle.state.specs.{Layout.{storeOf, journalOf, stateLength}, Updates.resetAt, Outcomes.doneAnswer}
 use Rattle.state.proofs.LayoutLaws.{store-reset, journal-reset}
-use Rattle.spec.specs.Calls.{Turn, answerWith, reset}
-use Rattle.spec.specs.Promises.{Meets, machineOf, LeftAsFound}
+use Rattle.spec.specs.{Calls.{Turn, answerWith, reset}, Promises.{Meets, machineOf, LeftAsFound}}
 use Rattle.refinement.proofs.TurnLaws.{reset-meets, done-follows}
 
 pub reset-follows : (t : ℕ) (b : Bool) (state files logs marks undo : List ℕ) → length state ≡ stateLength → t < transactionCount

@@ -59,11 +59,9 @@ chain true true c d b₄ e f b₆ g h =
 
 pub refusal-is : (state files logs marks undo ts : List ℕ) (minute budget : ℕ)
     → listRefusal state ts minute budget ≡ orderRefusal (askedOf minute (machineOf state files logs marks undo)) ts minute budget
-unfolding listRefusal orderRefusal askedOf
-refusal-is state files logs marks undo ts minute budget = chain (isList ts) (allIn (λ t. leb t lastTransaction) ts) _ _
-    (minuteIn minute)
-    _ _ (leb 1 budget && leb budget mostOrders)
-    (λ e. all-same (λ t. leb t lastTransaction) _ _ (open-is state files logs marks undo) ts e)
+refusal-is state files logs marks undo ts minute budget = unfold listRefusal orderRefusal askedOf in
+    chain (isList ts) (allIn (λ t. leb t lastTransaction) ts) _ _ (minuteIn minute) _ _ (leb 1 budget && leb budget
+    mostOrders) (λ e. all-same (λ t. leb t lastTransaction) _ _ (open-is state files logs marks undo) ts e)
     (λ e. all-same (λ t. leb t lastTransaction) _ _ (λ t s. ready-is state files logs marks undo t s minute) ts e)
 
 -- ---- what an admitted list tells
@@ -77,8 +75,7 @@ pub record ListIn (state ts : List ℕ) (minute budget : ℕ) : Type 0 where
   pub affordable : leb 1 budget && leb budget mostOrders ≡ true
 
 pub list-in : (state ts : List ℕ) (minute budget : ℕ) → listRefusal state ts minute budget ≡ 0 → ListIn state ts minute budget
-unfolding listRefusal
-list-in state ts minute budget e = let b = unless-zero (isList ts) 26 _ (omega arith) e in
+list-in state ts minute budget e = unfold listRefusal in let b = unless-zero (isList ts) 26 _ (omega arith) e in
     let c = unless-zero (allIn (λ t. leb t lastTransaction) ts) 3 _ (omega arith) (b .1) in
     let d = unless-zero (allIn (λ t. transactionOf state t .begun) ts) 4 _ (omega arith) (c .1) in
     let f = unless-zero (minuteIn minute) 22 _ (omega arith) (d .1) in

@@ -64,8 +64,7 @@ module _ (F : ℕ → ℕ) (W : Windows) (minute : ℕ) (v₀ : Values) (h : ℕ
         pick false = k
 
     own : isIn t (t ∷ o) ≡ true
-    unfolding isIn
-    own = rw (eq-eqb t t refl) refl
+    own = unfold isIn in rw (eq-eqb t t refl) refl
 
     ok-own : ok t ≡ true
     ok-own = in-test ok t (t ∷ o) fine own
@@ -89,8 +88,7 @@ module _ (F : ℕ → ℕ) (W : Windows) (minute : ℕ) (v₀ : Values) (h : ℕ
     }
 
     ended-inv : Inv o v (put t vacant z) p
-    unfolding put
-    ended-inv = record {
+    ended-inv = unfold put in record {
       offsets = inv .offsets;
       seats = λ u k. ap (λ (a : Bool). cond a vacant (z u)) (in-rest t u o other k) ∙ inv .seats u (behind u k);
       lengths = λ u f k. inv .lengths u f (behind u k);
@@ -112,8 +110,7 @@ module _ (F : ℕ → ℕ) (W : Windows) (minute : ℕ) (v₀ : Values) (h : ℕ
         each false e = hit-same F v v₀ (h u) (λ f s. inv .lengths u f (behind u k) e s) (h t .txn) (placed t ok-own)
 
     granted-inv : Inv o (landed (settings F v (h t .txn)) v) (λ u. touch (settings F v (h t .txn)) (put t vacant z u)) next
-    unfolding touch put next
-    granted-inv = record {
+    granted-inv = unfold touch put next in record {
       offsets = still-holding (h t .txn) v (p .offsets) (inv .offsets) F;
       seats = λ u k. let c = contains (p .stale) u in let gs = settings F v (h t .txn) in
           ap (touch gs) (ap (λ (a : Bool). cond a vacant (z u)) (in-rest t u o other k) ∙ inv .seats u (behind u k))
@@ -126,8 +123,7 @@ module _ (F : ℕ → ℕ) (W : Windows) (minute : ℕ) (v₀ : Values) (h : ℕ
     }
 
     grant-step : contains (p .stale) t ≡ false → OrderStep t o p next (granting t (settings F v (h t .txn)) (state v b z))
-    unfolding granting isGrant next
-    grant-step e = record {
+    grant-step e = unfold granting isGrant next in record {
       value = landed (settings F v (h t .txn)) v;
       back = preserved v;
       seats = λ u. touch (settings F v (h t .txn)) (put t vacant z u);
@@ -140,8 +136,7 @@ module _ (F : ℕ → ℕ) (W : Windows) (minute : ℕ) (v₀ : Values) (h : ℕ
     -- A refusal other than 13.
     stays : (n : ℕ) → (n ≡ 13 → ⊥) → contains (p .stale) t ≡ false
         → OrderStep t o p p (record { reply = record { answer = refused n; buffer = [] }; after = state v b z })
-    unfolding isGrant
-    stays n d e = record {
+    stays n d e = unfold isGrant in record {
       value = v;
       back = b;
       seats = z;
@@ -180,8 +175,7 @@ module _ (F : ℕ → ℕ) (W : Windows) (minute : ℕ) (v₀ : Values) (h : ℕ
   followFrom o p = followAll row closed (λ u. h u .txn) o p
 
   front-fine : (t : ℕ) (o : List ℕ) → allIn ok (t ∷ o) ≡ true → allIn ok o ≡ true
-  unfolding allIn
-  front-fine t o e = and-right (ok t) (allIn ok o) e
+  front-fine t o e = unfold allIn in and-right (ok t) (allIn ok o) e
 
   pub grants-followed : (o : List ℕ) (v : Values) (b : Saved) (z : ℕ → Seat) (p : Pass) → distinct o ≡ true
       → allIn ok o ≡ true → Inv o v z p → grantsIn (λ t x. abstractCommitCall t minute x .reply)

@@ -39,8 +39,7 @@ module _ (state files logs marks undo ts : List ℕ) (minute budget : ℕ)
     answer = ordered (best .grants) (gapOf (asked .hasClosed) budget ts (best .grants)) (length (triedOf budget ts));
     buffer = best .order;
   }
-  unfolding orderReply orderReplied
-  reply-is = ap (orderReplied asked ts budget) (a .passed)
+  reply-is = unfold orderReply orderReplied in ap (orderReplied asked ts budget) (a .passed)
 
   module _ (grants gap : ℕ) (grantsIs : grants ≡ bestTried G tried ts .grants)
       (gapIs : gap ≡ cond (eqb tried all) 0 (countIn (λ t. not (contains shut t)) ts - grants)) where

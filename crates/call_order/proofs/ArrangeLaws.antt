@@ -50,12 +50,10 @@ unfoldable pub moved : ℕ → List ℕ → ℕ → List ℕ
 moved q xs j = take j (without q xs) ++ drop j xs
 
 front-without : (q : ℕ) (xs : List ℕ) → q ≤ length xs → take q (without q xs) ≡ take q xs
-unfolding without
-front-without q xs l = take-at (take q xs) (drop (suc q) xs) q (length-take-le q xs l)
+front-without q xs l = unfold without in take-at (take q xs) (drop (suc q) xs) q (length-take-le q xs l)
 
 pub moved-none : (q : ℕ) (xs : List ℕ) → q ≤ length xs → moved q xs q ≡ xs
-unfolding moved
-moved-none q xs l = ap (λ (ys : List ℕ). ys ++ drop q xs) (front-without q xs l) ∙ take-append-drop q xs
+moved-none q xs l = unfold moved in ap (λ (ys : List ℕ). ys ++ drop q xs) (front-without q xs l) ∙ take-append-drop q xs
 
 getD-without : (q : ℕ) (xs : List ℕ) (j : ℕ) → q ≤ j → getD (without q xs) j 0 ≡ getD xs (suc j) 0
 unfolding without
@@ -97,8 +95,7 @@ take-without (suc q) zero (x ∷ xs) l = absurd (omega arith)
 take-without (suc q) (suc m) (x ∷ xs) l = ap (λ (r : List ℕ). x ∷ r) (take-without q m xs (le-of-suc-le-suc l))
 
 pub moved-all : (q m : ℕ) (xs : List ℕ) → q ≤ m → m < length xs → take m (moved q xs m) ≡ without q (take (suc m) xs)
-unfolding moved
-moved-all q m xs l r = let e = length-without q xs (omega arith) in
+moved-all q m xs l r = unfold moved in let e = length-without q xs (omega arith) in
     take-at (take m (without q xs)) (drop m xs) m (length-take-le m (without q xs) (omega (arith, e)))
     ∙ sym (take-without q m xs l)
 
@@ -108,8 +105,7 @@ moved-all q m xs l r = let e = length-without q xs (omega arith) in
 pub order-more : (order rest after : List ℕ) (k m left f : ℕ) → k < length order → f ≡ factorial m → take m after ≡ without
     (left / f) (take (suc m) rest) → left / f < suc m → take (k + 1) (set order k (getD rest (left / f) 0)) ++ orderAt m
     (left % f) (take m after) ≡ take k order ++ orderAt (suc m) left (take (suc m) rest)
-unfolding orderAt
-order-more order rest after k m left f l e g h = let v = getD rest (left / f) 0 in
+order-more order rest after k m left f l e g h = unfold orderAt in let v = getD rest (left / f) 0 in
     ap₂ (λ (n : ℕ) (ys : List ℕ). take n (set order k v) ++ orderAt m (left % f) ys) (add-one k) g
     ∙ ap (λ (xs : List ℕ). xs ++ orderAt m (left % f) (without (left / f) (take (suc m) rest))) (take-suc-set order k v l)
     ∙ append-snoc (take k order) v (orderAt m (left % f) (without (left / f) (take (suc m) rest)))
@@ -118,5 +114,4 @@ order-more order rest after k m left f l e g h = let v = getD rest (left / f) 0 
     order ++ (getD (take (suc m) rest) (left / n) 0 ∷ orderAt m (left % n) (without (left / n) (take (suc m) rest)))) e
 
 pub order-none : (order rest : List ℕ) (left : ℕ) → order ++ orderAt 0 left rest ≡ order
-unfolding orderAt
-order-none order rest left = append-nil order
+order-none order rest left = unfold orderAt in append-nil order

@@ -63,5 +63,4 @@ tried-most budget ts = ⊎-elim (λ l. let e : min budget (factorial (length ts)
 
 pub best-tried-most : (G : List ℕ → ℕ) (budget : ℕ) (ts : List ℕ) → bestTried G (min budget (factorial (length ts))) ts
     ≡ bestTried G budget ts
-unfolding bestTried
-best-tried-most G budget ts = ap (bestOf G (rated G ts)) (tried-most budget ts)
+best-tried-most G budget ts = unfold bestTried in ap (bestOf G (rated G ts)) (tried-most budget ts)

@@ -11,8 +11,7 @@ module _ (m : Machine) (ts : List ℕ) (minute budget : ℕ) where
   -- Refused with 1 or 2.
   pub first-refused : (r : Refusal) → number r ≡ firstTests (sizes m) (m .store) (m .journal) 0
       → call (bestOrder ts minute budget) m ≡ refuseTurn (number r) [] m
-  unfolding call
-  first-refused r e = rw (sym e) (passing-number r [] m (orderTurn ts minute budget m))
+  first-refused r e = unfold call in rw (sym e) (passing-number r [] m (orderTurn ts minute budget m))
 
   module _ (passes : firstTests (sizes m) (m .store) (m .journal) 0 ≡ 0) where
     call-on : call (bestOrder ts minute budget) m ≡ orderTurn ts minute budget m
@@ -22,11 +21,9 @@ module _ (m : Machine) (ts : List ℕ) (minute budget : ℕ) where
     -- With one of the others.
     pub then-refused : (r : Refusal) → number r ≡ orderRefusal (askedOf minute m) ts minute budget
         → call (bestOrder ts minute budget) m ≡ refuseTurn (number r) [] m
-    unfolding orderTurn orderReply orderReplied refuseTurn
-    then-refused r e = call-on ∙ rw (sym e, number-suc r .1) refl
+    then-refused r e = unfold orderTurn orderReply orderReplied refuseTurn in call-on ∙ rw (sym e, number-suc r .1) refl
 
     -- Answered.
     pub answered-meets : (o : Outcome) (order : List ℕ) → said o ≡ orderReply (askedOf minute m) ts minute budget .answer
         → order ≡ orderReply (askedOf minute m) ts minute budget .buffer → Meets (call (bestOrder ts minute budget) m) o m order
-    unfolding orderTurn
-    answered-meets o order e f = rw call-on (record { outcome = e; machine = refl; reader = f })
+    answered-meets o order e f = unfold orderTurn in rw call-on (record { outcome = e; machine = refl; reader = f })

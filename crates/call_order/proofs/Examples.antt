@@ -6,8 +6,7 @@ use Prim.Native.Nat.{ℕ, _-_}
 use Rattle.call_order.specs.{Answer.orderPart, Examples.OrderCallExamples}
 
 pub order-call-examples : OrderCallExamples
-unfolding orderPart
-order-call-examples = record {
+order-call-examples = unfold orderPart in record {
   front = refl;
   zeros = refl;
   only = λ order e p. p ∙ ap (λ (o : List ℕ). o ++ replicate (8 - length o) 0) e;

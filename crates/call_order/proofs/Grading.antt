@@ -51,8 +51,7 @@ module _ (ok : ℕ → Bool) (row₁ row₂ : ℕ → ℕ) (rows : (t : ℕ) →
       (fit : (t : ℕ) → ok t ≡ true → (os : List ℕ) → fitsAt (txn₁ t) os ≡ fitsAt (txn₂ t) os)
       (set : (t : ℕ) → ok t ≡ true → (os : List ℕ) → offsetsAfter (txn₁ t) os ≡ offsetsAfter (txn₂ t) os) where
     follow-one-same : (t : ℕ) (p : Pass) → ok t ≡ true → followOne row₁ closed₁ txn₁ t p ≡ followOne row₂ closed₂ txn₂ t p
-    unfolding followOne
-    follow-one-same t p e = rw (rows t e, shuts t e, fit t e (p .offsets), set t e (p .offsets)) refl
+    follow-one-same t p e = unfold followOne in rw (rows t e, shuts t e, fit t e (p .offsets), set t e (p .offsets)) refl
 
     follow-same : (o : List ℕ) (p : Pass) → allIn ok o ≡ true → followAll row₁ closed₁ txn₁ o p ≡ followAll row₂ closed₂ txn₂ o p
     unfolding followAll allIn
@@ -82,14 +81,12 @@ module _ (state files logs marks undo ts : List ℕ) (minute budget : ℕ)
 
   members : allIn member ts ≡ true
   unfolding member
-  members = all-both (λ t. leb t lastTransaction) _ ts (listed .small)
-      (all-both (λ t. transactionOf state t .begun) _ ts (listed .begun)
-      (all-by _ ts (λ k l. eq-eqb (row table (getD ts k 0)) _ (tabled k l))))
+  members = all-both (λ t. leb t lastTransaction) _ ts (listed .small) (all-both (λ t. transactionOf state t .begun) _ ts
+      (listed .begun) (all-by _ ts (λ k l. eq-eqb (row table (getD ts k 0)) _ (tabled k l))))
 
   module _ (t : ℕ) (e : member t ≡ true) where
     small : leb t lastTransaction ≡ true
-    unfolding member
-    small = and-left (leb t lastTransaction) _ e
+    small = unfold member in and-left (leb t lastTransaction) _ e
 
     begun : transactionOf state t .begun ≡ true
     unfolding member
@@ -112,8 +109,7 @@ module _ (state files logs marks undo ts : List ℕ) (minute budget : ℕ)
         state logs u minute) 8 t below-eight ∙ ap (λ (b : Bool). b && hasByteForClosed state logs t minute) begun
 
     fit-is : (os : List ℕ) → fitsAt (descriptorsIn state t) os ≡ fitsAt (txnIn m t) os
-    unfolding fitsAt txnOf
-    fit-is os = ap (λ (x : Transaction). fitsAt (descriptorsOnly x) os) (sym own-is)
+    fit-is os = unfold fitsAt txnOf in ap (λ (x : Transaction). fitsAt (descriptorsOnly x) os) (sym own-is)
 
     set-is : (os : List ℕ) → offsetsAfter (descriptorsIn state t) os ≡ offsetsAfter (txnIn m t) os
     unfolding offsetsAfter setsOffset txnOf

@@ -16,8 +16,7 @@ module _ (p : ℕ → Bool) (ts : List ℕ) where
   AllLeft k = allIn p ts ≡ allIn p (drop k ts)
 
   all-rest : (k : ℕ) → k < length ts → allIn p (drop k ts) ≡ p (getD ts k 0) && allIn p (drop (k + 1) ts)
-  unfolding allIn
-  all-rest k l = ap (allIn p) (rest ts k l)
+  all-rest k l = unfold allIn in ap (allIn p) (rest ts k l)
 
   pub all-fails : (k : ℕ) → k < length ts → AllLeft k → p (getD ts k 0) ≡ false → allIn p ts ≡ false
   all-fails k l e f = e ∙ all-rest k l ∙ ap (λ (b : Bool). b && allIn p (drop (k + 1) ts)) f
@@ -26,8 +25,7 @@ module _ (p : ℕ → Bool) (ts : List ℕ) where
   all-more k l e f = e ∙ all-rest k l ∙ ap (λ (b : Bool). b && allIn p (drop (k + 1) ts)) f
 
   pub all-done : (k : ℕ) → length ts ≤ k → AllLeft k → allIn p ts ≡ true
-  unfolding allIn
-  all-done k l e = e ∙ ap (allIn p) (drop-of-length-le ts l)
+  all-done k l e = unfold allIn in e ∙ ap (allIn p) (drop-of-length-le ts l)
 
 pub all-at : (p : ℕ → Bool) (ts : List ℕ) (k : ℕ) → allIn p ts ≡ true → k < length ts → p (getD ts k 0) ≡ true
 unfolding allIn
@@ -49,8 +47,7 @@ all-by p (t ∷ ts) h = and-both (p t) _ (h 0 (omega arith)) (all-by p ts (λ k 
 
 module _ (t : ℕ) (ts : List ℕ) where
   in-rest-of : (k : ℕ) → k < length ts → isIn t (drop k ts) ≡ eqb t (getD ts k 0) || isIn t (drop (k + 1) ts)
-  unfolding isIn
-  in-rest-of k l = ap (isIn t) (rest ts k l)
+  in-rest-of k l = unfold isIn in ap (isIn t) (rest ts k l)
 
   pub in-found : (k : ℕ) → k < length ts → eqb t (getD ts k 0) ≡ true → isIn t (drop k ts) ≡ true
   in-found k l f = in-rest-of k l ∙ ap (λ (b : Bool). b || isIn t (drop (k + 1) ts)) f
@@ -59,8 +56,7 @@ module _ (t : ℕ) (ts : List ℕ) where
   in-passed k l f = in-rest-of k l ∙ ap (λ (b : Bool). b || isIn t (drop (k + 1) ts)) f
 
   pub in-empty : (k : ℕ) → length ts ≤ k → isIn t (drop k ts) ≡ false
-  unfolding isIn
-  in-empty k l = ap (isIn t) (drop-of-length-le ts l)
+  in-empty k l = unfold isIn in ap (isIn t) (drop-of-length-le ts l)
 
 -- ---- a list without a repeat
 
@@ -70,8 +66,7 @@ module _ (ts : List ℕ) where
 
   distinct-rest : (k : ℕ) → k < length ts → distinct (drop k ts) ≡ not (isIn (getD ts k 0) (drop (suc k) ts))
       && distinct (drop (k + 1) ts)
-  unfolding distinct
-  distinct-rest k l = rw (add-one k) (ap distinct (drop-cons ts k 0 l))
+  distinct-rest k l = unfold distinct in rw (add-one k) (ap distinct (drop-cons ts k 0 l))
 
   pub distinct-fails : (k : ℕ) → k < length ts → DistinctLeft k → isIn (getD ts k 0) (drop (suc k) ts) ≡ true → distinct ts
       ≡ false
@@ -82,8 +77,7 @@ module _ (ts : List ℕ) where
   distinct-more k l e f = e ∙ distinct-rest k l ∙ ap (λ (b : Bool). not b && distinct (drop (k + 1) ts)) f
 
   pub distinct-done : (k : ℕ) → length ts ≤ k → DistinctLeft k → distinct ts ≡ true
-  unfolding distinct
-  distinct-done k l e = e ∙ ap distinct (drop-of-length-le ts l)
+  distinct-done k l e = unfold distinct in e ∙ ap distinct (drop-of-length-le ts l)
 
 -- ---- counting
 
@@ -92,8 +86,7 @@ module _ (p : ℕ → Bool) (ts : List ℕ) where
   CountLeft n k = n + countIn p (drop k ts) ≡ countIn p ts
 
   count-rest : (k : ℕ) → k < length ts → countIn p (drop k ts) ≡ cond (p (getD ts k 0)) 1 0 + countIn p (drop (k + 1) ts)
-  unfolding countIn
-  count-rest k l = ap (countIn p) (rest ts k l)
+  count-rest k l = unfold countIn in ap (countIn p) (rest ts k l)
 
   pub count-one : (n k : ℕ) → k < length ts → CountLeft n k → p (getD ts k 0) ≡ true → CountLeft (n + 1) (k + 1)
   count-one n k l e f = let a = count-rest k l ∙ ap (λ (b : Bool). cond b 1 0 + countIn p (drop (k + 1) ts)) f in
@@ -104,5 +97,4 @@ module _ (p : ℕ → Bool) (ts : List ℕ) where
       omega arith
 
   pub count-done : (n k : ℕ) → length ts ≤ k → CountLeft n k → n ≡ countIn p ts
-  unfolding countIn
-  count-done n k l e = let a = ap (countIn p) (drop-of-length-le ts l) in omega arith
+  count-done n k l e = unfold countIn in let a = ap (countIn p) (drop-of-length-le ts l) in omega arith

@@ -80,8 +80,7 @@ module _ (fileOf : ℕ → ℕ) (v : Values) (d : ℕ) where
             ∙ pick (setsOffset x d)
 
   commit-offset : (x : Txn) → d < descriptorCount → landed (settings fileOf v x) v (offset d) ≡ final x v
-  unfolding settings
-  commit-offset x l = let bs = byteSettings fileOf v (x .writes) in let os = offsetSettings v x 16 in
+  commit-offset x l = unfold settings in let bs = byteSettings fileOf v (x .writes) in let os = offsetSettings v x 16 in
       let ls = lengthSettings fileOf v (x .writes) 8 in
       ap (λ (u : Values). u (offset d)) (landed-append fileOf v bs (os ++ ls) v ∙ landed-append fileOf v os ls
       (landed bs v)) ∙ landed-at ls (landed os (landed bs v)) (offset d) (lengths-no-offset (x .writes) 8) ∙ offset-landed x

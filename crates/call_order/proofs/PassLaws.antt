@@ -19,18 +19,15 @@ module _ (row : ℕ → ℕ) (o : List ℕ) (k t s g : ℕ) (l : k < length o) (
 
   pub pass-granted : contains s t ≡ false
       → passAll row (drop k o) (short s g) ≡ passAll row (drop (k + 1) o) (short (bitOr s (row t)) (g + 1))
-  unfolding passOne
-  pass-granted h = pass-rest
-      ∙ ap (λ (b : Bool). passAll row (drop (k + 1) o) (cond b (short s g) (short (bitOr s (row t)) (g + 1)))) h
+  pass-granted h = unfold passOne in
+      pass-rest ∙ ap (λ (b : Bool). passAll row (drop (k + 1) o) (cond b (short s g) (short (bitOr s (row t)) (g + 1)))) h
 
   pub pass-skipped : contains s t ≡ true → passAll row (drop k o) (short s g) ≡ passAll row (drop (k + 1) o) (short s g)
-  unfolding passOne
-  pass-skipped h = pass-rest
-      ∙ ap (λ (b : Bool). passAll row (drop (k + 1) o) (cond b (short s g) (short (bitOr s (row t)) (g + 1)))) h
+  pass-skipped h = unfold passOne in
+      pass-rest ∙ ap (λ (b : Bool). passAll row (drop (k + 1) o) (cond b (short s g) (short (bitOr s (row t)) (g + 1)))) h
 
 pub pass-done : (row : ℕ → ℕ) (o : List ℕ) (k : ℕ) (p : Short) → length o ≤ k → passAll row (drop k o) p ≡ p
-unfolding passAll
-pass-done row o k p l = ap (λ (ts : List ℕ). passAll row ts p) (drop-of-length-le o l)
+pass-done row o k p l = unfold passAll in ap (λ (ts : List ℕ). passAll row ts p) (drop-of-length-le o l)
 
 -- ---- with Commit's placing
 
@@ -58,11 +55,9 @@ module _ (row : ℕ → ℕ) (closed : ℕ → Bool) (txn : ℕ → Txn) where
       ∙ ap (λ (u : ℕ). followAll row closed txn (drop (k + 1) o) (followOne row closed txn u p)) (sym e)
 
   pub follow-done : (o : List ℕ) (k : ℕ) (p : Pass) → length o ≤ k → followAll row closed txn (drop k o) p ≡ p
-  unfolding followAll
-  follow-done o k p l = ap (λ (ts : List ℕ). followAll row closed txn ts p) (drop-of-length-le o l)
+  follow-done o k p l = unfold followAll in ap (λ (ts : List ℕ). followAll row closed txn ts p) (drop-of-length-le o l)
 
 -- One octet is asked of the table.
 pub one-octet : (row : ℕ → ℕ) (closed : ℕ → Bool) (txn : ℕ → Txn) (t : ℕ) (p : Pass)
     → followOne (λ u. row t) closed txn t p ≡ followOne row closed txn t p
-unfolding followOne
-one-octet row closed txn t p = refl
+one-octet row closed txn t p = unfold followOne in refl

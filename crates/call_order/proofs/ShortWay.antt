@@ -67,8 +67,7 @@ module _ (row : ℕ → ℕ) (closed : ℕ → Bool) (txn : ℕ → Txn) (ok : �
 
   module _ (t : ℕ) (p : Pass) (q : Short) (good : ok t ≡ true) (a : Alike p q) where
     frees : (d : ℕ) → d < descriptorCount → mayWait (txn t .standing d) ≡ false
-    unfolding waits
-    frees d l = none-below (λ e. mayWait (txn t .standing e)) 16 (free t good) d l
+    frees d l = unfold waits in none-below (λ e. mayWait (txn t .standing e)) 16 (free t good) d l
 
     joined : (u : ℕ) → u < transactionCount → contains (bitOr (q .skipped) (row t)) u ≡ contains
         (bitOr (p .stale) (row t)) u || closed u

@@ -52,8 +52,7 @@ module _ (m : Machine) (sound : Sound m) (minute : ℕ) (daily : minuteIn minute
   start = record { stale = 0; offsets = m .store .offsets; grants = 0 }
 
   small : (t : ℕ) → ready minute m t ≡ true → leb t lastTransaction ≡ true
-  unfolding ready
-  small t e = and-left (leb t lastTransaction) _ e
+  small t e = unfold ready in and-left (leb t lastTransaction) _ e
 
   -- Of a transaction that is ready.
   module _ (t : ℕ) (e : ready minute m t ≡ true) where
@@ -73,8 +72,7 @@ module _ (m : Machine) (sound : Sound m) (minute : ℕ) (daily : minuteIn minute
     seat-is = seat-open m t opened
 
   placed : (t : ℕ) → ready minute m t ≡ true → hasUnplaced (openTxnIn m t .txn .writes) ≡ false
-  unfolding openTxnIn
-  placed t e = or-right-false (transaction (m .store) t .stale) _ (neither t e)
+  placed t e = unfold openTxnIn in or-right-false (transaction (m .store) t .stale) _ (neither t e)
 
   fresh : (t : ℕ) → ready minute m t ≡ true → openTxnIn m t .stale ≡ false
   unfolding openTxnIn
@@ -82,8 +80,7 @@ module _ (m : Machine) (sound : Sound m) (minute : ℕ) (daily : minuteIn minute
 
   rows : (t u : ℕ) → ready minute m u ≡ true → eqb u t ≡ false
       → contains (staleBy m t) u ≡ hit (settings F v (openTxnIn m t .txn)) (openTxnIn m u)
-  unfolding staleBy openTxnIn put newlyStale
-  rows t u e d = let ss = settingsOf m t in
+  rows t u e d = unfold staleBy openTxnIn put newlyStale in let ss = settingsOf m t in
       contains-bits (madeStale t ss m) 8 u (below-eight u e) ∙ made-stale m t ss u (below-eight u e)
       ∙ ap (λ (a : Bool). newlyStale ss (cond a vacant (seat m u))) d ∙ ap (newlyStale ss) (seat-is u e)
       ∙ ap (λ (a : Bool). not a && hit ss (openTxnIn m u)) (fresh u e)
@@ -156,10 +153,9 @@ sound-preserved state files logs marks undo e = let m = machineOf state files lo
 
 all-ready : (m : Machine) (ts : List ℕ) (minute budget : ℕ) → Passed (askedOf minute m) ts minute budget
     → allIn (ready minute m) ts ≡ true
-unfolding ready
-all-ready m ts minute budget a =
-    all-both (λ t. leb t lastTransaction) (λ t. askedOf minute m .isOpen t && not (askedOf minute m .notReady t)) ts (a .numbers)
-    (all-both (askedOf minute m .isOpen) (λ t. not (askedOf minute m .notReady t)) ts (a .isOpen) (a .ready))
+all-ready m ts minute budget a = unfold ready in
+    all-both (λ t. leb t lastTransaction) (λ t. askedOf minute m .isOpen t && not (askedOf minute m .notReady t)) ts
+    (a .numbers) (all-both (askedOf minute m .isOpen) (λ t. not (askedOf minute m .notReady t)) ts (a .isOpen) (a .ready))
 
 pub table-holds : (m : Machine) → Sound m → (ts : List ℕ) (minute budget : ℕ)
     → orderRefusal (askedOf minute m) ts minute budget ≡ 0 → TableHolds m ts minute
@@ -183,8 +179,7 @@ table-law state files logs marks undo ts minute budget a = table-holds (machineO
 
 -- A state that meets 1 or 2 has no answer, and is left.
 refused-holds : (m : Machine) (n : ℕ) → firstTests (sizes m) (m .store) (m .journal) 0 ≡ suc n → BestOrderHolds m
-unfolding call passing refuseTurn
-refused-holds m n z = record {
+refused-holds m n z = unfold call passing refuseTurn in record {
   unchanged = λ ts minute budget. rw z refl;
   answered = λ ts minute budget g k r e. let f = sym (ap (λ (j : ℕ). passing j [] m (orderTurn ts minute budget
       m) .reply .answer) z) ∙ e in absurd (answer-not-refused (ordered g k r) (suc n) tt (sym f));

@@ -19,11 +19,10 @@ use Rattle.spec.specs.Steps.{Stepped, refuse, accept, check, orGivenBack, writt
 use Rattle.spec.specs.Steps.{settledByRead, readSettled, readStep, step, refusesStale, refusedStale}
 use Rattle.spec.proofs.Abstract.AbstractStore.{OpenTxn, Seat, vacant, occupied, Saved, none, preserved, Abstract, startAbstract}
 use Rattle.spec.proofs.Abstract.AbstractStore.{AbstractTurn, abstractRefuse, withSeat, abstractAnswer, abstractBegin}
-use Rattle.spec.proofs.Abstract.AbstractStore.{abstractStepped}
-use Rattle.spec.proofs.Abstract.AbstractStore.{abstractOn, touch, granting, abstractCommitted, abstractCommit, abstractAbort}
-use Rattle.spec.proofs.Abstract.AbstractStore.{abstractPlaces, windowed, abstractWindow, noneOccupied, returned, abstractReturn}
-use Rattle.spec.proofs.Abstract.AbstractStore.{abstractUndo, seated, abstractBestOrder, abstractCall, abstractAfter}
-use Rattle.spec.proofs.Refinement.{Relation.{openTxnIn, view}, OrderTurn.seat-open}
+use Rattle.spec.proofs.Abstract.AbstractStore.{abstractStepped, abstractOn, touch, granting, abstractCommitted, abstractCommit}
+use Rattle.spec.proofs.Abstract.AbstractStore.{abstractAbort, abstractPlaces, windowed, abstractWindow, noneOccupied, returned}
+use Rattle.spec.proofs.Abstract.AbstractStore.{abstractReturn, abstractUndo, seated, abstractBestOrder, abstractCall}
+use Rattle.spec.proofs.{Abstract.AbstractStore.abstractAfter, Refinement.{Relation.{openTxnIn, view}, OrderTurn.seat-open}}
 use Rattle.spec.proofs.Theorems.Serializability.{calls-agree, fresh-facts}
 use Rattle.spec.proofs.Theorems.Recovery.{resting-view, runs-from-fresh, runs-closed}
 use Rattle.state.specs.Outcomes.{doneAnswer}
@@ -351,8 +350,7 @@ not-waiting x b e = none-waits (λ d. mayWait (x .standing d)) 16 (λ d. pick d 
     pick d false q = refl
 
 backed-start : (F : ℕ → ℕ) (v : Values) (ws : Windows) (x : Saved) → BackedAll (startAbstract F v ws x)
-unfolding startAbstract
-backed-start F v ws x = λ u. tt
+backed-start F v ws x = unfold startAbstract in λ u. tt
 
 -- After runs nothing is open, and calls keep it.
 backed-view : (m : Machine) → Reached m → BackedAll (view m)
@@ -364,6 +362,5 @@ backed-view m r = let n = runsAfter (r .runs) (r .first) in
 
 pub never-waits : NeverWaits
 unfolding view openTxnIn
-never-waits m r t l begun e = let b : BackedSeat (occupied (openTxnIn m t)) =
-    subst BackedSeat (seat-open m t (rw (le-leb t lastTransaction l, begun) refl)) (backed-view m r t) in not-waiting
-    (txnIn m t) b e
+never-waits m r t l begun e = let b : BackedSeat (occupied (openTxnIn m t)) = subst BackedSeat
+    (seat-open m t (rw (le-leb t lastTransaction l, begun) refl)) (backed-view m r t) in not-waiting (txnIn m t) b e

@@ -1,61 +1,46 @@
 -- Write records that come in ascending order: the pass over them meets the intervals of the list, in its order. Assumes nothing.
-use mathlib.Core.Bool.{Bool, true, false, cond, _&&_, and-false, false≢true}
-use mathlib.Core.List.{List, []}
-use mathlib.Core.Logic.{⊎-elim}
+use mathlib.Core.{Bool.{Bool, true, false, cond, _&&_, and-false, false≢true}, List.{List, []}, Logic.⊎-elim}
 use mathlib.Core.Path.{_≡_, refl, sym, ap, subst, _∙_}
-use lib.Dec.{leb, ltb, eqb}
-use lib.ListN.{getD, length}
+use lib.{Dec.{leb, ltb, eqb}, ListN.{getD, length}}
 use Prim.Native.Nat.{ℕ, zero, suc, _+_, _-_, _*_, _≤_, _<_}
-use native.Mathlib.Numerals.{add-one}
-use native.Mathlib.Omega.{arith}
+use native.Mathlib.{Numerals.add-one, Omega.arith}
 use borrow.Author.Tests.{eq-eqb, ne-eqb, le-leb, lt-leb}
 use Rattle.limits.specs.Limits.{fileBytes}
-use Rattle.buffers.specs.Parts.{pasted}
-use Rattle.buffers.proofs.PartLaws.{le-or-lt}
-use Rattle.standings.specs.declared.Place.{Place}
-use Rattle.standings.specs.declared.Place.the-variants.{At, After}
-use Rattle.state.specs.declared.journal.WriteRecord.{WriteRecord}
-use Rattle.state.specs.Journal.{writeRecordAt}
-use Rattle.admission.specs.FirstRefusal.{someBelow}
-use Rattle.admission.proofs.Laws.{and-left, some-none, some-more}
+use Rattle.buffers.{specs.Parts.pasted, proofs.PartLaws.le-or-lt}
+use Rattle.standings.specs.declared.{Place.{Place, the-variants.{At, After}}}
+use Rattle.state.specs.{declared.journal.WriteRecord.WriteRecord, Journal.writeRecordAt}
+use Rattle.admission.{specs.FirstRefusal.someBelow, proofs.Laws.{and-left, some-none, some-more}}
 use Rattle.spec.specs.Places.{Interval, interval, listed, noPlace, intervalsOf, encoded}
 use Rattle.spec.proofs.Places.PlacesLaws.{lists-its-places, is-proper, the-one-list}
 use Rattle.call_places.specs.declared.ascending.Sweep.{Sweep}
-use Rattle.read_lookup.specs.Lookup.{Recorded, covers, newest, supplier}
 use Rattle.call_places.specs.Ascending.{unswept, sweptPlace, sweptWrite, sweptRecord, sweptIn, WithinFile, withLast}
 use Rattle.call_places.specs.PlacesCall.{coveredAt, waitsOn, waitsOnFile}
-use Rattle.call_places.proofs.ListLaws.{length-snoc, list-pairs-none}
-use Rattle.call_places.proofs.CoverLaws.{covered-more}
+use Rattle.read_lookup.specs.Lookup.{Recorded, covers, newest, supplier}
+use Rattle.call_places.proofs.{ListLaws.{length-snoc, list-pairs-none}, CoverLaws.covered-more}
 use Rattle.call_places.proofs.SweepLaws.{Last, Swept, Step, sweep-placed, step-record, step-put}
 
 -- ---- the code's cases
 
 module _ (s : Sweep) (p n : ℕ) where
   pub place-begun : s .next ≤ p → sweep-placed s p n true ≡ sweptPlace s p n
-  unfolding sweptPlace
-  place-begun h = rw (le-leb (s .next) p h)
+  place-begun h = unfold sweptPlace in rw (le-leb (s .next) p h)
 
   pub place-joined : p < s .next → sweep-placed s p n false ≡ sweptPlace s p n
-  unfolding sweptPlace
-  place-joined h = rw (lt-leb (s .next) p h)
+  place-joined h = unfold sweptPlace in rw (lt-leb (s .next) p h)
 
   pub write-none : n ≡ 0 → sweptWrite s (At p) n ≡ s
-  unfolding sweptWrite
-  write-none z = rw (eq-eqb n 0 z)
+  write-none z = unfold sweptWrite in rw (eq-eqb n 0 z)
 
   pub write-some : (n ≡ 0 → ⊥) → sweptWrite s (At p) n ≡ sweptPlace s p n
-  unfolding sweptWrite
-  write-some h = rw (ne-eqb n 0 h)
+  write-some h = unfold sweptWrite in rw (ne-eqb n 0 h)
 
   pub write-unplaced : sweptWrite s (After p) n
       ≡ record { ascending = false; intervals = s .intervals; offset = s .offset; next = s .next }
-  unfolding sweptWrite
-  write-unplaced = refl
+  write-unplaced = unfold sweptWrite in refl
 
 module _ (filenumbers : List ℕ) (f : ℕ) (s : Sweep) (w : WriteRecord) where
   pub record-elsewhere : (getD filenumbers (w .descriptor) 0 ≡ f → ⊥) → sweptRecord filenumbers f s w ≡ s
-  unfolding sweptRecord
-  record-elsewhere h = rw (ne-eqb (getD filenumbers (w .descriptor) 0) f h)
+  record-elsewhere h = unfold sweptRecord in rw (ne-eqb (getD filenumbers (w .descriptor) 0) f h)
 
   pub record-here : getD filenumbers (w .descriptor) 0 ≡ f → (z : Place) → w .place ≡ z
       → sweptRecord filenumbers f s w ≡ sweptWrite s z (w .length)
@@ -95,9 +80,7 @@ module _ (s : Sweep) where
 
 one-waits : (j : Recorded) (t f n : ℕ) → sweptIn j t f (suc n) .ascending ≡ true
     → waitsOn (j .filenumbers) f (writeRecordAt (j .journal) t n) ≡ false
-unfolding sweptIn sweptRecord waitsOn
-one-waits j t f n a =
-    let w = writeRecordAt (j .journal) t n in
+one-waits j t f n a = unfold sweptIn sweptRecord waitsOn in let w = writeRecordAt (j .journal) t n in
     record-waits (sweptIn j t f n) (eqb (getD (j .filenumbers) (w .descriptor) 0) f) (w .place) (w .length) a
 
 module _ (j : Recorded) (t f : ℕ) where
@@ -108,16 +91,13 @@ module _ (j : Recorded) (t f : ℕ) where
   here k = eqb (getD (j .filenumbers) (at k .descriptor) 0) f
 
   pub swept-none : unswept ≡ sweptIn j t f 0
-  unfolding sweptIn
-  swept-none = refl
+  swept-none = unfold sweptIn in refl
 
   pub swept-more : (k : ℕ) → sweptRecord (j .filenumbers) f (sweptIn j t f k) (at k) ≡ sweptIn j t f (k + 1)
-  unfolding sweptIn
-  swept-more k = rw add-one
+  swept-more k = unfold sweptIn in rw add-one
 
   swept-keeps : (k : ℕ) → Keeps (sweptIn j t f k) (sweptIn j t f (suc k))
-  unfolding sweptIn sweptRecord
-  swept-keeps k = record-keeps (sweptIn j t f k) (here k) (at k .place) (at k .length)
+  swept-keeps k = unfold sweptIn sweptRecord in record-keeps (sweptIn j t f k) (here k) (at k .place) (at k .length)
 
   pub swept-few : (k : ℕ) → sweptIn j t f k .intervals ≤ k
   swept-few zero = unfold sweptIn in omega arith
@@ -127,24 +107,17 @@ module _ (j : Recorded) (t f : ℕ) where
   abbrev OnTheWay : ℕ → ℕ → Type 0
   OnTheWay n k = (sweptIn j t f k .ascending ≡ true) × (sweptIn j t f k .intervals ≤ sweptIn j t f n .intervals)
 
-  pub swept-way : (n k : ℕ) → k ≤ n → sweptIn j t f n .ascending ≡ true
-      → OnTheWay n k
-  swept-way zero k h a =
-      let e : zero ≡ k = omega arith in
-      subst (λ (i : ℕ). OnTheWay zero i) e (a, omega arith)
+  pub swept-way : (n k : ℕ) → k ≤ n → sweptIn j t f n .ascending ≡ true → OnTheWay n k
+  swept-way zero k h a = let e : zero ≡ k = omega arith in subst (λ (i : ℕ). OnTheWay zero i) e (a, omega arith)
   swept-way (suc n) k h a =
-      ⊎-elim
-      (λ g. let w = swept-way n k g (swept-keeps n .0 a) in (w .0, omega (arith, w .1, swept-keeps n .1)))
-      (λ g. let e : suc n ≡ k = omega arith in
-      subst (λ (i : ℕ). OnTheWay (suc n) i) e (a, omega arith))
-      (le-or-lt k n)
+      ⊎-elim (λ g. let w = swept-way n k g (swept-keeps n .0 a) in (w .0, omega (arith, w .1, swept-keeps n .1)))
+      (λ g. let e : suc n ≡ k = omega arith in subst (λ (i : ℕ). OnTheWay (suc n) i) e (a, omega arith)) (le-or-lt k n)
 
   -- no record waits
   pub swept-placed : (n : ℕ) → sweptIn j t f n .ascending ≡ true → waitsOnFile j t n f ≡ false
   unfolding waitsOnFile
   swept-placed zero a = some-none (λ k. waitsOn (j .filenumbers) f (at k))
-  swept-placed (suc n) a =
-      let e : n + 1 ≡ suc n = omega arith in
+  swept-placed (suc n) a = let e : n + 1 ≡ suc n = omega arith in
       ap (someBelow (λ k. waitsOn (j .filenumbers) f (at k))) (sym e)
       ∙ some-more (λ k. waitsOn (j .filenumbers) f (at k)) n (swept-placed n (swept-keeps n .0 a)) (one-waits j t f n a)
 
@@ -158,22 +131,19 @@ module _ (j : Recorded) (t f : ℕ) where
   put-none-last out = list-pairs-none out ∙ ap (λ (l : List Interval). pasted out 0 (encoded l)) (sym none-listed)
 
   none-covered : Swept (coveredAt j t 0 f) unswept
-  unfolding coveredAt supplier newest
-  none-covered =
-      record {
-        below = λ q i. absurd (false≢true i);
-        within = omega arith;
-        count = ap length none-listed;
-        last = λ h. absurd (omega arith);
-      }
+  none-covered = unfold coveredAt supplier newest in record {
+    below = λ q i. absurd (false≢true i);
+    within = omega arith;
+    count = ap length none-listed;
+    last = λ h. absurd (omega arith);
+  }
 
   module _ (records : ℕ) (within : WithinFile j t records) where
     swept-step : (k : ℕ) → k < records → (sweptIn j t f k .ascending ≡ true → Swept (coveredAt j t k f) (sweptIn j t f k))
         → sweptIn j t f (suc k) .ascending ≡ true → Step (coveredAt j t k f) (coveredAt j t (suc k) f) (sweptIn j t f (suc k))
     unfolding sweptIn sweptRecord covers
-    swept-step k l so a =
-        step-record (coveredAt j t k f) (coveredAt j t (suc k) f) (sweptIn j t f k) (here k) (at k .place) (at k .length)
-        (λ p e. within k p l e) (λ q. covered-more j t k f q) so a
+    swept-step k l so a = step-record (coveredAt j t k f) (coveredAt j t (suc k) f) (sweptIn j t f k) (here k) (at k .place)
+        (at k .length) (λ p e. within k p l e) (λ q. covered-more j t k f q) so a
 
     pub swept-is : (k : ℕ) → k ≤ records → sweptIn j t f k .ascending ≡ true → Swept (coveredAt j t k f) (sweptIn j t f k)
     swept-is zero l a = unfold sweptIn in none-covered
@@ -200,8 +170,7 @@ module _ (j : Recorded) (t f : ℕ) where
           so = swept-is k l (swept-way records k l ascends .0)
 
           met : Last (coveredAt j t k f) v → (1 ≤ v .intervals) × (suc (v .offset) ≤ v .next)
-          met w =
-              let n = length-snoc (w .earlier) (interval (v .offset) (v .next - 1 - v .offset)) in
+          met w = let n = length-snoc (w .earlier) (interval (v .offset) (v .next - 1 - v .offset)) in
               (omega (arith, so .count, ap length (w .joins), n), omega (arith, w .some))
 
       -- the buffer with the pairs of the list of the first k records
@@ -209,8 +178,7 @@ module _ (j : Recorded) (t f : ℕ) where
       with-list k = pasted out 0 (encoded (intervalsOf (coveredAt j t k f)))
 
       pub put-more : (k : ℕ) → k < records → withLast (sweptIn j t f (k + 1)) (with-list k) ≡ with-list (k + 1)
-      put-more k l =
-          let e : suc k ≡ k + 1 = omega arith in
+      put-more k l = let e : suc k ≡ k + 1 = omega arith in
           let step = swept-step k l (swept-is k (omega arith)) (swept-way records (suc k) (omega arith) ascends .0) in
           let fits : 4 * length (intervalsOf (coveredAt j t (suc k) f)) ≤ length out =
           omega (arith, few (suc k) (omega arith), step .swept .count) in

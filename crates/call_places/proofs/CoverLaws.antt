@@ -1,8 +1,6 @@
 -- What the walks over write records tell: which records have no place yet, and which places of a run are covered. Assumes
 -- nothing.
-use mathlib.Core.Bool.{Bool, true, false, cond, _||_, or-false, or-true}
-use mathlib.Core.List.{List}
-use mathlib.Core.Logic.{⊎-elim}
+use mathlib.Core.{Bool.{Bool, true, false, cond, _||_, or-false, or-true}, List.List, Logic.⊎-elim}
 use mathlib.Core.Path.{_≡_, refl, sym, ap, subst, _∙_}
 use lib.ListN.{getD}
 use Prim.Native.Nat.{ℕ, suc, _+_, _-_, _≤_, _<_}
@@ -10,15 +8,10 @@ use native.Mathlib.Omega.{arith}
 use borrow.Author.Tests.{eq-eqb, ne-eqb}
 use Rattle.limits.specs.Limits.{fileBytes}
 use Rattle.buffers.proofs.PartLaws.{le-or-lt}
-use Rattle.standings.specs.declared.Place.{Place}
-use Rattle.standings.specs.declared.Place.the-variants.{At, After}
-use Rattle.state.specs.declared.journal.WriteRecord.{WriteRecord}
-use Rattle.state.specs.Journal.{writeRecordAt}
+use Rattle.standings.specs.declared.{Place.{Place, the-variants.{At, After}}}
+use Rattle.state.specs.{declared.journal.WriteRecord.WriteRecord, Journal.writeRecordAt}
 use Rattle.spec.specs.Places.{noPlace}
-use Rattle.read_lookup.specs.declared.Extent.{Extent}
-use Rattle.read_lookup.specs.declared.Run.{Run}
-use Rattle.read_lookup.specs.declared.Supplier.{Supplier}
-use Rattle.read_lookup.specs.declared.Supplier.the-variants.{File, Record}
+use Rattle.read_lookup.specs.declared.{Extent.Extent, Run.Run, Supplier.{Supplier, the-variants.{File, Record}}}
 use Rattle.read_lookup.specs.Lookup.{Recorded, covers, newest, supplier, isRecord, RunOf}
 use Rattle.call_places.specs.PlacesCall.{coveredAt, waitsOn, Upto, NextOf}
 
@@ -26,20 +19,16 @@ use Rattle.call_places.specs.PlacesCall.{coveredAt, waitsOn, Upto, NextO
 
 module _ (filenumbers : List ℕ) (f : ℕ) (w : WriteRecord) where
   pub waits-elsewhere : (getD filenumbers (w .descriptor) 0 ≡ f → ⊥) → waitsOn filenumbers f w ≡ false
-  unfolding waitsOn
-  waits-elsewhere h = rw (ne-eqb (getD filenumbers (w .descriptor) 0) f h)
+  waits-elsewhere h = unfold waitsOn in rw (ne-eqb (getD filenumbers (w .descriptor) 0) f h)
 
   pub waits-here : getD filenumbers (w .descriptor) 0 ≡ f → (q : Place) → w .place ≡ q → waitsOn filenumbers f w ≡ noPlace q
-  unfolding waitsOn
-  waits-here h q e = rw (eq-eqb (getD filenumbers (w .descriptor) 0) f h) (ap noPlace e)
+  waits-here h q e = unfold waitsOn in rw (eq-eqb (getD filenumbers (w .descriptor) 0) f h) (ap noPlace e)
 
 pub placed-has : (p : ℕ) → noPlace (At p) ≡ false
-unfolding noPlace
-placed-has p = refl
+placed-has p = unfold noPlace in refl
 
 pub unplaced-has-none : (a : ℕ) → noPlace (After a) ≡ true
-unfolding noPlace
-unplaced-has-none a = refl
+unplaced-has-none a = unfold noPlace in refl
 
 -- ---- one record more
 
@@ -70,11 +59,9 @@ module _ (j : Recorded) (t records : ℕ) (e : Extent) (r : Run) (run : RunOf j 
   logged = isRecord (r .supplier)
 
   run-along : (q : ℕ) → e .place ≤ q → q < e .place + r .length → covered q ≡ logged
-  unfolding coveredAt
-  run-along q g l =
-      let i : e .place + (q - e .place) ≡ q = omega arith in
-      ap (λ (x : ℕ). isRecord (supplier j t records (e .file) x)) (sym i) ∙ ap isRecord (run .same (q - e .place) (omega arith))
-      ∙ sym (ap isRecord (run .supplied))
+  run-along q g l = unfold coveredAt in let i : e .place + (q - e .place) ≡ q = omega arith in
+      ap (λ (x : ℕ). isRecord (supplier j t records (e .file) x)) (sym i)
+      ∙ ap isRecord (run .same (q - e .place) (omega arith)) ∙ sym (ap isRecord (run .supplied))
 
   run-first : covered (e .place) ≡ logged
   run-first = run-along (e .place) (omega arith) (omega (arith, run .some))
@@ -82,10 +69,8 @@ module _ (j : Recorded) (t records : ℕ) (e : Extent) (r : Run) (run : RunOf j 
   -- after a run of the file comes a covered place
   run-then : logged ≡ false → r .length < e .length → covered (e .place + r .length) ≡ true
   unfolding coveredAt
-  run-then b l =
-      not-file (supplier j t records (e .file) (e .place + r .length))
-      (λ q. run .longest l (q ∙ sym (supplier-file (supplier j t records (e .file) (e .place))
-      (sym (ap isRecord (run .supplied)) ∙ b))))
+  run-then b l = not-file (supplier j t records (e .file) (e .place + r .length)) (λ q. run .longest l (q
+      ∙ sym (supplier-file (supplier j t records (e .file) (e .place)) (sym (ap isRecord (run .supplied)) ∙ b))))
 
   module _ (whole : e .length ≡ fileBytes - e .place) (inside : e .place < fileBytes) where
     -- the first place is covered
@@ -95,13 +80,12 @@ module _ (j : Recorded) (t records : ℕ) (e : Extent) (r : Run) (run : RunOf j 
 
     -- the first covered place comes after the run
     pub first-covered-after : logged ≡ false → Upto covered false (e .place) (e .place + r .length)
-    first-covered-after b =
-        record {
-          start = omega arith;
-          within = omega (arith, run .within);
-          same = λ q g l. run-along q g l ∙ b;
-          turned = λ l. run-then b (omega arith);
-        }
+    first-covered-after b = record {
+      start = omega arith;
+      within = omega (arith, run .within);
+      same = λ q g l. run-along q g l ∙ b;
+      turned = λ l. run-then b (omega arith);
+    }
 
   -- the walk over runs has come to this one, which is the file's
   pub first-clear-here : (p : ℕ) → p ≤ e .place → e .place ≤ fileBytes
@@ -109,9 +93,8 @@ module _ (j : Recorded) (t records : ℕ) (e : Extent) (r : Run) (run : RunOf j 
   first-clear-here p g l before b = record { start = g; within = l; same = before; turned = λ h. run-first ∙ b }
 
   -- or a record's, and goes on
-  pub first-clear-after : (p : ℕ)
-      → ((q : ℕ) → p ≤ q → q < e .place → covered q ≡ true) → logged ≡ true → (q : ℕ) → p ≤ q → q < e .place + r .length
-      → covered q ≡ true
+  pub first-clear-after : (p : ℕ) → ((q : ℕ) → p ≤ q → q < e .place → covered q ≡ true) → logged ≡ true → (q : ℕ) → p ≤ q
+      → q < e .place + r .length → covered q ≡ true
   first-clear-after p before b q g l = ⊎-elim (λ h. run-along q h l ∙ b) (λ h. before q g h) (le-or-lt (e .place) q)
 
 -- no place is left
@@ -125,6 +108,5 @@ upto-end S b p e = record {
 
 pub next-of : (S : ℕ → Bool) (p offset end n : ℕ) → Upto S false p offset → Upto S true offset end → n ≡ end - offset
     → NextOf S p (record { offset = offset; length = n })
-next-of S p offset end n a b e =
-    let q : end ≡ offset + n = omega (arith, b .start) in
+next-of S p offset end n a b e = let q : end ≡ offset + n = omega (arith, b .start) in
     record { before = a; whole = subst (λ (x : ℕ). Upto S true offset x) q b }

@@ -1,27 +1,17 @@
 -- The rule of the call that lists places, after each of its tests. Assumes nothing.
-use mathlib.Core.Bool.{Bool, true, false, cond}
-use mathlib.Core.List.{List, [], _∷_}
-use mathlib.Core.Path.{_≡_, sym, ap, _∙_}
+use mathlib.Core.{Bool.{Bool, true, false, cond}, List.{List, [], _∷_}, Path.{_≡_, sym, ap, _∙_}}
 use borrow.Author.Tests.{le-leb, lt-leb}
-use lib.Dec.{eqb}
-use lib.ListN.{length}
+use lib.{Dec.eqb, ListN.length}
 use native.Mathlib.Omega.{arith}
 use Prim.Native.Nat.{ℕ, zero, suc, _*_, _≤_, _<_}
 use Rattle.limits.specs.Limits.{lastFile, fileBytes}
-use Rattle.state.specs.StoreMeaning.{transaction}
-use Rattle.state.specs.Outcomes.{pairs, said}
-use Rattle.state.specs.declared.outcomes.Outcome.the-variants.{Pairs}
-use Rattle.admission.specs.Admission.{admission}
-use Rattle.admission.specs.FirstRefusal.{unless}
-use Rattle.spec.specs.Transactions.{Txn}
-use Rattle.spec.specs.Messages.{places}
-use Rattle.spec.specs.Machine.{Machine, sizes, fileOf, txnOf}
+use Rattle.state.specs.{StoreMeaning.transaction, Outcomes.{pairs, said}, declared.outcomes.Outcome.the-variants.Pairs}
+use Rattle.admission.specs.{Admission.admission, FirstRefusal.unless}
+use Rattle.spec.specs.{Transactions.Txn, Messages.places, Machine.{Machine, sizes, fileOf, txnOf}}
 use Rattle.spec.specs.Calls.{Turn, refuseTurn, admitted, placesTurn, call}
 use Rattle.spec.specs.Places.{Interval, interval, withPlace, intervalsFrom, intervalsOf, covered, unplaced, withPairs}
-use Rattle.spec.specs.Places.{placesRefusal, placesReply, placesOf}
-use Rattle.spec.specs.Promises.{Meets}
-use Rattle.refinement.proofs.Decoded.{Opened}
-use Rattle.refinement.proofs.TurnLaws.{passing-on}
+use Rattle.spec.specs.{Places.{placesRefusal, placesReply, placesOf}, Promises.Meets}
+use Rattle.refinement.proofs.{Decoded.Opened, TurnLaws.passing-on}
 use Rattle.read_lookup.specs.Lookup.{Recorded, recorded}
 use Rattle.call_places.specs.PlacesCall.{coveredAt, waitsOnFile}
 use Rattle.call_places.proofs.MachineLaws.{unplaced-in, intervals-in}
@@ -48,8 +38,7 @@ from-length S p (suc n) = pick (S p) (from-length S (suc p) n)
     pick false h = omega arith
 
 pub intervals-few : (S : ℕ → Bool) → length (intervalsOf S) ≤ fileBytes
-unfolding intervalsOf
-intervals-few S = from-length S 0 fileBytes
+intervals-few S = unfold intervalsOf in from-length S 0 fileBytes
 
 -- ---- the call
 
@@ -65,13 +54,11 @@ module _ (t f : ℕ) (out : List ℕ) (m : Machine) (passes : admission (sizes m
   replied : (n : ℕ) → placesRefusal (fileOf (m .store)) f out txn ≡ n
       → call (places t f out) m ≡ record { reply = placesReply (fileOf (m .store)) f out txn n; after = m }
   unfolding call admitted placesTurn placesOf
-  replied n e =
-      passing-on (admission (sizes m) (m .store) (m .journal) t) out m (placesTurn t f out m) passes
+  replied n e = passing-on (admission (sizes m) (m .store) (m .journal) t) out m (placesTurn t f out m) passes
       ∙ ap (λ (k : ℕ). record { reply = placesReply (fileOf (m .store)) f out txn k; after = m }) e
 
   pub places-no-file : lastFile < f → call (places t f out) m ≡ refuseTurn 6 out m
-  unfolding placesRefusal unless placesReply refuseTurn
-  places-no-file h = replied 6 (rw (lt-leb f lastFile h))
+  places-no-file h = unfold placesRefusal unless placesReply refuseTurn in replied 6 (rw (lt-leb f lastFile h))
 
   -- So many write records the code read.
   module _ (low : f ≤ lastFile) (records : ℕ) (read : records ≡ transaction (m .store) t .used .records) where
@@ -87,23 +74,20 @@ module _ (t f : ℕ) (out : List ℕ) (m : Machine) (passes : admission (sizes m
 
     module _ (o : Opened (m .store) (m .journal) (m .logs) t) (placed : waitsOnFile held t records f ≡ false) where
       listed : intervalsOf (covered (fileOf (m .store)) f (txn .writes)) ≡ list
-      listed =
-          intervals-in (m .store) (m .journal) (m .logs) t f (o .small) (o .size) (o .ranges)
+      listed = intervals-in (m .store) (m .journal) (m .logs) t f (o .small) (o .size) (o .ranges)
           ∙ ap (λ (n : ℕ). intervalsOf (coveredAt held t n f)) (sym read)
 
       pub places-too-long : length out < 4 * length list → call (places t f out) m ≡ refuseTurn 16 out m
-      unfolding placesRefusal unless placesReply refuseTurn
-      places-too-long h = replied 16
-          (rw (le-leb f lastFile low, waiting-is, placed, listed, lt-leb (4 * length list) (length out) h))
+      places-too-long h = unfold placesRefusal unless placesReply refuseTurn in
+          replied 16 (rw (le-leb f lastFile low, waiting-is, placed, listed, lt-leb (4 * length list) (length out) h))
 
       pub places-meets : 4 * length list ≤ length out → (n : ℕ) → n ≡ length list
           → Meets (call (places t f out) m) (Pairs n) m (withPairs list out)
       unfolding placesRefusal unless placesReply said
-      places-meets h n e =
-          let reply = replied 0
-          (rw (le-leb f lastFile low, waiting-is, placed, listed, le-leb (4 * length list) (length out) h)) in
-          record {
+      places-meets h n e = let reply = replied 0
+          (rw (le-leb f lastFile low, waiting-is, placed, listed, le-leb (4 * length list) (length out) h)) in record {
             outcome = ap pairs (e ∙ sym (ap length listed)) ∙ sym (ap (λ (w : Turn). w .reply .answer) reply);
             machine = sym (ap (λ (w : Turn). w .after) reply);
-            reader = ap (λ (l : List Interval). withPairs l out) (sym listed) ∙ sym (ap (λ (w : Turn). w .reply .buffer) reply);
+            reader = ap (λ (l : List Interval). withPairs l out) (sym listed)
+                ∙ sym (ap (λ (w : Turn). w .reply .buffer) reply);
           }

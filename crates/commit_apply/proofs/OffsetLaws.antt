@@ -1,31 +1,18 @@
 -- Commit's placing, and the offsets that it sets, descriptor by descriptor.
-use mathlib.Core.Bool.{Bool, true, false, cond, not, _&&_}
-use mathlib.Core.Logic.{⊎-elim}
-use mathlib.Core.List.{List, [], _∷_}
-use mathlib.Core.Path.{_≡_, refl, sym, ap, _∙_}
-use lib.Dec.{leb}
-use lib.ListN.{length, getD, set, length-set}
-use lib.Seq.{getD-set-other}
+use mathlib.Core.{Bool.{Bool, true, false, cond, not, _&&_}, Logic.⊎-elim, List.{List, [], _∷_}, Path.{_≡_, refl, sym, ap, _∙_}}
+use lib.{Dec.leb, ListN.{length, getD, set, length-set}, Seq.getD-set-other}
 use borrow.Author.Tests.{le-leb, lt-leb, leb-true}
-use native.Mathlib.Numerals.{add-one}
-use native.Mathlib.Omega.{arith}
+use native.Mathlib.{Numerals.add-one, Omega.arith}
 use Prim.Native.Nat.{ℕ, zero, suc, _+_, _-_, _≤_, _<_}
 use Rattle.limits.specs.Limits.{fileBytes, descriptorCount}
-use Rattle.state.specs.declared.StoreMeaning.{StoreMeaning}
-use Rattle.state.specs.declared.Transaction.{Transaction}
-use Rattle.state.specs.StoreMeaning.{standingAt, dirtyAt, withOffsets}
-use Rattle.state.specs.Layout.{storeOf, journalOf}
-use Rattle.state.specs.Updates.{withOffsetAt}
+use Rattle.state.specs.declared.{StoreMeaning.StoreMeaning, Transaction.Transaction}
+use Rattle.state.specs.{StoreMeaning.{standingAt, dirtyAt, withOffsets}, Layout.{storeOf, journalOf}, Updates.withOffsetAt}
 use Rattle.state.proofs.LayoutLaws.{store-with-offset, journal-with-offset}
 use Rattle.buffers.proofs.PartLaws.{le-or-lt}
-use Rattle.standings.specs.declared.Standing.{Standing}
-use Rattle.standings.specs.declared.Standing.the-variants.{Untouched, Placed, Deferred, Moved, Known}
+use Rattle.standings.specs.declared.{Standing.{Standing, the-variants.{Untouched, Placed, Deferred, Moved, Known}}}
 use Rattle.standings.specs.Table.{advance, finalOffset, mayWait, isTouched}
-use Rattle.admission.specs.FirstRefusal.{below}
-use Rattle.admission.proofs.Laws.{below-at}
-use Rattle.spec.specs.Items.{offset}
-use Rattle.spec.specs.Commits.{setsOffset, offsetSettings, fits}
-use Rattle.spec.specs.Calls.{landOffset, landOffsets}
+use Rattle.admission.{specs.FirstRefusal.below, proofs.Laws.below-at}
+use Rattle.spec.specs.{Items.offset, Commits.{setsOffset, offsetSettings, fits}, Calls.{landOffset, landOffsets}}
 use Rattle.commit_apply.specs.Apply.{offsetsOnly, descriptorsOnly, placesFit, Means}
 use Rattle.commit_apply.proofs.Settings.{offsets-append}
 
@@ -36,10 +23,8 @@ abbrev pub offsetFitsAt : StoreMeaning → Transaction → ℕ → Bool
 offsetFitsAt s x d = leb (getD (s .offsets) d 0 + advance (standingAt x d)) fileBytes
 
 waiting-fits : (a c end : ℕ) → c ≤ fileBytes → end ≡ fileBytes - c + 1 → not (leb end a) ≡ leb (c + a) fileBytes
-waiting-fits a c end l e =
-    ⊎-elim (λ h. ap not (le-leb end a h) ∙ sym (lt-leb (c + a) fileBytes (omega arith)))
-    (λ h. ap not (lt-leb end a h) ∙ sym (le-leb (c + a) fileBytes (omega arith)))
-    (le-or-lt end a)
+waiting-fits a c end l e = ⊎-elim (λ h. ap not (le-leb end a h) ∙ sym (lt-leb (c + a) fileBytes (omega arith)))
+    (λ h. ap not (lt-leb end a h) ∙ sym (le-leb (c + a) fileBytes (omega arith))) (le-or-lt end a)
 
 -- It does where no write may wait past the room behind that offset.
 pub room-fits : (z : Standing) (c end : ℕ) → c ≤ fileBytes → end ≡ fileBytes - c + 1
@@ -52,8 +37,7 @@ room-fits (Known o) c end l e = sym (le-leb (c + 0) fileBytes (omega arith))
 
 module _ (s : StoreMeaning) (x : Transaction) where
   pub placed-all : below (offsetFitsAt s x) 16 ≡ placesFit s x
-  unfolding fits offsetsOnly
-  placed-all = refl
+  placed-all = unfold fits offsetsOnly in refl
 
   pub fits-at : placesFit s x ≡ true → (d : ℕ) → d < descriptorCount
       → getD (s .offsets) d 0 + advance (standingAt x d) ≤ fileBytes
@@ -68,17 +52,13 @@ module _ (x : Transaction) (offsets : List ℕ) where
   offsetsSet n = landOffsets (offsetSettings (offsetsOnly offsets) (descriptorsOnly x) n) offsets
 
   pub offsets-none : offsetsSet 0 ≡ offsets
-  unfolding offsetSettings landOffsets
-  offsets-none = refl
+  offsets-none = unfold offsetSettings landOffsets in refl
 
   offsets-more : (d : ℕ) (b : Bool) → setsOffset (descriptorsOnly x) d ≡ b
       → offsetsSet (d + 1) ≡ cond b (set (offsetsSet d) d (finalOffset (getD offsets d 0) (standingAt x d))) (offsetsSet d)
   unfolding offsetSettings landOffsets landOffset offsetsOnly
-  offsets-more d b e =
-      rw (add-one, e)
-      (offsets-append (offsetSettings (offsetsOnly offsets) (descriptorsOnly x) d)
-      (cond b (record { item = offset d; to = finalOffset (getD offsets d 0) (standingAt x d) } ∷ []) []) offsets
-      ∙ pick b)
+  offsets-more d b e = rw (add-one, e) (offsets-append (offsetSettings (offsetsOnly offsets) (descriptorsOnly x) d)
+      (cond b (record { item = offset d; to = finalOffset (getD offsets d 0) (standingAt x d) } ∷ []) []) offsets ∙ pick b)
     where
       pick : (b : Bool) → landOffsets (cond b (record { item = offset d; to = finalOffset (getD offsets d 0) (standingAt x d) }
           ∷ []) []) (offsetsSet d)
@@ -97,14 +77,11 @@ module _ (x : Transaction) (offsets : List ℕ) where
   offset-later : (n d : ℕ) → n ≤ d → getD (offsetsSet n) d 0 ≡ getD offsets d 0
   unfolding offsetSettings landOffsets
   offset-later zero d h = refl
-  offset-later (suc n) d h =
-      ap (λ (i : ℕ). getD (offsetsSet i) d 0) (sym (add-one n))
-      ∙ pick (setsOffset (descriptorsOnly x) n) refl
-      ∙ offset-later n d (omega arith)
+  offset-later (suc n) d h = ap (λ (i : ℕ). getD (offsetsSet i) d 0) (sym (add-one n))
+      ∙ pick (setsOffset (descriptorsOnly x) n) refl ∙ offset-later n d (omega arith)
     where
       pick : (b : Bool) → setsOffset (descriptorsOnly x) n ≡ b → getD (offsetsSet (n + 1)) d 0 ≡ getD (offsetsSet n) d 0
-      pick true e =
-          ap (λ (l : List ℕ). getD l d 0) (offsets-more n true e)
+      pick true e = ap (λ (l : List ℕ). getD l d 0) (offsets-more n true e)
           ∙ getD-set-other (offsetsSet n) n d (finalOffset (getD offsets n 0) (standingAt x n)) 0 (λ p. omega arith)
       pick false e = ap (λ (l : List ℕ). getD l d 0) (offsets-more n false e)
 
@@ -112,10 +89,8 @@ module _ (x : Transaction) (offsets : List ℕ) where
   pub offsets-clean : (n : ℕ) → ((d : ℕ) → d < n → dirtyAt x d ≡ false) → offsetsSet n ≡ offsets
   unfolding setsOffset
   offsets-clean zero h = offsets-none
-  offsets-clean (suc n) h =
-      ap offsetsSet (sym (add-one n))
-      ∙ sym (offset-preserved n (ap (λ (b : Bool). b && isTouched (standingAt x n)) (h n (omega arith))))
-      ∙ offsets-clean n (λ d l. h d (omega arith))
+  offsets-clean (suc n) h = ap offsetsSet (sym (add-one n)) ∙ sym (offset-preserved n
+      (ap (λ (b : Bool). b && isTouched (standingAt x n)) (h n (omega arith)))) ∙ offsets-clean n (λ d l. h d (omega arith))
 
 -- ---- and put into a state
 
@@ -127,29 +102,23 @@ module _ (x : Transaction) (before state : List ℕ) (d : ℕ) (few : d < descri
     offset-still = ap (λ (s : StoreMeaning). getD (s .offsets) d 0) (so .store)
         ∙ offset-later x (storeOf before .offsets) d d (omega arith)
 
-    pub offset-put : setsOffset (descriptorsOnly x) d ≡ true
-        → (c n : ℕ) (after : List ℕ) → c ≡ getD (storeOf state .offsets) d 0 → n ≡ finalOffset c (standingAt x d)
-        → after ≡ withOffsetAt state d n
+    pub offset-put : setsOffset (descriptorsOnly x) d ≡ true → (c n : ℕ) (after : List ℕ)
+        → c ≡ getD (storeOf state .offsets) d 0 → n ≡ finalOffset c (standingAt x d) → after ≡ withOffsetAt state d n
         → Means before after (withOffsets (offsetsSet x (storeOf before .offsets) (d + 1)) (storeOf before))
-    offset-put sets c n after reads final e =
-        record {
-          store =
-              ap storeOf e
-              ∙ store-with-offset state (so .long) d n few
-              ∙ ap (λ (s : StoreMeaning). withOffsets (set (s .offsets) d n) s) (so .store)
-              ∙ ap (λ (k : ℕ). withOffsets (set (offsetsSet x (storeOf before .offsets) d) d k) (storeOf before))
-              (final ∙ ap (λ (k : ℕ). finalOffset k (standingAt x d)) (reads ∙ offset-still))
-              ∙ ap (λ (os : List ℕ). withOffsets os (storeOf before)) (offset-set x (storeOf before .offsets) d sets);
-          journal = ap journalOf e ∙ journal-with-offset state (so .long) d n ∙ so .journal;
-          long = ap length e ∙ length-set state _ n ∙ so .long;
-        }
+    offset-put sets c n after reads final e = record {
+      store = ap storeOf e ∙ store-with-offset state (so .long) d n few ∙ ap (λ (s : StoreMeaning). withOffsets
+          (set (s .offsets) d n) s) (so .store) ∙ ap (λ (k : ℕ). withOffsets (set (offsetsSet x (storeOf before .offsets)
+          d) d k) (storeOf before)) (final ∙ ap (λ (k : ℕ). finalOffset k (standingAt x d)) (reads ∙ offset-still))
+          ∙ ap (λ (os : List ℕ). withOffsets os (storeOf before)) (offset-set x (storeOf before .offsets) d sets);
+      journal = ap journalOf e ∙ journal-with-offset state (so .long) d n ∙ so .journal;
+      long = ap length e ∙ length-set state _ n ∙ so .long;
+    }
 
     pub offset-left : setsOffset (descriptorsOnly x) d ≡ false → (after : List ℕ) → after ≡ state
         → Means before after (withOffsets (offsetsSet x (storeOf before .offsets) (d + 1)) (storeOf before))
-    offset-left sets after e =
-        record {
-          store = ap storeOf e ∙ so .store ∙ ap (λ (os : List ℕ). withOffsets os (storeOf before))
-              (offset-preserved x (storeOf before .offsets) d sets);
-          journal = ap journalOf e ∙ so .journal;
-          long = ap length e ∙ so .long;
-        }
+    offset-left sets after e = record {
+      store = ap storeOf e ∙ so .store
+          ∙ ap (λ (os : List ℕ). withOffsets os (storeOf before)) (offset-preserved x (storeOf before .offsets) d sets);
+      journal = ap journalOf e ∙ so .journal;
+      long = ap length e ∙ so .long;
+    }

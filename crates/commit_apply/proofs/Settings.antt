@@ -1,13 +1,10 @@
 -- Settings put into the files, the offsets and the lengths: one list after another, and which of them land where.
-use mathlib.Core.Bool.{Bool, true, false, cond}
-use mathlib.Core.List.{List, [], _∷_, _++_}
-use mathlib.Core.Path.{_≡_, refl, ap, _∙_}
+use mathlib.Core.{Bool.{Bool, true, false, cond}, List.{List, [], _∷_, _++_}, Path.{_≡_, refl, ap, _∙_}}
 use lib.Dec.{ltb}
 use Prim.Native.Nat.{ℕ, zero, suc, _+_, _*_}
 use Rattle.limits.specs.Limits.{fileBytes}
 use Rattle.standings.specs.Table.{finalOffset}
-use Rattle.spec.specs.Items.{offset, fileLength, Values}
-use Rattle.spec.specs.Transactions.{Txn, Write}
+use Rattle.spec.specs.{Items.{offset, fileLength, Values}, Transactions.{Txn, Write}}
 use Rattle.spec.specs.Commits.{Setting, landsAt, bytesFrom, byteSettings, setsOffset, offsetSettings, landedEnd, lengthSettings}
 use Rattle.spec.specs.Calls.{landByte, landFiles, landOffset, landOffsets, landLength, landLengths}
 
@@ -51,18 +48,14 @@ module _ (F : ℕ → ℕ) (v : Values) where
   pub bytes-set-none : (ws : List Write) (offsets : List ℕ) → landOffsets (byteSettings F v ws) offsets ≡ offsets
   unfolding byteSettings landOffsets
   bytes-set-none [] offsets = refl
-  bytes-set-none (w ∷ ws) offsets =
-      offsets-append (bytesFrom (from w) (w .bytes)) (byteSettings F v ws) offsets
-      ∙ ap (landOffsets (byteSettings F v ws)) (interval-sets-none (from w) (w .bytes) offsets)
-      ∙ bytes-set-none ws offsets
+  bytes-set-none (w ∷ ws) offsets = offsets-append (bytesFrom (from w) (w .bytes)) (byteSettings F v ws) offsets
+      ∙ ap (landOffsets (byteSettings F v ws)) (interval-sets-none (from w) (w .bytes) offsets) ∙ bytes-set-none ws offsets
 
   pub bytes-raise-none : (ws : List Write) (lengths : List ℕ) → landLengths (byteSettings F v ws) lengths ≡ lengths
   unfolding byteSettings landLengths
   bytes-raise-none [] lengths = refl
-  bytes-raise-none (w ∷ ws) lengths =
-      lengths-append (bytesFrom (from w) (w .bytes)) (byteSettings F v ws) lengths
-      ∙ ap (landLengths (byteSettings F v ws)) (interval-raises-none (from w) (w .bytes) lengths)
-      ∙ bytes-raise-none ws lengths
+  bytes-raise-none (w ∷ ws) lengths = lengths-append (bytesFrom (from w) (w .bytes)) (byteSettings F v ws) lengths ∙ ap
+      (landLengths (byteSettings F v ws)) (interval-raises-none (from w) (w .bytes) lengths) ∙ bytes-raise-none ws lengths
 
 -- ---- offsets in the offsets alone
 
@@ -74,10 +67,8 @@ module _ (v : Values) (x : Txn) where
   pub offsets-land-none : (files : List ℕ) (n : ℕ) → landFiles (offsetSettings v x n) files ≡ files
   unfolding offsetSettings landFiles landByte
   offsets-land-none files zero = refl
-  offsets-land-none files (suc n) =
-      settings-landed-append (offsetSettings v x n) (setting (setsOffset x n) n) files
-      ∙ one (setsOffset x n) (landFiles (offsetSettings v x n) files)
-      ∙ offsets-land-none files n
+  offsets-land-none files (suc n) = settings-landed-append (offsetSettings v x n) (setting (setsOffset x n) n) files
+      ∙ one (setsOffset x n) (landFiles (offsetSettings v x n) files) ∙ offsets-land-none files n
     where
       one : (b : Bool) (l : List ℕ) → landFiles (setting b n) l ≡ l
       one true l = refl
@@ -86,10 +77,8 @@ module _ (v : Values) (x : Txn) where
   pub offsets-raise-none : (lengths : List ℕ) (n : ℕ) → landLengths (offsetSettings v x n) lengths ≡ lengths
   unfolding offsetSettings landLengths landLength
   offsets-raise-none lengths zero = refl
-  offsets-raise-none lengths (suc n) =
-      lengths-append (offsetSettings v x n) (setting (setsOffset x n) n) lengths
-      ∙ one (setsOffset x n) (landLengths (offsetSettings v x n) lengths)
-      ∙ offsets-raise-none lengths n
+  offsets-raise-none lengths (suc n) = lengths-append (offsetSettings v x n) (setting (setsOffset x n) n) lengths
+      ∙ one (setsOffset x n) (landLengths (offsetSettings v x n) lengths) ∙ offsets-raise-none lengths n
     where
       one : (b : Bool) (l : List ℕ) → landLengths (setting b n) l ≡ l
       one true l = refl
@@ -108,10 +97,8 @@ module _ (F : ℕ → ℕ) (v : Values) (ws : List Write) where
   pub lengths-land-none : (files : List ℕ) (n : ℕ) → landFiles (lengthSettings F v ws n) files ≡ files
   unfolding lengthSettings landFiles landByte
   lengths-land-none files zero = refl
-  lengths-land-none files (suc n) =
-      settings-landed-append (lengthSettings F v ws n) (raising (raises n) n) files
-      ∙ one (raises n) (landFiles (lengthSettings F v ws n) files)
-      ∙ lengths-land-none files n
+  lengths-land-none files (suc n) = settings-landed-append (lengthSettings F v ws n) (raising (raises n) n) files
+      ∙ one (raises n) (landFiles (lengthSettings F v ws n) files) ∙ lengths-land-none files n
     where
       one : (b : Bool) (l : List ℕ) → landFiles (raising b n) l ≡ l
       one true l = refl
@@ -120,10 +107,8 @@ module _ (F : ℕ → ℕ) (v : Values) (ws : List Write) where
   pub lengths-set-none : (offsets : List ℕ) (n : ℕ) → landOffsets (lengthSettings F v ws n) offsets ≡ offsets
   unfolding lengthSettings landOffsets landOffset
   lengths-set-none offsets zero = refl
-  lengths-set-none offsets (suc n) =
-      offsets-append (lengthSettings F v ws n) (raising (raises n) n) offsets
-      ∙ one (raises n) (landOffsets (lengthSettings F v ws n) offsets)
-      ∙ lengths-set-none offsets n
+  lengths-set-none offsets (suc n) = offsets-append (lengthSettings F v ws n) (raising (raises n) n) offsets
+      ∙ one (raises n) (landOffsets (lengthSettings F v ws n) offsets) ∙ lengths-set-none offsets n
     where
       one : (b : Bool) (l : List ℕ) → landOffsets (raising b n) l ≡ l
       one true l = refl

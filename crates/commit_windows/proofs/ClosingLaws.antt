@@ -1,28 +1,17 @@
 -- What the code reads off the state is what the rules say of a transaction's writes.
-use mathlib.Core.Bool.{Bool, false, _&&_, and-false}
-use mathlib.Core.List.{List}
-use mathlib.Core.Path.{_≡_, refl, sym, ap, ap₂, _∙_}
-use lib.Dec.{ltb}
-use lib.ListN.{length, getD}
+use mathlib.Core.{Bool.{Bool, false, _&&_, and-false}, List.List, Path.{_≡_, refl, sym, ap, ap₂, _∙_}}
+use lib.{Dec.ltb, ListN.{length, getD}}
 use native.Mathlib.Omega.{arith}
 use Prim.Native.Nat.{ℕ, zero, suc, _≤_, _<_}
 use Rattle.limits.specs.Limits.{fileCount, bufferBytes, descriptorCount, recordCount}
 use Rattle.windows.specs.Windows.{isClosedAt}
-use Rattle.buffers.proofs.SetLaws.{contains-bits}
-use Rattle.buffers.proofs.MarkLaws.{contains-none}
-use Rattle.state.specs.declared.Transaction.{Transaction}
-use Rattle.state.specs.StoreMeaning.{transaction, windowAt}
-use Rattle.state.specs.Journal.{writeRecordAt}
-use Rattle.state.specs.Layout.{transactionOf, storeOf, journalOf}
-use Rattle.state.proofs.LayoutLaws.{length-journal, transaction-of}
-use Rattle.admission.specs.FirstRefusal.{someBelow}
-use Rattle.admission.proofs.Laws.{TransactionInRange, in-range, record-in}
-use Rattle.spec.specs.Windows.{isForClosed, forClosed}
-use Rattle.spec.specs.Transactions.{Write}
-use Rattle.spec.specs.Machine.{fileOf, writeAt, txnOf}
-use Rattle.refinement.proofs.Shapes.{shaped}
+use Rattle.buffers.proofs.{SetLaws.contains-bits, MarkLaws.contains-none}
+use Rattle.state.specs.{declared.Transaction.Transaction, StoreMeaning.{transaction, windowAt}, Journal.writeRecordAt}
+use Rattle.state.{specs.Layout.{transactionOf, storeOf, journalOf}, proofs.LayoutLaws.{length-journal, transaction-of}}
+use Rattle.admission.{specs.FirstRefusal.someBelow, proofs.Laws.{TransactionInRange, in-range, record-in}}
+use Rattle.spec.specs.{Windows.{isForClosed, forClosed}, Transactions.Write, Machine.{fileOf, writeAt, txnOf}}
 use Rattle.spec.proofs.Refinement.Decode.{decoded-length}
-use Rattle.refinement.proofs.Decoded.{Opened, some-tabulate}
+use Rattle.refinement.proofs.{Shapes.shaped, Decoded.{Opened, some-tabulate}}
 use Rattle.commit_windows.specs.WindowCheck.{OpenIn, closedFiles, recordHasByteFor, hasByteFor, hasByteForClosed}
 
 -- No record has a byte for a file of the empty octet.
@@ -32,8 +21,7 @@ none-closed state t octet e = ap (hasByteFor state t) e ∙ none (transactionOf 
   where
     none : (n : ℕ) → someBelow (recordHasByteFor state t 0) n ≡ false
     none zero = refl
-    none (suc n) =
-        let w = writeRecordAt (journalOf state) t n in
+    none (suc n) = let w = writeRecordAt (journalOf state) t n in
         rw (none n, contains-none (getD (storeOf state .filenumbers) (w .descriptor) 0)) (and-false (ltb 0 (w .length)))
 
 module _ (state : List ℕ) (t : ℕ) (o : OpenIn state t) where
@@ -55,12 +43,11 @@ module _ (state : List ℕ) (t : ℕ) (o : OpenIn state t) where
   few-closing = omega (arith, counts, in-ranges .records)
 
   pub closing-descriptor-in : (k : ℕ) → k < count → writeRecordAt (journalOf state) t k .descriptor < descriptorCount
-  closing-descriptor-in k h =
-      omega (
-        arith,
-        record-in (transaction (storeOf state) t) (writeRecordAt (journalOf state) t k)
-            (in-ranges .writes k (omega (arith, counts))) .descriptor,
-      )
+  closing-descriptor-in k h = omega (
+    arith,
+    record-in (transaction (storeOf state) t) (writeRecordAt (journalOf state) t k)
+        (in-ranges .writes k (omega (arith, counts))) .descriptor,
+  )
 
   pub file-in : (d : ℕ) → d < descriptorCount → getD (storeOf state .filenumbers) d 0 < fileCount
   file-in d h = omega (arith, in-range (storeOf state) (journalOf state) (o .ranges) .files d h)
@@ -72,8 +59,7 @@ module _ (state : List ℕ) (t : ℕ) (o : OpenIn state t) where
     -- By the octet of the closed files.
     pub closed-is : (minute : ℕ) → hasByteFor state t (closedFiles state minute) ≡ hasByteForClosed state logs t minute
     unfolding hasByteFor forClosed txnOf isForClosed recordHasByteFor fileOf closedFiles writeAt
-    closed-is minute =
-        ap (someBelow (recordHasByteFor state t (closedFiles state minute))) (sym counts)
+    closed-is minute = ap (someBelow (recordHasByteFor state t (closedFiles state minute))) (sym counts)
         ∙ sym (some-tabulate test (writeAt (journalOf state) logs t) (recordHasByteFor state t (closedFiles state minute))
         (transaction (storeOf state) t .used .records) each)
       where
@@ -82,8 +68,7 @@ module _ (state : List ℕ) (t : ℕ) (o : OpenIn state t) where
 
         each : (k : ℕ) → k < transaction (storeOf state) t .used .records
             → test (writeAt (journalOf state) logs t k) ≡ recordHasByteFor state t (closedFiles state minute) k
-        each k h =
-            let d = writeRecordAt (journalOf state) t k .descriptor in
+        each k h = let d = writeRecordAt (journalOf state) t k .descriptor in
             let in-count : k < count = omega (arith, counts) in
             ap₂ (λ (n : ℕ) (b : Bool). ltb 0 n && b)
             (decoded-length (storeOf state) (journalOf state) logs t (decoded .size) (decoded .small) (decoded .ranges) k h)

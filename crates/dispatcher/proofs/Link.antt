@@ -3,8 +3,7 @@ use mathlib.Core.Path.{_≡_, refl, ap, _∙_}
 use Prim.Native.Nat.{ℕ, zero, suc}
 use Rattle.spec.specs.Messages.{refusalOf}
 use Rattle.spec_dispatch.specs.Rounds.{refusalIn}
-use Rattle.dispatcher.specs.Promise.{saidOf}
-use Rattle.dispatcher.specs.Link.{DispatcherLinks}
+use Rattle.dispatcher.specs.{Promise.saidOf, Link.DispatcherLinks}
 
 refusal-said : (n : ℕ) → refusalIn (saidOf n) ≡ n
 unfolding refusalIn refusalOf saidOf

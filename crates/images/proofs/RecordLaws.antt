@@ -19,10 +19,8 @@ low-code h p n l = pick (ltb h 16) refl
 
 module _ (state : List ℕ) (fits : (i : ℕ) → getD state i 0 < 65536) where
   pub low-record-descriptor : (k : ℕ) → k < recordCount → writeRecordAt (journalOf state) lastGrant k .descriptor < 65520
-  unfolding writeRecordAt
-  low-record-descriptor k h = rw (record-of state lastGrant k (omega arith) h)
-      (low-code _ _ _ (fits (3 * (recordCount * lastGrant + k))))
+  low-record-descriptor k h = unfold writeRecordAt in
+      rw (record-of state lastGrant k (omega arith) h) (low-code _ _ _ (fits (3 * (recordCount * lastGrant + k))))
 
   pub few-records : storeOf state .undo .used .records < 65536
-  unfolding storeOf undoOf
-  few-records = fits (heldAt + 1)
+  few-records = unfold storeOf undoOf in fits (heldAt + 1)

@@ -17,8 +17,7 @@ module _ (f : ℕ → ℕ) where
     started n = lowFirst f n ++ drop (2 * n) bytes
 
     pub started-none : bytes ≡ started 0
-    unfolding lowFirst
-    started-none = refl
+    started-none = unfold lowFirst in refl
 
     two-more : (n : ℕ) → 2 * n + 2 ≤ length bytes
         → drop (2 * n) bytes ≡ getD bytes (2 * n) 0 ∷ (getD bytes (2 * n + 1) 0 ∷ drop (2 * n + 2) bytes)
@@ -27,8 +26,7 @@ module _ (f : ℕ → ℕ) where
         bytes) e ∙ drop-cons bytes (2 * n + 1) 0 (omega arith) ∙ ap (λ (k : ℕ). getD bytes (2 * n + 1) 0 ∷ drop k bytes) g)
 
     pub started-more : (n : ℕ) → 2 * n + 2 ≤ length bytes → withWordAt (started n) n (f n) ≡ started (n + 1)
-    unfolding lowFirst withWordAt
-    started-more n h = let xs = lowFirst f n in let low = f n % 256 in let high = f n / 256 in
+    started-more n h = unfold lowFirst withWordAt in let xs = lowFirst f n in let low = f n % 256 in let high = f n / 256 in
         let a = getD bytes (2 * n) 0 in let b = getD bytes (2 * n + 1) 0 in let rest = drop (2 * n + 2) bytes in
         let l = length-low-first n in let m : length (xs ++ (low ∷ [])) ≡ 2 * n + 1 = simp length-append (omega arith) in
         let e : 2 * (n + 1) ≡ 2 * n + 2 = omega arith in

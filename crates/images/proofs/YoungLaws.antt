@@ -53,27 +53,23 @@ module _ (w : ℕ → ℕ) where
   putDescriptor-1 d r = set (putDescriptor-0 d r) (offsetsAt + d) (w (17 + d))
 
   length-descriptor : (d : ℕ) (r : List ℕ) → length (putDescriptor w d r) ≡ length r
-  unfolding putDescriptor
-  length-descriptor d r = simp length-set
+  length-descriptor d r = unfold putDescriptor in simp length-set
 
   descriptor-other : (d j : ℕ) (r : List ℕ) → (j ≡ fileNumbersAt + d → ⊥) → (j ≡ offsetsAt + d → ⊥) → (j ≡ foundOffsetsAt + d → ⊥)
       → getD (putDescriptor w d r) j 0 ≡ getD r j 0
-  unfolding putDescriptor
-  descriptor-other d j r n0 n1 n2 = getD-set-other (putDescriptor-1 d r) (foundOffsetsAt + d) j (w (60 + d)) 0 n2
-      ∙ getD-set-other (putDescriptor-0 d r) (offsetsAt + d) j (w (17 + d)) 0 n1
-      ∙ getD-set-other r (fileNumbersAt + d) j (w (1 + d)) 0 n0
+  descriptor-other d j r n0 n1 n2 = unfold putDescriptor in
+      getD-set-other (putDescriptor-1 d r) (foundOffsetsAt + d) j (w (60 + d)) 0 n2 ∙ getD-set-other (putDescriptor-0 d r)
+      (offsetsAt + d) j (w (17 + d)) 0 n1 ∙ getD-set-other r (fileNumbersAt + d) j (w (1 + d)) 0 n0
 
   own-file : (d : ℕ) → d < descriptorCount → (r : List ℕ) → length r ≡ stateLength
-      → getD (putDescriptor w d r) (fileNumbersAt + d) 0
-      ≡ w (1 + d)
+      → getD (putDescriptor w d r) (fileNumbersAt + d) 0 ≡ w (1 + d)
   unfolding putDescriptor
   own-file d h r l = getD-set-other (putDescriptor-1 d r) (foundOffsetsAt + d) (fileNumbersAt + d) (w (60 + d)) 0
       (λ p. omega arith) ∙ getD-set-other (putDescriptor-0 d r) (offsetsAt + d) (fileNumbersAt + d) (w (17 + d)) 0
       (λ p. omega arith) ∙ getD-set-same r (fileNumbersAt + d) (w (1 + d)) 0 (omega arith)
 
   own-offset : (d : ℕ) → d < descriptorCount → (r : List ℕ) → length r ≡ stateLength
-      → getD (putDescriptor w d r) (offsetsAt + d) 0
-      ≡ w (17 + d)
+      → getD (putDescriptor w d r) (offsetsAt + d) 0 ≡ w (17 + d)
   unfolding putDescriptor
   own-offset d h r l = getD-set-other (putDescriptor-1 d r) (foundOffsetsAt + d) (offsetsAt + d) (w (60 + d)) 0
       (λ p. omega arith) ∙ getD-set-same (putDescriptor-0 d r) (offsetsAt + d) (w (17 + d)) 0
@@ -98,8 +94,7 @@ module _ (w : ℕ → ℕ) where
   putFile-2 f r = set (putFile-1 f r) (endsAt + f) (w (49 + f))
 
   length-of-file : (f : ℕ) (r : List ℕ) → length (putFile w f r) ≡ length r
-  unfolding putFile
-  length-of-file f r = simp length-set
+  length-of-file f r = unfold putFile in simp length-set
 
   of-file-other : (f j : ℕ) (r : List ℕ) → (j ≡ lengthsAt + f → ⊥) → (j ≡ startsAt + f → ⊥) → (j ≡ endsAt + f → ⊥)
       → (j ≡ foundLengthsAt + f → ⊥) → getD (putFile w f r) j 0 ≡ getD r j 0
@@ -117,11 +112,10 @@ module _ (w : ℕ → ℕ) where
       ∙ getD-set-same r (lengthsAt + f) (w (33 + f)) 0 (omega arith)
 
   own-start : (f : ℕ) → f < fileCount → (r : List ℕ) → length r ≡ stateLength → getD (putFile w f r) (startsAt + f) 0 ≡ w (41 + f)
-  unfolding putFile
-  own-start f h r l = getD-set-other (putFile-2 f r) (foundLengthsAt + f) (startsAt + f) (w (76 + f)) 0 (λ p. omega arith)
-      ∙ getD-set-other (putFile-1 f r) (endsAt + f) (startsAt + f) (w (49 + f)) 0 (λ p. omega arith)
-      ∙ getD-set-same (putFile-0 f r) (startsAt + f) (w (41 + f)) 0
-      (let e : length (putFile-0 f r) ≡ length r = simp length-set in omega arith)
+  own-start f h r l = unfold putFile in
+      getD-set-other (putFile-2 f r) (foundLengthsAt + f) (startsAt + f) (w (76 + f)) 0 (λ p. omega arith) ∙ getD-set-other
+      (putFile-1 f r) (endsAt + f) (startsAt + f) (w (49 + f)) 0 (λ p. omega arith) ∙ getD-set-same (putFile-0 f r)
+      (startsAt + f) (w (41 + f)) 0 (let e : length (putFile-0 f r) ≡ length r = simp length-set in omega arith)
 
   own-end : (f : ℕ) → f < fileCount → (r : List ℕ) → length r ≡ stateLength → getD (putFile w f r) (endsAt + f) 0 ≡ w (49 + f)
   unfolding putFile
@@ -167,13 +161,11 @@ module _ (w : ℕ → ℕ) where
   long-filed = length-each (putFile w) (length-of-file w) 8 described ∙ long-described
 
   pub long-granted : length granted ≡ stateLength
-  unfolding withLastGrant
-  long-granted = simp length-set long-filed
+  long-granted = unfold withLastGrant in simp length-set long-filed
 
   -- A number before those of the grant.
   before-grant : (j : ℕ) → j < heldAt → getD granted j 0 ≡ getD filed j 0
-  unfolding withLastGrant
-  before-grant j h = let a = set filed heldAt (flagNumber (isSet (w 57))) in
+  before-grant j h = unfold withLastGrant in let a = set filed heldAt (flagNumber (isSet (w 57))) in
       getD-set-other (set a (heldAt + 1) (w 58)) (heldAt + 2) j (w 59) 0 (λ p. omega arith) ∙ getD-set-other a (heldAt + 1)
       j (w 58) 0 (λ p. omega arith) ∙ getD-set-other filed heldAt j (flagNumber (isSet (w 57))) 0 (λ p. omega arith)
 
@@ -239,9 +231,8 @@ module _ (w : ℕ → ℕ) where
       (w 59) 0 (λ p. omega arith) ∙ getD-set-same a (heldAt + 1) (w 58) 0 (omega arith) in
       let bytes : getD (set b (heldAt + 2) (w 59)) (heldAt + 2) 0 ≡ w 59 =
       getD-set-same b (heldAt + 2) (w 59) 0 (omega arith) in
-      let offsets : tabulate (λ d. getD granted (foundOffsetsAt + d) 0) descriptorCount
-      ≡ tabulate (λ d. w (60 + d)) descriptorCount =
-      table-same _ _ 16 at-found-offset in
+      let offsets : tabulate (λ d. getD granted (foundOffsetsAt + d) 0) descriptorCount ≡ tabulate (λ d. w (60 + d))
+      descriptorCount = table-same _ _ 16 at-found-offset in
       let lengths : tabulate (λ f. getD granted (foundLengthsAt + f) 0) fileCount ≡ tabulate (λ f. w (76 + f)) fileCount =
       table-same _ _ 8 at-found-length in λ i. record {
         valid = held i;
@@ -257,11 +248,10 @@ module _ (w : ℕ → ℕ) where
 
   pub store-granted : storeOf granted ≡ storeFrom w
   unfolding storeOf storeFrom windowOf
-  store-granted = let files : tabulate (λ d. getD granted (fileNumbersAt + d) 0) descriptorCount
-      ≡ tabulate (λ d. w (1 + d)) descriptorCount =
-      table-same _ _ 16 at-file in
-      let offsets : tabulate (λ d. getD granted (offsetsAt + d) 0) descriptorCount ≡ tabulate (λ d. w (17 + d)) descriptorCount =
-      table-same _ _ 16 at-offset in
+  store-granted = let files : tabulate (λ d. getD granted (fileNumbersAt + d) 0) descriptorCount ≡ tabulate (λ d. w (1 + d))
+      descriptorCount = table-same _ _ 16 at-file in
+      let offsets : tabulate (λ d. getD granted (offsetsAt + d) 0) descriptorCount ≡ tabulate (λ d. w (17 + d))
+      descriptorCount = table-same _ _ 16 at-offset in
       let lengths : tabulate (λ f. getD granted (lengthsAt + f) 0) fileCount ≡ tabulate (λ f. w (33 + f)) fileCount =
       table-same _ _ 8 at-length in
       let windows : tabulate (windowOf granted) 8 ≡ tabulate (λ f. window (w (41 + f)) (w (49 + f))) fileCount =
@@ -277,10 +267,8 @@ module _ (w : ℕ → ℕ) where
   pub journal-granted : journalOf granted ≡ zeros journalLength
   unfolding journalOf
   journal-granted = table-same (λ k. getD granted k 0) (λ k. getD (zeros journalLength) k 0) journalLength
-      (λ k h. untouched k (omega arith)
-      ∙ zero-anywhere k ∙ sym (zero-at journalLength k h))
-      ∙ ap (λ (n : ℕ). tabulate (λ k. getD (zeros journalLength) k 0) n) (sym (length-zeros journalLength))
-      ∙ tabulate-getD (zeros journalLength) 0
+      (λ k h. untouched k (omega arith) ∙ zero-anywhere k ∙ sym (zero-at journalLength k h)) ∙ ap (λ (n : ℕ). tabulate
+      (λ k. getD (zeros journalLength) k 0) n) (sym (length-zeros journalLength)) ∙ tabulate-getD (zeros journalLength) 0
 
 -- ---- the write records
 
@@ -302,36 +290,32 @@ module _ (f : ℕ → WriteRecord) where
     -- There is no record past the 64th.
     past-last : (l : List ℕ) (k : ℕ) (x : WriteRecord) → length l ≡ journalLength → recordCount ≤ k
         → withRecordAt l lastGrant k x ≡ l
-    unfolding withRecordAt
-    past-last l k x e h =
-        let i = 3 * (recordCount * lastGrant + k) in
+    past-last l k x e h = unfold withRecordAt in let i = 3 * (recordCount * lastGrant + k) in
         ap (λ (t : List ℕ). set (set t (i + 1) (placeNumber (x .place))) (i + 2) (x .length)) (set-out l i _ (omega arith))
-        ∙ ap (λ (t : List ℕ). set t (i + 2) (x .length)) (set-out l (i + 1) _ (omega arith)) ∙ set-out l (i + 2) _ (omega arith)
+        ∙ ap (λ (t : List ℕ). set t (i + 2) (x .length)) (set-out l (i + 1) _ (omega arith))
+        ∙ set-out l (i + 2) _ (omega arith)
 
     all-of-them : (m : ℕ) → withRecords journal lastGrant f (m + recordCount) ≡ withRecords journal lastGrant f recordCount
     unfolding withRecords
     all-of-them zero = refl
     all-of-them (suc m) = ap (withRecords journal lastGrant f) (suc-add m recordCount)
-        ∙ past-last (withRecords journal lastGrant f
-        (m + recordCount)) (m + recordCount) (f (m + recordCount)) (length-with journal lastGrant f (m + recordCount) ∙ long)
-        (omega arith) ∙ all-of-them m
+        ∙ past-last (withRecords journal lastGrant f (m + recordCount)) (m + recordCount) (f (m + recordCount))
+        (length-with journal lastGrant f (m + recordCount) ∙ long) (omega arith) ∙ all-of-them m
 
     pub records-cut : (n : ℕ) → withRecords journal lastGrant f (min n recordCount) ≡ withRecords journal lastGrant f n
-    records-cut n = ⊎-elim (λ h. let e : min n recordCount ≡ n = omega arith in rw e)
-        (λ h. let e : min n recordCount ≡ recordCount = omega arith in let q : n ≡ (n - recordCount) + recordCount =
-        omega arith in rw e (sym (all-of-them (n - recordCount)) ∙ ap (withRecords journal lastGrant f) (sym q)))
-        (le-or-lt n recordCount)
+    records-cut n = ⊎-elim (λ h. let e : min n recordCount ≡ n = omega arith in rw e) (λ h. let e : min n
+        recordCount ≡ recordCount = omega arith in let q : n ≡ (n - recordCount) + recordCount = omega arith in rw e
+        (sym (all-of-them (n - recordCount)) ∙ ap (withRecords journal lastGrant f) (sym q))) (le-or-lt n recordCount)
 
 module _ (w : ℕ → ℕ) where
   abbrev built : List ℕ
   built = withRecords (granted w) lastGrant (recordFrom w) (min (w 58) recordCount)
 
   pub young-built : Young w built
-  unfolding journalFrom
-  young-built = let j = journal-records (recordFrom w) (granted w) (long-granted w) (min (w 58) recordCount) (omega arith) in
-      record {
+  young-built = unfold journalFrom in
+      let j = journal-records (recordFrom w) (granted w) (long-granted w) (min (w 58) recordCount) (omega arith) in record {
         long = length-with (granted w) lastGrant (recordFrom w) (min (w 58) recordCount) ∙ long-granted w;
         store = j .0 ∙ store-granted w;
-        journal = j .1 ∙ ap (λ (l : List ℕ). withRecords l lastGrant (recordFrom w) (min (w 58) recordCount)) (journal-granted w)
-            ∙ records-cut (recordFrom w) (zeros journalLength) (length-zeros journalLength) (w 58);
+        journal = j .1 ∙ ap (λ (l : List ℕ). withRecords l lastGrant (recordFrom w) (min (w 58) recordCount))
+            (journal-granted w) ∙ records-cut (recordFrom w) (zeros journalLength) (length-zeros journalLength) (w 58);
       }

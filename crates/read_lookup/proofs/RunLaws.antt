@@ -1,39 +1,22 @@
 -- The laws of runs: what a write record covers, the walk from the newest record back, and that what it finds is the latest write.
 -- Assumes nothing.
-use mathlib.Core.Bool.{Bool, true, false, cond, _&&_, and-false, false≢true}
-use mathlib.Core.List.{List, [], _∷_, _++_}
-use mathlib.Core.Logic.{_⊎_, inl, inr, ⊎-elim}
-use mathlib.Core.Path.{_≡_, refl, sym, ap, ap₂, _∙_}
-use lib.Dec.{leb, ltb, eqb}
-use lib.ListN.{getD, length}
+use mathlib.Core.{Bool.{Bool, true, false, cond, _&&_, and-false, false≢true}, List.{List, [], _∷_, _++_}}
+use mathlib.Core.{Logic.{_⊎_, inl, inr, ⊎-elim}, Path.{_≡_, refl, sym, ap, ap₂, _∙_}}
+use lib.{Dec.{leb, ltb, eqb}, ListN.{getD, length}}
 use Prim.Native.Nat.{ℕ, zero, suc, _+_, _-_, _≤_, _<_, min, max}
-use native.Mathlib.Nat.{add-zero}
-use native.Mathlib.Numerals.{add-one}
-use native.Mathlib.Omega.{arith}
+use native.Mathlib.{Nat.add-zero, Numerals.add-one, Omega.arith}
 use borrow.Author.Tests.{leb-true, ltb-true, lt-ltb, le-leb, eq-eqb, ne-eqb}
 use Rattle.limits.specs.Limits.{transactionCount}
-use Rattle.standings.specs.declared.Place.{Place}
-use Rattle.standings.specs.declared.Place.the-variants.{At, After}
-use Rattle.standings.specs.Table.{placeNumber}
-use Rattle.state.specs.declared.Transaction.{Transaction}
-use Rattle.state.specs.declared.journal.WriteRecord.{WriteRecord}
-use Rattle.state.specs.Journal.{writeRecordAt}
-use Rattle.admission.specs.FirstRefusal.{sum}
-use Rattle.admission.specs.Admission.{lengthsBefore}
+use Rattle.standings.specs.{declared.Place.{Place, the-variants.{At, After}}, Table.placeNumber}
+use Rattle.state.specs.{declared.{Transaction.Transaction, journal.WriteRecord.WriteRecord}, Journal.writeRecordAt}
+use Rattle.admission.specs.{FirstRefusal.sum, Admission.lengthsBefore}
 use Rattle.admission.proofs.Laws.{and-left, and-right, and-both, TransactionInRange, record-in}
-use Rattle.buffers.specs.Parts.{cut, tabulate}
-use Rattle.buffers.proofs.PartLaws.{le-or-lt, length-cut, getD-cut}
+use Rattle.buffers.{specs.Parts.{cut, tabulate}, proofs.PartLaws.{le-or-lt, length-cut, getD-cut}}
 use Rattle.spec.specs.Reading.{liesOver, byteAt, Source, own, file, supplies, orElse, latest, writeEnd, placedEnd, farthest}
-use Rattle.spec.specs.Reading.{ownEnd}
-use Rattle.spec.specs.Transactions.{Write}
-use Rattle.spec.proofs.Refinement.WriteEnds.{farthest-last}
-use Rattle.read_lookup.specs.declared.Extent.{Extent}
-use Rattle.read_lookup.specs.declared.Run.{Run}
-use Rattle.read_lookup.specs.declared.Supplier.{Supplier}
-use Rattle.read_lookup.specs.declared.Supplier.the-variants.{File, Record}
+use Rattle.spec.{specs.{Reading.ownEnd, Transactions.Write}, proofs.Refinement.WriteEnds.farthest-last}
+use Rattle.read_lookup.specs.declared.{Extent.Extent, Run.Run, Supplier.{Supplier, the-variants.{File, Record}}}
 use Rattle.read_lookup.specs.Lookup.{extent, Recorded, covers, coveredBy, newest, supplier, standsAt, CountedRecords, GapOf}
-use Rattle.read_lookup.specs.Lookup.{LatestWrite, RunOf}
-use Rattle.read_lookup.specs.Lookup.{writeIn, sourceOf, recordEnd, reach}
+use Rattle.read_lookup.specs.Lookup.{LatestWrite, RunOf, writeIn, sourceOf, recordEnd, reach}
 
 -- ---- what a write record covers
 
@@ -43,10 +26,8 @@ untrue false h = refl
 
 over-in : (q : Place) (n p : ℕ) → liesOver q n p ≡ true → (placeNumber q ≤ p) × (p < placeNumber q + n)
 unfolding liesOver
-over-in (At a) n p e = (
-  leb-true a p (and-left (leb a p) (ltb p (a + n)) e),
-  ltb-true p (a + n) (and-right (leb a p) (ltb p (a + n)) e),
-)
+over-in (At a) n p e =
+    (leb-true a p (and-left (leb a p) (ltb p (a + n)) e), ltb-true p (a + n) (and-right (leb a p) (ltb p (a + n)) e))
 over-in (After a) n p e = absurd (false≢true e)
 
 over-along : (q : Place) (n p i : ℕ) → liesOver q n p ≡ true → placeNumber q ≤ i → i < placeNumber q + n → liesOver q n i ≡ true
@@ -67,8 +48,7 @@ module _ (filenumbers : List ℕ) (f p : ℕ) (w : WriteRecord) where
   ofFile = eqb (getD filenumbers (w .descriptor) 0) f
 
   covers-over : covers filenumbers f p w ≡ true → liesOver (w .place) (w .length) p ≡ true
-  unfolding covers
-  covers-over e = and-right ofFile (liesOver (w .place) (w .length) p) e
+  covers-over e = unfold covers in and-right ofFile (liesOver (w .place) (w .length) p) e
 
   pub covers-in : covers filenumbers f p w ≡ true → (startOf w ≤ p) × (p < startOf w + w .length)
   covers-in e = over-in (w .place) (w .length) p (covers-over e)
@@ -77,9 +57,8 @@ module _ (filenumbers : List ℕ) (f p : ℕ) (w : WriteRecord) where
   covers-along : covers filenumbers f p w ≡ true → (i : ℕ) → startOf w ≤ i → i < startOf w + w .length → covers filenumbers f i w
       ≡ true
   unfolding covers
-  covers-along e i g l =
-      and-both ofFile (liesOver (w .place) (w .length) i) (and-left ofFile (liesOver (w .place) (w .length) p) e)
-      (over-along (w .place) (w .length) p i (and-right ofFile (liesOver (w .place) (w .length) p) e) g l)
+  covers-along e i g l = and-both ofFile (liesOver (w .place) (w .length) i) (and-left ofFile (liesOver (w .place)
+      (w .length) p) e) (over-along (w .place) (w .length) p i (and-right ofFile (liesOver (w .place) (w .length) p) e) g l)
 
   pub outside : (p < startOf w) ⊎ (startOf w + w .length ≤ p) → covers filenumbers f p w ≡ false
   outside which =
@@ -94,13 +73,11 @@ module _ (filenumbers : List ℕ) (w : WriteRecord) (e : Extent) where
 
   pub gap-unplaced : (a : ℕ) → w .place ≡ After a → GapOf filenumbers w e (e .length)
   unfolding covers liesOver
-  gap-unplaced a q = gap-all
-      (λ i. ap (λ (x : Place). ofFile filenumbers (e .file) 0 w && liesOver x (w .length) (e .place + i)) q
-      ∙ and-false (ofFile filenumbers (e .file) 0 w))
+  gap-unplaced a q = gap-all (λ i. ap (λ (x : Place). ofFile filenumbers (e .file) 0 w && liesOver x (w .length)
+      (e .place + i)) q ∙ and-false (ofFile filenumbers (e .file) 0 w))
 
   pub gap-other-file : (getD filenumbers (w .descriptor) 0 ≡ e .file → ⊥) → GapOf filenumbers w e (e .length)
-  unfolding covers
-  gap-other-file h = gap-all (λ i. rw (ne-eqb (getD filenumbers (w .descriptor) 0) (e .file) h))
+  gap-other-file h = unfold covers in gap-all (λ i. rw (ne-eqb (getD filenumbers (w .descriptor) 0) (e .file) h))
 
   pub gap-before : startOf w + w .length ≤ e .place → GapOf filenumbers w e (e .length)
   gap-before h = gap-all (λ i. outside filenumbers (e .file) (e .place + i) w (inr (omega arith)))
@@ -111,13 +88,8 @@ module _ (filenumbers : List ℕ) (w : WriteRecord) (e : Extent) where
 
   module _ (p : ℕ) (placed : w .place ≡ At p) (there : getD filenumbers (w .descriptor) 0 ≡ e .file) where
     inside : (i : ℕ) → p ≤ i → i < p + w .length → covers filenumbers (e .file) i w ≡ true
-    unfolding covers liesOver
-    inside i g h = rw (
-      eq-eqb (getD filenumbers (w .descriptor) 0) (e .file) there,
-      placed,
-      le-leb p i g,
-      lt-ltb i (p + w .length) h,
-    )
+    inside i g h = unfold covers liesOver in
+        rw (eq-eqb (getD filenumbers (w .descriptor) 0) (e .file) there, placed, le-leb p i g, lt-ltb i (p + w .length) h)
 
     -- none, where it covers the first
     pub gap-over : p ≤ e .place → e .place < p + w .length → GapOf filenumbers w e 0
@@ -129,19 +101,16 @@ module _ (filenumbers : List ℕ) (w : WriteRecord) (e : Extent) where
 
     -- those before it
     pub gap-after : e .place < p → 0 < w .length → (r : ℕ) → r ≡ min (e .length) (p - e .place) → GapOf filenumbers w e r
-    gap-after g h r m =
-        let s : startOf w ≡ p = ap placeNumber placed in
-        record {
-          within = omega arith;
-          clear = λ i l. outside filenumbers (e .file) (e .place + i) w (inl (omega arith));
-          met = λ l. inside (e .place + r) (omega arith) (omega arith);
-        }
+    gap-after g h r m = let s : startOf w ≡ p = ap placeNumber placed in record {
+      within = omega arith;
+      clear = λ i l. outside filenumbers (e .file) (e .place + i) w (inl (omega arith));
+      met = λ l. inside (e .place + r) (omega arith) (omega arith);
+    }
 
 -- ---- the walk from the newest record back
 
 newest-suc : (c : ℕ → Bool) (n : ℕ) → newest c (suc n) ≡ cond (c n) (Record n) (newest c n)
-unfolding newest
-newest-suc c n = refl
+newest-suc c n = unfold newest in refl
 
 newest-is : (c : ℕ → Bool) (n k : ℕ) → newest c n ≡ Record k → (k < n) × (c k ≡ true)
 unfolding newest
@@ -177,8 +146,7 @@ newest-none c (suc n) e k l = pick (c n) refl (sym (newest-suc c n) ∙ e) (λ e
 newest-only : (c : ℕ → Bool) (n : ℕ) → ((k : ℕ) → k < n → c k ≡ false) → newest c n ≡ File
 unfolding newest
 newest-only c zero h = refl
-newest-only c (suc n) h =
-    newest-suc c n ∙ ap (λ (b : Bool). cond b (Record n) (newest c n)) (h n (omega arith))
+newest-only c (suc n) h = newest-suc c n ∙ ap (λ (b : Bool). cond b (Record n) (newest c n)) (h n (omega arith))
     ∙ newest-only c n (λ k l. h k (omega arith))
 
 abbrev theirs : Recorded → ℕ → ℕ → WriteRecord
@@ -187,13 +155,11 @@ theirs j t k = writeRecordAt (j .journal) t k
 module _ (j : Recorded) (t f : ℕ) where
   -- the record that supplies a place is one of the transaction's and covers it
   supplier-is : (n p k : ℕ) → supplier j t n f p ≡ Record k → (k < n) × (covers (j .filenumbers) f p (theirs j t k) ≡ true)
-  unfolding supplier
-  supplier-is n p k e = newest-is (λ k. covers (j .filenumbers) f p (theirs j t k)) n k e
+  supplier-is n p k e = unfold supplier in newest-is (λ k. covers (j .filenumbers) f p (theirs j t k)) n k e
 
   supplier-suc : (k p : ℕ) → supplier j t (suc k) f p
       ≡ cond (covers (j .filenumbers) f p (theirs j t k)) (Record k) (supplier j t k f p)
-  unfolding supplier
-  supplier-suc k p = newest-suc (λ k. covers (j .filenumbers) f p (theirs j t k)) k
+  supplier-suc k p = unfold supplier in newest-suc (λ k. covers (j .filenumbers) f p (theirs j t k)) k
 
   supplier-this : (k p : ℕ) → covers (j .filenumbers) f p (theirs j t k) ≡ true → supplier j t (suc k) f p ≡ Record k
   supplier-this k p e = supplier-suc k p ∙ ap (λ (b : Bool). cond b (Record k) (supplier j t k f p)) e
@@ -220,8 +186,7 @@ module _ (j : Recorded) (t records : ℕ) (e : Extent) where
     -- one record more, which leaves g of the places
     pub walked-more : (g r : ℕ) → g ≡ r → 1 ≤ g → GapOf (j .filenumbers) (theirs j t k) (extent (e .file) (e .place) n) r
         → Walked j t records e k g
-    walked-more g r a h p =
-        let q : GapOf (j .filenumbers) (theirs j t k) (extent (e .file) (e .place) n) g = rw a p in
+    walked-more g r a h p = let q : GapOf (j .filenumbers) (theirs j t k) (extent (e .file) (e .place) n) g = rw a p in
         record {
           some = h;
           within = omega (arith, w .within, q .within);
@@ -231,9 +196,7 @@ module _ (j : Recorded) (t records : ℕ) (e : Extent) where
         }
       where
         old : n ≤ g → g ≤ n → g < e .length → (m : ℕ) × (k ≤ m) × by g m
-        old s q l =
-            let same : g ≡ n = omega arith in
-            let o = w .ended (omega arith) in
+        old s q l = let same : g ≡ n = omega arith in let o = w .ended (omega arith) in
             (o .0, omega (arith, o .1), ap (λ (i : ℕ). supplier j t records (e .file) (e .place + i)) same ∙ o .2)
 
     -- the record covers the first place where it leaves none
@@ -250,48 +213,36 @@ module _ (j : Recorded) (t records : ℕ) (e : Extent) where
       z = theirs j t k .length
 
       here : supplier j t records (e .file) (e .place) ≡ Record k
-      here =
-          ap (supplier j t records (e .file)) (sym (add-zero (e .place)))
-          ∙ w .same 0 (w .some)
-          ∙ ap (supplier j t (suc k) (e .file)) (add-zero (e .place))
-          ∙ supplier-this j t (e .file) k (e .place) first
+      here = ap (supplier j t records (e .file)) (sym (add-zero (e .place))) ∙ w .same 0 (w .some)
+          ∙ ap (supplier j t (suc k) (e .file)) (add-zero (e .place)) ∙ supplier-this j t (e .file) k (e .place) first
 
       past-end : (i : ℕ) → i < n → e .place + i ≡ x + z → by i k → ⊥
-      past-end i l q s =
-          let o = supplier-is j t (e .file) k (e .place + i) k
-          (sym (w .same i l ∙ supplier-older j t (e .file) k (e .place + i)
-          (outside (j .filenumbers) (e .file) (e .place + i) (theirs j t k) (inr (omega arith)))) ∙ s) in
-          omega (arith, o .0)
+      past-end i l q s = let o = supplier-is j t (e .file) k (e .place + i) k (sym (w .same i l ∙ supplier-older j t
+          (e .file) k (e .place + i) (outside (j .filenumbers) (e .file) (e .place + i) (theirs j t k) (inr (omega arith))))
+          ∙ s) in omega (arith, o .0)
 
       newer : n < e .length → by n k → ⊥
       newer l s = let o = w .ended l in let q : o .0 ≡ k = cc (o .2) in omega (arith, o .1)
 
       supplied : (i : ℕ) → i < n → e .place + i < x + z → by i k
-      supplied i l h =
-          w .same i l
-          ∙ supplier-this j t (e .file) k (e .place + i)
-          (covers-along (j .filenumbers) (e .file) (e .place) (theirs j t k) first (e .place + i)
-          (omega (arith, covers-in (j .filenumbers) (e .file) (e .place) (theirs j t k) first .0)) h)
+      supplied i l h = w .same i l
+          ∙ supplier-this j t (e .file) k (e .place + i) (covers-along (j .filenumbers) (e .file) (e .place) (theirs j t k)
+          first (e .place + i) (omega (arith, covers-in (j .filenumbers) (e .file) (e .place) (theirs j t k) first .0)) h)
 
       pub walked-found : (r : Run) → r .supplier ≡ Record k → r .at ≡ lengthsBefore (j .journal) t k + (e .place - x)
           → r .length ≡ min n (x + z - e .place) → RunOf j t records e r
       unfolding standsAt
-      walked-found r b d q =
-          let g = covers-in (j .filenumbers) (e .file) (e .place) (theirs j t k) first in
+      walked-found r b d q = let g = covers-in (j .filenumbers) (e .file) (e .place) (theirs j t k) first in
           let on : (i : ℕ) → r .length ≡ i
           → supplier j t records (e .file) (e .place + r .length) ≡ supplier j t records (e .file) (e .place) → by i k =
-          λ i a s. ap (λ (i : ℕ). supplier j t records (e .file) (e .place + i)) (sym a) ∙ s ∙ here in
-          record {
+          λ i a s. ap (λ (i : ℕ). supplier j t records (e .file) (e .place + i)) (sym a) ∙ s ∙ here in record {
             supplied = b ∙ sym here;
             start = d ∙ sym (ap (standsAt (j .journal) t (e .place)) here);
             some = omega (arith, w .some, g .0, g .1);
             within = omega (arith, w .within);
             same = λ i l. supplied i (omega arith) (omega (arith, g .0)) ∙ sym here;
-            longest =
-                λ l s.
-                ⊎-elim
-                (λ h. newer (omega arith) (on n (omega arith) s))
-                (λ h. past-end (x + z - e .place) (omega arith) (omega (arith, g .1)) (on (x + z - e .place) (omega arith) s))
+            longest = λ l s. ⊎-elim (λ h. newer (omega arith) (on n (omega arith) s)) (λ h. past-end (x + z - e .place)
+                (omega arith) (omega (arith, g .1)) (on (x + z - e .place) (omega arith) s))
                 (le-or-lt n (x + z - e .place));
           }
 
@@ -307,16 +258,14 @@ module _ (j : Recorded) (t records : ℕ) (e : Extent) where
     here-file = ap (supplier j t records (e .file)) (sym (add-zero (e .place))) ∙ by-file 0 (w .some)
 
     pub walked-all : RunOf j t records e (record { supplier = File; looked = records; at = e .place; length = n })
-    unfolding standsAt
-    walked-all =
-        record {
-          supplied = sym here-file;
-          start = sym (ap (standsAt (j .journal) t (e .place)) here-file);
-          some = w .some;
-          within = w .within;
-          same = λ i l. by-file i l ∙ sym here-file;
-          longest = λ l s. let o = w .ended l in let z : _≡_ {A = ℕ} 0 1 = cc (o .2, here-file) in omega arith;
-        }
+    walked-all = unfold standsAt in record {
+      supplied = sym here-file;
+      start = sym (ap (standsAt (j .journal) t (e .place)) here-file);
+      some = w .some;
+      within = w .within;
+      same = λ i l. by-file i l ∙ sym here-file;
+      longest = λ l s. let o = w .ended l in let z : _≡_ {A = ℕ} 0 1 = cc (o .2, here-file) in omega arith;
+    }
 
 -- ---- the supplier is the latest write
 
@@ -334,14 +283,12 @@ latest-append : (fileOf : ℕ → ℕ) (f p : ℕ) (xs ys : List Write)
     → latest fileOf f p (xs ++ ys) ≡ orElse (latest fileOf f p ys) (latest fileOf f p xs)
 unfolding latest
 latest-append fileOf f p [] ys = sym (orElse-file (latest fileOf f p ys))
-latest-append fileOf f p (x ∷ xs) ys =
-    ap (λ (s : Source). orElse s (supplies fileOf f p x)) (latest-append fileOf f p xs ys)
-    ∙ orElse-assoc (latest fileOf f p ys) (latest fileOf f p xs) (supplies fileOf f p x)
+latest-append fileOf f p (x ∷ xs) ys = ap (λ (s : Source). orElse s (supplies fileOf f p x))
+    (latest-append fileOf f p xs ys) ∙ orElse-assoc (latest fileOf f p ys) (latest fileOf f p xs) (supplies fileOf f p x)
 
 pub data-suc : (journal : List ℕ) (t k : ℕ) → lengthsBefore journal t (suc k) ≡ lengthsBefore journal t k
     + writeRecordAt journal t k .length
-unfolding lengthsBefore sum
-data-suc journal t k = refl
+data-suc journal t k = unfold lengthsBefore sum in refl
 
 -- back from record k to the one before it
 pub data-back : (journal : List ℕ) (t k : ℕ) → 0 < k
@@ -353,10 +300,8 @@ module _ (j : Recorded) (log : List ℕ) (t f p : ℕ) where
       → supplies (λ d. getD (j .filenumbers) d 0) f p (writeIn (j .journal) log t k)
       ≡ cond (covers (j .filenumbers) f p (theirs j t k)) (sourceOf (j .journal) log t p (Record k)) file
   unfolding supplies writeIn covers sourceOf standsAt
-  supplies-is k h =
-      ap (λ (n : ℕ). cond (eqb (getD (j .filenumbers) (w .descriptor) 0) f && liesOver (w .place) n p)
-      (own (byteAt (w .place) bytes p)) file) long
-      ∙ pick (covers (j .filenumbers) f p w) refl
+  supplies-is k h = ap (λ (n : ℕ). cond (eqb (getD (j .filenumbers) (w .descriptor) 0) f && liesOver (w .place) n p)
+      (own (byteAt (w .place) bytes p)) file) long ∙ pick (covers (j .filenumbers) f p w) refl
     where
       w : WriteRecord
       w = theirs j t k
@@ -372,28 +317,22 @@ module _ (j : Recorded) (log : List ℕ) (t f p : ℕ) where
 
       pick : (b : Bool) → covers (j .filenumbers) f p w ≡ b
           → cond b (own (byteAt (w .place) bytes p)) file ≡ cond b (own (getD log (start + (p - startOf w)) 0)) file
-      pick true e =
-          ap own
-          (byte-over (w .place) (w .length) p bytes (covers-over (j .filenumbers) f p w e)
+      pick true e = ap own (byte-over (w .place) (w .length) p bytes (covers-over (j .filenumbers) f p w e)
           ∙ getD-cut log start (w .length) (p - startOf w) 0
           (omega (arith, covers-in (j .filenumbers) f p w e .0, covers-in (j .filenumbers) f p w e .1)))
       pick false e = refl
 
   -- "Each byte is that of the transaction's own latest write over the place, in call order, otherwise the committed byte."
-  pub latest-is : (n : ℕ) → lengthsBefore (j .journal) t n ≤ length log
-      → latest (λ d. getD (j .filenumbers) d 0) f p (tabulate (writeIn (j .journal) log t) n)
-      ≡ sourceOf (j .journal) log t p (supplier j t n f p)
+  pub latest-is : (n : ℕ) → lengthsBefore (j .journal) t n ≤ length log → latest (λ d. getD (j .filenumbers) d 0) f p
+      (tabulate (writeIn (j .journal) log t) n) ≡ sourceOf (j .journal) log t p (supplier j t n f p)
   unfolding latest tabulate supplier newest sourceOf orElse
   latest-is zero h = refl
-  latest-is (suc n) h =
-      latest-append (λ d. getD (j .filenumbers) d 0) f p (tabulate (writeIn (j .journal) log t) n)
-      (writeIn (j .journal) log t n ∷ [])
-      ∙ ap₂ orElse (supplies-is n h) (latest-is n (omega (arith, data-suc (j .journal) t n)))
-      ∙ pick (covers (j .filenumbers) f p (theirs j t n))
+  latest-is (suc n) h = latest-append (λ d. getD (j .filenumbers) d 0) f p (tabulate (writeIn (j .journal) log t) n)
+      (writeIn (j .journal) log t n ∷ []) ∙ ap₂ orElse (supplies-is n h)
+      (latest-is n (omega (arith, data-suc (j .journal) t n))) ∙ pick (covers (j .filenumbers) f p (theirs j t n))
     where
-      pick : (b : Bool) → orElse (cond b (sourceOf (j .journal) log t p (Record n)) file)
-          (sourceOf (j .journal) log t p (supplier j t n f p))
-          ≡ sourceOf (j .journal) log t p (cond b (Record n) (supplier j t n f p))
+      pick : (b : Bool) → orElse (cond b (sourceOf (j .journal) log t p (Record n)) file) (sourceOf (j .journal) log t p
+          (supplier j t n f p)) ≡ sourceOf (j .journal) log t p (cond b (Record n) (supplier j t n f p))
       pick true = refl
       pick false = refl
 
@@ -401,17 +340,15 @@ module _ (j : Recorded) (log : List ℕ) (t f p : ℕ) where
 pub latest-write : (j : Recorded) (t records f p : ℕ) (found : Supplier) (looked : ℕ) → found ≡ supplier j t records f p
     → ((k : ℕ) → found ≡ Record k → looked ≡ records - k) → (found ≡ File → looked ≡ records)
     → LatestWrite j t records f p found looked
-unfolding supplier
-latest-write j t records f p found looked e some all =
-    record {
-      covering = λ k s. newest-is (coveredBy j t f p) records k (sym e ∙ s);
-      mostRecent = λ k m s. newest-later (coveredBy j t f p) records k m (sym e ∙ s);
-      none = λ s. newest-none (coveredBy j t f p) records (sym e ∙ s);
-      onlyNone = λ h. e ∙ newest-only (coveredBy j t f p) records h;
-      thatAndNewer = some;
-      all = all;
-      inRules = λ log h. latest-is j log t f p records h ∙ sym (ap (sourceOf (j .journal) log t p) e);
-    }
+latest-write j t records f p found looked e some all = unfold supplier in record {
+  covering = λ k s. newest-is (coveredBy j t f p) records k (sym e ∙ s);
+  mostRecent = λ k m s. newest-later (coveredBy j t f p) records k m (sym e ∙ s);
+  none = λ s. newest-none (coveredBy j t f p) records (sym e ∙ s);
+  onlyNone = λ h. e ∙ newest-only (coveredBy j t f p) records h;
+  thatAndNewer = some;
+  all = all;
+  inRules = λ log h. latest-is j log t f p records h ∙ sym (ap (sourceOf (j .journal) log t p) e);
+}
 
 -- ---- a run lies inside the log, or inside the file
 
@@ -431,39 +368,33 @@ module _ (j : Recorded) (t records : ℕ) (e : Extent) (r : Run) (run : RunOf j 
 
   run-inside : (k < records) × (startOf (theirs j t k) ≤ e .place)
       × (e .place + r .length ≤ startOf (theirs j t k) + theirs j t k .length)
-  run-inside =
-      let first = run-covers 0 (run .some) in
-      let last = run-covers (r .length - 1) (omega (arith, run .some)) in
+  run-inside = let first = run-covers 0 (run .some) in let last = run-covers (r .length - 1) (omega (arith, run .some)) in
       let x = covers-in (j .filenumbers) (e .file) (e .place + 0) (theirs j t k) (first .1) in
       let y = covers-in (j .filenumbers) (e .file) (e .place + (r .length - 1)) (theirs j t k) (last .1) in
       (first .0, omega (arith, x .0), omega (arith, y .1, run .some))
 
   starts : r .at ≡ lengthsBefore (j .journal) t k + (e .place - startOf (theirs j t k))
-  unfolding standsAt
-  starts = run .start ∙ ap (standsAt (j .journal) t (e .place)) s
+  starts = unfold standsAt in run .start ∙ ap (standsAt (j .journal) t (e .place)) s
 
   pub run-in-log : r .at + r .length ≤ lengthsBefore (j .journal) t records
-  run-in-log =
-      let g = run-inside in
+  run-in-log = let g = run-inside in
       omega (arith, starts, g .1, g .2, data-suc (j .journal) t k, data-upto (j .journal) t k records (g .0))
 
   -- where its places stand in the log
   pub run-along : (i : ℕ) → standsAt (j .journal) t (e .place + i) (Record k) ≡ r .at + i
-  unfolding standsAt
-  run-along i = let g = run-inside in omega (arith, starts, g .1)
+  run-along i = unfold standsAt in let g = run-inside in omega (arith, starts, g .1)
 
 -- ---- what state validity says of a transaction's write records
 
 pub records-counted : (x : Transaction) (journal : List ℕ) (t : ℕ) → t < transactionCount → TransactionInRange x journal t
     → CountedRecords journal t (x .used)
-records-counted x journal t small r =
-    record {
-      small = small;
-      records = r .records;
-      adds = r .total;
-      bytes = r .bytes;
-      descriptors = λ k h. omega (arith, record-in x (writeRecordAt journal t k) (r .writes k h) .descriptor);
-    }
+records-counted x journal t small r = record {
+  small = small;
+  records = r .records;
+  adds = r .total;
+  bytes = r .bytes;
+  descriptors = λ k h. omega (arith, record-in x (writeRecordAt journal t k) (r .writes k h) .descriptor);
+}
 
 -- ---- where a file ends for a transaction
 
@@ -477,8 +408,7 @@ module _ (filenumbers : List ℕ) (f : ℕ) (w : WriteRecord) where
       pick false = refl
 
   pub end-other-file : (getD filenumbers (w .descriptor) 0 ≡ f → ⊥) → 0 ≡ recordEnd filenumbers f w
-  unfolding recordEnd
-  end-other-file h = rw (ne-eqb (getD filenumbers (w .descriptor) 0) f h)
+  end-other-file h = unfold recordEnd in rw (ne-eqb (getD filenumbers (w .descriptor) 0) f h)
 
   placed-none : (q : Place) → placedEnd q 0 ≡ 0
   unfolding placedEnd writeEnd
@@ -505,13 +435,11 @@ module _ (filenumbers : List ℕ) (f : ℕ) (w : WriteRecord) where
 
 module _ (j : Recorded) (t f n : ℕ) where
   pub reach-none : reach j t f n 0 ≡ n
-  unfolding reach
-  reach-none = refl
+  reach-none = unfold reach in refl
 
   pub reach-more : (k : ℕ) → reach j t f n (k + 1)
       ≡ max (reach j t f n k) (recordEnd (j .filenumbers) f (writeRecordAt (j .journal) t k))
-  unfolding reach
-  reach-more k = rw add-one
+  reach-more k = unfold reach in rw add-one
 
   -- From a number on, or from 0.
   pub reach-from : (c : ℕ) → reach j t f n c ≡ max n (reach j t f 0 c)
@@ -520,18 +448,14 @@ module _ (j : Recorded) (t f n : ℕ) where
   reach-from (suc c) = let e = reach-from c in omega arith
 
   -- The same of the writes.
-  pub run-reach-is : (g : ℕ → Write) (c : ℕ)
-      → ((k : ℕ) → k < c → recordEnd (j .filenumbers) f (writeRecordAt (j .journal) t k)
-      ≡ cond (eqb (getD (j .filenumbers) (g k .descriptor) 0) f) (placedEnd (g k .place) (length (g k .bytes))) 0)
+  pub run-reach-is : (g : ℕ → Write) (c : ℕ) → ((k : ℕ) → k < c → recordEnd (j .filenumbers) f (writeRecordAt (j .journal) t
+      k) ≡ cond (eqb (getD (j .filenumbers) (g k .descriptor) 0) f) (placedEnd (g k .place) (length (g k .bytes))) 0)
       → reach j t f n c ≡ max n (ownEnd (λ d. getD (j .filenumbers) d 0) f (tabulate g c))
   unfolding reach tabulate ownEnd farthest
   run-reach-is g zero h = omega arith
-  run-reach-is g (suc c) h =
-      let e = run-reach-is g c (λ k l. h k (omega arith)) in
-      let q = farthest-last (λ d. getD (j .filenumbers) d 0) f (λ w. placedEnd (w .place) (length (w .bytes))) (tabulate g c)
-      (g c) in
-      let r = h c (omega arith) in
-      omega arith
+  run-reach-is g (suc c) h = let e = run-reach-is g c (λ k l. h k (omega arith)) in
+      let q = farthest-last (λ d. getD (j .filenumbers) d 0) f (λ w. placedEnd (w .place) (length (w .bytes)))
+      (tabulate g c) (g c) in let r = h c (omega arith) in omega arith
 
 -- ---- where no own write of at least one byte lies in the file
 
@@ -555,14 +479,11 @@ module _ (j : Recorded) (t f : ℕ) where
   ends-none : (n : ℕ) → reach j t f 0 n ≡ 0 → (k : ℕ) → k < n → recordEnd (j .filenumbers) f (theirs j t k) ≡ 0
   unfolding reach
   ends-none zero e k l = absurd (omega arith)
-  ends-none (suc n) e k l =
-      ⊎-elim (λ h. ends-none n (omega arith) k h) (λ h. let s : k ≡ n = omega arith in
-      ap (λ (i : ℕ). recordEnd (j .filenumbers) f (theirs j t i)) s ∙ (omega arith))
-      (le-or-lt (suc k) n)
+  ends-none (suc n) e k l = ⊎-elim (λ h. ends-none n (omega arith) k h) (λ h. let s : k ≡ n =
+      omega arith in ap (λ (i : ℕ). recordEnd (j .filenumbers) f (theirs j t i)) s ∙ (omega arith)) (le-or-lt (suc k) n)
 
   -- The file supplies every place.
   pub supplier-none : (n : ℕ) → reach j t f 0 n ≡ 0 → (p : ℕ) → supplier j t n f p ≡ File
   unfolding supplier
-  supplier-none n e p =
-      newest-only (λ k. covers (j .filenumbers) f p (theirs j t k)) n
+  supplier-none n e p = newest-only (λ k. covers (j .filenumbers) f p (theirs j t k)) n
       (λ k l. covers-none (j .filenumbers) f p (theirs j t k) (ends-none n e k l))

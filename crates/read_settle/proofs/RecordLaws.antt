@@ -1,16 +1,11 @@
 -- Laws of write records after settling: one record, and the records of a transaction so far.
-use mathlib.Core.Bool.{Bool, true, false, cond}
-use mathlib.Core.List.{List}
-use mathlib.Core.Path.{_≡_, refl, sym, ap, ap₂, _∙_}
+use mathlib.Core.{Bool.{Bool, true, false, cond}, List.List, Path.{_≡_, refl, sym, ap, ap₂, _∙_}}
 use lib.ListN.{length, getD}
 use Prim.Native.Nat.{ℕ, _+_, _<_}
 use Rattle.limits.specs.Limits.{descriptorCount, recordCount}
-use Rattle.standings.specs.declared.Place.{Place}
-use Rattle.standings.specs.declared.Place.the-variants.{At, After}
-use Rattle.state.specs.declared.StoreMeaning.{StoreMeaning}
-use Rattle.state.specs.declared.journal.WriteRecord.{WriteRecord}
-use Rattle.state.specs.Journal.{writeRecordAt, withRecordAt}
-use Rattle.state.specs.Layout.{storeOf, journalOf, stateLength}
+use Rattle.standings.specs.declared.{Place.{Place, the-variants.{At, After}}}
+use Rattle.state.specs.declared.{StoreMeaning.StoreMeaning, journal.WriteRecord.WriteRecord}
+use Rattle.state.specs.{Journal.{writeRecordAt, withRecordAt}, Layout.{storeOf, journalOf, stateLength}}
 use Rattle.state.proofs.JournalLaws.{length-with-at, with-own, with-none, with-more, with-same, with-own-records, read-next}
 use Rattle.state.proofs.LayoutLaws.{length-journal, journal-with-record, store-with-record}
 use Rattle.spec.specs.Transactions.{placedAt}
@@ -32,14 +27,12 @@ module _ (chosen : List Bool) (offsets : List ℕ) (w : WriteRecord) where
   module _ (d : ℕ) (is : d ≡ w .descriptor) where
     -- or where its descriptor is not chosen;
     pub after-preserved : getD chosen d false ≡ false → recordAfter chosen offsets w ≡ w
-    unfolding recordAfter
-    after-preserved e = rw (rw is at e)
+    after-preserved e = unfold recordAfter in rw (rw is at e)
 
     -- otherwise it gets one.
     pub after-settled : (a : ℕ) → w .place ≡ After a → getD chosen d false ≡ true → (c : ℕ) → c ≡ getD offsets d 0
         → recordAfter chosen offsets w ≡ record { descriptor = w .descriptor; place = At (c + a); length = w .length }
-    unfolding recordAfter placedAt
-    after-settled a e b c o = rw (rw is at b, e, o, is)
+    after-settled a e b c o = unfold recordAfter placedAt in rw (rw is at b, e, o, is)
 
 -- ---- the records of a transaction
 
@@ -50,16 +43,10 @@ module _ (chosen : List Bool) (t : ℕ) (before : List ℕ) (long : length befor
 
   -- Where nothing is chosen, nothing changes.
   pub placed-preserved : (n : ℕ) → ((k : ℕ) → k < n → writeRecordAt (journalOf before) t k .descriptor < descriptorCount)
-      → ((e : ℕ) → e < descriptorCount → getD chosen e false ≡ false)
-      → PlacedIn chosen t n before before
-  unfolding placedRecords
-  placed-preserved n low none =
-      let own = writeRecordAt (journalOf before) t in
-      let offsets = storeOf before .offsets in
-      record {
-        journal =
-            sym
-            (with-same (journalOf before) t (λ k. recordAfter chosen offsets (own k)) own n
+      → ((e : ℕ) → e < descriptorCount → getD chosen e false ≡ false) → PlacedIn chosen t n before before
+  placed-preserved n low none = unfold placedRecords in let own = writeRecordAt (journalOf before) t in
+      let offsets = storeOf before .offsets in record {
+        journal = sym (with-same (journalOf before) t (λ k. recordAfter chosen offsets (own k)) own n
             (λ k h. after-preserved chosen offsets (own k) _ refl (none (own k .descriptor) (low k h)))
             ∙ with-own-records (journalOf before) t n);
         store = refl;
@@ -83,28 +70,22 @@ module _ (chosen : List Bool) (t k : ℕ) (before now : List ℕ) (placed : Plac
       journal-more : (w : WriteRecord) → recordAfter chosen (storeOf before .offsets) r ≡ w
           → withRecordAt (journalOf now) t k w ≡ placedRecords chosen (storeOf before .offsets) (journalOf before) t (k + 1)
       unfolding placedRecords
-      journal-more w e =
-          ap₂ (λ (j : List ℕ) (w : WriteRecord). withRecordAt j t k w) (placed .journal)
-          (sym e ∙ ap (recordAfter chosen (storeOf before .offsets)) (read ∙ next-record))
-          ∙ sym (with-more (journalOf before) t _ k)
+      journal-more w e = ap₂ (λ (j : List ℕ) (w : WriteRecord). withRecordAt j t k w) (placed .journal) (sym e ∙ ap
+          (recordAfter chosen (storeOf before .offsets)) (read ∙ next-record)) ∙ sym (with-more (journalOf before) t _ k)
 
       pub one-placed : (w : WriteRecord) → after ≡ withRecordAt now t k w → recordAfter chosen (storeOf before .offsets) r ≡ w
           → PlacedIn chosen t (k + 1) before after
-      one-placed w put e =
-          record {
-            journal = ap journalOf put ∙ journal-with-record now (placed .long) t k w small few ∙ journal-more w e;
-            store = ap storeOf put ∙ store-with-record now (placed .long) t k w small few ∙ placed .store;
-            long = ap length put ∙ length-with-at now t k w ∙ placed .long;
-          }
+      one-placed w put e = record {
+        journal = ap journalOf put ∙ journal-with-record now (placed .long) t k w small few ∙ journal-more w e;
+        store = ap storeOf put ∙ store-with-record now (placed .long) t k w small few ∙ placed .store;
+        long = ap length put ∙ length-with-at now t k w ∙ placed .long;
+      }
 
       pub one-preserved : after ≡ now → recordAfter chosen (storeOf before .offsets) r ≡ r
           → PlacedIn chosen t (k + 1) before after
-      one-preserved same e =
-          record {
-            journal =
-                ap journalOf same
-                ∙ sym (ap (withRecordAt (journalOf now) t k) read ∙ with-own (journalOf now) t k)
-                ∙ journal-more r e;
-            store = ap storeOf same ∙ placed .store;
-            long = ap length same ∙ placed .long;
-          }
+      one-preserved same e = record {
+        journal = ap journalOf same ∙ sym (ap (withRecordAt (journalOf now) t k) read ∙ with-own (journalOf now) t k)
+            ∙ journal-more r e;
+        store = ap storeOf same ∙ placed .store;
+        long = ap length same ∙ placed .long;
+      }

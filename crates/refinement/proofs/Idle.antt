@@ -2,9 +2,8 @@
 use mathlib.Core.{Bool.true, Path.{ap, _∙_, subst⁻¹}}
 use lib.ListN.{length}
 use native.Mathlib.Omega.{arith}
-use Rattle.state.specs.Journal.{journalLength}
+use Rattle.state.specs.{Journal.journalLength, Layout.journalOf}
 use Rattle.buffers.proofs.TableLaws.{length-tabulate}
-use Rattle.state.specs.Layout.{journalOf}
 use Rattle.admission.proofs.Laws.{admitted-dispatch}
 use Rattle.spec.{specs.{Machine.{Machine, sizes}, Age.{Resting, CommittedDecides}}, proofs.Refinement.Relation.Shaped}
 use Rattle.spec.proofs.Theorems.Age.{IdleMachine, idle-alike}

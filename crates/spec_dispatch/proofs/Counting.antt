@@ -1,22 +1,17 @@
 -- How many scripts go on and how many Commits are made, round by round: every script is over within as many rounds as there are
 -- scripts.
-use mathlib.Core.Bool.{Bool, true, false, cond, _&&_, true≢false}
-use mathlib.Core.List.{List}
-use mathlib.Core.Logic.{_⊎_, inl, inr, ⊎-elim}
+use mathlib.Core.{Bool.{Bool, true, false, cond, _&&_, true≢false}, List.List, Logic.{_⊎_, inl, inr, ⊎-elim}}
 use mathlib.Core.Path.{_≡_, refl, sym, ap, _∙_, subst}
 use borrow.Author.Tests.{eqb-true}
 use lib.Dec.{ltb, eqb}
 use native.Mathlib.Omega.{arith}
 use Prim.Native.Nat.{ℕ, zero, suc, _+_, _*_, _≤_, _<_}
 use Rattle.buffers.proofs.PartLaws.{le-or-lt}
-use Rattle.spec.specs.Messages.{Call, begin, commit, Reply}
-use Rattle.spec.specs.Transactions.{put}
-use Rattle.spec.proofs.Abstract.Rerun.{put-same}
+use Rattle.spec.{specs.{Messages.{Call, begin, commit, Reply}, Transactions.put}, proofs.Abstract.Rerun.put-same}
 use Rattle.spec.proofs.Abstract.Lists.{put-other}
 use Rattle.spec_dispatch.specs.Rounds.{Scripts, End, passed, failed, goesOn, Work, nothingDone, withCommit, withCall}
-use Rattle.spec_dispatch.specs.Rounds.{refusalIn, failing}
-use Rattle.spec_dispatch.specs.Rounds.{orFailing, decided, begins, perform, turn, turns, passes, commitOne, commitAll}
-use Rattle.spec_dispatch.specs.Rounds.{round, rounds}
+use Rattle.spec_dispatch.specs.Rounds.{refusalIn, failing, orFailing, decided, begins, perform, turn, turns, passes}
+use Rattle.spec_dispatch.specs.Rounds.{commitOne, commitAll, round, rounds}
 use Rattle.spec_dispatch.proofs.Phases.{Laws, Sides, Rest, Given, AtRest, before, all-given, round-rests}
 
 -- ---- how many go on
@@ -56,21 +51,15 @@ going-drop : (n k : ℕ) (e f : ℕ → End) → Fades e f → k < n → goesOn 
     → suc (going n f) ≤ going n e
 unfolding going
 going-drop zero k e f h l a b = absurd (omega arith)
-going-drop (suc n) k e f h l a b =
-    ⊎-elim
-    (λ m.
-    let q : n ≡ k = omega arith in
-    let c : one (goesOn (e n)) ≡ 1 = ap (λ (i : ℕ). one (goesOn (e i))) q ∙ ap (λ (z : Bool). one z) a in
-    let d : one (goesOn (f n)) ≡ 0 = ap (λ (i : ℕ). one (goesOn (f i))) q ∙ ap (λ (z : Bool). one z) b in
-    omega (arith, going-less n e f h, c, d))
-    (λ m. omega (arith, going-drop n k e f h m a b, one-le (goesOn (f n)) (goesOn (e n)) (h n)))
-    (le-or-lt n k)
+going-drop (suc n) k e f h l a b = ⊎-elim (λ m. let q : n ≡ k = omega arith in let c : one (goesOn (e n)) ≡ 1 =
+    ap (λ (i : ℕ). one (goesOn (e i))) q ∙ ap (λ (z : Bool). one z) a in let d : one (goesOn (f n)) ≡ 0 =
+    ap (λ (i : ℕ). one (goesOn (f i))) q ∙ ap (λ (z : Bool). one z) b in omega (arith, going-less n e f h, c, d))
+    (λ m. omega (arith, going-drop n k e f h m a b, one-le (goesOn (f n)) (goesOn (e n)) (h n))) (le-or-lt n k)
 
 going-none : (n : ℕ) (e : ℕ → End) → ((j : ℕ) → j < n → goesOn (e j) ≡ false) → going n e ≡ 0
 unfolding going
 going-none zero e h = refl
-going-none (suc n) e h =
-    let c : one (goesOn (e n)) ≡ 0 = ap (λ (z : Bool). one z) (h n (omega arith)) in
+going-none (suc n) e h = let c : one (goesOn (e n)) ≡ 0 = ap (λ (z : Bool). one z) (h n (omega arith)) in
     omega (arith, going-none n e (λ j l. h j (omega arith)), c)
 
 -- One that is over from now on.
@@ -87,13 +76,12 @@ going-over n e z j l = pick (goesOn (e j)) refl
   where
     pick : (b : Bool) → goesOn (e j) ≡ b → goesOn (e j) ≡ false
     pick false q = q
-    pick true q =
-        absurd (omega (
-          arith,
-          z,
-          going-drop n j e (put j passed e) (put-fades j passed (unfold goesOn in refl) e) l q
-              (ap goesOn (put-same j passed e) ∙ (unfold goesOn in refl)),
-        ))
+    pick true q = absurd (omega (
+      arith,
+      z,
+      going-drop n j e (put j passed e) (put-fades j passed (unfold goesOn in refl) e) l q (ap goesOn (put-same j passed e)
+          ∙ (unfold goesOn in refl)),
+    ))
 
 -- ---- what a round does to ends and Commits
 
@@ -191,20 +179,15 @@ module _ (replyTo : Call → List Call → Reply) (bytes : List ℕ) (minute : �
       its : (b : Bool) → goesOn (v .ends k) ≡ b → goesOn (w .ends k) ≡ b
       its b e = ap goesOn (sym (c .rest k (omega arith))) ∙ e
 
-      pick : (b : Bool) → goesOn (v .ends k) ≡ b
-          → Committing (suc k) w (cond b (afterCommit k v) v)
-      pick true e =
-          let r = refusalIn (replyTo (commit k minute) (v .made) .answer) in
-          let u = withCommit (withCall (commit k minute) v) in
-          let d = decided-fading k r u in
-          let o : one (goesOn (w .ends k)) ≡ 1 = ap one (its true e) in
-          record {
+      pick : (b : Bool) → goesOn (v .ends k) ≡ b → Committing (suc k) w (cond b (afterCommit k v) v)
+      pick true e = let r = refusalIn (replyTo (commit k minute) (v .made) .answer) in
+          let u = withCommit (withCall (commit k minute) v) in let d = decided-fading k r u in
+          let o : one (goesOn (w .ends k)) ≡ 1 = ap one (its true e) in record {
             fades = λ j h. c .fades j (d .fades j h);
             rest = λ j l. decided-other k r j u (λ q. omega arith) ∙ c .rest j (omega arith);
             commits = d .commits ∙ omega (arith, c .commits, o);
           }
-      pick false e =
-          let o : one (goesOn (w .ends k)) ≡ 0 = ap one (its false e) in
+      pick false e = let o : one (goesOn (w .ends k)) ≡ 0 = ap one (its false e) in
           record { fades = c .fades; rest = λ j l. c .rest j (omega arith); commits = omega (arith, c .commits, o) }
 
   all-committing : (k : ℕ) (w : Work) → Committing k w (commitAll replyTo bytes minute x k w)
@@ -216,15 +199,12 @@ module _ (replyTo : Call → List Call → Reply) (bytes : List ℕ) (minute : �
   unfolding commitOne
   one-fades k w = pick (goesOn (w .ends k))
     where
-      pick : (b : Bool)
-          → Fades (w .ends) (cond b (afterCommit k w) w .ends)
+      pick : (b : Bool) → Fades (w .ends) (cond b (afterCommit k w) w .ends)
       pick true = decided-fading k _ (withCommit (withCall (commit k minute) w)) .fades
       pick false = λ j h. h
 
   passed-over : (k : ℕ) (w : Work) → goesOn (w .ends k) ≡ false → commitOne replyTo bytes minute x k w ≡ w
-  unfolding commitOne
-  passed-over k w e =
-      ap (λ (b : Bool). cond b (afterCommit k w) w) e
+  passed-over k w e = unfold commitOne in ap (λ (b : Bool). cond b (afterCommit k w) w) e
 
   -- ---- where every script is over
 
@@ -232,17 +212,14 @@ module _ (replyTo : Call → List Call → Reply) (bytes : List ℕ) (minute : �
     idle-begins : (k : ℕ) → k ≤ x .count → begins replyTo bytes minute x k w ≡ w
     unfolding begins
     idle-begins zero l = refl
-    idle-begins (suc k) l =
-        ap (λ (v : Work). cond (goesOn (v .ends k)) (withCall (begin k) v) v) (idle-begins k (omega arith))
-        ∙ ap (λ (b : Bool). cond b (withCall (begin k) w) w) (over k (omega arith))
+    idle-begins (suc k) l = ap (λ (v : Work). cond (goesOn (v .ends k)) (withCall (begin k) v) v)
+        (idle-begins k (omega arith)) ∙ ap (λ (b : Bool). cond b (withCall (begin k) w) w) (over k (omega arith))
 
     idle-turns : (i k : ℕ) → k ≤ x .count → turns replyTo bytes minute x i k w ≡ w
     unfolding turns turn
     idle-turns i zero l = refl
-    idle-turns i (suc k) l =
-        ap (turn replyTo bytes minute x i k) (idle-turns i k (omega arith))
-        ∙ ap (λ (b : Bool). cond (b && ltb i (x .script k .count)) (perform replyTo bytes minute x k (x .script k .call i) w) w)
-        (over k (omega arith))
+    idle-turns i (suc k) l = ap (turn replyTo bytes minute x i k) (idle-turns i k (omega arith)) ∙ ap (λ (b : Bool). cond (b
+        && ltb i (x .script k .count)) (perform replyTo bytes minute x k (x .script k .call i) w) w) (over k (omega arith))
 
     idle-passes : (i : ℕ) → passes replyTo bytes minute x i w ≡ w
     unfolding passes
@@ -257,22 +234,17 @@ module _ (replyTo : Call → List Call → Reply) (bytes : List ℕ) (minute : �
 
     idle-round : round replyTo bytes minute x w ≡ w
     unfolding round
-    idle-round =
-        ap (λ (v : Work). commitAll replyTo bytes minute x (x .count) (passes replyTo bytes minute x 16 v))
-        (idle-begins (x .count) (omega arith))
-        ∙ ap (commitAll replyTo bytes minute x (x .count)) (idle-passes 16)
+    idle-round = ap (λ (v : Work). commitAll replyTo bytes minute x (x .count) (passes replyTo bytes minute x 16 v))
+        (idle-begins (x .count) (omega arith)) ∙ ap (commitAll replyTo bytes minute x (x .count)) (idle-passes 16)
         ∙ idle-commits (x .count) (omega arith)
 
   -- Where every script is over after j rounds, further ones change nothing.
-  pub rounds-idle : (j : ℕ) (w : Work)
-      → ((k : ℕ) → k < x .count → goesOn (rounds replyTo bytes minute x j w .ends k) ≡ false)
-      → (i : ℕ) → rounds replyTo bytes minute x (i + j) w ≡ rounds replyTo bytes minute x j w
+  pub rounds-idle : (j : ℕ) (w : Work) → ((k : ℕ) → k < x .count → goesOn (rounds replyTo bytes minute x j w .ends k)
+      ≡ false) → (i : ℕ) → rounds replyTo bytes minute x (i + j) w ≡ rounds replyTo bytes minute x j w
   unfolding rounds
   rounds-idle j w over zero = let e : 0 + j ≡ j = omega arith in ap (λ (a : ℕ). rounds replyTo bytes minute x a w) e
-  rounds-idle j w over (suc i) =
-      let e : suc i + j ≡ suc (i + j) = omega arith in
-      ap (λ (a : ℕ). rounds replyTo bytes minute x a w) e
-      ∙ ap (round replyTo bytes minute x) (rounds-idle j w over i)
+  rounds-idle j w over (suc i) = let e : suc i + j ≡ suc (i + j) = omega arith in
+      ap (λ (a : ℕ). rounds replyTo bytes minute x a w) e ∙ ap (round replyTo bytes minute x) (rounds-idle j w over i)
       ∙ idle-round (rounds replyTo bytes minute x j w) over
 
 -- ---- numbers
@@ -285,11 +257,8 @@ sumTo (suc n) = sumTo n + suc n
 sum-more : (m n : ℕ) → m ≤ n → sumTo m ≤ sumTo n
 unfolding sumTo
 sum-more m zero l = let e : m ≡ 0 = omega arith in rw e (omega arith)
-sum-more m (suc n) l =
-    ⊎-elim
-    (λ (k : suc n ≤ m). let e : m ≡ suc n = omega arith in rw e (omega arith))
-    (λ (k : m < suc n). omega (arith, sum-more m n (omega arith)))
-    (le-or-lt (suc n) m)
+sum-more m (suc n) l = ⊎-elim (λ (k : suc n ≤ m). let e : m ≡ suc n = omega arith in rw e (omega arith))
+    (λ (k : m < suc n). omega (arith, sum-more m n (omega arith))) (le-or-lt (suc n) m)
 
 sum-above : (n : ℕ) → n ≤ sumTo n
 unfolding sumTo
@@ -325,8 +294,7 @@ module _ (replyTo : Call → List Call → Reply) (bytes : List ℕ) (minute : �
   -- The first Commit of a round does not answer 13.
   module _ (k : ℕ) (w : Work) (l : k < x .count) (s : Full w) (e : goesOn (w .ends k) ≡ true) where
     first-over : goesOn (commitOne replyTo bytes minute x k w .ends k) ≡ false
-    unfolding commitOne
-    first-over =
+    first-over = unfold commitOne in
         let g = subst (λ (b : Bool). Given replyTo bytes minute x L 16 b k (w .made)) e (s .above k (omega arith) l) in
         ap (λ (b : Bool). goesOn (cond b (afterCommit replyTo bytes minute x k w) w .ends k)) e
         ∙ decided-over k _ (withCommit (withCall (commit k minute) w)) (first k (w .made) l g)
@@ -344,19 +312,15 @@ module _ (replyTo : Call → List Call → Reply) (bytes : List ℕ) (minute : �
   fewer (suc k) w l s = step (fewer k w (omega arith) s) (goesOn (w .ends k)) refl
     where
       step : Fewer k w → (b : Bool) → goesOn (w .ends k) ≡ b → Fewer (suc k) w
-      step (inr h) b e =
-          let v = committed k w in
+      step (inr h) b e = let v = committed k w in
           inr (omega (arith, h, going-less (x .count) (v .ends) _ (one-fades replyTo bytes minute x k v)))
-      step (inl h) true e =
-          inr
-          (subst (λ (v : Work). suc (many (commitOne replyTo bytes minute x k v)) ≤ many w) (sym (h .0))
-          (first-drops k w (omega arith) s e))
-      step (inl h) false e =
-          inl (
-            ap (commitOne replyTo bytes minute x k) (h .0) ∙ passed-over replyTo bytes minute x k w e,
-            λ j m. ⊎-elim (λ q. let f : j ≡ k = omega arith in ap (λ (i : ℕ). goesOn (w .ends i)) f ∙ e) (λ q. h .1 j q)
-                (le-or-lt k j),
-          )
+      step (inl h) true e = inr (subst (λ (v : Work). suc (many (commitOne replyTo bytes minute x k v)) ≤ many w)
+          (sym (h .0)) (first-drops k w (omega arith) s e))
+      step (inl h) false e = inl (
+        ap (commitOne replyTo bytes minute x k) (h .0) ∙ passed-over replyTo bytes minute x k w e,
+        λ j m. ⊎-elim (λ q. let f : j ≡ k = omega arith in ap (λ (i : ℕ). goesOn (w .ends i)) f ∙ e) (λ q. h .1 j q)
+            (le-or-lt k j),
+      )
 
   -- After j rounds.
   record Rounded (j : ℕ) (w : Work) : Type 0 where
@@ -365,27 +329,19 @@ module _ (replyTo : Call → List Call → Reply) (bytes : List ℕ) (minute : �
     shrinks : (many w ≡ 0) ⊎ (many w + j ≤ x .count)
 
   rounded : (j : ℕ) (w : Work) → Rounded j w → Rounded (suc j) (round replyTo bytes minute x w)
-  rounded j w r =
-      let u = begins replyTo bytes minute x (x .count) w in
-      let v = before replyTo bytes minute x L w in
-      let z : Work = round replyTo bytes minute x w in
-      let e : z ≡ committed (x .count) v = unfold round in refl in
-      let f = fading-then w u v (begins-fading replyTo bytes minute x (x .count) w) (passes-fading replyTo bytes minute x 16 u) in
-      let less = going-less (x .count) (w .ends) (v .ends) (f .fades) in
+  rounded j w r = let u = begins replyTo bytes minute x (x .count) w in let v = before replyTo bytes minute x L w in
+      let z : Work = round replyTo bytes minute x w in let e : z ≡ committed (x .count) v = unfold round in refl in
+      let f = fading-then w u v (begins-fading replyTo bytes minute x (x .count) w)
+      (passes-fading replyTo bytes minute x 16 u) in let less = going-less (x .count) (w .ends) (v .ends) (f .fades) in
       let made : z .commits ≡ v .commits + many v = ap (λ (u : Work). u .commits) e
       ∙ all-committing replyTo bytes minute x (x .count) v .commits in
-      let drop : (many z ≡ 0) ⊎ (suc (many z) ≤ many w) =
-      ⊎-elim
-      (λ h. inl (ap many (e ∙ h .0) ∙ going-none (x .count) (v .ends) (h .1)))
-      (λ h. inr (subst (λ (u : Work). suc (many u) ≤ many w) (sym e) (omega (arith, h, less))))
-      (fewer (x .count) v (omega arith) (all-given replyTo bytes minute x L w (r .rests))) in
-      record {
+      let drop : (many z ≡ 0) ⊎ (suc (many z) ≤ many w) = ⊎-elim (λ h. inl (ap many (e ∙ h .0) ∙ going-none (x .count)
+      (v .ends) (h .1))) (λ h. inr (subst (λ (u : Work). suc (many u) ≤ many w) (sym e) (omega (arith, h, less))))
+      (fewer (x .count) v (omega arith) (all-given replyTo bytes minute x L w (r .rests))) in record {
         rests = round-rests replyTo bytes minute x L w (r .rests);
         few = omega (arith, r .few, made, f .commits, less, sum-fewer (many w) (many z) drop);
         shrinks =
-            ⊎-elim inl
-            (λ d. ⊎-elim (λ h. absurd (omega (arith, d, h))) (λ h. inr (omega (arith, d, h))) (r .shrinks))
-            drop;
+            ⊎-elim inl (λ d. ⊎-elim (λ h. absurd (omega (arith, d, h))) (λ h. inr (omega (arith, d, h))) (r .shrinks)) drop;
       }
 
   rounded-all : (j : ℕ) (w : Work) → Rounded 0 w → Rounded j (rounds replyTo bytes minute x j w)
@@ -398,10 +354,8 @@ module _ (replyTo : Call → List Call → Reply) (bytes : List ℕ) (minute : �
     go j = rounds replyTo bytes minute x j (nothingDone reader)
 
     all-rounds : Rounded (x .count) (go (x .count))
-    all-rounds =
-        let g = going-at-most (x .count) (nothingDone reader .ends) in
-        rounded-all (x .count) (nothingDone reader)
-        (record {
+    all-rounds = let g = going-at-most (x .count) (nothingDone reader .ends) in
+        rounded-all (x .count) (nothingDone reader) (record {
           rests = start;
           few = omega (arith, sum-more (many (nothingDone reader)) (x .count) g);
           shrinks = inr (omega (arith, g));
@@ -416,7 +370,6 @@ module _ (replyTo : Call → List Call → Reply) (bytes : List ℕ) (minute : �
     pub rounds-few : 2 * rounds replyTo bytes minute x (x .count) (nothingDone reader) .commits ≤ x .count * (x .count + 1)
     rounds-few = omega (arith, all-rounds .few, sum-twice (x .count))
 
-    pub rounds-stop : (j : ℕ)
-        → rounds replyTo bytes minute x (j + x .count) (nothingDone reader)
-        ≡ rounds replyTo bytes minute x (x .count) (nothingDone reader)
+    pub rounds-stop : (j : ℕ) → rounds replyTo bytes minute x (j + x .count) (nothingDone reader) ≡ rounds replyTo bytes
+        minute x (x .count) (nothingDone reader)
     rounds-stop = rounds-idle replyTo bytes minute x (x .count) (nothingDone reader) rounds-over

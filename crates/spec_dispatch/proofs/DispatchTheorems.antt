@@ -1,39 +1,24 @@
 -- What is proved of the dispatcher.
-use mathlib.Core.Bool.{Bool, true, false}
-use mathlib.Core.List.{List}
-use mathlib.Core.Logic.{inl, inr}
-use mathlib.Core.Path.{_≡_, refl, sym, ap, _∙_, subst⁻¹}
+use mathlib.Core.{Bool.{Bool, true, false}, List.List, Logic.{inl, inr}, Path.{_≡_, refl, sym, ap, _∙_, subst⁻¹}}
 use borrow.Author.Tests.{leb-true}
-use lib.Dec.{leb}
-use lib.ListN.{length}
+use lib.{Dec.leb, ListN.length}
 use native.Mathlib.Omega.{arith}
 use Prim.Native.Nat.{ℕ, _+_, _*_, _≤_, _<_}
 use Rattle.limits.specs.Limits.{lastTransaction, scriptCount, scriptCalls}
-use Rattle.state.specs.Journal.{journalLength}
+use Rattle.state.specs.{Journal.journalLength, StoreMeaning.{transaction, windowAt}, Layout.journalOf}
 use Rattle.buffers.proofs.TableLaws.{length-tabulate}
 use Rattle.windows.specs.Windows.{freshWindows}
-use Rattle.state.specs.StoreMeaning.{transaction, windowAt}
-use Rattle.state.specs.Layout.{journalOf}
-use Rattle.admission.specs.FirstRefusal.{unless}
-use Rattle.admission.specs.Admission.{firstTests, sizesIn, storeIn, noneBegun, admissionOfDispatch}
+use Rattle.admission.specs.{FirstRefusal.unless, Admission.{firstTests, sizesIn, storeIn, noneBegun, admissionOfDispatch}}
 use Rattle.admission.proofs.Laws.{and-left, and-right, below-at, AdmittedDispatch, admitted-dispatch}
-use Rattle.spec.specs.Messages.{Call, Reply}
-use Rattle.spec.specs.Machine.{Machine, sizes, fileOf, values}
-use Rattle.spec.specs.Calls.{callsAfter, callsReplies}
-use Rattle.spec.specs.Promises.{machineOf}
-use Rattle.spec.specs.Plain.{closed, startPlain, plainWithWindows, isRunning, plainAfter}
-use Rattle.spec.specs.Grants.{serialOf}
-use Rattle.spec.specs.Age.{AtRest, earlierIn}
-use Rattle.spec.proofs.Abstract.AbstractStore.{Abstract, startAbstract, abstractReplies}
-use Rattle.spec.proofs.Abstract.SameReplies.{backOf}
-use Rattle.spec.proofs.Theorems.Serializability.{calls-agree}
+use Rattle.spec.specs.{Messages.{Call, Reply}, Machine.{Machine, sizes, fileOf, values}, Calls.{callsAfter, callsReplies}}
+use Rattle.spec.specs.{Promises.machineOf, Plain.{closed, startPlain, plainWithWindows, isRunning, plainAfter}, Grants.serialOf}
+use Rattle.spec.{specs.Age.{AtRest, earlierIn}, proofs.Abstract.AbstractStore.{Abstract, startAbstract, abstractReplies}}
+use Rattle.spec.proofs.{Abstract.SameReplies.backOf, Theorems.Serializability.calls-agree}
 use Rattle.spec.proofs.Theorems.Age.{at-rest-sound, resting-start, resting-holds}
 use Rattle.refinement.proofs.Shapes.{shaped}
 use Rattle.spec_dispatch.specs.Rounds.{Scripts, scriptIn, scriptsIn, failed, goesOn, Work, nothingDone, rounds, dispatched}
-use Rattle.spec_dispatch.specs.Dispatch.{storeReply, plainReply, workOnStore, workOnPlain, dispatch}
-use Rattle.spec_dispatch.specs.Dispatch.{EndsScript, AnsweredInRounds, PlainToo}
-use Rattle.spec_dispatch.specs.Dispatch.{Dispatches, plainOf}
-use Rattle.spec_dispatch.specs.Dispatch.{DispatchHolds, SameDispatch}
+use Rattle.spec_dispatch.specs.Dispatch.{storeReply, plainReply, workOnStore, workOnPlain, dispatch, EndsScript}
+use Rattle.spec_dispatch.specs.Dispatch.{AnsweredInRounds, PlainToo, Dispatches, plainOf, DispatchHolds, SameDispatch}
 use Rattle.spec_dispatch.specs.Corollaries.{DispatchRefusals, IsDispatchRefusal, DispatchHoldsAtRest, FewCommits}
 use Rattle.spec_dispatch.proofs.Follows.{abstractReply, store-abstract, twins-after, WorkResting, resting-twins}
 use Rattle.spec_dispatch.proofs.Same.{left-by, commits-of, gate, dispatch-refusal-is, plain-too}
@@ -46,14 +31,11 @@ use Rattle.spec_dispatch.proofs.OnPlain.{Granted, plain-laws, plain-res
 -- What passed scripts tell.
 module _ (n : ℕ) (x : Scripts) (e : scriptsIn n x ≡ true) where
   pub eight-scripts : x .count ≤ scriptCount
-  unfolding scriptsIn
-  eight-scripts = leb-true (x .count) 8 (and-left (leb (x .count) 8) _ e)
+  eight-scripts = unfold scriptsIn in leb-true (x .count) 8 (and-left (leb (x .count) 8) _ e)
 
   pub sixteen-calls : (k : ℕ) → k < x .count → x .script k .count ≤ scriptCalls
   unfolding scriptsIn scriptIn
-  sixteen-calls k l =
-      leb-true (x .script k .count) 16
-      (and-left (leb (x .script k .count) 16) _
+  sixteen-calls k l = leb-true (x .script k .count) 16 (and-left (leb (x .script k .count) 16) _
       (below-at (λ k. scriptIn n (x .script k)) (x .count) k (and-right (leb (x .count) 8) _ e) l))
 
 -- ---- from a store with nothing open
@@ -77,24 +59,20 @@ module _ (m : Machine) (r : WorkResting m) (bytes : List ℕ) (minute : ℕ) (x 
   laws = abstract-laws bare bytes minute x few
 
   bare-rests : Rests (abstractReply bare) bytes minute x laws (nothingDone reader)
-  unfolding startAbstract
-  bare-rests = abstract-rests bare bytes minute x few reader (λ j. refl)
+  bare-rests = unfold startAbstract in abstract-rests bare bytes minute x few reader (λ j. refl)
 
-  store-bare : (j : ℕ)
-      → rounds (storeReply m) bytes minute x j (nothingDone reader)
-      ≡ rounds (abstractReply bare) bytes minute x j (nothingDone reader)
+  store-bare : (j : ℕ) → rounds (storeReply m) bytes minute x j (nothingDone reader) ≡ rounds (abstractReply bare) bytes
+      minute x j (nothingDone reader)
   store-bare j = ap (λ (f : Call → List Call → Reply). rounds f bytes minute x j (nothingDone reader)) same-replies
 
   store-over : (k : ℕ) → k < x .count → goesOn (workOnStore bytes minute x m reader .ends k) ≡ false
   unfolding workOnStore dispatched
-  store-over k l =
-      ap (λ (w : Work). goesOn (w .ends k)) (store-bare (x .count))
+  store-over k l = ap (λ (w : Work). goesOn (w .ends k)) (store-bare (x .count))
       ∙ rounds-over (abstractReply bare) bytes minute x laws (abstract-first bare bytes minute x few) reader bare-rests k l
 
   bare-preserved : let w = rounds (abstractReply bare) bytes minute x (x .count) (nothingDone reader) in
       PreservedOnAbstract bare bytes minute x few (w .made) (w .ends)
-  bare-preserved =
-      sighted-preserved bare bytes minute x few _
+  bare-preserved = sighted-preserved bare bytes minute x few _
       (rounds-rest (abstractReply bare) bytes minute x laws (x .count) (nothingDone reader) bare-rests)
 
   store-known : (k n : ℕ) → workOnStore bytes minute x m reader .ends k ≡ failed n → EndsScript n
@@ -103,33 +81,26 @@ module _ (m : Machine) (r : WorkResting m) (bytes : List ℕ) (minute : ℕ) (x 
 
   store-answers : AnsweredInRounds (callsReplies (workOnStore bytes minute x m reader .made) m)
   unfolding workOnStore dispatched
-  store-answers =
-      subst⁻¹ (λ (w : Work). AnsweredInRounds (callsReplies (w .made) m)) (store-bare (x .count))
-      (subst⁻¹ AnsweredInRounds
-      (calls-agree _ m (r .sound) .replies ∙ ap (abstractReplies _) (resting-start m (r .sound) (r .closed)))
-      (bare-preserved .answers))
+  store-answers = subst⁻¹ (λ (w : Work). AnsweredInRounds (callsReplies (w .made) m)) (store-bare (x .count))
+      (subst⁻¹ AnsweredInRounds (calls-agree _ m (r .sound) .replies
+      ∙ ap (abstractReplies _) (resting-start m (r .sound) (r .closed))) (bare-preserved .answers))
 
   store-few : 2 * workOnStore bytes minute x m reader .commits ≤ x .count * (x .count + 1)
   unfolding workOnStore dispatched
-  store-few =
-      subst⁻¹ (λ (w : Work). 2 * w .commits ≤ x .count * (x .count + 1)) (store-bare (x .count))
+  store-few = subst⁻¹ (λ (w : Work). 2 * w .commits ≤ x .count * (x .count + 1)) (store-bare (x .count))
       (rounds-few (abstractReply bare) bytes minute x laws (abstract-first bare bytes minute x few) reader bare-rests)
 
   store-stops : (j : ℕ) → rounds (storeReply m) bytes minute x (j + x .count) (nothingDone reader)
       ≡ workOnStore bytes minute x m reader
   unfolding workOnStore dispatched
-  store-stops j =
-      store-bare (j + x .count)
-      ∙ rounds-stop (abstractReply bare) bytes minute x laws (abstract-first bare bytes minute x few) reader bare-rests j
-      ∙ sym (store-bare (x .count))
+  store-stops j = store-bare (j + x .count) ∙ rounds-stop (abstractReply bare) bytes minute x laws
+      (abstract-first bare bytes minute x few) reader bare-rests j ∙ sym (store-bare (x .count))
 
   not-running : isRunning closed ≡ false
-  unfolding isRunning
-  not-running = refl
+  not-running = unfold isRunning in refl
 
   none-open : (t : ℕ) → t ≤ lastTransaction → transaction (m .store) t .begun ≡ isRunning (plainOf m .slots t)
-  unfolding startPlain
-  none-open t l = r .closed t l ∙ sym not-running
+  none-open t l = unfold startPlain in r .closed t l ∙ sym not-running
 
   too : PlainToo bytes minute x m (plainOf m) reader
   too = plain-too bytes minute x m (plainOf m) reader (resting-twins m r) none-open
@@ -140,8 +111,7 @@ module _ (m : Machine) (r : WorkResting m) (bytes : List ℕ) (minute : ℕ) (x 
 
   plain-ends : Rests (plainReply (plainOf m)) bytes minute x plainLaws (workOnPlain bytes minute x (plainOf m) reader)
   unfolding workOnPlain dispatched startPlain
-  plain-ends =
-      rounds-rest (plainReply (plainOf m)) bytes minute x plainLaws (x .count) (nothingDone reader)
+  plain-ends = rounds-rest (plainReply (plainOf m)) bytes minute x plainLaws (x .count) (nothingDone reader)
       (plain-rests (plainOf m) bytes minute x few short reader (λ j. refl))
 
   -- Of a dispatcher's work.
@@ -149,18 +119,14 @@ module _ (m : Machine) (r : WorkResting m) (bytes : List ℕ) (minute : ℕ) (x 
   Grants w = Granted bytes minute x (plainWithWindows freshWindows (plainOf m)) (serialOf (w .made) (plainOf m)) (w .ends)
 
   store-granted : Grants (workOnStore bytes minute x m reader)
-  store-granted =
-      subst⁻¹ Grants (too .work)
-      (plain-granted (plainOf m) bytes minute x few short _ plain-ends)
+  store-granted = subst⁻¹ Grants (too .work) (plain-granted (plainOf m) bytes minute x few short _ plain-ends)
 
   all-closed : (j : ℕ) → plainAfter (workOnStore bytes minute x m reader .made) (plainOf m) .slots j ≡ closed
-  all-closed j =
-      ap (λ (w : Work). plainAfter (w .made) (plainOf m) .slots j) (too .work)
+  all-closed j = ap (λ (w : Work). plainAfter (w .made) (plainOf m) .slots j) (too .work)
       ∙ plain-closed (plainOf m) bytes minute x few short _ plain-ends j
 
   pub resting-dispatches : Dispatches bytes minute x m (plainOf m) reader
-  resting-dispatches =
-      let h = resting-holds m (r .sound) (r .closed) (workOnStore bytes minute x m reader .made) in
+  resting-dispatches = let h = resting-holds m (r .sound) (r .closed) (workOnStore bytes minute x m reader .made) in
       record {
         over = store-over;
         noMore = store-stops;
@@ -188,16 +154,11 @@ gate-known true true true true h = absurd (h refl)
 
 pub refusals-of-dispatch : DispatchRefusals
 unfolding admissionOfDispatch firstTests
-refusals-of-dispatch bytes minute x m reader =
-    let e = dispatch-refusal-is bytes minute x m reader in
-    record {
-      known =
-          λ h.
-          subst⁻¹ IsDispatchRefusal e
-          (gate-known (sizesIn (sizes m)) (storeIn (m .store) (m .journal)) (noneBegun (m .store)) (scriptsIn (length bytes) x)
-          (λ f. h (e ∙ f)));
-      leaves = λ h. leaves (λ f. h (e ∙ f));
-    }
+refusals-of-dispatch bytes minute x m reader = let e = dispatch-refusal-is bytes minute x m reader in record {
+  known = λ h. subst⁻¹ IsDispatchRefusal e (gate-known (sizesIn (sizes m)) (storeIn (m .store) (m .journal))
+      (noneBegun (m .store)) (scriptsIn (length bytes) x) (λ f. h (e ∙ f)));
+  leaves = λ h. leaves (λ f. h (e ∙ f));
+}
   where
     leaves : (gate bytes minute x m reader ≡ 0 → ⊥)
         → (dispatch bytes minute x m reader .after ≡ m) × (dispatch bytes minute x m reader .reader ≡ reader)
@@ -210,36 +171,31 @@ module _ (state files logs marks undo bytes : List ℕ) (minute : ℕ) (x : Scri
   found = machineOf state files logs marks undo
 
   rests : (a : AdmittedDispatch (sizes found) (found .store) (found .journal) (scriptsIn (length bytes) x)) → WorkResting found
-  rests a =
-      record {
-        sound =
-            record {
-              shaped = shaped state;
-              journal = unfold journalOf in length-tabulate _ journalLength;
-              files = a .lengths .files;
-              logs = a .lengths .logs;
-              marks = a .lengths .marks;
-              undo = a .lengths .undo;
-              inRange = a .ranges;
-            };
-        closed = λ t l. a .idle t (omega arith);
-      }
+  rests a = record {
+    sound = record {
+      shaped = shaped state;
+      journal = unfold journalOf in length-tabulate _ journalLength;
+      files = a .lengths .files;
+      logs = a .lengths .logs;
+      marks = a .lengths .marks;
+      undo = a .lengths .undo;
+      inRange = a .ranges;
+    };
+    closed = λ t l. a .idle t (omega arith);
+  }
 
   passed-dispatches : gate bytes minute x found reader ≡ 0 → Dispatches bytes minute x found (plainOf found) reader
-  passed-dispatches e =
-      let a = admitted-dispatch (sizes found) (found .store) (found .journal) (scriptsIn (length bytes) x) e in
-      resting-dispatches found (rests a) bytes minute x reader (a .pass)
+  passed-dispatches e = let a = admitted-dispatch (sizes found) (found .store) (found .journal) (scriptsIn (length bytes) x)
+      e in resting-dispatches found (rests a) bytes minute x reader (a .pass)
 
   few-any : 2 * dispatch bytes minute x found reader .commits ≤ x .count * (x .count + 1)
   unfolding dispatch
-  few-any =
-      commits-of found reader (workOnStore bytes minute x found reader) _ (gate bytes minute x found reader) _
+  few-any = commits-of found reader (workOnStore bytes minute x found reader) _ (gate bytes minute x found reader) _
       (λ e. passed-dispatches e .few)
 
 pub dispatch-holds : DispatchHolds
-dispatch-holds state files logs marks undo bytes minute x reader e =
-    passed-dispatches state files logs marks undo bytes minute x reader
-    (sym (dispatch-refusal-is bytes minute x (machineOf state files logs marks undo) reader) ∙ e)
+dispatch-holds state files logs marks undo bytes minute x reader e = passed-dispatches state files logs marks undo bytes
+    minute x reader (sym (dispatch-refusal-is bytes minute x (machineOf state files logs marks undo) reader) ∙ e)
 
 pub few-commits : FewCommits
 few-commits = few-any
@@ -253,8 +209,6 @@ pub dispatch-holds-at-rest : DispatchHoldsAtRest
 dispatch-holds-at-rest m r bytes minute x reader e = resting-dispatches m (at-rest m r) bytes minute x reader e
 
 pub same-dispatch : SameDispatch
-same-dispatch m r cs bytes minute x reader =
-    let rest = at-rest m r in
-    let p = plainOf m in
+same-dispatch m r cs bytes minute x reader = let rest = at-rest m r in let p = plainOf m in
     plain-too bytes minute x (callsAfter cs m) (plainAfter cs p) reader (twins-after m p (resting-twins m rest) cs)
     (resting-holds m (rest .sound) (rest .closed) cs .openness)

@@ -1,12 +1,8 @@
 -- The definitions by index as loops go through them: none, and one more.
-use mathlib.Core.Bool.{cond}
-use mathlib.Core.List.{List, [], _∷_, _++_}
-use mathlib.Core.Path.{_≡_, refl, ap}
+use mathlib.Core.{Bool.cond, List.{List, [], _∷_, _++_}, Path.{_≡_, refl, ap}}
 use native.Mathlib.Omega.{arith}
 use Prim.Native.Nat.{ℕ, suc, _+_}
-use Rattle.spec.specs.Messages.{Call, begin, Reply, afterAll}
-use Rattle.spec.specs.Machine.{Machine}
-use Rattle.spec.specs.Calls.{call, callsAfter}
+use Rattle.spec.specs.{Messages.{Call, begin, Reply, afterAll}, Machine.Machine, Calls.{call, callsAfter}}
 use Rattle.spec_dispatch.specs.Rounds.{Scripts, goesOn, Work, withCall, begins, turn, turns, passes, commitOne, commitAll}
 use Rattle.spec_dispatch.specs.Rounds.{round, rounds}
 
@@ -20,33 +16,25 @@ next : (k : ℕ) → k + 1 ≡ suc k
 next k = omega arith
 
 module _ (replyTo : Call → List Call → Reply) (bytes : List ℕ) (minute : ℕ) (x : Scripts) (w : Work) where
-  pub begins-more : (k : ℕ)
-      → begins replyTo bytes minute x (k + 1) w
-      ≡ cond (goesOn (begins replyTo bytes minute x k w .ends k)) (withCall (begin k) (begins replyTo bytes minute x k w))
-      (begins replyTo bytes minute x k w)
-  unfolding begins
-  begins-more k = ap (λ (n : ℕ). begins replyTo bytes minute x n w) (next k)
+  pub begins-more : (k : ℕ) → begins replyTo bytes minute x (k + 1) w ≡ cond (goesOn (begins replyTo bytes minute x k
+      w .ends k)) (withCall (begin k) (begins replyTo bytes minute x k w)) (begins replyTo bytes minute x k w)
+  begins-more k = unfold begins in ap (λ (n : ℕ). begins replyTo bytes minute x n w) (next k)
 
   pub turns-more : (i k : ℕ) → turns replyTo bytes minute x i (k + 1) w
       ≡ turn replyTo bytes minute x i k (turns replyTo bytes minute x i k w)
-  unfolding turns
-  turns-more i k = ap (λ (n : ℕ). turns replyTo bytes minute x i n w) (next k)
+  turns-more i k = unfold turns in ap (λ (n : ℕ). turns replyTo bytes minute x i n w) (next k)
 
   pub passes-none : passes replyTo bytes minute x 0 w ≡ w
-  unfolding passes
-  passes-none = refl
+  passes-none = unfold passes in refl
 
   pub passes-more : (i : ℕ) → passes replyTo bytes minute x (i + 1) w
       ≡ turns replyTo bytes minute x i (x .count) (passes replyTo bytes minute x i w)
-  unfolding passes
-  passes-more i = ap (λ (n : ℕ). passes replyTo bytes minute x n w) (next i)
+  passes-more i = unfold passes in ap (λ (n : ℕ). passes replyTo bytes minute x n w) (next i)
 
   pub commits-more : (k : ℕ) → commitAll replyTo bytes minute x (k + 1) w
       ≡ commitOne replyTo bytes minute x k (commitAll replyTo bytes minute x k w)
-  unfolding commitAll
-  commits-more k = ap (λ (n : ℕ). commitAll replyTo bytes minute x n w) (next k)
+  commits-more k = unfold commitAll in ap (λ (n : ℕ). commitAll replyTo bytes minute x n w) (next k)
 
   pub rounds-more : (j : ℕ) → rounds replyTo bytes minute x (j + 1) w
       ≡ round replyTo bytes minute x (rounds replyTo bytes minute x j w)
-  unfolding rounds
-  rounds-more j = ap (λ (n : ℕ). rounds replyTo bytes minute x n w) (next j)
+  rounds-more j = unfold rounds in ap (λ (n : ℕ). rounds replyTo bytes minute x n w) (next j)

@@ -1,27 +1,18 @@
 -- The tests before the dispatcher; and that it gives on the reference model what it gives on the store.
-use mathlib.Core.Bool.{Bool, not}
-use mathlib.Core.List.{List}
-use mathlib.Core.Path.{_≡_, refl, ap, _∙_, subst}
+use mathlib.Core.{Bool.{Bool, not}, List.List, Path.{_≡_, refl, ap, _∙_, subst}}
 use lib.ListN.{length}
 use native.Mathlib.Omega.{arith}
 use Prim.Native.Nat.{ℕ, zero, suc, _*_, _≤_}
 use Rattle.limits.specs.Limits.{lastTransaction}
 use Rattle.state.specs.StoreMeaning.{transaction}
-use Rattle.admission.specs.FirstRefusal.{guarded, isNone, unless}
-use Rattle.admission.specs.Admission.{noneBegun, admissionOfDispatch}
+use Rattle.admission.specs.{FirstRefusal.{guarded, isNone, unless}, Admission.{noneBegun, admissionOfDispatch}}
 use Rattle.admission.proofs.Laws.{below-same}
-use Rattle.spec.specs.Messages.{Call, Reply}
-use Rattle.spec.specs.Machine.{Machine, sizes, values}
-use Rattle.spec.specs.Calls.{callsAfter}
-use Rattle.spec.specs.Plain.{Plain, isRunning, noneRunning, plainAfter}
-use Rattle.spec.proofs.Abstract.AbstractStore.{Abstract}
-use Rattle.spec.proofs.Abstract.SameReplies.{abs}
-use Rattle.spec.proofs.Refinement.Relation.{view}
-use Rattle.spec.proofs.Refinement.Admissions.{first-is}
+use Rattle.spec.specs.{Messages.{Call, Reply}, Machine.{Machine, sizes, values}, Calls.callsAfter}
+use Rattle.spec.{specs.Plain.{Plain, isRunning, noneRunning, plainAfter}, proofs.Abstract.AbstractStore.Abstract}
+use Rattle.spec.proofs.{Abstract.SameReplies.abs, Refinement.{Relation.view, Admissions.first-is}}
 use Rattle.spec_dispatch.specs.Rounds.{Scripts, scriptsIn, Work, dispatched}
 use Rattle.spec_dispatch.specs.Dispatch.{workOnStore, workOnPlain, Dispatched, reported, notStarted, dispatch}
-use Rattle.spec_dispatch.specs.Dispatch.{plainDispatch}
-use Rattle.spec_dispatch.specs.Dispatch.{SameGiven, PlainToo}
+use Rattle.spec_dispatch.specs.Dispatch.{plainDispatch, SameGiven, PlainToo}
 use Rattle.spec_dispatch.proofs.Follows.{TwinWork, store-plain, twins-after}
 
 -- ---- the tests before it
@@ -51,20 +42,17 @@ module _ (bytes : List ℕ) (minute : ℕ) (x : Scripts) (m : Machine) (reader :
   gate = admissionOfDispatch (sizes m) (m .store) (m .journal) (scriptsIn (length bytes) x)
 
   pub dispatch-refusal-is : dispatch bytes minute x m reader .refusal ≡ gate
-  unfolding dispatch
-  dispatch-refusal-is = refusal-of m reader _ _ gate
+  dispatch-refusal-is = unfold dispatch in refusal-of m reader _ _ gate
 
 -- ---- on the reference model too
 
 same-committed : (m : Machine) (p : Plain) → TwinWork m p → values (m .store) (m .files) ≡ p .committed .value
-unfolding view abs
-same-committed m p t = ap (λ (z : Abstract). z .value) (t .same)
+same-committed m p t = unfold view abs in ap (λ (z : Abstract). z .value) (t .same)
 
 -- Nobody is open in the store where nobody is on the reference model.
 none-same : (m : Machine) (p : Plain) → ((t : ℕ) → t ≤ lastTransaction → transaction (m .store) t .begun ≡ isRunning (p .slots t))
     → noneBegun (m .store) ≡ noneRunning p
-unfolding noneBegun noneRunning
-none-same m p h = below-same _ _ 8 (λ t l. ap not (h t (omega arith)))
+none-same m p h = unfold noneBegun noneRunning in below-same _ _ 8 (λ t l. ap not (h t (omega arith)))
 
 module _ (bytes : List ℕ) (minute : ℕ) (x : Scripts) (m : Machine) (p : Plain) (reader : List ℕ) (t : TwinWork m p)
     (opened : (t : ℕ) → t ≤ lastTransaction → transaction (m .store) t .begun ≡ isRunning (p .slots t)) where
@@ -77,8 +65,7 @@ module _ (bytes : List ℕ) (minute : ℕ) (x : Scripts) (m : Machine) (p : Plai
 
   same-passed : (w : Work) (n : ℕ) → SameGiven (byStore w n) (byPlain w n)
   unfolding reported notStarted
-  same-passed w zero =
-      let u = twins-after m p t (w .made) in
+  same-passed w zero = let u = twins-after m p t (w .made) in
       record { refusal = refl; ends = refl; commits = refl; reader = refl; committed = same-committed _ _ u }
   same-passed w (suc n) = record { refusal = refl; ends = refl; commits = refl; reader = refl; committed = same-committed m p t }
 
@@ -87,8 +74,7 @@ module _ (bytes : List ℕ) (minute : ℕ) (x : Scripts) (m : Machine) (p : Plai
 
   same-gate : gate bytes minute x m reader ≡ plainGate
   unfolding admissionOfDispatch
-  same-gate =
-      first-is m (unless (noneBegun (m .store)) 19 (unless (scriptsIn (length bytes) x) 20 0)) (t .sound)
+  same-gate = first-is m (unless (noneBegun (m .store)) 19 (unless (scriptsIn (length bytes) x) 20 0)) (t .sound)
       ∙ ap (λ (b : Bool). unless b 19 (unless (scriptsIn (length bytes) x) 20 0)) (none-same m p opened)
 
   same-work : workOnStore bytes minute x m reader ≡ workOnPlain bytes minute x p reader
@@ -97,12 +83,8 @@ module _ (bytes : List ℕ) (minute : ℕ) (x : Scripts) (m : Machine) (p : Plai
 
   pub plain-too : PlainToo bytes minute x m p reader
   unfolding dispatch plainDispatch
-  plain-too =
-      let w = workOnStore bytes minute x m reader in
-      let n = gate bytes minute x m reader in
-      record {
-        given =
-            subst (λ (v : Work). SameGiven (byStore w n) (byPlain v plainGate)) same-work
-            (subst (λ (a : ℕ). SameGiven (byStore w n) (byPlain w a)) same-gate (same-passed w n));
-        work = same-work;
-      }
+  plain-too = let w = workOnStore bytes minute x m reader in let n = gate bytes minute x m reader in record {
+    given = subst (λ (v : Work). SameGiven (byStore w n) (byPlain v plainGate)) same-work
+        (subst (λ (a : ℕ). SameGiven (byStore w n) (byPlain w a)) same-gate (same-passed w n));
+    work = same-work;
+  }

@@ -1,6 +1,5 @@
 -- Every order of a list passes the tests that all members of the list pass, and has no repeat where the list has none.
-use mathlib.Core.Bool.{Bool, true, false, cond, not, _&&_, _||_, true≢false, false≢true}
-use mathlib.Core.List.{List, [], _∷_}
+use mathlib.Core.{Bool.{Bool, true, false, cond, not, _&&_, _||_, true≢false, false≢true}, List.{List, [], _∷_}}
 use mathlib.Core.Path.{_≡_, refl, sym, ap, _∙_}
 use borrow.Author.Tests.{eqb-true, eq-eqb}
 use lib.Dec.{eqb}
@@ -75,9 +74,7 @@ at-most-one t [] e = omega arith
 at-most-one t (u ∷ ts) e = pick (eqb t u) refl (at-most-one t ts (rest-distinct u ts e))
   where
     pick : (b : Bool) → eqb t u ≡ b → countIn (eqb t) ts ≤ 1 → cond b 1 0 + countIn (eqb t) ts ≤ 1
-    pick true k rest =
-        let z = not-in t ts (ap (λ (w : ℕ). isIn w ts) (eqb-true t u k) ∙ front-not-in u ts e) in
-        omega arith
+    pick true k rest = let z = not-in t ts (ap (λ (w : ℕ). isIn w ts) (eqb-true t u k) ∙ front-not-in u ts e) in omega arith
     pick false k rest = omega arith
 
 one-of-each : (ts : List ℕ) → ((t : ℕ) → countIn (eqb t) ts ≤ 1) → distinct ts ≡ true

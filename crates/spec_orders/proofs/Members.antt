@@ -1,15 +1,10 @@
 -- Every arrangement of a list is among its orders.
-use mathlib.Core.Bool.{Bool, true, false, cond}
-use mathlib.Core.List.{List, [], _∷_, _++_, map}
-use mathlib.Core.Path.{_≡_, refl, sym, ap, _∙_, subst}
+use mathlib.Core.{Bool.{Bool, true, false, cond}, List.{List, [], _∷_, _++_, map}, Path.{_≡_, refl, sym, ap, _∙_, subst}}
 use borrow.Author.Tests.{eqb-true, eqb-false, eq-eqb}
-use lib.Dec.{eqb}
-use lib.ListN.{length, getD}
-use native.Mathlib.Omega.{arith}
-use native.Mathlib.Nat.{le-of-suc-le-suc}
+use lib.{Dec.eqb, ListN.{length, getD}}
+use native.Mathlib.{Omega.arith, Nat.le-of-suc-le-suc}
 use Prim.Native.Nat.{ℕ, zero, suc, _+_, _≤_, _<_}
-use Rattle.spec_orders.specs.Orders.{without, chained, ordersOf, countIn, Arranges}
-use Rattle.spec_orders.specs.Laws.{In, first, later}
+use Rattle.spec_orders.specs.{Orders.{without, chained, ordersOf, countIn, Arranges}, Laws.{In, first, later}}
 
 -- ---- among lists
 
@@ -46,8 +41,7 @@ pub record Found (o : List ℕ) (os : List (List ℕ)) : Type 0 where
 
 pub found-in : (o : List ℕ) (os : List (List ℕ)) → In o os → Found o os
 found-in o os (first ps) = record { position = 0; inside = omega arith; there = refl }
-found-in o os (later p ps h) =
-    let a = found-in o ps h in
+found-in o os (later p ps h) = let a = found-in o ps h in
     record { position = suc (a .position); inside = omega (arith, a .inside); there = a .there }
 
 pub in-at : (os : List (List ℕ)) (i : ℕ) → i < length os → In (getD os i []) os
@@ -88,13 +82,11 @@ member t (u ∷ ts) h = pick (eqb t u) refl h (λ k. member t ts k)
   where
     pick : (b : Bool) → eqb t u ≡ b → 1 ≤ cond b 1 0 + countIn (eqb t) ts → (1 ≤ countIn (eqb t) ts → At t ts) → At t (u ∷ ts)
     pick true e k rest = record { position = 0; inside = omega arith; there = sym (eqb-true t u e) }
-    pick false e k rest =
-        let a = rest (omega arith) in
+    pick false e k rest = let a = rest (omega arith) in
         record { position = suc (a .position); inside = omega (arith, a .inside); there = a .there }
 
 own-count : (t : ℕ) (o : List ℕ) → 1 ≤ countIn (eqb t) (t ∷ o)
-unfolding countIn
-own-count t o = rw (eq-eqb t t refl) (omega arith)
+own-count t o = unfold countIn in rw (eq-eqb t t refl) (omega arith)
 
 -- ---- all of them
 
@@ -114,14 +106,11 @@ complete zero (t ∷ ts) o e h = absurd (omega arith)
 complete zero [] (u ∷ o) e h = absurd (not-empty u o (h u))
 complete (suc n) [] o e h = absurd (omega arith)
 complete (suc n) (t ∷ ts) [] e h = absurd (not-empty t ts (sym (h t)))
-complete (suc n) (t ∷ ts) (u ∷ o) e h =
-    let l = t ∷ ts in
-    let a = member u l (subst (λ (k : ℕ). 1 ≤ k) (h u) (own-count u o)) in
-    let i = a .position in
+complete (suc n) (t ∷ ts) (u ∷ o) e h = let l = t ∷ ts in
+    let a = member u l (subst (λ (k : ℕ). 1 ≤ k) (h u) (own-count u o)) in let i = a .position in
     let len : length (without i l) ≡ n = let z = length-without i l (a .inside) in omega arith in
-    let rest : Arranges (without i l) o =
-    λ w. less w (getD l i 0) (a .there) (countIn (eqb w) o) (countIn (eqb w) (without i l))
-    (h w ∙ count-without (eqb w) i l (a .inside)) in
+    let rest : Arranges (without i l) o = λ w. less w (getD l i 0) (a .there) (countIn (eqb w) o)
+    (countIn (eqb w) (without i l)) (h w ∙ count-without (eqb w) i l (a .inside)) in
     in-chained (u ∷ o) _ (suc n) i (subst (λ (k : ℕ). i < k) e (a .inside))
     (subst (λ (k : ℕ). In (u ∷ o) (map (λ p. k ∷ p) (ordersOf n (without i l)))) (sym (a .there))
     (in-map o u (ordersOf n (without i l)) (complete n (without i l) o len rest)))

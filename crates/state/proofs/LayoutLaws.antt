@@ -1,45 +1,29 @@
 -- What the record means after something was put into it: that, and all else as before.
-use mathlib.Core.Bool.{Bool, true, false, cond}
-use mathlib.Core.List.{List}
-use mathlib.Core.Logic.{_⊎_, inl, inr, ⊎-elim}
-use mathlib.Core.Path.{_≡_, refl, sym, ap, ap₂, _∙_}
+use mathlib.Core.{Bool.{Bool, true, false, cond}, List.List, Logic.{_⊎_, inl, inr, ⊎-elim}, Path.{_≡_, refl, sym, ap, ap₂, _∙_}}
 use borrow.Author.Tests.{eq-eqb, ne-eqb, eqb-true, eqb-false}
-use lib.Dec.{eqb}
-use lib.ListN.{getD, set, length, length-set, replicate}
-use lib.Seq.{getD-set-same, getD-set-other}
-use native.Mathlib.Nat.{eq-or-lt-of-le, le-of-suc-le-suc, not-suc-le-zero}
-use native.Mathlib.Numerals.{add-one, add-two}
-use native.Mathlib.Omega.{arith}
+use lib.{Dec.eqb, ListN.{getD, set, length, length-set, replicate}, Seq.{getD-set-same, getD-set-other}}
+use native.Mathlib.{Nat.{eq-or-lt-of-le, le-of-suc-le-suc, not-suc-le-zero}, Numerals.{add-one, add-two}, Omega.arith}
 use Prim.Native.Nat.{ℕ, zero, suc, _+_, _-_, _*_, _≤_, _<_}
 use Rattle.limits.specs.Limits.{fileCount, descriptorCount, transactionCount, recordCount}
-use Rattle.buffers.specs.Parts.{tabulate}
-use Rattle.buffers.specs.Bits.{withBitAs}
-use Rattle.buffers.specs.Marks.{contains}
+use Rattle.buffers.specs.{Parts.tabulate, Bits.withBitAs, Marks.contains}
 use Rattle.buffers.proofs.SetLaws.{contains-put, contains-bits, bits-none}
 use Rattle.buffers.proofs.TableLaws.{length-tabulate, getD-tabulate, table-same, table-set}
 use Rattle.counters.specs.declared.Used.{Used}
-use Rattle.windows.specs.declared.Window.{Window}
-use Rattle.windows.specs.Windows.{freshWindow}
-use Rattle.standings.specs.declared.Standing.{Standing}
-use Rattle.standings.specs.declared.Standing.the-variants.{Untouched, Placed, Deferred, Moved, Known}
-use Rattle.state.specs.declared.Descriptor.{Descriptor}
-use Rattle.state.specs.declared.Transaction.{Transaction}
-use Rattle.state.specs.declared.StoreMeaning.{StoreMeaning}
+use Rattle.windows.specs.{declared.Window.Window, Windows.freshWindow}
+use Rattle.standings.specs.declared.{Standing.{Standing, the-variants.{Untouched, Placed, Deferred, Moved, Known}}}
+use Rattle.standings.specs.Table.{placeNumber}
+use Rattle.state.specs.declared.{Descriptor.Descriptor, Transaction.Transaction, StoreMeaning.StoreMeaning}
 use Rattle.state.specs.declared.journal.WriteRecord.{WriteRecord}
 use Rattle.state.specs.StoreMeaning.{ended, noTransaction, noDescriptor, transaction, standingAt, withTransaction}
-use Rattle.state.specs.StoreMeaning.{withBegun, withStale}
-use Rattle.state.specs.StoreMeaning.{withLengthmarks, withDescriptors, withUsed, withOffsets, withLengths, withWindows}
-use Rattle.state.specs.StoreMeaning.{windowAt, noUndo}
+use Rattle.state.specs.StoreMeaning.{withBegun, withStale, withLengthmarks, withDescriptors, withUsed, withOffsets}
+use Rattle.state.specs.StoreMeaning.{withLengths, withWindows, windowAt, noUndo}
 use Rattle.state.specs.Journal.{descriptorCode, writeRecordAt, withRecordAt, journalLength}
 use Rattle.state.specs.Layout.{standingOf, isSet, numberAt, descriptorOf, usedOf, transactionOf, storeOf, journalOf}
 use Rattle.state.specs.Layout.{transactionsAt, transactionLength, fileNumbersAt, offsetsAt, lengthsAt, startsAt, endsAt}
-use Rattle.state.specs.Layout.{foundOffsetsAt, foundLengthsAt, undoValidAt}
-use Rattle.state.specs.Layout.{windowOf, undoOf, stateLength}
-use Rattle.state.specs.Updates.{firstNumber, secondNumber, flagNumber, withDescriptorAt, withChosenAt}
-use Rattle.state.specs.Updates.{withUsedAt, withStaleAt}
-use Rattle.state.specs.Updates.{withLengthmarksAt, zeroedAt, resetAt, withFileNumberAt, withFileNumbersAt, withOffsetAt}
-use Rattle.state.specs.Updates.{withLengthAt, withWindowAt}
-use Rattle.standings.specs.Table.{placeNumber}
+use Rattle.state.specs.Layout.{foundOffsetsAt, foundLengthsAt, undoValidAt, windowOf, undoOf, stateLength}
+use Rattle.state.specs.Updates.{firstNumber, secondNumber, flagNumber, withDescriptorAt, withChosenAt, withUsedAt}
+use Rattle.state.specs.Updates.{withStaleAt, withLengthmarksAt, zeroedAt, resetAt, withFileNumberAt, withFileNumbersAt}
+use Rattle.state.specs.Updates.{withOffsetAt, withLengthAt, withWindowAt}
 use Rattle.state.proofs.Filled.{filled, filled-none, filled-set, filled-preserved, filled-all}
 
 -- ---- reading by name
@@ -48,55 +32,42 @@ module _ (r : List ℕ) where
   -- Write records stand in the journal as in the record.
   pub record-of : (t k : ℕ) → t < 9 → k < recordCount → writeRecordAt (journalOf r) t k ≡ writeRecordAt r t k
   unfolding writeRecordAt journalOf
-  record-of t k h l =
-      let i = 3 * (recordCount * t + k) in
-      let own : ℕ → ℕ = λ j. getD r j 0 in
-      rw (
-        getD-tabulate own journalLength i 0 (omega arith),
-        getD-tabulate own journalLength (i + 1) 0 (omega arith),
-        getD-tabulate own journalLength (i + 2) 0 (omega arith),
-      )
+  record-of t k h l = let i = 3 * (recordCount * t + k) in let own : ℕ → ℕ = λ j. getD r j 0 in rw (
+    getD-tabulate own journalLength i 0 (omega arith),
+    getD-tabulate own journalLength (i + 1) 0 (omega arith),
+    getD-tabulate own journalLength (i + 2) 0 (omega arith),
+  )
 
   pub length-journal : length (journalOf r) ≡ journalLength
-  unfolding journalOf
-  length-journal = length-tabulate (λ i. getD r i 0) journalLength
+  length-journal = unfold journalOf in length-tabulate (λ i. getD r i 0) journalLength
 
   pub transaction-of : (t : ℕ) → t < transactionCount → transaction (storeOf r) t ≡ transactionOf r t
-  unfolding storeOf
-  transaction-of t h = getD-tabulate (transactionOf r) 8 t noTransaction h
+  transaction-of t h = unfold storeOf in getD-tabulate (transactionOf r) 8 t noTransaction h
 
   pub descriptor-of : (t d : ℕ) → d < descriptorCount → getD (transactionOf r t .descriptors) d noDescriptor ≡ descriptorOf r t d
-  unfolding transactionOf
-  descriptor-of t d h = getD-tabulate (descriptorOf r t) 16 d noDescriptor h
+  descriptor-of t d h = unfold transactionOf in getD-tabulate (descriptorOf r t) 16 d noDescriptor h
 
   pub standing-of : (t d : ℕ) → d < descriptorCount
       → standingAt (transactionOf r t) d ≡ standingOf (getD r (numberAt t d) 0) (getD r (numberAt t (16 + d)) 0)
-  unfolding descriptorOf
-  standing-of t d h = ap (λ (q : Descriptor). q .standing) (descriptor-of t d h)
+  standing-of t d h = unfold descriptorOf in ap (λ (q : Descriptor). q .standing) (descriptor-of t d h)
 
   pub file-of : (d : ℕ) → d < descriptorCount → getD (storeOf r .filenumbers) d 0 ≡ getD r (fileNumbersAt + d) 0
-  unfolding storeOf
-  file-of d h = getD-tabulate (λ k. getD r (fileNumbersAt + k) 0) 16 d 0 h
+  file-of d h = unfold storeOf in getD-tabulate (λ k. getD r (fileNumbersAt + k) 0) 16 d 0 h
 
   pub offset-of : (d : ℕ) → d < descriptorCount → getD (storeOf r .offsets) d 0 ≡ getD r (offsetsAt + d) 0
-  unfolding storeOf
-  offset-of d h = getD-tabulate (λ k. getD r (offsetsAt + k) 0) 16 d 0 h
+  offset-of d h = unfold storeOf in getD-tabulate (λ k. getD r (offsetsAt + k) 0) 16 d 0 h
 
   pub length-of : (f : ℕ) → f < fileCount → getD (storeOf r .lengths) f 0 ≡ getD r (lengthsAt + f) 0
-  unfolding storeOf
-  length-of f h = getD-tabulate (λ k. getD r (lengthsAt + k) 0) 8 f 0 h
+  length-of f h = unfold storeOf in getD-tabulate (λ k. getD r (lengthsAt + k) 0) 8 f 0 h
 
   pub window-of : (f : ℕ) → f < fileCount → windowAt (storeOf r) f ≡ windowOf r f
-  unfolding storeOf
-  window-of f h = getD-tabulate (windowOf r) 8 f freshWindow h
+  window-of f h = unfold storeOf in getD-tabulate (windowOf r) 8 f freshWindow h
 
   pub found-offset-of : (d : ℕ) → d < descriptorCount → getD (storeOf r .undo .offsets) d 0 ≡ getD r (foundOffsetsAt + d) 0
-  unfolding storeOf undoOf
-  found-offset-of d h = getD-tabulate (λ k. getD r (foundOffsetsAt + k) 0) 16 d 0 h
+  found-offset-of d h = unfold storeOf undoOf in getD-tabulate (λ k. getD r (foundOffsetsAt + k) 0) 16 d 0 h
 
   pub found-length-of : (f : ℕ) → f < fileCount → getD (storeOf r .undo .lengths) f 0 ≡ getD r (foundLengthsAt + f) 0
-  unfolding storeOf undoOf
-  found-length-of f h = getD-tabulate (λ k. getD r (foundLengthsAt + k) 0) 8 f 0 h
+  found-length-of f h = unfold storeOf undoOf in getD-tabulate (λ k. getD r (foundLengthsAt + k) 0) 8 f 0 h
 
 -- ---- two records that agree on some numbers
 
@@ -106,30 +77,24 @@ module _ (r s : List ℕ) where
   Agree from n = (j : ℕ) → from ≤ j → j < from + n → getD s j 0 ≡ getD r j 0
 
   pub journal-same : Agree 0 journalLength → journalOf s ≡ journalOf r
-  unfolding journalOf
-  journal-same e = table-same _ _ journalLength (λ k h. e k (omega arith) (omega arith))
+  journal-same e = unfold journalOf in table-same _ _ journalLength (λ k h. e k (omega arith) (omega arith))
 
   pub column-same : (at n : ℕ) → Agree at n → tabulate (λ k. getD s (at + k) 0) n ≡ tabulate (λ k. getD r (at + k) 0) n
   column-same at n e = table-same _ _ n (λ k h. e (at + k) (omega arith) (omega arith))
 
   pub undo-same : Agree foundOffsetsAt 27 → undoOf s ≡ undoOf r
-  unfolding undoOf
-  undo-same e =
-      rw (
-        e undoValidAt (omega arith) (omega arith),
-        e (undoValidAt + 1) (omega arith) (omega arith),
-        e (undoValidAt + 2) (omega arith) (omega arith),
-        column-same foundOffsetsAt descriptorCount
-            (λ j a b. e j a (omega arith)),
-        column-same foundLengthsAt fileCount (λ j a b. e j (omega arith) (omega arith)),
-      )
+  undo-same e = unfold undoOf in rw (
+    e undoValidAt (omega arith) (omega arith),
+    e (undoValidAt + 1) (omega arith) (omega arith),
+    e (undoValidAt + 2) (omega arith) (omega arith),
+    column-same foundOffsetsAt descriptorCount (λ j a b. e j a (omega arith)),
+    column-same foundLengthsAt fileCount (λ j a b. e j (omega arith) (omega arith)),
+  )
 
   pub windows-same : Agree startsAt 16 → tabulate (windowOf s) 8 ≡ tabulate (windowOf r) 8
   unfolding windowOf
-  windows-same e = table-same _ _ 8 (λ f h. rw (
-    e (startsAt + f) (omega arith) (omega arith),
-    e (endsAt + f) (omega arith) (omega arith),
-  ))
+  windows-same e = table-same _ _ 8
+      (λ f h. rw (e (startsAt + f) (omega arith) (omega arith), e (endsAt + f) (omega arith) (omega arith)))
 
   -- They agree on this number.
   abbrev Same : ℕ → Type 0
@@ -141,21 +106,18 @@ module _ (r s : List ℕ) where
   descriptors-same t e dirty = table-same _ _ 16 (λ d h. rw (e d (omega arith), e (16 + d) (omega arith), dirty))
 
   transaction-same : (t : ℕ) → ((k : ℕ) → k < transactionLength → Same (numberAt t k)) → transactionOf s t ≡ transactionOf r t
-  unfolding transactionOf usedOf
-  transaction-same t e =
-      rw (
-        e 32 (omega arith),
-        e 33 (omega arith),
-        e 34 (omega arith),
-        e 36 (omega arith),
-        e 37 (omega arith),
-        descriptors-same t (λ k h. e k (omega arith)) (e 35 (omega arith)),
-      )
+  transaction-same t e = unfold transactionOf usedOf in rw (
+    e 32 (omega arith),
+    e 33 (omega arith),
+    e 34 (omega arith),
+    e 36 (omega arith),
+    e 37 (omega arith),
+    descriptors-same t (λ k h. e k (omega arith)) (e 35 (omega arith)),
+  )
 
   pub transactions-same : Agree transactionsAt (transactionCount * transactionLength)
       → tabulate (transactionOf s) 8 ≡ tabulate (transactionOf r) 8
-  transactions-same e =
-      table-same _ _ 8 (λ t h. transaction-same t (λ k l. e (numberAt t k) (omega arith) (omega arith)))
+  transactions-same e = table-same _ _ 8 (λ t h. transaction-same t (λ k l. e (numberAt t k) (omega arith) (omega arith)))
 
   -- They agree but for the numbers of transaction t: outside the rows of the transactions, and on those of every other one.
   abbrev AgreeBut : ℕ → Type 0
@@ -167,19 +129,14 @@ module _ (r s : List ℕ) where
     other-transaction u h ne = transaction-same u (λ k l. outside .1 u k h l ne)
 
     store-block : (y : Transaction) → transactionOf s t ≡ y → storeOf s ≡ withTransaction t y (storeOf r)
-    unfolding storeOf withTransaction
-    store-block y own =
-        rw (
-          column-same fileNumbersAt descriptorCount (λ j a b. outside .0 j (inr (omega arith))),
-          column-same offsetsAt descriptorCount
-              (λ j a b. outside .0 j (inr (omega arith))),
-          column-same lengthsAt fileCount (λ j a b. outside .0 j (inr (omega arith))),
-          windows-same
-              (λ j a b. outside .0 j (inr (omega arith))),
-          undo-same (λ j a b. outside .0 j (inr (omega arith))),
-          table-set (transactionOf r)
-              (transactionOf s) 8 t y small own other-transaction,
-        )
+    store-block y own = unfold storeOf withTransaction in rw (
+      column-same fileNumbersAt descriptorCount (λ j a b. outside .0 j (inr (omega arith))),
+      column-same offsetsAt descriptorCount (λ j a b. outside .0 j (inr (omega arith))),
+      column-same lengthsAt fileCount (λ j a b. outside .0 j (inr (omega arith))),
+      windows-same (λ j a b. outside .0 j (inr (omega arith))),
+      undo-same (λ j a b. outside .0 j (inr (omega arith))),
+      table-set (transactionOf r) (transactionOf s) 8 t y small own other-transaction,
+    )
 
     -- The transaction became f of what it was.
     store-by : (f : Transaction → Transaction) → transactionOf s t ≡ f (transactionOf r t)
@@ -228,8 +185,7 @@ standing-back (Known o) = ap Known (omega arith)
 
 -- Each standing from what its two numbers are.
 pub known-zero : (a b : ℕ) → b ≡ 1 → a ≡ 0 → Known 0 ≡ standingOf a b
-unfolding standingOf
-known-zero a b e f = rw (f, e)
+known-zero a b e f = unfold standingOf in rw (f, e)
 
 pub known-of : (a b : ℕ) → b ≡ 1 → Known (a - 1) ≡ standingOf a b
 unfolding standingOf
@@ -237,8 +193,7 @@ known-of zero b e = rw e
 known-of (suc o) b e = rw e
 
 pub untouched-of : (a b : ℕ) → b ≡ 0 → a ≡ 0 → Untouched ≡ standingOf a b
-unfolding standingOf
-untouched-of a b e f = rw (f, e)
+untouched-of a b e f = unfold standingOf in rw (f, e)
 
 pub placed-of : (a b : ℕ) → b ≡ 0 → (a ≡ 0 → ⊥) → Placed (a - 1) ≡ standingOf a b
 unfolding standingOf
@@ -269,17 +224,14 @@ module _ (r : List ℕ) (t d : ℕ) (q : Descriptor) where
   marked = withBitAs d (q .dirty) (getD r (numberAt t 35) 0)
 
   pub length-with-descriptor : length (withDescriptorAt r t d q) ≡ length r
-  unfolding withDescriptorAt
-  length-with-descriptor = simp length-set
+  length-with-descriptor = unfold withDescriptorAt in simp length-set
 
   -- A number that is none of the three.
   number-preserved : (j : ℕ) → (j ≡ numberAt t d → ⊥) → (j ≡ numberAt t (16 + d) → ⊥) → (j ≡ numberAt t 35 → ⊥)
       → getD (withDescriptorAt r t d q) j 0 ≡ getD r j 0
   unfolding withDescriptorAt
-  number-preserved j n0 n1 n2 =
-      getD-set-other two (numberAt t 35) j marked 0 n2
-      ∙ getD-set-other one (numberAt t (16 + d)) j (secondNumber (q .standing)) 0 n1
-      ∙ getD-set-other r (numberAt t d) j (firstNumber (q .standing)) 0 n0
+  number-preserved j n0 n1 n2 = getD-set-other two (numberAt t 35) j marked 0 n2 ∙ getD-set-other one (numberAt t (16 + d))
+      j (secondNumber (q .standing)) 0 n1 ∙ getD-set-other r (numberAt t d) j (firstNumber (q .standing)) 0 n0
 
   module _ (long : length r ≡ stateLength) (small : t < transactionCount) (few : d < descriptorCount) where
     long-one : length one ≡ stateLength
@@ -290,34 +242,28 @@ module _ (r : List ℕ) (t d : ℕ) (q : Descriptor) where
 
     own-first : getD (withDescriptorAt r t d q) (numberAt t d) 0 ≡ firstNumber (q .standing)
     unfolding withDescriptorAt
-    own-first =
-        getD-set-other two (numberAt t 35) (numberAt t d) marked 0 (λ p. omega arith)
+    own-first = getD-set-other two (numberAt t 35) (numberAt t d) marked 0 (λ p. omega arith)
         ∙ getD-set-other one (numberAt t (16 + d)) (numberAt t d) (secondNumber (q .standing)) 0 (λ p. omega arith)
         ∙ getD-set-same r (numberAt t d) (firstNumber (q .standing)) 0 (omega arith)
 
     own-second : getD (withDescriptorAt r t d q) (numberAt t (16 + d)) 0 ≡ secondNumber (q .standing)
-    unfolding withDescriptorAt
-    own-second =
-        let l = long-one in
+    own-second = unfold withDescriptorAt in let l = long-one in
         getD-set-other two (numberAt t 35) (numberAt t (16 + d)) marked 0 (λ p. omega arith)
         ∙ getD-set-same one (numberAt t (16 + d)) (secondNumber (q .standing)) 0 (omega arith)
 
     own-dirty : getD (withDescriptorAt r t d q) (numberAt t 35) 0 ≡ marked
-    unfolding withDescriptorAt
-    own-dirty = let l = long-two in getD-set-same two (numberAt t 35) marked 0 (omega arith)
+    own-dirty = unfold withDescriptorAt in let l = long-two in getD-set-same two (numberAt t 35) marked 0 (omega arith)
 
     -- The descriptor that was put, and another of the same transaction.
     same-descriptor : descriptorOf (withDescriptorAt r t d q) t d ≡ q
-    unfolding descriptorOf
-    same-descriptor =
-        rw (
-          own-first,
-          own-second,
-          own-dirty,
-          standing-back (q .standing),
-          contains-put d (q .dirty) (getD r (numberAt t 35) 0) d few few,
-          eq-eqb d d refl,
-        )
+    same-descriptor = unfold descriptorOf in rw (
+      own-first,
+      own-second,
+      own-dirty,
+      standing-back (q .standing),
+      contains-put d (q .dirty) (getD r (numberAt t 35) 0) d few few,
+      eq-eqb d d refl,
+    )
 
     other-descriptor : (e : ℕ) → e < descriptorCount → (e ≡ d → ⊥)
         → descriptorOf (withDescriptorAt r t d q) t e ≡ descriptorOf r t e
@@ -328,9 +274,7 @@ module _ (r : List ℕ) (t d : ℕ) (q : Descriptor) where
         rw (firsts, seconds, own-dirty, contains-put d (q .dirty) (getD r (numberAt t 35) 0) e few h, ne-eqb e d ne)
 
     outside-preserved : AgreeBut r (withDescriptorAt r t d q) t
-    unfolding withDescriptorAt
-    outside-preserved =
-        let s = withDescriptorAt r t d q in
+    outside-preserved = unfold withDescriptorAt in let s = withDescriptorAt r t d q in
         agree-then r one s t (agree-set r t d (firstNumber (q .standing)) small (omega arith))
         (agree-then one two s t (agree-set one t (16 + d) (secondNumber (q .standing)) small (omega arith))
         (agree-set two t 35 marked small (omega arith)))
@@ -338,12 +282,9 @@ module _ (r : List ℕ) (t d : ℕ) (q : Descriptor) where
     -- The transaction, the whole record, and the journal.
     with-descriptor : let x = transactionOf r t in transactionOf (withDescriptorAt r t d q) t
         ≡ withDescriptors (set (x .descriptors) d q) x
-    unfolding transactionOf usedOf
-    with-descriptor =
-        let s = withDescriptorAt r t d q in
+    with-descriptor = unfold transactionOf usedOf in let s = withDescriptorAt r t d q in
         let state : (k : ℕ) → 32 ≤ k → (k ≡ 35 → ⊥) → getD s (numberAt t k) 0 ≡ getD r (numberAt t k) 0 =
-        λ k h ne. number-preserved (numberAt t k) (λ p. omega arith) (λ p. omega arith) (λ p. ne (omega arith)) in
-        rw (
+        λ k h ne. number-preserved (numberAt t k) (λ p. omega arith) (λ p. omega arith) (λ p. ne (omega arith)) in rw (
           state 32 (omega arith) (λ p. omega arith),
           state 33 (omega arith) (λ p. omega arith),
           state 34 (omega arith) (λ p. omega arith),
@@ -370,9 +311,7 @@ module _ (r : List ℕ) (t : ℕ) (chosen : ℕ → Bool) (f : ℕ → Descripto
   pub length-with-chosen : (n : ℕ) → length (withChosenAt r t chosen f n) ≡ length r
   unfolding withChosenAt
   length-with-chosen zero = refl
-  length-with-chosen (suc n) =
-      let s = withChosenAt r t chosen f n in
-      let e = length-with-chosen n in
+  length-with-chosen (suc n) = let s = withChosenAt r t chosen f n in let e = length-with-chosen n in
       either (λ l. length l ≡ length r) (chosen n) (withDescriptorAt s t n (f n)) s (length-with-descriptor s t n (f n) ∙ e)
       (λ _. e)
 
@@ -380,13 +319,9 @@ module _ (r : List ℕ) (t : ℕ) (chosen : ℕ → Bool) (f : ℕ → Descripto
     outside-chosen : (n : ℕ) → n ≤ 16 → AgreeBut r (withChosenAt r t chosen f n) t
     unfolding withChosenAt
     outside-chosen zero h = ((λ j w. refl), (λ u k a b ne. refl))
-    outside-chosen (suc n) h =
-        let s = withChosenAt r t chosen f n in
-        let e = outside-chosen n (omega arith) in
-        either (λ l. AgreeBut r l t) (chosen n) (withDescriptorAt s t n (f n)) s
-        (agree-then r s (withDescriptorAt s t n (f n)) t e
-        (outside-preserved s t n (f n) (length-with-chosen n ∙ long) small (omega arith)))
-        (λ _. e)
+    outside-chosen (suc n) h = let s = withChosenAt r t chosen f n in let e = outside-chosen n (omega arith) in
+        either (λ l. AgreeBut r l t) (chosen n) (withDescriptorAt s t n (f n)) s (agree-then r s (withDescriptorAt s t n
+        (f n)) t e (outside-preserved s t n (f n) (length-with-chosen n ∙ long) small (omega arith))) (λ _. e)
 
     pub journal-with-chosen : journalOf (withChosenAt r t chosen f 16) ≡ journalOf r
     journal-with-chosen = journal-block r (withChosenAt r t chosen f 16) t small (outside-chosen 16 (omega arith))
@@ -405,60 +340,47 @@ module _ (r : List ℕ) (t : ℕ) (chosen : ℕ → Bool) (f : ℕ → Descripto
       unfolding withChosenAt
       with-first zero h = ap (λ (ds : List Descriptor). withDescriptors ds (transactionOf r t))
           (sym (filled-none f (transactionOf r t .descriptors)))
-      with-first (suc n) h =
-          let s = withChosenAt r t chosen f n in
-          let xs = transactionOf r t .descriptors in
-          let e = with-first n (omega arith) in
-          let l = sixteen in
+      with-first (suc n) h = let s = withChosenAt r t chosen f n in let xs = transactionOf r t .descriptors in
+          let e = with-first n (omega arith) in let l = sixteen in
           either (λ l. transactionOf l t ≡ withDescriptors (first-of (suc n)) (transactionOf r t)) (chosen n)
-          (withDescriptorAt s t n (f n)) s
-          (with-descriptor s t n (f n) (length-with-chosen n ∙ long) small (omega arith)
-          ∙ ap (λ (x : Transaction). withDescriptors (set (x .descriptors) n (f n)) x) e
-          ∙ ap (λ (ds : List Descriptor). withDescriptors ds (transactionOf r t))
-          (rw add-one at (filled-set f xs n (f n) (omega arith) refl)))
-          (λ p. e ∙ ap (λ (ds : List Descriptor). withDescriptors ds (transactionOf r t))
-          (rw add-one at (filled-preserved f xs n noDescriptor (omega arith)
-          (same n (omega arith) p ∙ sym (descriptor-of r t n (omega arith))))))
+          (withDescriptorAt s t n (f n)) s (with-descriptor s t n (f n) (length-with-chosen n ∙ long) small (omega arith)
+          ∙ ap (λ (x : Transaction). withDescriptors (set (x .descriptors) n (f n)) x) e ∙ ap (λ (ds : List Descriptor).
+          withDescriptors ds (transactionOf r t)) (rw add-one at (filled-set f xs n (f n) (omega arith) refl))) (λ p. e
+          ∙ ap (λ (ds : List Descriptor). withDescriptors ds (transactionOf r t)) (rw add-one at (filled-preserved f xs n
+          noDescriptor (omega arith) (same n (omega arith) p ∙ sym (descriptor-of r t n (omega arith))))))
 
       pub store-with-chosen : storeOf (withChosenAt r t chosen f 16)
           ≡ withTransaction t (withDescriptors (tabulate f 16) (transaction (storeOf r) t)) (storeOf r)
-      store-with-chosen =
-          let l = sixteen in
-          store-by r (withChosenAt r t chosen f 16) t small (outside-chosen 16 (omega arith)) (withDescriptors (tabulate f 16))
-          (with-first 16 (omega arith)
-          ∙ ap (λ (ds : List Descriptor). withDescriptors ds (transactionOf r t))
-          (filled-all f (transactionOf r t .descriptors) 16 (omega arith)))
+      store-with-chosen = let l = sixteen in
+          store-by r (withChosenAt r t chosen f 16) t small (outside-chosen 16 (omega arith))
+          (withDescriptors (tabulate f 16)) (with-first 16 (omega arith) ∙ ap (λ (ds : List Descriptor). withDescriptors ds
+          (transactionOf r t)) (filled-all f (transactionOf r t .descriptors) 16 (omega arith)))
 
 -- ---- the two counters, the flags, the lengths sighted
 
 -- Number k of transaction t was put, which is no descriptor's.
 module _ (r : List ℕ) (t : ℕ) (long : length r ≡ stateLength) (small : t < transactionCount) (k n : ℕ) (past : 32 ≤ k)
-    (few : k < transactionLength)
-    (clean : k ≡ 35 → ⊥) where
+    (few : k < transactionLength) (clean : k ≡ 35 → ⊥) where
   abbrev after : ℕ → ℕ
   after j = cond (eqb j k) n (getD r (numberAt t j) 0)
 
-  with-number : transactionOf (set r (numberAt t k) n) t
-      ≡ record {
-        begun = isSet (after 32);
-        stale = isSet
-            (after 33);
-        lengthmarks = after 34;
-        used = record { records = after 36; bytes = after 37 };
-        descriptors = transactionOf r t .descriptors;
-      }
+  with-number : transactionOf (set r (numberAt t k) n) t ≡ record {
+    begun = isSet (after 32);
+    stale = isSet (after 33);
+    lengthmarks = after 34;
+    used = record { records = after 36; bytes = after 37 };
+    descriptors = transactionOf r t .descriptors;
+  }
   unfolding transactionOf usedOf
-  with-number =
-      rw (
-        number-at 32,
-        number-at 33,
-        number-at 34,
-        number-at 36,
-        number-at 37,
-        descriptors-same r (set r (numberAt t k) n) t
-            (λ j h. getD-set-other r (numberAt t k) (numberAt t j) n 0 (λ p. omega arith))
-            (getD-set-other r (numberAt t k) (numberAt t 35) n 0 (λ p. clean (omega arith))),
-      )
+  with-number = rw (
+    number-at 32,
+    number-at 33,
+    number-at 34,
+    number-at 36,
+    number-at 37,
+    descriptors-same r (set r (numberAt t k) n) t (λ j h. getD-set-other r (numberAt t k) (numberAt t j) n 0
+        (λ p. omega arith)) (getD-set-other r (numberAt t k) (numberAt t 35) n 0 (λ p. clean (omega arith))),
+  )
     where
       number-by : (j : ℕ) (b : Bool) → eqb j k ≡ b
           → getD (set r (numberAt t k) n) (numberAt t j) 0 ≡ cond b n (getD r (numberAt t j) 0)
@@ -471,24 +393,20 @@ module _ (r : List ℕ) (t : ℕ) (long : length r ≡ stateLength) (small : t <
 module _ (r : List ℕ) (t : ℕ) (long : length r ≡ stateLength) (small : t < transactionCount) where
   module _ (u : Used) where
     pub length-with-used : length (withUsedAt r t u) ≡ length r
-    unfolding withUsedAt
-    length-with-used = simp length-set
+    length-with-used = unfold withUsedAt in simp length-set
 
     recorded : length (set r (numberAt t 36) (u .records)) ≡ stateLength
     recorded = length-set r (numberAt t 36) (u .records) ∙ long
 
     outside-used : AgreeBut r (withUsedAt r t u) t
     unfolding withUsedAt
-    outside-used =
-        agree-then r (set r (numberAt t 36) (u .records)) (withUsedAt r t u) t (agree-set r t 36 (u .records) small (omega arith))
-        (agree-set (set r (numberAt t 36) (u .records)) t 37 (u .bytes) small (omega arith))
+    outside-used = agree-then r (set r (numberAt t 36) (u .records)) (withUsedAt r t u) t (agree-set r t 36 (u .records)
+        small (omega arith)) (agree-set (set r (numberAt t 36) (u .records)) t 37 (u .bytes) small (omega arith))
 
     with-used : transactionOf (withUsedAt r t u) t ≡ withUsed u (transactionOf r t)
     unfolding transactionOf usedOf withUsedAt
-    with-used =
-        with-number (set r (numberAt t 36) (u .records)) t recorded small 37 (u .bytes) (omega arith) (omega arith)
-        (λ p. omega arith)
-        ∙ ap (λ (x : Transaction). withUsed (record { records = x .used .records; bytes = u .bytes }) x)
+    with-used = with-number (set r (numberAt t 36) (u .records)) t recorded small 37 (u .bytes) (omega arith) (omega arith)
+        (λ p. omega arith) ∙ ap (λ (x : Transaction). withUsed (record { records = x .used .records; bytes = u .bytes }) x)
         (with-number r t long small 36 (u .records) (omega arith) (omega arith) (λ p. omega arith))
 
     pub store-with-used : storeOf (withUsedAt r t u) ≡ withTransaction t (withUsed u (transaction (storeOf r) t)) (storeOf r)
@@ -504,8 +422,7 @@ module _ (r : List ℕ) (t : ℕ) (long : length r ≡ stateLength) (small : t <
   outside-stale = agree-set r t 33 1 small (omega arith)
 
   with-stale : transactionOf (withStaleAt r t) t ≡ withStale true (transactionOf r t)
-  unfolding transactionOf usedOf
-  with-stale = with-number r t long small 33 1 (omega arith) (omega arith) (λ p. omega arith)
+  with-stale = unfold transactionOf usedOf in with-number r t long small 33 1 (omega arith) (omega arith) (λ p. omega arith)
 
   pub store-with-stale : storeOf (withStaleAt r t) ≡ withTransaction t (withStale true (transaction (storeOf r) t)) (storeOf r)
   store-with-stale = store-by r (withStaleAt r t) t small outside-stale (withStale true) with-stale
@@ -539,69 +456,56 @@ none-dirty d h = ap (λ (x : ℕ). contains x d) (sym (bits-none (λ _. false) 1
 
 module _ {A : Type 0} (a : A) where
   eight-of : tabulate (λ _. a) 8 ≡ replicate 8 a
-  unfolding tabulate
-  eight-of = refl
+  eight-of = unfold tabulate in refl
 
   sixteen-of : tabulate (λ _. a) 16 ≡ replicate 16 a
-  unfolding tabulate
-  sixteen-of = refl
+  sixteen-of = unfold tabulate in refl
 
 module _ (r : List ℕ) where
   transaction-of-zeros : (t : ℕ) → ((k : ℕ) → k < transactionLength → getD r (numberAt t k) 0 ≡ 0) → transactionOf r t ≡ ended
-  unfolding transactionOf usedOf descriptorOf standingOf ended
-  transaction-of-zeros t none =
-      rw (
-        none 32 (omega arith),
-        none 33 (omega arith),
-        none 34 (omega arith),
-        none 36 (omega arith),
-        none 37 (omega arith),
-        table-same (descriptorOf r t) (λ _. noDescriptor) 16
-            (λ d h. rw (none d (omega arith), none (16 + d) (omega arith), none 35 (omega arith), none-dirty d h)),
-        sixteen-of noDescriptor,
-      )
+  transaction-of-zeros t none = unfold transactionOf usedOf descriptorOf standingOf ended in rw (
+    none 32 (omega arith),
+    none 33 (omega arith),
+    none 34 (omega arith),
+    none 36 (omega arith),
+    none 37 (omega arith),
+    table-same (descriptorOf r t) (λ _. noDescriptor) 16
+        (λ d h. rw (none d (omega arith), none (16 + d) (omega arith), none 35 (omega arith), none-dirty d h)),
+    sixteen-of noDescriptor,
+  )
 
   windows-of-zeros : ((j : ℕ) → getD r j 0 ≡ 0) → tabulate (windowOf r) 8 ≡ replicate 8 freshWindow
-  unfolding windowOf
-  windows-of-zeros none = table-same _ (λ _. freshWindow) 8 (λ f h. rw (none (startsAt + f), none (endsAt + f)))
-      ∙ eight-of freshWindow
+  windows-of-zeros none = unfold windowOf in
+      table-same _ (λ _. freshWindow) 8 (λ f h. rw (none (startsAt + f), none (endsAt + f))) ∙ eight-of freshWindow
 
   undo-of-zeros : ((j : ℕ) → getD r j 0 ≡ 0) → undoOf r ≡ noUndo
-  unfolding undoOf
-  undo-of-zeros none =
-      rw (
-        none undoValidAt,
-        none (undoValidAt + 1),
-        none (undoValidAt + 2),
-        table-same (λ d. getD r (foundOffsetsAt + d) 0) (λ _. 0) 16 (λ d h. none (foundOffsetsAt + d)),
-        table-same
-            (λ f. getD r (foundLengthsAt + f) 0) (λ _. 0) 8 (λ f h. none (foundLengthsAt + f)),
-        sixteen-of {A = ℕ} 0,
-        eight-of {A = ℕ} 0,
-      )
+  undo-of-zeros none = unfold undoOf in rw (
+    none undoValidAt,
+    none (undoValidAt + 1),
+    none (undoValidAt + 2),
+    table-same (λ d. getD r (foundOffsetsAt + d) 0) (λ _. 0) 16 (λ d h. none (foundOffsetsAt + d)),
+    table-same (λ f. getD r (foundLengthsAt + f) 0) (λ _. 0) 8 (λ f h. none (foundLengthsAt + f)),
+    sixteen-of {A = ℕ} 0,
+    eight-of {A = ℕ} 0,
+  )
 
-  pub store-of-zeros : ((j : ℕ) → getD r j 0 ≡ 0)
-      → storeOf r ≡ record {
-        filenumbers = replicate 16 0;
-        offsets = replicate 16 0;
-        lengths = replicate 8 0;
-        windows = replicate 8
-            freshWindow;
-        undo = noUndo;
-        transactions = replicate 8 ended;
-      }
+  pub store-of-zeros : ((j : ℕ) → getD r j 0 ≡ 0) → storeOf r ≡ record {
+    filenumbers = replicate 16 0;
+    offsets = replicate 16 0;
+    lengths = replicate 8 0;
+    windows = replicate 8 freshWindow;
+    undo = noUndo;
+    transactions = replicate 8 ended;
+  }
   unfolding storeOf
-  store-of-zeros none =
-      let zeros : (at m : ℕ) → tabulate (λ k. getD r (at + k) 0) m
-      ≡ tabulate (λ _. 0) m = λ at m. table-same _ _ m (λ k h. none (at + k)) in
-      rw (
+  store-of-zeros none = let zeros : (at m : ℕ) → tabulate (λ k. getD r (at + k) 0) m ≡ tabulate (λ _. 0) m =
+      λ at m. table-same _ _ m (λ k h. none (at + k)) in rw (
         zeros fileNumbersAt descriptorCount,
         zeros offsetsAt descriptorCount,
         zeros lengthsAt fileCount,
         windows-of-zeros none,
         undo-of-zeros none,
-        table-same (transactionOf r) (λ _. ended) 8
-            (λ t h. transaction-of-zeros t (λ k l. none (numberAt t k))),
+        table-same (transactionOf r) (λ _. ended) 8 (λ t h. transaction-of-zeros t (λ k l. none (numberAt t k))),
         sixteen-of {A = ℕ} 0,
         eight-of {A = ℕ} 0,
         eight-of ended,
@@ -617,20 +521,16 @@ module _ (r : List ℕ) (t : ℕ) where
     outside-zeroed : (n : ℕ) → n ≤ transactionLength → AgreeBut r (zeroedAt r t n) t
     unfolding zeroedAt
     outside-zeroed zero h = ((λ j w. refl), (λ u k a b ne. refl))
-    outside-zeroed (suc n) h =
-        agree-then r (zeroedAt r t n) (zeroedAt r t (suc n)) t (outside-zeroed n (omega arith))
+    outside-zeroed (suc n) h = agree-then r (zeroedAt r t n) (zeroedAt r t (suc n)) t (outside-zeroed n (omega arith))
         (agree-set (zeroedAt r t n) t n 0 small (omega arith))
 
     zeroed-own : length r ≡ stateLength → (n k : ℕ) → n ≤ transactionLength → k < n → getD (zeroedAt r t n) (numberAt t k) 0 ≡ 0
     unfolding zeroedAt
     zeroed-own long zero k f h = absurd (not-suc-le-zero h)
-    zeroed-own long (suc n) k f h =
-        let l = length-zeroed n in
-        ⊎-elim
-        (λ e. rw e (getD-set-same (zeroedAt r t n) (numberAt t n) 0 0 (omega arith)))
+    zeroed-own long (suc n) k f h = let l = length-zeroed n in
+        ⊎-elim (λ e. rw e (getD-set-same (zeroedAt r t n) (numberAt t n) 0 0 (omega arith)))
         (λ b. getD-set-other (zeroedAt r t n) (numberAt t n) (numberAt t k) 0 0 (λ p. omega arith)
-        ∙ zeroed-own long n k (omega arith) b)
-        (eq-or-lt-of-le (le-of-suc-le-suc h))
+        ∙ zeroed-own long n k (omega arith) b) (eq-or-lt-of-le (le-of-suc-le-suc h))
 
 module _ (r : List ℕ) (t : ℕ) (long : length r ≡ stateLength) (small : t < transactionCount) (b : Bool) where
   abbrev zeroed : List ℕ
@@ -640,21 +540,18 @@ module _ (r : List ℕ) (t : ℕ) (long : length r ≡ stateLength) (small : t <
   long-zeroed = length-zeroed r t transactionLength ∙ long
 
   pub length-reset : length (resetAt r t b) ≡ length r
-  unfolding resetAt
-  length-reset = length-set zeroed (numberAt t 32) (flagNumber b) ∙ length-zeroed r t transactionLength
+  length-reset = unfold resetAt in length-set zeroed (numberAt t 32) (flagNumber b) ∙ length-zeroed r t transactionLength
 
   outside-reset : AgreeBut r (resetAt r t b) t
   unfolding resetAt
-  outside-reset =
-      agree-then r zeroed (resetAt r t b) t (outside-zeroed r t small transactionLength (omega arith))
+  outside-reset = agree-then r zeroed (resetAt r t b) t (outside-zeroed r t small transactionLength (omega arith))
       (agree-set zeroed t 32 (flagNumber b) small (omega arith))
 
   own-reset : transactionOf (resetAt r t b) t ≡ withBegun b ended
   unfolding transactionOf usedOf resetAt
-  own-reset =
-      with-number zeroed t long-zeroed small 32 (flagNumber b) (omega arith) (omega arith) (λ p. omega arith)
-      ∙ ap (λ (a : Bool). withBegun a (transactionOf zeroed t)) (flag-back b)
-      ∙ ap (withBegun b) (transaction-of-zeros zeroed t (λ k h. zeroed-own r t small long transactionLength k (omega arith) h))
+  own-reset = with-number zeroed t long-zeroed small 32 (flagNumber b) (omega arith) (omega arith) (λ p. omega arith)
+      ∙ ap (λ (a : Bool). withBegun a (transactionOf zeroed t)) (flag-back b) ∙ ap (withBegun b)
+      (transaction-of-zeros zeroed t (λ k h. zeroed-own r t small long transactionLength k (omega arith) h))
 
   pub store-reset : storeOf (resetAt r t b) ≡ withTransaction t (withBegun b ended) (storeOf r)
   store-reset = store-block r (resetAt r t b) t small outside-reset (withBegun b ended) own-reset
@@ -687,53 +584,40 @@ module _ (r : List ℕ) (long : length r ≡ stateLength) where
   -- A column of m numbers from `at` on, of which number k was put.
   pub column-set : (at m k n : ℕ) → k < m → at + m ≤ stateLength
       → tabulate (λ d. getD (set r (at + k) n) (at + d) 0) m ≡ set (tabulate (λ d. getD r (at + d) 0) m) k n
-  column-set at m k n h l =
-      table-set (λ d. getD r (at + d) 0) (λ d. getD (set r (at + k) n) (at + d) 0) m k n h
+  column-set at m k n h l = table-set (λ d. getD r (at + d) 0) (λ d. getD (set r (at + k) n) (at + d) 0) m k n h
       (getD-set-same r (at + k) n 0 (omega arith))
       (λ d f ne. getD-set-other r (at + k) (at + d) n 0 (λ p. ne (omega arith)))
 
   module _ (k n : ℕ) where
     pub store-with-offset : k < 16 → storeOf (withOffsetAt r k n) ≡ withOffsets (set (storeOf r .offsets) k n) (storeOf r)
-    unfolding storeOf
-    store-with-offset h =
-        let i = offsetsAt + k in
-        rw (
-          transactions-past i n (omega arith),
-          column-left r i n fileNumbersAt descriptorCount (inr (omega arith)),
-          column-left r i n lengthsAt fileCount
-              (inl (omega arith)),
-          windows-left r i n (omega arith),
-          undo-left r i n (omega arith),
-          column-set offsetsAt descriptorCount k n h (omega arith),
-        )
+    store-with-offset h = unfold storeOf in let i = offsetsAt + k in rw (
+      transactions-past i n (omega arith),
+      column-left r i n fileNumbersAt descriptorCount (inr (omega arith)),
+      column-left r i n lengthsAt fileCount (inl (omega arith)),
+      windows-left r i n (omega arith),
+      undo-left r i n (omega arith),
+      column-set offsetsAt descriptorCount k n h (omega arith),
+    )
 
     pub store-with-length : k < 8 → storeOf (withLengthAt r k n) ≡ withLengths (set (storeOf r .lengths) k n) (storeOf r)
-    unfolding storeOf
-    store-with-length h =
-        let i = lengthsAt + k in
-        rw (
-          transactions-past i n (omega arith),
-          column-left r i n fileNumbersAt descriptorCount (inr (omega arith)),
-          column-left r i n offsetsAt descriptorCount
-              (inr (omega arith)),
-          windows-left r i n (omega arith),
-          undo-left r i n (omega arith),
-          column-set lengthsAt fileCount k n h (omega arith),
-        )
+    store-with-length h = unfold storeOf in let i = lengthsAt + k in rw (
+      transactions-past i n (omega arith),
+      column-left r i n fileNumbersAt descriptorCount (inr (omega arith)),
+      column-left r i n offsetsAt descriptorCount (inr (omega arith)),
+      windows-left r i n (omega arith),
+      undo-left r i n (omega arith),
+      column-set lengthsAt fileCount k n h (omega arith),
+    )
 
     store-with-file : k < 16 → let s = storeOf r in storeOf (withFileNumberAt r k n) ≡ filed (set (s .filenumbers) k n) s
-    unfolding storeOf
-    store-with-file h =
-        let i = fileNumbersAt + k in
-        rw (
-          transactions-past i n (omega arith),
-          column-left r i n offsetsAt descriptorCount (inl (omega arith)),
-          column-left r i n lengthsAt fileCount
-              (inl (omega arith)),
-          windows-left r i n (omega arith),
-          undo-left r i n (omega arith),
-          column-set fileNumbersAt descriptorCount k n h (omega arith),
-        )
+    store-with-file h = unfold storeOf in let i = fileNumbersAt + k in rw (
+      transactions-past i n (omega arith),
+      column-left r i n offsetsAt descriptorCount (inl (omega arith)),
+      column-left r i n lengthsAt fileCount (inl (omega arith)),
+      windows-left r i n (omega arith),
+      undo-left r i n (omega arith),
+      column-set fileNumbersAt descriptorCount k n h (omega arith),
+    )
 
     journal-with-file : journalOf (withFileNumberAt r k n) ≡ journalOf r
     journal-with-file = journal-past (fileNumbersAt + k) n (omega arith)
@@ -755,40 +639,28 @@ module _ (r : List ℕ) (long : length r ≡ stateLength) where
     before-windows at n l j a b = window-preserved j (λ p. omega arith) (λ p. omega arith)
 
     own-window : f < fileCount → windowOf (withWindowAt r f w) f ≡ w
-    unfolding windowOf
-    own-window h =
-        let a = set r (startsAt + f) (w .start) in
-        let la : length a ≡ stateLength = length-set r (startsAt + f) (w .start) ∙ long in
-        rw (
+    own-window h = unfold windowOf in let a = set r (startsAt + f) (w .start) in
+        let la : length a ≡ stateLength = length-set r (startsAt + f) (w .start) ∙ long in rw (
           getD-set-other a (endsAt + f) (startsAt + f) (w .end) 0 (λ p. omega arith),
-          getD-set-same r (startsAt + f) (w .start) 0
-              (omega arith),
+          getD-set-same r (startsAt + f) (w .start) 0 (omega arith),
           getD-set-same a (endsAt + f) (w .end) 0 (omega arith),
         )
 
     other-window : f < fileCount → (g : ℕ) → g < fileCount → (g ≡ f → ⊥) → windowOf (withWindowAt r f w) g ≡ windowOf r g
-    unfolding windowOf
-    other-window h g l ne =
-        rw (
-          window-preserved (startsAt + g) (λ p. ne (omega arith)) (λ p. omega arith),
-          window-preserved (endsAt + g) (λ p. omega arith) (λ p. ne (omega arith)),
-        )
+    other-window h g l ne = unfold windowOf in rw (
+      window-preserved (startsAt + g) (λ p. ne (omega arith)) (λ p. omega arith),
+      window-preserved (endsAt + g) (λ p. omega arith) (λ p. ne (omega arith)),
+    )
 
     pub store-with-window : f < fileCount → storeOf (withWindowAt r f w) ≡ withWindows (set (storeOf r .windows) f w) (storeOf r)
-    unfolding storeOf
-    store-with-window h =
-        let s = withWindowAt r f w in
-        rw (
-          transactions-same r s (before-windows transactionsAt (transactionCount * transactionLength) (omega arith)),
-          column-same r s fileNumbersAt descriptorCount
-              (before-windows fileNumbersAt descriptorCount (omega arith)),
-          column-same r s offsetsAt descriptorCount (before-windows offsetsAt descriptorCount (omega arith)),
-          column-same r s lengthsAt fileCount
-              (before-windows lengthsAt fileCount (omega arith)),
-          undo-same r s (λ j a b. window-preserved j (λ p. omega arith) (λ p. omega arith)),
-          table-set
-              (windowOf r) (windowOf s) 8 f w h (own-window h) (other-window h),
-        )
+    store-with-window h = unfold storeOf in let s = withWindowAt r f w in rw (
+      transactions-same r s (before-windows transactionsAt (transactionCount * transactionLength) (omega arith)),
+      column-same r s fileNumbersAt descriptorCount (before-windows fileNumbersAt descriptorCount (omega arith)),
+      column-same r s offsetsAt descriptorCount (before-windows offsetsAt descriptorCount (omega arith)),
+      column-same r s lengthsAt fileCount (before-windows lengthsAt fileCount (omega arith)),
+      undo-same r s (λ j a b. window-preserved j (λ p. omega arith) (λ p. omega arith)),
+      table-set (windowOf r) (windowOf s) 8 f w h (own-window h) (other-window h),
+    )
 
     pub journal-with-window : journalOf (withWindowAt r f w) ≡ journalOf r
     journal-with-window = journal-same r (withWindowAt r f w) (before-windows 0 journalLength (omega arith))
@@ -806,25 +678,22 @@ module _ (r : List ℕ) (long : length r ≡ stateLength) (f : ℕ → ℕ) wher
       ∙ journal-with-files n
 
   sixteen-files : length (storeOf r .filenumbers) ≡ 16
-  unfolding storeOf
-  sixteen-files = length-tabulate (λ d. getD r (fileNumbersAt + d) 0) 16
+  sixteen-files = unfold storeOf in length-tabulate (λ d. getD r (fileNumbersAt + d) 0) 16
 
   with-first-files : (n : ℕ) → n ≤ 16 → let s = storeOf r in storeOf (withFileNumbersAt r f n)
       ≡ filed (filled f (s .filenumbers) n) s
   unfolding withFileNumbersAt
   with-first-files zero h = ap (λ (l : List ℕ). filed l (storeOf r)) (sym (filled-none f (storeOf r .filenumbers)))
-  with-first-files (suc n) h =
-      let l = sixteen-files in
+  with-first-files (suc n) h = let l = sixteen-files in
       store-with-file (withFileNumbersAt r f n) (length-with-files n ∙ long) n (f n) (omega arith)
       ∙ ap (λ (s : StoreMeaning). filed (set (s .filenumbers) n (f n)) s) (with-first-files n (omega arith))
       ∙ ap (λ (l : List ℕ). filed l (storeOf r))
       (rw add-one at (filled-set f (storeOf r .filenumbers) n (f n) (omega arith) refl))
 
   pub store-with-files : storeOf (withFileNumbersAt r f 16) ≡ filed (tabulate f 16) (storeOf r)
-  store-with-files =
-      let l = sixteen-files in
-      with-first-files 16 (omega arith) ∙ ap (λ (l : List ℕ). filed l (storeOf r))
-      (filled-all f (storeOf r .filenumbers) 16 (omega arith))
+  store-with-files = let l = sixteen-files in
+      with-first-files 16 (omega arith)
+      ∙ ap (λ (l : List ℕ). filed l (storeOf r)) (filled-all f (storeOf r .filenumbers) 16 (omega arith))
 
 -- ---- the journal
 
@@ -832,43 +701,31 @@ module _ (r : List ℕ) (long : length r ≡ stateLength) where
   journal-set : (s : List ℕ) → length s ≡ stateLength → (i n : ℕ) → i < journalLength
       → journalOf (set s i n) ≡ set (journalOf s) i n
   unfolding journalOf
-  journal-set s l i n h =
-      table-set (λ j. getD s j 0) (λ j. getD (set s i n) j 0) journalLength i n h (getD-set-same s i n 0 (omega arith))
-      (λ j m ne. getD-set-other s i j n 0 ne)
+  journal-set s l i n h = table-set (λ j. getD s j 0) (λ j. getD (set s i n) j 0) journalLength i n h
+      (getD-set-same s i n 0 (omega arith)) (λ j m ne. getD-set-other s i j n 0 ne)
 
   store-set : (s : List ℕ) (i n : ℕ) → i < journalLength → storeOf (set s i n) ≡ storeOf s
-  unfolding storeOf
-  store-set s i n h =
-      rw (
-        column-left s i n fileNumbersAt descriptorCount (inl (omega arith)),
-        column-left s i n offsetsAt descriptorCount (inl (omega arith)),
-        column-left s i n lengthsAt fileCount
-            (inl (omega arith)),
-        windows-left s i n (omega arith),
-        undo-left s i n (omega arith),
-        transactions-same s (set s i n)
-            (λ j a b. getD-set-other s i j n 0 (λ p. omega arith)),
-      )
+  store-set s i n h = unfold storeOf in rw (
+    column-left s i n fileNumbersAt descriptorCount (inl (omega arith)),
+    column-left s i n offsetsAt descriptorCount (inl (omega arith)),
+    column-left s i n lengthsAt fileCount (inl (omega arith)),
+    windows-left s i n (omega arith),
+    undo-left s i n (omega arith),
+    transactions-same s (set s i n) (λ j a b. getD-set-other s i j n 0 (λ p. omega arith)),
+  )
 
   module _ (t k : ℕ) (w : WriteRecord) (small : t < 9) (few : k < recordCount) where
     pub journal-with-record : journalOf (withRecordAt r t k w) ≡ withRecordAt (journalOf r) t k w
-    unfolding withRecordAt
-    journal-with-record =
-        let i = 3 * (recordCount * t + k) in
-        let a = set r i (descriptorCode (w .descriptor) (w .place)) in
-        let b = set a (i + 1) (placeNumber (w .place)) in
+    journal-with-record = unfold withRecordAt in let i = 3 * (recordCount * t + k) in
+        let a = set r i (descriptorCode (w .descriptor) (w .place)) in let b = set a (i + 1) (placeNumber (w .place)) in
         let la : length a ≡ stateLength = length-set r i (descriptorCode (w .descriptor) (w .place)) ∙ long in
         let lb : length b ≡ stateLength = length-set a (i + 1) (placeNumber (w .place)) ∙ la in
-        journal-set b lb (i + 2) (w .length) (omega arith)
-        ∙ ap (λ (l : List ℕ). set l (i + 2) (w .length)) (journal-set a la (i + 1) (placeNumber (w .place)) (omega arith)
-        ∙ ap (λ (l : List ℕ). set l (i + 1) (placeNumber (w .place)))
+        journal-set b lb (i + 2) (w .length) (omega arith) ∙ ap (λ (l : List ℕ). set l (i + 2) (w .length)) (journal-set a
+        la (i + 1) (placeNumber (w .place)) (omega arith) ∙ ap (λ (l : List ℕ). set l (i + 1) (placeNumber (w .place)))
         (journal-set r long i (descriptorCode (w .descriptor) (w .place)) (omega arith)))
 
     pub store-with-record : storeOf (withRecordAt r t k w) ≡ storeOf r
-    unfolding withRecordAt
-    store-with-record =
-        let i = 3 * (recordCount * t + k) in
-        let a = set r i (descriptorCode (w .descriptor) (w .place)) in
-        let b = set a (i + 1) (placeNumber (w .place)) in
+    store-with-record = unfold withRecordAt in let i = 3 * (recordCount * t + k) in
+        let a = set r i (descriptorCode (w .descriptor) (w .place)) in let b = set a (i + 1) (placeNumber (w .place)) in
         store-set b (i + 2) (w .length) (omega arith) ∙ store-set a (i + 1) (placeNumber (w .place)) (omega arith)
         ∙ store-set r i (descriptorCode (w .descriptor) (w .place)) (omega arith)

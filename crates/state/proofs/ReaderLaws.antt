@@ -1,29 +1,16 @@
 -- What the tests of src/readers.rt and src/journal.rt decide: from the record's numbers to the standings, write records and
 -- tables.
-use mathlib.Core.Bool.{Bool, true, false, not, _&&_, _||_}
-use mathlib.Core.List.{List}
-use mathlib.Core.Logic.{⊎-elim}
-use mathlib.Core.Path.{_≡_, refl, sym, ap, ap₂, _∙_}
-use lib.Bits.{bitOr, or-add-and, and-le-l, and-le-r}
-use lib.Dec.{leb, ltb, eqb}
-use lib.ListN.{getD}
-use native.Mathlib.Numerals.{add-two}
-use native.Mathlib.Omega.{arith}
+use mathlib.Core.{Bool.{Bool, true, false, not, _&&_, _||_}, List.List, Logic.⊎-elim, Path.{_≡_, refl, sym, ap, ap₂, _∙_}}
+use lib.{Bits.{bitOr, or-add-and, and-le-l, and-le-r}, Dec.{leb, ltb, eqb}, ListN.getD}
+use native.Mathlib.{Numerals.add-two, Omega.arith}
 use borrow.Author.Tests.{eqb-true, eq-eqb, ne-eqb, lt-ltb, le-ltb, le-leb, lt-leb, not-false}
 use Prim.Native.Nat.{ℕ, zero, suc, _+_, _-_, _*_, _≤_, _<_}
 use Rattle.limits.specs.Limits.{fileCount, descriptorCount, lastDescriptor, recordCount}
-use Rattle.buffers.specs.Below.{below}
-use Rattle.buffers.specs.Marks.{contains}
-use Rattle.buffers.proofs.BelowLaws.{below-same, below-both, below-sum}
-use Rattle.buffers.proofs.MarkLaws.{contains-none}
-use Rattle.buffers.proofs.PartLaws.{le-or-lt}
-use Rattle.standings.specs.declared.Standing.{Standing}
-use Rattle.standings.specs.Table.{readSettles, advance, offsetOf, isKnown, mayWait}
-use Rattle.state.specs.declared.Descriptor.{Descriptor}
-use Rattle.state.specs.declared.Transaction.{Transaction}
-use Rattle.state.specs.declared.journal.WriteRecord.{WriteRecord}
-use Rattle.state.specs.Journal.{decodedAs, decoded, writeRecordAt}
-use Rattle.state.specs.WriteEnds.{placeEndsBy, endsBy}
+use Rattle.buffers.{specs.{Below.below, Marks.contains}, proofs.BelowLaws.{below-same, below-both, below-sum}}
+use Rattle.buffers.proofs.{MarkLaws.contains-none, PartLaws.le-or-lt}
+use Rattle.standings.specs.{declared.Standing.Standing, Table.{readSettles, advance, offsetOf, isKnown, mayWait}}
+use Rattle.state.specs.declared.{Descriptor.Descriptor, Transaction.Transaction, journal.WriteRecord.WriteRecord}
+use Rattle.state.specs.{Journal.{decodedAs, decoded, writeRecordAt}, WriteEnds.{placeEndsBy, endsBy}}
 use Rattle.state.specs.StoreMeaning.{standingAt, dirtyAt, windowAt}
 use Rattle.state.specs.Layout.{numberAt, standingOf, windowOf, descriptorOf, transactionOf, storeOf, journalOf}
 use Rattle.state.specs.Layout.{fileNumbersAt, offsetsAt, lengthsAt, startsAt, endsAt, foundOffsetsAt, foundLengthsAt}
@@ -76,9 +63,8 @@ settles-number (suc o) (suc (suc n)) false i =
 
 -- A number against a sum is the number less one part against the other.
 less-leb : (b k m : ℕ) → leb b (m + k) ≡ leb (b - k) m
-less-leb b k m =
-    ⊎-elim (λ h. le-leb b (m + k) h ∙ sym (le-leb (b - k) m (omega arith)))
-    (λ h. lt-leb b (m + k) h ∙ sym (lt-leb (b - k) m (omega arith))) (le-or-lt b (m + k))
+less-leb b k m = ⊎-elim (λ h. le-leb b (m + k) h ∙ sym (le-leb (b - k) m (omega arith))) (λ h. lt-leb b (m + k) h
+    ∙ sym (lt-leb (b - k) m (omega arith))) (le-or-lt b (m + k))
 
 more-leb : (e k n : ℕ) → leb (e + k) (n + k) ≡ leb e n
 more-leb e k n = less-leb (e + k) k n ∙ (let c : e + k - k ≡ e = omega arith in ap (λ (x : ℕ). leb x n) c)
@@ -128,13 +114,9 @@ excess-above x m h = ne-eqb (x - m) 0 (λ p. omega arith) ∙ sym (lt-leb x m h)
 -- Two numbers are 0 where their bits together are.
 pub or-none : (a b : ℕ) → eqb (bitOr a b) 0 ≡ eqb a 0 && eqb b 0
 or-none zero zero = let s = or-add-and 0 0 in eq-eqb (bitOr 0 0) 0 (omega arith)
-or-none zero (suc b) =
-    let s = or-add-and 0 (suc b) in
-    let l = and-le-l 0 (suc b) in
+or-none zero (suc b) = let s = or-add-and 0 (suc b) in let l = and-le-l 0 (suc b) in
     ne-eqb (bitOr 0 (suc b)) 0 (λ p. omega arith) ∙ sym (ne-eqb (suc b) 0 (λ p. omega arith))
-or-none (suc a) b =
-    let s = or-add-and (suc a) b in
-    let l = and-le-r (suc a) b in
+or-none (suc a) b = let s = or-add-and (suc a) b in let l = and-le-r (suc a) b in
     ne-eqb (bitOr (suc a) b) 0 (λ p. omega arith)
     ∙ sym (ap (λ (x : Bool). x && eqb b 0) (ne-eqb (suc a) 0 (λ p. omega arith)))
 
@@ -163,10 +145,8 @@ where-closed b q e = rw e
 pub none-dirty : (r : List ℕ) (t : ℕ) → not (eqb (getD r (numberAt t 35) 0) 0) ≡ false
     → (d : ℕ) → d < descriptorCount → dirtyAt (transactionOf r t) d ≡ false
 unfolding descriptorOf
-none-dirty r t none d few =
-    ap (λ (q : Descriptor). q .dirty) (descriptor-of r t d few)
-    ∙ ap (λ (n : ℕ). contains n d) (eqb-true _ 0 (not-false _ none))
-    ∙ contains-none d
+none-dirty r t none d few = ap (λ (q : Descriptor). q .dirty) (descriptor-of r t d few)
+    ∙ ap (λ (n : ℕ). contains n d) (eqb-true _ 0 (not-false _ none)) ∙ contains-none d
 
 -- ---- a write record
 
@@ -195,15 +175,13 @@ module _ (r : List ℕ) (t k : ℕ) (small : t < 9) (few : k < recordCount) wher
     placed-ends l = sym (ap (endsBy m x) expected ∙ rw (lt-ltb h 16 l, le-leb h lastDescriptor (omega arith), is-e))
 
     pub no-descriptor : 31 < h → false ≡ endsBy m x w
-    unfolding endsBy decoded decodedAs
-    no-descriptor l = sym
-        (ap (endsBy m x) expected ∙ rw (le-ltb h 16 (omega arith), lt-leb (h - 16) lastDescriptor (omega arith)))
+    no-descriptor l = unfold endsBy decoded decodedAs in
+        sym (ap (endsBy m x) expected ∙ rw (le-ltb h 16 (omega arith), lt-leb (h - 16) lastDescriptor (omega arith)))
 
     pub waiting-ends : 16 ≤ h → h ≤ 31 → (b : Bool)
         → b ≡ mayWait (standingAt x (h - 16)) && leb e (advance (standingAt x (h - 16))) → b ≡ endsBy m x w
-    unfolding endsBy placeEndsBy decoded decodedAs
-    waiting-ends l u b is-b = is-b ∙ sym
-        (ap (endsBy m x) expected ∙ rw (le-ltb h 16 l, le-leb (h - 16) lastDescriptor (omega arith), is-e))
+    waiting-ends l u b is-b = unfold endsBy placeEndsBy decoded decodedAs in
+        is-b ∙ sym (ap (endsBy m x) expected ∙ rw (le-ltb h 16 l, le-leb (h - 16) lastDescriptor (omega arith), is-e))
 
 -- ---- the tables
 
@@ -223,11 +201,8 @@ module _ (r : List ℕ) (m : ℕ) where
   -- The starts of the windows, and behind them their ends.
   pub windows-decide : below (λ k. leb (getD r (startsAt + k) 0) m) 16
       ≡ below (λ f. leb (windowAt (storeOf r) f .start) m && leb (windowAt (storeOf r) f .end) m) fileCount
-  windows-decide =
-      below-sum starts 8 8
-      ∙ ap (λ (b : Bool). below starts 8 && b) (below-same (λ k. starts (8 + k)) ends 8 behind)
-      ∙ below-both starts ends 8
-      ∙ below-same (λ f. starts f && ends f) _ 8 (λ f h. rw (window-of r f h) (both f))
+  windows-decide = below-sum starts 8 8 ∙ ap (λ (b : Bool). below starts 8 && b) (below-same (λ k. starts (8 + k)) ends 8
+      behind) ∙ below-both starts ends 8 ∙ below-same (λ f. starts f && ends f) _ 8 (λ f h. rw (window-of r f h) (both f))
     where
       starts : ℕ → Bool
       starts k = leb (getD r (startsAt + k) 0) m
@@ -247,21 +222,15 @@ module _ (r : List ℕ) (file offset span minute : ℕ) where
   halves p = sym (below-sum p 8 8 ∙ below-both p (λ k. p (8 + k)) 8)
 
   pub tables-decide : below (λ k. (leb (getD r (fileNumbersAt + k) 0) file && leb (getD r (fileNumbersAt + (8 + k)) 0) file)
-      && (leb (getD r (offsetsAt + k) 0) offset && leb (getD r (offsetsAt + (8 + k)) 0) offset)
-      && leb (getD r (lengthsAt + k) 0) span
-      && (leb (getD r (startsAt + k) 0) minute && leb (getD r (startsAt + (8 + k)) 0) minute)) 8
-      ≡ below (λ d. leb (getD (storeOf r .filenumbers) d 0) file) descriptorCount
-      && below (λ d. leb (getD (storeOf r .offsets) d 0) offset) descriptorCount
-      && below (λ f. leb (getD (storeOf r .lengths) f 0) span) fileCount
+      && (leb (getD r (offsetsAt + k) 0) offset && leb (getD r (offsetsAt + (8 + k)) 0) offset) && leb (getD r
+      (lengthsAt + k) 0) span && (leb (getD r (startsAt + k) 0) minute && leb (getD r (startsAt + (8 + k)) 0) minute))
+      8 ≡ below (λ d. leb (getD (storeOf r .filenumbers) d 0) file) descriptorCount && below (λ d. leb (getD
+      (storeOf r .offsets) d 0) offset) descriptorCount && below (λ f. leb (getD (storeOf r .lengths) f 0) span) fileCount
       && below (λ f. leb (windowAt (storeOf r) f .start) minute && leb (windowAt (storeOf r) f .end) minute) fileCount
-  tables-decide =
-      sym (below-both (λ k. files k && offsets k && lengths k) windows 8)
-      ∙ ap₂ _&&_
-      (sym (below-both (λ k. files k && offsets k) lengths 8)
-      ∙ ap₂ _&&_ (sym (below-both files offsets 8)
+  tables-decide = sym (below-both (λ k. files k && offsets k && lengths k) windows 8)
+      ∙ ap₂ _&&_ (sym (below-both (λ k. files k && offsets k) lengths 8) ∙ ap₂ _&&_ (sym (below-both files offsets 8)
       ∙ ap₂ _&&_ (halves (λ k. leb (getD r (fileNumbersAt + k) 0) file) ∙ files-decide r file)
-      (halves (λ k. leb (getD r (offsetsAt + k) 0) offset) ∙ offsets-decide r offset))
-      (lengths-decide r span))
+      (halves (λ k. leb (getD r (offsetsAt + k) 0) offset) ∙ offsets-decide r offset)) (lengths-decide r span))
       (halves (λ k. leb (getD r (startsAt + k) 0) minute) ∙ windows-decide r minute)
     where
       files : ℕ → Bool
@@ -278,15 +247,12 @@ module _ (r : List ℕ) (file offset span minute : ℕ) where
 
 module _ (r : List ℕ) (m : ℕ) where
   -- The offsets that the last grant found, and behind them the lengths.
-  pub found-decide : below (λ k. leb (getD r (foundOffsetsAt + k) 0) m) 24
-      ≡ below (λ d. leb (getD (storeOf r .undo .offsets) d 0) m) descriptorCount
-      && below (λ f. leb (getD (storeOf r .undo .lengths) f 0) m) fileCount
-  found-decide =
-      rw (
-        below-same (λ d. leb (getD (storeOf r .undo .offsets) d 0) m) found 16 (λ d h. rw (found-offset-of r d h)),
-        below-same (λ f. leb (getD (storeOf r .undo .lengths) f 0) m) (λ k. found (16 + k)) 8 behind,
-      )
-      (below-sum found 16 8)
+  pub found-decide : below (λ k. leb (getD r (foundOffsetsAt + k) 0) m) 24 ≡ below (λ d. leb (getD (storeOf
+      r .undo .offsets) d 0) m) descriptorCount && below (λ f. leb (getD (storeOf r .undo .lengths) f 0) m) fileCount
+  found-decide = rw (
+    below-same (λ d. leb (getD (storeOf r .undo .offsets) d 0) m) found 16 (λ d h. rw (found-offset-of r d h)),
+    below-same (λ f. leb (getD (storeOf r .undo .lengths) f 0) m) (λ k. found (16 + k)) 8 behind,
+  ) (below-sum found 16 8)
     where
       found : ℕ → Bool
       found k = leb (getD r (foundOffsetsAt + k) 0) m

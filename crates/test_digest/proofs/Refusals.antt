@@ -2,15 +2,13 @@
 use mathlib.Core.Path.{_≡_}
 use Prim.Native.Nat.{ℕ, _≤_}
 use native.Mathlib.Omega.{arith}
-use Rattle.state.specs.Outcomes.{number}
-use Rattle.state.specs.declared.outcomes.Refusal.{Refusal}
+use Rattle.state.specs.{Outcomes.number, declared.outcomes.Refusal.Refusal}
 use Rattle.state.specs.declared.outcomes.Refusal.the-variants.{BufferLength, RecordRange, NoSuchTransaction, NotOpen, AlreadyOpen}
 use Rattle.state.specs.declared.outcomes.Refusal.the-variants.{NoSuchTarget, ReaderTooShort, SeekPastEnd, WritePastEnd}
-use Rattle.state.specs.declared.outcomes.Refusal.the-variants.{RecordsFull}
-use Rattle.state.specs.declared.outcomes.Refusal.the-variants.{LogFull, AppendPastEnd, Stale, NoSuchFile, NoPlaceYet, ListTooLong}
-use Rattle.state.specs.declared.outcomes.Refusal.the-variants.{BadLine, StaleReader, NotAtRest, ScriptRange, FileClosed}
-use Rattle.state.specs.declared.outcomes.Refusal.the-variants.{NoSuchMinute}
-use Rattle.state.specs.declared.outcomes.Refusal.the-variants.{StillOpen, NoGrant, NotReady, BadList, BadBudget}
+use Rattle.state.specs.declared.outcomes.Refusal.the-variants.{RecordsFull, LogFull, AppendPastEnd, Stale, NoSuchFile, NoPlaceYet}
+use Rattle.state.specs.declared.outcomes.Refusal.the-variants.{ListTooLong, BadLine, StaleReader, NotAtRest, ScriptRange}
+use Rattle.state.specs.declared.outcomes.Refusal.the-variants.{FileClosed, NoSuchMinute, StillOpen, NoGrant, NotReady, BadList}
+use Rattle.state.specs.declared.outcomes.Refusal.the-variants.{BadBudget}
 
 number-bound : (r : Refusal) → number r ≤ 27
 number-bound BufferLength = omega arith

@@ -1,9 +1,7 @@
 -- The examples of specs/, computed.
 use mathlib.Core.Path.{refl}
-use Rattle.text_answers.specs.Examples.{AnswerExamples}
-use Rattle.text_answers.specs.Printed.{printed, spelled, okNumber, okBytes, decimal}
-use Rattle.text_numerals.specs.Decimal.{decimalBelow}
-use Rattle.text_numerals.specs.Pairs.{hexPairs}
+use Rattle.text_answers.specs.{Examples.AnswerExamples, Printed.{printed, spelled, okNumber, okBytes, decimal}}
+use Rattle.text_numerals.specs.{Decimal.decimalBelow, Pairs.hexPairs}
 
 pub answer-examples : AnswerExamples
 unfolding printed spelled okNumber okBytes decimal decimalBelow hexPairs

@@ -1,26 +1,20 @@
 -- Laws of the texts that are put.
-use mathlib.Core.Path.{_≡_, refl}
-use mathlib.Core.List.{List, [], _∷_, _++_}
+use mathlib.Core.{Path.{_≡_, refl}, List.{List, [], _∷_, _++_}}
 use Prim.Native.Nat.{ℕ, _+_, _*_, _≤_, _<_}
 use native.Mathlib.Omega.{arith}
 use lib.ListN.{length, take, length-take}
 use Rattle.state.specs.Outcomes.{Said, doneAnswer, pointer, given, granted, pairs, ordered, refused}
-use Rattle.text_numerals.specs.Decimal.{numberText}
-use Rattle.text_numerals.specs.Pairs.{hexPairs}
-use Rattle.text_numerals.proofs.PutLaws.{below-agree, length-below, length-pairs}
+use Rattle.text_numerals.{specs.{Decimal.numberText, Pairs.hexPairs}, proofs.PutLaws.{below-agree, length-below, length-pairs}}
 use Rattle.text_answers.specs.Printed.{decimal, ok, okNumber, okBytes, spelled}
 
 pub decimal-number : (n : ℕ) → n < 65536 → decimal n ≡ numberText n
-unfolding decimal numberText
-decimal-number n h = below-agree 4 19 n (omega arith) (omega arith)
+decimal-number n h = unfold decimal numberText in below-agree 4 19 n (omega arith) (omega arith)
 
 pub length-decimal : (n : ℕ) → length (decimal n) ≤ 5
-unfolding decimal
-length-decimal n = length-below 5 n
+length-decimal n = unfold decimal in length-below 5 n
 
 length-number : (n : ℕ) → length (okNumber n) ≤ 8
-unfolding okNumber
-length-number n = omega (arith, length-decimal n)
+length-number n = unfold okNumber in omega (arith, length-decimal n)
 
 length-bytes : (bs : List ℕ) → length (okBytes bs) ≤ 3 + 2 * length bs
 unfolding okBytes

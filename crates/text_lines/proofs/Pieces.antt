@@ -1,9 +1,7 @@
 -- Wherever the input is cut, the lines are those of the whole. Assumes nothing.
-use mathlib.Core.Path.{_≡_, refl, sym, ap, ap₂, _∙_}
-use mathlib.Core.Bool.{Bool, true, false, cond}
+use mathlib.Core.{Path.{_≡_, refl, sym, ap, ap₂, _∙_}, Bool.{Bool, true, false, cond}}
 use mathlib.Core.List.{List, [], _∷_, _++_, map, append-assoc}
-use lib.Dec.{eqb}
-use lib.ListN.{take}
+use lib.{Dec.eqb, ListN.take}
 use Prim.Native.Nat.{ℕ, zero, suc}
 use Rattle.text_lines.specs.Lines.{endedLine, grown, lastLine, linesFrom, linesOf, truncated, completedIn, pendingAfter}
 use Rattle.text_lines.specs.Lines.{fromPieces, joinedPieces, PiecesAreTheWhole}
@@ -14,8 +12,7 @@ ended-append : (m : ℕ) (pending p q : List ℕ) → completedIn m pending (p +
     ++ completedIn m (pendingAfter m pending p) q
 unfolding completedIn pendingAfter
 ended-append m pending [] q = refl
-ended-append m pending (x ∷ p) q =
-    let next = truncated m (grown x pending) in
+ended-append m pending (x ∷ p) q = let next = truncated m (grown x pending) in
     ap (λ (l : List (List ℕ)). endedLine x pending ++ l) (ended-append m next p q)
     ∙ sym (append-assoc (endedLine x pending) (completedIn m next p) (completedIn m (pendingAfter m next p) q))
 
@@ -32,13 +29,11 @@ pieces-lines : (m : ℕ) (pending : List ℕ) (pieces : List (List ℕ))
     → fromPieces m pending pieces ≡ lines m pending (joinedPieces pieces)
 unfolding fromPieces joinedPieces lines completedIn pendingAfter
 pieces-lines m pending [] = refl
-pieces-lines m pending (p ∷ ps) =
-    let next = pendingAfter m pending p in
+pieces-lines m pending (p ∷ ps) = let next = pendingAfter m pending p in
     ap (λ (l : List (List ℕ)). completedIn m pending p ++ l) (pieces-lines m next ps)
     ∙ sym (append-assoc (completedIn m pending p) (completedIn m next (joinedPieces ps))
-    (lastLine (pendingAfter m next (joinedPieces ps))))
-    ∙ sym (ap₂ (λ (a : List (List ℕ)) (b : List ℕ). a ++ lastLine b) (ended-append m pending p (joinedPieces ps))
-    (pending-append m pending p (joinedPieces ps)))
+    (lastLine (pendingAfter m next (joinedPieces ps)))) ∙ sym (ap₂ (λ (a : List (List ℕ)) (b : List ℕ). a ++ lastLine b)
+    (ended-append m pending p (joinedPieces ps)) (pending-append m pending p (joinedPieces ps)))
 
 -- ---- truncated lines
 
@@ -75,13 +70,11 @@ map-append f (x ∷ a) b = ap (λ (l : List (List ℕ)). f x ∷ l) (map-append 
 whole : (m : ℕ) (h input : List ℕ) → lines m (truncated m h) input ≡ map (truncated m) (linesFrom h input)
 unfolding lines linesFrom completedIn pendingAfter
 whole m h [] = preserved-last m h
-whole m h (x ∷ xs) =
-    append-assoc (endedLine x (truncated m h)) (completedIn m (truncated m (grown x (truncated m h))) xs)
+whole m h (x ∷ xs) = append-assoc (endedLine x (truncated m h)) (completedIn m (truncated m (grown x (truncated m h))) xs)
     (lastLine (pendingAfter m (truncated m (grown x (truncated m h))) xs))
     ∙ ap₂ (λ (a : List (List ℕ)) (b : List ℕ). a ++ (completedIn m b xs ++ lastLine (pendingAfter m b xs)))
-    (preserved-ended m x h) (preserved-grown m x h)
-    ∙ ap (λ (l : List (List ℕ)). map (truncated m) (endedLine x h) ++ l) (whole m (grown x h) xs)
-    ∙ sym (map-append (truncated m) (endedLine x h) (linesFrom (grown x h) xs))
+    (preserved-ended m x h) (preserved-grown m x h) ∙ ap (λ (l : List (List ℕ)). map (truncated m) (endedLine x h) ++ l)
+    (whole m (grown x h) xs) ∙ sym (map-append (truncated m) (endedLine x h) (linesFrom (grown x h) xs))
 
 pub pieces-are-the-whole : PiecesAreTheWhole
 unfolding linesOf truncated

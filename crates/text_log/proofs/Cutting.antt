@@ -1,22 +1,16 @@
 -- A list that is refused for its length is refused as its front.
-use mathlib.Core.Bool.{Bool, true, false, cond, _&&_}
-use mathlib.Core.List.{List, []}
-use mathlib.Core.Path.{_≡_, refl, sym, ap, _∙_}
-use Prim.Native.Nat.{ℕ, _≤_, _<_}
+use mathlib.Core.{Bool.{Bool, true, false, _&&_}, List.{List, []}, Path.{_≡_, refl, sym, ap, _∙_}}
+use Prim.Native.Nat.{ℕ, _≤_}
 use native.Mathlib.Omega.{arith}
-use lib.Dec.{leb, eqb}
-use lib.ListN.{length, take}
-use lib.Seq.{take-all, length-take-le}
+use lib.{Dec.leb, ListN.{length, take}, Seq.{take-all, length-take-le}}
 use borrow.Author.Tests.{leb-true, leb-false, lt-leb, ne-eqb}
 use Rattle.text_log.specs.LogLines.{mostOrdered}
-use Rattle.state.specs.Outcomes.{doneAnswer, refused}
+use Rattle.state.specs.Outcomes.{refused}
 use Rattle.spec_orders.specs.Orders.{isList, distinct}
-use Rattle.admission.specs.FirstRefusal.{unless}
-use Rattle.admission.specs.Admission.{sizesIn, firstTests, admissionOfFresh}
-use Rattle.spec.specs.Machine.{Machine, sizes}
-use Rattle.spec.specs.Messages.{Call, bestOrder, says}
+use Rattle.admission.specs.{FirstRefusal.unless, Admission.{sizesIn, firstTests, admissionOfFresh}}
+use Rattle.spec.specs.{Machine.{Machine, sizes}, Messages.{bestOrder, says}}
 use Rattle.spec.specs.OrderReply.{Asked, orderRefusal, orderReplied, orderReply}
-use Rattle.spec.specs.Calls.{Turn, refuseTurn, passing, answerWith, fresh, freshMachine, orderTurn, askedOf, call}
+use Rattle.spec.specs.Calls.{Turn, refuseTurn, passing, fresh, orderTurn, askedOf, call}
 
 -- Equal for lists within n, and for longer ones alike whatever the list is.
 by-length : {A : Type 0} (n : ℕ) (l : List ℕ) (f : List ℕ → A) (x : A) → ((k : List ℕ) → n ≤ length k → f k ≡ x) → f (take n l)
@@ -25,8 +19,7 @@ by-length n l f x same = pick (leb (length l) n) refl
   where
     pick : (b : Bool) → leb (length l) n ≡ b → f (take n l) ≡ f l
     pick true e = ap f (take-all n l (leb-true (length l) n e))
-    pick false e =
-        let h = leb-false (length l) n e in
+    pick false e = let h = leb-false (length l) n e in
         same (take n l) (omega (arith, length-take-le n l (omega arith))) ∙ sym (same l (omega arith))
 
 denied : (s b : Bool) (m : Machine) (x : Turn) → passing (unless (s && false) 1 (unless b 14 0)) [] m x ≡ refuseTurn 1 [] m
@@ -46,18 +39,15 @@ and-off true c = refl
 and-off false c = refl
 
 no-list : (ts : List ℕ) → mostOrdered ≤ length ts → isList ts ≡ false
-unfolding isList
-no-list ts h = rw (lt-leb (length ts) 8 (omega arith)) (and-off (leb 1 (length ts)) (distinct ts))
+no-list ts h = unfold isList in rw (lt-leb (length ts) 8 (omega arith)) (and-off (leb 1 (length ts)) (distinct ts))
 
 no-order : (a : Asked) (minute budget : ℕ) (ts : List ℕ) → mostOrdered ≤ length ts
     → orderReply a ts minute budget ≡ says (refused 26)
-unfolding orderReply orderReplied orderRefusal unless
-no-order a minute budget ts h = rw (no-list ts h)
+no-order a minute budget ts h = unfold orderReply orderReplied orderRefusal unless in rw (no-list ts h)
 
 pub order-cut : (ts : List ℕ) (minute budget : ℕ) (m : Machine)
     → call (bestOrder (take mostOrdered ts) minute budget) m ≡ call (bestOrder ts minute budget) m
 unfolding call orderTurn
-order-cut ts minute budget m =
-    ap (λ r. passing (firstTests (sizes m) (m .store) (m .journal) 0) [] m (record { reply = r; after = m }))
-    (by-length mostOrdered ts (λ l. orderReply (askedOf minute m) l minute budget) (says (refused 26))
-    (no-order (askedOf minute m) minute budget))
+order-cut ts minute budget m = ap (λ r. passing (firstTests (sizes m) (m .store) (m .journal) 0) [] m
+    (record { reply = r; after = m })) (by-length mostOrdered ts (λ l. orderReply (askedOf minute m) l minute budget)
+    (says (refused 26)) (no-order (askedOf minute m) minute budget))

@@ -1,13 +1,8 @@
 -- Laws of printable bytes.
-use mathlib.Core.Bool.{Bool, true, false, _&&_}
-use mathlib.Core.List.{List, [], _∷_}
-use mathlib.Core.Path.{_≡_, refl}
+use mathlib.Core.{Bool.{Bool, true, false, _&&_}, List.List, Path.{_≡_, refl}}
 use Prim.Native.Nat.{ℕ, suc, _+_, _≤_, _<_}
-use native.Mathlib.Omega.{arith}
 use native.Mathlib.Numerals.{add-one}
-use lib.Dec.{leb}
-use lib.ListN.{length, drop, getD, drop-of-length-le}
-use lib.Seq.{drop-cons}
+use lib.{Dec.leb, ListN.{length, drop, getD, drop-of-length-le}, Seq.drop-cons}
 use borrow.Author.Tests.{le-leb, lt-leb}
 use Rattle.text_log.specs.LogLines.{printable}
 
@@ -17,8 +12,7 @@ and-off false c = refl
 
 module _ (l : List ℕ) (i : ℕ) where
   pub print-low : i < length l → getD l i 0 < 32 → printable (drop i l) ≡ false
-  unfolding printable
-  print-low h b = rw (drop-cons l i 0 h, lt-leb 32 (getD l i 0) b)
+  print-low h b = unfold printable in rw (drop-cons l i 0 h, lt-leb 32 (getD l i 0) b)
 
   pub print-high : i < length l → 126 < getD l i 0 → printable (drop i l) ≡ false
   unfolding printable
@@ -26,14 +20,7 @@ module _ (l : List ℕ) (i : ℕ) where
 
   pub print-more : i < length l → 32 ≤ getD l i 0 → getD l i 0 ≤ 126 → printable (drop i l) ≡ printable (drop (i + 1) l)
   unfolding printable
-  print-more h a b =
-      rw (
-        drop-cons l i 0 h,
-        le-leb 32 (getD l i 0) a,
-        le-leb (getD l i 0) 126 b,
-        add-one i,
-      )
+  print-more h a b = rw (drop-cons l i 0 h, le-leb 32 (getD l i 0) a, le-leb (getD l i 0) 126 b, add-one i)
 
   pub print-end : length l ≤ i → printable (drop i l) ≡ true
-  unfolding printable
-  print-end h = rw (drop-of-length-le l h)
+  print-end h = unfold printable in rw (drop-of-length-le l h)

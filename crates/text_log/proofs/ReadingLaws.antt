@@ -1,38 +1,23 @@
 -- Laws of what a line of numbers asks, by how many they are.
-use mathlib.Core.Bool.{Bool, true, false, cond, _&&_}
-use mathlib.Core.List.{List, [], _∷_, _++_}
-use mathlib.Core.Path.{_≡_, refl, sym, ap, _∙_}
-use Prim.Native.Nat.{ℕ, zero, suc, _+_, _-_, _≤_, _<_}
-use native.Mathlib.Omega.{arith}
-use lib.Dec.{leb, ltb}
-use lib.ListN.{length, take, drop, getD, drop-of-length-le}
-use lib.Seq.{length-take-le, drop-cons, take-at}
-use native.Mathlib.Numerals.{add-one}
+use mathlib.Core.{Bool.{Bool, true, false, cond, _&&_}, List.{List, [], _∷_}, Path.{_≡_, refl, sym, ap, _∙_}}
+use Prim.Native.Nat.{ℕ, zero, suc, _+_, _≤_, _<_}
+use native.Mathlib.{Omega.arith, Numerals.add-one}
+use lib.{Dec.{leb, ltb}, ListN.{length, take, drop, getD, drop-of-length-le}, Seq.{length-take-le, drop-cons, take-at}}
 use borrow.Author.Tests.{ne-eqb, eq-eqb, le-leb, lt-leb, lt-ltb, le-ltb}
 use Rattle.buffers.specs.Parts.{pasted}
 use Rattle.text_numerals.specs.Decimal.{Numeral, NumberList, unread, values, before, atMost, frontNumber, moreDigits, numbersIn}
-use Rattle.text_numerals.specs.Decimal.{thenValues}
-use Rattle.text_numerals.specs.Pairs.{pairsIn}
-use Rattle.text_numerals.specs.Fields.{numeralOf, valuesOf, numberCount}
-use Rattle.text_numerals.specs.declared.Field.{Field}
-use Rattle.text_numerals.specs.declared.Field.the-variants.{Missing, Number}
-use Rattle.text_numerals.specs.declared.Count.{Count}
+use Rattle.text_numerals.specs.{Decimal.thenValues, Pairs.pairsIn, Fields.{numeralOf, valuesOf, numberCount}}
+use Rattle.text_numerals.specs.declared.{Field.{Field, the-variants.{Missing, Number}}, Count.Count}
 use Rattle.text_numerals.specs.declared.Count.the-variants.{Unread, Many}
 use Rattle.spec.specs.Messages.{on, write, bestOrder}
 use Rattle.text_log.specs.LogLines.{LogEntry, another, comment, expects, calls, nextNumber, last, lastOr, entryAsked}
-use Rattle.text_log.specs.LogLines.{ordering}
-use Rattle.text_log.specs.LogLines.{ifWhole, onNumber}
-use Rattle.text_log.specs.LogLines.{octets, ofOctets, numbersOnly, expectationIn, pairsBehind, textBehind, writeEntry}
-use Rattle.text_log.specs.LogLines.{letteredEntry, entryIn, callIn}
-use Rattle.text_log.specs.LogLines.{mostWritten, mostNumbers, longest}
-use Rattle.text_log.specs.Octets.{octetsIn}
-use Rattle.text_log.specs.Reading.{logEntryOf, writtenBy, Says}
-use Rattle.text_log.specs.declared.parsing.ParsedEntry.{ParsedEntry}
-use Rattle.text_log.specs.declared.parsing.ParsedEntry.the-variants.{Another}
+use Rattle.text_log.specs.LogLines.{ordering, ifWhole, onNumber, octets, ofOctets, numbersOnly, expectationIn, pairsBehind}
+use Rattle.text_log.specs.LogLines.{textBehind, writeEntry, letteredEntry, entryIn, callIn, mostWritten, mostNumbers}
+use Rattle.text_log.specs.{LogLines.longest, Octets.octetsIn, Reading.{logEntryOf, writtenBy, Says}}
+use Rattle.text_log.specs.declared.parsing.{ParsedEntry.{ParsedEntry, the-variants.Another}}
 
 pub other-entry : (bytes : List ℕ) (meant : LogEntry) → meant ≡ another → Says Another bytes meant
-unfolding logEntryOf writtenBy
-other-entry bytes meant e = record { means = sym e; bytes = omega arith }
+other-entry bytes meant e = unfold logEntryOf writtenBy in record { means = sym e; bytes = omega arith }
 
 -- The numbers of a list of so many, and lists of another length.
 module _ (ns : List ℕ) where
@@ -139,22 +124,20 @@ module _ (n : ℕ) (ns : List ℕ) (h : n ≤ length ns) where
 -- A letter of no line of numbers.
 pub asked-other : (k : ℕ) (l : List ℕ) → (k ≡ 66 → ⊥) → (k ≡ 67 → ⊥) → (k ≡ 65 → ⊥) → (k ≡ 80 → ⊥) → (k ≡ 83 → ⊥) → (k ≡ 82 → ⊥)
     → (k ≡ 76 → ⊥) → (k ≡ 72 → ⊥) → (k ≡ 85 → ⊥) → (k ≡ 86 → ⊥) → (k ≡ 70 → ⊥) → (k ≡ 79 → ⊥) → entryAsked k l ≡ another
-unfolding entryAsked
-asked-other k l b c a p s r o h u v f i =
-    rw (
-      ne-eqb k 66 b,
-      ne-eqb k 67 c,
-      ne-eqb k 65 a,
-      ne-eqb k 80 p,
-      ne-eqb k 83 s,
-      ne-eqb k 82 r,
-      ne-eqb k 76 o,
-      ne-eqb k 72 h,
-      ne-eqb k 85 u,
-      ne-eqb k 86 v,
-      ne-eqb k 70 f,
-      ne-eqb k 79 i,
-    )
+asked-other k l b c a p s r o h u v f i = unfold entryAsked in rw (
+  ne-eqb k 66 b,
+  ne-eqb k 67 c,
+  ne-eqb k 65 a,
+  ne-eqb k 80 p,
+  ne-eqb k 83 s,
+  ne-eqb k 82 r,
+  ne-eqb k 76 o,
+  ne-eqb k 72 h,
+  ne-eqb k 85 u,
+  ne-eqb k 86 v,
+  ne-eqb k 70 f,
+  ne-eqb k 79 i,
+)
 
 -- ---- answers of the readers of numbers and pairs
 
@@ -164,32 +147,26 @@ entry-as-meant r bytes meant said e h = rw e h
 
 module _ (c : Count) (buffer : List ℕ) (v : NumberList) (f : List ℕ → LogEntry) (h : valuesOf c buffer ≡ v) where
   pub counted-unread : c ≡ Unread → ifWhole f v ≡ another
-  unfolding valuesOf ifWhole
-  counted-unread e = rw (← h, e)
+  counted-unread e = unfold valuesOf ifWhole in rw (← h, e)
 
   pub counted-many : (n : ℕ) → c ≡ Many n → ifWhole f v ≡ f (take n buffer)
-  unfolding valuesOf ifWhole
-  counted-many n e = rw (← h, e)
+  counted-many n e = unfold valuesOf ifWhole in rw (← h, e)
 
 pub whole-none : (f : List ℕ → LogEntry) (v : NumberList) → v ≡ values [] → ifWhole f v ≡ f []
-unfolding ifWhole
-whole-none f v e = rw e
+whole-none f v e = unfold ifWhole in rw e
 
 pub whole-as : (f : List ℕ → LogEntry) (v w : NumberList) → v ≡ w → ifWhole f v ≡ ifWhole f w
 whole-as f v w e = ap (ifWhole f) e
 
 pub many-within : (c : Count) (n k : ℕ) → numberCount c ≤ k → c ≡ Many n → n ≤ k
-unfolding numberCount
-many-within c n k h e = rw e at h
+many-within c n k h e = unfold numberCount in rw e at h
 
 module _ (line : List ℕ) (f : Field) (g : Numeral) (made : ℕ → List ℕ → LogEntry) (h : numeralOf line f ≡ g) where
   pub on-missing : f ≡ Missing → onNumber g made ≡ another
-  unfolding numeralOf onNumber
-  on-missing e = rw (← h, e)
+  on-missing e = unfold numeralOf onNumber in rw (← h, e)
 
   pub on-number : (v end : ℕ) → f ≡ Number v end → onNumber g made ≡ made v (drop end line)
-  unfolding numeralOf onNumber
-  on-number v end e = rw (← h, e)
+  on-number v end e = unfold numeralOf onNumber in rw (← h, e)
 
 -- ---- lists
 
@@ -210,9 +187,8 @@ short-order n ns h l = go (take n ns) (omega (arith, length-take-le n ns h))
     go (a ∷ []) h = refl
     go (a ∷ b ∷ l) h = absurd (omega arith)
 
-pub order-of : (ns : List ℕ) (n : ℕ) → n ≤ length ns → 2 ≤ n
-    → ordering (take n ns)
-    ≡ ofOctets (drop 2 (take n ns)) (calls (bestOrder (drop 2 (take n ns)) (getD ns 0 0) (getD ns 1 0)))
+pub order-of : (ns : List ℕ) (n : ℕ) → n ≤ length ns → 2 ≤ n → ordering (take n ns) ≡ ofOctets (drop 2 (take n ns))
+    (calls (bestOrder (drop 2 (take n ns)) (getD ns 0 0) (getD ns 1 0)))
 unfolding ordering nextNumber
 order-of ns zero h g = absurd (omega arith)
 order-of ns (suc zero) h g = absurd (omega arith)
@@ -258,59 +234,44 @@ module _ (l : List ℕ) (c : Count) (buffer : List ℕ) (h : valuesOf c buffer �
       pick false q = absurd (unlike (take k buffer) (sym q))
 
 pub octets-end : (l : List ℕ) (i n : ℕ) → n ≤ i → n ≤ length l → octetsIn (drop i (take n l)) ≡ values []
-unfolding octetsIn
-octets-end l i n g h =
-    let k = length-take-le n l h in
-    let small : length (take n l) ≤ i = omega arith in
+octets-end l i n g h = unfold octetsIn in let k = length-take-le n l h in let small : length (take n l) ≤ i = omega arith in
     ap octetsIn (drop-of-length-le (take n l) small)
 
 pub octets-over : (l : List ℕ) (i n : ℕ) → i < n → n ≤ length l → 255 < getD l i 0 → octetsIn (drop i (take n l)) ≡ unread
-unfolding octetsIn
-octets-over l i n g h v =
-    let k = length-take-le n l h in
+octets-over l i n g h v = unfold octetsIn in let k = length-take-le n l h in
     rw (drop-cons (take n l) i 0 (omega arith), getD-take l i n g, le-ltb (getD l i 0) 256 (omega arith))
 
 pub octets-more : (l : List ℕ) (i n : ℕ) → i < n → n ≤ length l → getD l i 0 ≤ 255
     → octetsIn (drop i (take n l)) ≡ before (getD l i 0) (octetsIn (drop (i + 1) (take n l)))
-unfolding octetsIn
-octets-more l i n g h v =
-    let k = length-take-le n l h in
+octets-more l i n g h v = unfold octetsIn in let k = length-take-le n l h in
     rw (drop-cons (take n l) i 0 (omega arith), getD-take l i n g, lt-ltb (getD l i 0) 256 (omega arith), add-one i)
 
 -- ---- bytes behind two numbers
 
 module _ (t d : ℕ) (line : List ℕ) (at : ℕ) where
   pub pairs-none : length line ≤ at → pairsBehind t d (drop at line) ≡ calls (on t (write d []))
-  unfolding pairsBehind
-  pairs-none h = rw (drop-of-length-le line h)
+  pairs-none h = unfold pairsBehind in rw (drop-of-length-le line h)
 
   pub pairs-no-space : at < length line → (getD line at 0 ≡ 32 → ⊥) → pairsBehind t d (drop at line) ≡ another
-  unfolding pairsBehind
-  pairs-no-space h e = rw (drop-cons line at 0 h, ne-eqb (getD line at 0) 32 e)
+  pairs-no-space h e = unfold pairsBehind in rw (drop-cons line at 0 h, ne-eqb (getD line at 0) 32 e)
 
-  pub pairs-space : at < length line → getD line at 0 ≡ 32
-      → pairsBehind t d (drop at line) ≡ ifWhole (λ bs. calls (on t (write d bs)))
-      (atMost mostWritten (pairsIn (drop (at + 1) line)))
-  unfolding pairsBehind
-  pairs-space h e = rw (drop-cons line at 0 h, eq-eqb (getD line at 0) 32 e, add-one at)
+  pub pairs-space : at < length line → getD line at 0 ≡ 32 → pairsBehind t d (drop at line) ≡ ifWhole
+      (λ bs. calls (on t (write d bs))) (atMost mostWritten (pairsIn (drop (at + 1) line)))
+  pairs-space h e = unfold pairsBehind in rw (drop-cons line at 0 h, eq-eqb (getD line at 0) 32 e, add-one at)
 
   pub text-none : length line ≤ at → textBehind t d (drop at line) ≡ another
-  unfolding textBehind
-  text-none h = rw (drop-of-length-le line h)
+  text-none h = unfold textBehind in rw (drop-of-length-le line h)
 
   pub text-no-space : at < length line → (getD line at 0 ≡ 32 → ⊥) → textBehind t d (drop at line) ≡ another
-  unfolding textBehind
-  text-no-space h e = rw (drop-cons line at 0 h, ne-eqb (getD line at 0) 32 e)
+  text-no-space h e = unfold textBehind in rw (drop-cons line at 0 h, ne-eqb (getD line at 0) 32 e)
 
   pub text-space : at < length line → getD line at 0 ≡ 32 → textBehind t d (drop at line)
       ≡ calls (on t (write d (drop (at + 1) line)))
-  unfolding textBehind
-  text-space h e = rw (drop-cons line at 0 h, eq-eqb (getD line at 0) 32 e, add-one at)
+  text-space h e = unfold textBehind in rw (drop-cons line at 0 h, eq-eqb (getD line at 0) 32 e, add-one at)
 
 -- A text at the front of a buffer.
 pub front-pasted : (buffer text : List ℕ) (n : ℕ) → length text ≡ n → take n (pasted buffer 0 text) ≡ text
-unfolding pasted
-front-pasted buffer text n h = take-at text (drop (0 + length text) buffer) n h
+front-pasted buffer text n h = unfold pasted in take-at text (drop (0 + length text) buffer) n h
 
 pub copied : (x buffer text : List ℕ) (n : ℕ) → x ≡ pasted buffer 0 text → length text ≡ n → take n x ≡ text
 copied x buffer text n e h = ap (take n) e ∙ front-pasted buffer text n h
@@ -344,27 +305,21 @@ call-letter (k ∷ bytes) h = refl
 
 module _ (line : List ℕ) (some : length line ≡ 0 → ⊥) where
   pub call-comment : getD line 0 0 ≡ 35 → entryIn line ≡ comment
-  unfolding letteredEntry
-  call-comment e = call-letter line some ∙ rw e
+  call-comment e = unfold letteredEntry in call-letter line some ∙ rw e
 
   pub call-expects : getD line 0 0 ≡ 61 → entryIn line ≡ expectationIn (drop 1 line)
-  unfolding letteredEntry
-  call-expects e = call-letter line some ∙ rw e
+  call-expects e = unfold letteredEntry in call-letter line some ∙ rw e
 
   pub call-pairs : getD line 0 0 ≡ 88 → entryIn line ≡ writeEntry pairsBehind (drop 1 line)
-  unfolding letteredEntry
-  call-pairs e = call-letter line some ∙ rw e
+  call-pairs e = unfold letteredEntry in call-letter line some ∙ rw e
 
   pub call-text : getD line 0 0 ≡ 87
       → entryIn line ≡ cond (leb (length (drop 1 line)) 127) (writeEntry textBehind (drop 1 line)) another
-  unfolding letteredEntry
-  call-text e = call-letter line some ∙ rw e
+  call-text e = unfold letteredEntry in call-letter line some ∙ rw e
 
   pub call-asked : (getD line 0 0 ≡ 35 → ⊥) → (getD line 0 0 ≡ 61 → ⊥) → (getD line 0 0 ≡ 88 → ⊥) → (getD line 0 0 ≡ 87 → ⊥)
       → entryIn line ≡ ifWhole (entryAsked (getD line 0 0)) (numbersOnly (drop 1 line))
-  unfolding letteredEntry
-  call-asked c x p w =
-      let k = getD line 0 0 in
+  call-asked c x p w = unfold letteredEntry in let k = getD line 0 0 in
       call-letter line some ∙ rw (ne-eqb k 35 c, ne-eqb k 61 x, ne-eqb k 88 p, ne-eqb k 87 w)
 
 -- ---- an answer's line
@@ -390,9 +345,7 @@ expects-text (k ∷ b ∷ bytes) h e = rw (eq-eqb b 32 e)
 -- ---- the length of a line
 
 pub too-long : (line : List ℕ) → longest < length line → callIn line ≡ another
-unfolding callIn
-too-long line h = rw (lt-leb (length line) longest h)
+too-long line h = unfold callIn in rw (lt-leb (length line) longest h)
 
 pub entry-within : (line : List ℕ) → length line ≤ longest → callIn line ≡ entryIn line
-unfolding callIn
-entry-within line h = rw (le-leb (length line) longest h)
+entry-within line h = unfold callIn in rw (le-leb (length line) longest h)

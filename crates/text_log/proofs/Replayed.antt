@@ -1,35 +1,25 @@
 -- A replay does what was recorded.
-use mathlib.Core.Bool.{Bool, true, false, cond, not, _&&_}
-use mathlib.Core.List.{List, [], _∷_, _++_}
-use mathlib.Core.Path.{_≡_, refl, sym, ap, ap₂, _∙_}
-use Prim.Native.Nat.{ℕ, zero, suc, _*_, _≤_, _<_}
+use mathlib.Core.{Bool.{Bool, true, false, cond}, List.{List, [], _∷_, _++_}, Path.{_≡_, refl, sym, ap, ap₂, _∙_}}
+use Prim.Native.Nat.{ℕ, zero, suc, _*_, _≤_}
 use native.Mathlib.Omega.{arith}
-use lib.Dec.{eqb, leb}
-use lib.ListN.{length, take, drop, length-take}
+use lib.{Dec.leb, ListN.{length, take, length-take}}
 use borrow.Author.Tests.{leb-true, eq-eqb}
 use Rattle.text_lines.specs.Programs.{transcript, stateAfter}
 use Rattle.text_numerals.specs.Decimal.{past, AllBelow, spacedTexts}
-use Rattle.text_answers.specs.Printed.{ok, spelled, okBytes, okNumber}
+use Rattle.text_answers.specs.Printed.{ok, spelled, okBytes}
 use Rattle.state.specs.Outcomes.{Said, doneAnswer, pointer, given, granted, pairs, ordered, refused}
-use Rattle.spec.specs.Machine.{Machine}
-use Rattle.spec.specs.Calls.{call, Turn, fresh as freshTurn}
-use Rattle.spec.specs.Messages.{Call, begin, on, commit, abort, places, setWindow, undoCommit, bestOrder, Reply}
-use Rattle.spec.specs.Messages.{Op, seek, write, getFilePointer, read}
-use Rattle.text_log.specs.LogLines.{LogEntry, expects, fresh, calls, callIn, entryIn, letteredEntry, expectationIn, lineOf}
-use Rattle.text_log.specs.LogLines.{freshLine}
+use Rattle.spec.specs.{Machine.Machine, Calls.{call, Turn}}
+use Rattle.spec.specs.Messages.{Call, begin, on, commit, abort, places, setWindow, undoCommit, bestOrder, seek, write}
+use Rattle.spec.specs.Messages.{getFilePointer, read}
+use Rattle.text_log.specs.LogLines.{LogEntry, expects, callIn, entryIn, letteredEntry, expectationIn, lineOf, freshLine}
 use Rattle.text_log.specs.LogLines.{longest, mostWritten, mostFiles, mostOrdered}
 use Rattle.text_log.specs.Answers.{wordsOf, answerText, replyText, expectation, sameBytes}
-use Rattle.text_log.specs.Statements.{numbersOf, numbersOfOp, bytesOfCall, bytesOfOp, Loggable, blank}
-use Rattle.text_log.specs.Replays.{shown, shownBy, SameTurn}
-use Rattle.text_log.specs.Replay.{ReplayState, Printed, silent, answered, compared, entryTurn, lineTurn, replaying}
-use Rattle.text_log.specs.Replay.{Event, starts, makes, eventTurn, loggedOp, loggedPart, eventLine, answerLines}
-use Rattle.text_log.specs.Replay.{recordedLines}
+use Rattle.text_log.specs.{Statements.{numbersOf, numbersOfOp, bytesOfCall, bytesOfOp, Loggable}, Replays.{shown, SameTurn}}
+use Rattle.text_log.specs.Replay.{ReplayState, Printed, silent, answered, compared, entryTurn, lineTurn, replaying, Event}
+use Rattle.text_log.specs.Replay.{starts, makes, eventTurn, loggedOp, loggedPart, eventLine, answerLines, recordedLines}
 use Rattle.text_log.specs.Replay.{answersOf, eventsAfter, Typed, AllTyped, ReplayedFrom, Replayed}
-use Rattle.text_log.proofs.RoundTrip.{back, fresh-back}
-use Rattle.text_log.proofs.ReadingLaws.{entry-within}
-use Rattle.text_log.proofs.Cutting.{fresh-cut, order-cut}
-use Rattle.text_log.proofs.Again.{same-turn, blanked}
-use Rattle.text_log.proofs.Recorder.{all-taken, alike-then, fronted}
+use Rattle.text_log.proofs.{RoundTrip.{back, fresh-back}, ReadingLaws.entry-within, Cutting.{fresh-cut, order-cut}}
+use Rattle.text_log.proofs.{Again.{same-turn, blanked}, Recorder.{all-taken, alike-then, fronted}}
 
 -- ---- an answer's line depends on what the answer shows
 
@@ -49,19 +39,14 @@ text-shown (ordered grants gap tried) b = refl
 text-shown (refused n) b = refl
 
 pub same-text : (x y : Turn) → SameTurn x y → replyText (x .reply) ≡ replyText (y .reply)
-same-text x y h =
-    sym (text-shown (x .reply .answer) (x .reply .buffer))
-    ∙ ap₂ answerText (h .answer) (h .shows)
+same-text x y h = sym (text-shown (x .reply .answer) (x .reply .buffer)) ∙ ap₂ answerText (h .answer) (h .shows)
     ∙ text-shown (y .reply .answer) (y .reply .buffer)
 
 same-answered : (x y : Turn) (k : ReplayState) → SameTurn x y → answered x k ≡ answered y k
-unfolding answered
-same-answered x y k h =
-    ap₂ (λ (m : Machine) (t : List ℕ). record {
-      text = t ++ (10 ∷ []);
-      after =
-          record { machine = m; answer = t; malformed = k .malformed; differing = k .differing; ended = k .ended };
-    }) (h .after) (same-text x y h)
+same-answered x y k h = unfold answered in ap₂ (λ (m : Machine) (t : List ℕ). record {
+  text = t ++ (10 ∷ []);
+  after = record { machine = m; answer = t; malformed = k .malformed; differing = k .differing; ended = k .ended };
+}) (h .after) (same-text x y h)
 
 -- ---- the line of an event
 
@@ -83,13 +68,12 @@ loggable : (c : Call) → AllBelow past (numbersOf c) → AllBelow 256 (bytesOfC
 unfolding loggedPart loggedOp numbersOf numbersOfOp bytesOfCall bytesOfOp AllBelow
 loggable (begin t) h b = record { numbers = h; few = omega arith; bytes = tt; short = omega arith }
 loggable (on t (seek d v)) h b = record { numbers = h; few = omega arith; bytes = tt; short = omega arith }
-loggable (on t (write d bytes)) h b =
-    record {
-      numbers = h;
-      few = omega arith;
-      bytes = all-taken 256 mostWritten bytes b;
-      short = omega (arith, length-take mostWritten bytes);
-    }
+loggable (on t (write d bytes)) h b = record {
+  numbers = h;
+  few = omega arith;
+  bytes = all-taken 256 mostWritten bytes b;
+  short = omega (arith, length-take mostWritten bytes);
+}
 loggable (on t (getFilePointer d)) h b = record { numbers = h; few = omega arith; bytes = tt; short = omega arith }
 loggable (on t (read d n buffer)) h b = record { numbers = h; few = omega arith; bytes = tt; short = omega arith }
 loggable (commit t minute) h b = record { numbers = h; few = omega arith; bytes = tt; short = omega arith }
@@ -97,33 +81,27 @@ loggable (abort t) h b = record { numbers = h; few = omega arith; bytes = tt; sh
 loggable (places t f out) h b = record { numbers = h; few = omega arith; bytes = tt; short = omega arith }
 loggable (setWindow f start end) h b = record { numbers = h; few = omega arith; bytes = tt; short = omega arith }
 loggable undoCommit h b = record { numbers = h; few = omega arith; bytes = tt; short = omega arith }
-loggable (bestOrder ts minute budget) h b =
-    record {
-      numbers = (h .0, (h .1 .0, all-taken past mostOrdered ts (h .1 .1)));
-      few = omega (arith, length-take mostOrdered ts);
-      bytes = all-taken 256 mostOrdered ts b;
-      short = omega (arith, length-take mostOrdered ts);
-    }
+loggable (bestOrder ts minute budget) h b = record {
+  numbers = (h .0, (h .1 .0, all-taken past mostOrdered ts (h .1 .1)));
+  few = omega (arith, length-take mostOrdered ts);
+  bytes = all-taken 256 mostOrdered ts b;
+  short = omega (arith, length-take mostOrdered ts);
+}
 
 -- A line while the run goes on.
 running : (line : List ℕ) (k : ReplayState) → k .ended ≡ false → lineTurn line k ≡ entryTurn line (callIn line) k
-unfolding lineTurn
-running line k go = ap (λ (b : Bool). cond b (silent k) (entryTurn line (callIn line) k)) go
+running line k go = unfold lineTurn in ap (λ (b : Bool). cond b (silent k) (entryTurn line (callIn line) k)) go
 
 -- The line of an event is answered by the event's turn.
 line-of-event : (e : Event) (k : ReplayState) → Typed e → k .ended ≡ false → lineTurn (eventLine e) k
     ≡ answered (eventTurn e (k .machine)) k
 unfolding eventLine eventTurn entryTurn Typed
-line-of-event (starts files) k h go =
-    let line = freshLine (take mostFiles files) in
-    running line k go
-    ∙ ap (λ (x : LogEntry). entryTurn line x k)
+line-of-event (starts files) k h go = let line = freshLine (take mostFiles files) in
+    running line k go ∙ ap (λ (x : LogEntry). entryTurn line x k)
     (fresh-back (take mostFiles files) (omega (arith, length-take mostFiles files)) (all-taken 256 mostFiles files h))
     ∙ ap (λ (w : Turn). answered w k) (fresh-cut files (k .machine))
-line-of-event (makes c) k h go =
-    let line = lineOf (loggedPart c) in
-    running line k go
-    ∙ ap (λ (x : LogEntry). entryTurn line x k) (back (loggedPart c) (loggable c (h .0) (h .1)))
+line-of-event (makes c) k h go = let line = lineOf (loggedPart c) in
+    running line k go ∙ ap (λ (x : LogEntry). entryTurn line x k) (back (loggedPart c) (loggable c (h .0) (h .1)))
     ∙ same-answered _ _ k (alike-then (blanked (loggedPart c) (k .machine)) (front-alike c (k .machine)))
 
 -- ---- the line of its answer
@@ -134,8 +112,7 @@ same-as-itself [] = refl
 same-as-itself (b ∷ l) = rw (eq-eqb b b refl) (same-as-itself l)
 
 expects-line : (text : List ℕ) → length (expectation text) ≤ longest → callIn (expectation text) ≡ expects
-unfolding expectation entryIn letteredEntry expectationIn
-expects-line text h = entry-within (61 ∷ 32 ∷ text) h
+expects-line text h = unfold expectation entryIn letteredEntry expectationIn in entry-within (61 ∷ 32 ∷ text) h
 
 agrees : (text : List ℕ) (k : ReplayState) → k .ended ≡ false → k .answer ≡ text → length (expectation text) ≤ longest
     → lineTurn (expectation text) k ≡ silent k
@@ -150,14 +127,12 @@ module _ (text : List ℕ) (k : ReplayState) (rest : List (List ℕ)) (go : k .e
   unfolding answerLines
   past-answer = pick (leb (length (expectation text)) longest) refl
     where
-      one : length (expectation text) ≤ longest
-          → (transcript replaying (expectation text ∷ rest) k ≡ transcript replaying rest k)
-          × (stateAfter replaying (expectation text ∷ rest) k ≡ stateAfter replaying rest k)
-      one l =
-          unfold transcript stateAfter silent in (
-            ap (λ (p : Printed). p .text ++ transcript replaying rest (p .after)) (agrees text k go same l),
-            ap (λ (p : Printed). stateAfter replaying rest (p .after)) (agrees text k go same l),
-          )
+      one : length (expectation text) ≤ longest → (transcript replaying (expectation text ∷ rest) k ≡ transcript replaying
+          rest k) × (stateAfter replaying (expectation text ∷ rest) k ≡ stateAfter replaying rest k)
+      one l = unfold transcript stateAfter silent in (
+        ap (λ (p : Printed). p .text ++ transcript replaying rest (p .after)) (agrees text k go same l),
+        ap (λ (p : Printed). stateAfter replaying rest (p .after)) (agrees text k go same l),
+      )
 
       pick : (b : Bool) → leb (length (expectation text)) longest ≡ b
           → (transcript replaying (cond b (expectation text ∷ []) [] ++ rest) k ≡ transcript replaying rest k)
@@ -170,21 +145,14 @@ unfolding recordedLines transcript stateAfter answersOf eventsAfter
 same-none k = record { text = refl; machine = refl; differing = refl; malformed = refl }
 
 same-more : (e : Event) (es : List Event) (k : ReplayState) → Typed e → k .ended ≡ false
-    → ReplayedFrom es (answered (eventTurn e (k .machine)) k .after)
-    → ReplayedFrom (e ∷ es) k
+    → ReplayedFrom es (answered (eventTurn e (k .machine)) k .after) → ReplayedFrom (e ∷ es) k
 unfolding recordedLines transcript stateAfter answersOf eventsAfter answered
-same-more e es k h go ih =
-    let w = eventTurn e (k .machine) in
-    let text = replyText (w .reply) in
-    let after = answered w k .after in
-    let rest = recordedLines es (w .after) in
-    let first = line-of-event e k h go in
+same-more e es k h go ih = let w = eventTurn e (k .machine) in let text = replyText (w .reply) in
+    let after = answered w k .after in let rest = recordedLines es (w .after) in let first = line-of-event e k h go in
     let past = past-answer text after rest go refl in
     let state : stateAfter replaying (eventLine e ∷ (answerLines text ++ rest)) k ≡ stateAfter replaying rest after =
-    ap (λ (p : Printed). stateAfter replaying (answerLines text ++ rest) (p .after)) first ∙ past .1 in
-    record {
-      text =
-          ap (λ (p : Printed). p .text ++ transcript replaying (answerLines text ++ rest) (p .after)) first
+    ap (λ (p : Printed). stateAfter replaying (answerLines text ++ rest) (p .after)) first ∙ past .1 in record {
+      text = ap (λ (p : Printed). p .text ++ transcript replaying (answerLines text ++ rest) (p .after)) first
           ∙ ap (λ (l : List ℕ). (text ++ (10 ∷ [])) ++ l) (past .0 ∙ ih .text);
       machine = ap (λ (x : ReplayState). x .machine) state ∙ ih .machine;
       differing = ap (λ (x : ReplayState). x .differing) state ∙ ih .differing;

@@ -1,28 +1,19 @@
 -- A line of a trace says in a call log what it says there.
-use mathlib.Core.Bool.{Bool, true, false, cond, _&&_, _||_}
-use mathlib.Core.List.{List, [], _∷_, _++_}
-use mathlib.Core.Path.{_≡_, refl, sym, ap, _∙_}
-use Prim.Native.Nat.{ℕ, zero, suc, _+_, _-_, _*_, _≤_, _<_}
+use mathlib.Core.{Bool.{Bool, true, false, cond}, List.{List, [], _∷_}, Path.{_≡_, refl, ap, _∙_}}
+use Prim.Native.Nat.{ℕ, zero, suc, _+_, _*_, _≤_, _<_}
 use native.Mathlib.Omega.{arith}
-use lib.Dec.{eqb, leb, ltb}
-use lib.ListN.{length, replicate}
-use borrow.Author.Tests.{lt-ltb, ltb-true, leb-true, le-leb, eqb-true}
+use lib.{Dec.{eqb, leb, ltb}, ListN.{length, replicate}}
+use borrow.Author.Tests.{ltb-true, leb-true, le-leb, eqb-true}
 use Rattle.text_numerals.specs.Decimal.{past, Numeral, none, numeral, isDigit, worth, digits, frontWithin, fitting, frontNumber}
-use Rattle.text_numerals.specs.Decimal.{spacedNumber, moreDigits, Stops}
-use Rattle.text_numerals.specs.Decimal.{NumberList, unread, values, before, thenValues, numbersIn}
-use Rattle.text_numerals.proofs.Decimals.{digits-stops}
-use Rattle.text_numerals.proofs.ReadLaws.{digit-bounds, numeral-fits}
-use Rattle.requests.specs.declared.Request.{Request}
-use Rattle.requests.specs.declared.Request.the-variants.{Begin, Seek, Write, GetFilePointer, Read, Places, Commit, Abort}
-use Rattle.requests.specs.declared.Request.the-variants.{SetWindow, UndoCommit}
+use Rattle.text_numerals.specs.Decimal.{spacedNumber, moreDigits, Stops, NumberList, values, before, thenValues, numbersIn}
+use Rattle.text_numerals.proofs.{Decimals.digits-stops, ReadLaws.{digit-bounds, numeral-fits}}
+use Rattle.requests.specs.declared.{Request.{Request, the-variants.{Begin, Seek, Write, GetFilePointer, Read, Commit, Abort}}}
 use Rattle.requests.specs.Requests.{callOf}
-use Rattle.spec.specs.Messages.{Call, begin, on, commit, abort, seek, write, getFilePointer, read}
 use Rattle.text_trace.specs.Grammar.{Line, another, asks, spaced, afterNumeral, ends, writes, lettered, form, parsed}
-use Rattle.text_log.specs.LogLines as log
-use Rattle.text_log.specs.LogLines.{LogEntry, calls, callIn, ifWhole, entryAsked, nextNumber, last, lastOr, numbersOnly}
-use Rattle.text_log.specs.LogLines.{entryIn}
+use Rattle.text_log.specs.LogLines.{calls, callIn, ifWhole, entryAsked, nextNumber, last, lastOr, numbersOnly, entryIn}
 use Rattle.text_log.specs.LogLines.{onNumber, writeEntry, textBehind, mostNumbers, traceRoom}
 use Rattle.text_log.proofs.ReadingLaws.{entry-within}
+use Rattle.text_log.specs.LogLines as log
 
 -- ---- a number of few digits among those of more
 
@@ -92,9 +83,7 @@ spaced-stops (b ∷ bytes) w rest e = pick (eqb b 32) refl e
 
 front-digit : (t : ℕ) (bytes : List ℕ) → isDigit t ≡ true → Stops bytes → frontNumber moreDigits (t ∷ bytes)
     ≡ numeral (worth t) bytes
-unfolding frontNumber frontWithin
-front-digit t bytes d stop =
-    let l = digit-bounds t d in
+front-digit t bytes d stop = unfold frontNumber frontWithin in let l = digit-bounds t d in
     rw d (ap fitting (digits-stops moreDigits (worth t) bytes stop) ∙ numeral-fits (worth t) bytes (omega arith))
 
 one-more : (k : ℕ) (bytes : List ℕ) (w : ℕ) (rest : List ℕ) → spacedNumber moreDigits bytes ≡ numeral w rest
@@ -108,23 +97,19 @@ valuesIn bytes = thenValues (frontNumber moreDigits bytes) (numbersIn mostNumber
 
 module _ (t : ℕ) (digit : isDigit t ≡ true) where
   one-value : valuesIn (t ∷ []) ≡ values (worth t ∷ [])
-  unfolding thenValues numbersIn before Stops
-  one-value = rw (front-digit t [] digit tt)
+  one-value = unfold thenValues numbersIn before Stops in rw (front-digit t [] digit tt)
 
   two-values : (bytes : List ℕ) (d : ℕ) → spaced bytes ≡ numeral d [] → valuesIn (t ∷ bytes) ≡ values (worth t ∷ d ∷ [])
-  unfolding thenValues numbersIn before Stops
-  two-values bytes d e =
+  two-values bytes d e = unfold thenValues numbersIn before Stops in
       rw (front-digit t bytes digit (spaced-stops bytes d [] e), one-more 16 bytes d [] (spaced-wider bytes d [] tt e))
 
   three-values : (bytes : List ℕ) (d : ℕ) (rest : List ℕ) (n : ℕ) → spaced bytes ≡ numeral d rest → spaced rest ≡ numeral n []
       → valuesIn (t ∷ bytes) ≡ values (worth t ∷ d ∷ n ∷ [])
-  unfolding thenValues numbersIn before Stops
-  three-values bytes d rest n e f =
-      rw (
-        front-digit t bytes digit (spaced-stops bytes d rest e),
-        one-more 16 bytes d rest (spaced-wider bytes d rest (spaced-stops rest n [] f) e),
-        one-more 15 rest n [] (spaced-wider rest n [] tt f),
-      )
+  three-values bytes d rest n e f = unfold thenValues numbersIn before Stops in rw (
+    front-digit t bytes digit (spaced-stops bytes d rest e),
+    one-more 16 bytes d rest (spaced-wider bytes d rest (spaced-stops rest n [] f) e),
+    one-more 15 rest n [] (spaced-wider rest n [] tt f),
+  )
 
 -- ---- what a line of a trace is made of
 
@@ -154,11 +139,7 @@ writes-expected p q [] bs e = absurd (never q bs e)
 writes-expected p q (b ∷ rest) bs e = pick (eqb b 32) refl e
   where
     pick : (t : Bool) → eqb b 32 ≡ t → cond t (asks p rest) another ≡ asks q bs → (b ∷ rest ≡ 32 ∷ bs) × (q ≡ p)
-    pick true i e =
-        let f = eqb-true b 32 i in
-        let g : rest ≡ bs = cc in
-        let s : q ≡ p = cc in
-        (rw (f, g), s)
+    pick true i e = let f = eqb-true b 32 i in let g : rest ≡ bs = cc in let s : q ≡ p = cc in (rw (f, g), s)
     pick false i e = absurd (never q bs e)
 
 -- ---- each letter
@@ -182,44 +163,31 @@ module _ (q : Request) (bs : List ℕ) where
 
     pointer-line : afterNumeral (spaced bytes) (λ d. ends (GetFilePointer (worth t) d)) ≡ asks q bs → Same 80 t bytes
     unfolding log.letteredEntry numbersOnly ifWhole entryAsked nextNumber last callOf
-    pointer-line e =
-        let d = after-expected (spaced bytes) _ q bs e in
-        let told = ends-expected _ q (d .rest) bs (d .so) in
+    pointer-line e = let d = after-expected (spaced bytes) _ q bs e in let told = ends-expected _ q (d .rest) bs (d .so) in
         rw (told .1, two-values t digit bytes (d .number) (d .is ∙ ap (numeral (d .number)) (told .0)))
 
     seek-line : afterNumeral (spaced bytes) (λ d rest. afterNumeral (spaced rest) (λ v. ends (Seek (worth t) d v))) ≡ asks q bs
         → Same 83 t bytes
-    unfolding log.letteredEntry numbersOnly ifWhole entryAsked nextNumber last callOf
-    seek-line e =
-        let d = after-expected (spaced bytes) _ q bs e in
-        let v = after-expected (spaced (d .rest)) _ q bs (d .so) in
-        let told = ends-expected _ q (v .rest) bs (v .so) in
-        rw (
+    seek-line e = unfold log.letteredEntry numbersOnly ifWhole entryAsked nextNumber last callOf in
+        let d = after-expected (spaced bytes) _ q bs e in let v = after-expected (spaced (d .rest)) _ q bs (d .so) in
+        let told = ends-expected _ q (v .rest) bs (v .so) in rw (
           told .1,
-          three-values t digit bytes (d .number) (d .rest) (v .number) (d .is)
-              (v .is ∙ ap (numeral (v .number)) (told .0)),
+          three-values t digit bytes (d .number) (d .rest) (v .number) (d .is) (v .is ∙ ap (numeral (v .number)) (told .0)),
         )
 
     read-line : afterNumeral (spaced bytes) (λ d rest. afterNumeral (spaced rest) (λ n. ends (Read (worth t) d n))) ≡ asks q bs
         → Same 82 t bytes
-    unfolding log.letteredEntry numbersOnly ifWhole entryAsked nextNumber lastOr callOf
-    read-line e =
-        let d = after-expected (spaced bytes) _ q bs e in
-        let v = after-expected (spaced (d .rest)) _ q bs (d .so) in
-        let told = ends-expected _ q (v .rest) bs (v .so) in
-        rw (
+    read-line e = unfold log.letteredEntry numbersOnly ifWhole entryAsked nextNumber lastOr callOf in
+        let d = after-expected (spaced bytes) _ q bs e in let v = after-expected (spaced (d .rest)) _ q bs (d .so) in
+        let told = ends-expected _ q (v .rest) bs (v .so) in rw (
           told .1,
-          three-values t digit bytes (d .number) (d .rest) (v .number) (d .is)
-              (v .is ∙ ap (numeral (v .number)) (told .0)),
+          three-values t digit bytes (d .number) (d .rest) (v .number) (d .is) (v .is ∙ ap (numeral (v .number)) (told .0)),
         )
 
     write-line : length bytes ≤ 126 → afterNumeral (spaced bytes) (λ d. writes (Write (worth t) d)) ≡ asks q bs → Same 87 t bytes
-    unfolding log.letteredEntry writeEntry onNumber textBehind callOf Stops isDigit
-    write-line l e =
-        let d = after-expected (spaced bytes) _ q bs e in
-        let told = writes-expected _ q (d .rest) bs (d .so) in
-        let is : spaced bytes ≡ numeral (d .number) (32 ∷ bs) = d .is ∙ ap (numeral (d .number)) (told .0) in
-        rw (
+    write-line l e = unfold log.letteredEntry writeEntry onNumber textBehind callOf Stops isDigit in
+        let d = after-expected (spaced bytes) _ q bs e in let told = writes-expected _ q (d .rest) bs (d .so) in
+        let is : spaced bytes ≡ numeral (d .number) (32 ∷ bs) = d .is ∙ ap (numeral (d .number)) (told .0) in rw (
           told .1,
           le-leb (suc (length bytes)) 127 (omega arith),
           front-digit t bytes digit (spaced-stops bytes (d .number) (32 ∷ bs) is),
@@ -235,14 +203,12 @@ choose q bs k l false i x y e f g = g e
 lettered-same : (q : Request) (bs : List ℕ) (k t : ℕ) (bytes : List ℕ) → isDigit t ≡ true → length bytes ≤ 126
     → lettered k (worth t) bytes ≡ asks q bs → Same q bs k t bytes
 unfolding lettered
-lettered-same q bs k t bytes d l e =
-    choose q bs k 66 (eqb k 66) refl _ _ e (λ i e. rw i (begin-line q bs t bytes d e)) (λ e.
-    choose q bs k 67 (eqb k 67) refl _ _ e (λ i e. rw i (commit-line q bs t bytes d e)) (λ e.
-    choose q bs k 65 (eqb k 65) refl _ _ e (λ i e. rw i (abort-line q bs t bytes d e)) (λ e.
-    choose q bs k 80 (eqb k 80) refl _ _ e (λ i e. rw i (pointer-line q bs t bytes d e)) (λ e.
-    choose q bs k 83 (eqb k 83) refl _ _ e (λ i e. rw i (seek-line q bs t bytes d e)) (λ e.
-    choose q bs k 82 (eqb k 82) refl _ _ e (λ i e. rw i (read-line q bs t bytes d e)) (λ e.
-    choose q bs k 87 (eqb k 87) refl _ _ e (λ i e. rw i (write-line q bs t bytes d l e)) (λ e. absurd (never q bs e))))))))
+lettered-same q bs k t bytes d l e = choose q bs k 66 (eqb k 66) refl _ _ e (λ i e. rw i (begin-line q bs t bytes d e))
+    (λ e. choose q bs k 67 (eqb k 67) refl _ _ e (λ i e. rw i (commit-line q bs t bytes d e)) (λ e. choose q bs k 65
+    (eqb k 65) refl _ _ e (λ i e. rw i (abort-line q bs t bytes d e)) (λ e. choose q bs k 80 (eqb k 80) refl _ _ e
+    (λ i e. rw i (pointer-line q bs t bytes d e)) (λ e. choose q bs k 83 (eqb k 83) refl _ _ e (λ i e. rw i (seek-line q bs
+    t bytes d e)) (λ e. choose q bs k 82 (eqb k 82) refl _ _ e (λ i e. rw i (read-line q bs t bytes d e)) (λ e. choose q bs
+    k 87 (eqb k 87) refl _ _ e (λ i e. rw i (write-line q bs t bytes d l e)) (λ e. absurd (never q bs e))))))))
 
 form-same : (line : List ℕ) (q : Request) (bs : List ℕ) → length line ≤ 128 → form line ≡ asks q bs
     → callIn line ≡ calls (callOf q bs (replicate traceRoom 0))

@@ -1,18 +1,12 @@
 -- Laws of the line of a Write.
-use mathlib.Core.Bool.{Bool, true, false, cond, _&&_}
-use mathlib.Core.List.{List, [], _∷_, _++_}
-use mathlib.Core.Path.{_≡_, refl, sym, ap, _∙_}
-use Prim.Native.Nat.{ℕ, _+_, _*_, _≤_, _<_}
+use mathlib.Core.{Bool.{true, false, _&&_}, List.{List, [], _∷_, _++_}, Path.{_≡_, refl, ap, _∙_}}
+use Prim.Native.Nat.{ℕ, _+_, _≤_, _<_}
 use native.Mathlib.Omega.{arith}
-use lib.Dec.{leb}
-use lib.ListN.{length, take, drop, length-append}
+use lib.{Dec.leb, ListN.{length, length-append}}
 use borrow.Author.Tests.{le-leb, lt-leb}
 use Rattle.buffers.specs.Parts.{pasted}
-use Rattle.text_numerals.specs.Decimal.{joinedTexts}
-use Rattle.text_numerals.specs.Pairs.{hexPairs}
-use Rattle.text_numerals.specs.Put.{Put}
-use Rattle.text_numerals.proofs.PutLaws.{then, length-pairs}
-use Rattle.text_log.specs.LogLines.{letterAndNumbers, printable, textLine, pairsLine, writeLine, mostWritten, logLineBytes}
+use Rattle.text_numerals.{specs.{Decimal.joinedTexts, Pairs.hexPairs, Put.Put}, proofs.PutLaws.{then, length-pairs}}
+use Rattle.text_log.specs.LogLines.{letterAndNumbers, printable, textLine, writeLine, mostWritten, logLineBytes}
 use Rattle.text_log.proofs.Texts.{behind-space, length-joined}
 
 module _ (after : ℕ) (bytes : List ℕ) where
@@ -38,30 +32,21 @@ relettered {b} {m} {n} {e} x y xs p q =
 
 whole : {b m : List ℕ} {e : ℕ} (t d : ℕ) (bytes : List ℕ) → Put b 0 (spaced 87 t d) m e → e + length bytes
     ≡ length (textLine t d bytes)
-whole t d bytes p =
-    let l = length-append (joinedTexts (t ∷ d ∷ [])) (32 ∷ []) in
-    let k = length-append (joinedTexts (t ∷ d ∷ [])) (32 ∷ bytes) in
-    omega (arith, p .end)
+whole t d bytes p = let l = length-append (joinedTexts (t ∷ d ∷ [])) (32 ∷ []) in
+    let k = length-append (joinedTexts (t ∷ d ∷ [])) (32 ∷ bytes) in omega (arith, p .end)
 
-pub put-write-line : {b m n : List ℕ} {e : ℕ} (t d : ℕ) (bytes : List ℕ) → logLineBytes ≤ length b → length bytes ≤ mostWritten
-    → Put b 0 (spaced 87 t d) m e
-    → n ≡ pasted m e bytes → (leb (e + length bytes) 128 && printable bytes) ≡ true
-    → Put b 0 (writeLine t d bytes) n (e + length bytes)
-unfolding writeLine
-put-write-line t d bytes room short p q is =
-    let l = length-joined t (d ∷ []) in
+pub put-write-line : {b m n : List ℕ} {e : ℕ} (t d : ℕ) (bytes : List ℕ) → logLineBytes ≤ length b
+    → length bytes ≤ mostWritten → Put b 0 (spaced 87 t d) m e → n ≡ pasted m e bytes
+    → (leb (e + length bytes) 128 && printable bytes) ≡ true → Put b 0 (writeLine t d bytes) n (e + length bytes)
+put-write-line t d bytes room short p q is = unfold writeLine in let l = length-joined t (d ∷ []) in
     let a = length-append (joinedTexts (t ∷ d ∷ [])) (32 ∷ []) in
     rw (← whole t d bytes p, is, behind-space (letterAndNumbers 87 (t ∷ d ∷ [])) bytes)
     (then (spaced 87 t d) bytes (omega arith) p (record { bytes = q; end = refl }))
 
 pub put-other-text : {b m n o : List ℕ} {e f g : ℕ} (t d : ℕ) (bytes : List ℕ) → logLineBytes ≤ length b
-    → length bytes ≤ mostWritten
-    → Put b 0 (spaced 87 t d) m e → Put m 0 (88 ∷ []) o f → Put o e (hexPairs bytes) n g
+    → length bytes ≤ mostWritten → Put b 0 (spaced 87 t d) m e → Put m 0 (88 ∷ []) o f → Put o e (hexPairs bytes) n g
     → (leb (e + length bytes) 128 && printable bytes) ≡ false → Put b 0 (writeLine t d bytes) n g
-unfolding writeLine
-put-other-text t d bytes room short p r q off =
-    let l = length-joined t (d ∷ []) in
-    let a = length-append (joinedTexts (t ∷ d ∷ [])) (32 ∷ []) in
-    let h = length-pairs bytes in
+put-other-text t d bytes room short p r q off = unfold writeLine in let l = length-joined t (d ∷ []) in
+    let a = length-append (joinedTexts (t ∷ d ∷ [])) (32 ∷ []) in let h = length-pairs bytes in
     rw (← whole t d bytes p, off, behind-space (letterAndNumbers 88 (t ∷ d ∷ [])) (hexPairs bytes))
     (then (spaced 88 t d) (hexPairs bytes) (omega arith) (relettered 87 88 (joinedTexts (t ∷ d ∷ []) ++ (32 ∷ [])) p r) q)

@@ -1,18 +1,12 @@
 -- Laws of `Put` and of the texts that are put.
-use mathlib.Core.Path.{_≡_, refl, sym, ap, ap₂, _∙_}
-use mathlib.Core.Bool.{Bool, true, false, cond}
-use mathlib.Core.List.{List, [], _∷_, _++_, append-assoc}
+use mathlib.Core.{Path.{_≡_, refl, sym, ap, ap₂, _∙_}, Bool.{Bool, true, false, cond}, List.{List, [], _∷_, _++_, append-assoc}}
 use Prim.Native.Nat.{ℕ, zero, suc, _+_, _-_, _*_, _/_, _%_, _^_, _≤_, _<_, min}
-use native.Mathlib.Numerals.{add-one}
-use native.Mathlib.Omega.{arith}
-use lib.Dec.{ltb}
-use lib.ListN.{length, take, drop, getD, set, length-append, length-drop}
+use native.Mathlib.{Numerals.add-one, Omega.arith}
+use lib.{Dec.ltb, ListN.{length, take, drop, getD, set, length-append, length-drop}}
 use lib.Seq.{take-suc, take-all, take-append-seam, length-take-le, append-snoc}
 use borrow.Author.Tests.{lt-ltb, le-ltb, ltb-true, ltb-false}
-use Rattle.buffers.specs.Parts.{pasted}
-use Rattle.buffers.proofs.PartLaws.{pasted-append, pasted-none, pasted-more, length-pasted}
-use Rattle.text_numerals.specs.Decimal.{glyph, decimalBelow, past, numberText, spacedTexts, joinedTexts}
-use Rattle.text_numerals.specs.Pairs.{hexPairs}
+use Rattle.buffers.{specs.Parts.pasted, proofs.PartLaws.{pasted-append, pasted-none, pasted-more, length-pasted}}
+use Rattle.text_numerals.specs.{Decimal.{glyph, decimalBelow, past, numberText, spacedTexts, joinedTexts}, Pairs.hexPairs}
 use Rattle.text_numerals.specs.Put.{Put}
 
 -- ---- a text that is put
@@ -20,13 +14,11 @@ use Rattle.text_numerals.specs.Put.{Put}
 -- one text, and the next directly after it
 pub then : {b m a : List ℕ} {at e f : ℕ} (s t : List ℕ) → at + length s + length t ≤ length b → Put b at s m e → Put m e t a f
     → Put b at (s ++ t) a f
-then {b} {m} {a} {at} {e} {f} s t fits p q =
-    let l = length-append s t in
-    record {
-      bytes = q .bytes ∙ ap₂ (λ (x : List ℕ) (k : ℕ). pasted x k t) (p .bytes) (p .end)
-          ∙ sym (pasted-append b at s t (omega arith));
-      end = omega (arith, q .end, p .end);
-    }
+then {b} {m} {a} {at} {e} {f} s t fits p q = let l = length-append s t in record {
+  bytes = q .bytes ∙ ap₂ (λ (x : List ℕ) (k : ℕ). pasted x k t) (p .bytes) (p .end)
+      ∙ sym (pasted-append b at s t (omega arith));
+  end = omega (arith, q .end, p .end);
+}
 
 pub put-preserved : {b a : List ℕ} {at e : ℕ} (s : List ℕ) → at + length s ≤ length b → Put b at s a e → length a ≡ length b
 put-preserved {b} {a} {at} s fits p = ap length (p .bytes) ∙ length-pasted b at s fits
@@ -38,19 +30,15 @@ pub one : (b : List ℕ) (at v : ℕ) → at < length b → Put b at (v ∷ []) 
 one b at v h = record { bytes = stored; end = omega arith }
   where
     stored : set b at v ≡ pasted b at (v ∷ [])
-    stored =
-        let z : at + 0 ≡ at = omega arith in
+    stored = let z : at + 0 ≡ at = omega arith in
         ap₂ (λ (x : List ℕ) (k : ℕ). set x k v) (sym (pasted-none b at)) (sym z)
         ∙ pasted-more b at [] (omega arith) v (omega arith)
 
 -- what stands in front of the end of a text that was put
 pub put-text : (before : List ℕ) (at : ℕ) (text after : List ℕ) (next : ℕ) → at ≤ length before → Put before at text after next
     → take next after ≡ take at before ++ text
-unfolding pasted
-put-text before at text after next h p =
-    let front = take at before ++ text in
-    let n = length-append (take at before) text in
-    let l = length-take-le at before h in
+put-text before at text after next h p = unfold pasted in let front = take at before ++ text in
+    let n = length-append (take at before) text in let l = length-take-le at before h in
     let e : next ≡ length front = omega (arith, p .end) in
     ap₂ take e (p .bytes ∙ sym (append-assoc (take at before) text (drop (at + length text) before)))
     ∙ take-append-seam front (drop (at + length text) before)
@@ -62,13 +50,11 @@ pub below-agree : (k m n : ℕ) → k ≤ m → n < 10 ^ suc k → decimalBelow 
 unfolding decimalBelow
 below-agree zero m n l h = rw (lt-ltb n 10 (omega arith))
 below-agree (suc k) zero n l h = absurd (omega arith)
-below-agree (suc k) (suc m) n l h =
-    ap (λ (l : List ℕ). cond (ltb n 10) (glyph n ∷ []) (l ++ (glyph (n % 10) ∷ [])))
+below-agree (suc k) (suc m) n l h = ap (λ (l : List ℕ). cond (ltb n 10) (glyph n ∷ []) (l ++ (glyph (n % 10) ∷ [])))
     (below-agree k m (n / 10) (omega arith) (omega arith))
 
 pub number-digit : (n : ℕ) → n < 10 → numberText n ≡ glyph n ∷ []
-unfolding numberText decimalBelow
-number-digit n h = rw (lt-ltb n 10 h)
+number-digit n h = unfold numberText decimalBelow in rw (lt-ltb n 10 h)
 
 pub number-more : (n : ℕ) → 10 ≤ n → n < past → numberText n ≡ numberText (n / 10) ++ (glyph (n % 10) ∷ [])
 unfolding numberText decimalBelow
@@ -86,8 +72,7 @@ length-below (suc k) n = pick (ltb n 10) (length-below k (n / 10))
     pick false h = simp length-append (omega arith)
 
 pub length-number : (n : ℕ) → length (numberText n) ≤ 20
-unfolding numberText
-length-number n = length-below 20 n
+length-number n = unfold numberText in length-below 20 n
 
 -- ---- hexadecimal pairs
 
@@ -104,12 +89,8 @@ pairs-append (x ∷ xs) ys = ap (λ (l : List ℕ). glyph (x / 16) ∷ glyph (x 
 -- one byte more
 pub pairs-more : (bs : List ℕ) (i : ℕ) → i < length bs
     → hexPairs (take (i + 1) bs) ≡ (hexPairs (take i bs) ++ (glyph (getD bs i 0 / 16) ∷ [])) ++ (glyph (getD bs i 0 % 16) ∷ [])
-unfolding hexPairs
-pairs-more bs i h =
-    let b = getD bs i 0 in
-    ap (λ (k : ℕ). hexPairs (take k bs)) (add-one i)
-    ∙ ap hexPairs (take-suc bs i 0 h)
-    ∙ pairs-append (take i bs) (b ∷ [])
+pairs-more bs i h = unfold hexPairs in let b = getD bs i 0 in
+    ap (λ (k : ℕ). hexPairs (take k bs)) (add-one i) ∙ ap hexPairs (take-suc bs i 0 h) ∙ pairs-append (take i bs) (b ∷ [])
     ∙ sym (append-snoc (hexPairs (take i bs)) (glyph (b / 16)) (glyph (b % 16) ∷ []))
 
 -- The front of a list, at most all of it.
@@ -117,12 +98,9 @@ pub take-within : (n : ℕ) (l : List ℕ) → take (min n (length l)) l ≡ tak
 take-within n l = pick (ltb n (length l)) refl
   where
     pick : (t : Bool) → ltb n (length l) ≡ t → take (min n (length l)) l ≡ take n l
-    pick true e =
-        let h = ltb-true n (length l) e in
-        let m : min n (length l) ≡ n = omega arith in ap (λ (k : ℕ). take k l) m
-    pick false e =
-        let h = ltb-false n (length l) e in
-        let m : min n (length l) ≡ length l = omega arith in
+    pick true e = let h = ltb-true n (length l) e in let m : min n (length l) ≡ n = omega arith in
+        ap (λ (k : ℕ). take k l) m
+    pick false e = let h = ltb-false n (length l) e in let m : min n (length l) ≡ length l = omega arith in
         ap (λ (k : ℕ). take k l) m ∙ take-all (length l) l (omega arith) ∙ sym (take-all n l h)
 
 -- ---- numbers behind spaces
@@ -134,8 +112,7 @@ append-none (x ∷ xs) = ap (λ (l : List ℕ). x ∷ l) (append-none xs)
 pub texts-snoc : (ns : List ℕ) (m : ℕ) → spacedTexts (ns ++ (m ∷ [])) ≡ spacedTexts ns ++ (32 ∷ numberText m)
 unfolding spacedTexts
 texts-snoc [] m = ap (λ (l : List ℕ). 32 ∷ l) (append-none (numberText m))
-texts-snoc (n ∷ ns) m =
-    ap (λ (l : List ℕ). 32 ∷ (numberText n ++ l)) (texts-snoc ns m)
+texts-snoc (n ∷ ns) m = ap (λ (l : List ℕ). 32 ∷ (numberText n ++ l)) (texts-snoc ns m)
     ∙ ap (λ (l : List ℕ). 32 ∷ l) (sym (append-assoc (numberText n) (spacedTexts ns) (32 ∷ numberText m)))
 
 pub length-texts : (ns : List ℕ) → length (spacedTexts ns) ≤ 21 * length ns
@@ -168,9 +145,7 @@ joined-first (n ∷ l) h = refl
 pub put-joined : {b m a : List ℕ} {at e f : ℕ} (l : List ℕ) (x : ℕ) → (length l ≡ 0 → ⊥) → at + 21 * length l ≤ length b → x
     ≡ getD l 0 0
     → Put b at (numberText x) m e → Put m e (spacedTexts (take (length l - 1) (drop 1 l))) a f → Put b at (joinedTexts l) a f
-put-joined {b} {m} {a} {at} {e} {f} l x some fits is p q =
-    let n = length-drop 1 l in
-    let s = length-number x in
+put-joined {b} {m} {a} {at} {e} {f} l x some fits is p q = let n = length-drop 1 l in let s = length-number x in
     let t = length-texts (drop 1 l) in
     let full : take (length l - 1) (drop 1 l) ≡ drop 1 l = take-all (length l - 1) (drop 1 l) (omega arith) in
     let k = some-length l some in

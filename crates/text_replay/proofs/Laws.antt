@@ -1,25 +1,17 @@
 -- Laws for this crate's proofs. Assumes nothing.
-use mathlib.Core.Bool.{Bool, true, false, cond, _&&_}
-use mathlib.Core.List.{List, [], _∷_}
-use mathlib.Core.Path.{_≡_, refl, sym, ap, _∙_}
-use lib.Dec.{eqb}
-use lib.ListN.{length, drop, getD, length-take, drop-of-length-le}
-use lib.Seq.{drop-cons}
+use mathlib.Core.{Bool.{Bool, true, false, cond, _&&_}, List.{List, [], _∷_}, Path.{_≡_, refl, sym, ap, _∙_}}
+use lib.{Dec.eqb, ListN.{length, drop, getD, length-take, drop-of-length-le}, Seq.drop-cons}
 use borrow.Author.Tests.{lt-ltb, le-ltb, ne-eqb, eq-eqb}
-use native.Mathlib.Numerals.{add-one}
-use native.Mathlib.Omega.{arith}
+use native.Mathlib.{Numerals.add-one, Omega.arith}
 use Prim.Native.Nat.{ℕ, _+_, _*_, _≤_, _<_}
 use Rattle.buffers.specs.Parts.{cut}
 use Rattle.text_numerals.specs.Put.{Put}
 use Rattle.state.specs.Outcomes.{Said}
-use Rattle.text_log.specs.Answers.{answerText, sameBytes}
-use Rattle.text_log.specs.Replay.{oneMore}
-use Rattle.text_log.proofs.AnswerTexts.{length-answer}
+use Rattle.text_log.{specs.{Answers.{answerText, sameBytes}, Replay.oneMore}, proofs.AnswerTexts.length-answer}
 
 -- a part of a buffer
 pub line-part-short : (x : List ℕ) (at n : ℕ) (l : List ℕ) → x ≡ cut l at n → length x ≤ n
-unfolding cut
-line-part-short x at n l e = omega (arith, ap length e, length-take n (drop at l))
+line-part-short x at n l e = unfold cut in omega (arith, ap length e, length-take n (drop at l))
 
 -- the end of an answer's text
 pub reply-end : {b m : List ℕ} {at e : ℕ} (a : Said) (x : List ℕ) → Put b at (answerText a x) m e → (at ≤ e)
@@ -29,12 +21,10 @@ reply-end a x p = (omega (arith, p .end), omega (arith, length-answer a x, p .en
 -- ---- counting
 
 pub count-one-more : (n : ℕ) → n < 18446744073709551615 → n + 1 ≡ oneMore n
-unfolding oneMore
-count-one-more n h = rw (lt-ltb n 18446744073709551615 h) (add-one n)
+count-one-more n h = unfold oneMore in rw (lt-ltb n 18446744073709551615 h) (add-one n)
 
 pub no-more : (n : ℕ) → 18446744073709551615 ≤ n → n ≡ oneMore n
-unfolding oneMore
-no-more n h = rw (le-ltb n 18446744073709551615 h)
+no-more n h = unfold oneMore in rw (le-ltb n 18446744073709551615 h)
 
 -- ---- bytes that are the same
 
@@ -51,8 +41,7 @@ same-length-only (x ∷ a) (y ∷ b) h = rw (same-length-only a b (λ e. h (omeg
 
 module _ (a b : List ℕ) (i : ℕ) (l : length a ≡ length b) where
   pub same-end : length a ≤ i → sameBytes (drop i a) (drop i b) ≡ true
-  unfolding sameBytes
-  same-end h = let k : length b ≤ i = omega arith in rw (drop-of-length-le a h, drop-of-length-le b k)
+  same-end h = unfold sameBytes in let k : length b ≤ i = omega arith in rw (drop-of-length-le a h, drop-of-length-le b k)
 
   pub same-other : i < length a → (getD a i 0 ≡ getD b i 0 → ⊥) → sameBytes (drop i a) (drop i b) ≡ false
   unfolding sameBytes

@@ -1,31 +1,23 @@
 -- Places has at most a pair more than there are writes. Assumes nothing.
-use mathlib.Core.Bool.{Bool, true, false, cond, _&&_, _||_, false≢true}
-use mathlib.Core.List.{List, [], _∷_}
-use mathlib.Core.Path.{_≡_, refl, sym, ap, _∙_}
-use lib.Dec.{eqb, leb, ltb}
-use lib.ListN.{length}
+use mathlib.Core.{Bool.{Bool, true, false, cond, _&&_, _||_, false≢true}, List.{List, [], _∷_}, Path.{_≡_, refl, sym, ap, _∙_}}
+use lib.{Dec.{eqb, leb, ltb}, ListN.length}
 use borrow.Author.Tests.{eq-eqb, ne-eqb, eqb-true, leb-true, le-leb, ltb-true, ltb-false}
 use native.Mathlib.Omega.{arith}
 use Prim.Native.Nat.{ℕ, zero, suc, _+_, _≤_, _<_}
 use Rattle.limits.specs.Limits.{fileBytes}
-use Rattle.standings.specs.declared.Place.{Place}
-use Rattle.standings.specs.declared.Place.the-variants.{At, After}
-use Rattle.spec.specs.Transactions.{Write}
-use Rattle.spec.specs.Reading.{liesOver}
-use Rattle.spec.specs.Places.{Interval, interval, withPlace, intervalsFrom}
-use Rattle.spec.specs.Places.{intervalsOf, someWrite, coversPlace, covered}
+use Rattle.standings.specs.declared.{Place.{Place, the-variants.{At, After}}}
+use Rattle.spec.specs.{Transactions.Write, Reading.liesOver}
+use Rattle.spec.specs.Places.{Interval, interval, withPlace, intervalsFrom, intervalsOf, someWrite, coversPlace, covered}
 
 -- ---- a stretch ends where its set does
 
-joined-length : (p : ℕ) (l : List Interval)
-    → length (withPlace p (withPlace (suc p) l)) ≡ length (withPlace (suc p) l)
+joined-length : (p : ℕ) (l : List Interval) → length (withPlace p (withPlace (suc p) l)) ≡ length (withPlace (suc p) l)
 unfolding withPlace
 joined-length p [] = rw (eq-eqb (suc p) (suc p) refl)
 joined-length p (s ∷ l) = pick (eqb (s .offset) (suc (suc p)))
   where
-    pick : (b : Bool)
-        → length (withPlace p (cond b (interval (suc p) (suc (s .length)) ∷ l) (interval (suc p) 1 ∷ (s ∷ l))))
-        ≡ length (cond b (interval (suc p) (suc (s .length)) ∷ l) (interval (suc p) 1 ∷ (s ∷ l)))
+    pick : (b : Bool) → length (withPlace p (cond b (interval (suc p) (suc (s .length)) ∷ l) (interval (suc p)
+        1 ∷ (s ∷ l)))) ≡ length (cond b (interval (suc p) (suc (s .length)) ∷ l) (interval (suc p) 1 ∷ (s ∷ l)))
     pick true = rw (eq-eqb (suc p) (suc p) refl)
     pick false = rw (eq-eqb (suc p) (suc p) refl)
 
@@ -34,8 +26,7 @@ unfolding withPlace
 with-length p [] = omega arith
 with-length p (s ∷ l) = pick (eqb (s .offset) (suc p))
   where
-    pick : (b : Bool)
-        → length (cond b (interval p (suc (s .length)) ∷ l) (interval p 1 ∷ (s ∷ l))) ≤ suc (suc (length l))
+    pick : (b : Bool) → length (cond b (interval p (suc (s .length)) ∷ l) (interval p 1 ∷ (s ∷ l))) ≤ suc (suc (length l))
     pick true = omega arith
     pick false = omega arith
 
@@ -45,9 +36,8 @@ countFrom E p zero = 0
 countFrom E p (suc n) = cond (E p) (suc (countFrom E (suc p) n)) (countFrom E (suc p) n)
 
 one-more : (s s′ e : Bool) (p : ℕ) (l : List Interval) (c : ℕ) → (s ≡ true → s′ ≡ false → e ≡ true)
-    → length (cond s′ (withPlace (suc p) l) l) ≤ suc c
-    → length (cond s (withPlace p (cond s′ (withPlace (suc p) l) l)) (cond s′ (withPlace (suc p) l) l)) ≤ suc
-    (cond e (suc c) c)
+    → length (cond s′ (withPlace (suc p) l) l) ≤ suc c → length
+    (cond s (withPlace p (cond s′ (withPlace (suc p) l) l)) (cond s′ (withPlace (suc p) l) l)) ≤ suc (cond e (suc c) c)
 one-more false s′ true p l c h k = omega (arith, k)
 one-more false s′ false p l c h k = k
 one-more true true true p l c h k = omega (arith, k, joined-length p l)
@@ -66,9 +56,8 @@ module _ (S E : ℕ → Bool) (ends : (q : ℕ) → S q ≡ true → S (suc q) �
       pick true false = omega (arith, with-length p [])
       pick false true = omega arith
       pick false false = omega arith
-  few-from p (suc (suc n)) =
-      one-more (S p) (S (suc p)) (E p) p (intervalsFrom S (suc (suc p)) n) (countFrom E (suc p) (suc n))
-      (ends p) (few-from (suc p) (suc n))
+  few-from p (suc (suc n)) = one-more (S p) (S (suc p)) (E p) p (intervalsFrom S (suc (suc p)) n)
+      (countFrom E (suc p) (suc n)) (ends p) (few-from (suc p) (suc n))
 
 -- ---- each write ends once
 
@@ -88,8 +77,7 @@ once e p zero = omega arith
 once e p (suc n) = pick (once e (suc p) n) (eqb (suc p) e) refl
   where
     pick : countFrom (λ q. eqb (suc q) e) (suc p) n ≤ 1 → (b : Bool) → eqb (suc p) e ≡ b
-        → cond b (suc (countFrom (λ q. eqb (suc q) e) (suc p) n))
-        (countFrom (λ q. eqb (suc q) e) (suc p) n) ≤ 1
+        → cond b (suc (countFrom (λ q. eqb (suc q) e) (suc p) n)) (countFrom (λ q. eqb (suc q) e) (suc p) n) ≤ 1
     pick h true x = omega (arith, no-later e (suc p) n (omega (arith, eqb-true (suc p) e x)))
     pick h false x = h
 
@@ -98,8 +86,7 @@ unfolding countFrom
 either t u p zero = omega arith
 either t u p (suc n) = pick (t p) (u p) _ _ _ (either t u (suc p) n)
   where
-    pick : (a b : Bool) (c x y : ℕ) → c ≤ x + y
-        → cond (a || b) (suc c) c ≤ cond a (suc x) x + cond b (suc y) y
+    pick : (a b : Bool) (c x y : ℕ) → c ≤ x + y → cond (a || b) (suc c) c ≤ cond a (suc x) x + cond b (suc y) y
     pick true true c x y h = omega (arith, h)
     pick true false c x y h = omega (arith, h)
     pick false true c x y h = omega (arith, h)
@@ -118,15 +105,12 @@ and-both : (a b : Bool) → (a && b) ≡ true → (a ≡ true) × (b ≡ true)
 and-both true b e = (refl, e)
 and-both false b e = absurd (false≢true e)
 
-over-end : (l : Place) (n q : ℕ) → liesOver l n q ≡ true → liesOver l n (suc q) ≡ false
-    → eqb (suc q) (endAt l n) ≡ true
+over-end : (l : Place) (n q : ℕ) → liesOver l n q ≡ true → liesOver l n (suc q) ≡ false → eqb (suc q) (endAt l n) ≡ true
 unfolding liesOver endAt
-over-end (At a) n q ins out =
-    let y = and-both (leb a q) (ltb q (a + n)) ins in
-    let g = leb-true a q (y .0) in
+over-end (At a) n q ins out = let y = and-both (leb a q) (ltb q (a + n)) ins in let g = leb-true a q (y .0) in
     let l = ltb-true q (a + n) (y .1) in
-    pick (ltb (suc q) (a + n)) refl
-    (sym (ap (λ (b : Bool). b && ltb (suc q) (a + n)) (le-leb a (suc q) (omega arith))) ∙ out) l
+    pick (ltb (suc q) (a + n)) refl (sym (ap (λ (b : Bool). b && ltb (suc q) (a + n)) (le-leb a (suc q) (omega arith)))
+    ∙ out) l
   where
     pick : (b : Bool) → ltb (suc q) (a + n) ≡ b → b ≡ false → q < a + n → eqb (suc q) (a + n) ≡ true
     pick true e x l = absurd (false≢true (sym x))
@@ -142,14 +126,12 @@ either-ends false b false d true y h k e g = refl
 either-ends false b false d false y h k e g = k e g
 
 module _ (file : ℕ → ℕ) (f : ℕ) where
-  write-end : (w : Write) (q : ℕ) → coversPlace file f q w ≡ true → coversPlace file f (suc q) w ≡ false
-      → endsAt q w ≡ true
+  write-end : (w : Write) (q : ℕ) → coversPlace file f q w ≡ true → coversPlace file f (suc q) w ≡ false → endsAt q w ≡ true
   unfolding coversPlace
   write-end w q ins out = pick (eqb (file (w .descriptor)) f) ins out
     where
       pick : (b : Bool) → (b && liesOver (w .place) (length (w .bytes)) q) ≡ true
-          → (b && liesOver (w .place) (length (w .bytes)) (suc q)) ≡ false
-          → endsAt q w ≡ true
+          → (b && liesOver (w .place) (length (w .bytes)) (suc q)) ≡ false → endsAt q w ≡ true
       pick true ins out = over-end (w .place) (length (w .bytes)) q ins out
       pick false ins out = absurd (false≢true ins)
 
@@ -157,29 +139,22 @@ module _ (file : ℕ → ℕ) (f : ℕ) where
       → someWrite (endsAt q) ws ≡ true
   unfolding covered someWrite
   some-end [] q ins out = absurd (false≢true ins)
-  some-end (w ∷ ws) q ins out =
-      either-ends (coversPlace file f q w) (covered file f ws q) (coversPlace file f (suc q) w)
-      (covered file f ws (suc q)) _ _
-      (write-end w q) (some-end ws q) ins out
+  some-end (w ∷ ws) q ins out = either-ends (coversPlace file f q w) (covered file f ws q) (coversPlace file f (suc q) w)
+      (covered file f ws (suc q)) _ _ (write-end w q) (some-end ws q) ins out
 
   few-ends : (ws : List Write) (p n : ℕ) → countFrom (λ q. someWrite (endsAt q) ws) p n ≤ length ws
   unfolding someWrite
   few-ends [] p n = omega (arith, none-at p n)
-  few-ends (w ∷ ws) p n =
-      omega (
-        arith,
-        either (λ q. endsAt q w) (λ q. someWrite (endsAt q) ws) p n,
-        once
-            (endAt (w .place) (length (w .bytes))) p n,
-        few-ends ws p n,
-      )
+  few-ends (w ∷ ws) p n = omega (
+    arith,
+    either (λ q. endsAt q w) (λ q. someWrite (endsAt q) ws) p n,
+    once (endAt (w .place) (length (w .bytes))) p n,
+    few-ends ws p n,
+  )
 
   pub few-intervals : (ws : List Write) → length (intervalsOf (covered file f ws)) ≤ suc (length ws)
-  unfolding intervalsOf
-  few-intervals ws =
-      omega (
-        arith,
-        few-from (covered file f ws) (λ q. someWrite (endsAt q) ws)
-            (some-end ws) 0 fileBytes,
-        few-ends ws 0 fileBytes,
-      )
+  few-intervals ws = unfold intervalsOf in omega (
+    arith,
+    few-from (covered file f ws) (λ q. someWrite (endsAt q) ws) (some-end ws) 0 fileBytes,
+    few-ends ws 0 fileBytes,
+  )

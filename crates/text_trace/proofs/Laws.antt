@@ -1,37 +1,26 @@
 -- Laws of the grammar on the part of a line from a place on.
-use mathlib.Core.Bool.{true, false}
-use mathlib.Core.List.{List, [], _∷_}
-use mathlib.Core.Path.{_≡_, refl, sym, ap}
-use native.Mathlib.Numerals.{add-one}
-use native.Mathlib.Omega.{arith}
-use lib.ListN.{length, drop, getD, drop-of-length-le}
-use lib.Seq.{drop-cons}
+use mathlib.Core.{Bool.{true, false}, List.{List, [], _∷_}, Path.{_≡_, refl, ap}}
+use native.Mathlib.{Numerals.add-one, Omega.arith}
+use lib.{ListN.{length, drop, getD, drop-of-length-le}, Seq.drop-cons}
 use borrow.Author.Tests.{le-leb, lt-leb, eq-eqb, ne-eqb}
 use Prim.Native.Nat.{ℕ, _+_, _≤_, _<_}
 use Rattle.requests.specs.declared.Request.{Request}
-use Rattle.text_numerals.specs.Decimal.{Numeral, isDigit, worth}
-use Rattle.text_numerals.specs.declared.Field.{Field}
-use Rattle.text_numerals.specs.declared.Field.the-variants.{Missing, Number}
+use Rattle.text_numerals.specs.{Decimal.{Numeral, isDigit, worth}, declared.Field.{Field, the-variants.{Missing, Number}}}
 use Rattle.text_numerals.specs.Fields.{numeralOf}
-use Rattle.text_trace.specs.declared.Parsed.{Parsed}
-use Rattle.text_trace.specs.declared.Parsed.the-variants.{Another, Asks}
+use Rattle.text_trace.specs.declared.{Parsed.{Parsed, the-variants.{Another, Asks}}}
 use Rattle.text_trace.specs.Parsing.{parsedLine, startOf, Reads, Parses}
-use Rattle.text_trace.specs.Grammar.{Line, another, asks, afterNumeral}
-use Rattle.text_trace.specs.Grammar.{writes, lettered, form, parsed}
+use Rattle.text_trace.specs.Grammar.{Line, another, asks, afterNumeral, writes, lettered, form, parsed}
 
 -- The space before a Write's bytes, at a place of the line.
 module _ (line : List ℕ) (at : ℕ) (q : Request) where
   pub writes-end : length line ≤ at → writes q (drop at line) ≡ another
-  unfolding writes
-  writes-end h = rw (drop-of-length-le line h)
+  writes-end h = unfold writes in rw (drop-of-length-le line h)
 
   pub writes-other : at < length line → (getD line at 0 ≡ 32 → ⊥) → writes q (drop at line) ≡ another
-  unfolding writes
-  writes-other h e = rw (drop-cons line at 0 h, ne-eqb (getD line at 0) 32 e)
+  writes-other h e = unfold writes in rw (drop-cons line at 0 h, ne-eqb (getD line at 0) 32 e)
 
   pub writes-space : at < length line → getD line at 0 ≡ 32 → writes q (drop at line) ≡ asks q (drop (at + 1) line)
-  unfolding writes
-  writes-space h e = rw (drop-cons line at 0 h, eq-eqb (getD line at 0) 32 e, add-one at)
+  writes-space h e = unfold writes in rw (drop-cons line at 0 h, eq-eqb (getD line at 0) 32 e, add-one at)
 
 -- The letter and the transaction of a line.
 pub form-short : (line : List ℕ) → length line < 2 → form line ≡ another
@@ -54,19 +43,15 @@ form-digit (k ∷ []) h e t w = let n : ⊥ = omega arith in elim n [ ]
 form-digit (k ∷ b ∷ bytes) h e t w = rw (e, w)
 
 pub parsed-long : (line : List ℕ) → 128 < length line → parsed line ≡ another
-unfolding parsed
-parsed-long line h = rw (lt-leb (length line) 128 h)
+parsed-long line h = unfold parsed in rw (lt-leb (length line) 128 h)
 
 pub parsed-form : (line : List ℕ) → length line ≤ 128 → parsed line ≡ form line
-unfolding parsed
-parsed-form line h = rw (le-leb (length line) 128 h)
+parsed-form line h = unfold parsed in rw (le-leb (length line) 128 h)
 
 -- A letter of no form.
-pub lettered-other : (k t : ℕ) (bytes : List ℕ) → (k ≡ 66 → ⊥) → (k ≡ 67 → ⊥) → (k ≡ 65 → ⊥) → (k ≡ 80 → ⊥)
-    → (k ≡ 83 → ⊥)
+pub lettered-other : (k t : ℕ) (bytes : List ℕ) → (k ≡ 66 → ⊥) → (k ≡ 67 → ⊥) → (k ≡ 65 → ⊥) → (k ≡ 80 → ⊥) → (k ≡ 83 → ⊥)
     → (k ≡ 82 → ⊥) → (k ≡ 87 → ⊥) → lettered k t bytes ≡ another
-unfolding lettered
-lettered-other k t bytes b c a p s r w =
+lettered-other k t bytes b c a p s r w = unfold lettered in
     rw (ne-eqb k 66 b, ne-eqb k 67 c, ne-eqb k 65 a, ne-eqb k 80 p, ne-eqb k 83 s, ne-eqb k 82 r, ne-eqb k 87 w)
 
 -- What comes of a number that was read and is f.
@@ -77,19 +62,16 @@ module _ (line : List ℕ) (f : Field) (g : Numeral) (next : ℕ → List ℕ �
 
   pub after-number : (v end : ℕ) (r : Parsed) → f ≡ Number v end → Reads line r (next v (drop end line))
       → Reads line r (afterNumeral g next)
-  unfolding numeralOf afterNumeral
-  after-number v end r e t = rw (← h, e) t
+  after-number v end r e t = unfold numeralOf afterNumeral in rw (← h, e) t
 
 -- A line means what another definition says of it; it has another form.
 pub as-meant : (line : List ℕ) (r : Parsed) (meant said : Line) → meant ≡ said → Reads line r said → Reads line r meant
 as-meant line r meant said e h = rw e h
 
 pub other : (line : List ℕ) (meant : Line) → meant ≡ another → Reads line Another meant
-unfolding parsedLine startOf
-other line meant e = rw e (record { means = refl; within = omega arith })
+other line meant e = unfold parsedLine startOf in rw e (record { means = refl; within = omega arith })
 
 -- A request's bytes start inside its line.
 pub starts-within : (line : List ℕ) (r : Parsed) → Parses line r → (q : Request) (start : ℕ) → r ≡ Asks q start
     → start ≤ length line
-unfolding startOf
-starts-within line r p q start e = omega (arith, p .within, ap startOf e)
+starts-within line r p q start e = unfold startOf in omega (arith, p .within, ap startOf e)

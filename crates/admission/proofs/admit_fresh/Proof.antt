@@ -1,14 +1,8 @@
 -- `admission::admit_fresh` meets its contract.
-use borrow.Author.Tests.{eq-eqb, ne-eqb}
+use borrow.Author.{Tests.{eq-eqb, ne-eqb}, Needs.needs}
 use Rattle.admission.proofs.Laws.{failed, test-held}
-use borrow.Author.Needs.{needs}
-use Rattle.admission.specs.Admission.{admissionOfFresh, gateNumber}
-use Rattle.admission.specs.FirstRefusal.{unless}
-use Rattle.admission.proofs.admit_fresh.Statement.{statement}
+use Rattle.admission.specs.{Admission.{admissionOfFresh, gateNumber}, FirstRefusal.unless}
 use Rattle.admission.proofs.admit_fresh.Tie as tie
-
-sizes-in-requires : tie.Need-sizes-in-requires
-sizes-in-requires c κs = search needs
 
 returns : tie.Need-returns
 unfolding unless admissionOfFresh gateNumber
@@ -18,15 +12,11 @@ returns-2 : tie.Need-returns-2
 unfolding unless admissionOfFresh gateNumber
 returns-2 c = simp (test-held (c .before .before .sizes-in .ensures) (c .before .if1 .left), ne-eqb _ _ (c .if2 .taken))
 
-files-in-requires : tie.Need-files-in-requires
-files-in-requires c κs = search needs
-
 returns-3 : tie.Need-returns-3
 unfolding unless admissionOfFresh gateNumber
 returns-3 c = simp (
   test-held (c .before .before .before .before .sizes-in .ensures) (c .before .before .before .if1 .left),
-  eq-eqb _ _
-      (c .before .before .if2 .left),
+  eq-eqb _ _ (c .before .before .if2 .left),
   failed (c .before .files-in .ensures) (c .if3 .taken),
 )
 
@@ -34,12 +24,10 @@ returns-4 : tie.Need-returns-4
 unfolding unless admissionOfFresh gateNumber
 returns-4 c = simp (
   test-held (c .before .before .before .before .sizes-in .ensures) (c .before .before .before .if1 .left),
-  eq-eqb _ _
-      (c .before .before .if2 .left),
+  eq-eqb _ _ (c .before .before .if2 .left),
   test-held (c .before .files-in .ensures) (c .if3 .left),
 )
 
-pub admit-fresh-spec : {M : Type 1} → statement M
+pub admit-fresh-spec : {M : Type 1} → Rattle.admission.proofs.admit_fresh.Statement.statement M
 admit-fresh-spec =
-    tie.close
-    (tie.spec sizes-in-requires returns returns-2 files-in-requires returns-3 returns-4)
+    tie.close (tie.spec (λ c κs. search needs) returns returns-2 (λ c κs. search needs) returns-3 returns-4)

@@ -5,23 +5,12 @@ use Rattle.admission.specs.Admission.{gateNumber}
 use Rattle.admission.proofs.Laws.{failed, test-held, first-lengths, first-ranges, first-later}
 use lib.ListN.{length}
 use borrow.Author.Needs.{needs}
-use Rattle.admission.proofs.first_tests.Statement.{statement}
 use Rattle.admission.proofs.first_tests.Tie as tie
-
-length-of-requires : tie.Need-length-of-requires
-length-of-requires c κs = search needs
-
-sizes-in-requires : tie.Need-sizes-in-requires
-sizes-in-requires c κs = search needs
 
 returns : tie.Need-returns
 unfolding gateNumber
-returns c =
-    let l : length (c .before .before .before .before .args .state .now) ≡ stateLength = search needs in
+returns c = let l : length (c .before .before .before .before .args .state .now) ≡ stateLength = search needs in
     (first-lengths _ _ _ _ (failed (c .before .sizes-in .ensures) (c .if1 .taken)), l)
-
-store-in-requires : tie.Need-store-in-requires
-store-in-requires c κs = search needs
 
 returns-2 : tie.Need-returns-2
 unfolding gateNumber
@@ -41,7 +30,6 @@ returns-3 c =
       l,
     )
 
-pub first-tests-spec : {M : Type 1} → statement M
-first-tests-spec =
-    tie.close
-    (tie.spec length-of-requires sizes-in-requires returns store-in-requires returns-2 returns-3)
+pub first-tests-spec : {M : Type 1} → Rattle.admission.proofs.first_tests.Statement.statement M
+first-tests-spec = tie.close (tie.spec (λ c κs. search needs) (λ c κs. search needs) returns
+    (λ c κs. search needs) returns-2 returns-3)

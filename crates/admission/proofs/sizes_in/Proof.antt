@@ -1,16 +1,7 @@
 -- `admission::sizes_in` meets its contract.
 use borrow.Author.Tests.{eq-eqb, ne-eqb}
 use Rattle.admission.specs.Admission.{sizesIn}
-use Rattle.admission.proofs.sizes_in.Statement.{statement}
 use Rattle.admission.proofs.sizes_in.Tie as tie
-
-returns : tie.Need-returns
-unfolding sizesIn
-returns c = simp (ne-eqb _ _ (c .if1 .taken))
-
-returns-2 : tie.Need-returns-2
-unfolding sizesIn
-returns-2 c = simp (eq-eqb _ _ (c .before .if1 .left), ne-eqb _ _ (c .if2 .taken))
 
 returns-3 : tie.Need-returns-3
 unfolding sizesIn
@@ -20,5 +11,7 @@ returns-4 : tie.Need-returns-4
 unfolding sizesIn
 returns-4 c = simp (eq-eqb _ _ (c .before .before .if1 .left), eq-eqb _ _ (c .before .if2 .left), eq-eqb _ _ (c .if3 .left))
 
-pub sizes-in-spec : {M : Type 1} → statement M
-sizes-in-spec = tie.close (tie.spec returns returns-2 returns-3 returns-4)
+pub sizes-in-spec : {M : Type 1} → Rattle.admission.proofs.sizes_in.Statement.statement M
+sizes-in-spec =
+    tie.close (tie.spec (λ c. unfold sizesIn in simp (ne-eqb _ _ (c .if1 .taken))) (λ c. unfold sizesIn in
+    simp (eq-eqb _ _ (c .before .if1 .left), ne-eqb _ _ (c .if2 .taken))) returns-3 returns-4)

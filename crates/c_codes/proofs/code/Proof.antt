@@ -6,10 +6,6 @@ use Rattle.c_codes.specs.Codes.{codeOf}
 use Rattle.c_codes.proofs.CodeLaws.{code-of-arm}
 use Rattle.c_codes.proofs.code.Tie as tie
 
-returns : tie.Need-returns
-unfolding codeOf said
-returns c = sym (ap (λ (o : Outcome). codeOf (said o)) (c .enum-told .given .1))
-
 returns-2 : tie.Need-returns-2
 unfolding codeOf said
 returns-2 c = code-of-arm _ _ _ (c .from-number .ok) (c .from-number .ensures) (c .before .before .o .given .1)
@@ -38,4 +34,5 @@ pub code-spec : {M : Type 1} → Rattle.c_codes.proofs.code.Statement.s
 code-spec = tie.close (tie.spec (λ c. search needs) (λ c. search needs) (λ c κs. search needs)
     (λ c. search needs) (λ c κs. search needs) (λ c. search needs) (λ c κs. search needs) (λ c. search needs)
     (λ c κs. search needs) (λ c. search needs) (λ c κs. search needs) (λ c. search needs)
-    (λ c κs. search needs) returns returns-2 returns-3 returns-4 returns-5 returns-6 returns-7)
+    (λ c κs. search needs) (λ c. unfold codeOf said in sym (ap (λ (o : Outcome). codeOf (said o))
+    (c .enum-told .given .1))) returns-2 returns-3 returns-4 returns-5 returns-6 returns-7)

@@ -4,9 +4,6 @@ use borrow.Author.Needs.{needs}
 use Rattle.c_lines.proofs.luzhanem_parts_line_best_order.Statement.{statement}
 use Rattle.c_lines.proofs.luzhanem_parts_line_best_order.Tie as tie
 
-returns : tie.Need-returns
-unfolding eventLine loggedPart
-returns c = c .put-order .ensures
-
 pub luzhanem-parts-line-best-order-spec : {M : Type 1} → statement M
-luzhanem-parts-line-best-order-spec = tie.close (tie.spec (λ c κs. search needs) returns)
+luzhanem-parts-line-best-order-spec =
+    tie.close (tie.spec (λ c κs. search needs) (λ c. unfold eventLine loggedPart in c .put-order .ensures))

@@ -4,9 +4,6 @@ use Rattle.requests.specs.Requests.{callOf}
 use borrow.Author.Needs.{needs}
 use Rattle.c_lines.proofs.luzhanem_parts_line_seek.Tie as tie
 
-returns : tie.Need-returns
-unfolding eventLine loggedPart loggedOp recordedLine requestLine callOf
-returns c = c .put-call .ensures
-
 pub luzhanem-parts-line-seek-spec : {M : Type 1} → Rattle.c_lines.proofs.luzhanem_parts_line_seek.Statement.statement M
-luzhanem-parts-line-seek-spec = tie.close (tie.spec (λ c. search needs) (λ c κs. search needs) returns)
+luzhanem-parts-line-seek-spec = tie.close (tie.spec (λ c. search needs) (λ c κs. search needs)
+    (λ c. unfold eventLine loggedPart loggedOp recordedLine requestLine callOf in c .put-call .ensures))

@@ -5,9 +5,6 @@ use borrow.Author.Needs.{needs}
 use Rattle.c_lines.proofs.luzhanem_parts_line_set_window.Statement.{statement}
 use Rattle.c_lines.proofs.luzhanem_parts_line_set_window.Tie as tie
 
-returns : tie.Need-returns
-unfolding eventLine loggedPart recordedLine requestLine callOf
-returns c = c .put-call .ensures
-
 pub luzhanem-parts-line-set-window-spec : {M : Type 1} → statement M
-luzhanem-parts-line-set-window-spec = tie.close (tie.spec (λ c. search needs) (λ c κs. search needs) returns)
+luzhanem-parts-line-set-window-spec = tie.close (tie.spec (λ c. search needs) (λ c κs. search needs)
+    (λ c. unfold eventLine loggedPart recordedLine requestLine callOf in c .put-call .ensures))

@@ -1,15 +1,12 @@
 -- `call_places::first_clear` meets its contract. The loop's invariant: the places from p to q are covered. Assumes nothing.
-use mathlib.Core.Bool.{true}
-use mathlib.Core.Path.{_≡_, sym, _∙_}
+use mathlib.Core.{Bool.true, Path.{_≡_, sym, _∙_}}
 use Prim.Native.Nat.{ℕ, _-_, _≤_, _<_}
 use native.Mathlib.Omega.{arith}
-use borrow.Author.Needs.{needs}
-use borrow.Author.Tests.{not-true, not-false}
+use borrow.Author.{Needs.needs, Tests.{not-true, not-false}}
 use Rattle.limits.specs.Limits.{fileBytes}
 use Rattle.read_lookup.specs.Lookup.{Recorded, extent, recordedIn}
 use Rattle.call_places.specs.PlacesCall.{coveredAt}
 use Rattle.call_places.proofs.CoverLaws.{first-clear-here, first-clear-after}
-use Rattle.call_places.proofs.first_clear.Statement.{statement}
 use Rattle.call_places.proofs.first_clear.Tie as tie
 
 abbrev Inv-loop : tie.InvT-loop
@@ -23,66 +20,29 @@ abbrev μ-loop : tie.MeasureT-loop
 abbrev lent : tie.Start Inv-loop μ-loop → Recorded
 lent c = recordedIn (c .args .state .now)
 
-loop-holds : tie.Need-loop-holds Inv-loop μ-loop
-loop-holds c =
-    (omega arith, omega (arith, c .pre .1), λ q g l. absurd (omega arith))
-
-sub-t11 : tie.Need-sub-t11 Inv-loop μ-loop
-sub-t11 c = search needs
-
-latest-write-requires : tie.Need-latest-write-requires Inv-loop μ-loop
-latest-write-requires c κs = search needs
-
-is-record-requires : tie.Need-is-record-requires Inv-loop μ-loop
-is-record-requires c κs = search needs
-
 returns : tie.Need-returns Inv-loop μ-loop
-returns c =
-    let s = c .before .before .before .before .before in
-    let a = s .args in
-    let l = c .before .before .before .before .loop in
-    let r = c .before .before .latest-write in
-    first-clear-here (lent s) (a .t) (a .used .records) (extent (a .f) (l .q) (fileBytes - l .q)) (r .result) (r .ensures .1)
-    (a .p)
-    (l .inv .0)
-    (l .inv .1) (l .inv .2) (sym (c .before .is-record .ensures) ∙ not-true _ (c .if1 .taken))
-
-add-q : tie.Need-add-q Inv-loop μ-loop
-add-q c = search needs
-
-loop-less : tie.Need-loop-less Inv-loop μ-loop
-loop-less c = search needs
+returns c = let s = c .before .before .before .before .before in let a = s .args in
+    let l = c .before .before .before .before .loop in let r = c .before .before .latest-write in
+    first-clear-here (lent s) (a .t) (a .used .records) (extent (a .f) (l .q) (fileBytes - l .q)) (r .result)
+    (r .ensures .1) (a .p) (l .inv .0) (l .inv .1) (l .inv .2) (sym (c .before .is-record .ensures)
+    ∙ not-true _ (c .if1 .taken))
 
 loop-again : tie.Need-loop-again Inv-loop μ-loop
-loop-again c =
-    let s = c .before .before .before .before .before .before in
-    let a = s .args in
-    let l = c .before .before .before .before .before .loop in
-    let r = c .before .before .before .latest-write in (
+loop-again c = let s = c .before .before .before .before .before .before in let a = s .args in
+    let l = c .before .before .before .before .before .loop in let r = c .before .before .before .latest-write in (
       omega arith,
       omega (arith, r .ensures .1 .within),
-      first-clear-after (lent s) (a .t) (a .used .records) (extent (a .f) (l .q) (fileBytes - l .q)) (r .result) (r .ensures .1)
-          (a .p)
-          (l .inv .2) (sym (c .before .before .is-record .ensures) ∙ not-false _ (c .before .if1 .left)),
+      first-clear-after (lent s) (a .t) (a .used .records) (extent (a .f) (l .q) (fileBytes - l .q)) (r .result)
+          (r .ensures .1) (a .p) (l .inv .2) (sym (c .before .before .is-record .ensures)
+          ∙ not-false _ (c .before .if1 .left)),
     )
 
 returns-2 : tie.Need-returns-2 Inv-loop μ-loop
-returns-2 c =
-    let l = c .before .loop in
+returns-2 c = let l = c .before .loop in
     record { start = l .inv .0; within = l .inv .1; same = l .inv .2; turned = λ h. absurd (omega arith) }
 
-pub first-clear-spec : {M : Type 1} → statement M
-first-clear-spec =
-    tie.close
-    (tie.spec
-    Inv-loop
-    μ-loop
-    loop-holds
-    sub-t11
-    latest-write-requires
-    is-record-requires
-    returns
-    add-q
-    loop-less
-    loop-again
-    returns-2)
+pub first-clear-spec : {M : Type 1} → Rattle.call_places.proofs.first_clear.Statement.statement M
+first-clear-spec = tie.close
+    (tie.spec Inv-loop μ-loop (λ c. (omega arith, omega (arith, c .pre .1), λ q g l. absurd (omega arith)))
+    (λ c. search needs) (λ c κs. search needs) (λ c κs. search needs) returns (λ c. search needs)
+    (λ c. search needs) loop-again returns-2)

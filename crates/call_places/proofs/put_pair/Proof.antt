@@ -1,38 +1,19 @@
 -- `call_places::put_pair` meets its contract. Assumes nothing.
-use mathlib.Core.List.{List}
-use mathlib.Core.Path.{ap, _∙_}
+use mathlib.Core.{List.List, Path.{ap, _∙_}}
 use Prim.Native.Nat.{ℕ, _+_}
 use borrow.Author.Needs.{needs}
 use lib.ListN.{length}
 use Rattle.buffers.specs.Parts.{pasted}
 use Rattle.spec.specs.Places.{sixteen}
 use Rattle.call_places.proofs.ListLaws.{pair-put}
-use Rattle.call_places.proofs.put_pair.Statement.{statement}
 use Rattle.call_places.proofs.put_pair.Tie as tie
 
-put-number-requires : tie.Need-put-number-requires
-put-number-requires c κs = search needs
-
-add-put-number : tie.Need-add-put-number
-add-put-number c = search needs
-
-put-number-requires-2 : tie.Need-put-number-requires-2
-put-number-requires-2 c κs = search needs
-
-same-length : tie.Need-same-length
-same-length c = search needs
-
 returns : tie.Need-returns
-returns c =
-    let second = c .before .before in
-    let first = second .before .before .before .before in
-    let s = first .before .before .before in
-    let a = s .args in
-    second .put-number2 .ensures
-    ∙ ap (λ (l : List ℕ). pasted l (a .at + 2) (sixteen (a .s .length))) (first .put-number .ensures)
-    ∙ pair-put (a .out .now) (a .at) (a .s) (s .pre .0)
+returns c = let second = c .before .before in let first = second .before .before .before .before in
+    let s = first .before .before .before in let a = s .args in
+    second .put-number2 .ensures ∙ ap (λ (l : List ℕ). pasted l (a .at + 2) (sixteen (a .s .length)))
+    (first .put-number .ensures) ∙ pair-put (a .out .now) (a .at) (a .s) (s .pre .0)
 
-pub put-pair-spec : {M : Type 1} → statement M
-put-pair-spec =
-    tie.close
-    (tie.spec put-number-requires add-put-number put-number-requires-2 same-length returns)
+pub put-pair-spec : {M : Type 1} → Rattle.call_places.proofs.put_pair.Statement.statement M
+put-pair-spec = tie.close
+    (tie.spec (λ c κs. search needs) (λ c. search needs) (λ c κs. search needs) (λ c. search needs) returns)

@@ -1,19 +1,13 @@
 -- `commit_windows::closed_files` meets its contract. The loop's invariant: those of the files passed that are closed.
-use mathlib.Core.Bool.{not}
-use mathlib.Core.Logic.{⊎-elim}
-use mathlib.Core.Path.{_≡_, refl, sym, ap, _∙_}
+use mathlib.Core.{Bool.not, Logic.⊎-elim, Path.{_≡_, refl, sym, ap, _∙_}}
 use Prim.Native.Nat.{_-_, _≤_}
 use native.Mathlib.Omega.{arith}
 use borrow.Author.Needs.{needs}
 use Rattle.limits.specs.Limits.{fileCount}
-use Rattle.windows.specs.declared.Window.{Window}
-use Rattle.windows.specs.Windows.{isOpenAt, isClosedAt}
-use Rattle.buffers.specs.Bits.{bitsOf}
-use Rattle.buffers.proofs.SetLaws.{gathered, passed-by}
-use Rattle.state.specs.StoreMeaning.{windowAt}
-use Rattle.state.specs.Layout.{storeOf}
+use Rattle.windows.specs.{declared.Window.Window, Windows.{isOpenAt, isClosedAt}}
+use Rattle.buffers.{specs.Bits.bitsOf, proofs.SetLaws.{gathered, passed-by}}
+use Rattle.state.specs.{StoreMeaning.windowAt, Layout.storeOf}
 use Rattle.commit_windows.specs.WindowCheck.{closedFiles}
-use Rattle.commit_windows.proofs.closed_files.Statement.{statement}
 use Rattle.commit_windows.proofs.closed_files.Tie as tie
 
 abbrev Inv-loop : tie.InvT-loop
@@ -22,16 +16,9 @@ Inv-loop state minute closed₀ f₀ closed f = (f ≤ fileCount) × (closed ≡
 abbrev μ-loop : tie.MeasureT-loop
 μ-loop state minute closed₀ f₀ closed f = fileCount - f
 
-loop-holds : tie.Need-loop-holds Inv-loop μ-loop
-unfolding bitsOf
-loop-holds c = (omega arith, refl)
-
 loop-again : tie.Need-loop-again Inv-loop μ-loop
 unfolding isClosedAt
-loop-again c =
-    let at-loop = c .before .before .before .before in
-    let a = at-loop .before .args in
-    let l = at-loop .loop in
+loop-again c = let at-loop = c .before .before .before .before in let a = at-loop .before .args in let l = at-loop .loop in
     let closed = isClosedAt (windowAt (storeOf (a .state .now))) (a .minute) in
     let test = sym (ap not (c .before .is-open .ensures
     ∙ ap (λ (w : Window). isOpenAt w (a .minute)) (c .before .before .window-at .ensures))) in
@@ -40,23 +27,10 @@ loop-again c =
 
 returns : tie.Need-returns Inv-loop μ-loop
 unfolding closedFiles
-returns c =
-    let a = c .before .before .args in
-    let l = c .before .loop in
-    let e : l .f ≡ 8 = omega arith in
+returns c = let a = c .before .before .args in let l = c .before .loop in let e : l .f ≡ 8 = omega arith in
     l .inv .1 ∙ ap (bitsOf (isClosedAt (windowAt (storeOf (a .state .now))) (a .minute))) e
 
-pub closed-files-spec : {M : Type 1} → statement M
+pub closed-files-spec : {M : Type 1} → Rattle.commit_windows.proofs.closed_files.Statement.statement M
 closed-files-spec =
-    tie.close
-    (tie.spec
-    Inv-loop
-    μ-loop
-    loop-holds
-    (λ c κs. search needs)
-    (λ c κs. search needs)
-    (λ c κs. search needs)
-    (λ c. search needs)
-    (λ c. search needs)
-    loop-again
-    returns)
+    tie.close (tie.spec Inv-loop μ-loop (λ c. unfold bitsOf in (omega arith, refl)) (λ c κs. search needs)
+    (λ c κs. search needs) (λ c κs. search needs) (λ c. search needs) (λ c. search needs) loop-again returns)

@@ -6,7 +6,6 @@ use Rattle.state.specs.Layout.{storeOf}
 use Rattle.read_lookup.specs.Lookup.{recordedIn, recordEnd, ownReach}
 use Rattle.read_lookup.proofs.RunLaws.{reach-none, reach-more}
 use borrow.Author.Needs.{needs}
-use Rattle.read_lookup.proofs.own_end.Statement.{statement}
 use Rattle.read_lookup.proofs.own_end.Tie as tie
 
 abbrev Inv-loop : tie.InvT-loop
@@ -16,58 +15,26 @@ abbrev μ-loop : tie.MeasureT-loop
 μ-loop state t used file end₀ k₀ end k = used .records - k
 
 loop-holds : tie.Need-loop-holds Inv-loop μ-loop
-loop-holds c =
-    let a = c .args in
-    (omega arith, sym (reach-none (recordedIn (a .state .now)) (a .t) (a .file) 0))
-
-record-at-requires : tie.Need-record-at-requires Inv-loop μ-loop
-record-at-requires c κs = search needs
+loop-holds c = let a = c .args in (omega arith, sym (reach-none (recordedIn (a .state .now)) (a .t) (a .file) 0))
 
 end-in-requires : tie.Need-end-in-requires Inv-loop μ-loop
-end-in-requires c κs =
-    let at-loop = c .before .before .before in
+end-in-requires c κs = let at-loop = c .before .before .before in
     rw (c .record-at .ensures) (at-loop .before .pre .descriptors (at-loop .loop .k) (omega arith))
 
-larger-requires : tie.Need-larger-requires Inv-loop μ-loop
-larger-requires c κs = search needs
-
-add-k : tie.Need-add-k Inv-loop μ-loop
-add-k c = search needs
-
-loop-less : tie.Need-loop-less Inv-loop μ-loop
-loop-less c = search needs
-
 loop-again : tie.Need-loop-again Inv-loop μ-loop
-loop-again c =
-    let at-loop = c .before .before .before .before .before in
-    let a = at-loop .before .args in
+loop-again c = let at-loop = c .before .before .before .before .before in let a = at-loop .before .args in
     let l = at-loop .loop in (
       omega arith,
-      c .larger .ensures
-          ∙ ap₂ (λ (m n : ℕ). max m n) (l .inv .1)
-          (c .before .end-in .ensures ∙ ap (recordEnd (storeOf (a .state .now) .filenumbers) (a .file))
-          (c .before .before .record-at .ensures))
+      c .larger .ensures ∙ ap₂ (λ (m n : ℕ). max m n) (l .inv .1) (c .before .end-in .ensures
+          ∙ ap (recordEnd (storeOf (a .state .now) .filenumbers) (a .file)) (c .before .before .record-at .ensures))
           ∙ sym (reach-more (recordedIn (a .state .now)) (a .t) (a .file) _ (l .k)),
     )
 
 returns : tie.Need-returns Inv-loop μ-loop
-returns c =
-    let at-loop = c .before .before in
-    let a = at-loop .before .args in
+returns c = let at-loop = c .before .before in let a = at-loop .before .args in
     let all : at-loop .loop .k ≡ a .used .records = omega arith in
     at-loop .loop .inv .1 ∙ ap (λ (k : ℕ). ownReach (a .state .now) (a .t) k (a .file)) all
 
-pub own-end-spec : {M : Type 1} → statement M
-own-end-spec =
-    tie.close
-    (tie.spec
-    Inv-loop
-    μ-loop
-    loop-holds
-    record-at-requires
-    end-in-requires
-    larger-requires
-    add-k
-    loop-less
-    loop-again
-    returns)
+pub own-end-spec : {M : Type 1} → Rattle.read_lookup.proofs.own_end.Statement.statement M
+own-end-spec = tie.close (tie.spec Inv-loop μ-loop loop-holds (λ c κs. search needs) end-in-requires
+    (λ c κs. search needs) (λ c. search needs) (λ c. search needs) loop-again returns)

@@ -1,16 +1,13 @@
 -- `read_settle::read_may_settle` meets its contract. The loop's invariant: where none was found, d is not Untouched, and none
 -- below `e` waits.
-use mathlib.Core.Bool.{Bool, true, false, _||_}
-use mathlib.Core.Path.{_≡_, sym, ap, _∙_}
+use mathlib.Core.{Bool.{Bool, true, false, _||_}, Path.{_≡_, sym, ap, _∙_}}
 use native.Mathlib.Omega.{arith}
 use borrow.Author.Needs.{needs}
 use Prim.Native.Nat.{ℕ, _-_, _≤_, _<_}
 use Rattle.limits.specs.Limits.{descriptorCount}
 use Rattle.standings.specs.Table.{readSettles}
-use Rattle.state.specs.StoreMeaning.{standingAt}
-use Rattle.state.specs.Layout.{transactionOf}
+use Rattle.state.specs.{StoreMeaning.standingAt, Layout.transactionOf}
 use Rattle.read_settle.proofs.ChoiceLaws.{both-false, none-more, read-chooses-none}
-use Rattle.read_settle.proofs.read_may_settle.Statement.{statement}
 use Rattle.read_settle.proofs.read_may_settle.Tie as tie
 
 abbrev Inv-loop : tie.InvT-loop
@@ -21,14 +18,8 @@ Inv-loop state t d found₀ e₀ found e =
 abbrev μ-loop : tie.MeasureT-loop
 μ-loop state t d found₀ e₀ found e = 16 - e
 
-loop-holds : tie.Need-loop-holds Inv-loop μ-loop
-loop-holds c = (omega arith, λ f. sym (c .read-settles-at .ensures) ∙ f, λ f k h. absurd (omega arith))
-
 loop-again : tie.Need-loop-again Inv-loop μ-loop
-loop-again c =
-    let at-loop = c .before .before in
-    let l = at-loop .loop in
-    let a = at-loop .before .before .args in
+loop-again c = let at-loop = c .before .before in let l = at-loop .loop in let a = at-loop .before .before .args in
     let waits : ℕ → Bool = λ k. readSettles true false (standingAt (transactionOf (a .state .now) (a .t)) k) in
     let as-asked : l .found || c .read-settles-at2 .result ≡ false → l .found || waits (l .e) ≡ false =
     λ f. ap (λ (b : Bool). l .found || b) (sym (c .read-settles-at2 .ensures)) ∙ f in (
@@ -38,20 +29,9 @@ loop-again c =
     )
 
 returns : tie.Need-returns Inv-loop μ-loop
-returns c f =
-    let l = c .before .loop in
-    read-chooses-none _ _ _ (l .inv .1 f) (λ k h. l .inv .2 f k (omega arith))
+returns c f = let l = c .before .loop in read-chooses-none _ _ _ (l .inv .1 f) (λ k h. l .inv .2 f k (omega arith))
 
-pub read-may-settle-spec : {M : Type 1} → statement M
-read-may-settle-spec =
-    tie.close
-    (tie.spec
-    Inv-loop
-    μ-loop
-    (λ c κs. search needs)
-    loop-holds
-    (λ c κs. search needs)
-    (λ c. search needs)
-    (λ c. search needs)
-    loop-again
-    returns)
+pub read-may-settle-spec : {M : Type 1} → Rattle.read_settle.proofs.read_may_settle.Statement.statement M
+read-may-settle-spec = tie.close (tie.spec Inv-loop μ-loop (λ c κs. search needs)
+    (λ c. (omega arith, λ f. sym (c .read-settles-at .ensures) ∙ f, λ f k h. absurd (omega arith)))
+    (λ c κs. search needs) (λ c. search needs) (λ c. search needs) loop-again returns)

@@ -3,25 +3,20 @@
 -- believed: the store's rules are shown equal to it, and it to the reference model.
 use Rattle.limits.specs.Limits.{lastTransaction}
 use Rattle.windows.specs.Windows.{minuteIn, window, Windows}
-use Rattle.spec.specs.Places.{placesOf}
-use mathlib.Core.Bool.{Bool, true, false, cond, not, _&&_, _||_}
-use mathlib.Core.List.{List, [], _∷_}
+use Rattle.spec.specs.{Places.placesOf, Windows.forClosed}
+use Rattle.spec.specs.Items.{Item, byte, offset, fileLength, same, Values, result, asked}
+use Rattle.spec.specs.Transactions.{Txn, Write, empty, put}
+use Rattle.spec.specs.Messages.{Op, bufferOf, places, setWindow, undoCommit, bestOrder, Call, begin, on, commit, abort}
+use Rattle.spec.specs.{Messages.Reply, OrderReply.{grantsIn, hasUnplaced, Asked, orderReply}}
+use Rattle.spec.specs.Steps.{Stepped, refuse, accept, step, refusedStale}
+use Rattle.spec.specs.Commits.{Setting, settings, fits, landed, commitRefusal}
+use mathlib.Core.{Bool.{Bool, true, false, cond, not, _&&_, _||_}, List.{List, [], _∷_}}
 use lib.Dec.{leb, eqb}
 use Prim.Native.Nat.{ℕ, zero, suc}
 use Rattle.buffers.specs.Bits.{bitsOf}
-use Rattle.state.specs.declared.outcomes.Refusal.the-variants.{Stale}
-use Rattle.state.specs.Outcomes.{number, Said, doneAnswer, granted, refused}
-use Rattle.admission.specs.FirstRefusal.{guarded, isNone, below}
-use Rattle.admission.specs.Admission.{windowRefusal}
-use Rattle.spec.specs.Windows.{forClosed}
-use Rattle.spec.specs.Items.{Item, byte, offset, fileLength, same, Values, result, asked}
+use Rattle.state.specs.{declared.outcomes.Refusal.the-variants.Stale, Outcomes.{number, Said, doneAnswer, granted, refused}}
+use Rattle.admission.specs.{FirstRefusal.{guarded, isNone, below}, Admission.windowRefusal}
 use Rattle.standings.specs.Table.{isKnown}
-use Rattle.spec.specs.Transactions.{Txn, Write, empty, put}
-use Rattle.spec.specs.Messages.{Op, bufferOf, places, setWindow, undoCommit, bestOrder}
-use Rattle.spec.specs.OrderReply.{grantsIn, hasUnplaced, Asked, orderReply}
-use Rattle.spec.specs.Steps.{Stepped, refuse, accept, step, refusedStale}
-use Rattle.spec.specs.Commits.{Setting, settings, fits, landed, commitRefusal}
-use Rattle.spec.specs.Messages.{Call, begin, on, commit, abort, Reply}
 
 pub record OpenTxn : Type 0 where
   pub txn : Txn
@@ -95,19 +90,15 @@ abstractBegin t (occupied h) s = abstractRefuse 5 [] s
 
 unfoldable pub abstractStepped : ℕ → Op → OpenTxn → List Item → Abstract → Stepped → AbstractTurn
 abstractStepped t o h is s (refuse n) = abstractRefuse n (bufferOf o) s
-abstractStepped t o h is s (accept y answer buffer) =
-    record {
-      reply = record { answer = answer; buffer = buffer };
-      after =
-          withSeat t
-          (occupied (record { txn = y; marked = markAll is (h .marked); lengths = lengthAll is (h .lengths); stale = h .stale }))
-          s;
-    }
+abstractStepped t o h is s (accept y answer buffer) = record {
+  reply = record { answer = answer; buffer = buffer };
+  after = withSeat t (occupied
+      (record { txn = y; marked = markAll is (h .marked); lengths = lengthAll is (h .lengths); stale = h .stale })) s;
+}
 
 unfoldable pub abstractOn : ℕ → Op → Seat → Abstract → AbstractTurn
 abstractOn t o vacant s = abstractRefuse 4 (bufferOf o) s
-abstractOn t o (occupied h) s =
-    abstractStepped t o h (asked (s .value) (step (s .fileOf) o (h .txn))) s
+abstractOn t o (occupied h) s = abstractStepped t o h (asked (s .value) (step (s .fileOf) o (h .txn))) s
     (refusedStale (h .stale) o (result (s .value) (step (s .fileOf) o (h .txn))))
 
 -- Another open transaction after a commit of those settings.
@@ -121,33 +112,28 @@ newlyStale ss (occupied h) = not (h .stale) && hit ss h
 
 -- Transaction t ends with these settings; every other open one that has sighted one of them is stale.
 unfoldable pub granting : ℕ → List Setting → Abstract → AbstractTurn
-granting t ss s =
-    let others = put t vacant (s .seats) in
-    record {
-      reply = record { answer = granted (bitsOf (λ u. newlyStale ss (others u)) 8); buffer = [] };
-      after = record {
-        fileOf = s .fileOf;
-        value = landed ss (s .value);
-        windows = s .windows;
-        back = preserved (s .value);
-        seats = λ u. touch ss (others u);
-      };
-    }
+granting t ss s = let others = put t vacant (s .seats) in record {
+  reply = record { answer = granted (bitsOf (λ u. newlyStale ss (others u)) 8); buffer = [] };
+  after = record {
+    fileOf = s .fileOf;
+    value = landed ss (s .value);
+    windows = s .windows;
+    back = preserved (s .value);
+    seats = λ u. touch ss (others u);
+  };
+}
 
 unfoldable pub abstractCommitted : ℕ → OpenTxn → Abstract → ℕ → AbstractTurn
 abstractCommitted t h s zero = granting t (settings (s .fileOf) (s .value) (h .txn)) s
-abstractCommitted t h s (suc n) =
-    record {
-      reply = record { answer = refused (suc n); buffer = [] };
-      after = cond (eqb (suc n) (number Stale)) (withSeat t vacant s) s;
-    }
+abstractCommitted t h s (suc n) = record {
+  reply = record { answer = refused (suc n); buffer = [] };
+  after = cond (eqb (suc n) (number Stale)) (withSeat t vacant s) s;
+}
 
 unfoldable pub abstractCommit : ℕ → ℕ → Seat → Abstract → AbstractTurn
 abstractCommit t minute vacant s = abstractRefuse 4 [] s
-abstractCommit t minute (occupied h) s =
-    abstractCommitted t h s
-    (commitRefusal (minuteIn minute) (h .stale) (forClosed (s .fileOf) (s .windows) minute (h .txn .writes))
-    (fits (s .value) (h .txn)))
+abstractCommit t minute (occupied h) s = abstractCommitted t h s (commitRefusal (minuteIn minute) (h .stale)
+    (forClosed (s .fileOf) (s .windows) minute (h .txn .writes)) (fits (s .value) (h .txn)))
 
 unfoldable pub abstractAbort : ℕ → Seat → Abstract → AbstractTurn
 abstractAbort t vacant s = abstractRefuse 4 [] s
@@ -159,18 +145,16 @@ abstractPlaces f out (occupied h) s = record { reply = placesOf (s .fileOf) f ou
 
 -- With another window for file f.
 unfoldable pub windowed : ℕ → ℕ → ℕ → Abstract → Abstract
-windowed f start end s =
-    record {
-      fileOf = s .fileOf;
-      value = s .value;
-      windows = put f (window start end) (s .windows);
-      back = s .back;
-      seats = s .seats;
-    }
+windowed f start end s = record {
+  fileOf = s .fileOf;
+  value = s .value;
+  windows = put f (window start end) (s .windows);
+  back = s .back;
+  seats = s .seats;
+}
 
 unfoldable pub abstractWindow : ℕ → ℕ → ℕ → Abstract → AbstractTurn
-abstractWindow f start end s =
-    let n = windowRefusal f start end in
+abstractWindow f start end s = let n = windowRefusal f start end in
     guarded (λ k. abstractRefuse k [] s) (isNone n) n (abstractAnswer doneAnswer (windowed f start end s))
 
 unfoldable pub isOccupied : Seat → Bool
@@ -206,13 +190,12 @@ writesSeat vacant = []
 writesSeat (occupied h) = h .txn .writes
 
 unfoldable pub abstractAsked : ℕ → Abstract → Asked
-abstractAsked minute s =
-    record {
-      isOpen = λ t. isOccupied (s .seats t);
-      notReady = λ t. staleSeat (s .seats t) || hasUnplaced (writesSeat (s .seats t));
-      hasClosed = λ t. forClosed (s .fileOf) (s .windows) minute (writesSeat (s .seats t));
-      grants = λ o. grantsIn (λ t x. abstractCommitCall t minute x .reply) (λ t x. abstractCommitCall t minute x .after) o s;
-    }
+abstractAsked minute s = record {
+  isOpen = λ t. isOccupied (s .seats t);
+  notReady = λ t. staleSeat (s .seats t) || hasUnplaced (writesSeat (s .seats t));
+  hasClosed = λ t. forClosed (s .fileOf) (s .windows) minute (writesSeat (s .seats t));
+  grants = λ o. grantsIn (λ t x. abstractCommitCall t minute x .reply) (λ t x. abstractCommitCall t minute x .after) o s;
+}
 
 unfoldable pub abstractBestOrder : List ℕ → ℕ → ℕ → Abstract → AbstractTurn
 abstractBestOrder ts minute budget s = record { reply = orderReply (abstractAsked minute s) ts minute budget; after = s }

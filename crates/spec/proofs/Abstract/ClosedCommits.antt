@@ -1,24 +1,17 @@
 -- F-14: a Commit is granted only to an open transaction without a byte for a closed file, and a Commit gives no other one such a
 -- chance.
-use mathlib.Core.Bool.{Bool, true, false, cond, not, _&&_, false≢true}
-use mathlib.Core.List.{List, [], _∷_}
-use mathlib.Core.Path.{_≡_, refl, sym, _∙_}
+use mathlib.Core.{Bool.{Bool, true, false, cond, not, _&&_, false≢true}, List.{List, [], _∷_}, Path.{_≡_, refl, sym, _∙_}}
 use lib.Dec.{leb, eqb}
 use native.Mathlib.Omega.{arith}
 use Prim.Native.Nat.{ℕ, zero, suc, _≤_}
 use Rattle.limits.specs.Limits.{lastTransaction}
 use Rattle.windows.specs.Windows.{minuteIn}
 use Rattle.spec_orders.specs.Orders.{countIn}
-use Rattle.spec.specs.Messages.{isGrant}
-use Rattle.spec.specs.OrderReply.{grantsIn}
-use Rattle.spec.specs.Windows.{forClosed}
-use Rattle.spec.specs.Transactions.{put}
+use Rattle.spec.specs.{Messages.isGrant, OrderReply.grantsIn, Windows.forClosed, Transactions.put}
 use Rattle.spec.specs.Commits.{Setting, settings, fits, commitRefusal}
 use Rattle.spec.proofs.Abstract.AbstractStore.{OpenTxn, Seat, vacant, occupied, Abstract, AbstractTurn, isOccupied}
-use Rattle.spec.proofs.Abstract.AbstractStore.{writesSeat}
-use Rattle.spec.proofs.Abstract.AbstractStore.{withSeat, abstractRefuse}
-use Rattle.spec.proofs.Abstract.AbstractStore.{touch, granting, abstractCommitted, abstractCommit, seated}
-use Rattle.spec.proofs.Abstract.AbstractStore.{abstractCommitCall}
+use Rattle.spec.proofs.Abstract.AbstractStore.{writesSeat, withSeat, abstractRefuse, touch, granting, abstractCommitted}
+use Rattle.spec.proofs.Abstract.AbstractStore.{abstractCommit, seated, abstractCommitCall}
 
 module _ (minute : ℕ) where
   -- Whether a seat may be granted, at these files and windows.
@@ -40,17 +33,15 @@ module _ (minute : ℕ) where
   grants-seat : (t : ℕ) (x : Seat) (s : Abstract) → Grants (abstractCommit t minute x s) ≤ cond (may s x) 1 0
   unfolding abstractCommit abstractRefuse isGrant may isOccupied writesSeat
   grants-seat t vacant s = omega arith
-  grants-seat t (occupied h) s =
-      let shut = forClosed (s .fileOf) (s .windows) minute (h .txn .writes) in
+  grants-seat t (occupied h) s = let shut = forClosed (s .fileOf) (s .windows) minute (h .txn .writes) in
       grants-decided t h s (minuteIn minute) (h .stale) shut (fits (s .value) (h .txn))
 
   grants-call : (t : ℕ) (s : Abstract) → Grants (abstractCommitCall t minute s) ≤ cond (may s (s .seats t)) 1 0
   unfolding seated
   grants-call t s = pick (leb t lastTransaction)
     where
-      pick : (b : Bool) → Grants (cond b (abstractCommit t minute (s .seats t) s) (abstractRefuse 3 [] s)) ≤ cond
-          (may s (s .seats t))
-          1 0
+      pick : (b : Bool)
+          → Grants (cond b (abstractCommit t minute (s .seats t) s) (abstractRefuse 3 [] s)) ≤ cond (may s (s .seats t)) 1 0
       pick true = grants-seat t (s .seats t) s
       pick false = unfold abstractRefuse isGrant in omega arith
 
@@ -88,8 +79,7 @@ module _ (minute : ℕ) where
   fewer-seat : (t : ℕ) (x : Seat) (s : Abstract) → Fewer (abstractCommit t minute x s .after) s
   unfolding abstractCommit abstractRefuse
   fewer-seat t vacant s u e = e
-  fewer-seat t (occupied h) s u e =
-      let shut = forClosed (s .fileOf) (s .windows) minute (h .txn .writes) in
+  fewer-seat t (occupied h) s u e = let shut = forClosed (s .fileOf) (s .windows) minute (h .txn .writes) in
       fewer-decided t h s (commitRefusal (minuteIn minute) (h .stale) shut (fits (s .value) (h .txn))) u e
 
   fewer-call : (t : ℕ) (s : Abstract) → Fewer (abstractCommitCall t minute s .after) s
@@ -114,14 +104,10 @@ module _ (minute : ℕ) where
       one true false k = absurd (false≢true (k refl))
       one false c k = omega arith
 
-  pub few-closed : (o : List ℕ) (s : Abstract)
-      → grantsIn (λ t x. abstractCommitCall t minute x .reply) (λ t x. abstractCommitCall t minute x .after) o s
-      ≤ countIn (λ t. may s (s .seats t)) o
+  pub few-closed : (o : List ℕ) (s : Abstract) → grantsIn (λ t x. abstractCommitCall t minute x .reply)
+      (λ t x. abstractCommitCall t minute x .after) o s ≤ countIn (λ t. may s (s .seats t)) o
   unfolding grantsIn countIn
   few-closed [] s = omega arith
-  few-closed (t ∷ o) s =
-      let r = abstractCommitCall t minute s .after in
-      let a = grants-call t s in
+  few-closed (t ∷ o) s = let r = abstractCommitCall t minute s .after in let a = grants-call t s in
       let b = few-closed o r in
-      let c = fewer-count (λ u. may r (r .seats u)) (λ u. may s (s .seats u)) (fewer-call t s) o in
-      omega arith
+      let c = fewer-count (λ u. may r (r .seats u)) (λ u. may s (s .seats u)) (fewer-call t s) o in omega arith

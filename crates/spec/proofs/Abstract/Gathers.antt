@@ -1,13 +1,9 @@
 -- What a Read gives and sights: the bytes of a fetch, and the length after them where it gave fewer than wanted.
-use mathlib.Core.Bool.{Bool, true, false, cond}
-use mathlib.Core.List.{List, [], _∷_, _++_}
-use mathlib.Core.Path.{_≡_, refl, ap, _∙_}
-use lib.Dec.{ltb}
-use lib.ListN.{length}
+use mathlib.Core.{Bool.{Bool, true, false, cond}, List.{List, [], _∷_, _++_}, Path.{_≡_, refl, ap, _∙_}}
+use lib.{Dec.ltb, ListN.length}
 use Prim.Native.Nat.{ℕ, zero, suc, _+_, _-_, _*_, min}
 use Rattle.limits.specs.Limits.{fileBytes}
-use Rattle.spec.specs.Items.{Item, fileLength, Values, done, andThen, result, asked}
-use Rattle.spec.specs.Transactions.{Write}
+use Rattle.spec.specs.{Items.{Item, fileLength, Values, done, andThen, result, asked}, Transactions.Write}
 use Rattle.spec.specs.Reading.{bring, latest, fetch, lengthFor, lengthSighted, gather}
 use Rattle.spec.proofs.Abstract.Programs.{result-andThen, asked-andThen}
 
@@ -33,31 +29,24 @@ module _ (fileOf : ℕ → ℕ) (ws : List Write) (f p n : ℕ) (v : Values) whe
         ++ cond (ltb gatheredCount n) (fileLength f ∷ []) []
 
   pub read-stops : Gathers
-  unfolding gather result asked
-  read-stops =
-      let fetched = fetch fileOf ws f p gatheredCount in
-      record {
-        bytes = result-andThen v fetched (lengthSighted (ltb gatheredCount n) f)
-            ∙ sighted-result v f (ltb gatheredCount n) (result v fetched);
-        sightings =
-            asked-andThen v fetched (lengthSighted (ltb gatheredCount n) f)
-            ∙ ap (λ (l : List Item). asked v fetched ++ l) (sighted-asked v f (ltb gatheredCount n) (result v fetched));
-      }
+  read-stops = unfold gather result asked in let fetched = fetch fileOf ws f p gatheredCount in record {
+    bytes = result-andThen v fetched (lengthSighted (ltb gatheredCount n) f)
+        ∙ sighted-result v f (ltb gatheredCount n) (result v fetched);
+    sightings = asked-andThen v fetched (lengthSighted (ltb gatheredCount n) f)
+        ∙ ap (λ (l : List Item). asked v fetched ++ l) (sighted-asked v f (ltb gatheredCount n) (result v fetched));
+  }
 
 -- A fetch brings as many bytes as are asked for.
 pub length-fetch : (fileOf : ℕ → ℕ) (ws : List Write) (f : ℕ) (v : Values) (p n : ℕ) → length (result v (fetch fileOf ws f p n))
     ≡ n
 unfolding fetch result
 length-fetch fileOf ws f v p zero = refl
-length-fetch fileOf ws f v p (suc n) =
-    let one = bring (latest fileOf f p ws) (fileBytes * f + p) in
+length-fetch fileOf ws f v p (suc n) = let one = bring (latest fileOf f p ws) (fileBytes * f + p) in
     let rest = fetch fileOf ws f (suc p) n in
-    ap length
-    (result-andThen v one (λ b. andThen rest (λ bs. done (b ∷ bs))) ∙ result-andThen v rest (λ bs. done (result v one ∷ bs)))
-    ∙ ap (λ (k : ℕ). suc k) (length-fetch fileOf ws f v (suc p) n)
+    ap length (result-andThen v one (λ b. andThen rest (λ bs. done (b ∷ bs)))
+    ∙ result-andThen v rest (λ bs. done (result v one ∷ bs))) ∙ ap (λ (k : ℕ). suc k) (length-fetch fileOf ws f v (suc p) n)
 
 pub length-gather : (fileOf : ℕ → ℕ) (ws : List Write) (f p n : ℕ) (v : Values)
     → length (result v (gather fileOf ws f p n)) ≡ min n (lengthFor fileOf f ws (v (fileLength f)) - p)
-length-gather fileOf ws f p n v =
-    ap length (read-stops fileOf ws f p n v .bytes)
+length-gather fileOf ws f p n v = ap length (read-stops fileOf ws f p n v .bytes)
     ∙ length-fetch fileOf ws f v p (min n (lengthFor fileOf f ws (v (fileLength f)) - p))

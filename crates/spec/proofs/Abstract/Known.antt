@@ -1,25 +1,21 @@
 -- A descriptor stands Known after an accepted step exactly when it stood so before or its offset was asked for.
-use mathlib.Core.Bool.{Bool, true, false, cond, _||_, or-assoc, or-false, or-true}
-use mathlib.Core.List.{List, [], _∷_, _++_}
+use mathlib.Core.{Bool.{Bool, true, false, cond, _||_, or-assoc, or-false, or-true}, List.{List, [], _∷_, _++_}}
 use mathlib.Core.Path.{_≡_, refl, ap, sym, _∙_}
 use borrow.Author.Tests.{eqb-true}
-use lib.Dec.{eqb, leb, ltb}
-use lib.ListN.{length}
+use lib.{Dec.{eqb, leb, ltb}, ListN.length}
 use Prim.Native.Nat.{ℕ, zero, suc, _+_, _-_, _*_, min}
 use Rattle.limits.specs.Limits.{fileBytes}
-use Rattle.standings.specs.declared.Standing.{Standing}
-use Rattle.standings.specs.declared.Standing.the-variants.{Untouched, Placed, Deferred, Moved, Known}
-use Rattle.state.specs.Outcomes.{Said}
-use Rattle.spec.specs.Items.{offset, fileLength, same, Values, Prog, done, andThen, result, asked}
+use Rattle.standings.specs.declared.{Standing.{Standing, the-variants.{Untouched, Placed, Deferred, Moved, Known}}}
 use Rattle.standings.specs.Table.{isKnown, settled, advance, afterSeek, afterWrite, afterRead, pointerSettles, readSettles}
 use Rattle.standings.specs.Table.{offsetOf}
+use Rattle.state.specs.Outcomes.{Said}
+use Rattle.spec.specs.Items.{offset, fileLength, same, Values, Prog, done, andThen, result, asked}
 use Rattle.spec.specs.Transactions.{Txn, Write, put, settle, those, Settled, past, all, settling}
 use Rattle.spec.specs.Reading.{Source, own, file, bring, latest, fetch, lengthFor, lengthSighted, gather}
 use Rattle.spec.specs.Messages.{Op, seek, write, getFilePointer, read}
 use Rattle.spec.specs.Steps.{Stepped, accept, check, orGivenBack, written, seekStep, writeStep, pointerStep, settledByRead}
 use Rattle.spec.specs.Steps.{readSettled, readStep, step}
-use Rattle.spec.proofs.Abstract.AbstractStore.{among}
-use Rattle.spec.proofs.Abstract.Programs.{result-andThen, among-andThen, none-andThen}
+use Rattle.spec.proofs.Abstract.{AbstractStore.among, Programs.{result-andThen, among-andThen, none-andThen}}
 
 -- A standing that settling makes Known.
 unfoldable Settleable : Standing → Type 0
@@ -133,24 +129,19 @@ settle-each e c x (d ∷ ds) he h = (settle-settleable e c x d he (h .0), settle
 settling-known : (v : Values) (ds : List ℕ) (x y : Txn) → Each x ds → result v (settling ds x) ≡ all y
     → (d : ℕ) → isKnown (y .standing d) ≡ (isKnown (x .standing d) || among (offset d) (asked v (settling ds x)))
 unfolding settling result asked among Each
-settling-known v [] x y h e d =
-    let q : y ≡ x = cc in
+settling-known v [] x y h e d = let q : y ≡ x = cc in
     ap (λ (z : Txn). isKnown (z .standing d)) q ∙ sym (or-false (isKnown (x .standing d)))
-settling-known v (d ∷ ds) x y h e k =
-    chosen (settling-known v ds next y (settle-each d (v (offset d)) x ds (h .0) (h .1)))
+settling-known v (d ∷ ds) x y h e k = chosen (settling-known v ds next y (settle-each d (v (offset d)) x ds (h .0) (h .1)))
     (leb (v (offset d) + advance (x .standing d)) fileBytes) e
   where
     next : Txn
     next = settle d (v (offset d)) x
 
-    chosen : (result v (settling ds next) ≡ all y
-        → (j : ℕ) → isKnown (y .standing j) ≡ (isKnown (next .standing j) || among (offset j) (asked v (settling ds next))))
-        → (t : Bool) → result v (cond t (settling ds next) (done past)) ≡ all y
-        → isKnown (y .standing k)
-        ≡ (isKnown (x .standing k) || (same (offset k) (offset d)
-        || among (offset k) (asked v (cond t (settling ds next) (done past)))))
-    chosen rest true q =
-        rest q k
+    chosen : (result v (settling ds next) ≡ all y → (j : ℕ) → isKnown
+        (y .standing j) ≡ (isKnown (next .standing j) || among (offset j) (asked v (settling ds next)))) → (t : Bool)
+        → result v (cond t (settling ds next) (done past)) ≡ all y → isKnown (y .standing k) ≡ (isKnown (x .standing k)
+        || (same (offset k) (offset d) || among (offset k) (asked v (cond t (settling ds next) (done past)))))
+    chosen rest true q = rest q k
         ∙ ap (λ (b : Bool). b || among (offset k) (asked v (settling ds next))) (settle-known d (v (offset d)) x (h .0) k)
         ∙ or-assoc (isKnown (x .standing k)) (same (offset k) (offset d)) (among (offset k) (asked v (settling ds next)))
     chosen rest false q = cc
@@ -165,8 +156,7 @@ fetch-among : (v : Values) (d : ℕ) (fileOf : ℕ → ℕ) (ws : List Write) (f
     → among (offset d) (asked v (fetch fileOf ws f p n)) ≡ false
 unfolding fetch asked among
 fetch-among v d fileOf ws f p zero = refl
-fetch-among v d fileOf ws f p (suc n) =
-    none-andThen v (offset d) (bring (latest fileOf f p ws) (fileBytes * f + p)) _
+fetch-among v d fileOf ws f p (suc n) = none-andThen v (offset d) (bring (latest fileOf f p ws) (fileBytes * f + p)) _
     (bring-among v d (latest fileOf f p ws) (fileBytes * f + p))
     (λ b. none-andThen v (offset d) (fetch fileOf ws f (suc p) n) _ (fetch-among v d fileOf ws f (suc p) n) (λ bs. refl))
 
@@ -179,18 +169,15 @@ sighted-among v d false f bytes = refl
 
 gather-among : (v : Values) (d : ℕ) (fileOf : ℕ → ℕ) (ws : List Write) (f p n : ℕ)
     → among (offset d) (asked v (gather fileOf ws f p n)) ≡ false
-unfolding gather asked
-gather-among v d fileOf ws f p n =
-    let m = min n (lengthFor fileOf f ws (v (fileLength f)) - p) in
+gather-among v d fileOf ws f p n = unfold gather asked in let m = min n (lengthFor fileOf f ws (v (fileLength f)) - p) in
     none-andThen v (offset d) (fetch fileOf ws f p m) (lengthSighted (ltb m n) f) (fetch-among v d fileOf ws f p m)
     (sighted-among v d (ltb m n) f)
 
 module _ (v : Values) where
   -- What known-step says, of a program that starts at transaction x.
   unfoldable Keeps : Txn → Prog Stepped → Type 0
-  Keeps x p =
-      (y : Txn) (a : Said) (b : List ℕ) → result v p ≡ accept y a b
-      → (d : ℕ) → isKnown (y .standing d) ≡ (isKnown (x .standing d) || among (offset d) (asked v p))
+  Keeps x p = (y : Txn) (a : Said) (b : List ℕ) → result v p ≡ accept y a b → (d : ℕ)
+      → isKnown (y .standing d) ≡ (isKnown (x .standing d) || among (offset d) (asked v p))
 
   keeps-check : (x : Txn) (t : Bool) (n : ℕ) (p : Prog Stepped) → Keeps x p → Keeps x (check t n p)
   unfolding Keeps check result asked
@@ -209,16 +196,14 @@ module _ (v : Values) where
   -- A program that does nothing but answer.
   keeps-done : (x : Txn) (a : Said) (b : List ℕ) → Keeps x (done (accept x a b))
   unfolding Keeps result asked among
-  keeps-done x a b y a₁ b₁ q d =
-      let s : y ≡ x = cc in
+  keeps-done x a b y a₁ b₁ q d = let s : y ≡ x = cc in
       ap (λ (w : Txn). isKnown (w .standing d)) s ∙ sym (or-false (isKnown (x .standing d)))
 
   -- A program that asks for no offset, then another.
   keeps-after : {A : Type 0} (x : Txn) (p : Prog A) (k : A → Prog Stepped) → ((d : ℕ) → among (offset d) (asked v p) ≡ false)
       → ((r : A) → Keeps x (k r)) → Keeps x (andThen p k)
   unfolding Keeps
-  keeps-after x p k none h y a b q d =
-      h (result v p) y a b (sym (result-andThen v p k) ∙ q) d
+  keeps-after x p k none h y a b q d = h (result v p) y a b (sym (result-andThen v p k) ∙ q) d
       ∙ ap (λ (t : Bool). isKnown (x .standing d) || (t || among (offset d) (asked v (k (result v p))))) (sym (none d))
       ∙ ap (λ (t : Bool). isKnown (x .standing d) || t) (sym (among-andThen v (offset d) p k))
 
@@ -231,19 +216,16 @@ module _ (v : Values) where
       ∙ ap (λ (t : Bool). isKnown (x .standing d) || t) (sym (among-andThen v (offset d) (settling ds x) (orGivenBack next)))
     where
       chosen : (s : Settled) → result v (settling ds x) ≡ s → result v (orGivenBack next s) ≡ accept y a b
-          → isKnown (y .standing d)
-          ≡ (isKnown (x .standing d) || (among (offset d) (asked v (settling ds x))
-          || among (offset d) (asked v (orGivenBack next s))))
+          → isKnown (y .standing d) ≡ (isKnown (x .standing d)
+          || (among (offset d) (asked v (settling ds x)) || among (offset d) (asked v (orGivenBack next s))))
       chosen past e r = cc
-      chosen (all z) e r =
-          k z y a b r d
-          ∙ ap (λ (t : Bool). t || among (offset d) (asked v (next z))) (settling-known v ds x z h e d)
-          ∙ or-assoc (isKnown (x .standing d)) (among (offset d) (asked v (settling ds x))) (among (offset d) (asked v (next z)))
+      chosen (all z) e r = k z y a b r d
+          ∙ ap (λ (t : Bool). t || among (offset d) (asked v (next z))) (settling-known v ds x z h e d) ∙ or-assoc
+          (isKnown (x .standing d)) (among (offset d) (asked v (settling ds x))) (among (offset d) (asked v (next z)))
 
   keeps-read : (fileOf : ℕ → ℕ) (d n : ℕ) (buffer : List ℕ) (y : Txn) → Keeps y (readSettled fileOf d n buffer y)
   unfolding readSettled
-  keeps-read fileOf d n buffer y =
-      keeps-after y (gather fileOf (y .writes) (fileOf d) (offsetOf (y .standing d)) n) _
+  keeps-read fileOf d n buffer y = keeps-after y (gather fileOf (y .writes) (fileOf d) (offsetOf (y .standing d)) n) _
       (λ e. gather-among v e fileOf (y .writes) (fileOf d) (offsetOf (y .standing d)) n)
       (λ bytes. keeps-put y d _ _ (y .writes) _ _ (read-known (length bytes) (y .standing d)))
 
@@ -251,26 +233,15 @@ module _ (v : Values) where
   unfolding step seekStep writeStep pointerStep readStep written settledByRead
   keeps-step fileOf (seek d u) x = keeps-check x _ _ _
       (keeps-check x _ _ _ (keeps-put x d _ _ (x .writes) _ _ (seek-known u (x .standing d))))
-  keeps-step fileOf (write d bytes) x =
-      keeps-check x _ _ _
-      (keeps-check x _ _ _
-      (keeps-check x _ _ _
-      (keeps-check x _ _ _
-      (keeps-put x d _ _ _ _ _ (write-known (length bytes) (x .standing d))))))
-  keeps-step fileOf (getFilePointer d) x =
-      keeps-check x _ _ _
-      (keeps-settling x _ _
-      (each-one x d (pointerSettles (x .standing d)) (pointer-settleable (x .standing d)))
-      (λ y. keeps-done y _ _))
-  keeps-step fileOf (read d n buffer) x =
-      keeps-check x _ _ _
-      (keeps-check x _ _ _
-      (keeps-settling x _ _
-      (each-those x _ (λ e. read-settleable (eqb (fileOf e) (fileOf d)) (eqb e d) (x .standing e)) 16)
+  keeps-step fileOf (write d bytes) x = keeps-check x _ _ _ (keeps-check x _ _ _
+      (keeps-check x _ _ _ (keeps-check x _ _ _ (keeps-put x d _ _ _ _ _ (write-known (length bytes) (x .standing d))))))
+  keeps-step fileOf (getFilePointer d) x = keeps-check x _ _ _ (keeps-settling x _ _
+      (each-one x d (pointerSettles (x .standing d)) (pointer-settleable (x .standing d))) (λ y. keeps-done y _ _))
+  keeps-step fileOf (read d n buffer) x = keeps-check x _ _ _ (keeps-check x _ _ _
+      (keeps-settling x _ _ (each-those x _ (λ e. read-settleable (eqb (fileOf e) (fileOf d)) (eqb e d) (x .standing e)) 16)
       (λ y. keeps-read fileOf d n buffer y)))
 
 pub known-step : (fileOf : ℕ → ℕ) (v : Values) (o : Op) (x y : Txn) (a : Said) (b : List ℕ) → result v (step fileOf o x)
     ≡ accept y a b
     → (d : ℕ) → isKnown (y .standing d) ≡ (isKnown (x .standing d) || among (offset d) (asked v (step fileOf o x)))
-unfolding Keeps
-known-step fileOf v o x = keeps-step v fileOf o x
+known-step fileOf v o x = unfold Keeps in keeps-step v fileOf o x

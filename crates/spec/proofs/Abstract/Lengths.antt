@@ -1,21 +1,14 @@
 -- Lengths only grow: a commit sets a length to no less than it was.
-use mathlib.Core.Bool.{Bool, true, false, cond}
-use mathlib.Core.List.{List, [], _∷_, _++_}
-use mathlib.Core.Logic.{⊎-elim}
-use mathlib.Core.Path.{_≡_, refl}
+use mathlib.Core.{Bool.{Bool, true, false, cond}, List.{List, [], _∷_, _++_}, Logic.⊎-elim, Path.{_≡_, refl}}
 use borrow.Author.Tests.{ltb-true, ltb-false, eqb-true, eq-eqb, ne-eqb}
 use lib.Dec.{ltb, eqb}
-use native.Mathlib.Nat.{eq-or-lt-of-le, le-of-suc-le-suc, not-suc-le-zero}
-use native.Mathlib.Omega.{arith}
+use native.Mathlib.{Nat.{eq-or-lt-of-le, le-of-suc-le-suc, not-suc-le-zero}, Omega.arith}
 use Prim.Native.Nat.{ℕ, zero, suc, _+_, _*_, _≤_, _<_}
 use Rattle.limits.specs.Limits.{fileCount, fileBytes}
-use Rattle.spec.specs.Items.{Item, byte, offset, fileLength, same, Values}
-use Rattle.standings.specs.Table.{finalOffset}
-use Rattle.spec.specs.Transactions.{Txn, Write}
+use Rattle.spec.specs.{Items.{Item, byte, offset, fileLength, same, Values}, Transactions.{Txn, Write}}
 use Rattle.spec.specs.Commits.{Setting, landsAt, bytesFrom, byteSettings, setsOffset, offsetSettings, landedEnd}
-use Rattle.spec.specs.Commits.{lengthSettings}
-use Rattle.spec.specs.Commits.{settings, putItem, landed}
-use Rattle.spec.specs.Lengths.{Longer}
+use Rattle.spec.specs.{Commits.{lengthSettings, settings, putItem, landed}, Lengths.Longer}
+use Rattle.standings.specs.Table.{finalOffset}
 use Rattle.spec.proofs.Abstract.Programs.{Every, every-append}
 
 -- A setting that makes no length shorter.
@@ -55,8 +48,7 @@ module _ (fileOf : ℕ → ℕ) (v : Values) where
   growing-bytes : (ws : List Write) → Growing v (byteSettings fileOf v ws)
   unfolding byteSettings
   growing-bytes [] = tt
-  growing-bytes (w ∷ ws) =
-      let q = fileBytes * fileOf (w .descriptor) + landsAt (v (offset (w .descriptor))) (w .place) in
+  growing-bytes (w ∷ ws) = let q = fileBytes * fileOf (w .descriptor) + landsAt (v (offset (w .descriptor))) (w .place) in
       growing-append (bytesFrom q (w .bytes)) (byteSettings fileOf v ws) (growing-interval q (w .bytes)) (growing-bytes ws)
 
   growing-offsets : (x : Txn) (n : ℕ) → Growing v (offsetSettings v x n)
@@ -71,8 +63,7 @@ module _ (fileOf : ℕ → ℕ) (v : Values) where
   growing-lengths : (ws : List Write) (n : ℕ) → Growing v (lengthSettings fileOf v ws n)
   unfolding lengthSettings
   growing-lengths ws zero = tt
-  growing-lengths ws (suc f) =
-      growing-append (lengthSettings fileOf v ws f) _ (growing-lengths ws f)
+  growing-lengths ws (suc f) = growing-append (lengthSettings fileOf v ws f) _ (growing-lengths ws f)
       (pick (ltb (v (fileLength f)) (landedEnd fileOf v f ws)) refl)
     where
       pick : (b : Bool) → ltb (v (fileLength f)) (landedEnd fileOf v f ws) ≡ b
@@ -82,8 +73,7 @@ module _ (fileOf : ℕ → ℕ) (v : Values) where
 
   growing-settings : (x : Txn) → Growing v (settings fileOf v x)
   unfolding settings
-  growing-settings x =
-      growing-append (byteSettings fileOf v (x .writes)) _ (growing-bytes (x .writes))
+  growing-settings x = growing-append (byteSettings fileOf v (x .writes)) _ (growing-bytes (x .writes))
       (growing-append (offsetSettings v x 16) _ (growing-offsets x 16) (growing-lengths (x .writes) 8))
 
   -- After a commit no length is shorter.
@@ -101,10 +91,9 @@ module _ (fileOf : ℕ → ℕ) (v : Values) where
       → landedEnd fileOf v f ws ≤ landed (lengthSettings fileOf v ws n) w (fileLength f)
   unfolding lengthSettings
   raised ws zero f w l h = absurd (not-suc-le-zero h)
-  raised ws (suc n) f w l h =
-      rw (landed-append (lengthSettings fileOf v ws n) (last (ltb (v (fileLength n)) (landedEnd fileOf v n ws))) w)
-      (⊎-elim own (λ g. other (ltb (v (fileLength n)) (landedEnd fileOf v n ws)) g (raised ws n f w l g))
-      (eq-or-lt-of-le (le-of-suc-le-suc h)))
+  raised ws (suc n) f w l h = rw (landed-append (lengthSettings fileOf v ws n)
+      (last (ltb (v (fileLength n)) (landedEnd fileOf v n ws))) w) (⊎-elim own (λ g. other
+      (ltb (v (fileLength n)) (landedEnd fileOf v n ws)) g (raised ws n f w l g)) (eq-or-lt-of-le (le-of-suc-le-suc h)))
     where
       last : Bool → List Setting
       last b = cond b (record { item = fileLength n; to = landedEnd fileOf v n ws } ∷ []) []
@@ -119,10 +108,9 @@ module _ (fileOf : ℕ → ℕ) (v : Values) where
           set : (b : Bool) → ltb (v (fileLength n)) (landedEnd fileOf v n ws) ≡ b
               → landedEnd fileOf v n ws ≤ landed (last b) before (fileLength n)
           set true q = unfold landed putItem same in rw (eq-eqb n n refl) (omega arith)
-          set false q =
-              let k = ltb-false (v (fileLength n)) (landedEnd fileOf v n ws) q in
-              let g = landed-longer v w (lengthSettings fileOf v ws n) (growing-lengths ws n) l n in
-              unfold landed in omega arith
+          set false q = let k = ltb-false (v (fileLength n)) (landedEnd fileOf v n ws) q in
+              let g = landed-longer v w (lengthSettings fileOf v ws n) (growing-lengths ws n) l n in unfold landed in
+              omega arith
 
       other : (b : Bool) → f < n → landedEnd fileOf v f ws ≤ before (fileLength f)
           → landedEnd fileOf v f ws ≤ landed (last b) before (fileLength f)
@@ -132,13 +120,8 @@ module _ (fileOf : ℕ → ℕ) (v : Values) where
   pub commit-raised : (x : Txn) (f : ℕ) → f < fileCount
       → landedEnd fileOf v f (x .writes) ≤ landed (settings fileOf v x) v (fileLength f)
   unfolding settings
-  commit-raised x f h =
-      let bs = byteSettings fileOf v (x .writes) in
-      let os = offsetSettings v x 16 in
-      rw (
-        landed-append bs (os ++ lengthSettings fileOf v (x .writes) 8) v,
-        landed-append os (lengthSettings fileOf v (x .writes) 8) (landed bs v),
-      )
-      (raised (x .writes) 8 f (landed os (landed bs v))
-      (landed-longer v (landed bs v) os (growing-offsets x 16)
+  commit-raised x f h = let bs = byteSettings fileOf v (x .writes) in let os = offsetSettings v x 16 in rw (
+    landed-append bs (os ++ lengthSettings fileOf v (x .writes) 8) v,
+    landed-append os (lengthSettings fileOf v (x .writes) 8) (landed bs v),
+  ) (raised (x .writes) 8 f (landed os (landed bs v)) (landed-longer v (landed bs v) os (growing-offsets x 16)
       (landed-longer v v bs (growing-bytes (x .writes)) (λ g. omega arith))) h)

@@ -1,18 +1,14 @@
 -- Laws of lists and of functions with another value at one number: entries and their comparison, settings and what they set.
 use mathlib.Core.Bool.{Bool, true, false, cond, not, _&&_, _||_, false≢true, and-assoc, or-assoc, or-false, and-true, and-false}
-use mathlib.Core.List.{List, [], _∷_, _++_, map}
-use mathlib.Core.Path.{_≡_, refl, sym, ap, ap₂, _∙_, subst}
+use mathlib.Core.{List.{List, [], _∷_, _++_, map}, Path.{_≡_, refl, sym, ap, ap₂, _∙_, subst}}
 use borrow.Author.Tests.{eqb-true, eq-eqb, ne-eqb}
 use lib.Dec.{eqb}
 use native.Mathlib.Omega.{arith}
 use Prim.Native.Nat.{ℕ, _+_, _≤_}
 use Rattle.buffers.proofs.BelowLaws.{and-left, and-right, and-both}
-use Rattle.spec.specs.Items.{Item, byte, offset, fileLength, same, Values}
-use Rattle.spec.specs.Transactions.{put}
-use Rattle.spec.specs.Commits.{Setting, putItem, landed, setBy}
-use Rattle.spec.specs.Sightings.{Entry, sameEntry, sameEntries, entries}
-use Rattle.spec.proofs.Abstract.AbstractStore.{OpenTxn, abstractSighted, among, hit, markAll, lengthAll}
-use Rattle.spec.proofs.Abstract.Programs.{Every}
+use Rattle.spec.specs.{Items.{Item, byte, offset, fileLength, same, Values}, Transactions.put}
+use Rattle.spec.specs.{Commits.{Setting, putItem, landed, setBy}, Sightings.{Entry, sameEntry, sameEntries, entries}}
+use Rattle.spec.proofs.Abstract.{AbstractStore.{OpenTxn, abstractSighted, among, hit, markAll, lengthAll}, Programs.Every}
 
 -- A function with another value at one number.
 module _ {A : Type 0} (t : ℕ) (a : A) (f : ℕ → A) where
@@ -25,8 +21,7 @@ module _ {A : Type 0} (t : ℕ) (a : A) (f : ℕ → A) where
       chosen false = k u
 
   pub put-other : (u : ℕ) → (u ≡ t → ⊥) → put t a f u ≡ f u
-  unfolding put
-  put-other u h = ap (λ (b : Bool). cond b a (f u)) (ne-eqb u t h)
+  put-other u h = unfold put in ap (λ (b : Bool). cond b a (f u)) (ne-eqb u t h)
 
 -- Tests.
 pub iff-same : (a b : Bool) → (a ≡ true → b ≡ true) → (b ≡ true → a ≡ true) → a ≡ b
@@ -71,8 +66,7 @@ same-sym (fileLength f) (fileLength g) = eqb-sym f g
 -- Entries.
 pub sameEntry-true : (a b : Entry) → sameEntry a b ≡ true → a ≡ b
 unfolding sameEntry
-sameEntry-true a b e =
-    ap₂ (λ (i : Item) (n : ℕ). record { item = i; setter = n })
+sameEntry-true a b e = ap₂ (λ (i : Item) (n : ℕ). record { item = i; setter = n })
     (same-true (a .item) (b .item) (and-left (same (a .item) (b .item)) (eqb (a .setter) (b .setter)) e))
     (eqb-true (a .setter) (b .setter) (and-right (same (a .item) (b .item)) (eqb (a .setter) (b .setter)) e))
 
@@ -81,19 +75,14 @@ unfolding sameEntries
 sameEntries-true [] [] e = refl
 sameEntries-true [] (b ∷ bs) e = absurd (false≢true e)
 sameEntries-true (a ∷ xs) [] e = absurd (false≢true e)
-sameEntries-true (a ∷ xs) (b ∷ bs) e =
-    ap₂ (λ (x : Entry) (l : List Entry). x ∷ l)
-    (sameEntry-true a b (and-left (sameEntry a b) (sameEntries xs bs) e))
-    (sameEntries-true xs bs (and-right (sameEntry a b) (sameEntries xs bs) e))
+sameEntries-true (a ∷ xs) (b ∷ bs) e = ap₂ (λ (x : Entry) (l : List Entry). x ∷ l) (sameEntry-true a b (and-left
+    (sameEntry a b) (sameEntries xs bs) e)) (sameEntries-true xs bs (and-right (sameEntry a b) (sameEntries xs bs) e))
 
 pub sameEntries-refl : (xs : List Entry) → sameEntries xs xs ≡ true
 unfolding sameEntries sameEntry
 sameEntries-refl [] = refl
-sameEntries-refl (a ∷ xs) =
-    and-both (sameEntry a a) (sameEntries xs xs)
-    (and-both (same (a .item) (a .item)) (eqb (a .setter) (a .setter)) (same-refl (a .item))
-    (eq-eqb (a .setter) (a .setter) refl))
-    (sameEntries-refl xs)
+sameEntries-refl (a ∷ xs) = and-both (sameEntry a a) (sameEntries xs xs) (and-both (same (a .item) (a .item))
+    (eqb (a .setter) (a .setter)) (same-refl (a .item)) (eq-eqb (a .setter) (a .setter) refl)) (sameEntries-refl xs)
 
 pub sameEntries-of : (xs bs : List Entry) → xs ≡ bs → sameEntries xs bs ≡ true
 sameEntries-of xs bs e = subst (λ (l : List Entry). sameEntries xs l ≡ true) e (sameEntries-refl xs)
@@ -131,16 +120,14 @@ current-entries s (i ∷ is) = and-both (eqb (s i) (s i)) (current s (entries s 
 pub current-append : (s : Values) (xs bs : List Entry) → current s (xs ++ bs) ≡ (current s xs && current s bs)
 unfolding current
 current-append s [] bs = refl
-current-append s (a ∷ xs) bs =
-    ap (λ (b : Bool). eqb (s (a .item)) (a .setter) && b) (current-append s xs bs)
+current-append s (a ∷ xs) bs = ap (λ (b : Bool). eqb (s (a .item)) (a .setter) && b) (current-append s xs bs)
     ∙ sym (and-assoc (eqb (s (a .item)) (a .setter)) (current s xs) (current s bs))
 
 -- A list of entries whose setters are current is what a sighting of its items gives now.
 pub current-is : (s : Values) (es : List Entry) → current s es ≡ true → entries s (items es) ≡ es
 unfolding current entries items
 current-is s [] h = refl
-current-is s (e ∷ es) h =
-    ap₂ (λ (n : ℕ) (l : List Entry). record { item = e .item; setter = n } ∷ l)
+current-is s (e ∷ es) h = ap₂ (λ (n : ℕ) (l : List Entry). record { item = e .item; setter = n } ∷ l)
     (eqb-true (s (e .item)) (e .setter) (and-left (eqb (s (e .item)) (e .setter)) (current s es) h))
     (current-is s es (and-right (eqb (s (e .item)) (e .setter)) (current s es) h))
 
@@ -162,10 +149,8 @@ cond-twice n m false b = refl
 pub setBy-at : (n : ℕ) (ss : List Setting) (v : Values) (j : Item) → setBy n ss v j ≡ cond (touched ss j) n (v j)
 unfolding setBy touched putItem
 setBy-at n [] v j = refl
-setBy-at n (s ∷ ss) v j =
-    setBy-at n ss (putItem (s .item) n v) j
-    ∙ ap (λ (a : Bool). cond (touched ss j) n (cond a n (v j))) (same-sym j (s .item))
-    ∙ cond-twice n (v j) (same (s .item) j) (touched ss j)
+setBy-at n (s ∷ ss) v j = setBy-at n ss (putItem (s .item) n v) j ∙ ap (λ (a : Bool). cond (touched ss j) n
+    (cond a n (v j))) (same-sym j (s .item)) ∙ cond-twice n (v j) (same (s .item) j) (touched ss j)
 
 pub or-left-false : (a b : Bool) → (a || b) ≡ false → a ≡ false
 or-left-false true b e = e
@@ -179,8 +164,7 @@ or-right-false false b e = e
 pub landed-at : (ss : List Setting) (v : Values) (j : Item) → touched ss j ≡ false → landed ss v j ≡ v j
 unfolding landed touched putItem
 landed-at [] v j h = refl
-landed-at (s ∷ ss) v j h =
-    landed-at ss (putItem (s .item) (s .to) v) j (or-right-false (same (s .item) j) (touched ss j) h)
+landed-at (s ∷ ss) v j h = landed-at ss (putItem (s .item) (s .to) v) j (or-right-false (same (s .item) j) (touched ss j) h)
     ∙ ap (λ (a : Bool). cond a (s .to) (v j)) (same-sym j (s .item) ∙ or-left-false (same (s .item) j) (touched ss j) h)
 
 -- A transaction is hit exactly where one of the items that it has sighted is set.
@@ -199,8 +183,7 @@ anyTouched-more : (s : Setting) (ss : List Setting) (js : List Item) → anyTouc
     ≡ (among (s .item) js || anyTouched ss js)
 unfolding anyTouched touched among
 anyTouched-more s ss [] = refl
-anyTouched-more s ss (j ∷ js) =
-    ap (λ (b : Bool). (same (s .item) j || touched ss j) || b) (anyTouched-more s ss js)
+anyTouched-more s ss (j ∷ js) = ap (λ (b : Bool). (same (s .item) j || touched ss j) || b) (anyTouched-more s ss js)
     ∙ or-swap (same (s .item) j) (touched ss j) (among (s .item) js) (anyTouched ss js)
 
 pub hit-is : (h : OpenTxn) (js : List Item) → ((i : Item) → abstractSighted h i ≡ among i js) → (ss : List Setting) → hit ss h
@@ -223,9 +206,7 @@ put-or q p m = chosen (eqb p q) (m p)
 pub markAll-at : (is : List Item) (m : ℕ → Bool) (q : ℕ) → markAll is m q ≡ (m q || among (byte q) is)
 unfolding markAll among same
 markAll-at [] m q = sym (or-false (m q))
-markAll-at (byte p ∷ is) m q =
-    markAll-at is (put p true m) q
-    ∙ ap (λ (b : Bool). b || among (byte q) is) (put-or p q m)
+markAll-at (byte p ∷ is) m q = markAll-at is (put p true m) q ∙ ap (λ (b : Bool). b || among (byte q) is) (put-or p q m)
     ∙ or-assoc (m q) (eqb q p) (among (byte q) is)
 markAll-at (offset d ∷ is) m q = markAll-at is m q
 markAll-at (fileLength f ∷ is) m q = markAll-at is m q
@@ -235,10 +216,8 @@ unfolding lengthAll among same
 lengthAll-at [] m f = sym (or-false (m f))
 lengthAll-at (byte p ∷ is) m f = lengthAll-at is m f
 lengthAll-at (offset d ∷ is) m f = lengthAll-at is m f
-lengthAll-at (fileLength g ∷ is) m f =
-    lengthAll-at is (put g true m) f
-    ∙ ap (λ (b : Bool). b || among (fileLength f) is) (put-or g f m)
-    ∙ or-assoc (m f) (eqb f g) (among (fileLength f) is)
+lengthAll-at (fileLength g ∷ is) m f = lengthAll-at is (put g true m) f
+    ∙ ap (λ (b : Bool). b || among (fileLength f) is) (put-or g f m) ∙ or-assoc (m f) (eqb f g) (among (fileLength f) is)
 
 -- After a grant the entries are current that were so before and whose items were not set.
 fresh-setter : (n k m : ℕ) → k ≤ n → (b : Bool) → eqb (cond b (n + 1) m) k ≡ (eqb m k && not b)
@@ -251,15 +230,10 @@ and-swap true true false d = refl
 and-swap true false c d = refl
 and-swap false b c d = refl
 
-pub current-after :
-    (n : ℕ) (ss : List Setting) (v : Values) (es : List Entry)
-    → Every (λ (e : Entry). e .setter ≤ n) es
+pub current-after : (n : ℕ) (ss : List Setting) (v : Values) (es : List Entry) → Every (λ (e : Entry). e .setter ≤ n) es
     → current (setBy (n + 1) ss v) es ≡ (current v es && not (anyTouched ss (items es)))
 unfolding current anyTouched items
 current-after n ss v [] h = refl
-current-after n ss v (e ∷ es) h =
-    ap₂ (λ (a b : Bool). a && b)
-    (ap (λ (k : ℕ). eqb k (e .setter)) (setBy-at (n + 1) ss v (e .item))
-    ∙ fresh-setter n (e .setter) (v (e .item)) (h .0) (touched ss (e .item)))
-    (current-after n ss v es (h .1))
+current-after n ss v (e ∷ es) h = ap₂ (λ (a b : Bool). a && b) (ap (λ (k : ℕ). eqb k (e .setter)) (setBy-at (n + 1) ss v
+    (e .item)) ∙ fresh-setter n (e .setter) (v (e .item)) (h .0) (touched ss (e .item))) (current-after n ss v es (h .1))
     ∙ and-swap (eqb (v (e .item)) (e .setter)) (touched ss (e .item)) (current v es) (anyTouched ss (items es))

@@ -1,28 +1,18 @@
 -- F-7: what an accepted Read or GetFilePointer gave is what the run in isolation gives at that moment. One that is accepted is
 -- not stale, so its entries are current, and the run in isolation up to it is the recorded one.
-use mathlib.Core.Bool.{Bool, true, false, cond}
-use mathlib.Core.List.{List, map}
-use mathlib.Core.Path.{_≡_, refl, ap, _∙_, subst⁻¹}
+use mathlib.Core.{Bool.{Bool, true, false, cond}, List.{List, map}, Path.{_≡_, refl, ap, _∙_, subst⁻¹}}
 use lib.Dec.{leb}
 use Prim.Native.Nat.{ℕ}
 use Rattle.limits.specs.Limits.{lastDescriptor, lastTransaction}
-use Rattle.spec.specs.Items.{done, result, asked}
-use Rattle.spec.specs.Transactions.{Txn, empty}
-use Rattle.spec.specs.Messages.{Op, seek, write, getFilePointer, read, bufferOf, on}
+use Rattle.spec.specs.{Items.{done, result, asked}, Transactions.{Txn, empty}}
+use Rattle.spec.specs.Messages.{Op, seek, write, getFilePointer, read, bufferOf, on, refuseTurn}
 use Rattle.spec.specs.Steps.{Stepped, refuse, accept, check, seekStep, writeStep, pointerStep, readStep, step}
-use Rattle.spec.specs.Steps.{descriptorOfOp, isReadCall}
-use Rattle.spec.specs.Steps.{refusesStale, refusedStale}
-use Rattle.spec.specs.Sightings.{Entry, entries}
+use Rattle.spec.specs.{Steps.{descriptorOfOp, isReadCall, refusesStale, refusedStale}, Sightings.{Entry, entries}}
 use Rattle.spec.specs.LoneRuns.{Lone}
-use Rattle.spec.specs.Plain.{Running, Slot, closed, running, Plain, ops, isStale, plainStepped, plainOn}
-use Rattle.spec.specs.Plain.{withNumber, plainCall}
-use Rattle.spec.specs.Serializability.{IsAccepted, upTo, OneMoment}
-use Rattle.spec.proofs.Abstract.Programs.{not-refused-stale}
-use Rattle.spec.proofs.Abstract.Lone.{lone-more}
-use Rattle.spec.proofs.Abstract.RecordedRuns.{SoundRun}
-use Rattle.spec.proofs.Abstract.PlainInvariant.{Good, SoundSlot}
-use Rattle.spec.proofs.Abstract.SerialOrder.{alone-recorded}
-use Rattle.spec.specs.Messages.{refuseTurn}
+use Rattle.spec.specs.Plain.{Running, Slot, closed, running, Plain, ops, isStale, plainStepped, plainOn, withNumber}
+use Rattle.spec.specs.{Plain.plainCall, Serializability.{IsAccepted, upTo, OneMoment}}
+use Rattle.spec.proofs.Abstract.{Programs.not-refused-stale, Lone.lone-more, RecordedRuns.SoundRun}
+use Rattle.spec.proofs.Abstract.{PlainInvariant.{Good, SoundSlot}, SerialOrder.alone-recorded}
 
 -- A step through a descriptor above 15 is refused with 6.
 no-descriptor : (fileOf : ℕ → ℕ) (o : Op) (x : Txn) → leb (descriptorOfOp o) lastDescriptor ≡ false
@@ -43,12 +33,8 @@ module _ (p : Plain) (g : Good p) (t : ℕ) (o : Op) (look : isReadCall o ≡ tr
         → IsAccepted (plainStepped t o r es p s .reply) → OneMoment p t o (plainStepped t o r es p s .reply)
     unfolding plainStepped refuseTurn upTo
     fresh-moment e (refuse n) q a = absurd (a n refl)
-    fresh-moment e (accept y answer buffer) q a =
-        let l =
-        lone-more (p .fileOf) (p .committed) (ops (r .calls)) o empty (r .txn) y answer buffer (map (λ x. x .reply) (r .calls))
-        (r .seen)
-        (alone-recorded p r sound e) q in
-        record {
+    fresh-moment e (accept y answer buffer) q a = let l = lone-more (p .fileOf) (p .committed) (ops (r .calls)) o empty
+        (r .txn) y answer buffer (map (λ x. x .reply) (r .calls)) (r .seen) (alone-recorded p r sound e) q in record {
           reader = r;
           isOpen = at;
           through = ap (λ (l : Lone). l .through) l;
@@ -67,15 +53,12 @@ module _ (p : Plain) (g : Good p) (t : ℕ) (o : Op) (look : isReadCall o ≡ tr
     open-moment : (stale low : Bool) → isStale p r ≡ stale → leb (descriptorOfOp o) lastDescriptor ≡ low
         → Claim (refusedStale stale o (result (p .committed .value) (step (p .fileOf) o (r .txn))))
     unfolding Claim refusedStale refusesStale result
-    open-moment false low e f =
-        let s = result (p .committed .value) (step (p .fileOf) o (r .txn)) in
+    open-moment false low e f = let s = result (p .committed .value) (step (p .fileOf) o (r .txn)) in
         subst⁻¹ Claim (not-refused-stale false o s refl) (fresh-moment e s refl)
-    open-moment true true e f =
-        let s = result (p .committed .value) (step (p .fileOf) o (r .txn)) in
+    open-moment true true e f = let s = result (p .committed .value) (step (p .fileOf) o (r .txn)) in
         let b : refusesStale true o ≡ true = rw (look, f) in
         subst⁻¹ Claim (ap (λ (c : Bool). cond c (refuse 18) s) b) (refused-claim 18)
-    open-moment true false e f =
-        let s = result (p .committed .value) (step (p .fileOf) o (r .txn)) in
+    open-moment true false e f = let s = result (p .committed .value) (step (p .fileOf) o (r .txn)) in
         let b : refusesStale true o ≡ false = rw (look, f) in
         let six : s ≡ refuse 6 = ap (result (p .committed .value)) (no-descriptor (p .fileOf) o (r .txn) f) in
         subst⁻¹ Claim (ap (λ (c : Bool). cond c (refuse 18) s) b ∙ six) (refused-claim 6)

@@ -1,38 +1,25 @@
 -- The invariant of the reference model, and that every call keeps it.
-use mathlib.Core.Bool.{Bool, true, false, cond, not, false≢true}
-use mathlib.Core.Logic.{⊎-elim}
+use mathlib.Core.{Bool.{Bool, true, false, cond, not, false≢true}, Logic.⊎-elim, List.{List, [], _∷_}}
+use mathlib.Core.Path.{_≡_, refl, sym, _∙_, subst}
 use Rattle.limits.specs.Limits.{lastTransaction}
 use Rattle.buffers.proofs.PartLaws.{le-or-lt}
-use Rattle.admission.proofs.Laws.{below-at}
-use mathlib.Core.List.{List, [], _∷_}
-use mathlib.Core.Path.{_≡_, refl, sym, _∙_, subst}
+use Rattle.admission.{proofs.Laws.below-at, specs.{FirstRefusal.{guarded, isNone}, Admission.windowRefusal}}
 use borrow.Author.Tests.{leb-true, leb-false}
 use lib.Dec.{eqb, leb}
 use native.Mathlib.Omega.{arith}
 use Prim.Native.Nat.{ℕ, zero, suc, _+_, _≤_, _<_}
 use Rattle.windows.specs.Windows.{minuteIn, window, Windows}
 use Rattle.state.specs.Outcomes.{doneAnswer}
-use Rattle.admission.specs.FirstRefusal.{guarded, isNone}
-use Rattle.admission.specs.Admission.{windowRefusal}
-use Rattle.spec.specs.Windows.{forClosed}
-use Rattle.spec.specs.Items.{Item, Values, result, asked}
-use Rattle.spec.specs.Transactions.{put}
-use Rattle.spec.specs.Messages.{Op, bufferOf, places, setWindow, undoCommit, bestOrder, afterAll}
-use Rattle.spec.specs.Steps.{Stepped, refuse, accept, step}
-use Rattle.spec.specs.Commits.{settings, fits, commitRefusal}
-use Rattle.spec.specs.Messages.{Call, begin, on, commit, abort}
-use Rattle.spec.specs.Sightings.{entries, Committed}
+use Rattle.spec.specs.{Windows.forClosed, Items.{Item, Values, result, asked}, Transactions.put}
+use Rattle.spec.specs.Messages.{Op, bufferOf, places, setWindow, undoCommit, bestOrder, afterAll, Call, begin, on, commit}
+use Rattle.spec.specs.{Messages.{abort, answerWith, refuseTurn}, Steps.{Stepped, refuse, accept, step}}
+use Rattle.spec.specs.{Commits.{settings, fits, commitRefusal}, Sightings.{entries, Committed}}
 use Rattle.spec.specs.Plain.{Running, Slot, closed, running, Plain, Earlier, nothing, found, isRunning, noneRunning}
-use Rattle.spec.specs.Plain.{plainRestored}
-use Rattle.spec.specs.Plain.{plainRestore, plainUndo, plainWithWindows, plainSetWindow, plainBestOrder, startPlain, isStale}
-use Rattle.spec.specs.Plain.{PlainTurn}
-use Rattle.spec.specs.Plain.{withSlot, plainBegin, plainStepped, plainOn, committing, grant}
-use Rattle.spec.specs.Plain.{plainCommitted}
-use Rattle.spec.specs.Plain.{plainCommit, plainAbort, withNumber, plainCall, plainAfter, plainPlaces}
-use Rattle.spec.proofs.Abstract.Programs.{refused-stale}
-use Rattle.spec.proofs.Abstract.Lists.{put-keeps, put-other, touched, setBy-at}
+use Rattle.spec.specs.Plain.{plainRestored, plainRestore, plainUndo, plainWithWindows, plainSetWindow, plainBestOrder}
+use Rattle.spec.specs.Plain.{startPlain, isStale, PlainTurn, withSlot, plainBegin, plainStepped, plainOn, committing, grant}
+use Rattle.spec.specs.Plain.{plainCommitted, plainCommit, plainAbort, withNumber, plainCall, plainAfter, plainPlaces}
+use Rattle.spec.proofs.Abstract.{Programs.refused-stale, Lists.{put-keeps, put-other, touched, setBy-at}}
 use Rattle.spec.proofs.Abstract.RecordedRuns.{SoundRun, sound-begun, sound-more, sound-granted}
-use Rattle.spec.specs.Messages.{answerWith, refuseTurn}
 
 unfoldable pub SoundSlot : (ℕ → ℕ) → Committed → ℕ → Slot → Type 0
 SoundSlot fileOf c n closed = Unit {0}
@@ -56,8 +43,7 @@ good-start fileOf v ws e h = record { setters = λ i. omega arith; sound = λ t.
 
 module _ (p : Plain) (g : Good p) where
   pub sound-at : (t : ℕ) (r : Running) → p .slots t ≡ running r → SoundRun (p .fileOf) (p .committed) (p .grants) r
-  unfolding SoundSlot
-  sound-at t r o = subst (SoundSlot (p .fileOf) (p .committed) (p .grants)) o (g .sound t)
+  sound-at t r o = unfold SoundSlot in subst (SoundSlot (p .fileOf) (p .committed) (p .grants)) o (g .sound t)
 
   -- The number of an open transaction.
   pub open-number : (t : ℕ) (r : Running) → p .slots t ≡ running r → leb t lastTransaction ≡ true
@@ -65,25 +51,19 @@ module _ (p : Plain) (g : Good p) where
     where
       chosen : (b : Bool) → leb t lastTransaction ≡ b → leb t lastTransaction ≡ true
       chosen true l = l
-      chosen false l =
-          let c : closed ≡ running r = sym (g .above t (leb-false t lastTransaction l)) ∙ o in
-          let z : _≡_ {A = ℕ} 0 1 = cc in
-          absurd (omega arith)
+      chosen false l = let c : closed ≡ running r = sym (g .above t (leb-false t lastTransaction l)) ∙ o in
+          let z : _≡_ {A = ℕ} 0 1 = cc in absurd (omega arith)
 
   pub good-slot : (t : ℕ) → leb t lastTransaction ≡ true → (s : Slot) → SoundSlot (p .fileOf) (p .committed) (p .grants) s
       → Good (withSlot t s p)
-  unfolding withSlot
-  good-slot t l s h =
-      record {
-        setters = g .setters;
-        sound = put-keeps t s (p .slots) (SoundSlot (p .fileOf) (p .committed) (p .grants)) h (g .sound);
-        above = λ u a. put-other t s (p .slots) u (λ e. omega (arith, leb-true t lastTransaction l)) ∙ g .above u a;
-        earlier = g .earlier;
-      }
+  good-slot t l s h = unfold withSlot in record {
+    setters = g .setters;
+    sound = put-keeps t s (p .slots) (SoundSlot (p .fileOf) (p .committed) (p .grants)) h (g .sound);
+    above = λ u a. put-other t s (p .slots) u (λ e. omega (arith, leb-true t lastTransaction l)) ∙ g .above u a;
+    earlier = g .earlier;
+  }
 
-  sound-slot-granted :
-      (r : Running) (s : Slot)
-      → SoundSlot (p .fileOf) (p .committed) (p .grants) s
+  sound-slot-granted : (r : Running) (s : Slot) → SoundSlot (p .fileOf) (p .committed) (p .grants) s
       → SoundSlot (p .fileOf) (committing (p .fileOf) (p .grants + 1) (r .txn) (p .committed)) (p .grants + 1) s
   unfolding SoundSlot
   sound-slot-granted r closed h = tt
@@ -91,16 +71,11 @@ module _ (p : Plain) (g : Good p) where
 
   pub good-grant : (t : ℕ) (r : Running) → leb t lastTransaction ≡ true → Good (grant t r p)
   unfolding grant committing SoundSlot withSlot
-  good-grant t r l =
-      let ss = settings (p .fileOf) (p .committed .value) (r .txn) in
-      let after : Committed = committing (p .fileOf) (p .grants + 1) (r .txn) (p .committed) in
-      record {
-        setters =
-            λ i.
-            subst (λ (n : ℕ). n ≤ p .grants + 1) (sym (setBy-at (p .grants + 1) ss (p .committed .setter) i))
+  good-grant t r l = let ss = settings (p .fileOf) (p .committed .value) (r .txn) in
+      let after : Committed = committing (p .fileOf) (p .grants + 1) (r .txn) (p .committed) in record {
+        setters = λ i. subst (λ (n : ℕ). n ≤ p .grants + 1) (sym (setBy-at (p .grants + 1) ss (p .committed .setter) i))
             (at-most i (touched ss i));
-        sound =
-            put-keeps t closed (p .slots) (SoundSlot (p .fileOf) after (p .grants + 1)) tt
+        sound = put-keeps t closed (p .slots) (SoundSlot (p .fileOf) after (p .grants + 1)) tt
             (λ u. sound-slot-granted r (p .slots u) (g .sound u));
         above = λ u a. put-other t closed (p .slots) u (λ e. omega (arith, leb-true t lastTransaction l)) ∙ g .above u a;
         earlier = g .setters;
@@ -115,30 +90,19 @@ module _ (p : Plain) (g : Good p) where
   good-begin t l closed = good-slot t l (running _) (sound-begun (p .fileOf) (p .committed) (p .grants))
   good-begin t l (running r) = g
 
-  good-stepped :
-      (t : ℕ) (o : Op) (r : Running)
-      → leb t lastTransaction ≡ true
-      → SoundRun (p .fileOf) (p .committed) (p .grants) r
-      → (s : Stepped)
-      → result (p .committed .value) (step (p .fileOf) o (r .txn)) ≡ s
-      → Good
-      (plainStepped t o r (entries (p .committed .setter) (asked (p .committed .value) (step (p .fileOf) o (r .txn)))) p s .after)
+  good-stepped : (t : ℕ) (o : Op) (r : Running) → leb t lastTransaction ≡ true → SoundRun (p .fileOf) (p .committed)
+      (p .grants) r → (s : Stepped) → result (p .committed .value) (step (p .fileOf) o (r .txn)) ≡ s → Good (plainStepped t
+      o r (entries (p .committed .setter) (asked (p .committed .value) (step (p .fileOf) o (r .txn)))) p s .after)
   unfolding plainStepped refuseTurn SoundSlot
   good-stepped t o r l h (refuse n) e = g
   good-stepped t o r l h (accept y answer buffer) e =
-      good-slot t l (running _)
-      (sound-more (p .fileOf) (p .committed) (p .grants) r h (g .setters) o y answer buffer e)
+      good-slot t l (running _) (sound-more (p .fileOf) (p .committed) (p .grants) r h (g .setters) o y answer buffer e)
 
-  good-on :
-      (t : ℕ) (o : Op)
-      → leb t lastTransaction ≡ true
-      → (s : Slot)
-      → SoundSlot (p .fileOf) (p .committed) (p .grants) s
-      → Good (plainOn t o s p .after)
+  good-on : (t : ℕ) (o : Op) → leb t lastTransaction ≡ true → (s : Slot)
+      → SoundSlot (p .fileOf) (p .committed) (p .grants) s → Good (plainOn t o s p .after)
   unfolding plainOn refuseTurn SoundSlot
   good-on t o l closed h = g
-  good-on t o l (running r) h =
-      let s = result (p .committed .value) (step (p .fileOf) o (r .txn)) in
+  good-on t o l (running r) h = let s = result (p .committed .value) (step (p .fileOf) o (r .txn)) in
       let es = entries (p .committed .setter) (asked (p .committed .value) (step (p .fileOf) o (r .txn))) in
       refused-stale (λ z. Good (plainStepped t o r es p z .after)) (isStale p r) o s (unfold plainStepped in g)
       (λ e. good-stepped t o r l h s refl)
@@ -155,26 +119,20 @@ module _ (p : Plain) (g : Good p) where
   good-commit : (t minute : ℕ) → leb t lastTransaction ≡ true → (s : Slot) → Good (plainCommit t minute s p .after)
   unfolding plainCommit refuseTurn
   good-commit t minute l closed = g
-  good-commit t minute l (running r) =
-      good-committed t r l
-      (commitRefusal (minuteIn minute) (isStale p r) (forClosed (p .fileOf) (p .windows) minute (r .txn .writes))
-      (fits (p .committed .value) (r .txn)))
+  good-commit t minute l (running r) = good-committed t r l (commitRefusal (minuteIn minute) (isStale p r)
+      (forClosed (p .fileOf) (p .windows) minute (r .txn .writes)) (fits (p .committed .value) (r .txn)))
 
   good-abort : (t : ℕ) → leb t lastTransaction ≡ true → (s : Slot) → Good (plainAbort t s p .after)
   unfolding plainAbort refuseTurn answerWith SoundSlot
   good-abort t l closed = g
   good-abort t l (running r) = good-slot t l closed tt
 
-  good-numbered :
-      (t : ℕ) (buffer : List ℕ) (next : Slot → Plain → PlainTurn)
-      → (leb t lastTransaction ≡ true → Good (next (p .slots t) p .after))
-      → Good (withNumber t buffer next p .after)
+  good-numbered : (t : ℕ) (buffer : List ℕ) (next : Slot → Plain → PlainTurn)
+      → (leb t lastTransaction ≡ true → Good (next (p .slots t) p .after)) → Good (withNumber t buffer next p .after)
   unfolding withNumber refuseTurn
   good-numbered t buffer next h = chosen (leb t lastTransaction) h
     where
-      chosen :
-          (b : Bool)
-          → (b ≡ true → Good (next (p .slots t) p .after))
+      chosen : (b : Bool) → (b ≡ true → Good (next (p .slots t) p .after))
           → Good (cond b (next (p .slots t) p) (refuseTurn 3 buffer p) .after)
       chosen true k = k refl
       chosen false k = g
@@ -202,19 +160,16 @@ module _ (p : Plain) (g : Good p) where
 
   pub all-closed : noneRunning p ≡ true → (t : ℕ) → p .slots t ≡ closed
   unfolding noneRunning
-  all-closed e t =
-      ⊎-elim (λ l. g .above t (omega arith)) (λ l. slot-closed (p .slots t)
-      (below-at (λ u. not (isRunning (p .slots u))) 8 t e l)) (le-or-lt 8 t)
+  all-closed e t = ⊎-elim (λ l. g .above t (omega arith))
+      (λ l. slot-closed (p .slots t) (below-at (λ u. not (isRunning (p .slots u))) 8 t e l)) (le-or-lt 8 t)
 
   good-gone : (c : Committed) (n : ℕ) → GoodEarlier (found c n) → noneRunning p ≡ true → Good (plainRestored c n p)
-  unfolding SoundSlot
-  good-gone c n h e =
-      record {
-        setters = h;
-        sound = λ t. subst (SoundSlot (p .fileOf) c n) (sym (all-closed e t)) tt;
-        above = g .above;
-        earlier = tt;
-      }
+  good-gone c n h e = unfold SoundSlot in record {
+    setters = h;
+    sound = λ t. subst (SoundSlot (p .fileOf) c n) (sym (all-closed e t)) tt;
+    above = g .above;
+    earlier = tt;
+  }
 
   good-back : (x : Earlier) → GoodEarlier x → noneRunning p ≡ true → Good (plainRestore x p .after)
   unfolding plainRestore refuseTurn answerWith

@@ -1,10 +1,8 @@
 -- Laws of programs: one program after another, what a list of items holds, and a step of a stale transaction.
-use mathlib.Core.Bool.{Bool, true, false, cond, _||_, or-assoc, and-false}
-use mathlib.Core.List.{List, [], _∷_, _++_}
+use mathlib.Core.{Bool.{Bool, true, false, cond, _||_, or-assoc, and-false}, List.{List, [], _∷_, _++_}}
 use mathlib.Core.Path.{_≡_, refl, ap, sym, _∙_}
 use Rattle.spec.specs.Items.{Item, fileLength, Values, Prog, done, ask, measure, andThen, result, asked, same}
-use Rattle.spec.specs.Messages.{Op}
-use Rattle.spec.specs.Steps.{Stepped, refuse, isReadCall, refusesStale, refusedStale}
+use Rattle.spec.specs.{Messages.Op, Steps.{Stepped, refuse, isReadCall, refusesStale, refusedStale}}
 use Rattle.spec.proofs.Abstract.AbstractStore.{among}
 
 -- An item stands in a joined list where it stands in one of the two.
@@ -59,11 +57,8 @@ module _ {A : Type 0} (P : A → Type 0) where
   every-right (x ∷ xs) ys h = every-right xs ys (h .1)
 
 -- What holds of a refusal 18, and of the step where it does not come.
-pub refused-stale :
-    (P : Stepped → Type 0) (stale : Bool) (o : Op) (s : Stepped)
-    → P (refuse 18)
-    → (refusesStale stale o ≡ false → P s)
-    → P (refusedStale stale o s)
+pub refused-stale : (P : Stepped → Type 0) (stale : Bool) (o : Op) (s : Stepped) → P (refuse 18)
+    → (refusesStale stale o ≡ false → P s) → P (refusedStale stale o s)
 unfolding refusedStale
 refused-stale P stale o s h k = chosen (refusesStale stale o) k
   where
@@ -73,9 +68,7 @@ refused-stale P stale o s h k = chosen (refusesStale stale o) k
 
 -- A step of one that is not stale is never refused with 18.
 pub not-stale : (stale : Bool) (o : Op) → stale ≡ false → refusesStale stale o ≡ false
-unfolding refusesStale
-not-stale stale o e = rw (e, and-false (isReadCall o))
+not-stale stale o e = unfold refusesStale in rw (e, and-false (isReadCall o))
 
 pub not-refused-stale : (stale : Bool) (o : Op) (s : Stepped) → stale ≡ false → refusedStale stale o s ≡ s
-unfolding refusedStale
-not-refused-stale stale o s e = rw (not-stale stale o e)
+not-refused-stale stale o s e = unfold refusedStale in rw (not-stale stale o e)

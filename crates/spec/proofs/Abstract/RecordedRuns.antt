@@ -1,7 +1,6 @@
 -- The invariant of an open transaction of the reference model: its run in isolation is the recorded one, unless an item that it
 -- sighted was set since.
-use mathlib.Core.Bool.{Bool, true, false, cond, _||_}
-use mathlib.Core.List.{List, [], _∷_, _++_, map, map-append}
+use mathlib.Core.{Bool.{Bool, true, false, cond, _||_}, List.{List, [], _∷_, _++_, map, map-append}}
 use mathlib.Core.Path.{_≡_, refl, sym, ap, ap₂, _∙_, subst}
 use borrow.Author.Tests.{eqb-true}
 use lib.Dec.{eqb}
@@ -9,24 +8,16 @@ use native.Mathlib.Omega.{arith}
 use Prim.Native.Nat.{ℕ, _+_, _≤_}
 use Rattle.state.specs.Outcomes.{Said}
 use Rattle.buffers.proofs.BelowLaws.{and-left, and-right}
-use Rattle.spec.specs.Items.{Item, offset, Values, result, asked}
+use Rattle.spec.specs.{Items.{Item, offset, Values, result, asked}, Transactions.{Txn, empty}, Messages.{Op, Reply}}
+use Rattle.spec.specs.{Steps.{accept, step}, Commits.{Setting, settings, landed, setBy}}
+use Rattle.spec.specs.{Sightings.{Entry, sameEntries, entries, Committed}, Plain.{Accepted, Running, ops, committing}}
+use Rattle.spec.specs.{LoneRuns.{Lone, lone}, Lengths.Longer}
 use Rattle.standings.specs.Table.{isKnown}
-use Rattle.spec.specs.Transactions.{Txn, empty}
-use Rattle.spec.specs.Messages.{Op}
-use Rattle.spec.specs.Steps.{accept, step}
-use Rattle.spec.specs.Commits.{Setting, settings, landed, setBy}
-use Rattle.spec.specs.Messages.{Reply}
-use Rattle.spec.specs.Sightings.{Entry, sameEntries, entries, Committed}
-use Rattle.spec.specs.Plain.{Accepted, Running, ops, committing}
-use Rattle.spec.specs.LoneRuns.{Lone, lone}
-use Rattle.spec.specs.Lengths.{Longer}
 use Rattle.spec.proofs.Abstract.AbstractStore.{among}
 use Rattle.spec.proofs.Abstract.Programs.{Every, every-append, every-left, every-right, among-append}
-use Rattle.spec.proofs.Abstract.Steady.{Steady, steady-step}
-use Rattle.spec.proofs.Abstract.Lengths.{commit-longer}
-use Rattle.spec.proofs.Abstract.Known.{known-step}
-use Rattle.spec.proofs.Abstract.Lists.{iff-same, sameEntries-true, sameEntries-of, items, items-entries}
-use Rattle.spec.proofs.Abstract.Lists.{items-append, entries-append, current, current-is, touched, setBy-at, landed-at}
+use Rattle.spec.proofs.Abstract.{Steady.{Steady, steady-step}, Lengths.commit-longer, Known.known-step}
+use Rattle.spec.proofs.Abstract.Lists.{iff-same, sameEntries-true, sameEntries-of, items, items-entries, items-append}
+use Rattle.spec.proofs.Abstract.Lists.{entries-append, current, current-is, touched, setBy-at, landed-at}
 use Rattle.spec.proofs.Abstract.Lone.{lone-more, lone-current}
 
 -- A sighting with the value that was sighted. The machine holds no values: they are in the proof alone.
@@ -50,12 +41,8 @@ pub record Recent (c : Committed) (n : ℕ) (g : Sighting) : Type 0 where
 
 -- What the machine recorded of a transaction, as a run in isolation on a state with those setters.
 unfoldable pub recorded-run : Running → Values → Lone
-recorded-run r s = record {
-  through = true;
-  txn = r .txn;
-  replies = map (λ a. a .reply) (r .calls);
-  seen = entries s (items (r .seen));
-}
+recorded-run r s =
+    record { through = true; txn = r .txn; replies = map (λ a. a .reply) (r .calls); seen = entries s (items (r .seen)) }
 
 pub record SoundRun (fileOf : ℕ → ℕ) (c : Committed) (n : ℕ) (r : Running) : Type 0 where
   pub sightings : List Sighting
@@ -77,8 +64,7 @@ every-as P Q h (x ∷ xs) e = (h x (e .0), every-as P Q h xs (e .1))
 module _ (fileOf : ℕ → ℕ) (c : Committed) (n : ℕ) (r : Running) (s : SoundRun fileOf c n r) where
   pub seen-old : Every (λ (e : Entry). e .setter ≤ n) (r .seen)
   unfolding entryOf
-  seen-old =
-      subst (Every (λ (e : Entry). e .setter ≤ n)) (sym (s .listed))
+  seen-old = subst (Every (λ (e : Entry). e .setter ≤ n)) (sym (s .listed))
       (every-map (Recent c n) (λ (e : Entry). e .setter ≤ n) entryOf (λ g h. h .old) (s .sightings) (s .recent))
 
   -- Where every setter is still current, so is every value.
@@ -94,21 +80,16 @@ module _ (fileOf : ℕ → ℕ) (c : Committed) (n : ℕ) (r : Running) (s : Sou
 
   -- The run in isolation of a transaction whose setters are current is the recorded one.
   pub alone-now : current (c .setter) (r .seen) ≡ true → lone fileOf c (ops (r .calls)) empty ≡ recorded-run r (c .setter)
-  alone-now e =
-      s .alone c (λ f. omega arith) (agrees-now (s .sightings) (s .recent)
-      (subst (λ (l : List Entry). current (c .setter) l ≡ true) (s .listed) e))
+  alone-now e = s .alone c (λ f. omega arith)
+      (agrees-now (s .sightings) (s .recent) (subst (λ (l : List Entry). current (c .setter) l ≡ true) (s .listed) e))
 
   -- The two lists are equal exactly where every recorded entry still has its setter.
   pub lists-same : sameEntries (r .seen) (lone fileOf c (ops (r .calls)) empty .seen) ≡ current (c .setter) (r .seen)
   unfolding recorded-run
-  lists-same =
-      iff-same (sameEntries (r .seen) (lone fileOf c (ops (r .calls)) empty .seen)) (current (c .setter) (r .seen))
-      (λ e.
-      subst (λ (l : List Entry). current (c .setter) l ≡ true)
-      (sym (sameEntries-true (r .seen) (lone fileOf c (ops (r .calls)) empty .seen) e))
-      (lone-current fileOf c (ops (r .calls)) empty))
-      (λ e.
-      sameEntries-of (r .seen) (lone fileOf c (ops (r .calls)) empty .seen)
+  lists-same = iff-same (sameEntries (r .seen) (lone fileOf c (ops (r .calls)) empty .seen)) (current (c .setter) (r .seen))
+      (λ e. subst (λ (l : List Entry). current (c .setter) l ≡ true) (sym (sameEntries-true (r .seen)
+      (lone fileOf c (ops (r .calls)) empty .seen) e)) (lone-current fileOf c (ops (r .calls)) empty))
+      (λ e. sameEntries-of (r .seen) (lone fileOf c (ops (r .calls)) empty .seen)
       (sym (ap (λ (l : Lone). l .seen) (alone-now e) ∙ current-is (c .setter) (r .seen) e)))
 
 -- What a program asks for, as sightings on a committed state.
@@ -143,99 +124,70 @@ items-more s es is = items-append es (entries s is) ∙ ap (λ (l : List Item). 
 
 -- An open transaction after one more accepted call.
 abbrev pub extended : Running → Op → Txn → Said → List ℕ → List Entry → Running
-extended r o y answer buffer es =
-    record {
-      txn = y;
-      calls = r .calls ++ (record { op = o; reply = record { answer = answer; buffer = buffer } } ∷ []);
-      seen = r .seen ++ es;
-    }
+extended r o y answer buffer es = record {
+  txn = y;
+  calls = r .calls ++ (record { op = o; reply = record { answer = answer; buffer = buffer } } ∷ []);
+  seen = r .seen ++ es;
+}
 
 -- An accepted call extends the sightings by what it asked for.
 module _ (fileOf : ℕ → ℕ) (c : Committed) (n : ℕ) (r : Running) (s : SoundRun fileOf c n r) where
-  more-alone :
-      (o : Op) (y : Txn) (answer : Said) (buffer : List ℕ)
-      → result (c .value) (step fileOf o (r .txn)) ≡ accept y answer buffer
-      → (k : Committed)
-      → Longer (c .value) (k .value)
-      → EntriesAgree (k .value) (s .sightings ++ sightingsOf c (asked (c .value) (step fileOf o (r .txn))))
-      → lone fileOf k (ops (extended r o y answer buffer
-      (entries (c .setter) (asked (c .value) (step fileOf o (r .txn)))) .calls)) empty
-      ≡ recorded-run (extended r o y answer buffer (entries (c .setter) (asked (c .value) (step fileOf o (r .txn))))) (k .setter)
+  more-alone : (o : Op) (y : Txn) (answer : Said) (buffer : List ℕ) → result (c .value) (step fileOf o (r .txn)) ≡ accept y
+      answer buffer → (k : Committed) → Longer (c .value) (k .value) → EntriesAgree (k .value)
+      (s .sightings ++ sightingsOf c (asked (c .value) (step fileOf o (r .txn)))) → lone fileOf k (ops (extended r o y
+      answer buffer (entries (c .setter) (asked (c .value) (step fileOf o (r .txn)))) .calls)) empty ≡ recorded-run
+      (extended r o y answer buffer (entries (c .setter) (asked (c .value) (step fileOf o (r .txn))))) (k .setter)
   unfolding ops recorded-run Steady
-  more-alone o y answer buffer e k l a =
-      let now = asked (c .value) (step fileOf o (r .txn)) in
+  more-alone o y answer buffer e k l a = let now = asked (c .value) (step fileOf o (r .txn)) in
       let reply : Reply = record { answer = answer; buffer = buffer } in
       let same-values = sightings-agree c (k .value) now
       (every-right (λ (g : Sighting). k .value (g .item) ≡ g .value) (s .sightings) (sightingsOf c now) a) in
       let steady = steady-step (c .value) (k .value) l fileOf o (r .txn) same-values in
-      ap (λ (os : List Op). lone fileOf k os empty)
-      (map-append (λ (x : Accepted). x .op) (r .calls) (record { op = o; reply = reply } ∷ []))
-      ∙ lone-more fileOf k (ops (r .calls)) o empty (r .txn) y answer buffer (map (λ x. x .reply) (r .calls))
-      (entries (k .setter) (items (r .seen)))
-      (s .alone k l (every-left (λ (g : Sighting). k .value (g .item) ≡ g .value) (s .sightings) (sightingsOf c now) a))
-      (steady .0 ∙ e)
-      ∙ ap₂
-      (λ (rs : List Reply) (es : List Entry). record { through = true; txn = y; replies = rs; seen = es })
+      ap (λ (os : List Op). lone fileOf k os empty) (map-append (λ (x : Accepted). x .op) (r .calls)
+      (record { op = o; reply = reply } ∷ [])) ∙ lone-more fileOf k (ops (r .calls)) o empty (r .txn) y answer buffer
+      (map (λ x. x .reply) (r .calls)) (entries (k .setter) (items (r .seen))) (s .alone k l
+      (every-left (λ (g : Sighting). k .value (g .item) ≡ g .value) (s .sightings) (sightingsOf c now) a)) (steady .0 ∙ e)
+      ∙ ap₂ (λ (rs : List Reply) (es : List Entry). record { through = true; txn = y; replies = rs; seen = es })
       (sym (map-append (λ (x : Accepted). x .reply) (r .calls) (record { op = o; reply = reply } ∷ [])))
-      (ap (λ (is : List Item). entries (k .setter) (items (r .seen)) ++ entries (k .setter) is)
-      (steady .1)
+      (ap (λ (is : List Item). entries (k .setter) (items (r .seen)) ++ entries (k .setter) is) (steady .1)
       ∙ sym (entries-append (k .setter) (items (r .seen)) now)
       ∙ ap (entries (k .setter)) (sym (items-more (c .setter) (r .seen) now)))
 
-  pub sound-more :
-      ((i : Item) → c .setter i ≤ n)
-      → (o : Op) (y : Txn) (answer : Said) (buffer : List ℕ)
+  pub sound-more : ((i : Item) → c .setter i ≤ n) → (o : Op) (y : Txn) (answer : Said) (buffer : List ℕ)
       → result (c .value) (step fileOf o (r .txn)) ≡ accept y answer buffer
       → SoundRun fileOf c n (extended r o y answer buffer (entries (c .setter) (asked (c .value) (step fileOf o (r .txn)))))
-  sound-more h o y answer buffer e =
-      let now = asked (c .value) (step fileOf o (r .txn)) in
-      record {
-        sightings = s .sightings ++ sightingsOf c now;
-        listed =
-            ap₂ (λ (xs ys : List Entry). xs ++ ys) (s .listed) (sightings-entries c now)
-            ∙ sym (map-append entryOf (s .sightings) (sightingsOf c now));
-        alone = more-alone o y answer buffer e;
-        recent = every-append (Recent c n) (s .sightings) (sightingsOf c now) (s .recent) (sightings-recent c n h now);
-        known =
-            λ d.
-            known-step fileOf (c .value) o (r .txn) y answer buffer e d
-            ∙ ap (λ (b : Bool). b || among (offset d) now) (s .known d)
-            ∙ sym (among-append (offset d) (items (r .seen)) now)
-            ∙ ap (among (offset d)) (sym (items-more (c .setter) (r .seen) now));
-      }
+  sound-more h o y answer buffer e = let now = asked (c .value) (step fileOf o (r .txn)) in record {
+    sightings = s .sightings ++ sightingsOf c now;
+    listed = ap₂ (λ (xs ys : List Entry). xs ++ ys) (s .listed) (sightings-entries c now)
+        ∙ sym (map-append entryOf (s .sightings) (sightingsOf c now));
+    alone = more-alone o y answer buffer e;
+    recent = every-append (Recent c n) (s .sightings) (sightingsOf c now) (s .recent) (sightings-recent c n h now);
+    known = λ d. known-step fileOf (c .value) o (r .txn) y answer buffer e d
+        ∙ ap (λ (b : Bool). b || among (offset d) now) (s .known d) ∙ sym (among-append (offset d) (items (r .seen)) now)
+        ∙ ap (among (offset d)) (sym (items-more (c .setter) (r .seen) now));
+  }
 
   -- A grant by another keeps what is known: a set item has a setter that no sighting has.
-  after-setting :
-      (ss : List Setting) (g : Sighting)
-      → Recent c n g
+  after-setting : (ss : List Setting) (g : Sighting) → Recent c n g
       → Recent (record { value = landed ss (c .value); setter = setBy (n + 1) ss (c .setter) }) (n + 1) g
-  after-setting ss g h =
-      record {
-        old = omega (arith, h .old);
-        unchanged = λ e. preserved-at (touched ss (g .item)) refl (sym (setBy-at (n + 1) ss (c .setter) (g .item)) ∙ e);
-      }
+  after-setting ss g h = record {
+    old = omega (arith, h .old);
+    unchanged = λ e. preserved-at (touched ss (g .item)) refl (sym (setBy-at (n + 1) ss (c .setter) (g .item)) ∙ e);
+  }
     where
-      preserved-at :
-          (b : Bool)
-          → touched ss (g .item) ≡ b
-          → cond (touched ss (g .item)) (n + 1) (c .setter (g .item)) ≡ g .setter
-          → landed ss (c .value) (g .item) ≡ g .value
-      preserved-at true t e =
-          let z : n + 1 ≡ g .setter = subst (λ (b : Bool). cond b (n + 1) (c .setter (g .item)) ≡ g .setter) t e in
-          absurd (omega (arith, h .old))
-      preserved-at false t e =
-          landed-at ss (c .value) (g .item) t
+      preserved-at : (b : Bool) → touched ss (g .item) ≡ b → cond (touched ss (g .item)) (n + 1)
+          (c .setter (g .item)) ≡ g .setter → landed ss (c .value) (g .item) ≡ g .value
+      preserved-at true t e = let z : n + 1 ≡ g .setter =
+          subst (λ (b : Bool). cond b (n + 1) (c .setter (g .item)) ≡ g .setter) t e in absurd (omega (arith, h .old))
+      preserved-at false t e = landed-at ss (c .value) (g .item) t
           ∙ h .unchanged (subst (λ (b : Bool). cond b (n + 1) (c .setter (g .item)) ≡ g .setter) t e)
 
   pub sound-granted : (x : Txn) → SoundRun fileOf (committing fileOf (n + 1) x c) (n + 1) r
-  unfolding committing
-  sound-granted x =
-      let ss = settings fileOf (c .value) x in
-      record {
-        sightings = s .sightings;
-        listed = s .listed;
-        alone = λ k l a. s .alone k (λ f. omega (arith, commit-longer fileOf (c .value) x f, l f)) a;
-        recent = every-as (Recent c n) (Recent (committing fileOf (n + 1) x c) (n + 1)) (after-setting ss) (s .sightings)
-            (s .recent);
-        known = s .known;
-      }
+  sound-granted x = unfold committing in let ss = settings fileOf (c .value) x in record {
+    sightings = s .sightings;
+    listed = s .listed;
+    alone = λ k l a. s .alone k (λ f. omega (arith, commit-longer fileOf (c .value) x f, l f)) a;
+    recent = every-as (Recent c n) (Recent (committing fileOf (n + 1) x c) (n + 1)) (after-setting ss) (s .sightings)
+        (s .recent);
+    known = s .known;
+  }

@@ -1,7 +1,6 @@
 -- First half of serializability: the abstract store is a function of the reference model, and every call gives the same reply on
 -- both.
-use mathlib.Core.Bool.{Bool, true, false, cond, not, _&&_, _||_, and-true}
-use mathlib.Core.List.{List, [], _∷_, _++_}
+use mathlib.Core.{Bool.{Bool, true, false, cond, not, _&&_, _||_, and-true}, List.{List, [], _∷_, _++_}}
 use mathlib.Core.Path.{_≡_, refl, sym, ap, ap₂, _∙_, fun-ext}
 use lib.Dec.{eqb, leb}
 use Prim.Native.Nat.{ℕ, zero, suc}
@@ -9,56 +8,40 @@ use Rattle.limits.specs.Limits.{lastTransaction}
 use Rattle.windows.specs.Windows.{minuteIn, window, Windows}
 use Rattle.buffers.specs.Bits.{bitsOf}
 use Rattle.state.specs.Outcomes.{Said, doneAnswer, granted, refused}
-use Rattle.admission.specs.FirstRefusal.{guarded, isNone, below}
-use Rattle.admission.specs.Admission.{windowRefusal}
-use Rattle.spec.specs.Windows.{forClosed}
-use Rattle.spec.specs.Items.{Item, Values, byte, offset, fileLength, result, asked}
+use Rattle.admission.specs.{FirstRefusal.{guarded, isNone, below}, Admission.windowRefusal}
+use Rattle.spec.specs.{Windows.forClosed, Items.{Item, Values, byte, offset, fileLength, result, asked}}
 use Rattle.spec.specs.Transactions.{Txn, Write, empty, put}
-use Rattle.spec.specs.Messages.{Op, bufferOf, places, setWindow, undoCommit, bestOrder, afterAll, repliesTo}
-use Rattle.spec.specs.OrderReply.{hasUnplaced}
-use Rattle.spec.specs.Steps.{Stepped, refuse, accept, step}
-use Rattle.spec.specs.Commits.{settings, fits, landed, commitRefusal}
-use Rattle.spec.specs.Messages.{Call, begin, on, commit, abort, Reply}
+use Rattle.spec.specs.Messages.{Op, bufferOf, places, setWindow, undoCommit, bestOrder, afterAll, repliesTo, Call, begin}
+use Rattle.spec.specs.{Messages.{on, commit, abort, Reply, answerWith, refuseTurn}, OrderReply.hasUnplaced}
+use Rattle.spec.specs.{Steps.{Stepped, refuse, accept, step}, Commits.{settings, fits, landed, commitRefusal}}
 use Rattle.spec.specs.Sightings.{sameEntries, entries, Committed}
 use Rattle.spec.specs.Plain.{Running, Slot, closed, running, Plain, Earlier, nothing, found, isRunning, noneRunning}
-use Rattle.spec.specs.Plain.{plainRestored}
-use Rattle.spec.specs.Plain.{plainRestore, plainUndo, plainWithWindows, plainSetWindow, startPlain, ops, firstList}
-use Rattle.spec.specs.Plain.{secondList, isStale}
-use Rattle.spec.specs.Plain.{PlainTurn, withSlot, plainBegin, plainStepped, plainOn, committing}
-use Rattle.spec.specs.Plain.{grant}
-use Rattle.spec.specs.Plain.{staleSlot, becameStale, plainCommitted, plainCommit, plainAbort, withNumber}
-use Rattle.spec.specs.Plain.{plainCall}
-use Rattle.spec.specs.Plain.{plainAfter, plainReplies, plainPlaces, plainCommitCall, writesIn, plainAsked, plainBestOrder}
-use Rattle.spec.specs.LoneRuns.{lone}
+use Rattle.spec.specs.Plain.{plainRestored, plainRestore, plainUndo, plainWithWindows, plainSetWindow, startPlain, ops}
+use Rattle.spec.specs.Plain.{firstList, secondList, isStale, PlainTurn, withSlot, plainBegin, plainStepped, plainOn}
+use Rattle.spec.specs.Plain.{committing, grant, staleSlot, becameStale, plainCommitted, plainCommit, plainAbort, withNumber}
+use Rattle.spec.specs.Plain.{plainCall, plainAfter, plainReplies, plainPlaces, plainCommitCall, writesIn, plainAsked}
+use Rattle.spec.specs.{Plain.plainBestOrder, LoneRuns.lone}
 use Rattle.spec.proofs.Abstract.AbstractStore.{OpenTxn, Seat, vacant, occupied, Saved, none, preserved, isOccupied}
-use Rattle.spec.proofs.Abstract.AbstractStore.{noneOccupied}
-use Rattle.spec.proofs.Abstract.AbstractStore.{returned, abstractReturn}
-use Rattle.spec.proofs.Abstract.AbstractStore.{abstractUndo, Abstract, startAbstract, abstractSighted, among, hit, markAll}
-use Rattle.spec.proofs.Abstract.AbstractStore.{lengthAll, AbstractTurn}
-use Rattle.spec.proofs.Abstract.AbstractStore.{abstractRefuse, withSeat, abstractAnswer, abstractBegin, abstractStepped}
-use Rattle.spec.proofs.Abstract.AbstractStore.{abstractOn}
-use Rattle.spec.proofs.Abstract.AbstractStore.{touch, newlyStale}
-use Rattle.spec.proofs.Abstract.AbstractStore.{granting, abstractCommitted, abstractCommit, abstractAbort, windowed}
-use Rattle.spec.proofs.Abstract.AbstractStore.{abstractWindow, seated}
+use Rattle.spec.proofs.Abstract.AbstractStore.{noneOccupied, returned, abstractReturn, abstractUndo, Abstract}
+use Rattle.spec.proofs.Abstract.AbstractStore.{startAbstract, abstractSighted, among, hit, markAll, lengthAll}
+use Rattle.spec.proofs.Abstract.AbstractStore.{AbstractTurn, abstractRefuse, withSeat, abstractAnswer, abstractBegin}
+use Rattle.spec.proofs.Abstract.AbstractStore.{abstractStepped, abstractOn, touch, newlyStale, granting, abstractCommitted}
+use Rattle.spec.proofs.Abstract.AbstractStore.{abstractCommit, abstractAbort, windowed, abstractWindow, seated}
 use Rattle.spec.proofs.Abstract.AbstractStore.{abstractCall, abstractAfter, abstractReplies, abstractPlaces}
-use Rattle.spec.proofs.Abstract.AbstractStore.{abstractCommitCall, staleSeat}
-use Rattle.spec.proofs.Abstract.AbstractStore.{writesSeat, abstractAsked, abstractBestOrder}
+use Rattle.spec.proofs.Abstract.AbstractStore.{abstractCommitCall, staleSeat, writesSeat, abstractAsked, abstractBestOrder}
 use Rattle.spec.proofs.Abstract.Programs.{among-append, refused-stale}
 use Rattle.spec.proofs.Abstract.Lists.{put-keeps, items, current, current-entries, current-append, anyTouched, hit-is}
 use Rattle.spec.proofs.Abstract.Lists.{markAll-at, lengthAll-at, current-after}
 use Rattle.spec.proofs.Abstract.RecordedRuns.{SoundRun, seen-old, lists-same, sound-more, sound-granted, items-more}
-use Rattle.spec.proofs.Abstract.RecordedRuns.{extended}
-use Rattle.spec.proofs.Abstract.OrderReplies.{grants-same, Agreed, reply-same}
+use Rattle.spec.proofs.Abstract.{RecordedRuns.extended, OrderReplies.{grants-same, Agreed, reply-same}}
 use Rattle.spec.proofs.Abstract.PlainInvariant.{SoundSlot, Good, all-closed, good-call}
-use Rattle.spec.specs.Messages.{answerWith, refuseTurn}
 
 -- The store of a reference model: a byte is marked where it was sighted, and a transaction is stale where its two lists differ.
 unfoldable pub openTxnOf : Plain → Running → OpenTxn
 openTxnOf p r = record {
   txn = r .txn;
   marked = λ q. among (byte q) (items (r .seen));
-  lengths = λ f. among (fileLength f)
-      (items (r .seen));
+  lengths = λ f. among (fileLength f) (items (r .seen));
   stale = isStale p r;
 }
 
@@ -84,8 +67,7 @@ absTurn τ = record { reply = τ .reply; after = abs (τ .after) }
 
 pub abs-start : (fileOf : ℕ → ℕ) (v : Values) (ws : Windows) (e : Earlier) → startAbstract fileOf v ws (backOf e)
     ≡ abs (startPlain fileOf v ws e)
-unfolding startAbstract abs startPlain seatOf
-abs-start fileOf v ws e = refl
+abs-start fileOf v ws e = unfold startAbstract abs startPlain seatOf in refl
 
 -- A function with another value at one number, after a map.
 put-map : {A B : Type 0} (f : A → B) (t : ℕ) (a : A) (g : ℕ → A) (u : ℕ) → put t (f a) (λ w. f (g w)) u ≡ f (put t a g u)
@@ -97,18 +79,12 @@ put-map f t a g u = chosen (eqb u t)
     chosen false = refl
 
 -- A transaction is stale exactly where one of its entries has another setter than its item has now.
-pub stale-is :
-    (p : Plain) (r : Running)
-    → SoundRun (p .fileOf) (p .committed) (p .grants) r
+pub stale-is : (p : Plain) (r : Running) → SoundRun (p .fileOf) (p .committed) (p .grants) r
     → isStale p r ≡ not (current (p .committed .setter) (r .seen))
-unfolding isStale firstList secondList
-stale-is p r s = ap not (lists-same (p .fileOf) (p .committed) (p .grants) r s)
+stale-is p r s = unfold isStale firstList secondList in ap not (lists-same (p .fileOf) (p .committed) (p .grants) r s)
 
 -- The items that the store's transaction has sighted are those of the machine's list.
-sighted-is :
-    (p : Plain) (r : Running)
-    → SoundRun (p .fileOf) (p .committed) (p .grants) r
-    → (i : Item)
+sighted-is : (p : Plain) (r : Running) → SoundRun (p .fileOf) (p .committed) (p .grants) r → (i : Item)
     → abstractSighted (openTxnOf p r) i ≡ among i (items (r .seen))
 unfolding abstractSighted openTxnOf
 sighted-is p r s (byte q) = refl
@@ -117,17 +93,13 @@ sighted-is p r s (fileLength f) = refl
 
 module _ (t : ℕ) (r : Running) (p : Plain) where
   -- Who is stale after a grant: who was so before, and who has sighted an item just set.
-  stale-after :
-      (q : Running)
-      → SoundRun (p .fileOf) (p .committed) (p .grants) q
+  stale-after : (q : Running) → SoundRun (p .fileOf) (p .committed) (p .grants) q
       → (isStale p q || hit (settings (p .fileOf) (p .committed .value) (r .txn)) (openTxnOf p q)) ≡ isStale (grant t r p) q
   unfolding grant committing withSlot
-  stale-after q s =
-      let ss = settings (p .fileOf) (p .committed .value) (r .txn) in
-      ap₂ (λ (a b : Bool). a || b) (stale-is p q s) (hit-is (openTxnOf p q) (items (q .seen)) (sighted-is p q s) ss)
-      ∙ moved (current (p .committed .setter) (q .seen)) (anyTouched ss (items (q .seen)))
-      ∙ ap not (sym (current-after (p .grants) ss (p .committed .setter) (q .seen)
-      (seen-old (p .fileOf) (p .committed) (p .grants) q s)))
+  stale-after q s = let ss = settings (p .fileOf) (p .committed .value) (r .txn) in
+      ap₂ (λ (a b : Bool). a || b) (stale-is p q s) (hit-is (openTxnOf p q) (items (q .seen)) (sighted-is p q s) ss) ∙ moved
+      (current (p .committed .setter) (q .seen)) (anyTouched ss (items (q .seen))) ∙ ap not (sym (current-after (p .grants)
+      ss (p .committed .setter) (q .seen) (seen-old (p .fileOf) (p .committed) (p .grants) q s)))
       ∙ sym (stale-is (grant t r p) q (sound-granted (p .fileOf) (p .committed) (p .grants) q s (r .txn)))
     where
       moved : (a b : Bool) → (not a || b) ≡ not (a && not b)
@@ -135,29 +107,22 @@ module _ (t : ℕ) (r : Running) (p : Plain) where
       moved true false = refl
       moved false b = refl
 
-  touch-is :
-      (s : Slot)
-      → SoundSlot (p .fileOf) (p .committed) (p .grants) s
+  touch-is : (s : Slot) → SoundSlot (p .fileOf) (p .committed) (p .grants) s
       → touch (settings (p .fileOf) (p .committed .value) (r .txn)) (seatOf p s) ≡ seatOf (grant t r p) s
   unfolding touch seatOf SoundSlot openTxnOf
   touch-is closed h = refl
-  touch-is (running q) h =
-      ap (λ (b : Bool). occupied (record {
-        txn = q .txn;
-        marked = λ k. among (byte k) (items (q .seen));
-        lengths = λ f. among (fileLength f) (items (q .seen));
-        stale = b;
-      })) (stale-after q h)
+  touch-is (running q) h = ap (λ (b : Bool). occupied (record {
+    txn = q .txn;
+    marked = λ k. among (byte k) (items (q .seen));
+    lengths = λ f. among (fileLength f) (items (q .seen));
+    stale = b;
+  })) (stale-after q h)
 
-  newly-is :
-      (s : Slot)
-      → SoundSlot (p .fileOf) (p .committed) (p .grants) s
-      → newlyStale (settings (p .fileOf) (p .committed .value) (r .txn)) (seatOf p s)
-      ≡ (not (staleSlot p s) && staleSlot (grant t r p) s)
+  newly-is : (s : Slot) → SoundSlot (p .fileOf) (p .committed) (p .grants) s → newlyStale (settings (p .fileOf)
+      (p .committed .value) (r .txn)) (seatOf p s) ≡ (not (staleSlot p s) && staleSlot (grant t r p) s)
   unfolding newlyStale seatOf SoundSlot staleSlot isStale openTxnOf
   newly-is closed h = refl
-  newly-is (running q) h =
-      newly (sameEntries (firstList q) (secondList p q))
+  newly-is (running q) h = newly (sameEntries (firstList q) (secondList p q))
       (hit (settings (p .fileOf) (p .committed .value) (r .txn)) (openTxnOf p q))
       ∙ ap (λ (b : Bool). not (not (sameEntries (firstList q) (secondList p q))) && b) (stale-after q h)
     where
@@ -166,11 +131,9 @@ module _ (t : ℕ) (r : Running) (p : Plain) where
       newly false b = refl
 
   -- Those that the grant makes stale.
-  became-is :
-      ((u : ℕ) → SoundSlot (p .fileOf) (p .committed) (p .grants) (p .slots u))
-      → (u : ℕ)
-      → newlyStale (settings (p .fileOf) (p .committed .value) (r .txn)) (put t vacant (λ w. seatOf p (p .slots w)) u)
-      ≡ becameStale t p (grant t r p) u
+  became-is : ((u : ℕ) → SoundSlot (p .fileOf) (p .committed) (p .grants) (p .slots u)) → (u : ℕ)
+      → newlyStale (settings (p .fileOf) (p .committed .value) (r .txn))
+      (put t vacant (λ w. seatOf p (p .slots w)) u) ≡ becameStale t p (grant t r p) u
   unfolding newlyStale becameStale put grant withSlot staleSlot
   became-is h u = pick (eqb u t)
     where
@@ -188,136 +151,79 @@ seat-slot t s p (running r) = refl
 
 abs-slot : (t : ℕ) (s : Slot) (p : Plain) → withSeat t (seatOf p s) (abs p) ≡ abs (withSlot t s p)
 unfolding withSeat abs withSlot
-abs-slot t s p =
-    ap (λ (f : ℕ → Seat). record {
-      fileOf = p .fileOf;
-      value = p .committed .value;
-      windows = p .windows;
-      back = backOf (p .earlier);
-      seats = f;
-    })
+abs-slot t s p = ap (λ (f : ℕ → Seat). record
+    { fileOf = p .fileOf; value = p .committed .value; windows = p .windows; back = backOf (p .earlier); seats = f })
     (fun-ext (λ u. put-map (seatOf p) t s (p .slots) u ∙ seat-slot t s p (put t s (p .slots) u)))
 
 -- Each call: what it gives on a slot, and on that slot's seat.
 module _ (p : Plain) (g : Good p) where
   same-begin : (t : ℕ) (s : Slot) → abstractBegin t (seatOf p s) (abs p) ≡ absTurn (plainBegin t s p)
-  unfolding abstractBegin seatOf plainBegin absTurn abstractAnswer answerWith abstractRefuse refuseTurn openTxnOf items among
-      isStale
-      firstList
-      secondList sameEntries lone ops
-  same-begin t closed =
-      ap (λ (a : Abstract). record { reply = record { answer = doneAnswer; buffer = [] }; after = a })
+  unfolding abstractBegin seatOf plainBegin absTurn abstractAnswer answerWith abstractRefuse refuseTurn openTxnOf items
+      among isStale firstList secondList sameEntries lone ops
+  same-begin t closed = ap (λ (a : Abstract). record { reply = record { answer = doneAnswer; buffer = [] }; after = a })
       (abs-slot t (running (record { txn = empty; calls = []; seen = [] })) p)
   same-begin t (running r) = refl
 
   -- An accepted call sights what it asked for, and makes nobody stale.
-  stale-more :
-      (o : Op) (r : Running) (y : Txn) (answer : Said) (buffer : List ℕ)
-      → SoundRun (p .fileOf) (p .committed) (p .grants) r
-      → result (p .committed .value) (step (p .fileOf) o (r .txn)) ≡ accept y answer buffer
-      → isStale p r
-      ≡ isStale p
-      (extended r o y answer buffer (entries (p .committed .setter) (asked (p .committed .value) (step (p .fileOf) o (r .txn)))))
-  stale-more o r y answer buffer h e =
-      let now = asked (p .committed .value) (step (p .fileOf) o (r .txn)) in
+  stale-more : (o : Op) (r : Running) (y : Txn) (answer : Said) (buffer : List ℕ) → SoundRun (p .fileOf) (p .committed)
+      (p .grants) r → result (p .committed .value) (step (p .fileOf) o (r .txn)) ≡ accept y answer buffer
+      → isStale p r ≡ isStale p (extended r o y answer buffer
+      (entries (p .committed .setter) (asked (p .committed .value) (step (p .fileOf) o (r .txn)))))
+  stale-more o r y answer buffer h e = let now = asked (p .committed .value) (step (p .fileOf) o (r .txn)) in
       let s = p .committed .setter in
-      stale-is p r h
-      ∙ ap not
-      (sym
-      (current-append s (r .seen) (entries s now)
-      ∙ ap (λ (b : Bool). current s (r .seen) && b) (current-entries s now)
-      ∙ and-true (current s (r .seen))))
-      ∙ sym
-      (stale-is p (extended r o y answer buffer (entries s now))
-      (sound-more (p .fileOf) (p .committed) (p .grants) r h (g .setters) o y answer buffer e))
+      stale-is p r h ∙ ap not (sym (current-append s (r .seen) (entries s now) ∙ ap (λ (b : Bool). current s (r .seen) && b)
+      (current-entries s now) ∙ and-true (current s (r .seen)))) ∙ sym (stale-is p (extended r o y answer buffer
+      (entries s now)) (sound-more (p .fileOf) (p .committed) (p .grants) r h (g .setters) o y answer buffer e))
 
-  marked-more :
-      (r : Running) (is : List Item) (q : ℕ)
-      → markAll is (λ k. among (byte k) (items (r .seen))) q
-      ≡ among (byte q) (items (r .seen ++ entries (p .committed .setter) is))
-  marked-more r is q =
-      markAll-at is (λ k. among (byte k) (items (r .seen))) q
-      ∙ sym (among-append (byte q) (items (r .seen)) is)
-      ∙ ap (among (byte q)) (sym (items-more (p .committed .setter) (r .seen) is))
+  marked-more : (r : Running) (is : List Item) (q : ℕ) → markAll is (λ k. among (byte k) (items (r .seen))) q ≡ among
+      (byte q) (items (r .seen ++ entries (p .committed .setter) is))
+  marked-more r is q = markAll-at is (λ k. among (byte k) (items (r .seen))) q ∙ sym (among-append (byte q)
+      (items (r .seen)) is) ∙ ap (among (byte q)) (sym (items-more (p .committed .setter) (r .seen) is))
 
-  lengths-more :
-      (r : Running) (is : List Item) (f : ℕ)
-      → lengthAll is (λ k. among (fileLength k) (items (r .seen))) f
-      ≡ among (fileLength f) (items (r .seen ++ entries (p .committed .setter) is))
-  lengths-more r is f =
-      lengthAll-at is (λ k. among (fileLength k) (items (r .seen))) f
-      ∙ sym (among-append (fileLength f) (items (r .seen)) is)
-      ∙ ap (among (fileLength f)) (sym (items-more (p .committed .setter) (r .seen) is))
+  lengths-more : (r : Running) (is : List Item) (f : ℕ) → lengthAll is (λ k. among (fileLength k) (items (r .seen)))
+      f ≡ among (fileLength f) (items (r .seen ++ entries (p .committed .setter) is))
+  lengths-more r is f = lengthAll-at is (λ k. among (fileLength k) (items (r .seen))) f ∙ sym (among-append (fileLength f)
+      (items (r .seen)) is) ∙ ap (among (fileLength f)) (sym (items-more (p .committed .setter) (r .seen) is))
 
-  same-stepped :
-      (t : ℕ) (o : Op) (r : Running)
-      → SoundRun (p .fileOf) (p .committed) (p .grants) r
-      → (s : Stepped)
+  same-stepped : (t : ℕ) (o : Op) (r : Running) → SoundRun (p .fileOf) (p .committed) (p .grants) r → (s : Stepped)
       → result (p .committed .value) (step (p .fileOf) o (r .txn)) ≡ s
-      → abstractStepped t o (openTxnOf p r) (asked (p .committed .value) (step (p .fileOf) o (r .txn))) (abs p) s
-      ≡ absTurn (plainStepped t o r (entries (p .committed .setter) (asked (p .committed .value) (step (p .fileOf) o (r .txn)))) p
-      s)
+      → abstractStepped t o (openTxnOf p r) (asked (p .committed .value) (step (p .fileOf) o (r .txn))) (abs p) s ≡ absTurn
+      (plainStepped t o r (entries (p .committed .setter) (asked (p .committed .value) (step (p .fileOf) o (r .txn)))) p s)
   unfolding abstractStepped plainStepped absTurn abstractRefuse refuseTurn openTxnOf seatOf
   same-stepped t o r h (refuse n) e = refl
-  same-stepped t o r h (accept y answer buffer) e =
-      let now = asked (p .committed .value) (step (p .fileOf) o (r .txn)) in
-      let reply : Reply = record { answer = answer; buffer = buffer } in
-      ap₂
-      (λ (m l : ℕ → Bool).
-      record {
+  same-stepped t o r h (accept y answer buffer) e = let now = asked (p .committed .value) (step (p .fileOf) o (r .txn)) in
+      let reply : Reply = record { answer = answer; buffer = buffer } in ap₂ (λ (m l : ℕ → Bool). record {
         reply = reply;
         after = withSeat t (occupied (record { txn = y; marked = m; lengths = l; stale = isStale p r })) (abs p);
-      })
-      (fun-ext (marked-more r now))
-      (fun-ext (lengths-more r now))
-      ∙ ap
-      (λ (b : Bool).
-      record {
+      }) (fun-ext (marked-more r now)) (fun-ext (lengths-more r now)) ∙ ap (λ (b : Bool). record {
         reply = reply;
-        after =
-            withSeat t
-            (occupied
-            (record {
-              txn = y;
-              marked = λ q. among (byte q) (items (r .seen ++ entries (p .committed .setter) now));
-              lengths = λ f. among (fileLength f) (items (r .seen ++ entries (p .committed .setter) now));
-              stale = b;
-            }))
-            (abs p);
-      })
-      (stale-more o r y answer buffer h e)
-      ∙ ap (λ (a : Abstract). record { reply = reply; after = a })
+        after = withSeat t (occupied (record {
+          txn = y;
+          marked = λ q. among (byte q) (items (r .seen ++ entries (p .committed .setter) now));
+          lengths = λ f. among (fileLength f) (items (r .seen ++ entries (p .committed .setter) now));
+          stale = b;
+        })) (abs p);
+      }) (stale-more o r y answer buffer h e) ∙ ap (λ (a : Abstract). record { reply = reply; after = a })
       (abs-slot t (running (extended r o y answer buffer (entries (p .committed .setter) now))) p)
 
-  same-on :
-      (t : ℕ) (o : Op) (s : Slot)
-      → SoundSlot (p .fileOf) (p .committed) (p .grants) s
+  same-on : (t : ℕ) (o : Op) (s : Slot) → SoundSlot (p .fileOf) (p .committed) (p .grants) s
       → abstractOn t o (seatOf p s) (abs p) ≡ absTurn (plainOn t o s p)
   unfolding abstractOn plainOn seatOf abs abstractRefuse refuseTurn absTurn SoundSlot openTxnOf
   same-on t o closed h = refl
-  same-on t o (running r) h =
-      let s = result (p .committed .value) (step (p .fileOf) o (r .txn)) in
+  same-on t o (running r) h = let s = result (p .committed .value) (step (p .fileOf) o (r .txn)) in
       let is = asked (p .committed .value) (step (p .fileOf) o (r .txn)) in
-      refused-stale
-      (λ z. abstractStepped t o (openTxnOf p r) is (abs p) z ≡ absTurn
-      (plainStepped t o r (entries (p .committed .setter) is) p z))
-      (isStale p r) o s (unfold abstractStepped plainStepped in refl) (λ e. same-stepped t o r h s refl)
+      refused-stale (λ z. abstractStepped t o (openTxnOf p r) is (abs p) z ≡ absTurn
+      (plainStepped t o r (entries (p .committed .setter) is) p z)) (isStale p r) o s
+      (unfold abstractStepped plainStepped in refl) (λ e. same-stepped t o r h s refl)
 
-  same-grant :
-      (t : ℕ) (r : Running)
-      → granting t (settings (p .fileOf) (p .committed .value) (r .txn)) (abs p)
-      ≡ absTurn (answerWith (granted (bitsOf (becameStale t p (grant t r p)) 8)) (grant t r p))
-  unfolding granting absTurn answerWith abs grant committing seatOf SoundSlot withSlot backOf
-  same-grant t r =
-      let ss = settings (p .fileOf) (p .committed .value) (r .txn) in
-      let others : ℕ → Slot = put t closed (p .slots) in
+  same-grant : (t : ℕ) (r : Running) → granting t (settings (p .fileOf) (p .committed .value) (r .txn)) (abs p) ≡ absTurn
+      (answerWith (granted (bitsOf (becameStale t p (grant t r p)) 8)) (grant t r p))
+  same-grant t r = unfold granting absTurn answerWith abs grant committing seatOf SoundSlot withSlot backOf in
+      let ss = settings (p .fileOf) (p .committed .value) (r .txn) in let others : ℕ → Slot = put t closed (p .slots) in
       let sound : (u : ℕ) → SoundSlot (p .fileOf) (p .committed) (p .grants) (others u) =
       put-keeps t closed (p .slots) (SoundSlot (p .fileOf) (p .committed) (p .grants)) tt (g .sound) in
       let seats : (u : ℕ) → put t vacant (λ w. seatOf p (p .slots w)) u ≡ seatOf p (others u) =
-      put-map (seatOf p) t closed (p .slots) in
-      ap₂
-      (λ (b : ℕ → Bool) (f : ℕ → Seat).
-      record {
+      put-map (seatOf p) t closed (p .slots) in ap₂ (λ (b : ℕ → Bool) (f : ℕ → Seat). record {
         reply = record { answer = granted (bitsOf b 8); buffer = [] };
         after = record {
           fileOf = p .fileOf;
@@ -326,8 +232,7 @@ module _ (p : Plain) (g : Good p) where
           back = preserved (p .committed .value);
           seats = f;
         };
-      })
-      (fun-ext (became-is t r p (g .sound)))
+      }) (fun-ext (became-is t r p (g .sound)))
       (fun-ext (λ u. ap (touch ss) (seats u) ∙ touch-is t r p (others u) (sound u)))
 
   same-committed :
@@ -336,13 +241,11 @@ module _ (p : Plain) (g : Good p) where
   same-committed t r zero = same-grant t r
   same-committed t r (suc n) = ended (eqb (suc n) 13)
     where
-      ended :
-          (b : Bool)
-          → record {
-            reply = record { answer = refused (suc n); buffer = [] };
-            after = cond b (withSeat t vacant (abs p)) (abs p);
-          }
-          ≡ absTurn (record { reply = record { answer = refused (suc n); buffer = [] }; after = cond b (withSlot t closed p) p })
+      ended : (b : Bool) → record {
+        reply = record { answer = refused (suc n); buffer = [] };
+        after = cond b (withSeat t vacant (abs p)) (abs p);
+      } ≡ absTurn
+          (record { reply = record { answer = refused (suc n); buffer = [] }; after = cond b (withSlot t closed p) p })
       ended true = ap (λ (a : Abstract). record { reply = record { answer = refused (suc n); buffer = [] }; after = a })
           (abs-slot t closed p)
       ended false = refl
@@ -350,10 +253,8 @@ module _ (p : Plain) (g : Good p) where
   same-commit : (t minute : ℕ) (s : Slot) → abstractCommit t minute (seatOf p s) (abs p) ≡ absTurn (plainCommit t minute s p)
   unfolding abstractCommit plainCommit seatOf abstractRefuse refuseTurn absTurn openTxnOf abs
   same-commit t minute closed = refl
-  same-commit t minute (running r) =
-      same-committed t r
-      (commitRefusal (minuteIn minute) (isStale p r) (forClosed (p .fileOf) (p .windows) minute (r .txn .writes))
-      (fits (p .committed .value) (r .txn)))
+  same-commit t minute (running r) = same-committed t r (commitRefusal (minuteIn minute) (isStale p r)
+      (forClosed (p .fileOf) (p .windows) minute (r .txn .writes)) (fits (p .committed .value) (r .txn)))
 
   same-abort : (t : ℕ) (s : Slot) → abstractAbort t (seatOf p s) (abs p) ≡ absTurn (plainAbort t s p)
   unfolding abstractAbort plainAbort seatOf abstractRefuse refuseTurn absTurn abstractAnswer answerWith
@@ -381,17 +282,14 @@ module _ (p : Plain) (g : Good p) where
       seats-same : _≡_ {A = ℕ → Seat} (λ t. seatOf p (p .slots t)) (λ t. seatOf (plainWithWindows ws p) (p .slots t))
       seats-same = fun-ext (λ t. seat-windows ws (p .slots t))
 
-      chosen :
-          (n : ℕ)
-          → guarded (λ k. abstractRefuse k [] (abs p)) (isNone n) n (abstractAnswer doneAnswer (windowed f start end (abs p)))
-          ≡ absTurn (guarded (λ k. refuseTurn k [] p) (isNone n) n (answerWith doneAnswer (plainWithWindows ws p)))
-      chosen zero =
-          ap (λ (g : ℕ → Seat). record {
-            reply = record { answer = doneAnswer; buffer = [] };
-            after = record
-                { fileOf = p .fileOf; value = p .committed .value; windows = ws; back = backOf (p .earlier); seats = g };
-          })
-          seats-same
+      chosen : (n : ℕ) → guarded (λ k. abstractRefuse k [] (abs p)) (isNone n) n
+          (abstractAnswer doneAnswer (windowed f start end (abs p))) ≡ absTurn
+          (guarded (λ k. refuseTurn k [] p) (isNone n) n (answerWith doneAnswer (plainWithWindows ws p)))
+      chosen zero = ap (λ (g : ℕ → Seat). record {
+        reply = record { answer = doneAnswer; buffer = [] };
+        after =
+            record { fileOf = p .fileOf; value = p .committed .value; windows = ws; back = backOf (p .earlier); seats = g };
+      }) seats-same
       chosen (suc n) = refl
 
   -- Going back: nobody is open, so that nobody's lists matter.
@@ -423,23 +321,19 @@ module _ (p : Plain) (g : Good p) where
   same-back = ap (λ (b : Bool). guarded (λ k. abstractRefuse k [] (abs p)) b 23 (abstractReturn (abs p .back) (abs p))) none-is
       ∙ chosen (noneRunning p) refl
     where
-      chosen : (b : Bool) → noneRunning p ≡ b
-          → guarded (λ k. abstractRefuse k [] (abs p)) b 23 (abstractReturn (abs p .back) (abs p))
-          ≡ absTurn (guarded (λ k. refuseTurn k [] p) b 23 (plainRestore (p .earlier) p))
+      chosen : (b : Bool) → noneRunning p ≡ b → guarded (λ k. abstractRefuse k [] (abs p)) b 23 (abstractReturn
+          (abs p .back) (abs p)) ≡ absTurn (guarded (λ k. refuseTurn k [] p) b 23 (plainRestore (p .earlier) p))
       chosen true e = unfold abs in same-return (p .earlier) e
       chosen false e = unfold absTurn abstractRefuse refuseTurn in refl
 
-  same-numbered :
-      (t : ℕ) (buffer : List ℕ) (first : Seat → Abstract → AbstractTurn) (second : Slot → Plain → PlainTurn)
+  same-numbered : (t : ℕ) (buffer : List ℕ) (first : Seat → Abstract → AbstractTurn) (second : Slot → Plain → PlainTurn)
       → first (seatOf p (p .slots t)) (abs p) ≡ absTurn (second (p .slots t) p)
       → seated t buffer first (abs p) ≡ absTurn (withNumber t buffer second p)
   unfolding seated withNumber abs absTurn abstractRefuse refuseTurn
   same-numbered t buffer first second h = chosen (leb t lastTransaction)
     where
-      chosen :
-          (b : Bool)
-          → cond b (first (seatOf p (p .slots t)) (abs p)) (abstractRefuse 3 buffer (abs p))
-          ≡ absTurn (cond b (second (p .slots t) p) (refuseTurn 3 buffer p))
+      chosen : (b : Bool) → cond b (first (seatOf p (p .slots t)) (abs p)) (abstractRefuse 3 buffer (abs p)) ≡ absTurn
+          (cond b (second (p .slots t) p) (refuseTurn 3 buffer p))
       chosen true = h
       chosen false = refl
 
@@ -452,29 +346,26 @@ module _ (minute : ℕ) where
   abbrev Stands : Abstract → Plain → Type 0
   Stands s p = Good p × (s ≡ abs p)
 
-  committed : (t : ℕ) (s : Abstract) (p : Plain) → Stands s p
-      → (abstractCommitCall t minute s .reply ≡ plainCommitCall t minute p .reply)
-      × Stands (abstractCommitCall t minute s .after) (plainCommitCall t minute p .after)
+  committed : (t : ℕ) (s : Abstract) (p : Plain) → Stands s p → (abstractCommitCall t minute s .reply ≡ plainCommitCall t
+      minute p .reply) × Stands (abstractCommitCall t minute s .after) (plainCommitCall t minute p .after)
   unfolding absTurn
-  committed t s p h =
-      let e : abstractCommitCall t minute s ≡ absTurn (plainCommitCall t minute p) = ap (abstractCommitCall t minute) (h .1)
-      ∙ commit-same t minute p (h .0) in (
+  committed t s p h = let e : abstractCommitCall t minute s ≡ absTurn (plainCommitCall t minute p) =
+      ap (abstractCommitCall t minute) (h .1) ∙ commit-same t minute p (h .0) in (
         ap (λ (τ : AbstractTurn). τ .reply) e,
         ((unfold plainCall in good-call (commit t minute) p (h .0)), ap (λ (τ : AbstractTurn). τ .after) e),
       )
 
   agreed : (p : Plain) → Good p → Agreed (abstractAsked minute (abs p)) (plainAsked minute p)
   unfolding abstractAsked plainAsked abs
-  agreed p g =
-      record {
-        isOpen = λ t e. opened (p .slots t);
-        notReady = λ t e. ap₂ (λ (b : Bool) (ws : List Write). b || hasUnplaced ws) (staled (p .slots t)) (written (p .slots t));
-        hasClosed = λ t e. ap (forClosed (p .fileOf) (p .windows) minute) (written (p .slots t));
-        grants = fun-ext (λ o.
-            grants-same (λ t x. abstractCommitCall t minute x .reply) (λ t x. abstractCommitCall t minute x .after)
-            (λ t q. plainCommitCall t minute q .reply) (λ t q. plainCommitCall t minute q .after) Stands committed o (abs p) p
-            (g, refl));
-      }
+  agreed p g = record {
+    isOpen = λ t e. opened (p .slots t);
+    notReady =
+        λ t e. ap₂ (λ (b : Bool) (ws : List Write). b || hasUnplaced ws) (staled (p .slots t)) (written (p .slots t));
+    hasClosed = λ t e. ap (forClosed (p .fileOf) (p .windows) minute) (written (p .slots t));
+    grants = fun-ext (λ o. grants-same (λ t x. abstractCommitCall t minute x .reply)
+        (λ t x. abstractCommitCall t minute x .after) (λ t q. plainCommitCall t minute q .reply)
+        (λ t q. plainCommitCall t minute q .after) Stands committed o (abs p) p (g, refl));
+  }
     where
       opened : (s : Slot) → isOccupied (seatOf p s) ≡ isRunning s
       opened closed = unfold seatOf isOccupied isRunning in refl
@@ -491,8 +382,7 @@ module _ (minute : ℕ) where
   same-order : (p : Plain) → Good p → (ts : List ℕ) (budget : ℕ)
       → abstractBestOrder ts minute budget (abs p) ≡ absTurn (plainBestOrder ts minute budget p)
   unfolding abstractBestOrder plainBestOrder absTurn
-  same-order p g ts budget =
-      ap (λ (y : Reply). record { reply = y; after = abs p })
+  same-order p g ts budget = ap (λ (y : Reply). record { reply = y; after = abs p })
       (reply-same (abstractAsked minute (abs p)) (plainAsked minute p) (agreed p g) ts budget minute)
 
 -- The store's turn is that of the reference model, for every call.
@@ -512,13 +402,11 @@ same-call (bestOrder ts minute budget) p g = same-order minute p g ts budget
 pub same-after : (cs : List Call) (p : Plain) → Good p → abstractAfter cs (abs p) ≡ abs (plainAfter cs p)
 unfolding abstractAfter absTurn afterAll
 same-after [] p g = refl
-same-after (c ∷ cs) p g =
-    ap (λ (τ : AbstractTurn). abstractAfter cs (τ .after)) (same-call c p g)
+same-after (c ∷ cs) p g = ap (λ (τ : AbstractTurn). abstractAfter cs (τ .after)) (same-call c p g)
     ∙ same-after cs (plainCall c p .after) (good-call c p g)
 
 pub same-replies : (cs : List Call) (p : Plain) → Good p → abstractReplies cs (abs p) ≡ plainReplies cs p
 unfolding abstractReplies absTurn repliesTo
 same-replies [] p g = refl
-same-replies (c ∷ cs) p g =
-    ap (λ (τ : AbstractTurn). τ .reply ∷ abstractReplies cs (τ .after)) (same-call c p g)
+same-replies (c ∷ cs) p g = ap (λ (τ : AbstractTurn). τ .reply ∷ abstractReplies cs (τ .after)) (same-call c p g)
     ∙ ap (λ (rs : List Reply). plainCall c p .reply ∷ rs) (same-replies cs (plainCall c p .after) (good-call c p g))

@@ -1,10 +1,8 @@
 -- The serial order starts where the list of calls does, unless the machine had something to go back to there.
-use mathlib.Core.List.{List, [], _∷_, _++_}
-use mathlib.Core.Path.{_≡_, refl, sym, _∙_}
+use mathlib.Core.{List.{List, [], _∷_, _++_}, Path.{_≡_, refl, sym, _∙_}}
 use Prim.Native.Nat.{ℕ}
 use Rattle.windows.specs.Windows.{freshWindows}
-use Rattle.spec.specs.Sightings.{Committed}
-use Rattle.spec.specs.Messages.{Call}
+use Rattle.spec.specs.{Sightings.Committed, Messages.Call}
 use Rattle.spec.specs.Plain.{Plain, nothing, found, plainWithWindows, plainRestored, PlainTurn, grant, plainCall}
 use Rattle.spec.specs.Grants.{Grant, Serial, butLast, droppedFrom, adding, serialBy, serialFrom, serialOf}
 use Rattle.spec.proofs.Abstract.SerialOrder.{Turned, preserved, grants, undone, turned, nothing-found}
@@ -42,8 +40,7 @@ starts-turn p s τ z (undone c n reply q e) h = dropped (s .start) (s .grants) p
 starts-after : (cs : List Call) (p : Plain) (s : Serial) → Stays (s .grants) p → serialFrom cs p s .start ≡ s .start
 unfolding serialFrom
 starts-after [] p s h = refl
-starts-after (c ∷ cs) p s h =
-    let e = starts-turn p s (plainCall c p) (serialBy c p s) (turned p s c) h in
+starts-after (c ∷ cs) p s h = let e = starts-turn p s (plainCall c p) (serialBy c p s) (turned p s c) h in
     starts-after cs (plainCall c p .after) (serialBy c p s) (e .1) ∙ e .0
 
 pub start-stays : (cs : List Call) (p : Plain) → p .earlier ≡ nothing → serialOf cs p .start ≡ plainWithWindows freshWindows p

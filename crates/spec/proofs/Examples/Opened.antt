@@ -30,33 +30,29 @@ use Rattle.spec.specs.Setup as Setup
 unfoldable pub opened : Type 0
 unfolding FirstRefusal.below FirstRefusal.sum Admission.lengthsBefore Bits.bit Bits.bitsOf Bits.countOf Marks.contains
     Items.same Items.andThen Items.result Items.asked Table.afterSeek Table.afterWrite Table.afterRead Table.settled
-    Table.writePlace Table.finalOffset
-    Transactions.empty Transactions.put Transactions.placedAt Transactions.placeWrite Transactions.settle Transactions.those
-    Transactions.settling Reading.liesOver Reading.byteAt Reading.supplies Reading.orElse Reading.latest Reading.bring
-    Reading.fetch
-    Reading.writeEnd Reading.placedEnd Reading.farthest Reading.ownEnd Reading.lengthFor Reading.lengthSighted Reading.gather
-    Messages.bufferOf Messages.answerWith Messages.refuseTurn Steps.check Steps.orGivenBack Steps.total Steps.written
-    Steps.seekStep Steps.writeStep Steps.pointerStep
-    Steps.settledByRead Steps.readSettled Steps.readStep Steps.step Steps.descriptorOfOp Steps.isReadCall Steps.refusesStale
-    Steps.refusedStale FirstRefusal.unless Admission.windowRefusal FileWindows.minuteIn FileWindows.isOpenAt
-    FileWindows.isClosedAt Windows.isForClosed
-    Windows.forClosed Places.someWrite Places.coversPlace Places.covered Places.noPlace Places.unplacedOn
-    Places.unplaced Places.withPlace Places.intervalsFrom Places.intervalsOf Places.sixteen Places.encoded
-    Places.placesRefusal Places.placesReply Places.placesOf Commits.landsAt Commits.bytesFrom Commits.byteSettings
-    Commits.setsOffset Commits.offsetSettings Commits.landedEnd Commits.lengthSettings Commits.settings Commits.fits
-    Commits.putItem Commits.landed Commits.setBy Commits.commitRefusal Sightings.sameEntry Sightings.sameEntries Sightings.entries
-    Plain.startPlain Plain.ops Plain.firstList Plain.secondList Plain.isStale Plain.withSlot
-    Plain.plainBegin Plain.plainStepped Plain.plainOn Plain.committing Plain.grant Plain.staleSlot
+    Table.writePlace Table.finalOffset Transactions.empty Transactions.put Transactions.placedAt Transactions.placeWrite
+    Transactions.settle Transactions.those Transactions.settling Reading.liesOver Reading.byteAt Reading.supplies
+    Reading.orElse Reading.latest Reading.bring Reading.fetch Reading.writeEnd Reading.placedEnd Reading.farthest
+    Reading.ownEnd Reading.lengthFor Reading.lengthSighted Reading.gather Messages.bufferOf Messages.answerWith
+    Messages.refuseTurn Steps.check Steps.orGivenBack Steps.total Steps.written Steps.seekStep Steps.writeStep
+    Steps.pointerStep Steps.settledByRead Steps.readSettled Steps.readStep Steps.step Steps.descriptorOfOp Steps.isReadCall
+    Steps.refusesStale Steps.refusedStale FirstRefusal.unless Admission.windowRefusal FileWindows.minuteIn
+    FileWindows.isOpenAt FileWindows.isClosedAt Windows.isForClosed Windows.forClosed Places.someWrite Places.coversPlace
+    Places.covered Places.noPlace Places.unplacedOn Places.unplaced Places.withPlace Places.intervalsFrom Places.intervalsOf
+    Places.sixteen Places.encoded Places.placesRefusal Places.placesReply Places.placesOf Commits.landsAt Commits.bytesFrom
+    Commits.byteSettings Commits.setsOffset Commits.offsetSettings Commits.landedEnd Commits.lengthSettings Commits.settings
+    Commits.fits Commits.putItem Commits.landed Commits.setBy Commits.commitRefusal Sightings.sameEntry
+    Sightings.sameEntries Sightings.entries Plain.startPlain Plain.ops Plain.firstList Plain.secondList Plain.isStale
+    Plain.withSlot Plain.plainBegin Plain.plainStepped Plain.plainOn Plain.committing Plain.grant Plain.staleSlot
     Plain.becameStale Plain.plainCommitted Plain.plainCommit Plain.plainAbort Plain.plainPlaces Plain.plainSetWindow
-    Plain.withNumber Plain.plainCall Messages.repliesTo Messages.afterAll Plain.isRunning Plain.noneRunning Plain.plainRestore
-    Plain.plainUndo Lone.stopped Lone.prepend Lone.goOn Lone.lone Grants.grantedBy Grants.againOf Grants.rerun
-    Grants.repliesOf Grants.sameReplies Grants.serialOf Grants.serialFrom Grants.serialBy Grants.adding Grants.droppedFrom
-    Grants.butLast Option.Option·elim Messages.refusalOf Setup.numbers Setup.freshNumbered Setup.onPlain Setup.committedBytes
-    Setup.beginning Setup.seenIn
-    Setup.sightingsOf Setup.formerIn Setup.formerNumbers Setup.threeBegun Setup.callsOf Messages.isGrant Parts.tabulate Parts.cut
-    Parts.pasted OldBytes.oldBytes OldBytes.restored State.begun State.ended Journal.decodedAs Journal.decoded
-    Journal.writeRecordAt
-    Journal.withRecordAt Journal.withRecords Machine.fileOf Machine.values Machine.writeAt Machine.dataStart Machine.txnOf
-    Undo.landingOf Undo.landedRecord Undo.savingUndo Undo.spanOfRecord Undo.landedOn Undo.undone Calls.freshStore
-    Calls.hasSighted Calls.conflicts Calls.madeStale Calls.afterCommit Calls.formerNumber
+    Plain.withNumber Plain.plainCall Messages.repliesTo Messages.afterAll Plain.isRunning Plain.noneRunning
+    Plain.plainRestore Plain.plainUndo Lone.stopped Lone.prepend Lone.goOn Lone.lone Grants.grantedBy Grants.againOf
+    Grants.rerun Grants.repliesOf Grants.sameReplies Grants.serialOf Grants.serialFrom Grants.serialBy Grants.adding
+    Grants.droppedFrom Grants.butLast Option.Option·elim Messages.refusalOf Setup.numbers Setup.freshNumbered Setup.onPlain
+    Setup.committedBytes Setup.beginning Setup.seenIn Setup.sightingsOf Setup.formerIn Setup.formerNumbers Setup.threeBegun
+    Setup.callsOf Messages.isGrant Parts.tabulate Parts.cut Parts.pasted OldBytes.oldBytes OldBytes.restored State.begun
+    State.ended Journal.decodedAs Journal.decoded Journal.writeRecordAt Journal.withRecordAt Journal.withRecords
+    Machine.fileOf Machine.values Machine.writeAt Machine.dataStart Machine.txnOf Undo.landingOf Undo.landedRecord
+    Undo.savingUndo Undo.spanOfRecord Undo.landedOn Undo.undone Calls.freshStore Calls.hasSighted Calls.conflicts
+    Calls.madeStale Calls.afterCommit Calls.formerNumber
 opened = Unit {0}

@@ -1,43 +1,26 @@
 -- An accepted step on a store in range: what the state and the buffers mean after it, and that they stay in range.
-use mathlib.Core.Bool.{Bool, true, false, cond, _&&_}
-use mathlib.Core.List.{List}
-use mathlib.Core.Logic.{⊎-elim}
-use mathlib.Core.Path.{_≡_, refl, sym, ap, ap₂, _∙_, fun-ext}
+use mathlib.Core.{Bool.{Bool, true, false, cond, _&&_}, List.List, Logic.⊎-elim, Path.{_≡_, refl, sym, ap, ap₂, _∙_, fun-ext}}
 use borrow.Author.Tests.{leb-true, le-leb, eq-eqb, ne-eqb}
-use lib.Dec.{leb, eqb}
-use lib.ListN.{length, getD, List·getD-eq-default}
+use lib.{Dec.{leb, eqb}, ListN.{length, getD, List·getD-eq-default}, Seq.getD-set-other}
 use native.Mathlib.Omega.{arith}
 use Prim.Native.Nat.{ℕ, _*_, _≤_, _<_}
 use Rattle.limits.specs.Limits.{fileCount, lastFile, fileBytes, descriptorCount, transactionCount, lastTransaction, logBytes}
-use Rattle.buffers.specs.Marks.{contains}
-use Rattle.buffers.proofs.PartLaws.{le-or-lt}
-use Rattle.state.specs.declared.Transaction.{Transaction}
-use Rattle.state.specs.declared.StoreMeaning.{StoreMeaning}
-use lib.Seq.{getD-set-other}
-use Rattle.state.specs.StoreMeaning.{transaction, noTransaction, windowAt}
-use Rattle.state.specs.Outcomes.{Said}
+use Rattle.buffers.{specs.Marks.contains, proofs.PartLaws.le-or-lt}
+use Rattle.state.specs.declared.{Transaction.Transaction, StoreMeaning.StoreMeaning}
+use Rattle.state.specs.{StoreMeaning.{transaction, noTransaction, windowAt, withTransaction}, Outcomes.Said}
 use Rattle.admission.proofs.Laws.{and-left, and-right, InRange, in-range}
-use Rattle.spec.specs.Items.{Item, byte, offset, fileLength, Values, result, asked}
-use Rattle.spec.specs.Transactions.{Txn, put}
-use Rattle.spec.specs.Messages.{Op}
+use Rattle.spec.specs.{Items.{Item, byte, offset, fileLength, Values, result, asked}, Transactions.{Txn, put}, Messages.Op}
 use Rattle.spec.specs.Steps.{accept, step}
 use Rattle.spec.specs.Machine.{Machine, withStore, withJournal, withLogs, withMarking, fileOf, values, txnOf, withTxn}
-use Rattle.spec.specs.Machine.{journalled}
-use Rattle.spec.specs.Machine.{holding, sightingLengths}
-use Rattle.state.specs.StoreMeaning.{withTransaction}
-use Rattle.spec.specs.Calls.{marked, logged}
+use Rattle.spec.specs.{Machine.{journalled, holding, sightingLengths}, Calls.{marked, logged}}
 use Rattle.spec.proofs.Abstract.AbstractStore.{OpenTxn, vacant, occupied, markAll, lengthAll, withSeat}
-use Rattle.spec.proofs.Refinement.Relation.{openTxnIn, seat, view, Sound, TxnIn}
-use Rattle.spec.proofs.Refinement.IndexedLists.{same-or-not}
+use Rattle.spec.proofs.Refinement.{Relation.{openTxnIn, seat, view, Sound, TxnIn}, IndexedLists.same-or-not}
 use Rattle.spec.proofs.Refinement.Marks.{ItemsIn, length-marked, marked-own, marked-other, lengths-own}
-use Rattle.spec.proofs.Refinement.ItemsAsked.{asked-in}
-use Rattle.spec.proofs.Refinement.StepPreserves.{pieces, piecesAfter, Preserved, step-preserved}
+use Rattle.spec.proofs.Refinement.{ItemsAsked.asked-in, StepPreserves.{pieces, piecesAfter, Preserved, step-preserved}}
 use Rattle.spec.proofs.Refinement.Decode.{dataBefore, Carries, total-pieces, decoded-total, decoded-carries, decoded-in}
-use Rattle.spec.proofs.Refinement.Others.{LogsApart, txn-same}
-use Rattle.spec.proofs.Refinement.UndoValues.{back-same}
+use Rattle.spec.proofs.Refinement.{Others.{LogsApart, txn-same}, UndoValues.back-same}
 use Rattle.spec.proofs.Refinement.Encode.{own-transaction, encoded, other-same, grant-same, encoded-in, encoded-shaped}
-use Rattle.spec.proofs.Refinement.Encode.{encoded-long}
-use Rattle.spec.proofs.Refinement.Logged.{logged-carries, logged-apart}
+use Rattle.spec.proofs.Refinement.{Encode.encoded-long, Logged.{logged-carries, logged-apart}}
 
 -- "files at most 7", of every number.
 file-in : (s : StoreMeaning) (journal : List ℕ) → length (s .filenumbers) ≡ descriptorCount → InRange s journal → (d : ℕ)
@@ -68,20 +51,16 @@ sightings m t o = asked (values (m .store) (m .files)) (step (fileOf (m .store))
 
 -- The store after a step that is accepted and leaves y, and transaction t then.
 unfoldable pub machineAfter : Machine → ℕ → Op → Txn → Machine
-machineAfter m t o y =
-    withStore (withTxn t y (sightings m t o) (m .store))
-    (withJournal (journalled t (y .writes) (m .journal))
-    (withLogs (logged t o (m .store) (m .logs))
-    (withMarking (marked t (sightings m t o) (m .marks)) m)))
+machineAfter m t o y = withStore (withTxn t y (sightings m t o) (m .store)) (withJournal (journalled t (y .writes)
+    (m .journal)) (withLogs (logged t o (m .store) (m .logs)) (withMarking (marked t (sightings m t o) (m .marks)) m)))
 
 unfoldable pub logged-after : Machine → ℕ → Op → Txn → OpenTxn
-logged-after m t o y =
-    record {
-      txn = y;
-      marked = markAll (sightings m t o) (openTxnIn m t .marked);
-      lengths = lengthAll (sightings m t o) (openTxnIn m t .lengths);
-      stale = transaction (m .store) t .stale;
-    }
+logged-after m t o y = record {
+  txn = y;
+  marked = markAll (sightings m t o) (openTxnIn m t .marked);
+  lengths = lengthAll (sightings m t o) (openTxnIn m t .lengths);
+  stale = transaction (m .store) t .stale;
+}
 
 module _ (m : Machine) (t : ℕ) (o : Op) (sound : Sound m) (small : t < transactionCount)
     (begun : transaction (m .store) t .begun ≡ true) where
@@ -123,8 +102,7 @@ module _ (m : Machine) (t : ℕ) (o : Op) (sound : Sound m) (small : t < transac
     data-in = rw (← preserved .same, ← total-pieces (y .writes)) (preserved .ranges .bytes)
 
     carries : Carries (logged t o (m .store) (m .logs)) (logBytes * t) (pieces (y .writes))
-    carries =
-        rw (preserved .same)
+    carries = rw (preserved .same)
         (logged-carries (m .store) t (m .logs) (pieces (x .writes)) small (sound .logs) data-used o data-in
         (decoded-carries (m .store) (m .journal) (m .logs) t (sound .logs) small (range .transactions t small begun)))
 
@@ -132,64 +110,49 @@ module _ (m : Machine) (t : ℕ) (o : Op) (sound : Sound m) (small : t < transac
     apart = logged-apart (m .store) t (m .logs) (pieces (x .writes)) small (sound .logs) data-used o data-in
 
     pub sound-after : Sound after
-    unfolding machineAfter
-    sound-after =
-        record {
-          shaped = encoded-shaped (m .store) (m .journal) t y (sightings m t o) (sound .shaped) (sound .journal) small
-              (preserved .ranges);
-          journal = encoded-long (m .store) (m .journal) t y (sightings m t o) (sound .shaped) (sound .journal) small
-              (preserved .ranges);
-          files = sound .files;
-          logs = apart .size ∙ sound .logs;
-          marks = length-marked t (sightings m t o) (m .marks) ∙ sound .marks;
-          undo = sound .undo;
-          inRange = encoded-in (m .store) (m .journal) t y (sightings m t o) (sound .shaped) (sound .journal) small
-              (preserved .ranges) (sound .inRange);
-        }
+    sound-after = unfold machineAfter in record {
+      shaped = encoded-shaped (m .store) (m .journal) t y (sightings m t o) (sound .shaped) (sound .journal) small
+          (preserved .ranges);
+      journal = encoded-long (m .store) (m .journal) t y (sightings m t o) (sound .shaped) (sound .journal) small
+          (preserved .ranges);
+      files = sound .files;
+      logs = apart .size ∙ sound .logs;
+      marks = length-marked t (sightings m t o) (m .marks) ∙ sound .marks;
+      undo = sound .undo;
+      inRange = encoded-in (m .store) (m .journal) t y (sightings m t o) (sound .shaped) (sound .journal) small
+          (preserved .ranges) (sound .inRange);
+    }
 
     own-open : openTxnIn after t ≡ new
     unfolding machineAfter logged-after openTxnIn holding sightingLengths
-    own-open =
-        let h = own-transaction (m .store) (m .journal) t y (sightings m t o) (sound .shaped) (sound .journal) small
-        (preserved .ranges) in
-        λ i.
-        record {
-          txn = encoded (m .store) (m .journal) t y (sightings m t o) (sound .shaped) (sound .journal) small (preserved .ranges)
-              (logged t o (m .store) (m .logs)) carries i;
+    own-open = let h = own-transaction (m .store) (m .journal) t y (sightings m t o) (sound .shaped) (sound .journal) small
+        (preserved .ranges) in λ i. record {
+          txn = encoded (m .store) (m .journal) t y (sightings m t o) (sound .shaped) (sound .journal) small
+              (preserved .ranges) (logged t o (m .store) (m .logs)) carries i;
           marked = marked-own t (sightings m t o) (m .marks) small (sound .marks) sightings-in i;
-          lengths =
-              (ap (λ (z : Transaction). contains (z .lengthmarks)) h
+          lengths = (ap (λ (z : Transaction). contains (z .lengthmarks)) h
               ∙ lengths-own (sightings m t o) (transaction (m .store) t .lengthmarks)) i;
           stale = h i .stale;
         }
 
     own-seat : seat after t ≡ occupied new
     unfolding seat machineAfter holding sightingLengths
-    own-seat =
-        let h = own-transaction (m .store) (m .journal) t y (sightings m t o) (sound .shaped) (sound .journal) small
+    own-seat = let h = own-transaction (m .store) (m .journal) t y (sightings m t o) (sound .shaped) (sound .journal) small
         (preserved .ranges) in
-        ap (λ (c : Bool). cond c (occupied (openTxnIn after t)) vacant)
-        (ap₂ (λ (p q : Bool). p && q) (le-leb t lastTransaction (omega arith)) (ap (λ (z : Transaction). z .begun) h ∙ begun))
-        ∙ ap occupied own-open
+        ap (λ (c : Bool). cond c (occupied (openTxnIn after t)) vacant) (ap₂ (λ (p q : Bool). p && q)
+        (le-leb t lastTransaction (omega arith)) (ap (λ (z : Transaction). z .begun) h ∙ begun)) ∙ ap occupied own-open
 
     other-seat : (u : ℕ) → (u ≡ t → ⊥) → seat after u ≡ seat m u
-    unfolding seat machineAfter openTxnIn withTxn withTransaction
-    other-seat u other =
+    other-seat u other = unfold seat machineAfter openTxnIn withTxn withTransaction in
         ap (λ (z : Transaction). cond (leb u lastTransaction && z .begun) (occupied (openTxnIn after u)) vacant)
-        (getD-set-other (m .store .transactions) t u (holding y (sightingLengths (sightings m t o) (transaction (m .store) t)))
-        noTransaction other)
-        ∙ seat-same (leb u lastTransaction && transaction (m .store) u .begun) (openTxnIn after u) (openTxnIn m u)
-        (λ q.
-        let l = leb-true u lastTransaction (and-left (leb u lastTransaction) (transaction (m .store) u .begun) q) in
-        let same = other-same (m .store) (m .journal) t y (sightings m t o) (sound .shaped) (sound .journal) small
-        (preserved .ranges) u (omega arith) other in
-        let r = range .transactions u (omega arith) (and-right (leb u lastTransaction) (transaction (m .store) u .begun) q) in
-        λ i.
-        record {
-          txn =
-              txn-same (withTxn t y (sightings m t o) (m .store)) (journalled t (y .writes) (m .journal)) (m .store) (m .journal)
-              u same t
-              (logged t o (m .store) (m .logs)) (m .logs) apart (sound .logs) other (omega arith) r i;
+        (getD-set-other (m .store .transactions) t u (holding y (sightingLengths (sightings m t o) (transaction (m .store)
+        t))) noTransaction other) ∙ seat-same (leb u lastTransaction && transaction (m .store) u .begun) (openTxnIn after u)
+        (openTxnIn m u) (λ q. let l = leb-true u lastTransaction (and-left (leb u lastTransaction)
+        (transaction (m .store) u .begun) q) in let same = other-same (m .store) (m .journal) t y (sightings m t o)
+        (sound .shaped) (sound .journal) small (preserved .ranges) u (omega arith) other in let r = range .transactions u
+        (omega arith) (and-right (leb u lastTransaction) (transaction (m .store) u .begun) q) in λ i. record {
+          txn = txn-same (withTxn t y (sightings m t o) (m .store)) (journalled t (y .writes) (m .journal)) (m .store)
+              (m .journal) u same t (logged t o (m .store) (m .logs)) (m .logs) apart (sound .logs) other (omega arith) r i;
           marked = λ p. marked-other t u (sightings m t o) (m .marks) small (sound .marks) sightings-in other p i;
           lengths = contains (same .transaction i .lengthmarks);
           stale = same .transaction i .stale;
@@ -213,12 +176,8 @@ module _ (m : Machine) (t : ℕ) (o : Op) (sound : Sound m) (small : t < transac
 
     pub view-after : view after ≡ withSeat t (occupied new) (view m)
     unfolding view withSeat machineAfter fileOf withTxn withTransaction
-    view-after =
-        let b = back-same m after
-        (grant-same (m .store) (m .journal) t y (sightings m t o) (sound .shaped) (sound .journal) small (preserved .ranges)
-        range) refl refl refl refl in
-        λ i.
-        record {
+    view-after = let b = back-same m after (grant-same (m .store) (m .journal) t y (sightings m t o) (sound .shaped)
+        (sound .journal) small (preserved .ranges) range) refl refl refl refl in λ i. record {
           fileOf = fileOf (m .store);
           value = fun-ext values-after i;
           windows = windowAt (m .store);

@@ -1,19 +1,13 @@
 -- Who has sighted what a commit sets: the flags and the octet of a granted Commit.
-use mathlib.Core.Bool.{Bool, true, false, cond, not, _&&_, _||_}
-use mathlib.Core.List.{List, [], _∷_}
-use mathlib.Core.Path.{_≡_, refl, ap₂}
+use mathlib.Core.{Bool.{Bool, true, false, cond, not, _&&_, _||_}, List.{List, [], _∷_}, Path.{_≡_, refl, ap₂}}
 use lib.Dec.{eqb}
 use Prim.Native.Nat.{ℕ, _<_}
 use native.Mathlib.Omega.{arith}
 use borrow.Author.Tests.{le-leb}
 use Rattle.limits.specs.Limits.{transactionCount, lastTransaction}
 use Rattle.state.specs.StoreMeaning.{transaction}
-use Rattle.buffers.specs.Bits.{bitsOf}
-use Rattle.buffers.proofs.SetLaws.{bits-same}
-use Rattle.spec.specs.Items.{Item, byte, offset, fileLength}
-use Rattle.spec.specs.Transactions.{put}
-use Rattle.spec.specs.Commits.{Setting}
-use Rattle.spec.specs.Machine.{Machine, txnOf}
+use Rattle.buffers.{specs.Bits.bitsOf, proofs.SetLaws.bits-same}
+use Rattle.spec.specs.{Items.{Item, byte, offset, fileLength}, Transactions.put, Commits.Setting, Machine.{Machine, txnOf}}
 use Rattle.spec.specs.Calls.{hasSighted, conflicts, madeStale}
 use Rattle.spec.proofs.Abstract.AbstractStore.{vacant, occupied, abstractSighted, hit, newlyStale}
 use Rattle.spec.proofs.Refinement.Relation.{openTxnIn, seat}
@@ -49,8 +43,7 @@ module _ (m : Machine) (t : ℕ) (ss : List Setting) where
   pub stale-after : (u : ℕ) → eqb u t ≡ false → let x = transaction (m .store) u in
       x .stale || madeStale t ss m u ≡ x .stale || (x .begun && conflicts (m .marks) u x ss)
   unfolding madeStale
-  stale-after u e =
-      let x = transaction (m .store) u in rw e (pick (x .stale) (x .begun))
+  stale-after u e = let x = transaction (m .store) u in rw e (pick (x .stale) (x .begun))
     where
       pick : (z b : Bool) → let c = conflicts (m .marks) u (transaction (m .store) u) ss in z || (b && not z && c) ≡ z || (b && c)
       pick true b = refl

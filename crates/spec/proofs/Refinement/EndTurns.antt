@@ -1,7 +1,5 @@
 -- Begin, Commit and Abort on states and buffers are those of the abstract store, and keep the store sound.
-use mathlib.Core.Bool.{Bool, true, false, cond, not, _&&_}
-use mathlib.Core.List.{List, []}
-use mathlib.Core.Path.{_≡_, refl, sym, subst}
+use mathlib.Core.{Bool.{Bool, true, false, cond, not, _&&_}, List.{List, []}, Path.{_≡_, refl, sym, subst}}
 use lib.Dec.{leb}
 use Prim.Native.Nat.{ℕ, _<_}
 use native.Mathlib.Omega.{arith}
@@ -9,25 +7,16 @@ use borrow.Author.Tests.{leb-true}
 use Rattle.limits.specs.Limits.{transactionCount, lastTransaction}
 use Rattle.windows.specs.Windows.{minuteIn}
 use Rattle.state.specs.StoreMeaning.{transaction, windowAt, ended, begun}
-use Rattle.admission.specs.Admission.{admissionOfBegin}
-use Rattle.admission.specs.FirstRefusal.{unless}
-use Rattle.admission.proofs.Laws.{in-range}
-use Rattle.spec.specs.Commits.{fits, commitRefusal}
-use Rattle.spec.specs.Windows.{forClosed}
-use Rattle.spec.specs.Messages.{begin, commit, abort, places}
+use Rattle.admission.{specs.{Admission.admissionOfBegin, FirstRefusal.unless}, proofs.Laws.in-range}
+use Rattle.spec.specs.{Commits.{fits, commitRefusal}, Windows.forClosed, Messages.{begin, commit, abort, places}}
 use Rattle.spec.specs.Machine.{Machine, fileOf, values, txnOf}
 use Rattle.spec.specs.Calls.{answerWith, refuseTurn, passing, beginTurn, abortTurn, commitDecided, settingsOf, commitTurn}
 use Rattle.spec.specs.Calls.{call, placesTurn}
 use Rattle.spec.proofs.Abstract.AbstractStore.{vacant, occupied, abstractRefuse, abstractAnswer, abstractBegin}
-use Rattle.spec.proofs.Abstract.AbstractStore.{abstractCommitted}
-use Rattle.spec.proofs.Abstract.AbstractStore.{abstractCommit}
-use Rattle.spec.proofs.Abstract.AbstractStore.{abstractAbort, seated, abstractCall, abstractPlaces}
-use Rattle.spec.proofs.Refinement.Relation.{openTxnIn, seat, view, Sound}
-use Rattle.spec.proofs.Refinement.Decode.{decoded-in}
-use Rattle.spec.proofs.Refinement.Admissions.{TurnsAgree, shared-is, admitted-agrees}
-use Rattle.spec.proofs.Refinement.OtherCommitted.{ended-bare, begun-bare}
-use Rattle.spec.proofs.Refinement.Resets.{reset-sound, reset-view}
-use Rattle.spec.proofs.Refinement.Relation.{TxnIn}
+use Rattle.spec.proofs.Abstract.AbstractStore.{abstractCommitted, abstractCommit, abstractAbort, seated, abstractCall}
+use Rattle.spec.proofs.{Abstract.AbstractStore.abstractPlaces, Refinement.Relation.{openTxnIn, seat, view, Sound, TxnIn}}
+use Rattle.spec.proofs.Refinement.{Decode.decoded-in, Admissions.{TurnsAgree, shared-is, admitted-agrees}}
+use Rattle.spec.proofs.Refinement.{OtherCommitted.{ended-bare, begun-bare}, Resets.{reset-sound, reset-view}}
 use Rattle.spec.proofs.Refinement.Grants.{granted-sound, granted-view, granted-reply}
 
 module _ (m : Machine) (t : ℕ) (sound : Sound m) where
@@ -37,14 +26,12 @@ module _ (m : Machine) (t : ℕ) (sound : Sound m) where
   unfolding unless passing refuseTurn abstractRefuse abstractBegin beginTurn answerWith abstractAnswer begun ended
   begins false c e = (refl, refl, sound)
   begins true true e = (refl, refl, sound)
-  begins true false e =
-      let l = leb-true t lastTransaction e in
+  begins true false e = let l = leb-true t lastTransaction e in
       (refl, reset-view t begun m (omega arith) begun-bare sound, reset-sound t begun m (omega arith) begun-bare sound)
 
   pub begin-turn : TurnsAgree (call (begin t) m) (abstractCall (begin t) (view m))
   unfolding call abstractCall seated view seat admissionOfBegin
-  begin-turn =
-      subst (λ (n : ℕ). TurnsAgree (passing n [] m (beginTurn t m)) (abstractCall (begin t) (view m)))
+  begin-turn = subst (λ (n : ℕ). TurnsAgree (passing n [] m (beginTurn t m)) (abstractCall (begin t) (view m)))
       (sym (shared-is m t sound (unless (not (transaction (m .store) t .begun)) 5 0)))
       (begins (leb t lastTransaction) (transaction (m .store) t .begun) refl)
 
@@ -73,23 +60,18 @@ module _ (m : Machine) (t : ℕ) (sound : Sound m) where
   decides l h true true shut q e = (refl, reset-view t ended m l ended-bare sound, reset-sound t ended m l ended-bare sound)
   decides l h true false true q e = (refl, refl, sound)
   decides l h true false false false e = (refl, refl, sound)
-  decides l h true false false true e =
-      let x = txnOf (m .store) (m .journal) (m .logs) t in
+  decides l h true false false true e = let x = txnOf (m .store) (m .journal) (m .logs) t in
       (granted-reply m t x l sound h e, granted-view m t x l sound h e, granted-sound m t x l sound h e)
 
   commit-next : (minute : ℕ) → t < transactionCount → transaction (m .store) t .begun ≡ true
       → TurnsAgree (commitTurn t minute m) (abstractCommit t minute (occupied (openTxnIn m t)) (view m))
   unfolding commitTurn abstractCommit openTxnIn view fileOf
-  commit-next minute l b =
-      let r = in-range (m .store) (m .journal) (sound .inRange) in
-      let v = values (m .store) (m .files) in
-      let x = txnOf (m .store) (m .journal) (m .logs) t in
+  commit-next minute l b = let r = in-range (m .store) (m .journal) (sound .inRange) in
+      let v = values (m .store) (m .files) in let x = txnOf (m .store) (m .journal) (m .logs) t in
       decides l (decoded-in (m .store) (m .journal) (m .logs) t (sound .logs) l (r .transactions t l b)
-      (sound .shaped .descriptors t l))
-      (minuteIn minute) (transaction (m .store) t .stale) (forClosed (fileOf (m .store)) (windowAt (m .store)) minute (x .writes))
-      (fits v x) refl
+      (sound .shaped .descriptors t l)) (minuteIn minute) (transaction (m .store) t .stale)
+      (forClosed (fileOf (m .store)) (windowAt (m .store)) minute (x .writes)) (fits v x) refl
 
   pub commit-turns-agree : (minute : ℕ) → TurnsAgree (call (commit t minute) m) (abstractCall (commit t minute) (view m))
-  unfolding call abstractCall abstractCommit
-  commit-turns-agree minute = admitted-agrees m t sound [] (commitTurn t minute m) (abstractCommit t minute) refl
-      (commit-next minute)
+  commit-turns-agree minute = unfold call abstractCall abstractCommit in
+      admitted-agrees m t sound [] (commitTurn t minute m) (abstractCommit t minute) refl (commit-next minute)

@@ -1,17 +1,11 @@
 -- Laws of lists that are made by index, and of sums over an index.
-use mathlib.Core.Bool.{Bool, true, false}
-use mathlib.Core.List.{List, [], _∷_, _++_, map, map-append}
-use mathlib.Core.Logic.{_⊎_, inl, inr, ⊎-elim}
+use mathlib.Core.{Bool.{Bool, true, false}, List.{List, [], _∷_, _++_, map, map-append}, Logic.{_⊎_, inl, inr, ⊎-elim}}
 use mathlib.Core.Path.{_≡_, refl, ap, _∙_}
 use borrow.Author.Tests.{eqb-true, eqb-false}
-use lib.Dec.{eqb}
-use lib.ListN.{length, getD, set}
-use lib.Seq.{ext-getD}
-use native.Mathlib.Nat.{eq-or-lt-of-le, le-of-suc-le-suc, not-suc-le-zero}
-use native.Mathlib.Omega.{arith}
+use lib.{Dec.eqb, ListN.{length, getD, set}, Seq.ext-getD}
+use native.Mathlib.{Nat.{eq-or-lt-of-le, le-of-suc-le-suc, not-suc-le-zero}, Omega.arith}
 use Prim.Native.Nat.{ℕ, zero, suc, _+_, _≤_, _<_}
-use Rattle.buffers.specs.Parts.{tabulate}
-use Rattle.buffers.proofs.TableLaws.{length-tabulate, getD-tabulate, table-same, table-set}
+use Rattle.buffers.{specs.Parts.tabulate, proofs.TableLaws.{length-tabulate, getD-tabulate, table-same, table-set}}
 use Rattle.admission.specs.FirstRefusal.{sum}
 
 -- Two numbers are the same or not.
@@ -28,8 +22,7 @@ module _ {A : Type 0} where
 
   -- Every list is the table of its elements.
   pub tabulate-getD : (l : List A) (z : A) → tabulate (λ k. getD l k z) (length l) ≡ l
-  tabulate-getD l z =
-      ext-getD z (tabulate (λ k. getD l k z) (length l)) l (length-tabulate (λ k. getD l k z) (length l))
+  tabulate-getD l z = ext-getD z (tabulate (λ k. getD l k z) (length l)) l (length-tabulate (λ k. getD l k z) (length l))
       (λ k h. getD-tabulate (λ i. getD l i z) (length l) k z (rw length-tabulate at h))
 
   -- A table that differs from another at one number.

@@ -1,20 +1,12 @@
 -- The marks after sightings: transaction t's at the bytes sighted, and no other's.
-use mathlib.Core.Bool.{Bool, true, false, cond, _||_}
-use mathlib.Core.List.{List, [], _∷_}
-use mathlib.Core.Path.{_≡_, refl, ap, _∙_, fun-ext}
+use mathlib.Core.{Bool.{Bool, true, false, cond, _||_}, List.{List, [], _∷_}, Path.{_≡_, refl, ap, _∙_, fun-ext}}
 use borrow.Author.Tests.{eq-eqb, ne-eqb}
-use lib.Dec.{eqb}
-use lib.ListN.{length}
+use lib.{Dec.eqb, ListN.length}
 use Prim.Native.Nat.{ℕ, _<_}
 use Rattle.limits.specs.Limits.{fileCount, bufferBytes, descriptorCount, transactionCount}
-use Rattle.buffers.specs.Bits.{withBit}
-use Rattle.buffers.specs.Marks.{hasMark, withMark, contains}
-use Rattle.buffers.proofs.SetLaws.{contains-with}
+use Rattle.buffers.{specs.{Bits.withBit, Marks.{hasMark, withMark, contains}}, proofs.SetLaws.contains-with}
 use Rattle.buffers.proofs.MarkLaws.{length-with-mark, has-with-mark}
-use Rattle.spec.specs.Items.{Item, byte, offset, fileLength}
-use Rattle.spec.specs.Transactions.{put}
-use Rattle.spec.specs.Machine.{lengthmarked}
-use Rattle.spec.specs.Calls.{marked}
+use Rattle.spec.specs.{Items.{Item, byte, offset, fileLength}, Transactions.put, Machine.lengthmarked, Calls.marked}
 use Rattle.spec.proofs.Abstract.AbstractStore.{markAll, lengthAll}
 
 -- An item that a store has: one of its 32,768 bytes, of its 16 offsets, or of the lengths of its 8 files.
@@ -53,28 +45,24 @@ pub marked-own : (t : ℕ) (is : List Item) (marks : List ℕ) → t < transacti
     → hasMark (marked t is marks) t ≡ markAll is (hasMark marks t)
 unfolding marked markAll
 marked-own t [] marks small l h = refl
-marked-own t (byte q ∷ is) marks small l h =
-    marked-own t is (withMark t q marks) small (length-with-mark t q marks ∙ l) (h .1)
-    ∙ ap (markAll is) (fun-ext (own-mark t q marks small (h .0) l))
+marked-own t (byte q ∷ is) marks small l h = marked-own t is (withMark t q marks) small (length-with-mark t q marks ∙ l)
+    (h .1) ∙ ap (markAll is) (fun-ext (own-mark t q marks small (h .0) l))
 marked-own t (offset d ∷ is) marks small l h = marked-own t is marks small l (h .1)
 marked-own t (fileLength f ∷ is) marks small l h = marked-own t is marks small l (h .1)
 
 -- Those of another transaction.
-pub marked-other : (t u : ℕ) (is : List Item) (marks : List ℕ) → t < transactionCount → length marks ≡ bufferBytes → ItemsIn is
-    → (u ≡ t → ⊥)
-    → (p : ℕ) → hasMark (marked t is marks) u p ≡ hasMark marks u p
+pub marked-other : (t u : ℕ) (is : List Item) (marks : List ℕ) → t < transactionCount → length marks ≡ bufferBytes
+    → ItemsIn is → (u ≡ t → ⊥) → (p : ℕ) → hasMark (marked t is marks) u p ≡ hasMark marks u p
 unfolding marked
 marked-other t u [] marks small l h ne p = refl
-marked-other t u (byte q ∷ is) marks small l h ne p =
-    marked-other t u is (withMark t q marks) small (length-with-mark t q marks ∙ l) (h .1) ne p
-    ∙ other-mark t q marks small (h .0) l u ne p
+marked-other t u (byte q ∷ is) marks small l h ne p = marked-other t u is (withMark t q marks) small
+    (length-with-mark t q marks ∙ l) (h .1) ne p ∙ other-mark t q marks small (h .0) l u ne p
 marked-other t u (offset d ∷ is) marks small l h ne p = marked-other t u is marks small l (h .1) ne p
 marked-other t u (fileLength f ∷ is) marks small l h ne p = marked-other t u is marks small l (h .1) ne p
 
 -- The lengths that it has sighted after sightings.
 own-length : (f n g : ℕ) → contains (withBit f n) g ≡ put f true (contains n) g
-unfolding put
-own-length f n g = contains-with f n g
+own-length f n g = unfold put in contains-with f n g
 
 pub lengths-own : (is : List Item) (n : ℕ) → contains (lengthmarked is n) ≡ lengthAll is (contains n)
 unfolding lengthmarked lengthAll

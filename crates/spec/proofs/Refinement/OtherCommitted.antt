@@ -1,28 +1,18 @@
 -- A state with other committed offsets and lengths and other transactions: when its ranges hold, and which transactions mean the
 -- same in it.
-use mathlib.Core.Bool.{true, false, _&&_}
-use mathlib.Core.List.{List}
-use mathlib.Core.Logic.{_⊎_, inl, inr}
-use mathlib.Core.Path.{_≡_, refl, sym, ap, _∙_, fun-ext}
-use lib.ListN.{length, getD, replicate, length-replicate}
+use mathlib.Core.{Bool.{true, false, _&&_}, List.List, Logic.{_⊎_, inl, inr}, Path.{_≡_, refl, sym, ap, _∙_, fun-ext}}
+use lib.{ListN.{length, getD, replicate, length-replicate}, Dec.leb}
 use Prim.Native.Nat.{ℕ, zero, suc, _≤_, _<_}
 use native.Mathlib.Omega.{arith}
-use lib.Dec.{leb}
 use Rattle.limits.specs.Limits.{fileCount, fileBytes, descriptorCount, lastDescriptor, transactionCount}
-use Rattle.standings.specs.declared.Standing.{Standing}
-use Rattle.state.specs.declared.Descriptor.{Descriptor}
-use Rattle.standings.specs.declared.Standing.the-variants.{Untouched}
-use Rattle.state.specs.declared.Transaction.{Transaction}
-use Rattle.state.specs.declared.StoreMeaning.{StoreMeaning}
+use Rattle.standings.specs.declared.{Standing.{Standing, the-variants.Untouched}}
+use Rattle.state.specs.declared.{Descriptor.Descriptor, Transaction.Transaction, StoreMeaning.StoreMeaning}
 use Rattle.state.specs.declared.journal.WriteRecord.{WriteRecord}
 use Rattle.state.specs.StoreMeaning.{transaction, standingAt, dirtyAt, noDescriptor, noTransaction, ended, begun, withOffsets}
-use Rattle.state.specs.StoreMeaning.{withLengths, withTransactions}
-use Rattle.state.specs.Journal.{writeRecordAt}
-use Rattle.admission.specs.FirstRefusal.{sum}
-use Rattle.admission.specs.Admission.{standingIn, placeIn, recordIn, lengthsBefore}
+use Rattle.state.specs.{StoreMeaning.{withLengths, withTransactions}, Journal.writeRecordAt}
+use Rattle.admission.specs.{FirstRefusal.sum, Admission.{standingIn, placeIn, recordIn, lengthsBefore}}
 use Rattle.admission.proofs.Laws.{TransactionInRange, InRange}
-use Rattle.spec.specs.Machine.{txnOf, writeAt, dataStart, values}
-use Rattle.spec.specs.Items.{Item, byte, offset, fileLength}
+use Rattle.spec.specs.{Machine.{txnOf, writeAt, dataStart, values}, Items.{Item, byte, offset, fileLength}}
 use Rattle.spec.proofs.Refinement.Relation.{Shaped}
 
 -- The state with other committed offsets and lengths and other transactions.
@@ -44,12 +34,10 @@ pub record Bare (y : Transaction) : Type 0 where
   pub descriptors : y .descriptors ≡ replicate descriptorCount noDescriptor
 
 pub ended-bare : Bare ended
-unfolding ended
-ended-bare = record { lengthmarks = refl; records = refl; bytes = refl; descriptors = refl }
+ended-bare = unfold ended in record { lengthmarks = refl; records = refl; bytes = refl; descriptors = refl }
 
 pub begun-bare : Bare begun
-unfolding begun ended
-begun-bare = record { lengthmarks = refl; records = refl; bytes = refl; descriptors = refl }
+begun-bare = unfold begun ended in record { lengthmarks = refl; records = refl; bytes = refl; descriptors = refl }
 
 untouched : (n d : ℕ) → getD (replicate n noDescriptor) d noDescriptor .standing ≡ Untouched
 untouched zero d = refl
@@ -78,42 +66,36 @@ module _ (x y : Transaction) (a : AlikeElsewhere x y) where
       (alike-standing (w .descriptor))
 
   alike-range : (journal : List ℕ) (u : ℕ) → TransactionInRange x journal u → TransactionInRange y journal u
-  alike-range journal u r =
-      record {
-        standings = λ d l. ap standingIn (alike-standing d) ∙ r .standings d l;
-        records = rw (a .used) (r .records);
-        bytes = rw (a .used) (r .bytes);
-        total = rw (a .used) (r .total);
-        writes = λ k l. alike-record (writeRecordAt journal u k) ∙ r .writes k (rw (a .used) at l);
-      }
+  alike-range journal u r = record {
+    standings = λ d l. ap standingIn (alike-standing d) ∙ r .standings d l;
+    records = rw (a .used) (r .records);
+    bytes = rw (a .used) (r .bytes);
+    total = rw (a .used) (r .total);
+    writes = λ k l. alike-record (writeRecordAt journal u k) ∙ r .writes k (rw (a .used) at l);
+  }
 
 module _ (offsets lengths : List ℕ) (ts : List Transaction) (s : StoreMeaning) (journal : List ℕ) (u : ℕ) where
   bare-in : Bare (getD ts u noTransaction) → TransactionInRange (getD ts u noTransaction) journal u
-  unfolding standingIn lengthsBefore sum
-  bare-in b =
-      record {
-        standings = λ d l. rw (bare-standing (getD ts u noTransaction) b d);
-        records = omega (arith, b .records);
-        bytes = omega (arith, b .bytes);
-        total = rw (b .records, b .bytes);
-        writes = λ k l. absurd (omega (arith, b .records));
-      }
+  bare-in b = unfold standingIn lengthsBefore sum in record {
+    standings = λ d l. rw (bare-standing (getD ts u noTransaction) b d);
+    records = omega (arith, b .records);
+    bytes = omega (arith, b .bytes);
+    total = rw (b .records, b .bytes);
+    writes = λ k l. absurd (omega (arith, b .records));
+  }
 
   -- It stands for the same writes and standings.
   pub alike-txn : (logs : List ℕ) → AlikeElsewhere (transaction s u) (getD ts u noTransaction)
       → txnOf (renewed offsets lengths ts s) journal logs u ≡ txnOf s journal logs u
-  unfolding txnOf writeAt dataStart
-  alike-txn logs a = rw (a .descriptors, a .used)
+  alike-txn logs a = unfold txnOf writeAt dataStart in rw (a .descriptors, a .used)
 
 -- What becomes of a transaction at the end of another: it stays, or it is bare.
 abbrev pub Carried : Transaction → Transaction → Type 0
 Carried x y = AlikeElsewhere x y ⊎ Bare y
 
-carried-in : (offsets lengths : List ℕ) (ts : List Transaction) (s : StoreMeaning) (journal : List ℕ) (u : ℕ)
-    → Carried (transaction s u) (getD ts u noTransaction)
-    → getD ts u noTransaction .begun ≡ true
-    → (transaction s u .begun ≡ true → TransactionInRange (transaction s u) journal u)
-    → TransactionInRange (getD ts u noTransaction) journal u
+carried-in : (offsets lengths : List ℕ) (ts : List Transaction) (s : StoreMeaning) (journal : List ℕ) (u : ℕ) → Carried
+    (transaction s u) (getD ts u noTransaction) → getD ts u noTransaction .begun ≡ true → (transaction s u .begun ≡ true
+    → TransactionInRange (transaction s u) journal u) → TransactionInRange (getD ts u noTransaction) journal u
 carried-in offsets lengths ts s journal u (inl a) b h = alike-range (transaction s u) (getD ts u noTransaction) a journal u
     (h (sym (a .begun) ∙ b))
 carried-in offsets lengths ts s journal u (inr y) b h = bare-in offsets lengths ts s journal u y
@@ -125,32 +107,29 @@ carried-length x y (inr b) e = ap length (b .descriptors) ∙ length-replicate 1
 
 module _ (offsets lengths : List ℕ) (ts : List Transaction) (s : StoreMeaning) (journal : List ℕ)
     (carried : (u : ℕ) → u < transactionCount → Carried (transaction s u) (getD ts u noTransaction)) where
-  pub renewed-in : ((d : ℕ) → d < descriptorCount → getD offsets d 0 ≤ fileBytes)
-      → ((f : ℕ) → f < fileCount → getD lengths f 0 ≤ fileBytes) → InRange s journal
-      → InRange (renewed offsets lengths ts s) journal
-  renewed-in h k r =
-      record {
-        files = r .files;
-        offsets = h;
-        lengths = k;
-        windows = r .windows;
-        undo = r .undo;
-        transactions = λ u l b. carried-in offsets lengths ts s journal u (carried u l) b (r .transactions u l);
-      }
+  pub renewed-in : ((d : ℕ) → d < descriptorCount → getD offsets d 0 ≤ fileBytes) → ((f : ℕ) → f < fileCount
+      → getD lengths f 0 ≤ fileBytes) → InRange s journal → InRange (renewed offsets lengths ts s) journal
+  renewed-in h k r = record {
+    files = r .files;
+    offsets = h;
+    lengths = k;
+    windows = r .windows;
+    undo = r .undo;
+    transactions = λ u l b. carried-in offsets lengths ts s journal u (carried u l) b (r .transactions u l);
+  }
 
   pub renewed-shaped : length offsets ≡ descriptorCount → length lengths ≡ fileCount → length ts ≡ 8 → Shaped s
       → Shaped (renewed offsets lengths ts s)
-  renewed-shaped e k f r =
-      record {
-        files = r .files;
-        offsets = e;
-        lengths = k;
-        windows = r .windows;
-        foundOffsets = r .foundOffsets;
-        foundLengths = r .foundLengths;
-        transactions = f;
-        descriptors = λ u l. carried-length (transaction s u) (getD ts u noTransaction) (carried u l) (r .descriptors u l);
-      }
+  renewed-shaped e k f r = record {
+    files = r .files;
+    offsets = e;
+    lengths = k;
+    windows = r .windows;
+    foundOffsets = r .foundOffsets;
+    foundLengths = r .foundLengths;
+    transactions = f;
+    descriptors = λ u l. carried-length (transaction s u) (getD ts u noTransaction) (carried u l) (r .descriptors u l);
+  }
 
 -- The committed values of the same offsets and lengths.
 pub same-values : (ts : List Transaction) (s : StoreMeaning) (files : List ℕ)

@@ -1,33 +1,25 @@
 -- The abstract store that a state and its buffers stand for, and what is known of every store reached from Fresh.
-use mathlib.Core.Bool.{true, false, cond, _&&_}
-use mathlib.Core.Path.{_≡_}
-use lib.Dec.{leb}
-use lib.ListN.{length, getD}
+use mathlib.Core.{Bool.{true, false, cond, _&&_}, Path._≡_}
+use lib.{Dec.leb, ListN.{length, getD}}
 use Prim.Native.Nat.{ℕ, _≤_, _<_}
-use Rattle.state.specs.Journal.{journalLength}
+use Rattle.state.specs.{Journal.journalLength, declared.StoreMeaning.StoreMeaning, StoreMeaning.{transaction, windowAt}}
 use Rattle.limits.specs.Limits.{fileCount, bufferBytes, descriptorCount, transactionCount, recordCount, logBytes, undoBytes}
 use Rattle.limits.specs.Limits.{lastTransaction}
 use Rattle.buffers.specs.Marks.{hasMark, contains}
 use Rattle.standings.specs.declared.Standing.the-variants.{Untouched}
-use Rattle.state.specs.declared.StoreMeaning.{StoreMeaning}
-use Rattle.state.specs.StoreMeaning.{transaction, windowAt}
 use Rattle.admission.specs.Admission.{standingIn, placeIn, storeIn}
 use Rattle.spec_undo.specs.OldBytes.{restored}
-use Rattle.spec.specs.Items.{byte, offset, fileLength, Values}
-use Rattle.spec.specs.Undo.{landedOn}
-use Rattle.spec.specs.Transactions.{Txn, Write}
-use Rattle.spec.specs.Steps.{total}
+use Rattle.spec.specs.{Items.{byte, offset, fileLength, Values}, Undo.landedOn, Transactions.{Txn, Write}, Steps.total}
 use Rattle.spec.specs.Machine.{Machine, fileOf, values, txnOf, noWrite}
 use Rattle.spec.proofs.Abstract.AbstractStore.{OpenTxn, Seat, vacant, occupied, Saved, none, preserved, Abstract}
 
 unfoldable pub openTxnIn : Machine → ℕ → OpenTxn
-openTxnIn m u =
-    record {
-      txn = txnOf (m .store) (m .journal) (m .logs) u;
-      marked = hasMark (m .marks) u;
-      lengths = contains (transaction (m .store) u .lengthmarks);
-      stale = transaction (m .store) u .stale;
-    }
+openTxnIn m u = record {
+  txn = txnOf (m .store) (m .journal) (m .logs) u;
+  marked = hasMark (m .marks) u;
+  lengths = contains (transaction (m .store) u .lengthmarks);
+  stale = transaction (m .store) u .stale;
+}
 
 unfoldable pub seat : Machine → ℕ → Seat
 seat m u = cond (leb u lastTransaction && transaction (m .store) u .begun) (occupied (openTxnIn m u)) vacant
@@ -42,14 +34,13 @@ unfoldable pub backIn : Machine → Saved
 backIn m = cond (m .store .undo .valid) (preserved (backValues m)) none
 
 unfoldable pub view : Machine → Abstract
-view m =
-    record {
-      fileOf = fileOf (m .store);
-      value = values (m .store) (m .files);
-      windows = windowAt (m .store);
-      back = backIn m;
-      seats = seat m;
-    }
+view m = record {
+  fileOf = fileOf (m .store);
+  value = values (m .store) (m .files);
+  windows = windowAt (m .store);
+  back = backIn m;
+  seats = seat m;
+}
 
 -- The lengths that the state's types give its arrays.
 pub record Shaped (s : StoreMeaning) : Type 0 where

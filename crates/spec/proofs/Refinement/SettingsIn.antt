@@ -1,29 +1,18 @@
 -- All that a granted commit sets lies inside the files buffer, or is the offset of a descriptor or the length of a file and at
 -- most 4,096.
-use mathlib.Core.Bool.{Bool, true, false, cond, false≢true}
-use mathlib.Core.List.{List, [], _∷_, _++_}
-use mathlib.Core.Path.{_≡_, refl}
-use lib.Dec.{leb, ltb}
-use lib.ListN.{length, getD}
+use mathlib.Core.{Bool.{Bool, true, false, cond, false≢true}, List.{List, [], _∷_, _++_}, Path.{_≡_, refl}}
+use lib.{Dec.{leb, ltb}, ListN.{length, getD}}
 use Prim.Native.Nat.{ℕ, zero, suc, _+_, _*_, _≤_, _<_, suc-le-suc}
 use native.Mathlib.Omega.{arith}
 use borrow.Author.Tests.{leb-true}
 use Rattle.limits.specs.Limits.{fileCount, lastFile, fileBytes, bufferBytes, descriptorCount, logBytes}
-use Rattle.standings.specs.declared.Standing.{Standing}
-use Rattle.standings.specs.declared.Standing.the-variants.{Untouched, Placed, Deferred, Moved, Known}
-use Rattle.standings.specs.declared.Place.{Place}
-use Rattle.standings.specs.declared.Place.the-variants.{At, After}
-use Rattle.admission.specs.Admission.{standingIn, endsWithin, placeIn}
-use Rattle.admission.proofs.Laws.{and-right, below-at}
-use Rattle.spec.specs.Items.{Item, byte, offset, fileLength, Values}
-use Rattle.standings.specs.Table.{advance, isTouched, finalOffset}
-use Rattle.spec.specs.Transactions.{Txn, Write}
+use Rattle.standings.specs.declared.{Standing.{Standing, the-variants.{Untouched, Placed, Deferred, Moved, Known}}, Place.Place}
+use Rattle.standings.specs.{declared.Place.the-variants.{At, After}, Table.{advance, isTouched, finalOffset}}
+use Rattle.admission.{specs.Admission.{standingIn, endsWithin, placeIn}, proofs.Laws.{and-right, below-at}}
+use Rattle.spec.specs.{Items.{Item, byte, offset, fileLength, Values}, Transactions.{Txn, Write}}
 use Rattle.spec.specs.Commits.{Setting, landsAt, bytesFrom, byteSettings, setsOffset, offsetSettings, landedEnd}
-use Rattle.spec.specs.Commits.{lengthSettings, settings, fits}
-use Rattle.spec.specs.Reading.{writeEnd}
-use Rattle.spec.proofs.Refinement.Relation.{WriteIn, TxnIn}
-use Rattle.spec.proofs.Refinement.WriteEnds.{write-end, farthest-in}
-use Rattle.spec.specs.Machine.{noWrite}
+use Rattle.spec.specs.{Commits.{lengthSettings, settings, fits}, Reading.writeEnd, Machine.noWrite}
+use Rattle.spec.proofs.Refinement.{Relation.{WriteIn, TxnIn}, WriteEnds.{write-end, farthest-in}}
 
 -- Where an item may lie, and what it may be set to.
 abbrev pub SetIn : Item → ℕ → Type 0
@@ -78,8 +67,7 @@ final-in c (Known o) s h e = leb-true o fileBytes e
 pub settings-fit-at : (v : Values) (y : Txn) → fits v y ≡ true → (d : ℕ) → d < descriptorCount
     → v (offset d) + advance (y .standing d) ≤ fileBytes
 unfolding fits
-settings-fit-at v y fit d l =
-    leb-true (v (offset d) + advance (y .standing d)) fileBytes
+settings-fit-at v y fit d l = leb-true (v (offset d) + advance (y .standing d)) fileBytes
     (below-at (λ e. leb (v (offset e) + advance (y .standing e)) fileBytes) descriptorCount d fit l)
 
 module _ (fileOf : ℕ → ℕ) (v : Values) (y : Txn) (files : (d : ℕ) → d < descriptorCount → fileOf d ≤ lastFile) (ranges : TxnIn y)
@@ -87,14 +75,11 @@ module _ (fileOf : ℕ → ℕ) (v : Values) (y : Txn) (files : (d : ℕ) → d 
   bytes-in : (ws : List Write) → ((k : ℕ) → k < length ws → WriteIn y (getD ws k noWrite)) → AllIn (byteSettings fileOf v ws)
   unfolding byteSettings
   bytes-in [] h = tt
-  bytes-in (w ∷ ws) h =
-      let i = h 0 (omega arith) in
-      let d = w .descriptor in
-      let f = files d (i .descriptor) in
-      let g = lands-in (v (offset d)) (y .standing d) (w .place) (length (w .bytes)) (settings-fit-at v y fit d (i .descriptor))
-      (i .place) in
-      all-append (bytesFrom (fileBytes * fileOf d + landsAt (v (offset d)) (w .place)) (w .bytes)) (byteSettings fileOf v ws)
-      (interval-in (fileBytes * fileOf d + landsAt (v (offset d)) (w .place)) (w .bytes) (omega arith))
+  bytes-in (w ∷ ws) h = let i = h 0 (omega arith) in let d = w .descriptor in let f = files d (i .descriptor) in
+      let g = lands-in (v (offset d)) (y .standing d) (w .place) (length (w .bytes))
+      (settings-fit-at v y fit d (i .descriptor)) (i .place) in
+      all-append (bytesFrom (fileBytes * fileOf d + landsAt (v (offset d)) (w .place)) (w .bytes)) (byteSettings fileOf v
+      ws) (interval-in (fileBytes * fileOf d + landsAt (v (offset d)) (w .place)) (w .bytes) (omega arith))
       (bytes-in ws (λ k l. h (suc k) (suc-le-suc l)))
 
   one-in : (d : ℕ) → d < descriptorCount → (b : Bool) → setsOffset y d ≡ b
@@ -113,27 +98,21 @@ module _ (fileOf : ℕ → ℕ) (v : Values) (y : Txn) (files : (d : ℕ) → d 
   offsets-in : (n : ℕ) → n ≤ 16 → AllIn (offsetSettings v y n)
   unfolding offsetSettings
   offsets-in zero h = tt
-  offsets-in (suc n) h =
-      all-append (offsetSettings v y n) (cond (setsOffset y n)
-      (record { item = offset n; to = finalOffset (v (offset n)) (y .standing n) } ∷ []) [])
+  offsets-in (suc n) h = all-append (offsetSettings v y n)
+      (cond (setsOffset y n) (record { item = offset n; to = finalOffset (v (offset n)) (y .standing n) } ∷ []) [])
       (offsets-in n (omega arith)) (one-in n (omega arith) (setsOffset y n) refl)
 
   landed-end : (f : ℕ) → landedEnd fileOf v f (y .writes) ≤ logBytes
   unfolding landedEnd
-  landed-end f =
-      farthest-in fileOf f (λ w. writeEnd (landsAt (v (offset (w .descriptor))) (w .place)) (length (w .bytes))) (y .writes)
-      (λ k l.
-      let w = getD (y .writes) k noWrite in
-      let i = ranges .writes k l in
-      write-end (landsAt (v (offset (w .descriptor))) (w .place)) (length (w .bytes))
-      (lands-in (v (offset (w .descriptor))) (y .standing (w .descriptor)) (w .place) (length (w .bytes))
-      (settings-fit-at v y fit (w .descriptor) (i .descriptor)) (i .place)))
+  landed-end f = farthest-in fileOf f (λ w. writeEnd (landsAt (v (offset (w .descriptor))) (w .place)) (length (w .bytes)))
+      (y .writes) (λ k l. let w = getD (y .writes) k noWrite in let i = ranges .writes k l in write-end (landsAt
+      (v (offset (w .descriptor))) (w .place)) (length (w .bytes)) (lands-in (v (offset (w .descriptor))) (y .standing
+      (w .descriptor)) (w .place) (length (w .bytes)) (settings-fit-at v y fit (w .descriptor) (i .descriptor)) (i .place)))
 
   lengths-in : (n : ℕ) → n ≤ 8 → AllIn (lengthSettings fileOf v (y .writes) n)
   unfolding lengthSettings
   lengths-in zero h = tt
-  lengths-in (suc f) h =
-      all-append (lengthSettings fileOf v (y .writes) f) _ (lengths-in f (omega arith))
+  lengths-in (suc f) h = all-append (lengthSettings fileOf v (y .writes) f) _ (lengths-in f (omega arith))
       (pick (ltb (v (fileLength f)) (landedEnd fileOf v f (y .writes))))
     where
       pick : (b : Bool) → AllIn (cond b (record { item = fileLength f; to = landedEnd fileOf v f (y .writes) } ∷ []) [])
@@ -142,6 +121,5 @@ module _ (fileOf : ℕ → ℕ) (v : Values) (y : Txn) (files : (d : ℕ) → d 
 
   pub settings-in : AllIn (settings fileOf v y)
   unfolding settings
-  settings-in =
-      all-append (byteSettings fileOf v (y .writes)) _ (bytes-in (y .writes) (ranges .writes))
+  settings-in = all-append (byteSettings fileOf v (y .writes)) _ (bytes-in (y .writes) (ranges .writes))
       (all-append (offsetSettings v y 16) _ (offsets-in 16 (omega arith)) (lengths-in 8 (omega arith)))

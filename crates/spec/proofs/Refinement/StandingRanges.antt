@@ -1,19 +1,14 @@
 -- Standings and places stay in range: a function for each column of the table, and settling.
-use mathlib.Core.Bool.{true, false≢true}
-use mathlib.Core.Path.{_≡_, refl}
+use mathlib.Core.{Bool.{true, false≢true}, Path.{_≡_, refl}}
 use borrow.Author.Tests.{leb-true, le-leb}
 use lib.Dec.{leb}
 use native.Mathlib.Omega.{arith}
 use Prim.Native.Nat.{ℕ, _+_, _-_, _≤_}
 use Rattle.limits.specs.Limits.{fileBytes}
-use Rattle.standings.specs.declared.Standing.{Standing}
-use Rattle.standings.specs.declared.Standing.the-variants.{Untouched, Placed, Deferred, Moved, Known}
-use Rattle.standings.specs.declared.Place.{Place}
+use Rattle.standings.specs.declared.{Standing.{Standing, the-variants.{Untouched, Placed, Deferred, Moved, Known}}, Place.Place}
 use Rattle.standings.specs.declared.Place.the-variants.{At, After}
-use Rattle.standings.specs.Table.{placeNumber}
-use Rattle.admission.specs.Admission.{standingIn, endsWithin, placeIn}
-use Rattle.admission.proofs.Laws.{and-left, and-right, and-both}
-use Rattle.standings.specs.Table.{afterSeek, afterWrite, afterRead, advance, settled, offsetOf, writePlace}
+use Rattle.standings.specs.Table.{placeNumber, afterSeek, afterWrite, afterRead, advance, settled, offsetOf, writePlace}
+use Rattle.admission.{specs.Admission.{standingIn, endsWithin, placeIn}, proofs.Laws.{and-left, and-right, and-both}}
 use Rattle.spec.specs.Transactions.{placedAt}
 
 -- At most 4,096, of a number above one that is.
@@ -31,8 +26,7 @@ seek-in v (Moved a o) h e = and-both (leb a fileBytes) (leb v fileBytes) (and-le
 seek-in v (Known o) h e = le-leb v fileBytes h
 
 pub write-in : (n : ℕ) (z : Standing) → placeNumber (writePlace z) + n ≤ fileBytes → standingIn z ≡ true
-    → standingIn (afterWrite n z)
-    ≡ true
+    → standingIn (afterWrite n z) ≡ true
 unfolding standingIn afterWrite writePlace
 write-in n Untouched h e = and-both (leb n fileBytes) true (bounded n (0 + n) h (omega arith)) refl
 write-in n (Placed o) h e = le-leb (o + n) fileBytes h
@@ -46,8 +40,7 @@ unfolding standingIn afterRead
 read-in n Untouched h e = refl
 read-in n (Placed o) h e = let l = leb-true o fileBytes e in le-leb (o + n) fileBytes (omega arith)
 read-in n (Deferred a) h e = e
-read-in n (Moved a o) h e =
-    let l = leb-true o fileBytes (and-right (leb a fileBytes) (leb o fileBytes) e) in
+read-in n (Moved a o) h e = let l = leb-true o fileBytes (and-right (leb a fileBytes) (leb o fileBytes) e) in
     and-both (leb a fileBytes) (leb (o + n) fileBytes) (and-left (leb a fileBytes) (leb o fileBytes) e)
     (le-leb (o + n) fileBytes (omega arith))
 read-in n (Known o) h e = let l = leb-true o fileBytes e in le-leb (o + n) fileBytes (omega arith)
@@ -108,14 +101,12 @@ pub place-settled : (c : ℕ) (z y : Standing) (p : Place) (n : ℕ) → c + adv
     → placeIn y (placedAt c p) n ≡ true
 unfolding placeIn placedAt
 place-settled c z y (At p) n h e = e
-place-settled c z y (After a) n h e =
-    let l = ends-le z (a + n) (and-right (leb (a + n) fileBytes) (endsWithin z (a + n)) e) in
-    le-leb (c + a + n) fileBytes (omega arith)
+place-settled c z y (After a) n h e = let l = ends-le z (a + n)
+    (and-right (leb (a + n) fileBytes) (endsWithin z (a + n)) e) in le-leb (c + a + n) fileBytes (omega arith)
 
 -- A new write, under the standing that it leaves.
 pub place-written : (n : ℕ) (z : Standing) → placeNumber (writePlace z) + n ≤ fileBytes
-    → placeIn (afterWrite n z) (writePlace z) n
-    ≡ true
+    → placeIn (afterWrite n z) (writePlace z) n ≡ true
 unfolding placeIn endsWithin afterWrite writePlace
 place-written n Untouched h = and-both (leb (0 + n) fileBytes) (leb (0 + n) n) (le-leb (0 + n) fileBytes h)
     (le-leb (0 + n) n (omega arith))

@@ -1,20 +1,13 @@
 -- What the store would go back to: where it stays as it is.
-use mathlib.Core.Bool.{Bool, true, false, cond}
-use mathlib.Core.List.{List}
-use mathlib.Core.Path.{_≡_, refl, ap, ap₂, _∙_, fun-ext}
+use mathlib.Core.{Bool.{Bool, true, false, cond}, List.List, Path.{_≡_, refl, ap, ap₂, _∙_, fun-ext}}
 use lib.ListN.{getD}
 use Prim.Native.Nat.{ℕ, _<_}
-use Rattle.state.specs.declared.Undo.{Undo}
-use Rattle.state.specs.declared.journal.WriteRecord.{WriteRecord}
-use Rattle.state.specs.Journal.{lastGrant, writeRecordAt}
-use Rattle.admission.specs.Admission.{landedIn, lengthsBefore}
-use Rattle.admission.proofs.Laws.{sum-same, UndoInRange}
+use Rattle.state.specs.{declared.{Undo.Undo, journal.WriteRecord.WriteRecord}, Journal.{lastGrant, writeRecordAt}}
+use Rattle.admission.{specs.Admission.{landedIn, lengthsBefore}, proofs.Laws.{sum-same, UndoInRange}}
 use Rattle.spec_undo.specs.OldBytes.{Span, restored}
-use Rattle.spec.specs.Items.{Item, byte, offset, fileLength}
-use Rattle.spec.specs.Machine.{Machine, fileOf, values}
+use Rattle.spec.specs.{Items.{Item, byte, offset, fileLength}, Machine.{Machine, fileOf, values}}
 use Rattle.spec.specs.Undo.{spanOfRecord, landedOn, undone}
-use Rattle.spec.proofs.Abstract.AbstractStore.{none, preserved}
-use Rattle.spec.proofs.Refinement.Relation.{backValues, backIn}
+use Rattle.spec.proofs.{Abstract.AbstractStore.{none, preserved}, Refinement.Relation.{backValues, backIn}}
 use Rattle.spec.proofs.Refinement.IndexedLists.{tabulate-same}
 
 -- The values of the store that has gone back.
@@ -32,38 +25,29 @@ SameGrant u written journal =
     u .valid ≡ true → (k : ℕ) → k < u .used .records → writeRecordAt written lastGrant k ≡ writeRecordAt journal lastGrant k
 
 pub undo-values-same : (u : Undo) (written journal : List ℕ) → SameGrant u written journal → u .valid ≡ true
-    → UndoInRange u journal
-    → UndoInRange u written
-unfolding lengthsBefore
-undo-values-same u written journal same h r =
-    record {
-      records = r .records;
-      bytes = r .bytes;
-      total =
-          sum-same (λ j. writeRecordAt written lastGrant j .length) (λ j. writeRecordAt journal lastGrant j .length)
-          (u .used .records)
-          (λ j l. ap (λ (w : WriteRecord). w .length) (same h j l))
-          ∙ r .total;
-      writes = λ k l. ap landedIn (same h k l) ∙ r .writes k l;
-      offsets = r .offsets;
-      lengths = r .lengths;
-    }
+    → UndoInRange u journal → UndoInRange u written
+undo-values-same u written journal same h r = unfold lengthsBefore in record {
+  records = r .records;
+  bytes = r .bytes;
+  total = sum-same (λ j. writeRecordAt written lastGrant j .length) (λ j. writeRecordAt journal lastGrant j .length)
+      (u .used .records) (λ j l. ap (λ (w : WriteRecord). w .length) (same h j l)) ∙ r .total;
+  writes = λ k l. ap landedIn (same h k l) ∙ r .writes k l;
+  offsets = r .offsets;
+  lengths = r .lengths;
+}
 
 -- A store that holds the same of the last grant would go back to the same.
 module _ (m n : Machine) (same : SameGrant (m .store .undo) (n .journal) (m .journal)) (u : n .store .undo ≡ m .store .undo)
     (numbers : n .store .filenumbers ≡ m .store .filenumbers) (old : n .undo ≡ m .undo) (files : n .files ≡ m .files) where
   landed-same : m .store .undo .valid ≡ true → landedOn (n .store) (n .journal) ≡ landedOn (m .store) (m .journal)
   unfolding landedOn spanOfRecord fileOf
-  landed-same h =
-      rw (u, numbers)
-      (tabulate-same {A = Span} (λ k. spanOfRecord (m .store) (writeRecordAt (n .journal) lastGrant k))
-      (λ k. spanOfRecord (m .store) (writeRecordAt (m .journal) lastGrant k)) (m .store .undo .used .records)
-      (λ k l. ap (spanOfRecord (m .store)) (same h k l)))
+  landed-same h = rw (u, numbers) (tabulate-same {A = Span} (λ k. spanOfRecord (m .store)
+      (writeRecordAt (n .journal) lastGrant k)) (λ k. spanOfRecord (m .store) (writeRecordAt (m .journal) lastGrant k))
+      (m .store .undo .used .records) (λ k l. ap (spanOfRecord (m .store)) (same h k l)))
 
   values-same : m .store .undo .valid ≡ true → (i : Item) → backValues n i ≡ backValues m i
   unfolding backValues
-  values-same h (byte q) =
-      ap (λ (ss : List Span). getD (restored ss (n .undo) (n .files)) q 0) (landed-same h)
+  values-same h (byte q) = ap (λ (ss : List Span). getD (restored ss (n .undo) (n .files)) q 0) (landed-same h)
       ∙ ap₂ (λ (o f : List ℕ). getD (restored (landedOn (m .store) (m .journal)) o f) q 0) old files
   values-same h (offset d) = ap (λ (x : Undo). getD (x .offsets) d 0) u
   values-same h (fileLength f) = ap (λ (x : Undo). getD (x .lengths) f 0) u

@@ -1,7 +1,5 @@
 -- What a step can say: an accepted one answers, a refused one leaves everything.
-use mathlib.Core.Bool.{Bool, true, false, _&&_}
-use mathlib.Core.List.{List}
-use mathlib.Core.Path.{_≡_, refl, subst}
+use mathlib.Core.{Bool.{Bool, true, false, _&&_}, List.List, Path.{_≡_, refl, subst}}
 use borrow.Author.Tests.{leb-true}
 use native.Mathlib.Omega.{arith}
 use lib.Dec.{leb}
@@ -12,8 +10,7 @@ use Rattle.admission.proofs.Laws.{and-left, and-right}
 use Rattle.spec.specs.Items.{fileLength, Values, Prog, done, ask, measure, andThen, result}
 use Rattle.spec.specs.Messages.{Op, seek, write, getFilePointer, read}
 use Rattle.spec.specs.Steps.{Stepped, refuse, accept, check, orGivenBack, seekStep, writeStep, pointerStep, readSettled}
-use Rattle.spec.specs.Steps.{readStep, step, refusedStale}
-use Rattle.spec.specs.Transactions.{Txn, Settled, past, all}
+use Rattle.spec.specs.{Steps.{readStep, step, refusedStale}, Transactions.{Txn, Settled, past, all}}
 use Rattle.spec.proofs.Abstract.Programs.{refused-stale}
 
 -- An answer is no refusal.
@@ -87,8 +84,7 @@ module _ (P : ℕ → Type 0) where
   always-back next twelve h (all y) = h y
 
   always-read : (fileOf : ℕ → ℕ) (d n : ℕ) (buffer : List ℕ) (y : Txn) → Always (readSettled fileOf d n buffer y)
-  unfolding readSettled
-  always-read fileOf d n buffer y = always-then _ _ (λ bytes. tt)
+  always-read fileOf d n buffer y = unfold readSettled in always-then _ _ (λ bytes. tt)
 
   -- The numbers with which each call's step refuses have the property.
   abbrev Numbers : Op → Type 0
@@ -104,8 +100,7 @@ module _ (P : ℕ → Type 0) where
       always-check _ 6 _ (h .0) (always-check _ 9 _ (h .1) (always-check _ 10 _ (h .2) (always-check _ 11 _ (h .3) tt)))
   always-step fileOf (getFilePointer d) x h =
       always-check _ 6 _ (h .0) (always-then _ _ (λ s. always-back _ (h .1) (λ y. tt) s))
-  always-step fileOf (read d n buffer) x h =
-      always-check _ 6 _ (h .0)
+  always-step fileOf (read d n buffer) x h = always-check _ 6 _ (h .0)
       (always-check _ 7 _ (h .1) (always-then _ _ (λ s. always-back _ (h .2) (always-read fileOf d n buffer) s)))
 
   always-result : (v : Values) (p : Prog Stepped) → Always p → EndsSo (result v p)
@@ -130,6 +125,5 @@ plain-step fileOf o x v = ends-so OfStep fileOf o x v (of-steps o)
 -- What a step gives, refused with 18 or not.
 pub right-step : (fileOf : ℕ → ℕ) (o : Op) (x : Txn) (v : Values) (stale : Bool)
     → Right (refusedStale stale o (result v (step fileOf o x)))
-right-step fileOf o x v stale =
-    refused-stale Right stale o (result v (step fileOf o x)) (omega arith, λ e. omega arith)
+right-step fileOf o x v stale = refused-stale Right stale o (result v (step fileOf o x)) (omega arith, λ e. omega arith)
     (λ e. plainly-right (result v (step fileOf o x)) (plain-step fileOf o x v))

@@ -1,46 +1,34 @@
 -- F-14: what holds of the answer, on every store that meets neither 1 nor 2.
-use mathlib.Core.Bool.{Bool, true, false, cond, not, _&&_, true≢false}
-use mathlib.Core.List.{List, [], _∷_, map}
+use mathlib.Core.{Bool.{Bool, true, false, cond, not, _&&_, true≢false}, List.{List, [], _∷_, map}}
 use mathlib.Core.Path.{_≡_, refl, sym, ap, _∙_, fun-ext, subst}
 use borrow.Author.Tests.{leb-true, eq-eqb}
-use lib.Dec.{leb}
-use lib.ListN.{length}
+use lib.{Dec.leb, ListN.length}
 use native.Mathlib.Omega.{arith}
 use Prim.Native.Nat.{ℕ, zero, suc, _+_, _≤_}
 use Rattle.limits.specs.Limits.{lastTransaction, mostOrders}
-use Rattle.state.specs.StoreMeaning.{transaction}
-use Rattle.state.specs.Outcomes.{Said, doneAnswer, pointer, given, granted, pairs, ordered, refused}
+use Rattle.state.specs.{StoreMeaning.transaction, Outcomes.{Said, doneAnswer, pointer, given, granted, pairs, ordered, refused}}
 use Rattle.admission.proofs.Laws.{and-left}
 use Rattle.spec_orders.specs.Orders.{orders, triedOf, factorial, Rated, bestTried, countIn, gapOf, Earliest}
-use Rattle.spec_orders.proofs.Numbered.{many-orders, orders-of}
-use Rattle.spec_orders.proofs.Best.{best-is-earliest, best-arranges, none-better}
+use Rattle.spec_orders.proofs.{Numbered.{many-orders, orders-of}, Best.{best-is-earliest, best-arranges, none-better}}
 use Rattle.spec.specs.Messages.{commit, isGrant, grantsAmong, repliesTo}
-use Rattle.spec.specs.OrderReply.{grantsIn, Asked, orderRefusal, orderReplied, orderReply}
-use Rattle.spec.specs.Machine.{Machine}
+use Rattle.spec.specs.{OrderReply.{grantsIn, Asked, orderRefusal, orderReplied, orderReply}, Machine.Machine}
 use Rattle.spec.specs.Calls.{passing, commitCall, askedOf, orderTurn, call, callsAfter, callsReplies}
-use Rattle.spec.specs.BestOrder.{grantsBy, BestOrder, BestOrderHolds}
-use Rattle.spec.specs.Corollaries.{BestOrderAlwaysHolds}
+use Rattle.spec.specs.{BestOrder.{grantsBy, BestOrder, BestOrderHolds}, Corollaries.BestOrderAlwaysHolds}
 use Rattle.spec.proofs.Abstract.AbstractStore.{vacant, occupied, isOccupied, writesSeat, abstractAsked}
-use Rattle.spec.proofs.Abstract.OrderReplies.{passed}
-use Rattle.spec.proofs.Abstract.ClosedCommits.{may, fewer-count, few-closed}
-use Rattle.spec.proofs.Refinement.Relation.{openTxnIn, seat, view, Sound}
-use Rattle.spec.proofs.Refinement.Admissions.{first-is}
-use Rattle.spec.proofs.Refinement.OrderTurn.{order-grants}
-use Rattle.spec.proofs.Theorems.Answers.{answer-not-refused}
-use Rattle.spec.proofs.Theorems.Serializability.{calls-agree, fresh-facts}
+use Rattle.spec.proofs.Abstract.{OrderReplies.passed, ClosedCommits.{may, fewer-count, few-closed}}
+use Rattle.spec.proofs.Refinement.{Relation.{openTxnIn, seat, view, Sound}, Admissions.first-is, OrderTurn.order-grants}
+use Rattle.spec.proofs.Theorems.{Answers.answer-not-refused, Serializability.{calls-agree, fresh-facts}}
 
 -- The grants asked are those of Serializability's calls.
-made : (minute : ℕ) (o : List ℕ) (m : Machine)
-    → grantsIn (λ t n. commitCall t minute n .reply) (λ t n. commitCall t minute n .after) o m
-    ≡ grantsAmong (callsReplies (map (λ t. commit t minute) o) m)
+made : (minute : ℕ) (o : List ℕ) (m : Machine) → grantsIn (λ t n. commitCall t minute n .reply)
+    (λ t n. commitCall t minute n .after) o m ≡ grantsAmong (callsReplies (map (λ t. commit t minute) o) m)
 unfolding grantsIn grantsAmong call repliesTo
 made minute [] m = refl
 made minute (t ∷ o) m = ap (λ (n : ℕ). isGrant (commitCall t minute m .reply .answer) + n)
     (made minute o (commitCall t minute m .after))
 
 grants-by : (m : Machine) (minute : ℕ) → askedOf minute m .grants ≡ grantsBy m minute
-unfolding askedOf grantsBy
-grants-by m minute = fun-ext (λ o. made minute o m)
+grants-by m minute = unfold askedOf grantsBy in fun-ext (λ o. made minute o m)
 
 -- The three numbers of an answer.
 record Numbers : Type 0 where
@@ -63,19 +51,14 @@ module _ (m : Machine) (sound : Sound m) (minute : ℕ) where
   may-open t e = pick (leb t lastTransaction && transaction (m .store) t .begun) e
     where
       pick : (b : Bool) → may minute (view m) (cond b (occupied (openTxnIn m t)) vacant) ≡ true
-          → not (askedOf minute m .hasClosed t)
-          ≡ true
+          → not (askedOf minute m .hasClosed t) ≡ true
       pick true k = unfold may isOccupied writesSeat openTxnIn view askedOf in k
       pick false k = absurd (true≢false (sym (unfold may isOccupied in k)))
 
   store-few : (o : List ℕ) → askedOf minute m .grants o ≤ countIn (λ t. not (askedOf minute m .hasClosed t)) o
-  unfolding abstractAsked
-  store-few o =
-      let e = order-grants minute m sound o in
-      let a = few-closed minute o (view m) in
-      let c = fewer-count minute (λ t. may minute (view m) (view m .seats t)) (λ t. not (askedOf minute m .hasClosed t)) may-open
-      o in
-      omega arith
+  store-few o = unfold abstractAsked in let e = order-grants minute m sound o in let a = few-closed minute o (view m) in
+      let c = fewer-count minute (λ t. may minute (view m) (view m .seats t)) (λ t. not (askedOf minute m .hasClosed t))
+      may-open o in omega arith
 
   module _ (ts : List ℕ) (budget : ℕ) where
     best : Rated
@@ -86,24 +69,18 @@ module _ (m : Machine) (sound : Sound m) (minute : ℕ) where
 
     -- All were tried.
     no-gap : length (triedOf budget ts) ≡ factorial (length ts) → gap ≡ 0
-    unfolding gap gapOf
-    no-gap e = rw (eq-eqb (length (triedOf budget ts)) (length (orders ts)) (e ∙ sym (many-orders ts)))
+    no-gap e = unfold gap gapOf in rw (eq-eqb (length (triedOf budget ts)) (length (orders ts)) (e ∙ sym (many-orders ts)))
 
     holds : 1 ≤ budget → BestOrder m ts minute budget (best .order) (best .grants) gap (length (triedOf budget ts))
-    unfolding best gap
-    holds l =
-        let e = grants-by m minute in
-        record {
-          arranges = best-arranges (askedOf minute m .grants) budget ts l;
-          best =
-              subst (λ (f : List ℕ → ℕ). Earliest f (triedOf budget ts) (bestTried (askedOf minute m .grants) budget ts)) e
-              (best-is-earliest (askedOf minute m .grants) budget ts l);
-          noneBetter = λ o h.
-              subst (λ (f : List ℕ → ℕ). f o ≤ best .grants + gap) e
-              (none-better (askedOf minute m .grants) (askedOf minute m .hasClosed) store-few ts o budget h);
-          noGap = no-gap;
-          many = (refl, orders-of ts .tried budget);
-        }
+    holds l = unfold best gap in let e = grants-by m minute in record {
+      arranges = best-arranges (askedOf minute m .grants) budget ts l;
+      best = subst (λ (f : List ℕ → ℕ). Earliest f (triedOf budget ts) (bestTried (askedOf minute m .grants) budget ts)) e
+          (best-is-earliest (askedOf minute m .grants) budget ts l);
+      noneBetter = λ o h. subst (λ (f : List ℕ → ℕ). f o ≤ best .grants + gap) e
+          (none-better (askedOf minute m .grants) (askedOf minute m .hasClosed) store-few ts o budget h);
+      noGap = no-gap;
+      many = (refl, orders-of ts .tried budget);
+    }
 
     -- An answer with these numbers.
     answered : (n grants gap tried : ℕ) → (n ≡ 0 → 1 ≤ budget)
@@ -121,17 +98,12 @@ budget-passed a ts minute budget e =
     leb-true 1 budget (and-left (leb 1 budget) (leb budget mostOrders) (passed a ts minute budget e .affordable))
 
 pub best-order : (m : Machine) → Sound m → BestOrderHolds m
-unfolding call passing orderTurn orderReply
-best-order m sound =
-    let z = first-is m 0 sound in
-    record {
-      unchanged = λ ts minute budget. rw z refl;
-      answered = λ ts minute budget g k r e.
-          rw z
-          (answered m sound minute ts budget (orderRefusal (askedOf minute m) ts minute budget) g k r
-          (budget-passed (askedOf minute m) ts minute budget)
-          (sym (ap (λ (n : ℕ). passing n [] m (orderTurn ts minute budget m) .reply .answer) z) ∙ e));
-    }
+best-order m sound = unfold call passing orderTurn orderReply in let z = first-is m 0 sound in record {
+  unchanged = λ ts minute budget. rw z refl;
+  answered = λ ts minute budget g k r e. rw z (answered m sound minute ts budget
+      (orderRefusal (askedOf minute m) ts minute budget) g k r (budget-passed (askedOf minute m) ts minute budget)
+      (sym (ap (λ (n : ℕ). passing n [] m (orderTurn ts minute budget m) .reply .answer) z) ∙ e));
+}
 
 pub best-order-always-holds : BestOrderAlwaysHolds
 best-order-always-holds numbers m₀ made cs = best-order (callsAfter cs m₀)

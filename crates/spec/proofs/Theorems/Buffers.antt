@@ -1,43 +1,29 @@
 -- Which calls touch which buffer.
-use mathlib.Core.Bool.{Bool, true, false, cond, true≢false}
-use mathlib.Core.List.{List, [], _∷_, _++_}
-use mathlib.Core.Path.{_≡_, refl, sym, ap, _∙_, subst⁻¹}
+use mathlib.Core.{Bool.{Bool, true, false, cond}, List.{List, [], _∷_, _++_}, Path.{_≡_, refl, sym, ap, _∙_, subst⁻¹}}
 use borrow.Author.Tests.{eq-eqb}
-use lib.Dec.{leb, eqb}
-use lib.ListN.{getD, set, replicate}
+use lib.{Dec.{leb, eqb}, ListN.{getD, set, replicate}}
 use native.Mathlib.Omega.{arith}
 use Prim.Native.Nat.{ℕ, zero, suc, _+_, _*_, _≤_}
 use Rattle.limits.specs.Limits.{fileBytes, lastTransaction, logBytes}
-use Rattle.buffers.specs.Bits.{bit}
-use Rattle.buffers.specs.Marks.{names, hasMark, withMark, withoutMarks}
-use Rattle.buffers.specs.Parts.{pasted, tabulate}
+use Rattle.buffers.{specs.{Marks.{hasMark, withMark, withoutMarks}, Parts.{pasted, tabulate}}, proofs.MarkLaws.has-without-marks}
+use Rattle.buffers.proofs.TableLaws.{getD-tabulate}
 use Rattle.windows.specs.Windows.{freshWindow}
 use Rattle.standings.specs.Table.{advance, pointerSettles, offsetOf}
-use Rattle.buffers.proofs.MarkLaws.{has-without-marks}
-use Rattle.buffers.proofs.TableLaws.{getD-tabulate}
-use Rattle.state.specs.declared.Descriptor.{Descriptor}
-use Rattle.state.specs.declared.Transaction.{Transaction}
+use Rattle.state.specs.declared.{Descriptor.Descriptor, Transaction.Transaction}
 use Rattle.state.specs.StoreMeaning.{transaction, noDescriptor, noTransaction, begun, ended, withBegun, withTransaction}
 use Rattle.state.specs.Outcomes.{Said, doneAnswer, pointer, granted, refused}
-use Rattle.admission.specs.Admission.{admission}
-use Rattle.admission.specs.FirstRefusal.{unless}
-use Rattle.admission.proofs.Laws.{shared-zero}
+use Rattle.admission.{specs.{Admission.admission, FirstRefusal.unless}, proofs.Laws.shared-zero}
 use Rattle.spec.specs.Items.{Item, byte, offset, fileLength, Values, Prog, done, andThen, result, asked}
 use Rattle.spec.specs.Transactions.{Txn, settle, Settled, past, all, settling}
 use Rattle.spec.specs.Messages.{Op, seek, write, getFilePointer, read, bufferOf, Call, begin, on, commit, abort, places}
 use Rattle.spec.specs.Messages.{setWindow, undoCommit, bestOrder}
 use Rattle.spec.specs.Steps.{Stepped, refuse, accept, check, orGivenBack, seekStep, writeStep, pointerStep, step}
-use Rattle.spec.specs.Commits.{Setting, commitRefusal}
-use Rattle.spec.specs.Machine.{Machine, sizes, fileOf, values, txnOf, withTxn}
+use Rattle.spec.specs.{Commits.{Setting, commitRefusal}, Machine.{Machine, sizes, fileOf, values, txnOf, withTxn}}
 use Rattle.spec.specs.Calls.{Turn, answerWith, refuseTurn, passing, fresh, freshStore, freshMachine, reset, beginTurn}
-use Rattle.spec.specs.Calls.{abortTurn}
-use Rattle.spec.specs.Calls.{logged, marked, served, stepTurn, afterCommit, commitGranted, commitDecided, commitTurn}
-use Rattle.spec.specs.Calls.{admitted, call}
-use Rattle.spec.specs.Calls.{placesTurn, windowTurn, undoTurn, orderTurn}
-use Rattle.spec.specs.Undo.{savingUndo, undone}
-use Rattle.spec.specs.Buffers.{Emptied, Vacant, AllZero, Buffers}
-use Rattle.spec.proofs.Abstract.Programs.{asked-andThen}
-use Rattle.spec.proofs.Theorems.Answers.{IsAnswer, answer-not-refused}
+use Rattle.spec.specs.Calls.{abortTurn, logged, marked, served, stepTurn, afterCommit, commitGranted, commitDecided}
+use Rattle.spec.specs.Calls.{commitTurn, admitted, call, placesTurn, windowTurn, undoTurn, orderTurn}
+use Rattle.spec.specs.{Undo.{savingUndo, undone}, Buffers.{Emptied, Vacant, AllZero, Buffers}}
+use Rattle.spec.proofs.{Abstract.Programs.asked-andThen, Theorems.Answers.{IsAnswer, answer-not-refused}}
 use Rattle.spec.proofs.Theorems.Refusals.{refused-same, admission-leaving, passing-zero, passing-stale}
 
 -- A buffer that a call's own turn leaves is left by the call.
@@ -59,8 +45,7 @@ module _ {A : Type 0} (part : Machine → A) where
       pick false = refl
 
 served-logs : (t : ℕ) (o : Op) (m : Machine) (is : List Item) (s : Stepped)
-    → ((u d : ℕ) (bytes : List ℕ) → on t o ≡ on u (write d bytes) → ⊥)
-    → served t o m is s .after .logs ≡ m .logs
+    → ((u d : ℕ) (bytes : List ℕ) → on t o ≡ on u (write d bytes) → ⊥) → served t o m is s .after .logs ≡ m .logs
 unfolding served refuseTurn logged
 served-logs t (seek d v) m is (refuse n) e = refl
 served-logs t (seek d v) m is (accept y a b) e = refl
@@ -153,8 +138,7 @@ module _ (t : ℕ) (v : Values) (marks : List ℕ) where
   check-marks false n p e = refl
 
   done-marks : (s : Stepped) → marked t (asked v (done s)) marks ≡ marks
-  unfolding asked marked
-  done-marks s = refl
+  done-marks s = unfold asked marked in refl
 
   step-marks : (file : ℕ → ℕ) (o : Op) (x : Txn) → ((d n : ℕ) (buffer : List ℕ) → o ≡ read d n buffer → ⊥)
       → marked t (asked v (step file o x)) marks ≡ marks
@@ -172,8 +156,7 @@ module _ (t : ℕ) (v : Values) (marks : List ℕ) where
       after (all y) = unfold orGivenBack in done-marks _
 
       settled : (ds : List ℕ) → marked t (asked v (andThen (settling ds x) (orGivenBack next))) marks ≡ marks
-      settled ds =
-          ap (λ (is : List Item). marked t is marks) (asked-andThen v (settling ds x) (orGivenBack next))
+      settled ds = ap (λ (is : List Item). marked t is marks) (asked-andThen v (settling ds x) (orGivenBack next))
           ∙ marked-append t (asked v (settling ds x)) (asked v (orGivenBack next (result v (settling ds x)))) marks
           ∙ ap (marked t (asked v (orGivenBack next (result v (settling ds x))))) (settling-marks ds x)
           ∙ after (result v (settling ds x))
@@ -188,10 +171,8 @@ served-marks t o m is (accept y a b) e = e
 pub on-marks : (t : ℕ) (o : Op) (m : Machine) → ((d n : ℕ) (buffer : List ℕ) → o ≡ read d n buffer → ⊥)
     → call (on t o) m .after .marks ≡ m .marks
 unfolding call admitted stepTurn
-on-marks t o m e =
-    passing-leaves (λ x. x .marks) _ (bufferOf o) m (stepTurn t o m)
-    (served-marks t o m _ _ (step-marks t (values (m .store) (m .files)) (m .marks) (fileOf (m .store)) o
-    (txnOf (m .store) (m .journal) (m .logs) t) e))
+on-marks t o m e = passing-leaves (λ x. x .marks) _ (bufferOf o) m (stepTurn t o m) (served-marks t o m _ _ (step-marks t
+    (values (m .store) (m .files)) (m .marks) (fileOf (m .store)) o (txnOf (m .store) (m .journal) (m .logs) t) e))
 
 call-marks : (c : Call) (m : Machine) → ((t d n : ℕ) (buffer : List ℕ) → c ≡ on t (read d n buffer) → ⊥)
     → ((t : ℕ) → c ≡ begin t → ⊥)
@@ -254,18 +235,16 @@ blank-none : Blank noTransaction
 blank-none = (refl, record { records = refl; bytes = refl; untouched = λ d. refl; clean = λ d. refl; notStale = refl })
 
 blank-ended : (isOpen : Bool) → Blank (withBegun isOpen ended)
-unfolding ended
-blank-ended isOpen =
-    let same = all-same noDescriptor 16 in (
-      refl,
-      record {
-        records = refl;
-        bytes = refl;
-        untouched = λ d. ap (λ (q : Descriptor). q .standing) (same d);
-        clean = λ d. ap (λ (q : Descriptor). q .dirty) (same d);
-        notStale = refl;
-      },
-    )
+blank-ended isOpen = unfold ended in let same = all-same noDescriptor 16 in (
+  refl,
+  record {
+    records = refl;
+    bytes = refl;
+    untouched = λ d. ap (λ (q : Descriptor). q .standing) (same d);
+    clean = λ d. ap (λ (q : Descriptor). q .dirty) (same d);
+    notStale = refl;
+  },
+)
 
 replaced : (t : ℕ) (x : Transaction) (ts : List Transaction) → Blank x → Blank (getD (set ts t x) t noTransaction)
 replaced t x [] e = blank-none
@@ -273,19 +252,15 @@ replaced zero x (y ∷ ts) e = e
 replaced (suc t) x (y ∷ ts) e = replaced t x ts e
 
 reset-cleared : (t : ℕ) (x : Transaction) (m : Machine) → Blank x → Vacant t (reset t x m)
-unfolding reset withTransaction
-reset-cleared t x m e =
-    let b = replaced t x (m .store .transactions) e in
+reset-cleared t x m e = unfold reset withTransaction in let b = replaced t x (m .store .transactions) e in
     (record { bytes = cleared t (m .marks); lengths = b .0 }, b .1)
 
 granted-cleared : (t : ℕ) (x : Txn) (ss : List Setting) (m : Machine) → t ≤ lastTransaction
     → Vacant t (commitGranted t x ss m .after)
 unfolding commitGranted savingUndo afterCommit ended
-granted-cleared t x ss m l =
-    let e : getD (tabulate (afterCommit t ss m) 8) t noTransaction ≡ ended =
+granted-cleared t x ss m l = let e : getD (tabulate (afterCommit t ss m) 8) t noTransaction ≡ ended =
     getD-tabulate (afterCommit t ss m) 8 t noTransaction (omega arith) ∙ rw (eq-eqb t t refl) in
-    let b = subst⁻¹ Blank e (blank-ended false) in
-    (record { bytes = cleared t (m .marks); lengths = b .0 }, b .1)
+    let b = subst⁻¹ Blank e (blank-ended false) in (record { bytes = cleared t (m .marks); lengths = b .0 }, b .1)
 
 -- What Fresh gives.
 closed-all : (n t : ℕ) → getD (replicate n ended) t noTransaction .begun ≡ false
@@ -295,23 +270,20 @@ closed-all (suc n) zero = refl
 closed-all (suc n) (suc t) = closed-all n t
 
 fresh-zeros : (numbers logs undo : List ℕ) → AllZero (freshMachine numbers logs undo)
-unfolding freshMachine freshStore
-fresh-zeros numbers logs undo =
-    record {
-      bytes = refl;
-      marks = refl;
-      offsets = refl;
-      lengths = refl;
-      windows = all-same freshWindow 8;
-      closed = closed-all 8;
-      nothingToUndo = refl;
-    }
+fresh-zeros numbers logs undo = unfold freshMachine freshStore in record {
+  bytes = refl;
+  marks = refl;
+  offsets = refl;
+  lengths = refl;
+  windows = all-same freshWindow 8;
+  closed = closed-all 8;
+  nothingToUndo = refl;
+}
 
 -- An answered call's turn is its own.
 pub answered-turn : (k : ℕ) (m : Machine) (w : Turn) (a : Said) → IsAnswer a → passing k [] m w .reply .answer ≡ a
     → passing k [] m w ≡ w
-unfolding passing
-answered-turn k m w a h e = ap (λ (n : ℕ). passing n [] m w) (passing-zero k [] m w a h e)
+answered-turn k m w a h e = unfold passing in ap (λ (n : ℕ). passing n [] m w) (passing-zero k [] m w a h e)
 
 answered : (k : ℕ) (m : Machine) (w : Turn) (a : Said) → IsAnswer a → passing k [] m w .reply .answer ≡ a
     → passing k [] m w .after ≡ w .after
@@ -328,13 +300,11 @@ served-written t d bytes m is (accept y a b) e = refl
 call-written : (m : Machine) (t d : ℕ) (bytes : List ℕ) → call (on t (write d bytes)) m .reply .answer ≡ doneAnswer
     → call (on t (write d bytes)) m .after .logs ≡ pasted (m .logs) (logBytes * t + transaction (m .store) t .used .bytes) bytes
 unfolding call admitted bufferOf stepTurn
-call-written m t d bytes e =
-    let z = answered-turn _ m (stepTurn t (write d bytes) m) doneAnswer tt e in
+call-written m t d bytes e = let z = answered-turn _ m (stepTurn t (write d bytes) m) doneAnswer tt e in
     rw (ap (λ (w : Turn). w .after) z) (served-written t d bytes m _ _ (sym (ap (λ (w : Turn). w .reply .answer) z) ∙ e))
 
 decided-cleared : (t : ℕ) (x : Txn) (ss : List Setting) (m : Machine) (daily stale shut placed : Bool) (n : ℕ)
-    → t ≤ lastTransaction
-    → commitDecided t x ss m (commitRefusal daily stale shut placed) .reply .answer ≡ granted n
+    → t ≤ lastTransaction → commitDecided t x ss m (commitRefusal daily stale shut placed) .reply .answer ≡ granted n
     → Vacant t (commitDecided t x ss m (commitRefusal daily stale shut placed) .after)
 unfolding commitDecided commitRefusal
 decided-cleared t x ss m false stale shut placed n l e = absurd (answer-not-refused (granted n) 22 tt (sym e))
@@ -355,38 +325,32 @@ decided-stale t x ss m true false false false e = let z : _≡_ {A = ℕ} 12 13 
 
 -- A granted Commit is of a number up to 7.
 granted-small : (m : Machine) (t minute n : ℕ) → call (commit t minute) m .reply .answer ≡ granted n → t ≤ lastTransaction
-unfolding call admitted admission
-granted-small m t minute n e =
+granted-small m t minute n e = unfold call admitted admission in
     let z = passing-zero (admission (sizes m) (m .store) (m .journal) t) [] m (commitTurn t minute m) (granted n) tt e in
     let a = shared-zero (sizes m) (m .store) (m .journal) t (unless (transaction (m .store) t .begun) 4 0) z in
     omega (arith, a .0 .small)
 
 pub buffers : (m : Machine) → Buffers m
 unfolding call admitted beginTurn abortTurn commitTurn answerWith begun ended fresh freshMachine freshStore
-buffers m =
-    record {
-      logs = λ c. call-logs c m;
-      written = call-written m;
-      freshZeros = λ numbers e. subst⁻¹ AllZero (answered _ m _ doneAnswer tt e) (fresh-zeros numbers (m .logs) (m .undo));
-      freshLogs = λ numbers. passing-leaves (λ x. x .logs) _ [] m _ refl;
-      fileNumbers = λ c. call-numbers c m;
-      freshNumbers = λ numbers e. ap (λ (x : Machine). x .store .filenumbers) (answered _ m _ doneAnswer tt e);
-      files = λ c. call-files c m;
-      undo = λ c. call-undo c m;
-      freshUndo = λ numbers. passing-leaves (λ x. x .undo) _ [] m _ refl;
-      listing = λ t f out. passing-leaves (λ x. x) _ out m (placesTurn t f out m) (unfold placesTurn in refl);
-      marks = λ c. call-marks c m;
-      begun = λ t e. rw (answered _ m (beginTurn t m) doneAnswer tt e)
-          (reset-cleared t begun m (unfold begun in blank-ended true));
-      aborted = λ t e. rw (answered _ m (abortTurn t m) doneAnswer tt e) (reset-cleared t ended m (blank-ended false));
-      committed =
-          λ t minute n e.
-          let l = granted-small m t minute n e in
-          rw (answered _ m (commitTurn t minute m) (granted n) tt e)
-          (decided-cleared t _ _ m _ _ _ _ n l
-          (sym (ap (λ (w : Turn). w .reply .answer) (answered-turn _ m (commitTurn t minute m) (granted n) tt e)) ∙ e));
-      stale =
-          λ t minute e.
-          let z = passing-stale _ m (commitTurn t minute m) (admission-leaving _ (m .store) (m .journal) t) e in
-          rw (ap (λ (w : Turn). w .after) z) (decided-stale t _ _ m _ _ _ _ (sym (ap (λ (w : Turn). w .reply .answer) z) ∙ e));
-    }
+buffers m = record {
+  logs = λ c. call-logs c m;
+  written = call-written m;
+  freshZeros = λ numbers e. subst⁻¹ AllZero (answered _ m _ doneAnswer tt e) (fresh-zeros numbers (m .logs) (m .undo));
+  freshLogs = λ numbers. passing-leaves (λ x. x .logs) _ [] m _ refl;
+  fileNumbers = λ c. call-numbers c m;
+  freshNumbers = λ numbers e. ap (λ (x : Machine). x .store .filenumbers) (answered _ m _ doneAnswer tt e);
+  files = λ c. call-files c m;
+  undo = λ c. call-undo c m;
+  freshUndo = λ numbers. passing-leaves (λ x. x .undo) _ [] m _ refl;
+  listing = λ t f out. passing-leaves (λ x. x) _ out m (placesTurn t f out m) (unfold placesTurn in refl);
+  marks = λ c. call-marks c m;
+  begun =
+      λ t e. rw (answered _ m (beginTurn t m) doneAnswer tt e) (reset-cleared t begun m (unfold begun in blank-ended true));
+  aborted = λ t e. rw (answered _ m (abortTurn t m) doneAnswer tt e) (reset-cleared t ended m (blank-ended false));
+  committed = λ t minute n e. let l = granted-small m t minute n e in
+      rw (answered _ m (commitTurn t minute m) (granted n) tt e) (decided-cleared t _ _ m _ _ _ _ n l
+      (sym (ap (λ (w : Turn). w .reply .answer) (answered-turn _ m (commitTurn t minute m) (granted n) tt e)) ∙ e));
+  stale = λ t minute e. let z =
+      passing-stale _ m (commitTurn t minute m) (admission-leaving _ (m .store) (m .journal) t) e in
+      rw (ap (λ (w : Turn). w .after) z) (decided-stale t _ _ m _ _ _ _ (sym (ap (λ (w : Turn). w .reply .answer) z) ∙ e));
+}

@@ -1,6 +1,5 @@
 -- Lengths of every store reached from Fresh: they never shrink, are at most 4,096, and beyond them every byte is 0.
-use mathlib.Core.Bool.{Bool, true, false, cond, _&&_, true≢false}
-use mathlib.Core.List.{List, [], _∷_}
+use mathlib.Core.{Bool.{Bool, true, false, cond, _&&_, true≢false}, List.{List, [], _∷_}}
 use mathlib.Core.Path.{_≡_, refl, sym, ap, _∙_, subst, subst⁻¹}
 use borrow.Author.Tests.{leb-true}
 use lib.Dec.{leb}
@@ -8,48 +7,32 @@ use native.Mathlib.Omega.{arith}
 use Prim.Native.Nat.{ℕ, zero, suc, _≤_, _<_}
 use Rattle.limits.specs.Limits.{fileBytes, transactionCount, lastTransaction}
 use Rattle.windows.specs.Windows.{minuteIn}
-use Rattle.state.specs.Outcomes.{doneAnswer}
-use Rattle.admission.specs.FirstRefusal.{guarded, isNone}
-use Rattle.admission.specs.Admission.{windowRefusal, admissionOfUndo}
-use Rattle.spec.specs.Windows.{forClosed}
-use Rattle.state.specs.StoreMeaning.{transaction}
+use Rattle.state.specs.{Outcomes.doneAnswer, StoreMeaning.transaction}
+use Rattle.admission.specs.{FirstRefusal.{guarded, isNone}, Admission.{windowRefusal, admissionOfUndo}}
 use Rattle.admission.proofs.Laws.{admitted-undo, in-range, and-right}
-use Rattle.spec.specs.Items.{fileLength, Values, result, asked}
+use Rattle.spec.specs.{Windows.forClosed, Items.{fileLength, Values, result, asked}}
 use Rattle.spec.specs.Messages.{Op, bufferOf, Call, begin, on, commit, abort, places, setWindow, undoCommit, bestOrder}
-use Rattle.spec.specs.Messages.{afterAll}
-use Rattle.spec.specs.Steps.{Stepped, refuse, accept, step, refusedStale}
-use Rattle.spec.specs.Commits.{settings, fits, landed, commitRefusal}
-use Rattle.spec.specs.Machine.{Machine, sizes, fileOf, txnOf}
-use Rattle.spec.specs.Undo.{undone}
-use Rattle.spec.specs.Calls.{refuseTurn, passing, undoTurn, call, callsAfter}
+use Rattle.spec.specs.{Messages.afterAll, Steps.{Stepped, refuse, accept, step, refusedStale}}
+use Rattle.spec.specs.{Commits.{settings, fits, landed, commitRefusal}, Machine.{Machine, sizes, fileOf, txnOf}}
+use Rattle.spec.specs.{Undo.undone, Calls.{refuseTurn, passing, undoTurn, call, callsAfter}}
 use Rattle.spec.specs.Recovery.{recovered, ProgramRun, runsAfter}
 use Rattle.spec.specs.Lengths.{ZeroBeyond, Longer, committedIn, LengthsHold, LengthsAlwaysHold}
 use Rattle.spec.specs.Counterexamples.{firstBeyond, LengthsTell}
 use Rattle.spec.proofs.Abstract.AbstractStore.{OpenTxn, Seat, vacant, occupied, Saved, none, preserved, noneOccupied}
-use Rattle.spec.proofs.Abstract.AbstractStore.{returned}
-use Rattle.spec.proofs.Abstract.AbstractStore.{abstractReturn, abstractUndo}
-use Rattle.spec.proofs.Abstract.AbstractStore.{Abstract, startAbstract, abstractRefuse, AbstractTurn, withSeat}
-use Rattle.spec.proofs.Abstract.AbstractStore.{abstractAnswer}
-use Rattle.spec.proofs.Abstract.AbstractStore.{abstractBegin}
+use Rattle.spec.proofs.Abstract.AbstractStore.{returned, abstractReturn, abstractUndo, Abstract, startAbstract}
+use Rattle.spec.proofs.Abstract.AbstractStore.{abstractRefuse, AbstractTurn, withSeat, abstractAnswer, abstractBegin}
 use Rattle.spec.proofs.Abstract.AbstractStore.{abstractStepped, abstractOn, granting, abstractCommitted, abstractCommit}
-use Rattle.spec.proofs.Abstract.AbstractStore.{abstractAbort}
-use Rattle.spec.proofs.Abstract.AbstractStore.{abstractPlaces, windowed, abstractWindow, seated, abstractCall}
-use Rattle.spec.proofs.Abstract.AbstractStore.{abstractBestOrder}
-use Rattle.spec.proofs.Abstract.Lengths.{commit-longer}
-use Rattle.spec.proofs.Refinement.Relation.{openTxnIn, seat, backValues, backIn, view, Sound}
-use Rattle.spec.proofs.Refinement.UndoValues.{back-values}
-use Rattle.spec.proofs.Refinement.Decode.{decoded-in}
-use Rattle.spec.proofs.Refinement.Accepted.{length-in}
-use Rattle.spec.proofs.Refinement.Zeros.{zero-granted}
+use Rattle.spec.proofs.Abstract.AbstractStore.{abstractAbort, abstractPlaces, windowed, abstractWindow, seated}
+use Rattle.spec.proofs.Abstract.{AbstractStore.{abstractCall, abstractBestOrder}, Lengths.commit-longer}
+use Rattle.spec.proofs.Refinement.{Relation.{openTxnIn, seat, backValues, backIn, view, Sound}, UndoValues.back-values}
+use Rattle.spec.proofs.Refinement.{Decode.decoded-in, Accepted.length-in, Zeros.zero-granted}
 use Rattle.spec.proofs.Theorems.Serializability.{call-turn, calls-agree, fresh-facts}
 use Rattle.spec.proofs.Theorems.Recovery.{recovered-sound, recovered-view, runs-from-fresh}
 
 -- What holds of the committed values, and of those that a granted Commit leaves, holds after every call.
 module _ (P : Values → Saved → Type 0) (s : Abstract) (now : P (s .value) (s .back)) (grantable backable : Bool)
-    (then :
-    grantable ≡ true → (t : ℕ) (h : OpenTxn) → leb t lastTransaction ≡ true → s .seats t ≡ occupied h
-    → fits (s .value) (h .txn) ≡ true
-    → P (landed (settings (s .fileOf) (s .value) (h .txn)) (s .value)) (preserved (s .value)))
+    (then : grantable ≡ true → (t : ℕ) (h : OpenTxn) → leb t lastTransaction ≡ true → s .seats t ≡ occupied h → fits
+    (s .value) (h .txn) ≡ true → P (landed (settings (s .fileOf) (s .value) (h .txn)) (s .value)) (preserved (s .value)))
     (back : backable ≡ true → (v : Values) → s .back ≡ preserved v → P v none) where
   -- Of a store.
   abbrev At : Abstract → Type 0
@@ -73,8 +56,7 @@ module _ (P : Values → Saved → Type 0) (s : Abstract) (now : P (s .value) (s
       (refusedStale (h .stale) o (result (s .value) (step (s .fileOf) o (h .txn))))
 
   preserved-committed : (t : ℕ) (h : OpenTxn) → leb t lastTransaction ≡ true → s .seats t ≡ occupied h
-      → (daily stale shut placed : Bool)
-      → fits (s .value) (h .txn) ≡ placed → grantable ≡ true
+      → (daily stale shut placed : Bool) → fits (s .value) (h .txn) ≡ placed → grantable ≡ true
       → At (abstractCommitted t h s (commitRefusal daily stale shut placed) .after)
   unfolding abstractCommitted commitRefusal granting withSeat
   preserved-committed t h l o false stale shut placed e g = now
@@ -87,9 +69,8 @@ module _ (P : Values → Saved → Type 0) (s : Abstract) (now : P (s .value) (s
       → At (abstractCommit t minute x s .after)
   unfolding abstractCommit abstractRefuse
   preserved-commit g t minute l vacant o = now
-  preserved-commit g t minute l (occupied h) o =
-      preserved-committed t h l o (minuteIn minute) (h .stale) (forClosed (s .fileOf) (s .windows) minute (h .txn .writes))
-      (fits (s .value) (h .txn)) refl g
+  preserved-commit g t minute l (occupied h) o = preserved-committed t h l o (minuteIn minute) (h .stale)
+      (forClosed (s .fileOf) (s .windows) minute (h .txn .writes)) (fits (s .value) (h .txn)) refl g
 
   preserved-abort : (t : ℕ) (x : Seat) → At (abstractAbort t x s .after)
   unfolding abstractAbort abstractAnswer withSeat abstractRefuse
@@ -124,8 +105,7 @@ module _ (P : Values → Saved → Type 0) (s : Abstract) (now : P (s .value) (s
       pick false = now
 
   preserved-seated : (t : ℕ) (buffer : List ℕ) (next : Seat → Abstract → AbstractTurn)
-      → (leb t lastTransaction ≡ true → At (next (s .seats t) s .after))
-      → At (seated t buffer next s .after)
+      → (leb t lastTransaction ≡ true → At (next (s .seats t) s .after)) → At (seated t buffer next s .after)
   unfolding seated abstractRefuse
   preserved-seated t buffer next h = pick (leb t lastTransaction) h
     where
@@ -164,22 +144,18 @@ seat-occupied false g h e = let z : _≡_ {A = ℕ} 0 1 = cc in absurd (omega ar
 
 module _ (m : Machine) (sound : Sound m) where
   -- After a call.
-  after-call : (P : Values → Saved → Type 0) → P (committedIn m) (backIn m) → (backable : Bool)
-      → ((t : ℕ) (h : OpenTxn) → leb t lastTransaction ≡ true → view m .seats t ≡ occupied h
-      → fits (committedIn m) (h .txn) ≡ true
+  after-call : (P : Values → Saved → Type 0) → P (committedIn m) (backIn m) → (backable : Bool) → ((t : ℕ) (h : OpenTxn)
+      → leb t lastTransaction ≡ true → view m .seats t ≡ occupied h → fits (committedIn m) (h .txn) ≡ true
       → P (landed (settings (fileOf (m .store)) (committedIn m) (h .txn)) (committedIn m)) (preserved (committedIn m)))
-      → (backable ≡ true → (v : Values) → backIn m ≡ preserved v → P v none)
-      → (c : Call) → (c ≡ undoCommit → backable ≡ true) → P (committedIn (call c m .after)) (backIn (call c m .after))
+      → (backable ≡ true → (v : Values) → backIn m ≡ preserved v → P v none) → (c : Call)
+      → (c ≡ undoCommit → backable ≡ true) → P (committedIn (call c m .after)) (backIn (call c m .after))
   unfolding view
-  after-call P now backable then back c g =
-      subst⁻¹ (λ (z : Abstract). P (z .value) (z .back)) (call-turn c m sound .1)
+  after-call P now backable then back c g = subst⁻¹ (λ (z : Abstract). P (z .value) (z .back)) (call-turn c m sound .1)
       (preserved-call P (view m) now true backable (λ e. then) back c (λ u n e. refl) g)
 
   pub grows-call : (c : Call) → (c ≡ undoCommit → ⊥) → Longer (committedIn m) (committedIn (call c m .after))
-  grows-call c e =
-      after-call (λ v b. Longer (committedIn m) v) (λ f. omega arith) false
-      (λ t h l o e. commit-longer (fileOf (m .store)) (committedIn m) (h .txn)) (λ b. absurd (true≢false (sym b))) c
-      (λ b. absurd (e b))
+  grows-call c e = after-call (λ v b. Longer (committedIn m) v) (λ f. omega arith) false (λ t h l o e. commit-longer
+      (fileOf (m .store)) (committedIn m) (h .txn)) (λ b. absurd (true≢false (sym b))) c (λ b. absurd (e b))
 
   -- While somebody is open, nothing goes back.
   opened-call : (t : ℕ) → t ≤ lastTransaction → transaction (m .store) t .begun ≡ true → call undoCommit m .after ≡ m
@@ -187,25 +163,19 @@ module _ (m : Machine) (sound : Sound m) where
   opened-call t l b = pick (admissionOfUndo (sizes m) (m .store) (m .journal)) refl
     where
       pick : (n : ℕ) → admissionOfUndo (sizes m) (m .store) (m .journal) ≡ n → passing n [] m (undoTurn m) .after ≡ m
-      pick zero e =
-          let a = admitted-undo (sizes m) (m .store) (m .journal) e in
+      pick zero e = let a = admitted-undo (sizes m) (m .store) (m .journal) e in
           absurd (true≢false (sym b ∙ a .idle t (omega arith)))
       pick (suc n) e = unfold passing refuseTurn in refl
 
   pub zeros-call : ZeroBeyond (committedIn m) → ZeroBack (backIn m) → (c : Call)
       → ZeroBeyond (committedIn (call c m .after)) × ZeroBack (backIn (call c m .after))
   unfolding view seat openTxnIn fileOf
-  zeros-call zeros backs c =
-      after-call (λ v b. ZeroBeyond v × ZeroBack b) (zeros, backs) true
-      (λ t h l o fit.
-      let k = leb-true t lastTransaction l in
-      let z = seat-occupied (leb t lastTransaction && transaction (m .store) t .begun) (openTxnIn m t) h o in
-      let r = in-range (m .store) (m .journal) (sound .inRange) in
-      let y : h .txn ≡ txnOf (m .store) (m .journal) (m .logs) t = ap (λ (g : OpenTxn). g .txn) (z .1) in
-      let small : t < transactionCount = omega arith in
-      let ranges = decoded-in (m .store) (m .journal) (m .logs) t (sound .logs) small
-      (r .transactions t small (and-right (leb t lastTransaction) _ (z .0)))
-      (sound .shaped .descriptors t small) in
+  zeros-call zeros backs c = after-call (λ v b. ZeroBeyond v × ZeroBack b) (zeros, backs) true (λ t h l o fit. let k =
+      leb-true t lastTransaction l in let z = seat-occupied (leb t lastTransaction && transaction (m .store) t .begun)
+      (openTxnIn m t) h o in let r = in-range (m .store) (m .journal) (sound .inRange) in let y : h .txn ≡ txnOf (m .store)
+      (m .journal) (m .logs) t = ap (λ (g : OpenTxn). g .txn) (z .1) in let small : t < transactionCount =
+      omega arith in let ranges = decoded-in (m .store) (m .journal) (m .logs) t (sound .logs) small
+      (r .transactions t small (and-right (leb t lastTransaction) _ (z .0))) (sound .shaped .descriptors t small) in
       (zero-granted (fileOf (m .store)) (committedIn m) (h .txn) (r .files) (rw y ranges) fit zeros, zeros))
       (λ b v e. (subst ZeroBack e backs, tt)) c (λ e. refl)
 
@@ -214,25 +184,18 @@ module _ (m : Machine) (sound : Sound m) where
       (in-range (m .store) (m .journal) (sound .inRange))
 
   zeros-undone : ZeroBack (backIn m) → m .store .undo .valid ≡ true → ZeroBeyond (committedIn (undone m))
-  unfolding backIn
-  zeros-undone backs h = subst⁻¹ ZeroBeyond (back-values m)
-      (subst (λ (b : Bool). ZeroBack (cond b (preserved (backValues m)) none)) h backs)
+  zeros-undone backs h = unfold backIn in
+      subst⁻¹ ZeroBeyond (back-values m) (subst (λ (b : Bool). ZeroBack (cond b (preserved (backValues m)) none)) h backs)
 
   hold-now : ZeroBeyond (committedIn m) → ZeroBack (backIn m) → LengthsHold m
-  hold-now zeros backs = record {
-    zeros = zeros;
-    zerosUndone = zeros-undone backs;
-    limit = limit-now;
-    grows = grows-call;
-    opened = opened-call;
-  }
+  hold-now zeros backs = record
+      { zeros = zeros; zerosUndone = zeros-undone backs; limit = limit-now; grows = grows-call; opened = opened-call }
 
 hold-after : (cs : List Call) (m : Machine) → Sound m → ZeroBeyond (committedIn m) → ZeroBack (backIn m)
     → LengthsHold (callsAfter cs m)
 unfolding afterAll
 hold-after [] m sound zeros backs = hold-now m sound zeros backs
-hold-after (c ∷ cs) m sound zeros backs =
-    let z = zeros-call m sound zeros backs c in
+hold-after (c ∷ cs) m sound zeros backs = let z = zeros-call m sound zeros backs c in
     hold-after cs (call c m .after) (call-turn c m sound .2) (z .0) (z .1)
 
 -- Over calls and over runs.
@@ -245,35 +208,29 @@ calls-zeros [] m sound z = z
 calls-zeros (c ∷ cs) m sound z = calls-zeros cs (call c m .after) (call-turn c m sound .2) (zeros-call m sound (z .0) (z .1) c)
 
 recovered-zeros : (logs marks : List ℕ) (m : Machine) → Zeros m → Zeros (recovered logs marks m)
-unfolding view startAbstract
-recovered-zeros logs marks m z = subst⁻¹ (λ (s : Abstract). ZeroBeyond (s .value) × ZeroBack (s .back))
-    (recovered-view logs marks m) z
+recovered-zeros logs marks m z = unfold view startAbstract in
+    subst⁻¹ (λ (s : Abstract). ZeroBeyond (s .value) × ZeroBack (s .back)) (recovered-view logs marks m) z
 
 runs-zeros : (rs : List ProgramRun) (m : Machine) → Sound m → Zeros m → Zeros (runsAfter rs m)
 unfolding runsAfter
 runs-zeros [] m sound z = z
-runs-zeros (r ∷ rs) m sound z =
-    let k = callsAfter (r .calls) m in
+runs-zeros (r ∷ rs) m sound z = let k = callsAfter (r .calls) m in
     runs-zeros rs (recovered (r .logs) (r .marks) k)
     (recovered-sound (r .logs) (r .marks) k (calls-agree (r .calls) m sound .sound) (r .logsLength) (r .marksLength))
     (recovered-zeros (r .logs) (r .marks) k (calls-zeros (r .calls) m sound z))
 
 pub lengths-always-hold : LengthsAlwaysHold
 unfolding view startAbstract
-lengths-always-hold m r =
-    let f = fresh-facts (r .numbers) (r .first) (r .made) in
+lengths-always-hold m r = let f = fresh-facts (r .numbers) (r .first) (r .made) in
     let z = runs-zeros (r .runs) (r .first) (f .sound) (
       subst⁻¹ ZeroBeyond (ap (λ (s : Abstract). s .value) (f .same)) (λ g p l e k. refl),
       subst⁻¹ ZeroBack (ap (λ (s : Abstract). s .back) (f .same)) tt,
     ) in
-    subst⁻¹ LengthsHold (r .by)
-    (hold-after (r .calls) (runsAfter (r .runs) (r .first)) (runs-from-fresh (r .numbers) (r .first) (r .made) (r .runs) .second)
-    (z .0) (z .1))
+    subst⁻¹ LengthsHold (r .by) (hold-after (r .calls) (runsAfter (r .runs) (r .first))
+    (runs-from-fresh (r .numbers) (r .first) (r .made) (r .runs) .second) (z .0) (z .1))
 
 pub lengths-tell : LengthsTell
-unfolding firstBeyond
-lengths-tell =
-    record {
-      beyond = λ h. let z : _≡_ {A = ℕ} 1 0 = h 0 3 (omega arith) (omega arith) (omega arith) in absurd (omega arith);
-      shorter = λ h. let z = h 0 in absurd (omega arith);
-    }
+lengths-tell = unfold firstBeyond in record {
+  beyond = λ h. let z : _≡_ {A = ℕ} 1 0 = h 0 3 (omega arith) (omega arith) (omega arith) in absurd (omega arith);
+  shorter = λ h. let z = h 0 in absurd (omega arith);
+}

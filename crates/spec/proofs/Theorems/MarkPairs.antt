@@ -1,27 +1,19 @@
 -- F-9: stores whose marks name the same pairs stand for the same abstract store, so both answer alike.
-use mathlib.Core.Bool.{Bool, true, false, cond, _&&_}
-use mathlib.Core.List.{List}
-use mathlib.Core.Path.{_≡_, refl, sym, ap, _∙_, fun-ext}
+use mathlib.Core.{Bool.{Bool, true, false, cond, _&&_}, List.List, Path.{_≡_, refl, sym, ap, _∙_, fun-ext}}
 use borrow.Author.Tests.{leb-true}
-use lib.Dec.{leb}
-use lib.ListN.{length}
+use lib.{Dec.leb, ListN.length}
 use native.Mathlib.Omega.{arith}
 use Prim.Native.Nat.{ℕ, _<_}
 use Rattle.limits.specs.Limits.{bufferBytes, transactionCount, lastTransaction}
-use Rattle.buffers.specs.Marks.{byTransaction, names, rearranged, hasMark}
-use Rattle.buffers.proofs.Rearranged.{same-pairs}
+use Rattle.buffers.{specs.Marks.{byTransaction, names, rearranged, hasMark}, proofs.Rearranged.same-pairs}
 use Rattle.state.specs.StoreMeaning.{transaction, windowAt}
-use Rattle.spec.specs.Items.{Item, byte, offset, fileLength, Values}
-use Rattle.spec.specs.Messages.{Call}
-use Rattle.spec.specs.Machine.{Machine, withMarking, fileOf, values}
-use Rattle.spec.specs.Age.{Alike}
-use Rattle.spec.specs.MarkPairs.{Named, AlwaysRestsOnPairs}
+use Rattle.spec.specs.{Items.{Item, byte, offset, fileLength, Values}, Messages.Call}
+use Rattle.spec.specs.{Machine.{Machine, withMarking, fileOf, values}, Age.Alike, MarkPairs.{Named, AlwaysRestsOnPairs}}
 use Rattle.spec.specs.Corollaries.{RestsOnOldPairs}
 use Rattle.spec.proofs.Abstract.AbstractStore.{OpenTxn, Seat, vacant, occupied, none, preserved, Abstract, abstractAfter}
 use Rattle.spec.proofs.Abstract.AbstractStore.{abstractReplies}
 use Rattle.spec.proofs.Refinement.Relation.{openTxnIn, seat, backValues, backIn, view, Sound}
-use Rattle.spec.proofs.Theorems.Serializability.{calls-agree}
-use Rattle.spec.proofs.Theorems.Recovery.{reached-sound}
+use Rattle.spec.proofs.Theorems.{Serializability.calls-agree, Recovery.reached-sound}
 
 module _ (m : Machine) (sound : Sound m) (marks : List ℕ) (size : length marks ≡ bufferBytes)
     (named : Named (names byTransaction marks) m) where
@@ -30,19 +22,12 @@ module _ (m : Machine) (sound : Sound m) (marks : List ℕ) (size : length marks
 
   same-open : (t : ℕ) → t < transactionCount → openTxnIn other t ≡ openTxnIn m t
   unfolding openTxnIn hasMark
-  same-open t small =
-      let e : _≡_ {A = ℕ → Bool} (names byTransaction marks t) (names byTransaction (m .marks) t) = fun-ext
-      (λ q. named t q small) in
-      ap (λ (p : ℕ → Bool). openWith p) e
+  same-open t small = let e : _≡_ {A = ℕ → Bool} (names byTransaction marks t) (names byTransaction (m .marks) t) =
+      fun-ext (λ q. named t q small) in ap (λ (p : ℕ → Bool). openWith p) e
     where
       openWith : (ℕ → Bool) → OpenTxn
       openWith p =
-          record {
-            txn = openTxnIn m t .txn;
-            marked = p;
-            lengths = openTxnIn m t .lengths;
-            stale = openTxnIn m t .stale;
-          }
+          record { txn = openTxnIn m t .txn; marked = p; lengths = openTxnIn m t .lengths; stale = openTxnIn m t .stale }
 
   same-seat : (t : ℕ) → seat other t ≡ seat m t
   unfolding seat
@@ -62,45 +47,35 @@ module _ (m : Machine) (sound : Sound m) (marks : List ℕ) (size : length marks
   same-found (fileLength f) = refl
 
   same-back : backIn other ≡ backIn m
-  unfolding backIn
-  same-back =
-      let e : _≡_ {A = Values} (backValues other) (backValues m) = fun-ext same-found in
+  same-back = unfold backIn in let e : _≡_ {A = Values} (backValues other) (backValues m) = fun-ext same-found in
       ap (λ (v : Values). cond (m .store .undo .valid) (preserved v) none) e
 
   same-view : view other ≡ view m
-  unfolding view
-  same-view =
-      let e : _≡_ {A = ℕ → Seat} (seat other) (seat m) = fun-ext same-seat in
-      λ i.
-      record {
-        fileOf = fileOf (m .store);
-        value = values (m .store) (m .files);
-        windows = windowAt (m .store);
-        back = same-back i;
-        seats = e i;
-      }
+  same-view = unfold view in let e : _≡_ {A = ℕ → Seat} (seat other) (seat m) = fun-ext same-seat in λ i. record {
+    fileOf = fileOf (m .store);
+    value = values (m .store) (m .files);
+    windows = windowAt (m .store);
+    back = same-back i;
+    seats = e i;
+  }
 
   other-sound : Sound other
-  other-sound =
-      record {
-        shaped = sound .shaped;
-        journal = sound .journal;
-        files = sound .files;
-        logs = sound .logs;
-        marks = size;
-        undo = sound .undo;
-        inRange = sound .inRange;
-      }
+  other-sound = record {
+    shaped = sound .shaped;
+    journal = sound .journal;
+    files = sound .files;
+    logs = sound .logs;
+    marks = size;
+    undo = sound .undo;
+    inRange = sound .inRange;
+  }
 
   pub same-pairs-alike : (cs : List Call) → Alike cs m other
   unfolding view
-  same-pairs-alike cs =
-      let a = calls-agree cs m sound in
-      let b = calls-agree cs other other-sound in
-      record {
-        replies = a .replies ∙ ap (abstractReplies cs) (sym same-view) ∙ sym (b .replies);
-        left = ap (λ (x : Abstract). x .value) (a .state ∙ ap (abstractAfter cs) (sym same-view) ∙ sym (b .state));
-      }
+  same-pairs-alike cs = let a = calls-agree cs m sound in let b = calls-agree cs other other-sound in record {
+    replies = a .replies ∙ ap (abstractReplies cs) (sym same-view) ∙ sym (b .replies);
+    left = ap (λ (x : Abstract). x .value) (a .state ∙ ap (abstractAfter cs) (sym same-view) ∙ sym (b .state));
+  }
 
 pub always-rests-on-pairs : AlwaysRestsOnPairs
 always-rests-on-pairs m r = same-pairs-alike m (reached-sound m r)

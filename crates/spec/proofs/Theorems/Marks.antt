@@ -1,35 +1,22 @@
 -- Whose marks a call leaves.
-use mathlib.Core.Bool.{Bool, true, false, cond, true≢false}
-use mathlib.Core.List.{List, []}
-use mathlib.Core.Path.{_≡_, refl, sym, ap, subst}
+use mathlib.Core.{Bool.{Bool, true, false, cond, true≢false}, List.{List, []}, Path.{_≡_, refl, sym, ap, subst}}
 use lib.Dec.{leb, eqb}
 use native.Mathlib.Omega.{arith}
 use borrow.Author.Tests.{leb-true}
 use Prim.Native.Nat.{ℕ, zero, suc, _<_}
 use Rattle.limits.specs.Limits.{transactionCount, lastTransaction}
 use Rattle.buffers.specs.Marks.{hasMark}
-use Rattle.state.specs.declared.Transaction.{Transaction}
-use Rattle.state.specs.StoreMeaning.{transaction, ended}
-use Rattle.admission.specs.Admission.{admission}
-use Rattle.admission.specs.FirstRefusal.{unless}
+use Rattle.state.specs.{declared.Transaction.Transaction, StoreMeaning.{transaction, ended}}
+use Rattle.admission.specs.{Admission.admission, FirstRefusal.unless}
 use Rattle.spec.specs.Messages.{Op, seek, write, getFilePointer, read, bufferOf, Call, begin, on, commit, abort, places}
-use Rattle.spec.specs.Messages.{setWindow, undoCommit, bestOrder}
-use Rattle.spec.specs.Steps.{Stepped, refuse, accept}
-use Rattle.spec.specs.Commits.{Setting}
-use Rattle.spec.specs.Transactions.{Txn}
-use Rattle.spec.specs.Machine.{Machine}
-use Rattle.spec.specs.Undo.{savingUndo, undone}
+use Rattle.spec.specs.{Messages.{setWindow, undoCommit, bestOrder}, Steps.{Stepped, refuse, accept}, Commits.Setting}
+use Rattle.spec.specs.{Transactions.Txn, Machine.Machine, Undo.{savingUndo, undone}}
 use Rattle.spec.specs.Calls.{Turn, refuseTurn, passing, answerWith, reset, beginTurn, abortTurn, served, stepTurn}
-use Rattle.spec.specs.Calls.{commitGranted}
-use Rattle.spec.specs.Calls.{commitDecided, commitTurn, placesTurn, windowTurn, undoTurn, orderTurn, admitted, call}
-use Rattle.spec.specs.MarkPairs.{MarksAlwaysLeft}
-use Rattle.spec.proofs.Refinement.Relation.{Sound}
-use Rattle.spec.proofs.Refinement.Marks.{marked-other}
-use Rattle.spec.proofs.Refinement.AfterReset.{unmarked-other}
-use Rattle.spec.proofs.Refinement.Accepted.{sightings, sightings-in}
-use Rattle.spec.proofs.Refinement.Admissions.{shared-is}
-use Rattle.spec.proofs.Theorems.Recovery.{reached-sound}
-use Rattle.spec.proofs.Theorems.Buffers.{on-marks}
+use Rattle.spec.specs.Calls.{commitGranted, commitDecided, commitTurn, placesTurn, windowTurn, undoTurn, orderTurn}
+use Rattle.spec.specs.{Calls.{admitted, call}, MarkPairs.MarksAlwaysLeft}
+use Rattle.spec.proofs.Refinement.{Relation.Sound, Marks.marked-other, AfterReset.unmarked-other}
+use Rattle.spec.proofs.Refinement.{Accepted.{sightings, sightings-in}, Admissions.shared-is}
+use Rattle.spec.proofs.Theorems.{Recovery.reached-sound, Buffers.on-marks}
 
 module _ (m : Machine) (u q : ℕ) where
   -- The marks of transaction u are left.
@@ -42,8 +29,7 @@ module _ (m : Machine) (u q : ℕ) where
   passing-left (suc k) buffer w h = refl
 
   reset-left : (t : ℕ) (x : Transaction) → (u ≡ t → ⊥) → Left (reset t x m)
-  unfolding reset
-  reset-left t x other = unmarked-other t (m .marks) u q other
+  reset-left t x other = unfold reset in unmarked-other t (m .marks) u q other
 
   decided-left : (t : ℕ) (x : Txn) (ss : List Setting) (n : ℕ) → (u ≡ t → ⊥) → Left (commitDecided t x ss m n .after)
   unfolding commitDecided commitGranted savingUndo
@@ -63,15 +49,12 @@ module _ (m : Machine) (u q : ℕ) where
         marked-other t u (sightings m t o) (m .marks) small (sound .marks) (sightings-in m t o sound small begun) other q
 
     -- A call of an open transaction, on a sound store.
-    admitted-left : (t : ℕ) (buffer : List ℕ) (w : Turn)
-        → (t < transactionCount → transaction (m .store) t .begun ≡ true → Left (w .after))
-        → Left (admitted t buffer m w .after)
+    admitted-left : (t : ℕ) (buffer : List ℕ) (w : Turn) → (t < transactionCount → transaction (m .store) t .begun ≡ true
+        → Left (w .after)) → Left (admitted t buffer m w .after)
     unfolding admitted admission unless passing refuseTurn
-    admitted-left t buffer w h =
-        subst (λ (n : ℕ). Left (passing n buffer m w .after))
-        (sym (shared-is m t sound (unless (transaction (m .store) t .begun) 4 0)))
-        (pick (leb t lastTransaction) (transaction (m .store) t .begun)
-        (λ l b. let k = leb-true t lastTransaction l in h (omega arith) b))
+    admitted-left t buffer w h = subst (λ (n : ℕ). Left (passing n buffer m w .after))
+        (sym (shared-is m t sound (unless (transaction (m .store) t .begun) 4 0))) (pick (leb t lastTransaction)
+        (transaction (m .store) t .begun) (λ l b. let k = leb-true t lastTransaction l in h (omega arith) b))
       where
         pick : (b c : Bool) → (b ≡ true → c ≡ true → Left (w .after))
             → Left (passing (unless b 3 (unless c 4 0)) buffer m w .after)
@@ -86,11 +69,9 @@ module _ (m : Machine) (u q : ℕ) where
     on-left t (write d bytes) r = ap (λ (ms : List ℕ). hasMark ms u q) (on-marks t (write d bytes) m (λ e n b k. true≢false cc))
     on-left t (getFilePointer d) r = ap (λ (ms : List ℕ). hasMark ms u q)
         (on-marks t (getFilePointer d) m (λ e n b k. true≢false cc))
-    on-left t (read d n buffer) r =
-        unfold call stepTurn sightings in
-        admitted-left t (bufferOf (read d n buffer)) (stepTurn t (read d n buffer) m)
-        (λ small begun. served-left t (read d n buffer) small begun
-        (λ e. r d n buffer (ap (λ (k : ℕ). on k (read d n buffer)) (sym e))) _)
+    on-left t (read d n buffer) r = unfold call stepTurn sightings in
+        admitted-left t (bufferOf (read d n buffer)) (stepTurn t (read d n buffer) m) (λ small begun. served-left t
+        (read d n buffer) small begun (λ e. r d n buffer (ap (λ (k : ℕ). on k (read d n buffer)) (sym e))) _)
 
     call-left : (c : Call) → ((d n : ℕ) (buffer : List ℕ) → c ≡ on u (read d n buffer) → ⊥) → (c ≡ begin u → ⊥)
         → ((minute : ℕ) → c ≡ commit u minute → ⊥) → (c ≡ abort u → ⊥) → Left (call c m .after)

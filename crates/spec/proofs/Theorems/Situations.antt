@@ -1,28 +1,19 @@
 -- The situations and the edge cases hold of every freshly made store: by Serializability its replies and values are the reference
 -- model's.
-use mathlib.Core.List.{List}
-use mathlib.Core.Path.{_≡_, ap, _∙_, subst⁻¹}
+use mathlib.Core.{List.List, Path.{_≡_, ap, _∙_, subst⁻¹}}
 use lib.ListN.{getD}
 use Rattle.windows.specs.Windows.{freshWindows}
-use Rattle.spec.specs.Messages.{Call}
-use Rattle.spec.specs.Sightings.{Committed}
-use Rattle.spec.specs.Plain.{nothing, freshPlain, plainAfter}
-use Rattle.spec.specs.Machine.{Machine, values}
-use Rattle.spec.specs.Calls.{callsAfter}
-use Rattle.spec.specs.SerializabilityOfStore.{FreshlyMade}
-use Rattle.spec.specs.Setup.{numbers, freshNumbered, Seen, onPlain, onStore}
-use Rattle.spec.specs.Situations.{Starred}
-use Rattle.spec.specs.EdgeCases.{EdgeCases}
+use Rattle.spec.specs.{Messages.Call, Sightings.Committed, Plain.{nothing, freshPlain, plainAfter}}
+use Rattle.spec.specs.{Machine.{Machine, values}, Calls.callsAfter, SerializabilityOfStore.FreshlyMade}
+use Rattle.spec.specs.{Setup.{numbers, freshNumbered, Seen, onPlain, onStore}, Situations.Starred, EdgeCases.EdgeCases}
 use Rattle.spec.specs.LaterEdgeCases.{LaterEdgeCases}
 use Rattle.spec.proofs.Abstract.AbstractSerializability.{again-left}
 use Rattle.spec.proofs.Examples.Situations.{starred, edge-cases, later-edge-cases}
 use Rattle.spec.proofs.Theorems.Serializability.{serializability}
 
 module _ (m : Machine) (made : FreshlyMade numbers m) where
-  same-values :
-      (cs : List Call)
-      → values (callsAfter cs m .store) (callsAfter cs m .files)
-      ≡ plainAfter cs (freshPlain (λ d. getD numbers d 0)) .committed .value
+  same-values : (cs : List Call) → values (callsAfter cs m .store) (callsAfter cs m .files) ≡ plainAfter cs
+      (freshPlain (λ d. getD numbers d 0)) .committed .value
   same-values cs = serializability numbers m made cs .left
       ∙ ap (λ (c : Committed). c .value) (again-left (λ d. getD numbers d 0) (λ i. 0) freshWindows nothing tt cs)
 

@@ -4,7 +4,6 @@ use Prim.Native.Nat.{_-_, _≤_}
 use mathlib.Core.Path.{_≡_}
 use native.Mathlib.Omega.{arith}
 use borrow.Author.Needs.{needs}
-use Rattle.test_driver.proofs.put.Statement.{statement}
 use Rattle.test_driver.proofs.put.Tie as tie
 
 abbrev Inv-loop : tie.InvT-loop
@@ -13,41 +12,7 @@ Inv-loop bytes₀ first step byte₀ i₀ bytes byte i = (i ≤ length bytes₀)
 abbrev μ-loop : tie.MeasureT-loop
 μ-loop bytes₀ first step byte₀ i₀ bytes byte i = length bytes₀ - i
 
-loop-holds : tie.Need-loop-holds Inv-loop μ-loop
-loop-holds c = search needs
-
-slice-write-bytes : tie.Need-slice-write-bytes Inv-loop μ-loop
-slice-write-bytes c = search needs
-
-wrapping-add-u8-requires : tie.Need-wrapping-add-u8-requires Inv-loop μ-loop
-wrapping-add-u8-requires c κs = search needs
-
-add-i : tie.Need-add-i Inv-loop μ-loop
-add-i c = search needs
-
-loop-less : tie.Need-loop-less Inv-loop μ-loop
-loop-less c = search needs
-
-loop-again : tie.Need-loop-again Inv-loop μ-loop
-loop-again c = (omega arith, simp length-set (omega arith))
-
-same-length : tie.Need-same-length Inv-loop μ-loop
-same-length c = search needs
-
-returns : tie.Need-returns Inv-loop μ-loop
-returns c = search needs
-
-pub put-spec : {M : Type 1} → statement M
-put-spec =
-    tie.close
-    (tie.spec
-    Inv-loop
-    μ-loop
-    loop-holds
-    slice-write-bytes
-    wrapping-add-u8-requires
-    add-i
-    loop-less
-    loop-again
-    same-length
-    returns)
+pub put-spec : {M : Type 1} → Rattle.test_driver.proofs.put.Statement.statement M
+put-spec = tie.close (tie.spec Inv-loop μ-loop (λ c. search needs) (λ c. search needs) (λ c κs. search needs)
+    (λ c. search needs) (λ c. search needs) (λ c. (omega arith, simp length-set (omega arith)))
+    (λ c. search needs) (λ c. search needs))

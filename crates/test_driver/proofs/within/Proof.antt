@@ -2,14 +2,8 @@
 use lib.Seq.{length-take-le}
 use mathlib.Core.Path.{sym}
 use native.Mathlib.Omega.{arith}
-use Rattle.test_driver.proofs.within.Statement.{statement}
 use Rattle.test_driver.proofs.within.Tie as tie
 
-returns : tie.Need-returns
-returns c = (omega arith, sym (length-take-le _ _ (omega arith)))
-
-returns-2 : tie.Need-returns-2
-returns-2 c = (omega arith, sym (length-take-le _ _ (omega arith)))
-
-pub within-spec : {M : Type 1} → statement M
-within-spec = tie.close (tie.spec returns returns-2)
+pub within-spec : {M : Type 1} → Rattle.test_driver.proofs.within.Statement.statement M
+within-spec = tie.close (tie.spec (λ c. (omega arith, sym (length-take-le _ _ (omega arith))))
+    (λ c. (omega arith, sym (length-take-le _ _ (omega arith)))))

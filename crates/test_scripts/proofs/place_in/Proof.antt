@@ -1,13 +1,9 @@
 -- `place_in` meets its contract.
 use Prim.Native.Nat.{_+_}
-use native.Mathlib.Omega.{arith}
-use native.Mathlib.Nat.{mod-lt}
+use native.Mathlib.{Omega.arith, Nat.mod-lt}
 use borrow.Author.Needs.{needs}
-use Rattle.test_scripts.proofs.place_in.Statement.{statement}
 use Rattle.test_scripts.proofs.place_in.Tie as tie
 
-returns : tie.Need-returns
-returns c = omega (arith, mod-lt (c .args .value) {m = c .args .n + 1} (omega arith))
-
-pub place-in-spec : {M : Type 1} → statement M
-place-in-spec = tie.close (tie.spec (λ c. search needs) (λ c. search needs) returns)
+pub place-in-spec : {M : Type 1} → Rattle.test_scripts.proofs.place_in.Statement.statement M
+place-in-spec = tie.close (tie.spec (λ c. search needs) (λ c. search needs)
+    (λ c. omega (arith, mod-lt (c .args .value) {m = c .args .n + 1} (omega arith))))

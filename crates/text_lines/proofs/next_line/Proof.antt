@@ -1,46 +1,25 @@
 -- `next` meets its contract. The loop's invariant: the lines from i on, with the bytes pending now, are those from the start,
 -- with the bytes pending then. Assumes nothing.
-use mathlib.Core.Path.{_≡_, refl, sym, ap, _∙_}
-use mathlib.Core.Bool.{false≢true}
-use mathlib.Core.List.{List}
+use mathlib.Core.{Path.{_≡_, refl, sym, ap, _∙_}, Bool.false≢true, List.List}
 use Prim.Native.Nat.{ℕ, _+_, _-_, _≤_, _<_}
 use native.Mathlib.Omega.{arith}
 use lib.ListN.{length, take, drop, getD, length-set, drop-of-length-le}
 use borrow.Author.Needs.{needs}
-use Rattle.text_lines.specs.Lines.{completedIn, pendingAfter}
-use Rattle.text_lines.specs.Scans.{NextLine}
+use Rattle.text_lines.specs.{Lines.{completedIn, pendingAfter}, Scans.NextLine}
 use Rattle.text_lines.proofs.Laws.{Same, scan-passed, scan-stopped, joins, let-go}
-use Rattle.text_lines.proofs.next_line.Statement.{statement}
 use Rattle.text_lines.proofs.next_line.Tie as tie
 
 abbrev Inv-loop : tie.InvT-loop
-Inv-loop line₀ pending piece from n₀ i₀ line n i =
-    (n ≤ length line₀) × ((from ≤ i) × ((i ≤ length piece)
-    × ((length line ≡ length line₀) × Same (length line₀ - 1) (take pending line₀) (drop from piece) (take n line)
-    (drop i piece))))
+Inv-loop line₀ pending piece from n₀ i₀ line n i = (n ≤ length line₀) × ((from ≤ i) × ((i ≤ length piece) × ((length line
+    ≡ length line₀) × Same (length line₀ - 1) (take pending line₀) (drop from piece) (take n line) (drop i piece))))
 
 abbrev μ-loop : tie.MeasureT-loop
 μ-loop line₀ pending piece from n₀ i₀ line n i = length piece - i
 
-loop-holds : tie.Need-loop-holds Inv-loop μ-loop
-loop-holds c = (omega arith, (omega arith, (omega arith, (refl, (refl, refl)))))
-
-shared-slice-read-b : tie.Need-shared-slice-read-b Inv-loop μ-loop
-shared-slice-read-b c = search needs
-
-add-i : tie.Need-add-i Inv-loop μ-loop
-add-i c = search needs
-
-same-length : tie.Need-same-length Inv-loop μ-loop
-same-length c = omega arith
-
 returns : tie.Need-returns Inv-loop μ-loop
 unfolding NextLine
-returns c =
-    let l = c .before .before .before .loop in
-    let p = c .before .before .before .before .args .piece .now in
-    let most = length (c .before .before .before .before .args .line .now) - 1 in
-    let s = l .inv .1 .1 .1 .1 in
+returns c = let l = c .before .before .before .loop in let p = c .before .before .before .before .args .piece .now in
+    let most = length (c .before .before .before .before .args .line .now) - 1 in let s = l .inv .1 .1 .1 .1 in
     let f = scan-stopped most (take (l .n) (l .line)) p (l .i) (c .before .before .loop-test .taken) (c .if1 .taken) in (
       (s .0 ∙ f .0, s .1 ∙ f .1),
       record {
@@ -52,28 +31,14 @@ returns c =
       },
     )
 
-slice-write-line : tie.Need-slice-write-line Inv-loop μ-loop
-slice-write-line c = search needs
-
-add-n : tie.Need-add-n Inv-loop μ-loop
-add-n c = search needs
-
-loop-less : tie.Need-loop-less Inv-loop μ-loop
-loop-less c = search needs
-
 loop-again : tie.Need-loop-again Inv-loop μ-loop
-loop-again c =
-    let l = c .before .before .before .before .loop in
+loop-again c = let l = c .before .before .before .before .loop in
     let p = c .before .before .before .before .before .args .piece .now in
-    let most = length (c .before .before .before .before .before .args .line .now) - 1 in
-    let b = getD p (l .i) 0 in
-    let s = l .inv .1 .1 .1 .1 in
-    let h : l .i < length p = c .before .before .before .loop-test .taken in
-    let q = scan-passed most (take (l .n) (l .line)) p (l .i) h (c .before .if1 .left) in
-    let same = l .inv .1 .1 .1 .0 in
+    let most = length (c .before .before .before .before .before .args .line .now) - 1 in let b = getD p (l .i) 0 in
+    let s = l .inv .1 .1 .1 .1 in let h : l .i < length p = c .before .before .before .loop-test .taken in
+    let q = scan-passed most (take (l .n) (l .line)) p (l .i) h (c .before .if1 .left) in let same = l .inv .1 .1 .1 .0 in
     let j = joins (l .line) (l .n) b most (omega (arith, same, c .before .before .before .before .before .pre .0))
-    (c .if2 .taken) in
-    let z = length-set (l .line) (l .n) b in (
+    (c .if2 .taken) in let z = length-set (l .line) (l .n) b in (
       omega arith,
       (
         omega arith,
@@ -83,27 +48,19 @@ loop-again c =
             z ∙ l .inv .1 .1 .1 .0,
             (
               s .0 ∙ q .0 ∙ ap (λ (x : List ℕ). completedIn most x (drop (l .i + 1) p)) j,
-              s .1 ∙ q .1
-                  ∙ ap (λ (x : List ℕ). pendingAfter most x (drop (l .i + 1) p)) j,
+              s .1 ∙ q .1 ∙ ap (λ (x : List ℕ). pendingAfter most x (drop (l .i + 1) p)) j,
             ),
           ),
         ),
       ),
     )
 
-loop-less-2 : tie.Need-loop-less-2 Inv-loop μ-loop
-loop-less-2 c = search needs
-
 loop-again-2 : tie.Need-loop-again-2 Inv-loop μ-loop
-loop-again-2 c =
-    let l = c .before .before .before .before .loop in
+loop-again-2 c = let l = c .before .before .before .before .loop in
     let p = c .before .before .before .before .before .args .piece .now in
-    let most = length (c .before .before .before .before .before .args .line .now) - 1 in
-    let b = getD p (l .i) 0 in
-    let s = l .inv .1 .1 .1 .1 in
-    let h : l .i < length p = c .before .before .before .loop-test .taken in
-    let q = scan-passed most (take (l .n) (l .line)) p (l .i) h (c .before .if1 .left) in
-    let same = l .inv .1 .1 .1 .0 in
+    let most = length (c .before .before .before .before .before .args .line .now) - 1 in let b = getD p (l .i) 0 in
+    let s = l .inv .1 .1 .1 .1 in let h : l .i < length p = c .before .before .before .loop-test .taken in
+    let q = scan-passed most (take (l .n) (l .line)) p (l .i) h (c .before .if1 .left) in let same = l .inv .1 .1 .1 .0 in
     let j = let-go (l .line) (l .n) b most (omega (arith, same, c .before .before .before .before .before .pre .0))
     (omega (arith, same, l .inv .0)) (c .if2 .left) in (
       omega arith,
@@ -115,16 +72,12 @@ loop-again-2 c =
             l .inv .1 .1 .1 .0,
             (
               s .0 ∙ q .0 ∙ ap (λ (x : List ℕ). completedIn most x (drop (l .i + 1) p)) j,
-              s .1 ∙ q .1
-                  ∙ ap (λ (x : List ℕ). pendingAfter most x (drop (l .i + 1) p)) j,
+              s .1 ∙ q .1 ∙ ap (λ (x : List ℕ). pendingAfter most x (drop (l .i + 1) p)) j,
             ),
           ),
         ),
       ),
     )
-
-same-length-2 : tie.Need-same-length-2 Inv-loop μ-loop
-same-length-2 c = omega arith
 
 returns-2 : tie.Need-returns-2 Inv-loop μ-loop
 unfolding NextLine completedIn pendingAfter
@@ -144,22 +97,8 @@ returns-2 c =
       },
     )
 
-pub next-line-spec : {M : Type 1} → statement M
-next-line-spec =
-    tie.close
-    (tie.spec
-    Inv-loop
-    μ-loop
-    loop-holds
-    shared-slice-read-b
-    add-i
-    same-length
-    returns
-    slice-write-line
-    add-n
-    loop-less
-    loop-again
-    loop-less-2
-    loop-again-2
-    same-length-2
-    returns-2)
+pub next-line-spec : {M : Type 1} → Rattle.text_lines.proofs.next_line.Statement.statement M
+next-line-spec = tie.close
+    (tie.spec Inv-loop μ-loop (λ c. (omega arith, (omega arith, (omega arith, (refl, (refl, refl))))))
+    (λ c. search needs) (λ c. search needs) (λ c. omega arith) returns (λ c. search needs) (λ c. search needs)
+    (λ c. search needs) loop-again (λ c. search needs) loop-again-2 (λ c. omega arith) returns-2)

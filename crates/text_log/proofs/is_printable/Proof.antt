@@ -6,7 +6,6 @@ use lib.ListN.{length, drop}
 use borrow.Author.Needs.{needs}
 use Rattle.text_log.specs.LogLines.{printable}
 use Rattle.text_log.proofs.Printable.{print-low, print-high, print-more, print-end}
-use Rattle.text_log.proofs.is_printable.Statement.{statement}
 use Rattle.text_log.proofs.is_printable.Tie as tie
 
 abbrev Inv-loop : tie.InvT-loop
@@ -15,37 +14,18 @@ Inv-loop bytes i₀ i = (i ≤ length bytes) × (printable bytes ≡ printable (
 abbrev μ-loop : tie.MeasureT-loop
 μ-loop bytes i₀ i = length bytes - i
 
-loop-holds : tie.Need-loop-holds Inv-loop μ-loop
-loop-holds c = (omega arith, refl)
-
 returns : tie.Need-returns Inv-loop μ-loop
 returns c = sym (c .before .before .before .loop .inv .1 ∙ print-low _ _ (c .before .before .loop-test .taken) (c .if1 .taken))
 
 returns-2 : tie.Need-returns-2 Inv-loop μ-loop
-returns-2 c =
-    sym (c .before .before .before .before .loop .inv .1
+returns-2 c = sym (c .before .before .before .before .loop .inv .1
     ∙ print-high _ _ (c .before .before .before .loop-test .taken) (c .if2 .taken))
 
 loop-again : tie.Need-loop-again Inv-loop μ-loop
-loop-again c =
-    let l = c .before .before .before .before .loop in
-    let h = c .before .before .before .loop-test .taken in
+loop-again c = let l = c .before .before .before .before .loop in let h = c .before .before .before .loop-test .taken in
     (omega (arith, h), l .inv .1 ∙ print-more _ _ h (c .before .if1 .left) (c .if2 .left))
 
-returns-3 : tie.Need-returns-3 Inv-loop μ-loop
-returns-3 c = sym (c .before .loop .inv .1 ∙ print-end _ _ (c .loop-test .left))
-
-pub is-printable-spec : {M : Type 1} → statement M
-is-printable-spec =
-    tie.close
-    (tie.spec
-    Inv-loop
-    μ-loop
-    loop-holds
-    (λ c. search needs)
-    returns
-    returns-2
-    (λ c. search needs)
-    (λ c. search needs)
-    loop-again
-    returns-3)
+pub is-printable-spec : {M : Type 1} → Rattle.text_log.proofs.is_printable.Statement.statement M
+is-printable-spec = tie.close (tie.spec Inv-loop μ-loop (λ c. (omega arith, refl)) (λ c. search needs) returns
+    returns-2 (λ c. search needs) (λ c. search needs) loop-again
+    (λ c. sym (c .before .loop .inv .1 ∙ print-end _ _ (c .loop-test .left))))

@@ -1,17 +1,10 @@
 -- A letter, then the number directly behind it.
 use mathlib.Core.List.{[], _∷_}
 use native.Mathlib.Omega.{arith}
-use lib.ListN.{length}
 use borrow.Author.Needs.{needs}
-use Rattle.text_numerals.specs.Decimal.{numberText}
-use Rattle.text_numerals.proofs.PutLaws.{then, length-number}
-use Rattle.text_log.specs.LogLines.{letterAndNumbers}
+use Rattle.text_numerals.{specs.Decimal.numberText, proofs.PutLaws.{then, length-number}}
 use Rattle.text_log.proofs.Texts.{joined-one}
-use Rattle.text_log.proofs.put_one.Statement.{statement}
 use Rattle.text_log.proofs.put_one.Tie as tie
-
-put-byte-requires : tie.Need-put-byte-requires
-put-byte-requires c κs = search needs
 
 put-number-requires : tie.Need-put-number-requires
 put-number-requires c κs = omega (
@@ -20,19 +13,11 @@ put-number-requires c κs = omega (
   c .before .before .before .put-byte .ensures .end,
 )
 
-same-length : tie.Need-same-length
-same-length c = search needs
-
 returns : tie.Need-returns
-returns c =
-    let start = c .before .before .before .before .before .before .before .before .before in
-    let a = start .args .a in
-    let l = length-number a in
-    let fits = start .pre in
-    rw (joined-one a)
-    (then (start .args .letter ∷ []) (numberText a) (omega arith)
-    (c .before .before .before .before .before .before .put-byte .ensures)
-    (c .before .before .put-number .ensures))
+returns c = let start = c .before .before .before .before .before .before .before .before .before in
+    let a = start .args .a in let l = length-number a in let fits = start .pre in
+    rw (joined-one a) (then (start .args .letter ∷ []) (numberText a) (omega arith)
+    (c .before .before .before .before .before .before .put-byte .ensures) (c .before .before .put-number .ensures))
 
-pub put-one-spec : {M : Type 1} → statement M
-put-one-spec = tie.close (tie.spec put-byte-requires put-number-requires same-length returns)
+pub put-one-spec : {M : Type 1} → Rattle.text_log.proofs.put_one.Statement.statement M
+put-one-spec = tie.close (tie.spec (λ c κs. search needs) put-number-requires (λ c. search needs) returns)

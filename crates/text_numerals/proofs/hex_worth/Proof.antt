@@ -1,16 +1,9 @@
 -- A hexadecimal digit is worth at most 15.
-use mathlib.Core.Bool.{true, false}
-use mathlib.Core.List.{[], _∷_}
-use mathlib.Core.Path.{_≡_, refl, sym, ap, _∙_}
-use Prim.Native.Nat.{_+_, _-_, _*_, _≤_, _<_}
+use mathlib.Core.Path.{sym, _∙_}
 use native.Mathlib.Omega.{arith}
-use lib.ListN.{length, take, drop, set, length-set}
-use lib.Seq.{length-take-le}
 use borrow.Author.Needs.{needs}
-use borrow.Author.Tests.{le-leb, lt-leb}
 use Rattle.text_numerals.specs.Pairs.{hexWorth}
 use Rattle.text_numerals.proofs.ReadLaws.{digit-bounds, letter-bounds}
-use Rattle.text_numerals.proofs.hex_worth.Statement.{statement}
 use Rattle.text_numerals.proofs.hex_worth.Tie as tie
 
 sub-result : tie.Need-sub-result
@@ -18,22 +11,19 @@ sub-result c = omega (arith, digit-bounds (c .before .before .args .b) (sym (c .
 
 returns : tie.Need-returns
 unfolding hexWorth
-returns c =
-    let d = sym (c .before .is-digit .ensures) ∙ c .if1 .taken in
+returns c = let d = sym (c .before .is-digit .ensures) ∙ c .if1 .taken in
     (simp d, omega (arith, digit-bounds (c .before .before .args .b) d))
 
 sub-result-2 : tie.Need-sub-result-2
 sub-result-2 c = omega (
   arith,
-  letter-bounds (c .before .before .args .b) (c .before .before .pre)
-      (sym (c .before .is-digit .ensures) ∙ c .if1 .left),
+  letter-bounds (c .before .before .args .b) (c .before .before .pre) (sym (c .before .is-digit .ensures) ∙ c .if1 .left),
 )
 
 returns-2 : tie.Need-returns-2
 unfolding hexWorth
-returns-2 c =
-    let d = sym (c .before .is-digit .ensures) ∙ c .if1 .left in
+returns-2 c = let d = sym (c .before .is-digit .ensures) ∙ c .if1 .left in
     (simp d, omega (arith, letter-bounds (c .before .before .args .b) (c .before .before .pre) d))
 
-pub hex-worth-spec : {M : Type 1} → statement M
+pub hex-worth-spec : {M : Type 1} → Rattle.text_numerals.proofs.hex_worth.Statement.statement M
 hex-worth-spec = tie.close (tie.spec (λ c κs. search needs) sub-result returns sub-result-2 returns-2)

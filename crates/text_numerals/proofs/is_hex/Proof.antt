@@ -1,21 +1,8 @@
 -- The tests of the byte are those of `isHex`.
-use mathlib.Core.Bool.{true, false}
-use mathlib.Core.List.{[], _∷_}
-use mathlib.Core.Path.{_≡_, refl, sym, ap, _∙_}
-use Prim.Native.Nat.{_+_, _-_, _*_, _≤_, _<_}
-use native.Mathlib.Omega.{arith}
-use lib.ListN.{length, take, drop, set, length-set}
-use lib.Seq.{length-take-le}
-use borrow.Author.Needs.{needs}
-use borrow.Author.Tests.{le-leb, lt-leb}
+use mathlib.Core.Path.{sym, _∙_}
+use borrow.Author.{Needs.needs, Tests.{le-leb, lt-leb}}
 use Rattle.text_numerals.specs.Pairs.{isHex}
-use Rattle.text_numerals.proofs.ReadLaws.{digit-bounds}
-use Rattle.text_numerals.proofs.is_hex.Statement.{statement}
 use Rattle.text_numerals.proofs.is_hex.Tie as tie
-
-returns : tie.Need-returns
-unfolding isHex
-returns c = simp (sym (c .before .is-digit .ensures) ∙ c .if1 .taken)
 
 returns-2 : tie.Need-returns-2
 unfolding isHex
@@ -25,5 +12,6 @@ returns-3 : tie.Need-returns-3
 unfolding isHex
 returns-3 c = simp (sym (c .before .before .is-digit .ensures) ∙ c .before .if1 .left, le-leb _ _ (c .if2 .left))
 
-pub is-hex-spec : {M : Type 1} → statement M
-is-hex-spec = tie.close (tie.spec (λ c κs. search needs) returns returns-2 returns-3)
+pub is-hex-spec : {M : Type 1} → Rattle.text_numerals.proofs.is_hex.Statement.statement M
+is-hex-spec = tie.close (tie.spec (λ c κs. search needs)
+    (λ c. unfold isHex in simp (sym (c .before .is-digit .ensures) ∙ c .if1 .taken)) returns-2 returns-3)

@@ -4,11 +4,7 @@ use native.Mathlib.Omega.{arith}
 use borrow.Author.Needs.{needs}
 use Rattle.text_numerals.specs.Decimal.{numberText}
 use Rattle.text_numerals.proofs.PutLaws.{then, length-number}
-use Rattle.text_numerals.proofs.put_spaced.Statement.{statement}
 use Rattle.text_numerals.proofs.put_spaced.Tie as tie
-
-put-byte-requires : tie.Need-put-byte-requires
-put-byte-requires c κs = search needs
 
 put-number-requires : tie.Need-put-number-requires
 put-number-requires c κs = omega (
@@ -17,17 +13,11 @@ put-number-requires c κs = omega (
   c .before .before .before .put-byte .ensures .end,
 )
 
-same-length : tie.Need-same-length
-same-length c = search needs
-
 returns : tie.Need-returns
-returns c =
-    let start = c .before .before .before .before .before .before .before .before .before in
-    let l = length-number (start .args .n) in
-    let fits = start .pre in
+returns c = let start = c .before .before .before .before .before .before .before .before .before in
+    let l = length-number (start .args .n) in let fits = start .pre in
     then (32 ∷ []) (numberText (start .args .n)) (omega arith)
-    (c .before .before .before .before .before .before .put-byte .ensures)
-    (c .before .before .put-number .ensures)
+    (c .before .before .before .before .before .before .put-byte .ensures) (c .before .before .put-number .ensures)
 
-pub put-spaced-spec : {M : Type 1} → statement M
-put-spaced-spec = tie.close (tie.spec put-byte-requires put-number-requires same-length returns)
+pub put-spaced-spec : {M : Type 1} → Rattle.text_numerals.proofs.put_spaced.Statement.statement M
+put-spaced-spec = tie.close (tie.spec (λ c κs. search needs) put-number-requires (λ c. search needs) returns)

@@ -1,54 +1,42 @@
 -- `run` meets its contract. The loop's invariant: no output waits, the buffers keep their lengths, and while turns are left the
 -- store is where the pieces so far led. Assumes nothing.
-use mathlib.Core.Bool.{true, false≢true}
-use mathlib.Core.List.{[]}
-use mathlib.Core.Path.{_≡_, refl}
+use mathlib.Core.{Bool.{true, false≢true}, List.[], Path.{_≡_, refl}}
 use lib.ListN.{length, take}
 use Prim.Native.Nat.{_<_}
 use native.Mathlib.Omega.{arith}
 use borrow.Author.Needs.{needs}
-use Rattle.spec.specs.Promises.{machineOf}
-use Rattle.text_lines.specs.WholeRun.{PiecesReach, LinesLead}
-use Rattle.text_lines.proofs.WholeRun.{reached-first, reached-more, goes-on, ran}
-use Rattle.trace.specs.Transcript.{storeTrace, under}
+use Rattle.spec.specs.{Promises.machineOf, Calls.call}
+use Rattle.text_lines.{specs.WholeRun.{PiecesReach, LinesLead}, proofs.WholeRun.{reached-first, reached-more, goes-on, ran}}
+use Rattle.trace.specs.{Transcript.{storeTrace, under}, Bounds.{TraceResting, TraceRoom}}
 use Rattle.trace.proofs.TruncatedLines.{trace-truncated-is-enough}
-use Rattle.trace.specs.Bounds.{TraceResting, TraceRoom}
-use Rattle.trace.proofs.run.Statement.{statement}
 use Rattle.trace.proofs.run.Tie as tie
-use Rattle.spec.specs.Calls.{call}
 
 abbrev Inv-loop : tie.InvT-loop
-Inv-loop state₀ files₀ logs₀ marks₀ undo₀ line₀ reader₀ input₀ out₀ progress₀ turns₀ state files logs marks undo line reader input
-    out progress turns =
-    TraceResting progress × TraceRoom reader out × (length line ≡ 129) × (length input ≡ length input₀)
-    × (0 < turns
+Inv-loop state₀ files₀ logs₀ marks₀ undo₀ line₀ reader₀ input₀ out₀ progress₀ turns₀ state files logs marks undo line reader
+    input out progress turns =
+    TraceResting progress × TraceRoom reader out × (length line ≡ 129) × (length input ≡ length input₀) × (0 < turns
     → PiecesReach storeTrace (record { machine = machineOf state₀ files₀ logs₀ marks₀ undo₀; reader = reader₀ })
-    (under (machineOf state files logs marks undo) reader (take (progress .pending) line) []))
-    × (progress .complete ≡ true
+    (under (machineOf state files logs marks undo) reader (take (progress .pending) line) [])) × (progress .complete ≡ true
     → LinesLead storeTrace (record { machine = machineOf state₀ files₀ logs₀ marks₀ undo₀; reader = reader₀ })
     (record { machine = machineOf state files logs marks undo; reader = reader }))
 
 abbrev μ-loop : tie.MeasureT-loop
-μ-loop state₀ files₀ logs₀ marks₀ undo₀ line₀ reader₀ input₀ out₀ progress₀ turns₀ state files logs marks undo line reader input
-    out progress turns
-    = turns
+μ-loop state₀ files₀ logs₀ marks₀ undo₀ line₀ reader₀ input₀ out₀ progress₀ turns₀ state files logs marks undo line reader
+    input out progress turns = turns
 
 loop-holds : tie.Need-loop-holds Inv-loop μ-loop
-loop-holds c =
-    let p = c .before .before .before .before .pre in (
-      record { pending = omega arith; waiting = refl },
-      record { readable = p .1 .0 .readable; printable = p .1 .0 .printable },
-      p .1 .1,
-      refl,
-      λ h. reached-first storeTrace _,
-      λ h. absurd (false≢true h),
-    )
+loop-holds c = let p = c .before .before .before .before .pre in (
+  record { pending = omega arith; waiting = refl },
+  record { readable = p .1 .0 .readable; printable = p .1 .0 .printable },
+  p .1 .1,
+  refl,
+  λ h. reached-first storeTrace _,
+  λ h. absurd (false≢true h),
+)
 
 turn-requires : tie.Need-turn-requires Inv-loop μ-loop
-turn-requires c κs =
-    let tested = c .before .before .before .before .before .before .before .before .before in
-    let loop = tested .before in
-    let i = loop .loop .inv in
+turn-requires c κs = let tested = c .before .before .before .before .before .before .before .before .before in
+    let loop = tested .before in let i = loop .loop .inv in
     let made = loop .before .before .before .before .before .pre .0 in (
       i .0,
       (
@@ -58,12 +46,9 @@ turn-requires c κs =
     )
 
 loop-again : tie.Need-loop-again Inv-loop μ-loop
-loop-again c =
-    let turned = c .before .before .before .before .before .before .before .before .before in
+loop-again c = let turned = c .before .before .before .before .before .before .before .before .before in
     let tested = turned .before .before .before .before .before .before .before .before .before .before in
-    let i = tested .before .loop .inv in
-    let k = turned .turn .kept in
-    let t = turned .turn .ensures in
+    let i = tested .before .loop .inv in let k = turned .turn .kept in let t = turned .turn .ensures in
     let before = i .4 (tested .loop-test .taken) in (
       t .0,
       record { readable = omega (arith, i .1 .readable, k); printable = omega (arith, i .1 .printable, k) },
@@ -73,22 +58,7 @@ loop-again c =
       λ h. ran storeTrace (trace-truncated-is-enough call) _ _ _ _ _ before (t .2 h .1),
     )
 
-returns : tie.Need-returns Inv-loop μ-loop
-returns c = c .before .loop .inv .5
-
-pub run-spec : {M : Type 1} → statement M
-run-spec =
-    tie.close
-    (tie.spec
-    Inv-loop
-    μ-loop
-    loop-holds
-    turn-requires
-    (λ c κs. search needs)
-    (λ c. search needs)
-    loop-again
-    (λ c. search needs)
-    (λ c. search needs)
-    (λ c. search needs)
-    (λ c. search needs)
-    returns)
+pub run-spec : {M : Type 1} → Rattle.trace.proofs.run.Statement.statement M
+run-spec = tie.close (tie.spec Inv-loop μ-loop loop-holds turn-requires (λ c κs. search needs)
+    (λ c. search needs) loop-again (λ c. search needs) (λ c. search needs) (λ c. search needs)
+    (λ c. search needs) (λ c. c .before .loop .inv .5))

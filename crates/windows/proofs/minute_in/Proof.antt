@@ -2,12 +2,7 @@
 use mathlib.Core.Path.{refl}
 use borrow.Author.Needs.{needs}
 use Rattle.windows.specs.Windows.{minuteIn}
-use Rattle.windows.proofs.minute_in.Statement.{statement}
 use Rattle.windows.proofs.minute_in.Tie as tie
 
-returns : tie.Need-returns
-unfolding minuteIn
-returns c = refl
-
-pub minute-in-spec : {M : Type 1} → statement M
-minute-in-spec = tie.close (tie.spec (λ c. search needs) returns)
+pub minute-in-spec : {M : Type 1} → Rattle.windows.proofs.minute_in.Statement.statement M
+minute-in-spec = tie.close (tie.spec (λ c. search needs) (λ c. unfold minuteIn in refl))

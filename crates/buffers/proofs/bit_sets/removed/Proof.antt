@@ -6,21 +6,11 @@ use lib.Bits.{bitAnd}
 use borrow.Author.Needs.{needs}
 use Rattle.buffers.specs.Bits.{withoutBit}
 use Rattle.buffers.proofs.BitLaws.{shift-one}
-use Rattle.buffers.proofs.bit_sets.removed.Statement.{statement}
 use Rattle.buffers.proofs.bit_sets.removed.Tie as tie
-
-cast-result : tie.Need-cast-result
-cast-result c = search needs
-
-shl-result : tie.Need-shl-result
-shl-result c = search needs
-
-sub-result : tie.Need-sub-result
-sub-result c = search needs
 
 returns : tie.Need-returns
 unfolding withoutBit
 returns c = ap (λ (n : ℕ). bitAnd (c .args .set) (65535 - n)) (shift-one 16 (c .args .k) (omega arith))
 
-pub removed-spec : {M : Type 1} → statement M
-removed-spec = tie.close (tie.spec cast-result shl-result sub-result returns)
+pub removed-spec : {M : Type 1} → Rattle.buffers.proofs.bit_sets.removed.Statement.statement M
+removed-spec = tie.close (tie.spec (λ c. search needs) (λ c. search needs) (λ c. search needs) returns)

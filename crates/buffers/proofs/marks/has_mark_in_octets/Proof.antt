@@ -1,14 +1,12 @@
 -- `buffers::marks::has_mark_in_octets` meets its contract. The loop's invariant: `found` has the marks of the first i octets.
 -- Assumes nothing.
-use mathlib.Core.Bool.{not}
-use mathlib.Core.Path.{_≡_, sym, ap, _∙_}
+use mathlib.Core.{Bool.not, Path.{_≡_, sym, ap, _∙_}}
 use Prim.Native.Nat.{ℕ, _+_, _-_, _*_, _/_, _≤_}
 use native.Mathlib.Omega.{arith}
 use lib.Dec.{eqb}
 use Rattle.limits.specs.Limits.{markOctets}
 use Rattle.buffers.specs.Marks.{hasMarkIn}
 use Rattle.buffers.proofs.MarkLaws.{has-in-none, octets-has}
-use Rattle.buffers.proofs.marks.has_mark_in_octets.Statement.{statement}
 use Rattle.buffers.proofs.marks.has_mark_in_octets.Tie as tie
 
 abbrev Inv-loop : tie.InvT-loop
@@ -17,31 +15,8 @@ Inv-loop marks t from n start found₀ i₀ found i = (i ≤ n) × (not (eqb fou
 abbrev μ-loop : tie.MeasureT-loop
 μ-loop marks t from n start found₀ i₀ found i = n - i
 
-mul-start : tie.Need-mul-start Inv-loop μ-loop
-mul-start c = omega arith
-
-add-start : tie.Need-add-start Inv-loop μ-loop
-add-start c = omega arith
-
-loop-holds : tie.Need-loop-holds Inv-loop μ-loop
-loop-holds c = (omega arith, sym (has-in-none (c .args .marks .now) (c .args .t) (c .args .from)))
-
-add-found : tie.Need-add-found Inv-loop μ-loop
-add-found c = omega arith
-
-shared-slice-read-found : tie.Need-shared-slice-read-found Inv-loop μ-loop
-shared-slice-read-found c = omega arith
-
-add-i : tie.Need-add-i Inv-loop μ-loop
-add-i c = omega arith
-
-loop-less : tie.Need-loop-less Inv-loop μ-loop
-loop-less c = omega arith
-
 loop-again : tie.Need-loop-again Inv-loop μ-loop
-loop-again c =
-    let l = c .before .before .loop in
-    let a = c .before .before .before .args in
+loop-again c = let l = c .before .before .loop in let a = c .before .before .before .args in
     let j = markOctets * a .t + a .from / 8 + l .i in (
       omega arith,
       octets-has (a .t) (a .from) (l .i) (c .before .before .before .pre .1 .1 .0 (omega arith)) (omega arith)
@@ -49,24 +24,10 @@ loop-again c =
     )
 
 returns : tie.Need-returns Inv-loop μ-loop
-returns c =
-    let l = c .before .loop in
-    let a = c .before .before .args in
-    let e : l .i ≡ a .n = omega arith in
+returns c = let l = c .before .loop in let a = c .before .before .args in let e : l .i ≡ a .n = omega arith in
     l .inv .1 ∙ ap (λ (k : ℕ). hasMarkIn (a .marks .now) (a .t) (a .from) (8 * k)) e
 
-pub has-mark-in-octets-spec : {M : Type 1} → statement M
-has-mark-in-octets-spec =
-    tie.close
-    (tie.spec
-    Inv-loop
-    μ-loop
-    mul-start
-    add-start
-    loop-holds
-    add-found
-    shared-slice-read-found
-    add-i
-    loop-less
-    loop-again
-    returns)
+pub has-mark-in-octets-spec : {M : Type 1} → Rattle.buffers.proofs.marks.has_mark_in_octets.Statement.statement M
+has-mark-in-octets-spec = tie.close (tie.spec Inv-loop μ-loop (λ c. omega arith) (λ c. omega arith)
+    (λ c. (omega arith, sym (has-in-none (c .args .marks .now) (c .args .t) (c .args .from))))
+    (λ c. omega arith) (λ c. omega arith) (λ c. omega arith) (λ c. omega arith) loop-again returns)

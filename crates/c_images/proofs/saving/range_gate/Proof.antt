@@ -3,9 +3,6 @@ use borrow.Author.Needs.{needs}
 use Rattle.admission.specs.{FirstRefusal.unless, Admission.{firstTests, sizesIn}}
 use Rattle.c_images.proofs.saving.range_gate.Tie as tie
 
-returns : tie.Need-returns
-unfolding firstTests sizesIn unless
-returns c = c .first-tests .ensures .0
-
 pub range-gate-spec : {M : Type 1} → Rattle.c_images.proofs.saving.range_gate.Statement.statement M
-range-gate-spec = tie.close (tie.spec (λ c κs. search needs) returns)
+range-gate-spec = tie.close
+    (tie.spec (λ c κs. search needs) (λ c. unfold firstTests sizesIn unless in c .first-tests .ensures .0))

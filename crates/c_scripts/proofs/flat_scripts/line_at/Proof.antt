@@ -63,10 +63,7 @@ call-of-requires c κs = search needs
 abbrev line : ScriptCall → ScriptLine
 line x = record { call = x }
 
-returns : tie.Need-returns
-unfolding lineFrom
-returns c = ap (λ (x : ScriptCall). line x) (c .call-of .ensures)
-
 pub line-at-spec : {M : Type 1} → Rattle.c_scripts.proofs.flat_scripts.line_at.Statement.statement M
 line-at-spec = tie.close (tie.spec mul-at mul-kind element-copy-out-kind add-d mul-d element-copy-out-d
-    add-start mul-start element-copy-out-start add-n mul-n element-copy-out-n call-of-requires returns)
+    add-start mul-start element-copy-out-start add-n mul-n element-copy-out-n call-of-requires
+    (λ c. unfold lineFrom in ap (λ (x : ScriptCall). line x) (c .call-of .ensures)))

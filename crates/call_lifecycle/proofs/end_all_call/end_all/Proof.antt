@@ -7,7 +7,6 @@ use Prim.Native.Nat.{_-_, _≤_}
 use Rattle.limits.specs.Limits.{transactionCount}
 use Rattle.state.specs.Layout.{stateLength}
 use Rattle.call_lifecycle.proofs.EndRules.{EndedAll, ended-none, ended-more, ended-all}
-use Rattle.call_lifecycle.proofs.end_all_call.end_all.Statement.{statement}
 use Rattle.call_lifecycle.proofs.end_all_call.end_all.Tie as tie
 
 abbrev Inv-loop : tie.InvT-loop
@@ -21,27 +20,14 @@ loop-holds c = let l : length (c .before .before .before .args .state .now)
     ≡ stateLength = search needs in (omega arith, ended-none _ l)
 
 loop-again : tie.Need-loop-again Inv-loop μ-loop
-loop-again c =
-    let at-loop = c .before .before .before in
+loop-again c = let at-loop = c .before .before .before in
     (omega arith, ended-more _ (at-loop .loop .t) _ _ (omega arith) (at-loop .loop .inv .1) (c .reset .ensures))
 
 returns : tie.Need-returns Inv-loop μ-loop
-returns c =
-    let e : c .before .loop .t ≡ 8 = omega arith in
-    let all : EndedAll (c .before .before .before .before .before .args .state .now) 8 (c .before .loop .state) = rw e at
-    (c .before .loop .inv .1) in
-    (ended-all _ _ all, all .journal)
+returns c = let e : c .before .loop .t ≡ 8 = omega arith in
+    let all : EndedAll (c .before .before .before .before .before .args .state .now) 8 (c .before .loop .state) =
+    rw e at (c .before .loop .inv .1) in (ended-all _ _ all, all .journal)
 
-pub end-all-spec : {M : Type 1} → statement M
-end-all-spec =
-    tie.close
-    (tie.spec
-    Inv-loop
-    μ-loop
-    (λ c κs. search needs)
-    loop-holds
-    (λ c κs. omega arith)
-    (λ c. omega arith)
-    (λ c. omega arith)
-    loop-again
-    returns)
+pub end-all-spec : {M : Type 1} → Rattle.call_lifecycle.proofs.end_all_call.end_all.Statement.statement M
+end-all-spec = tie.close (tie.spec Inv-loop μ-loop (λ c κs. search needs) loop-holds (λ c κs. omega arith)
+    (λ c. omega arith) (λ c. omega arith) loop-again returns)

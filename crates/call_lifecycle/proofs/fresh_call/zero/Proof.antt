@@ -1,13 +1,9 @@
 -- `zero` meets its contract. The loop's invariant: the octets before i are 0, the others as they were.
-use borrow.Author.Needs.{needs}
-use borrow.Author.Fill.{fill-none, fill-more}
-use mathlib.Core.List.{List, _++_, append-nil}
-use mathlib.Core.Path.{_≡_, refl, ap, _∙_}
+use borrow.Author.{Needs.needs, Fill.{fill-none, fill-more}}
+use mathlib.Core.{List.{List, _++_, append-nil}, Path.{_≡_, refl, ap, _∙_}}
 use native.Mathlib.Omega.{arith}
-use lib.ListN.{length, drop, set, replicate, length-set}
-use lib.Seq.{drop-length}
+use lib.{ListN.{length, drop, set, replicate, length-set}, Seq.drop-length}
 use Prim.Native.Nat.{ℕ, _-_, _≤_}
-use Rattle.call_lifecycle.proofs.fresh_call.zero.Statement.{statement}
 use Rattle.call_lifecycle.proofs.fresh_call.zero.Tie as tie
 
 abbrev Inv-loop : tie.InvT-loop
@@ -17,45 +13,18 @@ Inv-loop buffer₀ i₀ buffer i = (i ≤ length buffer₀) × (length buffer �
 abbrev μ-loop : tie.MeasureT-loop
 μ-loop buffer₀ i₀ buffer i = length buffer₀ - i
 
-loop-holds : tie.Need-loop-holds Inv-loop μ-loop
-loop-holds c = (omega arith, refl, fill-none _ 0)
-
-slice-write-buffer : tie.Need-slice-write-buffer Inv-loop μ-loop
-slice-write-buffer c = omega arith
-
-add-i : tie.Need-add-i Inv-loop μ-loop
-add-i c = omega arith
-
-loop-less : tie.Need-loop-less Inv-loop μ-loop
-loop-less c = omega arith
-
 loop-again : tie.Need-loop-again Inv-loop μ-loop
-loop-again c =
-    let i = c .before .loop .inv in (
-      omega arith,
-      simp length-set (i .1),
-      ap (λ (l : List ℕ). set l (c .before .loop .i) 0) (i .2)
-          ∙ fill-more (c .before .loop .i) 0 (c .before .before .args .buffer .now) (omega arith),
-    )
-
-same-length : tie.Need-same-length Inv-loop μ-loop
-same-length c = search needs
+loop-again c = let i = c .before .loop .inv in (
+  omega arith,
+  simp length-set (i .1),
+  ap (λ (l : List ℕ). set l (c .before .loop .i) 0) (i .2)
+      ∙ fill-more (c .before .loop .i) 0 (c .before .before .args .buffer .now) (omega arith),
+)
 
 returns : tie.Need-returns Inv-loop μ-loop
-returns c =
-    let e : c .before .loop .i ≡ length (c .before .before .args .buffer .now) = omega arith in
+returns c = let e : c .before .loop .i ≡ length (c .before .before .args .buffer .now) = omega arith in
     c .before .loop .inv .2 ∙ rw e (rw (drop-length, append-nil))
 
-pub zero-spec : {M : Type 1} → statement M
-zero-spec =
-    tie.close
-    (tie.spec
-    Inv-loop
-    μ-loop
-    loop-holds
-    slice-write-buffer
-    add-i
-    loop-less
-    loop-again
-    same-length
-    returns)
+pub zero-spec : {M : Type 1} → Rattle.call_lifecycle.proofs.fresh_call.zero.Statement.statement M
+zero-spec = tie.close (tie.spec Inv-loop μ-loop (λ c. (omega arith, refl, fill-none _ 0)) (λ c. omega arith)
+    (λ c. omega arith) (λ c. omega arith) loop-again (λ c. search needs) returns)

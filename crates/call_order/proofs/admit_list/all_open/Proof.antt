@@ -39,10 +39,7 @@ loop-again c = let at-loop = loop-of (c .before) in (
   all-more _ _ (at-loop .loop .k) (omega arith) (at-loop .loop .inv .1) (test-held (this (c .before)) (c .if1 .left)),
 )
 
-returns-2 : tie.Need-returns-2 Inv-loop μ-loop
-returns-2 c = sym (all-done _ _ (c .before .loop .k) (omega arith) (c .before .loop .inv .1))
-
 pub all-open-spec : {M : Type 1} → Rattle.call_order.proofs.admit_list.all_open.Statement.statement M
-all-open-spec =
-    tie.close (tie.spec Inv-loop μ-loop (λ c. (omega arith, refl)) (λ c. search needs) (λ c κs. search needs)
-    is-begun-requires returns (λ c. search needs) (λ c. search needs) loop-again returns-2)
+all-open-spec = tie.close (tie.spec Inv-loop μ-loop (λ c. (omega arith, refl)) (λ c. search needs)
+    (λ c κs. search needs) is-begun-requires returns (λ c. search needs) (λ c. search needs) loop-again
+    (λ c. sym (all-done _ _ (c .before .loop .k) (omega arith) (c .before .loop .inv .1))))

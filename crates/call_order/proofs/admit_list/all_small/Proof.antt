@@ -22,9 +22,7 @@ loop-again : tie.Need-loop-again Inv-loop μ-loop
 loop-again c = let at-loop = c .before .before .before in
     (omega arith, all-more _ _ (at-loop .loop .k) (omega arith) (at-loop .loop .inv .1) (le-leb _ _ (c .if1 .left)))
 
-returns-2 : tie.Need-returns-2 Inv-loop μ-loop
-returns-2 c = sym (all-done _ _ (c .before .loop .k) (omega arith) (c .before .loop .inv .1))
-
 pub all-small-spec : {M : Type 1} → Rattle.call_order.proofs.admit_list.all_small.Statement.statement M
 all-small-spec = tie.close (tie.spec Inv-loop μ-loop (λ c. (omega arith, refl)) (λ c. search needs) returns
-    (λ c. search needs) (λ c. search needs) loop-again returns-2)
+    (λ c. search needs) (λ c. search needs) loop-again
+    (λ c. sym (all-done _ _ (c .before .loop .k) (omega arith) (c .before .loop .inv .1))))

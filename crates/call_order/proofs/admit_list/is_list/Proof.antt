@@ -16,10 +16,6 @@ Inv-loop list k₀ k = (k ≤ length list) × DistinctLeft list k × (leb 1 (len
 abbrev μ-loop : tie.MeasureT-loop
 μ-loop list k₀ k = length list - k
 
-returns : tie.Need-returns Inv-loop μ-loop
-unfolding isList
-returns c = rw (lt-leb 1 (length (c .before .before .args .list .now)) (omega arith)) refl
-
 returns-2 : tie.Need-returns-2 Inv-loop μ-loop
 unfolding isList
 returns-2 c = let n = length (c .before .before .before .args .list .now) in
@@ -48,5 +44,6 @@ unfolding isList
 returns-4 c = let l = c .before .loop in rw (l .inv .2, l .inv .3, distinct-done _ (l .k) (omega arith) (l .inv .1)) refl
 
 pub is-list-spec : {M : Type 1} → Rattle.call_order.proofs.admit_list.is_list.Statement.statement M
-is-list-spec = tie.close (tie.spec Inv-loop μ-loop returns returns-2 loop-holds (λ c κs. search needs)
-    returns-3 (λ c. search needs) (λ c. search needs) loop-again returns-4)
+is-list-spec = tie.close (tie.spec Inv-loop μ-loop (λ c. unfold isList in
+    rw (lt-leb 1 (length (c .before .before .args .list .now)) (omega arith)) refl) returns-2 loop-holds
+    (λ c κs. search needs) returns-3 (λ c. search needs) (λ c. search needs) loop-again returns-4)

@@ -26,9 +26,7 @@ loop-again : tie.Need-loop-again Inv-loop μ-loop
 loop-again c = let at-loop = c .before .before .before in
     (omega arith, at-loop .loop .inv .1 ∙ in-passed _ _ (at-loop .loop .j) (omega arith) (ne-eqb _ _ (c .if1 .left)))
 
-returns-2 : tie.Need-returns-2 Inv-loop μ-loop
-returns-2 c = sym (c .before .loop .inv .1 ∙ in-empty _ _ (c .before .loop .j) (omega arith))
-
 pub occurs-again-spec : {M : Type 1} → Rattle.call_order.proofs.admit_list.occurs_again.Statement.statement M
 occurs-again-spec = tie.close (tie.spec Inv-loop μ-loop (λ c. search needs) (λ c. search needs) loop-holds
-    (λ c. search needs) returns (λ c. search needs) (λ c. search needs) loop-again returns-2)
+    (λ c. search needs) returns (λ c. search needs) (λ c. search needs) loop-again
+    (λ c. sym (c .before .loop .inv .1 ∙ in-empty _ _ (c .before .loop .j) (omega arith))))

@@ -42,9 +42,8 @@ members : (c : tie.After-order-at Inv-loop μ-loop) → let a = c .before .befor
     allIn (λ t. leb t lastTransaction) (take (a .n) (c .order-at .result)) ≡ true
 members c = let l = c .before .before .loop in let start = c .before .before .before .before in
     let ts = take (start .args .n) (start .args .numbers) in
-    subst (λ (o : List ℕ). allIn (λ t. leb t lastTransaction) o ≡ true) (sym (order-is c))
-    (all-arranged (λ t. leb t lastTransaction) ts (orderAt (length ts) (l .i) ts) (order-arranges ts (l .i) (inside c))
-    (start .pre .2))
+    subst (λ (o : List ℕ). allIn (λ t. leb t lastTransaction) o ≡ true) (sym (order-is c)) (all-arranged (λ t. leb t
+    lastTransaction) ts (orderAt (length ts) (l .i) ts) (order-arranges ts (l .i) (inside c)) (start .pre .2))
 
 loop-again : tie.Need-loop-again Inv-loop μ-loop
 loop-again c = let read = c .before .before in let l = read .before .before .loop in

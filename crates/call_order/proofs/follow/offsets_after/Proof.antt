@@ -27,8 +27,7 @@ left-so x offsets d e = ap (λ (b : Bool). cond b (finalOffset (getD offsets d 0
 
 fits-there : (x : Txn) (offsets : List ℕ) (d : ℕ) → fitsAt x offsets ≡ true → d < descriptorCount → getD offsets d 0
     + advance (x .standing d) ≤ fileBytes
-unfolding fitsAt
-fits-there x offsets d e l = leb-true _ fileBytes (below-at _ 16 d e l)
+fits-there x offsets d e l = unfold fitsAt in leb-true _ fileBytes (below-at _ 16 d e l)
 
 abbrev Inv-loop : tie.InvT-loop
 Inv-loop state t offsets after₀ d₀ after d =
@@ -55,8 +54,7 @@ standing-is c = let a = start-of c .args in
 
 sets-is : (c : tie.After-sets-offset Inv-loop μ-loop)
     → let a = start-of c .args in setsOffset (descriptorsIn (a .state .now) (a .t)) (loop-of c .loop .d) ≡ c .sets-offset .result
-unfolding setsOffset
-sets-is c = let a = start-of c .args in
+sets-is c = unfold setsOffset in let a = start-of c .args in
     sym (c .sets-offset .ensures ∙ ap (λ (q : Descriptor). q .dirty && isTouched (q .standing))
     (c .before .descriptor-at .ensures ∙ sym (descriptor-of (a .state .now) (a .t) (loop-of c .loop .d) (omega arith))))
 

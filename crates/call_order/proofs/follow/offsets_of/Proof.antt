@@ -22,9 +22,6 @@ Inv-loop state offsets₀ d₀ offsets d = (d ≤ descriptorCount) × (offsets �
 abbrev μ-loop : tie.MeasureT-loop
 μ-loop state offsets₀ d₀ offsets d = descriptorCount - d
 
-loop-holds : tie.Need-loop-holds Inv-loop μ-loop
-loop-holds c = (omega arith, sym (filled-none (committed (c .args .state .now)) _), refl)
-
 loop-again : tie.Need-loop-again Inv-loop μ-loop
 loop-again c = let l = c .before .before .loop in let state = c .before .before .before .args .state .now in (
   omega arith,
@@ -39,5 +36,6 @@ returns c = let l = c .before .loop in let state = c .before .before .args .stat
     (omega arith) ∙ ap (tabulate (committed state)) (sym (shaped state .offsets)) ∙ tabulate-getD (storeOf state .offsets) 0
 
 pub offsets-of-spec : {M : Type 1} → Rattle.call_order.proofs.follow.offsets_of.Statement.statement M
-offsets-of-spec = tie.close (tie.spec Inv-loop μ-loop loop-holds (λ c κs. search needs) (λ c. search needs)
-    (λ c. search needs) (λ c. search needs) (λ c. search needs) loop-again returns)
+offsets-of-spec = tie.close (tie.spec Inv-loop μ-loop
+    (λ c. (omega arith, sym (filled-none (committed (c .args .state .now)) _), refl)) (λ c κs. search needs)
+    (λ c. search needs) (λ c. search needs) (λ c. search needs) (λ c. search needs) loop-again returns)

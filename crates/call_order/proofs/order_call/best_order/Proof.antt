@@ -61,9 +61,6 @@ cast-best-by-table c =
     let a = start-of (told-of c) .args in
     omega (arith, minute-most (a .minute) (list-in (a .state .now) (a .list .now) (a .minute) (a .budget) (admitted c) .daily))
 
-best-by-table-requires : tie.Need-best-by-table-requires
-best-by-table-requires c κs = let e = first-zero _ _ _ 0 (passed (told-of c)) in (e .1, e .0 .marks, admitted c)
-
 returns-3 : tie.Need-returns-3
 returns-3 c =
     let told = told-of (c .before) in
@@ -75,6 +72,7 @@ returns-3 c =
     )
 
 pub best-order-spec : {M : Type 1} → Rattle.call_order.proofs.order_call.best_order.Statement.statement M
-best-order-spec = tie.close (tie.spec (λ c κs. search needs) (λ c. search needs) returns (λ c. search needs)
-    (λ c κs. first-zero _ _ _ 0 (passed c) .1) (λ c. search needs) returns-2 (λ c. search needs)
-    cast-best-by-table best-by-table-requires returns-3)
+best-order-spec =
+    tie.close (tie.spec (λ c κs. search needs) (λ c. search needs) returns (λ c. search needs) (λ c κs.
+    first-zero _ _ _ 0 (passed c) .1) (λ c. search needs) returns-2 (λ c. search needs) cast-best-by-table
+    (λ c κs. let e = first-zero _ _ _ 0 (passed (told-of c)) in (e .1, e .0 .marks, admitted c)) returns-3)

@@ -13,10 +13,6 @@ Inv-loop n product₀ k₀ product k = (k ≤ n) × (product ≡ factorial k)
 abbrev μ-loop : tie.MeasureT-loop
 μ-loop n product₀ k₀ product k = n - k
 
-loop-holds : tie.Need-loop-holds Inv-loop μ-loop
-unfolding factorial
-loop-holds c = (omega arith, refl)
-
 next : (c : tie.In-loop Inv-loop μ-loop) → let l = c .before .loop in l .product * (l .k + 1) ≡ factorial (l .k + 1)
 next c = let l = c .before .loop in ap (λ (p : ℕ). p * (l .k + 1)) (l .inv .1) ∙ sym (factorial-suc (l .k))
 
@@ -28,5 +24,5 @@ returns : tie.Need-returns Inv-loop μ-loop
 returns c = let l = c .before .loop in let e : l .k ≡ c .before .before .args .n = omega arith in l .inv .1 ∙ ap factorial e
 
 pub factorial-spec : {M : Type 1} → Rattle.call_order.proofs.permutation.factorial.Statement.statement M
-factorial-spec = tie.close (tie.spec Inv-loop μ-loop loop-holds (λ c. search needs) mul-product
-    (λ c. search needs) (λ c. (omega arith, next c)) returns)
+factorial-spec = tie.close (tie.spec Inv-loop μ-loop (λ c. unfold factorial in (omega arith, refl))
+    (λ c. search needs) mul-product (λ c. search needs) (λ c. (omega arith, next c)) returns)

@@ -20,10 +20,6 @@ Inv-loop state minute closed₀ t₀ closed t = (t ≤ transactionCount)
 abbrev μ-loop : tie.MeasureT-loop
 μ-loop state minute closed₀ t₀ closed t = transactionCount - t
 
-loop-holds : tie.Need-loop-holds Inv-loop μ-loop
-unfolding bitsOf
-loop-holds c = (omega arith, λ logs long. refl)
-
 loop-again : tie.Need-loop-again Inv-loop μ-loop
 loop-again c = let at-loop = c .before .before .before in let a = at-loop .before .args in let l = at-loop .loop in (
   omega arith,
@@ -38,5 +34,5 @@ returns c logs long = let a = c .before .before .args in let l = c .before .loop
     l .inv .1 logs long ∙ ap (bitsOf (shut-at (a .state .now) logs (a .minute))) e
 
 pub closed-of-spec : {M : Type 1} → Rattle.call_order.proofs.table.closed_of.Statement.statement M
-closed-of-spec = tie.close (tie.spec Inv-loop μ-loop loop-holds (λ c κs. search needs) (λ c κs. search needs)
-    (λ c. search needs) (λ c. search needs) loop-again returns)
+closed-of-spec = tie.close (tie.spec Inv-loop μ-loop (λ c. unfold bitsOf in (omega arith, λ logs long. refl))
+    (λ c κs. search needs) (λ c κs. search needs) (λ c. search needs) (λ c. search needs) loop-again returns)

@@ -38,10 +38,7 @@ loop-again c = let at-loop = loop-of (c .before) in (
   all-more _ _ (at-loop .loop .k) (omega arith) (at-loop .loop .inv .1) (ap not (sym (this (c .before)) ∙ c .if1 .left)),
 )
 
-returns-2 : tie.Need-returns-2 Inv-loop μ-loop
-returns-2 c = sym (all-done _ _ (c .before .loop .k) (omega arith) (c .before .loop .inv .1))
-
 pub none-waits-spec : {M : Type 1} → Rattle.call_order.proofs.table.none_waits.Statement.statement M
-none-waits-spec =
-    tie.close (tie.spec Inv-loop μ-loop (λ c. (omega arith, refl)) (λ c. search needs) (λ c κs. search needs)
-    waits-requires returns (λ c. search needs) (λ c. search needs) loop-again returns-2)
+none-waits-spec = tie.close (tie.spec Inv-loop μ-loop (λ c. (omega arith, refl)) (λ c. search needs)
+    (λ c κs. search needs) waits-requires returns (λ c. search needs) (λ c. search needs) loop-again
+    (λ c. sym (all-done _ _ (c .before .loop .k) (omega arith) (c .before .loop .inv .1))))

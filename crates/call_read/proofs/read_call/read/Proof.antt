@@ -1,25 +1,16 @@
 -- `call_read::read` meets its contract.
 use borrow.Author.Needs.{needs}
 use native.Mathlib.Omega.{arith}
-use mathlib.Core.Bool.{true}
-use mathlib.Core.Path.{_≡_}
+use mathlib.Core.{Bool.true, Path._≡_}
 use lib.ListN.{length}
-use Rattle.state.specs.StoreMeaning.{transaction}
-use Rattle.state.specs.Layout.{storeOf}
-use Rattle.state.specs.declared.outcomes.Refusal.the-variants.{NotOpen}
+use Rattle.state.specs.{StoreMeaning.transaction, Layout.storeOf, declared.outcomes.Refusal.the-variants.NotOpen}
 use Rattle.admission.specs.Admission.{admission, gateNumber}
-use Rattle.spec.specs.Messages.{Op, bufferOf}
-use Rattle.spec.specs.Machine.{Machine, sizes}
-use Rattle.spec.specs.Calls.{call, admitted, stepTurn}
-use Rattle.spec.specs.Promises.{machineOf}
-use Rattle.read_settle.specs.declared.settle_call.Verdict.{Verdict}
-use Rattle.read_settle.specs.Choices.{chosenByRead}
+use Rattle.spec.specs.{Messages.{Op, bufferOf}, Machine.{Machine, sizes}, Calls.{call, admitted, stepTurn}, Promises.machineOf}
+use Rattle.read_settle.specs.{declared.settle_call.Verdict.Verdict, Choices.chosenByRead}
 use Rattle.refinement.proofs.TurnLaws.{LetThrough, sharedWith, gate-refused, gate-passed, gate-let-through, gate-number}
-use Rattle.refinement.proofs.TurnLaws.{gate-zero, is-open}
-use Rattle.refinement.proofs.TurnLaws.{is-closed, admission-open, admitted-closed, turned-follows}
-use Rattle.call_read.proofs.ReadTests.{readRefusal, ReadAdmitted, gate-says, read-admitted, all-placeable, SettledAs, settled-as}
-use Rattle.call_read.proofs.ReadRules.{read-refused, past-follows, handed-on, read-follows}
-use Rattle.call_read.proofs.read_call.read.Statement.{statement}
+use Rattle.refinement.proofs.TurnLaws.{gate-zero, is-open, is-closed, admission-open, admitted-closed, turned-follows}
+use Rattle.call_read.proofs.ReadTests.{readRefusal, ReadAdmitted, gate-says, read-admitted, all-placeable, SettledAs}
+use Rattle.call_read.proofs.{ReadTests.settled-as, ReadRules.{read-refused, past-follows, handed-on, read-follows}}
 use Rattle.call_read.proofs.read_call.read.Tie as tie
 
 -- What the caller lent.
@@ -43,15 +34,13 @@ abbrev told-of : tie.Else1 → tie.After-enum-told
 told-of c = c .before .before .before
 
 begun : (c : tie.Else1) → let start = start-of (told-of c) in transaction (machine start .store) (start .args .t) .begun ≡ true
-begun c =
-    let start = start-of (told-of c) in
+begun c = let start = start-of (told-of c) in
     is-open (start .args .state .now) (start .args .t) (let-through (told-of c) .small) (c .before .is-begun .ensures)
     (c .if1 .left)
 
 admits : (c : tie.Else1) → let start = start-of (told-of c) in let m = machine start in admission (sizes m) (m .store)
     (m .journal) (start .args .t) ≡ 0
-admits c =
-    let start = start-of (told-of c) in
+admits c = let start = start-of (told-of c) in
     admission-open (machine start) (start .args .t) (passed (told-of c)) (begun c)
 
 -- What the tests say of whether the call may look, and that it may.
@@ -65,19 +54,14 @@ says : (c : tie.After-admit-read)
     → let a = first c .args in gateNumber (c .admit-read .result)
     ≡ readRefusal (transaction (storeOf (a .state .now)) (a .t) .stale) (a .d) (a .n) (length (a .reader .now))
 says c = gate-says _ _ (let-through (told-of (open-of c)) .small) _ (c .before .is-stale .ensures) (first c .args .d)
-    (first c .args .n) _ _
-    (c .admit-read .ensures)
+    (first c .args .n) _ _ (c .admit-read .ensures)
 
-looks : (c : tie.After-enum-told2)
-    → let a = first (c .before .before) .args in ReadAdmitted (a .state .now) (a .files .now) (a .logs .now) (a .marks .now)
-    (a .undo .now) (a .t)
-    (a .d) (a .n) (length (a .reader .now))
-looks c =
-    let open-here = open-of (c .before .before) in
-    let told = told-of open-here in
+looks : (c : tie.After-enum-told2) → let a = first (c .before .before) .args in
+    ReadAdmitted (a .state .now) (a .files .now) (a .logs .now) (a .marks .now) (a .undo .now) (a .t) (a .d) (a .n)
+    (length (a .reader .now))
+looks c = let open-here = open-of (c .before .before) in let told = told-of open-here in
     read-admitted _ _ _ _ _ _ _ _ _ (told .before .before .admit .ensures .1) (admits open-here) (let-through told)
-    (begun open-here)
-    (gate-zero _ _ (says (c .before .before)) (c .enum-told2 .given .1))
+    (begun open-here) (gate-zero _ _ (says (c .before .before)) (c .enum-told2 .given .1))
 
 -- What settling told.
 abbrev look-of : tie.After-settle-for-read → tie.After-enum-told2
@@ -87,94 +71,50 @@ settled : (c : tie.After-settle-for-read) (v : Verdict) → c .settle-for-read .
     → let a = first (look-of c .before .before) .args in
     SettledAs (λ x. chosenByRead (storeOf (a .state .now) .filenumbers) x (a .d)) (a .t) (a .state .now)
     (c .settle-for-read .last .0) v
-settled c v e =
-    let a = first (look-of c .before .before) .args in
+settled c v e = let a = first (look-of c .before .before) .args in
     settled-as (looks (look-of c)) (λ x. chosenByRead (storeOf (a .state .now) .filenumbers) x (a .d)) _ _ v
     (c .settle-for-read .ensures) e
 
 returns : tie.Need-returns
 unfolding call admitted admission bufferOf
-returns c =
-    let gate = c .before .before .before in
-    let start = gate .before .before .before .before .before .before .before in
-    let m = machine start in
+returns c = let gate = c .before .before .before in
+    let start = gate .before .before .before .before .before .before .before in let m = machine start in
     let o = Op.read (start .args .d) (start .args .n) (start .args .reader .now) in
     let e = gate-refused _ m (start .args .t) (gate .admit .ensures .0) _ _ (bufferOf o) (stepTurn (start .args .t) o m)
-    (c .before .gate .given .1) in
-    turned-follows _ (bufferOf o) _ _ _ _ _ _ e
-
-is-begun-requires : tie.Need-is-begun-requires
-is-begun-requires c κs = let-through (c .before) .small
+    (c .before .gate .given .1) in turned-follows _ (bufferOf o) _ _ _ _ _ _ e
 
 returns-2 : tie.Need-returns-2
 unfolding call bufferOf
-returns-2 c =
-    let told = c .before .before .before in
-    let start = start-of told in
+returns-2 c = let told = c .before .before .before in let start = start-of told in
     let o = Op.read (start .args .d) (start .args .n) (start .args .reader .now) in
-    let closed = is-closed (start .args .state .now) (start .args .t) (let-through told .small) (c .before .is-begun .ensures)
-    (c .if1 .taken) in
-    turned-follows NotOpen (bufferOf o) _ _ _ _ _ _
-    (admitted-closed (machine start) (start .args .t) (passed told) closed (bufferOf o)
-    (stepTurn (start .args .t) o (machine start)))
-
-is-stale-requires : tie.Need-is-stale-requires
-is-stale-requires c κs = let-through (told-of (c .before)) .small
+    let closed = is-closed (start .args .state .now) (start .args .t) (let-through told .small)
+    (c .before .is-begun .ensures) (c .if1 .taken) in
+    turned-follows NotOpen (bufferOf o) _ _ _ _ _ _ (admitted-closed (machine start) (start .args .t) (passed told) closed
+    (bufferOf o) (stepTurn (start .args .t) o (machine start)))
 
 returns-3 : tie.Need-returns-3
-returns-3 c =
-    let looked = c .before .before .before in
-    let start = first looked in
+returns-3 c = let looked = c .before .before .before in let start = first looked in
     let r = c .before .verdict .given .0 .0 in
     turned-follows r (start .args .reader .now) _ _ _ _ _ _
     (read-refused (start .args .t) (start .args .d) (start .args .n) (start .args .reader .now) (machine start)
-    (admits (open-of looked)) r
-    (gate-number _ _ (says looked) r (c .before .verdict .given .1)))
-
-settle-for-read-requires : tie.Need-settle-for-read-requires
-settle-for-read-requires c κs =
-    let l = looks (c .before) in
-    (all-placeable l, omega (arith, l .may .low))
+    (admits (open-of looked)) r (gate-number _ _ (says looked) r (c .before .verdict .given .1)))
 
 returns-4 : tie.Need-returns-4
-returns-4 c =
-    let called = c .before .before in
+returns-4 c = let called = c .before .before in
     past-follows _ (looks (look-of called)) _ (settled called _ (c .enum-told4 .given .1))
 
 read-settled-requires : tie.Need-read-settled-requires
-read-settled-requires c κs =
-    let told = c .before .before .before in
-    let called = told .before .before in
+read-settled-requires c κs = let told = c .before .before .before in let called = told .before .before in
     handed-on _ (looks (look-of called)) _ (settled called _ (told .enum-told3 .given .1))
 
 returns-5 : tie.Need-returns-5
-returns-5 c =
-    let given = c .before .before .before .before in
-    let told = given .before .before .before .before in
-    let called = told .before .before in
-    let e = given .read-settled .ensures in
+returns-5 c = let given = c .before .before .before .before in let told = given .before .before .before .before in
+    let called = told .before .before in let e = given .read-settled .ensures in
     read-follows _ (looks (look-of called)) _ (settled called _ (told .enum-told3 .given .1)) _ _ _ _ (e .0) (e .1) (e .2)
 
-pub read-spec : {M : Type 1} → statement M
-read-spec =
-    tie.close
-    (tie.spec
-    (λ c κs. search needs)
-    (λ c. search needs)
-    returns
-    (λ c. search needs)
-    is-begun-requires
-    returns-2
-    is-stale-requires
-    (λ c κs. search needs)
-    (λ c. search needs)
-    returns-3
-    (λ c. search needs)
-    settle-for-read-requires
-    (λ c. search needs)
-    (λ c. search needs)
-    returns-4
-    read-settled-requires
-    (λ c. search needs)
-    (λ c. search needs)
-    returns-5)
+pub read-spec : {M : Type 1} → Rattle.call_read.proofs.read_call.read.Statement.statement M
+read-spec = tie.close (tie.spec (λ c κs. search needs) (λ c. search needs) returns (λ c. search needs)
+    (λ c κs. let-through (c .before) .small) returns-2 (λ c κs. let-through (told-of (c .before)) .small)
+    (λ c κs. search needs) (λ c. search needs) returns-3 (λ c. search needs)
+    (λ c κs. let l = looks (c .before) in (all-placeable l, omega (arith, l .may .low))) (λ c. search needs)
+    (λ c. search needs) returns-4 read-settled-requires (λ c. search needs) (λ c. search needs) returns-5)

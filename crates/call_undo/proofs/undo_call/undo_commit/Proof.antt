@@ -1,16 +1,12 @@
 -- `call_undo::undo_commit` meets its contract.
 use borrow.Author.Needs.{needs}
-use mathlib.Core.List.{[]}
-use mathlib.Core.Path.{_≡_, sym, ap, _∙_}
+use mathlib.Core.{List.[], Path.{_≡_, sym, ap, _∙_}}
 use Prim.Native.Nat.{ℕ}
 use Rattle.state.specs.Outcomes.{number}
 use Rattle.admission.proofs.Laws.{AdmittedUndo, admitted-undo}
-use Rattle.spec.specs.Machine.{Machine, sizes}
-use Rattle.spec.specs.Calls.{passing, call, undoTurn}
-use Rattle.spec.specs.Promises.{machineOf}
+use Rattle.spec.specs.{Machine.{Machine, sizes}, Calls.{passing, call, undoTurn}, Promises.machineOf}
 use Rattle.refinement.proofs.TurnLaws.{gate-number, gate-zero, passing-number, turned-follows}
 use Rattle.call_undo.proofs.UndoRules.{undo-tests, undo-follows}
-use Rattle.call_undo.proofs.undo_call.undo_commit.Statement.{statement}
 use Rattle.call_undo.proofs.undo_call.undo_commit.Tie as tie
 
 -- What the caller lent.
@@ -29,36 +25,19 @@ admits c = let m = machine (start-of c) in admitted-undo (sizes m) (m .store) (m
 
 returns : tie.Need-returns
 unfolding call
-returns c =
-    let m = machine (c .before .before .before .before .before .before .before .before .before) in
-    let r = c .before .gate .given .0 .0 in
-    let said = c .before .before .before .admit-undo .ensures .0 in
+returns c = let m = machine (c .before .before .before .before .before .before .before .before .before) in
+    let r = c .before .gate .given .0 .0 in let said = c .before .before .before .admit-undo .ensures .0 in
     let e : number r ≡ undo-tests m = gate-number _ (undo-tests m) said r (c .before .gate .given .1) in
     let next = undoTurn m in
     turned-follows r [] _ _ _ _ _ _ (ap (λ (n : ℕ). passing n [] m next) (sym e) ∙ passing-number r [] m next)
 
-restore-bytes-requires : tie.Need-restore-bytes-requires
-restore-bytes-requires c κs =
-    let a = admits (c .before .before) in
-    (a .ranges, a .valid, a .lengths .files, a .lengths .undo)
-
 returns-2 : tie.Need-returns-2
-returns-2 c =
-    let put-back = c .before .before .before .before .before .before in
+returns-2 c = let put-back = c .before .before .before .before .before .before in
     let told = put-back .before .before .before in
     undo-follows _ _ _ _ _ (told .before .before .admit-undo .ensures .1) _ _ (c .before .before .put-found .ensures)
     (c .put-undo-valid .ensures) (passed told) _ (put-back .restore-bytes .ensures)
 
-pub undo-commit-spec : {M : Type 1} → statement M
-undo-commit-spec =
-    tie.close
-    (tie.spec
-    (λ c κs. search needs)
-    (λ c. search needs)
-    returns
-    (λ c. search needs)
-    restore-bytes-requires
-    (λ c κs. search needs)
-    (λ c κs. search needs)
-    (λ c. search needs)
-    returns-2)
+pub undo-commit-spec : {M : Type 1} → Rattle.call_undo.proofs.undo_call.undo_commit.Statement.statement M
+undo-commit-spec = tie.close (tie.spec (λ c κs. search needs) (λ c. search needs) returns (λ c. search needs)
+    (λ c κs. let a = admits (c .before .before) in (a .ranges, a .valid, a .lengths .files, a .lengths .undo))
+    (λ c κs. search needs) (λ c κs. search needs) (λ c. search needs) returns-2)

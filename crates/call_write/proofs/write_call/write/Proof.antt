@@ -1,28 +1,20 @@
 -- `call_write::write` meets its contract.
 use borrow.Author.Needs.{needs}
 use native.Mathlib.Omega.{arith}
-use mathlib.Core.Bool.{true}
-use mathlib.Core.List.{[]}
-use mathlib.Core.Path.{_≡_, ap, _∙_}
+use mathlib.Core.{Bool.true, List.[], Path.{_≡_, ap, _∙_}}
 use lib.ListN.{length}
 use Prim.Native.Nat.{ℕ, _+_, _*_, _<_}
 use Rattle.limits.specs.Limits.{transactionCount, logBytes}
 use Rattle.buffers.specs.Parts.{pasted}
 use Rattle.standings.specs.Table.{writePlace}
-use Rattle.state.specs.StoreMeaning.{transaction}
-use Rattle.state.specs.declared.outcomes.Refusal.the-variants.{NotOpen, NoSuchTarget}
+use Rattle.state.specs.{StoreMeaning.transaction, declared.outcomes.Refusal.the-variants.{NotOpen, NoSuchTarget}}
 use Rattle.admission.specs.Admission.{admission, gateNumber}
-use Rattle.spec.specs.Messages.{Op, bufferOf}
-use Rattle.spec.specs.Machine.{Machine, sizes}
-use Rattle.spec.specs.Calls.{call, admitted, stepTurn}
-use Rattle.spec.specs.Promises.{machineOf}
+use Rattle.spec.specs.{Messages.{Op, bufferOf}, Machine.{Machine, sizes}, Calls.{call, admitted, stepTurn}, Promises.machineOf}
 use Rattle.refinement.proofs.TurnLaws.{LetThrough, sharedWith, gate-refused, gate-passed, gate-let-through, gate-number}
-use Rattle.refinement.proofs.TurnLaws.{gate-zero, is-open}
-use Rattle.refinement.proofs.TurnLaws.{is-closed, admission-open, admitted-closed, turned-follows}
+use Rattle.refinement.proofs.TurnLaws.{gate-zero, is-open, is-closed, admission-open, admitted-closed, turned-follows}
 use Rattle.call_write.specs.Writes.{writeRefusal, WriteRoom}
 use Rattle.call_write.proofs.WriteRules.{WriteReached, room-left, numbers-within, write-no-descriptor, write-no-room}
 use Rattle.call_write.proofs.WriteRules.{standing-within, write-follows}
-use Rattle.call_write.proofs.write_call.write.Statement.{statement}
 use Rattle.call_write.proofs.write_call.write.Tie as tie
 
 -- What the caller lent.
@@ -46,16 +38,13 @@ abbrev told-at : tie.Else1 → tie.After-enum-told
 told-at c = c .before .before .before
 
 begun : (c : tie.Else1) → let start = start-of (told-at c) in transaction (machine start .store) (start .args .t) .begun ≡ true
-begun c =
-    let start = start-of (told-at c) in
+begun c = let start = start-of (told-at c) in
     is-open (start .args .state .now) (start .args .t) (let-through (told-at c) .small) (c .before .is-begun .ensures)
     (c .if1 .left)
 
-admits : (c : tie.Else1) → let start = start-of (told-at c) in
-    let m = machine start in
+admits : (c : tie.Else1) → let start = start-of (told-at c) in let m = machine start in
     admission (sizes m) (m .store) (m .journal) (start .args .t) ≡ 0
-admits c =
-    let start = start-of (told-at c) in
+admits c = let start = start-of (told-at c) in
     admission-open (machine start) (start .args .t) (passed (told-at c)) (begun c)
 
 -- The standing and the counters are read, and the place that the write is to have.
@@ -68,20 +57,18 @@ begin-of c = start-of (told-at (open-at c))
 reached : (c : tie.After-write-place) → let a = begin-of c .args in
     WriteReached (a .t) (a .d) (a .state .now) (a .files .now) (a .logs .now) (a .marks .now) (a .undo .now)
     (c .before .before .before .standing-at .result) (c .before .used-at .result)
-reached c =
-    record {
-      low = c .before .before .before .before .before .if2 .left;
-      passes = admits (open-at c);
-      through = let-through (told-at (open-at c));
-      begun = begun (open-at c);
-      reads-standing = c .before .before .before .standing-at .ensures;
-      reads-used = c .before .used-at .ensures;
-    }
+reached c = record {
+  low = c .before .before .before .before .before .if2 .left;
+  passes = admits (open-at c);
+  through = let-through (told-at (open-at c));
+  begun = begun (open-at c);
+  reads-standing = c .before .before .before .standing-at .ensures;
+  reads-used = c .before .used-at .ensures;
+}
 
 refusal : (c : tie.After-room) → let place = c .before in
-    gateNumber (c .room .result)
-    ≡ writeRefusal (writePlace (place .before .before .before .standing-at .result)) (place .before .used-at .result)
-    (length (begin-of place .args .bytes .now))
+    gateNumber (c .room .result) ≡ writeRefusal (writePlace (place .before .before .before .standing-at .result))
+    (place .before .used-at .result) (length (begin-of place .args .bytes .now))
 refusal c = rw (c .before .write-place .ensures) at (c .room .ensures)
 
 -- There is room for the write.
@@ -96,145 +83,65 @@ room-of c = room-left _ _ _ (gate-zero _ _ (refusal (c .before .before)) (c .enu
 small : (c : tie.After-enum-told2) → begin-of (place-at c) .args .t < transactionCount
 small c = let-through (told-at (open-at (place-at c))) .small
 
-admit-requires : tie.Need-admit-requires
-admit-requires c κs = search needs
-
-enum-known-gate : tie.Need-enum-known-gate
-enum-known-gate c = search needs
-
 returns : tie.Need-returns
 unfolding call admitted admission bufferOf
-returns c =
-    let start = c .before .before .before .before .before .before .before .before .before .before in
-    let m = machine start in
-    let o = Op.write (start .args .d) (start .args .bytes .now) in
+returns c = let start = c .before .before .before .before .before .before .before .before .before .before in
+    let m = machine start in let o = Op.write (start .args .d) (start .args .bytes .now) in
     let e = gate-refused _ m (start .args .t) (c .before .before .before .admit .ensures .0) _ _ (bufferOf o)
-    (stepTurn (start .args .t) o m) (c .before .gate .given .1) in
-    turned-follows _ (bufferOf o) _ _ _ _ _ _ e
-
-enum-told : tie.Need-enum-told
-enum-told c = search needs
-
-is-begun-requires : tie.Need-is-begun-requires
-is-begun-requires c κs = let-through (c .before) .small
+    (stepTurn (start .args .t) o m) (c .before .gate .given .1) in turned-follows _ (bufferOf o) _ _ _ _ _ _ e
 
 returns-2 : tie.Need-returns-2
 unfolding call bufferOf
-returns-2 c =
-    let told = c .before .before .before in
-    let start = start-of told in
-    let m = machine start in
+returns-2 c = let told = c .before .before .before in let start = start-of told in let m = machine start in
     let o = Op.write (start .args .d) (start .args .bytes .now) in
-    let closed = is-closed (start .args .state .now) (start .args .t) (let-through told .small) (c .before .is-begun .ensures)
-    (c .if1 .taken) in
-    turned-follows NotOpen [] _ _ _ _ _ _ (admitted-closed m (start .args .t) (passed told) closed []
-    (stepTurn (start .args .t) o m))
+    let closed = is-closed (start .args .state .now) (start .args .t) (let-through told .small)
+    (c .before .is-begun .ensures) (c .if1 .taken) in
+    turned-follows NotOpen [] _ _ _ _ _ _
+    (admitted-closed m (start .args .t) (passed told) closed [] (stepTurn (start .args .t) o m))
 
 returns-3 : tie.Need-returns-3
-returns-3 c =
-    let start = start-of (told-at (c .before)) in
-    turned-follows NoSuchTarget [] _ _ _ _ _ _
-    (write-no-descriptor (start .args .t) (start .args .d) (start .args .bytes .now) (machine start) (admits (c .before))
-    (c .if2 .taken))
-
-standing-at-requires : tie.Need-standing-at-requires
-standing-at-requires c κs = (let-through (told-at (c .before .before)) .small, omega arith)
-
-used-at-requires : tie.Need-used-at-requires
-used-at-requires c κs = let-through (told-at (c .before .before .before .before)) .small
-
-write-place-requires : tie.Need-write-place-requires
-write-place-requires c κs = search needs
-
-room-requires : tie.Need-room-requires
-room-requires c κs = rw (c .write-place .ensures) (numbers-within (reached c))
-
-enum-known-verdict : tie.Need-enum-known-verdict
-enum-known-verdict c = search needs
+returns-3 c = let start = start-of (told-at (c .before)) in
+    turned-follows NoSuchTarget [] _ _ _ _ _ _ (write-no-descriptor (start .args .t) (start .args .d)
+    (start .args .bytes .now) (machine start) (admits (c .before)) (c .if2 .taken))
 
 returns-4 : tie.Need-returns-4
-returns-4 c =
-    let place = c .before .before .before .before in
-    let r = c .before .verdict .given .0 .0 in
-    turned-follows r [] _ _ _ _ _ _
-    (write-no-room (reached place) (begin-of place .args .bytes .now) r
+returns-4 c = let place = c .before .before .before .before in let r = c .before .verdict .given .0 .0 in
+    turned-follows r [] _ _ _ _ _ _ (write-no-room (reached place) (begin-of place .args .bytes .now) r
     (gate-number _ _ (refusal (c .before .before .before)) r (c .before .verdict .given .1)))
 
-enum-told-2 : tie.Need-enum-told-2
-enum-told-2 c = search needs
-
-mul-copy-to : tie.Need-mul-copy-to
-mul-copy-to c = omega (arith, small (c .before))
-
-wide-requires : tie.Need-wide-requires
-wide-requires c κs = search needs
-
-add-copy-to : tie.Need-add-copy-to
-add-copy-to c = omega (arith, small (c .before .before), c .wide .ensures .1)
-
 copy-to-requires : tie.Need-copy-to-requires
-copy-to-requires c κs =
-    let told = c .before .before in
-    omega (
-      arith,
-      small told,
-      room-of told .log,
-      c .wide .ensures .0,
-      let-through (told-at (open-at (place-at told))) .lengths .logs,
-    )
-
-cast-put-write : tie.Need-cast-put-write
-cast-put-write c = omega (arith, room-of (c .before .before .before .before .before .before) .log)
+copy-to-requires c κs = let told = c .before .before in omega (
+  arith,
+  small told,
+  room-of told .log,
+  c .wide .ensures .0,
+  let-through (told-at (open-at (place-at told))) .lengths .logs,
+)
 
 put-write-requires : tie.Need-put-write-requires
-put-write-requires c κs =
-    let told = c .before .before .before .before .before .before in
-    let place = place-at told in (
-      (
-        told-at (open-at place) .before .before .admit .ensures .1,
-        small told,
-        omega
-            (arith, place .before .before .before .before .before .if2 .left),
-      ),
-      (room-of told, standing-within (reached place)),
-    )
-
-same-length : tie.Need-same-length
-same-length c = search needs
+put-write-requires c κs = let told = c .before .before .before .before .before .before in let place = place-at told in (
+  (
+    told-at (open-at place) .before .before .admit .ensures .1,
+    small told,
+    omega (arith, place .before .before .before .before .before .if2 .left),
+  ),
+  (room-of told, standing-within (reached place)),
+)
 
 returns-5 : tie.Need-returns-5
-returns-5 c =
-    let told = c .before .before .before .before .before .before .before in
-    let place = place-at told in
+returns-5 c = let told = c .before .before .before .before .before .before .before in let place = place-at told in
     let a = begin-of place .args in
-    write-follows (reached place) (a .bytes .now) (room-of told) _ _
-    (c .before .before .before .before .copy-to .ensures
+    write-follows (reached place) (a .bytes .now) (room-of told) _ _ (c .before .before .before .before .copy-to .ensures
     ∙ ap (λ (n : ℕ). pasted (a .logs .now) (logBytes * a .t + n) (a .bytes .now))
     (c .before .before .before .before .before .wide .ensures .0)) (c .put-write .ensures .0) (c .put-write .ensures .1)
 
-pub write-spec : {M : Type 1} → statement M
-write-spec =
-    tie.close
-    (tie.spec
-    admit-requires
-    enum-known-gate
-    returns
-    enum-told
-    is-begun-requires
-    returns-2
-    returns-3
-    standing-at-requires
-    used-at-requires
-    write-place-requires
-    room-requires
-    enum-known-verdict
-    returns-4
-    enum-told-2
-    mul-copy-to
-    wide-requires
-    add-copy-to
-    copy-to-requires
-    cast-put-write
-    put-write-requires
-    same-length
-    returns-5)
+pub write-spec : {M : Type 1} → Rattle.call_write.proofs.write_call.write.Statement.statement M
+write-spec = tie.close (tie.spec (λ c κs. search needs) (λ c. search needs) returns (λ c. search needs)
+    (λ c κs. let-through (c .before) .small) returns-2 returns-3
+    (λ c κs. (let-through (told-at (c .before .before)) .small, omega arith))
+    (λ c κs. let-through (told-at (c .before .before .before .before)) .small) (λ c κs. search needs)
+    (λ c κs. rw (c .write-place .ensures) (numbers-within (reached c))) (λ c. search needs) returns-4
+    (λ c. search needs) (λ c. omega (arith, small (c .before))) (λ c κs. search needs)
+    (λ c. omega (arith, small (c .before .before), c .wide .ensures .1)) copy-to-requires
+    (λ c. omega (arith, room-of (c .before .before .before .before .before .before) .log)) put-write-requires
+    (λ c. search needs) returns-5)

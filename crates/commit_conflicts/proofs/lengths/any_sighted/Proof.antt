@@ -1,14 +1,12 @@
 -- `commit_conflicts::lengths::any_sighted` meets its contract. The loop's invariant: none of the transactions passed has sighted
 -- a length.
-use mathlib.Core.Bool.{true≢false}
-use mathlib.Core.Path.{_≡_}
+use mathlib.Core.{Bool.true≢false, Path._≡_}
 use Prim.Native.Nat.{_-_, _≤_}
 use native.Mathlib.Omega.{arith}
 use borrow.Author.Needs.{needs}
 use Rattle.limits.specs.Limits.{transactionCount}
 use Rattle.commit_conflicts.specs.Conflicts.{NoneSighted}
 use Rattle.commit_conflicts.proofs.ConflictLaws.{sighted-more}
-use Rattle.commit_conflicts.proofs.lengths.any_sighted.Statement.{statement}
 use Rattle.commit_conflicts.proofs.lengths.any_sighted.Tie as tie
 
 abbrev Inv-loop : tie.InvT-loop
@@ -17,39 +15,16 @@ Inv-loop state watched u₀ u = (u ≤ transactionCount) × NoneSighted state wa
 abbrev μ-loop : tie.MeasureT-loop
 μ-loop state watched u₀ u = transactionCount - u
 
-loop-holds : tie.Need-loop-holds Inv-loop μ-loop
-loop-holds c = (omega arith, λ u l. absurd (omega arith))
-
-returns : tie.Need-returns Inv-loop μ-loop
-returns c = λ e. absurd (true≢false e)
-
 loop-again : tie.Need-loop-again Inv-loop μ-loop
-loop-again c =
-    let at-loop = c .before .before .before .before in
-    let a = at-loop .before .args in
-    let l = at-loop .loop in
+loop-again c = let at-loop = c .before .before .before .before in let a = at-loop .before .args in let l = at-loop .loop in
     let test = c .before .before .contains .ensures in (
       omega arith,
       sighted-more (a .state .now) (a .watched) (l .u) _ _ (l .inv .1) test (c .before .lengthmarks-at .ensures)
           (c .if1 .left),
     )
 
-returns-2 : tie.Need-returns-2 Inv-loop μ-loop
-returns-2 c =
-    let e : c .before .loop .u ≡ 8 = omega arith in
-    λ none. rw e at (c .before .loop .inv .1)
-
-pub any-sighted-spec : {M : Type 1} → statement M
-any-sighted-spec =
-    tie.close
-    (tie.spec
-    Inv-loop
-    μ-loop
-    loop-holds
-    (λ c κs. search needs)
-    (λ c κs. search needs)
-    returns
-    (λ c. search needs)
-    (λ c. search needs)
-    loop-again
-    returns-2)
+pub any-sighted-spec : {M : Type 1} → Rattle.commit_conflicts.proofs.lengths.any_sighted.Statement.statement M
+any-sighted-spec = tie.close (tie.spec Inv-loop μ-loop (λ c. (omega arith, λ u l. absurd (omega arith)))
+    (λ c κs. search needs) (λ c κs. search needs) (λ c. λ e. absurd (true≢false e)) (λ c. search needs)
+    (λ c. search needs) loop-again
+    (λ c. let e : c .before .loop .u ≡ 8 = omega arith in λ none. rw e at (c .before .loop .inv .1)))

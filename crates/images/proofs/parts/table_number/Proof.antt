@@ -6,10 +6,6 @@ use Rattle.windows.specs.declared.Window.{Window}
 use Rattle.images.specs.Images.{tableNumber}
 use Rattle.images.proofs.parts.table_number.Tie as tie
 
-returns : tie.Need-returns
-unfolding tableNumber
-returns c = let i = c .before .args .i in rw (lt-ltb i 1 (omega arith)) (refl)
-
 returns-2 : tie.Need-returns-2
 unfolding tableNumber
 returns-2 c = let i = c .before .before .before .args .i in
@@ -47,6 +43,6 @@ returns-6 c = let i = c .before .before .before .before .before .before .args .i
 ) (ap (λ (x : Window). x .end) (c .window-at2 .ensures))
 
 pub table-number-spec : {M : Type 1} → Rattle.images.proofs.parts.table_number.Statement.statement M
-table-number-spec =
-    tie.close (tie.spec returns (λ c κs. search needs) returns-2 (λ c κs. search needs) returns-3
+table-number-spec = tie.close (tie.spec (λ c. unfold tableNumber in let i = c .before .args .i in
+    rw (lt-ltb i 1 (omega arith)) (refl)) (λ c κs. search needs) returns-2 (λ c κs. search needs) returns-3
     (λ c κs. search needs) returns-4 (λ c κs. search needs) returns-5 (λ c κs. search needs) returns-6)

@@ -4,10 +4,7 @@ use Rattle.images.specs.Words.{withWordAt}
 use borrow.Author.Needs.{needs}
 use Rattle.images.proofs.words.put_word.Tie as tie
 
-returns : tie.Need-returns
-unfolding withWordAt
-returns c = refl
-
 pub put-word-spec : {M : Type 1} → Rattle.images.proofs.words.put_word.Statement.statement M
-put-word-spec = tie.close (tie.spec (λ c. search needs) (λ c. search needs) (λ c. search needs)
-    (λ c. search needs) (λ c. search needs) (λ c. search needs) (λ c. search needs) returns)
+put-word-spec =
+    tie.close (tie.spec (λ c. search needs) (λ c. search needs) (λ c. search needs) (λ c. search needs)
+    (λ c. search needs) (λ c. search needs) (λ c. search needs) (λ c. unfold withWordAt in refl))

@@ -15,15 +15,13 @@ Inv-loop image records good₀ k₀ good k = (k ≤ recordCount) × (good ≡ be
 abbrev μ-loop : tie.MeasureT-loop
 μ-loop image records good₀ k₀ good k = recordCount - k
 
-loop-again : tie.Need-loop-again Inv-loop μ-loop
-loop-again c = (omega arith, one-more _ _ _ _ (c .before .before .loop .inv .1) (rw (c .is-blank .ensures)))
-
 returns : tie.Need-returns Inv-loop μ-loop
 unfolding canonical
 returns c = let l = c .before .before .loop in let n = c .before .before .before in let e : l .k ≡ recordCount = omega arith in
     rw (c .word-at2 .ensures, l .inv .1, e, n .wide .ensures .0, n .before .word-at .ensures)
 
 pub is-canonical-spec : {M : Type 1} → Rattle.images.proofs.young.is_canonical.Statement.statement M
-is-canonical-spec = tie.close
-    (tie.spec Inv-loop μ-loop (λ c κs. search needs) (λ c κs. search needs) (λ c. (omega arith, none-yet _))
-    (λ c κs. search needs) (λ c. search needs) (λ c. search needs) loop-again (λ c κs. search needs) returns)
+is-canonical-spec = tie.close (tie.spec Inv-loop μ-loop (λ c κs. search needs) (λ c κs. search needs)
+    (λ c. (omega arith, none-yet _)) (λ c κs. search needs) (λ c. search needs) (λ c. search needs)
+    (λ c. (omega arith, one-more _ _ _ _ (c .before .before .loop .inv .1) (rw (c .is-blank .ensures))))
+    (λ c κs. search needs) returns)

@@ -13,10 +13,6 @@ Inv-loop state₀ image d₀ state d = (d ≤ descriptorCount) × (state ≡ wit
 abbrev μ-loop : tie.MeasureT-loop
 μ-loop state₀ image d₀ state d = 16 - d
 
-loop-holds : tie.Need-loop-holds Inv-loop μ-loop
-unfolding withEach
-loop-holds c = (omega arith, refl)
-
 loop-again : tie.Need-loop-again Inv-loop μ-loop
 unfolding withEach putDescriptor
 loop-again c = let file = c .before .before .before .before .before .before in
@@ -33,11 +29,9 @@ loop-again c = let file = c .before .before .before .before .before .before in
       ),
     )
 
-returns : tie.Need-returns Inv-loop μ-loop
-returns c = let l = c .before .loop in let e : l .d ≡ 16 = omega arith in rw e at (l .inv .1)
-
 pub put-descriptors-spec : {M : Type 1} → Rattle.images.proofs.young.put_descriptors.Statement.statement M
-put-descriptors-spec = tie.close
-    (tie.spec Inv-loop μ-loop loop-holds (λ c. search needs) (λ c κs. search needs) (λ c κs. search needs)
+put-descriptors-spec = tie.close (tie.spec Inv-loop μ-loop (λ c. unfold withEach in (omega arith, refl))
     (λ c. search needs) (λ c κs. search needs) (λ c κs. search needs) (λ c. search needs)
-    (λ c κs. search needs) (λ c κs. search needs) (λ c. search needs) (λ c. search needs) loop-again returns)
+    (λ c κs. search needs) (λ c κs. search needs) (λ c. search needs) (λ c κs. search needs)
+    (λ c κs. search needs) (λ c. search needs) (λ c. search needs) loop-again
+    (λ c. let l = c .before .loop in let e : l .d ≡ 16 = omega arith in rw e at (l .inv .1)))

@@ -13,10 +13,6 @@ Inv-loop state₀ image f₀ state f = (f ≤ fileCount) × (state ≡ withEach 
 abbrev μ-loop : tie.MeasureT-loop
 μ-loop state₀ image f₀ state f = 8 - f
 
-loop-holds : tie.Need-loop-holds Inv-loop μ-loop
-unfolding withEach
-loop-holds c = (omega arith, refl)
-
 loop-again : tie.Need-loop-again Inv-loop μ-loop
 unfolding withEach putFile
 loop-again c = let length = c .before .before .before .before .before .before in
@@ -33,10 +29,9 @@ loop-again c = let length = c .before .before .before .before .before .before in
       ),
     )
 
-returns : tie.Need-returns Inv-loop μ-loop
-returns c = let l = c .before .loop in let e : l .f ≡ 8 = omega arith in rw e at (l .inv .1)
-
 pub put-files-spec : {M : Type 1} → Rattle.images.proofs.young.put_files.Statement.statement M
-put-files-spec = tie.close (tie.spec Inv-loop μ-loop loop-holds (λ c. search needs) (λ c κs. search needs)
-    (λ c κs. search needs) (λ c κs. search needs) (λ c κs. search needs) (λ c. search needs)
-    (λ c κs. search needs) (λ c κs. search needs) (λ c. search needs) (λ c. search needs) loop-again returns)
+put-files-spec =
+    tie.close (tie.spec Inv-loop μ-loop (λ c. unfold withEach in (omega arith, refl)) (λ c. search needs)
+    (λ c κs. search needs) (λ c κs. search needs) (λ c κs. search needs) (λ c κs. search needs)
+    (λ c. search needs) (λ c κs. search needs) (λ c κs. search needs) (λ c. search needs) (λ c. search needs)
+    loop-again (λ c. let l = c .before .loop in let e : l .f ≡ 8 = omega arith in rw e at (l .inv .1)))

@@ -2,75 +2,27 @@
 use native.Mathlib.Omega.{arith}
 use Rattle.standings.specs.Table.{afterWrite, writePlace}
 use borrow.Author.Needs.{needs}
-use Rattle.standings.proofs.Standing.after_write.Statement.{statement}
 use Rattle.standings.proofs.Standing.after_write.Tie as tie
-
-enum-told : tie.Need-enum-told
-enum-told c = search needs
-
-enum-known-self : tie.Need-enum-known-self
-enum-known-self c = search needs
 
 add-t9 : tie.Need-add-t9
 unfolding writePlace
 add-t9 c = omega (arith, rw (c .before .self .given .1) at (c .before .before .before .pre))
 
-enum-known-self-2 : tie.Need-enum-known-self-2
-enum-known-self-2 c = search needs
-
 add-t10 : tie.Need-add-t10
 unfolding writePlace
 add-t10 c = omega (arith, rw (c .before .self2 .given .1) at (c .before .before .before .pre))
-
-enum-known-self-3 : tie.Need-enum-known-self-3
-enum-known-self-3 c = search needs
 
 add-t11 : tie.Need-add-t11
 unfolding writePlace
 add-t11 c = omega (arith, rw (c .before .self3 .given .1) at (c .before .before .before .pre))
 
-enum-known-self-4 : tie.Need-enum-known-self-4
-enum-known-self-4 c = search needs
-
 add-t12 : tie.Need-add-t12
 unfolding writePlace
 add-t12 c = omega (arith, rw (c .before .self4 .given .1) at (c .before .before .before .pre))
 
-returns : tie.Need-returns
-unfolding afterWrite
-returns c = rw (c .enum-told .given .1)
-
-returns-2 : tie.Need-returns-2
-unfolding afterWrite
-returns-2 c = rw (c .before .self .given .1)
-
-returns-3 : tie.Need-returns-3
-unfolding afterWrite
-returns-3 c = rw (c .before .self2 .given .1)
-
-returns-4 : tie.Need-returns-4
-unfolding afterWrite
-returns-4 c = rw (c .before .self3 .given .1)
-
-returns-5 : tie.Need-returns-5
-unfolding afterWrite
-returns-5 c = rw (c .before .self4 .given .1)
-
-pub after-write-spec : {M : Type 1} → statement M
-after-write-spec =
-    tie.close
-    (tie.spec
-    enum-told
-    enum-known-self
-    add-t9
-    enum-known-self-2
-    add-t10
-    enum-known-self-3
-    add-t11
-    enum-known-self-4
-    add-t12
-    returns
-    returns-2
-    returns-3
-    returns-4
-    returns-5)
+pub after-write-spec : {M : Type 1} → Rattle.standings.proofs.Standing.after_write.Statement.statement M
+after-write-spec = tie.close (tie.spec (λ c. search needs) (λ c. search needs) add-t9 (λ c. search needs)
+    add-t10 (λ c. search needs) add-t11 (λ c. search needs) add-t12 (λ c. unfold afterWrite in
+    rw (c .enum-told .given .1)) (λ c. unfold afterWrite in rw (c .before .self .given .1))
+    (λ c. unfold afterWrite in rw (c .before .self2 .given .1)) (λ c. unfold afterWrite in
+    rw (c .before .self3 .given .1)) (λ c. unfold afterWrite in rw (c .before .self4 .given .1)))

@@ -1,17 +1,12 @@
 -- `state::dirty::sets_offset_at` meets its contract.
-use mathlib.Core.Bool.{Bool, true, false, not, _&&_, _||_}
-use mathlib.Core.List.{List}
-use mathlib.Core.Path.{_≡_, refl}
-use lib.Dec.{eqb}
-use lib.ListN.{getD}
-use borrow.Author.Tests.{ne-eqb}
+use mathlib.Core.{Bool.{Bool, false, not, _&&_, _||_}, List.List, Path.{_≡_, refl}}
+use lib.{Dec.eqb, ListN.getD}
+use borrow.Author.{Tests.ne-eqb, Needs.needs}
 use native.Mathlib.Omega.{arith}
 use Prim.Native.Nat.{ℕ, zero, suc, _+_}
 use Rattle.buffers.specs.Marks.{contains}
 use Rattle.standings.specs.Table.{isTouched}
 use Rattle.state.specs.Layout.{standingOf, descriptorOf, numberAt, secondSlot, dirtySlot}
-use borrow.Author.Needs.{needs}
-use Rattle.state.proofs.dirty.sets_offset_at.Statement.{statement}
 use Rattle.state.proofs.dirty.sets_offset_at.Tie as tie
 
 not-zero : (n : ℕ) → eqb (suc n) 0 ≡ false
@@ -30,28 +25,13 @@ touched-decides (suc o) (suc (suc n)) = rw (not-zero o)
 sets : (r : List ℕ) (t d a b : ℕ) (dirty : Bool) → a ≡ getD r (numberAt t d) 0 → b ≡ getD r (numberAt t (secondSlot + d)) 0
     → dirty ≡ contains (getD r (numberAt t dirtySlot) 0) d
     → (dirty && (not (eqb a 0) || not (eqb b 0))) ≡ (descriptorOf r t d .dirty && isTouched (descriptorOf r t d .standing))
-unfolding descriptorOf
-sets r t d a b dirty first second bit = rw (
-  first,
-  second,
-  bit,
-  touched-decides (getD r (numberAt t d) 0)
-      (getD r (numberAt t (secondSlot + d)) 0),
-)
+sets r t d a b dirty first second bit = unfold descriptorOf in
+    rw (first, second, bit, touched-decides (getD r (numberAt t d) 0) (getD r (numberAt t (secondSlot + d)) 0))
 
 returns : tie.Need-returns
-returns c =
-    let at-read = c .before .before in
+returns c = let at-read = c .before .before in
     sets _ _ _ _ _ _ (at-read .before .first-at .ensures) (at-read .second-at .ensures) (c .has-bit .ensures)
 
-pub sets-offset-at-spec : {M : Type 1} → statement M
-sets-offset-at-spec =
-    tie.close
-    (tie.spec
-    (λ c κs. search needs)
-    (λ c κs. search needs)
-    (λ c. search needs)
-    (λ c. search needs)
-    (λ c. search needs)
-    (λ c κs. search needs)
-    returns)
+pub sets-offset-at-spec : {M : Type 1} → Rattle.state.proofs.dirty.sets_offset_at.Statement.statement M
+sets-offset-at-spec = tie.close (tie.spec (λ c κs. search needs) (λ c κs. search needs) (λ c. search needs)
+    (λ c. search needs) (λ c. search needs) (λ c κs. search needs) returns)

@@ -2,12 +2,7 @@
 use mathlib.Core.Path.{refl}
 use borrow.Author.Needs.{needs}
 use Rattle.state.specs.Layout.{storeOf, undoOf}
-use Rattle.state.proofs.layout.can_undo.Statement.{statement}
 use Rattle.state.proofs.layout.can_undo.Tie as tie
 
-returns : tie.Need-returns
-unfolding storeOf undoOf
-returns c = refl
-
-pub can-undo-spec : {M : Type 1} → statement M
-can-undo-spec = tie.close (tie.spec (λ c. search needs) returns)
+pub can-undo-spec : {M : Type 1} → Rattle.state.proofs.layout.can_undo.Statement.statement M
+can-undo-spec = tie.close (tie.spec (λ c. search needs) (λ c. unfold storeOf undoOf in refl))

@@ -1,13 +1,10 @@
 -- `layout::clear` meets its contract. The loop's invariant: the numbers before i are 0, the others as they were.
-use borrow.Author.Needs.{needs}
-use borrow.Author.Fill.{fill-none, fill-more}
-use mathlib.Core.List.{List, _++_, append-nil}
-use mathlib.Core.Path.{_≡_, ap, _∙_}
+use borrow.Author.{Needs.needs, Fill.{fill-none, fill-more}}
+use mathlib.Core.{List.{List, _++_, append-nil}, Path.{_≡_, ap, _∙_}}
 use native.Mathlib.Omega.{arith}
 use lib.ListN.{length, drop, set, replicate, drop-of-length-le}
 use Prim.Native.Nat.{ℕ, _-_, _≤_}
 use Rattle.state.specs.Layout.{stateLength}
-use Rattle.state.proofs.layout.clear.Statement.{statement}
 use Rattle.state.proofs.layout.clear.Tie as tie
 
 -- Nothing of a list is left past its length.
@@ -25,44 +22,19 @@ loop-holds : tie.Need-loop-holds Inv-loop μ-loop
 loop-holds c = let l : length (c .before .before .before .args .state .now)
     ≡ stateLength = search needs in (omega arith, l, fill-none _ 0)
 
-mul-state : tie.Need-mul-state Inv-loop μ-loop
-mul-state c = omega arith
-
-element-write-state : tie.Need-element-write-state Inv-loop μ-loop
-element-write-state c = omega arith
-
-add-i : tie.Need-add-i Inv-loop μ-loop
-add-i c = omega arith
-
-loop-less : tie.Need-loop-less Inv-loop μ-loop
-loop-less c = omega arith
-
 loop-again : tie.Need-loop-again Inv-loop μ-loop
-loop-again c =
-    let i = c .before .loop .inv in (
-      omega arith,
-      i .1,
-      ap (λ (l : List ℕ). set l (c .before .loop .i) 0) (i .2)
-          ∙ fill-more (c .before .loop .i) 0 (c .before .before .before .before .before .args .state .now) (omega arith),
-    )
+loop-again c = let i = c .before .loop .inv in (
+  omega arith,
+  i .1,
+  ap (λ (l : List ℕ). set l (c .before .loop .i) 0) (i .2)
+      ∙ fill-more (c .before .loop .i) 0 (c .before .before .before .before .before .args .state .now) (omega arith),
+)
 
 returns : tie.Need-returns Inv-loop μ-loop
-returns c =
-    let e : c .before .loop .i ≡ stateLength = omega arith in
-    c .before .loop .inv .2 ∙ rw e (whole (c .before .before .before .before .before .args .state .now) stateLength
-    (c .before .loop .inv .1))
+returns c = let e : c .before .loop .i ≡ stateLength = omega arith in
+    c .before .loop .inv .2
+    ∙ rw e (whole (c .before .before .before .before .before .args .state .now) stateLength (c .before .loop .inv .1))
 
-pub clear-spec : {M : Type 1} → statement M
-clear-spec =
-    tie.close
-    (tie.spec
-    Inv-loop
-    μ-loop
-    (λ c κs. search needs)
-    loop-holds
-    mul-state
-    element-write-state
-    add-i
-    loop-less
-    loop-again
-    returns)
+pub clear-spec : {M : Type 1} → Rattle.state.proofs.layout.clear.Statement.statement M
+clear-spec = tie.close (tie.spec Inv-loop μ-loop (λ c κs. search needs) loop-holds (λ c. omega arith)
+    (λ c. omega arith) (λ c. omega arith) (λ c. omega arith) loop-again returns)

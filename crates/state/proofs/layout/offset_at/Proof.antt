@@ -3,17 +3,8 @@ use Rattle.state.proofs.LayoutLaws.{offset-of}
 use mathlib.Core.Path.{sym}
 use native.Mathlib.Omega.{arith}
 use borrow.Author.Needs.{needs}
-use Rattle.state.proofs.layout.offset_at.Statement.{statement}
 use Rattle.state.proofs.layout.offset_at.Tie as tie
 
-returns : tie.Need-returns
-returns c = sym (offset-of _ _ (omega arith))
-
-pub offset-at-spec : {M : Type 1} → statement M
-offset-at-spec =
-    tie.close
-    (tie.spec
-    (λ c. search needs)
-    (λ c. search needs)
-    (λ c. search needs)
-    returns)
+pub offset-at-spec : {M : Type 1} → Rattle.state.proofs.layout.offset_at.Statement.statement M
+offset-at-spec = tie.close (tie.spec (λ c. search needs) (λ c. search needs) (λ c. search needs)
+    (λ c. sym (offset-of _ _ (omega arith))))

@@ -2,22 +2,9 @@
 use Rattle.state.specs.Updates.{withUsedAt}
 use mathlib.Core.Path.{refl}
 use borrow.Author.Needs.{needs}
-use Rattle.state.proofs.layout.put_used.Statement.{statement}
 use Rattle.state.proofs.layout.put_used.Tie as tie
 
-returns : tie.Need-returns
-unfolding withUsedAt
-returns c = refl
-
-pub put-used-spec : {M : Type 1} → statement M
+pub put-used-spec : {M : Type 1} → Rattle.state.proofs.layout.put_used.Statement.statement M
 put-used-spec =
-    tie.close
-    (tie.spec
-    (λ c. search needs)
-    (λ c. search needs)
-    (λ c. search needs)
-    (λ c. search needs)
-    (λ c. search needs)
-    (λ c. search needs)
-    (λ c. search needs)
-    returns)
+    tie.close (tie.spec (λ c. search needs) (λ c. search needs) (λ c. search needs) (λ c. search needs)
+    (λ c. search needs) (λ c. search needs) (λ c. search needs) (λ c. unfold withUsedAt in refl))

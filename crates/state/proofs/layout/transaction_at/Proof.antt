@@ -1,6 +1,5 @@
 -- `state::layout::transaction_at` meets its contract.
 use borrow.Author.Needs.{needs}
-use Rattle.state.proofs.layout.transaction_at.Statement.{statement}
 use Rattle.state.proofs.layout.transaction_at.Tie as tie
 
 returns : tie.Need-returns
@@ -12,13 +11,6 @@ returns c = rw (
   c .before .before .before .before .is-begun .ensures,
 )
 
-pub transaction-at-spec : {M : Type 1} → statement M
-transaction-at-spec =
-    tie.close
-    (tie.spec
-    (λ c κs. search needs)
-    (λ c κs. search needs)
-    (λ c κs. search needs)
-    (λ c κs. search needs)
-    (λ c κs. search needs)
-    returns)
+pub transaction-at-spec : {M : Type 1} → Rattle.state.proofs.layout.transaction_at.Statement.statement M
+transaction-at-spec = tie.close (tie.spec (λ c κs. search needs) (λ c κs. search needs) (λ c κs. search needs)
+    (λ c κs. search needs) (λ c κs. search needs) returns)

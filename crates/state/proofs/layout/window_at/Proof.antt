@@ -4,21 +4,9 @@ use Rattle.state.proofs.LayoutLaws.{window-of}
 use mathlib.Core.Path.{sym}
 use native.Mathlib.Omega.{arith}
 use borrow.Author.Needs.{needs}
-use Rattle.state.proofs.layout.window_at.Statement.{statement}
 use Rattle.state.proofs.layout.window_at.Tie as tie
 
-returns : tie.Need-returns
-unfolding windowOf
-returns c = sym (window-of _ _ (omega arith))
-
-pub window-at-spec : {M : Type 1} → statement M
+pub window-at-spec : {M : Type 1} → Rattle.state.proofs.layout.window_at.Statement.statement M
 window-at-spec =
-    tie.close
-    (tie.spec
-    (λ c. search needs)
-    (λ c. search needs)
-    (λ c. search needs)
-    (λ c. search needs)
-    (λ c. search needs)
-    (λ c. search needs)
-    returns)
+    tie.close (tie.spec (λ c. search needs) (λ c. search needs) (λ c. search needs) (λ c. search needs)
+    (λ c. search needs) (λ c. search needs) (λ c. unfold windowOf in sym (window-of _ _ (omega arith))))

@@ -1,10 +1,8 @@
 -- In each arm the outcome is the arm's.
-use mathlib.Core.Path.{_≡_, refl, sym, ap, _∙_}
 use borrow.Author.Needs.{needs}
 use Rattle.state.specs.Outcomes.{said}
 use Rattle.text_log.specs.Answers.{answerText}
 use Rattle.text_log.proofs.AnswerTexts.{done-text, offset-text, given-text, granted-text, refused-text}
-use Rattle.text_log.proofs.answers.put_reply.Statement.{statement}
 use Rattle.text_log.proofs.answers.put_reply.Tie as tie
 
 returns : tie.Need-returns
@@ -40,35 +38,10 @@ returns-7 c = rw (refused-text (c .before .before .before .before .before .befor
     (c .before .before .before .before .before .before .before .before .args .buffer .now) _
     (c .before .before .before .before .enum-told5 .given .1)) (c .before .before .put-answer5 .ensures)
 
-pub put-reply-spec : {M : Type 1} → statement M
-put-reply-spec =
-    tie.close
-    (tie.spec
-    (λ c. search needs)
-    (λ c κs. search needs)
-    (λ c. search needs)
-    (λ c κs. search needs)
-    (λ c. search needs)
-    (λ c κs. search needs)
-    (λ c. search needs)
-    (λ c κs. search needs)
-    (λ c. search needs)
-    (λ c κs. search needs)
-    (λ c. search needs)
-    (λ c κs. search needs)
-    (λ c. search needs)
-    (λ c κs. search needs)
-    (λ c. search needs)
-    returns
-    (λ c. search needs)
-    returns-2
-    (λ c. search needs)
-    returns-3
-    (λ c. search needs)
-    returns-4
-    (λ c. search needs)
-    returns-5
-    (λ c. search needs)
-    returns-6
-    (λ c. search needs)
-    returns-7)
+pub put-reply-spec : {M : Type 1} → Rattle.text_log.proofs.answers.put_reply.Statement.statement M
+put-reply-spec = tie.close (tie.spec (λ c. search needs) (λ c κs. search needs) (λ c. search needs)
+    (λ c κs. search needs) (λ c. search needs) (λ c κs. search needs) (λ c. search needs)
+    (λ c κs. search needs) (λ c. search needs) (λ c κs. search needs) (λ c. search needs)
+    (λ c κs. search needs) (λ c. search needs) (λ c κs. search needs) (λ c. search needs) returns
+    (λ c. search needs) returns-2 (λ c. search needs) returns-3 (λ c. search needs) returns-4
+    (λ c. search needs) returns-5 (λ c. search needs) returns-6 (λ c. search needs) returns-7)

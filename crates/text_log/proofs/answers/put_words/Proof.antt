@@ -1,12 +1,10 @@
 -- The loop's invariant: the words of the first i bytes are put.
-use mathlib.Core.List.{List, [], _∷_, _++_}
-use mathlib.Core.Path.{_≡_, refl, sym, ap, _∙_}
+use mathlib.Core.Path.{_≡_, refl}
 use native.Mathlib.Omega.{arith}
 use borrow.Author.Needs.{needs}
 use Prim.Native.Nat.{_-_, _≤_}
 use lib.ListN.{length}
 use Rattle.text_log.proofs.AnswerTexts.{Put-so-far, none-put, more-put, text-room-left, all-put}
-use Rattle.text_log.proofs.answers.put_words.Statement.{statement}
 use Rattle.text_log.proofs.answers.put_words.Tie as tie
 
 abbrev Inv-loop : tie.InvT-loop
@@ -16,21 +14,13 @@ Inv-loop out₀ at bytes next₀ i₀ out next i = (i ≤ length bytes)
 abbrev μ-loop : tie.MeasureT-loop
 μ-loop out₀ at bytes next₀ i₀ out next i = length bytes - i
 
-loop-holds : tie.Need-loop-holds Inv-loop μ-loop
-loop-holds c = (omega arith, (none-put _ _ _, refl))
-
-returns : tie.Need-returns Inv-loop μ-loop
-returns c = all-put _ _ (c .if1 .taken) (c .before .before .loop .inv .1 .0)
-
 put-spaced-requires : tie.Need-put-spaced-requires Inv-loop μ-loop
-put-spaced-requires c κs =
-    let l = c .before .before .before .before .before .before .loop in
-    omega (
-      arith,
-      text-room-left _ _ (c .before .before .before .before .before .before .before .before .before .pre)
-          (c .before .before .before .before .if1 .left) (l .inv .1 .0),
-      l .inv .1 .1,
-    )
+put-spaced-requires c κs = let l = c .before .before .before .before .before .before .loop in omega (
+  arith,
+  text-room-left _ _ (c .before .before .before .before .before .before .before .before .before .pre)
+      (c .before .before .before .before .if1 .left) (l .inv .1 .0),
+  l .inv .1 .1,
+)
 
 loop-again : tie.Need-loop-again Inv-loop μ-loop
 loop-again c =
@@ -44,26 +34,9 @@ loop-again c =
       ),
     )
 
-returns-2 : tie.Need-returns-2 Inv-loop μ-loop
-returns-2 c = all-put _ _ (omega (arith, c .loop-test .left)) (c .before .loop .inv .1 .0)
-
-pub put-words-spec : {M : Type 1} → statement M
-put-words-spec =
-    tie.close
-    (tie.spec
-    Inv-loop
-    μ-loop
-    loop-holds
-    (λ c. search needs)
-    (λ c. search needs)
-    returns
-    (λ c. search needs)
-    (λ c. search needs)
-    (λ c. search needs)
-    (λ c κs. search needs)
-    put-spaced-requires
-    (λ c. search needs)
-    (λ c. search needs)
-    loop-again
-    (λ c. search needs)
-    returns-2)
+pub put-words-spec : {M : Type 1} → Rattle.text_log.proofs.answers.put_words.Statement.statement M
+put-words-spec = tie.close (tie.spec Inv-loop μ-loop (λ c. (omega arith, (none-put _ _ _, refl)))
+    (λ c. search needs) (λ c. search needs) (λ c. all-put _ _ (c .if1 .taken)
+    (c .before .before .loop .inv .1 .0)) (λ c. search needs) (λ c. search needs) (λ c. search needs)
+    (λ c κs. search needs) put-spaced-requires (λ c. search needs) (λ c. search needs) loop-again
+    (λ c. search needs) (λ c. all-put _ _ (omega (arith, c .loop-test .left)) (c .before .loop .inv .1 .0)))

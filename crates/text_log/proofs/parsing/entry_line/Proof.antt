@@ -1,11 +1,10 @@
 -- Each letter's case is that of `letteredEntry`.
-use mathlib.Core.Path.{_≡_, refl, sym, ap, _∙_}
+use mathlib.Core.Path.{sym}
 use native.Mathlib.Omega.{arith}
 use borrow.Author.Needs.{needs}
 use Rattle.text_log.specs.Reading.{logEntryOf, writtenBy}
-use Rattle.text_log.proofs.ReadingLaws.{other-entry, entry-as-meant, call-none, call-comment, call-expects, call-pairs}
-use Rattle.text_log.proofs.ReadingLaws.{call-text, call-asked}
-use Rattle.text_log.proofs.parsing.entry_line.Statement.{statement}
+use Rattle.text_log.proofs.ReadingLaws.{entry-as-meant, call-none, call-comment, call-expects, call-pairs, call-text}
+use Rattle.text_log.proofs.ReadingLaws.{call-asked}
 use Rattle.text_log.proofs.parsing.entry_line.Tie as tie
 
 returns : tie.Need-returns
@@ -34,22 +33,8 @@ returns-6 c =
     entry-as-meant _ _ _ _ (call-asked _ (c .before .before .before .before .before .before .before .before .before .if1 .left)
     (rest .0 .0 .0 .1) (rest .0 .0 .1) (rest .0 .1) (rest .1)) (c .before .before .before .before .joined-line .ensures)
 
-pub entry-line-spec : {M : Type 1} → statement M
+pub entry-line-spec : {M : Type 1} → Rattle.text_log.proofs.parsing.entry_line.Statement.statement M
 entry-line-spec =
-    tie.close
-    (tie.spec
-    returns
-    (λ c. search needs)
-    (λ c κs. search needs)
-    (λ c κs. search needs)
-    (λ c κs. search needs)
-    (λ c κs. search needs)
-    returns-2
-    returns-3
-    (λ c. search needs)
-    returns-4
-    (λ c. search needs)
-    returns-5
-    (λ c. search needs)
-    (λ c. search needs)
-    returns-6)
+    tie.close (tie.spec returns (λ c. search needs) (λ c κs. search needs) (λ c κs. search needs)
+    (λ c κs. search needs) (λ c κs. search needs) returns-2 returns-3 (λ c. search needs) returns-4
+    (λ c. search needs) returns-5 (λ c. search needs) (λ c. search needs) returns-6)

@@ -1,14 +1,9 @@
 -- The count of the numbers is tested as `entryAsked` says.
-use mathlib.Core.Path.{_≡_, refl, sym, ap, _∙_}
 use native.Mathlib.Omega.{arith}
-use lib.ListN.{length, take}
-use borrow.Author.Needs.{needs}
 use Rattle.requests.specs.Requests.{callOf}
 use Rattle.spec.specs.Messages.{undoCommit}
-use Rattle.text_log.specs.LogLines.{calls, entryAsked, nextNumber, last, lastOr}
-use Rattle.text_log.specs.Reading.{logEntryOf, writtenBy}
+use Rattle.text_log.specs.{LogLines.{calls, entryAsked, last}, Reading.{logEntryOf, writtenBy}}
 use Rattle.text_log.proofs.ReadingLaws.{other-entry, not-none}
-use Rattle.text_log.proofs.parsing.undo_line.Statement.{statement}
 use Rattle.text_log.proofs.parsing.undo_line.Tie as tie
 
 returns : tie.Need-returns
@@ -21,5 +16,5 @@ returns-2 c bytes =
     let start = c .before in
     other-entry bytes _ (not-none (calls undoCommit) (start .args .n) (start .args .numbers .now) (start .pre) (c .if1 .left))
 
-pub undo-line-spec : {M : Type 1} → statement M
+pub undo-line-spec : {M : Type 1} → Rattle.text_log.proofs.parsing.undo_line.Statement.statement M
 undo-line-spec = tie.close (tie.spec returns returns-2)

@@ -1,9 +1,6 @@
 -- Fresh and the best order have a list.
-use mathlib.Core.Path.{_≡_, refl, sym, ap, _∙_}
-use native.Mathlib.Omega.{arith}
 use borrow.Author.Needs.{needs}
 use Rattle.text_log.specs.LogLines.{entryAsked}
-use Rattle.text_log.proofs.parsing.with_list.Statement.{statement}
 use Rattle.text_log.proofs.parsing.with_list.Tie as tie
 
 returns : tie.Need-returns
@@ -14,21 +11,8 @@ returns-2 : tie.Need-returns-2
 unfolding entryAsked
 returns-2 c = rw (c .before .before .before .before .if2 .taken) (c .before .before .order-line .ensures)
 
-by-letter-requires : tie.Need-by-letter-requires
-by-letter-requires c κs = (c .before .before .before .before .pre .0, (c .before .if1 .left, c .if2 .left))
-
-returns-3 : tie.Need-returns-3
-returns-3 c = c .by-letter .ensures _
-
-pub with-list-spec : {M : Type 1} → statement M
-with-list-spec =
-    tie.close
-    (tie.spec
-    (λ c κs. search needs)
-    (λ c. search needs)
-    returns
-    (λ c κs. search needs)
-    (λ c. search needs)
-    returns-2
-    by-letter-requires
-    returns-3)
+pub with-list-spec : {M : Type 1} → Rattle.text_log.proofs.parsing.with_list.Statement.statement M
+with-list-spec = tie.close
+    (tie.spec (λ c κs. search needs) (λ c. search needs) returns (λ c κs. search needs) (λ c. search needs)
+    returns-2 (λ c κs. (c .before .before .before .before .pre .0, (c .before .if1 .left, c .if2 .left)))
+    (λ c. c .by-letter .ensures _))

@@ -1,151 +1,30 @@
 -- `Refusal::number` meets its contract, case by case. Assumes nothing.
 use mathlib.Core.Path.{_≡_, sym, ap}
 use borrow.Author.Needs.{needs}
-use Rattle.state.specs.Outcomes.{number}
-use Rattle.state.specs.declared.outcomes.Refusal.{Refusal}
-use Rattle.state.proofs.outcomes.Refusal.number.Statement.{statement}
+use Rattle.state.specs.{Outcomes.number, declared.outcomes.Refusal.Refusal}
 use Rattle.state.proofs.outcomes.Refusal.number.Tie as tie
 
 -- the number of a refusal whose case is known
 named : {r s : Refusal} → r ≡ s → number s ≡ number r
 named e = sym (ap (λ (x : Refusal). number x) e)
 
-returns : tie.Need-returns
-returns c = named (c .enum-told .given .1)
-
-returns-2 : tie.Need-returns-2
-returns-2 c = named (c .enum-told2 .given .1)
-
-returns-3 : tie.Need-returns-3
-returns-3 c = named (c .enum-told3 .given .1)
-
-returns-4 : tie.Need-returns-4
-returns-4 c = named (c .enum-told4 .given .1)
-
-returns-5 : tie.Need-returns-5
-returns-5 c = named (c .enum-told5 .given .1)
-
-returns-6 : tie.Need-returns-6
-returns-6 c = named (c .enum-told6 .given .1)
-
-returns-7 : tie.Need-returns-7
-returns-7 c = named (c .enum-told7 .given .1)
-
-returns-8 : tie.Need-returns-8
-returns-8 c = named (c .enum-told8 .given .1)
-
-returns-9 : tie.Need-returns-9
-returns-9 c = named (c .enum-told9 .given .1)
-
-returns-10 : tie.Need-returns-10
-returns-10 c = named (c .enum-told10 .given .1)
-
-returns-11 : tie.Need-returns-11
-returns-11 c = named (c .enum-told11 .given .1)
-
-returns-12 : tie.Need-returns-12
-returns-12 c = named (c .enum-told12 .given .1)
-
-returns-13 : tie.Need-returns-13
-returns-13 c = named (c .enum-told13 .given .1)
-
-returns-14 : tie.Need-returns-14
-returns-14 c = named (c .enum-told14 .given .1)
-
-returns-15 : tie.Need-returns-15
-returns-15 c = named (c .enum-told15 .given .1)
-
-returns-16 : tie.Need-returns-16
-returns-16 c = named (c .enum-told16 .given .1)
-
-returns-17 : tie.Need-returns-17
-returns-17 c = named (c .enum-told17 .given .1)
-
-returns-18 : tie.Need-returns-18
-returns-18 c = named (c .enum-told18 .given .1)
-
-returns-19 : tie.Need-returns-19
-returns-19 c = named (c .enum-told19 .given .1)
-
-returns-20 : tie.Need-returns-20
-returns-20 c = named (c .enum-told20 .given .1)
-
-returns-21 : tie.Need-returns-21
-returns-21 c = named (c .enum-told21 .given .1)
-
-returns-22 : tie.Need-returns-22
-returns-22 c = named (c .enum-told22 .given .1)
-
-returns-23 : tie.Need-returns-23
-returns-23 c = named (c .enum-told23 .given .1)
-
-returns-24 : tie.Need-returns-24
-returns-24 c = named (c .enum-told24 .given .1)
-
-returns-25 : tie.Need-returns-25
-returns-25 c = named (c .enum-told25 .given .1)
-
-returns-26 : tie.Need-returns-26
-returns-26 c = named (c .enum-told26 .given .1)
-
-returns-27 : tie.Need-returns-27
-returns-27 c = named (c .enum-told27 .given .1)
-
-pub number-spec : {M : Type 1} → statement M
+pub number-spec : {M : Type 1} → Rattle.state.proofs.outcomes.Refusal.number.Statement.statement M
 number-spec =
-    tie.close
-    (tie.spec
-    (λ c. search needs)
-    (λ c. search needs)
-    (λ c. search needs)
-    (λ c. search needs)
-    (λ c. search needs)
-    (λ c. search needs)
-    (λ c. search needs)
-    (λ c. search needs)
-    (λ c. search needs)
-    (λ c. search needs)
-    (λ c. search needs)
-    (λ c. search needs)
-    (λ c. search needs)
-    (λ c. search needs)
-    (λ c. search needs)
-    (λ c. search needs)
-    (λ c. search needs)
-    (λ c. search needs)
-    (λ c. search needs)
-    (λ c. search needs)
-    (λ c. search needs)
-    (λ c. search needs)
-    (λ c. search needs)
-    (λ c. search needs)
-    (λ c. search needs)
-    (λ c. search needs)
-    (λ c. search needs)
-    returns
-    returns-2
-    returns-3
-    returns-4
-    returns-5
-    returns-6
-    returns-7
-    returns-8
-    returns-9
-    returns-10
-    returns-11
-    returns-12
-    returns-13
-    returns-14
-    returns-15
-    returns-16
-    returns-17
-    returns-18
-    returns-19
-    returns-20
-    returns-21
-    returns-22
-    returns-23
-    returns-24
-    returns-25
-    returns-26
-    returns-27)
+    tie.close (tie.spec (λ c. search needs) (λ c. search needs) (λ c. search needs) (λ c. search needs)
+    (λ c. search needs) (λ c. search needs) (λ c. search needs) (λ c. search needs) (λ c. search needs)
+    (λ c. search needs) (λ c. search needs) (λ c. search needs) (λ c. search needs) (λ c. search needs)
+    (λ c. search needs) (λ c. search needs) (λ c. search needs) (λ c. search needs) (λ c. search needs)
+    (λ c. search needs) (λ c. search needs) (λ c. search needs) (λ c. search needs) (λ c. search needs)
+    (λ c. search needs) (λ c. search needs) (λ c. search needs) (λ c. named (c .enum-told .given .1))
+    (λ c. named (c .enum-told2 .given .1)) (λ c. named (c .enum-told3 .given .1)) (λ c. named
+    (c .enum-told4 .given .1)) (λ c. named (c .enum-told5 .given .1)) (λ c. named (c .enum-told6 .given .1))
+    (λ c. named (c .enum-told7 .given .1)) (λ c. named (c .enum-told8 .given .1)) (λ c. named
+    (c .enum-told9 .given .1)) (λ c. named (c .enum-told10 .given .1)) (λ c. named (c .enum-told11 .given .1))
+    (λ c. named (c .enum-told12 .given .1)) (λ c. named (c .enum-told13 .given .1))
+    (λ c. named (c .enum-told14 .given .1)) (λ c. named (c .enum-told15 .given .1))
+    (λ c. named (c .enum-told16 .given .1)) (λ c. named (c .enum-told17 .given .1))
+    (λ c. named (c .enum-told18 .given .1)) (λ c. named (c .enum-told19 .given .1))
+    (λ c. named (c .enum-told20 .given .1)) (λ c. named (c .enum-told21 .given .1))
+    (λ c. named (c .enum-told22 .given .1)) (λ c. named (c .enum-told23 .given .1))
+    (λ c. named (c .enum-told24 .given .1)) (λ c. named (c .enum-told25 .given .1))
+    (λ c. named (c .enum-told26 .given .1)) (λ c. named (c .enum-told27 .given .1)))

@@ -1,19 +1,20 @@
 -- Commit's placing, and the offsets that it sets, descriptor by descriptor.
-use mathlib.Core.{Bool.{Bool, true, false, cond, not, _&&_}, Logic.⊎-elim, List.{List, [], _∷_}, Path.{_≡_, refl, sym, ap, _∙_}}
+use mathlib.Core.{Bool.{Bool, true, false, cond, not, _&&_}, Logic.⊎-elim, List.{List, [], _∷_}}
+use mathlib.Core.Path.{_≡_, refl, sym, ap, ap₂, _∙_}
 use lib.{Dec.leb, ListN.{length, getD, set, length-set}, Seq.getD-set-other}
 use borrow.Author.Tests.{le-leb, lt-leb, leb-true}
 use native.Mathlib.{Numerals.add-one, Omega.arith}
 use Prim.Native.Nat.{ℕ, zero, suc, _+_, _-_, _≤_, _<_}
 use Rattle.limits.specs.Limits.{fileBytes, descriptorCount}
-use Rattle.state.specs.declared.{StoreMeaning.StoreMeaning, Transaction.Transaction}
-use Rattle.state.specs.{StoreMeaning.{standingAt, dirtyAt, withOffsets}, Layout.{storeOf, journalOf}, Updates.withOffsetAt}
-use Rattle.state.proofs.LayoutLaws.{store-with-offset, journal-with-offset}
-use Rattle.buffers.proofs.PartLaws.{le-or-lt}
+use Rattle.state.specs.declared.{StoreMeaning.StoreMeaning, Transaction.Transaction, Descriptor.Descriptor}
+use Rattle.state.specs.{StoreMeaning.{standingAt, dirtyAt, noDescriptor, withOffsets}, Layout.{transactionOf, storeOf, journalOf}}
+use Rattle.state.{specs.Updates.withOffsetAt, proofs.LayoutLaws.{descriptor-of, store-with-offset, journal-with-offset}}
+use Rattle.buffers.proofs.{PartLaws.le-or-lt, TableLaws.getD-tabulate}
 use Rattle.standings.specs.declared.{Standing.{Standing, the-variants.{Untouched, Placed, Deferred, Moved, Known}}}
 use Rattle.standings.specs.Table.{advance, finalOffset, mayWait, isTouched}
-use Rattle.admission.{specs.FirstRefusal.below, proofs.Laws.below-at}
+use Rattle.admission.{specs.FirstRefusal.below, proofs.Laws.{below-at, below-all}}
 use Rattle.spec.specs.{Items.offset, Commits.{setsOffset, offsetSettings, fits}, Calls.{landOffset, landOffsets}}
-use Rattle.commit_apply.specs.Apply.{offsetsOnly, descriptorsOnly, placesFit, Means}
+use Rattle.commit_apply.specs.Apply.{offsetsOnly, descriptorsOnly, placesFit, settingDescriptor, settingOf, Means}
 use Rattle.commit_apply.proofs.Settings.{offsets-append}
 
 -- ---- placing
@@ -122,3 +123,58 @@ module _ (x : Transaction) (before state : List ℕ) (d : ℕ) (few : d < descri
       journal = ap journalOf e ∙ so .journal;
       long = ap length e ∙ so .long;
     }
+
+-- ---- the transaction read out for what it sets
+
+module _ (state : List ℕ) (t : ℕ) where
+  abbrev own : Transaction
+  own = transactionOf state t
+
+  abbrev sets : ℕ → Bool
+  sets d = setsOffset (descriptorsOnly own) d
+
+  setting-at : (d : ℕ) → d < descriptorCount → getD (settingOf state t .descriptors) d noDescriptor
+      ≡ cond (sets d) (getD (own .descriptors) d noDescriptor) noDescriptor
+  unfolding settingDescriptor
+  setting-at d l = getD-tabulate (settingDescriptor state t) 16 d noDescriptor l
+      ∙ ap (λ (q : Descriptor). cond (sets d) q noDescriptor) (sym (descriptor-of state t d l))
+
+  -- The offsets that it sets are the transaction's own.
+  sets-alike : (d : ℕ) → d < descriptorCount → setsOffset (descriptorsOnly (settingOf state t)) d ≡ sets d
+  unfolding setsOffset
+  sets-alike d l = ap (λ (q : Descriptor). q .dirty && isTouched (q .standing)) (setting-at d l)
+      ∙ pick (sets d) (getD (own .descriptors) d noDescriptor) refl
+    where
+      pick : (b : Bool) (q : Descriptor) → b ≡ (q .dirty && isTouched (q .standing))
+          → (cond b q noDescriptor .dirty && isTouched (cond b q noDescriptor .standing)) ≡ (q .dirty && isTouched (q .standing))
+      pick true q e = refl
+      pick false q e = e
+
+  stands-alike : (d : ℕ) → d < descriptorCount → sets d ≡ true → standingAt (settingOf state t) d ≡ standingAt own d
+  stands-alike d l e = ap (λ (q : Descriptor). q .standing) (setting-at d l)
+      ∙ ap (λ (b : Bool). cond b (getD (own .descriptors) d noDescriptor) noDescriptor .standing) e
+
+  pub setting-sets : (offsets : List ℕ) (n : ℕ) → n ≤ descriptorCount
+      → offsetsSet (settingOf state t) offsets n ≡ offsetsSet own offsets n
+  setting-sets offsets zero l = offsets-none (settingOf state t) offsets ∙ sym (offsets-none own offsets)
+  setting-sets offsets (suc n) l = ap (offsetsSet (settingOf state t) offsets) (sym (add-one n)) ∙ offsets-more
+      (settingOf state t) offsets n (sets n) (sets-alike n (omega arith)) ∙ pick (sets n) refl (setting-sets offsets n
+      (omega arith)) ∙ sym (offsets-more own offsets n (sets n) refl) ∙ ap (offsetsSet own offsets) (add-one n)
+    where
+      pick : (b : Bool) → sets n ≡ b → offsetsSet (settingOf state t) offsets n ≡ offsetsSet own offsets n
+          → cond b (set (offsetsSet (settingOf state t) offsets n) n (finalOffset (getD offsets n 0)
+          (standingAt (settingOf state t) n))) (offsetsSet (settingOf state t) offsets n) ≡ cond b
+          (set (offsetsSet own offsets n) n (finalOffset (getD offsets n 0) (standingAt own n))) (offsetsSet own offsets n)
+      pick true e so = ap₂ (λ (os : List ℕ) (z : Standing). set os n (finalOffset (getD offsets n 0) z)) so
+          (stands-alike n (omega arith) e)
+      pick false e so = so
+
+  pub setting-fits : (s : StoreMeaning) → placesFit s own ≡ true → placesFit s (settingOf state t) ≡ true
+  setting-fits s e = sym (placed-all s (settingOf state t)) ∙ below-all (offsetFitsAt s (settingOf state t)) 16
+      (λ d l. le-leb (getD (s .offsets) d 0 + advance (standingAt (settingOf state t) d)) fileBytes
+      (rw (ap (λ (q : Descriptor). q .standing) (setting-at d l)) (pick d (sets d) (fits-at s own e d l))))
+    where
+      pick : (d : ℕ) (b : Bool) → getD (s .offsets) d 0 + advance (standingAt own d) ≤ fileBytes
+          → getD (s .offsets) d 0 + advance (cond b (getD (own .descriptors) d noDescriptor) noDescriptor .standing) ≤ fileBytes
+      pick d true h = h
+      pick d false h = omega arith

@@ -12,14 +12,15 @@ use Rattle.limits.specs.Limits.{recordCount, logBytes}
 use Rattle.buffers.specs.Parts.{tabulate}
 use Rattle.state.specs.declared.StoreMeaning.{StoreMeaning}
 use Rattle.state.specs.declared.Transaction.{Transaction}
-use Rattle.state.specs.StoreMeaning.{standingAt, dirtyAt, withOffsets}
+use Rattle.state.specs.declared.Descriptor.{Descriptor}
+use Rattle.state.specs.StoreMeaning.{standingAt, dirtyAt, noDescriptor, withDescriptors, withOffsets}
 use Rattle.state.specs.Journal.{writeRecordAt}
-use Rattle.state.specs.Layout.{storeOf, journalOf, stateLength}
+use Rattle.state.specs.Layout.{descriptorOf, transactionOf, storeOf, journalOf, stateLength}
 use Rattle.admission.specs.Admission.{lengthsBefore}
 use Rattle.spec.specs.Items.{byte, offset, fileLength, Values}
 use Rattle.spec.specs.Transactions.{Txn}
 use Rattle.spec.specs.Reading.{writeEnd}
-use Rattle.spec.specs.Commits.{Setting, landsAt, byteSettings, offsetSettings, fits}
+use Rattle.spec.specs.Commits.{Setting, landsAt, byteSettings, offsetSettings, setsOffset, fits}
 use Rattle.spec.specs.Machine.{writeAt}
 use Rattle.spec.specs.Calls.{landOffsets}
 use Rattle.spec.specs.Promises.{Lent}
@@ -43,6 +44,16 @@ abbrev pub withOffsetsOf : Transaction → StoreMeaning → StoreMeaning
 withOffsetsOf x s =
     withOffsets (landOffsets (offsetSettings (offsetsOnly (s .offsets)) (descriptorsOnly x) descriptorCount)
     (s .offsets)) s
+
+-- Descriptor d of transaction t where a commit sets its offset, and a blank one where not; and the
+-- transaction with its sixteen descriptors read so.
+unfoldable pub settingDescriptor : List ℕ → ℕ → ℕ → Descriptor
+settingDescriptor state t d = cond (setsOffset (descriptorsOnly (transactionOf state t)) d)
+    (descriptorOf state t d) noDescriptor
+
+abbrev pub settingOf : List ℕ → ℕ → Transaction
+settingOf state t = withDescriptors (tabulate (settingDescriptor state t) descriptorCount)
+    (transactionOf state t)
 
 -- The bytes that the first n write records of transaction t set, in call order.
 unfoldable pub bytesSet : List ℕ → List ℕ → List ℕ → List ℕ → ℕ → ℕ → List Setting

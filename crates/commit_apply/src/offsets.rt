@@ -1,12 +1,19 @@
 // Commit's placing, and the committed offsets that a commit sets.
 use limits::FILE_END;
 use limits::wide;
+use standings::Standing;
 use state::DESCRIPTORS;
+use state::Descriptor;
 use state::Transaction;
+use state::dirty::sets_offset_at;
 use state::layout::State;
+use state::layout::descriptor_at;
+use state::layout::is_begun;
+use state::layout::is_stale;
+use state::layout::lengthmarks_at;
 use state::layout::offset_at;
 use state::layout::put_offset;
-use state::layout::transaction_at;
+use state::layout::used_at;
 use state::readers::any_dirty;
 use state::readers::may_wait_to;
 ghost use mathlib.Core.Bool.{true};
@@ -14,8 +21,10 @@ ghost use mathlib.Core.Path.{_≡_};
 ghost use Prim.Native.Nat.{ℕ, _≤_, _<_};
 ghost use lib.ListN.{length, getD};
 ghost use Rattle.limits.specs.Limits.{fileBytes, descriptorCount, transactionCount};
+ghost use Rattle.buffers.specs.Parts.{tabulate};
 ghost use Rattle.state.specs.Layout.{storeOf, transactionOf, stateLength};
-ghost use Rattle.commit_apply.specs.Apply.{placesFit, withOffsetsOf, Becomes};
+ghost use Rattle.commit_apply.specs.Apply.{placesFit, settingDescriptor, settingOf};
+ghost use Rattle.commit_apply.specs.Apply.{withOffsetsOf, Becomes};
 
 // Commit's placing: every advance of transaction t fits behind its committed offset.
 pub fn places_fit(state: &State, t: usize) -> bool
@@ -51,6 +60,46 @@ fn put_offsets(state: &mut State, x: Transaction)
     }
 }
 
+// The sixteen descriptors of transaction t, those read out whose offsets a commit sets, the others blank.
+fn setting_descriptors(state: &State, t: usize) -> [Descriptor; DESCRIPTORS]
+    requires { ⌜ t < transactionCount ⌝ }
+    ensures { λ r. ⌜ r ≡ tabulate (settingDescriptor (now (state .entry)) t) descriptorCount ⌝ }
+{
+    let blank = Descriptor {
+        standing: Standing::Untouched,
+        dirty: false,
+    };
+    let mut all = [blank; DESCRIPTORS];
+    let mut d = 0;
+    while d < DESCRIPTORS {
+        if sets_offset_at(state, t, d) {
+            let q = descriptor_at(state, t, d);
+            all[d] = q;
+        }
+        d += 1;
+    }
+    all
+}
+
+// Transaction t with these descriptors.
+fn setting_at(state: &State, t: usize) -> Transaction
+    requires { ⌜ t < transactionCount ⌝ }
+    ensures { λ r. ⌜ r ≡ settingOf (now (state .entry)) t ⌝ }
+{
+    let begun = is_begun(state, t);
+    let stale = is_stale(state, t);
+    let lengthmarks = lengthmarks_at(state, t);
+    let used = used_at(state, t);
+    let descriptors = setting_descriptors(state, t);
+    Transaction {
+        begun,
+        stale,
+        lengthmarks,
+        used,
+        descriptors,
+    }
+}
+
 // Puts the committed offsets that a commit of transaction t sets. Where nothing is dirty, it sets none, and
 // the transaction is not read out.
 pub fn set_offsets(state: &mut State, t: usize)
@@ -61,5 +110,5 @@ pub fn set_offsets(state: &mut State, t: usize)
     if !any_dirty(state, t) {
         return;
     }
-    put_offsets(state, transaction_at(state, t));
+    put_offsets(state, setting_at(state, t));
 }

@@ -14,7 +14,7 @@ use Rattle.standings.specs.Table.{placeNumber}
 use Rattle.windows.specs.Windows.{window, freshWindow}
 use Rattle.admission.{specs.{FirstRefusal.unless, Admission.storeIn}, proofs.Laws.{in-range, in-range-intro, landed-in}}
 use Rattle.spec.specs.{Machine.{Machine, lent}, Calls.{freshStore, freshMachine}, Age.rejuvenated}
-use Rattle.spec.proofs.Refinement.{Relation.Shaped, UndoValues.{SameGrant, undo-same}, IndexedLists.tabulate-getD}
+use Rattle.spec.proofs.Refinement.{Relation.Shaped, UndoValues.{SameGrant, undo-values-same}, IndexedLists.tabulate-getD}
 use Rattle.images.specs.Images.{numberOf, grantRecord, recordCode, recordFrom, undoFrom, storeFrom, journalFrom, blankRecord}
 use Rattle.images.{specs.Images.{canonical, loadRefusal, youngWith}, proofs.YoungLaws.records-cut}
 use Rattle.c_images.proofs.WriteRecords.{again-decoded, has-record, no-record}
@@ -161,7 +161,7 @@ module _ (s : StoreMeaning) (journal : List ℕ) (w : ℕ → ℕ) (same : (i : 
       offsets = r .offsets;
       lengths = r .lengths;
       windows = r .windows;
-      undo = λ h. undo-same (s .undo) (youngJournal s journal) journal same-grant h (r .undo h);
+      undo = λ h. undo-values-same (s .undo) (youngJournal s journal) journal same-grant h (r .undo h);
       transactions = λ t l b. absurd (true≢false (sym b ∙ closed t l));
     })
 

@@ -17,7 +17,7 @@ use Rattle.spec.specs.{Places.noPlace, Commits.landsAt, OrderReply.{hasUnplaced
 use Rattle.spec.specs.{Calls.askedOf, Promises.machineOf}
 use Rattle.refinement.proofs.Decoded.{some-tabulate}
 use Rattle.commit_apply.specs.Apply.{RecordLands, CanLandIn}
-use Rattle.commit_windows.{specs.WindowCheck.OpenIn, proofs.ClosingLaws.{few-closing, descriptor-in}}
+use Rattle.commit_windows.{specs.WindowCheck.OpenIn, proofs.ClosingLaws.{few-closing, closing-descriptor-in}}
 use Rattle.call_order.specs.OrderTable.{unplacedIn, isReady, AllOpen, AllLand, listRefusal}
 use Rattle.call_order.proofs.ListLaws.{all-at, small-at}
 
@@ -125,7 +125,7 @@ module _ (state : List ℕ) (t : ℕ) (o : OpenIn state t) (placed : unplacedIn 
   unfolding unplacedIn
   record-lands k l = let w = writeRecordAt (journalOf state) t k in let x = transaction (storeOf state) t in
       let r = record-in x w (in-ranges .writes k (omega (arith, counts))) in record {
-        descriptor = descriptor-in state t o k l;
+        descriptor = closing-descriptor-in state t o k l;
         place = placed-in (getD (storeOf state .offsets) (w .descriptor) 0) (standingAt x (w .descriptor)) (w .place)
             (w .length) (not-some (λ j. noPlace (writeRecordAt (journalOf state) t j .place))
             (transactionOf state t .used .records) k placed l) (r .place);

@@ -8,10 +8,10 @@ use Rattle.standings.specs.{declared.Place.{Place, the-variants.{At, After}}, T
 use Rattle.spec.specs.{Items.{Item, byte, offset, fileLength, same, Values}, Transactions.{Txn, Write}}
 use Rattle.spec.specs.{Reading.{writeEnd, farthest}, Places.{someWrite, noPlace}, OrderReply.hasUnplaced}
 use Rattle.spec.specs.Commits.{Setting, landsAt, bytesFrom, byteSettings, setsOffset, offsetSettings, landedEnd, lengthSettings}
-use Rattle.spec.{specs.Commits.{settings, putItem, landed}, proofs.Abstract.AbstractStore.{UndoSaved, abstractSighted, hit}}
+use Rattle.spec.{specs.Commits.{settings, putItem, landed}, proofs.Abstract.AbstractStore.{OpenTxn, abstractSighted, hit}}
 use Rattle.spec.proofs.Abstract.Lists.{same-true, or-left-false, or-right-false}
 
-hit-append : (h : UndoSaved) (ss rs : List Setting) → hit (ss ++ rs) h ≡ hit ss h || hit rs h
+hit-append : (h : OpenTxn) (ss rs : List Setting) → hit (ss ++ rs) h ≡ hit ss h || hit rs h
 unfolding hit
 hit-append h [] rs = refl
 hit-append h (s ∷ ss) rs = ap (λ (b : Bool). abstractSighted h (s .item) || b) (hit-append h ss rs)
@@ -42,7 +42,7 @@ module _ (fileOf : ℕ → ℕ) (v w : Values) where
       m) (lands-same (v (offset (x .descriptor))) (w (offset (x .descriptor))) (x .place)
       (or-left-false (noPlace (x .place)) _ p)) (end-same f ws (or-right-false (noPlace (x .place)) _ p))
 
-  module _ (h : UndoSaved) (lengths : (f : ℕ) → abstractSighted h (fileLength f) ≡ true → v (fileLength f)
+  module _ (h : OpenTxn) (lengths : (f : ℕ) → abstractSighted h (fileLength f) ≡ true → v (fileLength f)
       ≡ w (fileLength f)) where
     offsets-hit : (x : Txn) (n : ℕ) → hit (offsetSettings v x n) h ≡ hit (offsetSettings w x n) h
     unfolding offsetSettings
@@ -88,7 +88,7 @@ module _ (fileOf : ℕ → ℕ) (v w : Values) where
 
 -- ---- what is sighted and not hit stays
 
-pub not-hit : (h : UndoSaved) (i : Item) → abstractSighted h i ≡ true → (ss : List Setting) (v : Values) → hit ss h ≡ false
+pub not-hit : (h : OpenTxn) (i : Item) → abstractSighted h i ≡ true → (ss : List Setting) (v : Values) → hit ss h ≡ false
     → landed ss v i ≡ v i
 unfolding landed hit
 not-hit h i k [] v e = refl
@@ -102,16 +102,16 @@ not-hit h i k (s ∷ ss) v e = not-hit h i k ss (putItem (s .item) (s .to) v)
 
 -- ---- the flag of the stale has no part in it
 
-abbrev pub flagged : Bool → UndoSaved → UndoSaved
+abbrev pub flagged : Bool → OpenTxn → OpenTxn
 flagged c h = record { txn = h .txn; marked = h .marked; lengths = h .lengths; stale = c }
 
-sighted-flagged : (c : Bool) (h : UndoSaved) (i : Item) → abstractSighted (flagged c h) i ≡ abstractSighted h i
+sighted-flagged : (c : Bool) (h : OpenTxn) (i : Item) → abstractSighted (flagged c h) i ≡ abstractSighted h i
 unfolding abstractSighted
 sighted-flagged c h (byte q) = refl
 sighted-flagged c h (offset d) = refl
 sighted-flagged c h (fileLength f) = refl
 
-pub hit-flagged : (c : Bool) (h : UndoSaved) (ss : List Setting) → hit ss (flagged c h) ≡ hit ss h
+pub hit-flagged : (c : Bool) (h : OpenTxn) (ss : List Setting) → hit ss (flagged c h) ≡ hit ss h
 unfolding hit
 hit-flagged c h [] = refl
 hit-flagged c h (s ∷ ss) = ap₂ (λ (a b : Bool). a || b) (sighted-flagged c h (s .item)) (hit-flagged c h ss)

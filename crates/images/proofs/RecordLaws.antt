@@ -5,7 +5,7 @@ use lib.{Dec.ltb, ListN.getD}
 use native.Mathlib.Omega.{arith}
 use Prim.Native.Nat.{ℕ, _+_, _-_, _*_, _<_}
 use Rattle.limits.specs.Limits.{recordCount}
-use Rattle.state.specs.{Journal.{decodedAs, decoded, lastGrant, writeRecordAt}, Layout.{storeOf, undoOf, journalOf, heldAt}}
+use Rattle.state.specs.{Journal.{decodedAs, decoded, lastGrant, writeRecordAt}, Layout.{storeOf, undoOf, journalOf, undoValidAt}}
 use Rattle.state.proofs.LayoutLaws.{record-of}
 
 -- A write record of a record whose numbers have 16 bits.
@@ -23,4 +23,4 @@ module _ (state : List ℕ) (fits : (i : ℕ) → getD state i 0 < 65536) where
       rw (record-of state lastGrant k (omega arith) h) (low-code _ _ _ (fits (3 * (recordCount * lastGrant + k))))
 
   pub few-records : storeOf state .undo .used .records < 65536
-  few-records = unfold storeOf undoOf in fits (heldAt + 1)
+  few-records = unfold storeOf undoOf in fits (undoValidAt + 1)

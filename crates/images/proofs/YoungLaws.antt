@@ -10,7 +10,7 @@ use Rattle.windows.specs.Windows.{window}
 use Rattle.state.specs.{declared.{StoreMeaning.StoreMeaning, journal.WriteRecord.WriteRecord}, StoreMeaning.ended}
 use Rattle.state.specs.Journal.{lastGrant, withRecordAt, withRecords, journalLength}
 use Rattle.state.specs.Layout.{storeOf, undoOf, windowOf, transactionOf, journalOf, stateLength, isSet, fileNumbersAt, offsetsAt}
-use Rattle.state.specs.{Layout.{lengthsAt, startsAt, endsAt, foundOffsetsAt, foundLengthsAt, heldAt}, Updates.flagNumber}
+use Rattle.state.specs.{Layout.{lengthsAt, startsAt, endsAt, foundOffsetsAt, foundLengthsAt, undoValidAt}, Updates.flagNumber}
 use Rattle.state.proofs.LayoutLaws.{flag-back, store-of-zeros, transactions-same, journal-with-record, store-with-record}
 use Rattle.state.proofs.JournalLaws.{length-with}
 use Rattle.standings.specs.Table.{placeNumber}
@@ -164,10 +164,11 @@ module _ (w : ℕ → ℕ) where
   long-granted = unfold withLastGrant in simp length-set long-filed
 
   -- A number before those of the grant.
-  before-grant : (j : ℕ) → j < heldAt → getD granted j 0 ≡ getD filed j 0
-  before-grant j h = unfold withLastGrant in let a = set filed heldAt (flagNumber (isSet (w 57))) in
-      getD-set-other (set a (heldAt + 1) (w 58)) (heldAt + 2) j (w 59) 0 (λ p. omega arith) ∙ getD-set-other a (heldAt + 1)
-      j (w 58) 0 (λ p. omega arith) ∙ getD-set-other filed heldAt j (flagNumber (isSet (w 57))) 0 (λ p. omega arith)
+  before-grant : (j : ℕ) → j < undoValidAt → getD granted j 0 ≡ getD filed j 0
+  before-grant j h = unfold withLastGrant in let a = set filed undoValidAt (flagNumber (isSet (w 57))) in
+      getD-set-other (set a (undoValidAt + 1) (w 58)) (undoValidAt + 2) j (w 59) 0 (λ p. omega arith)
+      ∙ getD-set-other a (undoValidAt + 1) j (w 58) 0 (λ p. omega arith)
+      ∙ getD-set-other filed undoValidAt j (flagNumber (isSet (w 57))) 0 (λ p. omega arith)
 
   -- A number that is none of the files' ones.
   past-files : (j : ℕ) → (j < lengthsAt) ⊎ ((foundOffsetsAt ≤ j) × (j < foundLengthsAt)) → getD filed j 0 ≡ getD described j 0
@@ -221,16 +222,17 @@ module _ (w : ℕ → ℕ) where
 
   undo-granted : undoOf granted ≡ undoFrom w
   unfolding undoOf undoFrom withLastGrant
-  undo-granted = let l = long-filed in let n = flagNumber (isSet (w 57)) in let a = set filed heldAt n in
-      let b = set a (heldAt + 1) (w 58) in let la : length a ≡ length filed = length-set filed heldAt n in
-      let lb : length b ≡ length filed = length-set a (heldAt + 1) (w 58) ∙ la in
-      let held : isSet (getD (set b (heldAt + 2) (w 59)) heldAt 0) ≡ isSet (w 57) =
-      ap isSet (getD-set-other b (heldAt + 2) heldAt (w 59) 0 (λ p. omega arith) ∙ getD-set-other a (heldAt + 1) heldAt
-      (w 58) 0 (λ p. omega arith) ∙ getD-set-same filed heldAt n 0 (omega arith)) ∙ flag-back (isSet (w 57)) in
-      let records : getD (set b (heldAt + 2) (w 59)) (heldAt + 1) 0 ≡ w 58 = getD-set-other b (heldAt + 2) (heldAt + 1)
-      (w 59) 0 (λ p. omega arith) ∙ getD-set-same a (heldAt + 1) (w 58) 0 (omega arith) in
-      let bytes : getD (set b (heldAt + 2) (w 59)) (heldAt + 2) 0 ≡ w 59 =
-      getD-set-same b (heldAt + 2) (w 59) 0 (omega arith) in
+  undo-granted = let l = long-filed in let n = flagNumber (isSet (w 57)) in let a = set filed undoValidAt n in
+      let b = set a (undoValidAt + 1) (w 58) in let la : length a ≡ length filed = length-set filed undoValidAt n in
+      let lb : length b ≡ length filed = length-set a (undoValidAt + 1) (w 58) ∙ la in
+      let held : isSet (getD (set b (undoValidAt + 2) (w 59)) undoValidAt 0) ≡ isSet (w 57) =
+      ap isSet (getD-set-other b (undoValidAt + 2) undoValidAt (w 59) 0 (λ p. omega arith)
+      ∙ getD-set-other a (undoValidAt + 1) undoValidAt (w 58) 0 (λ p. omega arith)
+      ∙ getD-set-same filed undoValidAt n 0 (omega arith)) ∙ flag-back (isSet (w 57)) in
+      let records : getD (set b (undoValidAt + 2) (w 59)) (undoValidAt + 1) 0 ≡ w 58 =
+      getD-set-other b (undoValidAt + 2) (undoValidAt + 1) (w 59) 0 (λ p. omega arith) ∙ getD-set-same a (undoValidAt + 1) (w 58) 0 (omega arith) in
+      let bytes : getD (set b (undoValidAt + 2) (w 59)) (undoValidAt + 2) 0 ≡ w 59 =
+      getD-set-same b (undoValidAt + 2) (w 59) 0 (omega arith) in
       let offsets : tabulate (λ d. getD granted (foundOffsetsAt + d) 0) descriptorCount ≡ tabulate (λ d. w (60 + d))
       descriptorCount = table-same _ _ 16 at-found-offset in
       let lengths : tabulate (λ f. getD granted (foundLengthsAt + f) 0) fileCount ≡ tabulate (λ f. w (76 + f)) fileCount =

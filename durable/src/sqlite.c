@@ -157,7 +157,8 @@ static int has_tables(struct sqlite *q, char why[WHY]) {
     return r;
 }
 
-/* The log is folded into the file every 4 MB. */
+/* SQLite folds the log into the file every 1,000 pages. With more a save searches longer in its index of the
+ * log. */
 static int connect_writer(struct sqlite *q, const char *path, int how, char why[WHY]) {
     int r = open_file(q, path,
                       SQLITE_OPEN_READWRITE | (how & LUZHANEM_DURABLE_CREATE ? SQLITE_OPEN_CREATE : 0), why);
@@ -166,7 +167,6 @@ static int connect_writer(struct sqlite *q, const char *path, int how, char why[
     if (r == SQLITE_OK) r = check_file(q, why);
     if (r == SQLITE_OK && !(how & LUZHANEM_DURABLE_CREATE)) r = has_tables(q, why);
     if (r == SQLITE_OK) r = set_wal(q, why);
-    if (r == SQLITE_OK) r = pragma(q->db, "PRAGMA wal_autocheckpoint = 4000", NULL, why);
     const char *level = how & LUZHANEM_DURABLE_OFF      ? "PRAGMA synchronous = OFF"
                         : how & LUZHANEM_DURABLE_NORMAL ? "PRAGMA synchronous = NORMAL"
                                                         : "PRAGMA synchronous = FULL";

@@ -193,7 +193,7 @@ static void tampered(const char *folder) {
     }
 }
 
-/* The size of the log after a sync of one more append of 16 bytes, less that before it. */
+/* By how many bytes the log grows with the sync of one more append of 16 bytes. */
 static long long log_grows(luzhanem_durable *d, const char *log) {
     struct stat before, after;
     must(luzhanem_begin(&a, 0), "begin");
@@ -214,7 +214,7 @@ static void appends(const char *url, const char *name, long long most) {
     must(luzhanem_durable_open(&d, url, "one", 0, &a, NULL), "open");
     for (int i = 0; i < 255; i++) {
         long long n = log_grows(d, log);
-        small += n > 0 && n <= most;
+        small += n >= 0 && n <= most; /* 0 where the log began anew */
     }
     snprintf(words, sizeof words, "%d of 255", small);
     check(small > 230, name, words);

@@ -230,7 +230,8 @@ module _ (w : ℕ → ℕ) where
       ∙ getD-set-other a (undoValidAt + 1) undoValidAt (w 58) 0 (λ p. omega arith)
       ∙ getD-set-same filed undoValidAt n 0 (omega arith)) ∙ flag-back (isSet (w 57)) in
       let records : getD (set b (undoValidAt + 2) (w 59)) (undoValidAt + 1) 0 ≡ w 58 =
-      getD-set-other b (undoValidAt + 2) (undoValidAt + 1) (w 59) 0 (λ p. omega arith) ∙ getD-set-same a (undoValidAt + 1) (w 58) 0 (omega arith) in
+      getD-set-other b (undoValidAt + 2) (undoValidAt + 1) (w 59) 0 (λ p. omega arith)
+      ∙ getD-set-same a (undoValidAt + 1) (w 58) 0 (omega arith) in
       let bytes : getD (set b (undoValidAt + 2) (w 59)) (undoValidAt + 2) 0 ≡ w 59 =
       getD-set-same b (undoValidAt + 2) (w 59) 0 (omega arith) in
       let offsets : tabulate (λ d. getD granted (foundOffsetsAt + d) 0) descriptorCount ≡ tabulate (λ d. w (60 + d))

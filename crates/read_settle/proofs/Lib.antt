@@ -2,5 +2,6 @@
 pub mod ChoiceLaws
 pub mod RecordLaws
 pub mod InRecord
+pub mod OneSettled
 pub mod Settled
 pub mod Chosen

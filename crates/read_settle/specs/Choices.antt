@@ -31,6 +31,10 @@ settlesForPointer x d e = eqb e d && pointerSettles (standingAt x d)
 unfoldable pub chosenByPointer : Transaction → ℕ → List Bool
 chosenByPointer x d = tabulate (settlesForPointer x d) descriptorCount
 
+-- Descriptor d alone.
+abbrev pub onlyOne : ℕ → List Bool
+onlyOne d = tabulate (λ e. eqb e d) descriptorCount
+
 -- Those that a Read through d settles or, where `reads` is false, a GetFilePointer on it.
 abbrev pub chosenBy : Bool → List ℕ → Transaction → ℕ → List Bool
 chosenBy reads filenumbers x d = cond reads (chosenByRead filenumbers x d) (chosenByPointer x d)

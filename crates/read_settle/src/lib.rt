@@ -7,19 +7,27 @@ use crate::records::place_records;
 use crate::settle_call::Verdict;
 use crate::settle_call::chosen_by;
 use crate::settle_call::settle;
+use limits::FILE_END;
 use state::DESCRIPTORS;
+use state::Descriptor;
 use state::layout::State;
+use state::layout::descriptor_at;
+use state::layout::offset_at;
 use state::layout::put_chosen;
+use state::layout::put_descriptor;
 use state::layout::standing_at;
 use state::layout::transaction_at;
+use state::layout::used_at;
 use state::readers::read_settles_at;
-ghost use mathlib.Core.Bool.{false};
+ghost use mathlib.Core.Bool.{true, false};
 ghost use mathlib.Core.Path.{_≡_};
 ghost use Prim.Native.Nat.{ℕ, _<_};
 ghost use lib.ListN.{getD};
 ghost use Rattle.limits.specs.Limits.{descriptorCount, transactionCount};
+ghost use Rattle.standings.specs.Table.{readSettles};
+ghost use Rattle.state.specs.StoreMeaning.{standingAt};
 ghost use Rattle.state.specs.Layout.{transactionOf, storeOf};
-ghost use Rattle.read_settle.specs.Choices.{chosenByRead, chosenByPointer, chosenBy};
+ghost use Rattle.read_settle.specs.Choices.{chosenByRead, chosenByPointer, chosenBy, onlyOne};
 ghost use Rattle.read_settle.specs.Records.{Placeable};
 ghost use Rattle.read_settle.specs.Outcome.{SettledIn};
 
@@ -71,15 +79,43 @@ fn settle_by(state: &mut State, t: usize, d: usize, reads: bool) -> Verdict
     settle_chosen(state, t, chosen)
 }
 
-// Whether a Read through d may settle a descriptor of transaction t: where this says no, it settles none. It
-// asks whether d is Untouched, and whether a descriptor of any file waits. It goes over all, with no branch.
-fn read_may_settle(state: &State, t: usize, d: usize) -> bool
-    requires { ⌜ (t < transactionCount) × (d < descriptorCount) ⌝ }
-    ensures { λ r. ⌜ (r ≡ false → (e : ℕ) → e < descriptorCount
-        → getD (chosenByRead (storeOf (now (state .entry)) .filenumbers)
-        (transactionOf (now (state .entry)) t) d) e false ≡ false) ⌝ }
+// Settles descriptor d of transaction t alone, if it can be.
+fn settle_one(state: &mut State, t: usize, d: usize) -> Verdict
+    requires ready { ⌜ Placeable (now state) t (transactionOf (now state) t .used .records) ⌝ }
+    requires few { ⌜ d < descriptorCount ⌝ }
+    ensures { λ r. ⌜ SettledIn (onlyOne d)
+        t (transactionOf (now (state .entry)) t) (now (state .entry)) (now (state .exit)) r ⌝ }
 {
-    let mut found = read_settles_at(state, t, d, false, true);
+    let q = descriptor_at(state, t, d);
+    let standing = q.standing;
+    let c = offset_at(state, d);
+    if FILE_END - c < standing.advance() {
+        return Verdict::Past;
+    }
+    let used = used_at(state, t);
+    let mut chosen = [false; DESCRIPTORS];
+    chosen[d] = true;
+    place_records(state, t, used.records, chosen);
+    put_descriptor(
+        state,
+        t,
+        d,
+        Descriptor {
+            standing: standing.settled(c),
+            dirty: q.dirty,
+        },
+    );
+    Verdict::Settled
+}
+
+// Whether a descriptor of transaction t may wait for its place, of whatever file: where this says no, none
+// does. It goes over all, with no branch.
+fn any_waits(state: &State, t: usize) -> bool
+    requires { ⌜ t < transactionCount ⌝ }
+    ensures { λ r. ⌜ (r ≡ false → (e : ℕ) → e < descriptorCount
+        → readSettles true false (standingAt (transactionOf (now (state .entry)) t) e) ≡ false) ⌝ }
+{
+    let mut found = false;
     let mut e = 0;
     while e < DESCRIPTORS {
         found = found | read_settles_at(state, t, e, true, false);
@@ -88,7 +124,7 @@ fn read_may_settle(state: &State, t: usize, d: usize) -> bool
     found
 }
 
-// Settles what a Read through d settles in transaction t. The choice is made only where there may be one.
+// Settles what a Read through d settles in transaction t. The choice is made only where a descriptor waits.
 pub fn settle_for_read(state: &mut State, t: usize, d: usize) -> Verdict
     requires ready { ⌜ Placeable (now state) t (transactionOf (now state) t .used .records) ⌝ }
     requires few { ⌜ d < descriptorCount ⌝ }
@@ -96,10 +132,13 @@ pub fn settle_for_read(state: &mut State, t: usize, d: usize) -> Verdict
         (chosenByRead (storeOf (now (state .entry)) .filenumbers) (transactionOf (now (state .entry)) t) d)
         t (transactionOf (now (state .entry)) t) (now (state .entry)) (now (state .exit)) r ⌝ }
 {
-    if !read_may_settle(state, t, d) {
+    if any_waits(state, t) {
+        return settle_by(state, t, d, true);
+    }
+    if !read_settles_at(state, t, d, false, true) {
         return Verdict::Settled;
     }
-    settle_by(state, t, d, true)
+    settle_one(state, t, d)
 }
 
 // Settles what a GetFilePointer on d settles in transaction t: d, where its place is unknown.
@@ -113,5 +152,8 @@ pub fn settle_for_pointer(state: &mut State, t: usize, d: usize) -> Verdict
     if !standing.pointer_settles() {
         return Verdict::Settled;
     }
-    settle_by(state, t, d, false)
+    if standing.is_touched() {
+        return settle_by(state, t, d, false);
+    }
+    settle_one(state, t, d)
 }

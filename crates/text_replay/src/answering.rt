@@ -412,42 +412,15 @@ fn act(
             let q = note_malformed(p, line);
             answer(q, state, files, logs, marks, undo, said, bytes, reader, out)
         }
-        ParsedEntry::Fresh(_) => answer(
-            p,
-            state,
-            files,
-            logs,
-            marks,
-            undo,
-            said,
-            bytes,
-            reader,
-            out,
-        ),
-        ParsedEntry::Asks(_, _, _) => answer(
-            p,
-            state,
-            files,
-            logs,
-            marks,
-            undo,
-            said,
-            bytes,
-            reader,
-            out,
-        ),
-        ParsedEntry::Order(_, _, _) => answer(
-            p,
-            state,
-            files,
-            logs,
-            marks,
-            undo,
-            said,
-            bytes,
-            reader,
-            out,
-        ),
+        ParsedEntry::Fresh(_) => {
+            answer(p, state, files, logs, marks, undo, said, bytes, reader, out)
+        }
+        ParsedEntry::Asks(_, _, _) => {
+            answer(p, state, files, logs, marks, undo, said, bytes, reader, out)
+        }
+        ParsedEntry::Order(_, _, _) => {
+            answer(p, state, files, logs, marks, undo, said, bytes, reader, out)
+        }
     }
 }
 

@@ -1,38 +1,24 @@
 -- What each test of src/lib.rt decides, in the order in which they are made.
-use mathlib.Core.Bool.{Bool, true, false, not, _&&_, _||_, false≢true}
-use mathlib.Core.List.{List}
-use mathlib.Core.Path.{_≡_, refl, sym, ap, ap₂, _∙_}
-use native.Mathlib.Numerals.{add-one}
-use lib.ListN.{getD, replicate, getD-replicate, List·getD-eq-default}
-use mathlib.Core.Logic.{⊎-elim}
-use lib.Dec.{leb, eqb}
-use Prim.Native.Nat.{ℕ, zero, suc, _+_, _≤_, _<_}
+use mathlib.Core.{Bool.{Bool, true, false, not, _&&_, _||_}, List.List, Path.{_≡_, refl, sym, ap, ap₂, _∙_}, Logic.⊎-elim}
+use lib.{ListN.{getD, replicate, getD-replicate, List·getD-eq-default}, Dec.{leb, eqb}}
+use Prim.Native.Nat.{ℕ, _+_, _≤_, _<_}
 use native.Mathlib.Omega.{arith}
-use borrow.Author.Tests.{ne-eqb, leb-true, le-leb, lt-leb, not-true, not-false}
-use Rattle.standings.specs.declared.Standing.{Standing}
-use Rattle.standings.specs.declared.Standing.the-variants.{Untouched, Placed, Deferred, Moved, Known}
-use Rattle.standings.specs.declared.Place.{Place}
-use Rattle.standings.specs.declared.Place.the-variants.{At, After}
-use Rattle.standings.specs.Table.{advance, offsetOf, mayWait, placeNumber}
-use Rattle.state.specs.declared.Transaction.{Transaction}
-use Rattle.state.specs.declared.Undo.{Undo}
-use Rattle.state.specs.declared.StoreMeaning.{StoreMeaning}
-use Rattle.state.specs.declared.journal.WriteRecord.{WriteRecord}
-use Rattle.state.specs.StoreMeaning.{noDescriptor, ended, transaction, standingAt, windowAt}
-use Rattle.state.specs.declared.Descriptor.{Descriptor}
-use Rattle.buffers.proofs.PartLaws.{le-or-lt}
-use Rattle.windows.specs.Windows.{minuteIn}
-use Rattle.state.specs.Layout.{transactionOf, storeOf, journalOf}
-use Rattle.state.proofs.LayoutLaws.{transaction-of}
-use Rattle.state.specs.Journal.{writeRecordAt}
+use borrow.Author.Tests.{leb-true, le-leb, lt-leb, not-true, not-false}
+use Rattle.limits.specs.Limits.{fileCount, lastFile, fileBytes, descriptorCount, lastDescriptor, recordCount, logBytes}
+use Rattle.limits.specs.Limits.{lastMinute}
+use Rattle.standings.specs.declared.{Standing.{Standing, the-variants.{Untouched, Placed, Deferred, Moved, Known}}, Place.Place}
+use Rattle.standings.specs.{declared.Place.the-variants.{At, After}, Table.{advance, offsetOf, mayWait, placeNumber}}
+use Rattle.state.specs.declared.{Transaction.Transaction, Undo.Undo, StoreMeaning.StoreMeaning, journal.WriteRecord.WriteRecord}
+use Rattle.state.specs.{StoreMeaning.{noDescriptor, ended, transaction, standingAt, windowAt}, declared.Descriptor.Descriptor}
+use Rattle.state.{specs.{Layout.{transactionOf, storeOf, journalOf}, Journal.writeRecordAt}, proofs.LayoutLaws.transaction-of}
 use Rattle.state.specs.WriteEnds.{placeEndsBy, endsBy}
+use Rattle.buffers.proofs.{PartLaws.le-or-lt, BelowLaws.below-both}
+use Rattle.windows.specs.Windows.{minuteIn}
 use Rattle.admission.specs.FirstRefusal.{below}
 use Rattle.admission.specs.Admission.{standingIn, endsWithin, placeIn, recordIn, lengthsBefore, journalIn, journalPasses}
-use Rattle.admission.specs.Admission.{transactionIn}
-use Rattle.admission.specs.Admission.{windowIn, tablesIn, landedIn, grantPasses, undoIn, noneBegun}
+use Rattle.admission.specs.Admission.{transactionIn, windowIn, tablesIn, landedIn, grantPasses, undoIn, noneBegun}
 use Rattle.admission.proofs.Laws.{and-left, and-right, and-both, and-true, below-zero, below-at, below-all, below-same}
 use Rattle.admission.proofs.Laws.{sum-zero, sum-more, standing-numbers}
-use Rattle.buffers.proofs.BelowLaws.{below-both}
 
 and-false : (a : Bool) → a && false ≡ false
 and-false true = refl
@@ -42,87 +28,81 @@ and-false false = refl
 
 -- The numbers that they carry are those of the range.
 pub standings-decide : (r : List ℕ) (t : ℕ)
-    → below (λ d. let z = standingAt (transactionOf r t) d in leb (advance z) 4096 && leb (offsetOf z) 4096) 16
-    ≡ below (λ d. standingIn (standingAt (transactionOf r t) d)) 16
+    → below (λ d. let z = standingAt (transactionOf r t) d in leb (advance z) fileBytes && leb (offsetOf z) fileBytes)
+    descriptorCount ≡ below (λ d. standingIn (standingAt (transactionOf r t) d)) descriptorCount
 standings-decide r t = below-same _ _ 16 (λ d h. sym (standing-numbers (standingAt (transactionOf r t) d)))
 
 -- ---- a write record
 
 -- A number at most a is at most 4,096, where a is.
-both-under : (e a : ℕ) → leb a 4096 ≡ true → leb e 4096 && leb e a ≡ leb e a
+both-under : (e a : ℕ) → leb a fileBytes ≡ true → leb e fileBytes && leb e a ≡ leb e a
 both-under e a h = pick (leb e a) refl
   where
-    pick : (b : Bool) → leb e a ≡ b → leb e 4096 && b ≡ b
-    pick true q = let l = leb-true a 4096 h in let m = leb-true e a q in rw (le-leb e 4096 (omega arith))
-    pick false q = and-false (leb e 4096)
+    pick : (b : Bool) → leb e a ≡ b → leb e fileBytes && b ≡ b
+    pick true q = let l = leb-true a fileBytes h in let m = leb-true e a q in rw (le-leb e fileBytes (omega arith))
+    pick false q = and-false (leb e fileBytes)
 
-within-waits : (z : Standing) (e : ℕ) → standingIn z ≡ true → leb e 4096 && endsWithin z e ≡ mayWait z && leb e (advance z)
+within-waits : (z : Standing) (e : ℕ) → standingIn z ≡ true → leb e fileBytes && endsWithin z e ≡ mayWait z && leb e (advance z)
 unfolding standingIn endsWithin
-within-waits Untouched e h = and-false (leb e 4096)
-within-waits (Placed o) e h = and-false (leb e 4096)
-within-waits (Deferred a) e h = both-under e a (and-left (leb a 4096) true h)
-within-waits (Moved a o) e h = both-under e a (and-left (leb a 4096) (leb o 4096) h)
-within-waits (Known o) e h = and-false (leb e 4096)
+within-waits Untouched e h = and-false (leb e fileBytes)
+within-waits (Placed o) e h = and-false (leb e fileBytes)
+within-waits (Deferred a) e h = both-under e a (and-left (leb a fileBytes) true h)
+within-waits (Moved a o) e h = both-under e a (and-left (leb a fileBytes) (leb o fileBytes) h)
+within-waits (Known o) e h = and-false (leb e fileBytes)
 
 -- Where the standings are in range, a record in range ends by 4,096 or where it may.
-place-ends : (z : Standing) (q : Place) (n : ℕ) → standingIn z ≡ true → placeEndsBy 4096 z q n ≡ placeIn z q n
+place-ends : (z : Standing) (q : Place) (n : ℕ) → standingIn z ≡ true → placeEndsBy fileBytes z q n ≡ placeIn z q n
 unfolding placeEndsBy placeIn
 place-ends z (At p) n h = refl
 place-ends z (After a) n h = sym (within-waits z (a + n) h)
 
-pub record-decides : (x : Transaction) (w : WriteRecord) → below (λ d. standingIn (standingAt x d)) 16 ≡ true
-    → endsBy 4096 x w ≡ recordIn x w
+pub record-decides : (x : Transaction) (w : WriteRecord) → below (λ d. standingIn (standingAt x d)) descriptorCount ≡ true
+    → endsBy fileBytes x w ≡ recordIn x w
 unfolding endsBy recordIn
-record-decides x w all = low (leb (w .descriptor) 15) refl
+record-decides x w all = low (leb (w .descriptor) lastDescriptor) refl
   where
     z : Standing
     z = standingAt x (w .descriptor)
 
-    low : (b : Bool) → leb (w .descriptor) 15 ≡ b
-        → b && placeEndsBy 4096 z (w .place) (w .length) ≡ b && placeIn z (w .place) (w .length)
-    low true e =
-        let l = leb-true (w .descriptor) 15 e in
-        place-ends z (w .place) (w .length) (below-at (λ d. standingIn (standingAt x d)) 16 (w .descriptor) all (omega arith))
+    low : (b : Bool) → leb (w .descriptor) lastDescriptor ≡ b
+        → b && placeEndsBy fileBytes z (w .place) (w .length) ≡ b && placeIn z (w .place) (w .length)
+    low true e = let l = leb-true (w .descriptor) lastDescriptor e in
+        place-ends z (w .place) (w .length)
+        (below-at (λ d. standingIn (standingAt x d)) descriptorCount (w .descriptor) all (omega arith))
     low false e = refl
 
 pub lengths-none : (journal : List ℕ) (t : ℕ) → 0 ≡ lengthsBefore journal t 0
-unfolding lengthsBefore
-lengths-none journal t = sym (sum-zero _)
+lengths-none journal t = unfold lengthsBefore in sym (sum-zero _)
 
 pub lengths-more : (journal : List ℕ) (t n s v : ℕ) → s ≡ lengthsBefore journal t n → v ≡ writeRecordAt journal t n .length
     → s + v ≡ lengthsBefore journal t (n + 1)
-unfolding lengthsBefore
-lengths-more journal t n s v e f = rw (e, f) (sym (sum-more _ n))
+lengths-more journal t n s v e f = unfold lengthsBefore in rw (e, f) (sym (sum-more _ n))
 
 -- ---- a write record of the last grant
 
 module _ (q : Place) (n : ℕ) where
-  pub placed-decides : {p : ℕ} (k m : ℕ) → q ≡ At p → k ≡ placeNumber q → m ≡ n → leb (k + m) 4096 ≡ placeIn Untouched q n
-  unfolding placeIn
-  placed-decides k m is-at is-k is-m = rw (is-k, is-m, is-at)
+  pub placed-decides : {p : ℕ} (k m : ℕ) → q ≡ At p → k ≡ placeNumber q → m ≡ n → leb (k + m) fileBytes ≡ placeIn Untouched q n
+  placed-decides k m is-at is-k is-m = unfold placeIn in rw (is-k, is-m, is-at)
 
   pub unplaced-out : {a : ℕ} → q ≡ After a → false ≡ placeIn Untouched q n
   unfolding placeIn endsWithin
-  unplaced-out {a} is-after = rw is-after (sym (and-false (leb (a + n) 4096)))
+  unplaced-out {a} is-after = rw is-after (sym (and-false (leb (a + n) fileBytes)))
 
 -- An ended transaction has sixteen Untouched descriptors.
 untouched : (d : ℕ) → standingAt ended d ≡ Untouched
 unfolding ended
-untouched d =
-    ap (λ (q : Descriptor). q .standing)
-    (⊎-elim (λ l. List·getD-eq-default (replicate 16 noDescriptor) noDescriptor l)
-    (λ l. getD-replicate 16 d noDescriptor noDescriptor l) (le-or-lt 16 d))
+untouched d = ap (λ (q : Descriptor). q .standing) (⊎-elim (λ l. List·getD-eq-default (replicate 16 noDescriptor)
+    noDescriptor l) (λ l. getD-replicate 16 d noDescriptor noDescriptor l) (le-or-lt 16 d))
 
 -- Record w, read from the journal.
 module _ (w v : WriteRecord) (is-v : w ≡ v) where
-  pub high-out : 15 < w .descriptor → landedIn v ≡ false
-  unfolding landedIn recordIn
-  high-out l = rw (← is-v, lt-leb (w .descriptor) 15 l)
+  pub high-out : lastDescriptor < w .descriptor → landedIn v ≡ false
+  high-out l = unfold landedIn recordIn in rw (← is-v, lt-leb (w .descriptor) lastDescriptor l)
 
-  module _ (low : w .descriptor ≤ 15) (r : Bool) (is-r : r ≡ placeIn Untouched (w .place) (w .length)) where
+  module _ (low : w .descriptor ≤ lastDescriptor) (r : Bool) (is-r : r ≡ placeIn Untouched (w .place) (w .length)) where
     landed-decides : landedIn v ≡ r
     unfolding landedIn recordIn
-    landed-decides = rw (← is-v, le-leb (w .descriptor) 15 low, untouched (w .descriptor), is-r)
+    landed-decides = rw (← is-v, le-leb (w .descriptor) lastDescriptor low, untouched (w .descriptor), is-r)
 
     pub landed-out : not r ≡ true → landedIn v ≡ false
     landed-out h = landed-decides ∙ not-true _ h
@@ -167,10 +147,10 @@ parts false s r j e u = refl
 module _ (r : List ℕ) where
   abbrev pub countersIn : ℕ → Bool
   countersIn t = not (transactionOf r t .begun)
-      || (leb (transactionOf r t .used .records) 64 && leb (transactionOf r t .used .bytes) 4096)
+      || (leb (transactionOf r t .used .records) recordCount && leb (transactionOf r t .used .bytes) logBytes)
 
   abbrev pub standingsIn : ℕ → Bool
-  standingsIn t = not (transactionOf r t .begun) || below (λ d. standingIn (standingAt (transactionOf r t) d)) 16
+  standingsIn t = not (transactionOf r t .begun) || below (λ d. standingIn (standingAt (transactionOf r t) d)) descriptorCount
 
   abbrev pub recordsIn : ℕ → Bool
   recordsIn t = not (transactionOf r t .begun)
@@ -184,29 +164,22 @@ module _ (r : List ℕ) where
   allIn = below (λ t. transactionIn (transactionOf r t) (journalOf r) t) 8
 
   -- Counters and standings, tested together.
-  pub open-decides : below (λ t. not (transactionOf r t .begun)
-      || (leb (transactionOf r t .used .records) 64 && leb (transactionOf r t .used .bytes) 4096
-      && below (λ d. let z = standingAt (transactionOf r t) d in leb (advance z) 4096 && leb (offsetOf z) 4096) 16)) 8
-      ≡ below countersIn 8 && below standingsIn 8
-  open-decides =
-      below-same _ _ 8 (λ t h.
-      let x = transactionOf r t in
-      let few = leb (x .used .records) 64 && leb (x .used .bytes) 4096 in
-      ap (λ (b : Bool). not (x .begun) || (few && b)) (standings-decide r t) ∙ shared-out (x .begun) few _)
-      ∙ sym (below-both countersIn standingsIn 8)
+  pub open-decides : below (λ t. not (transactionOf r t .begun) || (leb (transactionOf r t .used .records) recordCount
+      && leb (transactionOf r t .used .bytes) logBytes && below (λ d. let z = standingAt (transactionOf r t) d in leb
+      (advance z) fileBytes && leb (offsetOf z) fileBytes) descriptorCount)) 8 ≡ below countersIn 8 && below standingsIn 8
+  open-decides = below-same _ _ 8 (λ t h. let x = transactionOf r t in let few = leb (x .used .records) recordCount && leb
+      (x .used .bytes) logBytes in ap (λ (b : Bool). not (x .begun) || (few && b)) (standings-decide r t)
+      ∙ shared-out (x .begun) few _) ∙ sym (below-both countersIn standingsIn 8)
 
   transaction-parts : (t : ℕ) → transactionIn (transactionOf r t) (journalOf r) t
       ≡ countersIn t && standingsIn t && recordsIn t
-  unfolding transactionIn journalIn journalPasses
-  transaction-parts t =
-      let x = transactionOf r t in
-      parts (x .begun) (below (λ d. standingIn (standingAt x d)) 16) (leb (x .used .records) 64) _ _ (leb (x .used .bytes) 4096)
+  transaction-parts t = unfold transactionIn journalIn journalPasses in let x = transactionOf r t in
+      parts (x .begun) (below (λ d. standingIn (standingAt x d)) descriptorCount) (leb (x .used .records) recordCount) _ _
+      (leb (x .used .bytes) logBytes)
 
   all-parts : allIn ≡ below countersIn 8 && below standingsIn 8 && below recordsIn 8
-  all-parts =
-      below-same _ _ 8 (λ t h. transaction-parts t)
-      ∙ sym (ap (λ (b : Bool). b && below recordsIn 8) (below-both countersIn standingsIn 8)
-      ∙ below-both (λ t. countersIn t && standingsIn t) recordsIn 8)
+  all-parts = below-same _ _ 8 (λ t h. transaction-parts t) ∙ sym (ap (λ (b : Bool). b && below recordsIn 8)
+      (below-both countersIn standingsIn 8) ∙ below-both (λ t. countersIn t && standingsIn t) recordsIn 8)
 
   pub open-fails : below countersIn 8 && below standingsIn 8 ≡ false → false ≡ allIn
   open-fails e = sym (all-parts ∙ rw e)
@@ -232,12 +205,9 @@ module _ (r : List ℕ) where
       pick : (b : Bool) (n m : ℕ) → not b || (leb n 0 && leb m 0) ≡ true
           → not b || journalPasses (transactionOf r t) (journalOf r) t n m ≡ true
       pick false n m h = refl
-      pick true n m h =
-          let k = leb-true n 0 (and-left (leb n 0) (leb m 0) h) in
-          let l = leb-true m 0 (and-right (leb n 0) (leb m 0) h) in
-          let no-records : n ≡ 0 = omega arith in
-          let no-bytes : m ≡ 0 = omega arith in
-          rw (no-records, no-bytes) (empty-passes t)
+      pick true n m h = let k = leb-true n 0 (and-left (leb n 0) (leb m 0) h) in
+          let l = leb-true m 0 (and-right (leb n 0) (leb m 0) h) in let no-records : n ≡ 0 = omega arith in
+          let no-bytes : m ≡ 0 = omega arith in rw (no-records, no-bytes) (empty-passes t)
 
   pub all-empty : below emptyIn 8 ≡ true → true ≡ below recordsIn 8
   all-empty e = sym (below-all recordsIn 8 (λ t h. empty-in t (below-at emptyIn 8 t e h)))
@@ -251,16 +221,15 @@ module _ (r : List ℕ) where
         pick true q h = refl
         pick false q h = cc
 
-    pub its-standings : standingsIn t ≡ true → below (λ d. standingIn (standingAt (transactionOf r t) d)) 16 ≡ true
+    pub its-standings : standingsIn t ≡ true → below (λ d. standingIn (standingAt (transactionOf r t) d)) descriptorCount ≡ true
     its-standings e = sym (or-begun (transactionOf r t .begun) _ open-one) ∙ e
 
-    pub its-count : countersIn t ≡ true → transactionOf r t .used .records ≤ 64
-    its-count e = leb-true _ 64 (and-left _ _ (sym (or-begun (transactionOf r t .begun) _ open-one) ∙ e))
+    pub its-count : countersIn t ≡ true → transactionOf r t .used .records ≤ recordCount
+    its-count e = leb-true _ recordCount (and-left _ _ (sym (or-begun (transactionOf r t .begun) _ open-one) ∙ e))
 
     pub its-records : (n m : ℕ) (b : Bool) → n ≡ transactionOf r t .used .records → m ≡ transactionOf r t .used .bytes
         → b ≡ journalPasses (transactionOf r t) (journalOf r) t n m → b ≡ recordsIn t
-    its-records n m b is-n is-m e =
-        e ∙ ap₂ (λ (i j : ℕ). journalPasses (transactionOf r t) (journalOf r) t i j) is-n is-m
+    its-records n m b is-n is-m e = e ∙ ap₂ (λ (i j : ℕ). journalPasses (transactionOf r t) (journalOf r) t i j) is-n is-m
         ∙ sym (or-begun (transactionOf r t .begun) _ open-one)
 
 -- ---- what is held of the last grant
@@ -270,11 +239,11 @@ module _ (r : List ℕ) where
   undo = storeOf r .undo
 
   abbrev found : Bool
-  found = below (λ d. leb (getD (undo .offsets) d 0) 4096) 16 && below (λ f. leb (getD (undo .lengths) f 0) 4096) 8
+  found = below (λ d. leb (getD (undo .offsets) d 0) fileBytes) descriptorCount
+      && below (λ f. leb (getD (undo .lengths) f 0) fileBytes) fileCount
 
-  pub nothing-held : undo .valid ≡ false → true ≡ undoIn undo (journalOf r)
-  unfolding undoIn
-  nothing-held e = or-closed (undo .valid) _ e
+  pub nothing-to-undo : undo .valid ≡ false → true ≡ undoIn undo (journalOf r)
+  nothing-to-undo e = unfold undoIn in or-closed (undo .valid) _ e
 
   module _ (held : undo .valid ≡ true) where
     joined : (a b c d e : Bool) → a && b && c && d && e ≡ a && b && (c && d) && e
@@ -282,26 +251,26 @@ module _ (r : List ℕ) where
     joined true false c d e = refl
     joined false b c d e = refl
 
-    held-in : undoIn undo (journalOf r)
-        ≡ leb (undo .used .records) 64 && leb (undo .used .bytes) 4096 && found
-        && grantPasses (journalOf r) (undo .used .records) (undo .used .bytes)
-    unfolding undoIn
-    held-in = or-begun (undo .valid) _ held ∙ joined (leb (undo .used .records) 64) _ _ _ _
+    valid-in : undoIn undo (journalOf r) ≡ leb (undo .used .records) recordCount && leb (undo .used .bytes)
+        logBytes && found && grantPasses (journalOf r) (undo .used .records) (undo .used .bytes)
+    valid-in = unfold undoIn in or-begun (undo .valid) _ held ∙ joined (leb (undo .used .records) recordCount) _ _ _ _
 
-    pub grant-records-fail : (n : ℕ) → n ≡ undo .used .records → 64 < n → false ≡ undoIn undo (journalOf r)
-    grant-records-fail n e l = sym (held-in ∙ rw (lt-leb (undo .used .records) 64 (rw e at l)))
+    pub grant-records-fail : (n : ℕ) → n ≡ undo .used .records → recordCount < n → false ≡ undoIn undo (journalOf r)
+    grant-records-fail n e l = sym (valid-in ∙ rw (lt-leb (undo .used .records) recordCount (rw e at l)))
 
-    module _ (n m : ℕ) (is-n : n ≡ undo .used .records) (is-m : m ≡ undo .used .bytes) (few : n ≤ 64) where
-      pub grant-bytes-fail : 4096 < m → false ≡ undoIn undo (journalOf r)
-      grant-bytes-fail l = sym (held-in ∙ rw (
-        le-leb (undo .used .records) 64 (rw is-n at few),
-        lt-leb (undo .used .bytes) 4096 (rw is-m at l),
+    module _ (n m : ℕ) (is-n : n ≡ undo .used .records) (is-m : m ≡ undo .used .bytes) (few : n ≤ recordCount) where
+      pub grant-bytes-fail : logBytes < m → false ≡ undoIn undo (journalOf r)
+      grant-bytes-fail l = sym (valid-in ∙ rw (
+        le-leb (undo .used .records) recordCount (rw is-n at few),
+        lt-leb (undo .used .bytes) logBytes (rw is-m at l),
       ))
 
-      module _ (fits : m ≤ 4096) where
+      module _ (fits : m ≤ logBytes) where
         grant-counted : undoIn undo (journalOf r) ≡ found && grantPasses (journalOf r) n m
-        grant-counted = rw (is-n, is-m) (held-in
-            ∙ rw (le-leb (undo .used .records) 64 (rw is-n at few), le-leb (undo .used .bytes) 4096 (rw is-m at fits)))
+        grant-counted = rw (is-n, is-m) (valid-in ∙ rw (
+          le-leb (undo .used .records) recordCount (rw is-n at few),
+          le-leb (undo .used .bytes) logBytes (rw is-m at fits),
+        ))
 
         pub found-fails : found ≡ false → false ≡ undoIn undo (journalOf r)
         found-fails e = sym (grant-counted ∙ rw e)
@@ -313,41 +282,36 @@ module _ (r : List ℕ) where
 
 -- No transaction is open, read by name.
 pub none-decides : (r : List ℕ) → below (λ t. not (transactionOf r t .begun)) 8 ≡ noneBegun (storeOf r)
-unfolding noneBegun
-none-decides r = below-same _ _ 8 (λ t h. rw (transaction-of r t h))
+none-decides r = unfold noneBegun in below-same _ _ 8 (λ t h. rw (transaction-of r t h))
 
 -- Where none is, each is in range.
 closed-in : (r : List ℕ) (t : ℕ) → not (transactionOf r t .begun) ≡ true
     → transactionIn (transactionOf r t) (journalOf r) t ≡ true
-unfolding transactionIn
-closed-in r t e = rw e
+closed-in r t e = unfold transactionIn in rw e
 
 pub none-in : (r : List ℕ) → noneBegun (storeOf r) ≡ true → true ≡ allIn r
 none-in r e =
     sym (below-all _ 8 (λ t h. closed-in r t (below-at (λ u. not (transactionOf r u .begun)) 8 t (none-decides r ∙ e) h)))
 
 -- The starts and ends of the windows are minutes.
-windows-decide : (s : StoreMeaning)
-    → below (λ f. leb (windowAt s f .start) 1439 && leb (windowAt s f .end) 1439) 8 ≡ below (λ f. windowIn (windowAt s f)) 8
-unfolding windowIn minuteIn
-windows-decide s = refl
+windows-decide : (s : StoreMeaning) → below (λ f. leb (windowAt s f .start) lastMinute && leb (windowAt s f .end)
+    lastMinute) fileCount ≡ below (λ f. windowIn (windowAt s f)) fileCount
+windows-decide s = unfold windowIn minuteIn in refl
 
 -- Check 2, read by name, but for what is held of the last grant.
 module _ (r : List ℕ) where
   abbrev tablesPass : Bool
-  tablesPass = below (λ d. leb (getD (storeOf r .filenumbers) d 0) 7) 16
-      && below (λ d. leb (getD (storeOf r .offsets) d 0) 4096) 16
-      && below (λ f. leb (getD (storeOf r .lengths) f 0) 4096) 8
-      && below (λ f. leb (windowAt (storeOf r) f .start) 1439 && leb (windowAt (storeOf r) f .end) 1439) 8
+  tablesPass = below (λ d. leb (getD (storeOf r .filenumbers) d 0) lastFile) descriptorCount
+      && below (λ d. leb (getD (storeOf r .offsets) d 0) fileBytes) descriptorCount
+      && below (λ f. leb (getD (storeOf r .lengths) f 0) fileBytes) fileCount
+      && below (λ f. leb (windowAt (storeOf r) f .start) lastMinute && leb (windowAt (storeOf r) f .end) lastMinute) fileCount
 
   tables-decide : tablesIn (storeOf r) (journalOf r) ≡ tablesPass && allIn r
-  unfolding tablesIn
-  tables-decide =
-      rw (
-        windows-decide (storeOf r),
-        below-same (λ t. transactionIn (transaction (storeOf r) t) (journalOf r) t)
-            (λ t. transactionIn (transactionOf r t) (journalOf r) t) 8 (λ t h. rw (transaction-of r t h)),
-      )
+  tables-decide = unfold tablesIn in rw (
+    windows-decide (storeOf r),
+    below-same (λ t. transactionIn (transaction (storeOf r) t) (journalOf r) t)
+        (λ t. transactionIn (transactionOf r t) (journalOf r) t) 8 (λ t h. rw (transaction-of r t h)),
+  )
 
   pub tables-fail : tablesPass ≡ false → false ≡ tablesIn (storeOf r) (journalOf r)
   tables-fail e = sym (tables-decide ∙ rw e)

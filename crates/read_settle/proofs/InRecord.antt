@@ -1,40 +1,28 @@
 -- The record after the chosen descriptors of a transaction are settled, in each way that settling can go.
-use mathlib.Core.Bool.{Bool, true, false, cond, not, _||_}
-use mathlib.Core.List.{List}
-use mathlib.Core.Path.{_≡_, refl, sym, ap, ap₂, _∙_}
+use mathlib.Core.{Bool.{Bool, true, false, cond, not, _||_}, List.List, Path.{_≡_, refl, sym, ap, ap₂, _∙_}}
 use borrow.Author.Tests.{leb-true}
-use lib.Dec.{leb}
-use lib.ListN.{length, getD}
-use lib.Seq.{set-getD}
+use lib.{Dec.leb, ListN.{length, getD}, Seq.set-getD}
 use Prim.Native.Nat.{ℕ, _+_, _<_}
-use Rattle.buffers.specs.Parts.{tabulate}
-use Rattle.buffers.proofs.TableLaws.{getD-tabulate, table-same}
-use Rattle.standings.specs.declared.Standing.{Standing}
-use Rattle.standings.specs.Table.{advance, settled}
-use Rattle.state.specs.declared.Descriptor.{Descriptor}
-use Rattle.state.specs.declared.Transaction.{Transaction}
-use Rattle.state.specs.declared.StoreMeaning.{StoreMeaning}
+use Rattle.limits.specs.Limits.{fileBytes, descriptorCount}
+use Rattle.buffers.{specs.Parts.tabulate, proofs.TableLaws.{getD-tabulate, table-same}}
+use Rattle.standings.specs.{declared.Standing.Standing, Table.{advance, settled}}
+use Rattle.state.specs.declared.{Descriptor.Descriptor, Transaction.Transaction, StoreMeaning.StoreMeaning}
 use Rattle.state.specs.StoreMeaning.{transaction, standingAt, noDescriptor, noTransaction, withDescriptors, withTransaction}
-use Rattle.state.specs.Layout.{descriptorOf, transactionOf, storeOf, journalOf}
-use Rattle.state.specs.Updates.{standingFits, withChosenAt}
+use Rattle.state.specs.{Layout.{descriptorOf, transactionOf, storeOf, journalOf}, Updates.{standingFits, withChosenAt}}
 use Rattle.state.proofs.LayoutLaws.{transaction-of, descriptor-of, length-with-chosen, store-with-chosen, journal-with-chosen}
-use Rattle.admission.specs.Admission.{standingIn}
-use Rattle.admission.proofs.Laws.{below-at}
+use Rattle.admission.{specs.Admission.standingIn, proofs.Laws.below-at}
 use Rattle.spec.proofs.Refinement.StandingRanges.{settled-in}
-use Rattle.refinement.proofs.Shapes.{sixteen-descriptors}
-use Rattle.refinement.proofs.Fitting.{standing-fits}
-use Rattle.read_settle.specs.declared.settle_call.Verdict.the-variants.{Settled, Past}
-use Rattle.read_settle.specs.declared.settle_call.Settling.{Settling}
+use Rattle.refinement.proofs.{Shapes.sixteen-descriptors, Fitting.standing-fits}
+use Rattle.read_settle.specs.declared.settle_call.{Verdict.the-variants.{Settled, Past}, Settling.Settling}
 use Rattle.read_settle.specs.Choices.{settlesWithin, allWithin, settledDescriptor, settledTransaction, settlingOf}
-use Rattle.read_settle.specs.Records.{Placeable, PlacedIn}
-use Rattle.read_settle.specs.Outcome.{SettledIn}
+use Rattle.read_settle.specs.{Records.{Placeable, PlacedIn}, Outcome.SettledIn}
 use Rattle.read_settle.proofs.ChoiceLaws.{settling-none, verdict-settled, transaction-settled}
 use Rattle.read_settle.proofs.RecordLaws.{placed-preserved}
 
 -- A descriptor in range stays so, settled or left.
-chosen-in : (b : Bool) (c : ℕ) (z : Standing) → standingIn z ≡ true → not b || leb (c + advance z) 4096 ≡ true
+chosen-in : (b : Bool) (c : ℕ) (z : Standing) → standingIn z ≡ true → not b || leb (c + advance z) fileBytes ≡ true
     → standingIn (cond b (settled c z) z) ≡ true
-chosen-in true c z e h = settled-in c z (leb-true (c + advance z) 4096 h) e
+chosen-in true c z e h = settled-in c z (leb-true (c + advance z) fileBytes h) e
 chosen-in false c z e h = e
 
 module _ (chosen : List Bool) (t : ℕ) (before : List ℕ) (ready : Placeable before t (transactionOf before t .used .records)) where
@@ -49,17 +37,12 @@ module _ (chosen : List Bool) (t : ℕ) (before : List ℕ) (ready : Placeable b
   own-again = rw (sym (transaction-of before t (ready .small)), set-getD (storeOf before .transactions) t noTransaction)
 
   -- None was chosen.
-  pub none-settled : ((e : ℕ) → e < 16 → getD chosen e false ≡ false) → SettledIn chosen t x before before Settled
-  none-settled none =
-      let e = settling-none chosen offsets x none (sixteen-descriptors before t) in
-      let settled : settlingOf chosen offsets x .verdict ≡ Settled = ap (λ (r : Settling). r .verdict) e in
-      record {
+  pub none-settled : ((e : ℕ) → e < descriptorCount → getD chosen e false ≡ false) → SettledIn chosen t x before before Settled
+  none-settled none = let e = settling-none chosen offsets x none (sixteen-descriptors before t) in
+      let settled : settlingOf chosen offsets x .verdict ≡ Settled = ap (λ (r : Settling). r .verdict) e in record {
         verdict = sym settled;
         refused = λ v. refl;
-        store =
-            λ v.
-            sym own-again
-            ∙ ap (λ (y : Transaction). withTransaction t y (storeOf before))
+        store = λ v. sym own-again ∙ ap (λ (y : Transaction). withTransaction t y (storeOf before))
             (sym (ap (λ (r : Settling). r .transaction) e) ∙ transaction-settled chosen offsets x settled);
         journal = λ v. placed-preserved chosen t before (ready .long) (x .used .records) (ready .descriptors) none .journal;
         long = ready .long;
@@ -69,8 +52,7 @@ module _ (chosen : List Bool) (t : ℕ) (before : List ℕ) (ready : Placeable b
     -- One of the chosen would come past the end.
     pub past-settled : r .verdict ≡ Past → SettledIn chosen t x before before Past
     past-settled e = record {
-      verdict = sym e
-          ∙ ap (λ (r : Settling). r .verdict) answer;
+      verdict = sym e ∙ ap (λ (r : Settling). r .verdict) answer;
       refused = λ v. refl;
       store = λ v. cc;
       journal = λ v. cc;
@@ -82,22 +64,19 @@ module _ (chosen : List Bool) (t : ℕ) (before : List ℕ) (ready : Placeable b
       verdict-is : Settled ≡ settlingOf chosen offsets x .verdict
       verdict-is = sym settled ∙ ap (λ (r : Settling). r .verdict) answer
 
-      abbrev pub then : ℕ → Descriptor
-      then e = getD (r .transaction .descriptors) e noDescriptor
+      abbrev pub thenOf : ℕ → Descriptor
+      thenOf e = getD (r .transaction .descriptors) e noDescriptor
 
-      pub then-is : (e : ℕ) → e < 16 → then e ≡ settledDescriptor chosen offsets x e
+      pub then-is : (e : ℕ) → e < descriptorCount → thenOf e ≡ settledDescriptor chosen offsets x e
       unfolding settledTransaction
-      then-is e h =
-          ap (λ (y : Transaction). getD (y .descriptors) e noDescriptor)
+      then-is e h = ap (λ (y : Transaction). getD (y .descriptors) e noDescriptor)
           (ap (λ (r : Settling). r .transaction) answer ∙ transaction-settled chosen offsets x (sym verdict-is))
           ∙ getD-tabulate (settledDescriptor chosen offsets x) 16 e noDescriptor h
 
       -- What is put has room in the record: settled, by its test against 4,096; left, by check 2.
-      pub settled-fits : (e : ℕ) → e < 16 → standingFits (then e .standing)
+      pub settled-fits : (e : ℕ) → e < descriptorCount → standingFits (thenOf e .standing)
       unfolding settledDescriptor allWithin settlesWithin
-      settled-fits e h =
-          standing-fits (then e .standing)
-          (ap (λ (q : Descriptor). standingIn (q .standing)) (then-is e h)
+      settled-fits e h = standing-fits (thenOf e .standing) (ap (λ (q : Descriptor). standingIn (q .standing)) (then-is e h)
           ∙ chosen-in (getD chosen e false) (getD offsets e 0) (standingAt x e) (ready .standings e h)
           (below-at (settlesWithin chosen offsets x) 16 e (verdict-settled chosen offsets x (sym verdict-is)) h))
 
@@ -107,31 +86,21 @@ module _ (chosen : List Bool) (t : ℕ) (before : List ℕ) (ready : Placeable b
         own-placed = ap (λ (s : StoreMeaning). transaction s t) (p .store) ∙ transaction-of before t (ready .small)
 
         -- One that is not chosen is as it was.
-        not-chosen : (e : ℕ) → e < 16 → getD chosen e false ≡ false → then e ≡ descriptorOf placed t e
+        not-chosen : (e : ℕ) → e < descriptorCount → getD chosen e false ≡ false → thenOf e ≡ descriptorOf placed t e
         unfolding settledDescriptor
-        not-chosen e h q =
-            then-is e h
-            ∙ rw q
-            (ap (λ (y : Transaction). getD (y .descriptors) e noDescriptor)
-            (sym own-placed ∙ transaction-of placed t (ready .small))
-            ∙ descriptor-of placed t e h)
+        not-chosen e h q = then-is e h ∙ rw q (ap (λ (y : Transaction). getD (y .descriptors) e noDescriptor)
+            (sym own-placed ∙ transaction-of placed t (ready .small)) ∙ descriptor-of placed t e h)
 
-        pub all-settled : after ≡ withChosenAt placed t (λ e. getD chosen e false) then 16
+        pub all-settled : after ≡ withChosenAt placed t (λ e. getD chosen e false) thenOf 16
             → SettledIn chosen t x before after Settled
-        unfolding settledTransaction
-        all-settled put =
-            record {
-              verdict = verdict-is;
-              refused = λ v. cc;
-              store =
-                  λ v.
-                  ap storeOf put
-                  ∙ store-with-chosen placed t (λ e. getD chosen e false) then (p .long) (ready .small) not-chosen
-                  ∙ ap₂ (λ (y : Transaction) (s : StoreMeaning). withTransaction t (withDescriptors (tabulate then 16) y) s)
-                  own-placed (p .store)
-                  ∙ ap (λ (ds : List Descriptor). withTransaction t (withDescriptors ds x) (storeOf before))
-                  (table-same then (settledDescriptor chosen offsets x) 16 then-is);
-              journal = λ v. ap journalOf put ∙ journal-with-chosen placed t (λ e. getD chosen e false) then (p .long)
-                  (ready .small) ∙ p .journal;
-              long = ap length put ∙ length-with-chosen placed t (λ e. getD chosen e false) then 16 ∙ p .long;
-            }
+        all-settled put = unfold settledTransaction in record {
+          verdict = verdict-is;
+          refused = λ v. cc;
+          store = λ v. ap storeOf put ∙ store-with-chosen placed t (λ e. getD chosen e false) thenOf (p .long) (ready .small)
+              not-chosen ∙ ap₂ (λ (y : Transaction) (s : StoreMeaning). withTransaction t (withDescriptors
+              (tabulate thenOf 16) y) s) own-placed (p .store) ∙ ap (λ (ds : List Descriptor). withTransaction t
+              (withDescriptors ds x) (storeOf before)) (table-same thenOf (settledDescriptor chosen offsets x) 16 then-is);
+          journal = λ v. ap journalOf put
+              ∙ journal-with-chosen placed t (λ e. getD chosen e false) thenOf (p .long) (ready .small) ∙ p .journal;
+          long = ap length put ∙ length-with-chosen placed t (λ e. getD chosen e false) thenOf 16 ∙ p .long;
+        }

@@ -31,7 +31,7 @@ pub record BestOrder (m : Machine) (ts : List ℕ) (minute budget : ℕ) (order 
   -- "The number of orders tried is in the result, never above the budget." [R-14.1]
   pub many : (tried ≡ length (triedOf budget ts)) × (tried ≤ budget)
 
--- Of every state and every buffers it is claimed in call_order/specs/Answer.antt.
+-- call_order/specs/Answer.antt claims it of any state and any buffers.
 pub record BestOrderHolds (m : Machine) : Type 0 where
   -- "the store is unchanged" [R-14.1]
   pub unchanged : (ts : List ℕ) (minute budget : ℕ) → call (bestOrder ts minute budget) m .after ≡ m

@@ -32,7 +32,7 @@ use Rattle.spec.specs.Age.{AtRest, Alike, rejuvenated}
 -- ---- demand 1: of Refusals
 
 -- The refusals of each call, in the order of its tests. (The dispatcher's are
--- spec_dispatch/specs/Dispatch.antt.)
+-- spec_dispatch/specs/Corollaries.antt.)
 unfoldable pub refusalsOf : Call → List ℕ
 refusalsOf (begin t) = 1 ∷ 2 ∷ 3 ∷ 5 ∷ []
 refusalsOf (on t (seek d v)) = 1 ∷ 2 ∷ 3 ∷ 4 ∷ 6 ∷ 8 ∷ []
@@ -107,7 +107,7 @@ Reloads =
 
 -- ---- recovery: of `EndsAll`
 
--- The state that the code leaves, lent with the same files and undo log, is that store.
+-- The state that `end_all` leaves, lent with the same files and undo log, is the store that goes on.
 abbrev pub RecoversByCode : Type 0
 RecoversByCode =
     (before after files logs marks undo newLogs newMarks : List ℕ) → EndsAll before after
@@ -146,6 +146,8 @@ pub data AcceptsAll (fileOf : ℕ → ℕ) : Txn → List Moment → Txn → Typ
       → Accepts fileOf (n .value) (n .op) x y (n .reply) (n .sightings) → AcceptsAll fileOf y ns z
       → AcceptsAll fileOf x (n ∷ ns) z
 
+-- A list of calls that is accepted in x, where a write is split, is accepted in y, where it is not, with the
+-- same replies and sightings, and again only the writes differ.
 abbrev pub SplitLists : Type 0
 SplitLists =
     (fileOf : ℕ → ℕ) (ns : List Moment) (x y x′ : Txn) → SplitTxn x y → AcceptsAll fileOf x ns x′ → (y′ : Txn)

@@ -1,7 +1,7 @@
 -- Request F-9: "Show that each old arrangement and its new one name the same pairs of transaction and byte,
 -- and let all else rest on that fact." [R-2.4] The first half is buffers/specs/Marks.antt; this is the
--- second: of its marks a store uses the pairs that they name, and nothing else; and whose marks a call
--- leaves.
+-- second: of its marks a store uses the pairs that they name, and nothing else. A call leaves the
+-- marks of all other transactions.
 use mathlib.Core.Bool.{Bool}
 use mathlib.Core.List.{List}
 use mathlib.Core.Path.{_≡_}

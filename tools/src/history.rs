@@ -86,7 +86,7 @@ impl History {
             offsets: [Some(Citation::BEFORE); DESCRIPTORS],
             offsets_found: [Some(Citation::BEFORE); DESCRIPTORS],
             windows: [Some(Citation::BEFORE); FILES],
-            last_grant: if store.undo.held { LastGrant::Commit(Citation::BEFORE) } else { LastGrant::Never },
+            last_grant: if store.undo.valid { LastGrant::Commit(Citation::BEFORE) } else { LastGrant::Never },
             from_block: true,
             ..History::new()
         };

@@ -1,6 +1,6 @@
 // The state: what a caller keeps between calls, beside the four lent buffers. It is one lent array of
 // numbers: `layout` reads and writes what they mean, in the forms below, `journal` the write records among
-// them, and `readers` tests it.
+// them, `readers` tests it, and `dirty` says which offsets a Commit sets.
 pub mod dirty;
 pub mod journal;
 pub mod layout;

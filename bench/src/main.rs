@@ -100,13 +100,14 @@ fn table_of_calls(effort: &Effort, report: &mut Report) {
     }
     targets_of_calls(&cases[..rows], &costs[..rows], report);
     let ratios = costs[..count].iter().map(Cost::ratio).collect();
-    report.at_most(&format!("the median of the first {count} rows beside the twin"), median(ratios), 0.7);
+    report.at_most(&format!("the median of the first {count} rows beside the twin"), median(ratios), 0.66);
+    report.at_most("Seek with eight open beside the twin", costs[0].ratio(), 0.4);
     table_of_copies(&costs[rows..], effort, report);
 }
 
 /// The rows that the twin is quicker in, or nearly so, are named.
 fn targets_of_calls(cases: &[Case], costs: &[Cost], report: &mut Report) {
-    const BOUND: f64 = 0.95;
+    const BOUND: f64 = 0.9;
     let worst = costs.iter().map(Cost::ratio).fold(0.0, f64::max);
     report.at_most(&format!("each of {} rows beside the twin", costs.len()), worst, BOUND);
     println!();

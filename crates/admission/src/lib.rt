@@ -1,5 +1,6 @@
 // The tests that calls share: the ranges of the state (refusal 2), and refusals 1 to 3, 6, 14 and 22 to 24
 // in their order.
+#![tactic(auto)]
 
 ghost use Rattle.std.specs.Prelude.{◌≡◌, true, not, ◌&&◌, ◌||◌, leb, get_or, length, ◌<◌, ◌≤◌};
 ghost use Rattle.limits.specs.Limits.{last_file, descriptor_count, transaction_count, record_count, log_bytes};
@@ -36,7 +37,7 @@ const LAST_DESCRIPTOR_NUMBER: u16 = LAST_DESCRIPTOR as u16;
 const LAST_COUNT: u16 = RECORDS as u16;
 
 // What the tests before a call's own say: go on, or a refusal.
-#[derive(Drop)]
+#[derive(Clone, Copy)]
 pub enum Gate {
     Pass,
     Refused(Refusal),

@@ -2,6 +2,7 @@
 // eight octets: the kind of call, its transaction, its descriptor (or file), an unused octet, and two
 // numbers, low octet first: how many octets (or the offset of a Seek, the minute of a Commit, the start of a
 // window), and where they start in `data` (or the end of a window).
+#![tactic(auto)]
 ghost use Rattle.std.specs.Prelude.{◌+◌, ◌<◌, ◌≤◌, length};
 
 use buffers::parts;
@@ -15,7 +16,7 @@ const STEP: usize = 8;
 const LINE: usize = 8238;
 
 // One step, its numbers widened.
-#[derive(Drop)]
+#[derive(Clone, Copy)]
 struct Step {
     kind: u8,
     t: usize,
@@ -77,7 +78,7 @@ fn request(s: Step) -> Request {
 
 // What a call came to. The code is 0 done, 1 an offset, 2 a count of bytes, 3 granted, 4 a count of pairs,
 // 6 an order, and 10 more than a refusal's number; the number is the one that the outcome carries.
-#[derive(Drop)]
+#[derive(Clone, Copy)]
 struct Answer {
     code: u8,
     number: u64,

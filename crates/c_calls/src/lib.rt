@@ -1,6 +1,7 @@
 // The calls for programs in other languages. Each is lent the parts of a store that lies in the caller's
 // memory, and answers one number: the result, or a refusal's number negated. The arrays cross as plain
 // pointers, `bytes`, `reader` and their like as a pointer and a length.
+#![tactic(auto)]
 mod readers;
 
 ghost use Rattle.std.specs.Prelude.{[]};

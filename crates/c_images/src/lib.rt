@@ -1,6 +1,7 @@
 // Images for programs in other languages: saving what is committed, loading it, the check alone; and the
 // number of the state's layout. Arrays cross as plain pointers, the image as three: numbers, files, old
 // bytes.
+#![tactic(auto)]
 mod loading;
 mod saving;
 

@@ -1,5 +1,6 @@
 // Lines of a log of calls for programs in other languages, rendered into a buffer of the caller. Each
 // function answers how many bytes it put, the line's end with them.
+#![tactic(auto)]
 
 mod answers;
 

@@ -1,4 +1,5 @@
 // A line of a log of calls, applied to a store that lies in the memory of a program in another language.
+#![tactic(auto)]
 ghost use Rattle.c_replay.specs.ReplayLine.{AsksNothing, ReplaysLine};
 
 use c_codes::code;

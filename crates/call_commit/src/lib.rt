@@ -1,5 +1,6 @@
 // Commit (`commit_call`), what it does once it is granted (`granting`), and how many transactions its octet
 // names (`count_stale`).
+#![tactic(auto)]
 mod commit_call;
 mod count_stale;
 mod granting;

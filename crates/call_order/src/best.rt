@@ -15,7 +15,7 @@ use state::layout::State;
 
 // What is known before any order is tried: the table of octets, the octet of those with a byte for a closed
 // file, and whether no listed transaction stands Deferred or Moved.
-#[derive(Drop)]
+#[derive(Clone, Copy)]
 pub struct OrderTable {
     pub table: [u8; TRANSACTIONS],
     pub closed: u8,
@@ -23,7 +23,7 @@ pub struct OrderTable {
 }
 
 // An order and its grants.
-#[derive(Drop)]
+#[derive(Clone, Copy)]
 pub struct BestFound {
     pub order: [u8; TRANSACTIONS],
     pub grants: u8,

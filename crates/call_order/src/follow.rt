@@ -13,7 +13,7 @@ use state::layout::{State, descriptor_at, offset_at, standing_at};
 use state::{DESCRIPTORS, TRANSACTIONS};
 
 // The octet of those made stale, the offsets, and the grants, after some Commits.
-#[derive(Drop)]
+#[derive(Clone, Copy)]
 struct Pass {
     stale: u8,
     offsets: [u16; DESCRIPTORS],

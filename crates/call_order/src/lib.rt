@@ -2,6 +2,7 @@
 // Commit would make stale (`table`). Permutation i is decoded from i in the factorial number system
 // (`permutation`). One pass over these octets counts the grants of an order (`pass`); a longer one does where
 // Commit's placing has a part in them (`follow`).
+#![tactic(auto)]
 mod admit_list;
 mod best;
 mod follow;

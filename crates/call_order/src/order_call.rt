@@ -21,7 +21,7 @@ use state::outcomes::Outcome;
 
 // An order's grants, the gap and how many orders were tried, or a refusal; and the order: as many numbers as
 // the list has, and zeros after them; with a refusal, zeros.
-#[derive(Drop)]
+#[derive(Clone, Copy)]
 pub struct Best {
     pub outcome: Outcome,
     pub order: [u8; TRANSACTIONS],

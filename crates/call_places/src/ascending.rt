@@ -18,7 +18,7 @@ use state::layout::{State, file_at};
 
 // What a pass has met: whether the file's records ascend, each with a place; how many intervals they make;
 // where the last interval starts; and the first place at which another could start, one past its end.
-#[derive(Drop)]
+#[derive(Clone, Copy)]
 pub struct Sweep {
     pub ascending: bool,
     pub intervals: usize,

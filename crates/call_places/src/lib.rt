@@ -1,6 +1,7 @@
 // The places of a file that a transaction's write records cover, as a list of intervals; and whether one of
 // its records on the file has no place yet. Where the records do not ascend (ascending.rt), each interval is
 // found by walks over them, and no table of places is made.
+#![tactic(auto)]
 mod ascending;
 mod places_call;
 
@@ -22,7 +23,7 @@ use state::journal::{WriteRecord, record_at};
 use state::layout::{State, file_at};
 
 // Places of a file: `length` of them, from `offset` on.
-#[derive(Drop)]
+#[derive(Clone, Copy)]
 pub struct PlaceInterval {
     pub offset: usize,
     pub length: usize,

@@ -15,7 +15,7 @@ use state::journal::record_at;
 use state::layout::{State, file_at, offset_at};
 
 // Where a write record lands: in which file, from which place of it on, and how many bytes.
-#[derive(Drop)]
+#[derive(Clone, Copy)]
 pub struct LandedWrite {
     pub file: usize,
     pub place: usize,

@@ -1,9 +1,10 @@
 // The two counters of a transaction's log: write records used and data bytes used.
+#![tactic(auto)]
 
 ghost use Rattle.std.specs.Prelude.{◌≡◌, ◌+◌, ◌≤◌};
 ghost use Rattle.limits.specs.Limits.{record_count, log_bytes};
 
-#[derive(Drop)]
+#[derive(Clone, Copy)]
 pub struct Used {
     pub records: usize,
     pub bytes: u16,

@@ -3,6 +3,7 @@
 // ready go to the dispatcher. Then the store is saved, while the editor has an entry written and not
 // committed; a later run loads it, and undoes the last grant: no transaction is open then that could prevent
 // it.
+#![tactic(auto)]
 mod printing;
 mod saving;
 

@@ -1,6 +1,7 @@
 // A caller of the store. Transaction 1 reads an empty file while transaction 0 writes to it: the commit of 0
 // makes 1 stale, since the file no longer ends where 1 saw it end; the commit of 1 is refused, and 1 starts
 // again.
+#![tactic(auto)]
 use libc::STDOUT_FILENO;
 use store::{BUFFER_BYTES, Buffer, FILE_BYTES, Outcome, STATE_LEN, State, UndoLog};
 

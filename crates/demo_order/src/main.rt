@@ -1,6 +1,7 @@
 // Three tasks are ready to commit, and the scheduler wants most of them through. 0 and 1 write to a file
 // whose end 1 and 2 have seen: a commit of 0 makes 1 and 2 stale, a commit of 1 makes 2 stale. The given
 // order is the worst.
+#![tactic(auto)]
 use libc::STDOUT_FILENO;
 use store::{BUFFER_BYTES, Best, Buffer, FILE_BYTES, Outcome, STATE_LEN, State, UndoLog};
 

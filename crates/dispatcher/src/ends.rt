@@ -3,14 +3,14 @@ use crate::scripts::SCRIPTS;
 use state::outcomes::{Outcome, Refusal};
 
 // How a script stands: it goes on, was granted, or a refusal ended it.
-#[derive(Drop)]
+#[derive(Clone, Copy)]
 pub enum End {
     Unfinished,
     Granted,
     Failed(Refusal),
 }
 
-#[derive(Drop)]
+#[derive(Clone, Copy)]
 pub struct Ended {
     pub end: End,
 }
@@ -18,7 +18,7 @@ pub struct Ended {
 pub type Ends = [Ended; SCRIPTS];
 
 // What the dispatcher answers: plainly or a refusal, the end of each script, and the number of Commits made.
-#[derive(Drop)]
+#[derive(Clone, Copy)]
 pub struct Dispatched {
     pub outcome: Outcome,
     pub ends: [Ended; SCRIPTS],

@@ -22,14 +22,14 @@ use state::layout::State;
 use state::outcomes::Refusal;
 
 // The ends of the scripts, and the number of Commits made.
-#[derive(Drop)]
+#[derive(Clone, Copy)]
 pub struct DispatchProgress {
     pub ends: [Ended; SCRIPTS],
     pub commits: usize,
 }
 
 // What a script has next: whether a call is due, and which.
-#[derive(Drop)]
+#[derive(Clone, Copy)]
 pub struct Next {
     pub script: usize,
     pub due: bool,

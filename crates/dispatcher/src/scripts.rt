@@ -7,7 +7,7 @@ pub use limits::{SCRIPT_CALLS, SCRIPTS};
 
 // A call of a script. Each names its descriptor; then stand Seek's offset, the start and the length of a
 // Write's part of the data buffer, and Read's count.
-#[derive(Drop)]
+#[derive(Clone, Copy)]
 pub enum ScriptCall {
     Seek(usize, usize),
     Write(usize, usize, usize),
@@ -15,14 +15,14 @@ pub enum ScriptCall {
     Read(usize, usize),
 }
 
-#[derive(Drop)]
+#[derive(Clone, Copy)]
 pub struct ScriptLine {
     pub call: ScriptCall,
 }
 
 // The scripts: how many there are, how many calls each has, and the calls; call i of script k is line 16 k +
 // i. The counts may say more than there is room for; the dispatcher then refuses.
-#[derive(Drop)]
+#[derive(Clone, Copy)]
 pub struct Scripts {
     pub lines: [ScriptLine; SCRIPTS * SCRIPT_CALLS],
     pub counts: [usize; SCRIPTS],

@@ -1,5 +1,7 @@
 // The limits of the papers, each in one line (specs/Limits.antt has the same for contracts); a wider type;
 // the smaller and the larger of two numbers, and what one has over the other.
+#![tactic(auto)]
+
 ghost use Rattle.std.specs.Prelude.{◌≡◌, ◌-◌, ◌≤◌, min, max};
 
 pub const FILES: usize = 8;

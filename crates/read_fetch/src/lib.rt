@@ -1,4 +1,5 @@
 // A Read's bytes, run by run.
+#![tactic(auto)]
 ghost use Rattle.std.specs.Prelude.{◌≡◌, ◌+◌, ◌≤◌, length};
 ghost use Rattle.read_lookup.specs.Lookup.{recorded_in, own_reach, RunOf};
 ghost use Rattle.read_fetch.specs.Fetch.{Handed, HandedWhole, run_extent, visited_by};

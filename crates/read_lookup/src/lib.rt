@@ -1,5 +1,6 @@
 // The latest write over a place of a file, and the run from the place on: the longest interval that one write
 // record supplies, or that the file supplies. Also where a file ends for a transaction.
+#![tactic(auto)]
 ghost use Rattle.std.specs.Prelude.{◌≡◌, ◌<◌, ◌≤◌, max, get_or};
 ghost use Rattle.limits.specs.Limits.{file_count, descriptor_count};
 ghost use Rattle.state.specs.Layout.{store_of, journal_of};
@@ -13,7 +14,7 @@ use state::journal::{WriteRecord, record_at};
 use state::layout::{State, file_at, length_at};
 
 // Places of a file: `length` of them, from `place` on.
-#[derive(Drop)]
+#[derive(Clone, Copy)]
 pub struct Extent {
     pub file: u16,
     pub place: usize,
@@ -21,7 +22,7 @@ pub struct Extent {
 }
 
 // Who supplies a place to a transaction: the file, or its write record of that number.
-#[derive(Drop)]
+#[derive(Clone, Copy)]
 pub enum Supplier {
     File,
     Record(usize),
@@ -40,7 +41,7 @@ impl Supplier {
 
 // A run: who supplies it, how many write records the walk visited to find that, where its bytes start in the
 // log or in the file, and how many they are.
-#[derive(Drop)]
+#[derive(Clone, Copy)]
 pub struct Run {
     pub supplier: Supplier,
     pub looked: usize,

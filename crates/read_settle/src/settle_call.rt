@@ -10,14 +10,14 @@ use state::readers::read_settles_at;
 use state::{DESCRIPTORS, Descriptor, Transaction};
 
 // Whether every chosen descriptor could be settled.
-#[derive(Drop)]
+#[derive(Clone, Copy)]
 pub enum Verdict {
     Settled,
     Past,
 }
 
 // The transaction with its chosen descriptors settled, where the verdict is Settled.
-#[derive(Drop)]
+#[derive(Clone, Copy)]
 pub struct Settling {
     pub verdict: Verdict,
     pub transaction: Transaction,

@@ -2,6 +2,7 @@
 // block that the argument names, and prints a line for each to standard output. Differences from the log,
 // lines of another form and failures are reported on standard error. The memory is the same for an input of
 // any size.
+#![tactic(auto)]
 mod blocks;
 mod stdio;
 

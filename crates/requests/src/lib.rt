@@ -1,4 +1,5 @@
 // Calls as data, and how one is performed on the store.
+#![tactic(auto)]
 ghost use Rattle.requests.specs.Performing.{Performed};
 
 use state::layout::State;
@@ -7,7 +8,7 @@ use state::outcomes::Outcome;
 // A call: its kind with its numbers. Each but the last two names its transaction, then its descriptor (Places
 // its file); last stands Seek's offset, Read's count or Commit's minute. SetWindow names its file, then start
 // and end. A Write's bytes and the buffer for an answer are lent beside it.
-#[derive(Drop)]
+#[derive(Clone, Copy)]
 pub enum Request {
     Begin(usize),
     Seek(usize, usize, usize),

@@ -1,5 +1,6 @@
 // The standing of a descriptor in a transaction, and the table of standings: a method for each of its
 // columns.
+#![tactic(auto)]
 ghost use Rattle.std.specs.Prelude.{◌≡◌, ◌+◌, ◌≤◌};
 ghost use Rattle.limits.specs.Limits.{file_bytes};
 ghost use Rattle.standings.specs.Table.{after_seek, after_write, after_read, pointer_settles, read_settles};
@@ -9,7 +10,7 @@ ghost use Rattle.standings.specs.Table.{final_offset, is_known, may_wait};
 ghost use Rattle.standings.specs.Table.{place_number};
 
 // Paper 01's five standings. Each carries the numbers named there and no others.
-#[derive(Drop)]
+#[derive(Clone, Copy)]
 pub enum Standing {
     Untouched,
     Placed(u16),
@@ -19,7 +20,7 @@ pub enum Standing {
 }
 
 // Where a write lies: at a place of its file or, while the place is unknown, after the advance before it.
-#[derive(Drop)]
+#[derive(Clone, Copy)]
 pub enum Place {
     At(u16),
     After(u16),

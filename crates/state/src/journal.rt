@@ -23,7 +23,7 @@ const UNPLACED: u16 = DESCRIPTORS as u16;
 const LAST_UNPLACED: usize = 2 * DESCRIPTORS - 1;
 
 // A write record: through which descriptor, where, and how many bytes.
-#[derive(Drop)]
+#[derive(Clone, Copy)]
 pub struct WriteRecord {
     pub descriptor: u16,
     pub place: Place,

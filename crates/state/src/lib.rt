@@ -1,6 +1,7 @@
 // The state: what a caller keeps between calls, beside the four lent buffers. It is one lent array of
 // numbers: `layout` reads and writes what they mean, in the forms below, `journal` the write records among
 // them, `readers` tests it, and `dirty` says which offsets a Commit sets.
+#![tactic(auto)]
 pub mod dirty;
 pub mod journal;
 pub mod layout;
@@ -19,14 +20,14 @@ use windows::Window;
 
 // The standing of a descriptor, and whether the transaction made an accepted Seek, Read or Write on it: then
 // it is dirty, and Commit sets its offset.
-#[derive(Drop)]
+#[derive(Clone, Copy)]
 pub struct Descriptor {
     pub standing: Standing,
     pub dirty: bool,
 }
 
 // lengthmarks has bit f (worth 2 to the power f) set where the transaction has sighted the length of file f.
-#[derive(Drop)]
+#[derive(Clone, Copy)]
 pub struct Transaction {
     pub begun: bool,
     pub stale: bool,
@@ -38,7 +39,7 @@ pub struct Transaction {
 // What the state holds of the last grant, beside its write records: whether it can be undone, how many
 // records and bytes it had, and the committed offsets and lengths that it found. Only specs/ speaks of it, as
 // of the store below.
-#[derive(Drop)]
+#[derive(Clone, Copy)]
 pub struct Undo {
     pub valid: bool,
     pub used: Used,
@@ -49,7 +50,7 @@ pub struct Undo {
 // What the state means, beside its journal: the file number and the committed offset of each descriptor, the
 // committed length and the window of each file, what is held of the last grant, and the transactions. Only
 // specs/ speaks of it; no code makes one.
-#[derive(Drop)]
+#[derive(Clone, Copy)]
 pub struct StoreMeaning {
     pub filenumbers: [u16; DESCRIPTORS],
     pub offsets: [u16; DESCRIPTORS],

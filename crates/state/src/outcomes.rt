@@ -4,7 +4,7 @@ ghost use Rattle.state.specs.Outcomes.{number};
 
 // The refusals, in the order of their numbers: paper 01's table, then those of paper 02. BadLine is a line's
 // of a trace; no call meets it.
-#[derive(Drop)]
+#[derive(Clone, Copy)]
 pub enum Refusal {
     BufferLength,
     RecordRange,
@@ -78,7 +78,7 @@ impl Refusal {
 // The result of a call: plain, an offset, a count of bytes given, the octet of those that a granted Commit
 // made stale (bit t, worth 2 to the power t, for transaction t), a count of pairs, an order's grants with the
 // gap and the number of orders tried, or a refusal.
-#[derive(Drop)]
+#[derive(Clone, Copy)]
 pub enum Outcome {
     Done,
     Offset(u16),

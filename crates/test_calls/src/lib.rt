@@ -1,6 +1,7 @@
 // A fixed stream of calls with good and bad numbers, by the recurrence x' = 48271 x mod 2147483647. Call i
 // (from 0) draws twelve numbers, whatever its kind; they, the phase (i div 256) and a guess at which
 // transactions are open give all about the call.
+#![tactic(auto)]
 ghost use Rattle.std.specs.Prelude.{◌+◌, ◌≤◌, ◌<◌};
 
 use limits::{BUFFER_BYTES, FILE_BYTES, LAST_TRANSACTION};
@@ -67,7 +68,7 @@ const WEIGHTS: [usize; 130] = [
 ];
 
 // What is wrong with the buffers or the state lent to a call; short and forgery are 0 where nothing is.
-#[derive(Drop)]
+#[derive(Clone, Copy)]
 pub struct Damage {
     // 1, 2, 3, 4: of the files, logs, marks, undo buffer only the first length bytes are lent.
     pub short: usize,
@@ -80,7 +81,7 @@ pub struct Damage {
 }
 
 // What is asked about an order to commit in: the transactions are the first `listed` of the list.
-#[derive(Drop)]
+#[derive(Clone, Copy)]
 pub struct Ready {
     pub list: [u8; 10],
     pub listed: usize,
@@ -89,7 +90,7 @@ pub struct Ready {
 }
 
 // A Fresh, a dispatcher, a best order, or another call.
-#[derive(Drop)]
+#[derive(Clone, Copy)]
 pub enum Made {
     Fresh,
     Dispatch,
@@ -98,7 +99,7 @@ pub enum Made {
 }
 
 // A call, and what is lent with it. What its kind doesn't use is there all the same.
-#[derive(Drop)]
+#[derive(Clone, Copy)]
 pub struct Generated {
     pub made: Made,
     pub transaction: usize,
@@ -118,7 +119,7 @@ pub struct Generated {
 }
 
 // Twelve numbers, and the last one again.
-#[derive(Drop)]
+#[derive(Clone, Copy)]
 pub struct Drawn {
     pub numbers: [usize; 12],
     pub last: usize,
@@ -273,7 +274,7 @@ fn first_open(guess: [bool; 8]) -> usize {
 }
 
 // A kind of call, and its transaction.
-#[derive(Drop)]
+#[derive(Clone, Copy)]
 struct Chosen {
     kind: usize,
     transaction: usize,

@@ -1,4 +1,5 @@
 // A generated call, performed on the store.
+#![tactic(auto)]
 ghost use Rattle.io.specs.Counts.{IsPrefixLen};
 
 use dispatcher::ends::{Dispatched, End, Ended};
@@ -43,7 +44,7 @@ fn lent(g: Generated, which: usize, buffer: &[u8]) -> usize
 
 // What a generated call came to. Of a dispatcher that ran: how many scripts it had, the end of each, and the
 // number of Commits that it made.
-#[derive(Drop)]
+#[derive(Clone, Copy)]
 pub struct Performance {
     pub outcome: Outcome,
     pub ran: bool,

@@ -1,12 +1,13 @@
 // The scripts of a generated dispatcher. Each call of each script is a plain function of a few numbers of a
 // plan.
+#![tactic(auto)]
 ghost use Rattle.std.specs.Prelude.{◌<◌, ◌≤◌};
 
 use dispatcher::scripts::{SCRIPTS, ScriptCall, Scripts};
 use limits::smaller;
 
 // The numbers of a dispatcher's scripts.
-#[derive(Drop)]
+#[derive(Clone, Copy)]
 pub struct Plan {
     // How many there are, in some dispatchers too many.
     pub count: usize,

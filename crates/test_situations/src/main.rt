@@ -1,5 +1,6 @@
 // Runs the twelve situations of paper 01 on the store, and prints for each its letter, a space, and `ok` or
 // `no`.
+#![tactic(auto)]
 use libc::STDOUT_FILENO;
 use limits::{BUFFER_BYTES, FILE_BYTES};
 use state::layout::{STATE_LEN, State};

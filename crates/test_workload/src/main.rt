@@ -1,6 +1,7 @@
 // Runs a fixed stream of 300,000 calls on the store, with good and bad numbers, short buffers and forged
 // states. After every thousand it prints how many calls were made, how often each answer and each refusal
 // came, the digest of the state and that of all answers.
+#![tactic(auto)]
 
 ghost use Rattle.std.specs.Prelude.{◌<◌};
 ghost use Rattle.test_digest.specs.Bounds.{Digest};
@@ -17,7 +18,7 @@ use test_driver::Performance;
 const CALLS: usize = 300000;
 
 // What a run carries from call to call, beside the store.
-#[derive(Drop)]
+#[derive(Clone, Copy)]
 struct WorkloadProgress {
     last: usize,
     open: [bool; 8],

@@ -1,13 +1,14 @@
 // The lines of an input that comes in pieces. As many bytes of the current line as a lent buffer has room for
 // are pending in it, so that a line of any length passes through. The buffer has one byte more than a line
 // may have.
+#![tactic(auto)]
 ghost use Rattle.std.specs.Prelude.{◌≡◌, cond, ◌∷◌, [], ◌-◌, ◌<◌, ◌≤◌, length, take, drop};
 ghost use Rattle.text_lines.specs.Lines.{last_line};
 ghost use Rattle.text_lines.specs.Scans.{NextLine, Went};
 
 // What a scan for the next line end found: whether a line ended, how many bytes of it are pending, and the
 // place after it in the piece.
-#[derive(Drop)]
+#[derive(Clone, Copy)]
 pub struct Scan {
     pub complete: bool,
     pub pending: usize,

@@ -16,7 +16,7 @@ use text_numerals::{Count, Field, joined_numbers, number_at, pairs_at, spaced_at
 // version; Fresh, with so many file numbers; a request, with so many bytes of a Write and the length of the
 // buffer for an answer; the best order, with its minute, its budget and so many transactions. File numbers,
 // bytes and transactions lie at the front of a lent buffer.
-#[derive(Drop)]
+#[derive(Clone, Copy)]
 pub enum ParsedEntry {
     Another,
     Comment,

@@ -1,5 +1,6 @@
 // Numbers in decimal and bytes as pairs of hexadecimal digits, put into a lent buffer or read in a line. A
 // function that puts answers the place after what it put.
+#![tactic(auto)]
 ghost use Rattle.std.specs.Prelude.{◌≡◌, ◌∷◌, [], ◌+◌, ◌*◌, ◌<◌, ◌≤◌, true, length, take, drop};
 ghost use Rattle.text_numerals.specs.Decimal.{glyph as glyph_of, number_text, spaced_texts, joined_texts};
 ghost use Rattle.text_numerals.specs.Decimal.{is_digit, worth, digits, fitting, front_number};
@@ -99,7 +100,7 @@ pub fn put_joined(out: &mut [u8], at: usize, list: &[u8]) -> usize
 }
 
 // A number, and where the bytes after it start; or no number that fits.
-#[derive(Drop)]
+#[derive(Clone, Copy)]
 pub enum Field {
     Missing,
     Number(usize, usize),
@@ -180,7 +181,7 @@ pub fn spaced_at(line: &[u8], at: usize, more: usize) -> Field
 }
 
 // How many values were read into a lent buffer, up to the line's end; or the line has another form.
-#[derive(Drop)]
+#[derive(Clone, Copy)]
 pub enum Count {
     Unread,
     Many(usize),

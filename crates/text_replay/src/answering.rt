@@ -39,7 +39,7 @@ const VERSION: usize = 1;
 // many lines were written and read; how many had another form, and the first of them; how many answers
 // differed, and the first; whether a line of another form ended in byte 13; whether another version ended the
 // run, and which; whether the run goes on, and whether it came to its end with all that it answered written.
-#[derive(Drop)]
+#[derive(Clone, Copy)]
 pub struct ReplayProgress {
     pub pending: usize,
     pub at: usize,
@@ -60,7 +60,7 @@ pub struct ReplayProgress {
 }
 
 // What a call answered, and how many bytes of the reader's buffer are the answer's.
-#[derive(Drop)]
+#[derive(Clone, Copy)]
 pub struct Response {
     pub outcome: Outcome,
     pub size: usize,

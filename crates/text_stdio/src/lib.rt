@@ -1,5 +1,6 @@
 // Standard input, output and error of a program that works line by line. Nothing can be proved of what the
 // operating system does with bytes.
+#![tactic(auto)]
 ghost use Rattle.std.specs.Prelude.{◌≤◌, length};
 
 use libc::{STDERR_FILENO, STDIN_FILENO, STDOUT_FILENO};

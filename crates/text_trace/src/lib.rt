@@ -1,4 +1,5 @@
 // The lines of a trace (02, F-5; R-19.2): what a line asks. specs/Grammar.antt says which form a line has.
+#![tactic(auto)]
 ghost use Rattle.std.specs.Prelude.{cond, drop};
 ghost use Rattle.requests.specs.declared.Request.{Request};
 ghost use Rattle.text_trace.specs.Grammar.{spaced, after_numeral, ends, writes, lettered};
@@ -15,7 +16,7 @@ const TRACE_MINUTE: usize = 0;
 
 // What a line asks: a request, and where the bytes of a Write start (in any other, the line's end); or it has
 // another form.
-#[derive(Drop)]
+#[derive(Clone, Copy)]
 pub enum Parsed {
     Another,
     Asks(Request, usize),

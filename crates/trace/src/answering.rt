@@ -20,7 +20,7 @@ const MOST: usize = 57000;
 // piece, how many bytes of output are pending, and how many lines of it were written; whether a line of
 // another form ended in byte 13, whether the run goes on, and whether it came to the end of the input with
 // all that it answered written.
-#[derive(Drop)]
+#[derive(Clone, Copy)]
 pub struct TraceProgress {
     pub pending: usize,
     pub at: usize,

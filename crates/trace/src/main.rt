@@ -1,6 +1,7 @@
 // Runs a trace: reads calls from standard input, a line each, performs them on a fresh store, and prints a
 // line for each to standard output. Failures are reported on standard error. The memory is the same for an
 // input of any size.
+#![tactic(auto)]
 mod answering;
 mod stdio;
 

@@ -1,4 +1,5 @@
 // Windows: the minutes of the day in which a file may change.
+#![tactic(auto)]
 ghost use Rattle.std.specs.Prelude.{◌≡◌};
 ghost use Rattle.windows.specs.Windows.{minute_in, is_open_at};
 
@@ -6,7 +7,7 @@ use limits::LAST_MINUTE;
 
 // The window of a file: from minute start on, before minute end. A start above the end runs over midnight;
 // equal ones mean always open (R-11.1).
-#[derive(Drop)]
+#[derive(Clone, Copy)]
 pub struct Window {
     pub start: u16,
     pub end: u16,

@@ -1,2 +1,0 @@
-mod Operand
-mod Pair

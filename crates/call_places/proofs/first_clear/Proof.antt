@@ -2,7 +2,7 @@
 use mathlib.Core.{Bool.true, Path.{◌≡◌, sym, ◌∙◌}}
 use Prim.Native.Nat.{ℕ, ◌-◌, ◌≤◌, ◌<◌}
 use native.Mathlib.Omega.{arith}
-use borrow.Author.{Needs.needs, Tests.{not-true, not-false}}
+use borrow.Author.{Rules.rules, Tests.{not-true, not-false}}
 use Rattle.limits.specs.Limits.{file_bytes}
 use Rattle.read_lookup.specs.Lookup.{Recorded, extent, recorded_in}
 use Rattle.call_places.specs.PlacesCall.{covered_at}
@@ -44,5 +44,5 @@ returns-2 c = let l = c.before.loop in
 pub first-clear-spec : {M : Type 1} → Rattle.call_places.proofs.first_clear.Statement.statement M
 first-clear-spec = tie.close
     (tie.spec invariant-loop decreases-loop (λ c. (omega arith, omega (arith, c.requires.1), λ q g l. absurd (omega arith)))
-    (λ c. search needs) (λ c κs. search needs) (λ c κs. search needs) returns (λ c. search needs)
-    (λ c. search needs) loop-again returns-2)
+    (λ c. search rules) (λ c κs. search rules) (λ c κs. search rules) returns (λ c. search rules)
+    (λ c. search rules) loop-again returns-2)

@@ -1,5 +1,5 @@
 -- `read_settle::settle_chosen` meets its contract.
-use borrow.Author.{Needs.needs, Tests.not-true}
+use borrow.Author.{Rules.rules, Tests.not-true}
 use Rattle.refinement.proofs.Shapes.{sixteen-descriptors}
 use Rattle.read_settle.proofs.InRecord.{none-settled, past-settled, settled-fits, all_settled}
 use Rattle.read_settle.proofs.settle_chosen.Tie as tie
@@ -42,5 +42,5 @@ returns-3 c = let placing = c.before.before in let told = placing.before.before.
     (rw own at placing.place-records.ensures) c.put-chosen.ensures
 
 pub settle-chosen-spec : {M : Type 1} → Rattle.read_settle.proofs.settle_chosen.Statement.statement M
-settle-chosen-spec = tie.close (tie.spec (λ c κs. search needs) returns (λ c κs. search needs) settle-requires
-    (λ c. search needs) (λ c. search needs) returns-2 place-records-requires put-chosen-requires returns-3)
+settle-chosen-spec = tie.close (tie.spec (λ c κs. search rules) returns (λ c κs. search rules) settle-requires
+    (λ c. search rules) (λ c. search rules) returns-2 place-records-requires put-chosen-requires returns-3)

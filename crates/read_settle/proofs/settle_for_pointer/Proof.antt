@@ -1,6 +1,6 @@
 -- `read_settle::settle_for_pointer` meets its contract.
 use mathlib.Core.{Bool.{Bool, true}, Path.{◌≡◌, sym, ap, ◌∙◌}}
-use borrow.Author.{Needs.needs, Tests.{not-true, not-false}}
+use borrow.Author.{Rules.rules, Tests.{not-true, not-false}}
 use Rattle.standings.specs.Table.{pointer_settles}
 use Rattle.state.specs.{StoreMeaning.standing_at, Layout.transaction_of}
 use Rattle.read_settle.proofs.{ChoiceLaws.{pointer-chooses-none, pointer-chooses-own}, InRecord.none-settled}
@@ -24,5 +24,5 @@ returns-3 c = let chose = c.before.before.before.before in let asked = chose.bef
 
 pub settle-for-pointer-spec : {M : Type 1} → Rattle.read_settle.proofs.settle_for_pointer.Statement.statement M
 settle-for-pointer-spec = tie.close (tie.spec (λ c κs. let start =
-    c.before in (start.pre.0.small, start.pre.1)) (λ c κs. search needs) returns (λ c κs. search needs)
-    (λ c κs. search needs) (λ c. c.settle-by.ensures) (λ c κs. search needs) returns-3)
+    c.before in (start.pre.0.small, start.pre.1)) (λ c κs. search rules) returns (λ c κs. search rules)
+    (λ c κs. search rules) (λ c. c.settle-by.ensures) (λ c κs. search rules) returns-3)

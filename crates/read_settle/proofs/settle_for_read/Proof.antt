@@ -1,6 +1,6 @@
 -- `read_settle::settle_for_read` meets its contract.
 use mathlib.Core.Path.{sym, ◌∙◌}
-use borrow.Author.{Needs.needs, Tests.{not-true, not-false}}
+use borrow.Author.{Rules.rules, Tests.{not-true, not-false}}
 use Rattle.state.specs.Layout.{transaction_of, store_of}
 use Rattle.read_settle.proofs.{ChoiceLaws.{read-chooses-none, read-chooses-own}, InRecord.none-settled}
 use Rattle.read_settle.proofs.settle_for_read.Tie as tie
@@ -22,5 +22,5 @@ returns-3 c = let chose = c.before.before in let asked = chose.before in let loo
     (looked.before.any-waits.ensures looked.if1.false)) at c.settle-one.ensures
 
 pub settle-for-read-spec : {M : Type 1} → Rattle.read_settle.proofs.settle_for_read.Statement.statement M
-settle-for-read-spec = tie.close (tie.spec (λ c κs. c.before.requires.0.small) (λ c κs. search needs)
-    (λ c. c.settle-by.ensures) read-settles-at-requires returns-2 (λ c κs. search needs) returns-3)
+settle-for-read-spec = tie.close (tie.spec (λ c κs. c.before.requires.0.small) (λ c κs. search rules)
+    (λ c. c.settle-by.ensures) read-settles-at-requires returns-2 (λ c κs. search rules) returns-3)

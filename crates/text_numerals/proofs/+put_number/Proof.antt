@@ -29,7 +29,7 @@ put-number-cast-glyph : (t : ℕ) → put-number-lts.Need-overflow-cast-glyph (
   put-number-below t,
   put-number.Post,
 ) (put-number-at t) put-number.Post
-put-number-cast-glyph t c = search needs
+put-number-cast-glyph t c = search rules
 
 put-number-glyph-requires : (t : ℕ) → put-number-lts.Need-glyph-requires (
   glyph-reads.Asked,
@@ -39,7 +39,7 @@ put-number-glyph-requires : (t : ℕ) → put-number-lts.Need-glyph-requires (
   put-number-below t,
   put-number.Post,
 ) (put-number-at t) put-number.Post
-put-number-glyph-requires t c κs = search needs
+put-number-glyph-requires t c κs = search rules
 
 put-number-put-byte-requires : (t : ℕ) → put-number-lts.Need-put-byte-requires (
   glyph-reads.Asked,
@@ -60,7 +60,7 @@ put-number-same-length : (t : ℕ) → put-number-lts.Need-same-length (
   put-number-below t,
   put-number.Post,
 ) (put-number-at t) put-number.Post
-put-number-same-length t c = search needs
+put-number-same-length t c = search rules
 
 put-number-returns : (t : ℕ) → put-number-lts.Need-returns (
   glyph-reads.Asked,
@@ -97,7 +97,7 @@ put-number-cast-glyph-2 : (t : ℕ) → put-number-lts.Need-overflow-cast-glyph-
   put-number-below t,
   put-number.Post,
 ) (put-number-at t) put-number.Post
-put-number-cast-glyph-2 t c = search needs
+put-number-cast-glyph-2 t c = search rules
 
 put-number-glyph-requires-2 : (t : ℕ) → put-number-lts.Need-glyph-requires-2 (
   glyph-reads.Asked,
@@ -107,7 +107,7 @@ put-number-glyph-requires-2 : (t : ℕ) → put-number-lts.Need-glyph-requires-2
   put-number-below t,
   put-number.Post,
 ) (put-number-at t) put-number.Post
-put-number-glyph-requires-2 t c κs = search needs
+put-number-glyph-requires-2 t c κs = search rules
 
 put-number-put-byte-requires-2 : (t : ℕ) → put-number-lts.Need-put-byte-requires-2 (
   glyph-reads.Asked,
@@ -135,7 +135,7 @@ put-number-same-length-2 : (t : ℕ) → put-number-lts.Need-same-length-2 (
   put-number-below t,
   put-number.Post,
 ) (put-number-at t) put-number.Post
-put-number-same-length-2 t c = search needs
+put-number-same-length-2 t c = search rules
 
 put-number-returns-2 : (t : ℕ) → put-number-lts.Need-returns-2 (
   glyph-reads.Asked,

@@ -1,5 +1,5 @@
 -- `luzhanem_parts_line_done` meets its contract.
-use borrow.Author.{Tests.{lt-ltb, le-ltb}, Needs.needs}
+use borrow.Author.{Tests.{lt-ltb, le-ltb}, Rules.rules}
 use Rattle.state.specs.Outcomes.{said}
 use Rattle.text_answers.specs.Printed.{spelled}
 use Rattle.text_log.specs.Answers.{answer_text}
@@ -18,4 +18,4 @@ returns-2 c = rw (lt-ltb c.before.before.before.before.args.r 32768 c.before.bef
 
 pub luzhanem-parts-line-done-spec : {M : Type 1} → statement M
 luzhanem-parts-line-done-spec =
-    tie.close (tie.spec (λ c κs. search needs) returns (λ c. search needs) (λ c κs. search needs) returns-2)
+    tie.close (tie.spec (λ c κs. search rules) returns (λ c. search rules) (λ c κs. search rules) returns-2)

@@ -1,7 +1,7 @@
 -- `luzhanem_parts_line_given` meets its contract.
 use mathlib.Core.Path.{◌≡◌, sym, ap, ◌∙◌}
 use native.Mathlib.Omega.{arith}
-use borrow.Author.{Tests.{lt-ltb, le-ltb}, Needs.needs}
+use borrow.Author.{Tests.{lt-ltb, le-ltb}, Rules.rules}
 use Rattle.limits.specs.Limits.{file_bytes}
 use Rattle.state.specs.Outcomes.{said}
 use Rattle.text_answers.specs.Printed.{spelled}
@@ -40,5 +40,5 @@ returns-2 c = let start = c.before.before.before.before.before.before in let bs 
     ) c.put-said.ensures
 
 pub luzhanem-parts-line-given-spec : {M : Type 1} → statement M
-luzhanem-parts-line-given-spec = tie.close (tie.spec (λ c κs. search needs) returns (λ c κs. search needs)
+luzhanem-parts-line-given-spec = tie.close (tie.spec (λ c κs. search rules) returns (λ c κs. search rules)
     slice-aggregate-put-said put-said-requires returns-2)

@@ -1,7 +1,7 @@
 -- `luzhanem_parts_line_ordered` meets its contract.
 use mathlib.Core.Path.{◌≡◌, sym, ap, ◌∙◌}
 use native.Mathlib.Omega.{arith}
-use borrow.Author.{Tests.{lt-ltb, le-ltb}, Needs.needs}
+use borrow.Author.{Tests.{lt-ltb, le-ltb}, Rules.rules}
 use Rattle.text_answers.specs.Printed.{spelled}
 use Rattle.text_log.specs.Answers.{answer_text}
 use lib.ListN.{length, take, length-take}
@@ -38,5 +38,5 @@ returns-2 c = let start = c.before.before.before.before.before.before in let bs 
     ) c.put-found.ensures
 
 pub luzhanem-parts-line-ordered-spec : {M : Type 1} → statement M
-luzhanem-parts-line-ordered-spec = tie.close (tie.spec (λ c κs. search needs) returns (λ c κs. search needs)
+luzhanem-parts-line-ordered-spec = tie.close (tie.spec (λ c κs. search rules) returns (λ c κs. search rules)
     slice-aggregate-put-found put-found-requires returns-2)

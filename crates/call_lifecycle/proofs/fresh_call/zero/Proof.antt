@@ -1,5 +1,5 @@
 -- `zero` meets its contract. The loop's invariant: the octets before i are 0, the others as they were.
-use borrow.Author.{Needs.needs, Fill.{fill_none, fill_more}}
+use borrow.Author.{Rules.rules, Fill.{fill_none, fill_more}}
 use mathlib.Core.{List.{List, ◌++◌, append-nil}, Path.{◌≡◌, refl, ap, ◌∙◌}}
 use native.Mathlib.Omega.{arith}
 use lib.{ListN.{length, drop, set, replicate, length-set}, Seq.drop-length}
@@ -27,4 +27,4 @@ returns c = let e : c.before.loop.i ≡ length c.before.before.args.buffer.now =
 
 pub zero-spec : {M : Type 1} → Rattle.call_lifecycle.proofs.fresh_call.zero.Statement.statement M
 zero-spec = tie.close (tie.spec invariant-loop decreases-loop (λ c. (omega arith, refl, fill_none _ 0)) (λ c. omega arith)
-    (λ c. omega arith) (λ c. omega arith) loop-again (λ c. search needs) returns)
+    (λ c. omega arith) (λ c. omega arith) loop-again (λ c. search rules) returns)

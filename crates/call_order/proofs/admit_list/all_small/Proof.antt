@@ -1,6 +1,6 @@
 -- `call_order::admit_list::all_small` meets its contract. The loop's invariant: what is left to test is the rest of the list.
 use mathlib.Core.Path.{refl, sym}
-use borrow.Author.{Needs.needs, Tests.{le-leb, lt-leb}}
+use borrow.Author.{Rules.rules, Tests.{le-leb, lt-leb}}
 use lib.{Dec.leb, ListN.length}
 use native.Mathlib.Omega.{arith}
 use Prim.Native.Nat.{◌-◌, ◌≤◌}
@@ -23,6 +23,6 @@ loop-again c = let at-loop = c.before.before.before in
     (omega arith, all_more _ _ at-loop.loop.k (omega arith) at-loop.loop.invariant.1 (le-leb _ _ c.if1.false))
 
 pub all-small-spec : {M : Type 1} → Rattle.call_order.proofs.admit_list.all_small.Statement.statement M
-all-small-spec = tie.close (tie.spec invariant-loop decreases-loop (λ c. (omega arith, refl)) (λ c. search needs) returns
-    (λ c. search needs) (λ c. search needs) loop-again
+all-small-spec = tie.close (tie.spec invariant-loop decreases-loop (λ c. (omega arith, refl)) (λ c. search rules) returns
+    (λ c. search rules) (λ c. search rules) loop-again
     (λ c. sym (all_done _ _ c.before.loop.k (omega arith) c.before.loop.invariant.1)))

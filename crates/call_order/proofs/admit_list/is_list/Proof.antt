@@ -1,6 +1,6 @@
 -- `call_order::admit_list::is_list` meets its contract. The loop's invariant: what is left to test is the rest of the list.
 use mathlib.Core.{Bool.true, Path.{◌≡◌, refl, sym, ◌∙◌}}
-use borrow.Author.{Needs.needs, Tests.{le-leb, lt-leb}}
+use borrow.Author.{Rules.rules, Tests.{le-leb, lt-leb}}
 use lib.{Dec.leb, ListN.length}
 use native.Mathlib.Omega.{arith}
 use Prim.Native.Nat.{◌-◌, ◌≤◌}
@@ -46,4 +46,4 @@ returns-4 c = let l = c.before.loop in rw (l.invariant.2, l.invariant.3, distinc
 pub is-list-spec : {M : Type 1} → Rattle.call_order.proofs.admit_list.is_list.Statement.statement M
 is-list-spec = tie.close (tie.spec invariant-loop decreases-loop (λ c. unfold is_list in
     rw (lt-leb 1 (length c.before.before.args.list.now) (omega arith)) refl) returns-2 loop-holds
-    (λ c κs. search needs) returns-3 (λ c. search needs) (λ c. search needs) loop-again returns-4)
+    (λ c κs. search rules) returns-3 (λ c. search rules) (λ c. search rules) loop-again returns-4)

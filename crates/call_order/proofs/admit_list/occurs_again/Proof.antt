@@ -1,6 +1,6 @@
 -- `call_order::admit_list::occurs_again` meets its contract. The loop's invariant: the rest of the list is left to search.
 use mathlib.Core.Path.{◌≡◌, sym, ap, ◌∙◌}
-use borrow.Author.{Needs.needs, Tests.{eq-eqb, ne_eqb}}
+use borrow.Author.{Rules.rules, Tests.{eq-eqb, ne_eqb}}
 use lib.ListN.{length, get_or, drop}
 use native.Mathlib.{Numerals.add-one, Omega.arith}
 use Prim.Native.Nat.{ℕ, suc, ◌-◌, ◌≤◌}
@@ -27,6 +27,6 @@ loop-again c = let at-loop = c.before.before.before in
     (omega arith, at-loop.loop.invariant.1 ∙ in-passed _ _ at-loop.loop.j (omega arith) (ne_eqb _ _ c.if1.false))
 
 pub occurs-again-spec : {M : Type 1} → Rattle.call_order.proofs.admit_list.occurs_again.Statement.statement M
-occurs-again-spec = tie.close (tie.spec invariant-loop decreases-loop (λ c. search needs) (λ c. search needs) loop-holds
-    (λ c. search needs) returns (λ c. search needs) (λ c. search needs) loop-again
+occurs-again-spec = tie.close (tie.spec invariant-loop decreases-loop (λ c. search rules) (λ c. search rules) loop-holds
+    (λ c. search rules) returns (λ c. search rules) (λ c. search rules) loop-again
     (λ c. sym (c.before.loop.invariant.1 ∙ in-empty _ _ c.before.loop.j (omega arith))))

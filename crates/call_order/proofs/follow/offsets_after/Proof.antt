@@ -1,6 +1,6 @@
 -- `call_order::follow::offsets_after` meets its contract. The loop's invariant: the offsets of the descriptors passed are set.
 use mathlib.Core.{Bool.{Bool, true, false, cond, ◌&&◌}, List.List, Logic.⊎_elim, Path.{◌≡◌, sym, ap, ◌∙◌}}
-use borrow.Author.{Needs.needs, Tests.leb-true}
+use borrow.Author.{Rules.rules, Tests.leb-true}
 use lib.ListN.{length, get_or, set}
 use native.Mathlib.Omega.{arith}
 use Prim.Native.Nat.{ℕ, ◌+◌, ◌-◌, ◌≤◌, ◌<◌}
@@ -37,7 +37,7 @@ abbrev decreases-loop : tie.decreases-loop
 decreases-loop state t offsets after₀ d₀ after d = descriptor_count - d
 
 loop-holds : tie.Need-loop-init invariant-loop decreases-loop
-loop-holds c = let long : length c.args.t3 ≡ 16 = search needs in (omega arith, sym (filled_none _ c.args.t3), long)
+loop-holds c = let long : length c.args.t3 ≡ 16 = search rules in (omega arith, sym (filled_none _ c.args.t3), long)
 
 -- The descriptor that was read.
 abbrev loop-of : tie.After-sets-offset invariant-loop decreases-loop → tie.At-loop invariant-loop decreases-loop
@@ -83,6 +83,6 @@ returns c = let l = c.before.loop in let a = c.before.before.args in
     l.invariant.1 ∙ ap (filled f a.t3) e ∙ filled-all f a.t3 16 (omega (arith, l.invariant.2))
 
 pub offsets-after-spec : {M : Type 1} → Rattle.call_order.proofs.follow.offsets_after.Statement.statement M
-offsets-after-spec = tie.close (tie.spec invariant-loop decreases-loop loop-holds (λ c κs. search needs)
-    (λ c κs. search needs) (λ c. search needs) (λ c. search needs) final-offset-requires (λ c. search needs)
-    (λ c. search needs) (λ c. search needs) (λ c. search needs) loop-again returns)
+offsets-after-spec = tie.close (tie.spec invariant-loop decreases-loop loop-holds (λ c κs. search rules)
+    (λ c κs. search rules) (λ c. search rules) (λ c. search rules) final-offset-requires (λ c. search rules)
+    (λ c. search rules) (λ c. search rules) (λ c. search rules) loop-again returns)

@@ -1,5 +1,5 @@
 -- `room` meets its contract: each answer by the tests that led there.
-use borrow.Author.{Needs.needs, Tests.{le-leb, lt-leb}}
+use borrow.Author.{Rules.rules, Tests.{le-leb, lt-leb}}
 use native.Mathlib.Omega.{arith}
 use Prim.Native.Nat.{◌+◌}
 use Rattle.limits.specs.Limits.{file_bytes, record_count, log_bytes}
@@ -35,5 +35,5 @@ returns-4 c = let a = c.before.before.before.before.before.before.before.args in
 )
 
 pub room-spec : {M : Type 1} → Rattle.call_write.proofs.write_call.room.Statement.statement M
-room-spec = tie.close (tie.spec (λ c κs. search needs) (λ c κs. search needs) (λ c. search needs) returns
-    returns-2 (λ c κs. search needs) (λ c. search needs) returns-3 returns-4)
+room-spec = tie.close (tie.spec (λ c κs. search rules) (λ c κs. search rules) (λ c. search rules) returns
+    returns-2 (λ c κs. search rules) (λ c. search rules) returns-3 returns-4)

@@ -9,7 +9,7 @@ use Rattle.buffers.specs.Marks.{contains}
 use Rattle.commit_apply.specs.Apply.{CanLandIn, lengths_landed_in}
 use Rattle.commit_conflicts.specs.Conflicts.{Sighters}
 use Rattle.commit_conflicts.proofs.ConflictLaws.{raised_below, no_lengths, length-hits-none, length_more, length-less}
-use borrow.Author.{Needs.needs, Tests.not-true}
+use borrow.Author.{Rules.rules, Tests.not-true}
 use Rattle.commit_conflicts.proofs.lengths.length_sighters.Tie as tie
 
 abbrev invariant-loop : tie.invariant-loop
@@ -53,6 +53,6 @@ returns-2 c = let start = c.before.before.before.before.before in let e : c.befo
 
 pub length-sighters-spec : {M : Type 1} → Rattle.commit_conflicts.proofs.lengths.length_sighters.Statement.statement M
 length-sighters-spec =
-    tie.close (tie.spec invariant-loop decreases-loop (λ c κs. search needs) returns (λ c κs. search needs) loop-holds
-    (λ c κs. search needs) (λ c. search needs) (λ c. search needs) (λ c κs. search needs)
-    (λ c κs. search needs) (λ c. search needs) (λ c. search needs) loop-again returns-2)
+    tie.close (tie.spec invariant-loop decreases-loop (λ c κs. search rules) returns (λ c κs. search rules) loop-holds
+    (λ c κs. search rules) (λ c. search rules) (λ c. search rules) (λ c κs. search rules)
+    (λ c κs. search rules) (λ c. search rules) (λ c. search rules) loop-again returns-2)

@@ -10,7 +10,7 @@ use Rattle.spec.specs.{Items.Values, Commits.offset_settings}
 use Rattle.commit_apply.specs.Apply.{descriptors_only}
 use Rattle.commit_conflicts.specs.Conflicts.{Sighters}
 use Rattle.commit_conflicts.proofs.ConflictLaws.{sets-is, none-set, no-offsets, offset-hits-none, offset-more, offset-less}
-use borrow.Author.{Needs.needs, Tests.not-true}
+use borrow.Author.{Rules.rules, Tests.not-true}
 use Rattle.commit_conflicts.proofs.offsets.offset_sighters.Tie as tie
 
 abbrev invariant-loop : tie.invariant-loop
@@ -45,6 +45,6 @@ loop-again c = let at-loop = c.before.before.before in let a = at-loop.before.be
 
 pub offset-sighters-spec : {M : Type 1} → Rattle.commit_conflicts.proofs.offsets.offset_sighters.Statement.statement M
 offset-sighters-spec =
-    tie.close (tie.spec invariant-loop decreases-loop (λ c κs. search needs) returns loop-holds (λ c κs. search needs)
-    (λ c κs. search needs) (λ c κs. search needs) (λ c. search needs) (λ c. search needs) loop-again
+    tie.close (tie.spec invariant-loop decreases-loop (λ c κs. search rules) returns loop-holds (λ c κs. search rules)
+    (λ c κs. search rules) (λ c κs. search rules) (λ c. search rules) (λ c. search rules) loop-again
     (λ c. let e : c.before.loop.d ≡ 16 = omega arith in rw e at c.before.loop.invariant.1))

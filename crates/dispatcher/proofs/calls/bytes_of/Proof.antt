@@ -1,6 +1,6 @@
 -- In each arm the call is the arm's.
 use mathlib.Core.{List.List, Path.{◌≡◌, sym, ap, ◌∙◌}}
-use borrow.Author.{Tests.leb-true, Needs.needs}
+use borrow.Author.{Tests.leb-true, Rules.rules}
 use lib.ListN.{length}
 use Prim.Native.Nat.{ℕ}
 use Rattle.spec_dispatch.specs.Rounds.{part_in}
@@ -22,7 +22,7 @@ unfolding bytes_of_script_call script_call_of
 returns-2 c = c.part.ensures ∙ lent _ _ _ c.before.before.call.given.1
 
 pub bytes-of-spec : {M : Type 1} → Rattle.dispatcher.proofs.calls.bytes_of.Statement.statement M
-bytes-of-spec = tie.close (tie.spec (λ c. search needs) (λ c. search needs) part-requires (λ c. search needs)
-    (λ c. search needs) (λ c. unfold bytes_of_script_call script_call_of in lent _ _ _ c.enum_told.given.1)
+bytes-of-spec = tie.close (tie.spec (λ c. search rules) (λ c. search rules) part-requires (λ c. search rules)
+    (λ c. search rules) (λ c. unfold bytes_of_script_call script_call_of in lent _ _ _ c.enum_told.given.1)
     returns-2 (λ c. unfold bytes_of_script_call script_call_of in lent _ _ _ c.enum-told2.given.1)
     (λ c. unfold bytes_of_script_call script_call_of in lent _ _ _ c.enum-told3.given.1))

@@ -1,7 +1,7 @@
 -- `rounds::commit_one` meets its contract.
 use mathlib.Core.Bool.{true, false}
 use native.Mathlib.Omega.{arith}
-use borrow.Author.{Tests.{not-true, not-false}, Needs.needs}
+use borrow.Author.{Tests.{not-true, not-false}, Rules.rules}
 use Rattle.dispatcher.proofs.StepLaws.{stands-as, goes-as, commit-over, commit-done}
 use Rattle.dispatcher.proofs.rounds.commit_one.Tie as tie
 
@@ -25,6 +25,6 @@ returns-2 c = let at-gate = c.before.before.before.before in
     )
 
 pub commit-one-spec : {M : Type 1} → Rattle.dispatcher.proofs.rounds.commit_one.Statement.statement M
-commit-one-spec = tie.close (tie.spec (λ c κs. search needs) returns (λ c κs. search needs)
-    (λ c κs. search needs) (λ c κs. search needs) (λ c. search needs) (λ c. search needs) (λ c. search needs)
-    (λ c. search needs) returns-2)
+commit-one-spec = tie.close (tie.spec (λ c κs. search rules) returns (λ c κs. search rules)
+    (λ c κs. search rules) (λ c κs. search rules) (λ c. search rules) (λ c. search rules) (λ c. search rules)
+    (λ c. search rules) returns-2)

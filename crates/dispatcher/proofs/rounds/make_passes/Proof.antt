@@ -1,7 +1,7 @@
 -- `rounds::make_passes` meets its contract. The loop's invariant: the calls below i of every script are made, and call i of those
 -- below k.
 use mathlib.Core.{Bool.{Bool, ◌&&◌}, Path.{◌≡◌, refl, sym, ap, ◌∙◌}}
-use borrow.Author.{Tests.ltb-true, Needs.needs}
+use borrow.Author.{Tests.ltb-true, Rules.rules}
 use lib.{Dec.ltb, ListN.{get_or, length}}
 use native.Mathlib.Omega.{arith}
 use Prim.Native.Nat.{ℕ, ◌+◌, ◌-◌, ◌*◌, ◌≤◌}
@@ -58,11 +58,11 @@ loop-again c = let turned = c.before.before.before.before.before.before.before.b
       omega arith,
       l.invariant.2,
       omega (arith, l.invariant.2, asked.before.if1.true, tested.loop-test.true),
-      search needs,
-      search needs,
-      search needs,
-      search needs,
-      search needs,
+      search rules,
+      search rules,
+      search rules,
+      search rules,
+      search rules,
       λ minute n m₀ w s. let x = scripts_of a.t6 in let u = passes (store_reply m₀) a.bytes.now minute x l.i w in
           let v = turns (store_reply m₀) a.bytes.now minute x l.i l.k u in let t = l.invariant.9 minute n m₀ w s in
           let goes = asked.goes_on.ensures
@@ -100,8 +100,8 @@ returns c = let l = c.before.loop in let a = c.before.before.before.before.befor
     (scripts_of a.t6) l.i k (f l.i w)) (sym z)) (l.invariant.9 minute n m₀ w s)
 
 pub make-passes-spec : {M : Type 1} → Rattle.dispatcher.proofs.rounds.make_passes.Statement.statement M
-make-passes-spec = tie.close (tie.spec invariant-loop decreases-loop loop-holds (λ c κs. search needs) (λ c. search needs)
-    (λ c. search needs) (λ c. search needs) (λ c. search needs) (λ c. search needs) (λ c. search needs)
-    take-turn-requires (λ c. search needs) (λ c. search needs) loop-again (λ c. search needs)
-    (λ c. search needs) loop-again-2 (λ c. c.before.loop.invariant.4) (λ c. c.before.loop.invariant.5)
+make-passes-spec = tie.close (tie.spec invariant-loop decreases-loop loop-holds (λ c κs. search rules) (λ c. search rules)
+    (λ c. search rules) (λ c. search rules) (λ c. search rules) (λ c. search rules) (λ c. search rules)
+    take-turn-requires (λ c. search rules) (λ c. search rules) loop-again (λ c. search rules)
+    (λ c. search rules) loop-again-2 (λ c. c.before.loop.invariant.4) (λ c. c.before.loop.invariant.5)
     (λ c. c.before.loop.invariant.6) (λ c. c.before.loop.invariant.7) (λ c. c.before.loop.invariant.8) returns)

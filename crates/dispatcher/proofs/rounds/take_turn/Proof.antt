@@ -1,5 +1,5 @@
 -- `rounds::turn` meets its contract.
-use borrow.Author.{Tests.{not-true, not-false}, Needs.needs}
+use borrow.Author.{Tests.{not-true, not-false}, Rules.rules}
 use Rattle.spec_dispatch.specs.{Rounds.perform, Dispatch.store_reply}
 use Rattle.dispatcher.specs.Types.{script_call_of}
 use Rattle.dispatcher.proofs.StepLaws.{stands-as, passed_over, turn-done}
@@ -21,5 +21,5 @@ returns-2 c = let called = c.before.before.before.before.before.before.before.be
     (λ v t. c.before.before.take-answer.ensures _ commits m₀ v t)
 
 pub take-turn-spec : {M : Type 1} → Rattle.dispatcher.proofs.rounds.take_turn.Statement.statement M
-take-turn-spec = tie.close (tie.spec returns make-requires (λ c κs. search needs) (λ c. search needs)
-    (λ c. search needs) (λ c. search needs) (λ c. search needs) (λ c. search needs) returns-2)
+take-turn-spec = tie.close (tie.spec returns make-requires (λ c κs. search rules) (λ c. search rules)
+    (λ c. search rules) (λ c. search rules) (λ c. search rules) (λ c. search rules) returns-2)

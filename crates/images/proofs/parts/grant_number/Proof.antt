@@ -1,7 +1,7 @@
 -- `parts::grant_number` meets its contract.
 use mathlib.Core.Path.{ap, ◌∙◌}
 use native.Mathlib.Omega.{arith}
-use borrow.Author.{Tests.{lt-ltb, le-ltb}, Needs.needs}
+use borrow.Author.{Tests.{lt-ltb, le-ltb}, Rules.rules}
 use Rattle.counters.specs.declared.Used.{Used}
 use Rattle.state.specs.Updates.{flag_number}
 use Rattle.images.specs.Images.{grant_number}
@@ -50,6 +50,6 @@ returns-6 c = let i = c.before.before.before.before.before.before.args.i in rw (
 ) c.record-number.ensures
 
 pub grant-number-spec : {M : Type 1} → Rattle.images.proofs.parts.grant_number.Statement.statement M
-grant-number-spec = tie.close (tie.spec (λ c κs. search needs) (λ c κs. search needs) returns
-    (λ c κs. search needs) returns-2 (λ c κs. search needs) returns-3 (λ c κs. search needs) returns-4
-    (λ c κs. search needs) returns-5 (λ c κs. search needs) returns-6)
+grant-number-spec = tie.close (tie.spec (λ c κs. search rules) (λ c κs. search rules) returns
+    (λ c κs. search rules) returns-2 (λ c κs. search rules) returns-3 (λ c κs. search rules) returns-4
+    (λ c κs. search rules) returns-5 (λ c κs. search rules) returns-6)

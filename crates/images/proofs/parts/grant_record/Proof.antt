@@ -1,7 +1,7 @@
 -- `parts::grant_record` meets its contract.
 use mathlib.Core.Path.{sym, ap, ◌∙◌}
 use native.Mathlib.Omega.{arith}
-use borrow.Author.{Tests.{lt-ltb, le-ltb}, Needs.needs}
+use borrow.Author.{Tests.{lt-ltb, le-ltb}, Rules.rules}
 use Rattle.images.specs.Images.{grant_record}
 use Rattle.images.proofs.RecordLaws.{low-record-descriptor}
 use Rattle.counters.specs.declared.Used.{Used}
@@ -24,4 +24,4 @@ returns-2 c = let read = c.before.before.before in let start = read.before.befor
 
 pub grant-record-spec : {M : Type 1} → Rattle.images.proofs.parts.grant_record.Statement.statement M
 grant-record-spec = tie.close
-    (tie.spec (λ c κs. search needs) (λ c κs. search needs) returns (λ c κs. search needs) returns-2)
+    (tie.spec (λ c κs. search rules) (λ c κs. search rules) returns (λ c κs. search rules) returns-2)

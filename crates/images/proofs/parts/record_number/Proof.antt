@@ -1,7 +1,7 @@
 -- `parts::record_number` meets its contract.
 use mathlib.Core.Path.{ap, ◌∙◌}
 use native.Mathlib.Omega.{arith}
-use borrow.Author.{Tests.{lt-ltb, le-ltb}, Needs.needs}
+use borrow.Author.{Tests.{lt-ltb, le-ltb}, Rules.rules}
 use Rattle.state.specs.declared.journal.WriteRecord.{WriteRecord}
 use Rattle.standings.specs.Table.{place_number}
 use Rattle.images.specs.Images.{record_code, record_number}
@@ -25,5 +25,5 @@ returns-3 c = let i = c.before.before.before.args.i in
     (ap (λ (w : WriteRecord). w.length) c.grant-record3.ensures.1)
 
 pub record-number-spec : {M : Type 1} → Rattle.images.proofs.parts.record_number.Statement.statement M
-record-number-spec = tie.close (tie.spec (λ c. search needs) (λ c κs. omega arith) (λ c κs. search needs)
-    returns (λ c κs. omega arith) (λ c κs. search needs) returns-2 (λ c κs. omega arith) returns-3)
+record-number-spec = tie.close (tie.spec (λ c. search rules) (λ c κs. omega arith) (λ c κs. search rules)
+    returns (λ c κs. omega arith) (λ c κs. search rules) returns-2 (λ c κs. omega arith) returns-3)

@@ -1,7 +1,7 @@
 -- `parts::table_number` meets its contract.
 use mathlib.Core.Path.{refl, ap}
 use native.Mathlib.Omega.{arith}
-use borrow.Author.{Tests.{lt-ltb, le-ltb}, Needs.needs}
+use borrow.Author.{Tests.{lt-ltb, le-ltb}, Rules.rules}
 use Rattle.windows.specs.declared.Window.{Window}
 use Rattle.images.specs.Images.{table_number}
 use Rattle.images.proofs.parts.table_number.Tie as tie
@@ -44,5 +44,5 @@ returns-6 c = let i = c.before.before.before.before.before.before.args.i in rw (
 
 pub table-number-spec : {M : Type 1} → Rattle.images.proofs.parts.table_number.Statement.statement M
 table-number-spec = tie.close (tie.spec (λ c. unfold table_number in let i = c.before.args.i in
-    rw (lt-ltb i 1 (omega arith)) (refl)) (λ c κs. search needs) returns-2 (λ c κs. search needs) returns-3
-    (λ c κs. search needs) returns-4 (λ c κs. search needs) returns-5 (λ c κs. search needs) returns-6)
+    rw (lt-ltb i 1 (omega arith)) (refl)) (λ c κs. search rules) returns-2 (λ c κs. search rules) returns-3
+    (λ c κs. search rules) returns-4 (λ c κs. search rules) returns-5 (λ c κs. search rules) returns-6)

@@ -1,7 +1,7 @@
 -- `young::record_from` meets its contract.
 use native.Mathlib.Omega.{arith}
 use mathlib.Core.Path.{sym}
-use borrow.Author.{Tests.{lt-ltb, le-ltb}, Needs.needs}
+use borrow.Author.{Tests.{lt-ltb, le-ltb}, Rules.rules}
 use Rattle.state.specs.Journal.{decoded_as, decoded}
 use Rattle.images.specs.Images.{record_from}
 use Rattle.images.proofs.young.record_from.Tie as tie
@@ -19,5 +19,5 @@ returns-2 c = let h = c.before.before.before.word_at in let p = c.before.before.
     (omega arith, rw (sym h.ensures, sym p.ensures, sym n.ensures, le-ltb _ 16 c.if1.false))
 
 pub record-from-spec : {M : Type 1} → Rattle.images.proofs.young.record_from.Statement.statement M
-record-from-spec = tie.close (tie.spec (λ c. search needs) (λ c κs. search needs) (λ c. search needs)
-    (λ c κs. search needs) (λ c. search needs) (λ c κs. search needs) returns returns-2)
+record-from-spec = tie.close (tie.spec (λ c. search rules) (λ c κs. search rules) (λ c. search rules)
+    (λ c κs. search rules) (λ c. search rules) (λ c κs. search rules) returns returns-2)

@@ -1,6 +1,6 @@
 -- `layout::clear` meets its contract. The loop's invariant: the numbers before i are 0, the others as they were.
 -- Nothing of a list is left past its length.
-use borrow.Author.{Needs.needs, Fill.{fill_none, fill_more}}
+use borrow.Author.{Rules.rules, Fill.{fill_none, fill_more}}
 use mathlib.Core.{List.{List, ◌++◌, append-nil}, Path.{◌≡◌, ap, ◌∙◌}}
 use native.Mathlib.Omega.{arith}
 use lib.ListN.{length, drop, set, replicate, drop_of_length-le}

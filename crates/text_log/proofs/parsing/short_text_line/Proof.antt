@@ -1,7 +1,7 @@
 -- The length is tested first.
 use native.Mathlib.Omega.{arith}
 use lib.ListN.{length, drop, length-drop}
-use borrow.Author.{Needs.needs, Tests.{le-leb, lt-leb}}
+use borrow.Author.{Rules.rules, Tests.{le-leb, lt-leb}}
 use Rattle.text_log.proofs.ReadingLaws.{other-entry}
 use Rattle.text_log.proofs.parsing.short_text_line.Tie as tie
 
@@ -15,4 +15,4 @@ returns-2 c = let line = c.before.before.before.before.before.before.before.args
     c.before.before.text-line.ensures
 
 pub short-text-line-spec : {M : Type 1} → Rattle.text_log.proofs.parsing.short_text_line.Statement.statement M
-short-text-line-spec = tie.close (tie.spec returns (λ c κs. search needs) (λ c. search needs) returns-2)
+short-text-line-spec = tie.close (tie.spec returns (λ c κs. search rules) (λ c. search rules) returns-2)

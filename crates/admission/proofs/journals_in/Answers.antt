@@ -1,0 +1,26 @@
+-- `admission::journals_in` meets its contract.
+use mathlib.Core.{Path.{sym, ◌≡◌}, Bool.true}
+use Rattle.limits.specs.Limits.{transaction_count}
+use Rattle.admission.specs.FirstRefusal.{below}
+use Rattle.admission.proofs.{Laws.{below-zero, below_more, below_at, below_fails, failed, test-held}, Tests.records_in}
+use Prim.Native.Nat.{◌-◌, ◌≤◌}
+use native.Mathlib.Omega.{arith}
+use borrow.Author.Rules.{rules}
+use Rattle.admission.proofs.journals_in.Goals as goal
+
+pub loop-t-init : goal.loop-t-init
+loop-t-init c = (omega arith, below-zero _)
+
+pub journal_in-requires : goal.journal_in-requires
+journal_in-requires c = let pre = c.requires in
+    (omega arith, below_at _ 8 _ pre.0 (omega arith), below_at _ 8 _ pre.1 (omega arith))
+
+pub returns-then-not-journal_in : goal.returns-then-not-journal_in
+returns-then-not-journal_in c = sym (below_fails _ c.loop-t.t 8 (omega arith)
+    (failed c.journal_in.ensures c.if-not-journal_in.true))
+
+pub loop-t-preserved : goal.loop-t-preserved
+loop-t-preserved c = (
+  omega arith,
+  below_more _ _ c.loop-t.invariant.1 (test-held c.journal_in.ensures c.if-not-journal_in.false),
+)

@@ -6,6 +6,8 @@ use Rattle.admission.proofs.{Laws.{below-zero, below_more, below_at, below_fails
 use Prim.Native.Nat.{◌-◌, ◌≤◌}
 use native.Mathlib.Omega.{arith}
 use borrow.Author.Rules.{rules}
+use mathlib.Core.Bool.{not}
+use mathlib.Core.Path.{ap}
 use Rattle.admission.proofs.journals_in.Goals as goal
 
 pub loop-t-init : goal.loop-t-init
@@ -17,10 +19,10 @@ journal_in-requires c = let pre = c.requires in
 
 pub returns-then-not-journal_in : goal.returns-then-not-journal_in
 returns-then-not-journal_in c = sym (below_fails _ c.loop-t.t 8 (omega arith)
-    (failed c.journal_in.ensures c.if-not-journal_in.true))
+    (failed c.journal_in.ensures (ap not c.if-not-journal_in.true)))
 
 pub loop-t-preserved : goal.loop-t-preserved
 loop-t-preserved c = (
   omega arith,
-  below_more _ _ c.loop-t.invariant.1 (test-held c.journal_in.ensures c.if-not-journal_in.false),
+  below_more _ _ c.loop-t.invariant.1 (test-held c.journal_in.ensures (ap not c.if-not-journal_in.false)),
 )

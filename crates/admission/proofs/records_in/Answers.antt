@@ -8,6 +8,7 @@ use Rattle.admission.proofs.Tests.{record-decides, lengths_none, lengths-more, a
 use Prim.Native.Nat.{◌-◌, ◌*◌, ◌≤◌}
 use native.Mathlib.Omega.{arith}
 use borrow.Author.Rules.{rules}
+use mathlib.Core.Bool.{not}
 use Rattle.admission.proofs.records_in.Goals as goal
 
 pub loop-k-init : goal.loop-k-init
@@ -18,7 +19,7 @@ unfolding journal_passes
 returns-then-not-ends_by c = let at-loop = c in let a = at-loop.args in let k = at-loop.loop-k.k in
     let x = transaction_of a.state.now a.t in let w = write_record_at (journal_of a.state.now) a.t k in
     and-fails _ _ (below_fails _ k _ (omega arith)
-    (failed (c.ends_by.ensures ∙ record-decides x w at-loop.requires.2) c.if-not-ends_by.true))
+    (failed (c.ends_by.ensures ∙ record-decides x w at-loop.requires.2) (ap not c.if-not-ends_by.true)))
 
 pub loop-k-preserved : goal.loop-k-preserved
 loop-k-preserved c = let at_test = c in let at-loop = at_test in
@@ -26,7 +27,7 @@ loop-k-preserved c = let at_test = c in let at-loop = at_test in
     let w = write_record_at (journal_of a.state.now) a.t at-loop.loop-k.k in (
       omega arith,
       below_more _ _ at-loop.loop-k.invariant.1 (test-held (at_test.ends_by.ensures
-          ∙ record-decides x w at-loop.requires.2) at_test.if-not-ends_by.false),
+          ∙ record-decides x w at-loop.requires.2) (ap not at_test.if-not-ends_by.false)),
       lengths-more _ _ _ _ _ at-loop.loop-k.invariant.2 (c.wide-sum.ensures.0 ∙ c.record_length.ensures),
       omega arith,
     )

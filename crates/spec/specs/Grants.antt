@@ -1,6 +1,6 @@
 -- The granted transactions of a list of calls, and the list of calls that runs them again alone.
 use Rattle.std.specs.Prelude.{List, [], ◌∷◌, ◌++◌, map, replicate, ℕ}
-use Rattle.std.proofs.Math.Option.{Option·elim}
+use Rattle.std.proofs.Math.Option.{Option-elim}
 use Rattle.windows.specs.Windows.{fresh_windows}
 use Rattle.state.specs.Outcomes.{Said, done_answer, granted}
 use Rattle.spec.specs.Messages.{Call, begin, on, commit, abort, places, set_window, undo_commit}
@@ -56,7 +56,7 @@ serial_by (places t f out) p s = s
 serial_by (set_window f start end) p s = s
 serial_by undo_commit p s =
     let n = refusal_of (plain_call undo_commit p).reply.answer in
-    Option·elim n (dropped_from s.start s.grants) (λ k. s)
+    Option-elim n (dropped_from s.start s.grants) (λ k. s)
 serial_by (best_order ts minute budget) p s = s
 
 unfoldable pub serial_from : List Call → Plain → Serial → Serial

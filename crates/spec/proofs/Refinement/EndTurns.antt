@@ -7,7 +7,7 @@ use borrow.Author.Tests.{leb-true}
 use Rattle.limits.specs.Limits.{transaction_count, last_transaction}
 use Rattle.windows.specs.Windows.{minute_in}
 use Rattle.state.specs.StoreMeaning.{transaction, window_at, ended, begun}
-use Rattle.admission.{specs.{Admission.admission_of_begin, FirstRefusal.unless}, proofs.Laws.in_range}
+use Rattle.admission.{specs.{Admission.admission_of_begin, FirstRefusal.unless}, proofs.Laws.in-range}
 use Rattle.spec.specs.{Commits.{fits, commit_refusal}, Windows.for_closed, Messages.{begin, commit, abort, places}}
 use Rattle.spec.specs.Machine.{Machine, file_of, values, txn_of}
 use Rattle.spec.specs.Calls.{answer_with, refuse_turn, passing, begin_turn, abort_turn, commit_decided, settings_of, commit_turn}

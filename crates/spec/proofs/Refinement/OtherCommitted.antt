@@ -1,6 +1,6 @@
 -- A state with other committed offsets and lengths and other transactions: when its ranges hold, and which transactions mean the
 -- same in it.
-use mathlib.Core.{Bool.{true, false, ◌&&◌}, List.List, Logic.{◌⊎◌, inl, inr}, Path.{◌≡◌, refl, sym, ap, ◌∙◌, fun_ext}}
+use mathlib.Core.{Bool.{true, false, ◌&&◌}, List.List, Logic.{◌⊎◌, inl, inr}, Path.{◌≡◌, refl, sym, ap, ap₂, ◌∙◌, fun_ext}}
 use lib.{ListN.{length, get_or, replicate, length-replicate}, Dec.leb}
 use Prim.Native.Nat.{ℕ, zero, suc, ◌≤◌, ◌<◌}
 use native.Mathlib.Omega.{arith}
@@ -12,6 +12,8 @@ use Rattle.state.specs.StoreMeaning.{transaction, standing_at, dirty_at, no_desc
 use Rattle.state.specs.{StoreMeaning.{with_lengths, with_transactions}, Journal.write_record_at}
 use Rattle.admission.specs.{FirstRefusal.sum, Admission.{standing_in, place_in, record_in, lengths_before}}
 use Rattle.admission.proofs.Laws.{TransactionInRange, InRange}
+use Rattle.buffers.specs.Parts.{tabulate}
+use Rattle.spec.specs.Transactions.{Txn}
 use Rattle.spec.specs.{Machine.{txn_of, write_at, data_start, values}, Items.{Item, byte, offset, file_length}}
 use Rattle.spec.proofs.Refinement.Relation.{Shaped}
 
@@ -87,7 +89,17 @@ module _ (offsets lengths : List ℕ) (ts : List Transaction) (s : StoreMeaning)
   -- It stands for the same writes and standings.
   pub alike-txn : (logs : List ℕ) → AlikeElsewhere (transaction s u) (get_or ts u no_transaction)
       → txn_of (renewed offsets lengths ts s) journal logs u ≡ txn_of s journal logs u
-  alike-txn logs a = unfold txn_of write_at data_start in rw (a.descriptors, a.used)
+  alike-txn logs a = unfold txn_of in ap₂ made a.descriptors used
+    where
+      made : List Descriptor → ℕ → Txn
+      made ds n = record {
+        standing = λ d. (get_or ds d no_descriptor).standing;
+        dirty = λ d. (get_or ds d no_descriptor).dirty;
+        writes = tabulate (write_at journal logs u) n;
+      }
+
+      used : (get_or ts u no_transaction).used.records ≡ (transaction s u).used.records
+      used = rw a.used refl
 
 -- What becomes of a transaction at the end of another: it stays, or it is bare.
 abbrev pub Carried : Transaction → Transaction → Type 0

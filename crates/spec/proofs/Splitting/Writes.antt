@@ -132,9 +132,9 @@ some-split test h xs ys (here d q a b ws) = sym (or_assoc (test (through d q a))
 some-split test h xs ys (there w ws vs s) = ap (λ (c : Bool). test w || c) (some-split test h ws vs s)
 
 pub unplaced-split : (file_of : ℕ → ℕ) (f : ℕ) (xs ys : List Write) → Split xs ys → unplaced file_of f xs ≡ unplaced file_of f ys
-unfolding unplaced
+unfolding unplaced unplaced_on
 unplaced-split file_of f = some-split (unplaced_on file_of f)
-    (λ d q a b. unfold unplaced_on in waiting (eqb (file_of d) f) q (length a))
+    (λ d q a b. waiting (eqb (file_of d) f) q (length a))
   where
     waiting : (t : Bool) (q : Place) (n : ℕ) → ((t && no_place q) || (t && no_place (further n q))) ≡ (t && no_place q)
     waiting false q n = refl

@@ -8,7 +8,7 @@ use Prim.Native.Nat.{ℕ, zero, suc}
 use Rattle.limits.specs.Limits.{last_transaction}
 use Rattle.windows.specs.Windows.{minute_in}
 use Rattle.state.specs.Outcomes.{done_answer}
-use Rattle.admission.{specs.FirstRefusal.guarded, proofs.Laws.in_range}
+use Rattle.admission.{specs.FirstRefusal.guarded, proofs.Laws.in-range}
 use Rattle.spec.specs.Items.{byte, offset, file_length, Values}
 use Rattle.spec.specs.Messages.{Call, begin, on, commit, abort, places, set_window, undo_commit, best_order, Reply, is_grant}
 use Rattle.spec.specs.{Messages.{grants_among, after_all, replies_to}, Commits.{fits, commit_refusal}, Windows.for_closed}

@@ -1,0 +1,68 @@
+-- `records::place_records` meets its contract. The loop's invariant: the records below `k` are placed.
+use mathlib.Core.{Logic.⊎_elim, Path.{◌≡◌, ap, ◌∙◌}}
+use native.Mathlib.Omega.{arith}
+use borrow.Author.Rules.{rules}
+use Prim.Native.Nat.{ℕ, ◌-◌, ◌≤◌, ◌<◌}
+use Rattle.limits.specs.Limits.{file_bytes, descriptor_count, record_count}
+use Rattle.standings.specs.Table.{place_number}
+use Rattle.state.specs.{Journal.write_record_at, Layout.journal_of}
+use Rattle.read_settle.specs.Records.{PlacedIn}
+use Rattle.read_settle.proofs.RecordLaws.{after-preserved, after-placed, after-settled, placed-none, next-record}
+use Rattle.read_settle.proofs.RecordLaws.{offset-preserved, one_placed, one-preserved}
+use Rattle.read_settle.proofs.records.place_records.Goals as goal
+use Rattle.read_settle.proofs.records.place_records.Tie as tie
+
+-- The record that is looked at: it is not changed yet, and in range.
+abbrev start_of : tie.After-record_at-w goal.the-invariant-loop-k goal.the-decreases-loop-k → tie.Start goal.the-invariant-loop-k goal.the-decreases-loop-k
+start_of c = c
+
+abbrev at : tie.After-record_at-w goal.the-invariant-loop-k goal.the-decreases-loop-k → ℕ
+at c = c.loop-k.k
+
+few : (c : tie.After-record_at-w goal.the-invariant-loop-k goal.the-decreases-loop-k) → at c < record_count
+few c = omega (arith, (start_of c).requires.few)
+
+small : (c : tie.After-record_at-w goal.the-invariant-loop-k goal.the-decreases-loop-k) → (start_of c).args.t < 9
+small c = omega (arith, (start_of c).requires.small)
+
+looked-at : (c : tie.After-record_at-w goal.the-invariant-loop-k goal.the-decreases-loop-k)
+    → c.record_at-w.result ≡ write_record_at (journal_of (start_of c).args.state.now) (start_of c).args.t (at c)
+looked-at c = let l = c.loop-k in
+    c.record_at-w.ensures ∙ next-record _ _ _ _ _ l.invariant.1 (small c) (few c)
+
+low-descriptor : (c : tie.After-record_at-w goal.the-invariant-loop-k goal.the-decreases-loop-k) → c.record_at-w.result.descriptor < descriptor_count
+low-descriptor c = rw (looked-at c) ((start_of c).requires.descriptors (at c) (omega arith))
+
+low-place : (c : tie.After-record_at-w goal.the-invariant-loop-k goal.the-decreases-loop-k) → place_number c.record_at-w.result.place ≤ file_bytes
+low-place c = rw (looked-at c) ((start_of c).requires.places (at c) (omega arith))
+
+pub loop-k-init : goal.loop-k-init
+loop-k-init c = (omega arith, placed-none _ _ _ c.requires.long)
+
+pub bounds-chosen-d : goal.bounds-chosen-d
+bounds-chosen-d c = omega (arith, c.wide-d.ensures.0, low-descriptor c)
+
+pub overflow_add-c : goal.overflow_add-c
+overflow_add-c c = let called = c in let d = called.wide-d in
+    let looked = called in
+    let l = looked.loop-k in
+    let low : d.result < 16 = omega (arith, d.ensures.0, low-descriptor looked) in omega (
+      arith,
+      ap place_number called.in-After.is,
+      low-place looked,
+      called.offset_at-c.ensures,
+      offset-preserved _ _ _ _ _ l.invariant.1 d.result,
+      (start_of looked).requires.committed d.result low,
+    )
+
+pub loop-k-preserved : goal.loop-k-preserved
+loop-k-preserved c = let looked = c in let l = looked.loop-k in let a = (start_of looked).args in
+    let w = looked.record_at-w.result in let so_far = l.invariant.1 in
+    let state = one-preserved _ _ _ _ _ so_far (small looked) (few looked) w looked.record_at-w.ensures in
+    let placed = one_placed _ _ _ _ _ so_far (small looked) (few looked) w looked.record_at-w.ensures in (
+      omega arith,
+      ⊎_elim (λ v. placed _ _ (v.9 ∙ v.8.ensures) (after-settled _ _ w _ v.3.ensures.0 _ v.1.given.1
+          v.4.taken _ (v.6.ensures ∙ offset-preserved _ _ _ _ _ so_far _)))
+          (⊎_elim (λ v. state _ v.5 (after-preserved _ _ w _ v.3.ensures.0 v.4.left))
+          (λ v. state _ v.2 (after-placed _ _ w _ v.1.given.1))) c.in-After.branch,
+    )

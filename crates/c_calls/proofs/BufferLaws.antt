@@ -7,7 +7,7 @@ use Rattle.spec.specs.{Machine.Machine, Calls.Turn, Promises.{Lent, machine_of, 
 use Rattle.c_codes.{specs.Codes.{code_of, AnswersAsCode}, proofs.CodeLaws.left-of}
 
 pub answers-elsewhere : (rule : Machine → Turn) (state files logs marks undo : Lent) (before after : Machine) (o : Outcome)
-    (reader : List ℕ) (r : ℤ) → Meets (rule before) o after reader × LeftAsFound o state.entry.now state.exit.now
+    (reader : List ℕ) (r : ℤ) → Meets (rule before) o after reader × LeftAsFound o state.entry state.exit
     → r ≡ code_of (said o) → before ≡ handed state files logs marks undo → after ≡ handed_back state files logs marks undo
     → AnswersAsCode rule state files logs marks undo r reader
 answers-elsewhere rule state files logs marks undo before after o reader r h e same back = let answer = h.0.outcome

@@ -1,6 +1,5 @@
 -- The four buffers as they lie in a store's block, one behind the other: files, logs, marks, undo log.
 use Rattle.std.specs.Prelude.{[], ℕ, ◌+◌, ℤ}
-use denote.Ref.{at_last}
 use Rattle.limits.specs.Limits.{file_bytes, buffer_bytes}
 use Rattle.buffers.specs.Parts.{cut}
 use Rattle.spec.specs.Machine.{Machine}
@@ -12,8 +11,8 @@ use Rattle.c_codes.specs.Codes.{AnswersAsCode}
 abbrev pub part_of : Lent → ℕ → ℕ → Lent
 part_of b at n =
     record {
-      entry = at_last b.entry (cut b.entry.now at n);
-      exit = at_last b.exit (cut b.exit.now at n);
+      entry = cut b.entry at n;
+      exit = cut b.exit at n;
     }
 
 -- The promise of a call that is lent all four as one array.

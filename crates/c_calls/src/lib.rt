@@ -4,6 +4,7 @@
 #![tactic(auto)]
 mod readers;
 
+ghost use Rattle.spec.specs.Promises.{lent_mut, lent_shared};
 ghost use Rattle.std.specs.Prelude.{[]};
 ghost use Rattle.spec.specs.Messages.{Call, Op};
 ghost use Rattle.spec.specs.Calls.{call, fresh as fresh_rule};
@@ -37,7 +38,7 @@ pub extern "C" fn luzhanem_parts_fresh(
     undo: &UndoLog,
     numbers: &[u8],
 ) -> i32
-    ensures { AnswersAsCode (fresh_rule numbers.now) state files logs marks undo result [] }
+    ensures { AnswersAsCode (fresh_rule numbers.now) (lent_mut state.old state.new) (lent_mut files.old files.new) (lent_shared logs.now) (lent_mut marks.old marks.new) (lent_shared undo.now) result [] }
 {
     code(store::fresh(state, files, logs, marks, undo, numbers))
 }
@@ -52,7 +53,7 @@ pub extern "C" fn luzhanem_parts_begin(
     undo: &UndoLog,
     t: usize,
 ) -> i32
-    ensures { AnswersAsCode (call (Call.begin t)) state files logs marks undo result [] }
+    ensures { AnswersAsCode (call (Call.begin t)) (lent_mut state.old state.new) (lent_shared files.now) (lent_shared logs.now) (lent_mut marks.old marks.new) (lent_shared undo.now) result [] }
 {
     code(store::begin(state, files, logs, marks, undo, t))
 }
@@ -67,7 +68,7 @@ pub extern "C" fn luzhanem_parts_seek(
     v: usize,
     buffers: &Buffers,
 ) -> i32
-    ensures { AnswersInBlock (call (Call.on t (Op.seek d v))) state buffers result }
+    ensures { AnswersInBlock (call (Call.on t (Op.seek d v))) (lent_mut state.old state.new) (lent_shared buffers.now) result }
 {
     let files = part(buffers, 0, BUFFER_BYTES);
     let logs = part(buffers, LOGS_AT, BUFFER_BYTES);
@@ -89,7 +90,7 @@ pub extern "C" fn luzhanem_parts_write(
     bytes: &[u8],
 ) -> i32
     ensures { AnswersAsCode (call (Call.on t (Op.write d bytes.now)))
-        state files logs marks undo result [] }
+        (lent_mut state.old state.new) (lent_shared files.now) (lent_mut logs.old logs.new) (lent_shared marks.now) (lent_shared undo.now) result [] }
 {
     code(store::write(state, files, logs, marks, undo, t, d, bytes))
 }
@@ -102,7 +103,7 @@ pub extern "C" fn luzhanem_parts_get_file_pointer(
     d: usize,
     buffers: &Buffers,
 ) -> i32
-    ensures { AnswersInBlock (call (Call.on t (Op.get_file_pointer d))) state buffers result }
+    ensures { AnswersInBlock (call (Call.on t (Op.get_file_pointer d))) (lent_mut state.old state.new) (lent_shared buffers.now) result }
 {
     let files = part(buffers, 0, BUFFER_BYTES);
     let logs = part(buffers, LOGS_AT, BUFFER_BYTES);
@@ -125,7 +126,7 @@ pub extern "C" fn luzhanem_parts_read<'a>(
     reader: &mut [u8],
 ) -> i32
     ensures { AnswersAsCode (call (Call.on t (Op.read d n reader.old)))
-        state files logs marks undo result reader.new }
+        (lent_mut state.old state.new) (lent_shared files.now) (lent_shared logs.now) (lent_mut marks.old marks.new) (lent_shared undo.now) result reader.new }
 {
     code(store::read(state, files, logs, marks, undo, t, d, n, reader))
 }
@@ -143,7 +144,7 @@ pub extern "C" fn luzhanem_parts_places(
     out: &mut [u8],
 ) -> i32
     ensures { AnswersAsCode (call (Call.places t f out.old))
-        state files logs marks undo result out.new }
+        (lent_shared state.now) (lent_shared files.now) (lent_shared logs.now) (lent_shared marks.now) (lent_shared undo.now) result out.new }
 {
     code(store::places(state, files, logs, marks, undo, t, f, out))
 }
@@ -159,7 +160,7 @@ pub extern "C" fn luzhanem_parts_commit(
     t: usize,
     minute: usize,
 ) -> i32
-    ensures { AnswersAsCode (call (Call.commit t minute)) state files logs marks undo result [] }
+    ensures { AnswersAsCode (call (Call.commit t minute)) (lent_mut state.old state.new) (lent_mut files.old files.new) (lent_shared logs.now) (lent_mut marks.old marks.new) (lent_mut undo.old undo.new) result [] }
 {
     code(store::commit(state, files, logs, marks, undo, t, minute))
 }
@@ -174,7 +175,7 @@ pub extern "C" fn luzhanem_parts_abort(
     undo: &UndoLog,
     t: usize,
 ) -> i32
-    ensures { AnswersAsCode (call (Call.abort t)) state files logs marks undo result [] }
+    ensures { AnswersAsCode (call (Call.abort t)) (lent_mut state.old state.new) (lent_shared files.now) (lent_shared logs.now) (lent_mut marks.old marks.new) (lent_shared undo.now) result [] }
 {
     code(store::abort(state, files, logs, marks, undo, t))
 }
@@ -191,7 +192,7 @@ pub extern "C" fn luzhanem_parts_set_window(
     start: usize,
     end: usize,
 ) -> i32
-    ensures { AnswersAsCode (call (Call.set_window f start end)) state files logs marks undo result [] }
+    ensures { AnswersAsCode (call (Call.set_window f start end)) (lent_mut state.old state.new) (lent_shared files.now) (lent_shared logs.now) (lent_shared marks.now) (lent_shared undo.now) result [] }
 {
     code(store::set_window(state, files, logs, marks, undo, f, start, end))
 }
@@ -205,7 +206,7 @@ pub extern "C" fn luzhanem_parts_undo(
     marks: &Buffer,
     undo: &UndoLog,
 ) -> i32
-    ensures { AnswersAsCode (call Call.undo_commit) state files logs marks undo result [] }
+    ensures { AnswersAsCode (call Call.undo_commit) (lent_mut state.old state.new) (lent_mut files.old files.new) (lent_shared logs.now) (lent_shared marks.now) (lent_shared undo.now) result [] }
 {
     code(store::undo_commit(state, files, logs, marks, undo))
 }
@@ -226,7 +227,7 @@ pub extern "C" fn luzhanem_parts_best_order<'a>(
     numbers: &mut [u16; 2],
 ) -> i32
     ensures { Orders (call (Call.best_order list.now minute budget))
-        state files logs marks undo result order.new numbers.new }
+        (lent_shared state.now) (lent_shared files.now) (lent_shared logs.now) (lent_shared marks.now) (lent_shared undo.now) result order.new numbers.new }
 {
     let b = best_order(state, files, logs, marks, undo, list, minute, budget);
     let o = b.outcome;

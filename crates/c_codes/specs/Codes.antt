@@ -32,7 +32,7 @@ pub record AnswersAsCode (rule : Machine → Turn) (state files logs marks undo 
   pub buffer : reader ≡ (rule (handed state files logs marks undo)).reply.buffer
   pub left :
       (n : ℕ) → (rule (handed state files logs marks undo)).reply.answer ≡ refused n → (n ≡ 13 → ⊥)
-      → state.exit.now ≡ state.entry.now
+      → state.exit ≡ state.entry
 
 -- Of an order's answer the gap and the number of orders tried; 0 of any other.
 unfoldable pub gap_in : Said → ℕ

@@ -21,9 +21,9 @@ load_rule numbers files undo m =
 
 -- The image of a store that passes check 2; where it does not, the image is left.
 pub record SavedImage (m : Machine) (numbers files undo : Lent) : Type 0 where
-  pub numbers_put : numbers.exit.now ≡ cond (store_in m.store m.journal) (image_numbers m) numbers.entry.now
-  pub files_put : files.exit.now ≡ cond (store_in m.store m.journal) m.files files.entry.now
-  pub undo_put : undo.exit.now ≡ cond (store_in m.store m.journal) m.undo undo.entry.now
+  pub numbers_put : numbers.exit ≡ cond (store_in m.store m.journal) (image_numbers m) numbers.entry
+  pub files_put : files.exit ≡ cond (store_in m.store m.journal) m.files files.entry
+  pub undo_put : undo.exit ≡ cond (store_in m.store m.journal) m.undo undo.entry
 
 -- The number of the state's layout (LayoutNumber.antt), which `luzhanem_layout` answers.
 abbrev pub layout_number : ℤ

@@ -6,7 +6,7 @@ mod loading;
 mod saving;
 
 ghost use Rattle.std.specs.Prelude.{[], ◌≡◌};
-ghost use Rattle.spec.specs.Promises.{handed};
+ghost use Rattle.spec.specs.Promises.{lent_mut, lent_shared, machine_of};
 ghost use Rattle.c_codes.specs.Codes.{AnswersAsCode};
 ghost use Rattle.c_images.specs.ImageCalls.{check_rule, load_rule, SavedImage, layout_number};
 
@@ -24,7 +24,7 @@ pub extern "C" fn luzhanem_parts_check(
     marks: &Buffer,
     undo: &UndoLog,
 ) -> i32
-    ensures { AnswersAsCode check_rule state files logs marks undo result [] }
+    ensures { AnswersAsCode check_rule (lent_shared state.now) (lent_shared files.now) (lent_shared logs.now) (lent_shared marks.now) (lent_shared undo.now) result [] }
 {
     code(saving::check_state(state, files, logs, marks, undo))
 }
@@ -41,8 +41,8 @@ pub extern "C" fn luzhanem_parts_save(
     bytes: &mut Buffer,
     old: &mut UndoLog,
 ) -> i32
-    ensures { AnswersAsCode check_rule state files logs marks undo result []
-        × SavedImage (handed state files logs marks undo) numbers bytes old }
+    ensures { AnswersAsCode check_rule (lent_shared state.now) (lent_shared files.now) (lent_shared logs.now) (lent_shared marks.now) (lent_shared undo.now) result []
+        × SavedImage (machine_of state.now files.now logs.now marks.now undo.now) (lent_mut numbers.old numbers.new) (lent_mut bytes.old bytes.new) (lent_mut old.old old.new) }
 {
     let o = saving::save_image(state, files, logs, marks, undo, numbers, bytes, old);
     code(o)
@@ -62,7 +62,7 @@ pub extern "C" fn luzhanem_parts_load(
 ) -> i32
     ensures { AnswersAsCode
         (load_rule numbers.now bytes.now old.now)
-        state files logs marks undo result [] }
+        (lent_mut state.old state.new) (lent_mut files.old files.new) (lent_shared logs.now) (lent_mut marks.old marks.new) (lent_mut undo.old undo.new) result [] }
 {
     let o = loading::load_image(state, files, logs, marks, undo, numbers, bytes, old);
     code(o)

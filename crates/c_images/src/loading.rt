@@ -1,6 +1,6 @@
 // Loading.
 ghost use Rattle.std.specs.Prelude.{[], ◌≡◌, length, replicate};
-ghost use Rattle.spec.specs.Promises.{Follows};
+ghost use Rattle.spec.specs.Promises.{Follows, lent_mut, lent_shared};
 ghost use Rattle.c_images.specs.ImageCalls.{load_rule};
 
 use crate::saving::{copy, range_gate};
@@ -38,7 +38,7 @@ pub fn load_image(
 ) -> Outcome
     ensures { Follows
         (load_rule numbers.now bytes.now old.now)
-        state files logs marks undo result [] }
+        (lent_mut state.old state.new) (lent_mut files.old files.new) (lent_shared logs.now) (lent_mut marks.old marks.new) (lent_mut undo.old undo.new) result [] }
 {
     if word_at(numbers, 0) != FORMAT {
         return Outcome::Refused(Refusal::BufferLength);

@@ -3,7 +3,7 @@ ghost use Rattle.std.specs.Prelude.{[], ◌≡◌, length};
 ghost use Rattle.state.specs.Layout.{store_of, journal_of};
 ghost use Rattle.admission.specs.FirstRefusal.{unless};
 ghost use Rattle.admission.specs.Admission.{store_in, gate_number};
-ghost use Rattle.spec.specs.Promises.{Follows, handed};
+ghost use Rattle.spec.specs.Promises.{Follows, lent_mut, lent_shared, machine_of};
 ghost use Rattle.c_images.specs.ImageCalls.{check_rule, SavedImage};
 
 use admission::{Gate, first_tests};
@@ -38,7 +38,7 @@ pub fn check_state(
     marks: &Buffer,
     undo: &UndoLog,
 ) -> Outcome
-    ensures { Follows check_rule state files logs marks undo result [] }
+    ensures { Follows check_rule (lent_shared state.now) (lent_shared files.now) (lent_shared logs.now) (lent_shared marks.now) (lent_shared undo.now) result [] }
 {
     let g = range_gate(state);
     if let Gate::Refused(r) = g {
@@ -58,8 +58,8 @@ pub fn save_image(
     bytes: &mut Buffer,
     old: &mut UndoLog,
 ) -> Outcome
-    ensures { Follows check_rule state files logs marks undo result []
-        × SavedImage (handed state files logs marks undo) numbers bytes old }
+    ensures { Follows check_rule (lent_shared state.now) (lent_shared files.now) (lent_shared logs.now) (lent_shared marks.now) (lent_shared undo.now) result []
+        × SavedImage (machine_of state.now files.now logs.now marks.now undo.now) (lent_mut numbers.old numbers.new) (lent_mut bytes.old bytes.new) (lent_mut old.old old.new) }
 {
     let g = range_gate(state);
     if let Gate::Refused(r) = g {

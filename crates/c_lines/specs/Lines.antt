@@ -9,7 +9,7 @@ use Rattle.text_log.specs.Replay.{Event, event_line}
 
 -- The line of what a caller does stands at the buffer's front, with its end; r bytes in all.
 abbrev pub PutsLine : Event → Lent → ℕ → Type 0
-PutsLine e out r = Put out.entry.now 0 (event_line e ++ (10 ∷ [])) out.exit.now r
+PutsLine e out r = Put out.entry 0 (event_line e ++ (10 ∷ [])) out.exit r
 
 -- What a call said, by the 16 bits of the number that it answered, which is below 0 for a refusal: that
 -- one, or what `result` makes of the number.
@@ -22,7 +22,7 @@ answer_line said buffer = expectation (answer_text said buffer) ++ (10 ∷ [])
 
 -- The line of an answer stands there, likewise.
 abbrev pub PutsAnswer : Said → List ℕ → Lent → ℕ → Type 0
-PutsAnswer said buffer out r = Put out.entry.now 0 (answer_line said buffer) out.exit.now r
+PutsAnswer said buffer out r = Put out.entry 0 (answer_line said buffer) out.exit r
 
 -- The same of an answer that F-5 prints.
 unfoldable pub spelled_line : Said → List ℕ → List ℕ

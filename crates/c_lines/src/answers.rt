@@ -1,5 +1,6 @@
 // The lines of answers: `= ` and what a call said. The answer comes as the 16 bits that C has of it: 32,768
 // and more is a refusal, its number taken from 65,536.
+ghost use Rattle.spec.specs.Promises.{lent_mut};
 ghost use Rattle.std.specs.Prelude.{◌∷◌, [], ◌++◌, ◌+◌, ◌-◌, ◌*◌, ◌≤◌, length, take};
 ghost use Rattle.limits.specs.Limits.{file_bytes};
 ghost use Rattle.text_numerals.specs.Decimal.{spaced_texts};
@@ -29,7 +30,7 @@ fn put_head(out: &mut [u8]) -> usize
 // A refusal.
 fn put_refusal(out: &mut [u8], r: u16) -> usize
     requires { (8238 ≤ length out.old) × (32768 ≤ r) }
-    ensures { PutsAnswer (refused (65536 - r)) [] out result }
+    ensures { PutsAnswer (refused (65536 - r)) [] (lent_mut out.old out.new) result }
 {
     let next = put_head(out);
     let next = put_number(out, next, 65536 - wide(r));
@@ -50,7 +51,7 @@ fn put_said(out: &mut [u8], o: Outcome, buffer: &[u8]) -> usize
 // ok
 #[unsafe(no_mangle)]
 pub extern "C" fn luzhanem_parts_line_done(out: &mut Text, r: u16) -> usize
-    ensures { PutsAnswer (said_by (λ _. done_answer) r) [] out result }
+    ensures { PutsAnswer (said_by (λ _. done_answer) r) [] (lent_mut out.old out.new) result }
 {
     if RESULTS <= r {
         return put_refusal(out, r);
@@ -61,7 +62,7 @@ pub extern "C" fn luzhanem_parts_line_done(out: &mut Text, r: u16) -> usize
 // ok, and an offset or the octet of those made stale.
 #[unsafe(no_mangle)]
 pub extern "C" fn luzhanem_parts_line_number(out: &mut Text, r: u16) -> usize
-    ensures { PutsAnswer (said_by pointer r) [] out result }
+    ensures { PutsAnswer (said_by pointer r) [] (lent_mut out.old out.new) result }
 {
     if RESULTS <= r {
         return put_refusal(out, r);
@@ -72,7 +73,7 @@ pub extern "C" fn luzhanem_parts_line_number(out: &mut Text, r: u16) -> usize
 // ok, and the bytes of a Read, at the front of its buffer.
 #[unsafe(no_mangle)]
 pub extern "C" fn luzhanem_parts_line_given(out: &mut Text, r: u16, bytes: &[u8]) -> usize
-    ensures { PutsAnswer (said_by given r) (take file_bytes bytes.now) out result }
+    ensures { PutsAnswer (said_by given r) (take file_bytes bytes.now) (lent_mut out.old out.new) result }
 {
     if RESULTS <= r {
         return put_refusal(out, r);
@@ -84,7 +85,7 @@ pub extern "C" fn luzhanem_parts_line_given(out: &mut Text, r: u16, bytes: &[u8]
 // ok, and offset and length of each of r places.
 fn put_places(out: &mut [u8], r: u16, bytes: &[u8]) -> usize
     requires { (8238 ≤ length out.old) × (length bytes.now ≤ 256) }
-    ensures { PutsAnswer (pairs r) bytes.now out result }
+    ensures { PutsAnswer (pairs r) bytes.now (lent_mut out.old out.new) result }
 {
     let next = put_head(out);
     let next = text_log::put_reply(out, next, Outcome::Pairs(r), bytes);
@@ -94,7 +95,7 @@ fn put_places(out: &mut [u8], r: u16, bytes: &[u8]) -> usize
 // The same of those at the front of a buffer, or a refusal.
 #[unsafe(no_mangle)]
 pub extern "C" fn luzhanem_parts_line_pairs(out: &mut Text, r: u16, bytes: &[u8]) -> usize
-    ensures { PutsAnswer (said_by pairs r) (take 256 bytes.now) out result }
+    ensures { PutsAnswer (said_by pairs r) (take 256 bytes.now) (lent_mut out.old out.new) result }
 {
     if RESULTS <= r {
         return put_refusal(out, r);
@@ -119,7 +120,7 @@ fn put_best(out: &mut [u8], at: usize, grants: u16, gap: u16, tried: u16, order:
 // ok, the grants, the gap, how many orders were tried, and the order.
 fn put_found(out: &mut [u8], grants: u16, gap: u16, tried: u16, order: &[u8]) -> usize
     requires { (8238 ≤ length out.old) × (length order.now ≤ 8) }
-    ensures { PutsAnswer (ordered grants gap tried) order.now out result }
+    ensures { PutsAnswer (ordered grants gap tried) order.now (lent_mut out.old out.new) result }
 {
     let next = put_head(out);
     let next = put_best(out, next, grants, gap, tried, order);
@@ -135,7 +136,7 @@ pub extern "C" fn luzhanem_parts_line_ordered(
     tried: u16,
     order: &[u8],
 ) -> usize
-    ensures { PutsAnswer (said_by (λ g. ordered g gap tried) r) (take 8 order.now) out result }
+    ensures { PutsAnswer (said_by (λ g. ordered g gap tried) r) (take 8 order.now) (lent_mut out.old out.new) result }
 {
     if RESULTS <= r {
         return put_refusal(out, r);

@@ -4,6 +4,7 @@
 
 mod answers;
 
+ghost use Rattle.spec.specs.Promises.{lent_mut};
 ghost use Rattle.std.specs.Prelude.{replicate};
 ghost use Rattle.spec.specs.Messages.{Call, Op};
 ghost use Rattle.text_log.specs.Replay.{Event};
@@ -17,21 +18,21 @@ pub type Text = [u8; 8238];
 
 #[unsafe(no_mangle)]
 pub extern "C" fn luzhanem_parts_line_fresh(out: &mut Text, files: &[u8]) -> usize
-    ensures { PutsLine (Event.starts files.now) out result }
+    ensures { PutsLine (Event.starts files.now) (lent_mut out.old out.new) result }
 {
     put_fresh(out, files)
 }
 
 #[unsafe(no_mangle)]
 pub extern "C" fn luzhanem_parts_line_begin(out: &mut Text, t: usize) -> usize
-    ensures { PutsLine (Event.makes (Call.begin t)) out result }
+    ensures { PutsLine (Event.makes (Call.begin t)) (lent_mut out.old out.new) result }
 {
     put_call(out, Request::Begin(t), b"", 0)
 }
 
 #[unsafe(no_mangle)]
 pub extern "C" fn luzhanem_parts_line_seek(out: &mut Text, t: usize, d: usize, v: usize) -> usize
-    ensures { PutsLine (Event.makes (Call.on t (Op.seek d v))) out result }
+    ensures { PutsLine (Event.makes (Call.on t (Op.seek d v))) (lent_mut out.old out.new) result }
 {
     put_call(out, Request::Seek(t, d, v), b"", 0)
 }
@@ -43,14 +44,14 @@ pub extern "C" fn luzhanem_parts_line_write(
     d: usize,
     bytes: &[u8],
 ) -> usize
-    ensures { PutsLine (Event.makes (Call.on t (Op.write d bytes.now))) out result }
+    ensures { PutsLine (Event.makes (Call.on t (Op.write d bytes.now))) (lent_mut out.old out.new) result }
 {
     put_call(out, Request::Write(t, d), bytes, 0)
 }
 
 #[unsafe(no_mangle)]
 pub extern "C" fn luzhanem_parts_line_get_file_pointer(out: &mut Text, t: usize, d: usize) -> usize
-    ensures { PutsLine (Event.makes (Call.on t (Op.get_file_pointer d))) out result }
+    ensures { PutsLine (Event.makes (Call.on t (Op.get_file_pointer d))) (lent_mut out.old out.new) result }
 {
     put_call(out, Request::GetFilePointer(t, d), b"", 0)
 }
@@ -63,7 +64,7 @@ pub extern "C" fn luzhanem_parts_line_read(
     n: usize,
     room: usize,
 ) -> usize
-    ensures { PutsLine (Event.makes (Call.on t (Op.read d n (replicate room 0)))) out result }
+    ensures { PutsLine (Event.makes (Call.on t (Op.read d n (replicate room 0)))) (lent_mut out.old out.new) result }
 {
     put_call(out, Request::Read(t, d, n), b"", room)
 }
@@ -75,21 +76,21 @@ pub extern "C" fn luzhanem_parts_line_places(
     f: usize,
     room: usize,
 ) -> usize
-    ensures { PutsLine (Event.makes (Call.places t f (replicate room 0))) out result }
+    ensures { PutsLine (Event.makes (Call.places t f (replicate room 0))) (lent_mut out.old out.new) result }
 {
     put_call(out, Request::Places(t, f), b"", room)
 }
 
 #[unsafe(no_mangle)]
 pub extern "C" fn luzhanem_parts_line_commit(out: &mut Text, t: usize, minute: usize) -> usize
-    ensures { PutsLine (Event.makes (Call.commit t minute)) out result }
+    ensures { PutsLine (Event.makes (Call.commit t minute)) (lent_mut out.old out.new) result }
 {
     put_call(out, Request::Commit(t, minute), b"", 0)
 }
 
 #[unsafe(no_mangle)]
 pub extern "C" fn luzhanem_parts_line_abort(out: &mut Text, t: usize) -> usize
-    ensures { PutsLine (Event.makes (Call.abort t)) out result }
+    ensures { PutsLine (Event.makes (Call.abort t)) (lent_mut out.old out.new) result }
 {
     put_call(out, Request::Abort(t), b"", 0)
 }
@@ -101,14 +102,14 @@ pub extern "C" fn luzhanem_parts_line_set_window(
     start: usize,
     end: usize,
 ) -> usize
-    ensures { PutsLine (Event.makes (Call.set_window f start end)) out result }
+    ensures { PutsLine (Event.makes (Call.set_window f start end)) (lent_mut out.old out.new) result }
 {
     put_call(out, Request::SetWindow(f, start, end), b"", 0)
 }
 
 #[unsafe(no_mangle)]
 pub extern "C" fn luzhanem_parts_line_undo(out: &mut Text) -> usize
-    ensures { PutsLine (Event.makes Call.undo_commit) out result }
+    ensures { PutsLine (Event.makes Call.undo_commit) (lent_mut out.old out.new) result }
 {
     put_call(out, Request::UndoCommit, b"", 0)
 }
@@ -120,7 +121,7 @@ pub extern "C" fn luzhanem_parts_line_best_order(
     minute: usize,
     budget: usize,
 ) -> usize
-    ensures { PutsLine (Event.makes (Call.best_order list.now minute budget)) out result }
+    ensures { PutsLine (Event.makes (Call.best_order list.now minute budget)) (lent_mut out.old out.new) result }
 {
     put_order(out, list, minute, budget)
 }

@@ -58,7 +58,7 @@ module _ (line : List ℕ) (state files logs marks undo : Lent) (entry : ParsedE
   call-turn : b ≡ false → line_rule (call_in line) m ≡ turn_of (log_entry_of entry bytes) m
   call-turn e = unfold line_rule in rw (asked ∙ e, says.means) refl
 
-  pub nothing-replayed : b ≡ true → handed_back state files logs marks undo ≡ m → state.exit.now ≡ state.entry.now
+  pub nothing-replayed : b ≡ true → handed_back state files logs marks undo ≡ m → state.exit ≡ state.entry
       → ReplaysLine line state files logs marks undo (pos 0)
   nothing-replayed e back left = unfold answer_with code_of in let w = nothing-turn e in record {
     answer = sym (ap (λ (x : Turn). code_of x.reply.answer) w);
@@ -68,7 +68,7 @@ module _ (line : List ℕ) (state files logs marks undo : Lent) (entry : ParsedE
   }
 
   pub call-replayed : (o : Outcome) (r : ℤ) (buffer : List ℕ) → b ≡ false → Replies (turn_of (log_entry_of entry bytes) m) o
-      (handed_back state files logs marks undo) buffer → LeftAsFound o state.entry.now state.exit.now
+      (handed_back state files logs marks undo) buffer → LeftAsFound o state.entry state.exit
       → r ≡ code_of (said o) → ReplaysLine line state files logs marks undo r
   call-replayed o r buffer e h left is = let w = call-turn e in
       answers (line_rule (call_in line)) state files logs marks undo o _ r (

@@ -1,5 +1,6 @@
 // A line of a log of calls, applied to a store that lies in the memory of a program in another language.
 #![tactic(auto)]
+ghost use Rattle.spec.specs.Promises.{lent_mut};
 ghost use Rattle.c_replay.specs.ReplayLine.{AsksNothing, ReplaysLine};
 
 use c_codes::code;
@@ -40,7 +41,7 @@ pub extern "C" fn luzhanem_parts_replay_line(
     undo: &mut UndoLog,
     line: &[u8],
 ) -> i32
-    ensures { ReplaysLine line.now state files logs marks undo result }
+    ensures { ReplaysLine line.now (lent_mut state.old state.new) (lent_mut files.old files.new) (lent_mut logs.old logs.new) (lent_mut marks.old marks.new) (lent_mut undo.old undo.new) result }
 {
     let mut numbers = [0usize; NUMBERS_READ];
     let mut bytes = [0u8; WRITTEN];

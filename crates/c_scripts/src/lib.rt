@@ -4,7 +4,7 @@
 mod flat_scripts;
 
 ghost use Rattle.spec_dispatch.specs.Dispatch.{dispatch as dispatch_rule};
-ghost use Rattle.spec.specs.Promises.{handed, handed_back};
+ghost use Rattle.spec.specs.Promises.{machine_of};
 ghost use Rattle.dispatcher.specs.Types.{scripts_of};
 ghost use Rattle.c_scripts.specs.FlatScripts.{scripts_from, Runs};
 
@@ -32,9 +32,9 @@ pub extern "C" fn luzhanem_parts_dispatch(
 ) -> i32
     ensures { Runs
         (dispatch_rule bytes.now minute (scripts_of (scripts_from scripts.now))
-        (handed state files logs marks undo) reader.old)
+        (machine_of state.old files.old logs.old marks.old undo.old) reader.old)
         result ended.new commits.new
-        (handed_back state files logs marks undo) reader.new
+        (machine_of state.new files.new logs.new marks.new undo.new) reader.new
         state.old state.new }
 {
     let s = scripts_of(scripts);

@@ -2,7 +2,7 @@
 ghost use Rattle.std.specs.Prelude.{[]};
 ghost use Rattle.spec.specs.Messages.{Call};
 ghost use Rattle.spec.specs.Calls.{call};
-ghost use Rattle.spec.specs.Promises.{Follows};
+ghost use Rattle.spec.specs.Promises.{Follows, lent_mut, lent_shared};
 
 use crate::granting::grant;
 use admission::Gate;
@@ -24,7 +24,7 @@ pub fn commit(
     t: usize,
     minute: usize,
 ) -> Outcome
-    ensures { Follows (call (Call.commit t minute)) state files logs marks undo result [] }
+    ensures { Follows (call (Call.commit t minute)) (lent_mut state.old state.new) (lent_mut files.old files.new) (lent_shared logs.now) (lent_mut marks.old marks.new) (lent_mut undo.old undo.new) result [] }
 {
     let gate = admission::admit(state, files.len(), logs.len(), marks.len(), undo.len(), t);
     if let Gate::Refused(r) = gate {

@@ -2,7 +2,7 @@
 ghost use Rattle.std.specs.Prelude.{[], ◌≡◌, length};
 ghost use Rattle.state.specs.Layout.{transaction_of, state_length};
 ghost use Rattle.state.specs.declared.outcomes.Outcome.TheVariants.{Granted};
-ghost use Rattle.spec.specs.Promises.{Follows};
+ghost use Rattle.spec.specs.Promises.{Follows, lent_mut, lent_shared};
 ghost use Rattle.commit_apply.specs.Apply.{Becomes};
 ghost use Rattle.call_commit.specs.Grant.{CanGrant, grant_turn, with_stale_in};
 
@@ -19,7 +19,7 @@ use state::layout::{State, put_stale, reset, used_at};
 // Makes the transactions of the octet stale.
 fn put_stale_in(state: &mut State, octet: u8)
     requires { length state.old ≡ state_length }
-    ensures { Becomes state (with_stale_in octet) }
+    ensures { Becomes (lent_mut state.old state.new) (with_stale_in octet) }
 {
     let mut u = 0;
     while u < TRANSACTIONS {
@@ -44,7 +44,7 @@ pub fn grant(
 ) -> u8
     requires { CanGrant state.old files.old logs.now marks.old undo.old t
         (transaction_of state.old t) }
-    ensures { Follows (grant_turn t) state files logs marks undo (Granted result) [] }
+    ensures { Follows (grant_turn t) (lent_mut state.old state.new) (lent_mut files.old files.new) (lent_shared logs.now) (lent_mut marks.old marks.new) (lent_mut undo.old undo.new) (Granted result) [] }
 {
     let octet = stale_by(state, marks, t);
     let used = used_at(state, t);

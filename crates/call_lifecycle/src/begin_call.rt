@@ -2,7 +2,7 @@
 ghost use Rattle.std.specs.Prelude.{[]};
 ghost use Rattle.spec.specs.Messages.{Call};
 ghost use Rattle.spec.specs.Calls.{call};
-ghost use Rattle.spec.specs.Promises.{Follows};
+ghost use Rattle.spec.specs.Promises.{Follows, lent_mut, lent_shared};
 
 use admission::Gate;
 use buffers::marks as bits;
@@ -18,7 +18,7 @@ pub fn begin(
     undo: &[u8],
     t: usize,
 ) -> Outcome
-    ensures { Follows (call (Call.begin t)) state files logs marks undo result [] }
+    ensures { Follows (call (Call.begin t)) (lent_mut state.old state.new) (lent_shared files.now) (lent_shared logs.now) (lent_mut marks.old marks.new) (lent_shared undo.now) result [] }
 {
     let gate = admission::admit(state, files.len(), logs.len(), marks.len(), undo.len(), t);
     if let Gate::Refused(r) = gate {

@@ -1,7 +1,7 @@
 // Fresh.
 ghost use Rattle.std.specs.Prelude.{[], ◌≡◌, length, replicate};
 ghost use Rattle.spec.specs.Calls.{fresh as fresh_rule};
-ghost use Rattle.spec.specs.Promises.{Follows};
+ghost use Rattle.spec.specs.Promises.{Follows, lent_mut, lent_shared};
 
 use admission::Gate;
 use state::layout::{State, clear, put_files};
@@ -29,7 +29,7 @@ pub fn fresh(
     undo: &[u8],
     numbers: &[u8],
 ) -> Outcome
-    ensures { Follows (fresh_rule numbers.now) state files logs marks undo result [] }
+    ensures { Follows (fresh_rule numbers.now) (lent_mut state.old state.new) (lent_mut files.old files.new) (lent_shared logs.now) (lent_mut marks.old marks.new) (lent_shared undo.now) result [] }
 {
     let gate = admission::admit_fresh(files.len(), logs.len(), marks.len(), undo.len(), numbers);
     if let Gate::Refused(r) = gate {

@@ -5,7 +5,7 @@ ghost use Rattle.state.specs.Layout.{store_of, journal_of};
 ghost use Rattle.admission.specs.Admission.{store_in};
 ghost use Rattle.spec.specs.Messages.{Call};
 ghost use Rattle.spec.specs.Calls.{call};
-ghost use Rattle.spec.specs.Promises.{Follows};
+ghost use Rattle.spec.specs.Promises.{Follows, lent_shared};
 ghost use Rattle.call_order.specs.Answer.{order_in, Padded};
 ghost use Rattle.call_order.specs.OrderTable.{list_refusal, AnswersOrder};
 
@@ -75,7 +75,7 @@ pub fn best_order<'a>(
     budget: usize,
 ) -> Best
     ensures { Follows (call (Call.best_order list.now minute budget))
-        state files logs marks undo
+        (lent_shared state.now) (lent_shared files.now) (lent_shared logs.now) (lent_shared marks.now) (lent_shared undo.now)
         result.outcome (order_in (length list.now) result) × Padded (length list.now) result }
 {
     let gate = first_tests(state, files.len(), logs.len(), marks.len(), undo.len());

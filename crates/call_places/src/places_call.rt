@@ -1,7 +1,7 @@
 // The call that lists the places a transaction would write (02, F-1; R-15.1).
 ghost use Rattle.spec.specs.Messages.{Call};
 ghost use Rattle.spec.specs.Calls.{call};
-ghost use Rattle.spec.specs.Promises.{Follows};
+ghost use Rattle.spec.specs.Promises.{Follows, lent_shared};
 
 use crate::ascending::{count, is_waiting, sweep_records, write_intervals};
 use admission::Gate;
@@ -21,7 +21,7 @@ pub fn places(
     f: usize,
     out: &mut [u8],
 ) -> Outcome
-    ensures { Follows (call (Call.places t f out.old)) state files logs marks undo result
+    ensures { Follows (call (Call.places t f out.old)) (lent_shared state.now) (lent_shared files.now) (lent_shared logs.now) (lent_shared marks.now) (lent_shared undo.now) result
         out.new }
 {
     let gate = admission::admit(state, files.len(), logs.len(), marks.len(), undo.len(), t);

@@ -65,10 +65,10 @@ pub record Served (t : ℕ) (e : Extent) (state files logs marks reader : List �
 -- What it leaves and answers.
 abbrev pub GivesRead : Lent → Lent → Lent → Lent → ℕ → ℕ → ℕ → Lent → ℕ → Type 0
 GivesRead state files logs marks t d n reader r =
-    let before = state.entry.now in
+    let before = state.entry in
     let e = places_from before t d n in
     (r ≡ e.length)
-    × MovedOn t d n e before state.exit.now
-    × Served t e before files.entry.now logs.entry.now marks.entry.now reader.entry.now
-    marks.exit.now
-    reader.exit.now
+    × MovedOn t d n e before state.exit
+    × Served t e before files.entry logs.entry marks.entry reader.entry
+    marks.exit
+    reader.exit

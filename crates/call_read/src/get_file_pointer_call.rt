@@ -2,7 +2,7 @@
 ghost use Rattle.std.specs.Prelude.{[]};
 ghost use Rattle.spec.specs.Messages.{Op, Call};
 ghost use Rattle.spec.specs.Calls.{call};
-ghost use Rattle.spec.specs.Promises.{Follows};
+ghost use Rattle.spec.specs.Promises.{Follows, lent_mut, lent_shared};
 
 use crate::read_tests::admit_read;
 use admission::Gate;
@@ -21,7 +21,7 @@ pub fn get_file_pointer(
     t: usize,
     d: usize,
 ) -> Outcome
-    ensures { Follows (call (Call.on t (Op.get_file_pointer d))) state files logs marks undo result [] }
+    ensures { Follows (call (Call.on t (Op.get_file_pointer d))) (lent_mut state.old state.new) (lent_shared files.now) (lent_shared logs.now) (lent_shared marks.now) (lent_shared undo.now) result [] }
 {
     let gate = admission::admit(state, files.len(), logs.len(), marks.len(), undo.len(), t);
     if let Gate::Refused(r) = gate {

@@ -3,7 +3,7 @@ ghost use Rattle.std.specs.Prelude.{◌≡◌, ◌-◌, min};
 ghost use Rattle.read_lookup.specs.Lookup.{extent};
 ghost use Rattle.spec.specs.Messages.{Op, Call};
 ghost use Rattle.spec.specs.Calls.{call};
-ghost use Rattle.spec.specs.Promises.{Follows};
+ghost use Rattle.spec.specs.Promises.{Follows, lent_mut, lent_shared};
 ghost use Rattle.call_read.specs.ReadCall.{Movable, MovedOn, Readable, GivesRead};
 
 use crate::read_tests::admit_read;
@@ -68,7 +68,7 @@ fn read_settled<'a>(
     reader: &mut [u8],
 ) -> u16
     requires { Readable state.old files.now logs.now marks.old t d n reader.old }
-    ensures { GivesRead state files logs marks t d n reader result }
+    ensures { GivesRead (lent_mut state.old state.new) (lent_shared files.now) (lent_shared logs.now) (lent_mut marks.old marks.new) t d n (lent_mut reader.old reader.new) result }
 {
     let used = used_at(state, t);
     let z = standing_at(state, t, d);
@@ -97,7 +97,7 @@ pub fn read<'a>(
     reader: &mut [u8],
 ) -> Outcome
     ensures { Follows (call (Call.on t (Op.read d n reader.old)))
-        state files logs marks undo result reader.new }
+        (lent_mut state.old state.new) (lent_shared files.now) (lent_shared logs.now) (lent_mut marks.old marks.new) (lent_shared undo.now) result reader.new }
 {
     let gate = admission::admit(state, files.len(), logs.len(), marks.len(), undo.len(), t);
     if let Gate::Refused(r) = gate {

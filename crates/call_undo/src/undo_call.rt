@@ -2,7 +2,7 @@
 ghost use Rattle.std.specs.Prelude.{[]};
 ghost use Rattle.spec.specs.Messages.{Call};
 ghost use Rattle.spec.specs.Calls.{call};
-ghost use Rattle.spec.specs.Promises.{Follows};
+ghost use Rattle.spec.specs.Promises.{Follows, lent_mut, lent_shared};
 
 use crate::restore::restore_bytes;
 use admission::Gate;
@@ -19,7 +19,7 @@ pub fn undo_commit(
     marks: &[u8],
     undo: &[u8],
 ) -> Outcome
-    ensures { Follows (call Call.undo_commit) state files logs marks undo result [] }
+    ensures { Follows (call Call.undo_commit) (lent_mut state.old state.new) (lent_mut files.old files.new) (lent_shared logs.now) (lent_shared marks.now) (lent_shared undo.now) result [] }
 {
     let gate = admission::admit_undo(state, files.len(), logs.len(), marks.len(), undo.len());
     if let Gate::Refused(r) = gate {

@@ -3,7 +3,7 @@
 ghost use Rattle.std.specs.Prelude.{[]};
 ghost use Rattle.spec.specs.Messages.{Call};
 ghost use Rattle.spec.specs.Calls.{call};
-ghost use Rattle.spec.specs.Promises.{Follows};
+ghost use Rattle.spec.specs.Promises.{Follows, lent_mut, lent_shared};
 
 use admission::Gate;
 use state::layout::{State, put_window};
@@ -22,7 +22,7 @@ pub fn set_window(
     start: usize,
     end: usize,
 ) -> Outcome
-    ensures { Follows (call (Call.set_window f start end)) state files logs marks undo result [] }
+    ensures { Follows (call (Call.set_window f start end)) (lent_mut state.old state.new) (lent_shared files.now) (lent_shared logs.now) (lent_shared marks.now) (lent_shared undo.now) result [] }
 {
     let gate = admission::admit_window(
         state,

@@ -2,7 +2,7 @@
 ghost use Rattle.std.specs.Prelude.{[]};
 ghost use Rattle.spec.specs.Messages.{Op, Call};
 ghost use Rattle.spec.specs.Calls.{call};
-ghost use Rattle.spec.specs.Promises.{Follows};
+ghost use Rattle.spec.specs.Promises.{Follows, lent_mut, lent_shared};
 
 use admission::Gate;
 use limits::{FILE_BYTES, LAST_DESCRIPTOR};
@@ -21,7 +21,7 @@ pub fn seek(
     d: usize,
     v: usize,
 ) -> Outcome
-    ensures { Follows (call (Call.on t (Op.seek d v))) state files logs marks undo result [] }
+    ensures { Follows (call (Call.on t (Op.seek d v))) (lent_mut state.old state.new) (lent_shared files.now) (lent_shared logs.now) (lent_shared marks.now) (lent_shared undo.now) result [] }
 {
     let gate = admission::admit(state, files.len(), logs.len(), marks.len(), undo.len(), t);
     if let Gate::Refused(r) = gate {

@@ -6,7 +6,7 @@ ghost use Rattle.state.specs.Layout.{store_of, journal_of, state_length};
 ghost use Rattle.admission.specs.Admission.{standing_in, gate_number};
 ghost use Rattle.spec.specs.Messages.{Op, Call};
 ghost use Rattle.spec.specs.Calls.{call};
-ghost use Rattle.spec.specs.Promises.{Follows};
+ghost use Rattle.spec.specs.Promises.{Follows, lent_mut, lent_shared};
 ghost use Rattle.call_write.specs.Writes.{write_refusal, WriteRoom, store_written, journal_written};
 
 use admission::Gate;
@@ -74,7 +74,7 @@ pub fn write(
     bytes: &[u8],
 ) -> Outcome
     ensures { Follows (call (Call.on t (Op.write d bytes.now)))
-        state files logs marks undo result [] }
+        (lent_mut state.old state.new) (lent_shared files.now) (lent_mut logs.old logs.new) (lent_shared marks.now) (lent_shared undo.now) result [] }
 {
     let gate = admission::admit(state, files.len(), logs.len(), marks.len(), undo.len(), t);
     if let Gate::Refused(r) = gate {

@@ -112,4 +112,4 @@ pub record Means (before after : List ℕ) (s : StoreMeaning) : Type 0 where
 
 -- What a function does to the meaning of the state that it is lent: its store becomes f of what it was.
 abbrev pub Becomes : Lent → (StoreMeaning → StoreMeaning) → Type 0
-Becomes state f = Means state.entry.now state.exit.now (f (store_of state.entry.now))
+Becomes state f = Means state.entry state.exit (f (store_of state.entry))

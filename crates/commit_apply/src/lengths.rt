@@ -1,4 +1,5 @@
 // The committed lengths that a commit raises.
+ghost use Rattle.spec.specs.Promises.{lent_mut};
 ghost use Rattle.std.specs.Prelude.{◌≡◌, ◌+◌, ◌≤◌, length};
 ghost use Rattle.limits.specs.Limits.{file_bytes};
 ghost use Rattle.state.specs.StoreMeaning.{with_lengths};
@@ -59,7 +60,7 @@ pub fn lengths_after(state: &State, t: usize, used: Used) -> [u16; FILES]
 // Puts the committed lengths.
 pub fn put_lengths(state: &mut State, lengths: [u16; FILES])
     requires { length state.old ≡ state_length }
-    ensures { Becomes state (with_lengths lengths) }
+    ensures { Becomes (lent_mut state.old state.new) (with_lengths lengths) }
 {
     let mut f = 0;
     while f < FILES {

@@ -1,4 +1,5 @@
 // Commit's placing, and the committed offsets that a commit sets.
+ghost use Rattle.spec.specs.Promises.{lent_mut};
 ghost use Rattle.std.specs.Prelude.{true, ◌≡◌, ℕ, ◌≤◌, ◌<◌, length, get_or};
 ghost use Rattle.limits.specs.Limits.{file_bytes, descriptor_count, transaction_count};
 ghost use Rattle.buffers.specs.Parts.{tabulate};
@@ -35,7 +36,7 @@ pub fn places_fit(state: &State, t: usize) -> bool
 // Puts the committed offsets that a commit of x sets.
 fn put_offsets(state: &mut State, x: Transaction)
     requires { (length state.old ≡ state_length) × (places_fit (store_of state.old) x ≡ true) }
-    ensures { Becomes state (with_offsets_of x) }
+    ensures { Becomes (lent_mut state.old state.new) (with_offsets_of x) }
 {
     let mut d = 0;
     while d < DESCRIPTORS {
@@ -94,7 +95,7 @@ fn setting_at(state: &State, t: usize) -> Transaction
 pub fn set_offsets(state: &mut State, t: usize)
     requires { (length state.old ≡ state_length) × (t < transaction_count)
         × (places_fit (store_of state.old) (transaction_of state.old t) ≡ true) }
-    ensures { Becomes state (with_offsets_of (transaction_of state.old t)) }
+    ensures { Becomes (lent_mut state.old state.new) (with_offsets_of (transaction_of state.old t)) }
 {
     if !any_dirty(state, t) {
         return;

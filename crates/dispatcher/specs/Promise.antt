@@ -29,7 +29,7 @@ pub record GivesDispatch (d : Given Machine) (n : ℕ) (a : Dispatched) (m : Mac
 -- number.
 abbrev pub RunsScripts : List ℕ → ℕ → Scripts → Lent → Lent → Lent → Lent → Lent → Dispatched → Lent → Type 0
 RunsScripts bytes minute x state files logs marks undo a reader =
-    GivesDispatch (dispatch bytes minute x (handed state files logs marks undo) reader.entry.now)
+    GivesDispatch (dispatch bytes minute x (handed state files logs marks undo) reader.entry)
     x.count a
-    (handed_back state files logs marks undo) reader.exit.now
-    × LeftAsFound a.outcome state.entry.now state.exit.now
+    (handed_back state files logs marks undo) reader.exit
+    × LeftAsFound a.outcome state.entry state.exit

@@ -59,8 +59,8 @@ abbrev pub Steps : (Machine → Work → Work) → Lent → Lent → Lent → Le
     → Type 0
 Steps f state files logs marks undo reader es es' =
     (commits : ℕ)
-    → CarriesStep f (handed state files logs marks undo) reader.entry.now es commits
-    (handed_back state files logs marks undo) reader.exit.now es' commits
+    → CarriesStep f (handed state files logs marks undo) reader.entry es commits
+    (handed_back state files logs marks undo) reader.exit es' commits
 
 abbrev pub StepsAside : (Machine → Work → Work) → Lent → Lent → Lent → Lent → Lent → List Ended → List Ended
     → Type 0

@@ -2,7 +2,7 @@
 ghost use Rattle.std.specs.Prelude.{◌≡◌, true, length};
 ghost use Rattle.state.specs.Outcomes.{said};
 ghost use Rattle.admission.specs.Admission.{gate_number};
-ghost use Rattle.spec.specs.Promises.{handed, handed_back};
+ghost use Rattle.spec.specs.Promises.{machine_of};
 ghost use Rattle.spec_dispatch.specs.Rounds.{part_in, refusal_in};
 ghost use Rattle.dispatcher.specs.Types.{script_call_of};
 ghost use Rattle.dispatcher.specs.Steps.{request_of, bytes_of_script_call, Makes};
@@ -68,8 +68,8 @@ pub fn make(
 ) -> Gate
     requires { part_in (length bytes.now) (script_call_of call) ≡ true }
     ensures { Makes k (script_call_of call) bytes.now
-        (handed state files logs marks undo) reader.old result
-        (handed_back state files logs marks undo) reader.new }
+        (machine_of state.old files.old logs.old marks.old undo.old) reader.old result
+        (machine_of state.new files.new logs.new marks.new undo.new) reader.new }
 {
     let q = request_of(k, call);
     let part = bytes_of(call, bytes);

@@ -1,4 +1,5 @@
 // The dispatcher's call.
+ghost use Rattle.spec.specs.Promises.{lent_mut};
 ghost use Rattle.std.specs.Prelude.{◌≡◌};
 ghost use Rattle.state.specs.Layout.{store_of, journal_of};
 ghost use Rattle.admission.specs.Admission.{sized, admission_of_dispatch, gate_number};
@@ -54,7 +55,7 @@ pub fn dispatch(
     reader: &mut [u8],
     minute: usize,
 ) -> Dispatched
-    ensures { RunsScripts bytes.now minute (scripts_of scripts) state files logs marks undo result reader }
+    ensures { RunsScripts bytes.now minute (scripts_of scripts) (lent_mut state.old state.new) (lent_mut files.old files.new) (lent_mut logs.old logs.new) (lent_mut marks.old marks.new) (lent_mut undo.old undo.new) result (lent_mut reader.old reader.new) }
 {
     let g = admit(
         state,

@@ -6,7 +6,7 @@ ghost use Rattle.state.specs.Outcomes.{number};
 ghost use Rattle.admission.specs.FirstRefusal.{below};
 ghost use Rattle.admission.specs.Admission.{gate_number};
 ghost use Rattle.spec.specs.Messages.{begin};
-ghost use Rattle.spec.specs.Promises.{handed, handed_back};
+ghost use Rattle.spec.specs.Promises.{lent_mut, lent_shared, machine_of};
 ghost use Rattle.spec_dispatch.specs.Rounds.{Scripts as SomeScripts, part_in, scripts_in, goes_on, with_call};
 ghost use Rattle.spec_dispatch.specs.Rounds.{failing, or_failing, decided};
 ghost use Rattle.spec_dispatch.specs.Rounds.{begins, perform, passes, commit_one, commit_all, round};
@@ -77,7 +77,7 @@ fn fail(
     r: Refusal,
 ) -> Ends
     requires { k < script_count }
-    ensures { StepsAside (λ m w. failing k (number r) w) state files logs marks undo ends result }
+    ensures { StepsAside (λ m w. failing k (number r) w) (lent_mut state.old state.new) (lent_shared files.now) (lent_shared logs.now) (lent_mut marks.old marks.new) (lent_shared undo.now) ends result }
 {
     store::abort(state, files, logs, marks, undo, k);
     let mut out = ends;
@@ -99,7 +99,7 @@ fn take_answer(
     g: Gate,
 ) -> Ends
     requires { k < script_count }
-    ensures { StepsAside (λ m w. or_failing k (gate_number g) w) state files logs marks undo ends result }
+    ensures { StepsAside (λ m w. or_failing k (gate_number g) w) (lent_mut state.old state.new) (lent_shared files.now) (lent_shared logs.now) (lent_mut marks.old marks.new) (lent_shared undo.now) ends result }
 {
     if let Gate::Refused(r) = g {
         return fail(state, files, logs, marks, undo, ends, k, r);
@@ -119,7 +119,7 @@ fn decide(
     g: Gate,
 ) -> Ends
     requires { k < script_count }
-    ensures { StepsAside (λ m w. decided k (gate_number g) w) state files logs marks undo ends result }
+    ensures { StepsAside (λ m w. decided k (gate_number g) w) (lent_mut state.old state.new) (lent_shared files.now) (lent_shared logs.now) (lent_mut marks.old marks.new) (lent_shared undo.now) ends result }
 {
     if let Gate::Refused(r) = g {
         if r.number() == Refusal::Stale.number() {
@@ -144,7 +144,7 @@ fn begin_one(
 )
     requires { k < script_count }
     ensures { StepsAside (λ m w. cond (goes_on (w.ends k)) (with_call (begin k) w) w)
-        state files logs marks undo ends ends }
+        (lent_mut state.old state.new) (lent_shared files.now) (lent_shared logs.now) (lent_mut marks.old marks.new) (lent_shared undo.now) ends ends }
 {
     if goes_on(ends, k) {
         store::begin(state, files, logs, marks, undo, k);
@@ -164,7 +164,7 @@ fn begin_all(
     requires { count ≤ script_count }
     ensures { (bytes : List ℕ) (minute : ℕ) (x : SomeScripts)
         → StepsAside (λ m. begins (store_reply m) bytes minute x count)
-        state files logs marks undo ends ends }
+        (lent_mut state.old state.new) (lent_shared files.now) (lent_shared logs.now) (lent_mut marks.old marks.new) (lent_shared undo.now) ends ends }
 {
     let mut k = 0;
     while k < count {
@@ -190,7 +190,7 @@ fn take_turn(
     ensures { (minute : ℕ) (x : SomeScripts)
         → Steps (λ m w. cond t.due
         (perform (store_reply m) bytes.now minute x t.script (script_call_of t.call) w) w)
-        state files logs marks undo reader ends result }
+        (lent_mut state.old state.new) (lent_mut files.old files.new) (lent_mut logs.old logs.new) (lent_mut marks.old marks.new) (lent_mut undo.old undo.new) (lent_mut reader.old reader.new) ends result }
 {
     if !t.due {
         return ends;
@@ -216,7 +216,7 @@ fn make_passes(
     requires { scripts_in (length bytes.now) (scripts_of scripts) ≡ true }
     ensures { (minute : ℕ)
         → Steps (λ m. passes (store_reply m) bytes.now minute (scripts_of scripts) script_calls)
-        state files logs marks undo reader ends result }
+        (lent_mut state.old state.new) (lent_mut files.old files.new) (lent_mut logs.old logs.new) (lent_mut marks.old marks.new) (lent_mut undo.old undo.new) (lent_mut reader.old reader.new) ends result }
 {
     let count = scripts.count;
     let mut out = ends;
@@ -257,8 +257,8 @@ fn commit_one(
     requires { (k < script_count) × (p.commits < script_count * script_count) }
     ensures work { (bytes : List ℕ) (x : SomeScripts) (reader : List ℕ)
         → CarriesStep (λ m. commit_one (store_reply m) bytes minute x k)
-        (handed state files logs marks undo) reader p.ends p.commits
-        (handed_back state files logs marks undo) reader result.ends result.commits }
+        (machine_of state.old files.old logs.now marks.old undo.old) reader p.ends p.commits
+        (machine_of state.new files.new logs.now marks.new undo.new) reader result.ends result.commits }
     ensures few { result.commits ≤ p.commits + 1 }
 {
     let ends = p.ends;
@@ -287,8 +287,8 @@ fn commit_all(
     requires { (count ≤ script_count) × (p.commits + count ≤ script_count * script_count) }
     ensures work { (bytes : List ℕ) (x : SomeScripts) (reader : List ℕ)
         → CarriesStep (λ m. commit_all (store_reply m) bytes minute x count)
-        (handed state files logs marks undo) reader p.ends p.commits
-        (handed_back state files logs marks undo) reader result.ends result.commits }
+        (machine_of state.old files.old logs.now marks.old undo.old) reader p.ends p.commits
+        (machine_of state.new files.new logs.now marks.new undo.new) reader result.ends result.commits }
     ensures few { result.commits ≤ p.commits + count }
 {
     let mut out = p;
@@ -318,8 +318,8 @@ fn run_round(
         × (p.commits + scripts.count ≤ script_count * script_count) }
     ensures work { CarriesStep (λ m. round (store_reply m) bytes.now minute
         (scripts_of scripts))
-        (handed state files logs marks undo) reader.old p.ends p.commits
-        (handed_back state files logs marks undo) reader.new result.ends result.commits }
+        (machine_of state.old files.old logs.old marks.old undo.old) reader.old p.ends p.commits
+        (machine_of state.new files.new logs.new marks.new undo.new) reader.new result.ends result.commits }
     ensures few { result.commits ≤ p.commits + scripts.count }
 {
     let count = scripts.count;
@@ -348,10 +348,10 @@ pub fn run_rounds(
     minute: usize,
 ) -> DispatchProgress
     requires { scripts_in (length bytes.now) (scripts_of scripts) ≡ true }
-    ensures { WorkStands (handed state files logs marks undo)
+    ensures { WorkStands (machine_of state.old files.old logs.old marks.old undo.old)
         (work_on_store bytes.now minute (scripts_of scripts)
-        (handed state files logs marks undo) reader.old)
-        (handed_back state files logs marks undo) reader.new result.ends result.commits }
+        (machine_of state.old files.old logs.old marks.old undo.old) reader.old)
+        (machine_of state.new files.new logs.new marks.new undo.new) reader.new result.ends result.commits }
 {
     let count = scripts.count;
     let e = Ended {

@@ -50,30 +50,30 @@ run_extent e r = extent e.file e.place r.length
 -- front.
 abbrev pub pasted_from : Lent → Lent → Lent → ℕ → Used → Extent → Lent → ℕ → List ℕ
 pasted_from state file log t u e reader at =
-    pasted reader.entry.now at (bytes_read (recorded_in state.entry.now) t u.records
-    log.entry.now file.entry.now e)
+    pasted reader.entry at (bytes_read (recorded_in state.entry) t u.records
+    log.entry file.entry e)
 
 abbrev pub reader_from : Lent → Lent → Lent → ℕ → Used → Extent → Lent → List ℕ
 reader_from state file log t u e reader =
-    bytes_read (recorded_in state.entry.now) t u.records log.entry.now file.entry.now e
-    ++ drop e.length reader.entry.now
+    bytes_read (recorded_in state.entry) t u.records log.entry file.entry e
+    ++ drop e.length reader.entry
 
 abbrev pub marks_from : Lent → Lent → Lent → Lent → ℕ → Used → Extent → List ℕ
 marks_from state file log marks t u e =
-    marks_after (recorded_in state.entry.now) t u.records log.entry.now file.entry.now e
-    marks.entry.now
+    marks_after (recorded_in state.entry) t u.records log.entry file.entry e
+    marks.entry
 
 abbrev pub reader_within : Lent → Lent → Lent → ℕ → Used → Extent → Lent → List ℕ
 reader_within state files logs t u e reader =
-    bytes_read (recorded_in state.entry.now) t u.records (log_part logs.entry.now t)
-    (file_part files.entry.now e.file) e
-    ++ drop e.length reader.entry.now
+    bytes_read (recorded_in state.entry) t u.records (log_part logs.entry t)
+    (file_part files.entry e.file) e
+    ++ drop e.length reader.entry
 
 abbrev pub marks_within : Lent → Lent → Lent → Lent → ℕ → Used → Extent → List ℕ
 marks_within state files logs marks t u e =
-    marks_after (recorded_in state.entry.now) t u.records (log_part logs.entry.now t)
-    (file_part files.entry.now e.file) e
-    marks.entry.now
+    marks_after (recorded_in state.entry) t u.records (log_part logs.entry t)
+    (file_part files.entry e.file) e
+    marks.entry
 
 -- What the callers hand over: a journal in range, a whole file, log and marks buffer, places of the file.
 pub record Handed (state file log marks : List ℕ) (t : ℕ) (u : Used) (e : Extent) : Type 0 where

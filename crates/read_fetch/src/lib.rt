@@ -1,5 +1,6 @@
 // A Read's bytes, run by run.
 #![tactic(auto)]
+ghost use Rattle.spec.specs.Promises.{lent_mut, lent_shared};
 ghost use Rattle.std.specs.Prelude.{◌≡◌, ◌+◌, ◌≤◌, length};
 ghost use Rattle.read_lookup.specs.Lookup.{recorded_in, own_reach, RunOf};
 ghost use Rattle.read_fetch.specs.Fetch.{Handed, HandedWhole, run_extent, visited_by};
@@ -28,9 +29,9 @@ fn copy_run<'a>(
     requires handed { Handed state.now file.now log.now marks.old t used e }
     requires room { (1 ≤ e.length) × (at + e.length ≤ length reader.old) }
     ensures run { RunOf (recorded_in state.now) t used.records e result }
-    ensures reader { reader.new ≡ pasted_from state file log t used
-        (run_extent e result) reader at }
-    ensures marks { marks.new ≡ marks_from state file log marks t used (run_extent e result) }
+    ensures reader { reader.new ≡ pasted_from (lent_shared state.now) (lent_shared file.now) (lent_shared log.now) t used
+        (run_extent e result) (lent_mut reader.old reader.new) at }
+    ensures marks { marks.new ≡ marks_from (lent_shared state.now) (lent_shared file.now) (lent_shared log.now) (lent_mut marks.old marks.new) t used (run_extent e result) }
 {
     let r = latest_write(state, t, used, e);
     let supplier = r.supplier;
@@ -58,8 +59,8 @@ fn copy_runs<'a>(
 )
     requires handed { Handed state.now file.now log.now marks.old t used e }
     requires room { e.length ≤ length reader.old }
-    ensures reader { reader.new ≡ reader_from state file log t used e reader }
-    ensures marks { marks.new ≡ marks_from state file log marks t used e }
+    ensures reader { reader.new ≡ reader_from (lent_shared state.now) (lent_shared file.now) (lent_shared log.now) t used e (lent_mut reader.old reader.new) }
+    ensures marks { marks.new ≡ marks_from (lent_shared state.now) (lent_shared file.now) (lent_shared log.now) (lent_mut marks.old marks.new) t used e }
 {
     let mut i = 0;
     while i < e.length {
@@ -103,8 +104,8 @@ pub fn copy_bytes<'a>(
     requires handed { HandedWhole state.now files.now logs.now marks.old t used e }
     requires room { e.length ≤ length reader.old }
     requires ends { own ≡ own_reach state.now t used.records e.file }
-    ensures reader { reader.new ≡ reader_within state files logs t used e reader }
-    ensures marks { marks.new ≡ marks_within state files logs marks t used e }
+    ensures reader { reader.new ≡ reader_within (lent_shared state.now) (lent_shared files.now) (lent_shared logs.now) t used e (lent_mut reader.old reader.new) }
+    ensures marks { marks.new ≡ marks_within (lent_shared state.now) (lent_shared files.now) (lent_shared logs.now) (lent_mut marks.old marks.new) t used e }
 {
     let file = parts::file_part(files, wide(e.file));
     let log = parts::part(logs, LOG_BYTES * t, LOG_BYTES);

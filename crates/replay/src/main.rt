@@ -12,7 +12,7 @@ ghost use Rattle.text_lines.specs.Programs.{at_end, within};
 ghost use Rattle.text_lines.specs.WholeRun.{LinesLead};
 ghost use Rattle.text_replay.specs.Bounds.{Rooms};
 ghost use Rattle.text_replay.specs.Turns.{replay_state_in};
-ghost use Rattle.spec.specs.Promises.{handed, handed_back, machine_of};
+ghost use Rattle.spec.specs.Promises.{machine_of};
 ghost use Rattle.text_replay_pieces.specs.Bounds.{PiecesResting};
 ghost use Rattle.replay.specs.Bounds.{Flushed};
 ghost use Rattle.replay.specs.WholeRun.{ReachedFrom, RunEnds};
@@ -58,9 +58,9 @@ fn take_piece(
 ) -> ReplayProgress
     requires { PiecesResting p × ((length line.old ≡ 8238) × Rooms bytes.old reader.old out.old) }
     ensures { PiecesResting result × (result.goes ≡ true
-        → at_end replaying (within (replay_state_in p (handed state files logs marks undo) out.old)
+        → at_end replaying (within (replay_state_in p (machine_of state.old files.old logs.old marks.old undo.old) out.old)
         (take p.pending line.old) piece.now)
-        ≡ within (replay_state_in result (handed_back state files logs marks undo) out.new)
+        ≡ within (replay_state_in result (machine_of state.new files.new logs.new marks.new undo.new) out.new)
         (take result.pending line.new) []) }
 {
     p.at = 0;
@@ -96,14 +96,14 @@ fn turn(
         undo.old) out.old)
         (take p.pending line.old) []))) }
     ensures { PiecesResting result × (result.goes ≡ true → (n : ℕ)
-        × (at_end replaying (within (replay_state_in p (handed state files logs marks undo) out.old)
+        × (at_end replaying (within (replay_state_in p (machine_of state.old files.old logs.old marks.old undo.old) out.old)
         (take p.pending line.old) (take n input.new))
-        ≡ within (replay_state_in result (handed_back state files logs marks undo) out.new)
+        ≡ within (replay_state_in result (machine_of state.new files.new logs.new marks.new undo.new) out.new)
         (take result.pending line.new) []))
         × (result.complete ≡ true → (n : ℕ)
-        × RunEnds (within (replay_state_in p (handed state files logs marks undo) out.old)
+        × RunEnds (within (replay_state_in p (machine_of state.old files.old logs.old marks.old undo.old) out.old)
         (take p.pending line.old) (take n input.new))
-        (replay_state_in result (handed_back state files logs marks undo) out.new)) }
+        (replay_state_in result (machine_of state.new files.new logs.new marks.new undo.new) out.new)) }
 {
     p.complete = false;
     let got = read_piece(input);
@@ -183,8 +183,8 @@ fn run(
 ) -> ReplayProgress
     requires { (length line.old ≡ 8238) × Rooms bytes.old reader.old out.old }
     ensures { result.complete ≡ true → LinesLead replaying
-        (first_state (handed state files logs marks undo))
-        (replay_state_in result (handed_back state files logs marks undo) out.new) }
+        (first_state (machine_of state.old files.old logs.old marks.old undo.old))
+        (replay_state_in result (machine_of state.new files.new logs.new marks.new undo.new) out.new) }
 {
     let mut p = ReplayProgress {
         pending: 0,

@@ -33,6 +33,6 @@ pub record Performs (q : Request) (bytes reader : List ℕ) (m : Machine) (o : O
 -- The promise of a call on lent arrays; a refusal other than 13 leaves the state number by number.
 abbrev pub Performed : Request → List ℕ → Lent → Lent → Lent → Lent → Lent → Outcome → Lent → Type 0
 Performed q bytes state files logs marks undo o reader =
-    Performs q bytes reader.entry.now (handed state files logs marks undo) o
-    (handed_back state files logs marks undo) reader.exit.now
-    × LeftAsFound o state.entry.now state.exit.now
+    Performs q bytes reader.entry (handed state files logs marks undo) o
+    (handed_back state files logs marks undo) reader.exit
+    × LeftAsFound o state.entry state.exit

@@ -1,5 +1,6 @@
 // Calls as data, and how one is performed on the store.
 #![tactic(auto)]
+ghost use Rattle.spec.specs.Promises.{lent_mut};
 ghost use Rattle.requests.specs.Performing.{Performed};
 
 use state::layout::State;
@@ -35,7 +36,7 @@ pub fn perform(
     bytes: &[u8],
     reader: &mut [u8],
 ) -> Outcome
-    ensures { Performed request bytes.now state files logs marks undo result reader }
+    ensures { Performed request bytes.now (lent_mut state.old state.new) (lent_mut files.old files.new) (lent_mut logs.old logs.new) (lent_mut marks.old marks.new) (lent_mut undo.old undo.new) result (lent_mut reader.old reader.new) }
 {
     match request {
         Request::Begin(t) => store::begin(state, files, logs, marks, undo, t),

@@ -1,7 +1,5 @@
 -- How the promises of the calls cite the rules.
 use Rattle.std.specs.Prelude.{List, ◌≡◌, ℕ}
-use Rattle.std.specs.Borrow.{Bor}
-use denote.Triple.Both.{Both}
 use Rattle.state.specs.declared.outcomes.Refusal.{Refusal}
 use Rattle.state.specs.declared.outcomes.Outcome.{Outcome}
 use Rattle.state.specs.declared.outcomes.Outcome.TheVariants.{Refused}
@@ -23,20 +21,29 @@ pub record Meets (w : Turn) (o : Outcome) (m : Machine) (at_reader : List ℕ) :
 abbrev pub machine_of : List ℕ → List ℕ → List ℕ → List ℕ → List ℕ → Machine
 machine_of state files logs marks undo = lent (store_of state) (journal_of state) files logs marks undo
 
--- A lent array or buffer as a clause names it: the numbers behind it at entry and at exit.
-abbrev pub Lent : Type 0
-Lent = Both (Bor (List ℕ)) (Bor (List ℕ))
+-- A lent array or buffer: the numbers in it at entry and at exit.
+pub record Lent : Type 0 where
+  pub entry : List ℕ
+  pub exit : List ℕ
+
+-- One that a call is lent by `&mut`, as it was and as it is left, and one that is lent by `&`, which no call
+-- changes.
+abbrev pub lent_mut : List ℕ → List ℕ → Lent
+lent_mut before after = record { entry = before; exit = after }
+
+abbrev pub lent_shared : List ℕ → Lent
+lent_shared xs = record { entry = xs; exit = xs }
 
 -- What a call is handed, and what it leaves.
 abbrev pub handed : Lent → Lent → Lent → Lent → Lent → Machine
 handed state files logs marks undo =
-    machine_of state.entry.now files.entry.now logs.entry.now marks.entry.now
-    undo.entry.now
+    machine_of state.entry files.entry logs.entry marks.entry
+    undo.entry
 
 abbrev pub handed_back : Lent → Lent → Lent → Lent → Lent → Machine
 handed_back state files logs marks undo =
-    machine_of state.exit.now files.exit.now logs.exit.now marks.exit.now
-    undo.exit.now
+    machine_of state.exit files.exit logs.exit marks.exit
+    undo.exit
 
 -- A refusal other than 13 leaves the state number by number, not only in what it means.
 abbrev pub LeftAsFound : Outcome → List ℕ → List ℕ → Type 0
@@ -47,4 +54,4 @@ LeftAsFound o before after = (r : Refusal) → o ≡ Refused r → (number r ≡
 abbrev pub Follows : (Machine → Turn) → Lent → Lent → Lent → Lent → Lent → Outcome → List ℕ → Type 0
 Follows rule state files logs marks undo o reader =
     Meets (rule (handed state files logs marks undo)) o (handed_back state files logs marks undo) reader
-    × LeftAsFound o state.entry.now state.exit.now
+    × LeftAsFound o state.entry state.exit

@@ -8,7 +8,7 @@ ghost use Rattle.state.specs.Outcomes.{refused, said};
 ghost use Rattle.requests.specs.Requests.{call_of};
 ghost use Rattle.spec.specs.Calls.{call};
 ghost use Rattle.spec.specs.Messages.{Call};
-ghost use Rattle.spec.specs.Promises.{handed, handed_back, LeftAsFound};
+ghost use Rattle.spec.specs.Promises.{LeftAsFound, machine_of};
 ghost use Rattle.text_replay.specs.Performing.{clipped_to, answer_size, order_size, turn_of, Replies};
 ghost use Rattle.text_replay.specs.Counting.{CountsDifference};
 ghost use Rattle.text_replay.specs.Turns.{replay_state_in, Took, Compared, Versioned, Noted};
@@ -122,8 +122,8 @@ fn perform_request(
     requires { length reader.old ≡ 4097 }
     ensures { (result.size ≤ 4097)
         × (Replies
-        (call (call_of q bytes.now (replicate room 0)) (handed state files logs marks undo))
-        result.outcome (handed_back state files logs marks undo) (take result.size reader.new)
+        (call (call_of q bytes.now (replicate room 0)) (machine_of state.old files.old logs.old marks.old undo.old))
+        result.outcome (machine_of state.new files.new logs.new marks.new undo.new) (take result.size reader.new)
         × LeftAsFound result.outcome state.old state.new) }
 {
     let n = smaller(room, WRITTEN);
@@ -178,8 +178,8 @@ fn perform_order(
     requires { length reader.old ≡ 4097 }
     ensures { (result.size ≤ 4097)
         × (Replies
-        (call (Call.best_order list.now minute budget) (handed state files logs marks undo))
-        result.outcome (handed_back state files logs marks undo) (take result.size reader.new)
+        (call (Call.best_order list.now minute budget) (machine_of state.old files.old logs.old marks.old undo.old))
+        result.outcome (machine_of state.new files.new logs.new marks.new undo.new) (take result.size reader.new)
         × LeftAsFound result.outcome state.old state.new) }
 {
     let best = call_order::best_order(state, files, logs, marks, undo, list, minute, budget);
@@ -213,8 +213,8 @@ pub fn perform_line(
 ) -> Response
     requires { (length bytes.now ≡ 4097) × (length reader.old ≡ 4097) }
     ensures { (result.size ≤ 4097)
-        × (Replies (turn_of (log_entry_of said bytes.now) (handed state files logs marks undo))
-        result.outcome (handed_back state files logs marks undo) (take result.size reader.new)
+        × (Replies (turn_of (log_entry_of said bytes.now) (machine_of state.old files.old logs.old marks.old undo.old))
+        result.outcome (machine_of state.new files.new logs.new marks.new undo.new) (take result.size reader.new)
         × LeftAsFound result.outcome state.old state.new) }
 {
     match said {
@@ -292,10 +292,10 @@ fn answer(
 ) -> ReplayProgress
     requires { (p.waiting ≤ 40000) × Rooms bytes.now reader.old out.old }
     ensures { LineTaken p result × Took
-        (answered (turn_of (log_entry_of said bytes.now) (handed state files logs marks undo))
-        (replay_state_in p (handed state files logs marks undo) out.old))
+        (answered (turn_of (log_entry_of said bytes.now) (machine_of state.old files.old logs.old marks.old undo.old))
+        (replay_state_in p (machine_of state.old files.old logs.old marks.old undo.old) out.old))
         (take p.waiting out.old)
-        (replay_state_in result (handed_back state files logs marks undo) out.new)
+        (replay_state_in result (machine_of state.new files.new logs.new marks.new undo.new) out.new)
         (take result.waiting out.new) }
 {
     let a = perform_line(state, files, logs, marks, undo, said, bytes, reader);
@@ -387,9 +387,9 @@ fn act(
         × Rooms bytes.now reader.old out.old)) }
     ensures { LineTaken p result × Took
         (entry_turn line.now (log_entry_of said bytes.now)
-        (replay_state_in p (handed state files logs marks undo) out.old))
+        (replay_state_in p (machine_of state.old files.old logs.old marks.old undo.old) out.old))
         (take p.waiting out.old)
-        (replay_state_in result (handed_back state files logs marks undo) out.new)
+        (replay_state_in result (machine_of state.new files.new logs.new marks.new undo.new) out.new)
         (take result.waiting out.new) }
 {
     match said {
@@ -428,9 +428,9 @@ pub fn take_line(
     requires { (p.waiting ≤ 40000) × (AnswerIn p × Rooms bytes.old reader.old out.old) }
     ensures { LineTaken p result × Took
         (line_turn line.now
-        (replay_state_in p (handed state files logs marks undo) out.old))
+        (replay_state_in p (machine_of state.old files.old logs.old marks.old undo.old) out.old))
         (take p.waiting out.old)
-        (replay_state_in result (handed_back state files logs marks undo) out.new)
+        (replay_state_in result (machine_of state.new files.new logs.new marks.new undo.new) out.new)
         (take result.waiting out.new) }
 {
     if p.ended {

@@ -6,7 +6,7 @@ ghost use Rattle.text_lines.specs.Lines.{last_line};
 ghost use Rattle.text_lines.specs.Programs.{Answered, Passes, within};
 ghost use Rattle.text_replay.specs.Bounds.{LineTaken, Rooms};
 ghost use Rattle.text_replay.specs.Turns.{replay_state_in};
-ghost use Rattle.spec.specs.Promises.{handed, handed_back};
+ghost use Rattle.spec.specs.Promises.{machine_of};
 ghost use Rattle.text_replay_pieces.specs.Bounds.{ProgressIn, Onward, PiecesResting};
 
 use buffers::parts::part;
@@ -33,10 +33,10 @@ fn step(
     requires { ProgressIn p (length piece.now) × ((length line.old ≡ 8238)
         × Rooms bytes.old reader.old out.old) }
     ensures { Passes replaying
-        (within (replay_state_in p (handed state files logs marks undo) out.old)
+        (within (replay_state_in p (machine_of state.old files.old logs.old marks.old undo.old) out.old)
         (take p.pending line.old) (drop p.at piece.now))
         (take p.waiting out.old)
-        (within (replay_state_in result (handed_back state files logs marks undo) out.new)
+        (within (replay_state_in result (machine_of state.new files.new logs.new marks.new undo.new) out.new)
         (take result.pending line.new) (drop result.at piece.now))
         (take result.waiting out.new)
         × Onward p result (length piece.now) }
@@ -80,10 +80,10 @@ pub fn replay_piece(
     requires { PiecesResting p × ((p.at < length piece.now) × ((length line.old ≡ 8238)
         × Rooms bytes.old reader.old out.old)) }
     ensures { Passes replaying
-        (within (replay_state_in p (handed state files logs marks undo) out.old)
+        (within (replay_state_in p (machine_of state.old files.old logs.old marks.old undo.old) out.old)
         (take p.pending line.old) (drop p.at piece.now))
         []
-        (within (replay_state_in result (handed_back state files logs marks undo) out.new)
+        (within (replay_state_in result (machine_of state.new files.new logs.new marks.new undo.new) out.new)
         (take result.pending line.new) (drop result.at piece.now))
         (take result.waiting out.new)
         × Onward p result (length piece.now) }
@@ -114,9 +114,9 @@ pub fn replay_last_line(
 ) -> ReplayProgress
     requires { PiecesResting p × ((length line.now ≡ 8238) × Rooms bytes.old reader.old out.old) }
     ensures { Answered replaying (last_line (take p.pending line.now))
-        (replay_state_in p (handed state files logs marks undo) out.old)
+        (replay_state_in p (machine_of state.old files.old logs.old marks.old undo.old) out.old)
         []
-        (replay_state_in result (handed_back state files logs marks undo) out.new)
+        (replay_state_in result (machine_of state.new files.new logs.new marks.new undo.new) out.new)
         (take result.waiting out.new)
         × LineTaken p result }
 {

@@ -1,7 +1,7 @@
 // Answers the lines of a piece of input. Answers are pending in the output buffer until they are written.
 ghost use Rattle.std.specs.Prelude.{◌≡◌, ◌∷◌, [], ◌≤◌, ◌<◌, length, take, drop};
 ghost use Rattle.text_lines.specs.Lines.{last_line};
-ghost use Rattle.spec.specs.Promises.{handed, handed_back};
+ghost use Rattle.spec.specs.Promises.{machine_of};
 ghost use Rattle.trace.specs.Answers.{Answers};
 ghost use Rattle.text_lines.specs.Programs.{Answered, Passes};
 ghost use Rattle.trace.specs.Transcript.{store_trace, under};
@@ -41,8 +41,8 @@ fn answer(
     line: &[u8],
     reader: &mut [u8],
 ) -> Outcome
-    ensures { Answers line.now reader.old (handed state files logs marks undo)
-        result (handed_back state files logs marks undo) reader.new }
+    ensures { Answers line.now reader.old (machine_of state.old files.old logs.old marks.old undo.old)
+        result (machine_of state.new files.new logs.new marks.new undo.new) reader.new }
 {
     let p = text_trace::parse_line(line);
     let Parsed::Asks(q, start) = p else {
@@ -83,9 +83,9 @@ fn answer_line(
 ) -> TraceProgress
     requires { (progress.waiting ≤ 57000) × TraceRoom reader.old out.old }
     ensures { Answered store_trace (line.now ∷ [])
-        (record { machine = handed state files logs marks undo; reader = reader.old })
+        (record { machine = machine_of state.old files.old logs.old marks.old undo.old; reader = reader.old })
         (take progress.waiting out.old)
-        (record { machine = handed_back state files logs marks undo; reader = reader.new })
+        (record { machine = machine_of state.new files.new logs.new marks.new undo.new; reader = reader.new })
         (take result.waiting out.new)
         × ((result.waiting ≤ length out.new)
         × ((result.pending ≡ progress.pending) × (result.at ≡ progress.at))) }
@@ -113,10 +113,10 @@ fn step(
     requires { TraceProgressIn progress (length piece.now)
         × (TraceRoom reader.old out.old × (length line.old ≡ 129)) }
     ensures { Passes store_trace
-        (under (handed state files logs marks undo) reader.old
+        (under (machine_of state.old files.old logs.old marks.old undo.old) reader.old
         (take progress.pending line.old) (drop progress.at piece.now))
         (take progress.waiting out.old)
-        (under (handed_back state files logs marks undo) reader.new
+        (under (machine_of state.new files.new logs.new marks.new undo.new) reader.new
         (take result.pending line.new) (drop result.at piece.now))
         (take result.waiting out.new)
         × TraceOnward progress result (length piece.now) (length out.new) }
@@ -158,10 +158,10 @@ pub fn fill(
     requires { TraceResting progress × ((progress.at < length piece.now)
         × (TraceRoom reader.old out.old × (length line.old ≡ 129))) }
     ensures { Passes store_trace
-        (under (handed state files logs marks undo) reader.old
+        (under (machine_of state.old files.old logs.old marks.old undo.old) reader.old
         (take progress.pending line.old) (drop progress.at piece.now))
         []
-        (under (handed_back state files logs marks undo) reader.new
+        (under (machine_of state.new files.new logs.new marks.new undo.new) reader.new
         (take result.pending line.new) (drop result.at piece.now))
         (take result.waiting out.new)
         × TraceOnward progress result (length piece.now) (length out.new) }
@@ -191,9 +191,9 @@ pub fn answer_last_line(
 ) -> TraceProgress
     requires { TraceResting progress × (TraceRoom reader.old out.old × (length line.now ≡ 129)) }
     ensures { Answered store_trace (last_line (take progress.pending line.now))
-        (record { machine = handed state files logs marks undo; reader = reader.old })
+        (record { machine = machine_of state.old files.old logs.old marks.old undo.old; reader = reader.old })
         []
-        (record { machine = handed_back state files logs marks undo; reader = reader.new })
+        (record { machine = machine_of state.new files.new logs.new marks.new undo.new; reader = reader.new })
         (take result.waiting out.new)
         × ((result.waiting ≤ length out.new) × (result.pending ≡ progress.pending)) }
 {

@@ -8,7 +8,7 @@ mod stdio;
 ghost use Rattle.std.specs.Prelude.{◌≡◌, true, false, List, [], ℕ, ◌≤◌, ◌<◌, length, take};
 ghost use Rattle.limits.specs.Limits.{buffer_bytes, undo_bytes};
 ghost use Rattle.spec.specs.SerializabilityOfStore.{FreshlyMade};
-ghost use Rattle.spec.specs.Promises.{handed, handed_back, machine_of};
+ghost use Rattle.spec.specs.Promises.{machine_of};
 ghost use Rattle.text_lines.specs.Lines.{last_line};
 ghost use Rattle.text_lines.specs.Programs.{Answered, at_end};
 ghost use Rattle.text_lines.specs.WholeRun.{LinesLead};
@@ -58,9 +58,9 @@ fn take_piece(
 ) -> TraceProgress
     requires { TraceResting progress × (TraceRoom reader.old out.old × (length line.old ≡ 129)) }
     ensures { TraceResting result × (result.goes ≡ true
-        → at_end store_trace (under (handed state files logs marks undo) reader.old
+        → at_end store_trace (under (machine_of state.old files.old logs.old marks.old undo.old) reader.old
         (take progress.pending line.old) piece.now)
-        ≡ under (handed_back state files logs marks undo) reader.new
+        ≡ under (machine_of state.new files.new logs.new marks.new undo.new) reader.new
         (take result.pending line.new) []) }
 {
     progress.at = 0;
@@ -95,15 +95,15 @@ fn turn(
         reader.old
         (take progress.pending line.old) []))) }
     ensures { TraceResting result × (result.goes ≡ true → (n : ℕ)
-        × (at_end store_trace (under (handed state files logs marks undo) reader.old
+        × (at_end store_trace (under (machine_of state.old files.old logs.old marks.old undo.old) reader.old
         (take progress.pending line.old) (take n input.new))
-        ≡ under (handed_back state files logs marks undo) reader.new
+        ≡ under (machine_of state.new files.new logs.new marks.new undo.new) reader.new
         (take result.pending line.new) []))
         × (result.complete ≡ true → (text : List ℕ) × Answered store_trace
         (last_line (take progress.pending line.old))
-        (record { machine = handed state files logs marks undo; reader = reader.old })
+        (record { machine = machine_of state.old files.old logs.old marks.old undo.old; reader = reader.old })
         []
-        (record { machine = handed_back state files logs marks undo; reader = reader.new })
+        (record { machine = machine_of state.new files.new logs.new marks.new undo.new; reader = reader.new })
         text) }
 {
     progress.complete = false;
@@ -164,8 +164,8 @@ fn run(
     requires { FreshlyMade mod_eight (machine_of state.old files.old logs.old marks.old undo.old)
         × (TraceRoom reader.old out.old × (length line.old ≡ 129)) }
     ensures { result.complete ≡ true → LinesLead store_trace
-        (record { machine = handed state files logs marks undo; reader = reader.old })
-        (record { machine = handed_back state files logs marks undo; reader = reader.new }) }
+        (record { machine = machine_of state.old files.old logs.old marks.old undo.old; reader = reader.old })
+        (record { machine = machine_of state.new files.new logs.new marks.new undo.new; reader = reader.new }) }
 {
     let mut progress = TraceProgress {
         pending: 0,
@@ -190,7 +190,7 @@ fn run(
 fn start(state: &mut State, files: &mut Buffer, logs: &Buffer, marks: &mut Buffer, undo: &UndoLog)
     requires { (length files.old ≡ buffer_bytes) × ((length logs.now ≡ buffer_bytes)
         × ((length marks.old ≡ buffer_bytes) × (length undo.now ≡ undo_bytes))) }
-    ensures { FreshlyMade mod_eight (handed_back state files logs marks undo) }
+    ensures { FreshlyMade mod_eight (machine_of state.new files.new logs.now marks.new undo.now) }
 {
     let list = [0u8, 1, 2, 3, 4, 5, 6, 7, 0, 1, 2, 3, 4, 5, 6, 7];
     store::fresh(state, files, logs, marks, undo, &list);

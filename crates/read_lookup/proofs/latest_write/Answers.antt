@@ -12,90 +12,125 @@ use Rattle.read_lookup.specs.Lookup.{Recorded, recorded_in, extent, covers, GapO
 use Rattle.read_lookup.proofs.RunLaws.{Walked, walked_none, walked_more, walked-found, walked_all, covers-in, data-back}
 use Rattle.read_lookup.proofs.RunLaws.{gap-covers, latest-write}
 use Rattle.read_lookup.proofs.latest_write.Goals as goal
-use Rattle.read_lookup.proofs.latest_write.Tie as tie
 
 -- What is lent.
-abbrev lent : tie.Start goal.the-invariant-loop-left goal.the-decreases-loop-left → Recorded
+abbrev lent : goal.Start → Recorded
 lent s = recorded_in s.args.state.now
 
 -- A turn of the loop: the write record visited is the newest of those left.
-abbrev start_of : tie.In-loop-left goal.the-invariant-loop-left goal.the-decreases-loop-left → tie.Start goal.the-invariant-loop-left goal.the-decreases-loop-left
+abbrev start_of : goal.In-loop-left → goal.Start
 start_of c = c
 
-abbrev number_of : tie.In-loop-left goal.the-invariant-loop-left goal.the-decreases-loop-left → ℕ
-number_of c = c.loop-left.left - 1
+abbrev number_of : goal.In-loop-left → ℕ
+number_of c = c.loop-left.false - 1
 
-abbrev looked-at : tie.In-loop-left goal.the-invariant-loop-left goal.the-decreases-loop-left → WriteRecord
+abbrev looked-at : goal.In-loop-left → WriteRecord
 looked-at c = write_record_at (journal_of (start_of c).args.state.now) (start_of c).args.t (number_of c)
 
-newest-left : (c : tie.After-record_at-w goal.the-invariant-loop-left goal.the-decreases-loop-left) → c.record_at-w.result ≡ looked-at c
-newest-left c = let a = (start_of c).args in
-    c.record_at-w.ensures ∙ ap (write_record_at (journal_of a.state.now) a.t) (omega arith)
-
--- The data before the record, and its length.
-size_is : (c : tie.After-wide-size goal.the-invariant-loop-left goal.the-decreases-loop-left) → c.wide-size.result ≡ (looked-at c).length
-size_is c = c.wide-size.ensures.0 ∙ ap (λ (w : WriteRecord). w.length) (newest-left c)
-
-data-step : (c : tie.After-wide-size goal.the-invariant-loop-left goal.the-decreases-loop-left) → let turn = c in
-    lengths_before (journal_of (start_of turn).args.state.now) (start_of turn).args.t (number_of turn) + c.wide-size.result
-    ≡ turn.loop-left.start
-data-step c = let turn = c in let a = (start_of turn).args in let l = turn.loop-left in
-    ap (λ (n : ℕ). lengths_before (journal_of a.state.now) a.t (number_of turn) + n) (size_is c)
-    ∙ sym (data-back (journal_of a.state.now) a.t l.left turn.loop-left-test.true) ∙ l.invariant.2
-
--- The walk before it, and the gap that it leaves.
-walked : (c : tie.In-loop-left goal.the-invariant-loop-left goal.the-decreases-loop-left) → let a = (start_of c).args in
-    Walked (lent (start_of c)) a.t a.used.records a.e (suc (number_of c)) c.loop-left.length
-walked c = let s = start_of c in let l = c.loop-left in
-    let e : l.left ≡ suc (l.left - 1) = omega (arith, c.loop-left-test.true) in
-    subst (λ (k : ℕ). Walked (lent s) s.args.t s.args.used.records s.args.e k l.length) e l.invariant.3
-
-gap_is : (c : tie.After-gap-g goal.the-invariant-loop-left goal.the-decreases-loop-left) → let turn = c in let a = (start_of turn).args in
-    GapOf (store_of a.state.now).filenumbers (looked-at turn) (extent a.e.file a.e.place turn.loop-left.length)
-    c.gap-g.result
-gap_is c = let turn = c in let a = (start_of turn).args in
-    subst (λ (w : WriteRecord). GapOf (store_of a.state.now).filenumbers w (extent a.e.file a.e.place
-    turn.loop-left.length) c.gap-g.result) (newest-left c) c.gap-g.ensures
-
--- The record covers the first place where the gap is 0.
-first : (c : tie.Then-g-eq0 goal.the-invariant-loop-left goal.the-decreases-loop-left) → let turn = c in let a = (start_of turn).args in
-    covers (store_of a.state.now).filenumbers a.e.file a.e.place (looked-at turn) ≡ true
-first c = let turn = c in let s = start_of turn in
-    gap-covers (lent s) s.args.t s.args.used.records s.args.e (number_of turn) turn.loop-left.length
-    (walked turn) c.gap-g.result (omega (arith, c.if-g-eq0.true)) (gap_is c)
-
 -- So the first place lies inside it.
-abbrev turn-of : tie.After-wide-p goal.the-invariant-loop-left goal.the-decreases-loop-left → tie.In-loop-left goal.the-invariant-loop-left goal.the-decreases-loop-left
+abbrev turn-of : goal.After-wide-p → goal.In-loop-left
 turn-of c = c
 
-abbrev sized : tie.After-wide-p goal.the-invariant-loop-left goal.the-decreases-loop-left → tie.After-wide-size goal.the-invariant-loop-left goal.the-decreases-loop-left
+abbrev sized : goal.After-wide-p → goal.After-wide-size
 sized c = c
 
-start_is : (c : tie.After-wide-p goal.the-invariant-loop-left goal.the-decreases-loop-left) → c.wide-p.result ≡ place_number (looked-at (turn-of c)).place
-start_is c = c.wide-p.ensures.0 ∙ c.place_number.ensures
-    ∙ ap (λ (w : WriteRecord). place_number w.place) (newest-left (sized c).before)
-
-in-record : (c : tie.After-wide-p goal.the-invariant-loop-left goal.the-decreases-loop-left) → let e = (start_of (turn-of c)).args.e in
-    (c.wide-p.result ≤ e.place) × (e.place < c.wide-p.result + (sized c).wide2.result)
-in-record c = let a = (start_of (turn-of c)).args in
-    let g = covers-in (store_of a.state.now).filenumbers a.e.file a.e.place (looked-at (turn-of c))
-    (first c) in (omega (arith, g.0, start_is c), omega (arith, g.1, start_is c, size_is (sized c)))
-
 pub overflow_sub-start : goal.overflow_sub-start
-overflow_sub-start c = omega (arith, data-step c)
+overflow_sub-start c =
+    let newest-left : c.record_at-w.result ≡ looked-at c = let a = (start_of c).args in
+    c.record_at-w.ensures ∙ ap (write_record_at (journal_of a.state.now) a.t) (omega arith) in
+    let size_is : c.wide-size.result ≡ (looked-at c).length = c.wide-size.ensures.0 ∙ ap (λ (w : WriteRecord). w.length) newest-left in
+    let data-step : let turn = c in lengths_before (journal_of (start_of turn).args.state.now) (start_of turn).args.t (number_of turn) + c.wide-size.result ≡ turn.loop-left.start = let turn = c in let a = (start_of turn).args in let l = turn.loop-left in
+    ap (λ (n : ℕ). lengths_before (journal_of a.state.now) a.t (number_of turn) + n) size_is
+    ∙ sym (data-back (journal_of a.state.now) a.t l.left turn.loop-left-test.true) ∙ l.invariant.2 in
+    omega (arith, data-step)
 
 pub overflow_sub-result-then-g-eq0 : goal.overflow_sub-result-then-g-eq0
-overflow_sub-result-then-g-eq0 c = (in-record c).0
+overflow_sub-result-then-g-eq0 c =
+    let newest-left : c.record_at-w.result ≡ looked-at c = let a = (start_of c).args in
+    c.record_at-w.ensures ∙ ap (write_record_at (journal_of a.state.now) a.t) (omega arith) in
+    let size_is : c.wide-size.result ≡ (looked-at c).length = c.wide-size.ensures.0 ∙ ap (λ (w : WriteRecord). w.length) newest-left in
+    let walked : let a = (start_of c).args in Walked (lent (start_of c)) a.t a.used.records a.e (suc (number_of c)) c.loop-left.length = let s = start_of c in let l = c.loop-left in
+    let e : l.left ≡ suc (l.left - 1) = omega (arith, c.loop-left-test.true) in
+    subst (λ (k : ℕ). Walked (lent s) s.args.t s.args.used.records s.args.e k l.length) e l.invariant.3 in
+    let gap_is : let turn = c in let a = (start_of turn).args in GapOf (store_of a.state.now).filenumbers (looked-at turn) (extent a.e.file a.e.place turn.loop-left.length) c.gap-g.result = let turn = c in let a = (start_of turn).args in
+    subst (λ (w : WriteRecord). GapOf (store_of a.state.now).filenumbers w (extent a.e.file a.e.place
+    turn.loop-left.length) c.gap-g.result) newest-left c.gap-g.ensures in
+    let first : let turn = c in let a = (start_of turn).args in covers (store_of a.state.now).filenumbers a.e.file a.e.place (looked-at turn) ≡ true = let turn = c in let s = start_of turn in
+    gap-covers (lent s) s.args.t s.args.used.records s.args.e (number_of turn) turn.loop-left.length
+    walked c.gap-g.result (omega (arith, c.if-g-eq0.true)) gap_is in
+    let start_is : c.wide-p.result ≡ place_number (looked-at (turn-of c)).place = c.wide-p.ensures.0 ∙ c.place_number.ensures
+    ∙ ap (λ (w : WriteRecord). place_number w.place) (newest-left (sized c).before) in
+    let in-record : let e = (start_of (turn-of c)).args.e in (c.wide-p.result ≤ e.place) × (e.place < c.wide-p.result + (sized c).wide2.result) = let a = (start_of (turn-of c)).args in
+    let g = covers-in (store_of a.state.now).filenumbers a.e.file a.e.place (looked-at (turn-of c))
+    first in (omega (arith, g.0, start_is), omega (arith, g.1, start_is, size_is (sized c))) in
+    in-record.0
 
 pub overflow_add-result : goal.overflow_add-result
-overflow_add-result c = let w = c in
-    record { fits = omega (arith, (in-record w).0, (in-record w).1, w.wide-p.ensures.1, data-step (sized w)) }
+overflow_add-result c =
+    let newest-left : c.record_at-w.result ≡ looked-at c = let a = (start_of c).args in
+    c.record_at-w.ensures ∙ ap (write_record_at (journal_of a.state.now) a.t) (omega arith) in
+    let size_is : c.wide-size.result ≡ (looked-at c).length = c.wide-size.ensures.0 ∙ ap (λ (w : WriteRecord). w.length) newest-left in
+    let data-step : let turn = c in lengths_before (journal_of (start_of turn).args.state.now) (start_of turn).args.t (number_of turn) + c.wide-size.result ≡ turn.loop-left.start = let turn = c in let a = (start_of turn).args in let l = turn.loop-left in
+    ap (λ (n : ℕ). lengths_before (journal_of a.state.now) a.t (number_of turn) + n) size_is
+    ∙ sym (data-back (journal_of a.state.now) a.t l.left turn.loop-left-test.true) ∙ l.invariant.2 in
+    let walked : let a = (start_of c).args in Walked (lent (start_of c)) a.t a.used.records a.e (suc (number_of c)) c.loop-left.length = let s = start_of c in let l = c.loop-left in
+    let e : l.left ≡ suc (l.left - 1) = omega (arith, c.loop-left-test.true) in
+    subst (λ (k : ℕ). Walked (lent s) s.args.t s.args.used.records s.args.e k l.length) e l.invariant.3 in
+    let gap_is : let turn = c in let a = (start_of turn).args in GapOf (store_of a.state.now).filenumbers (looked-at turn) (extent a.e.file a.e.place turn.loop-left.length) c.gap-g.result = let turn = c in let a = (start_of turn).args in
+    subst (λ (w : WriteRecord). GapOf (store_of a.state.now).filenumbers w (extent a.e.file a.e.place
+    turn.loop-left.length) c.gap-g.result) newest-left c.gap-g.ensures in
+    let first : let turn = c in let a = (start_of turn).args in covers (store_of a.state.now).filenumbers a.e.file a.e.place (looked-at turn) ≡ true = let turn = c in let s = start_of turn in
+    gap-covers (lent s) s.args.t s.args.used.records s.args.e (number_of turn) turn.loop-left.length
+    walked c.gap-g.result (omega (arith, c.if-g-eq0.true)) gap_is in
+    let start_is : c.wide-p.result ≡ place_number (looked-at (turn-of c)).place = c.wide-p.ensures.0 ∙ c.place_number.ensures
+    ∙ ap (λ (w : WriteRecord). place_number w.place) (newest-left (sized c).before) in
+    let in-record : let e = (start_of (turn-of c)).args.e in (c.wide-p.result ≤ e.place) × (e.place < c.wide-p.result + (sized c).wide2.result) = let a = (start_of (turn-of c)).args in
+    let g = covers-in (store_of a.state.now).filenumbers a.e.file a.e.place (looked-at (turn-of c))
+    first in (omega (arith, g.0, start_is), omega (arith, g.1, start_is, size_is (sized c))) in
+    let w = c in
+    record { fits = omega (arith, in-record.0, in-record.1, w.wide-p.ensures.1, data-step (sized w)) }
 
 pub overflow_sub-p : goal.overflow_sub-p
-overflow_sub-p c = omega (arith, (in-record c).1)
+overflow_sub-p c =
+    let newest-left : c.record_at-w.result ≡ looked-at c = let a = (start_of c).args in
+    c.record_at-w.ensures ∙ ap (write_record_at (journal_of a.state.now) a.t) (omega arith) in
+    let size_is : c.wide-size.result ≡ (looked-at c).length = c.wide-size.ensures.0 ∙ ap (λ (w : WriteRecord). w.length) newest-left in
+    let walked : let a = (start_of c).args in Walked (lent (start_of c)) a.t a.used.records a.e (suc (number_of c)) c.loop-left.length = let s = start_of c in let l = c.loop-left in
+    let e : l.left ≡ suc (l.left - 1) = omega (arith, c.loop-left-test.true) in
+    subst (λ (k : ℕ). Walked (lent s) s.args.t s.args.used.records s.args.e k l.length) e l.invariant.3 in
+    let gap_is : let turn = c in let a = (start_of turn).args in GapOf (store_of a.state.now).filenumbers (looked-at turn) (extent a.e.file a.e.place turn.loop-left.length) c.gap-g.result = let turn = c in let a = (start_of turn).args in
+    subst (λ (w : WriteRecord). GapOf (store_of a.state.now).filenumbers w (extent a.e.file a.e.place
+    turn.loop-left.length) c.gap-g.result) newest-left c.gap-g.ensures in
+    let first : let turn = c in let a = (start_of turn).args in covers (store_of a.state.now).filenumbers a.e.file a.e.place (looked-at turn) ≡ true = let turn = c in let s = start_of turn in
+    gap-covers (lent s) s.args.t s.args.used.records s.args.e (number_of turn) turn.loop-left.length
+    walked c.gap-g.result (omega (arith, c.if-g-eq0.true)) gap_is in
+    let start_is : c.wide-p.result ≡ place_number (looked-at (turn-of c)).place = c.wide-p.ensures.0 ∙ c.place_number.ensures
+    ∙ ap (λ (w : WriteRecord). place_number w.place) (newest-left (sized c).before) in
+    let in-record : let e = (start_of (turn-of c)).args.e in (c.wide-p.result ≤ e.place) × (e.place < c.wide-p.result + (sized c).wide2.result) = let a = (start_of (turn-of c)).args in
+    let g = covers-in (store_of a.state.now).filenumbers a.e.file a.e.place (looked-at (turn-of c))
+    first in (omega (arith, g.0, start_is), omega (arith, g.1, start_is, size_is (sized c))) in
+    omega (arith, in-record.1)
 
 pub returns-then-g-eq0 : goal.returns-then-g-eq0
-returns-then-g-eq0 c = let w = c in let turn = turn-of w in let s = start_of turn in
+returns-then-g-eq0 c =
+    let newest-left : c.record_at-w.result ≡ looked-at c = let a = (start_of c).args in
+    c.record_at-w.ensures ∙ ap (write_record_at (journal_of a.state.now) a.t) (omega arith) in
+    let size_is : c.wide-size.result ≡ (looked-at c).length = c.wide-size.ensures.0 ∙ ap (λ (w : WriteRecord). w.length) newest-left in
+    let data-step : let turn = c in lengths_before (journal_of (start_of turn).args.state.now) (start_of turn).args.t (number_of turn) + c.wide-size.result ≡ turn.loop-left.start = let turn = c in let a = (start_of turn).args in let l = turn.loop-left in
+    ap (λ (n : ℕ). lengths_before (journal_of a.state.now) a.t (number_of turn) + n) size_is
+    ∙ sym (data-back (journal_of a.state.now) a.t l.left turn.loop-left-test.true) ∙ l.invariant.2 in
+    let walked : let a = (start_of c).args in Walked (lent (start_of c)) a.t a.used.records a.e (suc (number_of c)) c.loop-left.length = let s = start_of c in let l = c.loop-left in
+    let e : l.left ≡ suc (l.left - 1) = omega (arith, c.loop-left-test.true) in
+    subst (λ (k : ℕ). Walked (lent s) s.args.t s.args.used.records s.args.e k l.length) e l.invariant.3 in
+    let gap_is : let turn = c in let a = (start_of turn).args in GapOf (store_of a.state.now).filenumbers (looked-at turn) (extent a.e.file a.e.place turn.loop-left.length) c.gap-g.result = let turn = c in let a = (start_of turn).args in
+    subst (λ (w : WriteRecord). GapOf (store_of a.state.now).filenumbers w (extent a.e.file a.e.place
+    turn.loop-left.length) c.gap-g.result) newest-left c.gap-g.ensures in
+    let first : let turn = c in let a = (start_of turn).args in covers (store_of a.state.now).filenumbers a.e.file a.e.place (looked-at turn) ≡ true = let turn = c in let s = start_of turn in
+    gap-covers (lent s) s.args.t s.args.used.records s.args.e (number_of turn) turn.loop-left.length
+    walked c.gap-g.result (omega (arith, c.if-g-eq0.true)) gap_is in
+    let start_is : c.wide-p.result ≡ place_number (looked-at (turn-of c)).place = c.wide-p.ensures.0 ∙ c.place_number.ensures
+    ∙ ap (λ (w : WriteRecord). place_number w.place) (newest-left (sized c).before) in
+    let w = c in let turn = turn-of w in let s = start_of turn in
     let l = turn.loop-left in let records = s.args.used.records in let r : Run = record {
       supplier = Record (l.left - 1);
       looked = records - (l.left - 1);
@@ -103,20 +138,33 @@ returns-then-g-eq0 c = let w = c in let turn = turn-of w in let s = start_of tur
       length = c.smaller.result;
     } in
     let run : RunOf (lent s) s.args.t records s.args.e r = walked-found (lent s) s.args.t records s.args.e
-    (number_of turn) l.length (walked turn) (first w) r refl (omega
-    (arith, data-step (sized w), start_is w)) (omega (arith, c.smaller.ensures, start_is w, size_is (sized w))) in record {
+    (number_of turn) l.length (walked turn) first r refl (omega
+    (arith, data-step (sized w), start_is)) (omega (arith, c.smaller.ensures, start_is, size_is (sized w))) in record {
       latest = latest-write (lent s) s.args.t records s.args.e.file s.args.e.place _ _ run.supplied
           (λ k q. let e : l.left - 1 ≡ k = cc in omega arith) (λ q. let z : ◌≡◌ {A = ℕ} 0 1 = cc in absurd (omega arith));
       run = run;
     }
 
 pub loop-left-preserved : goal.loop-left-preserved
-loop-left-preserved c = let turn = c in let s = start_of turn in (
+loop-left-preserved c =
+    let newest-left : c.record_at-w.result ≡ looked-at c = let a = (start_of c).args in
+    c.record_at-w.ensures ∙ ap (write_record_at (journal_of a.state.now) a.t) (omega arith) in
+    let size_is : c.wide-size.result ≡ (looked-at c).length = c.wide-size.ensures.0 ∙ ap (λ (w : WriteRecord). w.length) newest-left in
+    let data-step : let turn = c in lengths_before (journal_of (start_of turn).args.state.now) (start_of turn).args.t (number_of turn) + c.wide-size.result ≡ turn.loop-left.start = let turn = c in let a = (start_of turn).args in let l = turn.loop-left in
+    ap (λ (n : ℕ). lengths_before (journal_of a.state.now) a.t (number_of turn) + n) size_is
+    ∙ sym (data-back (journal_of a.state.now) a.t l.left turn.loop-left-test.true) ∙ l.invariant.2 in
+    let walked : let a = (start_of c).args in Walked (lent (start_of c)) a.t a.used.records a.e (suc (number_of c)) c.loop-left.length = let s = start_of c in let l = c.loop-left in
+    let e : l.left ≡ suc (l.left - 1) = omega (arith, c.loop-left-test.true) in
+    subst (λ (k : ℕ). Walked (lent s) s.args.t s.args.used.records s.args.e k l.length) e l.invariant.3 in
+    let gap_is : let turn = c in let a = (start_of turn).args in GapOf (store_of a.state.now).filenumbers (looked-at turn) (extent a.e.file a.e.place turn.loop-left.length) c.gap-g.result = let turn = c in let a = (start_of turn).args in
+    subst (λ (w : WriteRecord). GapOf (store_of a.state.now).filenumbers w (extent a.e.file a.e.place
+    turn.loop-left.length) c.gap-g.result) newest-left c.gap-g.ensures in
+    let turn = c in let s = start_of turn in (
   omega arith,
   omega arith,
-  omega (arith, data-step c),
+  omega (arith, data-step),
   walked_more (lent s) s.args.t s.args.used.records s.args.e (number_of turn) turn.loop-left.length
-      (walked turn) _ c.gap-g.result (omega arith) (omega arith) (gap_is c),
+      walked _ c.gap-g.result (omega arith) (omega arith) gap_is,
 )
 
 pub returns : goal.returns

@@ -6,10 +6,9 @@ use Rattle.read_settle.proofs.InRecord.{none-settled, past-settled, settled-fits
 use mathlib.Core.Bool.{not}
 use mathlib.Core.Path.{ap}
 use Rattle.read_settle.proofs.settle_chosen.Goals as goal
-use Rattle.read_settle.proofs.settle_chosen.Tie as tie
 
 -- Some are chosen, and the transaction is read.
-abbrev start_of : tie.After-transaction_at-x → tie.Start
+abbrev start_of : goal.After-transaction_at-x → goal.Start
 start_of c = c
 
 pub returns-then-not-any : goal.returns-then-not-any

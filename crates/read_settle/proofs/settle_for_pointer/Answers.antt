@@ -7,10 +7,9 @@ use Rattle.state.specs.{StoreMeaning.standing_at, Layout.transaction_of}
 use Rattle.read_settle.proofs.{ChoiceLaws.{pointer-chooses-none, pointer-chooses-own}, InRecord.none-settled}
 use mathlib.Core.Bool.{not}
 use Rattle.read_settle.proofs.settle_for_pointer.Goals as goal
-use Rattle.read_settle.proofs.settle_for_pointer.Tie as tie
 
 -- What was asked of the standing.
-told : (c : tie.After-pointer_settles) (b : Bool) → c.pointer_settles.result ≡ b
+told : (c : goal.After-pointer_settles) (b : Bool) → c.pointer_settles.result ≡ b
     → let a = c.args in pointer_settles (standing_at (transaction_of a.state.now a.t) a.d) ≡ b
 told c b e = ap pointer_settles (sym c.standing_at-standing.ensures) ∙ sym c.pointer_settles.ensures ∙ e
 

@@ -13,11 +13,6 @@ use Rattle.commit_apply.proofs.{WriteLaws.can-first, LengthLaws.{landed-lengths-
 use borrow.Author.Rules.{rules}
 use Rattle.commit_apply.proofs.lengths.lengths_after.Goals as goal
 use Rattle.commit_apply.proofs.lengths.lengths_after.Goals.{else-wide-end, then-wide-end}
-use Rattle.commit_apply.proofs.lengths.lengths_after.Tie as tie
-
--- The turn's record lands in one of the eight files.
-file-in : (c : tie.After-landing_at-w goal.the-invariant-loop-k goal.the-decreases-loop-k) → c.landing_at-w.result.file < file_count
-file-in c = c.landing_at-w.ensures.file_in
 
 pub loop-k-init : goal.loop-k-init
 loop-k-init c = let state = c.args.state.now in let s = store_of state in (
@@ -36,7 +31,9 @@ overflow_cast-out c = let at-end = c in
     rw at-end.write_end-end.ensures (write-end _ _ at-end.landing_at-w.ensures.inside) in omega (arith, end)
 
 pub loop-k-preserved : goal.loop-k-preserved
-loop-k-preserved c = let at-end = c in let landing = at-end in let l = landing.loop-k in
+loop-k-preserved c =
+    let file-in : c.landing_at-w.result.file < file_count = c.landing_at-w.ensures.file_in in
+    let at-end = c in let landing = at-end in let l = landing.loop-k in
     let start = landing in let state = start.args.state.now in let s = store_of state in
     let lands = landing.landing_at-w.ensures in let f = landing.landing_at-w.result.file in
     let end = at-end.write_end-end.result in

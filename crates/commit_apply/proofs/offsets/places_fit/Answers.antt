@@ -11,22 +11,19 @@ use Rattle.admission.specs.FirstRefusal.{below}
 use Rattle.commit_apply.proofs.OffsetLaws.{offset_fits_at, placed-all, room_fits}
 use borrow.Author.Rules.{rules}
 use Rattle.commit_apply.proofs.offsets.places_fit.Goals as goal
-use Rattle.commit_apply.proofs.offsets.places_fit.Tie as tie
-
--- The committed offset that was read is at most 4,096.
-limit : (c : tie.After-offset_at-room goal.the-invariant-loop-d goal.the-decreases-loop-d) → c.offset_at-room.result ≤ file_bytes
-limit c = let l : c.loop-d.d < descriptor_count = omega arith in let e = c.offset_at-room.ensures in
-    omega (arith, c.requires.1 c.loop-d.d l)
 
 pub loop-d-init : goal.loop-d-init
 loop-d-init c = (omega arith, none_yet _)
 
 pub loop-d-preserved : goal.loop-d-preserved
-loop-d-preserved c = let at_offset = c in let l = at_offset.loop-d in
+loop-d-preserved c =
+    let limit : c.offset_at-room.result ≤ file_bytes = let l : c.loop-d.d < descriptor_count = omega arith in let e = c.offset_at-room.ensures in
+    omega (arith, c.requires.1 c.loop-d.d l) in
+    let at_offset = c in let l = at_offset.loop-d in
     let a = at_offset.args in let z = standing_at (transaction_of a.state.now a.t) l.d in (
       omega arith,
       one_more _ _ _ _ l.invariant.1 (ap not c.may_wait_to.ensures ∙ room_fits z at_offset.offset_at-room.result
-          (c.wide.result + 1) (limit at_offset) (omega (arith, c.wide.ensures.0))
+          (c.wide.result + 1) limit (omega (arith, c.wide.ensures.0))
           ∙ ap (λ (n : ℕ). leb (n + advance z) file_bytes) at_offset.offset_at-room.ensures),
     )
 

@@ -6,10 +6,9 @@ use Rattle.limits.specs.Limits.{file_bytes}
 use Rattle.commit_apply.proofs.SaveUndoLaws.{saved-descriptor-in, place_in, landed-is}
 use borrow.Author.Rules.{rules}
 use Rattle.commit_apply.proofs.save_undo.landed_record.Goals as goal
-use Rattle.commit_apply.proofs.save_undo.landed_record.Tie as tie
 
 -- Landmarks of a record whose place is found.
-abbrev read_of : tie.After-lands_at → tie.After-wide
+abbrev read_of : goal.After-lands_at → goal.After-wide
 read_of c = c
 
 pub returns : goal.returns

@@ -10,40 +10,35 @@ use Rattle.read_settle.specs.Records.{PlacedIn}
 use Rattle.read_settle.proofs.RecordLaws.{after-preserved, after-placed, after-settled, placed-none, next-record}
 use Rattle.read_settle.proofs.RecordLaws.{offset-preserved, one_placed, one-preserved}
 use Rattle.read_settle.proofs.records.place_records.Goals as goal
-use Rattle.read_settle.proofs.records.place_records.Tie as tie
 
 -- The record that is looked at: it is not changed yet, and in range.
-abbrev start_of : tie.After-record_at-w goal.the-invariant-loop-k goal.the-decreases-loop-k → tie.Start goal.the-invariant-loop-k goal.the-decreases-loop-k
+abbrev start_of : goal.After-record_at-w → goal.Start
 start_of c = c
 
-abbrev at : tie.After-record_at-w goal.the-invariant-loop-k goal.the-decreases-loop-k → ℕ
+abbrev at : goal.After-record_at-w → ℕ
 at c = c.loop-k.k
-
-few : (c : tie.After-record_at-w goal.the-invariant-loop-k goal.the-decreases-loop-k) → at c < record_count
-few c = omega (arith, (start_of c).requires.few)
-
-small : (c : tie.After-record_at-w goal.the-invariant-loop-k goal.the-decreases-loop-k) → (start_of c).args.t < 9
-small c = omega (arith, (start_of c).requires.small)
-
-looked-at : (c : tie.After-record_at-w goal.the-invariant-loop-k goal.the-decreases-loop-k)
-    → c.record_at-w.result ≡ write_record_at (journal_of (start_of c).args.state.now) (start_of c).args.t (at c)
-looked-at c = let l = c.loop-k in
-    c.record_at-w.ensures ∙ next-record _ _ _ _ _ l.invariant.1 (small c) (few c)
-
-low-descriptor : (c : tie.After-record_at-w goal.the-invariant-loop-k goal.the-decreases-loop-k) → c.record_at-w.result.descriptor < descriptor_count
-low-descriptor c = rw (looked-at c) ((start_of c).requires.descriptors (at c) (omega arith))
-
-low-place : (c : tie.After-record_at-w goal.the-invariant-loop-k goal.the-decreases-loop-k) → place_number c.record_at-w.result.place ≤ file_bytes
-low-place c = rw (looked-at c) ((start_of c).requires.places (at c) (omega arith))
 
 pub loop-k-init : goal.loop-k-init
 loop-k-init c = (omega arith, placed-none _ _ _ c.requires.long)
 
 pub bounds-chosen-d : goal.bounds-chosen-d
-bounds-chosen-d c = omega (arith, c.wide-d.ensures.0, low-descriptor c)
+bounds-chosen-d c =
+    let few : at c < record_count = omega (arith, (start_of c).requires.few) in
+    let small : (start_of c).args.t < 9 = omega (arith, (start_of c).requires.small) in
+    let looked-at : c.record_at-w.result ≡ write_record_at (journal_of (start_of c).args.state.now) (start_of c).args.t (at c) = let l = c.loop-k in
+    c.record_at-w.ensures ∙ next-record _ _ _ _ _ l.invariant.1 small few in
+    let low-descriptor : c.record_at-w.result.descriptor < descriptor_count = rw looked-at ((start_of c).requires.descriptors (at c) (omega arith)) in
+    omega (arith, c.wide-d.ensures.0, low-descriptor)
 
 pub overflow_add-c : goal.overflow_add-c
-overflow_add-c c = let called = c in let d = called.wide-d in
+overflow_add-c c =
+    let few : at c < record_count = omega (arith, (start_of c).requires.few) in
+    let small : (start_of c).args.t < 9 = omega (arith, (start_of c).requires.small) in
+    let looked-at : c.record_at-w.result ≡ write_record_at (journal_of (start_of c).args.state.now) (start_of c).args.t (at c) = let l = c.loop-k in
+    c.record_at-w.ensures ∙ next-record _ _ _ _ _ l.invariant.1 small few in
+    let low-descriptor : c.record_at-w.result.descriptor < descriptor_count = rw looked-at ((start_of c).requires.descriptors (at c) (omega arith)) in
+    let low-place : place_number c.record_at-w.result.place ≤ file_bytes = rw looked-at ((start_of c).requires.places (at c) (omega arith)) in
+    let called = c in let d = called.wide-d in
     let looked = called in
     let l = looked.loop-k in
     let low : d.result < 16 = omega (arith, d.ensures.0, low-descriptor looked) in omega (
@@ -56,10 +51,13 @@ overflow_add-c c = let called = c in let d = called.wide-d in
     )
 
 pub loop-k-preserved : goal.loop-k-preserved
-loop-k-preserved c = let looked = c in let l = looked.loop-k in let a = (start_of looked).args in
+loop-k-preserved c =
+    let few : at c < record_count = omega (arith, (start_of c).requires.few) in
+    let small : (start_of c).args.t < 9 = omega (arith, (start_of c).requires.small) in
+    let looked = c in let l = looked.loop-k in let a = (start_of looked).args in
     let w = looked.record_at-w.result in let so_far = l.invariant.1 in
-    let state = one-preserved _ _ _ _ _ so_far (small looked) (few looked) w looked.record_at-w.ensures in
-    let placed = one_placed _ _ _ _ _ so_far (small looked) (few looked) w looked.record_at-w.ensures in (
+    let state = one-preserved _ _ _ _ _ so_far small few w looked.record_at-w.ensures in
+    let placed = one_placed _ _ _ _ _ so_far small few w looked.record_at-w.ensures in (
       omega arith,
       ⊎_elim (λ v. placed _ _ (v.9 ∙ v.8.ensures) (after-settled _ _ w _ v.3.ensures.0 _ v.1.given.1
           v.4.taken _ (v.6.ensures ∙ offset-preserved _ _ _ _ _ so_far _)))

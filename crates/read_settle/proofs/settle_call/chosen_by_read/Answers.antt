@@ -11,13 +11,6 @@ use Rattle.state.specs.{StoreMeaning.standing_at, Layout.{transaction_of, store_
 use Rattle.state.proofs.Filled.{filled, filled_none, filled-all, filled-set}
 use Rattle.read_settle.proofs.ChoiceLaws.{waiting_of, chosen-with-own, chosen-without-own}
 use Rattle.read_settle.proofs.settle_call.chosen_by_read.Goals as goal
-use Rattle.read_settle.proofs.settle_call.chosen_by_read.Tie as tie
-
--- Those that wait are all chosen.
-waiting : (c : tie.After-loop-e goal.the-invariant-loop-e goal.the-decreases-loop-e) → let a = c.args in c.loop-e.chosen
-    ≡ tabulate (waiting_of (store_of a.state.now).filenumbers (transaction_of a.state.now a.t) a.d) 16
-waiting c = let l = c.loop-e in let e : l.e ≡ 16 = omega arith in
-    l.invariant.1 ∙ ap (filled _ (replicate 16 false)) e ∙ filled-all _ (replicate 16 false) 16 (omega arith)
 
 pub loop-e-init : goal.loop-e-init
 loop-e-init c = (omega arith, sym (filled_none _ (replicate 16 false)))
@@ -33,10 +26,16 @@ loop-e-preserved c = let at-loop = c in let a = at-loop.args in
     )
 
 pub returns-then-read_settles_at : goal.returns-then-read_settles_at
-returns-then-read_settles_at c = let after = c in let a = after in
-    ap (λ (l : List Bool). set l a.args.d true) (waiting after)
+returns-then-read_settles_at c =
+    let waiting : let a = c.args in c.loop-e.chosen ≡ tabulate (waiting_of (store_of a.state.now).filenumbers (transaction_of a.state.now a.t) a.d) 16 = let l = c.loop-e in let e : l.e ≡ 16 = omega arith in
+    l.invariant.1 ∙ ap (filled _ (replicate 16 false)) e ∙ filled-all _ (replicate 16 false) 16 (omega arith) in
+    let after = c in let a = after in
+    ap (λ (l : List Bool). set l a.args.d true) waiting
     ∙ chosen-with-own _ _ a.args.d a.requires.1 (sym c.read_settles_at-2.ensures ∙ c.if-read_settles_at.true)
 
 pub returns-else-read_settles_at : goal.returns-else-read_settles_at
-returns-else-read_settles_at c = let after = c in
-    waiting after ∙ chosen-without-own _ _ _ (sym c.read_settles_at-2.ensures ∙ c.if-read_settles_at.false)
+returns-else-read_settles_at c =
+    let waiting : let a = c.args in c.loop-e.chosen ≡ tabulate (waiting_of (store_of a.state.now).filenumbers (transaction_of a.state.now a.t) a.d) 16 = let l = c.loop-e in let e : l.e ≡ 16 = omega arith in
+    l.invariant.1 ∙ ap (filled _ (replicate 16 false)) e ∙ filled-all _ (replicate 16 false) 16 (omega arith) in
+    let after = c in
+    waiting ∙ chosen-without-own _ _ _ (sym c.read_settles_at-2.ensures ∙ c.if-read_settles_at.false)

@@ -14,23 +14,20 @@ use Rattle.read_settle.proofs.ChoiceLaws.{settled_front, settled-none, settled-a
 use Rattle.read_settle.proofs.ChoiceLaws.{within-preserved, within-settled, within-past}
 use Rattle.read_settle.proofs.settle_call.settle.Goals as goal
 use Rattle.read_settle.proofs.settle_call.settle.Goals.{else-chosen-e, then-chosen-e+else-c-advance}
-use Rattle.read_settle.proofs.settle_call.settle.Tie as tie
-
--- The committed offset of a chosen descriptor is within its file.
-low : (c : tie.After-offset_at-c goal.the-invariant-loop-e goal.the-decreases-loop-e) → c.offset_at-c.result ≤ file_bytes
-low c = let at-loop = c in
-    rw c.offset_at-c.ensures (at-loop.requires.committed at-loop.loop-e.e (omega arith))
 
 pub loop-e-init : goal.loop-e-init
 loop-e-init c = (omega arith, settled-none _ _ _, below-zero _)
 
 pub returns-then-c-advance : goal.returns-then-c-advance
 unfolding all_within settling_of
-returns-then-c-advance c = let looked = c in let at-loop = looked in
+returns-then-c-advance c =
+    let low : c.offset_at-c.result ≤ file_bytes = let at-loop = c in
+    rw c.offset_at-c.ensures (at-loop.requires.committed at-loop.loop-e.e (omega arith)) in
+    let looked = c in let at-loop = looked in
     let a = at-loop.args in let offsets = (store_of a.state.now).offsets in let e = at-loop.loop-e.e in
     rw (below_fails (settles_within a.t3 offsets a.t2) e 16 (omega arith)
     (within-past a.t3 offsets a.t2 e looked.if-chosen-e.true
-    (omega (arith, c.advance.ensures, looked.offset_at-c.ensures, low looked))))
+    (omega (arith, c.advance.ensures, looked.offset_at-c.ensures, low))))
 
 pub loop-e-preserved : goal.loop-e-preserved
 loop-e-preserved c = let l = c.loop-e in let start = c in let a = start.args in

@@ -1,0 +1,41 @@
+-- `commit_apply::offsets::put_offsets` meets its contract. The loop's invariant: the offsets of the descriptors passed are set.
+use mathlib.Core.{List.List, Logic.⊎_elim, Path.{◌≡◌, refl, sym, ap, ◌∙◌}}
+use Prim.Native.Nat.{ℕ, ◌-◌, ◌≤◌, ◌<◌}
+use native.Mathlib.Omega.{arith}
+use Rattle.limits.specs.Limits.{descriptor_count}
+use Rattle.state.specs.{StoreMeaning.with_offsets, Layout.store_of}
+use Rattle.spec.specs.Commits.{sets_offset}
+use Rattle.commit_apply.specs.Apply.{Means}
+use Rattle.commit_apply.proofs.OffsetLaws.{fits-at, offsets_set, offsets-none, offset-still, offset-put, offset-left}
+use borrow.Author.Rules.{rules}
+use Rattle.commit_apply.proofs.offsets.put_offsets.Goals as goal
+
+pub loop-d-init : goal.loop-d-init
+loop-d-init c =
+    let state = c.args.state.now in (
+      omega arith,
+      record {
+        store = ap (λ (os : List ℕ). with_offsets os (store_of state)) (sym (offsets-none c.args.t2 (store_of state).offsets));
+        journal = refl;
+        long = c.requires.0;
+      },
+    )
+
+pub final_offset-requires : goal.final_offset-requires
+final_offset-requires c = let at-loop = c in
+    let start = at-loop in let d = at-loop.loop-d.d in let few : d < descriptor_count = omega arith in omega (
+      arith,
+      fits-at (store_of start.args.state.now) start.args.t2 start.requires.1 d few,
+      c.offset_at-c.ensures,
+      offset-still start.args.t2 _ _ d few at-loop.loop-d.invariant.1,
+    )
+
+pub loop-d-preserved : goal.loop-d-preserved
+unfolding sets_offset
+loop-d-preserved c = let l = c.loop-d in
+    let x = c.args.t2 in let few : l.d < descriptor_count = omega arith in
+    let e = sym c.sets_offset.ensures in (
+      omega arith,
+      ⊎_elim (λ w. offset-put x _ _ l.d few l.invariant.1 (e ∙ w.0.taken) _ _ _ w.2.ensures w.4.ensures
+          (w.6 ∙ w.5.ensures)) (λ w. offset-left x _ _ l.d few l.invariant.1 (e ∙ w.0.left) _ w.1) c.if-sets_offset.branch,
+    )

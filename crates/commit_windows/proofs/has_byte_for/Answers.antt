@@ -14,24 +14,6 @@ use Rattle.commit_windows.specs.WindowCheck.{record_has_byte_for, has_byte_for}
 use Rattle.commit_windows.proofs.ClosingLaws.{few-closing, closing-descriptor-in, file-in}
 use Rattle.commit_windows.proofs.has_byte_for.Goals as goal
 
--- A record that was read: its descriptor is one of the sixteen.
-abbrev loop-of : goal.After-record_at-write → goal.At-loop-k
-loop-of c = c
-
-abbrev start_of : goal.After-record_at-write → goal.Start
-start_of c = (loop-of c).before.before
-
--- Its file is one of the eight.
-abbrev read_of : goal.After-wide-f → goal.After-record_at-write
-read_of c = c
-
--- What the test of the record says.
-abbrev kept_of : goal.After-contains → goal.After-wide-f
-kept_of c = c
-
-abbrev testing : goal.Start → ℕ → Bool
-testing s = record_has_byte_for s.args.state.now s.args.t s.args.octet
-
 pub loop-k-init : goal.loop-k-init
 loop-k-init c = (omega arith, some-none _)
 
@@ -45,71 +27,75 @@ record_at-write-requires c = let at-loop = c in let start = at-loop in
 
 pub file_at-requires : goal.file_at-requires
 file_at-requires c =
-    let descriptor : c.record_at-write.result.descriptor < descriptor_count = let start = start_of c in
-    let n : (loop-of c).before.used-at.result.records ≡ (transaction_of start.args.state.now
-    start.args.t).used.records = ap (λ (u : Used). u.records) (loop-of c).before.used-at.ensures in
-    rw c.record_at-write.ensures (closing-descriptor-in start.args.state.now start.args.t start.pre
-    (loop-of c).loop.k (omega (arith, n, c.loop-k-test.true))) in
+    let descriptor : c.record_at-write.result.descriptor < descriptor_count = let start = c in
+    let n : c.used_at-used.result.records ≡ (transaction_of start.args.state.now
+    start.args.t).used.records = ap (λ (u : Used). u.records) c.used_at-used.ensures in
+    rw c.record_at-write.ensures (closing-descriptor-in start.args.state.now start.args.t start.requires
+    c.loop-k.k (omega (arith, n, c.loop-k-test.true))) in
     omega (arith, descriptor, c.wide.ensures.0)
 
 pub contains-requires : goal.contains-requires
 contains-requires c =
-    let descriptor : c.record_at-write.result.descriptor < descriptor_count = let start = start_of c in
-    let n : (loop-of c).before.used-at.result.records ≡ (transaction_of start.args.state.now
-    start.args.t).used.records = ap (λ (u : Used). u.records) (loop-of c).before.used-at.ensures in
-    rw c.record_at-write.ensures (closing-descriptor-in start.args.state.now start.args.t start.pre
-    (loop-of c).loop.k (omega (arith, n, c.loop-k-test.true))) in
-    let file-is : c.wide-f.result ≡ get_or (store_of (start_of (read_of c)).args.state.now).filenumbers (read_of c).record-at.result.descriptor 0 = c.wide-f.ensures.0 ∙ c.file_at.ensures ∙ ap (λ (d : ℕ). get_or
-    (store_of (start_of (read_of c)).args.state.now).filenumbers d 0) c.wide.ensures.0 in
-    let read = read_of c in let start = start_of read in omega (
+    let descriptor : c.record_at-write.result.descriptor < descriptor_count = let start = c in
+    let n : c.used_at-used.result.records ≡ (transaction_of start.args.state.now
+    start.args.t).used.records = ap (λ (u : Used). u.records) c.used_at-used.ensures in
+    rw c.record_at-write.ensures (closing-descriptor-in start.args.state.now start.args.t start.requires
+    c.loop-k.k (omega (arith, n, c.loop-k-test.true))) in
+    let file-is : c.wide-f.result ≡ get_or (store_of c.args.state.now).filenumbers c.record_at-write.result.descriptor 0 = c.wide-f.ensures.0 ∙ c.file_at.ensures ∙ ap (λ (d : ℕ). get_or
+    (store_of c.args.state.now).filenumbers d 0) c.wide.ensures.0 in
+    let read = c in let start = read in omega (
   arith,
   file-is,
-  file-in start.args.state.now start.args.t start.pre read.record-at.result.descriptor (descriptor read),
+  file-in start.args.state.now start.args.t start.requires read.record_at-write.result.descriptor descriptor,
 )
 
 pub returns-then-write-contains : goal.returns-then-write-contains
 unfolding has_byte_for
 returns-then-write-contains c =
-    let descriptor : c.record_at-write.result.descriptor < descriptor_count = let start = start_of c in
-    let n : (loop-of c).before.used-at.result.records ≡ (transaction_of start.args.state.now
-    start.args.t).used.records = ap (λ (u : Used). u.records) (loop-of c).before.used-at.ensures in
-    rw c.record_at-write.ensures (closing-descriptor-in start.args.state.now start.args.t start.pre
-    (loop-of c).loop.k (omega (arith, n, c.loop-k-test.true))) in
-    let file-is : c.wide-f.result ≡ get_or (store_of (start_of (read_of c)).args.state.now).filenumbers (read_of c).record-at.result.descriptor 0 = c.wide-f.ensures.0 ∙ c.file_at.ensures ∙ ap (λ (d : ℕ). get_or
-    (store_of (start_of (read_of c)).args.state.now).filenumbers d 0) c.wide.ensures.0 in
-    let this : let read = read_of (kept_of c) in testing (start_of read) (loop-of read).loop.k ≡ ltb 0 read.record-at.result.length && c.contains.result = unfold record_has_byte_for in let read = read_of (kept_of c) in let a = (start_of read).args in
+    let descriptor : c.record_at-write.result.descriptor < descriptor_count = let start = c in
+    let n : c.used_at-used.result.records ≡ (transaction_of start.args.state.now
+    start.args.t).used.records = ap (λ (u : Used). u.records) c.used_at-used.ensures in
+    rw c.record_at-write.ensures (closing-descriptor-in start.args.state.now start.args.t start.requires
+    c.loop-k.k (omega (arith, n, c.loop-k-test.true))) in
+    let file-is : c.wide-f.result ≡ get_or (store_of c.args.state.now).filenumbers c.record_at-write.result.descriptor 0 = c.wide-f.ensures.0 ∙ c.file_at.ensures ∙ ap (λ (d : ℕ). get_or
+    (store_of c.args.state.now).filenumbers d 0) c.wide.ensures.0 in
+    let testing : ℕ → Bool = record_has_byte_for c.args.state.now c.args.t c.args.octet in
+    let this : let read = c in testing read.loop-k.k ≡ ltb 0 read.record_at-write.result.length && c.contains.result = unfold record_has_byte_for in let read = c in let a = read.args in
     ap (λ (w : WriteRecord). ltb 0 w.length && contains a.octet (get_or (store_of a.state.now).filenumbers
-    w.descriptor 0)) (sym read.record-at.ensures) ∙ ap (λ (b : Bool). ltb 0 read.record-at.result.length && b)
-    (sym (c.contains.ensures ∙ ap (contains a.octet) (file-is (kept_of c)))) in
-    let read = read_of (kept_of c) in let at-loop = loop-of read in let start = start_of read in
+    w.descriptor 0)) (sym read.record_at-write.ensures) ∙ ap (λ (b : Bool). ltb 0 read.record_at-write.result.length && b)
+    (sym (c.contains.ensures ∙ ap (contains a.octet) file-is)) in
+    let read = c in let at-loop = read in let start = read in
     let n : at-loop.used_at-used.result.records ≡ (transaction_of start.args.state.now
     start.args.t).used.records = ap (λ (u : Used). u.records) at-loop.used_at-used.ensures in
-    sym (some-found (testing start) (transaction_of start.args.state.now start.args.t).used.records
-    at-loop.loop.k (omega (arith, n, read.loop-k-test.true)) (this ∙ c.if-write-contains.true))
+    sym (some-found testing (transaction_of start.args.state.now start.args.t).used.records
+    at-loop.loop-k.k (omega (arith, n, read.loop-k-test.true)) (this ∙ c.if-write-contains.true))
 
 pub loop-k-preserved : goal.loop-k-preserved
 loop-k-preserved c =
-    let descriptor : c.record_at-write.result.descriptor < descriptor_count = let start = start_of c in
-    let n : (loop-of c).before.used-at.result.records ≡ (transaction_of start.args.state.now
-    start.args.t).used.records = ap (λ (u : Used). u.records) (loop-of c).before.used-at.ensures in
-    rw c.record_at-write.ensures (closing-descriptor-in start.args.state.now start.args.t start.pre
-    (loop-of c).loop.k (omega (arith, n, c.loop-k-test.true))) in
-    let file-is : c.wide-f.result ≡ get_or (store_of (start_of (read_of c)).args.state.now).filenumbers (read_of c).record-at.result.descriptor 0 = c.wide-f.ensures.0 ∙ c.file_at.ensures ∙ ap (λ (d : ℕ). get_or
-    (store_of (start_of (read_of c)).args.state.now).filenumbers d 0) c.wide.ensures.0 in
-    let this : let read = read_of (kept_of c) in testing (start_of read) (loop-of read).loop.k ≡ ltb 0 read.record-at.result.length && c.contains.result = unfold record_has_byte_for in let read = read_of (kept_of c) in let a = (start_of read).args in
+    let descriptor : c.record_at-write.result.descriptor < descriptor_count = let start = c in
+    let n : c.used_at-used.result.records ≡ (transaction_of start.args.state.now
+    start.args.t).used.records = ap (λ (u : Used). u.records) c.used_at-used.ensures in
+    rw c.record_at-write.ensures (closing-descriptor-in start.args.state.now start.args.t start.requires
+    c.loop-k.k (omega (arith, n, c.loop-k-test.true))) in
+    let file-is : c.wide-f.result ≡ get_or (store_of c.args.state.now).filenumbers c.record_at-write.result.descriptor 0 = c.wide-f.ensures.0 ∙ c.file_at.ensures ∙ ap (λ (d : ℕ). get_or
+    (store_of c.args.state.now).filenumbers d 0) c.wide.ensures.0 in
+    let testing : ℕ → Bool = record_has_byte_for c.args.state.now c.args.t c.args.octet in
+    let this : let read = c in testing read.loop-k.k ≡ ltb 0 read.record_at-write.result.length && c.contains.result = unfold record_has_byte_for in let read = c in let a = read.args in
     ap (λ (w : WriteRecord). ltb 0 w.length && contains a.octet (get_or (store_of a.state.now).filenumbers
-    w.descriptor 0)) (sym read.record-at.ensures) ∙ ap (λ (b : Bool). ltb 0 read.record-at.result.length && b)
-    (sym (c.contains.ensures ∙ ap (contains a.octet) (file-is (kept_of c)))) in
-    let read = read_of (kept_of c) in let at-loop = loop-of read in (
+    w.descriptor 0)) (sym read.record_at-write.ensures) ∙ ap (λ (b : Bool). ltb 0 read.record_at-write.result.length && b)
+    (sym (c.contains.ensures ∙ ap (contains a.octet) file-is)) in
+    let read = c in let at-loop = read in (
   omega (arith, read.loop-k-test.true),
-  some_more (testing (start_of read)) at-loop.loop.k at-loop.loop.inv.1 (this ∙ c.if-write-contains.false),
+  some_more testing at-loop.loop-k.k at-loop.loop-k.invariant.1 (this ∙ c.if-write-contains.false),
 )
 
 pub returns : goal.returns
 unfolding has_byte_for
-returns c = let at-loop = c in let start = at-loop in
+returns c =
+    let testing : ℕ → Bool = record_has_byte_for c.args.state.now c.args.t c.args.octet in
+    let at-loop = c in let start = at-loop in
     let n : at-loop.used_at-used.result.records ≡ (transaction_of start.args.state.now
     start.args.t).used.records = ap (λ (u : Used). u.records) at-loop.used_at-used.ensures in
     let all : at-loop.loop-k.k ≡ (transaction_of start.args.state.now start.args.t).used.records =
     omega (arith, n, c.loop-k-test.false, at-loop.loop-k.invariant.0) in
-    sym (ap (some_below (testing start)) (sym all) ∙ at-loop.loop-k.invariant.1)
+    sym (ap (some_below testing) (sym all) ∙ at-loop.loop-k.invariant.1)

@@ -8,13 +8,13 @@ use Rattle.commit_windows.proofs.has_byte_for_closed.Goals as goal
 
 -- No file is closed.
 pub returns-then-closed-eq0 : goal.returns-then-closed-eq0
-returns-then-closed-eq0 c = let start = c in
+returns-then-closed-eq0 c logs long = let start = c in
     sym (none-closed start.args.state.now start.args.t _ c.if-closed-eq0.true)
     ∙ ap (has_byte_for start.args.state.now start.args.t) c.closed_files-closed.ensures
     ∙ closed_is start.args.state.now start.args.t start.requires logs long start.args.minute
 
 pub returns : goal.returns
-returns c = let start = c in
+returns c logs long = let start = c in
     c.has_byte_for.ensures
     ∙ ap (has_byte_for start.args.state.now start.args.t) c.closed_files-closed.ensures
     ∙ closed_is start.args.state.now start.args.t start.requires logs long start.args.minute

@@ -23,7 +23,7 @@ put_list-requires c = let start = c in let l = start.args.list.now in
       length-number c.wide.result,
       length-drop 1 l,
       length-take (length l - 1) (drop 1 l),
-      start.pre,
+      start.requires,
     )
 
 pub returns : goal.returns

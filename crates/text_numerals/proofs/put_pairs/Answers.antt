@@ -37,11 +37,11 @@ loop-i-preserved c = let l =
     c.loop-i in
     let bs = c.args.bytes.now in
     let fits : c.args.at + 2 * length bs ≤ length c.args.out.now = c.requires in
-    let h : l.i < length bs = c.loop-i-test.true in let n = length_pairs (take l.i bs) in let m = length-take-le l.i bs l.inv.0 in
+    let h : l.i < length bs = c.loop-i-test.true in let n = length_pairs (take l.i bs) in let m = length-take-le l.i bs l.invariant.0 in
     let s = hex_pairs (take l.i bs) in
     let x = c.glyph.result in
     let y = c.glyph-in-loop-i.result in let e = length-append s (x ∷ []) in
-    let first = then s (x ∷ []) (omega arith) l.inv.1.0
+    let first = then s (x ∷ []) (omega arith) l.invariant.1.0
     c.put_byte-next.ensures in
     let both = then (s ++ (x ∷ [])) (y ∷ []) (omega arith) first c.put_byte-next-in-loop-i.ensures in (
       omega arith,

@@ -12,35 +12,31 @@ use mathlib.Core.Bool.{not}
 use mathlib.Core.Path.{ap}
 use Rattle.call_write.proofs.seek_call.seek.Goals as goal
 
--- What the caller lent.
-abbrev machine : goal.Start → Machine
-machine c = machine_of c.args.state.now c.args.files.now c.args.logs.now c.args.marks.now c.args.undo.now
-
--- The start of a call that tests 1 to 3 have let through, and what they told.
-abbrev start_of : goal.In_default → goal.Start
-start_of c = c
-
 pub returns-in-Refused : goal.returns-in-Refused
 unfolding call admitted admission buffer_of
-returns-in-Refused c = let start = c in
-    let m = machine start in let o = Op.seek start.args.d start.args.v in
+returns-in-Refused c =
+    let machine : Machine = machine_of c.args.state.now c.args.files.now c.args.logs.now c.args.marks.now c.args.undo.now in
+    let start = c in
+    let m = machine in let o = Op.seek start.args.d start.args.v in
     let e = gate-refused _ m start.args.t c.admit-gate.ensures.gate _ _ (buffer_of o)
     (step_turn start.args.t o m) c.in-Refused.is in turned-follows _ (buffer_of o) _ _ _ _ _ _ e
 
 pub is_begun-requires : goal.is_begun-requires
 is_begun-requires c =
-    let let_through : LetThrough (machine (start_of c)) (start_of c).args.t = gate-let-through _ (machine (start_of c)) (start_of c).args.t c.admit-gate.ensures.gate
+    let machine : Machine = machine_of c.args.state.now c.args.files.now c.args.logs.now c.args.marks.now c.args.undo.now in
+    let let_through : LetThrough machine c.args.t = gate-let-through _ machine c.args.t c.admit-gate.ensures.gate
     c.in_default.is in
     let_through.small
 
 pub returns-then-not-is_begun : goal.returns-then-not-is_begun
 unfolding call buffer_of
 returns-then-not-is_begun c =
-    let passed : shared_with (machine (start_of c)) (start_of c).args.t 0 ≡ 0 = gate-passed _ (machine (start_of c)) (start_of c).args.t c.admit-gate.ensures.gate
+    let machine : Machine = machine_of c.args.state.now c.args.files.now c.args.logs.now c.args.marks.now c.args.undo.now in
+    let passed : shared_with machine c.args.t 0 ≡ 0 = gate-passed _ machine c.args.t c.admit-gate.ensures.gate
     c.in_default.is in
-    let let_through : LetThrough (machine (start_of c)) (start_of c).args.t = gate-let-through _ (machine (start_of c)) (start_of c).args.t c.admit-gate.ensures.gate
+    let let_through : LetThrough machine c.args.t = gate-let-through _ machine c.args.t c.admit-gate.ensures.gate
     c.in_default.is in
-    let told = c in let start = start_of told in let m = machine start in
+    let told = c in let start = told in let m = machine in
     let o = Op.seek start.args.d start.args.v in
     let closed = is-closed start.args.state.now start.args.t let_through.small
     c.is_begun.ensures (ap not c.if-not-is_begun.true) in
@@ -49,71 +45,76 @@ returns-then-not-is_begun c =
 
 pub returns-then-d-gt-LAST_DESCRIPTOR : goal.returns-then-d-gt-LAST_DESCRIPTOR
 returns-then-d-gt-LAST_DESCRIPTOR c =
-    let passed : shared_with (machine (start_of c)) (start_of c).args.t 0 ≡ 0 = gate-passed _ (machine (start_of c)) (start_of c).args.t c.admit-gate.ensures.gate
+    let machine : Machine = machine_of c.args.state.now c.args.files.now c.args.logs.now c.args.marks.now c.args.undo.now in
+    let passed : shared_with machine c.args.t 0 ≡ 0 = gate-passed _ machine c.args.t c.admit-gate.ensures.gate
     c.in_default.is in
-    let let_through : LetThrough (machine (start_of c)) (start_of c).args.t = gate-let-through _ (machine (start_of c)) (start_of c).args.t c.admit-gate.ensures.gate
+    let let_through : LetThrough machine c.args.t = gate-let-through _ machine c.args.t c.admit-gate.ensures.gate
     c.in_default.is in
-    let begun : let start = start_of c in (transaction (machine start).store start.args.t).begun ≡ true = let told = c in
-    is_open (start_of told).args.state.now (start_of told).args.t let_through.small
+    let begun : let start = c in (transaction machine.store start.args.t).begun ≡ true = let told = c in
+    is_open told.args.state.now told.args.t let_through.small
     c.is_begun.ensures (ap not c.if-not-is_begun.false) in
-    let admits : let m = machine (start_of c) in admission (sizes m) m.store m.journal (start_of c).args.t ≡ 0 = let told = c in
-    admission-open (machine (start_of told)) (start_of told).args.t passed begun in
-    let start = start_of c in
+    let admits : let m = machine in admission (sizes m) m.store m.journal c.args.t ≡ 0 = let told = c in
+    admission-open machine told.args.t passed begun in
+    let start = c in
     turned-follows NoSuchTarget [] _ _ _ _ _ _ (seek-no-descriptor start.args.t start.args.d start.args.v
-    (machine start) admits c.if-d-gt-LAST_DESCRIPTOR.true)
+    machine admits c.if-d-gt-LAST_DESCRIPTOR.true)
 
 pub returns-then-v-gt-FILE_BYTES : goal.returns-then-v-gt-FILE_BYTES
 returns-then-v-gt-FILE_BYTES c =
-    let passed : shared_with (machine (start_of c)) (start_of c).args.t 0 ≡ 0 = gate-passed _ (machine (start_of c)) (start_of c).args.t c.admit-gate.ensures.gate
+    let machine : Machine = machine_of c.args.state.now c.args.files.now c.args.logs.now c.args.marks.now c.args.undo.now in
+    let passed : shared_with machine c.args.t 0 ≡ 0 = gate-passed _ machine c.args.t c.admit-gate.ensures.gate
     c.in_default.is in
-    let let_through : LetThrough (machine (start_of c)) (start_of c).args.t = gate-let-through _ (machine (start_of c)) (start_of c).args.t c.admit-gate.ensures.gate
+    let let_through : LetThrough machine c.args.t = gate-let-through _ machine c.args.t c.admit-gate.ensures.gate
     c.in_default.is in
-    let begun : let start = start_of c in (transaction (machine start).store start.args.t).begun ≡ true = let told = c in
-    is_open (start_of told).args.state.now (start_of told).args.t let_through.small
+    let begun : let start = c in (transaction machine.store start.args.t).begun ≡ true = let told = c in
+    is_open told.args.state.now told.args.t let_through.small
     c.is_begun.ensures (ap not c.if-not-is_begun.false) in
-    let admits : let m = machine (start_of c) in admission (sizes m) m.store m.journal (start_of c).args.t ≡ 0 = let told = c in
-    admission-open (machine (start_of told)) (start_of told).args.t passed begun in
-    let start = start_of c in
+    let admits : let m = machine in admission (sizes m) m.store m.journal c.args.t ≡ 0 = let told = c in
+    admission-open machine told.args.t passed begun in
+    let start = c in
     turned-follows SeekPastEnd [] _ _ _ _ _ _ (seek-past-end start.args.t start.args.d start.args.v
-    (machine start) admits c.if-d-gt-LAST_DESCRIPTOR.false c.if-v-gt-FILE_BYTES.true)
+    machine admits c.if-d-gt-LAST_DESCRIPTOR.false c.if-v-gt-FILE_BYTES.true)
 
 pub standing_at-standing-requires : goal.standing_at-standing-requires
 standing_at-standing-requires c =
-    let let_through : LetThrough (machine (start_of c)) (start_of c).args.t = gate-let-through _ (machine (start_of c)) (start_of c).args.t c.admit-gate.ensures.gate
+    let machine : Machine = machine_of c.args.state.now c.args.files.now c.args.logs.now c.args.marks.now c.args.undo.now in
+    let let_through : LetThrough machine c.args.t = gate-let-through _ machine c.args.t c.admit-gate.ensures.gate
     c.in_default.is in
     (let_through.small, omega arith)
 
 pub put_descriptor-requires : goal.put_descriptor-requires
 put_descriptor-requires c =
-    let let_through : LetThrough (machine (start_of c)) (start_of c).args.t = gate-let-through _ (machine (start_of c)) (start_of c).args.t c.admit-gate.ensures.gate
+    let machine : Machine = machine_of c.args.state.now c.args.files.now c.args.logs.now c.args.marks.now c.args.undo.now in
+    let let_through : LetThrough machine c.args.t = gate-let-through _ machine c.args.t c.admit-gate.ensures.gate
     c.in_default.is in
-    let begun : let start = start_of c in (transaction (machine start).store start.args.t).begun ≡ true = let told = c in
-    is_open (start_of told).args.state.now (start_of told).args.t let_through.small
+    let begun : let start = c in (transaction machine.store start.args.t).begun ≡ true = let told = c in
+    is_open told.args.state.now told.args.t let_through.small
     c.is_begun.ensures (ap not c.if-not-is_begun.false) in
     let open-here = c in
-    let told = open-here in let a = (start_of told).args in (
-      (let_through told).small,
+    let told = open-here in let a = told.args in (
+      let_through.small,
       omega arith,
       seek-fits a.t a.d a.v a.state.now a.files.now a.logs.now a.marks.now a.undo.now
           told.admit-gate.ensures.long c.if-d-gt-LAST_DESCRIPTOR.false
-          c.if-v-gt-FILE_BYTES.false (let_through told) begun _ _
+          c.if-v-gt-FILE_BYTES.false let_through begun _ _
           c.standing_at-standing.ensures c.after_seek.ensures,
     )
 
 pub returns : goal.returns
 returns c =
-    let passed : shared_with (machine (start_of c)) (start_of c).args.t 0 ≡ 0 = gate-passed _ (machine (start_of c)) (start_of c).args.t c.admit-gate.ensures.gate
+    let machine : Machine = machine_of c.args.state.now c.args.files.now c.args.logs.now c.args.marks.now c.args.undo.now in
+    let passed : shared_with machine c.args.t 0 ≡ 0 = gate-passed _ machine c.args.t c.admit-gate.ensures.gate
     c.in_default.is in
-    let let_through : LetThrough (machine (start_of c)) (start_of c).args.t = gate-let-through _ (machine (start_of c)) (start_of c).args.t c.admit-gate.ensures.gate
+    let let_through : LetThrough machine c.args.t = gate-let-through _ machine c.args.t c.admit-gate.ensures.gate
     c.in_default.is in
-    let begun : let start = start_of c in (transaction (machine start).store start.args.t).begun ≡ true = let told = c in
-    is_open (start_of told).args.state.now (start_of told).args.t let_through.small
+    let begun : let start = c in (transaction machine.store start.args.t).begun ≡ true = let told = c in
+    is_open told.args.state.now told.args.t let_through.small
     c.is_begun.ensures (ap not c.if-not-is_begun.false) in
-    let admits : let m = machine (start_of c) in admission (sizes m) m.store m.journal (start_of c).args.t ≡ 0 = let told = c in
-    admission-open (machine (start_of told)) (start_of told).args.t passed begun in
+    let admits : let m = machine in admission (sizes m) m.store m.journal c.args.t ≡ 0 = let told = c in
+    admission-open machine told.args.t passed begun in
     let open-here = c in
-    let told = open-here in let start = start_of told in
+    let told = open-here in let start = told in
     seek-follows start.args.t start.args.d start.args.v _ _ _ _ _ told.admit-gate.ensures.long
     c.if-d-gt-LAST_DESCRIPTOR.false c.if-v-gt-FILE_BYTES.false
-    admits (let_through told) begun _ _ c.standing_at-standing.ensures
+    admits let_through begun _ _ c.standing_at-standing.ensures
     c.after_seek.ensures _ c.put_descriptor.ensures

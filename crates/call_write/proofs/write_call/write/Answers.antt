@@ -18,52 +18,33 @@ use Rattle.call_write.proofs.WriteRules.{standing-within, write-follows}
 use mathlib.Core.Bool.{not}
 use Rattle.call_write.proofs.write_call.write.Goals as goal
 
--- What the caller lent.
-abbrev machine : goal.Start → Machine
-machine c = machine_of c.args.state.now c.args.files.now c.args.logs.now c.args.marks.now c.args.undo.now
-
--- The start of a call that tests 1 to 3 have let through, and what they told.
-abbrev start_of : goal.In_default → goal.Start
-start_of c = c
-
--- The transaction is open.
-abbrev told_at : goal.Else-not-is_begun → goal.In_default
-told_at c = c
-
--- The standing and the counters are read, and the place that the write is to have.
-abbrev open_at : goal.After-write_place → goal.Else-not-is_begun
-open_at c = c
-
-abbrev begin-of : goal.After-write_place → goal.Start
-begin-of c = start_of (told_at (open_at c))
-
--- There is room for the write.
-abbrev place_at : goal.In_default-verdict → goal.After-write_place
-place_at c = c
-
 pub returns-in-Refused : goal.returns-in-Refused
 unfolding call admitted admission buffer_of
-returns-in-Refused c = let start = c in
-    let m = machine start in let o = Op.write start.args.d start.args.bytes.now in
+returns-in-Refused c =
+    let machine : Machine = machine_of c.args.state.now c.args.files.now c.args.logs.now c.args.marks.now c.args.undo.now in
+    let start = c in
+    let m = machine in let o = Op.write start.args.d start.args.bytes.now in
     let e = gate-refused _ m start.args.t c.admit-gate.ensures.gate _ _ (buffer_of o)
     (step_turn start.args.t o m) c.in-Refused.is in turned-follows _ (buffer_of o) _ _ _ _ _ _ e
 
 pub is_begun-requires : goal.is_begun-requires
 is_begun-requires c =
-    let let_through : LetThrough (machine (start_of c)) (start_of c).args.t = gate-let-through _ (machine (start_of c)) (start_of c).args.t c.admit-gate.ensures.gate
+    let machine : Machine = machine_of c.args.state.now c.args.files.now c.args.logs.now c.args.marks.now c.args.undo.now in
+    let let_through : LetThrough machine c.args.t = gate-let-through _ machine c.args.t c.admit-gate.ensures.gate
     c.in_default.is in
-    let small : (begin-of (place_at c)).args.t < transaction_count = (let_through (told_at (open_at (place_at c)))).small in
+    let small : c.args.t < transaction_count = let_through.small in
     let_through.small
 
 pub returns-then-not-is_begun : goal.returns-then-not-is_begun
 unfolding call buffer_of
 returns-then-not-is_begun c =
-    let passed : shared_with (machine (start_of c)) (start_of c).args.t 0 ≡ 0 = gate-passed _ (machine (start_of c)) (start_of c).args.t c.admit-gate.ensures.gate
+    let machine : Machine = machine_of c.args.state.now c.args.files.now c.args.logs.now c.args.marks.now c.args.undo.now in
+    let passed : shared_with machine c.args.t 0 ≡ 0 = gate-passed _ machine c.args.t c.admit-gate.ensures.gate
     c.in_default.is in
-    let let_through : LetThrough (machine (start_of c)) (start_of c).args.t = gate-let-through _ (machine (start_of c)) (start_of c).args.t c.admit-gate.ensures.gate
+    let let_through : LetThrough machine c.args.t = gate-let-through _ machine c.args.t c.admit-gate.ensures.gate
     c.in_default.is in
-    let small : (begin-of (place_at c)).args.t < transaction_count = (let_through (told_at (open_at (place_at c)))).small in
-    let told = c in let start = start_of told in let m = machine start in
+    let small : c.args.t < transaction_count = let_through.small in
+    let told = c in let start = told in let m = machine in
     let o = Op.write start.args.d start.args.bytes.now in
     let closed = is-closed start.args.state.now start.args.t let_through.small
     c.is_begun.ensures (ap not c.if-not-is_begun.true) in
@@ -72,171 +53,181 @@ returns-then-not-is_begun c =
 
 pub returns-then-d-gt-LAST_DESCRIPTOR : goal.returns-then-d-gt-LAST_DESCRIPTOR
 returns-then-d-gt-LAST_DESCRIPTOR c =
-    let passed : shared_with (machine (start_of c)) (start_of c).args.t 0 ≡ 0 = gate-passed _ (machine (start_of c)) (start_of c).args.t c.admit-gate.ensures.gate
+    let machine : Machine = machine_of c.args.state.now c.args.files.now c.args.logs.now c.args.marks.now c.args.undo.now in
+    let passed : shared_with machine c.args.t 0 ≡ 0 = gate-passed _ machine c.args.t c.admit-gate.ensures.gate
     c.in_default.is in
-    let let_through : LetThrough (machine (start_of c)) (start_of c).args.t = gate-let-through _ (machine (start_of c)) (start_of c).args.t c.admit-gate.ensures.gate
+    let let_through : LetThrough machine c.args.t = gate-let-through _ machine c.args.t c.admit-gate.ensures.gate
     c.in_default.is in
-    let begun : let start = start_of (told_at c) in (transaction (machine start).store start.args.t).begun ≡ true = let start = start_of (told_at c) in
-    is_open start.args.state.now start.args.t (let_through (told_at c)).small c.is_begun.ensures
+    let begun : let start = c in (transaction machine.store start.args.t).begun ≡ true = let start = c in
+    is_open start.args.state.now start.args.t let_through.small c.is_begun.ensures
     (ap not c.if-not-is_begun.false) in
-    let admits : let start = start_of (told_at c) in let m = machine start in admission (sizes m) m.store m.journal start.args.t ≡ 0 = let start = start_of (told_at c) in
-    admission-open (machine start) start.args.t (passed (told_at c)) begun in
-    let small : (begin-of (place_at c)).args.t < transaction_count = (let_through (told_at (open_at (place_at c)))).small in
-    let start = start_of (told_at c) in
+    let admits : let start = c in let m = machine in admission (sizes m) m.store m.journal start.args.t ≡ 0 = let start = c in
+    admission-open machine start.args.t passed begun in
+    let small : c.args.t < transaction_count = let_through.small in
+    let start = c in
     turned-follows NoSuchTarget [] _ _ _ _ _ _ (write-no-descriptor start.args.t start.args.d
-    start.args.bytes.now (machine start) admits c.if-d-gt-LAST_DESCRIPTOR.true)
+    start.args.bytes.now machine admits c.if-d-gt-LAST_DESCRIPTOR.true)
 
 pub standing_at-standing-requires : goal.standing_at-standing-requires
 standing_at-standing-requires c =
-    let let_through : LetThrough (machine (start_of c)) (start_of c).args.t = gate-let-through _ (machine (start_of c)) (start_of c).args.t c.admit-gate.ensures.gate
+    let machine : Machine = machine_of c.args.state.now c.args.files.now c.args.logs.now c.args.marks.now c.args.undo.now in
+    let let_through : LetThrough machine c.args.t = gate-let-through _ machine c.args.t c.admit-gate.ensures.gate
     c.in_default.is in
-    let small : (begin-of (place_at c)).args.t < transaction_count = (let_through (told_at (open_at (place_at c)))).small in
-    ((let_through (told_at c)).small, omega arith)
+    let small : c.args.t < transaction_count = let_through.small in
+    (let_through.small, omega arith)
 
 pub used_at-used-requires : goal.used_at-used-requires
 used_at-used-requires c =
-    let let_through : LetThrough (machine (start_of c)) (start_of c).args.t = gate-let-through _ (machine (start_of c)) (start_of c).args.t c.admit-gate.ensures.gate
+    let machine : Machine = machine_of c.args.state.now c.args.files.now c.args.logs.now c.args.marks.now c.args.undo.now in
+    let let_through : LetThrough machine c.args.t = gate-let-through _ machine c.args.t c.admit-gate.ensures.gate
     c.in_default.is in
-    let small : (begin-of (place_at c)).args.t < transaction_count = (let_through (told_at (open_at (place_at c)))).small in
-    (let_through (told_at c)).small
+    let small : c.args.t < transaction_count = let_through.small in
+    let_through.small
 
 pub room-verdict-requires : goal.room-verdict-requires
 room-verdict-requires c =
-    let passed : shared_with (machine (start_of c)) (start_of c).args.t 0 ≡ 0 = gate-passed _ (machine (start_of c)) (start_of c).args.t c.admit-gate.ensures.gate
+    let machine : Machine = machine_of c.args.state.now c.args.files.now c.args.logs.now c.args.marks.now c.args.undo.now in
+    let passed : shared_with machine c.args.t 0 ≡ 0 = gate-passed _ machine c.args.t c.admit-gate.ensures.gate
     c.in_default.is in
-    let let_through : LetThrough (machine (start_of c)) (start_of c).args.t = gate-let-through _ (machine (start_of c)) (start_of c).args.t c.admit-gate.ensures.gate
+    let let_through : LetThrough machine c.args.t = gate-let-through _ machine c.args.t c.admit-gate.ensures.gate
     c.in_default.is in
-    let begun : let start = start_of (told_at c) in (transaction (machine start).store start.args.t).begun ≡ true = let start = start_of (told_at c) in
-    is_open start.args.state.now start.args.t (let_through (told_at c)).small c.is_begun.ensures
+    let begun : let start = c in (transaction machine.store start.args.t).begun ≡ true = let start = c in
+    is_open start.args.state.now start.args.t let_through.small c.is_begun.ensures
     (ap not c.if-not-is_begun.false) in
-    let admits : let start = start_of (told_at c) in let m = machine start in admission (sizes m) m.store m.journal start.args.t ≡ 0 = let start = start_of (told_at c) in
-    admission-open (machine start) start.args.t (passed (told_at c)) begun in
-    let reached : let a = (begin-of c).args in WriteReached a.t a.d a.state.now a.files.now a.logs.now a.marks.now a.undo.now c.standing_at-standing.result c.used_at-used.result = record {
+    let admits : let start = c in let m = machine in admission (sizes m) m.store m.journal start.args.t ≡ 0 = let start = c in
+    admission-open machine start.args.t passed begun in
+    let reached : let a = c.args in WriteReached a.t a.d a.state.now a.files.now a.logs.now a.marks.now a.undo.now c.standing_at-standing.result c.used_at-used.result = record {
   low = c.if-d-gt-LAST_DESCRIPTOR.false;
-  passes = admits (open_at c);
-  through = let_through (told_at (open_at c));
-  begun = begun (open_at c);
+  passes = admits;
+  through = let_through;
+  begun = begun;
   reads-standing = c.standing_at-standing.ensures;
   reads-used = c.used_at-used.ensures;
 } in
-    let small : (begin-of (place_at c)).args.t < transaction_count = (let_through (told_at (open_at (place_at c)))).small in
+    let small : c.args.t < transaction_count = let_through.small in
     rw c.write_place.ensures (numbers-within reached)
 
 pub returns-in-Refused-verdict : goal.returns-in-Refused-verdict
 returns-in-Refused-verdict c =
-    let passed : shared_with (machine (start_of c)) (start_of c).args.t 0 ≡ 0 = gate-passed _ (machine (start_of c)) (start_of c).args.t c.admit-gate.ensures.gate
+    let machine : Machine = machine_of c.args.state.now c.args.files.now c.args.logs.now c.args.marks.now c.args.undo.now in
+    let passed : shared_with machine c.args.t 0 ≡ 0 = gate-passed _ machine c.args.t c.admit-gate.ensures.gate
     c.in_default.is in
-    let let_through : LetThrough (machine (start_of c)) (start_of c).args.t = gate-let-through _ (machine (start_of c)) (start_of c).args.t c.admit-gate.ensures.gate
+    let let_through : LetThrough machine c.args.t = gate-let-through _ machine c.args.t c.admit-gate.ensures.gate
     c.in_default.is in
-    let begun : let start = start_of (told_at c) in (transaction (machine start).store start.args.t).begun ≡ true = let start = start_of (told_at c) in
-    is_open start.args.state.now start.args.t (let_through (told_at c)).small c.is_begun.ensures
+    let begun : let start = c in (transaction machine.store start.args.t).begun ≡ true = let start = c in
+    is_open start.args.state.now start.args.t let_through.small c.is_begun.ensures
     (ap not c.if-not-is_begun.false) in
-    let admits : let start = start_of (told_at c) in let m = machine start in admission (sizes m) m.store m.journal start.args.t ≡ 0 = let start = start_of (told_at c) in
-    admission-open (machine start) start.args.t (passed (told_at c)) begun in
-    let reached : let a = (begin-of c).args in WriteReached a.t a.d a.state.now a.files.now a.logs.now a.marks.now a.undo.now c.standing_at-standing.result c.used_at-used.result = record {
+    let admits : let start = c in let m = machine in admission (sizes m) m.store m.journal start.args.t ≡ 0 = let start = c in
+    admission-open machine start.args.t passed begun in
+    let reached : let a = c.args in WriteReached a.t a.d a.state.now a.files.now a.logs.now a.marks.now a.undo.now c.standing_at-standing.result c.used_at-used.result = record {
   low = c.if-d-gt-LAST_DESCRIPTOR.false;
-  passes = admits (open_at c);
-  through = let_through (told_at (open_at c));
-  begun = begun (open_at c);
+  passes = admits;
+  through = let_through;
+  begun = begun;
   reads-standing = c.standing_at-standing.ensures;
   reads-used = c.used_at-used.ensures;
 } in
-    let refusal : let place = c in gate_number c.room-verdict.result ≡ write_refusal (write_place place.standing_at-standing.result) place.used_at-used.result (length (begin-of place).args.bytes.now) = rw c.write_place.ensures at c.room-verdict.ensures in
-    let small : (begin-of (place_at c)).args.t < transaction_count = (let_through (told_at (open_at (place_at c)))).small in
+    let refusal : let place = c in gate_number c.room-verdict.result ≡ write_refusal (write_place place.standing_at-standing.result) place.used_at-used.result (length place.args.bytes.now) = rw c.write_place.ensures at c.room-verdict.ensures in
+    let small : c.args.t < transaction_count = let_through.small in
     let place = c in let r = c.in-Refused-verdict.r in
-    turned-follows r [] _ _ _ _ _ _ (write-no-room reached (begin-of place).args.bytes.now r
+    turned-follows r [] _ _ _ _ _ _ (write-no-room reached place.args.bytes.now r
     (gate-number _ _ refusal r c.in-Refused-verdict.is))
 
 pub overflow_mul-t : goal.overflow_mul-t
 overflow_mul-t c =
-    let let_through : LetThrough (machine (start_of c)) (start_of c).args.t = gate-let-through _ (machine (start_of c)) (start_of c).args.t c.admit-gate.ensures.gate
+    let machine : Machine = machine_of c.args.state.now c.args.files.now c.args.logs.now c.args.marks.now c.args.undo.now in
+    let let_through : LetThrough machine c.args.t = gate-let-through _ machine c.args.t c.admit-gate.ensures.gate
     c.in_default.is in
-    let small : (begin-of (place_at c)).args.t < transaction_count = (let_through (told_at (open_at (place_at c)))).small in
+    let small : c.args.t < transaction_count = let_through.small in
     omega (arith, small)
 
 pub overflow_add-t : goal.overflow_add-t
 overflow_add-t c =
-    let let_through : LetThrough (machine (start_of c)) (start_of c).args.t = gate-let-through _ (machine (start_of c)) (start_of c).args.t c.admit-gate.ensures.gate
+    let machine : Machine = machine_of c.args.state.now c.args.files.now c.args.logs.now c.args.marks.now c.args.undo.now in
+    let let_through : LetThrough machine c.args.t = gate-let-through _ machine c.args.t c.admit-gate.ensures.gate
     c.in_default.is in
-    let small : (begin-of (place_at c)).args.t < transaction_count = (let_through (told_at (open_at (place_at c)))).small in
+    let small : c.args.t < transaction_count = let_through.small in
     omega (arith, small, c.wide.ensures.1)
 
 pub copy_to-requires : goal.copy_to-requires
 copy_to-requires c =
-    let let_through : LetThrough (machine (start_of c)) (start_of c).args.t = gate-let-through _ (machine (start_of c)) (start_of c).args.t c.admit-gate.ensures.gate
+    let machine : Machine = machine_of c.args.state.now c.args.files.now c.args.logs.now c.args.marks.now c.args.undo.now in
+    let let_through : LetThrough machine c.args.t = gate-let-through _ machine c.args.t c.admit-gate.ensures.gate
     c.in_default.is in
-    let refusal : let place = c in gate_number c.room-verdict.result ≡ write_refusal (write_place place.standing_at-standing.result) place.used_at-used.result (length (begin-of place).args.bytes.now) = rw c.write_place.ensures at c.room-verdict.ensures in
-    let room_of : let place = place_at c in WriteRoom (write_place place.standing_at-standing.result) place.used_at-used.result (length (begin-of place).args.bytes.now) = room-left _ _ _ (gate-zero _ _ refusal c.in_default-verdict.is) in
-    let small : (begin-of (place_at c)).args.t < transaction_count = (let_through (told_at (open_at (place_at c)))).small in
+    let refusal : let place = c in gate_number c.room-verdict.result ≡ write_refusal (write_place place.standing_at-standing.result) place.used_at-used.result (length place.args.bytes.now) = rw c.write_place.ensures at c.room-verdict.ensures in
+    let room_of : let place = c in WriteRoom (write_place place.standing_at-standing.result) place.used_at-used.result (length place.args.bytes.now) = room-left _ _ _ (gate-zero _ _ refusal c.in_default-verdict.is) in
+    let small : c.args.t < transaction_count = let_through.small in
     let told = c in omega (
   arith,
   small,
   room_of.log,
   c.wide.ensures.0,
-  (let_through (told_at (open_at (place_at told)))).lengths.logs,
+  let_through.lengths.logs,
 )
 
 pub overflow_cast-bytes : goal.overflow_cast-bytes
 overflow_cast-bytes c =
-    let refusal : let place = c in gate_number c.room-verdict.result ≡ write_refusal (write_place place.standing_at-standing.result) place.used_at-used.result (length (begin-of place).args.bytes.now) = rw c.write_place.ensures at c.room-verdict.ensures in
-    let room_of : let place = place_at c in WriteRoom (write_place place.standing_at-standing.result) place.used_at-used.result (length (begin-of place).args.bytes.now) = room-left _ _ _ (gate-zero _ _ refusal c.in_default-verdict.is) in
+    let refusal : let place = c in gate_number c.room-verdict.result ≡ write_refusal (write_place place.standing_at-standing.result) place.used_at-used.result (length place.args.bytes.now) = rw c.write_place.ensures at c.room-verdict.ensures in
+    let room_of : let place = c in WriteRoom (write_place place.standing_at-standing.result) place.used_at-used.result (length place.args.bytes.now) = room-left _ _ _ (gate-zero _ _ refusal c.in_default-verdict.is) in
     omega (arith, room_of.log)
 
 pub put_write-requires : goal.put_write-requires
 put_write-requires c =
-    let passed : shared_with (machine (start_of c)) (start_of c).args.t 0 ≡ 0 = gate-passed _ (machine (start_of c)) (start_of c).args.t c.admit-gate.ensures.gate
+    let machine : Machine = machine_of c.args.state.now c.args.files.now c.args.logs.now c.args.marks.now c.args.undo.now in
+    let passed : shared_with machine c.args.t 0 ≡ 0 = gate-passed _ machine c.args.t c.admit-gate.ensures.gate
     c.in_default.is in
-    let let_through : LetThrough (machine (start_of c)) (start_of c).args.t = gate-let-through _ (machine (start_of c)) (start_of c).args.t c.admit-gate.ensures.gate
+    let let_through : LetThrough machine c.args.t = gate-let-through _ machine c.args.t c.admit-gate.ensures.gate
     c.in_default.is in
-    let begun : let start = start_of (told_at c) in (transaction (machine start).store start.args.t).begun ≡ true = let start = start_of (told_at c) in
-    is_open start.args.state.now start.args.t (let_through (told_at c)).small c.is_begun.ensures
+    let begun : let start = c in (transaction machine.store start.args.t).begun ≡ true = let start = c in
+    is_open start.args.state.now start.args.t let_through.small c.is_begun.ensures
     (ap not c.if-not-is_begun.false) in
-    let admits : let start = start_of (told_at c) in let m = machine start in admission (sizes m) m.store m.journal start.args.t ≡ 0 = let start = start_of (told_at c) in
-    admission-open (machine start) start.args.t (passed (told_at c)) begun in
-    let reached : let a = (begin-of c).args in WriteReached a.t a.d a.state.now a.files.now a.logs.now a.marks.now a.undo.now c.standing_at-standing.result c.used_at-used.result = record {
+    let admits : let start = c in let m = machine in admission (sizes m) m.store m.journal start.args.t ≡ 0 = let start = c in
+    admission-open machine start.args.t passed begun in
+    let reached : let a = c.args in WriteReached a.t a.d a.state.now a.files.now a.logs.now a.marks.now a.undo.now c.standing_at-standing.result c.used_at-used.result = record {
   low = c.if-d-gt-LAST_DESCRIPTOR.false;
-  passes = admits (open_at c);
-  through = let_through (told_at (open_at c));
-  begun = begun (open_at c);
+  passes = admits;
+  through = let_through;
+  begun = begun;
   reads-standing = c.standing_at-standing.ensures;
   reads-used = c.used_at-used.ensures;
 } in
-    let refusal : let place = c in gate_number c.room-verdict.result ≡ write_refusal (write_place place.standing_at-standing.result) place.used_at-used.result (length (begin-of place).args.bytes.now) = rw c.write_place.ensures at c.room-verdict.ensures in
-    let room_of : let place = place_at c in WriteRoom (write_place place.standing_at-standing.result) place.used_at-used.result (length (begin-of place).args.bytes.now) = room-left _ _ _ (gate-zero _ _ refusal c.in_default-verdict.is) in
-    let small : (begin-of (place_at c)).args.t < transaction_count = (let_through (told_at (open_at (place_at c)))).small in
-    let told = c in let place = place_at told in record {
+    let refusal : let place = c in gate_number c.room-verdict.result ≡ write_refusal (write_place place.standing_at-standing.result) place.used_at-used.result (length place.args.bytes.now) = rw c.write_place.ensures at c.room-verdict.ensures in
+    let room_of : let place = c in WriteRoom (write_place place.standing_at-standing.result) place.used_at-used.result (length place.args.bytes.now) = room-left _ _ _ (gate-zero _ _ refusal c.in_default-verdict.is) in
+    let small : c.args.t < transaction_count = let_through.small in
+    let told = c in let place = told in record {
       state_len = (
-    (told_at (open_at place)).before.before.admit.ensures.1,
+    place.admit-gate.ensures.long,
     small,
     omega (arith, place.if-d-gt-LAST_DESCRIPTOR.false),
   );
-      write_room = (room_of, standing-within (reached place));
+      write_room = (room_of, standing-within reached);
     }
 
 pub returns : goal.returns
 returns c =
-    let passed : shared_with (machine (start_of c)) (start_of c).args.t 0 ≡ 0 = gate-passed _ (machine (start_of c)) (start_of c).args.t c.admit-gate.ensures.gate
+    let machine : Machine = machine_of c.args.state.now c.args.files.now c.args.logs.now c.args.marks.now c.args.undo.now in
+    let passed : shared_with machine c.args.t 0 ≡ 0 = gate-passed _ machine c.args.t c.admit-gate.ensures.gate
     c.in_default.is in
-    let let_through : LetThrough (machine (start_of c)) (start_of c).args.t = gate-let-through _ (machine (start_of c)) (start_of c).args.t c.admit-gate.ensures.gate
+    let let_through : LetThrough machine c.args.t = gate-let-through _ machine c.args.t c.admit-gate.ensures.gate
     c.in_default.is in
-    let begun : let start = start_of (told_at c) in (transaction (machine start).store start.args.t).begun ≡ true = let start = start_of (told_at c) in
-    is_open start.args.state.now start.args.t (let_through (told_at c)).small c.is_begun.ensures
+    let begun : let start = c in (transaction machine.store start.args.t).begun ≡ true = let start = c in
+    is_open start.args.state.now start.args.t let_through.small c.is_begun.ensures
     (ap not c.if-not-is_begun.false) in
-    let admits : let start = start_of (told_at c) in let m = machine start in admission (sizes m) m.store m.journal start.args.t ≡ 0 = let start = start_of (told_at c) in
-    admission-open (machine start) start.args.t (passed (told_at c)) begun in
-    let reached : let a = (begin-of c).args in WriteReached a.t a.d a.state.now a.files.now a.logs.now a.marks.now a.undo.now c.standing_at-standing.result c.used_at-used.result = record {
+    let admits : let start = c in let m = machine in admission (sizes m) m.store m.journal start.args.t ≡ 0 = let start = c in
+    admission-open machine start.args.t passed begun in
+    let reached : let a = c.args in WriteReached a.t a.d a.state.now a.files.now a.logs.now a.marks.now a.undo.now c.standing_at-standing.result c.used_at-used.result = record {
   low = c.if-d-gt-LAST_DESCRIPTOR.false;
-  passes = admits (open_at c);
-  through = let_through (told_at (open_at c));
-  begun = begun (open_at c);
+  passes = admits;
+  through = let_through;
+  begun = begun;
   reads-standing = c.standing_at-standing.ensures;
   reads-used = c.used_at-used.ensures;
 } in
-    let refusal : let place = c in gate_number c.room-verdict.result ≡ write_refusal (write_place place.standing_at-standing.result) place.used_at-used.result (length (begin-of place).args.bytes.now) = rw c.write_place.ensures at c.room-verdict.ensures in
-    let room_of : let place = place_at c in WriteRoom (write_place place.standing_at-standing.result) place.used_at-used.result (length (begin-of place).args.bytes.now) = room-left _ _ _ (gate-zero _ _ refusal c.in_default-verdict.is) in
-    let small : (begin-of (place_at c)).args.t < transaction_count = (let_through (told_at (open_at (place_at c)))).small in
-    let told = c in let place = place_at told in
-    let a = (begin-of place).args in
-    write-follows (reached place) a.bytes.now room_of _ _ (c.copy_to.ensures
+    let refusal : let place = c in gate_number c.room-verdict.result ≡ write_refusal (write_place place.standing_at-standing.result) place.used_at-used.result (length place.args.bytes.now) = rw c.write_place.ensures at c.room-verdict.ensures in
+    let room_of : let place = c in WriteRoom (write_place place.standing_at-standing.result) place.used_at-used.result (length place.args.bytes.now) = room-left _ _ _ (gate-zero _ _ refusal c.in_default-verdict.is) in
+    let small : c.args.t < transaction_count = let_through.small in
+    let told = c in let place = told in
+    let a = place.args in
+    write-follows reached a.bytes.now room_of _ _ (c.copy_to.ensures
     ∙ ap (λ (n : ℕ). pasted a.logs.now (log_bytes * a.t + n) a.bytes.now)
     c.wide.ensures.0) c.put_write.ensures.state_after c.put_write.ensures.state_after_2

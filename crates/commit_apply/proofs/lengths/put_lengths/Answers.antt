@@ -30,14 +30,14 @@ pub loop-f-preserved : goal.loop-f-preserved
 loop-f-preserved c =
     let l = c.loop-f in
     let a = c.args in
-    (omega arith, length-put _ _ _ (λ f. get_or a.t2 f 0) l.f (omega arith) l.invariant.1 c.put_length.ensures, l.invariant.2)
+    (omega arith, length-put _ _ _ (λ f. get_or a.lengths f 0) l.f (omega arith) l.invariant.1 c.put_length.ensures, l.invariant.2)
 
 pub returns : goal.returns
 returns c = let l = c.loop-f in let a = c.args in let state = a.state.now in
     let e : l.f ≡ 8 = omega arith in
-    let all : put_into a.t2 state l.f ≡ a.t2 = ap (put_into a.t2 state) e
-    ∙ filled-all (λ f. get_or a.t2 f 0) (store_of state).lengths 8 (omega (arith, (shaped state).lengths))
-    ∙ ap (tabulate (λ f. get_or a.t2 f 0)) (sym l.invariant.2) ∙ tabulate-get_d a.t2 0 in record {
+    let all : put_into a.lengths state l.f ≡ a.lengths = ap (put_into a.lengths state) e
+    ∙ filled-all (λ f. get_or a.lengths f 0) (store_of state).lengths 8 (omega (arith, (shaped state).lengths))
+    ∙ ap (tabulate (λ f. get_or a.lengths f 0)) (sym l.invariant.2) ∙ tabulate-get_d a.lengths 0 in record {
       store = l.invariant.1.store ∙ ap (λ (ls : List ℕ). with_lengths ls (store_of state)) all;
       journal = l.invariant.1.journal;
       long = l.invariant.1.long;

@@ -15,7 +15,7 @@ loop-d-init c =
     let state = c.args.state.now in (
       omega arith,
       record {
-        store = ap (λ (os : List ℕ). with_offsets os (store_of state)) (sym (offsets-none c.args.t2 (store_of state).offsets));
+        store = ap (λ (os : List ℕ). with_offsets os (store_of state)) (sym (offsets-none c.args.x (store_of state).offsets));
         journal = refl;
         long = c.requires.0;
       },
@@ -25,15 +25,15 @@ pub final_offset-requires : goal.final_offset-requires
 final_offset-requires c = let at-loop = c in
     let start = at-loop in let d = at-loop.loop-d.d in let few : d < descriptor_count = omega arith in omega (
       arith,
-      fits-at (store_of start.args.state.now) start.args.t2 start.requires.1 d few,
+      fits-at (store_of start.args.state.now) start.args.x start.requires.1 d few,
       c.offset_at-c.ensures,
-      offset-still start.args.t2 _ _ d few at-loop.loop-d.invariant.1,
+      offset-still start.args.x _ _ d few at-loop.loop-d.invariant.1,
     )
 
 pub loop-d-preserved : goal.loop-d-preserved
 unfolding sets_offset
 loop-d-preserved c = let l = c.loop-d in
-    let x = c.args.t2 in let few : l.d < descriptor_count = omega arith in
+    let x = c.args.x in let few : l.d < descriptor_count = omega arith in
     let e = sym c.sets_offset.ensures in (
       omega arith,
       ⊎_elim (λ w. offset-put x _ _ l.d few l.invariant.1 (e ∙ w.0.taken) _ _ _ w.2.ensures w.4.ensures

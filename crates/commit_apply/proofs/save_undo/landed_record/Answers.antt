@@ -7,11 +7,7 @@ use Rattle.commit_apply.proofs.SaveUndoLaws.{saved-descriptor-in, place_in, land
 use borrow.Author.Rules.{rules}
 use Rattle.commit_apply.proofs.save_undo.landed_record.Goals as goal
 
--- Landmarks of a record whose place is found.
-abbrev read_of : goal.After-lands_at → goal.After-wide
-read_of c = c
-
 pub returns : goal.returns
-returns c = let read = read_of c in
-    landed-is read.pre.2 read.record_at-w.ensures read.wide.ensures.0
+returns c = let read = c in
+    landed-is read.requires.2 read.record_at-w.ensures read.wide.ensures.0
     (c.wide-c.ensures.0 ∙ c.offset_at.ensures) c.lands_at.ensures

@@ -17,7 +17,7 @@ pub returns : goal.returns
 unfolding grant_record
 returns c = let read = c in let start = read in
     let e = ap (λ (u : Used). u.records) read.undo_used-used.ensures in
-    let low = low-record-descriptor start.args.state.now read.fits2.ensures start.args.k (omega arith) in (
+    let low = low-record-descriptor start.args.state.now read.fits.ensures start.args.k (omega arith) in (
       rw (sym c.record_at.ensures) at low,
       c.record_at.ensures ∙ rw (lt-ltb start.args.k _ (rw e at c.if-used-k.false)),
     )

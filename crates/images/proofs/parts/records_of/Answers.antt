@@ -8,4 +8,4 @@ use Rattle.images.proofs.parts.records_of.Goals as goal
 
 pub overflow_cast-result : goal.overflow_cast-result
 overflow_cast-result c = let e = ap (λ (u : Used). u.records) c.undo_used-used.ensures in
-    omega (arith, e, few-records c.args.state.now c.fits2.ensures)
+    omega (arith, e, few-records c.args.state.now c.fits.ensures)

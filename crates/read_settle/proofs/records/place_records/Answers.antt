@@ -11,50 +11,46 @@ use Rattle.read_settle.proofs.RecordLaws.{after-preserved, after-placed, after-s
 use Rattle.read_settle.proofs.RecordLaws.{offset-preserved, one_placed, one-preserved}
 use Rattle.read_settle.proofs.records.place_records.Goals as goal
 
--- The record that is looked at: it is not changed yet, and in range.
-abbrev start_of : goal.After-record_at-w → goal.Start
-start_of c = c
-
-abbrev at : goal.After-record_at-w → ℕ
-at c = c.loop-k.k
-
 pub loop-k-init : goal.loop-k-init
 loop-k-init c = (omega arith, placed-none _ _ _ c.requires.long)
 
 pub bounds-chosen-d : goal.bounds-chosen-d
 bounds-chosen-d c =
-    let few : at c < record_count = omega (arith, (start_of c).requires.few) in
-    let small : (start_of c).args.t < 9 = omega (arith, (start_of c).requires.small) in
-    let looked-at : c.record_at-w.result ≡ write_record_at (journal_of (start_of c).args.state.now) (start_of c).args.t (at c) = let l = c.loop-k in
+    let at : ℕ = c.loop-k.k in
+    let few : at < record_count = omega (arith, c.requires.few) in
+    let small : c.args.t < 9 = omega (arith, c.requires.small) in
+    let looked-at : c.record_at-w.result ≡ write_record_at (journal_of c.args.state.now) c.args.t at = let l = c.loop-k in
     c.record_at-w.ensures ∙ next-record _ _ _ _ _ l.invariant.1 small few in
-    let low-descriptor : c.record_at-w.result.descriptor < descriptor_count = rw looked-at ((start_of c).requires.descriptors (at c) (omega arith)) in
+    let low-descriptor : c.record_at-w.result.descriptor < descriptor_count = rw looked-at (c.requires.descriptors at (omega arith)) in
     omega (arith, c.wide-d.ensures.0, low-descriptor)
 
 pub overflow_add-c : goal.overflow_add-c
 overflow_add-c c =
-    let few : at c < record_count = omega (arith, (start_of c).requires.few) in
-    let small : (start_of c).args.t < 9 = omega (arith, (start_of c).requires.small) in
-    let looked-at : c.record_at-w.result ≡ write_record_at (journal_of (start_of c).args.state.now) (start_of c).args.t (at c) = let l = c.loop-k in
+    let at : ℕ = c.loop-k.k in
+    let few : at < record_count = omega (arith, c.requires.few) in
+    let small : c.args.t < 9 = omega (arith, c.requires.small) in
+    let looked-at : c.record_at-w.result ≡ write_record_at (journal_of c.args.state.now) c.args.t at = let l = c.loop-k in
     c.record_at-w.ensures ∙ next-record _ _ _ _ _ l.invariant.1 small few in
-    let low-descriptor : c.record_at-w.result.descriptor < descriptor_count = rw looked-at ((start_of c).requires.descriptors (at c) (omega arith)) in
-    let low-place : place_number c.record_at-w.result.place ≤ file_bytes = rw looked-at ((start_of c).requires.places (at c) (omega arith)) in
+    let low-descriptor : c.record_at-w.result.descriptor < descriptor_count = rw looked-at (c.requires.descriptors at (omega arith)) in
+    let low-place : place_number c.record_at-w.result.place ≤ file_bytes = rw looked-at (c.requires.places at (omega arith)) in
     let called = c in let d = called.wide-d in
     let looked = called in
     let l = looked.loop-k in
-    let low : d.result < 16 = omega (arith, d.ensures.0, low-descriptor looked) in omega (
+    let low : d.result < 16 = omega (arith, d.ensures.0, low-descriptor) in omega (
       arith,
       ap place_number called.in-After.is,
-      low-place looked,
+      low-place,
       called.offset_at-c.ensures,
       offset-preserved _ _ _ _ _ l.invariant.1 d.result,
-      (start_of looked).requires.committed d.result low,
+      looked.requires.committed d.result low,
     )
 
 pub loop-k-preserved : goal.loop-k-preserved
 loop-k-preserved c =
-    let few : at c < record_count = omega (arith, (start_of c).requires.few) in
-    let small : (start_of c).args.t < 9 = omega (arith, (start_of c).requires.small) in
-    let looked = c in let l = looked.loop-k in let a = (start_of looked).args in
+    let at : ℕ = c.loop-k.k in
+    let few : at < record_count = omega (arith, c.requires.few) in
+    let small : c.args.t < 9 = omega (arith, c.requires.small) in
+    let looked = c in let l = looked.loop-k in let a = looked.args in
     let w = looked.record_at-w.result in let so_far = l.invariant.1 in
     let state = one-preserved _ _ _ _ _ so_far small few w looked.record_at-w.ensures in
     let placed = one_placed _ _ _ _ _ so_far small few w looked.record_at-w.ensures in (

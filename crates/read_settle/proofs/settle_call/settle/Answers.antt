@@ -25,27 +25,27 @@ returns-then-c-advance c =
     rw c.offset_at-c.ensures (at-loop.requires.committed at-loop.loop-e.e (omega arith)) in
     let looked = c in let at-loop = looked in
     let a = at-loop.args in let offsets = (store_of a.state.now).offsets in let e = at-loop.loop-e.e in
-    rw (below_fails (settles_within a.t3 offsets a.t2) e 16 (omega arith)
-    (within-past a.t3 offsets a.t2 e looked.if-chosen-e.true
+    rw (below_fails (settles_within a.chosen offsets a.x) e 16 (omega arith)
+    (within-past a.chosen offsets a.x e looked.if-chosen-e.true
     (omega (arith, c.advance.ensures, looked.offset_at-c.ensures, low))))
 
 pub loop-e-preserved : goal.loop-e-preserved
 loop-e-preserved c = let l = c.loop-e in let start = c in let a = start.args in
-    let x = a.t2 in let offsets = (store_of a.state.now).offsets in let e = l.e in
+    let x = a.x in let offsets = (store_of a.state.now).offsets in let e = l.e in
     let h : e < length x.descriptors = omega (arith, start.requires.sixteen) in (
       omega arith,
       elim c.if-chosen-e.branch [
       then-chosen-e+else-c-advance w ↦ w.y-is ∙ ap (λ (y : Transaction). with_descriptors (set y.descriptors e
           (record { standing = w.y-is.result; dirty = dirty_at x e })) y) l.invariant.1 ∙ ap (λ (z : Standing). with_descriptors
-          (set (settled_front a.t3 offsets x e).descriptors e (record { standing = z; dirty = dirty_at x e })) x)
-          (w.y-is.ensures ∙ ap (λ (o : ℕ). settled o (standing_at x e)) w.advance.ensures) ∙ settled-more a.t3 offsets x e h
+          (set (settled_front a.chosen offsets x e).descriptors e (record { standing = z; dirty = dirty_at x e })) x)
+          (w.y-is.ensures ∙ ap (λ (o : ℕ). settled o (standing_at x e)) w.advance.ensures) ∙ settled-more a.chosen offsets x e h
           w.if-chosen-e.true
-      | else-chosen-e w ↦ w.y-is ∙ l.invariant.1 ∙ settled-preserved a.t3 offsets x e h w.if-chosen-e.false
+      | else-chosen-e w ↦ w.y-is ∙ l.invariant.1 ∙ settled-preserved a.chosen offsets x e h w.if-chosen-e.false
     ],
-      below_more (settles_within a.t3 offsets x) e l.invariant.2 (elim c.if-chosen-e.branch [
-      then-chosen-e+else-c-advance w ↦ within-settled a.t3 offsets x e
+      below_more (settles_within a.chosen offsets x) e l.invariant.2 (elim c.if-chosen-e.branch [
+      then-chosen-e+else-c-advance w ↦ within-settled a.chosen offsets x e
           (omega (arith, w.advance.ensures, w.if-c-advance.ensures, w.settled.false, start.requires.committed e (omega arith)))
-      | else-chosen-e w ↦ within-preserved a.t3 offsets x e w.if-chosen-e.false
+      | else-chosen-e w ↦ within-preserved a.chosen offsets x e w.if-chosen-e.false
     ]),
     )
 
@@ -54,4 +54,4 @@ unfolding all_within settling_of
 returns c = let l = c.loop-e in let start = c in let a = start.args in
     let offsets = (store_of a.state.now).offsets in let e : l.e ≡ 16 = omega arith in
     rw (rw e at l.invariant.2) (ap (λ (y : Transaction). record { verdict = Settled; transaction = y }) (l.invariant.1
-    ∙ ap (settled_front a.t3 offsets a.t2) e ∙ settled-all a.t3 offsets a.t2 start.requires.sixteen))
+    ∙ ap (settled_front a.chosen offsets a.x) e ∙ settled-all a.chosen offsets a.x start.requires.sixteen))

@@ -44,7 +44,7 @@ fn put_write(state: &mut State, t: usize, d: usize, standing: Standing, u: Used,
     requires write_room { WriteRoom (write_place standing) u n × (standing_in standing ≡ true) }
     ensures state_after { store_of state.new
         ≡ store_written t d standing u n (store_of state.old) }
-    ensures state_after_2 { journal_of state.new
+    ensures journal_after { journal_of state.new
         ≡ journal_written t d standing u n (journal_of state.old) }
 {
     let w = WriteRecord {

@@ -68,7 +68,7 @@ returns-then-write-contains c =
     let n : at-loop.used_at-used.result.records ≡ (transaction_of start.args.state.now
     start.args.t).used.records = ap (λ (u : Used). u.records) at-loop.used_at-used.ensures in
     sym (some-found testing (transaction_of start.args.state.now start.args.t).used.records
-    at-loop.loop-k.k (omega (arith, n, read.loop-k-test.true)) (this ∙ c.if-write-contains.true))
+    at-loop.loop-k.k (omega (arith, n, read.loop-k-test.taken)) (this ∙ c.if-write-contains.true))
 
 pub loop-k-preserved : goal.loop-k-preserved
 loop-k-preserved c =
@@ -85,7 +85,7 @@ loop-k-preserved c =
     w.descriptor 0)) (sym read.record_at-write.ensures) ∙ ap (λ (b : Bool). ltb 0 read.record_at-write.result.length && b)
     (sym (c.contains.ensures ∙ ap (contains a.octet) file-is)) in
     let read = c in let at-loop = read in (
-  omega (arith, read.loop-k-test.true),
+  omega (arith, read.loop-k-test.taken),
   some_more testing at-loop.loop-k.k at-loop.loop-k.invariant.1 (this ∙ c.if-write-contains.false),
 )
 

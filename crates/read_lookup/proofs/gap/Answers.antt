@@ -26,7 +26,7 @@ pub returns-then-end-e : goal.returns-then-end-e
 returns-then-end-e c =
     let numbers : List ℕ = (store_of c.args.state.now).filenumbers in
     let ends = c in let s = ends in
-    gap-before (numbers s) s.args.w s.args.e (omega (arith, ap place_number ends.in-At.is))
+    gap-before numbers s.args.w s.args.e (omega (arith, ap place_number ends.in-At.is))
 
 pub returns-then-start-e : goal.returns-then-start-e
 returns-then-start-e c =
@@ -34,14 +34,14 @@ returns-then-start-e c =
     let file-is : c.file_at.result ≡ get_or numbers c.args.w.descriptor 0 = c.file_at.ensures ∙ ap (λ (d : ℕ). get_or numbers d 0) c.wide.ensures.0 in
     let there : let s = c in get_or numbers s.args.w.descriptor 0 ≡ s.args.e.file = sym file-is ∙ c.if-file_at-e.false in
     let ends = c in let s = ends in
-    gap-over (numbers s) s.args.w s.args.e _ ends.in-At.is there (omega arith)
+    gap-over numbers s.args.w s.args.e _ ends.in-At.is there (omega arith)
     (omega arith)
 
 pub returns-then-start-end : goal.returns-then-start-end
 returns-then-start-end c =
     let numbers : List ℕ = (store_of c.args.state.now).filenumbers in
     let s = c in
-    gap-empty (numbers s) s.args.w s.args.e (omega arith)
+    gap-empty numbers s.args.w s.args.e (omega arith)
 
 pub returns : goal.returns
 returns c =
@@ -50,5 +50,5 @@ returns c =
     let there : let s = c in get_or numbers s.args.w.descriptor 0 ≡ s.args.e.file = sym file-is ∙ c.if-file_at-e.false in
     let ends = c in
     let s = ends in
-    gap-after (numbers s) s.args.w s.args.e _ ends.in-At.is there (omega arith)
+    gap-after numbers s.args.w s.args.e _ ends.in-At.is there (omega arith)
     (omega arith) _ (omega arith)

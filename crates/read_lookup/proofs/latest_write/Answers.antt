@@ -15,7 +15,7 @@ use Rattle.read_lookup.proofs.latest_write.Goals as goal
 
 pub overflow_sub-start : goal.overflow_sub-start
 overflow_sub-start c =
-    let number_of : ℕ = c.loop-left.false - 1 in
+    let number_of : ℕ = c.loop-left.left - 1 in
     let looked-at : WriteRecord = write_record_at (journal_of c.args.state.now) c.args.t number_of in
     let newest-left : c.record_at-w.result ≡ looked-at = let a = c.args in
     c.record_at-w.ensures ∙ ap (write_record_at (journal_of a.state.now) a.t) (omega arith) in
@@ -28,7 +28,7 @@ overflow_sub-start c =
 pub overflow_sub-result-then-g-eq0 : goal.overflow_sub-result-then-g-eq0
 overflow_sub-result-then-g-eq0 c =
     let lent : Recorded = recorded_in c.args.state.now in
-    let number_of : ℕ = c.loop-left.false - 1 in
+    let number_of : ℕ = c.loop-left.left - 1 in
     let looked-at : WriteRecord = write_record_at (journal_of c.args.state.now) c.args.t number_of in
     let newest-left : c.record_at-w.result ≡ looked-at = let a = c.args in
     c.record_at-w.ensures ∙ ap (write_record_at (journal_of a.state.now) a.t) (omega arith) in
@@ -43,7 +43,7 @@ overflow_sub-result-then-g-eq0 c =
     gap-covers lent s.args.t s.args.used.records s.args.e number_of turn.loop-left.length
     walked c.gap-g.result (omega (arith, c.if-g-eq0.true)) gap_is in
     let start_is : c.wide-p.result ≡ place_number looked-at.place = c.wide-p.ensures.0 ∙ c.place_number.ensures
-    ∙ ap (λ (w : WriteRecord). place_number w.place) (newest-left c) in
+    ∙ ap (λ (w : WriteRecord). place_number w.place) newest-left in
     let in-record : let e = c.args.e in (c.wide-p.result ≤ e.place) × (e.place < c.wide-p.result + c.wide-size.result) = let a = c.args in
     let g = covers-in (store_of a.state.now).filenumbers a.e.file a.e.place looked-at
     first in (omega (arith, g.0, start_is), omega (arith, g.1, start_is, size_is)) in
@@ -52,7 +52,7 @@ overflow_sub-result-then-g-eq0 c =
 pub overflow_add-result : goal.overflow_add-result
 overflow_add-result c =
     let lent : Recorded = recorded_in c.args.state.now in
-    let number_of : ℕ = c.loop-left.false - 1 in
+    let number_of : ℕ = c.loop-left.left - 1 in
     let looked-at : WriteRecord = write_record_at (journal_of c.args.state.now) c.args.t number_of in
     let newest-left : c.record_at-w.result ≡ looked-at = let a = c.args in
     c.record_at-w.ensures ∙ ap (write_record_at (journal_of a.state.now) a.t) (omega arith) in
@@ -70,7 +70,7 @@ overflow_add-result c =
     gap-covers lent s.args.t s.args.used.records s.args.e number_of turn.loop-left.length
     walked c.gap-g.result (omega (arith, c.if-g-eq0.true)) gap_is in
     let start_is : c.wide-p.result ≡ place_number looked-at.place = c.wide-p.ensures.0 ∙ c.place_number.ensures
-    ∙ ap (λ (w : WriteRecord). place_number w.place) (newest-left c) in
+    ∙ ap (λ (w : WriteRecord). place_number w.place) newest-left in
     let in-record : let e = c.args.e in (c.wide-p.result ≤ e.place) × (e.place < c.wide-p.result + c.wide-size.result) = let a = c.args in
     let g = covers-in (store_of a.state.now).filenumbers a.e.file a.e.place looked-at
     first in (omega (arith, g.0, start_is), omega (arith, g.1, start_is, size_is)) in
@@ -80,7 +80,7 @@ overflow_add-result c =
 pub overflow_sub-p : goal.overflow_sub-p
 overflow_sub-p c =
     let lent : Recorded = recorded_in c.args.state.now in
-    let number_of : ℕ = c.loop-left.false - 1 in
+    let number_of : ℕ = c.loop-left.left - 1 in
     let looked-at : WriteRecord = write_record_at (journal_of c.args.state.now) c.args.t number_of in
     let newest-left : c.record_at-w.result ≡ looked-at = let a = c.args in
     c.record_at-w.ensures ∙ ap (write_record_at (journal_of a.state.now) a.t) (omega arith) in
@@ -95,7 +95,7 @@ overflow_sub-p c =
     gap-covers lent s.args.t s.args.used.records s.args.e number_of turn.loop-left.length
     walked c.gap-g.result (omega (arith, c.if-g-eq0.true)) gap_is in
     let start_is : c.wide-p.result ≡ place_number looked-at.place = c.wide-p.ensures.0 ∙ c.place_number.ensures
-    ∙ ap (λ (w : WriteRecord). place_number w.place) (newest-left c) in
+    ∙ ap (λ (w : WriteRecord). place_number w.place) newest-left in
     let in-record : let e = c.args.e in (c.wide-p.result ≤ e.place) × (e.place < c.wide-p.result + c.wide-size.result) = let a = c.args in
     let g = covers-in (store_of a.state.now).filenumbers a.e.file a.e.place looked-at
     first in (omega (arith, g.0, start_is), omega (arith, g.1, start_is, size_is)) in
@@ -104,7 +104,7 @@ overflow_sub-p c =
 pub returns-then-g-eq0 : goal.returns-then-g-eq0
 returns-then-g-eq0 c =
     let lent : Recorded = recorded_in c.args.state.now in
-    let number_of : ℕ = c.loop-left.false - 1 in
+    let number_of : ℕ = c.loop-left.left - 1 in
     let looked-at : WriteRecord = write_record_at (journal_of c.args.state.now) c.args.t number_of in
     let newest-left : c.record_at-w.result ≡ looked-at = let a = c.args in
     c.record_at-w.ensures ∙ ap (write_record_at (journal_of a.state.now) a.t) (omega arith) in
@@ -122,7 +122,7 @@ returns-then-g-eq0 c =
     gap-covers lent s.args.t s.args.used.records s.args.e number_of turn.loop-left.length
     walked c.gap-g.result (omega (arith, c.if-g-eq0.true)) gap_is in
     let start_is : c.wide-p.result ≡ place_number looked-at.place = c.wide-p.ensures.0 ∙ c.place_number.ensures
-    ∙ ap (λ (w : WriteRecord). place_number w.place) (newest-left c) in
+    ∙ ap (λ (w : WriteRecord). place_number w.place) newest-left in
     let w = c in let turn = w in let s = turn in
     let l = turn.loop-left in let records = s.args.used.records in let r : Run = record {
       supplier = Record (l.left - 1);
@@ -141,7 +141,7 @@ returns-then-g-eq0 c =
 pub loop-left-preserved : goal.loop-left-preserved
 loop-left-preserved c =
     let lent : Recorded = recorded_in c.args.state.now in
-    let number_of : ℕ = c.loop-left.false - 1 in
+    let number_of : ℕ = c.loop-left.left - 1 in
     let looked-at : WriteRecord = write_record_at (journal_of c.args.state.now) c.args.t number_of in
     let newest-left : c.record_at-w.result ≡ looked-at = let a = c.args in
     c.record_at-w.ensures ∙ ap (write_record_at (journal_of a.state.now) a.t) (omega arith) in

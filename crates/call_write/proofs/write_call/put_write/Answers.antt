@@ -14,9 +14,10 @@ put_descriptor-requires c = let start = c in
 pub returns : goal.returns
 returns c = let counted = c in
     let start = counted in let a = start.args in
-    write-put a.t a.d a.n a.standing a.u a.state.now start.requires.state_len.0 start.requires.state_len.1
+    let put = write-put a.t a.d a.n a.standing a.u a.state.now start.requires.state_len.0 start.requires.state_len.1
     start.requires.state_len.2 start.requires.write_room.0.records _ _ _ _ _ _
     counted.write_place.ensures
     counted.put_record.ensures counted.appended.ensures.records
     counted.appended.ensures.bytes counted.put_used.ensures c.after_write.ensures
-    c.put_descriptor.ensures
+    c.put_descriptor.ensures in
+    record { state_after = put.0; journal_after = put.1 }

@@ -230,4 +230,4 @@ returns c =
     let a = place.args in
     write-follows reached a.bytes.now room_of _ _ (c.copy_to.ensures
     ∙ ap (λ (n : ℕ). pasted a.logs.now (log_bytes * a.t + n) a.bytes.now)
-    c.wide.ensures.0) c.put_write.ensures.state_after c.put_write.ensures.state_after_2
+    c.wide.ensures.0) c.put_write.ensures.state_after c.put_write.ensures.journal_after

@@ -9,6 +9,7 @@ use Rattle.commit_apply.specs.Apply.{Means}
 use Rattle.commit_apply.proofs.OffsetLaws.{fits-at, offsets_set, offsets-none, offset-still, offset-put, offset-left}
 use borrow.Author.Rules.{rules}
 use Rattle.commit_apply.proofs.offsets.put_offsets.Goals as goal
+use Rattle.commit_apply.proofs.offsets.put_offsets.Goals.{else-sets_offset, then-sets_offset}
 
 pub loop-d-init : goal.loop-d-init
 loop-d-init c =
@@ -36,6 +37,9 @@ loop-d-preserved c = let l = c.loop-d in
     let x = c.args.x in let few : l.d < descriptor_count = omega arith in
     let e = sym c.sets_offset.ensures in (
       omega arith,
-      ⊎_elim (λ w. offset-put x _ _ l.d few l.invariant.1 (e ∙ w.0.taken) _ _ _ w.2.ensures w.4.ensures
-          (w.6 ∙ w.5.ensures)) (λ w. offset-left x _ _ l.d few l.invariant.1 (e ∙ w.0.left) _ w.1) c.if-sets_offset.branch,
+      elim c.if-sets_offset.branch [
+      then-sets_offset w ↦ offset-put x _ _ l.d few l.invariant.1 (e ∙ w.if-sets_offset.true) _ _ _ w.final_offset.ensures w.state-is.ensures
+          (w.state-is ∙ w.state-is.ensures)
+      | else-sets_offset w ↦ offset-left x _ _ l.d few l.invariant.1 (e ∙ w.if-sets_offset.false) _ w.state-is
+    ],
     )

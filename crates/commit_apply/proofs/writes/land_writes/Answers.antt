@@ -84,14 +84,14 @@ loop-k-preserved c =
     let landed = c in let copied = landed in
     let landing = copied in let start = landing in let a = start.args in
     let l = landing.loop-k in let lands = landing.landing_at-w.ensures in
-    let next = start-more lands a.logs.now _ l.inv.2 in (
+    let next = start-more lands a.logs.now _ l.invariant.2 in (
       omega (arith, landing.loop-k-test.true),
-      land-more lands a.logs.now _ l.inv.2 a.files.now l.files _ _ l.inv.1 in-logs
+      land-more lands a.logs.now _ l.invariant.2 a.files.now l.files _ _ l.invariant.1 in-logs
           in-file landed.part-in-loop-k.ensures landed.land.ensures,
       omega arith,
-      landed.land.auto.0 ∙ l.inv.3,
-      old-more lands a.logs.now _ l.inv.2 in-logs l.inv.4 in-file
+      landed.land.auto.0 ∙ l.invariant.3,
+      old-more lands a.logs.now _ l.invariant.2 in-logs l.invariant.4 in-file
           (omega (arith, in-log, start.requires.3)) _ _ _ _ old-part copied.copy_to.ensures
           landed.part-in-loop-k.ensures landed.land.ensures,
-      copied.copy_to.auto.0 ∙ l.inv.5,
+      copied.copy_to.auto.0 ∙ l.invariant.5,
     )

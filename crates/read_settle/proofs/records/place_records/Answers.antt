@@ -10,6 +10,7 @@ use Rattle.read_settle.specs.Records.{PlacedIn}
 use Rattle.read_settle.proofs.RecordLaws.{after-preserved, after-placed, after-settled, placed-none, next-record}
 use Rattle.read_settle.proofs.RecordLaws.{offset-preserved, one_placed, one-preserved}
 use Rattle.read_settle.proofs.records.place_records.Goals as goal
+use Rattle.read_settle.proofs.records.place_records.Goals.{in-After+then-chosen-d, in-After+else-chosen-d, in_default}
 
 pub loop-k-init : goal.loop-k-init
 loop-k-init c = (omega arith, placed-none _ _ _ c.requires.long)
@@ -55,8 +56,10 @@ loop-k-preserved c =
     let state = one-preserved _ _ _ _ _ so_far small few w looked.record_at-w.ensures in
     let placed = one_placed _ _ _ _ _ so_far small few w looked.record_at-w.ensures in (
       omega arith,
-      ⊎_elim (λ v. placed _ _ (v.9 ∙ v.8.ensures) (after-settled _ _ w _ v.3.ensures.0 _ v.1.given.1
-          v.4.taken _ (v.6.ensures ∙ offset-preserved _ _ _ _ _ so_far _)))
-          (⊎_elim (λ v. state _ v.5 (after-preserved _ _ w _ v.3.ensures.0 v.4.left))
-          (λ v. state _ v.2 (after-placed _ _ w _ v.1.given.1))) c.in-After.branch,
+      elim c.match-place.branch [
+        in-After+then-chosen-d v ↦ placed _ _ (v.state-is ∙ v.put_record.ensures) (after-settled _ _ w _ v.wide-d.ensures.0 _
+            v.in-After.is v.if-chosen-d.true _ (v.offset_at-c.ensures ∙ offset-preserved _ _ _ _ _ so_far _))
+        | in-After+else-chosen-d v ↦ state _ v.state-is (after-preserved _ _ w _ v.wide-d.ensures.0 v.if-chosen-d.false)
+        | in_default v ↦ state _ v.state-is (after-placed _ _ w _ v.in_default.is)
+      ],
     )

@@ -22,7 +22,7 @@ loop-e-preserved c = let at-loop = c in let a = at-loop.args in
       ap (λ (l : List Bool). set l e c.read_settles_at.result) at-loop.loop-e.invariant.1
           ∙ filled-set _ (replicate 16 false) e c.read_settles_at.result (omega arith) (c.read_settles_at.ensures
           ∙ ap₂ (λ (f g : ℕ). read_settles (eqb f g) false (standing_at (transaction_of a.state.now a.t) e))
-          c.file_at-f.ensures at-loop.file_at-f.ensures),
+          c.file_at.ensures at-loop.file_at-f.ensures),
     )
 
 pub returns-then-read_settles_at : goal.returns-then-read_settles_at

@@ -1,0 +1,51 @@
+-- `read_fetch::copy_runs` meets its contract. The loop's invariant: the contract's definitions at the i bytes copied. Assumes
+-- nothing.
+use mathlib.Core.Path.{◌≡◌, refl, sym, ap, ◌∙◌}
+use Prim.Native.Nat.{ℕ, ◌-◌, ◌≤◌}
+use native.Mathlib.Omega.{arith}
+use borrow.Author.Rules.{rules}
+use lib.ListN.{length}
+use Rattle.buffers.specs.Parts.{pasted}
+use Rattle.read_lookup.specs.Lookup.{Recorded, recorded_in, extent}
+use Rattle.read_fetch.specs.Fetch.{bytes_read, marks_after}
+use Rattle.read_fetch.proofs.FetchLaws.{bytes-none, bytes-more, bytes-all, marks-none, marks-more}
+use Rattle.read_fetch.proofs.copy_runs.Goals as goal
+
+pub loop-i-init : goal.loop-i-init
+loop-i-init c =
+    let lent : Recorded = recorded_in c.args.state.now in
+    let s = c in let a = s.args in (
+  omega arith,
+  refl,
+  refl,
+  sym (bytes-none lent a.t a.used.records a.log.now a.file.now a.e.file a.e.place
+      a.reader.now),
+  sym (marks-none lent a.t a.used.records a.log.now a.file.now a.e.file a.e.place
+      a.marks.now),
+)
+
+pub loop-i-preserved : goal.loop-i-preserved
+loop-i-preserved c =
+    let lent : Recorded = recorded_in c.args.state.now in
+    let s = c in let a = s.args in let l = c.loop-i in let r = c.copy_run-r in (
+  omega (arith, r.ensures.0.within),
+  r.kept.1.1.1.0 ∙ l.inv.1,
+  r.kept.1.1.1.1.1.1.1.0 ∙ l.inv.2,
+  r.ensures.1.0 ∙ bytes-more lent a.t a.used.records a.log.now a.file.now a.e.file
+      a.e.place a.reader.now l.i r.result.length _ _ l.inv.3 (omega arith)
+      (omega (arith, r.ensures.0.within, s.requires.room)),
+  r.ensures.1.1 ∙ marks-more lent a.t a.used.records a.log.now a.file.now a.e.file
+      a.e.place a.marks.now l.i r.result.length _ _ l.inv.4 (omega arith),
+)
+
+pub returns : goal.returns
+returns c =
+    let lent : Recorded = recorded_in c.args.state.now in
+    let at-loop = c in let s = at-loop in let a = s.args in let l = at-loop.loop-i in
+    let q : l.i ≡ a.e.length = omega arith in record {
+      reader = l.invariant.3 ∙ ap (λ (n : ℕ). pasted a.reader.now 0 (bytes_read lent a.t a.used.records a.log.now
+          a.file.now (extent a.e.file a.e.place n))) q ∙ bytes-all lent a.t a.used.records
+          a.log.now a.file.now a.e.file a.e.place a.reader.now a.e.length;
+      marks = l.invariant.4 ∙ ap (λ (n : ℕ). marks_after lent a.t a.used.records a.log.now a.file.now
+          (extent a.e.file a.e.place n) a.marks.now) q;
+    }

@@ -17,7 +17,7 @@ returns-then-not-is_record c =
     let s = c in let a = s.args in
     let l = c.loop-q in let r = c.latest_write-r in
     first-clear-here lent a.t a.used.records (extent a.f l.q (file_bytes - l.q)) r.result
-    r.ensures.1 a.p l.invariant.0 l.invariant.1 l.invariant.2 (sym c.is_record.ensures
+    r.ensures.run a.p l.invariant.0 l.invariant.1 l.invariant.2 (sym c.is_record.ensures
     ∙ not-true _ (ap not c.if-not-is_record.true))
 
 pub loop-q-preserved : goal.loop-q-preserved
@@ -26,8 +26,8 @@ loop-q-preserved c =
     let s = c in let a = s.args in
     let l = c.loop-q in let r = c.latest_write-r in (
       omega arith,
-      omega (arith, r.ensures.1.within),
+      omega (arith, r.ensures.run.within),
       first-clear-after lent a.t a.used.records (extent a.f l.q (file_bytes - l.q)) r.result
-          r.ensures.1 a.p l.invariant.2 (sym c.is_record.ensures
+          r.ensures.run a.p l.invariant.2 (sym c.is_record.ensures
           ∙ not-false _ (ap not c.if-not-is_record.false)),
     )

@@ -15,7 +15,7 @@ returns-then-is_record c =
     let lent : Recorded = recorded_in c.args.state.now in
     let s = c in let a = s.args in let r = c.latest_write-r in
     first-covered-here lent a.t a.used.records (extent a.f a.p (file_bytes - a.p)) r.result
-    r.ensures.1 refl (omega arith) (sym c.is_record.ensures ∙ c.if-is_record.true)
+    r.ensures.run refl (omega arith) (sym c.is_record.ensures ∙ c.if-is_record.true)
 
 pub returns : goal.returns
 returns c =
@@ -23,4 +23,4 @@ returns c =
     let s = c in let a = s.args in
     let r = c.latest_write-r in
     first-covered-after lent a.t a.used.records (extent a.f a.p (file_bytes - a.p)) r.result
-    r.ensures.1 refl (omega arith) (sym c.is_record.ensures ∙ c.if-is_record.false)
+    r.ensures.run refl (omega arith) (sym c.is_record.ensures ∙ c.if-is_record.false)

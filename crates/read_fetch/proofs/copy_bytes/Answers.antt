@@ -30,7 +30,7 @@ copy_runs-requires c =
         file_in = h.file_in;
         places = h.places;
       };
-      room = s.requires.room.0;
+      room = s.requires.room;
     }
 
 pub returns : goal.returns
@@ -47,12 +47,12 @@ returns c =
     let file = parted.file_part-file.result.now in
     let inside : lengths_before lent.journal a.t a.used.records ≤ length log =
     omega (arith, h.adds, h.bytes, log-length) in let l = log_is in let f = file-is in record {
-      reader = r.ensures.0 ∙ ap (λ (u : Used). bytes_read lent a.t u.records log file a.e ++ drop a.e.length
+      reader = r.ensures.reader ∙ ap (λ (u : Used). bytes_read lent a.t u.records log file a.e ++ drop a.e.length
           a.reader.now) looked.visited.ensures ∙ ap (λ (x : List ℕ). x ++ drop a.e.length a.reader.now)
-          (visited-bytes lent a.t a.used log inside a.e a.own s.requires.room.1 file) ∙ ap₂ (λ (x y : List ℕ).
+          (visited-bytes lent a.t a.used log inside a.e a.own s.requires.ends file) ∙ ap₂ (λ (x y : List ℕ).
           bytes_read lent a.t a.used.records x y a.e ++ drop a.e.length a.reader.now) l f;
-      marks = r.ensures.1 ∙ ap (λ (u : Used). marks_after lent a.t u.records log file a.e a.marks.now)
+      marks = r.ensures.marks ∙ ap (λ (u : Used). marks_after lent a.t u.records log file a.e a.marks.now)
           looked.visited.ensures
-          ∙ visited-marks lent a.t a.used log inside a.e a.own s.requires.room.1 file a.marks.now
+          ∙ visited-marks lent a.t a.used log inside a.e a.own s.requires.ends file a.marks.now
           ∙ ap₂ (λ (x y : List ℕ). marks_after lent a.t a.used.records x y a.e a.marks.now) l f;
     }

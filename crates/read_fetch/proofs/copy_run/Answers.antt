@@ -38,11 +38,11 @@ copy_to-requires c =
     ∙ ap (λ (b : Bool). cut (chosen b a.log.now a.file.now) r.at r.length) c.is_record-logged.ensures in
     let bytes-are : let s = c in let a = s.args in c.run-bytes.result.now ≡ bytes_read lent a.t a.used.records a.log.now a.file.now (run_extent a.e c.latest_write-r.result) = let s = c in let a = s.args in let r = c.latest_write-r in
     handed ∙ sym (run-bytes lent a.t a.used.records a.log.now a.file.now inside a.e r.result
-    r.ensures.1 within) in
+    r.ensures.run within) in
     let s = c in let a = s.args in
     let r = c.latest_write-r in
     let l = ap length bytes-are ∙ length-bytes lent a.t a.used.records a.log.now a.file.now
-    a.e.file a.e.place r.result.length in omega (arith, l, r.ensures.1.within, s.requires.room.1)
+    a.e.file a.e.place r.result.length in omega (arith, l, r.ensures.run.within, s.requires.room.1)
 
 -- A record supplied the run, or the file did.
 pub returns-then-logged : goal.returns-then-logged
@@ -55,14 +55,14 @@ returns-then-logged c =
     ∙ ap (λ (b : Bool). cut (chosen b a.log.now a.file.now) r.at r.length) c.is_record-logged.ensures in
     let bytes-are : let s = c in let a = s.args in c.run-bytes.result.now ≡ bytes_read lent a.t a.used.records a.log.now a.file.now (run_extent a.e c.latest_write-r.result) = let s = c in let a = s.args in let r = c.latest_write-r in
     handed ∙ sym (run-bytes lent a.t a.used.records a.log.now a.file.now inside a.e r.result
-    r.ensures.1 within) in
+    r.ensures.run within) in
     let copied = c in let cut_out = copied in
     let s = cut_out in let a = s.args in let r = cut_out.latest_write-r in
     let own = sym cut_out.is_record-logged.ensures ∙ c.if-logged.true in record {
-      run = r.ensures.1;
+      run = r.ensures.run;
       reader = copied.copy_to.ensures ∙ ap (pasted a.reader.now a.at) bytes-are;
       marks = sym (run-shields lent a.t a.used.records a.log.now a.file.now inside a.e r.result
-            r.ensures.1 within a.marks.now own);
+            r.ensures.run within a.marks.now own);
     }
 
 pub returns : goal.returns
@@ -75,14 +75,14 @@ returns c =
     ∙ ap (λ (b : Bool). cut (chosen b a.log.now a.file.now) r.at r.length) c.is_record-logged.ensures in
     let bytes-are : let s = c in let a = s.args in c.run-bytes.result.now ≡ bytes_read lent a.t a.used.records a.log.now a.file.now (run_extent a.e c.latest_write-r.result) = let s = c in let a = s.args in let r = c.latest_write-r in
     handed ∙ sym (run-bytes lent a.t a.used.records a.log.now a.file.now inside a.e r.result
-    r.ensures.1 within) in
+    r.ensures.run within) in
     let marked = c in let widened = marked in
     let filed = widened in let copied = filed in let cut_out = copied in
     let s = cut_out in let a = s.args in let r = cut_out.latest_write-r in
     let by-file = sym cut_out.is_record-logged.ensures ∙ filed.if-logged.false in record {
-      run = r.ensures.1;
+      run = r.ensures.run;
       reader = copied.copy_to.ensures ∙ ap (pasted a.reader.now a.at) (bytes-are cut_out);
       marks = marked.mark.ensures ∙ run-marks (lent s) a.t a.used.records a.log.now a.file.now (inside s)
-            a.e r.result r.ensures.1 (within s) a.marks.now by-file _ _
+            a.e r.result r.ensures.run (within s) a.marks.now by-file _ _
             (omega (arith, widened.wide.ensures.0)) (omega arith);
     }

@@ -28,14 +28,14 @@ pub loop-i-preserved : goal.loop-i-preserved
 loop-i-preserved c =
     let lent : Recorded = recorded_in c.args.state.now in
     let s = c in let a = s.args in let l = c.loop-i in let r = c.copy_run-r in (
-  omega (arith, r.ensures.0.within),
-  r.kept.1.1.1.0 ∙ l.inv.1,
-  r.kept.1.1.1.1.1.1.1.0 ∙ l.inv.2,
-  r.ensures.1.0 ∙ bytes-more lent a.t a.used.records a.log.now a.file.now a.e.file
-      a.e.place a.reader.now l.i r.result.length _ _ l.inv.3 (omega arith)
-      (omega (arith, r.ensures.0.within, s.requires.room)),
-  r.ensures.1.1 ∙ marks-more lent a.t a.used.records a.log.now a.file.now a.e.file
-      a.e.place a.marks.now l.i r.result.length _ _ l.inv.4 (omega arith),
+  omega (arith, r.ensures.run.within),
+  r.new.reader.1.1.0 ∙ l.invariant.1,
+  r.new.reader.1.1.1.1.1.1.0 ∙ l.invariant.2,
+  r.ensures.reader ∙ bytes-more lent a.t a.used.records a.log.now a.file.now a.e.file
+      a.e.place a.reader.now l.i r.result.length _ _ l.invariant.3 (omega arith)
+      (omega (arith, r.ensures.run.within, s.requires.room)),
+  r.ensures.marks ∙ marks-more lent a.t a.used.records a.log.now a.file.now a.e.file
+      a.e.place a.marks.now l.i r.result.length _ _ l.invariant.4 (omega arith),
 )
 
 pub returns : goal.returns

@@ -24,32 +24,32 @@ pub sweep_record-s-requires : goal.sweep_record-s-requires
 sweep_record-s-requires c = let s = c in let l = c.loop-k in
     let few = swept-few (recorded_in s.args.state.now) s.args.t s.args.f l.k in (
       rw c.record_at-w.ensures (s.requires.counted.0.descriptors l.k (omega arith)),
-      omega (arith, ap (λ (r : Sweep). r.intervals) l.inv.2, few, l.inv.0, s.requires.counted.0.records),
+      omega (arith, ap (λ (r : Sweep). r.intervals) l.invariant.2, few, l.invariant.0, s.requires.counted.0.records),
     )
 
 pub put_last-requires : goal.put_last-requires
 put_last-requires c =
     let swept-on : let a = c.args in c.sweep_record-s.result ≡ swept_in (recorded_in a.state.now) a.t a.f (c.loop-k.k + 1) = let a = c.args in let l = c.loop-k in
     c.sweep_record-s.ensures ∙ ap₂ (λ (r : Sweep) (w : WriteRecord). swept_record (store_of a.state.now).filenumbers
-    a.f r w) l.inv.2 c.record_at-w.ensures ∙ swept-more (recorded_in a.state.now) a.t a.f l.k in
+    a.f r w) l.invariant.2 c.record_at-w.ensures ∙ swept-more (recorded_in a.state.now) a.t a.f l.k in
     let s = c in let a = s.args in
     let l = c.loop-k in
-    put-ready (recorded_in a.state.now) a.t a.f a.used.records s.requires.counted.1 s.requires.ascend.0 l.out (omega
-    (arith, s.requires.ascend.1, l.inv.1)) (l.k + 1) (omega arith) c.sweep_record-s.result swept-on
+    put-ready (recorded_in a.state.now) a.t a.f a.used.records s.requires.counted.1 s.requires.ascend l.out (omega
+    (arith, s.requires.room, l.invariant.1)) (l.k + 1) (omega arith) c.sweep_record-s.result swept-on
 
 pub loop-k-preserved : goal.loop-k-preserved
 loop-k-preserved c =
     let swept-on : let a = c.args in c.sweep_record-s.result ≡ swept_in (recorded_in a.state.now) a.t a.f (c.loop-k.k + 1) = let a = c.args in let l = c.loop-k in
     c.sweep_record-s.ensures ∙ ap₂ (λ (r : Sweep) (w : WriteRecord). swept_record (store_of a.state.now).filenumbers
-    a.f r w) l.inv.2 c.record_at-w.ensures ∙ swept-more (recorded_in a.state.now) a.t a.f l.k in
+    a.f r w) l.invariant.2 c.record_at-w.ensures ∙ swept-more (recorded_in a.state.now) a.t a.f l.k in
     let put = c in let met = put in let s = met in
     let a = s.args in let l = met.loop-k in (
       omega arith,
-      put.put_last.auto.0 ∙ l.inv.1,
+      put.put_last.auto.out ∙ l.invariant.1,
       swept-on,
-      put.put_last.ensures ∙ ap₂ (λ (r : Sweep) (o : List ℕ). with_last r o) swept-on l.inv.3
-          ∙ put-more (recorded_in a.state.now) a.t a.f a.used.records s.requires.counted.1 s.requires.ascend.0
-          a.out.now s.requires.ascend.1 l.k (omega arith),
+      put.put_last.ensures ∙ ap₂ (λ (r : Sweep) (o : List ℕ). with_last r o) swept-on l.invariant.3
+          ∙ put-more (recorded_in a.state.now) a.t a.f a.used.records s.requires.counted.1 s.requires.ascend
+          a.out.now s.requires.room l.k (omega arith),
     )
 
 pub returns : goal.returns

@@ -89,9 +89,9 @@ loop-k-preserved c =
       land-more lands a.logs.now _ l.invariant.2 a.files.now l.files _ _ l.invariant.1 in-logs
           in-file landed.part-in-loop-k.ensures landed.land.ensures,
       omega arith,
-      landed.land.auto.0 ∙ l.invariant.3,
+      landed.land.auto.files ∙ l.invariant.3,
       old-more lands a.logs.now _ l.invariant.2 in-logs l.invariant.4 in-file
           (omega (arith, in-log, start.requires.3)) _ _ _ _ old-part copied.copy_to.ensures
           landed.part-in-loop-k.ensures landed.land.ensures,
-      copied.copy_to.auto.0 ∙ l.invariant.5,
+      copied.copy_to.auto.dst ∙ l.invariant.5,
     )

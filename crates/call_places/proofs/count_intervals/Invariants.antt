@@ -14,8 +14,8 @@ use Rattle.call_places.proofs.ListLaws.{length-snoc}
 use Rattle.call_places.proofs.count_intervals.Given as goal
 
 abbrev pub invariant-loop-p : goal.invariant-loop-p
-invariant-loop-p l = (l.p ≤ file_bytes) × (l.n ≤ l.p) × (l : List Listed) × (length l ≡ l.n)
-    × Listing (covered_at (recorded_in l.state) l.t l.used.records l.f) l.p l
+invariant-loop-p l = (l.p ≤ file_bytes) × (l.n ≤ l.p) × (m : List Listed) × (length m ≡ l.n)
+    × Listing (covered_at (recorded_in l.state) l.t l.used.records l.f) l.p m
 
 abbrev pub decreases-loop-p : goal.decreases-loop-p
 decreases-loop-p l = file_bytes - l.p

@@ -50,7 +50,7 @@ contains-requires c =
 )
 
 pub returns-then-write-contains : goal.returns-then-write-contains
-unfolding has_byte_for
+unfolding record_has_byte_for has_byte_for
 returns-then-write-contains c =
     let descriptor : c.record_at-write.result.descriptor < descriptor_count = let start = c in
     let n : c.used_at-used.result.records ≡ (transaction_of start.args.state.now
@@ -60,7 +60,7 @@ returns-then-write-contains c =
     let file-is : c.wide-f.result ≡ get_or (store_of c.args.state.now).filenumbers c.record_at-write.result.descriptor 0 = c.wide-f.ensures.0 ∙ c.file_at.ensures ∙ ap (λ (d : ℕ). get_or
     (store_of c.args.state.now).filenumbers d 0) c.wide.ensures.0 in
     let testing : ℕ → Bool = record_has_byte_for c.args.state.now c.args.t c.args.octet in
-    let this : let read = c in testing read.loop-k.k ≡ ltb 0 read.record_at-write.result.length && c.contains.result = unfold record_has_byte_for in let read = c in let a = read.args in
+    let this : let read = c in testing read.loop-k.k ≡ ltb 0 read.record_at-write.result.length && c.contains.result = let read = c in let a = read.args in
     ap (λ (w : WriteRecord). ltb 0 w.length && contains a.octet (get_or (store_of a.state.now).filenumbers
     w.descriptor 0)) (sym read.record_at-write.ensures) ∙ ap (λ (b : Bool). ltb 0 read.record_at-write.result.length && b)
     (sym (c.contains.ensures ∙ ap (contains a.octet) file-is)) in
@@ -68,9 +68,10 @@ returns-then-write-contains c =
     let n : at-loop.used_at-used.result.records ≡ (transaction_of start.args.state.now
     start.args.t).used.records = ap (λ (u : Used). u.records) at-loop.used_at-used.ensures in
     sym (some-found testing (transaction_of start.args.state.now start.args.t).used.records
-    at-loop.loop-k.k (omega (arith, n, read.loop-k-test.taken)) (this ∙ c.if-write-contains.true))
+    at-loop.loop-k.k (omega (arith, n, read.loop-k-test.true)) (this ∙ c.if-write-contains.true))
 
 pub loop-k-preserved : goal.loop-k-preserved
+unfolding record_has_byte_for
 loop-k-preserved c =
     let descriptor : c.record_at-write.result.descriptor < descriptor_count = let start = c in
     let n : c.used_at-used.result.records ≡ (transaction_of start.args.state.now
@@ -80,12 +81,12 @@ loop-k-preserved c =
     let file-is : c.wide-f.result ≡ get_or (store_of c.args.state.now).filenumbers c.record_at-write.result.descriptor 0 = c.wide-f.ensures.0 ∙ c.file_at.ensures ∙ ap (λ (d : ℕ). get_or
     (store_of c.args.state.now).filenumbers d 0) c.wide.ensures.0 in
     let testing : ℕ → Bool = record_has_byte_for c.args.state.now c.args.t c.args.octet in
-    let this : let read = c in testing read.loop-k.k ≡ ltb 0 read.record_at-write.result.length && c.contains.result = unfold record_has_byte_for in let read = c in let a = read.args in
+    let this : let read = c in testing read.loop-k.k ≡ ltb 0 read.record_at-write.result.length && c.contains.result = let read = c in let a = read.args in
     ap (λ (w : WriteRecord). ltb 0 w.length && contains a.octet (get_or (store_of a.state.now).filenumbers
     w.descriptor 0)) (sym read.record_at-write.ensures) ∙ ap (λ (b : Bool). ltb 0 read.record_at-write.result.length && b)
     (sym (c.contains.ensures ∙ ap (contains a.octet) file-is)) in
     let read = c in let at-loop = read in (
-  omega (arith, read.loop-k-test.taken),
+  omega (arith, read.loop-k-test.true),
   some_more testing at-loop.loop-k.k at-loop.loop-k.invariant.1 (this ∙ c.if-write-contains.false),
 )
 

@@ -13,8 +13,7 @@ use Rattle.read_fetch.proofs.copy_runs.Goals as goal
 
 pub loop-i-init : goal.loop-i-init
 loop-i-init c =
-    let lent : Recorded = recorded_in c.args.state.now in
-    let s = c in let a = s.args in (
+    let a = c.args in let lent : Recorded = recorded_in a.state.now in (
   omega arith,
   refl,
   refl,
@@ -26,22 +25,20 @@ loop-i-init c =
 
 pub loop-i-preserved : goal.loop-i-preserved
 loop-i-preserved c =
-    let lent : Recorded = recorded_in c.args.state.now in
-    let s = c in let a = s.args in let l = c.loop-i in let r = c.copy_run-r in (
+    let a = c.args in let lent : Recorded = recorded_in a.state.now in let l = c.loop-i in let r = c.copy_run-r in (
   omega (arith, r.ensures.run.within),
-  r.new.reader.1.1.0 ∙ l.invariant.1,
-  r.new.reader.1.1.1.1.1.1.0 ∙ l.invariant.2,
+  r.auto.marks ∙ l.invariant.1,
+  r.auto.reader ∙ l.invariant.2,
   r.ensures.reader ∙ bytes-more lent a.t a.used.records a.log.now a.file.now a.e.file
       a.e.place a.reader.now l.i r.result.length _ _ l.invariant.3 (omega arith)
-      (omega (arith, r.ensures.run.within, s.requires.room)),
+      (omega (arith, r.ensures.run.within, c.requires.room)),
   r.ensures.marks ∙ marks-more lent a.t a.used.records a.log.now a.file.now a.e.file
       a.e.place a.marks.now l.i r.result.length _ _ l.invariant.4 (omega arith),
 )
 
 pub returns : goal.returns
 returns c =
-    let lent : Recorded = recorded_in c.args.state.now in
-    let at-loop = c in let s = at-loop in let a = s.args in let l = at-loop.loop-i in
+    let a = c.args in let lent : Recorded = recorded_in a.state.now in let l = c.loop-i in
     let q : l.i ≡ a.e.length = omega arith in record {
       reader = l.invariant.3 ∙ ap (λ (n : ℕ). pasted a.reader.now 0 (bytes_read lent a.t a.used.records a.log.now
           a.file.now (extent a.e.file a.e.place n))) q ∙ bytes-all lent a.t a.used.records

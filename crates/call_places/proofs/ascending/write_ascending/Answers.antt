@@ -34,8 +34,11 @@ put_last-requires c =
     a.f r w) l.invariant.2 c.record_at-w.ensures ∙ swept-more (recorded_in a.state.now) a.t a.f l.k in
     let s = c in let a = s.args in
     let l = c.loop-k in
-    put-ready (recorded_in a.state.now) a.t a.f a.used.records s.requires.counted.1 s.requires.ascend l.out (omega
-    (arith, s.requires.room, l.invariant.1)) (l.k + 1) (omega arith) c.sweep_record-s.result swept-on
+    let ready = put-ready (recorded_in a.state.now) a.t a.f a.used.records s.requires.counted.1 s.requires.ascend l.out
+    (omega (arith, s.requires.room, l.invariant.1)) (l.k + 1) (omega arith) c.sweep_record-s.result swept-on in record {
+      intervals_in_bounds = ready.0;
+      last = ready.1;
+    }
 
 pub loop-k-preserved : goal.loop-k-preserved
 loop-k-preserved c =

@@ -122,7 +122,7 @@ returns-then-is_waiting c =
     (transaction-of a.state.now a.t let_through.small)) in
     let read = c in let start = read in let out = start.args.out.now in
     turned-follows NoPlaceYet out _ _ _ _ _ _
-    (places-waiting start.args.t start.args.f out machine admits (read  .if2 .false)
+    (places-waiting start.args.t start.args.f out machine admits c.if-f-gt-LAST_FILE.false
     _ (ap (λ (u : Used). u.records) used-is) (sym c.is_waiting.ensures ∙ c.if-is_waiting.true))
 
 pub count-n-requires : goal.count-n-requires
@@ -168,7 +168,7 @@ returns-then-out-n c =
     let n = c in let read = n in let start = read in
     let out = start.args.out.now in
     turned-follows ListTooLong out _ _ _ _ _ _
-    (places-too-long start.args.t start.args.f out machine admits (read  .if2 .left)
+    (places-too-long start.args.t start.args.f out machine admits c.if-f-gt-LAST_FILE.false
     _ (ap (λ (u : Used). u.records) used-is) open-here (sym n.is_waiting.ensures
     ∙ n.if-is_waiting.false) (omega (arith, c.if-out-n.true, n.count-n.ensures)))
 
@@ -222,7 +222,7 @@ returns c =
     let n = c in let read = n in
     let start = read in let out = start.args.out.now in (
       rw c.write_intervals.ensures (places-meets start.args.t start.args.f out machine
-          admits (read  .if2 .left) _ (ap (λ (u : Used). u.records) used-is)
+          admits c.if-f-gt-LAST_FILE.false _ (ap (λ (u : Used). u.records) used-is)
           open-here (sym n.is_waiting.ensures ∙ n.if-is_waiting.false)
           (omega (arith, c.if-out-n.false, n.count-n.ensures)) _ n.count-n.ensures),
       λ r e h. refl,

@@ -2,6 +2,7 @@
 // its records on the file has no place yet. Where the records do not ascend (ascending.rt), each interval is
 // found by walks over them, and no table of places is made.
 #![tactic(auto)]
+
 mod ascending;
 mod places_call;
 

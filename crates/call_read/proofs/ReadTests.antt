@@ -9,11 +9,13 @@ use Rattle.state.specs.declared.{outcomes.{Refusal.Refusal, Outcome.TheVariants.
 use Rattle.state.specs.{declared.StoreMeaning.StoreMeaning, StoreMeaning.transaction}
 use Rattle.state.specs.Layout.{transaction_of, store_of, journal_of, state_length}
 use Rattle.state.{proofs.LayoutLaws.{length-journal, transaction-of}, specs.Outcomes.number}
-use Rattle.admission.{specs.{Admission.admission, FirstRefusal.unless}, proofs.Laws.{number-suc, in-range}}
+use Rattle.admission.{specs.{Admission.{admission, gate_number}, FirstRefusal.unless}, proofs.Laws.{number-suc, in-range}}
+use Rattle.admission.specs.declared.{Gate.{Gate, TheVariants.{Pass, Refused as GateRefused}}}
 use Rattle.spec.specs.{Items.done, Messages.{Op, buffer_of, on}, Steps.{refuse, descriptor_of_op, is_read_call, refuses_stale}}
 use Rattle.spec.specs.{Machine.{Machine, sizes}, Calls.{Turn, refuse_turn, call}, Promises.{Meets, machine_of, LeftAsFound}}
 use Rattle.refinement.proofs.{Shapes.{shaped, eight, put-read}, Decoded.{Opened, decoded-open}}
-use Rattle.refinement.proofs.TurnLaws.{LetThrough, turned-follows, program, on-refused-stale, on-refused}
+use Rattle.refinement.proofs.TurnLaws.{LetThrough, turned-follows, program, on-refused-stale, on-refused, shared_with}
+use Rattle.refinement.proofs.TurnLaws.{gate-passed, gate-let-through, gate-number, gate-zero, is_open, admission-open}
 use Rattle.read_settle.specs.{declared.settle_call.Verdict.{Verdict, TheVariants.Settled}, Choices.settled_transaction}
 use Rattle.read_settle.{specs.{Records.Placeable, Outcome.SettledIn}, proofs.Settled.placeable}
 
@@ -72,12 +74,12 @@ pub record ReadAdmitted (state files logs marks undo : List ℕ) (t d n room : �
   pub may : AdmitsRead (transaction (store_of state) t).stale d n room
 
 -- The gate speaks of the flag that the code has read.
-pub gate-says : (state : List ℕ) (t : ℕ) → t < transaction_count → (stale : Bool) → stale ≡ (transaction_of state t).stale
+gate-says : (state : List ℕ) (t : ℕ) → t < transaction_count → (stale : Bool) → stale ≡ (transaction_of state t).stale
     → (d n room k : ℕ) → k ≡ read_refusal stale d n room → k ≡ read_refusal (transaction (store_of state) t).stale d n room
 gate-says state t small stale own d n room k says = says ∙ ap (λ (b : Bool). read_refusal b d n room) (own
     ∙ ap (λ (y : Transaction). y.stale) (sym (transaction-of state t small)))
 
-pub read-admitted : (state files logs marks undo : List ℕ) (t d n room : ℕ) → length state ≡ state_length
+read-admitted : (state files logs marks undo : List ℕ) (t d n room : ℕ) → length state ≡ state_length
     → admission (sizes (machine_of state files logs marks undo)) (store_of state) (journal_of state) t ≡ 0
     → LetThrough (machine_of state files logs marks undo) t → (transaction (store_of state) t).begun ≡ true
     → read_refusal (transaction (store_of state) t).stale d n room ≡ 0 → ReadAdmitted state files logs marks undo t d n room
@@ -88,6 +90,35 @@ read-admitted state files logs marks undo t d n room long passes through begun m
   held = decoded-open (machine_of state files logs marks undo) t (shaped state) (length-journal state) through begun;
   may = admits-read _ _ _ _ may;
 }
+
+-- What the code's tests told of a call: the gate let it through, and the transaction is begun.
+module _ (state files logs marks undo : List ℕ) (t : ℕ) {gate : Gate}
+    (gates : gate_number gate ≡ shared_with (machine_of state files logs marks undo) t 0) (let_in : gate ≡ Pass)
+    {begun : Bool} (reads : begun ≡ (transaction_of state t).begun) (is_begun : begun ≡ true) where
+  abbrev m : Machine
+  m = machine_of state files logs marks undo
+
+  through : LetThrough m t
+  through = gate-let-through _ m t gates let_in
+
+  begun-is : (transaction m.store t).begun ≡ true
+  begun-is = is_open state t through.small reads (ap not is_begun)
+
+  pub tests-admit : admission (sizes m) m.store m.journal t ≡ 0
+  tests-admit = admission-open m t (gate-passed _ m t gates let_in) begun-is
+
+  -- and the verdict on whether it may look
+  module _ {stale : Bool} (own : stale ≡ (transaction_of state t).stale) (d n room : ℕ) {verdict : Gate}
+      (verdicts : gate_number verdict ≡ read_refusal stale d n room) where
+    says : gate_number verdict ≡ read_refusal (transaction (store_of state) t).stale d n room
+    says = gate-says state t through.small stale own d n room _ verdicts
+
+    pub tests-refuse : (r : Refusal) → verdict ≡ GateRefused r → number r ≡ read_refusal (transaction m.store t).stale d n room
+    tests-refuse r e = gate-number _ _ says r e
+
+    pub may-look : length state ≡ state_length → verdict ≡ Pass → ReadAdmitted state files logs marks undo t d n room
+    may-look long e = read-admitted state files logs marks undo t d n room long tests-admit through begun-is
+        (gate-zero _ _ says e)
 
 -- A call that was refused after settling had left the record alone.
 pub turned_left : (r : Refusal) (buffer state files logs marks undo : List ℕ) (w : Turn)

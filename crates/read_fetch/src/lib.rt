@@ -1,5 +1,6 @@
 // A Read's bytes, run by run.
 #![tactic(auto)]
+
 ghost use Rattle.spec.specs.Promises.{lent_mut, lent_shared};
 ghost use Rattle.std.specs.Prelude.{◌≡◌, ◌+◌, ◌≤◌, length};
 ghost use Rattle.read_lookup.specs.Lookup.{recorded_in, own_reach, RunOf};

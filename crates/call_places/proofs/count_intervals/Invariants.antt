@@ -1,16 +1,13 @@
 -- `call_places::count_intervals` meets its contract. The loop's invariant: n intervals and those from p on are the list. Assumes
 -- nothing.
-use mathlib.Core.{Bool.Bool, List.{List, [], ◌∷◌, ◌++◌}, Path.{refl, sym, ap, ◌∙◌, ◌≡◌}}
-use Prim.Native.Nat.{ℕ, ◌+◌, ◌-◌, ◌≤◌}
-use native.Mathlib.Omega.{arith}
-use borrow.Author.Rules.{rules}
+use mathlib.Core.{List.{List}, Path.{◌≡◌}}
+use Prim.Native.Nat.{◌-◌, ◌≤◌}
 use lib.ListN.{length}
 use Rattle.limits.specs.Limits.{file_bytes}
 use Rattle.spec.specs.Places.{Interval as Listed}
 use Rattle.read_lookup.specs.Lookup.{recorded_in}
 use Rattle.call_places.specs.PlacesCall.{covered_at}
-use Rattle.call_places.proofs.ListLaws.{Listing, as_listed, listing_none, listing-end, listing-all, listing-more}
-use Rattle.call_places.proofs.ListLaws.{length-snoc}
+use Rattle.call_places.proofs.ListLaws.{Listing}
 use Rattle.call_places.proofs.count_intervals.Given as goal
 
 abbrev pub invariant-loop-p : goal.invariant-loop-p

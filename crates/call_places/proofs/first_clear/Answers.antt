@@ -1,11 +1,10 @@
 -- `call_places::first_clear` meets its contract. The loop's invariant: the places from p to q are covered. Assumes nothing.
-use mathlib.Core.{Bool.true, Path.{◌≡◌, sym, ◌∙◌}}
-use Prim.Native.Nat.{ℕ, ◌-◌, ◌≤◌, ◌<◌}
+use mathlib.Core.{Path.{sym, ◌∙◌}}
+use Prim.Native.Nat.{◌-◌}
 use native.Mathlib.Omega.{arith}
-use borrow.Author.{Rules.rules, Tests.{not-true, not-false}}
+use borrow.Author.{Tests.{not-true, not-false}}
 use Rattle.limits.specs.Limits.{file_bytes}
 use Rattle.read_lookup.specs.Lookup.{Recorded, extent, recorded_in}
-use Rattle.call_places.specs.PlacesCall.{covered_at}
 use Rattle.call_places.proofs.CoverLaws.{first-clear-here, first-clear-after}
 use mathlib.Core.Bool.{not}
 use mathlib.Core.Path.{ap}
@@ -14,7 +13,7 @@ use Rattle.call_places.proofs.first_clear.Goals as goal
 pub returns-then-not-is_record : goal.returns-then-not-is_record
 returns-then-not-is_record c =
     let lent : Recorded = recorded_in c.args.state.now in
-    let s = c in let a = s.args in
+    let a = c.args in
     let l = c.loop-q in let r = c.latest_write-r in
     first-clear-here lent a.t a.used.records (extent a.f l.q (file_bytes - l.q)) r.result
     r.ensures.run a.p l.invariant.0 l.invariant.1 l.invariant.2 (sym c.is_record.ensures
@@ -23,7 +22,7 @@ returns-then-not-is_record c =
 pub loop-q-preserved : goal.loop-q-preserved
 loop-q-preserved c =
     let lent : Recorded = recorded_in c.args.state.now in
-    let s = c in let a = s.args in
+    let a = c.args in
     let l = c.loop-q in let r = c.latest_write-r in (
       omega arith,
       omega (arith, r.ensures.run.within),

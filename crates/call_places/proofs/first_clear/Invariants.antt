@@ -1,12 +1,9 @@
 -- `call_places::first_clear` meets its contract. The loop's invariant: the places from p to q are covered. Assumes nothing.
-use mathlib.Core.{Bool.true, Path.{◌≡◌, sym, ◌∙◌}}
+use mathlib.Core.{Bool.true, Path.{◌≡◌}}
 use Prim.Native.Nat.{ℕ, ◌-◌, ◌≤◌, ◌<◌}
-use native.Mathlib.Omega.{arith}
-use borrow.Author.{Rules.rules, Tests.{not-true, not-false}}
 use Rattle.limits.specs.Limits.{file_bytes}
-use Rattle.read_lookup.specs.Lookup.{Recorded, extent, recorded_in}
+use Rattle.read_lookup.specs.Lookup.{recorded_in}
 use Rattle.call_places.specs.PlacesCall.{covered_at}
-use Rattle.call_places.proofs.CoverLaws.{first-clear-here, first-clear-after}
 use Rattle.call_places.proofs.first_clear.Given as goal
 
 abbrev pub invariant-loop-q : goal.invariant-loop-q

@@ -1,7 +1,4 @@
 -- `call_places::put_number` meets its contract. Assumes nothing.
-use native.Mathlib.Omega.{arith}
-use borrow.Author.Rules.{rules}
-use lib.ListN.{length-set}
 use Rattle.call_places.proofs.ListLaws.{number_put}
 use Rattle.call_places.proofs.put_number.Goals as goal
 

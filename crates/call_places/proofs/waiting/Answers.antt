@@ -1,10 +1,8 @@
 -- `call_places::waiting` meets its contract. The loop's invariant: none of the first k records waits. Assumes nothing.
--- Record i of the transaction waits.
-use mathlib.Core.{Bool.{Bool, false}, List.List, Path.{sym, ap, ◌∙◌, ◌≡◌}}
-use Prim.Native.Nat.{ℕ, ◌-◌, ◌≤◌}
+use mathlib.Core.{Bool.Bool, Path.{sym, ap, ◌∙◌, ◌≡◌}}
+use Prim.Native.Nat.{ℕ}
 use native.Mathlib.Omega.{arith}
-use borrow.Author.Rules.{rules}
-use Rattle.state.specs.{Journal.write_record_at, Layout.{store_of, journal_of}}
+use Rattle.state.specs.{Layout.store_of}
 use Rattle.admission.{specs.FirstRefusal.some_below, proofs.Laws.{some-none, some_more, some-found}}
 use Rattle.call_places.specs.PlacesCall.{waits_on, waits_on_file}
 use Rattle.call_places.proofs.waiting.Invariants.{waits-at}
@@ -21,24 +19,18 @@ returns-then-waits c =
     let testing : ℕ → Bool = waits-at c.args.state.now c.args.t c.args.f in
     let this : testing c.loop-k.k ≡ c.waits.result = let a = c.args in
     ap (waits_on (store_of a.state.now).filenumbers a.f) (sym c.record_at-w.ensures) ∙ sym c.waits.ensures in
-    let at-loop = c in let s = at-loop in
-    sym (some-found testing s.args.used.records at-loop.loop-k.k (omega arith) (this
-    ∙ c.if-waits.true))
+    sym (some-found testing c.args.used.records c.loop-k.k (omega arith) (this ∙ c.if-waits.true))
 
 pub loop-k-preserved : goal.loop-k-preserved
 loop-k-preserved c =
     let testing : ℕ → Bool = waits-at c.args.state.now c.args.t c.args.f in
     let this : testing c.loop-k.k ≡ c.waits.result = let a = c.args in
     ap (waits_on (store_of a.state.now).filenumbers a.f) (sym c.record_at-w.ensures) ∙ sym c.waits.ensures in
-    let at-loop = c in (
-  omega arith,
-  some_more testing at-loop.loop-k.k at-loop.loop-k.invariant.1 (this ∙ c.if-waits.false),
-)
+    (omega arith, some_more testing c.loop-k.k c.loop-k.invariant.1 (this ∙ c.if-waits.false))
 
 pub returns : goal.returns
 unfolding waits_on_file
 returns c =
     let testing : ℕ → Bool = waits-at c.args.state.now c.args.t c.args.f in
-    let at-loop = c in let s = at-loop in
-    let all : at-loop.loop-k.k ≡ s.args.used.records = omega arith in
-    sym (ap (some_below testing) (sym all) ∙ at-loop.loop-k.invariant.1)
+    let all : c.loop-k.k ≡ c.args.used.records = omega arith in
+    sym (ap (some_below testing) (sym all) ∙ c.loop-k.invariant.1)

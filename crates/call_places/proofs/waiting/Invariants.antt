@@ -1,12 +1,9 @@
 -- `call_places::waiting` meets its contract. The loop's invariant: none of the first k records waits. Assumes nothing.
--- Record i of the transaction waits.
-use mathlib.Core.{Bool.{Bool, false}, List.List, Path.{sym, ap, ◌∙◌, ◌≡◌}}
+use mathlib.Core.{Bool.{Bool, false}, List.List, Path.{◌≡◌}}
 use Prim.Native.Nat.{ℕ, ◌-◌, ◌≤◌}
-use native.Mathlib.Omega.{arith}
-use borrow.Author.Rules.{rules}
 use Rattle.state.specs.{Journal.write_record_at, Layout.{store_of, journal_of}}
-use Rattle.admission.{specs.FirstRefusal.some_below, proofs.Laws.{some-none, some_more, some-found}}
-use Rattle.call_places.specs.PlacesCall.{waits_on, waits_on_file}
+use Rattle.admission.{specs.FirstRefusal.some_below}
+use Rattle.call_places.specs.PlacesCall.{waits_on}
 use Rattle.call_places.proofs.waiting.Given as goal
 
 -- Record i of the transaction waits.

@@ -1,11 +1,10 @@
 -- `call_places::write_interval_list` meets its contract. The loop's invariant: some intervals and those from p on are the list,
 -- and the pairs of the former are written. Assumes nothing.
 use mathlib.Core.{List.{List, [], ◌∷◌, ◌++◌}, Path.{refl, sym, ap, ◌∙◌}}
-use Prim.Native.Nat.{ℕ, ◌+◌, ◌*◌, ◌≤◌}
+use Prim.Native.Nat.{ℕ}
 use native.Mathlib.Omega.{arith}
-use lib.ListN.{length}
 use Rattle.buffers.specs.Parts.{pasted}
-use Rattle.spec.specs.Places.{with_pairs, intervals_of, Interval as Listed}
+use Rattle.spec.specs.Places.{with_pairs, Interval as Listed}
 use Rattle.read_lookup.specs.Lookup.{recorded_in}
 use Rattle.call_places.specs.PlacesCall.{covered_at}
 use Rattle.call_places.proofs.ListLaws.{as_listed, listing_none, listing-end, listing-all, listing-more, listing-room}

@@ -1,17 +1,14 @@
 -- `call_places::write_interval_list` meets its contract. The loop's invariant: some intervals and those from p on are the list,
 -- and the pairs of the former are written. Assumes nothing.
-use mathlib.Core.{Bool.Bool, List.{List, [], ◌∷◌, ◌++◌}, Path.{refl, sym, ap, ◌∙◌, ◌≡◌}}
-use Prim.Native.Nat.{ℕ, ◌+◌, ◌-◌, ◌*◌, ◌≤◌}
-use native.Mathlib.Omega.{arith}
-use borrow.Author.Rules.{rules}
+use mathlib.Core.{List.{List}, Path.{◌≡◌}}
+use Prim.Native.Nat.{◌-◌, ◌*◌, ◌≤◌}
 use lib.ListN.{length}
 use Rattle.limits.specs.Limits.{file_bytes}
 use Rattle.buffers.specs.Parts.{pasted}
-use Rattle.spec.specs.Places.{encoded, with_pairs, intervals_of, Interval as Listed}
+use Rattle.spec.specs.Places.{encoded, Interval as Listed}
 use Rattle.read_lookup.specs.Lookup.{recorded_in}
 use Rattle.call_places.specs.PlacesCall.{covered_at}
-use Rattle.call_places.proofs.ListLaws.{Listing, as_listed, listing_none, listing-end, listing-all, listing-more}
-use Rattle.call_places.proofs.ListLaws.{listing-room, length-snoc, pair, list-pairs-none, list-pairs-more, pairs-all}
+use Rattle.call_places.proofs.ListLaws.{Listing}
 use Rattle.call_places.proofs.write_interval_list.Given as goal
 
 abbrev pub invariant-loop-p : goal.invariant-loop-p

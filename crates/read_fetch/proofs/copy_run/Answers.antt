@@ -11,7 +11,6 @@ use Rattle.read_lookup.specs.declared.{Extent.{Extent}, Run.{Run}}
 use Rattle.read_lookup.specs.Lookup.{Recorded, recorded_in, is_record, RunOf}
 use Rattle.read_fetch.specs.Fetch.{run_extent, bytes_read}
 use Rattle.read_fetch.proofs.FetchLaws.{length-bytes, in-chosen, run-within, run-bytes, run-shields, run-marks}
-use borrow.Author.Rules.{rules}
 use Rattle.read_fetch.proofs.copy_run.Goals as goal
 
 -- "handed over as that part of the log or of the file"

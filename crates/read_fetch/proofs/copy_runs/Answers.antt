@@ -1,10 +1,8 @@
 -- `read_fetch::copy_runs` meets its contract. The loop's invariant: the contract's definitions at the i bytes copied. Assumes
 -- nothing.
 use mathlib.Core.Path.{◌≡◌, refl, sym, ap, ◌∙◌}
-use Prim.Native.Nat.{ℕ, ◌-◌, ◌≤◌}
+use Prim.Native.Nat.{ℕ}
 use native.Mathlib.Omega.{arith}
-use borrow.Author.Rules.{rules}
-use lib.ListN.{length}
 use Rattle.buffers.specs.Parts.{pasted}
 use Rattle.read_lookup.specs.Lookup.{Recorded, recorded_in, extent}
 use Rattle.read_fetch.specs.Fetch.{bytes_read, marks_after}
@@ -14,27 +12,27 @@ use Rattle.read_fetch.proofs.copy_runs.Goals as goal
 pub loop-i-init : goal.loop-i-init
 loop-i-init c =
     let a = c.args in let lent : Recorded = recorded_in a.state.now in (
-  omega arith,
-  refl,
-  refl,
-  sym (bytes-none lent a.t a.used.records a.log.now a.file.now a.e.file a.e.place
-      a.reader.now),
-  sym (marks-none lent a.t a.used.records a.log.now a.file.now a.e.file a.e.place
-      a.marks.now),
-)
+      omega arith,
+      refl,
+      refl,
+      sym (bytes-none lent a.t a.used.records a.log.now a.file.now a.e.file a.e.place
+          a.reader.now),
+      sym (marks-none lent a.t a.used.records a.log.now a.file.now a.e.file a.e.place
+          a.marks.now),
+    )
 
 pub loop-i-preserved : goal.loop-i-preserved
 loop-i-preserved c =
     let a = c.args in let lent : Recorded = recorded_in a.state.now in let l = c.loop-i in let r = c.copy_run-r in (
-  omega (arith, r.ensures.run.within),
-  r.auto.marks ∙ l.invariant.1,
-  r.auto.reader ∙ l.invariant.2,
-  r.ensures.reader ∙ bytes-more lent a.t a.used.records a.log.now a.file.now a.e.file
-      a.e.place a.reader.now l.i r.result.length _ _ l.invariant.3 (omega arith)
-      (omega (arith, r.ensures.run.within, c.requires.room)),
-  r.ensures.marks ∙ marks-more lent a.t a.used.records a.log.now a.file.now a.e.file
-      a.e.place a.marks.now l.i r.result.length _ _ l.invariant.4 (omega arith),
-)
+      omega (arith, r.ensures.run.within),
+      r.auto.marks ∙ l.invariant.1,
+      r.auto.reader ∙ l.invariant.2,
+      r.ensures.reader ∙ bytes-more lent a.t a.used.records a.log.now a.file.now a.e.file
+          a.e.place a.reader.now l.i r.result.length _ _ l.invariant.3 (omega arith)
+          (omega (arith, r.ensures.run.within, c.requires.room)),
+      r.ensures.marks ∙ marks-more lent a.t a.used.records a.log.now a.file.now a.e.file
+          a.e.place a.marks.now l.i r.result.length _ _ l.invariant.4 (omega arith),
+    )
 
 pub returns : goal.returns
 returns c =

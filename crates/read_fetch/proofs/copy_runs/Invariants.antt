@@ -1,14 +1,11 @@
 -- `read_fetch::copy_runs` meets its contract. The loop's invariant: the contract's definitions at the i bytes copied. Assumes
 -- nothing.
-use mathlib.Core.Path.{◌≡◌, refl, sym, ap, ◌∙◌}
-use Prim.Native.Nat.{ℕ, ◌-◌, ◌≤◌}
-use native.Mathlib.Omega.{arith}
-use borrow.Author.Rules.{rules}
+use mathlib.Core.Path.{◌≡◌}
+use Prim.Native.Nat.{◌-◌, ◌≤◌}
 use lib.ListN.{length}
 use Rattle.buffers.specs.Parts.{pasted}
-use Rattle.read_lookup.specs.Lookup.{Recorded, recorded_in, extent}
+use Rattle.read_lookup.specs.Lookup.{recorded_in, extent}
 use Rattle.read_fetch.specs.Fetch.{bytes_read, marks_after}
-use Rattle.read_fetch.proofs.FetchLaws.{bytes-none, bytes-more, bytes-all, marks-none, marks-more}
 use Rattle.read_fetch.proofs.copy_runs.Given as goal
 
 abbrev pub invariant-loop-i : goal.invariant-loop-i

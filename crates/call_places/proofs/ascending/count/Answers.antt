@@ -1,7 +1,6 @@
 -- `call_places::ascending::count` meets its contract. Assumes nothing.
 use mathlib.Core.Path.{sym, ap, ◌∙◌}
 use native.Mathlib.Omega.{arith}
-use borrow.Author.Rules.{rules}
 use Rattle.read_lookup.specs.Lookup.{recorded_in}
 use Rattle.call_places.specs.declared.ascending.Sweep.{Sweep}
 use Rattle.call_places.proofs.AscendingLaws.{swept-is}

@@ -1,6 +1,5 @@
 -- `call_places::ascending::is_waiting` meets its contract. Assumes nothing.
 use mathlib.Core.Path.{sym, ap, ◌∙◌}
-use borrow.Author.Rules.{rules}
 use Rattle.read_lookup.specs.Lookup.{recorded_in}
 use Rattle.call_places.specs.declared.ascending.Sweep.{Sweep}
 use Rattle.call_places.proofs.AscendingLaws.{swept-placed}

@@ -1,9 +1,5 @@
 -- `call_places::ascending::put_last` meets its contract. Assumes nothing.
--- An interval was met.
 use mathlib.Core.Path.{◌∙◌}
-use Prim.Native.Nat.{suc, ◌≤◌}
-use native.Mathlib.Omega.{arith}
-use borrow.Author.Rules.{rules}
 use Rattle.call_places.proofs.SweepLaws.{last_none, last_some}
 use Rattle.call_places.proofs.ascending.put_last.Goals as goal
 
@@ -12,5 +8,5 @@ returns-then-s-eq0 c = let a = c.args in last_none a.s
     a.out.now c.if-s-eq0.true
 
 pub returns : goal.returns
-returns c = let e = c in let a = e.args in
-    c.put_pair.ensures ∙ last_some a.s a.out.now e.if-s-eq0.false
+returns c = let a = c.args in
+    c.put_pair.ensures ∙ last_some a.s a.out.now c.if-s-eq0.false

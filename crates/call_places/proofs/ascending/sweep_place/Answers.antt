@@ -1,5 +1,4 @@
 -- `call_places::ascending::sweep_place` meets its contract. Assumes nothing.
-use borrow.Author.Rules.{rules}
 use Rattle.call_places.proofs.AscendingLaws.{place-begun, place-joined}
 use Rattle.call_places.proofs.ascending.sweep_place.Goals as goal
 

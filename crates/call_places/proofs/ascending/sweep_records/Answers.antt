@@ -1,12 +1,10 @@
 -- `call_places::ascending::sweep_records` meets its contract. The loop's invariant: s is what a pass over the first k records
 -- meets. Assumes nothing.
-use mathlib.Core.Path.{◌≡◌, ap, ap₂, ◌∙◌}
-use Prim.Native.Nat.{◌-◌, ◌≤◌}
+use mathlib.Core.Path.{ap, ap₂, ◌∙◌}
 use native.Mathlib.Omega.{arith}
-use borrow.Author.Rules.{rules}
 use Rattle.state.specs.{declared.journal.WriteRecord.WriteRecord, Layout.store_of}
 use Rattle.read_lookup.specs.Lookup.{recorded_in}
-use Rattle.call_places.specs.{declared.ascending.Sweep.Sweep, Ascending.{swept_record, swept_in}}
+use Rattle.call_places.specs.{declared.ascending.Sweep.Sweep, Ascending.{swept_record}}
 use Rattle.call_places.proofs.AscendingLaws.{swept-few, swept_none, swept-more}
 use Rattle.call_places.proofs.ascending.sweep_records.Goals as goal
 
@@ -15,15 +13,14 @@ loop-k-init c = let a = c.args in
     (omega arith, c.unswept-s.ensures ∙ swept_none (recorded_in a.state.now) a.t a.f)
 
 pub sweep_record-s-requires : goal.sweep_record-s-requires
-sweep_record-s-requires c = let at-loop = c in let s = at-loop in
-    let l = at-loop.loop-k in let few = swept-few (recorded_in s.args.state.now) s.args.t s.args.f l.k in (
-      rw c.record_at-w.ensures (s.requires.descriptors l.k (omega arith)),
-      omega (arith, ap (λ (r : Sweep). r.intervals) l.invariant.1, few, l.invariant.0, s.requires.records),
-    )
+sweep_record-s-requires c = let l = c.loop-k in let few = swept-few (recorded_in c.args.state.now) c.args.t c.args.f l.k in (
+  rw c.record_at-w.ensures (c.requires.descriptors l.k (omega arith)),
+  omega (arith, ap (λ (r : Sweep). r.intervals) l.invariant.1, few, l.invariant.0, c.requires.records),
+)
 
 pub loop-k-preserved : goal.loop-k-preserved
-loop-k-preserved c = let at-loop = c in let a = at-loop.args in
-    let l = at-loop.loop-k in (
+loop-k-preserved c = let a = c.args in
+    let l = c.loop-k in (
       omega arith,
       c.sweep_record-s.ensures
           ∙ ap₂ (λ (r : Sweep) (w : WriteRecord). swept_record (store_of a.state.now).filenumbers a.f r w)

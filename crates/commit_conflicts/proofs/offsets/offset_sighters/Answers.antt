@@ -13,6 +13,7 @@ use Rattle.commit_conflicts.proofs.ConflictLaws.{sets-is, none-set, no-offsets, 
 use borrow.Author.{Rules.rules, Tests.not-true}
 use mathlib.Core.Bool.{not}
 use Rattle.commit_conflicts.proofs.offsets.offset_sighters.Goals as goal
+use Rattle.commit_conflicts.proofs.offsets.offset_sighters.Goals.{then-sets_offset_at, else-sets_offset_at}
 
 pub returns-then-not-any_dirty : goal.returns-then-not-any_dirty
 returns-then-not-any_dirty c = let a = c.args in let state = a.state.now in
@@ -27,12 +28,15 @@ loop-d-preserved c = let at-loop = c in let a = at-loop.args in
     let l = at-loop.loop-d in let x = descriptors_only (transaction_of a.state.now a.t) in
     let few : l.d < descriptor_count = omega arith in
     let sets = sets-is a.state.now a.t l.d few (descriptor_of a.state.now a.t l.d) refl
-    ∙ sym c.sets_offset_at.ensures in ⊎_elim (λ w. (
-      omega arith,
-      λ marks v. offset-more a.state.now marks a.watched v x l.d (sets ∙ w.0.taken) _ _ _ (l.invariant.1 marks v)
-          w.1.ensures (λ u. ap (λ (n : ℕ). contains n u) w.3 ∙ w.2.ensures u),
-    )) (λ w. (
-      omega arith,
-      λ marks v. rw w.1
-          (offset-less a.state.now marks a.watched v x l.d _ (sets ∙ w.0.left) (l.invariant.1 marks v)),
-    )) c.if-sets_offset_at.branch
+    ∙ sym c.sets_offset_at.ensures in elim c.if-sets_offset_at.branch [
+      then-sets_offset_at w ↦ (
+        omega arith,
+        λ marks v. offset-more a.state.now marks a.watched v x l.d (sets ∙ w.if-sets_offset_at.true) _ _ _ (l.invariant.1 marks v)
+            w.settled_by.ensures (λ u. ap (λ (n : ℕ). contains n u) w.found-is ∙ w.joined-found.ensures u),
+      )
+      | else-sets_offset_at w ↦ (
+        omega arith,
+        λ marks v. rw w.found-is
+            (offset-less a.state.now marks a.watched v x l.d _ (sets ∙ w.if-sets_offset_at.false) (l.invariant.1 marks v)),
+      )
+    ]

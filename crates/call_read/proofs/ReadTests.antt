@@ -76,7 +76,7 @@ pub record ReadAdmitted (state files logs marks undo : List ℕ) (t d n room : �
 -- The gate speaks of the flag that the code has read.
 gate-says : (state : List ℕ) (t : ℕ) → t < transaction_count → (stale : Bool) → stale ≡ (transaction_of state t).stale
     → (d n room k : ℕ) → k ≡ read_refusal stale d n room → k ≡ read_refusal (transaction (store_of state) t).stale d n room
-gate-says state t small stale own d n room k says = says ∙ ap (λ (b : Bool). read_refusal b d n room) (own
+gate-says state t small flag own d n room k says = says ∙ ap (λ (b : Bool). read_refusal b d n room) (own
     ∙ ap (λ (y : Transaction). y.stale) (sym (transaction-of state t small)))
 
 read-admitted : (state files logs marks undo : List ℕ) (t d n room : ℕ) → length state ≡ state_length
@@ -108,7 +108,7 @@ module _ (state files logs marks undo : List ℕ) (t : ℕ) {gate : Gate}
   tests-admit = admission-open m t (gate-passed _ m t gates let_in) begun-is
 
   -- and the verdict on whether it may look
-  module _ {stale : Bool} (own : stale ≡ (transaction_of state t).stale) (d n room : ℕ) {verdict : Gate}
+  module _ {stale : Bool} (own : stale ≡ (transaction_of state t).stale) (d n room : ℕ) (verdict : Gate)
       (verdicts : gate_number verdict ≡ read_refusal stale d n room) where
     says : gate_number verdict ≡ read_refusal (transaction (store_of state) t).stale d n room
     says = gate-says state t through.small stale own d n room _ verdicts

@@ -1,5 +1,6 @@
 // The calls that look: GetFilePointer and Read.
 #![tactic(auto)]
+
 mod get_file_pointer_call;
 mod read_call;
 mod read_tests;

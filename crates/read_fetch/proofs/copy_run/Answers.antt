@@ -26,7 +26,8 @@ bytes-are j t records log file bytes logged e r inside within run by handed =
 pub run-bytes-requires : goal.run-bytes-requires
 run-bytes-requires c =
     let a = c.args in let h = c.requires.handed in let r = c.latest_write-r in
-    let inside : lengths_before (journal_of a.state.now) a.t a.used.records ≤ length a.log.now = omega (arith, h.counted.adds, h.counted.bytes, h.log_length) in
+    let inside : lengths_before (journal_of a.state.now) a.t a.used.records ≤ length a.log.now =
+    omega (arith, h.counted.adds, h.counted.bytes, h.log_length) in
     let within : a.e.place + a.e.length ≤ length a.file.now = omega (arith, h.places, h.file_length) in
     in-chosen _ _ _ _ file_bytes (omega (arith, h.log_length, h.file_length)) (omega (arith, h.log_length, h.file_length))
     (run-within (recorded_in a.state.now) a.t a.used.records a.log.now a.file.now inside a.e r.result r.ensures.run within
@@ -35,7 +36,8 @@ run-bytes-requires c =
 pub copy_to-requires : goal.copy_to-requires
 copy_to-requires c =
     let a = c.args in let h = c.requires.handed in let r = c.latest_write-r in let lent = recorded_in a.state.now in
-    let inside : lengths_before (journal_of a.state.now) a.t a.used.records ≤ length a.log.now = omega (arith, h.counted.adds, h.counted.bytes, h.log_length) in
+    let inside : lengths_before (journal_of a.state.now) a.t a.used.records ≤ length a.log.now =
+    omega (arith, h.counted.adds, h.counted.bytes, h.log_length) in
     let within : a.e.place + a.e.length ≤ length a.file.now = omega (arith, h.places, h.file_length) in
     let l = ap length (bytes-are lent a.t a.used.records a.log.now a.file.now _ _ a.e r.result inside within r.ensures.run
     c.is_record-logged.ensures c.run-bytes.ensures) ∙ length-bytes lent a.t a.used.records a.log.now a.file.now
@@ -45,7 +47,8 @@ copy_to-requires c =
 pub returns-then-logged : goal.returns-then-logged
 returns-then-logged c =
     let a = c.args in let h = c.requires.handed in let r = c.latest_write-r in let lent = recorded_in a.state.now in
-    let inside : lengths_before (journal_of a.state.now) a.t a.used.records ≤ length a.log.now = omega (arith, h.counted.adds, h.counted.bytes, h.log_length) in
+    let inside : lengths_before (journal_of a.state.now) a.t a.used.records ≤ length a.log.now =
+    omega (arith, h.counted.adds, h.counted.bytes, h.log_length) in
     let within : a.e.place + a.e.length ≤ length a.file.now = omega (arith, h.places, h.file_length) in
     let own = sym c.is_record-logged.ensures ∙ c.if-logged.true in record {
       run = r.ensures.run;
@@ -58,7 +61,8 @@ returns-then-logged c =
 pub returns : goal.returns
 returns c =
     let a = c.args in let h = c.requires.handed in let r = c.latest_write-r in let lent = recorded_in a.state.now in
-    let inside : lengths_before (journal_of a.state.now) a.t a.used.records ≤ length a.log.now = omega (arith, h.counted.adds, h.counted.bytes, h.log_length) in
+    let inside : lengths_before (journal_of a.state.now) a.t a.used.records ≤ length a.log.now =
+    omega (arith, h.counted.adds, h.counted.bytes, h.log_length) in
     let within : a.e.place + a.e.length ≤ length a.file.now = omega (arith, h.places, h.file_length) in
     let by-file = sym c.is_record-logged.ensures ∙ c.if-logged.false in record {
       run = r.ensures.run;

@@ -10,6 +10,7 @@ use Rattle.spec_orders.proofs.Distinct.{all-arranged}
 use Rattle.call_order.specs.OrderTable.{grants_by_table, ZerosAfter}
 use Rattle.call_order.proofs.BestLaws.{order-arranges, best_first, takes-it, leaves-it}
 use Rattle.call_order.proofs.best.best_of.Goals as goal
+use Rattle.call_order.proofs.best.best_of.Goals.{else-grants-more, then-grants-more}
 
 pub loop-i-init : goal.loop-i-init
 unfolding best_of
@@ -38,21 +39,24 @@ loop-i-preserved c =
     let a = read.args in let G = grants_by_table a.state.now a.known in
     let ts = take a.n a.numbers in let next = take a.n read.order_at-next.result in
     let more = c.grants_of-more.result in
-    ⊎_elim (λ w. let e = takes-it G ts l.i inside (take a.n l.order) l.grants l.invariant.2 l.invariant.3
-    next more order_is c.grants_of-more.ensures w.0.taken in (
+    elim c.if-grants-more.branch [
+      then-grants-more w ↦ let e = takes-it G ts l.i inside (take a.n l.order) l.grants l.invariant.2 l.invariant.3
+    next more order_is c.grants_of-more.ensures w.if-grants-more.true in (
       omega (arith, read.loop-i-test.true),
       l.invariant.1,
-      ap (take a.n) w.1 ∙ e.0,
-      w.2 ∙ e.1,
-      ap (drop a.n) w.1 ∙ read.order_at-next.ensures.1,
-    )) (λ w. let e = leaves-it G ts l.i inside (take a.n l.order) l.grants l.invariant.2 l.invariant.3 next
-    more order_is c.grants_of-more.ensures w.0.left in (
+      ap (take a.n) w.order-is ∙ e.0,
+      w.grants-is ∙ e.1,
+      ap (drop a.n) w.order-is ∙ read.order_at-next.ensures.1,
+    )
+      | else-grants-more w ↦ let e = leaves-it G ts l.i inside (take a.n l.order) l.grants l.invariant.2 l.invariant.3 next
+    more order_is c.grants_of-more.ensures w.if-grants-more.false in (
       omega (arith, read.loop-i-test.true),
       l.invariant.1,
-      ap (take a.n) w.1 ∙ e.0,
-      w.2 ∙ e.1,
-      ap (drop a.n) w.1 ∙ l.invariant.4,
-    )) c.if-grants-more.branch
+      ap (take a.n) w.order-is ∙ e.0,
+      w.grants-is ∙ e.1,
+      ap (drop a.n) w.order-is ∙ l.invariant.4,
+    )
+    ]
 
 pub returns : goal.returns
 unfolding best_tried tried_of

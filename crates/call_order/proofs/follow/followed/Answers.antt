@@ -33,7 +33,7 @@ returns-then-not-fits c =
     let not-shut : let a = c.args in contains a.closed a.t ≡ false = sym c.contains-2.ensures ∙ c.if-contains-2.false in
     let clear = c in let a = clear.args in
     sym (decided (λ u. a.octet) (contains a.closed) (descriptors_in a.state.now) a.t (pass_of a.p) false false
-    false not-stale not-shut (failed c.fits2.ensures (ap not c.if-not-fits.true)))
+    false not-stale not-shut (failed c.fits.ensures (ap not c.if-not-fits.true)))
 
 pub returns : goal.returns
 returns c =
@@ -43,4 +43,4 @@ returns c =
     let a = clear.args in
     ap (λ (os : List ℕ). after (bit_or a.p.stale a.octet) os (a.p.grants + 1)) found.offsets_after-offsets.ensures
     ∙ sym (decided (λ u. a.octet) (contains a.closed) (descriptors_in a.state.now) a.t (pass_of a.p) false false
-    true not-stale not-shut (test-held fit.fits2.ensures (ap not fit.if-not-fits.false)))
+    true not-stale not-shut (test-held fit.fits.ensures (ap not fit.if-not-fits.false)))

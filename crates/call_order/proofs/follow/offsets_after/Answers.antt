@@ -13,6 +13,7 @@ use Rattle.spec.specs.{Transactions.Txn, Commits.sets_offset}
 use Rattle.call_order.specs.{OrderStatements.{fits_at, offsets_after}, OrderTable.descriptors_in}
 use Rattle.call_order.proofs.follow.offsets_after.Invariants.{offset-after}
 use Rattle.call_order.proofs.follow.offsets_after.Goals as goal
+use Rattle.call_order.proofs.follow.offsets_after.Goals.{else-sets_offset, then-sets_offset}
 
 set_so : (x : Txn) (offsets : List ℕ) (d v : ℕ) → sets_offset x d ≡ true → v ≡ final_offset (get_or offsets d 0) (x.standing d)
     → v ≡ offset-after x offsets d
@@ -50,11 +51,13 @@ loop-d-preserved c =
     let read = c in let l = read.loop-d in let a = read.args in
     let x = descriptors_in a.state.now a.t in (
       omega arith,
-      ⊎_elim (λ w. w.2 ∙ ap (λ (xs : List ℕ). set xs l.d w.1.result) l.invariant.1 ∙ filled-set
-          (offset-after x a.offsets) a.offsets l.d w.1.result (omega arith) (set_so x a.offsets l.d w.1.result
-          (sets-is ∙ w.0.taken) (w.1.ensures ∙ ap (final_offset (get_or a.offsets l.d 0)) standing-is)))
-          (λ w. w.1 ∙ l.invariant.1 ∙ filled-preserved (offset-after x a.offsets) a.offsets l.d 0 (omega arith)
-          (left_so x a.offsets l.d (sets-is ∙ w.0.left))) c.if-sets_offset.branch,
+      elim c.if-sets_offset.branch [
+      then-sets_offset w ↦ w.after-is ∙ ap (λ (xs : List ℕ). set xs l.d w.final_offset.result) l.invariant.1 ∙ filled-set
+          (offset-after x a.offsets) a.offsets l.d w.final_offset.result (omega arith) (set_so x a.offsets l.d w.final_offset.result
+          (sets-is ∙ w.if-sets_offset.true) (w.final_offset.ensures ∙ ap (final_offset (get_or a.offsets l.d 0)) standing-is))
+      | else-sets_offset w ↦ w.after-is ∙ l.invariant.1 ∙ filled-preserved (offset-after x a.offsets) a.offsets l.d 0 (omega arith)
+          (left_so x a.offsets l.d (sets-is ∙ w.if-sets_offset.false))
+    ],
       l.invariant.2,
     )
 

@@ -44,8 +44,8 @@ best_of-b-requires c =
     let start = c in (
   few,
   tried-few,
-  subst (λ (ts : List ℕ). all_in (λ t. leb t last_transaction) ts ≡ true) (sym c.Numbers-of.ensures.0) listed.small,
-  c.Numbers-of.ensures.1,
+  subst (λ (ts : List ℕ). all_in (λ t. leb t last_transaction) ts ≡ true) (sym c.numbers_of.ensures.0) listed.small,
+  c.numbers_of.ensures.1,
 )
 
 pub gap_of-gap-requires : goal.gap_of-gap-requires
@@ -71,19 +71,18 @@ returns c =
     let all = small in let none = all in let shut = none in let octets = shut in
     let start = numbered in let a = start.args in let ts = a.list.now in
     let known : OrderTable =
-    record { table = octets.octets_of-table.result; closed = shut.Closed-of.result; placed = none.none_waits-placed.result } in
+    record { table = octets.octets_of-table.result; closed = shut.closed_of-closed.result; placed = none.none_waits-placed.result } in
     let found : BestIn (grants_by_table a.state.now known) small.smaller-tried.result ts (length ts)
     best.best_of-b.result = subst (λ (xs : List ℕ). BestIn (grants_by_table a.state.now known) small.smaller-tried.result
-    xs (length ts) best.best_of-b.result) numbered.Numbers-of.ensures.0 best.best_of-b.ensures in
-    let eight : length best.best_of-b.result.order ≡ 8 = sym (length-map best.best_of-b.result.order _)
-    ∙ best.best_of-b.type_inv.1.1.0.1.0.1 in let in-eight = few in (
+    xs (length ts) best.best_of-b.result) numbered.numbers_of.ensures.0 best.best_of-b.ensures in
+    let eight : length best.best_of-b.result.order ≡ 8 = search rules in let in-eight = few in (
       (λ files logs undo asking. let long = (first-zero _ _ _ 0 asking.admitted).0.logs in (
         answer-is a.state.now files logs a.marks.now undo ts a.minute a.budget asking listed _
-            (octets.octets_of-table.ensures files logs undo long) _ (shut.Closed-of.ensures logs long) _
+            (octets.octets_of-table.ensures files logs undo long) _ (shut.closed_of-closed.ensures logs long) _
             none.none_waits-placed.ensures _ all.factorial-all.ensures _ small.smaller-tried.ensures _ _ found.grants
             gap.gap_of-gap.ensures,
         buffer-is a.state.now files logs a.marks.now undo ts a.minute a.budget asking listed _
-            (octets.octets_of-table.ensures files logs undo long) _ (shut.Closed-of.ensures logs long) _
+            (octets.octets_of-table.ensures files logs undo long) _ (shut.closed_of-closed.ensures logs long) _
             none.none_waits-placed.ensures _ all.factorial-all.ensures _ small.smaller-tried.ensures _ found.order,
       )),
       padded-front (length ts) best.best_of-b.result.order (omega (arith, eight, in-eight)) found.zeros,

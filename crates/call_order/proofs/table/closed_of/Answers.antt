@@ -10,6 +10,7 @@ use Rattle.state.specs.Layout.{transaction_of}
 use Rattle.commit_windows.specs.WindowCheck.{has_byte_for_closed}
 use Rattle.call_order.proofs.table.closed_of.Invariants.{shut_at}
 use Rattle.call_order.proofs.table.closed_of.Goals as goal
+use Rattle.call_order.proofs.table.closed_of.Goals.{else-is_closed, then-is_closed}
 
 pub loop-t-init : goal.loop-t-init
 loop-t-init c = unfold bits_of in (omega arith, λ logs long. refl)
@@ -19,6 +20,8 @@ loop-t-preserved c = let at-loop = c in let a = at-loop.args in let l = at-loop.
   omega arith,
   λ logs long. let p = shut_at a.state.now logs a.minute in
       let test = sym (c.is_closed.ensures logs long) in
-      ⊎_elim (λ w. w.2 ∙ w.1.ensures ∙ gathered p l.closed l.t (l.invariant.1 logs long) (test ∙ w.0.taken))
-      (λ w. w.1 ∙ passed-by p l.closed l.t (l.invariant.1 logs long) (test ∙ w.0.left)) c.if-is_closed.branch,
+      elim c.if-is_closed.branch [
+      then-is_closed w ↦ w.closed-is ∙ w.with-closed.ensures ∙ gathered p l.closed l.t (l.invariant.1 logs long) (test ∙ w.if-is_closed.true)
+      | else-is_closed w ↦ w.closed-is ∙ passed-by p l.closed l.t (l.invariant.1 logs long) (test ∙ w.if-is_closed.false)
+    ],
 )

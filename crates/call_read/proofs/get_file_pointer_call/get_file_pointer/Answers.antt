@@ -1,6 +1,6 @@
 -- `call_read::get_file_pointer` meets its contract.
 use native.Mathlib.Omega.{arith}
-use mathlib.Core.{Bool.not, List.[], Path.{◌≡◌, ap, ◌∙◌}}
+use mathlib.Core.{Bool.not, List.[], Path.{ap, ◌∙◌}}
 use Rattle.standings.specs.Table.{offset_of}
 use Rattle.state.specs.{declared.outcomes.Refusal.TheVariants.NotOpen}
 use Rattle.admission.specs.Admission.{admission}
@@ -47,7 +47,7 @@ returns-in-Refused-verdict c =
     (tests-admit a.state.now a.files.now a.logs.now a.marks.now a.undo.now a.t c.admit-gate.ensures.gate c.in_default.is
     c.is_begun.ensures c.if-not-is_begun.false) r
     (tests-refuse a.state.now a.files.now a.logs.now a.marks.now a.undo.now a.t c.admit-gate.ensures.gate c.in_default.is
-    c.is_begun.ensures c.if-not-is_begun.false c.is_stale.ensures a.d 0 0 c.admit_read-verdict.ensures r
+    c.is_begun.ensures c.if-not-is_begun.false c.is_stale.ensures a.d 0 0 _ c.admit_read-verdict.ensures r
     c.in-Refused-verdict.is))
 
 pub settle_for_pointer-v-requires : goal.settle_for_pointer-v-requires
@@ -55,7 +55,7 @@ settle_for_pointer-v-requires c =
     let a = c.args in
     let l : ReadAdmitted a.state.now a.files.now a.logs.now a.marks.now a.undo.now a.t a.d 0 0 =
     may-look a.state.now a.files.now a.logs.now a.marks.now a.undo.now a.t c.admit-gate.ensures.gate c.in_default.is
-    c.is_begun.ensures c.if-not-is_begun.false c.is_stale.ensures a.d 0 0 c.admit_read-verdict.ensures
+    c.is_begun.ensures c.if-not-is_begun.false c.is_stale.ensures a.d 0 0 _ c.admit_read-verdict.ensures
     c.admit-gate.ensures.long c.in_default-verdict.is in
     record { ready = all-placeable l; few = omega (arith, l.may.low) }
 
@@ -64,7 +64,7 @@ returns-in_default-v c =
     let a = c.args in
     let l : ReadAdmitted a.state.now a.files.now a.logs.now a.marks.now a.undo.now a.t a.d 0 0 =
     may-look a.state.now a.files.now a.logs.now a.marks.now a.undo.now a.t c.admit-gate.ensures.gate c.in_default.is
-    c.is_begun.ensures c.if-not-is_begun.false c.is_stale.ensures a.d 0 0 c.admit_read-verdict.ensures
+    c.is_begun.ensures c.if-not-is_begun.false c.is_stale.ensures a.d 0 0 _ c.admit_read-verdict.ensures
     c.admit-gate.ensures.long c.in_default-verdict.is in
     pointer-past-follows l _ (settled-as l (λ x. chosen_by_pointer x a.d) _ _ _ c.settle_for_pointer-v.ensures
     c.in_default-v.is)
@@ -74,7 +74,7 @@ standing_at-standing-requires c =
     let a = c.args in
     let l : ReadAdmitted a.state.now a.files.now a.logs.now a.marks.now a.undo.now a.t a.d 0 0 =
     may-look a.state.now a.files.now a.logs.now a.marks.now a.undo.now a.t c.admit-gate.ensures.gate c.in_default.is
-    c.is_begun.ensures c.if-not-is_begun.false c.is_stale.ensures a.d 0 0 c.admit_read-verdict.ensures
+    c.is_begun.ensures c.if-not-is_begun.false c.is_stale.ensures a.d 0 0 _ c.admit_read-verdict.ensures
     c.admit-gate.ensures.long c.in_default-verdict.is in
     (l.held.small, omega (arith, l.may.low))
 
@@ -83,7 +83,7 @@ returns c =
     let a = c.args in
     let l : ReadAdmitted a.state.now a.files.now a.logs.now a.marks.now a.undo.now a.t a.d 0 0 =
     may-look a.state.now a.files.now a.logs.now a.marks.now a.undo.now a.t c.admit-gate.ensures.gate c.in_default.is
-    c.is_begun.ensures c.if-not-is_begun.false c.is_stale.ensures a.d 0 0 c.admit_read-verdict.ensures
+    c.is_begun.ensures c.if-not-is_begun.false c.is_stale.ensures a.d 0 0 _ c.admit_read-verdict.ensures
     c.admit-gate.ensures.long c.in_default-verdict.is in
     pointer-follows l _ (settled-as l (λ x. chosen_by_pointer x a.d) _ _ _ c.settle_for_pointer-v.ensures
     c.in-Settled.is) _ (c.offset.ensures ∙ ap offset_of c.standing_at-standing.ensures)

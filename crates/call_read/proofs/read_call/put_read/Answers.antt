@@ -1,11 +1,9 @@
 -- `read_call::put_read` meets its contract.
 -- Where it moves on to.
 use mathlib.Core.Path.{◌≡◌, ◌∙◌, ap}
-use native.Mathlib.Omega.{arith}
-use borrow.Author.Rules.{rules}
 use Prim.Native.Nat.{ℕ}
 use Rattle.buffers.specs.Bits.{with_bit}
-use Rattle.standings.specs.Table.{after_read, offset_of}
+use Rattle.standings.specs.Table.{after_read}
 use Rattle.state.specs.{StoreMeaning.standing_at, Layout.transaction_of}
 use Rattle.call_read.proofs.GivingLaws.{read_fits, moved-full, moved-short}
 use Rattle.call_read.proofs.read_call.put_read.Goals as goal

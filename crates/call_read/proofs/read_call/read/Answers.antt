@@ -1,6 +1,6 @@
 -- `call_read::read` meets its contract.
 use native.Mathlib.Omega.{arith}
-use mathlib.Core.{Bool.not, Path.{◌≡◌, ap}}
+use mathlib.Core.{Bool.not, Path.{ap}}
 use lib.ListN.{length}
 use Rattle.state.specs.{Layout.store_of, declared.outcomes.Refusal.TheVariants.NotOpen}
 use Rattle.admission.specs.Admission.{admission}
@@ -47,7 +47,7 @@ returns-in-Refused-verdict c =
     (tests-admit a.state.now a.files.now a.logs.now a.marks.now a.undo.now a.t c.admit-gate.ensures.gate c.in_default.is
     c.is_begun.ensures c.if-not-is_begun.false) r
     (tests-refuse a.state.now a.files.now a.logs.now a.marks.now a.undo.now a.t c.admit-gate.ensures.gate c.in_default.is
-    c.is_begun.ensures c.if-not-is_begun.false c.is_stale.ensures a.d a.n (length a.reader.now) c.admit_read-verdict.ensures r
+    c.is_begun.ensures c.if-not-is_begun.false c.is_stale.ensures a.d a.n (length a.reader.now) _ c.admit_read-verdict.ensures r
     c.in-Refused-verdict.is))
 
 pub settle_for_read-v-requires : goal.settle_for_read-v-requires
@@ -55,7 +55,7 @@ settle_for_read-v-requires c =
     let a = c.args in
     let l : ReadAdmitted a.state.now a.files.now a.logs.now a.marks.now a.undo.now a.t a.d a.n (length a.reader.now) =
     may-look a.state.now a.files.now a.logs.now a.marks.now a.undo.now a.t c.admit-gate.ensures.gate c.in_default.is
-    c.is_begun.ensures c.if-not-is_begun.false c.is_stale.ensures a.d a.n (length a.reader.now) c.admit_read-verdict.ensures
+    c.is_begun.ensures c.if-not-is_begun.false c.is_stale.ensures a.d a.n (length a.reader.now) _ c.admit_read-verdict.ensures
     c.admit-gate.ensures.long c.in_default-verdict.is in
     record { ready = all-placeable l; few = omega (arith, l.may.low) }
 
@@ -64,7 +64,7 @@ returns-in_default-v c =
     let a = c.args in
     let l : ReadAdmitted a.state.now a.files.now a.logs.now a.marks.now a.undo.now a.t a.d a.n (length a.reader.now) =
     may-look a.state.now a.files.now a.logs.now a.marks.now a.undo.now a.t c.admit-gate.ensures.gate c.in_default.is
-    c.is_begun.ensures c.if-not-is_begun.false c.is_stale.ensures a.d a.n (length a.reader.now) c.admit_read-verdict.ensures
+    c.is_begun.ensures c.if-not-is_begun.false c.is_stale.ensures a.d a.n (length a.reader.now) _ c.admit_read-verdict.ensures
     c.admit-gate.ensures.long c.in_default-verdict.is in
     past-follows _ l _ (settled-as l (λ x. chosen_by_read (store_of a.state.now).filenumbers x a.d) _ _ _
     c.settle_for_read-v.ensures c.in_default-v.is)
@@ -74,7 +74,7 @@ read_settled-requires c =
     let a = c.args in
     let l : ReadAdmitted a.state.now a.files.now a.logs.now a.marks.now a.undo.now a.t a.d a.n (length a.reader.now) =
     may-look a.state.now a.files.now a.logs.now a.marks.now a.undo.now a.t c.admit-gate.ensures.gate c.in_default.is
-    c.is_begun.ensures c.if-not-is_begun.false c.is_stale.ensures a.d a.n (length a.reader.now) c.admit_read-verdict.ensures
+    c.is_begun.ensures c.if-not-is_begun.false c.is_stale.ensures a.d a.n (length a.reader.now) _ c.admit_read-verdict.ensures
     c.admit-gate.ensures.long c.in_default-verdict.is in
     handed-on _ l _ (settled-as l (λ x. chosen_by_read (store_of a.state.now).filenumbers x a.d) _ _ _
     c.settle_for_read-v.ensures c.in-Settled.is)
@@ -84,7 +84,7 @@ returns c =
     let a = c.args in
     let l : ReadAdmitted a.state.now a.files.now a.logs.now a.marks.now a.undo.now a.t a.d a.n (length a.reader.now) =
     may-look a.state.now a.files.now a.logs.now a.marks.now a.undo.now a.t c.admit-gate.ensures.gate c.in_default.is
-    c.is_begun.ensures c.if-not-is_begun.false c.is_stale.ensures a.d a.n (length a.reader.now) c.admit_read-verdict.ensures
+    c.is_begun.ensures c.if-not-is_begun.false c.is_stale.ensures a.d a.n (length a.reader.now) _ c.admit_read-verdict.ensures
     c.admit-gate.ensures.long c.in_default-verdict.is in
     let e = c.read_settled.ensures in
     read-follows _ l _ (settled-as l (λ x. chosen_by_read (store_of a.state.now).filenumbers x a.d) _ _ _

@@ -3,7 +3,6 @@
 use mathlib.Core.Path.{◌≡◌, sym, ap, ◌∙◌}
 use Prim.Native.Nat.{max}
 use native.Mathlib.Omega.{arith}
-use borrow.Author.Rules.{rules}
 use Rattle.standings.specs.Table.{offset_of}
 use Rattle.read_lookup.{specs.declared.Extent.Extent, proofs.RunLaws.reach-from}
 use Rattle.call_read.specs.ReadCall.{places_from}
@@ -53,7 +52,7 @@ returns c =
     places-are _ _ _ _ _ _ _ _ _ c.used_at-used.ensures (c.wide-place.ensures.0 ∙ c.offset.ensures
     ∙ ap offset_of c.standing_at-z.ensures) c.file_at-file.ensures (c.length_for-end.ensures
     ∙ ap (max _) c.own_end-own.ensures ∙ sym (reach-from _ _ _ _ _)) c.places_given-extent.ensures in (
-  ap (λ (e : Extent). e.length) given,
-  rw given at c.put_read.ensures,
-  given-as _ _ _ _ _ _ _ _ c.used_at-used.ensures given _ _ _ c.copy_bytes.ensures.reader c.copy_bytes.ensures.marks,
-)
+      ap (λ (e : Extent). e.length) given,
+      rw given at c.put_read.ensures,
+      given-as _ _ _ _ _ _ _ _ c.used_at-used.ensures given _ _ _ c.copy_bytes.ensures.reader c.copy_bytes.ensures.marks,
+    )

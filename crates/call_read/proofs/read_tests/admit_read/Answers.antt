@@ -7,7 +7,7 @@ pub returns-then-d-gt-LAST_DESCRIPTOR : goal.returns-then-d-gt-LAST_DESCRIPTOR
 returns-then-d-gt-LAST_DESCRIPTOR c = unfold gate_number unless in rw (lt-leb _ _ c.if-d-gt-LAST_DESCRIPTOR.true)
 
 pub returns-then-stale : goal.returns-then-stale
-returns-then-stale c =     unfold gate_number unless in rw (le-leb _ _ c.if-d-gt-LAST_DESCRIPTOR.false, c.if-stale.true)
+returns-then-stale c = unfold gate_number unless in rw (le-leb _ _ c.if-d-gt-LAST_DESCRIPTOR.false, c.if-stale.true)
 
 pub returns-then-room-n : goal.returns-then-room-n
 unfolding gate_number unless
